@@ -1,0 +1,96 @@
+-- Points off all lines of two vertices: one inside any triangle, and one near any point.
+use Rattle.std.proofs.Common.{◌≡◌, ℕ, ◌<◌, sym, ◌∙◌, subst}
+use mathlib.Core.Logic.{◌≢◌}
+use Rattle.std.specs.Prelude.{pos, ◌*ℤ◌, ◌≤ℤ◌, ◌<ℤ◌}
+use Rattle.plane.specs.Fraction.{Point}
+use Rattle.plane.proofs.IntegerOrder.{zero-mul_ℤ, zero_of_mul-zero_ℤ, pos-ne-zero_ℤ}
+use Rattle.plane.proofs.Steps.{three_zero, no_difference}
+use Rattle.plane.proofs.Nudges.{Nudged, nudged_zero, nudged_not_left, nudge_pairs}
+use Rattle.plane.proofs.Bracket.{Vec3, bracket}
+use Rattle.plane.proofs.BracketIdentities.{bracket-turn}
+use Rattle.plane.proofs.Vertices.{lift, moved, moved_positive, bracket-moved, bracket-outer, bracket-last, cramer, bracket_at_x, bracket_at_y}
+
+-- q is strictly inside a b c
+pub record Inside (a b c q : Vec3) : Type 0 where
+  pub first : pos 0 <ℤ bracket a b q
+  pub second : pos 0 <ℤ bracket b c q
+  pub third : pos 0 <ℤ bracket c a q
+
+pub inside-turned : {a b c q : Vec3} → Inside a b c q → Inside b c a q
+inside-turned i = record { first = i.second; second = i.third; third = i.first }
+
+abbrev pub AreDistinct : ℕ → (ℕ → Point) → Type 0
+AreDistinct n p = (i j : ℕ) → i < n → j < n → i ≢ j → ¬ (p i ≡ p j)
+
+pub record IsGeneric (n : ℕ) (p : ℕ → Point) (q : Vec3) : Type 0 where
+  pub weight : pos 0 <ℤ q.w
+  pub off : (s t : ℕ) → s < n → t < n → s ≢ t → ¬ (bracket (lift (p s)) (lift (p t)) q ≡ pos 0)
+
+-- z is q, moved a little towards d
+pub record IsNudged (n : ℕ) (p : ℕ → Point) (q d z : Vec3) : Type 0 where
+  pub weight : pos 0 <ℤ z.w
+  pub sides : (s t : ℕ) → s < n → t < n → Nudged (bracket (lift (p s)) (lift (p t)) q) (bracket (lift (p s)) (lift (p t)) d) (bracket (lift (p s)) (lift (p t)) z)
+
+-- not all three corners are on a line of two points
+pub not_on_line : (a b c : Vec3) (s t : Point) → pos 0 <ℤ bracket a b c → bracket (lift s) (lift t) a ≡ pos 0 → bracket (lift s) (lift t) b ≡ pos 0 → bracket (lift s) (lift t) c ≡ pos 0 → s ≡ t
+not_on_line a b c s t h ea eb ec =
+    let at : ((e : Vec3) → bracket (lift s) (lift t) e ≡ pos 0) = λ e.
+    zero_of_mul-zero_ℤ (pos-ne-zero_ℤ h) (three_zero (bracket a b c *ℤ bracket (lift s) (lift t) e) (bracket b c e *ℤ bracket (lift s) (lift t) a) (bracket c a e *ℤ bracket (lift s) (lift t) b) (bracket a b e *ℤ bracket (lift s) (lift t) c)
+    (cramer a b c e (lift s) (lift t)) (zero-mul_ℤ (bracket b c e) ea) (zero-mul_ℤ (bracket c a e) eb) (zero-mul_ℤ (bracket a b e) ec)) in
+    let y : s.y ≡ t.y = no_difference s.y t.y (sym (bracket_at_x s t) ∙ at (record { x = pos 1; y = pos 0; w = pos 0 })) in
+    let x : t.x ≡ s.x = no_difference t.x s.x (sym (bracket_at_y s t) ∙ at (record { x = pos 0; y = pos 1; w = pos 0 })) in
+    λ i. record { x = sym x i; y = y i }
+
+module _ (n : ℕ) (p : ℕ → Point) where
+  pub near : (q d : Vec3) → pos 0 <ℤ q.w → pos 0 <ℤ d.w → (z : Vec3) × IsNudged n p q d z
+  near q d h k =
+      let m = nudge_pairs n (λ s t. bracket (lift (p s)) (lift (p t)) q) (λ s t. bracket (lift (p s)) (lift (p t)) d) in (
+        moved m.0 q d,
+        record {
+          weight = moved_positive m.0 q d m.1 h k;
+          sides = λ s t i j. subst (Nudged (bracket (lift (p s)) (lift (p t)) q) (bracket (lift (p s)) (lift (p t)) d)) (sym (bracket-moved (lift (p s)) (lift (p t)) m.0 q d)) (m.2 s t i j);
+        },
+      )
+
+  pub generic_near : (q d : Vec3) → pos 0 <ℤ q.w → IsGeneric n p d → (z : Vec3) × IsNudged n p q d z × IsGeneric n p z
+  generic_near q d h g =
+      let z = near q d h g.weight in (
+        z.0,
+        z.1,
+        record {
+          weight = z.1.weight;
+          off = λ s t i j a e. g.off s t i j a (nudged_zero (bracket (lift (p s)) (lift (p t)) q) (bracket (lift (p s)) (lift (p t)) d) (bracket (lift (p s)) (lift (p t)) z.0) (z.1.sides s t i j) e).1;
+        },
+      )
+
+  -- a generic point strictly inside the triangle a b c, on no line's left where no corner is
+  pub record IsSpot (a b c : ℕ) (d : Vec3) : Type 0 where
+    pub generic : IsGeneric n p d
+    pub inside : Inside (lift (p a)) (lift (p b)) (lift (p c)) d
+    pub not_left : (s t : ℕ) → s < n → t < n → bracket (lift (p s)) (lift (p t)) (lift (p a)) ≤ℤ pos 0 → bracket (lift (p s)) (lift (p t)) (lift (p b)) ≤ℤ pos 0 → bracket (lift (p s)) (lift (p t)) (lift (p c)) ≤ℤ pos 0 → bracket (lift (p s)) (lift (p t)) d ≤ℤ pos 0
+
+  pub spot : AreDistinct n p → (a b c : ℕ) → a < n → b < n → c < n → pos 0 <ℤ bracket (lift (p a)) (lift (p b)) (lift (p c)) → (d : Vec3) × IsSpot a b c d
+  spot distinct a b c ia ib ic turns =
+      let A = lift (p a) in
+      let B = lift (p b) in
+      let C = lift (p c) in
+      let e = near C B (record { lt = tt }) (record { lt = tt }) in
+      let d = near e.0 A e.1.weight (record { lt = tt }) in (
+        d.0,
+        record {
+          generic = record {
+            weight = d.1.weight;
+            off = λ s t i j n z.
+                let last = nudged_zero (bracket (lift (p s)) (lift (p t)) e.0) (bracket (lift (p s)) (lift (p t)) A) (bracket (lift (p s)) (lift (p t)) d.0) (d.1.sides s t i j) z in
+                let first = nudged_zero (bracket (lift (p s)) (lift (p t)) C) (bracket (lift (p s)) (lift (p t)) B) (bracket (lift (p s)) (lift (p t)) e.0) (e.1.sides s t i j) last.0 in
+                distinct s t i j n (not_on_line A B C (p s) (p t) turns last.1 first.1 first.0);
+          };
+          inside = record {
+            first = (d.1.sides a b ia ib).left ((e.1.sides a b ia ib).left turns);
+            second = let o = (e.1.sides b c ib ic).on (bracket-last B C) ∙ bracket-outer B C in subst (λ z. pos 0 <ℤ z) (sym ((d.1.sides b c ib ic).on o)) (subst (λ z. pos 0 <ℤ z) (bracket-turn A B C) turns);
+            third = (d.1.sides c a ic ia).left (subst (λ z. pos 0 <ℤ z) (sym ((e.1.sides c a ic ia).on (bracket-outer C A))) (subst (λ z. pos 0 <ℤ z) (bracket-turn A B C ∙ bracket-turn B C A) turns));
+          };
+          not_left = λ s t i j ha hb hc. nudged_not_left (bracket (lift (p s)) (lift (p t)) e.0) (bracket (lift (p s)) (lift (p t)) A) (bracket (lift (p s)) (lift (p t)) d.0) (d.1.sides s t i j)
+              (nudged_not_left (bracket (lift (p s)) (lift (p t)) C) (bracket (lift (p s)) (lift (p t)) B) (bracket (lift (p s)) (lift (p t)) e.0) (e.1.sides s t i j) hc hb) ha;
+        },
+      )

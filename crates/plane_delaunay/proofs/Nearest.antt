@@ -1,0 +1,121 @@
+-- Without constraints: a vertex to which no neighbour is nearer than it is nearest of all.
+use Rattle.std.proofs.Common.{◌≡◌, ℕ, [], ◌∷◌, arith, ap, sym, ◌∙◌, subst}
+use mathlib.Core.Logic.{◌⊎◌, inl, inr}
+use Rattle.std.specs.Prelude.{ℤ, pos, ◌<ℤ◌, ◌≤ℤ◌, ◌+ℤ◌, ◌-ℤ◌, ◌*ℤ◌}
+use Rattle.std.proofs.lemmas.Int.{ints}
+use Rattle.plane.proofs.Solver.{Poly, ◌⊕◌, ◌⊖◌, ◌⊗◌, ring_over}
+use Rattle.plane.proofs.IntegerOrder.{mul-pos_ℤ, mul-nonneg_ℤ, mul-nonpos_of_nonneg_nonpos_ℤ, nonneg_of_mul-nonneg_ℤ, lt_or_ge_ℤ}
+use Rattle.plane_delaunay.proofs.Bracket.{Syntax, bracket, bracketᵖ, bracket-first, bracket-second, above_if_left}
+use Rattle.plane_delaunay.proofs.Lift.{lift, liftᵖ, pointᵖ}
+use Rattle.plane_delaunay.proofs.Tally.{at_least}
+use Rattle.plane_delaunay.proofs.Faces.{Tiling, Germ, StartsFrom, germ, germ-turned, germ-closed}
+use Rattle.plane_delaunay.proofs.Across.{level}
+use Rattle.plane_delaunay.proofs.Ground.{tiling, triangle_of_inside, turned_face}
+use Rattle.plane_delaunay.proofs.EmptyCircles.{spot, circle_lift, middle_of, middle_inside}
+use Rattle.plane.specs.Fraction.{Point, Fraction, whole}
+use Rattle.plane.specs.Circle.{gap, IsNearer}
+use Rattle.plane.specs.Pairs.{Joins}
+use Rattle.plane.specs.Tiling.{Triangulation, IsVertex, vertex, IsEdge, IsFace, TilesHull}
+use Rattle.plane.specs.Delaunay.{IsConstrainedDelaunay}
+use Rattle.plane.specs.Shape.{IsNearest}
+
+module _ (T : Tiling) where
+  open T use {at, IsVertex, IsFace, InHull}
+
+  -- among the faces at a vertex is one that the way to another vertex enters
+  pub record Entered (v w : ℕ) : Type 0 where
+    pub b : ℕ
+    pub c : ℕ
+    pub is_face : IsFace v b c
+    pub first : pos 0 ≤ℤ bracket (at v) (at b) (at w)
+    pub second : pos 0 ≤ℤ bracket (at c) (at v) (at w)
+
+  entering : (v w i j : ℕ) → StartsFrom T (at v) (at w) i j → bracket (at i) (at j) (at v) ≡ pos 0 → pos 0 ≤ℤ bracket (at i) (at j) (at w)
+  entering v w i j s z = go s.starts
+    where
+      go : (pos 0 <ℤ bracket (at i) (at j) (at v)) ⊎ ((bracket (at i) (at j) (at v) ≡ pos 0) × (pos 0 ≤ℤ bracket (at i) (at j) (at w))) → pos 0 ≤ℤ bracket (at i) (at j) (at w)
+      go (inl h) = absurd (level _ z h)
+      go (inr h) = h.1
+
+  at_corner : (v w i j k : ℕ) → IsFace i j k → Germ T (at v) (at w) i j k → v ≡ i → Entered v w
+  at_corner v w i j k f g e = record {
+    b = j;
+    c = k;
+    is_face = subst (λ i. IsFace i j k) (sym e) f;
+    first = subst (λ i. pos 0 ≤ℤ bracket (at i) (at j) (at w)) (sym e) (entering v w i j g.first (ap (λ n. bracket (at i) (at j) (at n)) e ∙ bracket-first (at i) (at j)));
+    second = subst (λ i. pos 0 ≤ℤ bracket (at k) (at i) (at w)) (sym e) (entering v w k i g.third (ap (λ n. bracket (at k) (at i) (at n)) e ∙ bracket-second (at k) (at i)));
+  }
+
+  pub entered : (v w : ℕ) → IsVertex v → IsVertex w → Entered v w
+  entered v w hv hw = go (germ T (at v) (at w) (T.vertex_in_hull v hv) (T.vertex_in_hull w hw))
+    where
+      go : (i j k : ℕ) × IsFace i j k × Germ T (at v) (at w) i j k → Entered v w
+      go (i, j, k, f, g) = pick (T.empty i j k v f hv (germ-closed T (at v) (at w) i j k g))
+        where
+          pick : (v ≡ i) ⊎ ((v ≡ j) ⊎ (v ≡ k)) → Entered v w
+          pick (inl e) = at_corner v w i j k f g e
+          pick (inr (inl e)) = at_corner v w j k i (T.turned i j k f) (germ-turned T (at v) (at w) i j k g) e
+          pick (inr (inr e)) = at_corner v w k i j (T.turned j k i (T.turned i j k f)) (germ-turned T (at v) (at w) j k i (germ-turned T (at v) (at w) i j k g)) e
+
+-- ---- squared distances from p
+abbrev gapᵖ : Syntax → Syntax → Poly
+gapᵖ p q = (q.x ⊗ p.w ⊖ p.x ⊗ q.w) ⊗ (q.x ⊗ p.w ⊖ p.x ⊗ q.w) ⊕ (q.y ⊗ p.w ⊖ p.y ⊗ q.w) ⊗ (q.y ⊗ p.w ⊖ p.y ⊗ q.w)
+
+gaps-lift : (p : Fraction) (v b c w : Point) →
+    bracket (whole v) (whole b) (whole c) *ℤ (gap p (whole w) -ℤ gap p (whole v))
+    ≡ bracket (whole c) (whole v) (whole w) *ℤ (gap p (whole b) -ℤ gap p (whole v)) +ℤ bracket (whole v) (whole b) (whole w) *ℤ (gap p (whole c) -ℤ gap p (whole v)) -ℤ p.w *ℤ p.w *ℤ lift (whole v) (whole b) (whole c) (whole w)
+unfolding lift bracket
+gaps-lift p v b c w = ring_over pointᵖ (p.x ∷ p.y ∷ p.w ∷ []) (v ∷ b ∷ c ∷ w ∷ [])
+    (λ px py pw v b c w. let p : Syntax = record { x = px; y = py; w = pw } in bracketᵖ v b c ⊗ (gapᵖ p w ⊖ gapᵖ p v))
+    (λ px py pw v b c w. let p : Syntax = record { x = px; y = py; w = pw } in bracketᵖ c v w ⊗ (gapᵖ p b ⊖ gapᵖ p v) ⊕ bracketᵖ v b w ⊗ (gapᵖ p c ⊖ gapᵖ p v) ⊖ p.w ⊗ p.w ⊗ liftᵖ v b c w)
+    tt
+
+not_below : (t s r a b c l d : ℤ) → pos 0 <ℤ t → t *ℤ d ≡ s *ℤ a +ℤ r *ℤ b -ℤ c *ℤ l → pos 0 ≤ℤ s → pos 0 ≤ℤ a → pos 0 ≤ℤ r → pos 0 ≤ℤ b → pos 0 ≤ℤ c → l ≤ℤ pos 0 → pos 0 ≤ℤ d
+not_below t s r a b c l d ht e hs ha hr hb hc hl = nonneg_of_mul-nonneg_ℤ {k = t} {x = d} ht
+    (let p = mul-nonneg_ℤ {a = s} {b = a} hs ha in let q = mul-nonneg_ℤ {a = r} {b = b} hr hb in let o = mul-nonpos_of_nonneg_nonpos_ℤ {a = c} {b = l} hc hl in omega (arith, ints))
+
+farther : (p : Fraction) (u v : Point) → ¬ IsNearer p (whole u) (whole v) → pos 0 ≤ℤ (gap p (whole u) -ℤ gap p (whole v))
+farther p u v n = go (lt_or_ge_ℤ (gap p (whole u)) (gap p (whole v)))
+  where
+    ones : (a b : ℤ) → a <ℤ b → (a *ℤ (pos 1 *ℤ pos 1)) <ℤ (b *ℤ (pos 1 *ℤ pos 1))
+    ones a b h = omega (arith, ints)
+
+    least : (a b : ℤ) → b ≤ℤ a → pos 0 ≤ℤ (a -ℤ b)
+    least a b h = omega (arith, ints)
+
+    go : (gap p (whole u) <ℤ gap p (whole v)) ⊎ (gap p (whole v) ≤ℤ gap p (whole u)) → pos 0 ≤ℤ (gap p (whole u) -ℤ gap p (whole v))
+    go (inl h) = absurd (n (record { nearer = ones (gap p (whole u)) (gap p (whole v)) h }))
+    go (inr h) = least (gap p (whole u)) (gap p (whole v)) h
+
+nearer_below : (p : Fraction) (u v : Point) → IsNearer p (whole u) (whole v) → ¬ (pos 0 ≤ℤ (gap p (whole u) -ℤ gap p (whole v)))
+nearer_below p u v h k = less (gap p (whole u)) (gap p (whole v)) h.nearer k
+  where
+    less : (a b : ℤ) → (a *ℤ (pos 1 *ℤ pos 1)) <ℤ (b *ℤ (pos 1 *ℤ pos 1)) → pos 0 ≤ℤ (a -ℤ b) → ⊥
+    less a b h k = omega (arith, ints)
+
+module _ (t : Triangulation) (D : IsConstrainedDelaunay t []) (h : TilesHull t) where
+  -- without constraints each vertex is seen from inside each face
+  all_low : (i j k n : ℕ) → IsFace t i j k → IsVertex t n → lift (vertex t i) (vertex t j) (vertex t k) (vertex t n) ≤ℤ pos 0
+  all_low i j k n f v = circle_lift t i j k n (h.turning i j k f) (D.empty i j k n f v (record {
+    from = middle_of t i j k;
+    inside = triangle_of_inside _ _ _ _ (h.turning i j k f) (middle_inside t i j k (above_if_left _ _ _ (h.turning i j k f)));
+    free = λ m n u. absurd (none_joined m n u);
+  }))
+    where
+      none_joined : (m n : ℕ) → ¬ Joins [] m n
+      none_joined m n (inl c) = absurd (omega (arith, c.1))
+      none_joined m n (inr c) = absurd (omega (arith, c.1))
+
+  pub nearest_by_neighbours : (p : Fraction) (v : ℕ) → IsVertex t v → ((u : ℕ) → IsEdge t v u → ¬ IsNearer p (vertex t u) (vertex t v)) → IsNearest t p v
+  unfolding tiling
+  nearest_by_neighbours p v hv neighbours = record { is_vertex = hv; none_nearer = λ w hw. from_entered w hw (entered (tiling t h) v w hv hw) }
+    where
+      squares : pos 0 ≤ℤ (p.w *ℤ p.w)
+      squares = at_least (mul-pos_ℤ {a = p.w} {b = p.w} p.positive p.positive)
+
+      from_entered : (w : ℕ) → IsVertex t w → Entered (tiling t h) v w → ¬ IsNearer p (vertex t w) (vertex t v)
+      from_entered w hw e near = nearer_below p (spot t w) (spot t v) near
+          (not_below _ _ _ _ _ (p.w *ℤ p.w) _ _ (above_if_left _ _ _ (h.turning v e.b e.c e.is_face)) (gaps-lift p (spot t v) (spot t e.b) (spot t e.c) (spot t w))
+          e.second (farther p (spot t e.b) (spot t v) (neighbours e.b ((h.sides v e.b).1 (inl (e.c, e.is_face)))))
+          e.first (farther p (spot t e.c) (spot t v) (neighbours e.c ((h.sides v e.c).1 (inr (e.b, turned_face t e.b e.c v (turned_face t v e.b e.c e.is_face))))))
+          squares (all_low v e.b e.c w e.is_face hw))

@@ -1,0 +1,143 @@
+-- Sums over a list, the measure that counts what parts two points, and moving a point a little.
+use Prim.Native.Nat.{ℕ, zero, suc, ◌+◌, ◌<◌, ◌≤◌}
+use lib.IntN.{ℤ, pos, negsuc, ◌+ℤ◌, ◌*ℤ◌, nat_abs}
+use lib.Signed.{◌<ℤ◌, ◌≤ℤ◌}
+use mathlib.Core.Path.{◌≡◌, refl, sym, ◌∙◌, ap, subst}
+use mathlib.Core.Logic.{◌⊎◌, inl, inr}
+use mathlib.Core.List.{List, [], ◌∷◌}
+use native.Mathlib.Omega.{arith}
+use borrow.Author.Differences.{ints}
+use Rattle.plane.proofs.IntegerOrder.{mul-nonneg_ℤ}
+use Rattle.plane_delaunay.proofs.Bracket.{bracket, mixed, bracket-mixed}
+use Rattle.plane.specs.Fraction.{Fraction}
+
+abbrev pub Member : {A : Type 0} → A → List A → Type 0
+Member x [] = ⊥
+Member x (y ∷ ys) = (y ≡ x) ⊎ Member x ys
+
+abbrev pub total : {A : Type 0} → (A → ℕ) → List A → ℕ
+total f [] = 0
+total f (x ∷ xs) = f x + total f xs
+
+pub total-term : {A : Type 0} (f : A → ℕ) (x : A) (xs : List A) → Member x xs → f x ≤ total f xs
+total-term f x [] m = absurd m
+total-term f x (y ∷ ys) (inl e) = omega (arith, ap f e)
+total-term f x (y ∷ ys) (inr m) = omega (arith, total-term f x ys m)
+
+pub total-le : {A : Type 0} (f g : A → ℕ) (xs : List A) → ((x : A) → f x ≤ g x) → total f xs ≤ total g xs
+total-le f g [] h = omega arith
+total-le f g (x ∷ xs) h = omega (arith, h x, total-le f g xs h)
+
+-- nowhere more, and once less: less altogether
+pub total-lt : {A : Type 0} (f g : A → ℕ) (x : A) (xs : List A) → ((y : A) → f y ≤ g y) → Member x xs → f x < g x → total f xs < total g xs
+total-lt f g x [] h m l = absurd m
+total-lt f g x (y ∷ ys) h (inl e) l = omega (arith, ap f e, ap g e, total-le f g ys h)
+total-lt f g x (y ∷ ys) h (inr m) l = omega (arith, h y, total-lt f g x ys h m l)
+
+-- 1 where a is above 0 and b below
+pub flag : ℤ → ℤ → ℕ
+flag (pos (suc m)) (negsuc n) = 1
+flag _ _ = 0
+
+pub flag-le : (a c b : ℤ) → (pos 0 <ℤ a → b <ℤ pos 0 → pos 0 <ℤ c) → flag a b ≤ flag c b
+unfolding flag
+flag-le (pos (suc m)) (pos (suc k)) (negsuc n) h = omega arith
+flag-le (pos (suc m)) (pos zero) (negsuc n) h = absurd (let p : pos 0 <ℤ pos 0 = h (omega (arith, ints)) (omega (arith, ints)) in omega (arith, ints))
+flag-le (pos (suc m)) (negsuc k) (negsuc n) h = absurd (let p : pos 0 <ℤ negsuc k = h (omega (arith, ints)) (omega (arith, ints)) in omega (arith, ints))
+flag-le (pos (suc m)) c (pos n) h = omega arith
+flag-le (pos zero) c b h = omega arith
+flag-le (negsuc m) c b h = omega arith
+
+pub flag-lt : (a c b : ℤ) → a ≤ℤ pos 0 → pos 0 <ℤ c → b <ℤ pos 0 → flag a b < flag c b
+unfolding flag
+flag-lt (pos (suc m)) c b h i j = absurd (omega (arith, ints))
+flag-lt (pos zero) (pos (suc k)) (negsuc n) h i j = omega arith
+flag-lt (negsuc m) (pos (suc k)) (negsuc n) h i j = omega arith
+flag-lt a (pos zero) b h i j = absurd (omega (arith, ints))
+flag-lt a (negsuc k) b h i j = absurd (omega (arith, ints))
+flag-lt a c (pos n) h i j = absurd (omega (arith, ints))
+
+-- ---- n times y and z, where n is larger than z
+pub size : ℤ → ℕ
+size z = nat_abs z
+
+pub nudged : (n : ℕ) (y z : ℤ) → pos 0 <ℤ y → size z < n → pos 0 <ℤ (pos n *ℤ y +ℤ z)
+unfolding size
+nudged n (pos zero) z h i = absurd (omega (arith, ints))
+nudged n (pos (suc m)) (pos k) h i = omega (arith, ints)
+nudged n (pos (suc m)) (negsuc k) h i = omega (arith, ints)
+nudged n (negsuc m) z h i = absurd (omega (arith, ints))
+
+pub germ_sign : (n : ℕ) (y z : ℤ) → size z < n → pos 0 ≤ℤ (pos n *ℤ y +ℤ z) → (pos 0 <ℤ y) ⊎ ((y ≡ pos 0) × (pos 0 ≤ℤ z))
+unfolding size
+germ_sign n (pos zero) z i h = inr (refl, omega (arith, ints))
+germ_sign n (pos (suc m)) z i h = inl (omega (arith, ints))
+germ_sign n (negsuc m) (pos k) i h = absurd (omega (arith, ints))
+germ_sign n (negsuc m) (negsuc k) i h = absurd (omega (arith, ints))
+
+pub nudge_positive : (n : ℕ) (v w : ℤ) → pos 0 <ℤ v → pos 0 <ℤ w → pos 0 <ℤ (pos n *ℤ v +ℤ pos 1 *ℤ w)
+nudge_positive n v w h i = let p : pos 0 ≤ℤ (pos n *ℤ v) = mul-nonneg_ℤ {a = pos n} {b = v} (omega (arith, ints)) (omega (arith, ints)) in omega (arith, ints)
+
+-- x, moved a little towards m where n is large
+unfoldable pub nudge : ℕ → Fraction → Fraction → Fraction
+nudge n x m = mixed (pos n) x (pos 1) m (nudge_positive n x.w m.w x.positive m.positive)
+
+pub bracket-nudge : (u v : Fraction) (n : ℕ) (x m : Fraction) → bracket u v (nudge n x m) ≡ pos n *ℤ bracket u v x +ℤ bracket u v m
+unfolding nudge
+bracket-nudge u v n x m = bracket-mixed u v (pos n) x (pos 1) m (nudge_positive n x.w m.w x.positive m.positive) ∙ one (pos n *ℤ bracket u v x) (bracket u v m)
+  where
+    one : (a b : ℤ) → a +ℤ pos 1 *ℤ b ≡ a +ℤ b
+    one a b = omega (arith, ints)
+
+pub nudge-above : (u v : Fraction) (n : ℕ) (x m : Fraction) → pos 0 <ℤ bracket u v x → size (bracket u v m) < n → pos 0 <ℤ bracket u v (nudge n x m)
+nudge-above u v n x m h i = subst (λ t. pos 0 <ℤ t) (sym (bracket-nudge u v n x m)) (nudged n (bracket u v x) (bracket u v m) h i)
+
+from_none : (n : ℕ) (y z : ℤ) → y ≡ pos 0 → pos n *ℤ y +ℤ z ≡ z
+from_none n y z e = ap (λ t. pos n *ℤ t +ℤ z) e ∙ none
+  where
+    none : pos n *ℤ pos 0 +ℤ z ≡ z
+    none = omega (arith, ints)
+
+pub nudge-on : (u v : Fraction) (n : ℕ) (x m : Fraction) → bracket u v x ≡ pos 0 → bracket u v (nudge n x m) ≡ bracket u v m
+nudge-on u v n x m e = bracket-nudge u v n x m ∙ from_none n (bracket u v x) (bracket u v m) e
+
+least : (n : ℕ) (y z : ℤ) → pos 0 ≤ℤ y → pos 0 <ℤ z → pos 0 <ℤ (pos n *ℤ y +ℤ z)
+least n y z h i = let p : pos 0 ≤ℤ (pos n *ℤ y) = mul-nonneg_ℤ {a = pos n} {b = y} (omega (arith, ints)) h in omega (arith, ints)
+
+pub nudge-least : (u v : Fraction) (n : ℕ) (x m : Fraction) → pos 0 ≤ℤ bracket u v x → pos 0 <ℤ bracket u v m → pos 0 <ℤ bracket u v (nudge n x m)
+nudge-least u v n x m h i = subst (λ t. pos 0 <ℤ t) (sym (bracket-nudge u v n x m)) (least n (bracket u v x) (bracket u v m) h i)
+
+-- ---- closed and open triangles
+pub record Closed (a b c x : Fraction) : Type 0 where
+  pub first : pos 0 ≤ℤ bracket a b x
+  pub second : pos 0 ≤ℤ bracket b c x
+  pub third : pos 0 ≤ℤ bracket c a x
+
+pub record Inside (a b c x : Fraction) : Type 0 where
+  pub first : pos 0 <ℤ bracket a b x
+  pub second : pos 0 <ℤ bracket b c x
+  pub third : pos 0 <ℤ bracket c a x
+
+pub closed-turned : {a b c x : Fraction} → Closed a b c x → Closed b c a x
+closed-turned h = record { first = h.second; second = h.third; third = h.first }
+
+pub inside-turned : {a b c x : Fraction} → Inside a b c x → Inside b c a x
+inside-turned h = record { first = h.second; second = h.third; third = h.first }
+
+pub at_least : {z : ℤ} → pos 0 <ℤ z → pos 0 ≤ℤ z
+at_least h = omega (arith, ints)
+
+pub closed_of_inside : {a b c x : Fraction} → Inside a b c x → Closed a b c x
+closed_of_inside h = record { first = at_least h.first; second = at_least h.second; third = at_least h.third }
+
+-- a nudge keeps a point strictly inside
+pub room : (a b c m : Fraction) → ℕ
+room a b c m = suc (size (bracket a b m) + size (bracket b c m) + size (bracket c a m))
+
+pub inside-nudge : (a b c x m : Fraction) (n : ℕ) → Inside a b c x → room a b c m ≤ n → Inside a b c (nudge n x m)
+unfolding room
+inside-nudge a b c x m n h r = record {
+  first = nudge-above a b n x m h.first (omega arith);
+  second = nudge-above b c n x m h.second (omega arith);
+  third = nudge-above c a n x m h.third (omega arith);
+}

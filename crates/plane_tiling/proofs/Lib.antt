@@ -1,0 +1,10 @@
+pub mod Totals
+pub mod StepsOfCounting
+pub mod Flows
+pub mod Counting
+pub mod Covering
+pub mod Tiles
+pub mod Loops
+pub mod Edges
+pub mod Places
+pub mod OneFace

@@ -1,0 +1,12 @@
+-- What is proved of every mesh that keeps the local invariant.
+use Rattle.std.specs.Prelude.{◌⊎◌, ◌↔◌, ℕ, List}
+use Rattle.plane.specs.Fraction.{Point}
+use Rattle.plane.specs.Pairs.{Joins, EachPairOnce}
+use Rattle.plane.specs.Tiling.{Face, HasFace, TilesHull}
+use Rattle.plane_tiling.specs.Local.{LocalMesh}
+
+-- its faces tile the hull, with any list of edges that has each side of a face once
+abbrev pub LocalMeshesTile : Type 0
+LocalMeshesTile = (points : List Point) (faces : List Face) (outer edges : List (ℕ × ℕ)) → LocalMesh points faces outer
+    → EachPairOnce edges → ((i j : ℕ) → Joins edges i j ↔ (HasFace (record { points = points; faces = faces; edges = edges }) i j ⊎ HasFace (record { points = points; faces = faces; edges = edges }) j i))
+    → TilesHull (record { points = points; faces = faces; edges = edges })
