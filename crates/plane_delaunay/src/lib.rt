@@ -1,2 +1,14 @@
 //! From the local circle test to constrained Delaunay: laws over tilings, constraints and circles.
 #![tactic(auto)]
+
+ghost use Rattle.plane_delaunay.specs.Laws.{LocalGivesConstrainedDelaunay, StrictlyEmptyIsFace};
+
+/// A law: a tiling that has each constraint as an edge and passes the local circle test is constrained Delaunay.
+pub fn local_gives_constrained_delaunay()
+    ensures { LocalGivesConstrainedDelaunay }
+{}
+
+/// A law: without constraints each strictly empty triple is a face.
+pub fn strictly_empty_is_face()
+    ensures { StrictlyEmptyIsFace }
+{}
