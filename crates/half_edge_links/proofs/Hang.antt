@@ -1,0 +1,263 @@
+-- An edge to a lonely vertex, beside the outer face.
+use Rattle.std.proofs.Common.{◌≡◌, ◌≢◌, ℕ, ◌+◌, ◌<◌, ◌≤◌, List, length, Some, None, IsSome, refl, sym, ap, ◌∙◌, inl, inr, arith}
+use Rattle.std.proofs.lemmas.Bool.{cases_eq}
+use Rattle.std.proofs.lemmas.List.{get_or-set_same, get_or-set_other, length-set}
+use Rattle.half_edge_links.specs.declared.records.HalfEdge.{HalfEdge}
+use Rattle.half_edge_links.specs.Mesh.{Mesh, no_edge, edge_at, origin, next, prev, face, face_edge, out_edge, rev, IsSound, IsSoundEdge, IsAlone, IsValid}
+use Rattle.half_edge_links.specs.declared.room.TheConstants.{MAX_ELEMENTS}
+use Rattle.half_edge_links.specs.Grow.{with_next, with_prev, IsOuter, hung_edges, hung, Hangs}
+use Rattle.half_edge_links.proofs.Rev.{rev_within}
+use Rattle.half_edge_links.proofs.FlipLemmas.{links_from}
+use Rattle.half_edge_links.proofs.Fields.{length-with_next, length-with_prev, next-with_next, next-with_next_other, next-with_prev, prev-with_prev, prev-with_prev_other, prev-with_next, face-with_next, face-with_prev, origin-with_next, origin-with_prev, length-two, two_before, two_at_0, two_at_1}
+use Rattle.half_edge_links.proofs.Parts.{rev_of_even, rev_of_odd, IsNextSound, IsPrevSound, IsInnerSound, sound_from, next_kept, prev_kept, inner_kept}
+
+module _ (hs : List HalfEdge) (x y v : ℕ) (x_in : x < length hs) (y_in : y < length hs) where
+  abbrev first : List HalfEdge
+  first = with_next hs x (length hs)
+
+  abbrev written : List HalfEdge
+  written = with_prev first y (length hs + 1)
+
+  y_first : y < length first
+  y_first = rw length-with_next y_in
+
+  length-written : length written ≡ length hs
+  length-written = length-with_prev first y _ ∙ length-with_next hs x _
+
+  length-hung : length (hung_edges hs x y v (length hs)) ≡ length hs + 2
+  unfolding hung_edges
+  length-hung = length-two written _ _ no_edge ∙ ap (λ q. q + 2) length-written
+
+  before : (h : ℕ) → h < length hs → edge_at (hung_edges hs x y v (length hs)) h ≡ edge_at written h
+  unfolding hung_edges
+  before h within = two_before written _ _ no_edge h (rw length-written within)
+
+  next_x : (edge_at (hung_edges hs x y v (length hs)) x).next ≡ length hs
+  next_x = ap (λ (q : HalfEdge). q.next) (before x x_in) ∙ next-with_prev first y _ y_first x ∙ next-with_next hs x _ x_in
+
+  next_other : (h : ℕ) → h < length hs → h ≢ x → (edge_at (hung_edges hs x y v (length hs)) h).next ≡ (edge_at hs h).next
+  next_other h within differs = ap (λ (q : HalfEdge). q.next) (before h within) ∙ next-with_prev first y _ y_first h ∙ next-with_next_other hs x _ h differs
+
+  prev_y : (edge_at (hung_edges hs x y v (length hs)) y).prev ≡ length hs + 1
+  prev_y = ap (λ (q : HalfEdge). q.prev) (before y y_in) ∙ prev-with_prev first y _ y_first
+
+  prev_other : (h : ℕ) → h < length hs → h ≢ y → (edge_at (hung_edges hs x y v (length hs)) h).prev ≡ (edge_at hs h).prev
+  prev_other h within differs = ap (λ (q : HalfEdge). q.prev) (before h within) ∙ prev-with_prev_other first y _ h differs ∙ prev-with_next hs x _ x_in h
+
+  origin_kept : (h : ℕ) → h < length hs → (edge_at (hung_edges hs x y v (length hs)) h).origin ≡ (edge_at hs h).origin
+  origin_kept h within = ap (λ (q : HalfEdge). q.origin) (before h within) ∙ origin-with_prev first y _ y_first h ∙ origin-with_next hs x _ x_in h
+
+  face_kept : (h : ℕ) → h < length hs → (edge_at (hung_edges hs x y v (length hs)) h).face ≡ (edge_at hs h).face
+  face_kept h within = ap (λ (q : HalfEdge). q.face) (before h within) ∙ face-with_prev first y _ y_first h ∙ face-with_next hs x _ x_in h
+
+  at_0 : edge_at (hung_edges hs x y v (length hs)) (length hs) ≡ record { origin = (edge_at hs y).origin; next = length hs + 1; prev = x; face = (edge_at hs x).face }
+  unfolding hung_edges
+  at_0 = ap (λ q. edge_at (hung_edges hs x y v (length hs)) q) (sym length-written) ∙ two_at_0 written _ _ no_edge
+
+  at_1 : edge_at (hung_edges hs x y v (length hs)) (length hs + 1) ≡ record { origin = v; next = y; prev = length hs; face = (edge_at hs x).face }
+  unfolding hung_edges
+  at_1 = ap (λ q. edge_at (hung_edges hs x y v (length hs)) (q + 1)) (sym length-written) ∙ two_at_1 written _ _ no_edge
+
+pub hangs : (m : Mesh) (x v : ℕ) → IsSound m → IsOuter m x → IsAlone m v → Hangs m (hung m x v) x v (length m.half_edges)
+unfolding hung
+hangs m x v s out alone =
+    let y_in = (s.edges x out.0).next_in in
+    record {
+      there = links_from _ _ _ (at_0 m.half_edges x (next m x) v out.0 y_in);
+      back = links_from _ _ _ (at_1 m.half_edges x (next m x) v out.0 y_in);
+      next_at = next_x m.half_edges x (next m x) v out.0 y_in;
+      prev_at = prev_y m.half_edges x (next m x) v out.0 y_in;
+      other_next = next_other m.half_edges x (next m x) v out.0 y_in;
+      other_prev = prev_other m.half_edges x (next m x) v out.0 y_in;
+      origins = origin_kept m.half_edges x (next m x) v out.0 y_in;
+      faces = face_kept m.half_edges x (next m x) v out.0 y_in;
+      edge_count = length-hung m.half_edges x (next m x) v out.0 y_in;
+      vertex_count = length-set m.out_edges v _;
+      out = get_or-set_same m.out_edges v _ None alone.0;
+      other_outs = λ u differs. get_or-set_other m.out_edges v u _ None differs;
+      face_edges = refl;
+      outer_edge = refl;
+    }
+
+module _ (m new : Mesh) (x v : ℕ) (s : IsSound m) (outer : IsOuter m x) (alone : IsAlone m v) (i : Hangs m new x v (length m.half_edges)) where
+  at_x : IsSoundEdge m x
+  at_x = s.edges x outer.0
+
+  pub after_outer : face m (next m x) ≡ 0
+  after_outer = at_x.same_face ∙ outer.1
+
+  rev_there : rev (length m.half_edges) ≡ length m.half_edges + 1
+  rev_there = rev_of_even _ s.even
+
+  rev_back : rev (length m.half_edges + 1) ≡ length m.half_edges
+  rev_back = rev_of_odd _ s.even
+
+  rev_kept : (h : ℕ) → h < length m.half_edges → origin new (rev h) ≡ origin m (rev h)
+  rev_kept h within = i.origins (rev h) (rev_within h _ s.even within)
+
+  has_out : (u : ℕ) → IsSome (out_edge m u) → IsSome (out_edge new u)
+  has_out u had =
+      elim (cases_eq u v) [
+        | inl same ↦ rw (same, i.out) refl
+        | inr differs ↦ rw (i.other_outs u differs) had
+      ]
+
+  more : length m.half_edges ≤ length new.half_edges
+  more = omega (arith, i.edge_count)
+
+  face_count : length new.face_edges ≡ length m.face_edges
+  face_count = ap length i.face_edges
+
+  named : (k : ℕ) → face_edge new k ≡ face_edge m k
+  named k = rw i.face_edges refl
+
+  next_ok : (h : ℕ) → h < length m.half_edges → IsNextSound new h
+  next_ok h within =
+      let here = s.edges h within in
+      elim (cases_eq x h) [
+        | inl same ↦ rw (← same) (
+            let a = i.there in
+            let r = rev_kept x outer.0 in
+            let f = i.faces x outer.0 in
+            let at = i.next_at in
+            record {
+              next_in = rw i.next_at (omega (arith, i.edge_count));
+              prev_next = cc;
+              starts = cc at_x.starts;
+              same_face = cc;
+              proper = λ q. absurd (omega (arith, i.next_at, q, outer.0));
+            })
+        | inr differs ↦
+            next_kept m new h here (i.other_next h within (λ q. differs (sym q))) (i.other_prev (next m h) here.next_in (λ q. differs (sym at_x.prev_next ∙ ap (prev m) (sym q) ∙ here.prev_next)))
+            (i.origins (next m h) here.next_in) (rev_kept h within) (i.faces h within) (i.faces (next m h) here.next_in) more
+      ]
+
+  prev_ok : (h : ℕ) → h < length m.half_edges → IsPrevSound new h
+  prev_ok h within =
+      let here = s.edges h within in
+      elim (cases_eq (next m x) h) [
+        | inl same ↦ rw (← same) (
+            let b = i.back in
+            let at = i.prev_at in
+            record {
+              prev_in = rw i.prev_at (omega (arith, i.edge_count));
+              next_prev = cc;
+            })
+        | inr differs ↦
+            prev_kept m new h here (i.other_prev h within (λ q. differs (sym q))) (i.other_next (prev m h) here.prev_in (λ q. differs (ap (next m) (sym q) ∙ here.next_prev))) more
+      ]
+
+  inner_ok : (h : ℕ) → h < length m.half_edges → 0 < face new h → IsInnerSound new h
+  inner_ok h within some =
+      let here = s.edges h within in
+      let was : 0 < face m h = omega (arith, i.faces h within, some) in
+      inner_kept m new h here was
+      (i.other_next h within (λ q. absurd (omega (arith, was, ap (face m) q, outer.1))))
+      (i.other_prev h within (λ q. absurd (omega (arith, was, ap (face m) q, after_outer))))
+      (i.faces h within)
+      (i.other_next (next m h) here.next_in (λ q. absurd (omega (arith, was, here.same_face, ap (face m) q, outer.1))))
+      (named (face m h))
+
+  sound_old : (h : ℕ) → h < length m.half_edges → IsSoundEdge new h
+  sound_old h within =
+      let here = s.edges h within in
+      sound_from new h (record {
+        origin_in = rw (i.origins h within, i.vertex_count) here.origin_in;
+        face_in = rw (i.faces h within, face_count) here.face_in;
+        has_out = rw (i.origins h within) (has_out (origin m h) here.has_out);
+      }) (next_ok h within) (prev_ok h within) (inner_ok h within)
+
+  sound_there : IsSoundEdge new (length m.half_edges)
+  sound_there =
+      let a = i.there in
+      let b = i.back in
+      let r = rev_there in
+      let f = outer.1 in
+      let after = s.edges (next m x) at_x.next_in in
+      let at = i.next_at in
+      record {
+        next_in = rw a.next (omega (arith, i.edge_count));
+        prev_in = rw a.prev (omega (arith, i.edge_count, outer.0));
+        origin_in = rw (a.origin, i.vertex_count) after.origin_in;
+        face_in = rw a.face (omega (arith, outer.1));
+        prev_next = cc;
+        next_prev = cc;
+        starts = cc;
+        same_face = cc;
+        three = λ some. absurd (omega (arith, some, a.face, outer.1));
+        proper = λ q. absurd (omega (arith, q, a.next));
+        owned = λ some. absurd (omega (arith, some, a.face, outer.1));
+        has_out = rw a.origin (has_out _ after.has_out);
+      }
+
+  sound_back : IsSoundEdge new (length m.half_edges + 1)
+  sound_back =
+      let a = i.there in
+      let b = i.back in
+      let r = rev_back in
+      let f = outer.1 in
+      let at = i.prev_at in
+      let o = i.origins (next m x) at_x.next_in in
+      let g = i.faces (next m x) at_x.next_in in
+      let y = after_outer in
+      record {
+        next_in = rw b.next (omega (arith, i.edge_count, at_x.next_in));
+        prev_in = rw b.prev (omega (arith, i.edge_count));
+        origin_in = rw (b.origin, i.vertex_count) alone.0;
+        face_in = rw b.face (omega (arith, outer.1));
+        prev_next = cc;
+        next_prev = cc;
+        starts = cc;
+        same_face = cc;
+        three = λ some. absurd (omega (arith, some, b.face, outer.1));
+        proper = λ q. absurd (omega (arith, q, b.next, at_x.next_in));
+        owned = λ some. absurd (omega (arith, some, b.face, outer.1));
+        has_out = rw (b.origin, i.out) refl;
+      }
+
+  sound_at : (h : ℕ) → h < length new.half_edges → IsSoundEdge new h
+  sound_at h within =
+      elim (cases_eq (length m.half_edges) h) [
+        | inl same ↦ rw (← same) sound_there
+        | inr p ↦ elim (cases_eq (length m.half_edges + 1) h) [
+          | inl same ↦ rw (← same) sound_back
+          | inr q ↦ sound_old h (omega (arith, i.edge_count))
+        ]
+      ]
+
+  vertices_kept : (u h : ℕ) → out_edge new u ≡ Some h → (h < length new.half_edges) × (origin new h ≡ u)
+  vertices_kept u h is =
+      elim (cases_eq u v) [
+        | inl same ↦
+            let at : length m.half_edges + 1 ≡ h = cc (i.out) in
+            (omega (arith, i.edge_count), cc (i.back.origin))
+        | inr differs ↦
+            let had = s.vertices u h (sym (i.other_outs u differs) ∙ is) in
+            (omega (arith, i.edge_count, had.0), i.origins h had.0 ∙ had.1)
+      ]
+
+  pub sound_after_hang : IsSound new
+  sound_after_hang = record {
+    even = rw i.edge_count (let e = s.even in omega arith);
+    edges = sound_at;
+    vertices = vertices_kept;
+    faces = λ k some within.
+        let had = s.faces k some (omega (arith, within, face_count)) in
+        rw (named k) (omega (arith, i.edge_count, had.0), i.faces _ had.0 ∙ had.1);
+    outer = λ h is.
+        let had = s.outer h (sym i.outer_edge ∙ is) in
+        (omega (arith, i.edge_count, had.0), i.faces h had.0 ∙ had.1);
+    has_outer = λ some. rw i.outer_edge (s.has_outer (omega (arith, outer.0)));
+  }
+
+pub valid_hung : (m : Mesh) (x v : ℕ) → IsValid m → IsOuter m x → IsAlone m v → length m.half_edges + 2 ≤ MAX_ELEMENTS → IsValid (hung m x v)
+valid_hung m x v valid outer alone room =
+    let i = hangs m x v valid.sound outer alone in
+    record {
+      sound = sound_after_hang m (hung m x v) x v valid.sound outer alone i;
+      small = record {
+        vertices = rw i.vertex_count valid.small.vertices;
+        edges = rw i.edge_count room;
+        faces = rw i.face_edges valid.small.faces;
+      };
+    }

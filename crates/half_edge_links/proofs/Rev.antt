@@ -1,0 +1,13 @@
+-- The other side of a directed edge.
+use Rattle.std.proofs.Common.{◌≡◌, ◌≢◌, ℕ, ◌%◌, ◌<◌, arith}
+use Rattle.std.proofs.lemmas.Grind.{common_steps}
+use Rattle.half_edge_links.specs.Mesh.{rev}
+
+pub rev-rev : (h : ℕ) → rev (rev h) ≡ h
+rev-rev h = grind (arith, common_steps)
+
+pub rev_differs : (h : ℕ) → rev h ≢ h
+rev_differs h = grind (arith, common_steps)
+
+pub rev_within : (h n : ℕ) → n % 2 ≡ 0 → h < n → rev h < n
+rev_within h n even within = grind (arith, common_steps)

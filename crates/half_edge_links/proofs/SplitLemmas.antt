@@ -1,0 +1,69 @@
+-- An edge is split by putting a vertex into the face on its left and turning it.
+use Rattle.std.proofs.Common.{◌≡◌, ℕ, ◌-◌, ◌<◌, List, [], ◌∷◌, ◌++◌, length, set, refl, sym, arith}
+use Rattle.std.proofs.lemmas.List.{set-set, set-append_left, length-set, length-map}
+use Rattle.half_edge_links.specs.Mesh.{Mesh, edge_at, origin, next, prev, face, rev, IsSound, IsAlone, IsInnerEdge, with_vertex}
+use Rattle.half_edge_links.specs.Flip.{IsFlippable, flipped}
+use Rattle.half_edge_links.specs.Insert.{Inserts, inserted}
+use Rattle.half_edge_links.specs.Triangles.{triangle_at, triangles, InsertsTriangles, FlipsTriangles, SplitsTriangles}
+use Rattle.half_edge_links.proofs.Rev.{rev_within}
+use Rattle.half_edge_links.proofs.InsertLemmas.{inserts}
+use Rattle.half_edge_links.proofs.InsertSound.{kept, away_by_face, origin_kept, sound_after_insert}
+use Rattle.half_edge_links.proofs.InsertTriangles.{triangles_inserted, alone_at_end}
+use Rattle.half_edge_links.proofs.FlipTriangles.{triangles_flipped}
+
+overwritten : {X : Type 0} (xs ys : List X) (i j : ℕ) (a b c : X) → i < length xs → j < length xs → set (set (set xs i a ++ ys) i b) j c ≡ set (set xs i b) j c ++ ys
+overwritten xs ys i j a b c i_in j_in = rw (set-append_left (set xs i a) ys i b (rw length-set i_in), set-set xs i a b, set-append_left (set xs i b) ys j c (rw length-set j_in))
+
+module _ (m : Mesh) (v e : ℕ) (s : IsSound m) (can : IsFlippable m e) (alone : IsAlone m v) where
+  inner : IsInnerEdge m e
+  inner = (can.within, can.inner)
+
+  i : Inserts m (inserted m v e) v (face m e) e (length m.half_edges) (length m.face_edges)
+  i = inserts m v e s inner alone
+
+  twin_in : rev e < length m.half_edges
+  twin_in = rev_within e (length m.half_edges) s.even can.within
+
+  pub twin_kept : edge_at (inserted m v e).half_edges (rev e) ≡ edge_at m.half_edges (rev e)
+  twin_kept =
+      let away = away_by_face m (inserted m v e) v _ e _ _ s inner alone refl refl refl i (rev e) (λ same. can.apart (sym same)) in
+      kept m (inserted m v e) v _ e _ _ s inner alone refl refl refl i (rev e) twin_in away
+
+  pub flippable_inserted : IsFlippable (inserted m v e) e
+  flippable_inserted =
+      let at = i.first in
+      let twin = twin_kept in
+      let twin_face : face (inserted m v e) (rev e) ≡ face m (rev e) = cc in
+      record {
+        within = omega (arith, i.edge_count, can.within);
+        inner = rw at.face can.inner;
+        twin_inner = rw twin_face can.twin_inner;
+        apart = λ same. can.apart (cc);
+      }
+
+  pub splits_triangles : SplitsTriangles m (flipped (inserted m v e) e) v e
+  splits_triangles =
+      let mid : Mesh = inserted m v e in
+      let a = i.first in
+      let twin = twin_kept in
+      let to_v = i.to_first in
+      let from_b = i.from_second in
+      let twin_links = s.edges (rev e) twin_in in
+      let o1 = origin_kept m mid v _ e _ _ s inner alone refl refl refl i (prev m (rev e)) twin_links.prev_in in
+      let o2 = origin_kept m mid v _ e _ _ s inner alone refl refl refl i (next m (rev e)) twin_links.next_in in
+      let put : InsertsTriangles m mid v e = triangles_inserted m mid v e s inner alone refl in
+      let turned : FlipsTriangles mid (flipped mid e) e = triangles_flipped mid (flipped mid e) e (sound_after_insert m mid v _ e _ _ s inner alone refl refl refl i) flippable_inserted refl in
+      let left_in : face m e - 1 < length (triangles m) = omega (arith, length-map m.face_edges (triangle_at m), (s.edges e can.within).face_in, can.inner) in
+      let right_in : face m (rev e) - 1 < length (triangles m) = omega (arith, length-map m.face_edges (triangle_at m), twin_links.face_in, can.twin_inner) in
+      let cut = overwritten (triangles m) (record { first = origin m (next m e); second = origin m (prev m e); third = v } ∷ record { first = origin m (prev m e); second = origin m e; third = v } ∷ []) (face m e - 1) (face m (rev e) - 1) (record { first = origin m e; second = origin m (next m e); third = v }) (record { first = v; second = origin m (prev m (rev e)); third = origin m (next m e) }) (record { first = origin m (prev m (rev e)); second = v; third = origin m (next m (rev e)) }) left_in right_in in
+      cc
+
+-- the same for a new last vertex
+pub triangles_split_new : (m grown new : Mesh) (v w e d : ℕ) → grown ≡ with_vertex m → w ≡ length m.out_edges → v ≡ w → d ≡ e → IsSound grown → IsFlippable m e → new ≡ flipped (inserted grown w d) d → SplitsTriangles m new v e
+triangles_split_new m grown new v w e d is_grown at_w at_v at_e s can is =
+    let can' : IsFlippable (with_vertex m) e = record { within = can.within; inner = can.inner; twin_inner = can.twin_inner; apart = can.apart } in
+    let is' : new ≡ flipped (inserted (with_vertex m) (length m.out_edges) e) e = cc in
+    rw (at_v, at_w, is') (splits_triangles (with_vertex m) (length m.out_edges) e (rw is_grown at s) can' (alone_at_end m))
+
+pub splits_triangles_is : (m new : Mesh) (v e : ℕ) → IsSound m → IsFlippable m e → IsAlone m v → new ≡ flipped (inserted m v e) e → SplitsTriangles m new v e
+splits_triangles_is m new v e s can alone is = rw is (splits_triangles m v e s can alone)

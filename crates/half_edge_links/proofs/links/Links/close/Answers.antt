@@ -1,0 +1,49 @@
+use Rattle.std.proofs.Common.{◌≡◌, refl, length, ap, ◌∙◌, arith}
+use Rattle.half_edge_links.specs.contracts.links.Links.{the_view}
+use Rattle.half_edge_links.specs.Mesh.{Mesh, edge_at}
+use Rattle.half_edge_links.specs.Grow.{closed}
+use Rattle.half_edge_links.proofs.Close.{valid_closed}
+use Rattle.half_edge_links.proofs.Close.{closes}
+use Rattle.half_edge_links.proofs.Corners.{triangles_closed_is}
+use Rattle.half_edge_links.proofs.Outer.{outer_closed}
+use Rattle.half_edge_links.proofs.EndsKept.{ends_closed_is}
+use Rattle.half_edge_links.proofs.links.Links.close.Goals as goal
+
+pub invariant_of-self : goal.invariant_of-self
+unfolding closed
+invariant_of-self c =
+    let m : Mesh = (the_view c.self.inside).mesh in
+    let n_is : c.len-n.result ≡ length m.half_edges = omega arith in
+    let g_is : c.len.result ≡ length m.face_edges = omega arith in
+    let second : c.read-second.result ≡ edge_at m.half_edges c.args.e = c.read-second.ensures ∙ ap (λ hs. edge_at hs c.args.e) c.deref.ensures.value in
+    let after : c.read-after.result ≡ edge_at m.half_edges c.read-second.result.next = c.read-after.ensures ∙ ap (λ hs. edge_at hs c.read-second.result.next) c.deref-2.ensures.value in
+    rw (c.close_edges.ensures.items, c.push_reserved.ensures.items, n_is, g_is, after, second) (valid_closed m c.args.e c.self.invariant (rw (← c.self.view_is) at c.requires.closable) (omega (arith, rw (← c.self.view_is) at c.requires.edge_room)) (omega (arith, rw (← c.self.view_is) at c.requires.face_room)))
+
+pub returns-clause-mesh : goal.returns-clause-mesh
+unfolding closed
+returns-clause-mesh c =
+    let m : Mesh = (the_view c.self.inside).mesh in
+    let n_is : c.len-n.result ≡ length m.half_edges = omega arith in
+    let g_is : c.len.result ≡ length m.face_edges = omega arith in
+    let second : c.read-second.result ≡ edge_at m.half_edges c.args.e = c.read-second.ensures ∙ ap (λ hs. edge_at hs c.args.e) c.deref.ensures.value in
+    let after : c.read-after.result ≡ edge_at m.half_edges c.read-second.result.next = c.read-after.ensures ∙ ap (λ hs. edge_at hs c.read-second.result.next) c.deref-2.ensures.value in
+    rw (← c.self.view_is, c.close_edges.ensures.items, c.push_reserved.ensures.items, n_is, g_is, after, second) refl
+
+pub returns-clause-links : goal.returns-clause-links
+returns-clause-links c =
+    rw (returns-clause-mesh c, ← c.self.view_is) (closes (the_view c.self.inside).mesh c.args.e c.self.invariant.sound (rw (← c.self.view_is) at c.requires.closable))
+
+pub returns-clause-triangles : goal.returns-clause-triangles
+returns-clause-triangles c =
+    let m : Mesh = (the_view c.self.inside).mesh in
+    rw (← c.self.view_is) (triangles_closed_is m _ c.args.e c.self.invariant.sound (rw (← c.self.view_is) at c.requires.closable) (rw (← c.self.view_is) at (returns-clause-mesh c)))
+
+pub returns-clause-outer : goal.returns-clause-outer
+returns-clause-outer c =
+    let m : Mesh = (the_view c.self.inside).mesh in
+    let can = rw (← c.self.view_is) at c.requires.closable in
+    rw (returns-clause-mesh c, ← c.self.view_is) (outer_closed m (closed m c.args.e) c.args.e c.self.invariant.sound can (closes m c.args.e c.self.invariant.sound can))
+
+pub returns-clause-ends : goal.returns-clause-ends
+returns-clause-ends c =
+    rw (← c.self.view_is) (ends_closed_is (the_view c.self.inside).mesh _ c.args.e c.self.invariant.sound (rw (← c.self.view_is) at c.requires.closable) (rw (← c.self.view_is) at (returns-clause-mesh c)))

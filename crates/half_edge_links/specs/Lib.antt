@@ -1,0 +1,10 @@
+pub mod Mesh
+pub mod Room
+pub mod Flip
+pub mod Insert
+pub mod Triangles
+pub mod Grow
+pub mod Outline
+pub mod Rename
+pub mod Stars
+pub mod Open

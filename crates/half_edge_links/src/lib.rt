@@ -1,0 +1,14 @@
+//! How the vertices, edges and faces of a mesh lie to each other, with no data on them.
+#![tactic(auto)]
+
+mod inside;
+mod line;
+mod links;
+mod outside;
+mod records;
+mod room;
+mod vertices;
+
+pub use links::Links;
+pub use records::{HalfEdge, reversed};
+pub use room::{MAX_ELEMENTS, ReserveError, are_few_enough};

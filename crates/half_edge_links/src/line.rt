@@ -1,0 +1,92 @@
+//! The first edge, and a mesh of one line.
+ghost use Rattle.std.specs.Prelude.{◌≡◌, ◌≢◌, ◌+◌, ◌-◌, ◌<◌, length, Some, [], ◌∷◌};
+ghost use Rattle.half_edge_links.specs.Mesh.{face, origin, next, prev, IsAlone, connected, IsSound};
+ghost use Rattle.half_edge_links.specs.Room.{HasEdgeRoom};
+ghost use Rattle.half_edge_links.specs.Outline.{SplitsOuter, AddsEdge, MovesEdge, SplitsLineEnds, ExtendsOuter};
+ghost use Rattle.half_edge_links.specs.Grow.{hung, slid, IsSlidable, Hangs, Slides, IsLineEdge, line_split, SplitsLine, IsOnLine, edge_into};
+
+use crate::links::Links;
+use crate::records::{HalfEdge, read, reversed, slide_edges};
+
+impl Links {
+    /// Makes the first edge, from `a` to `b`.
+    pub fn connect(&mut self, a: u32, b: u32)
+        requires no_edges { self.old.mesh.half_edges ≡ [] }
+        requires from { a < length self.old.mesh.out_edges }
+        requires to { b < length self.old.mesh.out_edges }
+        requires apart { a ≢ b }
+        requires room { HasEdgeRoom self.old.mesh self.old.room 2 }
+        ensures mesh { self.new.mesh ≡ connected self.old.mesh a b }
+        ensures room { self.new.room ≡ self.old.room }
+    {
+        self.half_edges.push_reserved(HalfEdge {
+            origin: a,
+            next: 1,
+            prev: 1,
+            face: 0,
+        });
+        self.half_edges.push_reserved(HalfEdge {
+            origin: b,
+            next: 0,
+            prev: 0,
+            face: 0,
+        });
+        self.out_edges[a as usize] = Some(0);
+        self.out_edges[b as usize] = Some(1);
+        self.outer_edge = Some(0);
+    }
+
+    /// Puts an edge from vertex `u` of a line to vertex `v`.
+    pub fn extend_line(&mut self, u: u32, v: u32)
+        requires line { IsOnLine self.old.mesh u }
+        requires alone { IsAlone self.old.mesh v }
+        requires edge_room { HasEdgeRoom self.old.mesh self.old.room 2 }
+        ensures mesh { self.new.mesh ≡ hung self.old.mesh (edge_into self.old.mesh u) v }
+        ensures room { self.new.room ≡ self.old.room }
+        ensures sound { IsSound self.old.mesh }
+        ensures links { Hangs self.old.mesh self.new.mesh (edge_into self.old.mesh u) v (length self.old.mesh.half_edges) }
+        ensures ends { AddsEdge self.old.mesh self.new.mesh u v }
+        ensures outer { ExtendsOuter self.old.mesh self.new.mesh u v (length self.old.mesh.half_edges) }
+    {
+        let _count = self.half_edge_count();
+        if let Some(edge) = self.out_edge(u) {
+            self.hang(reversed(edge), v);
+        }
+    }
+
+    /// Lets edge `e` end at the far end of the edge after it, which is the only one there.
+    pub fn slide(&mut self, e: u32)
+        requires { IsSlidable self.old.mesh e }
+        ensures mesh { self.new.mesh ≡ slid self.old.mesh e }
+        ensures room { self.new.room ≡ self.old.room }
+        ensures sound { IsSound self.old.mesh }
+        ensures ends { let m = self.old.mesh in MovesEdge m self.new.mesh e (origin m e) (origin m (next m (next m e))) }
+        ensures links { let m = self.old.mesh in Slides m self.new.mesh e (next m e) (next m (next m e)) }
+    {
+        let t = reversed(e);
+        let k = read(&self.half_edges, e).next;
+        let there = read(&self.half_edges, k);
+        let z = read(&self.half_edges, t).prev;
+        slide_edges(&mut self.half_edges, e, t, k, there.next, z);
+        self.out_edges[there.origin as usize] = Some(k);
+    }
+
+    /// Splits edge `e` of a line at vertex `v`. Gives both parts, directed as `e`.
+    pub fn split_line(&mut self, e: u32, v: u32) -> [u32; 2]
+        requires line { IsLineEdge self.old.mesh e }
+        requires alone { IsAlone self.old.mesh v }
+        requires edge_room { HasEdgeRoom self.old.mesh self.old.room 2 }
+        ensures parts { let n = length self.old.mesh.half_edges in result ≡ e ∷ (n + 1) ∷ [] }
+        ensures mesh { self.new.mesh ≡ line_split self.old.mesh e v }
+        ensures room { self.new.room ≡ self.old.room }
+        ensures sound { IsSound self.old.mesh }
+        ensures ends { SplitsLineEnds self.old.mesh self.new.mesh e v }
+        ensures links { SplitsLine self.old.mesh self.new.mesh e v (length self.old.mesh.half_edges) }
+        ensures outer { SplitsOuter self.old.mesh self.new.mesh e v (length self.old.mesh.half_edges) }
+    {
+        let n = self.half_edge_count() as u32;
+        self.hang(e, v);
+        self.slide(e);
+        [e, n + 1]
+    }
+}

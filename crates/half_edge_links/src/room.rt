@@ -1,0 +1,57 @@
+//! How much room a mesh has, and asking for more.
+ghost use Rattle.std.specs.Prelude.{◌≡◌, ◌+◌, ◌-◌, ◌<◌, OnOk, IsTrue, ◌↔◌, Err, IsOk};
+ghost use Rattle.half_edge_links.specs.Room.{AreFewEnough, HasRoomFor, KeepsRoom};
+
+use crate::links::Links;
+
+/// The largest number of vertices, of directed edges and of faces.
+pub const MAX_ELEMENTS: usize = 4294967295;
+
+/// Why room was refused.
+#[derive(Clone, Copy, PartialEq, Eq, Debug)]
+pub enum ReserveError {
+    /// A total passes `MAX_ELEMENTS`.
+    TooMany,
+    OutOfMemory,
+}
+
+/// Whether a mesh can have so many vertices, undirected edges and faces.
+pub fn are_few_enough(vertices: usize, undirected_edges: usize, faces: usize) -> bool
+    ensures { IsTrue result ↔ AreFewEnough vertices undirected_edges faces }
+{
+    vertices <= MAX_ELEMENTS && undirected_edges <= MAX_ELEMENTS / 2 && faces <= MAX_ELEMENTS
+}
+
+impl Links {
+    /// Makes room for these totals.
+    pub fn reserve(
+        &mut self,
+        vertices: usize,
+        undirected_edges: usize,
+        faces: usize,
+    ) -> Result<(), ReserveError>
+        ensures mesh { self.new.mesh ≡ self.old.mesh }
+        ensures ok { OnOk result (HasRoomFor self.new.room vertices undirected_edges faces) }
+        ensures kept { KeepsRoom self.old.room self.new.room }
+        ensures too_many { result ≡ Err ReserveError.TooMany → ¬ AreFewEnough vertices undirected_edges faces }
+        ensures had_room { HasRoomFor self.old.room vertices undirected_edges faces → IsOk result }
+        ensures few_enough { ¬ AreFewEnough vertices undirected_edges faces → result ≡ Err ReserveError.TooMany }
+    {
+        let more_vertices = vertices.saturating_sub(self.out_edges.len());
+        if !are_few_enough(vertices, undirected_edges, faces) {
+            return Err(ReserveError::TooMany);
+        }
+        if self.out_edges.reserve(more_vertices).is_err() {
+            return Err(ReserveError::OutOfMemory);
+        }
+        let more_edges = (2 * undirected_edges).saturating_sub(self.half_edges.len());
+        if self.half_edges.reserve(more_edges).is_err() {
+            return Err(ReserveError::OutOfMemory);
+        }
+        let more_faces = faces.saturating_sub(self.face_edges.len() + 1);
+        if self.face_edges.reserve(more_faces).is_err() {
+            return Err(ReserveError::OutOfMemory);
+        }
+        Ok(())
+    }
+}

@@ -1,0 +1,2 @@
+pub mod Dcel
+pub mod InnerFaces

@@ -1,0 +1,140 @@
+//! Names of the vertices, edges and faces of a mesh.
+ghost use Rattle.std.specs.Prelude.{◌≡◌, ℕ, ◌*◌, ◌/◌, ◌<◌, ◌^◌};
+ghost use Rattle.half_edge_links.specs.Mesh.{rev};
+
+use half_edge_links::reversed;
+use std::marker::Model;
+
+/// A vertex of a mesh, by its index.
+#[derive(Clone, Copy, PartialEq, Eq, PartialOrd, Ord, Hash, Debug)]
+pub struct FixedVertexHandle {
+    index: u32,
+}
+
+impl Model for FixedVertexHandle {
+    ghost Value = { ℕ };
+
+    ghost view = { λ h. h.index };
+
+    ghost inverse = { λ n. record { index = n } };
+}
+
+impl FixedVertexHandle {
+    pub fn from_index(index: u32) -> Self
+        ensures { result ≡ index }
+    {
+        FixedVertexHandle { index }
+    }
+
+    pub fn index(self) -> u32
+        ensures { result ≡ self }
+    {
+        self.index
+    }
+}
+
+/// A directed edge of a mesh, by its index.
+#[derive(Clone, Copy, PartialEq, Eq, PartialOrd, Ord, Hash, Debug)]
+pub struct FixedDirectedEdgeHandle {
+    index: u32,
+}
+
+impl Model for FixedDirectedEdgeHandle {
+    ghost Value = { ℕ };
+
+    ghost view = { λ h. h.index };
+
+    ghost inverse = { λ n. record { index = n } };
+}
+
+impl FixedDirectedEdgeHandle {
+    pub fn from_index(index: u32) -> Self
+        ensures { result ≡ index }
+    {
+        FixedDirectedEdgeHandle { index }
+    }
+
+    pub fn index(self) -> u32
+        ensures { result ≡ self }
+    {
+        self.index
+    }
+
+    /// The same edge in the other direction.
+    pub fn rev(self) -> Self
+        ensures { result ≡ rev self }
+    {
+        FixedDirectedEdgeHandle {
+            index: reversed(self.index),
+        }
+    }
+
+    pub fn as_undirected(self) -> FixedUndirectedEdgeHandle
+        ensures { result ≡ self / 2 }
+    {
+        FixedUndirectedEdgeHandle {
+            index: self.index / 2,
+        }
+    }
+}
+
+/// An undirected edge of a mesh, by its index.
+#[derive(Clone, Copy, PartialEq, Eq, PartialOrd, Ord, Hash, Debug)]
+pub struct FixedUndirectedEdgeHandle {
+    index: u32,
+}
+
+impl Model for FixedUndirectedEdgeHandle {
+    ghost Value = { ℕ };
+
+    ghost view = { λ h. h.index };
+
+    ghost invariant = { λ h. h.index < 2 ^ 31 };
+
+    ghost inverse = { λ n. record { index = n } };
+}
+
+impl FixedUndirectedEdgeHandle {
+    pub fn index(self) -> u32
+        ensures { result ≡ self }
+    {
+        self.index
+    }
+
+    /// The first of the two directions.
+    pub fn as_directed(self) -> FixedDirectedEdgeHandle
+        ensures { result ≡ 2 * self }
+    {
+        FixedDirectedEdgeHandle {
+            index: 2 * self.index,
+        }
+    }
+}
+
+/// A face of a mesh, by its index. Face 0 is the outer face.
+#[derive(Clone, Copy, PartialEq, Eq, PartialOrd, Ord, Hash, Debug)]
+pub struct FixedFaceHandle {
+    index: u32,
+}
+
+impl Model for FixedFaceHandle {
+    ghost Value = { ℕ };
+
+    ghost view = { λ h. h.index };
+
+    ghost inverse = { λ n. record { index = n } };
+}
+
+impl FixedFaceHandle {
+    pub fn from_index(index: u32) -> Self
+        ensures { result ≡ index }
+    {
+        FixedFaceHandle { index }
+    }
+
+    pub fn index(self) -> u32
+        ensures { result ≡ self }
+    {
+        self.index
+    }
+}
