@@ -1,0 +1,6 @@
+// Points, the side's answer, the range of coordinates, and the trait of the tests that a caller hands in.
+#![tactic(auto)]
+
+pub mod line_side_info;
+pub mod math;
+pub mod point;

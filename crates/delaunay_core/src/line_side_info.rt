@@ -1,0 +1,122 @@
+ghost use Rattle.std.specs.Prelude.{◌≡◌, ◌≢◌, ◌↔◌, IsTrue};
+ghost use Rattle.plane.specs.Side.{left, right, on, opposite};
+
+use std::marker::Model;
+
+#[derive(Clone, Copy, Debug, PartialEq, Eq)]
+enum Turn {
+    Left,
+    Right,
+    OnLine,
+}
+
+/// The side of a directed line on which a point lies: left, right, or on the line.
+#[derive(Clone, Copy, Debug, PartialEq, Eq)]
+pub struct LineSideInfo {
+    turn: Turn,
+}
+
+impl Model for LineSideInfo {
+    ghost use Rattle.plane.specs.Side.{Side};
+    ghost use Rattle.delaunay_core.specs.Turned.{side_of, turn_of};
+
+    ghost Value = { Side };
+
+    ghost view = { λ s. side_of s.turn };
+
+    ghost inverse = { λ s. record { turn = turn_of s } };
+}
+
+impl LineSideInfo {
+    /// The point lies strictly on the left.
+    pub const fn left() -> LineSideInfo
+        ensures { result ≡ left }
+    {
+        LineSideInfo { turn: Turn::Left }
+    }
+
+    /// The point lies strictly on the right.
+    pub const fn right() -> LineSideInfo
+        ensures { result ≡ right }
+    {
+        LineSideInfo { turn: Turn::Right }
+    }
+
+    /// The point lies on the line, or the line's two points are one.
+    pub const fn on_line() -> LineSideInfo
+        ensures { result ≡ on }
+    {
+        LineSideInfo { turn: Turn::OnLine }
+    }
+
+    pub fn is_on_left_side(&self) -> bool
+        ensures { IsTrue result ↔ (self.now ≡ left) }
+    {
+        self.turn == Turn::Left
+    }
+
+    pub fn is_on_right_side(&self) -> bool
+        ensures { IsTrue result ↔ (self.now ≡ right) }
+    {
+        self.turn == Turn::Right
+    }
+
+    pub fn is_on_left_side_or_on_line(&self) -> bool
+        ensures { IsTrue result ↔ (self.now ≢ right) }
+    {
+        self.turn != Turn::Right
+    }
+
+    pub fn is_on_right_side_or_on_line(self) -> bool
+        ensures { IsTrue result ↔ (self ≢ left) }
+    {
+        self.turn != Turn::Left
+    }
+
+    pub fn is_on_line(self) -> bool
+        ensures { IsTrue result ↔ (self ≡ on) }
+    {
+        self.turn == Turn::OnLine
+    }
+
+    /// Left and right change places.
+    pub fn reversed(self) -> LineSideInfo
+        ensures { result ≡ opposite self }
+    {
+        match self.turn {
+            Turn::Left => LineSideInfo::right(),
+            Turn::Right => LineSideInfo::left(),
+            Turn::OnLine => LineSideInfo::on_line(),
+        }
+    }
+}
+
+#[cfg(test)]
+mod tests {
+    use super::*;
+
+    #[test]
+    fn one_of_three(rt: HostRuntime) {
+        let (left, right, on) = (
+            LineSideInfo::left(),
+            LineSideInfo::right(),
+            LineSideInfo::on_line(),
+        );
+        assert!(rt; left.is_on_left_side() && left.is_on_left_side_or_on_line());
+        assert!(rt;
+            !left.is_on_right_side() && !left.is_on_right_side_or_on_line() && !left.is_on_line()
+        );
+        assert!(rt; right.is_on_right_side() && right.is_on_right_side_or_on_line());
+        assert!(rt;
+            !right.is_on_left_side() && !right.is_on_left_side_or_on_line() && !right.is_on_line()
+        );
+        assert!(rt;
+            on.is_on_line() && on.is_on_left_side_or_on_line() && on.is_on_right_side_or_on_line()
+        );
+        assert!(rt; !on.is_on_left_side() && !on.is_on_right_side());
+        assert_eq!(rt; left.reversed(), right);
+        assert_eq!(rt; right.reversed(), left);
+        assert_eq!(rt; on.reversed(), on);
+        assert_ne!(rt; left, on);
+    }
+}

@@ -1,0 +1,129 @@
+ghost use Rattle.std.specs.Prelude.{◌≡◌, ◌↔◌, IsTrue, IsOk, OnErr, IsErrOf};
+ghost use Rattle.plane.specs.Fraction.{Point, whole as fraction};
+ghost use Rattle.plane.specs.Side.{side, TurnsLeft};
+ghost use Rattle.plane.specs.Circle.{InsideCircle};
+ghost use Rattle.plane.specs.Tests.{IsCoordinate, InRange};
+ghost use Rattle.delaunay_core.specs.Place.{place_of};
+ghost use Rattle.delaunay_core.specs.declared.math.InsertionError.TheVariants.{TooLarge};
+
+use crate::line_side_info::LineSideInfo;
+use crate::point::{HasPosition, Point2, SpadeNum};
+use thiserror::Error;
+
+/// The greatest absolute value of a coordinate, 2 to the 29th.
+pub const MAX_ALLOWED_VALUE: i64 = 536870912;
+
+/// Why a vertex was not inserted. Each prints its own name.
+#[derive(Clone, Copy, Debug, PartialEq, Eq, PartialOrd, Ord, Hash, Error)]
+pub enum InsertionError {
+    /// A coordinate is out of range.
+    #[error("TooLarge")]
+    TooLarge,
+    /// A growth was refused.
+    #[error("OutOfMemory")]
+    OutOfMemory,
+    /// The mesh has no index left for the new elements.
+    #[error("OutOfIndexes")]
+    OutOfIndexes,
+}
+
+/// `TooLarge` exactly where the absolute value is more than `MAX_ALLOWED_VALUE`.
+pub fn validate_coordinate<S: SpadeNum>(value: S) -> Result<(), InsertionError>
+    ensures only { OnErr result (IsErrOf result TooLarge) }
+    ensures exactly { IsOk result ↔ IsCoordinate (S.whole value) }
+{
+    let whole = value.to_i64();
+    if whole < -MAX_ALLOWED_VALUE || whole > MAX_ALLOWED_VALUE {
+        Err(InsertionError::TooLarge)
+    } else {
+        Ok(())
+    }
+}
+
+/// `TooLarge` exactly where a coordinate of the position is out of range.
+pub fn validate_vertex<V: HasPosition>(vertex: &V) -> Result<(), InsertionError>
+    ensures only { OnErr result (IsErrOf result TooLarge) }
+    ensures exactly { IsOk result ↔ InRange (V.place vertex.now) }
+{
+    let position = vertex.position();
+    validate_coordinate(position.x)?;
+    validate_coordinate(position.y)
+}
+
+/// True answers to side and circle tests, which the caller hands in: of sides at its covered points, of circles at its
+/// sites. The crate has no implementation of its own.
+pub trait PlaneTests<S: SpadeNum> {
+    ghost covered: { Self → Point → Type 0 };
+
+    ghost sites: { Self → Point → Type 0 };
+
+    /// The side of `point`, as seen along the line from `from` to `to`. With two equal points among the three it is on.
+    fn side(&self, from: Point2<S>, to: Point2<S>, point: Point2<S>) -> LineSideInfo
+        requires from_covered { covered self.now (place_of S.whole from) }
+        requires to_covered { covered self.now (place_of S.whole to) }
+        requires point_covered { covered self.now (place_of S.whole point) }
+        ensures { result ≡ side (fraction (place_of S.whole from)) (fraction (place_of S.whole to)) (fraction (place_of S.whole point)) };
+
+    /// Whether `point` is strictly inside the circle of the left-turning triple `v1`, `v2`, `v3`.
+    fn is_in_circle(&self, v1: Point2<S>, v2: Point2<S>, v3: Point2<S>, point: Point2<S>) -> bool
+        requires v1_site { sites self.now (place_of S.whole v1) }
+        requires v2_site { sites self.now (place_of S.whole v2) }
+        requires v3_site { sites self.now (place_of S.whole v3) }
+        requires point_site { sites self.now (place_of S.whole point) }
+        requires left_turn { TurnsLeft (fraction (place_of S.whole v1)) (fraction (place_of S.whole v2)) (fraction (place_of S.whole v3)) }
+        ensures { IsTrue result ↔ InsideCircle (fraction (place_of S.whole v1)) (fraction (place_of S.whole v2)) (fraction (place_of S.whole v3)) (fraction (place_of S.whole point)) };
+
+    ghost sites_are_covered: { (t : Self) (p : Point) → sites t p → covered t p };
+
+    ghost covered_are_in_range: { (t : Self) (p : Point) → covered t p → InRange p };
+}
+
+#[cfg(test)]
+mod tests {
+    use super::*;
+    use std::test::Fail;
+
+    #[test]
+    fn range_of_coordinates(rt: HostRuntime) {
+        for value in [-536870912i64, 536870912, 0] {
+            assert_eq!(rt; validate_coordinate(value), Ok(()), "at {value}");
+        }
+        for value in [-536870913i64, 536870913, i64::MIN, i64::MAX] {
+            assert_eq!(rt;
+                validate_coordinate(value),
+                Err(InsertionError::TooLarge),
+                "at {value}"
+            );
+        }
+    }
+
+    #[test]
+    fn range_of_vertices(rt: HostRuntime) {
+        assert_eq!(rt;
+            validate_vertex(&Point2::new(536870912i64, -536870912)),
+            Ok(())
+        );
+        assert_eq!(rt;
+            validate_vertex(&Point2::new(536870913i64, 0)),
+            Err(InsertionError::TooLarge)
+        );
+        assert_eq!(rt;
+            validate_vertex(&Point2::new(0, -536870913i64)),
+            Err(InsertionError::TooLarge)
+        );
+        assert_eq!(rt; validate_vertex(&Point2::new(127i8, -128)), Ok(()));
+    }
+
+    #[test]
+    fn errors_print_their_names(rt: HostRuntime) -> Result<(), Fail> {
+        for (error, name) in [
+            (InsertionError::TooLarge, "TooLarge"),
+            (InsertionError::OutOfMemory, "OutOfMemory"),
+            (InsertionError::OutOfIndexes, "OutOfIndexes"),
+        ] {
+            let text = format!(in rt.alloc(); "{error}")?;
+            assert_eq!(rt; text.as_str(), name);
+        }
+        Ok(())
+    }
+}

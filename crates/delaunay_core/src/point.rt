@@ -1,0 +1,235 @@
+ghost use Rattle.std.specs.Prelude.{◌≡◌, ◌≤◌, ◌∷◌, [], ℤ, pos, ◌-ℤ◌, ◌*ℤ◌, ◌≤ℤ◌, refl, unsigned_abs};
+ghost use Rattle.std.specs.Ordering.{int_cmp, int_eq, as_partial_cmp};
+ghost use Rattle.plane.specs.Fraction.{Point, whole as fraction};
+ghost use Rattle.plane.specs.Circle.{gap};
+ghost use Rattle.plane.specs.Tests.{IsCoordinate, InRange};
+ghost use Rattle.delaunay_core.specs.Place.{place_of};
+
+/// A signed whole number that is read as an `i64`.
+pub trait SpadeNum: Copy + PartialOrd + Drop {
+    ghost whole: { Self → ℤ };
+
+    /// The same number.
+    fn to_i64(self) -> i64
+        ensures { result ≡ whole self };
+
+    // Two numbers that are read alike are one.
+    ghost injective: { (a b : Self) → whole a ≡ whole b → a ≡ b };
+
+    ghost clone_is_equal: { (a b : Self) → Self.Clone.is_clone a b → b ≡ a };
+
+    ghost same_equality: { (a b : Self) → Self.PartialEq.eq a b ≡ int_eq (whole a) (whole b) };
+
+    ghost same_order: { (a b : Self) → Self.PartialOrd.partial_cmp a b ≡ as_partial_cmp int_cmp (whole a) (whole b) };
+}
+
+impl SpadeNum for i8 {
+    ghost whole = { λ z. z };
+
+    ghost injective = { λ a b e. e };
+
+    ghost clone_is_equal = { λ a b e. e };
+
+    ghost same_equality = { λ a b. refl };
+
+    ghost same_order = { λ a b. refl };
+
+    fn to_i64(self) -> i64 {
+        i64::from(self)
+    }
+}
+
+impl SpadeNum for i16 {
+    ghost whole = { λ z. z };
+
+    ghost injective = { λ a b e. e };
+
+    ghost clone_is_equal = { λ a b e. e };
+
+    ghost same_equality = { λ a b. refl };
+
+    ghost same_order = { λ a b. refl };
+
+    fn to_i64(self) -> i64 {
+        i64::from(self)
+    }
+}
+
+impl SpadeNum for i32 {
+    ghost whole = { λ z. z };
+
+    ghost injective = { λ a b e. e };
+
+    ghost clone_is_equal = { λ a b e. e };
+
+    ghost same_equality = { λ a b. refl };
+
+    ghost same_order = { λ a b. refl };
+
+    fn to_i64(self) -> i64 {
+        i64::from(self)
+    }
+}
+
+impl SpadeNum for i64 {
+    ghost whole = { λ z. z };
+
+    ghost injective = { λ a b e. e };
+
+    ghost clone_is_equal = { λ a b e. e };
+
+    ghost same_equality = { λ a b. refl };
+
+    ghost same_order = { λ a b. refl };
+
+    fn to_i64(self) -> i64 {
+        self
+    }
+}
+
+/// A point of the plane. Points are ordered by `x`, then by `y`.
+#[derive(Clone, Copy, Debug, PartialEq, Eq, PartialOrd, Ord, Hash, Default)]
+pub struct Point2<S> {
+    pub x: S,
+    pub y: S,
+}
+
+impl<S> Point2<S> {
+    pub const fn new(x: S, y: S) -> Self
+        ensures x { result.x ≡ x }
+        ensures y { result.y ≡ y }
+    {
+        Point2 { x, y }
+    }
+}
+
+impl<S: SpadeNum> Point2<S> {
+    /// The squared distance of two points in range.
+    pub fn distance_2(&self, other: Self) -> i64
+        requires in_range { InRange (place_of S.whole self.now) }
+        requires other_in_range { InRange (place_of S.whole other) }
+        ensures { result ≡ gap (fraction (place_of S.whole self.now)) (fraction (place_of S.whole other)) }
+    {
+        square(difference(self.x, other.x)) + square(difference(self.y, other.y))
+    }
+}
+
+fn difference<S: SpadeNum>(from: S, to: S) -> i64
+    requires from { IsCoordinate (S.whole from) }
+    requires to { IsCoordinate (S.whole to) }
+    ensures value { result ≡ S.whole to *ℤ pos 1 -ℤ S.whole from *ℤ pos 1 }
+    ensures bound { unsigned_abs result ≤ 1073741824 }
+{
+    to.to_i64() - from.to_i64()
+}
+
+fn square(n: i64) -> i64
+    requires { unsigned_abs n ≤ 1073741824 }
+    ensures value { result ≡ n *ℤ n }
+    ensures bound { unsigned_abs result ≤ 1152921504606846976 }
+{
+    n * n
+}
+
+impl<S: SpadeNum> From<[S; 2]> for Point2<S> {
+    ghost from_gives = { λ a p. a ≡ p.x ∷ p.y ∷ [] };
+
+    fn from(source: [S; 2]) -> Self {
+        Point2::new(source[0], source[1])
+    }
+}
+
+impl<S: SpadeNum> From<Point2<S>> for [S; 2] {
+    ghost from_gives = { λ p a. a ≡ p.x ∷ p.y ∷ [] };
+
+    fn from(point: Point2<S>) -> [S; 2] {
+        [point.x, point.y]
+    }
+}
+
+impl<S: SpadeNum> From<(S, S)> for Point2<S> {
+    ghost from_gives = { λ a p. a ≡ (p.x, p.y) };
+
+    fn from(source: (S, S)) -> Self {
+        Point2::new(source.0, source.1)
+    }
+}
+
+impl<S: SpadeNum> From<Point2<S>> for (S, S) {
+    ghost from_gives = { λ p a. a ≡ (p.x, p.y) };
+
+    fn from(point: Point2<S>) -> (S, S) {
+        (point.x, point.y)
+    }
+}
+
+/// A value with a position, which is a function of the value.
+pub trait HasPosition {
+    type Scalar: SpadeNum;
+
+    ghost place: { Self → Point };
+
+    fn position(&self) -> Point2<Self::Scalar>
+        ensures { place_of Self.Scalar.whole result ≡ place self.now };
+}
+
+impl<S: SpadeNum> HasPosition for Point2<S> {
+    type Scalar = S;
+
+    ghost place = { place_of S.whole };
+
+    fn position(&self) -> Point2<S> {
+        *self
+    }
+}
+
+#[cfg(test)]
+mod tests {
+    use super::*;
+    use std::cmp::Ordering;
+
+    #[test]
+    fn squared_distances(rt: HostRuntime) {
+        assert_eq!(rt; Point2::new(1i8, 1).distance_2(Point2::new(4, 5)), 25);
+        assert_eq!(rt; Point2::new(-3i16, 2).distance_2(Point2::new(-3, 2)), 0);
+        let corner = Point2::new(-536870912i32, -536870912);
+        assert_eq!(rt;
+            corner.distance_2(Point2::new(536870912, 536870912)),
+            2305843009213693952
+        );
+        let near = Point2::new(-536870912i64, 0);
+        assert_eq!(rt; near.distance_2(Point2::new(-536870911, 0)), 1);
+    }
+
+    #[test]
+    fn ordered_by_x_then_y(rt: HostRuntime) {
+        assert_eq!(rt; Point2::new(1, 5).cmp(&Point2::new(2, 4)), Ordering::Less);
+        assert_eq!(rt;
+            Point2::new(1, 5).cmp(&Point2::new(1, 4)),
+            Ordering::Greater
+        );
+        assert!(rt; Point2::new(1i64, 5) == Point2::new(1, 5));
+        assert!(rt; Point2::<i64>::default() == Point2::new(0, 0));
+    }
+
+    #[test]
+    fn converted(rt: HostRuntime) {
+        let from_array: Point2<i64> = [3, 4].into();
+        assert_eq!(rt; from_array, Point2::new(3, 4));
+        let array: [i64; 2] = from_array.into();
+        assert_eq!(rt; array, [3, 4]);
+        let from_pair: Point2<i64> = (3, 4).into();
+        assert_eq!(rt; from_pair, Point2::new(3, 4));
+        let pair: (i64, i64) = from_pair.into();
+        assert_eq!(rt; pair, (3, 4));
+        assert_eq!(rt; from_pair.position(), from_pair);
+    }
+
+    #[test]
+    fn read_as_i64(rt: HostRuntime) {
+        assert_eq!(rt; i8::MIN.to_i64(), -128);
+        assert_eq!(rt; i16::MIN.to_i64(), -32768);
+        assert_eq!(rt; i32::MIN.to_i64(), -2147483648);
+        assert_eq!(rt; i64::MIN.to_i64(), i64::MIN);
+    }
+}
