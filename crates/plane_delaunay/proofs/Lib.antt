@@ -12,6 +12,8 @@ pub mod Ground
 pub mod EmptyCircles
 pub mod Unique
 pub mod Nearest
+pub mod NearestOnLine
+pub mod NearerCount
 pub mod Where
 pub mod Flip
 pub mod Meets

@@ -11,11 +11,12 @@ use Rattle.plane_delaunay.proofs.Tally.{at_least}
 use Rattle.plane_delaunay.proofs.Faces.{Tiling, Germ, StartsFrom, germ, germ-turned, germ-closed}
 use Rattle.plane_delaunay.proofs.Across.{level}
 use Rattle.plane_delaunay.proofs.Ground.{tiling, triangle_of_inside, turned_face}
+use Rattle.plane_delaunay.proofs.NearestOnLine.{nearest_on_line}
 use Rattle.plane_delaunay.proofs.EmptyCircles.{spot, circle_lift, middle_of, middle_inside}
 use Rattle.plane.specs.Fraction.{Point, Fraction, whole}
 use Rattle.plane.specs.Circle.{gap, IsNearer}
 use Rattle.plane.specs.Pairs.{Joins}
-use Rattle.plane.specs.Tiling.{Triangulation, IsVertex, vertex, IsEdge, IsFace, TilesHull}
+use Rattle.plane.specs.Tiling.{Triangulation, IsVertex, vertex, IsEdge, IsFace, TilesHull, IsTiling}
 use Rattle.plane.specs.Delaunay.{IsConstrainedDelaunay}
 use Rattle.plane.specs.Shape.{IsNearest}
 
@@ -106,9 +107,9 @@ module _ (t : Triangulation) (D : IsConstrainedDelaunay t []) (h : TilesHull t) 
       none_joined m n (inl c) = absurd (omega (arith, c.1))
       none_joined m n (inr c) = absurd (omega (arith, c.1))
 
-  pub nearest_by_neighbours : (p : Fraction) (v : ℕ) → IsVertex t v → ((u : ℕ) → IsEdge t v u → ¬ IsNearer p (vertex t u) (vertex t v)) → IsNearest t p v
+  nearest_in_hull : (p : Fraction) (v : ℕ) → IsVertex t v → ((u : ℕ) → IsEdge t v u → ¬ IsNearer p (vertex t u) (vertex t v)) → IsNearest t p v
   unfolding tiling
-  nearest_by_neighbours p v hv neighbours = record { is_vertex = hv; none_nearer = λ w hw. from_entered w hw (entered (tiling t h) v w hv hw) }
+  nearest_in_hull p v hv neighbours = record { is_vertex = hv; none_nearer = λ w hw. from_entered w hw (entered (tiling t h) v w hv hw) }
     where
       squares : pos 0 ≤ℤ (p.w *ℤ p.w)
       squares = at_least (mul-pos_ℤ {a = p.w} {b = p.w} p.positive p.positive)
@@ -119,3 +120,11 @@ module _ (t : Triangulation) (D : IsConstrainedDelaunay t []) (h : TilesHull t) 
           e.second (farther p (spot t e.b) (spot t v) (neighbours e.b ((h.sides v e.b).1 (inl (e.c, e.is_face)))))
           e.first (farther p (spot t e.c) (spot t v) (neighbours e.c ((h.sides v e.c).1 (inr (e.b, turned_face t e.b e.c v (turned_face t v e.b e.c e.is_face))))))
           squares (all_low v e.b e.c w e.is_face hw))
+
+-- and so in each tiling
+pub nearest_by_neighbours : (t : Triangulation) → IsConstrainedDelaunay t [] → (p : Fraction) (v : ℕ) → IsVertex t v → ((u : ℕ) → IsEdge t v u → ¬ IsNearer p (vertex t u) (vertex t v)) → IsNearest t p v
+nearest_by_neighbours t D p v hv neighbours = go D.tiling
+  where
+    go : IsTiling t → IsNearest t p v
+    go (inl h) = nearest_in_hull t D h p v hv neighbours
+    go (inr l) = nearest_on_line t l p v hv neighbours

@@ -1,7 +1,7 @@
 //! From the local circle test to constrained Delaunay: laws over tilings, constraints and circles.
 #![tactic(auto)]
 
-ghost use Rattle.plane_delaunay.specs.Laws.{LocalGivesConstrainedDelaunay, StrictlyEmptyIsFace};
+ghost use Rattle.plane_delaunay.specs.Laws.{LocalGivesConstrainedDelaunay, StrictlyEmptyIsFace, NearestByNeighbours, NearerCountFalls};
 
 /// A law: a tiling that has each constraint as an edge and passes the local circle test is constrained Delaunay.
 pub fn local_gives_constrained_delaunay()
@@ -11,4 +11,14 @@ pub fn local_gives_constrained_delaunay()
 /// A law: without constraints each strictly empty triple is a face.
 pub fn strictly_empty_is_face()
     ensures { StrictlyEmptyIsFace }
+{}
+
+/// A law: without constraints a vertex to which no neighbour is nearer than it is nearest of all.
+pub fn nearest_by_neighbours()
+    ensures { NearestByNeighbours }
+{}
+
+/// A law: from a vertex to a nearer one the number of nearer vertices falls.
+pub fn nearer_count_falls()
+    ensures { NearerCountFalls }
 {}

@@ -1,0 +1,75 @@
+-- The number of nearer vertices falls from a vertex to a nearer one.
+use Rattle.std.proofs.Common.{◌≡◌, ℕ, zero, suc, ◌<◌, ◌≤◌, List, [], ◌∷◌, length, get_or, arith, ap, subst}
+use mathlib.Core.Logic.{◌⊎◌, inl, inr}
+use Rattle.std.specs.Prelude.{ℤ, pos, ◌<ℤ◌, ◌*ℤ◌, sum_by, ◌≤ℤ◌, cond, true, false, slice_index_or, int_lt}
+use Rattle.std.proofs.lemmas.Int.{ints}
+use Rattle.std.proofs.lemmas.List.Sums.{sum_by-cons, sum_by-le-sum_by}
+use Rattle.plane.proofs.IntegerOrder.{lt_or_ge_ℤ}
+use Rattle.plane.specs.Fraction.{Point, Fraction, whole}
+use Rattle.plane.specs.Circle.{gap, IsNearer}
+use Rattle.plane.specs.Tiling.{Triangulation, IsVertex, vertex}
+use Rattle.plane_delaunay.specs.Nearer.{nearer_count}
+
+-- nowhere more, and at one index less: less altogether
+pub sum_by-lt : {X : Type 0} (f g : X → ℕ) (xs : List X) (k : ℕ) (d : X) → k < length xs → ((x : X) → f x ≤ g x) → f (get_or xs k d) < g (get_or xs k d) → sum_by f xs < sum_by g xs
+sum_by-lt f g [] k d h le l = absurd (omega (arith, h))
+sum_by-lt f g (x ∷ xs) zero d h le l = omega (arith, sum_by-cons f x xs, sum_by-cons g x xs, sum_by-le-sum_by f g xs le, l)
+sum_by-lt f g (x ∷ xs) (suc k) d h le l = omega (arith, sum_by-cons f x xs, sum_by-cons g x xs, le x, sum_by-lt f g xs k d (omega arith) le l)
+
+ones : {X : Type 0} (xs : List X) → sum_by (λ _. 1) xs ≡ length xs
+ones [] = λ _. 0
+ones (x ∷ xs) = omega (arith, sum_by-cons (λ _. 1) x xs, ones xs)
+
+test_true : (a b : ℤ) → a <ℤ b → int_lt a b ≡ true
+test_true a b h = grind (arith, ints)
+
+test_false : (a b : ℤ) → b ≤ℤ a → int_lt a b ≡ false
+test_false a b h = grind (arith, ints)
+
+-- 1 where a is below b
+abbrev flag : ℤ → ℤ → ℕ
+flag a b = cond (int_lt a b) 1 0
+
+below : (a b : ℤ) → a <ℤ b → flag a b ≡ 1
+below a b h = ap (λ t. cond t 1 0) (test_true a b h)
+
+not_below : (a b : ℤ) → b ≤ℤ a → flag a b ≡ 0
+not_below a b h = ap (λ t. cond t 1 0) (test_false a b h)
+
+flag-le : (a b c : ℤ) → b <ℤ c → flag a b ≤ flag a c
+flag-le a b c h = go (lt_or_ge_ℤ a b)
+  where
+    go : (a <ℤ b) ⊎ (b ≤ℤ a) → flag a b ≤ flag a c
+    go (inl k) = omega (arith, below a b k, below a c (omega (arith, ints)))
+    go (inr k) = omega (arith, not_below a b k)
+
+flag-most : (a b : ℤ) → flag a b ≤ 1
+flag-most a b = go (lt_or_ge_ℤ a b)
+  where
+    go : (a <ℤ b) ⊎ (b ≤ℤ a) → flag a b ≤ 1
+    go (inl k) = omega (arith, below a b k)
+    go (inr k) = omega (arith, not_below a b k)
+
+flag-none : (b : ℤ) → flag b b < 1
+flag-none b = omega (arith, not_below b b (omega (arith, ints)))
+
+flag-lt : (b c : ℤ) → b <ℤ c → flag b b < flag b c
+flag-lt b c h = omega (arith, not_below b b (omega (arith, ints)), below b c h)
+
+pub nearer_count_falls : (t : Triangulation) (p : Fraction) (i k : ℕ) → IsVertex t i → IsVertex t k → IsNearer p (vertex t k) (vertex t i) → (nearer_count t p k < nearer_count t p i) × (nearer_count t p i < length t.points)
+nearer_count_falls t p i k hi hk near = (
+  sum_by-lt (counted k) (counted i) t.points k origin hk (λ q. flag-le (far q) (far (spot k)) (far (spot i)) near.nearer) (flag-lt (far (spot k)) (far (spot i)) near.nearer),
+  subst (λ n. nearer_count t p i < n) (ones t.points) (sum_by-lt (counted i) (λ _. 1) t.points i origin hi (λ q. flag-most (far q) (far (spot i))) (flag-none (far (spot i)))),
+)
+  where
+    origin : Point
+    origin = record { x = pos 0; y = pos 0 }
+
+    spot : ℕ → Point
+    spot n = slice_index_or t.points n (record { x = pos 0; y = pos 0 })
+
+    far : Point → ℤ
+    far q = gap p (whole q) *ℤ (pos 1 *ℤ pos 1)
+
+    counted : ℕ → Point → ℕ
+    counted n q = flag (far q) (far (spot n))

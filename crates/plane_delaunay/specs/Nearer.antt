@@ -1,0 +1,12 @@
+-- How many vertices are nearer to a point than a vertex is.
+use Rattle.std.specs.Prelude.{ℕ, Bool, ◌*ℤ◌, count_by, int_lt}
+use Rattle.plane.specs.Fraction.{Fraction, whole}
+use Rattle.plane.specs.Circle.{gap}
+use Rattle.plane.specs.Tiling.{Triangulation, vertex}
+
+-- whether p is strictly nearer to c than q is
+abbrev pub is_nearer : Fraction → Fraction → Fraction → Bool
+is_nearer c p q = int_lt (gap c p *ℤ (q.w *ℤ q.w)) (gap c q *ℤ (p.w *ℤ p.w))
+
+abbrev pub nearer_count : Triangulation → Fraction → ℕ → ℕ
+nearer_count t p i = count_by (λ q. is_nearer p (whole q) (vertex t i)) t.points
