@@ -18,12 +18,13 @@ use Rattle.plane_delaunay.proofs.Across.{none_right, level, is_least}
 use Rattle.plane_delaunay.proofs.Generic.{AllOpen, open_if_free}
 use Rattle.plane_delaunay.proofs.Global.{PassesLocally, not_above_face}
 use Rattle.plane_delaunay.proofs.Ground.{member, contained, tiling, turned_face, inside_of, triangle_of_inside}
-use Rattle.plane.specs.Fraction.{Point, Fraction, IsNotNegative, IsSame, InsideTriangle, OnSegment}
-use Rattle.plane.specs.Side.{side, left, on, TurnsLeft}
-use Rattle.plane.specs.Circle.{InsideCircle, OnCircle}
+use Rattle.plane.specs.Fraction.{Point, Fraction, IsNotNegative, IsSame, OnSegment}
+use Rattle.plane.specs.Side.{left, on, TurnsLeft}
+use Rattle.plane.specs.Circle.{InsideCircle}
 use Rattle.plane.specs.Pairs.{Joins}
-use Rattle.plane.specs.Tiling.{Triangulation, Face, IsVertex, vertex, IsEdge, IsFace, HasFace, TilesHull, IsTiling}
+use Rattle.plane.specs.Tiling.{Triangulation, Face, IsVertex, vertex, IsEdge, IsFace, HasFace, TilesHull, JoinsLine, IsTiling}
 use Rattle.plane.specs.Delaunay.{IsSeen, IsConstrainedDelaunay, IsLocallyDelaunay, IsStrictlyEmpty}
+use Rattle.plane_delaunay.specs.History.{IsVisiblyEmpty}
 
 abbrev pub spot : Triangulation → ℕ → Point
 spot t i = slice_index_or t.points i (record { x = pos 0; y = pos 0 })
@@ -37,7 +38,7 @@ not_above z n = elim (sign z) [ below h ↦ most h | none h ↦ zero_most h | ab
     zero_most : z ≡ pos 0 → z ≤ℤ pos 0
     zero_most h = omega (arith, ints)
 
-clash : {z : ℤ} → z ≤ℤ pos 0 → pos 0 <ℤ z → ⊥
+pub clash : {z : ℤ} → z ≤ℤ pos 0 → pos 0 <ℤ z → ⊥
 clash h k = omega (arith, ints)
 
 pub no_face : (t : Triangulation) → t.faces ≡ [] → (i j k : ℕ) → ¬ IsFace t i j k
@@ -50,6 +51,13 @@ no_face t e i j k f = go f
     go (inl c) = none_listed _ c
     go (inr (inl c)) = none_listed _ c
     go (inr (inr c)) = none_listed _ c
+
+-- on a line no triple turns left
+pub straight_line : (t : Triangulation) → JoinsLine t → (i j k : ℕ) → IsVertex t i → IsVertex t j → IsVertex t k → ¬ TurnsLeft (vertex t i) (vertex t j) (vertex t k)
+straight_line t l i j k hi hj hk turns = apart (sym turns ∙ l.straight i j k hi hj hk)
+  where
+    apart : left ≡ on → ⊥
+    apart e = cc
 
 pub circle_lift : (t : Triangulation) (i j k n : ℕ) → TurnsLeft (vertex t i) (vertex t j) (vertex t k) → ¬ InsideCircle (vertex t i) (vertex t j) (vertex t k) (vertex t n) → lift (vertex t i) (vertex t j) (vertex t k) (vertex t n) ≤ℤ pos 0
 circle_lift t i j k n turns out = not_above _ (λ h. out ((inside_is_lift (spot t i) (spot t j) (spot t k) (spot t n) turns).1 h))
@@ -344,14 +352,6 @@ module _ (t : Triangulation) (constraints : List (ℕ × ℕ)) where
     outside = λ n v s. circle_lift t i j k n (h.turning i j k f) (D.empty i j k n f v s);
   }
 
--- a left-turning triple that no constraint enters, and whose circle neither contains nor carries a further vertex that is seen from inside the triple
-pub record IsVisiblyEmpty (t : Triangulation) (constraints : List (ℕ × ℕ)) (i j k : ℕ) : Type 0 where
-  pub corners : IsVertex t i × IsVertex t j × IsVertex t k
-  pub turns : TurnsLeft (vertex t i) (vertex t j) (vertex t k)
-  pub unentered : (p : Fraction) → InsideTriangle (vertex t i) (vertex t j) (vertex t k) p → (m n : ℕ) → Joins constraints m n → ¬ OnSegment (vertex t m) (vertex t n) p
-  pub clear : (n : ℕ) → IsVertex t n → n ≢ i → n ≢ j → n ≢ k → IsSeen t constraints (vertex t i) (vertex t j) (vertex t k) (vertex t n)
-      → (¬ InsideCircle (vertex t i) (vertex t j) (vertex t k) (vertex t n)) × (¬ OnCircle (vertex t i) (vertex t j) (vertex t k) (vertex t n))
-
 module _ (t : Triangulation) (constraints : List (ℕ × ℕ)) (a b c : ℕ) (s : IsVisiblyEmpty t constraints a b c) where
   corner_lift : (n : ℕ) → IsOneOf a b c n → lift (vertex t a) (vertex t b) (vertex t c) (vertex t n) ≡ pos 0
   corner_lift n (inl e) = ap (λ i. lift (vertex t a) (vertex t b) (vertex t c) (vertex t i)) e ∙ lift-first (vertex t a) (vertex t b) (vertex t c)
@@ -403,13 +403,7 @@ module _ (t : Triangulation) (constraints : List (ℕ × ℕ)) (a b c : ℕ) (s 
             where
               next : (y : Fraction) × Inside (vertex t r.0) (vertex t r.1) (vertex t r.2) y × Inside (vertex t a) (vertex t b) (vertex t c) y → IsFace t a b c
               next y = overlapped h D r.0 r.1 r.2 y.0 r.3 y.2 y.1
-      go (inr l) = absurd (straight (h_on (l.straight a b c s.corners.0 s.corners.1 s.corners.2)))
-        where
-          h_on : side (vertex t a) (vertex t b) (vertex t c) ≡ on → left ≡ on
-          h_on e = sym s.turns ∙ e
-
-          straight : left ≡ on → ⊥
-          straight e = cc
+      go (inr l) = absurd (straight_line t l a b c s.corners.0 s.corners.1 s.corners.2 s.turns)
 
 -- without constraints: a strictly empty triple is a face
 pub strictly_empty_is_face : (t : Triangulation) → IsConstrainedDelaunay t [] → (i j k : ℕ) → IsStrictlyEmpty t i j k → IsFace t i j k

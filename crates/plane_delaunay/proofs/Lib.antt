@@ -10,11 +10,11 @@ pub mod Global
 pub mod Hull
 pub mod Ground
 pub mod EmptyCircles
-pub mod Unique
 pub mod Nearest
 pub mod NearestOnLine
 pub mod NearerCount
 pub mod Where
+pub mod History
 pub mod Flip
 pub mod Meets
 pub mod Flood

@@ -112,8 +112,12 @@ inside_is_lift u p q r turns = (
   (λ h. (inside_is u p q r turns).1 (record { nearer = above-difference _ _ (centre u p q turns).w _ (gap-difference u p q turns r) (centre u p q turns).positive h })),
 )
 
+-- what the circle carries is as far from the centre as the first corner
+pub far_if_none : (u p q r : Point) (turns : TurnsLeft (whole u) (whole p) (whole q)) → lift (whole u) (whole p) (whole q) (whole r) ≡ pos 0 → AreEquallyFar (centre u p q turns) (whole r) (whole u)
+far_if_none u p q r turns h = record { far = difference-none _ _ (centre u p q turns).w _ (gap-difference u p q turns r) h }
+
 pub on_is_lift : (u p q r : Point) → TurnsLeft (whole u) (whole p) (whole q) → OnCircle (whole u) (whole p) (whole q) (whole r) ↔ (lift (whole u) (whole p) (whole q) (whole r) ≡ pos 0)
 on_is_lift u p q r turns = (
   (λ s. none-difference _ _ (centre u p q turns).w _ (gap-difference u p q turns r) (far_same s.centre (centre u p q turns) (whole r) (whole u) (centre_is_only u p q turns s.centre s.is_centre) s.far).far (centre u p q turns).positive),
-  (λ h. record { centre = centre u p q turns; is_centre = centre_is_centre u p q turns; far = record { far = difference-none _ _ (centre u p q turns).w _ (gap-difference u p q turns r) h } }),
+  (λ h. record { centre = centre u p q turns; is_centre = centre_is_centre u p q turns; far = far_if_none u p q r turns h }),
 )

@@ -3,10 +3,11 @@ use Rattle.std.specs.Prelude.{ℕ, ◌<◌, List, [], length}
 use Rattle.plane.specs.Fraction.{Fraction}
 use Rattle.plane.specs.Circle.{IsNearer}
 use Rattle.plane.specs.Pairs.{Joins}
-use Rattle.plane.specs.Tiling.{Triangulation, IsVertex, vertex, IsEdge, IsFace, IsTiling}
+use Rattle.plane.specs.Tiling.{Triangulation, IsVertex, vertex, IsEdge, IsFace, InsideCorners, IsTiling}
 use Rattle.plane.specs.Delaunay.{IsConstrainedDelaunay, IsLocallyDelaunay, IsStrictlyEmpty}
 use Rattle.plane.specs.Shape.{IsNearest}
 use Rattle.plane_delaunay.specs.Nearer.{nearer_count}
+use Rattle.plane_delaunay.specs.History.{IsVisiblyEmpty, AreOneState, HasFacesOf, NoFourOnCircle, HaveOneCircle}
 
 -- a tiling that has each constraint as an edge and passes the local circle test is constrained Delaunay
 abbrev pub LocalGivesConstrainedDelaunay : Type 0
@@ -26,3 +27,18 @@ NearestByNeighbours = (t : Triangulation) → IsConstrainedDelaunay t [] → (p 
 abbrev pub NearerCountFalls : Type 0
 NearerCountFalls = (t : Triangulation) (p : Fraction) (i k : ℕ) → IsVertex t i → IsVertex t k → IsNearer p (vertex t k) (vertex t i)
     → (nearer_count t p k < nearer_count t p i) × (nearer_count t p i < length t.points)
+
+-- a triple that no constraint enters, and whose circle neither contains nor carries another vertex that is seen from inside it, is a face
+abbrev pub VisiblyEmptyIsFace : Type 0
+VisiblyEmptyIsFace = (t : Triangulation) (constraints : List (ℕ × ℕ)) → IsConstrainedDelaunay t constraints → (i j k : ℕ) → IsVisiblyEmpty t constraints i j k → IsFace t i j k
+
+-- two triangulations of one plain state with no four points on one circle have the same faces, by position
+abbrev pub FacesAreUnique : Type 0
+FacesAreUnique = (s t : Triangulation) (constraints others : List (ℕ × ℕ)) → AreOneState s constraints t others → IsConstrainedDelaunay s constraints → IsConstrainedDelaunay t others
+    → NoFourOnCircle s → HasFacesOf t s × HasFacesOf s t
+
+-- where a face of one and a face of the other overlap, they have one circle
+abbrev pub OverlappingFacesTie : Type 0
+OverlappingFacesTie = (s t : Triangulation) (constraints others : List (ℕ × ℕ)) → AreOneState s constraints t others → IsConstrainedDelaunay s constraints → IsConstrainedDelaunay t others
+    → (i j k l m n : ℕ) (q : Fraction) → IsFace s i j k → IsFace t l m n → InsideCorners s i j k q → InsideCorners t l m n q
+    → HaveOneCircle (vertex s i) (vertex s j) (vertex s k) (vertex t l) (vertex t m) (vertex t n)

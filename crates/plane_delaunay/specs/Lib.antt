@@ -1,2 +1,3 @@
 pub mod Nearer
+pub mod History
 pub mod Laws

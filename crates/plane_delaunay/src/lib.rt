@@ -1,7 +1,7 @@
 //! From the local circle test to constrained Delaunay: laws over tilings, constraints and circles.
 #![tactic(auto)]
 
-ghost use Rattle.plane_delaunay.specs.Laws.{LocalGivesConstrainedDelaunay, StrictlyEmptyIsFace, NearestByNeighbours, NearerCountFalls};
+ghost use Rattle.plane_delaunay.specs.Laws.{LocalGivesConstrainedDelaunay, StrictlyEmptyIsFace, NearestByNeighbours, NearerCountFalls, VisiblyEmptyIsFace, FacesAreUnique, OverlappingFacesTie};
 
 /// A law: a tiling that has each constraint as an edge and passes the local circle test is constrained Delaunay.
 pub fn local_gives_constrained_delaunay()
@@ -21,4 +21,19 @@ pub fn nearest_by_neighbours()
 /// A law: from a vertex to a nearer one the number of nearer vertices falls.
 pub fn nearer_count_falls()
     ensures { NearerCountFalls }
+{}
+
+/// A law: a triple that no constraint enters, and whose circle neither contains nor carries another vertex that is seen from inside it, is a face.
+pub fn visibly_empty_is_face()
+    ensures { VisiblyEmptyIsFace }
+{}
+
+/// A law: two triangulations of one plain state with no four points on one circle have the same faces.
+pub fn faces_are_unique()
+    ensures { FacesAreUnique }
+{}
+
+/// A law: where faces of two triangulations of one plain state overlap, they have one circle.
+pub fn overlapping_faces_tie()
+    ensures { OverlappingFacesTie }
 {}
