@@ -1,27 +1,16 @@
 -- Whole points on one line, by their place along it.
 use Rattle.std.proofs.Common.{◌≡◌, ◌⊎◌, [], ◌∷◌, arith, ap, sym, ◌∙◌}
-use Prim.Native.Nat.{◌+◌}
 use mathlib.Core.Logic.{inl, inr}
 use Rattle.std.specs.Prelude.{ℤ, pos, ◌+ℤ◌, ◌-ℤ◌, ◌*ℤ◌, ◌<ℤ◌, ◌≤ℤ◌}
 use Rattle.std.proofs.lemmas.Int.{ints}
 use Rattle.plane.proofs.Steps.{weak}
 use Rattle.plane.specs.Fraction.{Point, Fraction, whole, IsPositive, WithinSegment}
 use Rattle.plane.proofs.IntegerOrder.{lt_or_ge_ℤ, trichotomy_ℤ, square-nonneg_ℤ, square-pos_ℤ, mul_cancel_ℤ, mul-pos_ℤ, mul-nonneg_ℤ, mul-nonpos_of_nonneg_nonpos_ℤ, pos-ne-zero_ℤ}
-use Rattle.plane.proofs.Solver.{Poly, var, num, ◌⊕◌, ◌⊖◌, ◌⊗◌, Shape, ring_over, ring_in, ring_in_from}
-use Rattle.plane.proofs.Bracket.{Vec3, bracket, Vec3ᵖ, bracketᵖ}
+use Rattle.plane.proofs.Solver.{num, ◌⊕◌, ◌⊖◌, ◌⊗◌, ring_over, ring_in, ring_in_from}
+use Rattle.plane.proofs.Bracket.{Vec3, bracket, bracketᵖ, lift, vec, points, liftᵖ}
 use Rattle.plane.proofs.BracketIdentities.{form, four_terms}
 use Rattle.plane.proofs.Means.{TwoWeights, mean_of_two}
-use Rattle.plane.proofs.Vertices.{lift, vec, moved}
-
-record Pointᵖ : Type 0 where
-  x : Poly
-  y : Poly
-
-abbrev points : Shape
-points = record { Value = Point; Syntax = Pointᵖ; width = 2; flat = λ a. a.x ∷ a.y ∷ []; fresh = λ i. record { x = var i; y = var (i + 1) } }
-
-abbrev liftᵖ : Pointᵖ → Vec3ᵖ
-liftᵖ p = record { x = p.x; y = p.y; w = num 1 }
+use Rattle.plane.proofs.Nudges.{moved}
 
 -- the place of z on the way from u to v
 unfoldable pub place_on : Point → Point → Vec3 → ℤ

@@ -5,10 +5,9 @@ use Rattle.std.specs.Prelude.{pos, ◌*ℤ◌, ◌≤ℤ◌, ◌<ℤ◌}
 use Rattle.plane.specs.Fraction.{Point}
 use Rattle.plane.proofs.IntegerOrder.{zero-mul_ℤ, zero_of_mul-zero_ℤ, pos-ne-zero_ℤ}
 use Rattle.plane.proofs.Steps.{three_zero, no_difference}
-use Rattle.plane.proofs.Nudges.{Nudged, nudged_zero, nudged_not_left, nudge_pairs}
-use Rattle.plane.proofs.Bracket.{Vec3, bracket}
-use Rattle.plane.proofs.BracketIdentities.{bracket-turn}
-use Rattle.plane.proofs.Vertices.{lift, moved, moved_positive, bracket-moved, bracket-outer, bracket-last, cramer, bracket_at_x, bracket_at_y}
+use Rattle.plane.proofs.Nudges.{Nudged, nudged_zero, nudged_not_left, nudge_pairs, moved, moved_positive, bracket-moved}
+use Rattle.plane.proofs.Bracket.{Vec3, bracket, lift}
+use Rattle.plane.proofs.BracketIdentities.{bracket-turn, bracket-outer, bracket-last, cramer, bracket_at_x, bracket_at_y}
 
 -- q is strictly inside a b c
 pub record Inside (a b c q : Vec3) : Type 0 where

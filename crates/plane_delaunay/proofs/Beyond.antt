@@ -9,8 +9,7 @@ use native.Mathlib.Omega.{arith}
 use borrow.Author.Differences.{ints}
 use Rattle.plane.proofs.IntegerLaws.{neg-mul_ℤ, mul-neg_ℤ}
 use Rattle.plane.proofs.Solver.{num, ◌⊕◌, ◌⊖◌, ◌⊗◌, ⊝, ring_in, ring_in_from}
-use Rattle.plane.proofs.Signs.{sign, below, none, above}
-use Rattle.plane.proofs.IntegerOrder.{mul-pos_ℤ, mul-nonneg_ℤ, lt_or_ge_ℤ}
+use Rattle.plane.proofs.IntegerOrder.{mul-pos_ℤ, mul-nonneg_ℤ, lt_or_ge_ℤ, sign, below, none, above}
 use Rattle.plane_delaunay.proofs.Bracket.{bracket, cramer, cramer-w}
 use Rattle.plane_delaunay.proofs.Tally.{nudge, bracket-nudge, Closed, at_least}
 use Rattle.plane_delaunay.proofs.Faces.{Tiling, Between, between-on, between-closed, side_not_inside, none_within, StartsFrom, Germ, germ, germ-turned, germ-closed, corner_2}
@@ -166,7 +165,7 @@ module _ (T : Tiling) where
           pick (inl e) = absurd (same_way u v w s.first z e.0 e.1)
           pick (inr e) = (w, subst₂ (λ i j. IsFace i j w) e.0 e.1 h)
 
-      go : (u v w : ℕ) → IsFace u v w → Germ T x (at d) u v w → Rattle.plane.proofs.Signs.Sign (bracket (at u) (at v) x) → Rattle.plane.proofs.Signs.Sign (bracket (at v) (at w) x) → Rattle.plane.proofs.Signs.Sign (bracket (at w) (at u) x) → (e : ℕ) × IsFace b a e
+      go : (u v w : ℕ) → IsFace u v w → Germ T x (at d) u v w → Rattle.plane.proofs.IntegerOrder.Sign (bracket (at u) (at v) x) → Rattle.plane.proofs.IntegerOrder.Sign (bracket (at v) (at w) x) → Rattle.plane.proofs.IntegerOrder.Sign (bracket (at w) (at u) x) → (e : ℕ) × IsFace b a e
       go u v w h s (none z) q r = found u v w h s z
       go u v w h s p (none z) r = found v w u (T.turned u v w h) (germ-turned T x (at d) u v w s) z
       go u v w h s p q (none z) = found w u v (T.turned v w u (T.turned u v w h)) (germ-turned T x (at d) v w u (germ-turned T x (at d) u v w s)) z

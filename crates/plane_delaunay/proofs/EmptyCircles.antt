@@ -7,8 +7,7 @@ use lib.IntN.{neg_ℤ}
 use Rattle.std.specs.Prelude.{◌≢◌, ℤ, pos, ◌<ℤ◌, ◌≤ℤ◌, ◌+ℤ◌, ◌*ℤ◌, Contains, slice_index_or}
 use Rattle.std.proofs.lemmas.Int.{ints}
 use Rattle.plane.proofs.Solver.{num, ◌⊕◌, ◌⊖◌, ◌⊗◌, ⊝, ring_over, ring_over_from, ring_in_from}
-use Rattle.plane.proofs.Signs.{Sign, sign, below, none, above}
-use Rattle.plane.proofs.IntegerOrder.{mul-pos_ℤ, mul-nonneg_ℤ, mul-nonpos_of_nonneg_nonpos_ℤ, pos_of_mul-pos_ℤ, nonneg_of_mul-nonneg_ℤ, zero_of_mul-zero_ℤ, mul_cancel_ℤ, pos-ne-zero_ℤ}
+use Rattle.plane.proofs.IntegerOrder.{mul-pos_ℤ, mul-nonneg_ℤ, mul-nonpos_of_nonneg_nonpos_ℤ, pos_of_mul-pos_ℤ, nonneg_of_mul-nonneg_ℤ, zero_of_mul-zero_ℤ, mul_cancel_ℤ, pos-ne-zero_ℤ, Sign, sign, below, none, above}
 use Rattle.plane_delaunay.proofs.Bracket.{fraction, bracket, bracketᵖ, bracket-turned, bracket-swapped, bracket-first, bracket-second, above_if_left, left_if_above}
 use Rattle.plane_delaunay.proofs.Lift.{lift, liftᵖ, lift-turned, lift-first, lift-second, lift-third, inside_is_lift, on_is_lift}
 use Rattle.plane.proofs.Means.{TwoWeights, mean_of_two, two_weights}

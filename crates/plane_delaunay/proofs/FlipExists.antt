@@ -9,8 +9,7 @@ use native.Mathlib.Omega.{arith}
 use borrow.Author.Differences.{ints}
 use Rattle.plane.proofs.IntegerLaws.{neg-mul_ℤ, mul-neg_ℤ}
 use Rattle.plane.proofs.Solver.{Poly, num, ◌⊕◌, ◌⊖◌, ◌⊗◌, ⊝, ring_in_from, ring_over_from}
-use Rattle.plane.proofs.Signs.{sign, below, none, above}
-use Rattle.plane.proofs.IntegerOrder.{mul-pos_ℤ, mul-nonneg_ℤ, mul-neg_of_pos_neg_ℤ, mul-pos_of_neg_ℤ, square-nonneg_ℤ, lt_or_ge_ℤ, mul-eq-zero_ℤ}
+use Rattle.plane.proofs.IntegerOrder.{mul-pos_ℤ, mul-nonneg_ℤ, mul-neg_of_pos_neg_ℤ, mul-pos_of_neg_ℤ, square-nonneg_ℤ, lt_or_ge_ℤ, mul-eq-zero_ℤ, sign, below, none, above}
 use Rattle.plane_delaunay.proofs.Bracket.{fraction, bracketᵖ, bracket, bracket-turned, bracket-swapped, bracket-first, bracket-second, meeting, meeting-x, meeting-y, meeting-w, cramer}
 use Rattle.plane_delaunay.proofs.Tally.{at_least}
 use Rattle.plane_delaunay.proofs.Faces.{Tiling, Between, between-swapped, turned-above}

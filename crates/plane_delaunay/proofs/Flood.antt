@@ -6,8 +6,7 @@ use mathlib.Core.Path.{◌≡◌, sym, ◌∙◌, ap, subst, subst₂}
 use mathlib.Core.Logic.{◌⊎◌, inl, inr}
 use native.Mathlib.Omega.{arith}
 use borrow.Author.Differences.{ints}
-use Rattle.plane.proofs.Signs.{Sign, sign, below, none, above}
-use Rattle.plane.proofs.IntegerOrder.{mul-pos_ℤ, zero_of_mul-zero_ℤ, pos-ne-zero_ℤ, mul-neg_of_pos_neg_ℤ}
+use Rattle.plane.proofs.IntegerOrder.{mul-pos_ℤ, zero_of_mul-zero_ℤ, pos-ne-zero_ℤ, mul-neg_of_pos_neg_ℤ, Sign, sign, below, none, above}
 use Rattle.plane_delaunay.proofs.Bracket.{bracket, bracket-first, bracket-second, bracket-swapped, bracket-turned, pluecker}
 use Rattle.plane_delaunay.proofs.Tally.{Member, total, total-term, size, nudge, bracket-nudge, nudge-above, nudge-on, Closed, at_least}
 use Rattle.plane_delaunay.proofs.Faces.{Tiling, StartsFrom, Germ, germ, germ-closed, germ-turned, corner_2}

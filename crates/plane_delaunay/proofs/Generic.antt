@@ -9,8 +9,7 @@ use native.Mathlib.Omega.{arith}
 use borrow.Author.Differences.{ints}
 use Rattle.plane.proofs.IntegerLaws.{neg-mul_ℤ}
 use Rattle.plane.proofs.Solver.{num, ◌⊕◌, ◌⊖◌, ◌⊗◌, ⊝, ring_in, ring_over_from}
-use Rattle.plane.proofs.Signs.{Sign, sign, below, none, above}
-use Rattle.plane.proofs.IntegerOrder.{mul-pos_ℤ, mul-nonneg_ℤ, zero_of_mul-zero_ℤ, pos-ne-zero_ℤ, lt_or_ge_ℤ}
+use Rattle.plane.proofs.IntegerOrder.{mul-pos_ℤ, mul-nonneg_ℤ, zero_of_mul-zero_ℤ, pos-ne-zero_ℤ, lt_or_ge_ℤ, Sign, sign, below, none, above}
 use Rattle.plane_delaunay.proofs.Bracket.{fraction, bracket, bracketᵖ, mixed, bracket-mixed, bracket-turned, bracket-swapped, meeting-x, meeting-y, meeting-w, cramer}
 use Rattle.plane_delaunay.proofs.Tally.{Member, total, size, nudge, nudge-above, nudge-on, Inside, room, inside-nudge, at_least}
 use Rattle.plane_delaunay.proofs.Across.{none_right, none_of_sum, level, is_least, apart_from_0}

@@ -4,9 +4,10 @@ use mathlib.Core.Logic.{◌⊎◌, inl, inr}
 use native.Mathlib.Decide.{dec_lt}
 use Rattle.std.specs.Prelude.{pos, ◌<ℤ◌, Contains, slice_index_or}
 use Rattle.std.proofs.lemmas.List.{get_or_default, get_or-map, length-map}
-use Rattle.plane_delaunay.proofs.Bracket.{bracket, above_if_left, left_if_above}
+use Rattle.plane_delaunay.proofs.Bracket.{bracket, above_if_left}
 use Rattle.plane.proofs.Means.{three_weights}
-use Rattle.plane.proofs.Triangles.{in_is_sides, inside_is_sides, if_not_right, not_right_if}
+use Rattle.plane.proofs.Sides.{if_left}
+use Rattle.plane.proofs.Triangles.{in_is_brackets, inside_is_brackets}
 use Rattle.plane_delaunay.proofs.Tally.{Member, Closed, Inside}
 use Rattle.plane_delaunay.proofs.Faces.{Tiling, IsTurned}
 use Rattle.plane_delaunay.proofs.Hull.{corner_in_hull, nudge_in_hull, triangle_in_hull}
@@ -27,18 +28,20 @@ contained x (y ∷ ys) (inr m) = let c = contained x ys m in (suc c.0, omega (ar
 
 -- ---- triangles by brackets
 pub inside_of : (a b c p : Fraction) → TurnsLeft a b c → InsideTriangle a b c p → Inside a b c p
-inside_of a b c p t h = let s = (inside_is_sides a b c p t).0 h in record { first = above_if_left a b p s.0; second = above_if_left b c p s.1; third = above_if_left c a p s.2 }
+unfolding bracket
+inside_of a b c p t h = let s = (inside_is_brackets a b c p (if_left a b c t)).0 h in record { first = s.0; second = s.1; third = s.2 }
 
 pub triangle_of_inside : (a b c p : Fraction) → TurnsLeft a b c → Inside a b c p → InsideTriangle a b c p
-triangle_of_inside a b c p t h = (inside_is_sides a b c p t).1 (left_if_above a b p h.first, left_if_above b c p h.second, left_if_above c a p h.third)
+unfolding bracket
+triangle_of_inside a b c p t h = (inside_is_brackets a b c p (if_left a b c t)).1 (h.first, h.second, h.third)
 
 pub closed_of : (a b c p : Fraction) → TurnsLeft a b c → InTriangle a b c p → Closed a b c p
 unfolding bracket
-closed_of a b c p t h = let s = (in_is_sides a b c p t).0 h in record { first = if_not_right a b p s.0; second = if_not_right b c p s.1; third = if_not_right c a p s.2 }
+closed_of a b c p t h = let s = (in_is_brackets a b c p (if_left a b c t)).0 h in record { first = s.0; second = s.1; third = s.2 }
 
 pub triangle_of_closed : (a b c p : Fraction) → TurnsLeft a b c → Closed a b c p → InTriangle a b c p
 unfolding bracket
-triangle_of_closed a b c p t h = (in_is_sides a b c p t).1 (not_right_if a b p h.first, not_right_if b c p h.second, not_right_if c a p h.third)
+triangle_of_closed a b c p t h = (in_is_brackets a b c p (if_left a b c t)).1 (h.first, h.second, h.third)
 
 -- ---- the sides of faces, in a list
 abbrev pub sides_of : List Face → List (ℕ × ℕ)

@@ -9,8 +9,7 @@ use native.Mathlib.Omega.{arith}
 use borrow.Author.Differences.{ints}
 use Rattle.plane.proofs.IntegerLaws.{neg-mul_ℤ}
 use Rattle.plane.proofs.Solver.{num, ◌⊕◌, ◌⊖◌, ◌⊗◌, ⊝, ring_in_from}
-use Rattle.plane.proofs.Signs.{Sign, sign, below, none, above}
-use Rattle.plane.proofs.IntegerOrder.{mul-pos_ℤ, mul-nonneg_ℤ, mul-neg_of_pos_neg_ℤ, mul-pos_of_neg_ℤ, neg_of_mul-neg_ℤ, lt_or_ge_ℤ}
+use Rattle.plane.proofs.IntegerOrder.{mul-pos_ℤ, mul-nonneg_ℤ, mul-neg_of_pos_neg_ℤ, mul-pos_of_neg_ℤ, neg_of_mul-neg_ℤ, lt_or_ge_ℤ, Sign, sign, below, none, above}
 use Rattle.plane_delaunay.proofs.Bracket.{bracket, bracket-turned, bracket-swapped, bracket-first, bracket-second, meeting, cramer}
 use Rattle.plane_delaunay.proofs.Tally.{at_least}
 use Rattle.plane_delaunay.proofs.Faces.{Tiling, Between}

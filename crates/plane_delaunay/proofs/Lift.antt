@@ -8,9 +8,9 @@ use mathlib.Core.List.{[], ◌∷◌}
 use native.Mathlib.Omega.{arith}
 use borrow.Author.Differences.{ints}
 use Rattle.plane.proofs.Solver.{Poly, var, num, ◌⊕◌, ◌⊖◌, ◌⊗◌, Shape, ring_over, ring_in}
-use Rattle.plane.proofs.IntegerOrder.{mul-pos_ℤ, pos_of_mul-pos_ℤ, zero_from_ℤ, pos-ne-zero_ℤ}
+use Rattle.plane.proofs.IntegerOrder.{mul-pos_ℤ, pos_of_mul-pos_ℤ, zero_from_ℤ, pos-ne-zero_ℤ, mul_cancel_ℤ}
 use Rattle.plane_delaunay.proofs.Bracket.{Syntax, fraction, bracket, bracketᵖ}
-use Rattle.plane.proofs.Centre.{over, lifted, gaps, centre, centre_is_centre, centre_is_only, inside_is, scaled_gap, cancelled}
+use Rattle.plane.proofs.Centre.{over, lifted, gaps, centre, centre_is_centre, centre_is_only, inside_is, scaled_gap}
 use Rattle.plane.specs.Fraction.{Point, Fraction, whole, IsSame}
 use Rattle.plane.specs.Side.{TurnsLeft}
 use Rattle.plane.specs.Circle.{gap, AreEquallyFar, InsideCircle, OnCircle}
@@ -102,7 +102,7 @@ difference-none a b w l e h = let z : w *ℤ l ≡ w *ℤ pos 0 = ap (λ t. w *�
 
 far_same : (z z' p q : Fraction) → IsSame z z' → AreEquallyFar z p q → AreEquallyFar z' p q
 far_same z z' p q e h = record {
-  far = cancelled (z.w *ℤ z.w) (gap z' p *ℤ (q.w *ℤ q.w)) (gap z' q *ℤ (p.w *ℤ p.w)) (mul-pos_ℤ z.positive z.positive)
+  far = mul_cancel_ℤ {k = z.w *ℤ z.w} {x = gap z' p *ℤ (q.w *ℤ q.w)} {y = gap z' q *ℤ (p.w *ℤ p.w)} (pos-ne-zero_ℤ (mul-pos_ℤ z.positive z.positive))
       (sym (scaled_gap z z' p q e) ∙ ap (λ t. (z'.w *ℤ z'.w) *ℤ t) h.far ∙ scaled_gap z z' q p e);
 }
 

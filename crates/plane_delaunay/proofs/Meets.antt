@@ -6,8 +6,7 @@ use mathlib.Core.Path.{◌≡◌, refl, sym, ◌∙◌, ap, subst}
 use mathlib.Core.Logic.{◌⊎◌, inl, inr}
 use native.Mathlib.Omega.{arith}
 use borrow.Author.Differences.{ints}
-use Rattle.plane.proofs.Signs.{Sign, sign, below, none, above}
-use Rattle.plane.proofs.IntegerOrder.{mul-pos_ℤ, mul-nonneg_ℤ, nonneg_of_mul-nonneg_ℤ, zero_of_mul-zero_ℤ, pos-ne-zero_ℤ}
+use Rattle.plane.proofs.IntegerOrder.{mul-pos_ℤ, mul-nonneg_ℤ, nonneg_of_mul-nonneg_ℤ, zero_of_mul-zero_ℤ, pos-ne-zero_ℤ, Sign, sign, below, none, above}
 use Rattle.plane_delaunay.proofs.Bracket.{bracket, bracket-first, bracket-second, cramer, cramer-w}
 use Rattle.plane_delaunay.proofs.Tally.{Closed, Inside, at_least}
 use Rattle.plane_delaunay.proofs.Faces.{Tiling, Between, none_within, side_not_inside, turned-above, corner_2}

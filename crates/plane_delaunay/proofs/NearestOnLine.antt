@@ -5,7 +5,7 @@ use mathlib.Core.Logic.{◌⊎◌, inl, inr}
 use Rattle.std.specs.Prelude.{ℤ, pos, ◌<ℤ◌, ◌≤ℤ◌, ◌+ℤ◌, ◌-ℤ◌, ◌*ℤ◌}
 use Rattle.std.proofs.lemmas.Int.{ints}
 use Rattle.plane.proofs.Solver.{num, ◌⊕◌, ◌⊖◌, ◌⊗◌, ⊝, ring_in_from}
-use Rattle.plane.proofs.Signs.{Sign, sign, below, none, above}
+use Rattle.plane.proofs.IntegerOrder.{Sign, sign, below, none, above}
 use Rattle.plane.proofs.IntegerOrder.{mul-pos_ℤ, mul-nonneg_ℤ, pos_of_mul-pos_ℤ, square-nonneg_ℤ, square-pos_ℤ}
 use Rattle.plane.proofs.Means.{TwoWeights, two_weights}
 use Rattle.plane.proofs.Order.{same_not_nearer}

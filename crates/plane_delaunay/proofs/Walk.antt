@@ -8,8 +8,7 @@ use native.Mathlib.Omega.{arith}
 use borrow.Author.Differences.{ints}
 use Rattle.plane.proofs.IntegerLaws.{neg-mul_ℤ}
 use Rattle.plane.proofs.Solver.{num, ◌⊕◌, ◌⊖◌, ◌⊗◌, ⊝, ring_in, ring_in_from}
-use Rattle.plane.proofs.Signs.{sign, below, none, above}
-use Rattle.plane.proofs.IntegerOrder.{mul-pos_ℤ, pos_of_mul-pos_ℤ, mul-neg_of_pos_neg_ℤ}
+use Rattle.plane.proofs.IntegerOrder.{mul-pos_ℤ, pos_of_mul-pos_ℤ, mul-neg_of_pos_neg_ℤ, sign, below, none, above}
 use Rattle.plane_delaunay.proofs.Bracket.{bracket, mixed, bracket-mixed, bracket-turned, bracket-swapped, bracket-first, bracket-second, meeting}
 use Rattle.plane_delaunay.proofs.Tally.{total, total-lt, flag, flag-le, flag-lt, size, nudged, Closed, Inside, at_least}
 use Rattle.plane_delaunay.proofs.Faces.{Tiling}
@@ -118,7 +117,7 @@ passes_between x p a b c t off_a off_b h = (first (sign (bracket x p a)), second
     clash_b : bracket p b x ≡ pos 0 → ⊥
     clash_b e = apart_from_0 (bracket a b p) (sym (bracket-turned a b p) ∙ bracket-swapped p b a ∙ ap neg_ℤ (off_b e a)) h.right
 
-    first : Rattle.plane.proofs.Signs.Sign (bracket x p a) → bracket x p a <ℤ pos 0
+    first : Rattle.plane.proofs.IntegerOrder.Sign (bracket x p a) → bracket x p a <ℤ pos 0
     first (below s) = s
     first (none s) = absurd (clash_a (bracket-turned x p a ∙ s))
     first (above s) = absurd (crossed (bracket x p a) s least_a)
@@ -126,7 +125,7 @@ passes_between x p a b c t off_a off_b h = (first (sign (bracket x p a)), second
         crossed : (z : ℤ) → pos 0 <ℤ z → pos 0 ≤ℤ neg_ℤ z → ⊥
         crossed z h k = omega (arith, ints)
 
-    second : Rattle.plane.proofs.Signs.Sign (bracket x p b) → pos 0 <ℤ bracket x p b
+    second : Rattle.plane.proofs.IntegerOrder.Sign (bracket x p b) → pos 0 <ℤ bracket x p b
     second (below s) = absurd (crossed (bracket x p b) s least_b)
       where
         crossed : (z : ℤ) → z <ℤ pos 0 → pos 0 ≤ℤ z → ⊥

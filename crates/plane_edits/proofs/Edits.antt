@@ -9,9 +9,8 @@ use Rattle.plane_tiling.specs.Local.{total, around, along, IsAntisymmetric, AreB
 use Rattle.plane.proofs.IntegerOrder.{mul-nonpos_of_nonneg_nonpos_ℤ, zero_of_mul-zero_ℤ, pos-ne-zero_ℤ, zero-mul_ℤ}
 use Rattle.plane.proofs.Steps.{weak, left_not_zero, not_left_of_product}
 use Rattle.plane_tiling.proofs.Totals.{Contains-head, Contains-later, Contains-cases, Contains-none}
-use Rattle.plane.proofs.Bracket.{bracket}
-use Rattle.plane.proofs.BracketIdentities.{bracket-turn}
-use Rattle.plane.proofs.Vertices.{lift, bracket-outer, bracket-last, cramer}
+use Rattle.plane.proofs.Bracket.{bracket, lift}
+use Rattle.plane.proofs.BracketIdentities.{bracket-turn, bracket-outer, bracket-last, cramer}
 use Rattle.plane.proofs.Means.{two_weights}
 use Rattle.plane.proofs.Generic.{Inside, not_on_line}
 use Rattle.plane_tiling.proofs.Counting.{at, SignMesh, within_turned}

@@ -9,9 +9,8 @@ use Rattle.plane_tiling.specs.Local.{total, around, along, IsAntisymmetric, AreB
 use Rattle.plane.proofs.IntegerOrder.{mul-pos_ℤ, mul-nonpos_of_nonneg_nonpos_ℤ, zero-mul_ℤ, lt_or_ge_ℤ, pos_of_mul-pos_ℤ}
 use Rattle.plane.proofs.Steps.{weak, negated_below, left_not_zero, left_not_below, zero_weak, not_left_of_product}
 use Rattle.plane_tiling.proofs.Totals.{Contains-head, Contains-later, Contains-cases, Contains-none}
-use Rattle.plane.proofs.Bracket.{bracket}
-use Rattle.plane.proofs.BracketIdentities.{bracket-turn, bracket-swap}
-use Rattle.plane.proofs.Vertices.{lift, bracket-outer, bracket-last}
+use Rattle.plane.proofs.Bracket.{bracket, lift}
+use Rattle.plane.proofs.BracketIdentities.{bracket-turn, bracket-swap, bracket-outer, bracket-last}
 use Rattle.plane.proofs.Means.{two_weights}
 use Rattle.plane_tiling.proofs.Counting.{at, SignMesh}
 use Rattle.plane_tiling.proofs.Edges as E

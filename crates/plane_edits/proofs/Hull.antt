@@ -10,9 +10,8 @@ use Rattle.plane.specs.Tiling.{Face}
 use Rattle.plane.proofs.IntegerOrder.{mul-pos_ℤ, mul-nonpos_of_nonneg_nonpos_ℤ, mul-nonneg_ℤ, zero_of_mul-zero_ℤ, pos-ne-zero_ℤ, zero-mul_ℤ, trichotomy_ℤ, lt_or_ge_ℤ, pos_of_mul-pos_ℤ, nonneg_of_mul-nonneg_ℤ, mul_cancel_ℤ}
 use Rattle.plane.proofs.Steps.{left_not_zero, weak, left_not_below, between_zero, not_left_of_product, negated_below, zero_or_left, product_zero_left, times_one}
 use Rattle.plane.proofs.Solver.{num, ◌⊕◌, ◌⊖◌, ◌⊗◌, ring_over}
-use Rattle.plane.proofs.Bracket.{Vec3, bracket, bracketᵖ, vec3}
-use Rattle.plane.proofs.BracketIdentities.{bracket-turn, bracket-swap, pluecker}
-use Rattle.plane.proofs.Vertices.{lift, bracket-outer, bracket-last, cramer, cramer_x, cramer_y, cramer_w}
+use Rattle.plane.proofs.Bracket.{Vec3, bracket, bracketᵖ, vec3, lift}
+use Rattle.plane.proofs.BracketIdentities.{bracket-turn, bracket-swap, pluecker, bracket-outer, bracket-last, cramer, cramer_x, cramer_y, cramer_w}
 use Rattle.plane.proofs.Means.{two_weights, mean_of_two}
 use Rattle.plane.proofs.Collinear.{place_on, place_of_start, place_of_end, within_by_places, same_by_places}
 use Rattle.plane.proofs.Generic.{not_on_line}

@@ -11,8 +11,7 @@ use Rattle.plane.proofs.Steps.{weak, left_not_zero, zero_weak, not_left_of_produ
 use Rattle.plane_tiling.proofs.Totals.{Contains-head, Contains-later, Contains-cases, Contains-none}
 use Rattle.plane.proofs.Solver.{◌⊕◌, ◌⊗◌, ring_in_from}
 use Rattle.plane.proofs.Bracket.{bracket}
-use Rattle.plane.proofs.BracketIdentities.{bracket-turn}
-use Rattle.plane.proofs.Vertices.{bracket-outer, bracket-last}
+use Rattle.plane.proofs.BracketIdentities.{bracket-turn, bracket-outer, bracket-last}
 use Rattle.plane.proofs.Means.{two_weights, mean_of_two}
 use Rattle.plane_tiling.proofs.Counting.{at, SignMesh, within_turned}
 use Rattle.plane_tiling.proofs.Covering as C

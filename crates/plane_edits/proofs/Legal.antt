@@ -7,9 +7,8 @@ use Rattle.plane.specs.Fraction.{Point}
 use Rattle.plane.proofs.IntegerOrder.{mul-nonneg_ℤ, mul-nonpos_of_nonneg_nonpos_ℤ, nonneg_of_mul-nonneg_ℤ, square-nonneg_ℤ, lt_or_ge_ℤ, zero-mul_ℤ}
 use Rattle.plane.proofs.Steps.{weak}
 use Rattle.plane.proofs.Solver.{Poly, num, ◌⊕◌, ◌⊖◌, ◌⊗◌, ring_in}
-use Rattle.plane.proofs.Bracket.{Vec3, bracket, bracketᵖ}
-use Rattle.plane.proofs.BracketIdentities.{bracket-turn, bracket-swap}
-use Rattle.plane.proofs.Vertices.{lift, cramer, bracket-outer, bracket-last}
+use Rattle.plane.proofs.Bracket.{Vec3, bracket, bracketᵖ, lift}
+use Rattle.plane.proofs.BracketIdentities.{bracket-turn, bracket-swap, cramer, bracket-outer, bracket-last}
 use Rattle.plane_edits.proofs.Heights.{excess, height, falls_abd_abc, falls_abd_acd, falls_bcd_abc, falls_bcd_acd}
 
 -- the height of the paraboloid over a point

@@ -9,9 +9,8 @@ use Rattle.plane.proofs.IntegerOrder.{mul-pos_ℤ, mul-nonneg_ℤ, pos_from_ℤ,
 use Rattle.plane.proofs.Steps.{weak, both_signs, negated_right, zero_or_left}
 use Rattle.plane.proofs.Nudges.{nudged_left}
 use Rattle.plane.proofs.Solver.{num, ◌⊕◌, ◌⊖◌, ◌⊗◌, ring_in_from}
-use Rattle.plane.proofs.Bracket.{Vec3, bracket}
-use Rattle.plane.proofs.BracketIdentities.{bracket-turn, bracket-swap, pluecker, form, four_terms}
-use Rattle.plane.proofs.Vertices.{lift, bracket-outer, bracket-last}
+use Rattle.plane.proofs.Bracket.{Vec3, bracket, lift}
+use Rattle.plane.proofs.BracketIdentities.{bracket-turn, bracket-swap, pluecker, form, four_terms, bracket-outer, bracket-last}
 use Rattle.plane.proofs.Generic.{Inside, near}
 use Rattle.plane_tiling.proofs.Flows.{IsTurnOf, turned}
 use Rattle.plane_tiling.proofs.Counting.{at, SignMesh, corners_differ}

@@ -10,11 +10,10 @@ use Rattle.plane.proofs.IntegerOrder.{zero-mul_ℤ, zero_of_mul-zero_ℤ, mul-no
 use Rattle.plane.proofs.Steps.{weak, weak_right, both_signs, left_not_zero, right_not_zero, negated_left}
 use Rattle.plane_tiling.proofs.StepsOfCounting.{sum_is_positive, all_zero, minus_one_and, one_from, zero_plus, average_from, weights_from, weight_below, swapped_sum, zero_plus', one_more}
 use Rattle.plane_tiling.proofs.Totals.{Contains-head, total_agree, total_at_least, total_single}
-use Rattle.plane.proofs.Nudges.{Nudged, nudged_zero, nudge_each}
+use Rattle.plane.proofs.Nudges.{Nudged, nudged_zero, nudge_each, moved, bracket-moved, bracket-moved_first}
 use Rattle.plane.proofs.Crossings.{turn, turn_left, turn_right, left_turn, turn-negated, crossing, crossing_back, crossing_not_from_left, hit, hit_is, hit_all, crossings_of_triangle}
-use Rattle.plane.proofs.Bracket.{Vec3, bracket}
-use Rattle.plane.proofs.BracketIdentities.{bracket-turn, bracket-swap, bracket-same}
-use Rattle.plane.proofs.Vertices.{lift, moved, bracket-moved, bracket-moved_first, bracket-outer, bracket-last, cramer_w, rays, passing, passing_w}
+use Rattle.plane.proofs.Bracket.{Vec3, bracket, lift}
+use Rattle.plane.proofs.BracketIdentities.{bracket-turn, bracket-swap, bracket-same, bracket-outer, bracket-last, cramer_w, rays, passing, passing_w}
 use Rattle.plane.proofs.Collinear.{place_on, place_of_start, place_of_end, place-moved, passing_place, within_by_places, same_by_places, same_ends}
 use Rattle.plane.proofs.Means.{two_weights, mean_of_two}
 use Rattle.plane.proofs.Generic.{Inside, AreDistinct, IsGeneric, spot}

@@ -10,10 +10,9 @@ use Rattle.plane_tiling.specs.Local.{total, IsCorner}
 use Rattle.plane.proofs.IntegerOrder.{zero-mul_ℤ, mul-nonpos_of_nonneg_nonpos_ℤ, pos_of_mul-pos_ℤ, mul-pos_ℤ, mul_cancel_ℤ, pos-ne-zero_ℤ}
 use Rattle.plane.proofs.Steps.{weak, left_not_zero, negated_left, negated_below, between_zero, not_left_strict, not_left_of_product, three_below, zero_or_left, sum_first, sum_second, sum_first_two, drop_zero, drop_zero_last, times_one, some_multiple, product_zero_left}
 use Rattle.plane_tiling.proofs.Totals.{total_reached, total_twice, get_or_any}
-use Rattle.plane.proofs.Nudges.{nudged_right, nudged_back}
+use Rattle.plane.proofs.Nudges.{nudged_right, nudged_back, moved, bracket-moved, moved_positive}
 use Rattle.plane.proofs.Bracket.{Vec3, bracket}
-use Rattle.plane.proofs.BracketIdentities.{bracket-turn, bracket-swap}
-use Rattle.plane.proofs.Vertices.{moved, bracket-moved, bracket-outer, bracket-last, cramer, cramer_x, cramer_y, cramer_w, moved_positive}
+use Rattle.plane.proofs.BracketIdentities.{bracket-turn, bracket-swap, bracket-outer, bracket-last, cramer, cramer_x, cramer_y, cramer_w}
 use Rattle.plane.proofs.Means.{mean_of_two}
 use Rattle.plane.proofs.Generic.{Inside, IsNudged, IsSpot, spot, near, generic_near, not_on_line}
 use Rattle.plane_tiling.proofs.Flows.{IsTurnOf, HasSide, turned, back_of_side, back_of_outer}

@@ -5,14 +5,12 @@ use Rattle.std.specs.Prelude.{ℤ, pos, ◌+ℤ◌, ◌-ℤ◌, ◌*ℤ◌, ◌<
 use Rattle.std.proofs.lemmas.Int.{ints}
 use Rattle.plane.specs.Fraction.{Point, Fraction, whole, IsPositive, WithinSegment}
 use Rattle.plane.specs.Tiling.{Face}
-use Rattle.plane.proofs.Lines.{det_of_mean}
-use Rattle.plane.proofs.Means.{TwoWeights, two_weights, mean_of_two}
+use Rattle.plane.proofs.Means.{TwoWeights, two_weights, mean_of_two, bracket_of_two}
 use Rattle.plane.proofs.IntegerOrder.{neg_of_mul-neg_ℤ, zero-mul_ℤ, zero_of_mul-zero_ℤ, pos_of_mul-pos_ℤ, mul-pos_ℤ, mul-neg_of_pos_neg_ℤ, trichotomy_ℤ, pos-ne-zero_ℤ}
 use Rattle.plane.proofs.Steps.{weak, right_not_zero, left_not_zero, both_signs, negated_left, negated_right, zero_weak_left}
 use Rattle.plane.proofs.Solver.{num, ◌⊕◌, ◌⊖◌, ◌⊗◌, ring_in_from}
-use Rattle.plane.proofs.Bracket.{Vec3, bracket}
-use Rattle.plane.proofs.BracketIdentities.{bracket-turn, bracket-swap}
-use Rattle.plane.proofs.Vertices.{lift, vec, bracket_of_fractions, bracket-outer, bracket-last}
+use Rattle.plane.proofs.Bracket.{Vec3, bracket, lift, vec}
+use Rattle.plane.proofs.BracketIdentities.{bracket-turn, bracket-swap, bracket-outer, bracket-last}
 use Rattle.plane.proofs.Collinear.{place_on, place_of_start, place_of_end, within_by_places, same_by_places, same_ends, mean_place}
 use Rattle.plane.proofs.Generic.{Inside, IsNudged, near}
 use Rattle.plane_tiling.proofs.Flows.{IsTurnOf, HasSide, turned}
@@ -21,9 +19,7 @@ use Rattle.plane_tiling.proofs.Covering as C
 
 -- ---- a point strictly within a segment, seen from a line
 pub mean_bracket : (A : ℤ → Type 0) (s t u v : Point) (y : Fraction) (w : TwoWeights A (whole u) (whole v) y) → w.n *ℤ bracket (lift s) (lift t) (vec y) ≡ w.k *ℤ bracket (lift s) (lift t) (lift u) +ℤ w.l *ℤ bracket (lift s) (lift t) (lift v)
-mean_bracket A s t u v y w =
-    ap (λ z. w.n *ℤ z) (bracket_of_fractions (whole s) (whole t) y) ∙ det_of_mean A (whole s) (whole t) (whole u) (whole v) y w
-    ∙ (λ i. w.k *ℤ sym (bracket_of_fractions (whole s) (whole t) (whole u)) i +ℤ w.l *ℤ sym (bracket_of_fractions (whole s) (whole t) (whole v)) i)
+mean_bracket A s t u v y w = bracket_of_two A (lift s) (lift t) (whole u) (whole v) y w
 
 turned_within : (a b y : Fraction) → WithinSegment a b y → WithinSegment b a y
 turned_within a b y h = let t = two_weights IsPositive a b y h in

@@ -11,8 +11,8 @@ use Rattle.plane.proofs.IntegerOrder.{zero-mul_ℤ, lt_or_ge_ℤ}
 use Rattle.plane.proofs.Steps.{drop_zero, drop_zero_last, left_not_below}
 use Rattle.plane_tiling.proofs.Totals.{total_at_least, total_at_most_one, total_positive, total_of_two, total_nonneg, get_or_any}
 use Rattle.plane.proofs.Bracket.{Vec3, bracket}
-use Rattle.plane.proofs.BracketIdentities.{bracket-turn}
-use Rattle.plane.proofs.Vertices.{moved, bracket-moved, bracket-outer, bracket-last}
+use Rattle.plane.proofs.BracketIdentities.{bracket-turn, bracket-outer, bracket-last}
+use Rattle.plane.proofs.Nudges.{moved, bracket-moved}
 use Rattle.plane.proofs.Generic.{Inside, IsNudged, near}
 use Rattle.plane_tiling.proofs.Flows.{is_pair, is_pair_nonneg, is_pair_is, is_pair_own, pair_found, side_counts, side_found, one_of_three, back_from_count, IsTurnOf, HasSide}
 use Rattle.plane_tiling.proofs.Counting.{at, SignMesh, corners_differ}

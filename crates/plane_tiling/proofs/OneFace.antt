@@ -10,9 +10,8 @@ use Rattle.plane_tiling.specs.Local.{LocalMesh}
 use Rattle.plane.proofs.Sides.{if_left, left_if}
 use Rattle.plane.proofs.Steps.{left_not_zero, left_not_below, zero_weak, weak_right, negated_right}
 use Rattle.plane_tiling.proofs.Totals.{Contains-head, Contains-cases, Contains-none}
-use Rattle.plane.proofs.Bracket.{bracket}
-use Rattle.plane.proofs.BracketIdentities.{bracket-turn, bracket-swap, bracket-same}
-use Rattle.plane.proofs.Vertices.{lift, bracket_of_fractions, bracket-outer, bracket-last}
+use Rattle.plane.proofs.Bracket.{bracket, lift}
+use Rattle.plane.proofs.BracketIdentities.{bracket-turn, bracket-swap, bracket-same, bracket-outer, bracket-last}
 use Rattle.plane_tiling.proofs.Counting.{at, SignMesh, within_turned}
 use Rattle.plane_tiling.proofs.Edges as E
 use Rattle.plane_tiling.proofs.Tiles.{point_at}
@@ -24,9 +23,9 @@ by_words points faces outer m = record {
   some_face = not_empty faces m.some_face;
   used = m.used;
   corners = m.corners;
-  turning = λ f h. left_if (place points f.a) (place points f.b) (place points f.c) (subst (λ z. pos 0 <ℤ z) (bracket_of_fractions (place points f.a) (place points f.b) (place points f.c)) (m.turning f h));
+  turning = λ f h. left_if (place points f.a) (place points f.b) (place points f.c) (m.turning f h);
   ends = m.ends;
-  supporting = λ e h k l t. left_not_below (subst (λ z. pos 0 <ℤ z) (sym (bracket_of_fractions (place points e.0) (place points e.1) (place points k))) (if_left (place points e.0) (place points e.1) (place points k) t)) (m.supporting e h k l);
+  supporting = λ e h k l t. left_not_below (if_left (place points e.0) (place points e.1) (place points k) t) (m.supporting e h k l);
   bare = m.bare;
   once = m.once;
   balanced = m.balanced;

@@ -11,9 +11,8 @@ use Rattle.plane.proofs.IntegerOrder.{mul-pos_ℤ, lt_or_ge_ℤ, mul_cancel_ℤ,
 use Rattle.plane.proofs.Steps.{left_not_zero, zero_or_left, sum_first_two, sum_second, product_zero_left, weak, left_not_below, not_left_of_product}
 use Rattle.plane_tiling.proofs.Totals.{Contains-head, Contains-later, Contains-cases, Contains-none}
 use Rattle.plane.proofs.Solver.{num, ◌⊖◌, ◌⊗◌, ring_in_from}
-use Rattle.plane.proofs.Bracket.{bracket, Vec3, bracketᵖ}
-use Rattle.plane.proofs.BracketIdentities.{bracket-swap}
-use Rattle.plane.proofs.Vertices.{lift, vec, cramer_x, cramer_y, cramer_w, bracket-outer, bracket-last}
+use Rattle.plane.proofs.Bracket.{bracket, Vec3, bracketᵖ, lift, vec}
+use Rattle.plane.proofs.BracketIdentities.{bracket-swap, cramer_x, cramer_y, cramer_w, bracket-outer, bracket-last}
 use Rattle.plane.proofs.Generic.{Inside, near}
 use Rattle.plane_tiling.proofs.Flows.{IsTurnOf, HasSide, turned}
 use Rattle.plane_tiling.proofs.Counting.{at, SignMesh, corners_differ, same_index}

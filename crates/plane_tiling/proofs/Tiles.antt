@@ -5,19 +5,17 @@ use Rattle.std.specs.Prelude.{ℤ, pos, ◌+ℤ◌, ◌*ℤ◌, ◌≤ℤ◌, �
 use Rattle.std.proofs.lemmas.Int.{ints}
 use Rattle.std.proofs.lemmas.List.Elements.{All-head, All-tail}
 use Rattle.plane.specs.Fraction.{Point, Fraction, whole, IsNotNegative, InHull, InTriangle, InsideTriangle, weighted_sum}
-use Rattle.plane.specs.Side.{side, right, TurnsLeft}
+use Rattle.plane.specs.Side.{TurnsLeft}
 use Rattle.plane.specs.Pairs.{Joins, EachPairOnce, place}
 use Rattle.plane.specs.Tiling.{Face, HasFace, TilesHull}
 use Rattle.plane_tiling.specs.Local.{LocalMesh}
-use Rattle.plane.proofs.Sides as S
 use Rattle.plane.proofs.Sides.{if_left, left_if}
-use Rattle.plane.proofs.Triangles.{inside_is_sides, in_is_sides, if_not_right, not_right_if}
+use Rattle.plane.proofs.Triangles.{inside_is_brackets, in_is_brackets}
 use Rattle.plane.proofs.IntegerOrder.{mul-nonpos_of_nonneg_nonpos_ℤ, lt_or_ge_ℤ}
 use Rattle.plane.proofs.Steps.{not_left_of_product}
 use Rattle.plane_tiling.proofs.Totals.{Contains-head, Contains-later, get_or_any}
 use Rattle.plane.proofs.Solver.{num, ◌⊕◌, ◌⊖◌, ◌⊗◌, ring_in, ring_in_from}
-use Rattle.plane.proofs.Bracket.{Vec3, bracket, bracketᵖ}
-use Rattle.plane.proofs.Vertices.{lift, vec, bracket_of_fractions}
+use Rattle.plane.proofs.Bracket.{Vec3, bracket, bracketᵖ, lift, vec}
 use Rattle.plane.proofs.Generic.{Inside}
 use Rattle.plane_tiling.proofs.Counting.{at, SignMesh}
 use Rattle.plane_tiling.proofs.Covering as C
@@ -26,17 +24,11 @@ use Rattle.plane_tiling.proofs.Covering as C
 abbrev pub point_at : List Point → ℕ → Point
 point_at points i = get_or points i (record { x = pos 0; y = pos 0 })
 
-bracket_left : (a b c : Fraction) → TurnsLeft a b c → pos 0 <ℤ bracket (vec a) (vec b) (vec c)
-bracket_left a b c h = subst (λ z. pos 0 <ℤ z) (sym (bracket_of_fractions a b c)) (if_left a b c h)
-
-left_bracket : (a b c : Fraction) → pos 0 <ℤ bracket (vec a) (vec b) (vec c) → TurnsLeft a b c
-left_bracket a b c h = left_if a b c (subst (λ z. pos 0 <ℤ z) (bracket_of_fractions a b c) h)
-
 bracket_not_left : (a b c : Fraction) → ¬ TurnsLeft a b c → bracket (vec a) (vec b) (vec c) ≤ℤ pos 0
 bracket_not_left a b c n = go (lt_or_ge_ℤ (pos 0) (bracket (vec a) (vec b) (vec c)))
   where
     go : (pos 0 <ℤ bracket (vec a) (vec b) (vec c)) ⊎ (bracket (vec a) (vec b) (vec c) ≤ℤ pos 0) → bracket (vec a) (vec b) (vec c) ≤ℤ pos 0
-    go (inl h) = absurd (n (left_bracket a b c h))
+    go (inl h) = absurd (n (left_if a b c h))
     go (inr h) = h
 
 first_of_some : {X : Type 0} (xs : List X) → xs ≢ [] → (x : X) × Contains xs x
@@ -50,7 +42,7 @@ by_signs points faces outer m = record {
   some_face = first_of_some faces m.some_face;
   used = m.used;
   corners = m.corners;
-  turning = λ f h. bracket_left (place points f.a) (place points f.b) (place points f.c) (m.turning f h);
+  turning = λ f h. if_left (place points f.a) (place points f.b) (place points f.c) (m.turning f h);
   ends = m.ends;
   supporting = λ e h k l. bracket_not_left (place points e.0) (place points e.1) (place points k) (m.supporting e h k l);
   bare = m.bare;
@@ -103,22 +95,13 @@ hull_not_left u v points q h below =
 
 -- ---- triangles
 inside_signs : (a b c q : Fraction) → TurnsLeft a b c → InsideTriangle a b c q → Inside (vec a) (vec b) (vec c) (vec q)
-inside_signs a b c q turns h = let s = (inside_is_sides a b c q turns).0 h in record { first = bracket_left a b q s.0; second = bracket_left b c q s.1; third = bracket_left c a q s.2 }
+inside_signs a b c q turns h = let s = (inside_is_brackets a b c q (if_left a b c turns)).0 h in record { first = s.0; second = s.1; third = s.2 }
 
 in_signs : (a b c q : Fraction) → TurnsLeft a b c → InTriangle a b c q → (pos 0 ≤ℤ bracket (vec a) (vec b) (vec q)) × (pos 0 ≤ℤ bracket (vec b) (vec c) (vec q)) × (pos 0 ≤ℤ bracket (vec c) (vec a) (vec q))
-in_signs a b c q turns h = let s = (in_is_sides a b c q turns).0 h in (back a b s.0, back b c s.1, back c a s.2)
-  where
-    use_sign : (a b : Fraction) → pos 0 ≤ℤ S.det a b q → pos 0 ≤ℤ bracket (vec a) (vec b) (vec q)
-    use_sign a b k = subst (λ z. pos 0 ≤ℤ z) (sym (bracket_of_fractions a b q)) k
-
-    back : (a b : Fraction) → ¬ (side a b q ≡ right) → pos 0 ≤ℤ bracket (vec a) (vec b) (vec q)
-    back a b k = use_sign a b (if_not_right a b q k)
+in_signs a b c q turns h = (in_is_brackets a b c q (if_left a b c turns)).0 h
 
 signs_in : (a b c q : Fraction) → TurnsLeft a b c → pos 0 ≤ℤ bracket (vec a) (vec b) (vec q) → pos 0 ≤ℤ bracket (vec b) (vec c) (vec q) → pos 0 ≤ℤ bracket (vec c) (vec a) (vec q) → InTriangle a b c q
-signs_in a b c q turns h k l = (in_is_sides a b c q turns).1 (forth a b h, forth b c k, forth c a l)
-  where
-    forth : (a b : Fraction) → pos 0 ≤ℤ bracket (vec a) (vec b) (vec q) → ¬ (side a b q ≡ right)
-    forth a b k = not_right_if a b q (subst (λ z. pos 0 ≤ℤ z) (bracket_of_fractions a b q) k)
+signs_in a b c q turns h k l = (in_is_brackets a b c q (if_left a b c turns)).1 (h, k, l)
 
 point_of_index : (points : List Point) (q : Point) → Contains points q → (i : ℕ) × (i < length points) × (point_at points i ≡ q)
 point_of_index points q h = (h.0, h.1, get_or_any points h.0 (record { x = pos 0; y = pos 0 }) q h.1 ∙ h.2)
@@ -136,14 +119,14 @@ tiles points faces outer edges m once sides =
     record {
       spread = (f.0.a, f.0.b, f.0.c, c.0, c.1, c.2, m.turning f.0 f.1);
       corners = λ i j k h. C.turn_corners n p faces outer s i j k h;
-      turning = λ i j k h. left_bracket (place points i) (place points j) (place points k) (C.turn_left_of n p faces outer s i j k h);
+      turning = λ i j k h. left_if (place points i) (place points j) (place points k) (C.turn_left_of n p faces outer s i j k h);
       covering = λ q h.
           let r = C.in_some_face n p faces outer s (vec q) q.positive (λ e l. hull_not_left (at p e.0) (at p e.1) points q h (λ x k. let i = point_of_index points x k in subst (λ y. bracket (at p e.0) (at p e.1) (lift y) ≤ℤ pos 0) i.2 (s.supporting e l i.0 i.1))) in
           (r.0.a, r.0.b, r.0.c, inl r.1, signs_in (place points r.0.a) (place points r.0.b) (place points r.0.c) q (m.turning r.0 r.1) r.2 r.3 r.4);
       apart = λ k l d low high q x y.
           C.entries_apart n p faces outer s k l d low high (vec q) q.positive (inside_entry k d (below k l low high) q x) (inside_entry l d high q y);
       empty = λ i j k v h l x.
-          let a = in_signs (place points i) (place points j) (place points k) (place points v) (left_bracket (place points i) (place points j) (place points k) (C.turn_left_of n p faces outer s i j k h)) x in
+          let a = in_signs (place points i) (place points j) (place points k) (place points v) (left_if (place points i) (place points j) (place points k) (C.turn_left_of n p faces outer s i j k h)) x in
           C.vertex_in_face n p faces outer s v i j k l h a.0 a.1 a.2;
       sides = sides;
       once = once;
