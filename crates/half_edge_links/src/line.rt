@@ -18,6 +18,7 @@ impl Links {
         requires room { HasEdgeRoom self.old.mesh self.old.room 2 }
         ensures mesh { self.new.mesh ≡ connected self.old.mesh a b }
         ensures room { self.new.room ≡ self.old.room }
+        ensures sound { IsSound self.old.mesh }
     {
         self.half_edges.push_reserved(HalfEdge {
             origin: a,

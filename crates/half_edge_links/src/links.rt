@@ -1,6 +1,6 @@
 //! The vertices, edges and faces of a mesh, and reads of them.
 ghost use Rattle.std.specs.Prelude.{◌≡◌, ◌+◌, ◌-◌, ◌<◌, ◌≤◌, length, Option, None, vec_capacity};
-ghost use Rattle.half_edge_links.specs.Mesh.{edge_at, empty, IsInner, IsSound, face_edge, out_edge};
+ghost use Rattle.half_edge_links.specs.Mesh.{edge_at, empty, IsInner, IsSound, IsValid, face_edge, out_edge};
 
 use crate::records::HalfEdge;
 use crate::room::MAX_ELEMENTS;
@@ -76,12 +76,14 @@ impl Links {
         ensures sound { IsSound self.now.mesh }
         ensures small { result ≤ MAX_ELEMENTS }
         ensures room { self.now.room.edges ≤ MAX_ELEMENTS }
+        ensures valid { IsValid self.now.mesh }
     {
         self.half_edges.len()
     }
 
     pub fn vertex_count(&self) -> usize
-        ensures { result ≡ length self.now.mesh.out_edges }
+        ensures value { result ≡ length self.now.mesh.out_edges }
+        ensures valid { IsValid self.now.mesh }
     {
         self.out_edges.len()
     }
@@ -90,6 +92,7 @@ impl Links {
     pub fn inner_face_count(&self) -> usize
         ensures value { result ≡ length self.now.mesh.face_edges }
         ensures small { result < MAX_ELEMENTS }
+        ensures valid { IsValid self.now.mesh }
     {
         self.face_edges.len()
     }

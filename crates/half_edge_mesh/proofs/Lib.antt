@@ -1,1 +1,3 @@
-pub mod FitLemmas
+pub mod Fits
+pub mod EdgeLists
+pub mod Outlines

@@ -1,2 +1,2 @@
-pub mod Dcel
-pub mod InnerFaces
+pub mod Contents
+pub mod Growth

@@ -1,5 +1,5 @@
-//! Names of the vertices, edges and faces of a mesh.
-ghost use Rattle.std.specs.Prelude.{◌≡◌, ℕ, ◌*◌, ◌/◌, ◌<◌, ◌^◌};
+//! Names of the vertices, edges and faces of a mesh: indexes, each kind with a type of its own.
+ghost use Rattle.std.specs.Prelude.{◌≡◌, ℕ, ◌*◌, ◌/◌, ◌<◌, ◌^◌, IsTrue, ◌↔◌};
 ghost use Rattle.half_edge_links.specs.Mesh.{rev};
 
 use half_edge_links::reversed;
@@ -33,7 +33,8 @@ impl FixedVertexHandle {
     }
 }
 
-/// A directed edge of a mesh, by its index.
+/// A directed edge of a mesh, by its index. Edges `2 k` and `2 k + 1` are the two directions of undirected edge
+/// `k`.
 #[derive(Clone, Copy, PartialEq, Eq, PartialOrd, Ord, Hash, Debug)]
 pub struct FixedDirectedEdgeHandle {
     index: u32,
@@ -78,7 +79,7 @@ impl FixedDirectedEdgeHandle {
     }
 }
 
-/// An undirected edge of a mesh, by its index.
+/// An undirected edge of a mesh, by its index, which is below 2 to the 31st.
 #[derive(Clone, Copy, PartialEq, Eq, PartialOrd, Ord, Hash, Debug)]
 pub struct FixedUndirectedEdgeHandle {
     index: u32,
@@ -95,8 +96,16 @@ impl Model for FixedUndirectedEdgeHandle {
 }
 
 impl FixedUndirectedEdgeHandle {
+    pub fn from_index(index: u32) -> Self
+        requires { index < 2 ^ 31 }
+        ensures { result ≡ index }
+    {
+        FixedUndirectedEdgeHandle { index }
+    }
+
     pub fn index(self) -> u32
-        ensures { result ≡ self }
+        ensures value { result ≡ self }
+        ensures small { result < 2 ^ 31 }
     {
         self.index
     }
@@ -136,5 +145,11 @@ impl FixedFaceHandle {
         ensures { result ≡ self }
     {
         self.index
+    }
+
+    pub fn is_outer(self) -> bool
+        ensures { IsTrue result ↔ (self ≡ 0) }
+    {
+        self.index == 0
     }
 }

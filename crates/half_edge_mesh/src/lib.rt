@@ -1,13 +1,13 @@
 //! A mesh of vertices, edges and faces with data on them, held by its directed edges.
 #![tactic(auto)]
 
-mod borrowed;
 mod dcel;
+mod growth;
 mod handles;
-#[cfg(test)]
-mod tests;
+mod line;
+mod outside;
+mod room;
 
-pub use borrowed::{DirectedEdgeHandle, FaceHandle, InnerFaces, VertexHandle};
 pub use dcel::Dcel;
 pub use half_edge_links::{MAX_ELEMENTS, ReserveError, are_few_enough};
 pub use handles::{

@@ -1,0 +1,39 @@
+-- A vertex without edges changes no outer edge and no face.
+use Rattle.std.proofs.Common.{◌≡◌, ℕ, List, [], ◌∷◌, length, refl, inl, inr, arith}
+use Rattle.std.proofs.lemmas.Bool.{cases_lt}
+use Rattle.half_edge_links.specs.Mesh.{Mesh, IsSound, with_vertex}
+use Rattle.half_edge_links.specs.Outline.{IsOuterEdge, OuterChanges, KeepsOuter}
+
+outer_in : (m : Mesh) (h a b : ℕ) → IsOuterEdge m h a b → IsOuterEdge (with_vertex m) h a b
+outer_in m h a b o = record { within = o.within; outer = o.outer; source = o.source; target = o.target }
+
+outer_out : (m : Mesh) (h a b : ℕ) → IsOuterEdge (with_vertex m) h a b → IsOuterEdge m h a b
+outer_out m h a b o = record { within = o.within; outer = o.outer; source = o.source; target = o.target }
+
+pub outer_changes : (m new : Mesh) (Gone : ℕ → Type 0) (Made : ℕ → ℕ → ℕ → Type 0) → OuterChanges (with_vertex m) new Gone Made → OuterChanges m new Gone Made
+outer_changes m new Gone Made o = record {
+  kept = λ h a b was here. o.kept h a b (outer_in m h a b was) here;
+  made = o.made;
+  only = λ h a b is. elim (o.only h a b is) [ inl old ↦ inl (outer_out m h a b old.0, old.1) | inr new ↦ inr new ];
+}
+
+pub keeps_outer : (m new : Mesh) → KeepsOuter (with_vertex m) new → KeepsOuter m new
+keeps_outer m new o = record {
+  kept = λ h a b was. o.kept h a b (outer_in m h a b was);
+  only = λ h a b is. outer_out m h a b (o.only h a b is);
+}
+
+pub empty_list : {X : Type 0} (xs : List X) → length xs ≡ 0 → xs ≡ []
+empty_list [] none = refl
+empty_list (x ∷ xs) none = absurd (omega (arith, none))
+
+no_face : (m : Mesh) → IsSound m → length m.half_edges ≡ 0 → length m.face_edges ≡ 0
+no_face m s none =
+    elim (cases_lt 0 (length m.face_edges)) [
+      | inl some ↦ absurd (omega (arith, none, (s.faces 1 (omega arith) (omega (arith, some))).0))
+      | inr few ↦ omega (arith, few)
+    ]
+
+-- without edges there is no inner face
+pub no_faces : (m : Mesh) → IsSound m → length m.half_edges ≡ 0 → m.face_edges ≡ []
+no_faces m s none = empty_list m.face_edges (no_face m s none)

@@ -1,0 +1,54 @@
+-- What a contract sees of a mesh with data.
+use Rattle.std.specs.Prelude.{◌≡◌, ℕ, ◌+◌, ◌*◌, ◌≤◌, List, [], ◌∷◌, length}
+use Rattle.half_edge_links.specs.Mesh.{Mesh, IsValid}
+use Rattle.half_edge_links.specs.Room.{Room}
+use Rattle.half_edge_links.specs.Outline.{Ends, ends}
+
+-- a mesh, the data of its vertices, of its directed and undirected edges, of the outer face and of the
+-- faces from face 1 on, and the room that it has
+pub record Contents (V D U F : Type 0) : Type 0 where
+  pub mesh : Mesh
+  pub vertices : List V
+  pub directed : List D
+  pub undirected : List U
+  pub outer : F
+  pub faces : List F
+  pub room : Room
+
+-- there are data for each vertex, edge and face
+pub record FitsMesh (m : Mesh) (vertices directed undirected faces : ℕ) : Type 0 where
+  pub vertices_fit : vertices ≡ length m.out_edges
+  pub directed_fit : directed ≡ length m.half_edges
+  pub undirected_fit : 2 * undirected ≡ length m.half_edges
+  pub faces_fit : faces ≡ length m.face_edges
+
+-- what always holds of a mesh with data
+pub record IsWhole {V D U F : Type 0} (c : Contents V D U F) : Type 0 where
+  pub valid : IsValid c.mesh
+  pub fits : FitsMesh c.mesh (length c.vertices) (length c.directed) (length c.undirected) (length c.faces)
+
+-- so many more vertices, undirected edges and inner faces fit with no allocation
+pub record HasRoom {V D U F : Type 0} (c : Contents V D U F) (vertices edges faces : ℕ) : Type 0 where
+  pub vertices_fit : length c.vertices + vertices ≤ c.room.vertices
+  pub edges_fit : 2 * (length c.undirected + edges) ≤ c.room.edges
+  pub faces_fit : length c.faces + faces ≤ c.room.faces
+
+-- an undirected edge: the vertices that it joins, in the order of its even directed edge, and its data
+pub record Edge (U : Type 0) : Type 0 where
+  pub source : ℕ
+  pub target : ℕ
+  pub value : U
+
+-- the edge with these ends and this data
+abbrev pub edge_with : {U : Type 0} → Ends → U → Edge U
+edge_with e u = record { source = e.source; target = e.target; value = u }
+
+-- edges of their ends and their data
+abbrev pub edges_of : {U : Type 0} → List Ends → List U → List (Edge U)
+edges_of [] us = []
+edges_of (e ∷ es) [] = []
+edges_of (e ∷ es) (u ∷ us) = edge_with e u ∷ edges_of es us
+
+-- the undirected edges with their data, by rising index
+abbrev pub edges : {V D U F : Type 0} → Contents V D U F → List (Edge U)
+edges c = edges_of (ends c.mesh) c.undirected
