@@ -14,6 +14,7 @@ pub mod Nearest
 pub mod NearestOnLine
 pub mod NearerCount
 pub mod Where
+pub mod OuterEdges
 pub mod History
 pub mod Flip
 pub mod Meets

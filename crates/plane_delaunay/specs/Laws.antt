@@ -1,13 +1,20 @@
 -- What is proved of tilings, constraints and circles, whatever made them.
 use Rattle.std.specs.Prelude.{ℕ, ◌<◌, List, [], length}
 use Rattle.plane.specs.Fraction.{Fraction}
+use Rattle.plane.specs.Side.{TurnsLeft}
 use Rattle.plane.specs.Circle.{IsNearer}
 use Rattle.plane.specs.Pairs.{Joins}
-use Rattle.plane.specs.Tiling.{Triangulation, IsVertex, vertex, IsEdge, IsFace, InsideCorners, IsTiling}
+use Rattle.plane.specs.Tiling.{Triangulation, IsVertex, vertex, IsEdge, IsFace, InCorners, InsideCorners, TilesHull, IsTiling}
 use Rattle.plane.specs.Delaunay.{IsConstrainedDelaunay, IsLocallyDelaunay, IsStrictlyEmpty}
 use Rattle.plane.specs.Shape.{IsNearest}
+use Rattle.plane.specs.Location.{IsOuter}
 use Rattle.plane_delaunay.specs.Nearer.{nearer_count}
 use Rattle.plane_delaunay.specs.History.{IsVisiblyEmpty, AreOneState, HasFacesOf, NoFourOnCircle, HaveOneCircle}
+
+-- a point in no closed face is strictly left of an outer edge
+abbrev pub OutsideIsLeftOfOuter : Type 0
+OutsideIsLeftOfOuter = (t : Triangulation) → TilesHull t → (p : Fraction) → ((i j k : ℕ) → IsFace t i j k → ¬ InCorners t i j k p)
+    → (i j : ℕ) × IsOuter t i j × TurnsLeft (vertex t i) (vertex t j) p
 
 -- a tiling that has each constraint as an edge and passes the local circle test is constrained Delaunay
 abbrev pub LocalGivesConstrainedDelaunay : Type 0

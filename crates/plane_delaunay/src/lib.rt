@@ -1,7 +1,12 @@
 //! From the local circle test to constrained Delaunay: laws over tilings, constraints and circles.
 #![tactic(auto)]
 
-ghost use Rattle.plane_delaunay.specs.Laws.{LocalGivesConstrainedDelaunay, StrictlyEmptyIsFace, NearestByNeighbours, NearerCountFalls, VisiblyEmptyIsFace, FacesAreUnique, OverlappingFacesTie};
+ghost use Rattle.plane_delaunay.specs.Laws.{OutsideIsLeftOfOuter, LocalGivesConstrainedDelaunay, StrictlyEmptyIsFace, NearestByNeighbours, NearerCountFalls, VisiblyEmptyIsFace, FacesAreUnique, OverlappingFacesTie};
+
+/// A law: a point in no closed face is strictly left of an outer edge.
+pub fn outside_is_left_of_outer()
+    ensures { OutsideIsLeftOfOuter }
+{}
 
 /// A law: a tiling that has each constraint as an edge and passes the local circle test is constrained Delaunay.
 pub fn local_gives_constrained_delaunay()
