@@ -8,3 +8,8 @@ pub mod Loops
 pub mod Edges
 pub mod Places
 pub mod OneFace
+pub mod LineOrder
+pub mod Line
+pub mod Appended
+pub mod LineMeshes
+pub mod Meshes

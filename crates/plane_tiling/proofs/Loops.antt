@@ -1,12 +1,12 @@
 -- In a local mesh each way from an index to another is at most once a side or an outer edge. So a mesh whose directed edges are these has the sides of faces as edges, each once.
 use Rattle.std.proofs.Common.{◌≡◌, ◌⊎◌, ◌↔◌, ℕ, ◌<◌, List, length, get_or, sym, ◌∙◌, subst, arith}
-use mathlib.Core.Logic.{inl, inr}
-use Rattle.std.specs.Prelude.{ℤ, pos, ◌+ℤ◌, ◌*ℤ◌, ◌≤ℤ◌, ◌<ℤ◌, Contains}
+use mathlib.Core.Logic.{inl, inr, ◌≢◌}
+use Rattle.std.specs.Prelude.{ℤ, pos, ◌+ℤ◌, ◌*ℤ◌, ◌≤ℤ◌, ◌<ℤ◌, Contains, AllPairs}
 use Rattle.std.proofs.lemmas.Int.{ints}
 use Rattle.plane.specs.Fraction.{Point}
 use Rattle.plane.specs.Pairs.{Joins, IsSamePair, EachPairOnce}
 use Rattle.plane.specs.Tiling.{Face, face, TilesHull}
-use Rattle.plane_tiling.specs.Local.{total, around, along, LocalMesh}
+use Rattle.plane_tiling.specs.Local.{total, around, along, LocalMesh, AreEdgesOf}
 use Rattle.plane.proofs.IntegerOrder.{zero-mul_ℤ, lt_or_ge_ℤ}
 use Rattle.plane.proofs.Steps.{drop_zero, drop_zero_last, left_not_below}
 use Rattle.plane_tiling.proofs.Totals.{total_at_least, total_at_most_one, total_positive, total_of_two, total_nonneg, get_or_any}
@@ -14,7 +14,7 @@ use Rattle.plane.proofs.Bracket.{Vec3, bracket}
 use Rattle.plane.proofs.BracketIdentities.{bracket-turn, bracket-outer, bracket-last}
 use Rattle.plane.proofs.Nudges.{moved, bracket-moved}
 use Rattle.plane.proofs.Generic.{Inside, IsNudged, near}
-use Rattle.plane_tiling.proofs.Flows.{is_pair, is_pair_nonneg, is_pair_is, is_pair_own, pair_found, side_counts, side_found, one_of_three, back_from_count, IsTurnOf, HasSide}
+use Rattle.plane_tiling.proofs.Flows.{is_pair, is_pair_nonneg, is_pair_is, is_pair_own, pair_found, around_nonneg, side_counts, outer_counts, side_found, one_of_three, back_from_count, IsTurnOf, HasSide}
 use Rattle.plane_tiling.proofs.Counting.{at, SignMesh, corners_differ}
 use Rattle.plane_tiling.proofs.Covering as C
 use Rattle.plane_tiling.proofs.Tiles.{by_signs, point_at, tiles}
@@ -84,12 +84,69 @@ plus_then a b c h k e = omega (arith, ints)
 too_many : (a b : ℤ) → a ≡ b → pos 2 ≤ℤ a → b ≤ℤ pos 1 → ⊥
 too_many a b e h k = omega (arith, ints)
 
--- the directed edges are the sides of faces and the outer edges: each edge, both ways
-abbrev edge_count : ℕ → ℕ → ℕ × ℕ → ℤ
-edge_count u v e = is_pair u v e.0 e.1 +ℤ is_pair v u e.0 e.1
+-- how many of the ways of an edge go from u to v
+abbrev ways : ℕ → ℕ → ℕ × ℕ → ℤ
+ways u v e = is_pair u v e.0 e.1 +ℤ is_pair u v e.1 e.0
 
-pub record AreTheirEdges (faces : List Face) (outer edges : List (ℕ × ℕ)) : Type 0 where
-  pub counts : (u v : ℕ) → total (λ e. is_pair u v e.0 e.1 +ℤ is_pair v u e.0 e.1) edges ≡ total (around (is_pair u v)) faces +ℤ total (along (is_pair u v)) outer
+ways_nonneg : (u v : ℕ) (e : ℕ × ℕ) → pos 0 ≤ℤ ways u v e
+ways_nonneg u v e = both_nonneg (is_pair u v e.0 e.1) (is_pair u v e.1 e.0) (is_pair_nonneg u v e.0 e.1) (is_pair_nonneg u v e.1 e.0)
+
+-- ---- edges whose ways are the sides of faces and the outer edges
+module _ (faces : List Face) (outer edges : List (ℕ × ℕ)) (own : AreEdgesOf faces outer edges) where
+  sides_nonneg : (u v : ℕ) → pos 0 ≤ℤ total (around (is_pair u v)) faces
+  sides_nonneg u v = total_nonneg (around (is_pair u v)) faces (λ f _. around_nonneg u v f)
+
+  outers_nonneg : (u v : ℕ) → pos 0 ≤ℤ total (along (is_pair u v)) outer
+  outers_nonneg u v = total_nonneg (along (is_pair u v)) outer (λ e _. is_pair_nonneg u v e.0 e.1)
+
+  edge_of_count : (u v : ℕ) → pos 0 <ℤ total (ways u v) edges → Joins edges u v
+  edge_of_count u v h = let r = total_positive (ways u v) edges h in go r.0 r.1 (one_of_two (is_pair u v r.0.0 r.0.1) (is_pair u v r.0.1 r.0.0) r.2)
+    where
+      go : (e : ℕ × ℕ) → Contains edges e → (pos 0 <ℤ is_pair u v e.0 e.1) ⊎ (pos 0 <ℤ is_pair u v e.1 e.0) → Joins edges u v
+      go e h (inl k) = let t = pair_found u v e.0 e.1 k in inl (subst (Contains edges) (λ i. (t.0 i, t.1 i)) h)
+      go e h (inr k) = let t = pair_found u v e.1 e.0 k in inr (subst (Contains edges) (λ i. (t.1 i, t.0 i)) h)
+
+  pub edge_of_side : (u v : ℕ) → HasSide faces u v → Joins edges u v
+  edge_of_side u v s = edge_of_count u v (plus_then (total (around (is_pair u v)) faces) (total (along (is_pair u v)) outer) (total (ways u v) edges) (side_counts faces u v s) (outers_nonneg u v) (own (is_pair u v)))
+
+  pub edge_of_outer : (u v : ℕ) → Contains outer (u, v) → Joins edges u v
+  edge_of_outer u v h = edge_of_count u v (plus_then (total (along (is_pair u v)) outer) (total (around (is_pair u v)) faces) (total (ways u v) edges) (outer_counts outer u v h) (sides_nonneg u v) (own (is_pair u v) ∙ swapped_sum (total (around (is_pair u v)) faces) (total (along (is_pair u v)) outer)))
+    where
+      swapped_sum : (a b : ℤ) → a +ℤ b ≡ b +ℤ a
+      swapped_sum a b = omega (arith, ints)
+
+  pub way_of_edge : (u v : ℕ) → Joins edges u v → HasSide faces u v ⊎ Contains outer (u, v)
+  way_of_edge u v j = back_from_count faces outer u v (one_of_two (total (around (is_pair u v)) faces) (total (along (is_pair u v)) outer) (go j))
+    where
+      go : Joins edges u v → pos 0 <ℤ (total (around (is_pair u v)) faces +ℤ total (along (is_pair u v)) outer)
+      go (inl h) = at_least_then (ways u v (u, v)) (total (ways u v) edges) (total (around (is_pair u v)) faces +ℤ total (along (is_pair u v)) outer)
+          (first_at_least (is_pair u v u v) (is_pair u v v u) (is_pair_own u v) (is_pair_nonneg u v v u)) (total_at_least (ways u v) edges (λ e _. ways_nonneg u v e) (u, v) h) (own (is_pair u v))
+      go (inr h) = at_least_then (ways u v (v, u)) (total (ways u v) edges) (total (around (is_pair u v)) faces +ℤ total (along (is_pair u v)) outer)
+          (second_at_least (is_pair u v v u) (is_pair u v u v) (is_pair_own u v) (is_pair_nonneg u v v u)) (total_at_least (ways u v) edges (λ e _. ways_nonneg u v e) (v, u) h) (own (is_pair u v))
+
+  -- where each way is there at most once, so is each edge
+  pub edges_once : ((u v : ℕ) → (total (around (is_pair u v)) faces +ℤ total (along (is_pair u v)) outer) ≤ℤ pos 1) → EachPairOnce edges
+  edges_once way_once k l d low high same =
+      let e = get_or edges k d in
+      let f = get_or edges l d in
+      too_many (total (ways e.0 e.1) edges) (total (around (is_pair e.0 e.1)) faces +ℤ total (along (is_pair e.0 e.1)) outer) (own (is_pair e.0 e.1))
+      (total_of_two (ways e.0 e.1) edges (λ g _. ways_nonneg e.0 e.1 g) k l d low high
+      (first_at_least (is_pair e.0 e.1 e.0 e.1) (is_pair e.0 e.1 e.1 e.0) (is_pair_own e.0 e.1) (is_pair_nonneg e.0 e.1 e.1 e.0)) (again e f same))
+      (way_once e.0 e.1)
+    where
+      again : (e f : ℕ × ℕ) → IsSamePair e.0 e.1 f.0 f.1 → pos 1 ≤ℤ ways e.0 e.1 f
+      again e f (inl s) = first_at_least (is_pair e.0 e.1 f.0 f.1) (is_pair e.0 e.1 f.1 f.0) ((λ i. is_pair (s.0 i) (s.1 i) f.0 f.1) ∙ is_pair_own f.0 f.1) (is_pair_nonneg e.0 e.1 f.1 f.0)
+      again e f (inr s) = second_at_least (is_pair e.0 e.1 f.0 f.1) (is_pair e.0 e.1 f.1 f.0) ((λ i. is_pair (s.0 i) (s.1 i) f.1 f.0) ∙ is_pair_own f.1 f.0) (is_pair_nonneg e.0 e.1 f.0 f.1)
+
+-- a way that stands once in a list counts once
+pub listed_once : (outer : List (ℕ × ℕ)) → AllPairs (λ d e. d ≢ e) outer → (u v : ℕ) → total (along (is_pair u v)) outer ≤ℤ pos 1
+listed_once outer once u v = total_at_most_one (along (is_pair u v)) outer (λ e _. is_pair_is u v e.0 e.1) twice
+  where
+    twice : (k l : ℕ) (d : ℕ × ℕ) → k < l → l < length outer → along (is_pair u v) (get_or outer k d) ≡ pos 1 → along (is_pair u v) (get_or outer l d) ≡ pos 1 → ⊥
+    twice k l d low high e e' =
+        let a = pair_found u v (get_or outer k d).0 (get_or outer k d).1 (one_is_positive e) in
+        let b = pair_found u v (get_or outer l d).0 (get_or outer l d).1 (one_is_positive e') in
+        once k l d low high (λ i. ((a.0 ∙ sym b.0) i, (a.1 ∙ sym b.1) i))
 
 module _ (n : ℕ) (p : ℕ → Point) (faces : List Face) (outer : List (ℕ × ℕ)) (m : SignMesh n p faces outer) where
   -- a face on u v, near u v, holds a point near the middle of u v, towards a left point
@@ -145,15 +202,6 @@ module _ (n : ℕ) (p : ℕ → Point) (faces : List Face) (outer : List (ℕ ×
           (inside_face_on u v a.0 f a.1 z.0 (beside u v a.0 i.0 i.1 i.2 left (at p a.0) z.0 left z.1))
           (inside_face_on u v b.0 g b.1 z.0 (beside u v b.0 j.0 j.1 j.2 (C.turn_left_of n p faces outer m u v b.0 t) (at p a.0) z.0 left z.1))
 
-  outer_once : (u v : ℕ) → total (along (is_pair u v)) outer ≤ℤ pos 1
-  outer_once u v = total_at_most_one (along (is_pair u v)) outer (λ e _. is_pair_is u v e.0 e.1) twice
-    where
-      twice : (k l : ℕ) (d : ℕ × ℕ) → k < l → l < length outer → along (is_pair u v) (get_or outer k d) ≡ pos 1 → along (is_pair u v) (get_or outer l d) ≡ pos 1 → ⊥
-      twice k l d low high e e' =
-          let a = pair_found u v (get_or outer k d).0 (get_or outer k d).1 (one_is_positive e) in
-          let b = pair_found u v (get_or outer l d).0 (get_or outer l d).1 (one_is_positive e') in
-          m.once k l d low high (λ i. ((a.0 ∙ sym b.0) i, (a.1 ∙ sym b.1) i))
-
   -- an outer edge is no side
   pub outer_is_no_side : (u v : ℕ) → Contains outer (u, v) → HasSide faces u v → ⊥
   outer_is_no_side u v h s = left_not_below (C.turn_left_of n p faces outer m u v s.0 s.1) (m.supporting (u, v) h s.0 (C.turn_corners n p faces outer m u v s.0 s.1).2)
@@ -164,61 +212,27 @@ module _ (n : ℕ) (p : ℕ → Point) (faces : List Face) (outer : List (ℕ ×
     where
       go : (pos 0 <ℤ total (around (is_pair u v)) faces) ⊎ (total (around (is_pair u v)) faces ≤ℤ pos 0) → (pos 0 <ℤ total (along (is_pair u v)) outer) ⊎ (total (along (is_pair u v)) outer ≤ℤ pos 0) → (total (around (is_pair u v)) faces +ℤ total (along (is_pair u v)) outer) ≤ℤ pos 1
       go a (inr b) = sums_at_most (total (around (is_pair u v)) faces) (total (along (is_pair u v)) outer) (side_once u v) b
-      go (inr a) b = sums_at_most' (total (around (is_pair u v)) faces) (total (along (is_pair u v)) outer) a (outer_once u v)
+      go (inr a) b = sums_at_most' (total (around (is_pair u v)) faces) (total (along (is_pair u v)) outer) a (listed_once outer m.once u v)
       go (inl a) (inl b) =
           let f = total_positive (around (is_pair u v)) faces a in
           let e = total_positive (along (is_pair u v)) outer b in
           let t = pair_found u v e.0.0 e.0.1 e.2 in
           absurd (outer_is_no_side u v (subst (Contains outer) (λ i. (t.0 i, t.1 i)) e.1) (side_found faces u v f.0 f.1 f.2))
 
-  module _ (edges : List (ℕ × ℕ)) (own : AreTheirEdges faces outer edges) where
-    count_nonneg : (u v : ℕ) (e : ℕ × ℕ) → pos 0 ≤ℤ edge_count u v e
-    count_nonneg u v e = both_nonneg (is_pair u v e.0 e.1) (is_pair v u e.0 e.1) (is_pair_nonneg u v e.0 e.1) (is_pair_nonneg v u e.0 e.1)
+  -- edges whose ways these are: the sides of faces
+  pub edges_are_sides : (edges : List (ℕ × ℕ)) → AreEdgesOf faces outer edges → (u v : ℕ) → Joins edges u v ↔ (HasSide faces u v ⊎ HasSide faces v u)
+  edges_are_sides edges own u v = ((λ j. there (way_of_edge faces outer edges own u v j)), (λ s. back s))
+    where
+      there : HasSide faces u v ⊎ Contains outer (u, v) → HasSide faces u v ⊎ HasSide faces v u
+      there (inl s) = inl s
+      there (inr h) = inr (C.behind_outer n p faces outer m u v h)
 
-    edge_of_side : (u v : ℕ) → HasSide faces u v → Joins edges u v
-    edge_of_side u v s =
-        let r = total_positive (edge_count u v) edges (plus_then (total (around (is_pair u v)) faces) (total (along (is_pair u v)) outer) (total (edge_count u v) edges) (side_counts faces u v s) (total_nonneg (along (is_pair u v)) outer (λ e _. is_pair_nonneg u v e.0 e.1)) (own.counts u v)) in
-        go r.0 r.1 (one_of_two (is_pair u v r.0.0 r.0.1) (is_pair v u r.0.0 r.0.1) r.2)
-      where
-        go : (e : ℕ × ℕ) → Contains edges e → (pos 0 <ℤ is_pair u v e.0 e.1) ⊎ (pos 0 <ℤ is_pair v u e.0 e.1) → Joins edges u v
-        go e h (inl k) = let t = pair_found u v e.0 e.1 k in inl (subst (Contains edges) (λ i. (t.0 i, t.1 i)) h)
-        go e h (inr k) = let t = pair_found v u e.0 e.1 k in inr (subst (Contains edges) (λ i. (t.0 i, t.1 i)) h)
-
-    side_of_edge : (u v : ℕ) → Contains edges (u, v) → HasSide faces u v ⊎ HasSide faces v u
-    side_of_edge u v h =
-        go (back_from_count faces outer u v (one_of_two (total (around (is_pair u v)) faces) (total (along (is_pair u v)) outer) (at_least_then (edge_count u v (u, v)) (total (edge_count u v) edges) (total (around (is_pair u v)) faces +ℤ total (along (is_pair u v)) outer)
-        (first_at_least (is_pair u v u v) (is_pair v u u v) (is_pair_own u v) (is_pair_nonneg v u u v)) (total_at_least (edge_count u v) edges (λ e _. count_nonneg u v e) (u, v) h) (own.counts u v))))
-      where
-        go : HasSide faces u v ⊎ Contains outer (u, v) → HasSide faces u v ⊎ HasSide faces v u
-        go (inl s) = inl s
-        go (inr s) = inr (C.behind_outer n p faces outer m u v s)
-
-    pub edges_are_sides : (u v : ℕ) → Joins edges u v ↔ (HasSide faces u v ⊎ HasSide faces v u)
-    edges_are_sides u v = ((λ j. there j), (λ s. back s))
-      where
-        there : Joins edges u v → HasSide faces u v ⊎ HasSide faces v u
-        there (inl h) = side_of_edge u v h
-        there (inr h) = elim (side_of_edge v u h) [ inl s ↦ inr s | inr s ↦ inl s ]
-
-        back : HasSide faces u v ⊎ HasSide faces v u → Joins edges u v
-        back (inl s) = edge_of_side u v s
-        back (inr s) = elim (edge_of_side v u s) [ inl j ↦ inr j | inr j ↦ inl j ]
-
-    pub edges_once : EachPairOnce edges
-    edges_once k l d low high same =
-        let e = get_or edges k d in
-        let f = get_or edges l d in
-        too_many (total (edge_count e.0 e.1) edges) (total (around (is_pair e.0 e.1)) faces +ℤ total (along (is_pair e.0 e.1)) outer) (own.counts e.0 e.1)
-        (total_of_two (edge_count e.0 e.1) edges (λ g _. count_nonneg e.0 e.1 g) k l d low high
-        (first_at_least (is_pair e.0 e.1 e.0 e.1) (is_pair e.1 e.0 e.0 e.1) (is_pair_own e.0 e.1) (is_pair_nonneg e.1 e.0 e.0 e.1)) (again e f same))
-        (way_once e.0 e.1)
-      where
-        again : (e f : ℕ × ℕ) → IsSamePair e.0 e.1 f.0 f.1 → pos 1 ≤ℤ edge_count e.0 e.1 f
-        again e f (inl s) = first_at_least (is_pair e.0 e.1 f.0 f.1) (is_pair e.1 e.0 f.0 f.1) ((λ i. is_pair (s.0 i) (s.1 i) f.0 f.1) ∙ is_pair_own f.0 f.1) (is_pair_nonneg e.1 e.0 f.0 f.1)
-        again e f (inr s) = second_at_least (is_pair e.0 e.1 f.0 f.1) (is_pair e.1 e.0 f.0 f.1) ((λ i. is_pair (s.1 i) (s.0 i) f.0 f.1) ∙ is_pair_own f.0 f.1) (is_pair_nonneg e.0 e.1 f.0 f.1)
+      back : HasSide faces u v ⊎ HasSide faces v u → Joins edges u v
+      back (inl s) = edge_of_side faces outer edges own u v s
+      back (inr s) = elim (edge_of_side faces outer edges own v u s) [ inl j ↦ inr j | inr j ↦ inl j ]
 
 -- a local mesh with its own edges tiles the hull
-pub mesh_tiles : (points : List Point) (faces : List Face) (outer edges : List (ℕ × ℕ)) → LocalMesh points faces outer → AreTheirEdges faces outer edges → TilesHull (record { points = points; faces = faces; edges = edges })
+pub mesh_tiles : (points : List Point) (faces : List Face) (outer edges : List (ℕ × ℕ)) → LocalMesh points faces outer → AreEdgesOf faces outer edges → TilesHull (record { points = points; faces = faces; edges = edges })
 mesh_tiles points faces outer edges m own =
     let s = by_signs points faces outer m in
-    tiles points faces outer edges m (edges_once (length points) (point_at points) faces outer s edges own) (edges_are_sides (length points) (point_at points) faces outer s edges own)
+    tiles points faces outer edges m (edges_once faces outer edges own (way_once (length points) (point_at points) faces outer s)) (edges_are_sides (length points) (point_at points) faces outer s edges own)

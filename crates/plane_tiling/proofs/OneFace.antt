@@ -1,18 +1,21 @@
 -- The invariant between its two readings; the mesh of three points and one face.
-use Rattle.std.proofs.Common.{◌≡◌, ◌⊎◌, ℕ, zero, suc, ◌<◌, List, [], ◌∷◌, length, get_or, sym, ap, ◌∙◌, subst, arith}
+use Rattle.std.proofs.Common.{◌≡◌, ◌⊎◌, ◌↔◌, ℕ, zero, suc, ◌<◌, List, [], ◌∷◌, length, get_or, sym, ap, ◌∙◌, subst, arith}
 use mathlib.Core.Logic.{inl, inr, ◌≢◌}
 use Rattle.std.specs.Prelude.{ℤ, pos, ◌+ℤ◌, ◌≤ℤ◌, ◌<ℤ◌, neg_ℤ, Contains, AllPairs}
 use Rattle.std.proofs.lemmas.Int.{ints}
+use Rattle.std.proofs.lemmas.Bool.{cases_eq}
 use Rattle.plane.specs.Fraction.{Point, whole, WithinSegment}
-use Rattle.plane.specs.Pairs.{place}
+use Rattle.plane.specs.Side.{TurnsLeft}
+use Rattle.plane.specs.Pairs.{place, IsIndex}
 use Rattle.plane.specs.Tiling.{Face, face}
-use Rattle.plane_tiling.specs.Local.{LocalMesh}
+use Rattle.plane_tiling.specs.Local.{total, along, LocalMesh}
 use Rattle.plane.proofs.Sides.{if_left, left_if}
 use Rattle.plane.proofs.Steps.{left_not_zero, left_not_below, zero_weak, weak_right, negated_right}
 use Rattle.plane_tiling.proofs.Totals.{Contains-head, Contains-cases, Contains-none}
 use Rattle.plane.proofs.Bracket.{bracket, lift}
 use Rattle.plane.proofs.BracketIdentities.{bracket-turn, bracket-swap, bracket-same, bracket-outer, bracket-last}
-use Rattle.plane_tiling.proofs.Counting.{at, SignMesh, within_turned}
+use Rattle.plane_tiling.proofs.Flows.{total_of_same_entries}
+use Rattle.plane_tiling.proofs.Counting.{at, SignMesh, corners_differ, within_turned}
 use Rattle.plane_tiling.proofs.Edges as E
 use Rattle.plane_tiling.proofs.Tiles.{point_at}
 
@@ -52,43 +55,46 @@ same_points n p q faces outer e m = record {
     moved : (a b c : ℕ) → a < n → b < n → c < n → bracket (at p a) (at p b) (at p c) ≡ bracket (at q a) (at q b) (at q c)
     moved a b c h k l i = bracket (lift (e a h i)) (lift (e b k i)) (lift (e c l i))
 
--- ---- three points and one face
-module _ (p : ℕ → Point) (turns : pos 0 <ℤ bracket (at p 0) (at p 1) (at p 2)) where
-  abbrev own_faces : List Face
-  own_faces = face 0 1 2 ∷ []
-
+-- ---- three points and one face, a b c
+module _ (p : ℕ → Point) (a b c : ℕ) (index : (a < 3) × (b < 3) × (c < 3)) (turns : pos 0 <ℤ bracket (at p a) (at p b) (at p c)) where
   abbrev own_outer : List (ℕ × ℕ)
-  own_outer = (1, 0) ∷ (2, 1) ∷ (0, 2) ∷ []
+  own_outer = (b, a) ∷ (c, b) ∷ (a, c) ∷ []
 
-  is_index : (k : ℕ) → k < 3 → (k ≡ 0) ⊎ ((k ≡ 1) ⊎ (k ≡ 2))
-  is_index k h = grind arith
+  differ : (a ≢ b) × (b ≢ c) × (c ≢ a)
+  differ = corners_differ p a b c turns
 
-  second_turns : pos 0 <ℤ bracket (at p 1) (at p 2) (at p 0)
-  second_turns = subst (λ z. pos 0 <ℤ z) (bracket-turn (at p 0) (at p 1) (at p 2)) turns
-
-  third_turns : pos 0 <ℤ bracket (at p 2) (at p 0) (at p 1)
-  third_turns = subst (λ z. pos 0 <ℤ z) (bracket-turn (at p 1) (at p 2) (at p 0)) second_turns
-
-  for_outer : (P : ℕ × ℕ → Type 0) → P (1, 0) → P (2, 1) → P (0, 2) → (e : ℕ × ℕ) → Contains own_outer e → P e
-  for_outer P a b c e h = go (Contains-cases (1, 0) ((2, 1) ∷ (0, 2) ∷ []) e h)
+  is_index : (k : ℕ) → k < 3 → (k ≡ a) ⊎ ((k ≡ b) ⊎ (k ≡ c))
+  is_index k h = all k a b c h index.0 index.1 index.2 differ.0 differ.1 differ.2
     where
-      third : ((0, 2) ≡ e) ⊎ Contains [] e → P e
-      third (inl s) = subst P s c
+      all : (k a b c : ℕ) → k < 3 → a < 3 → b < 3 → c < 3 → a ≢ b → b ≢ c → c ≢ a → (k ≡ a) ⊎ ((k ≡ b) ⊎ (k ≡ c))
+      all k a b c h i j l x y z = elim (cases_eq k a) [ inl e ↦ inl e | inr m ↦ elim (cases_eq k b) [ inl e ↦ inr (inl e) | inr n ↦ inr (inr (omega arith)) ] ]
+
+  second_turns : pos 0 <ℤ bracket (at p b) (at p c) (at p a)
+  second_turns = subst (λ z. pos 0 <ℤ z) (bracket-turn (at p a) (at p b) (at p c)) turns
+
+  third_turns : pos 0 <ℤ bracket (at p c) (at p a) (at p b)
+  third_turns = subst (λ z. pos 0 <ℤ z) (bracket-turn (at p b) (at p c) (at p a)) second_turns
+
+  for_outer : (P : ℕ × ℕ → Type 0) → P (b, a) → P (c, b) → P (a, c) → (e : ℕ × ℕ) → Contains own_outer e → P e
+  for_outer P x y z e h = go (Contains-cases (b, a) ((c, b) ∷ (a, c) ∷ []) e h)
+    where
+      third : ((a, c) ≡ e) ⊎ Contains [] e → P e
+      third (inl s) = subst P s z
       third (inr k) = absurd (Contains-none e k)
 
-      second : ((2, 1) ≡ e) ⊎ Contains ((0, 2) ∷ []) e → P e
-      second (inl s) = subst P s b
-      second (inr k) = third (Contains-cases (0, 2) [] e k)
+      second : ((c, b) ≡ e) ⊎ Contains ((a, c) ∷ []) e → P e
+      second (inl s) = subst P s y
+      second (inr k) = third (Contains-cases (a, c) [] e k)
 
-      go : ((1, 0) ≡ e) ⊎ Contains ((2, 1) ∷ (0, 2) ∷ []) e → P e
-      go (inl s) = subst P s a
-      go (inr k) = second (Contains-cases (2, 1) ((0, 2) ∷ []) e k)
+      go : ((b, a) ≡ e) ⊎ Contains ((c, b) ∷ (a, c) ∷ []) e → P e
+      go (inl s) = subst P s x
+      go (inr k) = second (Contains-cases (c, b) ((a, c) ∷ []) e k)
 
-  for_face : (P : Face → Type 0) → P (face 0 1 2) → (f : Face) → Contains own_faces f → P f
-  for_face P a f h = go (Contains-cases (face 0 1 2) [] f h)
+  for_face : (P : Face → Type 0) → P (face a b c) → (f : Face) → Contains (face a b c ∷ []) f → P f
+  for_face P x f h = go (Contains-cases (face a b c) [] f h)
     where
-      go : (face 0 1 2 ≡ f) ⊎ Contains [] f → P f
-      go (inl s) = subst P s a
+      go : (face a b c ≡ f) ⊎ Contains [] f → P f
+      go (inl s) = subst P s x
       go (inr k) = absurd (Contains-none f k)
 
   -- a side of a left turn, the other way round
@@ -102,72 +108,80 @@ module _ (p : ℕ → Point) (turns : pos 0 <ℤ bracket (at p 0) (at p 1) (at p
     (λ w. left_not_zero h (E.within_on (p i) (p j) (whole (p k)) (within_turned (p j) (p i) (p k) w))),
   )
 
-  differ : (i j : ℕ) → (i ≡ 0) ⊎ ((i ≡ 1) ⊎ (i ≡ 2)) → (j ≡ 0) ⊎ ((j ≡ 1) ⊎ (j ≡ 2)) → i ≢ j → ¬ (p i ≡ p j)
-  differ i j x y n e = go x y
+  apart : (i j : ℕ) → (i ≡ a) ⊎ ((i ≡ b) ⊎ (i ≡ c)) → (j ≡ a) ⊎ ((j ≡ b) ⊎ (j ≡ c)) → i ≢ j → ¬ (p i ≡ p j)
+  apart i j x y n e = go x y
     where
-      none : (a b c : ℕ) → pos 0 <ℤ bracket (at p a) (at p b) (at p c) → p a ≡ p b → ⊥
-      none a b c h s = left_not_zero h ((λ o. bracket (lift (s o)) (at p b) (at p c)) ∙ bracket-same (at p b) (at p c))
+      none : (s t r : ℕ) → pos 0 <ℤ bracket (at p s) (at p t) (at p r) → p s ≡ p t → ⊥
+      none s t r h d = left_not_zero h ((λ o. bracket (lift (d o)) (at p t) (at p r)) ∙ bracket-same (at p t) (at p r))
 
-      at_ : (a b : ℕ) → i ≡ a → j ≡ b → p a ≡ p b
-      at_ a b s t = ap p (sym s) ∙ e ∙ ap p t
+      at_ : (s t : ℕ) → i ≡ s → j ≡ t → p s ≡ p t
+      at_ s t d f = ap p (sym d) ∙ e ∙ ap p f
 
-      go : (i ≡ 0) ⊎ ((i ≡ 1) ⊎ (i ≡ 2)) → (j ≡ 0) ⊎ ((j ≡ 1) ⊎ (j ≡ 2)) → ⊥
+      go : (i ≡ a) ⊎ ((i ≡ b) ⊎ (i ≡ c)) → (j ≡ a) ⊎ ((j ≡ b) ⊎ (j ≡ c)) → ⊥
       go (inl s) (inl t) = n (s ∙ sym t)
       go (inr (inl s)) (inr (inl t)) = n (s ∙ sym t)
       go (inr (inr s)) (inr (inr t)) = n (s ∙ sym t)
-      go (inl s) (inr (inl t)) = none 0 1 2 turns (at_ 0 1 s t)
-      go (inr (inl s)) (inl t) = none 0 1 2 turns (sym (at_ 1 0 s t))
-      go (inr (inl s)) (inr (inr t)) = none 1 2 0 second_turns (at_ 1 2 s t)
-      go (inr (inr s)) (inr (inl t)) = none 1 2 0 second_turns (sym (at_ 2 1 s t))
-      go (inr (inr s)) (inl t) = none 2 0 1 third_turns (at_ 2 0 s t)
-      go (inl s) (inr (inr t)) = none 2 0 1 third_turns (sym (at_ 0 2 s t))
+      go (inl s) (inr (inl t)) = none a b c turns (at_ a b s t)
+      go (inr (inl s)) (inl t) = none a b c turns (sym (at_ b a s t))
+      go (inr (inl s)) (inr (inr t)) = none b c a second_turns (at_ b c s t)
+      go (inr (inr s)) (inr (inl t)) = none b c a second_turns (sym (at_ c b s t))
+      go (inr (inr s)) (inl t) = none c a b third_turns (at_ c a s t)
+      go (inl s) (inr (inr t)) = none c a b third_turns (sym (at_ a c s t))
 
-  by_index : (P : ℕ → Type 0) → P 0 → P 1 → P 2 → (k : ℕ) → k < 3 → P k
-  by_index P a b c k h = go (is_index k h)
+  by_index : (P : ℕ → Type 0) → P a → P b → P c → (k : ℕ) → k < 3 → P k
+  by_index P x y z k h = go (is_index k h)
     where
-      go : (k ≡ 0) ⊎ ((k ≡ 1) ⊎ (k ≡ 2)) → P k
-      go (inl s) = subst P (sym s) a
-      go (inr (inl s)) = subst P (sym s) b
-      go (inr (inr s)) = subst P (sym s) c
+      go : (k ≡ a) ⊎ ((k ≡ b) ⊎ (k ≡ c)) → P k
+      go (inl s) = subst P (sym s) x
+      go (inr (inl s)) = subst P (sym s) y
+      go (inr (inr s)) = subst P (sym s) z
 
-  sums : (ab bc ca ba cb ac : ℤ) → ba ≡ neg_ℤ ab → cb ≡ neg_ℤ bc → ac ≡ neg_ℤ ca → ((ab +ℤ bc +ℤ ca) +ℤ pos 0) +ℤ (ba +ℤ (cb +ℤ (ac +ℤ pos 0))) ≡ pos 0
-  sums ab bc ca ba cb ac e f g = omega (arith, ints)
+  sums : (ab bc ca ba cb ac o : ℤ) → o ≡ ba +ℤ (cb +ℤ (ac +ℤ pos 0)) → ba ≡ neg_ℤ ab → cb ≡ neg_ℤ bc → ac ≡ neg_ℤ ca → ((ab +ℤ bc +ℤ ca) +ℤ pos 0) +ℤ o ≡ pos 0
+  sums ab bc ca ba cb ac o d e f g = omega (arith, ints)
 
-  entries_differ : AllPairs (λ d e. d ≢ e) own_outer
-  entries_differ i j d h l e = go i j h l (ap (λ o. o.0) e)
+  own_once : AllPairs (λ d e. d ≢ e) own_outer
+  own_once i j d h l e = go i j h l (ap (λ o. o.0) e)
     where
       go : (i j : ℕ) → i < j → j < 3 → (get_or own_outer i d).0 ≡ (get_or own_outer j d).0 → ⊥
       go i zero h l e = omega arith
-      go zero (suc zero) h l e = omega arith
-      go zero (suc (suc zero)) h l e = omega arith
-      go (suc zero) (suc (suc zero)) h l e = omega arith
+      go zero (suc zero) h l e = differ.1 e
+      go zero (suc (suc zero)) h l e = differ.0 (sym e)
+      go (suc zero) (suc (suc zero)) h l e = differ.2 e
       go i (suc (suc (suc j))) h l e = omega arith
       go (suc i) (suc zero) h l e = omega arith
       go (suc (suc i)) (suc (suc zero)) h l e = omega arith
 
-  pub one_face : SignMesh 3 p own_faces own_outer
-  one_face =
-      let a = supports 0 1 2 turns in
-      let b = supports 1 2 0 second_turns in
-      let c = supports 2 0 1 third_turns in
-      let x = not_within 0 1 2 turns in
-      let y = not_within 1 2 0 second_turns in
-      let z = not_within 2 0 1 third_turns in
+  -- with any list of outer edges that has the ways back of its sides, each once
+  pub one_face : (outer : List (ℕ × ℕ)) → ((e : ℕ × ℕ) → Contains outer e ↔ Contains own_outer e) → AllPairs (λ d e. d ≢ e) outer → SignMesh 3 p (face a b c ∷ []) outer
+  one_face outer same once =
+      let x = supports a b c turns in
+      let y = supports b c a second_turns in
+      let z = supports c a b third_turns in
+      let u = not_within a b c turns in
+      let v = not_within b c a second_turns in
+      let w = not_within c a b third_turns in
       record {
-        distinct = λ i j h k n. differ i j (is_index i h) (is_index j k) n;
-        some_face = (face 0 1 2, Contains-head (face 0 1 2) []);
-        used = λ k h. inl (face 0 1 2, Contains-head (face 0 1 2) [], is_index k h);
-        corners = for_face (λ f. (f.a < 3) × (f.b < 3) × (f.c < 3)) (omega arith);
+        distinct = λ i j h k n. apart i j (is_index i h) (is_index j k) n;
+        some_face = (face a b c, Contains-head (face a b c) []);
+        used = λ k h. inl (face a b c, Contains-head (face a b c) [], is_index k h);
+        corners = for_face (λ f. (f.a < 3) × (f.b < 3) × (f.c < 3)) index;
         turning = for_face (λ f. pos 0 <ℤ bracket (at p f.a) (at p f.b) (at p f.c)) turns;
-        ends = for_outer (λ e. (e.0 < 3) × (e.1 < 3) × (e.0 ≢ e.1)) (omega arith) (omega arith) (omega arith);
-        supporting = for_outer (λ e. (k : ℕ) → k < 3 → bracket (at p e.0) (at p e.1) (at p k) ≤ℤ pos 0)
-            (by_index (λ k. bracket (at p 1) (at p 0) (at p k) ≤ℤ pos 0) a.0 a.1 a.2)
-            (by_index (λ k. bracket (at p 2) (at p 1) (at p k) ≤ℤ pos 0) b.2 b.0 b.1)
-            (by_index (λ k. bracket (at p 0) (at p 2) (at p k) ≤ℤ pos 0) c.1 c.2 c.0);
-        bare = for_outer (λ e. (k : ℕ) → k < 3 → ¬ WithinSegment (whole (p e.0)) (whole (p e.1)) (whole (p k)))
-            (by_index (λ k. ¬ WithinSegment (whole (p 1)) (whole (p 0)) (whole (p k))) x.0 x.1 x.2)
-            (by_index (λ k. ¬ WithinSegment (whole (p 2)) (whole (p 1)) (whole (p k))) y.2 y.0 y.1)
-            (by_index (λ k. ¬ WithinSegment (whole (p 0)) (whole (p 2)) (whole (p k))) z.1 z.2 z.0);
-        once = entries_differ;
-        balanced = λ flow anti. sums (flow 0 1) (flow 1 2) (flow 2 0) (flow 1 0) (flow 2 1) (flow 0 2) (anti 1 0) (anti 2 1) (anti 0 2);
+        ends = λ e h. for_outer (λ e. (e.0 < 3) × (e.1 < 3) × (e.0 ≢ e.1)) (index.1, index.0, λ e. differ.0 (sym e)) (index.2, index.1, λ e. differ.1 (sym e)) (index.0, index.2, λ e. differ.2 (sym e)) e ((same e).0 h);
+        supporting = λ e h. for_outer (λ e. (k : ℕ) → k < 3 → bracket (at p e.0) (at p e.1) (at p k) ≤ℤ pos 0)
+            (by_index (λ k. bracket (at p b) (at p a) (at p k) ≤ℤ pos 0) x.0 x.1 x.2)
+            (by_index (λ k. bracket (at p c) (at p b) (at p k) ≤ℤ pos 0) y.2 y.0 y.1)
+            (by_index (λ k. bracket (at p a) (at p c) (at p k) ≤ℤ pos 0) z.1 z.2 z.0) e ((same e).0 h);
+        bare = λ e h. for_outer (λ e. (k : ℕ) → k < 3 → ¬ WithinSegment (whole (p e.0)) (whole (p e.1)) (whole (p k)))
+            (by_index (λ k. ¬ WithinSegment (whole (p b)) (whole (p a)) (whole (p k))) u.0 u.1 u.2)
+            (by_index (λ k. ¬ WithinSegment (whole (p c)) (whole (p b)) (whole (p k))) v.2 v.0 v.1)
+            (by_index (λ k. ¬ WithinSegment (whole (p a)) (whole (p c)) (whole (p k))) w.1 w.2 w.0) e ((same e).0 h);
+        once = once;
+        balanced = λ flow anti. sums (flow a b) (flow b c) (flow c a) (flow b a) (flow c b) (flow a c) (total (along flow) outer) (total_of_same_entries (along flow) outer own_outer once own_once same) (anti b a) (anti c b) (anti a c);
       }
+
+-- three points, and the one face a b c of them: its outer edges are the ways back of its sides, each once, in any order
+pub first_face : (points : List Point) (a b c : ℕ) (outer : List (ℕ × ℕ)) → length points ≡ 3 → IsIndex points a × IsIndex points b × IsIndex points c → TurnsLeft (place points a) (place points b) (place points c)
+    → ((e : ℕ × ℕ) → Contains outer e ↔ Contains ((b, a) ∷ (c, b) ∷ (a, c) ∷ []) e) → AllPairs (λ d e. d ≢ e) outer → LocalMesh points (face a b c ∷ []) outer
+first_face points a b c outer three index turns same once = by_words points (face a b c ∷ []) outer (subst (λ n. SignMesh n (point_at points) (face a b c ∷ []) outer) (sym three)
+    (one_face (point_at points) a b c (subst (λ n. (a < n) × (b < n) × (c < n)) three index)
+    (if_left (place points a) (place points b) (place points c) turns) outer same once))

@@ -45,6 +45,12 @@ first_alone a b c h k = omega (arith, ints)
 rest_alone : (a b c : ℤ) → a ≡ pos 0 → b ≡ c → a +ℤ b ≡ c
 rest_alone a b c h k = omega (arith, ints)
 
+sums_beside : (a b s t u : ℤ) → s ≡ t +ℤ u → (a +ℤ b) +ℤ s ≡ (a +ℤ t) +ℤ (b +ℤ u)
+sums_beside a b s t u e = omega (arith, ints)
+
+no_sum : pos 0 ≡ pos 0 +ℤ pos 0
+no_sum = refl
+
 module _ {X : Type 0} where
   pub Contains-head : (x : X) (xs : List X) → Contains (x ∷ xs) x
   Contains-head x xs = (0, omega arith, refl)
@@ -77,6 +83,10 @@ module _ {X : Type 0} where
   pub total-difference : (f g : X → ℤ) (xs : List X) → total (λ x. f x -ℤ g x) xs ≡ total f xs -ℤ total g xs
   total-difference f g [] = refl
   total-difference f g (x ∷ xs) = sums_apart (f x) (g x) (pos 0) (pos 0) (total (λ y. f y -ℤ g y) xs) (total f xs) (total g xs) (total-difference f g xs)
+
+  pub total-sum : (f g : X → ℤ) (xs : List X) → total (λ x. f x +ℤ g x) xs ≡ total f xs +ℤ total g xs
+  total-sum f g [] = no_sum
+  total-sum f g (x ∷ xs) = sums_beside (f x) (g x) (total (λ y. f y +ℤ g y) xs) (total f xs) (total g xs) (total-sum f g xs)
 
   pub total_nonneg : (f : X → ℤ) (xs : List X) → ((x : X) → Contains xs x → pos 0 ≤ℤ f x) → pos 0 ≤ℤ total f xs
   total_nonneg f [] h = record { le = tt }
@@ -172,3 +182,8 @@ module _ {X : Type 0} where
       go (inl s) k r = first_alone (f y) (total f xs) c (ap f s ∙ e) (all_none f xs (λ z n. left_none s z n (h z (Contains-later y xs z n))))
       go (inr s) (inl t) r = absurd (s.0 t)
       go (inr s) (inr k) r = rest_alone (f y) (total f xs) c s.1 (r k)
+
+-- a sum over two lists, either first
+pub total_exchanged : {X Y : Type 0} (f : X → Y → ℤ) (xs : List X) (ys : List Y) → total (λ x. total (f x) ys) xs ≡ total (λ y. total (λ x. f x y) xs) ys
+total_exchanged f [] ys = sym (all_none (λ y. pos 0) ys (λ y h. refl))
+total_exchanged f (x ∷ xs) ys = (λ i. total (f x) ys +ℤ total_exchanged f xs ys i) ∙ sym (total-sum (f x) (λ y. total (λ z. f z y) xs) ys)
