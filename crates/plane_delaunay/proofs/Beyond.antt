@@ -36,10 +36,10 @@ above_of_least z h n = elim (sign z) [ below s ↦ absurd (crossed s h) | none s
     crossed s h = omega (arith, ints)
 
 -- halfway between two points
-halfway : Fraction → Fraction → Fraction
+pub halfway : Fraction → Fraction → Fraction
 halfway a b = nudge 1 a b
 
-between-halfway : (a b : Fraction) → Between a b (halfway a b)
+pub between-halfway : (a b : Fraction) → Between a b (halfway a b)
 unfolding halfway
 between-halfway a b = record { n = pos 1; k = pos 1; l = pos 1; n_above = record { lt = tt }; k_above = record { lt = tt }; l_above = record { lt = tt }; along = λ u v. one_each _ (bracket u v a) (bracket u v b) (bracket-nudge u v 1 a b) }
 

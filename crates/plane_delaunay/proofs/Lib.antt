@@ -9,6 +9,7 @@ pub mod Generic
 pub mod Global
 pub mod Hull
 pub mod Ground
+pub mod Cones
 pub mod EmptyCircles
 pub mod Nearest
 pub mod NearestOnLine

@@ -1,15 +1,14 @@
 -- Without constraints: a vertex to which no neighbour is nearer than it is nearest of all.
-use Rattle.std.proofs.Common.{◌≡◌, ℕ, [], ◌∷◌, arith, ap, sym, ◌∙◌, subst}
+use Rattle.std.proofs.Common.{◌≡◌, ℕ, [], ◌∷◌, arith}
 use mathlib.Core.Logic.{◌⊎◌, inl, inr}
 use Rattle.std.specs.Prelude.{ℤ, pos, ◌<ℤ◌, ◌≤ℤ◌, ◌+ℤ◌, ◌-ℤ◌, ◌*ℤ◌}
 use Rattle.std.proofs.lemmas.Int.{ints}
 use Rattle.plane.proofs.Solver.{Poly, ◌⊕◌, ◌⊖◌, ◌⊗◌, ring_over}
 use Rattle.plane.proofs.IntegerOrder.{mul-pos_ℤ, mul-nonneg_ℤ, mul-nonpos_of_nonneg_nonpos_ℤ, nonneg_of_mul-nonneg_ℤ, lt_or_ge_ℤ}
-use Rattle.plane_delaunay.proofs.Bracket.{Syntax, bracket, bracketᵖ, bracket-first, bracket-second, above_if_left}
+use Rattle.plane_delaunay.proofs.Bracket.{Syntax, bracket, bracketᵖ, above_if_left}
 use Rattle.plane_delaunay.proofs.Lift.{lift, liftᵖ, pointᵖ}
 use Rattle.plane_delaunay.proofs.Tally.{at_least}
-use Rattle.plane_delaunay.proofs.Faces.{Tiling, Germ, StartsFrom, germ, germ-turned, germ-closed}
-use Rattle.plane_delaunay.proofs.Across.{level}
+use Rattle.plane_delaunay.proofs.Cones.{Cone, cone}
 use Rattle.plane_delaunay.proofs.Ground.{tiling, triangle_of_inside, turned_face}
 use Rattle.plane_delaunay.proofs.NearestOnLine.{nearest_on_line}
 use Rattle.plane_delaunay.proofs.EmptyCircles.{spot, circle_lift, middle_of, middle_inside}
@@ -19,44 +18,6 @@ use Rattle.plane.specs.Pairs.{Joins}
 use Rattle.plane.specs.Tiling.{Triangulation, IsVertex, vertex, IsEdge, IsFace, TilesHull, IsTiling}
 use Rattle.plane.specs.Delaunay.{IsConstrainedDelaunay}
 use Rattle.plane.specs.Shape.{IsNearest}
-
-module _ (T : Tiling) where
-  open T use {at, IsVertex, IsFace, InHull}
-
-  -- among the faces at a vertex is one that the way to another vertex enters
-  pub record Entered (v w : ℕ) : Type 0 where
-    pub b : ℕ
-    pub c : ℕ
-    pub is_face : IsFace v b c
-    pub first : pos 0 ≤ℤ bracket (at v) (at b) (at w)
-    pub second : pos 0 ≤ℤ bracket (at c) (at v) (at w)
-
-  entering : (v w i j : ℕ) → StartsFrom T (at v) (at w) i j → bracket (at i) (at j) (at v) ≡ pos 0 → pos 0 ≤ℤ bracket (at i) (at j) (at w)
-  entering v w i j s z = go s.starts
-    where
-      go : (pos 0 <ℤ bracket (at i) (at j) (at v)) ⊎ ((bracket (at i) (at j) (at v) ≡ pos 0) × (pos 0 ≤ℤ bracket (at i) (at j) (at w))) → pos 0 ≤ℤ bracket (at i) (at j) (at w)
-      go (inl h) = absurd (level _ z h)
-      go (inr h) = h.1
-
-  at_corner : (v w i j k : ℕ) → IsFace i j k → Germ T (at v) (at w) i j k → v ≡ i → Entered v w
-  at_corner v w i j k f g e = record {
-    b = j;
-    c = k;
-    is_face = subst (λ i. IsFace i j k) (sym e) f;
-    first = subst (λ i. pos 0 ≤ℤ bracket (at i) (at j) (at w)) (sym e) (entering v w i j g.first (ap (λ n. bracket (at i) (at j) (at n)) e ∙ bracket-first (at i) (at j)));
-    second = subst (λ i. pos 0 ≤ℤ bracket (at k) (at i) (at w)) (sym e) (entering v w k i g.third (ap (λ n. bracket (at k) (at i) (at n)) e ∙ bracket-second (at k) (at i)));
-  }
-
-  pub entered : (v w : ℕ) → IsVertex v → IsVertex w → Entered v w
-  entered v w hv hw = go (germ T (at v) (at w) (T.vertex_in_hull v hv) (T.vertex_in_hull w hw))
-    where
-      go : (i j k : ℕ) × IsFace i j k × Germ T (at v) (at w) i j k → Entered v w
-      go (i, j, k, f, g) = pick (T.empty i j k v f hv (germ-closed T (at v) (at w) i j k g))
-        where
-          pick : (v ≡ i) ⊎ ((v ≡ j) ⊎ (v ≡ k)) → Entered v w
-          pick (inl e) = at_corner v w i j k f g e
-          pick (inr (inl e)) = at_corner v w j k i (T.turned i j k f) (germ-turned T (at v) (at w) i j k g) e
-          pick (inr (inr e)) = at_corner v w k i j (T.turned j k i (T.turned i j k f)) (germ-turned T (at v) (at w) j k i (germ-turned T (at v) (at w) i j k g)) e
 
 -- ---- squared distances from p
 abbrev gapᵖ : Syntax → Syntax → Poly
@@ -109,13 +70,13 @@ module _ (t : Triangulation) (D : IsConstrainedDelaunay t []) (h : TilesHull t) 
 
   nearest_in_hull : (p : Fraction) (v : ℕ) → IsVertex t v → ((u : ℕ) → IsEdge t v u → ¬ IsNearer p (vertex t u) (vertex t v)) → IsNearest t p v
   unfolding tiling
-  nearest_in_hull p v hv neighbours = record { is_vertex = hv; none_nearer = λ w hw. from_entered w hw (entered (tiling t h) v w hv hw) }
+  nearest_in_hull p v hv neighbours = record { is_vertex = hv; none_nearer = λ w hw. from_cone w hw (cone (tiling t h) v (vertex t w) hv ((tiling t h).vertex_in_hull w hw)) }
     where
       squares : pos 0 ≤ℤ (p.w *ℤ p.w)
       squares = at_least (mul-pos_ℤ {a = p.w} {b = p.w} p.positive p.positive)
 
-      from_entered : (w : ℕ) → IsVertex t w → Entered (tiling t h) v w → ¬ IsNearer p (vertex t w) (vertex t v)
-      from_entered w hw e near = nearer_below p (spot t w) (spot t v) near
+      from_cone : (w : ℕ) → IsVertex t w → Cone (tiling t h) v (vertex t w) → ¬ IsNearer p (vertex t w) (vertex t v)
+      from_cone w hw e near = nearer_below p (spot t w) (spot t v) near
           (not_below _ _ _ _ _ (p.w *ℤ p.w) _ _ (above_if_left _ _ _ (h.turning v e.b e.c e.is_face)) (gaps-lift p (spot t v) (spot t e.b) (spot t e.c) (spot t w))
           e.second (farther p (spot t e.b) (spot t v) (neighbours e.b ((h.sides v e.b).1 (inl (e.c, e.is_face)))))
           e.first (farther p (spot t e.c) (spot t v) (neighbours e.c ((h.sides v e.c).1 (inr (e.b, turned_face t e.b e.c v (turned_face t v e.b e.c e.is_face))))))

@@ -13,7 +13,7 @@ use Rattle.plane_delaunay.proofs.Tally.{at_least}
 use Rattle.plane_delaunay.proofs.Faces.{Tiling, Between, none_within, turned-above, corner_2}
 use Rattle.plane_delaunay.proofs.Across.{none_left, one_right, level, is_least, inner_between}
 use Rattle.plane_delaunay.proofs.Meets.{IsEdge}
-use Rattle.plane_delaunay.proofs.Nearest.{entered}
+use Rattle.plane_delaunay.proofs.Cones.{cone}
 use Rattle.plane_delaunay.proofs.Joining.{Crosses}
 use Rattle.plane.specs.Fraction.{Fraction}
 
@@ -110,4 +110,4 @@ module _ (T : Tiling) (s t : ℕ) (hs : T.IsVertex s) (ht : T.IsVertex t) (two :
       }))
 
   pub edge_if_uncrossed : IsEdge T s t
-  edge_if_uncrossed = let e = entered T s t hs ht in at_face e.b e.c e.is_face e.first e.second
+  edge_if_uncrossed = let e = cone T s (at t) hs (T.vertex_in_hull t ht) in at_face e.b e.c e.is_face e.first e.second
