@@ -2,8 +2,7 @@
 use Rattle.std.proofs.Common.{◌≡◌, ◌≢◌, ℕ, ◌+◌, ◌-◌, ◌<◌, ◌≤◌, [], ◌∷◌, length, refl, sym, ap, ◌∙◌, inl, inr, arith, length-append}
 use Rattle.std.proofs.lemmas.Bool.{cases_eq}
 use Rattle.std.proofs.lemmas.List.{get_or_append_left, get_or_at}
-use Rattle.half_edge_links.specs.declared.room.TheConstants.{MAX_ELEMENTS}
-use Rattle.half_edge_links.specs.Mesh.{Mesh, origin, next, prev, face, face_edge, rev, IsSound, IsSoundEdge, IsValid}
+use Rattle.half_edge_links.specs.Mesh.{Mesh, origin, next, prev, face, face_edge, rev, IsSound, IsSoundEdge}
 use Rattle.half_edge_links.specs.Grow.{IsClosable, closed, Closes}
 use Rattle.half_edge_links.proofs.Rev.{rev_within}
 use Rattle.half_edge_links.proofs.FlipLemmas.{links_from}
@@ -323,15 +322,3 @@ module _ (m new : Mesh) (e : ℕ) (s : IsSound m) (can : IsClosable m e) (i : Cl
         rw (← at) (omega (arith, i.edge_count), i.outside.face);
     has_outer = λ some. rw i.outer_edge refl;
   }
-
-pub valid_closed : (m : Mesh) (e : ℕ) → IsValid m → IsClosable m e → length m.half_edges + 2 ≤ MAX_ELEMENTS → length m.face_edges + 2 ≤ MAX_ELEMENTS → IsValid (closed m e)
-valid_closed m e valid can room faces =
-    let i = closes m e valid.sound can in
-    record {
-      sound = sound_after_close m (closed m e) e valid.sound can i;
-      small = record {
-        vertices = rw i.out_edges valid.small.vertices;
-        edges = rw i.edge_count room;
-        faces = omega (arith, ap length i.face_edges, length-append m.face_edges (e ∷ []), faces);
-      };
-    }

@@ -3,12 +3,11 @@ use Rattle.std.proofs.Common.{◌≡◌, ◌≢◌, ◌⊎◌, ℕ, ◌<◌, ◌
 use Rattle.std.proofs.lemmas.Bool.{cases_eq}
 use Rattle.half_edge_links.specs.declared.records.HalfEdge.{HalfEdge}
 use Rattle.half_edge_links.specs.Mesh.{Mesh, edge_at, origin, next, prev, face, face_edge, out_edge, rev, IsSound, IsSoundEdge}
-use Rattle.half_edge_links.specs.Flip.{IsFlippable, Flips, flipped, flip_by}
+use Rattle.half_edge_links.specs.Flip.{IsFlippable, Flips}
 use Rattle.half_edge_links.proofs.Rev.{rev-rev}
 use Rattle.half_edge_links.proofs.Writes.{AreSixPlaces}
 use Rattle.half_edge_links.proofs.Kept.{sound_kept}
 use Rattle.half_edge_links.proofs.Triangles.{IsTriangle, triangle_at, same_loop, six_round}
-use Rattle.half_edge_links.proofs.FlipLemmas.{flips, flip_by-is}
 
 -- an edge is none of the six round e
 pub record IsAway (m : Mesh) (e h : ℕ) : Type 0 where
@@ -369,8 +368,3 @@ module _ (m new : Mesh) (e : ℕ) (s : IsSound m) (can : IsFlippable m e) (f : F
     outer = outer_kept;
     has_outer = λ some. rw f.outer_edge (s.has_outer (omega (arith, f.edge_count)));
   }
-
--- the same for the code's reads of the six edges
-pub sound_flip_by : (m : Mesh) (e t : ℕ) (edge twin edge_next edge_prev twin_next twin_prev : HalfEdge) → IsSound m → IsFlippable m e → t ≡ rev e → edge ≡ edge_at m.half_edges e → twin ≡ edge_at m.half_edges t → edge_next ≡ edge_at m.half_edges edge.next → edge_prev ≡ edge_at m.half_edges edge.prev → twin_next ≡ edge_at m.half_edges twin.next → twin_prev ≡ edge_at m.half_edges twin.prev → IsSound (flip_by m e t edge twin edge_next edge_prev twin_next twin_prev)
-sound_flip_by m e t edge twin edge_next edge_prev twin_next twin_prev s can at_t a b c d x y =
-    rw (flip_by-is m e t edge twin edge_next edge_prev twin_next twin_prev at_t a b c d x y) (sound_after_flip m (flipped m e) e s can (flips m e s can))

@@ -2,12 +2,13 @@
 use Rattle.std.proofs.Common.{◌≤◌, ◌+◌, ◌≡◌, ◌≢◌, ℕ, ◌-◌, ◌<◌, List, [], ◌∷◌, ◌++◌, length, set, refl, sym, ap, ◌∙◌, arith}
 use Rattle.std.proofs.lemmas.List.{set-append_left, set-append_right, length-set, length-map}
 use Rattle.half_edge_links.specs.declared.records.HalfEdge.{HalfEdge}
-use Rattle.half_edge_links.specs.Mesh.{edge_at, Mesh, origin, next, prev, face, rev, IsSound}
+use Rattle.half_edge_links.specs.Mesh.{edge_at, Mesh, origin, next, prev, face, rev, IsSound, IsAlone}
 use Rattle.half_edge_links.specs.Flip.{Flips, IsFlippable}
 use Rattle.half_edge_links.specs.Triangles.{triangle_at, triangles, FlipsTriangles}
 use Rattle.half_edge_links.specs.Grow.{HalfSplits, AddsFace, IsHalfSplittable, IsOuter}
 use Rattle.half_edge_links.specs.Outline.{KeepsOuter, ReplacesOuter, AddsTriangle, HalfSplitsTriangles}
 use Rattle.half_edge_links.proofs.FlipSound.{origin_kept}
+use Rattle.half_edge_links.proofs.FaceBeside.{differs_alone}
 use Rattle.half_edge_links.proofs.Rev.{rev-rev, rev_within, rev_differs}
 
 pub twin_outer : (m : Mesh) (e : ℕ) → IsSound m → IsHalfSplittable m e → IsOuter m (rev e)
@@ -64,6 +65,9 @@ module _ (m mid : Mesh) (e v : ℕ) (s : IsSound m) (half : IsHalfSplittable m e
   near =
       let twin = s.edges (rev e) (rev_within e _ s.even half.within) in
       ap (origin mid) i.edge.next ∙ i.there.origin ∙ twin.starts ∙ ap (origin m) (rev-rev e)
+
+  pub corners_beside : IsAlone m v → origin mid (prev mid e) ≢ origin mid (prev mid (rev e))
+  corners_beside alone same = differs_alone m (prev m e) v s (s.edges e half.within).prev_in alone (sym apex ∙ same ∙ new_corner)
 
   pub apex_is : origin mid (prev mid e) ≡ origin m (prev m e)
   apex_is = apex

@@ -3,8 +3,7 @@ use Rattle.std.proofs.Common.{◌≡◌, ◌≢◌, ℕ, ◌+◌, ◌<◌, ◌�
 use Rattle.std.proofs.lemmas.Bool.{cases_eq}
 use Rattle.std.proofs.lemmas.List.{get_or-set_same, get_or-set_other, length-set}
 use Rattle.half_edge_links.specs.declared.records.HalfEdge.{HalfEdge}
-use Rattle.half_edge_links.specs.Mesh.{Mesh, no_edge, edge_at, origin, next, prev, face, face_edge, out_edge, rev, IsSound, IsSoundEdge, IsAlone, IsValid}
-use Rattle.half_edge_links.specs.declared.room.TheConstants.{MAX_ELEMENTS}
+use Rattle.half_edge_links.specs.Mesh.{Mesh, no_edge, edge_at, origin, next, prev, face, face_edge, out_edge, rev, IsSound, IsSoundEdge, IsAlone}
 use Rattle.half_edge_links.specs.Grow.{with_next, with_prev, IsOuter, hung_edges, hung, Hangs}
 use Rattle.half_edge_links.proofs.Rev.{rev_within}
 use Rattle.half_edge_links.proofs.FlipLemmas.{links_from}
@@ -249,15 +248,3 @@ module _ (m new : Mesh) (x v : ℕ) (s : IsSound m) (outer : IsOuter m x) (alone
         (omega (arith, i.edge_count, had.0), i.faces h had.0 ∙ had.1);
     has_outer = λ some. rw i.outer_edge (s.has_outer (omega (arith, outer.0)));
   }
-
-pub valid_hung : (m : Mesh) (x v : ℕ) → IsValid m → IsOuter m x → IsAlone m v → length m.half_edges + 2 ≤ MAX_ELEMENTS → IsValid (hung m x v)
-valid_hung m x v valid outer alone room =
-    let i = hangs m x v valid.sound outer alone in
-    record {
-      sound = sound_after_hang m (hung m x v) x v valid.sound outer alone i;
-      small = record {
-        vertices = rw i.vertex_count valid.small.vertices;
-        edges = rw i.edge_count room;
-        faces = rw i.face_edges valid.small.faces;
-      };
-    }

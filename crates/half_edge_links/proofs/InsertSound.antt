@@ -4,11 +4,10 @@ use Rattle.std.proofs.lemmas.Bool.{cases_eq}
 use Rattle.std.proofs.lemmas.Grind.{common_steps}
 use Rattle.half_edge_links.specs.declared.records.HalfEdge.{HalfEdge}
 use Rattle.half_edge_links.specs.Mesh.{Mesh, edge_at, origin, next, prev, face, face_edge, out_edge, rev, IsSound, IsSoundEdge, IsInnerEdge, IsAlone}
-use Rattle.half_edge_links.specs.Insert.{Inserts, inserted, insert_by}
+use Rattle.half_edge_links.specs.Insert.{Inserts}
 use Rattle.half_edge_links.proofs.Rev.{rev_within}
 use Rattle.half_edge_links.proofs.Kept.{sound_kept}
 use Rattle.half_edge_links.proofs.Triangles.{IsTriangle, triangle_at, same_loop}
-use Rattle.half_edge_links.proofs.InsertLemmas.{inserts, insert_by-is}
 
 -- the two sides of a new edge
 rev_of_even : (n : ℕ) → n % 2 ≡ 0 → rev n ≡ n + 1
@@ -39,22 +38,22 @@ module _ (m new : Mesh) (v f a n g : ℕ) (s : IsSound m) (inner : IsInnerEdge m
   four_more : (n + 4) % 2 ≡ 0
   four_more = let e = n_even in omega arith
 
-  rev0 : rev n ≡ n + 1
+  pub rev0 : rev n ≡ n + 1
   rev0 = rev_of_even n n_even
 
-  rev1 : rev (n + 1) ≡ n
+  pub rev1 : rev (n + 1) ≡ n
   rev1 = rev_of_odd n n_even
 
-  rev2 : rev (n + 2) ≡ n + 3
+  pub rev2 : rev (n + 2) ≡ n + 3
   rev2 = rev_of_even (n + 2) two_more ∙ omega arith
 
-  rev3 : rev (n + 3) ≡ n + 2
+  pub rev3 : rev (n + 3) ≡ n + 2
   rev3 = let e = rev_of_odd (n + 2) two_more in let q : n + 2 + 1 ≡ n + 3 = omega arith in rw (← q) e
 
-  rev4 : rev (n + 4) ≡ n + 5
+  pub rev4 : rev (n + 4) ≡ n + 5
   rev4 = rev_of_even (n + 4) four_more ∙ omega arith
 
-  rev5 : rev (n + 5) ≡ n + 4
+  pub rev5 : rev (n + 5) ≡ n + 4
   rev5 = let e = rev_of_odd (n + 4) four_more in let q : n + 4 + 1 ≡ n + 5 = omega arith in rw (← q) e
 
   face_some : 0 < f
@@ -436,8 +435,3 @@ module _ (m new : Mesh) (v f a n g : ℕ) (s : IsSound m) (inner : IsInnerEdge m
     outer = outer_kept;
     has_outer = λ some. rw i.outer_edge (s.has_outer (omega (arith, round.h_in)));
   }
-
--- the same for the code's reads
-pub sound_insert_by : (m : Mesh) (v f n g a : ℕ) (first second third : HalfEdge) → IsSound m → IsInnerEdge m a → IsAlone m v → n ≡ length m.half_edges → g ≡ length m.face_edges → first ≡ edge_at m.half_edges a → f ≡ first.face → second ≡ edge_at m.half_edges first.next → third ≡ edge_at m.half_edges first.prev → IsSound (insert_by m v f n g a first second third)
-sound_insert_by m v f n g a first second third s inner alone at_n at_g x at_f y z =
-    rw (insert_by-is m v f n g a first second third at_n at_g x at_f y z) (sound_after_insert m (inserted m v a) v _ a _ _ s inner alone refl refl refl (inserts m v a s inner alone))

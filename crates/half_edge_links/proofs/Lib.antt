@@ -8,7 +8,6 @@ pub mod InsertLemmas
 pub mod InsertSound
 pub mod VertexLemmas
 pub mod ConnectLemmas
-pub mod SmallLemmas
 pub mod FlipTriangles
 pub mod InsertTriangles
 pub mod SplitLemmas
@@ -31,7 +30,9 @@ pub mod Ends
 pub mod EndsKept
 pub mod Extend
 pub mod SplitOutline
-pub mod RenameSound
 pub mod StarsKept
 pub mod StarsRound
-pub mod OpenSound
+pub mod StarsInsert
+pub mod StarsSlide
+pub mod Apart
+pub mod Valid

@@ -2,7 +2,7 @@
 use Rattle.std.proofs.Common.{◌≡◌, ◌≢◌, ℕ, ◌<◌, length, Some, None, IsSome, refl, sym, ap, ◌∙◌, inl, inr, arith}
 use Rattle.std.proofs.lemmas.Bool.{cases_eq}
 use Rattle.std.proofs.lemmas.List.{get_or-set_same, get_or-set_other, length-set}
-use Rattle.half_edge_links.specs.Mesh.{Mesh, origin, next, prev, face, out_edge, rev, IsSound, IsSoundEdge, IsValid}
+use Rattle.half_edge_links.specs.Mesh.{Mesh, origin, next, prev, face, out_edge, rev, IsSound, IsSoundEdge}
 use Rattle.half_edge_links.specs.Grow.{IsSlidable, slid, Slides}
 use Rattle.half_edge_links.proofs.Rev.{rev-rev, rev_within}
 use Rattle.half_edge_links.proofs.SlideReads.{whole_length, next_edge, next_before, next_there, prev_back, prev_there, prev_twin, origin_twin, other_next, other_prev, other_face, other_origin}
@@ -248,15 +248,3 @@ module _ (m new : Mesh) (e : ℕ) (s : IsSound m) (can : IsSlidable m e) (i : Sl
         (omega (arith, i.edge_count, had.0), zero_after h had.0);
     has_outer = λ some. rw i.outer_edge (s.has_outer (omega (arith, i.edge_count)));
   }
-
-pub valid_slid : (m : Mesh) (e : ℕ) → IsValid m → IsSlidable m e → IsValid (slid m e)
-valid_slid m e valid can =
-    let i = slides m e valid.sound can in
-    record {
-      sound = sound_after_slide m (slid m e) e valid.sound can i;
-      small = record {
-        vertices = rw i.vertex_count valid.small.vertices;
-        edges = rw i.edge_count valid.small.edges;
-        faces = rw i.face_edges valid.small.faces;
-      };
-    }

@@ -1,11 +1,13 @@
 -- An edge is split by putting a vertex into the face on its left and turning it.
-use Rattle.std.proofs.Common.{◌≡◌, ℕ, ◌-◌, ◌<◌, List, [], ◌∷◌, ◌++◌, length, set, refl, sym, arith}
+use Rattle.std.proofs.Common.{◌≡◌, ℕ, ◌-◌, ◌<◌, List, [], ◌∷◌, ◌++◌, length, set, refl, sym, ap, ◌∙◌, ◌≢◌, arith}
 use Rattle.std.proofs.lemmas.List.{set-set, set-append_left, length-set, length-map}
+use Rattle.half_edge_links.specs.declared.records.HalfEdge.{HalfEdge}
 use Rattle.half_edge_links.specs.Mesh.{Mesh, edge_at, origin, next, prev, face, rev, IsSound, IsAlone, IsInnerEdge, with_vertex}
 use Rattle.half_edge_links.specs.Flip.{IsFlippable, flipped}
 use Rattle.half_edge_links.specs.Insert.{Inserts, inserted}
 use Rattle.half_edge_links.specs.Triangles.{triangle_at, triangles, InsertsTriangles, FlipsTriangles, SplitsTriangles}
 use Rattle.half_edge_links.proofs.Rev.{rev_within}
+use Rattle.half_edge_links.proofs.FaceBeside.{differs_alone}
 use Rattle.half_edge_links.proofs.InsertLemmas.{inserts}
 use Rattle.half_edge_links.proofs.InsertSound.{kept, away_by_face, origin_kept, sound_after_insert}
 use Rattle.half_edge_links.proofs.InsertTriangles.{triangles_inserted, alone_at_end}
@@ -40,6 +42,14 @@ module _ (m : Mesh) (v e : ℕ) (s : IsSound m) (can : IsFlippable m e) (alone :
         twin_inner = rw twin_face can.twin_inner;
         apart = λ same. can.apart (cc);
       }
+
+  pub corners_inserted : origin (inserted m v e) (prev (inserted m v e) e) ≢ origin (inserted m v e) (prev (inserted m v e) (rev e))
+  corners_inserted same =
+      let mid : Mesh = inserted m v e in
+      let opposite = (s.edges (rev e) twin_in).prev_in in
+      let kept_there = origin_kept m mid v _ e _ _ s inner alone refl refl refl i (prev m (rev e)) opposite in
+      let twin : prev mid (rev e) ≡ prev m (rev e) = ap (λ (w : HalfEdge). w.prev) twin_kept in
+      differs_alone m (prev m (rev e)) v s opposite alone (sym kept_there ∙ ap (origin mid) (sym twin) ∙ sym same ∙ ap (origin mid) i.first.prev ∙ i.to_first.origin)
 
   pub splits_triangles : SplitsTriangles m (flipped (inserted m v e) e) v e
   splits_triangles =

@@ -3,7 +3,7 @@ use Rattle.std.proofs.Common.{◌≡◌, ◌≢◌, ◌⊎◌, ℕ, ◌+◌, ◌
 use Rattle.std.proofs.lemmas.Bool.{cases_eq}
 use Rattle.half_edge_links.specs.Mesh.{Mesh, origin, next, prev, rev, IsSound, IsAlone}
 use Rattle.half_edge_links.specs.Grow.{IsOuter, Hangs}
-use Rattle.half_edge_links.specs.Stars.{IsClosed, HasStars}
+use Rattle.half_edge_links.specs.Mesh.{IsClosed, HasStars}
 use Rattle.half_edge_links.proofs.Rev.{rev_within}
 use Rattle.half_edge_links.proofs.Parts.{rev_of_odd}
 use Rattle.half_edge_links.proofs.FaceBeside.{differs_alone}

@@ -5,7 +5,7 @@ use Rattle.std.proofs.lemmas.Grind.{common_steps}
 use Rattle.half_edge_links.specs.Mesh.{Mesh, origin, next, prev, rev, IsSound}
 use Rattle.half_edge_links.specs.Flip.{IsFlippable, Flips}
 use Rattle.half_edge_links.specs.Grow.{IsClosable, Closes}
-use Rattle.half_edge_links.specs.Stars.{IsClosed, HasStars}
+use Rattle.half_edge_links.specs.Mesh.{IsClosed, HasStars}
 use Rattle.half_edge_links.proofs.Rev.{rev_within, rev-rev}
 use Rattle.half_edge_links.proofs.Parts.{rev_of_even, rev_of_odd}
 use Rattle.half_edge_links.proofs.Close.{corner}
@@ -14,17 +14,17 @@ use Rattle.half_edge_links.proofs.Writes.{AreSixPlaces}
 use Rattle.half_edge_links.proofs.FlipSound.{six, left, right, origin_kept, kept}
 
 -- an edge k of the new mesh lies behind an old one of its vertex, and before an old one
-record LiesRound (m new : Mesh) (before among : ℕ → Bool) (k : ℕ) : Type 0 where
-  behind : ℕ
-  behind_in : behind < length m.half_edges
-  behind_origin : origin new k ≡ origin m behind
-  comes : before behind ≡ true → among k ≡ true
-  ahead : ℕ
-  ahead_in : ahead < length m.half_edges
-  ahead_origin : origin new k ≡ origin m ahead
-  goes : among k ≡ true → before ahead ≡ true
+pub record LiesRound (m new : Mesh) (before among : ℕ → Bool) (k : ℕ) : Type 0 where
+  pub behind : ℕ
+  pub behind_in : behind < length m.half_edges
+  pub behind_origin : origin new k ≡ origin m behind
+  pub comes : before behind ≡ true → among k ≡ true
+  pub ahead : ℕ
+  pub ahead_in : ahead < length m.half_edges
+  pub ahead_origin : origin new k ≡ origin m ahead
+  pub goes : among k ≡ true → before ahead ≡ true
 
-rounds : (m new : Mesh) (before among : ℕ → Bool) → HasStars m → IsClosed m before → (h g : ℕ) → LiesRound m new before among h → LiesRound m new before among g → origin new h ≡ origin new g → among h ≡ true → among g ≡ true
+pub rounds : (m new : Mesh) (before among : ℕ → Bool) → HasStars m → IsClosed m before → (h g : ℕ) → LiesRound m new before among h → LiesRound m new before among g → origin new h ≡ origin new g → among h ≡ true → among g ≡ true
 rounds m new before among stars closed h g a b same is = b.comes (stars before closed a.ahead b.behind a.ahead_in b.behind_in (sym a.ahead_origin ∙ same ∙ b.behind_origin) (a.goes is))
 
 module _ (m new : Mesh) (e : ℕ) (s : IsSound m) (can : IsClosable m e) (i : Closes m new e (length m.half_edges) (length m.face_edges)) (among : ℕ → Bool) (closed : IsClosed new among) where
@@ -89,18 +89,18 @@ stars_closed m new e s can i stars among closed h g h_in g_in =
     (close_lies m new e s can i among closed g (omega (arith, g_in, i.edge_count)))
 
 -- the turned edges stand for the edges that follow them
-stand_in : (ℕ → Bool) → ℕ → ℕ → ℕ → ℕ → ℕ → Bool
+pub stand_in : (ℕ → Bool) → ℕ → ℕ → ℕ → ℕ → ℕ → Bool
 stand_in among e t x y h = if h == e then among x else (if h == t then among y else among h)
 
-stands_first : (among : ℕ → Bool) (e t x y h : ℕ) → h ≡ e → stand_in among e t x y h ≡ among x
+pub stands_first : (among : ℕ → Bool) (e t x y h : ℕ) → h ≡ e → stand_in among e t x y h ≡ among x
 unfolding stand_in
 stands_first among e t x y h is = grind (arith, common_steps)
 
-stands_second : (among : ℕ → Bool) (e t x y h : ℕ) → h ≢ e → h ≡ t → stand_in among e t x y h ≡ among y
+pub stands_second : (among : ℕ → Bool) (e t x y h : ℕ) → h ≢ e → h ≡ t → stand_in among e t x y h ≡ among y
 unfolding stand_in
 stands_second among e t x y h differs is = grind (arith, common_steps)
 
-stands_other : (among : ℕ → Bool) (e t x y h : ℕ) → h ≢ e → h ≢ t → stand_in among e t x y h ≡ among h
+pub stands_other : (among : ℕ → Bool) (e t x y h : ℕ) → h ≢ e → h ≢ t → stand_in among e t x y h ≡ among h
 unfolding stand_in
 stands_other among e t x y h a b = grind (arith, common_steps)
 

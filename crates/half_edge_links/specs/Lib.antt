@@ -5,6 +5,3 @@ pub mod Insert
 pub mod Triangles
 pub mod Grow
 pub mod Outline
-pub mod Rename
-pub mod Stars
-pub mod Open

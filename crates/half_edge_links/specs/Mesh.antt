@@ -1,5 +1,5 @@
 -- What a contract sees of the links of a mesh.
-use Rattle.std.specs.Prelude.{◌≡◌, ◌≢◌, ◌⊎◌, ℕ, zero, suc, ◌+◌, ◌-◌, ◌%◌, ◌<◌, ◌≤◌, ◌==◌, List, [], ◌∷◌, ◌++◌, length, Option, Some, None, IsSome, slice_index_or, slice_set, if◌then◌else◌}
+use Rattle.std.specs.Prelude.{◌≡◌, ◌≢◌, ◌⊎◌, ℕ, zero, suc, ◌+◌, ◌-◌, ◌%◌, ◌<◌, ◌≤◌, ◌==◌, List, [], ◌∷◌, ◌++◌, length, Option, Some, None, IsSome, slice_index_or, slice_set, if◌then◌else◌, Bool, true}
 use Rattle.half_edge_links.specs.declared.records.HalfEdge.{HalfEdge}
 use Rattle.half_edge_links.specs.declared.room.TheConstants.{MAX_ELEMENTS}
 
@@ -70,9 +70,23 @@ pub record IsSmall (m : Mesh) : Type 0 where
   pub edges : length m.half_edges ≤ MAX_ELEMENTS
   pub faces : length m.face_edges + 1 ≤ MAX_ELEMENTS
 
+-- no edge joins a vertex to itself
+abbrev pub HasApartEnds : Mesh → Type 0
+HasApartEnds m = (h : ℕ) → h < length m.half_edges → origin m h ≢ origin m (rev h)
+
+-- a set of edges holds with each edge the next one round its origin, against the clock
+abbrev pub IsClosed : Mesh → (ℕ → Bool) → Type 0
+IsClosed m among = (h : ℕ) → h < length m.half_edges → among h ≡ true → among (rev (prev m h)) ≡ true
+
+-- round each vertex goes one round of edges: a closed set with one of them has all
+abbrev pub HasStars : Mesh → Type 0
+HasStars m = (among : ℕ → Bool) → IsClosed m among → (h g : ℕ) → h < length m.half_edges → g < length m.half_edges → origin m h ≡ origin m g → among h ≡ true → among g ≡ true
+
 -- what always holds of a mesh
 pub record IsValid (m : Mesh) : Type 0 where
   pub sound : IsSound m
+  pub apart : HasApartEnds m
+  pub stars : HasStars m
   pub small : IsSmall m
 
 abbrev pub empty : Mesh

@@ -1,5 +1,5 @@
 //! Changes inside the outer loop: an edge is turned, a vertex is put into a face or on an edge.
-ghost use Rattle.std.specs.Prelude.{◌≡◌, ◌+◌, ◌-◌, length, Some};
+ghost use Rattle.std.specs.Prelude.{◌≡◌, ◌≢◌, ◌+◌, ◌-◌, length, Some};
 ghost use Rattle.half_edge_links.specs.Mesh.{face, origin, next, prev, rev, IsInnerEdge, IsAlone, IsSound};
 ghost use Rattle.half_edge_links.specs.Flip.{Flips, IsFlippable, flipped};
 ghost use Rattle.half_edge_links.specs.Insert.{Inserts, inserted};
@@ -13,7 +13,8 @@ use crate::records::{HalfEdge, read, reversed};
 impl Links {
     /// Turns edge `e` between two inner faces so that it joins the two opposite corners.
     pub fn flip(&mut self, e: u32)
-        requires { IsFlippable self.old.mesh e }
+        requires flippable { IsFlippable self.old.mesh e }
+        requires corners { origin self.old.mesh (prev self.old.mesh e) ≢ origin self.old.mesh (prev self.old.mesh (rev e)) }
         ensures mesh { self.new.mesh ≡ flipped self.old.mesh e }
         ensures room { self.new.room ≡ self.old.room }
         ensures sound { IsSound self.old.mesh }

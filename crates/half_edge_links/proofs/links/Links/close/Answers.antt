@@ -2,7 +2,7 @@ use Rattle.std.proofs.Common.{◌≡◌, refl, length, ap, ◌∙◌, arith}
 use Rattle.half_edge_links.specs.contracts.links.Links.{the_view}
 use Rattle.half_edge_links.specs.Mesh.{Mesh, edge_at}
 use Rattle.half_edge_links.specs.Grow.{closed}
-use Rattle.half_edge_links.proofs.Close.{valid_closed}
+use Rattle.half_edge_links.proofs.Valid.{valid_closed}
 use Rattle.half_edge_links.proofs.Close.{closes}
 use Rattle.half_edge_links.proofs.Corners.{triangles_closed_is}
 use Rattle.half_edge_links.proofs.Outer.{outer_closed}

@@ -2,7 +2,7 @@ use Rattle.std.proofs.Common.{◌≡◌, refl, length, arith}
 use Rattle.half_edge_links.specs.contracts.links.Links.{the_view}
 use Rattle.half_edge_links.specs.Mesh.{Mesh}
 use Rattle.half_edge_links.specs.Grow.{hung}
-use Rattle.half_edge_links.proofs.Hang.{valid_hung}
+use Rattle.half_edge_links.proofs.Valid.{valid_hung}
 use Rattle.half_edge_links.proofs.Hang.{hangs}
 use Rattle.half_edge_links.proofs.Corners.{triangles_hung}
 use Rattle.half_edge_links.proofs.Outer.{outer_hung}

@@ -2,7 +2,7 @@ use Rattle.std.proofs.Common.{◌≡◌, refl, ap, ◌∙◌}
 use Rattle.half_edge_links.specs.contracts.links.Links.{the_view}
 use Rattle.half_edge_links.specs.Mesh.{Mesh, edge_at}
 use Rattle.half_edge_links.specs.Grow.{slid}
-use Rattle.half_edge_links.proofs.Slide.{valid_slid}
+use Rattle.half_edge_links.proofs.Valid.{valid_slid}
 use Rattle.half_edge_links.proofs.Slide.{slides}
 use Rattle.half_edge_links.proofs.EndsKept.{ends_slid_is}
 use Rattle.half_edge_links.proofs.links.Links.slide.Goals as goal

@@ -1,4 +1,4 @@
-use Rattle.half_edge_links.proofs.HalfSplit.{twin_outer, flippable_beside, half_splits_triangles, replaced_kept}
+use Rattle.half_edge_links.proofs.HalfSplit.{twin_outer, flippable_beside, corners_beside, half_splits_triangles, replaced_kept}
 use Rattle.half_edge_links.proofs.EndsKept.{ends_half}
 use Rattle.half_edge_links.proofs.HalfSplit.{half_splits}
 use Rattle.half_edge_links.proofs.links.Links.split_half_edge.Goals as goal
@@ -6,8 +6,11 @@ use Rattle.half_edge_links.proofs.links.Links.split_half_edge.Goals as goal
 pub add_face_beside-requires-clause-outer : goal.add_face_beside-requires-clause-outer
 add_face_beside-requires-clause-outer c = rw c.reversed.ensures (twin_outer _ _ c.half_edge_count-n.ensures.sound c.requires.half)
 
-pub flip-requires : goal.flip-requires
-flip-requires c = flippable_beside _ _ _ _ c.half_edge_count-n.ensures.sound c.requires.half (rw c.reversed.ensures at c.add_face_beside.ensures.links)
+pub flip-requires-clause-flippable : goal.flip-requires-clause-flippable
+flip-requires-clause-flippable c = flippable_beside _ _ _ _ c.half_edge_count-n.ensures.sound c.requires.half (rw c.reversed.ensures at c.add_face_beside.ensures.links)
+
+pub flip-requires-clause-corners : goal.flip-requires-clause-corners
+flip-requires-clause-corners c = corners_beside _ _ _ _ c.half_edge_count-n.ensures.sound c.requires.half (rw c.reversed.ensures at c.add_face_beside.ensures.links) c.requires.alone
 
 pub returns-clause-triangles : goal.returns-clause-triangles
 returns-clause-triangles c = half_splits_triangles _ _ _ _ c.half_edge_count-n.ensures.sound c.requires.half (rw c.reversed.ensures at c.add_face_beside.ensures.links) c.flip.new.self.mesh (rw c.reversed.ensures at c.add_face_beside.ensures.triangles) c.flip.ensures.triangles

@@ -1,0 +1,127 @@
+-- What always holds of a mesh holds after each change.
+use Rattle.std.proofs.Common.{◌≡◌, ◌≢◌, ℕ, ◌+◌, ◌<◌, ◌≤◌, [], ◌∷◌, None, length, refl, ap, arith, length-append}
+use Rattle.std.proofs.lemmas.List.{length-set}
+use Rattle.half_edge_links.specs.declared.records.HalfEdge.{HalfEdge}
+use Rattle.half_edge_links.specs.declared.room.TheConstants.{MAX_ELEMENTS}
+use Rattle.half_edge_links.specs.Mesh.{Mesh, edge_at, origin, prev, rev, IsValid, IsInnerEdge, IsAlone, with_vertex, connected}
+use Rattle.half_edge_links.specs.Flip.{IsFlippable, flipped, flip_by}
+use Rattle.half_edge_links.specs.Insert.{inserted, insert_by}
+use Rattle.half_edge_links.specs.Grow.{IsOuter, IsClosable, IsSlidable, hung, closed, slid}
+use Rattle.half_edge_links.proofs.VertexLemmas.{sound_with_vertex}
+use Rattle.half_edge_links.proofs.ConnectLemmas.{sound_connected}
+use Rattle.half_edge_links.proofs.FlipLemmas.{flips, flip_by-is}
+use Rattle.half_edge_links.proofs.FlipSound.{sound_after_flip}
+use Rattle.half_edge_links.proofs.InsertLemmas.{inserts, insert_by-is}
+use Rattle.half_edge_links.proofs.InsertSound.{sound_after_insert}
+use Rattle.half_edge_links.proofs.Hang.{hangs, sound_after_hang}
+use Rattle.half_edge_links.proofs.Close.{closes, sound_after_close}
+use Rattle.half_edge_links.proofs.Slide.{slides, sound_after_slide}
+use Rattle.half_edge_links.proofs.StarsKept.{stars_hung}
+use Rattle.half_edge_links.proofs.StarsRound.{stars_closed, stars_flipped}
+use Rattle.half_edge_links.proofs.StarsInsert.{stars_inserted}
+use Rattle.half_edge_links.proofs.StarsSlide.{stars_slid}
+use Rattle.half_edge_links.proofs.Apart.{apart_flipped, apart_hung, apart_closed, apart_slid, apart_inserted, apart_connected, stars_connected}
+
+pub valid_with_vertex : (m : Mesh) → IsValid m → length m.out_edges + 1 ≤ MAX_ELEMENTS → IsValid (with_vertex m)
+valid_with_vertex m valid room = record {
+  sound = sound_with_vertex m valid.sound;
+  apart = valid.apart;
+  stars = valid.stars;
+  small = record {
+    vertices = omega (arith, room, length-append m.out_edges (None ∷ []));
+    edges = valid.small.edges;
+    faces = valid.small.faces;
+  };
+}
+
+pub valid_connected : (m : Mesh) (a b : ℕ) → IsValid m → m.half_edges ≡ [] → a < length m.out_edges → b < length m.out_edges → a ≢ b → IsValid (connected m a b)
+valid_connected m a b valid none a_in b_in differs = record {
+  sound = sound_connected m a b valid.sound none a_in b_in;
+  apart = apart_connected m a b differs;
+  stars = stars_connected m a b differs;
+  small = record {
+    vertices = simp length-set valid.small.vertices;
+    edges = omega arith;
+    faces = valid.small.faces;
+  };
+}
+
+pub valid_flipped : (m : Mesh) (e : ℕ) → IsValid m → IsFlippable m e → origin m (prev m e) ≢ origin m (prev m (rev e)) → IsValid (flipped m e)
+valid_flipped m e valid can corners =
+    let f = flips m e valid.sound can in
+    record {
+      sound = sound_after_flip m (flipped m e) e valid.sound can f;
+      apart = apart_flipped m (flipped m e) e valid.sound can f corners valid.apart;
+      stars = stars_flipped m (flipped m e) e valid.sound can f valid.stars;
+      small = record {
+        vertices = rw f.vertex_count valid.small.vertices;
+        edges = rw f.edge_count valid.small.edges;
+        faces = rw f.face_count valid.small.faces;
+      };
+    }
+
+-- the same for the code's reads of the six edges
+pub valid_flip_by : (m : Mesh) (e t : ℕ) (edge twin edge_next edge_prev twin_next twin_prev : HalfEdge) → IsValid m → IsFlippable m e → origin m (prev m e) ≢ origin m (prev m (rev e)) → t ≡ rev e → edge ≡ edge_at m.half_edges e → twin ≡ edge_at m.half_edges t → edge_next ≡ edge_at m.half_edges edge.next → edge_prev ≡ edge_at m.half_edges edge.prev → twin_next ≡ edge_at m.half_edges twin.next → twin_prev ≡ edge_at m.half_edges twin.prev → IsValid (flip_by m e t edge twin edge_next edge_prev twin_next twin_prev)
+valid_flip_by m e t edge twin edge_next edge_prev twin_next twin_prev valid can corners at_t a b c d x y =
+    rw (flip_by-is m e t edge twin edge_next edge_prev twin_next twin_prev at_t a b c d x y) (valid_flipped m e valid can corners)
+
+pub valid_inserted : (m : Mesh) (v a : ℕ) → IsValid m → IsInnerEdge m a → IsAlone m v → length m.half_edges + 6 ≤ MAX_ELEMENTS → length m.face_edges + 3 ≤ MAX_ELEMENTS → IsValid (inserted m v a)
+valid_inserted m v a valid inner alone room faces =
+    let i = inserts m v a valid.sound inner alone in
+    record {
+      sound = sound_after_insert m (inserted m v a) v _ a _ _ valid.sound inner alone refl refl refl i;
+      apart = apart_inserted m (inserted m v a) v a valid.sound inner alone i valid.apart;
+      stars = stars_inserted m (inserted m v a) v a valid.sound inner alone i valid.stars;
+      small = record {
+        vertices = rw i.vertex_count valid.small.vertices;
+        edges = rw i.edge_count room;
+        faces = omega (arith, i.face_count, faces);
+      };
+    }
+
+-- the same for the code's reads
+pub valid_insert_by : (m : Mesh) (v f n g a : ℕ) (first second third : HalfEdge) → IsValid m → IsInnerEdge m a → IsAlone m v → length m.half_edges + 6 ≤ MAX_ELEMENTS → length m.face_edges + 3 ≤ MAX_ELEMENTS → n ≡ length m.half_edges → g ≡ length m.face_edges → first ≡ edge_at m.half_edges a → f ≡ first.face → second ≡ edge_at m.half_edges first.next → third ≡ edge_at m.half_edges first.prev → IsValid (insert_by m v f n g a first second third)
+valid_insert_by m v f n g a first second third valid inner alone room faces at_n at_g x at_f y z =
+    rw (insert_by-is m v f n g a first second third at_n at_g x at_f y z) (valid_inserted m v a valid inner alone room faces)
+
+pub valid_hung : (m : Mesh) (x v : ℕ) → IsValid m → IsOuter m x → IsAlone m v → length m.half_edges + 2 ≤ MAX_ELEMENTS → IsValid (hung m x v)
+valid_hung m x v valid outer alone room =
+    let i = hangs m x v valid.sound outer alone in
+    record {
+      sound = sound_after_hang m (hung m x v) x v valid.sound outer alone i;
+      apart = apart_hung m (hung m x v) x v valid.sound outer alone i valid.apart;
+      stars = stars_hung m (hung m x v) x v valid.sound outer alone i valid.stars;
+      small = record {
+        vertices = rw i.vertex_count valid.small.vertices;
+        edges = rw i.edge_count room;
+        faces = rw i.face_edges valid.small.faces;
+      };
+    }
+
+pub valid_closed : (m : Mesh) (e : ℕ) → IsValid m → IsClosable m e → length m.half_edges + 2 ≤ MAX_ELEMENTS → length m.face_edges + 2 ≤ MAX_ELEMENTS → IsValid (closed m e)
+valid_closed m e valid can room faces =
+    let i = closes m e valid.sound can in
+    record {
+      sound = sound_after_close m (closed m e) e valid.sound can i;
+      apart = apart_closed m (closed m e) e valid.sound can i valid.apart;
+      stars = stars_closed m (closed m e) e valid.sound can i valid.stars;
+      small = record {
+        vertices = rw i.out_edges valid.small.vertices;
+        edges = rw i.edge_count room;
+        faces = omega (arith, ap length i.face_edges, length-append m.face_edges (e ∷ []), faces);
+      };
+    }
+
+pub valid_slid : (m : Mesh) (e : ℕ) → IsValid m → IsSlidable m e → IsValid (slid m e)
+valid_slid m e valid can =
+    let i = slides m e valid.sound can in
+    record {
+      sound = sound_after_slide m (slid m e) e valid.sound can i;
+      apart = apart_slid m (slid m e) e valid.sound can i valid.stars valid.apart;
+      stars = stars_slid m (slid m e) e valid.sound can i valid.stars;
+      small = record {
+        vertices = rw i.vertex_count valid.small.vertices;
+        edges = rw i.edge_count valid.small.edges;
+        faces = rw i.face_edges valid.small.faces;
+      };
+    }
