@@ -1,0 +1,28 @@
+-- What is proved of the definitions of side and circle: that they are the usual ones.
+use Rattle.std.specs.Prelude.{◌≡◌, ◌↔◌, ℤ, pos, ◌+ℤ◌, ◌-ℤ◌, ◌*ℤ◌, ◌<ℤ◌}
+use Rattle.plane.specs.Fraction.{Point, Fraction, whole, IsSame}
+use Rattle.plane.specs.Side.{side, IsSide, TurnsLeft}
+use Rattle.plane.specs.Circle.{IsCentre, InsideCircle, OnCircle}
+
+-- the side function is the side of the plane
+abbrev pub SideIsSide : Type 0
+SideIsSide = IsSide side
+
+-- a left-turning triple of points has a centre, and no other
+abbrev pub TripleHasOneCentre : Type 0
+TripleHasOneCentre = (u v p : Point) → TurnsLeft (whole u) (whole v) (whole p) → (c : Fraction) × IsCentre (whole u) (whole v) (whole p) c × ((d : Fraction) → IsCentre (whole u) (whole v) (whole p) d → IsSame d c)
+
+-- the squared length of the way from q to p, and twice the signed area of the ways from q to u and to v
+abbrev pub squared_way : Point → Point → ℤ
+squared_way q p = (p.x -ℤ q.x) *ℤ (p.x -ℤ q.x) +ℤ (p.y -ℤ q.y) *ℤ (p.y -ℤ q.y)
+
+abbrev pub turn_at : Point → Point → Point → ℤ
+turn_at q u v = (u.x -ℤ q.x) *ℤ (v.y -ℤ q.y) -ℤ (u.y -ℤ q.y) *ℤ (v.x -ℤ q.x)
+
+-- the determinant of three rows: for each of u, v and p its way from q, x and y, and the way's squared length
+abbrev pub lifted_determinant : Point → Point → Point → Point → ℤ
+lifted_determinant u v p q = squared_way q u *ℤ turn_at q v p +ℤ squared_way q v *ℤ turn_at q p u +ℤ squared_way q p *ℤ turn_at q u v
+
+-- a point is inside the circle exactly if the determinant is positive, and carried exactly if it is 0
+abbrev pub CircleIsDeterminant : Type 0
+CircleIsDeterminant = (u v p q : Point) → TurnsLeft (whole u) (whole v) (whole p) → (InsideCircle (whole u) (whole v) (whole p) (whole q) ↔ (pos 0 <ℤ lifted_determinant u v p q)) × (OnCircle (whole u) (whole v) (whole p) (whole q) ↔ (lifted_determinant u v p q ≡ pos 0))
