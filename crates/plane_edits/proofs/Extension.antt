@@ -1,11 +1,11 @@
 -- A new vertex outside the hull: with a face on each outer edge that sees it, the mesh stays local.
-use Rattle.std.proofs.Common.{◌≡◌, ◌⊎◌, ℕ, suc, ◌<◌, List, [], ◌∷◌, refl, sym, ap, ◌∙◌, subst, arith}
+use Rattle.std.proofs.Common.{◌≡◌, ◌⊎◌, ℕ, suc, ◌<◌, List, [], ◌∷◌, ◌++◌, refl, sym, ap, ◌∙◌, subst, arith}
 use mathlib.Core.Logic.{inl, inr, ◌≢◌}
-use Rattle.std.specs.Prelude.{ℤ, pos, ◌+ℤ◌, ◌*ℤ◌, ◌≤ℤ◌, ◌<ℤ◌, neg_ℤ, Contains, AllPairs}
+use Rattle.std.specs.Prelude.{ℤ, pos, ◌+ℤ◌, ◌*ℤ◌, ◌≤ℤ◌, ◌<ℤ◌, neg_ℤ, Contains}
 use Rattle.std.proofs.lemmas.Int.{ints}
 use Rattle.plane.specs.Fraction.{Point, whole, IsPositive, WithinSegment}
 use Rattle.plane.specs.Tiling.{Face, face}
-use Rattle.plane_tiling.specs.Local.{total, around, along, IsAntisymmetric, AreBalanced, IsCorner}
+use Rattle.plane_tiling.specs.Local.{total, around, along, IsAntisymmetric}
 use Rattle.plane.proofs.IntegerOrder.{mul-pos_ℤ, mul-nonpos_of_nonneg_nonpos_ℤ, zero-mul_ℤ, lt_or_ge_ℤ, pos_of_mul-pos_ℤ}
 use Rattle.plane.proofs.Steps.{weak, negated_below, left_not_zero, left_not_below, zero_weak, not_left_of_product}
 use Rattle.plane_tiling.proofs.Totals.{Contains-head, Contains-later, Contains-cases, Contains-none}
@@ -14,21 +14,11 @@ use Rattle.plane.proofs.BracketIdentities.{bracket-turn, bracket-swap, bracket-o
 use Rattle.plane.proofs.Means.{two_weights}
 use Rattle.plane_tiling.proofs.Counting.{at, SignMesh}
 use Rattle.plane_tiling.proofs.Edges as E
-use Rattle.plane_edits.proofs.Edits.{IsFaceChange}
+use Rattle.plane_edits.specs.Change.{FacesChange, OuterChange}
+use Rattle.plane_edits.specs.Extension.{fan, steps, last_of}
+use Rattle.plane_edits.proofs.Changes.{each, each_none, IsOnce, once_none, once_cons}
+use Rattle.plane_edits.proofs.Additions.{AreTurning, IsAddition, added_kept}
 use Rattle.plane_edits.proofs.Hull as H
-
--- the faces on the edges of a path, with the corner q
-abbrev pub fan : ℕ → ℕ → List ℕ → List Face
-fan q u [] = []
-fan q u (v ∷ vs) = face u v q ∷ fan q v vs
-
-abbrev pub steps : ℕ → List ℕ → List (ℕ × ℕ)
-steps u [] = []
-steps u (v ∷ vs) = (u, v) ∷ steps v vs
-
-abbrev pub last_of : ℕ → List ℕ → ℕ
-last_of u [] = u
-last_of u (v ∷ vs) = last_of v vs
 
 fan_step : (a b c s t r e : ℤ) → s ≡ t +ℤ r +ℤ e → (a +ℤ b +ℤ c) +ℤ s ≡ ((a +ℤ t) +ℤ r) +ℤ (b +ℤ e +ℤ c)
 fan_step a b c s t r e h = omega (arith, ints)
@@ -46,17 +36,8 @@ fan_total flow anti q u (v ∷ vs) =
     fan_step (flow u v) (flow v q) (flow q u) (total (around flow) (fan q v vs)) (total (along flow) (steps v vs)) (flow (last_of v vs) q) (flow q v) (fan_total flow anti q v vs)
     ∙ fan_next (flow u v) (total (along flow) (steps v vs)) (flow (last_of v vs) q) (flow v q) (flow q u) (flow q v) (anti q v)
 
--- the outer edges of a path go, and those from its start to q and from q to its end come
-pub record IsOuterChange (q u : ℕ) (vs : List ℕ) (old new : List (ℕ × ℕ)) : Type 0 where
-  pub totals : (f : ℕ × ℕ → ℤ) → total f new +ℤ total f (steps u vs) ≡ total f old +ℤ (f (u, q) +ℤ f (q, last_of u vs))
-  pub come_start : Contains new (u, q)
-  pub come_end : Contains new (q, last_of u vs)
-  pub kept : (e : ℕ × ℕ) → Contains old e → Contains new e ⊎ Contains (steps u vs) e
-  pub from : (e : ℕ × ℕ) → Contains new e → (Contains old e × ¬ Contains (steps u vs) e) ⊎ ((e ≡ (u, q)) ⊎ (e ≡ (q, last_of u vs)))
-  pub once : AllPairs (λ d e. d ≢ e) new
-
-balanced_after : (f o f' o' fans steps last first last' first' : ℤ) → f' +ℤ pos 0 ≡ f +ℤ fans → o' +ℤ steps ≡ o +ℤ (first +ℤ last) → fans ≡ steps +ℤ last' +ℤ first' → f +ℤ o ≡ pos 0 → last' ≡ neg_ℤ last → first' ≡ neg_ℤ first → f' +ℤ o' ≡ pos 0
-balanced_after f o f' o' fans steps last first last' first' a b c d e g = omega (arith, ints)
+fans_balance : (fans steps last first last' first' : ℤ) → fans ≡ steps +ℤ last' +ℤ first' → last' ≡ neg_ℤ last → first' ≡ neg_ℤ first → fans +ℤ (first +ℤ (last +ℤ pos 0)) ≡ pos 0 +ℤ steps
+fans_balance fans steps last first last' first' a b c = omega (arith, ints)
 
 only_last : (s a b : ℤ) → s ≡ a +ℤ b → a ≡ pos 0 → s ≡ b
 only_last s a b e h = omega (arith, ints)
@@ -67,15 +48,39 @@ only_first s a b e h = omega (arith, ints)
 below_sum : (s a b : ℤ) → s ≡ a +ℤ b → a ≤ℤ pos 0 → b ≤ℤ pos 0 → s ≤ℤ pos 0
 below_sum s a b e h k = omega (arith, ints)
 
+-- ---- paths
+pub steps_snoc : (u : ℕ) (vs : List ℕ) (w : ℕ) → steps u (vs ++ w ∷ []) ≡ steps u vs ++ (last_of u vs, w) ∷ []
+steps_snoc u [] w = refl
+steps_snoc u (v ∷ vs) w = ap (λ l. (u, v) ∷ l) (steps_snoc v vs w)
+
+pub fan_snoc : (q u : ℕ) (vs : List ℕ) (w : ℕ) → fan q u (vs ++ w ∷ []) ≡ fan q u vs ++ face (last_of u vs) w q ∷ []
+fan_snoc q u [] w = refl
+fan_snoc q u (v ∷ vs) w = ap (λ l. face u v q ∷ l) (fan_snoc q v vs w)
+
+pub last_of_snoc : (u : ℕ) (vs : List ℕ) (w : ℕ) → last_of u (vs ++ w ∷ []) ≡ w
+last_of_snoc u [] w = refl
+last_of_snoc u (v ∷ vs) w = last_of_snoc v vs w
+
+-- outer edges that see the point of index n, one after another
+abbrev pub IsRun : ℕ → (ℕ → Point) → List (ℕ × ℕ) → ℕ → List ℕ → Type 0
+IsRun n p outer u [] = Unit {0}
+IsRun n p outer u (v ∷ vs) = Contains outer (u, v) × (pos 0 <ℤ bracket (at p u) (at p v) (at p n)) × IsRun n p outer v vs
+
+-- up to the start of one of its steps, and with that step
+run_up_to : (n : ℕ) (p : ℕ → Point) (outer : List (ℕ × ℕ)) (u : ℕ) (vs : List ℕ) → IsRun n p outer u vs → (s r : ℕ) → Contains (steps u vs) (s, r) → (ws : List ℕ) × IsRun n p outer u ws × (last_of u ws ≡ s) × Contains outer (s, r) × (pos 0 <ℤ bracket (at p s) (at p r) (at p n))
+run_up_to n p outer u [] run s r h = absurd (Contains-none (s, r) h)
+run_up_to n p outer u (v ∷ vs) run s r h = go (Contains-cases (u, v) (steps v vs) (s, r) h) (run_up_to n p outer v vs run.2 s r)
+  where
+    go : (◌≡◌ {A = ℕ × ℕ} (u, v) (s, r)) ⊎ Contains (steps v vs) (s, r) → (Contains (steps v vs) (s, r) → (ws : List ℕ) × IsRun n p outer v ws × (last_of v ws ≡ s) × Contains outer (s, r) × (pos 0 <ℤ bracket (at p s) (at p r) (at p n)))
+        → (ws : List ℕ) × IsRun n p outer u ws × (last_of u ws ≡ s) × Contains outer (s, r) × (pos 0 <ℤ bracket (at p s) (at p r) (at p n))
+    go (inl e) rest = ([], tt, ap (λ (x : ℕ × ℕ). x.0) e, subst (Contains outer) e run.0, subst (λ (x : ℕ × ℕ). pos 0 <ℤ bracket (at p x.0) (at p x.1) (at p n)) e run.1)
+    go (inr k) rest = let t = rest k in (v ∷ t.0, (run.0, run.1, t.1), t.2, t.3, t.4)
+
 module _ (n : ℕ) (p : ℕ → Point) (faces : List Face) (outer : List (ℕ × ℕ)) (m : SignMesh n p faces outer) where
   abbrev Sees : ℕ → ℕ → Type 0
   Sees u v = pos 0 <ℤ bracket (at p u) (at p v) (at p n)
 
-  abbrev IsRun : ℕ → List ℕ → Type 0
-  IsRun u [] = Unit {0}
-  IsRun u (v ∷ vs) = Contains outer (u, v) × Sees u v × IsRun v vs
-
-  run_as : (u : ℕ) (vs : List ℕ) → IsRun u vs → H.IsRun n p faces outer m (p n) u vs
+  run_as : (u : ℕ) (vs : List ℕ) → IsRun n p outer u vs → H.IsRun n p faces outer m (p n) u vs
   run_as u [] r = tt
   run_as u (v ∷ vs) r = (r.0, r.1, run_as v vs r.2)
 
@@ -88,7 +93,7 @@ module _ (n : ℕ) (p : ℕ → Point) (faces : List Face) (outer : List (ℕ ×
   step_of_run u (v ∷ vs) s r (inl e) = subst (Contains ((u, v) ∷ steps v vs)) (λ i. (sym e.0 i, sym e.1 i)) (Contains-head (u, v) (steps v vs))
   step_of_run u (v ∷ vs) s r (inr h) = Contains-later (u, v) (steps v vs) (s, r) (step_of_run v vs s r h)
 
-  last_step : (u v : ℕ) (vs : List ℕ) → IsRun u (v ∷ vs) → (a : ℕ) × Contains outer (a, last_of v vs) × Sees a (last_of v vs)
+  last_step : (u v : ℕ) (vs : List ℕ) → IsRun n p outer u (v ∷ vs) → (a : ℕ) × Contains outer (a, last_of v vs) × Sees a (last_of v vs)
   last_step u v [] r = (u, r.0, r.1)
   last_step u v (w ∷ vs) r = last_step v w vs r.2
 
@@ -102,7 +107,7 @@ module _ (n : ℕ) (p : ℕ → Point) (faces : List Face) (outer : List (ℕ ×
   last_index = omega arith
 
   -- each face of the fan is on a step of the run
-  fan_from : (u : ℕ) (vs : List ℕ) → IsRun u vs → (g : Face) → Contains (fan n u vs) g → (a b : ℕ) × Contains outer (a, b) × Sees a b × (g ≡ face a b n)
+  fan_from : (u : ℕ) (vs : List ℕ) → IsRun n p outer u vs → (g : Face) → Contains (fan n u vs) g → (a b : ℕ) × Contains outer (a, b) × Sees a b × (g ≡ face a b n)
   fan_from u [] r g h = absurd (Contains-none g h)
   fan_from u (v ∷ vs) r g h = go (Contains-cases (face u v n) (fan n v vs) g h) (fan_from v vs r.2 g)
     where
@@ -145,9 +150,22 @@ module _ (n : ℕ) (p : ℕ → Point) (faces : List Face) (outer : List (ℕ ×
       left_not_zero (mul-pos_ℤ t.l_allowed (subst (λ z. pos 0 <ℤ z) (bracket-turn (at p a) (at p b) (at p n) ∙ bracket-turn (at p b) (at p n) (at p a)) sees))
       (sym (only_last (t.n *ℤ bracket (at p n) (at p a) (at p n)) (t.k *ℤ bracket (at p n) (at p a) (at p n)) (t.l *ℤ bracket (at p n) (at p a) (at p b)) (E.mean_bracket IsPositive (p n) (p a) (p n) (p b) (whole (p n)) t) (zero-mul_ℤ t.k (bracket-outer (at p n) (at p a)))) ∙ zero-mul_ℤ t.n (bracket-outer (at p n) (at p a)))
 
-  module _ (t u v : ℕ) (vs : List ℕ) (w : ℕ) (before : Contains outer (t, u)) (run : IsRun u (v ∷ vs)) (after : Contains outer (last_of v vs, w))
-      (blind_before : bracket (at p t) (at p u) (at p n) ≤ℤ pos 0) (blind_after : bracket (at p (last_of v vs)) (at p w) (at p n) ≤ℤ pos 0)
-      (new : List Face) (change : IsFaceChange faces new [] (fan n u (v ∷ vs))) (outer' : List (ℕ × ℕ)) (outer_change : IsOuterChange n u (v ∷ vs) outer outer') where
+  -- a run never comes back to its start, and so has no step twice
+  pub run_open : (u v : ℕ) (vs : List ℕ) → IsRun n p outer u (v ∷ vs) → ¬ (last_of v vs ≡ u)
+  run_open u v vs run e = H.run_is_open n p faces outer m (p n) u v vs (run_as u (v ∷ vs) run) (end_is v vs ∙ e)
+
+  steps_once : (u : ℕ) (vs : List ℕ) → IsRun n p outer u vs → IsOnce (steps u vs)
+  steps_once u [] run = once_none
+  steps_once u (v ∷ vs) run = once_cons (u, v) (steps v vs) (λ h. let t = run_up_to n p outer v vs run.2 u v h in run_open u v t.0 (run.0, run.1, t.1) t.2) (steps_once v vs run.2)
+
+  steps_there : (u : ℕ) (vs : List ℕ) → IsRun n p outer u vs → (e : ℕ × ℕ) → Contains (steps u vs) e → Contains outer e
+  steps_there u vs run e h = (run_up_to n p outer u vs run e.0 e.1 h).3
+
+  module _ (t u v : ℕ) (vs : List ℕ) (w : ℕ) (before : Contains outer (t, u)) (run : IsRun n p outer u (v ∷ vs)) (after : Contains outer (last_of v vs, w))
+      (blind_before : bracket (at p t) (at p u) (at p n) ≤ℤ pos 0) (blind_after : bracket (at p (last_of v vs)) (at p w) (at p n) ≤ℤ pos 0) where
+    abbrev last : ℕ
+    last = last_of v vs
+
     first : (u < n) × (v < n) × (u ≢ v)
     first = m.ends (u, v) run.0
 
@@ -173,53 +191,8 @@ module _ (n : ℕ) (p : ℕ → Point) (faces : List Face) (outer : List (ℕ ×
     fresh : (k : ℕ) → k < n → ¬ (p k ≡ p n)
     fresh k h e = left_not_below (subst (λ q. pos 0 <ℤ bracket (at p u) (at p v) (lift q)) (sym e) run.1) (m.supporting (u, v) run.0 k h)
 
-    apart : (i j : ℕ) → (i < n) ⊎ (i ≡ n) → (j < n) ⊎ (j ≡ n) → i ≢ j → ¬ (p i ≡ p j)
-    apart i j (inl h) (inl k) a e = m.distinct i j h k a e
-    apart i j (inl h) (inr k) a e = fresh i h (e ∙ ap p k)
-    apart i j (inr h) (inl k) a e = fresh j k (sym e ∙ ap p h)
-    apart i j (inr h) (inr k) a e = a (h ∙ sym k)
-
-    abbrev Used : ℕ → Type 0
-    Used k = ((f : Face) × Contains new f × IsCorner f k) ⊎ ((e : ℕ × ℕ) × Contains outer' e × ((k ≡ e.0) ⊎ (k ≡ e.1)))
-
-    used : (k : ℕ) → (k < n) ⊎ (k ≡ n) → Used k
-    used k (inr e) = inr ((u, n), outer_change.come_start, inr e)
-    used k (inl h) = go (m.used k h)
-      where
-        of_face : (f : Face) → IsCorner f k → Contains new f ⊎ Contains [] f → Used k
-        of_face f c (inl i) = inl (f, i, c)
-        of_face f c (inr i) = absurd (Contains-none f i)
-
-        of_edge : (e : ℕ × ℕ) → (k ≡ e.0) ⊎ (k ≡ e.1) → Contains outer' e ⊎ Contains (steps u (v ∷ vs)) e → Used k
-        of_edge e c (inl i) = inr (e, i, c)
-        of_edge e (inl c) (inr i) = inl (face e.0 e.1 n, change.come (face e.0 e.1 n) (fan_at u (v ∷ vs) e i), inl c)
-        of_edge e (inr c) (inr i) = inl (face e.0 e.1 n, change.come (face e.0 e.1 n) (fan_at u (v ∷ vs) e i), inr (inl c))
-
-        go : ((f : Face) × Contains faces f × IsCorner f k) ⊎ ((e : ℕ × ℕ) × Contains outer e × ((k ≡ e.0) ⊎ (k ≡ e.1))) → Used k
-        go (inl x) = of_face x.0 x.2 (change.kept x.0 x.1)
-        go (inr x) = of_edge x.0 x.2 (outer_change.kept x.0 x.1)
-
-    corners : (g : Face) → Contains faces g ⊎ Contains (fan n u (v ∷ vs)) g → (g.a < suc n) × (g.b < suc n) × (g.c < suc n)
-    corners g (inl h) = let c = m.corners g h in (wider c.0, wider c.1, wider c.2)
-    corners g (inr h) =
-        let x = fan_from u (v ∷ vs) run g h in
-        let c = m.ends (x.0, x.1) x.2 in
-        subst (λ f. (f.a < suc n) × (f.b < suc n) × (f.c < suc n)) (sym x.4) (wider c.0, wider c.1, last_index)
-
-    turning : (g : Face) → Contains faces g ⊎ Contains (fan n u (v ∷ vs)) g → pos 0 <ℤ bracket (at p g.a) (at p g.b) (at p g.c)
-    turning g (inl h) = m.turning g h
-    turning g (inr h) = let x = fan_from u (v ∷ vs) run g h in subst (λ f. pos 0 <ℤ bracket (at p f.a) (at p f.b) (at p f.c)) (sym x.4) x.3
-
     not_last : (k : ℕ) → k < n → k ≢ n
     not_last k h e = omega arith
-
-    abbrev From : ℕ × ℕ → Type 0
-    From e = (Contains outer e × ¬ Contains (steps u (v ∷ vs)) e) ⊎ ((e ≡ (u, n)) ⊎ (e ≡ (n, last_of v vs)))
-
-    ends : (e : ℕ × ℕ) → From e → (e.0 < suc n) × (e.1 < suc n) × (e.0 ≢ e.1)
-    ends e (inl h) = let c = m.ends e h.0 in (wider c.0, wider c.1, c.2)
-    ends e (inr (inl s)) = subst (λ e. (e.0 < suc n) × (e.1 < suc n) × (e.0 ≢ e.1)) (sym s) (wider first.0, last_index, not_last u first.0)
-    ends e (inr (inr s)) = subst (λ e. (e.0 < suc n) × (e.1 < suc n) × (e.0 ≢ e.1)) (sym s) (last_index, wider final_index, λ x. not_last (last_of v vs) final_index (sym x))
 
     unseen : (e : ℕ × ℕ) → Contains outer e → ¬ Contains (steps u (v ∷ vs)) e → bracket (at p e.0) (at p e.1) (at p n) ≤ℤ pos 0
     unseen e h away = go (lt_or_ge_ℤ (pos 0) (bracket (at p e.0) (at p e.1) (at p n)))
@@ -227,14 +200,6 @@ module _ (n : ℕ) (p : ℕ → Point) (faces : List Face) (outer : List (ℕ ×
         go : Sees e.0 e.1 ⊎ (bracket (at p e.0) (at p e.1) (at p n) ≤ℤ pos 0) → bracket (at p e.0) (at p e.1) (at p n) ≤ℤ pos 0
         go (inl s) = absurd (away (seen_is_step e h s))
         go (inr s) = s
-
-    supporting : (e : ℕ × ℕ) → From e → (k : ℕ) → (k < n) ⊎ (k ≡ n) → bracket (at p e.0) (at p e.1) (at p k) ≤ℤ pos 0
-    supporting e (inl h) k (inl l) = m.supporting e h.0 k l
-    supporting e (inl h) k (inr l) = subst (λ i. bracket (at p e.0) (at p e.1) (at p i) ≤ℤ pos 0) (sym l) (unseen e h.0 h.1)
-    supporting e (inr (inl s)) k (inl l) = subst (λ e. bracket (at p e.0) (at p e.1) (at p k) ≤ℤ pos 0) (sym s) (starts k l)
-    supporting e (inr (inl s)) k (inr l) = subst (λ e. bracket (at p e.0) (at p e.1) (at p k) ≤ℤ pos 0) (sym s) (zero_weak (ap (λ i. bracket (at p u) (at p n) (at p i)) l ∙ bracket-last (at p u) (at p n)))
-    supporting e (inr (inr s)) k (inl l) = subst (λ e. bracket (at p e.0) (at p e.1) (at p k) ≤ℤ pos 0) (sym s) (finish k l)
-    supporting e (inr (inr s)) k (inr l) = subst (λ e. bracket (at p e.0) (at p e.1) (at p k) ≤ℤ pos 0) (sym s) (zero_weak (ap (λ i. bracket (at p n) (at p (last_of v vs)) (at p i)) l ∙ bracket-outer (at p n) (at p (last_of v vs))))
 
     -- n is strictly within no old segment: it would be left of none that sees it
     n_outside : (e : ℕ × ℕ) → Contains outer e → ¬ WithinSegment (whole (p e.0)) (whole (p e.1)) (whole (p n))
@@ -244,32 +209,65 @@ module _ (n : ℕ) (p : ℕ → Point) (faces : List Face) (outer : List (ℕ ×
         left_not_below run.1 (not_left_of_product t'.positive (below_sum (t'.n *ℤ bracket (at p u) (at p v) (at p n)) (t'.k *ℤ bracket (at p u) (at p v) (at p e.0)) (t'.l *ℤ bracket (at p u) (at p v) (at p e.1)) (E.mean_bracket IsPositive (p u) (p v) (p e.0) (p e.1) (whole (p n)) t')
         (mul-nonpos_of_nonneg_nonpos_ℤ (weak t'.k_allowed) (m.supporting (u, v) run.0 e.0 c.0)) (mul-nonpos_of_nonneg_nonpos_ℤ (weak t'.l_allowed) (m.supporting (u, v) run.0 e.1 c.1))))
 
-    abbrev Within : ℕ × ℕ → ℕ → Type 0
-    Within e k = WithinSegment (whole (p e.0)) (whole (p e.1)) (whole (p k))
+    abbrev come : List (ℕ × ℕ)
+    come = (u, n) ∷ (n, last) ∷ []
 
-    bare : (e : ℕ × ℕ) → From e → (k : ℕ) → (k < n) ⊎ (k ≡ n) → ¬ Within e k
-    bare e (inl h) k (inl l) x = m.bare e h.0 k l x
-    bare e (inl h) k (inr l) x = n_outside e h.0 (subst (Within e) l x)
-    bare e (inr (inl s)) k (inl l) x = start_bare u v run.0 run.1 k l (subst (λ d. Within d k) s x)
-    bare e (inr (inl s)) k (inr l) x = not_own_end u v n run.1 (subst (Within (u, n)) l (subst (λ d. Within d k) s x))
-    bare e (inr (inr s)) k (inl l) x = end_bare final.0 (last_of v vs) final.1 final.2 k l (subst (λ d. Within d k) s x)
-    bare e (inr (inr s)) k (inr l) x = not_own_end' final.0 (last_of v vs) final.2 (subst (Within (n, last_of v vs)) l (subst (λ d. Within d k) s x))
+    abbrev Turning : Face → Type 0
+    Turning f = AreTurning (suc n) p f.a f.b f.c
 
-    balanced : AreBalanced new outer'
-    balanced flow anti = balanced_after (total (around flow) faces) (total (along flow) outer) (total (around flow) new) (total (along flow) outer') (total (around flow) (fan n u (v ∷ vs))) (total (along flow) (steps u (v ∷ vs))) (flow n (last_of v vs)) (flow u n) (flow (last_of v vs) n) (flow n u)
-        (change.totals (around flow)) (outer_change.totals (along flow)) (fan_total flow anti n u (v ∷ vs)) (m.balanced flow anti) (anti (last_of v vs) n) (anti n u)
+    abbrev Ends : ℕ × ℕ → Type 0
+    Ends e = (e.0 < suc n) × (e.1 < suc n) × (e.0 ≢ e.1)
 
-    -- the extended mesh is local
-    pub extended : SignMesh (suc n) p new outer'
-    extended = record {
-      distinct = λ i j h k a. apart i j (below_or_last i h) (below_or_last j k) a;
-      some_face = (face u v n, change.come (face u v n) (Contains-head (face u v n) (fan n v vs)));
-      used = λ k h. used k (below_or_last k h);
-      corners = λ g h. corners g (change.from g h);
-      turning = λ g h. turning g (change.from g h);
-      ends = λ e h. ends e (outer_change.from e h);
-      supporting = λ e h k l. supporting e (outer_change.from e h) k (below_or_last k l);
-      bare = λ e h k l. bare e (outer_change.from e h) k (below_or_last k l);
-      once = outer_change.once;
-      balanced = balanced;
-    }
+    abbrev Supports : ℕ × ℕ → Type 0
+    Supports e = (k : ℕ) → (k < n) ⊎ (k ≡ n) → bracket (at p e.0) (at p e.1) (at p k) ≤ℤ pos 0
+
+    abbrev Bare : ℕ × ℕ → Type 0
+    Bare e = (k : ℕ) → (k < n) ⊎ (k ≡ n) → ¬ WithinSegment (whole (p e.0)) (whole (p e.1)) (whole (p k))
+
+    abbrev AtLast : ℕ × ℕ → Type 0
+    AtLast e = (e.0 ≡ n) ⊎ (e.1 ≡ n)
+
+    turning : (g : Face) → Contains (fan n u (v ∷ vs)) g → Turning g
+    turning g h = let x = fan_from u (v ∷ vs) run g h in let c = m.ends (x.0, x.1) x.2 in subst Turning (sym x.4) (wider c.0, wider c.1, last_index, x.3)
+
+    first_supports : Supports (u, n)
+    first_supports k (inl l) = starts k l
+    first_supports k (inr l) = zero_weak (ap (λ i. bracket (at p u) (at p n) (at p i)) l ∙ bracket-last (at p u) (at p n))
+
+    second_supports : Supports (n, last)
+    second_supports k (inl l) = finish k l
+    second_supports k (inr l) = zero_weak (ap (λ i. bracket (at p n) (at p last) (at p i)) l ∙ bracket-outer (at p n) (at p last))
+
+    first_bare : Bare (u, n)
+    first_bare k (inl l) x = start_bare u v run.0 run.1 k l x
+    first_bare k (inr l) x = not_own_end u v n run.1 (subst (λ i. WithinSegment (whole (p u)) (whole (p n)) (whole (p i))) l x)
+
+    second_bare : Bare (n, last)
+    second_bare k (inl l) x = end_bare final.0 last final.1 final.2 k l x
+    second_bare k (inr l) x = not_own_end' final.0 last final.2 (subst (λ i. WithinSegment (whole (p n)) (whole (p last)) (whole (p i))) l x)
+
+    module _ (new : List Face) (faces_change : FacesChange faces new [] (fan n u (v ∷ vs))) (outer' : List (ℕ × ℕ)) (outer_change : OuterChange outer outer' (steps u (v ∷ vs)) ((u, n) ∷ (n, last_of v vs) ∷ [])) where
+      extension : IsAddition n p faces new outer outer' m [] (fan n u (v ∷ vs)) (steps u (v ∷ vs)) come
+      extension = record {
+        faces_change = faces_change;
+        outer_change = outer_change;
+        fresh = fresh;
+        some = (u, v, inr (inl (Contains-head (face u v n) (fan n v vs))));
+        corner_kept = λ k i j h. absurd (elim h [ inl x ↦ Contains-none (face k i j) x | inr x ↦ elim x [ inl y ↦ Contains-none (face i j k) y | inr y ↦ Contains-none (face j k i) y ] ]);
+        turning = turning;
+        right = unseen;
+        off = λ e h _. n_outside e h;
+        ends = each Ends (u, n) ((n, last) ∷ []) (wider first.0, last_index, not_last u first.0) (each Ends (n, last) [] (last_index, wider final_index, λ x. not_last last final_index (sym x)) (each_none Ends));
+        supporting = each Supports (u, n) ((n, last) ∷ []) first_supports (each Supports (n, last) [] second_supports (each_none Supports));
+        bare = each Bare (u, n) ((n, last) ∷ []) first_bare (each Bare (n, last) [] second_bare (each_none Bare));
+        left_there = steps_there u (v ∷ vs) run;
+        left_once = steps_once u (v ∷ vs) run;
+        come_once = once_cons (u, n) ((n, last) ∷ []) (λ h. elim (Contains-cases (n, last) [] (u, n) h) [ inl e ↦ not_last u first.0 (sym (ap (λ (x : ℕ × ℕ). x.0) e)) | inr k ↦ Contains-none (u, n) k ])
+            (once_cons (n, last) [] (λ h. Contains-none (n, last) h) once_none);
+        come_at = each AtLast (u, n) ((n, last) ∷ []) (inr refl) (each AtLast (n, last) [] (inl refl) (each_none AtLast));
+        same = λ flow anti. fans_balance (total (around flow) (fan n u (v ∷ vs))) (total (along flow) (steps u (v ∷ vs))) (flow n last) (flow u n) (flow last n) (flow n u) (fan_total flow anti n u (v ∷ vs)) (anti last n) (anti n u);
+      }
+
+      -- the extended mesh is local
+      pub extended : SignMesh (suc n) p new outer'
+      extended = added_kept n p faces new outer outer' m [] (fan n u (v ∷ vs)) (steps u (v ∷ vs)) come extension

@@ -1,7 +1,11 @@
-pub mod Edits
+pub mod Changes
+pub mod Additions
+pub mod Insertions
+pub mod Flips
 pub mod Hull
 pub mod Extension
-pub mod HullSplit
 pub mod Legal
+pub mod Kept
+pub mod Growing
 pub mod Star
 pub mod Heights

@@ -1,0 +1,3 @@
+pub mod Change
+pub mod Extension
+pub mod Laws

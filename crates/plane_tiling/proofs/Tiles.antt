@@ -24,7 +24,7 @@ use Rattle.plane_tiling.proofs.Covering as C
 abbrev pub point_at : List Point → ℕ → Point
 point_at points i = get_or points i (record { x = pos 0; y = pos 0 })
 
-bracket_not_left : (a b c : Fraction) → ¬ TurnsLeft a b c → bracket (vec a) (vec b) (vec c) ≤ℤ pos 0
+pub bracket_not_left : (a b c : Fraction) → ¬ TurnsLeft a b c → bracket (vec a) (vec b) (vec c) ≤ℤ pos 0
 bracket_not_left a b c n = go (lt_or_ge_ℤ (pos 0) (bracket (vec a) (vec b) (vec c)))
   where
     go : (pos 0 <ℤ bracket (vec a) (vec b) (vec c)) ⊎ (bracket (vec a) (vec b) (vec c) ≤ℤ pos 0) → bracket (vec a) (vec b) (vec c) ≤ℤ pos 0
@@ -94,13 +94,13 @@ hull_not_left u v points q h below =
     not_left_of_product h.positive (subst (λ z. z ≤ℤ pos 0) (sym (bracket_by_parts u v h.scale q.x q.y q.w s.x s.y s.w h.x h.y h.w)) (sum_not_left u v h.weights points h.allowed below))
 
 -- ---- triangles
-inside_signs : (a b c q : Fraction) → TurnsLeft a b c → InsideTriangle a b c q → Inside (vec a) (vec b) (vec c) (vec q)
+pub inside_signs : (a b c q : Fraction) → TurnsLeft a b c → InsideTriangle a b c q → Inside (vec a) (vec b) (vec c) (vec q)
 inside_signs a b c q turns h = let s = (inside_is_brackets a b c q (if_left a b c turns)).0 h in record { first = s.0; second = s.1; third = s.2 }
 
-in_signs : (a b c q : Fraction) → TurnsLeft a b c → InTriangle a b c q → (pos 0 ≤ℤ bracket (vec a) (vec b) (vec q)) × (pos 0 ≤ℤ bracket (vec b) (vec c) (vec q)) × (pos 0 ≤ℤ bracket (vec c) (vec a) (vec q))
+pub in_signs : (a b c q : Fraction) → TurnsLeft a b c → InTriangle a b c q → (pos 0 ≤ℤ bracket (vec a) (vec b) (vec q)) × (pos 0 ≤ℤ bracket (vec b) (vec c) (vec q)) × (pos 0 ≤ℤ bracket (vec c) (vec a) (vec q))
 in_signs a b c q turns h = (in_is_brackets a b c q (if_left a b c turns)).0 h
 
-signs_in : (a b c q : Fraction) → TurnsLeft a b c → pos 0 ≤ℤ bracket (vec a) (vec b) (vec q) → pos 0 ≤ℤ bracket (vec b) (vec c) (vec q) → pos 0 ≤ℤ bracket (vec c) (vec a) (vec q) → InTriangle a b c q
+pub signs_in : (a b c q : Fraction) → TurnsLeft a b c → pos 0 ≤ℤ bracket (vec a) (vec b) (vec q) → pos 0 ≤ℤ bracket (vec b) (vec c) (vec q) → pos 0 ≤ℤ bracket (vec c) (vec a) (vec q) → InTriangle a b c q
 signs_in a b c q turns h k l = (in_is_brackets a b c q (if_left a b c turns)).1 (h, k, l)
 
 point_of_index : (points : List Point) (q : Point) → Contains points q → (i : ℕ) × (i < length points) × (point_at points i ≡ q)

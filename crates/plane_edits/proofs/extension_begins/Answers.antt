@@ -1,0 +1,5 @@
+use Rattle.plane_edits.proofs.Growing as Growing
+use Rattle.plane_edits.proofs.extension_begins.Goals as goal
+
+pub returns : goal.returns
+returns c = Growing.extension_begins

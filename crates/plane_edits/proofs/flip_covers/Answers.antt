@@ -1,0 +1,5 @@
+use Rattle.plane_edits.proofs.Kept as Kept
+use Rattle.plane_edits.proofs.flip_covers.Goals as goal
+
+pub returns : goal.returns
+returns c = Kept.flip_covers

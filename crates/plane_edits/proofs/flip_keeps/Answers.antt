@@ -1,0 +1,5 @@
+use Rattle.plane_edits.proofs.Kept.{flip_kept}
+use Rattle.plane_edits.proofs.flip_keeps.Goals as goal
+
+pub returns : goal.returns
+returns c = flip_kept
