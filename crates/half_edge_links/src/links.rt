@@ -67,6 +67,7 @@ impl Links {
         requires { h < length self.now.mesh.half_edges }
         ensures value { result ≡ edge_at self.now.mesh.half_edges h }
         ensures sound { IsSound self.now.mesh }
+        ensures valid { IsValid self.now.mesh }
     {
         self.half_edges[h as usize]
     }
@@ -102,14 +103,24 @@ impl Links {
         requires { IsInner self.now.mesh f }
         ensures value { result ≡ face_edge self.now.mesh f }
         ensures sound { IsSound self.now.mesh }
+        ensures valid { IsValid self.now.mesh }
     {
         self.face_edges[f as usize - 1]
     }
 
     pub fn out_edge(&self, v: u32) -> Option<u32>
         requires { v < length self.now.mesh.out_edges }
-        ensures { result ≡ out_edge self.now.mesh v }
+        ensures value { result ≡ out_edge self.now.mesh v }
+        ensures valid { IsValid self.now.mesh }
     {
         self.out_edges[v as usize]
+    }
+
+    /// An edge with the outer face on its left, if there is an edge.
+    pub fn outer_edge(&self) -> Option<u32>
+        ensures value { result ≡ self.now.mesh.outer_edge }
+        ensures valid { IsValid self.now.mesh }
+    {
+        self.outer_edge
     }
 }

@@ -1,3 +1,4 @@
 pub mod Fits
 pub mod EdgeLists
 pub mod Outlines
+pub mod Ranges

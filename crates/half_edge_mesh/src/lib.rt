@@ -2,14 +2,21 @@
 #![tactic(auto)]
 
 mod dcel;
+mod edge;
+mod face;
 mod growth;
 mod handles;
 mod line;
+mod lookup;
 mod outside;
 mod room;
+mod vertex;
 
 pub use dcel::Dcel;
+pub use edge::{DirectedEdgeHandle, UndirectedEdgeHandle};
+pub use face::FaceHandle;
 pub use half_edge_links::{MAX_ELEMENTS, ReserveError, are_few_enough};
 pub use handles::{
     FixedDirectedEdgeHandle, FixedFaceHandle, FixedUndirectedEdgeHandle, FixedVertexHandle,
 };
+pub use vertex::VertexHandle;
