@@ -7,13 +7,14 @@ use mathlib.Core.Logic.{◌⊎◌, inl, inr}
 use mathlib.Core.List.{[], ◌∷◌}
 use native.Mathlib.Omega.{arith}
 use borrow.Author.Differences.{ints}
+use Rattle.plane.proofs.Steps.{weak, weak_right, left_not_zero, right_not_above, product_zero_left, not_right_strict}
 use Rattle.plane.proofs.IntegerLaws.{neg-mul_ℤ, mul-neg_ℤ}
 use Rattle.plane.proofs.Solver.{num, ◌⊕◌, ◌⊖◌, ◌⊗◌, ⊝, ring_in, ring_in_from}
 use Rattle.plane.proofs.IntegerOrder.{mul-pos_ℤ, mul-nonneg_ℤ, lt_or_ge_ℤ, sign, below, none, above}
 use Rattle.plane_delaunay.proofs.Bracket.{bracket, cramer, cramer-w}
-use Rattle.plane_delaunay.proofs.Tally.{nudge, bracket-nudge, Closed, at_least}
+use Rattle.plane_delaunay.proofs.Tally.{nudge, bracket-nudge, Closed}
 use Rattle.plane_delaunay.proofs.Faces.{Tiling, Between, between-on, between-closed, side_not_inside, none_within, StartsFrom, Germ, germ, germ-turned, germ-closed, corner_2}
-use Rattle.plane_delaunay.proofs.Across.{none_left, one_right, level, IsClear, sides_same}
+use Rattle.plane_delaunay.proofs.Across.{one_right, IsClear, sides_same}
 use Rattle.plane.specs.Fraction.{Fraction}
 
 -- ---- numbers
@@ -24,16 +25,10 @@ corner_sum d x p u r v q w n k a l b e₁ e₂ e₃ e₄ = ring_in_from (d ∷ x
     (e₁, (e₂, (e₃, (e₄, tt)))) tt
 
 above_weight : (d x p u r v q w : ℤ) → d *ℤ x ≡ p *ℤ u +ℤ r *ℤ v +ℤ q *ℤ w → p ≡ pos 0 → q ≡ pos 0 → v ≡ pos 1 → pos 0 <ℤ d → pos 0 <ℤ x → pos 0 <ℤ r
-above_weight d x p u r v q w e i j o h k = let a = none_left p u i in let b = none_left q w j in let c = one_right r v o in let f = mul-pos_ℤ {a = d} {b = x} h k in omega (arith, ints)
+above_weight d x p u r v q w e i j o h k = let a = product_zero_left u i in let b = product_zero_left w j in let c = one_right r v o in let f = mul-pos_ℤ {a = d} {b = x} h k in omega (arith, ints)
 
 one_each : (t x y : ℤ) → t ≡ pos 1 *ℤ x +ℤ y → pos 1 *ℤ t ≡ pos 1 *ℤ x +ℤ pos 1 *ℤ y
 one_each t x y e = omega (arith, ints)
-
-pub above_of_least : (z : ℤ) → pos 0 ≤ℤ z → ¬ (z ≡ pos 0) → pos 0 <ℤ z
-above_of_least z h n = elim (sign z) [ below s ↦ absurd (crossed s h) | none s ↦ absurd (n s) | above s ↦ s ]
-  where
-    crossed : z <ℤ pos 0 → pos 0 ≤ℤ z → ⊥
-    crossed s h = omega (arith, ints)
 
 -- halfway between two points
 pub halfway : Fraction → Fraction → Fraction
@@ -77,9 +72,6 @@ no_round' t₁ t₂ t₃ d₁ d₂ d₃ h₁ h₂ h₃ e k₁ k₂ k₃ =
     let r = mul-pos_ℤ {a = neg_ℤ t₂} {b = neg_ℤ d₃} (omega (arith, ints)) (omega (arith, ints)) in
     omega (arith, ints, neg-mul_ℤ t₃ (neg_ℤ d₁), neg-mul_ℤ t₁ (neg_ℤ d₂), neg-mul_ℤ t₂ (neg_ℤ d₃), mul-neg_ℤ t₃ d₁, mul-neg_ℤ t₁ d₂, mul-neg_ℤ t₂ d₃)
 
-less_least : {z : ℤ} → z <ℤ pos 0 → z ≤ℤ pos 0
-less_least h = omega (arith, ints)
-
 pub exit : (s₁ t₁ s₂ t₂ s₃ t₃ : ℤ) → pos 0 ≤ℤ s₁ → pos 0 ≤ℤ s₂ → pos 0 ≤ℤ s₃ → Exit s₁ t₁ s₂ t₂ s₃ t₃
 exit s₁ t₁ s₂ t₂ s₃ t₃ h₁ h₂ h₃ = go (lt_or_ge_ℤ t₁ (pos 0)) (lt_or_ge_ℤ t₂ (pos 0)) (lt_or_ge_ℤ t₃ (pos 0))
   where
@@ -88,14 +80,14 @@ exit s₁ t₁ s₂ t₂ s₃ t₃ h₁ h₂ h₃ = go (lt_or_ge_ℤ t₁ (pos 0
         → ((s₂ *ℤ t₃ -ℤ t₂ *ℤ s₃) <ℤ pos 0) ⊎ (pos 0 ≤ℤ (s₂ *ℤ t₃ -ℤ t₂ *ℤ s₃)) → ((s₃ *ℤ t₁ -ℤ t₃ *ℤ s₁) <ℤ pos 0) ⊎ (pos 0 ≤ℤ (s₃ *ℤ t₁ -ℤ t₃ *ℤ s₁))
         → Exit s₁ t₁ s₂ t₂ s₃ t₃
     three k₁ k₂ k₃ (inr a) b (inl c) d e = by_first k₁ a (turned_way s₃ t₃ s₁ t₁ c)
-    three k₁ k₂ k₃ (inr a) (inl b) (inr c) d e = by_third k₃ (at_least c) (turned_way s₂ t₂ s₃ t₃ b)
+    three k₁ k₂ k₃ (inr a) (inl b) (inr c) d e = by_third k₃ (weak c) (turned_way s₂ t₂ s₃ t₃ b)
     three k₁ k₂ k₃ (inr a) (inr b) (inr c) d e = absurd (no_round t₁ t₂ t₃ _ _ _ k₁ k₂ k₃ (round_way s₁ t₁ s₂ t₂ s₃ t₃) a b c)
-    three k₁ k₂ k₃ (inl a) b c (inr d) e = by_second k₂ d (turned_way s₁ t₁ s₂ t₂ (less_least a))
-    three k₁ k₂ k₃ (inl a) b c (inl d) (inr e) = by_third k₃ e (turned_way s₂ t₂ s₃ t₃ (less_least d))
+    three k₁ k₂ k₃ (inl a) b c (inr d) e = by_second k₂ d (turned_way s₁ t₁ s₂ t₂ (weak_right a))
+    three k₁ k₂ k₃ (inl a) b c (inl d) (inr e) = by_third k₃ e (turned_way s₂ t₂ s₃ t₃ (weak_right d))
     three k₁ k₂ k₃ (inl a) b c (inl d) (inl e) = absurd (no_round' t₁ t₂ t₃ _ _ _ k₁ k₂ k₃ (round_way s₁ t₁ s₂ t₂ s₃ t₃) a d e)
 
     weakly : (z : ℤ) → (z ≤ℤ pos 0) ⊎ (pos 0 <ℤ z)
-    weakly z = elim (sign z) [ below s ↦ inl (less_least s) | none s ↦ inl (omega (arith, ints)) | above s ↦ inr s ]
+    weakly z = elim (sign z) [ below s ↦ inl (weak_right s) | none s ↦ inl (omega (arith, ints)) | above s ↦ inr s ]
 
     go : (t₁ <ℤ pos 0) ⊎ (pos 0 ≤ℤ t₁) → (t₂ <ℤ pos 0) ⊎ (pos 0 ≤ℤ t₂) → (t₃ <ℤ pos 0) ⊎ (pos 0 ≤ℤ t₃) → Exit s₁ t₁ s₂ t₂ s₃ t₃
     go (inr a) (inr b) (inr c) = stays a b c
@@ -106,17 +98,17 @@ exit s₁ t₁ s₂ t₂ s₃ t₃ h₁ h₂ h₃ = go (lt_or_ge_ℤ t₁ (pos 0
       where
         two : ((s₁ *ℤ t₂ -ℤ t₁ *ℤ s₂) <ℤ pos 0) ⊎ (pos 0 ≤ℤ (s₁ *ℤ t₂ -ℤ t₁ *ℤ s₂)) → Exit s₁ t₁ s₂ t₂ s₃ t₃
         two (inr d) = by_first a d (ahead s₁ t₁ s₃ t₃ h₁ a h₃ c)
-        two (inl d) = by_second b (ahead s₂ t₂ s₃ t₃ h₂ b h₃ c) (turned_way s₁ t₁ s₂ t₂ (less_least d))
+        two (inl d) = by_second b (ahead s₂ t₂ s₃ t₃ h₂ b h₃ c) (turned_way s₁ t₁ s₂ t₂ (weak_right d))
     go (inr a) (inl b) (inl c) = two (lt_or_ge_ℤ (s₂ *ℤ t₃ -ℤ t₂ *ℤ s₃) (pos 0))
       where
         two : ((s₂ *ℤ t₃ -ℤ t₂ *ℤ s₃) <ℤ pos 0) ⊎ (pos 0 ≤ℤ (s₂ *ℤ t₃ -ℤ t₂ *ℤ s₃)) → Exit s₁ t₁ s₂ t₂ s₃ t₃
         two (inr d) = by_second b d (ahead s₂ t₂ s₁ t₁ h₂ b h₁ a)
-        two (inl d) = by_third c (ahead s₃ t₃ s₁ t₁ h₃ c h₁ a) (turned_way s₂ t₂ s₃ t₃ (less_least d))
+        two (inl d) = by_third c (ahead s₃ t₃ s₁ t₁ h₃ c h₁ a) (turned_way s₂ t₂ s₃ t₃ (weak_right d))
     go (inl a) (inr b) (inl c) = two (lt_or_ge_ℤ (s₃ *ℤ t₁ -ℤ t₃ *ℤ s₁) (pos 0))
       where
         two : ((s₃ *ℤ t₁ -ℤ t₃ *ℤ s₁) <ℤ pos 0) ⊎ (pos 0 ≤ℤ (s₃ *ℤ t₁ -ℤ t₃ *ℤ s₁)) → Exit s₁ t₁ s₂ t₂ s₃ t₃
         two (inr d) = by_third c d (ahead s₃ t₃ s₂ t₂ h₃ c h₂ b)
-        two (inl d) = by_first a (ahead s₁ t₁ s₂ t₂ h₁ a h₂ b) (turned_way s₃ t₃ s₁ t₁ (less_least d))
+        two (inl d) = by_first a (ahead s₁ t₁ s₂ t₂ h₁ a h₂ b) (turned_way s₃ t₃ s₁ t₁ (weak_right d))
     go (inl a) (inl b) (inl c) = three a b c (lt_or_ge_ℤ (s₁ *ℤ t₂ -ℤ t₁ *ℤ s₂) (pos 0)) (weakly (s₂ *ℤ t₃ -ℤ t₂ *ℤ s₃)) (weakly (s₃ *ℤ t₁ -ℤ t₃ *ℤ s₁)) (lt_or_ge_ℤ (s₂ *ℤ t₃ -ℤ t₂ *ℤ s₃) (pos 0)) (lt_or_ge_ℤ (s₃ *ℤ t₁ -ℤ t₃ *ℤ s₁) (pos 0))
 
 module _ (T : Tiling) where
@@ -147,16 +139,12 @@ module _ (T : Tiling) where
       same_way u v w s z e₁ e₂ = from s.starts
         where
           from : (pos 0 <ℤ bracket (at u) (at v) x) ⊎ ((bracket (at u) (at v) x ≡ pos 0) × (pos 0 ≤ℤ bracket (at u) (at v) (at d))) → ⊥
-          from (inl h) = level _ z h
-          from (inr h) = not_right (bracket (at a) (at b) (at d)) right (subst₂ (λ i j. pos 0 ≤ℤ bracket (at i) (at j) (at d)) e₁ e₂ h.1)
-            where
-              not_right : (z : ℤ) → z <ℤ pos 0 → pos 0 ≤ℤ z → ⊥
-              not_right z h k = omega (arith, ints)
-
+          from (inl h) = left_not_zero h z
+          from (inr h) = right_not_above right (subst₂ (λ i j. pos 0 ≤ℤ bracket (at i) (at j) (at d)) e₁ e₂ h.1)
       found : (u v w : ℕ) → IsFace u v w → Germ T x (at d) u v w → bracket (at u) (at v) x ≡ pos 0 → (e : ℕ) × IsFace b a e
       found u v w h s z = pick (sides_same T a b c u v w x f h m z
-          (above_of_least _ closed.second (not_second a b u v w x clear h m z))
-          (above_of_least _ closed.third (λ y. not_second a b w u v x clear (T.turned v w u (T.turned u v w h)) m y z)))
+          (not_right_strict closed.second (not_second a b u v w x clear h m z))
+          (not_right_strict closed.third (λ y. not_second a b w u v x clear (T.turned v w u (T.turned u v w h)) m y z)))
         where
           closed : Closed (at u) (at v) (at w) x
           closed = germ-closed T x (at d) u v w s
@@ -169,18 +157,9 @@ module _ (T : Tiling) where
       go u v w h s (none z) q r = found u v w h s z
       go u v w h s p (none z) r = found v w u (T.turned u v w h) (germ-turned T x (at d) u v w s) z
       go u v w h s p q (none z) = found w u v (T.turned v w u (T.turned u v w h)) (germ-turned T x (at d) v w u (germ-turned T x (at d) u v w s)) z
-      go u v w h s (below p) q r = absurd (crossed p (germ-closed T x (at d) u v w s).first)
-        where
-          crossed : {z : ℤ} → z <ℤ pos 0 → pos 0 ≤ℤ z → ⊥
-          crossed s h = omega (arith, ints)
-      go u v w h s p (below q) r = absurd (crossed q (germ-closed T x (at d) u v w s).second)
-        where
-          crossed : {z : ℤ} → z <ℤ pos 0 → pos 0 ≤ℤ z → ⊥
-          crossed s h = omega (arith, ints)
-      go u v w h s p q (below r) = absurd (crossed r (germ-closed T x (at d) u v w s).third)
-        where
-          crossed : {z : ℤ} → z <ℤ pos 0 → pos 0 ≤ℤ z → ⊥
-          crossed s h = omega (arith, ints)
+      go u v w h s (below p) q r = absurd (right_not_above p (germ-closed T x (at d) u v w s).first)
+      go u v w h s p (below q) r = absurd (right_not_above q (germ-closed T x (at d) u v w s).second)
+      go u v w h s p q (below r) = absurd (right_not_above r (germ-closed T x (at d) u v w s).third)
       go u v w h s (above p) (above q) (above r) = absurd (side_not_inside T a b c u v w f h x (between-closed (at a) (at b) (at c) x m (T.turns a b c f)) (between-on (at a) (at b) x m) (record { first = p; second = q; third = r }))
 
   -- a vertex on the right of a side: the side has a face on its right

@@ -2,11 +2,11 @@
 use Rattle.std.proofs.Common.{◌≡◌, ℕ, suc, ◌+◌, arith, ap, sym, ◌∙◌, subst}
 use mathlib.Core.Logic.{◌⊎◌, inl, inr}
 use Rattle.std.specs.Prelude.{◌≢◌, pos, ◌<ℤ◌, ◌≤ℤ◌, map}
+use Rattle.plane.proofs.Steps.{weak, left_not_zero}
 use Rattle.plane.proofs.Sides.{if_right, not_right_if}
 use Rattle.plane_delaunay.proofs.Bracket.{bracket, bracket-first, bracket-second}
-use Rattle.plane_delaunay.proofs.Tally.{Inside, size, nudge, nudge-above, nudge-least, nudge-on, at_least}
+use Rattle.plane_delaunay.proofs.Tally.{Inside, size, nudge, nudge-above, nudge-least, nudge-on}
 use Rattle.plane_delaunay.proofs.Faces.{Tiling, IsTurned, Between, between-on, between-second, between-third, middle, middle-inside, Germ, StartsFrom, germ, germ-turned, germ-closed, turned-above}
-use Rattle.plane_delaunay.proofs.Across.{level}
 use Rattle.plane_delaunay.proofs.Beyond.{halfway, between-halfway, face_across}
 use Rattle.plane_delaunay.proofs.Ground.{tiling}
 use Rattle.plane.specs.Fraction.{Fraction, whole, InHull}
@@ -28,7 +28,7 @@ module _ (T : Tiling) where
   from_germ v z i j s e = go s.starts
     where
       go : (pos 0 <ℤ bracket (at i) (at j) (at v)) ⊎ ((bracket (at i) (at j) (at v) ≡ pos 0) × (pos 0 ≤ℤ bracket (at i) (at j) z)) → pos 0 ≤ℤ bracket (at i) (at j) z
-      go (inl h) = absurd (level _ e h)
+      go (inl h) = absurd (left_not_zero h e)
       go (inr h) = h.1
 
   at_corner : (v : ℕ) (z : Fraction) (i j k : ℕ) → IsFace i j k → Germ T (at v) z i j k → v ≡ i → Cone v z
@@ -53,7 +53,7 @@ module _ (T : Tiling) where
 
   -- halfway along a side and a little to the left: strictly inside each face there
   beside : (a b c d : ℕ) → IsFace a b c → IsFace a b d → (x : Fraction) × Inside (at a) (at b) (at c) x × Inside (at a) (at b) (at d) x
-  beside a b c d f g = (nudge n h m, inside c (T.turns a b c f) (λ u v i k. nudge-least u v n h m (at_least i) k) i.second i.third, far)
+  beside a b c d f g = (nudge n h m, inside c (T.turns a b c f) (λ u v i k. nudge-least u v n h m (weak i) k) i.second i.third, far)
     where
       h : Fraction
       h = halfway (at a) (at b)
@@ -89,7 +89,7 @@ module _ (T : Tiling) where
   one_at_side a b c d f g = let x = beside a b c d f g in go (T.apart a b c a b d f g x.0 x.1 x.2)
     where
       flat : a ≡ b → ⊥
-      flat e = level _ (ap (λ i. bracket (at b) (at c) (at i)) e ∙ bracket-first (at b) (at c)) (turned-above (at a) (at b) (at c) (T.turns a b c f))
+      flat e = left_not_zero (turned-above (at a) (at b) (at c) (T.turns a b c f)) (ap (λ i. bracket (at b) (at c) (at i)) e ∙ bracket-first (at b) (at c))
 
       go : IsTurned a b c a b d → c ≡ d
       go (inl e) = sym e.2

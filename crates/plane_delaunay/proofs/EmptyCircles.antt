@@ -6,15 +6,16 @@ use native.Mathlib.Decide.{ℕ_discrete}
 use lib.IntN.{neg_ℤ}
 use Rattle.std.specs.Prelude.{◌≢◌, ℤ, pos, ◌<ℤ◌, ◌≤ℤ◌, ◌+ℤ◌, ◌*ℤ◌, Contains, slice_index_or}
 use Rattle.std.proofs.lemmas.Int.{ints}
+use Rattle.plane_delaunay.proofs.Numbers.{swapped_sum, sum_above, sum_least, sum_none}
+use Rattle.plane.proofs.Steps.{weak, zero_weak_left, left_not_zero, right_not_above, left_not_below}
 use Rattle.plane.proofs.Solver.{num, ◌⊕◌, ◌⊖◌, ◌⊗◌, ⊝, ring_over, ring_over_from, ring_in_from}
-use Rattle.plane.proofs.IntegerOrder.{mul-pos_ℤ, mul-nonneg_ℤ, mul-nonpos_of_nonneg_nonpos_ℤ, pos_of_mul-pos_ℤ, nonneg_of_mul-nonneg_ℤ, zero_of_mul-zero_ℤ, mul_cancel_ℤ, pos-ne-zero_ℤ, Sign, sign, below, none, above}
+use Rattle.plane.proofs.IntegerOrder.{mul-pos_ℤ, mul-nonneg_ℤ, mul-nonpos_of_nonneg_nonpos_ℤ, pos_of_mul-pos_ℤ, nonneg_of_mul-nonneg_ℤ, zero_of_mul-zero_ℤ, mul_cancel_ℤ, pos-ne-zero_ℤ, Sign, sign, below, none, above, zero-mul_ℤ}
 use Rattle.plane_delaunay.proofs.Bracket.{fraction, bracket, bracketᵖ, bracket-turned, bracket-swapped, bracket-first, bracket-second, above_if_left, left_if_above}
 use Rattle.plane_delaunay.proofs.Lift.{lift, liftᵖ, lift-turned, lift-first, lift-second, lift-third, inside_is_lift, on_is_lift}
 use Rattle.plane.proofs.Means.{TwoWeights, mean_of_two, two_weights}
-use Rattle.plane_delaunay.proofs.Tally.{Member, Closed, Inside, inside-turned, at_least, nudge, bracket-nudge}
+use Rattle.plane_delaunay.proofs.Tally.{Member, Closed, Inside, inside-turned, nudge, bracket-nudge}
 use Rattle.plane_delaunay.proofs.Faces.{IsTurned, turned-above, both_inside, side_not_inside}
-use Rattle.plane_delaunay.proofs.Across.{none_right, level, is_least}
-use Rattle.plane_delaunay.proofs.Generic.{AllOpen, open_if_free}
+use Rattle.plane_delaunay.proofs.Generic.{AllOpen, open_if_free, swapped_weights}
 use Rattle.plane_delaunay.proofs.Global.{PassesLocally, not_above_face}
 use Rattle.plane_delaunay.proofs.Ground.{member, contained, tiling, turned_face, inside_of, triangle_of_inside}
 use Rattle.plane.specs.Fraction.{Point, Fraction, IsNotNegative, IsSame, OnSegment}
@@ -36,9 +37,6 @@ not_above z n = elim (sign z) [ below h ↦ most h | none h ↦ zero_most h | ab
 
     zero_most : z ≡ pos 0 → z ≤ℤ pos 0
     zero_most h = omega (arith, ints)
-
-pub clash : {z : ℤ} → z ≤ℤ pos 0 → pos 0 <ℤ z → ⊥
-clash h k = omega (arith, ints)
 
 pub no_face : (t : Triangulation) → t.faces ≡ [] → (i j k : ℕ) → ¬ IsFace t i j k
 no_face t e i j k f = go f
@@ -82,8 +80,7 @@ module _ (t : Triangulation) (constraints : List (ℕ × ℕ)) (h : TilesHull t)
   empty_circles : IsLocallyDelaunay t constraints → (i j k n : ℕ) → IsFace t i j k → IsVertex t n → IsSeen t constraints (vertex t i) (vertex t j) (vertex t k) (vertex t n) → ¬ InsideCircle (vertex t i) (vertex t j) (vertex t k) (vertex t n)
   unfolding tiling
   empty_circles l i j k n f v s c =
-      clash (not_above_face (tiling t h) constraints (local l) n v i j k s.from f (inside_of _ _ _ s.from (h.turning i j k f) s.inside) (seen_open _ _ _ n s))
-      ((inside_is_lift (spot t i) (spot t j) (spot t k) (spot t n) (h.turning i j k f)).0 c)
+      left_not_below ((inside_is_lift (spot t i) (spot t j) (spot t k) (spot t n) (h.turning i j k f)).0 c) (not_above_face (tiling t h) constraints (local l) n v i j k s.from f (inside_of _ _ _ s.from (h.turning i j k f) s.inside) (seen_open _ _ _ n s))
 
 pub local_gives_constrained_delaunay : (t : Triangulation) (constraints : List (ℕ × ℕ)) → IsTiling t → ((i j : ℕ) → Joins constraints i j → IsEdge t i j) → IsLocallyDelaunay t constraints → IsConstrainedDelaunay t constraints
 local_gives_constrained_delaunay t constraints (inl h) kept l = record { tiling = inl h; kept = kept; empty = empty_circles t constraints h l }
@@ -102,7 +99,7 @@ only_zeros : (x₁ x₂ x₃ x₄ x₅ x₆ : ℤ) → (x₁ +ℤ x₂ +ℤ x₃
 only_zeros x₁ x₂ x₃ x₄ x₅ x₆ e h₁ h₂ h₃ h₄ h₅ h₆ = (omega (arith, ints), omega (arith, ints), omega (arith, ints), omega (arith, ints), omega (arith, ints), omega (arith, ints))
 
 weighted : (k x : ℤ) → pos 0 <ℤ k → x ≤ℤ pos 0 → (k *ℤ x) ≤ℤ pos 0
-weighted k x h l = mul-nonpos_of_nonneg_nonpos_ℤ {a = k} {b = x} (at_least h) l
+weighted k x h l = mul-nonpos_of_nonneg_nonpos_ℤ {a = k} {b = x} (weak h) l
 
 unweighted : (k x : ℤ) → pos 0 <ℤ k → k *ℤ x ≡ pos 0 → x ≡ pos 0
 unweighted k x h e = zero_of_mul-zero_ℤ {k = k} {x = x} (pos-ne-zero_ℤ h) e
@@ -128,21 +125,12 @@ weights_along A a b p w u v = ring_over_from fraction (w.n ∷ w.k ∷ w.l ∷ [
     (λ n k l u v a b p. (u.y ⊗ v.w ⊖ u.w ⊗ v.y, n ⊗ p.x, k ⊗ a.x ⊕ l ⊗ b.x) ∷ (u.w ⊗ v.x ⊖ u.x ⊗ v.w, n ⊗ p.y, k ⊗ a.y ⊕ l ⊗ b.y) ∷ (u.x ⊗ v.y ⊖ u.y ⊗ v.x, n ⊗ p.w, k ⊗ a.w ⊕ l ⊗ b.w) ∷ [])
     (w.x, (w.y, (w.w, tt))) tt
 
-sum_above : (n k l x a b : ℤ) → pos 0 <ℤ n → n *ℤ x ≡ k *ℤ a +ℤ l *ℤ b → pos 0 <ℤ k → pos 0 <ℤ a → pos 0 ≤ℤ l → pos 0 ≤ℤ b → pos 0 <ℤ x
-sum_above n k l x a b hn e hk ha hl hb = pos_of_mul-pos_ℤ {k = n} {x = x} hn (let p = mul-pos_ℤ {a = k} {b = a} hk ha in let q = mul-nonneg_ℤ {a = l} {b = b} hl hb in omega (arith, ints))
-
-sum_least : (n k l x a b : ℤ) → pos 0 <ℤ n → n *ℤ x ≡ k *ℤ a +ℤ l *ℤ b → pos 0 ≤ℤ k → pos 0 ≤ℤ a → pos 0 ≤ℤ l → pos 0 ≤ℤ b → pos 0 ≤ℤ x
-sum_least n k l x a b hn e hk ha hl hb = nonneg_of_mul-nonneg_ℤ {k = n} {x = x} hn (let p = mul-nonneg_ℤ {a = k} {b = a} hk ha in let q = mul-nonneg_ℤ {a = l} {b = b} hl hb in omega (arith, ints))
-
-sum_none : (n k l x a b : ℤ) → pos 0 <ℤ n → n *ℤ x ≡ k *ℤ a +ℤ l *ℤ b → a ≡ pos 0 → b ≡ pos 0 → x ≡ pos 0
-sum_none n k l x a b hn e ha hb = zero_of_mul-zero_ℤ {k = n} {x = x} (pos-ne-zero_ℤ hn) (let p = none_right k a ha in let q = none_right l b hb in omega (arith, ints))
-
 -- from a point strictly inside to a corner: still strictly inside, until the corner
 inside_on_way : (a b c q y : Fraction) (w : TwoWeights IsNotNegative q a y) → pos 0 <ℤ bracket a b c → Inside a b c q → pos 0 <ℤ w.k → Inside a b c y
 inside_on_way a b c q y w t i h = record {
-  first = sum_above w.n w.k w.l _ _ _ w.positive (weights_along IsNotNegative q a y w a b) h i.first w.l_allowed (is_least _ (bracket-first a b));
-  second = sum_above w.n w.k w.l _ _ _ w.positive (weights_along IsNotNegative q a y w b c) h i.second w.l_allowed (at_least (turned-above a b c t));
-  third = sum_above w.n w.k w.l _ _ _ w.positive (weights_along IsNotNegative q a y w c a) h i.third w.l_allowed (is_least _ (bracket-second c a));
+  first = sum_above w.n w.k w.l _ _ _ w.positive (weights_along IsNotNegative q a y w a b) h i.first w.l_allowed (zero_weak_left (bracket-first a b));
+  second = sum_above w.n w.k w.l _ _ _ w.positive (weights_along IsNotNegative q a y w b c) h i.second w.l_allowed (weak (turned-above a b c t));
+  third = sum_above w.n w.k w.l _ _ _ w.positive (weights_along IsNotNegative q a y w c a) h i.third w.l_allowed (zero_weak_left (bracket-second c a));
 }
 
 same_part : (n k l y z q a r b : ℤ) → pos 0 <ℤ n → n *ℤ y ≡ k *ℤ q +ℤ l *ℤ a → n *ℤ z ≡ k *ℤ r +ℤ l *ℤ b → k ≡ pos 0 → y *ℤ b ≡ a *ℤ z
@@ -157,20 +145,14 @@ segment_closed : (a b c y : Fraction) → TwoWeights IsNotNegative a b y → pos
 segment_closed a b c y w t = (
   zero,
   record {
-    first = is_least _ zero;
-    second = sum_least w.n w.k w.l _ _ _ w.positive (weights_along IsNotNegative a b y w b c) w.k_allowed (at_least (turned-above a b c t)) w.l_allowed (is_least _ (bracket-first b c));
-    third = sum_least w.n w.k w.l _ _ _ w.positive (weights_along IsNotNegative a b y w c a) w.k_allowed (is_least _ (bracket-second c a)) w.l_allowed (at_least (turned-above b c a (turned-above a b c t)));
+    first = zero_weak_left zero;
+    second = sum_least w.n w.k w.l _ _ _ w.positive (weights_along IsNotNegative a b y w b c) w.k_allowed (weak (turned-above a b c t)) w.l_allowed (zero_weak_left (bracket-first b c));
+    third = sum_least w.n w.k w.l _ _ _ w.positive (weights_along IsNotNegative a b y w c a) w.k_allowed (zero_weak_left (bracket-second c a)) w.l_allowed (weak (turned-above b c a (turned-above a b c t)));
   },
 )
   where
     zero : bracket a b y ≡ pos 0
     zero = sum_none w.n w.k w.l _ _ _ w.positive (weights_along IsNotNegative a b y w a b) (bracket-first a b) (bracket-second a b)
-
-swapped_weights : (a b p : Fraction) → TwoWeights IsNotNegative a b p → TwoWeights IsNotNegative b a p
-swapped_weights a b p t = record { k = t.l; l = t.k; n = t.n; k_allowed = t.l_allowed; l_allowed = t.k_allowed; positive = t.positive; x = swapped_sum _ (t.k *ℤ a.x) (t.l *ℤ b.x) t.x; y = swapped_sum _ (t.k *ℤ a.y) (t.l *ℤ b.y) t.y; w = swapped_sum _ (t.k *ℤ a.w) (t.l *ℤ b.w) t.w }
-  where
-    swapped_sum : (t x y : ℤ) → t ≡ x +ℤ y → t ≡ y +ℤ x
-    swapped_sum t x y e = omega (arith, ints)
 
 -- a way from a point strictly inside a triple to a corner meets what does not enter the triple in the corner alone
 way_to_corner : (a b c q y : Fraction) → pos 0 <ℤ bracket a b c → Inside a b c q → ¬ Inside a b c y → OnSegment q a y → IsSame y a
@@ -180,10 +162,7 @@ way_to_corner a b c q y t i out m = go (sign w.k)
     w = two_weights IsNotNegative q a y m
 
     go : Sign w.k → IsSame y a
-    go (below h) = absurd (under h w.k_allowed)
-      where
-        under : {z : ℤ} → z <ℤ pos 0 → pos 0 ≤ℤ z → ⊥
-        under h k = omega (arith, ints)
+    go (below h) = absurd (right_not_above h w.k_allowed)
     go (none h) = same_at_end q a y w h
     go (above h) = absurd (out (inside_on_way a b c q y w t i h))
 
@@ -220,10 +199,10 @@ module _ (at : ℕ → Fraction) where
   Left a b c = pos 0 <ℤ bracket (at a) (at b) (at c)
 
   flat_first : (d e f : ℕ) → Left d e f → d ≡ f → ⊥
-  flat_first d e f t q = level _ (ap (λ i. bracket (at d) (at e) (at i)) (sym q) ∙ bracket-first (at d) (at e)) t
+  flat_first d e f t q = left_not_zero t (ap (λ i. bracket (at d) (at e) (at i)) (sym q) ∙ bracket-first (at d) (at e))
 
   flat_second : (d e f : ℕ) → Left d e f → e ≡ f → ⊥
-  flat_second d e f t q = level _ (ap (λ i. bracket (at d) (at e) (at i)) (sym q) ∙ bracket-second (at d) (at e)) t
+  flat_second d e f t q = left_not_zero t (ap (λ i. bracket (at d) (at e) (at i)) (sym q) ∙ bracket-second (at d) (at e))
 
   flat_third : (d e f : ℕ) → Left d e f → d ≡ e → ⊥
   flat_third d e f t q = flat_first e f d (turned-above (at d) (at e) (at f) t) (sym q)

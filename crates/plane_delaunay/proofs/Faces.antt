@@ -7,10 +7,12 @@ use mathlib.Core.Logic.{◌⊎◌, inl, inr}
 use mathlib.Core.List.{List, [], ◌∷◌}
 use native.Mathlib.Omega.{arith}
 use borrow.Author.Differences.{ints}
+use Rattle.plane_delaunay.proofs.Numbers.{swapped_sum, sum_none}
+use Rattle.plane.proofs.Steps.{weak, left_not_zero}
 use Rattle.plane.proofs.Solver.{◌⊕◌, ring_over}
 use Rattle.plane.proofs.IntegerOrder.{mul-pos_ℤ, pos_of_mul-pos_ℤ, zero_of_mul-zero_ℤ, pos-ne-zero_ℤ}
 use Rattle.plane_delaunay.proofs.Bracket.{fraction, bracket, bracketᵖ, bracket-turned, bracket-first, bracket-second}
-use Rattle.plane_delaunay.proofs.Tally.{Member, total, total-term, size, nudge, bracket-nudge, nudge-least, germ_sign, Closed, Inside, at_least, room, inside-nudge}
+use Rattle.plane_delaunay.proofs.Tally.{Member, total, total-term, size, nudge, bracket-nudge, nudge-least, germ_sign, Closed, Inside, room, inside-nudge}
 use Rattle.plane.specs.Fraction.{Fraction}
 
 -- d e f is a b c, turned
@@ -84,15 +86,8 @@ pub record Between (a b x : Fraction) : Type 0 where
   pub l_above : pos 0 <ℤ l
   pub along : (u v : Fraction) → n *ℤ bracket u v x ≡ k *ℤ bracket u v a +ℤ l *ℤ bracket u v b
 
-swapped_sum : (t x y : ℤ) → t ≡ x +ℤ y → t ≡ y +ℤ x
-swapped_sum t x y e = omega (arith, ints)
-
 pub between-swapped : (a b x : Fraction) → Between a b x → Between b a x
 between-swapped a b x h = record { n = h.n; k = h.l; l = h.k; n_above = h.n_above; k_above = h.l_above; l_above = h.k_above; along = λ u v. swapped_sum _ (h.k *ℤ bracket u v a) (h.l *ℤ bracket u v b) (h.along u v) }
-
--- the values of a combination n x = k a + l b
-zero_from : (n k l x a b : ℤ) → pos 0 <ℤ n → n *ℤ x ≡ k *ℤ a +ℤ l *ℤ b → a ≡ pos 0 → b ≡ pos 0 → x ≡ pos 0
-zero_from n k l x a b h e p q = zero_of_mul-zero_ℤ {k = n} {x = x} (pos-ne-zero_ℤ h) (e ∙ (let s : k *ℤ a ≡ k *ℤ pos 0 = ap (λ t. k *ℤ t) p in let r : l *ℤ b ≡ l *ℤ pos 0 = ap (λ t. l *ℤ t) q in omega (arith, ints)))
 
 above_from : (n k l x a b : ℤ) → pos 0 <ℤ n → n *ℤ x ≡ k *ℤ a +ℤ l *ℤ b → pos 0 <ℤ (k *ℤ a) → pos 0 ≤ℤ (l *ℤ b) → pos 0 <ℤ x
 above_from n k l x a b h e p q = pos_of_mul-pos_ℤ {k = n} {x = x} h (omega (arith, ints))
@@ -101,7 +96,7 @@ none_times : (k a : ℤ) → a ≡ pos 0 → pos 0 ≤ℤ (k *ℤ a)
 none_times k a p = let s : k *ℤ a ≡ k *ℤ pos 0 = ap (λ t. k *ℤ t) p in omega (arith, ints)
 
 pub between-on : (a b x : Fraction) → Between a b x → bracket a b x ≡ pos 0
-between-on a b x h = zero_from h.n h.k h.l _ _ _ h.n_above (h.along a b) (bracket-first a b) (bracket-second a b)
+between-on a b x h = sum_none h.n h.k h.l _ _ _ h.n_above (h.along a b) (bracket-first a b) (bracket-second a b)
 
 pub between-second : (a b c x : Fraction) → Between a b x → pos 0 <ℤ bracket a b c → pos 0 <ℤ bracket b c x
 between-second a b c x h t = above_from h.n h.k h.l _ _ _ h.n_above (h.along b c) (mul-pos_ℤ h.k_above (turned-above a b c t)) (none_times h.l _ (bracket-first b c))
@@ -110,13 +105,7 @@ pub between-third : (a b c x : Fraction) → Between a b x → pos 0 <ℤ bracke
 between-third a b c x h t = above_from h.n h.l h.k _ _ _ h.n_above (swapped_sum _ (h.k *ℤ bracket c a a) (h.l *ℤ bracket c a b) (h.along c a)) (mul-pos_ℤ h.l_above (turned-above b c a (turned-above a b c t))) (none_times h.k _ (bracket-second c a))
 
 pub between-closed : (a b c x : Fraction) → Between a b x → pos 0 <ℤ bracket a b c → Closed a b c x
-between-closed a b c x h t = record { first = omega (arith, ints, between-on a b x h); second = at_least (between-second a b c x h t); third = at_least (between-third a b c x h t) }
-
-level : (z : ℤ) → z ≡ pos 0 → pos 0 <ℤ z → ⊥
-level z e h = omega (arith, ints)
-
-crossed : (z : ℤ) → z <ℤ pos 0 → pos 0 ≤ℤ z → ⊥
-crossed z e h = omega (arith, ints)
+between-closed a b c x h t = record { first = omega (arith, ints, between-on a b x h); second = weak (between-second a b c x h t); third = weak (between-third a b c x h t) }
 
 module _ (T : Tiling) where
   open T use {at, IsVertex, IsFace, InHull}
@@ -141,7 +130,7 @@ module _ (T : Tiling) where
 
   -- a point of a closed side is strictly inside no face
   pub side_not_inside : (a b c d e f : ℕ) → IsFace a b c → IsFace d e f → (x : Fraction) → Closed (at a) (at b) (at c) x → bracket (at a) (at b) x ≡ pos 0 → ¬ Inside (at d) (at e) (at f) x
-  side_not_inside a b c d e f g h x closed e₀ inside = level _ e₀ (side_left a b c d e f g h x closed inside)
+  side_not_inside a b c d e f g h x closed e₀ inside = left_not_zero (side_left a b c d e f g h x closed inside) e₀
 
   -- no vertex is strictly within a side
   pub none_within : (a b c n : ℕ) → IsFace a b c → IsVertex n → ¬ Between (at a) (at b) (at n)
@@ -151,9 +140,9 @@ module _ (T : Tiling) where
       t = T.turns a b c f
 
       go : (n ≡ a) ⊎ ((n ≡ b) ⊎ (n ≡ c)) → ⊥
-      go (inl e) = level _ (ap (λ i. bracket (at c) (at a) (at i)) e ∙ bracket-second (at c) (at a)) (between-third (at a) (at b) (at c) (at n) h t)
-      go (inr (inl e)) = level _ (ap (λ i. bracket (at b) (at c) (at i)) e ∙ bracket-first (at b) (at c)) (between-second (at a) (at b) (at c) (at n) h t)
-      go (inr (inr e)) = level _ (ap (λ i. bracket (at a) (at b) (at i)) (sym e) ∙ between-on (at a) (at b) (at n) h) t
+      go (inl e) = left_not_zero (between-third (at a) (at b) (at c) (at n) h t) (ap (λ i. bracket (at c) (at a) (at i)) e ∙ bracket-second (at c) (at a))
+      go (inr (inl e)) = left_not_zero (between-second (at a) (at b) (at c) (at n) h t) (ap (λ i. bracket (at b) (at c) (at i)) e ∙ bracket-first (at b) (at c))
+      go (inr (inr e)) = left_not_zero t (ap (λ i. bracket (at a) (at b) (at i)) (sym e) ∙ between-on (at a) (at b) (at n) h)
 
   -- the face at y on the way to z: y is left of each of its sides, or on it and z not right of it
   pub record StartsFrom (y z : Fraction) (i j : ℕ) : Type 0 where
@@ -171,7 +160,7 @@ module _ (T : Tiling) where
   starts-least y z i j s = go s.starts
     where
       go : (pos 0 <ℤ bracket (at i) (at j) y) ⊎ ((bracket (at i) (at j) y ≡ pos 0) × (pos 0 ≤ℤ bracket (at i) (at j) z)) → pos 0 ≤ℤ bracket (at i) (at j) y
-      go (inl h) = at_least h
+      go (inl h) = weak h
       go (inr h) = omega (arith, ints, h.0)
 
   pub germ-closed : (y z : Fraction) (i j k : ℕ) → Germ y z i j k → Closed (at i) (at j) (at k) y

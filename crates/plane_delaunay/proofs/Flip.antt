@@ -6,14 +6,15 @@ use mathlib.Core.Logic.{◌⊎◌, inl, inr}
 use mathlib.Core.List.{[], ◌∷◌}
 use native.Mathlib.Omega.{arith}
 use borrow.Author.Differences.{ints}
+use Rattle.plane_delaunay.proofs.Numbers.{sum_weak}
+use Rattle.plane.proofs.Steps.{weak, zero_weak_left}
 use Rattle.plane.proofs.IntegerLaws.{neg-mul_ℤ}
 use Rattle.plane.proofs.Solver.{Poly, ◌⊕◌, ◌⊖◌, ◌⊗◌, ring_over}
-use Rattle.plane.proofs.IntegerOrder.{mul-nonneg_ℤ, nonneg_of_mul-nonneg_ℤ, lt_or_ge_ℤ, square-nonneg_ℤ}
+use Rattle.plane.proofs.IntegerOrder.{mul-nonneg_ℤ, nonneg_of_mul-nonneg_ℤ, lt_or_ge_ℤ, square-nonneg_ℤ, zero-mul_ℤ}
 use Rattle.plane_delaunay.proofs.Bracket.{Syntax, bracket, bracketᵖ, bracket-swapped, bracket-first, bracket-second, cramer}
 use Rattle.plane_delaunay.proofs.Lift.{height, heightᵖ, lift, liftᵖ, pointᵖ}
-use Rattle.plane_delaunay.proofs.Tally.{Closed, at_least}
+use Rattle.plane_delaunay.proofs.Tally.{Closed}
 use Rattle.plane_delaunay.proofs.Faces.{turned-above}
-use Rattle.plane_delaunay.proofs.Across.{none_right, is_least}
 use Rattle.plane.specs.Fraction.{Point, Fraction, whole}
 
 -- the squared distance of two whole points
@@ -32,11 +33,7 @@ unfolding lift bracket
 lift-from_second a b c d = ring_over pointᵖ [] (a ∷ b ∷ c ∷ d ∷ []) liftᵖ (λ a b c d. bracketᵖ d b c ⊗ apartᵖ b a ⊕ bracketᵖ a b d ⊗ apartᵖ b c ⊖ bracketᵖ a b c ⊗ apartᵖ b d) tt
 
 apart_least : (a b : Point) → pos 0 ≤ℤ apart a b
-apart_least a b = both (square-nonneg_ℤ (b.x -ℤ a.x)) (square-nonneg_ℤ (b.y -ℤ a.y))
-  where
-    both : {x y : ℤ} → pos 0 ≤ℤ x → pos 0 ≤ℤ y → pos 0 ≤ℤ (x +ℤ y)
-    both h k = omega (arith, ints)
-
+apart_least a b = sum_weak (square-nonneg_ℤ (b.x -ℤ a.x)) (square-nonneg_ℤ (b.y -ℤ a.y))
 only_first : (l s x r y t z : ℤ) → l ≡ s *ℤ x +ℤ r *ℤ y -ℤ t *ℤ z → pos 0 <ℤ l → pos 0 ≤ℤ x → pos 0 ≤ℤ y → pos 0 ≤ℤ z → r <ℤ pos 0 → pos 0 <ℤ t → pos 0 <ℤ s
 only_first l s x r y t z e hl hx hy hz hr ht = go (lt_or_ge_ℤ (pos 0) s)
   where
@@ -45,7 +42,7 @@ only_first l s x r y t z e hl hx hy hz hr ht = go (lt_or_ge_ℤ (pos 0) s)
     go (inr h) = absurd (
         let p = mul-nonneg_ℤ {a = neg_ℤ s} {b = x} (omega (arith, ints)) hx in
         let q = mul-nonneg_ℤ {a = neg_ℤ r} {b = y} (omega (arith, ints)) hy in
-        let o = mul-nonneg_ℤ {a = t} {b = z} (at_least ht) hz in
+        let o = mul-nonneg_ℤ {a = t} {b = z} (weak ht) hz in
         omega (arith, ints, neg-mul_ℤ s x, neg-mul_ℤ r y))
 
 -- an edge a b whose opposite corner d is inside the circle of a b c: the quadrilateral is strictly convex at a and b
@@ -74,7 +71,7 @@ mix_least : (d x p a q b r c : ℤ) → pos 0 <ℤ d → d *ℤ x ≡ p *ℤ a +
 mix_least d x p a q b r c h e i j k = nonneg_of_mul-nonneg_ℤ {k = d} {x = x} h (omega (arith, ints))
 
 none_least : (p a : ℤ) → a ≡ pos 0 → pos 0 ≤ℤ (p *ℤ a)
-none_least p a e = is_least _ (none_right p a e)
+none_least p a e = zero_weak_left (zero-mul_ℤ p e)
 
 turned_twice : (a b c : Fraction) → pos 0 <ℤ bracket a b c → pos 0 <ℤ bracket c a b
 turned_twice a b c h = turned-above b c a (turned-above a b c h)
@@ -87,10 +84,10 @@ pub flip_covers : (v x y z p : Fraction) → pos 0 <ℤ bracket v x y → pos 0 
 flip_covers v x y z p vxy vyz xyz vxz h = go (lt_or_ge_ℤ (bracket x z p) (pos 0))
   where
     zv : pos 0 ≤ℤ bracket z v p
-    zv = mix_least (bracket v x y) (bracket z v p) (bracket x y p) (bracket z v v) (bracket y v p) (bracket z v x) (bracket v x p) (bracket z v y) vxy (cramer v x y p z v) (none_least (bracket x y p) (bracket z v v) (bracket-second z v)) (mul-nonneg_ℤ {a = bracket y v p} {b = bracket z v x} h.third (at_least (turned_twice v x z vxz))) (mul-nonneg_ℤ {a = bracket v x p} {b = bracket z v y} h.first (at_least (turned_twice v y z vyz)))
+    zv = mix_least (bracket v x y) (bracket z v p) (bracket x y p) (bracket z v v) (bracket y v p) (bracket z v x) (bracket v x p) (bracket z v y) vxy (cramer v x y p z v) (none_least (bracket x y p) (bracket z v v) (bracket-second z v)) (mul-nonneg_ℤ {a = bracket y v p} {b = bracket z v x} h.third (weak (turned_twice v x z vxz))) (mul-nonneg_ℤ {a = bracket v x p} {b = bracket z v y} h.first (weak (turned_twice v y z vyz)))
 
     yz : pos 0 ≤ℤ bracket y z p
-    yz = mix_least (bracket v x y) (bracket y z p) (bracket x y p) (bracket y z v) (bracket y v p) (bracket y z x) (bracket v x p) (bracket y z y) vxy (cramer v x y p y z) (mul-nonneg_ℤ {a = bracket x y p} {b = bracket y z v} h.second (at_least (turned-above v y z vyz))) (mul-nonneg_ℤ {a = bracket y v p} {b = bracket y z x} h.third (at_least (turned-above x y z xyz))) (none_least (bracket v x p) (bracket y z y) (bracket-first y z))
+    yz = mix_least (bracket v x y) (bracket y z p) (bracket x y p) (bracket y z v) (bracket y v p) (bracket y z x) (bracket v x p) (bracket y z y) vxy (cramer v x y p y z) (mul-nonneg_ℤ {a = bracket x y p} {b = bracket y z v} h.second (weak (turned-above v y z vyz))) (mul-nonneg_ℤ {a = bracket y v p} {b = bracket y z x} h.third (weak (turned-above x y z xyz))) (none_least (bracket v x p) (bracket y z y) (bracket-first y z))
 
     go : (bracket x z p <ℤ pos 0) ⊎ (pos 0 ≤ℤ bracket x z p) → Closed v x z p ⊎ Closed x y z p
     go (inr s) = inl (record { first = h.first; second = s; third = zv })

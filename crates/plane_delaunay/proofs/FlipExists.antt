@@ -7,13 +7,14 @@ use mathlib.Core.Logic.{◌⊎◌, inl, inr}
 use mathlib.Core.List.{[], ◌∷◌}
 use native.Mathlib.Omega.{arith}
 use borrow.Author.Differences.{ints}
+use Rattle.plane_delaunay.proofs.Numbers.{sum_weak}
+use Rattle.plane.proofs.Steps.{weak, weak_right, zero_weak_left, zero_weak, product_zero_left, not_right_strict, not_left_strict, right_not_zero, left_not_zero, no_difference}
 use Rattle.plane.proofs.IntegerLaws.{neg-mul_ℤ, mul-neg_ℤ}
 use Rattle.plane.proofs.Solver.{Poly, num, ◌⊕◌, ◌⊖◌, ◌⊗◌, ⊝, ring_in_from, ring_over_from}
-use Rattle.plane.proofs.IntegerOrder.{mul-pos_ℤ, mul-nonneg_ℤ, mul-neg_of_pos_neg_ℤ, mul-pos_of_neg_ℤ, square-nonneg_ℤ, lt_or_ge_ℤ, mul-eq-zero_ℤ, sign, below, none, above}
+use Rattle.plane.proofs.IntegerOrder.{mul-pos_ℤ, mul-nonneg_ℤ, mul-neg_of_pos_neg_ℤ, mul-pos_of_neg_ℤ, square-nonneg_ℤ, lt_or_ge_ℤ, mul-eq-zero_ℤ, sign, below, none, above, zero-mul_ℤ}
 use Rattle.plane_delaunay.proofs.Bracket.{fraction, bracketᵖ, bracket, bracket-turned, bracket-swapped, bracket-first, bracket-second, meeting, meeting-x, meeting-y, meeting-w, cramer}
-use Rattle.plane_delaunay.proofs.Tally.{at_least}
 use Rattle.plane_delaunay.proofs.Faces.{Tiling, Between, between-swapped, turned-above}
-use Rattle.plane_delaunay.proofs.Across.{none_left, none_right, one_right, is_least}
+use Rattle.plane_delaunay.proofs.Across.{one_right}
 use Rattle.plane_delaunay.proofs.Meets.{edge-swapped}
 use Rattle.plane_delaunay.proofs.Joining.{Crosses, Before, by_right, by_left, from_start, before_crossing}
 use Rattle.plane.specs.Fraction.{Fraction}
@@ -59,24 +60,24 @@ not_nearer p² q² v x e h k hv hx =
 
 -- f(x) v - f(v) x = m s: m is the difference of the weights
 on_ray : (f g v x m s n t : ℤ) → f *ℤ v -ℤ g *ℤ x ≡ m *ℤ s -ℤ n *ℤ t → n ≡ pos 0 → m ≡ f -ℤ g → f *ℤ v -ℤ g *ℤ x ≡ (f -ℤ g) *ℤ s
-on_ray f g v x m s n t e z d = let p = none_left n t z in let q = ap (λ i. i *ℤ s) d in omega (arith, ints)
+on_ray f g v x m s n t e z d = let p = product_zero_left t z in let q = ap (λ i. i *ℤ s) d in omega (arith, ints)
 
 ray_weight : (f g v x m s n t : ℤ) → f *ℤ v -ℤ g *ℤ x ≡ m *ℤ s -ℤ n *ℤ t → n ≡ pos 0 → v ≡ pos 1 → x ≡ pos 1 → s ≡ pos 1 → m ≡ f -ℤ g
-ray_weight f g v x m s n t e z hv hx hs = let p = none_left n t z in let a = one_right f v hv in let b = one_right g x hx in let c = one_right m s hs in omega (arith, ints)
+ray_weight f g v x m s n t e z hv hx hs = let p = product_zero_left t z in let a = one_right f v hv in let b = one_right g x hx in let c = one_right m s hs in omega (arith, ints)
 
 -- the sum of two terms, one above 0
 sum_above : (d o a f b g c h : ℤ) → d *ℤ o ≡ a *ℤ f +ℤ b *ℤ g +ℤ c *ℤ h → f ≡ pos 0 → pos 0 <ℤ b → pos 0 <ℤ g → pos 0 <ℤ c → pos 0 ≤ℤ h → pos 0 <ℤ (d *ℤ o)
-sum_above d o a f b g c h e z hb hg hc hh = let p = none_right a f z in let q = mul-pos_ℤ {a = b} {b = g} hb hg in let r = mul-nonneg_ℤ {a = c} {b = h} (at_least hc) hh in omega (arith, ints)
+sum_above d o a f b g c h e z hb hg hc hh = let p = zero-mul_ℤ a z in let q = mul-pos_ℤ {a = b} {b = g} hb hg in let r = mul-nonneg_ℤ {a = c} {b = h} (weak hc) hh in omega (arith, ints)
 
 sum_below : (d o a f b g c h : ℤ) → d *ℤ o ≡ a *ℤ f +ℤ b *ℤ g +ℤ c *ℤ h → g ≡ pos 0 → pos 0 <ℤ a → f <ℤ pos 0 → pos 0 <ℤ c → h ≤ℤ pos 0 → (d *ℤ o) <ℤ pos 0
-sum_below d o a f b g c h e z ha hf hc hh = let p = none_right b g z in let q = mul-neg_of_pos_neg_ℤ {a = a} {b = f} ha hf in let r = mul-nonneg_ℤ {a = c} {b = neg_ℤ h} (at_least hc) (omega (arith, ints)) in omega (arith, ints, mul-neg_ℤ c h)
+sum_below d o a f b g c h e z ha hf hc hh = let p = zero-mul_ℤ b z in let q = mul-neg_of_pos_neg_ℤ {a = a} {b = f} ha hf in let r = mul-nonneg_ℤ {a = c} {b = neg_ℤ h} (weak hc) (omega (arith, ints)) in omega (arith, ints, mul-neg_ℤ c h)
 
 above_of_product : (d o : ℤ) → pos 0 <ℤ (d *ℤ o) → pos 0 <ℤ o → pos 0 <ℤ d
 above_of_product d o h k = go (lt_or_ge_ℤ (pos 0) d)
   where
     go : (pos 0 <ℤ d) ⊎ (d ≤ℤ pos 0) → pos 0 <ℤ d
     go (inl p) = p
-    go (inr p) = absurd (let q = mul-nonneg_ℤ {a = neg_ℤ d} {b = o} (omega (arith, ints)) (at_least k) in omega (arith, ints, neg-mul_ℤ d o))
+    go (inr p) = absurd (let q = mul-nonneg_ℤ {a = neg_ℤ d} {b = o} (omega (arith, ints)) (weak k) in omega (arith, ints, neg-mul_ℤ d o))
 
 above_of_product' : (d o : ℤ) → (d *ℤ o) <ℤ pos 0 → o <ℤ pos 0 → pos 0 <ℤ d
 above_of_product' d o h k = go (lt_or_ge_ℤ (pos 0) d)
@@ -85,32 +86,20 @@ above_of_product' d o h k = go (lt_or_ge_ℤ (pos 0) d)
     go (inl p) = p
     go (inr p) = absurd (let q = mul-nonneg_ℤ {a = neg_ℤ d} {b = neg_ℤ o} (omega (arith, ints)) (omega (arith, ints)) in omega (arith, ints, neg-mul_ℤ d (neg_ℤ o), mul-neg_ℤ d o))
 
-below_most : {z : ℤ} → z <ℤ pos 0 → z ≤ℤ pos 0
-below_most h = omega (arith, ints)
-
-none_most : {z : ℤ} → z ≡ pos 0 → z ≤ℤ pos 0
-none_most h = omega (arith, ints)
-
-strictly_above : (z : ℤ) → pos 0 ≤ℤ z → ¬ (z ≡ pos 0) → pos 0 <ℤ z
-strictly_above z h n = elim (sign z) [ below k ↦ absurd (omega (arith, ints)) | none k ↦ absurd (n k) | above k ↦ k ]
-
-strictly_below : (z : ℤ) → z ≤ℤ pos 0 → ¬ (z ≡ pos 0) → z <ℤ pos 0
-strictly_below z h n = elim (sign z) [ below k ↦ k | none k ↦ absurd (n k) | above k ↦ absurd (omega (arith, ints)) ]
-
 -- a difference below 0, from g x = m y with g, x, y of known signs
 difference_below : (f o g x m s n t : ℤ) → f *ℤ o -ℤ g *ℤ x ≡ m *ℤ s -ℤ n *ℤ t → o ≡ pos 0 → n ≡ pos 0 → g <ℤ pos 0 → x <ℤ pos 0 → pos 0 <ℤ s → m <ℤ pos 0
 difference_below f o g x m s n t e z y hg hx hs = go (lt_or_ge_ℤ m (pos 0))
   where
     go : (m <ℤ pos 0) ⊎ (pos 0 ≤ℤ m) → m <ℤ pos 0
     go (inl h) = h
-    go (inr h) = absurd (let a = none_right f o z in let b = none_left n t y in let c = mul-pos_of_neg_ℤ {a = g} {b = x} hg hx in let d = mul-nonneg_ℤ {a = m} {b = s} h (at_least hs) in omega (arith, ints))
+    go (inr h) = absurd (let a = zero-mul_ℤ f z in let b = product_zero_left t y in let c = mul-pos_of_neg_ℤ {a = g} {b = x} hg hx in let d = mul-nonneg_ℤ {a = m} {b = s} h (weak hs) in omega (arith, ints))
 
 difference_above : (f o g x m s n t : ℤ) → f *ℤ o -ℤ g *ℤ x ≡ m *ℤ s -ℤ n *ℤ t → o ≡ pos 0 → n ≡ pos 0 → pos 0 <ℤ g → x <ℤ pos 0 → pos 0 <ℤ s → pos 0 <ℤ m
 difference_above f o g x m s n t e z y hg hx hs = go (lt_or_ge_ℤ (pos 0) m)
   where
     go : (pos 0 <ℤ m) ⊎ (m ≤ℤ pos 0) → pos 0 <ℤ m
     go (inl h) = h
-    go (inr h) = absurd (let a = none_right f o z in let b = none_left n t y in let c = mul-neg_of_pos_neg_ℤ {a = g} {b = x} hg hx in let d = mul-nonneg_ℤ {a = neg_ℤ m} {b = s} (omega (arith, ints)) (at_least hs) in omega (arith, ints, neg-mul_ℤ m s))
+    go (inr h) = absurd (let a = zero-mul_ℤ f z in let b = product_zero_left t y in let c = mul-neg_of_pos_neg_ℤ {a = g} {b = x} hg hx in let d = mul-nonneg_ℤ {a = neg_ℤ m} {b = s} (omega (arith, ints)) (weak hs) in omega (arith, ints, neg-mul_ℤ m s))
 
 below_by : (m f g : ℤ) → m ≡ f -ℤ g → m <ℤ pos 0 → f <ℤ g
 below_by m f g e h = omega (arith, ints)
@@ -132,20 +121,13 @@ none_of_square z e = go (mul-eq-zero_ℤ z z e)
     go (inr h) = h
 
 far_above : (s t p : Fraction) → ¬ (bracket s t p ≡ pos 0) → p.w ≡ s.w → pos 0 <ℤ far s p
-far_above s t p n o = strictly_above (far s p) (both (square-nonneg_ℤ (p.x -ℤ s.x)) (square-nonneg_ℤ (p.y -ℤ s.y)))
-    (λ e. n (same_place s t p (equal p.x s.x (none_of_square (p.x -ℤ s.x) (first _ _ (square-nonneg_ℤ (p.x -ℤ s.x)) (square-nonneg_ℤ (p.y -ℤ s.y)) e))) (equal p.y s.y (none_of_square (p.y -ℤ s.y) (second _ _ (square-nonneg_ℤ (p.x -ℤ s.x)) (square-nonneg_ℤ (p.y -ℤ s.y)) e))) o))
+far_above s t p n o = not_right_strict (sum_weak (square-nonneg_ℤ (p.x -ℤ s.x)) (square-nonneg_ℤ (p.y -ℤ s.y))) (λ e. n (same_place s t p (no_difference p.x s.x (none_of_square (p.x -ℤ s.x) (first _ _ (square-nonneg_ℤ (p.x -ℤ s.x)) (square-nonneg_ℤ (p.y -ℤ s.y)) e))) (no_difference p.y s.y (none_of_square (p.y -ℤ s.y) (second _ _ (square-nonneg_ℤ (p.x -ℤ s.x)) (square-nonneg_ℤ (p.y -ℤ s.y)) e))) o))
   where
-    both : {a b : ℤ} → pos 0 ≤ℤ a → pos 0 ≤ℤ b → pos 0 ≤ℤ (a +ℤ b)
-    both h k = omega (arith, ints)
-
     first : (a b : ℤ) → pos 0 ≤ℤ a → pos 0 ≤ℤ b → a +ℤ b ≡ pos 0 → a ≡ pos 0
     first a b h k e = omega (arith, ints)
 
     second : (a b : ℤ) → pos 0 ≤ℤ a → pos 0 ≤ℤ b → a +ℤ b ≡ pos 0 → b ≡ pos 0
     second a b h k e = omega (arith, ints)
-
-    equal : (a b : ℤ) → a -ℤ b ≡ pos 0 → a ≡ b
-    equal a b e = omega (arith, ints)
 
 -- brackets with the last two exchanged
 mirror_below : (a b s : Fraction) → pos 0 <ℤ bracket a b s → bracket s b a <ℤ pos 0
@@ -159,12 +141,6 @@ mirror_below' s a b h = let e = bracket-turned s b a in let d = bracket-swapped 
 
 mirror_none : (s v x : Fraction) → bracket s v x ≡ pos 0 → bracket x v s ≡ pos 0
 mirror_none s v x h = let e = bracket-turned s v x in let d = bracket-swapped v x s in omega (arith, ints)
-
-not_none_below : {z : ℤ} → z <ℤ pos 0 → ¬ (z ≡ pos 0)
-not_none_below h e = omega (arith, ints)
-
-not_none_above : {z : ℤ} → pos 0 <ℤ z → ¬ (z ≡ pos 0)
-not_none_above h e = omega (arith, ints)
 
 module _ (T : Tiling) (s t : ℕ) (hs : T.IsVertex s) (ht : T.IsVertex t) (clear : (n : ℕ) → T.IsVertex n → ¬ Between (T.at s) (T.at t) (T.at n)) where
   open T use {at, IsVertex, IsFace}
@@ -225,17 +201,17 @@ module _ (T : Tiling) (s t : ℕ) (hs : T.IsVertex s) (ht : T.IsVertex t) (clear
         go : Before T t s ht hs clear' y v x → pos 0 <ℤ bracket (at s) (at v) (at x)
         go (by_left k) = turned_first (at v) (at x) (at s) (to_front v x k).start
         go (from_start e) = subst (λ i. pos 0 <ℤ bracket (at s) (at v) (at i)) (sym e) (mirror_above (at s) (at t) (at v) c.right)
-        go (by_right k) = strictly_above _ (last_v.around x y (to_front x y k)) (λ n. let n' = mirror_none (at s) (at v) (at x) n in
+        go (by_right k) = not_right_strict (last_v.around x y (to_front x y k)) (λ n. let n' = mirror_none (at s) (at v) (at x) n in
             ray_clash v x n' (square_below _ _ (below_by _ _ _ (weight v n') (difference_below _ _ _ _ _ _ _ (bracket (at v) (at y) (at t)) (meeting (at s) (at t) (at v) (at x) (at v) (at y)) (bracket-first (at v) (at y)) n' c.right vyx c.start)) c.right)
-            (far_above (at s) (at t) (at v) (not_none_below c.right) (T.whole v ∙ sym (T.whole s))) (last_v.nearer x y (to_front x y k) n))
+            (far_above (at s) (at t) (at v) (right_not_zero c.right) (T.whole v ∙ sym (T.whole s))) (last_v.nearer x y (to_front x y k) n))
 
     z_around_v : pos 0 ≤ℤ bracket (at s) (at v) (at z)
     z_around_v = go front
       where
         go : Before T s t hs ht clear v y z → pos 0 ≤ℤ bracket (at s) (at v) (at z)
-        go (by_right k) = at_least (turned_first (at v) (at z) (at s) k.start)
+        go (by_right k) = weak (turned_first (at v) (at z) (at s) k.start)
         go (by_left k) = last_v.around z y k
-        go (from_start e) = is_least _ (ap (λ i. bracket (at s) (at v) (at i)) e ∙ bracket-first (at s) (at v))
+        go (from_start e) = zero_weak_left (ap (λ i. bracket (at s) (at v) (at i)) e ∙ bracket-first (at s) (at v))
 
     x_around_y : bracket (at s) (at y) (at x) <ℤ pos 0
     x_around_y = go back
@@ -243,17 +219,17 @@ module _ (T : Tiling) (s t : ℕ) (hs : T.IsVertex s) (ht : T.IsVertex t) (clear
         go : Before T t s ht hs clear' y v x → bracket (at s) (at y) (at x) <ℤ pos 0
         go (by_right k) = mirror_below (at x) (at y) (at s) (to_front x y k).start
         go (from_start e) = subst (λ i. bracket (at s) (at y) (at i) <ℤ pos 0) (sym e) (mirror_below' (at s) (at t) (at y) c.left)
-        go (by_left k) = strictly_below _ (last_y.around x (to_front v x k)) (λ n. let n' = mirror_none (at s) (at y) (at x) n in
+        go (by_left k) = not_left_strict (last_y.around x (to_front v x k)) (λ n. let n' = mirror_none (at s) (at y) (at x) n in
             ray_clash y x n' (square_above _ _ (above_by _ _ _ (weight y n') (difference_above _ _ _ _ _ _ _ (bracket (at v) (at y) (at t)) (meeting (at s) (at t) (at y) (at x) (at v) (at y)) (bracket-second (at v) (at y)) n' c.left vyx c.start)) c.left)
-            (far_above (at s) (at t) (at y) (not_none_above c.left) (T.whole y ∙ sym (T.whole s))) (last_y.nearer x (to_front v x k) n))
+            (far_above (at s) (at t) (at y) (left_not_zero c.left) (T.whole y ∙ sym (T.whole s))) (last_y.nearer x (to_front v x k) n))
 
     z_around_y : bracket (at s) (at y) (at z) ≤ℤ pos 0
     z_around_y = go front
       where
         go : Before T s t hs ht clear v y z → bracket (at s) (at y) (at z) ≤ℤ pos 0
         go (by_right k) = last_y.around z k
-        go (by_left k) = below_most (mirror_below (at z) (at y) (at s) k.start)
-        go (from_start e) = none_most (ap (λ i. bracket (at s) (at y) (at i)) e ∙ bracket-first (at s) (at y))
+        go (by_left k) = weak_right (mirror_below (at z) (at y) (at s) k.start)
+        go (from_start e) = zero_weak (ap (λ i. bracket (at s) (at y) (at i)) e ∙ bracket-first (at s) (at y))
 
     -- the quadrilateral round the edge v y is strictly convex
     pub flip_exists : (pos 0 <ℤ bracket (at v) (at x) (at z)) × (pos 0 <ℤ bracket (at x) (at y) (at z))

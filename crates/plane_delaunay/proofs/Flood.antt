@@ -6,11 +6,12 @@ use mathlib.Core.Path.{◌≡◌, sym, ◌∙◌, ap, subst, subst₂}
 use mathlib.Core.Logic.{◌⊎◌, inl, inr}
 use native.Mathlib.Omega.{arith}
 use borrow.Author.Differences.{ints}
-use Rattle.plane.proofs.IntegerOrder.{mul-pos_ℤ, zero_of_mul-zero_ℤ, pos-ne-zero_ℤ, mul-neg_of_pos_neg_ℤ, Sign, sign, below, none, above}
+use Rattle.plane_delaunay.proofs.Numbers.{stays_above, stays_below, none_before}
+use Rattle.plane.proofs.Steps.{weak, zero_weak_left, left_not_zero, right_not_zero, right_not_above, product_zero_left, weak_right}
+use Rattle.plane.proofs.IntegerOrder.{mul-pos_ℤ, zero_of_mul-zero_ℤ, pos-ne-zero_ℤ, mul-neg_of_pos_neg_ℤ, Sign, sign, below, none, above, zero-mul_ℤ}
 use Rattle.plane_delaunay.proofs.Bracket.{bracket, bracket-first, bracket-second, bracket-swapped, bracket-turned, pluecker}
-use Rattle.plane_delaunay.proofs.Tally.{Member, total, total-term, size, nudge, bracket-nudge, nudge-above, nudge-on, Closed, at_least}
+use Rattle.plane_delaunay.proofs.Tally.{Member, total, total-term, size, nudge, bracket-nudge, nudge-above, nudge-on, Closed}
 use Rattle.plane_delaunay.proofs.Faces.{Tiling, StartsFrom, Germ, germ, germ-closed, germ-turned, corner_2}
-use Rattle.plane_delaunay.proofs.Across.{none_left, none_right, level, apart_from_0, is_least}
 use Rattle.plane_delaunay.proofs.Walk.{OnWay, Step, reached, leaves_first, leaves_second, leaves_third, step, separation, leave}
 use Rattle.plane_delaunay.proofs.Meets.{OnSide, IsAt, on_side-swapped, on_side_of_closed, at_here, IsEdge, edge-swapped, Shared, same, reversed, at_vertex, edges_meet, edge_outside}
 use Rattle.plane.specs.Fraction.{Fraction}
@@ -42,18 +43,6 @@ swapped_above u v q h = let e = bracket-swapped u v q in omega (arith, ints)
 swapped_below : (u v q : Fraction) → pos 0 <ℤ bracket u v q → bracket v u q <ℤ pos 0
 swapped_below u v q h = let e = bracket-swapped u v q in omega (arith, ints)
 
-stays_above : (k l x p r : ℤ) → pos 0 <ℤ k → pos 0 <ℤ l → r ≡ k *ℤ x +ℤ l *ℤ p → pos 0 <ℤ x → pos 0 <ℤ p → pos 0 <ℤ r
-stays_above k l x p r hk hl e hx hp = let a = mul-pos_ℤ {a = k} {b = x} hk hx in let b = mul-pos_ℤ {a = l} {b = p} hl hp in omega (arith, ints)
-
-stays_below : (k l x p r : ℤ) → pos 0 <ℤ k → pos 0 <ℤ l → r ≡ k *ℤ x +ℤ l *ℤ p → x <ℤ pos 0 → p <ℤ pos 0 → r <ℤ pos 0
-stays_below k l x p r hk hl e hx hp = let a = mul-neg_of_pos_neg_ℤ {a = k} {b = x} hk hx in let b = mul-neg_of_pos_neg_ℤ {a = l} {b = p} hl hp in omega (arith, ints)
-
-none_before : (k l x p r : ℤ) → pos 0 <ℤ k → r ≡ k *ℤ x +ℤ l *ℤ p → p ≡ pos 0 → r ≡ pos 0 → x ≡ pos 0
-none_before k l x p r hk e hp hr = zero_of_mul-zero_ℤ {k = k} {x = x} (pos-ne-zero_ℤ hk) (let b = none_right l p hp in omega (arith, ints))
-
-crossed : {z : ℤ} → z <ℤ pos 0 → pos 0 ≤ℤ z → ⊥
-crossed h k = omega (arith, ints)
-
 module _ (T : Tiling) where
   open T use {at, IsVertex, IsFace, InHull}
 
@@ -79,8 +68,8 @@ module _ (T : Tiling) where
 
   near-on_way : (v x p x' : Fraction) → OnWay x p x' → IsNear v x → IsNear v p → IsNear v x'
   near-on_way v x p x' w h k = record {
-    keeps_right = λ i j s r. stays_below w.k w.l _ _ _ w.k_above w.l_above (w.along (at i) (at j)) (h.keeps_right i j s r) (k.keeps_right i j s r);
-    keeps_left = λ i j s l. stays_above w.k w.l _ _ _ w.k_above w.l_above (w.along (at i) (at j)) (h.keeps_left i j s l) (k.keeps_left i j s l);
+    keeps_right = λ i j s r. stays_below w.k w.l _ _ _ w.k_above w.l_above (w.along (at i) (at j)) (h.keeps_right i j s r) (weak_right (k.keeps_right i j s r));
+    keeps_left = λ i j s l. stays_above w.k w.l _ _ _ w.k_above w.l_above (w.along (at i) (at j)) (h.keeps_left i j s l) (weak (k.keeps_left i j s l));
   }
 
   module _ (K : Fraction → Type 0) (mean : (x p x' : Fraction) → OnWay x p x' → K x → K p → K x') (moved : (v x : Fraction) → IsAt v x → K x → K v) (S : ℕ → ℕ → Type 0) where
@@ -126,7 +115,7 @@ module _ (T : Tiling) where
         off_vertex y n i = n (at_here (at v) y (at v) (at d) i (bracket-first (at v) (at d)))
 
         not_degenerate : (a b c : ℕ) → IsFace a b c → ¬ (b ≡ a)
-        not_degenerate a b c f e = level _ (sym (bracket-turned (at a) (at b) (at c)) ∙ ap (λ i. bracket (at b) (at c) (at i)) (sym e) ∙ bracket-first (at b) (at c)) (T.turns a b c f)
+        not_degenerate a b c f e = left_not_zero (T.turns a b c f) (sym (bracket-turned (at a) (at b) (at c)) ∙ ap (λ i. bracket (at b) (at c) (at i)) (sym e) ∙ bracket-first (at b) (at c))
 
         Goes : ℕ → Type 0
         Goes m = (y : Fraction) → Here y → separation T y z < m → S v d
@@ -158,14 +147,14 @@ module _ (T : Tiling) where
               where
                 from : (pos 0 <ℤ bracket (at i) (at j) y) ⊎ ((bracket (at i) (at j) y ≡ pos 0) × (pos 0 ≤ℤ bracket (at i) (at j) z)) → pos 0 <ℤ bracket (at i) (at j) y
                 from (inl p) = p
-                from (inr p) = absurd (crossed r p.1)
+                from (inr p) = absurd (right_not_above r p.1)
 
             stays_off : (y' : Fraction) → OnWay y z y' → ¬ (bracket (at v) (at d) y' ≡ pos 0)
             stays_off y' w e = h.off (none_before w.k w.l (bracket (at v) (at d) y) (bracket (at v) (at d) z) _ w.k_above (w.along (at v) (at d)) line_z e)
 
             arrived : Closed (at v) (at a) (at b) z → Sign (bracket (at v) (at a) z) → Sign (bracket (at b) (at v) z) → S v d
-            arrived c (below p) q = absurd (crossed p c.first)
-            arrived c p (below q) = absurd (crossed q c.third)
+            arrived c (below p) q = absurd (right_not_above p c.first)
+            arrived c p (below q) = absurd (right_not_above q c.third)
             arrived c (none p) q = subst (λ n. S v n) (sym (same_end v d a z hd (inl (b, f)) a_other off_z on_z (on_side_of_closed (at v) (at a) (at b) z (T.turns v a b f) c p))) sa
             arrived c (above p) (none q) = subst (λ n. S v n) (sym (same_end v d b z hd (inr (a, f₃)) b_other off_z on_z (on_side-swapped (at b) (at v) z (on_side_of_closed (at b) (at v) (at a) z (T.turns b v a f₃) (record { first = c.third; second = c.first; third = c.second }) q)))) (F.turned b v sb)
             arrived c (above p) (above q) = absurd (edge_outside T v d v a b z hd f on_z (record { first = p; second = opposite; third = q }))
@@ -176,7 +165,7 @@ module _ (T : Tiling) where
               where
                 next : (y' : Fraction) × OnWay y z y' × (bracket (at v) (at a) y' ≡ pos 0) × Closed (at v) (at a) (at b) y' × (separation T y' z < separation T y z) → S v d
                 next r = goes r.0 (record { e = a; edge = inl (b, f); found = sa; on_edge = on_side_of_closed (at v) (at a) (at b) r.0 (T.turns v a b f) r.3 r.2; near = near-on_way (at v) y z r.0 r.1 h.near near_z; hull = T.closed_in_hull v a b f r.0 r.3; off = stays_off r.0 r.1 }) (smaller (separation T r.0 z) (separation T y z) m r.4 less)
-            go (leaves_second l) = absurd (crossed l.right (at_least opposite))
+            go (leaves_second l) = absurd (right_not_above l.right (weak opposite))
             go (leaves_third l) = next (leave T b v a y z f₃ (left_of b v g.third l.right) l)
               where
                 next : (y' : Fraction) × OnWay y z y' × (bracket (at b) (at v) y' ≡ pos 0) × Closed (at b) (at v) (at a) y' × (separation T y' z < separation T y z) → S v d
@@ -205,8 +194,8 @@ module _ (T : Tiling) where
             by_b s = onwards m goes a b y f g h less (F.next b v a f₃ s (at_vertex_shape v a kv)) s
 
             go : Sign (bracket (at v) (at a) y) → Sign (bracket (at b) (at v) y) → S v d
-            go (below p) q = absurd (crossed p c.first)
-            go p (below q) = absurd (crossed q c.third)
+            go (below p) q = absurd (right_not_above p c.first)
+            go p (below q) = absurd (right_not_above q c.third)
             go (none p) q = by_a (subst (λ n. S v n) (same_end v h.e a y h.edge (inl (b, f)) (not_degenerate v a b f) (off_vertex y h.off) h.on_edge (on_side_of_closed (at v) (at a) (at b) y (T.turns v a b f) c p)) h.found)
             go (above p) (none q) = by_b (F.turned v b (subst (λ n. S v n) (same_end v h.e b y h.edge (inr (a, f₃)) (λ e. not_degenerate b v a f₃ (sym e)) (off_vertex y h.off) h.on_edge (on_side-swapped (at b) (at v) y (on_side_of_closed (at b) (at v) (at a) y (T.turns b v a f₃) (record { first = c.third; second = c.first; third = c.second }) q))) h.found))
             go (above p) (above q) = absurd (edge_outside T v h.e v a b y h.edge f h.on_edge (record { first = p; second = opposite; third = q }))
@@ -215,9 +204,9 @@ module _ (T : Tiling) where
         at_least_near y n i j s h = go (sign (bracket (at i) (at j) (at v)))
           where
             go : Sign (bracket (at i) (at j) (at v)) → pos 0 ≤ℤ bracket (at i) (at j) (at v)
-            go (below p) = absurd (crossed (n.keeps_right i j s p) h)
-            go (none p) = is_least _ p
-            go (above p) = at_least p
+            go (below p) = absurd (right_not_above (n.keeps_right i j s p) h)
+            go (none p) = zero_weak_left p
+            go (above p) = weak p
 
         -- a closed face that has y has v as a corner
         at_v : (m : ℕ) → ((y : Fraction) → Here y → separation T y z < m → S v d) → (y : Fraction) → Here y → separation T y z < suc m → (i j k : ℕ) × IsFace i j k × Germ T y z i j k → S v d
@@ -280,11 +269,11 @@ module _ (T : Tiling) where
           other_side e = let p = bracket-swapped (at d) (at v) (at b) in let q = bracket-turned (at d) (at v) (at b) in omega (arith, ints)
 
       product_none : (x y a b c d : ℤ) → x *ℤ y -ℤ a *ℤ b +ℤ c *ℤ d ≡ pos 0 → a ≡ pos 0 → d ≡ pos 0 → ¬ (x ≡ pos 0) → y ≡ pos 0
-      product_none x y a b c d e p q n = zero_of_mul-zero_ℤ {k = x} {x = y} n (let r = none_left a b p in let s = none_right c d q in omega (arith, ints))
+      product_none x y a b c d e p q n = zero_of_mul-zero_ℤ {k = x} {x = y} n (let r = product_zero_left b p in let s = zero-mul_ℤ c q in omega (arith, ints))
 
       not_flat : (v b : ℕ) → (h : IsEdge T v b) → (c : ℕ) × (¬ (bracket (at v) (at b) (at c) ≡ pos 0))
-      not_flat v b (inl s) = (s.0, λ e. level _ e (T.turns v b s.0 s.1))
-      not_flat v b (inr s) = (s.0, λ e. apart_from_0 _ e (swapped_below (at b) (at v) (at s.0) (T.turns b v s.0 s.1)))
+      not_flat v b (inl s) = (s.0, λ e. left_not_zero (T.turns v b s.0 s.1) e)
+      not_flat v b (inr s) = (s.0, λ e. right_not_zero (swapped_below (at b) (at v) (at s.0) (T.turns b v s.0 s.1)) e)
 
       not_both : (v b c d : ℕ) → ¬ (bracket (at v) (at b) (at c) ≡ pos 0) → IsEdge T v d → bracket (at v) (at b) (at d) ≡ pos 0 → ¬ (bracket (at v) (at c) (at d) ≡ pos 0)
       not_both v b c d n hd p q = let g = not_flat v d hd in
@@ -294,16 +283,13 @@ module _ (T : Tiling) where
       pub star : (v b d : ℕ) → K (at v) → IsEdge T v b → S v b → IsEdge T v d → S v d
       star v b d kv hb sb hd = go hb (sign (bracket (at v) (at b) (at d)))
         where
-          not_zero : {z : ℤ} → z <ℤ pos 0 → ¬ (z ≡ pos 0)
-          not_zero h e = omega (arith, ints)
-
           go : IsEdge T v b → Sign (bracket (at v) (at b) (at d)) → S v d
-          go h (below p) = star_off v b d kv hb sb hd (not_zero p)
-          go h (above p) = star_off v b d kv hb sb hd (λ e. level _ e p)
+          go h (below p) = star_off v b d kv hb sb hd (right_not_zero p)
+          go h (above p) = star_off v b d kv hb sb hd (λ e. left_not_zero p e)
           go (inl s) (none p) = star_off v s.0 d kv (inr (b, T.turned b s.0 v (T.turned v b s.0 s.1))) (F.turned s.0 v (F.last v b s.0 s.1 sb (at_vertex_shape' v s.0 kv))) hd
-              (not_both v b s.0 d (λ e. level _ e (T.turns v b s.0 s.1)) hd p)
+              (not_both v b s.0 d (λ e. left_not_zero (T.turns v b s.0 s.1) e) hd p)
           go (inr s) (none p) = star_off v s.0 d kv (inl (b, T.turned b v s.0 s.1)) (F.next b v s.0 s.1 (F.turned v b sb) (at_vertex_shape v s.0 kv)) hd
-              (not_both v b s.0 d (λ e. apart_from_0 _ e (swapped_below (at b) (at v) (at s.0) (T.turns b v s.0 s.1))) hd p)
+              (not_both v b s.0 d (λ e. right_not_zero (swapped_below (at b) (at v) (at s.0) (T.turns b v s.0 s.1)) e) hd p)
 
       -- all edges through a point of the set, from one of them
       pub through_point : (a b u v : ℕ) (y : Fraction) → IsEdge T a b → S a b → IsEdge T u v → K y → OnSide (at a) (at b) y → OnSide (at u) (at v) y → S u v
@@ -347,15 +333,15 @@ module _ (T : Tiling) where
               where
                 from : (pos 0 <ℤ bracket (at i) (at j) y) ⊎ ((bracket (at i) (at j) y ≡ pos 0) × (pos 0 ≤ℤ bracket (at i) (at j) z)) → pos 0 <ℤ bracket (at i) (at j) y
                 from (inl p) = p
-                from (inr p) = absurd (crossed r p.1)
+                from (inr p) = absurd (right_not_above r p.1)
 
             turned_closed : {a b c x : Fraction} → Closed a b c x → Closed b c a x
             turned_closed c = record { first = c.second; second = c.third; third = c.first }
 
             arrived : Closed (at i) (at j) (at k) z → Sign (bracket (at i) (at j) z) → Sign (bracket (at j) (at k) z) → Sign (bracket (at k) (at i) z) → S u v
-            arrived c (below p) q r = absurd (crossed p c.first)
-            arrived c p (below q) r = absurd (crossed q c.second)
-            arrived c p q (below r) = absurd (crossed r c.third)
+            arrived c (below p) q r = absurd (right_not_above p c.first)
+            arrived c p (below q) r = absurd (right_not_above q c.second)
+            arrived c p q (below r) = absurd (right_not_above r c.third)
             arrived c (none p) q r = through_point i j u v z (inl (k, f)) s hu kz (on_side_of_closed (at i) (at j) (at k) z (T.turns i j k f) c p) oz
             arrived c (above p) (none q) r = let o = on_side_of_closed (at j) (at k) (at i) z (T.turns j k i f₂) (turned_closed c) q in through_point j k u v z (inl (i, f₂)) (F.next i j k f s (z, kz, o)) hu kz o oz
             arrived c (above p) (above q) (none r) = let o = on_side_of_closed (at k) (at i) (at j) z (T.turns k i j f₃) (turned_closed (turned_closed c)) r in through_point k i u v z (inl (j, f₃)) (F.last i j k f s (z, kz, o)) hu kz o oz
@@ -383,9 +369,9 @@ module _ (T : Tiling) where
             side i j k f g e = from_side m finds i j k y f g h.is_in (through_point h.a h.b i j y h.edge h.found (inl (k, f)) h.is_in h.on_edge (on_side_of_closed (at i) (at j) (at k) y (T.turns i j k f) (germ-closed T y z i j k g) e)) less
 
             go : Sign (bracket (at i) (at j) y) → Sign (bracket (at j) (at k) y) → Sign (bracket (at k) (at i) y) → S u v
-            go (below p) q r = absurd (crossed p c.first)
-            go p (below q) r = absurd (crossed q c.second)
-            go p q (below r) = absurd (crossed r c.third)
+            go (below p) q r = absurd (right_not_above p c.first)
+            go p (below q) r = absurd (right_not_above q c.second)
+            go p q (below r) = absurd (right_not_above r c.third)
             go (none p) q r = side i j k f g p
             go (above p) (none q) r = side j k i (T.turned i j k f) (germ-turned T y z i j k g) q
             go (above p) (above q) (none r) = side k i j (T.turned j k i (T.turned i j k f)) (germ-turned T y z j k i (germ-turned T y z i j k g)) r

@@ -7,12 +7,14 @@ use mathlib.Core.Logic.{◌⊎◌, inl, inr}
 use mathlib.Core.List.{List, [], ◌∷◌}
 use native.Mathlib.Omega.{arith}
 use borrow.Author.Differences.{ints}
+use Rattle.plane_delaunay.proofs.Numbers.{swapped_sum, own_line, mix_positive}
+use Rattle.plane.proofs.Steps.{weak, weak_right, zero_weak_left, zero_weak, left_not_zero, right_not_zero}
 use Rattle.plane.proofs.IntegerLaws.{neg-mul_ℤ}
 use Rattle.plane.proofs.Solver.{num, ◌⊕◌, ◌⊖◌, ◌⊗◌, ⊝, ring_in, ring_over_from}
-use Rattle.plane.proofs.IntegerOrder.{mul-pos_ℤ, mul-nonneg_ℤ, zero_of_mul-zero_ℤ, pos-ne-zero_ℤ, lt_or_ge_ℤ, Sign, sign, below, none, above}
+use Rattle.plane.proofs.IntegerOrder.{mul-pos_ℤ, mul-nonneg_ℤ, zero_of_mul-zero_ℤ, pos-ne-zero_ℤ, lt_or_ge_ℤ, Sign, sign, below, none, above, neg-pos_ℤ, zero-mul_ℤ}
 use Rattle.plane_delaunay.proofs.Bracket.{fraction, bracket, bracketᵖ, mixed, bracket-mixed, bracket-turned, bracket-swapped, meeting-x, meeting-y, meeting-w, cramer}
-use Rattle.plane_delaunay.proofs.Tally.{Member, total, size, nudge, nudge-above, nudge-on, Inside, room, inside-nudge, at_least}
-use Rattle.plane_delaunay.proofs.Across.{none_right, none_of_sum, level, is_least, apart_from_0}
+use Rattle.plane_delaunay.proofs.Tally.{Member, total, size, nudge, nudge-above, nudge-on, Inside, room, inside-nudge}
+use Rattle.plane_delaunay.proofs.Across.{none_of_sum}
 use Rattle.plane_delaunay.proofs.Walk.{IsOff}
 use Rattle.plane.proofs.Means.{TwoWeights}
 use Rattle.plane.specs.Fraction.{Fraction, IsSame, IsNotNegative}
@@ -56,7 +58,7 @@ find ls a b c u v q t inside left = go (sign (bracket u v q))
         ]
 
     all_none : bracket u v a ≡ pos 0 → bracket u v b ≡ pos 0 → bracket u v c ≡ pos 0 → (s : Fraction) → bracket u v s ≡ pos 0
-    all_none x y z s = none_of_sum (bracket a b c) (bracket u v s) (bracket b c s *ℤ bracket u v a) (bracket c a s *ℤ bracket u v b) (bracket a b s *ℤ bracket u v c) t (cramer a b c s u v) (none_right (bracket b c s) (bracket u v a) x) (none_right (bracket c a s) (bracket u v b) y) (none_right (bracket a b s) (bracket u v c) z)
+    all_none x y z s = none_of_sum (bracket a b c) (bracket u v s) (bracket b c s *ℤ bracket u v a) (bracket c a s *ℤ bracket u v b) (bracket a b s *ℤ bracket u v c) t (cramer a b c s u v) (zero-mul_ℤ (bracket b c s) x) (zero-mul_ℤ (bracket c a s) y) (zero-mul_ℤ (bracket a b s) z)
 
     go : Sign (bracket u v q) → Found ls a b c u v
     go (below h) = to_right q inside left (swapped_above u v q h)
@@ -75,8 +77,8 @@ generic_point (m ∷ ms) ls a b c q t inside left = go (λ ls q i l. generic_poi
     Result ls ms = (q' : Fraction) × Inside a b c q' × AllLeft ls q' × AllOff ms q'
 
     go : ((ls : List (Fraction × Fraction)) (q : Fraction) → Inside a b c q → AllLeft ls q → (q' : Fraction) × Inside a b c q' × AllLeft ls q' × AllOff ms q') → Found ls a b c m.0 m.1 → (q' : Fraction) × Inside a b c q' × AllLeft ls q' × AllOff (m ∷ ms) q'
-    go more (to_left q i l h) = let r = more ((m.0, m.1) ∷ ls) q i (h, l) in (r.0, r.1, r.2.1, ((λ z. absurd (level _ z r.2.0)), r.3))
-    go more (to_right q i l h) = let r = more ((m.1, m.0) ∷ ls) q i (h, l) in (r.0, r.1, r.2.1, ((λ z. absurd (level _ (swapped_none m.0 m.1 r.0 z) r.2.0)), r.3))
+    go more (to_left q i l h) = let r = more ((m.0, m.1) ∷ ls) q i (h, l) in (r.0, r.1, r.2.1, ((λ z. absurd (left_not_zero r.2.0 z)), r.3))
+    go more (to_right q i l h) = let r = more ((m.1, m.0) ∷ ls) q i (h, l) in (r.0, r.1, r.2.1, ((λ z. absurd (left_not_zero r.2.0 (swapped_none m.0 m.1 r.0 z))), r.3))
     go more (nowhere q i l h) = let r = more ls q i l in (r.0, r.1, r.2, ((λ _. h), r.3))
 
 -- ---- a way from q to p that the segment a b does not hide
@@ -102,9 +104,6 @@ unfolding bracket
 same_bracket u v y p e = ring_over_from fraction [] (u ∷ v ∷ y ∷ p ∷ []) (λ u v y p. p.w ⊗ bracketᵖ u v y) (λ u v y p. y.w ⊗ bracketᵖ u v p)
     (λ u v y p. (u.y ⊗ v.w ⊖ u.w ⊗ v.y, y.x ⊗ p.w, p.x ⊗ y.w) ∷ (u.w ⊗ v.x ⊖ u.x ⊗ v.w, y.y ⊗ p.w, p.y ⊗ y.w) ∷ []) (e.x, (e.y, tt)) tt
 
-positive_mix : (k l v w : ℤ) → pos 0 <ℤ k → pos 0 ≤ℤ l → pos 0 <ℤ v → pos 0 <ℤ w → pos 0 <ℤ (k *ℤ v +ℤ l *ℤ w)
-positive_mix k l v w hk hl hv hw = let p = mul-pos_ℤ {a = k} {b = v} hk hv in let q = mul-nonneg_ℤ {a = l} {b = w} hl (at_least hw) in omega (arith, ints)
-
 once : (x y : ℤ) → pos 1 *ℤ (x +ℤ y) ≡ x +ℤ y
 once x y = omega (arith, ints)
 
@@ -113,24 +112,12 @@ met_sum s t x y k a l b e = omega (arith, ints, neg-mul_ℤ t y, neg-mul_ℤ l b
 
 not_positive : (s t x y k a l b : ℤ) → s *ℤ x -ℤ t *ℤ y ≡ k *ℤ a -ℤ l *ℤ b → pos 0 <ℤ (neg_ℤ t *ℤ y +ℤ s *ℤ x) → pos 0 <ℤ a → pos 0 <ℤ b → k ≤ℤ pos 0 → pos 0 ≤ℤ l → ⊥
 not_positive s t x y k a l b e h ha hb hk hl =
-    let p = mul-nonneg_ℤ {a = neg_ℤ k} {b = a} (omega (arith, ints)) (at_least ha) in
-    let q = mul-nonneg_ℤ {a = l} {b = b} hl (at_least hb) in
+    let p = mul-nonneg_ℤ {a = neg_ℤ k} {b = a} (omega (arith, ints)) (weak ha) in
+    let q = mul-nonneg_ℤ {a = l} {b = b} hl (weak hb) in
     omega (arith, ints, neg-mul_ℤ t y, neg-mul_ℤ k a)
-
-own_line : (s t : ℤ) → neg_ℤ t *ℤ s +ℤ s *ℤ t ≡ pos 0
-own_line s t = ring_in (s ∷ t ∷ []) (λ s t. ⊝ t ⊗ s ⊕ s ⊗ t) (λ s t. num 0) tt
-
-negated : {z : ℤ} → z <ℤ pos 0 → pos 0 <ℤ neg_ℤ z
-negated h = omega (arith, ints)
 
 weakly_negated : {z : ℤ} → z ≤ℤ pos 0 → pos 0 ≤ℤ neg_ℤ z
 weakly_negated h = omega (arith, ints)
-
-at_most_none : {z : ℤ} → z ≡ pos 0 → z ≤ℤ pos 0
-at_most_none h = omega (arith, ints)
-
-at_most : {z : ℤ} → z <ℤ pos 0 → z ≤ℤ pos 0
-at_most h = omega (arith, ints)
 
 open_from_right : (a b p q : Fraction) → bracket a b p <ℤ pos 0 → ((y : Fraction) → TwoWeights IsNotNegative q p y → TwoWeights IsNotNegative a b y → IsSame y p) → IsOpen a b p q
 open_from_right a b p q right free = go (lt_or_ge_ℤ (bracket a b q) (pos 0))
@@ -139,7 +126,7 @@ open_from_right a b p q right free = go (lt_or_ge_ℤ (bracket a b q) (pos 0))
     met left = cases
       where
         positive : pos 0 <ℤ (neg_ℤ (bracket a b p) *ℤ q.w +ℤ bracket a b q *ℤ p.w)
-        positive = positive_mix (neg_ℤ (bracket a b p)) (bracket a b q) q.w p.w (negated right) left q.positive p.positive
+        positive = mix_positive (neg_ℤ (bracket a b p)) (bracket a b q) q.w p.w (neg-pos_ℤ right) left q.positive p.positive
 
         meets : bracket q p a ≤ℤ pos 0 → pos 0 ≤ℤ bracket q p b → IsOpen a b p q
         meets ha hb =
@@ -149,7 +136,7 @@ open_from_right a b p q right free = go (lt_or_ge_ℤ (bracket a b q) (pos 0))
               k = neg_ℤ (bracket a b p);
               l = bracket a b q;
               n = pos 1;
-              k_allowed = at_least (negated right);
+              k_allowed = weak (neg-pos_ℤ right);
               l_allowed = left;
               positive = record { lt = tt };
               x = once (neg_ℤ (bracket a b p) *ℤ q.x) (bracket a b q *ℤ p.x);
@@ -168,7 +155,7 @@ open_from_right a b p q right free = go (lt_or_ge_ℤ (bracket a b q) (pos 0))
               w = met_sum (bracket a b q) (bracket a b p) p.w q.w (bracket q p b) a.w (bracket q p a) b.w (meeting-w a b p q);
             }) in
             let on : bracket a b y ≡ pos 0 = bracket-mixed a b (neg_ℤ (bracket a b p)) q (bracket a b q) p positive ∙ own_line (bracket a b q) (bracket a b p) in
-            absurd (apart_from_0 (bracket a b p) (zero_of_mul-zero_ℤ {k = y.w} {x = bracket a b p} (pos-ne-zero_ℤ positive) (sym (same_bracket a b y p same) ∙ none_right p.w (bracket a b y) on)) right)
+            absurd (right_not_zero right (zero_of_mul-zero_ℤ {k = y.w} {x = bracket a b p} (pos-ne-zero_ℤ positive) (sym (same_bracket a b y p same) ∙ zero-mul_ℤ p.w on)))
 
         cannot : pos 0 ≤ℤ bracket q p a → bracket q p b ≤ℤ pos 0 → IsOpen a b p q
         cannot ha hb = absurd (not_positive (bracket a b q) (bracket a b p) p.w q.w (bracket q p b) a.w (bracket q p a) b.w (meeting-w a b p q) positive a.positive b.positive hb ha)
@@ -176,19 +163,19 @@ open_from_right a b p q right free = go (lt_or_ge_ℤ (bracket a b q) (pos 0))
         cases : Sign (bracket q p a) → Sign (bracket q p b) → IsOpen a b p q
         cases (below h) (below k) = past_right h k
         cases (above h) (above k) = past_left h k
-        cases (below h) (none k) = meets (at_most h) (is_least _ k)
-        cases (below h) (above k) = meets (at_most h) (at_least k)
-        cases (none h) (none k) = meets (at_most_none h) (is_least _ k)
-        cases (none h) (above k) = meets (at_most_none h) (at_least k)
-        cases (none h) (below k) = cannot (is_least _ h) (at_most k)
-        cases (above h) (none k) = cannot (at_least h) (at_most_none k)
-        cases (above h) (below k) = cannot (at_least h) (at_most k)
+        cases (below h) (none k) = meets (weak_right h) (zero_weak_left k)
+        cases (below h) (above k) = meets (weak_right h) (weak k)
+        cases (none h) (none k) = meets (zero_weak h) (zero_weak_left k)
+        cases (none h) (above k) = meets (zero_weak h) (weak k)
+        cases (none h) (below k) = cannot (zero_weak_left h) (weak_right k)
+        cases (above h) (none k) = cannot (weak h) (zero_weak k)
+        cases (above h) (below k) = cannot (weak h) (weak_right k)
 
     go : (bracket a b q <ℤ pos 0) ⊎ (pos 0 ≤ℤ bracket a b q) → IsOpen a b p q
     go (inl h) = both_right right h
     go (inr h) = met h (sign (bracket q p a)) (sign (bracket q p b))
 
-swapped_weights : (a b p : Fraction) → TwoWeights IsNotNegative a b p → TwoWeights IsNotNegative b a p
+pub swapped_weights : (a b p : Fraction) → TwoWeights IsNotNegative a b p → TwoWeights IsNotNegative b a p
 swapped_weights a b p t = record {
   k = t.l;
   l = t.k;
@@ -200,10 +187,6 @@ swapped_weights a b p t = record {
   y = swapped_sum _ (t.k *ℤ a.y) (t.l *ℤ b.y) t.y;
   w = swapped_sum _ (t.k *ℤ a.w) (t.l *ℤ b.w) t.w;
 }
-  where
-    swapped_sum : (t x y : ℤ) → t ≡ x +ℤ y → t ≡ y +ℤ x
-    swapped_sum t x y e = omega (arith, ints)
-
 -- a segment that meets the way from q to p in p alone does not hide p
 pub open_if_free : (a b p q : Fraction) → ((y : Fraction) → TwoWeights IsNotNegative q p y → TwoWeights IsNotNegative a b y → IsSame y p) → IsOpen a b p q
 open_if_free a b p q free = go (sign (bracket a b p))

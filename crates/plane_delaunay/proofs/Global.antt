@@ -7,32 +7,20 @@ use mathlib.Core.Logic.{◌⊎◌, inl, inr}
 use mathlib.Core.List.{List, [], ◌∷◌}
 use native.Mathlib.Omega.{arith}
 use borrow.Author.Differences.{ints}
+use Rattle.plane_delaunay.proofs.Numbers.{stays_above, stays_below, none_before}
+use Rattle.plane.proofs.Steps.{weak, weak_right, zero_weak, both_signs, negated_left, right_not_zero}
 use Rattle.plane.proofs.IntegerLaws.{neg-mul_ℤ}
-use Rattle.plane.proofs.IntegerOrder.{mul-pos_ℤ, mul-nonneg_ℤ, zero_of_mul-zero_ℤ, pos-ne-zero_ℤ, mul-nonpos_of_nonneg_nonpos_ℤ, lt_or_ge_ℤ}
+use Rattle.plane.proofs.IntegerOrder.{mul-pos_ℤ, mul-nonneg_ℤ, zero_of_mul-zero_ℤ, pos-ne-zero_ℤ, mul-nonpos_of_nonneg_nonpos_ℤ, lt_or_ge_ℤ, zero-mul_ℤ}
 use Rattle.plane_delaunay.proofs.Bracket.{bracket, bracket-swapped, bracket-turned, bracket-first}
 use Rattle.plane_delaunay.proofs.Lift.{lift, lift-turned, lift-first, lift-second, lift-third, lift-across}
-use Rattle.plane_delaunay.proofs.Tally.{Member, Inside, inside-turned, closed_of_inside, at_least}
+use Rattle.plane_delaunay.proofs.Tally.{Member, Inside, inside-turned, closed_of_inside}
 use Rattle.plane_delaunay.proofs.Faces.{Tiling}
-use Rattle.plane_delaunay.proofs.Across.{none_left, none_right, level}
 use Rattle.plane_delaunay.proofs.Beyond.{face_across}
 use Rattle.plane_delaunay.proofs.Walk.{IsOff, OnWay, Leaves, Step, reached, leaves_first, leaves_second, leaves_third, step, passes_between, separation, beyond}
 use Rattle.plane_delaunay.proofs.Generic.{AllOff, IsOpen, on_line, both_left, both_right, past_left, past_right, open-swapped, AllOpen, keeps, generic_point}
 use Rattle.plane.specs.Fraction.{Fraction}
 
 -- ---- numbers
-stays_above : (k l x p r : ℤ) → pos 0 <ℤ k → pos 0 <ℤ l → r ≡ k *ℤ x +ℤ l *ℤ p → pos 0 <ℤ x → pos 0 ≤ℤ p → pos 0 <ℤ r
-stays_above k l x p r hk hl e hx hp = let a = mul-pos_ℤ {a = k} {b = x} hk hx in let b = mul-nonneg_ℤ {a = l} {b = p} (at_least hl) hp in omega (arith, ints)
-
-stays_below : (k l x p r : ℤ) → pos 0 <ℤ k → pos 0 <ℤ l → r ≡ k *ℤ x +ℤ l *ℤ p → x <ℤ pos 0 → p ≤ℤ pos 0 → r <ℤ pos 0
-stays_below k l x p r hk hl e hx hp =
-    let a = mul-pos_ℤ {a = k} {b = neg_ℤ x} hk (omega (arith, ints)) in
-    let b = mul-nonpos_of_nonneg_nonpos_ℤ {a = l} {b = p} (at_least hl) hp in
-    let c = mul-pos_ℤ {a = k} {b = neg_ℤ x} hk (omega (arith, ints)) in
-    omega (arith, ints, Rattle.plane.proofs.IntegerLaws.mul-neg_ℤ k x)
-
-none_before : (k l x p r : ℤ) → pos 0 <ℤ k → r ≡ k *ℤ x +ℤ l *ℤ p → p ≡ pos 0 → r ≡ pos 0 → x ≡ pos 0
-none_before k l x p r hk e hp hr = zero_of_mul-zero_ℤ {k = k} {x = x} (pos-ne-zero_ℤ hk) (let b = none_right l p hp in omega (arith, ints))
-
 turned_sum : (k l x p r x' p' r' : ℤ) → r ≡ k *ℤ x +ℤ l *ℤ p → x' ≡ x → r' ≡ r → p ≡ pos 0 → r' ≡ k *ℤ x' +ℤ l *ℤ pos 0
 turned_sum k l x p r x' p' r' e ex er ep = er ∙ e ∙ (λ i. k *ℤ sym ex i +ℤ l *ℤ ep i)
 
@@ -41,25 +29,10 @@ not_above_from k x m y n z e hk hm hy hn hz = go (lt_or_ge_ℤ (pos 0) x)
   where
     go : (pos 0 <ℤ x) ⊎ (x ≤ℤ pos 0) → x ≤ℤ pos 0
     go (inr h) = h
-    go (inl h) = absurd (let a = mul-pos_ℤ {a = k} {b = x} hk h in let b = mul-nonpos_of_nonneg_nonpos_ℤ {a = m} {b = y} (at_least hm) hy in let c = mul-nonpos_of_nonneg_nonpos_ℤ {a = n} {b = z} (at_least hn) hz in omega (arith, ints))
-
-is_most : (z : ℤ) → z ≡ pos 0 → z ≤ℤ pos 0
-is_most z e = omega (arith, ints)
+    go (inl h) = absurd (let a = mul-pos_ℤ {a = k} {b = x} hk h in let b = mul-nonpos_of_nonneg_nonpos_ℤ {a = m} {b = y} (weak hm) hy in let c = mul-nonpos_of_nonneg_nonpos_ℤ {a = n} {b = z} (weak hn) hz in omega (arith, ints))
 
 zero_most : pos 0 ≤ℤ pos 0
 zero_most = record { le = tt }
-
-crossed : {z : ℤ} → pos 0 <ℤ z → z <ℤ pos 0 → ⊥
-crossed h k = omega (arith, ints)
-
-flipped_above : (x y : ℤ) → y ≡ neg_ℤ x → x <ℤ pos 0 → pos 0 <ℤ y
-flipped_above x y e h = omega (arith, ints)
-
-least_of : {z : ℤ} → pos 0 <ℤ z → pos 0 ≤ℤ z
-least_of h = omega (arith, ints)
-
-most_of : {z : ℤ} → z <ℤ pos 0 → z ≤ℤ pos 0
-most_of h = omega (arith, ints)
 
 -- ---- along the way the same holds
 way_front : (x p x' a : Fraction) (w : OnWay x p x') → bracket x' p a ≡ w.k *ℤ bracket x p a +ℤ w.l *ℤ pos 0
@@ -67,8 +40,8 @@ way_front x p x' a w = turned_sum w.k w.l (bracket p a x) (bracket p a p) (brack
 
 open-on_way : (a b p x x' : Fraction) → OnWay x p x' → IsOpen a b p x → IsOpen a b p x'
 open-on_way a b p x x' w (on_line h) = on_line h
-open-on_way a b p x x' w (both_left h k) = both_left h (stays_above w.k w.l _ _ _ w.k_above w.l_above (w.along a b) k (least_of h))
-open-on_way a b p x x' w (both_right h k) = both_right h (stays_below w.k w.l _ _ _ w.k_above w.l_above (w.along a b) k (most_of h))
+open-on_way a b p x x' w (both_left h k) = both_left h (stays_above w.k w.l _ _ _ w.k_above w.l_above (w.along a b) k (weak h))
+open-on_way a b p x x' w (both_right h k) = both_right h (stays_below w.k w.l _ _ _ w.k_above w.l_above (w.along a b) k (weak_right h))
 open-on_way a b p x x' w (past_left h k) = past_left (stays_above w.k w.l _ (pos 0) _ w.k_above w.l_above (way_front x p x' a w) h zero_most) (stays_above w.k w.l _ (pos 0) _ w.k_above w.l_above (way_front x p x' b w) k zero_most)
 open-on_way a b p x x' w (past_right h k) = past_right (stays_below w.k w.l _ (pos 0) _ w.k_above w.l_above (way_front x p x' a w) h zero_most) (stays_below w.k w.l _ (pos 0) _ w.k_above w.l_above (way_front x p x' b w) k zero_most)
 
@@ -77,11 +50,11 @@ off-on_way p v x x' w off z = off (none_before w.k w.l (bracket p v x) (bracket 
 
 -- a segment through which the way passes strictly within hides p
 hidden : (a b p x : Fraction) → bracket a b p <ℤ pos 0 → pos 0 <ℤ bracket a b x → bracket x p a <ℤ pos 0 → pos 0 <ℤ bracket x p b → ¬ IsOpen a b p x
-hidden a b p x right left pa pb (on_line h) = Rattle.plane_delaunay.proofs.Across.apart_from_0 _ h right
-hidden a b p x right left pa pb (both_left h k) = crossed h right
-hidden a b p x right left pa pb (both_right h k) = crossed left k
-hidden a b p x right left pa pb (past_left h k) = crossed h pa
-hidden a b p x right left pa pb (past_right h k) = crossed pb k
+hidden a b p x right left pa pb (on_line h) = right_not_zero right h
+hidden a b p x right left pa pb (both_left h k) = both_signs h right
+hidden a b p x right left pa pb (both_right h k) = both_signs left k
+hidden a b p x right left pa pb (past_left h k) = both_signs h pa
+hidden a b p x right left pa pb (past_right h k) = both_signs pb k
 
 abbrev pub rays : (ℕ → Fraction) → Fraction → List (ℕ × ℕ) → List (Fraction × Fraction)
 rays at p [] = []
@@ -128,7 +101,7 @@ module _ (T : Tiling) (cs : List (ℕ × ℕ)) where
                 (lift-across (at a) (at b) (at c) (at g.0) (at n))
                 (T.turns b a g.0 g.1) (T.turns a b c f)
                 (walks b a g.0 r.0 g.1 r.2 (λ i j h. open-on_way (at i) (at j) (at n) x r.0 r.1 (is_open i j h)) (λ i j h. off-on_way (at n) (at i) x r.0 r.1 (generic i j h)) (smaller (separation T r.0 (at n)) (separation T x (at n)) m r.3 less))
-                (flipped_above _ _ (bracket-swapped (at a) (at b) (at n)) leaves.right)
+                (negated_left (bracket-swapped (at a) (at b) (at n)) leaves.right)
                 (local a b c g.0 f g.1 free)
               where
                 smaller : (i j m : ℕ) → i < j → j < suc m → i < m
@@ -139,9 +112,9 @@ module _ (T : Tiling) (cs : List (ℕ × ℕ)) where
     walk (suc m) a b c x f inside is_open generic less = go (walk m) (step x (at n) (at a) (at b) (at c) (closed_of_inside inside))
       where
         corner : (n ≡ a) ⊎ ((n ≡ b) ⊎ (n ≡ c)) → lift (at a) (at b) (at c) (at n) ≤ℤ pos 0
-        corner (inl e) = is_most _ (ap (λ i. lift (at a) (at b) (at c) (at i)) e ∙ lift-first (at a) (at b) (at c))
-        corner (inr (inl e)) = is_most _ (ap (λ i. lift (at a) (at b) (at c) (at i)) e ∙ lift-second (at a) (at b) (at c))
-        corner (inr (inr e)) = is_most _ (ap (λ i. lift (at a) (at b) (at c) (at i)) e ∙ lift-third (at a) (at b) (at c))
+        corner (inl e) = zero_weak (ap (λ i. lift (at a) (at b) (at c) (at i)) e ∙ lift-first (at a) (at b) (at c))
+        corner (inr (inl e)) = zero_weak (ap (λ i. lift (at a) (at b) (at c) (at i)) e ∙ lift-second (at a) (at b) (at c))
+        corner (inr (inr e)) = zero_weak (ap (λ i. lift (at a) (at b) (at c) (at i)) e ∙ lift-third (at a) (at b) (at c))
 
         go : Walks m → Step x (at n) (at a) (at b) (at c) → lift (at a) (at b) (at c) (at n) ≤ℤ pos 0
         go walks (reached h) = corner (T.empty a b c n f vn h)

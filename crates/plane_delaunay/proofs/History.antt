@@ -3,13 +3,14 @@ use Rattle.std.proofs.Common.{◌≡◌, ℕ, List, sym, ◌∙◌, ap, subst}
 use mathlib.Core.Path.{subst₂, subst₃}
 use mathlib.Core.Logic.{inl, inr}
 use Rattle.std.specs.Prelude.{◌≢◌, pos, ◌≤ℤ◌}
+use Rattle.plane.proofs.Steps.{left_not_below}
 use Rattle.plane.proofs.Centre.{centre, centre_is_centre}
 use Rattle.plane_delaunay.proofs.Bracket.{bracket}
 use Rattle.plane_delaunay.proofs.Lift.{lift, inside_is_lift, far_if_none}
 use Rattle.plane_delaunay.proofs.Tally.{Inside}
 use Rattle.plane_delaunay.proofs.Ground.{tiling, inside_of}
 use Rattle.plane_delaunay.proofs.Where.{vertices_apart}
-use Rattle.plane_delaunay.proofs.EmptyCircles.{visibly_empty_is_face, IsOpenTriple, OneCircle, face_open, overlapping, no_face, spot, clash, straight_line}
+use Rattle.plane_delaunay.proofs.EmptyCircles.{visibly_empty_is_face, IsOpenTriple, OneCircle, face_open, overlapping, no_face, spot, straight_line}
 use Rattle.plane.specs.Fraction.{Fraction, OnSegment}
 use Rattle.plane.specs.Side.{TurnsLeft}
 use Rattle.plane.specs.Circle.{AreEquallyFar, OnCircle}
@@ -83,7 +84,7 @@ module _ (s t : Triangulation) (d c : List (ℕ × ℕ)) (there : IsPartOf s d t
               turns = o.turns;
               unentered = λ p a. o.unentered p (inside_of _ _ _ p o.turns a);
               clear = λ q hq x y z seen. (
-                λ b. clash (o.outside q hq seen) ((inside_is_lift (spot t l) (spot t m) (spot t n) (spot t q) o.turns).0 b),
+                λ b. left_not_below ((inside_is_lift (spot t l) (spot t m) (spot t n) (spot t q) o.turns).0 b) (o.outside q hq seen),
                 general l m n q o.corners.0 o.corners.1 o.corners.2 hq o.turns x y z,
               );
             }

@@ -3,9 +3,11 @@ use Rattle.std.proofs.Common.{◌≡◌, ℕ, zero, suc, ◌<◌, List, [], ◌�
 use Rattle.std.specs.Prelude.{ℤ, pos, ◌≤ℤ◌, ◌*ℤ◌, ◌+ℤ◌, All}
 use Rattle.std.proofs.lemmas.List.Elements.{All-cons, All-nil, All-head, All-tail}
 use Rattle.std.proofs.lemmas.Int.{ints}
+use Rattle.plane_delaunay.proofs.Numbers.{sum_weak}
+use Rattle.plane.proofs.Steps.{weak}
 use Rattle.plane.proofs.Solver.{num, ◌⊕◌, ◌⊗◌, ring_in, ring_in_from}
 use Rattle.plane.proofs.IntegerOrder.{mul-pos_ℤ, mul-nonneg_ℤ}
-use Rattle.plane_delaunay.proofs.Tally.{nudge, at_least}
+use Rattle.plane_delaunay.proofs.Tally.{nudge}
 use Rattle.plane.proofs.Means.{ThreeWeights}
 use Rattle.plane.specs.Fraction.{Fraction, IsNotNegative, InHull, weighted_sum}
 
@@ -102,12 +104,8 @@ blend_allowed : (m n : ℤ) (ks ls : List ℤ) → pos 0 ≤ℤ m → pos 0 ≤�
 blend_allowed m n [] ls hm hn h k = All-nil IsNotNegative
 blend_allowed m n (a ∷ ks) [] hm hn h k = All-nil IsNotNegative
 blend_allowed m n (a ∷ ks) (b ∷ ls) hm hn h k = All-cons IsNotNegative (m *ℤ a +ℤ n *ℤ b) (blend m n ks ls)
-    (both (mul-nonneg_ℤ {a = m} {b = a} hm (All-head IsNotNegative a ks h)) (mul-nonneg_ℤ {a = n} {b = b} hn (All-head IsNotNegative b ls k)))
+    (sum_weak (mul-nonneg_ℤ {a = m} {b = a} hm (All-head IsNotNegative a ks h)) (mul-nonneg_ℤ {a = n} {b = b} hn (All-head IsNotNegative b ls k)))
     (blend_allowed m n ks ls hm hn (All-tail IsNotNegative a ks h) (All-tail IsNotNegative b ls k))
-  where
-    both : {x y : ℤ} → pos 0 ≤ℤ x → pos 0 ≤ℤ y → pos 0 ≤ℤ (x +ℤ y)
-    both h k = omega (arith, ints)
-
 scaled_sum : (s r n p q a b : ℤ) → s *ℤ p ≡ a → r *ℤ q ≡ b → s *ℤ r *ℤ (n *ℤ p +ℤ pos 1 *ℤ q) ≡ n *ℤ r *ℤ a +ℤ s *ℤ b
 scaled_sum s r n p q a b e d = ring_in_from (s ∷ r ∷ n ∷ p ∷ q ∷ a ∷ b ∷ []) (λ s r n p q a b. s ⊗ r ⊗ (n ⊗ p ⊕ num 1 ⊗ q)) (λ s r n p q a b. n ⊗ r ⊗ a ⊕ s ⊗ b)
     (λ s r n p q a b. (n ⊗ r, s ⊗ p, a) ∷ (s, r ⊗ q, b) ∷ []) (e, (d, tt)) tt
@@ -120,7 +118,7 @@ unfolding nudge
 nudge_in_hull cs n p q h k = record {
   weights = blend (pos n *ℤ k.scale) h.scale h.weights k.weights;
   one_each = length-blend (pos n *ℤ k.scale) h.scale h.weights k.weights (length cs) h.one_each k.one_each;
-  allowed = blend_allowed (pos n *ℤ k.scale) h.scale h.weights k.weights (mul-nonneg_ℤ {a = pos n} {b = k.scale} (whole_least n) (at_least k.positive)) (at_least h.positive) h.allowed k.allowed;
+  allowed = blend_allowed (pos n *ℤ k.scale) h.scale h.weights k.weights (mul-nonneg_ℤ {a = pos n} {b = k.scale} (whole_least n) (weak k.positive)) (weak h.positive) h.allowed k.allowed;
   scale = h.scale *ℤ k.scale;
   positive = mul-pos_ℤ h.positive k.positive;
   x = scaled_sum h.scale k.scale (pos n) p.x q.x _ _ h.x k.x ∙ sym (blend_sum (λ c. c.x) (pos n *ℤ k.scale) h.scale h.weights k.weights cs h.one_each k.one_each);

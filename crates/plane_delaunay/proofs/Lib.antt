@@ -1,3 +1,4 @@
+pub mod Numbers
 pub mod Bracket
 pub mod Lift
 pub mod Tally

@@ -6,12 +6,14 @@ use mathlib.Core.Path.{◌≡◌, refl, sym, ◌∙◌, ap, subst}
 use mathlib.Core.Logic.{◌⊎◌, inl, inr}
 use native.Mathlib.Omega.{arith}
 use borrow.Author.Differences.{ints}
-use Rattle.plane.proofs.IntegerOrder.{mul-pos_ℤ, mul-nonneg_ℤ, nonneg_of_mul-nonneg_ℤ, zero_of_mul-zero_ℤ, pos-ne-zero_ℤ, Sign, sign, below, none, above}
+use Rattle.plane_delaunay.proofs.Numbers.{swapped_sum, sum_least, sum_none}
+use Rattle.plane.proofs.Steps.{weak, zero_weak_left, left_not_zero, right_not_above, product_zero_left, not_right_strict}
+use Rattle.plane.proofs.IntegerOrder.{mul-pos_ℤ, mul-nonneg_ℤ, nonneg_of_mul-nonneg_ℤ, zero_of_mul-zero_ℤ, pos-ne-zero_ℤ, Sign, sign, below, none, above, zero-mul_ℤ}
 use Rattle.plane_delaunay.proofs.Bracket.{bracket, bracket-first, bracket-second, cramer, cramer-w}
-use Rattle.plane_delaunay.proofs.Tally.{Closed, Inside, at_least}
+use Rattle.plane_delaunay.proofs.Tally.{Closed, Inside}
 use Rattle.plane_delaunay.proofs.Faces.{Tiling, Between, none_within, side_not_inside, turned-above, corner_2}
-use Rattle.plane_delaunay.proofs.Across.{none_left, none_right, level, is_least, sides_same}
-use Rattle.plane_delaunay.proofs.Beyond.{not_second, above_of_least}
+use Rattle.plane_delaunay.proofs.Across.{sides_same}
+use Rattle.plane_delaunay.proofs.Beyond.{not_second}
 use Rattle.plane.specs.Fraction.{Fraction}
 
 -- x is on the closed segment of a and b, for each linear form
@@ -33,17 +35,14 @@ pub record IsAt (v x : Fraction) : Type 0 where
   pub k_above : pos 0 <ℤ k
   pub along : (s u : Fraction) → n *ℤ bracket s u x ≡ k *ℤ bracket s u v
 
-swapped_sum : (t x y : ℤ) → t ≡ x +ℤ y → t ≡ y +ℤ x
-swapped_sum t x y e = omega (arith, ints)
-
 pub on_side-swapped : (a b x : Fraction) → OnSide a b x → OnSide b a x
 on_side-swapped a b x h = record { n = h.n; k = h.l; l = h.k; n_above = h.n_above; k_least = h.l_least; l_least = h.k_least; along = λ u v. swapped_sum _ (h.k *ℤ bracket u v a) (h.l *ℤ bracket u v b) (h.along u v); weight = swapped_sum _ (h.k *ℤ a.w) (h.l *ℤ b.w) h.weight }
 
 second_only : (n x k a l b : ℤ) → n *ℤ x ≡ k *ℤ a +ℤ l *ℤ b → k ≡ pos 0 → n *ℤ x ≡ l *ℤ b
-second_only n x k a l b e z = let p = none_left k a z in omega (arith, ints)
+second_only n x k a l b e z = let p = product_zero_left a z in omega (arith, ints)
 
 above_second : (n x l b : ℤ) → n *ℤ x ≡ l *ℤ b → pos 0 <ℤ n → pos 0 <ℤ x → pos 0 ≤ℤ l → pos 0 <ℤ l
-above_second n x l b e hn hx hl = above_of_least l hl (λ z. level (n *ℤ x) (e ∙ none_left l b z) (mul-pos_ℤ hn hx))
+above_second n x l b e hn hx hl = not_right_strict hl (λ z. left_not_zero (mul-pos_ℤ hn hx) (e ∙ product_zero_left b z))
 
 pub data Place (a b x : Fraction) : Type 0 where
   at_first : IsAt a x → Place a b x
@@ -57,30 +56,21 @@ pub place_of : (a b x : Fraction) → OnSide a b x → Place a b x
 unfolding on_side-swapped
 place_of a b x h = go (sign h.k) (sign h.l)
   where
-    under : {z : ℤ} → z <ℤ pos 0 → pos 0 ≤ℤ z → ⊥
-    under h k = omega (arith, ints)
-
     go : Sign h.k → Sign h.l → Place a b x
-    go (below p) q = absurd (under p h.k_least)
-    go p (below q) = absurd (under q h.l_least)
+    go (below p) q = absurd (right_not_above p h.k_least)
+    go p (below q) = absurd (right_not_above q h.l_least)
     go (none p) q = at_second (at_end a b x h p)
     go (above p) (none q) = at_first (at_end b a x (on_side-swapped a b x h) q)
     go (above p) (above q) = within (record { n = h.n; k = h.k; l = h.l; n_above = h.n_above; k_above = p; l_above = q; along = h.along })
-
-sum_least : (n k l x a b : ℤ) → pos 0 <ℤ n → n *ℤ x ≡ k *ℤ a +ℤ l *ℤ b → pos 0 ≤ℤ k → pos 0 ≤ℤ a → pos 0 ≤ℤ l → pos 0 ≤ℤ b → pos 0 ≤ℤ x
-sum_least n k l x a b hn e hk ha hl hb = nonneg_of_mul-nonneg_ℤ {k = n} {x = x} hn (let p = mul-nonneg_ℤ {a = k} {b = a} hk ha in let q = mul-nonneg_ℤ {a = l} {b = b} hl hb in omega (arith, ints))
-
-sum_none : (n k l x a b : ℤ) → pos 0 <ℤ n → n *ℤ x ≡ k *ℤ a +ℤ l *ℤ b → a ≡ pos 0 → b ≡ pos 0 → x ≡ pos 0
-sum_none n k l x a b hn e ha hb = zero_of_mul-zero_ℤ {k = n} {x = x} (pos-ne-zero_ℤ hn) (let p = none_right k a ha in let q = none_right l b hb in omega (arith, ints))
 
 pub on_side-none : (a b x : Fraction) → OnSide a b x → bracket a b x ≡ pos 0
 on_side-none a b x h = sum_none h.n h.k h.l _ _ _ h.n_above (h.along a b) (bracket-first a b) (bracket-second a b)
 
 pub on_side-closed : (a b c x : Fraction) → OnSide a b x → pos 0 <ℤ bracket a b c → Closed a b c x
 on_side-closed a b c x h t = record {
-  first = is_least _ (on_side-none a b x h);
-  second = sum_least h.n h.k h.l _ _ _ h.n_above (h.along b c) h.k_least (at_least (turned-above a b c t)) h.l_least (is_least _ (bracket-first b c));
-  third = sum_least h.n h.k h.l _ _ _ h.n_above (h.along c a) h.k_least (is_least _ (bracket-second c a)) h.l_least (at_least (turned-above b c a (turned-above a b c t)));
+  first = zero_weak_left (on_side-none a b x h);
+  second = sum_least h.n h.k h.l _ _ _ h.n_above (h.along b c) h.k_least (weak (turned-above a b c t)) h.l_least (zero_weak_left (bracket-first b c));
+  third = sum_least h.n h.k h.l _ _ _ h.n_above (h.along c a) h.k_least (zero_weak_left (bracket-second c a)) h.l_least (weak (turned-above b c a (turned-above a b c t)));
 }
 
 two_of_three : (d x a b c : ℤ) → d *ℤ x ≡ a +ℤ b +ℤ c → c ≡ pos 0 → d *ℤ x ≡ a +ℤ b
@@ -95,19 +85,19 @@ on_side_of_closed a b c x t h z = record {
   n_above = t;
   k_least = h.second;
   l_least = h.third;
-  along = λ u v. two_of_three (bracket a b c) (bracket u v x) (bracket b c x *ℤ bracket u v a) (bracket c a x *ℤ bracket u v b) (bracket a b x *ℤ bracket u v c) (cramer a b c x u v) (none_left _ _ z);
-  weight = two_of_three (bracket a b c) x.w (bracket b c x *ℤ a.w) (bracket c a x *ℤ b.w) (bracket a b x *ℤ c.w) (cramer-w a b c x) (none_left _ _ z);
+  along = λ u v. two_of_three (bracket a b c) (bracket u v x) (bracket b c x *ℤ bracket u v a) (bracket c a x *ℤ bracket u v b) (bracket a b x *ℤ bracket u v c) (cramer a b c x u v) (product_zero_left _ z);
+  weight = two_of_three (bracket a b c) x.w (bracket b c x *ℤ a.w) (bracket c a x *ℤ b.w) (bracket a b x *ℤ c.w) (cramer-w a b c x) (product_zero_left _ z);
 }
 
 -- x's values are those of v
 at_none : (v x s u : Fraction) → IsAt v x → bracket s u x ≡ pos 0 → bracket s u v ≡ pos 0
-at_none v x s u h z = zero_of_mul-zero_ℤ {k = h.k} {x = bracket s u v} (pos-ne-zero_ℤ h.k_above) (sym (h.along s u) ∙ none_right h.n (bracket s u x) z)
+at_none v x s u h z = zero_of_mul-zero_ℤ {k = h.k} {x = bracket s u v} (pos-ne-zero_ℤ h.k_above) (sym (h.along s u) ∙ zero-mul_ℤ h.n z)
 
 at_least_there : (v x s u : Fraction) → IsAt v x → pos 0 ≤ℤ bracket s u x → pos 0 ≤ℤ bracket s u v
-at_least_there v x s u h z = nonneg_of_mul-nonneg_ℤ {k = h.k} {x = bracket s u v} h.k_above (subst (λ t. pos 0 ≤ℤ t) (h.along s u) (mul-nonneg_ℤ {a = h.n} {b = bracket s u x} (at_least h.n_above) z))
+at_least_there v x s u h z = nonneg_of_mul-nonneg_ℤ {k = h.k} {x = bracket s u v} h.k_above (subst (λ t. pos 0 ≤ℤ t) (h.along s u) (mul-nonneg_ℤ {a = h.n} {b = bracket s u x} (weak h.n_above) z))
 
 pub at_here : (v x s u : Fraction) → IsAt v x → bracket s u v ≡ pos 0 → bracket s u x ≡ pos 0
-at_here v x s u h z = zero_of_mul-zero_ℤ {k = h.n} {x = bracket s u x} (pos-ne-zero_ℤ h.n_above) (h.along s u ∙ none_right h.k (bracket s u v) z)
+at_here v x s u h z = zero_of_mul-zero_ℤ {k = h.n} {x = bracket s u x} (pos-ne-zero_ℤ h.n_above) (h.along s u ∙ zero-mul_ℤ h.k z)
 
 module _ (T : Tiling) where
   open T use {at, IsVertex, IsFace}
@@ -121,7 +111,7 @@ module _ (T : Tiling) where
 
   -- a vertex on a side is an end of it
   end_of_face : (e u v w : ℕ) (x : Fraction) → IsVertex e → IsFace u v w → IsAt (at e) x → OnSide (at u) (at v) x → (e ≡ u) ⊎ (e ≡ v)
-  end_of_face e u v w x he f i o = go (T.empty u v w e f he (record { first = is_least _ zero; second = at_least_there (at e) x (at v) (at w) i closed.second; third = at_least_there (at e) x (at w) (at u) i closed.third }))
+  end_of_face e u v w x he f i o = go (T.empty u v w e f he (record { first = zero_weak_left zero; second = at_least_there (at e) x (at v) (at w) i closed.second; third = at_least_there (at e) x (at w) (at u) i closed.third }))
     where
       t : pos 0 <ℤ bracket (at u) (at v) (at w)
       t = T.turns u v w f
@@ -135,7 +125,7 @@ module _ (T : Tiling) where
       go : (e ≡ u) ⊎ ((e ≡ v) ⊎ (e ≡ w)) → (e ≡ u) ⊎ (e ≡ v)
       go (inl p) = inl p
       go (inr (inl p)) = inr p
-      go (inr (inr p)) = absurd (level _ (ap (λ i. bracket (at u) (at v) (at i)) (sym p) ∙ zero) t)
+      go (inr (inr p)) = absurd (left_not_zero t (ap (λ i. bracket (at u) (at v) (at i)) (sym p) ∙ zero))
 
   pub end_of_edge : (e u v : ℕ) (x : Fraction) → IsVertex e → IsEdge u v → IsAt (at e) x → OnSide (at u) (at v) x → (e ≡ u) ⊎ (e ≡ v)
   end_of_edge e u v x he (inl f) i o = end_of_face e u v f.0 x he f.1 i o
@@ -153,8 +143,8 @@ module _ (T : Tiling) where
 
   within_both : (a b c u v w : ℕ) (x : Fraction) → IsFace a b c → IsFace u v w → Between (at a) (at b) x → OnSide (at u) (at v) x → Shared a b u v x
   within_both a b c u v w x f g m o = go (sides_same T a b c u v w x f g m zero
-      (above_of_least _ closed.second (not_second T a b u v w x (λ n. none_within T a b c n f) g m zero))
-      (above_of_least _ closed.third (λ y. not_second T a b w u v x (λ n. none_within T a b c n f) (T.turned v w u (T.turned u v w g)) m y zero)))
+      (not_right_strict closed.second (not_second T a b u v w x (λ n. none_within T a b c n f) g m zero))
+      (not_right_strict closed.third (λ y. not_second T a b w u v x (λ n. none_within T a b c n f) (T.turned v w u (T.turned u v w g)) m y zero)))
     where
       zero : bracket (at u) (at v) x ≡ pos 0
       zero = on_side-none (at u) (at v) x o

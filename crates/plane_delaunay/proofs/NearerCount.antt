@@ -4,6 +4,7 @@ use mathlib.Core.Logic.{◌⊎◌, inl, inr}
 use Rattle.std.specs.Prelude.{ℤ, pos, ◌<ℤ◌, ◌*ℤ◌, sum_by, ◌≤ℤ◌, cond, true, false, slice_index_or, int_lt}
 use Rattle.std.proofs.lemmas.Int.{ints}
 use Rattle.std.proofs.lemmas.List.Sums.{sum_by-cons, sum_by-le-sum_by}
+use Rattle.plane.proofs.Sides.{test_true, test_false}
 use Rattle.plane.proofs.IntegerOrder.{lt_or_ge_ℤ}
 use Rattle.plane.specs.Fraction.{Point, Fraction, whole}
 use Rattle.plane.specs.Circle.{gap, IsNearer}
@@ -19,12 +20,6 @@ sum_by-lt f g (x ∷ xs) (suc k) d h le l = omega (arith, sum_by-cons f x xs, su
 ones : {X : Type 0} (xs : List X) → sum_by (λ _. 1) xs ≡ length xs
 ones [] = λ _. 0
 ones (x ∷ xs) = omega (arith, sum_by-cons (λ _. 1) x xs, ones xs)
-
-test_true : (a b : ℤ) → a <ℤ b → int_lt a b ≡ true
-test_true a b h = grind (arith, ints)
-
-test_false : (a b : ℤ) → b ≤ℤ a → int_lt a b ≡ false
-test_false a b h = grind (arith, ints)
 
 -- 1 where a is below b
 abbrev flag : ℤ → ℤ → ℕ

@@ -3,14 +3,14 @@ use Rattle.std.proofs.Common.{◌≡◌, ℕ, [], ◌∷◌, arith}
 use mathlib.Core.Logic.{◌⊎◌, inl, inr}
 use Rattle.std.specs.Prelude.{ℤ, pos, ◌<ℤ◌, ◌≤ℤ◌, ◌+ℤ◌, ◌-ℤ◌, ◌*ℤ◌}
 use Rattle.std.proofs.lemmas.Int.{ints}
+use Rattle.plane.proofs.Steps.{weak}
 use Rattle.plane.proofs.Solver.{Poly, ◌⊕◌, ◌⊖◌, ◌⊗◌, ring_over}
 use Rattle.plane.proofs.IntegerOrder.{mul-pos_ℤ, mul-nonneg_ℤ, mul-nonpos_of_nonneg_nonpos_ℤ, nonneg_of_mul-nonneg_ℤ, lt_or_ge_ℤ}
 use Rattle.plane_delaunay.proofs.Bracket.{Syntax, bracket, bracketᵖ, above_if_left}
 use Rattle.plane_delaunay.proofs.Lift.{lift, liftᵖ, pointᵖ}
-use Rattle.plane_delaunay.proofs.Tally.{at_least}
 use Rattle.plane_delaunay.proofs.Cones.{Cone, cone}
 use Rattle.plane_delaunay.proofs.Ground.{tiling, triangle_of_inside, turned_face}
-use Rattle.plane_delaunay.proofs.NearestOnLine.{nearest_on_line}
+use Rattle.plane_delaunay.proofs.NearestOnLine.{nearest_on_line, with_ones}
 use Rattle.plane_delaunay.proofs.EmptyCircles.{spot, circle_lift, middle_of, middle_inside}
 use Rattle.plane.specs.Fraction.{Point, Fraction, whole}
 use Rattle.plane.specs.Circle.{gap, IsNearer}
@@ -39,14 +39,11 @@ not_below t s r a b c l d ht e hs ha hr hb hc hl = nonneg_of_mul-nonneg_ℤ {k =
 farther : (p : Fraction) (u v : Point) → ¬ IsNearer p (whole u) (whole v) → pos 0 ≤ℤ (gap p (whole u) -ℤ gap p (whole v))
 farther p u v n = go (lt_or_ge_ℤ (gap p (whole u)) (gap p (whole v)))
   where
-    ones : (a b : ℤ) → a <ℤ b → (a *ℤ (pos 1 *ℤ pos 1)) <ℤ (b *ℤ (pos 1 *ℤ pos 1))
-    ones a b h = omega (arith, ints)
-
     least : (a b : ℤ) → b ≤ℤ a → pos 0 ≤ℤ (a -ℤ b)
     least a b h = omega (arith, ints)
 
     go : (gap p (whole u) <ℤ gap p (whole v)) ⊎ (gap p (whole v) ≤ℤ gap p (whole u)) → pos 0 ≤ℤ (gap p (whole u) -ℤ gap p (whole v))
-    go (inl h) = absurd (n (record { nearer = ones (gap p (whole u)) (gap p (whole v)) h }))
+    go (inl h) = absurd (n (record { nearer = with_ones (gap p (whole u)) (gap p (whole v)) h }))
     go (inr h) = least (gap p (whole u)) (gap p (whole v)) h
 
 nearer_below : (p : Fraction) (u v : Point) → IsNearer p (whole u) (whole v) → ¬ (pos 0 ≤ℤ (gap p (whole u) -ℤ gap p (whole v)))
@@ -73,7 +70,7 @@ module _ (t : Triangulation) (D : IsConstrainedDelaunay t []) (h : TilesHull t) 
   nearest_in_hull p v hv neighbours = record { is_vertex = hv; none_nearer = λ w hw. from_cone w hw (cone (tiling t h) v (vertex t w) hv ((tiling t h).vertex_in_hull w hw)) }
     where
       squares : pos 0 ≤ℤ (p.w *ℤ p.w)
-      squares = at_least (mul-pos_ℤ {a = p.w} {b = p.w} p.positive p.positive)
+      squares = weak (mul-pos_ℤ {a = p.w} {b = p.w} p.positive p.positive)
 
       from_cone : (w : ℕ) → IsVertex t w → Cone (tiling t h) v (vertex t w) → ¬ IsNearer p (vertex t w) (vertex t v)
       from_cone w hw e near = nearer_below p (spot t w) (spot t v) near

@@ -4,6 +4,8 @@ use lib.IntN.{negsuc, nat_abs}
 use mathlib.Core.Logic.{◌⊎◌, inl, inr}
 use Rattle.std.specs.Prelude.{ℤ, pos, ◌<ℤ◌, ◌≤ℤ◌, ◌+ℤ◌, ◌-ℤ◌, ◌*ℤ◌}
 use Rattle.std.proofs.lemmas.Int.{ints}
+use Rattle.plane_delaunay.proofs.Numbers.{sum_weak}
+use Rattle.plane.proofs.Steps.{weak}
 use Rattle.plane.proofs.Solver.{num, ◌⊕◌, ◌⊖◌, ◌⊗◌, ⊝, ring_in_from}
 use Rattle.plane.proofs.IntegerOrder.{Sign, sign, below, none, above}
 use Rattle.plane.proofs.IntegerOrder.{mul-pos_ℤ, mul-nonneg_ℤ, pos_of_mul-pos_ℤ, square-nonneg_ℤ, square-pos_ℤ}
@@ -77,17 +79,11 @@ smaller_from n a b g h d e hn ha hb hh = less (pos_of_mul-pos_ℤ {k = n *ℤ n}
 plain_sum : (n a b : ℤ) → n *ℤ pos 1 ≡ a *ℤ pos 1 +ℤ b *ℤ pos 1 → n ≡ a +ℤ b
 plain_sum n a b e = omega (arith, ints)
 
-with_ones : (a b : ℤ) → a <ℤ b → (a *ℤ (pos 1 *ℤ pos 1)) <ℤ (b *ℤ (pos 1 *ℤ pos 1))
+pub with_ones : (a b : ℤ) → a <ℤ b → (a *ℤ (pos 1 *ℤ pos 1)) <ℤ (b *ℤ (pos 1 *ℤ pos 1))
 with_ones a b h = omega (arith, ints)
 
-without_ones : (a b : ℤ) → (a *ℤ (pos 1 *ℤ pos 1)) <ℤ (b *ℤ (pos 1 *ℤ pos 1)) → a <ℤ b
+pub without_ones : (a b : ℤ) → (a *ℤ (pos 1 *ℤ pos 1)) <ℤ (b *ℤ (pos 1 *ℤ pos 1)) → a <ℤ b
 without_ones a b h = omega (arith, ints)
-
-both_least : (a b : ℤ) → pos 0 ≤ℤ a → pos 0 ≤ℤ b → pos 0 ≤ℤ (a +ℤ b)
-both_least a b h k = omega (arith, ints)
-
-least_of : {z : ℤ} → pos 0 <ℤ z → pos 0 ≤ℤ z
-least_of h = omega (arith, ints)
 
 abbrev square : ℤ → ℤ
 square z = z *ℤ z
@@ -106,8 +102,8 @@ module _ (p : Fraction) (v w k : Point) (m : TwoWeights IsPositive (whole v) (wh
         (square (rise p (whole v))) (square (rise p (whole k))) (square (rise p (whole w))) dy
         (mean_square m.n m.k m.l (run p (whole k)) (run p (whole v)) (run p (whole w)) (mean_way m.n m.k m.l k.x v.x w.x p.x p.w m.x m.w) total_weight)
         (mean_square m.n m.k m.l (rise p (whole k)) (rise p (whole v)) (rise p (whole w)) (mean_way m.n m.k m.l k.y v.y w.y p.y p.w m.y m.w) total_weight))
-        (mul-pos_ℤ m.positive m.positive) (mul-pos_ℤ m.positive m.l_allowed) (least_of (mul-pos_ℤ m.k_allowed m.l_allowed))
-        (both_least dx dy (square-nonneg_ℤ (run p (whole w) -ℤ run p (whole v))) (square-nonneg_ℤ (rise p (whole w) -ℤ rise p (whole v))))
+        (mul-pos_ℤ m.positive m.positive) (mul-pos_ℤ m.positive m.l_allowed) (weak (mul-pos_ℤ m.k_allowed m.l_allowed))
+        (sum_weak (square-nonneg_ℤ (run p (whole w) -ℤ run p (whole v))) (square-nonneg_ℤ (rise p (whole w) -ℤ rise p (whole v))))
         (without_ones (gap p (whole w)) (gap p (whole v)) near.nearer));
   }
 
@@ -160,7 +156,7 @@ abs_less m (pos x) (negsuc y) h k l = absurd (omega (arith, ints))
 abs_less m (negsuc x) y h k l = absurd (omega (arith, ints))
 
 gap_least : (p q : Fraction) → pos 0 ≤ℤ gap p q
-gap_least p q = both_least (run p q *ℤ run p q) (rise p q *ℤ rise p q) (square-nonneg_ℤ (run p q)) (square-nonneg_ℤ (rise p q))
+gap_least p q = sum_weak (square-nonneg_ℤ (run p q)) (square-nonneg_ℤ (rise p q))
 
 module _ (t : Triangulation) (h : JoinsLine t) (p : Fraction) (v : ℕ) (hv : IsVertex t v) (neighbours : (u : ℕ) → IsEdge t v u → ¬ IsNearer p (vertex t u) (vertex t v)) where
   -- a nearer vertex next to v is a neighbour, and of any other one strictly between is nearer too

@@ -4,6 +4,7 @@ use mathlib.Core.Logic.{◌⊎◌, inl, inr}
 use lib.IntN.{neg_ℤ}
 use Rattle.std.specs.Prelude.{ℤ, pos, ◌<ℤ◌, map}
 use Rattle.std.proofs.lemmas.Int.{ints}
+use Rattle.plane.proofs.Steps.{negated_left}
 use Rattle.plane_delaunay.proofs.Bracket.{bracket, bracket-swapped, above_if_left, left_if_above}
 use Rattle.plane_delaunay.proofs.Ground.{tiling, closed_of, triangle_of_closed}
 use Rattle.plane_delaunay.proofs.Where.{IsBeyond, IsCovered, covered_or_beyond, corner_of_face, not_covered_and_beyond}
@@ -11,9 +12,6 @@ use Rattle.plane.specs.Fraction.{Fraction, whole, InHull}
 use Rattle.plane.specs.Side.{TurnsLeft}
 use Rattle.plane.specs.Tiling.{Triangulation, vertex, IsFace, HasFace, InCorners, TilesHull}
 use Rattle.plane.specs.Location.{IsOuter}
-
-swapped : (x y : ℤ) → y ≡ neg_ℤ x → x <ℤ pos 0 → pos 0 <ℤ y
-swapped x y e h = omega (arith, ints)
 
 swapped_back : (x y : ℤ) → y ≡ neg_ℤ x → pos 0 <ℤ y → x <ℤ pos 0
 swapped_back x y e h = omega (arith, ints)
@@ -34,7 +32,7 @@ module _ (t : Triangulation) (h : TilesHull t) where
         b.b,
         b.a,
         ((h.sides b.b b.a).1 (inr (b.c, b.is_face)), λ f. b.alone f.0 f.1),
-        left_if_above _ _ p (swapped (bracket (vertex t b.a) (vertex t b.b) p) (bracket (vertex t b.b) (vertex t b.a) p) (bracket-swapped (vertex t b.a) (vertex t b.b) p) b.right),
+        left_if_above _ _ p (negated_left (bracket-swapped (vertex t b.a) (vertex t b.b) p) b.right),
       )
 
   -- the face on the right of an outer edge

@@ -7,6 +7,7 @@ use mathlib.Core.Logic.{◌⊎◌, inl, inr}
 use mathlib.Core.List.{List, [], ◌∷◌}
 use native.Mathlib.Omega.{arith}
 use borrow.Author.Differences.{ints}
+use Rattle.plane.proofs.Steps.{weak}
 use Rattle.plane.proofs.IntegerOrder.{mul-nonneg_ℤ}
 use Rattle.plane_delaunay.proofs.Bracket.{bracket, mixed, bracket-mixed}
 use Rattle.plane.specs.Fraction.{Fraction}
@@ -124,11 +125,8 @@ closed-turned h = record { first = h.second; second = h.third; third = h.first }
 pub inside-turned : {a b c x : Fraction} → Inside a b c x → Inside b c a x
 inside-turned h = record { first = h.second; second = h.third; third = h.first }
 
-pub at_least : {z : ℤ} → pos 0 <ℤ z → pos 0 ≤ℤ z
-at_least h = omega (arith, ints)
-
 pub closed_of_inside : {a b c x : Fraction} → Inside a b c x → Closed a b c x
-closed_of_inside h = record { first = at_least h.first; second = at_least h.second; third = at_least h.third }
+closed_of_inside h = record { first = weak h.first; second = weak h.second; third = weak h.third }
 
 -- a nudge keeps a point strictly inside
 pub room : (a b c m : Fraction) → ℕ

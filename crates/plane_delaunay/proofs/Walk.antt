@@ -6,13 +6,14 @@ use mathlib.Core.Path.{◌≡◌, sym, ◌∙◌, ap, subst}
 use mathlib.Core.List.{[], ◌∷◌}
 use native.Mathlib.Omega.{arith}
 use borrow.Author.Differences.{ints}
+use Rattle.plane_delaunay.proofs.Numbers.{own_line, mix_positive}
+use Rattle.plane.proofs.Steps.{weak, weak_right, zero_weak_left, zero_weak, right_not_zero, negated_left}
 use Rattle.plane.proofs.IntegerLaws.{neg-mul_ℤ}
 use Rattle.plane.proofs.Solver.{num, ◌⊕◌, ◌⊖◌, ◌⊗◌, ⊝, ring_in, ring_in_from}
-use Rattle.plane.proofs.IntegerOrder.{mul-pos_ℤ, pos_of_mul-pos_ℤ, mul-neg_of_pos_neg_ℤ, sign, below, none, above}
+use Rattle.plane.proofs.IntegerOrder.{mul-pos_ℤ, pos_of_mul-pos_ℤ, mul-neg_of_pos_neg_ℤ, sign, below, none, above, neg-pos_ℤ, zero-mul_ℤ}
 use Rattle.plane_delaunay.proofs.Bracket.{bracket, mixed, bracket-mixed, bracket-turned, bracket-swapped, bracket-first, bracket-second, meeting}
-use Rattle.plane_delaunay.proofs.Tally.{total, total-lt, flag, flag-le, flag-lt, size, nudged, Closed, Inside, at_least}
+use Rattle.plane_delaunay.proofs.Tally.{total, total-lt, flag, flag-le, flag-lt, size, nudged, Closed, Inside}
 use Rattle.plane_delaunay.proofs.Faces.{Tiling}
-use Rattle.plane_delaunay.proofs.Across.{none_right, is_least, apart_from_0}
 use Rattle.plane_delaunay.proofs.Beyond.{Exit, stays, by_first, by_second, by_third, exit}
 use Rattle.plane.specs.Fraction.{Fraction}
 
@@ -49,20 +50,8 @@ left_before : (k l x p r : ℤ) → pos 0 <ℤ k → pos 0 <ℤ l → r ≡ k *�
 left_before k l x p r hk hl e hr hp = pos_of_mul-pos_ℤ {k = k} {x = x} hk (let q = mul-neg_of_pos_neg_ℤ {a = l} {b = p} hl hp in omega (arith, ints))
 
 -- ---- where the way meets the side
-mix_positive : (k l v w : ℤ) → pos 0 <ℤ k → pos 0 <ℤ l → pos 0 <ℤ v → pos 0 <ℤ w → pos 0 <ℤ (k *ℤ v +ℤ l *ℤ w)
-mix_positive k l v w hk hl hv hw = let p = mul-pos_ℤ {a = k} {b = v} hk hv in let q = mul-pos_ℤ {a = l} {b = w} hl hw in omega (arith, ints)
-
-negated : (z : ℤ) → z <ℤ pos 0 → pos 0 <ℤ neg_ℤ z
-negated z h = omega (arith, ints)
-
-on_side : (s t : ℤ) → neg_ℤ t *ℤ s +ℤ s *ℤ t ≡ pos 0
-on_side s t = ring_in (s ∷ t ∷ []) (λ s t. ⊝ t ⊗ s ⊕ s ⊗ t) (λ s t. num 0) tt
-
 off_side : (s t s' t' : ℤ) → neg_ℤ t *ℤ s' +ℤ s *ℤ t' ≡ s *ℤ t' -ℤ t *ℤ s'
 off_side s t s' t' = ring_in (s ∷ t ∷ s' ∷ t' ∷ []) (λ s t s' t'. ⊝ t ⊗ s' ⊕ s ⊗ t') (λ s t s' t'. s ⊗ t' ⊖ t ⊗ s') tt
-
-not_above : (z : ℤ) → z ≡ pos 0 → z ≤ℤ pos 0
-not_above z e = omega (arith, ints)
 
 -- ---- beyond the side
 beyond_sum : (n s t u v b a' a b' : ℤ) → s *ℤ v -ℤ t *ℤ u ≡ b *ℤ a' -ℤ a *ℤ b' → (n *ℤ neg_ℤ t) *ℤ u +ℤ (n *ℤ s +ℤ pos 1) *ℤ v ≡ n *ℤ (b *ℤ a' -ℤ a *ℤ b') +ℤ v
@@ -74,32 +63,26 @@ times_above : (n s : ℤ) → pos 0 <ℤ n → pos 0 <ℤ s → pos 0 <ℤ (n *�
 times_above n s h k = let p = mul-pos_ℤ {a = n} {b = s} h k in omega (arith, ints)
 
 both_none : (n b a' a b' v : ℤ) → a' ≡ pos 0 → b' ≡ pos 0 → n *ℤ (b *ℤ a' -ℤ a *ℤ b') +ℤ v ≡ v
-both_none n b a' a b' v e d = let p = none_right b a' e in let q = none_right a b' d in let r = none_right n (b *ℤ a' -ℤ a *ℤ b') (omega (arith, ints)) in omega (arith, ints)
+both_none n b a' a b' v e d = let p = zero-mul_ℤ b e in let q = zero-mul_ℤ a d in let r = zero-mul_ℤ n {x = b *ℤ a' -ℤ a *ℤ b'} (omega (arith, ints)) in omega (arith, ints)
 
 first_above : (b a' a b' : ℤ) → b' ≡ pos 0 → pos 0 <ℤ b → pos 0 <ℤ a' → pos 0 <ℤ (b *ℤ a' -ℤ a *ℤ b')
-first_above b a' a b' e h k = let p = mul-pos_ℤ {a = b} {b = a'} h k in let q = none_right a b' e in omega (arith, ints)
+first_above b a' a b' e h k = let p = mul-pos_ℤ {a = b} {b = a'} h k in let q = zero-mul_ℤ a e in omega (arith, ints)
 
 second_above : (b a' a b' : ℤ) → a' ≡ pos 0 → a <ℤ pos 0 → pos 0 <ℤ b' → pos 0 <ℤ (b *ℤ a' -ℤ a *ℤ b')
-second_above b a' a b' e h k = let p = mul-pos_ℤ {a = neg_ℤ a} {b = b'} (negated a h) k in let q = none_right b a' e in omega (arith, ints, neg-mul_ℤ a b')
-
-flipped_above : (x y : ℤ) → y ≡ neg_ℤ x → x <ℤ pos 0 → pos 0 <ℤ y
-flipped_above x y e h = omega (arith, ints)
-
-below_least : {z : ℤ} → z <ℤ pos 0 → z ≤ℤ pos 0
-below_least h = omega (arith, ints)
+second_above b a' a b' e h k = let p = mul-pos_ℤ {a = neg_ℤ a} {b = b'} (neg-pos_ℤ h) k in let q = zero-mul_ℤ b e in omega (arith, ints, neg-mul_ℤ a b')
 
 -- no linear form of p and v is 0 at q, but those that are 0 everywhere
 abbrev pub IsOff : Fraction → Fraction → Fraction → Type 0
 IsOff p v q = bracket p v q ≡ pos 0 → (u : Fraction) → bracket p v u ≡ pos 0
 
 first_end : (m s t : ℤ) → pos 0 <ℤ t → pos 0 ≤ℤ m → m ≡ s *ℤ t → pos 0 ≤ℤ s
-first_end m s t h k e = elim (sign s) [ below d ↦ absurd (let p = mul-pos_ℤ {a = neg_ℤ s} {b = t} (negated s d) h in omega (arith, ints, neg-mul_ℤ s t)) | none d ↦ is_least s d | above d ↦ at_least d ]
+first_end m s t h k e = elim (sign s) [ below d ↦ absurd (let p = mul-pos_ℤ {a = neg_ℤ s} {b = t} (neg-pos_ℤ d) h in omega (arith, ints, neg-mul_ℤ s t)) | none d ↦ zero_weak_left d | above d ↦ weak d ]
 
 left_part : (m b a' a b' : ℤ) → m ≡ b *ℤ a' -ℤ a *ℤ b' → b' ≡ pos 0 → m ≡ b *ℤ a'
-left_part m b a' a b' e d = let p = none_right a b' d in omega (arith, ints)
+left_part m b a' a b' e d = let p = zero-mul_ℤ a d in omega (arith, ints)
 
 right_part : (m b a' a b' : ℤ) → m ≡ b *ℤ a' -ℤ a *ℤ b' → a' ≡ pos 0 → m ≡ neg_ℤ a *ℤ b'
-right_part m b a' a b' e d = let p = none_right b a' d in omega (arith, ints, neg-mul_ℤ a b')
+right_part m b a' a b' e d = let p = zero-mul_ℤ b d in omega (arith, ints, neg-mul_ℤ a b')
 
 -- the way from x to p passes between the ends of the side
 pub passes_between : (x p a b c : Fraction) → pos 0 <ℤ bracket a b c → IsOff p a x → IsOff p b x → Leaves x p a b c → (bracket x p a <ℤ pos 0) × (pos 0 <ℤ bracket x p b)
@@ -112,10 +95,10 @@ passes_between x p a b c t off_a off_b h = (first (sign (bracket x p a)), second
     least_a = first_end _ (neg_ℤ (bracket x p a)) (bracket c a b) (subst (λ t. pos 0 <ℤ t) (sym (bracket-turned b c a ∙ bracket-turned a b c)) t) h.third (right_part _ (bracket x p b) (bracket c a a) (bracket x p a) (bracket c a b) (meeting a b p x c a) (bracket-second c a))
 
     clash_a : bracket p a x ≡ pos 0 → ⊥
-    clash_a e = apart_from_0 (bracket a b p) (bracket-turned p a b ∙ off_a e b) h.right
+    clash_a e = right_not_zero h.right (bracket-turned p a b ∙ off_a e b)
 
     clash_b : bracket p b x ≡ pos 0 → ⊥
-    clash_b e = apart_from_0 (bracket a b p) (sym (bracket-turned a b p) ∙ bracket-swapped p b a ∙ ap neg_ℤ (off_b e a)) h.right
+    clash_b e = right_not_zero h.right (sym (bracket-turned a b p) ∙ bracket-swapped p b a ∙ ap neg_ℤ (off_b e a))
 
     first : Rattle.plane.proofs.IntegerOrder.Sign (bracket x p a) → bracket x p a <ℤ pos 0
     first (below s) = s
@@ -152,22 +135,22 @@ module _ (T : Tiling) where
   -- the point where the way from y to z leaves a face: on the closed side, between y and z, and nearer to z
   pub leave : (a b c : ℕ) (y z : Fraction) → IsFace a b c → pos 0 <ℤ bracket (at a) (at b) y → Leaves y z (at a) (at b) (at c)
       → (y' : Fraction) × OnWay y z y' × (bracket (at a) (at b) y' ≡ pos 0) × Closed (at a) (at b) (at c) y' × (separation y' z < separation y z)
-  leave a b c y z f left h = (y', way, on, record { first = is_least _ on; second = least (at b) (at c) h.second; third = least (at c) (at a) h.third }, nearer_on_way a b c y z y' f way (not_above _ on) left h.right)
+  leave a b c y z f left h = (y', way, on, record { first = zero_weak_left on; second = least (at b) (at c) h.second; third = least (at c) (at a) h.third }, nearer_on_way a b c y z y' f way (zero_weak on) left h.right)
     where
       k : ℤ
       k = neg_ℤ (bracket (at a) (at b) z)
 
       y' : Fraction
-      y' = mixed (neg_ℤ (bracket (at a) (at b) z)) y (bracket (at a) (at b) y) z (mix_positive (neg_ℤ (bracket (at a) (at b) z)) (bracket (at a) (at b) y) y.w z.w (negated _ h.right) left y.positive z.positive)
+      y' = mixed (neg_ℤ (bracket (at a) (at b) z)) y (bracket (at a) (at b) y) z (mix_positive (neg_ℤ (bracket (at a) (at b) z)) (bracket (at a) (at b) y) y.w z.w (neg-pos_ℤ h.right) (weak left) y.positive z.positive)
 
       along : (u v : Fraction) → bracket u v y' ≡ neg_ℤ (bracket (at a) (at b) z) *ℤ bracket u v y +ℤ bracket (at a) (at b) y *ℤ bracket u v z
-      along u v = bracket-mixed u v (neg_ℤ (bracket (at a) (at b) z)) y (bracket (at a) (at b) y) z (mix_positive (neg_ℤ (bracket (at a) (at b) z)) (bracket (at a) (at b) y) y.w z.w (negated _ h.right) left y.positive z.positive)
+      along u v = bracket-mixed u v (neg_ℤ (bracket (at a) (at b) z)) y (bracket (at a) (at b) y) z (mix_positive (neg_ℤ (bracket (at a) (at b) z)) (bracket (at a) (at b) y) y.w z.w (neg-pos_ℤ h.right) (weak left) y.positive z.positive)
 
       way : OnWay y z y'
-      way = record { k = neg_ℤ (bracket (at a) (at b) z); l = bracket (at a) (at b) y; k_above = negated _ h.right; l_above = left; along = along }
+      way = record { k = neg_ℤ (bracket (at a) (at b) z); l = bracket (at a) (at b) y; k_above = neg-pos_ℤ h.right; l_above = left; along = along }
 
       on : bracket (at a) (at b) y' ≡ pos 0
-      on = along (at a) (at b) ∙ on_side (bracket (at a) (at b) y) (bracket (at a) (at b) z)
+      on = along (at a) (at b) ∙ own_line (bracket (at a) (at b) y) (bracket (at a) (at b) z)
 
       least : (u v : Fraction) → pos 0 ≤ℤ (bracket (at a) (at b) y *ℤ bracket u v z -ℤ bracket (at a) (at b) z *ℤ bracket u v y) → pos 0 ≤ℤ bracket u v y'
       least u v s = subst (λ t. pos 0 ≤ℤ t) (sym (along u v ∙ off_side (bracket (at a) (at b) y) (bracket (at a) (at b) z) (bracket u v y) (bracket u v z))) s
@@ -175,7 +158,7 @@ module _ (T : Tiling) where
   -- a point on the way that is strictly inside the face beyond the side
   pub beyond : (a b c d : ℕ) (x p : Fraction) → IsFace a b c → IsFace b a d → pos 0 <ℤ bracket (at a) (at b) x → bracket (at a) (at b) p <ℤ pos 0 → bracket x p (at a) <ℤ pos 0 → pos 0 <ℤ bracket x p (at b)
       → (x' : Fraction) × OnWay x p x' × Inside (at b) (at a) (at d) x' × (separation x' p < separation x p)
-  beyond a b c d x p f g left right pass_a pass_b = (x', way, inside, nearer_on_way a b c x p x' f way (below_least (subst (λ t. t <ℤ pos 0) (sym on) right)) left right)
+  beyond a b c d x p f g left right pass_a pass_b = (x', way, inside, nearer_on_way a b c x p x' f way (weak_right (subst (λ t. t <ℤ pos 0) (sym on) right)) left right)
     where
       n : ℕ
       n = suc (size (bracket (at a) (at d) p) + size (bracket (at d) (at b) p))
@@ -190,16 +173,16 @@ module _ (T : Tiling) where
       n_above m = omega (arith, ints)
 
       hk : pos 0 <ℤ k
-      hk = mul-pos_ℤ (n_above (size (bracket (at a) (at d) p) + size (bracket (at d) (at b) p))) (negated _ right)
+      hk = mul-pos_ℤ (n_above (size (bracket (at a) (at d) p) + size (bracket (at d) (at b) p))) (neg-pos_ℤ right)
 
       hl : pos 0 <ℤ l
       hl = times_above (pos n) (bracket (at a) (at b) x) (n_above (size (bracket (at a) (at d) p) + size (bracket (at d) (at b) p))) left
 
       x' : Fraction
-      x' = mixed k x l p (mix_positive k l x.w p.w hk hl x.positive p.positive)
+      x' = mixed k x l p (mix_positive k l x.w p.w hk (weak hl) x.positive p.positive)
 
       way : OnWay x p x'
-      way = record { k = k; l = l; k_above = hk; l_above = hl; along = λ u v. bracket-mixed u v k x l p (mix_positive k l x.w p.w hk hl x.positive p.positive) }
+      way = record { k = k; l = l; k_above = hk; l_above = hl; along = λ u v. bracket-mixed u v k x l p (mix_positive k l x.w p.w hk (weak hl) x.positive p.positive) }
 
       value : (u v : Fraction) → bracket u v x' ≡ pos n *ℤ (bracket x p (at b) *ℤ bracket u v (at a) -ℤ bracket x p (at a) *ℤ bracket u v (at b)) +ℤ bracket u v p
       value u v = way.along u v ∙ beyond_sum (pos n) (bracket (at a) (at b) x) (bracket (at a) (at b) p) (bracket u v x) (bracket u v p) (bracket x p (at b)) (bracket u v (at a)) (bracket x p (at a)) (bracket u v (at b)) (meeting (at a) (at b) p x u v)
@@ -212,7 +195,7 @@ module _ (T : Tiling) where
 
       inside : Inside (at b) (at a) (at d) x'
       inside = record {
-        first = flipped_above _ _ (bracket-swapped (at a) (at b) x') (subst (λ t. t <ℤ pos 0) (sym on) right);
+        first = negated_left (bracket-swapped (at a) (at b) x') (subst (λ t. t <ℤ pos 0) (sym on) right);
         second = subst (λ t. pos 0 <ℤ t) (sym (value (at a) (at d))) (nudged n _ (bracket (at a) (at d) p) (second_above (bracket x p (at b)) (bracket (at a) (at d) (at a)) (bracket x p (at a)) (bracket (at a) (at d) (at b)) (bracket-first (at a) (at d)) pass_a (subst (λ t. pos 0 <ℤ t) (sym (bracket-turned (at b) (at a) (at d))) t)) (larger_first (size (bracket (at a) (at d) p)) (size (bracket (at d) (at b) p))));
         third = subst (λ t. pos 0 <ℤ t) (sym (value (at d) (at b))) (nudged n _ (bracket (at d) (at b) p) (first_above (bracket x p (at b)) (bracket (at d) (at b) (at a)) (bracket x p (at a)) (bracket (at d) (at b) (at b)) (bracket-second (at d) (at b)) pass_b (subst (λ t. pos 0 <ℤ t) (sym (bracket-turned (at a) (at d) (at b) ∙ bracket-turned (at b) (at a) (at d))) t)) (larger_second (size (bracket (at a) (at d) p)) (size (bracket (at d) (at b) p))));
       }

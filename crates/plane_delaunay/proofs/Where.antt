@@ -4,11 +4,11 @@ use mathlib.Core.Logic.{◌⊎◌, inl, inr}
 use native.Mathlib.Decide.{ℕ_discrete}
 use Rattle.std.specs.Prelude.{ℤ, pos, ◌<ℤ◌, ◌≤ℤ◌, ◌+ℤ◌, ◌*ℤ◌}
 use Rattle.std.proofs.lemmas.Int.{ints}
+use Rattle.plane.proofs.Steps.{weak, zero_weak_left, left_not_zero, right_not_above}
 use Rattle.plane.proofs.IntegerOrder.{mul-nonneg_ℤ, nonneg_of_mul-nonneg_ℤ, lt_or_ge_ℤ}
 use Rattle.plane_delaunay.proofs.Bracket.{bracket, cramer, bracket-first, bracket-second}
-use Rattle.plane_delaunay.proofs.Tally.{Member, Closed, Inside, inside-turned, closed_of_inside, at_least}
+use Rattle.plane_delaunay.proofs.Tally.{Member, Closed, Inside, inside-turned, closed_of_inside}
 use Rattle.plane_delaunay.proofs.Faces.{Tiling, side_not_inside, turned-above, middle, middle-inside}
-use Rattle.plane_delaunay.proofs.Across.{level, is_least}
 use Rattle.plane_delaunay.proofs.Beyond.{face_across}
 use Rattle.plane_delaunay.proofs.Walk.{IsOff, OnWay, Leaves, Step, reached, leaves_first, leaves_second, leaves_third, step, passes_between, separation, beyond}
 use Rattle.plane_delaunay.proofs.Generic.{generic_point}
@@ -113,14 +113,11 @@ module _ (T : Tiling) where
       go (inr h) = h
 
   pub not_covered_and_beyond : (p : Fraction) → IsCovered p → ¬ IsBeyond p
-  not_covered_and_beyond p m o = crossed o.right (sum_least (bracket (at m.a) (at m.b) (at m.c)) _ _ _ _ _ _ _ (T.turns m.a m.b m.c m.is_face) (cramer (at m.a) (at m.b) (at m.c) p (at o.a) (at o.b))
+  not_covered_and_beyond p m o = right_not_above o.right (sum_least (bracket (at m.a) (at m.b) (at m.c)) _ _ _ _ _ _ _ (T.turns m.a m.b m.c m.is_face) (cramer (at m.a) (at m.b) (at m.c) p (at o.a) (at o.b))
       m.closed.second (low m.a (T.corner m.a m.b m.c m.is_face))
       m.closed.third (low m.b (T.corner m.b m.c m.a (T.turned m.a m.b m.c m.is_face)))
       m.closed.first (low m.c (T.corner m.c m.a m.b (T.turned m.b m.c m.a (T.turned m.a m.b m.c m.is_face)))))
     where
-      crossed : {z : ℤ} → z <ℤ pos 0 → pos 0 ≤ℤ z → ⊥
-      crossed h k = omega (arith, ints)
-
       low : (v : ℕ) → IsVertex v → pos 0 ≤ℤ bracket (at o.a) (at o.b) (at v)
       low v hv = vertex_not_beyond o.a o.b o.c v o.is_face o.alone hv
 
@@ -142,7 +139,7 @@ module _ (T : Tiling) where
     where
       go : (b c : ℕ) × IsFace v b c → ⊥
       go (b, c, h) = side_not_inside T v b c d e f h g (at v)
-          (record { first = is_least _ (bracket-first (at v) (at b)); second = at_least (turned-above _ _ _ (T.turns v b c h)); third = is_least _ (bracket-second (at c) (at v)) })
+          (record { first = zero_weak_left (bracket-first (at v) (at b)); second = weak (turned-above _ _ _ (T.turns v b c h)); third = zero_weak_left (bracket-second (at c) (at v)) })
           (bracket-first (at v) (at b)) inside
 
   -- two vertices are at one place only if they are one
@@ -150,9 +147,9 @@ module _ (T : Tiling) where
   vertices_apart v w hv hw same = go (corner_of_face v hv)
     where
       go : (b c : ℕ) × IsFace v b c → v ≡ w
-      go (b, c, h) = pick (T.empty v b c w h hw (record { first = is_least _ (sym (same (at v) (at b)) ∙ bracket-first (at v) (at b)); second = at_least (subst (λ z. pos 0 <ℤ z) (same (at b) (at c)) (turned-above _ _ _ (T.turns v b c h))); third = is_least _ (sym (same (at c) (at v)) ∙ bracket-second (at c) (at v)) }))
+      go (b, c, h) = pick (T.empty v b c w h hw (record { first = zero_weak_left (sym (same (at v) (at b)) ∙ bracket-first (at v) (at b)); second = weak (subst (λ z. pos 0 <ℤ z) (same (at b) (at c)) (turned-above _ _ _ (T.turns v b c h))); third = zero_weak_left (sym (same (at c) (at v)) ∙ bracket-second (at c) (at v)) }))
         where
           pick : (w ≡ v) ⊎ ((w ≡ b) ⊎ (w ≡ c)) → v ≡ w
           pick (inl e) = sym e
-          pick (inr (inl e)) = absurd (level _ (same (at b) (at c) ∙ ap (λ i. bracket (at b) (at c) (at i)) e ∙ bracket-first (at b) (at c)) (turned-above _ _ _ (T.turns v b c h)))
-          pick (inr (inr e)) = absurd (level _ (same (at b) (at c) ∙ ap (λ i. bracket (at b) (at c) (at i)) e ∙ bracket-second (at b) (at c)) (turned-above _ _ _ (T.turns v b c h)))
+          pick (inr (inl e)) = absurd (left_not_zero (turned-above _ _ _ (T.turns v b c h)) (same (at b) (at c) ∙ ap (λ i. bracket (at b) (at c) (at i)) e ∙ bracket-first (at b) (at c)))
+          pick (inr (inr e)) = absurd (left_not_zero (turned-above _ _ _ (T.turns v b c h)) (same (at b) (at c) ∙ ap (λ i. bracket (at b) (at c) (at i)) e ∙ bracket-second (at b) (at c)))

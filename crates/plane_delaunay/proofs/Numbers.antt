@@ -1,0 +1,46 @@
+-- Sums of two products, over plain numbers.
+use lib.IntN.{ℤ, pos, ◌+ℤ◌, ◌*ℤ◌, neg_ℤ}
+use lib.Signed.{◌<ℤ◌, ◌≤ℤ◌}
+use mathlib.Core.Path.{◌≡◌}
+use mathlib.Core.List.{[], ◌∷◌}
+use native.Mathlib.Omega.{arith}
+use borrow.Author.Differences.{ints}
+use Rattle.plane.proofs.IntegerLaws.{mul-neg_ℤ}
+use Rattle.plane.proofs.IntegerOrder.{mul-pos_ℤ, mul-nonneg_ℤ, mul-nonpos_of_nonneg_nonpos_ℤ, nonneg_of_mul-nonneg_ℤ, pos_of_mul-pos_ℤ, zero_of_mul-zero_ℤ, pos-ne-zero_ℤ, zero-mul_ℤ}
+use Rattle.plane.proofs.Solver.{num, ◌⊕◌, ◌⊗◌, ⊝, ring_in}
+use Rattle.plane.proofs.Steps.{weak}
+
+pub swapped_sum : (t x y : ℤ) → t ≡ x +ℤ y → t ≡ y +ℤ x
+swapped_sum t x y e = omega (arith, ints)
+
+pub sum_weak : {x y : ℤ} → pos 0 ≤ℤ x → pos 0 ≤ℤ y → pos 0 ≤ℤ (x +ℤ y)
+sum_weak h k = omega (arith, ints)
+
+pub own_line : (s t : ℤ) → neg_ℤ t *ℤ s +ℤ s *ℤ t ≡ pos 0
+own_line s t = ring_in (s ∷ t ∷ []) (λ s t. ⊝ t ⊗ s ⊕ s ⊗ t) (λ s t. num 0) tt
+
+pub mix_positive : (k l v w : ℤ) → pos 0 <ℤ k → pos 0 ≤ℤ l → pos 0 <ℤ v → pos 0 <ℤ w → pos 0 <ℤ (k *ℤ v +ℤ l *ℤ w)
+mix_positive k l v w hk hl hv hw = let p = mul-pos_ℤ {a = k} {b = v} hk hv in let q = mul-nonneg_ℤ {a = l} {b = w} hl (weak hw) in omega (arith, ints)
+
+-- ---- x, where n x = k a + l b
+pub sum_above : (n k l x a b : ℤ) → pos 0 <ℤ n → n *ℤ x ≡ k *ℤ a +ℤ l *ℤ b → pos 0 <ℤ k → pos 0 <ℤ a → pos 0 ≤ℤ l → pos 0 ≤ℤ b → pos 0 <ℤ x
+sum_above n k l x a b hn e hk ha hl hb = pos_of_mul-pos_ℤ {k = n} {x = x} hn (let p = mul-pos_ℤ {a = k} {b = a} hk ha in let q = mul-nonneg_ℤ {a = l} {b = b} hl hb in omega (arith, ints))
+
+pub sum_least : (n k l x a b : ℤ) → pos 0 <ℤ n → n *ℤ x ≡ k *ℤ a +ℤ l *ℤ b → pos 0 ≤ℤ k → pos 0 ≤ℤ a → pos 0 ≤ℤ l → pos 0 ≤ℤ b → pos 0 ≤ℤ x
+sum_least n k l x a b hn e hk ha hl hb = nonneg_of_mul-nonneg_ℤ {k = n} {x = x} hn (let p = mul-nonneg_ℤ {a = k} {b = a} hk ha in let q = mul-nonneg_ℤ {a = l} {b = b} hl hb in omega (arith, ints))
+
+pub sum_none : (n k l x a b : ℤ) → pos 0 <ℤ n → n *ℤ x ≡ k *ℤ a +ℤ l *ℤ b → a ≡ pos 0 → b ≡ pos 0 → x ≡ pos 0
+sum_none n k l x a b hn e ha hb = zero_of_mul-zero_ℤ {k = n} {x = x} (pos-ne-zero_ℤ hn) (let p = zero-mul_ℤ k ha in let q = zero-mul_ℤ l hb in omega (arith, ints))
+
+-- ---- r = k x + l p, on the way from x to p
+pub stays_above : (k l x p r : ℤ) → pos 0 <ℤ k → pos 0 <ℤ l → r ≡ k *ℤ x +ℤ l *ℤ p → pos 0 <ℤ x → pos 0 ≤ℤ p → pos 0 <ℤ r
+stays_above k l x p r hk hl e hx hp = let a = mul-pos_ℤ {a = k} {b = x} hk hx in let b = mul-nonneg_ℤ {a = l} {b = p} (weak hl) hp in omega (arith, ints)
+
+pub stays_below : (k l x p r : ℤ) → pos 0 <ℤ k → pos 0 <ℤ l → r ≡ k *ℤ x +ℤ l *ℤ p → x <ℤ pos 0 → p ≤ℤ pos 0 → r <ℤ pos 0
+stays_below k l x p r hk hl e hx hp =
+    let a = mul-pos_ℤ {a = k} {b = neg_ℤ x} hk (omega (arith, ints)) in
+    let b = mul-nonpos_of_nonneg_nonpos_ℤ {a = l} {b = p} (weak hl) hp in
+    omega (arith, ints, mul-neg_ℤ k x)
+
+pub none_before : (k l x p r : ℤ) → pos 0 <ℤ k → r ≡ k *ℤ x +ℤ l *ℤ p → p ≡ pos 0 → r ≡ pos 0 → x ≡ pos 0
+none_before k l x p r hk e hp hr = zero_of_mul-zero_ℤ {k = k} {x = x} (pos-ne-zero_ℤ hk) (let b = zero-mul_ℤ l hp in omega (arith, ints))
