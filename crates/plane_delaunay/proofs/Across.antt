@@ -11,7 +11,7 @@ use Rattle.plane.proofs.Steps.{weak, zero_weak_left, left_not_zero, negated_left
 use Rattle.plane.proofs.IntegerLaws.{neg-mul_ℤ}
 use Rattle.plane.proofs.IntegerOrder.{mul-pos_ℤ, mul-nonneg_ℤ, pos_of_mul-pos_ℤ, zero_of_mul-zero_ℤ, pos-ne-zero_ℤ, mul-neg_of_pos_neg_ℤ, mul-nonpos_of_nonneg_nonpos_ℤ, lt_or_ge_ℤ, sign, below, none, above, neg-pos_ℤ, zero-mul_ℤ}
 use Rattle.plane_delaunay.proofs.Bracket.{bracket, bracket-turned, bracket-swapped, bracket-first, bracket-second, meeting, meeting-w, cramer}
-use Rattle.plane_delaunay.proofs.Tally.{size, nudge, bracket-nudge, nudge-above, nudge-on}
+use Rattle.plane_delaunay.proofs.Nudges.{size, nudge, bracket-nudge, nudge-above, nudge-on}
 use Rattle.plane_delaunay.proofs.Faces.{Tiling, Between, between-swapped, between-on, between-second, between-third, side_not_inside, none_within, turns_2, corner_2}
 use Rattle.plane.specs.Fraction.{Fraction}
 

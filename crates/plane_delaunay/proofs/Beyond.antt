@@ -12,7 +12,7 @@ use Rattle.plane.proofs.IntegerLaws.{neg-mul_ℤ, mul-neg_ℤ}
 use Rattle.plane.proofs.Solver.{num, ◌⊕◌, ◌⊖◌, ◌⊗◌, ⊝, ring_in, ring_in_from}
 use Rattle.plane.proofs.IntegerOrder.{mul-pos_ℤ, mul-nonneg_ℤ, lt_or_ge_ℤ, sign, below, none, above}
 use Rattle.plane_delaunay.proofs.Bracket.{bracket, cramer, cramer-w}
-use Rattle.plane_delaunay.proofs.Tally.{nudge, bracket-nudge, Closed}
+use Rattle.plane_delaunay.proofs.Nudges.{nudge, bracket-nudge, Closed}
 use Rattle.plane_delaunay.proofs.Faces.{Tiling, Between, between-on, between-closed, side_not_inside, none_within, StartsFrom, Germ, germ, germ-turned, germ-closed, corner_2}
 use Rattle.plane_delaunay.proofs.Across.{one_right, IsClear, sides_same}
 use Rattle.plane.specs.Fraction.{Fraction}
@@ -141,6 +141,7 @@ module _ (T : Tiling) where
           from : (pos 0 <ℤ bracket (at u) (at v) x) ⊎ ((bracket (at u) (at v) x ≡ pos 0) × (pos 0 ≤ℤ bracket (at u) (at v) (at d))) → ⊥
           from (inl h) = left_not_zero h z
           from (inr h) = right_not_above right (subst₂ (λ i j. pos 0 ≤ℤ bracket (at i) (at j) (at d)) e₁ e₂ h.1)
+
       found : (u v w : ℕ) → IsFace u v w → Germ T x (at d) u v w → bracket (at u) (at v) x ≡ pos 0 → (e : ℕ) × IsFace b a e
       found u v w h s z = pick (sides_same T a b c u v w x f h m z
           (not_right_strict closed.second (not_second a b u v w x clear h m z))

@@ -5,7 +5,7 @@ use Rattle.std.specs.Prelude.{◌≢◌, pos, ◌<ℤ◌, ◌≤ℤ◌, map}
 use Rattle.plane.proofs.Steps.{weak, left_not_zero}
 use Rattle.plane.proofs.Sides.{if_right, not_right_if}
 use Rattle.plane_delaunay.proofs.Bracket.{bracket, bracket-first, bracket-second}
-use Rattle.plane_delaunay.proofs.Tally.{Inside, size, nudge, nudge-above, nudge-least, nudge-on}
+use Rattle.plane_delaunay.proofs.Nudges.{Inside, size, nudge, nudge-above, nudge-least, nudge-on}
 use Rattle.plane_delaunay.proofs.Faces.{Tiling, IsTurned, Between, between-on, between-second, between-third, middle, middle-inside, Germ, StartsFrom, germ, germ-turned, germ-closed, turned-above}
 use Rattle.plane_delaunay.proofs.Beyond.{halfway, between-halfway, face_across}
 use Rattle.plane_delaunay.proofs.Ground.{tiling}

@@ -6,18 +6,19 @@ use native.Mathlib.Decide.{ℕ_discrete}
 use lib.IntN.{neg_ℤ}
 use Rattle.std.specs.Prelude.{◌≢◌, ℤ, pos, ◌<ℤ◌, ◌≤ℤ◌, ◌+ℤ◌, ◌*ℤ◌, Contains, slice_index_or}
 use Rattle.std.proofs.lemmas.Int.{ints}
-use Rattle.plane_delaunay.proofs.Numbers.{swapped_sum, sum_above, sum_least, sum_none}
+use Rattle.plane_delaunay.proofs.Numbers.{sum_above, sum_least, sum_none}
 use Rattle.plane.proofs.Steps.{weak, zero_weak_left, left_not_zero, right_not_above, left_not_below}
 use Rattle.plane.proofs.Solver.{num, ◌⊕◌, ◌⊖◌, ◌⊗◌, ⊝, ring_over, ring_over_from, ring_in_from}
-use Rattle.plane.proofs.IntegerOrder.{mul-pos_ℤ, mul-nonneg_ℤ, mul-nonpos_of_nonneg_nonpos_ℤ, pos_of_mul-pos_ℤ, nonneg_of_mul-nonneg_ℤ, zero_of_mul-zero_ℤ, mul_cancel_ℤ, pos-ne-zero_ℤ, Sign, sign, below, none, above, zero-mul_ℤ}
+use Rattle.plane.proofs.IntegerOrder.{mul-nonpos_of_nonneg_nonpos_ℤ, zero_of_mul-zero_ℤ, mul_cancel_ℤ, pos-ne-zero_ℤ, Sign, sign, below, none, above}
 use Rattle.plane_delaunay.proofs.Bracket.{fraction, bracket, bracketᵖ, bracket-turned, bracket-swapped, bracket-first, bracket-second, above_if_left, left_if_above}
 use Rattle.plane_delaunay.proofs.Lift.{lift, liftᵖ, lift-turned, lift-first, lift-second, lift-third, inside_is_lift, on_is_lift}
 use Rattle.plane.proofs.Means.{TwoWeights, mean_of_two, two_weights}
-use Rattle.plane_delaunay.proofs.Tally.{Member, Closed, Inside, inside-turned, nudge, bracket-nudge}
-use Rattle.plane_delaunay.proofs.Faces.{IsTurned, turned-above, both_inside, side_not_inside}
+use Rattle.plane_delaunay.proofs.Members.{Member, member, contained}
+use Rattle.plane_delaunay.proofs.Nudges.{Closed, Inside, inside-turned, nudge}
+use Rattle.plane_delaunay.proofs.Faces.{IsTurned, turned-above, both_inside, side_not_inside, middle, middle-inside}
 use Rattle.plane_delaunay.proofs.Generic.{AllOpen, open_if_free, swapped_weights}
 use Rattle.plane_delaunay.proofs.Global.{PassesLocally, not_above_face}
-use Rattle.plane_delaunay.proofs.Ground.{member, contained, tiling, turned_face, inside_of, triangle_of_inside}
+use Rattle.plane_delaunay.proofs.Ground.{tiling, turned_face, inside_of, triangle_of_inside}
 use Rattle.plane.specs.Fraction.{Point, Fraction, IsNotNegative, IsSame, OnSegment}
 use Rattle.plane.specs.Side.{left, on, TurnsLeft}
 use Rattle.plane.specs.Circle.{InsideCircle}
@@ -237,44 +238,8 @@ face_from_turned t a b c d e f (inl p) g = subst₃ (λ i j k. IsFace t i j k) p
 face_from_turned t a b c d e f (inr (inl p)) g = turned_face t c a b (turned_face t b c a (subst₃ (λ i j k. IsFace t i j k) p.0 p.1 p.2 g))
 face_from_turned t a b c d e f (inr (inr p)) g = turned_face t c a b (subst₃ (λ i j k. IsFace t i j k) p.0 p.1 p.2 g)
 
--- ---- the middle of three vertices
-pub middle_of : Triangulation → ℕ → ℕ → ℕ → Fraction
-middle_of t a b c = nudge 1 (nudge 1 (vertex t a) (vertex t b)) (vertex t c)
-
-middle_side : (t : Triangulation) (a b c : ℕ) (u v : Fraction) → bracket u v (middle_of t a b c) ≡ bracket u v (vertex t a) +ℤ bracket u v (vertex t b) +ℤ bracket u v (vertex t c)
-unfolding middle_of
-middle_side t a b c u v = bracket-nudge u v 1 (nudge 1 (vertex t a) (vertex t b)) (vertex t c) ∙ sum _ (bracket u v (vertex t a)) (bracket u v (vertex t b)) (bracket u v (vertex t c)) (bracket-nudge u v 1 (vertex t a) (vertex t b))
-  where
-    sum : (x a b c : ℤ) → x ≡ pos 1 *ℤ a +ℤ b → pos 1 *ℤ x +ℤ c ≡ a +ℤ b +ℤ c
-    sum x a b c e = omega (arith, ints)
-
-pub middle_inside : (t : Triangulation) (a b c : ℕ) → pos 0 <ℤ bracket (vertex t a) (vertex t b) (vertex t c) → Inside (vertex t a) (vertex t b) (vertex t c) (middle_of t a b c)
-middle_inside t a b c h = record {
-  first = third_only _ _ _ _ (middle_side t a b c A B) (bracket-first A B) (bracket-second A B) h;
-  second = first_only _ _ _ _ (middle_side t a b c B C) (bracket-first B C) (bracket-second B C) (turned-above A B C h);
-  third = second_only _ _ _ _ (middle_side t a b c C A) (bracket-second C A) (bracket-first C A) (turned-above B C A (turned-above A B C h));
-}
-  where
-    A : Fraction
-    A = vertex t a
-
-    B : Fraction
-    B = vertex t b
-
-    C : Fraction
-    C = vertex t c
-
-    third_only : (x a b c : ℤ) → x ≡ a +ℤ b +ℤ c → a ≡ pos 0 → b ≡ pos 0 → pos 0 <ℤ c → pos 0 <ℤ x
-    third_only x a b c e p q r = omega (arith, ints)
-
-    first_only : (x a b c : ℤ) → x ≡ a +ℤ b +ℤ c → b ≡ pos 0 → c ≡ pos 0 → pos 0 <ℤ a → pos 0 <ℤ x
-    first_only x a b c e p q r = omega (arith, ints)
-
-    second_only : (x a b c : ℤ) → x ≡ a +ℤ b +ℤ c → a ≡ pos 0 → c ≡ pos 0 → pos 0 <ℤ b → pos 0 <ℤ x
-    second_only x a b c e p q r = omega (arith, ints)
-
-covering_middle : (t : Triangulation) (h : TilesHull t) (a b c : ℕ) → IsVertex t a × IsVertex t b × IsVertex t c → (d e f : ℕ) × IsFace t d e f × Closed (vertex t d) (vertex t e) (vertex t f) (middle_of t a b c)
-unfolding tiling middle_of
+covering_middle : (t : Triangulation) (h : TilesHull t) (a b c : ℕ) → IsVertex t a × IsVertex t b × IsVertex t c → (d e f : ℕ) × IsFace t d e f × Closed (vertex t d) (vertex t e) (vertex t f) (middle (vertex t a) (vertex t b) (vertex t c))
+unfolding tiling middle
 covering_middle t h a b c v = let T = tiling t h in
     T.covering (nudge 1 (nudge 1 (vertex t a) (vertex t b)) (vertex t c)) (T.nudge_in_hull 1 (nudge 1 (vertex t a) (vertex t b)) (vertex t c) (T.nudge_in_hull 1 (vertex t a) (vertex t b) (T.vertex_in_hull a v.0) (T.vertex_in_hull b v.1)) (T.vertex_in_hull c v.2))
 
@@ -376,8 +341,8 @@ module _ (t : Triangulation) (constraints : List (ℕ × ℕ)) (a b c : ℕ) (s 
       go : IsTiling t → IsFace t a b c
       go (inl h) = found (covering_middle t h a b c s.corners)
         where
-          found : (d e f : ℕ) × IsFace t d e f × Closed (vertex t d) (vertex t e) (vertex t f) (middle_of t a b c) → IsFace t a b c
-          found r = next (both_inside (vertex t r.0) (vertex t r.1) (vertex t r.2) (vertex t a) (vertex t b) (vertex t c) (middle_of t a b c) (above_if_left _ _ _ (h.turning r.0 r.1 r.2 r.3)) r.4 (middle_inside t a b c (above_if_left _ _ _ s.turns)))
+          found : (d e f : ℕ) × IsFace t d e f × Closed (vertex t d) (vertex t e) (vertex t f) (middle (vertex t a) (vertex t b) (vertex t c)) → IsFace t a b c
+          found r = next (both_inside (vertex t r.0) (vertex t r.1) (vertex t r.2) (vertex t a) (vertex t b) (vertex t c) (middle (vertex t a) (vertex t b) (vertex t c)) (above_if_left _ _ _ (h.turning r.0 r.1 r.2 r.3)) r.4 (middle-inside (vertex t a) (vertex t b) (vertex t c) (above_if_left _ _ _ s.turns)))
             where
               next : (y : Fraction) × Inside (vertex t r.0) (vertex t r.1) (vertex t r.2) y × Inside (vertex t a) (vertex t b) (vertex t c) y → IsFace t a b c
               next y = overlapped h D r.0 r.1 r.2 y.0 r.3 y.2 y.1

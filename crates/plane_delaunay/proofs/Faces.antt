@@ -4,15 +4,16 @@ use lib.IntN.{ℤ, pos, ◌+ℤ◌, ◌*ℤ◌}
 use lib.Signed.{◌<ℤ◌, ◌≤ℤ◌}
 use mathlib.Core.Path.{◌≡◌, sym, ◌∙◌, ap, subst, subst₂}
 use mathlib.Core.Logic.{◌⊎◌, inl, inr}
-use mathlib.Core.List.{List, [], ◌∷◌}
+use mathlib.Core.List.{List}
 use native.Mathlib.Omega.{arith}
 use borrow.Author.Differences.{ints}
+use Rattle.std.specs.Prelude.{sum_by}
 use Rattle.plane_delaunay.proofs.Numbers.{swapped_sum, sum_none}
 use Rattle.plane.proofs.Steps.{weak, left_not_zero}
-use Rattle.plane.proofs.Solver.{◌⊕◌, ring_over}
-use Rattle.plane.proofs.IntegerOrder.{mul-pos_ℤ, pos_of_mul-pos_ℤ, zero_of_mul-zero_ℤ, pos-ne-zero_ℤ}
-use Rattle.plane_delaunay.proofs.Bracket.{fraction, bracket, bracketᵖ, bracket-turned, bracket-first, bracket-second}
-use Rattle.plane_delaunay.proofs.Tally.{Member, total, total-term, size, nudge, bracket-nudge, nudge-least, germ_sign, Closed, Inside, room, inside-nudge}
+use Rattle.plane.proofs.IntegerOrder.{mul-pos_ℤ, pos_of_mul-pos_ℤ}
+use Rattle.plane_delaunay.proofs.Bracket.{bracket, bracket-turned, bracket-first, bracket-second}
+use Rattle.plane_delaunay.proofs.Members.{Member, member-le-sum_by}
+use Rattle.plane_delaunay.proofs.Nudges.{size, nudge, bracket-nudge, nudge-least, germ_sign, Closed, Inside, room, inside-nudge}
 use Rattle.plane.specs.Fraction.{Fraction}
 
 -- d e f is a b c, turned
@@ -39,15 +40,15 @@ pub record Tiling : Type 1 where
   pub empty : (i j k n : ℕ) → IsFace i j k → IsVertex n → Closed (at i) (at j) (at k) (at n) → (n ≡ i) ⊎ ((n ≡ j) ⊎ (n ≡ k))
 
 -- the sum of the corners
-middle_positive : (a b c : ℤ) → pos 0 <ℤ a → pos 0 <ℤ b → pos 0 <ℤ c → pos 0 <ℤ (a +ℤ b +ℤ c)
-middle_positive a b c h i j = omega (arith, ints)
-
-pub middle : Fraction → Fraction → Fraction → Fraction
-middle a b c = record { x = a.x +ℤ b.x +ℤ c.x; y = a.y +ℤ b.y +ℤ c.y; w = a.w +ℤ b.w +ℤ c.w; positive = middle_positive a.w b.w c.w a.positive b.positive c.positive }
+unfoldable pub middle : Fraction → Fraction → Fraction → Fraction
+middle a b c = nudge 1 (nudge 1 a b) c
 
 bracket-middle : (u v a b c : Fraction) → bracket u v (middle a b c) ≡ bracket u v a +ℤ bracket u v b +ℤ bracket u v c
-unfolding middle bracket
-bracket-middle u v a b c = ring_over fraction [] (a ∷ b ∷ c ∷ u ∷ v ∷ []) (λ a b c u v. bracketᵖ u v (record { x = a.x ⊕ b.x ⊕ c.x; y = a.y ⊕ b.y ⊕ c.y; w = a.w ⊕ b.w ⊕ c.w })) (λ a b c u v. bracketᵖ u v a ⊕ bracketᵖ u v b ⊕ bracketᵖ u v c) tt
+unfolding middle
+bracket-middle u v a b c = sum _ _ (bracket u v a) (bracket u v b) (bracket u v c) (bracket-nudge u v 1 (nudge 1 a b) c) (bracket-nudge u v 1 a b)
+  where
+    sum : (x y a b c : ℤ) → x ≡ pos 1 *ℤ y +ℤ c → y ≡ pos 1 *ℤ a +ℤ b → x ≡ a +ℤ b +ℤ c
+    sum x y a b c e d = omega (arith, ints)
 
 middle-left : (a b c : Fraction) → pos 0 <ℤ bracket a b c → pos 0 <ℤ bracket a b (middle a b c)
 middle-left a b c h = let e = bracket-middle a b a b c in let f = bracket-first a b in let g = bracket-second a b in omega (arith, ints)
@@ -170,13 +171,13 @@ module _ (T : Tiling) where
   side_size z s = size (bracket (at s.0) (at s.1) z)
 
   abbrev germ_size : Fraction → ℕ
-  germ_size z = suc (total (side_size z) T.sides)
+  germ_size z = suc (sum_by (side_size z) T.sides)
 
   pub germ : (y z : Fraction) → InHull y → InHull z → (i j k : ℕ) × IsFace i j k × Germ y z i j k
   germ y z h h' = go (T.covering (nudge (germ_size z) y z) (T.nudge_in_hull (germ_size z) y z h h'))
     where
       starts : (i j : ℕ) → Member (i, j) T.sides → pos 0 ≤ℤ bracket (at i) (at j) (nudge (germ_size z) y z) → StartsFrom y z i j
-      starts i j m c = record { starts = germ_sign (germ_size z) (bracket (at i) (at j) y) (bracket (at i) (at j) z) (omega (arith, total-term (side_size z) (i, j) T.sides m)) (subst (λ t. pos 0 ≤ℤ t) (bracket-nudge (at i) (at j) (germ_size z) y z) c) }
+      starts i j m c = record { starts = germ_sign (germ_size z) (bracket (at i) (at j) y) (bracket (at i) (at j) z) (omega (arith, member-le-sum_by (side_size z) (i, j) T.sides m)) (subst (λ t. pos 0 ≤ℤ t) (bracket-nudge (at i) (at j) (germ_size z) y z) c) }
 
       go : (i j k : ℕ) × IsFace i j k × Closed (at i) (at j) (at k) (nudge (germ_size z) y z) → (i j k : ℕ) × IsFace i j k × Germ y z i j k
       go c = let i = c.0 in let j = c.1 in let k = c.2 in let f = c.3 in let h = c.4 in (

@@ -13,7 +13,7 @@ use Rattle.plane.proofs.Solver.{Poly, ◌⊕◌, ◌⊖◌, ◌⊗◌, ring_over
 use Rattle.plane.proofs.IntegerOrder.{mul-nonneg_ℤ, nonneg_of_mul-nonneg_ℤ, lt_or_ge_ℤ, square-nonneg_ℤ, zero-mul_ℤ}
 use Rattle.plane_delaunay.proofs.Bracket.{Syntax, bracket, bracketᵖ, bracket-swapped, bracket-first, bracket-second, cramer}
 use Rattle.plane_delaunay.proofs.Lift.{height, heightᵖ, lift, liftᵖ, pointᵖ}
-use Rattle.plane_delaunay.proofs.Tally.{Closed}
+use Rattle.plane_delaunay.proofs.Nudges.{Closed}
 use Rattle.plane_delaunay.proofs.Faces.{turned-above}
 use Rattle.plane.specs.Fraction.{Point, Fraction, whole}
 
@@ -34,6 +34,7 @@ lift-from_second a b c d = ring_over pointᵖ [] (a ∷ b ∷ c ∷ d ∷ []) li
 
 apart_least : (a b : Point) → pos 0 ≤ℤ apart a b
 apart_least a b = sum_weak (square-nonneg_ℤ (b.x -ℤ a.x)) (square-nonneg_ℤ (b.y -ℤ a.y))
+
 only_first : (l s x r y t z : ℤ) → l ≡ s *ℤ x +ℤ r *ℤ y -ℤ t *ℤ z → pos 0 <ℤ l → pos 0 ≤ℤ x → pos 0 ≤ℤ y → pos 0 ≤ℤ z → r <ℤ pos 0 → pos 0 <ℤ t → pos 0 <ℤ s
 only_first l s x r y t z e hl hx hy hz hr ht = go (lt_or_ge_ℤ (pos 0) s)
   where

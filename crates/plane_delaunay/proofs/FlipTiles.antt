@@ -8,7 +8,7 @@ use native.Mathlib.Omega.{arith}
 use native.Mathlib.Decide.{ℕ_discrete}
 use borrow.Author.Differences.{ints}
 use Rattle.plane_delaunay.proofs.Bracket.{bracket, bracket-swapped}
-use Rattle.plane_delaunay.proofs.Tally.{Closed, Inside, closed-turned, inside-turned, closed_of_inside}
+use Rattle.plane_delaunay.proofs.Nudges.{Closed, Inside, closed-turned, inside-turned, closed_of_inside}
 use Rattle.plane_delaunay.proofs.Faces.{Tiling, IsTurned, turned-above, both_inside}
 use Rattle.plane_delaunay.proofs.Flip.{flip_covers}
 use Rattle.plane.specs.Fraction.{Fraction}

@@ -6,11 +6,13 @@ use mathlib.Core.Path.{◌≡◌, sym, ◌∙◌, ap, subst, subst₂}
 use mathlib.Core.Logic.{◌⊎◌, inl, inr}
 use native.Mathlib.Omega.{arith}
 use borrow.Author.Differences.{ints}
+use Rattle.std.specs.Prelude.{sum_by}
 use Rattle.plane_delaunay.proofs.Numbers.{stays_above, stays_below, none_before}
 use Rattle.plane.proofs.Steps.{weak, zero_weak_left, left_not_zero, right_not_zero, right_not_above, product_zero_left, weak_right}
-use Rattle.plane.proofs.IntegerOrder.{mul-pos_ℤ, zero_of_mul-zero_ℤ, pos-ne-zero_ℤ, mul-neg_of_pos_neg_ℤ, Sign, sign, below, none, above, zero-mul_ℤ}
+use Rattle.plane.proofs.IntegerOrder.{zero_of_mul-zero_ℤ, Sign, sign, below, none, above, zero-mul_ℤ}
 use Rattle.plane_delaunay.proofs.Bracket.{bracket, bracket-first, bracket-second, bracket-swapped, bracket-turned, pluecker}
-use Rattle.plane_delaunay.proofs.Tally.{Member, total, total-term, size, nudge, bracket-nudge, nudge-above, nudge-on, Closed}
+use Rattle.plane_delaunay.proofs.Members.{Member, member-le-sum_by}
+use Rattle.plane_delaunay.proofs.Nudges.{size, nudge, bracket-nudge, nudge-above, nudge-on, Closed}
 use Rattle.plane_delaunay.proofs.Faces.{Tiling, StartsFrom, Germ, germ, germ-closed, germ-turned, corner_2}
 use Rattle.plane_delaunay.proofs.Walk.{OnWay, Step, reached, leaves_first, leaves_second, leaves_third, step, separation, leave}
 use Rattle.plane_delaunay.proofs.Meets.{OnSide, IsAt, on_side-swapped, on_side_of_closed, at_here, IsEdge, edge-swapped, Shared, same, reversed, at_vertex, edges_meet, edge_outside}
@@ -54,17 +56,17 @@ module _ (T : Tiling) where
   abbrev both_sizes : Fraction → ℕ × ℕ → ℕ
   both_sizes m s = size (bracket (at s.0) (at s.1) m) + size (bracket (at s.1) (at s.0) m)
 
-  near-nudge : (v m : Fraction) (n : ℕ) → total (both_sizes m) T.sides < n → IsNear v (nudge n v m)
+  near-nudge : (v m : Fraction) (n : ℕ) → sum_by (both_sizes m) T.sides < n → IsNear v (nudge n v m)
   near-nudge v m n h = record {
     keeps_right = λ i j s r. swapped_below (at j) (at i) (nudge n v m) (nudge-above (at j) (at i) n v m (swapped_above (at i) (at j) v r) (second i j s));
     keeps_left = λ i j s l. nudge-above (at i) (at j) n v m l (first i j s);
   }
     where
       first : (i j : ℕ) → Member (i, j) T.sides → size (bracket (at i) (at j) m) < n
-      first i j s = omega (arith, total-term (both_sizes m) (i, j) T.sides s)
+      first i j s = omega (arith, member-le-sum_by (both_sizes m) (i, j) T.sides s)
 
       second : (i j : ℕ) → Member (i, j) T.sides → size (bracket (at j) (at i) m) < n
-      second i j s = omega (arith, total-term (both_sizes m) (i, j) T.sides s)
+      second i j s = omega (arith, member-le-sum_by (both_sizes m) (i, j) T.sides s)
 
   near-on_way : (v x p x' : Fraction) → OnWay x p x' → IsNear v x → IsNear v p → IsNear v x'
   near-on_way v x p x' w h k = record {
@@ -257,7 +259,7 @@ module _ (T : Tiling) where
           (last_of (separation T y z))
         where
           n : ℕ
-          n = suc (total (both_sizes (at b)) T.sides + total (both_sizes (at d)) T.sides)
+          n = suc (sum_by (both_sizes (at b)) T.sides + sum_by (both_sizes (at d)) T.sides)
 
           y : Fraction
           y = nudge n (at v) (at b)

@@ -7,13 +7,16 @@ use mathlib.Core.Logic.{◌⊎◌, inl, inr}
 use mathlib.Core.List.{List, [], ◌∷◌}
 use native.Mathlib.Omega.{arith}
 use borrow.Author.Differences.{ints}
+use Rattle.std.specs.Prelude.{sum_by}
+use Rattle.std.proofs.lemmas.List.Sums.{sum_by-cons}
 use Rattle.plane_delaunay.proofs.Numbers.{swapped_sum, own_line, mix_positive}
 use Rattle.plane.proofs.Steps.{weak, weak_right, zero_weak_left, zero_weak, left_not_zero, right_not_zero}
 use Rattle.plane.proofs.IntegerLaws.{neg-mul_ℤ}
-use Rattle.plane.proofs.Solver.{num, ◌⊕◌, ◌⊖◌, ◌⊗◌, ⊝, ring_in, ring_over_from}
-use Rattle.plane.proofs.IntegerOrder.{mul-pos_ℤ, mul-nonneg_ℤ, zero_of_mul-zero_ℤ, pos-ne-zero_ℤ, lt_or_ge_ℤ, Sign, sign, below, none, above, neg-pos_ℤ, zero-mul_ℤ}
+use Rattle.plane.proofs.Solver.{◌⊖◌, ◌⊗◌, ring_over_from}
+use Rattle.plane.proofs.IntegerOrder.{mul-nonneg_ℤ, zero_of_mul-zero_ℤ, pos-ne-zero_ℤ, lt_or_ge_ℤ, Sign, sign, below, none, above, neg-pos_ℤ, zero-mul_ℤ}
 use Rattle.plane_delaunay.proofs.Bracket.{fraction, bracket, bracketᵖ, mixed, bracket-mixed, bracket-turned, bracket-swapped, meeting-x, meeting-y, meeting-w, cramer}
-use Rattle.plane_delaunay.proofs.Tally.{Member, total, size, nudge, nudge-above, nudge-on, Inside, room, inside-nudge}
+use Rattle.plane_delaunay.proofs.Members.{Member}
+use Rattle.plane_delaunay.proofs.Nudges.{size, nudge, nudge-above, nudge-on, Inside, room, inside-nudge}
 use Rattle.plane_delaunay.proofs.Across.{none_of_sum}
 use Rattle.plane_delaunay.proofs.Walk.{IsOff}
 use Rattle.plane.proofs.Means.{TwoWeights}
@@ -30,9 +33,9 @@ AllOff (l ∷ ls) q = IsOff l.0 l.1 q × AllOff ls q
 abbrev line_size : Fraction → Fraction × Fraction → ℕ
 line_size m l = size (bracket l.0 l.1 m)
 
-left-nudge : (ls : List (Fraction × Fraction)) (n : ℕ) (q m : Fraction) → AllLeft ls q → total (line_size m) ls < n → AllLeft ls (nudge n q m)
+left-nudge : (ls : List (Fraction × Fraction)) (n : ℕ) (q m : Fraction) → AllLeft ls q → sum_by (line_size m) ls < n → AllLeft ls (nudge n q m)
 left-nudge [] n q m h r = tt
-left-nudge (l ∷ ls) n q m h r = (nudge-above l.0 l.1 n q m h.0 (omega arith), left-nudge ls n q m h.1 (omega arith))
+left-nudge (l ∷ ls) n q m h r = (nudge-above l.0 l.1 n q m h.0 (omega (arith, sum_by-cons (line_size m) l ls)), left-nudge ls n q m h.1 (omega (arith, sum_by-cons (line_size m) l ls)))
 
 data Found (ls : List (Fraction × Fraction)) (a b c u v : Fraction) : Type 0 where
   to_left : (q : Fraction) → Inside a b c q → AllLeft ls q → pos 0 <ℤ bracket u v q → Found ls a b c u v
@@ -47,7 +50,7 @@ find ls a b c u v q t inside left = go (sign (bracket u v q))
   where
     moved : (e : Fraction) → bracket u v q ≡ pos 0 → Sign (bracket u v e) → (bracket u v e ≡ pos 0 → Found ls a b c u v) → Found ls a b c u v
     moved e z s other =
-        let n = room a b c e + suc (total (line_size e) ls) in
+        let n = room a b c e + suc (sum_by (line_size e) ls) in
         let i : Inside a b c (nudge n q e) = inside-nudge a b c q e n inside (omega arith) in
         let l : AllLeft ls (nudge n q e) = left-nudge ls n q e left (omega arith) in
         let v' : bracket u v (nudge n q e) ≡ bracket u v e = nudge-on u v n q e z in
@@ -187,6 +190,7 @@ swapped_weights a b p t = record {
   y = swapped_sum _ (t.k *ℤ a.y) (t.l *ℤ b.y) t.y;
   w = swapped_sum _ (t.k *ℤ a.w) (t.l *ℤ b.w) t.w;
 }
+
 -- a segment that meets the way from q to p in p alone does not hide p
 pub open_if_free : (a b p q : Fraction) → ((y : Fraction) → TwoWeights IsNotNegative q p y → TwoWeights IsNotNegative a b y → IsSame y p) → IsOpen a b p q
 open_if_free a b p q free = go (sign (bracket a b p))

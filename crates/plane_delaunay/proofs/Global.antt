@@ -1,6 +1,6 @@
 -- From the local test at each edge to the circle of each face: a vertex that no constraint hides is not inside.
 use Prim.Native.Nat.{ℕ, zero, suc, ◌<◌}
-use lib.IntN.{ℤ, pos, ◌+ℤ◌, ◌*ℤ◌, neg_ℤ}
+use lib.IntN.{ℤ, pos, ◌+ℤ◌, ◌*ℤ◌}
 use lib.Signed.{◌<ℤ◌, ◌≤ℤ◌}
 use mathlib.Core.Path.{◌≡◌, sym, ◌∙◌, ap, subst}
 use mathlib.Core.Logic.{◌⊎◌, inl, inr}
@@ -9,11 +9,11 @@ use native.Mathlib.Omega.{arith}
 use borrow.Author.Differences.{ints}
 use Rattle.plane_delaunay.proofs.Numbers.{stays_above, stays_below, none_before}
 use Rattle.plane.proofs.Steps.{weak, weak_right, zero_weak, both_signs, negated_left, right_not_zero}
-use Rattle.plane.proofs.IntegerLaws.{neg-mul_ℤ}
-use Rattle.plane.proofs.IntegerOrder.{mul-pos_ℤ, mul-nonneg_ℤ, zero_of_mul-zero_ℤ, pos-ne-zero_ℤ, mul-nonpos_of_nonneg_nonpos_ℤ, lt_or_ge_ℤ, zero-mul_ℤ}
+use Rattle.plane.proofs.IntegerOrder.{mul-pos_ℤ, mul-nonpos_of_nonneg_nonpos_ℤ, lt_or_ge_ℤ}
 use Rattle.plane_delaunay.proofs.Bracket.{bracket, bracket-swapped, bracket-turned, bracket-first}
 use Rattle.plane_delaunay.proofs.Lift.{lift, lift-turned, lift-first, lift-second, lift-third, lift-across}
-use Rattle.plane_delaunay.proofs.Tally.{Member, Inside, inside-turned, closed_of_inside}
+use Rattle.plane_delaunay.proofs.Members.{Member}
+use Rattle.plane_delaunay.proofs.Nudges.{Inside, inside-turned, closed_of_inside}
 use Rattle.plane_delaunay.proofs.Faces.{Tiling}
 use Rattle.plane_delaunay.proofs.Beyond.{face_across}
 use Rattle.plane_delaunay.proofs.Walk.{IsOff, OnWay, Leaves, Step, reached, leaves_first, leaves_second, leaves_third, step, passes_between, separation, beyond}

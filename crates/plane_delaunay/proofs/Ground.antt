@@ -1,5 +1,5 @@
 -- What the global theorems use of a tiling, from its definition, and the theorems in the definitions' words.
-use Rattle.std.proofs.Common.{◌≡◌, ℕ, zero, suc, ◌<◌, List, [], ◌∷◌, length, map, refl, arith, ap, sym, ◌∙◌, subst}
+use Rattle.std.proofs.Common.{◌≡◌, ℕ, ◌<◌, List, [], ◌∷◌, length, map, refl, arith, ap, sym, ◌∙◌, subst}
 use mathlib.Core.Logic.{◌⊎◌, inl, inr}
 use native.Mathlib.Decide.{dec_lt}
 use Rattle.std.specs.Prelude.{pos, ◌<ℤ◌, Contains, slice_index_or}
@@ -8,23 +8,13 @@ use Rattle.plane_delaunay.proofs.Bracket.{bracket, above_if_left}
 use Rattle.plane.proofs.Means.{three_weights}
 use Rattle.plane.proofs.Sides.{if_left}
 use Rattle.plane.proofs.Triangles.{in_is_brackets, inside_is_brackets}
-use Rattle.plane_delaunay.proofs.Tally.{Member, Closed, Inside}
+use Rattle.plane_delaunay.proofs.Members.{Member, member, contained}
+use Rattle.plane_delaunay.proofs.Nudges.{Closed, Inside}
 use Rattle.plane_delaunay.proofs.Faces.{Tiling, IsTurned}
 use Rattle.plane_delaunay.proofs.Hull.{corner_in_hull, nudge_in_hull, triangle_in_hull}
 use Rattle.plane.specs.Fraction.{Point, Fraction, whole, IsNotNegative, InTriangle, InsideTriangle, InHull}
 use Rattle.plane.specs.Side.{TurnsLeft}
 use Rattle.plane.specs.Tiling.{Triangulation, Face, face, IsVertex, vertex, IsFace, TilesHull, AreApart, InsideCorners}
-
--- ---- members of lists
-pub member : {A : Type 0} (x : A) (xs : List A) → Contains xs x → Member x xs
-member x [] h = absurd (omega (arith, h.1))
-member x (y ∷ ys) (zero, h, e) = inl e
-member x (y ∷ ys) (suc k, h, e) = inr (member x ys (k, omega arith, e))
-
-pub contained : {A : Type 0} (x : A) (xs : List A) → Member x xs → Contains xs x
-contained x [] m = absurd m
-contained x (y ∷ ys) (inl e) = (0, omega arith, e)
-contained x (y ∷ ys) (inr m) = let c = contained x ys m in (suc c.0, omega (arith, c.1), c.2)
 
 -- ---- triangles by brackets
 pub inside_of : (a b c p : Fraction) → TurnsLeft a b c → InsideTriangle a b c p → Inside a b c p

@@ -7,7 +7,7 @@ use Rattle.plane.proofs.Steps.{left_not_below}
 use Rattle.plane.proofs.Centre.{centre, centre_is_centre}
 use Rattle.plane_delaunay.proofs.Bracket.{bracket}
 use Rattle.plane_delaunay.proofs.Lift.{lift, inside_is_lift, far_if_none}
-use Rattle.plane_delaunay.proofs.Tally.{Inside}
+use Rattle.plane_delaunay.proofs.Nudges.{Inside}
 use Rattle.plane_delaunay.proofs.Ground.{tiling, inside_of}
 use Rattle.plane_delaunay.proofs.Where.{vertices_apart}
 use Rattle.plane_delaunay.proofs.EmptyCircles.{visibly_empty_is_face, IsOpenTriple, OneCircle, face_open, overlapping, no_face, spot, straight_line}

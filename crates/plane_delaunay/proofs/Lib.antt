@@ -1,7 +1,8 @@
 pub mod Numbers
 pub mod Bracket
 pub mod Lift
-pub mod Tally
+pub mod Members
+pub mod Nudges
 pub mod Faces
 pub mod Across
 pub mod Beyond

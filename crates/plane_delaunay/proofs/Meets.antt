@@ -10,7 +10,7 @@ use Rattle.plane_delaunay.proofs.Numbers.{swapped_sum, sum_least, sum_none}
 use Rattle.plane.proofs.Steps.{weak, zero_weak_left, left_not_zero, right_not_above, product_zero_left, not_right_strict}
 use Rattle.plane.proofs.IntegerOrder.{mul-pos_ℤ, mul-nonneg_ℤ, nonneg_of_mul-nonneg_ℤ, zero_of_mul-zero_ℤ, pos-ne-zero_ℤ, Sign, sign, below, none, above, zero-mul_ℤ}
 use Rattle.plane_delaunay.proofs.Bracket.{bracket, bracket-first, bracket-second, cramer, cramer-w}
-use Rattle.plane_delaunay.proofs.Tally.{Closed, Inside}
+use Rattle.plane_delaunay.proofs.Nudges.{Closed, Inside}
 use Rattle.plane_delaunay.proofs.Faces.{Tiling, Between, none_within, side_not_inside, turned-above, corner_2}
 use Rattle.plane_delaunay.proofs.Across.{sides_same}
 use Rattle.plane_delaunay.proofs.Beyond.{not_second}

@@ -1,21 +1,17 @@
 -- The number of nearer vertices falls from a vertex to a nearer one.
-use Rattle.std.proofs.Common.{◌≡◌, ℕ, zero, suc, ◌<◌, ◌≤◌, List, [], ◌∷◌, length, get_or, arith, ap, subst}
+use Rattle.std.proofs.Common.{◌≡◌, ℕ, ◌<◌, ◌≤◌, List, [], ◌∷◌, length, arith, ap, subst}
 use mathlib.Core.Logic.{◌⊎◌, inl, inr}
-use Rattle.std.specs.Prelude.{ℤ, pos, ◌<ℤ◌, ◌*ℤ◌, sum_by, ◌≤ℤ◌, cond, true, false, slice_index_or, int_lt}
+use Rattle.std.specs.Prelude.{ℤ, pos, ◌<ℤ◌, ◌*ℤ◌, sum_by, ◌≤ℤ◌, cond, slice_index_or, int_lt}
 use Rattle.std.proofs.lemmas.Int.{ints}
-use Rattle.std.proofs.lemmas.List.Sums.{sum_by-cons, sum_by-le-sum_by}
+use Rattle.std.proofs.lemmas.List.Sums.{sum_by-cons}
+use Rattle.std.proofs.lemmas.List.{get_or_default}
+use Rattle.plane_delaunay.proofs.Members.{Member, member, sum_by-lt}
 use Rattle.plane.proofs.Sides.{test_true, test_false}
 use Rattle.plane.proofs.IntegerOrder.{lt_or_ge_ℤ}
 use Rattle.plane.specs.Fraction.{Point, Fraction, whole}
 use Rattle.plane.specs.Circle.{gap, IsNearer}
 use Rattle.plane.specs.Tiling.{Triangulation, IsVertex, vertex}
 use Rattle.plane_delaunay.specs.Nearer.{nearer_count}
-
--- nowhere more, and at one index less: less altogether
-pub sum_by-lt : {X : Type 0} (f g : X → ℕ) (xs : List X) (k : ℕ) (d : X) → k < length xs → ((x : X) → f x ≤ g x) → f (get_or xs k d) < g (get_or xs k d) → sum_by f xs < sum_by g xs
-sum_by-lt f g [] k d h le l = absurd (omega (arith, h))
-sum_by-lt f g (x ∷ xs) zero d h le l = omega (arith, sum_by-cons f x xs, sum_by-cons g x xs, sum_by-le-sum_by f g xs le, l)
-sum_by-lt f g (x ∷ xs) (suc k) d h le l = omega (arith, sum_by-cons f x xs, sum_by-cons g x xs, le x, sum_by-lt f g xs k d (omega arith) le l)
 
 ones : {X : Type 0} (xs : List X) → sum_by (λ _. 1) xs ≡ length xs
 ones [] = λ _. 0
@@ -53,8 +49,8 @@ flag-lt b c h = omega (arith, not_below b b (omega (arith, ints)), below b c h)
 
 pub nearer_count_falls : (t : Triangulation) (p : Fraction) (i k : ℕ) → IsVertex t i → IsVertex t k → IsNearer p (vertex t k) (vertex t i) → (nearer_count t p k < nearer_count t p i) × (nearer_count t p i < length t.points)
 nearer_count_falls t p i k hi hk near = (
-  sum_by-lt (counted k) (counted i) t.points k origin hk (λ q. flag-le (far q) (far (spot k)) (far (spot i)) near.nearer) (flag-lt (far (spot k)) (far (spot i)) near.nearer),
-  subst (λ n. nearer_count t p i < n) (ones t.points) (sum_by-lt (counted i) (λ _. 1) t.points i origin hi (λ q. flag-most (far q) (far (spot i))) (flag-none (far (spot i)))),
+  sum_by-lt (counted k) (counted i) (spot k) t.points (λ q. flag-le (far q) (far (spot k)) (far (spot i)) near.nearer) (listed k hk) (flag-lt (far (spot k)) (far (spot i)) near.nearer),
+  subst (λ n. nearer_count t p i < n) (ones t.points) (sum_by-lt (counted i) (λ _. 1) (spot i) t.points (λ q. flag-most (far q) (far (spot i))) (listed i hi) (flag-none (far (spot i)))),
 )
   where
     origin : Point
@@ -62,6 +58,9 @@ nearer_count_falls t p i k hi hk near = (
 
     spot : ℕ → Point
     spot n = slice_index_or t.points n (record { x = pos 0; y = pos 0 })
+
+    listed : (n : ℕ) → n < length t.points → Member (spot n) t.points
+    listed n h = member (spot n) t.points (n, h, get_or_default t.points n (spot n) origin h)
 
     far : Point → ℤ
     far q = gap p (whole q) *ℤ (pos 1 *ℤ pos 1)

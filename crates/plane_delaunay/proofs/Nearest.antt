@@ -3,6 +3,7 @@ use Rattle.std.proofs.Common.{◌≡◌, ℕ, [], ◌∷◌, arith}
 use mathlib.Core.Logic.{◌⊎◌, inl, inr}
 use Rattle.std.specs.Prelude.{ℤ, pos, ◌<ℤ◌, ◌≤ℤ◌, ◌+ℤ◌, ◌-ℤ◌, ◌*ℤ◌}
 use Rattle.std.proofs.lemmas.Int.{ints}
+use Rattle.plane_delaunay.proofs.Faces.{middle, middle-inside}
 use Rattle.plane.proofs.Steps.{weak}
 use Rattle.plane.proofs.Solver.{Poly, ◌⊕◌, ◌⊖◌, ◌⊗◌, ring_over}
 use Rattle.plane.proofs.IntegerOrder.{mul-pos_ℤ, mul-nonneg_ℤ, mul-nonpos_of_nonneg_nonpos_ℤ, nonneg_of_mul-nonneg_ℤ, lt_or_ge_ℤ}
@@ -11,7 +12,7 @@ use Rattle.plane_delaunay.proofs.Lift.{lift, liftᵖ, pointᵖ}
 use Rattle.plane_delaunay.proofs.Cones.{Cone, cone}
 use Rattle.plane_delaunay.proofs.Ground.{tiling, triangle_of_inside, turned_face}
 use Rattle.plane_delaunay.proofs.NearestOnLine.{nearest_on_line, with_ones}
-use Rattle.plane_delaunay.proofs.EmptyCircles.{spot, circle_lift, middle_of, middle_inside}
+use Rattle.plane_delaunay.proofs.EmptyCircles.{spot, circle_lift}
 use Rattle.plane.specs.Fraction.{Point, Fraction, whole}
 use Rattle.plane.specs.Circle.{gap, IsNearer}
 use Rattle.plane.specs.Pairs.{Joins}
@@ -56,8 +57,8 @@ module _ (t : Triangulation) (D : IsConstrainedDelaunay t []) (h : TilesHull t) 
   -- without constraints each vertex is seen from inside each face
   all_low : (i j k n : ℕ) → IsFace t i j k → IsVertex t n → lift (vertex t i) (vertex t j) (vertex t k) (vertex t n) ≤ℤ pos 0
   all_low i j k n f v = circle_lift t i j k n (h.turning i j k f) (D.empty i j k n f v (record {
-    from = middle_of t i j k;
-    inside = triangle_of_inside _ _ _ _ (h.turning i j k f) (middle_inside t i j k (above_if_left _ _ _ (h.turning i j k f)));
+    from = middle (vertex t i) (vertex t j) (vertex t k);
+    inside = triangle_of_inside _ _ _ _ (h.turning i j k f) (middle-inside (vertex t i) (vertex t j) (vertex t k) (above_if_left _ _ _ (h.turning i j k f)));
     free = λ m n u. absurd (none_joined m n u);
   }))
     where

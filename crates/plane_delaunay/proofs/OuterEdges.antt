@@ -5,7 +5,7 @@ use lib.IntN.{neg_ℤ}
 use Rattle.std.specs.Prelude.{ℤ, pos, ◌<ℤ◌, map}
 use Rattle.std.proofs.lemmas.Int.{ints}
 use Rattle.plane.proofs.Steps.{negated_left}
-use Rattle.plane_delaunay.proofs.Bracket.{bracket, bracket-swapped, above_if_left, left_if_above}
+use Rattle.plane_delaunay.proofs.Bracket.{bracket-swapped, above_if_left, left_if_above}
 use Rattle.plane_delaunay.proofs.Ground.{tiling, closed_of, triangle_of_closed}
 use Rattle.plane_delaunay.proofs.Where.{IsBeyond, IsCovered, covered_or_beyond, corner_of_face, not_covered_and_beyond}
 use Rattle.plane.specs.Fraction.{Fraction, whole, InHull}

@@ -1,18 +1,20 @@
 -- Steps along a way through faces, and from the local test at each edge to the circles of all faces.
-use Prim.Native.Nat.{ℕ, suc, ◌+◌, ◌<◌}
-use lib.IntN.{ℤ, pos, ◌+ℤ◌, ◌-ℤ◌, ◌*ℤ◌, neg_ℤ}
+use Prim.Native.Nat.{ℕ, zero, suc, ◌+◌, ◌<◌, ◌≤◌}
+use lib.IntN.{ℤ, pos, negsuc, ◌+ℤ◌, ◌-ℤ◌, ◌*ℤ◌, neg_ℤ}
 use lib.Signed.{◌<ℤ◌, ◌≤ℤ◌}
 use mathlib.Core.Path.{◌≡◌, sym, ◌∙◌, ap, subst}
 use mathlib.Core.List.{[], ◌∷◌}
 use native.Mathlib.Omega.{arith}
 use borrow.Author.Differences.{ints}
+use Rattle.std.specs.Prelude.{sum_by}
 use Rattle.plane_delaunay.proofs.Numbers.{own_line, mix_positive}
 use Rattle.plane.proofs.Steps.{weak, weak_right, zero_weak_left, zero_weak, right_not_zero, negated_left}
 use Rattle.plane.proofs.IntegerLaws.{neg-mul_ℤ}
 use Rattle.plane.proofs.Solver.{num, ◌⊕◌, ◌⊖◌, ◌⊗◌, ⊝, ring_in, ring_in_from}
 use Rattle.plane.proofs.IntegerOrder.{mul-pos_ℤ, pos_of_mul-pos_ℤ, mul-neg_of_pos_neg_ℤ, sign, below, none, above, neg-pos_ℤ, zero-mul_ℤ}
 use Rattle.plane_delaunay.proofs.Bracket.{bracket, mixed, bracket-mixed, bracket-turned, bracket-swapped, bracket-first, bracket-second, meeting}
-use Rattle.plane_delaunay.proofs.Tally.{total, total-lt, flag, flag-le, flag-lt, size, nudged, Closed, Inside}
+use Rattle.plane_delaunay.proofs.Members.{sum_by-lt}
+use Rattle.plane_delaunay.proofs.Nudges.{size, nudged, Closed, Inside}
 use Rattle.plane_delaunay.proofs.Faces.{Tiling}
 use Rattle.plane_delaunay.proofs.Beyond.{Exit, stays, by_first, by_second, by_third, exit}
 use Rattle.plane.specs.Fraction.{Fraction}
@@ -116,6 +118,29 @@ passes_between x p a b c t off_a off_b h = (first (sign (bracket x p a)), second
     second (none s) = absurd (clash_b (bracket-turned x p b ∙ s))
     second (above s) = s
 
+-- 1 where a is above 0 and b below
+flag : ℤ → ℤ → ℕ
+flag (pos (suc m)) (negsuc n) = 1
+flag _ _ = 0
+
+flag-le : (a c b : ℤ) → (pos 0 <ℤ a → b <ℤ pos 0 → pos 0 <ℤ c) → flag a b ≤ flag c b
+unfolding flag
+flag-le (pos (suc m)) (pos (suc k)) (negsuc n) h = omega arith
+flag-le (pos (suc m)) (pos zero) (negsuc n) h = absurd (let p : pos 0 <ℤ pos 0 = h (omega (arith, ints)) (omega (arith, ints)) in omega (arith, ints))
+flag-le (pos (suc m)) (negsuc k) (negsuc n) h = absurd (let p : pos 0 <ℤ negsuc k = h (omega (arith, ints)) (omega (arith, ints)) in omega (arith, ints))
+flag-le (pos (suc m)) c (pos n) h = omega arith
+flag-le (pos zero) c b h = omega arith
+flag-le (negsuc m) c b h = omega arith
+
+flag-lt : (a c b : ℤ) → a ≤ℤ pos 0 → pos 0 <ℤ c → b <ℤ pos 0 → flag a b < flag c b
+unfolding flag
+flag-lt (pos (suc m)) c b h i j = absurd (omega (arith, ints))
+flag-lt (pos zero) (pos (suc k)) (negsuc n) h i j = omega arith
+flag-lt (negsuc m) (pos (suc k)) (negsuc n) h i j = omega arith
+flag-lt a (pos zero) b h i j = absurd (omega (arith, ints))
+flag-lt a (negsuc k) b h i j = absurd (omega (arith, ints))
+flag-lt a c (pos n) h i j = absurd (omega (arith, ints))
+
 module _ (T : Tiling) where
   open T use {at, IsVertex, IsFace, InHull}
 
@@ -124,11 +149,11 @@ module _ (T : Tiling) where
 
   -- how many sides have x on the left and p on the right
   pub separation : Fraction → Fraction → ℕ
-  separation x p = total (parts x p) T.sides
+  separation x p = sum_by (parts x p) T.sides
 
   pub nearer_on_way : (a b c : ℕ) (x p x' : Fraction) → IsFace a b c → OnWay x p x' → bracket (at a) (at b) x' ≤ℤ pos 0 → pos 0 <ℤ bracket (at a) (at b) x → bracket (at a) (at b) p <ℤ pos 0 → separation x' p < separation x p
   unfolding separation
-  nearer_on_way a b c x p x' f m h i j = total-lt (parts x' p) (parts x p) (a, b) T.sides
+  nearer_on_way a b c x p x' f m h i j = sum_by-lt (parts x' p) (parts x p) (a, b) T.sides
       (λ s. flag-le _ _ _ (λ l r. left_before m.k m.l _ _ _ m.k_above m.l_above (m.along (at s.0) (at s.1)) l r))
       (T.listed a b c f) (flag-lt _ _ _ h i j)
 

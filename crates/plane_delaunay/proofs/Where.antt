@@ -7,7 +7,8 @@ use Rattle.std.proofs.lemmas.Int.{ints}
 use Rattle.plane.proofs.Steps.{weak, zero_weak_left, left_not_zero, right_not_above}
 use Rattle.plane.proofs.IntegerOrder.{mul-nonneg_ℤ, nonneg_of_mul-nonneg_ℤ, lt_or_ge_ℤ}
 use Rattle.plane_delaunay.proofs.Bracket.{bracket, cramer, bracket-first, bracket-second}
-use Rattle.plane_delaunay.proofs.Tally.{Member, Closed, Inside, inside-turned, closed_of_inside}
+use Rattle.plane_delaunay.proofs.Members.{Member}
+use Rattle.plane_delaunay.proofs.Nudges.{Closed, Inside, inside-turned, closed_of_inside}
 use Rattle.plane_delaunay.proofs.Faces.{Tiling, side_not_inside, turned-above, middle, middle-inside}
 use Rattle.plane_delaunay.proofs.Beyond.{face_across}
 use Rattle.plane_delaunay.proofs.Walk.{IsOff, OnWay, Leaves, Step, reached, leaves_first, leaves_second, leaves_third, step, passes_between, separation, beyond}

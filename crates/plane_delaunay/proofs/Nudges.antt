@@ -1,62 +1,15 @@
--- Sums over a list, the measure that counts what parts two points, and moving a point a little.
+-- Closed and open triangles by brackets, and moving a point a little.
 use Prim.Native.Nat.{ℕ, zero, suc, ◌+◌, ◌<◌, ◌≤◌}
 use lib.IntN.{ℤ, pos, negsuc, ◌+ℤ◌, ◌*ℤ◌, nat_abs}
 use lib.Signed.{◌<ℤ◌, ◌≤ℤ◌}
 use mathlib.Core.Path.{◌≡◌, refl, sym, ◌∙◌, ap, subst}
 use mathlib.Core.Logic.{◌⊎◌, inl, inr}
-use mathlib.Core.List.{List, [], ◌∷◌}
 use native.Mathlib.Omega.{arith}
 use borrow.Author.Differences.{ints}
 use Rattle.plane.proofs.Steps.{weak}
 use Rattle.plane.proofs.IntegerOrder.{mul-nonneg_ℤ}
 use Rattle.plane_delaunay.proofs.Bracket.{bracket, mixed, bracket-mixed}
 use Rattle.plane.specs.Fraction.{Fraction}
-
-abbrev pub Member : {A : Type 0} → A → List A → Type 0
-Member x [] = ⊥
-Member x (y ∷ ys) = (y ≡ x) ⊎ Member x ys
-
-abbrev pub total : {A : Type 0} → (A → ℕ) → List A → ℕ
-total f [] = 0
-total f (x ∷ xs) = f x + total f xs
-
-pub total-term : {A : Type 0} (f : A → ℕ) (x : A) (xs : List A) → Member x xs → f x ≤ total f xs
-total-term f x [] m = absurd m
-total-term f x (y ∷ ys) (inl e) = omega (arith, ap f e)
-total-term f x (y ∷ ys) (inr m) = omega (arith, total-term f x ys m)
-
-pub total-le : {A : Type 0} (f g : A → ℕ) (xs : List A) → ((x : A) → f x ≤ g x) → total f xs ≤ total g xs
-total-le f g [] h = omega arith
-total-le f g (x ∷ xs) h = omega (arith, h x, total-le f g xs h)
-
--- nowhere more, and once less: less altogether
-pub total-lt : {A : Type 0} (f g : A → ℕ) (x : A) (xs : List A) → ((y : A) → f y ≤ g y) → Member x xs → f x < g x → total f xs < total g xs
-total-lt f g x [] h m l = absurd m
-total-lt f g x (y ∷ ys) h (inl e) l = omega (arith, ap f e, ap g e, total-le f g ys h)
-total-lt f g x (y ∷ ys) h (inr m) l = omega (arith, h y, total-lt f g x ys h m l)
-
--- 1 where a is above 0 and b below
-pub flag : ℤ → ℤ → ℕ
-flag (pos (suc m)) (negsuc n) = 1
-flag _ _ = 0
-
-pub flag-le : (a c b : ℤ) → (pos 0 <ℤ a → b <ℤ pos 0 → pos 0 <ℤ c) → flag a b ≤ flag c b
-unfolding flag
-flag-le (pos (suc m)) (pos (suc k)) (negsuc n) h = omega arith
-flag-le (pos (suc m)) (pos zero) (negsuc n) h = absurd (let p : pos 0 <ℤ pos 0 = h (omega (arith, ints)) (omega (arith, ints)) in omega (arith, ints))
-flag-le (pos (suc m)) (negsuc k) (negsuc n) h = absurd (let p : pos 0 <ℤ negsuc k = h (omega (arith, ints)) (omega (arith, ints)) in omega (arith, ints))
-flag-le (pos (suc m)) c (pos n) h = omega arith
-flag-le (pos zero) c b h = omega arith
-flag-le (negsuc m) c b h = omega arith
-
-pub flag-lt : (a c b : ℤ) → a ≤ℤ pos 0 → pos 0 <ℤ c → b <ℤ pos 0 → flag a b < flag c b
-unfolding flag
-flag-lt (pos (suc m)) c b h i j = absurd (omega (arith, ints))
-flag-lt (pos zero) (pos (suc k)) (negsuc n) h i j = omega arith
-flag-lt (negsuc m) (pos (suc k)) (negsuc n) h i j = omega arith
-flag-lt a (pos zero) b h i j = absurd (omega (arith, ints))
-flag-lt a (negsuc k) b h i j = absurd (omega (arith, ints))
-flag-lt a c (pos n) h i j = absurd (omega (arith, ints))
 
 -- ---- n times y and z, where n is larger than z
 pub size : ℤ → ℕ
