@@ -1,0 +1,32 @@
+-- The answers of the sheets are true.
+use Rattle.std.proofs.Common.{◌≡◌, ℕ, Bool, List, ap, ◌∙◌, IsTrue, ◌↔◌}
+use Rattle.plane.specs.Fraction.{Point, whole}
+use Rattle.plane.specs.Side.{Side, side, TurnsLeft}
+use Rattle.plane.specs.Circle.{InsideCircle}
+use Rattle.triangulate_run.specs.declared.sheet.Sheet.{Sheet}
+use Rattle.triangulate_run.specs.declared.sheet.Sheet.TheVariants.{G}
+use Rattle.triangulate_run.specs.declared.circles.Circle.{Circle}
+use Rattle.triangulate_run.specs.declared.table.TheConstants.{G_POINTS, G_CIRCLES}
+use Rattle.triangulate_run.specs.Points.{IsAt, IsSiteAt}
+use Rattle.triangulate_run.specs.Sheet.{points_of, circles_of}
+use Rattle.triangulate_run.specs.Table.{side_in, is_inside_in}
+use Rattle.triangulate_run.proofs.Rule.{SidesAreTrue, CirclesAreTrue, sides_true, circles_true}
+use Rattle.triangulate_run.proofs.Tables.{g_sides, g_circles}
+
+pub sides_are_true : (s : Sheet) → SidesAreTrue (points_of s) (circles_of s)
+unfolding points_of circles_of
+sides_are_true G = sides_true G_POINTS G_CIRCLES g_sides
+
+pub circles_are_true : (s : Sheet) → CirclesAreTrue (points_of s) (circles_of s)
+unfolding points_of circles_of
+circles_are_true G = circles_true G_POINTS G_CIRCLES (sides_true G_POINTS G_CIRCLES g_sides) g_circles
+
+-- at points that stand in the list
+pub side_from : (s : Sheet) (circles : List Circle) (r : Side) (a b c : Point) (i j k : ℕ) → circles ≡ circles_of s → IsAt (points_of s) i a → IsAt (points_of s) j b → IsAt (points_of s) k c → r ≡ side_in circles i j k → r ≡ side (whole a) (whole b) (whole c)
+side_from s circles r a b c i j k table ha hb hc e = rw (← ha.1, ← hb.1, ← hc.1) (e ∙ ap (λ t. side_in t i j k) table ∙ sides_are_true s i j k ha.0 hb.0 hc.0)
+
+pub inside_from : (s : Sheet) (circles : List Circle) (r : Bool) (a b c q : Point) (i j k l : ℕ) → circles ≡ circles_of s → IsSiteAt (points_of s) i a → IsSiteAt (points_of s) j b → IsSiteAt (points_of s) k c → IsSiteAt (points_of s) l q
+    → TurnsLeft (whole a) (whole b) (whole c) → r ≡ is_inside_in circles i j k l → IsTrue r ↔ InsideCircle (whole a) (whole b) (whole c) (whole q)
+inside_from s circles r a b c q i j k l table ha hb hc hq turns e =
+    rw (e, table, ← ha.0.1, ← hb.0.1, ← hc.0.1, ← hq.0.1)
+    (circles_are_true s i j k l ha.0.0 hb.0.0 hc.0.0 hq.0.0 ha.1 hb.1 hc.1 hq.1 (rw (ha.0.1, hb.0.1, hc.0.1) turns))

@@ -1,0 +1,4 @@
+pub mod Points
+pub mod Sheet
+pub mod Table
+pub mod Range

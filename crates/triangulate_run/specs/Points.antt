@@ -1,0 +1,32 @@
+-- A list of points, some of them sites.
+use Rattle.std.specs.Prelude.{◌≡◌, ℕ, ◌<◌, pos, Bool, true, false, List, length, get_or}
+use Rattle.plane.specs.Fraction.{Point}
+use Rattle.delaunay_core.specs.Place.{place_of}
+use Rattle.triangulate_run.specs.declared.points.SheetPoint.{SheetPoint}
+
+abbrev pub place : SheetPoint → Point
+place s = place_of (λ z. z) s.position
+
+-- past the end of a list
+abbrev pub nowhere : SheetPoint
+nowhere = record { position = record { x = pos 0; y = pos 0 }; site = false }
+
+abbrev pub point_in : List SheetPoint → ℕ → Point
+point_in points i = place (get_or points i nowhere)
+
+abbrev pub is_site_in : List SheetPoint → ℕ → Bool
+is_site_in points i = (get_or points i nowhere).site
+
+-- p has the index i in the list; and is a site there
+abbrev pub IsAt : List SheetPoint → ℕ → Point → Type 0
+IsAt points i p = (i < length points) × (point_in points i ≡ p)
+
+abbrev pub IsSiteAt : List SheetPoint → ℕ → Point → Type 0
+IsSiteAt points i p = IsAt points i p × (is_site_in points i ≡ true)
+
+-- p is a point, or a site, of the list
+abbrev pub IsListed : List SheetPoint → Point → Type 0
+IsListed points p = (i : ℕ) × IsAt points i p
+
+abbrev pub IsListedSite : List SheetPoint → Point → Type 0
+IsListedSite points p = (i : ℕ) × IsSiteAt points i p

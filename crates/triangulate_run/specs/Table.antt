@@ -1,0 +1,24 @@
+-- What a table says, by the indexes of points: a listed triple turns left, its rotations too, their three other orders turn right, and the rest is on.
+use Rattle.std.specs.Prelude.{ℕ, ◌==◌, Bool, false, ◌&&◌, ◌||◌, if◌then◌else◌, List, get_or}
+use Rattle.std.specs.List.{list_any}
+use Rattle.plane.specs.Side.{Side, left, right, on}
+use Rattle.triangulate_run.specs.declared.circles.Circle.{Circle}
+
+abbrev pub is_triple : List ℕ → ℕ → ℕ → ℕ → Bool
+is_triple t i j k = (get_or t 0 0 == i) && ((get_or t 1 0 == j) && (get_or t 2 0 == k))
+
+abbrev pub is_turned : List ℕ → ℕ → ℕ → ℕ → Bool
+is_turned t i j k = is_triple t i j k || (is_triple t j k i || is_triple t k i j)
+
+abbrev pub lists : List (List ℕ) → ℕ → ℕ → ℕ → Bool
+lists ts i j k = list_any (λ t. is_turned t i j k) ts
+
+abbrev pub is_left_in : List Circle → ℕ → ℕ → ℕ → Bool
+is_left_in circles i j k = list_any (λ c. lists c.triples i j k) circles
+
+abbrev pub side_in : List Circle → ℕ → ℕ → ℕ → Side
+side_in circles i j k = if is_left_in circles i j k then left else (if is_left_in circles i k j then right else on)
+
+-- l is inside the circle of the listed triple i j k
+abbrev pub is_inside_in : List Circle → ℕ → ℕ → ℕ → ℕ → Bool
+is_inside_in circles i j k l = list_any (λ c. lists c.triples i j k && get_or c.inside l false) circles

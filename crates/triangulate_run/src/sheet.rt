@@ -1,0 +1,138 @@
+//! The sheets of points that the program knows, with their answers.
+ghost use Rattle.std.specs.Prelude.{◌≡◌, true, All, IfSome, IfNone, IsTrue, ◌↔◌, [], ◌∷◌, map, string_bytes};
+ghost use Rattle.plane.specs.Fraction.{whole};
+ghost use Rattle.plane.specs.Side.{side, TurnsLeft};
+ghost use Rattle.plane.specs.Circle.{InsideCircle};
+ghost use Rattle.delaunay_core.specs.Place.{place_of};
+ghost use Rattle.triangulate_run.specs.Points.{place, IsAt, IsSiteAt};
+ghost use Rattle.triangulate_run.specs.Sheet.{points_of, circles_of, letter_of, IsCovered, IsSite};
+ghost use Rattle.triangulate_run.specs.Range.{covered_in_range};
+ghost use Rattle.triangulate_run.specs.declared.sheet.Sheet.{Sheet};
+
+use crate::circles::{Circle, is_inside_at, side_at};
+use crate::points::{SheetPoint, index_of, site_index_of};
+use crate::table::{G_CIRCLES, G_POINTS};
+use delaunay_core::line_side_info::LineSideInfo;
+use delaunay_core::math::PlaneTests;
+use delaunay_core::point::Point2;
+
+#[cfg(test)]
+mod tests;
+
+/// A sheet of points, by its letter. As tests it covers its points, and its answers stand in tables.
+#[derive(Clone, Copy, Debug, PartialEq, Eq)]
+pub enum Sheet {
+    /// Three rows of three points, 1 apart, round (0, 0).
+    G,
+}
+
+/// The sheet that the words after the program's name ask for: one word, its letter.
+pub fn sheet_named(words: &[String]) -> Option<Sheet>
+    ensures found { IfSome result (λ sheet. map string_bytes words.now ≡ letter_of sheet ∷ []) }
+    ensures none { IfNone result ((sheet : Sheet) → ¬ (map string_bytes words.now ≡ letter_of sheet ∷ [])) }
+{
+    let [word] = words else {
+        return None;
+    };
+    letter_named(word.as_str())
+}
+
+fn letter_named(word: &str) -> Option<Sheet>
+    ensures found { IfSome result (λ sheet. word.now ≡ letter_of sheet) }
+    ensures none { IfNone result ((sheet : Sheet) → ¬ (word.now ≡ letter_of sheet)) }
+{
+    match word {
+        "G" => Some(Sheet::G),
+        _ => None,
+    }
+}
+
+impl Sheet {
+    /// All points of the sheet.
+    pub fn points(self) -> &'static [SheetPoint]
+        ensures list { result.now ≡ points_of self }
+        ensures covered { All (λ s. IsCovered self (place s)) result.now }
+        ensures sites { All (λ s. s.site ≡ true → IsSite self (place s)) result.now }
+    {
+        self.listed()
+    }
+
+    #[tactic(auto, unfolding(crate::specs::Sheet::points_of))]
+    fn listed(self) -> &'static [SheetPoint]
+        ensures { result.now ≡ points_of self }
+    {
+        match self {
+            Sheet::G => &G_POINTS,
+        }
+    }
+
+    #[tactic(auto, unfolding(crate::specs::Sheet::circles_of))]
+    fn circles(self) -> &'static [Circle]
+        ensures { result.now ≡ circles_of self }
+    {
+        match self {
+            Sheet::G => &G_CIRCLES,
+        }
+    }
+
+    fn covered_index(self, point: Point2<i64>) -> usize
+        requires { IsCovered self (place_of (λ z. z) point) }
+        ensures { IsAt (points_of self) result (place_of (λ z. z) point) }
+    {
+        index_of(self.listed(), point).unwrap()
+    }
+
+    fn site_index(self, point: Point2<i64>) -> usize
+        requires { IsSite self (place_of (λ z. z) point) }
+        ensures { IsSiteAt (points_of self) result (place_of (λ z. z) point) }
+    {
+        site_index_of(self.listed(), point).unwrap()
+    }
+}
+
+impl PlaneTests<i64> for Sheet {
+    ghost covered = { IsCovered };
+
+    ghost sites = { IsSite };
+
+    ghost sites_are_covered = { λ s p h. (h.0, h.1.0) };
+
+    ghost covered_are_in_range = { covered_in_range };
+
+    fn side(&self, from: Point2<i64>, to: Point2<i64>, point: Point2<i64>) -> LineSideInfo
+        requires from_covered { IsCovered self.now (place_of (λ z. z) from) }
+        requires to_covered { IsCovered self.now (place_of (λ z. z) to) }
+        requires point_covered { IsCovered self.now (place_of (λ z. z) point) }
+        ensures { result ≡ side (whole (place_of (λ z. z) from)) (whole (place_of (λ z. z) to)) (whole (place_of (λ z. z) point)) }
+    {
+        side_at(
+            self.circles(),
+            self.covered_index(from),
+            self.covered_index(to),
+            self.covered_index(point),
+        )
+    }
+
+    fn is_in_circle(
+        &self,
+        v1: Point2<i64>,
+        v2: Point2<i64>,
+        v3: Point2<i64>,
+        point: Point2<i64>,
+    ) -> bool
+        requires v1_site { IsSite self.now (place_of (λ z. z) v1) }
+        requires v2_site { IsSite self.now (place_of (λ z. z) v2) }
+        requires v3_site { IsSite self.now (place_of (λ z. z) v3) }
+        requires point_site { IsSite self.now (place_of (λ z. z) point) }
+        requires left_turn { TurnsLeft (whole (place_of (λ z. z) v1)) (whole (place_of (λ z. z) v2)) (whole (place_of (λ z. z) v3)) }
+        ensures { IsTrue result ↔ InsideCircle (whole (place_of (λ z. z) v1)) (whole (place_of (λ z. z) v2)) (whole (place_of (λ z. z) v3)) (whole (place_of (λ z. z) point)) }
+    {
+        is_inside_at(
+            self.circles(),
+            self.site_index(v1),
+            self.site_index(v2),
+            self.site_index(v3),
+            self.site_index(point),
+        )
+    }
+}

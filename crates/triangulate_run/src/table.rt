@@ -1,0 +1,106 @@
+//! The table of sheet G: its points, its left-turning triples by circle, and the points inside each.
+
+use crate::circles::Circle;
+use crate::points::SheetPoint;
+use delaunay_core::point::Point2;
+
+macro_rules! site {
+    ($x:expr, $y:expr) => {
+        SheetPoint {
+            position: Point2 { x: $x, y: $y },
+            site: true,
+        }
+    };
+}
+
+// The triples of a circle, and the points inside it.
+macro_rules! circle {
+    ($triples:expr; $($p:expr),*) => {
+        Circle {
+            triples: $triples,
+            inside: [
+                $($p == 0 ||)* false,
+                $($p == 1 ||)* false,
+                $($p == 2 ||)* false,
+                $($p == 3 ||)* false,
+                $($p == 4 ||)* false,
+                $($p == 5 ||)* false,
+                $($p == 6 ||)* false,
+                $($p == 7 ||)* false,
+                $($p == 8 ||)* false,
+            ],
+        }
+    };
+}
+
+// The points, row by row from below:
+//
+//     G H I
+//     D E F
+//     A B C
+const A: usize = 0;
+
+const B: usize = 1;
+
+const C: usize = 2;
+
+const D: usize = 3;
+
+const E: usize = 4;
+
+const F: usize = 5;
+
+const G: usize = 6;
+
+const H: usize = 7;
+
+const I: usize = 8;
+
+pub(crate) const G_POINTS: [SheetPoint; 9] = [
+    site!(-1, -1),
+    site!(0, -1),
+    site!(1, -1),
+    site!(-1, 0),
+    site!(0, 0),
+    site!(1, 0),
+    site!(-1, 1),
+    site!(0, 1),
+    site!(1, 1),
+];
+
+pub(crate) const G_CIRCLES: [Circle; 34] = [
+    circle!([[A, B, E], [A, B, D], [A, E, D], [B, E, D]];),
+    circle!([[B, C, F], [B, C, E], [B, F, E], [C, F, E]];),
+    circle!([[D, E, H], [D, E, G], [D, H, G], [E, H, G]];),
+    circle!([[E, F, I], [E, F, H], [E, I, H], [F, I, H]];),
+    circle!([[A, B, H], [A, B, G], [A, H, G], [B, H, G]]; D, E),
+    circle!([[B, C, I], [B, C, H], [B, I, H], [C, I, H]]; E, F),
+    circle!([[A, C, F], [A, C, D], [A, F, D], [C, F, D]]; B, E),
+    circle!([[D, F, I], [D, F, G], [D, I, G], [F, I, G]]; E, H),
+    circle!([[A, C, I], [A, C, G], [A, I, G], [C, I, G]]; B, D, E, F, H),
+    circle!([[B, F, H], [B, F, D], [B, H, D], [F, H, D]]; E),
+    circle!([[A, C, E]; 4]; B),
+    circle!([[C, I, E]; 4]; F),
+    circle!([[I, G, E]; 4]; H),
+    circle!([[G, A, E]; 4]; D),
+    circle!([[A, C, H]; 4]; B, D, E, F),
+    circle!([[C, I, D]; 4]; B, E, F, H),
+    circle!([[I, G, B]; 4]; D, E, F, H),
+    circle!([[G, A, F]; 4]; B, D, E, H),
+    circle!([[A, B, F], [A, B, I], [A, F, I], [B, F, I]]; D, E, G, H),
+    circle!([[C, F, H], [C, F, G], [C, H, G], [F, H, G]]; A, B, D, E),
+    circle!([[I, H, D], [I, H, A], [I, D, A], [H, D, A]]; B, C, E, F),
+    circle!([[G, D, B], [G, D, C], [G, B, C], [D, B, C]]; E, F, H, I),
+    circle!([[D, E, I]; 4]; G, H),
+    circle!([[B, E, G]; 4]; A, D),
+    circle!([[F, E, A]; 4]; B, C),
+    circle!([[H, E, C]; 4]; F, I),
+    circle!([[G, E, F]; 4]; H, I),
+    circle!([[A, E, H]; 4]; D, G),
+    circle!([[C, E, D]; 4]; A, B),
+    circle!([[I, E, B]; 4]; C, F),
+    circle!([[A, F, H]; 4]; B, D, E),
+    circle!([[C, H, D]; 4]; B, E, F),
+    circle!([[I, D, B]; 4]; E, F, H),
+    circle!([[G, B, F]; 4]; D, E, H),
+];
