@@ -2,3 +2,12 @@ pub mod Points
 pub mod Sheet
 pub mod Table
 pub mod Range
+pub mod Stage
+pub mod Reply
+pub mod Answer
+pub mod Line
+pub mod Input
+pub mod Output
+pub mod Piece
+pub mod Run
+pub mod Fault

@@ -1,0 +1,119 @@
+-- Which reply a command may get, and what it makes of the stage.
+use Rattle.std.specs.Prelude.{◌≡◌, ◌⊎◌, ◌↔◌, ℕ, ◌<◌, ◌≤◌, ◌+◌, ◌*◌, ℤ, List, length, All, AllPairs, Contains, ⊤}
+use Rattle.plane.specs.Fraction.{Point, whole}
+use Rattle.plane.specs.Pairs.{SamePairs, EachPairOnce}
+use Rattle.plane.specs.Plain.{Replaces, Appends, DifferInPosition}
+use Rattle.plane.specs.Tests.{InRange}
+use Rattle.plane.specs.Tiling.{Triangulation, IsFace}
+use Rattle.plane.specs.Location.{IsLocation, on_vertex, on_edge, on_face, outside_hull, no_triangulation}
+use Rattle.delaunay_core.specs.declared.point.Point2.{Point2}
+use Rattle.delaunay_core.specs.declared.math.InsertionError.TheVariants.{TooLarge, OutOfMemory, OutOfIndexes}
+use Rattle.command_grammar.specs.declared.command.Coordinates.{Coordinates}
+use Rattle.command_grammar.specs.declared.command.Command.{Command}
+use Rattle.command_grammar.specs.declared.command.Command.TheVariants.{Insert, Remove, Constrain, Release, Locate, Nearest, Line, Counts, Faces}
+use Rattle.triangulate_run.specs.declared.points.SheetPoint.{SheetPoint}
+use Rattle.triangulate_run.specs.declared.reply.Corners.{Corners}
+use Rattle.triangulate_run.specs.declared.reply.Reply.{Reply}
+use Rattle.triangulate_run.specs.declared.reply.Reply.TheVariants as reply
+use Rattle.triangulate_run.specs.Points.{IsListed, IsListedSite}
+use Rattle.triangulate_run.specs.Stage.{Stage, position}
+
+abbrev pub point_at : Coordinates → Point2 ℤ
+point_at c = record { x = c.x; y = c.y }
+
+-- a vertex may be inserted at p, and none is there
+pub record IsNewSite (points : List SheetPoint) (s : Stage) (p : Point2 ℤ) : Type 0 where
+  pub in_range : InRange (position p)
+  pub site : IsListedSite points (position p)
+  pub fresh : All (DifferInPosition position p) s.plain.vertices
+
+-- the most directed edges that a mesh has
+abbrev pub most_elements : ℕ
+most_elements = 4294967295
+
+-- one more vertex would need indexes that the mesh doesn't have
+abbrev pub IsFull : Stage → Type 0
+IsFull s = most_elements < 6 * (length s.plain.vertices + 1)
+
+-- p is a new site, and takes the next index
+pub record AddsVertex (points : List SheetPoint) (old : Stage) (p : Point2 ℤ) (i : ℕ) (new : Stage) : Type 0 where
+  pub new_site : IsNewSite points old p
+  pub room : ¬ IsFull old
+  pub index : i ≡ length old.plain.vertices
+  pub appended : Appends position old.plain new.plain p
+
+-- p is where vertex i is; faces and edges stay
+pub record KeepsVertex (points : List SheetPoint) (old : Stage) (p : Point2 ℤ) (i : ℕ) (new : Stage) : Type 0 where
+  pub in_range : InRange (position p)
+  pub site : IsListedSite points (position p)
+  pub replaced : Replaces position old.plain new.plain i p
+  pub same : new.triangulation ≡ old.triangulation
+
+-- until vertices can be inserted everywhere, a fourth one is refused
+abbrev pub IsFourth : List SheetPoint → Stage → Point2 ℤ → Type 0
+IsFourth points s p = IsNewSite points s p × (3 ≤ length s.plain.vertices)
+
+abbrev pub MayInsert : List SheetPoint → Stage → Point2 ℤ → Reply → Stage → Type 0
+MayInsert points old p (reply.Vertex i) new = KeepsVertex points old p i new ⊎ (AddsVertex points old p i new × (i < 3))
+MayInsert points old p (reply.Refused TooLarge) new = (¬ InRange (position p)) × (new ≡ old)
+MayInsert points old p reply.UnknownPoint new = InRange (position p) × (¬ IsListedSite points (position p)) × (new ≡ old)
+MayInsert points old p (reply.Refused OutOfIndexes) new = IsNewSite points old p × IsFull old × (new ≡ old)
+MayInsert points old p (reply.Refused OutOfMemory) new = IsNewSite points old p × (¬ IsFull old) × (new ≡ old)
+MayInsert points old p reply.BadLine new = IsFourth points old p × (new ≡ old)
+MayInsert points old p _ new = ⊥
+
+-- the corners are a face in left-turning order, the least index first
+pub record IsFaceFromLeast (t : Triangulation) (c : Corners) : Type 0 where
+  pub face : IsFace t c.first c.second c.third
+  pub before_second : c.first < c.second
+  pub before_third : c.first < c.third
+
+-- where p is, if it is in the list
+abbrev pub MayLocate : List SheetPoint → Triangulation → Point2 ℤ → Reply → Type 0
+MayLocate points t p reply.UnknownPoint = ¬ IsListed points (position p)
+MayLocate points t p (reply.Vertex i) = IsListed points (position p) × IsLocation t (whole (position p)) (on_vertex i)
+MayLocate points t p (reply.Edge i j) = IsListed points (position p) × IsLocation t (whole (position p)) (on_edge i j) × (i < j)
+MayLocate points t p (reply.Face c) = IsListed points (position p) × IsLocation t (whole (position p)) (on_face c.first c.second c.third) × IsFaceFromLeast t c
+MayLocate points t p reply.Outside = IsListed points (position p) × ((i : ℕ) × (j : ℕ) × IsLocation t (whole (position p)) (outside_hull i j))
+MayLocate points t p reply.NoTriangulation = IsListed points (position p) × IsLocation t (whole (position p)) no_triangulation
+MayLocate points t p _ = ⊥
+
+-- n is the number of pairs, an order of the ends apart
+pub record AreSoMany (pairs : List (ℕ × ℕ)) (n : ℕ) : Type 0 where
+  pub different : List (ℕ × ℕ)
+  pub same : SamePairs pairs different
+  pub once : EachPairOnce different
+  pub number : n ≡ length different
+
+pub record AreCounts (s : Stage) (vertices edges faces constraints : ℕ) : Type 0 where
+  pub vertices_are : vertices ≡ length s.plain.vertices
+  pub edges_are : AreSoMany s.triangulation.edges edges
+  pub faces_are : faces ≡ length s.triangulation.faces
+  pub constraints_are : AreSoMany s.plain.constraints constraints
+
+-- c comes before d by the three numbers
+abbrev pub IsBefore : Corners → Corners → Type 0
+IsBefore c d = (c.first < d.first) ⊎ ((c.first ≡ d.first) × ((c.second < d.second) ⊎ ((c.second ≡ d.second) × (c.third < d.third))))
+
+-- each face once, sorted
+pub record ListsFaces (t : Triangulation) (list : List Corners) : Type 0 where
+  pub faces : (c : Corners) → Contains list c ↔ IsFaceFromLeast t c
+  pub sorted : AllPairs IsBefore list
+
+abbrev pub MayList : Triangulation → Reply → Type 0
+MayList t (reply.Faces list) = ListsFaces t list.items
+MayList t (reply.Refused OutOfMemory) = ⊤
+MayList t _ = ⊥
+
+-- the command may get the reply where old stood, and leave new. What is not there yet is no command
+abbrev pub MayReply : List SheetPoint → Stage → Command → Reply → Stage → Type 0
+MayReply points old (Insert c) r new = MayInsert points old (point_at c) r new
+MayReply points old (Locate c) r new = MayLocate points old.triangulation (point_at c) r × (new ≡ old)
+MayReply points old Counts (reply.Counts v e f c) new = AreCounts old v e f c × (new ≡ old)
+MayReply points old Counts _ new = ⊥
+MayReply points old Faces r new = MayList old.triangulation r × (new ≡ old)
+MayReply points old (Remove i) r new = (r ≡ reply.BadLine) × (new ≡ old)
+MayReply points old (Constrain i j) r new = (r ≡ reply.BadLine) × (new ≡ old)
+MayReply points old (Release i j) r new = (r ≡ reply.BadLine) × (new ≡ old)
+MayReply points old (Nearest c) r new = (r ≡ reply.BadLine) × (new ≡ old)
+MayReply points old (Line c d) r new = (r ≡ reply.BadLine) × (new ≡ old)

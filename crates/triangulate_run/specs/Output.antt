@@ -1,0 +1,18 @@
+-- What is written to a watched writer.
+use Rattle.std.specs.Prelude.{◌≡◌, ℕ, true, List, ◌++◌, Option, Result, MatchResult}
+use Rattle.std.specs.Io.KnownBytes.{Appends}
+use Rattle.watched.specs.declared.Watched.{Watched}
+use Rattle.watched.specs.Watched.{inner_of, has_failed}
+
+-- new holds some beginning of the text behind what old held
+pub record AppendsPart (old new : Option (List ℕ)) (text : List ℕ) : Type 0 where
+  pub part : List ℕ
+  pub rest : List ℕ
+  pub whole : text ≡ part ++ rest
+  pub written : Appends old new part
+
+-- a call wrote the text, or the writer failed, and a beginning of the text was written
+abbrev pub Writes : {W T E : Type 0} → (W → Option (List ℕ)) → Watched W → Watched W → Result T E → List ℕ → Type 0
+Writes contents old new result text = MatchResult result
+    (λ _. Appends (contents (inner_of old)) (contents (inner_of new)) text × (has_failed new ≡ has_failed old))
+    (λ _. AppendsPart (contents (inner_of old)) (contents (inner_of new)) text × (has_failed new ≡ true))

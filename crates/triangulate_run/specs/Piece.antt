@@ -1,0 +1,8 @@
+-- The text of a reply, in pieces.
+use Rattle.std.specs.Prelude.{ℕ, List, decimal}
+use Rattle.triangulate_run.specs.declared.piece.Piece.{Piece}
+use Rattle.triangulate_run.specs.declared.piece.Piece.TheVariants.{Text, Index}
+
+abbrev pub text_of : Piece → List ℕ
+text_of (Text text) = text.now
+text_of (Index n) = decimal n

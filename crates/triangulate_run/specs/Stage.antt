@@ -1,0 +1,27 @@
+-- What stands between two lines: the vertices and constraints so far, and a triangulation of them.
+use Rattle.std.specs.Prelude.{◌≡◌, ℕ, ℤ, List, [], map}
+use Rattle.plane.specs.Fraction.{Point}
+use Rattle.plane.specs.Pairs.{Joins}
+use Rattle.plane.specs.Plain.{Plain, IsPlain}
+use Rattle.plane.specs.Tiling.{Triangulation, IsEdge, IsTiling}
+use Rattle.delaunay_core.specs.declared.point.Point2.{Point2}
+use Rattle.delaunay_core.specs.Place.{place_of}
+
+-- where a vertex is, which is a point and no more
+abbrev pub position : Point2 ℤ → Point
+position p = place_of (λ z. z) p
+
+pub record Stage : Type 0 where
+  pub plain : Plain (Point2 ℤ)
+  pub triangulation : Triangulation
+
+-- before the first line
+abbrev pub first_stage : Stage
+first_stage = record { plain = record { vertices = []; constraints = [] }; triangulation = record { points = []; faces = []; edges = [] } }
+
+-- the triangulation is one of these vertices, and each constraint is an edge
+pub record Fits (s : Stage) : Type 0 where
+  pub is_plain : IsPlain position s.plain
+  pub points : s.triangulation.points ≡ map position s.plain.vertices
+  pub tiling : IsTiling s.triangulation
+  pub kept : (i j : ℕ) → Joins s.plain.constraints i j → IsEdge s.triangulation i j

@@ -1,0 +1,120 @@
+//! Lines in, replies out.
+ghost use Rattle.std.specs.Prelude.{◌≡◌, ℕ, List, false, IfSome, IfNone};
+ghost use Rattle.command_grammar.specs.Grammar.{Spells, SpellsNone};
+ghost use Rattle.watched.specs.Watched.{has_failed};
+ghost use Rattle.triangulate_run.specs.Line.{kept};
+ghost use Rattle.triangulate_run.specs.Output.{Writes};
+ghost use Rattle.triangulate_run.specs.Stage.{Stage, first_stage, Fits};
+ghost use Rattle.triangulate_run.specs.Answer.{MayReply};
+ghost use Rattle.triangulate_run.specs.Run.{Answers, Ran, end_text};
+ghost use Rattle.triangulate_run.specs.declared.points.SheetPoint.{SheetPoint};
+
+use crate::fault::RunError;
+use crate::input::next_byte;
+use crate::line_buffer::LineBuffer;
+use crate::output::write_all;
+use crate::reply::{Reply, write_reply};
+use command_grammar::command::Command;
+use std::io::{Read, Write};
+use watched::{Failed, Watched};
+
+/// What answers commands.
+pub(crate) trait Engine {
+    ghost listed: { Self → List SheetPoint };
+
+    ghost stage: { Self → Stage };
+
+    /// Does what the command asks for.
+    fn reply_to(&mut self, command: Command) -> Reply
+        ensures listed { listed self.new ≡ listed self.old }
+        ensures reply { MayReply (listed self.old) (stage self.old) command result (stage self.new) }
+        ensures fits { Fits (stage self.new) };
+}
+
+/// The command of a line.
+fn command_of(line: &LineBuffer) -> Option<Command>
+    ensures found { (whole : List ℕ) → line.now ≡ kept whole → IfSome result (Spells whole) }
+    ensures none { (whole : List ℕ) → line.now ≡ kept whole → IfNone result (SpellsNone whole) }
+{
+    command_grammar::parse(line.bytes()?)
+}
+
+/// Answers a line.
+fn answer_line<E: Engine, W: Write>(
+    engine: &mut E,
+    line: &LineBuffer,
+    writer: &mut Watched<W>,
+) -> Result<(), Failed>
+    requires fits { Fits (E.stage engine.old) }
+    ensures listed { E.listed engine.new ≡ E.listed engine.old }
+    ensures fits { Fits (E.stage engine.new) }
+    ensures answered { (whole : List ℕ) → line.now ≡ kept whole → (text : List ℕ)
+        × Answers (E.listed engine.old) (E.stage engine.old) whole text (E.stage engine.new)
+        × Writes W.contents writer.old writer.new result text }
+{
+    let Some(command) = command_of(line) else {
+        return write_all(writer, b"bad line\n");
+    };
+    let reply = engine.reply_to(command);
+    write_reply(writer, &reply)
+}
+
+/// Answers a line, and has the writer pass the answer on.
+fn answer<E: Engine, W: Write>(
+    engine: &mut E,
+    line: &LineBuffer,
+    writer: &mut Watched<W>,
+) -> Result<(), Failed>
+    requires fits { Fits (E.stage engine.old) }
+    ensures listed { E.listed engine.new ≡ E.listed engine.old }
+    ensures fits { Fits (E.stage engine.new) }
+    ensures answered { (whole : List ℕ) → line.now ≡ kept whole → (text : List ℕ)
+        × Answers (E.listed engine.old) (E.stage engine.old) whole text (E.stage engine.new)
+        × Writes W.contents writer.old writer.new result text }
+{
+    answer_line(engine, line, writer)?;
+    writer.flush()
+}
+
+/// Answers what stands behind the last byte 10.
+fn finish<W: Write>(line: &LineBuffer, writer: &mut Watched<W>) -> Result<(), Failed>
+    ensures { (whole : List ℕ) → line.now ≡ kept whole
+        → Writes W.contents writer.old writer.new result (end_text whole) }
+{
+    if line.is_empty() {
+        return Ok(());
+    }
+    write_all(writer, b"bad line\n")?;
+    writer.flush()
+}
+
+/// Has the engine answer each line of the reader to the writer, before more is read.
+pub(crate) fn converse<E: Engine, R: Read, W: Write>(
+    engine: &mut E,
+    reader: &mut Watched<R>,
+    writer: &mut Watched<W>,
+) -> Result<(), RunError>
+    requires first { E.stage engine.old ≡ first_stage }
+    requires fits { Fits (E.stage engine.old) }
+    requires reader_works { has_failed reader.old ≡ false }
+    requires writer_works { has_failed writer.old ≡ false }
+    ensures { Ran (E.listed engine.old) R.remaining W.contents reader.old reader.new writer.old writer.new result }
+{
+    let mut line = LineBuffer::new();
+    loop {
+        match next_byte(reader) {
+            Ok(Some(b'\n')) => match answer(engine, &line, writer) {
+                Ok(()) => line.clear(),
+                Err(Failed) => return Err(RunError::Write),
+            },
+            Ok(Some(byte)) => {
+                line.push(byte);
+            }
+            Ok(None) => match finish(&line, writer) {
+                Ok(()) => return Ok(()),
+                Err(Failed) => return Err(RunError::Write),
+            },
+            Err(Failed) => return Err(RunError::Read),
+        }
+    }
+}
