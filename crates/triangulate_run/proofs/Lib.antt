@@ -1,4 +1,3 @@
-pub mod Determinant
 pub mod Rule
 pub mod Tables
 pub mod Truth

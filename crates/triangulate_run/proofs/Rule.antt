@@ -7,7 +7,8 @@ use Rattle.std.proofs.lemmas.Int.{ints}
 use Rattle.plane.specs.Fraction.{whole}
 use Rattle.plane.specs.Side.{Side, side, left, right, on, TurnsLeft}
 use Rattle.plane.specs.Circle.{InsideCircle}
-use Rattle.triangulate_run.proofs.Determinant.{circle_det, inside_if_det, det_if_inside}
+use Rattle.plane.specs.Laws.{lifted_determinant}
+use Rattle.plane.proofs.Circles.{inside_is_determinant}
 use Rattle.triangulate_run.specs.declared.points.SheetPoint.{SheetPoint}
 use Rattle.triangulate_run.specs.declared.circles.Circle.{Circle}
 use Rattle.triangulate_run.specs.Points.{point_in, is_site_in}
@@ -70,7 +71,7 @@ module _ (ps : List SheetPoint) (cs : List Circle) where
 
   -- at a listed triple of sites
   unfoldable pub circle_agrees : ℕ → ℕ → ℕ → ℕ → Bool
-  circle_agrees i j k l = cond (is_site_in ps l) (beq (is_inside_in cs i j k l) (int_lt (pos 0) (circle_det (point_in ps i) (point_in ps j) (point_in ps k) (point_in ps l)))) true
+  circle_agrees i j k l = cond (is_site_in ps l) (beq (is_inside_in cs i j k l) (int_lt (pos 0) (lifted_determinant (point_in ps i) (point_in ps j) (point_in ps k) (point_in ps l)))) true
 
   unfoldable pub circles_agree : Bool
   circles_agree = all_below (λ i. all_below (λ j. all_below (λ k.
@@ -98,7 +99,6 @@ module _ (ps : List SheetPoint) (cs : List Circle) where
       let listed = listed_if_left (is_left_in cs i j k) (is_left_in cs i k j) (sides i j k hi hj hk ∙ turns) in
       let at_k = all_below_at _ (length ps) k (all_below_at _ (length ps) j (all_below_at _ (length ps) i e hi) hj) hk in
       let at_l = all_below_at (λ l. circle_agrees i j k l) (length ps) l (if_yes _ _ (if_yes _ _ (if_yes _ _ (if_yes _ _ at_k listed) si) sj) sk) hl in
-      let answer = beq-true _ _ (if_yes _ _ at_l sl) in (
-        (λ h. inside_if_det (point_in ps i) (point_in ps j) (point_in ps k) (point_in ps l) turns (lt_of_test _ _ (sym answer ∙ h))),
-        (λ h. answer ∙ test_of_lt _ _ (det_if_inside (point_in ps i) (point_in ps j) (point_in ps k) (point_in ps l) turns h)),
-      )
+      let answer = beq-true _ _ (if_yes _ _ at_l sl) in
+      let inside = inside_is_determinant (point_in ps i) (point_in ps j) (point_in ps k) (point_in ps l) turns in
+      (λ h. inside.1 (lt_of_test _ _ (sym answer ∙ h)), λ h. answer ∙ test_of_lt _ _ (inside.0 h))

@@ -2,7 +2,6 @@
 use Rattle.std.proofs.Common.{◌≡◌, true, refl}
 use Rattle.plane.specs.Side.{side}
 use Rattle.triangulate_run.specs.declared.table.TheConstants.{G_POINTS, G_CIRCLES}
-use Rattle.triangulate_run.proofs.Determinant.{circle_det}
 use Rattle.triangulate_run.proofs.Rule.{sides_agree, side_agrees, circles_agree, circle_agrees}
 
 pub g_sides : sides_agree G_POINTS G_CIRCLES ≡ true
@@ -10,5 +9,5 @@ unfolding sides_agree side_agrees side
 g_sides = refl
 
 pub g_circles : circles_agree G_POINTS G_CIRCLES ≡ true
-unfolding circles_agree circle_agrees circle_det
+unfolding circles_agree circle_agrees
 g_circles = refl

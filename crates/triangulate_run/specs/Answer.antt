@@ -1,6 +1,6 @@
 -- Which reply a command may get, and what it makes of the stage.
 use Rattle.std.specs.Prelude.{◌≡◌, ◌⊎◌, ◌↔◌, ℕ, ◌<◌, ◌≤◌, ◌+◌, ◌*◌, ℤ, List, length, All, AllPairs, Contains, ⊤}
-use Rattle.plane.specs.Fraction.{Point, whole}
+use Rattle.plane.specs.Fraction.{whole}
 use Rattle.plane.specs.Pairs.{SamePairs, EachPairOnce}
 use Rattle.plane.specs.Plain.{Replaces, Appends, DifferInPosition}
 use Rattle.plane.specs.Tests.{InRange}

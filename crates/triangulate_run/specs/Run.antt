@@ -14,7 +14,6 @@ use Rattle.triangulate_run.specs.Stage.{Stage, first_stage, Fits}
 use Rattle.triangulate_run.specs.Answer.{MayReply}
 use Rattle.triangulate_run.specs.Reply.{reply_text}
 use Rattle.triangulate_run.specs.Output.{AppendsPart}
-use Rattle.triangulate_run.specs.Line.{kept}
 
 abbrev pub bad_line : List ℕ
 bad_line = codes "bad line\n"

@@ -1,5 +1,5 @@
 -- What stands between two lines: the vertices and constraints so far, and a triangulation of them.
-use Rattle.std.specs.Prelude.{◌≡◌, ℕ, ℤ, List, [], map}
+use Rattle.std.specs.Prelude.{◌≡◌, ℕ, ℤ, [], map}
 use Rattle.plane.specs.Fraction.{Point}
 use Rattle.plane.specs.Pairs.{Joins}
 use Rattle.plane.specs.Plain.{Plain, IsPlain}

@@ -31,7 +31,10 @@ pub(crate) fn write_piece<W: Write>(writer: &mut Watched<W>, piece: Piece<'_>) -
 }
 
 /// Writes the pieces in a row.
-pub(crate) fn write_pieces<W: Write>(writer: &mut Watched<W>, pieces: &[Piece<'_>]) -> Result<(), Failed>
+pub(crate) fn write_pieces<W: Write>(
+    writer: &mut Watched<W>,
+    pieces: &[Piece<'_>],
+) -> Result<(), Failed>
     ensures { Writes W.contents writer.old writer.new result (flat_map text_of pieces.now) }
 {
     for piece in pieces {
