@@ -2,3 +2,4 @@ pub mod Fits
 pub mod EdgeLists
 pub mod Outlines
 pub mod Ranges
+pub mod Steps

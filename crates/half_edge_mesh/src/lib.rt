@@ -4,19 +4,27 @@
 mod dcel;
 mod edge;
 mod face;
+mod fixed_iterators;
 mod growth;
 mod handles;
+mod iterators;
 mod line;
 mod lookup;
 mod outside;
 mod room;
+#[cfg(test)]
+mod tests;
 mod vertex;
 
 pub use dcel::Dcel;
 pub use edge::{DirectedEdgeHandle, UndirectedEdgeHandle};
 pub use face::FaceHandle;
+pub use fixed_iterators::{
+    FixedDirectedEdgeIterator, FixedFaceIterator, FixedUndirectedEdgeIterator, FixedVertexIterator,
+};
 pub use half_edge_links::{MAX_ELEMENTS, ReserveError, are_few_enough};
 pub use handles::{
     FixedDirectedEdgeHandle, FixedFaceHandle, FixedUndirectedEdgeHandle, FixedVertexHandle,
 };
+pub use iterators::{DirectedEdgeIterator, FaceIterator, UndirectedEdgeIterator, VertexIterator};
 pub use vertex::VertexHandle;
