@@ -21,7 +21,7 @@ use Rattle.plane_tiling.proofs.Covering as C
 pub mean_bracket : (A : ℤ → Type 0) (s t u v : Point) (y : Fraction) (w : TwoWeights A (whole u) (whole v) y) → w.n *ℤ bracket (lift s) (lift t) (vec y) ≡ w.k *ℤ bracket (lift s) (lift t) (lift u) +ℤ w.l *ℤ bracket (lift s) (lift t) (lift v)
 mean_bracket A s t u v y w = bracket_of_two A (lift s) (lift t) (whole u) (whole v) y w
 
-turned_within : (a b y : Fraction) → WithinSegment a b y → WithinSegment b a y
+pub turned_within : (a b y : Fraction) → WithinSegment a b y → WithinSegment b a y
 turned_within a b y h = let t = two_weights IsPositive a b y h in
     mean_of_two IsPositive b a y (record {
       k = t.l;

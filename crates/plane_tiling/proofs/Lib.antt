@@ -13,3 +13,5 @@ pub mod Line
 pub mod Appended
 pub mod LineMeshes
 pub mod Meshes
+pub mod LinePlaces
+pub mod Locations

@@ -8,7 +8,7 @@ use Rattle.plane.specs.Fraction.{Point, whole, WithinSegment}
 use Rattle.plane.specs.Pairs.{IsSamePair}
 use Rattle.plane.proofs.IntegerOrder.{trichotomy_ℤ, lt_or_ge_ℤ}
 use Rattle.plane.proofs.Steps.{negated_left}
-use Rattle.plane.proofs.Bracket.{bracket, lift}
+use Rattle.plane.proofs.Bracket.{Vec3, bracket, lift}
 use Rattle.plane.proofs.BracketIdentities.{bracket-turn, bracket-swap, bracket-outer, bracket-last}
 use Rattle.plane.proofs.Collinear.{place_on, place_of_start, place_of_end}
 use Rattle.plane.proofs.Generic.{AreDistinct, not_on_line}
@@ -34,13 +34,13 @@ pub next_turned : (n : ℕ) (p : ℕ → Point) (i j : ℕ) → IsNext n p i j �
 next_turned n p i j s = record { apart = λ e. s.apart (sym e); first = s.second; second = s.first; none_between = λ k h w. s.none_between k h (within_turned (p j) (p i) (p k) w) }
 
 -- three points of the line through two different points are on one line
-pub flat : (u v a b c : Point) → ¬ (u ≡ v) → bracket (lift u) (lift v) (lift a) ≡ pos 0 → bracket (lift u) (lift v) (lift b) ≡ pos 0 → bracket (lift u) (lift v) (lift c) ≡ pos 0 → bracket (lift a) (lift b) (lift c) ≡ pos 0
-flat u v a b c apart ea eb ec = go (trichotomy_ℤ (bracket (lift a) (lift b) (lift c)))
+pub flat : (u v : Point) (a b c : Vec3) → ¬ (u ≡ v) → bracket (lift u) (lift v) a ≡ pos 0 → bracket (lift u) (lift v) b ≡ pos 0 → bracket (lift u) (lift v) c ≡ pos 0 → bracket a b c ≡ pos 0
+flat u v a b c apart ea eb ec = go (trichotomy_ℤ (bracket a b c))
   where
-    go : (bracket (lift a) (lift b) (lift c) <ℤ pos 0) ⊎ ((bracket (lift a) (lift b) (lift c) ≡ pos 0) ⊎ (pos 0 <ℤ bracket (lift a) (lift b) (lift c))) → bracket (lift a) (lift b) (lift c) ≡ pos 0
-    go (inl h) = absurd (apart (not_on_line (lift b) (lift a) (lift c) u v (negated_left (bracket-swap (lift b) (lift a) (lift c)) h) eb ea ec))
+    go : (bracket a b c <ℤ pos 0) ⊎ ((bracket a b c ≡ pos 0) ⊎ (pos 0 <ℤ bracket a b c)) → bracket a b c ≡ pos 0
+    go (inl h) = absurd (apart (not_on_line b a c u v (negated_left (bracket-swap b a c) h) eb ea ec))
     go (inr (inl h)) = h
-    go (inr (inr h)) = absurd (apart (not_on_line (lift a) (lift b) (lift c) u v h ea eb ec))
+    go (inr (inr h)) = absurd (apart (not_on_line a b c u v h ea eb ec))
 
 -- ---- steps on places
 outside_gap : (a b z : ℤ) → a <ℤ b → (IsBetween a b z → ⊥) → (z ≤ℤ a) ⊎ (b ≤ℤ z)
@@ -93,7 +93,7 @@ module _ (n : ℕ) (p : ℕ → Point) (outer new : List (ℕ × ℕ)) (m : Sign
     widened : ((i j : ℕ) → Contains new (i, j) ↔ IsNext (suc n) p i j) → AllPairs (λ d e. d ≢ e) new → SignLine (suc n) p new
     widened neighbours once = record {
       distinct = all_distinct;
-      straight = λ i j k a b c. flat u v (p i) (p j) (p k) apart (all_level i a) (all_level j b) (all_level k c);
+      straight = λ i j k a b c. flat u v (at p i) (at p j) (at p k) apart (all_level i a) (all_level j b) (all_level k c);
       neighbours = neighbours;
       once = once;
     }

@@ -3,12 +3,13 @@ use Rattle.std.proofs.Common.{◌≡◌, ◌⊎◌, ℕ, ◌<◌, [], ◌∷◌,
 use mathlib.Core.Logic.{inl, inr}
 use Rattle.std.specs.Prelude.{ℤ, pos, ◌+ℤ◌, ◌-ℤ◌, ◌*ℤ◌, ◌<ℤ◌}
 use Rattle.std.proofs.lemmas.Int.{ints}
-use Rattle.plane.specs.Fraction.{Point, whole, IsPositive, WithinSegment}
-use Rattle.plane.proofs.IntegerOrder.{mul-pos_ℤ, mul-neg_of_pos_neg_ℤ, pos_of_mul-pos_ℤ, neg_of_mul-neg_ℤ, trichotomy_ℤ, zero-mul_ℤ, zero_of_mul-zero_ℤ, pos-ne-zero_ℤ}
+use lib.IntN.{*ℤ_comm}
+use Rattle.plane.specs.Fraction.{Point, Fraction, whole, IsSame, IsPositive, WithinSegment}
+use Rattle.plane.proofs.IntegerOrder.{mul-pos_ℤ, mul-neg_of_pos_neg_ℤ, pos_of_mul-pos_ℤ, neg_of_mul-neg_ℤ, trichotomy_ℤ, zero-mul_ℤ, zero_of_mul-zero_ℤ, pos-ne-zero_ℤ, mul_cancel_ℤ}
 use Rattle.plane.proofs.Solver.{num, ◌⊕◌, ◌⊖◌, ◌⊗◌, ring_in_from}
-use Rattle.plane.proofs.Means.{two_weights}
-use Rattle.plane.proofs.Bracket.{bracket, lift}
-use Rattle.plane.proofs.Collinear.{place_on, within_by_places, same_by_places, mean_place}
+use Rattle.plane.proofs.Means.{TwoWeights, two_weights, mean_of_two}
+use Rattle.plane.proofs.Bracket.{bracket, bracketᵖ, lift, vec}
+use Rattle.plane.proofs.Collinear.{place_on, place_of_end, within_by_places, same_by_places, mean_place}
 use Rattle.plane.proofs.Generic.{AreDistinct}
 use Rattle.plane_tiling.proofs.Counting.{at, same_index, within_turned}
 
@@ -73,3 +74,116 @@ within_places u v apart a b z on_a on_b on_z (inr o) = within_turned b a z (with
 pub same_place : (n : ℕ) (p : ℕ → Point) → AreDistinct n p → (u v : Point) → ¬ (u ≡ v) → (i j : ℕ) → i < n → j < n → bracket (lift u) (lift v) (at p i) ≡ pos 0 → bracket (lift u) (lift v) (at p j) ≡ pos 0
     → place_on u v (at p i) ≡ place_on u v (at p j) → i ≡ j
 same_place n p distinct u v apart i j h k on_i on_j e = same_index n p distinct i j h k (same_by_places u v apart (p i) (p j) on_i on_j e)
+
+-- ---- fraction points of the line: how far b is ahead of a, times both denominators
+unfoldable pub ahead : Point → Point → Fraction → Fraction → ℤ
+ahead u v a b = a.w *ℤ place_on u v (vec b) -ℤ b.w *ℤ place_on u v (vec a)
+
+line_x : (u v : Point) (z : Fraction) → bracket (lift u) (lift v) (vec z) ≡ pos 0 → place_on u v (lift v) *ℤ (z.x -ℤ z.w *ℤ u.x) ≡ place_on u v (vec z) *ℤ (v.x -ℤ u.x)
+unfolding place_on bracket
+line_x u v z e = ring_in_from (u.x ∷ u.y ∷ v.x ∷ v.y ∷ z.x ∷ z.y ∷ z.w ∷ [])
+    (λ ux uy vx vy x y w. ((vx ⊖ ux) ⊗ (vx ⊖ num 1 ⊗ ux) ⊕ (vy ⊖ uy) ⊗ (vy ⊖ num 1 ⊗ uy)) ⊗ (x ⊖ w ⊗ ux))
+    (λ ux uy vx vy x y w. ((vx ⊖ ux) ⊗ (x ⊖ w ⊗ ux) ⊕ (vy ⊖ uy) ⊗ (y ⊖ w ⊗ uy)) ⊗ (vx ⊖ ux))
+    (λ ux uy vx vy x y w. (uy ⊖ vy, bracketᵖ (record { x = ux; y = uy; w = num 1 }) (record { x = vx; y = vy; w = num 1 }) (record { x = x; y = y; w = w }), num 0) ∷ []) (e, tt) tt
+
+line_y : (u v : Point) (z : Fraction) → bracket (lift u) (lift v) (vec z) ≡ pos 0 → place_on u v (lift v) *ℤ (z.y -ℤ z.w *ℤ u.y) ≡ place_on u v (vec z) *ℤ (v.y -ℤ u.y)
+unfolding place_on bracket
+line_y u v z e = ring_in_from (u.x ∷ u.y ∷ v.x ∷ v.y ∷ z.x ∷ z.y ∷ z.w ∷ [])
+    (λ ux uy vx vy x y w. ((vx ⊖ ux) ⊗ (vx ⊖ num 1 ⊗ ux) ⊕ (vy ⊖ uy) ⊗ (vy ⊖ num 1 ⊗ uy)) ⊗ (y ⊖ w ⊗ uy))
+    (λ ux uy vx vy x y w. ((vx ⊖ ux) ⊗ (x ⊖ w ⊗ ux) ⊕ (vy ⊖ uy) ⊗ (y ⊖ w ⊗ uy)) ⊗ (vy ⊖ uy))
+    (λ ux uy vx vy x y w. (vx ⊖ ux, bracketᵖ (record { x = ux; y = uy; w = num 1 }) (record { x = vx; y = vy; w = num 1 }) (record { x = x; y = y; w = w }), num 0) ∷ []) (e, tt) tt
+
+-- one coordinate of a point of the line between two others: l is the length, g the way, o the start; a, b and z are points, f, h and i their places
+mean_part : (l g o a aw f b bw h z zw i : ℤ) → pos 0 <ℤ l → l *ℤ (a -ℤ aw *ℤ o) ≡ f *ℤ g → l *ℤ (b -ℤ bw *ℤ o) ≡ h *ℤ g → l *ℤ (z -ℤ zw *ℤ o) ≡ i *ℤ g
+    → (aw *ℤ h -ℤ bw *ℤ f) *ℤ z ≡ (zw *ℤ h -ℤ bw *ℤ i) *ℤ a +ℤ (aw *ℤ i -ℤ zw *ℤ f) *ℤ b
+mean_part l g o a aw f b bw h z zw i positive e d c = mul_cancel_ℤ (pos-ne-zero_ℤ positive)
+    (ring_in_from (l ∷ g ∷ o ∷ a ∷ aw ∷ f ∷ b ∷ bw ∷ h ∷ z ∷ zw ∷ i ∷ [])
+    (λ l g o a aw f b bw h z zw i. l ⊗ ((aw ⊗ h ⊖ bw ⊗ f) ⊗ z)) (λ l g o a aw f b bw h z zw i. l ⊗ ((zw ⊗ h ⊖ bw ⊗ i) ⊗ a ⊕ (aw ⊗ i ⊖ zw ⊗ f) ⊗ b))
+    (λ l g o a aw f b bw h z zw i. (num 0 ⊖ (zw ⊗ h ⊖ bw ⊗ i), l ⊗ (a ⊖ aw ⊗ o), f ⊗ g) ∷ (num 0 ⊖ (aw ⊗ i ⊖ zw ⊗ f), l ⊗ (b ⊖ bw ⊗ o), h ⊗ g) ∷ (aw ⊗ h ⊖ bw ⊗ f, l ⊗ (z ⊖ zw ⊗ o), i ⊗ g) ∷ []) (e, (d, (c, tt))) tt)
+
+mean_weight : (aw f bw h zw i : ℤ) → (aw *ℤ h -ℤ bw *ℤ f) *ℤ zw ≡ (zw *ℤ h -ℤ bw *ℤ i) *ℤ aw +ℤ (aw *ℤ i -ℤ zw *ℤ f) *ℤ bw
+mean_weight aw f bw h zw i = ring_in_from (aw ∷ f ∷ bw ∷ h ∷ zw ∷ i ∷ []) (λ aw f bw h zw i. (aw ⊗ h ⊖ bw ⊗ f) ⊗ zw) (λ aw f bw h zw i. (zw ⊗ h ⊖ bw ⊗ i) ⊗ aw ⊕ (aw ⊗ i ⊖ zw ⊗ f) ⊗ bw) (λ aw f bw h zw i. []) tt tt
+
+part_of_sum : (n w k a l b : ℤ) → n *ℤ w ≡ k *ℤ a +ℤ l *ℤ b → pos 0 <ℤ w → pos 0 <ℤ k → pos 0 <ℤ a → pos 0 <ℤ l → pos 0 <ℤ b → pos 0 <ℤ n
+part_of_sum n w k a l b e hw hk ha hl hb = pos_of_mul-pos_ℤ hw (subst (λ t. pos 0 <ℤ t) (sym e ∙ *ℤ_comm n w) (both (k *ℤ a) (l *ℤ b) (mul-pos_ℤ hk ha) (mul-pos_ℤ hl hb)))
+  where
+    both : (x y : ℤ) → pos 0 <ℤ x → pos 0 <ℤ y → pos 0 <ℤ (x +ℤ y)
+    both x y h k = omega (arith, ints)
+
+-- z ahead of a, and b ahead of z: z is strictly within the segment of a and b
+pub within_if_ahead : (u v : Point) → ¬ (u ≡ v) → (a b z : Fraction) → bracket (lift u) (lift v) (vec a) ≡ pos 0 → bracket (lift u) (lift v) (vec b) ≡ pos 0 → bracket (lift u) (lift v) (vec z) ≡ pos 0
+    → pos 0 <ℤ ahead u v a z → pos 0 <ℤ ahead u v z b → WithinSegment a b z
+unfolding ahead
+within_if_ahead u v apart a b z on_a on_b on_z h k =
+    let f = place_on u v (vec a) in
+    let g = place_on u v (vec b) in
+    let i = place_on u v (vec z) in
+    mean_of_two IsPositive a b z (record {
+      k = z.w *ℤ g -ℤ b.w *ℤ i;
+      l = a.w *ℤ i -ℤ z.w *ℤ f;
+      n = a.w *ℤ g -ℤ b.w *ℤ f;
+      k_allowed = k;
+      l_allowed = h;
+      positive = part_of_sum (a.w *ℤ g -ℤ b.w *ℤ f) z.w (z.w *ℤ g -ℤ b.w *ℤ i) a.w (a.w *ℤ i -ℤ z.w *ℤ f) b.w (mean_weight a.w f b.w g z.w i) z.positive k a.positive h b.positive;
+      x = mean_part (place_on u v (lift v)) (v.x -ℤ u.x) u.x a.x a.w f b.x b.w g z.x z.w i (place_of_end u v apart) (line_x u v a on_a) (line_x u v b on_b) (line_x u v z on_z);
+      y = mean_part (place_on u v (lift v)) (v.y -ℤ u.y) u.y a.y a.w f b.y b.w g z.y z.w i (place_of_end u v apart) (line_y u v a on_a) (line_y u v b on_b) (line_y u v z on_z);
+      w = mean_weight a.w f b.w g z.w i;
+    })
+
+to_mean : (k l n aw f bw h zw i : ℤ) → n *ℤ i ≡ k *ℤ f +ℤ l *ℤ h → n *ℤ zw ≡ k *ℤ aw +ℤ l *ℤ bw → n *ℤ (aw *ℤ i -ℤ zw *ℤ f) ≡ l *ℤ (aw *ℤ h -ℤ bw *ℤ f)
+to_mean k l n aw f bw h zw i e d = ring_in_from (k ∷ l ∷ n ∷ aw ∷ f ∷ bw ∷ h ∷ zw ∷ i ∷ []) (λ k l n aw f bw h zw i. n ⊗ (aw ⊗ i ⊖ zw ⊗ f)) (λ k l n aw f bw h zw i. l ⊗ (aw ⊗ h ⊖ bw ⊗ f))
+    (λ k l n aw f bw h zw i. (aw, n ⊗ i, k ⊗ f ⊕ l ⊗ h) ∷ (num 0 ⊖ f, n ⊗ zw, k ⊗ aw ⊕ l ⊗ bw) ∷ []) (e, (d, tt)) tt
+
+from_mean : (k l n aw f bw h zw i : ℤ) → n *ℤ i ≡ k *ℤ f +ℤ l *ℤ h → n *ℤ zw ≡ k *ℤ aw +ℤ l *ℤ bw → n *ℤ (zw *ℤ h -ℤ bw *ℤ i) ≡ k *ℤ (aw *ℤ h -ℤ bw *ℤ f)
+from_mean k l n aw f bw h zw i e d = ring_in_from (k ∷ l ∷ n ∷ aw ∷ f ∷ bw ∷ h ∷ zw ∷ i ∷ []) (λ k l n aw f bw h zw i. n ⊗ (zw ⊗ h ⊖ bw ⊗ i)) (λ k l n aw f bw h zw i. k ⊗ (aw ⊗ h ⊖ bw ⊗ f))
+    (λ k l n aw f bw h zw i. (num 0 ⊖ bw, n ⊗ i, k ⊗ f ⊕ l ⊗ h) ∷ (h, n ⊗ zw, k ⊗ aw ⊕ l ⊗ bw) ∷ []) (e, (d, tt)) tt
+
+-- two numbers of one sign
+abbrev pub AreOneSign : ℤ → ℤ → Type 0
+AreOneSign x y = ((pos 0 <ℤ x) × (pos 0 <ℤ y)) ⊎ (((x <ℤ pos 0) × (y <ℤ pos 0)) ⊎ ((x ≡ pos 0) × (y ≡ pos 0)))
+
+-- and back
+pub ahead_if_within : (u v : Point) (a b z : Fraction) → WithinSegment a b z → AreOneSign (ahead u v a z) (ahead u v z b)
+unfolding ahead
+ahead_if_within u v a b z h = go (trichotomy_ℤ (a.w *ℤ place_on u v (vec b) -ℤ b.w *ℤ place_on u v (vec a)))
+  where
+    t : TwoWeights IsPositive a b z
+    t = two_weights IsPositive a b z h
+
+    first : t.n *ℤ (a.w *ℤ place_on u v (vec z) -ℤ z.w *ℤ place_on u v (vec a)) ≡ t.l *ℤ (a.w *ℤ place_on u v (vec b) -ℤ b.w *ℤ place_on u v (vec a))
+    first = to_mean t.k t.l t.n a.w (place_on u v (vec a)) b.w (place_on u v (vec b)) z.w (place_on u v (vec z)) (mean_place IsPositive u v a b z t) t.w
+
+    second : t.n *ℤ (z.w *ℤ place_on u v (vec b) -ℤ b.w *ℤ place_on u v (vec z)) ≡ t.k *ℤ (a.w *ℤ place_on u v (vec b) -ℤ b.w *ℤ place_on u v (vec a))
+    second = from_mean t.k t.l t.n a.w (place_on u v (vec a)) b.w (place_on u v (vec b)) z.w (place_on u v (vec z)) (mean_place IsPositive u v a b z t) t.w
+
+    go : ((a.w *ℤ place_on u v (vec b) -ℤ b.w *ℤ place_on u v (vec a)) <ℤ pos 0) ⊎ ((a.w *ℤ place_on u v (vec b) -ℤ b.w *ℤ place_on u v (vec a) ≡ pos 0) ⊎ (pos 0 <ℤ (a.w *ℤ place_on u v (vec b) -ℤ b.w *ℤ place_on u v (vec a))))
+        → AreOneSign (a.w *ℤ place_on u v (vec z) -ℤ z.w *ℤ place_on u v (vec a)) (z.w *ℤ place_on u v (vec b) -ℤ b.w *ℤ place_on u v (vec z))
+    go (inl b) = inr (inl (
+      neg_of_mul-neg_ℤ t.positive (subst (λ o. o <ℤ pos 0) (sym first) (mul-neg_of_pos_neg_ℤ t.l_allowed b)),
+      neg_of_mul-neg_ℤ t.positive (subst (λ o. o <ℤ pos 0) (sym second) (mul-neg_of_pos_neg_ℤ t.k_allowed b)),
+    ))
+    go (inr (inl b)) = inr (inr (zero_of_mul-zero_ℤ (pos-ne-zero_ℤ t.positive) (first ∙ zero-mul_ℤ t.l b), zero_of_mul-zero_ℤ (pos-ne-zero_ℤ t.positive) (second ∙ zero-mul_ℤ t.k b)))
+    go (inr (inr b)) = inl (
+      pos_of_mul-pos_ℤ t.positive (subst (λ o. pos 0 <ℤ o) (sym first) (mul-pos_ℤ t.l_allowed b)),
+      pos_of_mul-pos_ℤ t.positive (subst (λ o. pos 0 <ℤ o) (sym second) (mul-pos_ℤ t.k_allowed b)),
+    )
+
+-- none ahead of the other: one point
+pub same_if_level : (u v : Point) → ¬ (u ≡ v) → (a b : Fraction) → bracket (lift u) (lift v) (vec a) ≡ pos 0 → bracket (lift u) (lift v) (vec b) ≡ pos 0 → ahead u v a b ≡ pos 0 → IsSame a b
+unfolding ahead
+same_if_level u v apart a b on_a on_b e = record {
+  x = part (place_on u v (lift v)) (v.x -ℤ u.x) u.x a.x a.w (place_on u v (vec a)) b.x b.w (place_on u v (vec b)) (place_of_end u v apart) (line_x u v a on_a) (line_x u v b on_b) e;
+  y = part (place_on u v (lift v)) (v.y -ℤ u.y) u.y a.y a.w (place_on u v (vec a)) b.y b.w (place_on u v (vec b)) (place_of_end u v apart) (line_y u v a on_a) (line_y u v b on_b) e;
+}
+  where
+    part : (l g o a aw f b bw h : ℤ) → pos 0 <ℤ l → l *ℤ (a -ℤ aw *ℤ o) ≡ f *ℤ g → l *ℤ (b -ℤ bw *ℤ o) ≡ h *ℤ g → aw *ℤ h -ℤ bw *ℤ f ≡ pos 0 → a *ℤ bw ≡ b *ℤ aw
+    part l g o a aw f b bw h positive e d c = mul_cancel_ℤ (pos-ne-zero_ℤ positive)
+        (ring_in_from (l ∷ g ∷ o ∷ a ∷ aw ∷ f ∷ b ∷ bw ∷ h ∷ []) (λ l g o a aw f b bw h. l ⊗ (a ⊗ bw)) (λ l g o a aw f b bw h. l ⊗ (b ⊗ aw))
+        (λ l g o a aw f b bw h. (bw, l ⊗ (a ⊖ aw ⊗ o), f ⊗ g) ∷ (num 0 ⊖ aw, l ⊗ (b ⊖ bw ⊗ o), h ⊗ g) ∷ (num 0 ⊖ g, aw ⊗ h ⊖ bw ⊗ f, num 0) ∷ []) (e, (d, (c, tt))) tt)
+
+pub level_if_same : (u v : Point) (a b : Fraction) → IsSame a b → ahead u v a b ≡ pos 0
+unfolding ahead place_on
+level_if_same u v a b s = ring_in_from (u.x ∷ u.y ∷ v.x ∷ v.y ∷ a.x ∷ a.y ∷ a.w ∷ b.x ∷ b.y ∷ b.w ∷ [])
+    (λ ux uy vx vy ax ay aw bx by bw. aw ⊗ ((vx ⊖ ux) ⊗ (bx ⊖ bw ⊗ ux) ⊕ (vy ⊖ uy) ⊗ (by ⊖ bw ⊗ uy)) ⊖ bw ⊗ ((vx ⊖ ux) ⊗ (ax ⊖ aw ⊗ ux) ⊕ (vy ⊖ uy) ⊗ (ay ⊖ aw ⊗ uy)))
+    (λ ux uy vx vy ax ay aw bx by bw. num 0)
+    (λ ux uy vx vy ax ay aw bx by bw. (num 0 ⊖ (vx ⊖ ux), ax ⊗ bw, bx ⊗ aw) ∷ (num 0 ⊖ (vy ⊖ uy), ay ⊗ bw, by ⊗ aw) ∷ []) (s.x, (s.y, tt)) tt

@@ -1,19 +1,21 @@
 -- Where a point is in a local mesh: left of an outer edge, at a vertex, strictly within one side or strictly inside one face, and in one of these ways alone.
-use Rattle.std.proofs.Common.{◌≡◌, ◌⊎◌, ℕ, ◌<◌, List, [], ◌∷◌, sym, ap, ◌∙◌, subst, arith}
+use Rattle.std.proofs.Common.{◌≡◌, ◌⊎◌, ℕ, ◌<◌, List, [], ◌∷◌, refl, sym, ap, ◌∙◌, subst, arith}
 use mathlib.Core.Logic.{inl, inr, ◌≢◌}
 use Rattle.std.specs.Prelude.{ℤ, pos, ◌+ℤ◌, ◌*ℤ◌, ◌≤ℤ◌, ◌<ℤ◌, neg_ℤ, Contains}
 use Rattle.std.proofs.lemmas.Int.{ints}
+use Rattle.std.proofs.lemmas.Bool.{cases_eq}
 use lib.IntN.{*ℤ_comm}
 use Rattle.plane.specs.Fraction.{Point, Fraction, whole, IsSame, IsPositive, WithinSegment}
 use Rattle.plane.specs.Tiling.{Face, face}
-use Rattle.plane.proofs.Means.{two_weights, mean_of_two}
-use Rattle.plane.proofs.IntegerOrder.{mul-pos_ℤ, lt_or_ge_ℤ, mul_cancel_ℤ, pos-ne-zero_ℤ, mul-nonpos_of_nonneg_nonpos_ℤ, pos_of_mul-pos_ℤ}
-use Rattle.plane.proofs.Steps.{left_not_zero, zero_or_left, sum_first_two, sum_second, product_zero_left, weak, left_not_below, not_left_of_product}
+use Rattle.plane_tiling.specs.Laws.{IsTurned}
+use Rattle.plane.proofs.Means.{two_weights, mean_of_two, bracket_of_two}
+use Rattle.plane.proofs.IntegerOrder.{mul-pos_ℤ, lt_or_ge_ℤ, mul_cancel_ℤ, pos-ne-zero_ℤ, mul-nonpos_of_nonneg_nonpos_ℤ, pos_of_mul-pos_ℤ, zero-mul_ℤ, zero_of_mul-zero_ℤ}
+use Rattle.plane.proofs.Steps.{left_not_zero, three_zero, drop_zero, drop_zero_last, zero_or_left, sum_first_two, sum_second, product_zero_left, weak, left_not_below, not_left_of_product}
 use Rattle.plane_tiling.proofs.Totals.{Contains-head, Contains-later, Contains-cases, Contains-none}
 use Rattle.plane.proofs.Solver.{num, ◌⊖◌, ◌⊗◌, ring_in_from}
 use Rattle.plane.proofs.Bracket.{bracket, Vec3, bracketᵖ, lift, vec}
-use Rattle.plane.proofs.BracketIdentities.{bracket-swap, cramer_x, cramer_y, cramer_w, bracket-outer, bracket-last}
-use Rattle.plane.proofs.Generic.{Inside, near}
+use Rattle.plane.proofs.BracketIdentities.{bracket-swap, bracket-turn, bracket-sum, cramer_x, cramer_y, cramer_w, bracket-outer, bracket-last}
+use Rattle.plane.proofs.Generic.{AreDistinct, Inside, near}
 use Rattle.plane_tiling.proofs.Flows.{IsTurnOf, HasSide, turned}
 use Rattle.plane_tiling.proofs.Counting.{at, SignMesh, corners_differ, same_index}
 use Rattle.plane_tiling.proofs.Covering as C
@@ -55,7 +57,7 @@ same_as_corner j y c = record { x = part c.d c.s y.x j.x y.w c.d_positive c.x c.
         (ring_in_from (d ∷ s ∷ a ∷ b ∷ w ∷ []) (λ d s a b w. d ⊗ (a ⊗ num 1)) (λ d s a b w. d ⊗ (b ⊗ w)) (λ d s a b w. (num 1, d ⊗ a, s ⊗ b) ∷ (num 0 ⊖ b, d ⊗ w, s) ∷ []) (e, (f, tt)) tt)
 
 -- a point at y, strictly within a segment, is strictly within it too
-same_within : (u v j : Point) (y : Fraction) → IsSame y (whole j) → WithinSegment (whole u) (whole v) y → WithinSegment (whole u) (whole v) (whole j)
+pub same_within : (u v j : Point) (y : Fraction) → IsSame y (whole j) → WithinSegment (whole u) (whole v) y → WithinSegment (whole u) (whole v) (whole j)
 same_within u v j y c h =
     let t = two_weights IsPositive (whole u) (whole v) y h in
     mean_of_two IsPositive (whole u) (whole v) (whole j) (record {
@@ -219,10 +221,10 @@ module _ (n : ℕ) (p : ℕ → Point) (faces : List Face) (outer : List (ℕ ×
           clash (inr (inr x)) (inr (inl z)) = no' j k s.second z x
           clash (inl x) (inr (inr z)) = no' k i s.third z x
 
-    side_not_inside : IsOnSide y → IsInsideFace y → ⊥
+    pub side_not_inside : IsOnSide y → IsInsideFace y → ⊥
     side_not_inside o f = no_side_inside o.u o.v o.side.0 o.side.1 o.within f.i f.j f.k f.here f.inside
 
-    vertex_not_side : IsAtVertex y → IsOnSide y → ⊥
+    pub vertex_not_side : IsAtVertex y → IsOnSide y → ⊥
     vertex_not_side a o = E.side_bare n p faces outer m o.u o.v a.v (inl o.side) a.index (same_within (p o.u) (p o.v) (p a.v) y a.same o.within)
 
     -- a closed face at a point strictly within a side has both its ends
@@ -255,12 +257,31 @@ module _ (n : ℕ) (p : ℕ → Point) (faces : List Face) (outer : List (ℕ ×
         go (inr x) (inr y) (inr z) = absurd (side_not_inside o (record { i = i; j = j; k = k; here = f; inside = record { first = x; second = y; third = z } }))
 
 -- ---- in one way alone
-bracket_at : (a b : Vec3) (v : Point) (y : Fraction) → IsSame y (whole v) → bracket a b (vec y) ≡ y.w *ℤ bracket a b (lift v)
+pub bracket_at : (a b : Vec3) (v : Point) (y : Fraction) → IsSame y (whole v) → bracket a b (vec y) ≡ y.w *ℤ bracket a b (lift v)
 unfolding bracket
 bracket_at a b v y e = ring_in_from (a.x ∷ a.y ∷ a.w ∷ b.x ∷ b.y ∷ b.w ∷ v.x ∷ v.y ∷ y.x ∷ y.y ∷ y.w ∷ [])
     (λ ax ay aw bx by bw vx vy yx yy yw. bracketᵖ (record { x = ax; y = ay; w = aw }) (record { x = bx; y = by; w = bw }) (record { x = yx; y = yy; w = yw }))
     (λ ax ay aw bx by bw vx vy yx yy yw. yw ⊗ bracketᵖ (record { x = ax; y = ay; w = aw }) (record { x = bx; y = by; w = bw }) (record { x = vx; y = vy; w = num 1 }))
     (λ ax ay aw bx by bw vx vy yx yy yw. (ay ⊗ bw ⊖ aw ⊗ by, yx ⊗ num 1, vx ⊗ yw) ∷ (aw ⊗ bx ⊖ ax ⊗ bw, yy ⊗ num 1, vy ⊗ yw) ∷ []) (e.x, (e.y, tt)) tt
+
+-- two turns of one triple are turns of one another
+turns_of_one : (a b c i j k r s t : ℕ) → IsTurned a b c i j k → IsTurned a b c r s t → IsTurned i j k r s t
+turns_of_one a b c i j k r s t (inl e) (inl f) = inl (f.0 ∙ sym e.0, f.1 ∙ sym e.1, f.2 ∙ sym e.2)
+turns_of_one a b c i j k r s t (inl e) (inr (inl f)) = inr (inl (f.0 ∙ sym e.1, f.1 ∙ sym e.2, f.2 ∙ sym e.0))
+turns_of_one a b c i j k r s t (inl e) (inr (inr f)) = inr (inr (f.0 ∙ sym e.2, f.1 ∙ sym e.0, f.2 ∙ sym e.1))
+turns_of_one a b c i j k r s t (inr (inl e)) (inl f) = inr (inr (f.0 ∙ sym e.2, f.1 ∙ sym e.0, f.2 ∙ sym e.1))
+turns_of_one a b c i j k r s t (inr (inl e)) (inr (inl f)) = inl (f.0 ∙ sym e.0, f.1 ∙ sym e.1, f.2 ∙ sym e.2)
+turns_of_one a b c i j k r s t (inr (inl e)) (inr (inr f)) = inr (inl (f.0 ∙ sym e.1, f.1 ∙ sym e.2, f.2 ∙ sym e.0))
+turns_of_one a b c i j k r s t (inr (inr e)) (inl f) = inr (inl (f.0 ∙ sym e.1, f.1 ∙ sym e.2, f.2 ∙ sym e.0))
+turns_of_one a b c i j k r s t (inr (inr e)) (inr (inl f)) = inr (inr (f.0 ∙ sym e.2, f.1 ∙ sym e.0, f.2 ∙ sym e.1))
+turns_of_one a b c i j k r s t (inr (inr e)) (inr (inr f)) = inl (f.0 ∙ sym e.0, f.1 ∙ sym e.1, f.2 ∙ sym e.2)
+
+-- two vertices at one point are one
+pub one_vertex_at : (n : ℕ) (p : ℕ → Point) → AreDistinct n p → (y : Fraction) (v w : ℕ) → v < n → w < n → IsSame y (whole (p v)) → IsSame y (whole (p w)) → v ≡ w
+one_vertex_at n p distinct y v w h k a b = same_index n p distinct v w h k (λ i. record { x = part (p v).x (p w).x y.x y.w y.positive a.x b.x i; y = part (p v).y (p w).y y.y y.w y.positive a.y b.y i })
+  where
+    part : (s t z w : ℤ) → pos 0 <ℤ w → z *ℤ pos 1 ≡ s *ℤ w → z *ℤ pos 1 ≡ t *ℤ w → s ≡ t
+    part s t z w h e f = mul_cancel_ℤ (pos-ne-zero_ℤ h) (*ℤ_comm w s ∙ sym e ∙ f ∙ *ℤ_comm t w)
 
 module _ (n : ℕ) (p : ℕ → Point) (faces : List Face) (outer : List (ℕ × ℕ)) (m : SignMesh n p faces outer) (y : Fraction) where
   sum_below : (s a b : ℤ) → s ≡ a +ℤ b → a ≤ℤ pos 0 → b ≤ℤ pos 0 → s ≤ℤ pos 0
@@ -306,13 +327,56 @@ module _ (n : ℕ) (p : ℕ → Point) (faces : List Face) (outer : List (ℕ ×
 
   -- and at one place of its kind
   pub vertex_unique : (a b : IsAtVertex n p faces outer m y) → a.v ≡ b.v
-  vertex_unique a b = same_index n p m.distinct a.v b.v a.index b.index (λ i. record { x = part (p a.v).x (p b.v).x y.x y.w y.positive a.same.x b.same.x i; y = part (p a.v).y (p b.v).y y.y y.w y.positive a.same.y b.same.y i })
-    where
-      part : (s t z w : ℤ) → pos 0 <ℤ w → z *ℤ pos 1 ≡ s *ℤ w → z *ℤ pos 1 ≡ t *ℤ w → s ≡ t
-      part s t z w h e f = mul_cancel_ℤ (pos-ne-zero_ℤ h) (*ℤ_comm w s ∙ sym e ∙ f ∙ *ℤ_comm t w)
+  vertex_unique a b = one_vertex_at n p m.distinct y a.v b.v a.index b.index a.same b.same
 
   pub side_unique : (a b : IsOnSide n p faces outer m y) → ((b.u ≡ a.u) × (b.v ≡ a.v)) ⊎ ((b.u ≡ a.v) × (b.v ≡ a.u))
   side_unique a b = E.sides_meet n p faces outer m y a.u a.v b.u b.v (inl a.side) (inl b.side) a.within b.within
 
-  pub face_unique : (f g : IsInsideFace n p faces outer m y) → (f.i ≡ g.i) ⊎ ((f.i ≡ g.j) ⊎ (f.i ≡ g.k))
-  face_unique f g = C.shared_corner n p faces outer m f.i f.j f.k g.i g.j g.k f.here g.here (vec y) y.positive f.inside g.inside
+  -- the entry of which i j k is a turn
+  record Turn (i j k : ℕ) : Type 0 where
+    f : Face
+    here : Contains faces f
+    turn : IsTurned f.a f.b f.c i j k
+    inside : Inside (at p f.a) (at p f.b) (at p f.c) (vec y)
+
+  turn_of : (f : IsInsideFace n p faces outer m y) → Turn f.i f.j f.k
+  turn_of f = go f.here
+    where
+      go : IsTurnOf faces f.i f.j f.k → Turn f.i f.j f.k
+      go (inl h) = record { f = face f.i f.j f.k; here = h; turn = inl (refl, refl, refl); inside = f.inside }
+      go (inr (inl h)) = record { f = face f.j f.k f.i; here = h; turn = inr (inr (refl, refl, refl)); inside = record { first = f.inside.second; second = f.inside.third; third = f.inside.first } }
+      go (inr (inr h)) = record { f = face f.k f.i f.j; here = h; turn = inr (inl (refl, refl, refl)); inside = record { first = f.inside.third; second = f.inside.first; third = f.inside.second } }
+
+  pub face_unique : (f g : IsInsideFace n p faces outer m y) → IsTurned f.i f.j f.k g.i g.j g.k
+  face_unique f g =
+      let a = turn_of f in
+      let b = turn_of g in
+      turns_of_one a.f.a a.f.b a.f.c f.i f.j f.k g.i g.j g.k a.turn (subst (λ o. IsTurned o.a o.b o.c g.i g.j g.k) (sym (C.same_face n p faces outer m a.f b.f a.here b.here (vec y) y.positive a.inside b.inside)) b.turn)
+
+  -- not all other vertices are beyond a vertex i
+  pub none_beyond : (i : ℕ) → i < n → ((k : ℕ) → k < n → k ≢ i → WithinSegment y (whole (p k)) (whole (p i))) → ⊥
+  none_beyond i h beyond =
+      let f = m.some_face.0 in
+      let c = m.corners f m.some_face.1 in
+      left_not_zero (m.turning f m.some_face.1) (three_zero (bracket (at p f.a) (at p f.b) (at p f.c)) (bracket (at p f.b) (at p f.c) (at p i)) (bracket (at p f.c) (at p f.a) (at p i)) (bracket (at p f.a) (at p f.b) (at p i))
+      (bracket-sum (p f.a) (p f.b) (p f.c) (p i)) (level f.b f.c c.1 c.2) (level f.c f.a c.2 c.0) (level f.a f.b c.0 c.1))
+    where
+      -- y is on the line of i and k
+      seen : (k : ℕ) → WithinSegment y (whole (p k)) (whole (p i)) → bracket (at p i) (at p k) (vec y) ≡ pos 0
+      seen k w =
+          let t = two_weights IsPositive y (whole (p k)) (whole (p i)) w in
+          zero_of_mul-zero_ℤ (pos-ne-zero_ℤ t.k_allowed) (sym (drop_zero_last (t.n *ℤ bracket (at p i) (at p k) (at p i)) (t.k *ℤ bracket (at p i) (at p k) (vec y)) (t.l *ℤ bracket (at p i) (at p k) (at p k)) (bracket_of_two IsPositive (at p i) (at p k) y (whole (p k)) (whole (p i)) t) (zero-mul_ℤ t.l (bracket-last (at p i) (at p k)))) ∙ zero-mul_ℤ t.n (bracket-outer (at p i) (at p k)))
+
+      -- and so is any third vertex
+      apart : (j k : ℕ) → WithinSegment y (whole (p j)) (whole (p i)) → WithinSegment y (whole (p k)) (whole (p i)) → bracket (at p i) (at p k) (at p j) ≡ pos 0
+      apart j k w v =
+          let t = two_weights IsPositive y (whole (p j)) (whole (p i)) w in
+          zero_of_mul-zero_ℤ (pos-ne-zero_ℤ t.l_allowed) (sym (drop_zero (t.n *ℤ bracket (at p i) (at p k) (at p i)) (t.k *ℤ bracket (at p i) (at p k) (vec y)) (t.l *ℤ bracket (at p i) (at p k) (at p j)) (bracket_of_two IsPositive (at p i) (at p k) y (whole (p j)) (whole (p i)) t) (zero-mul_ℤ t.k (seen k v))) ∙ zero-mul_ℤ t.n (bracket-outer (at p i) (at p k)))
+
+      level : (j k : ℕ) → j < n → k < n → bracket (at p j) (at p k) (at p i) ≡ pos 0
+      level j k hj hk = go (cases_eq j i) (cases_eq k i)
+        where
+          go : (j ≡ i) ⊎ (j ≡ i → ⊥) → (k ≡ i) ⊎ (k ≡ i → ⊥) → bracket (at p j) (at p k) (at p i) ≡ pos 0
+          go (inl e) r = ap (λ o. bracket (at p o) (at p k) (at p i)) e ∙ bracket-outer (at p i) (at p k)
+          go (inr e) (inl r) = ap (λ o. bracket (at p j) (at p o) (at p i)) r ∙ bracket-last (at p j) (at p i)
+          go (inr e) (inr r) = bracket-turn (at p j) (at p k) (at p i) ∙ bracket-turn (at p k) (at p i) (at p j) ∙ apart k j (beyond k hk r) (beyond j hj e)

@@ -1,8 +1,9 @@
 -- What is proved of every mesh that keeps the local invariant.
-use Rattle.std.specs.Prelude.{◌⊎◌, ◌↔◌, ℕ, List}
-use Rattle.plane.specs.Fraction.{Point}
-use Rattle.plane.specs.Pairs.{Joins, EachPairOnce}
-use Rattle.plane.specs.Tiling.{Face, HasFace, TilesHull, IsTiling}
+use Rattle.std.specs.Prelude.{◌≡◌, ◌⊎◌, ◌↔◌, ℕ, List, ⊤}
+use Rattle.plane.specs.Fraction.{Point, Fraction, WithinSegment}
+use Rattle.plane.specs.Pairs.{Joins, IsSamePair, EachPairOnce}
+use Rattle.plane.specs.Tiling.{Triangulation, Face, IsVertex, IsEdge, HasFace, vertex, TilesHull, IsTiling}
+use Rattle.plane.specs.Location.{Location, on_vertex, on_edge, on_face, outside_hull, no_triangulation, IsLocation}
 use Rattle.plane_tiling.specs.Local.{LocalMesh, IsMesh, AreEdgesOf}
 
 -- its faces tile the hull, with any list of edges that has each side of a face once
@@ -14,3 +15,32 @@ LocalMeshesTile = (points : List Point) (faces : List Face) (outer edges : List 
 -- with its own edges a mesh tiles the hull, or joins the points of the line to their neighbours
 abbrev pub MeshesTile : Type 0
 MeshesTile = (points : List Point) (faces : List Face) (outer edges : List (ℕ × ℕ)) → IsMesh points faces outer → AreEdgesOf faces outer edges → IsTiling (record { points = points; faces = faces; edges = edges })
+
+-- no vertex is strictly within an edge, and two edges with a common point strictly within both are one
+abbrev pub EdgesMeetAtVertices : Triangulation → Type 0
+EdgesMeetAtVertices t = ((i j k : ℕ) → IsEdge t i j → IsVertex t k → ¬ WithinSegment (vertex t i) (vertex t j) (vertex t k))
+    × ((i j k l : ℕ) → IsEdge t i j → IsEdge t k l → (p : Fraction) → WithinSegment (vertex t i) (vertex t j) p → WithinSegment (vertex t k) (vertex t l) p → IsSamePair k l i j)
+
+abbrev pub NoEdgesCross : Type 0
+NoEdgesCross = (points : List Point) (faces : List Face) (outer edges : List (ℕ × ℕ)) → IsMesh points faces outer → AreEdgesOf faces outer edges → EdgesMeetAtVertices (record { points = points; faces = faces; edges = edges })
+
+-- a b c is i j k, turned
+abbrev pub IsTurned : ℕ → ℕ → ℕ → ℕ → ℕ → ℕ → Type 0
+IsTurned i j k a b c = ((a ≡ i) × (b ≡ j) × (c ≡ k)) ⊎ (((a ≡ j) × (b ≡ k) × (c ≡ i)) ⊎ ((a ≡ k) × (b ≡ i) × (c ≡ j)))
+
+-- one location, but for the direction of an edge, the rotation of a face and the choice of an outer edge
+abbrev pub IsSameLocation : Location → Location → Type 0
+IsSameLocation (on_vertex i) (on_vertex j) = i ≡ j
+IsSameLocation (on_edge i j) (on_edge k l) = IsSamePair k l i j
+IsSameLocation (on_face i j k) (on_face a b c) = IsTurned i j k a b c
+IsSameLocation (outside_hull i j) (outside_hull k l) = ⊤
+IsSameLocation no_triangulation no_triangulation = ⊤
+IsSameLocation _ _ = ⊥
+
+-- each point has a location, and no other
+abbrev pub HasOneLocation : Triangulation → Fraction → Type 0
+HasOneLocation t p = ((l : Location) × IsLocation t p l) × ((l m : Location) → IsLocation t p l → IsLocation t p m → IsSameLocation l m)
+
+abbrev pub EachPointHasOneLocation : Type 0
+EachPointHasOneLocation = (points : List Point) (faces : List Face) (outer edges : List (ℕ × ℕ)) → IsMesh points faces outer → AreEdgesOf faces outer edges
+    → (p : Fraction) → HasOneLocation (record { points = points; faces = faces; edges = edges }) p
