@@ -1,43 +1,61 @@
--- The test of an edge between two faces, for any heights of their corners; what a flip does to the heights that the faces carry.
-use Rattle.std.proofs.Common.{◌≡◌, [], ◌∷◌}
-use Rattle.std.specs.Prelude.{ℤ, ◌+ℤ◌, ◌-ℤ◌, ◌*ℤ◌, neg_ℤ}
+-- The height that a face carries over a point, times the turn of its corners: linear in the point. What a flip does to it.
+use Rattle.std.proofs.Common.{◌≡◌, [], ◌∷◌, arith}
+use Rattle.std.specs.Prelude.{ℤ, pos, ◌+ℤ◌, ◌-ℤ◌, ◌*ℤ◌, ◌≤ℤ◌, neg_ℤ}
+use Rattle.std.proofs.lemmas.Int.{ints}
+use Rattle.plane.proofs.IntegerOrder.{mul-nonneg_ℤ}
 use Rattle.plane.proofs.Solver.{Poly, ◌⊕◌, ◌⊖◌, ◌⊗◌, ⊝, ring_over}
 use Rattle.plane.proofs.Bracket.{Vec3, bracket, Vec3ᵖ, bracketᵖ, vec3}
+use Rattle.plane.proofs.Circles.{height, heightᵖ, incircle, incircleᵖ}
 
-abbrev pub excess : ℤ → ℤ → ℤ → ℤ → Vec3 → Vec3 → Vec3 → Vec3 → ℤ
-excess ha hb hc hd a b c d = ha *ℤ bracket b c d -ℤ hb *ℤ bracket a c d +ℤ hc *ℤ bracket a b d -ℤ hd *ℤ bracket a b c
-
-abbrev excessᵖ : Poly → Poly → Poly → Poly → Vec3ᵖ → Vec3ᵖ → Vec3ᵖ → Vec3ᵖ → Poly
-excessᵖ ha hb hc hd a b c d = ha ⊗ bracketᵖ b c d ⊖ hb ⊗ bracketᵖ a c d ⊕ hc ⊗ bracketᵖ a b d ⊖ hd ⊗ bracketᵖ a b c
-
--- at z, times the turn of the corners
-abbrev pub height : ℤ → ℤ → ℤ → Vec3 → Vec3 → Vec3 → Vec3 → ℤ
-height ha hb hc a b c z = ha *ℤ bracket z b c +ℤ hb *ℤ bracket a z c +ℤ hc *ℤ bracket a b z
-
-abbrev heightᵖ : Poly → Poly → Poly → Vec3ᵖ → Vec3ᵖ → Vec3ᵖ → Vec3ᵖ → Poly
-heightᵖ ha hb hc a b c z = ha ⊗ bracketᵖ z b c ⊕ hb ⊗ bracketᵖ a z c ⊕ hc ⊗ bracketᵖ a b z
-
-pub excess_opposite : (ha hb hc hd : ℤ) (a b c d : Vec3) → excess ha hb hc hd a b c d ≡ excess hc hd ha hb c d a b
+unfoldable pub carried : Vec3 → Vec3 → Vec3 → Vec3 → ℤ
 unfolding bracket
-excess_opposite ha hb hc hd a b c d = ring_over vec3 (ha ∷ hb ∷ hc ∷ hd ∷ []) (a ∷ b ∷ c ∷ d ∷ []) (λ ha hb hc hd a b c d. excessᵖ ha hb hc hd a b c d) (λ ha hb hc hd a b c d. excessᵖ hc hd ha hb c d a b) tt
+carried a b c z = height a *ℤ bracket z b c +ℤ height b *ℤ bracket a z c +ℤ height c *ℤ bracket a b z
 
-pub excess_flipped : (ha hb hc hd : ℤ) (a b c d : Vec3) → excess hb hc hd ha b c d a ≡ neg_ℤ (excess ha hb hc hd a b c d)
-unfolding bracket
-excess_flipped ha hb hc hd a b c d = ring_over vec3 (ha ∷ hb ∷ hc ∷ hd ∷ []) (a ∷ b ∷ c ∷ d ∷ []) (λ ha hb hc hd a b c d. excessᵖ hb hc hd ha b c d a) (λ ha hb hc hd a b c d. ⊝ (excessᵖ ha hb hc hd a b c d)) tt
+abbrev carriedᵖ : Vec3ᵖ → Vec3ᵖ → Vec3ᵖ → Vec3ᵖ → Poly
+carriedᵖ a b c z = heightᵖ a ⊗ bracketᵖ z b c ⊕ heightᵖ b ⊗ bracketᵖ a z c ⊕ heightᵖ c ⊗ bracketᵖ a b z
 
--- a flip never raises a height: 19 variables, degree 7
-pub falls_abd_abc : (ha hb hc hd : ℤ) (a b c d z : Vec3) → height ha hb hd a b d z *ℤ bracket a b c -ℤ height ha hb hc a b c z *ℤ bracket a b d ≡ neg_ℤ (excess ha hb hc hd a b c d *ℤ bracket a b z)
-unfolding bracket
-falls_abd_abc ha hb hc hd a b c d z = ring_over vec3 (ha ∷ hb ∷ hc ∷ hd ∷ []) (a ∷ b ∷ c ∷ d ∷ z ∷ []) (λ ha hb hc hd a b c d z. heightᵖ ha hb hd a b d z ⊗ bracketᵖ a b c ⊖ heightᵖ ha hb hc a b c z ⊗ bracketᵖ a b d) (λ ha hb hc hd a b c d z. ⊝ (excessᵖ ha hb hc hd a b c d ⊗ bracketᵖ a b z)) tt
+pub carried-turn : (a b c z : Vec3) → carried a b c z ≡ carried b c a z
+unfolding carried bracket
+carried-turn a b c z = ring_over vec3 [] (a ∷ b ∷ c ∷ z ∷ []) (λ a b c z. carriedᵖ a b c z) (λ a b c z. carriedᵖ b c a z) tt
 
-pub falls_abd_acd : (ha hb hc hd : ℤ) (a b c d z : Vec3) → height ha hb hd a b d z *ℤ bracket a c d -ℤ height ha hc hd a c d z *ℤ bracket a b d ≡ neg_ℤ (excess ha hb hc hd a b c d *ℤ bracket d a z)
-unfolding bracket
-falls_abd_acd ha hb hc hd a b c d z = ring_over vec3 (ha ∷ hb ∷ hc ∷ hd ∷ []) (a ∷ b ∷ c ∷ d ∷ z ∷ []) (λ ha hb hc hd a b c d z. heightᵖ ha hb hd a b d z ⊗ bracketᵖ a c d ⊖ heightᵖ ha hc hd a c d z ⊗ bracketᵖ a b d) (λ ha hb hc hd a b c d z. ⊝ (excessᵖ ha hb hc hd a b c d ⊗ bracketᵖ d a z)) tt
+-- ---- the diagonal a c of the quadrilateral a b c d is exchanged for b d
+pub incircle-opposite : (a b c d : Vec3) → incircle a b c d ≡ incircle c d a b
+unfolding incircle bracket
+incircle-opposite a b c d = ring_over vec3 [] (a ∷ b ∷ c ∷ d ∷ []) (λ a b c d. incircleᵖ a b c d) (λ a b c d. incircleᵖ c d a b) tt
 
-pub falls_bcd_abc : (ha hb hc hd : ℤ) (a b c d z : Vec3) → height hb hc hd b c d z *ℤ bracket a b c -ℤ height ha hb hc a b c z *ℤ bracket b c d ≡ neg_ℤ (excess ha hb hc hd a b c d *ℤ bracket b c z)
-unfolding bracket
-falls_bcd_abc ha hb hc hd a b c d z = ring_over vec3 (ha ∷ hb ∷ hc ∷ hd ∷ []) (a ∷ b ∷ c ∷ d ∷ z ∷ []) (λ ha hb hc hd a b c d z. heightᵖ hb hc hd b c d z ⊗ bracketᵖ a b c ⊖ heightᵖ ha hb hc a b c z ⊗ bracketᵖ b c d) (λ ha hb hc hd a b c d z. ⊝ (excessᵖ ha hb hc hd a b c d ⊗ bracketᵖ b c z)) tt
+pub incircle-flipped : (a b c d : Vec3) → incircle b c d a ≡ neg_ℤ (incircle a b c d)
+unfolding incircle bracket
+incircle-flipped a b c d = ring_over vec3 [] (a ∷ b ∷ c ∷ d ∷ []) (λ a b c d. incircleᵖ b c d a) (λ a b c d. ⊝ (incircleᵖ a b c d)) tt
 
-pub falls_bcd_acd : (ha hb hc hd : ℤ) (a b c d z : Vec3) → height hb hc hd b c d z *ℤ bracket a c d -ℤ height ha hc hd a c d z *ℤ bracket b c d ≡ neg_ℤ (excess ha hb hc hd a b c d *ℤ bracket c d z)
-unfolding bracket
-falls_bcd_acd ha hb hc hd a b c d z = ring_over vec3 (ha ∷ hb ∷ hc ∷ hd ∷ []) (a ∷ b ∷ c ∷ d ∷ z ∷ []) (λ ha hb hc hd a b c d z. heightᵖ hb hc hd b c d z ⊗ bracketᵖ a c d ⊖ heightᵖ ha hc hd a c d z ⊗ bracketᵖ b c d) (λ ha hb hc hd a b c d z. ⊝ (excessᵖ ha hb hc hd a b c d ⊗ bracketᵖ c d z)) tt
+falls_abd_abc : (a b c d z : Vec3) → carried a b d z *ℤ bracket a b c -ℤ carried a b c z *ℤ bracket a b d ≡ neg_ℤ (incircle a b c d *ℤ bracket a b z)
+unfolding carried incircle bracket
+falls_abd_abc a b c d z = ring_over vec3 [] (a ∷ b ∷ c ∷ d ∷ z ∷ []) (λ a b c d z. carriedᵖ a b d z ⊗ bracketᵖ a b c ⊖ carriedᵖ a b c z ⊗ bracketᵖ a b d) (λ a b c d z. ⊝ (incircleᵖ a b c d ⊗ bracketᵖ a b z)) tt
+
+falls_abd_acd : (a b c d z : Vec3) → carried a b d z *ℤ bracket a c d -ℤ carried a c d z *ℤ bracket a b d ≡ neg_ℤ (incircle a b c d *ℤ bracket d a z)
+unfolding carried incircle bracket
+falls_abd_acd a b c d z = ring_over vec3 [] (a ∷ b ∷ c ∷ d ∷ z ∷ []) (λ a b c d z. carriedᵖ a b d z ⊗ bracketᵖ a c d ⊖ carriedᵖ a c d z ⊗ bracketᵖ a b d) (λ a b c d z. ⊝ (incircleᵖ a b c d ⊗ bracketᵖ d a z)) tt
+
+falls_bcd_abc : (a b c d z : Vec3) → carried b c d z *ℤ bracket a b c -ℤ carried a b c z *ℤ bracket b c d ≡ neg_ℤ (incircle a b c d *ℤ bracket b c z)
+unfolding carried incircle bracket
+falls_bcd_abc a b c d z = ring_over vec3 [] (a ∷ b ∷ c ∷ d ∷ z ∷ []) (λ a b c d z. carriedᵖ b c d z ⊗ bracketᵖ a b c ⊖ carriedᵖ a b c z ⊗ bracketᵖ b c d) (λ a b c d z. ⊝ (incircleᵖ a b c d ⊗ bracketᵖ b c z)) tt
+
+falls_bcd_acd : (a b c d z : Vec3) → carried b c d z *ℤ bracket a c d -ℤ carried a c d z *ℤ bracket b c d ≡ neg_ℤ (incircle a b c d *ℤ bracket c d z)
+unfolding carried incircle bracket
+falls_bcd_acd a b c d z = ring_over vec3 [] (a ∷ b ∷ c ∷ d ∷ z ∷ []) (λ a b c d z. carriedᵖ b c d z ⊗ bracketᵖ a c d ⊖ carriedᵖ a c d z ⊗ bracketᵖ b c d) (λ a b c d z. ⊝ (incircleᵖ a b c d ⊗ bracketᵖ c d z)) tt
+
+at_most_by : (x y e : ℤ) → x -ℤ y ≡ neg_ℤ e → pos 0 ≤ℤ e → x ≤ℤ y
+at_most_by x y e h k = omega (arith, ints)
+
+-- where the old diagonal fails, the new faces carry nothing higher
+module _ (a b c d z : Vec3) (failing : pos 0 ≤ℤ incircle a b c d) where
+  pub lower_abd_abc : pos 0 ≤ℤ bracket a b z → (carried a b d z *ℤ bracket a b c) ≤ℤ (carried a b c z *ℤ bracket a b d)
+  lower_abd_abc h = at_most_by (carried a b d z *ℤ bracket a b c) (carried a b c z *ℤ bracket a b d) (incircle a b c d *ℤ bracket a b z) (falls_abd_abc a b c d z) (mul-nonneg_ℤ failing h)
+
+  pub lower_abd_acd : pos 0 ≤ℤ bracket d a z → (carried a b d z *ℤ bracket a c d) ≤ℤ (carried a c d z *ℤ bracket a b d)
+  lower_abd_acd h = at_most_by (carried a b d z *ℤ bracket a c d) (carried a c d z *ℤ bracket a b d) (incircle a b c d *ℤ bracket d a z) (falls_abd_acd a b c d z) (mul-nonneg_ℤ failing h)
+
+  pub lower_bcd_abc : pos 0 ≤ℤ bracket b c z → (carried b c d z *ℤ bracket a b c) ≤ℤ (carried a b c z *ℤ bracket b c d)
+  lower_bcd_abc h = at_most_by (carried b c d z *ℤ bracket a b c) (carried a b c z *ℤ bracket b c d) (incircle a b c d *ℤ bracket b c z) (falls_bcd_abc a b c d z) (mul-nonneg_ℤ failing h)
+
+  pub lower_bcd_acd : pos 0 ≤ℤ bracket c d z → (carried b c d z *ℤ bracket a c d) ≤ℤ (carried a c d z *ℤ bracket b c d)
+  lower_bcd_acd h = at_most_by (carried b c d z *ℤ bracket a c d) (carried a c d z *ℤ bracket b c d) (incircle a b c d *ℤ bracket c d z) (falls_bcd_acd a b c d z) (mul-nonneg_ℤ failing h)

@@ -15,8 +15,10 @@ use Rattle.plane_tiling.proofs.Covering as C
 use Rattle.plane_tiling.proofs.Tiles.{point_at, by_signs, inside_signs, in_signs, signs_in}
 use Rattle.plane_tiling.proofs.Appended.{length_appended, kept_point, last_point}
 use Rattle.plane_tiling.proofs.OneFace.{by_words, same_points}
-use Rattle.plane_edits.specs.Change.{IsFaceOf}
+use Rattle.plane_edits.specs.Change.{IsFaceOf, OuterChange}
 use Rattle.plane_edits.specs.Laws.{InsertionInsideKeeps, InsertionWithinSideKeeps, InsertionWithinOuterKeeps, FlipKeeps, FlipCovers}
+use Rattle.plane_tiling.proofs.Totals.{Contains-none}
+use Rattle.plane_edits.proofs.Changes.{IsOnce}
 use Rattle.plane_edits.proofs.Insertions as I
 use Rattle.plane_edits.proofs.Flips as F
 use Rattle.plane_edits.proofs.Legal.{InClosed, halved}
@@ -64,6 +66,9 @@ within_outer_kept points faces new outer outer' q u v c m own f within change ed
     from_last points q new outer' (I.hull_kept (length points) (point_at (points ++ q ∷ [])) faces new outer outer' (with_last points q faces outer m) u v c own f (within_last points q u v x.1 x.0 within) change edges)
 
 -- ---- flips
+pub same_outer : (outer : List (ℕ × ℕ)) → IsOnce outer → OuterChange outer outer [] []
+same_outer outer once = record { kept = λ i j h _. h; come = λ i j h. absurd (Contains-none (i, j) h); only = λ i j h. inl (h, λ x. Contains-none (i, j) x); once = once }
+
 pub flip_kept : FlipKeeps
 flip_kept points faces new outer outer' a b c d m f g left right change edges =
     by_words points new outer' (F.flipped (length points) (point_at points) faces new outer outer' (by_signs points faces outer m) edges a b c d change f g

@@ -4,8 +4,9 @@ pub mod Insertions
 pub mod Flips
 pub mod Hull
 pub mod Extension
+pub mod Heights
 pub mod Legal
 pub mod Kept
+pub mod Flipping
 pub mod Growing
 pub mod Star
-pub mod Heights

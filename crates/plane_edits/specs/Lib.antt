@@ -1,3 +1,5 @@
 pub mod Change
 pub mod Extension
 pub mod Laws
+pub mod Legal
+pub mod LegalLaws

@@ -2,6 +2,7 @@
 #![tactic(auto)]
 
 ghost use Rattle.plane_edits.specs.Laws.{InsertionInsideKeeps, InsertionWithinSideKeeps, InsertionWithinOuterKeeps, FlipKeeps, FlipCovers, ExtensionBegins, ExtensionGoesOn, ExtensionGoesBack, ExtensionEnds};
+ghost use Rattle.plane_edits.specs.LegalLaws.{OneQuestionForBoth, FailingIsConvex, FlipLowers, FlipLeavesSides, PassingIsDropped, ChangeLeavesSides, NoneLeftIsLocallyDelaunay};
 
 /// A law: a vertex strictly inside a face, joined to its three corners, keeps a mesh local.
 pub fn insertion_inside_keeps()
@@ -46,4 +47,39 @@ pub fn extension_goes_back()
 /// A law: where neither neighbouring outer edge sees it, the mesh is local.
 pub fn extension_ends()
     ensures { ExtensionEnds }
+{}
+
+/// A law: one question serves both sides of an edge.
+pub fn one_question_for_both()
+    ensures { OneQuestionForBoth }
+{}
+
+/// A law: an edge that fails the circle test lies across a strictly convex quadrilateral.
+pub fn failing_is_convex()
+    ensures { FailingIsConvex }
+{}
+
+/// A law: the flip of a failing edge lowers the lifted volume.
+pub fn flip_lowers()
+    ensures { FlipLowers }
+{}
+
+/// A law: the flip of a failing edge leaves the quadrilateral's sides to test.
+pub fn flip_leaves_sides()
+    ensures { FlipLeavesSides }
+{}
+
+/// A law: an edge that passes is left no longer.
+pub fn passing_is_dropped()
+    ensures { PassingIsDropped }
+{}
+
+/// A law: a change of faces leaves the sides of the faces that were made to test.
+pub fn change_leaves_sides()
+    ensures { ChangeLeavesSides }
+{}
+
+/// A law: where no edge is left to test, each one that is not fixed passes.
+pub fn none_left_is_locally_delaunay()
+    ensures { NoneLeftIsLocallyDelaunay }
 {}

@@ -150,7 +150,7 @@ listed_once outer once u v = total_at_most_one (along (is_pair u v)) outer (λ e
 
 module _ (n : ℕ) (p : ℕ → Point) (faces : List Face) (outer : List (ℕ × ℕ)) (m : SignMesh n p faces outer) where
   -- a face on u v, near u v, holds a point near the middle of u v, towards a left point
-  beside : (u v c : ℕ) → u < n → v < n → c < n → pos 0 <ℤ bracket (at p u) (at p v) (at p c) → (d z : Vec3) → pos 0 <ℤ bracket (at p u) (at p v) d → IsNudged n p (moved (pos 1) (at p u) (at p v)) d z → Inside (at p u) (at p v) (at p c) z
+  pub beside : (u v c : ℕ) → u < n → v < n → c < n → pos 0 <ℤ bracket (at p u) (at p v) (at p c) → (d z : Vec3) → pos 0 <ℤ bracket (at p u) (at p v) d → IsNudged n p (moved (pos 1) (at p u) (at p v)) d z → Inside (at p u) (at p v) (at p c) z
   beside u v c hu hv hc turns d z left s = record {
     first = subst (λ y. pos 0 <ℤ y) (sym ((s.sides u v hu hv).on (bracket-moved (at p u) (at p v) (pos 1) (at p u) (at p v) ∙ none (pos 1 *ℤ bracket (at p u) (at p v) (at p u)) (bracket (at p u) (at p v) (at p v)) (zero-mul_ℤ (pos 1) (bracket-outer (at p u) (at p v))) (bracket-last (at p u) (at p v))))) left;
     second = (s.sides v c hv hc).left (subst (λ y. pos 0 <ℤ y) (sym (drop_zero_last (bracket (at p v) (at p c) (moved (pos 1) (at p u) (at p v))) (pos 1 *ℤ bracket (at p v) (at p c) (at p u)) (bracket (at p v) (at p c) (at p v)) (bracket-moved (at p v) (at p c) (pos 1) (at p u) (at p v)) (bracket-outer (at p v) (at p c))))

@@ -1,0 +1,5 @@
+use Rattle.plane_edits.proofs.Flipping as Flipping
+use Rattle.plane_edits.proofs.flip_lowers.Goals as goal
+
+pub returns : goal.returns
+returns c = Flipping.flip_lowers
