@@ -5,16 +5,16 @@ use Rattle.half_edge_links.specs.Mesh.{Mesh, edge_at, origin, next, prev, face, 
 use Rattle.half_edge_links.specs.Flip.{flipped}
 
 -- one link of a directed edge is written
-abbrev pub with_next : List HalfEdge → ℕ → ℕ → List HalfEdge
+unfoldable pub with_next : List HalfEdge → ℕ → ℕ → List HalfEdge
 with_next hs h n = slice_set hs h (record (edge_at hs h) { next = n })
 
-abbrev pub with_prev : List HalfEdge → ℕ → ℕ → List HalfEdge
+unfoldable pub with_prev : List HalfEdge → ℕ → ℕ → List HalfEdge
 with_prev hs h p = slice_set hs h (record (edge_at hs h) { prev = p })
 
-abbrev pub with_face : List HalfEdge → ℕ → ℕ → List HalfEdge
+unfoldable pub with_face : List HalfEdge → ℕ → ℕ → List HalfEdge
 with_face hs h f = slice_set hs h (record (edge_at hs h) { face = f })
 
-abbrev pub with_origin : List HalfEdge → ℕ → ℕ → List HalfEdge
+unfoldable pub with_origin : List HalfEdge → ℕ → ℕ → List HalfEdge
 with_origin hs h o = slice_set hs h (record (edge_at hs h) { origin = o })
 
 -- an edge with the outer face on its left

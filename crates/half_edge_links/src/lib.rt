@@ -6,7 +6,9 @@ mod line;
 mod links;
 mod outside;
 mod records;
+mod removal;
 mod room;
+mod shrink;
 mod vertices;
 
 pub use links::Links;

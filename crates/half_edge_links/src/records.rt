@@ -30,36 +30,44 @@ pub fn reversed(h: u32) -> u32
 }
 
 // Lets the edge after `h` be `next`.
+#[tactic(auto, unfolding(crate::specs::Grow::with_next))]
 pub(crate) fn set_next(half_edges: &mut Vec<HalfEdge>, h: u32, next: u32)
     requires { h < length half_edges.old.items }
     ensures items { half_edges.new.items ≡ with_next half_edges.old.items h next }
+    ensures len { length half_edges.new.items ≡ length half_edges.old.items }
     ensures capacity { vec_capacity half_edges.new ≡ vec_capacity half_edges.old }
 {
     half_edges[h as usize].next = next;
 }
 
 // Lets the edge before `h` be `prev`.
+#[tactic(auto, unfolding(crate::specs::Grow::with_prev))]
 pub(crate) fn set_prev(half_edges: &mut Vec<HalfEdge>, h: u32, prev: u32)
     requires { h < length half_edges.old.items }
     ensures items { half_edges.new.items ≡ with_prev half_edges.old.items h prev }
+    ensures len { length half_edges.new.items ≡ length half_edges.old.items }
     ensures capacity { vec_capacity half_edges.new ≡ vec_capacity half_edges.old }
 {
     half_edges[h as usize].prev = prev;
 }
 
 // Lets face `face` lie on the left of `h`.
+#[tactic(auto, unfolding(crate::specs::Grow::with_face))]
 pub(crate) fn set_face(half_edges: &mut Vec<HalfEdge>, h: u32, face: u32)
     requires { h < length half_edges.old.items }
     ensures items { half_edges.new.items ≡ with_face half_edges.old.items h face }
+    ensures len { length half_edges.new.items ≡ length half_edges.old.items }
     ensures capacity { vec_capacity half_edges.new ≡ vec_capacity half_edges.old }
 {
     half_edges[h as usize].face = face;
 }
 
 // Lets `h` start at vertex `origin`.
+#[tactic(auto, unfolding(crate::specs::Grow::with_origin))]
 pub(crate) fn set_origin(half_edges: &mut Vec<HalfEdge>, h: u32, origin: u32)
     requires { h < length half_edges.old.items }
     ensures items { half_edges.new.items ≡ with_origin half_edges.old.items h origin }
+    ensures len { length half_edges.new.items ≡ length half_edges.old.items }
     ensures capacity { vec_capacity half_edges.new ≡ vec_capacity half_edges.old }
 {
     half_edges[h as usize].origin = origin;

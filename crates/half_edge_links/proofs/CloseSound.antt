@@ -1,0 +1,194 @@
+-- Making a loop of three edges of the outer face a face keeps a mesh sound.
+use Rattle.std.proofs.Common.{◌≡◌, ◌≢◌, ◌⊎◌, ℕ, ◌+◌, ◌-◌, ◌<◌, ◌≤◌, [], ◌∷◌, length, refl, sym, ap, ◌∙◌, inl, inr, arith, length-append}
+use Rattle.std.proofs.lemmas.Bool.{cases_eq}
+use Rattle.std.proofs.lemmas.List.{get_or_append_left, get_or_at}
+use Rattle.half_edge_links.specs.declared.room.TheConstants.{MAX_ELEMENTS}
+use Rattle.half_edge_links.specs.Mesh.{Mesh, IsSmall, origin, next, prev, face, face_edge, rev, IsSound, IsSoundEdge}
+use Rattle.half_edge_links.specs.Remove.{loop_closed, IsOpenTriangle, ClosesLoop}
+use Rattle.half_edge_links.proofs.Triangles.{IsTriangle}
+use Rattle.half_edge_links.proofs.FieldWrites.{sets_loop_face}
+
+abbrev pub IsRound : Mesh → ℕ → ℕ → Type 0
+IsRound m h k = (k ≡ h) ⊎ ((k ≡ next m h) ⊎ (k ≡ prev m h))
+
+pub is_round : (m : Mesh) (h k : ℕ) → IsRound m h k ⊎ ((k ≢ h) × (k ≢ next m h) × (k ≢ prev m h))
+is_round m h k =
+    elim (cases_eq k h) [
+      | inl a ↦ inl (inl a)
+      | inr a ↦ elim (cases_eq k (next m h)) [
+        | inl b ↦ inl (inr (inl b))
+        | inr b ↦ elim (cases_eq k (prev m h)) [ inl c ↦ inl (inr (inr c)) | inr c ↦ inr (a, b, c) ]
+      ]
+    ]
+
+module _ (m : Mesh) (h : ℕ) (s : IsSound m) (can : IsOpenTriangle m h) where
+  here : IsSoundEdge m h
+  here = s.edges h can.within
+
+  pub round : IsTriangle m h
+  round =
+      let at_next = s.edges (next m h) here.next_in in
+      let at_prev = s.edges (prev m h) here.prev_in in
+      let three = can.three in
+      let at_h = here in
+      let face_prev : face m (prev m h) ≡ face m h = sym at_prev.same_face ∙ ap (face m) at_h.next_prev in
+      let differs : prev m h ≢ h = λ same. can.proper (sym (ap (next m) same) ∙ at_h.next_prev) in
+      record {
+        h_in = can.within;
+        next_in = at_h.next_in;
+        prev_in = at_h.prev_in;
+        next_differs = can.proper;
+        prev_differs = differs;
+        both_differ = λ same. differs (sym three ∙ ap (next m) same ∙ at_h.next_prev);
+        face_next = at_h.same_face;
+        face_prev = face_prev;
+        next_next = three;
+        next_prev = at_h.next_prev;
+        prev_next = at_h.prev_next;
+        prev_prev = sym (ap (prev m) three) ∙ at_next.prev_next;
+      }
+
+  pub closes : ClosesLoop m (loop_closed m h) h
+  unfolding loop_closed
+  closes =
+      let t = round in
+      let w = sets_loop_face m.half_edges h (length m.face_edges + 1) t.h_in t.next_in t.prev_in in
+      record {
+        edge_count = w.count;
+        nexts = w.next;
+        prevs = w.prev;
+        origins = w.origin;
+        here = w.face;
+        other = w.other;
+        outs = refl;
+        outer_edge = refl;
+        face_edges = refl;
+      }
+
+  module _ (new : Mesh) (c : ClosesLoop m new h) where
+    next_round : (k : ℕ) → IsRound m h k → IsRound m h (next m k)
+    next_round k r = let t = round in elim r [
+      | inl i ↦ inr (inl (ap (next m) i))
+      | inr j ↦ elim j [ inl i ↦ inr (inr (ap (next m) i ∙ t.next_next)) | inr i ↦ inl (ap (next m) i ∙ t.next_prev) ]
+    ]
+
+    next_off : (k : ℕ) → k < length m.half_edges → (k ≢ h) × (k ≢ next m h) × (k ≢ prev m h) → (next m k ≢ h) × (next m k ≢ next m h) × (next m k ≢ prev m h)
+    next_off k within off =
+        let t = round in
+        let back = (s.edges k within).prev_next in
+        (λ z. off.2 (sym back ∙ ap (prev m) z), λ z. off.0 (sym back ∙ ap (prev m) z ∙ t.prev_next), λ z. off.1 (sym back ∙ ap (prev m) z ∙ t.prev_prev))
+
+    face_count : length new.face_edges ≡ length m.face_edges + 1
+    face_count = ap length c.face_edges ∙ omega (arith, length-append m.face_edges (h ∷ []))
+
+    last_named : face_edge new (length m.face_edges + 1) ≡ h
+    last_named = let k : length m.face_edges + 1 - 1 ≡ length m.face_edges = omega arith in rw (k, c.face_edges) (get_or_at m.face_edges h [] 0 (length m.face_edges) refl)
+
+    named : (f : ℕ) → 0 < f → f ≤ length m.face_edges → face_edge new f ≡ face_edge m f
+    named f some within = rw c.face_edges (get_or_append_left m.face_edges (h ∷ []) 0 (f - 1) (omega arith))
+
+    sound_round : (k : ℕ) → k < length m.half_edges → IsRound m h k → IsSoundEdge new k
+    sound_round k within r =
+        let was = s.edges k within in
+        let t = round in
+        let face_is = c.here k r in
+        let named_is : face_edge new (face new k) ≡ h = ap (face_edge new) face_is ∙ last_named in
+        record {
+          next_in = rw (c.nexts k, c.edge_count) was.next_in;
+          prev_in = rw (c.prevs k, c.edge_count) was.prev_in;
+          origin_in = rw (c.origins k, ap length c.outs) was.origin_in;
+          face_in = rw (face_is, face_count) (omega arith);
+          prev_next = ap (prev new) (c.nexts k) ∙ c.prevs (next m k) ∙ was.prev_next;
+          next_prev = ap (next new) (c.prevs k) ∙ c.nexts (prev m k) ∙ was.next_prev;
+          starts = ap (origin new) (c.nexts k) ∙ c.origins (next m k) ∙ was.starts ∙ sym (c.origins (rev k));
+          same_face = ap (face new) (c.nexts k) ∙ c.here (next m k) (next_round k r) ∙ sym face_is;
+          three = λ inner. ap (next new) (c.nexts k) ∙ c.nexts (next m k) ∙ elim r as (λ z. next m (next m k) ≡ prev m k) [
+            | inl i ↦ ap (λ j. next m (next m j)) i ∙ t.next_next ∙ sym (ap (prev m) i)
+            | inr j ↦ elim j as (λ z. next m (next m k) ≡ prev m k) [
+              | inl i ↦ ap (λ j. next m (next m j)) i ∙ ap (next m) t.next_next ∙ t.next_prev ∙ sym (ap (prev m) i ∙ t.prev_next)
+              | inr i ↦ ap (λ j. next m (next m j)) i ∙ ap (next m) t.next_prev ∙ sym (ap (prev m) i ∙ t.prev_prev)
+            ]
+          ] ∙ sym (c.prevs k);
+          proper = λ same.
+              let q : next m k ≡ k = sym (c.nexts k) ∙ same in
+              elim r [
+                | inl i ↦ t.next_differs (sym (ap (next m) i) ∙ q ∙ i)
+                | inr j ↦ elim j [
+                  | inl i ↦ t.both_differ (sym (sym t.next_next ∙ sym (ap (next m) i) ∙ q ∙ i))
+                  | inr i ↦ t.prev_differs (sym (sym t.next_prev ∙ sym (ap (next m) i) ∙ q ∙ i))
+                ]
+              ];
+          owned = λ inner. elim r [
+            | inl i ↦ inl (named_is ∙ sym i)
+            | inr j ↦ elim j [
+              | inl i ↦ inr (inr (named_is ∙ sym (c.prevs k ∙ ap (prev m) i ∙ t.prev_next)))
+              | inr i ↦ inr (inl (named_is ∙ sym (c.nexts k ∙ ap (next m) i ∙ t.next_prev)))
+            ]
+          ];
+          has_out = rw (c.origins k, c.outs) was.has_out;
+        }
+
+    sound_off : (k : ℕ) → k < length m.half_edges → (k ≢ h) × (k ≢ next m h) × (k ≢ prev m h) → IsSoundEdge new k
+    sound_off k within off =
+        let was = s.edges k within in
+        let n = next_off k within off in
+        let face_is = c.other k off.0 off.1 off.2 in
+        record {
+          next_in = rw (c.nexts k, c.edge_count) was.next_in;
+          prev_in = rw (c.prevs k, c.edge_count) was.prev_in;
+          origin_in = rw (c.origins k, ap length c.outs) was.origin_in;
+          face_in = rw (face_is, face_count) (omega (arith, was.face_in));
+          prev_next = ap (prev new) (c.nexts k) ∙ c.prevs (next m k) ∙ was.prev_next;
+          next_prev = ap (next new) (c.prevs k) ∙ c.nexts (prev m k) ∙ was.next_prev;
+          starts = ap (origin new) (c.nexts k) ∙ c.origins (next m k) ∙ was.starts ∙ sym (c.origins (rev k));
+          same_face = ap (face new) (c.nexts k) ∙ c.other (next m k) n.0 n.1 n.2 ∙ was.same_face ∙ sym face_is;
+          three = λ inner. ap (next new) (c.nexts k) ∙ c.nexts (next m k) ∙ was.three (rw (← face_is) inner) ∙ sym (c.prevs k);
+          proper = λ same. was.proper (sym (c.nexts k) ∙ same);
+          owned = λ inner.
+              let some : 0 < face m k = rw (← face_is) inner in
+              let named_is : face_edge new (face new k) ≡ face_edge m (face m k) = ap (face_edge new) face_is ∙ named (face m k) some was.face_in in
+              elim (was.owned some) [
+                | inl z ↦ inl (named_is ∙ z)
+                | inr w ↦ elim w [ inl z ↦ inr (inl (named_is ∙ z ∙ sym (c.nexts k))) | inr z ↦ inr (inr (named_is ∙ z ∙ sym (c.prevs k))) ]
+              ];
+          has_out = rw (c.origins k, c.outs) was.has_out;
+        }
+
+    -- an edge of another face is not in the loop
+    off_by_face : (k : ℕ) → 0 < face m k → (k ≢ h) × (k ≢ next m h) × (k ≢ prev m h)
+    off_by_face k some =
+        let t = round in
+        let zero = can.outer in
+        (λ z. absurd (omega (arith, ap (face m) z)), λ z. absurd (omega (arith, ap (face m) z, t.face_next)), λ z. absurd (omega (arith, ap (face m) z, t.face_prev)))
+
+    pub sound_closed : IsSound new
+    sound_closed = record {
+      even = rw c.edge_count s.even;
+      edges = λ k within.
+          let k_in : k < length m.half_edges = rw c.edge_count at within in
+          elim (is_round m h k) [ inl r ↦ sound_round k k_in r | inr off ↦ sound_off k k_in off ];
+      vertices = λ v k is. let had = s.vertices v k (rw c.outs at is) in (rw c.edge_count had.0, c.origins k ∙ had.1);
+      faces = λ f some within.
+          let f_in : f ≤ length m.face_edges + 1 = rw face_count at within in
+          elim (cases_eq f (length m.face_edges + 1)) [
+            | inl i ↦ let is = ap (face_edge new) i ∙ last_named in rw (is, c.edge_count) (can.within, c.here h (inl refl) ∙ sym i)
+            | inr differs ↦
+                let small : f ≤ length m.face_edges = omega arith in
+                let had = s.faces f some small in
+                let off = off_by_face (face_edge m f) (omega (arith, had.1)) in
+                rw (named f some small, c.edge_count) (had.0, c.other _ off.0 off.1 off.2 ∙ had.1)
+          ];
+      outer = λ k is.
+          let was = sym c.outer_edge ∙ is in
+          let had = s.outer k was in
+          let off = can.unnamed k was in
+          (rw c.edge_count had.0, c.other k off.0 off.1 off.2 ∙ had.1);
+      has_outer = λ some. rw c.outer_edge (s.has_outer (rw c.edge_count at some));
+    }
+
+    pub small_closed : IsSmall m → length m.face_edges + 2 ≤ MAX_ELEMENTS → IsSmall new
+    small_closed small room = record {
+      vertices = rw (ap length c.outs) small.vertices;
+      edges = rw c.edge_count small.edges;
+      faces = omega (arith, face_count);
+    }

@@ -1,0 +1,83 @@
+use Rattle.std.proofs.Common.{◌≡◌, ◌+◌, ◌-◌, length, arith}
+use Rattle.std.proofs.lemmas.List.{length-set}
+use Rattle.half_edge_links.specs.contracts.links.Links.{the_view}
+use Rattle.half_edge_links.specs.Mesh.{Mesh}
+use Rattle.half_edge_links.specs.Remove.{unlinked, filled}
+use Rattle.half_edge_links.proofs.Conditions.{IsUnlinkable, unlinkable}
+use Rattle.half_edge_links.proofs.RemoveSound.{IsInRange, in_range_unlinked, removes}
+use Rattle.half_edge_links.proofs.Shrunk.{valid_removed}
+use Rattle.half_edge_links.proofs.links.Links.remove_edge.Goals as goal
+
+pub rename_out-requires-clause-vertex : goal.rename_out-requires-clause-vertex
+rename_out-requires-clause-vertex c =
+    let m : Mesh = (the_view c.self.inside).mesh in
+    let can : IsUnlinkable m c.args.e = unlinkable m c.args.e c.self.invariant (rw (← c.self.view_is) at c.requires) in
+    let r : IsInRange m c.unlink.new.half_edges.items (c.len.result - 2) = rw (c.unlink.ensures.items, c.reversed-t.ensures) (in_range_unlinked m c.args.e c.self.invariant.sound can (c.len.result - 2) (omega arith)) in
+    simp length-set (rw (c.read-even.ensures, c.deref-3.ensures.value) r.origin_in)
+
+pub rename_out-requires-2-clause-vertex : goal.rename_out-requires-2-clause-vertex
+rename_out-requires-2-clause-vertex c =
+    let m : Mesh = (the_view c.self.inside).mesh in
+    let can : IsUnlinkable m c.args.e = unlinkable m c.args.e c.self.invariant (rw (← c.self.view_is) at c.requires) in
+    let r : IsInRange m c.unlink.new.half_edges.items (c.len.result - 2 + 1) = rw (c.unlink.ensures.items, c.reversed-t.ensures) (in_range_unlinked m c.args.e c.self.invariant.sound can (c.len.result - 2 + 1) (omega arith)) in
+    rw c.rename_out.ensures.len (simp length-set (rw (c.read-odd.ensures, c.deref-4.ensures.value) r.origin_in))
+
+pub rename_face-requires-clause-face : goal.rename_face-requires-clause-face
+rename_face-requires-clause-face c =
+    let m : Mesh = (the_view c.self.inside).mesh in
+    let can : IsUnlinkable m c.args.e = unlinkable m c.args.e c.self.invariant (rw (← c.self.view_is) at c.requires) in
+    let r : IsInRange m c.unlink.new.half_edges.items (c.len.result - 2) = rw (c.unlink.ensures.items, c.reversed-t.ensures) (in_range_unlinked m c.args.e c.self.invariant.sound can (c.len.result - 2) (omega arith)) in
+    rw (c.read-even.ensures, c.deref-3.ensures.value) r.face_in
+
+pub rename_face-requires-2-clause-face : goal.rename_face-requires-2-clause-face
+rename_face-requires-2-clause-face c =
+    let m : Mesh = (the_view c.self.inside).mesh in
+    let can : IsUnlinkable m c.args.e = unlinkable m c.args.e c.self.invariant (rw (← c.self.view_is) at c.requires) in
+    let r : IsInRange m c.unlink.new.half_edges.items (c.len.result - 2 + 1) = rw (c.unlink.ensures.items, c.reversed-t.ensures) (in_range_unlinked m c.args.e c.self.invariant.sound can (c.len.result - 2 + 1) (omega arith)) in
+    rw (c.rename_face.ensures.len, c.read-odd.ensures, c.deref-4.ensures.value) r.face_in
+
+pub fill-requires-clause-even_next : goal.fill-requires-clause-even_next
+fill-requires-clause-even_next c =
+    let m : Mesh = (the_view c.self.inside).mesh in
+    let can : IsUnlinkable m c.args.e = unlinkable m c.args.e c.self.invariant (rw (← c.self.view_is) at c.requires) in
+    let r : IsInRange m c.unlink.new.half_edges.items (c.len.result - 2) = rw (c.unlink.ensures.items, c.reversed-t.ensures) (in_range_unlinked m c.args.e c.self.invariant.sound can (c.len.result - 2) (omega arith)) in
+    r.next_in
+
+pub fill-requires-clause-even_prev : goal.fill-requires-clause-even_prev
+fill-requires-clause-even_prev c =
+    let m : Mesh = (the_view c.self.inside).mesh in
+    let can : IsUnlinkable m c.args.e = unlinkable m c.args.e c.self.invariant (rw (← c.self.view_is) at c.requires) in
+    let r : IsInRange m c.unlink.new.half_edges.items (c.len.result - 2) = rw (c.unlink.ensures.items, c.reversed-t.ensures) (in_range_unlinked m c.args.e c.self.invariant.sound can (c.len.result - 2) (omega arith)) in
+    r.prev_in
+
+pub fill-requires-clause-odd_next : goal.fill-requires-clause-odd_next
+fill-requires-clause-odd_next c =
+    let m : Mesh = (the_view c.self.inside).mesh in
+    let can : IsUnlinkable m c.args.e = unlinkable m c.args.e c.self.invariant (rw (← c.self.view_is) at c.requires) in
+    let r : IsInRange m c.unlink.new.half_edges.items (c.len.result - 2 + 1) = rw (c.unlink.ensures.items, c.reversed-t.ensures) (in_range_unlinked m c.args.e c.self.invariant.sound can (c.len.result - 2 + 1) (omega arith)) in
+    r.next_in
+
+pub fill-requires-clause-odd_prev : goal.fill-requires-clause-odd_prev
+fill-requires-clause-odd_prev c =
+    let m : Mesh = (the_view c.self.inside).mesh in
+    let can : IsUnlinkable m c.args.e = unlinkable m c.args.e c.self.invariant (rw (← c.self.view_is) at c.requires) in
+    let r : IsInRange m c.unlink.new.half_edges.items (c.len.result - 2 + 1) = rw (c.unlink.ensures.items, c.reversed-t.ensures) (in_range_unlinked m c.args.e c.self.invariant.sound can (c.len.result - 2 + 1) (omega arith)) in
+    r.prev_in
+
+pub returns-clause-mesh : goal.returns-clause-mesh
+unfolding unlinked filled
+returns-clause-mesh c =
+    let m : Mesh = (the_view c.self.inside).mesh in
+    let n : c.len.result ≡ length m.half_edges = omega arith in
+    rw (← c.self.view_is, ← n) (cc)
+
+pub returns-clause-removes : goal.returns-clause-removes
+returns-clause-removes c =
+    let m : Mesh = (the_view c.self.inside).mesh in
+    let can : IsUnlinkable m c.args.e = unlinkable m c.args.e c.self.invariant (rw (← c.self.view_is) at c.requires) in
+    rw (returns-clause-mesh c, ← c.self.view_is) (removes m c.args.e c.self.invariant.sound can)
+
+pub invariant_of-self : goal.invariant_of-self
+invariant_of-self c =
+    let m : Mesh = (the_view c.self.inside).mesh in
+    valid_removed m _ c.args.e c.self.invariant (rw (← c.self.view_is) at c.requires) (rw (← c.self.view_is) at (returns-clause-removes c))

@@ -1,0 +1,192 @@
+//! Writes to the lists of a mesh that take an edge, a face or a vertex out of it.
+ghost use Rattle.std.specs.Prelude.{◌≡◌, ◌≢◌, ℕ, ◌+◌, ◌-◌, ◌<◌, ◌≤◌, length, Option, Some, None, vec_capacity};
+ghost use Rattle.half_edge_links.specs.Mesh.{edge_at};
+ghost use Rattle.half_edge_links.specs.Remove.{with_loop_face, with_unlinked, with_filled, with_out_renamed, with_face_renamed, out_after, outer_beside, outer_after};
+ghost use Rattle.half_edge_links.specs.Move.{CanWalk, MovesOrigins, MovesNamed};
+ghost use Rattle.half_edge_links.specs.Renames.{renamed, pair_moved};
+ghost use Rattle.half_edge_links.specs.declared.room.TheConstants.{MAX_ELEMENTS};
+
+use crate::records::{HalfEdge, read, reversed, set_face, set_next, set_origin, set_prev};
+
+// The three directed edges round the triangle of `h` get this face.
+pub(crate) fn set_loop_face(half_edges: &mut Vec<HalfEdge>, h: u32, face: u32)
+    requires edge { h < length half_edges.old.items }
+    requires next { (edge_at half_edges.old.items h).next < length half_edges.old.items }
+    requires prev { (edge_at half_edges.old.items h).prev < length half_edges.old.items }
+    ensures items { half_edges.new.items ≡ with_loop_face half_edges.old.items h face }
+    ensures len { length half_edges.new.items ≡ length half_edges.old.items }
+    ensures capacity { vec_capacity half_edges.new ≡ vec_capacity half_edges.old }
+{
+    let edge = read(half_edges, h);
+    set_face(half_edges, h, face);
+    set_face(half_edges, edge.next, face);
+    set_face(half_edges, edge.prev, face);
+}
+
+// Takes edge `e`, with other side `t`, out of its loops. Each side is left as a loop of its own.
+pub(crate) fn unlink(half_edges: &mut Vec<HalfEdge>, e: u32, t: u32)
+    requires edge { e < length half_edges.old.items }
+    requires twin { t < length half_edges.old.items }
+    requires edge_next { (edge_at half_edges.old.items e).next < length half_edges.old.items }
+    requires edge_prev { (edge_at half_edges.old.items e).prev < length half_edges.old.items }
+    requires twin_next { (edge_at half_edges.old.items t).next < length half_edges.old.items }
+    requires twin_prev { (edge_at half_edges.old.items t).prev < length half_edges.old.items }
+    ensures items { half_edges.new.items ≡ with_unlinked half_edges.old.items e t }
+    ensures len { length half_edges.new.items ≡ length half_edges.old.items }
+    ensures capacity { vec_capacity half_edges.new ≡ vec_capacity half_edges.old }
+{
+    let edge = read(half_edges, e);
+    let twin = read(half_edges, t);
+    set_next(half_edges, edge.prev, twin.next);
+    set_prev(half_edges, twin.next, edge.prev);
+    set_next(half_edges, twin.prev, edge.next);
+    set_prev(half_edges, edge.next, twin.prev);
+    set_next(half_edges, e, e);
+    set_prev(half_edges, e, e);
+    set_next(half_edges, t, t);
+    set_prev(half_edges, t, t);
+}
+
+// The last two directed edges, from `last` on, take the place of `hole` and the one after it.
+pub(crate) fn fill(half_edges: &mut Vec<HalfEdge>, last: u32, hole: u32)
+    requires last { length half_edges.old.items ≡ last + 2 }
+    requires hole { hole + 1 < length half_edges.old.items }
+    requires small { length half_edges.old.items ≤ MAX_ELEMENTS }
+    requires even_next { (edge_at half_edges.old.items last).next < length half_edges.old.items }
+    requires even_prev { (edge_at half_edges.old.items last).prev < length half_edges.old.items }
+    requires odd_next { (edge_at half_edges.old.items (last + 1)).next < length half_edges.old.items }
+    requires odd_prev { (edge_at half_edges.old.items (last + 1)).prev < length half_edges.old.items }
+    requires apart { hole ≢ last + 1 }
+    ensures items { half_edges.new.items ≡ with_filled half_edges.old.items last hole }
+    ensures capacity { vec_capacity half_edges.new ≡ vec_capacity half_edges.old }
+{
+    let even = read(half_edges, last);
+    let odd = read(half_edges, last + 1);
+    set_next(half_edges, even.prev, hole);
+    set_prev(half_edges, even.next, hole);
+    set_next(half_edges, odd.prev, hole + 1);
+    set_prev(half_edges, odd.next, hole + 1);
+    half_edges.swap_remove(hole as usize + 1);
+    half_edges.swap_remove(hole as usize);
+}
+
+// The index of directed edge `h` once `from` and `from + 1` have moved to `to` and `to + 1`.
+pub(crate) fn pair_moved(from: u32, to: u32, h: u32) -> u32
+    requires from_in { from + 1 < 4294967296 }
+    requires to_in { to + 1 < 4294967296 }
+    ensures { result ≡ pair_moved from to h }
+{
+    if h == from {
+        to
+    } else if h == from + 1 {
+        to + 1
+    } else {
+        h
+    }
+}
+
+pub(crate) fn renamed(from: u32, to: u32, edge: Option<u32>) -> Option<u32>
+    requires from_in { from + 1 < 4294967296 }
+    requires to_in { to + 1 < 4294967296 }
+    ensures { result ≡ renamed (pair_moved from to) edge }
+{
+    match edge {
+        Some(h) => Some(pair_moved(from, to, h)),
+        None => None,
+    }
+}
+
+// Renames the edge that vertex `v` names.
+#[tactic(auto, unfolding(crate::specs::Remove::with_out_renamed))]
+pub(crate) fn rename_out(out_edges: &mut Vec<Option<u32>>, v: u32, from: u32, to: u32)
+    requires vertex { v < length out_edges.old.items }
+    requires from_in { from + 1 < 4294967296 }
+    requires to_in { to + 1 < 4294967296 }
+    ensures items { out_edges.new.items ≡ with_out_renamed out_edges.old.items v from to }
+    ensures len { length out_edges.new.items ≡ length out_edges.old.items }
+    ensures capacity { vec_capacity out_edges.new ≡ vec_capacity out_edges.old }
+{
+    let named = out_edges[v as usize];
+    out_edges[v as usize] = renamed(from, to, named);
+}
+
+// Renames the edge that face `f` names, where it is not the outer face.
+#[tactic(auto, unfolding(crate::specs::Remove::with_face_renamed))]
+pub(crate) fn rename_face(face_edges: &mut Vec<u32>, f: u32, from: u32, to: u32)
+    requires face { f ≤ length face_edges.old.items }
+    requires from_in { from + 1 < 4294967296 }
+    requires to_in { to + 1 < 4294967296 }
+    ensures items { face_edges.new.items ≡ with_face_renamed face_edges.old.items f from to }
+    ensures len { length face_edges.new.items ≡ length face_edges.old.items }
+    ensures capacity { vec_capacity face_edges.new ≡ vec_capacity face_edges.old }
+{
+    if f != 0 {
+        let named = face_edges[f as usize - 1];
+        face_edges[f as usize - 1] = pair_moved(from, to, named);
+    }
+}
+
+// The edge that a vertex names once its edge `gone` was taken out, which `other` follows.
+pub(crate) fn out_after(gone: u32, other: u32) -> Option<u32>
+    ensures { result ≡ out_after gone other }
+{
+    if other == gone { None } else { Some(other) }
+}
+
+// An edge of the outer face beside one that was taken out, if there is one.
+pub(crate) fn outer_beside(t: u32, next: u32, prev: u32) -> Option<u32>
+    ensures { result ≡ outer_beside t next prev }
+{
+    if next != t {
+        Some(next)
+    } else if prev != t {
+        Some(prev)
+    } else {
+        None
+    }
+}
+
+// The outer edge once edge `e`, with other side `t`, was taken out.
+pub(crate) fn outer_after(outer: Option<u32>, e: u32, t: u32, next: u32, prev: u32) -> Option<u32>
+    ensures { result ≡ outer_after outer e t next prev }
+{
+    match outer {
+        Some(h) => {
+            if h == e || h == t {
+                outer_beside(t, next, prev)
+            } else {
+                Some(h)
+            }
+        }
+        None => None,
+    }
+}
+
+// The edges round the origin of `first` start at vertex `v` from now on.
+pub(crate) fn move_origins(half_edges: &mut Vec<HalfEdge>, first: u32, v: u32)
+    requires walk { CanWalk half_edges.old.items }
+    requires first { first < length half_edges.old.items }
+    ensures moves { MovesOrigins half_edges.old.items half_edges.new.items first v }
+    ensures capacity { vec_capacity half_edges.new ≡ vec_capacity half_edges.old }
+{
+    let mut h = first;
+    for _i in 0..half_edges.len() {
+        set_origin(half_edges, h, v);
+        h = reversed(read(half_edges, h).prev);
+        if h == first {
+            return;
+        }
+    }
+}
+
+// The same, where there is a first edge.
+pub(crate) fn move_named(half_edges: &mut Vec<HalfEdge>, named: Option<u32>, v: u32)
+    requires walk { CanWalk half_edges.old.items }
+    requires first { (first : ℕ) → named ≡ Some first → first < length half_edges.old.items }
+    ensures moves { MovesNamed half_edges.old.items half_edges.new.items named v }
+    ensures capacity { vec_capacity half_edges.new ≡ vec_capacity half_edges.old }
+{
+    if let Some(first) = named {
+        move_origins(half_edges, first, v);
+    }
+}

@@ -1,0 +1,144 @@
+//! Taking edges, faces and vertices out of a mesh.
+ghost use Rattle.std.specs.Prelude.{◌≡◌, ◌+◌, ◌-◌, ◌<◌, length};
+ghost use Rattle.half_edge_links.specs.Mesh.{prev, rev, IsInner, IsAlone, IsSound};
+ghost use Rattle.half_edge_links.specs.Room.{HasFaceRoom};
+ghost use Rattle.half_edge_links.specs.Remove.{opened, Opens, removed, Removes, IsRemovable, IsOpenTriangle, loop_closed, ClosesLoop, after_removal};
+ghost use Rattle.half_edge_links.specs.Peel.{IsPeelable, Peels, IsWheel, Collapses, HasStrip, Disconnects};
+ghost use Rattle.half_edge_links.specs.Move.{MovesVertex};
+
+use crate::links::Links;
+use crate::records::{read, reversed};
+use crate::removal::{
+    fill, move_named, out_after, outer_after, pair_moved, rename_face, rename_out, renamed,
+    set_loop_face, unlink,
+};
+
+impl Links {
+    /// Gives the loop of inner face `f` to the outer face. The last face takes its index.
+    pub fn open_face(&mut self, f: u32)
+        requires { IsInner self.old.mesh f }
+        ensures mesh { self.new.mesh ≡ opened self.old.mesh f }
+        ensures opens { Opens self.old.mesh self.new.mesh f }
+        ensures spare { HasFaceRoom self.new.mesh self.new.room 1 }
+        ensures room { self.new.room ≡ self.old.room }
+        ensures sound { IsSound self.old.mesh }
+    {
+        let last = self.face_edges[self.face_edges.len() - 1];
+        let edge = self.face_edges[f as usize - 1];
+        set_loop_face(&mut self.half_edges, last, f);
+        set_loop_face(&mut self.half_edges, edge, 0);
+        self.face_edges.swap_remove(f as usize - 1);
+    }
+
+    /// Makes the loop of `h`, three edges of the outer face, a new last face.
+    pub fn close_face(&mut self, h: u32)
+        requires open { IsOpenTriangle self.old.mesh h }
+        requires room { HasFaceRoom self.old.mesh self.old.room 1 }
+        ensures mesh { self.new.mesh ≡ loop_closed self.old.mesh h }
+        ensures closes { ClosesLoop self.old.mesh self.new.mesh h }
+        ensures room { self.new.room ≡ self.old.room }
+        ensures sound { IsSound self.old.mesh }
+    {
+        let face = self.face_edges.len() as u32 + 1;
+        set_loop_face(&mut self.half_edges, h, face);
+        self.face_edges.push_reserved(h);
+    }
+
+    /// Removes edge `e`, with the outer face on both sides. The last edge takes its index.
+    pub fn remove_edge(&mut self, e: u32)
+        requires { IsRemovable self.old.mesh e }
+        ensures mesh { self.new.mesh ≡ removed self.old.mesh e }
+        ensures removes { Removes self.old.mesh self.new.mesh e }
+        ensures room { self.new.room ≡ self.old.room }
+        ensures sound { IsSound self.old.mesh }
+    {
+        let t = reversed(e);
+        let edge = read(&self.half_edges, e);
+        let twin = read(&self.half_edges, t);
+        unlink(&mut self.half_edges, e, t);
+        self.out_edges[edge.origin as usize] = out_after(e, twin.next);
+        self.out_edges[twin.origin as usize] = out_after(t, edge.next);
+        let outer = outer_after(self.outer_edge, e, t, edge.next, edge.prev);
+        let last = (self.half_edges.len() - 2) as u32;
+        let hole = e - e % 2;
+        let even = read(&self.half_edges, last);
+        let odd = read(&self.half_edges, last + 1);
+        rename_out(&mut self.out_edges, even.origin, last, hole);
+        rename_out(&mut self.out_edges, odd.origin, last, hole);
+        rename_face(&mut self.face_edges, even.face, last, hole);
+        rename_face(&mut self.face_edges, odd.face, last, hole);
+        self.outer_edge = renamed(last, hole, outer);
+        fill(&mut self.half_edges, last, hole);
+    }
+
+    // The index of edge `h` once edge `e` was removed.
+    fn index_after_removal(&self, e: u32, h: u32) -> u32
+        requires { e < length self.now.mesh.half_edges }
+        ensures value { result ≡ after_removal self.now.mesh e h }
+        ensures sound { IsSound self.now.mesh }
+    {
+        let last = (self.half_edges.len() - 2) as u32;
+        pair_moved(last, e - e % 2, h)
+    }
+
+    /// Removes edge `h`, with an inner face on its left and the outer face on its right, and that face. The
+    /// last face and the last edge take their indexes. Gives the next edge round the origin of `h`.
+    pub fn peel(&mut self, h: u32) -> u32
+        requires { IsPeelable self.old.mesh h }
+        ensures peels { Peels self.old.mesh self.new.mesh h }
+        ensures room { self.new.room ≡ self.old.room }
+        ensures sound { IsSound self.old.mesh }
+        ensures spoke { result ≡ after_removal self.old.mesh h (rev (prev self.old.mesh h)) }
+    {
+        let edge = self.half_edge(h);
+        let spoke = self.index_after_removal(h, reversed(edge.prev));
+        self.open_face(edge.face);
+        self.remove_edge(h);
+        spoke
+    }
+
+    /// Removes the edges of the origin of `o`, which has three faces round it. One face is left of the three.
+    pub fn collapse(&mut self, o: u32)
+        requires { IsWheel self.old.mesh o }
+        ensures collapses { Collapses self.old.mesh self.new.mesh o }
+        ensures room { self.new.room ≡ self.old.room }
+        ensures sound { IsSound self.old.mesh }
+    {
+        let second = reversed(self.half_edge(o).prev);
+        let third = reversed(self.half_edge(second).prev);
+        let face = self.half_edge(third).face;
+        self.open_face(face);
+        let spoke = self.peel(o);
+        let pendant = self.peel(spoke);
+        let border = self.half_edge(pendant).next;
+        let border = self.index_after_removal(pendant, border);
+        self.remove_edge(pendant);
+        self.close_face(border);
+    }
+
+    /// Removes the edges of a vertex with the outer face between its last edge and `first`, and its inner
+    /// faces, which follow each other from `first` on.
+    pub fn disconnect_strip(&mut self, first: u32)
+        requires { HasStrip self.old.mesh first }
+        ensures disconnects { Disconnects self.old.mesh self.new.mesh first }
+        ensures room { self.new.room ≡ self.old.room }
+    {
+        let mut h = first;
+        while self.half_edge(h).face != 0 {
+            h = self.peel(h);
+        }
+        self.remove_edge(h);
+    }
+
+    /// Removes vertex `v`, which has no edges. The last vertex takes its index.
+    pub fn swap_remove_vertex(&mut self, v: u32)
+        requires { IsAlone self.old.mesh v }
+        ensures moves { MovesVertex self.old.mesh self.new.mesh v }
+        ensures room { self.new.room ≡ self.old.room }
+        ensures sound { IsSound self.old.mesh }
+    {
+        let last = self.out_edges[self.out_edges.len() - 1];
+        move_named(&mut self.half_edges, last, v);
+        self.out_edges.swap_remove(v as usize);
+    }
+}
