@@ -4,7 +4,7 @@ use Rattle.std.proofs.lemmas.List.{length-set}
 use Rattle.half_edge_links.specs.Mesh.{Mesh, with_vertex, connected}
 use Rattle.half_edge_links.specs.Flip.{flipped, flip_by}
 use Rattle.half_edge_links.specs.Insert.{inserted, insert_by}
-use Rattle.half_edge_links.specs.Grow.{hung, hung_edges, closed, closed_edges, slid, slid_edges}
+use Rattle.half_edge_links.specs.Grow.{hung, hung_edges, closed, closed_edges, slid, slid_edges, with_next, with_prev, with_face, with_origin}
 use Rattle.half_edge_mesh.specs.Contents.{FitsMesh}
 use Rattle.half_edge_mesh.specs.Growth.{Grows}
 
@@ -32,7 +32,7 @@ fits_connected m a b v d u f none fit = record {
 }
 
 pub fits_hung : (m : Mesh) (x w v d u f : ℕ) → FitsMesh m v d u f → FitsMesh (hung m x w) v (d + 2) (u + 1) f
-unfolding hung hung_edges
+unfolding hung hung_edges with_next with_prev
 fits_hung m x w v d u f fit = record {
   vertices_fit = simp length-set fit.vertices_fit;
   directed_fit = simp (length-set, length-append) (omega (arith, fit.directed_fit));
@@ -41,7 +41,7 @@ fits_hung m x w v d u f fit = record {
 }
 
 pub fits_closed : (m : Mesh) (e v d u f : ℕ) → FitsMesh m v d u f → FitsMesh (closed m e) v (d + 2) (u + 1) (f + 1)
-unfolding closed closed_edges
+unfolding closed closed_edges with_next with_prev with_face
 fits_closed m e v d u f fit = record {
   vertices_fit = fit.vertices_fit;
   directed_fit = simp (length-set, length-append) (omega (arith, fit.directed_fit));
@@ -50,7 +50,7 @@ fits_closed m e v d u f fit = record {
 }
 
 pub fits_slid : (m : Mesh) (e v d u f : ℕ) → FitsMesh m v d u f → FitsMesh (slid m e) v d u f
-unfolding slid slid_edges
+unfolding slid slid_edges with_next with_prev with_origin
 fits_slid m e v d u f fit = record {
   vertices_fit = simp length-set fit.vertices_fit;
   directed_fit = simp length-set fit.directed_fit;
