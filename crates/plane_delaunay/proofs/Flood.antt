@@ -22,7 +22,7 @@ once_a : (a b : ℤ) → pos 1 *ℤ a ≡ pos 1 *ℤ a +ℤ pos 0 *ℤ b
 once_a a b = omega (arith, ints)
 
 -- an end is on the side
-on_side-first : (a b : Fraction) → OnSide a b a
+pub on_side-first : (a b : Fraction) → OnSide a b a
 on_side-first a b = record { n = pos 1; k = pos 1; l = pos 0; n_above = record { lt = tt }; k_least = record { le = tt }; l_least = record { le = tt }; along = λ u v. once_a (bracket u v a) (bracket u v b); weight = once_a a.w b.w }
 
 nudged_sum : (n : ℕ) (s x m : ℤ) → s ≡ pos n *ℤ x +ℤ m → pos 1 *ℤ s ≡ pos n *ℤ x +ℤ pos 1 *ℤ m

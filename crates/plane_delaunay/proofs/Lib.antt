@@ -22,6 +22,9 @@ pub mod History
 pub mod Flip
 pub mod Meets
 pub mod Flood
+pub mod FloodStart
+pub mod Regions
+pub mod Flooded
 pub mod FlipTiles
 pub mod Joining
 pub mod Uncrossed

@@ -43,13 +43,16 @@ module _ (t : Triangulation) (h : TilesHull t) where
       go (inl f) = absurd (o.1 f)
       go (inr f) = f
 
+  -- a point on the left of an outer edge, in the words of the walk
+  pub beyond_outer : (i j : ℕ) (p : Fraction) → IsOuter t i j → TurnsLeft (vertex t i) (vertex t j) p → IsBeyond (tiling t h) p
+  unfolding tiling
+  beyond_outer i j p o turns = let g = face_of_outer i j o in
+      record { a = j; b = i; c = g.0; is_face = g.1; alone = λ d k. o.1 (d, k); right = swapped_back _ _ (bracket-swapped (vertex t j) (vertex t i) p) (above_if_left _ _ p turns) }
+
   -- no point of a closed face, and so none of the hull, is left of an outer edge
   pub face_not_left_of_outer : (i j l m n : ℕ) (p : Fraction) → IsOuter t i j → IsFace t l m n → InCorners t l m n p → ¬ TurnsLeft (vertex t i) (vertex t j) p
   unfolding tiling
-  face_not_left_of_outer i j l m n p o f inside turns = let g = face_of_outer i j o in
-      not_covered_and_beyond (tiling t h) p
-      (record { a = l; b = m; c = n; is_face = f; closed = closed_of _ _ _ p (h.turning l m n f) inside })
-      (record { a = j; b = i; c = g.0; is_face = g.1; alone = λ d k. o.1 (d, k); right = swapped_back _ _ (bracket-swapped (vertex t j) (vertex t i) p) (above_if_left _ _ p turns) })
+  face_not_left_of_outer i j l m n p o f inside turns = not_covered_and_beyond (tiling t h) p (record { a = l; b = m; c = n; is_face = f; closed = closed_of _ _ _ p (h.turning l m n f) inside }) (beyond_outer i j p o turns)
 
   pub hull_not_left_of_outer : (i j : ℕ) (p : Fraction) → IsOuter t i j → InHull (map whole t.points) p → ¬ TurnsLeft (vertex t i) (vertex t j) p
   hull_not_left_of_outer i j p o m = let c = h.covering p m in face_not_left_of_outer i j c.0 c.1 c.2 p o c.3 c.4

@@ -11,7 +11,7 @@ use Rattle.plane_delaunay.proofs.Numbers.{own_line, mix_positive}
 use Rattle.plane.proofs.Steps.{weak, weak_right, zero_weak_left, zero_weak, right_not_zero, negated_left}
 use Rattle.plane.proofs.IntegerLaws.{neg-mul_ℤ}
 use Rattle.plane.proofs.Solver.{num, ◌⊕◌, ◌⊖◌, ◌⊗◌, ⊝, ring_in, ring_in_from}
-use Rattle.plane.proofs.IntegerOrder.{mul-pos_ℤ, pos_of_mul-pos_ℤ, mul-neg_of_pos_neg_ℤ, sign, below, none, above, neg-pos_ℤ, zero-mul_ℤ}
+use Rattle.plane.proofs.IntegerOrder.{mul-pos_ℤ, pos_of_mul-pos_ℤ, mul-neg_of_pos_neg_ℤ, sign, below, none, above, neg-pos_ℤ, zero-mul_ℤ, neg_of_mul-neg_ℤ}
 use Rattle.plane_delaunay.proofs.Bracket.{bracket, mixed, bracket-mixed, bracket-turned, bracket-swapped, bracket-first, bracket-second, meeting}
 use Rattle.plane_delaunay.proofs.Members.{sum_by-lt}
 use Rattle.plane_delaunay.proofs.Nudges.{size, nudged, Closed, Inside}
@@ -141,6 +141,25 @@ flag-lt a (pos zero) b h i j = absurd (omega (arith, ints))
 flag-lt a (negsuc k) b h i j = absurd (omega (arith, ints))
 flag-lt a c (pos n) h i j = absurd (omega (arith, ints))
 
+flag-le_second : (a b c : ℤ) → (pos 0 <ℤ a → b <ℤ pos 0 → c <ℤ pos 0) → flag a b ≤ flag a c
+unfolding flag
+flag-le_second (pos (suc m)) (negsuc n) (negsuc k) h = omega arith
+flag-le_second (pos (suc m)) (negsuc n) (pos k) h = absurd (let p : pos k <ℤ pos 0 = h (omega (arith, ints)) (omega (arith, ints)) in omega (arith, ints))
+flag-le_second (pos (suc m)) (pos n) c h = omega arith
+flag-le_second (pos zero) b c h = omega arith
+flag-le_second (negsuc m) b c h = omega arith
+
+flag-lt_second : (a b c : ℤ) → pos 0 <ℤ a → pos 0 ≤ℤ b → c <ℤ pos 0 → flag a b < flag a c
+unfolding flag
+flag-lt_second (pos (suc m)) (pos n) (negsuc k) h i j = omega arith
+flag-lt_second (pos (suc m)) (pos n) (pos k) h i j = absurd (omega (arith, ints))
+flag-lt_second (pos (suc m)) (negsuc n) c h i j = absurd (omega (arith, ints))
+flag-lt_second (pos zero) b c h i j = absurd (omega (arith, ints))
+flag-lt_second (negsuc m) b c h i j = absurd (omega (arith, ints))
+
+right_before : (k l p x r : ℤ) → pos 0 <ℤ k → pos 0 <ℤ l → r ≡ k *ℤ p +ℤ l *ℤ x → pos 0 <ℤ x → r <ℤ pos 0 → p <ℤ pos 0
+right_before k l p x r hk hl e hx hr = neg_of_mul-neg_ℤ {k = k} {x = p} hk (let q = mul-pos_ℤ {a = l} {b = x} hl hx in omega (arith, ints))
+
 module _ (T : Tiling) where
   open T use {at, IsVertex, IsFace, InHull}
 
@@ -156,6 +175,13 @@ module _ (T : Tiling) where
   nearer_on_way a b c x p x' f m h i j = sum_by-lt (parts x' p) (parts x p) (a, b) T.sides
       (λ s. flag-le _ _ _ (λ l r. left_before m.k m.l _ _ _ m.k_above m.l_above (m.along (at s.0) (at s.1)) l r))
       (T.listed a b c f) (flag-lt _ _ _ h i j)
+
+  -- the same, where the far end comes nearer
+  pub far_end_nearer : (a b c : ℕ) (x p p' : Fraction) → IsFace a b c → OnWay p x p' → pos 0 ≤ℤ bracket (at a) (at b) p' → pos 0 <ℤ bracket (at a) (at b) x → bracket (at a) (at b) p <ℤ pos 0 → separation x p' < separation x p
+  unfolding separation
+  far_end_nearer a b c x p p' f m h i j = sum_by-lt (parts x p') (parts x p) (a, b) T.sides
+      (λ s. flag-le_second _ _ _ (λ l r. right_before m.k m.l _ _ _ m.k_above m.l_above (m.along (at s.0) (at s.1)) l r))
+      (T.listed a b c f) (flag-lt_second _ _ _ i h j)
 
   -- the point where the way from y to z leaves a face: on the closed side, between y and z, and nearer to z
   pub leave : (a b c : ℕ) (y z : Fraction) → IsFace a b c → pos 0 <ℤ bracket (at a) (at b) y → Leaves y z (at a) (at b) (at c)

@@ -6,9 +6,10 @@ use Rattle.plane.specs.Circle.{IsNearer}
 use Rattle.plane.specs.Pairs.{Joins}
 use Rattle.plane.specs.Tiling.{Triangulation, IsVertex, vertex, IsEdge, IsFace, InCorners, InsideCorners, TilesHull, IsTiling}
 use Rattle.plane.specs.Delaunay.{IsConstrainedDelaunay, IsLocallyDelaunay, IsStrictlyEmpty}
-use Rattle.plane.specs.Shape.{IsNearest}
-use Rattle.plane.specs.Location.{IsOuter}
+use Rattle.plane.specs.Shape.{IsNearest, IsEdgeIn}
+use Rattle.plane.specs.Location.{Location, IsOuter, IsLocation}
 use Rattle.plane_delaunay.specs.Nearer.{nearer_count}
+use Rattle.plane_delaunay.specs.Flood.{Region, InRegion, IsFlooded, HasStart}
 use Rattle.plane_delaunay.specs.History.{IsVisiblyEmpty, AreOneState, HasFacesOf, NoFourOnCircle, HaveOneCircle}
 
 -- a point in no closed face is strictly left of an outer edge
@@ -49,3 +50,13 @@ abbrev pub OverlappingFacesTie : Type 0
 OverlappingFacesTie = (s t : Triangulation) (constraints others : List (ℕ × ℕ)) → AreOneState s constraints t others → IsConstrainedDelaunay s constraints → IsConstrainedDelaunay t others
     → (i j k l m n : ℕ) (q : Fraction) → IsFace s i j k → IsFace t l m n → InsideCorners s i j k q → InsideCorners t l m n q
     → HaveOneCircle (vertex s i) (vertex s j) (vertex s k) (vertex t l) (vertex t m) (vertex t n)
+
+-- a flood through the faces that has one edge in a region has each
+abbrev pub FloodFindsRegion : Type 0
+FloodFindsRegion = (t : Triangulation) → TilesHull t → (region : Region) (found : List (ℕ × ℕ)) → IsFlooded t region found
+    → (i j k n : ℕ) → Joins found i j → IsEdgeIn (InRegion region) t i j → IsEdgeIn (InRegion region) t k n → Joins found k n
+
+-- where any edge is in a region, one is beside each point of the region
+abbrev pub FloodStarts : Type 0
+FloodStarts = (t : Triangulation) → TilesHull t → (region : Region) (p : Fraction) → InRegion region p → (k n : ℕ) → IsEdgeIn (InRegion region) t k n
+    → (m : Location) → IsLocation t p m → HasStart t region m

@@ -1,3 +1,4 @@
 pub mod Nearer
 pub mod History
+pub mod Flood
 pub mod Laws

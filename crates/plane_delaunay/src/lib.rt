@@ -1,7 +1,7 @@
 //! From the local circle test to constrained Delaunay: laws over tilings, constraints and circles.
 #![tactic(auto)]
 
-ghost use Rattle.plane_delaunay.specs.Laws.{OutsideIsLeftOfOuter, LocalGivesConstrainedDelaunay, StrictlyEmptyIsFace, NearestByNeighbours, NearerCountFalls, VisiblyEmptyIsFace, FacesAreUnique, OverlappingFacesTie};
+ghost use Rattle.plane_delaunay.specs.Laws.{OutsideIsLeftOfOuter, LocalGivesConstrainedDelaunay, StrictlyEmptyIsFace, NearestByNeighbours, NearerCountFalls, VisiblyEmptyIsFace, FacesAreUnique, OverlappingFacesTie, FloodFindsRegion, FloodStarts};
 
 /// A law: a point in no closed face is strictly left of an outer edge.
 pub fn outside_is_left_of_outer()
@@ -41,4 +41,14 @@ pub fn faces_are_unique()
 /// A law: where faces of two triangulations of one plain state overlap, they have one circle.
 pub fn overlapping_faces_tie()
     ensures { OverlappingFacesTie }
+{}
+
+/// A law: a flood through the faces that has one edge in a closed circle or rectangle has each.
+pub fn flood_finds_region()
+    ensures { FloodFindsRegion }
+{}
+
+/// A law: where any edge is in a closed circle or rectangle, one is beside each of its points.
+pub fn flood_starts()
+    ensures { FloodStarts }
 {}

@@ -1,0 +1,29 @@
+-- A flood through the faces of a tiling: from the edges found, to each edge that shares a face with one of them and is in the region too.
+use Rattle.std.specs.Prelude.{◌⊎◌, ℕ, ℤ, List}
+use Rattle.plane.specs.Fraction.{Point, Fraction}
+use Rattle.plane.specs.Pairs.{Joins}
+use Rattle.plane.specs.Tiling.{Triangulation, IsEdge, IsFace}
+use Rattle.plane.specs.Location.{Location, on_vertex, on_edge, on_face, outside_hull, no_triangulation, IsOuter}
+use Rattle.plane.specs.Shape.{InClosedCircle, InClosedRectangle, IsEdgeIn}
+
+-- a closed circle, by its centre and its squared radius, or a closed rectangle, by two corners
+pub data Region : Type 0 where
+  circle : Point → ℤ → Region
+  rectangle : Point → Point → Region
+
+abbrev pub InRegion : Region → Fraction → Type 0
+InRegion (circle centre radius_2) p = InClosedCircle centre radius_2 p
+InRegion (rectangle lower upper) p = InClosedRectangle lower upper p
+
+-- where a side of a face is found, so is each other side of the face that is in the region
+pub record IsFlooded (t : Triangulation) (region : Region) (found : List (ℕ × ℕ)) : Type 0 where
+  pub next : (i j k : ℕ) → IsFace t i j k → Joins found i j → IsEdgeIn (InRegion region) t j k → Joins found j k
+  pub last : (i j k : ℕ) → IsFace t i j k → Joins found i j → IsEdgeIn (InRegion region) t k i → Joins found k i
+
+-- an edge in the region, beside a point of the region that is where m says: each edge at a vertex, the edge itself, a side of the face, an outer edge
+abbrev pub HasStart : Triangulation → Region → Location → Type 0
+HasStart t region (on_vertex i) = (k : ℕ) → IsEdge t i k → IsEdgeIn (InRegion region) t i k
+HasStart t region (on_edge i j) = IsEdgeIn (InRegion region) t i j
+HasStart t region (on_face i j k) = IsEdgeIn (InRegion region) t i j ⊎ (IsEdgeIn (InRegion region) t j k ⊎ IsEdgeIn (InRegion region) t k i)
+HasStart t region (outside_hull i j) = (m n : ℕ) × IsOuter t m n × IsEdgeIn (InRegion region) t m n
+HasStart t region no_triangulation = ⊥
