@@ -10,7 +10,7 @@ use Rattle.plane.proofs.Solver.{num, ◌⊕◌, ◌⊖◌, ◌⊗◌, ⊝, ring_
 use Rattle.plane.proofs.IntegerOrder.{Sign, sign, below, none, above}
 use Rattle.plane.proofs.IntegerOrder.{mul-pos_ℤ, mul-nonneg_ℤ, pos_of_mul-pos_ℤ, square-nonneg_ℤ, square-pos_ℤ}
 use Rattle.plane.proofs.Means.{TwoWeights, two_weights}
-use Rattle.plane.proofs.Order.{same_not_nearer}
+use Rattle.plane.proofs.Nearer.{same_not_nearer}
 use Rattle.plane.specs.Fraction.{Point, Fraction, whole, IsSame, IsPositive}
 use Rattle.plane.specs.Side.{run, rise}
 use Rattle.plane.specs.Circle.{gap, IsNearer}
