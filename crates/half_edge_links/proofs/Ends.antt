@@ -12,12 +12,12 @@ paired-append [] ys even = refl
 paired-append (a ∷ []) ys even = absurd (omega (arith, even))
 paired-append (a ∷ b ∷ rest) ys even = ap (λ (q : List Ends). record { source = a; target = b } ∷ q) (paired-append rest ys (omega (arith, even)))
 
-length-paired : (xs : List ℕ) → length xs % 2 ≡ 0 → 2 * length (paired xs) ≡ length xs
+pub length-paired : (xs : List ℕ) → length xs % 2 ≡ 0 → 2 * length (paired xs) ≡ length xs
 length-paired [] even = refl
 length-paired (a ∷ []) even = absurd (omega (arith, even))
 length-paired (a ∷ b ∷ rest) even = let e = length-paired rest (omega (arith, even)) in omega (arith, e)
 
-get_or-paired : (xs : List ℕ) (k : ℕ) (d : Ends) → 2 * k + 1 < length xs → get_or (paired xs) k d ≡ record { source = get_or xs (2 * k) 0; target = get_or xs (2 * k + 1) 0 }
+pub get_or-paired : (xs : List ℕ) (k : ℕ) (d : Ends) → 2 * k + 1 < length xs → get_or (paired xs) k d ≡ record { source = get_or xs (2 * k) 0; target = get_or xs (2 * k + 1) 0 }
 get_or-paired [] k d within = absurd (omega (arith, within))
 get_or-paired (a ∷ []) k d within = absurd (omega (arith, within))
 get_or-paired (a ∷ b ∷ rest) zero d within = refl
@@ -39,10 +39,10 @@ default (x ∷ xs) zero a b within = refl
 default (x ∷ xs) (suc k) a b within = default xs k a b (omega (arith, within))
 
 module _ (m : Mesh) where
-  length-origins : length (origins m) ≡ length m.half_edges
+  pub length-origins : length (origins m) ≡ length m.half_edges
   length-origins = length-map m.half_edges _
 
-  get_or-origins : (h d : ℕ) → h < length m.half_edges → get_or (origins m) h d ≡ origin m h
+  pub get_or-origins : (h d : ℕ) → h < length m.half_edges → get_or (origins m) h d ≡ origin m h
   get_or-origins h d within = get_or-map (λ (x : HalfEdge). x.origin) m.half_edges h no_edge d within
 
 module _ (m new : Mesh) (s : IsSound m) where

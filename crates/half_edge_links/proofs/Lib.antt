@@ -55,3 +55,4 @@ pub mod ShrinkTriangles
 pub mod StarsRemove
 pub mod Shrunk
 pub mod OneOrbit
+pub mod TakenLists

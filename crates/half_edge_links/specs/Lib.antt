@@ -9,3 +9,4 @@ pub mod Renames
 pub mod Remove
 pub mod Peel
 pub mod Move
+pub mod Taken

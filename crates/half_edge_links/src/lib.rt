@@ -13,4 +13,4 @@ mod vertices;
 
 pub use links::Links;
 pub use records::{HalfEdge, reversed};
-pub use room::{MAX_ELEMENTS, ReserveError, are_few_enough};
+pub use room::{MAX_ELEMENTS, ReserveError, are_few_enough, is_full};

@@ -1,5 +1,6 @@
 //! How much room a mesh has, and asking for more.
-ghost use Rattle.std.specs.Prelude.{◌≡◌, ◌+◌, ◌-◌, ◌<◌, OnOk, IsTrue, ◌↔◌, Err, IsOk};
+ghost use Rattle.std.specs.Prelude.{◌≡◌, ◌+◌, ◌*◌, ◌-◌, ◌<◌, OnOk, IsTrue, ◌↔◌, Err, IsOk};
+ghost use Rattle.half_edge_links.specs.Mesh.{empty};
 ghost use Rattle.half_edge_links.specs.Room.{AreFewEnough, HasRoomFor, KeepsRoom};
 
 use crate::links::Links;
@@ -22,7 +23,26 @@ pub fn are_few_enough(vertices: usize, undirected_edges: usize, faces: usize) ->
     vertices <= MAX_ELEMENTS && undirected_edges <= MAX_ELEMENTS / 2 && faces <= MAX_ELEMENTS
 }
 
+/// Whether a mesh with so many vertices may have no room for one more: each vertex goes with up to six directed
+/// edges.
+pub fn is_full(vertices: usize) -> bool
+    ensures { IsTrue result ↔ MAX_ELEMENTS < 6 * (vertices + 1) }
+{
+    vertices >= MAX_ELEMENTS / 6
+}
+
 impl Links {
+    /// Takes all vertices, edges and inner faces away, and keeps the room.
+    pub fn clear(&mut self)
+        ensures mesh { self.new.mesh ≡ empty }
+        ensures room { self.new.room ≡ self.old.room }
+    {
+        self.out_edges.clear();
+        self.half_edges.clear();
+        self.outer_edge = None;
+        self.face_edges.clear();
+    }
+
     /// Makes room for these totals.
     pub fn reserve(
         &mut self,

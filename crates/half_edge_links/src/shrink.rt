@@ -1,6 +1,9 @@
 //! Taking edges, faces and vertices out of a mesh.
 ghost use Rattle.std.specs.Prelude.{◌≡◌, ◌+◌, ◌-◌, ◌<◌, length};
-ghost use Rattle.half_edge_links.specs.Mesh.{prev, rev, IsInner, IsAlone, IsSound};
+ghost use Rattle.half_edge_links.specs.Mesh.{origin, next, prev, face, rev, IsInner, IsAlone, IsSound};
+ghost use Rattle.half_edge_links.specs.Triangles.{triangles};
+ghost use Rattle.half_edge_links.specs.Outline.{ends, AddsTriangle};
+ghost use Rattle.half_edge_links.specs.Taken.{RemovesTriangle, RemovesEnds, OpensOuter, ClosesLoopOuter, RemovesOuter, PeelsOuter, MovesTriangles, MovesEnds, MovesOuter};
 ghost use Rattle.half_edge_links.specs.Room.{HasFaceRoom};
 ghost use Rattle.half_edge_links.specs.Remove.{opened, Opens, removed, Removes, IsRemovable, IsOpenTriangle, loop_closed, ClosesLoop, after_removal};
 ghost use Rattle.half_edge_links.specs.Peel.{IsPeelable, Peels, IsWheel, Collapses, HasStrip, Disconnects};
@@ -19,6 +22,9 @@ impl Links {
         requires { IsInner self.old.mesh f }
         ensures mesh { self.new.mesh ≡ opened self.old.mesh f }
         ensures opens { Opens self.old.mesh self.new.mesh f }
+        ensures triangles { RemovesTriangle self.old.mesh self.new.mesh f }
+        ensures ends { ends self.new.mesh ≡ ends self.old.mesh }
+        ensures outer { OpensOuter self.old.mesh self.new.mesh f }
         ensures spare { HasFaceRoom self.new.mesh self.new.room 1 }
         ensures room { self.new.room ≡ self.old.room }
         ensures sound { IsSound self.old.mesh }
@@ -36,6 +42,9 @@ impl Links {
         requires room { HasFaceRoom self.old.mesh self.old.room 1 }
         ensures mesh { self.new.mesh ≡ loop_closed self.old.mesh h }
         ensures closes { ClosesLoop self.old.mesh self.new.mesh h }
+        ensures triangles { let m = self.old.mesh in AddsTriangle m self.new.mesh (origin m h) (origin m (next m h)) (origin m (prev m h)) }
+        ensures ends { ends self.new.mesh ≡ ends self.old.mesh }
+        ensures outer { ClosesLoopOuter self.old.mesh self.new.mesh h }
         ensures room { self.new.room ≡ self.old.room }
         ensures sound { IsSound self.old.mesh }
     {
@@ -49,6 +58,9 @@ impl Links {
         requires { IsRemovable self.old.mesh e }
         ensures mesh { self.new.mesh ≡ removed self.old.mesh e }
         ensures removes { Removes self.old.mesh self.new.mesh e }
+        ensures triangles { triangles self.new.mesh ≡ triangles self.old.mesh }
+        ensures ends { RemovesEnds self.old.mesh self.new.mesh e }
+        ensures outer { RemovesOuter self.old.mesh self.new.mesh e }
         ensures room { self.new.room ≡ self.old.room }
         ensures sound { IsSound self.old.mesh }
     {
@@ -86,6 +98,9 @@ impl Links {
     pub fn peel(&mut self, h: u32) -> u32
         requires { IsPeelable self.old.mesh h }
         ensures peels { Peels self.old.mesh self.new.mesh h }
+        ensures triangles { RemovesTriangle self.old.mesh self.new.mesh (face self.old.mesh h) }
+        ensures ends { RemovesEnds self.old.mesh self.new.mesh h }
+        ensures outer { PeelsOuter self.old.mesh self.new.mesh h }
         ensures room { self.new.room ≡ self.old.room }
         ensures sound { IsSound self.old.mesh }
         ensures spoke { result ≡ after_removal self.old.mesh h (rev (prev self.old.mesh h)) }
@@ -134,6 +149,9 @@ impl Links {
     pub fn swap_remove_vertex(&mut self, v: u32)
         requires { IsAlone self.old.mesh v }
         ensures moves { MovesVertex self.old.mesh self.new.mesh v }
+        ensures triangles { MovesTriangles self.old.mesh self.new.mesh v }
+        ensures ends { MovesEnds self.old.mesh self.new.mesh v }
+        ensures outer { MovesOuter self.old.mesh self.new.mesh v }
         ensures room { self.new.room ≡ self.old.room }
         ensures sound { IsSound self.old.mesh }
     {

@@ -4,6 +4,8 @@ use Rattle.half_edge_links.specs.Mesh.{Mesh}
 use Rattle.half_edge_links.specs.Remove.{IsOpenTriangle, loop_closed}
 use Rattle.half_edge_links.proofs.CloseSound.{round, closes}
 use Rattle.half_edge_links.proofs.Shrunk.{valid_loop_closed}
+use Rattle.half_edge_links.proofs.ShrinkTriangles.{triangles_closed}
+use Rattle.half_edge_links.proofs.TakenLists.{ends_loop_closed, closes_outer}
 use Rattle.half_edge_links.proofs.links.Links.close_face.Goals as goal
 
 pub set_loop_face-requires-clause-next : goal.set_loop_face-requires-clause-next
@@ -37,3 +39,12 @@ invariant_of-self c =
     let can : IsOpenTriangle m c.args.h = rw (← c.self.view_is) at c.requires.open in
     let room = rw (← c.self.view_is) at c.requires.room in
     valid_loop_closed m _ c.args.h c.self.invariant can (rw (← c.self.view_is) at (returns-clause-closes c)) (omega (arith, room))
+
+pub returns-clause-triangles : goal.returns-clause-triangles
+returns-clause-triangles c = rw (← c.self.view_is) (triangles_closed (the_view c.self.inside).mesh _ c.args.h (rw (← c.self.view_is) at (returns-clause-closes c)))
+
+pub returns-clause-ends : goal.returns-clause-ends
+returns-clause-ends c = rw (← c.self.view_is) (ends_loop_closed (the_view c.self.inside).mesh _ c.args.h (rw (← c.self.view_is) at (returns-clause-closes c)))
+
+pub returns-clause-outer : goal.returns-clause-outer
+returns-clause-outer c = rw (← c.self.view_is) (closes_outer (the_view c.self.inside).mesh _ c.args.h (rw (← c.self.view_is) at c.requires.open) (rw (← c.self.view_is) at (returns-clause-closes c)))

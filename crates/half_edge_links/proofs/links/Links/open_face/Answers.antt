@@ -3,6 +3,7 @@ use Rattle.half_edge_links.specs.contracts.links.Links.{the_view}
 use Rattle.half_edge_links.specs.Mesh.{Mesh, IsInner}
 use Rattle.half_edge_links.proofs.OpenSound.{opens, opened-is, in_loop}
 use Rattle.half_edge_links.proofs.Shrunk.{valid_opened}
+use Rattle.half_edge_links.proofs.TakenLists.{removes_triangle, ends_opened, opens_outer}
 use Rattle.half_edge_links.proofs.links.Links.open_face.Goals as goal
 
 pub set_loop_face-requires-2 : goal.set_loop_face-requires-2
@@ -31,3 +32,12 @@ invariant_of-self c =
     let m : Mesh = (the_view c.self.inside).mesh in
     let inner : IsInner m c.args.f = rw (← c.self.view_is) at c.requires in
     valid_opened m _ c.args.f c.self.invariant inner (rw (← c.self.view_is) at (returns-clause-opens c))
+
+pub returns-clause-triangles : goal.returns-clause-triangles
+returns-clause-triangles c = rw (← c.self.view_is) (removes_triangle (the_view c.self.inside).mesh _ c.args.f (rw (← c.self.view_is) at c.requires) (rw (← c.self.view_is) at (returns-clause-opens c)))
+
+pub returns-clause-ends : goal.returns-clause-ends
+returns-clause-ends c = rw (← c.self.view_is) (ends_opened (the_view c.self.inside).mesh _ c.args.f (rw (← c.self.view_is) at (returns-clause-opens c)))
+
+pub returns-clause-outer : goal.returns-clause-outer
+returns-clause-outer c = rw (← c.self.view_is) (opens_outer (the_view c.self.inside).mesh _ c.args.f c.self.invariant.sound (rw (← c.self.view_is) at c.requires) (rw (← c.self.view_is) at (returns-clause-opens c)))

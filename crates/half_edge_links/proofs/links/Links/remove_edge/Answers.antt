@@ -6,6 +6,9 @@ use Rattle.half_edge_links.specs.Remove.{unlinked, filled}
 use Rattle.half_edge_links.proofs.Conditions.{IsUnlinkable, unlinkable}
 use Rattle.half_edge_links.proofs.RemoveSound.{IsInRange, in_range_unlinked, removes}
 use Rattle.half_edge_links.proofs.Shrunk.{valid_removed}
+use Rattle.half_edge_links.proofs.ShrinkTriangles.{triangles_removed}
+use Rattle.half_edge_links.proofs.TakenLists.{removes_ends, removes_outer}
+use Rattle.half_edge_links.proofs.RemoveSound.{sound_removed}
 use Rattle.half_edge_links.proofs.links.Links.remove_edge.Goals as goal
 
 pub rename_out-requires-clause-vertex : goal.rename_out-requires-clause-vertex
@@ -81,3 +84,23 @@ pub invariant_of-self : goal.invariant_of-self
 invariant_of-self c =
     let m : Mesh = (the_view c.self.inside).mesh in
     valid_removed m _ c.args.e c.self.invariant (rw (← c.self.view_is) at c.requires) (rw (← c.self.view_is) at (returns-clause-removes c))
+
+pub returns-clause-triangles : goal.returns-clause-triangles
+returns-clause-triangles c =
+    let m : Mesh = (the_view c.self.inside).mesh in
+    let can : IsUnlinkable m c.args.e = unlinkable m c.args.e c.self.invariant (rw (← c.self.view_is) at c.requires) in
+    rw (← c.self.view_is) (triangles_removed m _ c.args.e c.self.invariant.sound can (rw (← c.self.view_is) at (returns-clause-removes c)))
+
+pub returns-clause-ends : goal.returns-clause-ends
+returns-clause-ends c =
+    let m : Mesh = (the_view c.self.inside).mesh in
+    let can : IsUnlinkable m c.args.e = unlinkable m c.args.e c.self.invariant (rw (← c.self.view_is) at c.requires) in
+    let r = rw (← c.self.view_is) at (returns-clause-removes c) in
+    rw (← c.self.view_is) (removes_ends m _ c.args.e c.self.invariant.sound can r (sound_removed m _ c.args.e r))
+
+pub returns-clause-outer : goal.returns-clause-outer
+returns-clause-outer c =
+    let m : Mesh = (the_view c.self.inside).mesh in
+    let can : IsUnlinkable m c.args.e = unlinkable m c.args.e c.self.invariant (rw (← c.self.view_is) at c.requires) in
+    let r = rw (← c.self.view_is) at (returns-clause-removes c) in
+    rw (← c.self.view_is) (removes_outer m _ c.args.e c.self.invariant.sound can r (sound_removed m _ c.args.e r))

@@ -7,6 +7,7 @@ use Rattle.half_edge_links.proofs.OpenSound.{swap_remove_default}
 use Rattle.half_edge_links.proofs.VertexSound.{can_walk, moves_vertex}
 use Rattle.half_edge_links.proofs.Shrunk.{valid_moved}
 use Rattle.half_edge_links.proofs.OneOrbit.{one_orbit}
+use Rattle.half_edge_links.proofs.TakenLists.{moves_triangles, moves_ends, moves_outer}
 use Rattle.half_edge_links.proofs.links.Links.swap_remove_vertex.Goals as goal
 
 pub move_named-requires-clause-walk : goal.move_named-requires-clause-walk
@@ -34,3 +35,12 @@ invariant_of-self c =
     let m : Mesh = (the_view c.self.inside).mesh in
     let alone : IsAlone m c.args.v = rw (← c.self.view_is) at c.requires in
     valid_moved m _ c.args.v c.self.invariant alone (rw (← c.self.view_is) at (returns-clause-moves c))
+
+pub returns-clause-triangles : goal.returns-clause-triangles
+returns-clause-triangles c = rw (← c.self.view_is) (moves_triangles (the_view c.self.inside).mesh _ c.args.v c.self.invariant.sound (rw (← c.self.view_is) at (returns-clause-moves c)))
+
+pub returns-clause-ends : goal.returns-clause-ends
+returns-clause-ends c = rw (← c.self.view_is) (moves_ends (the_view c.self.inside).mesh _ c.args.v c.self.invariant.sound (rw (← c.self.view_is) at (returns-clause-moves c)))
+
+pub returns-clause-outer : goal.returns-clause-outer
+returns-clause-outer c = rw (← c.self.view_is) (moves_outer (the_view c.self.inside).mesh _ c.args.v c.self.invariant.sound (rw (← c.self.view_is) at (returns-clause-moves c)))
