@@ -30,19 +30,19 @@ fan_none : (uq qu : ℤ) → qu ≡ neg_ℤ uq → pos 0 ≡ pos 0 +ℤ uq +ℤ 
 fan_none uq qu h = omega (arith, ints)
 
 -- around a fan: its path, to q and back
-fan_total : (flow : ℕ → ℕ → ℤ) → IsAntisymmetric flow → (q u : ℕ) (vs : List ℕ) → total (around flow) (fan q u vs) ≡ total (along flow) (steps u vs) +ℤ flow (last_of u vs) q +ℤ flow q u
+pub fan_total : (flow : ℕ → ℕ → ℤ) → IsAntisymmetric flow → (q u : ℕ) (vs : List ℕ) → total (around flow) (fan q u vs) ≡ total (along flow) (steps u vs) +ℤ flow (last_of u vs) q +ℤ flow q u
 fan_total flow anti q u [] = fan_none (flow u q) (flow q u) (anti q u)
 fan_total flow anti q u (v ∷ vs) =
     fan_step (flow u v) (flow v q) (flow q u) (total (around flow) (fan q v vs)) (total (along flow) (steps v vs)) (flow (last_of v vs) q) (flow q v) (fan_total flow anti q v vs)
     ∙ fan_next (flow u v) (total (along flow) (steps v vs)) (flow (last_of v vs) q) (flow v q) (flow q u) (flow q v) (anti q v)
 
-fans_balance : (fans steps last first last' first' : ℤ) → fans ≡ steps +ℤ last' +ℤ first' → last' ≡ neg_ℤ last → first' ≡ neg_ℤ first → fans +ℤ (first +ℤ (last +ℤ pos 0)) ≡ pos 0 +ℤ steps
+pub fans_balance : (fans steps last first last' first' : ℤ) → fans ≡ steps +ℤ last' +ℤ first' → last' ≡ neg_ℤ last → first' ≡ neg_ℤ first → fans +ℤ (first +ℤ (last +ℤ pos 0)) ≡ pos 0 +ℤ steps
 fans_balance fans steps last first last' first' a b c = omega (arith, ints)
 
-only_last : (s a b : ℤ) → s ≡ a +ℤ b → a ≡ pos 0 → s ≡ b
+pub only_last : (s a b : ℤ) → s ≡ a +ℤ b → a ≡ pos 0 → s ≡ b
 only_last s a b e h = omega (arith, ints)
 
-only_first : (s a b : ℤ) → s ≡ a +ℤ b → b ≡ pos 0 → s ≡ a
+pub only_first : (s a b : ℤ) → s ≡ a +ℤ b → b ≡ pos 0 → s ≡ a
 only_first s a b e h = omega (arith, ints)
 
 below_sum : (s a b : ℤ) → s ≡ a +ℤ b → a ≤ℤ pos 0 → b ≤ℤ pos 0 → s ≤ℤ pos 0
@@ -67,7 +67,7 @@ IsRun n p outer u [] = Unit {0}
 IsRun n p outer u (v ∷ vs) = Contains outer (u, v) × (pos 0 <ℤ bracket (at p u) (at p v) (at p n)) × IsRun n p outer v vs
 
 -- up to the start of one of its steps, and with that step
-run_up_to : (n : ℕ) (p : ℕ → Point) (outer : List (ℕ × ℕ)) (u : ℕ) (vs : List ℕ) → IsRun n p outer u vs → (s r : ℕ) → Contains (steps u vs) (s, r) → (ws : List ℕ) × IsRun n p outer u ws × (last_of u ws ≡ s) × Contains outer (s, r) × (pos 0 <ℤ bracket (at p s) (at p r) (at p n))
+pub run_up_to : (n : ℕ) (p : ℕ → Point) (outer : List (ℕ × ℕ)) (u : ℕ) (vs : List ℕ) → IsRun n p outer u vs → (s r : ℕ) → Contains (steps u vs) (s, r) → (ws : List ℕ) × IsRun n p outer u ws × (last_of u ws ≡ s) × Contains outer (s, r) × (pos 0 <ℤ bracket (at p s) (at p r) (at p n))
 run_up_to n p outer u [] run s r h = absurd (Contains-none (s, r) h)
 run_up_to n p outer u (v ∷ vs) run s r h = go (Contains-cases (u, v) (steps v vs) (s, r) h) (run_up_to n p outer v vs run.2 s r)
   where
@@ -75,6 +75,32 @@ run_up_to n p outer u (v ∷ vs) run s r h = go (Contains-cases (u, v) (steps v 
         → (ws : List ℕ) × IsRun n p outer u ws × (last_of u ws ≡ s) × Contains outer (s, r) × (pos 0 <ℤ bracket (at p s) (at p r) (at p n))
     go (inl e) rest = ([], tt, ap (λ (x : ℕ × ℕ). x.0) e, subst (Contains outer) e run.0, subst (λ (x : ℕ × ℕ). pos 0 <ℤ bracket (at p x.0) (at p x.1) (at p n)) e run.1)
     go (inr k) rest = let t = rest k in (v ∷ t.0, (run.0, run.1, t.1), t.2, t.3, t.4)
+
+-- each face of the fan is on a step of the run
+pub fan_from : (n : ℕ) (p : ℕ → Point) (outer : List (ℕ × ℕ)) (u : ℕ) (vs : List ℕ) → IsRun n p outer u vs → (g : Face) → Contains (fan n u vs) g → (a b : ℕ) × Contains outer (a, b) × (pos 0 <ℤ bracket (at p a) (at p b) (at p n)) × (g ≡ face a b n)
+fan_from n p outer u [] r g h = absurd (Contains-none g h)
+fan_from n p outer u (v ∷ vs) r g h = go (Contains-cases (face u v n) (fan n v vs) g h) (fan_from n p outer v vs r.2 g)
+  where
+    go : (face u v n ≡ g) ⊎ Contains (fan n v vs) g → (Contains (fan n v vs) g → (a b : ℕ) × Contains outer (a, b) × (pos 0 <ℤ bracket (at p a) (at p b) (at p n)) × (g ≡ face a b n)) → (a b : ℕ) × Contains outer (a, b) × (pos 0 <ℤ bracket (at p a) (at p b) (at p n)) × (g ≡ face a b n)
+    go (inl e) rest = (u, v, r.0, r.1, sym e)
+    go (inr k) rest = rest k
+
+pub last_step : (n : ℕ) (p : ℕ → Point) (outer : List (ℕ × ℕ)) (u v : ℕ) (vs : List ℕ) → IsRun n p outer u (v ∷ vs) → (a : ℕ) × Contains outer (a, last_of v vs) × (pos 0 <ℤ bracket (at p a) (at p (last_of v vs)) (at p n))
+last_step n p outer u v [] r = (u, r.0, r.1)
+last_step n p outer u v (w ∷ vs) r = last_step n p outer v w vs r.2
+
+-- an end is not strictly within its own segment
+pub not_own_end : (a b c : Point) → pos 0 <ℤ bracket (lift a) (lift b) (lift c) → ¬ WithinSegment (whole a) (whole c) (whole c)
+not_own_end a b c turns w =
+    let t = two_weights IsPositive (whole a) (whole c) (whole c) w in
+    left_not_zero (mul-pos_ℤ t.k_allowed (subst (λ z. pos 0 <ℤ z) (bracket-turn (lift a) (lift b) (lift c)) turns))
+    (sym (only_first (t.n *ℤ bracket (lift b) (lift c) (lift c)) (t.k *ℤ bracket (lift b) (lift c) (lift a)) (t.l *ℤ bracket (lift b) (lift c) (lift c)) (E.mean_bracket IsPositive b c a c (whole c) t) (zero-mul_ℤ t.l (bracket-last (lift b) (lift c)))) ∙ zero-mul_ℤ t.n (bracket-last (lift b) (lift c)))
+
+pub not_own_start : (a b c : Point) → pos 0 <ℤ bracket (lift a) (lift b) (lift c) → ¬ WithinSegment (whole c) (whole b) (whole c)
+not_own_start a b c turns w =
+    let t = two_weights IsPositive (whole c) (whole b) (whole c) w in
+    left_not_zero (mul-pos_ℤ t.l_allowed (subst (λ z. pos 0 <ℤ z) (bracket-turn (lift a) (lift b) (lift c) ∙ bracket-turn (lift b) (lift c) (lift a)) turns))
+    (sym (only_last (t.n *ℤ bracket (lift c) (lift a) (lift c)) (t.k *ℤ bracket (lift c) (lift a) (lift c)) (t.l *ℤ bracket (lift c) (lift a) (lift b)) (E.mean_bracket IsPositive c a c b (whole c) t) (zero-mul_ℤ t.k (bracket-outer (lift c) (lift a)))) ∙ zero-mul_ℤ t.n (bracket-outer (lift c) (lift a)))
 
 module _ (n : ℕ) (p : ℕ → Point) (faces : List Face) (outer : List (ℕ × ℕ)) (m : SignMesh n p faces outer) where
   abbrev Sees : ℕ → ℕ → Type 0
@@ -93,36 +119,11 @@ module _ (n : ℕ) (p : ℕ → Point) (faces : List Face) (outer : List (ℕ ×
   step_of_run u (v ∷ vs) s r (inl e) = subst (Contains ((u, v) ∷ steps v vs)) (λ i. (sym e.0 i, sym e.1 i)) (Contains-head (u, v) (steps v vs))
   step_of_run u (v ∷ vs) s r (inr h) = Contains-later (u, v) (steps v vs) (s, r) (step_of_run v vs s r h)
 
-  last_step : (u v : ℕ) (vs : List ℕ) → IsRun n p outer u (v ∷ vs) → (a : ℕ) × Contains outer (a, last_of v vs) × Sees a (last_of v vs)
-  last_step u v [] r = (u, r.0, r.1)
-  last_step u v (w ∷ vs) r = last_step v w vs r.2
-
-  below_or_last : (k : ℕ) → k < suc n → (k < n) ⊎ (k ≡ n)
-  below_or_last k h = grind arith
-
   wider : {k : ℕ} → k < n → k < suc n
   wider h = omega arith
 
   last_index : n < suc n
   last_index = omega arith
-
-  -- each face of the fan is on a step of the run
-  fan_from : (u : ℕ) (vs : List ℕ) → IsRun n p outer u vs → (g : Face) → Contains (fan n u vs) g → (a b : ℕ) × Contains outer (a, b) × Sees a b × (g ≡ face a b n)
-  fan_from u [] r g h = absurd (Contains-none g h)
-  fan_from u (v ∷ vs) r g h = go (Contains-cases (face u v n) (fan n v vs) g h) (fan_from v vs r.2 g)
-    where
-      go : (face u v n ≡ g) ⊎ Contains (fan n v vs) g → (Contains (fan n v vs) g → (a b : ℕ) × Contains outer (a, b) × Sees a b × (g ≡ face a b n)) → (a b : ℕ) × Contains outer (a, b) × Sees a b × (g ≡ face a b n)
-      go (inl e) rest = (u, v, r.0, r.1, sym e)
-      go (inr k) rest = rest k
-
-  -- and each step carries a face of it
-  fan_at : (u : ℕ) (vs : List ℕ) (e : ℕ × ℕ) → Contains (steps u vs) e → Contains (fan n u vs) (face e.0 e.1 n)
-  fan_at u [] e h = absurd (Contains-none e h)
-  fan_at u (v ∷ vs) e h = go (Contains-cases (u, v) (steps v vs) e h) (fan_at v vs e)
-    where
-      go : ((u, v) ≡ e) ⊎ Contains (steps v vs) e → (Contains (steps v vs) e → Contains (fan n v vs) (face e.0 e.1 n)) → Contains (face u v n ∷ fan n v vs) (face e.0 e.1 n)
-      go (inl s) rest = subst (λ d. Contains (face u v n ∷ fan n v vs) (face d.0 d.1 n)) s (Contains-head (face u v n) (fan n v vs))
-      go (inr k) rest = Contains-later (face u v n) (fan n v vs) (face e.0 e.1 n) (rest k)
 
   -- no vertex is on the way from a to n, where an outer edge a b or b a sees n
   start_bare : (a b : ℕ) → Contains outer (a, b) → Sees a b → (k : ℕ) → k < n → ¬ WithinSegment (whole (p a)) (whole (p n)) (whole (p k))
@@ -136,19 +137,6 @@ module _ (n : ℕ) (p : ℕ → Point) (faces : List Face) (outer : List (ℕ ×
       let t = two_weights IsPositive (whole (p n)) (whole (p b)) (whole (p k)) w in
       left_not_below (pos_of_mul-pos_ℤ t.positive (subst (λ z. pos 0 <ℤ z) (sym (only_first (t.n *ℤ bracket (at p a) (at p b) (at p k)) (t.k *ℤ bracket (at p a) (at p b) (at p n)) (t.l *ℤ bracket (at p a) (at p b) (at p b)) (E.mean_bracket IsPositive (p a) (p b) (p n) (p b) (whole (p k)) t) (zero-mul_ℤ t.l (bracket-last (at p a) (at p b)))))
       (mul-pos_ℤ t.k_allowed sees))) (m.supporting (a, b) h k l)
-
-  -- an end is not strictly within its own segment
-  not_own_end : (a b c : ℕ) → pos 0 <ℤ bracket (at p a) (at p b) (at p c) → ¬ WithinSegment (whole (p a)) (whole (p c)) (whole (p c))
-  not_own_end a b c turns w =
-      let t = two_weights IsPositive (whole (p a)) (whole (p c)) (whole (p c)) w in
-      left_not_zero (mul-pos_ℤ t.k_allowed (subst (λ z. pos 0 <ℤ z) (bracket-turn (at p a) (at p b) (at p c)) turns))
-      (sym (only_first (t.n *ℤ bracket (at p b) (at p c) (at p c)) (t.k *ℤ bracket (at p b) (at p c) (at p a)) (t.l *ℤ bracket (at p b) (at p c) (at p c)) (E.mean_bracket IsPositive (p b) (p c) (p a) (p c) (whole (p c)) t) (zero-mul_ℤ t.l (bracket-last (at p b) (at p c)))) ∙ zero-mul_ℤ t.n (bracket-last (at p b) (at p c)))
-
-  not_own_end' : (a b : ℕ) → Sees a b → ¬ WithinSegment (whole (p n)) (whole (p b)) (whole (p n))
-  not_own_end' a b sees w =
-      let t = two_weights IsPositive (whole (p n)) (whole (p b)) (whole (p n)) w in
-      left_not_zero (mul-pos_ℤ t.l_allowed (subst (λ z. pos 0 <ℤ z) (bracket-turn (at p a) (at p b) (at p n) ∙ bracket-turn (at p b) (at p n) (at p a)) sees))
-      (sym (only_last (t.n *ℤ bracket (at p n) (at p a) (at p n)) (t.k *ℤ bracket (at p n) (at p a) (at p n)) (t.l *ℤ bracket (at p n) (at p a) (at p b)) (E.mean_bracket IsPositive (p n) (p a) (p n) (p b) (whole (p n)) t) (zero-mul_ℤ t.k (bracket-outer (at p n) (at p a)))) ∙ zero-mul_ℤ t.n (bracket-outer (at p n) (at p a)))
 
   -- a run never comes back to its start, and so has no step twice
   pub run_open : (u v : ℕ) (vs : List ℕ) → IsRun n p outer u (v ∷ vs) → ¬ (last_of v vs ≡ u)
@@ -170,7 +158,7 @@ module _ (n : ℕ) (p : ℕ → Point) (faces : List Face) (outer : List (ℕ ×
     first = m.ends (u, v) run.0
 
     final : (a : ℕ) × Contains outer (a, last_of v vs) × Sees a (last_of v vs)
-    final = last_step u v vs run
+    final = last_step n p outer u v vs run
 
     final_index : last_of v vs < n
     final_index = (m.ends (final.0, last_of v vs) final.1).1
@@ -228,7 +216,7 @@ module _ (n : ℕ) (p : ℕ → Point) (faces : List Face) (outer : List (ℕ ×
     AtLast e = (e.0 ≡ n) ⊎ (e.1 ≡ n)
 
     turning : (g : Face) → Contains (fan n u (v ∷ vs)) g → Turning g
-    turning g h = let x = fan_from u (v ∷ vs) run g h in let c = m.ends (x.0, x.1) x.2 in subst Turning (sym x.4) (wider c.0, wider c.1, last_index, x.3)
+    turning g h = let x = fan_from n p outer u (v ∷ vs) run g h in let c = m.ends (x.0, x.1) x.2 in subst Turning (sym x.4) (wider c.0, wider c.1, last_index, x.3)
 
     first_supports : Supports (u, n)
     first_supports k (inl l) = starts k l
@@ -240,11 +228,11 @@ module _ (n : ℕ) (p : ℕ → Point) (faces : List Face) (outer : List (ℕ ×
 
     first_bare : Bare (u, n)
     first_bare k (inl l) x = start_bare u v run.0 run.1 k l x
-    first_bare k (inr l) x = not_own_end u v n run.1 (subst (λ i. WithinSegment (whole (p u)) (whole (p n)) (whole (p i))) l x)
+    first_bare k (inr l) x = not_own_end (p u) (p v) (p n) run.1 (subst (λ i. WithinSegment (whole (p u)) (whole (p n)) (whole (p i))) l x)
 
     second_bare : Bare (n, last)
     second_bare k (inl l) x = end_bare final.0 last final.1 final.2 k l x
-    second_bare k (inr l) x = not_own_end' final.0 last final.2 (subst (λ i. WithinSegment (whole (p n)) (whole (p last)) (whole (p i))) l x)
+    second_bare k (inr l) x = not_own_start (p final.0) (p last) (p n) final.2 (subst (λ i. WithinSegment (whole (p n)) (whole (p last)) (whole (p i))) l x)
 
     module _ (new : List Face) (faces_change : FacesChange faces new [] (fan n u (v ∷ vs))) (outer' : List (ℕ × ℕ)) (outer_change : OuterChange outer outer' (steps u (v ∷ vs)) ((u, n) ∷ (n, last_of v vs) ∷ [])) where
       extension : IsAddition n p faces new outer outer' m [] (fan n u (v ∷ vs)) (steps u (v ∷ vs)) come

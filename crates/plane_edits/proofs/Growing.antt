@@ -47,7 +47,7 @@ one_less old new d e f c o hd he ne nf =
 pair_parts : (a b c d : ℕ) → ◌≡◌ {A = ℕ × ℕ} (a, b) (c, d) → (a ≡ c) × (b ≡ d)
 pair_parts a b c d e = (ap (λ (x : ℕ × ℕ). x.0) e, ap (λ (x : ℕ × ℕ). x.1) e)
 
-in_two : (d e : ℕ × ℕ) (x : ℕ × ℕ) → Contains (d ∷ e ∷ []) x → (d ≡ x) ⊎ (e ≡ x)
+pub in_two : (d e : ℕ × ℕ) (x : ℕ × ℕ) → Contains (d ∷ e ∷ []) x → (d ≡ x) ⊎ (e ≡ x)
 in_two d e x h = elim (Contains-cases d (e ∷ []) x h) [ inl s ↦ inl s | inr k ↦ elim (Contains-cases e [] x k) [ inl s ↦ inr s | inr z ↦ absurd (Contains-none x z) ] ]
 
 in_one : (d : ℕ × ℕ) (x : ℕ × ℕ) → Contains (d ∷ []) x → d ≡ x
@@ -103,7 +103,7 @@ module _ (points : List Point) (q : Point) where
   run_snoc outer u [] x r h s = (h, s, tt)
   run_snoc outer u (v ∷ vs) x r h s = (r.0, r.1, run_snoc outer v vs x r.2 h s)
 
-  run_signs : (outer : List (ℕ × ℕ)) (u : ℕ) (vs : List ℕ) → IsSeenRun (points ++ q ∷ []) n outer u vs → IsRun n p outer u vs
+  pub run_signs : (outer : List (ℕ × ℕ)) (u : ℕ) (vs : List ℕ) → IsSeenRun (points ++ q ∷ []) n outer u vs → IsRun n p outer u vs
   run_signs outer u [] r = tt
   run_signs outer u (v ∷ vs) r = (r.0, signs_of_sees u v r.1, run_signs outer v vs r.2)
 

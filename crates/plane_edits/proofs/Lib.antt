@@ -5,8 +5,10 @@ pub mod Flips
 pub mod Hull
 pub mod Extension
 pub mod Heights
+pub mod FromLine
 pub mod Legal
 pub mod Kept
 pub mod Flipping
 pub mod Growing
+pub mod OnLine
 pub mod Star

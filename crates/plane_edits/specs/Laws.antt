@@ -1,10 +1,11 @@
--- What is proved of the edits: the local mesh is kept.
-use Rattle.std.specs.Prelude.{◌↔◌, ◌⊎◌, ℕ, ◌<◌, List, [], ◌∷◌, ◌++◌, length, Contains}
+-- What is proved of insertions and flips: the mesh stays local, or a line.
+use Rattle.std.specs.Prelude.{◌↔◌, ◌⊎◌, ◌≢◌, ℕ, ◌<◌, List, [], ◌∷◌, ◌++◌, length, Contains}
 use Rattle.plane.specs.Fraction.{Point, Fraction, whole, WithinSegment, InTriangle, InsideTriangle}
 use Rattle.plane.specs.Side.{TurnsLeft}
-use Rattle.plane.specs.Pairs.{place}
+use Rattle.plane.specs.Pairs.{place, IsIndex}
 use Rattle.plane.specs.Tiling.{Face, face}
-use Rattle.plane_tiling.specs.Local.{LocalMesh}
+use Rattle.plane.specs.Location.{IsPast}
+use Rattle.plane_tiling.specs.Local.{LocalMesh, LineMesh, alone}
 use Rattle.plane_edits.specs.Change.{IsFaceOf, FacesChange, OuterChange}
 use Rattle.plane_edits.specs.Extension.{IsExtending}
 
@@ -64,3 +65,20 @@ abbrev pub ExtensionEnds : Type 0
 ExtensionEnds = (points : List Point) (faces new : List Face) (outer now : List (ℕ × ℕ)) (q : Point) (t u w x : ℕ) → LocalMesh points faces outer → IsExtending points q faces new outer now u w → Contains now (t, u) → Contains now (w, x)
     → ¬ TurnsLeft (place (points ++ q ∷ []) t) (place (points ++ q ∷ []) u) (place (points ++ q ∷ []) (length points)) → ¬ TurnsLeft (place (points ++ q ∷ []) w) (place (points ++ q ∷ []) x) (place (points ++ q ∷ []) (length points))
     → LocalMesh (points ++ q ∷ []) new now
+
+-- the same over a line of vertices, with q off it: the faces stand on each edge of the line
+abbrev pub ExtensionOverLineEnds : Type 0
+ExtensionOverLineEnds = (points : List Point) (new : List Face) (outer now : List (ℕ × ℕ)) (q : Point) (u w : ℕ) → LineMesh points outer → IsExtending points q [] new outer now u w
+    → ((t : ℕ) → Contains now (t, u) → ¬ TurnsLeft (place (points ++ q ∷ []) t) (place (points ++ q ∷ []) u) (place (points ++ q ∷ []) (length points)))
+    → ((x : ℕ) → Contains now (w, x) → ¬ TurnsLeft (place (points ++ q ∷ []) w) (place (points ++ q ∷ []) x) (place (points ++ q ∷ []) (length points))) → LocalMesh (points ++ q ∷ []) new now
+
+-- ---- a vertex q on the line of all vertices
+-- past the end i: it is joined to i
+abbrev pub InsertionPastEndKeeps : Type 0
+InsertionPastEndKeeps = (points : List Point) (outer now : List (ℕ × ℕ)) (q : Point) (i : ℕ) → LineMesh points outer → IsIndex points i → ((k : ℕ) → IsIndex points k → place points k ≢ whole q) → IsPast (alone points) i (whole q)
+    → OuterChange outer now [] ((i, length points) ∷ (length points, i) ∷ []) → LineMesh (points ++ q ∷ []) now
+
+-- strictly within the pair of neighbours i and j: it is joined to both in its place
+abbrev pub InsertionBetweenKeeps : Type 0
+InsertionBetweenKeeps = (points : List Point) (outer now : List (ℕ × ℕ)) (q : Point) (i j : ℕ) → LineMesh points outer → Contains outer (i, j) → WithinSegment (place points i) (place points j) (whole q)
+    → OuterChange outer now ((i, j) ∷ (j, i) ∷ []) ((i, length points) ∷ (length points, j) ∷ (j, length points) ∷ (length points, i) ∷ []) → LineMesh (points ++ q ∷ []) now

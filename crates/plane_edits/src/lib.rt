@@ -1,7 +1,7 @@
 //! What each edit does to points, faces and outer edges keeps the local mesh invariant: laws over lists.
 #![tactic(auto)]
 
-ghost use Rattle.plane_edits.specs.Laws.{InsertionInsideKeeps, InsertionWithinSideKeeps, InsertionWithinOuterKeeps, FlipKeeps, FlipCovers, ExtensionBegins, ExtensionGoesOn, ExtensionGoesBack, ExtensionEnds};
+ghost use Rattle.plane_edits.specs.Laws.{InsertionInsideKeeps, InsertionWithinSideKeeps, InsertionWithinOuterKeeps, FlipKeeps, FlipCovers, ExtensionBegins, ExtensionGoesOn, ExtensionGoesBack, ExtensionEnds, ExtensionOverLineEnds, InsertionPastEndKeeps, InsertionBetweenKeeps};
 ghost use Rattle.plane_edits.specs.LegalLaws.{OneQuestionForBoth, FailingIsConvex, FlipLowers, FlipLeavesSides, PassingIsDropped, ChangeLeavesSides, NoneLeftIsLocallyDelaunay};
 
 /// A law: a vertex strictly inside a face, joined to its three corners, keeps a mesh local.
@@ -82,4 +82,19 @@ pub fn change_leaves_sides()
 /// A law: where no edge is left to test, each one that is not fixed passes.
 pub fn none_left_is_locally_delaunay()
     ensures { NoneLeftIsLocallyDelaunay }
+{}
+
+/// A law: over a line of vertices the faces stand on each of its edges, and the mesh is local.
+pub fn extension_over_line_ends()
+    ensures { ExtensionOverLineEnds }
+{}
+
+/// A law: a vertex past an end of the line, joined to that end, keeps the line.
+pub fn insertion_past_end_keeps()
+    ensures { InsertionPastEndKeeps }
+{}
+
+/// A law: a vertex between two neighbours on the line, joined to both in place of their edge, keeps the line.
+pub fn insertion_between_keeps()
+    ensures { InsertionBetweenKeeps }
 {}
