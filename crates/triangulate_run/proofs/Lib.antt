@@ -5,3 +5,6 @@ pub mod Found
 pub mod OutputLemmas
 pub mod CutLemmas
 pub mod RunLemmas
+pub mod SortedFaces
+pub mod FaceList
+pub mod Locations

@@ -12,10 +12,11 @@ use Rattle.command_grammar.specs.declared.command.Coordinates.{Coordinates}
 use Rattle.command_grammar.specs.declared.command.Command.{Command}
 use Rattle.command_grammar.specs.declared.command.Command.TheVariants.{Insert, Remove, Constrain, Release, Locate, Nearest, Line, Counts, Faces}
 use Rattle.triangulate_run.specs.declared.points.SheetPoint.{SheetPoint}
-use Rattle.triangulate_run.specs.declared.reply.Corners.{Corners}
+use Rattle.triangulate_run.specs.declared.corners.Corners.{Corners}
 use Rattle.triangulate_run.specs.declared.reply.Reply.{Reply}
 use Rattle.triangulate_run.specs.declared.reply.Reply.TheVariants as reply
 use Rattle.triangulate_run.specs.Points.{IsListed, IsListedSite}
+use Rattle.triangulate_run.specs.Corners.{IsBefore}
 use Rattle.triangulate_run.specs.Stage.{Stage, position}
 
 abbrev pub point_at : Coordinates → Point2 ℤ
@@ -90,10 +91,6 @@ pub record AreCounts (s : Stage) (vertices edges faces constraints : ℕ) : Type
   pub edges_are : AreSoMany s.triangulation.edges edges
   pub faces_are : faces ≡ length s.triangulation.faces
   pub constraints_are : AreSoMany s.plain.constraints constraints
-
--- c comes before d by the three numbers
-abbrev pub IsBefore : Corners → Corners → Type 0
-IsBefore c d = (c.first < d.first) ⊎ ((c.first ≡ d.first) × ((c.second < d.second) ⊎ ((c.second ≡ d.second) × (c.third < d.third))))
 
 -- each face once, sorted
 pub record ListsFaces (t : Triangulation) (list : List Corners) : Type 0 where

@@ -2,6 +2,7 @@ pub mod Points
 pub mod Sheet
 pub mod Table
 pub mod Range
+pub mod Corners
 pub mod Stage
 pub mod Reply
 pub mod Answer

@@ -2,6 +2,7 @@
 #![tactic(auto)]
 
 mod circles;
+pub mod corners;
 pub mod fault;
 mod input;
 pub mod law;

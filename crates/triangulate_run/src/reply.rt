@@ -6,19 +6,12 @@ ghost use Rattle.triangulate_run.specs.Piece.{text_of};
 ghost use Rattle.triangulate_run.specs.Reply.{corners_text, reply_text};
 ghost use Rattle.triangulate_run.specs.declared.reply.Reply.TheVariants.{Refused, Edge, Counts};
 
+use crate::corners::Corners;
 use crate::output::write_pieces;
 use crate::piece::Piece;
 use delaunay_core::math::InsertionError;
 use std::io::Write;
 use watched::{Failed, Watched};
-
-/// A face by the indexes of its vertices, in left-turning order, the least index first.
-#[derive(Clone, Copy, Debug, PartialEq, Eq, PartialOrd, Ord)]
-pub struct Corners {
-    pub first: u64,
-    pub second: u64,
-    pub third: u64,
-}
 
 /// What the program answers to a line. Vertices stand by their indexes.
 #[derive(Drop)]

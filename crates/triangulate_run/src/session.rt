@@ -24,8 +24,13 @@ pub(crate) trait Engine {
 
     ghost stage: { Self → Stage };
 
+    // what it needs to be able to answer
+    ghost is_ready: { Self → Type 0 };
+
     /// Does what the command asks for.
     fn reply_to(&mut self, command: Command) -> Reply
+        requires ready { is_ready self.old }
+        ensures ready { is_ready self.new }
         ensures listed { listed self.new ≡ listed self.old }
         ensures reply { MayReply (listed self.old) (stage self.old) command result (stage self.new) }
         ensures fits { Fits (stage self.new) };
@@ -45,7 +50,9 @@ fn answer_line<E: Engine, W: Write>(
     line: &LineBuffer,
     writer: &mut Watched<W>,
 ) -> Result<(), Failed>
+    requires ready { E.is_ready engine.old }
     requires fits { Fits (E.stage engine.old) }
+    ensures ready { E.is_ready engine.new }
     ensures listed { E.listed engine.new ≡ E.listed engine.old }
     ensures fits { Fits (E.stage engine.new) }
     ensures answered { (whole : List ℕ) → line.now ≡ kept whole → (text : List ℕ)
@@ -65,7 +72,9 @@ fn answer<E: Engine, W: Write>(
     line: &LineBuffer,
     writer: &mut Watched<W>,
 ) -> Result<(), Failed>
+    requires ready { E.is_ready engine.old }
     requires fits { Fits (E.stage engine.old) }
+    ensures ready { E.is_ready engine.new }
     ensures listed { E.listed engine.new ≡ E.listed engine.old }
     ensures fits { Fits (E.stage engine.new) }
     ensures answered { (whole : List ℕ) → line.now ≡ kept whole → (text : List ℕ)
@@ -94,6 +103,7 @@ pub(crate) fn converse<E: Engine, R: Read, W: Write>(
     reader: &mut Watched<R>,
     writer: &mut Watched<W>,
 ) -> Result<(), RunError>
+    requires ready { E.is_ready engine.old }
     requires first { E.stage engine.old ≡ first_stage }
     requires fits { Fits (E.stage engine.old) }
     requires reader_works { has_failed reader.old ≡ false }

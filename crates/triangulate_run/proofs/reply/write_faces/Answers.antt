@@ -3,7 +3,7 @@ use Rattle.std.specs.List.{flat_map}
 use Rattle.std.specs.Io.KnownBytes.{Appends}
 use Rattle.std.proofs.lemmas.List.{take_all}
 use Rattle.watched.specs.Watched.{inner_of}
-use Rattle.triangulate_run.specs.declared.reply.Corners.{Corners}
+use Rattle.triangulate_run.specs.declared.corners.Corners.{Corners}
 use Rattle.std.proofs.lemmas.Result.{err_from_is_err_and}
 use Rattle.triangulate_run.specs.Reply.{corners_text}
 use Rattle.triangulate_run.proofs.OutputLemmas.{part_before, writes_behind}

@@ -6,6 +6,7 @@ use Rattle.triangulate_run.proofs.session.converse.Goals as goal
 
 pub loop-engine-init : goal.loop-engine-init
 loop-engine-init g c = record {
+  ready = c.requires.ready;
   listed = refl;
   fits = c.requires.fits;
   running = start _ _ c.args.reader.now c.args.writer.now _ _ _ c.new-line.ensures c.requires.first c.requires.reader_works c.requires.writer_works;
@@ -16,6 +17,7 @@ loop-engine-preserved g c =
     let i = c.loop-engine.invariant in
     let took = rw c.in-Ok-Some.field-0-is at c.in-Ok-Some.ensures in
     record {
+      ready = i.ready;
       listed = i.listed;
       fits = i.fits;
       running = byte_more i.running c.next_byte.new.reader c.in-Ok-Some.byte c.push.new.self took.2 took.0 c.in-Ok-Some.byte-test.1 c.push.ensures;
@@ -28,6 +30,7 @@ loop-engine-preserved-in-Ok g c =
     let told = c.in-Ok.ensures.answered i.running.rest i.running.held in
     let answer = subst (λ (points : List SheetPoint). Answers points (g.E.Engine.stage c.loop-engine.engine) i.running.rest told.0 (g.E.Engine.stage c.answer.new.engine)) i.listed told.1 in
     record {
+      ready = c.in-Ok.ensures.ready;
       listed = c.in-Ok.ensures.listed ∙ i.listed;
       fits = c.in-Ok.ensures.fits;
       running = line_more i.running c.next_byte.new.reader c.answer.new.writer told.0 (g.E.Engine.stage c.answer.new.engine) c.clear.new.self

@@ -1,0 +1,65 @@
+-- Where a point is, as the replies write it: the lesser end first, the least corner first.
+use Rattle.std.proofs.Common.{◌≡◌, ◌≢◌, ℕ, ◌<◌, ◌≤◌, ◌⊎◌, inl, inr, List, length, arith, ◌∙◌, sym}
+use Rattle.std.specs.Prelude.{ℤ, ◌+ℤ◌, ◌*ℤ◌}
+use Rattle.std.proofs.lemmas.Int.{ints}
+use Rattle.std.proofs.lemmas.Bool.{cases_lt}
+use Rattle.plane.specs.Fraction.{Fraction, IsPositive, WithinSegment}
+use Rattle.plane.specs.Pairs.{Joins, EachPairOnce}
+use Rattle.plane.specs.Tiling.{Triangulation, IsEdge, IsFace, IsTiling, vertex}
+use Rattle.plane.specs.Location.{IsLocation, on_edge, on_face}
+use Rattle.plane.proofs.Means.{two_weights, mean_of_two}
+use Rattle.plane.proofs.Triangles.{turned_inside}
+use Rattle.triangulate_run.specs.Corners.{corners, least_first}
+use Rattle.triangulate_run.specs.Answer.{AreSoMany}
+use Rattle.triangulate_run.proofs.FaceList.{Least, is_first, is_second, is_third, least, first_least, second_least, third_least, turned_face, differ}
+
+swapped_sum : (n x y : ℤ) → n ≡ x +ℤ y → n ≡ y +ℤ x
+swapped_sum n x y e = omega (arith, ints)
+
+within_swapped : (u v p : Fraction) → WithinSegment u v p → WithinSegment v u p
+within_swapped u v p h =
+    let t = two_weights IsPositive u v p h in
+    mean_of_two IsPositive v u p (record {
+      k = t.l;
+      l = t.k;
+      n = t.n;
+      k_allowed = t.l_allowed;
+      l_allowed = t.k_allowed;
+      positive = t.positive;
+      x = swapped_sum (t.n *ℤ p.x) (t.k *ℤ u.x) (t.l *ℤ v.x) t.x;
+      y = swapped_sum (t.n *ℤ p.y) (t.k *ℤ u.y) (t.l *ℤ v.y) t.y;
+      w = swapped_sum (t.n *ℤ p.w) (t.k *ℤ u.w) (t.l *ℤ v.w) t.w;
+    })
+
+edge_swapped : (t : Triangulation) (i j : ℕ) → IsEdge t i j → IsEdge t j i
+edge_swapped t i j (inl h) = inr h
+edge_swapped t i j (inr h) = inl h
+
+module _ (t : Triangulation) (p : Fraction) where
+  pub on_edge_back : (i j : ℕ) → IsLocation t p (on_edge i j) → IsLocation t p (on_edge j i)
+  on_edge_back i j h = (edge_swapped t i j h.0, within_swapped (vertex t i) (vertex t j) p h.1)
+
+  on_face_turned : (i j k : ℕ) → IsLocation t p (on_face i j k) → IsLocation t p (on_face j k i)
+  on_face_turned i j k h = (turned_face t i j k h.0, turned_inside (vertex t i) (vertex t j) (vertex t k) p h.1)
+
+  pub on_face_from_least : IsTiling t → (i j k : ℕ) → IsLocation t p (on_face i j k) → let c = least_first i j k in IsLocation t p (on_face c.first c.second c.third)
+  on_face_from_least tiles i j k h = let d = differ t tiles i j k h.0 in elim (least i j k d.0 d.1 d.2) [
+    | is_first a b ↦ rw (first_least i j k a b) h
+    | is_second a b ↦ rw (second_least i j k a b) (on_face_turned i j k h)
+    | is_third a b ↦ rw (third_least i j k a b) (on_face_turned j k i (on_face_turned i j k h))
+  ]
+
+-- the ends of an edge differ
+pub ends_differ : (t : Triangulation) → IsTiling t → (i j : ℕ) → IsEdge t i j → i ≢ j
+ends_differ t (inl tiles) i j h = elim ((tiles.sides i j).0 h) [
+  | inl f ↦ (differ t (inl tiles) i j f.0 f.1).0
+  | inr f ↦ (λ e. (differ t (inl tiles) j i f.0 f.1).0 (sym e))
+]
+ends_differ t (inr line) i j h = ((line.neighbours i j).0 h).apart
+
+once_of : (t : Triangulation) → IsTiling t → EachPairOnce t.edges
+once_of t (inl tiles) = tiles.once
+once_of t (inr line) = line.once
+
+pub edges_counted : (t : Triangulation) → IsTiling t → (n : ℕ) → n ≡ length t.edges → AreSoMany t.edges n
+edges_counted t tiles n e = record { different = t.edges; same = λ i j. (λ h. h, λ h. h); once = once_of t tiles; number = e }

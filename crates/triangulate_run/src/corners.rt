@@ -1,0 +1,39 @@
+//! Faces by the indexes of their corners.
+ghost use Rattle.std.specs.Prelude.{◌≡◌, ◌≢◌, OnOk, AllPairs, IsPermutation};
+ghost use Rattle.triangulate_run.specs.Corners.{least_first, IsBefore};
+
+use std::alloc::AllocError;
+
+/// A face by the indexes of its vertices, in left-turning order, the least index first.
+#[derive(Clone, Copy, Debug, PartialEq, Eq, PartialOrd, Ord)]
+pub struct Corners {
+    pub first: u64,
+    pub second: u64,
+    pub third: u64,
+}
+
+/// The corners from the least index on, in the same turning order.
+pub(crate) fn from_least(a: u64, b: u64, c: u64) -> Corners
+    ensures { result ≡ least_first a b c }
+{
+    let (first, second, third) = if a < b && a < c {
+        (a, b, c)
+    } else if b < c {
+        (b, c, a)
+    } else {
+        (c, a, b)
+    };
+    Corners {
+        first,
+        second,
+        third,
+    }
+}
+
+/// Sorts faces by their three numbers.
+pub(crate) fn sort_faces(faces: &mut Vec<Corners>) -> Result<(), AllocError>
+    ensures permutation { IsPermutation faces.old.items faces.new.items }
+    ensures sorted { OnOk result (AllPairs (λ c d. c ≢ d) faces.old.items → AllPairs IsBefore faces.new.items) }
+{
+    faces.sort()
+}
