@@ -1,14 +1,13 @@
 -- The faces of a tiling, each from its least corner on: all of them, and no two the same.
-use Rattle.std.proofs.Common.{◌≡◌, ◌≢◌, ℕ, ◌<◌, ◌≤◌, Bool, true, false, ◌&&◌, ◌⊎◌, inl, inr, List, [], length, map, get_or, refl, sym, ◌∙◌, ap, subst, arith, ltb, lt-ltb, le-ltb}
-use Rattle.std.specs.Prelude.{ℤ, pos, ◌<ℤ◌, ◌+ℤ◌, ◌*ℤ◌, AllPairs, Contains, IsPermutation}
+use Rattle.std.proofs.Common.{◌≡◌, ◌≢◌, ℕ, ◌<◌, ◌≤◌, Bool, true, false, ◌&&◌, ◌⊎◌, inl, inr, List, length, map, get_or, refl, sym, ◌∙◌, ap, subst, arith, ltb, lt-ltb, le-ltb}
+use Rattle.std.specs.Prelude.{ℤ, pos, ◌+ℤ◌, ◌*ℤ◌, AllPairs, Contains, IsPermutation}
 use Rattle.std.proofs.lemmas.Int.{ints}
-use Rattle.std.proofs.lemmas.Bool.Decides.{nat_tests}
 use Rattle.std.proofs.lemmas.List.{get_or-map, get_or_default, length-map}
 use Rattle.std.proofs.lemmas.List.Sorted.{IsPermutation-sym, Contains-permutation}
 use Rattle.std.proofs.lemmas.Bool.{cases_lt}
-use Rattle.plane.specs.Fraction.{Fraction, IsPositive, InsideTriangle}
+use Rattle.plane.specs.Fraction.{Fraction, IsPositive}
 use Rattle.plane.specs.Side.{Side, left, right, on, side, opposite, TurnsLeft}
-use Rattle.plane.specs.Tiling.{Face, Triangulation, IsFace, InsideCorners, AreApart, IsTiling, TilesHull, JoinsLine, face, vertex}
+use Rattle.plane.specs.Tiling.{Face, Triangulation, IsFace, InsideCorners, AreApart, IsTiling, JoinsLine, face, vertex}
 use Rattle.plane.proofs.Means.{mean_of_three}
 use Rattle.plane.proofs.Sides.{side_swapped, side_turned}
 use Rattle.plane.proofs.Triangles.{turned_inside}

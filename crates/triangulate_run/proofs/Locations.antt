@@ -1,17 +1,16 @@
 -- Where a point is, as the replies write it: the lesser end first, the least corner first.
-use Rattle.std.proofs.Common.{◌≡◌, ◌≢◌, ℕ, ◌<◌, ◌≤◌, ◌⊎◌, inl, inr, List, length, arith, ◌∙◌, sym}
+use Rattle.std.proofs.Common.{◌≡◌, ◌≢◌, ℕ, inl, inr, length, arith, sym}
 use Rattle.std.specs.Prelude.{ℤ, ◌+ℤ◌, ◌*ℤ◌}
 use Rattle.std.proofs.lemmas.Int.{ints}
-use Rattle.std.proofs.lemmas.Bool.{cases_lt}
 use Rattle.plane.specs.Fraction.{Fraction, IsPositive, WithinSegment}
-use Rattle.plane.specs.Pairs.{Joins, EachPairOnce}
-use Rattle.plane.specs.Tiling.{Triangulation, IsEdge, IsFace, IsTiling, vertex}
+use Rattle.plane.specs.Pairs.{EachPairOnce}
+use Rattle.plane.specs.Tiling.{Triangulation, IsEdge, IsTiling, vertex}
 use Rattle.plane.specs.Location.{IsLocation, on_edge, on_face}
 use Rattle.plane.proofs.Means.{two_weights, mean_of_two}
 use Rattle.plane.proofs.Triangles.{turned_inside}
-use Rattle.triangulate_run.specs.Corners.{corners, least_first}
+use Rattle.triangulate_run.specs.Corners.{least_first}
 use Rattle.triangulate_run.specs.Answer.{AreSoMany}
-use Rattle.triangulate_run.proofs.FaceList.{Least, is_first, is_second, is_third, least, first_least, second_least, third_least, turned_face, differ}
+use Rattle.triangulate_run.proofs.FaceList.{is_first, is_second, is_third, least, first_least, second_least, third_least, turned_face, differ}
 
 swapped_sum : (n x y : ℤ) → n ≡ x +ℤ y → n ≡ y +ℤ x
 swapped_sum n x y e = omega (arith, ints)

@@ -1,5 +1,5 @@
 -- Different faces that are sorted come strictly one before another.
-use Rattle.std.proofs.Common.{◌≡◌, ◌≢◌, ℕ, zero, suc, ◌+◌, ◌-◌, ◌<◌, ◌≤◌, Bool, true, false, ◌&&◌, eqb, List, length, get_or, ◌∙◌, ap, arith, subst, inl, inr, Result, Ok, Err}
+use Rattle.std.proofs.Common.{◌≡◌, ◌≢◌, ℕ, zero, suc, ◌+◌, ◌-◌, ◌<◌, Bool, false, ◌&&◌, eqb, List, length, get_or, ◌∙◌, ap, arith, subst, Result, Ok, Err}
 use Rattle.std.specs.Prelude.{AllPairs, IsPermutation, IsSorted, OnOk, Decides}
 use Rattle.std.specs.Ordering.{is_lt}
 use Rattle.std.proofs.lemmas.Bool.{and_parts, and_from}

@@ -1,4 +1,3 @@
-use Rattle.triangulate_run.proofs.Locations.{edges_counted, ends_differ, on_face_from_least, on_edge_back}
 use Rattle.triangulate_run.proofs.SortedFaces.{sorted_rises}
 use Rattle.triangulate_run.proofs.corners.sort_faces.Goals as goal
 
