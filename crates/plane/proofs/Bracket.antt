@@ -5,6 +5,7 @@ use mathlib.Core.List.{[], ◌∷◌}
 use Rattle.plane.specs.Fraction.{Point, Fraction}
 use Rattle.plane.proofs.Solver.{Poly, var, num, ◌⊕◌, ◌⊖◌, ◌⊗◌, Shape}
 
+-- (x, y, w): the point (x / w, y / w) where w is positive
 pub record Vec3 : Type 0 where
   pub x : ℤ
   pub y : ℤ
@@ -28,6 +29,7 @@ pub record Vec3ᵖ : Type 0 where
   pub y : Poly
   pub w : Poly
 
+-- the bracket
 abbrev pub bracketᵖ : Vec3ᵖ → Vec3ᵖ → Vec3ᵖ → Poly
 bracketᵖ a b c = a.x ⊗ (b.y ⊗ c.w ⊖ b.w ⊗ c.y) ⊖ a.y ⊗ (b.x ⊗ c.w ⊖ b.w ⊗ c.x) ⊕ a.w ⊗ (b.x ⊗ c.y ⊖ b.y ⊗ c.x)
 
@@ -40,8 +42,10 @@ pub record Pointᵖ : Type 0 where
   pub x : Poly
   pub y : Poly
 
+-- identities over points of the code: ring_over points ks ps f g tt
 abbrev pub points : Shape
 points = record { Value = Point; Syntax = Pointᵖ; width = 2; flat = λ a. a.x ∷ a.y ∷ []; fresh = λ i. record { x = var i; y = var (i + 1) } }
 
+-- a point of the code
 abbrev pub liftᵖ : Pointᵖ → Vec3ᵖ
 liftᵖ p = record { x = p.x; y = p.y; w = num 1 }

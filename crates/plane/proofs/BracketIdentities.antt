@@ -11,6 +11,7 @@ pub bracket-swap : (a b c : Vec3) → bracket a b c ≡ neg_ℤ (bracket b a c)
 unfolding bracket
 bracket-swap a b c = ring_over vec3 [] (a ∷ b ∷ c ∷ []) bracketᵖ (λ a b c. ⊝ (bracketᵖ b a c)) tt
 
+-- the three points turned
 pub bracket-turn : (a b c : Vec3) → bracket a b c ≡ bracket b c a
 unfolding bracket
 bracket-turn a b c = ring_over vec3 [] (a ∷ b ∷ c ∷ []) bracketᵖ (λ a b c. bracketᵖ b c a) tt
@@ -20,10 +21,12 @@ pub bracket-same : (a b : Vec3) → bracket a a b ≡ pos 0
 unfolding bracket
 bracket-same a b = ring_over vec3 [] (a ∷ b ∷ []) (λ a b. bracketᵖ a a b) (λ a b. num 0) tt
 
+-- the first and the last
 pub bracket-outer : (a b : Vec3) → bracket a b a ≡ pos 0
 unfolding bracket
 bracket-outer a b = ring_over vec3 [] (a ∷ b ∷ []) (λ a b. bracketᵖ a b a) (λ a b. num 0) tt
 
+-- the last two
 pub bracket-last : (a b : Vec3) → bracket a b b ≡ pos 0
 unfolding bracket
 bracket-last a b = ring_over vec3 [] (a ∷ b ∷ []) (λ a b. bracketᵖ a b b) (λ a b. num 0) tt
@@ -36,23 +39,28 @@ mix k a m d = record { x = k *ℤ a.x +ℤ m *ℤ d.x; y = k *ℤ a.y +ℤ m *�
 abbrev mixᵖ : Poly → Vec3ᵖ → Poly → Vec3ᵖ → Vec3ᵖ
 mixᵖ k a m d = record { x = k ⊗ a.x ⊕ m ⊗ d.x; y = k ⊗ a.y ⊕ m ⊗ d.y; w = k ⊗ a.w ⊕ m ⊗ d.w }
 
+-- in the last place; turn the bracket for the others
 pub bracket-mix : (a b : Vec3) (k : ℤ) (c : Vec3) (m : ℤ) (d : Vec3) → bracket a b (mix k c m d) ≡ k *ℤ bracket a b c +ℤ m *ℤ bracket a b d
 unfolding bracket
 bracket-mix a b k c m d = ring_over vec3 (k ∷ m ∷ []) (a ∷ b ∷ c ∷ d ∷ []) (λ k m a b c d. bracketᵖ a b (mixᵖ k c m d)) (λ k m a b c d. k ⊗ bracketᵖ a b c ⊕ m ⊗ bracketᵖ a b d) tt
 
 -- ---- Cramer's rule: by coordinates, and seen from a line
+-- x
 pub cramer_x : (a b c p : Vec3) → bracket a b c *ℤ p.x ≡ bracket b c p *ℤ a.x +ℤ bracket c a p *ℤ b.x +ℤ bracket a b p *ℤ c.x
 unfolding bracket
 cramer_x a b c p = ring_over vec3 [] (a ∷ b ∷ c ∷ p ∷ []) (λ a b c p. bracketᵖ a b c ⊗ p.x) (λ a b c p. bracketᵖ b c p ⊗ a.x ⊕ bracketᵖ c a p ⊗ b.x ⊕ bracketᵖ a b p ⊗ c.x) tt
 
+-- y
 pub cramer_y : (a b c p : Vec3) → bracket a b c *ℤ p.y ≡ bracket b c p *ℤ a.y +ℤ bracket c a p *ℤ b.y +ℤ bracket a b p *ℤ c.y
 unfolding bracket
 cramer_y a b c p = ring_over vec3 [] (a ∷ b ∷ c ∷ p ∷ []) (λ a b c p. bracketᵖ a b c ⊗ p.y) (λ a b c p. bracketᵖ b c p ⊗ a.y ⊕ bracketᵖ c a p ⊗ b.y ⊕ bracketᵖ a b p ⊗ c.y) tt
 
+-- the weight
 pub cramer_w : (a b c p : Vec3) → bracket a b c *ℤ p.w ≡ bracket b c p *ℤ a.w +ℤ bracket c a p *ℤ b.w +ℤ bracket a b p *ℤ c.w
 unfolding bracket
 cramer_w a b c p = ring_over vec3 [] (a ∷ b ∷ c ∷ p ∷ []) (λ a b c p. bracketᵖ a b c ⊗ p.w) (λ a b c p. bracketᵖ b c p ⊗ a.w ⊕ bracketᵖ c a p ⊗ b.w ⊕ bracketᵖ a b p ⊗ c.w) tt
 
+-- seen from the line s t
 pub cramer : (a b c p s t : Vec3) → bracket a b c *ℤ bracket s t p ≡ bracket b c p *ℤ bracket s t a +ℤ bracket c a p *ℤ bracket s t b +ℤ bracket a b p *ℤ bracket s t c
 unfolding bracket
 cramer a b c p s t = ring_over vec3 [] (a ∷ b ∷ c ∷ p ∷ s ∷ t ∷ []) (λ a b c p s t. bracketᵖ a b c ⊗ bracketᵖ s t p) (λ a b c p s t. bracketᵖ b c p ⊗ bracketᵖ s t a ⊕ bracketᵖ c a p ⊗ bracketᵖ s t b ⊕ bracketᵖ a b p ⊗ bracketᵖ s t c) tt
@@ -74,6 +82,7 @@ form l m n p = l *ℤ p.x +ℤ m *ℤ p.y +ℤ n *ℤ p.w
 abbrev formᵖ : Poly → Poly → Poly → Vec3ᵖ → Poly
 formᵖ l m n p = l ⊗ p.x ⊕ m ⊗ p.y ⊕ n ⊗ p.w
 
+-- for the form l x + m y + n w
 pub four_terms : (l m n : ℤ) (a b c d : Vec3) → bracket a b c *ℤ form l m n d -ℤ bracket a b d *ℤ form l m n c +ℤ bracket a c d *ℤ form l m n b -ℤ bracket b c d *ℤ form l m n a ≡ pos 0
 unfolding bracket
 four_terms l m n a b c d = ring_over vec3 (l ∷ m ∷ n ∷ []) (a ∷ b ∷ c ∷ d ∷ [])
@@ -85,14 +94,17 @@ pub passing : (u v x s t q : Vec3) → bracket x s q *ℤ bracket u v t -ℤ bra
 unfolding bracket
 passing u v x s t q = ring_over vec3 [] (u ∷ v ∷ x ∷ s ∷ t ∷ q ∷ []) (λ u v x s t q. bracketᵖ x s q ⊗ bracketᵖ u v t ⊖ bracketᵖ x t q ⊗ bracketᵖ u v s) (λ u v x s t q. bracketᵖ x s t ⊗ bracketᵖ u v q ⊖ bracketᵖ s t q ⊗ bracketᵖ u v x) tt
 
+-- by x
 pub passing_x : (x s t q : Vec3) → bracket x s q *ℤ t.x -ℤ bracket x t q *ℤ s.x ≡ bracket x s t *ℤ q.x -ℤ bracket s t q *ℤ x.x
 unfolding bracket
 passing_x x s t q = ring_over vec3 [] (x ∷ s ∷ t ∷ q ∷ []) (λ x s t q. bracketᵖ x s q ⊗ t.x ⊖ bracketᵖ x t q ⊗ s.x) (λ x s t q. bracketᵖ x s t ⊗ q.x ⊖ bracketᵖ s t q ⊗ x.x) tt
 
+-- by y
 pub passing_y : (x s t q : Vec3) → bracket x s q *ℤ t.y -ℤ bracket x t q *ℤ s.y ≡ bracket x s t *ℤ q.y -ℤ bracket s t q *ℤ x.y
 unfolding bracket
 passing_y x s t q = ring_over vec3 [] (x ∷ s ∷ t ∷ q ∷ []) (λ x s t q. bracketᵖ x s q ⊗ t.y ⊖ bracketᵖ x t q ⊗ s.y) (λ x s t q. bracketᵖ x s t ⊗ q.y ⊖ bracketᵖ s t q ⊗ x.y) tt
 
+-- by the weight
 pub passing_w : (x s t q : Vec3) → bracket x s q *ℤ t.w -ℤ bracket x t q *ℤ s.w ≡ bracket x s t *ℤ q.w -ℤ bracket s t q *ℤ x.w
 unfolding bracket
 passing_w x s t q = ring_over vec3 [] (x ∷ s ∷ t ∷ q ∷ []) (λ x s t q. bracketᵖ x s q ⊗ t.w ⊖ bracketᵖ x t q ⊗ s.w) (λ x s t q. bracketᵖ x s t ⊗ q.w ⊖ bracketᵖ s t q ⊗ x.w) tt
@@ -113,6 +125,7 @@ pub bracket_at_x : (s t : Point) → bracket (lift s) (lift t) (record { x = pos
 unfolding bracket
 bracket_at_x s t = ring_over points [] (s ∷ t ∷ []) (λ s t. bracketᵖ (liftᵖ s) (liftᵖ t) (record { x = num 1; y = num 0; w = num 0 })) (λ s t. s.y ⊖ t.y) tt
 
+-- the other coordinate
 pub bracket_at_y : (s t : Point) → bracket (lift s) (lift t) (record { x = pos 0; y = pos 1; w = pos 0 }) ≡ t.x -ℤ s.x
 unfolding bracket
 bracket_at_y s t = ring_over points [] (s ∷ t ∷ []) (λ s t. bracketᵖ (liftᵖ s) (liftᵖ t) (record { x = num 0; y = num 1; w = num 0 })) (λ s t. t.x ⊖ s.x) tt

@@ -20,6 +20,7 @@ use Rattle.plane.proofs.Centre.{over, lifted, overᵖ, gaps, centre, centre_is_c
 abbrev pub height : Vec3 → ℤ
 height p = p.x *ℤ p.x +ℤ p.y *ℤ p.y
 
+-- the same in the solver's syntax
 abbrev pub heightᵖ : Vec3ᵖ → Poly
 heightᵖ p = p.x ⊗ p.x ⊕ p.y ⊗ p.y
 
@@ -28,10 +29,12 @@ unfoldable pub incircle : Vec3 → Vec3 → Vec3 → Vec3 → ℤ
 unfolding bracket
 incircle a b c d = bracket b c d *ℤ height a +ℤ bracket c a d *ℤ height b +ℤ bracket a b d *ℤ height c -ℤ bracket a b c *ℤ height d
 
+-- the same in the solver's syntax
 abbrev pub incircleᵖ : Vec3ᵖ → Vec3ᵖ → Vec3ᵖ → Vec3ᵖ → Poly
 incircleᵖ a b c d = bracketᵖ b c d ⊗ heightᵖ a ⊕ bracketᵖ c a d ⊗ heightᵖ b ⊕ bracketᵖ a b d ⊗ heightᵖ c ⊖ bracketᵖ a b c ⊗ heightᵖ d
 
 -- ---- identities
+-- the corners turned
 pub incircle-turn : (a b c d : Vec3) → incircle b c a d ≡ incircle a b c d
 unfolding incircle
 incircle-turn a b c d = ring_over vec3 [] (a ∷ b ∷ c ∷ d ∷ []) (λ a b c d. incircleᵖ b c a d) incircleᵖ tt
@@ -46,10 +49,12 @@ pub incircle-first : (a b c : Vec3) → incircle a b c a ≡ pos 0
 unfolding incircle
 incircle-first a b c = ring_over vec3 [] (a ∷ b ∷ c ∷ []) (λ a b c. incircleᵖ a b c a) (λ a b c. num 0) tt
 
+-- the second
 pub incircle-second : (a b c : Vec3) → incircle a b c b ≡ pos 0
 unfolding incircle
 incircle-second a b c = ring_over vec3 [] (a ∷ b ∷ c ∷ []) (λ a b c. incircleᵖ a b c b) (λ a b c. num 0) tt
 
+-- the third
 pub incircle-third : (a b c : Vec3) → incircle a b c c ≡ pos 0
 unfolding incircle
 incircle-third a b c = ring_over vec3 [] (a ∷ b ∷ c ∷ []) (λ a b c. incircleᵖ a b c c) (λ a b c. num 0) tt
@@ -130,16 +135,19 @@ squaredᵖ q p = (p.x ⊖ q.x) ⊗ (p.x ⊖ q.x) ⊕ (p.y ⊖ q.y) ⊗ (p.y ⊖ 
 abbrev turnᵖ : Pointᵖ → Pointᵖ → Pointᵖ → Poly
 turnᵖ q u v = (u.x ⊖ q.x) ⊗ (v.y ⊖ q.y) ⊖ (u.y ⊖ q.y) ⊗ (v.x ⊖ q.x)
 
+-- both determinants are one
 pub determinant_is_incircle : (u v p q : Point) → lifted_determinant u v p q ≡ incircle (lift u) (lift v) (lift p) (lift q)
 unfolding incircle bracket
 determinant_is_incircle u v p q = ring_over points [] (u ∷ v ∷ p ∷ q ∷ [])
     (λ u v p q. squaredᵖ q u ⊗ turnᵖ q v p ⊕ squaredᵖ q v ⊗ turnᵖ q p u ⊕ squaredᵖ q p ⊗ turnᵖ q u v)
     (λ u v p q. incircleᵖ (wholeᵖ u) (wholeᵖ v) (wholeᵖ p) (wholeᵖ q)) tt
 
+-- inside: it is positive
 pub inside_is_determinant : (u v p q : Point) → TurnsLeft (whole u) (whole v) (whole p) → InsideCircle (whole u) (whole v) (whole p) (whole q) ↔ (pos 0 <ℤ lifted_determinant u v p q)
 inside_is_determinant u v p q turns = let e = determinant_is_incircle u v p q in let i = inside_is_incircle u v p q turns in
     ((λ s. subst (λ z. pos 0 <ℤ z) (sym e) (i.0 s)), (λ h. i.1 (subst (λ z. pos 0 <ℤ z) e h)))
 
+-- carried: it is 0
 pub on_is_determinant : (u v p q : Point) → TurnsLeft (whole u) (whole v) (whole p) → OnCircle (whole u) (whole v) (whole p) (whole q) ↔ (lifted_determinant u v p q ≡ pos 0)
 on_is_determinant u v p q turns = let e = determinant_is_incircle u v p q in let i = on_is_incircle u v p q turns in
     ((λ s. e ∙ i.0 s), (λ h. i.1 (sym e ∙ h)))

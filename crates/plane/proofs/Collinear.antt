@@ -16,10 +16,12 @@ use Rattle.plane.proofs.Nudges.{moved}
 unfoldable pub place_on : Point → Point → Vec3 → ℤ
 place_on u v z = (v.x -ℤ u.x) *ℤ (z.x -ℤ z.w *ℤ u.x) +ℤ (v.y -ℤ u.y) *ℤ (z.y -ℤ z.w *ℤ u.y)
 
+-- the place of u is 0
 pub place_of_start : (u v : Point) → place_on u v (lift u) ≡ pos 0
 unfolding place_on
 place_of_start u v = ring_over points [] (u ∷ v ∷ []) (λ u v. (v.x ⊖ u.x) ⊗ (u.x ⊖ num 1 ⊗ u.x) ⊕ (v.y ⊖ u.y) ⊗ (u.y ⊖ num 1 ⊗ u.y)) (λ u v. num 0) tt
 
+-- of a point moved a little
 pub place-moved : (u v : Point) (n : ℤ) (q d : Vec3) → place_on u v (moved n q d) ≡ n *ℤ place_on u v q +ℤ place_on u v d
 unfolding place_on
 place-moved u v n q d = ring_in (u.x ∷ u.y ∷ v.x ∷ v.y ∷ n ∷ q.x ∷ q.y ∷ q.w ∷ d.x ∷ d.y ∷ d.w ∷ [])

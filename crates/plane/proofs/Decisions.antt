@@ -19,25 +19,30 @@ use Rattle.plane.proofs.Triangles.{inside_is_brackets, in_is_brackets}
 use Rattle.plane.proofs.Circles.{incircle, inside_is_incircle, on_is_incircle}
 use Rattle.plane.specs.Side.{run, rise}
 
+-- a question with its answer
 abbrev pub Decision : Type 0 → Type 0
 Decision X = X ⊎ ¬ X
 
 -- ---- answers from answers
+-- a question that stands for another
 pub decided_by : {X Y : Type 0} → X ↔ Y → Decision Y → Decision X
 decided_by e (inl y) = inl (e.1 y)
 decided_by e (inr n) = inr (λ x. n (e.0 x))
 
+-- two at once
 pub decide_both : {X Y : Type 0} → Decision X → Decision Y → Decision (X × Y)
 decide_both (inl x) (inl y) = inl (x, y)
 decide_both (inl x) (inr n) = inr (λ s. n s.1)
 decide_both (inr n) d = inr (λ s. n s.0)
 
+-- three at once
 pub decide_all_three : {X Y Z : Type 0} → Decision X → Decision Y → Decision Z → Decision (X × Y × Z)
 decide_all_three (inl x) (inl y) (inl z) = inl (x, y, z)
 decide_all_three (inl x) (inl y) (inr n) = inr (λ s. n s.2)
 decide_all_three (inl x) (inr n) d = inr (λ s. n s.1)
 decide_all_three (inr n) d e = inr (λ s. n s.0)
 
+-- one of two
 pub decide_either : {X Y : Type 0} → Decision X → Decision Y → Decision (X ⊎ Y)
 decide_either (inl x) d = inl (inl x)
 decide_either (inr n) (inl y) = inl (inr y)
@@ -59,6 +64,7 @@ find_below {P} (suc n) d = last (find_below n d) (d n)
         each : (i : ℕ) → i < suc n → ¬ P i
         each i h p = elim (cases i h) [ inl l ↦ f i l p | inr e ↦ m (subst P e p) ]
 
+-- whether some index below n has the property
 pub decide_some_below : {P : ℕ → Type 0} (n : ℕ) → ((i : ℕ) → Decision (P i)) → Decision ((i : ℕ) × (i < n) × P i)
 decide_some_below {P} n d = of (find_below n d)
   where
@@ -67,22 +73,28 @@ decide_some_below {P} n d = of (find_below n d)
     of (inr f) = inr (λ s. f s.0 s.1 s.2)
 
 -- ---- whole numbers
+-- a number is 0, or not
 pub decide_zero : (z : ℤ) → Decision (z ≡ pos 0)
 decide_zero z = elim (sign z) [ below h ↦ inr (λ e. right_not_zero h e) | none h ↦ inl h | above h ↦ inr (λ e. left_not_zero h e) ]
 
+-- a is below b, or not
 pub decide_below : (a b : ℤ) → Decision (a <ℤ b)
 decide_below a b = elim (lt_or_ge_ℤ a b) [ inl h ↦ inl h | inr h ↦ inr (λ k. omega (arith, ints)) ]
 
+-- a is at most b, or not
 pub decide_at_most : (a b : ℤ) → Decision (a ≤ℤ b)
 decide_at_most a b = elim (lt_or_ge_ℤ b a) [ inl h ↦ inr (λ k. omega (arith, ints)) | inr h ↦ inl h ]
 
+-- one of two signs is positive and the other negative, or not
 pub decide_opposite : (a b : ℤ) → Decision (AreOpposite a b)
 decide_opposite a b = decide_either (decide_both (decide_below a (pos 0)) (decide_below (pos 0) b)) (decide_both (decide_below (pos 0) a) (decide_below b (pos 0)))
 
+-- two numbers are not both positive, nor both negative, or they are
 pub decide_parted : (a b : ℤ) → Decision (AreParted a b)
 decide_parted a b = decide_either (decide_both (decide_at_most a (pos 0)) (decide_at_most (pos 0) b)) (decide_both (decide_at_most (pos 0) a) (decide_at_most b (pos 0)))
 
 -- ---- points
+-- two fraction points are one, or not
 pub decide_same : (p q : Fraction) → Decision (IsSame p q)
 decide_same p q = decided_by (same_is_no_way p q) (decide_both (decide_zero (run p q)) (decide_zero (rise p q)))
 
@@ -117,9 +129,11 @@ pub decide_at_vertex : (points : List Point) (p : Fraction) → ((i : ℕ) × Is
 decide_at_vertex points p = find_below (length points) (λ i. decide_same p (place points i))
 
 -- ---- segments
+-- a point is on the line of two others, or not
 pub decide_on_line : (u v p : Fraction) → Decision (OnLine u v p)
 decide_on_line u v p = decided_by (bracket_of_line u v p, line_of_bracket u v p) (decide_zero (bracket (vec u) (vec v) (vec p)))
 
+-- on the closed segment, or not
 pub decide_on_segment : (u v p : Fraction) → Decision (OnSegment u v p)
 decide_on_segment u v p = go (decide_same u v)
   where
@@ -127,6 +141,7 @@ decide_on_segment u v p = go (decide_same u v)
     go (inl e) = decided_by (only_point u v p e, λ d. on_of_within u v p (within_itself u v p e d)) (decide_same p u)
     go (inr n) = decided_by (on_segment_is u v p n) (decide_all_three (decide_zero (bracket (vec u) (vec v) (vec p))) (decide_at_most (pos 0) (reach u v p)) (decide_at_most (reach u v p *ℤ v.w) (reach u v v *ℤ p.w)))
 
+-- strictly within the segment, or not
 pub decide_within_segment : (u v p : Fraction) → Decision (WithinSegment u v p)
 decide_within_segment u v p = go (decide_same u v)
   where
@@ -155,6 +170,7 @@ decide_meets_within s t u v = go (decide_same s t) (decide_same u v)
         (decide_both (decide_opposite (bracket (vec s) (vec t) (vec u)) (bracket (vec s) (vec t) (vec v))) (decide_parted (bracket (vec u) (vec v) (vec s)) (bracket (vec u) (vec v) (vec t))))
 
 -- ---- triangles and circles of left-turning triples
+-- three points turn left, or not
 pub decide_turns_left : (u v p : Fraction) → Decision (TurnsLeft u v p)
 decide_turns_left u v p = by (side u v p) refl
   where
@@ -163,17 +179,21 @@ decide_turns_left u v p = by (side u v p) refl
     by right e = inr (λ h. absurd (let z = sym e ∙ h in cc))
     by on e = inr (λ h. absurd (let z = sym e ∙ h in cc))
 
+-- a point is strictly inside the triangle, or not
 pub decide_inside_triangle : (a b c p : Fraction) → TurnsLeft a b c → Decision (InsideTriangle a b c p)
 decide_inside_triangle a b c p turns = decided_by (inside_is_brackets a b c p (if_left a b c turns))
     (decide_all_three (decide_below (pos 0) (bracket (vec a) (vec b) (vec p))) (decide_below (pos 0) (bracket (vec b) (vec c) (vec p))) (decide_below (pos 0) (bracket (vec c) (vec a) (vec p))))
 
+-- in the closed triangle, or not
 pub decide_in_triangle : (a b c p : Fraction) → TurnsLeft a b c → Decision (InTriangle a b c p)
 decide_in_triangle a b c p turns = decided_by (in_is_brackets a b c p (if_left a b c turns))
     (decide_all_three (decide_at_most (pos 0) (bracket (vec a) (vec b) (vec p))) (decide_at_most (pos 0) (bracket (vec b) (vec c) (vec p))) (decide_at_most (pos 0) (bracket (vec c) (vec a) (vec p))))
 
+-- inside the circle, or not
 pub decide_inside_circle : (u v p q : Point) → TurnsLeft (whole u) (whole v) (whole p) → Decision (InsideCircle (whole u) (whole v) (whole p) (whole q))
 decide_inside_circle u v p q turns = decided_by (inside_is_incircle u v p q turns) (decide_below (pos 0) (incircle (lift u) (lift v) (lift p) (lift q)))
 
+-- carried by the circle, or not
 pub decide_on_circle : (u v p q : Point) → TurnsLeft (whole u) (whole v) (whole p) → Decision (OnCircle (whole u) (whole v) (whole p) (whole q))
 decide_on_circle u v p q turns = decided_by (on_is_incircle u v p q turns) (decide_zero (incircle (lift u) (lift v) (lift p) (lift q)))
 
@@ -187,6 +207,7 @@ HasSecond points i = (j : ℕ) × (j < length points) × HasThird points i j
 decide_triple_from : (points : List Point) (i : ℕ) → Decision (HasSecond points i)
 decide_triple_from points i = decide_some_below (length points) (λ j. decide_some_below (length points) (λ k. decide_turns_left (place points i) (place points j) (place points k)))
 
+-- the triple by indexes, or that each triple is on one line
 pub decide_spread : (points : List Point)
     → ((i j k : ℕ) × IsIndex points i × IsIndex points j × IsIndex points k × TurnsLeft (place points i) (place points j) (place points k))
     ⊎ ((i j k : ℕ) → IsIndex points i → IsIndex points j → IsIndex points k → side (place points i) (place points j) (place points k) ≡ on)

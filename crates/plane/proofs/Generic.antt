@@ -15,12 +15,15 @@ pub record Inside (a b c q : Vec3) : Type 0 where
   pub second : pos 0 <ℤ bracket b c q
   pub third : pos 0 <ℤ bracket c a q
 
+-- of the triangle turned
 pub inside-turned : {a b c q : Vec3} → Inside a b c q → Inside b c a q
 inside-turned i = record { first = i.second; second = i.third; third = i.first }
 
+-- the first n points differ
 abbrev pub AreDistinct : ℕ → (ℕ → Point) → Type 0
 AreDistinct n p = (i j : ℕ) → i < n → j < n → i ≢ j → ¬ (p i ≡ p j)
 
+-- q is on no line of two of the first n points
 pub record IsGeneric (n : ℕ) (p : ℕ → Point) (q : Vec3) : Type 0 where
   pub weight : pos 0 <ℤ q.w
   pub off : (s t : ℕ) → s < n → t < n → s ≢ t → ¬ (bracket (lift (p s)) (lift (p t)) q ≡ pos 0)

@@ -70,6 +70,7 @@ one_ratio k l m o a b n e d = go (sign a) (sign b)
     go (none h) (above i) = by_second (λ z. left_not_zero i z)
     go (none h) (none i) = absurd (n (h, i))
 
+-- so the two points are one
 pub common_is_same : (A B : ℤ → Type 0) (s t : Vec3) (u v p q : Fraction) → ¬ ((bracket s t (vec u) ≡ pos 0) × (bracket s t (vec v) ≡ pos 0)) → TwoWeights A u v p → TwoWeights B u v q → bracket s t (vec p) ≡ pos 0 → bracket s t (vec q) ≡ pos 0 → IsSame p q
 common_is_same A B s t u v p q n f g on_p on_q =
     let z = one_ratio f.k f.l g.k g.l (bracket s t (vec u)) (bracket s t (vec v)) n
@@ -204,11 +205,13 @@ swapped_parted : (a b c d : ℤ) → a ≡ neg_ℤ c → b ≡ neg_ℤ d → Are
 swapped_parted a b c d e f (inl h) = inr (omega (arith, ints, h.0), omega (arith, ints, h.1))
 swapped_parted a b c d e f (inr h) = inl (omega (arith, ints, h.0), omega (arith, ints, h.1))
 
+-- both segments are parted by the other: they cross
 pub cross_if : (s t u v : Fraction) → AreOpposite (bracket (vec s) (vec t) (vec u)) (bracket (vec s) (vec t) (vec v)) → AreOpposite (bracket (vec u) (vec v) (vec s)) (bracket (vec u) (vec v) (vec t)) → Cross s t u v
 cross_if s t u v (inr h) o = cross_there s t u v h.0 h.1 o
 cross_if s t u v (inl h) o = turned_cross s t u v (cross_there s t v u h.1 h.0
     (swapped_opposite (bracket (vec v) (vec u) (vec s)) (bracket (vec v) (vec u) (vec t)) (bracket (vec u) (vec v) (vec s)) (bracket (vec u) (vec v) (vec t)) (bracket-swap (vec v) (vec u) (vec s)) (bracket-swap (vec v) (vec u) (vec t)) o))
 
+-- the second is parted by the first, and the first not on one side of the second: they meet within the second
 pub meets_within_if : (s t u v : Fraction) → AreOpposite (bracket (vec s) (vec t) (vec u)) (bracket (vec s) (vec t) (vec v)) → AreParted (bracket (vec u) (vec v) (vec s)) (bracket (vec u) (vec v) (vec t)) → MeetsWithin s t u v
 meets_within_if s t u v (inr h) o = meets_there s t u v h.0 h.1 o
 meets_within_if s t u v (inl h) o = turned_meets s t u v (meets_there s t v u h.1 h.0
@@ -399,6 +402,7 @@ cross_at_point s t u v e = (
   (λ h. record { at = s; meet = meet_at_point s t u v e h; within_first = within_itself s t s e (same-refl s); within_second = h }),
 )
 
+-- it meets the second within where it is within the second
 pub meets_at_point : (s t u v : Fraction) → IsSame s t → MeetsWithin s t u v ↔ WithinSegment u v s
 meets_at_point s t u v e = (
   (λ c. within_segment-same u v c.at s (only_point s t c.at e c.meet.first) c.within),

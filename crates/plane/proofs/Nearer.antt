@@ -17,6 +17,7 @@ gap_of_none p = ring_in (p.x ∷ p.y ∷ p.w ∷ []) (λ x y w. (x ⊗ w ⊖ x �
 both : (k l : ℤ) → pos 0 ≤ℤ k → pos 0 ≤ℤ l → pos 0 ≤ℤ (k +ℤ l)
 both k l h i = omega (arith, ints)
 
+-- a squared distance is not negative
 pub gap_not_negative : (p q : Fraction) → pos 0 ≤ℤ gap p q
 gap_not_negative p q = both (run p q *ℤ run p q) (rise p q *ℤ rise p q) (square-nonneg_ℤ (run p q)) (square-nonneg_ℤ (rise p q))
 

@@ -23,9 +23,11 @@ same_is_no_way p q = (
   (λ z. record { x = one_number (p.x *ℤ q.w) (q.x *ℤ p.w) z.0; y = one_number (p.y *ℤ q.w) (q.y *ℤ p.w) z.1 }),
 )
 
+-- a point is the same as itself
 pub same-refl : (p : Fraction) → IsSame p p
 same-refl p = record { x = refl; y = refl }
 
+-- either way round
 pub same-sym : (p q : Fraction) → IsSame p q → IsSame q p
 same-sym p q e = record { x = sym e.x; y = sym e.y }
 
@@ -33,6 +35,7 @@ chained : (a p b q c r : ℤ) → ¬ (q ≡ pos 0) → a *ℤ q ≡ b *ℤ p →
 chained a p b q c r n e d = one_number (a *ℤ r) (c *ℤ p) (zero_of_mul-zero_ℤ {k = q} {x = c *ℤ p -ℤ a *ℤ r} n
     (ring_in_from (a ∷ p ∷ b ∷ q ∷ c ∷ r ∷ []) (λ a p b q c r. q ⊗ (c ⊗ p ⊖ a ⊗ r)) (λ a p b q c r. num 0) (λ a p b q c r. (num 0 ⊖ r, a ⊗ q, b ⊗ p) ∷ (num 0 ⊖ p, b ⊗ r, c ⊗ q) ∷ []) (e, (d, tt)) tt))
 
+-- one after another
 pub same-trans : (p q r : Fraction) → IsSame p q → IsSame q r → IsSame p r
 same-trans p q r e d = record { x = chained p.x p.w q.x q.w r.x r.w (pos-ne-zero_ℤ q.positive) e.x d.x; y = chained p.y p.w q.y q.w r.y r.w (pos-ne-zero_ℤ q.positive) e.y d.y }
 
@@ -44,6 +47,7 @@ same_part k l n a b p pw q qw e d = ring_in_from (k ∷ l ∷ n ∷ a ∷ b ∷ 
 same_weight : (k l n a b pw qw : ℤ) → n *ℤ pw ≡ k *ℤ a +ℤ l *ℤ b → (n *ℤ pw) *ℤ qw ≡ (qw *ℤ k) *ℤ a +ℤ (qw *ℤ l) *ℤ b
 same_weight k l n a b pw qw e = ring_in_from (k ∷ l ∷ n ∷ a ∷ b ∷ pw ∷ qw ∷ []) (λ k l n a b pw qw. (n ⊗ pw) ⊗ qw) (λ k l n a b pw qw. (qw ⊗ k) ⊗ a ⊕ (qw ⊗ l) ⊗ b) (λ k l n a b pw qw. (qw, n ⊗ pw, k ⊗ a ⊕ l ⊗ b) ∷ []) (e, tt) tt
 
+-- of a closed segment
 pub on_segment-same : (u v p q : Fraction) → IsSame p q → OnSegment u v p → OnSegment u v q
 on_segment-same u v p q e h = let t = two_weights IsNotNegative u v p h in
     mean_of_two IsNotNegative u v q (record {
@@ -58,6 +62,7 @@ on_segment-same u v p q e h = let t = two_weights IsNotNegative u v p h in
       w = same_weight t.k t.l t.n u.w v.w p.w q.w t.w;
     })
 
+-- within a segment
 pub within_segment-same : (u v p q : Fraction) → IsSame p q → WithinSegment u v p → WithinSegment u v q
 within_segment-same u v p q e h = let t = two_weights IsPositive u v p h in
     mean_of_two IsPositive u v q (record {
@@ -72,6 +77,7 @@ within_segment-same u v p q e h = let t = two_weights IsPositive u v p h in
       w = same_weight t.k t.l t.n u.w v.w p.w q.w t.w;
     })
 
+-- what is strictly within a segment is on it
 pub on_of_within : (u v p : Fraction) → WithinSegment u v p → OnSegment u v p
 on_of_within u v p h = mean_of_two IsNotNegative u v p (weak_two u v p (two_weights IsPositive u v p h))
 
@@ -82,6 +88,7 @@ start_part a b = ring_in (a ∷ b ∷ []) (λ a b. num 1 ⊗ a) (λ a b. num 1 �
 end_part : (a b : ℤ) → pos 1 *ℤ b ≡ pos 0 *ℤ a +ℤ pos 1 *ℤ b
 end_part a b = ring_in (a ∷ b ∷ []) (λ a b. num 1 ⊗ b) (λ a b. num 0 ⊗ a ⊕ num 1 ⊗ b) tt
 
+-- the start is on the segment
 pub start_on_segment : (u v : Fraction) → OnSegment u v u
 start_on_segment u v = mean_of_two IsNotNegative u v u (record {
   k = pos 1;
@@ -95,6 +102,7 @@ start_on_segment u v = mean_of_two IsNotNegative u v u (record {
   w = start_part u.w v.w;
 })
 
+-- the end is on the segment
 pub end_on_segment : (u v : Fraction) → OnSegment u v v
 end_on_segment u v = mean_of_two IsNotNegative u v v (record {
   k = pos 0;
@@ -113,6 +121,7 @@ one_part : (k l n a aw b bw p pw : ℤ) → n *ℤ p ≡ k *ℤ a +ℤ l *ℤ b 
 one_part k l n a aw b bw p pw e d c = ring_in_from (k ∷ l ∷ n ∷ a ∷ aw ∷ b ∷ bw ∷ p ∷ pw ∷ []) (λ k l n a aw b bw p pw. n ⊗ (a ⊗ pw ⊖ p ⊗ aw)) (λ k l n a aw b bw p pw. num 0)
     (λ k l n a aw b bw p pw. (num 0 ⊖ aw, n ⊗ p, k ⊗ a ⊕ l ⊗ b) ∷ (a, n ⊗ pw, k ⊗ aw ⊕ l ⊗ bw) ∷ (l, a ⊗ bw, b ⊗ aw) ∷ []) (e, (d, (c, tt))) tt
 
+-- each of its points is that one
 pub only_point : (u v p : Fraction) → IsSame u v → OnSegment u v p → IsSame p u
 only_point u v p e h = let t = two_weights IsNotNegative u v p h in record {
   x = one_number (p.x *ℤ u.w) (u.x *ℤ p.w) (zero_of_mul-zero_ℤ (pos-ne-zero_ℤ t.positive) (one_part t.k t.l t.n u.x u.w v.x v.w p.x p.w t.x t.w e.x));
@@ -153,6 +162,7 @@ riseᵖ p q = q.y ⊗ p.w ⊖ p.y ⊗ q.w
 abbrev reachᵖ : Vec3ᵖ → Vec3ᵖ → Vec3ᵖ → Poly
 reachᵖ u v z = runᵖ u v ⊗ runᵖ u z ⊕ riseᵖ u v ⊗ riseᵖ u z
 
+-- the start is at 0
 pub reach-start : (u v : Fraction) → reach u v u ≡ pos 0
 unfolding reach
 reach-start u v = ring_over vec3 [] (vec u ∷ vec v ∷ []) (λ u v. reachᵖ u v u) (λ u v. num 0) tt
@@ -215,6 +225,7 @@ weights_w l r u v z = ring_in (l ∷ r ∷ u ∷ v ∷ z ∷ []) (λ l r u v z. 
 abbrev pub IsWhole : ℤ → Type 0
 IsWhole k = Unit {0}
 
+-- so under a condition on weights that these meet, it is a mean of u and v
 pub line_weights : (A : ℤ → Type 0) (u v z : Fraction) → ¬ IsSame u v → bracket (vec u) (vec v) (vec z) ≡ pos 0 → A (reach u v v *ℤ z.w -ℤ reach u v z *ℤ v.w) → A (reach u v z *ℤ u.w) → TwoWeights A u v z
 line_weights A u v z n e h k = record {
   k = reach u v v *ℤ z.w -ℤ reach u v z *ℤ v.w;

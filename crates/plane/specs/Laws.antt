@@ -1,8 +1,26 @@
--- What is proved of the definitions of side and circle: that they are the usual ones.
-use Rattle.std.specs.Prelude.{◌≡◌, ◌↔◌, ℤ, pos, ◌+ℤ◌, ◌-ℤ◌, ◌*ℤ◌, ◌<ℤ◌}
-use Rattle.plane.specs.Fraction.{Point, Fraction, whole, IsSame}
+-- What is proved of the definitions of segment, side and circle: that they are the usual ones.
+use Rattle.std.specs.Prelude.{◌≡◌, ◌↔◌, ℤ, pos, ◌+ℤ◌, ◌-ℤ◌, ◌*ℤ◌, ◌<ℤ◌, ◌≤ℤ◌}
+use Rattle.plane.specs.Fraction.{Point, Fraction, whole, IsSame, OnSegment}
 use Rattle.plane.specs.Side.{side, IsSide, TurnsLeft}
 use Rattle.plane.specs.Circle.{IsCentre, InsideCircle, OnCircle}
+
+-- p is (k a + l b) / (k + l), by cross products
+pub record IsAverage (k l : ℤ) (a b p : Fraction) : Type 0 where
+  pub x : p.x *ℤ ((k +ℤ l) *ℤ (a.w *ℤ b.w)) ≡ (k *ℤ (a.x *ℤ b.w) +ℤ l *ℤ (b.x *ℤ a.w)) *ℤ p.w
+  pub y : p.y *ℤ ((k +ℤ l) *ℤ (a.w *ℤ b.w)) ≡ (k *ℤ (a.y *ℤ b.w) +ℤ l *ℤ (b.y *ℤ a.w)) *ℤ p.w
+
+-- under some weights that are not negative and not both 0
+pub record IsAverageOf (a b p : Fraction) : Type 0 where
+  pub k : ℤ
+  pub l : ℤ
+  pub k_allowed : pos 0 ≤ℤ k
+  pub l_allowed : pos 0 ≤ℤ l
+  pub some : pos 0 <ℤ (k +ℤ l)
+  pub average : IsAverage k l a b p
+
+-- the points of a segment are the weighted averages of its ends
+abbrev pub SegmentIsAverages : Type 0
+SegmentIsAverages = (a b p : Fraction) → OnSegment a b p ↔ IsAverageOf a b p
 
 -- the side function is the side of the plane
 abbrev pub SideIsSide : Type 0
