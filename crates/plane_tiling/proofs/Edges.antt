@@ -94,7 +94,7 @@ module _ (n : ℕ) (p : ℕ → Point) (faces : List Face) (outer : List (ℕ ×
   abbrev pub IsSideOf : ℕ → ℕ → Type 0
   IsSideOf u v = HasSide faces u v ⊎ HasSide faces v u
 
-  side_index : (u v : ℕ) → IsSideOf u v → (u < n) × (v < n) × (u ≢ v)
+  pub side_index : (u v : ℕ) → IsSideOf u v → (u < n) × (v < n) × (u ≢ v)
   side_index u v (inl s) = let c = C.turn_corners n p faces outer m u v s.0 s.1 in (c.0, c.1, (corners_differ p u v s.0 (C.turn_left_of n p faces outer m u v s.0 s.1)).0)
   side_index u v (inr s) = let c = C.turn_corners n p faces outer m v u s.0 s.1 in (c.1, c.0, λ e. (corners_differ p v u s.0 (C.turn_left_of n p faces outer m v u s.0 s.1)).0 (sym e))
 

@@ -1,5 +1,5 @@
 -- What balance says of one pair of indexes: as many sides and outer edges go one way as the other.
-use Rattle.std.proofs.Common.{◌≡◌, ◌⊎◌, ◌↔◌, ℕ, List, refl, sym, ap, ◌∙◌, subst, arith}
+use Rattle.std.proofs.Common.{◌≡◌, ◌⊎◌, ◌↔◌, ℕ, List, [], refl, sym, ap, ◌∙◌, subst, arith}
 use mathlib.Core.Logic.{inl, inr, ◌≢◌}
 use mathlib.Core.Bool.{Bool, true, false, ◌&&◌}
 use lib.Dec.{T, eqb, eqb_refl}
@@ -11,9 +11,9 @@ use Rattle.plane.specs.Tiling.{Face, face}
 use Rattle.plane_tiling.specs.Local.{total, around, along, IsAntisymmetric, AreBalanced}
 use Rattle.plane.proofs.IntegerOrder.{lt_or_ge_ℤ}
 use Rattle.plane.proofs.Steps.{product_zero_left}
-use Rattle.plane_tiling.proofs.Totals.{total_agree, total-difference, total_at_least, total_nonneg, total_positive, total_single, total_exchanged}
+use Rattle.plane_tiling.proofs.Totals.{Contains-none, total_agree, total-difference, total_at_least, total_nonneg, total_positive, total_single, total_exchanged}
 
-abbrev bit : Bool → ℤ
+abbrev pub bit : Bool → ℤ
 bit true = pos 1
 bit false = pos 0
 
@@ -21,7 +21,7 @@ bit false = pos 0
 pub is_pair : ℕ → ℕ → ℕ → ℕ → ℤ
 is_pair u v s t = bit (eqb s u && eqb t v)
 
-bit_is : (b : Bool) → (bit b ≡ pos 0) ⊎ (bit b ≡ pos 1)
+pub bit_is : (b : Bool) → (bit b ≡ pos 0) ⊎ (bit b ≡ pos 1)
 bit_is true = inr refl
 bit_is false = inl refl
 
@@ -29,7 +29,7 @@ pub is_pair_is : (u v s t : ℕ) → (is_pair u v s t ≡ pos 0) ⊎ (is_pair u 
 unfolding is_pair
 is_pair_is u v s t = bit_is (eqb s u && eqb t v)
 
-bit_nonneg : (b : Bool) → pos 0 ≤ℤ bit b
+pub bit_nonneg : (b : Bool) → pos 0 ≤ℤ bit b
 bit_nonneg true = record { le = tt }
 bit_nonneg false = record { le = tt }
 
@@ -37,7 +37,7 @@ pub is_pair_nonneg : (u v s t : ℕ) → pos 0 ≤ℤ is_pair u v s t
 unfolding is_pair
 is_pair_nonneg u v s t = bit_nonneg (eqb s u && eqb t v)
 
-is_true : (t : Bool) → T t → t ≡ true
+pub is_true : (t : Bool) → T t → t ≡ true
 is_true true h = refl
 is_true false h = absurd h
 
@@ -106,6 +106,12 @@ IsTurnOf faces i j k = Contains faces (face i j k) ⊎ (Contains faces (face j k
 
 abbrev pub HasSide : List Face → ℕ → ℕ → Type 0
 HasSide faces u v = (k : ℕ) × IsTurnOf faces u v k
+
+-- where there is no face
+pub no_turn : (i j k : ℕ) → IsTurnOf [] i j k → ⊥
+no_turn i j k (inl h) = Contains-none (face i j k) h
+no_turn i j k (inr (inl h)) = Contains-none (face j k i) h
+no_turn i j k (inr (inr h)) = Contains-none (face k i j) h
 
 pub turned : (faces : List Face) (i j k : ℕ) → IsTurnOf faces i j k → IsTurnOf faces j k i
 turned faces i j k (inl h) = inr (inr h)

@@ -15,3 +15,6 @@ pub mod LineMeshes
 pub mod Meshes
 pub mod LinePlaces
 pub mod Locations
+pub mod Rising
+pub mod Sweep
+pub mod Counts

@@ -7,13 +7,13 @@ use Rattle.plane.specs.Fraction.{Point, whole, WithinSegment}
 use Rattle.plane.specs.Side.{side, on}
 use Rattle.plane.specs.Pairs.{IsSamePair, place, IsIndex}
 use Rattle.plane.specs.Location.{IsPast}
-use Rattle.plane.specs.Tiling.{face, AreNeighbours, JoinsLine}
+use Rattle.plane.specs.Tiling.{AreNeighbours, JoinsLine}
 use Rattle.plane_tiling.specs.Local.{total, along, alone, LineMesh, AreEdgesOf}
 use Rattle.plane.proofs.Sides.{on_if, if_on}
 use Rattle.plane.proofs.Bracket.{bracket, lift}
 use Rattle.plane.proofs.BracketIdentities.{bracket-last}
 use Rattle.plane_tiling.proofs.Totals.{Contains-none}
-use Rattle.plane_tiling.proofs.Flows.{is_pair, IsTurnOf, HasSide}
+use Rattle.plane_tiling.proofs.Flows.{is_pair, HasSide, no_turn}
 use Rattle.plane_tiling.proofs.Loops.{way_of_edge, edge_of_outer, edges_once, listed_once}
 use Rattle.plane_tiling.proofs.Tiles.{point_at}
 use Rattle.plane_tiling.proofs.Appended.{length_appended, kept_point, last_point}
@@ -102,12 +102,7 @@ joins_line points outer edges m own = record {
     bare z h = omega (arith, ints)
 
     there : (i j : ℕ) → HasSide [] i j ⊎ Contains outer (i, j) → AreNeighbours (record { points = points; faces = []; edges = edges }) i j
-    there i j (inl s) = absurd (no_side s.1)
-      where
-        no_side : {k : ℕ} → IsTurnOf [] i j k → ⊥
-        no_side (inl h) = Contains-none (face _ _ _) h
-        no_side (inr (inl h)) = Contains-none (face _ _ _) h
-        no_side (inr (inr h)) = Contains-none (face _ _ _) h
+    there i j (inl s) = absurd (no_turn i j s.0 s.1)
     there i j (inr h) = let s = (m.neighbours i j).0 h in record { apart = s.apart; first = s.first; second = s.second; none_between = s.none_between }
 
 module _ (points : List Point) (q : Point) (old new : List (ℕ × ℕ)) (m : LineMesh points old) where

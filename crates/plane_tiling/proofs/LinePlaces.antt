@@ -20,12 +20,12 @@ use Rattle.plane_tiling.proofs.Line.{SignLine, IsNext, next_turned, flat}
 
 -- ---- the greatest number below a bound
 -- k has the greatest number below t
-record IsBelow (f : ℕ → ℤ) (n : ℕ) (t : ℤ) (k : ℕ) : Type 0 where
-  index : k < n
-  below : f k <ℤ t
-  top : (j : ℕ) → j < n → f j <ℤ t → f j ≤ℤ f k
+pub record IsBelow (f : ℕ → ℤ) (n : ℕ) (t : ℤ) (k : ℕ) : Type 0 where
+  pub index : k < n
+  pub below : f k <ℤ t
+  pub top : (j : ℕ) → j < n → f j <ℤ t → f j ≤ℤ f k
 
-nearest_below : (f : ℕ → ℤ) (n : ℕ) (t : ℤ) → ((k : ℕ) × IsBelow f n t k) ⊎ ((j : ℕ) → j < n → t ≤ℤ f j)
+pub nearest_below : (f : ℕ → ℤ) (n : ℕ) (t : ℤ) → ((k : ℕ) × IsBelow f n t k) ⊎ ((j : ℕ) → j < n → t ≤ℤ f j)
 nearest_below f zero t = inr (λ j h. absurd (omega arith))
 nearest_below f (suc n) t = go (nearest_below f n t) (lt_or_ge_ℤ (f n) t)
   where
@@ -100,7 +100,7 @@ module _ (n : ℕ) (p : ℕ → Point) (outer : List (ℕ × ℕ)) (m : SignLine
     levels k h = m.straight c d k c_index d_index h
 
     -- places, times the denominator of y
-    spot : ℕ → ℤ
+    pub spot : ℕ → ℤ
     spot k = y.w *ℤ place_on (p c) (p d) (at p k)
 
     mark : ℤ
@@ -130,7 +130,7 @@ module _ (n : ℕ) (p : ℕ → Point) (outer : List (ℕ × ℕ)) (m : SignLine
     vertices_ahead : (i k : ℕ) → spot i <ℤ spot k → pos 0 <ℤ ahead (p c) (p d) (whole (p i)) (whole (p k))
     vertices_ahead i k h = pos_of_mul-pos_ℤ y.positive (from_difference (y.w *ℤ ahead (p c) (p d) (whole (p i)) (whole (p k))) (spot k) (spot i) (of_vertices i k) h)
 
-    same_spot : (i k : ℕ) → i < n → k < n → spot i ≡ spot k → i ≡ k
+    pub same_spot : (i k : ℕ) → i < n → k < n → spot i ≡ spot k → i ≡ k
     unfolding spot
     same_spot i k hi hk e = same_place n p m.distinct (p c) (p d) apart i k hi hk (levels i hi) (levels k hk) (mul_same (place_on (p c) (p d) (at p i)) (place_on (p c) (p d) (at p k)) e)
       where
@@ -154,7 +154,7 @@ module _ (n : ℕ) (p : ℕ → Point) (outer : List (ℕ × ℕ)) (m : SignLine
     within_y i j hi hj a b = within_if_ahead (p c) (p d) apart (whole (p i)) (whole (p j)) y (levels i hi) (levels j hj) level
         (from_difference (ahead (p c) (p d) (whole (p i)) y) mark (spot i) (from_vertex i) a) (from_difference (ahead (p c) (p d) y (whole (p j))) (spot j) mark (to_vertex j) b)
 
-    within_k : (i j k : ℕ) → i < n → j < n → k < n → spot i <ℤ spot k → spot k <ℤ spot j → WithinSegment (whole (p i)) (whole (p j)) (whole (p k))
+    pub within_k : (i j k : ℕ) → i < n → j < n → k < n → spot i <ℤ spot k → spot k <ℤ spot j → WithinSegment (whole (p i)) (whole (p j)) (whole (p k))
     within_k i j k hi hj hk a b = within_if_ahead (p c) (p d) apart (whole (p i)) (whole (p j)) (whole (p k)) (levels i hi) (levels j hj) (levels k hk) (vertices_ahead i k a) (vertices_ahead k j b)
 
     order_y : (i j : ℕ) → WithinSegment (whole (p i)) (whole (p j)) y → ((spot i <ℤ mark) × (mark <ℤ spot j)) ⊎ (((spot j <ℤ mark) × (mark <ℤ spot i)) ⊎ ((spot i ≡ mark) × (mark ≡ spot j)))
@@ -182,16 +182,13 @@ module _ (n : ℕ) (p : ℕ → Point) (outer : List (ℕ × ℕ)) (m : SignLine
 
     -- ---- somewhere
     -- next below a vertex that has one below it
-    lower_edge : (k : ℕ) → k < n → (j : ℕ) × IsBelow spot n (spot k) j → (j : ℕ) × Contains outer (k, j)
-    lower_edge k h (j, s) = (
-      j,
-      (m.neighbours k j).1 (record {
-        apart = λ e. level_clash (spot j) (spot k) s.below (ap spot (sym e));
-        first = h;
-        second = s.index;
-        none_between = λ i hi w. none i hi (order_k k j i w);
-      }),
-    )
+    pub lower_edge : (k : ℕ) → k < n → (j : ℕ) → IsBelow spot n (spot k) j → Contains outer (k, j)
+    lower_edge k h j s = (m.neighbours k j).1 (record {
+      apart = λ e. level_clash (spot j) (spot k) s.below (ap spot (sym e));
+      first = h;
+      second = s.index;
+      none_between = λ i hi w. none i hi (order_k k j i w);
+    })
       where
         level_clash : (a b : ℤ) → a <ℤ b → a ≡ b → ⊥
         level_clash a b h e = omega (arith, ints)
@@ -212,7 +209,7 @@ module _ (n : ℕ) (p : ℕ → Point) (outer : List (ℕ × ℕ)) (m : SignLine
     some_edge = go (lt_or_ge_ℤ (spot c) (spot d))
       where
         below : (a b : ℕ) → a < n → b < n → spot a <ℤ spot b → (i j : ℕ) × Contains outer (i, j)
-        below a b ha hb l = elim (nearest_below spot n (spot b)) [ inl s ↦ (let r = lower_edge b hb s in (b, r.0, r.1)) | inr none ↦ absurd (clash (spot a) (spot b) l (none a ha)) ]
+        below a b ha hb l = elim (nearest_below spot n (spot b)) [ inl s ↦ (b, s.0, lower_edge b hb s.0 s.1) | inr none ↦ absurd (clash (spot a) (spot b) l (none a ha)) ]
           where
             clash : (a b : ℤ) → a <ℤ b → b ≤ℤ a → ⊥
             clash a b h k = omega (arith, ints)
@@ -243,7 +240,7 @@ module _ (n : ℕ) (p : ℕ → Point) (outer : List (ℕ × ℕ)) (m : SignLine
         level_with a b t h k i j = omega (arith, ints)
 
         lowest : ((j : ℕ) × IsBelow spot n (spot k) j) ⊎ ((j : ℕ) → j < n → spot k ≤ℤ spot j) → (j : ℕ) × Contains outer (k, j)
-        lowest (inl s) = lower_edge k h s
+        lowest (inl s) = (s.0, lower_edge k h s.0 s.1)
         lowest (inr none) = absurd (c_not_d (same_spot c d c_index d_index (level_with (spot c) (spot d) (spot k) (top c c_index) (none c c_index) (top d d_index) (none d d_index))))
 
     -- no vertex is behind y, or it is at a vertex, within an edge or past the last

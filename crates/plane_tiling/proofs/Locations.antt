@@ -6,13 +6,13 @@ use Rattle.std.proofs.lemmas.Int.{ints}
 use Rattle.std.proofs.lemmas.Bool.{cases_lt}
 use Rattle.plane.proofs.IntegerOrder.{lt_or_ge_ℤ}
 use Rattle.plane.specs.Fraction.{Point, Fraction, IsSame}
-use Rattle.plane.specs.Tiling.{Triangulation, Face, face, IsEdge, vertex}
+use Rattle.plane.specs.Tiling.{Triangulation, Face, IsEdge, vertex}
 use Rattle.plane.specs.Location.{Location, on_vertex, on_edge, on_face, outside_hull, no_triangulation, IsOuter, IsLocation}
 use Rattle.plane_tiling.specs.Local.{LocalMesh, LineMesh, IsMesh, AreEdgesOf}
 use Rattle.plane_tiling.specs.Laws.{EdgesMeetAtVertices, IsSameLocation, HasOneLocation}
 use Rattle.plane.proofs.Sides.{if_left, left_if}
 use Rattle.plane.proofs.Triangles.{inside_is_brackets}
-use Rattle.plane_tiling.proofs.Flows.{IsTurnOf, HasSide}
+use Rattle.plane_tiling.proofs.Flows.{HasSide, no_turn}
 use Rattle.plane_tiling.proofs.Counting.{SignMesh, corners_differ}
 use Rattle.plane_tiling.proofs.Covering as C
 use Rattle.plane_tiling.proofs.Edges as E
@@ -20,14 +20,8 @@ use Rattle.plane_tiling.proofs.Tiles.{point_at, by_signs}
 use Rattle.plane_tiling.proofs.Loops as L
 use Rattle.plane_tiling.proofs.Places as P
 use Rattle.plane_tiling.proofs.Line.{SignLine, IsNext}
-use Rattle.plane_tiling.proofs.Totals.{Contains-none}
 use Rattle.plane_tiling.proofs.LineMeshes.{line_by_signs}
 use Rattle.plane_tiling.proofs.LinePlaces as O
-
-no_face : (i j k : ℕ) → IsTurnOf [] i j k → ⊥
-no_face i j k (inl h) = Contains-none (face i j k) h
-no_face i j k (inr (inl h)) = Contains-none (face j k i) h
-no_face i j k (inr (inr h)) = Contains-none (face k i j) h
 
 -- ---- in the plane
 module _ (points : List Point) (faces : List Face) (outer edges : List (ℕ × ℕ)) (m : LocalMesh points faces outer) (own : AreEdgesOf faces outer edges) where
@@ -149,7 +143,7 @@ module _ (points : List Point) (outer edges : List (ℕ × ℕ)) (m : LineMesh p
   signs = line_by_signs points outer m
 
   listed : (i j : ℕ) → IsEdge line i j → Contains outer (i, j)
-  listed i j e = elim (L.way_of_edge [] outer edges own i j e) [ inl h ↦ absurd (no_face i j h.0 h.1) | inr h ↦ h ]
+  listed i j e = elim (L.way_of_edge [] outer edges own i j e) [ inl h ↦ absurd (no_turn i j h.0 h.1) | inr h ↦ h ]
 
   next : (i j : ℕ) → IsEdge line i j → IsNext count at' i j
   next i j e = (signs.neighbours i j).0 (listed i j e)
@@ -176,7 +170,7 @@ module _ (points : List Point) (outer edges : List (ℕ × ℕ)) (m : LineMesh p
     among_several : O.IsAtPoint count at' outer signs y ⊎ (O.IsOnEdge count at' outer signs y ⊎ O.IsBesideEdge count at' outer signs y) → (l : Location) × IsLocation line y l
     among_several (inl o) = (on_vertex o.v, (o.index, o.same))
     among_several (inr (inl o)) = (on_edge o.i o.j, (L.edge_of_outer [] outer edges own o.i o.j o.edge, o.within))
-    among_several (inr (inr o)) = (outside_hull o.i o.j, ((L.edge_of_outer [] outer edges own o.i o.j o.edge, λ h. no_face o.i o.j h.0 h.1), elim o.out [ inl h ↦ inl (left_if (vertex line o.i) (vertex line o.j) y h) | inr h ↦ inr h ]))
+    among_several (inr (inr o)) = (outside_hull o.i o.j, ((L.edge_of_outer [] outer edges own o.i o.j o.edge, λ h. no_turn o.i o.j h.0 h.1), elim o.out [ inl h ↦ inl (left_if (vertex line o.i) (vertex line o.j) y h) | inr h ↦ inr h ]))
 
     among_few : length points ≤ 1 → (l : Location) × IsLocation line y l
     among_few few = elim (cases_lt 0 (length points)) [
@@ -197,23 +191,23 @@ module _ (points : List Point) (outer edges : List (ℕ × ℕ)) (m : LineMesh p
     unfolding at_point
     line_same (on_vertex i) (on_vertex j) a b = O.point_unique count at' outer signs y (at_point i a) (at_point j b)
     line_same (on_vertex i) (on_edge j k) a b = O.point_not_on_edge count at' outer signs y (at_point i a) (on_line_edge j k b)
-    line_same (on_vertex i) (on_face j k r) a b = no_face j k r b.0
+    line_same (on_vertex i) (on_face j k r) a b = no_turn j k r b.0
     line_same (on_vertex i) (outside_hull j k) a b = O.point_not_beside count at' outer signs y (at_point i a) (beside j k b)
     line_same (on_vertex i) no_triangulation a b = b.1 i a.0 a.1
     line_same (on_edge i j) (on_vertex k) a b = O.point_not_on_edge count at' outer signs y (at_point k b) (on_line_edge i j a)
     line_same (on_edge i j) (on_edge k r) a b = line_edges_meet.1 i j k r a.0 b.0 y a.1 b.1
-    line_same (on_edge i j) (on_face k r q) a b = no_face k r q b.0
+    line_same (on_edge i j) (on_face k r q) a b = no_turn k r q b.0
     line_same (on_edge i j) (outside_hull k r) a b = O.edge_not_beside count at' outer signs y (on_line_edge i j a) (beside k r b)
     line_same (on_edge i j) no_triangulation a b = two_at_least i j a.0 b.0
-    line_same (on_face i j k) l a b = absurd (no_face i j k a.0)
+    line_same (on_face i j k) l a b = absurd (no_turn i j k a.0)
     line_same (outside_hull i j) (on_vertex k) a b = O.point_not_beside count at' outer signs y (at_point k b) (beside i j a)
     line_same (outside_hull i j) (on_edge k r) a b = O.edge_not_beside count at' outer signs y (on_line_edge k r b) (beside i j a)
-    line_same (outside_hull i j) (on_face k r q) a b = no_face k r q b.0
+    line_same (outside_hull i j) (on_face k r q) a b = no_turn k r q b.0
     line_same (outside_hull i j) (outside_hull k r) a b = tt
     line_same (outside_hull i j) no_triangulation a b = two_at_least i j a.0.0 b.0
     line_same no_triangulation (on_vertex i) a b = a.1 i b.0 b.1
     line_same no_triangulation (on_edge i j) a b = two_at_least i j b.0 a.0
-    line_same no_triangulation (on_face i j k) a b = no_face i j k b.0
+    line_same no_triangulation (on_face i j k) a b = no_turn i j k b.0
     line_same no_triangulation (outside_hull i j) a b = two_at_least i j b.0.0 a.0
     line_same no_triangulation no_triangulation a b = tt
 

@@ -22,7 +22,7 @@ use Rattle.plane_tiling.proofs.Tiles.{by_signs, point_at, tiles}
 one_is_positive : {z : ℤ} → z ≡ pos 1 → pos 0 <ℤ z
 one_is_positive e = omega (arith, ints)
 
-sum_of_bits : (a b c : ℤ) → (a ≡ pos 0) ⊎ (a ≡ pos 1) → (b ≡ pos 0) ⊎ (b ≡ pos 1) → (c ≡ pos 0) ⊎ (c ≡ pos 1) → (pos 0 <ℤ a → pos 0 <ℤ b → ⊥) → (pos 0 <ℤ a → pos 0 <ℤ c → ⊥) → (pos 0 <ℤ b → pos 0 <ℤ c → ⊥)
+pub sum_of_bits : (a b c : ℤ) → (a ≡ pos 0) ⊎ (a ≡ pos 1) → (b ≡ pos 0) ⊎ (b ≡ pos 1) → (c ≡ pos 0) ⊎ (c ≡ pos 1) → (pos 0 <ℤ a → pos 0 <ℤ b → ⊥) → (pos 0 <ℤ a → pos 0 <ℤ c → ⊥) → (pos 0 <ℤ b → pos 0 <ℤ c → ⊥)
     → (a +ℤ b +ℤ c ≡ pos 0) ⊎ (a +ℤ b +ℤ c ≡ pos 1)
 sum_of_bits a b c (inl x) (inl y) (inl z) n l m = inl (omega (arith, ints))
 sum_of_bits a b c (inr x) (inl y) (inl z) n l m = inr (by x y z)
@@ -42,7 +42,7 @@ sum_of_bits a b c (inr x) (inl y) (inr z) n l m = absurd (l (one_is_positive x) 
 sum_of_bits a b c (inl x) (inr y) (inr z) n l m = absurd (m (one_is_positive y) (one_is_positive z))
 
 -- f has the side from u to v, and c as its third corner
-abbrev IsFaceOn : ℕ → ℕ → ℕ → Face → Type 0
+abbrev pub IsFaceOn : ℕ → ℕ → ℕ → Face → Type 0
 IsFaceOn u v c f = (f ≡ face u v c) ⊎ ((f ≡ face c u v) ⊎ (f ≡ face v c u))
 
 face_on : (u v : ℕ) (f : Face) → pos 0 <ℤ around (is_pair u v) f → (c : ℕ) × IsFaceOn u v c f
@@ -165,12 +165,12 @@ module _ (n : ℕ) (p : ℕ → Point) (faces : List Face) (outer : List (ℕ ×
       once : (a : ℤ) → pos 0 <ℤ a → pos 0 <ℤ (pos 1 *ℤ a)
       once a h = omega (arith, ints)
 
-  inside_face_on : (u v c : ℕ) (f : Face) → IsFaceOn u v c f → (z : Vec3) → Inside (at p u) (at p v) (at p c) z → Inside (at p f.a) (at p f.b) (at p f.c) z
+  pub inside_face_on : (u v c : ℕ) (f : Face) → IsFaceOn u v c f → (z : Vec3) → Inside (at p u) (at p v) (at p c) z → Inside (at p f.a) (at p f.b) (at p f.c) z
   inside_face_on u v c f (inl e) z i = subst (λ g. Inside (at p g.a) (at p g.b) (at p g.c) z) (sym e) i
   inside_face_on u v c f (inr (inl e)) z i = subst (λ g. Inside (at p g.a) (at p g.b) (at p g.c) z) (sym e) (record { first = i.third; second = i.first; third = i.second })
   inside_face_on u v c f (inr (inr e)) z i = subst (λ g. Inside (at p g.a) (at p g.b) (at p g.c) z) (sym e) (record { first = i.second; second = i.third; third = i.first })
 
-  turn_on : (u v c : ℕ) (f : Face) → IsFaceOn u v c f → Contains faces f → IsTurnOf faces u v c
+  pub turn_on : (u v c : ℕ) (f : Face) → IsFaceOn u v c f → Contains faces f → IsTurnOf faces u v c
   turn_on u v c f (inl e) h = inl (subst (Contains faces) e h)
   turn_on u v c f (inr (inl e)) h = inr (inr (subst (Contains faces) e h))
   turn_on u v c f (inr (inr e)) h = inr (inl (subst (Contains faces) e h))

@@ -162,7 +162,7 @@ module _ {X : Type 0} where
       go (inr e) r (inl q) = absurd (again e q)
       go (inr e) r (inr q) = one_more (f x) (total f xs) e q
 
-  all_none : (f : X → ℤ) (xs : List X) → ((x : X) → Contains xs x → f x ≡ pos 0) → total f xs ≡ pos 0
+  pub all_none : (f : X → ℤ) (xs : List X) → ((x : X) → Contains xs x → f x ≡ pos 0) → total f xs ≡ pos 0
   all_none f [] h = refl
   all_none f (x ∷ xs) h = let a = h x (Contains-head x xs) in let b = all_none f xs (λ y k. h y (Contains-later x xs y k)) in λ i. a i +ℤ b i
 

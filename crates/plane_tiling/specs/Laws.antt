@@ -1,10 +1,10 @@
 -- What is proved of every mesh that keeps the local invariant.
-use Rattle.std.specs.Prelude.{◌≡◌, ◌⊎◌, ◌↔◌, ℕ, List, ⊤}
+use Rattle.std.specs.Prelude.{◌≡◌, ◌⊎◌, ◌↔◌, ℕ, ◌+◌, ◌-◌, ◌*◌, List, [], length, ⊤}
 use Rattle.plane.specs.Fraction.{Point, Fraction, WithinSegment}
 use Rattle.plane.specs.Pairs.{Joins, IsSamePair, EachPairOnce}
 use Rattle.plane.specs.Tiling.{Triangulation, Face, IsVertex, IsEdge, HasFace, vertex, TilesHull, IsTiling}
 use Rattle.plane.specs.Location.{Location, on_vertex, on_edge, on_face, outside_hull, no_triangulation, IsLocation}
-use Rattle.plane_tiling.specs.Local.{LocalMesh, IsMesh, AreEdgesOf}
+use Rattle.plane_tiling.specs.Local.{LocalMesh, LineMesh, IsMesh, AreEdgesOf}
 
 -- its faces tile the hull, with any list of edges that has each side of a face once
 abbrev pub LocalMeshesTile : Type 0
@@ -44,3 +44,12 @@ HasOneLocation t p = ((l : Location) × IsLocation t p l) × ((l m : Location) �
 abbrev pub EachPointHasOneLocation : Type 0
 EachPointHasOneLocation = (points : List Point) (faces : List Face) (outer edges : List (ℕ × ℕ)) → IsMesh points faces outer → AreEdgesOf faces outer edges
     → (p : Fraction) → HasOneLocation (record { points = points; faces = faces; edges = edges }) p
+
+-- n vertices with h outer edges have 3 n - 3 - h edges and 2 n - 2 - h faces
+abbrev pub HullEdgesCount : Type 0
+HullEdgesCount = (points : List Point) (faces : List Face) (outer edges : List (ℕ × ℕ)) → LocalMesh points faces outer → AreEdgesOf faces outer edges
+    → (length edges + length outer + 3 ≡ 3 * length points) × (length faces + length outer + 2 ≡ 2 * length points)
+
+-- n vertices on one line have n - 1 edges, and no vertex has none
+abbrev pub LineEdgesCount : Type 0
+LineEdgesCount = (points : List Point) (outer edges : List (ℕ × ℕ)) → LineMesh points outer → AreEdgesOf [] outer edges → length edges ≡ length points - 1
