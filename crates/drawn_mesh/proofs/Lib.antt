@@ -1,0 +1,7 @@
+pub mod RangeSums
+pub mod OwnEdges
+pub mod OuterEdges
+pub mod FaceChanges
+pub mod OuterChanges
+pub mod MeshEdits
+pub mod MeshExtension
