@@ -243,13 +243,13 @@ turn_one m s a b p q same =
     sym (s.edges a p).next_prev ∙ ap (next m) prevs ∙ (s.edges b q).next_prev
 
 -- equal spokes come from equal ones before
-spoke_back : (m : Mesh) (h : ℕ) → IsSound m → h < length m.half_edges → (i d : ℕ) → spoke m h i ≡ spoke m h (i + d) → h ≡ spoke m h d
+pub spoke_back : (m : Mesh) (h : ℕ) → IsSound m → h < length m.half_edges → (i d : ℕ) → spoke m h i ≡ spoke m h (i + d) → h ≡ spoke m h d
 spoke_back m h s within zero d same = same ∙ ap (spoke m h) (let e : 0 + d ≡ d = omega arith in e)
 spoke_back m h s within (suc i) d same =
     let e : suc i + d ≡ suc (i + d) = omega arith in
     spoke_back m h s within i d (turn_one m s _ _ (spoke_at m h s within i).0 (spoke_at m h s within (i + d)).0 (same ∙ ap (spoke m h) e))
 
-spoke_add : (m : Mesh) (h i d : ℕ) → spoke m h (i + d) ≡ spoke m (spoke m h d) i
+pub spoke_add : (m : Mesh) (h i d : ℕ) → spoke m h (i + d) ≡ spoke m (spoke m h d) i
 spoke_add m h zero d = ap (spoke m h) (let e : 0 + d ≡ d = omega arith in e)
 spoke_add m h (suc i) d = let e : suc i + d ≡ suc (i + d) = omega arith in ap (spoke m h) e ∙ ap (turn m) (spoke_add m h i d)
 

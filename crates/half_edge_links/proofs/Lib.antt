@@ -56,3 +56,5 @@ pub mod StarsRemove
 pub mod Shrunk
 pub mod OneOrbit
 pub mod TakenLists
+pub mod Sums
+pub mod Flow

@@ -39,14 +39,14 @@ pub ends_loop_closed : (m new : Mesh) (h : ℕ) → ClosesLoop m new h → ends 
 ends_loop_closed m new h c = same_origins_ends m new c.edge_count (λ k k_in. c.origins k)
 
 -- the two ends of each edge, by its index
-ends_at : (m : Mesh) (k : ℕ) (d : Ends) → IsSound m → 2 * k + 1 < length m.half_edges → get_or (ends m) k d ≡ record { source = origin m (2 * k); target = origin m (2 * k + 1) }
+pub ends_at : (m : Mesh) (k : ℕ) (d : Ends) → IsSound m → 2 * k + 1 < length m.half_edges → get_or (ends m) k d ≡ record { source = origin m (2 * k); target = origin m (2 * k + 1) }
 ends_at m k d s within =
     let n = length-origins m in
     let a = get_or-origins m (2 * k) 0 (omega (arith, within)) in
     let b = get_or-origins m (2 * k + 1) 0 within in
     get_or-paired (origins m) k d (omega (arith, within, n)) ∙ rw (a, b) refl
 
-count_ends : (m : Mesh) → IsSound m → 2 * length (ends m) ≡ length m.half_edges
+pub count_ends : (m : Mesh) → IsSound m → 2 * length (ends m) ≡ length m.half_edges
 count_ends m s = let n = length-origins m in let even : length (origins m) % 2 ≡ 0 = rw n s.even in length-paired (origins m) even ∙ n
 
 module _ (m new : Mesh) (e : ℕ) (s : IsSound m) (can : IsUnlinkable m e) (r : Removes m new e) (s' : IsSound new) where

@@ -10,3 +10,5 @@ pub mod Remove
 pub mod Peel
 pub mod Move
 pub mod Taken
+pub mod Flow
+pub mod Round

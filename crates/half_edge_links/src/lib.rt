@@ -2,6 +2,7 @@
 #![tactic(auto)]
 
 mod inside;
+mod laws;
 mod line;
 mod links;
 mod outside;
@@ -11,6 +12,7 @@ mod room;
 mod shrink;
 mod vertices;
 
+pub use laws::{edges_go_round, sides_add_up, sides_cancel};
 pub use links::Links;
 pub use records::{HalfEdge, reversed};
 pub use room::{MAX_ELEMENTS, ReserveError, are_few_enough, is_full};
