@@ -1,10 +1,11 @@
 -- Lists of edges with their data.
-use Rattle.std.proofs.Common.{◌≡◌, ℕ, zero, suc, ◌*◌, ◌%◌, List, [], ◌∷◌, ◌++◌, length, refl, sym, ap, ◌∙◌, arith, set}
-use Rattle.std.proofs.lemmas.List.{length-map}
+use Rattle.std.proofs.Common.{◌≡◌, ℕ, zero, suc, ◌*◌, ◌%◌, List, [], ◌∷◌, ◌++◌, length, refl, sym, ap, ◌∙◌, arith, set, get_or, Some}
+use Rattle.std.specs.Prelude.{slice_get}
+use Rattle.std.proofs.lemmas.List.{length-map, length-set}
 use Rattle.half_edge_links.specs.Mesh.{Mesh}
-use Rattle.half_edge_links.specs.Outline.{Ends, paired, origins, ends}
+use Rattle.half_edge_links.specs.Outline.{Ends, paired, origins, ends, along}
 use Rattle.half_edge_mesh.specs.Contents.{FitsMesh, edge_with, edges_of}
-use Rattle.half_edge_mesh.specs.Growth.{Grows, AddsEdges, with_ends}
+use Rattle.half_edge_mesh.specs.Growth.{Grows, MovesItem, AddsEdges, SplitsEdge, with_ends}
 
 pub edges_of-append : {U : Type 0} (es fs : List Ends) (us vs : List U) → length us ≡ length es → edges_of (es ++ fs) (us ++ vs) ≡ edges_of es us ++ edges_of fs vs
 edges_of-append [] fs [] vs same = refl
@@ -40,3 +41,37 @@ adds_edges P es new fs us us' more fit count whole g = record {
   each = g.each;
   whole = rw (whole, g.whole) (edges_of-append es fs us g.added fit);
 }
+
+-- other ends and other data
+edges_of-set_both : {U : Type 0} (es : List Ends) (us : List U) (k : ℕ) (e : Ends) (u : U) → length us ≡ length es → edges_of (set es k e) (set us k u) ≡ set (edges_of es us) k (edge_with e u)
+edges_of-set_both [] [] k e u same = refl
+edges_of-set_both [] (y ∷ us) k e u same = absurd (omega (arith, same))
+edges_of-set_both (x ∷ es) [] k e u same = absurd (omega (arith, same))
+edges_of-set_both (x ∷ es) (y ∷ us) zero e u same = refl
+edges_of-set_both (x ∷ es) (y ∷ us) (suc k) e u same = ap (λ q. edge_with x y ∷ q) (edges_of-set_both es us k e u (omega (arith, same)))
+
+slice_get-edges_of : {U : Type 0} (es : List Ends) (us : List U) (k : ℕ) (u : U) (d : Ends) → length us ≡ length es → slice_get us k ≡ Some u → slice_get (edges_of es us) k ≡ Some (edge_with (get_or es k d) u)
+slice_get-edges_of es [] k u d same is = absurd (cc)
+slice_get-edges_of [] (y ∷ us) k u d same is = absurd (omega (arith, same))
+slice_get-edges_of (x ∷ es) (y ∷ us) zero u d same is = let e : y ≡ u = cc in ap (λ q. Some (edge_with x q)) e
+slice_get-edges_of (x ∷ es) (y ∷ us) (suc k) u d same is = slice_get-edges_of es us k u d (omega (arith, same)) is
+
+-- an edge is split: its data move to the first new edge
+pub splits_edge : {U : Type 0} (P : U → Type 0) (es new others : List Ends) (us us' : List U) (k more : ℕ) (turned kept : Ends) → length us ≡ length es → length others ≡ more → new ≡ set es k turned ++ kept ∷ others → MovesItem P us us' k more → SplitsEdge P (edges_of es us) (edges_of new us') k turned kept others
+splits_edge P es new others us us' k more turned kept fit count whole i =
+    let nowhere : Ends = record { source = 0; target = 0 } in
+    let same : length (set us k i.made) ≡ length (set es k turned) = length-set us k i.made ∙ fit ∙ sym (length-set es k turned) in
+    record {
+      edge = edge_with (get_or es k nowhere) i.kept;
+      was = slice_get-edges_of es us k i.kept nowhere fit i.was;
+      made = i.made;
+      is_new = i.is_new;
+      values = i.added;
+      count = i.count ∙ sym count;
+      each = i.each;
+      whole = rw (whole, i.whole) (edges_of-append (set es k turned) (kept ∷ others) (set us k i.made) (i.kept ∷ i.added) same ∙ ap (λ q. q ++ edge_with kept i.kept ∷ edges_of others i.added) (edges_of-set_both es us k turned i.made fit));
+    }
+
+-- the ends of the even directed edge of an undirected one
+pub along-even : (k a b : ℕ) → along (2 * k) a b ≡ record { source = a; target = b }
+along-even k a b = let even : (2 * k) % 2 ≡ 0 = omega arith in rw even refl

@@ -1,12 +1,12 @@
 -- There are data for each part of a mesh after a change.
-use Rattle.std.proofs.Common.{◌≡◌, ℕ, ◌+◌, List, length, arith, length-append}
+use Rattle.std.proofs.Common.{◌≡◌, ℕ, ◌+◌, List, ◌∷◌, length, arith, set, length-append}
 use Rattle.std.proofs.lemmas.List.{length-set}
 use Rattle.half_edge_links.specs.Mesh.{Mesh, with_vertex, connected}
 use Rattle.half_edge_links.specs.Flip.{flipped, flip_by}
 use Rattle.half_edge_links.specs.Insert.{inserted, insert_by}
 use Rattle.half_edge_links.specs.Grow.{hung, hung_edges, closed, closed_edges, slid, slid_edges, with_next, with_prev, with_face, with_origin}
 use Rattle.half_edge_mesh.specs.Contents.{FitsMesh}
-use Rattle.half_edge_mesh.specs.Growth.{Grows}
+use Rattle.half_edge_mesh.specs.Growth.{Grows, MovesItem, MovesTwoItems}
 
 pub length-grown : {X : Type 0} (P : X → Type 0) (old new : List X) (more : ℕ) → Grows P old new more → length new ≡ length old + more
 length-grown P old new more g = rw g.whole (omega (arith, length-append old g.added, g.count))
@@ -75,3 +75,9 @@ fits_inserted m w a v d u f fit = record {
   undirected_fit = simp (length-set, length-append) (omega (arith, fit.undirected_fit));
   faces_fit = simp (length-set, length-append) (omega (arith, fit.faces_fit));
 }
+
+pub length_moved : {X : Type 0} (P : X → Type 0) (old new : List X) (i more : ℕ) → MovesItem P old new i more → length new ≡ length old + 1 + more
+length_moved P old new i more m = rw m.whole (omega (arith, length-append (set old i m.made) (m.kept ∷ m.added), length-set old i m.made, m.count))
+
+pub length_moved_two : {X : Type 0} (P : X → Type 0) (old new : List X) (i j more : ℕ) → MovesTwoItems P old new i j more → length new ≡ length old + 2 + more
+length_moved_two P old new i j more m = rw m.whole (omega (arith, length-append (set (set old i m.made) j m.also_made) (m.kept ∷ m.also_kept ∷ m.added), length-set (set old i m.made) j m.also_made, length-set old i m.made, m.count))

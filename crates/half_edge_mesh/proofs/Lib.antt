@@ -3,3 +3,4 @@ pub mod EdgeLists
 pub mod Outlines
 pub mod Ranges
 pub mod Steps
+pub mod Moves

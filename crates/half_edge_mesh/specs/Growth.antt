@@ -10,12 +10,6 @@ pub record Grows {X : Type 0} (P : X → Type 0) (old new : List X) (more : ℕ)
   pub count : length added ≡ more
   pub each : All P added
 
--- the old list grows by so many items that are as P says, and then F of it is taken
-pub record GrowsThen {X : Type 0} (P : X → Type 0) (old new : List X) (more : ℕ) (F : List X → List X) : Type 0 where
-  pub grown : List X
-  pub grows : Grows P old grown more
-  pub moved : new ≡ F grown
-
 -- the ends of an edge from a to b
 abbrev pub joins : ℕ → ℕ → Ends
 joins a b = record { source = a; target = b }
@@ -44,3 +38,37 @@ pub record SplitsEdge {U : Type 0} (P : U → Type 0) (old new : List (Edge U)) 
   pub count : length values ≡ length others
   pub each : All P values
   pub whole : new ≡ slice_set old k (edge_with turned made) ++ edge_with kept edge.value ∷ edges_of others values
+
+-- item i gives way to a new one, which is as P says
+pub record LeavesItem {X : Type 0} (P : X → Type 0) (old new : List X) (i : ℕ) : Type 0 where
+  pub made : X
+  pub is_new : P made
+  pub whole : new ≡ slice_set old i made
+
+-- item i gives way to a new one and comes first after the old ones, and so many new ones follow; all new ones
+-- are as P says
+pub record MovesItem {X : Type 0} (P : X → Type 0) (old new : List X) (i more : ℕ) : Type 0 where
+  pub kept : X
+  pub was : slice_get old i ≡ Some kept
+  pub made : X
+  pub is_new : P made
+  pub added : List X
+  pub count : length added ≡ more
+  pub each : All P added
+  pub whole : new ≡ slice_set old i made ++ kept ∷ added
+
+-- items i and j give way to new ones and come first after the old ones, and so many new ones follow; all new
+-- ones are as P says
+pub record MovesTwoItems {X : Type 0} (P : X → Type 0) (old new : List X) (i j more : ℕ) : Type 0 where
+  pub kept : X
+  pub was : slice_get old i ≡ Some kept
+  pub also_kept : X
+  pub also_was : slice_get old j ≡ Some also_kept
+  pub made : X
+  pub is_new : P made
+  pub also_made : X
+  pub also_new : P also_made
+  pub added : List X
+  pub count : length added ≡ more
+  pub each : All P added
+  pub whole : new ≡ slice_set (slice_set old i made) j also_made ++ kept ∷ also_kept ∷ added

@@ -7,6 +7,7 @@ mod face;
 mod fixed_iterators;
 mod growth;
 mod handles;
+mod inside;
 mod iterators;
 mod line;
 mod lookup;

@@ -1,0 +1,15 @@
+use Rattle.std.proofs.Common.{refl}
+use Rattle.half_edge_mesh.proofs.EdgeLists.{adds_edges, length-ends}
+use Rattle.half_edge_mesh.proofs.Outlines.{keeps_outer}
+use Rattle.half_edge_mesh.proofs.dcel.Dcel.insert_into_triangle.Goals as goal
+
+pub returns-clause-edges : goal.returns-clause-edges
+returns-clause-edges g c =
+    let named = rw (← c.self.view_is, c.index.ensures) at c.face_edge-edge.ensures.value in
+    let ends_are = rw (c.push_vertex-v.ensures.mesh, named, ← c.from_index.ensures) at c.insert_beside.ensures.ends in
+    rw (← c.self.view_is) (adds_edges _ _ _ _ _ _ 3 (length-ends c.self.inside.links.mesh _ _ _ _ c.self.invariant) refl ends_are c.push_defaults-2.ensures.grows)
+
+pub returns-clause-outer : goal.returns-clause-outer
+returns-clause-outer g c =
+    let keeps = rw c.push_vertex-v.ensures.mesh at c.insert_beside.ensures.outer in
+    rw (← c.self.view_is) (keeps_outer c.self.inside.links.mesh _ keeps)
