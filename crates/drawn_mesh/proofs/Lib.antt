@@ -5,3 +5,4 @@ pub mod FaceChanges
 pub mod OuterChanges
 pub mod MeshEdits
 pub mod MeshExtension
+pub mod MeshLines
