@@ -1,5 +1,5 @@
 -- What follows from a change of faces and from a change of outer edges: where each face and edge comes from, and totals.
-use Rattle.std.proofs.Common.{◌≡◌, ◌⊎◌, ℕ, zero, suc, ◌<◌, List, [], ◌∷◌, ◌++◌, length, get_or, refl, sym, ap, ◌∙◌, subst, arith}
+use Rattle.std.proofs.Common.{◌≡◌, ◌⊎◌, ℕ, zero, suc, ◌<◌, ◌≤◌, List, [], ◌∷◌, ◌++◌, length, get_or, refl, sym, ap, ◌∙◌, subst, arith}
 use mathlib.Core.Logic.{inl, inr, ◌≢◌}
 use mathlib.Core.Bool.{Bool, true, false, ◌&&◌}
 use lib.Dec.{T, eqb, eqb_refl}
@@ -8,6 +8,7 @@ use Rattle.std.specs.Prelude.{ℤ, pos, ◌+ℤ◌, ◌≤ℤ◌, ◌<ℤ◌, Co
 use Rattle.std.proofs.lemmas.Int.{ints}
 use Rattle.std.proofs.lemmas.Bool.{cases_eq}
 use Rattle.std.proofs.lemmas.List.Elements.{Contains-append_left, Contains-append_right, Contains-append_cases}
+use Rattle.std.proofs.lemmas.List.Edits.{length-remove}
 use Rattle.std.proofs.lemmas.List.Quantifiers.{all_pairs_remove}
 use Rattle.plane.specs.Tiling.{Face, face}
 use Rattle.plane_tiling.specs.Local.{total}
@@ -203,6 +204,15 @@ module _ {X : Type 0} where
       (λ y h. stays ys c.0 x y c.1 c.2 (there y (Contains-later x xs y h)) (λ e. once_head x xs o (subst (Contains xs) e h)))
       (λ y h. elim (Contains-cases x xs y (back y (was ys c.0 y c.1 h))) [ inl e ↦ absurd (out (subst (Contains rest) (sym e) h)) | inr k ↦ k ]) in
       (λ i. f (sym c.2 i) +ℤ r i) ∙ sym (total_without f ys c.0 x c.1)
+
+  -- a list without repetition is no longer than one that has all its elements
+  pub once_length : (xs ys : List X) → IsOnce xs → ((x : X) → Contains xs x → Contains ys x) → length xs ≤ length ys
+  once_length [] ys o there = omega arith
+  once_length (x ∷ xs) ys o there =
+      let c = there x (Contains-head x xs) in
+      let e = length-remove ys c.0 c.1 in
+      let r = once_length xs (remove ys c.0) (once_tail x xs o) (λ y h. stays ys c.0 x y c.1 c.2 (there y (Contains-later x xs y h)) (λ s. once_head x xs o (subst (Contains xs) s h))) in
+      omega arith
 
   once_append : (xs ys : List X) → IsOnce xs → IsOnce ys → ((x : X) → Contains xs x → ¬ Contains ys x) → IsOnce (xs ++ ys)
   once_append [] ys o p apart = p

@@ -180,7 +180,7 @@ module _ (points : List Point) (faces new : List Face) (outer : List (ℕ × ℕ
   acd : TurnsLeft (place points a) (place points c) (place points d)
   acd = turning_of points faces outer m a c d second
 
-  excess : pos 0 <ℤ incircle (lift (point_at points a)) (lift (point_at points b)) (lift (point_at points c)) (lift (point_at points d))
+  pub excess : pos 0 <ℤ incircle (lift (point_at points a)) (lift (point_at points b)) (lift (point_at points c)) (lift (point_at points d))
   excess = fails (point_at points a) (point_at points b) (point_at points c) (point_at points d) acd failing
 
   convex : TurnsLeft (place points a) (place points b) (place points d) × TurnsLeft (place points b) (place points c) (place points d)

@@ -11,7 +11,7 @@ unfoldable pub carried : Vec3 → Vec3 → Vec3 → Vec3 → ℤ
 unfolding bracket
 carried a b c z = height a *ℤ bracket z b c +ℤ height b *ℤ bracket a z c +ℤ height c *ℤ bracket a b z
 
-abbrev carriedᵖ : Vec3ᵖ → Vec3ᵖ → Vec3ᵖ → Vec3ᵖ → Poly
+abbrev pub carriedᵖ : Vec3ᵖ → Vec3ᵖ → Vec3ᵖ → Vec3ᵖ → Poly
 carriedᵖ a b c z = heightᵖ a ⊗ bracketᵖ z b c ⊕ heightᵖ b ⊗ bracketᵖ a z c ⊕ heightᵖ c ⊗ bracketᵖ a b z
 
 pub carried-turn : (a b c z : Vec3) → carried a b c z ≡ carried b c a z

@@ -5,6 +5,7 @@ pub mod Flips
 pub mod Hull
 pub mod Extension
 pub mod Heights
+pub mod Away
 pub mod FromLine
 pub mod Legal
 pub mod Kept

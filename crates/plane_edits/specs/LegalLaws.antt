@@ -1,5 +1,5 @@
 -- What is proved of flipping the edges that fail the circle test, until none does.
-use Rattle.std.specs.Prelude.{◌↔◌, ◌⊎◌, ℕ, ◌<◌, List, [], ◌∷◌}
+use Rattle.std.specs.Prelude.{◌≡◌, ◌↔◌, ◌⊎◌, ℕ, suc, ◌-◌, ◌*◌, ◌<◌, ◌≤◌, List, [], ◌∷◌, length}
 use Rattle.plane.specs.Fraction.{Point, whole}
 use Rattle.plane.specs.Side.{TurnsLeft}
 use Rattle.plane.specs.Circle.{InsideCircle}
@@ -8,6 +8,7 @@ use Rattle.plane.specs.Tiling.{Face, face}
 use Rattle.plane.specs.Delaunay.{IsLocallyDelaunay}
 use Rattle.plane_tiling.specs.Local.{LocalMesh}
 use Rattle.plane_edits.specs.Change.{IsFaceOf, FacesChange}
+use Rattle.plane_edits.specs.Away.{IsAway, AreAway}
 use Rattle.plane_edits.specs.Legal.{Pass, AllPassBut, IsRoundSide, IsSideOfOne, lifted_volume}
 
 -- one question for both sides of an edge: whether the faces i j k and j i l pass
@@ -42,3 +43,18 @@ ChangeLeavesSides = (points : List Point) (faces new gone made : List Face) (fix
 -- where none is left, each edge that is not fixed passes
 abbrev pub NoneLeftIsLocallyDelaunay : Type 0
 NoneLeftIsLocallyDelaunay = (points : List Point) (faces : List Face) (edges fixed : List (ℕ × ℕ)) → AllPassBut points faces fixed [] → IsLocallyDelaunay (record { points = points; faces = faces; edges = edges }) fixed
+
+-- ---- a bound on the flips of one legalising
+-- a pair that has been flipped away is no edge
+abbrev pub AwayIsNoEdge : Type 0
+AwayIsNoEdge = (points : List Point) (faces : List Face) (outer : List (ℕ × ℕ)) (i j k : ℕ) → LocalMesh points faces outer → IsAway points faces i j → ¬ IsFaceOf faces i j k
+
+-- the flip of a failing edge adds its pair to those that are away
+abbrev pub FlipGoesAway : Type 0
+FlipGoesAway = (points : List Point) (faces new : List Face) (outer away : List (ℕ × ℕ)) (a b c d : ℕ) → LocalMesh points faces outer → IsFaceOf faces a b c → IsFaceOf faces a c d
+    → FacesChange faces new (face a b c ∷ face a c d ∷ []) (face a b d ∷ face b c d ∷ []) → InsideCircle (place points a) (place points c) (place points d) (place points b) → AreAway points faces away
+    → (more : List (ℕ × ℕ)) × AreAway points new more × (length more ≡ suc (length away)) × Joins more a c × ((i j : ℕ) → Joins away i j → Joins more i j)
+
+-- there are at most n (n - 1) / 2 of them, where n is the number of vertices
+abbrev pub AwayIsBounded : Type 0
+AwayIsBounded = (points : List Point) (faces : List Face) (away : List (ℕ × ℕ)) → AreAway points faces away → 2 * length away ≤ length points * (length points - 1)

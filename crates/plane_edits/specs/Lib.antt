@@ -2,4 +2,5 @@ pub mod Change
 pub mod Extension
 pub mod Laws
 pub mod Legal
+pub mod Away
 pub mod LegalLaws

@@ -2,7 +2,7 @@
 #![tactic(auto)]
 
 ghost use Rattle.plane_edits.specs.Laws.{InsertionInsideKeeps, InsertionWithinSideKeeps, InsertionWithinOuterKeeps, FlipKeeps, FlipCovers, ExtensionBegins, ExtensionGoesOn, ExtensionGoesBack, ExtensionEnds, ExtensionOverLineEnds, InsertionPastEndKeeps, InsertionBetweenKeeps};
-ghost use Rattle.plane_edits.specs.LegalLaws.{OneQuestionForBoth, FailingIsConvex, FlipLowers, FlipLeavesSides, PassingIsDropped, ChangeLeavesSides, NoneLeftIsLocallyDelaunay};
+ghost use Rattle.plane_edits.specs.LegalLaws.{OneQuestionForBoth, FailingIsConvex, FlipLowers, FlipLeavesSides, PassingIsDropped, ChangeLeavesSides, NoneLeftIsLocallyDelaunay, AwayIsNoEdge, FlipGoesAway, AwayIsBounded};
 
 /// A law: a vertex strictly inside a face, joined to its three corners, keeps a mesh local.
 pub fn insertion_inside_keeps()
@@ -97,4 +97,19 @@ pub fn insertion_past_end_keeps()
 /// A law: a vertex between two neighbours on the line, joined to both in place of their edge, keeps the line.
 pub fn insertion_between_keeps()
     ensures { InsertionBetweenKeeps }
+{}
+
+/// A law: a pair that has been flipped away is no edge.
+pub fn away_is_no_edge()
+    ensures { AwayIsNoEdge }
+{}
+
+/// A law: the flip of a failing edge adds its pair to those that are away.
+pub fn flip_goes_away()
+    ensures { FlipGoesAway }
+{}
+
+/// A law: the pairs that one legalising flips away are at most n (n - 1) / 2.
+pub fn away_is_bounded()
+    ensures { AwayIsBounded }
 {}

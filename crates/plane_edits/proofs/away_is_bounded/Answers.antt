@@ -1,0 +1,5 @@
+use Rattle.plane_edits.proofs.Away as Away
+use Rattle.plane_edits.proofs.away_is_bounded.Goals as goal
+
+pub returns : goal.returns
+returns c = Away.away_is_bounded

@@ -1,0 +1,5 @@
+use Rattle.plane_edits.proofs.Away as Away
+use Rattle.plane_edits.proofs.flip_goes_away.Goals as goal
+
+pub returns : goal.returns
+returns c = Away.flip_goes_away
