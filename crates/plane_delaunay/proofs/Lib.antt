@@ -24,6 +24,7 @@ pub mod Meets
 pub mod Flood
 pub mod FloodStart
 pub mod Regions
+pub mod EdgeInCircle
 pub mod Flooded
 pub mod FlipTiles
 pub mod Joining

@@ -21,10 +21,10 @@ from_weights n k l r a b w v u c e d = ring_in_from (n ∷ k ∷ l ∷ r ∷ a �
     (λ n k l r a b w v u c. n ⊗ (r ⊖ c ⊗ w)) (λ n k l r a b w v u c. k ⊗ (a ⊖ c ⊗ v) ⊕ l ⊗ (b ⊖ c ⊗ u))
     (λ n k l r a b w v u c. (num 1, n ⊗ r, k ⊗ a ⊕ l ⊗ b) ∷ (⊝ c, n ⊗ w, k ⊗ v ⊕ l ⊗ u) ∷ []) (e, (d, tt)) tt
 
-difference_least : (a b : ℤ) → b ≤ℤ a → pos 0 ≤ℤ (a -ℤ b)
+pub difference_least : (a b : ℤ) → b ≤ℤ a → pos 0 ≤ℤ (a -ℤ b)
 difference_least a b h = omega (arith, ints)
 
-least_difference : (a b : ℤ) → pos 0 ≤ℤ (a -ℤ b) → b ≤ℤ a
+pub least_difference : (a b : ℤ) → pos 0 ≤ℤ (a -ℤ b) → b ≤ℤ a
 least_difference a b h = omega (arith, ints)
 
 -- at least c times the weight
@@ -86,7 +86,7 @@ mean_room n k l r w v u X Y x y x' y' e d c = ring_in_from (n ∷ k ∷ l ∷ r 
     (e, (d, (c, tt))) tt
 
 -- the way from a whole point
-way_from : (n k l r a b w v u c : ℤ) → n *ℤ r ≡ k *ℤ a +ℤ l *ℤ b → n *ℤ w ≡ k *ℤ v +ℤ l *ℤ u → n *ℤ (r *ℤ pos 1 -ℤ c *ℤ w) ≡ k *ℤ (a *ℤ pos 1 -ℤ c *ℤ v) +ℤ l *ℤ (b *ℤ pos 1 -ℤ c *ℤ u)
+pub way_from : (n k l r a b w v u c : ℤ) → n *ℤ r ≡ k *ℤ a +ℤ l *ℤ b → n *ℤ w ≡ k *ℤ v +ℤ l *ℤ u → n *ℤ (r *ℤ pos 1 -ℤ c *ℤ w) ≡ k *ℤ (a *ℤ pos 1 -ℤ c *ℤ v) +ℤ l *ℤ (b *ℤ pos 1 -ℤ c *ℤ u)
 way_from n k l r a b w v u c e d = ring_in_from (n ∷ k ∷ l ∷ r ∷ a ∷ b ∷ w ∷ v ∷ u ∷ c ∷ [])
     (λ n k l r a b w v u c. n ⊗ (r ⊗ num 1 ⊖ c ⊗ w)) (λ n k l r a b w v u c. k ⊗ (a ⊗ num 1 ⊖ c ⊗ v) ⊕ l ⊗ (b ⊗ num 1 ⊖ c ⊗ u))
     (λ n k l r a b w v u c. (num 1, n ⊗ r, k ⊗ a ⊕ l ⊗ b) ∷ (⊝ c, n ⊗ w, k ⊗ v ⊕ l ⊗ u) ∷ []) (e, (d, tt)) tt

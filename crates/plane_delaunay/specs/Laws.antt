@@ -1,15 +1,16 @@
 -- What is proved of tilings, constraints and circles, whatever made them.
-use Rattle.std.specs.Prelude.{ℕ, ◌<◌, List, [], length}
-use Rattle.plane.specs.Fraction.{Fraction}
+use Rattle.std.specs.Prelude.{◌↔◌, ℕ, ℤ, ◌<◌, List, [], length}
+use Rattle.plane.specs.Fraction.{Point, Fraction}
 use Rattle.plane.specs.Side.{TurnsLeft}
 use Rattle.plane.specs.Circle.{IsNearer}
 use Rattle.plane.specs.Pairs.{Joins}
 use Rattle.plane.specs.Tiling.{Triangulation, IsVertex, vertex, IsEdge, IsFace, InCorners, InsideCorners, TilesHull, IsTiling}
 use Rattle.plane.specs.Delaunay.{IsConstrainedDelaunay, IsLocallyDelaunay, IsStrictlyEmpty}
-use Rattle.plane.specs.Shape.{IsNearest, IsEdgeIn}
+use Rattle.plane.specs.Shape.{InClosedCircle, IsNearest, IsEdgeIn}
 use Rattle.plane.specs.Location.{Location, IsOuter, IsLocation}
 use Rattle.plane_delaunay.specs.Nearer.{nearer_count}
 use Rattle.plane_delaunay.specs.Flood.{Region, InRegion, IsFlooded, HasStart}
+use Rattle.plane_delaunay.specs.EdgeTests.{MeetsCircle, HasPointIn}
 use Rattle.plane_delaunay.specs.History.{IsVisiblyEmpty, AreOneState, HasFacesOf, NoFourOnCircle, HaveOneCircle}
 
 -- a point in no closed face is strictly left of an outer edge
@@ -60,3 +61,7 @@ FloodFindsRegion = (t : Triangulation) → TilesHull t → (region : Region) (fo
 abbrev pub FloodStarts : Type 0
 FloodStarts = (t : Triangulation) → TilesHull t → (region : Region) (p : Fraction) → InRegion region p → (k n : ℕ) → IsEdgeIn (InRegion region) t k n
     → (m : Location) → IsLocation t p m → HasStart t region m
+
+-- a closed edge has a point of a closed circle exactly if the numbers say so
+abbrev pub EdgeMeetsCircle : Type 0
+EdgeMeetsCircle = (centre : Point) (radius_2 : ℤ) (p q : Point) → HasPointIn (InClosedCircle centre radius_2) p q ↔ MeetsCircle centre radius_2 p q

@@ -1,4 +1,5 @@
 pub mod Nearer
 pub mod History
 pub mod Flood
+pub mod EdgeTests
 pub mod Laws

@@ -1,7 +1,7 @@
 //! From the local circle test to constrained Delaunay: laws over tilings, constraints and circles.
 #![tactic(auto)]
 
-ghost use Rattle.plane_delaunay.specs.Laws.{OutsideIsLeftOfOuter, LocalGivesConstrainedDelaunay, StrictlyEmptyIsFace, NearestByNeighbours, NearerCountFalls, VisiblyEmptyIsFace, FacesAreUnique, OverlappingFacesTie, FloodFindsRegion, FloodStarts};
+ghost use Rattle.plane_delaunay.specs.Laws.{OutsideIsLeftOfOuter, LocalGivesConstrainedDelaunay, StrictlyEmptyIsFace, NearestByNeighbours, NearerCountFalls, VisiblyEmptyIsFace, FacesAreUnique, OverlappingFacesTie, FloodFindsRegion, FloodStarts, EdgeMeetsCircle};
 
 /// A law: a point in no closed face is strictly left of an outer edge.
 pub fn outside_is_left_of_outer()
@@ -51,4 +51,9 @@ pub fn flood_finds_region()
 /// A law: where any edge is in a closed circle or rectangle, one is beside each of its points.
 pub fn flood_starts()
     ensures { FloodStarts }
+{}
+
+/// A law: a closed edge has a point of a closed circle exactly if an end is in it, or the centre falls between the ends and is near enough to the line.
+pub fn edge_meets_circle()
+    ensures { EdgeMeetsCircle }
 {}

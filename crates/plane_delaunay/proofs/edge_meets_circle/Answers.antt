@@ -1,0 +1,5 @@
+use Rattle.plane_delaunay.proofs.EdgeInCircle.{edge_meets_circle}
+use Rattle.plane_delaunay.proofs.edge_meets_circle.Goals as goal
+
+pub returns : goal.returns
+returns c = edge_meets_circle
