@@ -25,6 +25,7 @@ pub mod Flood
 pub mod FloodStart
 pub mod Regions
 pub mod EdgeInCircle
+pub mod EdgeInRectangle
 pub mod Flooded
 pub mod FlipTiles
 pub mod Joining

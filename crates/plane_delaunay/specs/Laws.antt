@@ -1,16 +1,16 @@
 -- What is proved of tilings, constraints and circles, whatever made them.
-use Rattle.std.specs.Prelude.{◌↔◌, ℕ, ℤ, ◌<◌, List, [], length}
+use Rattle.std.specs.Prelude.{◌↔◌, ℕ, ℤ, ◌≤ℤ◌, ◌<◌, List, [], length}
 use Rattle.plane.specs.Fraction.{Point, Fraction}
 use Rattle.plane.specs.Side.{TurnsLeft}
 use Rattle.plane.specs.Circle.{IsNearer}
 use Rattle.plane.specs.Pairs.{Joins}
 use Rattle.plane.specs.Tiling.{Triangulation, IsVertex, vertex, IsEdge, IsFace, InCorners, InsideCorners, TilesHull, IsTiling}
 use Rattle.plane.specs.Delaunay.{IsConstrainedDelaunay, IsLocallyDelaunay, IsStrictlyEmpty}
-use Rattle.plane.specs.Shape.{InClosedCircle, IsNearest, IsEdgeIn}
+use Rattle.plane.specs.Shape.{InClosedCircle, InClosedRectangle, IsNearest, IsEdgeIn}
 use Rattle.plane.specs.Location.{Location, IsOuter, IsLocation}
 use Rattle.plane_delaunay.specs.Nearer.{nearer_count}
 use Rattle.plane_delaunay.specs.Flood.{Region, InRegion, IsFlooded, HasStart}
-use Rattle.plane_delaunay.specs.EdgeTests.{MeetsCircle, HasPointIn}
+use Rattle.plane_delaunay.specs.EdgeTests.{MeetsCircle, MeetsRectangle, HasPointIn}
 use Rattle.plane_delaunay.specs.History.{IsVisiblyEmpty, AreOneState, HasFacesOf, NoFourOnCircle, HaveOneCircle}
 
 -- a point in no closed face is strictly left of an outer edge
@@ -65,3 +65,7 @@ FloodStarts = (t : Triangulation) → TilesHull t → (region : Region) (p : Fra
 -- a closed edge has a point of a closed circle exactly if the numbers say so
 abbrev pub EdgeMeetsCircle : Type 0
 EdgeMeetsCircle = (centre : Point) (radius_2 : ℤ) (p q : Point) → HasPointIn (InClosedCircle centre radius_2) p q ↔ MeetsCircle centre radius_2 p q
+
+-- and of a closed rectangle exactly if the ranges meet and the corners are not all strictly on one side of its line
+abbrev pub EdgeMeetsRectangle : Type 0
+EdgeMeetsRectangle = (lower upper : Point) → lower.x ≤ℤ upper.x → lower.y ≤ℤ upper.y → (p q : Point) → HasPointIn (InClosedRectangle lower upper) p q ↔ MeetsRectangle lower upper p q

@@ -1,7 +1,7 @@
 //! From the local circle test to constrained Delaunay: laws over tilings, constraints and circles.
 #![tactic(auto)]
 
-ghost use Rattle.plane_delaunay.specs.Laws.{OutsideIsLeftOfOuter, LocalGivesConstrainedDelaunay, StrictlyEmptyIsFace, NearestByNeighbours, NearerCountFalls, VisiblyEmptyIsFace, FacesAreUnique, OverlappingFacesTie, FloodFindsRegion, FloodStarts, EdgeMeetsCircle};
+ghost use Rattle.plane_delaunay.specs.Laws.{OutsideIsLeftOfOuter, LocalGivesConstrainedDelaunay, StrictlyEmptyIsFace, NearestByNeighbours, NearerCountFalls, VisiblyEmptyIsFace, FacesAreUnique, OverlappingFacesTie, FloodFindsRegion, FloodStarts, EdgeMeetsCircle, EdgeMeetsRectangle};
 
 /// A law: a point in no closed face is strictly left of an outer edge.
 pub fn outside_is_left_of_outer()
@@ -56,4 +56,9 @@ pub fn flood_starts()
 /// A law: a closed edge has a point of a closed circle exactly if an end is in it, or the centre falls between the ends and is near enough to the line.
 pub fn edge_meets_circle()
     ensures { EdgeMeetsCircle }
+{}
+
+/// A law: a closed edge has a point of a closed rectangle, not a reversed one, exactly if their ranges meet and the corners are not all strictly on one side of its line.
+pub fn edge_meets_rectangle()
+    ensures { EdgeMeetsRectangle }
 {}
