@@ -1,4 +1,3 @@
-pub mod RangeSums
 pub mod OwnEdges
 pub mod OuterEdges
 pub mod FaceChanges

@@ -11,10 +11,10 @@ use Rattle.plane.specs.Location.{IsPast}
 use Rattle.plane_tiling.specs.Local.{LineMesh, alone}
 use Rattle.plane_tiling.proofs.Totals.{Contains-head, Contains-later, Contains-none, Contains-cases}
 use Rattle.plane_edits.specs.Change.{OuterChange}
-use Rattle.plane_edits.proofs.Changes.{IsOnce, each, each_none}
+use Rattle.plane_edits.proofs.Changes.{IsOnce}
 use Rattle.plane_edits.proofs.OnLine.{past_end, between}
 use Rattle.drawn_mesh.specs.Drawn.{outer_of}
-use Rattle.drawn_mesh.proofs.OuterEdges.{listed, IsPairs, changed_pairs}
+use Rattle.drawn_mesh.proofs.OuterEdges.{listed, changed_pairs}
 use Rattle.drawn_mesh.proofs.OuterChanges.{two_pairs}
 
 -- ---- one of a few pairs
@@ -52,11 +52,13 @@ outer_joined old new u v k l once apart fresh c = changed_pairs old new (λ h. �
     made_listed : (h i j : ℕ) → IsEdge k u v h i j ⊎ IsEdge l v u h i j → Contains {X = ℕ × ℕ} ((u, v) ∷ (v, u) ∷ []) (i, j)
     made_listed h i j (inl x) = listed_as ((u, v) ∷ (v, u) ∷ []) u v i j x.1 x.2 (Contains-head (u, v) ((v, u) ∷ []))
     made_listed h i j (inr x) = listed_as ((u, v) ∷ (v, u) ∷ []) v u i j x.1 x.2 (Contains-later (u, v) ((v, u) ∷ []) (v, u) (Contains-head (v, u) []))
+
     made_once : (h g i j : ℕ) → IsEdge k u v h i j ⊎ IsEdge l v u h i j → IsEdge k u v g i j ⊎ IsEdge l v u g i j → h ≡ g
     made_once h g i j (inl x) (inl y) = x.0 ∙ sym y.0
     made_once h g i j (inl x) (inr y) = absurd (apart (sym x.1 ∙ y.1))
     made_once h g i j (inr x) (inl y) = absurd (apart (sym y.1 ∙ x.1))
     made_once h g i j (inr x) (inr y) = x.0 ∙ sym y.0
+
     made_fresh : (h g i j : ℕ) → IsEdge k u v h i j ⊎ IsEdge l v u h i j → ¬ IsOuterEdge old g i j
     made_fresh h g i j (inl x) o = (fresh g i j o).1 x.2
     made_fresh h g i j (inr x) o = (fresh g i j o).0 x.1

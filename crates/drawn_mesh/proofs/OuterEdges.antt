@@ -1,21 +1,36 @@
 -- The outer edges of a mesh as pairs of vertices: where each comes from, and how a change of directed edges changes them.
-use Rattle.std.proofs.Common.{◌≡◌, ◌⊎◌, ℕ, zero, suc, ◌<◌, ◌+◌, List, [], ◌++◌, length, get_or, refl, sym, ap, ◌∙◌, subst, arith}
+use Rattle.std.proofs.Common.{◌≡◌, ◌⊎◌, ℕ, zero, suc, ◌<◌, List, ◌∷◌, length, map, ◌==◌, if◌then◌else◌, false, refl, sym, ap, ◌∙◌, subst, arith}
 use mathlib.Core.Logic.{inl, inr, ◌≢◌}
 use Rattle.std.specs.Prelude.{Contains}
+use Rattle.std.proofs.lemmas.Bool.{cases_eq}
 use Rattle.std.proofs.lemmas.Grind.{common_steps}
-use Rattle.std.proofs.lemmas.List.Elements.{Contains-append_left, Contains-append_right, Contains-append_cases, Contains-get_or}
-use Rattle.std.proofs.lemmas.List.Quantifiers.{all_pairs_push}
 use Rattle.half_edge_links.specs.Mesh.{Mesh, origin, face, rev}
-use Rattle.half_edge_links.specs.Outline.{IsOuterEdge, OuterChanges}
-use Rattle.plane_tiling.proofs.Totals.{Contains-head, Contains-none, Contains-cases}
+use Rattle.half_edge_links.specs.Outline.{Ends, IsOuterEdge, OuterChanges}
+use Rattle.half_edge_links.specs.Flow.{outer_among}
+use Rattle.plane_tiling.proofs.Totals.{Contains-head, Contains-later, Contains-none, Contains-cases}
 use Rattle.plane_edits.specs.Change.{OuterChange}
-use Rattle.plane_edits.proofs.Changes.{IsOnce, once_none}
-use Rattle.drawn_mesh.specs.Drawn.{if_outer, outer_below, outer_of}
-use Rattle.drawn_mesh.proofs.RangeSums.{same_or_other}
+use Rattle.plane_edits.proofs.Changes.{IsOnce, once_none, once_head, once_tail, once_cons}
+use Rattle.drawn_mesh.specs.Drawn.{pair_of, outer_of}
 
 -- the ends of a directed edge
 abbrev pub ends_at : Mesh → ℕ → ℕ × ℕ
 ends_at m h = (origin m h, origin m (rev h))
+
+-- the outer ones among the first n directed edges
+abbrev outer_below : Mesh → ℕ → List (ℕ × ℕ)
+outer_below m n = map pair_of (outer_among m n)
+
+-- the list with a pair before it, if its face is the outer one
+abbrev with_outer : ℕ → ℕ × ℕ → List (ℕ × ℕ) → List (ℕ × ℕ)
+with_outer zero e xs = e ∷ xs
+with_outer (suc k) e xs = xs
+
+one_more : (m : Mesh) (n : ℕ) → outer_below m (suc n) ≡ with_outer (face m n) (ends_at m n) (outer_below m n)
+one_more m n = go (face m n) (record { source = origin m n; target = origin m (rev n) }) (outer_among m n)
+  where
+    go : (k : ℕ) (e : Ends) (xs : List Ends) → map pair_of (if k == 0 then e ∷ xs else xs) ≡ with_outer k (pair_of e) (map pair_of xs)
+    go zero e xs = refl
+    go (suc k) e xs = let no : (suc k == 0) ≡ false = grind (arith, common_steps) in ap (λ b. map pair_of (if b then e ∷ xs else xs)) no
 
 last_or_below : (h n : ℕ) → h < suc n → (h ≡ n) ⊎ (h < n)
 last_or_below zero zero l = inl refl
@@ -27,29 +42,33 @@ last_or_below (suc h) (suc n) l = next (last_or_below h n (omega arith))
     next (inl e) = inl (ap suc e)
     next (inr k) = inr (omega arith)
 
-if_outer_has : (k : ℕ) (e : ℕ × ℕ) → k ≡ 0 → Contains (if_outer k e) e
-if_outer_has zero e h = Contains-head e []
-if_outer_has (suc k) e h = absurd (omega arith)
+listed_first : (k : ℕ) (e : ℕ × ℕ) (xs : List (ℕ × ℕ)) → k ≡ 0 → Contains (with_outer k e xs) e
+listed_first zero e xs h = Contains-head e xs
+listed_first (suc k) e xs h = absurd (omega arith)
 
-if_outer_is : (k : ℕ) (e x : ℕ × ℕ) → Contains (if_outer k e) x → (k ≡ 0) × (e ≡ x)
-if_outer_is zero e x c = elim (Contains-cases e [] x c) as (λ _. (zero ≡ 0) × (e ≡ x)) [ inl p ↦ (refl, p) | inr c ↦ absurd (Contains-none x c) ]
-if_outer_is (suc k) e x c = absurd (Contains-none x c)
+listed_later : (k : ℕ) (e x : ℕ × ℕ) (xs : List (ℕ × ℕ)) → Contains xs x → Contains (with_outer k e xs) x
+listed_later zero e x xs c = Contains-later e xs x c
+listed_later (suc k) e x xs c = c
+
+listed_from : (k : ℕ) (e x : ℕ × ℕ) (xs : List (ℕ × ℕ)) → Contains (with_outer k e xs) x → ((k ≡ 0) × (e ≡ x)) ⊎ Contains xs x
+listed_from zero e x xs c = elim (Contains-cases e xs x c) as (λ _. ((zero ≡ 0) × (e ≡ x)) ⊎ Contains xs x) [ inl p ↦ inl (refl, p) | inr d ↦ inr d ]
+listed_from (suc k) e x xs c = inr c
 
 listed_below : (m : Mesh) (n h : ℕ) → h < n → face m h ≡ 0 → Contains (outer_below m n) (ends_at m h)
 listed_below m zero h l o = absurd (omega arith)
-listed_below m (suc n) h l o = go (last_or_below h n l) (λ k. listed_below m n h k o)
+listed_below m (suc n) h l o = subst (λ xs. Contains xs (ends_at m h)) (sym (one_more m n)) (go (last_or_below h n l) (λ k. listed_below m n h k o))
   where
-    go : (h ≡ n) ⊎ (h < n) → (h < n → Contains (outer_below m n) (ends_at m h)) → Contains (outer_below m n ++ if_outer (face m n) (ends_at m n)) (ends_at m h)
-    go (inl e) r = Contains-append_right (outer_below m n) (if_outer (face m n) (ends_at m n)) (ends_at m h) (subst (λ k. Contains (if_outer (face m k) (ends_at m k)) (ends_at m h)) e (if_outer_has (face m h) (ends_at m h) o))
-    go (inr k) r = Contains-append_left (outer_below m n) (if_outer (face m n) (ends_at m n)) (ends_at m h) (r k)
+    go : (h ≡ n) ⊎ (h < n) → (h < n → Contains (outer_below m n) (ends_at m h)) → Contains (with_outer (face m n) (ends_at m n) (outer_below m n)) (ends_at m h)
+    go (inl e) r = subst (λ k. Contains (with_outer (face m k) (ends_at m k) (outer_below m n)) (ends_at m h)) e (listed_first (face m h) (ends_at m h) (outer_below m n) o)
+    go (inr k) r = listed_later (face m n) (ends_at m n) (ends_at m h) (outer_below m n) (r k)
 
 real_below : (m : Mesh) (n : ℕ) (x : ℕ × ℕ) → Contains (outer_below m n) x → (h : ℕ) × (h < n) × (face m h ≡ 0) × (ends_at m h ≡ x)
 real_below m zero x c = absurd (Contains-none x c)
-real_below m (suc n) x c = go (Contains-append_cases (outer_below m n) (if_outer (face m n) (ends_at m n)) x c) (real_below m n x)
+real_below m (suc n) x c = go (listed_from (face m n) (ends_at m n) x (outer_below m n) (subst (λ xs. Contains xs x) (one_more m n) c)) (real_below m n x)
   where
-    go : Contains (outer_below m n) x ⊎ Contains (if_outer (face m n) (ends_at m n)) x → (Contains (outer_below m n) x → (h : ℕ) × (h < n) × (face m h ≡ 0) × (ends_at m h ≡ x)) → (h : ℕ) × (h < suc n) × (face m h ≡ 0) × (ends_at m h ≡ x)
-    go (inl c) f = let r = f c in (r.0, omega (arith, r.1), r.2, r.3)
-    go (inr c) f = let r = if_outer_is (face m n) (ends_at m n) x c in (n, omega arith, r.0, r.1)
+    go : ((face m n ≡ 0) × (ends_at m n ≡ x)) ⊎ Contains (outer_below m n) x → (Contains (outer_below m n) x → (h : ℕ) × (h < n) × (face m h ≡ 0) × (ends_at m h ≡ x)) → (h : ℕ) × (h < suc n) × (face m h ≡ 0) × (ends_at m h ≡ x)
+    go (inl r) f = (n, omega arith, r.0, r.1)
+    go (inr c) f = let r = f c in (r.0, omega (arith, r.1), r.2, r.3)
 
 -- an outer directed edge is listed
 pub listed : (m : Mesh) (h i j : ℕ) → IsOuterEdge m h i j → Contains (outer_of m) (i, j)
@@ -60,30 +79,24 @@ pub real : (m : Mesh) (i j : ℕ) → Contains (outer_of m) (i, j) → (h : ℕ)
 real m i j c = let r = real_below m (length m.half_edges) (i, j) c in (r.0, record { within = r.1; outer = r.2; source = ap (λ (e : ℕ × ℕ). e.0) r.3; target = ap (λ (e : ℕ × ℕ). e.1) r.3 })
 
 -- ---- each pair once, and each pair of one directed edge
-module _ {X : Type 0} where
-  once_prefix : (xs ys : List X) → IsOnce (xs ++ ys) → IsOnce xs
-  once_prefix xs ys h i j d lt within =
-      let low : get_or (xs ++ ys) i d ≡ get_or xs i d = grind (arith, common_steps) in
-      let high : get_or (xs ++ ys) j d ≡ get_or xs j d = grind (arith, common_steps) in
-      λ e. h i j d lt (grind (arith, common_steps)) (low ∙ e ∙ sym high)
+once_later : (k : ℕ) (e : ℕ × ℕ) (xs : List (ℕ × ℕ)) → IsOnce (with_outer k e xs) → IsOnce xs
+once_later zero e xs o = once_tail e xs o
+once_later (suc k) e xs o = o
 
-  once_across : (xs ys : List X) (x : X) → IsOnce (xs ++ ys) → Contains xs x → Contains ys x → ⊥
-  once_across xs ys x h a b =
-      let k = a.0 in
-      let l = b.0 in
-      let k_in = a.1 in
-      let l_in = b.1 in
-      let low : get_or (xs ++ ys) k x ≡ get_or xs k x = grind (arith, common_steps) in
-      let high : get_or (xs ++ ys) (length xs + l) x ≡ get_or ys l x = grind (arith, common_steps) in
-      h k (length xs + l) x (omega arith) (grind (arith, common_steps)) (low ∙ a.2 ∙ sym b.2 ∙ sym high)
+not_later : (k : ℕ) (e : ℕ × ℕ) (xs : List (ℕ × ℕ)) → k ≡ 0 → IsOnce (with_outer k e xs) → ¬ Contains xs e
+not_later zero e xs h o = once_head e xs o
+not_later (suc k) e xs h o = absurd (omega arith)
+
+once_with : (k : ℕ) (e : ℕ × ℕ) (xs : List (ℕ × ℕ)) → (k ≡ 0 → ¬ Contains xs e) → IsOnce xs → IsOnce (with_outer k e xs)
+once_with zero e xs n o = once_cons e xs (n refl) o
+once_with (suc k) e xs n o = o
 
 below_unique : (m : Mesh) (n h g : ℕ) → IsOnce (outer_below m n) → h < g → g < n → face m h ≡ 0 → face m g ≡ 0 → ends_at m h ≡ ends_at m g → ⊥
 below_unique m zero h g o l k p q e = omega arith
-below_unique m (suc n) h g o l k p q e = go (last_or_below g n k) (λ r. below_unique m n h g (once_prefix (outer_below m n) (if_outer (face m n) (ends_at m n)) o) l r p q e)
+below_unique m (suc n) h g o l k p q e = go (last_or_below g n k) (λ r. below_unique m n h g (once_later (face m n) (ends_at m n) (outer_below m n) (subst IsOnce (one_more m n) o)) l r p q e)
   where
     go : (g ≡ n) ⊎ (g < n) → (g < n → ⊥) → ⊥
-    go (inl r) f = once_across (outer_below m n) (if_outer (face m n) (ends_at m n)) (ends_at m h) o (listed_below m n h (omega arith) p)
-        (subst (Contains (if_outer (face m n) (ends_at m n))) (ap (ends_at m) (sym r) ∙ sym e) (if_outer_has (face m n) (ends_at m n) (ap (face m) (sym r) ∙ q)))
+    go (inl r) f = not_later (face m n) (ends_at m n) (outer_below m n) (ap (face m) (sym r) ∙ q) (subst IsOnce (one_more m n) o) (subst (Contains (outer_below m n)) (e ∙ ap (ends_at m) r) (listed_below m n h (omega arith) p))
     go (inr r) f = f r
 
 order_of : (h g : ℕ) → h ≢ g → (h < g) ⊎ (g < h)
@@ -98,7 +111,7 @@ order_of (suc h) (suc g) d = next (order_of h g (λ e. d (ap suc e)))
 
 -- where each pair is listed once, it is of one directed edge
 pub one_edge : (m : Mesh) → IsOnce (outer_of m) → (h g i j : ℕ) → IsOuterEdge m h i j → IsOuterEdge m g i j → h ≡ g
-one_edge m o h g i j p q = go (same_or_other h g)
+one_edge m o h g i j p q = go (cases_eq h g)
   where
     same : ends_at m h ≡ ends_at m g
     same = λ t. ((p.source ∙ sym q.source) t, (p.target ∙ sym q.target) t)
@@ -110,23 +123,16 @@ one_edge m o h g i j p q = go (same_or_other h g)
       | inr l ↦ below_unique m (length m.half_edges) g h o l p.within q.outer p.outer (sym same)
     ])
 
-nothing_more : (xs : List (ℕ × ℕ)) → xs ++ [] ≡ xs
-nothing_more xs = grind (arith, common_steps)
-
 once_below : (m : Mesh) (n : ℕ) → ((h g : ℕ) → h < n → g < n → face m h ≡ 0 → face m g ≡ 0 → ends_at m h ≡ ends_at m g → h ≡ g) → IsOnce (outer_below m n)
 once_below m zero one = once_none
-once_below m (suc n) one = go (face m n) refl (once_below m n (λ h g k l p q e. one h g (omega arith) (omega arith) p q e))
+once_below m (suc n) one = subst IsOnce (sym (one_more m n)) (once_with (face m n) (ends_at m n) (outer_below m n) other (once_below m n (λ h g k l p q e. one h g (omega arith) (omega arith) p q e)))
   where
-    front_other : face m n ≡ 0 → (k : ℕ) (d : ℕ × ℕ) → k < length (outer_below m n) → get_or (outer_below m n) k d ≢ ends_at m n
-    front_other o k d l e =
-        let r = real_below m n (get_or (outer_below m n) k d) (Contains-get_or (outer_below m n) k d l) in
+    other : face m n ≡ 0 → ¬ Contains (outer_below m n) (ends_at m n)
+    other o c =
+        let r = real_below m n (ends_at m n) c in
         let below = r.1 in
-        let found : r.0 ≡ n = one r.0 n (omega arith) (omega arith) r.2 o (r.3 ∙ e) in
+        let found : r.0 ≡ n = one r.0 n (omega arith) (omega arith) r.2 o r.3 in
         omega arith
-
-    go : (k : ℕ) → face m n ≡ k → IsOnce (outer_below m n) → IsOnce (outer_below m n ++ if_outer k (ends_at m n))
-    go zero o front = all_pairs_push (λ d e. d ≢ e) (outer_below m n) (ends_at m n) front (front_other o)
-    go (suc k) o front = subst IsOnce (sym (nothing_more (outer_below m n))) front
 
 -- and where each pair is of one directed edge, it is listed once
 pub each_once : (m : Mesh) → ((h g i j : ℕ) → IsOuterEdge m h i j → IsOuterEdge m g i j → h ≡ g) → IsOnce (outer_of m)

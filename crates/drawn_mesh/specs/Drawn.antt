@@ -1,8 +1,9 @@
 -- What the links of a mesh draw: its faces, edges and outer edges by the indexes of their vertices.
-use Rattle.std.specs.Prelude.{ℕ, zero, suc, List, [], ◌∷◌, ◌++◌, length, map}
-use Rattle.half_edge_links.specs.Mesh.{Mesh, origin, face, rev}
+use Rattle.std.specs.Prelude.{ℕ, List, map}
+use Rattle.half_edge_links.specs.Mesh.{Mesh}
 use Rattle.half_edge_links.specs.Triangles.{Triangle, triangles}
 use Rattle.half_edge_links.specs.Outline.{Ends, ends}
+use Rattle.half_edge_links.specs.Flow.{outline}
 use Rattle.plane.specs.Fraction.{Point}
 use Rattle.plane.specs.Tiling.{Face, Triangulation}
 
@@ -20,19 +21,9 @@ faces_of m = map corners_of (triangles m)
 abbrev pub edges_of : Mesh → List (ℕ × ℕ)
 edges_of m = map pair_of (ends m)
 
--- the pair of a directed edge, if the face on its left is the outer one
-abbrev pub if_outer : ℕ → ℕ × ℕ → List (ℕ × ℕ)
-if_outer zero e = e ∷ []
-if_outer (suc f) e = []
-
--- the directed edges below h with the outer face on their left
-abbrev pub outer_below : Mesh → ℕ → List (ℕ × ℕ)
-outer_below m zero = []
-outer_below m (suc h) = outer_below m h ++ if_outer (face m h) (origin m h, origin m (rev h))
-
--- the directed edges with the outer face on their left, by rising index
+-- the directed edges with the outer face on their left
 abbrev pub outer_of : Mesh → List (ℕ × ℕ)
-outer_of m = outer_below m (length m.half_edges)
+outer_of m = map pair_of (outline m)
 
 -- points, with the faces and edges of a mesh
 abbrev pub drawn : List Point → Mesh → Triangulation
