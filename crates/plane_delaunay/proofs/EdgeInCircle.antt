@@ -3,6 +3,7 @@ use Rattle.std.proofs.Common.{◌≡◌, [], ◌∷◌, arith, sym, subst}
 use mathlib.Core.Logic.{◌⊎◌, ◌↔◌, inl, inr}
 use Rattle.std.specs.Prelude.{ℤ, pos, ◌<ℤ◌, ◌≤ℤ◌, ◌+ℤ◌, ◌-ℤ◌, ◌*ℤ◌}
 use Rattle.std.proofs.lemmas.Int.{ints}
+use Rattle.plane.proofs.Segments.{start_on_segment, end_on_segment}
 use Rattle.plane.proofs.Solver.{num, ◌⊕◌, ◌⊖◌, ◌⊗◌, ⊝, ring_in, ring_in_from}
 use Rattle.plane.proofs.Steps.{weak, zero_or_left}
 use Rattle.plane.proofs.IntegerOrder.{mul-pos_ℤ, mul-nonneg_ℤ, nonneg_of_mul-nonneg_ℤ, square-nonneg_ℤ, lt_or_ge_ℤ}
@@ -25,18 +26,6 @@ end_in c r p h = record { near = subst (λ z. z ≤ℤ (r *ℤ (pos 1 *ℤ pos 1
 
     with_one : (d r : ℤ) → d ≤ℤ r → d ≤ℤ (r *ℤ (pos 1 *ℤ pos 1))
     with_one d r h = omega (arith, ints)
-
-first_end : (a b : Point) → OnSegment (whole a) (whole b) (whole a)
-first_end a b = mean_of_two IsNotNegative (whole a) (whole b) (whole a) (record { k = pos 1; l = pos 0; n = pos 1; k_allowed = record { le = tt }; l_allowed = record { le = tt }; positive = record { lt = tt }; x = once a.x b.x; y = once a.y b.y; w = once (pos 1) (pos 1) })
-  where
-    once : (x y : ℤ) → pos 1 *ℤ x ≡ pos 1 *ℤ x +ℤ pos 0 *ℤ y
-    once x y = omega (arith, ints)
-
-second_end : (a b : Point) → OnSegment (whole a) (whole b) (whole b)
-second_end a b = mean_of_two IsNotNegative (whole a) (whole b) (whole b) (record { k = pos 0; l = pos 1; n = pos 1; k_allowed = record { le = tt }; l_allowed = record { le = tt }; positive = record { lt = tt }; x = once a.x b.x; y = once a.y b.y; w = once (pos 1) (pos 1) })
-  where
-    once : (x y : ℤ) → pos 1 *ℤ y ≡ pos 0 *ℤ x +ℤ pos 1 *ℤ y
-    once x y = omega (arith, ints)
 
 module _ (c : Point) (r : ℤ) (p q : Point) where
   len : ℤ
@@ -187,8 +176,8 @@ module _ (c : Point) (r : ℤ) (p q : Point) where
 
   found : MeetsCircle c r p q → HasPointIn (InClosedCircle c r) p q
   unfolding len f d
-  found (inl h) = (whole p, first_end p q, end_in c r p h)
-  found (inr (inl h)) = (whole q, second_end p q, end_in c r q h)
+  found (inl h) = (whole p, start_on_segment (whole p) (whole q), end_in c r p h)
+  found (inr (inl h)) = (whole q, end_on_segment (whole p) (whole q), end_in c r q h)
   found (inr (inr h)) = (foot h.0, foot_on h.0 h.1 h.2, foot_in h.0 h.3)
 
 pub edge_meets_circle : (centre : Point) (radius_2 : ℤ) (p q : Point) → HasPointIn (InClosedCircle centre radius_2) p q ↔ MeetsCircle centre radius_2 p q

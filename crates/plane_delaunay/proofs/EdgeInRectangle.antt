@@ -4,6 +4,7 @@ use mathlib.Core.Logic.{◌⊎◌, ◌↔◌, inl, inr}
 use lib.IntN.{neg_ℤ, negsuc}
 use Rattle.std.specs.Prelude.{ℤ, pos, ◌<ℤ◌, ◌≤ℤ◌, ◌+ℤ◌, ◌-ℤ◌, ◌*ℤ◌}
 use Rattle.std.proofs.lemmas.Int.{ints}
+use Rattle.plane.proofs.Segments.{start_on_segment, end_on_segment}
 use Rattle.plane.proofs.Bracket as B
 use Rattle.plane.proofs.Solver.{num, ◌⊕◌, ◌⊖◌, ◌⊗◌, ⊝, ring_in, ring_in_from, ring_over}
 use Rattle.plane.proofs.Steps.{weak, weak_right, right_not_above, left_not_zero, zero_weak_left}
@@ -396,16 +397,10 @@ module _ (lower upper : Point) (wide : lower.x ≤ℤ upper.x) (high : lower.y �
           (reaches (negsuc 0) upper.y (inr refl) (λ k s. high_at k.y upper.y s.above) (either_high upper.y p.y q.y h.1.1))
 
       on_p : TwoWeights IsNotNegative P Q P
-      on_p = record { k = pos 1; l = pos 0; n = pos 1; k_allowed = record { le = tt }; l_allowed = record { le = tt }; positive = record { lt = tt }; x = once P.x Q.x; y = once P.y Q.y; w = once P.w Q.w }
-        where
-          once : (x y : ℤ) → pos 1 *ℤ x ≡ pos 1 *ℤ x +ℤ pos 0 *ℤ y
-          once x y = omega (arith, ints)
+      on_p = two_weights IsNotNegative P Q P (start_on_segment P Q)
 
       on_q : TwoWeights IsNotNegative P Q Q
-      on_q = record { k = pos 0; l = pos 1; n = pos 1; k_allowed = record { le = tt }; l_allowed = record { le = tt }; positive = record { lt = tt }; x = once P.x Q.x; y = once P.y Q.y; w = once P.w Q.w }
-        where
-          once : (x y : ℤ) → pos 1 *ℤ y ≡ pos 0 *ℤ x +ℤ pos 1 *ℤ y
-          once x y = omega (arith, ints)
+      on_q = two_weights IsNotNegative P Q Q (end_on_segment P Q)
 
       rectangle_met : HasPointIn (InClosedRectangle lower upper) p q
       unfolding x₁ x₂ y₁ y₂ P Q

@@ -6,13 +6,14 @@ use native.Mathlib.Decide.{ℕ_discrete}
 use lib.IntN.{neg_ℤ}
 use Rattle.std.specs.Prelude.{◌≢◌, ℤ, pos, ◌<ℤ◌, ◌≤ℤ◌, ◌+ℤ◌, ◌*ℤ◌, Contains, slice_index_or}
 use Rattle.std.proofs.lemmas.Int.{ints}
+use Rattle.plane.proofs.Bracket.{vec}
 use Rattle.plane_delaunay.proofs.Numbers.{sum_above, sum_least, sum_none}
 use Rattle.plane.proofs.Steps.{weak, zero_weak_left, left_not_zero, right_not_above, left_not_below}
-use Rattle.plane.proofs.Solver.{num, ◌⊕◌, ◌⊖◌, ◌⊗◌, ⊝, ring_over, ring_over_from, ring_in_from}
+use Rattle.plane.proofs.Solver.{num, ◌⊕◌, ◌⊖◌, ◌⊗◌, ⊝, ring_over, ring_in_from}
 use Rattle.plane.proofs.IntegerOrder.{mul-nonpos_of_nonneg_nonpos_ℤ, zero_of_mul-zero_ℤ, mul_cancel_ℤ, pos-ne-zero_ℤ, Sign, sign, below, none, above}
 use Rattle.plane_delaunay.proofs.Bracket.{fraction, bracket, bracketᵖ, bracket-turned, bracket-swapped, bracket-first, bracket-second, above_if_left, left_if_above}
 use Rattle.plane_delaunay.proofs.Lift.{lift, liftᵖ, lift-turned, lift-first, lift-second, lift-third, inside_is_lift, on_is_lift}
-use Rattle.plane.proofs.Means.{TwoWeights, mean_of_two, two_weights}
+use Rattle.plane.proofs.Means.{TwoWeights, mean_of_two, two_weights, bracket_of_two}
 use Rattle.plane_delaunay.proofs.Members.{Member, member, contained}
 use Rattle.plane_delaunay.proofs.Nudges.{Closed, Inside, inside-turned, nudge}
 use Rattle.plane_delaunay.proofs.Faces.{IsTurned, turned-above, both_inside, side_not_inside, middle, middle-inside}
@@ -121,10 +122,7 @@ one_circle a b c d e f q i j h₁ h₂ h₃ h₄ h₅ h₆ =
 -- ---- the points of a segment, by brackets
 pub weights_along : (A : ℤ → Type 0) (a b p : Fraction) (w : TwoWeights A a b p) (u v : Fraction) → w.n *ℤ bracket u v p ≡ w.k *ℤ bracket u v a +ℤ w.l *ℤ bracket u v b
 unfolding bracket
-weights_along A a b p w u v = ring_over_from fraction (w.n ∷ w.k ∷ w.l ∷ []) (u ∷ v ∷ a ∷ b ∷ p ∷ [])
-    (λ n k l u v a b p. n ⊗ bracketᵖ u v p) (λ n k l u v a b p. k ⊗ bracketᵖ u v a ⊕ l ⊗ bracketᵖ u v b)
-    (λ n k l u v a b p. (u.y ⊗ v.w ⊖ u.w ⊗ v.y, n ⊗ p.x, k ⊗ a.x ⊕ l ⊗ b.x) ∷ (u.w ⊗ v.x ⊖ u.x ⊗ v.w, n ⊗ p.y, k ⊗ a.y ⊕ l ⊗ b.y) ∷ (u.x ⊗ v.y ⊖ u.y ⊗ v.x, n ⊗ p.w, k ⊗ a.w ⊕ l ⊗ b.w) ∷ [])
-    (w.x, (w.y, (w.w, tt))) tt
+weights_along A a b p w u v = bracket_of_two A (vec u) (vec v) a b p w
 
 -- from a point strictly inside to a corner: still strictly inside, until the corner
 inside_on_way : (a b c q y : Fraction) (w : TwoWeights IsNotNegative q a y) → pos 0 <ℤ bracket a b c → Inside a b c q → pos 0 <ℤ w.k → Inside a b c y

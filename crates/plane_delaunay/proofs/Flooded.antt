@@ -1,9 +1,9 @@
 -- Floods in the definitions' words: where one starts, and that it finds each edge in a region.
 use Rattle.std.proofs.Common.{◌≡◌, ℕ, ◌≤◌, List, [], ◌∷◌, length, arith, ap, sym, ◌∙◌}
 use mathlib.Core.Logic.{◌⊎◌, inl, inr}
-use lib.IntN.{*ℤ_comm}
 use Rattle.std.specs.Prelude.{◌≢◌, ℤ, pos, ◌<ℤ◌, ◌+ℤ◌, ◌*ℤ◌}
 use Rattle.std.proofs.lemmas.Int.{ints}
+use Rattle.plane.proofs.Segments.{on_of_within, on_segment-same, same-sym, start_on_segment}
 use Rattle.plane.proofs.Bracket as B
 use Rattle.plane.proofs.Solver.{num, ◌⊕◌, ◌⊗◌, ⊝, ring_in, ring_in_from}
 use Rattle.plane.proofs.Steps.{weak, left_not_zero}
@@ -15,11 +15,11 @@ use Rattle.plane_delaunay.proofs.Meets.{OnSide, IsAt, on_side-swapped, on_side-c
 use Rattle.plane_delaunay.proofs.Ground.{tiling, inside_of, turned_face}
 use Rattle.plane_delaunay.proofs.Where.{IsBeyond, IsCovered}
 use Rattle.plane_delaunay.proofs.OuterEdges.{face_of_outer, beyond_outer}
-use Rattle.plane_delaunay.proofs.EmptyCircles.{weights_along, spot}
+use Rattle.plane_delaunay.proofs.EmptyCircles.{weights_along}
 use Rattle.plane_delaunay.proofs.Flood.{IsFlooded, flood_finds}
 use Rattle.plane_delaunay.proofs.FloodStart.{Border, border_of_outside, side_of_inside}
 use Rattle.plane_delaunay.proofs.Regions.{IsConvex, region_convex}
-use Rattle.plane.specs.Fraction.{Point, Fraction, whole, IsSame, IsNotNegative, IsPositive, OnSegment, WithinSegment, InsideTriangle}
+use Rattle.plane.specs.Fraction.{Fraction, IsNotNegative, IsPositive, OnSegment, InsideTriangle}
 use Rattle.plane.specs.Side.{TurnsLeft}
 use Rattle.plane.specs.Pairs.{Joins}
 use Rattle.plane.specs.Tiling.{Triangulation, IsVertex, vertex, IsFace, HasFace, TilesHull}
@@ -86,19 +86,6 @@ one_time z = omega (arith, ints)
 
 with_none : (a b x : ℤ) → a ≡ b → b ≡ a +ℤ pos 0 *ℤ x
 with_none a b x e = omega (arith, ints)
-
--- a point at the place of a whole point is on each segment from it
-first_only : (x w v b : ℤ) → x *ℤ pos 1 ≡ v *ℤ w → pos 1 *ℤ x ≡ w *ℤ v +ℤ pos 0 *ℤ b
-first_only x w v b e = omega (arith, ints, *ℤ_comm v w)
-
-one_weight : (w : ℤ) → pos 1 *ℤ w ≡ w *ℤ pos 1 +ℤ pos 0 *ℤ pos 1
-one_weight w = omega (arith, ints)
-
-at_end : (v b : Point) (c : Fraction) → IsSame c (whole v) → OnSegment (whole v) (whole b) c
-at_end v b c e = mean_of_two IsNotNegative (whole v) (whole b) c (record { k = c.w; l = pos 0; n = pos 1; k_allowed = weak c.positive; l_allowed = record { le = tt }; positive = record { lt = tt }; x = first_only c.x c.w v.x b.x e.x; y = first_only c.y c.w v.y b.y e.y; w = one_weight c.w })
-
-weakened : (a b c : Fraction) → WithinSegment a b c → OnSegment a b c
-weakened a b c m = let s = two_weights IsPositive a b c m in mean_of_two IsNotNegative a b c (record { k = s.k; l = s.l; n = s.n; k_allowed = weak s.k_allowed; l_allowed = weak s.l_allowed; positive = s.positive; x = s.x; y = s.y; w = s.w })
 
 both_ways : (i c j m n k l n' k' l' : ℤ) → n *ℤ i ≡ k *ℤ c +ℤ l *ℤ j → n' *ℤ i ≡ k' *ℤ c +ℤ l' *ℤ m → i ≡ pos 0 → j ≡ pos 0 → pos 0 <ℤ k → pos 0 <ℤ k' → pos 0 <ℤ l' → pos 0 <ℤ m → ⊥
 both_ways i c j m n k l n' k' l' e e' hi hj hk hk' hl' hm = left_not_zero (mul-pos_ℤ {a = l'} {b = m} hl' hm) none_left
@@ -225,8 +212,8 @@ module _ (t : Triangulation) (h : TilesHull t) (region : Region) where
           same = omega arith
 
   pub flood_starts : (c : Fraction) → K c → (k n : ℕ) → IsEdgeIn K t k n → (m : Location) → IsLocation t c m → HasStart t region m
-  flood_starts c kc k n e (on_vertex i) l = λ j s. (s, (c, at_end (spot t i) (spot t j) c l.1, kc))
-  flood_starts c kc k n e (on_edge i j) l = (l.0, (c, weakened (vertex t i) (vertex t j) c l.1, kc))
+  flood_starts c kc k n e (on_vertex i) l = λ j s. (s, (c, on_segment-same (vertex t i) (vertex t j) (vertex t i) c (same-sym c (vertex t i) l.1) (start_on_segment (vertex t i) (vertex t j)), kc))
+  flood_starts c kc k n e (on_edge i j) l = (l.0, (c, on_of_within (vertex t i) (vertex t j) c l.1, kc))
   flood_starts c kc k n e (on_face i j m) l = start_inside i j m k n c kc e l.0 l.1
   flood_starts c kc k n e (outside_hull i j) l = go l.1
     where

@@ -4,13 +4,14 @@ use lib.IntN.{negsuc, nat_abs}
 use mathlib.Core.Logic.{◌⊎◌, inl, inr}
 use Rattle.std.specs.Prelude.{ℤ, pos, ◌<ℤ◌, ◌≤ℤ◌, ◌+ℤ◌, ◌-ℤ◌, ◌*ℤ◌}
 use Rattle.std.proofs.lemmas.Int.{ints}
+use Rattle.plane.proofs.Segments.{same_is_no_way, same-sym}
 use Rattle.plane_delaunay.proofs.Numbers.{sum_weak}
 use Rattle.plane.proofs.Steps.{weak}
 use Rattle.plane.proofs.Solver.{num, ◌⊕◌, ◌⊖◌, ◌⊗◌, ⊝, ring_in_from}
 use Rattle.plane.proofs.IntegerOrder.{Sign, sign, below, none, above}
 use Rattle.plane.proofs.IntegerOrder.{mul-pos_ℤ, mul-nonneg_ℤ, pos_of_mul-pos_ℤ, square-nonneg_ℤ, square-pos_ℤ}
 use Rattle.plane.proofs.Means.{TwoWeights, two_weights}
-use Rattle.plane.proofs.Nearer.{same_not_nearer}
+use Rattle.plane.proofs.Nearer.{gap_not_negative, same_not_nearer}
 use Rattle.plane.specs.Fraction.{Point, Fraction, whole, IsSame, IsPositive}
 use Rattle.plane.specs.Side.{run, rise}
 use Rattle.plane.specs.Circle.{gap, IsNearer}
@@ -113,10 +114,6 @@ module _ (p : Fraction) (v w k : Point) (m : TwoWeights IsPositive (whole v) (wh
       (two_parts (m.n *ℤ m.n) (m.l *ℤ m.l) (square (run (whole v) (whole k))) (square (rise (whole v) (whole k))) (square (run (whole v) (whole w))) (square (rise (whole v) (whole w))) (part_way m.n m.k m.l k.x v.x w.x m.x m.w) (part_way m.n m.k m.l k.y v.y w.y m.y m.w))
       m.positive m.k_allowed m.l_allowed h
 
--- two points of which one is nearer to a third point are apart
-no_way : (w v : ℤ) → w *ℤ pos 1 -ℤ v *ℤ pos 1 ≡ pos 0 → w *ℤ pos 1 ≡ v *ℤ pos 1
-no_way w v e = omega (arith, ints)
-
 first_square : (a b : ℤ) → pos 0 <ℤ a → pos 0 ≤ℤ b → pos 0 <ℤ (a +ℤ b)
 first_square a b h k = omega (arith, ints)
 
@@ -147,16 +144,13 @@ apart p v w near = go (sign (run (whole v) (whole w))) (sign (rise (whole v) (wh
     go (above h) s = wide (not_zero (inr h))
     go (none h) (below k) = high (not_zero (inl k))
     go (none h) (above k) = high (not_zero (inr k))
-    go (none h) (none k) = absurd (same_not_nearer p (whole w) (whole v) (record { x = no_way w.x v.x h; y = no_way w.y v.y k }) near)
+    go (none h) (none k) = absurd (same_not_nearer p (whole w) (whole v) (same-sym (whole v) (whole w) ((same_is_no_way (whole v) (whole w)).1 (h, k))) near)
 
 -- ---- along the line
 abs_less : (m : ℕ) (x y : ℤ) → x <ℤ y → pos 0 ≤ℤ x → nat_abs y < suc m → nat_abs x < m
 abs_less m (pos x) (pos y) h k l = omega (arith, ints)
 abs_less m (pos x) (negsuc y) h k l = absurd (omega (arith, ints))
 abs_less m (negsuc x) y h k l = absurd (omega (arith, ints))
-
-gap_least : (p q : Fraction) → pos 0 ≤ℤ gap p q
-gap_least p q = sum_weak (square-nonneg_ℤ (run p q)) (square-nonneg_ℤ (rise p q))
 
 module _ (t : Triangulation) (h : JoinsLine t) (p : Fraction) (v : ℕ) (hv : IsVertex t v) (neighbours : (u : ℕ) → IsEdge t v u → ¬ IsNearer p (vertex t u) (vertex t v)) where
   -- a nearer vertex next to v is a neighbour, and of any other one strictly between is nearer too
@@ -170,7 +164,7 @@ module _ (t : Triangulation) (h : JoinsLine t) (p : Fraction) (v : ℕ) (hv : Is
   })) near
     where
       closer : (k : ℕ) → TwoWeights IsPositive (vertex t v) (vertex t w) (vertex t k) → nat_abs (gap (vertex t v) (vertex t k)) < m
-      closer k s = abs_less m (gap (vertex t v) (vertex t k)) (gap (vertex t v) (vertex t w)) (closer_within p _ _ _ s (apart p _ _ near)) (gap_least (vertex t v) (vertex t k)) l
+      closer k s = abs_less m (gap (vertex t v) (vertex t k)) (gap (vertex t v) (vertex t w)) (closer_within p _ _ _ s (apart p _ _ near)) (gap_not_negative (vertex t v) (vertex t k)) l
 
       nearer : (k : ℕ) → TwoWeights IsPositive (vertex t v) (vertex t w) (vertex t k) → IsNearer p (vertex t k) (vertex t v)
       nearer k s = nearer_within p _ _ _ s near
