@@ -7,7 +7,7 @@ use Rattle.plane.proofs.Steps.{weak}
 use Rattle.plane.specs.Fraction.{Point, Fraction, whole, IsPositive, WithinSegment}
 use Rattle.plane.proofs.IntegerOrder.{lt_or_ge_ℤ, trichotomy_ℤ, square-nonneg_ℤ, square-pos_ℤ, mul_cancel_ℤ, mul-pos_ℤ, mul-nonneg_ℤ, mul-nonpos_of_nonneg_nonpos_ℤ, pos-ne-zero_ℤ}
 use Rattle.plane.proofs.Solver.{num, ◌⊕◌, ◌⊖◌, ◌⊗◌, ring_over, ring_in, ring_in_from}
-use Rattle.plane.proofs.Bracket.{Vec3, bracket, bracketᵖ, lift, vec, points, liftᵖ}
+use Rattle.plane.proofs.Bracket.{Vec3, bracket, bracketᵖ, lift, vec, points}
 use Rattle.plane.proofs.BracketIdentities.{form, four_terms}
 use Rattle.plane.proofs.Means.{TwoWeights, mean_of_two}
 use Rattle.plane.proofs.Nudges.{moved}
@@ -40,18 +40,18 @@ passing_place u v x s t q =
     (λ i. bracket x s t *ℤ sym (place_form u v q) i -ℤ bracket x s q *ℤ sym (place_form u v t) i +ℤ bracket x t q *ℤ sym (place_form u v s) i -ℤ bracket s t q *ℤ sym (place_form u v x) i)
     ∙ four_terms (v.x -ℤ u.x) (v.y -ℤ u.y) (pos 0 -ℤ ((v.x -ℤ u.x) *ℤ u.x +ℤ (v.y -ℤ u.y) *ℤ u.y)) x s t q
 
--- a whole point of the line is its place away from u
-along_x : (u v z : Point) → place_on u v (lift v) *ℤ (z.x -ℤ u.x) ≡ place_on u v (lift z) *ℤ (v.x -ℤ u.x) -ℤ (v.y -ℤ u.y) *ℤ bracket (lift u) (lift v) (lift z)
+-- a point of the line is its place away from u
+along_x : (u v : Point) (z : Vec3) → place_on u v (lift v) *ℤ (z.x -ℤ z.w *ℤ u.x) ≡ place_on u v z *ℤ (v.x -ℤ u.x) -ℤ (v.y -ℤ u.y) *ℤ bracket (lift u) (lift v) z
 unfolding place_on bracket
-along_x u v z = ring_over points [] (u ∷ v ∷ z ∷ [])
-    (λ u v z. ((v.x ⊖ u.x) ⊗ (v.x ⊖ num 1 ⊗ u.x) ⊕ (v.y ⊖ u.y) ⊗ (v.y ⊖ num 1 ⊗ u.y)) ⊗ (z.x ⊖ u.x))
-    (λ u v z. ((v.x ⊖ u.x) ⊗ (z.x ⊖ num 1 ⊗ u.x) ⊕ (v.y ⊖ u.y) ⊗ (z.y ⊖ num 1 ⊗ u.y)) ⊗ (v.x ⊖ u.x) ⊖ (v.y ⊖ u.y) ⊗ bracketᵖ (liftᵖ u) (liftᵖ v) (liftᵖ z)) tt
+along_x u v z = ring_in (u.x ∷ u.y ∷ v.x ∷ v.y ∷ z.x ∷ z.y ∷ z.w ∷ [])
+    (λ ux uy vx vy x y w. ((vx ⊖ ux) ⊗ (vx ⊖ num 1 ⊗ ux) ⊕ (vy ⊖ uy) ⊗ (vy ⊖ num 1 ⊗ uy)) ⊗ (x ⊖ w ⊗ ux))
+    (λ ux uy vx vy x y w. ((vx ⊖ ux) ⊗ (x ⊖ w ⊗ ux) ⊕ (vy ⊖ uy) ⊗ (y ⊖ w ⊗ uy)) ⊗ (vx ⊖ ux) ⊖ (vy ⊖ uy) ⊗ bracketᵖ (record { x = ux; y = uy; w = num 1 }) (record { x = vx; y = vy; w = num 1 }) (record { x = x; y = y; w = w })) tt
 
-along_y : (u v z : Point) → place_on u v (lift v) *ℤ (z.y -ℤ u.y) ≡ place_on u v (lift z) *ℤ (v.y -ℤ u.y) +ℤ (v.x -ℤ u.x) *ℤ bracket (lift u) (lift v) (lift z)
+along_y : (u v : Point) (z : Vec3) → place_on u v (lift v) *ℤ (z.y -ℤ z.w *ℤ u.y) ≡ place_on u v z *ℤ (v.y -ℤ u.y) +ℤ (v.x -ℤ u.x) *ℤ bracket (lift u) (lift v) z
 unfolding place_on bracket
-along_y u v z = ring_over points [] (u ∷ v ∷ z ∷ [])
-    (λ u v z. ((v.x ⊖ u.x) ⊗ (v.x ⊖ num 1 ⊗ u.x) ⊕ (v.y ⊖ u.y) ⊗ (v.y ⊖ num 1 ⊗ u.y)) ⊗ (z.y ⊖ u.y))
-    (λ u v z. ((v.x ⊖ u.x) ⊗ (z.x ⊖ num 1 ⊗ u.x) ⊕ (v.y ⊖ u.y) ⊗ (z.y ⊖ num 1 ⊗ u.y)) ⊗ (v.y ⊖ u.y) ⊕ (v.x ⊖ u.x) ⊗ bracketᵖ (liftᵖ u) (liftᵖ v) (liftᵖ z)) tt
+along_y u v z = ring_in (u.x ∷ u.y ∷ v.x ∷ v.y ∷ z.x ∷ z.y ∷ z.w ∷ [])
+    (λ ux uy vx vy x y w. ((vx ⊖ ux) ⊗ (vx ⊖ num 1 ⊗ ux) ⊕ (vy ⊖ uy) ⊗ (vy ⊖ num 1 ⊗ uy)) ⊗ (y ⊖ w ⊗ uy))
+    (λ ux uy vx vy x y w. ((vx ⊖ ux) ⊗ (x ⊖ w ⊗ ux) ⊕ (vy ⊖ uy) ⊗ (y ⊖ w ⊗ uy)) ⊗ (vy ⊖ uy) ⊕ (vx ⊖ ux) ⊗ bracketᵖ (record { x = ux; y = uy; w = num 1 }) (record { x = vx; y = vy; w = num 1 }) (record { x = x; y = y; w = w })) tt
 
 -- u and v differ: the place of v is positive
 pub place_of_end : (u v : Point) → ¬ (u ≡ v) → pos 0 <ℤ place_on u v (lift v)
@@ -116,12 +116,26 @@ difference_positive a b h = omega (arith, ints)
 below_below : (a b c : ℤ) → a <ℤ b → b <ℤ c → a <ℤ c
 below_below a b c h k = omega (arith, ints)
 
+-- the same where the bracket is 0
+pub line_x : (u v : Point) (z : Vec3) → bracket (lift u) (lift v) z ≡ pos 0 → place_on u v (lift v) *ℤ (z.x -ℤ z.w *ℤ u.x) ≡ place_on u v z *ℤ (v.x -ℤ u.x)
+line_x u v z e = on_line_part (place_on u v (lift v) *ℤ (z.x -ℤ z.w *ℤ u.x)) (place_on u v z *ℤ (v.x -ℤ u.x)) (v.y -ℤ u.y) (bracket (lift u) (lift v) z) (along_x u v z) e
+
+-- by the other coordinate
+pub line_y : (u v : Point) (z : Vec3) → bracket (lift u) (lift v) z ≡ pos 0 → place_on u v (lift v) *ℤ (z.y -ℤ z.w *ℤ u.y) ≡ place_on u v z *ℤ (v.y -ℤ u.y)
+line_y u v z e = on_line_part' (place_on u v (lift v) *ℤ (z.y -ℤ z.w *ℤ u.y)) (place_on u v z *ℤ (v.y -ℤ u.y)) (v.x -ℤ u.x) (bracket (lift u) (lift v) z) (along_y u v z) e
+
+one_less : (l a b : ℤ) → l *ℤ (a -ℤ b) ≡ l *ℤ (a -ℤ pos 1 *ℤ b)
+one_less l a b = ap (λ t. l *ℤ (a -ℤ t)) (one b)
+  where
+    one : (b : ℤ) → b ≡ pos 1 *ℤ b
+    one b = omega (arith, ints)
+
 module _ (u v : Point) (apart : ¬ (u ≡ v)) where
   is_along_x : (z : Point) → bracket (lift u) (lift v) (lift z) ≡ pos 0 → place_on u v (lift v) *ℤ (z.x -ℤ u.x) ≡ place_on u v (lift z) *ℤ (v.x -ℤ u.x)
-  is_along_x z e = on_line_part (place_on u v (lift v) *ℤ (z.x -ℤ u.x)) (place_on u v (lift z) *ℤ (v.x -ℤ u.x)) (v.y -ℤ u.y) (bracket (lift u) (lift v) (lift z)) (along_x u v z) e
+  is_along_x z e = one_less (place_on u v (lift v)) z.x u.x ∙ line_x u v (lift z) e
 
   is_along_y : (z : Point) → bracket (lift u) (lift v) (lift z) ≡ pos 0 → place_on u v (lift v) *ℤ (z.y -ℤ u.y) ≡ place_on u v (lift z) *ℤ (v.y -ℤ u.y)
-  is_along_y z e = on_line_part' (place_on u v (lift v) *ℤ (z.y -ℤ u.y)) (place_on u v (lift z) *ℤ (v.y -ℤ u.y)) (v.x -ℤ u.x) (bracket (lift u) (lift v) (lift z)) (along_y u v z) e
+  is_along_y z e = one_less (place_on u v (lift v)) z.y u.y ∙ line_y u v (lift z) e
 
   -- a point of the line whose place is between those of two others is strictly between them
   pub within_by_places : (p z q : Point) → bracket (lift u) (lift v) (lift p) ≡ pos 0 → bracket (lift u) (lift v) (lift z) ≡ pos 0 → bracket (lift u) (lift v) (lift q) ≡ pos 0

@@ -15,11 +15,11 @@ use Rattle.plane.proofs.BracketIdentities.{bracket-turn, bracket-swap, bracket-o
 use Rattle.plane.proofs.Means.{two_weights}
 use Rattle.plane.proofs.Collinear.{place_on, place_of_end}
 use Rattle.plane_tiling.proofs.Totals.{Contains-head, Contains-later, Contains-cases, Contains-none}
-use Rattle.plane_tiling.proofs.Counting.{at, SignMesh}
+use Rattle.plane_tiling.proofs.Counting.{at, SignMesh, same_place}
 use Rattle.plane_tiling.proofs.Edges as E
 use Rattle.plane_tiling.proofs.Flows.{IsTurnOf}
 use Rattle.plane_tiling.proofs.Line.{IsNext, SignLine, next_turned}
-use Rattle.plane_tiling.proofs.LineOrder.{IsBetween, place_within, within_places, same_place}
+use Rattle.plane.proofs.LineOrder.{IsBetween, place_within, within_places}
 use Rattle.plane_edits.specs.Change.{FacesChange, OuterChange}
 use Rattle.plane_edits.specs.Extension.{fan, steps, last_of}
 use Rattle.plane_edits.proofs.Changes.{face_from, turn_of_all, IsOnce, once_none, once_cons, once_tail, once_head, same_total}

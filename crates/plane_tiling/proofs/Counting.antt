@@ -8,14 +8,15 @@ use Rattle.plane.specs.Tiling.{Face}
 use Rattle.plane_tiling.specs.Local.{total, around, along, IsAntisymmetric, AreBalanced, IsCorner}
 use Rattle.plane.proofs.IntegerOrder.{zero-mul_ℤ, zero_of_mul-zero_ℤ, mul-nonneg_of_nonpos_ℤ, mul-nonpos_of_nonneg_nonpos_ℤ, trichotomy_ℤ, mul-pos_ℤ}
 use Rattle.plane.proofs.Steps.{weak, weak_right, both_signs, left_not_zero, right_not_zero, negated_left}
-use Rattle.plane_tiling.proofs.StepsOfCounting.{sum_is_positive, all_zero, minus_one_and, one_from, zero_plus, average_from, weights_from, weight_below, swapped_sum, zero_plus', one_more}
+use Rattle.plane_tiling.proofs.StepsOfCounting.{sum_is_positive, all_zero, minus_one_and, one_from, zero_plus, average_from, weights_from, weight_below, zero_plus', one_more}
 use Rattle.plane_tiling.proofs.Totals.{Contains-head, total_agree, total_at_least, total_single}
 use Rattle.plane.proofs.Nudges.{Nudged, nudged_zero, nudge_each, moved, bracket-moved, bracket-moved_first}
 use Rattle.plane.proofs.Crossings.{turn, turn_left, turn_right, left_turn, turn-negated, crossing, crossing_back, crossing_not_from_left, hit, hit_is, hit_all, crossings_of_triangle}
 use Rattle.plane.proofs.Bracket.{Vec3, bracket, lift}
 use Rattle.plane.proofs.BracketIdentities.{bracket-turn, bracket-swap, bracket-same, bracket-outer, bracket-last, cramer_w, rays, passing, passing_w}
-use Rattle.plane.proofs.Collinear.{place_on, place_of_start, place_of_end, place-moved, passing_place, within_by_places, same_by_places, same_ends}
-use Rattle.plane.proofs.Means.{two_weights, mean_of_two}
+use Rattle.plane.proofs.Collinear.{place_on, place_of_start, place-moved, passing_place, same_by_places}
+use Rattle.plane.proofs.LineOrder.{overlap_by_average}
+use Rattle.plane.proofs.Means.{turned_mean_of_two}
 use Rattle.plane.proofs.Generic.{Inside, AreDistinct, IsGeneric, spot}
 
 abbrev pub at : (ℕ → Point) → ℕ → Vec3
@@ -41,6 +42,11 @@ same_index n p distinct i j h k e = go (cases_eq i j)
     go (inl s) = s
     go (inr s) = absurd (distinct i j h k s e)
 
+-- points of a line at one place have one index
+pub same_place : (n : ℕ) (p : ℕ → Point) → AreDistinct n p → (u v : Point) → ¬ (u ≡ v) → (i j : ℕ) → i < n → j < n → bracket (lift u) (lift v) (at p i) ≡ pos 0 → bracket (lift u) (lift v) (at p j) ≡ pos 0
+    → place_on u v (at p i) ≡ place_on u v (at p j) → i ≡ j
+same_place n p distinct u v apart i j h k on_i on_j e = same_index n p distinct i j h k (same_by_places u v apart (p i) (p j) on_i on_j e)
+
 pub corners_differ : (p : ℕ → Point) (a b c : ℕ) → pos 0 <ℤ bracket (at p a) (at p b) (at p c) → (a ≢ b) × (b ≢ c) × (c ≢ a)
 corners_differ p a b c h = (
   (λ e. left_not_zero h (ap (λ i. bracket (at p a) (at p i) (at p c)) (sym e) ∙ bracket-same (at p a) (at p c))),
@@ -49,18 +55,7 @@ corners_differ p a b c h = (
 )
 
 pub within_turned : (a b c : Point) → WithinSegment (whole a) (whole b) (whole c) → WithinSegment (whole b) (whole a) (whole c)
-within_turned a b c h = let t = two_weights IsPositive (whole a) (whole b) (whole c) h in
-    mean_of_two IsPositive (whole b) (whole a) (whole c) (record {
-      k = t.l;
-      l = t.k;
-      n = t.n;
-      k_allowed = t.l_allowed;
-      l_allowed = t.k_allowed;
-      positive = t.positive;
-      x = t.x ∙ swapped_sum (t.k *ℤ a.x) (t.l *ℤ b.x);
-      y = t.y ∙ swapped_sum (t.k *ℤ a.y) (t.l *ℤ b.y);
-      w = t.w ∙ swapped_sum (t.k *ℤ pos 1) (t.l *ℤ pos 1);
-    })
+within_turned a b c h = turned_mean_of_two IsPositive (whole a) (whole b) (whole c) h
 
 -- ---- the crossings of the ray from q to x
 pub flow_of : (ℕ → Point) → Vec3 → Vec3 → ℕ → ℕ → ℤ
@@ -195,21 +190,6 @@ module _ (n : ℕ) (p : ℕ → Point) (q : Vec3) (g : IsGeneric n p q) where
       weights : bracket x (at p s) q +ℤ neg_ℤ (bracket x (at p t) q) ≡ neg_ℤ (bracket (at p s) (at p t) q) *ℤ (k +ℤ pos 1)
       weights = weights_from (bracket x (at p s) (at p t)) q.w (bracket x (at p s) q) (bracket x (at p t) q) (bracket (at p s) (at p t) q) k flat (passing_w x (at p s) (at p t) q)
 
-      within : (a z b : ℕ) → bracket (at p u) (at p v) (at p a) ≡ pos 0 → bracket (at p u) (at p v) (at p z) ≡ pos 0 → bracket (at p u) (at p v) (at p b) ≡ pos 0 → place a <ℤ place z → place z <ℤ place b → WithinSegment (whole (p a)) (whole (p b)) (whole (p z))
-      within a z b = within_by_places (p u) (p v) apart (p a) (p z) (p b)
-
-      at_start : (z : ℤ) → pos 0 <ℤ z → place u <ℤ z
-      at_start z h = subst (λ y. y <ℤ z) (sym (place_of_start (p u) (p v))) h
-
-      at_start' : (z : ℤ) → z <ℤ pos 0 → z <ℤ place u
-      at_start' z h = subst (λ y. z <ℤ y) (sym (place_of_start (p u) (p v))) h
-
-      on_u : bracket (at p u) (at p v) (at p u) ≡ pos 0
-      on_u = bracket-outer (at p u) (at p v)
-
-      on_v : bracket (at p u) (at p v) (at p v) ≡ pos 0
-      on_v = bracket-last (at p u) (at p v)
-
       ends_first : (u < n) × (v < n) × (u ≢ v)
       ends_first = m.ends (u, v) first
 
@@ -220,23 +200,15 @@ module _ (n : ℕ) (p : ℕ → Point) (q : Vec3) (g : IsGeneric n p q) where
       negated z h = negated_left refl h
 
       pub crossed_is_first : (s ≡ u) × (t ≡ v)
-      crossed_is_first = go (same_ends (bracket x (at p s) q) (neg_ℤ (bracket x (at p t) q)) (neg_ℤ (bracket (at p s) (at p t) q) *ℤ k) (place v) (place s) (place t)
-          s_left (negated (bracket x (at p t) q) t_right) (mul-pos_ℤ (negated (bracket (at p s) (at p t) q) q_second) k_positive) (place_of_end (p u) (p v) apart) average (weight_below (bracket x (at p s) q +ℤ neg_ℤ (bracket x (at p t) q)) (neg_ℤ (bracket (at p s) (at p t) q)) k weights (negated (bracket (at p s) (at p t) q) q_second))
-          (λ h i. m.bare (u, v) first s ends_second.0 (within u s v on_u on_s on_v (at_start (place s) h) i))
-          (λ h i. m.bare (u, v) first t ends_second.1 (within u t v on_u on_t on_v (at_start (place t) h) i))
-          (λ h i. m.bare (s, t) second u ends_first.0 (within s u t on_s on_u on_t (at_start' (place s) h) (at_start (place t) i)))
-          (λ h i. m.bare (s, t) second u ends_first.0 (within_turned (p t) (p s) (p u) (within t u s on_t on_u on_s (at_start' (place t) h) (at_start (place s) i))))
-          (λ h i. m.bare (s, t) second v ends_first.1 (within s v t on_s on_v on_t h i))
-          (λ h i. m.bare (s, t) second v ends_first.1 (within_turned (p t) (p s) (p v) (within t v s on_t on_v on_s h i))))
+      crossed_is_first = go (overlap_by_average (p u) (p v) (p s) (p t) apart on_s on_t (bracket x (at p s) q) (neg_ℤ (bracket x (at p t) q)) (neg_ℤ (bracket (at p s) (at p t) q) *ℤ k)
+          s_left (negated (bracket x (at p t) q) t_right) (mul-pos_ℤ (negated (bracket (at p s) (at p t) q) q_second) k_positive) average (weight_below (bracket x (at p s) q +ℤ neg_ℤ (bracket x (at p t) q)) (neg_ℤ (bracket (at p s) (at p t) q)) k weights (negated (bracket (at p s) (at p t) q) q_second))
+          (m.bare (u, v) first s ends_second.0) (m.bare (u, v) first t ends_second.1) (m.bare (s, t) second u ends_first.0) (m.bare (s, t) second v ends_first.1))
         where
-          same_place : (i j : ℕ) → i < n → j < n → bracket (at p u) (at p v) (at p i) ≡ pos 0 → bracket (at p u) (at p v) (at p j) ≡ pos 0 → place i ≡ place j → i ≡ j
-          same_place i j h l a b e = same_index n p m.distinct i j h l (same_by_places (p u) (p v) apart (p i) (p j) a b e)
-
-          go : ((place s ≡ pos 0) × (place t ≡ place v)) ⊎ ((place s ≡ place v) × (place t ≡ pos 0)) → (s ≡ u) × (t ≡ v)
-          go (inl e) = (same_place s u ends_second.0 ends_first.0 on_s on_u (e.0 ∙ sym (place_of_start (p u) (p v))), same_place t v ends_second.1 ends_first.1 on_t on_v e.1)
+          go : ((p s ≡ p u) × (p t ≡ p v)) ⊎ ((p s ≡ p v) × (p t ≡ p u)) → (s ≡ u) × (t ≡ v)
+          go (inl e) = (same_index n p m.distinct s u ends_second.0 ends_first.0 e.0, same_index n p m.distinct t v ends_second.1 ends_first.1 e.1)
           go (inr e) =
-              let a = same_place s v ends_second.0 ends_first.1 on_s on_v e.0 in
-              let b = same_place t u ends_second.1 ends_first.0 on_t on_u (e.1 ∙ sym (place_of_start (p u) (p v))) in
+              let a = same_index n p m.distinct s v ends_second.0 ends_first.1 e.0 in
+              let b = same_index n p m.distinct t u ends_second.1 ends_first.0 e.1 in
               absurd (both_signs (negated_left (bracket-swap (at p v) (at p u) q) q_first) (subst (λ z. z <ℤ pos 0) (λ i. bracket (at p (a i)) (at p (b i)) q) q_second))
 
     -- the outer edges count -1

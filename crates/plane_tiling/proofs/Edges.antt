@@ -1,17 +1,16 @@
 -- The sides of faces: no vertex is strictly within one, two different ones have no common point strictly within both, and a closed face at a point strictly within one has it as a side. Where a point is in a local mesh.
-use Rattle.std.proofs.Common.{◌≡◌, ◌⊎◌, ℕ, ◌<◌, List, [], ◌∷◌, sym, ap, ◌∙◌, subst, arith}
+use Rattle.std.proofs.Common.{◌≡◌, ◌⊎◌, ℕ, ◌<◌, List, sym, ap, ◌∙◌, subst, arith}
 use mathlib.Core.Logic.{inl, inr, ◌≢◌}
-use Rattle.std.specs.Prelude.{ℤ, pos, ◌+ℤ◌, ◌-ℤ◌, ◌*ℤ◌, ◌<ℤ◌}
+use Rattle.std.specs.Prelude.{ℤ, pos, ◌+ℤ◌, ◌*ℤ◌, ◌<ℤ◌}
 use Rattle.std.proofs.lemmas.Int.{ints}
 use Rattle.plane.specs.Fraction.{Point, Fraction, whole, IsPositive, WithinSegment}
 use Rattle.plane.specs.Tiling.{Face}
-use Rattle.plane.proofs.Means.{TwoWeights, two_weights, mean_of_two, bracket_of_two}
+use Rattle.plane.proofs.Means.{TwoWeights, two_weights, turned_mean_of_two, bracket_of_two}
 use Rattle.plane.proofs.IntegerOrder.{neg_of_mul-neg_ℤ, zero-mul_ℤ, zero_of_mul-zero_ℤ, pos_of_mul-pos_ℤ, mul-pos_ℤ, mul-neg_of_pos_neg_ℤ, trichotomy_ℤ, pos-ne-zero_ℤ}
 use Rattle.plane.proofs.Steps.{weak, right_not_zero, left_not_zero, both_signs, negated_left, negated_right, zero_weak_left}
-use Rattle.plane.proofs.Solver.{num, ◌⊕◌, ◌⊖◌, ◌⊗◌, ring_in_from}
 use Rattle.plane.proofs.Bracket.{Vec3, bracket, lift, vec}
 use Rattle.plane.proofs.BracketIdentities.{bracket-turn, bracket-swap, bracket-outer, bracket-last}
-use Rattle.plane.proofs.Collinear.{place_on, place_of_start, place_of_end, within_by_places, same_by_places, same_ends, mean_place}
+use Rattle.plane.proofs.LineOrder.{overlap_ends}
 use Rattle.plane.proofs.Generic.{Inside, IsNudged, near}
 use Rattle.plane_tiling.proofs.Flows.{IsTurnOf, HasSide, turned}
 use Rattle.plane_tiling.proofs.Counting.{at, SignMesh, same_index, corners_differ, within_turned}
@@ -22,21 +21,7 @@ pub mean_bracket : (A : ℤ → Type 0) (s t u v : Point) (y : Fraction) (w : Tw
 mean_bracket A s t u v y w = bracket_of_two A (lift s) (lift t) (whole u) (whole v) y w
 
 pub turned_within : (a b y : Fraction) → WithinSegment a b y → WithinSegment b a y
-turned_within a b y h = let t = two_weights IsPositive a b y h in
-    mean_of_two IsPositive b a y (record {
-      k = t.l;
-      l = t.k;
-      n = t.n;
-      k_allowed = t.l_allowed;
-      l_allowed = t.k_allowed;
-      positive = t.positive;
-      x = t.x ∙ swapped (t.k *ℤ a.x) (t.l *ℤ b.x);
-      y = t.y ∙ swapped (t.k *ℤ a.y) (t.l *ℤ b.y);
-      w = t.w ∙ swapped (t.k *ℤ a.w) (t.l *ℤ b.w);
-    })
-  where
-    swapped : (a b : ℤ) → a +ℤ b ≡ b +ℤ a
-    swapped a b = omega (arith, ints)
+turned_within a b y h = turned_mean_of_two IsPositive a b y h
 
 only_first : (s a b : ℤ) → s ≡ a +ℤ b → b ≡ pos 0 → s ≡ a
 only_first s a b e h = omega (arith, ints)
@@ -77,18 +62,6 @@ within_third u v k y h turns =
     pos_of_mul-pos_ℤ w.positive (subst (λ z. pos 0 <ℤ z) (sym (only_second (w.n *ℤ bracket (lift k) (lift u) (vec y)) (w.k *ℤ bracket (lift k) (lift u) (lift u)) (w.l *ℤ bracket (lift k) (lift u) (lift v)) (mean_bracket IsPositive k u u v y w) (zero-mul_ℤ w.k (bracket-last (lift k) (lift u)))))
     (mul-pos_ℤ w.l_allowed (subst (λ z. pos 0 <ℤ z) (bracket-turn (lift u) (lift v) (lift k) ∙ bracket-turn (lift v) (lift k) (lift u)) turns)))
 
--- one point, a mean of two pairs: the two sides of a common multiple
-common_average : (n m k l g d fy s t e : ℤ) → n *ℤ fy ≡ k *ℤ pos 0 +ℤ l *ℤ e → m *ℤ fy ≡ g *ℤ s +ℤ d *ℤ t → (n *ℤ d) *ℤ t +ℤ (n *ℤ g) *ℤ s ≡ (m *ℤ l) *ℤ e
-common_average n m k l g d fy s t e h i = ring_in_from (n ∷ m ∷ k ∷ l ∷ g ∷ d ∷ fy ∷ s ∷ t ∷ e ∷ []) (λ n m k l g d fy s t e. (n ⊗ d) ⊗ t ⊕ (n ⊗ g) ⊗ s) (λ n m k l g d fy s t e. (m ⊗ l) ⊗ e)
-    (λ n m k l g d fy s t e. (m, n ⊗ fy, k ⊗ num 0 ⊕ l ⊗ e) ∷ (num 0 ⊖ n, m ⊗ fy, g ⊗ s ⊕ d ⊗ t) ∷ []) (h, (i, tt)) tt
-
-common_weight : (n m k l g d w : ℤ) → n *ℤ w ≡ k *ℤ pos 1 +ℤ l *ℤ pos 1 → m *ℤ w ≡ g *ℤ pos 1 +ℤ d *ℤ pos 1 → n *ℤ d +ℤ n *ℤ g -ℤ m *ℤ l ≡ m *ℤ k
-common_weight n m k l g d w h i = ring_in_from (n ∷ m ∷ k ∷ l ∷ g ∷ d ∷ w ∷ []) (λ n m k l g d w. n ⊗ d ⊕ n ⊗ g ⊖ m ⊗ l) (λ n m k l g d w. m ⊗ k)
-    (λ n m k l g d w. (m, n ⊗ w, k ⊗ num 1 ⊕ l ⊗ num 1) ∷ (num 0 ⊖ n, m ⊗ w, g ⊗ num 1 ⊕ d ⊗ num 1) ∷ []) (h, (i, tt)) tt
-
-below_by : (a b c : ℤ) → a -ℤ b ≡ c → pos 0 <ℤ c → b <ℤ a
-below_by a b c e h = omega (arith, ints)
-
 module _ (n : ℕ) (p : ℕ → Point) (faces : List Face) (outer : List (ℕ × ℕ)) (m : SignMesh n p faces outer) where
   -- a side of a face, one way or the other
   abbrev pub IsSideOf : ℕ → ℕ → Type 0
@@ -122,53 +95,18 @@ module _ (n : ℕ) (p : ℕ → Point) (faces : List Face) (outer : List (ℕ ×
     on_one_line : (a b c d : ℕ) → IsSideOf a b → IsSideOf c d → WithinSegment (whole (p a)) (whole (p b)) y → WithinSegment (whole (p c)) (whole (p d)) y
         → bracket (at p a) (at p b) (at p c) ≡ pos 0 → bracket (at p a) (at p b) (at p d) ≡ pos 0 → ((c ≡ a) × (d ≡ b)) ⊎ ((c ≡ b) × (d ≡ a))
     on_one_line a b c d first second w v on_c on_d =
-        let t = two_weights IsPositive (whole (p a)) (whole (p b)) y w in
-        let r = two_weights IsPositive (whole (p c)) (whole (p d)) y v in
-        let average = common_average t.n r.n t.k t.l r.k r.l (place_on (p a) (p b) (vec y)) (place c) (place d) (place b)
-        (mean_place IsPositive (p a) (p b) (whole (p a)) (whole (p b)) y t ∙ ap (λ z. t.k *ℤ z +ℤ t.l *ℤ place b) (place_of_start (p a) (p b)))
-        (mean_place IsPositive (p a) (p b) (whole (p c)) (whole (p d)) y r) in
-        let weights = below_by (t.n *ℤ r.l +ℤ t.n *ℤ r.k) (r.n *ℤ t.l) (r.n *ℤ t.k) (common_weight t.n r.n t.k t.l r.k r.l y.w t.w r.w) (mul-pos_ℤ r.positive t.k_allowed) in
-        go (same_ends (t.n *ℤ r.l) (t.n *ℤ r.k) (r.n *ℤ t.l) (place b) (place c) (place d) (mul-pos_ℤ t.positive r.l_allowed) (mul-pos_ℤ t.positive r.k_allowed) (mul-pos_ℤ r.positive t.l_allowed) (place_of_end (p a) (p b) apart) average weights
-        (λ h i. side_bare a b c first ends_second.0 (within a c b on_a on_c on_b (at_start (place c) h) i))
-        (λ h i. side_bare a b d first ends_second.1 (within a d b on_a on_d on_b (at_start (place d) h) i))
-        (λ h i. side_bare c d a second ends_first.0 (within c a d on_c on_a on_d (at_start' (place c) h) (at_start (place d) i)))
-        (λ h i. side_bare c d a second ends_first.0 (within_turned (p d) (p c) (p a) (within d a c on_d on_a on_c (at_start' (place d) h) (at_start (place c) i))))
-        (λ h i. side_bare c d b second ends_first.1 (within c b d on_c on_b on_d h i))
-        (λ h i. side_bare c d b second ends_first.1 (within_turned (p d) (p c) (p b) (within d b c on_d on_b on_c h i))))
+        go (overlap_ends (p a) (p b) (p c) (p d) (m.distinct a b ends_first.0 ends_first.1 ends_first.2) on_c on_d y w v
+        (side_bare a b c first ends_second.0) (side_bare a b d first ends_second.1) (side_bare c d a second ends_first.0) (side_bare c d b second ends_first.1))
       where
-        place : ℕ → ℤ
-        place i = place_on (p a) (p b) (at p i)
-
         ends_first : (a < n) × (b < n) × (a ≢ b)
         ends_first = side_index a b first
 
         ends_second : (c < n) × (d < n) × (c ≢ d)
         ends_second = side_index c d second
 
-        apart : ¬ (p a ≡ p b)
-        apart = m.distinct a b ends_first.0 ends_first.1 ends_first.2
-
-        on_a : bracket (at p a) (at p b) (at p a) ≡ pos 0
-        on_a = bracket-outer (at p a) (at p b)
-
-        on_b : bracket (at p a) (at p b) (at p b) ≡ pos 0
-        on_b = bracket-last (at p a) (at p b)
-
-        within : (i z j : ℕ) → bracket (at p a) (at p b) (at p i) ≡ pos 0 → bracket (at p a) (at p b) (at p z) ≡ pos 0 → bracket (at p a) (at p b) (at p j) ≡ pos 0 → place_on (p a) (p b) (at p i) <ℤ place_on (p a) (p b) (at p z) → place_on (p a) (p b) (at p z) <ℤ place_on (p a) (p b) (at p j) → WithinSegment (whole (p i)) (whole (p j)) (whole (p z))
-        within i z j = within_by_places (p a) (p b) apart (p i) (p z) (p j)
-
-        at_start : (z : ℤ) → pos 0 <ℤ z → place_on (p a) (p b) (at p a) <ℤ z
-        at_start z h = subst (λ x. x <ℤ z) (sym (place_of_start (p a) (p b))) h
-
-        at_start' : (z : ℤ) → z <ℤ pos 0 → z <ℤ place_on (p a) (p b) (at p a)
-        at_start' z h = subst (λ x. z <ℤ x) (sym (place_of_start (p a) (p b))) h
-
-        same : (i j : ℕ) → i < n → j < n → bracket (at p a) (at p b) (at p i) ≡ pos 0 → bracket (at p a) (at p b) (at p j) ≡ pos 0 → place_on (p a) (p b) (at p i) ≡ place_on (p a) (p b) (at p j) → i ≡ j
-        same i j h l x z e = same_index n p m.distinct i j h l (same_by_places (p a) (p b) apart (p i) (p j) x z e)
-
-        go : ((place c ≡ pos 0) × (place d ≡ place b)) ⊎ ((place c ≡ place b) × (place d ≡ pos 0)) → ((c ≡ a) × (d ≡ b)) ⊎ ((c ≡ b) × (d ≡ a))
-        go (inl e) = inl (same c a ends_second.0 ends_first.0 on_c on_a (e.0 ∙ sym (place_of_start (p a) (p b))), same d b ends_second.1 ends_first.1 on_d on_b e.1)
-        go (inr e) = inr (same c b ends_second.0 ends_first.1 on_c on_b e.0, same d a ends_second.1 ends_first.0 on_d on_a (e.1 ∙ sym (place_of_start (p a) (p b))))
+        go : ((p c ≡ p a) × (p d ≡ p b)) ⊎ ((p c ≡ p b) × (p d ≡ p a)) → ((c ≡ a) × (d ≡ b)) ⊎ ((c ≡ b) × (d ≡ a))
+        go (inl e) = inl (same_index n p m.distinct c a ends_second.0 ends_first.0 e.0, same_index n p m.distinct d b ends_second.1 ends_first.1 e.1)
+        go (inr e) = inr (same_index n p m.distinct c b ends_second.0 ends_first.1 e.0, same_index n p m.distinct d a ends_second.1 ends_first.0 e.1)
 
     -- near y, towards q first and then towards r: inside a face on u v, if y is strictly within u v, q is on it and r the third corner; or if q is left of it
     inside_towards : (u v k : ℕ) → IsTurnOf faces u v k → WithinSegment (whole (p u)) (whole (p v)) y → (q r z z' : Vec3) → IsNudged n p (vec y) q z → IsNudged n p z r z'

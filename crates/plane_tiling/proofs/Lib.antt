@@ -8,7 +8,6 @@ pub mod Loops
 pub mod Edges
 pub mod Places
 pub mod OneFace
-pub mod LineOrder
 pub mod Line
 pub mod Appended
 pub mod LineMeshes

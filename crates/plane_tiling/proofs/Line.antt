@@ -12,9 +12,9 @@ use Rattle.plane.proofs.Bracket.{Vec3, bracket, lift}
 use Rattle.plane.proofs.BracketIdentities.{bracket-turn, bracket-swap, bracket-outer, bracket-last}
 use Rattle.plane.proofs.Collinear.{place_on, place_of_start, place_of_end}
 use Rattle.plane.proofs.Generic.{AreDistinct, not_on_line}
-use Rattle.plane_tiling.proofs.Counting.{at, within_turned}
+use Rattle.plane_tiling.proofs.Counting.{at, within_turned, same_place}
 use Rattle.plane_tiling.proofs.Edges as E
-use Rattle.plane_tiling.proofs.LineOrder.{IsBetween, place_within, within_places, same_place}
+use Rattle.plane.proofs.LineOrder.{IsBetween, place_within, within_places}
 
 -- i and j have no other of the first n points strictly between them
 pub record IsNext (n : ℕ) (p : ℕ → Point) (i j : ℕ) : Type 0 where

@@ -11,11 +11,11 @@ use Rattle.plane.proofs.Solver.{num, ◌⊕◌, ◌⊖◌, ◌⊗◌, ring_in}
 use Rattle.plane.proofs.Bracket.{bracket, vec}
 use Rattle.plane.proofs.BracketIdentities.{bracket-swap, bracket-outer}
 use Rattle.plane.proofs.Collinear.{place_on}
-use Rattle.plane_tiling.proofs.Counting.{at}
+use Rattle.plane_tiling.proofs.Counting.{at, same_place}
 use Rattle.plane_tiling.proofs.Edges.{turned_within, within_on}
 use Rattle.plane_tiling.proofs.Places.{same_within, bracket_at, one_vertex_at}
 use Rattle.plane.proofs.Steps.{left_not_zero, negated_left}
-use Rattle.plane_tiling.proofs.LineOrder.{ahead, AreOneSign, within_if_ahead, ahead_if_within, same_if_level, level_if_same, same_place}
+use Rattle.plane.proofs.LineOrder.{ahead, AreOneSign, within_if_ahead, ahead_if_within, same_if_level, level_if_same}
 use Rattle.plane_tiling.proofs.Line.{SignLine, IsNext, next_turned, flat}
 
 -- ---- the greatest number below a bound

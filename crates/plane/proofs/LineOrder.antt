@@ -1,5 +1,5 @@
--- Points of one line, in the order of their places on the way from one of them to another.
-use Rattle.std.proofs.Common.{◌≡◌, ◌⊎◌, ℕ, ◌<◌, [], ◌∷◌, sym, ◌∙◌, subst, arith}
+-- Points of one line in the order of their places on the way from one of them to another: between in the plane is between in the order. Two segments of one line that overlap, none with an end within the other, have the same ends.
+use Rattle.std.proofs.Common.{◌≡◌, ◌⊎◌, [], ◌∷◌, ap, sym, ◌∙◌, subst, arith}
 use mathlib.Core.Logic.{inl, inr}
 use Rattle.std.specs.Prelude.{ℤ, pos, ◌+ℤ◌, ◌-ℤ◌, ◌*ℤ◌, ◌<ℤ◌}
 use Rattle.std.proofs.lemmas.Int.{ints}
@@ -7,11 +7,10 @@ use lib.IntN.{*ℤ_comm}
 use Rattle.plane.specs.Fraction.{Point, Fraction, whole, IsSame, IsPositive, WithinSegment}
 use Rattle.plane.proofs.IntegerOrder.{mul-pos_ℤ, mul-neg_of_pos_neg_ℤ, pos_of_mul-pos_ℤ, neg_of_mul-neg_ℤ, trichotomy_ℤ, zero-mul_ℤ, zero_of_mul-zero_ℤ, pos-ne-zero_ℤ, mul_cancel_ℤ}
 use Rattle.plane.proofs.Solver.{num, ◌⊕◌, ◌⊖◌, ◌⊗◌, ring_in_from}
-use Rattle.plane.proofs.Means.{TwoWeights, two_weights, mean_of_two}
-use Rattle.plane.proofs.Bracket.{bracket, bracketᵖ, lift, vec}
-use Rattle.plane.proofs.Collinear.{place_on, place_of_end, within_by_places, same_by_places, mean_place}
-use Rattle.plane.proofs.Generic.{AreDistinct}
-use Rattle.plane_tiling.proofs.Counting.{at, same_index, within_turned}
+use Rattle.plane.proofs.Means.{TwoWeights, two_weights, mean_of_two, turned_mean_of_two}
+use Rattle.plane.proofs.Bracket.{bracket, lift, vec}
+use Rattle.plane.proofs.BracketIdentities.{bracket-outer, bracket-last}
+use Rattle.plane.proofs.Collinear.{place_on, place_of_start, place_of_end, within_by_places, same_by_places, same_ends, mean_place, line_x, line_y}
 
 -- z is strictly between x and y
 abbrev pub IsBetween : ℤ → ℤ → ℤ → Type 0
@@ -68,30 +67,11 @@ place_within u v a b z h =
 pub within_places : (u v : Point) → ¬ (u ≡ v) → (a b z : Point) → bracket (lift u) (lift v) (lift a) ≡ pos 0 → bracket (lift u) (lift v) (lift b) ≡ pos 0 → bracket (lift u) (lift v) (lift z) ≡ pos 0
     → IsBetween (place_on u v (lift a)) (place_on u v (lift b)) (place_on u v (lift z)) → WithinSegment (whole a) (whole b) (whole z)
 within_places u v apart a b z on_a on_b on_z (inl o) = within_by_places u v apart a z b on_a on_z on_b o.0 o.1
-within_places u v apart a b z on_a on_b on_z (inr o) = within_turned b a z (within_by_places u v apart b z a on_b on_z on_a o.0 o.1)
-
--- points of the line at one place have one index
-pub same_place : (n : ℕ) (p : ℕ → Point) → AreDistinct n p → (u v : Point) → ¬ (u ≡ v) → (i j : ℕ) → i < n → j < n → bracket (lift u) (lift v) (at p i) ≡ pos 0 → bracket (lift u) (lift v) (at p j) ≡ pos 0
-    → place_on u v (at p i) ≡ place_on u v (at p j) → i ≡ j
-same_place n p distinct u v apart i j h k on_i on_j e = same_index n p distinct i j h k (same_by_places u v apart (p i) (p j) on_i on_j e)
+within_places u v apart a b z on_a on_b on_z (inr o) = turned_mean_of_two IsPositive (whole b) (whole a) (whole z) (within_by_places u v apart b z a on_b on_z on_a o.0 o.1)
 
 -- ---- fraction points of the line: how far b is ahead of a, times both denominators
 unfoldable pub ahead : Point → Point → Fraction → Fraction → ℤ
 ahead u v a b = a.w *ℤ place_on u v (vec b) -ℤ b.w *ℤ place_on u v (vec a)
-
-line_x : (u v : Point) (z : Fraction) → bracket (lift u) (lift v) (vec z) ≡ pos 0 → place_on u v (lift v) *ℤ (z.x -ℤ z.w *ℤ u.x) ≡ place_on u v (vec z) *ℤ (v.x -ℤ u.x)
-unfolding place_on bracket
-line_x u v z e = ring_in_from (u.x ∷ u.y ∷ v.x ∷ v.y ∷ z.x ∷ z.y ∷ z.w ∷ [])
-    (λ ux uy vx vy x y w. ((vx ⊖ ux) ⊗ (vx ⊖ num 1 ⊗ ux) ⊕ (vy ⊖ uy) ⊗ (vy ⊖ num 1 ⊗ uy)) ⊗ (x ⊖ w ⊗ ux))
-    (λ ux uy vx vy x y w. ((vx ⊖ ux) ⊗ (x ⊖ w ⊗ ux) ⊕ (vy ⊖ uy) ⊗ (y ⊖ w ⊗ uy)) ⊗ (vx ⊖ ux))
-    (λ ux uy vx vy x y w. (uy ⊖ vy, bracketᵖ (record { x = ux; y = uy; w = num 1 }) (record { x = vx; y = vy; w = num 1 }) (record { x = x; y = y; w = w }), num 0) ∷ []) (e, tt) tt
-
-line_y : (u v : Point) (z : Fraction) → bracket (lift u) (lift v) (vec z) ≡ pos 0 → place_on u v (lift v) *ℤ (z.y -ℤ z.w *ℤ u.y) ≡ place_on u v (vec z) *ℤ (v.y -ℤ u.y)
-unfolding place_on bracket
-line_y u v z e = ring_in_from (u.x ∷ u.y ∷ v.x ∷ v.y ∷ z.x ∷ z.y ∷ z.w ∷ [])
-    (λ ux uy vx vy x y w. ((vx ⊖ ux) ⊗ (vx ⊖ num 1 ⊗ ux) ⊕ (vy ⊖ uy) ⊗ (vy ⊖ num 1 ⊗ uy)) ⊗ (y ⊖ w ⊗ uy))
-    (λ ux uy vx vy x y w. ((vx ⊖ ux) ⊗ (x ⊖ w ⊗ ux) ⊕ (vy ⊖ uy) ⊗ (y ⊖ w ⊗ uy)) ⊗ (vy ⊖ uy))
-    (λ ux uy vx vy x y w. (vx ⊖ ux, bracketᵖ (record { x = ux; y = uy; w = num 1 }) (record { x = vx; y = vy; w = num 1 }) (record { x = x; y = y; w = w }), num 0) ∷ []) (e, tt) tt
 
 -- one coordinate of a point of the line between two others: l is the length, g the way, o the start; a, b and z are points, f, h and i their places
 mean_part : (l g o a aw f b bw h z zw i : ℤ) → pos 0 <ℤ l → l *ℤ (a -ℤ aw *ℤ o) ≡ f *ℤ g → l *ℤ (b -ℤ bw *ℤ o) ≡ h *ℤ g → l *ℤ (z -ℤ zw *ℤ o) ≡ i *ℤ g
@@ -125,8 +105,8 @@ within_if_ahead u v apart a b z on_a on_b on_z h k =
       k_allowed = k;
       l_allowed = h;
       positive = part_of_sum (a.w *ℤ g -ℤ b.w *ℤ f) z.w (z.w *ℤ g -ℤ b.w *ℤ i) a.w (a.w *ℤ i -ℤ z.w *ℤ f) b.w (mean_weight a.w f b.w g z.w i) z.positive k a.positive h b.positive;
-      x = mean_part (place_on u v (lift v)) (v.x -ℤ u.x) u.x a.x a.w f b.x b.w g z.x z.w i (place_of_end u v apart) (line_x u v a on_a) (line_x u v b on_b) (line_x u v z on_z);
-      y = mean_part (place_on u v (lift v)) (v.y -ℤ u.y) u.y a.y a.w f b.y b.w g z.y z.w i (place_of_end u v apart) (line_y u v a on_a) (line_y u v b on_b) (line_y u v z on_z);
+      x = mean_part (place_on u v (lift v)) (v.x -ℤ u.x) u.x a.x a.w f b.x b.w g z.x z.w i (place_of_end u v apart) (line_x u v (vec a) on_a) (line_x u v (vec b) on_b) (line_x u v (vec z) on_z);
+      y = mean_part (place_on u v (lift v)) (v.y -ℤ u.y) u.y a.y a.w f b.y b.w g z.y z.w i (place_of_end u v apart) (line_y u v (vec a) on_a) (line_y u v (vec b) on_b) (line_y u v (vec z) on_z);
       w = mean_weight a.w f b.w g z.w i;
     })
 
@@ -172,8 +152,8 @@ ahead_if_within u v a b z h = go (trichotomy_ℤ (a.w *ℤ place_on u v (vec b) 
 pub same_if_level : (u v : Point) → ¬ (u ≡ v) → (a b : Fraction) → bracket (lift u) (lift v) (vec a) ≡ pos 0 → bracket (lift u) (lift v) (vec b) ≡ pos 0 → ahead u v a b ≡ pos 0 → IsSame a b
 unfolding ahead
 same_if_level u v apart a b on_a on_b e = record {
-  x = part (place_on u v (lift v)) (v.x -ℤ u.x) u.x a.x a.w (place_on u v (vec a)) b.x b.w (place_on u v (vec b)) (place_of_end u v apart) (line_x u v a on_a) (line_x u v b on_b) e;
-  y = part (place_on u v (lift v)) (v.y -ℤ u.y) u.y a.y a.w (place_on u v (vec a)) b.y b.w (place_on u v (vec b)) (place_of_end u v apart) (line_y u v a on_a) (line_y u v b on_b) e;
+  x = part (place_on u v (lift v)) (v.x -ℤ u.x) u.x a.x a.w (place_on u v (vec a)) b.x b.w (place_on u v (vec b)) (place_of_end u v apart) (line_x u v (vec a) on_a) (line_x u v (vec b) on_b) e;
+  y = part (place_on u v (lift v)) (v.y -ℤ u.y) u.y a.y a.w (place_on u v (vec a)) b.y b.w (place_on u v (vec b)) (place_of_end u v apart) (line_y u v (vec a) on_a) (line_y u v (vec b) on_b) e;
 }
   where
     part : (l g o a aw f b bw h : ℤ) → pos 0 <ℤ l → l *ℤ (a -ℤ aw *ℤ o) ≡ f *ℤ g → l *ℤ (b -ℤ bw *ℤ o) ≡ h *ℤ g → aw *ℤ h -ℤ bw *ℤ f ≡ pos 0 → a *ℤ bw ≡ b *ℤ aw
@@ -187,3 +167,59 @@ level_if_same u v a b s = ring_in_from (u.x ∷ u.y ∷ v.x ∷ v.y ∷ a.x ∷ 
     (λ ux uy vx vy ax ay aw bx by bw. aw ⊗ ((vx ⊖ ux) ⊗ (bx ⊖ bw ⊗ ux) ⊕ (vy ⊖ uy) ⊗ (by ⊖ bw ⊗ uy)) ⊖ bw ⊗ ((vx ⊖ ux) ⊗ (ax ⊖ aw ⊗ ux) ⊕ (vy ⊖ uy) ⊗ (ay ⊖ aw ⊗ uy)))
     (λ ux uy vx vy ax ay aw bx by bw. num 0)
     (λ ux uy vx vy ax ay aw bx by bw. (num 0 ⊖ (vx ⊖ ux), ax ⊗ bw, bx ⊗ aw) ∷ (num 0 ⊖ (vy ⊖ uy), ay ⊗ bw, by ⊗ aw) ∷ []) (s.x, (s.y, tt)) tt
+
+-- ---- two segments of one line, of u v and of s t, with a common point strictly within both
+-- one point, a mean of two pairs: the two sides of a common multiple
+common_average : (n m k l g d fy s t e : ℤ) → n *ℤ fy ≡ k *ℤ pos 0 +ℤ l *ℤ e → m *ℤ fy ≡ g *ℤ s +ℤ d *ℤ t → (n *ℤ d) *ℤ t +ℤ (n *ℤ g) *ℤ s ≡ (m *ℤ l) *ℤ e
+common_average n m k l g d fy s t e h i = ring_in_from (n ∷ m ∷ k ∷ l ∷ g ∷ d ∷ fy ∷ s ∷ t ∷ e ∷ []) (λ n m k l g d fy s t e. (n ⊗ d) ⊗ t ⊕ (n ⊗ g) ⊗ s) (λ n m k l g d fy s t e. (m ⊗ l) ⊗ e)
+    (λ n m k l g d fy s t e. (m, n ⊗ fy, k ⊗ num 0 ⊕ l ⊗ e) ∷ (num 0 ⊖ n, m ⊗ fy, g ⊗ s ⊕ d ⊗ t) ∷ []) (h, (i, tt)) tt
+
+common_weight : (n m k l g d w : ℤ) → n *ℤ w ≡ k *ℤ pos 1 +ℤ l *ℤ pos 1 → m *ℤ w ≡ g *ℤ pos 1 +ℤ d *ℤ pos 1 → n *ℤ d +ℤ n *ℤ g -ℤ m *ℤ l ≡ m *ℤ k
+common_weight n m k l g d w h i = ring_in_from (n ∷ m ∷ k ∷ l ∷ g ∷ d ∷ w ∷ []) (λ n m k l g d w. n ⊗ d ⊕ n ⊗ g ⊖ m ⊗ l) (λ n m k l g d w. m ⊗ k)
+    (λ n m k l g d w. (m, n ⊗ w, k ⊗ num 1 ⊕ l ⊗ num 1) ∷ (num 0 ⊖ n, m ⊗ w, g ⊗ num 1 ⊕ d ⊗ num 1) ∷ []) (h, (i, tt)) tt
+
+below_by : (a b c : ℤ) → a -ℤ b ≡ c → pos 0 <ℤ c → b <ℤ a
+below_by a b c e h = omega (arith, ints)
+
+module _ (u v s t : Point) (apart : ¬ (u ≡ v)) (on_s : bracket (lift u) (lift v) (lift s) ≡ pos 0) (on_t : bracket (lift u) (lift v) (lift t) ≡ pos 0) where
+  on_u : bracket (lift u) (lift v) (lift u) ≡ pos 0
+  on_u = bracket-outer (lift u) (lift v)
+
+  on_v : bracket (lift u) (lift v) (lift v) ≡ pos 0
+  on_v = bracket-last (lift u) (lift v)
+
+  after_start : (z : ℤ) → pos 0 <ℤ z → place_on u v (lift u) <ℤ z
+  after_start z h = subst (λ y. y <ℤ z) (sym (place_of_start u v)) h
+
+  before_start : (z : ℤ) → z <ℤ pos 0 → z <ℤ place_on u v (lift u)
+  before_start z h = subst (λ y. z <ℤ y) (sym (place_of_start u v)) h
+
+  -- here the common point is told by the weights of s and t, and by the weight of v in another average
+  pub overlap_by_average : (a b w : ℤ) → pos 0 <ℤ a → pos 0 <ℤ b → pos 0 <ℤ w → a *ℤ place_on u v (lift t) +ℤ b *ℤ place_on u v (lift s) ≡ w *ℤ place_on u v (lift v) → w <ℤ (a +ℤ b)
+      → ¬ WithinSegment (whole u) (whole v) (whole s) → ¬ WithinSegment (whole u) (whole v) (whole t) → ¬ WithinSegment (whole s) (whole t) (whole u) → ¬ WithinSegment (whole s) (whole t) (whole v)
+      → ((s ≡ u) × (t ≡ v)) ⊎ ((s ≡ v) × (t ≡ u))
+  overlap_by_average a b w ha hb hw average weights out_s out_t out_u out_v =
+      go (same_ends a b w (place_on u v (lift v)) (place_on u v (lift s)) (place_on u v (lift t)) ha hb hw (place_of_end u v apart) average weights
+      (λ h i. out_s (within_by_places u v apart u s v on_u on_s on_v (after_start (place_on u v (lift s)) h) i))
+      (λ h i. out_t (within_by_places u v apart u t v on_u on_t on_v (after_start (place_on u v (lift t)) h) i))
+      (λ h i. out_u (within_by_places u v apart s u t on_s on_u on_t (before_start (place_on u v (lift s)) h) (after_start (place_on u v (lift t)) i)))
+      (λ h i. out_u (turned_mean_of_two IsPositive (whole t) (whole s) (whole u) (within_by_places u v apart t u s on_t on_u on_s (before_start (place_on u v (lift t)) h) (after_start (place_on u v (lift s)) i))))
+      (λ h i. out_v (within_by_places u v apart s v t on_s on_v on_t h i))
+      (λ h i. out_v (turned_mean_of_two IsPositive (whole t) (whole s) (whole v) (within_by_places u v apart t v s on_t on_v on_s h i))))
+    where
+      go : ((place_on u v (lift s) ≡ pos 0) × (place_on u v (lift t) ≡ place_on u v (lift v))) ⊎ ((place_on u v (lift s) ≡ place_on u v (lift v)) × (place_on u v (lift t) ≡ pos 0)) → ((s ≡ u) × (t ≡ v)) ⊎ ((s ≡ v) × (t ≡ u))
+      go (inl e) = inl (same_by_places u v apart s u on_s on_u (e.0 ∙ sym (place_of_start u v)), same_by_places u v apart t v on_t on_v e.1)
+      go (inr e) = inr (same_by_places u v apart s v on_s on_v e.0, same_by_places u v apart t u on_t on_u (e.1 ∙ sym (place_of_start u v)))
+
+  -- and here it is given
+  pub overlap_ends : (y : Fraction) → WithinSegment (whole u) (whole v) y → WithinSegment (whole s) (whole t) y
+      → ¬ WithinSegment (whole u) (whole v) (whole s) → ¬ WithinSegment (whole u) (whole v) (whole t) → ¬ WithinSegment (whole s) (whole t) (whole u) → ¬ WithinSegment (whole s) (whole t) (whole v)
+      → ((s ≡ u) × (t ≡ v)) ⊎ ((s ≡ v) × (t ≡ u))
+  overlap_ends y w w' =
+      let f = two_weights IsPositive (whole u) (whole v) y w in
+      let g = two_weights IsPositive (whole s) (whole t) y w' in
+      overlap_by_average (f.n *ℤ g.l) (f.n *ℤ g.k) (g.n *ℤ f.l) (mul-pos_ℤ f.positive g.l_allowed) (mul-pos_ℤ f.positive g.k_allowed) (mul-pos_ℤ g.positive f.l_allowed)
+      (common_average f.n g.n f.k f.l g.k g.l (place_on u v (vec y)) (place_on u v (lift s)) (place_on u v (lift t)) (place_on u v (lift v))
+      (mean_place IsPositive u v (whole u) (whole v) y f ∙ ap (λ z. f.k *ℤ z +ℤ f.l *ℤ place_on u v (lift v)) (place_of_start u v))
+      (mean_place IsPositive u v (whole s) (whole t) y g))
+      (below_by (f.n *ℤ g.l +ℤ f.n *ℤ g.k) (g.n *ℤ f.l) (g.n *ℤ f.k) (common_weight f.n g.n f.k f.l g.k g.l y.w f.w g.w) (mul-pos_ℤ g.positive f.k_allowed))
