@@ -58,3 +58,5 @@ pub mod OneOrbit
 pub mod TakenLists
 pub mod Sums
 pub mod Flow
+pub mod Outline
+pub mod OutlineTaken

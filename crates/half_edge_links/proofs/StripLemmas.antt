@@ -2,6 +2,7 @@
 use Rattle.std.proofs.Common.{◌≡◌, ◌≢◌, ℕ, zero, suc, ◌-◌, ◌%◌, ◌<◌, ◌≤◌, length, refl, sym, ap, ◌∙◌, inl, inr, arith}
 use Rattle.std.proofs.lemmas.Bool.{cases_eq}
 use Rattle.half_edge_links.specs.Mesh.{Mesh, origin, next, prev, face, rev, IsSound, IsValid, IsInner}
+use Rattle.half_edge_links.specs.Hull.{KeepsOneOutline, IsPendant}
 use Rattle.half_edge_links.specs.Renames.{pair_moved}
 use Rattle.half_edge_links.specs.Peel.{Peels, HasPeeled, IsPeelable, IsStrip, HasStrip, spoke, turn}
 use Rattle.half_edge_links.specs.Remove.{Opens, Removes, IsRemovable, after_removal}
@@ -194,12 +195,13 @@ pub record IsStripping (old : Mesh) (first : ℕ) (m : Mesh) (h : ℕ) : Type 0 
   pub strip : IsStrip m h left
   pub gone : ℕ
   pub peeled : HasPeeled gone old first m h
+  pub outline : KeepsOneOutline old m
 
 pub stripping_starts : (m : Mesh) (h : ℕ) → HasStrip m h → IsStripping m h m h
-stripping_starts m h f = record { left = f.count; strip = f.strip; gone = 0; peeled = (refl, refl) }
+stripping_starts m h f = record { left = f.count; strip = f.strip; gone = 0; peeled = (refl, refl); outline = λ one. one }
 
-pub stripping_more : (old : Mesh) (first : ℕ) (m new : Mesh) (h g : ℕ) → IsValid m → IsStripping old first m h → 0 < face m h → Peels m new h → g ≡ after_removal m h (turn m h) → IsStripping old first new g
-stripping_more old first m new h g v f some p is =
+pub stripping_more : (old : Mesh) (first : ℕ) (m new : Mesh) (h g : ℕ) → IsValid m → IsStripping old first m h → 0 < face m h → Peels m new h → g ≡ after_removal m h (turn m h) → KeepsOneOutline m new → IsStripping old first new g
+stripping_more old first m new h g v f some p is keeps =
     let j = one_more m h f.left f.strip some in
     let full = full_strip m h (suc j.0) v (rw j.1 at f.strip) in
     record {
@@ -207,6 +209,7 @@ stripping_more old first m new h g v f some p is =
       strip = strip_of new g j.0 (strip_from m new h j.0 g v.sound full p is);
       gone = suc f.gone;
       peeled = (m, h, f.peeled, p, is);
+      outline = λ one. keeps (f.outline one);
     }
 
 pub peelable_stripping : (old : Mesh) (first : ℕ) (m : Mesh) (h : ℕ) → IsStripping old first m h → 0 < face m h → IsPeelable m h
@@ -216,3 +219,7 @@ pub removable_stripping : (old : Mesh) (first : ℕ) (m : Mesh) (h : ℕ) → Is
 removable_stripping old first m h f none =
     let z = none_more m h f.left f.strip none in
     removable_strip m h (rw z at f.strip)
+
+-- the last edge has a free end
+pub pendant_stripping : (old : Mesh) (first : ℕ) (m : Mesh) (h : ℕ) → IsStripping old first m h → face m h ≡ 0 → IsPendant m h
+pendant_stripping old first m h f none = let z = none_more m h f.left f.strip none in inr (f.strip.gap ∙ ap (spoke m h) z)

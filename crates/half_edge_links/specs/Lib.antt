@@ -12,3 +12,4 @@ pub mod Move
 pub mod Taken
 pub mod Flow
 pub mod Round
+pub mod Hull

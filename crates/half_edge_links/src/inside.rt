@@ -1,5 +1,6 @@
 //! Changes inside the outer loop: an edge is turned, a vertex is put into a face or on an edge.
 ghost use Rattle.std.specs.Prelude.{◌≡◌, ◌≢◌, ◌+◌, ◌-◌, length, Some};
+ghost use Rattle.half_edge_links.specs.Hull.{KeepsOneOutline};
 ghost use Rattle.half_edge_links.specs.Mesh.{face, origin, next, prev, rev, IsInnerEdge, IsAlone, IsSound};
 ghost use Rattle.half_edge_links.specs.Flip.{Flips, IsFlippable, flipped};
 ghost use Rattle.half_edge_links.specs.Insert.{Inserts, inserted};
@@ -22,6 +23,7 @@ impl Links {
         ensures ends { MovesEdge self.old.mesh self.new.mesh e (origin self.old.mesh (prev self.old.mesh e)) (origin self.old.mesh (prev self.old.mesh (rev e))) }
         ensures triangles { FlipsTriangles self.old.mesh self.new.mesh e }
         ensures outer { KeepsOuter self.old.mesh self.new.mesh }
+        ensures outline { KeepsOneOutline self.old.mesh self.new.mesh }
     {
         let t = reversed(e);
         let edge = read(&self.half_edges, e);
@@ -85,6 +87,7 @@ impl Links {
         ensures ends { InsertsEnds self.old.mesh self.new.mesh v edge }
         ensures triangles { InsertsTriangles self.old.mesh self.new.mesh v edge }
         ensures outer { KeepsOuter self.old.mesh self.new.mesh }
+        ensures outline { KeepsOneOutline self.old.mesh self.new.mesh }
     {
         let n = self.half_edges.len() as u32;
         let g = self.face_edges.len() as u32;
@@ -165,6 +168,7 @@ impl Links {
         ensures ends { SplitsEnds self.old.mesh self.new.mesh edge v }
         ensures triangles { SplitsTriangles self.old.mesh self.new.mesh v edge }
         ensures outer { KeepsOuter self.old.mesh self.new.mesh }
+        ensures outline { KeepsOneOutline self.old.mesh self.new.mesh }
     {
         self.insert_beside(v, edge);
         self.flip(edge);

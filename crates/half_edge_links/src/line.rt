@@ -1,5 +1,6 @@
 //! The first edge, and a mesh of one line.
 ghost use Rattle.std.specs.Prelude.{◌≡◌, ◌≢◌, ◌+◌, ◌-◌, ◌<◌, length, Some, [], ◌∷◌};
+ghost use Rattle.half_edge_links.specs.Hull.{HasOneOutline, KeepsOneOutline};
 ghost use Rattle.half_edge_links.specs.Mesh.{face, origin, next, prev, IsAlone, connected, IsSound};
 ghost use Rattle.half_edge_links.specs.Room.{HasEdgeRoom};
 ghost use Rattle.half_edge_links.specs.Outline.{SplitsOuter, AddsEdge, MovesEdge, SplitsLineEnds, ExtendsOuter};
@@ -19,6 +20,7 @@ impl Links {
         ensures mesh { self.new.mesh ≡ connected self.old.mesh a b }
         ensures room { self.new.room ≡ self.old.room }
         ensures sound { IsSound self.old.mesh }
+        ensures outline { HasOneOutline self.new.mesh }
     {
         self.half_edges.push_reserved(HalfEdge {
             origin: a,
@@ -48,6 +50,7 @@ impl Links {
         ensures links { Hangs self.old.mesh self.new.mesh (edge_into self.old.mesh u) v (length self.old.mesh.half_edges) }
         ensures ends { AddsEdge self.old.mesh self.new.mesh u v }
         ensures outer { ExtendsOuter self.old.mesh self.new.mesh u v (length self.old.mesh.half_edges) }
+        ensures outline { KeepsOneOutline self.old.mesh self.new.mesh }
     {
         let _count = self.half_edge_count();
         if let Some(edge) = self.out_edge(u) {
@@ -63,6 +66,7 @@ impl Links {
         ensures sound { IsSound self.old.mesh }
         ensures ends { let m = self.old.mesh in MovesEdge m self.new.mesh e (origin m e) (origin m (next m (next m e))) }
         ensures links { let m = self.old.mesh in Slides m self.new.mesh e (next m e) (next m (next m e)) }
+        ensures outline { KeepsOneOutline self.old.mesh self.new.mesh }
     {
         let t = reversed(e);
         let k = read(&self.half_edges, e).next;
@@ -84,6 +88,7 @@ impl Links {
         ensures ends { SplitsLineEnds self.old.mesh self.new.mesh e v }
         ensures links { SplitsLine self.old.mesh self.new.mesh e v (length self.old.mesh.half_edges) }
         ensures outer { SplitsOuter self.old.mesh self.new.mesh e v (length self.old.mesh.half_edges) }
+        ensures outline { KeepsOneOutline self.old.mesh self.new.mesh }
     {
         let n = self.half_edge_count() as u32;
         self.hang(e, v);

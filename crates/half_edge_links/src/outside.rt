@@ -1,5 +1,6 @@
 //! Changes of the outer loop.
 ghost use Rattle.std.specs.Prelude.{◌≡◌, ◌+◌, ◌-◌, length, Some, [], ◌∷◌};
+ghost use Rattle.half_edge_links.specs.Hull.{KeepsOneOutline};
 ghost use Rattle.half_edge_links.specs.Mesh.{origin, next, rev, IsAlone, IsSound};
 ghost use Rattle.half_edge_links.specs.Room.{HasEdgeRoom, HasFaceRoom};
 ghost use Rattle.half_edge_links.specs.Triangles.{triangles};
@@ -22,6 +23,7 @@ impl Links {
         ensures links { Hangs self.old.mesh self.new.mesh x v (length self.old.mesh.half_edges) }
         ensures triangles { triangles self.new.mesh ≡ triangles self.old.mesh }
         ensures outer { HangsOuter self.old.mesh self.new.mesh x v (length self.old.mesh.half_edges) }
+        ensures outline { KeepsOneOutline self.old.mesh self.new.mesh }
     {
         let n = self.half_edges.len() as u32;
         hang_edges(&mut self.half_edges, x, v);
@@ -40,6 +42,7 @@ impl Links {
         ensures links { Closes self.old.mesh self.new.mesh e (length self.old.mesh.half_edges) (length self.old.mesh.face_edges) }
         ensures triangles { let m = self.old.mesh in AddsTriangle m self.new.mesh (origin m e) (origin m (next m e)) (origin m (rev (next m e))) }
         ensures outer { ClosesOuter self.old.mesh self.new.mesh e (length self.old.mesh.half_edges) }
+        ensures outline { KeepsOneOutline self.old.mesh self.new.mesh }
     {
         let n = self.half_edges.len() as u32;
         let g = self.face_edges.len() as u32 + 1;
@@ -63,6 +66,7 @@ impl Links {
         ensures links { AddsFace self.old.mesh self.new.mesh e v (length self.old.mesh.half_edges) (length self.old.mesh.face_edges) }
         ensures triangles { AddsTriangle self.old.mesh self.new.mesh (origin self.old.mesh e) (origin self.old.mesh (rev e)) v }
         ensures outer { let n = length self.old.mesh.half_edges in ReplacesOuter self.old.mesh self.new.mesh e v (n + 3) (n + 1) }
+        ensures outline { KeepsOneOutline self.old.mesh self.new.mesh }
     {
         self.hang(e, v);
         self.close(e);
@@ -83,6 +87,7 @@ impl Links {
         ensures ends { HalfSplitsEnds self.old.mesh self.new.mesh e v }
         ensures triangles { HalfSplitsTriangles self.old.mesh self.new.mesh v e }
         ensures outer { let n = length self.old.mesh.half_edges in ReplacesOuter self.old.mesh self.new.mesh (rev e) v (n + 3) (n + 1) }
+        ensures outline { KeepsOneOutline self.old.mesh self.new.mesh }
     {
         let n = self.half_edge_count() as u32;
         self.add_face_beside(reversed(e), v);

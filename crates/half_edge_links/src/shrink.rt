@@ -1,5 +1,6 @@
 //! Taking edges, faces and vertices out of a mesh.
 ghost use Rattle.std.specs.Prelude.{◌≡◌, ◌+◌, ◌-◌, ◌<◌, length};
+ghost use Rattle.half_edge_links.specs.Hull.{KeepsOneOutline, IsPendant};
 ghost use Rattle.half_edge_links.specs.Mesh.{origin, next, prev, face, rev, IsInner, IsAlone, IsSound};
 ghost use Rattle.half_edge_links.specs.Triangles.{triangles};
 ghost use Rattle.half_edge_links.specs.Outline.{ends, AddsTriangle};
@@ -63,6 +64,7 @@ impl Links {
         ensures outer { RemovesOuter self.old.mesh self.new.mesh e }
         ensures room { self.new.room ≡ self.old.room }
         ensures sound { IsSound self.old.mesh }
+        ensures outline { IsPendant self.old.mesh e → KeepsOneOutline self.old.mesh self.new.mesh }
     {
         let t = reversed(e);
         let edge = read(&self.half_edges, e);
@@ -104,6 +106,7 @@ impl Links {
         ensures room { self.new.room ≡ self.old.room }
         ensures sound { IsSound self.old.mesh }
         ensures spoke { result ≡ after_removal self.old.mesh h (rev (prev self.old.mesh h)) }
+        ensures outline { KeepsOneOutline self.old.mesh self.new.mesh }
     {
         let edge = self.half_edge(h);
         let spoke = self.index_after_removal(h, reversed(edge.prev));
@@ -137,6 +140,7 @@ impl Links {
         requires { HasStrip self.old.mesh first }
         ensures disconnects { Disconnects self.old.mesh self.new.mesh first }
         ensures room { self.new.room ≡ self.old.room }
+        ensures outline { KeepsOneOutline self.old.mesh self.new.mesh }
     {
         let mut h = first;
         while self.half_edge(h).face != 0 {
@@ -154,6 +158,7 @@ impl Links {
         ensures outer { MovesOuter self.old.mesh self.new.mesh v }
         ensures room { self.new.room ≡ self.old.room }
         ensures sound { IsSound self.old.mesh }
+        ensures outline { KeepsOneOutline self.old.mesh self.new.mesh }
     {
         let last = self.out_edges[self.out_edges.len() - 1];
         move_named(&mut self.half_edges, last, v);

@@ -10,3 +10,6 @@ returns-clause-outer c = replaces_outer _ _ _ _ _ c.hang.ensures.sound c.require
 
 pub returns-clause-ends : goal.returns-clause-ends
 returns-clause-ends c = ends_beside _ _ c.close.new.self.mesh _ _ c.hang.ensures.sound c.requires.outer c.hang.ensures.links c.hang.ensures.ends c.close.ensures.ends
+
+pub returns-clause-outline : goal.returns-clause-outline
+returns-clause-outline c = λ one. c.close.ensures.outline (c.hang.ensures.outline one)

@@ -7,6 +7,7 @@ use Rattle.half_edge_links.proofs.Close.{closes}
 use Rattle.half_edge_links.proofs.Corners.{triangles_closed_is}
 use Rattle.half_edge_links.proofs.Outer.{outer_closed}
 use Rattle.half_edge_links.proofs.EndsKept.{ends_closed_is}
+use Rattle.half_edge_links.proofs.Outline.{outline_closed}
 use Rattle.half_edge_links.proofs.links.Links.close.Goals as goal
 
 pub invariant_of-self : goal.invariant_of-self
@@ -47,3 +48,6 @@ returns-clause-outer c =
 pub returns-clause-ends : goal.returns-clause-ends
 returns-clause-ends c =
     rw (← c.self.view_is) (ends_closed_is (the_view c.self.inside).mesh _ c.args.e c.self.invariant.sound (rw (← c.self.view_is) at c.requires.closable) (rw (← c.self.view_is) at (returns-clause-mesh c)))
+
+pub returns-clause-outline : goal.returns-clause-outline
+returns-clause-outline c = rw (← c.self.view_is) (outline_closed (the_view c.self.inside).mesh _ c.args.e c.self.invariant.sound (rw (← c.self.view_is) at c.requires.closable) (rw (← c.self.view_is) at (returns-clause-links c)))

@@ -1,6 +1,7 @@
 use Rattle.half_edge_links.specs.contracts.links.Links.{the_view}
 use Rattle.half_edge_links.specs.Mesh.{Mesh}
 use Rattle.half_edge_links.proofs.Valid.{valid_connected}
+use Rattle.half_edge_links.proofs.Outline.{outline_connected}
 use Rattle.half_edge_links.proofs.links.Links.connect.Goals as goal
 
 pub invariant_of-self : goal.invariant_of-self
@@ -8,3 +9,9 @@ invariant_of-self c =
     let m : Mesh = (the_view c.self.inside).mesh in
     let none = rw (← c.self.view_is) at c.requires.no_edges in
     rw (c.push_reserved-2.ensures.items, c.push_reserved.ensures.items, none) (valid_connected m c.args.a c.args.b c.self.invariant none (rw (← c.self.view_is) at c.requires.from) (rw (← c.self.view_is) at c.requires.to) c.requires.apart)
+
+pub returns-clause-outline : goal.returns-clause-outline
+returns-clause-outline c =
+    let m : Mesh = (the_view c.self.inside).mesh in
+    let none = rw (← c.self.view_is) at c.requires.no_edges in
+    rw (c.push_reserved-2.ensures.items, c.push_reserved.ensures.items, none) (outline_connected m c.args.a c.args.b)

@@ -9,6 +9,7 @@ use Rattle.half_edge_links.proofs.FlipTriangles.{triangles_flipped}
 use Rattle.half_edge_links.proofs.KeepsOuter.{outer_flipped_is}
 use Rattle.half_edge_links.proofs.EndsKept.{ends_flipped_is}
 use Rattle.half_edge_links.proofs.FlipLemmas.{flips_is}
+use Rattle.half_edge_links.proofs.Outline.{outline_flipped}
 use Rattle.half_edge_links.proofs.links.Links.flip.Goals as goal
 
 pub index_mut-requires-4 : goal.index_mut-requires-4
@@ -75,3 +76,6 @@ returns-clause-ends c =
 pub returns-clause-links : goal.returns-clause-links
 returns-clause-links c =
     rw (← c.self.view_is) (flips_is (the_view c.self.inside).mesh _ c.args.e c.self.invariant.sound (rw (← c.self.view_is) at c.requires.flippable) (rw (← c.self.view_is) at (returns-clause-mesh c)))
+
+pub returns-clause-outline : goal.returns-clause-outline
+returns-clause-outline c = rw (← c.self.view_is) (outline_flipped (the_view c.self.inside).mesh _ c.args.e c.self.invariant.sound (rw (← c.self.view_is) at c.requires.flippable) (rw (← c.self.view_is) at (returns-clause-links c)))

@@ -7,6 +7,7 @@ use Rattle.half_edge_links.proofs.Hang.{hangs}
 use Rattle.half_edge_links.proofs.Corners.{triangles_hung}
 use Rattle.half_edge_links.proofs.Outer.{outer_hung}
 use Rattle.half_edge_links.proofs.EndsKept.{ends_hung_is}
+use Rattle.half_edge_links.proofs.Outline.{outline_hung}
 use Rattle.half_edge_links.proofs.links.Links.hang.Goals as goal
 
 pub invariant_of-self : goal.invariant_of-self
@@ -44,3 +45,6 @@ returns-clause-outer c =
 pub returns-clause-ends : goal.returns-clause-ends
 returns-clause-ends c =
     rw (← c.self.view_is) (ends_hung_is (the_view c.self.inside).mesh _ c.args.x c.args.v c.self.invariant.sound (rw (← c.self.view_is) at c.requires.outer) (rw (← c.self.view_is) at c.requires.alone) (rw (← c.self.view_is) at (returns-clause-mesh c)))
+
+pub returns-clause-outline : goal.returns-clause-outline
+returns-clause-outline c = rw (← c.self.view_is) (outline_hung (the_view c.self.inside).mesh _ c.args.x c.args.v c.self.invariant.sound (rw (← c.self.view_is) at c.requires.outer) (rw (← c.self.view_is) at (returns-clause-links c)))

@@ -8,6 +8,7 @@ use Rattle.half_edge_links.proofs.InsertTriangles.{triangles_inserted}
 use Rattle.half_edge_links.proofs.KeepsOuterInsert.{outer_inserted_is}
 use Rattle.half_edge_links.proofs.EndsKept.{ends_inserted_is}
 use Rattle.half_edge_links.proofs.InsertLemmas.{inserts_is}
+use Rattle.half_edge_links.proofs.Outline.{outline_inserted}
 use Rattle.half_edge_links.proofs.links.Links.insert_beside.Goals as goal
 
 pub invariant_of-self : goal.invariant_of-self
@@ -57,3 +58,6 @@ returns-clause-ends c =
 pub returns-clause-links : goal.returns-clause-links
 returns-clause-links c =
     rw (← c.self.view_is) (inserts_is (the_view c.self.inside).mesh _ c.args.v c.args.edge c.self.invariant.sound (rw (← c.self.view_is) at c.requires.inner) (rw (← c.self.view_is) at c.requires.alone) (rw (← c.self.view_is) at (returns-clause-mesh c)))
+
+pub returns-clause-outline : goal.returns-clause-outline
+returns-clause-outline c = rw (← c.self.view_is) (outline_inserted (the_view c.self.inside).mesh _ c.args.v c.args.edge c.self.invariant.sound (rw (← c.self.view_is) at c.requires.inner) (rw (← c.self.view_is) at c.requires.alone) (rw (← c.self.view_is) at (returns-clause-links c)))

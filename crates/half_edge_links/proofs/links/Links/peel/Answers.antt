@@ -4,6 +4,7 @@ use Rattle.half_edge_links.proofs.Conditions.{hull_edge, removable}
 use Rattle.half_edge_links.proofs.PeelLemmas.{removable_opened}
 use Rattle.half_edge_links.proofs.TakenLists.{peels_triangle, peels_ends, peels_outer}
 use Rattle.half_edge_links.proofs.RemoveSound.{sound_removed}
+use Rattle.half_edge_links.proofs.OutlineTaken.{outline_peeled}
 use Rattle.half_edge_links.proofs.links.Links.peel.Goals as goal
 
 pub remove_edge-requires : goal.remove_edge-requires
@@ -31,3 +32,8 @@ pub returns-clause-outer : goal.returns-clause-outer
 returns-clause-outer c =
     let v = c.half_edge-edge.ensures.valid in
     peels_outer _ _ c.args.h v.sound (hull_edge _ _ v c.requires) (returns-clause-peels c) (sound_removed _ _ c.args.h c.remove_edge.ensures.removes)
+
+pub returns-clause-outline : goal.returns-clause-outline
+returns-clause-outline c =
+    let v = c.half_edge-edge.ensures.valid in
+    outline_peeled _ _ c.args.h v.sound (hull_edge _ _ v c.requires) (returns-clause-peels c)

@@ -6,3 +6,6 @@ use Rattle.half_edge_links.proofs.links.Links.push_vertex.Goals as goal
 pub invariant_of-self : goal.invariant_of-self
 invariant_of-self c =
     rw c.push_reserved.ensures.items (valid_with_vertex (the_view c.self.inside).mesh c.self.invariant (omega (arith, rw (← c.self.view_is) at c.requires)))
+
+pub returns-clause-outline : goal.returns-clause-outline
+returns-clause-outline c = rw (← c.self.view_is) (λ one. one)

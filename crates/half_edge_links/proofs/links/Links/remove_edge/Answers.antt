@@ -9,6 +9,7 @@ use Rattle.half_edge_links.proofs.Shrunk.{valid_removed}
 use Rattle.half_edge_links.proofs.ShrinkTriangles.{triangles_removed}
 use Rattle.half_edge_links.proofs.TakenLists.{removes_ends, removes_outer}
 use Rattle.half_edge_links.proofs.RemoveSound.{sound_removed}
+use Rattle.half_edge_links.proofs.OutlineTaken.{outline_removed}
 use Rattle.half_edge_links.proofs.links.Links.remove_edge.Goals as goal
 
 pub rename_out-requires-clause-vertex : goal.rename_out-requires-clause-vertex
@@ -104,3 +105,9 @@ returns-clause-outer c =
     let can : IsUnlinkable m c.args.e = unlinkable m c.args.e c.self.invariant (rw (← c.self.view_is) at c.requires) in
     let r = rw (← c.self.view_is) at (returns-clause-removes c) in
     rw (← c.self.view_is) (removes_outer m _ c.args.e c.self.invariant.sound can r (sound_removed m _ c.args.e r))
+
+pub returns-clause-outline : goal.returns-clause-outline
+returns-clause-outline c =
+    let m : Mesh = (the_view c.self.inside).mesh in
+    let can : IsUnlinkable m c.args.e = unlinkable m c.args.e c.self.invariant (rw (← c.self.view_is) at c.requires) in
+    rw (← c.self.view_is) (outline_removed m _ c.args.e c.self.invariant.sound can (rw (← c.self.view_is) at (returns-clause-removes c)))

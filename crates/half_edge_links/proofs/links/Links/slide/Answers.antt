@@ -5,6 +5,7 @@ use Rattle.half_edge_links.specs.Grow.{slid}
 use Rattle.half_edge_links.proofs.Valid.{valid_slid}
 use Rattle.half_edge_links.proofs.Slide.{slides}
 use Rattle.half_edge_links.proofs.EndsKept.{ends_slid_is}
+use Rattle.half_edge_links.proofs.Outline.{outline_slid}
 use Rattle.half_edge_links.proofs.links.Links.slide.Goals as goal
 
 pub invariant_of-self : goal.invariant_of-self
@@ -32,3 +33,6 @@ returns-clause-links c =
 pub returns-clause-ends : goal.returns-clause-ends
 returns-clause-ends c =
     rw (← c.self.view_is) (ends_slid_is (the_view c.self.inside).mesh _ c.args.e c.self.invariant.sound (rw (← c.self.view_is) at c.requires) (rw (← c.self.view_is) at (returns-clause-mesh c)))
+
+pub returns-clause-outline : goal.returns-clause-outline
+returns-clause-outline c = rw (← c.self.view_is) (outline_slid (the_view c.self.inside).mesh _ c.args.e c.self.invariant.sound (rw (← c.self.view_is) at c.requires) (rw (← c.self.view_is) at (returns-clause-links c)))

@@ -16,3 +16,6 @@ returns-clause-triangles c = splits_triangles_is _ c.flip.new.self.mesh _ _ c.in
 
 pub returns-clause-outer : goal.returns-clause-outer
 returns-clause-outer c = kept_twice _ _ _ c.insert_beside.ensures.outer c.flip.ensures.outer
+
+pub returns-clause-outline : goal.returns-clause-outline
+returns-clause-outline c = λ one. c.flip.ensures.outline (c.insert_beside.ensures.outline one)

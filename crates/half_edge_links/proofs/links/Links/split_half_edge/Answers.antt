@@ -23,3 +23,6 @@ returns-clause-ends c = ends_half _ _ c.flip.new.self.mesh _ _ c.half_edge_count
 
 pub returns-clause-links : goal.returns-clause-links
 returns-clause-links c = half_splits _ _ _ _ c.half_edge_count-n.ensures.sound c.requires.half (rw c.reversed.ensures at c.add_face_beside.ensures.links) c.flip.new.self.mesh c.flip.ensures.sound c.flip.ensures.links
+
+pub returns-clause-outline : goal.returns-clause-outline
+returns-clause-outline c = λ one. c.flip.ensures.outline (c.add_face_beside.ensures.outline one)

@@ -15,3 +15,6 @@ returns-clause-outer c =
 
 pub returns-clause-ends : goal.returns-clause-ends
 returns-clause-ends c = ends_line _ _ c.slide.new.self.mesh _ _ c.hang.ensures.sound c.requires.line c.hang.ensures.links c.hang.ensures.ends c.slide.ensures.ends
+
+pub returns-clause-outline : goal.returns-clause-outline
+returns-clause-outline c = λ one. c.slide.ensures.outline (c.hang.ensures.outline one)

@@ -8,6 +8,7 @@ use Rattle.half_edge_links.proofs.VertexSound.{can_walk, moves_vertex}
 use Rattle.half_edge_links.proofs.Shrunk.{valid_moved}
 use Rattle.half_edge_links.proofs.OneOrbit.{one_orbit}
 use Rattle.half_edge_links.proofs.TakenLists.{moves_triangles, moves_ends, moves_outer}
+use Rattle.half_edge_links.proofs.OutlineTaken.{outline_moved}
 use Rattle.half_edge_links.proofs.links.Links.swap_remove_vertex.Goals as goal
 
 pub move_named-requires-clause-walk : goal.move_named-requires-clause-walk
@@ -44,3 +45,6 @@ returns-clause-ends c = rw (← c.self.view_is) (moves_ends (the_view c.self.ins
 
 pub returns-clause-outer : goal.returns-clause-outer
 returns-clause-outer c = rw (← c.self.view_is) (moves_outer (the_view c.self.inside).mesh _ c.args.v c.self.invariant.sound (rw (← c.self.view_is) at (returns-clause-moves c)))
+
+pub returns-clause-outline : goal.returns-clause-outline
+returns-clause-outline c = rw (← c.self.view_is) (outline_moved (the_view c.self.inside).mesh _ c.args.v (rw (← c.self.view_is) at (returns-clause-moves c)))

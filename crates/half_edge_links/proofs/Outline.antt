@@ -1,0 +1,295 @@
+-- The outer face keeps one loop.
+use Rattle.std.proofs.Common.{◌≡◌, ◌≢◌, ℕ, zero, suc, ◌+◌, ◌<◌, Bool, true, length, refl, sym, ap, ◌∙◌, inl, inr, arith}
+use Rattle.std.proofs.lemmas.Bool.{cases_eq}
+use Rattle.half_edge_links.specs.declared.records.HalfEdge.{HalfEdge}
+use Rattle.half_edge_links.specs.Mesh.{Mesh, next, prev, face, rev, IsSound, IsInnerEdge, IsAlone, connected}
+use Rattle.half_edge_links.specs.Flip.{IsFlippable, Flips}
+use Rattle.half_edge_links.specs.Insert.{Inserts}
+use Rattle.half_edge_links.specs.Grow.{IsOuter, IsClosable, IsSlidable, Hangs, Closes, Slides}
+use Rattle.half_edge_links.specs.Hull.{IsClosedAlong, HasOneOutline, KeepsOneOutline}
+use Rattle.half_edge_links.proofs.StarsKept.{grown_cases}
+use Rattle.half_edge_links.proofs.StarsRound.{stand_in, stands_first, stands_second, stands_other}
+use Rattle.half_edge_links.proofs.StarsInsert.{late_cases}
+use Rattle.half_edge_links.proofs.Close.{IsCorner, corner}
+use Rattle.half_edge_links.proofs.Slide.{IsTail, tail}
+use Rattle.half_edge_links.proofs.FlipSound as turning
+use Rattle.half_edge_links.proofs.Triangles.{IsTriangle, triangle_at}
+
+-- an edge k of the new mesh lies behind an old outer edge, and before an old one
+pub record LiesAlong (m : Mesh) (before among : ℕ → Bool) (k : ℕ) : Type 0 where
+  pub behind : ℕ
+  pub behind_in : behind < length m.half_edges
+  pub behind_outer : face m behind ≡ 0
+  pub comes : before behind ≡ true → among k ≡ true
+  pub ahead : ℕ
+  pub ahead_in : ahead < length m.half_edges
+  pub ahead_outer : face m ahead ≡ 0
+  pub goes : among k ≡ true → before ahead ≡ true
+
+pub outlines : (m : Mesh) (before among : ℕ → Bool) → HasOneOutline m → IsClosedAlong m before → (h g : ℕ) → LiesAlong m before among h → LiesAlong m before among g → among h ≡ true → among g ≡ true
+outlines m before among one closed h g a b is = b.comes (one before closed a.ahead b.behind a.ahead_in b.behind_in a.ahead_outer b.behind_outer (a.goes is))
+
+-- an old outer edge itself
+pub lies_there : (m : Mesh) (before among : ℕ → Bool) (k : ℕ) → k < length m.half_edges → face m k ≡ 0 → before k ≡ among k → LiesAlong m before among k
+lies_there m before among k within outer same = record {
+  behind = k;
+  behind_in = within;
+  behind_outer = outer;
+  comes = λ is. sym same ∙ is;
+  ahead = k;
+  ahead_in = within;
+  ahead_outer = outer;
+  goes = λ is. same ∙ is;
+}
+
+-- the outer edges are the same, and follow each other as before
+pub record SameOuter (m new : Mesh) : Type 0 where
+  pub there : (h : ℕ) → h < length m.half_edges → face m h ≡ 0 → (h < length new.half_edges) × (face new h ≡ 0) × (next new h ≡ next m h)
+  pub was : (h : ℕ) → h < length new.half_edges → face new h ≡ 0 → (h < length m.half_edges) × (face m h ≡ 0)
+
+pub outline_same : (m new : Mesh) → SameOuter m new → KeepsOneOutline m new
+outline_same m new o one among closed h g h_in g_in h_outer g_outer is =
+    let a = o.was h h_in h_outer in
+    let b = o.was g g_in g_outer in
+    one among (λ k k_in outer on. let c = o.there k k_in outer in ap among (sym c.2) ∙ closed k c.0 c.1 on) h g a.0 b.0 a.1 b.1 is
+
+pub outline_flipped : (m new : Mesh) (e : ℕ) → IsSound m → IsFlippable m e → Flips m new e → KeepsOneOutline m new
+outline_flipped m new e s can f =
+    let l : IsTriangle m e = triangle_at m e s can.within can.inner in
+    let t_in = (turning.six m new e s can f).b_in in
+    let r : IsTriangle m (rev e) = triangle_at m (rev e) s t_in can.twin_inner in
+    let away = λ (h : ℕ) (outer : face m h ≡ 0). turning.away_by_face m new e s can f h (λ q. absurd (omega (arith, q, outer, can.inner))) (λ q. absurd (omega (arith, q, outer, can.twin_inner))) in
+    outline_same m new (record {
+      there = λ h within outer.
+          let same = turning.kept m new e s can f h (away h outer) in
+          (omega (arith, within, f.edge_count), ap (λ (w : HalfEdge). w.face) same ∙ outer, ap (λ (w : HalfEdge). w.next) same);
+      was = λ h within outer.
+          let h_in : h < length m.half_edges = omega (arith, within, f.edge_count) in
+          let not : (k : ℕ) → 0 < face new k → h ≢ k = λ k some q. absurd (omega (arith, some, ap (face new) q, outer)) in
+          let same = f.other_edges h
+          (not e (rw f.edge.face can.inner))
+          (not (rev e) (rw f.twin.face can.twin_inner))
+          (not (next m e) (rw f.edge_next.face can.inner))
+          (not (next m (rev e)) (rw f.twin_next.face can.twin_inner))
+          (not (prev m e) (rw f.edge_prev.face can.twin_inner))
+          (not (prev m (rev e)) (rw f.twin_prev.face can.inner)) in
+          (h_in, sym (ap (λ (w : HalfEdge). w.face) same) ∙ outer);
+    })
+
+pub outline_inserted : (m new : Mesh) (v a : ℕ) → IsSound m → IsInnerEdge m a → IsAlone m v → Inserts m new v (face m a) a (length m.half_edges) (length m.face_edges) → KeepsOneOutline m new
+outline_inserted m new v a s inner alone i =
+    let n : ℕ = length m.half_edges in
+    let g : ℕ = length m.face_edges in
+    let t : IsTriangle m a = triangle_at m a s inner.0 inner.1 in
+    outline_same m new (record {
+      there = λ h within outer.
+          let off : (k : ℕ) → face m k ≡ face m a → h ≢ k = λ k is q. absurd (omega (arith, inner.1, is, ap (face m) q, outer)) in
+          let same = i.other_edges h within (off a refl) (off _ t.face_next) (off _ t.face_prev) in
+          (omega (arith, within, i.edge_count), ap (λ (w : HalfEdge). w.face) same ∙ outer, ap (λ (w : HalfEdge). w.next) same);
+      was = λ h within outer.
+          let not : (k : ℕ) → 0 < face new k → h ≢ k = λ k some q. absurd (omega (arith, some, ap (face new) q, outer)) in
+          elim (late_cases h n (omega (arith, within, i.edge_count))) [
+            | inl old ↦
+                let same = i.other_edges h old (not a (rw i.first.face inner.1)) (not _ (rw i.second.face (omega arith))) (not _ (rw i.third.face (omega arith))) in
+                (old, sym (ap (λ (w : HalfEdge). w.face) same) ∙ outer)
+            | inr b ↦ absurd (elim b [
+              | inl is ↦ not n (rw i.from_first.face (omega arith)) is
+              | inr c ↦ elim c [
+                | inl is ↦ not (n + 2) (rw i.from_second.face inner.1) is
+                | inr d ↦ elim d [
+                  | inl is ↦ not (n + 4) (rw i.from_third.face (omega arith)) is
+                  | inr spoke ↦ elim spoke [
+                    | inl is ↦ not (n + 1) (rw i.to_first.face inner.1) is
+                    | inr x ↦ elim x [ inl is ↦ not (n + 3) (rw i.to_second.face (omega arith)) is | inr is ↦ not (n + 5) (rw i.to_third.face (omega arith)) is ]
+                  ]
+                ]
+              ]
+            ])
+          ];
+    })
+
+module _ (m new : Mesh) (x v : ℕ) (s : IsSound m) (outer : IsOuter m x) (i : Hangs m new x v (length m.half_edges)) (among : ℕ → Bool) (closed : IsClosedAlong new among) where
+  hang_there : among x ≡ true → among (length m.half_edges) ≡ true
+  hang_there is = ap among (sym i.next_at) ∙ closed x (omega (arith, outer.0, i.edge_count)) (i.faces x outer.0 ∙ outer.1) is
+
+  hang_back : among (length m.half_edges) ≡ true → among (length m.half_edges + 1) ≡ true
+  hang_back is = ap among (sym i.there.next) ∙ closed (length m.half_edges) (omega (arith, i.edge_count)) (i.there.face ∙ outer.1) is
+
+  hang_on : among (length m.half_edges + 1) ≡ true → among (next m x) ≡ true
+  hang_on is = ap among (sym i.back.next) ∙ closed (length m.half_edges + 1) (omega (arith, i.edge_count)) (i.back.face ∙ outer.1) is
+
+  hang_closed : IsClosedAlong m among
+  hang_closed h within none is =
+      elim (cases_eq h x) [
+        | inl same ↦ ap (λ k. among (next m k)) same ∙ hang_on (hang_back (hang_there (ap among (sym same) ∙ is)))
+        | inr off ↦ ap among (sym (i.other_next h within off)) ∙ closed h (omega (arith, within, i.edge_count)) (i.faces h within ∙ none) is
+      ]
+
+  hang_lies : (k : ℕ) → k < length m.half_edges + 2 → face new k ≡ 0 → LiesAlong m among among k
+  hang_lies k within none =
+      let here = s.edges x outer.0 in
+      let between : (among x ≡ true → among k ≡ true) → (among k ≡ true → among (next m x) ≡ true) → LiesAlong m among among k = λ comes goes. record {
+        behind = x;
+        behind_in = outer.0;
+        behind_outer = outer.1;
+        comes = comes;
+        ahead = next m x;
+        ahead_in = here.next_in;
+        ahead_outer = here.same_face ∙ outer.1;
+        goes = goes;
+      } in
+      elim (grown_cases k _ within) [
+        | inl old ↦ lies_there m among among k old (sym (i.faces k old) ∙ none) refl
+        | inr late ↦ elim late [
+          | inl is ↦ between (λ on. ap among is ∙ hang_there on) (λ on. hang_on (hang_back (ap among (sym is) ∙ on)))
+          | inr is ↦ between (λ on. ap among is ∙ hang_back (hang_there on)) (λ on. hang_on (ap among (sym is) ∙ on))
+        ]
+      ]
+
+pub outline_hung : (m new : Mesh) (x v : ℕ) → IsSound m → IsOuter m x → Hangs m new x v (length m.half_edges) → KeepsOneOutline m new
+outline_hung m new x v s outer i one among closed h g h_in g_in h_outer g_outer is =
+    outlines m among among one (hang_closed m new x v s outer i among closed) h g
+    (hang_lies m new x v s outer i among closed h (omega (arith, h_in, i.edge_count)) h_outer)
+    (hang_lies m new x v s outer i among closed g (omega (arith, g_in, i.edge_count)) g_outer) is
+
+module _ (m new : Mesh) (e : ℕ) (s : IsSound m) (can : IsClosable m e) (i : Closes m new e (length m.half_edges) (length m.face_edges)) (among : ℕ → Bool) (closed : IsClosedAlong new among) where
+  c : IsCorner m e
+  c = corner m e s can
+
+  abbrev n : ℕ
+  n = length m.half_edges
+
+  -- the new outer edge stands for the two that it takes in
+  close_before : ℕ → Bool
+  close_before k = stand_in among e (next m e) (n + 1) (n + 1) k
+
+  close_first : (k : ℕ) → k ≡ e → close_before k ≡ among (n + 1)
+  unfolding close_before
+  close_first k is = stands_first among e (next m e) _ _ k is
+
+  close_second : (k : ℕ) → k ≡ next m e → close_before k ≡ among (n + 1)
+  unfolding close_before
+  close_second k is = stands_second among e (next m e) _ _ k (λ q. c.first-second (sym q ∙ is)) is
+
+  close_plain : (k : ℕ) → k ≢ e → k ≢ next m e → close_before k ≡ among k
+  unfolding close_before
+  close_plain k a b = stands_other among e (next m e) _ _ k a b
+
+  close_closed : IsClosedAlong m close_before
+  close_closed h within none is =
+      let here = s.edges h within in
+      elim (cases_eq h e) [
+        | inl same ↦ close_second (next m h) (ap (next m) same) ∙ sym (close_first h same) ∙ is
+        | inr a ↦ elim (cases_eq h (next m e)) [
+          | inl same ↦
+              let on : among (n + 1) ≡ true = sym (close_second h same) ∙ is in
+              ap (λ k. close_before (next m k)) same ∙ close_plain _ c.after-first (s.edges _ c.second_in).proper ∙ ap among (sym i.outside.next) ∙ closed (n + 1) (omega (arith, i.edge_count)) i.outside.face on
+          | inr b ↦
+              let on : among h ≡ true = sym (close_plain h a b) ∙ is in
+              let moved : among (next new h) ≡ true = closed h (omega (arith, within, i.edge_count)) (i.other_faces h within a b ∙ none) on in
+              elim (cases_eq h (prev m e)) [
+                | inl same ↦ close_first (next m h) (ap (next m) same ∙ c.before_next) ∙ ap among (sym (ap (next new) same ∙ i.next_before)) ∙ moved
+                | inr p ↦ close_plain (next m h) (λ q. p (sym here.prev_next ∙ ap (prev m) q)) (λ q. a (sym here.prev_next ∙ ap (prev m) q ∙ c.second_back)) ∙ ap among (sym (i.other_next h within p b)) ∙ moved
+              ]
+        ]
+      ]
+
+  close_lies : (k : ℕ) → k < n + 2 → face new k ≡ 0 → LiesAlong m close_before among k
+  close_lies k within none =
+      elim (grown_cases k _ within) [
+        | inl old ↦
+            let a : k ≢ e = λ q. absurd (omega (arith, none, ap (face new) q, i.face_first)) in
+            let b : k ≢ next m e = λ q. absurd (omega (arith, none, ap (face new) q, i.face_second)) in
+            lies_there m close_before among k old (sym (i.other_faces k old a b) ∙ none) (close_plain k a b)
+        | inr late ↦ elim late [
+          | inl is ↦ absurd (omega (arith, none, ap (face new) is, i.inside.face))
+          | inr is ↦ record {
+            behind = e;
+            behind_in = can.within;
+            behind_outer = can.outer;
+            comes = λ on. ap among is ∙ sym (close_first e refl) ∙ on;
+            ahead = e;
+            ahead_in = can.within;
+            ahead_outer = can.outer;
+            goes = λ on. close_first e refl ∙ ap among (sym is) ∙ on;
+          }
+        ]
+      ]
+
+pub outline_closed : (m new : Mesh) (e : ℕ) → IsSound m → IsClosable m e → Closes m new e (length m.half_edges) (length m.face_edges) → KeepsOneOutline m new
+outline_closed m new e s can i one among closed h g h_in g_in h_outer g_outer is =
+    outlines m (close_before m new e s can i among closed) among one (close_closed m new e s can i among closed) h g
+    (close_lies m new e s can i among closed h (omega (arith, h_in, i.edge_count)) h_outer)
+    (close_lies m new e s can i among closed g (omega (arith, g_in, i.edge_count)) g_outer) is
+
+module _ (m new : Mesh) (e : ℕ) (s : IsSound m) (can : IsSlidable m e) (i : Slides m new e (next m e) (next m (next m e))) (among : ℕ → Bool) (closed : IsClosedAlong new among) where
+  t : IsTail m e
+  t = tail m e s can
+
+  no_inner : (h : ℕ) → h < length m.half_edges → face m h ≡ 0
+  no_inner h within = omega (arith, (s.edges h within).face_in, ap length can.one_face)
+
+  step : (h k : ℕ) → h < length m.half_edges → next new h ≡ k → among h ≡ true → among k ≡ true
+  step h k within at is = ap among (sym at) ∙ closed h (omega (arith, within, i.edge_count)) (i.faces h within ∙ no_inner h within) is
+
+  -- the edge that is passed stands for the one after it
+  slide_before : ℕ → Bool
+  slide_before k = stand_in among (next m e) (next m e) (next m (next m e)) (next m (next m e)) k
+
+  slide_first : (k : ℕ) → k ≡ next m e → slide_before k ≡ among (next m (next m e))
+  unfolding slide_before
+  slide_first k is = stands_first among (next m e) (next m e) _ _ k is
+
+  slide_plain : (k : ℕ) → k ≢ next m e → slide_before k ≡ among k
+  unfolding slide_before
+  slide_plain k a = stands_other among (next m e) (next m e) _ _ k a a
+
+  slide_closed : IsClosedAlong m slide_before
+  slide_closed h within none is =
+      let p = t in
+      let here = s.edges h within in
+      elim (cases_eq h (next m e)) [
+        | inl same ↦ ap (λ k. slide_before (next m k)) same ∙ slide_plain _ p.back-there ∙ sym (slide_first h same) ∙ is
+        | inr a ↦
+            let on : among h ≡ true = sym (slide_plain h a) ∙ is in
+            elim (cases_eq h e) [
+              | inl same ↦ slide_first (next m h) (ap (next m) same) ∙ step e _ can.within i.next_edge (ap among (sym same) ∙ on)
+              | inr b ↦ elim (cases_eq h (prev m (rev e))) [
+                | inl same ↦
+                    ap (λ k. slide_before (next m k)) same ∙ ap slide_before p.before_next ∙ slide_plain _ (λ q. p.there-twin (sym q)) ∙ step (next m e) (rev e) p.there_in i.next_there (step (prev m (rev e)) (next m e) p.before_in i.next_before (ap among (sym same) ∙ on))
+                | inr d ↦ slide_plain (next m h) (λ q. b (sym here.prev_next ∙ ap (prev m) q ∙ p.there_prev)) ∙ step h (next m h) within (i.other_next h within b d a) on
+              ]
+            ]
+      ]
+
+  slide_lies : (k : ℕ) → k < length m.half_edges → LiesAlong m slide_before among k
+  slide_lies k within =
+      let p = t in
+      elim (cases_eq k (next m e)) [
+        | inl same ↦ record {
+          behind = prev m (rev e);
+          behind_in = p.before_in;
+          behind_outer = no_inner _ p.before_in;
+          comes = λ on. ap among same ∙ step (prev m (rev e)) (next m e) p.before_in i.next_before (sym (slide_plain _ p.before-there) ∙ on);
+          ahead = rev e;
+          ahead_in = p.twin_in;
+          ahead_outer = no_inner _ p.twin_in;
+          goes = λ on. slide_plain _ (λ q. p.there-twin (sym q)) ∙ step (next m e) (rev e) p.there_in i.next_there (ap among (sym same) ∙ on);
+        }
+        | inr off ↦ lies_there m slide_before among k within (no_inner k within) (slide_plain k off)
+      ]
+
+pub outline_slid : (m new : Mesh) (e : ℕ) → IsSound m → IsSlidable m e → Slides m new e (next m e) (next m (next m e)) → KeepsOneOutline m new
+outline_slid m new e s can i one among closed h g h_in g_in h_outer g_outer is =
+    outlines m (slide_before m new e s can i among closed) among one (slide_closed m new e s can i among closed) h g
+    (slide_lies m new e s can i among closed h (omega (arith, h_in, i.edge_count)))
+    (slide_lies m new e s can i among closed g (omega (arith, g_in, i.edge_count))) is
+
+pub outline_connected : (m : Mesh) (a b : ℕ) → HasOneOutline (connected m a b)
+outline_connected m a b among closed zero zero h_in g_in p q is = is
+outline_connected m a b among closed zero (suc zero) h_in g_in p q is = closed 0 (omega arith) refl is
+outline_connected m a b among closed (suc zero) zero h_in g_in p q is = closed 1 (omega arith) refl is
+outline_connected m a b among closed (suc zero) (suc zero) h_in g_in p q is = is
+outline_connected m a b among closed (suc (suc h)) g h_in g_in p q is = absurd (omega arith)
+outline_connected m a b among closed zero (suc (suc g)) h_in g_in p q is = absurd (omega arith)
+outline_connected m a b among closed (suc zero) (suc (suc g)) h_in g_in p q is = absurd (omega arith)
