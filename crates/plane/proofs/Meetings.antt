@@ -5,12 +5,14 @@ use Rattle.std.specs.Prelude.{ℤ, pos, neg_ℤ, ◌<ℤ◌, ◌≤ℤ◌, ◌*�
 use Rattle.std.proofs.lemmas.Int.{ints}
 use Rattle.plane.specs.Fraction.{Fraction, IsSame, IsNotNegative, IsPositive, OnSegment, WithinSegment}
 use Rattle.plane.specs.Crossing.{MeetAt, MeetsWithin, Cross}
+use Rattle.plane.specs.Laws.{Parts}
 use Rattle.plane.proofs.IntegerOrder.{Sign, sign, below, none, above, mul-pos_ℤ, mul-nonneg_ℤ, mul-neg_of_pos_neg_ℤ, zero-mul_ℤ, zero_of_mul-zero_ℤ, pos-ne-zero_ℤ}
 use Rattle.plane.proofs.Steps.{weak, left_not_zero, right_not_zero, one_number}
 use Rattle.plane.proofs.Solver.{num, ◌⊕◌, ◌⊖◌, ◌⊗◌, ⊝, ring_in, ring_in_from, ring_over}
 use Rattle.plane.proofs.Bracket.{Vec3, vec, bracket, bracketᵖ, vec3}
 use Rattle.plane.proofs.BracketIdentities.{bracket-swap}
 use Rattle.plane.proofs.Means.{TwoWeights, two_weights, mean_of_two, turned_mean_of_two, bracket_of_two}
+use Rattle.plane.proofs.Sides.{left_if, right_if, if_left, if_right}
 use Rattle.plane.proofs.Lines.{bracket_of_line, left_of_two, right_of_two}
 use Rattle.plane.proofs.Segments.{line_weights, IsWhole, same-refl, same-sym, same-trans, on_of_within, on_segment-same, within_segment-same, start_on_segment, only_point, within_itself}
 use Rattle.plane.proofs.Nudges.{nudge_each}
@@ -414,4 +416,22 @@ pub meets_a_point : (s t u v : Fraction) → IsSame u v → MeetsWithin s t u v 
 meets_a_point s t u v e = (
   (λ c. on_segment-same s t c.at u (only_point u v c.at e c.meet.second) c.meet.first),
   (λ h. record { at = u; meet = record { first = h; second = start_on_segment u v; only = λ p f g. only_point u v p e g }; within = within_itself u v u e (same-refl u) }),
+)
+
+-- ---- crossing by answers of the side function
+opposite_is_parts : (s t u v : Fraction) → AreOpposite (bracket (vec s) (vec t) (vec u)) (bracket (vec s) (vec t) (vec v)) ↔ Parts s t u v
+opposite_is_parts s t u v = (forth, back)
+  where
+    forth : AreOpposite (bracket (vec s) (vec t) (vec u)) (bracket (vec s) (vec t) (vec v)) → Parts s t u v
+    forth (inl h) = inr (right_if s t u h.0, left_if s t v h.1)
+    forth (inr h) = inl (left_if s t u h.0, right_if s t v h.1)
+
+    back : Parts s t u v → AreOpposite (bracket (vec s) (vec t) (vec u)) (bracket (vec s) (vec t) (vec v))
+    back (inl h) = inr (if_left s t u h.0, if_right s t v h.1)
+    back (inr h) = inl (if_right s t u h.0, if_left s t v h.1)
+
+pub crossing_is_sides : (s t u v : Fraction) → ¬ IsSame s t → ¬ IsSame u v → Cross s t u v ↔ (Parts s t u v × Parts u v s t)
+crossing_is_sides s t u v apart apart' = let brackets = cross_is s t u v apart apart' in (
+  (λ c. let o = brackets.0 c in ((opposite_is_parts s t u v).0 o.0, (opposite_is_parts u v s t).0 o.1)),
+  (λ p. brackets.1 ((opposite_is_parts s t u v).1 p.0, (opposite_is_parts u v s t).1 p.1)),
 )

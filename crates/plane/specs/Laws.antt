@@ -1,8 +1,9 @@
--- What is proved of the definitions of segment, side and circle: that they are the usual ones.
-use Rattle.std.specs.Prelude.{◌≡◌, ◌↔◌, ℤ, pos, ◌+ℤ◌, ◌-ℤ◌, ◌*ℤ◌, ◌<ℤ◌, ◌≤ℤ◌}
-use Rattle.plane.specs.Fraction.{Point, Fraction, whole, IsSame, OnSegment}
-use Rattle.plane.specs.Side.{side, IsSide, TurnsLeft}
+-- What is proved of the definitions of segment, triangle, crossing, side and circle: that they are the usual ones.
+use Rattle.std.specs.Prelude.{◌≡◌, ◌⊎◌, ◌↔◌, ℤ, pos, ◌+ℤ◌, ◌-ℤ◌, ◌*ℤ◌, ◌<ℤ◌, ◌≤ℤ◌}
+use Rattle.plane.specs.Fraction.{Point, Fraction, whole, IsSame, OnSegment, InTriangle, InsideTriangle}
+use Rattle.plane.specs.Side.{side, left, right, IsSide, TurnsLeft}
 use Rattle.plane.specs.Circle.{IsCentre, InsideCircle, OnCircle}
+use Rattle.plane.specs.Crossing.{Cross}
 
 -- p is (k a + l b) / (k + l), by cross products
 pub record IsAverage (k l : ℤ) (a b p : Fraction) : Type 0 where
@@ -25,6 +26,19 @@ SegmentIsAverages = (a b p : Fraction) → OnSegment a b p ↔ IsAverageOf a b p
 -- the side function is the side of the plane
 abbrev pub SideIsSide : Type 0
 SideIsSide = IsSide side
+
+-- strictly inside a left-turning triangle is left of its three sides, and in it is right of none
+abbrev pub TriangleIsSides : Type 0
+TriangleIsSides = (a b c p : Fraction) → TurnsLeft a b c
+    → (InsideTriangle a b c p ↔ (TurnsLeft a b p × TurnsLeft b c p × TurnsLeft c a p)) × (InTriangle a b c p ↔ ((¬ (side a b p ≡ right)) × (¬ (side b c p ≡ right)) × (¬ (side c a p ≡ right))))
+
+-- the line from s to t has u and v on its two sides
+abbrev pub Parts : Fraction → Fraction → Fraction → Fraction → Type 0
+Parts s t u v = ((side s t u ≡ left) × (side s t v ≡ right)) ⊎ ((side s t u ≡ right) × (side s t v ≡ left))
+
+-- two segments, each with different ends, cross exactly if each has the other's ends on its two sides
+abbrev pub CrossingIsSides : Type 0
+CrossingIsSides = (s t u v : Fraction) → ¬ IsSame s t → ¬ IsSame u v → Cross s t u v ↔ (Parts s t u v × Parts u v s t)
 
 -- a left-turning triple of points has a centre, and no other
 abbrev pub TripleHasOneCentre : Type 0
