@@ -13,3 +13,4 @@ pub mod Flipping
 pub mod Growing
 pub mod OnLine
 pub mod Star
+pub mod RemovalOpposite
