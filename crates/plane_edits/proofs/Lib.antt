@@ -14,3 +14,4 @@ pub mod Growing
 pub mod OnLine
 pub mod Star
 pub mod RemovalOpposite
+pub mod RemovalInner

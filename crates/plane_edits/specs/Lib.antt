@@ -4,3 +4,4 @@ pub mod Laws
 pub mod Legal
 pub mod Away
 pub mod LegalLaws
+pub mod Removal
