@@ -15,3 +15,4 @@ pub mod OnLine
 pub mod Star
 pub mod RemovalOpposite
 pub mod RemovalInner
+pub mod RemovalMerge
