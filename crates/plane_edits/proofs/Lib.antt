@@ -16,3 +16,5 @@ pub mod Star
 pub mod RemovalOpposite
 pub mod RemovalInner
 pub mod RemovalMerge
+pub mod Renumbering
+pub mod Removals

@@ -1,14 +1,13 @@
 -- An inner vertex goes: its three faces become one, or its four faces two where it is strictly between opposite neighbours.
-use Rattle.std.proofs.Common.{◌≡◌, ◌⊎◌, ℕ, zero, suc, ◌<◌, List, [], ◌∷◌, refl, sym, ap, ◌∙◌, subst, arith}
+use Rattle.std.proofs.Common.{◌≡◌, ℕ, zero, suc, ◌<◌, List, [], ◌∷◌, refl, sym, ap, ◌∙◌, subst, arith}
 use Prim.Native.Nat.{◌+◌}
 use mathlib.Core.Logic.{inl, inr, ◌≢◌}
 use Rattle.std.specs.Prelude.{ℤ, pos, ◌+ℤ◌, ◌<ℤ◌, ◌≤ℤ◌, neg_ℤ, Contains, AllPairs}
 use Rattle.std.proofs.lemmas.Int.{ints}
-use Rattle.std.proofs.lemmas.Bool.{cases_eq}
 use Rattle.plane.specs.Fraction.{Point, whole, WithinSegment}
 use Rattle.plane.specs.Tiling.{Face, face}
 use Rattle.plane_tiling.specs.Local.{total, around, along, IsAntisymmetric, AreBalanced}
-use Rattle.plane.proofs.Bracket.{bracket, lift}
+use Rattle.plane.proofs.Bracket.{bracket}
 use Rattle.plane.proofs.BracketIdentities.{bracket-turn, bracket-swap, bracket-sum}
 use Rattle.plane_tiling.proofs.Totals.{Contains-head, Contains-later, Contains-none}
 use Rattle.plane_tiling.proofs.Flows.{IsTurnOf, HasSide, turned}
@@ -91,7 +90,7 @@ module _ (n : ℕ) (p : ℕ → Point) (old new : List Face) (outer outer' : Lis
       where
         by : (s : ℕ) → 0 < s → s ≡ k → HasSide old (nb (i + k)) v
         by zero h e = absurd (omega arith)
-        by (suc s) h e = (nb (i + s), subst (λ o. IsTurnOf old o v (nb (i + s))) (ap nb (stepped s e)) (turned old (nb (i + s)) (nb (suc (i + s))) v (turned old v (nb (i + s)) (nb (suc (i + s))) (star.around (i + s)))) )
+        by (suc s) h e = (nb (i + s), subst (λ o. IsTurnOf old o v (nb (i + s))) (ap nb (stepped s e)) (turned old (nb (i + s)) (nb (suc (i + s))) v (turned old v (nb (i + s)) (nb (suc (i + s))) (star.around (i + s)))))
           where
             stepped : (s : ℕ) → suc s ≡ k → suc (i + s) ≡ i + k
             stepped s e = omega arith

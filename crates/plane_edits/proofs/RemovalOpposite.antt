@@ -1,17 +1,17 @@
 -- Round a vertex v: two corners of its star that do not turn left, and are not next to one another, are opposite corners of four, with v between the other two.
-use Rattle.std.proofs.Common.{◌≡◌, ◌⊎◌, ℕ, [], ◌∷◌, refl, sym, ap, ◌∙◌, subst, arith}
+use Rattle.std.proofs.Common.{◌≡◌, ◌⊎◌, ℕ, [], ◌∷◌, sym, ap, ◌∙◌, subst, arith}
 use mathlib.Core.Logic.{inl, inr, ◌≢◌}
 use Rattle.std.specs.Prelude.{List, ℤ, pos, ◌+ℤ◌, ◌-ℤ◌, ◌*ℤ◌, ◌≤ℤ◌, ◌<ℤ◌, neg_ℤ}
 use Rattle.std.proofs.lemmas.Int.{ints}
 use Rattle.plane.specs.Fraction.{Point, whole, IsPositive, WithinSegment}
 use Rattle.plane.specs.Tiling.{Face}
 use Rattle.std.proofs.lemmas.Bool.{cases_eq}
-use Rattle.plane.proofs.IntegerOrder.{lt_or_ge_ℤ, mul-pos_ℤ, nonneg_of_mul-nonneg_ℤ, mul-nonneg_of_nonpos_ℤ, pos_of_mul-pos_ℤ, zero_of_mul-zero_ℤ, zero-mul_ℤ, pos-ne-zero_ℤ}
-use Rattle.plane.proofs.Steps.{weak, weak_right, zero_weak, zero_weak_left, left_not_zero, left_not_below, right_not_zero, negated_left, product_zero_left, sum_second, sum_first_two}
+use Rattle.plane.proofs.IntegerOrder.{lt_or_ge_ℤ, mul-pos_ℤ, nonneg_of_mul-nonneg_ℤ, mul-nonneg_of_nonpos_ℤ, pos_of_mul-pos_ℤ, zero_of_mul-zero_ℤ}
+use Rattle.plane.proofs.Steps.{weak, weak_right, zero_weak, zero_weak_left, left_not_zero, left_not_below, right_not_zero, negated_left, product_zero_left}
 use Rattle.plane.proofs.Solver.{num, ◌⊕◌, ◌⊖◌, ◌⊗◌, ⊝, ring_in_from}
 use Rattle.plane.proofs.Means.{mean_of_two}
-use Rattle.plane.proofs.Bracket.{Vec3, bracket, lift}
-use Rattle.plane.proofs.BracketIdentities.{bracket-turn, bracket-swap, bracket-outer, bracket-last, pluecker, cramer_x, cramer_y, cramer_w}
+use Rattle.plane.proofs.Bracket.{bracket}
+use Rattle.plane.proofs.BracketIdentities.{bracket-turn, bracket-swap, bracket-last, pluecker, cramer_x, cramer_y, cramer_w}
 use Rattle.plane_tiling.proofs.Flows.{IsTurnOf}
 use Rattle.plane_tiling.proofs.Counting.{at, SignMesh}
 use Rattle.plane_tiling.proofs.Covering as C

@@ -5,3 +5,4 @@ pub mod Legal
 pub mod Away
 pub mod LegalLaws
 pub mod Removal
+pub mod RemovalLaws

@@ -1,9 +1,9 @@
 -- The faces round a vertex, and a mesh of all points but one.
-use Rattle.std.specs.Prelude.{◌≡◌, ◌≢◌, ◌⊎◌, ℕ, suc, ◌+◌, ◌<◌, List, [], Contains, AllPairs}
+use Rattle.std.specs.Prelude.{◌≡◌, ◌≢◌, ◌⊎◌, ℕ, suc, ◌+◌, ◌<◌, List, [], nat_eq, if◌then◌else◌, Contains, AllPairs}
 use Rattle.plane.specs.Fraction.{Point, WithinSegment}
 use Rattle.plane.specs.Side.{TurnsLeft}
 use Rattle.plane.specs.Pairs.{place, IsIndex}
-use Rattle.plane.specs.Tiling.{Face}
+use Rattle.plane.specs.Tiling.{Face, face}
 use Rattle.plane_tiling.specs.Local.{AreBalanced, IsCorner}
 use Rattle.plane_edits.specs.Change.{IsFaceOf}
 
@@ -30,3 +30,13 @@ pub record LocalMeshWithout (v : ℕ) (points : List Point) (faces : List Face) 
   pub bare : (e : ℕ × ℕ) → Contains outer e → (k : ℕ) → IsOther points v k → ¬ WithinSegment (place points e.0) (place points e.1) (place points k)
   pub once : AllPairs (λ d e. d ≢ e) outer
   pub balanced : AreBalanced faces outer
+
+-- where v has gone and the last vertex has taken its index: the index that k gets
+abbrev pub new_index : ℕ → ℕ → ℕ → ℕ
+new_index v last k = if nat_eq k last then v else k
+
+abbrev pub renumbered : ℕ → ℕ → Face → Face
+renumbered v last f = face (new_index v last f.a) (new_index v last f.b) (new_index v last f.c)
+
+abbrev pub renumbered_pair : ℕ → ℕ → ℕ × ℕ → ℕ × ℕ
+renumbered_pair v last e = (new_index v last e.0, new_index v last e.1)

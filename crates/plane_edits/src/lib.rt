@@ -3,6 +3,7 @@
 
 ghost use Rattle.plane_edits.specs.Laws.{InsertionInsideKeeps, InsertionWithinSideKeeps, InsertionWithinOuterKeeps, FlipKeeps, FlipCovers, ExtensionBegins, ExtensionGoesOn, ExtensionGoesBack, ExtensionEnds, ExtensionOverLineEnds, InsertionPastEndKeeps, InsertionBetweenKeeps};
 ghost use Rattle.plane_edits.specs.LegalLaws.{OneQuestionForBoth, FailingIsConvex, FlipLowers, FlipLeavesSides, PassingIsDropped, ChangeLeavesSides, NoneLeftIsLocallyDelaunay, AwayIsNoEdge, FlipGoesAway, AwayIsBounded};
+ghost use Rattle.plane_edits.specs.RemovalLaws.{FourFacesMerge, InnerStarFlips, LastTakesFreedIndex, ThreeFacesMerge};
 
 /// A law: a vertex strictly inside a face, joined to its three corners, keeps a mesh local.
 pub fn insertion_inside_keeps()
@@ -112,4 +113,23 @@ pub fn flip_goes_away()
 /// A law: the pairs that one legalising flips away are at most n (n - 1) / 2.
 pub fn away_is_bounded()
     ensures { AwayIsBounded }
+
+/// A law: at an inner vertex with four neighbours or more an edge can be flipped, or there are four and the vertex is strictly between two of them.
+pub fn inner_star_flips()
+    ensures { InnerStarFlips }
+{}
+
+/// A law: where the three faces at a vertex become one, a local mesh of the other vertices is left.
+pub fn three_faces_merge()
+    ensures { ThreeFacesMerge }
+{}
+
+/// A law: where the four faces at a vertex between two opposite neighbours become two, a local mesh of the other vertices is left.
+pub fn four_faces_merge()
+    ensures { FourFacesMerge }
+{}
+
+/// A law: a local mesh of all vertices but one is, once the last one has taken its index, a local mesh of the points that are left.
+pub fn last_takes_freed_index()
+    ensures { LastTakesFreedIndex }
 {}
