@@ -113,6 +113,7 @@ pub fn flip_goes_away()
 /// A law: the pairs that one legalising flips away are at most n (n - 1) / 2.
 pub fn away_is_bounded()
     ensures { AwayIsBounded }
+{}
 
 /// A law: at an inner vertex with four neighbours or more an edge can be flipped, or there are four and the vertex is strictly between two of them.
 pub fn inner_star_flips()
