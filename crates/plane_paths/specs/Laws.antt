@@ -1,0 +1,14 @@
+-- What is proved of a segment that is made an edge by flips.
+use Rattle.std.specs.Prelude.{ℕ}
+use Rattle.plane.specs.Side.{TurnsLeft}
+use Rattle.plane.specs.Tiling.{Triangulation, IsEdge, IsFace, TilesHull, vertex}
+use Rattle.plane_paths.specs.Path.{IsFreeOfVertices, IsCrossing, IsLastRight, IsLastLeft}
+
+-- where no edge crosses it, it is an edge
+abbrev pub UncrossedIsEdge : Type 0
+UncrossedIsEdge = (t : Triangulation) (i j : ℕ) → TilesHull t → IsFreeOfVertices t i j → ((v y : ℕ) → ¬ IsCrossing t i j v y) → IsEdge t i j
+
+-- the edge from the last right end to the last left end there lies across a strictly convex quadrilateral v x y z
+abbrev pub ChosenFlipIsConvex : Type 0
+ChosenFlipIsConvex = (t : Triangulation) (i j v x y z : ℕ) → TilesHull t → IsFreeOfVertices t i j → IsCrossing t i j v y → IsFace t v x y → IsFace t v y z → IsLastRight t i j v → IsLastLeft t i j v y
+    → TurnsLeft (vertex t v) (vertex t x) (vertex t z) × TurnsLeft (vertex t x) (vertex t y) (vertex t z)
