@@ -4,3 +4,5 @@ pub mod Outlines
 pub mod Ranges
 pub mod Steps
 pub mod Moves
+pub mod Walks
+pub mod Loops

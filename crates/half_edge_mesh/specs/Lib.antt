@@ -1,3 +1,4 @@
 pub mod Contents
 pub mod Growth
 pub mod Left
+pub mod Rounds

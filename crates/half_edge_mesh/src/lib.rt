@@ -13,6 +13,7 @@ mod line;
 mod lookup;
 mod outside;
 mod room;
+mod rounds;
 #[cfg(test)]
 mod tests;
 mod vertex;
@@ -28,4 +29,5 @@ pub use handles::{
     FixedDirectedEdgeHandle, FixedFaceHandle, FixedUndirectedEdgeHandle, FixedVertexHandle,
 };
 pub use iterators::{DirectedEdgeIterator, FaceIterator, UndirectedEdgeIterator, VertexIterator};
+pub use rounds::{CircularIterator, HullIterator};
 pub use vertex::VertexHandle;

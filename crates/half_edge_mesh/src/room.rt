@@ -1,9 +1,11 @@
 //! Room for a mesh to grow in.
-ghost use Rattle.std.specs.Prelude.{◌≡◌, OnOk, IsOk, Err};
+ghost use Rattle.std.specs.Prelude.{◌≡◌, [], OnOk, IfOk, IsOk, Err};
+ghost use Rattle.half_edge_links.specs.Mesh.{empty};
 ghost use Rattle.half_edge_links.specs.Room.{AreFewEnough, HasRoomFor, KeepsRoom};
 
 use crate::dcel::Dcel;
 use half_edge_links::ReserveError;
+use std::alloc::Global;
 
 impl<V, DE, UE, F> Dcel<V, DE, UE, F> {
     /// Makes room for these totals, the outer face among them. After an error the mesh is as it was: `TooMany` comes
@@ -34,5 +36,45 @@ impl<V, DE, UE, F> Dcel<V, DE, UE, F> {
             return Err(ReserveError::OutOfMemory);
         }
         Ok(())
+    }
+
+    /// Takes out all vertices and edges. The outer face keeps its data, and the room stays.
+    pub fn clear(&mut self)
+    where
+        V: Drop,
+        DE: Drop,
+        UE: Drop,
+        F: Drop,
+        ensures contents { self.new ≡ record self.old { mesh = empty; vertices = []; directed = []; undirected = []; faces = [] } }
+    {
+        self.links.clear();
+        self.vertices.clear();
+        self.directed.clear();
+        self.undirected.clear();
+        self.faces.clear();
+    }
+
+    /// An empty mesh with room for these totals, the outer face among them, or a refusal as of `reserve_capacity`.
+    pub fn with_capacity(
+        alloc: Global,
+        vertices: usize,
+        undirected_edges: usize,
+        faces: usize,
+    ) -> Result<Self, ReserveError>
+    where
+        V: Drop,
+        DE: Drop,
+        UE: Drop,
+        F: Default + Drop,
+        ensures mesh { IfOk result (λ d. d.mesh ≡ empty) }
+        ensures vertices { IfOk result (λ d. d.vertices ≡ []) }
+        ensures outer { IfOk result (λ d. F.is_default d.outer) }
+        ensures room { IfOk result (λ d. HasRoomFor d.room vertices undirected_edges faces) }
+        ensures too_many { result ≡ Err ReserveError.TooMany → ¬ AreFewEnough vertices undirected_edges faces }
+        ensures few_enough { ¬ AreFewEnough vertices undirected_edges faces → result ≡ Err ReserveError.TooMany }
+    {
+        let mut mesh = Dcel::new(alloc);
+        mesh.reserve_capacity(vertices, undirected_edges, faces)?;
+        Ok(mesh)
     }
 }

@@ -6,6 +6,7 @@ ghost use Rattle.half_edge_mesh.specs.Contents.{IsWhole};
 use crate::dcel::Dcel;
 use crate::edge::DirectedEdgeHandle;
 use crate::handles::FixedVertexHandle;
+use crate::rounds::CircularIterator;
 use std::alloc::AllocError;
 
 /// A vertex of a mesh. Two of them are equal where their indexes are.
@@ -28,6 +29,8 @@ impl<'a, V, DE, UE, F> Clone for VertexHandle<'a, V, DE, UE, F> {
 }
 
 impl<'a, V, DE, UE, F> VertexHandle<'a, V, DE, UE, F> {
+    ghost use Rattle.half_edge_mesh.specs.Rounds.{GivesRound, out_edges_left};
+
     /// The name of it alone.
     pub fn fix(&self) -> FixedVertexHandle
         ensures value { result ≡ self.now.index }
@@ -53,5 +56,25 @@ impl<'a, V, DE, UE, F> VertexHandle<'a, V, DE, UE, F> {
             dcel: self.dcel,
             index,
         })
+    }
+
+    /// The edges that start here, counterclockwise.
+    pub fn out_edges(&self) -> CircularIterator<'a, V, DE, UE, F>
+        ensures { GivesRound self.now.dcel self.now.index (out_edges_left result) }
+    {
+        if let Some(first) = self.dcel.out_edge(self.index) {
+            return CircularIterator {
+                dcel: self.dcel,
+                first,
+                next: first,
+                left: self.dcel.num_directed_edges() as u32,
+            };
+        }
+        CircularIterator {
+            dcel: self.dcel,
+            first: 0,
+            next: 0,
+            left: 0,
+        }
     }
 }
