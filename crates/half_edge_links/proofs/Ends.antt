@@ -135,3 +135,15 @@ pub length-ends : (m : Mesh) (e : ℕ) → IsSound m → e < length m.half_edges
 length-ends m e s within =
     let even_origins : length (origins m) % 2 ≡ 0 = rw length-origins s.even in
     omega (arith, within, length-paired (origins m) even_origins, length-origins m)
+
+pub length-ends_twice : (m : Mesh) → IsSound m → 2 * length (ends m) ≡ length m.half_edges
+length-ends_twice m s =
+    let even_origins : length (origins m) % 2 ≡ 0 = rw length-origins s.even in
+    length-paired (origins m) even_origins ∙ length-origins m
+
+-- the ends of an undirected edge
+pub get_or-ends : (m : Mesh) (k : ℕ) (d : Ends) → 2 * k + 1 < length m.half_edges → get_or (ends m) k d ≡ record { source = origin m (2 * k); target = origin m (2 * k + 1) }
+get_or-ends m k d within =
+    let o0 = get_or-origins m (2 * k) 0 (omega (arith, within)) in
+    let o1 = get_or-origins m (2 * k + 1) 0 within in
+    get_or-paired (origins m) k d (rw length-origins within) ∙ (λ i. record { source = o0 i; target = o1 i })

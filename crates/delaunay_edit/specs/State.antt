@@ -1,0 +1,30 @@
+-- What a contract sees of a triangulation.
+use Rattle.std.specs.Prelude.{List, [], map}
+use Rattle.half_edge_links.specs.Mesh.{Mesh}
+use Rattle.drawn_mesh.specs.Drawn.{drawn}
+use Rattle.half_edge_mesh.specs.Contents.{Contents}
+use Rattle.plane.specs.Fraction.{Point}
+use Rattle.plane.specs.Plain.{Plain}
+use Rattle.plane.specs.Tiling.{Triangulation}
+
+-- the vertices, the mesh of their indexes, and the data of its directed and undirected edges, of the outer face and of
+-- the faces from face 1 on
+pub record State (V D U F : Type 0) : Type 0 where
+  pub vertices : List V
+  pub mesh : Mesh
+  pub directed : List D
+  pub undirected : List U
+  pub outer : F
+  pub faces : List F
+
+-- all that a mesh with data holds but its room
+abbrev pub state_of : {V D U F : Type 0} → Contents V D U F → State V D U F
+state_of c = record { vertices = c.vertices; mesh = c.mesh; directed = c.directed; undirected = c.undirected; outer = c.outer; faces = c.faces }
+
+-- the positions of the vertices, with the faces and the edges
+abbrev pub triangulation_of : {V D U F : Type 0} → (V → Point) → State V D U F → Triangulation
+triangulation_of place s = drawn (map place s.vertices) s.mesh
+
+-- the vertices, without constraints
+abbrev pub plain_of : {V D U F : Type 0} → State V D U F → Plain V
+plain_of s = record { vertices = s.vertices; constraints = [] }

@@ -1,0 +1,10 @@
+//! The edits and queries that plain and constrained triangulations share.
+#![tactic(auto)]
+
+mod location;
+mod position_in_triangulation;
+mod predicates;
+mod triangulation_core;
+
+pub use position_in_triangulation::PositionInTriangulation;
+pub use triangulation_core::TriangulationCore;

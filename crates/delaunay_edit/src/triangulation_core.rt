@@ -1,0 +1,118 @@
+//! What both triangulation types hold.
+ghost use Rattle.std.specs.Prelude.{◌≡◌, ◌↔◌, ◌<◌, ◌≤◌, [], length, map, IsTrue};
+ghost use Rattle.half_edge_links.specs.Mesh.{empty, origin, rev, face, face_edge};
+ghost use Rattle.half_edge_links.specs.Triangles.{triangle_at};
+ghost use Rattle.plane.specs.Tiling.{IsTiling};
+ghost use Rattle.delaunay_core.specs.Place.{place_of};
+ghost use Rattle.delaunay_edit.specs.State.{triangulation_of};
+ghost use Rattle.delaunay_edit.specs.Known.{point_at};
+ghost use Rattle.delaunay_edit.specs.Shape.{IsKept};
+ghost use Rattle.delaunay_edit.specs.Location.{IsMeshEdge, IsMeshFace};
+
+use delaunay_core::point::{HasPosition, Point2};
+use half_edge_mesh::{
+    Dcel, FixedDirectedEdgeHandle, FixedFaceHandle, FixedVertexHandle, MAX_ELEMENTS,
+};
+use std::alloc::Global;
+use std::marker::Model;
+
+/// A triangulation of vertices with different positions: its faces tile the hull of the positions, or its edges join the
+/// positions of one line to their neighbours.
+#[derive(Drop)]
+pub struct TriangulationCore<V: HasPosition, DE, UE, F> {
+    pub(crate) dcel: Dcel<V, DE, UE, F>,
+}
+
+impl<V: HasPosition, DE, UE, F> Model for TriangulationCore<V, DE, UE, F> {
+    ghost use Rattle.delaunay_edit.specs.State.{State, state_of};
+    ghost use Rattle.delaunay_edit.specs.Shape.{IsKept};
+
+    ghost Value = { State V DE UE F };
+
+    ghost view = { λ c. state_of c.dcel };
+
+    ghost invariant = { λ c. IsKept V.place (state_of c.dcel) };
+}
+
+impl<V: HasPosition, DE, UE, F> TriangulationCore<V, DE, UE, F> {
+    /// No vertex, no edge, and the outer face with default data.
+    pub fn new(alloc: Global) -> Self
+    where
+        F: Default,
+        ensures vertices { result.vertices ≡ [] }
+        ensures mesh { result.mesh ≡ empty }
+        ensures directed { result.directed ≡ [] }
+        ensures undirected { result.undirected ≡ [] }
+        ensures outer { F.is_default result.outer }
+        ensures faces { result.faces ≡ [] }
+        ensures tiling { IsTiling (triangulation_of V.place result) }
+    {
+        let dcel = Dcel::new(alloc);
+        let _ = dcel.num_vertices();
+        TriangulationCore { dcel }
+    }
+
+    pub fn num_vertices(&self) -> usize
+        ensures value { result ≡ length self.now.vertices }
+        ensures small { result ≤ MAX_ELEMENTS }
+        ensures kept { IsKept V.place self.now }
+        ensures tiling { IsTiling (triangulation_of V.place self.now) }
+    {
+        self.dcel.num_vertices()
+    }
+
+    // The position of a vertex.
+    pub(crate) fn position_of(&self, vertex: FixedVertexHandle) -> Point2<V::Scalar>
+        requires { vertex < length self.now.vertices }
+        ensures { place_of V.Scalar.whole result ≡ point_at (map V.place self.now.vertices) vertex }
+    {
+        self.dcel.vertex_data(vertex).position()
+    }
+
+    // The positions of the ends of an edge, in its direction.
+    pub(crate) fn ends_of(
+        &self,
+        edge: FixedDirectedEdgeHandle,
+    ) -> (Point2<V::Scalar>, Point2<V::Scalar>)
+        requires { edge < length self.now.directed }
+        ensures from { place_of V.Scalar.whole result.0 ≡ point_at (map V.place self.now.vertices) (origin self.now.mesh edge) }
+        ensures to { place_of V.Scalar.whole result.1 ≡ point_at (map V.place self.now.vertices) (origin self.now.mesh (rev edge)) }
+        ensures edge { IsMeshEdge (map V.place self.now.vertices) self.now.mesh edge }
+    {
+        let edge = self.dcel.directed_edge(edge);
+        let from = edge.from().fix();
+        let to = edge.to().fix();
+        (self.position_of(from), self.position_of(to))
+    }
+
+    // Whether an edge has the outer face on its left.
+    pub(crate) fn is_outer(&self, edge: FixedDirectedEdgeHandle) -> bool
+        requires { edge < length self.now.directed }
+        ensures { IsTrue result ↔ (face self.now.mesh edge ≡ 0) }
+    {
+        self.dcel.directed_edge(edge).is_outer_edge()
+    }
+
+    // The positions of the corners of an inner face, in their order round it.
+    pub(crate) fn corners_of(
+        &self,
+        face: FixedFaceHandle,
+    ) -> (Point2<V::Scalar>, Point2<V::Scalar>, Point2<V::Scalar>)
+        requires positive { 0 < face }
+        requires within { face ≤ length self.now.faces }
+        ensures first { place_of V.Scalar.whole result.0 ≡ point_at (map V.place self.now.vertices) (triangle_at self.now.mesh (face_edge self.now.mesh face)).first }
+        ensures second { place_of V.Scalar.whole result.1 ≡ point_at (map V.place self.now.vertices) (triangle_at self.now.mesh (face_edge self.now.mesh face)).second }
+        ensures third { place_of V.Scalar.whole result.2 ≡ point_at (map V.place self.now.vertices) (triangle_at self.now.mesh (face_edge self.now.mesh face)).third }
+        ensures face { IsMeshFace (map V.place self.now.vertices) self.now.mesh face }
+    {
+        let edge = self.dcel.face(face).adjacent_edge();
+        let first = edge.from().fix();
+        let second = edge.next().from().fix();
+        let third = edge.prev().from().fix();
+        (
+            self.position_of(first),
+            self.position_of(second),
+            self.position_of(third),
+        )
+    }
+}
