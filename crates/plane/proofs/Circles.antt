@@ -1,5 +1,5 @@
 -- The circle of a left-turning triple as the sign of a determinant: that of the corners and the point, each with its squared length.
-use lib.IntN.{ℤ, pos, ◌+ℤ◌, ◌-ℤ◌, ◌*ℤ◌}
+use lib.IntN.{ℤ, pos, ◌+ℤ◌, ◌-ℤ◌, ◌*ℤ◌, neg_ℤ}
 use lib.Signed.{◌<ℤ◌}
 use mathlib.Core.Path.{◌≡◌, refl, sym, ◌∙◌, ap, subst}
 use mathlib.Core.Logic.{◌↔◌}
@@ -9,11 +9,12 @@ use borrow.Author.Differences.{ints}
 use Rattle.plane.specs.Fraction.{Point, Fraction, whole, IsSame}
 use Rattle.plane.specs.Side.{TurnsLeft}
 use Rattle.plane.specs.Circle.{gap, AreEquallyFar, InsideCircle, OnCircle}
-use Rattle.plane.specs.Laws.{lifted_determinant}
+use Rattle.plane.specs.Laws.{squared_way, lifted_determinant}
 use Rattle.plane.proofs.IntegerOrder.{mul-pos_ℤ, pos_of_mul-pos_ℤ, zero_from_ℤ, pos-ne-zero_ℤ, mul_cancel_ℤ}
-use Rattle.plane.proofs.Solver.{Poly, num, ◌⊕◌, ◌⊖◌, ◌⊗◌, ring_in, ring_over}
+use Rattle.plane.proofs.Solver.{Poly, num, ◌⊕◌, ◌⊖◌, ◌⊗◌, ⊝, ring_in, ring_over}
 use Rattle.plane.proofs.Bracket.{Vec3, lift, bracket, Vec3ᵖ, bracketᵖ, vec3, Pointᵖ, points}
 use Rattle.plane.proofs.Bracket.{liftᵖ as wholeᵖ}
+use Rattle.plane.proofs.BracketIdentities.{bracket-turn}
 use Rattle.plane.proofs.Centre.{over, lifted, overᵖ, gaps, centre, centre_is_centre, centre_is_only, inside_is, scaled_gap}
 
 -- the squared length, of a point whose weight is 1
@@ -43,6 +44,16 @@ incircle-turn a b c d = ring_over vec3 [] (a ∷ b ∷ c ∷ d ∷ []) (λ a b c
 pub incircle-exchange : (a b c d : Vec3) → incircle b a d c ≡ incircle a b c d
 unfolding incircle
 incircle-exchange a b c d = ring_over vec3 [] (a ∷ b ∷ c ∷ d ∷ []) (λ a b c d. incircleᵖ b a d c) incircleᵖ tt
+
+-- the opposite corners of a quadrilateral exchanged
+pub incircle-opposite : (a b c d : Vec3) → incircle a b c d ≡ incircle c d a b
+unfolding incircle
+incircle-opposite a b c d = ring_over vec3 [] (a ∷ b ∷ c ∷ d ∷ []) incircleᵖ (λ a b c d. incircleᵖ c d a b) tt
+
+-- a quadrilateral turned: the other diagonal
+pub incircle-flipped : (a b c d : Vec3) → incircle b c d a ≡ neg_ℤ (incircle a b c d)
+unfolding incircle
+incircle-flipped a b c d = ring_over vec3 [] (a ∷ b ∷ c ∷ d ∷ []) (λ a b c d. incircleᵖ b c d a) (λ a b c d. ⊝ (incircleᵖ a b c d)) tt
 
 -- the circle carries its corners
 pub incircle-first : (a b c : Vec3) → incircle a b c a ≡ pos 0
@@ -151,3 +162,19 @@ inside_is_determinant u v p q turns = let e = determinant_is_incircle u v p q in
 pub on_is_determinant : (u v p q : Point) → TurnsLeft (whole u) (whole v) (whole p) → OnCircle (whole u) (whole v) (whole p) (whole q) ↔ (lifted_determinant u v p q ≡ pos 0)
 on_is_determinant u v p q turns = let e = determinant_is_incircle u v p q in let i = on_is_incircle u v p q turns in
     ((λ s. e ∙ i.0 s), (λ h. i.1 (sym e ∙ h)))
+
+-- read from the first corner
+pub incircle-from_first : (a b c d : Point) → incircle (lift a) (lift b) (lift c) (lift d) ≡ bracket (lift a) (lift d) (lift c) *ℤ squared_way a b +ℤ bracket (lift a) (lift b) (lift d) *ℤ squared_way a c -ℤ bracket (lift a) (lift b) (lift c) *ℤ squared_way a d
+unfolding incircle bracket
+incircle-from_first a b c d = ring_over points [] (a ∷ b ∷ c ∷ d ∷ [])
+    (λ a b c d. incircleᵖ (wholeᵖ a) (wholeᵖ b) (wholeᵖ c) (wholeᵖ d))
+    (λ a b c d. bracketᵖ (wholeᵖ a) (wholeᵖ d) (wholeᵖ c) ⊗ squaredᵖ a b ⊕ bracketᵖ (wholeᵖ a) (wholeᵖ b) (wholeᵖ d) ⊗ squaredᵖ a c ⊖ bracketᵖ (wholeᵖ a) (wholeᵖ b) (wholeᵖ c) ⊗ squaredᵖ a d) tt
+
+-- and from the second
+pub incircle-from_second : (a b c d : Point) → incircle (lift a) (lift b) (lift c) (lift d) ≡ bracket (lift d) (lift b) (lift c) *ℤ squared_way b a +ℤ bracket (lift a) (lift b) (lift d) *ℤ squared_way b c -ℤ bracket (lift a) (lift b) (lift c) *ℤ squared_way b d
+incircle-from_second a b c d = sym (incircle-turn (lift a) (lift b) (lift c) (lift d)) ∙ incircle-from_first b c a d
+    ∙ exchanged (bracket (lift b) (lift d) (lift a) *ℤ squared_way b c) (bracket (lift b) (lift c) (lift d) *ℤ squared_way b a) (bracket (lift b) (lift c) (lift a) *ℤ squared_way b d)
+    (ap (λ z. z *ℤ squared_way b c) (sym (bracket-turn (lift a) (lift b) (lift d)))) (ap (λ z. z *ℤ squared_way b a) (sym (bracket-turn (lift d) (lift b) (lift c)))) (ap (λ z. z *ℤ squared_way b d) (sym (bracket-turn (lift a) (lift b) (lift c))))
+  where
+    exchanged : (x y z : ℤ) {x' y' z' : ℤ} → x ≡ x' → y ≡ y' → z ≡ z' → x +ℤ y -ℤ z ≡ y' +ℤ x' -ℤ z'
+    exchanged x y z e d c = omega (arith, ints)

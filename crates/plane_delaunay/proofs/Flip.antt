@@ -16,21 +16,20 @@ use Rattle.plane_delaunay.proofs.Lift.{height, heightᵖ, lift, liftᵖ, point�
 use Rattle.plane_delaunay.proofs.Nudges.{Closed}
 use Rattle.plane_delaunay.proofs.Faces.{turned-above}
 use Rattle.plane.specs.Fraction.{Point, Fraction, whole}
+use Rattle.plane.specs.Laws.{squared_way}
+use Rattle.plane.proofs.Circles.{incircle-from_first, incircle-from_second}
 
 -- the squared distance of two whole points
 abbrev apart : Point → Point → ℤ
-apart a b = (b.x -ℤ a.x) *ℤ (b.x -ℤ a.x) +ℤ (b.y -ℤ a.y) *ℤ (b.y -ℤ a.y)
-
-abbrev apartᵖ : Syntax → Syntax → Poly
-apartᵖ a b = (b.x ⊖ a.x) ⊗ (b.x ⊖ a.x) ⊕ (b.y ⊖ a.y) ⊗ (b.y ⊖ a.y)
+apart a b = squared_way a b
 
 lift-from_first : (a b c d : Point) → lift (whole a) (whole b) (whole c) (whole d) ≡ bracket (whole a) (whole d) (whole c) *ℤ apart a b +ℤ bracket (whole a) (whole b) (whole d) *ℤ apart a c -ℤ bracket (whole a) (whole b) (whole c) *ℤ apart a d
 unfolding lift bracket
-lift-from_first a b c d = ring_over pointᵖ [] (a ∷ b ∷ c ∷ d ∷ []) liftᵖ (λ a b c d. bracketᵖ a d c ⊗ apartᵖ a b ⊕ bracketᵖ a b d ⊗ apartᵖ a c ⊖ bracketᵖ a b c ⊗ apartᵖ a d) tt
+lift-from_first a b c d = incircle-from_first a b c d
 
 lift-from_second : (a b c d : Point) → lift (whole a) (whole b) (whole c) (whole d) ≡ bracket (whole d) (whole b) (whole c) *ℤ apart b a +ℤ bracket (whole a) (whole b) (whole d) *ℤ apart b c -ℤ bracket (whole a) (whole b) (whole c) *ℤ apart b d
 unfolding lift bracket
-lift-from_second a b c d = ring_over pointᵖ [] (a ∷ b ∷ c ∷ d ∷ []) liftᵖ (λ a b c d. bracketᵖ d b c ⊗ apartᵖ b a ⊕ bracketᵖ a b d ⊗ apartᵖ b c ⊖ bracketᵖ a b c ⊗ apartᵖ b d) tt
+lift-from_second a b c d = incircle-from_second a b c d
 
 apart_least : (a b : Point) → pos 0 ≤ℤ apart a b
 apart_least a b = sum_weak (square-nonneg_ℤ (b.x -ℤ a.x)) (square-nonneg_ℤ (b.y -ℤ a.y))

@@ -18,7 +18,7 @@ use Rattle.plane.proofs.Generic.{near}
 use Rattle.plane.proofs.Solver.{Poly, ◌⊕◌, ◌⊖◌, ◌⊗◌, ring_over}
 use Rattle.plane.proofs.Bracket.{bracket, lift, Pointᵖ, points as points_shape, liftᵖ}
 use Rattle.plane.proofs.BracketIdentities.{bracket-turn, bracket-affine}
-use Rattle.plane.proofs.Circles.{incircle, incircleᵖ, incircle-turn, incircle-exchange, inside_is_incircle}
+use Rattle.plane.proofs.Circles.{incircle, incircleᵖ, incircle-turn, incircle-exchange, inside_is_incircle, incircle-flipped}
 use Rattle.plane_tiling.proofs.Totals.{Contains-head, Contains-later, Contains-none, total_nonneg, total_positive}
 use Rattle.plane_tiling.proofs.Counting.{SignMesh, at, corners_differ}
 use Rattle.plane_tiling.proofs.Flows.{IsTurnOf, HasSide, turned, is_pair, is_pair_nonneg, side_counts, side_found}
@@ -29,7 +29,6 @@ use Rattle.plane_edits.specs.Change.{IsFaceOf, IsTurnFree, FacesChange}
 use Rattle.plane_edits.specs.Legal.{Pass, AllPassBut, IsRoundSide, IsSideOfOne, squared_length, lifted_area, lifted_volume}
 use Rattle.plane_edits.specs.LegalLaws.{OneQuestionForBoth, FailingIsConvex, FlipLowers, FlipLeavesSides, PassingIsDropped, ChangeLeavesSides, NoneLeftIsLocallyDelaunay}
 use Rattle.plane_edits.proofs.Changes.{face_from, each, each_none, turn_of_all, has_pair_or_not}
-use Rattle.plane_edits.proofs.Heights.{incircle-flipped}
 use Rattle.plane_edits.proofs.Legal.{convex_at_first, convex_at_third}
 use Rattle.plane_edits.proofs.Kept.{turning_of, same_outer, flip_kept}
 use Rattle.plane_edits.proofs.Additions.{around_turn_free}

@@ -19,14 +19,6 @@ unfolding carried bracket
 carried-turn a b c z = ring_over vec3 [] (a ∷ b ∷ c ∷ z ∷ []) (λ a b c z. carriedᵖ a b c z) (λ a b c z. carriedᵖ b c a z) tt
 
 -- ---- the diagonal a c of the quadrilateral a b c d is exchanged for b d
-pub incircle-opposite : (a b c d : Vec3) → incircle a b c d ≡ incircle c d a b
-unfolding incircle bracket
-incircle-opposite a b c d = ring_over vec3 [] (a ∷ b ∷ c ∷ d ∷ []) (λ a b c d. incircleᵖ a b c d) (λ a b c d. incircleᵖ c d a b) tt
-
-pub incircle-flipped : (a b c d : Vec3) → incircle b c d a ≡ neg_ℤ (incircle a b c d)
-unfolding incircle bracket
-incircle-flipped a b c d = ring_over vec3 [] (a ∷ b ∷ c ∷ d ∷ []) (λ a b c d. incircleᵖ b c d a) (λ a b c d. ⊝ (incircleᵖ a b c d)) tt
-
 falls_abd_abc : (a b c d z : Vec3) → carried a b d z *ℤ bracket a b c -ℤ carried a b c z *ℤ bracket a b d ≡ neg_ℤ (incircle a b c d *ℤ bracket a b z)
 unfolding carried incircle bracket
 falls_abd_abc a b c d z = ring_over vec3 [] (a ∷ b ∷ c ∷ d ∷ z ∷ []) (λ a b c d z. carriedᵖ a b d z ⊗ bracketᵖ a b c ⊖ carriedᵖ a b c z ⊗ bracketᵖ a b d) (λ a b c d z. ⊝ (incircleᵖ a b c d ⊗ bracketᵖ a b z)) tt

@@ -1,5 +1,5 @@
 -- A legal flip: an edge that fails the circle's test lies across a strictly convex quadrilateral, whose two halvings cover the same points.
-use Rattle.std.proofs.Common.{◌≡◌, ◌⊎◌, [], ◌∷◌, sym, ◌∙◌, subst, arith}
+use Rattle.std.proofs.Common.{◌≡◌, ◌⊎◌, [], ◌∷◌, ap, sym, ◌∙◌, subst, arith}
 use mathlib.Core.Logic.{inl, inr}
 use Rattle.std.specs.Prelude.{ℤ, pos, ◌+ℤ◌, ◌-ℤ◌, ◌*ℤ◌, neg_ℤ, ◌<ℤ◌, ◌≤ℤ◌}
 use Rattle.std.proofs.lemmas.Int.{ints}
@@ -7,21 +7,19 @@ use Rattle.plane.specs.Fraction.{Point}
 use Rattle.plane.specs.Laws.{squared_way}
 use Rattle.plane.proofs.IntegerOrder.{mul-nonneg_ℤ, mul-nonpos_of_nonneg_nonpos_ℤ, nonneg_of_mul-nonneg_ℤ, square-nonneg_ℤ, lt_or_ge_ℤ, zero-mul_ℤ}
 use Rattle.plane.proofs.Steps.{weak}
-use Rattle.plane.proofs.Solver.{Poly, ◌⊕◌, ◌⊖◌, ◌⊗◌, ring_over}
-use Rattle.plane.proofs.Bracket.{Vec3, bracket, bracketᵖ, lift, Pointᵖ, liftᵖ, points}
+use Rattle.plane.proofs.Solver.{num, ◌⊕◌, ◌⊖◌, ◌⊗◌, ⊝, ring_in_from}
+use Rattle.plane.proofs.Bracket.{Vec3, bracket, lift}
 use Rattle.plane.proofs.BracketIdentities.{bracket-turn, bracket-swap, cramer, bracket-outer, bracket-last}
-use Rattle.plane.proofs.Circles.{incircle, incircleᵖ}
-use Rattle.plane_edits.proofs.Heights.{incircle-opposite}
+use Rattle.plane.proofs.Circles.{incircle, incircle-opposite, incircle-from_first}
 
 -- the failing test, from a
 incircle_from_first : (a b c d : Point) → squared_way a c *ℤ bracket (lift a) (lift b) (lift d) ≡ incircle (lift a) (lift b) (lift c) (lift d) +ℤ (squared_way a b *ℤ bracket (lift a) (lift c) (lift d) +ℤ squared_way a d *ℤ bracket (lift a) (lift b) (lift c))
-unfolding incircle bracket
-incircle_from_first a b c d = ring_over points [] (a ∷ b ∷ c ∷ d ∷ [])
-    (λ a b c d. squaredᵖ a c ⊗ bracketᵖ (liftᵖ a) (liftᵖ b) (liftᵖ d))
-    (λ a b c d. incircleᵖ (liftᵖ a) (liftᵖ b) (liftᵖ c) (liftᵖ d) ⊕ (squaredᵖ a b ⊗ bracketᵖ (liftᵖ a) (liftᵖ c) (liftᵖ d) ⊕ squaredᵖ a d ⊗ bracketᵖ (liftᵖ a) (liftᵖ b) (liftᵖ c))) tt
-  where
-    squaredᵖ : Pointᵖ → Pointᵖ → Poly
-    squaredᵖ q p = (p.x ⊖ q.x) ⊗ (p.x ⊖ q.x) ⊕ (p.y ⊖ q.y) ⊗ (p.y ⊖ q.y)
+incircle_from_first a b c d =
+    let swapped = bracket-turn (lift a) (lift d) (lift c) ∙ bracket-swap (lift d) (lift c) (lift a) ∙ ap neg_ℤ (sym (bracket-turn (lift a) (lift c) (lift d))) in
+    ring_in_from (squared_way a c ∷ bracket (lift a) (lift b) (lift d) ∷ incircle (lift a) (lift b) (lift c) (lift d) ∷ squared_way a b ∷ bracket (lift a) (lift c) (lift d) ∷ bracket (lift a) (lift d) (lift c) ∷ squared_way a d ∷ bracket (lift a) (lift b) (lift c) ∷ [])
+    (λ ac abd o ab acd adc ad abc. ac ⊗ abd)
+    (λ ac abd o ab acd adc ad abc. o ⊕ (ab ⊗ acd ⊕ ad ⊗ abc))
+    (λ ac abd o ab acd adc ad abc. (⊝ (num 1), o, adc ⊗ ab ⊕ abd ⊗ ac ⊖ abc ⊗ ad) ∷ (⊝ ab, adc, ⊝ acd) ∷ []) (incircle-from_first a b c d, (swapped, tt)) tt
 
 sum_positive : (s e a b : ℤ) → s ≡ e +ℤ (a +ℤ b) → pos 0 <ℤ e → pos 0 ≤ℤ a → pos 0 ≤ℤ b → pos 0 <ℤ s
 sum_positive s e a b h k l m = omega (arith, ints)
