@@ -1,11 +1,12 @@
 -- What the steps of a removal find, and how it follows from what always holds of a mesh.
-use Rattle.std.proofs.Common.{◌≡◌, ◌≢◌, ◌⊎◌, ℕ, zero, suc, ◌+◌, ◌-◌, ◌<◌, ◌≤◌, Bool, true, false, ◌==◌, if◌then◌else◌, length, Some, refl, sym, ap, ◌∙◌, inl, inr, arith}
+use Rattle.std.proofs.Common.{◌≡◌, ◌≢◌, ◌⊎◌, ℕ, zero, suc, ◌+◌, ◌-◌, ◌<◌, ◌≤◌, Bool, true, ◌==◌, if◌then◌else◌, length, Some, refl, sym, ap, ◌∙◌, inl, inr, arith}
 use Rattle.std.proofs.lemmas.Bool.{cases_eq, eq-eqb, eqb-true}
 use Rattle.std.proofs.lemmas.Bool.Decides.{nat_tests}
 use Rattle.half_edge_links.specs.Mesh.{Mesh, origin, next, prev, face, rev, IsSound, IsValid, IsClosed}
 use Rattle.half_edge_links.specs.Remove.{IsRemovable}
 use Rattle.half_edge_links.specs.Peel.{IsPeelable, IsWheel, IsStrip, turn, spoke}
 use Rattle.half_edge_links.proofs.Rev.{rev-rev, rev_within}
+use Rattle.half_edge_links.proofs.Walks.{among_steps, to_steps, from_steps, steps_closed, step_add, step_back}
 use Rattle.half_edge_links.proofs.Triangles.{IsTriangle, triangle_at, same_loop}
 
 -- an edge with the outer face on both sides, that can be taken out: where it is the last one at an end in
@@ -198,36 +199,6 @@ full_wheel m o v w =
       only = λ h h_in same. from_three o a z h (v.stars (in_three o a z) closed o h w.within h_in (sym same) (to_three o a z o (inl refl)));
     }
 
--- one of the spokes up to the last
-pub among_spokes : Mesh → ℕ → ℕ → ℕ → Bool
-among_spokes m h zero g = g == h
-among_spokes m h (suc k) g = if g == spoke m h (suc k) then true else among_spokes m h k g
-
-if_either : (b c : Bool) → (b ≡ true) ⊎ (c ≡ true) → (if b then true else c) ≡ true
-if_either true c at = refl
-if_either false c at = elim at [ inl is ↦ absurd (cc) | inr is ↦ is ]
-
-either_if : (b c : Bool) → (if b then true else c) ≡ true → (b ≡ true) ⊎ (c ≡ true)
-either_if true c is = inl refl
-either_if false c is = inr is
-
-pub to_spokes : (m : Mesh) (h k i : ℕ) → i ≤ k → among_spokes m h k (spoke m h i) ≡ true
-unfolding among_spokes
-to_spokes m h zero i less = let z : i ≡ 0 = omega arith in eq-eqb _ _ (ap (spoke m h) z)
-to_spokes m h (suc k) i less =
-    elim (cases_eq i (suc k)) [
-      | inl q ↦ if_either _ _ (inl (eq-eqb _ _ (ap (spoke m h) q)))
-      | inr q ↦ if_either _ _ (inr (to_spokes m h k i (omega arith)))
-    ]
-
-pub from_spokes : (m : Mesh) (h k g : ℕ) → among_spokes m h k g ≡ true → (i : ℕ) × (i ≤ k) × (g ≡ spoke m h i)
-unfolding among_spokes
-from_spokes m h zero g is = (0, omega arith, eqb-true g h is)
-from_spokes m h (suc k) g is = elim (either_if _ _ is) [
-  | inl q ↦ (suc k, omega arith, eqb-true g _ q)
-  | inr q ↦ let f = from_spokes m h k g q in (f.0, omega (arith, f.1), f.2)
-]
-
 pub spoke_at : (m : Mesh) (h : ℕ) → IsSound m → h < length m.half_edges → (i : ℕ) → (spoke m h i < length m.half_edges) × (origin m (spoke m h i) ≡ origin m h)
 spoke_at m h s within zero = (within, refl)
 spoke_at m h s within (suc i) =
@@ -242,29 +213,13 @@ turn_one m s a b p q same =
     let prevs : prev m a ≡ prev m b = sym (rev-rev (prev m a)) ∙ ap rev same ∙ rev-rev (prev m b) in
     sym (s.edges a p).next_prev ∙ ap (next m) prevs ∙ (s.edges b q).next_prev
 
--- equal spokes come from equal ones before
-pub spoke_back : (m : Mesh) (h : ℕ) → IsSound m → h < length m.half_edges → (i d : ℕ) → spoke m h i ≡ spoke m h (i + d) → h ≡ spoke m h d
-spoke_back m h s within zero d same = same ∙ ap (spoke m h) (let e : 0 + d ≡ d = omega arith in e)
-spoke_back m h s within (suc i) d same =
-    let e : suc i + d ≡ suc (i + d) = omega arith in
-    spoke_back m h s within i d (turn_one m s _ _ (spoke_at m h s within i).0 (spoke_at m h s within (i + d)).0 (same ∙ ap (spoke m h) e))
-
-pub spoke_add : (m : Mesh) (h i d : ℕ) → spoke m h (i + d) ≡ spoke m (spoke m h d) i
-spoke_add m h zero d = ap (spoke m h) (let e : 0 + d ≡ d = omega arith in e)
-spoke_add m h (suc i) d = let e : suc i + d ≡ suc (i + d) = omega arith in ap (spoke m h) e ∙ ap (turn m) (spoke_add m h i d)
-
 pub full_strip : (m : Mesh) (h k : ℕ) → IsValid m → IsStrip m h k → IsFullStrip m h k
 full_strip m h k v f =
     let s = v.sound in
     let at = spoke_at m h s f.within in
     let round : turn m (spoke m h k) ≡ h =
     ap (λ j. rev (prev m j)) (sym f.gap) ∙ ap rev (s.edges (rev h) (rev_within _ _ s.even f.within)).prev_next ∙ rev-rev h in
-    let closed : IsClosed m (among_spokes m h k) = λ g g_in is.
-    let i = from_spokes m h k g is in
-    elim (cases_eq i.0 k) [
-      | inl last ↦ ap (λ j. among_spokes m h k (turn m j)) (i.2 ∙ ap (spoke m h) last) ∙ ap (among_spokes m h k) round ∙ to_spokes m h k 0 (omega arith)
-      | inr before ↦ ap (λ j. among_spokes m h k (turn m j)) i.2 ∙ to_spokes m h k (suc i.0) (omega (arith, i.1))
-    ] in
+    let closed : IsClosed m (among_steps (turn m) h k) = λ g g_in is. steps_closed (turn m) h k round g is in
     record {
       within = f.within;
       outer = f.outer;
@@ -275,12 +230,12 @@ full_strip m h k v f =
       apart = λ i j less j_in same.
           let one = same_spoke m v (spoke m h i) (at i).0 (spoke m h j) (at j).0 (f.inner i (omega arith)) (sym same) ((at j).1 ∙ sym (at i).1) in
           let d : i + (j - i) ≡ j = omega arith in
-          let back = spoke_back m h s f.within i (j - i) (sym one ∙ ap (spoke m h) (sym d)) in
+          let back = step_back (turn m) (length m.half_edges) (λ a a_in. turn_in m v a a_in) (turn_one m s) h i (j - i) f.within (sym one ∙ ap (spoke m h) (sym d)) in
           let k_is : k - (j - i) + (j - i) ≡ k = omega arith in
-          let again : spoke m h k ≡ spoke m h (k - (j - i)) = ap (spoke m h) (sym k_is) ∙ spoke_add m h (k - (j - i)) (j - i) ∙ ap (λ g. spoke m g (k - (j - i))) (sym back) in
+          let again : spoke m h k ≡ spoke m h (k - (j - i)) = ap (spoke m h) (sym k_is) ∙ step_add (turn m) h (k - (j - i)) (j - i) ∙ ap (λ g. spoke m g (k - (j - i))) (sym back) in
           absurd (omega (arith, f.inner (k - (j - i)) (omega arith), f.last, ap (face m) again));
       ends = λ i less q. v.apart (spoke m h i) (at i).0 ((at i).1 ∙ sym q);
-      only = λ g g_in same. from_spokes m h k g (v.stars (among_spokes m h k) closed h g f.within g_in (sym same) (to_spokes m h k 0 (omega arith)));
+      only = λ g g_in same. from_steps (turn m) h k g (v.stars (among_steps (turn m) h k) closed h g f.within g_in (sym same) (to_steps (turn m) h k 0 (omega arith)));
     }
 
 pub strip_of : (m : Mesh) (h k : ℕ) → IsFullStrip m h k → IsStrip m h k

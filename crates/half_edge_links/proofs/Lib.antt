@@ -60,3 +60,5 @@ pub mod Sums
 pub mod Flow
 pub mod Outline
 pub mod OutlineTaken
+pub mod Walks
+pub mod OutlineRound

@@ -1,5 +1,6 @@
 //! Laws of every mesh, for the layers above.
 ghost use Rattle.half_edge_links.specs.Flow.{SidesAddUp, SidesCancel};
+ghost use Rattle.half_edge_links.specs.Hull.{OutlineGoesRound};
 ghost use Rattle.half_edge_links.specs.Round.{EdgesGoRound};
 
 /// A law: the sides of the inner faces and the outer edges are, taken together, the two directions of the edges.
@@ -17,4 +18,9 @@ pub fn sides_cancel()
 /// each other.
 pub fn edges_go_round()
     ensures { EdgesGoRound }
+{}
+
+/// A law: in a mesh with one outer loop the outer edges go round in it once, from the one that the mesh names.
+pub fn outline_goes_round()
+    ensures { OutlineGoesRound }
 {}

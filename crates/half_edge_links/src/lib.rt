@@ -10,9 +10,11 @@ mod records;
 mod removal;
 mod room;
 mod shrink;
+#[cfg(test)]
+mod tests;
 mod vertices;
 
-pub use laws::{edges_go_round, sides_add_up, sides_cancel};
+pub use laws::{edges_go_round, outline_goes_round, sides_add_up, sides_cancel};
 pub use links::Links;
 pub use records::{HalfEdge, reversed};
 pub use room::{MAX_ELEMENTS, ReserveError, are_few_enough, is_full};

@@ -1,0 +1,5 @@
+use Rattle.half_edge_links.proofs.OutlineRound.{outline_goes_round}
+use Rattle.half_edge_links.proofs.laws.outline_goes_round.Goals as goal
+
+pub returns : goal.returns
+returns c = outline_goes_round
