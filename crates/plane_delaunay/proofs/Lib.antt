@@ -23,6 +23,7 @@ pub mod Flip
 pub mod Meets
 pub mod Flood
 pub mod FloodStart
+pub mod AlongSegment
 pub mod Regions
 pub mod EdgeInCircle
 pub mod EdgeInRectangle
