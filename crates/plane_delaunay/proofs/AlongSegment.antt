@@ -1,15 +1,20 @@
 -- Points of a segment in their order along it: the one nearer to the start comes first, and points as near are one.
-use Rattle.std.proofs.Common.{◌≡◌, List, [], ◌∷◌, arith, ap, sym, ◌∙◌, subst, subst₂}
+use Rattle.std.proofs.Common.{◌≡◌, [], ◌∷◌, arith, ap, sym, ◌∙◌, subst, subst₂}
 use mathlib.Core.Logic.{◌⊎◌, inl, inr}
+use lib.IntN.{neg_ℤ}
 use Rattle.std.specs.Prelude.{ℤ, pos, ◌<ℤ◌, ◌≤ℤ◌, ◌+ℤ◌, ◌-ℤ◌, ◌*ℤ◌}
 use Rattle.std.proofs.lemmas.Int.{ints}
-use Rattle.plane.proofs.Bracket.{Vec3, Vec3ᵖ, vec, vec3, bracket, bracketᵖ}
-use Rattle.plane.proofs.Solver.{Poly, num, ◌⊕◌, ◌⊖◌, ◌⊗◌, ⊝, ring_in, ring_over, ring_over_from}
-use Rattle.plane.proofs.Steps.{weak}
-use Rattle.plane.proofs.IntegerOrder.{mul-pos_ℤ, mul-nonneg_ℤ, mul_cancel_ℤ, pos-ne-zero_ℤ, lt_of_mul-lt-mul_ℤ, trichotomy_ℤ}
-use Rattle.plane.proofs.Segments.{reach, reach-end, on_segment_is}
-use Rattle.plane.specs.Fraction.{Fraction, IsSame, OnSegment}
-use Rattle.plane.specs.Side.{run, rise}
+use Rattle.plane.specs.Line.{OverlapAlong}
+use Rattle.plane_delaunay.proofs.Bracket.{mixed}
+use Rattle.plane_delaunay.proofs.Numbers.{mix_positive, own_line}
+use Rattle.plane.proofs.Means.{TwoWeights, two_weights, mean_of_two, bracket_of_two}
+use Rattle.plane.proofs.Nearer.{same_not_nearer}
+use Rattle.plane.proofs.Bracket.{Vec3ᵖ, vec, vec3, bracket, bracketᵖ}
+use Rattle.plane.proofs.Solver.{Poly, num, ◌⊕◌, ◌⊖◌, ◌⊗◌, ring_in, ring_over_from, ring_in_from}
+use Rattle.plane.proofs.Steps.{weak, weak_right, zero_weak, zero_weak_left, product_zero_left}
+use Rattle.plane.proofs.IntegerOrder.{mul-pos_ℤ, mul-nonneg_ℤ, mul_cancel_ℤ, pos-ne-zero_ℤ, lt_of_mul-lt-mul_ℤ, trichotomy_ℤ, pos_of_mul-pos_ℤ, nonneg_of_mul-nonneg_ℤ, zero_of_mul-zero_ℤ, mul-nonpos_of_nonneg_nonpos_ℤ, le_of_mul-le-mul_ℤ, zero-mul_ℤ}
+use Rattle.plane.proofs.Segments.{reach, reach-end, on_segment_is, same-sym, same-trans, only_point, on_segment-same, start_on_segment, reach-start, reach_of_two}
+use Rattle.plane.specs.Fraction.{Fraction, IsSame, OnSegment, IsNotNegative}
 use Rattle.plane.specs.Circle.{gap, IsNearer}
 
 abbrev runᵖ : Vec3ᵖ → Vec3ᵖ → Poly
@@ -67,9 +72,11 @@ module _ (p q : Fraction) (apart : ¬ IsSame p q) where
   nearer_if x y hx hy h =
       let sx = (on_segment_is p q x apart).0 hx in
       let sy = (on_segment_is p q y apart).0 hy in
-      record { nearer = lt_of_mul-lt-mul_ℤ {k = reach p q q} (reach-end p q apart) (subst₂ (λ a b. a <ℤ b)
-          (sym (squared (reach p q q) (gap p x) (reach p q x) y.w (gap-reach p q x sx.0))) (sym (squared (reach p q q) (gap p y) (reach p q y) x.w (gap-reach p q y sy.0)))
-          (squares_less (reach p q x *ℤ y.w) (reach p q y *ℤ x.w) (mul-nonneg_ℤ {a = reach p q x} {b = y.w} sx.1 (weak y.positive)) h)) }
+      record {
+        nearer = lt_of_mul-lt-mul_ℤ {k = reach p q q} (reach-end p q apart) (subst₂ (λ a b. a <ℤ b)
+            (sym (squared (reach p q q) (gap p x) (reach p q x) y.w (gap-reach p q x sx.0))) (sym (squared (reach p q q) (gap p y) (reach p q y) x.w (gap-reach p q y sy.0)))
+            (squares_less (reach p q x *ℤ y.w) (reach p q y *ℤ x.w) (mul-nonneg_ℤ {a = reach p q x} {b = y.w} sx.1 (weak y.positive)) h));
+      }
 
   same_if : (x y : Fraction) → OnSegment p q x → OnSegment p q y → reach p q x *ℤ y.w ≡ reach p q y *ℤ x.w → IsSame x y
   same_if x y hx hy e =
@@ -95,3 +102,221 @@ module _ (p q : Fraction) (apart : ¬ IsSame p q) where
       go (inl h) = sooner (nearer_if x y hx hy (less _ _ h))
       go (inr (inl e)) = as_soon (same_if x y hx hy (equal _ _ e))
       go (inr (inr h)) = later (nearer_if y x hy hx (more _ _ h))
+
+  not_both_nearer : (x y : Fraction) → IsNearer p x y → ¬ IsNearer p y x
+  not_both_nearer x y h k = both _ _ h.nearer k.nearer
+    where
+      both : (a b : ℤ) → a <ℤ b → b <ℤ a → ⊥
+      both a b h k = omega (arith, ints)
+
+  -- what is nearer is less far on the way
+  pub reach_less : (x y : Fraction) → OnSegment p q x → OnSegment p q y → IsNearer p x y → (reach p q x *ℤ y.w) <ℤ (reach p q y *ℤ x.w)
+  reach_less x y hx hy near = go (trichotomy_ℤ (reach p q x *ℤ y.w -ℤ reach p q y *ℤ x.w))
+    where
+      less : (a b : ℤ) → (a -ℤ b) <ℤ pos 0 → a <ℤ b
+      less a b h = omega (arith, ints)
+
+      equal : (a b : ℤ) → a -ℤ b ≡ pos 0 → a ≡ b
+      equal a b h = omega (arith, ints)
+
+      more : (a b : ℤ) → pos 0 <ℤ (a -ℤ b) → b <ℤ a
+      more a b h = omega (arith, ints)
+
+      go : ((reach p q x *ℤ y.w -ℤ reach p q y *ℤ x.w) <ℤ pos 0) ⊎ ((reach p q x *ℤ y.w -ℤ reach p q y *ℤ x.w ≡ pos 0) ⊎ (pos 0 <ℤ (reach p q x *ℤ y.w -ℤ reach p q y *ℤ x.w))) → (reach p q x *ℤ y.w) <ℤ (reach p q y *ℤ x.w)
+      go (inl h) = less _ _ h
+      go (inr (inl e)) = absurd (same_not_nearer p x y (same_if x y hx hy (equal _ _ e)) near)
+      go (inr (inr h)) = absurd (not_both_nearer x y near (nearer_if y x hy hx (more _ _ h)))
+
+-- ---- numbers of two points near and far, n₁ near = a₁ u + b₁ v and n₂ far = a₂ u + b₂ v
+-- nearer to u: less of v
+turned_weights : (n₁ a₁ b₁ n₂ a₂ b₂ r₁ r₂ w₁ w₂ l uw vw : ℤ) → n₁ *ℤ r₁ ≡ a₁ *ℤ pos 0 +ℤ b₁ *ℤ l → n₂ *ℤ r₂ ≡ a₂ *ℤ pos 0 +ℤ b₂ *ℤ l → n₁ *ℤ w₁ ≡ a₁ *ℤ uw +ℤ b₁ *ℤ vw → n₂ *ℤ w₂ ≡ a₂ *ℤ uw +ℤ b₂ *ℤ vw
+    → l *ℤ uw *ℤ (a₁ *ℤ b₂ -ℤ a₂ *ℤ b₁) ≡ n₁ *ℤ n₂ *ℤ (r₂ *ℤ w₁ -ℤ r₁ *ℤ w₂)
+turned_weights n₁ a₁ b₁ n₂ a₂ b₂ r₁ r₂ w₁ w₂ l uw vw e₁ e₂ e₃ e₄ = ring_in_from (n₁ ∷ a₁ ∷ b₁ ∷ n₂ ∷ a₂ ∷ b₂ ∷ r₁ ∷ r₂ ∷ w₁ ∷ w₂ ∷ l ∷ uw ∷ vw ∷ [])
+    (λ n₁ a₁ b₁ n₂ a₂ b₂ r₁ r₂ w₁ w₂ l uw vw. l ⊗ uw ⊗ (a₁ ⊗ b₂ ⊖ a₂ ⊗ b₁)) (λ n₁ a₁ b₁ n₂ a₂ b₂ r₁ r₂ w₁ w₂ l uw vw. n₁ ⊗ n₂ ⊗ (r₂ ⊗ w₁ ⊖ r₁ ⊗ w₂))
+    (λ n₁ a₁ b₁ n₂ a₂ b₂ r₁ r₂ w₁ w₂ l uw vw.
+    (n₂ ⊗ w₂, n₁ ⊗ r₁, a₁ ⊗ num 0 ⊕ b₁ ⊗ l) ∷ (num 0 ⊖ n₁ ⊗ w₁, n₂ ⊗ r₂, a₂ ⊗ num 0 ⊕ b₂ ⊗ l) ∷ (num 0 ⊖ b₂ ⊗ l, n₁ ⊗ w₁, a₁ ⊗ uw ⊕ b₁ ⊗ vw) ∷ (b₁ ⊗ l, n₂ ⊗ w₂, a₂ ⊗ uw ⊕ b₂ ⊗ vw) ∷ [])
+    (e₁, (e₂, (e₃, (e₄, tt)))) tt
+
+-- a form that is 0 at both is 0 at u
+form_none : (n₁ a₁ b₁ n₂ a₂ b₂ f₁ f₂ fu fv : ℤ) → n₁ *ℤ f₁ ≡ a₁ *ℤ fu +ℤ b₁ *ℤ fv → n₂ *ℤ f₂ ≡ a₂ *ℤ fu +ℤ b₂ *ℤ fv → f₁ ≡ pos 0 → f₂ ≡ pos 0 → (a₁ *ℤ b₂ -ℤ a₂ *ℤ b₁) *ℤ fu ≡ pos 0
+form_none n₁ a₁ b₁ n₂ a₂ b₂ f₁ f₂ fu fv e₁ e₂ z₁ z₂ = ring_in_from (n₁ ∷ a₁ ∷ b₁ ∷ n₂ ∷ a₂ ∷ b₂ ∷ f₁ ∷ f₂ ∷ fu ∷ fv ∷ [])
+    (λ n₁ a₁ b₁ n₂ a₂ b₂ f₁ f₂ fu fv. (a₁ ⊗ b₂ ⊖ a₂ ⊗ b₁) ⊗ fu) (λ n₁ a₁ b₁ n₂ a₂ b₂ f₁ f₂ fu fv. num 0)
+    (λ n₁ a₁ b₁ n₂ a₂ b₂ f₁ f₂ fu fv. (num 0 ⊖ b₂, n₁ ⊗ f₁, a₁ ⊗ fu ⊕ b₁ ⊗ fv) ∷ (b₁, n₂ ⊗ f₂, a₂ ⊗ fu ⊕ b₂ ⊗ fv) ∷ (b₂ ⊗ n₁, f₁, num 0) ∷ (num 0 ⊖ b₁ ⊗ n₂, f₂, num 0) ∷ [])
+    (e₁, (e₂, (z₁, (z₂, tt)))) tt
+
+-- and at v
+form_none_last : (n₁ a₁ b₁ n₂ a₂ b₂ f₁ f₂ fu fv : ℤ) → n₁ *ℤ f₁ ≡ a₁ *ℤ fu +ℤ b₁ *ℤ fv → n₂ *ℤ f₂ ≡ a₂ *ℤ fu +ℤ b₂ *ℤ fv → f₁ ≡ pos 0 → f₂ ≡ pos 0 → (a₁ *ℤ b₂ -ℤ a₂ *ℤ b₁) *ℤ fv ≡ pos 0
+form_none_last n₁ a₁ b₁ n₂ a₂ b₂ f₁ f₂ fu fv e₁ e₂ z₁ z₂ = ring_in_from (n₁ ∷ a₁ ∷ b₁ ∷ n₂ ∷ a₂ ∷ b₂ ∷ f₁ ∷ f₂ ∷ fu ∷ fv ∷ [])
+    (λ n₁ a₁ b₁ n₂ a₂ b₂ f₁ f₂ fu fv. (a₁ ⊗ b₂ ⊖ a₂ ⊗ b₁) ⊗ fv) (λ n₁ a₁ b₁ n₂ a₂ b₂ f₁ f₂ fu fv. num 0)
+    (λ n₁ a₁ b₁ n₂ a₂ b₂ f₁ f₂ fu fv. (a₂, n₁ ⊗ f₁, a₁ ⊗ fu ⊕ b₁ ⊗ fv) ∷ (num 0 ⊖ a₁, n₂ ⊗ f₂, a₂ ⊗ fu ⊕ b₂ ⊗ fv) ∷ (num 0 ⊖ a₂ ⊗ n₁, f₁, num 0) ∷ (a₁ ⊗ n₂, f₂, num 0) ∷ [])
+    (e₁, (e₂, (z₁, (z₂, tt)))) tt
+
+-- and the order of two forms
+form_order : (n₁ a₁ b₁ n₂ a₂ b₂ f₁ f₂ fu fv w₁ w₂ uw vw : ℤ) → n₁ *ℤ f₁ ≡ a₁ *ℤ fu +ℤ b₁ *ℤ fv → n₂ *ℤ f₂ ≡ a₂ *ℤ fu +ℤ b₂ *ℤ fv → n₁ *ℤ w₁ ≡ a₁ *ℤ uw +ℤ b₁ *ℤ vw → n₂ *ℤ w₂ ≡ a₂ *ℤ uw +ℤ b₂ *ℤ vw
+    → (a₁ *ℤ b₂ -ℤ a₂ *ℤ b₁) *ℤ (fv *ℤ uw -ℤ fu *ℤ vw) ≡ n₁ *ℤ n₂ *ℤ (f₂ *ℤ w₁ -ℤ f₁ *ℤ w₂)
+form_order n₁ a₁ b₁ n₂ a₂ b₂ f₁ f₂ fu fv w₁ w₂ uw vw e₁ e₂ e₃ e₄ = ring_in_from (n₁ ∷ a₁ ∷ b₁ ∷ n₂ ∷ a₂ ∷ b₂ ∷ f₁ ∷ f₂ ∷ fu ∷ fv ∷ w₁ ∷ w₂ ∷ uw ∷ vw ∷ [])
+    (λ n₁ a₁ b₁ n₂ a₂ b₂ f₁ f₂ fu fv w₁ w₂ uw vw. (a₁ ⊗ b₂ ⊖ a₂ ⊗ b₁) ⊗ (fv ⊗ uw ⊖ fu ⊗ vw)) (λ n₁ a₁ b₁ n₂ a₂ b₂ f₁ f₂ fu fv w₁ w₂ uw vw. n₁ ⊗ n₂ ⊗ (f₂ ⊗ w₁ ⊖ f₁ ⊗ w₂))
+    (λ n₁ a₁ b₁ n₂ a₂ b₂ f₁ f₂ fu fv w₁ w₂ uw vw.
+    (n₂ ⊗ w₂, n₁ ⊗ f₁, a₁ ⊗ fu ⊕ b₁ ⊗ fv) ∷ (num 0 ⊖ n₁ ⊗ w₁, n₂ ⊗ f₂, a₂ ⊗ fu ⊕ b₂ ⊗ fv) ∷ (num 0 ⊖ a₂ ⊗ fu ⊖ b₂ ⊗ fv, n₁ ⊗ w₁, a₁ ⊗ uw ⊕ b₁ ⊗ vw) ∷ (a₁ ⊗ fu ⊕ b₁ ⊗ fv, n₂ ⊗ w₂, a₂ ⊗ uw ⊕ b₂ ⊗ vw) ∷ [])
+    (e₁, (e₂, (e₃, (e₄, tt)))) tt
+
+after_first : (n a b f fu fv w uw vw : ℤ) → n *ℤ f ≡ a *ℤ fu +ℤ b *ℤ fv → n *ℤ w ≡ a *ℤ uw +ℤ b *ℤ vw → n *ℤ (f *ℤ uw -ℤ fu *ℤ w) ≡ b *ℤ (fv *ℤ uw -ℤ fu *ℤ vw)
+after_first n a b f fu fv w uw vw e d = ring_in_from (n ∷ a ∷ b ∷ f ∷ fu ∷ fv ∷ w ∷ uw ∷ vw ∷ []) (λ n a b f fu fv w uw vw. n ⊗ (f ⊗ uw ⊖ fu ⊗ w)) (λ n a b f fu fv w uw vw. b ⊗ (fv ⊗ uw ⊖ fu ⊗ vw))
+    (λ n a b f fu fv w uw vw. (uw, n ⊗ f, a ⊗ fu ⊕ b ⊗ fv) ∷ (num 0 ⊖ fu, n ⊗ w, a ⊗ uw ⊕ b ⊗ vw) ∷ []) (e, (d, tt)) tt
+
+above_last : (n f a fu b fv : ℤ) → n *ℤ f ≡ a *ℤ fu +ℤ b *ℤ fv → pos 0 <ℤ n → pos 0 <ℤ f → pos 0 ≤ℤ a → fu ≤ℤ pos 0 → pos 0 ≤ℤ b → pos 0 <ℤ fv
+above_last n f a fu b fv e hn hf ha hu hb = go (trichotomy_ℤ fv)
+  where
+    low : fv ≤ℤ pos 0 → ⊥
+    low h = let p = mul-pos_ℤ {a = n} {b = f} hn hf in let q = mul-nonpos_of_nonneg_nonpos_ℤ {a = a} {b = fu} ha hu in let r = mul-nonpos_of_nonneg_nonpos_ℤ {a = b} {b = fv} hb h in omega (arith, ints)
+
+    go : (fv <ℤ pos 0) ⊎ ((fv ≡ pos 0) ⊎ (pos 0 <ℤ fv)) → pos 0 <ℤ fv
+    go (inl h) = absurd (low (weak_right h))
+    go (inr (inl h)) = absurd (low (zero_weak h))
+    go (inr (inr h)) = h
+
+above_difference : (a b : ℤ) → a <ℤ b → pos 0 <ℤ (b -ℤ a)
+above_difference a b h = omega (arith, ints)
+
+below_of_difference : (a b : ℤ) → pos 0 <ℤ (b -ℤ a) → a <ℤ b
+below_of_difference a b h = omega (arith, ints)
+
+at_most_of_difference : (a b : ℤ) → pos 0 ≤ℤ (b -ℤ a) → a ≤ℤ b
+at_most_of_difference a b h = omega (arith, ints)
+
+not_less : (a b : ℤ) → a ≤ℤ b → b <ℤ a → ⊥
+not_less a b h k = omega (arith, ints)
+
+-- from near, that u is before, to u
+still_before : (ru rn uw nw qw l : ℤ) → (ru *ℤ nw) ≤ℤ (rn *ℤ uw) → (rn *ℤ qw) ≤ℤ (l *ℤ nw) → pos 0 <ℤ nw → pos 0 <ℤ uw → pos 0 <ℤ qw → (ru *ℤ qw) ≤ℤ (l *ℤ uw)
+still_before ru rn uw nw qw l h i hn hu hq = le_of_mul-le-mul_ℤ {k = nw} hn
+    (let p = mul-nonneg_ℤ {a = qw} {b = rn *ℤ uw -ℤ ru *ℤ nw} (weak hq) (least _ _ h) in let r = mul-nonneg_ℤ {a = uw} {b = l *ℤ nw -ℤ rn *ℤ qw} (weak hu) (least _ _ i) in let e = sums ru rn uw nw qw l in at_most_of_difference _ _ (subst (λ z. pos 0 ≤ℤ z) e (both p r)))
+  where
+    least : (a b : ℤ) → a ≤ℤ b → pos 0 ≤ℤ (b -ℤ a)
+    least a b h = omega (arith, ints)
+
+    both : {a b : ℤ} → pos 0 ≤ℤ a → pos 0 ≤ℤ b → pos 0 ≤ℤ (a +ℤ b)
+    both h k = omega (arith, ints)
+
+    sums : (ru rn uw nw qw l : ℤ) → qw *ℤ (rn *ℤ uw -ℤ ru *ℤ nw) +ℤ uw *ℤ (l *ℤ nw -ℤ rn *ℤ qw) ≡ nw *ℤ (l *ℤ uw) -ℤ nw *ℤ (ru *ℤ qw)
+    sums ru rn uw nw qw l = ring_in (ru ∷ rn ∷ uw ∷ nw ∷ qw ∷ l ∷ []) (λ ru rn uw nw qw l. qw ⊗ (rn ⊗ uw ⊖ ru ⊗ nw) ⊕ uw ⊗ (l ⊗ nw ⊖ rn ⊗ qw)) (λ ru rn uw nw qw l. nw ⊗ (l ⊗ uw) ⊖ nw ⊗ (ru ⊗ qw)) tt
+
+-- ---- where an overlap begins: at the start of the segment, or at the start of the other
+module _ (p q u v : Fraction) (o : OverlapAlong p q u v) where
+  far_apart : ¬ IsSame p q
+  far_apart e = same_not_nearer p o.near o.far (same-trans o.near p o.far (only_point p q o.near e o.near_first) (same-sym o.far p (only_point p q o.far e o.far_first))) o.from_s
+
+  ends_apart : ¬ IsSame u v
+  ends_apart e = same_not_nearer u o.near o.far (same-trans o.near u o.far (only_point u v o.near e o.near_second) (same-sym o.far u (only_point u v o.far e o.far_second))) o.from_u
+
+  t₁ : TwoWeights IsNotNegative u v o.near
+  t₁ = two_weights IsNotNegative u v o.near o.near_second
+
+  t₂ : TwoWeights IsNotNegative u v o.far
+  t₂ = two_weights IsNotNegative u v o.far o.far_second
+
+  -- near has more of u, and far more of v
+  turn : pos 0 <ℤ (t₁.k *ℤ t₂.l -ℤ t₂.k *ℤ t₁.l)
+  turn = pos_of_mul-pos_ℤ {k = reach u v v *ℤ u.w} (mul-pos_ℤ (reach-end u v ends_apart) u.positive)
+      (subst (λ z. pos 0 <ℤ z) (sym (turned_weights t₁.n t₁.k t₁.l t₂.n t₂.k t₂.l (reach u v o.near) (reach u v o.far) o.near.w o.far.w (reach u v v) u.w v.w (from_start t₁) (from_start t₂) t₁.w t₂.w))
+      (mul-pos_ℤ (mul-pos_ℤ t₁.positive t₂.positive) (above_difference _ _ (reach_less u v ends_apart o.near o.far o.near_second o.far_second o.from_u))))
+    where
+      from_start : {x : Fraction} (t : TwoWeights IsNotNegative u v x) → t.n *ℤ reach u v x ≡ t.k *ℤ pos 0 +ℤ t.l *ℤ reach u v v
+      from_start {x} t = reach_of_two IsNotNegative u v u v x t ∙ (λ i. t.k *ℤ reach-start u v i +ℤ t.l *ℤ reach u v v)
+
+  member : (x : Fraction) → OnSegment p q x → (bracket (vec p) (vec q) (vec x) ≡ pos 0) × (pos 0 ≤ℤ reach p q x) × ((reach p q x *ℤ q.w) ≤ℤ (reach p q q *ℤ x.w))
+  member x h = (on_segment_is p q x far_apart).0 h
+
+  -- u and v are on the line of p and q
+  on_line : bracket (vec p) (vec q) (vec u) ≡ pos 0
+  on_line = zero_of_mul-zero_ℤ (pos-ne-zero_ℤ turn) (form_none t₁.n t₁.k t₁.l t₂.n t₂.k t₂.l (bracket (vec p) (vec q) (vec o.near)) (bracket (vec p) (vec q) (vec o.far)) (bracket (vec p) (vec q) (vec u)) (bracket (vec p) (vec q) (vec v))
+      (bracket_of_two IsNotNegative (vec p) (vec q) u v o.near t₁) (bracket_of_two IsNotNegative (vec p) (vec q) u v o.far t₂) (member o.near o.near_first).0 (member o.far o.far_first).0)
+
+  on_line_last : bracket (vec p) (vec q) (vec v) ≡ pos 0
+  on_line_last = zero_of_mul-zero_ℤ (pos-ne-zero_ℤ turn) (form_none_last t₁.n t₁.k t₁.l t₂.n t₂.k t₂.l (bracket (vec p) (vec q) (vec o.near)) (bracket (vec p) (vec q) (vec o.far)) (bracket (vec p) (vec q) (vec u)) (bracket (vec p) (vec q) (vec v))
+      (bracket_of_two IsNotNegative (vec p) (vec q) u v o.near t₁) (bracket_of_two IsNotNegative (vec p) (vec q) u v o.far t₂) (member o.near o.near_first).0 (member o.far o.far_first).0)
+
+  -- and before v
+  before : pos 0 <ℤ (reach p q v *ℤ u.w -ℤ reach p q u *ℤ v.w)
+  before = pos_of_mul-pos_ℤ {k = t₁.k *ℤ t₂.l -ℤ t₂.k *ℤ t₁.l} turn
+      (subst (λ z. pos 0 <ℤ z) (sym (form_order t₁.n t₁.k t₁.l t₂.n t₂.k t₂.l (reach p q o.near) (reach p q o.far) (reach p q u) (reach p q v) o.near.w o.far.w u.w v.w (reach_of_two IsNotNegative p q u v o.near t₁) (reach_of_two IsNotNegative p q u v o.far t₂) t₁.w t₂.w))
+      (mul-pos_ℤ (mul-pos_ℤ t₁.positive t₂.positive) (above_difference _ _ (reach_less p q far_apart o.near o.far o.near_first o.far_first o.from_s))))
+
+  -- no point of the segment from u to v is before u
+  not_before : (r : Fraction) → OnSegment u v r → (reach p q u *ℤ r.w) ≤ℤ (reach p q r *ℤ u.w)
+  not_before r h = let t = two_weights IsNotNegative u v r h in at_most_of_difference _ _ (nonneg_of_mul-nonneg_ℤ {k = t.n} t.positive
+      (subst (λ z. pos 0 ≤ℤ z) (sym (after_first t.n t.k t.l (reach p q r) (reach p q u) (reach p q v) r.w u.w v.w (reach_of_two IsNotNegative p q u v r t) t.w)) (mul-nonneg_ℤ t.l_allowed (weak before))))
+
+  -- where p is not on the other segment, u is on this one, and comes first
+  module _ (off : ¬ OnSegment u v p) where
+    past_start : pos 0 <ℤ reach p q u
+    past_start = go (trichotomy_ℤ (reach p q u))
+      where
+        behind : reach p q u ≤ℤ pos 0 → ⊥
+        behind h = off (on_segment-same u v z p (same_if p q far_apart z p z_on (start_on_segment p q) keys) (mean_of_two IsNotNegative u v z t))
+          where
+            far_reach : pos 0 <ℤ reach p q o.far
+            far_reach = pos_from _ _ _ _ (reach_less p q far_apart o.near o.far o.near_first o.far_first o.from_s) ((on_segment_is p q o.near far_apart).0 o.near_first).1 o.near.positive o.far.positive
+              where
+                pos_from : (a wb b wa : ℤ) → (a *ℤ wb) <ℤ (b *ℤ wa) → pos 0 ≤ℤ a → pos 0 <ℤ wa → pos 0 <ℤ wb → pos 0 <ℤ b
+                pos_from a wb b wa h ha hwa hwb = pos_of_mul-pos_ℤ {k = wa} {x = b} hwa (let p = mul-nonneg_ℤ {a = a} {b = wb} ha (weak hwb) in omega (arith, ints, lib.IntN.*ℤ_comm b wa))
+
+            high : pos 0 <ℤ reach p q v
+            high = above_last t₂.n (reach p q o.far) t₂.k (reach p q u) t₂.l (reach p q v) (reach_of_two IsNotNegative p q u v o.far t₂) t₂.positive far_reach t₂.k_allowed h t₂.l_allowed
+
+            weak_neg : {a : ℤ} → a ≤ℤ pos 0 → pos 0 ≤ℤ neg_ℤ a
+            weak_neg h = omega (arith, ints)
+
+            positive : pos 0 <ℤ (reach p q v *ℤ u.w +ℤ neg_ℤ (reach p q u) *ℤ v.w)
+            positive = mix_positive (reach p q v) (neg_ℤ (reach p q u)) u.w v.w high (weak_neg h) u.positive v.positive
+
+            z : Fraction
+            z = mixed (reach p q v) u (neg_ℤ (reach p q u)) v positive
+
+            once : (x y : ℤ) → pos 1 *ℤ (x +ℤ y) ≡ x +ℤ y
+            once x y = omega (arith, ints)
+
+            one_time : (x : ℤ) → pos 1 *ℤ x ≡ pos 0 → x ≡ pos 0
+            one_time x e = omega (arith, ints)
+
+            t : TwoWeights IsNotNegative u v z
+            t = record {
+              k = reach p q v;
+              l = neg_ℤ (reach p q u);
+              n = pos 1;
+              k_allowed = weak high;
+              l_allowed = weak_neg h;
+              positive = record { lt = tt };
+              x = once (reach p q v *ℤ u.x) (neg_ℤ (reach p q u) *ℤ v.x);
+              y = once (reach p q v *ℤ u.y) (neg_ℤ (reach p q u) *ℤ v.y);
+              w = once (reach p q v *ℤ u.w) (neg_ℤ (reach p q u) *ℤ v.w);
+            }
+
+            no_reach : reach p q z ≡ pos 0
+            no_reach = one_time (reach p q z) (reach_of_two IsNotNegative p q u v z t ∙ lib.IntN.+ℤ_comm (reach p q v *ℤ reach p q u) (neg_ℤ (reach p q u) *ℤ reach p q v) ∙ own_line (reach p q v) (reach p q u))
+
+            no_turn : bracket (vec p) (vec q) (vec z) ≡ pos 0
+            no_turn = one_time (bracket (vec p) (vec q) (vec z)) (bracket_of_two IsNotNegative (vec p) (vec q) u v z t ∙ nones _ _ (zero-mul_ℤ (reach p q v) on_line) (zero-mul_ℤ (neg_ℤ (reach p q u)) on_line_last))
+              where
+                nones : (a b : ℤ) → a ≡ pos 0 → b ≡ pos 0 → a +ℤ b ≡ pos 0
+                nones a b e d = omega (arith, ints)
+
+            z_on : OnSegment p q z
+            z_on = (on_segment_is p q z far_apart).1 (no_turn, zero_weak_left no_reach, at_most (reach p q z *ℤ q.w) (reach p q q *ℤ z.w) (product_zero_left q.w no_reach) (mul-pos_ℤ (reach-end p q far_apart) z.positive))
+              where
+                at_most : (a b : ℤ) → a ≡ pos 0 → pos 0 <ℤ b → a ≤ℤ b
+                at_most a b e h = omega (arith, ints)
+
+            keys : reach p q z *ℤ p.w ≡ reach p q p *ℤ z.w
+            keys = product_zero_left p.w no_reach ∙ sym (product_zero_left z.w (reach-start p q))
+
+        go : (reach p q u <ℤ pos 0) ⊎ ((reach p q u ≡ pos 0) ⊎ (pos 0 <ℤ reach p q u)) → pos 0 <ℤ reach p q u
+        go (inl h) = absurd (behind (weak_right h))
+        go (inr (inl h)) = absurd (behind (zero_weak h))
+        go (inr (inr h)) = h
+
+    pub first_on : OnSegment p q u
+    first_on = (on_segment_is p q u far_apart).1 (on_line, weak past_start, still_before (reach p q u) (reach p q o.near) u.w o.near.w q.w (reach p q q) (not_before o.near o.near_second) ((on_segment_is p q o.near far_apart).0 o.near_first).2 o.near.positive u.positive q.positive)
+
+    pub none_sooner : (r : Fraction) → OnSegment p q r → OnSegment u v r → ¬ IsNearer p r u
+    none_sooner r h i near = not_less _ _ (not_before r i) (reach_less p q far_apart r u h first_on near)
