@@ -153,13 +153,13 @@ within_itself u v p e d = mean_of_two IsPositive u v p (record {
 unfoldable pub reach : Fraction → Fraction → Fraction → ℤ
 reach u v z = run u v *ℤ run u z +ℤ rise u v *ℤ rise u z
 
-abbrev runᵖ : Vec3ᵖ → Vec3ᵖ → Poly
+abbrev pub runᵖ : Vec3ᵖ → Vec3ᵖ → Poly
 runᵖ p q = q.x ⊗ p.w ⊖ p.x ⊗ q.w
 
-abbrev riseᵖ : Vec3ᵖ → Vec3ᵖ → Poly
+abbrev pub riseᵖ : Vec3ᵖ → Vec3ᵖ → Poly
 riseᵖ p q = q.y ⊗ p.w ⊖ p.y ⊗ q.w
 
-abbrev reachᵖ : Vec3ᵖ → Vec3ᵖ → Vec3ᵖ → Poly
+abbrev pub reachᵖ : Vec3ᵖ → Vec3ᵖ → Vec3ᵖ → Poly
 reachᵖ u v z = runᵖ u v ⊗ runᵖ u z ⊕ riseᵖ u v ⊗ riseᵖ u z
 
 -- the start is at 0
@@ -204,14 +204,14 @@ reach_of_two A u v a b p t = ring_over_from vec3 (t.n ∷ t.k ∷ t.l ∷ []) (v
     (t.x, (t.y, (t.w, tt))) tt
 
 -- a point of the line through u and v is u and v under weights that tell how far it is
-weights_x : (u v z : Fraction) → bracket (vec u) (vec v) (vec z) ≡ pos 0 → (reach u v v *ℤ u.w) *ℤ z.x ≡ (reach u v v *ℤ z.w -ℤ reach u v z *ℤ v.w) *ℤ u.x +ℤ (reach u v z *ℤ u.w) *ℤ v.x
+pub weights_x : (u v z : Fraction) → bracket (vec u) (vec v) (vec z) ≡ pos 0 → (reach u v v *ℤ u.w) *ℤ z.x ≡ (reach u v v *ℤ z.w -ℤ reach u v z *ℤ v.w) *ℤ u.x +ℤ (reach u v z *ℤ u.w) *ℤ v.x
 unfolding reach bracket
 weights_x u v z e = ring_over_from vec3 [] (vec u ∷ vec v ∷ vec z ∷ [])
     (λ u v z. (reachᵖ u v v ⊗ u.w) ⊗ z.x)
     (λ u v z. (reachᵖ u v v ⊗ z.w ⊖ reachᵖ u v z ⊗ v.w) ⊗ u.x ⊕ (reachᵖ u v z ⊗ u.w) ⊗ v.x)
     (λ u v z. (num 0 ⊖ riseᵖ u v ⊗ u.w, bracketᵖ u v z, num 0) ∷ []) (e, tt) tt
 
-weights_y : (u v z : Fraction) → bracket (vec u) (vec v) (vec z) ≡ pos 0 → (reach u v v *ℤ u.w) *ℤ z.y ≡ (reach u v v *ℤ z.w -ℤ reach u v z *ℤ v.w) *ℤ u.y +ℤ (reach u v z *ℤ u.w) *ℤ v.y
+pub weights_y : (u v z : Fraction) → bracket (vec u) (vec v) (vec z) ≡ pos 0 → (reach u v v *ℤ u.w) *ℤ z.y ≡ (reach u v v *ℤ z.w -ℤ reach u v z *ℤ v.w) *ℤ u.y +ℤ (reach u v z *ℤ u.w) *ℤ v.y
 unfolding reach bracket
 weights_y u v z e = ring_over_from vec3 [] (vec u ∷ vec v ∷ vec z ∷ [])
     (λ u v z. (reachᵖ u v v ⊗ u.w) ⊗ z.y)

@@ -1,5 +1,5 @@
 -- Points of a segment in their order along it: the one nearer to the start comes first, and points as near are one.
-use Rattle.std.proofs.Common.{◌≡◌, [], ◌∷◌, arith, ap, sym, ◌∙◌, subst, subst₂}
+use Rattle.std.proofs.Common.{◌≡◌, [], ◌∷◌, arith, ap, sym, ◌∙◌, subst, subst₂, refl}
 use mathlib.Core.Logic.{◌⊎◌, inl, inr}
 use lib.IntN.{neg_ℤ}
 use Rattle.std.specs.Prelude.{ℤ, pos, ◌<ℤ◌, ◌≤ℤ◌, ◌+ℤ◌, ◌-ℤ◌, ◌*ℤ◌}
@@ -9,22 +9,13 @@ use Rattle.plane_delaunay.proofs.Bracket.{mixed}
 use Rattle.plane_delaunay.proofs.Numbers.{mix_positive, own_line}
 use Rattle.plane.proofs.Means.{TwoWeights, two_weights, mean_of_two, bracket_of_two}
 use Rattle.plane.proofs.Nearer.{same_not_nearer}
-use Rattle.plane.proofs.Bracket.{Vec3ᵖ, vec, vec3, bracket, bracketᵖ}
-use Rattle.plane.proofs.Solver.{Poly, num, ◌⊕◌, ◌⊖◌, ◌⊗◌, ring_in, ring_over_from, ring_in_from}
+use Rattle.plane.proofs.Bracket.{vec, vec3, bracket, bracketᵖ}
+use Rattle.plane.proofs.Solver.{num, ◌⊕◌, ◌⊖◌, ◌⊗◌, ring_in, ring_over_from, ring_in_from}
 use Rattle.plane.proofs.Steps.{weak, weak_right, zero_weak, zero_weak_left, product_zero_left}
 use Rattle.plane.proofs.IntegerOrder.{mul-pos_ℤ, mul-nonneg_ℤ, mul_cancel_ℤ, pos-ne-zero_ℤ, lt_of_mul-lt-mul_ℤ, trichotomy_ℤ, pos_of_mul-pos_ℤ, nonneg_of_mul-nonneg_ℤ, zero_of_mul-zero_ℤ, mul-nonpos_of_nonneg_nonpos_ℤ, le_of_mul-le-mul_ℤ, zero-mul_ℤ}
-use Rattle.plane.proofs.Segments.{reach, reach-end, on_segment_is, same-sym, same-trans, only_point, on_segment-same, start_on_segment, reach-start, reach_of_two}
-use Rattle.plane.specs.Fraction.{Fraction, IsSame, OnSegment, IsNotNegative}
+use Rattle.plane.proofs.Segments.{reach, reach-end, on_segment_is, same-sym, same-trans, only_point, on_segment-same, start_on_segment, reach-start, reach_of_two, runᵖ, riseᵖ, reachᵖ, weights_x, weights_y}
+use Rattle.plane.specs.Fraction.{Fraction, IsSame, OnSegment, IsNotNegative, IsPositive, WithinSegment}
 use Rattle.plane.specs.Circle.{gap, IsNearer}
-
-abbrev runᵖ : Vec3ᵖ → Vec3ᵖ → Poly
-runᵖ p q = q.x ⊗ p.w ⊖ p.x ⊗ q.w
-
-abbrev riseᵖ : Vec3ᵖ → Vec3ᵖ → Poly
-riseᵖ p q = q.y ⊗ p.w ⊖ p.y ⊗ q.w
-
-abbrev reachᵖ : Vec3ᵖ → Vec3ᵖ → Vec3ᵖ → Poly
-reachᵖ u v z = runᵖ u v ⊗ runᵖ u z ⊕ riseᵖ u v ⊗ riseᵖ u z
 
 -- the squared distance from the start, by how far the point is on the way
 gap-reach : (p q x : Fraction) → bracket (vec p) (vec q) (vec x) ≡ pos 0 → reach p q q *ℤ gap p x ≡ reach p q x *ℤ reach p q x
@@ -164,6 +155,42 @@ after_first : (n a b f fu fv w uw vw : ℤ) → n *ℤ f ≡ a *ℤ fu +ℤ b *�
 after_first n a b f fu fv w uw vw e d = ring_in_from (n ∷ a ∷ b ∷ f ∷ fu ∷ fv ∷ w ∷ uw ∷ vw ∷ []) (λ n a b f fu fv w uw vw. n ⊗ (f ⊗ uw ⊖ fu ⊗ w)) (λ n a b f fu fv w uw vw. b ⊗ (fv ⊗ uw ⊖ fu ⊗ vw))
     (λ n a b f fu fv w uw vw. (uw, n ⊗ f, a ⊗ fu ⊕ b ⊗ fv) ∷ (num 0 ⊖ fu, n ⊗ w, a ⊗ uw ⊕ b ⊗ vw) ∷ []) (e, (d, tt)) tt
 
+before_last : (n a b f fu fv w uw vw : ℤ) → n *ℤ f ≡ a *ℤ fu +ℤ b *ℤ fv → n *ℤ w ≡ a *ℤ uw +ℤ b *ℤ vw → n *ℤ (fv *ℤ w -ℤ f *ℤ vw) ≡ a *ℤ (fv *ℤ uw -ℤ fu *ℤ vw)
+before_last n a b f fu fv w uw vw e d = ring_in_from (n ∷ a ∷ b ∷ f ∷ fu ∷ fv ∷ w ∷ uw ∷ vw ∷ []) (λ n a b f fu fv w uw vw. n ⊗ (fv ⊗ w ⊖ f ⊗ vw)) (λ n a b f fu fv w uw vw. a ⊗ (fv ⊗ uw ⊖ fu ⊗ vw))
+    (λ n a b f fu fv w uw vw. (num 0 ⊖ vw, n ⊗ f, a ⊗ fu ⊕ b ⊗ fv) ∷ (fv, n ⊗ w, a ⊗ uw ⊕ b ⊗ vw) ∷ []) (e, (d, tt)) tt
+
+above_difference : (a b : ℤ) → a <ℤ b → pos 0 <ℤ (b -ℤ a)
+above_difference a b h = omega (arith, ints)
+
+below_of_difference : (a b : ℤ) → pos 0 <ℤ (b -ℤ a) → a <ℤ b
+below_of_difference a b h = omega (arith, ints)
+
+at_most_of_difference : (a b : ℤ) → pos 0 ≤ℤ (b -ℤ a) → a ≤ℤ b
+at_most_of_difference a b h = omega (arith, ints)
+
+-- one point is as far on the way as itself
+reach-same : (p q x y : Fraction) → IsSame x y → reach p q x *ℤ y.w ≡ reach p q y *ℤ x.w
+unfolding reach
+reach-same p q x y e = ring_over_from vec3 [] (vec p ∷ vec q ∷ vec x ∷ vec y ∷ []) (λ p q x y. reachᵖ p q x ⊗ y.w) (λ p q x y. reachᵖ p q y ⊗ x.w)
+    (λ p q x y. (runᵖ p q ⊗ p.w, x.x ⊗ y.w, y.x ⊗ x.w) ∷ (riseᵖ p q ⊗ p.w, x.y ⊗ y.w, y.y ⊗ x.w) ∷ []) (e.x, (e.y, tt)) tt
+
+-- from near over far to v, where x is
+less_past : (rn rf rv rx wn wf wv wx : ℤ) → (rn *ℤ wf) <ℤ (rf *ℤ wn) → (rf *ℤ wv) ≤ℤ (rv *ℤ wf) → rx *ℤ wv ≡ rv *ℤ wx → pos 0 <ℤ wn → pos 0 <ℤ wf → pos 0 <ℤ wv → pos 0 <ℤ wx → (rn *ℤ wx) <ℤ (rx *ℤ wn)
+less_past rn rf rv rx wn wf wv wx h i e hn hf hv hx = lt_of_mul-lt-mul_ℤ {k = wf *ℤ wv} (mul-pos_ℤ {a = wf} {b = wv} hf hv)
+    (let p = mul-pos_ℤ {a = wv *ℤ wx} {b = rf *ℤ wn -ℤ rn *ℤ wf} (mul-pos_ℤ {a = wv} {b = wx} hv hx) (above_difference _ _ h) in
+    let s = mul-nonneg_ℤ {a = wn *ℤ wx} {b = rv *ℤ wf -ℤ rf *ℤ wv} (weak (mul-pos_ℤ {a = wn} {b = wx} hn hx)) (least _ _ i) in
+    below_of_difference _ _ (subst (λ z. pos 0 <ℤ z) (sums rn rf rv rx wn wf wv wx e) (both p s)))
+  where
+    least : (a b : ℤ) → a ≤ℤ b → pos 0 ≤ℤ (b -ℤ a)
+    least a b h = omega (arith, ints)
+
+    both : {a b : ℤ} → pos 0 <ℤ a → pos 0 ≤ℤ b → pos 0 <ℤ (a +ℤ b)
+    both h k = omega (arith, ints)
+
+    sums : (rn rf rv rx wn wf wv wx : ℤ) → rx *ℤ wv ≡ rv *ℤ wx → wv *ℤ wx *ℤ (rf *ℤ wn -ℤ rn *ℤ wf) +ℤ wn *ℤ wx *ℤ (rv *ℤ wf -ℤ rf *ℤ wv) ≡ wf *ℤ wv *ℤ (rx *ℤ wn) -ℤ wf *ℤ wv *ℤ (rn *ℤ wx)
+    sums rn rf rv rx wn wf wv wx e = ring_in_from (rn ∷ rf ∷ rv ∷ rx ∷ wn ∷ wf ∷ wv ∷ wx ∷ []) (λ rn rf rv rx wn wf wv wx. wv ⊗ wx ⊗ (rf ⊗ wn ⊖ rn ⊗ wf) ⊕ wn ⊗ wx ⊗ (rv ⊗ wf ⊖ rf ⊗ wv)) (λ rn rf rv rx wn wf wv wx. wf ⊗ wv ⊗ (rx ⊗ wn) ⊖ wf ⊗ wv ⊗ (rn ⊗ wx))
+        (λ rn rf rv rx wn wf wv wx. (num 0 ⊖ wf ⊗ wn, rx ⊗ wv, rv ⊗ wx) ∷ []) (e, tt) tt
+
 above_last : (n f a fu b fv : ℤ) → n *ℤ f ≡ a *ℤ fu +ℤ b *ℤ fv → pos 0 <ℤ n → pos 0 <ℤ f → pos 0 ≤ℤ a → fu ≤ℤ pos 0 → pos 0 ≤ℤ b → pos 0 <ℤ fv
 above_last n f a fu b fv e hn hf ha hu hb = go (trichotomy_ℤ fv)
   where
@@ -174,15 +201,6 @@ above_last n f a fu b fv e hn hf ha hu hb = go (trichotomy_ℤ fv)
     go (inl h) = absurd (low (weak_right h))
     go (inr (inl h)) = absurd (low (zero_weak h))
     go (inr (inr h)) = h
-
-above_difference : (a b : ℤ) → a <ℤ b → pos 0 <ℤ (b -ℤ a)
-above_difference a b h = omega (arith, ints)
-
-below_of_difference : (a b : ℤ) → pos 0 <ℤ (b -ℤ a) → a <ℤ b
-below_of_difference a b h = omega (arith, ints)
-
-at_most_of_difference : (a b : ℤ) → pos 0 ≤ℤ (b -ℤ a) → a ≤ℤ b
-at_most_of_difference a b h = omega (arith, ints)
 
 not_less : (a b : ℤ) → a ≤ℤ b → b <ℤ a → ⊥
 not_less a b h k = omega (arith, ints)
@@ -228,16 +246,16 @@ module _ (p q u v : Fraction) (o : OverlapAlong p q u v) where
   member x h = (on_segment_is p q x far_apart).0 h
 
   -- u and v are on the line of p and q
-  on_line : bracket (vec p) (vec q) (vec u) ≡ pos 0
+  pub on_line : bracket (vec p) (vec q) (vec u) ≡ pos 0
   on_line = zero_of_mul-zero_ℤ (pos-ne-zero_ℤ turn) (form_none t₁.n t₁.k t₁.l t₂.n t₂.k t₂.l (bracket (vec p) (vec q) (vec o.near)) (bracket (vec p) (vec q) (vec o.far)) (bracket (vec p) (vec q) (vec u)) (bracket (vec p) (vec q) (vec v))
       (bracket_of_two IsNotNegative (vec p) (vec q) u v o.near t₁) (bracket_of_two IsNotNegative (vec p) (vec q) u v o.far t₂) (member o.near o.near_first).0 (member o.far o.far_first).0)
 
-  on_line_last : bracket (vec p) (vec q) (vec v) ≡ pos 0
+  pub on_line_last : bracket (vec p) (vec q) (vec v) ≡ pos 0
   on_line_last = zero_of_mul-zero_ℤ (pos-ne-zero_ℤ turn) (form_none_last t₁.n t₁.k t₁.l t₂.n t₂.k t₂.l (bracket (vec p) (vec q) (vec o.near)) (bracket (vec p) (vec q) (vec o.far)) (bracket (vec p) (vec q) (vec u)) (bracket (vec p) (vec q) (vec v))
       (bracket_of_two IsNotNegative (vec p) (vec q) u v o.near t₁) (bracket_of_two IsNotNegative (vec p) (vec q) u v o.far t₂) (member o.near o.near_first).0 (member o.far o.far_first).0)
 
   -- and before v
-  before : pos 0 <ℤ (reach p q v *ℤ u.w -ℤ reach p q u *ℤ v.w)
+  pub before : pos 0 <ℤ (reach p q v *ℤ u.w -ℤ reach p q u *ℤ v.w)
   before = pos_of_mul-pos_ℤ {k = t₁.k *ℤ t₂.l -ℤ t₂.k *ℤ t₁.l} turn
       (subst (λ z. pos 0 <ℤ z) (sym (form_order t₁.n t₁.k t₁.l t₂.n t₂.k t₂.l (reach p q o.near) (reach p q o.far) (reach p q u) (reach p q v) o.near.w o.far.w u.w v.w (reach_of_two IsNotNegative p q u v o.near t₁) (reach_of_two IsNotNegative p q u v o.far t₂) t₁.w t₂.w))
       (mul-pos_ℤ (mul-pos_ℤ t₁.positive t₂.positive) (above_difference _ _ (reach_less p q far_apart o.near o.far o.near_first o.far_first o.from_s))))
@@ -246,6 +264,16 @@ module _ (p q u v : Fraction) (o : OverlapAlong p q u v) where
   not_before : (r : Fraction) → OnSegment u v r → (reach p q u *ℤ r.w) ≤ℤ (reach p q r *ℤ u.w)
   not_before r h = let t = two_weights IsNotNegative u v r h in at_most_of_difference _ _ (nonneg_of_mul-nonneg_ℤ {k = t.n} t.positive
       (subst (λ z. pos 0 ≤ℤ z) (sym (after_first t.n t.k t.l (reach p q r) (reach p q u) (reach p q v) r.w u.w v.w (reach_of_two IsNotNegative p q u v r t) t.w)) (mul-nonneg_ℤ t.l_allowed (weak before))))
+
+  -- and none is past v
+  not_past : (r : Fraction) → OnSegment u v r → (reach p q r *ℤ v.w) ≤ℤ (reach p q v *ℤ r.w)
+  not_past r h = let t = two_weights IsNotNegative u v r h in at_most_of_difference _ _ (nonneg_of_mul-nonneg_ℤ {k = t.n} t.positive
+      (subst (λ z. pos 0 ≤ℤ z) (sym (before_last t.n t.k t.l (reach p q r) (reach p q u) (reach p q v) r.w u.w v.w (reach_of_two IsNotNegative p q u v r t) t.w)) (mul-nonneg_ℤ t.k_allowed (weak before))))
+
+  -- so an overlap does not begin at v
+  pub not_from_end : (x : Fraction) → OnSegment p q x → ((r : Fraction) → OnSegment p q r → OnSegment u v r → ¬ IsNearer p r x) → ¬ IsSame x v
+  not_from_end x hx first e = first o.near o.near_first o.near_second (nearer_if p q far_apart o.near x o.near_first hx
+      (less_past (reach p q o.near) (reach p q o.far) (reach p q v) (reach p q x) o.near.w o.far.w v.w x.w (reach_less p q far_apart o.near o.far o.near_first o.far_first o.from_s) (not_past o.far o.far_second) (reach-same p q x v e) o.near.positive o.far.positive v.positive x.positive))
 
   -- where p is not on the other segment, u is on this one, and comes first
   module _ (off : ¬ OnSegment u v p) where
@@ -320,3 +348,43 @@ module _ (p q u v : Fraction) (o : OverlapAlong p q u v) where
 
     pub none_sooner : (r : Fraction) → OnSegment p q r → OnSegment u v r → ¬ IsNearer p r u
     none_sooner r h i near = not_less _ _ (not_before r i) (reach_less p q far_apart r u h first_on near)
+
+-- ---- three points of a line in order: the one in the middle is within the segment of the others
+middle_part : (s uc vc rx ry rz xc yc zc xw yw zw l vw uw : ℤ) → s ≡ l *ℤ uw → s *ℤ xc ≡ (l *ℤ xw -ℤ rx *ℤ vw) *ℤ uc +ℤ (rx *ℤ uw) *ℤ vc → s *ℤ yc ≡ (l *ℤ yw -ℤ ry *ℤ vw) *ℤ uc +ℤ (ry *ℤ uw) *ℤ vc → s *ℤ zc ≡ (l *ℤ zw -ℤ rz *ℤ vw) *ℤ uc +ℤ (rz *ℤ uw) *ℤ vc
+    → s *ℤ ((rz *ℤ xw -ℤ rx *ℤ zw) *ℤ yc) ≡ s *ℤ ((rz *ℤ yw -ℤ ry *ℤ zw) *ℤ xc +ℤ (ry *ℤ xw -ℤ rx *ℤ yw) *ℤ zc)
+middle_part s uc vc rx ry rz xc yc zc xw yw zw l vw uw o ex ey ez = ring_in_from (s ∷ uc ∷ vc ∷ rx ∷ ry ∷ rz ∷ xc ∷ yc ∷ zc ∷ xw ∷ yw ∷ zw ∷ l ∷ vw ∷ uw ∷ [])
+    (λ s uc vc rx ry rz xc yc zc xw yw zw l vw uw. s ⊗ ((rz ⊗ xw ⊖ rx ⊗ zw) ⊗ yc)) (λ s uc vc rx ry rz xc yc zc xw yw zw l vw uw. s ⊗ ((rz ⊗ yw ⊖ ry ⊗ zw) ⊗ xc ⊕ (ry ⊗ xw ⊖ rx ⊗ yw) ⊗ zc))
+    (λ s uc vc rx ry rz xc yc zc xw yw zw l vw uw.
+    (num 0 ⊖ (rz ⊗ yw ⊖ ry ⊗ zw), s ⊗ xc, (l ⊗ xw ⊖ rx ⊗ vw) ⊗ uc ⊕ (rx ⊗ uw) ⊗ vc) ∷ (rz ⊗ xw ⊖ rx ⊗ zw, s ⊗ yc, (l ⊗ yw ⊖ ry ⊗ vw) ⊗ uc ⊕ (ry ⊗ uw) ⊗ vc) ∷ (num 0 ⊖ (ry ⊗ xw ⊖ rx ⊗ yw), s ⊗ zc, (l ⊗ zw ⊖ rz ⊗ vw) ⊗ uc ⊕ (rz ⊗ uw) ⊗ vc) ∷ [])
+    (ex, (ey, (ez, tt))) tt
+
+middle_weight : (rx ry rz xw yw zw : ℤ) → (rz *ℤ xw -ℤ rx *ℤ zw) *ℤ yw ≡ (rz *ℤ yw -ℤ ry *ℤ zw) *ℤ xw +ℤ (ry *ℤ xw -ℤ rx *ℤ yw) *ℤ zw
+middle_weight rx ry rz xw yw zw = ring_in (rx ∷ ry ∷ rz ∷ xw ∷ yw ∷ zw ∷ []) (λ rx ry rz xw yw zw. (rz ⊗ xw ⊖ rx ⊗ zw) ⊗ yw) (λ rx ry rz xw yw zw. (rz ⊗ yw ⊖ ry ⊗ zw) ⊗ xw ⊕ (ry ⊗ xw ⊖ rx ⊗ yw) ⊗ zw) tt
+
+module _ (p q : Fraction) (apart : ¬ IsSame p q) where
+  abbrev IsOn : Fraction → Type 0
+  IsOn x = bracket (vec p) (vec q) (vec x) ≡ pos 0
+
+  pub same_on_line : (x y : Fraction) → IsOn x → IsOn y → reach p q x *ℤ y.w ≡ reach p q y *ℤ x.w → IsSame x y
+  same_on_line x y hx hy e =
+      let n = pos-ne-zero_ℤ (mul-pos_ℤ {a = reach p q q} {b = p.w} (reach-end p q apart) p.positive) in
+      record { x = mul_cancel_ℤ n (same_x p q x y hx hy e); y = mul_cancel_ℤ n (same_y p q x y hx hy e) }
+
+  pub within_on_line : (x y z : Fraction) → IsOn x → IsOn y → IsOn z → pos 0 <ℤ (reach p q y *ℤ x.w -ℤ reach p q x *ℤ y.w) → pos 0 <ℤ (reach p q z *ℤ y.w -ℤ reach p q y *ℤ z.w) → WithinSegment x z y
+  within_on_line x y z hx hy hz before after = mean_of_two IsPositive x z y (record {
+    k = reach p q z *ℤ y.w -ℤ reach p q y *ℤ z.w;
+    l = reach p q y *ℤ x.w -ℤ reach p q x *ℤ y.w;
+    n = reach p q z *ℤ x.w -ℤ reach p q x *ℤ z.w;
+    k_allowed = after;
+    l_allowed = before;
+    positive = pos_of_mul-pos_ℤ {k = y.w} {x = reach p q z *ℤ x.w -ℤ reach p q x *ℤ z.w} y.positive (subst (λ t. pos 0 <ℤ t) (sym (middle_weight (reach p q x) (reach p q y) (reach p q z) x.w y.w z.w) ∙ lib.IntN.*ℤ_comm _ y.w) (sum (mul-pos_ℤ after x.positive) (mul-pos_ℤ before z.positive)));
+    x = mul_cancel_ℤ n (middle_part (reach p q q *ℤ p.w) p.x q.x (reach p q x) (reach p q y) (reach p q z) x.x y.x z.x x.w y.w z.w (reach p q q) q.w p.w refl (weights_x p q x hx) (weights_x p q y hy) (weights_x p q z hz));
+    y = mul_cancel_ℤ n (middle_part (reach p q q *ℤ p.w) p.y q.y (reach p q x) (reach p q y) (reach p q z) x.y y.y z.y x.w y.w z.w (reach p q q) q.w p.w refl (weights_y p q x hx) (weights_y p q y hy) (weights_y p q z hz));
+    w = middle_weight (reach p q x) (reach p q y) (reach p q z) x.w y.w z.w;
+  })
+    where
+      n : ¬ (reach p q q *ℤ p.w ≡ pos 0)
+      n = pos-ne-zero_ℤ (mul-pos_ℤ {a = reach p q q} {b = p.w} (reach-end p q apart) p.positive)
+
+      sum : {a b : ℤ} → pos 0 <ℤ a → pos 0 <ℤ b → pos 0 <ℤ (a +ℤ b)
+      sum h k = omega (arith, ints)

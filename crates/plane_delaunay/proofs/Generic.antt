@@ -102,7 +102,7 @@ open-swapped a b p q (both_right h k) = both_left (swapped_above a b p h) (swapp
 open-swapped a b p q (past_left h k) = past_left k h
 open-swapped a b p q (past_right h k) = past_right k h
 
-same_bracket : (u v y p : Fraction) → IsSame y p → p.w *ℤ bracket u v y ≡ y.w *ℤ bracket u v p
+pub same_bracket : (u v y p : Fraction) → IsSame y p → p.w *ℤ bracket u v y ≡ y.w *ℤ bracket u v p
 unfolding bracket
 same_bracket u v y p e = ring_over_from fraction [] (u ∷ v ∷ y ∷ p ∷ []) (λ u v y p. p.w ⊗ bracketᵖ u v y) (λ u v y p. y.w ⊗ bracketᵖ u v p)
     (λ u v y p. (u.y ⊗ v.w ⊖ u.w ⊗ v.y, y.x ⊗ p.w, p.x ⊗ y.w) ∷ (u.w ⊗ v.x ⊖ u.x ⊗ v.w, y.y ⊗ p.w, p.y ⊗ y.w) ∷ []) (e.x, (e.y, tt)) tt

@@ -28,6 +28,7 @@ pub mod Regions
 pub mod EdgeInCircle
 pub mod EdgeInRectangle
 pub mod Flooded
+pub mod LineItems
 pub mod FlipTiles
 pub mod Joining
 pub mod Uncrossed

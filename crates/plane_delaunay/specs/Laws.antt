@@ -1,11 +1,12 @@
 -- What is proved of tilings, constraints and circles, whatever made them.
-use Rattle.std.specs.Prelude.{◌↔◌, ℕ, ℤ, ◌≤ℤ◌, ◌<◌, List, [], length}
-use Rattle.plane.specs.Fraction.{Point, Fraction}
+use Rattle.std.specs.Prelude.{◌≡◌, ◌⊎◌, ◌↔◌, ℕ, ℤ, ◌≤ℤ◌, ◌<◌, List, [], length}
+use Rattle.plane.specs.Fraction.{Point, Fraction, IsSame}
 use Rattle.plane.specs.Side.{TurnsLeft}
 use Rattle.plane.specs.Circle.{IsNearer}
 use Rattle.plane.specs.Pairs.{Joins}
 use Rattle.plane.specs.Tiling.{Triangulation, IsVertex, vertex, IsEdge, IsFace, InCorners, InsideCorners, TilesHull, IsTiling}
 use Rattle.plane.specs.Delaunay.{IsConstrainedDelaunay, IsLocallyDelaunay, IsStrictlyEmpty}
+use Rattle.plane.specs.Line.{Item, Meets, IsBefore}
 use Rattle.plane.specs.Shape.{InClosedCircle, InClosedRectangle, IsNearest, IsEdgeIn}
 use Rattle.plane.specs.Location.{Location, IsOuter, IsLocation}
 use Rattle.plane_delaunay.specs.Nearer.{nearer_count}
@@ -69,3 +70,7 @@ EdgeMeetsCircle = (centre : Point) (radius_2 : ℤ) (p q : Point) → HasPointIn
 -- and of a closed rectangle exactly if the ranges meet and the corners are not all strictly on one side of its line
 abbrev pub EdgeMeetsRectangle : Type 0
 EdgeMeetsRectangle = (lower upper : Point) → lower.x ≤ℤ upper.x → lower.y ≤ℤ upper.y → (p q : Point) → HasPointIn (InClosedRectangle lower upper) p q ↔ MeetsRectangle lower upper p q
+
+-- of two different items that a segment meets one comes first
+abbrev pub LineItemsAreOrdered : Type 0
+LineItemsAreOrdered = (t : Triangulation) → TilesHull t → (p q : Fraction) → ¬ IsSame p q → (m n : Item) → Meets t p q m → Meets t p q n → (m ≡ n) ⊎ (IsBefore t p q m n ⊎ IsBefore t p q n m)

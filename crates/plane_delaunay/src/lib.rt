@@ -1,7 +1,7 @@
 //! From the local circle test to constrained Delaunay: laws over tilings, constraints and circles.
 #![tactic(auto)]
 
-ghost use Rattle.plane_delaunay.specs.Laws.{OutsideIsLeftOfOuter, LocalGivesConstrainedDelaunay, StrictlyEmptyIsFace, NearestByNeighbours, NearerCountFalls, VisiblyEmptyIsFace, FacesAreUnique, OverlappingFacesTie, FloodFindsRegion, FloodStarts, EdgeMeetsCircle, EdgeMeetsRectangle};
+ghost use Rattle.plane_delaunay.specs.Laws.{OutsideIsLeftOfOuter, LocalGivesConstrainedDelaunay, StrictlyEmptyIsFace, NearestByNeighbours, NearerCountFalls, VisiblyEmptyIsFace, FacesAreUnique, OverlappingFacesTie, FloodFindsRegion, FloodStarts, EdgeMeetsCircle, EdgeMeetsRectangle, LineItemsAreOrdered};
 
 /// A law: a point in no closed face is strictly left of an outer edge.
 pub fn outside_is_left_of_outer()
@@ -61,4 +61,9 @@ pub fn edge_meets_circle()
 /// A law: a closed edge has a point of a closed rectangle, not a reversed one, exactly if their ranges meet and the corners are not all strictly on one side of its line.
 pub fn edge_meets_rectangle()
     ensures { EdgeMeetsRectangle }
+{}
+
+/// A law: of two different items that a segment meets one comes first.
+pub fn line_items_are_ordered()
+    ensures { LineItemsAreOrdered }
 {}
