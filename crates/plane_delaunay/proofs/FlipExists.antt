@@ -192,10 +192,10 @@ module _ (T : Tiling) (s t : ℕ) (hs : T.IsVertex s) (ht : T.IsVertex t) (clear
     back : Before T t s ht hs (clear') y v x
     back = before_crossing T t s ht hs clear' y v x (to_back v y c) f
 
-    front : Before T s t hs ht clear v y z
+    pub front : Before T s t hs ht clear v y z
     front = before_crossing T s t hs ht clear v y z c g
 
-    x_around_v : pos 0 <ℤ bracket (at s) (at v) (at x)
+    pub x_around_v : pos 0 <ℤ bracket (at s) (at v) (at x)
     x_around_v = go back
       where
         go : Before T t s ht hs clear' y v x → pos 0 <ℤ bracket (at s) (at v) (at x)
@@ -205,7 +205,7 @@ module _ (T : Tiling) (s t : ℕ) (hs : T.IsVertex s) (ht : T.IsVertex t) (clear
             ray_clash v x n' (square_below _ _ (below_by _ _ _ (weight v n') (difference_below _ _ _ _ _ _ _ (bracket (at v) (at y) (at t)) (meeting (at s) (at t) (at v) (at x) (at v) (at y)) (bracket-first (at v) (at y)) n' c.right vyx c.start)) c.right)
             (far_above (at s) (at t) (at v) (right_not_zero c.right) (T.whole v ∙ sym (T.whole s))) (last_v.nearer x y (to_front x y k) n))
 
-    z_around_v : pos 0 ≤ℤ bracket (at s) (at v) (at z)
+    pub z_around_v : pos 0 ≤ℤ bracket (at s) (at v) (at z)
     z_around_v = go front
       where
         go : Before T s t hs ht clear v y z → pos 0 ≤ℤ bracket (at s) (at v) (at z)

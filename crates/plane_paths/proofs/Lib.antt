@@ -1,1 +1,3 @@
 pub mod Paths
+pub mod Falling
+pub mod Lowering

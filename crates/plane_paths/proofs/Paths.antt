@@ -118,14 +118,14 @@ module _ (t : Triangulation) (h : TilesHull t) (i j : ℕ) (free : IsFreeOfVerti
     end = below_if_right (vertex t v) (vertex t y) (vertex t j) c.end;
   }
 
-  last_right : (v : ℕ) → IsLastRight t i j v → F.IsLastRight (tiling t h) i j at_first at_second clear v
+  pub last_right : (v : ℕ) → IsLastRight t i j v → F.IsLastRight (tiling t h) i j at_first at_second clear v
   unfolding tiling
   last_right v l = record {
     around = λ u w c. above_if_not (vertex t i) (vertex t v) (vertex t u) (l.around u w (crossing u w c));
     nearer = λ u w c e. l.nearer u w (crossing u w c) (on_if_none (vertex t i) (vertex t v) (vertex t u) e);
   }
 
-  last_left : (v y : ℕ) → IsLastLeft t i j v y → F.IsLastLeft (tiling t h) i j at_first at_second clear v y
+  pub last_left : (v y : ℕ) → IsLastLeft t i j v y → F.IsLastLeft (tiling t h) i j at_first at_second clear v y
   unfolding tiling
   last_left v y l = record {
     around = λ w c. not_above (vertex t i) (vertex t y) (vertex t w) (l.around w (crossing v w c));

@@ -1,7 +1,9 @@
 -- What is proved of a segment that is made an edge by flips.
-use Rattle.std.specs.Prelude.{ℕ}
+use Rattle.std.specs.Prelude.{ℕ, ◌<◌, List, [], ◌∷◌}
 use Rattle.plane.specs.Side.{TurnsLeft}
-use Rattle.plane.specs.Tiling.{Triangulation, IsEdge, IsFace, TilesHull, vertex}
+use Rattle.plane.specs.Tiling.{Face, face, Triangulation, IsEdge, IsFace, TilesHull, vertex}
+use Rattle.plane_edits.specs.Change.{FacesChange}
+use Rattle.plane_paths.specs.Measure.{crossing_sum}
 use Rattle.plane_paths.specs.Path.{IsFreeOfVertices, IsCrossing, IsLastRight, IsLastLeft}
 
 -- where no edge crosses it, it is an edge
@@ -12,3 +14,8 @@ UncrossedIsEdge = (t : Triangulation) (i j : ℕ) → TilesHull t → IsFreeOfVe
 abbrev pub ChosenFlipIsConvex : Type 0
 ChosenFlipIsConvex = (t : Triangulation) (i j v x y z : ℕ) → TilesHull t → IsFreeOfVertices t i j → IsCrossing t i j v y → IsFace t v x y → IsFace t v y z → IsLastRight t i j v → IsLastLeft t i j v y
     → TurnsLeft (vertex t v) (vertex t x) (vertex t z) × TurnsLeft (vertex t x) (vertex t y) (vertex t z)
+
+-- and its flip lowers the sum of ranks
+abbrev pub ChosenFlipLowers : Type 0
+ChosenFlipLowers = (t : Triangulation) (new : List Face) (i j v x y z : ℕ) → TilesHull t → IsFreeOfVertices t i j → IsCrossing t i j v y → IsFace t v x y → IsFace t v y z → IsLastRight t i j v → IsLastLeft t i j v y
+    → FacesChange t.faces new (face v x y ∷ face v y z ∷ []) (face v x z ∷ face x y z ∷ []) → crossing_sum t.points new i j < crossing_sum t.points t.faces i j

@@ -1,2 +1,3 @@
 pub mod Path
+pub mod Measure
 pub mod Laws
