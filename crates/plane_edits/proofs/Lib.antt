@@ -18,3 +18,4 @@ pub mod RemovalInner
 pub mod RemovalMerge
 pub mod Renumbering
 pub mod Removals
+pub mod RemovalLine

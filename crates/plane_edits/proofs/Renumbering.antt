@@ -7,13 +7,13 @@ use Rattle.std.proofs.lemmas.Bool.{cases_eq}
 use Rattle.std.proofs.lemmas.Bool.Decides.{nat_tests}
 use Rattle.std.proofs.lemmas.List.{length-map, length-take, length-set, get_or-map, get_or-take, get_or-set_same, get_or-set_other}
 use Rattle.plane.specs.Fraction.{Point, Fraction, whole, WithinSegment}
-use Rattle.plane.specs.Side.{TurnsLeft}
+use Rattle.plane.specs.Side.{side, TurnsLeft}
 use Rattle.plane.specs.Pairs.{place, IsIndex}
-use Rattle.plane.specs.Tiling.{Face}
-use Rattle.plane_tiling.specs.Local.{total, around, along, IsCorner, LocalMesh}
+use Rattle.plane.specs.Tiling.{Face, AreNeighbours}
+use Rattle.plane_tiling.specs.Local.{total, around, along, IsCorner, LocalMesh, LineMesh, alone}
 use Rattle.plane_tiling.proofs.Totals.{Contains-head, Contains-later, Contains-cases, Contains-none, get_or_any}
-use Rattle.plane_edits.specs.RemovalLaws.{LastTakesFreedIndex}
-use Rattle.plane_edits.specs.Removal.{IsOther, LocalMeshWithout, new_index, renumbered, renumbered_pair}
+use Rattle.plane_edits.specs.RemovalLaws.{LastTakesFreedIndex, LastTakesFreedIndexOnLine}
+use Rattle.plane_edits.specs.Removal.{IsOther, LocalMeshWithout, LineMeshWithout, AreNeighboursBut, new_index, renumbered, renumbered_pair}
 
 -- ---- lists, each element renamed
 module _ {X Y : Type 0} (f : X → Y) where
@@ -159,6 +159,77 @@ module _ (v last : ℕ) where
       balanced = λ flow anti. (λ i. total_map (renumbered v last) (around flow) faces i +ℤ total_map (renumbered_pair v last) (along flow) outer i) ∙ m.balanced (λ a b. flow (new_index v last a) (new_index v last b)) (λ a b. anti (new_index v last a) (new_index v last b));
     }
 
+  -- ---- the mesh of a line
+  module _ (points new : List Point) (outer : List (ℕ × ℕ)) (v_index : v < suc last) (count : length points ≡ suc last) (count_new : length new ≡ last) (same : (j : ℕ) → j < last → place new j ≡ place points (old_index j)) (m : LineMeshWithout v points outer) where
+    line_other : (j : ℕ) → IsIndex new j → IsOther points v (old_index j)
+    line_other j h = let o = old_below j v_index (subst (λ z. j < z) count_new h) in (subst (λ z. old_index j < z) (sym count) o.0, o.1)
+
+    line_here : (k : ℕ) → IsOther points v k → IsIndex new (new_index v last k)
+    line_here k o = subst (λ z. new_index v last k < z) (sym count_new) (new_below k v_index (subst (λ z. k < z) count o.0) o.1)
+
+    line_old : (j : ℕ) → IsIndex new j → place new j ≡ place points (old_index j)
+    line_old j h = same j (subst (λ z. j < z) count_new h)
+
+    line_new : (k : ℕ) → IsOther points v k → place new (new_index v last k) ≡ place points k
+    line_new k o = same (new_index v last k) (new_below k v_index (subst (λ z. k < z) count o.0) o.1) ∙ ap (place points) (old_of_new k o.1)
+
+    line_back : (j : ℕ) → IsIndex new j → new_index v last (old_index j) ≡ j
+    line_back j h = new_of_old j (subst (λ z. j < z) count_new h)
+
+    -- neighbours afterwards were neighbours but for v
+    next_then : (i j : ℕ) → AreNeighbours (alone new) i j → AreNeighboursBut v points (old_index i) (old_index j)
+    next_then i j s = record {
+      apart = λ e. s.apart (sym (line_back i s.first) ∙ ap (new_index v last) e ∙ line_back j s.second);
+      first = line_other i s.first;
+      second = line_other j s.second;
+      none_between = λ k o w. s.none_between (new_index v last k) (line_here k o) (subst (λ (q : Fraction × Fraction × Fraction). WithinSegment q.0 q.1 q.2) (λ t. (sym (line_old i s.first) t, sym (line_old j s.second) t, sym (line_new k o) t)) w);
+    }
+
+    next_now : (i j : ℕ) → AreNeighboursBut v points i j → AreNeighbours (alone new) (new_index v last i) (new_index v last j)
+    next_now i j s = record {
+      apart = λ e. s.apart (new_apart i j s.first.1 s.second.1 e);
+      first = line_here i s.first;
+      second = line_here j s.second;
+      none_between = λ k h w. s.none_between (old_index k) (line_other k h) (subst (λ (q : Fraction × Fraction × Fraction). WithinSegment q.0 q.1 q.2) (λ t. (line_new i s.first t, line_new j s.second t, line_old k h t)) w);
+    }
+
+    line_entry : (i j : ℕ) → Contains outer (i, j) → IsOther points v i × IsOther points v j
+    line_entry i j h = let s = (m.neighbours i j).0 h in (s.first, s.second)
+
+    line_once : AllPairs (λ d e. d ≢ e) (map (renumbered_pair v last) outer)
+    line_once i j d low high e = m.once i j (get_or outer i d) low in_list (ends_same (get_or outer i (get_or outer i d)) (get_or outer j (get_or outer i d)) (entry i in_first) (entry j in_list) (sym (read i in_first) ∙ e ∙ read j in_list))
+      where
+        in_list : j < length outer
+        in_list = omega (arith, length-map outer (renumbered_pair v last))
+
+        in_first : i < length outer
+        in_first = omega (arith, length-map outer (renumbered_pair v last))
+
+        entry : (k : ℕ) → k < length outer → Contains outer (get_or outer k (get_or outer i d))
+        entry k h = (k, h, get_or_any outer k (get_or outer k (get_or outer i d)) (get_or outer i d) h)
+
+        read : (k : ℕ) → k < length outer → get_or (map (renumbered_pair v last) outer) k d ≡ renumbered_pair v last (get_or outer k (get_or outer i d))
+        read k h = get_or-map (renumbered_pair v last) outer k (get_or outer i d) d h
+
+        ends_same : (a b : ℕ × ℕ) → Contains outer a → Contains outer b → renumbered_pair v last a ≡ renumbered_pair v last b → a ≡ b
+        ends_same a b x y q = let s = line_entry a.0 a.1 x in let t = line_entry b.0 b.1 y in λ o. (new_apart a.0 b.0 s.0.1 t.0.1 (ap (λ z. z.0) q) o, new_apart a.1 b.1 s.1.1 t.1.1 (ap (λ z. z.1) q) o)
+
+    there : (i j : ℕ) → Contains (map (renumbered_pair v last) outer) (i, j) → AreNeighbours (alone new) i j
+    there i j h =
+        let r = from_map (renumbered_pair v last) outer (i, j) h in
+        subst (λ (o : ℕ × ℕ). AreNeighbours (alone new) o.0 o.1) r.2 (next_now r.0.0 r.0.1 ((m.neighbours r.0.0 r.0.1).0 r.1))
+
+    back_there : (i j : ℕ) → AreNeighbours (alone new) i j → Contains (map (renumbered_pair v last) outer) (i, j)
+    back_there i j s = subst (λ (o : ℕ × ℕ). Contains (map (renumbered_pair v last) outer) o) (λ t. (line_back i s.first t, line_back j s.second t)) (mapped (renumbered_pair v last) outer (old_index i, old_index j) ((m.neighbours (old_index i) (old_index j)).1 (next_then i j s)))
+
+    pub line_renumbering : LineMesh new (map (renumbered_pair v last) outer)
+    line_renumbering = record {
+      distinct = λ i j h k n e. m.distinct (old_index i) (old_index j) (line_other i h) (line_other j k) (λ s. n (sym (line_back i h) ∙ ap (new_index v last) s ∙ line_back j k)) (sym (line_old i h) ∙ e ∙ line_old j k);
+      straight = λ i j k a b c. (λ o. side (line_old i a o) (line_old j b o) (line_old k c o)) ∙ m.straight (old_index i) (old_index j) (old_index k) (line_other i a) (line_other j b) (line_other k c);
+      neighbours = λ i j. (there i j, back_there i j);
+      once = line_once;
+    }
+
 -- ---- the points that are left
 left_count : (points : List Point) (v : ℕ) (d : Point) → v < length points → length (swap_remove points v d) ≡ length points - 1
 left_count points v d h = omega (arith, length-take {A = Point} (length points - 1) (set points v (get_or points (length points - 1) d)), length-set {A = Point} points v (get_or points (length points - 1) d))
@@ -186,6 +257,15 @@ left_place points v d h j l = ap whole (go (cases_eq j v))
 
 pub last_takes_freed_index : LastTakesFreedIndex
 last_takes_freed_index points faces outer v d h m = renumbering v (length points - 1) points (swap_remove points v d) faces outer (below (length points) h) (count (length points) h) (left_count points v d h) (left_place points v d h) m
+  where
+    below : (n : ℕ) → v < n → v < suc (n - 1)
+    below n h = omega arith
+
+    count : (n : ℕ) → v < n → n ≡ suc (n - 1)
+    count n h = omega arith
+
+pub last_takes_freed_index_on_line : LastTakesFreedIndexOnLine
+last_takes_freed_index_on_line points outer v d h m = line_renumbering v (length points - 1) points (swap_remove points v d) outer (below (length points) h) (count (length points) h) (left_count points v d h) (left_place points v d h) m
   where
     below : (n : ℕ) → v < n → v < suc (n - 1)
     below n h = omega arith

@@ -1,7 +1,7 @@
 -- The faces round a vertex, and a mesh of all points but one.
-use Rattle.std.specs.Prelude.{◌≡◌, ◌≢◌, ◌⊎◌, ℕ, suc, ◌+◌, ◌<◌, List, [], nat_eq, if◌then◌else◌, Contains, AllPairs}
+use Rattle.std.specs.Prelude.{◌≡◌, ◌≢◌, ◌⊎◌, ◌↔◌, ℕ, suc, ◌+◌, ◌<◌, List, [], nat_eq, if◌then◌else◌, Contains, AllPairs}
 use Rattle.plane.specs.Fraction.{Point, WithinSegment}
-use Rattle.plane.specs.Side.{TurnsLeft}
+use Rattle.plane.specs.Side.{side, on, TurnsLeft}
 use Rattle.plane.specs.Pairs.{place, IsIndex}
 use Rattle.plane.specs.Tiling.{Face, face}
 use Rattle.plane_tiling.specs.Local.{AreBalanced, IsCorner}
@@ -30,6 +30,20 @@ pub record LocalMeshWithout (v : ℕ) (points : List Point) (faces : List Face) 
   pub bare : (e : ℕ × ℕ) → Contains outer e → (k : ℕ) → IsOther points v k → ¬ WithinSegment (place points e.0) (place points e.1) (place points k)
   pub once : AllPairs (λ d e. d ≢ e) outer
   pub balanced : AreBalanced faces outer
+
+-- i and j have no vertex strictly between them but perhaps v
+pub record AreNeighboursBut (v : ℕ) (points : List Point) (i j : ℕ) : Type 0 where
+  pub apart : i ≢ j
+  pub first : IsOther points v i
+  pub second : IsOther points v j
+  pub none_between : (k : ℕ) → IsOther points v k → ¬ WithinSegment (place points i) (place points j) (place points k)
+
+-- the same on one line
+pub record LineMeshWithout (v : ℕ) (points : List Point) (outer : List (ℕ × ℕ)) : Type 0 where
+  pub distinct : (i j : ℕ) → IsOther points v i → IsOther points v j → i ≢ j → place points i ≢ place points j
+  pub straight : (i j k : ℕ) → IsOther points v i → IsOther points v j → IsOther points v k → side (place points i) (place points j) (place points k) ≡ on
+  pub neighbours : (i j : ℕ) → Contains outer (i, j) ↔ AreNeighboursBut v points i j
+  pub once : AllPairs (λ d e. d ≢ e) outer
 
 -- where v has gone and the last vertex has taken its index: the index that k gets
 abbrev pub new_index : ℕ → ℕ → ℕ → ℕ

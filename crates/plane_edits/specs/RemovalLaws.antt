@@ -1,12 +1,12 @@
 -- What is proved of removals: an inner vertex can be brought to three neighbours, or to four with it strictly between two of them, and its faces merged; the last vertex takes the freed index.
-use Rattle.std.specs.Prelude.{◌≡◌, ◌⊎◌, ℕ, suc, ◌-◌, ◌≤◌, List, [], ◌∷◌, length, map, swap_remove}
+use Rattle.std.specs.Prelude.{◌≡◌, ◌⊎◌, ℕ, suc, ◌-◌, ◌≤◌, List, [], ◌∷◌, length, map, swap_remove, ◌≢◌, Contains}
 use Rattle.plane.specs.Fraction.{Point, WithinSegment}
 use Rattle.plane.specs.Side.{TurnsLeft}
 use Rattle.plane.specs.Pairs.{place, IsIndex}
 use Rattle.plane.specs.Tiling.{Face, face}
-use Rattle.plane_tiling.specs.Local.{LocalMesh}
+use Rattle.plane_tiling.specs.Local.{LocalMesh, LineMesh}
 use Rattle.plane_edits.specs.Change.{FacesChange, OuterChange}
-use Rattle.plane_edits.specs.Removal.{IsStar, LocalMeshWithout, renumbered, renumbered_pair}
+use Rattle.plane_edits.specs.Removal.{IsStar, LocalMeshWithout, LineMeshWithout, renumbered, renumbered_pair}
 
 -- at an inner vertex with four neighbours or more, the edge to a neighbour i + 1 lies across a strictly convex quadrilateral; or there are four, and the vertex is strictly between two opposite ones
 abbrev pub InnerStarFlips : Type 0
@@ -31,3 +31,18 @@ FourFacesMerge = (points : List Point) (faces new : List Face) (outer outer' : L
 abbrev pub LastTakesFreedIndex : Type 0
 LastTakesFreedIndex = (points : List Point) (faces : List Face) (outer : List (ℕ × ℕ)) (v : ℕ) (d : Point) → IsIndex points v → LocalMeshWithout v points faces outer
     → LocalMesh (swap_remove points v d) (map (renumbered v (length points - 1)) faces) (map (renumbered_pair v (length points - 1)) outer)
+
+-- ---- on one line
+-- the end v, whose only neighbour is i, goes
+abbrev pub EndOfLineGoes : Type 0
+EndOfLineGoes = (points : List Point) (outer now : List (ℕ × ℕ)) (v i : ℕ) → LineMesh points outer → Contains outer (v, i) → ((j : ℕ) → Contains outer (v, j) → j ≡ i)
+    → OuterChange outer now ((v, i) ∷ (i, v) ∷ []) [] → LineMeshWithout v points now
+
+-- v goes from between its neighbours i and j, which are joined
+abbrev pub MiddleOfLineGoes : Type 0
+MiddleOfLineGoes = (points : List Point) (outer now : List (ℕ × ℕ)) (v i j : ℕ) → LineMesh points outer → Contains outer (v, i) → Contains outer (v, j) → i ≢ j
+    → OuterChange outer now ((v, i) ∷ (i, v) ∷ (v, j) ∷ (j, v) ∷ []) ((i, j) ∷ (j, i) ∷ []) → LineMeshWithout v points now
+
+-- and the last vertex takes its index
+abbrev pub LastTakesFreedIndexOnLine : Type 0
+LastTakesFreedIndexOnLine = (points : List Point) (outer : List (ℕ × ℕ)) (v : ℕ) (d : Point) → IsIndex points v → LineMeshWithout v points outer → LineMesh (swap_remove points v d) (map (renumbered_pair v (length points - 1)) outer)

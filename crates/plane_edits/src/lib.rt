@@ -3,7 +3,7 @@
 
 ghost use Rattle.plane_edits.specs.Laws.{InsertionInsideKeeps, InsertionWithinSideKeeps, InsertionWithinOuterKeeps, FlipKeeps, FlipCovers, ExtensionBegins, ExtensionGoesOn, ExtensionGoesBack, ExtensionEnds, ExtensionOverLineEnds, InsertionPastEndKeeps, InsertionBetweenKeeps};
 ghost use Rattle.plane_edits.specs.LegalLaws.{OneQuestionForBoth, FailingIsConvex, FlipLowers, FlipLeavesSides, PassingIsDropped, ChangeLeavesSides, NoneLeftIsLocallyDelaunay, AwayIsNoEdge, FlipGoesAway, AwayIsBounded};
-ghost use Rattle.plane_edits.specs.RemovalLaws.{FourFacesMerge, InnerStarFlips, LastTakesFreedIndex, ThreeFacesMerge};
+ghost use Rattle.plane_edits.specs.RemovalLaws.{EndOfLineGoes, FourFacesMerge, InnerStarFlips, LastTakesFreedIndex, LastTakesFreedIndexOnLine, MiddleOfLineGoes, ThreeFacesMerge};
 
 /// A law: a vertex strictly inside a face, joined to its three corners, keeps a mesh local.
 pub fn insertion_inside_keeps()
@@ -133,4 +133,19 @@ pub fn four_faces_merge()
 /// A law: a local mesh of all vertices but one is, once the last one has taken its index, a local mesh of the points that are left.
 pub fn last_takes_freed_index()
     ensures { LastTakesFreedIndex }
+{}
+
+/// A law: where the end of a line of vertices goes, a line of the other vertices is left.
+pub fn end_of_line_goes()
+    ensures { EndOfLineGoes }
+{}
+
+/// A law: where a vertex goes from between two neighbours on a line, which are joined, a line of the other vertices is left.
+pub fn middle_of_line_goes()
+    ensures { MiddleOfLineGoes }
+{}
+
+/// A law: a line of all vertices but one is, once the last one has taken its index, a line of the points that are left.
+pub fn last_takes_freed_index_on_line()
+    ensures { LastTakesFreedIndexOnLine }
 {}

@@ -103,7 +103,7 @@ module _ (n : ℕ) (p : ℕ → Point) (outer : List (ℕ × ℕ)) (m : SignLine
     pub spot : ℕ → ℤ
     spot k = y.w *ℤ place_on (p c) (p d) (at p k)
 
-    mark : ℤ
+    pub mark : ℤ
     mark = place_on (p c) (p d) (vec y)
 
     from_vertex : (k : ℕ) → ahead (p c) (p d) (whole (p k)) y ≡ mark -ℤ spot k
@@ -143,7 +143,7 @@ module _ (n : ℕ) (p : ℕ → Point) (outer : List (ℕ × ℕ)) (m : SignLine
         none : (a b : ℤ) → a ≡ b → a -ℤ b ≡ pos 0
         none a b e = omega (arith, ints)
 
-    spot_at : (k : ℕ) → IsSame y (whole (p k)) → spot k ≡ mark
+    pub spot_at : (k : ℕ) → IsSame y (whole (p k)) → spot k ≡ mark
     spot_at k s = equal (ahead (p c) (p d) y (whole (p k))) (spot k) mark (to_vertex k) (level_if_same (p c) (p d) y (whole (p k)) s)
       where
         equal : (d a b : ℤ) → d ≡ a -ℤ b → d ≡ pos 0 → a ≡ b
@@ -163,7 +163,7 @@ module _ (n : ℕ) (p : ℕ → Point) (outer : List (ℕ × ℕ)) (m : SignLine
         read : (x z : ℤ) {s t : ℤ} → x ≡ s → z ≡ t → AreOneSign x z → AreOneSign s t
         read x z e f o = subst (λ (q : ℤ × ℤ). AreOneSign q.0 q.1) (λ i. (e i, f i)) o
 
-    order_k : (i j k : ℕ) → WithinSegment (whole (p i)) (whole (p j)) (whole (p k)) → ((spot i <ℤ spot k) × (spot k <ℤ spot j)) ⊎ (((spot j <ℤ spot k) × (spot k <ℤ spot i)) ⊎ ((spot i ≡ spot k) × (spot k ≡ spot j)))
+    pub order_k : (i j k : ℕ) → WithinSegment (whole (p i)) (whole (p j)) (whole (p k)) → ((spot i <ℤ spot k) × (spot k <ℤ spot j)) ⊎ (((spot j <ℤ spot k) × (spot k <ℤ spot i)) ⊎ ((spot i ≡ spot k) × (spot k ≡ spot j)))
     order_k i j k w = strictly (spot i) (spot j) (spot k) (scaled (ahead (p c) (p d) (whole (p i)) (whole (p k))) (ahead (p c) (p d) (whole (p k)) (whole (p j))) (of_vertices i k) (of_vertices k j) (ahead_if_within (p c) (p d) (whole (p i)) (whole (p j)) (whole (p k)) w))
       where
         scaled : (x z : ℤ) {s t : ℤ} → y.w *ℤ x ≡ s → y.w *ℤ z ≡ t → AreOneSign x z → AreOneSign s t
@@ -392,10 +392,10 @@ module _ (n : ℕ) (p : ℕ → Point) (outer : List (ℕ × ℕ)) (m : SignLine
 
   -- ---- the line's direction turned
   module _ (c d : ℕ) (c_index : c < n) (d_index : d < n) (c_not_d : c ≢ d) where
-    turned_level : bracket (at p c) (at p d) (vec y) ≡ pos 0 → bracket (at p d) (at p c) (vec y) ≡ pos 0
+    pub turned_level : bracket (at p c) (at p d) (vec y) ≡ pos 0 → bracket (at p d) (at p c) (vec y) ≡ pos 0
     turned_level e = bracket-swap (at p d) (at p c) (vec y) ∙ ap neg_ℤ e
 
-    turned_spots : (level : bracket (at p c) (at p d) (vec y) ≡ pos 0) (level' : bracket (at p d) (at p c) (vec y) ≡ pos 0) (k : ℕ) → spot d c d_index c_index (λ e. c_not_d (sym e)) level' k -ℤ mark d c d_index c_index (λ e. c_not_d (sym e)) level' ≡ mark c d c_index d_index c_not_d level -ℤ spot c d c_index d_index c_not_d level k
+    pub turned_spots : (level : bracket (at p c) (at p d) (vec y) ≡ pos 0) (level' : bracket (at p d) (at p c) (vec y) ≡ pos 0) (k : ℕ) → spot d c d_index c_index (λ e. c_not_d (sym e)) level' k -ℤ mark d c d_index c_index (λ e. c_not_d (sym e)) level' ≡ mark c d c_index d_index c_not_d level -ℤ spot c d c_index d_index c_not_d level k
     unfolding spot mark place_on
     turned_spots level level' k = ring_in ((p c).x ∷ (p c).y ∷ (p d).x ∷ (p d).y ∷ (p k).x ∷ (p k).y ∷ y.x ∷ y.y ∷ y.w ∷ [])
         (λ cx cy dx dy kx ky yx yy yw. yw ⊗ ((cx ⊖ dx) ⊗ (kx ⊖ num 1 ⊗ dx) ⊕ (cy ⊖ dy) ⊗ (ky ⊖ num 1 ⊗ dy)) ⊖ ((cx ⊖ dx) ⊗ (yx ⊖ yw ⊗ dx) ⊕ (cy ⊖ dy) ⊗ (yy ⊖ yw ⊗ dy)))

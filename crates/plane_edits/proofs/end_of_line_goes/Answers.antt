@@ -1,0 +1,5 @@
+use Rattle.plane_edits.proofs.RemovalLine.{end_of_line_goes}
+use Rattle.plane_edits.proofs.end_of_line_goes.Goals as goal
+
+pub returns : goal.returns
+returns c = end_of_line_goes

@@ -1,0 +1,5 @@
+use Rattle.plane_edits.proofs.RemovalLine.{middle_of_line_goes}
+use Rattle.plane_edits.proofs.middle_of_line_goes.Goals as goal
+
+pub returns : goal.returns
+returns c = middle_of_line_goes
