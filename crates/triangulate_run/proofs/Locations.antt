@@ -1,16 +1,22 @@
 -- Where a point is, as the replies write it: the lesser end first, the least corner first.
-use Rattle.std.proofs.Common.{◌≡◌, ◌≢◌, ℕ, inl, inr, length, arith, sym}
+use Rattle.std.proofs.Common.{◌≡◌, List, ◌≢◌, ℕ, inl, inr, length, arith, sym, cond, ltb, lt-ltb, le-ltb, ◌≤◌, ◌<◌}
 use Rattle.std.specs.Prelude.{ℤ, ◌+ℤ◌, ◌*ℤ◌}
 use Rattle.std.proofs.lemmas.Int.{ints}
-use Rattle.plane.specs.Fraction.{Fraction, IsPositive, WithinSegment}
+use Rattle.plane.specs.Fraction.{Point, whole, Fraction, IsPositive, WithinSegment}
+use Rattle.std.proofs.lemmas.Bool.{cases_lt}
 use Rattle.plane.specs.Pairs.{EachPairOnce}
 use Rattle.plane.specs.Tiling.{Triangulation, IsEdge, IsTiling, vertex}
 use Rattle.plane.specs.Location.{IsLocation, on_edge, on_face}
 use Rattle.plane.proofs.Means.{two_weights, mean_of_two}
 use Rattle.plane.proofs.Triangles.{turned_inside}
 use Rattle.triangulate_run.specs.Corners.{least_first}
-use Rattle.triangulate_run.specs.Answer.{AreSoMany}
-use Rattle.triangulate_run.proofs.FaceList.{is_first, is_second, is_third, least, first_least, second_least, third_least, turned_face, differ}
+use Rattle.triangulate_run.specs.Answer.{AreSoMany, IsThere, MayLocate}
+use Rattle.triangulate_run.specs.Points.{IsListed}
+use Rattle.triangulate_run.specs.declared.points.SheetPoint.{SheetPoint}
+use Rattle.triangulate_run.specs.declared.corners.Corners.{Corners}
+use Rattle.triangulate_run.specs.declared.reply.Reply.{Reply}
+use Rattle.triangulate_run.specs.declared.reply.Reply.TheVariants as reply
+use Rattle.triangulate_run.proofs.FaceList.{is_first, is_second, is_third, least, first_least, second_least, third_least, turned_face, differ, from_least_of}
 
 swapped_sum : (n x y : ℤ) → n ≡ x +ℤ y → n ≡ y +ℤ x
 swapped_sum n x y e = omega (arith, ints)
@@ -62,3 +68,29 @@ once_of t (inr line) = line.once
 
 pub edges_counted : (t : Triangulation) → IsTiling t → (n : ℕ) → n ≡ length t.edges → AreSoMany t.edges n
 edges_counted t tiles n e = record { different = t.edges; same = λ i j. (λ h. h, λ h. h); once = once_of t tiles; number = e }
+
+-- ---- as replies
+pub edge_there : (t : Triangulation) → IsTiling t → (p : Point) (i j x y : ℕ) (r : Reply) → x ≡ i → y ≡ j → r ≡ cond (ltb x y) (reply.Edge x y) (reply.Edge y x)
+    → IsLocation t (whole p) (on_edge i j) → IsThere t p r
+edge_there t tiles p i j x y r ex ey e h = rw (e, ex, ey) (elim (cases_lt i j) [
+  | inl less ↦ rw (lt-ltb i j less) (h, less)
+  | inr more ↦ (let apart = ends_differ t tiles i j h.0 in rw (le-ltb i j more) (on_edge_back t (whole p) i j h, lesser i j more apart))
+])
+  where
+    lesser : (i j : ℕ) → j ≤ i → i ≢ j → j < i
+    lesser i j more apart = grind arith
+
+pub face_there : (t : Triangulation) → IsTiling t → (p : Point) (i j k : ℕ) (c : Corners) → c ≡ least_first i j k → IsLocation t (whole p) (on_face i j k) → IsThere t p (reply.Face c)
+face_there t tiles p i j k c e h = rw e (on_face_from_least t (whole p) tiles i j k h, from_least_of t tiles i j k h.0)
+
+pub located : (points : List SheetPoint) (t : Triangulation) (p : Point) (r : Reply) → IsListed points p → IsThere t p r → MayLocate points t p r
+located points t p reply.BadLine listed there = absurd there
+located points t p reply.UnknownPoint listed there = absurd there
+located points t p (reply.Refused error) listed there = absurd there
+located points t p (reply.Vertex i) listed there = (listed, there)
+located points t p (reply.Edge i j) listed there = (listed, there)
+located points t p (reply.Face c) listed there = (listed, there)
+located points t p reply.Outside listed there = (listed, there)
+located points t p reply.NoTriangulation listed there = (listed, there)
+located points t p (reply.Counts v e f c) listed there = absurd there
+located points t p (reply.Faces list) listed there = absurd there

@@ -1,6 +1,6 @@
 -- Which reply a command may get, and what it makes of the stage.
 use Rattle.std.specs.Prelude.{◌≡◌, ◌⊎◌, ◌↔◌, ℕ, ◌<◌, ◌≤◌, ◌+◌, ◌*◌, ℤ, List, length, All, AllPairs, Contains, ⊤}
-use Rattle.plane.specs.Fraction.{whole}
+use Rattle.plane.specs.Fraction.{Point, whole}
 use Rattle.plane.specs.Pairs.{SamePairs, EachPairOnce}
 use Rattle.plane.specs.Plain.{Replaces, Appends, DifferInPosition}
 use Rattle.plane.specs.Tests.{InRange}
@@ -69,15 +69,19 @@ pub record IsFaceFromLeast (t : Triangulation) (c : Corners) : Type 0 where
   pub before_second : c.first < c.second
   pub before_third : c.first < c.third
 
+-- p is there
+abbrev pub IsThere : Triangulation → Point → Reply → Type 0
+IsThere t p (reply.Vertex i) = IsLocation t (whole p) (on_vertex i)
+IsThere t p (reply.Edge i j) = IsLocation t (whole p) (on_edge i j) × (i < j)
+IsThere t p (reply.Face c) = IsLocation t (whole p) (on_face c.first c.second c.third) × IsFaceFromLeast t c
+IsThere t p reply.Outside = (i : ℕ) × (j : ℕ) × IsLocation t (whole p) (outside_hull i j)
+IsThere t p reply.NoTriangulation = IsLocation t (whole p) no_triangulation
+IsThere t p _ = ⊥
+
 -- where p is, if it is in the list
-abbrev pub MayLocate : List SheetPoint → Triangulation → Point2 ℤ → Reply → Type 0
-MayLocate points t p reply.UnknownPoint = ¬ IsListed points (position p)
-MayLocate points t p (reply.Vertex i) = IsListed points (position p) × IsLocation t (whole (position p)) (on_vertex i)
-MayLocate points t p (reply.Edge i j) = IsListed points (position p) × IsLocation t (whole (position p)) (on_edge i j) × (i < j)
-MayLocate points t p (reply.Face c) = IsListed points (position p) × IsLocation t (whole (position p)) (on_face c.first c.second c.third) × IsFaceFromLeast t c
-MayLocate points t p reply.Outside = IsListed points (position p) × ((i : ℕ) × (j : ℕ) × IsLocation t (whole (position p)) (outside_hull i j))
-MayLocate points t p reply.NoTriangulation = IsListed points (position p) × IsLocation t (whole (position p)) no_triangulation
-MayLocate points t p _ = ⊥
+abbrev pub MayLocate : List SheetPoint → Triangulation → Point → Reply → Type 0
+MayLocate points t p reply.UnknownPoint = ¬ IsListed points p
+MayLocate points t p r = IsListed points p × IsThere t p r
 
 -- n is the number of pairs, an order of the ends apart
 pub record AreSoMany (pairs : List (ℕ × ℕ)) (n : ℕ) : Type 0 where
@@ -92,6 +96,10 @@ pub record AreCounts (s : Stage) (vertices edges faces constraints : ℕ) : Type
   pub faces_are : faces ≡ length s.triangulation.faces
   pub constraints_are : AreSoMany s.plain.constraints constraints
 
+abbrev pub MayCount : Stage → Reply → Type 0
+MayCount s (reply.Counts v e f c) = AreCounts s v e f c
+MayCount s _ = ⊥
+
 -- each face once, sorted
 pub record ListsFaces (t : Triangulation) (list : List Corners) : Type 0 where
   pub faces : (c : Corners) → Contains list c ↔ IsFaceFromLeast t c
@@ -105,9 +113,8 @@ MayList t _ = ⊥
 -- the command may get the reply where old stood, and leave new. What is not there yet is no command
 abbrev pub MayReply : List SheetPoint → Stage → Command → Reply → Stage → Type 0
 MayReply points old (Insert c) r new = MayInsert points old (point_at c) r new
-MayReply points old (Locate c) r new = MayLocate points old.triangulation (point_at c) r × (new ≡ old)
-MayReply points old Counts (reply.Counts v e f c) new = AreCounts old v e f c × (new ≡ old)
-MayReply points old Counts _ new = ⊥
+MayReply points old (Locate c) r new = MayLocate points old.triangulation (position (point_at c)) r × (new ≡ old)
+MayReply points old Counts r new = MayCount old r × (new ≡ old)
 MayReply points old Faces r new = MayList old.triangulation r × (new ≡ old)
 MayReply points old (Remove i) r new = (r ≡ reply.BadLine) × (new ≡ old)
 MayReply points old (Constrain i j) r new = (r ≡ reply.BadLine) × (new ≡ old)

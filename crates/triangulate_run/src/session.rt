@@ -18,6 +18,9 @@ use command_grammar::command::Command;
 use std::io::{Read, Write};
 use watched::{Failed, Watched};
 
+#[cfg(test)]
+mod tests;
+
 /// What answers commands.
 pub(crate) trait Engine {
     ghost listed: { Self → List SheetPoint };
