@@ -3,9 +3,10 @@ use Rattle.std.proofs.Common.{◌≡◌, ◌≢◌, ◌⊎◌, ℕ, zero, suc, �
 use Rattle.std.proofs.lemmas.Bool.{cases_eq, eq-eqb, eqb-true}
 use Rattle.std.proofs.lemmas.Bool.Decides.{nat_tests}
 use Rattle.half_edge_links.specs.Mesh.{Mesh, origin, next, prev, face, rev, IsSound, IsValid, IsClosed}
+use Rattle.half_edge_links.specs.Flip.{IsFlippable}
 use Rattle.half_edge_links.specs.Remove.{IsRemovable}
 use Rattle.half_edge_links.specs.Peel.{IsPeelable, IsWheel, IsStrip, turn, spoke}
-use Rattle.half_edge_links.proofs.Rev.{rev-rev, rev_within}
+use Rattle.half_edge_links.proofs.Rev.{rev-rev, rev_within, rev_differs}
 use Rattle.half_edge_links.proofs.Walks.{among_steps, to_steps, from_steps, steps_closed, step_add, step_back}
 use Rattle.half_edge_links.proofs.Triangles.{IsTriangle, triangle_at, same_loop}
 
@@ -240,3 +241,24 @@ full_strip m h k v f =
 
 pub strip_of : (m : Mesh) (h k : ℕ) → IsFullStrip m h k → IsStrip m h k
 strip_of m h k f = record { within = f.within; outer = f.outer; inner = f.inner; last = f.last; gap = f.gap; far = f.far }
+
+-- the two faces of an edge differ, if one is an inner one
+pub faces_apart : (m : Mesh) (e : ℕ) → IsValid m → e < length m.half_edges → 0 < face m e → face m e ≢ face m (rev e)
+faces_apart m e v within inner same =
+    let s = v.sound in
+    let t : IsTriangle m e = triangle_at m e s within inner in
+    let twin_in = rev_within e _ s.even within in
+    let here = s.edges e within in
+    elim (same_loop m e (rev e) s within twin_in inner (sym same)) [
+      | inl is ↦ rev_differs e is
+      | inr b ↦ elim b [
+        | inl is ↦
+            let back : next m (rev e) ≡ prev m e = ap (next m) is ∙ t.next_next in
+            v.apart (prev m e) t.prev_in (ap (origin m) (sym back) ∙ (s.edges (rev e) twin_in).starts ∙ ap (origin m) (rev-rev e ∙ sym t.next_prev) ∙ (s.edges (prev m e) t.prev_in).starts)
+        | inr is ↦ v.apart (next m e) t.next_in (here.starts ∙ ap (origin m) (is ∙ sym t.next_next) ∙ (s.edges (next m e) t.next_in).starts)
+      ]
+    ]
+
+-- so an edge with inner faces on both sides has two of them
+pub flippable : (m : Mesh) (e : ℕ) → IsValid m → e < length m.half_edges → 0 < face m e → 0 < face m (rev e) → IsFlippable m e
+flippable m e v within inner twin_inner = record { within = within; inner = inner; twin_inner = twin_inner; apart = faces_apart m e v within inner }

@@ -1,20 +1,13 @@
 -- Putting a vertex into a face keeps a mesh sound.
 use Rattle.std.proofs.Common.{◌≡◌, ◌≢◌, ℕ, ◌+◌, ◌%◌, ◌<◌, ◌≤◌, length, Some, IsSome, refl, sym, ap, ◌∙◌, inl, inr, arith}
 use Rattle.std.proofs.lemmas.Bool.{cases_eq}
-use Rattle.std.proofs.lemmas.Grind.{common_steps}
 use Rattle.half_edge_links.specs.declared.records.HalfEdge.{HalfEdge}
 use Rattle.half_edge_links.specs.Mesh.{Mesh, edge_at, origin, next, prev, face, face_edge, out_edge, rev, IsSound, IsSoundEdge, IsInnerEdge, IsAlone}
 use Rattle.half_edge_links.specs.Insert.{Inserts}
 use Rattle.half_edge_links.proofs.Rev.{rev_within}
+use Rattle.half_edge_links.proofs.Parts.{rev_of_even, rev_of_odd}
 use Rattle.half_edge_links.proofs.Kept.{sound_kept}
 use Rattle.half_edge_links.proofs.Triangles.{IsTriangle, triangle_at, same_loop}
-
--- the two sides of a new edge
-rev_of_even : (n : ℕ) → n % 2 ≡ 0 → rev n ≡ n + 1
-rev_of_even n even = grind (arith, common_steps)
-
-rev_of_odd : (n : ℕ) → n % 2 ≡ 0 → rev (n + 1) ≡ n
-rev_of_odd n even = grind (arith, common_steps)
 
 -- an edge is none of those round the face
 pub record IsAway (m : Mesh) (a h : ℕ) : Type 0 where
