@@ -6,3 +6,4 @@ pub mod Steps
 pub mod Moves
 pub mod Walks
 pub mod Loops
+pub mod Joined

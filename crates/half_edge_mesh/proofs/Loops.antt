@@ -14,7 +14,7 @@ use Rattle.half_edge_mesh.specs.Rounds.{walk, GivesRound, IsOuterLoop, GivesOute
 use Rattle.half_edge_mesh.proofs.Walks.{walk-list}
 
 -- a round has no more edges than the mesh
-round_fits : (m : Mesh) (u first count : ℕ) → IsValid m → IsRound m u first count → count ≤ length m.half_edges
+pub round_fits : (m : Mesh) (u first count : ℕ) → IsValid m → IsRound m u first count → count ≤ length m.half_edges
 round_fits m u first count v r =
     let k = comes_back (turn m) (length m.half_edges) (λ a a_in. turn_in m v a a_in) (turn_one m v.sound) first (r.within 0) in
     elim (cases_lt k.0 count) [

@@ -11,6 +11,7 @@ mod inside;
 mod iterators;
 mod line;
 mod lookup;
+mod neighbors;
 mod outside;
 mod room;
 mod rounds;
