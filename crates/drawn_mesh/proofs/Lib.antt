@@ -5,3 +5,5 @@ pub mod OuterChanges
 pub mod MeshEdits
 pub mod MeshExtension
 pub mod MeshLines
+pub mod WorkLists
+pub mod MeshLegal
