@@ -19,3 +19,5 @@ pub mod RemovalMerge
 pub mod Renumbering
 pub mod Removals
 pub mod RemovalLine
+pub mod RemovalHull
+pub mod RemovalHulls

@@ -34,7 +34,7 @@ search P Q d low (suc count) = go (search P Q d low count) (d (low + count))
     go (inr none) (inr y) = inr (λ i h k. elim (last_or i k) [ inl l ↦ none i h l | inr e ↦ subst Q (sym e) y ])
 
 -- a bracket as a linear form of its last point
-bracket_is_form : (a b z : Vec3) → bracket a b z ≡ form (a.y *ℤ b.w -ℤ a.w *ℤ b.y) (a.w *ℤ b.x -ℤ a.x *ℤ b.w) (a.x *ℤ b.y -ℤ a.y *ℤ b.x) z
+pub bracket_is_form : (a b z : Vec3) → bracket a b z ≡ form (a.y *ℤ b.w -ℤ a.w *ℤ b.y) (a.w *ℤ b.x -ℤ a.x *ℤ b.w) (a.x *ℤ b.y -ℤ a.y *ℤ b.x) z
 unfolding bracket
 bracket_is_form a b z = ring_over vec3 [] (a ∷ b ∷ z ∷ []) bracketᵖ (λ a b z. (a.y ⊗ b.w ⊖ a.w ⊗ b.y) ⊗ z.x ⊕ (a.w ⊗ b.x ⊖ a.x ⊗ b.w) ⊗ z.y ⊕ (a.x ⊗ b.y ⊖ a.y ⊗ b.x) ⊗ z.w) tt
 
@@ -50,7 +50,7 @@ turns_at_farthest o v a b c ab bc at_b low not_high =
     (subst (λ (z : ℤ × ℤ). z.0 ≤ℤ z.1) (λ i. (bracket_is_form (lift o) (lift v) (lift c) i, bracket_is_form (lift o) (lift v) (lift b) i)) not_high)
 
 -- numbers that begin at or below 0, and do not rise at their end, which is above 0: somewhere they rise, and then do not
-descend : (g : ℕ → ℤ) → g 1 ≤ℤ pos 0 → (t : ℕ) → pos 0 <ℤ g (suc (suc t)) → g (suc (suc (suc t))) ≤ℤ g (suc (suc t)) → (s : ℕ) × (s ≤ t) × (pos 0 <ℤ g (suc (suc s))) × (g (suc s) <ℤ g (suc (suc s))) × (g (suc (suc (suc s))) ≤ℤ g (suc (suc s)))
+pub descend : (g : ℕ → ℤ) → g 1 ≤ℤ pos 0 → (t : ℕ) → pos 0 <ℤ g (suc (suc t)) → g (suc (suc (suc t))) ≤ℤ g (suc (suc t)) → (s : ℕ) × (s ≤ t) × (pos 0 <ℤ g (suc (suc s))) × (g (suc s) <ℤ g (suc (suc s))) × (g (suc (suc (suc s))) ≤ℤ g (suc (suc s)))
 descend g low zero h k = (0, omega arith, h, below (g 1) (g 2) low h, k)
   where
     below : (a b : ℤ) → a ≤ℤ pos 0 → pos 0 <ℤ b → a <ℤ b

@@ -6,3 +6,4 @@ pub mod Away
 pub mod LegalLaws
 pub mod Removal
 pub mod RemovalLaws
+pub mod RemovalHull

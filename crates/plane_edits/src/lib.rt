@@ -3,6 +3,7 @@
 
 ghost use Rattle.plane_edits.specs.Laws.{InsertionInsideKeeps, InsertionWithinSideKeeps, InsertionWithinOuterKeeps, FlipKeeps, FlipCovers, ExtensionBegins, ExtensionGoesOn, ExtensionGoesBack, ExtensionEnds, ExtensionOverLineEnds, InsertionPastEndKeeps, InsertionBetweenKeeps};
 ghost use Rattle.plane_edits.specs.LegalLaws.{OneQuestionForBoth, FailingIsConvex, FlipLowers, FlipLeavesSides, PassingIsDropped, ChangeLeavesSides, NoneLeftIsLocallyDelaunay, AwayIsNoEdge, FlipGoesAway, AwayIsBounded};
+ghost use Rattle.plane_edits.specs.RemovalHull.{CornerStarFlips, FlatStarFlips};
 ghost use Rattle.plane_edits.specs.RemovalLaws.{EndOfLineGoes, FourFacesMerge, InnerStarFlips, LastTakesFreedIndex, LastTakesFreedIndexOnLine, MiddleOfLineGoes, ThreeFacesMerge};
 
 /// A law: a vertex strictly inside a face, joined to its three corners, keeps a mesh local.
@@ -148,4 +149,14 @@ pub fn middle_of_line_goes()
 /// A law: a line of all vertices but one is, once the last one has taken its index, a line of the points that are left.
 pub fn last_takes_freed_index_on_line()
     ensures { LastTakesFreedIndexOnLine }
+{}
+
+/// A law: at a vertex on a flat side of the hull with three faces or more an edge can be flipped.
+pub fn flat_star_flips()
+    ensures { FlatStarFlips }
+{}
+
+/// A law: at a corner of the hull the edge to a neighbour can be flipped wherever the neighbours turn left there.
+pub fn corner_star_flips()
+    ensures { CornerStarFlips }
 {}

@@ -1,0 +1,24 @@
+-- The removal of a vertex of the hull, in the words of specs/.
+use Rattle.std.proofs.Common.{◌≡◌, ℕ, suc, ◌≤◌, length, ap, ◌∙◌, arith}
+use Prim.Native.Nat.{◌-◌}
+use Rattle.plane.specs.Pairs.{place}
+use Rattle.plane.proofs.Sides.{if_left, if_on, left_if}
+use Rattle.std.specs.Prelude.{neg_ℤ}
+use Rattle.plane.proofs.BracketIdentities.{bracket-swap}
+use Rattle.plane_tiling.proofs.Counting.{at}
+use Rattle.plane_tiling.proofs.Tiles.{point_at, by_signs}
+use Rattle.plane_edits.specs.RemovalHull.{FlatStarFlips, CornerStarFlips}
+use Rattle.plane_edits.proofs.RemovalHull as H
+
+pub corner_star_flips : CornerStarFlips
+corner_star_flips points faces outer v k nb m star corner i h =
+    left_if (place points v) (place points (nb i)) (place points (nb (suc (suc i)))) (H.skip (length points) (point_at points) faces outer (by_signs points faces outer m) v k nb star (if_left (place points v) (place points (nb 0)) (place points (nb k)) corner) i h)
+
+pub flat_star_flips : FlatStarFlips
+flat_star_flips points faces outer v k nb m star three flat =
+    let r = H.flat_flips (length points) (point_at points) faces outer (by_signs points faces outer m) v k nb star
+    (bracket-swap (at (point_at points) v) (at (point_at points) (nb 0)) (at (point_at points) (nb k)) ∙ ap neg_ℤ (if_on (place points (nb 0)) (place points v) (place points (nb k)) flat)) (k - 3) (longer k three) in
+    (r.0, r.1, left_if (place points (nb r.0)) (place points (nb (suc r.0))) (place points (nb (suc (suc r.0)))) r.2, left_if (place points v) (place points (nb r.0)) (place points (nb (suc (suc r.0)))) r.3)
+  where
+    longer : (k : ℕ) → 3 ≤ k → suc (suc (suc (k - 3))) ≡ k
+    longer k h = omega arith

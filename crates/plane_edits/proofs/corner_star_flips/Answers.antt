@@ -1,0 +1,5 @@
+use Rattle.plane_edits.proofs.RemovalHulls.{corner_star_flips}
+use Rattle.plane_edits.proofs.corner_star_flips.Goals as goal
+
+pub returns : goal.returns
+returns c = corner_star_flips

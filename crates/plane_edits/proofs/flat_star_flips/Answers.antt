@@ -1,0 +1,5 @@
+use Rattle.plane_edits.proofs.RemovalHulls.{flat_star_flips}
+use Rattle.plane_edits.proofs.flat_star_flips.Goals as goal
+
+pub returns : goal.returns
+returns c = flat_star_flips

@@ -1,0 +1,26 @@
+-- What is proved of the removal of a vertex on the hull: which of its inner edges can be flipped away.
+use Rattle.std.specs.Prelude.{◌≡◌, ℕ, suc, ◌<◌, ◌≤◌, List, Contains}
+use Rattle.plane.specs.Fraction.{Point}
+use Rattle.plane.specs.Side.{side, on, TurnsLeft}
+use Rattle.plane.specs.Pairs.{place}
+use Rattle.plane.specs.Tiling.{Face}
+use Rattle.plane_tiling.specs.Local.{LocalMesh}
+use Rattle.plane_edits.specs.Change.{IsFaceOf}
+
+-- the faces at v, one after another to the left, from the outer edge that reaches v to the one that leaves it: their corners besides v are neighbours 0, 1, .., k
+pub record IsHullStar (faces : List Face) (outer : List (ℕ × ℕ)) (v k : ℕ) (neighbour : ℕ → ℕ) : Type 0 where
+  pub around : (i : ℕ) → i < k → IsFaceOf faces v (neighbour i) (neighbour (suc i))
+  pub only : (a b : ℕ) → IsFaceOf faces v a b → (i : ℕ) × (i < k) × (neighbour i ≡ a) × (neighbour (suc i) ≡ b)
+  pub arrives : Contains outer (neighbour 0, v)
+  pub leaves : Contains outer (v, neighbour k)
+
+-- at a vertex on a flat side of the hull, with three faces or more, the edge to a neighbour i + 1 lies across a strictly convex quadrilateral
+abbrev pub FlatStarFlips : Type 0
+FlatStarFlips = (points : List Point) (faces : List Face) (outer : List (ℕ × ℕ)) (v k : ℕ) (neighbour : ℕ → ℕ) → LocalMesh points faces outer → IsHullStar faces outer v k neighbour → 3 ≤ k
+    → side (place points (neighbour 0)) (place points v) (place points (neighbour k)) ≡ on
+    → (i : ℕ) × (suc i < k) × TurnsLeft (place points (neighbour i)) (place points (neighbour (suc i))) (place points (neighbour (suc (suc i)))) × TurnsLeft (place points v) (place points (neighbour i)) (place points (neighbour (suc (suc i))))
+
+-- at a corner of the hull, the edge to a neighbour i + 1 lies across a strictly convex quadrilateral wherever the neighbours turn left there
+abbrev pub CornerStarFlips : Type 0
+CornerStarFlips = (points : List Point) (faces : List Face) (outer : List (ℕ × ℕ)) (v k : ℕ) (neighbour : ℕ → ℕ) → LocalMesh points faces outer → IsHullStar faces outer v k neighbour
+    → TurnsLeft (place points v) (place points (neighbour 0)) (place points (neighbour k)) → (i : ℕ) → suc i < k → TurnsLeft (place points v) (place points (neighbour i)) (place points (neighbour (suc (suc i))))
