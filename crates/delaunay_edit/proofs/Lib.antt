@@ -6,3 +6,4 @@ pub mod Questions
 pub mod MeshParts
 pub mod Nearest
 pub mod Locating
+pub mod Counts

@@ -8,7 +8,6 @@ use Rattle.plane.specs.Tests.{InRange}
 use Rattle.plane.specs.Pairs.{place}
 use Rattle.plane.specs.Tiling.{Face, IsTiling}
 use Rattle.plane_tiling.specs.Local.{IsMesh}
-use Rattle.plane_tiling.proofs.Totals.{Contains-none}
 use Rattle.plane_tiling.proofs.Meshes.{meshes_tile}
 use Rattle.plane_tiling.proofs.LineMeshes.{no_vertex}
 use Rattle.delaunay_edit.specs.Known.{point_at}

@@ -3,3 +3,4 @@ pub mod State
 pub mod Shape
 pub mod Location
 pub mod Known
+pub mod Elements

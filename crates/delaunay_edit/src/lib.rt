@@ -1,6 +1,7 @@
 //! The edits and queries that plain and constrained triangulations share.
 #![tactic(auto)]
 
+mod elements;
 mod location;
 mod position_in_triangulation;
 mod predicates;

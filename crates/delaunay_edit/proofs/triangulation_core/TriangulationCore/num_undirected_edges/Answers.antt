@@ -1,0 +1,7 @@
+use Rattle.std.proofs.Common.{◌∙◌}
+use Rattle.delaunay_edit.specs.State.{state_of}
+use Rattle.delaunay_edit.proofs.Counts.{count_of_edges}
+use Rattle.delaunay_edit.proofs.triangulation_core.TriangulationCore.num_undirected_edges.Goals as goal
+
+pub returns-clause-value : goal.returns-clause-value
+returns-clause-value g c = rw (← c.self.view_is) (c.num_undirected_edges.ensures.value ∙ count_of_edges g.V.HasPosition.place (state_of c.self.inside.dcel) c.self.invariant)

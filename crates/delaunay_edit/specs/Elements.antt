@@ -1,0 +1,23 @@
+-- The vertices, edges and faces of a triangulation, as handles and iterators give them.
+use Rattle.std.specs.Prelude.{◌≡◌, ℕ, ◌<◌, ◌≤◌, List, length}
+use Rattle.std.specs.List.{range_with_len}
+use Rattle.std.specs.Borrow.{Bor}
+use Rattle.half_edge_mesh.specs.Contents.{Contents}
+use Rattle.half_edge_mesh.specs.Left.{each_in}
+use Rattle.delaunay_edit.specs.declared.position_in_triangulation.PositionInTriangulation.{PositionInTriangulation}
+use Rattle.delaunay_edit.specs.declared.position_in_triangulation.PositionInTriangulation.TheVariants.{OnVertex, OnEdge, OnFace, OutsideOfConvexHull, NoTriangulation}
+use Rattle.delaunay_edit.specs.State.{State, state_of}
+
+-- the given are elements of a triangulation in this state: so many, by rising index from first on
+pub record GivesElements {V D U F : Type 0} (s : State V D U F) (first count : ℕ) (given : List (Bor (Contents V D U F) × ℕ)) : Type 0 where
+  pub mesh : Bor (Contents V D U F)
+  pub state : state_of mesh.now ≡ s
+  pub elements : given ≡ each_in mesh (range_with_len first count)
+
+-- the handle in the answer to a location is one of the triangulation, and its face is an inner one
+abbrev pub HasElement : {V D U F : Type 0} → State V D U F → PositionInTriangulation → Type 0
+HasElement s (OnVertex v) = v < length s.vertices
+HasElement s (OnEdge e) = e < length s.directed
+HasElement s (OnFace f) = (0 < f) × (f ≤ length s.faces)
+HasElement s (OutsideOfConvexHull e) = e < length s.directed
+HasElement s NoTriangulation = Unit {0}
