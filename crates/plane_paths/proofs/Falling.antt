@@ -11,6 +11,7 @@ use Rattle.plane.proofs.Steps.{weak, zero_or_left, right_not_zero, product_zero_
 use Rattle.plane.proofs.Solver.{Poly, num, ◌⊕◌, ◌⊖◌, ◌⊗◌, ⊝, ring_in, ring_in_from, ring_over}
 use Rattle.plane.proofs.Bracket.{Pointᵖ, points as points_shape}
 use Rattle.plane_edits.specs.Legal.{point_of}
+use Rattle.plane_paths.proofs.Turns.{turnᵖ}
 use Rattle.plane_paths.specs.Measure.{comes_before, is_right, one_if, rank_below}
 
 -- ---- tests
@@ -69,9 +70,6 @@ by_tests t a b h = go (trichotomy_ℤ t)
 test_before : (i u v : Point) → comes_before i u v ≡ true → IsBefore i u v
 test_before i u v h = by_tests (turn_at i v u) (squared_way i u) (squared_way i v) h
 
-abbrev turnᵖ : Pointᵖ → Pointᵖ → Pointᵖ → Poly
-turnᵖ q u v = (u.x ⊖ q.x) ⊗ (v.y ⊖ q.y) ⊖ (u.y ⊖ q.y) ⊗ (v.x ⊖ q.x)
-
 three_turns : (i j u v w : Point) → turn_at i j v *ℤ turn_at i w u ≡ turn_at i j w *ℤ turn_at i v u +ℤ turn_at i j u *ℤ turn_at i w v
 three_turns i j u v w = ring_over points_shape [] (i ∷ j ∷ u ∷ v ∷ w ∷ []) (λ i j u v w. turnᵖ i j v ⊗ turnᵖ i w u) (λ i j u v w. turnᵖ i j w ⊗ turnᵖ i v u ⊕ turnᵖ i j u ⊗ turnᵖ i w v) tt
 
@@ -124,7 +122,7 @@ both_weak fv tw fw tu fu tk e hv hw hu a b = go (zero_or_left a) (zero_or_left b
     go (inl x) (inr y) = inl (positive (sum_low' (fv *ℤ tw) (fw *ℤ tu) (fu *ℤ tk) e (weak_product fw tu hw a) (strict_product fu tk hu y)))
     go (inl x) (inl y) = inr (zero_of_mul-zero_ℤ (λ z. right_not_zero hv z) (sum_none (fv *ℤ tw) (fw *ℤ tu) (fu *ℤ tk) e (zero-mul_ℤ fw x) (zero-mul_ℤ fu y)), x, y)
 
-IsBefore-trans : (i j u v w : Point) → turn_at i j u <ℤ pos 0 → turn_at i j v <ℤ pos 0 → turn_at i j w <ℤ pos 0 → IsBefore i u v → IsBefore i v w → IsBefore i u w
+pub IsBefore-trans : (i j u v w : Point) → turn_at i j u <ℤ pos 0 → turn_at i j v <ℤ pos 0 → turn_at i j w <ℤ pos 0 → IsBefore i u v → IsBefore i v w → IsBefore i u w
 IsBefore-trans i j u v w hu hv hw a b = go (both_weak (turn_at i j v) (turn_at i w u) (turn_at i j w) (turn_at i v u) (turn_at i j u) (turn_at i w v) (three_turns i j u v w) hv hw hu (at_least a) (at_least b)) a b
   where
     at_least : {t a b : ℤ} → (pos 0 <ℤ t) ⊎ ((t ≡ pos 0) × (a <ℤ b)) → pos 0 ≤ℤ t

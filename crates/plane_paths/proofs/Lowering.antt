@@ -4,11 +4,10 @@ use mathlib.Core.Logic.{inl, inr}
 use Rattle.std.specs.Prelude.{ℤ, pos, negsuc, ◌+ℤ◌, ◌≤ℤ◌, ◌<ℤ◌, true, ◌&&◌, int_lt, nat_abs}
 use Rattle.std.proofs.lemmas.Int.{ints}
 use Rattle.plane.specs.Fraction.{Point, whole}
-use Rattle.plane.specs.Side.{side, right, TurnsLeft}
 use Rattle.plane.specs.Laws.{turn_at, squared_way}
 use Rattle.plane.specs.Tiling.{Face, face, Triangulation, IsFace, TilesHull}
 use Rattle.plane_tiling.specs.Local.{total, around}
-use Rattle.plane.proofs.Sides.{if_left, if_right, on_if}
+use Rattle.plane.proofs.Sides.{on_if}
 use Rattle.plane.proofs.Steps.{zero_or_left, left_not_zero, right_not_zero}
 use Rattle.plane.proofs.Bracket.{lift}
 use Rattle.plane.proofs.BracketIdentities.{bracket-affine, bracket-outer}
@@ -24,14 +23,8 @@ use Rattle.plane_paths.specs.Path.{IsFreeOfVertices, IsCrossing, IsLastRight, Is
 use Rattle.plane_paths.specs.Measure.{is_right, rank_below, crosses, crossing_rank, crossing_sum}
 use Rattle.plane_paths.specs.Laws.{ChosenFlipLowers}
 use Rattle.plane_paths.proofs.Paths as P
+use Rattle.plane_paths.proofs.Turns.{left_turn, right_turn}
 use Rattle.plane_paths.proofs.Falling.{says, said, and_true, and_first, and_second, IsBefore, rank_falls, rank_positive, strictly_nearer, ranked, ranked_nonneg, ranked_two, sum_falls}
-
--- turns by sides
-left_turn : (a b c : Point) → TurnsLeft (whole a) (whole b) (whole c) → pos 0 <ℤ turn_at a b c
-left_turn a b c h = subst (λ z. pos 0 <ℤ z) (bracket-affine a b c) (if_left (whole a) (whole b) (whole c) h)
-
-right_turn : (a b c : Point) → side (whole a) (whole b) (whole c) ≡ right → turn_at a b c <ℤ pos 0
-right_turn a b c h = subst (λ z. z <ℤ pos 0) (bracket-affine a b c) (if_right (whole a) (whole b) (whole c) h)
 
 turn_of : (a b c : Point) → bracket (whole a) (whole b) (whole c) ≡ turn_at a b c
 unfolding bracket

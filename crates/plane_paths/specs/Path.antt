@@ -1,6 +1,6 @@
 -- The edges that cross a segment between two vertices, and the one among them that is flipped next.
-use Rattle.std.specs.Prelude.{◌≡◌, ◌≢◌, ℕ, ◌≤ℤ◌}
-use Rattle.plane.specs.Fraction.{WithinSegment}
+use Rattle.std.specs.Prelude.{◌≡◌, ◌≢◌, ◌⊎◌, ℕ, ◌≤ℤ◌, ◌<ℤ◌}
+use Rattle.plane.specs.Fraction.{Point, whole, WithinSegment}
 use Rattle.plane.specs.Side.{side, right, on, TurnsLeft}
 use Rattle.plane.specs.Laws.{squared_way}
 use Rattle.plane.specs.Tiling.{Triangulation, IsVertex, IsEdge, vertex}
@@ -30,3 +30,11 @@ pub record IsLastRight (t : Triangulation) (i j v : ℕ) : Type 0 where
 pub record IsLastLeft (t : Triangulation) (i j v y : ℕ) : Type 0 where
   pub around : (w : ℕ) → IsCrossing t i j v w → ¬ TurnsLeft (vertex t i) (vertex t y) (vertex t w)
   pub nearer : (w : ℕ) → IsCrossing t i j v w → side (vertex t i) (vertex t y) (vertex t w) ≡ on → squared_way (point_of t.points i) (point_of t.points w) ≤ℤ squared_way (point_of t.points i) (point_of t.points y)
+
+-- seen from i, u comes after v among points on the right: it is right of the way to v, or on it and farther
+abbrev pub ComesAfterOnRight : Point → Point → Point → Type 0
+ComesAfterOnRight i v u = (side (whole i) (whole v) (whole u) ≡ right) ⊎ ((side (whole i) (whole v) (whole u) ≡ on) × (squared_way i v <ℤ squared_way i u))
+
+-- and w comes after y among points on the left
+abbrev pub ComesAfterOnLeft : Point → Point → Point → Type 0
+ComesAfterOnLeft i y w = TurnsLeft (whole i) (whole y) (whole w) ⊎ ((side (whole i) (whole y) (whole w) ≡ on) × (squared_way i y <ℤ squared_way i w))

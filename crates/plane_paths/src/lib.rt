@@ -1,7 +1,7 @@
 //! From crossing edges to an edge: laws of the flips that make a segment between two vertices an edge.
 #![tactic(auto)]
 
-ghost use Rattle.plane_paths.specs.Laws.{UncrossedIsEdge, ChosenFlipIsConvex, ChosenFlipLowers};
+ghost use Rattle.plane_paths.specs.Laws.{UncrossedIsEdge, ChosenFlipIsConvex, ChosenFlipLowers, CrossingIsEitherWay, ChosenFlipExists, EndsAreOrdered, LastHasNoneAfter};
 
 /// A law: a segment between two vertices that carries no third and that no edge crosses is an edge.
 pub fn uncrossed_is_edge()
@@ -16,4 +16,24 @@ pub fn chosen_flip_is_convex()
 /// A law: its flip lowers the sum of the ranks of the right ends of crossing edges.
 pub fn chosen_flip_lowers()
     ensures { ChosenFlipLowers }
+{}
+
+/// A law: an edge crosses the segment exactly if one of its two ways has the segment's start on its left, the end on its right, its own start on the segment's right and its end on the left.
+pub fn crossing_is_either_way()
+    ensures { CrossingIsEitherWay }
+{}
+
+/// A law: where an edge crosses the segment, there is one from a last right end to a last left end there.
+pub fn chosen_flip_exists()
+    ensures { ChosenFlipExists }
+{}
+
+/// A law: what comes after an end comes after all that this end comes after, and none comes after itself.
+pub fn ends_are_ordered()
+    ensures { EndsAreOrdered }
+{}
+
+/// A law: an end of crossing edges that none comes after is a last one.
+pub fn last_has_none_after()
+    ensures { LastHasNoneAfter }
 {}
