@@ -36,7 +36,7 @@ AreTurning n p i j k = (i < n) × (j < n) × (k < n) × (pos 0 <ℤ bracket (at 
 pub turning_turned : (n : ℕ) (p : ℕ → Point) (i j k : ℕ) → AreTurning n p i j k → AreTurning n p j k i
 turning_turned n p i j k t = (t.1, t.2, t.0, subst (λ z. pos 0 <ℤ z) (bracket-turn (at p i) (at p j) (at p k)) t.3)
 
-balanced_after : (f o f' o' gone made left come : ℤ) → f' +ℤ gone ≡ f +ℤ made → o' +ℤ left ≡ o +ℤ come → made +ℤ come ≡ gone +ℤ left → f +ℤ o ≡ pos 0 → f' +ℤ o' ≡ pos 0
+pub balanced_after : (f o f' o' gone made left come : ℤ) → f' +ℤ gone ≡ f +ℤ made → o' +ℤ left ≡ o +ℤ come → made +ℤ come ≡ gone +ℤ left → f +ℤ o ≡ pos 0 → f' +ℤ o' ≡ pos 0
 balanced_after f o f' o' gone made left come a b c d = omega (arith, ints)
 
 -- the outer edges' totals after a change

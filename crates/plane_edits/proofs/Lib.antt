@@ -20,4 +20,5 @@ pub mod Renumbering
 pub mod Removals
 pub mod RemovalLine
 pub mod RemovalHull
+pub mod RemovalHullCut
 pub mod RemovalHulls

@@ -6,9 +6,10 @@ use Rattle.plane.proofs.Sides.{if_left, if_on, left_if}
 use Rattle.std.specs.Prelude.{neg_ℤ}
 use Rattle.plane.proofs.BracketIdentities.{bracket-swap}
 use Rattle.plane_tiling.proofs.Counting.{at}
-use Rattle.plane_tiling.proofs.Tiles.{point_at, by_signs}
-use Rattle.plane_edits.specs.RemovalHull.{FlatStarFlips, CornerStarFlips}
+use Rattle.plane_tiling.proofs.Tiles.{point_at, by_signs, bracket_not_left}
+use Rattle.plane_edits.specs.RemovalHull.{CornerGoes, CornerStarFlips, FlatStarFlips}
 use Rattle.plane_edits.proofs.RemovalHull as H
+use Rattle.plane_edits.proofs.RemovalHullCut as T
 
 pub corner_star_flips : CornerStarFlips
 corner_star_flips points faces outer v k nb m star corner i h =
@@ -22,3 +23,8 @@ flat_star_flips points faces outer v k nb m star three flat =
   where
     longer : (k : ℕ) → 3 ≤ k → suc (suc (suc (k - 3))) ≡ k
     longer k h = omega arith
+
+pub corner_goes : CornerGoes
+corner_goes points faces new outer outer' v k nb m star corner bent change outer_change some = T.corner_gone points faces new outer outer' m v k nb star
+    (if_left (place points v) (place points (nb 0)) (place points (nb k)) corner)
+    (λ j h. bracket_not_left (place points (nb j)) (place points (nb (suc j))) (place points (nb (suc (suc j)))) (bent j h)) change outer_change some

@@ -1,11 +1,12 @@
--- What is proved of the removal of a vertex on the hull: which of its inner edges can be flipped away.
-use Rattle.std.specs.Prelude.{◌≡◌, ℕ, suc, ◌<◌, ◌≤◌, List, Contains}
+-- What is proved of the removal of a vertex on the hull: its inner edges can be flipped away, then its faces dropped, or closed by one where its side is flat.
+use Rattle.std.specs.Prelude.{◌≡◌, ◌≢◌, ℕ, zero, suc, ◌<◌, ◌≤◌, List, [], ◌∷◌, Contains}
 use Rattle.plane.specs.Fraction.{Point}
 use Rattle.plane.specs.Side.{side, on, TurnsLeft}
 use Rattle.plane.specs.Pairs.{place}
-use Rattle.plane.specs.Tiling.{Face}
+use Rattle.plane.specs.Tiling.{Face, face}
 use Rattle.plane_tiling.specs.Local.{LocalMesh}
-use Rattle.plane_edits.specs.Change.{IsFaceOf}
+use Rattle.plane_edits.specs.Change.{IsFaceOf, FacesChange, OuterChange}
+use Rattle.plane_edits.specs.Removal.{LocalMeshWithout}
 
 -- the faces at v, one after another to the left, from the outer edge that reaches v to the one that leaves it: their corners besides v are neighbours 0, 1, .., k
 pub record IsHullStar (faces : List Face) (outer : List (ℕ × ℕ)) (v k : ℕ) (neighbour : ℕ → ℕ) : Type 0 where
@@ -13,6 +14,16 @@ pub record IsHullStar (faces : List Face) (outer : List (ℕ × ℕ)) (v k : ℕ
   pub only : (a b : ℕ) → IsFaceOf faces v a b → (i : ℕ) × (i < k) × (neighbour i ≡ a) × (neighbour (suc i) ≡ b)
   pub arrives : Contains outer (neighbour 0, v)
   pub leaves : Contains outer (v, neighbour k)
+
+-- the first k of these faces
+abbrev pub strip : ℕ → (ℕ → ℕ) → ℕ → List Face
+strip v neighbour zero = []
+strip v neighbour (suc k) = face v (neighbour k) (neighbour (suc k)) ∷ strip v neighbour k
+
+-- the ways from each of the first k neighbours to the next
+abbrev pub chain : (ℕ → ℕ) → ℕ → List (ℕ × ℕ)
+chain neighbour zero = []
+chain neighbour (suc k) = (neighbour k, neighbour (suc k)) ∷ chain neighbour k
 
 -- at a vertex on a flat side of the hull, with three faces or more, the edge to a neighbour i + 1 lies across a strictly convex quadrilateral
 abbrev pub FlatStarFlips : Type 0
@@ -24,3 +35,11 @@ FlatStarFlips = (points : List Point) (faces : List Face) (outer : List (ℕ × 
 abbrev pub CornerStarFlips : Type 0
 CornerStarFlips = (points : List Point) (faces : List Face) (outer : List (ℕ × ℕ)) (v k : ℕ) (neighbour : ℕ → ℕ) → LocalMesh points faces outer → IsHullStar faces outer v k neighbour
     → TurnsLeft (place points v) (place points (neighbour 0)) (place points (neighbour k)) → (i : ℕ) → suc i < k → TurnsLeft (place points v) (place points (neighbour i)) (place points (neighbour (suc (suc i))))
+
+-- at a corner of the hull where no neighbours turn left, the faces go, and the ways between neighbours become outer edges
+abbrev pub CornerGoes : Type 0
+CornerGoes = (points : List Point) (faces new : List Face) (outer outer' : List (ℕ × ℕ)) (v k : ℕ) (neighbour : ℕ → ℕ) → LocalMesh points faces outer → IsHullStar faces outer v k neighbour
+    → TurnsLeft (place points v) (place points (neighbour 0)) (place points (neighbour k))
+    → ((i : ℕ) → suc i < k → ¬ TurnsLeft (place points (neighbour i)) (place points (neighbour (suc i))) (place points (neighbour (suc (suc i)))))
+    → FacesChange faces new (strip v neighbour k) [] → OuterChange outer outer' ((neighbour 0, v) ∷ (v, neighbour k) ∷ []) (chain neighbour k)
+    → new ≢ [] → LocalMeshWithout v points new outer'
