@@ -1,5 +1,5 @@
 -- A vertex of the hull goes: what its faces and its outer edges give way to leaves a local mesh of the other vertices.
-use Rattle.std.proofs.Common.{◌≡◌, ◌⊎◌, ℕ, zero, suc, ◌<◌, ◌≤◌, List, [], ◌∷◌, length, refl, sym, ◌∙◌, subst, arith}
+use Rattle.std.proofs.Common.{◌≡◌, ◌⊎◌, ℕ, zero, suc, ◌<◌, ◌≤◌, List, [], ◌∷◌, length, refl, sym, ◌∙◌, subst, arith, ap}
 use mathlib.Core.Logic.{inl, inr, ◌≢◌}
 use Rattle.std.specs.Prelude.{ℤ, pos, ◌+ℤ◌, ◌<ℤ◌, ◌≤ℤ◌, neg_ℤ, Contains}
 use Rattle.std.proofs.lemmas.Int.{ints}
@@ -9,11 +9,13 @@ use Rattle.plane.specs.Pairs.{place}
 use Rattle.plane.specs.Tiling.{Face, face}
 use Rattle.plane_tiling.specs.Local.{LocalMesh, total, around, along, IsAntisymmetric, IsCorner}
 use Rattle.plane.proofs.Sides.{if_left, left_if}
-use Rattle.plane.proofs.Steps.{left_not_below}
+use Rattle.plane.proofs.Steps.{left_not_below, weak, left_not_zero, negated_below}
 use Rattle.plane.proofs.Bracket.{bracket}
+use Rattle.plane.proofs.IntegerOrder.{lt_or_ge_ℤ}
+use Rattle.plane.proofs.BracketIdentities.{bracket-turn, bracket-swap, bracket-sum, bracket-outer, bracket-last}
 use Rattle.plane_tiling.proofs.Totals.{Contains-head, Contains-later, Contains-none}
 use Rattle.plane_tiling.proofs.Flows.{IsTurnOf, HasSide, turned, no_turn}
-use Rattle.plane_tiling.proofs.Counting.{at, SignMesh, corners_differ}
+use Rattle.plane_tiling.proofs.Counting.{at, SignMesh, corners_differ, within_turned}
 use Rattle.plane_tiling.proofs.Tiles.{point_at, by_signs}
 use Rattle.plane_tiling.proofs.Covering as C
 use Rattle.plane_tiling.proofs.Edges as E
@@ -22,7 +24,7 @@ use Rattle.plane_edits.specs.Change.{FacesChange, OuterChange}
 use Rattle.plane_edits.specs.Removal.{LocalMeshWithout, IsOther}
 use Rattle.plane_edits.specs.RemovalHull.{IsHullStar, strip, chain}
 use Rattle.plane_edits.proofs.Changes.{face_from, face_kept, each, each_none, turn_of_all, once_none, once_cons, IsOnce}
-use Rattle.plane_edits.proofs.Additions.{IsUsed, corner_of_used, AreTurning, around_turn_free, outer_totals, balanced_after}
+use Rattle.plane_edits.proofs.Additions.{IsUsed, corner_of_used, AreTurning, around_turn_free, outer_totals, balanced_after, turning_turned}
 use Rattle.plane_edits.proofs.Flipping.{side_gone}
 use Rattle.plane_edits.proofs.Hull.{next_unique}
 use Rattle.plane_edits.proofs.RemovalHull as H
@@ -210,3 +212,116 @@ module _ (points : List Point) (old new : List Face) (outer outer' : List (ℕ �
       where
         other : (i : ℕ) → i ≤ k → IsOther points v (nb i)
         other i h = (H.neighbour_is n p old outer signs v k nb star i h, not_v i h)
+
+  -- ---- v is on a flat side of the hull, with two faces
+  module _ (v : ℕ) (nb : ℕ → ℕ) (star : IsHullStar old outer v 2 nb) (flat : bracket (at p (nb 0)) (at p v) (at p (nb 2)) ≡ pos 0) where
+    abbrev two_gone : List Face
+    two_gone = face v (nb 0) (nb 1) ∷ face v (nb 1) (nb 2) ∷ []
+
+    abbrev one_made : List Face
+    one_made = face (nb 0) (nb 1) (nb 2) ∷ []
+
+    abbrev closing : List (ℕ × ℕ)
+    closing = (nb 0, nb 2) ∷ []
+
+    other_of_two : (i : ℕ) → i ≤ 2 → IsOther points v (nb i)
+    other_of_two i h = (H.neighbour_is n p old outer signs v 2 nb star i h, not_v v 2 nb star i h)
+
+    seen : (i : ℕ) → i < 2 → pos 0 <ℤ bracket (at p (nb i)) (at p (nb (suc i))) (at p v)
+    seen i h = subst (λ z. pos 0 <ℤ z) (bracket-turn (at p v) (at p (nb i)) (at p (nb (suc i)))) (H.step n p old outer signs v 2 nb star i h)
+
+    closed : pos 0 <ℤ bracket (at p (nb 0)) (at p (nb 1)) (at p (nb 2))
+    closed = sum (bracket (at p (nb 0)) (at p (nb 1)) (at p (nb 2))) (bracket (at p (nb 1)) (at p (nb 2)) (at p v)) (bracket (at p (nb 2)) (at p (nb 0)) (at p v)) (bracket (at p (nb 0)) (at p (nb 1)) (at p v)) (bracket-sum (p (nb 0)) (p (nb 1)) (p (nb 2)) (p v))
+        (seen 1 (omega arith)) (sym (bracket-turn (at p (nb 0)) (at p v) (at p (nb 2)) ∙ bracket-turn (at p v) (at p (nb 2)) (at p (nb 0))) ∙ flat) (seen 0 (omega arith))
+      where
+        sum : (s a b c : ℤ) → s ≡ a +ℤ b +ℤ c → pos 0 <ℤ a → b ≡ pos 0 → pos 0 <ℤ c → pos 0 <ℤ s
+        sum s a b c e h k l = omega (arith, ints)
+
+    -- the closing edge supports all vertices
+    behind : (z : ℕ) → z < n → bracket (at p (nb 0)) (at p (nb 2)) (at p z) ≤ℤ pos 0
+    behind z h = by (bracket (at p (nb 0)) (at p v) (at p (nb 2))) (bracket (at p v) (at p (nb 2)) (at p z)) (bracket (at p (nb 2)) (at p (nb 0)) (at p z)) (bracket (at p (nb 0)) (at p v) (at p z)) (bracket (at p (nb 0)) (at p (nb 2)) (at p z))
+        (bracket-sum (p (nb 0)) (p v) (p (nb 2)) (p z)) flat (bracket-swap (at p (nb 0)) (at p (nb 2)) (at p z)) (signs.supporting (v, nb 2) star.leaves z h) (signs.supporting (nb 0, v) star.arrives z h)
+      where
+        by : (s a b c d : ℤ) → s ≡ a +ℤ b +ℤ c → s ≡ pos 0 → d ≡ neg_ℤ b → a ≤ℤ pos 0 → c ≤ℤ pos 0 → d ≤ℤ pos 0
+        by s a b c d e f g h k = omega (arith, ints)
+
+    -- and no vertex but v is strictly within it
+    bare_but_v : (z : ℕ) → z < n → z ≢ v → ¬ WithinSegment (whole (p (nb 0))) (whole (p (nb 2))) (whole (p z))
+    bare_but_v z h a w = go (lt_or_ge_ℤ (pos 0) (bracket (at p v) (at p (nb 1)) (at p z)))
+      where
+        turns : pos 0 <ℤ bracket (at p (nb 2)) (at p (nb 0)) (at p (nb 1))
+        turns = subst (λ z. pos 0 <ℤ z) (bracket-turn (at p (nb 0)) (at p (nb 1)) (at p (nb 2)) ∙ bracket-turn (at p (nb 1)) (at p (nb 2)) (at p (nb 0))) closed
+
+        second : pos 0 <ℤ bracket (at p (nb 0)) (at p (nb 1)) (at p z)
+        second = E.within_second (p (nb 2)) (p (nb 0)) (p (nb 1)) (whole (p z)) (within_turned (p (nb 0)) (p (nb 2)) (p z) w) turns
+
+        third : pos 0 <ℤ bracket (at p (nb 1)) (at p (nb 2)) (at p z)
+        third = E.within_third (p (nb 2)) (p (nb 0)) (p (nb 1)) (whole (p z)) (within_turned (p (nb 0)) (p (nb 2)) (p z) w) turns
+
+        first_corner : (z ≡ v) ⊎ ((z ≡ nb 0) ⊎ (z ≡ nb 1)) → ⊥
+        first_corner (inl e) = a e
+        first_corner (inr (inl e)) = left_not_zero second (ap (λ o. bracket (at p (nb 0)) (at p (nb 1)) (at p o)) e ∙ bracket-outer (at p (nb 0)) (at p (nb 1)))
+        first_corner (inr (inr e)) = left_not_zero second (ap (λ o. bracket (at p (nb 0)) (at p (nb 1)) (at p o)) e ∙ bracket-last (at p (nb 0)) (at p (nb 1)))
+
+        second_corner : (z ≡ v) ⊎ ((z ≡ nb 1) ⊎ (z ≡ nb 2)) → ⊥
+        second_corner (inl e) = a e
+        second_corner (inr (inl e)) = left_not_zero third (ap (λ o. bracket (at p (nb 1)) (at p (nb 2)) (at p o)) e ∙ bracket-outer (at p (nb 1)) (at p (nb 2)))
+        second_corner (inr (inr e)) = left_not_zero third (ap (λ o. bracket (at p (nb 1)) (at p (nb 2)) (at p o)) e ∙ bracket-last (at p (nb 1)) (at p (nb 2)))
+
+        go : (pos 0 <ℤ bracket (at p v) (at p (nb 1)) (at p z)) ⊎ (bracket (at p v) (at p (nb 1)) (at p z) ≤ℤ pos 0) → ⊥
+        go (inl l) = second_corner (C.vertex_in_face n p old outer signs z v (nb 1) (nb 2) h (star.around 1 (omega arith)) (weak l) (weak third)
+            (subst (λ o. pos 0 ≤ℤ o) (bracket-turn (at p v) (at p z) (at p (nb 2)) ∙ bracket-turn (at p z) (at p (nb 2)) (at p v)) (H.to_last n p old outer signs v 2 nb star z h)))
+        go (inr l) = first_corner (C.vertex_in_face n p old outer signs z v (nb 0) (nb 1) h (star.around 0 (omega arith)) (H.from_first n p old outer signs v 2 nb star z h) (weak second)
+            (negated_below (bracket-swap (at p (nb 1)) (at p v) (at p z)) l))
+
+    abbrev Free : ℕ → ℕ → ℕ → Type 0
+    Free i j l = (i ≢ v) × (j ≢ v) × (l ≢ v)
+
+    abbrev Kept : ℕ → ℕ → ℕ → Type 0
+    Kept i j l = (i ≢ v → IsUsed one_made i) × (j ≢ v → IsUsed one_made j) × (l ≢ v → IsUsed one_made l)
+
+    at_one : IsTurnOf one_made (nb 0) (nb 1) (nb 2)
+    at_one = inl (Contains-head (face (nb 0) (nb 1) (nb 2)) [])
+
+    one_sums : (va ab bv vb bc cv av vc ca ac : ℤ) → av ≡ neg_ℤ va → bv ≡ neg_ℤ vb → cv ≡ neg_ℤ vc → ca ≡ neg_ℤ ac
+        → ((ab +ℤ bc +ℤ ca) +ℤ pos 0) +ℤ (ac +ℤ pos 0) ≡ ((va +ℤ ab +ℤ bv) +ℤ ((vb +ℤ bc +ℤ cv) +ℤ pos 0)) +ℤ (av +ℤ (vc +ℤ pos 0))
+    one_sums va ab bv vb bc cv av vc ca ac e f g h = omega (arith, ints)
+
+    pub flat_closed : FacesChange old new two_gone one_made → OuterChange outer outer' (own_edges v 2 nb star) closing → LocalMeshWithout v points new outer'
+    flat_closed change outer_change = cut v two_gone one_made (own_edges v 2 nb star) closing (record {
+      change = change;
+      outer_change = outer_change;
+      some = λ e. no_turn (nb 0) (nb 1) (nb 2) (subst (λ l. IsTurnOf l (nb 0) (nb 1) (nb 2)) e (change.come (nb 0) (nb 1) (nb 2) at_one));
+      all_gone = λ a b h. (let o = star.only a b h in subst (λ (q : ℕ × ℕ). IsTurnOf two_gone v q.0 q.1) (λ i. (o.2 i, o.3 i)) (named o.0 o.1));
+      free = λ a b h. (turn_of_all one_made Free (λ i j l f. (f.1, f.2, f.0)) (each (λ f. Free f.a f.b f.c) (face (nb 0) (nb 1) (nb 2)) [] (not_v v 2 nb star 0 (omega arith), not_v v 2 nb star 1 (omega arith), not_v v 2 nb star 2 (omega arith)) (each_none (λ f. Free f.a f.b f.c))) v a b h).0 refl;
+      turning = turn_of_all one_made (AreTurning n p) (turning_turned n p) (each (λ f. AreTurning n p f.a f.b f.c) (face (nb 0) (nb 1) (nb 2)) [] ((other_of_two 0 (omega arith)).0, (other_of_two 1 (omega arith)).0, (other_of_two 2 (omega arith)).0, closed) (each_none (λ f. AreTurning n p f.a f.b f.c)));
+      corner_kept = λ c i j h a. inl ((turn_of_all two_gone Kept (λ i j l f. (f.1, f.2, f.0))
+          (each (λ f. Kept f.a f.b f.c) (face v (nb 0) (nb 1)) (face v (nb 1) (nb 2) ∷ []) (own, (λ _. first), (λ _. middle))
+          (each (λ f. Kept f.a f.b f.c) (face v (nb 1) (nb 2)) [] (own, (λ _. middle), (λ _. last)) (each_none (λ f. Kept f.a f.b f.c)))) c i j h).0 a);
+      left_there = own_there v 2 nb star;
+      left_all = own_all v 2 nb star;
+      left_once = own_once v 2 nb star;
+      fresh = each (λ e. ¬ Contains outer e) (nb 0, nb 2) [] (λ h. not_v v 2 nb star 2 (omega arith) (sym (next_unique n p old outer signs (nb 0) v (nb 2) star.arrives h))) (each_none (λ e. ¬ Contains outer e));
+      come_once = once_cons (nb 0, nb 2) [] (λ h. Contains-none (nb 0, nb 2) h) once_none;
+      ends = each (λ e. IsOther points v e.0 × IsOther points v e.1 × (e.0 ≢ e.1)) (nb 0, nb 2) [] (other_of_two 0 (omega arith), other_of_two 2 (omega arith), λ e. H.first_once n p old outer signs v 2 nb star 1 (omega arith) (sym e)) (each_none (λ e. IsOther points v e.0 × IsOther points v e.1 × (e.0 ≢ e.1)));
+      supporting = each (λ e. (z : ℕ) → z < n → z ≢ v → bracket (at p e.0) (at p e.1) (at p z) ≤ℤ pos 0) (nb 0, nb 2) [] (λ z h a. behind z h) (each_none (λ e. (z : ℕ) → z < n → z ≢ v → bracket (at p e.0) (at p e.1) (at p z) ≤ℤ pos 0));
+      bare = each (λ e. (z : ℕ) → z < n → z ≢ v → ¬ WithinSegment (whole (p e.0)) (whole (p e.1)) (whole (p z))) (nb 0, nb 2) [] bare_but_v (each_none (λ e. (z : ℕ) → z < n → z ≢ v → ¬ WithinSegment (whole (p e.0)) (whole (p e.1)) (whole (p z))));
+      same = λ flow anti. one_sums (flow v (nb 0)) (flow (nb 0) (nb 1)) (flow (nb 1) v) (flow v (nb 1)) (flow (nb 1) (nb 2)) (flow (nb 2) v) (flow (nb 0) v) (flow v (nb 2)) (flow (nb 2) (nb 0)) (flow (nb 0) (nb 2)) (anti (nb 0) v) (anti (nb 1) v) (anti (nb 2) v) (anti (nb 2) (nb 0));
+    })
+      where
+        own : v ≢ v → IsUsed one_made v
+        own n = absurd (n refl)
+
+        first : IsUsed one_made (nb 0)
+        first = (nb 1, nb 2, at_one)
+
+        middle : IsUsed one_made (nb 1)
+        middle = (nb 2, nb 0, turned one_made (nb 0) (nb 1) (nb 2) at_one)
+
+        last : IsUsed one_made (nb 2)
+        last = (nb 0, nb 1, turned one_made (nb 1) (nb 2) (nb 0) (turned one_made (nb 0) (nb 1) (nb 2) at_one))
+
+        named : (i : ℕ) → i < 2 → IsTurnOf two_gone v (nb i) (nb (suc i))
+        named zero h = inl (Contains-head (face v (nb 0) (nb 1)) (face v (nb 1) (nb 2) ∷ []))
+        named (suc zero) h = inl (Contains-later (face v (nb 0) (nb 1)) (face v (nb 1) (nb 2) ∷ []) (face v (nb 1) (nb 2)) (Contains-head (face v (nb 1) (nb 2)) []))
+        named (suc (suc i)) h = absurd (omega arith)

@@ -36,6 +36,13 @@ abbrev pub CornerStarFlips : Type 0
 CornerStarFlips = (points : List Point) (faces : List Face) (outer : List (ℕ × ℕ)) (v k : ℕ) (neighbour : ℕ → ℕ) → LocalMesh points faces outer → IsHullStar faces outer v k neighbour
     → TurnsLeft (place points v) (place points (neighbour 0)) (place points (neighbour k)) → (i : ℕ) → suc i < k → TurnsLeft (place points v) (place points (neighbour i)) (place points (neighbour (suc (suc i))))
 
+-- the two faces at a vertex on a flat side of the hull become the one of its neighbours
+abbrev pub FlatSideCloses : Type 0
+FlatSideCloses = (points : List Point) (faces new : List Face) (outer outer' : List (ℕ × ℕ)) (v : ℕ) (neighbour : ℕ → ℕ) → LocalMesh points faces outer → IsHullStar faces outer v 2 neighbour
+    → side (place points (neighbour 0)) (place points v) (place points (neighbour 2)) ≡ on
+    → FacesChange faces new (face v (neighbour 0) (neighbour 1) ∷ face v (neighbour 1) (neighbour 2) ∷ []) (face (neighbour 0) (neighbour 1) (neighbour 2) ∷ [])
+    → OuterChange outer outer' ((neighbour 0, v) ∷ (v, neighbour 2) ∷ []) ((neighbour 0, neighbour 2) ∷ []) → LocalMeshWithout v points new outer'
+
 -- at a corner of the hull where no neighbours turn left, the faces go, and the ways between neighbours become outer edges
 abbrev pub CornerGoes : Type 0
 CornerGoes = (points : List Point) (faces new : List Face) (outer outer' : List (ℕ × ℕ)) (v k : ℕ) (neighbour : ℕ → ℕ) → LocalMesh points faces outer → IsHullStar faces outer v k neighbour

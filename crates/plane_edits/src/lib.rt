@@ -3,7 +3,7 @@
 
 ghost use Rattle.plane_edits.specs.Laws.{InsertionInsideKeeps, InsertionWithinSideKeeps, InsertionWithinOuterKeeps, FlipKeeps, FlipCovers, ExtensionBegins, ExtensionGoesOn, ExtensionGoesBack, ExtensionEnds, ExtensionOverLineEnds, InsertionPastEndKeeps, InsertionBetweenKeeps};
 ghost use Rattle.plane_edits.specs.LegalLaws.{OneQuestionForBoth, FailingIsConvex, FlipLowers, FlipLeavesSides, PassingIsDropped, ChangeLeavesSides, NoneLeftIsLocallyDelaunay, AwayIsNoEdge, FlipGoesAway, AwayIsBounded};
-ghost use Rattle.plane_edits.specs.RemovalHull.{CornerGoes, CornerStarFlips, FlatStarFlips};
+ghost use Rattle.plane_edits.specs.RemovalHull.{CornerGoes, CornerStarFlips, FlatSideCloses, FlatStarFlips};
 ghost use Rattle.plane_edits.specs.RemovalLaws.{EndOfLineGoes, FourFacesMerge, InnerStarFlips, LastTakesFreedIndex, LastTakesFreedIndexOnLine, MiddleOfLineGoes, ThreeFacesMerge};
 
 /// A law: a vertex strictly inside a face, joined to its three corners, keeps a mesh local.
@@ -164,4 +164,9 @@ pub fn corner_star_flips()
 /// A law: at a corner of the hull where no neighbours turn left, a local mesh of the other vertices is left when its faces go.
 pub fn corner_goes()
     ensures { CornerGoes }
+{}
+
+/// A law: where the two faces at a vertex on a flat side of the hull become one, a local mesh of the other vertices is left.
+pub fn flat_side_closes()
+    ensures { FlatSideCloses }
 {}

@@ -1,0 +1,5 @@
+use Rattle.plane_edits.proofs.RemovalHulls.{flat_side_closes}
+use Rattle.plane_edits.proofs.flat_side_closes.Goals as goal
+
+pub returns : goal.returns
+returns c = flat_side_closes
