@@ -7,3 +7,7 @@ pub mod MeshParts
 pub mod Nearest
 pub mod Locating
 pub mod Counts
+pub mod Growing
+pub mod Cases
+pub mod Overwriting
+pub mod Appending

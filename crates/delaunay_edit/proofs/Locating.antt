@@ -34,7 +34,7 @@ use Rattle.delaunay_edit.proofs.Distances.{nearer_of_within}
 same_number : (a b : ℤ) → a *ℤ pos 1 ≡ b *ℤ pos 1 → b ≡ a
 same_number a b e = omega (arith, ints)
 
-same_point : (p q : Point) → IsSame (whole p) (whole q) → q ≡ p
+pub same_point : (p q : Point) → IsSame (whole p) (whole q) → q ≡ p
 same_point p q s =
     let x = same_number p.x q.x s.x in
     let y = same_number p.y q.y s.y in

@@ -77,3 +77,8 @@ pub record IsMeshFace (points : List Point) (m : Mesh) (f : ℕ) : Type 0 where
   pub third : origin m (prev m (face_edge m f)) < length points
   pub listed : IsFace (drawn points m) (origin m (face_edge m f)) (origin m (next m (face_edge m f))) (origin m (prev m (face_edge m f)))
   pub turning : TurnsLeft (place points (origin m (face_edge m f))) (place points (origin m (next m (face_edge m f)))) (place points (origin m (prev m (face_edge m f))))
+
+-- the edge that the answer names has p strictly on its left
+abbrev pub IsLeftOfPlace : List Point → Mesh → Point → PositionInTriangulation → Type 0
+IsLeftOfPlace points m p (OutsideOfConvexHull e) = TurnsLeft (place points (origin m e)) (place points (origin m (rev e))) (whole p)
+IsLeftOfPlace points m p _ = ⊥

@@ -2,6 +2,7 @@
 #![tactic(auto)]
 
 mod elements;
+mod insertion;
 mod location;
 mod position_in_triangulation;
 mod predicates;

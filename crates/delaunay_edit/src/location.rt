@@ -140,7 +140,7 @@ impl<V: HasPosition, DE, UE, F> TriangulationCore<V, DE, UE, F> {
     }
 
     // Where a position is that no vertex has.
-    fn locate_apart<P: PlaneTests<V::Scalar>>(
+    pub(crate) fn locate_apart<P: PlaneTests<V::Scalar>>(
         &self,
         point: Point2<V::Scalar>,
         tests: &P,

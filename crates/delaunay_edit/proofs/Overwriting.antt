@@ -1,0 +1,29 @@
+-- A vertex that takes the place of one of its position.
+use Rattle.std.proofs.Common.{◌≡◌, ◌<◌, ℕ, List, length, map, sym, ap, ◌∙◌, subst, slice_set, set}
+use Rattle.std.specs.Prelude.{pos}
+use Rattle.std.proofs.lemmas.List.{map-set, set-get_or, length-set, length-map}
+use Rattle.std.proofs.lemmas.List.Elements.{All-set, All-map, All-get_or}
+use Rattle.half_edge_mesh.specs.Contents.{Contents}
+use Rattle.plane.specs.Fraction.{Point}
+use Rattle.plane.specs.Tests.{InRange}
+use Rattle.plane_tiling.specs.Local.{IsMesh}
+use Rattle.drawn_mesh.specs.Drawn.{faces_of, outer_of}
+use Rattle.delaunay_edit.specs.Known.{point_at}
+use Rattle.delaunay_edit.specs.Shape.{IsKept}
+use Rattle.delaunay_edit.specs.State.{state_of}
+
+same_places : {V : Type 0} (at : V → Point) (vs : List V) (i : ℕ) (v : V) → point_at (map at vs) i ≡ at v → map at (slice_set vs i v) ≡ map at vs
+same_places at vs i v e = map-set at vs i v ∙ ap (λ q. set (map at vs) i q) (sym e) ∙ set-get_or (map at vs) i (record { x = pos 0; y = pos 0 })
+
+pub kept_overwritten : {V D U F : Type 0} (at : V → Point) (c : Contents V D U F) (i : ℕ) (v : V) → IsKept at (state_of c) → i < length c.vertices → point_at (map at c.vertices) i ≡ at v → IsKept at (state_of (record c { vertices = slice_set c.vertices i v }))
+kept_overwritten at c i v kept h e =
+    let count : length (slice_set c.vertices i v) ≡ length c.vertices = length-set c.vertices i v in
+    let within : i < length (map at c.vertices) = rw length-map h in
+    record {
+      in_range = All-set (λ u. InRange (at u)) c.vertices i v (subst InRange e (All-get_or InRange (map at c.vertices) i (record { x = pos 0; y = pos 0 }) within (All-map InRange at c.vertices kept.in_range))) kept.in_range;
+      few_edges = rw count kept.few_edges;
+      few_faces = rw count kept.few_faces;
+      valid = kept.valid;
+      fits = rw count kept.fits;
+      shape = subst (λ ps. IsMesh ps (faces_of c.mesh) (outer_of c.mesh)) (sym (same_places at c.vertices i v e)) kept.shape;
+    }

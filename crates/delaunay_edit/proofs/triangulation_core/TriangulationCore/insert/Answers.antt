@@ -1,0 +1,6 @@
+use Rattle.delaunay_edit.proofs.Appending.{inserted}
+use Rattle.delaunay_edit.proofs.triangulation_core.TriangulationCore.insert.Goals as goal
+
+pub returns-in-Err-clause-ok : goal.returns-in-Err-clause-ok
+returns-in-Err-clause-ok g c =
+    inserted g.V.HasPosition.place c.args.self.now c.append.new.self c.args.value c.in-Err.ensures.apart c.append.result c.append.ensures.vertex c.append.ensures.vertices
