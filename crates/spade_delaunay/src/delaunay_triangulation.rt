@@ -1,0 +1,154 @@
+//! Triangulations without constraints.
+ghost use Rattle.std.specs.Prelude.{◌≡◌, ◌+◌, ◌*◌, ◌<◌, ◌≤◌, [], length, map, All};
+ghost use Rattle.half_edge_links.specs.Mesh.{empty};
+ghost use Rattle.half_edge_mesh.specs.Left.{vertices_left, faces_left};
+ghost use Rattle.plane.specs.Fraction.{whole as fraction};
+ghost use Rattle.plane.specs.Tests.{InRange};
+ghost use Rattle.plane.specs.Plain.{IsPlain};
+ghost use Rattle.plane.specs.Tiling.{IsTiling};
+ghost use Rattle.plane.specs.Location.{IsLocation};
+ghost use Rattle.delaunay_core.specs.Place.{place_of};
+ghost use Rattle.delaunay_edit.specs.Elements.{GivesElements, HasElement};
+ghost use Rattle.delaunay_edit.specs.Location.{location_of};
+ghost use Rattle.delaunay_edit.specs.State.{state_of, plain_of, triangulation_of};
+
+use delaunay_core::math::PlaneTests;
+use delaunay_core::point::{HasPosition, Point2};
+use delaunay_edit::{PositionInTriangulation, TriangulationCore};
+use half_edge_mesh::{
+    DirectedEdgeHandle, FaceHandle, FaceIterator, FixedDirectedEdgeHandle, FixedFaceHandle,
+    FixedVertexHandle, VertexHandle, VertexIterator,
+};
+use std::alloc::Global;
+use std::marker::Model;
+
+/// A triangulation of vertices with different positions. Its inner faces turn left and tile the hull of the positions;
+/// where these are on one line there is none, and edges join the neighbours.
+#[derive(Drop)]
+pub struct DelaunayTriangulation<V: HasPosition, DE, UE, F> {
+    core: TriangulationCore<V, DE, UE, F>,
+}
+
+impl<V: HasPosition, DE, UE, F> Model for DelaunayTriangulation<V, DE, UE, F> {
+    ghost use Rattle.delaunay_edit.specs.State.{State};
+
+    ghost Value = { State V DE UE F };
+
+    ghost view = { λ d. d.core };
+}
+
+impl<V: HasPosition, DE, UE, F> DelaunayTriangulation<V, DE, UE, F> {
+    /// No vertex, no edge, and the outer face with default data. It takes no memory until a vertex is inserted.
+    pub fn new(alloc: Global) -> Self
+    where
+        F: Default,
+        ensures vertices { result.vertices ≡ [] }
+        ensures mesh { result.mesh ≡ empty }
+        ensures directed { result.directed ≡ [] }
+        ensures undirected { result.undirected ≡ [] }
+        ensures outer { F.is_default result.outer }
+        ensures faces { result.faces ≡ [] }
+        ensures tiling { IsTiling (triangulation_of V.place result) }
+    {
+        DelaunayTriangulation {
+            core: TriangulationCore::new(alloc),
+        }
+    }
+
+    pub fn num_vertices(&self) -> usize
+        ensures value { result ≡ length self.now.vertices }
+        ensures in_range { All InRange (map V.place self.now.vertices) }
+        ensures plain { IsPlain V.place (plain_of self.now) }
+        ensures tiling { IsTiling (triangulation_of V.place self.now) }
+    {
+        self.core.num_vertices()
+    }
+
+    pub fn num_undirected_edges(&self) -> usize
+        ensures value { result ≡ length (triangulation_of V.place self.now).edges }
+        ensures values { result ≡ length self.now.undirected }
+    {
+        self.core.num_undirected_edges()
+    }
+
+    /// Each undirected edge has two directions.
+    pub fn num_directed_edges(&self) -> usize
+        ensures value { result ≡ 2 * length (triangulation_of V.place self.now).edges }
+        ensures values { result ≡ length self.now.directed }
+    {
+        self.core.num_directed_edges()
+    }
+
+    /// How many faces there are beside the outer one.
+    pub fn num_inner_faces(&self) -> usize
+        ensures value { result ≡ length (triangulation_of V.place self.now).faces }
+        ensures values { result ≡ length self.now.faces }
+    {
+        self.core.num_inner_faces()
+    }
+
+    /// How many faces there are, the outer one among them.
+    pub fn num_all_faces(&self) -> usize
+        ensures value { result ≡ length (triangulation_of V.place self.now).faces + 1 }
+        ensures values { result ≡ length self.now.faces + 1 }
+    {
+        self.core.num_all_faces()
+    }
+
+    pub fn vertex(&self, vertex: FixedVertexHandle) -> VertexHandle<'_, V, DE, UE, F>
+        requires { vertex < length self.now.vertices }
+        ensures state { state_of result.dcel.now ≡ self.now }
+        ensures index { result.index ≡ vertex }
+    {
+        self.core.vertex(vertex)
+    }
+
+    pub fn directed_edge(
+        &self,
+        edge: FixedDirectedEdgeHandle,
+    ) -> DirectedEdgeHandle<'_, V, DE, UE, F>
+        requires { edge < length self.now.directed }
+        ensures state { state_of result.dcel.now ≡ self.now }
+        ensures index { result.index ≡ edge }
+    {
+        self.core.directed_edge(edge)
+    }
+
+    pub fn face(&self, face: FixedFaceHandle) -> FaceHandle<'_, V, DE, UE, F>
+        requires { face ≤ length self.now.faces }
+        ensures state { state_of result.dcel.now ≡ self.now }
+        ensures index { result.index ≡ face }
+    {
+        self.core.face(face)
+    }
+
+    /// The vertices, by rising index.
+    pub fn vertices(&self) -> VertexIterator<'_, V, DE, UE, F>
+        ensures { GivesElements self.now 0 (length self.now.vertices) (vertices_left result) }
+    {
+        self.core.vertices()
+    }
+
+    /// The faces but the outer one, by rising index.
+    pub fn inner_faces(&self) -> FaceIterator<'_, V, DE, UE, F>
+        ensures { GivesElements self.now 1 (length self.now.faces) (faces_left result) }
+    {
+        self.core.inner_faces()
+    }
+
+    /// Where a position is that the tests cover: on a vertex, on an edge, in a face, outside, or, without a triangulation,
+    /// at no vertex.
+    pub fn locate<P: PlaneTests<V::Scalar>>(
+        &self,
+        point: Point2<V::Scalar>,
+        tests: &P,
+    ) -> PositionInTriangulation
+        requires sites { All (P.sites tests.now) (map V.place self.now.vertices) }
+        requires covered { P.covered tests.now (place_of V.Scalar.whole point) }
+        ensures location { IsLocation (triangulation_of V.place self.now) (fraction (place_of V.Scalar.whole point)) (location_of self.now.mesh result) }
+        ensures element { HasElement self.now result }
+    {
+        let _ = self.core.num_vertices();
+        self.core.locate(point, tests)
+    }
+}

@@ -1,0 +1,5 @@
+//! Names of vertices, edges and faces, and the elements themselves together with the mesh that they lie in.
+pub use half_edge_mesh::{
+    DirectedEdgeHandle, FaceHandle, FixedDirectedEdgeHandle, FixedFaceHandle,
+    FixedUndirectedEdgeHandle, FixedVertexHandle, UndirectedEdgeHandle, VertexHandle,
+};
