@@ -289,6 +289,7 @@ impl<V: HasPosition + Drop, DE: Default, UE: Default, F: Default> TriangulationC
         ensures known { InRange (V.place value) → IsKnown (map V.place self.old.vertices) (V.place value) → IsOk result }
         ensures full { IsErrOf result OutOfIndexes ↔ (InRange (V.place value) × (¬ IsKnown (map V.place self.old.vertices) (V.place value)) × (MAX_ELEMENTS < 6 * (length self.old.vertices + 1))) }
         ensures ok { IfOk result (λ i. Inserts V.place (plain_of self.old) (plain_of self.new) value i) }
+        ensures replaced { InRange (V.place value) → IsKnown (map V.place self.old.vertices) (V.place value) → self.new.mesh ≡ self.old.mesh }
         ensures tiling { IsTiling (triangulation_of V.place self.new) }
         ensures err { OnErr result (self.new ≡ self.old) }
     {
