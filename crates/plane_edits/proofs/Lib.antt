@@ -21,4 +21,5 @@ pub mod Removals
 pub mod RemovalLine
 pub mod RemovalHull
 pub mod RemovalHullCut
+pub mod RemovalHullLine
 pub mod RemovalHulls

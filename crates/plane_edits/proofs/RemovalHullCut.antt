@@ -108,11 +108,11 @@ module _ (points : List Point) (old new : List Face) (outer outer' : List (ℕ �
     abbrev own_edges : List (ℕ × ℕ)
     own_edges = (nb 0, v) ∷ (v, nb k) ∷ []
 
-    not_v : (i : ℕ) → i ≤ k → nb i ≢ v
+    pub not_v : (i : ℕ) → i ≤ k → nb i ≢ v
     not_v zero h = (m.ends (nb 0, v) star.arrives).2
     not_v (suc i) h = (corners_differ p v (nb i) (nb (suc i)) (C.turn_left_of n p old outer signs v (nb i) (nb (suc i)) (star.around i (omega arith)))).2
 
-    side_there : (i : ℕ) → i < k → HasSide old (nb i) (nb (suc i))
+    pub side_there : (i : ℕ) → i < k → HasSide old (nb i) (nb (suc i))
     side_there i h = (v, turned old v (nb i) (nb (suc i)) (star.around i h))
 
     -- no other outer edge reaches v or leaves it
@@ -129,7 +129,7 @@ module _ (points : List Point) (old new : List Face) (outer outer' : List (ℕ �
     leaves_once : (w : ℕ) → Contains outer (v, w) → w ≡ nb k
     leaves_once w h = next_unique n p old outer signs v w (nb k) h star.leaves
 
-    own_all : (e : ℕ × ℕ) → Contains outer e → ¬ Contains own_edges e → (e.0 ≢ v) × (e.1 ≢ v)
+    pub own_all : (e : ℕ × ℕ) → Contains outer e → ¬ Contains own_edges e → (e.0 ≢ v) × (e.1 ≢ v)
     own_all e h none = (
       (λ q. none (subst (Contains own_edges) (λ i. (sym q i, sym (leaves_once e.1 (subst (λ o. Contains outer (o, e.1)) q h)) i)) (Contains-later (nb 0, v) ((v, nb k) ∷ []) (v, nb k) (Contains-head (v, nb k) [])))),
       (λ q. none (subst (Contains own_edges) (λ i. (sym (arrives_once e.0 (subst (λ o. Contains outer (e.0, o)) q h)) i, sym q i)) (Contains-head (nb 0, v) ((v, nb k) ∷ [])))),
@@ -153,7 +153,7 @@ module _ (points : List Point) (old new : List Face) (outer outer' : List (ℕ �
         short : i ≢ c → i < c
         short ne = omega arith
 
-    in_chain : (c : ℕ) (i : ℕ) → i < c → Contains (chain nb c) (nb i, nb (suc i))
+    pub in_chain : (c : ℕ) (i : ℕ) → i < c → Contains (chain nb c) (nb i, nb (suc i))
     in_chain zero i h = absurd (omega arith)
     in_chain (suc c) i h = elim (cases_eq i c) [
       | inl e ↦ subst (λ o. Contains (chain nb (suc c)) (nb o, nb (suc o))) (sym e) (Contains-head (nb c, nb (suc c)) (chain nb c))
@@ -163,11 +163,11 @@ module _ (points : List Point) (old new : List Face) (outer outer' : List (ℕ �
         short : i ≢ c → i < c
         short ne = omega arith
 
-    each_strip : (P : Face → Type 0) (c : ℕ) → ((i : ℕ) → i < c → P (face v (nb i) (nb (suc i)))) → (f : Face) → Contains (strip v nb c) f → P f
+    pub each_strip : (P : Face → Type 0) (c : ℕ) → ((i : ℕ) → i < c → P (face v (nb i) (nb (suc i)))) → (f : Face) → Contains (strip v nb c) f → P f
     each_strip P zero h = each_none P
     each_strip P (suc c) h = each P (face v (nb c) (nb (suc c))) (strip v nb c) (h c (omega arith)) (each_strip P c (λ i l. h i (omega arith)))
 
-    each_chain : (P : ℕ × ℕ → Type 0) (c : ℕ) → ((i : ℕ) → i < c → P (nb i, nb (suc i))) → (e : ℕ × ℕ) → Contains (chain nb c) e → P e
+    pub each_chain : (P : ℕ × ℕ → Type 0) (c : ℕ) → ((i : ℕ) → i < c → P (nb i, nb (suc i))) → (e : ℕ × ℕ) → Contains (chain nb c) e → P e
     each_chain P zero h = each_none P
     each_chain P (suc c) h = each P (nb c, nb (suc c)) (chain nb c) (h c (omega arith)) (each_chain P c (λ i l. h i (omega arith)))
 

@@ -7,9 +7,10 @@ use Rattle.std.specs.Prelude.{neg_ℤ}
 use Rattle.plane.proofs.BracketIdentities.{bracket-swap}
 use Rattle.plane_tiling.proofs.Counting.{at}
 use Rattle.plane_tiling.proofs.Tiles.{point_at, by_signs, bracket_not_left}
-use Rattle.plane_edits.specs.RemovalHull.{CornerGoes, CornerStarFlips, FlatSideCloses, FlatStarFlips}
+use Rattle.plane_edits.specs.RemovalHull.{CornerGoes, CornerLeavesLine, CornerStarFlips, FlatSideCloses, FlatStarFlips}
 use Rattle.plane_edits.proofs.RemovalHull as H
 use Rattle.plane_edits.proofs.RemovalHullCut as T
+use Rattle.plane_edits.proofs.RemovalHullLine as N
 
 pub corner_star_flips : CornerStarFlips
 corner_star_flips points faces outer v k nb m star corner i h =
@@ -31,3 +32,8 @@ corner_goes points faces new outer outer' v k nb m star corner bent change outer
 
 pub flat_side_closes : FlatSideCloses
 flat_side_closes points faces new outer outer' v nb m star flat change outer_change = T.flat_closed points faces new outer outer' m v nb star (if_on (place points (nb 0)) (place points v) (place points (nb 2)) flat) change outer_change
+
+pub corner_leaves_line : CornerLeavesLine
+corner_leaves_line points faces new outer outer' v k nb m star corner bent change outer_change empty = N.line_left points faces new outer outer' m v k nb star
+    (if_left (place points v) (place points (nb 0)) (place points (nb k)) corner)
+    (λ j h. bracket_not_left (place points (nb j)) (place points (nb (suc j))) (place points (nb (suc (suc j)))) (bent j h)) change outer_change empty

@@ -6,7 +6,7 @@ use Rattle.plane.specs.Pairs.{place}
 use Rattle.plane.specs.Tiling.{Face, face}
 use Rattle.plane_tiling.specs.Local.{LocalMesh}
 use Rattle.plane_edits.specs.Change.{IsFaceOf, FacesChange, OuterChange}
-use Rattle.plane_edits.specs.Removal.{LocalMeshWithout}
+use Rattle.plane_edits.specs.Removal.{LocalMeshWithout, LineMeshWithout}
 
 -- the faces at v, one after another to the left, from the outer edge that reaches v to the one that leaves it: their corners besides v are neighbours 0, 1, .., k
 pub record IsHullStar (faces : List Face) (outer : List (ℕ × ℕ)) (v k : ℕ) (neighbour : ℕ → ℕ) : Type 0 where
@@ -43,10 +43,22 @@ FlatSideCloses = (points : List Point) (faces new : List Face) (outer outer' : L
     → FacesChange faces new (face v (neighbour 0) (neighbour 1) ∷ face v (neighbour 1) (neighbour 2) ∷ []) (face (neighbour 0) (neighbour 1) (neighbour 2) ∷ [])
     → OuterChange outer outer' ((neighbour 0, v) ∷ (v, neighbour 2) ∷ []) ((neighbour 0, neighbour 2) ∷ []) → LocalMeshWithout v points new outer'
 
+-- no three neighbours in a row turn left
+abbrev pub NoneTurnsLeft : List Point → ℕ → (ℕ → ℕ) → Type 0
+NoneTurnsLeft points k neighbour = (i : ℕ) → suc i < k → ¬ TurnsLeft (place points (neighbour i)) (place points (neighbour (suc i))) (place points (neighbour (suc (suc i))))
+
 -- at a corner of the hull where no neighbours turn left, the faces go, and the ways between neighbours become outer edges
 abbrev pub CornerGoes : Type 0
 CornerGoes = (points : List Point) (faces new : List Face) (outer outer' : List (ℕ × ℕ)) (v k : ℕ) (neighbour : ℕ → ℕ) → LocalMesh points faces outer → IsHullStar faces outer v k neighbour
     → TurnsLeft (place points v) (place points (neighbour 0)) (place points (neighbour k))
-    → ((i : ℕ) → suc i < k → ¬ TurnsLeft (place points (neighbour i)) (place points (neighbour (suc i))) (place points (neighbour (suc (suc i)))))
+    → NoneTurnsLeft points k neighbour
     → FacesChange faces new (strip v neighbour k) [] → OuterChange outer outer' ((neighbour 0, v) ∷ (v, neighbour k) ∷ []) (chain neighbour k)
     → new ≢ [] → LocalMeshWithout v points new outer'
+
+-- and where these were all faces, the other vertices are on one line
+abbrev pub CornerLeavesLine : Type 0
+CornerLeavesLine = (points : List Point) (faces new : List Face) (outer outer' : List (ℕ × ℕ)) (v k : ℕ) (neighbour : ℕ → ℕ) → LocalMesh points faces outer → IsHullStar faces outer v k neighbour
+    → TurnsLeft (place points v) (place points (neighbour 0)) (place points (neighbour k))
+    → NoneTurnsLeft points k neighbour
+    → FacesChange faces new (strip v neighbour k) [] → OuterChange outer outer' ((neighbour 0, v) ∷ (v, neighbour k) ∷ []) (chain neighbour k)
+    → new ≡ [] → LineMeshWithout v points outer'

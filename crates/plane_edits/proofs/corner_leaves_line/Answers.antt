@@ -1,0 +1,5 @@
+use Rattle.plane_edits.proofs.RemovalHulls.{corner_leaves_line}
+use Rattle.plane_edits.proofs.corner_leaves_line.Goals as goal
+
+pub returns : goal.returns
+returns c = corner_leaves_line
