@@ -5,3 +5,5 @@ pub mod Lowering
 pub mod EitherWay
 pub mod Order
 pub mod Chosen
+pub mod Parts
+pub mod Splits

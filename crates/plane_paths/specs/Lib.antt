@@ -1,3 +1,4 @@
 pub mod Path
 pub mod Measure
 pub mod Laws
+pub mod Constraints

@@ -1,6 +1,7 @@
 //! From crossing edges to an edge: laws of the flips that make a segment between two vertices an edge.
 #![tactic(auto)]
 
+ghost use Rattle.plane_paths.specs.Constraints.{SplitIsAppend, StraightHalvesJoin};
 ghost use Rattle.plane_paths.specs.Laws.{UncrossedIsEdge, ChosenFlipIsConvex, ChosenFlipLowers, CrossingIsEitherWay, ChosenFlipExists, EndsAreOrdered, LastHasNoneAfter};
 
 /// A law: a segment between two vertices that carries no third and that no edge crosses is an edge.
@@ -36,4 +37,14 @@ pub fn ends_are_ordered()
 /// A law: an end of crossing edges that none comes after is a last one.
 pub fn last_has_none_after()
     ensures { LastHasNoneAfter }
+{}
+
+/// A law: where the constraints are edges, splitting the one that carries a new vertex, or none where none does, is what an insert makes of them.
+pub fn split_is_append()
+    ensures { SplitIsAppend }
+{}
+
+/// A law: between the far ends of two edges that meet straight at a vertex there is no other vertex and no edge, and no edge but those at the vertex crosses.
+pub fn straight_halves_join()
+    ensures { StraightHalvesJoin }
 {}

@@ -1,0 +1,35 @@
+-- What edits make of constraints: a new vertex on one splits it, and its straight halves can be joined when their vertex goes.
+use Rattle.std.specs.Prelude.{◌≡◌, ◌≢◌, ◌⊎◌, ◌↔◌, ℕ, List}
+use Rattle.plane.specs.Fraction.{Point, whole, WithinSegment}
+use Rattle.plane.specs.Crossing.{Cross}
+use Rattle.plane.specs.Pairs.{Joins, IsSamePair, SamePairs, place}
+use Rattle.plane.specs.Tiling.{Triangulation, IsVertex, IsEdge, vertex}
+use Rattle.plane_tiling.specs.Laws.{EdgesMeetAtVertices}
+
+-- the pair of i and j goes, and its halves at n come
+abbrev pub SplitsPair : List (ℕ × ℕ) → List (ℕ × ℕ) → ℕ → ℕ → ℕ → Type 0
+SplitsPair old new n i j = (a b : ℕ) → Joins new a b ↔ ((Joins old a b × ¬ IsSamePair a b i j) ⊎ (IsSamePair a b i n ⊎ IsSamePair a b n j))
+
+-- what an insert of a vertex at q, with the index n, makes of the pairs, in the words of plain states: a pair that carries it becomes two halves
+abbrev pub IsHalfOf : List Point → List (ℕ × ℕ) → ℕ → Point → ℕ → ℕ → Type 0
+IsHalfOf points old n q i m = (m ≡ n) × ((j : ℕ) × Joins old i j × WithinSegment (place points i) (place points j) (whole q))
+
+abbrev pub AppendsPairs : List Point → List (ℕ × ℕ) → List (ℕ × ℕ) → ℕ → Point → Type 0
+AppendsPairs points old new n q = (i j : ℕ) → Joins new i j ↔ ((Joins old i j × ¬ WithinSegment (place points i) (place points j) (whole q)) ⊎ (IsHalfOf points old n q i j ⊎ IsHalfOf points old n q j i))
+
+-- one pair carries q and is split, or none does and all stay
+abbrev pub SplitsOneOrNone : List Point → List (ℕ × ℕ) → List (ℕ × ℕ) → ℕ → Point → Type 0
+SplitsOneOrNone points old new n q = ((i : ℕ) × (j : ℕ) × Joins old i j × WithinSegment (place points i) (place points j) (whole q) × SplitsPair old new n i j)
+    ⊎ (((i j : ℕ) → Joins old i j → ¬ WithinSegment (place points i) (place points j) (whole q)) × SamePairs old new)
+
+-- where the pairs are edges, that is what an insert makes of them
+abbrev pub SplitIsAppend : Type 0
+SplitIsAppend = (t : Triangulation) (old new : List (ℕ × ℕ)) (n : ℕ) (q : Point) → EdgesMeetAtVertices t → ((a b : ℕ) → Joins old a b → IsEdge t a b) → SplitsOneOrNone t.points old new n q → AppendsPairs t.points old new n q
+
+-- two edges that end at v, strictly between their other ends a and b: no other vertex is strictly between these, they have no edge, and no edge but those at v crosses their segment
+abbrev pub StraightHalvesJoin : Type 0
+StraightHalvesJoin = (t : Triangulation) (a b v : ℕ) → EdgesMeetAtVertices t → IsVertex t v → ((k : ℕ) → IsVertex t k → k ≢ v → vertex t k ≢ vertex t v)
+    → IsEdge t a v → IsEdge t v b → WithinSegment (vertex t a) (vertex t b) (vertex t v)
+    → ((k : ℕ) → IsVertex t k → k ≢ v → ¬ WithinSegment (vertex t a) (vertex t b) (vertex t k))
+    × (¬ IsEdge t a b)
+    × ((c d : ℕ) → IsEdge t c d → c ≢ v → d ≢ v → ¬ Cross (vertex t a) (vertex t b) (vertex t c) (vertex t d))
