@@ -55,17 +55,17 @@ decide_after_on_left : (i y w : Point) → Decision (ComesAfterOnLeft i y w)
 decide_after_on_left i y w = decide_either (decide_side (side (whole i) (whole y) (whole w)) left) (decide_both (decide_side (side (whole i) (whole y) (whole w)) on) (decide_below (squared_way i y) (squared_way i w)))
 
 -- ---- of the indexes below n with a property, one that none comes after
-record IsLastBelow (P : ℕ → Type 0) (After : ℕ → ℕ → Type 0) (n k : ℕ) : Type 0 where
-  index : k < n
-  has : P k
-  last : (m : ℕ) → m < n → P m → ¬ After k m
+pub record IsLastBelow (P : ℕ → Type 0) (After : ℕ → ℕ → Type 0) (n k : ℕ) : Type 0 where
+  pub index : k < n
+  pub has : P k
+  pub last : (m : ℕ) → m < n → P m → ¬ After k m
 
 module _ (P : ℕ → Type 0) (After : ℕ → ℕ → Type 0) (decide : (k : ℕ) → Decision (P k)) (decide_after : (k m : ℕ) → Decision (After k m))
     (After-trans : (a b c : ℕ) → P a → P b → P c → After a b → After b c → After a c) (After-irrefl : (a : ℕ) → ¬ After a a) where
   cases : (m n : ℕ) → m < suc n → (m < n) ⊎ (m ≡ n)
   cases m n h = grind arith
 
-  last_below : (n : ℕ) → ((k : ℕ) × IsLastBelow P After n k) ⊎ ((m : ℕ) → m < n → ¬ P m)
+  pub last_below : (n : ℕ) → ((k : ℕ) × IsLastBelow P After n k) ⊎ ((m : ℕ) → m < n → ¬ P m)
   last_below zero = inr (λ m h p. absurd (omega arith))
   last_below (suc n) = go (decide n) (last_below n)
     where

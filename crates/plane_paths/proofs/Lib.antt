@@ -7,3 +7,4 @@ pub mod Order
 pub mod Chosen
 pub mod Parts
 pub mod Splits
+pub mod Pieces

@@ -1,8 +1,8 @@
 -- What edits make of constraints: a new vertex on one splits it, and its straight halves can be joined when their vertex goes.
 use Rattle.std.specs.Prelude.{◌≡◌, ◌≢◌, ◌⊎◌, ◌↔◌, ℕ, List}
-use Rattle.plane.specs.Fraction.{Point, whole, WithinSegment}
+use Rattle.plane.specs.Fraction.{Point, whole, OnSegment, WithinSegment}
 use Rattle.plane.specs.Crossing.{Cross}
-use Rattle.plane.specs.Pairs.{Joins, IsSamePair, SamePairs, place}
+use Rattle.plane.specs.Pairs.{Joins, IsSamePair, SamePairs, place, IsIndex}
 use Rattle.plane.specs.Tiling.{Triangulation, IsVertex, IsEdge, vertex}
 use Rattle.plane_tiling.specs.Laws.{EdgesMeetAtVertices}
 
@@ -33,3 +33,29 @@ StraightHalvesJoin = (t : Triangulation) (a b v : ℕ) → EdgesMeetAtVertices t
     → ((k : ℕ) → IsVertex t k → k ≢ v → ¬ WithinSegment (vertex t a) (vertex t b) (vertex t k))
     × (¬ IsEdge t a b)
     × ((c d : ℕ) → IsEdge t c d → c ≢ v → d ≢ v → ¬ Cross (vertex t a) (vertex t b) (vertex t c) (vertex t d))
+
+-- ---- the path of constraints between two vertices
+-- a and b are vertices of the closed segment of i and j, next to one another on it, as plain states have it
+pub record AreNextOn (points : List Point) (i j a b : ℕ) : Type 0 where
+  pub apart : a ≢ b
+  pub first_index : IsIndex points a
+  pub second_index : IsIndex points b
+  pub first : OnSegment (place points i) (place points j) (place points a)
+  pub second : OnSegment (place points i) (place points j) (place points b)
+  pub none_between : (k : ℕ) → IsIndex points k → ¬ WithinSegment (place points a) (place points b) (place points k)
+
+abbrev pub ArePlacedApart : List Point → Type 0
+ArePlacedApart points = (a b : ℕ) → IsIndex points a → IsIndex points b → a ≢ b → place points a ≢ place points b
+
+-- it has a first piece
+abbrev pub PathBegins : Type 0
+PathBegins = (points : List Point) (i j : ℕ) → ArePlacedApart points → IsIndex points i → IsIndex points j → i ≢ j → (w : ℕ) × AreNextOn points i j i w
+
+-- and is this piece with the path from its end
+abbrev pub PathGoesOn : Type 0
+PathGoesOn = (points : List Point) (i j w : ℕ) → ArePlacedApart points → IsIndex points j → i ≢ j → AreNextOn points i j i w
+    → (a b : ℕ) → AreNextOn points i j a b ↔ (IsSamePair a b i w ⊎ AreNextOn points w j a b)
+
+-- from a vertex to itself there is no piece
+abbrev pub PathEnds : Type 0
+PathEnds = (points : List Point) (j : ℕ) → ArePlacedApart points → (a b : ℕ) → ¬ AreNextOn points j j a b

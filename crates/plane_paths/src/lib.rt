@@ -1,7 +1,7 @@
 //! From crossing edges to an edge: laws of the flips that make a segment between two vertices an edge.
 #![tactic(auto)]
 
-ghost use Rattle.plane_paths.specs.Constraints.{SplitIsAppend, StraightHalvesJoin};
+ghost use Rattle.plane_paths.specs.Constraints.{SplitIsAppend, StraightHalvesJoin, PathBegins, PathGoesOn, PathEnds};
 ghost use Rattle.plane_paths.specs.Laws.{UncrossedIsEdge, ChosenFlipIsConvex, ChosenFlipLowers, CrossingIsEitherWay, ChosenFlipExists, EndsAreOrdered, LastHasNoneAfter};
 
 /// A law: a segment between two vertices that carries no third and that no edge crosses is an edge.
@@ -47,4 +47,19 @@ pub fn split_is_append()
 /// A law: between the far ends of two edges that meet straight at a vertex there is no other vertex and no edge, and no edge but those at the vertex crosses.
 pub fn straight_halves_join()
     ensures { StraightHalvesJoin }
+{}
+
+/// A law: between two different vertices some vertex of the closed segment comes next after the first.
+pub fn path_begins()
+    ensures { PathBegins }
+{}
+
+/// A law: the neighbours on the segment are that first piece and those on the segment from its end.
+pub fn path_goes_on()
+    ensures { PathGoesOn }
+{}
+
+/// A law: from a vertex to itself there are no neighbours.
+pub fn path_ends()
+    ensures { PathEnds }
 {}
