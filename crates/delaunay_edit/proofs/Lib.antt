@@ -11,3 +11,4 @@ pub mod Growing
 pub mod Cases
 pub mod Overwriting
 pub mod Appending
+pub mod InsertionCases

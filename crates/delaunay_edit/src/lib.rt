@@ -3,6 +3,7 @@
 
 mod elements;
 mod insertion;
+mod insertion_cases;
 mod location;
 mod position_in_triangulation;
 mod predicates;
