@@ -151,6 +151,22 @@ module _ (n : ℕ) (p : ℕ → Point) (faces : List Face) (outer : List (ℕ ×
   rotated : (i j : ℕ) → pos 0 <ℤ turn i j → pos 0 <ℤ bracket (at p (nb j)) (at p v) (at p (nb i))
   rotated i j h = subst (λ z. pos 0 <ℤ z) (bracket-turn (at p v) (at p (nb i)) (at p (nb j)) ∙ bracket-turn (at p (nb i)) (at p (nb j)) (at p v)) h
 
+  -- v has a face, and two where its first and last neighbours are in line with it
+  some_face : 0 < k
+  some_face =
+      let s = C.behind_outer n p faces outer m v (nb k) star.leaves in
+      let o = star.only s.0 (nb k) (turned faces (nb k) v s.0 s.1) in
+      above o.0 o.1
+    where
+      above : (i : ℕ) → i < k → 0 < k
+      above i h = omega arith
+
+  pub two_faces : turn 0 k ≡ pos 0 → 2 ≤ k
+  two_faces flat = elim (cases_eq k 1) [ inl e ↦ absurd (left_not_zero (step 0 some_face) (subst (λ o. turn 0 o ≡ pos 0) e flat)) | inr ne ↦ more some_face ne ]
+    where
+      more : 0 < k → k ≢ 1 → 2 ≤ k
+      more h ne = omega arith
+
   -- all others but the last are left of the first
   pub past_first : (j : ℕ) → suc j < k → pos 0 <ℤ turn 0 (suc j)
   past_first j h = go (zero_or_left (from_first (nb (suc j)) (neighbour_is (suc j) (omega arith)))) (lt_or_ge_ℤ (pos 0) (turn (suc j) 1))

@@ -2,12 +2,14 @@
 use Rattle.std.proofs.Common.{◌≡◌, ℕ, suc, ◌≤◌, length, ap, ◌∙◌, arith}
 use Prim.Native.Nat.{◌-◌}
 use Rattle.plane.specs.Pairs.{place}
-use Rattle.plane.proofs.Sides.{if_left, if_on, left_if}
+use Rattle.plane.proofs.Sides.{if_left, if_on, left_if, on_if}
 use Rattle.std.specs.Prelude.{neg_ℤ}
 use Rattle.plane.proofs.BracketIdentities.{bracket-swap}
+use mathlib.Core.Logic.{inl, inr}
+use Rattle.plane.proofs.Steps.{zero_or_left}
 use Rattle.plane_tiling.proofs.Counting.{at}
 use Rattle.plane_tiling.proofs.Tiles.{point_at, by_signs, bracket_not_left}
-use Rattle.plane_edits.specs.RemovalHull.{CornerGoes, CornerLeavesLine, CornerStarFlips, FlatSideCloses, FlatStarFlips}
+use Rattle.plane_edits.specs.RemovalHull.{CornerGoes, CornerLeavesLine, CornerOrFlat, CornerStarFlips, FlatSideCloses, FlatStarFlips}
 use Rattle.plane_edits.proofs.RemovalHull as H
 use Rattle.plane_edits.proofs.RemovalHullCut as T
 use Rattle.plane_edits.proofs.RemovalHullLine as N
@@ -37,3 +39,9 @@ pub corner_leaves_line : CornerLeavesLine
 corner_leaves_line points faces new outer outer' v k nb m star corner bent change outer_change empty = N.line_left points faces new outer outer' m v k nb star
     (if_left (place points v) (place points (nb 0)) (place points (nb k)) corner)
     (λ j h. bracket_not_left (place points (nb j)) (place points (nb (suc j))) (place points (nb (suc (suc j)))) (bent j h)) change outer_change empty
+
+pub corner_or_flat : CornerOrFlat
+corner_or_flat points faces outer v k nb m star = elim (zero_or_left (H.from_first (length points) (point_at points) faces outer (by_signs points faces outer m) v k nb star (nb k) (H.neighbour_is (length points) (point_at points) faces outer (by_signs points faces outer m) v k nb star k (omega arith)))) [
+  | inl e ↦ inr (on_if (place points (nb 0)) (place points v) (place points (nb k)) (bracket-swap (at (point_at points) (nb 0)) (at (point_at points) v) (at (point_at points) (nb k)) ∙ ap neg_ℤ e), H.two_faces (length points) (point_at points) faces outer (by_signs points faces outer m) v k nb star e)
+  | inr l ↦ inl (left_if (place points v) (place points (nb 0)) (place points (nb k)) l)
+]

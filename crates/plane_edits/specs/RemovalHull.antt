@@ -1,5 +1,5 @@
 -- What is proved of the removal of a vertex on the hull: its inner edges can be flipped away, then its faces dropped, or closed by one where its side is flat.
-use Rattle.std.specs.Prelude.{◌≡◌, ◌≢◌, ℕ, zero, suc, ◌<◌, ◌≤◌, List, [], ◌∷◌, Contains}
+use Rattle.std.specs.Prelude.{◌≡◌, ◌≢◌, ◌⊎◌, ℕ, zero, suc, ◌<◌, ◌≤◌, List, [], ◌∷◌, Contains}
 use Rattle.plane.specs.Fraction.{Point}
 use Rattle.plane.specs.Side.{side, on, TurnsLeft}
 use Rattle.plane.specs.Pairs.{place}
@@ -24,6 +24,11 @@ strip v neighbour (suc k) = face v (neighbour k) (neighbour (suc k)) ∷ strip v
 abbrev pub chain : (ℕ → ℕ) → ℕ → List (ℕ × ℕ)
 chain neighbour zero = []
 chain neighbour (suc k) = (neighbour k, neighbour (suc k)) ∷ chain neighbour k
+
+-- a vertex of the hull is at a corner, or on a flat side with two faces or more
+abbrev pub CornerOrFlat : Type 0
+CornerOrFlat = (points : List Point) (faces : List Face) (outer : List (ℕ × ℕ)) (v k : ℕ) (neighbour : ℕ → ℕ) → LocalMesh points faces outer → IsHullStar faces outer v k neighbour
+    → TurnsLeft (place points v) (place points (neighbour 0)) (place points (neighbour k)) ⊎ ((side (place points (neighbour 0)) (place points v) (place points (neighbour k)) ≡ on) × (2 ≤ k))
 
 -- at a vertex on a flat side of the hull, with three faces or more, the edge to a neighbour i + 1 lies across a strictly convex quadrilateral
 abbrev pub FlatStarFlips : Type 0

@@ -3,7 +3,7 @@
 
 ghost use Rattle.plane_edits.specs.Laws.{InsertionInsideKeeps, InsertionWithinSideKeeps, InsertionWithinOuterKeeps, FlipKeeps, FlipCovers, ExtensionBegins, ExtensionGoesOn, ExtensionGoesBack, ExtensionEnds, ExtensionOverLineEnds, InsertionPastEndKeeps, InsertionBetweenKeeps};
 ghost use Rattle.plane_edits.specs.LegalLaws.{OneQuestionForBoth, FailingIsConvex, FlipLowers, FlipLeavesSides, PassingIsDropped, ChangeLeavesSides, NoneLeftIsLocallyDelaunay, AwayIsNoEdge, FlipGoesAway, AwayIsBounded};
-ghost use Rattle.plane_edits.specs.RemovalHull.{CornerGoes, CornerLeavesLine, CornerStarFlips, FlatSideCloses, FlatStarFlips};
+ghost use Rattle.plane_edits.specs.RemovalHull.{CornerGoes, CornerLeavesLine, CornerOrFlat, CornerStarFlips, FlatSideCloses, FlatStarFlips};
 ghost use Rattle.plane_edits.specs.RemovalLaws.{EndOfLineGoes, FourFacesMerge, InnerStarFlips, LastTakesFreedIndex, LastTakesFreedIndexOnLine, MiddleOfLineGoes, ThreeFacesMerge};
 
 /// A law: a vertex strictly inside a face, joined to its three corners, keeps a mesh local.
@@ -174,4 +174,9 @@ pub fn flat_side_closes()
 /// A law: where all faces go with a corner of the hull, a line of the other vertices is left.
 pub fn corner_leaves_line()
     ensures { CornerLeavesLine }
+{}
+
+/// A law: a vertex of the hull is at a corner, or on a flat side with two faces or more.
+pub fn corner_or_flat()
+    ensures { CornerOrFlat }
 {}

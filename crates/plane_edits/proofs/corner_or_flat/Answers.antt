@@ -1,0 +1,5 @@
+use Rattle.plane_edits.proofs.RemovalHulls.{corner_or_flat}
+use Rattle.plane_edits.proofs.corner_or_flat.Goals as goal
+
+pub returns : goal.returns
+returns c = corner_or_flat
