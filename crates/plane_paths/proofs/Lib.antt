@@ -8,3 +8,4 @@ pub mod Chosen
 pub mod Parts
 pub mod Splits
 pub mod Pieces
+pub mod Whole

@@ -59,3 +59,8 @@ PathGoesOn = (points : List Point) (i j w : ℕ) → ArePlacedApart points → I
 -- from a vertex to itself there is no piece
 abbrev pub PathEnds : Type 0
 PathEnds = (points : List Point) (j : ℕ) → ArePlacedApart points → (a b : ℕ) → ¬ AreNextOn points j j a b
+
+-- what crosses a piece crosses the whole segment: where no constraint crosses this, none crosses a piece
+abbrev pub PieceCrossesWhole : Type 0
+PieceCrossesWhole = (points : List Point) (i j a b c d : ℕ) → ArePlacedApart points → IsIndex points i → IsIndex points j → i ≢ j → IsIndex points c → IsIndex points d → c ≢ d → AreNextOn points i j a b
+    → Cross (place points a) (place points b) (place points c) (place points d) → Cross (place points i) (place points j) (place points c) (place points d)

@@ -1,7 +1,7 @@
 //! From crossing edges to an edge: laws of the flips that make a segment between two vertices an edge.
 #![tactic(auto)]
 
-ghost use Rattle.plane_paths.specs.Constraints.{SplitIsAppend, StraightHalvesJoin, PathBegins, PathGoesOn, PathEnds};
+ghost use Rattle.plane_paths.specs.Constraints.{SplitIsAppend, StraightHalvesJoin, PathBegins, PathGoesOn, PathEnds, PieceCrossesWhole};
 ghost use Rattle.plane_paths.specs.Laws.{UncrossedIsEdge, ChosenFlipIsConvex, ChosenFlipLowers, CrossingIsEitherWay, ChosenFlipExists, EndsAreOrdered, LastHasNoneAfter};
 
 /// A law: a segment between two vertices that carries no third and that no edge crosses is an edge.
@@ -62,4 +62,9 @@ pub fn path_goes_on()
 /// A law: from a vertex to itself there are no neighbours.
 pub fn path_ends()
     ensures { PathEnds }
+{}
+
+/// A law: what crosses a piece between two neighbours on a segment crosses the whole segment.
+pub fn piece_crosses_whole()
+    ensures { PieceCrossesWhole }
 {}
