@@ -1,23 +1,25 @@
 //! Triangulations without constraints.
-ghost use Rattle.std.specs.Prelude.{◌≡◌, ◌+◌, ◌*◌, ◌<◌, ◌≤◌, [], length, map, All};
+ghost use Rattle.std.specs.Prelude.{◌≡◌, ◌↔◌, ◌+◌, ◌*◌, ◌<◌, ◌≤◌, [], length, map, All, IsOk, IsErrOf, IfOk, OnErr};
 ghost use Rattle.half_edge_links.specs.Mesh.{empty};
 ghost use Rattle.half_edge_mesh.specs.Left.{vertices_left, faces_left};
 ghost use Rattle.plane.specs.Fraction.{whole as fraction};
 ghost use Rattle.plane.specs.Tests.{InRange};
-ghost use Rattle.plane.specs.Plain.{IsPlain};
+ghost use Rattle.plane.specs.Plain.{IsPlain, Inserts};
 ghost use Rattle.plane.specs.Tiling.{IsTiling};
 ghost use Rattle.plane.specs.Location.{IsLocation};
 ghost use Rattle.delaunay_core.specs.Place.{place_of};
+ghost use Rattle.delaunay_core.specs.declared.math.InsertionError.TheVariants.{TooLarge, OutOfIndexes};
+ghost use Rattle.delaunay_edit.specs.Known.{IsKnown};
 ghost use Rattle.delaunay_edit.specs.Elements.{GivesElements, HasElement};
 ghost use Rattle.delaunay_edit.specs.Location.{location_of};
 ghost use Rattle.delaunay_edit.specs.State.{state_of, plain_of, triangulation_of};
 
-use delaunay_core::math::PlaneTests;
+use delaunay_core::math::{InsertionError, PlaneTests};
 use delaunay_core::point::{HasPosition, Point2};
 use delaunay_edit::{PositionInTriangulation, TriangulationCore};
 use half_edge_mesh::{
     DirectedEdgeHandle, FaceHandle, FaceIterator, FixedDirectedEdgeHandle, FixedFaceHandle,
-    FixedVertexHandle, VertexHandle, VertexIterator,
+    FixedVertexHandle, MAX_ELEMENTS, VertexHandle, VertexIterator,
 };
 use std::alloc::Global;
 use std::marker::Model;
@@ -150,5 +152,36 @@ impl<V: HasPosition, DE, UE, F> DelaunayTriangulation<V, DE, UE, F> {
     {
         let _ = self.core.num_vertices();
         self.core.locate(point, tests)
+    }
+}
+
+impl<V: HasPosition + Drop, DE: Default, UE: Default, F: Default> DelaunayTriangulation<
+    V,
+    DE,
+    UE,
+    F,
+> {
+    /// Inserts a vertex and gives its handle. The first of these that applies decides: `TooLarge` where a coordinate is out
+    /// of range; the handle of the vertex at its position, which it replaces; `OutOfIndexes` where the mesh is full;
+    /// `OutOfMemory` where memory was refused; else the handle of the new last vertex. A refused vertex is dropped, and
+    /// nothing else changes.
+    pub fn insert<P: PlaneTests<V::Scalar>>(
+        &mut self,
+        value: V,
+        tests: &P,
+    ) -> Result<FixedVertexHandle, InsertionError>
+        requires sites { All (P.sites tests.now) (map V.place self.old.vertices) }
+        requires new_site { InRange (V.place value) → P.sites tests.now (V.place value) }
+        requires few { InRange (V.place value) → ¬ IsKnown (map V.place self.old.vertices) (V.place value) → length self.old.vertices < 3 }
+
+        ensures too_large { IsErrOf result TooLarge ↔ ¬ InRange (V.place value) }
+        ensures known { InRange (V.place value) → IsKnown (map V.place self.old.vertices) (V.place value) → IsOk result }
+        ensures full { IsErrOf result OutOfIndexes ↔ (InRange (V.place value) × (¬ IsKnown (map V.place self.old.vertices) (V.place value)) × (MAX_ELEMENTS < 6 * (length self.old.vertices + 1))) }
+        ensures ok { IfOk result (λ i. Inserts V.place (plain_of self.old) (plain_of self.new) value i) }
+        ensures replaced { InRange (V.place value) → IsKnown (map V.place self.old.vertices) (V.place value) → self.new.mesh ≡ self.old.mesh }
+        ensures tiling { IsTiling (triangulation_of V.place self.new) }
+        ensures err { OnErr result (self.new ≡ self.old) }
+    {
+        self.core.insert(value, tests)
     }
 }
