@@ -1,7 +1,7 @@
 -- A mesh with faces gets one more vertex, inside a face or within an edge.
 use Rattle.std.proofs.Common.{◌≡◌, ℕ, ◌<◌, ◌≤◌, ◌+◌, List, [], ◌∷◌, ◌++◌, length, length-append, sym, ap, ◌∙◌, subst, inl, inr, arith}
 use Rattle.std.proofs.lemmas.List.{length-map, length-set}
-use Rattle.half_edge_links.specs.Mesh.{Mesh, IsSound, IsValid, IsInnerEdge, origin, next, prev, face, face_edge, rev}
+use Rattle.half_edge_links.specs.Mesh.{Mesh, IsSound, IsValid, IsInnerEdge, origin, next, face, face_edge, rev}
 use Rattle.half_edge_links.specs.Flip.{IsFlippable}
 use Rattle.half_edge_links.specs.Grow.{IsHalfSplittable}
 use Rattle.half_edge_links.specs.Triangles.{triangle_at, triangles, InsertsTriangles, SplitsTriangles}
@@ -52,12 +52,12 @@ module _ (points : List Point) (q : Point) (m new : Mesh) (v : ℕ) (w : IsValid
   pub within_side_shape : (e : ℕ) → IsFlippable m e → IsWithinEdge points m q e → SplitsTriangles m new v e → KeepsOuter m new → IsMesh (points ++ q ∷ []) (faces_of new) (outer_of new)
   within_side_shape e x within change outer =
       inl (insertion_within_side points q m new e w.sound x (with_faces points m e w.sound (x.within, x.inner) shape)
-        (subst (λ k. WithinSegment (place points (origin m e)) (place points k) (whole q)) (sym (w.sound.edges e x.within).starts) within)
-        (subst (λ k. SplitsTriangles m new k e) last change) outer)
+      (subst (λ k. WithinSegment (place points (origin m e)) (place points k) (whole q)) (sym (w.sound.edges e x.within).starts) within)
+      (subst (λ k. SplitsTriangles m new k e) last change) outer)
 
   -- strictly within the edge e, with the outer face on its right
   pub within_outer_shape : (e a b : ℕ) → IsHalfSplittable m e → length points ≡ length m.out_edges → IsWithinEdge points m q e → HalfSplitsTriangles m new v e → ReplacesOuter m new (rev e) v a b → IsMesh (points ++ q ∷ []) (faces_of new) (outer_of new)
   within_outer_shape e a b x fit within change outer =
       inl (insertion_within_outer points q m new e a b w.sound x fit (with_faces points m e w.sound (x.within, x.inner) shape)
-        (turned_within (place points (origin m e)) (place points (origin m (next m e))) (whole q) (subst (λ k. WithinSegment (place points (origin m e)) (place points k) (whole q)) (sym (w.sound.edges e x.within).starts) within))
-        (subst (λ k. HalfSplitsTriangles m new k e) last change) (subst (λ k. ReplacesOuter m new (rev e) k a b) last outer))
+      (turned_within (place points (origin m e)) (place points (origin m (next m e))) (whole q) (subst (λ k. WithinSegment (place points (origin m e)) (place points k) (whole q)) (sym (w.sound.edges e x.within).starts) within))
+      (subst (λ k. HalfSplitsTriangles m new k e) last change) (subst (λ k. ReplacesOuter m new (rev e) k a b) last outer))

@@ -1,4 +1,4 @@
-use Rattle.std.proofs.Common.{◌≡◌, ◌≤◌, ◌∙◌, ◌+◌, length, map, ap, sym, arith}
+use Rattle.std.proofs.Common.{◌≤◌, ◌∙◌, ◌+◌, length, map, ap, sym, arith}
 use Rattle.std.proofs.lemmas.List.{length-map}
 use Rattle.half_edge_mesh.proofs.Fits.{length-grown}
 use Rattle.delaunay_edit.proofs.Growing.{grown}
@@ -15,5 +15,5 @@ returns-clause-kept g c =
     let faces : length new.faces ≤ length old.faces + 2 = let f = length-grown _ old.faces new.faces 2 done.faces in omega (arith, f) in
     let here : c.args.face ≤ length old.mesh.face_edges = let w = c.requires.within in let f = c.requires.kept.fits.faces_fit in omega (arith, w, f) in
     grown g.V.HasPosition.place old new c.args.value c.requires.kept (ap (λ d. d.vertices) done.contents) c.requires.in_range c.num_vertices.ensures.whole edges faces
-      (inside_shape (map g.V.HasPosition.place old.vertices) (g.V.HasPosition.place c.args.value) old.mesh new.mesh c.insert_into_triangle-vertex.result c.requires.kept.valid c.requires.kept.shape (done.vertex ∙ sym places)
-        c.args.face c.requires.positive here c.requires.inside done.triangles done.outer)
+    (inside_shape (map g.V.HasPosition.place old.vertices) (g.V.HasPosition.place c.args.value) old.mesh new.mesh c.insert_into_triangle-vertex.result c.requires.kept.valid c.requires.kept.shape (done.vertex ∙ sym places)
+    c.args.face c.requires.positive here c.requires.inside done.triangles done.outer)
