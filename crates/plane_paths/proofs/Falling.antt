@@ -238,7 +238,7 @@ ray_y : (i j v z : Point) → turn_at i j z *ℤ (v.y -ℤ i.y) -ℤ turn_at i j
 ray_y i j v z = ring_over points_shape [] (i ∷ j ∷ v ∷ z ∷ []) (λ i j v z. turnᵖ i j z ⊗ (v.y ⊖ i.y) ⊖ turnᵖ i j v ⊗ (z.y ⊖ i.y)) (λ i j v z. turnᵖ i v z ⊗ (j.y ⊖ i.y)) tt
 
 -- the values f of z and g of v, the ways a b to v and c d to z
-same_values : (f g a b c d : ℤ) → f *ℤ a ≡ g *ℤ c → f *ℤ b ≡ g *ℤ d → (f *ℤ f) *ℤ (a *ℤ a +ℤ b *ℤ b) ≡ (g *ℤ g) *ℤ (c *ℤ c +ℤ d *ℤ d)
+pub same_values : (f g a b c d : ℤ) → f *ℤ a ≡ g *ℤ c → f *ℤ b ≡ g *ℤ d → (f *ℤ f) *ℤ (a *ℤ a +ℤ b *ℤ b) ≡ (g *ℤ g) *ℤ (c *ℤ c +ℤ d *ℤ d)
 same_values f g a b c d e h = ring_in_from (f ∷ g ∷ a ∷ b ∷ c ∷ d ∷ []) (λ f g a b c d. (f ⊗ f) ⊗ (a ⊗ a ⊕ b ⊗ b)) (λ f g a b c d. (g ⊗ g) ⊗ (c ⊗ c ⊕ d ⊗ d))
     (λ f g a b c d. (f ⊗ a ⊕ g ⊗ c, f ⊗ a, g ⊗ c) ∷ (f ⊗ b ⊕ g ⊗ d, f ⊗ b, g ⊗ d) ∷ []) (e, (h, tt)) tt
 
@@ -267,7 +267,7 @@ equal_squares f g s hf hg hs e = go (trichotomy_ℤ (f -ℤ g))
     go : ((f -ℤ g) <ℤ pos 0) ⊎ ((f -ℤ g ≡ pos 0) ⊎ (pos 0 <ℤ (f -ℤ g))) → f ≡ g
     go d = level f g (zero_of_mul-zero_ℤ (λ z. right_not_zero factor z) (commuted ((f +ℤ g) *ℤ s) (f -ℤ g) ∙ product f g s ∙ none ((f *ℤ f) *ℤ s) ((g *ℤ g) *ℤ s) e))
 
-not_both : (a b : ℤ) → a *ℤ a +ℤ b *ℤ b ≡ pos 0 → (a ≡ pos 0) × (b ≡ pos 0)
+pub not_both : (a b : ℤ) → a *ℤ a +ℤ b *ℤ b ≡ pos 0 → (a ≡ pos 0) × (b ≡ pos 0)
 not_both a b e = (root a (first (a *ℤ a) (b *ℤ b) e (square-nonneg_ℤ a) (square-nonneg_ℤ b)), root b (second (a *ℤ a) (b *ℤ b) e (square-nonneg_ℤ a) (square-nonneg_ℤ b)))
   where
     first : (p q : ℤ) → p +ℤ q ≡ pos 0 → pos 0 ≤ℤ p → pos 0 ≤ℤ q → p ≡ pos 0

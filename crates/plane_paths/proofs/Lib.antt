@@ -9,3 +9,4 @@ pub mod Parts
 pub mod Splits
 pub mod Pieces
 pub mod Whole
+pub mod Shorter

@@ -30,7 +30,7 @@ turn_of : (a b c : Point) → bracket (whole a) (whole b) (whole c) ≡ turn_at 
 unfolding bracket
 turn_of a b c = bracket-affine a b c
 
-smaller : (x y : ℤ) → pos 0 ≤ℤ x → x <ℤ y → nat_abs x < nat_abs y
+pub smaller : (x y : ℤ) → pos 0 ≤ℤ x → x <ℤ y → nat_abs x < nat_abs y
 smaller (pos a) (pos b) h k = omega (arith, ints)
 smaller (pos a) (negsuc b) h k = absurd (omega (arith, ints))
 smaller (negsuc a) y h k = absurd (omega (arith, ints))

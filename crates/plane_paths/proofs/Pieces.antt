@@ -33,7 +33,7 @@ first_part k l n a aw b bw p pw e d c = ring_in_from (k ∷ l ∷ n ∷ a ∷ aw
     (λ k l n a aw b bw p pw. (aw, n ⊗ p, k ⊗ a ⊕ l ⊗ b) ∷ (num 0 ⊖ a, n ⊗ pw, k ⊗ aw ⊕ l ⊗ bw) ∷ (b ⊗ aw ⊖ bw ⊗ a, l, num 0) ∷ []) (e, (d, (c, tt))) tt
 
 -- an end, or strictly within
-on_parts : (u v p : Fraction) → OnSegment u v p → IsSame p u ⊎ (IsSame p v ⊎ WithinSegment u v p)
+pub on_parts : (u v p : Fraction) → OnSegment u v p → IsSame p u ⊎ (IsSame p v ⊎ WithinSegment u v p)
 on_parts u v p h = go (zero_or_left t.k_allowed) (zero_or_left t.l_allowed)
   where
     t : TwoWeights IsNotNegative u v p

@@ -1,10 +1,12 @@
 -- What edits make of constraints: a new vertex on one splits it, and its straight halves can be joined when their vertex goes.
-use Rattle.std.specs.Prelude.{◌≡◌, ◌≢◌, ◌⊎◌, ◌↔◌, ℕ, List}
+use Rattle.std.specs.Prelude.{◌≡◌, ◌≢◌, ◌⊎◌, ◌↔◌, ℕ, ◌<◌, List, nat_abs}
 use Rattle.plane.specs.Fraction.{Point, whole, OnSegment, WithinSegment}
 use Rattle.plane.specs.Crossing.{Cross}
 use Rattle.plane.specs.Pairs.{Joins, IsSamePair, SamePairs, place, IsIndex}
 use Rattle.plane.specs.Tiling.{Triangulation, IsVertex, IsEdge, vertex}
+use Rattle.plane.specs.Laws.{squared_way}
 use Rattle.plane_tiling.specs.Laws.{EdgesMeetAtVertices}
+use Rattle.plane_edits.specs.Legal.{point_of}
 
 -- the pair of i and j goes, and its halves at n come
 abbrev pub SplitsPair : List (ℕ × ℕ) → List (ℕ × ℕ) → ℕ → ℕ → ℕ → Type 0
@@ -64,3 +66,8 @@ PathEnds = (points : List Point) (j : ℕ) → ArePlacedApart points → (a b : 
 abbrev pub PieceCrossesWhole : Type 0
 PieceCrossesWhole = (points : List Point) (i j a b c d : ℕ) → ArePlacedApart points → IsIndex points i → IsIndex points j → i ≢ j → IsIndex points c → IsIndex points d → c ≢ d → AreNextOn points i j a b
     → Cross (place points a) (place points b) (place points c) (place points d) → Cross (place points i) (place points j) (place points c) (place points d)
+
+-- the path from the end of its first piece is shorter
+abbrev pub PathShortens : Type 0
+PathShortens = (points : List Point) (i j w : ℕ) → ArePlacedApart points → IsIndex points i → IsIndex points j → i ≢ j → AreNextOn points i j i w
+    → nat_abs (squared_way (point_of points w) (point_of points j)) < nat_abs (squared_way (point_of points i) (point_of points j))

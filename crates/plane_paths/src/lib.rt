@@ -1,7 +1,7 @@
 //! From crossing edges to an edge: laws of the flips that make a segment between two vertices an edge.
 #![tactic(auto)]
 
-ghost use Rattle.plane_paths.specs.Constraints.{SplitIsAppend, StraightHalvesJoin, PathBegins, PathGoesOn, PathEnds, PieceCrossesWhole};
+ghost use Rattle.plane_paths.specs.Constraints.{SplitIsAppend, StraightHalvesJoin, PathBegins, PathGoesOn, PathEnds, PieceCrossesWhole, PathShortens};
 ghost use Rattle.plane_paths.specs.Laws.{UncrossedIsEdge, ChosenFlipIsConvex, ChosenFlipLowers, CrossingIsEitherWay, ChosenFlipExists, EndsAreOrdered, LastHasNoneAfter};
 
 /// A law: a segment between two vertices that carries no third and that no edge crosses is an edge.
@@ -67,4 +67,9 @@ pub fn path_ends()
 /// A law: what crosses a piece between two neighbours on a segment crosses the whole segment.
 pub fn piece_crosses_whole()
     ensures { PieceCrossesWhole }
+{}
+
+/// A law: from the end of the first piece the squared distance to the last vertex is less.
+pub fn path_shortens()
+    ensures { PathShortens }
 {}
