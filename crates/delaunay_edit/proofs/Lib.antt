@@ -12,3 +12,4 @@ pub mod Cases
 pub mod Overwriting
 pub mod Appending
 pub mod InsertionCases
+pub mod Legalizing
