@@ -13,3 +13,4 @@ pub mod Overwriting
 pub mod Appending
 pub mod InsertionCases
 pub mod Legalizing
+pub mod LineEnds
