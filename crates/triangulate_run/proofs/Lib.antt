@@ -8,3 +8,5 @@ pub mod RunLemmas
 pub mod SortedFaces
 pub mod FaceList
 pub mod Locations
+pub mod MeshFaces
+pub mod Insertions

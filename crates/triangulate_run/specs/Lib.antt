@@ -12,3 +12,5 @@ pub mod Output
 pub mod Piece
 pub mod Run
 pub mod Fault
+pub mod MeshFaces
+pub mod Engine

@@ -3,6 +3,7 @@
 
 mod circles;
 pub mod corners;
+mod engine;
 pub mod fault;
 mod input;
 pub mod law;
@@ -11,6 +12,6 @@ mod output;
 mod piece;
 pub mod points;
 pub mod reply;
-mod session;
+pub mod session;
 pub mod sheet;
 mod table;

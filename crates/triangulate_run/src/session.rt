@@ -1,20 +1,25 @@
 //! Lines in, replies out.
-ghost use Rattle.std.specs.Prelude.{◌≡◌, ℕ, List, false, IfSome, IfNone};
+ghost use Rattle.std.specs.Prelude.{◌≡◌, ℕ, List, true, false, All, IfSome, IfNone};
 ghost use Rattle.command_grammar.specs.Grammar.{Spells, SpellsNone};
 ghost use Rattle.watched.specs.Watched.{has_failed};
 ghost use Rattle.triangulate_run.specs.Line.{kept};
+ghost use Rattle.triangulate_run.specs.Points.{place};
 ghost use Rattle.triangulate_run.specs.Output.{Writes};
 ghost use Rattle.triangulate_run.specs.Stage.{Stage, first_stage, Fits};
 ghost use Rattle.triangulate_run.specs.Answer.{MayReply};
 ghost use Rattle.triangulate_run.specs.Run.{Answers, Ran, end_text};
 ghost use Rattle.triangulate_run.specs.declared.points.SheetPoint.{SheetPoint};
 
+use crate::engine::PointEngine;
 use crate::fault::RunError;
 use crate::input::next_byte;
 use crate::line_buffer::LineBuffer;
 use crate::output::write_all;
+use crate::points::SheetPoint;
 use crate::reply::{Reply, write_reply};
 use command_grammar::command::Command;
+use delaunay_core::math::PlaneTests;
+use std::alloc::Global;
 use std::io::{Read, Write};
 use watched::{Failed, Watched};
 
@@ -130,4 +135,30 @@ pub(crate) fn converse<E: Engine, R: Read, W: Write>(
             Err(Failed) => return Err(RunError::Read),
         }
     }
+}
+
+/// Answers each line of the reader to the writer, and passes the answer on before more is read.
+///
+/// The tests cover each of `points`, and have it as a site where it says so; vertices are inserted at
+/// these sites alone.
+///
+/// # Errors
+///
+/// `Read` where the reader failed: all complete lines that it gave are answered. `Write` where the
+/// writer failed: what it took is a beginning of the answers.
+pub fn run<P: PlaneTests<i64>, R: Read, W: Write>(
+    alloc: Global,
+    tests: &P,
+    points: &[SheetPoint],
+    reader: &mut Watched<R>,
+    writer: &mut Watched<W>,
+) -> Result<(), RunError>
+    requires covered { All (λ s. P.covered tests.now (place s)) points.now }
+    requires sites { All (λ s. s.site ≡ true → P.sites tests.now (place s)) points.now }
+    requires reader_works { has_failed reader.old ≡ false }
+    requires writer_works { has_failed writer.old ≡ false }
+    ensures { Ran points.now R.remaining W.contents reader.old reader.new writer.old writer.new result }
+{
+    let mut engine = PointEngine::new(alloc, tests, points);
+    converse(&mut engine, reader, writer)
 }

@@ -1,0 +1,110 @@
+-- What an insertion makes of the vertices, and which replies it may get.
+use Rattle.std.proofs.Common.{◌≡◌, ◌≢◌, ℕ, ◌+◌, ◌<◌, true, List, [], ◌∷◌, ◌++◌, length, map, get_or, Option, Some, None, is_some, false, refl, sym, ◌∙◌, ap, subst, arith, inl, inr}
+use Rattle.std.specs.Prelude.{ℤ, pos, All, MatchOption, Result, Err, IsErrOf, IsOk, ◌↔◌, ◌*◌, slice_set}
+use Rattle.std.proofs.lemmas.List.{get_or-map, length-map}
+use Rattle.std.proofs.lemmas.List.Elements.{All-push}
+use Rattle.std.proofs.Math.Seq.{map-set_same}
+use Rattle.std.proofs.lemmas.List.{map-append}
+use Rattle.plane.specs.Fraction.{Point}
+use Rattle.plane.specs.Plain.{DifferInPosition}
+use Rattle.delaunay_core.specs.declared.point.Point2.{Point2}
+use Rattle.triangulate_run.specs.declared.points.SheetPoint.{SheetPoint}
+use Rattle.plane.specs.Pairs.{Joins}
+use Rattle.plane.specs.Tiling.{IsTiling}
+use Rattle.plane.specs.Tests.{InRange}
+use Rattle.delaunay_core.specs.declared.math.InsertionError.{InsertionError}
+use Rattle.delaunay_core.specs.declared.math.InsertionError.TheVariants.{TooLarge, OutOfMemory, OutOfIndexes}
+use Rattle.triangulate_run.specs.declared.reply.Reply.TheVariants.{Refused}
+use Rattle.triangulate_run.specs.Answer.{MayInsert, most_elements}
+use Rattle.triangulate_run.specs.Engine.{stage_of}
+use Rattle.delaunay_edit.specs.State.{State, triangulation_of}
+use Rattle.triangulate_run.specs.Points.{place, nowhere, IsAt, IsSiteAt, IsListed, IsListedSite}
+use Rattle.triangulate_run.specs.Stage.{position, Fits}
+use Rattle.delaunay_edit.specs.Known.{point_at, IsKnown}
+use Rattle.delaunay_edit.specs.Shape.{IsKept}
+use Rattle.delaunay_edit.proofs.Counts.{plain_if_kept}
+use Rattle.delaunay_edit.specs.Location.{IsApart}
+
+module _ (vs : List (Point2 ℤ)) (p : Point2 ℤ) where
+  placed : (k : ℕ) (d : Point2 ℤ) → k < length vs → point_at (map position vs) k ≡ position (get_or vs k d)
+  placed k d h = get_or-map position vs k d (record { x = pos 0; y = pos 0 }) h
+
+  pub fresh_if_apart : IsApart (map position vs) (position p) → All (DifferInPosition position p) vs
+  fresh_if_apart apart = λ k d h e. apart.apart k (omega (arith, h, length-map vs position)) (placed k d h ∙ sym e)
+
+  pub not_apart : (o : Option ℕ) → is_some o ≡ true → MatchOption o (IsApart (map position vs) (position p)) (λ v. (v < length vs) × (point_at (map position vs) v ≡ position p))
+      → All (λ v. position v ≢ position p) vs → ⊥
+  not_apart None e known apart = cc
+  not_apart (Some v) e known apart = apart v p known.0 (sym (placed v p known.0) ∙ known.1)
+
+  pub not_unknown : (o : Option ℕ) → is_some o ≡ true → MatchOption o (IsApart (map position vs) (position p)) (λ v. (v < length vs) × (point_at (map position vs) v ≡ position p))
+      → ¬ IsKnown (map position vs) (position p) → ⊥
+  not_unknown None e known unknown = cc
+  not_unknown (Some v) e known unknown = let below = known.0 in unknown (record { index = v; below = omega (arith, below, length-map vs position); here = known.1 })
+
+  pub fresh_if_unknown : ¬ IsKnown (map position vs) (position p) → All (DifferInPosition position p) vs
+  fresh_if_unknown unknown = λ k d h e. unknown (record { index = k; below = omega (arith, h, length-map vs position); here = placed k d h ∙ sym e })
+
+  pub unknown_if_fresh : All (DifferInPosition position p) vs → ¬ IsKnown (map position vs) (position p)
+  unknown_if_fresh fresh known =
+      let in_map = known.below in
+      let below : known.index < length vs = omega (arith, in_map, length-map vs position) in
+      fresh known.index p below (sym known.here ∙ placed known.index p below)
+
+  pub known_if_there : (i : ℕ) → i < length vs → position (get_or vs i p) ≡ position p → IsKnown (map position vs) (position p)
+  known_if_there i h e = record { index = i; below = omega (arith, h, length-map vs position); here = placed i p h ∙ e }
+
+-- what is said of `None`, where that is the answer
+pub if_none : {A : Type 0} (P : ℕ → Type 0) (o : Option ℕ) → is_some o ≡ false → MatchOption o A P → A
+if_none P None e h = h
+if_none P (Some v) e h = cc
+
+-- a listed site is a site of the tests
+pub site_if_listed : (sites : Point → Type 0) (points : List SheetPoint) (p : Point) → All (λ s. s.site ≡ true → sites (place s)) points → IsListedSite points p → sites p
+site_if_listed sites points p all (i, ((h, at), is_site)) = subst sites at (all i nowhere h is_site)
+
+pub listed_if_found : (points : List SheetPoint) (p : Point) (o : Option ℕ) → is_some o ≡ true → MatchOption o (¬ IsListedSite points p) (λ i. IsSiteAt points i p) → IsListedSite points p
+listed_if_found points p None e found = cc
+listed_if_found points p (Some i) e found = (i, found)
+
+-- ---- the vertices afterwards
+pub places_kept : (vs : List (Point2 ℤ)) (i : ℕ) (v : Point2 ℤ) → position (get_or vs i v) ≡ position v → map position (slice_set vs i v) ≡ map position vs
+places_kept vs i v e = map-set_same position vs i v v (sym e)
+
+pub sites_kept : (sites : Point → Type 0) (old new : List (Point2 ℤ)) → map position new ≡ map position old → All sites (map position old) → All sites (map position new)
+sites_kept sites old new e all = subst (λ (ps : List Point). All sites ps) (sym e) all
+
+pub sites_more : (sites : Point → Type 0) (old new : List (Point2 ℤ)) (v : Point2 ℤ) → new ≡ old ++ v ∷ [] → sites (position v) → All sites (map position old) → All sites (map position new)
+sites_more sites old new v e site all = subst (λ (ps : List Point). All sites ps) (sym (ap (map position) e ∙ map-append position old (v ∷ []))) (All-push sites (map position old) (position v) all site)
+
+pub listed_if_known : (points : List SheetPoint) (p : Point) (o : Option ℕ) → is_some o ≡ true → MatchOption o (¬ IsListed points p) (λ i. IsAt points i p) → IsListed points p
+listed_if_known points p None e found = cc
+listed_if_known points p (Some i) e found = (i, found)
+
+-- ---- the stage of a triangulation
+no_pairs : (i j : ℕ) → Joins [] i j → ⊥
+no_pairs i j (inl h) = absurd (omega (arith, h.1))
+no_pairs i j (inr h) = absurd (omega (arith, h.1))
+
+pub fits_of : {D U F : Type 0} (s : State (Point2 ℤ) D U F) → IsTiling (triangulation_of position s) → IsKept position s → Fits (stage_of s)
+fits_of s tiling kept = record {
+  is_plain = plain_if_kept position s kept;
+  points = refl;
+  tiling = tiling;
+  kept = λ i j h. absurd (no_pairs i j h);
+}
+
+-- ---- a refusal
+module _ {D U F : Type 0} (points : List SheetPoint) (old new : State (Point2 ℤ) D U F) (p : Point2 ℤ) (r : Result ℕ InsertionError) where
+  pub may_refuse : (e : InsertionError) → r ≡ Err e → InRange (position p) → IsListedSite points (position p)
+      → IsErrOf r TooLarge ↔ ¬ InRange (position p)
+      → (InRange (position p) → IsKnown (map position old.vertices) (position p) → IsOk r)
+      → IsErrOf r OutOfIndexes ↔ (InRange (position p) × (¬ IsKnown (map position old.vertices) (position p)) × (most_elements < 6 * (length old.vertices + 1)))
+      → new ≡ old → MayInsert points (stage_of old) p (Refused e) (stage_of new)
+  may_refuse TooLarge is in_range site too_large known full same = absurd (too_large.0 (rw is refl) in_range)
+  may_refuse OutOfIndexes is in_range site too_large known full same =
+      let f = full.0 (rw is refl) in
+      (record { in_range = in_range; site = site; fresh = fresh_if_unknown old.vertices p f.1 }, f.2, ap stage_of same)
+  may_refuse OutOfMemory is in_range site too_large known full same =
+      let unknown : ¬ IsKnown (map position old.vertices) (position p) = λ k. (let ok = known in_range k in cc) in
+      (record { in_range = in_range; site = site; fresh = fresh_if_unknown old.vertices p unknown }, (λ f. (let no = full.1 (in_range, unknown, f) in cc)), ap stage_of same)

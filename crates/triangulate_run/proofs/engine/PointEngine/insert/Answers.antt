@@ -1,0 +1,79 @@
+use Rattle.std.proofs.Common.{◌<◌, ℕ, length, not, inl, inr, map, refl, sym, ◌∙◌, ap, subst, arith}
+use Rattle.plane.specs.Plain.{Replaces}
+use Rattle.triangulate_run.specs.Stage.{position}
+use Rattle.delaunay_edit.specs.State.{plain_of}
+use Rattle.drawn_mesh.specs.Drawn.{drawn}
+use Rattle.triangulate_run.proofs.Insertions.{fresh_if_apart, if_none, not_unknown, unknown_if_fresh, known_if_there, may_refuse, site_if_listed, listed_if_found, places_kept, sites_kept, sites_more}
+use Rattle.triangulate_run.proofs.engine.PointEngine.insert.Goals as goal
+use Rattle.triangulate_run.proofs.engine.PointEngine.insert.Goals.{else-is_new-via-then-is_new+else-num_vertices-ge-MOST_VERTICES, else-is_new-via-else-is_new}
+
+pub returns-then-num_vertices-ge-MOST_VERTICES-clause-reply : goal.returns-then-num_vertices-ge-MOST_VERTICES-clause-reply
+returns-then-num_vertices-ge-MOST_VERTICES-clause-reply g c =
+    let vertices = c.args.self.now.triangulation.vertices in
+    let p = c.args.point in
+    let listed = listed_if_found c.args.self.now.points.now (position p) c.site_index_of.result c.if-is_none.ensures c.site_index_of.ensures in
+    let apart = if_none _ c.vertex_at.result (c.is_none-is_new.ensures ∙ ap not c.if-is_new.true) c.vertex_at.ensures in
+    let many = c.if-num_vertices-ge-MOST_VERTICES.true in
+    ((record { in_range = c.in_default.ensures.exactly.0 refl; site = listed; fresh = fresh_if_apart vertices p apart }, omega (arith, many, c.num_vertices.ensures.value)), refl)
+
+pub insert-requires-clause-few : goal.insert-requires-clause-few
+insert-requires-clause-few g c = λ in_range unknown. elim c.else-is_new.branch [
+  | else-is_new-via-then-is_new+else-num_vertices-ge-MOST_VERTICES w ↦ (let few = w.if-num_vertices-ge-MOST_VERTICES.false in omega (arith, few, w.num_vertices.ensures.value))
+  | else-is_new-via-else-is_new w ↦ absurd (not_unknown c.args.self.now.triangulation.vertices c.args.point c.vertex_at.result (c.is_none-is_new.ensures ∙ ap not w.if-is_new.false) c.vertex_at.ensures unknown)
+]
+
+pub returns-in-Ok-clause-ready : goal.returns-in-Ok-clause-ready
+returns-in-Ok-clause-ready g c =
+    let ready = c.requires.ready in
+    let sites = g.P.PlaneTests.sites c.args.self.now.tests.now in
+    let listed = listed_if_found c.args.self.now.points.now (position c.args.point) c.site_index_of.result (c.if-is_none.ensures) c.site_index_of.ensures in
+    let site = site_if_listed sites c.args.self.now.points.now (position c.args.point) ready.points_sites listed in
+    record {
+      points_covered = ready.points_covered;
+      points_sites = ready.points_sites;
+      vertices_sites = elim c.in-Ok.ensures.ok [
+        | inl kept ↦ sites_kept sites _ _ (ap (map position) kept.vertices ∙ places_kept _ _ c.args.point kept.same) ready.vertices_sites
+        | inr more ↦ sites_more sites _ _ c.args.point more.1.vertices site ready.vertices_sites
+      ];
+    }
+
+pub returns-in-Ok-clause-reply : goal.returns-in-Ok-clause-reply
+returns-in-Ok-clause-reply g c =
+    let old = c.args.self.now.triangulation in
+    let new = c.insert.new.self in
+    let p = c.args.point in
+    let in_range = c.in_default.ensures.exactly.0 refl in
+    let listed = listed_if_found c.args.self.now.points.now (position p) c.site_index_of.result c.if-is_none.ensures c.site_index_of.ensures in
+    let index = c.from.ensures ∙ c.index.ensures in
+    elim c.in-Ok.ensures.ok [
+      | inl kept ↦ inl (record {
+        in_range = in_range;
+        site = listed;
+        replaced = subst (λ (i : ℕ). Replaces position (plain_of old) (plain_of new) i p) (sym index) kept;
+        same = ap (λ ps. drawn ps new.mesh) (ap (map position) kept.vertices ∙ places_kept old.vertices _ p kept.same)
+            ∙ ap (drawn (map position old.vertices)) (c.insert.ensures.replaced in_range (known_if_there old.vertices p _ kept.here kept.same));
+      })
+      | inr more ↦ (
+          let few : length old.vertices < 3 = elim c.else-is_new.branch [
+            | else-is_new-via-then-is_new+else-num_vertices-ge-MOST_VERTICES w ↦ (let below = w.if-num_vertices-ge-MOST_VERTICES.false in omega (arith, below, w.num_vertices.ensures.value))
+            | else-is_new-via-else-is_new w ↦ absurd (not_unknown old.vertices p c.vertex_at.result (c.is_none-is_new.ensures ∙ ap not w.if-is_new.false) c.vertex_at.ensures (unknown_if_fresh old.vertices p more.1.fresh))
+          ] in
+          inr (
+            record {
+              new_site = record { in_range = in_range; site = listed; fresh = more.1.fresh };
+              room = λ full. (let no = c.insert.ensures.full.1 (in_range, unknown_if_fresh old.vertices p more.1.fresh, full) in cc);
+              index = index ∙ more.0;
+              appended = more.1;
+            },
+            omega (arith, few, index, more.0),
+          )
+          )
+    ]
+
+pub returns-in-Err-insert-clause-reply : goal.returns-in-Err-insert-clause-reply
+returns-in-Err-insert-clause-reply g c =
+    let p = c.args.point in
+    let in_range = c.in_default.ensures.exactly.0 refl in
+    let listed = listed_if_found c.args.self.now.points.now (position p) c.site_index_of.result c.if-is_none.ensures c.site_index_of.ensures in
+    may_refuse c.args.self.now.points.now c.args.self.now.triangulation c.insert.new.self p c.insert.result c.in-Err-insert.error c.in-Err-insert.is in_range listed
+    c.insert.ensures.too_large c.insert.ensures.known c.insert.ensures.full c.in-Err-insert.ensures.err
