@@ -19,7 +19,6 @@ pub mod NearerCount
 pub mod Where
 pub mod OuterEdges
 pub mod History
-pub mod Flip
 pub mod Meets
 pub mod Flood
 pub mod FloodStart
@@ -29,7 +28,6 @@ pub mod EdgeInCircle
 pub mod EdgeInRectangle
 pub mod Flooded
 pub mod LineItems
-pub mod FlipTiles
 pub mod Joining
 pub mod Uncrossed
 pub mod FlipExists
