@@ -1,12 +1,16 @@
 //! New vertices in a mesh with faces: inside a face, and within an edge.
-ghost use Rattle.std.specs.Prelude.{◌≡◌, ◌<◌, ◌≤◌, ◌++◌, ◌∷◌, [], length, map};
+ghost use Rattle.std.specs.Prelude.{◌≡◌, ◌↔◌, ◌<◌, ◌≤◌, ◌++◌, ◌∷◌, [], length, map, IsTrue};
 ghost use Rattle.half_edge_links.specs.Mesh.{rev, face, face_edge};
 ghost use Rattle.half_edge_mesh.specs.Contents.{HasRoom};
 ghost use Rattle.plane.specs.Tests.{InRange};
-ghost use Rattle.delaunay_edit.specs.Location.{IsInsideFaceOf, IsWithinEdge};
+ghost use Rattle.delaunay_edit.specs.Location.{IsApart, IsInsideFaceOf, IsLeftOfPlace, IsWithinEdge, Locates};
 ghost use Rattle.delaunay_edit.specs.Shape.{IsKept};
 ghost use Rattle.delaunay_edit.specs.State.{state_of};
 
+use crate::insertion_line::{
+    insert_first, insert_first_face, insert_past_end, insert_second, insert_within_line,
+};
+use crate::position_in_triangulation::PositionInTriangulation;
 use delaunay_core::point::HasPosition;
 use half_edge_mesh::{Dcel, FixedDirectedEdgeHandle, FixedFaceHandle, FixedVertexHandle};
 
@@ -73,4 +77,50 @@ pub(crate) fn split_hull_edge<V: HasPosition, DE: Default, UE: Default, F: Defau
     let (vertex, _parts) = dcel.split_half_edge(edge, value);
     let _ = dcel.num_vertices();
     vertex
+}
+
+// The new last vertex at a position that no vertex has, where there are fewer than three vertices. `turns` says whether
+// the position is strictly on the left of the edge that the location names.
+pub(crate) fn insert_at<V: HasPosition, DE: Default, UE: Default, F: Default>(
+    dcel: &mut Dcel<V, DE, UE, F>,
+    location: PositionInTriangulation,
+    turns: bool,
+    value: V,
+) -> FixedVertexHandle
+    requires kept { IsKept V.place (state_of dcel.old) }
+    requires in_range { InRange (V.place value) }
+    requires apart { IsApart (map V.place dcel.old.vertices) (V.place value) }
+    requires location { Locates (map V.place dcel.old.vertices) dcel.old.mesh (V.place value) location }
+    requires turns { IsTrue turns ↔ IsLeftOfPlace (map V.place dcel.old.vertices) dcel.old.mesh (V.place value) location }
+    requires few { length dcel.old.vertices < 3 }
+    requires room { HasRoom dcel.old 1 2 1 }
+    ensures vertex { result ≡ length dcel.old.vertices }
+    ensures vertices { dcel.new.vertices ≡ dcel.old.vertices ++ value ∷ [] }
+    ensures kept { IsKept V.place (state_of dcel.new) }
+{
+    match location {
+        PositionInTriangulation::OnEdge(edge) => insert_within_line(dcel, edge, value),
+        PositionInTriangulation::OutsideOfConvexHull(edge) => {
+            if turns {
+                insert_first_face(dcel, edge, value)
+            } else {
+                insert_past_end(dcel, edge, value)
+            }
+        }
+        PositionInTriangulation::NoTriangulation => {
+            if dcel.num_vertices() == 0 {
+                insert_first(dcel, value)
+            } else {
+                insert_second(dcel, value)
+            }
+        }
+        PositionInTriangulation::OnVertex(vertex) => {
+            let _ = vertex;
+            unreachable!()
+        }
+        PositionInTriangulation::OnFace(face) => {
+            let _ = face;
+            unreachable!()
+        }
+    }
 }

@@ -4,6 +4,7 @@
 mod elements;
 mod insertion;
 mod insertion_cases;
+mod insertion_line;
 mod legalization;
 mod location;
 mod position_in_triangulation;

@@ -3,7 +3,7 @@ use Rattle.std.proofs.lemmas.List.{length-map}
 use Rattle.half_edge_links.specs.Outline.{OuterChanges, IsEdge}
 use Rattle.half_edge_mesh.proofs.Fits.{length-grown}
 use Rattle.delaunay_edit.proofs.Growing.{grown, second_shape}
-use Rattle.delaunay_edit.proofs.insertion.insert_second.Goals as goal
+use Rattle.delaunay_edit.proofs.insertion_line.insert_second.Goals as goal
 
 pub returns-clause-kept : goal.returns-clause-kept
 returns-clause-kept g c =

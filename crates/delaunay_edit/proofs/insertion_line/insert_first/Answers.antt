@@ -3,7 +3,7 @@ use Rattle.std.proofs.lemmas.List.{length-map}
 use Rattle.plane_tiling.specs.Local.{IsMesh}
 use Rattle.drawn_mesh.specs.Drawn.{faces_of, outer_of}
 use Rattle.delaunay_edit.proofs.Growing.{grown, first_shape}
-use Rattle.delaunay_edit.proofs.insertion.insert_first.Goals as goal
+use Rattle.delaunay_edit.proofs.insertion_line.insert_first.Goals as goal
 
 pub returns-clause-kept : goal.returns-clause-kept
 returns-clause-kept g c =

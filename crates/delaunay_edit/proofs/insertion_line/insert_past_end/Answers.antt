@@ -6,7 +6,7 @@ use Rattle.plane.specs.Fraction.{whole}
 use Rattle.plane.specs.Location.{IsPast}
 use Rattle.plane_tiling.specs.Local.{alone}
 use Rattle.delaunay_edit.proofs.Growing.{grown, extended_shape, no_faces}
-use Rattle.delaunay_edit.proofs.insertion.insert_past_end.Goals as goal
+use Rattle.delaunay_edit.proofs.insertion_line.insert_past_end.Goals as goal
 
 pub extend_line-vertex-requires-clause-one_face : goal.extend_line-vertex-requires-clause-one_face
 extend_line-vertex-requires-clause-one_face g c = no_faces g.V.HasPosition.place c.args.dcel.now c.requires.kept (omega (arith, c.requires.two))

@@ -2,7 +2,7 @@ use Rattle.std.proofs.Common.{◌≤◌, ◌<◌, ◌∙◌, ◌+◌, length, ma
 use Rattle.std.proofs.lemmas.List.{length-map}
 use Rattle.half_edge_mesh.proofs.Fits.{length-grown}
 use Rattle.delaunay_edit.proofs.Growing.{grown, face_shape}
-use Rattle.delaunay_edit.proofs.insertion.insert_first_face.Goals as goal
+use Rattle.delaunay_edit.proofs.insertion_line.insert_first_face.Goals as goal
 
 pub returns-clause-kept : goal.returns-clause-kept
 returns-clause-kept g c =

@@ -2,7 +2,7 @@ use Rattle.std.proofs.Common.{map, subst}
 use Rattle.delaunay_edit.specs.Location.{Locates}
 use Rattle.delaunay_edit.proofs.Cases.{two_outside, past_if_not_left, not_on_vertex, not_on_face}
 use Rattle.delaunay_edit.proofs.Questions.{both_ways}
-use Rattle.delaunay_edit.proofs.insertion.insert_at.Goals as goal
+use Rattle.delaunay_edit.proofs.insertion_cases.insert_at.Goals as goal
 
 pub insert_first_face-requires-clause-two : goal.insert_first_face-requires-clause-two
 insert_first_face-requires-clause-two g c = two_outside g.V.HasPosition.place c.args.dcel.now c.requires.kept c.requires.few (g.V.HasPosition.place c.args.value) c.requires.apart c.args.location c.in-OutsideOfConvexHull.edge c.requires.location c.in-OutsideOfConvexHull.is

@@ -2,7 +2,7 @@ use Rattle.std.proofs.Common.{◌≤◌, ◌<◌, ◌∙◌, ◌+◌, length, ma
 use Rattle.std.proofs.lemmas.List.{length-map}
 use Rattle.half_edge_mesh.proofs.Fits.{length-grown}
 use Rattle.delaunay_edit.proofs.Growing.{grown, split_shape, no_faces}
-use Rattle.delaunay_edit.proofs.insertion.insert_within_line.Goals as goal
+use Rattle.delaunay_edit.proofs.insertion_line.insert_within_line.Goals as goal
 
 pub split_edge_when_all_vertices_on_line-vertex-requires-clause-one_face : goal.split_edge_when_all_vertices_on_line-vertex-requires-clause-one_face
 split_edge_when_all_vertices_on_line-vertex-requires-clause-one_face g c = no_faces g.V.HasPosition.place c.args.dcel.now c.requires.kept (omega (arith, c.requires.two))
