@@ -22,6 +22,7 @@ use Rattle.plane_edits.proofs.Flipping.{none_left}
 use Rattle.std.proofs.lemmas.List.{length-map}
 use Rattle.drawn_mesh.specs.Drawn.{drawn, faces_of, edges_of, outer_of}
 use Rattle.drawn_mesh.specs.Legal.{AreEdges, IsFailing, IsPartlyLegal, Gains, GainsRound, pairs_at, steps_left}
+use Rattle.drawn_mesh.specs.Stays.{KeepsIndexes}
 use Rattle.drawn_mesh.proofs.MeshEdits.{face_before}
 use Rattle.drawn_mesh.proofs.MeshLegal as M
 use Rattle.drawn_mesh.proofs.WorkLists.{contains_last, contains_before, once_before}
@@ -65,8 +66,8 @@ pub not_none : (n : ℕ) → 0 < n → ¬ (n ≡ 0)
 not_none n h e = omega arith
 
 -- ---- one step
-pub turned_by : (points : List Point) (m new : Mesh) (ks more : List ℕ) (k start before after : ℕ) → IsValid m → new ≡ flipped m (2 * k) → after ≡ before + 1 → IsFailing points m (2 * k) → GainsRound m (2 * k) ks more → AreEdges m more → IsPartlyLegal points [] m (ks ++ k ∷ []) start before → IsPartlyLegal points [] new more start after
-turned_by points m new ks more k start before after s e f x g o p = subst (λ (y : Mesh × ℕ). IsPartlyLegal points [] y.0 more start y.1) (λ i. (sym e i, sym (f ∙ one_more before) i)) (M.turned points [] m ks k start before s p x more g o)
+pub turned_by : (points : List Point) (was m new : Mesh) (ks more : List ℕ) (k start before after : ℕ) → IsValid m → new ≡ flipped m (2 * k) → after ≡ before + 1 → IsFailing points m (2 * k) → GainsRound m (2 * k) ks more → AreEdges m more → IsPartlyLegal points [] was m (ks ++ k ∷ []) start before → IsPartlyLegal points [] was new more start after
+turned_by points was m new ks more k start before after s e f x g o p = subst (λ (y : Mesh × ℕ). IsPartlyLegal points [] was y.0 more start y.1) (λ i. (sym e i, sym (f ∙ one_more before) i)) (M.turned points [] was m ks k start before s p x more g o)
   where
     one_more : (n : ℕ) → n + 1 ≡ suc n
     one_more n = omega arith
@@ -89,11 +90,11 @@ round_gained m e a b c d one two three four five p q r s f g h i =
 -- what holds from one edge to the next
 pub record IsUnderway {V D U F : Type 0} (points : List Point) (was now : Contents V D U F) (ks : List ℕ) (room_was room start flips : ℕ) : Type 0 where
   pub contents : now ≡ record was { mesh = now.mesh }
-  pub legal : IsPartlyLegal points [] now.mesh ks start flips
+  pub legal : IsPartlyLegal points [] was.mesh now.mesh ks start flips
   pub room_stays : room ≡ room_was
 
-pub one_more_fits : (points : List Point) (m : Mesh) (ks : List ℕ) (k start flips n : ℕ) → IsValid m → IsPartlyLegal points [] m (ks ++ k ∷ []) start flips → length points ≡ n → 2 * start + n * (n - 1) < 2 ^ 65 → IsFailing points m (2 * k) → flips + 1 < 2 ^ 64
-one_more_fits points m ks k start flips n s p e h x = fits start (length p.away) flips (n * (n - 1)) p.count h (subst (λ (z : ℕ). 2 * suc (length p.away) ≤ z * (z - 1)) e (M.one_more_flip points [] m ks k start flips s p x))
+pub one_more_fits : (points : List Point) (was m : Mesh) (ks : List ℕ) (k start flips n : ℕ) → IsValid m → IsPartlyLegal points [] was m (ks ++ k ∷ []) start flips → length points ≡ n → 2 * start + n * (n - 1) < 2 ^ 65 → IsFailing points m (2 * k) → flips + 1 < 2 ^ 64
+one_more_fits points was m ks k start flips n s p e h x = fits start (length p.away) flips (n * (n - 1)) p.count h (subst (λ (z : ℕ). 2 * suc (length p.away) ≤ z * (z - 1)) e (M.one_more_flip points [] was m ks k start flips s p x))
   where
     fits : (start a flips q : ℕ) → start + a ≡ flips → 2 * start + q < 2 ^ 65 → 2 * suc a ≤ q → flips + 1 < 2 ^ 64
     fits start a flips q c h b = omega arith
@@ -130,17 +131,17 @@ module _ {V D U F : Type 0} (at : V → Point) (was now : Contents V D U F) (all
   same_vertices = ap (λ (c : Contents V D U F). c.vertices) u.contents
 
   module _ (ks : List ℕ) (k : ℕ) (popped : all ≡ ks ++ k ∷ []) where
-    before_step : IsPartlyLegal (map at was.vertices) [] now.mesh (ks ++ k ∷ []) start flips
-    before_step = subst (λ (zs : List ℕ). IsPartlyLegal (map at was.vertices) [] now.mesh zs start flips) popped u.legal
+    before_step : IsPartlyLegal (map at was.vertices) [] was.mesh now.mesh (ks ++ k ∷ []) start flips
+    before_step = subst (λ (zs : List ℕ). IsPartlyLegal (map at was.vertices) [] was.mesh now.mesh zs start flips) popped u.legal
 
     pub step_fits : IsValid now.mesh → 2 * start + length was.vertices * (length was.vertices - 1) < 2 ^ 65 → IsFailing (map at now.vertices) now.mesh (2 * k) → flips + 1 < 2 ^ 64
-    step_fits s h x = one_more_fits (map at was.vertices) now.mesh ks k start flips (length was.vertices) s before_step (length-map was.vertices at) h (subst (λ (vs : List V). IsFailing (map at vs) now.mesh (2 * k)) same_vertices x)
+    step_fits s h x = one_more_fits (map at was.vertices) was.mesh now.mesh ks k start flips (length was.vertices) s before_step (length-map was.vertices at) h (subst (λ (vs : List V). IsFailing (map at vs) now.mesh (2 * k)) same_vertices x)
 
     pub step_kept : (after : Contents V D U F) (more : List ℕ) (room_after flips_after : ℕ) → after ≡ record now { mesh = after.mesh }
-        → ((start : ℕ) → IsPartlyLegal (map at now.vertices) [] now.mesh (ks ++ k ∷ []) start flips → IsPartlyLegal (map at now.vertices) [] after.mesh more start flips_after) → room_after ≡ room → IsUnderway (map at was.vertices) was after more room_was room_after start flips_after
+        → ((first : Mesh) (start : ℕ) → IsPartlyLegal (map at now.vertices) [] first now.mesh (ks ++ k ∷ []) start flips → IsPartlyLegal (map at now.vertices) [] first after.mesh more start flips_after) → room_after ≡ room → IsUnderway (map at was.vertices) was after more room_was room_after start flips_after
     step_kept after more room_after flips_after contents legal e = record {
       contents = contents ∙ ap (λ (c : Contents V D U F). record c { mesh = after.mesh }) u.contents;
-      legal = subst (λ (vs : List V). IsPartlyLegal (map at vs) [] after.mesh more start flips_after) same_vertices (legal start (subst (λ (vs : List V). IsPartlyLegal (map at vs) [] now.mesh (ks ++ k ∷ []) start flips) (sym same_vertices) before_step));
+      legal = subst (λ (vs : List V). IsPartlyLegal (map at vs) [] was.mesh after.mesh more start flips_after) same_vertices (legal was.mesh start (subst (λ (vs : List V). IsPartlyLegal (map at vs) [] was.mesh now.mesh (ks ++ k ∷ []) start flips) (sym same_vertices) before_step));
       room_stays = e ∙ u.room_stays;
     }
 
@@ -148,7 +149,10 @@ module _ {V D U F : Type 0} (at : V → Point) (was now : Contents V D U F) (all
   underway_ends e = none_left (map at was.vertices) (faces_of now.mesh) (edges_of now.mesh) [] (subst (λ (zs : List ℕ). AllPassBut (map at was.vertices) (faces_of now.mesh) [] (pairs_at now.mesh zs)) e u.legal.passing)
 
   pub underway_counts : 2 * (flips - start) ≤ length was.vertices * (length was.vertices - 1)
-  underway_counts = subst (λ (n : ℕ). 2 * (flips - start) ≤ n * (n - 1)) (length-map was.vertices at) (M.few_flips (map at was.vertices) [] now.mesh all start flips u.legal).1
+  underway_counts = subst (λ (n : ℕ). 2 * (flips - start) ≤ n * (n - 1)) (length-map was.vertices at) (M.few_flips (map at was.vertices) [] was.mesh now.mesh all start flips u.legal).1
+
+  pub underway_keeps : IsValid now.mesh → KeepsIndexes was.mesh now.mesh
+  underway_keeps s = M.indexes_kept (map at was.vertices) [] was.mesh now.mesh all start flips s u.legal
 
 pub drained : (xs ys : List ℕ) (v : ℕ) → xs ≡ ys ++ [] → ys ≡ take (v - 1) xs → v ≡ 0 → xs ≡ []
 drained xs ys v e f z = e ∙ ap (λ zs. zs ++ []) (f ∙ ap (λ (n : ℕ). take (n - 1) xs) z)

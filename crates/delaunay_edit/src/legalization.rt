@@ -1,12 +1,13 @@
 //! Flips of edges that fail the circle test, until each edge passes.
 ghost use Rattle.std.specs.Prelude.{◌≡◌, ◌↔◌, ℕ, ◌+◌, ◌-◌, ◌*◌, ◌/◌, ◌<◌, ◌≤◌, ◌^◌, ◌++◌, ◌∷◌, [], length, map, All, Contains, IsTrue, vec_capacity};
-ghost use Rattle.half_edge_links.specs.Mesh.{origin, next, prev, face, rev};
+ghost use Rattle.half_edge_links.specs.Mesh.{Mesh, origin, next, prev, face, rev};
 ghost use Rattle.half_edge_links.specs.Flip.{flipped};
 ghost use Rattle.plane.specs.Delaunay.{IsLocallyDelaunay};
 ghost use Rattle.plane_tiling.specs.Local.{IsMesh};
 ghost use Rattle.plane_edits.specs.Legal.{AllPassBut};
 ghost use Rattle.drawn_mesh.specs.Drawn.{drawn, faces_of, outer_of};
 ghost use Rattle.drawn_mesh.specs.Legal.{AreEdges, Gains, GainsRound, IsFailing, IsPartlyLegal, pairs_at, steps_left};
+ghost use Rattle.drawn_mesh.specs.Stays.{KeepsIndexes};
 ghost use Rattle.delaunay_core.specs.Place.{place_of};
 ghost use Rattle.delaunay_edit.specs.Known.{point_at};
 
@@ -157,7 +158,7 @@ fn legalize_edge<V: HasPosition, DE, UE, F, P: PlaneTests<V::Scalar>>(
     requires room { length dcel.old.undirected ≤ vec_capacity work.old }
     requires fits { IsFailing (map V.place dcel.old.vertices) dcel.old.mesh (2 * edge) → flips.old + 1 < 2 ^ 64 }
     ensures contents { dcel.new ≡ record dcel.old { mesh = dcel.new.mesh } }
-    ensures legal { let points = map V.place dcel.old.vertices in (start : ℕ) → IsPartlyLegal points [] dcel.old.mesh (work.old.items ++ edge ∷ []) start flips.old → IsPartlyLegal points [] dcel.new.mesh work.new.items start flips.new }
+    ensures legal { let points = map V.place dcel.old.vertices in (was : Mesh) (start : ℕ) → IsPartlyLegal points [] was dcel.old.mesh (work.old.items ++ edge ∷ []) start flips.old → IsPartlyLegal points [] was dcel.new.mesh work.new.items start flips.new }
     ensures fewer { let points = map V.place dcel.old.vertices in steps_left points dcel.new.mesh work.new.items < steps_left points dcel.old.mesh (work.old.items ++ edge ∷ []) }
     ensures capacity { vec_capacity work.new ≡ vec_capacity work.old }
 {
@@ -187,6 +188,7 @@ pub(crate) fn legalize<V: HasPosition, DE, UE, F, P: PlaneTests<V::Scalar>>(
     ensures locally_delaunay { IsLocallyDelaunay (drawn (map V.place dcel.old.vertices) dcel.new.mesh) [] }
     ensures counted { flips.old ≤ flips.new }
     ensures few_flips { let n = length dcel.old.vertices in 2 * (flips.new - flips.old) ≤ n * (n - 1) }
+    ensures indexes { KeepsIndexes dcel.old.mesh dcel.new.mesh }
     ensures done { work.new.items ≡ [] }
     ensures capacity { vec_capacity work.new ≡ vec_capacity work.old }
 {
@@ -194,4 +196,5 @@ pub(crate) fn legalize<V: HasPosition, DE, UE, F, P: PlaneTests<V::Scalar>>(
         let _ = dcel.num_directed_edges();
         legalize_edge(dcel, edge, tests, work, flips);
     }
+    let _ = dcel.num_directed_edges();
 }

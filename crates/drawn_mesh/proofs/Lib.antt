@@ -6,4 +6,5 @@ pub mod MeshEdits
 pub mod MeshExtension
 pub mod MeshLines
 pub mod WorkLists
+pub mod MeshStays
 pub mod MeshLegal

@@ -35,10 +35,12 @@ use Rattle.plane_edits.proofs.Away.{flip_goes_away, away_is_bounded}
 use Rattle.plane_edits.proofs.Flipping.{one_question, failing_is_convex, third_unique, flip_lowers, flip_leaves_sides, passing_is_dropped}
 use Rattle.drawn_mesh.specs.Drawn.{faces_of, outer_of}
 use Rattle.drawn_mesh.specs.Legal.{pair_at, pairs_at, IsFailing, AreEdges, IsPartlyLegal, Gains, GainsRound, steps_left}
+use Rattle.drawn_mesh.specs.Stays.{KeepsIndexes}
 use Rattle.drawn_mesh.proofs.OuterEdges.{listed}
 use Rattle.drawn_mesh.proofs.OuterChanges.{own_ends}
 use Rattle.drawn_mesh.proofs.FaceChanges.{turned_faces}
 use Rattle.drawn_mesh.proofs.MeshEdits.{start_of_twin, end_of_twin, face_before, face_behind, flipped_faces, flip_kept_by}
+use Rattle.drawn_mesh.proofs.MeshStays.{halved, keeps_indexes, stays_none, stays_turned}
 use Rattle.drawn_mesh.proofs.WorkLists.{contains_last, contains_before, last_or_before, once_before, last_not_before, once_after, contains_map, contains_map_from, at_most_so_many}
 
 -- ---- the edges of a work list
@@ -48,9 +50,6 @@ joins_edge m ks k h = inl (contains_map (pair_at m) ks k h)
 joins_back : (pairs : List (ℕ × ℕ)) (i j : ℕ) → Joins pairs i j → Joins pairs j i
 joins_back pairs i j (inl h) = inr h
 joins_back pairs i j (inr h) = inl h
-
-halved : (h : ℕ) → (2 * (h / 2) ≡ h) ⊎ (2 * (h / 2) ≡ rev h)
-halved h = grind arith
 
 -- by either of its directions
 pub joins_directed : (m : Mesh) (ks : List ℕ) (h : ℕ) → Contains ks (h / 2) → Joins (pairs_at m ks) (origin m h) (origin m (rev h))
@@ -164,14 +163,15 @@ none_or_some : (n : ℕ) → (n ≡ 0) ⊎ (0 < n)
 none_or_some n = elim (cases_eq n 0) [ inl e ↦ inl e | inr d ↦ inr (grind arith) ]
 
 -- ---- an edge that does not fail is dropped
-pub dropped : (points : List Point) (fixed : List (ℕ × ℕ)) (m : Mesh) (ks : List ℕ) (k start flips : ℕ) → IsValid m → IsPartlyLegal points fixed m (ks ++ k ∷ []) start flips → ¬ IsFailing points m (2 * k) → IsPartlyLegal points fixed m ks start flips
-dropped points fixed m ks k start flips s p passes = record {
+pub dropped : (points : List Point) (fixed : List (ℕ × ℕ)) (was m : Mesh) (ks : List ℕ) (k start flips : ℕ) → IsValid m → IsPartlyLegal points fixed was m (ks ++ k ∷ []) start flips → ¬ IsFailing points m (2 * k) → IsPartlyLegal points fixed was m ks start flips
+dropped points fixed was m ks k start flips s p passes = record {
   shape = p.shape;
   edges = record { within = λ j c. p.edges.within j (contains_before ks k j c); once = once_before ks k p.edges.once };
   passing = passing_is_dropped points (faces_of m) fixed (pairs_at m (ks ++ k ∷ [])) (pairs_at m ks) (origin m e) (origin m (rev e)) p.passing left (own p.shape (none_or_some (face m e)) (none_or_some (face m (rev e))));
   away = p.away;
   are_away = p.are_away;
   count = p.count;
+  stays = p.stays;
 }
   where
     e : ℕ
@@ -302,18 +302,17 @@ even_no_odd l k r = grind arith
 one_more : (start a b flips : ℕ) → start + a ≡ flips → b ≡ suc a → start + b ≡ suc flips
 one_more start a b flips e f = omega arith
 
-module _ (points : List Point) (fixed : List (ℕ × ℕ)) (m : Mesh) (ks : List ℕ) (k start flips : ℕ) (s : IsValid m) (p : IsPartlyLegal points fixed m (ks ++ k ∷ []) start flips) (x : IsFailing points m (2 * k)) where
+module _ (points : List Point) (fixed : List (ℕ × ℕ)) (was m : Mesh) (ks : List ℕ) (k start flips : ℕ) (s : IsValid m) (p : IsPartlyLegal points fixed was m (ks ++ k ∷ []) start flips) (x : IsFailing points m (2 * k)) where
   within_mesh : (2 * k) < length m.half_edges
   within_mesh = p.edges.within k (contains_last ks k)
 
   pub has_local : LocalMesh points (faces_of m) (outer_of m)
   has_local = local_of points m (2 * k) s.sound p.shape (within_mesh, x.inner)
 
-  gone_away : (more : List (ℕ × ℕ)) × AreAway points (faces_of (flipped m (2 * k))) more × (length more ≡ suc (length p.away))
+  gone_away : (more : List (ℕ × ℕ)) × AreAway points (faces_of (flipped m (2 * k))) more × (length more ≡ suc (length p.away)) × Joins more (origin m (2 * k)) (origin m (next m (2 * k))) × ((i j : ℕ) → Joins p.away i j → Joins more i j)
   gone_away =
-      let r = flip_goes_away points (faces_of m) (faces_of (flipped m (2 * k))) (outer_of m) p.away (origin m (2 * k)) (origin m (prev m (rev (2 * k)))) (origin m (next m (2 * k))) (origin m (prev m (2 * k))) has_local
-      (first points m s has_local (2 * k) within_mesh x) (second points m s has_local (2 * k) within_mesh x) (change points m s has_local (2 * k) within_mesh x) x.inside p.are_away in
-      (r.0, r.1, r.2)
+      flip_goes_away points (faces_of m) (faces_of (flipped m (2 * k))) (outer_of m) p.away (origin m (2 * k)) (origin m (prev m (rev (2 * k)))) (origin m (next m (2 * k))) (origin m (prev m (2 * k))) has_local
+      (first points m s has_local (2 * k) within_mesh x) (second points m s has_local (2 * k) within_mesh x) (change points m s has_local (2 * k) within_mesh x) x.inside p.are_away
 
   edge_stays : (more : List ℕ) → ((j : ℕ) → Contains ks j → Contains more j) → (i j : ℕ) → Joins (pairs_at m (ks ++ k ∷ [])) i j → IsSamePair i j (origin m (2 * k)) (origin m (next m (2 * k))) ⊎ Joins (pairs_at (flipped m (2 * k)) more) i j
   edge_stays more kept i j h = elim (last_or_joined m ks k i j h) [
@@ -332,7 +331,7 @@ module _ (points : List Point) (fixed : List (ℕ × ℕ)) (m : Mesh) (ks : List
       to l n = rev_stays points m s has_local (2 * k) within_mesh x (2 * l) (other_even l k n) (even_no_odd l k)
 
   -- a failing edge is turned
-  pub turned : (more : List ℕ) → GainsRound m (2 * k) ks more → AreEdges m more → IsPartlyLegal points fixed (flipped m (2 * k)) more start (suc flips)
+  pub turned : (more : List ℕ) → GainsRound m (2 * k) ks more → AreEdges m more → IsPartlyLegal points fixed was (flipped m (2 * k)) more start (suc flips)
   turned more g o = record {
     shape = inl (flip_is_local points m s has_local (2 * k) within_mesh x);
     edges = record { within = λ j l. subst (λ (z : ℕ). (2 * j) < z) (sym (moves points m s has_local (2 * k) within_mesh x).edge_count) (o.within j l); once = o.once };
@@ -342,6 +341,8 @@ module _ (points : List Point) (fixed : List (ℕ × ℕ)) (m : Mesh) (ks : List
     away = gone_away.0;
     are_away = gone_away.1;
     count = one_more start (length p.away) (length gone_away.0) flips p.count gone_away.2;
+    stays = stays_turned was m (flipped m (2 * k)) p.away gone_away.0 (2 * k) s.sound within_mesh x.inner x.twin_inner (moves points m s has_local (2 * k) within_mesh x).edge_count
+        (λ h n t. (origin_stays points m s has_local (2 * k) within_mesh x h n t, rev_stays points m s has_local (2 * k) within_mesh x h n t)) (triangles_change points m s has_local (2 * k) within_mesh x) gone_away.3 gone_away.4 p.stays;
   }
 
   -- and its flip is within the bound
@@ -352,14 +353,18 @@ module _ (points : List Point) (fixed : List (ℕ × ℕ)) (m : Mesh) (ks : List
 none_away : (points : List Point) (faces : List Face) → AreAway points faces []
 none_away points faces = record { ordered = λ i j c. absurd (Contains-none (i, j) c); above = λ i j c. absurd (Contains-none (i, j) c); once = once_none }
 
-pub begins : (points : List Point) (fixed : List (ℕ × ℕ)) (m : Mesh) (ks : List ℕ) (start : ℕ) → IsMesh points (faces_of m) (outer_of m) → AreEdges m ks → AllPassBut points (faces_of m) fixed (pairs_at m ks) → IsPartlyLegal points fixed m ks start start
-begins points fixed m ks start shape edges passing = record { shape = shape; edges = edges; passing = passing; away = []; are_away = none_away points (faces_of m); count = omega arith }
+pub begins : (points : List Point) (fixed : List (ℕ × ℕ)) (m : Mesh) (ks : List ℕ) (start : ℕ) → IsMesh points (faces_of m) (outer_of m) → AreEdges m ks → AllPassBut points (faces_of m) fixed (pairs_at m ks) → IsPartlyLegal points fixed m m ks start start
+begins points fixed m ks start shape edges passing = record { shape = shape; edges = edges; passing = passing; away = []; are_away = none_away points (faces_of m); count = omega arith; stays = stays_none m }
 
-pub few_flips : (points : List Point) (fixed : List (ℕ × ℕ)) (m : Mesh) (ks : List ℕ) (start flips : ℕ) → IsPartlyLegal points fixed m ks start flips → (start ≤ flips) × (2 * (flips - start) ≤ length points * (length points - 1))
-few_flips points fixed m ks start flips p = let b = away_is_bounded points (faces_of m) p.away p.are_away in let c = p.count in (omega (arith, c), bounded start (length p.away) flips (length points * (length points - 1)) c b)
+pub few_flips : (points : List Point) (fixed : List (ℕ × ℕ)) (was m : Mesh) (ks : List ℕ) (start flips : ℕ) → IsPartlyLegal points fixed was m ks start flips → (start ≤ flips) × (2 * (flips - start) ≤ length points * (length points - 1))
+few_flips points fixed was m ks start flips p = let b = away_is_bounded points (faces_of m) p.away p.are_away in let c = p.count in (omega (arith, c), bounded start (length p.away) flips (length points * (length points - 1)) c b)
   where
     bounded : (start a flips q : ℕ) → start + a ≡ flips → 2 * a ≤ q → 2 * (flips - start) ≤ q
     bounded start a flips q e h = omega arith
+
+-- all that stood before the flips, and stands, has its index
+pub indexes_kept : (points : List Point) (fixed : List (ℕ × ℕ)) (was m : Mesh) (ks : List ℕ) (start flips : ℕ) → IsValid m → IsPartlyLegal points fixed was m ks start flips → KeepsIndexes was m
+indexes_kept points fixed was m ks start flips s p = keeps_indexes points m p.away s p.shape p.are_away was p.stays
 
 -- ---- the measure
 pub few_edges : (m : Mesh) (ks : List ℕ) (n : ℕ) → 2 * n ≡ length m.half_edges → AreEdges m ks → length ks ≤ n

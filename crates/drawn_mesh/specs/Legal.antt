@@ -8,6 +8,7 @@ use Rattle.plane_tiling.specs.Local.{IsMesh}
 use Rattle.plane_edits.specs.Legal.{AllPassBut, lifted_volume}
 use Rattle.plane_edits.specs.Away.{AreAway}
 use Rattle.drawn_mesh.specs.Drawn.{faces_of, outer_of}
+use Rattle.drawn_mesh.specs.Stays.{StaysBut}
 
 -- the vertices that undirected edge k joins
 abbrev pub pair_at : Mesh → ℕ → ℕ × ℕ
@@ -27,14 +28,15 @@ pub record AreEdges (m : Mesh) (ks : List ℕ) : Type 0 where
   pub within : (k : ℕ) → Contains ks k → 2 * k < length m.half_edges
   pub once : AllPairs (λ i j. i ≢ j) ks
 
--- each edge passes the circle test but perhaps fixed ones and those left to test, after a count of flips went from start to flips
-pub record IsPartlyLegal (points : List Point) (fixed : List (ℕ × ℕ)) (m : Mesh) (left_to_test : List ℕ) (start flips : ℕ) : Type 0 where
+-- each edge passes the circle test but perhaps fixed ones and those left to test, after a mesh became m by flips whose count went from start to flips
+pub record IsPartlyLegal (points : List Point) (fixed : List (ℕ × ℕ)) (was m : Mesh) (left_to_test : List ℕ) (start flips : ℕ) : Type 0 where
   pub shape : IsMesh points (faces_of m) (outer_of m)
   pub edges : AreEdges m left_to_test
   pub passing : AllPassBut points (faces_of m) fixed (pairs_at m left_to_test)
   pub away : List (ℕ × ℕ)
   pub are_away : AreAway points (faces_of m) away
   pub count : start + length away ≡ flips
+  pub stays : StaysBut away was m
 
 -- a number that falls with each step
 abbrev pub steps_left : List Point → Mesh → List ℕ → ℕ

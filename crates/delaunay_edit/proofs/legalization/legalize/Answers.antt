@@ -1,5 +1,5 @@
 use Rattle.std.proofs.Common.{◌∙◌, map, vec_capacity}
-use Rattle.delaunay_edit.proofs.Legalizing.{underway_begins, step_fits, step_kept, underway_ends, underway_counts, drained}
+use Rattle.delaunay_edit.proofs.Legalizing.{underway_begins, step_fits, step_kept, underway_ends, underway_counts, underway_keeps, drained}
 use Rattle.delaunay_edit.proofs.legalization.legalize.Goals as goal
 
 pub loop-edge-init : goal.loop-edge-init
@@ -20,3 +20,6 @@ returns-clause-locally_delaunay g c = underway_ends g.V.HasPosition.place c.args
 
 pub returns-clause-few_flips : goal.returns-clause-few_flips
 returns-clause-few_flips g c = underway_counts g.V.HasPosition.place c.args.dcel.now c.loop-edge.dcel c.loop-edge.work.items _ _ c.args.flips.now c.loop-edge.flips c.loop-edge.invariant
+
+pub returns-clause-indexes : goal.returns-clause-indexes
+returns-clause-indexes g c = underway_keeps g.V.HasPosition.place c.args.dcel.now c.loop-edge.dcel c.loop-edge.work.items _ _ c.args.flips.now c.loop-edge.flips c.loop-edge.invariant c.num_directed_edges-2.ensures.whole.valid
