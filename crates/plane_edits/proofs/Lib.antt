@@ -23,3 +23,5 @@ pub mod RemovalHull
 pub mod RemovalHullCut
 pub mod RemovalHullLine
 pub mod RemovalHulls
+pub mod FlipHistory
+pub mod StarFlips

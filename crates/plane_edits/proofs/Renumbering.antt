@@ -48,7 +48,7 @@ module _ (v last : ℕ) where
   unfolding old_index
   old_of_other j n = grind (arith, nat_tests)
 
-  old_below : (j : ℕ) → v < suc last → j < last → (old_index j < suc last) × (old_index j ≢ v)
+  pub old_below : (j : ℕ) → v < suc last → j < last → (old_index j < suc last) × (old_index j ≢ v)
   old_below j hv h = elim (cases_eq j v) [ inl e ↦ freed (old_of_freed j e) e | inr n ↦ kept (old_of_other j n) n ]
     where
       freed : old_index j ≡ last → j ≡ v → (old_index j < suc last) × (old_index j ≢ v)
@@ -57,7 +57,7 @@ module _ (v last : ℕ) where
       kept : old_index j ≡ j → j ≢ v → (old_index j < suc last) × (old_index j ≢ v)
       kept e n = (omega arith, λ q. n (sym e ∙ q))
 
-  new_below : (k : ℕ) → v < suc last → k < suc last → k ≢ v → new_index v last k < last
+  pub new_below : (k : ℕ) → v < suc last → k < suc last → k ≢ v → new_index v last k < last
   new_below k hv h n = elim (cases_eq k last) [ inl e ↦ freed (new_of_last k e) e | inr d ↦ kept (new_of_other k d) d ]
     where
       freed : new_index v last k ≡ v → k ≡ last → new_index v last k < last
@@ -66,16 +66,16 @@ module _ (v last : ℕ) where
       kept : new_index v last k ≡ k → k ≢ last → new_index v last k < last
       kept e d = omega arith
 
-  new_of_old : (j : ℕ) → j < last → new_index v last (old_index j) ≡ j
+  pub new_of_old : (j : ℕ) → j < last → new_index v last (old_index j) ≡ j
   new_of_old j h = elim (cases_eq j v) [ inl e ↦ new_of_last (old_index j) (old_of_freed j e) ∙ sym e | inr n ↦ ap (new_index v last) (old_of_other j n) ∙ new_of_other j (below j h) ]
     where
       below : (j : ℕ) → j < last → j ≢ last
       below j h e = omega arith
 
-  old_of_new : (k : ℕ) → k ≢ v → old_index (new_index v last k) ≡ k
+  pub old_of_new : (k : ℕ) → k ≢ v → old_index (new_index v last k) ≡ k
   old_of_new k n = elim (cases_eq k last) [ inl e ↦ old_of_freed (new_index v last k) (new_of_last k e) ∙ sym e | inr d ↦ ap old_index (new_of_other k d) ∙ old_of_other k n ]
 
-  new_apart : (i k : ℕ) → i ≢ v → k ≢ v → new_index v last i ≡ new_index v last k → i ≡ k
+  pub new_apart : (i k : ℕ) → i ≢ v → k ≢ v → new_index v last i ≡ new_index v last k → i ≡ k
   new_apart i k n d e = sym (old_of_new i n) ∙ ap old_index e ∙ old_of_new k d
 
   -- ---- the mesh
@@ -231,10 +231,10 @@ module _ (v last : ℕ) where
     }
 
 -- ---- the points that are left
-left_count : (points : List Point) (v : ℕ) (d : Point) → v < length points → length (swap_remove points v d) ≡ length points - 1
+pub left_count : (points : List Point) (v : ℕ) (d : Point) → v < length points → length (swap_remove points v d) ≡ length points - 1
 left_count points v d h = omega (arith, length-take {A = Point} (length points - 1) (set points v (get_or points (length points - 1) d)), length-set {A = Point} points v (get_or points (length points - 1) d))
 
-left_place : (points : List Point) (v : ℕ) (d : Point) → v < length points → (j : ℕ) → j < length points - 1 → place (swap_remove points v d) j ≡ place points (old_index v (length points - 1) j)
+pub left_place : (points : List Point) (v : ℕ) (d : Point) → v < length points → (j : ℕ) → j < length points - 1 → place (swap_remove points v d) j ≡ place points (old_index v (length points - 1) j)
 left_place points v d h j l = ap whole (go (cases_eq j v))
   where
     z : Point

@@ -7,3 +7,5 @@ pub mod LegalLaws
 pub mod Removal
 pub mod RemovalLaws
 pub mod RemovalHull
+pub mod FlipHistory
+pub mod StarFlips

@@ -2,9 +2,11 @@
 #![tactic(auto)]
 
 ghost use Rattle.plane_edits.specs.Laws.{InsertionInsideKeeps, InsertionWithinSideKeeps, InsertionWithinOuterKeeps, FlipKeeps, FlipCovers, ExtensionBegins, ExtensionGoesOn, ExtensionGoesBack, ExtensionEnds, ExtensionOverLineEnds, InsertionPastEndKeeps, InsertionBetweenKeeps};
+ghost use Rattle.plane_edits.specs.FlipHistory.{FlipTouchesOneEdge, FlippedStaysAway, WhatStandsWasNotTouched, FlipsAreBounded};
 ghost use Rattle.plane_edits.specs.LegalLaws.{OneQuestionForBoth, FailingIsConvex, FlipLowers, FlipLeavesSides, PassingIsDropped, ChangeLeavesSides, NoneLeftIsLocallyDelaunay, AwayIsNoEdge, FlipGoesAway, AwayIsBounded};
 ghost use Rattle.plane_edits.specs.RemovalHull.{CornerGoes, CornerLeavesLine, CornerOrFlat, CornerStarFlips, FlatSideCloses, FlatStarFlips};
 ghost use Rattle.plane_edits.specs.RemovalLaws.{EndOfLineGoes, FourFacesMerge, InnerStarFlips, LastTakesFreedIndex, LastTakesFreedIndexOnLine, MiddleOfLineGoes, ThreeFacesMerge};
+ghost use Rattle.plane_edits.specs.StarFlips.{InnerStarShrinks, HullStarShrinks, StarsAgree, HullStarsAgree};
 
 /// A law: a vertex strictly inside a face, joined to its three corners, keeps a mesh local.
 pub fn insertion_inside_keeps()
@@ -179,4 +181,44 @@ pub fn corner_leaves_line()
 /// A law: a vertex of the hull is at a corner, or on a flat side with two faces or more.
 pub fn corner_or_flat()
     ensures { CornerOrFlat }
+{}
+
+/// A law: a flip takes one edge and brings one, and no other edge comes or goes.
+pub fn flip_touches_one_edge()
+    ensures { FlipTouchesOneEdge }
+{}
+
+/// A law: an edge that one legalising has flipped away does not come back in it.
+pub fn flipped_stays_away()
+    ensures { FlippedStaysAway }
+{}
+
+/// A law: edges and faces that stand before and after one legalising were not touched in between.
+pub fn what_stands_was_not_touched()
+    ensures { WhatStandsWasNotTouched }
+{}
+
+/// A law: the flips of one legalising are at most n (n - 1) / 2.
+pub fn flips_are_bounded()
+    ensures { FlipsAreBounded }
+{}
+
+/// A law: after the flip of an edge at an inner vertex its star is the one without that neighbour.
+pub fn inner_star_shrinks()
+    ensures { InnerStarShrinks }
+{}
+
+/// A law: after the flip of an edge at a vertex of the hull its star is the one without that neighbour, with the same ends.
+pub fn hull_star_shrinks()
+    ensures { HullStarShrinks }
+{}
+
+/// A law: two stars of an inner vertex are one, but for where they begin.
+pub fn stars_agree()
+    ensures { StarsAgree }
+{}
+
+/// A law: two stars of a vertex of the hull are one.
+pub fn hull_stars_agree()
+    ensures { HullStarsAgree }
 {}
