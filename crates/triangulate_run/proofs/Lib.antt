@@ -1,4 +1,5 @@
 pub mod Rule
+pub mod Level
 pub mod Tables
 pub mod Truth
 pub mod Found

@@ -5,7 +5,7 @@ use Rattle.std.proofs.lemmas.Bool.{and_parts}
 use Rattle.plane.specs.Fraction.{Point}
 use Rattle.plane.specs.Tests.{limit, IsCoordinate, InRange}
 use Rattle.triangulate_run.specs.declared.sheet.Sheet.{Sheet}
-use Rattle.triangulate_run.specs.declared.sheet.Sheet.TheVariants.{G}
+use Rattle.triangulate_run.specs.declared.sheet.Sheet.TheVariants.{G, B, R}
 use Rattle.triangulate_run.specs.declared.points.SheetPoint.{SheetPoint}
 use Rattle.triangulate_run.specs.Points.{place, point_in}
 use Rattle.triangulate_run.specs.Sheet.{points_of, IsCovered}
@@ -35,6 +35,8 @@ in_range (s ∷ points) e (suc i) = in_range points (and_parts (is_coordinate (p
 sheet_in_range : (s : Sheet) → are_in_range (points_of s) ≡ true
 unfolding points_of
 sheet_in_range G = refl
+sheet_in_range B = refl
+sheet_in_range R = refl
 
 pub covered_in_range : (s : Sheet) (p : Point) → IsCovered s p → InRange p
 covered_in_range s p h = subst InRange h.1.1 (in_range (points_of s) (sheet_in_range s) h.0)

@@ -1,11 +1,11 @@
 -- The sheets: their points, and the tables of their answers.
-use Rattle.std.specs.Prelude.{ℕ, ℤ, pos, neg_ℤ, true, List, [], ◌∷◌, codes}
+use Rattle.std.specs.Prelude.{ℕ, zero, suc, ℤ, pos, neg_ℤ, ◌+ℤ◌, true, List, [], ◌∷◌, codes}
 use Rattle.plane.specs.Fraction.{Point}
 use Rattle.triangulate_run.specs.declared.sheet.Sheet.{Sheet}
-use Rattle.triangulate_run.specs.declared.sheet.Sheet.TheVariants.{G}
+use Rattle.triangulate_run.specs.declared.sheet.Sheet.TheVariants.{G, B, R}
 use Rattle.triangulate_run.specs.declared.points.SheetPoint.{SheetPoint}
 use Rattle.triangulate_run.specs.declared.circles.Circle.{Circle}
-use Rattle.triangulate_run.specs.declared.table.TheConstants.{G_CIRCLES}
+use Rattle.triangulate_run.specs.declared.table.TheConstants.{GRID_CIRCLES}
 use Rattle.triangulate_run.specs.Points.{IsListed, IsListedSite}
 
 abbrev pub site : ℤ → ℤ → SheetPoint
@@ -18,14 +18,25 @@ grid m =
     ∷ site (neg_ℤ m) (pos 0) ∷ site (pos 0) (pos 0) ∷ site m (pos 0)
     ∷ site (neg_ℤ m) m ∷ site (pos 0) m ∷ site m m ∷ []
 
+-- n sites of the line y = 0, 1 apart, from x on
+abbrev pub row : ℤ → ℕ → List SheetPoint
+row x zero = []
+row x (suc n) = site x (pos 0) ∷ row (x +ℤ pos 1) n
+
 unfoldable pub points_of : Sheet → List SheetPoint
 points_of G = grid (pos 1)
+points_of B = grid (pos 536870912)
+points_of R = row (neg_ℤ (pos 50)) 100
 
 unfoldable pub circles_of : Sheet → List Circle
-circles_of G = G_CIRCLES
+circles_of G = GRID_CIRCLES
+circles_of B = GRID_CIRCLES
+circles_of R = []
 
 abbrev pub letter_of : Sheet → List ℕ
 letter_of G = codes "G"
+letter_of B = codes "B"
+letter_of R = codes "R"
 
 -- what a sheet covers, and its sites
 abbrev pub IsCovered : Sheet → Point → Type 0

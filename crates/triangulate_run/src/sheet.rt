@@ -11,7 +11,7 @@ ghost use Rattle.triangulate_run.specs.declared.sheet.Sheet.{Sheet};
 
 use crate::circles::{Circle, is_inside_at, side_at};
 use crate::points::{SheetPoint, index_of, site_index_of};
-use crate::table::{G_CIRCLES, G_POINTS};
+use crate::table::{B_POINTS, G_POINTS, GRID_CIRCLES, R_POINTS};
 use delaunay_core::line_side_info::LineSideInfo;
 use delaunay_core::math::PlaneTests;
 use delaunay_core::point::Point2;
@@ -24,6 +24,10 @@ mod tests;
 pub enum Sheet {
     /// Three rows of three points, 1 apart, round (0, 0).
     G,
+    /// The points of `G`, 2^29 apart, which is as far as coordinates reach.
+    B,
+    /// A hundred points on one line, 1 apart.
+    R,
 }
 
 /// The sheet that the words after the program's name ask for: one word, its letter.
@@ -43,6 +47,8 @@ fn letter_named(word: &str) -> Option<Sheet>
 {
     match word {
         "G" => Some(Sheet::G),
+        "B" => Some(Sheet::B),
+        "R" => Some(Sheet::R),
         _ => None,
     }
 }
@@ -63,6 +69,8 @@ impl Sheet {
     {
         match self {
             Sheet::G => &G_POINTS,
+            Sheet::B => &B_POINTS,
+            Sheet::R => &R_POINTS,
         }
     }
 
@@ -71,7 +79,8 @@ impl Sheet {
         ensures { result.now ≡ circles_of self }
     {
         match self {
-            Sheet::G => &G_CIRCLES,
+            Sheet::G | Sheet::B => &GRID_CIRCLES,
+            Sheet::R => &[],
         }
     }
 

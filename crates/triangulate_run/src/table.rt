@@ -1,4 +1,4 @@
-//! The table of sheet G: its points, its left-turning triples by circle, and the points inside each.
+//! The tables of the sheets: their points, and by circle the left-turning triples, with the points inside each.
 
 use crate::circles::Circle;
 use crate::points::SheetPoint;
@@ -10,6 +10,13 @@ macro_rules! site {
             position: Point2 { x: $x, y: $y },
             site: true,
         }
+    };
+}
+
+// Sites on the line y = 0.
+macro_rules! row {
+    ($($x:expr),*) => {
+        [$(site!($x, 0)),*]
     };
 }
 
@@ -33,7 +40,7 @@ macro_rules! circle {
     };
 }
 
-// The points, row by row from below:
+// The points of the grid, row by row from below:
 //
 //     G H I
 //     D E F
@@ -68,7 +75,20 @@ pub(crate) const G_POINTS: [SheetPoint; 9] = [
     site!(1, 1),
 ];
 
-pub(crate) const G_CIRCLES: [Circle; 34] = [
+pub(crate) const B_POINTS: [SheetPoint; 9] = [
+    site!(-536870912, -536870912),
+    site!(0, -536870912),
+    site!(536870912, -536870912),
+    site!(-536870912, 0),
+    site!(0, 0),
+    site!(536870912, 0),
+    site!(-536870912, 536870912),
+    site!(0, 536870912),
+    site!(536870912, 536870912),
+];
+
+// Of the grid, however far apart its points are.
+pub(crate) const GRID_CIRCLES: [Circle; 34] = [
     circle!([[A, B, E], [A, B, D], [A, E, D], [B, E, D]];),
     circle!([[B, C, F], [B, C, E], [B, F, E], [C, F, E]];),
     circle!([[D, E, H], [D, E, G], [D, H, G], [E, H, G]];),
@@ -103,4 +123,12 @@ pub(crate) const G_CIRCLES: [Circle; 34] = [
     circle!([[C, H, D]; 4]; B, E, F),
     circle!([[I, D, B]; 4]; E, F, H),
     circle!([[G, B, F]; 4]; D, E, H),
+];
+
+pub(crate) const R_POINTS: [SheetPoint; 100] = row![
+    -50, -49, -48, -47, -46, -45, -44, -43, -42, -41, -40, -39, -38, -37, -36, -35, -34, -33, -32,
+    -31, -30, -29, -28, -27, -26, -25, -24, -23, -22, -21, -20, -19, -18, -17, -16, -15, -14, -13,
+    -12, -11, -10, -9, -8, -7, -6, -5, -4, -3, -2, -1, 0, 1, 2, 3, 4, 5, 6, 7, 8, 9, 10, 11, 12,
+    13, 14, 15, 16, 17, 18, 19, 20, 21, 22, 23, 24, 25, 26, 27, 28, 29, 30, 31, 32, 33, 34, 35, 36,
+    37, 38, 39, 40, 41, 42, 43, 44, 45, 46, 47, 48, 49
 ];

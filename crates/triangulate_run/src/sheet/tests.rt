@@ -45,7 +45,9 @@ fn counts<P: PlaneTests<i64>>(tests: &P, points: &[SheetPoint]) -> (u64, u64)
 #[test]
 fn each_rotation_of_a_listed_triple_turns_left(rt: HostRuntime) {
     let inside = 4 * (2 + 2 + 2 + 2 + 5 + 1 + 4 + 4 + 4 + 4) + 4 + 4 * 4 + 8 * 2 + 4 * 3;
-    assert_eq!(rt; counts(&Sheet::G, Sheet::G.points()), (76 * 3, inside * 3));
+    for sheet in [Sheet::G, Sheet::B] {
+        assert_eq!(rt; counts(&sheet, sheet.points()), (76 * 3, inside * 3));
+    }
 }
 
 #[test]
@@ -59,9 +61,23 @@ fn points_are_found(rt: HostRuntime) {
 }
 
 #[test]
+fn a_row_has_a_hundred_sites(rt: HostRuntime) {
+    let points = Sheet::R.points();
+    assert_eq!(rt; points.len(), 100);
+    assert_eq!(rt; site_index_of(points, Point2::new(-50, 0)), Some(0));
+    assert_eq!(rt; site_index_of(points, Point2::new(49, 0)), Some(99));
+    assert_eq!(rt; index_of(points, Point2::new(50, 0)), None);
+    assert_eq!(rt; index_of(points, Point2::new(0, 1)), None);
+}
+
+#[test]
 fn a_sheet_is_named_by_one_letter(rt: HostRuntime) -> Result<(), Fail> {
     for (words, sheet) in [
         (["G"].as_slice(), Some(Sheet::G)),
+        (["B"].as_slice(), Some(Sheet::B)),
+        (["R"].as_slice(), Some(Sheet::R)),
+        (["L"].as_slice(), None),
+        (["X"].as_slice(), None),
         ([].as_slice(), None),
         (["g"].as_slice(), None),
         (["Q"].as_slice(), None),
