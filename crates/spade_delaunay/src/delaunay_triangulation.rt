@@ -1,5 +1,5 @@
 //! Triangulations without constraints.
-ghost use Rattle.std.specs.Prelude.{◌≡◌, ◌↔◌, ◌+◌, ◌*◌, ◌<◌, ◌≤◌, [], length, map, All, IsOk, IsErrOf, IfOk, OnErr};
+ghost use Rattle.std.specs.Prelude.{◌≡◌, ◌↔◌, ◌+◌, ◌*◌, ◌<◌, ◌≤◌, [], length, map, All, MatchOption, IsOk, IsErrOf, IfOk, OnErr};
 ghost use Rattle.half_edge_links.specs.Mesh.{empty};
 ghost use Rattle.half_edge_mesh.specs.Left.{vertices_left, faces_left};
 ghost use Rattle.plane.specs.Fraction.{whole as fraction};
@@ -9,7 +9,7 @@ ghost use Rattle.plane.specs.Tiling.{IsTiling};
 ghost use Rattle.plane.specs.Location.{IsLocation};
 ghost use Rattle.delaunay_core.specs.Place.{place_of};
 ghost use Rattle.delaunay_core.specs.declared.math.InsertionError.TheVariants.{TooLarge, OutOfIndexes};
-ghost use Rattle.delaunay_edit.specs.Known.{IsKnown};
+ghost use Rattle.delaunay_edit.specs.Known.{IsKnown, point_at};
 ghost use Rattle.delaunay_edit.specs.Elements.{GivesElements, HasElement};
 ghost use Rattle.delaunay_edit.specs.Location.{location_of};
 ghost use Rattle.delaunay_edit.specs.State.{state_of, plain_of, triangulation_of};
@@ -152,6 +152,23 @@ impl<V: HasPosition, DE, UE, F> DelaunayTriangulation<V, DE, UE, F> {
     {
         let _ = self.core.num_vertices();
         self.core.locate(point, tests)
+    }
+
+    /// The vertex at a position that the tests cover, if there is one.
+    pub fn locate_vertex<P: PlaneTests<V::Scalar>>(
+        &self,
+        point: Point2<V::Scalar>,
+        tests: &P,
+    ) -> Option<VertexHandle<'_, V, DE, UE, F>>
+        requires sites { All (P.sites tests.now) (map V.place self.now.vertices) }
+        requires covered { P.covered tests.now (place_of V.Scalar.whole point) }
+        ensures { let points = map V.place self.now.vertices in let p = place_of V.Scalar.whole point in MatchOption result (¬ IsKnown points p) (λ v. (state_of v.dcel.now ≡ self.now) × (v.index < length self.now.vertices) × (point_at points v.index ≡ p)) }
+    {
+        let _ = self.core.num_vertices();
+        match self.locate(point, tests) {
+            PositionInTriangulation::OnVertex(vertex) => Some(self.vertex(vertex)),
+            _ => None,
+        }
     }
 }
 

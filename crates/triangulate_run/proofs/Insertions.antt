@@ -1,12 +1,12 @@
 -- What an insertion makes of the vertices, and which replies it may get.
-use Rattle.std.proofs.Common.{◌≡◌, ◌≢◌, ℕ, ◌+◌, ◌<◌, true, List, [], ◌∷◌, ◌++◌, length, map, get_or, Option, Some, None, is_some, false, refl, sym, ◌∙◌, ap, subst, arith, inl, inr}
+use Rattle.std.proofs.Common.{◌≡◌, ℕ, ◌+◌, ◌<◌, true, List, [], ◌∷◌, ◌++◌, length, map, get_or, Option, Some, None, is_some, false, refl, sym, ◌∙◌, ap, subst, arith, inl, inr}
 use Rattle.std.specs.Prelude.{ℤ, pos, All, MatchOption, Result, Err, IsErrOf, IsOk, ◌↔◌, ◌*◌, slice_set}
 use Rattle.std.proofs.lemmas.List.{get_or-map, length-map}
 use Rattle.std.proofs.lemmas.List.Elements.{All-push}
 use Rattle.std.proofs.Math.Seq.{map-set_same}
 use Rattle.std.proofs.lemmas.List.{map-append}
 use Rattle.plane.specs.Fraction.{Point}
-use Rattle.plane.specs.Plain.{DifferInPosition}
+use Rattle.plane.specs.Plain.{DifferInPosition, IsPlain}
 use Rattle.delaunay_core.specs.declared.point.Point2.{Point2}
 use Rattle.triangulate_run.specs.declared.points.SheetPoint.{SheetPoint}
 use Rattle.plane.specs.Pairs.{Joins}
@@ -17,30 +17,14 @@ use Rattle.delaunay_core.specs.declared.math.InsertionError.TheVariants.{TooLarg
 use Rattle.triangulate_run.specs.declared.reply.Reply.TheVariants.{Refused}
 use Rattle.triangulate_run.specs.Answer.{MayInsert, most_elements}
 use Rattle.triangulate_run.specs.Engine.{stage_of}
-use Rattle.delaunay_edit.specs.State.{State, triangulation_of}
+use Rattle.delaunay_edit.specs.State.{State, plain_of, triangulation_of}
 use Rattle.triangulate_run.specs.Points.{place, nowhere, IsAt, IsSiteAt, IsListed, IsListedSite}
 use Rattle.triangulate_run.specs.Stage.{position, Fits}
 use Rattle.delaunay_edit.specs.Known.{point_at, IsKnown}
-use Rattle.delaunay_edit.specs.Shape.{IsKept}
-use Rattle.delaunay_edit.proofs.Counts.{plain_if_kept}
-use Rattle.delaunay_edit.specs.Location.{IsApart}
 
 module _ (vs : List (Point2 ℤ)) (p : Point2 ℤ) where
   placed : (k : ℕ) (d : Point2 ℤ) → k < length vs → point_at (map position vs) k ≡ position (get_or vs k d)
   placed k d h = get_or-map position vs k d (record { x = pos 0; y = pos 0 }) h
-
-  pub fresh_if_apart : IsApart (map position vs) (position p) → All (DifferInPosition position p) vs
-  fresh_if_apart apart = λ k d h e. apart.apart k (omega (arith, h, length-map vs position)) (placed k d h ∙ sym e)
-
-  pub not_apart : (o : Option ℕ) → is_some o ≡ true → MatchOption o (IsApart (map position vs) (position p)) (λ v. (v < length vs) × (point_at (map position vs) v ≡ position p))
-      → All (λ v. position v ≢ position p) vs → ⊥
-  not_apart None e known apart = cc
-  not_apart (Some v) e known apart = apart v p known.0 (sym (placed v p known.0) ∙ known.1)
-
-  pub not_unknown : (o : Option ℕ) → is_some o ≡ true → MatchOption o (IsApart (map position vs) (position p)) (λ v. (v < length vs) × (point_at (map position vs) v ≡ position p))
-      → ¬ IsKnown (map position vs) (position p) → ⊥
-  not_unknown None e known unknown = cc
-  not_unknown (Some v) e known unknown = let below = known.0 in unknown (record { index = v; below = omega (arith, below, length-map vs position); here = known.1 })
 
   pub fresh_if_unknown : ¬ IsKnown (map position vs) (position p) → All (DifferInPosition position p) vs
   fresh_if_unknown unknown = λ k d h e. unknown (record { index = k; below = omega (arith, h, length-map vs position); here = placed k d h ∙ sym e })
@@ -51,13 +35,20 @@ module _ (vs : List (Point2 ℤ)) (p : Point2 ℤ) where
       let below : known.index < length vs = omega (arith, in_map, length-map vs position) in
       fresh known.index p below (sym known.here ∙ placed known.index p below)
 
-  pub known_if_there : (i : ℕ) → i < length vs → position (get_or vs i p) ≡ position p → IsKnown (map position vs) (position p)
-  known_if_there i h e = record { index = i; below = omega (arith, h, length-map vs position); here = placed i p h ∙ e }
+  pub known_at : (i : ℕ) → i < length vs → point_at (map position vs) i ≡ position p → IsKnown (map position vs) (position p)
+  known_at i h e = record { index = i; below = omega (arith, h, length-map vs position); here = e }
 
--- what is said of `None`, where that is the answer
-pub if_none : {A : Type 0} (P : ℕ → Type 0) (o : Option ℕ) → is_some o ≡ false → MatchOption o A P → A
+  pub known_if_there : (i : ℕ) → i < length vs → position (get_or vs i p) ≡ position p → IsKnown (map position vs) (position p)
+  known_if_there i h e = known_at i h (placed i p h ∙ e)
+
+-- what is said of `None`, and of what is there, where that is the answer
+pub if_none : {X A : Type 0} (P : X → Type 0) (o : Option X) → is_some o ≡ false → MatchOption o A P → A
 if_none P None e h = h
-if_none P (Some v) e h = cc
+if_none P (Some x) e h = cc
+
+pub if_some : {X : Type 0} (A : Type 0) (P : X → Type 0) (o : Option X) → is_some o ≡ true → MatchOption o A P → (x : X) × P x
+if_some A P None e h = cc
+if_some A P (Some x) e h = (x, h)
 
 -- a listed site is a site of the tests
 pub site_if_listed : (sites : Point → Type 0) (points : List SheetPoint) (p : Point) → All (λ s. s.site ≡ true → sites (place s)) points → IsListedSite points p → sites p
@@ -86,9 +77,9 @@ no_pairs : (i j : ℕ) → Joins [] i j → ⊥
 no_pairs i j (inl h) = absurd (omega (arith, h.1))
 no_pairs i j (inr h) = absurd (omega (arith, h.1))
 
-pub fits_of : {D U F : Type 0} (s : State (Point2 ℤ) D U F) → IsTiling (triangulation_of position s) → IsKept position s → Fits (stage_of s)
-fits_of s tiling kept = record {
-  is_plain = plain_if_kept position s kept;
+pub fits_of : {D U F : Type 0} (s : State (Point2 ℤ) D U F) → IsTiling (triangulation_of position s) → IsPlain position (plain_of s) → Fits (stage_of s)
+fits_of s tiling plain = record {
+  is_plain = plain;
   points = refl;
   tiling = tiling;
   kept = λ i j h. absurd (no_pairs i j h);

@@ -1,8 +1,9 @@
 //! The answers of a triangulation to commands.
 ghost use Rattle.std.specs.Prelude.{◌≡◌, ◌<◌, nat_lt, if◌then◌else◌, true, List, All, IfOk, map};
-ghost use Rattle.plane.specs.Fraction.{Point};
+ghost use Rattle.plane.specs.Fraction.{Point, whole};
+ghost use Rattle.plane.specs.Location.{IsLocation};
 ghost use Rattle.plane.specs.Tiling.{IsTiling};
-ghost use Rattle.delaunay_edit.specs.Location.{Locates};
+ghost use Rattle.delaunay_edit.specs.Location.{location_of};
 ghost use Rattle.delaunay_edit.specs.Elements.{HasElement};
 ghost use Rattle.triangulate_run.specs.MeshFaces.{row_at};
 ghost use Rattle.triangulate_run.specs.declared.reply.Reply.TheVariants.{Edge};
@@ -18,10 +19,11 @@ use crate::points::{SheetPoint, index_of, site_index_of};
 use crate::reply::Reply;
 use crate::session::Engine;
 use command_grammar::command::{Command, Coordinates};
-use delaunay_core::math::{InsertionError, PlaneTests, validate_vertex};
-use delaunay_core::point::Point2;
-use delaunay_edit::{PositionInTriangulation, TriangulationCore};
-use half_edge_mesh::FaceHandle;
+use spade_delaunay::handles::FaceHandle;
+use spade_delaunay::{
+    DelaunayTriangulation, InsertionError, PlaneTests, Point2, PositionInTriangulation,
+    validate_vertex,
+};
 use std::alloc::{AllocError, Global};
 
 /// A triangulation that answers commands, with the tests and the points that it may be asked about.
@@ -92,7 +94,10 @@ impl<'a, P: PlaneTests<i64>> PointEngine<'a, P> {
         if site_index_of(self.points, point).is_none() {
             return Reply::UnknownPoint;
         }
-        let is_new = self.triangulation.vertex_at(point).is_none();
+        let is_new = self
+            .triangulation
+            .locate_vertex(point, self.tests)
+            .is_none();
         if is_new && self.triangulation.num_vertices() >= MOST_VERTICES {
             return Reply::BadLine;
         }
@@ -144,7 +149,7 @@ fn counts_of(triangulation: &Triangulation) -> Reply
 }
 
 /// Vertices that are points and carry no further data.
-type Triangulation = TriangulationCore<Point2<i64>, (), (), ()>;
+type Triangulation = DelaunayTriangulation<Point2<i64>, (), (), ()>;
 
 /// All faces, sorted.
 fn faces_of(triangulation: &Triangulation, alloc: Global) -> Result<Vec<Corners>, AllocError>
@@ -187,7 +192,7 @@ fn edge_reply(i: u64, j: u64) -> Reply
 fn location_reply(triangulation: &Triangulation, answer: PositionInTriangulation) -> Reply
     requires handle { HasElement triangulation.now answer }
     requires tiling { IsTiling (triangulation_of position triangulation.now) }
-    ensures { (p : Point) → Locates (map position triangulation.now.vertices) triangulation.now.mesh p answer
+    ensures { (p : Point) → IsLocation (triangulation_of position triangulation.now) (whole p) (location_of triangulation.now.mesh answer)
         → IsThere (triangulation_of position triangulation.now) p result }
 {
     match answer {

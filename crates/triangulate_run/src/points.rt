@@ -28,7 +28,7 @@ pub(crate) fn index_of(points: &[SheetPoint], point: Point2<i64>) -> Option<usiz
 }
 
 /// The index of a site in the list, if it is there.
-pub(crate) fn site_index_of(points: &[SheetPoint], point: Point2<i64>) -> Option<usize>
+pub fn site_index_of(points: &[SheetPoint], point: Point2<i64>) -> Option<usize>
     ensures { MatchOption result (¬ IsListedSite points.now (place_of (λ z. z) point))
         (λ i. IsSiteAt points.now i (place_of (λ z. z) point)) }
 {

@@ -1,16 +1,12 @@
 use Rattle.delaunay_edit.specs.State.{triangulation_of}
-use Rattle.delaunay_edit.proofs.Counts.{element_if_handle}
 use Rattle.triangulate_run.specs.Stage.{position}
 use Rattle.triangulate_run.proofs.Insertions.{listed_if_known}
 use Rattle.triangulate_run.proofs.Locations.{located}
 use Rattle.triangulate_run.proofs.engine.PointEngine.locate.Goals as goal
-
-pub location_reply-requires-clause-handle : goal.location_reply-requires-clause-handle
-location_reply-requires-clause-handle g c = element_if_handle position c.args.self.now.triangulation c.num_vertices.ensures.kept c.locate-answer.result c.locate-answer.ensures.handle
 
 pub returns : goal.returns
 returns g c =
     let e = c.args.self.now in
     let p = position c.args.point in
     let listed = listed_if_known e.points.now p c.index_of.result c.if-is_none.ensures c.index_of.ensures in
-    record { reply = located e.points.now (triangulation_of position e.triangulation) p c.location_reply.result listed (c.location_reply.ensures p c.locate-answer.ensures) }
+    record { reply = located e.points.now (triangulation_of position e.triangulation) p c.location_reply.result listed (c.location_reply.ensures p c.locate-answer.ensures.location) }

@@ -36,4 +36,4 @@ returns-clause-reply g c =
     ]
 
 pub returns-clause-fits : goal.returns-clause-fits
-returns-clause-fits g c = fits_of c.match-command.self.triangulation c.num_vertices.ensures.tiling c.num_vertices.ensures.kept
+returns-clause-fits g c = fits_of c.match-command.self.triangulation c.num_vertices.ensures.tiling c.num_vertices.ensures.plain
