@@ -10,3 +10,5 @@ pub mod Splits
 pub mod Pieces
 pub mod Whole
 pub mod Shorter
+pub mod PathFlips
+pub mod HalvesJoin

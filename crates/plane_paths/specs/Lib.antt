@@ -2,3 +2,4 @@ pub mod Path
 pub mod Measure
 pub mod Laws
 pub mod Constraints
+pub mod PathSteps

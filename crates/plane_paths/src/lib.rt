@@ -2,6 +2,7 @@
 #![tactic(auto)]
 
 ghost use Rattle.plane_paths.specs.Constraints.{SplitIsAppend, StraightHalvesJoin, PathBegins, PathGoesOn, PathEnds, PieceCrossesWhole, PathShortens};
+ghost use Rattle.plane_paths.specs.PathSteps.{PathFlipKeepsConstraints, PieceIsFree, PieceOnLineIsEdge, StraightHalvesJoinAfterRemoval};
 ghost use Rattle.plane_paths.specs.Laws.{UncrossedIsEdge, ChosenFlipIsConvex, ChosenFlipLowers, CrossingIsEitherWay, ChosenFlipExists, EndsAreOrdered, LastHasNoneAfter};
 
 /// A law: a segment between two vertices that carries no third and that no edge crosses is an edge.
@@ -72,4 +73,24 @@ pub fn piece_crosses_whole()
 /// A law: from the end of the first piece the squared distance to the last vertex is less.
 pub fn path_shortens()
     ensures { PathShortens }
+{}
+
+/// A law: a flip of an edge that crosses the segment keeps each constraint an edge that does not cross it.
+pub fn path_flip_keeps_constraints()
+    ensures { PathFlipKeepsConstraints }
+{}
+
+/// A law: a piece of a path is two vertices with none strictly between.
+pub fn piece_is_free()
+    ensures { PieceIsFree }
+{}
+
+/// A law: where all vertices are on one line, two of them with none strictly between are an edge.
+pub fn piece_on_line_is_edge()
+    ensures { PieceOnLineIsEdge }
+{}
+
+/// A law: after the removal of a vertex of data `V` from within a straight constraint the far ends of its halves can be joined, and joining them is an add.
+pub fn straight_halves_join_after_removal<V>()
+    ensures { StraightHalvesJoinAfterRemoval V }
 {}
