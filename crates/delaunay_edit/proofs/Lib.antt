@@ -14,3 +14,5 @@ pub mod Appending
 pub mod InsertionCases
 pub mod Legalizing
 pub mod LineEnds
+pub mod DataKept
+pub mod DataGrowing

@@ -4,3 +4,4 @@ pub mod Shape
 pub mod Location
 pub mod Known
 pub mod Elements
+pub mod Data

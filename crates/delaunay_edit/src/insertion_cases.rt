@@ -3,6 +3,7 @@ ghost use Rattle.std.specs.Prelude.{◌≡◌, ◌↔◌, ◌<◌, ◌≤◌, �
 ghost use Rattle.half_edge_links.specs.Mesh.{rev, face, face_edge};
 ghost use Rattle.half_edge_mesh.specs.Contents.{HasRoom};
 ghost use Rattle.plane.specs.Tests.{InRange};
+ghost use Rattle.delaunay_edit.specs.Data.{GrowsAround};
 ghost use Rattle.delaunay_edit.specs.Location.{IsApart, IsInsideFaceOf, IsLeftOfPlace, IsWithinEdge, Locates};
 ghost use Rattle.delaunay_edit.specs.Shape.{IsKept};
 ghost use Rattle.delaunay_edit.specs.State.{state_of};
@@ -29,6 +30,7 @@ pub(crate) fn insert_inside_face<V: HasPosition, DE: Default, UE: Default, F: De
     ensures vertex { result ≡ length dcel.old.vertices }
     ensures vertices { dcel.new.vertices ≡ dcel.old.vertices ++ value ∷ [] }
     ensures kept { IsKept V.place (state_of dcel.new) }
+    ensures grows { GrowsAround (map V.place dcel.old.vertices) (V.place value) (state_of dcel.old) (state_of dcel.new) }
 {
     let vertex = dcel.insert_into_triangle(value, face);
     let _ = dcel.num_vertices();
@@ -51,6 +53,7 @@ pub(crate) fn split_inner_edge<V: HasPosition, DE: Default, UE: Default, F: Defa
     ensures vertex { result ≡ length dcel.old.vertices }
     ensures vertices { dcel.new.vertices ≡ dcel.old.vertices ++ value ∷ [] }
     ensures kept { IsKept V.place (state_of dcel.new) }
+    ensures grows { GrowsAround (map V.place dcel.old.vertices) (V.place value) (state_of dcel.old) (state_of dcel.new) }
 {
     let (vertex, _parts) = dcel.split_edge(edge, value);
     let _ = dcel.num_vertices();
@@ -73,6 +76,7 @@ pub(crate) fn split_hull_edge<V: HasPosition, DE: Default, UE: Default, F: Defau
     ensures vertex { result ≡ length dcel.old.vertices }
     ensures vertices { dcel.new.vertices ≡ dcel.old.vertices ++ value ∷ [] }
     ensures kept { IsKept V.place (state_of dcel.new) }
+    ensures grows { GrowsAround (map V.place dcel.old.vertices) (V.place value) (state_of dcel.old) (state_of dcel.new) }
 {
     let (vertex, _parts) = dcel.split_half_edge(edge, value);
     let _ = dcel.num_vertices();
@@ -97,6 +101,7 @@ pub(crate) fn insert_at<V: HasPosition, DE: Default, UE: Default, F: Default>(
     ensures vertex { result ≡ length dcel.old.vertices }
     ensures vertices { dcel.new.vertices ≡ dcel.old.vertices ++ value ∷ [] }
     ensures kept { IsKept V.place (state_of dcel.new) }
+    ensures grows { GrowsAround (map V.place dcel.old.vertices) (V.place value) (state_of dcel.old) (state_of dcel.new) }
 {
     match location {
         PositionInTriangulation::OnEdge(edge) => insert_within_line(dcel, edge, value),

@@ -8,6 +8,7 @@ ghost use Rattle.plane.specs.Pairs.{place};
 ghost use Rattle.plane.specs.Location.{IsPast};
 ghost use Rattle.plane.specs.Tests.{InRange};
 ghost use Rattle.plane_tiling.specs.Local.{alone};
+ghost use Rattle.delaunay_edit.specs.Data.{GrowsAround};
 ghost use Rattle.delaunay_edit.specs.Location.{IsApart, IsWithinEdge};
 ghost use Rattle.delaunay_edit.specs.Shape.{IsKept};
 ghost use Rattle.delaunay_edit.specs.State.{state_of};
@@ -27,6 +28,7 @@ pub(crate) fn insert_first<V: HasPosition, DE, UE, F>(
     ensures vertex { result ≡ length dcel.old.vertices }
     ensures vertices { dcel.new.vertices ≡ dcel.old.vertices ++ value ∷ [] }
     ensures kept { IsKept V.place (state_of dcel.new) }
+    ensures grows { GrowsAround (map V.place dcel.old.vertices) (V.place value) (state_of dcel.old) (state_of dcel.new) }
 {
     let vertex = dcel.append_unconnected_vertex(value);
     let _ = dcel.num_vertices();
@@ -46,6 +48,7 @@ pub(crate) fn insert_second<V: HasPosition, DE: Default, UE: Default, F>(
     ensures vertex { result ≡ length dcel.old.vertices }
     ensures vertices { dcel.new.vertices ≡ dcel.old.vertices ++ value ∷ [] }
     ensures kept { IsKept V.place (state_of dcel.new) }
+    ensures grows { GrowsAround (map V.place dcel.old.vertices) (V.place value) (state_of dcel.old) (state_of dcel.new) }
 {
     let _ = dcel.num_vertices();
     let vertex = dcel.append_unconnected_vertex(value);
@@ -70,6 +73,7 @@ pub(crate) fn insert_past_end<V: HasPosition, DE: Default, UE: Default, F>(
     ensures vertex { result ≡ length dcel.old.vertices }
     ensures vertices { dcel.new.vertices ≡ dcel.old.vertices ++ value ∷ [] }
     ensures kept { IsKept V.place (state_of dcel.new) }
+    ensures grows { GrowsAround (map V.place dcel.old.vertices) (V.place value) (state_of dcel.old) (state_of dcel.new) }
 {
     let end = dcel.directed_edge(edge).from().fix();
     let vertex = dcel.extend_line(end, value);
@@ -92,6 +96,7 @@ pub(crate) fn insert_within_line<V: HasPosition, DE: Default, UE: Default, F>(
     ensures vertex { result ≡ length dcel.old.vertices }
     ensures vertices { dcel.new.vertices ≡ dcel.old.vertices ++ value ∷ [] }
     ensures kept { IsKept V.place (state_of dcel.new) }
+    ensures grows { GrowsAround (map V.place dcel.old.vertices) (V.place value) (state_of dcel.old) (state_of dcel.new) }
 {
     let (vertex, _parts) = dcel.split_edge_when_all_vertices_on_line(edge, value);
     let _ = dcel.num_vertices();
@@ -114,6 +119,7 @@ pub(crate) fn insert_first_face<V: HasPosition, DE: Default, UE: Default, F: Def
     ensures vertex { result ≡ length dcel.old.vertices }
     ensures vertices { dcel.new.vertices ≡ dcel.old.vertices ++ value ∷ [] }
     ensures kept { IsKept V.place (state_of dcel.new) }
+    ensures grows { GrowsAround (map V.place dcel.old.vertices) (V.place value) (state_of dcel.old) (state_of dcel.new) }
 {
     let vertex = dcel.create_new_face_adjacent_to_edge(edge, value);
     let _ = dcel.num_vertices();

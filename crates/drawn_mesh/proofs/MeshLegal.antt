@@ -366,6 +366,10 @@ few_flips points fixed was m ks start flips p = let b = away_is_bounded points (
 pub indexes_kept : (points : List Point) (fixed : List (ℕ × ℕ)) (was m : Mesh) (ks : List ℕ) (start flips : ℕ) → IsValid m → IsPartlyLegal points fixed was m ks start flips → KeepsIndexes was m
 indexes_kept points fixed was m ks start flips s p = keeps_indexes points m p.away s p.shape p.are_away was p.stays
 
+-- each edge and face of a mesh has one index
+pub own_indexes : (points : List Point) (m : Mesh) → IsValid m → IsMesh points (faces_of m) (outer_of m) → KeepsIndexes m m
+own_indexes points m s shape = keeps_indexes points m [] s shape (none_away points (faces_of m)) m (stays_none m)
+
 -- ---- the measure
 pub few_edges : (m : Mesh) (ks : List ℕ) (n : ℕ) → 2 * n ≡ length m.half_edges → AreEdges m ks → length ks ≤ n
 few_edges m ks n e o = at_most_so_many ks n o.once (λ j c. let h = o.within j c in omega (arith, h, e))

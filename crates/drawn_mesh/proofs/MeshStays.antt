@@ -26,14 +26,14 @@ use Rattle.drawn_mesh.specs.Stays.{GoSameWay, HaveSameCorners, KeepsIndexes, Has
 use Rattle.drawn_mesh.proofs.OwnEdges.{own_edges}
 use Rattle.drawn_mesh.proofs.FaceChanges.{turned_faces, contains_map}
 
-slice_get-set_other : {X : Type 0} (xs : List X) (i j : ℕ) (x : X) → j ≢ i → slice_get (set xs i x) j ≡ slice_get xs j
+pub slice_get-set_other : {X : Type 0} (xs : List X) (i j : ℕ) (x : X) → j ≢ i → slice_get (set xs i x) j ≡ slice_get xs j
 slice_get-set_other xs i j x n = grind (arith, common_steps, gets)
 
 -- ---- one index for each edge
 pub halved : (h : ℕ) → (2 * (h / 2) ≡ h) ⊎ (2 * (h / 2) ≡ rev h)
 halved h = grind arith
 
-half_same : (g h : ℕ) → h / 2 ≡ g / 2 → (h ≡ g) ⊎ (h ≡ rev g)
+pub half_same : (g h : ℕ) → h / 2 ≡ g / 2 → (h ≡ g) ⊎ (h ≡ rev g)
 half_same g h e = grind arith
 
 half_within : (h n : ℕ) → n / 2 * 2 ≡ n → h < n → 2 * (h / 2) + 1 < n
@@ -149,6 +149,16 @@ joined_back : (pairs : List (ℕ × ℕ)) (i j : ℕ) → Joins pairs i j → Jo
 joined_back pairs i j (inl h) = inr h
 joined_back pairs i j (inr h) = inl h
 
+module _ (m : Mesh) where
+  -- the listed triangles are the faces, each also turned
+  pub face_there : (f : ℕ) (t : Triangle) → slice_get (triangles m) f ≡ Some t → IsFaceOf (faces_of m) t.first t.second t.third
+  face_there f t p = inl (contains_map corners_of (triangles m) t (f, slice_get_within (triangles m) f t p, get_or_from_slice_get (triangles m) f t t p))
+
+  pub turned_back : (t u : Triangle) → HaveSameCorners t u → IsFaceOf (faces_of m) u.first u.second u.third → IsFaceOf (faces_of m) t.first t.second t.third
+  turned_back t u (inl r) f = subst (λ (x : ℕ × ℕ × ℕ). IsFaceOf (faces_of m) x.0 x.1 x.2) (λ i. (r.0 i, r.1 i, r.2 i)) f
+  turned_back t u (inr (inl r)) f = turned_faces (faces_of m) t.third t.first t.second (turned_faces (faces_of m) t.second t.third t.first (subst (λ (x : ℕ × ℕ × ℕ). IsFaceOf (faces_of m) x.0 x.1 x.2) (λ i. (r.0 i, r.1 i, r.2 i)) f))
+  turned_back t u (inr (inr r)) f = turned_faces (faces_of m) t.third t.first t.second (subst (λ (x : ℕ × ℕ × ℕ). IsFaceOf (faces_of m) x.0 x.1 x.2) (λ i. (r.0 i, r.1 i, r.2 i)) f)
+
 module _ (points : List Point) (m : Mesh) (away : List (ℕ × ℕ)) (s : IsValid m) (shape : IsMesh points (faces_of m) (outer_of m)) (gone : AreAway points (faces_of m) away) where
   tiled : IsTiling (drawn points m)
   tiled = meshes_tile points (faces_of m) (outer_of m) (edges_of m) shape (own_edges m s)
@@ -201,14 +211,6 @@ module _ (points : List Point) (m : Mesh) (away : List (ℕ × ℕ)) (s : IsVali
     | inr t ↦ let x = is_away (origin m h) (origin m (rev h)) j in no_faces x.a x.b x.c t.no_face x.here
   ]
 
-  face_there : (f : ℕ) (t : Triangle) → slice_get (triangles m) f ≡ Some t → IsFaceOf (faces_of m) t.first t.second t.third
-  face_there f t p = inl (contains_map corners_of (triangles m) t (f, slice_get_within (triangles m) f t p, get_or_from_slice_get (triangles m) f t t p))
-
-  turned_back : (t u : Triangle) → HaveSameCorners t u → IsFaceOf (faces_of m) u.first u.second u.third → IsFaceOf (faces_of m) t.first t.second t.third
-  turned_back t u (inl r) f = subst (λ (x : ℕ × ℕ × ℕ). IsFaceOf (faces_of m) x.0 x.1 x.2) (λ i. (r.0 i, r.1 i, r.2 i)) f
-  turned_back t u (inr (inl r)) f = turned_faces (faces_of m) t.third t.first t.second (turned_faces (faces_of m) t.second t.third t.first (subst (λ (x : ℕ × ℕ × ℕ). IsFaceOf (faces_of m) x.0 x.1 x.2) (λ i. (r.0 i, r.1 i, r.2 i)) f))
-  turned_back t u (inr (inr r)) f = turned_faces (faces_of m) t.third t.first t.second (subst (λ (x : ℕ × ℕ × ℕ). IsFaceOf (faces_of m) x.0 x.1 x.2) (λ i. (r.0 i, r.1 i, r.2 i)) f)
-
   -- all else that stood, and stands, has its index
   pub keeps_indexes : (was : Mesh) → StaysBut away was m → KeepsIndexes was m
   keeps_indexes was stays = record {
@@ -218,7 +220,7 @@ module _ (points : List Point) (m : Mesh) (away : List (ℕ × ℕ)) (s : IsVali
     ];
     faces = λ f g t u p q same. elim (stays.faces f t p) [
       | inl x ↦ one_face m s edges_once f g t u x q same
-      | inr j ↦ absurd (away_no_side t j (turned_back t u same (face_there g u q)))
+      | inr j ↦ absurd (away_no_side t j (turned_back m t u same (face_there m g u q)))
     ];
   }
 

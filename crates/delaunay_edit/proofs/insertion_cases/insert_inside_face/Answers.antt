@@ -3,6 +3,7 @@ use Rattle.std.proofs.lemmas.List.{length-map}
 use Rattle.half_edge_mesh.proofs.Fits.{length-grown}
 use Rattle.delaunay_edit.proofs.Growing.{grown}
 use Rattle.delaunay_edit.proofs.InsertionCases.{inside_shape}
+use Rattle.delaunay_edit.proofs.DataGrowing.{grows_inside}
 use Rattle.delaunay_edit.proofs.insertion_cases.insert_inside_face.Goals as goal
 
 pub returns-clause-kept : goal.returns-clause-kept
@@ -17,3 +18,9 @@ returns-clause-kept g c =
     grown g.V.HasPosition.place old new c.args.value c.requires.kept (ap (λ d. d.vertices) done.contents) c.requires.in_range c.num_vertices.ensures.whole edges faces
     (inside_shape (map g.V.HasPosition.place old.vertices) (g.V.HasPosition.place c.args.value) old.mesh new.mesh c.insert_into_triangle-vertex.result c.requires.kept.valid c.requires.kept.shape (done.vertex ∙ sym places)
     c.args.face c.requires.positive here c.requires.inside done.triangles done.outer)
+
+pub returns-clause-grows : goal.returns-clause-grows
+returns-clause-grows g c =
+    let old = c.args.dcel.now in
+    let done = c.insert_into_triangle-vertex.ensures in
+    grows_inside old c.insert_into_triangle-vertex.new.self c.requires.kept.valid c.requires.kept.fits c.num_vertices.ensures.whole (map g.V.HasPosition.place old.vertices) (g.V.HasPosition.place c.args.value) _ _ _ _ _ _ c.args.face _ c.requires.positive c.requires.within c.requires.inside done.directed done.faces done.edges done.triangles (ap (λ d. d.outer) done.contents)

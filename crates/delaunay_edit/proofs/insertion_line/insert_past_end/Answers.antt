@@ -6,6 +6,7 @@ use Rattle.plane.specs.Fraction.{whole}
 use Rattle.plane.specs.Location.{IsPast}
 use Rattle.plane_tiling.specs.Local.{alone}
 use Rattle.delaunay_edit.proofs.Growing.{grown, extended_shape, no_faces}
+use Rattle.delaunay_edit.proofs.DataGrowing.{grows_past_end}
 use Rattle.delaunay_edit.proofs.insertion_line.insert_past_end.Goals as goal
 
 pub extend_line-vertex-requires-clause-one_face : goal.extend_line-vertex-requires-clause-one_face
@@ -29,3 +30,9 @@ returns-clause-kept g c =
     (omega (arith, starts, start_in, fit, places)) (c.extend_line-vertex.ensures.vertex ∙ sym places)
     (subst (λ i. IsPast (alone (map g.V.HasPosition.place old.vertices)) i (whole (g.V.HasPosition.place c.args.value))) (sym starts) c.requires.past)
     c.extend_line-vertex.ensures.triangles c.extend_line-vertex.ensures.outer)
+
+pub returns-clause-grows : goal.returns-clause-grows
+returns-clause-grows g c =
+    let old = c.args.dcel.now in
+    let done = c.extend_line-vertex.ensures in
+    grows_past_end old c.extend_line-vertex.new.self c.requires.kept.valid c.requires.kept.fits c.num_vertices.ensures.whole (map g.V.HasPosition.place old.vertices) (g.V.HasPosition.place c.args.value) _ _ _ _ (no_faces g.V.HasPosition.place old c.requires.kept (omega (arith, c.requires.two))) done.directed done.edges (ap (λ d. d.outer) done.contents)

@@ -3,6 +3,7 @@ use Rattle.std.proofs.lemmas.List.{length-map}
 use Rattle.half_edge_links.specs.Outline.{OuterChanges, IsEdge}
 use Rattle.half_edge_mesh.proofs.Fits.{length-grown}
 use Rattle.delaunay_edit.proofs.Growing.{grown, second_shape}
+use Rattle.delaunay_edit.proofs.DataGrowing.{grows_from_one}
 use Rattle.delaunay_edit.proofs.insertion_line.insert_second.Goals as goal
 
 pub returns-clause-kept : goal.returns-clause-kept
@@ -21,3 +22,10 @@ returns-clause-kept g c =
     (second_shape (map g.V.HasPosition.place old.vertices) (g.V.HasPosition.place c.args.value) old.mesh new.mesh a b (places ∙ c.requires.one) c.requires.kept.valid.sound (places ∙ c.requires.kept.fits.vertices_fit) c.requires.kept.shape c.requires.apart c.from_index.ensures (c.append_unconnected_vertex-vertex.ensures.vertex ∙ sym places)
     c.setup_initial_two_vertices.ensures.triangles
     (subst (λ m. OuterChanges m new.mesh (λ h. ⊥) (λ h i j. IsEdge 0 a b h i j ⊎ IsEdge 1 b a h i j)) (ap (λ d. d.mesh) is) c.setup_initial_two_vertices.ensures.outer))
+
+pub returns-clause-grows : goal.returns-clause-grows
+returns-clause-grows g c =
+    let old = c.args.dcel.now in
+    let new = c.setup_initial_two_vertices.new.self in
+    grows_from_one old new c.requires.kept.valid c.requires.kept.fits (map g.V.HasPosition.place old.vertices) (g.V.HasPosition.place c.args.value) (omega (arith, c.requires.one))
+    (ap (λ d. d.outer) c.setup_initial_two_vertices.ensures.contents ∙ ap (λ d. d.outer) c.append_unconnected_vertex-vertex.ensures.contents)
