@@ -16,3 +16,4 @@ pub mod Legalizing
 pub mod LineEnds
 pub mod DataKept
 pub mod DataGrowing
+pub mod Joining

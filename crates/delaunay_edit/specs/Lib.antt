@@ -5,3 +5,4 @@ pub mod Location
 pub mod Known
 pub mod Elements
 pub mod Data
+pub mod Joining

@@ -16,7 +16,7 @@ use delaunay_core::point::{HasPosition, Point2};
 use half_edge_mesh::{Dcel, FixedDirectedEdgeHandle, FixedUndirectedEdgeHandle};
 
 // The position where an edge starts.
-fn start_of<V: HasPosition, DE, UE, F>(
+pub(crate) fn start_of<V: HasPosition, DE, UE, F>(
     dcel: &Dcel<V, DE, UE, F>,
     edge: FixedDirectedEdgeHandle,
 ) -> Point2<V::Scalar>

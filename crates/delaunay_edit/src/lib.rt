@@ -5,6 +5,7 @@ mod elements;
 mod insertion;
 mod insertion_cases;
 mod insertion_line;
+mod insertion_outside;
 mod legalization;
 mod location;
 mod position_in_triangulation;
