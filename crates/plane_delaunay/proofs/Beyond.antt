@@ -58,15 +58,15 @@ round_way : (s₁ t₁ s₂ t₂ s₃ t₃ : ℤ) → t₃ *ℤ (s₁ *ℤ t₂ 
 round_way s₁ t₁ s₂ t₂ s₃ t₃ = ring_in (s₁ ∷ t₁ ∷ s₂ ∷ t₂ ∷ s₃ ∷ t₃ ∷ []) (λ s₁ t₁ s₂ t₂ s₃ t₃. t₃ ⊗ (s₁ ⊗ t₂ ⊖ t₁ ⊗ s₂) ⊕ t₁ ⊗ (s₂ ⊗ t₃ ⊖ t₂ ⊗ s₃) ⊕ t₂ ⊗ (s₃ ⊗ t₁ ⊖ t₃ ⊗ s₁)) (λ s₁ t₁ s₂ t₂ s₃ t₃. num 0) tt
 
 -- three numbers below 0 times three of one sign do not sum to 0
-no_round : (t₁ t₂ t₃ d₁ d₂ d₃ : ℤ) → t₁ <ℤ pos 0 → t₂ <ℤ pos 0 → t₃ <ℤ pos 0 → t₃ *ℤ d₁ +ℤ t₁ *ℤ d₂ +ℤ t₂ *ℤ d₃ ≡ pos 0 → pos 0 ≤ℤ d₁ → pos 0 <ℤ d₂ → pos 0 <ℤ d₃ → ⊥
-no_round t₁ t₂ t₃ d₁ d₂ d₃ h₁ h₂ h₃ e k₁ k₂ k₃ =
+no_round_left : (t₁ t₂ t₃ d₁ d₂ d₃ : ℤ) → t₁ <ℤ pos 0 → t₂ <ℤ pos 0 → t₃ <ℤ pos 0 → t₃ *ℤ d₁ +ℤ t₁ *ℤ d₂ +ℤ t₂ *ℤ d₃ ≡ pos 0 → pos 0 ≤ℤ d₁ → pos 0 <ℤ d₂ → pos 0 <ℤ d₃ → ⊥
+no_round_left t₁ t₂ t₃ d₁ d₂ d₃ h₁ h₂ h₃ e k₁ k₂ k₃ =
     let p = mul-nonneg_ℤ {a = neg_ℤ t₃} {b = d₁} (omega (arith, ints)) k₁ in
     let q = mul-pos_ℤ {a = neg_ℤ t₁} {b = d₂} (omega (arith, ints)) k₂ in
     let r = mul-pos_ℤ {a = neg_ℤ t₂} {b = d₃} (omega (arith, ints)) k₃ in
     omega (arith, ints, neg-mul_ℤ t₃ d₁, neg-mul_ℤ t₁ d₂, neg-mul_ℤ t₂ d₃)
 
-no_round' : (t₁ t₂ t₃ d₁ d₂ d₃ : ℤ) → t₁ <ℤ pos 0 → t₂ <ℤ pos 0 → t₃ <ℤ pos 0 → t₃ *ℤ d₁ +ℤ t₁ *ℤ d₂ +ℤ t₂ *ℤ d₃ ≡ pos 0 → d₁ <ℤ pos 0 → d₂ <ℤ pos 0 → d₃ <ℤ pos 0 → ⊥
-no_round' t₁ t₂ t₃ d₁ d₂ d₃ h₁ h₂ h₃ e k₁ k₂ k₃ =
+no_round_right : (t₁ t₂ t₃ d₁ d₂ d₃ : ℤ) → t₁ <ℤ pos 0 → t₂ <ℤ pos 0 → t₃ <ℤ pos 0 → t₃ *ℤ d₁ +ℤ t₁ *ℤ d₂ +ℤ t₂ *ℤ d₃ ≡ pos 0 → d₁ <ℤ pos 0 → d₂ <ℤ pos 0 → d₃ <ℤ pos 0 → ⊥
+no_round_right t₁ t₂ t₃ d₁ d₂ d₃ h₁ h₂ h₃ e k₁ k₂ k₃ =
     let p = mul-pos_ℤ {a = neg_ℤ t₃} {b = neg_ℤ d₁} (omega (arith, ints)) (omega (arith, ints)) in
     let q = mul-pos_ℤ {a = neg_ℤ t₁} {b = neg_ℤ d₂} (omega (arith, ints)) (omega (arith, ints)) in
     let r = mul-pos_ℤ {a = neg_ℤ t₂} {b = neg_ℤ d₃} (omega (arith, ints)) (omega (arith, ints)) in
@@ -81,10 +81,10 @@ exit s₁ t₁ s₂ t₂ s₃ t₃ h₁ h₂ h₃ = go (lt_or_ge_ℤ t₁ (pos 0
         → Exit s₁ t₁ s₂ t₂ s₃ t₃
     three k₁ k₂ k₃ (inr a) b (inl c) d e = by_first k₁ a (turned_way s₃ t₃ s₁ t₁ c)
     three k₁ k₂ k₃ (inr a) (inl b) (inr c) d e = by_third k₃ (weak c) (turned_way s₂ t₂ s₃ t₃ b)
-    three k₁ k₂ k₃ (inr a) (inr b) (inr c) d e = absurd (no_round t₁ t₂ t₃ _ _ _ k₁ k₂ k₃ (round_way s₁ t₁ s₂ t₂ s₃ t₃) a b c)
+    three k₁ k₂ k₃ (inr a) (inr b) (inr c) d e = absurd (no_round_left t₁ t₂ t₃ _ _ _ k₁ k₂ k₃ (round_way s₁ t₁ s₂ t₂ s₃ t₃) a b c)
     three k₁ k₂ k₃ (inl a) b c (inr d) e = by_second k₂ d (turned_way s₁ t₁ s₂ t₂ (weak_right a))
     three k₁ k₂ k₃ (inl a) b c (inl d) (inr e) = by_third k₃ e (turned_way s₂ t₂ s₃ t₃ (weak_right d))
-    three k₁ k₂ k₃ (inl a) b c (inl d) (inl e) = absurd (no_round' t₁ t₂ t₃ _ _ _ k₁ k₂ k₃ (round_way s₁ t₁ s₂ t₂ s₃ t₃) a d e)
+    three k₁ k₂ k₃ (inl a) b c (inl d) (inl e) = absurd (no_round_right t₁ t₂ t₃ _ _ _ k₁ k₂ k₃ (round_way s₁ t₁ s₂ t₂ s₃ t₃) a d e)
 
     weakly : (z : ℤ) → (z ≤ℤ pos 0) ⊎ (pos 0 <ℤ z)
     weakly z = elim (sign z) [ below s ↦ inl (weak_right s) | none s ↦ inl (omega (arith, ints)) | above s ↦ inr s ]

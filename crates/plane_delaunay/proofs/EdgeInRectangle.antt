@@ -103,11 +103,11 @@ record AreOpposite (f f' : Fraction → ℤ) : Type 0 where
   linear' : (k : ℤ) (a : Fraction) (m : ℤ) (b : Fraction) (h : pos 0 <ℤ (k *ℤ a.w +ℤ m *ℤ b.w)) → f' (mixed k a m b h) ≡ k *ℤ f' a +ℤ m *ℤ f' b
   wide : (z : Fraction) → pos 0 ≤ℤ (f z +ℤ f' z)
 
-rest_least : (a b : ℤ) → pos 0 ≤ℤ (a +ℤ b) → a ≡ pos 0 → pos 0 ≤ℤ b
-rest_least a b h e = omega (arith, ints)
+second_least : (a b : ℤ) → pos 0 ≤ℤ (a +ℤ b) → a ≡ pos 0 → pos 0 ≤ℤ b
+second_least a b h e = omega (arith, ints)
 
-rest_least' : (a b : ℤ) → pos 0 ≤ℤ (a +ℤ b) → b ≡ pos 0 → pos 0 ≤ℤ a
-rest_least' a b h e = omega (arith, ints)
+first_least : (a b : ℤ) → pos 0 ≤ℤ (a +ℤ b) → b ≡ pos 0 → pos 0 ≤ℤ a
+first_least a b h e = omega (arith, ints)
 
 -- where a point is drawn to o until it is between the lines
 data Drawn (f f' : Fraction → ℤ) (g o : Fraction) : Type 0 where
@@ -140,12 +140,12 @@ drawn_first : (f f' : Fraction → ℤ) (s : AreOpposite f f') (g o : Fraction) 
 unfolding drawn
 drawn_first f f' s g o (stays h h') = h
 drawn_first f f' s g o (to_first h i) = zero_weak_left (cross_none f s.linear g o h i)
-drawn_first f f' s g o (to_second h i) = rest_least' _ _ (s.wide (cross f' g o h i)) (cross_none f' s.linear' g o h i)
+drawn_first f f' s g o (to_second h i) = first_least _ _ (s.wide (cross f' g o h i)) (cross_none f' s.linear' g o h i)
 
 drawn_second : (f f' : Fraction → ℤ) (s : AreOpposite f f') (g o : Fraction) (d : Drawn f f' g o) → pos 0 ≤ℤ f' (drawn d)
 unfolding drawn
 drawn_second f f' s g o (stays h h') = h'
-drawn_second f f' s g o (to_first h i) = rest_least _ _ (s.wide (cross f g o h i)) (cross_none f s.linear g o h i)
+drawn_second f f' s g o (to_first h i) = second_least _ _ (s.wide (cross f g o h i)) (cross_none f s.linear g o h i)
 drawn_second f f' s g o (to_second h i) = zero_weak_left (cross_none f' s.linear' g o h i)
 
 drawn_on : (p q : Fraction) (f f' : Fraction → ℤ) (g o : Fraction) (d : Drawn f f' g o) → TwoWeights IsNotNegative p q g → TwoWeights IsNotNegative p q o → TwoWeights IsNotNegative p q (drawn d)

@@ -72,15 +72,15 @@ sum_above d o a f b g c h e z hb hg hc hh = let p = zero-mul_ℤ a z in let q = 
 sum_below : (d o a f b g c h : ℤ) → d *ℤ o ≡ a *ℤ f +ℤ b *ℤ g +ℤ c *ℤ h → g ≡ pos 0 → pos 0 <ℤ a → f <ℤ pos 0 → pos 0 <ℤ c → h ≤ℤ pos 0 → (d *ℤ o) <ℤ pos 0
 sum_below d o a f b g c h e z ha hf hc hh = let p = zero-mul_ℤ b z in let q = mul-neg_of_pos_neg_ℤ {a = a} {b = f} ha hf in let r = mul-nonneg_ℤ {a = c} {b = neg_ℤ h} (weak hc) (omega (arith, ints)) in omega (arith, ints, mul-neg_ℤ c h)
 
-above_of_product : (d o : ℤ) → pos 0 <ℤ (d *ℤ o) → pos 0 <ℤ o → pos 0 <ℤ d
-above_of_product d o h k = go (lt_or_ge_ℤ (pos 0) d)
+above_of_positive_product : (d o : ℤ) → pos 0 <ℤ (d *ℤ o) → pos 0 <ℤ o → pos 0 <ℤ d
+above_of_positive_product d o h k = go (lt_or_ge_ℤ (pos 0) d)
   where
     go : (pos 0 <ℤ d) ⊎ (d ≤ℤ pos 0) → pos 0 <ℤ d
     go (inl p) = p
     go (inr p) = absurd (let q = mul-nonneg_ℤ {a = neg_ℤ d} {b = o} (omega (arith, ints)) (weak k) in omega (arith, ints, neg-mul_ℤ d o))
 
-above_of_product' : (d o : ℤ) → (d *ℤ o) <ℤ pos 0 → o <ℤ pos 0 → pos 0 <ℤ d
-above_of_product' d o h k = go (lt_or_ge_ℤ (pos 0) d)
+above_of_negative_product : (d o : ℤ) → (d *ℤ o) <ℤ pos 0 → o <ℤ pos 0 → pos 0 <ℤ d
+above_of_negative_product d o h k = go (lt_or_ge_ℤ (pos 0) d)
   where
     go : (pos 0 <ℤ d) ⊎ (d ≤ℤ pos 0) → pos 0 <ℤ d
     go (inl p) = p
@@ -136,8 +136,8 @@ mirror_below a b s h = let e = bracket-turned s b a in let d = bracket-swapped a
 mirror_above : (s a b : Fraction) → bracket s a b <ℤ pos 0 → pos 0 <ℤ bracket s b a
 mirror_above s a b h = let e = bracket-turned s b a in let d = bracket-swapped a b s in let f = bracket-turned s a b in omega (arith, ints)
 
-mirror_below' : (s a b : Fraction) → pos 0 <ℤ bracket s a b → bracket s b a <ℤ pos 0
-mirror_below' s a b h = let e = bracket-turned s b a in let d = bracket-swapped a b s in let f = bracket-turned s a b in omega (arith, ints)
+swap_below : (s a b : Fraction) → pos 0 <ℤ bracket s a b → bracket s b a <ℤ pos 0
+swap_below s a b h = let e = bracket-turned s b a in let d = bracket-swapped a b s in let f = bracket-turned s a b in omega (arith, ints)
 
 mirror_none : (s v x : Fraction) → bracket s v x ≡ pos 0 → bracket x v s ≡ pos 0
 mirror_none s v x h = let e = bracket-turned s v x in let d = bracket-swapped v x s in omega (arith, ints)
@@ -145,16 +145,16 @@ mirror_none s v x h = let e = bracket-turned s v x in let d = bracket-swapped v 
 module _ (T : Tiling) (s t : ℕ) (hs : T.IsVertex s) (ht : T.IsVertex t) (clear : (n : ℕ) → T.IsVertex n → ¬ Between (T.at s) (T.at t) (T.at n)) where
   open T use {at, IsVertex, IsFace}
 
-  clear' : (n : ℕ) → IsVertex n → ¬ Between (at t) (at s) (at n)
-  clear' n h b = clear n h (between-swapped (at t) (at s) (at n) b)
+  clear_back : (n : ℕ) → IsVertex n → ¬ Between (at t) (at s) (at n)
+  clear_back n h b = clear n h (between-swapped (at t) (at s) (at n) b)
 
   abbrev Across : ℕ → ℕ → Type 0
   Across v y = Crosses T s t hs ht clear v y
 
-  to_back : (v y : ℕ) → Across v y → Crosses T t s ht hs clear' y v
+  to_back : (v y : ℕ) → Across v y → Crosses T t s ht hs clear_back y v
   to_back v y c = record { edge = edge-swapped T v y c.edge; right = swapped_below (at s) (at t) (at y) c.left; left = swapped_above (at s) (at t) (at v) c.right; start = swapped_above (at v) (at y) (at t) c.end; end = swapped_below (at v) (at y) (at s) c.start }
 
-  to_front : (v y : ℕ) → Crosses T t s ht hs clear' y v → Across v y
+  to_front : (v y : ℕ) → Crosses T t s ht hs clear_back y v → Across v y
   to_front v y c = record { edge = edge-swapped T y v c.edge; right = swapped_below (at t) (at s) (at v) c.left; left = swapped_above (at t) (at s) (at y) c.right; start = swapped_above (at y) (at v) (at s) c.end; end = swapped_below (at y) (at v) (at t) c.start }
 
   -- no right end comes after v; no left end at v comes after y
@@ -189,8 +189,8 @@ module _ (T : Tiling) (s t : ℕ) (hs : T.IsVertex s) (ht : T.IsVertex t) (clear
     weight : (p : ℕ) → bracket (at x) (at p) (at s) ≡ pos 0 → bracket (at x) (at p) (at t) ≡ bracket (at s) (at t) (at x) -ℤ bracket (at s) (at t) (at p)
     weight p n = ray_weight (bracket (at s) (at t) (at x)) (bracket (at s) (at t) (at p)) (at p).w (at x).w (bracket (at x) (at p) (at t)) (at s).w (bracket (at x) (at p) (at s)) (at t).w (meeting-w (at s) (at t) (at p) (at x)) n (T.whole p) (T.whole x) (T.whole s)
 
-    back : Before T t s ht hs (clear') y v x
-    back = before_crossing T t s ht hs clear' y v x (to_back v y c) f
+    back : Before T t s ht hs (clear_back) y v x
+    back = before_crossing T t s ht hs clear_back y v x (to_back v y c) f
 
     pub front : Before T s t hs ht clear v y z
     front = before_crossing T s t hs ht clear v y z c g
@@ -198,7 +198,7 @@ module _ (T : Tiling) (s t : ℕ) (hs : T.IsVertex s) (ht : T.IsVertex t) (clear
     pub x_around_v : pos 0 <ℤ bracket (at s) (at v) (at x)
     x_around_v = go back
       where
-        go : Before T t s ht hs clear' y v x → pos 0 <ℤ bracket (at s) (at v) (at x)
+        go : Before T t s ht hs clear_back y v x → pos 0 <ℤ bracket (at s) (at v) (at x)
         go (by_left k) = turned_first (at v) (at x) (at s) (to_front v x k).start
         go (from_start e) = subst (λ i. pos 0 <ℤ bracket (at s) (at v) (at i)) (sym e) (mirror_above (at s) (at t) (at v) c.right)
         go (by_right k) = not_right_strict (last_v.around x y (to_front x y k)) (λ n. let n' = mirror_none (at s) (at v) (at x) n in
@@ -216,9 +216,9 @@ module _ (T : Tiling) (s t : ℕ) (hs : T.IsVertex s) (ht : T.IsVertex t) (clear
     x_around_y : bracket (at s) (at y) (at x) <ℤ pos 0
     x_around_y = go back
       where
-        go : Before T t s ht hs clear' y v x → bracket (at s) (at y) (at x) <ℤ pos 0
+        go : Before T t s ht hs clear_back y v x → bracket (at s) (at y) (at x) <ℤ pos 0
         go (by_right k) = mirror_below (at x) (at y) (at s) (to_front x y k).start
-        go (from_start e) = subst (λ i. bracket (at s) (at y) (at i) <ℤ pos 0) (sym e) (mirror_below' (at s) (at t) (at y) c.left)
+        go (from_start e) = subst (λ i. bracket (at s) (at y) (at i) <ℤ pos 0) (sym e) (swap_below (at s) (at t) (at y) c.left)
         go (by_left k) = not_left_strict (last_y.around x (to_front v x k)) (λ n. let n' = mirror_none (at s) (at y) (at x) n in
             ray_clash y x n' (square_above _ _ (above_by _ _ _ (weight y n') (difference_above _ _ _ _ _ _ _ (bracket (at v) (at y) (at t)) (meeting (at s) (at t) (at y) (at x) (at v) (at y)) (bracket-second (at v) (at y)) n' c.left vyx c.start)) c.left)
             (far_above (at s) (at t) (at y) (left_not_zero c.left) (T.whole y ∙ sym (T.whole s))) (last_y.nearer x (to_front v x k) n))
@@ -234,6 +234,6 @@ module _ (T : Tiling) (s t : ℕ) (hs : T.IsVertex s) (ht : T.IsVertex t) (clear
     -- the quadrilateral round the edge v y is strictly convex
     pub flip_exists : (pos 0 <ℤ bracket (at v) (at x) (at z)) × (pos 0 <ℤ bracket (at x) (at y) (at z))
     flip_exists = (
-      above_of_product (bracket (at v) (at x) (at z)) (bracket (at s) (at v) (at y)) (sum_above (bracket (at v) (at x) (at z)) (bracket (at s) (at v) (at y)) _ _ _ _ _ _ (cramer (at v) (at x) (at z) (at y) (at s) (at v)) (bracket-second (at s) (at v)) (turned_first (at v) (at y) (at z) vyz) x_around_v (turned-above (at y) (at v) (at x) yvx) z_around_v) (turned_first (at v) (at y) (at s) c.start),
-      above_of_product' (bracket (at x) (at y) (at z)) (bracket (at s) (at y) (at v)) (sum_below (bracket (at x) (at y) (at z)) (bracket (at s) (at y) (at v)) _ _ _ _ _ _ (cramer (at x) (at y) (at z) (at v) (at s) (at y)) (bracket-second (at s) (at y)) (turned-above (at v) (at y) (at z) vyz) x_around_y (turned-above (at v) (at x) (at y) (turned-above (at y) (at v) (at x) yvx)) z_around_y) (mirror_below (at v) (at y) (at s) c.start),
+      above_of_positive_product (bracket (at v) (at x) (at z)) (bracket (at s) (at v) (at y)) (sum_above (bracket (at v) (at x) (at z)) (bracket (at s) (at v) (at y)) _ _ _ _ _ _ (cramer (at v) (at x) (at z) (at y) (at s) (at v)) (bracket-second (at s) (at v)) (turned_first (at v) (at y) (at z) vyz) x_around_v (turned-above (at y) (at v) (at x) yvx) z_around_v) (turned_first (at v) (at y) (at s) c.start),
+      above_of_negative_product (bracket (at x) (at y) (at z)) (bracket (at s) (at y) (at v)) (sum_below (bracket (at x) (at y) (at z)) (bracket (at s) (at y) (at v)) _ _ _ _ _ _ (cramer (at x) (at y) (at z) (at v) (at s) (at y)) (bracket-second (at s) (at y)) (turned-above (at v) (at y) (at z) vyz) x_around_y (turned-above (at v) (at x) (at y) (turned-above (at y) (at v) (at x) yvx)) z_around_y) (mirror_below (at v) (at y) (at s) c.start),
     )

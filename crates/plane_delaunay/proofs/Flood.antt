@@ -7,7 +7,7 @@ use mathlib.Core.Logic.{◌⊎◌, inl, inr}
 use native.Mathlib.Omega.{arith}
 use borrow.Author.Differences.{ints}
 use Rattle.std.specs.Prelude.{sum_by}
-use Rattle.plane_delaunay.proofs.Numbers.{stays_above, stays_below, none_before}
+use Rattle.plane_delaunay.proofs.Numbers.{less_again, stays_above, stays_below, none_before}
 use Rattle.plane.proofs.Steps.{weak, zero_weak_left, left_not_zero, right_not_zero, right_not_above, product_zero_left, weak_right}
 use Rattle.plane.proofs.IntegerOrder.{zero_of_mul-zero_ℤ, Sign, sign, below, none, above, zero-mul_ℤ}
 use Rattle.plane_delaunay.proofs.Bracket.{bracket, bracket-first, bracket-second, bracket-swapped, bracket-turned, pluecker}
@@ -97,11 +97,11 @@ module _ (T : Tiling) where
           go (at_vertex w hw i (inr p) (inl q)) = absurd (off (subst (λ n. IsAt (at n) y) q i))
           go (at_vertex w hw i (inr p) (inr q)) = sym p ∙ q
 
-      at_vertex_shape : (v c : ℕ) → K (at v) → InShape v c
-      at_vertex_shape v c k = (at v, k, on_side-first (at v) (at c))
+      from_vertex_shape : (v c : ℕ) → K (at v) → InShape v c
+      from_vertex_shape v c k = (at v, k, on_side-first (at v) (at c))
 
-      at_vertex_shape' : (v c : ℕ) → K (at v) → InShape c v
-      at_vertex_shape' v c k = (at v, k, on_side-swapped (at v) (at c) (at v) (on_side-first (at v) (at c)))
+      to_vertex_shape : (v c : ℕ) → K (at v) → InShape c v
+      to_vertex_shape v c k = (at v, k, on_side-swapped (at v) (at c) (at v) (on_side-first (at v) (at c)))
 
       module _ (v : ℕ) (hv : IsVertex v) (kv : K (at v)) (d : ℕ) (hd : IsEdge T v d) (z : Fraction) (near_z : IsNear (at v) z) (hz : InHull z) (on_z : OnSide (at v) (at d) z) (off_z : ¬ IsAt (at v) z) (line_z : bracket (at v) (at d) z ≡ pos 0) where
         record Here (y : Fraction) : Type 0 where
@@ -141,9 +141,6 @@ module _ (T : Tiling) where
             b_other : ¬ (b ≡ v)
             b_other e = not_degenerate b v a f₃ (sym e)
 
-            smaller : (i j m : ℕ) → i < j → j < suc m → i < m
-            smaller i j m p q = omega arith
-
             left_of : (i j : ℕ) → StartsFrom T y z i j → bracket (at i) (at j) z <ℤ pos 0 → pos 0 <ℤ bracket (at i) (at j) y
             left_of i j s r = from s.starts
               where
@@ -166,12 +163,12 @@ module _ (T : Tiling) where
             go (leaves_first l) = next (leave T v a b y z f (left_of v a g.first l.right) l)
               where
                 next : (y' : Fraction) × OnWay y z y' × (bracket (at v) (at a) y' ≡ pos 0) × Closed (at v) (at a) (at b) y' × (separation T y' z < separation T y z) → S v d
-                next r = goes r.0 (record { e = a; edge = inl (b, f); found = sa; on_edge = on_side_of_closed (at v) (at a) (at b) r.0 (T.turns v a b f) r.3 r.2; near = near-on_way (at v) y z r.0 r.1 h.near near_z; hull = T.closed_in_hull v a b f r.0 r.3; off = stays_off r.0 r.1 }) (smaller (separation T r.0 z) (separation T y z) m r.4 less)
+                next r = goes r.0 (record { e = a; edge = inl (b, f); found = sa; on_edge = on_side_of_closed (at v) (at a) (at b) r.0 (T.turns v a b f) r.3 r.2; near = near-on_way (at v) y z r.0 r.1 h.near near_z; hull = T.closed_in_hull v a b f r.0 r.3; off = stays_off r.0 r.1 }) (less_again (separation T r.0 z) (separation T y z) m r.4 less)
             go (leaves_second l) = absurd (right_not_above l.right (weak opposite))
             go (leaves_third l) = next (leave T b v a y z f₃ (left_of b v g.third l.right) l)
               where
                 next : (y' : Fraction) × OnWay y z y' × (bracket (at b) (at v) y' ≡ pos 0) × Closed (at b) (at v) (at a) y' × (separation T y' z < separation T y z) → S v d
-                next r = goes r.0 (record { e = b; edge = inr (a, f₃); found = F.turned b v sb; on_edge = on_side-swapped (at b) (at v) r.0 (on_side_of_closed (at b) (at v) (at a) r.0 (T.turns b v a f₃) r.3 r.2); near = near-on_way (at v) y z r.0 r.1 h.near near_z; hull = T.closed_in_hull b v a f₃ r.0 r.3; off = stays_off r.0 r.1 }) (smaller (separation T r.0 z) (separation T y z) m r.4 less)
+                next r = goes r.0 (record { e = b; edge = inr (a, f₃); found = F.turned b v sb; on_edge = on_side-swapped (at b) (at v) r.0 (on_side_of_closed (at b) (at v) (at a) r.0 (T.turns b v a f₃) r.3 r.2); near = near-on_way (at v) y z r.0 r.1 h.near near_z; hull = T.closed_in_hull b v a f₃ r.0 r.3; off = stays_off r.0 r.1 }) (less_again (separation T r.0 z) (separation T y z) m r.4 less)
 
         -- y is on one of the two sides at v of the face
         in_face : (m : ℕ) → ((y : Fraction) → Here y → separation T y z < m → S v d) → (a b : ℕ) (y : Fraction) → IsFace v a b → Germ T y z v a b → Here y → separation T y z < suc m → S v d
@@ -190,10 +187,10 @@ module _ (T : Tiling) where
             opposite = h.near.keeps_left a b (T.listed a b v f₂) (T.turns a b v f₂)
 
             by_a : S v a → S v d
-            by_a s = onwards m goes a b y f g h less s (F.last v a b f s (at_vertex_shape' v b kv))
+            by_a s = onwards m goes a b y f g h less s (F.last v a b f s (to_vertex_shape v b kv))
 
             by_b : S b v → S v d
-            by_b s = onwards m goes a b y f g h less (F.next b v a f₃ s (at_vertex_shape v a kv)) s
+            by_b s = onwards m goes a b y f g h less (F.next b v a f₃ s (from_vertex_shape v a kv)) s
 
             go : Sign (bracket (at v) (at a) y) → Sign (bracket (at b) (at v) y) → S v d
             go (below p) q = absurd (right_not_above p c.first)
@@ -288,9 +285,9 @@ module _ (T : Tiling) where
           go : IsEdge T v b → Sign (bracket (at v) (at b) (at d)) → S v d
           go h (below p) = star_off v b d kv hb sb hd (right_not_zero p)
           go h (above p) = star_off v b d kv hb sb hd (λ e. left_not_zero p e)
-          go (inl s) (none p) = star_off v s.0 d kv (inr (b, T.turned b s.0 v (T.turned v b s.0 s.1))) (F.turned s.0 v (F.last v b s.0 s.1 sb (at_vertex_shape' v s.0 kv))) hd
+          go (inl s) (none p) = star_off v s.0 d kv (inr (b, T.turned b s.0 v (T.turned v b s.0 s.1))) (F.turned s.0 v (F.last v b s.0 s.1 sb (to_vertex_shape v s.0 kv))) hd
               (not_both v b s.0 d (λ e. left_not_zero (T.turns v b s.0 s.1) e) hd p)
-          go (inr s) (none p) = star_off v s.0 d kv (inl (b, T.turned b v s.0 s.1)) (F.next b v s.0 s.1 (F.turned v b sb) (at_vertex_shape v s.0 kv)) hd
+          go (inr s) (none p) = star_off v s.0 d kv (inl (b, T.turned b v s.0 s.1)) (F.next b v s.0 s.1 (F.turned v b sb) (from_vertex_shape v s.0 kv)) hd
               (not_both v b s.0 d (λ e. right_not_zero (swapped_below (at b) (at v) (at s.0) (T.turns b v s.0 s.1)) e) hd p)
 
       -- all edges through a point of the set, from one of them
@@ -327,9 +324,6 @@ module _ (T : Tiling) where
             f₃ : IsFace k i j
             f₃ = T.turned j k i f₂
 
-            smaller : (i j m : ℕ) → i < j → j < suc m → i < m
-            smaller i j m p q = omega arith
-
             left_of : (i j : ℕ) → StartsFrom T y z i j → bracket (at i) (at j) z <ℤ pos 0 → pos 0 <ℤ bracket (at i) (at j) y
             left_of i j s r = from s.starts
               where
@@ -353,7 +347,7 @@ module _ (T : Tiling) where
             onto a b c h found r =
                 let k' = mean y z r.0 r.1 ky kz in
                 let o = on_side_of_closed (at a) (at b) (at c) r.0 (T.turns a b c h) r.3 r.2 in
-                finds r.0 (record { a = a; b = b; edge = inl (c, h); found = found (r.0, k', o); on_edge = o; is_in = k'; hull = T.closed_in_hull a b c h r.0 r.3 }) (smaller (separation T r.0 z) (separation T y z) m r.4 less)
+                finds r.0 (record { a = a; b = b; edge = inl (c, h); found = found (r.0, k', o); on_edge = o; is_in = k'; hull = T.closed_in_hull a b c h r.0 r.3 }) (less_again (separation T r.0 z) (separation T y z) m r.4 less)
 
             go : Step y z (at i) (at j) (at k) → S u v
             go (reached c) = arrived c (sign (bracket (at i) (at j) z)) (sign (bracket (at j) (at k) z)) (sign (bracket (at k) (at i) z))

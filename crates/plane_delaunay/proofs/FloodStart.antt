@@ -10,7 +10,7 @@ use borrow.Author.Differences.{ints}
 use Rattle.plane.proofs.Solver.{◌⊕◌, ◌⊗◌, ring_in_from}
 use Rattle.plane.proofs.Steps.{weak, left_not_zero, zero_or_left, zero_weak_left, product_zero_left}
 use Rattle.plane.proofs.IntegerOrder.{mul-pos_ℤ, mul-nonneg_ℤ, zero_of_mul-zero_ℤ, pos-ne-zero_ℤ, lt_or_ge_ℤ, neg-pos_ℤ, zero-mul_ℤ, Sign, sign, below, none, above}
-use Rattle.plane_delaunay.proofs.Numbers.{own_line, mix_positive}
+use Rattle.plane_delaunay.proofs.Numbers.{less_again, own_line, mix_positive}
 use Rattle.plane_delaunay.proofs.Bracket.{bracket, bracket-swapped, bracket-mixed, mixed, cramer, cramer-w}
 use Rattle.plane_delaunay.proofs.Nudges.{Closed, Inside, closed_of_inside, closed-turned}
 use Rattle.plane_delaunay.proofs.Faces.{Tiling, corner_2}
@@ -243,12 +243,9 @@ module _ (T : Tiling) where
                 ky : K y
                 ky = mean c x y way kc kx
 
-                smaller : (i j m : ℕ) → i < j → j < suc m → i < m
-                smaller i j m p q = omega arith
-
                 found : IsCovered T y ⊎ IsBeyond T y → BorderIn
                 found (inl k) = (y, ky, on_line o.a o.b o.c o.is_face o.alone y k on)
-                found (inr b) = finds y covered ky b (smaller (separation T x y) (separation T x c) m (far_end_nearer T o.a o.b o.c x c y o.is_face way (zero_weak_left on) l o.right) less)
+                found (inr b) = finds y covered ky b (less_again (separation T x y) (separation T x c) m (far_end_nearer T o.a o.b o.c x c y o.is_face way (zero_weak_left on) l o.right) less)
 
     pub border_of_outside : (c : Fraction) → IsCovered T x → K c → IsBeyond T c → BorderIn
     border_of_outside c covered kc o = from_outside (suc (separation T x c)) c covered kc o (last (separation T x c))

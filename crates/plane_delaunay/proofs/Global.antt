@@ -7,7 +7,7 @@ use mathlib.Core.Logic.{◌⊎◌, inl, inr}
 use mathlib.Core.List.{List, [], ◌∷◌}
 use native.Mathlib.Omega.{arith}
 use borrow.Author.Differences.{ints}
-use Rattle.plane_delaunay.proofs.Numbers.{stays_above, stays_below, none_before}
+use Rattle.plane_delaunay.proofs.Numbers.{less_again, stays_above, stays_below, none_before}
 use Rattle.plane.proofs.Steps.{weak, weak_right, zero_weak, both_signs, negated_left, right_not_zero}
 use Rattle.plane.proofs.IntegerOrder.{mul-pos_ℤ, mul-nonpos_of_nonneg_nonpos_ℤ, lt_or_ge_ℤ}
 use Rattle.plane_delaunay.proofs.Bracket.{bracket, bracket-swapped, bracket-turned, bracket-first}
@@ -100,12 +100,9 @@ module _ (T : Tiling) (cs : List (ℕ × ℕ)) where
             next r = not_above_from (bracket (at b) (at a) (at g.0)) (lift (at a) (at b) (at c) (at n)) (bracket (at a) (at b) (at c)) (lift (at b) (at a) (at g.0) (at n)) (bracket (at b) (at a) (at n)) (lift (at a) (at b) (at c) (at g.0))
                 (lift-across (at a) (at b) (at c) (at g.0) (at n))
                 (T.turns b a g.0 g.1) (T.turns a b c f)
-                (walks b a g.0 r.0 g.1 r.2 (λ i j h. open-on_way (at i) (at j) (at n) x r.0 r.1 (is_open i j h)) (λ i j h. off-on_way (at n) (at i) x r.0 r.1 (generic i j h)) (smaller (separation T r.0 (at n)) (separation T x (at n)) m r.3 less))
+                (walks b a g.0 r.0 g.1 r.2 (λ i j h. open-on_way (at i) (at j) (at n) x r.0 r.1 (is_open i j h)) (λ i j h. off-on_way (at n) (at i) x r.0 r.1 (generic i j h)) (less_again (separation T r.0 (at n)) (separation T x (at n)) m r.3 less))
                 (negated_left (bracket-swapped (at a) (at b) (at n)) leaves.right)
                 (local a b c g.0 f g.1 free)
-              where
-                smaller : (i j m : ℕ) → i < j → j < suc m → i < m
-                smaller i j m h k = omega arith
 
     walk : (m : ℕ) → Walks m
     walk zero a b c x f inside is_open generic less = absurd (omega arith)

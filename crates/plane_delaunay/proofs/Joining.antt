@@ -22,8 +22,8 @@ swapped_above u v q h = let e = bracket-swapped u v q in omega (arith, ints)
 swapped_below : (u v q : Fraction) → pos 0 <ℤ bracket u v q → bracket v u q <ℤ pos 0
 swapped_below u v q h = let e = bracket-swapped u v q in omega (arith, ints)
 
-above_by : (d o a f b g c h : ℤ) → d *ℤ o ≡ a *ℤ f +ℤ b *ℤ g +ℤ c *ℤ h → o ≡ pos 0 → f <ℤ pos 0 → pos 0 ≤ℤ b → pos 0 <ℤ g → pos 0 <ℤ c → pos 0 <ℤ h → pos 0 <ℤ a
-above_by d o a f b g c h e z hf hb hg hc hh = go (lt_or_ge_ℤ (pos 0) a)
+first_above : (d o a f b g c h : ℤ) → d *ℤ o ≡ a *ℤ f +ℤ b *ℤ g +ℤ c *ℤ h → o ≡ pos 0 → f <ℤ pos 0 → pos 0 ≤ℤ b → pos 0 <ℤ g → pos 0 <ℤ c → pos 0 <ℤ h → pos 0 <ℤ a
+first_above d o a f b g c h e z hf hb hg hc hh = go (lt_or_ge_ℤ (pos 0) a)
   where
     go : (pos 0 <ℤ a) ⊎ (a ≤ℤ pos 0) → pos 0 <ℤ a
     go (inl p) = p
@@ -34,8 +34,8 @@ above_by d o a f b g c h e z hf hb hg hc hh = go (lt_or_ge_ℤ (pos 0) a)
         let k = mul-pos_ℤ {a = c} {b = h} hc hh in
         omega (arith, ints, neg-mul_ℤ a (neg_ℤ f), Rattle.plane.proofs.IntegerLaws.mul-neg_ℤ a f))
 
-above_by' : (d o a f b g c h : ℤ) → d *ℤ o ≡ a *ℤ f +ℤ b *ℤ g +ℤ c *ℤ h → o ≡ pos 0 → f <ℤ pos 0 → pos 0 ≤ℤ a → pos 0 <ℤ g → pos 0 <ℤ c → h <ℤ pos 0 → pos 0 <ℤ b
-above_by' d o a f b g c h e z hf ha hg hc hh = go (lt_or_ge_ℤ (pos 0) b)
+second_above : (d o a f b g c h : ℤ) → d *ℤ o ≡ a *ℤ f +ℤ b *ℤ g +ℤ c *ℤ h → o ≡ pos 0 → f <ℤ pos 0 → pos 0 ≤ℤ a → pos 0 <ℤ g → pos 0 <ℤ c → h <ℤ pos 0 → pos 0 <ℤ b
+second_above d o a f b g c h e z hf ha hg hc hh = go (lt_or_ge_ℤ (pos 0) b)
   where
     go : (pos 0 <ℤ b) ⊎ (b ≤ℤ pos 0) → pos 0 <ℤ b
     go (inl p) = p
@@ -132,7 +132,7 @@ module _ (T : Tiling) (s t : ℕ) (hs : T.IsVertex s) (ht : T.IsVertex t) (clear
             start = swapped_above (at z) (at v) (at s) k;
             end = below_first _ _ _ (bracket (at v) (at z) (at s)) _ (bracket (at v) (at z) (at v)) _ (bracket (at v) (at z) (at y)) (meeting (at v) (at y) (at t) (at s) (at v) (at z)) c.start c.end (swapped_above (at z) (at v) (at s) k) (bracket-first (at v) (at z)) c.right flipped;
           })
-          pick (inr k) = absurd (left_not_zero h (ap (λ i. bracket (at s) (at t) (at i)) (sym (only_z (weak (above_by _ _ _ _ _ _ _ _ sums flat c.right k c.left c.start h)) k)) ∙ flat))
+          pick (inr k) = absurd (left_not_zero h (ap (λ i. bracket (at s) (at t) (at i)) (sym (only_z (weak (first_above _ _ _ _ _ _ _ _ sums flat c.right k c.left c.start h)) k)) ∙ flat))
       go (below h) = pick (lt_or_ge_ℤ (bracket (at y) (at z) (at s)) (pos 0))
         where
           pick : (bracket (at y) (at z) (at s) <ℤ pos 0) ⊎ (pos 0 ≤ℤ bracket (at y) (at z) (at s)) → Before v y z
@@ -143,7 +143,7 @@ module _ (T : Tiling) (s t : ℕ) (hs : T.IsVertex s) (ht : T.IsVertex t) (clear
             start = swapped_above (at y) (at z) (at s) k;
             end = below_second _ _ _ (bracket (at z) (at y) (at s)) _ (bracket (at z) (at y) (at v)) _ (bracket (at z) (at y) (at y)) (meeting (at v) (at y) (at t) (at s) (at z) (at y)) c.start c.end (swapped_above (at y) (at z) (at s) k) (bracket-second (at z) (at y)) c.left (subst (λ i. i <ℤ pos 0) (sym (bracket-turned (at v) (at z) (at y))) flipped);
           })
-          pick (inr k) = absurd (right_not_zero h (ap (λ i. bracket (at s) (at t) (at i)) (sym (only_z k (weak (above_by' _ _ _ _ _ _ _ _ sums flat c.right k c.left c.start h)))) ∙ flat))
+          pick (inr k) = absurd (right_not_zero h (ap (λ i. bracket (at s) (at t) (at i)) (sym (only_z k (weak (second_above _ _ _ _ _ _ _ _ sums flat c.right k c.left c.start h)))) ∙ flat))
       go (none h) = pick (lt_or_ge_ℤ (bracket (at y) (at z) (at s)) (pos 0))
         where
           even : bracket (at y) (at z) (at s) *ℤ bracket (at s) (at t) (at v) +ℤ bracket (at z) (at v) (at s) *ℤ bracket (at s) (at t) (at y) ≡ pos 0

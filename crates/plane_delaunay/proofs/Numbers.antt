@@ -1,4 +1,5 @@
--- Sums of two products, over plain numbers.
+-- Sums of two products, and an order, over plain numbers.
+use Prim.Native.Nat.{ℕ, suc, ◌<◌}
 use lib.IntN.{ℤ, pos, ◌+ℤ◌, ◌*ℤ◌, neg_ℤ}
 use lib.Signed.{◌<ℤ◌, ◌≤ℤ◌}
 use mathlib.Core.Path.{◌≡◌}
@@ -9,6 +10,9 @@ use Rattle.plane.proofs.IntegerLaws.{mul-neg_ℤ}
 use Rattle.plane.proofs.IntegerOrder.{mul-pos_ℤ, mul-nonneg_ℤ, mul-nonpos_of_nonneg_nonpos_ℤ, nonneg_of_mul-nonneg_ℤ, pos_of_mul-pos_ℤ, zero_of_mul-zero_ℤ, pos-ne-zero_ℤ, zero-mul_ℤ}
 use Rattle.plane.proofs.Solver.{num, ◌⊕◌, ◌⊗◌, ⊝, ring_in}
 use Rattle.plane.proofs.Steps.{weak}
+
+pub less_again : (i j m : ℕ) → i < j → j < suc m → i < m
+less_again i j m h k = omega arith
 
 pub swapped_sum : (t x y : ℤ) → t ≡ x +ℤ y → t ≡ y +ℤ x
 swapped_sum t x y e = omega (arith, ints)

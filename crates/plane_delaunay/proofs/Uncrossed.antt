@@ -21,11 +21,11 @@ last_swapped : (s b t : Fraction) → pos 0 <ℤ bracket s b t → bracket s t b
 last_swapped s b t h = let p = bracket-turned s t b in let q = bracket-swapped b t s in let r = bracket-turned s b t in omega (arith, ints)
 
 -- d x = p u + r w + m q, where m is 0
-solved : (d x p u r w m q : ℤ) → d *ℤ x ≡ p *ℤ u +ℤ r *ℤ w +ℤ m *ℤ q → m ≡ pos 0 → r *ℤ w ≡ neg_ℤ p *ℤ u +ℤ d *ℤ x
-solved d x p u r w m q e z = let i = product_zero_left q z in omega (arith, ints, neg-mul_ℤ p u)
+solved_without_third : (d x p u r w m q : ℤ) → d *ℤ x ≡ p *ℤ u +ℤ r *ℤ w +ℤ m *ℤ q → m ≡ pos 0 → r *ℤ w ≡ neg_ℤ p *ℤ u +ℤ d *ℤ x
+solved_without_third d x p u r w m q e z = let i = product_zero_left q z in omega (arith, ints, neg-mul_ℤ p u)
 
-solved' : (d x p u m q r w : ℤ) → d *ℤ x ≡ p *ℤ u +ℤ m *ℤ q +ℤ r *ℤ w → m ≡ pos 0 → r *ℤ w ≡ neg_ℤ p *ℤ u +ℤ d *ℤ x
-solved' d x p u m q r w e z = let i = product_zero_left q z in omega (arith, ints, neg-mul_ℤ p u)
+solved_without_second : (d x p u m q r w : ℤ) → d *ℤ x ≡ p *ℤ u +ℤ m *ℤ q +ℤ r *ℤ w → m ≡ pos 0 → r *ℤ w ≡ neg_ℤ p *ℤ u +ℤ d *ℤ x
+solved_without_second d x p u m q r w e z = let i = product_zero_left q z in omega (arith, ints, neg-mul_ℤ p u)
 
 no_weight : (d x p u m q r w : ℤ) → d *ℤ x ≡ p *ℤ u +ℤ m *ℤ q +ℤ r *ℤ w → m ≡ pos 0 → r ≡ pos 0 → u ≡ pos 1 → p <ℤ pos 0 → pos 0 <ℤ d → pos 0 <ℤ x → ⊥
 no_weight d x p u m q r w e z y o h k l = let i = product_zero_left q z in let j = product_zero_left w y in let f = one_right p u o in let g = mul-pos_ℤ {a = d} {b = x} k l in omega (arith, ints)
@@ -89,7 +89,7 @@ module _ (T : Tiling) (s t : ℕ) (hs : T.IsVertex s) (ht : T.IsVertex t) (two :
         n_above = q;
         k_above = neg-pos_ℤ r;
         l_above = sbc;
-        along = λ u v. solved (bracket (at s) (at b) (at c)) (bracket u v (at t)) (bracket (at b) (at c) (at t)) (bracket u v (at s)) (bracket (at c) (at s) (at t)) (bracket u v (at b)) (bracket (at s) (at b) (at t)) (bracket u v (at c)) (cramer (at s) (at b) (at c) (at t) u v) p;
+        along = λ u v. solved_without_third (bracket (at s) (at b) (at c)) (bracket u v (at t)) (bracket (at b) (at c) (at t)) (bracket u v (at s)) (bracket (at c) (at s) (at t)) (bracket u v (at b)) (bracket (at s) (at b) (at t)) (bracket u v (at c)) (cramer (at s) (at b) (at c) (at t) u v) p;
       }))
       go (above p) (none q) (above r) = absurd (none_within T c s b t f₃ ht (inner_between (at c) (at s) (at b) (at t) (turned-above _ _ _ (turned-above _ _ _ sbc)) q p r))
       go (above p) (none q) (none r) = either (corner (zero_weak_left r))
@@ -100,7 +100,7 @@ module _ (T : Tiling) (s t : ℕ) (hs : T.IsVertex s) (ht : T.IsVertex t) (two :
         n_above = p;
         k_above = neg-pos_ℤ r;
         l_above = sbc;
-        along = λ u v. solved' (bracket (at s) (at b) (at c)) (bracket u v (at t)) (bracket (at b) (at c) (at t)) (bracket u v (at s)) (bracket (at c) (at s) (at t)) (bracket u v (at b)) (bracket (at s) (at b) (at t)) (bracket u v (at c)) (cramer (at s) (at b) (at c) (at t) u v) q;
+        along = λ u v. solved_without_second (bracket (at s) (at b) (at c)) (bracket u v (at t)) (bracket (at b) (at c) (at t)) (bracket u v (at s)) (bracket (at c) (at s) (at t)) (bracket u v (at b)) (bracket (at s) (at b) (at t)) (bracket u v (at c)) (cramer (at s) (at b) (at c) (at t) u v) q;
       }))
 
   pub edge_if_uncrossed : IsEdge T s t

@@ -8,6 +8,7 @@ use Rattle.plane.proofs.Steps.{weak, zero_weak_left, left_not_zero, right_not_ab
 use Rattle.plane.proofs.IntegerOrder.{mul-nonneg_ℤ, nonneg_of_mul-nonneg_ℤ, lt_or_ge_ℤ}
 use Rattle.plane_delaunay.proofs.Bracket.{bracket, cramer, bracket-first, bracket-second}
 use Rattle.plane_delaunay.proofs.Members.{Member}
+use Rattle.plane_delaunay.proofs.Numbers.{less_again}
 use Rattle.plane_delaunay.proofs.Nudges.{Closed, Inside, inside-turned, closed_of_inside}
 use Rattle.plane_delaunay.proofs.Faces.{Tiling, side_not_inside, turned-above, middle, middle-inside}
 use Rattle.plane_delaunay.proofs.Beyond.{face_across}
@@ -81,10 +82,7 @@ module _ (T : Tiling) where
           next g = found (beyond T a b c g.0 x p f g.1 inside.first leaves.right passes.0 passes.1)
             where
               found : (x' : Fraction) × OnWay x p x' × Inside (at b) (at a) (at g.0) x' × (separation T x' p < separation T x p) → IsCovered p ⊎ IsBeyond p
-              found r = finds b a g.0 r.0 g.1 r.2 (λ i j h. off-on_way p (at i) x r.0 r.1 (generic i j h)) (smaller (separation T r.0 p) (separation T x p) m r.3 less)
-                where
-                  smaller : (i j m : ℕ) → i < j → j < suc m → i < m
-                  smaller i j m h k = omega arith
+              found r = finds b a g.0 r.0 g.1 r.2 (λ i j h. off-on_way p (at i) x r.0 r.1 (generic i j h)) (less_again (separation T r.0 p) (separation T x p) m r.3 less)
 
   find : (p : Fraction) (m : ℕ) → Finds p m
   find p zero a b c x f inside generic less = absurd (omega arith)
