@@ -12,3 +12,4 @@ pub mod Whole
 pub mod Shorter
 pub mod PathFlips
 pub mod HalvesJoin
+pub mod RemovalKeeps

@@ -1,12 +1,14 @@
--- What the flips of a path keep, and the joining of straight halves in the words of plain states.
-use Rattle.std.specs.Prelude.{◌≡◌, ◌⊎◌, ◌↔◌, ℕ, ◌-◌, ◌<◌, List, [], ◌∷◌, length}
+-- What the flips of a path and the removal of a vertex keep, and the joining of straight halves in the words of plain states.
+use Rattle.std.specs.Prelude.{◌≡◌, ◌≢◌, ◌⊎◌, ◌↔◌, ℕ, ◌-◌, ◌<◌, List, [], ◌∷◌, length, Contains}
 use Rattle.plane.specs.Fraction.{Point, WithinSegment}
 use Rattle.plane.specs.Crossing.{Cross}
 use Rattle.plane.specs.Pairs.{Joins, IsSamePair, place}
 use Rattle.plane.specs.Plain.{Plain, IsPlain, points_of, Removes, CanAdd, AreNeighboursOn, Adds}
 use Rattle.plane.specs.Tiling.{Face, face, Triangulation, IsEdge, TilesHull, JoinsLine, vertex}
 use Rattle.plane_tiling.specs.Laws.{EdgesMeetAtVertices}
-use Rattle.plane_edits.specs.Change.{FacesChange}
+use Rattle.plane_tiling.specs.Local.{LocalMesh, IsCorner}
+use Rattle.plane_edits.specs.Change.{FacesChange, OuterChange}
+use Rattle.plane_edits.specs.Legal.{IsSideOfOne}
 use Rattle.plane_edits.specs.Removal.{new_index}
 use Rattle.plane_paths.specs.Path.{IsFreeOfVertices, IsCrossing}
 use Rattle.plane_paths.specs.Constraints.{AreNextOn}
@@ -25,6 +27,12 @@ PieceIsFree = (t : Triangulation) (i j a b : ℕ) → AreNextOn t.points i j a b
 -- where all vertices are on one line, it is an edge
 abbrev pub PieceOnLineIsEdge : Type 0
 PieceOnLineIsEdge = (t : Triangulation) (i j : ℕ) → JoinsLine t → IsFreeOfVertices t i j → IsEdge t i j
+
+-- where only faces and outer edges at a vertex go, constraints that do not end there stay edges
+abbrev pub RemovalKeepsConstraints : Type 0
+RemovalKeepsConstraints = (points : List Point) (faces new gone made : List Face) (outer outer' left come constraints : List (ℕ × ℕ)) (v : ℕ) → LocalMesh points faces outer → FacesChange faces new gone made → OuterChange outer outer' left come
+    → ((f : Face) → Contains gone f → IsCorner f v) → ((i j : ℕ) → Contains left (i, j) → (i ≡ v) ⊎ (j ≡ v)) → ((a b : ℕ) → Joins constraints a b → IsSideOfOne faces a b)
+    → (a b : ℕ) → Joins constraints a b → a ≢ v → b ≢ v → IsSideOfOne new a b ⊎ Joins outer' a b
 
 -- i and j are no pair, no pair crosses their segment, and their path is one piece: to add it is to join them
 pub record CanBeJoined {V : Type 0} (position : V → Point) (s : Plain V) (i j : ℕ) : Type 0 where

@@ -2,7 +2,7 @@
 #![tactic(auto)]
 
 ghost use Rattle.plane_paths.specs.Constraints.{SplitIsAppend, StraightHalvesJoin, PathBegins, PathGoesOn, PathEnds, PieceCrossesWhole, PathShortens};
-ghost use Rattle.plane_paths.specs.PathSteps.{PathFlipKeepsConstraints, PieceIsFree, PieceOnLineIsEdge, StraightHalvesJoinAfterRemoval};
+ghost use Rattle.plane_paths.specs.PathSteps.{PathFlipKeepsConstraints, PieceIsFree, PieceOnLineIsEdge, RemovalKeepsConstraints, StraightHalvesJoinAfterRemoval};
 ghost use Rattle.plane_paths.specs.Laws.{UncrossedIsEdge, ChosenFlipIsConvex, ChosenFlipLowers, CrossingIsEitherWay, ChosenFlipExists, EndsAreOrdered, LastHasNoneAfter};
 
 /// A law: a segment between two vertices that carries no third and that no edge crosses is an edge.
@@ -88,6 +88,11 @@ pub fn piece_is_free()
 /// A law: where all vertices are on one line, two of them with none strictly between are an edge.
 pub fn piece_on_line_is_edge()
     ensures { PieceOnLineIsEdge }
+{}
+
+/// A law: where only faces and outer edges at a vertex go, each constraint that does not end there stays an edge.
+pub fn removal_keeps_constraints()
+    ensures { RemovalKeepsConstraints }
 {}
 
 /// A law: after the removal of a vertex of data `V` from within a straight constraint the far ends of its halves can be joined, and joining them is an add.
