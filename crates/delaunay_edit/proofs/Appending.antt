@@ -1,8 +1,8 @@
 -- A vertex after the others, where there are no constraints.
-use Rattle.std.proofs.Common.{◌≡◌, ◌∙◌, ℕ, ◌++◌, ◌∷◌, [], length, map, sym, arith, Result, Ok, Err, inl, inr}
-use Rattle.std.specs.Prelude.{pos, IfOk, OnOk}
-use Rattle.std.proofs.lemmas.List.{length-map, get_or-map}
-use Rattle.std.proofs.lemmas.List.Elements.{All-from_get_or}
+use Rattle.std.proofs.Common.{◌≡◌, ◌∙◌, ℕ, List, ◌++◌, ◌∷◌, [], length, map, sym, ap, subst, arith, Result, Ok, Err, inl, inr}
+use Rattle.std.specs.Prelude.{pos, All, IfOk, OnOk}
+use Rattle.std.proofs.lemmas.List.{length-map, get_or-map, map-append}
+use Rattle.std.proofs.lemmas.List.Elements.{All-from_get_or, All-push}
 use Rattle.plane.specs.Fraction.{Point}
 use Rattle.plane.specs.Pairs.{Joins}
 use Rattle.plane.specs.Plain.{DifferInPosition, Appends, Inserts}
@@ -31,3 +31,7 @@ module _ {V D U F : Type 0} (at : V → Point) (old new : State V D U F) (v : V)
   pub inserted : {E : Type 0} (result : Result ℕ E) → IfOk result (λ i. i ≡ length old.vertices) → OnOk result (new.vertices ≡ old.vertices ++ v ∷ []) → IfOk result (λ i. Inserts at (plain_of old) (plain_of new) v i)
   inserted (Ok i) last is = inr (last, appended is)
   inserted (Err e) last is = tt
+
+-- the new vertex is a site as the others are
+pub sites_after : {V : Type 0} (at : V → Point) (sites : Point → Type 0) (old new : List V) (v : V) → new ≡ old ++ v ∷ [] → All sites (map at old) → sites (at v) → All sites (map at new)
+sites_after at sites old new v is all one = subst (λ (ps : List Point). All sites ps) (sym (ap (map at) is ∙ map-append at old (v ∷ []))) (All-push sites (map at old) (at v) all one)

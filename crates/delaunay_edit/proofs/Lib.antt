@@ -17,3 +17,6 @@ pub mod LineEnds
 pub mod DataKept
 pub mod DataGrowing
 pub mod Joining
+pub mod WorkList
+pub mod Delaunay
+pub mod Flips

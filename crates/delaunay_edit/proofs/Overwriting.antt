@@ -12,7 +12,7 @@ use Rattle.delaunay_edit.specs.Known.{point_at}
 use Rattle.delaunay_edit.specs.Shape.{IsKept}
 use Rattle.delaunay_edit.specs.State.{state_of}
 
-same_places : {V : Type 0} (at : V → Point) (vs : List V) (i : ℕ) (v : V) → point_at (map at vs) i ≡ at v → map at (slice_set vs i v) ≡ map at vs
+pub same_places : {V : Type 0} (at : V → Point) (vs : List V) (i : ℕ) (v : V) → point_at (map at vs) i ≡ at v → map at (slice_set vs i v) ≡ map at vs
 same_places at vs i v e = map-set at vs i v ∙ ap (λ q. set (map at vs) i q) (sym e) ∙ set-get_or (map at vs) i (record { x = pos 0; y = pos 0 })
 
 pub kept_overwritten : {V D U F : Type 0} (at : V → Point) (c : Contents V D U F) (i : ℕ) (v : V) → IsKept at (state_of c) → i < length c.vertices → point_at (map at c.vertices) i ≡ at v → IsKept at (state_of (record c { vertices = slice_set c.vertices i v }))

@@ -6,3 +6,4 @@ pub mod Known
 pub mod Elements
 pub mod Data
 pub mod Joining
+pub mod Flips

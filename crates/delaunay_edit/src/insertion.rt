@@ -3,17 +3,20 @@ ghost use Rattle.std.specs.Prelude.{◌≡◌, ◌↔◌, ◌⊎◌, ℕ, ◌+�
 ghost use Rattle.half_edge_links.specs.Room.{HasRoomFor};
 ghost use Rattle.plane.specs.Tests.{InRange};
 ghost use Rattle.plane.specs.Plain.{Inserts};
-ghost use Rattle.plane.specs.Tiling.{IsTiling};
+ghost use Rattle.plane.specs.Tiling.{IsFace, IsTiling};
+ghost use Rattle.plane.specs.Delaunay.{IsConstrainedDelaunay, IsStrictlyEmpty};
 ghost use Rattle.delaunay_core.specs.Place.{place_of};
 ghost use Rattle.delaunay_core.specs.declared.math.InsertionError.TheVariants.{TooLarge, OutOfMemory, OutOfIndexes};
 ghost use Rattle.delaunay_edit.specs.Known.{IsKnown, point_at};
 ghost use Rattle.delaunay_edit.specs.Location.{HasHandle, IsApart, IsLeftOfPlace, Locates};
+ghost use Rattle.delaunay_edit.specs.Flips.{CountsFlips, FlipsFit};
 ghost use Rattle.delaunay_edit.specs.State.{state_of, plain_of, triangulation_of};
 
 use crate::insertion_cases::insert_at;
 use crate::position_in_triangulation::PositionInTriangulation;
 use crate::predicates::turns_left;
 use crate::triangulation_core::TriangulationCore;
+use crate::work_list::{legalize_all, reserve_for_edges};
 use delaunay_core::math::{InsertionError, PlaneTests, validate_vertex};
 use delaunay_core::point::{HasPosition, Point2};
 use half_edge_mesh::{Dcel, FixedVertexHandle, MAX_ELEMENTS, ReserveError};
@@ -43,27 +46,36 @@ impl<V: HasPosition + Drop, DE: Default, UE: Default, F: Default> TriangulationC
         let _ = self.dcel.update_vertex(vertex, value);
     }
 
-    // The new last vertex, or a refusal that changes nothing.
-    fn append(
+    // The new last vertex, with each edge tested again, or a refusal that changes nothing.
+    fn append<P: PlaneTests<V::Scalar>>(
         &mut self,
         location: PositionInTriangulation,
         turns: bool,
         value: V,
+        tests: &P,
+        flips: &mut u64,
     ) -> Result<FixedVertexHandle, InsertionError>
         requires in_range { InRange (V.place value) }
         requires apart { IsApart (map V.place self.old.vertices) (V.place value) }
         requires location { Locates (map V.place self.old.vertices) self.old.mesh (V.place value) location }
         requires turns { IsTrue turns ↔ IsLeftOfPlace (map V.place self.old.vertices) self.old.mesh (V.place value) location }
         requires few { length self.old.vertices < 3 }
+        requires sites { All (P.sites tests.now) (map V.place self.old.vertices) }
+        requires new_site { P.sites tests.now (V.place value) }
+        requires fits { FlipsFit (length self.old.vertices + 1) flips.old }
         ensures full { IsErrOf result OutOfIndexes ↔ (MAX_ELEMENTS < 6 * (length self.old.vertices + 1)) }
         ensures not_too_large { ¬ IsErrOf result TooLarge }
         ensures vertex { IfOk result (λ i. i ≡ length self.old.vertices) }
         ensures vertices { OnOk result (self.new.vertices ≡ self.old.vertices ++ value ∷ []) }
-        ensures tiling { IsTiling (triangulation_of V.place self.new) }
+        ensures outer { self.new.outer ≡ self.old.outer }
         ensures err { OnErr result (self.new ≡ self.old) }
+        ensures counted { CountsFlips (length self.new.vertices) flips.old flips.new }
     {
         reserve_for_vertex(&mut self.dcel)?;
-        Ok(insert_at(&mut self.dcel, location, turns, value))
+        reserve_for_edges(&mut self.work, 3 * (self.dcel.num_vertices() + 1))?;
+        let vertex = insert_at(&mut self.dcel, location, turns, value);
+        legalize_all(&mut self.dcel, tests, &mut self.work, flips);
+        Ok(vertex)
     }
 
     // Whether a vertex is strictly on the left of the edge that its location names.
@@ -129,9 +141,41 @@ impl<V: HasPosition + Drop, DE: Default, UE: Default, F: Default> TriangulationC
         ensures known { InRange (V.place value) → IsKnown (map V.place self.old.vertices) (V.place value) → IsOk result }
         ensures full { IsErrOf result OutOfIndexes ↔ (InRange (V.place value) × (¬ IsKnown (map V.place self.old.vertices) (V.place value)) × (MAX_ELEMENTS < 6 * (length self.old.vertices + 1))) }
         ensures ok { IfOk result (λ i. Inserts V.place (plain_of self.old) (plain_of self.new) value i) }
-        ensures replaced { InRange (V.place value) → IsKnown (map V.place self.old.vertices) (V.place value) → self.new.mesh ≡ self.old.mesh }
+        ensures replaced { IsKnown (map V.place self.old.vertices) (V.place value) → IfOk result (λ i. self.new ≡ record self.old { vertices = slice_set self.old.vertices i value }) }
         ensures tiling { IsTiling (triangulation_of V.place self.new) }
+        ensures delaunay { IsConstrainedDelaunay (triangulation_of V.place self.new) [] }
+        ensures empty_triples { (i j k : ℕ) → IsStrictlyEmpty (triangulation_of V.place self.new) i j k → IsFace (triangulation_of V.place self.new) i j k }
+        ensures outer { self.new.outer ≡ self.old.outer }
         ensures err { OnErr result (self.new ≡ self.old) }
+    {
+        let _ = self.num_vertices();
+        let mut flips = 0;
+        self.insert_counting(value, tests, &mut flips)
+    }
+
+    /// Does what `insert` does, and adds the number of flips to `flips`.
+    pub fn insert_counting<P: PlaneTests<V::Scalar>>(
+        &mut self,
+        value: V,
+        tests: &P,
+        flips: &mut u64,
+    ) -> Result<FixedVertexHandle, InsertionError>
+        requires sites { All (P.sites tests.now) (map V.place self.old.vertices) }
+        requires new_site { InRange (V.place value) → P.sites tests.now (V.place value) }
+        requires few { InRange (V.place value) → ¬ IsKnown (map V.place self.old.vertices) (V.place value) → length self.old.vertices < 3 }
+        requires fits { FlipsFit (length self.old.vertices + 1) flips.old }
+
+        ensures too_large { IsErrOf result TooLarge ↔ ¬ InRange (V.place value) }
+        ensures known { InRange (V.place value) → IsKnown (map V.place self.old.vertices) (V.place value) → IsOk result }
+        ensures full { IsErrOf result OutOfIndexes ↔ (InRange (V.place value) × (¬ IsKnown (map V.place self.old.vertices) (V.place value)) × (MAX_ELEMENTS < 6 * (length self.old.vertices + 1))) }
+        ensures ok { IfOk result (λ i. Inserts V.place (plain_of self.old) (plain_of self.new) value i) }
+        ensures replaced { IsKnown (map V.place self.old.vertices) (V.place value) → IfOk result (λ i. self.new ≡ record self.old { vertices = slice_set self.old.vertices i value }) }
+        ensures tiling { IsTiling (triangulation_of V.place self.new) }
+        ensures delaunay { IsConstrainedDelaunay (triangulation_of V.place self.new) [] }
+        ensures empty_triples { (i j k : ℕ) → IsStrictlyEmpty (triangulation_of V.place self.new) i j k → IsFace (triangulation_of V.place self.new) i j k }
+        ensures outer { self.new.outer ≡ self.old.outer }
+        ensures err { OnErr result (self.new ≡ self.old) }
+        ensures counted { CountsFlips (length self.new.vertices) flips.old flips.new }
     {
         let _ = self.num_vertices();
         validate_vertex(&value)?;
@@ -141,7 +185,11 @@ impl<V: HasPosition + Drop, DE: Default, UE: Default, F: Default> TriangulationC
                 let _ = self.num_vertices();
                 Ok(vertex)
             }
-            Err((location, turns)) => self.append(location, turns, value),
+            Err((location, turns)) => {
+                let appended = self.append(location, turns, value, tests, flips);
+                let _ = self.num_vertices();
+                appended
+            }
         }
     }
 }

@@ -11,6 +11,7 @@ mod location;
 mod position_in_triangulation;
 mod predicates;
 mod triangulation_core;
+mod work_list;
 
 pub use position_in_triangulation::PositionInTriangulation;
 pub use triangulation_core::TriangulationCore;

@@ -1,8 +1,9 @@
 //! What both triangulation types hold.
-ghost use Rattle.std.specs.Prelude.{◌≡◌, ◌↔◌, ◌<◌, ◌≤◌, [], length, map, IsTrue};
+ghost use Rattle.std.specs.Prelude.{◌≡◌, ◌↔◌, ℕ, ◌<◌, ◌≤◌, [], length, map, IsTrue};
 ghost use Rattle.half_edge_links.specs.Mesh.{empty, origin, rev, face, face_edge};
 ghost use Rattle.half_edge_links.specs.Triangles.{triangle_at};
-ghost use Rattle.plane.specs.Tiling.{IsTiling};
+ghost use Rattle.plane.specs.Tiling.{IsTiling, IsFace};
+ghost use Rattle.plane.specs.Delaunay.{IsConstrainedDelaunay, IsStrictlyEmpty};
 ghost use Rattle.delaunay_core.specs.Place.{place_of};
 ghost use Rattle.delaunay_edit.specs.State.{triangulation_of};
 ghost use Rattle.delaunay_edit.specs.Known.{point_at};
@@ -11,7 +12,8 @@ ghost use Rattle.delaunay_edit.specs.Location.{IsMeshEdge, IsMeshFace};
 
 use delaunay_core::point::{HasPosition, Point2};
 use half_edge_mesh::{
-    Dcel, FixedDirectedEdgeHandle, FixedFaceHandle, FixedVertexHandle, MAX_ELEMENTS,
+    Dcel, FixedDirectedEdgeHandle, FixedFaceHandle, FixedUndirectedEdgeHandle, FixedVertexHandle,
+    MAX_ELEMENTS,
 };
 use std::alloc::Global;
 use std::marker::Model;
@@ -21,17 +23,19 @@ use std::marker::Model;
 #[derive(Drop)]
 pub struct TriangulationCore<V: HasPosition, DE, UE, F> {
     pub(crate) dcel: Dcel<V, DE, UE, F>,
+    // The edges that a legalization has still to test: none between edits, but the room for them stays.
+    pub(crate) work: Vec<FixedUndirectedEdgeHandle>,
 }
 
 impl<V: HasPosition, DE, UE, F> Model for TriangulationCore<V, DE, UE, F> {
     ghost use Rattle.delaunay_edit.specs.State.{State, state_of};
-    ghost use Rattle.delaunay_edit.specs.Shape.{IsKept};
+    ghost use Rattle.delaunay_edit.specs.Shape.{IsLegal};
 
     ghost Value = { State V DE UE F };
 
     ghost view = { λ c. state_of c.dcel };
 
-    ghost invariant = { λ c. IsKept V.place (state_of c.dcel) };
+    ghost invariant = { λ c. IsLegal V.place (state_of c.dcel) };
 }
 
 impl<V: HasPosition, DE, UE, F> TriangulationCore<V, DE, UE, F> {
@@ -46,10 +50,14 @@ impl<V: HasPosition, DE, UE, F> TriangulationCore<V, DE, UE, F> {
         ensures outer { F.is_default result.outer }
         ensures faces { result.faces ≡ [] }
         ensures tiling { IsTiling (triangulation_of V.place result) }
+        ensures delaunay { IsConstrainedDelaunay (triangulation_of V.place result) [] }
     {
         let dcel = Dcel::new(alloc);
         let _ = dcel.num_vertices();
-        TriangulationCore { dcel }
+        TriangulationCore {
+            dcel,
+            work: Vec::new(alloc),
+        }
     }
 
     pub fn num_vertices(&self) -> usize
@@ -57,6 +65,8 @@ impl<V: HasPosition, DE, UE, F> TriangulationCore<V, DE, UE, F> {
         ensures small { result ≤ MAX_ELEMENTS }
         ensures kept { IsKept V.place self.now }
         ensures tiling { IsTiling (triangulation_of V.place self.now) }
+        ensures delaunay { IsConstrainedDelaunay (triangulation_of V.place self.now) [] }
+        ensures empty_triples { (i j k : ℕ) → IsStrictlyEmpty (triangulation_of V.place self.now) i j k → IsFace (triangulation_of V.place self.now) i j k }
     {
         self.dcel.num_vertices()
     }

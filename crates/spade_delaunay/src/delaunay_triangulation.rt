@@ -1,11 +1,12 @@
 //! Triangulations without constraints.
-ghost use Rattle.std.specs.Prelude.{◌≡◌, ◌↔◌, ◌+◌, ◌*◌, ◌<◌, ◌≤◌, [], length, map, All, MatchOption, IsOk, IsErrOf, IfOk, OnErr};
+ghost use Rattle.std.specs.Prelude.{◌≡◌, ◌↔◌, ℕ, ◌+◌, ◌*◌, ◌<◌, ◌≤◌, [], length, map, All, MatchOption, IsOk, IsErrOf, IfOk, OnErr, slice_set};
 ghost use Rattle.half_edge_links.specs.Mesh.{empty};
 ghost use Rattle.half_edge_mesh.specs.Left.{vertices_left, faces_left};
 ghost use Rattle.plane.specs.Fraction.{whole as fraction};
 ghost use Rattle.plane.specs.Tests.{InRange};
 ghost use Rattle.plane.specs.Plain.{IsPlain, Inserts};
-ghost use Rattle.plane.specs.Tiling.{IsTiling};
+ghost use Rattle.plane.specs.Tiling.{IsFace, IsTiling};
+ghost use Rattle.plane.specs.Delaunay.{IsConstrainedDelaunay, IsStrictlyEmpty};
 ghost use Rattle.plane.specs.Location.{IsLocation};
 ghost use Rattle.delaunay_core.specs.Place.{place_of};
 ghost use Rattle.delaunay_core.specs.declared.math.InsertionError.TheVariants.{TooLarge, OutOfIndexes};
@@ -51,6 +52,7 @@ impl<V: HasPosition, DE, UE, F> DelaunayTriangulation<V, DE, UE, F> {
         ensures outer { F.is_default result.outer }
         ensures faces { result.faces ≡ [] }
         ensures tiling { IsTiling (triangulation_of V.place result) }
+        ensures delaunay { IsConstrainedDelaunay (triangulation_of V.place result) [] }
     {
         DelaunayTriangulation {
             core: TriangulationCore::new(alloc),
@@ -62,6 +64,8 @@ impl<V: HasPosition, DE, UE, F> DelaunayTriangulation<V, DE, UE, F> {
         ensures in_range { All InRange (map V.place self.now.vertices) }
         ensures plain { IsPlain V.place (plain_of self.now) }
         ensures tiling { IsTiling (triangulation_of V.place self.now) }
+        ensures delaunay { IsConstrainedDelaunay (triangulation_of V.place self.now) [] }
+        ensures empty_triples { (i j k : ℕ) → IsStrictlyEmpty (triangulation_of V.place self.now) i j k → IsFace (triangulation_of V.place self.now) i j k }
     {
         self.core.num_vertices()
     }
@@ -195,8 +199,11 @@ impl<V: HasPosition + Drop, DE: Default, UE: Default, F: Default> DelaunayTriang
         ensures known { InRange (V.place value) → IsKnown (map V.place self.old.vertices) (V.place value) → IsOk result }
         ensures full { IsErrOf result OutOfIndexes ↔ (InRange (V.place value) × (¬ IsKnown (map V.place self.old.vertices) (V.place value)) × (MAX_ELEMENTS < 6 * (length self.old.vertices + 1))) }
         ensures ok { IfOk result (λ i. Inserts V.place (plain_of self.old) (plain_of self.new) value i) }
-        ensures replaced { InRange (V.place value) → IsKnown (map V.place self.old.vertices) (V.place value) → self.new.mesh ≡ self.old.mesh }
+        ensures replaced { IsKnown (map V.place self.old.vertices) (V.place value) → IfOk result (λ i. self.new ≡ record self.old { vertices = slice_set self.old.vertices i value }) }
         ensures tiling { IsTiling (triangulation_of V.place self.new) }
+        ensures delaunay { IsConstrainedDelaunay (triangulation_of V.place self.new) [] }
+        ensures empty_triples { (i j k : ℕ) → IsStrictlyEmpty (triangulation_of V.place self.new) i j k → IsFace (triangulation_of V.place self.new) i j k }
+        ensures outer { self.new.outer ≡ self.old.outer }
         ensures err { OnErr result (self.new ≡ self.old) }
     {
         self.core.insert(value, tests)

@@ -1,18 +1,16 @@
-use Rattle.std.proofs.Common.{◌∙◌, sym, subst, map}
+use Rattle.std.proofs.Common.{◌∙◌, [], ◌∷◌, ◌++◌, ap, sym, subst, map}
 use Rattle.delaunay_edit.specs.Location.{Locates}
-use Rattle.delaunay_edit.specs.Shape.{IsKept}
-use Rattle.delaunay_edit.proofs.Shapes.{laid_out_tiles}
+use Rattle.delaunay_edit.proofs.Appending.{sites_after}
 use Rattle.delaunay_edit.proofs.triangulation_core.TriangulationCore.append.Goals as goal
 
-pub returns-in_err-reserve_for_vertex-clause-tiling : goal.returns-in_err-reserve_for_vertex-clause-tiling
-returns-in_err-reserve_for_vertex-clause-tiling g c =
-    let kept = subst (IsKept g.V.HasPosition.place) (sym c.reserve_for_vertex.ensures.same) c.self.invariant in
-    laid_out_tiles (map g.V.HasPosition.place c.reserve_for_vertex.new.dcel.vertices) c.reserve_for_vertex.new.dcel.mesh kept.valid kept.shape
-
-pub insert_at-requires-clause-location : goal.insert_at-requires-clause-location
-insert_at-requires-clause-location g c =
+pub insert_at-vertex-requires-clause-location : goal.insert_at-vertex-requires-clause-location
+insert_at-vertex-requires-clause-location g c =
     subst (λ s. Locates (map g.V.HasPosition.place s.vertices) s.mesh (g.V.HasPosition.place c.args.value) c.args.location) (sym (c.reserve_for_vertex.ensures.same ∙ c.self.view_is)) c.requires.location
 
-pub returns-clause-tiling : goal.returns-clause-tiling
-returns-clause-tiling g c =
-    laid_out_tiles (map g.V.HasPosition.place c.insert_at.new.dcel.vertices) c.insert_at.new.dcel.mesh c.insert_at.ensures.kept.valid c.insert_at.ensures.kept.shape
+pub legalize_all-requires-clause-sites : goal.legalize_all-requires-clause-sites
+legalize_all-requires-clause-sites g c =
+    sites_after g.V.HasPosition.place (g.P.PlaneTests.sites c.args.tests.now) c.args.self.now.vertices c.insert_at-vertex.new.dcel.vertices c.args.value
+    (c.insert_at-vertex.ensures.vertices ∙ ap (λ s. s.vertices ++ c.args.value ∷ []) (c.reserve_for_vertex.ensures.same ∙ c.self.view_is)) c.requires.sites c.requires.new_site
+
+pub returns-clause-outer : goal.returns-clause-outer
+returns-clause-outer g c = ap (λ d. d.outer) c.legalize_all.ensures.contents ∙ c.insert_at-vertex.ensures.grows.outer ∙ ap (λ s. s.outer) (c.reserve_for_vertex.ensures.same ∙ c.self.view_is)

@@ -36,7 +36,7 @@ loop-index-preserved g c =
 pub returns : goal.returns
 returns g c =
     let same : length c.self.inside.dcel.directed ≡ length c.args.self.now.directed = ap (λ s. length s.directed) c.self.view_is in
-    let fit : length c.args.self.now.directed ≡ length c.args.self.now.mesh.half_edges = rw (← c.self.view_is) c.self.invariant.fits.directed_fit in
+    let fit : length c.args.self.now.directed ≡ length c.args.self.now.mesh.half_edges = rw (← c.self.view_is) c.self.invariant.kept.fits.directed_fit in
     record {
       within = omega (arith, c.loop-index.invariant.within, fit);
       nearest = λ h w. c.loop-index.invariant.nearest h (omega (arith, w, same, fit, c.loop-index-test.false, c.num_directed_edges-index-end.ensures.value));

@@ -1,9 +1,7 @@
-use Rattle.delaunay_edit.proofs.Appending.{inserted}
+use Rattle.std.proofs.Common.{length, subst, ◌≤◌, ℕ}
+use Rattle.delaunay_edit.proofs.Flips.{few_flips_fit}
 use Rattle.delaunay_edit.proofs.triangulation_core.TriangulationCore.insert.Goals as goal
 
-pub returns-in-Err-clause-ok : goal.returns-in-Err-clause-ok
-returns-in-Err-clause-ok g c =
-    inserted g.V.HasPosition.place c.args.self.now c.append.new.self c.args.value c.in-Err.ensures.apart c.append.result c.append.ensures.vertex c.append.ensures.vertices
-
-pub returns-in-Err-clause-replaced : goal.returns-in-Err-clause-replaced
-returns-in-Err-clause-replaced g c = λ in_range known. absurd (c.in-Err.ensures.apart.apart known.index known.below known.here)
+pub insert_counting-requires-clause-fits : goal.insert_counting-requires-clause-fits
+insert_counting-requires-clause-fits g c =
+    few_flips_fit (length c.args.self.now.vertices) (subst (λ (n : ℕ). n ≤ 4294967295) c.num_vertices.ensures.value c.num_vertices.ensures.small)

@@ -6,8 +6,8 @@ use Rattle.delaunay_edit.proofs.triangulation_core.TriangulationCore.num_directe
 
 pub returns-clause-value : goal.returns-clause-value
 returns-clause-value g c =
-    let count = count_of_edges g.V.HasPosition.place (state_of c.self.inside.dcel) c.self.invariant in
-    let pairs = c.self.invariant.fits.undirected_fit in
-    let directed = c.self.invariant.fits.directed_fit in
+    let count = count_of_edges g.V.HasPosition.place (state_of c.self.inside.dcel) c.self.invariant.kept in
+    let pairs = c.self.invariant.kept.fits.undirected_fit in
+    let directed = c.self.invariant.kept.fits.directed_fit in
     let value : c.num_directed_edges.result ≡ 2 * length (edges_of c.self.inside.dcel.mesh) = omega (arith, count, pairs, directed, c.num_directed_edges.ensures.value) in
     rw (← c.self.view_is) value

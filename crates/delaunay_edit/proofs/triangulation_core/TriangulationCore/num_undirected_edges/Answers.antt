@@ -4,4 +4,4 @@ use Rattle.delaunay_edit.proofs.Counts.{count_of_edges}
 use Rattle.delaunay_edit.proofs.triangulation_core.TriangulationCore.num_undirected_edges.Goals as goal
 
 pub returns-clause-value : goal.returns-clause-value
-returns-clause-value g c = rw (← c.self.view_is) (c.num_undirected_edges.ensures.value ∙ count_of_edges g.V.HasPosition.place (state_of c.self.inside.dcel) c.self.invariant)
+returns-clause-value g c = rw (← c.self.view_is) (c.num_undirected_edges.ensures.value ∙ count_of_edges g.V.HasPosition.place (state_of c.self.inside.dcel) c.self.invariant.kept)

@@ -8,3 +8,6 @@ returns-clause-in_range g c = rw (← c.self.view_is) (All-map InRange g.V.HasPo
 
 pub returns-clause-plain : goal.returns-clause-plain
 returns-clause-plain g c = rw (← c.self.view_is) (plain_if_kept g.V.HasPosition.place c.self.inside.core c.num_vertices.ensures.kept)
+
+pub returns-clause-empty_triples : goal.returns-clause-empty_triples
+returns-clause-empty_triples g c = rw (← c.self.view_is) c.num_vertices.ensures.empty_triples

@@ -57,7 +57,7 @@ returns-in-Ok-clause-reply g c =
         site = listed;
         replaced = subst (λ (i : ℕ). Replaces position (plain_of old) (plain_of new) i p) (sym index) kept;
         same = ap (λ ps. drawn ps new.mesh) (ap (map position) kept.vertices ∙ places_kept old.vertices _ p kept.same)
-            ∙ ap (drawn (map position old.vertices)) (c.insert.ensures.replaced in_range (known_if_there old.vertices p _ kept.here kept.same));
+            ∙ ap (drawn (map position old.vertices)) (ap (λ t. t.mesh) (c.in-Ok.ensures.replaced (known_if_there old.vertices p _ kept.here kept.same)));
       })
       | inr more ↦ (
           let few : length old.vertices < 3 = elim c.else-is_new.branch [
