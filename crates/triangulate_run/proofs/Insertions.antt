@@ -6,20 +6,18 @@ use Rattle.std.proofs.lemmas.List.Elements.{All-push}
 use Rattle.std.proofs.Math.Seq.{map-set_same}
 use Rattle.std.proofs.lemmas.List.{map-append}
 use Rattle.plane.specs.Fraction.{Point}
-use Rattle.plane.specs.Plain.{DifferInPosition, IsPlain}
+use Rattle.plane.specs.Plain.{DifferInPosition}
 use Rattle.delaunay_core.specs.declared.point.Point2.{Point2}
 use Rattle.triangulate_run.specs.declared.points.SheetPoint.{SheetPoint}
-use Rattle.plane.specs.Pairs.{Joins}
-use Rattle.plane.specs.Tiling.{IsTiling}
 use Rattle.plane.specs.Tests.{InRange}
 use Rattle.delaunay_core.specs.declared.math.InsertionError.{InsertionError}
 use Rattle.delaunay_core.specs.declared.math.InsertionError.TheVariants.{TooLarge, OutOfMemory, OutOfIndexes}
 use Rattle.triangulate_run.specs.declared.reply.Reply.TheVariants.{Refused}
 use Rattle.triangulate_run.specs.Answer.{MayInsert, most_elements}
 use Rattle.triangulate_run.specs.Engine.{stage_of}
-use Rattle.delaunay_edit.specs.State.{State, plain_of, triangulation_of}
+use Rattle.delaunay_edit.specs.State.{State}
 use Rattle.triangulate_run.specs.Points.{place, nowhere, IsAt, IsSiteAt, IsListed, IsListedSite}
-use Rattle.triangulate_run.specs.Stage.{position, Fits}
+use Rattle.triangulate_run.specs.Stage.{position}
 use Rattle.delaunay_edit.specs.Known.{point_at, IsKnown}
 
 module _ (vs : List (Point2 ℤ)) (p : Point2 ℤ) where
@@ -71,19 +69,6 @@ sites_more sites old new v e site all = subst (λ (ps : List Point). All sites p
 pub listed_if_known : (points : List SheetPoint) (p : Point) (o : Option ℕ) → is_some o ≡ true → MatchOption o (¬ IsListed points p) (λ i. IsAt points i p) → IsListed points p
 listed_if_known points p None e found = cc
 listed_if_known points p (Some i) e found = (i, found)
-
--- ---- the stage of a triangulation
-no_pairs : (i j : ℕ) → Joins [] i j → ⊥
-no_pairs i j (inl h) = absurd (omega (arith, h.1))
-no_pairs i j (inr h) = absurd (omega (arith, h.1))
-
-pub fits_of : {D U F : Type 0} (s : State (Point2 ℤ) D U F) → IsTiling (triangulation_of position s) → IsPlain position (plain_of s) → Fits (stage_of s)
-fits_of s tiling plain = record {
-  is_plain = plain;
-  points = refl;
-  tiling = tiling;
-  kept = λ i j h. absurd (no_pairs i j h);
-}
 
 -- ---- a refusal
 module _ {D U F : Type 0} (points : List SheetPoint) (old new : State (Point2 ℤ) D U F) (p : Point2 ℤ) (r : Result ℕ InsertionError) where

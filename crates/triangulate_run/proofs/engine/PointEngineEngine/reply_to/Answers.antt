@@ -5,7 +5,6 @@ use Rattle.delaunay_edit.specs.State.{triangulation_of}
 use Rattle.triangulate_run.specs.Answer.{MayInsert, MayLocate}
 use Rattle.triangulate_run.specs.Engine.{stage_of}
 use Rattle.triangulate_run.specs.Stage.{position}
-use Rattle.triangulate_run.proofs.Insertions.{fits_of}
 use Rattle.triangulate_run.proofs.engine.PointEngineEngine.reply_to.Goals as goal
 use Rattle.triangulate_run.proofs.engine.PointEngineEngine.reply_to.Goals.{in-Insert, in-Locate, in-Counts, in-Faces, in-Remove}
 
@@ -36,4 +35,4 @@ returns-clause-reply g c =
     ]
 
 pub returns-clause-fits : goal.returns-clause-fits
-returns-clause-fits g c = fits_of c.match-command.self.triangulation c.num_vertices.ensures.tiling c.num_vertices.ensures.plain
+returns-clause-fits g c = record { is_plain = c.num_vertices.ensures.plain; points = refl; delaunay = c.num_vertices.ensures.delaunay }
