@@ -7,3 +7,4 @@ pub mod Moves
 pub mod Walks
 pub mod Loops
 pub mod Joined
+pub mod Turning

@@ -1,4 +1,7 @@
 pub mod Contents
 pub mod Growth
 pub mod Left
+pub mod Mapped
 pub mod Rounds
+pub mod Voronoi
+pub mod Writing

@@ -11,7 +11,7 @@ use half_edge_links::reversed;
 use std::alloc::AllocError;
 
 /// A directed edge of a mesh. Two of them are equal where their indexes are.
-#[derive_where(Copy, PartialEq, Eq, PartialOrd, Ord, Hash)]
+#[derive_where(Copy, PartialEq, Eq, PartialOrd, Ord, Hash, Debug)]
 pub struct DirectedEdgeHandle<'a, V, DE, UE, F> {
     #[derive_where(skip)]
     pub dcel: &'a Dcel<V, DE, UE, F>,
@@ -173,7 +173,7 @@ impl<'a, V, DE, UE, F> DirectedEdgeHandle<'a, V, DE, UE, F> {
 }
 
 /// An undirected edge of a mesh. Two of them are equal where their indexes are.
-#[derive_where(Copy, PartialEq, Eq, PartialOrd, Ord, Hash)]
+#[derive_where(Copy, PartialEq, Eq, PartialOrd, Ord, Hash, Debug)]
 pub struct UndirectedEdgeHandle<'a, V, DE, UE, F> {
     #[derive_where(skip)]
     pub dcel: &'a Dcel<V, DE, UE, F>,

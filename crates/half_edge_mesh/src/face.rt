@@ -11,7 +11,7 @@ use crate::vertex::VertexHandle;
 use std::alloc::AllocError;
 
 /// A face of a mesh: the outer one where its index is 0. Two of them are equal where their indexes are.
-#[derive_where(Copy, PartialEq, Eq, PartialOrd, Ord, Hash)]
+#[derive_where(Copy, PartialEq, Eq, PartialOrd, Ord, Hash, Debug)]
 pub struct FaceHandle<'a, V, DE, UE, F> {
     #[derive_where(skip)]
     pub dcel: &'a Dcel<V, DE, UE, F>,

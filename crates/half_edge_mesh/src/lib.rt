@@ -11,13 +11,19 @@ mod inside;
 mod iterators;
 mod line;
 mod lookup;
+mod mapped;
 mod neighbors;
 mod outside;
 mod room;
+#[cfg(test)]
+mod room_tests;
 mod rounds;
 #[cfg(test)]
 mod tests;
 mod vertex;
+mod voronoi;
+mod voronoi_iterators;
+mod writing;
 
 pub use dcel::Dcel;
 pub use edge::{DirectedEdgeHandle, UndirectedEdgeHandle};
@@ -32,3 +38,8 @@ pub use handles::{
 pub use iterators::{DirectedEdgeIterator, FaceIterator, UndirectedEdgeIterator, VertexIterator};
 pub use rounds::{CircularIterator, HullIterator};
 pub use vertex::VertexHandle;
+pub use voronoi::{DirectedVoronoiEdge, UndirectedVoronoiEdge, VoronoiFace, VoronoiVertex};
+pub use voronoi_iterators::{
+    DirectedVoronoiEdgeIterator, UndirectedVoronoiEdgeIterator, VoronoiCircularIterator,
+    VoronoiFaceIterator,
+};

@@ -68,7 +68,10 @@ impl<V, DE, UE, F> Dcel<V, DE, UE, F> {
         F: Default + Drop,
         ensures mesh { IfOk result (λ d. d.mesh ≡ empty) }
         ensures vertices { IfOk result (λ d. d.vertices ≡ []) }
+        ensures directed { IfOk result (λ d. d.directed ≡ []) }
+        ensures undirected { IfOk result (λ d. d.undirected ≡ []) }
         ensures outer { IfOk result (λ d. F.is_default d.outer) }
+        ensures faces { IfOk result (λ d. d.faces ≡ []) }
         ensures room { IfOk result (λ d. HasRoomFor d.room vertices undirected_edges faces) }
         ensures too_many { result ≡ Err ReserveError.TooMany → ¬ AreFewEnough vertices undirected_edges faces }
         ensures few_enough { ¬ AreFewEnough vertices undirected_edges faces → result ≡ Err ReserveError.TooMany }

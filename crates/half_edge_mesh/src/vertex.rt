@@ -10,7 +10,7 @@ use crate::rounds::CircularIterator;
 use std::alloc::AllocError;
 
 /// A vertex of a mesh. Two of them are equal where their indexes are.
-#[derive_where(Copy, PartialEq, Eq, PartialOrd, Ord, Hash)]
+#[derive_where(Copy, PartialEq, Eq, PartialOrd, Ord, Hash, Debug)]
 pub struct VertexHandle<'a, V, DE, UE, F> {
     #[derive_where(skip)]
     pub dcel: &'a Dcel<V, DE, UE, F>,
