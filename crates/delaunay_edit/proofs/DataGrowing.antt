@@ -137,9 +137,6 @@ module _ (points : List Point) (p : Point) (m : Mesh) where
       listed : triangle_at m (face_edge m (face m e)) ≡ t
       listed = sym (get_or-map (triangle_at m) m.face_edges (face m e - 1) 0 no_triangle index) ∙ get_or_from_slice_get (triangles m) (face m e - 1) t no_triangle h
 
-      at_corner : ℕ → Fraction
-      at_corner g = place points (origin m g)
-
       go : (face_edge m (face m e) ≡ e) ⊎ ((face_edge m (face m e) ≡ next m e) ⊎ (face_edge m (face m e) ≡ prev m e)) → IsInCorners points p (triangle_at m (face_edge m (face m e)))
       go (inl i) = subst (λ (x : ℕ). IsInCorners points p (triangle_at m x)) (sym i) inside
       go (inr (inl i)) = subst (λ (x : ℕ). IsInCorners points p (triangle_at m x)) (sym i)
@@ -163,9 +160,6 @@ module _ {V D U F : Type 0} (old new : Contents V D U F) (valid : IsValid old.me
   edge_kept : (h : ℕ) → h < length old.directed → ((e : Edge U) → slice_get (edges old) (h / 2) ≡ Some e → slice_get (edges new) (h / 2) ≡ Some e) → slice_get new.directed h ≡ slice_get old.directed h → KeepsEdge (state_of old) (state_of new) h
   edge_kept h w stays directed = record { ends = ends_kept (halved h); directed = directed; undirected = is.1 ∙ sym was.1 }
     where
-      k : ℕ
-      k = h / 2
-
       count : 2 * length (ends old.mesh) ≡ length old.mesh.half_edges
       count = length-ends_twice old.mesh valid.sound
 

@@ -6,6 +6,7 @@ use Rattle.std.proofs.lemmas.Option.{slice_get_within, slice_get-get_or}
 use Rattle.half_edge_links.specs.Mesh.{origin, rev}
 use Rattle.half_edge_links.specs.Triangles.{Triangle, triangles}
 use Rattle.half_edge_links.proofs.Rev.{rev_within}
+use Rattle.half_edge_mesh.specs.Contents.{Contents}
 use Rattle.plane.specs.Fraction.{Point, Fraction, whole, WithinSegment, InTriangle}
 use Rattle.plane.specs.Pairs.{place, Joins}
 use Rattle.plane.specs.Tiling.{IsEdge}
@@ -19,7 +20,7 @@ use Rattle.drawn_mesh.proofs.MeshStays.{face_there, turned_back}
 use Rattle.drawn_mesh.proofs.MeshLegal.{own_indexes}
 use Rattle.delaunay_edit.specs.Data.{KeepsData, KeepsEdge, GrowsAround, IsInCorners}
 use Rattle.delaunay_edit.specs.Shape.{IsKept}
-use Rattle.delaunay_edit.specs.State.{State}
+use Rattle.delaunay_edit.specs.State.{State, state_of}
 use Rattle.delaunay_edit.proofs.Edges.{edge_joins}
 use Rattle.delaunay_edit.proofs.MeshParts.{no_side}
 use Rattle.delaunay_edit.proofs.Shapes.{laid_out_tiles}
@@ -29,7 +30,7 @@ first [] k w = absurd (omega (arith, w))
 first (x ∷ xs) k w = x
 
 -- the mesh and all data stay
-pub data_same : {V D U F : Type 0} (at : V → Point) (old new : State V D U F) → IsKept at old → new ≡ record old { vertices = new.vertices } → KeepsData old new
+data_same : {V D U F : Type 0} (at : V → Point) (old new : State V D U F) → IsKept at old → new ≡ record old { vertices = new.vertices } → KeepsData old new
 data_same at old new kept same = record {
   directed = λ g h v w x. ap (λ s. slice_get s.directed h) same ∙ ap (slice_get old.directed) (one g h v w x);
   undirected = λ g h v w x. ap (λ s. slice_get s.undirected (h / 2)) same ∙ ap (λ (k : ℕ). slice_get old.undirected (k / 2)) (one g h v w x);
@@ -143,3 +144,14 @@ module _ {V D U F : Type 0} (at : V → Point) (v : V) (old mid new : State V D 
     faces = data_face;
     outer = ap (λ s. s.outer) same ∙ grows.outer;
   }
+
+-- a vertex was put in the place of another
+pub overwritten_keeps : {V D U F : Type 0} (at : V → Point) (old new : State V D U F) (vertices : List V) → IsKept at old → new ≡ record old { vertices = vertices } → KeepsData old new
+overwritten_keeps at old new vertices kept same = data_same at old new kept (same ∙ ap (λ vs. record old { vertices = vs }) (sym (ap (λ s. s.vertices) same)))
+
+-- room was made for a vertex, it was put in, and edges were turned
+pub appended_keeps : {V D U F : Type 0} (at : V → Point) (v : V) (old : State V D U F) (ready mid new : Contents V D U F) → IsKept at old → state_of ready ≡ old → mid.vertices ≡ ready.vertices ++ v ∷ [] → IsKept at (state_of mid) → GrowsAround (map at ready.vertices) (at v) (state_of ready) (state_of mid)
+    → new ≡ record mid { mesh = new.mesh } → KeepsIndexes mid.mesh new.mesh → IsKept at (state_of new) → KeepsData old (state_of new)
+appended_keeps at v old ready mid new was same vertices kept grows contents indexes now =
+    data_kept at v old (state_of mid) (state_of new) was now (ap (λ c. c.vertices) contents ∙ vertices ∙ ap (λ s. s.vertices ++ v ∷ []) same) kept.fits.directed_fit
+    (subst (λ s. GrowsAround (map at s.vertices) (at v) s (state_of mid)) same grows) (ap state_of contents) indexes

@@ -7,6 +7,7 @@ ghost use Rattle.plane.specs.Tiling.{IsFace, IsTiling};
 ghost use Rattle.plane.specs.Delaunay.{IsConstrainedDelaunay, IsStrictlyEmpty};
 ghost use Rattle.delaunay_core.specs.Place.{place_of};
 ghost use Rattle.delaunay_core.specs.declared.math.InsertionError.TheVariants.{TooLarge, OutOfMemory, OutOfIndexes};
+ghost use Rattle.delaunay_edit.specs.Data.{KeepsData};
 ghost use Rattle.delaunay_edit.specs.Known.{IsKnown, point_at};
 ghost use Rattle.delaunay_edit.specs.Location.{HasHandle, IsApart, IsLeftOfPlace, Locates};
 ghost use Rattle.delaunay_edit.specs.Flips.{CountsFlips, FlipsFit};
@@ -68,6 +69,7 @@ impl<V: HasPosition + Drop, DE: Default, UE: Default, F: Default> TriangulationC
         ensures vertex { IfOk result (λ i. i ≡ length self.old.vertices) }
         ensures vertices { OnOk result (self.new.vertices ≡ self.old.vertices ++ value ∷ []) }
         ensures outer { self.new.outer ≡ self.old.outer }
+        ensures data { OnOk result (KeepsData self.old self.new) }
         ensures err { OnErr result (self.new ≡ self.old) }
         ensures counted { CountsFlips (length self.new.vertices) flips.old flips.new }
     {
@@ -146,6 +148,7 @@ impl<V: HasPosition + Drop, DE: Default, UE: Default, F: Default> TriangulationC
         ensures delaunay { IsConstrainedDelaunay (triangulation_of V.place self.new) [] }
         ensures empty_triples { (i j k : ℕ) → IsStrictlyEmpty (triangulation_of V.place self.new) i j k → IsFace (triangulation_of V.place self.new) i j k }
         ensures outer { self.new.outer ≡ self.old.outer }
+        ensures data { OnOk result (KeepsData self.old self.new) }
         ensures err { OnErr result (self.new ≡ self.old) }
     {
         let _ = self.num_vertices();
@@ -174,6 +177,7 @@ impl<V: HasPosition + Drop, DE: Default, UE: Default, F: Default> TriangulationC
         ensures delaunay { IsConstrainedDelaunay (triangulation_of V.place self.new) [] }
         ensures empty_triples { (i j k : ℕ) → IsStrictlyEmpty (triangulation_of V.place self.new) i j k → IsFace (triangulation_of V.place self.new) i j k }
         ensures outer { self.new.outer ≡ self.old.outer }
+        ensures data { OnOk result (KeepsData self.old self.new) }
         ensures err { OnErr result (self.new ≡ self.old) }
         ensures counted { CountsFlips (length self.new.vertices) flips.old flips.new }
     {

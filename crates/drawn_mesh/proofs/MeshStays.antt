@@ -36,9 +36,6 @@ halved h = grind arith
 pub half_same : (g h : ℕ) → h / 2 ≡ g / 2 → (h ≡ g) ⊎ (h ≡ rev g)
 half_same g h e = grind arith
 
-half_within : (h n : ℕ) → n / 2 * 2 ≡ n → h < n → 2 * (h / 2) + 1 < n
-half_within h n e w = omega (arith, e, w)
-
 rev_of_even : (k : ℕ) → 2 * k + 1 ≡ rev (2 * k)
 rev_of_even k = grind (arith, common_steps)
 

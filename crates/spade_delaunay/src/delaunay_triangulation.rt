@@ -1,5 +1,5 @@
 //! Triangulations without constraints.
-ghost use Rattle.std.specs.Prelude.{◌≡◌, ◌↔◌, ℕ, ◌+◌, ◌*◌, ◌<◌, ◌≤◌, [], length, map, All, MatchOption, IsOk, IsErrOf, IfOk, OnErr, slice_set};
+ghost use Rattle.std.specs.Prelude.{◌≡◌, ◌↔◌, ℕ, ◌+◌, ◌*◌, ◌<◌, ◌≤◌, [], length, map, All, MatchOption, IsOk, IsErrOf, IfOk, OnErr, OnOk, slice_set};
 ghost use Rattle.half_edge_links.specs.Mesh.{empty};
 ghost use Rattle.half_edge_mesh.specs.Left.{vertices_left, faces_left};
 ghost use Rattle.plane.specs.Fraction.{whole as fraction};
@@ -10,6 +10,7 @@ ghost use Rattle.plane.specs.Delaunay.{IsConstrainedDelaunay, IsStrictlyEmpty};
 ghost use Rattle.plane.specs.Location.{IsLocation};
 ghost use Rattle.delaunay_core.specs.Place.{place_of};
 ghost use Rattle.delaunay_core.specs.declared.math.InsertionError.TheVariants.{TooLarge, OutOfIndexes};
+ghost use Rattle.delaunay_edit.specs.Data.{KeepsData};
 ghost use Rattle.delaunay_edit.specs.Known.{IsKnown, point_at};
 ghost use Rattle.delaunay_edit.specs.Elements.{GivesElements, HasElement};
 ghost use Rattle.delaunay_edit.specs.Location.{location_of};
@@ -204,6 +205,7 @@ impl<V: HasPosition + Drop, DE: Default, UE: Default, F: Default> DelaunayTriang
         ensures delaunay { IsConstrainedDelaunay (triangulation_of V.place self.new) [] }
         ensures empty_triples { (i j k : ℕ) → IsStrictlyEmpty (triangulation_of V.place self.new) i j k → IsFace (triangulation_of V.place self.new) i j k }
         ensures outer { self.new.outer ≡ self.old.outer }
+        ensures data { OnOk result (KeepsData self.old self.new) }
         ensures err { OnErr result (self.new ≡ self.old) }
     {
         self.core.insert(value, tests)

@@ -1,6 +1,8 @@
 use Rattle.std.proofs.Common.{◌∙◌, [], ◌∷◌, ◌++◌, ap, sym, subst, map}
 use Rattle.delaunay_edit.specs.Location.{Locates}
+use Rattle.delaunay_edit.specs.Shape.{IsKept}
 use Rattle.delaunay_edit.proofs.Appending.{sites_after}
+use Rattle.delaunay_edit.proofs.DataKept.{appended_keeps}
 use Rattle.delaunay_edit.proofs.triangulation_core.TriangulationCore.append.Goals as goal
 
 pub insert_at-vertex-requires-clause-location : goal.insert_at-vertex-requires-clause-location
@@ -14,3 +16,8 @@ legalize_all-requires-clause-sites g c =
 
 pub returns-clause-outer : goal.returns-clause-outer
 returns-clause-outer g c = ap (λ d. d.outer) c.legalize_all.ensures.contents ∙ c.insert_at-vertex.ensures.grows.outer ∙ ap (λ s. s.outer) (c.reserve_for_vertex.ensures.same ∙ c.self.view_is)
+
+pub returns-clause-data : goal.returns-clause-data
+returns-clause-data g c =
+    appended_keeps g.V.HasPosition.place c.args.value c.args.self.now c.reserve_for_vertex.new.dcel c.insert_at-vertex.new.dcel c.legalize_all.new.dcel (subst (IsKept g.V.HasPosition.place) c.self.view_is c.self.invariant.kept) (c.reserve_for_vertex.ensures.same ∙ c.self.view_is)
+    c.insert_at-vertex.ensures.vertices c.insert_at-vertex.ensures.kept c.insert_at-vertex.ensures.grows c.legalize_all.ensures.contents c.legalize_all.ensures.indexes c.legalize_all.ensures.legal.kept

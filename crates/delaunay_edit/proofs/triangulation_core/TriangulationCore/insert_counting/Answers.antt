@@ -1,4 +1,5 @@
 use Rattle.delaunay_edit.proofs.Appending.{inserted}
+use Rattle.delaunay_edit.proofs.DataKept.{overwritten_keeps}
 use Rattle.delaunay_edit.proofs.triangulation_core.TriangulationCore.insert_counting.Goals as goal
 
 pub returns-in-Err-clause-ok : goal.returns-in-Err-clause-ok
@@ -7,3 +8,6 @@ returns-in-Err-clause-ok g c =
 
 pub returns-in-Err-clause-replaced : goal.returns-in-Err-clause-replaced
 returns-in-Err-clause-replaced g c = λ known. absurd (c.in-Err.ensures.apart.apart known.index known.below known.here)
+
+pub returns-in-Ok-clause-data : goal.returns-in-Ok-clause-data
+returns-in-Ok-clause-data g c = overwritten_keeps g.V.HasPosition.place c.args.self.now c.overwrite.new.self _ c.num_vertices.ensures.kept c.overwrite.ensures
