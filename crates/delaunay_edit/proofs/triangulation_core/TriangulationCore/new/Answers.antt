@@ -1,4 +1,3 @@
-use Rattle.std.proofs.Common.{map}
 use Rattle.delaunay_edit.specs.State.{state_of}
 use Rattle.delaunay_edit.proofs.Delaunay.{constrained_delaunay, legal_empty}
 use Rattle.delaunay_edit.proofs.triangulation_core.TriangulationCore.new.Goals as goal
