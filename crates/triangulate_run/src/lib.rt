@@ -15,3 +15,5 @@ pub mod reply;
 pub mod session;
 pub mod sheet;
 mod table;
+#[cfg(test)]
+mod tests;

@@ -1,0 +1,80 @@
+//! Commands that depend on what was inserted before them.
+
+use super::is_answered;
+use crate::sheet::Sheet;
+use std::test::Fail;
+
+#[test]
+fn nothing_is_there_at_first(rt: HostRuntime) -> Result<(), Fail> {
+    let dialogue = [
+        ("counts", "0 0 0 0"),
+        ("faces", "end"),
+        ("locate 0 0", "no triangulation"),
+        ("locate 2 0", "unknown point"),
+    ];
+    assert!(rt; is_answered(rt.alloc(), Sheet::G, &dialogue)?);
+    Ok(())
+}
+
+#[test]
+fn three_vertices_have_a_face(rt: HostRuntime) -> Result<(), Fail> {
+    let dialogue = [
+        ("insert 0 1", "vertex 0"),
+        ("insert 1 1", "vertex 1"),
+        ("counts", "2 1 0 0"),
+        ("insert 1 0", "vertex 2"),
+        ("counts", "3 3 1 0"),
+        ("faces", "0 2 1\nend"),
+    ];
+    assert!(rt; is_answered(rt.alloc(), Sheet::G, &dialogue)?);
+    Ok(())
+}
+
+#[test]
+fn a_vertex_on_a_line_is_met_again(rt: HostRuntime) -> Result<(), Fail> {
+    let dialogue = [
+        ("insert 0 0", "vertex 0"),
+        ("insert 2 0", "unknown point"),
+        ("insert 0 0", "vertex 0"),
+        ("counts", "1 0 0 0"),
+        ("insert 1 0", "vertex 1"),
+        ("insert -1 0", "vertex 2"),
+        ("locate 0 0", "vertex 0"),
+        ("locate 1 1", "outside"),
+        ("locate 5 5", "unknown point"),
+        ("counts", "3 2 0 0"),
+    ];
+    assert!(rt; is_answered(rt.alloc(), Sheet::G, &dialogue)?);
+    Ok(())
+}
+
+#[test]
+fn a_point_is_on_an_edge_in_a_face_or_outside(rt: HostRuntime) -> Result<(), Fail> {
+    let dialogue = [
+        ("insert -1 -1", "vertex 0"),
+        ("locate 0 -1", "no triangulation"),
+        ("insert 1 -1", "vertex 1"),
+        ("locate 0 -1", "edge 0-1"),
+        ("locate 0 1", "outside"),
+        ("insert 0 1", "vertex 2"),
+        ("locate 0 0", "face 0 1 2"),
+        ("locate 1 1", "outside"),
+        ("faces", "0 1 2\nend"),
+    ];
+    assert!(rt; is_answered(rt.alloc(), Sheet::G, &dialogue)?);
+    Ok(())
+}
+
+#[test]
+fn a_coordinate_out_of_range_is_refused_first(rt: HostRuntime) -> Result<(), Fail> {
+    let dialogue = [
+        ("insert 536870913 0", "refused TooLarge"),
+        ("insert 0 -536870913", "refused TooLarge"),
+        ("insert 999999999999999999 0", "refused TooLarge"),
+        ("insert 536870912 0", "unknown point"),
+        ("locate 999999999999999999 0", "unknown point"),
+        ("counts", "0 0 0 0"),
+    ];
+    assert!(rt; is_answered(rt.alloc(), Sheet::G, &dialogue)?);
+    Ok(())
+}
