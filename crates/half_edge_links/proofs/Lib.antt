@@ -62,3 +62,6 @@ pub mod Outline
 pub mod OutlineTaken
 pub mod Walks
 pub mod OutlineRound
+pub mod PassReads
+pub mod Passing
+pub mod PassKept

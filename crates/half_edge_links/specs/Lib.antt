@@ -13,3 +13,4 @@ pub mod Taken
 pub mod Flow
 pub mod Round
 pub mod Hull
+pub mod Pass

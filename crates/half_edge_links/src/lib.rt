@@ -6,6 +6,7 @@ mod laws;
 mod line;
 mod links;
 mod outside;
+mod pass;
 mod records;
 mod removal;
 mod room;

@@ -1,0 +1,53 @@
+//! An edge of a line that passes a vertex.
+ghost use Rattle.std.specs.Prelude.{◌≡◌, ◌<◌, length, vec_capacity};
+ghost use Rattle.half_edge_links.specs.Hull.{KeepsOneOutline};
+ghost use Rattle.half_edge_links.specs.Mesh.{origin, next, rev, IsSound};
+ghost use Rattle.half_edge_links.specs.Outline.{MovesEdge};
+ghost use Rattle.half_edge_links.specs.Pass.{passed_edges, passed, IsPassable, Passes};
+
+use crate::links::Links;
+use crate::records::{HalfEdge, read, reversed, set_next, set_origin, set_prev};
+
+// Lets edge `e`, with other side `t`, end at the far end of the edge `l` after it, whose other side is `k`; `z` is
+// the edge before `k`.
+#[tactic(auto, unfolding(crate::specs::Pass::passed_edges))]
+fn pass_edges(half_edges: &mut Vec<HalfEdge>, e: u32, t: u32, k: u32, l: u32, z: u32)
+    requires e { e < length half_edges.old.items }
+    requires t { t < length half_edges.old.items }
+    requires k { k < length half_edges.old.items }
+    requires l { l < length half_edges.old.items }
+    requires z { z < length half_edges.old.items }
+    ensures items { half_edges.new.items ≡ passed_edges half_edges.old.items e t k l z }
+    ensures capacity { vec_capacity half_edges.new ≡ vec_capacity half_edges.old }
+{
+    let far = half_edges[k as usize].origin;
+    set_next(half_edges, e, k);
+    set_next(half_edges, z, t);
+    set_next(half_edges, k, l);
+    set_prev(half_edges, l, k);
+    set_prev(half_edges, k, e);
+    set_prev(half_edges, t, z);
+    set_origin(half_edges, t, far);
+}
+
+impl Links {
+    /// Lets edge `e` of a line pass the vertex at its end, and end where the edge after it ends. The vertex is left
+    /// hanging there, by the edge after `e`.
+    pub fn pass(&mut self, e: u32)
+        requires { IsPassable self.old.mesh e }
+        ensures mesh { self.new.mesh ≡ passed self.old.mesh e }
+        ensures room { self.new.room ≡ self.old.room }
+        ensures sound { IsSound self.old.mesh }
+        ensures ends { let m = self.old.mesh in MovesEdge m self.new.mesh e (origin m e) (origin m (rev (next m e))) }
+        ensures links { let m = self.old.mesh in Passes m self.new.mesh e (rev (next m e)) (next m e) }
+        ensures outline { KeepsOneOutline self.old.mesh self.new.mesh }
+    {
+        let t = reversed(e);
+        let l = read(&self.half_edges, e).next;
+        let k = read(&self.half_edges, t).prev;
+        let there = read(&self.half_edges, k);
+        let passed = read(&self.half_edges, l).origin;
+        pass_edges(&mut self.half_edges, e, t, k, l, there.prev);
+        self.out_edges[passed as usize] = Some(l);
+    }
+}
