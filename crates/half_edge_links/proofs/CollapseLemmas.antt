@@ -39,22 +39,22 @@ removable_last m z s f =
     }
 
 module _ (m new : Mesh) (z : ℕ) (s : IsSound m) (f : IsFanOfOne m z) (r : Removes m new z) where
-  abbrev can : IsUnlinkable m z
+  abbrev pub can : IsUnlinkable m z
   can = removable_last m z s f
 
-  b3 : IsLeft m z (next m z)
+  pub b3 : IsLeft m z (next m z)
   b3 = record { within = (s.edges z f.within).next_in; other = f.first_off.0; other_side = f.first_off.1 }
 
-  b1 : IsLeft m z (next m (next m z))
+  pub b1 : IsLeft m z (next m (next m z))
   b1 = record { within = (s.edges _ b3.within).next_in; other = f.second_off.0; other_side = f.second_off.1 }
 
-  b2 : IsLeft m z (next m (next m (next m z)))
+  pub b2 : IsLeft m z (next m (next m (next m z)))
   b2 = record { within = (s.edges _ b1.within).next_in; other = f.third_off.0; other_side = f.third_off.1 }
 
-  before : prev m z ≡ rev z
+  pub before : prev m z ≡ rev z
   before = ap (prev m) (sym f.pendant) ∙ (s.edges (rev z) (rev_within z (length m.half_edges) s.even f.within)).prev_next
 
-  twin_before : prev m (rev z) ≡ next m (next m (next m z))
+  pub twin_before : prev m (rev z) ≡ next m (next m (next m z))
   twin_before = ap (prev m) (sym f.round) ∙ (s.edges _ b2.within).prev_next
 
   -- what is left is a loop of three edges
@@ -141,7 +141,7 @@ module _ (m mid new : Mesh) (a z : ℕ) (s : IsSound m) (f : IsFanOfTwo m a z) (
   z_twin : z ≢ rev a
   z_twin q = f.peelable.ends (sym f.same ∙ ap (origin m) q)
 
-  z_left : IsLeft mid a z
+  pub z_left : IsLeft mid a z
   z_left = left z f.within (off_a z z_face).0 z_twin
 
   c3_twin : next m z ≢ rev a
@@ -150,19 +150,19 @@ module _ (m mid new : Mesh) (a z : ℕ) (s : IsSound m) (f : IsFanOfTwo m a z) (
   c1_z : next m (next m z) ≢ z
   c1_z q = f.off (ap (origin m) q ∙ f.same)
 
-  c3_left : IsLeft mid a (next m z)
+  pub c3_left : IsLeft mid a (next m z)
   c3_left = left (next m z) c3_in (off_a _ c3_face).0 c3_twin
 
-  c1_left : IsLeft mid a (next m (next m z))
+  pub c1_left : IsLeft mid a (next m (next m z))
   c1_left = left (next m (next m z)) c1_in (off_a _ c1_face).0 (λ q. z_twin (sym f.gap ∙ sym (ap (next m) q) ∙ f.round))
 
-  c2_left : IsLeft mid a (next m a)
+  pub c2_left : IsLeft mid a (next m a)
   c2_left = left (next m a) at_a.next_in at_a.next_differs (λ q. absurd (omega (arith, ap (face m) q, at_a.face_next, f.peelable.inner, f.peelable.outer)))
 
   w_left : IsLeft mid a (rev z)
   w_left = left (rev z) (rw (← a_before) at_a.prev_in) (λ q. at_a.prev_differs (a_before ∙ q)) (λ q. (off_a z z_face).0 (sym (rev-rev z) ∙ ap rev q ∙ rev-rev a))
 
-  abbrev nm : ℕ → ℕ
+  abbrev pub nm : ℕ → ℕ
   nm k = name mid new a s1 can1 r k
 
   step : (k : ℕ) → IsLeft mid a k → k ≢ rev z → k ≢ next m (next m z) → next new (nm k) ≡ nm (next m k)
@@ -178,7 +178,7 @@ module _ (m mid new : Mesh) (a z : ℕ) (s : IsSound m) (f : IsFanOfTwo m a z) (
   off_c2 : (k : ℕ) → face m k ≡ 0 → next m a ≢ k
   off_c2 k zero q = (off_a k zero).1 (sym q)
 
-  nz : next new (nm z) ≡ nm (next m z)
+  pub nz : next new (nm z) ≡ nm (next m z)
   nz = step z z_left (λ q. rev_differs z (sym q)) (λ q. c1_z (sym q))
 
   n3 : next new (nm (next m z)) ≡ nm (next m (next m z))
@@ -202,16 +202,16 @@ module _ (m mid new : Mesh) (a z : ℕ) (s : IsSound m) (f : IsFanOfTwo m a z) (
   same : (x y : ℕ) → IsLeft mid a x → IsLeft mid a y → nm x ≡ nm y → x ≡ y
   same x y p q = name_same mid new a s1 can1 r x y p q
 
-  origin_now : (k : ℕ) → IsLeft mid a k → origin new (nm k) ≡ origin m k
+  pub origin_now : (k : ℕ) → IsLeft mid a k → origin new (nm k) ≡ origin m k
   origin_now k l = origin_at mid new a s1 can1 r k l ∙ o.origin k
 
   face_zero : (k : ℕ) → k < length m.half_edges → face m k ≡ 0 → face mid k ≡ 0
   face_zero k within zero = o.other k within (λ q. absurd (omega (arith, zero, inner.0))) (λ q. absurd (omega (arith, zero, inner.0, inner.1))) ∙ zero
 
-  to1 : next new (next new (nm z)) ≡ nm (next m (next m z))
+  pub to1 : next new (next new (nm z)) ≡ nm (next m (next m z))
   to1 = ap (next new) nz ∙ n3
 
-  to2 : next new (next new (next new (nm z))) ≡ nm (next m a)
+  pub to2 : next new (next new (next new (nm z))) ≡ nm (next m a)
   to2 = ap (next new) to1 ∙ n1
 
   pub fan_of_one : IsFanOfOne new (name mid new a s1 can1 r z)

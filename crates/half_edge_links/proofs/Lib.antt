@@ -65,3 +65,4 @@ pub mod OutlineRound
 pub mod PassReads
 pub mod Passing
 pub mod PassKept
+pub mod WheelEnds

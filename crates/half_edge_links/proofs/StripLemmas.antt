@@ -77,10 +77,10 @@ module _ (m mid new : Mesh) (h k : ℕ) (s : IsSound m) (f : IsFullStrip m h (su
   left : (g : ℕ) → g < length m.half_edges → g ≢ h → g ≢ rev h → IsLeft mid h g
   left g within p q = record { within = rw o.edge_count within; other = p; other_side = q }
 
-  spoke_left : (i : ℕ) → i < suc k → IsLeft mid h (spoke m h (suc i))
+  pub spoke_left : (i : ℕ) → i < suc k → IsLeft mid h (spoke m h (suc i))
   spoke_left i less = left _ (at (suc i)).0 (λ q. other_face i less (ap (face m) q)) (λ q. f.ends 0 (omega arith) (sym (ap (origin m) q) ∙ (at (suc i)).1))
 
-  twin_left : (i : ℕ) → i < suc k → IsLeft mid h (rev (spoke m h (suc i)))
+  pub twin_left : (i : ℕ) → i < suc k → IsLeft mid h (rev (spoke m h (suc i)))
   twin_left i less = left _ (twin_in i) (λ q. f.ends (suc i) (omega arith) (ap (origin m) q)) (λ q. (spoke_left i less).other (sym (rev-rev (spoke m h (suc i))) ∙ ap rev q ∙ rev-rev h))
 
   before : prev mid h ≡ rev (spoke m h 1)
@@ -106,16 +106,16 @@ module _ (m mid new : Mesh) (h k : ℕ) (s : IsSound m) (f : IsFullStrip m h (su
   spokes zero less = refl
   spokes (suc i) less = ap (turn new) (spokes i (omega arith)) ∙ turn_now i (omega arith)
 
-  origin_now : (g : ℕ) → IsLeft mid h g → origin new (nm g) ≡ origin m g
+  pub origin_now : (g : ℕ) → IsLeft mid h g → origin new (nm g) ≡ origin m g
   origin_now g l = origin_at mid new h s1 can r g l ∙ o.origin g
 
-  rev_now : (i : ℕ) → i < suc k → rev (nm (spoke m h (suc i))) ≡ nm (rev (spoke m h (suc i)))
+  pub rev_now : (i : ℕ) → i < suc k → rev (nm (spoke m h (suc i))) ≡ nm (rev (spoke m h (suc i)))
   rev_now i less = rev_at mid new h s1 can r _ (spoke_left i less)
 
   zero_now : (g : ℕ) → g < length m.half_edges → IsLeft mid h g → face m g ≡ 0 → face new (nm g) ≡ 0
   zero_now g within l none = face_at mid new h s1 can r g l ∙ o.other g within (λ q. absurd (omega (arith, none, inner_h.0))) (λ q. absurd (omega (arith, none, inner_h.0, inner_h.1))) ∙ none
 
-  start : origin new (nm (turn m h)) ≡ origin m h
+  pub start : origin new (nm (turn m h)) ≡ origin m h
   start = origin_now _ (spoke_left 0 (omega arith)) ∙ (at 1).1
 
   -- past the last spoke there is an edge of the rest
@@ -179,6 +179,18 @@ strip_from m new h k at s f p is =
     let g = strip_less m p.opened new h k s f p.opens p.removes in
     let same : at ≡ pair_moved (length p.opened.half_edges - 2) (h - h % 2) (turn m h) = is ∙ ap (λ n. pair_moved (n - 2) (h - h % 2) (turn m h)) (sym p.opens.edge_count) in
     rw same g
+
+-- its edges end where the same edges ended before
+pub strip_ends : (m new : Mesh) (h k at : ℕ) → IsSound m → IsFullStrip m h (suc k) → Peels m new h → at ≡ after_removal m h (turn m h) → (origin new at ≡ origin m h) × ((i : ℕ) → i ≤ k → origin new (rev (spoke new at i)) ≡ origin m (rev (spoke m h (suc i))))
+strip_ends m new h k at s f p is =
+    let same : at ≡ pair_moved (length p.opened.half_edges - 2) (h - h % 2) (turn m h) = is ∙ ap (λ n. pair_moved (n - 2) (h - h % 2) (turn m h)) (sym p.opens.edge_count) in (
+      ap (origin new) same ∙ start m p.opened new h k s f p.opens p.removes,
+      λ i less.
+          ap (λ j. origin new (rev (spoke new j i))) same
+          ∙ ap (λ j. origin new (rev j)) (spokes m p.opened new h k s f p.opens p.removes i less)
+          ∙ ap (origin new) (rev_now m p.opened new h k s f p.opens p.removes i (omega (arith, less)))
+          ∙ origin_now m p.opened new h k s f p.opens p.removes _ (twin_left m p.opened new h k s f p.opens p.removes i (omega (arith, less))),
+    )
 
 -- as long as the first edge has an inner face, there is one more
 pub one_more : (m : Mesh) (h k : ℕ) → IsStrip m h k → 0 < face m h → (j : ℕ) × (k ≡ suc j)

@@ -118,20 +118,20 @@ module _ (m : Mesh) (o : ℕ) (s : IsSound m) (w : IsFullWheel m o) where
       twin_face : face m (rev o) ≡ face m (turn m (turn m o))
       twin_face = ap (face m) (sym before_z) ∙ (t3).face_prev
 
-      a_left : IsLeft mid o (turn m o)
+      pub a_left : IsLeft mid o (turn m o)
       a_left = left _ a_in (λ q. w.first_apart (sym (ap (face m) q))) (λ q. w.second_apart (ap (face m) q ∙ twin_face))
 
       z_left : IsLeft mid o (turn m (turn m o))
       z_left = left _ z_in (λ q. w.third_apart (ap (face m) q)) (λ q. (t3).prev_differs (before_z ∙ sym q))
 
-      b1_left : IsLeft mid o (next m o)
+      pub b1_left : IsLeft mid o (next m o)
       b1_left = left _ (t1).next_in (t1).next_differs (λ q. w.third_apart (sym (sym (t1).face_next ∙ ap (face m) q ∙ twin_face)))
 
-      b3_left : IsLeft mid o (next m (turn m (turn m o)))
+      pub b3_left : IsLeft mid o (next m (turn m (turn m o)))
       b3_left = left _ (t3).next_in (λ q. w.third_apart (sym (t3).face_next ∙ ap (face m) q)) (λ q. (t3).both_differ (q ∙ sym before_z))
 
       -- the other sides of the two spokes that are left
-      ra_left : IsLeft mid o (rev (turn m o))
+      pub ra_left : IsLeft mid o (rev (turn m o))
       ra_left = rw (← before_o) (left (prev m o) (t1).prev_in (t1).prev_differs (λ q. w.third_apart (sym (sym (t1).face_prev ∙ ap (face m) q ∙ twin_face))))
 
       rz_left : IsLeft mid o (rev (turn m (turn m o)))
@@ -156,10 +156,10 @@ module _ (m : Mesh) (o : ℕ) (s : IsSound m) (w : IsFullWheel m o) where
       gap : next new (nm (rev (turn m o))) ≡ nm (turn m (turn m o))
       gap = next_before mid new o s2 can r _ ra_left (sym mid_before) ∙ ap nm (next_is (rev o) ∙ ap (next m) (sym before_z) ∙ (t3).next_prev)
 
-      nz : next new (nm (turn m (turn m o))) ≡ nm (next m (turn m (turn m o)))
+      pub nz : next new (nm (turn m (turn m o))) ≡ nm (next m (turn m (turn m o)))
       nz = step _ z_left (λ q. w.third_apart (ap (face m) q ∙ ra_face)) (λ q. (t3).next_differs (sym q))
 
-      n3 : next new (nm (next m (turn m (turn m o)))) ≡ nm (next m o)
+      pub n3 : next new (nm (next m (turn m (turn m o)))) ≡ nm (next m o)
       n3 = next_twin_before mid new o s2 can r _ b3_left (sym mid_twin_before) ∙ ap nm (next_is o)
 
       n1 : next new (nm (next m o)) ≡ nm (rev (turn m o))
@@ -168,16 +168,16 @@ module _ (m : Mesh) (o : ℕ) (s : IsSound m) (w : IsFullWheel m o) where
       nrz : next new (nm (rev (turn m (turn m o)))) ≡ nm (turn m o)
       nrz = step _ rz_left (λ q. w.first_apart (sym (sym rz_face ∙ ap (face m) q ∙ ra_face))) (λ q. w.second_apart (sym rz_face ∙ ap (face m) q ∙ (t3).face_next)) ∙ ap nm (ap (next m) (sym before_a) ∙ (t2).next_prev)
 
-      s3 : IsSound new
+      pub s3 : IsSound new
       s3 = sound_removed mid new o r
 
       prev_a : prev new (nm (turn m o)) ≡ nm (rev (turn m (turn m o)))
       prev_a = ap (prev new) (sym nrz) ∙ (s3.edges _ (name_in mid new o s2 can r _ rz_left)).prev_next
 
-      origin_now : (k : ℕ) → IsLeft mid o k → origin new (nm k) ≡ origin m k
+      pub origin_now : (k : ℕ) → IsLeft mid o k → origin new (nm k) ≡ origin m k
       origin_now k l = origin_at mid new o s2 can r k l ∙ origin_is k
 
-      rev_a : rev (nm (turn m o)) ≡ nm (rev (turn m o))
+      pub rev_a : rev (nm (turn m o)) ≡ nm (rev (turn m o))
       rev_a = rev_at mid new o s2 can r _ a_left
 
       rev_z : rev (nm (turn m (turn m o))) ≡ nm (rev (turn m (turn m o)))

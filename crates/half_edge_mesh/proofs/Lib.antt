@@ -8,3 +8,12 @@ pub mod Walks
 pub mod Loops
 pub mod Joined
 pub mod Turning
+pub mod TakenOut
+pub mod TakenEdges
+pub mod OuterSums
+pub mod Dropped
+pub mod TwoEdges
+pub mod LineChanges
+pub mod StripSteps
+pub mod HoleSteps
+pub mod LineSteps

@@ -3,8 +3,10 @@ use Rattle.std.proofs.Common.{◌≡◌, ◌≢◌, ◌⊎◌, ℕ, zero, suc, �
 use Rattle.std.specs.Borrow.{Bor}
 use Rattle.std.proofs.lemmas.Bool.{cases_eq, cases_lt}
 use Rattle.half_edge_links.specs.Mesh.{Mesh, IsSound, IsValid, next, prev, face, out_edge, iterate}
+use Rattle.half_edge_links.specs.Hull.{HasOneOutline, IsClosedAlong}
 use Rattle.half_edge_links.specs.Peel.{turn}
 use Rattle.half_edge_links.specs.Round.{IsRound}
+use Rattle.half_edge_links.proofs.Walks.{among_steps, to_steps, from_steps, steps_closed}
 use Rattle.half_edge_links.proofs.Orbits.{comes_back}
 use Rattle.half_edge_links.proofs.OneOrbit.{edges_go_round}
 use Rattle.half_edge_links.proofs.Conditions.{turn_in, turn_one}
@@ -76,6 +78,15 @@ module _ (m : Mesh) (first : ℕ) where
         let again : next m (iterate (next m) i first) ≡ next m (iterate (next m) (i + d) first) = rw e at same in
         back_by i d (sym (s.edges _ (along_in i)).prev_next ∙ ap (prev m) again ∙ (s.edges _ (along_in (i + d))).prev_next)
 
+    -- where there is one loop, it has each outer edge
+    all_along : (count : ℕ) → 0 < count → iterate (next m) count first ≡ first → HasOneOutline m → (h : ℕ) → h < length m.half_edges → face m h ≡ 0 → (i : ℕ) × (i < count) × (h ≡ iterate (next m) i first)
+    all_along count some back one h within outer =
+        let last : suc (count - 1) ≡ count = omega (arith, some) in
+        let round : next m (iterate (next m) (count - 1) first) ≡ first = ap (λ j. iterate (next m) j first) last ∙ back in
+        let closed : IsClosedAlong m (among_steps (next m) first (count - 1)) = λ g g_in zero is. steps_closed (next m) first (count - 1) round g is in
+        let at = from_steps (next m) first (count - 1) h (one (among_steps (next m) first (count - 1)) closed first h first_in within first_outer outer (to_steps (next m) first (count - 1) 0 (omega arith))) in
+        (at.0, omega (arith, at.1, some), at.2)
+
     outer_loop : (count : ℕ) × IsOuterLoop m first count × (count ≤ length m.half_edges)
     outer_loop =
         let k = comes_back (next m) (length m.half_edges) (λ a a_in. (s.edges a a_in).next_in) (λ a b a_in b_in same. sym (s.edges a a_in).prev_next ∙ ap (prev m) same ∙ (s.edges b b_in).prev_next) first first_in in
@@ -91,6 +102,7 @@ module _ (m : Mesh) (first : ℕ) where
               apart = λ i j less j_in same.
                   let d : i + (j - i) ≡ j = omega (arith, less) in
                   found.4 (j - i) (omega (arith, less)) (omega (arith, less, j_in)) (sym (back_by i (j - i) (same ∙ ap (λ q. iterate (next m) q first) (sym d))));
+              all = λ one h within outer. all_along found.0 found.1 found.3 one h within outer;
             },
             found.2,
           )

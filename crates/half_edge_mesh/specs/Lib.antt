@@ -2,6 +2,7 @@ pub mod Contents
 pub mod Growth
 pub mod Left
 pub mod Mapped
+pub mod Removal
 pub mod Rounds
 pub mod Voronoi
 pub mod Writing

@@ -2,6 +2,7 @@
 use Rattle.std.specs.Prelude.{◌≡◌, ◌≢◌, ℕ, zero, suc, ◌<◌, ◌==◌, List, [], ◌∷◌, length, map, Some, None, if◌then◌else◌}
 use Rattle.std.specs.List.{range_with_len}
 use Rattle.std.specs.Borrow.{Bor}
+use Rattle.half_edge_links.specs.Hull.{HasOneOutline}
 use Rattle.half_edge_links.specs.Mesh.{Mesh, next, face, out_edge, iterate}
 use Rattle.half_edge_links.specs.Peel.{turn, spoke}
 use Rattle.half_edge_links.specs.Round.{IsRound}
@@ -27,13 +28,14 @@ pub record GivesRound {V D U F : Type 0} (dcel : Bor (Contents V D U F)) (v : �
   pub round : (first : ℕ) → out_edge dcel.now.mesh v ≡ Some first → (count : ℕ) × IsRound dcel.now.mesh v first count × (given ≡ each_in dcel (map (spoke dcel.now.mesh first) (range_with_len 0 count)))
 
 -- so many edges follow each other from edge first on, each once and with the outer face on its left, and then
--- the first comes again
+-- the first comes again; where the outer face has one loop, these are all its edges
 pub record IsOuterLoop (m : Mesh) (first count : ℕ) : Type 0 where
   pub some : 0 < count
   pub back : iterate (next m) count first ≡ first
   pub within : (i : ℕ) → iterate (next m) i first < length m.half_edges
   pub outer : (i : ℕ) → face m (iterate (next m) i first) ≡ 0
   pub apart : (i j : ℕ) → i < j → j < count → iterate (next m) i first ≢ iterate (next m) j first
+  pub all : HasOneOutline m → (h : ℕ) → h < length m.half_edges → face m h ≡ 0 → (i : ℕ) × (i < count) × (h ≡ iterate (next m) i first)
 
 -- the outer loop from the edge on that the outer face names
 pub record GivesOuterLoop {V D U F : Type 0} (dcel : Bor (Contents V D U F)) (given : List (Bor (Contents V D U F) × ℕ)) : Type 0 where

@@ -2,12 +2,14 @@
 #![tactic(auto)]
 
 mod dcel;
+mod degenerate;
 mod edge;
 mod face;
 mod fixed_iterators;
 mod growth;
 mod handles;
 mod inside;
+mod isolation;
 mod iterators;
 mod line;
 mod lookup;
@@ -18,6 +20,7 @@ mod room;
 #[cfg(test)]
 mod room_tests;
 mod rounds;
+mod taking;
 #[cfg(test)]
 mod tests;
 mod vertex;
@@ -31,10 +34,11 @@ pub use face::FaceHandle;
 pub use fixed_iterators::{
     FixedDirectedEdgeIterator, FixedFaceIterator, FixedUndirectedEdgeIterator, FixedVertexIterator,
 };
-pub use half_edge_links::{MAX_ELEMENTS, ReserveError, are_few_enough};
+pub use half_edge_links::{MAX_ELEMENTS, ReserveError, are_few_enough, is_full};
 pub use handles::{
     FixedDirectedEdgeHandle, FixedFaceHandle, FixedUndirectedEdgeHandle, FixedVertexHandle,
 };
+pub use isolation::IsolateVertexResult;
 pub use iterators::{DirectedEdgeIterator, FaceIterator, UndirectedEdgeIterator, VertexIterator};
 pub use rounds::{CircularIterator, HullIterator};
 pub use vertex::VertexHandle;

@@ -1,0 +1,7 @@
+use Rattle.half_edge_mesh.proofs.dcel.Dcel.remove_when_degenerate.Goals as goal
+
+pub swap_remove_vertex-requires : goal.swap_remove_vertex-requires
+swap_remove_vertex-requires g c = (rw c.index.ensures at c.leave_line.ensures).alone
+
+pub returns : goal.returns
+returns g c = record { between = c.leave_line.new.self; leaves = rw c.index.ensures at c.leave_line.ensures; drops = c.swap_remove_vertex.ensures }
