@@ -18,8 +18,8 @@ use half_edge_mesh::{
 use std::alloc::Global;
 use std::marker::Model;
 
-/// A triangulation of vertices with different positions: its faces tile the hull of the positions, or its edges join the
-/// positions of one line to their neighbours.
+/// A triangulation of vertices with different positions: its faces tile the hull of the positions, and none has a vertex
+/// strictly inside its circle, or its edges join the positions of one line to their neighbours.
 #[derive(Drop)]
 pub struct TriangulationCore<V: HasPosition, DE, UE, F> {
     pub(crate) dcel: Dcel<V, DE, UE, F>,

@@ -26,8 +26,9 @@ use half_edge_mesh::{
 use std::alloc::Global;
 use std::marker::Model;
 
-/// A triangulation of vertices with different positions. Its inner faces turn left and tile the hull of the positions;
-/// where these are on one line there is none, and edges join the neighbours.
+/// A triangulation of vertices with different positions. Its inner faces turn left and tile the hull of the positions,
+/// and none has a vertex strictly inside its circle; where the positions are on one line there is no inner face, and
+/// edges join the neighbours.
 #[derive(Drop)]
 pub struct DelaunayTriangulation<V: HasPosition, DE, UE, F> {
     core: TriangulationCore<V, DE, UE, F>,
