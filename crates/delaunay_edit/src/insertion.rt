@@ -60,7 +60,6 @@ impl<V: HasPosition + Drop, DE: Default, UE: Default, F: Default> TriangulationC
         requires apart { IsApart (map V.place self.old.vertices) (V.place value) }
         requires location { Locates (map V.place self.old.vertices) self.old.mesh (V.place value) location }
         requires turns { IsTrue turns ↔ IsLeftOfPlace (map V.place self.old.vertices) self.old.mesh (V.place value) location }
-        requires few { length self.old.vertices < 3 }
         requires sites { All (P.sites tests.now) (map V.place self.old.vertices) }
         requires new_site { P.sites tests.now (V.place value) }
         requires fits { FlipsFit (length self.old.vertices + 1) flips.old }
@@ -75,7 +74,7 @@ impl<V: HasPosition + Drop, DE: Default, UE: Default, F: Default> TriangulationC
     {
         reserve_for_vertex(&mut self.dcel)?;
         reserve_for_edges(&mut self.work, 3 * (self.dcel.num_vertices() + 1))?;
-        let vertex = insert_at(&mut self.dcel, location, turns, value);
+        let vertex = insert_at(&mut self.dcel, location, turns, value, tests);
         legalize_all(&mut self.dcel, tests, &mut self.work, flips);
         Ok(vertex)
     }
@@ -137,7 +136,6 @@ impl<V: HasPosition + Drop, DE: Default, UE: Default, F: Default> TriangulationC
     ) -> Result<FixedVertexHandle, InsertionError>
         requires sites { All (P.sites tests.now) (map V.place self.old.vertices) }
         requires new_site { InRange (V.place value) → P.sites tests.now (V.place value) }
-        requires few { InRange (V.place value) → ¬ IsKnown (map V.place self.old.vertices) (V.place value) → length self.old.vertices < 3 }
 
         ensures too_large { IsErrOf result TooLarge ↔ ¬ InRange (V.place value) }
         ensures known { InRange (V.place value) → IsKnown (map V.place self.old.vertices) (V.place value) → IsOk result }
@@ -165,7 +163,6 @@ impl<V: HasPosition + Drop, DE: Default, UE: Default, F: Default> TriangulationC
     ) -> Result<FixedVertexHandle, InsertionError>
         requires sites { All (P.sites tests.now) (map V.place self.old.vertices) }
         requires new_site { InRange (V.place value) → P.sites tests.now (V.place value) }
-        requires few { InRange (V.place value) → ¬ IsKnown (map V.place self.old.vertices) (V.place value) → length self.old.vertices < 3 }
         requires fits { FlipsFit (length self.old.vertices + 1) flips.old }
 
         ensures too_large { IsErrOf result TooLarge ↔ ¬ InRange (V.place value) }

@@ -1,6 +1,7 @@
-//! New vertices in a mesh with faces: inside a face, and within an edge.
-ghost use Rattle.std.specs.Prelude.{◌≡◌, ◌↔◌, ◌<◌, ◌≤◌, ◌++◌, ◌∷◌, [], length, map, IsTrue};
+//! A new vertex at any position that no vertex has: inside a face, within an edge, or outside.
+ghost use Rattle.std.specs.Prelude.{◌≡◌, ◌↔◌, ◌+◌, ◌*◌, ◌<◌, ◌≤◌, ◌++◌, ◌∷◌, [], length, map, All, IsTrue};
 ghost use Rattle.half_edge_links.specs.Mesh.{rev, face, face_edge};
+ghost use Rattle.half_edge_links.specs.Room.{HasRoomFor};
 ghost use Rattle.half_edge_mesh.specs.Contents.{HasRoom};
 ghost use Rattle.plane.specs.Tests.{InRange};
 ghost use Rattle.delaunay_edit.specs.Data.{GrowsAround};
@@ -8,10 +9,11 @@ ghost use Rattle.delaunay_edit.specs.Location.{IsApart, IsInsideFaceOf, IsLeftOf
 ghost use Rattle.delaunay_edit.specs.Shape.{IsKept};
 ghost use Rattle.delaunay_edit.specs.State.{state_of};
 
-use crate::insertion_line::{
-    insert_first, insert_first_face, insert_past_end, insert_second, insert_within_line,
-};
+use crate::insertion_line::{insert_first, insert_past_end, insert_second, insert_within_line};
+use crate::insertion_outside::join_outside;
+use crate::legalization::is_outer;
 use crate::position_in_triangulation::PositionInTriangulation;
+use delaunay_core::math::PlaneTests;
 use delaunay_core::point::HasPosition;
 use half_edge_mesh::{Dcel, FixedDirectedEdgeHandle, FixedFaceHandle, FixedVertexHandle};
 
@@ -83,31 +85,67 @@ pub(crate) fn split_hull_edge<V: HasPosition, DE: Default, UE: Default, F: Defau
     vertex
 }
 
-// The new last vertex at a position that no vertex has, where there are fewer than three vertices. `turns` says whether
-// the position is strictly on the left of the edge that the location names.
-pub(crate) fn insert_at<V: HasPosition, DE: Default, UE: Default, F: Default>(
+// A vertex strictly within an edge.
+fn insert_within_edge<V: HasPosition, DE: Default, UE: Default, F: Default>(
     dcel: &mut Dcel<V, DE, UE, F>,
-    location: PositionInTriangulation,
-    turns: bool,
+    edge: FixedDirectedEdgeHandle,
     value: V,
 ) -> FixedVertexHandle
     requires kept { IsKept V.place (state_of dcel.old) }
     requires in_range { InRange (V.place value) }
+    requires within { edge < length dcel.old.directed }
+    requires on_edge { IsWithinEdge (map V.place dcel.old.vertices) dcel.old.mesh (V.place value) edge }
+    requires room { HasRoomFor dcel.old.room (length dcel.old.vertices + 1) (3 * (length dcel.old.vertices + 1)) (2 * (length dcel.old.vertices + 1)) }
+    ensures vertex { result ≡ length dcel.old.vertices }
+    ensures vertices { dcel.new.vertices ≡ dcel.old.vertices ++ value ∷ [] }
+    ensures kept { IsKept V.place (state_of dcel.new) }
+    ensures grows { GrowsAround (map V.place dcel.old.vertices) (V.place value) (state_of dcel.old) (state_of dcel.new) }
+{
+    if dcel.num_inner_faces() == 0 {
+        insert_within_line(dcel, edge, value)
+    } else if is_outer(dcel, edge) {
+        split_hull_edge(dcel, edge.rev(), value)
+    } else if is_outer(dcel, edge.rev()) {
+        split_hull_edge(dcel, edge, value)
+    } else {
+        split_inner_edge(dcel, edge, value)
+    }
+}
+
+// The new last vertex at a position that no vertex has. `turns` says whether the position is strictly on the left of the
+// edge that the location names.
+pub(crate) fn insert_at<
+    V: HasPosition,
+    DE: Default,
+    UE: Default,
+    F: Default,
+    P: PlaneTests<V::Scalar>,
+>(
+    dcel: &mut Dcel<V, DE, UE, F>,
+    location: PositionInTriangulation,
+    turns: bool,
+    value: V,
+    tests: &P,
+) -> FixedVertexHandle
+    requires kept { IsKept V.place (state_of dcel.old) }
+    requires in_range { InRange (V.place value) }
+    requires sites { All (P.sites tests.now) (map V.place dcel.old.vertices) }
+    requires new_site { P.sites tests.now (V.place value) }
     requires apart { IsApart (map V.place dcel.old.vertices) (V.place value) }
     requires location { Locates (map V.place dcel.old.vertices) dcel.old.mesh (V.place value) location }
     requires turns { IsTrue turns ↔ IsLeftOfPlace (map V.place dcel.old.vertices) dcel.old.mesh (V.place value) location }
-    requires few { length dcel.old.vertices < 3 }
-    requires room { HasRoom dcel.old 1 2 1 }
+    requires room { HasRoomFor dcel.old.room (length dcel.old.vertices + 1) (3 * (length dcel.old.vertices + 1)) (2 * (length dcel.old.vertices + 1)) }
     ensures vertex { result ≡ length dcel.old.vertices }
     ensures vertices { dcel.new.vertices ≡ dcel.old.vertices ++ value ∷ [] }
     ensures kept { IsKept V.place (state_of dcel.new) }
     ensures grows { GrowsAround (map V.place dcel.old.vertices) (V.place value) (state_of dcel.old) (state_of dcel.new) }
 {
     match location {
-        PositionInTriangulation::OnEdge(edge) => insert_within_line(dcel, edge, value),
+        PositionInTriangulation::OnFace(face) => insert_inside_face(dcel, face, value),
+        PositionInTriangulation::OnEdge(edge) => insert_within_edge(dcel, edge, value),
         PositionInTriangulation::OutsideOfConvexHull(edge) => {
             if turns {
-                insert_first_face(dcel, edge, value)
+                join_outside(dcel, edge, value, tests)
             } else {
                 insert_past_end(dcel, edge, value)
             }
@@ -121,10 +159,6 @@ pub(crate) fn insert_at<V: HasPosition, DE: Default, UE: Default, F: Default>(
         }
         PositionInTriangulation::OnVertex(vertex) => {
             let _ = vertex;
-            unreachable!()
-        }
-        PositionInTriangulation::OnFace(face) => {
-            let _ = face;
             unreachable!()
         }
     }

@@ -1,10 +1,8 @@
-//! New vertices while all are on one line, and the first face.
+//! New vertices on the line of all vertices.
 ghost use Rattle.std.specs.Prelude.{◌≡◌, ◌<◌, ◌++◌, ◌∷◌, [], length, map};
-ghost use Rattle.half_edge_links.specs.Mesh.{origin, rev, face};
+ghost use Rattle.half_edge_links.specs.Mesh.{origin};
 ghost use Rattle.half_edge_mesh.specs.Contents.{HasRoom};
 ghost use Rattle.plane.specs.Fraction.{whole as fraction};
-ghost use Rattle.plane.specs.Side.{TurnsLeft};
-ghost use Rattle.plane.specs.Pairs.{place};
 ghost use Rattle.plane.specs.Location.{IsPast};
 ghost use Rattle.plane.specs.Tests.{InRange};
 ghost use Rattle.plane_tiling.specs.Local.{alone};
@@ -57,7 +55,7 @@ pub(crate) fn insert_second<V: HasPosition, DE: Default, UE: Default, F>(
     vertex
 }
 
-// A third vertex past the end of a line of two, joined to that end.
+// A vertex past the end of the line of all vertices, joined to that end.
 pub(crate) fn insert_past_end<V: HasPosition, DE: Default, UE: Default, F>(
     dcel: &mut Dcel<V, DE, UE, F>,
     edge: FixedDirectedEdgeHandle,
@@ -66,7 +64,7 @@ pub(crate) fn insert_past_end<V: HasPosition, DE: Default, UE: Default, F>(
     requires kept { IsKept V.place (state_of dcel.old) }
     requires in_range { InRange (V.place value) }
     requires apart { IsApart (map V.place dcel.old.vertices) (V.place value) }
-    requires two { length dcel.old.vertices ≡ 2 }
+    requires one_face { length dcel.old.faces ≡ 0 }
     requires within { edge < length dcel.old.directed }
     requires past { IsPast (alone (map V.place dcel.old.vertices)) (origin dcel.old.mesh edge) (fraction (V.place value)) }
     requires room { HasRoom dcel.old 1 1 0 }
@@ -81,7 +79,7 @@ pub(crate) fn insert_past_end<V: HasPosition, DE: Default, UE: Default, F>(
     vertex
 }
 
-// A third vertex strictly within the edge of two.
+// A vertex strictly within an edge of the line of all vertices.
 pub(crate) fn insert_within_line<V: HasPosition, DE: Default, UE: Default, F>(
     dcel: &mut Dcel<V, DE, UE, F>,
     edge: FixedDirectedEdgeHandle,
@@ -89,7 +87,7 @@ pub(crate) fn insert_within_line<V: HasPosition, DE: Default, UE: Default, F>(
 ) -> FixedVertexHandle
     requires kept { IsKept V.place (state_of dcel.old) }
     requires in_range { InRange (V.place value) }
-    requires two { length dcel.old.vertices ≡ 2 }
+    requires one_face { length dcel.old.faces ≡ 0 }
     requires within { edge < length dcel.old.directed }
     requires on_edge { IsWithinEdge (map V.place dcel.old.vertices) dcel.old.mesh (V.place value) edge }
     requires room { HasRoom dcel.old 1 1 0 }
@@ -99,29 +97,6 @@ pub(crate) fn insert_within_line<V: HasPosition, DE: Default, UE: Default, F>(
     ensures grows { GrowsAround (map V.place dcel.old.vertices) (V.place value) (state_of dcel.old) (state_of dcel.new) }
 {
     let (vertex, _parts) = dcel.split_edge_when_all_vertices_on_line(edge, value);
-    let _ = dcel.num_vertices();
-    vertex
-}
-
-// A third vertex on the left of the edge of two: the first face.
-pub(crate) fn insert_first_face<V: HasPosition, DE: Default, UE: Default, F: Default>(
-    dcel: &mut Dcel<V, DE, UE, F>,
-    edge: FixedDirectedEdgeHandle,
-    value: V,
-) -> FixedVertexHandle
-    requires kept { IsKept V.place (state_of dcel.old) }
-    requires in_range { InRange (V.place value) }
-    requires two { length dcel.old.vertices ≡ 2 }
-    requires within { edge < length dcel.old.directed }
-    requires outer { face dcel.old.mesh edge ≡ 0 }
-    requires turns { TurnsLeft (place (map V.place dcel.old.vertices) (origin dcel.old.mesh edge)) (place (map V.place dcel.old.vertices) (origin dcel.old.mesh (rev edge))) (fraction (V.place value)) }
-    requires room { HasRoom dcel.old 1 2 1 }
-    ensures vertex { result ≡ length dcel.old.vertices }
-    ensures vertices { dcel.new.vertices ≡ dcel.old.vertices ++ value ∷ [] }
-    ensures kept { IsKept V.place (state_of dcel.new) }
-    ensures grows { GrowsAround (map V.place dcel.old.vertices) (V.place value) (state_of dcel.old) (state_of dcel.new) }
-{
-    let vertex = dcel.create_new_face_adjacent_to_edge(edge, value);
     let _ = dcel.num_vertices();
     vertex
 }

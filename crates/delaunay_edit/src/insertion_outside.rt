@@ -8,6 +8,7 @@ ghost use Rattle.plane.specs.Side.{TurnsLeft};
 ghost use Rattle.plane.specs.Pairs.{place};
 ghost use Rattle.plane.specs.Tests.{InRange};
 ghost use Rattle.delaunay_core.specs.Place.{place_of};
+ghost use Rattle.delaunay_edit.specs.Data.{GrowsAround};
 ghost use Rattle.delaunay_edit.specs.Joining.{Sees};
 ghost use Rattle.delaunay_edit.specs.Known.{point_at};
 ghost use Rattle.delaunay_edit.specs.Shape.{IsKept};
@@ -120,17 +121,19 @@ pub(crate) fn join_outside<
     ensures vertex { result ≡ length dcel.old.vertices }
     ensures vertices { dcel.new.vertices ≡ dcel.old.vertices ++ value ∷ [] }
     ensures kept { IsKept V.place (state_of dcel.new) }
+    ensures grows { GrowsAround (map V.place dcel.old.vertices) (V.place value) (state_of dcel.old) (state_of dcel.new) }
 {
-    let _ = dcel.num_directed_edges();
     let vertex = dcel.create_new_face_adjacent_to_edge(edge, value);
     let edges = dcel.num_directed_edges() as u32;
     let mut ahead = FixedDirectedEdgeHandle::from_index(edges - 3);
     let mut behind = FixedDirectedEdgeHandle::from_index(edges - 1);
     while let Some(_after) = seen_after(dcel, ahead, vertex, tests) {
         ahead = dcel.create_single_face_between_edge_and_next(ahead);
+        let _ = dcel.num_directed_edges();
     }
     while let Some(before) = seen_before(dcel, behind, vertex, tests) {
         behind = dcel.create_single_face_between_edge_and_next(before);
+        let _ = dcel.num_directed_edges();
     }
     vertex
 }

@@ -29,7 +29,10 @@ pub(crate) fn start_of<V: HasPosition, DE, UE, F>(
 }
 
 // Whether an edge has the outer face on its left.
-fn is_outer<V, DE, UE, F>(dcel: &Dcel<V, DE, UE, F>, edge: FixedDirectedEdgeHandle) -> bool
+pub(crate) fn is_outer<V, DE, UE, F>(
+    dcel: &Dcel<V, DE, UE, F>,
+    edge: FixedDirectedEdgeHandle,
+) -> bool
     requires { edge < length dcel.now.directed }
     ensures { IsTrue result ↔ (face dcel.now.mesh edge ≡ 0) }
 {

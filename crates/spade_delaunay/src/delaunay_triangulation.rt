@@ -195,7 +195,6 @@ impl<V: HasPosition + Drop, DE: Default, UE: Default, F: Default> DelaunayTriang
     ) -> Result<FixedVertexHandle, InsertionError>
         requires sites { All (P.sites tests.now) (map V.place self.old.vertices) }
         requires new_site { InRange (V.place value) → P.sites tests.now (V.place value) }
-        requires few { InRange (V.place value) → ¬ IsKnown (map V.place self.old.vertices) (V.place value) → length self.old.vertices < 3 }
 
         ensures too_large { IsErrOf result TooLarge ↔ ¬ InRange (V.place value) }
         ensures known { InRange (V.place value) → IsKnown (map V.place self.old.vertices) (V.place value) → IsOk result }

@@ -1,5 +1,5 @@
 -- What an insertion makes of the vertices, and which replies it may get.
-use Rattle.std.proofs.Common.{◌≡◌, ℕ, ◌+◌, ◌<◌, true, List, [], ◌∷◌, ◌++◌, length, map, get_or, Option, Some, None, is_some, false, refl, sym, ◌∙◌, ap, subst, arith, inl, inr}
+use Rattle.std.proofs.Common.{◌≡◌, ℕ, ◌+◌, ◌<◌, true, List, [], ◌∷◌, ◌++◌, length, map, get_or, Option, Some, None, is_some, refl, sym, ◌∙◌, ap, subst, arith}
 use Rattle.std.specs.Prelude.{ℤ, pos, All, MatchOption, Result, Err, IsErrOf, IsOk, ◌↔◌, ◌*◌, slice_set}
 use Rattle.std.proofs.lemmas.List.{get_or-map, length-map}
 use Rattle.std.proofs.lemmas.List.Elements.{All-push}
@@ -33,20 +33,11 @@ module _ (vs : List (Point2 ℤ)) (p : Point2 ℤ) where
       let below : known.index < length vs = omega (arith, in_map, length-map vs position) in
       fresh known.index p below (sym known.here ∙ placed known.index p below)
 
-  pub known_at : (i : ℕ) → i < length vs → point_at (map position vs) i ≡ position p → IsKnown (map position vs) (position p)
+  known_at : (i : ℕ) → i < length vs → point_at (map position vs) i ≡ position p → IsKnown (map position vs) (position p)
   known_at i h e = record { index = i; below = omega (arith, h, length-map vs position); here = e }
 
   pub known_if_there : (i : ℕ) → i < length vs → position (get_or vs i p) ≡ position p → IsKnown (map position vs) (position p)
   known_if_there i h e = known_at i h (placed i p h ∙ e)
-
--- what is said of `None`, and of what is there, where that is the answer
-pub if_none : {X A : Type 0} (P : X → Type 0) (o : Option X) → is_some o ≡ false → MatchOption o A P → A
-if_none P None e h = h
-if_none P (Some x) e h = cc
-
-pub if_some : {X : Type 0} (A : Type 0) (P : X → Type 0) (o : Option X) → is_some o ≡ true → MatchOption o A P → (x : X) × P x
-if_some A P None e h = cc
-if_some A P (Some x) e h = (x, h)
 
 -- a listed site is a site of the tests
 pub site_if_listed : (sites : Point → Type 0) (points : List SheetPoint) (p : Point) → All (λ s. s.site ≡ true → sites (place s)) points → IsListedSite points p → sites p

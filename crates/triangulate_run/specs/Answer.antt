@@ -1,5 +1,5 @@
 -- Which reply a command may get, and what it makes of the stage.
-use Rattle.std.specs.Prelude.{◌≡◌, ◌⊎◌, ◌↔◌, ℕ, ◌<◌, ◌≤◌, ◌+◌, ◌*◌, ℤ, List, length, All, AllPairs, Contains, ⊤}
+use Rattle.std.specs.Prelude.{◌≡◌, ◌⊎◌, ◌↔◌, ℕ, ◌<◌, ◌+◌, ◌*◌, ℤ, List, length, All, AllPairs, Contains, ⊤}
 use Rattle.plane.specs.Fraction.{Point, whole}
 use Rattle.plane.specs.Pairs.{SamePairs, EachPairOnce}
 use Rattle.plane.specs.Plain.{Replaces, Appends, DifferInPosition}
@@ -50,17 +50,12 @@ pub record KeepsVertex (points : List SheetPoint) (old : Stage) (p : Point2 ℤ)
   pub replaced : Replaces position old.plain new.plain i p
   pub same : new.triangulation ≡ old.triangulation
 
--- until vertices can be inserted everywhere, a fourth one is refused
-abbrev pub IsFourth : List SheetPoint → Stage → Point2 ℤ → Type 0
-IsFourth points s p = IsNewSite points s p × (3 ≤ length s.plain.vertices)
-
 abbrev pub MayInsert : List SheetPoint → Stage → Point2 ℤ → Reply → Stage → Type 0
-MayInsert points old p (reply.Vertex i) new = KeepsVertex points old p i new ⊎ (AddsVertex points old p i new × (i < 3))
+MayInsert points old p (reply.Vertex i) new = KeepsVertex points old p i new ⊎ AddsVertex points old p i new
 MayInsert points old p (reply.Refused TooLarge) new = (¬ InRange (position p)) × (new ≡ old)
 MayInsert points old p reply.UnknownPoint new = InRange (position p) × (¬ IsListedSite points (position p)) × (new ≡ old)
 MayInsert points old p (reply.Refused OutOfIndexes) new = IsNewSite points old p × IsFull old × (new ≡ old)
 MayInsert points old p (reply.Refused OutOfMemory) new = IsNewSite points old p × (¬ IsFull old) × (new ≡ old)
-MayInsert points old p reply.BadLine new = IsFourth points old p × (new ≡ old)
 MayInsert points old p _ new = ⊥
 
 -- the corners are a face in left-turning order, the least index first

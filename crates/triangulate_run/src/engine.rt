@@ -59,9 +59,6 @@ impl<P: PlaneTests<i64>> Engine for PointEngine<'_, P> {
     }
 }
 
-/// The most vertices, until they can be inserted everywhere.
-const MOST_VERTICES: usize = 3;
-
 impl<'a, P: PlaneTests<i64>> PointEngine<'a, P> {
     /// An engine without vertices.
     pub(crate) fn new(alloc: Global, tests: &'a P, points: &'a [SheetPoint]) -> Self
@@ -93,13 +90,6 @@ impl<'a, P: PlaneTests<i64>> PointEngine<'a, P> {
         }
         if site_index_of(self.points, point).is_none() {
             return Reply::UnknownPoint;
-        }
-        let is_new = self
-            .triangulation
-            .locate_vertex(point, self.tests)
-            .is_none();
-        if is_new && self.triangulation.num_vertices() >= MOST_VERTICES {
-            return Reply::BadLine;
         }
         match self.triangulation.insert(point, self.tests) {
             Ok(vertex) => Reply::Vertex(u64::from(vertex.index())),

@@ -5,12 +5,9 @@ use Rattle.half_edge_mesh.proofs.Fits.{length-grown}
 use Rattle.plane.specs.Fraction.{whole}
 use Rattle.plane.specs.Location.{IsPast}
 use Rattle.plane_tiling.specs.Local.{alone}
-use Rattle.delaunay_edit.proofs.Growing.{grown, extended_shape, no_faces}
+use Rattle.delaunay_edit.proofs.Growing.{grown, extended_shape}
 use Rattle.delaunay_edit.proofs.DataGrowing.{grows_past_end}
 use Rattle.delaunay_edit.proofs.insertion_line.insert_past_end.Goals as goal
-
-pub extend_line-vertex-requires-clause-one_face : goal.extend_line-vertex-requires-clause-one_face
-extend_line-vertex-requires-clause-one_face g c = no_faces g.V.HasPosition.place c.args.dcel.now c.requires.kept (omega (arith, c.requires.two))
 
 pub returns-clause-kept : goal.returns-clause-kept
 returns-clause-kept g c =
@@ -26,7 +23,7 @@ returns-clause-kept g c =
     let start_in = (c.requires.kept.valid.sound.edges c.args.edge here).origin_in in
     let fit = c.requires.kept.fits.vertices_fit in
     grown g.V.HasPosition.place old new c.args.value c.requires.kept (ap (λ d. d.vertices) is) c.requires.in_range c.num_vertices.ensures.whole edges faces
-    (extended_shape (map g.V.HasPosition.place old.vertices) (g.V.HasPosition.place c.args.value) old.mesh new.mesh end c.extend_line-vertex.result (length old.directed) (omega (arith, places, c.requires.two)) c.requires.kept.valid.sound (places ∙ c.requires.kept.fits.vertices_fit) c.requires.kept.shape c.requires.apart
+    (extended_shape (map g.V.HasPosition.place old.vertices) (g.V.HasPosition.place c.args.value) old.mesh new.mesh end c.extend_line-vertex.result (length old.directed) (sym c.requires.kept.fits.faces_fit ∙ c.requires.one_face) c.requires.kept.valid.sound (places ∙ c.requires.kept.fits.vertices_fit) c.requires.kept.shape c.requires.apart
     (omega (arith, starts, start_in, fit, places)) (c.extend_line-vertex.ensures.vertex ∙ sym places)
     (subst (λ i. IsPast (alone (map g.V.HasPosition.place old.vertices)) i (whole (g.V.HasPosition.place c.args.value))) (sym starts) c.requires.past)
     c.extend_line-vertex.ensures.triangles c.extend_line-vertex.ensures.outer)
@@ -35,4 +32,4 @@ pub returns-clause-grows : goal.returns-clause-grows
 returns-clause-grows g c =
     let old = c.args.dcel.now in
     let done = c.extend_line-vertex.ensures in
-    grows_past_end old c.extend_line-vertex.new.self c.requires.kept.valid c.requires.kept.fits c.num_vertices.ensures.whole (map g.V.HasPosition.place old.vertices) (g.V.HasPosition.place c.args.value) _ _ _ _ (no_faces g.V.HasPosition.place old c.requires.kept (omega (arith, c.requires.two))) done.directed done.edges (ap (λ d. d.outer) done.contents)
+    grows_past_end old c.extend_line-vertex.new.self c.requires.kept.valid c.requires.kept.fits c.num_vertices.ensures.whole (map g.V.HasPosition.place old.vertices) (g.V.HasPosition.place c.args.value) _ _ _ _ c.requires.one_face done.directed done.edges (ap (λ d. d.outer) done.contents)

@@ -1,12 +1,9 @@
 use Rattle.std.proofs.Common.{◌≤◌, ◌<◌, ◌∙◌, ◌+◌, length, map, ap, sym, arith}
 use Rattle.std.proofs.lemmas.List.{length-map}
 use Rattle.half_edge_mesh.proofs.Fits.{length-grown}
-use Rattle.delaunay_edit.proofs.Growing.{grown, split_shape, no_faces}
+use Rattle.delaunay_edit.proofs.Growing.{grown, split_shape}
 use Rattle.delaunay_edit.proofs.DataGrowing.{grows_within_line}
 use Rattle.delaunay_edit.proofs.insertion_line.insert_within_line.Goals as goal
-
-pub split_edge_when_all_vertices_on_line-vertex-requires-clause-one_face : goal.split_edge_when_all_vertices_on_line-vertex-requires-clause-one_face
-split_edge_when_all_vertices_on_line-vertex-requires-clause-one_face g c = no_faces g.V.HasPosition.place c.args.dcel.now c.requires.kept (omega (arith, c.requires.two))
 
 pub returns-clause-kept : goal.returns-clause-kept
 returns-clause-kept g c =
@@ -19,11 +16,11 @@ returns-clause-kept g c =
     let faces : length new.faces ≤ length old.faces + 2 = let e = ap (λ d. length d.faces) is in omega (arith, e) in
     let here : c.args.edge < length old.mesh.half_edges = let w = c.requires.within in let f = c.requires.kept.fits.directed_fit in omega (arith, w, f) in
     grown g.V.HasPosition.place old new c.args.value c.requires.kept (ap (λ d. d.vertices) is) c.requires.in_range c.num_vertices.ensures.whole edges faces
-    (split_shape (map g.V.HasPosition.place old.vertices) (g.V.HasPosition.place c.args.value) old.mesh new.mesh c.args.edge c.split_edge_when_all_vertices_on_line-vertex.result.0 (length old.directed) (omega (arith, places, c.requires.two)) c.requires.kept.valid (places ∙ c.requires.kept.fits.vertices_fit) c.requires.kept.shape here
+    (split_shape (map g.V.HasPosition.place old.vertices) (g.V.HasPosition.place c.args.value) old.mesh new.mesh c.args.edge c.split_edge_when_all_vertices_on_line-vertex.result.0 (length old.directed) (sym c.requires.kept.fits.faces_fit ∙ c.requires.one_face) c.requires.kept.valid (places ∙ c.requires.kept.fits.vertices_fit) c.requires.kept.shape here
     (done.vertex ∙ sym places) c.requires.on_edge done.triangles done.outer)
 
 pub returns-clause-grows : goal.returns-clause-grows
 returns-clause-grows g c =
     let old = c.args.dcel.now in
     let done = c.split_edge_when_all_vertices_on_line-vertex.ensures in
-    grows_within_line old c.split_edge_when_all_vertices_on_line-vertex.new.self c.requires.kept.valid c.requires.kept.fits c.num_vertices.ensures.whole (map g.V.HasPosition.place old.vertices) (g.V.HasPosition.place c.args.value) _ _ c.args.edge _ _ _ (no_faces g.V.HasPosition.place old c.requires.kept (omega (arith, c.requires.two))) c.requires.on_edge done.directed done.edges (ap (λ d. d.outer) done.contents)
+    grows_within_line old c.split_edge_when_all_vertices_on_line-vertex.new.self c.requires.kept.valid c.requires.kept.fits c.num_vertices.ensures.whole (map g.V.HasPosition.place old.vertices) (g.V.HasPosition.place c.args.value) _ _ c.args.edge _ _ _ c.requires.one_face c.requires.on_edge done.directed done.edges (ap (λ d. d.outer) done.contents)

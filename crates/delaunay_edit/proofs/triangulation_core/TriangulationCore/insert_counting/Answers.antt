@@ -1,3 +1,4 @@
+use Rattle.std.proofs.Common.{refl}
 use Rattle.delaunay_edit.proofs.Appending.{inserted}
 use Rattle.delaunay_edit.proofs.DataKept.{overwritten_keeps}
 use Rattle.delaunay_edit.proofs.triangulation_core.TriangulationCore.insert_counting.Goals as goal
@@ -11,3 +12,9 @@ returns-in-Err-clause-replaced g c = λ known. absurd (c.in-Err.ensures.apart.ap
 
 pub returns-in-Ok-clause-data : goal.returns-in-Ok-clause-data
 returns-in-Ok-clause-data g c = overwritten_keeps g.V.HasPosition.place c.args.self.now c.overwrite.new.self _ c.num_vertices.ensures.kept c.overwrite.ensures
+
+pub returns-in-Err-clause-full : goal.returns-in-Err-clause-full
+returns-in-Err-clause-full g c = (
+  (λ e. (c.in_ok-validate_vertex.ensures.exactly.0 refl, (λ known. absurd (c.in-Err.ensures.apart.apart known.index known.below known.here)), c.append-appended.ensures.full.0 e)),
+  (λ h. c.append-appended.ensures.full.1 h.2),
+)

@@ -1,32 +1,10 @@
-use Rattle.std.proofs.Common.{◌<◌, ℕ, length, not, inl, inr, map, refl, sym, ◌∙◌, ap, subst, arith}
+use Rattle.std.proofs.Common.{ℕ, inl, inr, map, refl, sym, ◌∙◌, ap, subst}
 use Rattle.plane.specs.Plain.{Replaces}
 use Rattle.triangulate_run.specs.Stage.{position}
 use Rattle.delaunay_edit.specs.State.{plain_of}
 use Rattle.drawn_mesh.specs.Drawn.{drawn}
-use Rattle.triangulate_run.proofs.Insertions.{fresh_if_unknown, if_none, if_some, known_at, unknown_if_fresh, known_if_there, may_refuse, site_if_listed, listed_if_found, places_kept, sites_kept, sites_more}
+use Rattle.triangulate_run.proofs.Insertions.{unknown_if_fresh, known_if_there, may_refuse, site_if_listed, listed_if_found, places_kept, sites_kept, sites_more}
 use Rattle.triangulate_run.proofs.engine.PointEngine.insert.Goals as goal
-use Rattle.triangulate_run.proofs.engine.PointEngine.insert.Goals.{else-is_new-via-then-is_new+else-num_vertices-ge-MOST_VERTICES, else-is_new-via-else-is_new}
-
-pub returns-then-num_vertices-ge-MOST_VERTICES-clause-reply : goal.returns-then-num_vertices-ge-MOST_VERTICES-clause-reply
-returns-then-num_vertices-ge-MOST_VERTICES-clause-reply g c =
-    let vertices = c.args.self.now.triangulation.vertices in
-    let p = c.args.point in
-    let listed = listed_if_found c.args.self.now.points.now (position p) c.site_index_of.result c.if-is_none.ensures c.site_index_of.ensures in
-    let unknown = if_none _ c.locate_vertex.result (c.is_none-is_new.ensures ∙ ap not c.if-is_new.true) c.locate_vertex.ensures in
-    let many = c.if-num_vertices-ge-MOST_VERTICES.true in
-    ((record { in_range = c.in_default.ensures.exactly.0 refl; site = listed; fresh = fresh_if_unknown vertices p unknown }, omega (arith, many, c.num_vertices.ensures.value)), refl)
-
-pub locate_vertex-requires-clause-covered : goal.locate_vertex-requires-clause-covered
-locate_vertex-requires-clause-covered g c =
-    let e = c.args.self.now in
-    let listed = listed_if_found e.points.now (position c.args.point) c.site_index_of.result c.if-is_none.ensures c.site_index_of.ensures in
-    g.met.P.PlaneTests.sites_are_covered e.tests.now (position c.args.point) (site_if_listed (g.P.PlaneTests.sites e.tests.now) e.points.now (position c.args.point) c.requires.ready.points_sites listed)
-
-pub insert-requires-clause-few : goal.insert-requires-clause-few
-insert-requires-clause-few g c = λ in_range unknown. elim c.else-is_new.branch [
-  | else-is_new-via-then-is_new+else-num_vertices-ge-MOST_VERTICES w ↦ (let few = w.if-num_vertices-ge-MOST_VERTICES.false in omega (arith, few, w.num_vertices.ensures.value))
-  | else-is_new-via-else-is_new w ↦ (let there = if_some _ _ c.locate_vertex.result (c.is_none-is_new.ensures ∙ ap not w.if-is_new.false) c.locate_vertex.ensures in absurd (unknown (known_at c.args.self.now.triangulation.vertices c.args.point there.0.index there.1.1 there.1.2)))
-]
 
 pub returns-in-Ok-clause-ready : goal.returns-in-Ok-clause-ready
 returns-in-Ok-clause-ready g c =
@@ -59,21 +37,12 @@ returns-in-Ok-clause-reply g c =
         same = ap (λ ps. drawn ps new.mesh) (ap (map position) kept.vertices ∙ places_kept old.vertices _ p kept.same)
             ∙ ap (drawn (map position old.vertices)) (ap (λ t. t.mesh) (c.in-Ok.ensures.replaced (known_if_there old.vertices p _ kept.here kept.same)));
       })
-      | inr more ↦ (
-          let few : length old.vertices < 3 = elim c.else-is_new.branch [
-            | else-is_new-via-then-is_new+else-num_vertices-ge-MOST_VERTICES w ↦ (let below = w.if-num_vertices-ge-MOST_VERTICES.false in omega (arith, below, w.num_vertices.ensures.value))
-            | else-is_new-via-else-is_new w ↦ (let there = if_some _ _ c.locate_vertex.result (c.is_none-is_new.ensures ∙ ap not w.if-is_new.false) c.locate_vertex.ensures in absurd (unknown_if_fresh old.vertices p more.1.fresh (known_at old.vertices p there.0.index there.1.1 there.1.2)))
-          ] in
-          inr (
-            record {
-              new_site = record { in_range = in_range; site = listed; fresh = more.1.fresh };
-              room = λ full. (let no = c.insert.ensures.full.1 (in_range, unknown_if_fresh old.vertices p more.1.fresh, full) in cc);
-              index = index ∙ more.0;
-              appended = more.1;
-            },
-            omega (arith, few, index, more.0),
-          )
-          )
+      | inr more ↦ inr (record {
+        new_site = record { in_range = in_range; site = listed; fresh = more.1.fresh };
+        room = λ full. (let no = c.insert.ensures.full.1 (in_range, unknown_if_fresh old.vertices p more.1.fresh, full) in cc);
+        index = index ∙ more.0;
+        appended = more.1;
+      })
     ]
 
 pub returns-in-Err-insert-clause-reply : goal.returns-in-Err-insert-clause-reply
