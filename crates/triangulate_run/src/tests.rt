@@ -8,7 +8,9 @@ use std::test::Fail;
 use watched::Watched;
 
 mod dialogues;
+mod everywhere;
 mod lines;
+mod orders;
 
 /// What is written for the input, with the points and answers of a sheet.
 fn replies(alloc: Global, sheet: Sheet, input: &[u8]) -> Result<Vec<u8>, RunError> {

@@ -78,3 +78,21 @@ fn a_coordinate_out_of_range_is_refused_first(rt: HostRuntime) -> Result<(), Fai
     assert!(rt; is_answered(rt.alloc(), Sheet::G, &dialogue)?);
     Ok(())
 }
+
+#[test]
+fn a_vertex_between_two_of_a_row(rt: HostRuntime) -> Result<(), Fail> {
+    let dialogue = [
+        ("insert -50 0", "vertex 0"),
+        ("insert -48 0", "vertex 1"),
+        ("locate -49 0", "edge 0-1"),
+        ("insert -49 0", "vertex 2"),
+        ("counts", "3 2 0 0"),
+        ("locate -49 0", "vertex 2"),
+        ("locate -48 0", "vertex 1"),
+        ("locate 49 0", "outside"),
+        ("locate 50 0", "unknown point"),
+        ("faces", "end"),
+    ];
+    assert!(rt; is_answered(rt.alloc(), Sheet::R, &dialogue)?);
+    Ok(())
+}
