@@ -1,0 +1,107 @@
+//! Triangulations of a sheet's points.
+ghost use Rattle.std.specs.Prelude.{◌≡◌, [], IfOk};
+ghost use Rattle.plane.specs.Fraction.{whole};
+ghost use Rattle.plane.specs.Location.{IsLocation};
+ghost use Rattle.plane.specs.Plain.{Inserts};
+ghost use Rattle.delaunay_core.specs.Place.{place_of};
+ghost use Rattle.delaunay_edit.specs.Elements.{HasElement};
+ghost use Rattle.delaunay_edit.specs.Location.{location_of};
+ghost use Rattle.delaunay_edit.specs.State.{plain_of, triangulation_of};
+ghost use Rattle.bench.specs.Vertices.{position_of, AreSites, tagged};
+ghost use Rattle.triangulate_run.specs.Sheet.{IsSite};
+
+use crate::tagged_vertex::TaggedVertex;
+use spade_delaunay::handles::FixedVertexHandle;
+use spade_delaunay::{DelaunayTriangulation, InsertionError, Point2, PositionInTriangulation};
+use std::alloc::Global;
+use std::marker::Model;
+use triangulate_run::points::site_index_of;
+use triangulate_run::sheet::Sheet;
+
+/// Why a vertex was not inserted.
+#[derive(Clone, Copy, Debug, PartialEq, Eq)]
+pub enum SheetError {
+    /// The sheet has no such site.
+    NotListed,
+    /// The triangulation refused it.
+    Refused(InsertionError),
+}
+
+/// A triangulation of points of a sheet, whose answers it uses.
+#[derive(Drop)]
+pub struct SheetTriangulation {
+    sheet: Sheet,
+    triangulation: DelaunayTriangulation<TaggedVertex, (), (), ()>,
+}
+
+impl Model for SheetTriangulation {
+    ghost use Rattle.std.specs.Prelude.{⊤};
+    ghost use Rattle.delaunay_edit.specs.State.{State};
+    ghost use Rattle.triangulate_run.specs.declared.sheet.Sheet.{Sheet};
+    ghost use Rattle.triangulate_run.specs.Sheet.{IsSite};
+    ghost use Rattle.bench.specs.declared.tagged_vertex.TaggedVertex.{TaggedVertex};
+    ghost use Rattle.bench.specs.Vertices.{AreSites};
+
+    ghost Value = { Sheet × State TaggedVertex ⊤ ⊤ ⊤ };
+
+    ghost view = { λ s. (s.sheet, s.triangulation) };
+
+    ghost invariant = { λ s. AreSites (IsSite s.sheet) s.triangulation.vertices };
+}
+
+impl SheetTriangulation {
+    /// No vertex.
+    pub fn new(alloc: Global, sheet: Sheet) -> Self
+        ensures sheet { result.0 ≡ sheet }
+        ensures vertices { result.1.vertices ≡ [] }
+    {
+        SheetTriangulation {
+            sheet,
+            triangulation: DelaunayTriangulation::new(alloc),
+        }
+    }
+
+    pub fn sheet(&self) -> Sheet
+        ensures { result ≡ self.now.0 }
+    {
+        self.sheet
+    }
+
+    /// All vertices are sites of the sheet.
+    pub fn triangulation(&self) -> &DelaunayTriangulation<TaggedVertex, (), (), ()>
+        ensures triangulation { result.now ≡ self.now.1 }
+        ensures sites { AreSites (IsSite self.now.0) result.now.vertices }
+    {
+        &self.triangulation
+    }
+
+    /// Where a site of the sheet is.
+    pub fn locate(&self, point: Point2<i64>) -> Result<PositionInTriangulation, SheetError>
+        ensures location { IfOk result (λ answer. IsLocation (triangulation_of position_of self.now.1) (whole (place_of (λ z. z) point)) (location_of self.now.1.mesh answer)) }
+        ensures element { IfOk result (HasElement self.now.1) }
+    {
+        if site_index_of(self.sheet.points(), point).is_none() {
+            return Err(SheetError::NotListed);
+        }
+        Ok(self.triangulation.locate(point, &self.sheet))
+    }
+
+    /// Inserts a vertex at a site of the sheet.
+    pub fn insert(
+        &mut self,
+        position: Point2<i64>,
+        tag: u64,
+    ) -> Result<FixedVertexHandle, SheetError>
+        ensures sheet { self.new.0 ≡ self.old.0 }
+        ensures ok { IfOk result (λ i. Inserts position_of (plain_of self.old.1) (plain_of self.new.1) (tagged position tag) i) }
+    {
+        if site_index_of(self.sheet.points(), position).is_none() {
+            return Err(SheetError::NotListed);
+        }
+        let vertex = TaggedVertex { position, tag };
+        match self.triangulation.insert(vertex, &self.sheet) {
+            Ok(handle) => Ok(handle),
+            Err(error) => Err(SheetError::Refused(error)),
+        }
+    }
+}

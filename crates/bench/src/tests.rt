@@ -1,0 +1,3 @@
+//! Calls of the library over the nine points of a sheet, three rows of three points.
+
+mod vertices;
