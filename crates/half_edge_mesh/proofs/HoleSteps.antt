@@ -1,26 +1,26 @@
 -- An inner vertex with three faces loses them and its edges, and one face takes their place.
-use Rattle.std.proofs.Common.{◌≡◌, ℕ, suc, ◌+◌, ◌*◌, ◌<◌, ◌≤◌, List, [], ◌∷◌, ◌++◌, length, refl, sym, ap, ◌∙◌, inl, inr, arith, subst}
+use Rattle.std.proofs.Common.{◌≡◌, ℕ, ◌+◌, ◌<◌, ◌≤◌, List, [], ◌∷◌, ◌++◌, length, refl, sym, ap, ◌∙◌, inr, arith, subst}
 use Rattle.std.specs.Prelude.{ℤ, pos, ◌+ℤ◌}
 use Rattle.std.specs.List.{AllZip}
 use Rattle.std.specs.List.Sorted.{IsPermutation}
 use Rattle.std.proofs.lemmas.Int.{ints}
 use Rattle.std.proofs.lemmas.List.Sorted.{IsPermutation-trans, IsPermutation-cons, IsPermutation-to_front}
 use Rattle.half_edge_links.specs.Flow.{total, around, along, both_ways, outline}
-use Rattle.half_edge_links.specs.Mesh.{Mesh, origin, next, prev, face, face_edge, rev, IsSound, IsValid, IsAlone}
-use Rattle.half_edge_links.specs.Outline.{Ends, ends}
+use Rattle.half_edge_links.specs.Mesh.{Mesh, origin, next, prev, face, face_edge, rev, IsSound, IsAlone}
+use Rattle.half_edge_links.specs.Outline.{ends}
 use Rattle.half_edge_links.specs.Peel.{IsPeelable, IsWheel, Peels, turn}
 use Rattle.half_edge_links.specs.Remove.{ClosesLoop, IsOpenTriangle, IsRemovable, Opens, Removes, after_removal}
 use Rattle.half_edge_links.specs.Round.{neighbour}
-use Rattle.half_edge_links.specs.Triangles.{Triangle, triangles, triangle_at}
+use Rattle.half_edge_links.specs.Triangles.{triangles, triangle_at}
 use Rattle.half_edge_links.proofs.CollapseLemmas.{open_triangle, removable_last}
 use Rattle.half_edge_links.proofs.CollapseSteps.{peels_faces}
 use Rattle.half_edge_links.proofs.Conditions.{IsFullWheel, full_wheel, peelable, removable}
-use Rattle.half_edge_links.proofs.Rev.{rev-rev, rev_within}
+use Rattle.half_edge_links.proofs.Rev.{rev-rev}
 use Rattle.half_edge_links.proofs.WheelEnds.{IsHoleOfFour, IsHoleOfThree, hole_of_four, hole_of_three, closed_corners}
 use Rattle.half_edge_links.proofs.WheelLemmas as wheel
 use Rattle.half_edge_mesh.specs.Contents.{Contents, IsWhole}
 use Rattle.half_edge_mesh.specs.Growth.{joins}
-use Rattle.half_edge_mesh.specs.Removal.{FullEdge, FullFace, IsBetween, HasCorners, LosesEdges, LosesFaces, GivesFace, OuterChanges, FillsHole, full_edges, full_edges_of, full_faces, full_faces_of, spokes_to, faces_between}
+use Rattle.half_edge_mesh.specs.Removal.{FullFace, IsBetween, HasCorners, LosesEdges, LosesFaces, GivesFace, OuterChanges, FillsHole, full_edges, full_edges_of, full_faces, full_faces_of, spokes_to, faces_between}
 use Rattle.half_edge_mesh.proofs.LineChanges.{alone_after}
 use Rattle.half_edge_mesh.proofs.OuterSums.{ends_sum, total_full_faces, total_lost_faces, total-permutation, total-append, any_corner, outer_sum}
 use Rattle.half_edge_mesh.proofs.StripSteps.{IsSameBut, same_but, same_but_edges, same_but_faces, one_more_gone, none_gone, whole_ends, whole_corners}

@@ -17,3 +17,4 @@ pub mod LineChanges
 pub mod StripSteps
 pub mod HoleSteps
 pub mod LineSteps
+pub mod SmallRemovals

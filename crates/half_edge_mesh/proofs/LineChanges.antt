@@ -1,5 +1,5 @@
 -- A vertex of a line loses its edges.
-use Rattle.std.proofs.Common.{◌≡◌, ◌≢◌, ◌⊎◌, ℕ, ◌+◌, ◌-◌, ◌*◌, ◌/◌, ◌%◌, ◌==◌, if◌then◌else◌, ◌<◌, List, [], ◌∷◌, ◌++◌, length, set, get_or, Some, None, refl, sym, ap, ◌∙◌, inl, inr, arith}
+use Rattle.std.proofs.Common.{◌≡◌, ◌≢◌, ◌⊎◌, ℕ, ◌+◌, ◌-◌, ◌*◌, ◌/◌, ◌%◌, ◌<◌, List, [], ◌∷◌, length, set, get_or, None, sym, ap, ◌∙◌, inl, inr, arith}
 use Rattle.std.proofs.lemmas.Bool.{cases_eq}
 use Rattle.std.proofs.lemmas.Bool.Decides.{nat_tests}
 use Rattle.std.proofs.lemmas.Int.{ints}
@@ -16,7 +16,7 @@ use Rattle.half_edge_links.specs.Renames.{renamed}
 use Rattle.half_edge_links.specs.Triangles.{triangles}
 use Rattle.half_edge_links.proofs.Parts.{rev_of_even, rev_of_odd}
 use Rattle.half_edge_links.proofs.Rev.{rev-rev, rev_within, rev_differs}
-use Rattle.half_edge_links.proofs.Passing.{IsBeside, beside, far_edge}
+use Rattle.half_edge_links.proofs.Passing.{IsBeside, beside}
 use Rattle.half_edge_links.proofs.TakenLists.{count_ends}
 use Rattle.half_edge_mesh.specs.Growth.{joins}
 use Rattle.half_edge_mesh.specs.Removal.{TakesOut, FullEdge, full_edges_of, IsBetween, OuterChanges}

@@ -1,17 +1,17 @@
 -- The steps in which a vertex leaves a line.
-use Rattle.std.proofs.Common.{◌≡◌, ◌≢◌, ℕ, ◌+◌, ◌*◌, ◌/◌, ◌<◌, List, [], ◌∷◌, length, map, refl, sym, ap, ◌∙◌, inl, inr, arith, subst}
-use Rattle.half_edge_links.specs.Mesh.{Mesh, origin, next, prev, face, out_edge, rev, IsAlone, IsSound, IsValid}
+use Rattle.std.proofs.Common.{◌≡◌, ℕ, ◌/◌, ◌<◌, [], ◌∷◌, length, map, sym, ap, ◌∙◌, inl, inr, subst}
+use Rattle.half_edge_links.specs.Mesh.{Mesh, origin, next, prev, rev}
 use Rattle.half_edge_links.specs.Outline.{MovesEdge, ends}
 use Rattle.half_edge_links.specs.Pass.{IsPassable, Passes}
 use Rattle.half_edge_links.specs.Peel.{turn}
 use Rattle.half_edge_links.specs.Remove.{Removes}
 use Rattle.half_edge_links.specs.Triangles.{triangles, triangle_at}
 use Rattle.half_edge_links.proofs.Passing.{IsBeside, beside}
-use Rattle.half_edge_links.proofs.Rev.{rev-rev, rev_within, rev_differs}
+use Rattle.half_edge_links.proofs.Rev.{rev-rev}
 use Rattle.half_edge_mesh.specs.Contents.{Contents, IsWhole}
 use Rattle.half_edge_mesh.specs.Growth.{joins}
 use Rattle.half_edge_mesh.specs.Removal.{TakesOut, FullEdge, IsBetween, LosesEdges, LeavesLine, JoinsNeighbours, OuterChanges, full_edges, full_edges_of}
-use Rattle.half_edge_mesh.proofs.LineChanges.{alone_after, after_turn, passable, removable_end, removable_hanging, hangs_free, AreJoined, are_joined, outer_end, outer_joined}
+use Rattle.half_edge_mesh.proofs.LineChanges.{alone_after, after_turn, removable_end, removable_hanging, hangs_free, AreJoined, are_joined, outer_end, outer_joined}
 use Rattle.half_edge_mesh.proofs.OuterSums.{ends_sum}
 use Rattle.half_edge_mesh.proofs.Outlines.{empty_list}
 use Rattle.half_edge_mesh.proofs.StripSteps.{whole_ends}

@@ -1,6 +1,6 @@
 -- A vertex on the hull loses its faces one by one.
-use Rattle.std.proofs.Common.{◌≡◌, ℕ, zero, suc, ◌+◌, ◌-◌, ◌*◌, ◌<◌, ◌≤◌, List, [], ◌∷◌, ◌++◌, length, None, refl, sym, ap, ◌∙◌, inl, inr, arith}
-use Rattle.std.specs.Prelude.{ℤ, pos, ◌+ℤ◌, slice_index}
+use Rattle.std.proofs.Common.{◌≡◌, ℕ, zero, suc, ◌+◌, ◌-◌, ◌*◌, ◌<◌, ◌≤◌, List, [], ◌∷◌, ◌++◌, length, refl, sym, ap, ◌∙◌, inr, arith}
+use Rattle.std.specs.Prelude.{ℤ, pos, ◌+ℤ◌}
 use Rattle.std.specs.List.{AllZip}
 use Rattle.std.specs.List.Sorted.{IsPermutation}
 use Rattle.std.proofs.lemmas.Int.{ints}
@@ -8,19 +8,19 @@ use Rattle.std.proofs.lemmas.List.{length-map}
 use Rattle.std.proofs.lemmas.List.Sorted.{IsPermutation-refl, IsPermutation-trans, IsPermutation-append_right, IsPermutation-middle}
 use Rattle.half_edge_links.specs.Hull.{KeepsOneOutline, IsPendant}
 use Rattle.half_edge_links.specs.Flow.{total, around, along, both_ways, outline}
-use Rattle.half_edge_links.specs.Mesh.{Mesh, origin, next, prev, face, out_edge, rev, IsSound, IsValid}
-use Rattle.half_edge_links.specs.Outline.{Ends, ends}
-use Rattle.half_edge_links.specs.Peel.{IsStrip, IsPeelable, Peels, turn, spoke}
+use Rattle.half_edge_links.specs.Mesh.{Mesh, origin, prev, face, rev, IsValid}
+use Rattle.half_edge_links.specs.Outline.{ends}
+use Rattle.half_edge_links.specs.Peel.{IsStrip, IsPeelable, Peels, turn}
 use Rattle.half_edge_links.specs.Remove.{Removes, IsRemovable, after_removal}
 use Rattle.half_edge_links.specs.Round.{neighbour}
-use Rattle.half_edge_links.specs.Triangles.{Triangle, triangles, triangle_at}
+use Rattle.half_edge_links.specs.Triangles.{triangles, triangle_at}
 use Rattle.half_edge_links.proofs.Conditions.{IsFullStrip, full_strip, strip_of}
 use Rattle.half_edge_links.proofs.Rev.{rev-rev}
 use Rattle.half_edge_links.proofs.TakenLists.{count_ends}
 use Rattle.half_edge_links.proofs.StripLemmas.{strip_from, strip_ends, one_more, removable_strip}
 use Rattle.half_edge_mesh.specs.Contents.{Contents, IsWhole}
 use Rattle.half_edge_mesh.specs.Growth.{joins}
-use Rattle.half_edge_mesh.specs.Removal.{FullEdge, FullFace, IsBetween, HasCorners, LosesEdges, LosesFaces, LosesStrip, OuterChanges, full_edges, full_faces, full_faces_of, spokes_to, faces_between, chain}
+use Rattle.half_edge_mesh.specs.Removal.{IsBetween, HasCorners, LosesEdges, LosesFaces, LosesStrip, OuterChanges, full_edges, full_faces, full_faces_of, spokes_to, faces_between, chain}
 use Rattle.half_edge_mesh.proofs.LineChanges.{alone_after}
 use Rattle.half_edge_mesh.proofs.OuterSums.{ends_sum, corners_sum, outer_sum}
 

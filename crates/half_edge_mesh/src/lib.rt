@@ -16,6 +16,8 @@ mod lookup;
 mod mapped;
 mod neighbors;
 mod outside;
+#[cfg(test)]
+mod removal_tests;
 mod room;
 #[cfg(test)]
 mod room_tests;

@@ -1,7 +1,6 @@
 //! Taking single edges and faces out, with their data.
 ghost use Rattle.std.specs.Prelude.{◌≡◌, ◌+◌, ◌*◌, ◌/◌, ◌-◌, ◌<◌, ◌≤◌, ◌∷◌, ◌++◌, [], length, vec_len, vec_capacity};
-ghost use Rattle.std.specs.List.Sorted.{IsPermutation};
-ghost use Rattle.half_edge_links.specs.Mesh.{origin, next, prev, face, face_edge, rev, IsInner, IsSound};
+ghost use Rattle.half_edge_links.specs.Mesh.{origin, next, prev, face, face_edge, rev, IsInner};
 ghost use Rattle.half_edge_links.specs.Hull.{IsPendant, KeepsOneOutline};
 ghost use Rattle.half_edge_links.specs.Outline.{ends};
 ghost use Rattle.half_edge_links.specs.Peel.{IsPeelable, Peels};

@@ -1,7 +1,6 @@
-use Rattle.std.proofs.Common.{◌≡◌, ap, ◌∙◌, arith}
+use Rattle.std.proofs.Common.{◌≡◌, ap}
 use Rattle.half_edge_links.specs.declared.records.HalfEdge.{HalfEdge}
 use Rattle.half_edge_links.specs.Mesh.{Mesh, next, rev}
-use Rattle.half_edge_links.specs.Pass.{IsPassable}
 use Rattle.half_edge_links.proofs.Rev.{rev_within}
 use Rattle.half_edge_mesh.proofs.LineChanges.{passable, removable_hanging}
 use Rattle.half_edge_mesh.proofs.LineSteps.{no_inner_face, middle_left}

@@ -1,0 +1,52 @@
+-- What a removal asks for, from the links round one vertex.
+use Rattle.std.proofs.Common.{◌≡◌, ◌≢◌, ℕ, zero, suc, ◌<◌, [], ◌∷◌, length, Some, refl, sym, ap, ◌∙◌, inr, arith}
+use Rattle.std.specs.Prelude.{slice_index}
+use Rattle.half_edge_links.specs.Mesh.{Mesh, origin, next, prev, face, out_edge, rev, IsSound}
+use Rattle.half_edge_links.specs.Peel.{turn, spoke}
+use Rattle.half_edge_mesh.specs.Removal.{AreOpposite, HasFewEdges, IsBorder}
+
+same_edge : (a b : ℕ) → Some a ≡ Some b → a ≡ b
+same_edge a b is = cc
+
+-- two edges whose other ends differ
+pub two_edges : (m : Mesh) (v o : ℕ) → out_edge m v ≡ Some o → turn m (turn m o) ≡ o → origin m (rev o) ≢ origin m (rev (turn m o)) → prev m o ≢ rev o → HasFewEdges m v
+two_edges m v o named two corners off = record {
+  few = λ first is. let e = same_edge o first (sym named ∙ is) in rw (← e) (inr (two, corners));
+  whole = λ first is a b. let e = same_edge o first (sym named ∙ is) in absurd (off (ap (prev m) e ∙ b ∙ ap rev (sym e)));
+}
+
+-- one face at a vertex
+pub one_side : (m : Mesh) (e : ℕ) → IsSound m → e < length m.half_edges → 0 < face m (prev m e) → face m (rev (prev m e)) ≡ 0 → face m (turn m (prev m e)) ≡ 0 → next m (rev (prev m e)) ≡ turn m (prev m e) → next m (turn m (prev m e)) ≢ rev (turn m (prev m e)) → AreOpposite m (e ∷ [])
+one_side m e s within inner outer last gap far = record {
+  some = omega arith;
+  within = within;
+  strip = record { within = (s.edges e within).prev_in; outer = outer; inner = only_first; last = last; gap = gap; far = far };
+  sides = only_side;
+}
+  where
+    only_first : (i : ℕ) → i < 1 → 0 < face m (spoke m (prev m e) i)
+    only_first zero less = inner
+    only_first (suc i) less = absurd (omega (arith, less))
+
+    only_side : (i : ℕ) → i < 1 → slice_index (e ∷ []) i ≡ next m (spoke m (prev m e) i)
+    only_side zero less = sym (s.edges e within).next_prev
+    only_side (suc i) less = absurd (omega (arith, less))
+
+-- three faces round a vertex
+pub three_sides : (m : Mesh) (v o a b c : ℕ) → IsSound m → o < length m.half_edges → origin m o ≡ v → 0 < face m o → 0 < face m (turn m o) → 0 < face m (turn m (turn m o)) → turn m (turn m (turn m o)) ≡ o → a ≡ next m o → b ≡ next m (turn m o) → c ≡ next m (turn m (turn m o)) → IsBorder m (a ∷ b ∷ c ∷ []) v
+three_sides m v o a b c s within starts i1 i2 i3 round at_a at_b at_c =
+    let here = s.edges o within in
+    let first : prev m a ≡ o = ap (prev m) at_a ∙ here.prev_next in
+    record {
+      count = refl;
+      within = rw at_a here.next_in;
+      round = rw first (record { within = within; first_inner = i1; second_inner = i2; third_inner = i3; round = round });
+      starts = ap (origin m) first ∙ starts;
+      sides = λ i less. all i less ∙ ap (λ j. next m (spoke m j i)) (sym first);
+    }
+  where
+    all : (i : ℕ) → i < 3 → slice_index (a ∷ b ∷ c ∷ []) i ≡ next m (spoke m o i)
+    all zero less = at_a
+    all (suc zero) less = at_b
+    all (suc (suc zero)) less = at_c
+    all (suc (suc (suc i))) less = absurd (omega (arith, less))
