@@ -32,18 +32,6 @@ positive n h = omega (arith, h)
 module _ {V D U F : Type 0} (at : V → Point) (c : Contents V D U F) (kept : IsKept at (state_of c)) where
   -- ---- room for what a vertex brings, of the room that is reserved for it
   module _ (room : HasRoomFor c.room (length c.vertices + 1) (3 * (length c.vertices + 1)) (2 * (length c.vertices + 1))) where
-    pub room_on_line : HasRoom c 1 1 0
-    room_on_line =
-        let v = room.vertices_fit in
-        let e = room.edges_fit in
-        let f = room.faces_fit in
-        let few_edges = kept.few_edges in
-        let few_faces = kept.few_faces in
-        record { vertices_fit = omega (arith, v); edges_fit = omega (arith, e, few_edges); faces_fit = omega (arith, f, few_faces) }
-
-    pub room_for_first : HasRoom c 1 0 0
-    room_for_first = let r = room_on_line in record { vertices_fit = r.vertices_fit; edges_fit = (let e = r.edges_fit in omega (arith, e)); faces_fit = r.faces_fit }
-
     pub room_inside : 0 < length c.vertices → HasRoom c 1 3 2
     room_inside some =
         let v = room.vertices_fit in
@@ -52,9 +40,6 @@ module _ {V D U F : Type 0} (at : V → Point) (c : Contents V D U F) (kept : Is
         let counts = edges_and_faces at c kept some in
         let sides = sides_at_most c (record { valid = kept.valid; fits = kept.fits }) in
         record { vertices_fit = omega (arith, v); edges_fit = omega (arith, e, counts, sides); faces_fit = omega (arith, f, counts, sides) }
-
-    pub room_at_hull : 0 < length c.vertices → HasRoom c 1 2 1
-    room_at_hull some = let r = room_inside some in record { vertices_fit = r.vertices_fit; edges_fit = (let e = r.edges_fit in omega (arith, e)); faces_fit = (let f = r.faces_fit in omega (arith, f)) }
 
   vertex_of_face : (f : ℕ) → 0 < f → f ≤ length c.faces → 0 < length c.vertices
   vertex_of_face f some within = let few = kept.few_faces in omega (arith, some, within, few)

@@ -245,9 +245,6 @@ module _ {V D U F : Type 0} (place_at : V → Point) (old : Contents V D U F) (v
       step.1,
     )
       where
-        far : ℕ
-        far = origin now.mesh (rev (next now.mesh ahead))
-
         step : IsExtending points (place_at v) (faces_of old.mesh) (faces_of new.mesh) (outer_of old.mesh) (outer_of new.mesh) (origin now.mesh behind) (origin now.mesh (rev (next now.mesh ahead))) × (length (outer_of new.mesh) < length (outer_of now.mesh))
         step = mesh_extension_goes_on points (place_at v) (faces_of old.mesh) (outer_of old.mesh) now.mesh (origin now.mesh behind) (origin now.mesh (rev ahead)) j.extending new.mesh ahead (length now.directed) s w.valid.apart j.ahead_outer.within j.ahead_outer.outer j.ahead_outer.source sees adds change
 
