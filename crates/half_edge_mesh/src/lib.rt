@@ -7,6 +7,8 @@ mod edge;
 mod face;
 mod fixed_iterators;
 mod growth;
+#[cfg(test)]
+mod growth_tests;
 mod handles;
 mod inside;
 mod isolation;
@@ -26,6 +28,8 @@ mod taking;
 #[cfg(test)]
 mod tests;
 mod vertex;
+#[cfg(test)]
+mod view_tests;
 mod voronoi;
 mod voronoi_iterators;
 mod writing;
