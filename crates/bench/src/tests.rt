@@ -2,11 +2,17 @@
 ghost use Rattle.std.specs.Prelude.{◌<◌};
 
 use crate::tagged_vertex::TaggedVertex;
-use spade_delaunay::handles::FaceHandle;
+use spade_delaunay::handles::{DirectedEdgeHandle, FaceHandle};
 
 mod empty_circles;
+mod locations;
 mod refusals;
 mod vertices;
+
+/// The ends of an edge by their indexes, in its direction.
+fn ends_of(edge: DirectedEdgeHandle<'_, TaggedVertex, (), (), ()>) -> (u32, u32) {
+    (edge.from().fix().index(), edge.to().fix().index())
+}
 
 /// The corners of an inner face by their indexes, the least first.
 fn corners_of(face: FaceHandle<'_, TaggedVertex, (), (), ()>) -> [u32; 3]
