@@ -1,0 +1,17 @@
+use Rattle.std.proofs.Common.{ℕ, ◌≤◌, length, subst, ap, sym}
+use Rattle.delaunay_edit.specs.State.{plain_of}
+use Rattle.delaunay_edit.proofs.Flips.{few_flips_fit}
+use Rattle.bench_grid.specs.Small.{AreSmall}
+use Rattle.bench_grid.proofs.Vertices.{small_after}
+use Rattle.bench_grid.proofs.grid.Grid.insert.Goals as goal
+use Rattle.bench_grid.proofs.grid.Grid.insert.Goals.{in-Ok, in-Err}
+
+pub insert_counting-requires-clause-fits : goal.insert_counting-requires-clause-fits
+insert_counting-requires-clause-fits c =
+    few_flips_fit (length c.self.inside.core.vertices) (subst (λ (n : ℕ). n ≤ 4294967295) c.num_vertices.ensures.value c.num_vertices.ensures.small)
+
+pub invariant_of-self : goal.invariant_of-self
+invariant_of-self c = elim c.match-insert_counting.branch [
+  | in-Ok w ↦ small_after (plain_of c.self.inside.core) (plain_of c.insert_counting.new.self) c.args.point _ w.in-Ok.ensures.ok c.requires c.self.invariant
+  | in-Err w ↦ subst (λ vertices. AreSmall vertices) (ap (λ s. s.vertices) (sym w.in-Err.ensures.err)) c.self.invariant
+]
