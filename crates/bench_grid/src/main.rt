@@ -15,7 +15,7 @@ use std::rt::Env;
 use std::time::CpuClock;
 
 /// Points a side where no argument says how many.
-const SIDE: u16 = 8;
+const SIDE: u16 = 32;
 
 /// The points of the grid are taken this many apart, from the first again behind the last.
 const STRIDES: [u32; 2] = [1, 421];
@@ -57,6 +57,15 @@ fn insert_all(
     Ok((grid.counts(), flips))
 }
 
+/// Insertions a second, and flips a hundred insertions.
+fn rates(insertions: usize, flips: u64, micros: u128) -> (u128, u128) {
+    let insertions = insertions as u128;
+    (
+        insertions * 1_000_000 / micros.max(1),
+        u128::from(flips) * 100 / insertions.max(1),
+    )
+}
+
 fn main(rt: HostRuntime) -> io::Result<()> {
     let side = side_of(&rt);
     for stride in STRIDES {
@@ -66,9 +75,9 @@ fn main(rt: HostRuntime) -> io::Result<()> {
         };
         let taken = rt.thread_cpu_time()?.saturating_sub(start);
         println!(rt; "{vertices} vertices, {edges} edges, {faces} faces")?;
-        let micros = taken.as_micros();
+        let (a_second, a_hundred) = rates(vertices, flips, taken.as_micros());
         eprintln!(rt;
-            "stride {stride}: {vertices} insertions, {flips} flips, {micros} microseconds"
+            "stride {stride}: {a_second} insertions a second, {a_hundred} flips a hundred insertions"
         )?;
     }
     Ok(())
