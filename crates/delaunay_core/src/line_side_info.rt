@@ -94,6 +94,7 @@ impl LineSideInfo {
 #[cfg(test)]
 mod tests {
     use super::*;
+    use std::test::Fail;
 
     #[test]
     fn one_of_three(rt: HostRuntime) {
@@ -118,5 +119,12 @@ mod tests {
         assert_eq!(rt; right.reversed(), left);
         assert_eq!(rt; on.reversed(), on);
         assert_ne!(rt; left, on);
+    }
+
+    #[test]
+    fn shown_by_its_turn(rt: HostRuntime) -> Result<(), Fail> {
+        let text = format!(in rt.alloc(); "{:?}", LineSideInfo::on_line())?;
+        assert_eq!(rt; text.as_str(), "LineSideInfo { turn: OnLine }");
+        Ok(())
     }
 }

@@ -123,7 +123,15 @@ mod tests {
         ] {
             let text = format!(in rt.alloc(); "{error}")?;
             assert_eq!(rt; text.as_str(), name);
+            let text = format!(in rt.alloc(); "{error:?}")?;
+            assert_eq!(rt; text.as_str(), name);
         }
         Ok(())
+    }
+
+    #[test]
+    fn errors_are_ordered_as_they_are_written(rt: HostRuntime) {
+        assert!(rt; InsertionError::TooLarge < InsertionError::OutOfMemory);
+        assert!(rt; InsertionError::OutOfMemory < InsertionError::OutOfIndexes);
     }
 }

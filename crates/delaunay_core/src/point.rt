@@ -187,6 +187,7 @@ impl<S: SpadeNum> HasPosition for Point2<S> {
 mod tests {
     use super::*;
     use std::cmp::Ordering;
+    use std::test::Fail;
 
     #[test]
     fn squared_distances(rt: HostRuntime) {
@@ -231,5 +232,12 @@ mod tests {
         assert_eq!(rt; i16::MIN.to_i64(), -32768);
         assert_eq!(rt; i32::MIN.to_i64(), -2147483648);
         assert_eq!(rt; i64::MIN.to_i64(), i64::MIN);
+    }
+
+    #[test]
+    fn shown_by_its_coordinates(rt: HostRuntime) -> Result<(), Fail> {
+        let text = format!(in rt.alloc(); "{:?}", Point2::new(1i64, -2))?;
+        assert_eq!(rt; text.as_str(), "Point2 { x: 1, y: -2 }");
+        Ok(())
     }
 }
