@@ -2,9 +2,15 @@ pub mod OwnEdges
 pub mod OuterEdges
 pub mod FaceChanges
 pub mod OuterChanges
+pub mod PairSums
 pub mod MeshEdits
 pub mod MeshExtension
 pub mod MeshLines
+pub mod LineNeighbours
+pub mod MeshDrops
+pub mod MeshLineRemoval
+pub mod MeshRemovals
+pub mod MeshLineEnds
 pub mod WorkLists
 pub mod MeshStays
 pub mod MeshLegal

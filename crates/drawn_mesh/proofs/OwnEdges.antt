@@ -14,7 +14,7 @@ both : (a b c d : ℤ) → a ≡ b → c ≡ d → a +ℤ c ≡ b +ℤ d
 both a b c d e f = λ i. e i +ℤ f i
 
 -- the sum over a list that was read anew
-total-read : {X Y : Type 0} (f : Y → ℤ) (g : X → Y) (xs : List X) → total f (map g xs) ≡ F.total (λ x. f (g x)) xs
+pub total-read : {X Y : Type 0} (f : Y → ℤ) (g : X → Y) (xs : List X) → total f (map g xs) ≡ F.total (λ x. f (g x)) xs
 total-read f g [] = refl
 total-read f g (x ∷ xs) = both (f (g x)) (f (g x)) (total f (map g xs)) (F.total (λ y. f (g y)) xs) refl (total-read f g xs)
 

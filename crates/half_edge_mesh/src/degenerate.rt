@@ -103,6 +103,7 @@ impl<V, DE, UE, F> Dcel<V, DE, UE, F> {
         ensures { LeavesMesh self.old self.new vertex result }
     {
         self.leave_line(vertex.index());
+        let _whole = self.num_vertices();
         self.swap_remove_vertex(vertex)
     }
 }

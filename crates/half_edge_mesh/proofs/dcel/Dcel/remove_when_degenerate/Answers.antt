@@ -4,4 +4,4 @@ pub swap_remove_vertex-requires : goal.swap_remove_vertex-requires
 swap_remove_vertex-requires g c = (rw c.index.ensures at c.leave_line.ensures).alone
 
 pub returns : goal.returns
-returns g c = record { between = c.leave_line.new.self; leaves = rw c.index.ensures at c.leave_line.ensures; drops = c.swap_remove_vertex.ensures }
+returns g c = record { between = c.leave_line.new.self; leaves = rw c.index.ensures at c.leave_line.ensures; whole = c.num_vertices-whole.ensures.whole; drops = c.swap_remove_vertex.ensures }
