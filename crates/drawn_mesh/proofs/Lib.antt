@@ -9,6 +9,13 @@ pub mod MeshLines
 pub mod LineNeighbours
 pub mod MeshDrops
 pub mod MeshLineRemoval
+pub mod MeshStars
+pub mod FaceSums
+pub mod MeshStarFlips
+pub mod StarTurns
+pub mod MeshInnerRemoval
+pub mod MeshHullRemoval
+pub mod MeshVertexLeaves
 pub mod MeshRemovals
 pub mod MeshLineEnds
 pub mod WorkLists
