@@ -10,6 +10,9 @@ use triangulate_run::session::run;
 use triangulate_run::sheet::{Sheet, sheet_named};
 use watched::Watched;
 
+#[cfg(test)]
+mod tests;
+
 /// The status where the arguments name no sheet.
 const WRONG_ARGUMENTS: u8 = 2;
 
@@ -26,14 +29,19 @@ fn answer(rt: &(impl Input + Print + AllocGlobal), sheet: Sheet) -> Result<(), R
     run(rt.alloc(), &sheet, sheet.points(), &mut reader, &mut writer)
 }
 
-fn main(rt: HostRuntime) -> ExitCode {
-    let Some(sheet) = sheet_of(&rt) else {
-        let _ = eprintln!(rt; "{USAGE}");
-        return ExitCode::from(WRONG_ARGUMENTS);
+/// Does what the arguments ask for, tells of a fault on standard error, and gives the exit status.
+fn status(rt: &(impl Env + Input + Print + Eprint + AllocGlobal)) -> u8 {
+    let Some(sheet) = sheet_of(rt) else {
+        let _ = rt.eprintln(USAGE);
+        return WRONG_ARGUMENTS;
     };
-    let outcome = answer(&rt, sheet);
+    let outcome = answer(rt, sheet);
     if let Err(fault) = &outcome {
         let _ = rt.eprintln(fault_text(fault));
     }
-    ExitCode::from(status_of(&outcome))
+    status_of(&outcome)
+}
+
+fn main(rt: HostRuntime) -> ExitCode {
+    ExitCode::from(status(&rt))
 }
