@@ -1,6 +1,6 @@
 -- A vertex loses its edges, by the round that the mesh gives of it: inside the hull with three faces or four, on the hull at a corner or on a flat side.
-use Rattle.std.proofs.Common.{◌≡◌, ℕ, ◌<◌, ◌≤◌, ◌-◌, ◌*◌, ◌/◌, List, [], sym, ◌∙◌, arith}
-use mathlib.Core.Logic.{◌≢◌}
+use Rattle.std.proofs.Common.{◌≡◌, ◌⊎◌, ℕ, suc, ◌<◌, ◌≤◌, ◌-◌, ◌*◌, ◌/◌, List, [], sym, ◌∙◌, subst, arith}
+use mathlib.Core.Logic.{inl, inr, ◌≢◌}
 use Rattle.half_edge_links.specs.Mesh.{face, rev}
 use Rattle.half_edge_links.specs.Flip.{flipped}
 use Rattle.half_edge_links.specs.Outline.{KeepsOuter}
@@ -13,10 +13,12 @@ use Rattle.plane.specs.Fraction.{Point, WithinSegment}
 use Rattle.plane.specs.Pairs.{place}
 use Rattle.plane.specs.Side.{side, on, TurnsLeft}
 use Rattle.plane_tiling.specs.Local.{LocalMesh}
-use Rattle.plane_edits.specs.Removal.{LocalMeshWithout, LineMeshWithout}
+use Rattle.plane_edits.specs.Removal.{IsStar, LocalMeshWithout, LineMeshWithout}
+use Rattle.plane_edits.proofs.Removals.{inner_star_flips}
 use Rattle.plane_edits.specs.RemovalHull.{NoneTurnsLeft}
 use Rattle.drawn_mesh.specs.Drawn.{faces_of, outer_of}
 use Rattle.drawn_mesh.proofs.OuterChanges.{outer_kept}
+use Rattle.drawn_mesh.proofs.RoundShift.{three_below}
 use Rattle.drawn_mesh.proofs.MeshStars.{inner_star, hull_star, hull_strip, neighbours_apart}
 use Rattle.drawn_mesh.proofs.MeshStarFlips.{spoke_flippable, twin_flippable, spoke_turned}
 use Rattle.drawn_mesh.proofs.StarTurns.{TurnsAway, turns_away, first_end, second_end, third_end, again_end}
@@ -35,6 +37,25 @@ module _ {V D U F : Type 0} (points : List Point) (old : Contents V D U F) (befo
     -- three faces become one
     pub leaves_three : (new : Contents V D U F) → IsWhole new → IsRound old.mesh v first 3 → FillsHole old new v nb → LocalMeshWithout v points (faces_of new.mesh) (outer_of new.mesh)
     leaves_three new after round hole = three_faces_go points old new v nb before after local (inner_star points old.mesh before.valid local v first 3 round inner) hole
+
+    -- with four neighbours or more the edge to one of them can be turned, or there are four and v is strictly between two opposite ones
+    pub inner_choice : (count : ℕ) → IsRound old.mesh v first count → 4 ≤ count
+        → ((i : ℕ) × (i < count) × TurnsLeft (place points (nb i)) (place points (nb (suc i))) (place points (nb (suc (suc i)))) × TurnsLeft (place points v) (place points (nb i)) (place points (nb (suc (suc i)))))
+        ⊎ ((count ≡ 4) × ((i : ℕ) × (i < count) × WithinSegment (place points (nb i)) (place points (nb (suc (suc i)))) (place points v)))
+    inner_choice count round four = elim (inner_star_flips points (faces_of old.mesh) (outer_of old.mesh) v count nb local star four) [
+      | inl r ↦ (let p = three_below nb count star.again round.some r.0 in
+          inl (
+            p.0,
+            p.1,
+            subst (λ (x : ℕ × ℕ × ℕ). TurnsLeft (place points x.0) (place points x.1) (place points x.2)) (λ t. (sym p.2 t, sym p.3 t, sym p.4 t)) r.1,
+            subst (λ (x : ℕ × ℕ). TurnsLeft (place points v) (place points x.0) (place points x.1)) (λ t. (sym p.2 t, sym p.4 t)) r.2,
+          ))
+      | inr r ↦ (let p = three_below nb count star.again round.some r.1.0 in
+          inr (r.0, (p.0, p.1, subst (λ (x : ℕ × ℕ). WithinSegment (place points x.0) (place points x.1) (place points v)) (λ t. (sym p.2 t, sym p.4 t)) r.1.1)))
+    ]
+      where
+        star : IsStar (faces_of old.mesh) v count nb
+        star = inner_star points old.mesh before.valid local v first count round inner
 
     -- four faces, with v strictly between neighbours 0 and 2: the edge to neighbour 1 is turned, then three faces become one
     module _ (between new : Contents V D U F) (middle : IsWhole between) (after : IsWhole new) (round : IsRound old.mesh v first 4) (turned : between.mesh ≡ flipped old.mesh (2 * (spoke old.mesh first 1 / 2)))
