@@ -44,13 +44,13 @@ use Rattle.delaunay_edit.proofs.LineEnds.{none_seen_after, none_seen_before}
 
 -- ---- counts
 module _ {V D U F : Type 0} (c : Contents V D U F) (w : IsWhole c) where
-  edges_counted : length c.undirected ≡ length (edges_of c.mesh)
+  pub edges_counted : length c.undirected ≡ length (edges_of c.mesh)
   edges_counted =
       let pairs = w.fits.undirected_fit in
       let twice = length-ends_twice c.mesh w.valid.sound in
       omega (arith, pairs, twice, length-map (ends c.mesh) pair_of)
 
-  faces_counted : length c.faces ≡ length (faces_of c.mesh)
+  pub faces_counted : length c.faces ≡ length (faces_of c.mesh)
   faces_counted = w.fits.faces_fit ∙ sym (length-map c.mesh.face_edges (triangle_at c.mesh)) ∙ sym (length-map (triangles c.mesh) corners_of)
 
   -- each edge has two ways, and each face three sides

@@ -20,3 +20,4 @@ pub mod Joining
 pub mod WorkList
 pub mod Delaunay
 pub mod Flips
+pub mod Removing

@@ -10,6 +10,7 @@ mod legalization;
 mod location;
 mod position_in_triangulation;
 mod predicates;
+mod removal_line;
 mod triangulation_core;
 mod work_list;
 

@@ -1,0 +1,27 @@
+//! A vertex of the line of all vertices goes.
+ghost use Rattle.std.specs.Prelude.{◌≡◌, ◌<◌, length, Some, slice_get};
+ghost use Rattle.plane.specs.Plain.{Removes};
+ghost use Rattle.delaunay_edit.specs.Shape.{IsKept};
+ghost use Rattle.delaunay_edit.specs.State.{plain_of, state_of};
+
+use delaunay_core::point::HasPosition;
+use half_edge_mesh::{Dcel, FixedVertexHandle};
+
+// Removes a vertex of a line, and gives its data back. Its neighbours, if it has two, are joined, and the last vertex
+// takes its index.
+pub(crate) fn remove_on_line<V: HasPosition, DE: Drop, UE: Drop, F>(
+    dcel: &mut Dcel<V, DE, UE, F>,
+    vertex: FixedVertexHandle,
+) -> V
+    requires kept { IsKept V.place (state_of dcel.old) }
+    requires one_face { length dcel.old.faces ≡ 0 }
+    requires within { vertex < length dcel.old.vertices }
+    ensures value { slice_get dcel.old.vertices vertex ≡ Some result }
+    ensures plain { Removes V.place (plain_of (state_of dcel.old)) (plain_of (state_of dcel.new)) vertex }
+    ensures kept { IsKept V.place (state_of dcel.new) }
+    ensures outer { dcel.new.outer ≡ dcel.old.outer }
+{
+    let value = dcel.remove_when_degenerate(vertex);
+    let _ = dcel.num_vertices();
+    value
+}
