@@ -11,8 +11,6 @@ mod records;
 mod removal;
 mod room;
 mod shrink;
-#[cfg(test)]
-mod tests;
 mod vertices;
 
 pub use laws::{edges_go_round, outline_goes_round, sides_add_up, sides_cancel};

@@ -17,4 +17,3 @@ pub mod LineChanges
 pub mod StripSteps
 pub mod HoleSteps
 pub mod LineSteps
-pub mod SmallRemovals

@@ -7,8 +7,6 @@ mod edge;
 mod face;
 mod fixed_iterators;
 mod growth;
-#[cfg(test)]
-mod growth_tests;
 mod handles;
 mod inside;
 mod isolation;
@@ -18,18 +16,10 @@ mod lookup;
 mod mapped;
 mod neighbors;
 mod outside;
-#[cfg(test)]
-mod removal_tests;
 mod room;
-#[cfg(test)]
-mod room_tests;
 mod rounds;
 mod taking;
-#[cfg(test)]
-mod tests;
 mod vertex;
-#[cfg(test)]
-mod view_tests;
 mod voronoi;
 mod voronoi_iterators;
 mod writing;

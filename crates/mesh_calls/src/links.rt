@@ -1,13 +1,14 @@
-use crate::{Links, MAX_ELEMENTS, ReserveError, are_few_enough, is_full};
+//! The links of a mesh, without data.
+
+use half_edge_links::{Links, MAX_ELEMENTS, ReserveError, are_few_enough, is_full};
 use std::test::Fail;
 
 #[test]
-fn the_last_vertex_that_fits(rt: HostRuntime) -> Result<(), Fail> {
+fn the_last_vertex_that_fits(rt: HostRuntime) {
     assert!(rt; !is_full(715_827_881));
     assert!(rt; is_full(715_827_882));
     assert!(rt; are_few_enough(MAX_ELEMENTS, MAX_ELEMENTS / 2, MAX_ELEMENTS));
     assert!(rt; !are_few_enough(0, MAX_ELEMENTS / 2 + 1, 0));
-    Ok(())
 }
 
 #[test]

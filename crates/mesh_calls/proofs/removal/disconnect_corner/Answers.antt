@@ -1,5 +1,5 @@
-use Rattle.half_edge_mesh.proofs.SmallRemovals.{one_side}
-use Rattle.half_edge_mesh.proofs.removal_tests.disconnect_corner.Goals as goal
+use Rattle.mesh_calls.proofs.SmallRemovals.{one_side}
+use Rattle.mesh_calls.proofs.removal.disconnect_corner.Goals as goal
 
 pub disconnect_edge_strip-requires : goal.disconnect_edge_strip-requires
 disconnect_edge_strip-requires c =

@@ -1,19 +1,9 @@
 -- What a removal asks for, from the links round one vertex.
-use Rattle.std.proofs.Common.{◌≡◌, ◌≢◌, ℕ, zero, suc, ◌<◌, [], ◌∷◌, length, Some, refl, sym, ap, ◌∙◌, inr, arith}
+use Rattle.std.proofs.Common.{◌≡◌, ◌≢◌, ℕ, zero, suc, ◌<◌, [], ◌∷◌, length, refl, sym, ap, ◌∙◌, arith}
 use Rattle.std.specs.Prelude.{slice_index}
-use Rattle.half_edge_links.specs.Mesh.{Mesh, origin, next, prev, face, out_edge, rev, IsSound}
+use Rattle.half_edge_links.specs.Mesh.{Mesh, origin, next, prev, face, rev, IsSound}
 use Rattle.half_edge_links.specs.Peel.{turn, spoke}
-use Rattle.half_edge_mesh.specs.Removal.{AreOpposite, HasFewEdges, IsBorder}
-
-same_edge : (a b : ℕ) → Some a ≡ Some b → a ≡ b
-same_edge a b is = cc
-
--- two edges whose other ends differ
-pub two_edges : (m : Mesh) (v o : ℕ) → out_edge m v ≡ Some o → turn m (turn m o) ≡ o → origin m (rev o) ≢ origin m (rev (turn m o)) → prev m o ≢ rev o → HasFewEdges m v
-two_edges m v o named two corners off = record {
-  few = λ first is. let e = same_edge o first (sym named ∙ is) in rw (← e) (inr (two, corners));
-  whole = λ first is a b. let e = same_edge o first (sym named ∙ is) in absurd (off (ap (prev m) e ∙ b ∙ ap rev (sym e)));
-}
+use Rattle.half_edge_mesh.specs.Removal.{AreOpposite, IsBorder}
 
 -- one face at a vertex
 pub one_side : (m : Mesh) (e : ℕ) → IsSound m → e < length m.half_edges → 0 < face m (prev m e) → face m (rev (prev m e)) ≡ 0 → face m (turn m (prev m e)) ≡ 0 → next m (rev (prev m e)) ≡ turn m (prev m e) → next m (turn m (prev m e)) ≢ rev (turn m (prev m e)) → AreOpposite m (e ∷ [])

@@ -1,5 +1,5 @@
-use Rattle.half_edge_mesh.proofs.SmallRemovals.{three_sides}
-use Rattle.half_edge_mesh.proofs.removal_tests.isolate_inner.Goals as goal
+use Rattle.mesh_calls.proofs.SmallRemovals.{three_sides}
+use Rattle.mesh_calls.proofs.removal.isolate_inner.Goals as goal
 
 pub isolate_vertex_and_fill_hole-requires : goal.isolate_vertex_and_fill_hole-requires
 isolate_vertex_and_fill_hole-requires c =

@@ -1,0 +1,21 @@
+//! Calls of the half-edge mesh at concrete types, as tests.
+#![tactic(auto)]
+
+#[cfg(test)]
+mod careful;
+#[cfg(test)]
+mod data;
+#[cfg(test)]
+mod growth;
+#[cfg(test)]
+mod links;
+#[cfg(test)]
+mod lists;
+#[cfg(test)]
+mod reads;
+#[cfg(test)]
+mod removal;
+#[cfg(test)]
+mod room;
+#[cfg(test)]
+mod views;
