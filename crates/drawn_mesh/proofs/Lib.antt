@@ -9,6 +9,7 @@ pub mod MeshLines
 pub mod LineNeighbours
 pub mod MeshDrops
 pub mod MeshLineRemoval
+pub mod Borders
 pub mod RoundShift
 pub mod MeshStars
 pub mod FaceSums

@@ -1,6 +1,6 @@
 -- An edge of a mesh at a vertex is turned: its star in the plane, and what is left of it.
 use Rattle.std.proofs.Common.{◌≡◌, ℕ, suc, ◌<◌, ◌≤◌, ◌-◌, ◌*◌, ◌/◌, List, [], ◌∷◌, length, refl, sym, ap, ◌∙◌, subst, arith}
-use mathlib.Core.Logic.{inl, inr}
+use mathlib.Core.Logic.{inl, inr, ◌≢◌}
 use Rattle.std.specs.Prelude.{ℤ, pos, ◌+ℤ◌}
 use Rattle.std.proofs.lemmas.Int.{ints}
 use Rattle.half_edge_links.specs.Mesh.{Mesh, origin, next, prev, face, rev, IsValid}
@@ -19,9 +19,10 @@ use Rattle.plane_tiling.specs.Local.{LocalMesh}
 use Rattle.plane_tiling.proofs.Totals.{Contains-head}
 use Rattle.plane_edits.specs.Change.{IsFaceOf, IsTurnFree, FacesChange}
 use Rattle.plane_edits.specs.Removal.{IsStar}
-use Rattle.plane_edits.specs.StarFlips.{IsStarFlip}
+use Rattle.plane_edits.specs.RemovalHull.{IsHullStar}
+use Rattle.plane_edits.specs.StarFlips.{IsStarFlip, without}
 use Rattle.plane_edits.proofs.Kept.{flip_kept}
-use Rattle.plane_edits.proofs.StarFlips.{inner_star_shrinks, stars_agree}
+use Rattle.plane_edits.proofs.StarFlips.{inner_star_shrinks, stars_agree, hull_star_shrinks, hull_stars_agree}
 use Rattle.drawn_mesh.specs.Drawn.{faces_of, outer_of}
 use Rattle.drawn_mesh.proofs.OuterChanges.{outer_kept}
 use Rattle.drawn_mesh.proofs.FaceChanges.{come_of}
@@ -108,6 +109,16 @@ module _ (points : List Point) (m : Mesh) (valid : IsValid m) (local : LocalMesh
       (subst (λ (x : ℕ × ℕ × ℕ). FacesChange (faces_of m) (faces_of new) (corners (nb (suc i)) x.0 x.1 ∷ corners (nb (suc i)) x.1 x.2 ∷ []) (corners (nb (suc i)) x.0 x.2 ∷ corners x.0 x.1 x.2 ∷ []))
       (λ j. (twin_apex j, twin_end j, corner_b j)) (flipped_faces m new (rev e) valid.sound twin_flippable change))
 
+  abbrev CanTurn : ℕ → Type 0
+  CanTurn h = IsFlippable m h × (origin m (prev m h) ≢ origin m (prev m (rev h)))
+
+  -- its undirected edge may be turned
+  pub can_turn_spoke : nb i ≢ nb (suc (suc i)) → CanTurn (2 * (e / 2))
+  can_turn_spoke differ = elim (halved e) [
+    | inl q ↦ subst CanTurn (sym q) (spoke_flippable, λ x. differ (sym corner_b ∙ sym x ∙ corner_d))
+    | inr q ↦ subst CanTurn (sym q) (twin_flippable, λ x. differ (sym corner_b ∙ x ∙ twin_apex))
+  ]
+
   -- the turn of its undirected edge
   pub spoke_turned : (new : Mesh) → FlipsTriangles m new (2 * (e / 2)) → StarChange new
   spoke_turned new change = elim (halved e) [ inl q ↦ by_edge new (subst (FlipsTriangles m new) q change) | inr q ↦ by_twin new (subst (FlipsTriangles m new) q change) ]
@@ -135,3 +146,15 @@ one_neighbour_less points faces new outer outer' v k l nb other i local star fou
   where
     same : k - 1 ≡ l → suc l ≡ k
     same e = omega (arith, e, four)
+
+-- so has a vertex on the hull, with the same first and last
+pub one_hull_neighbour_less : (points : List Point) (faces new : List Face) (outer outer' : List (ℕ × ℕ)) (v k l : ℕ) (nb other : ℕ → ℕ) (i : ℕ) → LocalMesh points faces outer → IsHullStar faces outer v k nb → suc i < k
+    → IsStarFlip points faces new outer outer' v nb i → IsHullStar new outer' v l other → (suc l ≡ k) × (other 0 ≡ nb 0) × (other l ≡ nb k)
+one_hull_neighbour_less points faces new outer outer' v k l nb other i local star below flip again =
+    let shrunk = hull_star_shrinks points faces new outer outer' v k nb i local star below flip in
+    let local' = star_flip_local points faces new outer outer' v nb i local (star.around i (omega (arith, below))) (star.around (suc i) below) flip in
+    let agree = hull_stars_agree points new outer' v (k - 1) l (without (suc i) nb) other local' shrunk.0 again in
+    (same agree.0, agree.1 0 (omega arith) ∙ shrunk.1, ap other (sym agree.0) ∙ agree.1 (k - 1) (omega arith) ∙ shrunk.2)
+  where
+    same : k - 1 ≡ l → suc l ≡ k
+    same e = omega (arith, e, below)

@@ -1,17 +1,18 @@
 -- The round of a vertex in a mesh is its star in the plane: inside the hull all the way round, on the hull from one outer edge to the other.
-use Rattle.std.proofs.Common.{◌≡◌, ℕ, zero, suc, ◌<◌, ◌+◌, ◌-◌, List, length, get_or, refl, sym, ap, ◌∙◌, subst, arith, zero-add}
+use Rattle.std.proofs.Common.{◌≡◌, ◌⊎◌, ℕ, zero, suc, ◌<◌, ◌+◌, ◌-◌, List, length, get_or, refl, sym, ap, ◌∙◌, subst, arith, zero-add}
 use mathlib.Core.Logic.{inl, inr, ◌≢◌}
-use Rattle.std.specs.Prelude.{Contains}
+use Rattle.std.specs.Prelude.{Contains, IsSome}
 use Rattle.std.proofs.Math.Numerals.{add-one}
 use Rattle.std.proofs.lemmas.Bool.{cases_lt}
-use Rattle.half_edge_links.specs.Mesh.{Mesh, origin, next, prev, face, rev, IsValid, IsSound, IsInnerEdge}
+use Rattle.half_edge_links.specs.Mesh.{Mesh, origin, next, prev, face, rev, out_edge, IsValid, IsSound, IsInnerEdge}
+use Rattle.half_edge_links.specs.Outline.{IsOuterEdge}
 use Rattle.half_edge_links.specs.Peel.{turn, spoke, IsStrip}
 use Rattle.half_edge_links.specs.Round.{IsRound, neighbour}
 use Rattle.half_edge_links.specs.Triangles.{Triangle, triangles, triangle_at}
 use Rattle.half_edge_links.proofs.Rev.{rev-rev, rev_within}
 use Rattle.half_edge_links.proofs.Triangles as T
 use Rattle.plane.specs.Fraction.{Point}
-use Rattle.plane.specs.Pairs.{EachPairOnce}
+use Rattle.plane.specs.Pairs.{EachPairOnce, IsIndex}
 use Rattle.plane.specs.Tiling.{Face, face as corners}
 use Rattle.plane_tiling.specs.Local.{LocalMesh}
 use Rattle.plane_tiling.proofs.Covering.{no_outer_back}
@@ -25,7 +26,7 @@ use Rattle.plane_edits.proofs.Hull.{next_unique}
 use Rattle.plane_edits.proofs.Renumbering.{from_map}
 use Rattle.drawn_mesh.specs.Drawn.{corners_of, faces_of, edges_of, outer_of}
 use Rattle.drawn_mesh.proofs.OwnEdges.{own_edges}
-use Rattle.drawn_mesh.proofs.OuterEdges.{listed}
+use Rattle.drawn_mesh.proofs.OuterEdges.{listed, real}
 use Rattle.drawn_mesh.proofs.OuterChanges.{own_ends}
 use Rattle.drawn_mesh.proofs.MeshEdits.{face_before}
 use Rattle.drawn_mesh.proofs.MeshStays.{one_way}
@@ -213,3 +214,22 @@ module _ (points : List Point) (m : Mesh) (valid : IsValid m) (local : LocalMesh
             | inl l ↦ l
             | inr l ↦ absurd (let c = count_is in let same : i ≡ last = omega (arith, h, l, c) in let o = ap (λ x. face m (spoke m first x)) same ∙ last_outer in omega (arith, inner, o))
           ]
+
+-- each vertex has an edge
+pub vertex_has_edge : (points : List Point) (m : Mesh) → IsSound m → LocalMesh points (faces_of m) (outer_of m) → (v : ℕ) → IsIndex points v → IsSome (out_edge m v)
+vertex_has_edge points m s local v here = elim (local.used v here) [
+  | inl (f, c, corner) ↦ at_face f (edge_of_face m s f.a f.b f.c (inl c)) corner
+  | inr (e, c, end) ↦ at_outer e (real m e.0 e.1 c) end
+]
+  where
+    some_at : (h : ℕ) → h < length m.half_edges → origin m h ≡ v → IsSome (out_edge m v)
+    some_at h k o = subst (λ x. IsSome (out_edge m x)) o (s.edges h k).has_out
+
+    at_face : (f : Face) → (h : ℕ) × IsEdgeOfFace m h f.a f.b f.c → (v ≡ f.a) ⊎ ((v ≡ f.b) ⊎ (v ≡ f.c)) → IsSome (out_edge m v)
+    at_face f r (inl e) = some_at r.0 r.1.inner.0 (r.1.first ∙ sym e)
+    at_face f r (inr (inl e)) = some_at (next m r.0) (s.edges r.0 r.1.inner.0).next_in (r.1.second ∙ sym e)
+    at_face f r (inr (inr e)) = some_at (prev m r.0) (s.edges r.0 r.1.inner.0).prev_in (r.1.third ∙ sym e)
+
+    at_outer : (e : ℕ × ℕ) → (h : ℕ) × IsOuterEdge m h e.0 e.1 → (v ≡ e.0) ⊎ (v ≡ e.1) → IsSome (out_edge m v)
+    at_outer e r (inl q) = some_at r.0 r.1.within (r.1.source ∙ sym q)
+    at_outer e r (inr q) = some_at (rev r.0) (rev_within r.0 (length m.half_edges) s.even r.1.within) (r.1.target ∙ sym q)
