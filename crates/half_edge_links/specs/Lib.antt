@@ -14,3 +14,4 @@ pub mod Flow
 pub mod Round
 pub mod Hull
 pub mod Pass
+pub mod Copied

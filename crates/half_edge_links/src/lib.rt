@@ -1,6 +1,7 @@
 //! How the vertices, edges and faces of a mesh lie to each other, with no data on them.
 #![tactic(auto)]
 
+mod copies;
 mod inside;
 mod laws;
 mod line;

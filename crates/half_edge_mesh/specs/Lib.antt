@@ -1,4 +1,5 @@
 pub mod Contents
+pub mod Copied
 pub mod Growth
 pub mod Left
 pub mod Mapped

@@ -1,6 +1,7 @@
 //! A mesh of vertices, edges and faces with data on them, held by its directed edges.
 #![tactic(auto)]
 
+mod copies;
 mod dcel;
 mod degenerate;
 mod edge;
