@@ -57,31 +57,34 @@ module _ (m new : Mesh) (z : ℕ) (s : IsSound m) (f : IsFanOfOne m z) (r : Remo
   pub twin_before : prev m (rev z) ≡ next m (next m (next m z))
   twin_before = ap (prev m) (sym f.round) ∙ (s.edges _ b2.within).prev_next
 
+  pub next_border : next new (name m new z s can r (next m z)) ≡ name m new z s can r (next m (next m z))
+  next_border = next_at m new z s can r (next m z) b3 (λ q. b3.other_side (q ∙ before)) (λ q. f.apart.1 (sym (q ∙ twin_before)))
+
+  pub prev_border : prev new (name m new z s can r (next m z)) ≡ name m new z s can r (next m (next m (next m z)))
+  prev_border =
+      let s' = sound_removed m new z r in
+      let n2 = next_twin_before m new z s can r (next m (next m (next m z))) b2 (sym twin_before) in
+      ap (prev new) (sym n2) ∙ (s'.edges _ (name_in m new z s can r _ b2)).prev_next
+
   -- what is left is a loop of three edges
   pub open_triangle : IsOpenTriangle new (name m new z s can r (next m z))
   open_triangle =
-      let s' = sound_removed m new z r in
-      let n3 = next_at m new z s can r (next m z) b3 (λ q. b3.other_side (q ∙ before)) (λ q. f.apart.1 (sym (q ∙ twin_before))) in
       let n1 = next_at m new z s can r (next m (next m z)) b1 (λ q. b1.other_side (q ∙ before)) (λ q. f.apart.2 (sym (q ∙ twin_before))) in
-      let n2 = next_twin_before m new z s can r (next m (next m (next m z))) b2 (sym twin_before) in
-      let in3 = name_in m new z s can r (next m z) b3 in
-      let in2 = name_in m new z s can r _ b2 in
-      let prev_is : prev new (name m new z s can r (next m z)) ≡ name m new z s can r (next m (next m (next m z))) = ap (prev new) (sym n2) ∙ (s'.edges _ in2).prev_next in
       let k = outer_of m z s f.within in
       let off = f.unnamed k.0 k.1 in
       let had = s.outer k.0 k.1 in
       let l : IsLeft m z k.0 = record { within = had.0; other = off.0; other_side = off.1 } in
       let now = outer_at m new z s can r k.0 l k.1 in
       record {
-        within = in3;
+        within = name_in m new z s can r (next m z) b3;
         outer = face_at m new z s can r (next m z) b3 ∙ (s.edges z f.within).same_face ∙ f.outer;
-        three = ap (next new) n3 ∙ n1 ∙ sym prev_is;
-        proper = λ q. f.apart.0 (name_same m new z s can r _ _ b1 b3 (sym n3 ∙ q));
+        three = ap (next new) next_border ∙ n1 ∙ sym prev_border;
+        proper = λ q. f.apart.0 (name_same m new z s can r _ _ b1 b3 (sym next_border ∙ q));
         unnamed = λ j is.
             let same = some_same _ _ (sym now ∙ is) in (
               λ q. off.2 (name_same m new z s can r _ _ l b3 (same ∙ q)),
-              λ q. off.3 (name_same m new z s can r _ _ l b1 (same ∙ q ∙ n3)),
-              λ q. off.4 (name_same m new z s can r _ _ l b2 (same ∙ q ∙ prev_is)),
+              λ q. off.3 (name_same m new z s can r _ _ l b1 (same ∙ q ∙ next_border)),
+              λ q. off.4 (name_same m new z s can r _ _ l b2 (same ∙ q ∙ prev_border)),
             );
       }
 
@@ -90,16 +93,16 @@ module _ (m mid new : Mesh) (a z : ℕ) (s : IsSound m) (f : IsFanOfTwo m a z) (
   abbrev a_in : a < length m.half_edges
   a_in = f.peelable.within
 
-  at_a : IsTriangle m a
+  pub at_a : IsTriangle m a
   at_a = triangle_at m a s f.peelable.within f.peelable.inner
 
   abbrev inner : IsInner m (face m a)
   inner = (f.peelable.inner, (s.edges a a_in).face_in)
 
-  abbrev s1 : IsSound mid
+  abbrev pub s1 : IsSound mid
   s1 = sound_opened m mid (face m a) s inner o
 
-  abbrev can1 : IsUnlinkable mid a
+  abbrev pub can1 : IsUnlinkable mid a
   can1 = removable_opened m mid a s f.peelable o
 
   z_face : face m z ≡ 0
@@ -118,13 +121,13 @@ module _ (m mid new : Mesh) (a z : ℕ) (s : IsSound m) (f : IsFanOfTwo m a z) (
   c1_face = (s.edges _ c3_in).same_face ∙ c3_face
 
   -- the edge before a is the other side of z
-  a_before : prev m a ≡ rev z
+  pub a_before : prev m a ≡ rev z
   a_before = sym (rev-rev (prev m a)) ∙ ap rev f.spoke
 
   twin_next : next m (rev a) ≡ z
   twin_next = f.gap
 
-  twin_before1 : prev m (rev a) ≡ next m (next m z)
+  pub twin_before1 : prev m (rev a) ≡ next m (next m z)
   twin_before1 = ap (prev m) (sym f.round) ∙ (s.edges _ c1_in).prev_next
 
   -- an edge of the outer face is not in the face that goes
@@ -159,7 +162,7 @@ module _ (m mid new : Mesh) (a z : ℕ) (s : IsSound m) (f : IsFanOfTwo m a z) (
   pub c2_left : IsLeft mid a (next m a)
   c2_left = left (next m a) at_a.next_in at_a.next_differs (λ q. absurd (omega (arith, ap (face m) q, at_a.face_next, f.peelable.inner, f.peelable.outer)))
 
-  w_left : IsLeft mid a (rev z)
+  pub w_left : IsLeft mid a (rev z)
   w_left = left (rev z) (rw (← a_before) at_a.prev_in) (λ q. at_a.prev_differs (a_before ∙ q)) (λ q. (off_a z z_face).0 (sym (rev-rev z) ∙ ap rev q ∙ rev-rev a))
 
   abbrev pub nm : ℕ → ℕ
@@ -196,7 +199,7 @@ module _ (m mid new : Mesh) (a z : ℕ) (s : IsSound m) (f : IsFanOfTwo m a z) (
   nw : next new (nm (rev z)) ≡ nm z
   nw = next_before mid new a s1 can1 r (rev z) w_left (sym (o.prev a ∙ a_before)) ∙ ap nm (o.next (rev a) ∙ f.gap)
 
-  rev_z : rev (nm z) ≡ nm (rev z)
+  pub rev_z : rev (nm z) ≡ nm (rev z)
   rev_z = rev_at mid new a s1 can1 r z z_left
 
   same : (x y : ℕ) → IsLeft mid a x → IsLeft mid a y → nm x ≡ nm y → x ≡ y

@@ -60,9 +60,11 @@ pub mod Sums
 pub mod Flow
 pub mod Outline
 pub mod OutlineTaken
+pub mod OutlineTraced
 pub mod Walks
 pub mod OutlineRound
 pub mod PassReads
 pub mod Passing
 pub mod PassKept
 pub mod WheelEnds
+pub mod OutlineFilled

@@ -1,12 +1,11 @@
 -- A vertex of the hull loses its faces one by one.
 use Rattle.std.proofs.Common.{◌≡◌, ◌≢◌, ℕ, zero, suc, ◌-◌, ◌%◌, ◌<◌, ◌≤◌, length, refl, sym, ap, ◌∙◌, inl, inr, arith}
 use Rattle.std.proofs.lemmas.Bool.{cases_eq}
-use Rattle.half_edge_links.specs.Mesh.{Mesh, origin, next, prev, face, rev, IsSound, IsValid, IsInner}
-use Rattle.half_edge_links.specs.Hull.{KeepsOneOutline, IsPendant}
+use Rattle.half_edge_links.specs.Mesh.{Mesh, origin, next, prev, face, rev, IsSound, IsInner}
 use Rattle.half_edge_links.specs.Renames.{pair_moved}
-use Rattle.half_edge_links.specs.Peel.{Peels, HasPeeled, IsPeelable, IsStrip, HasStrip, spoke, turn}
+use Rattle.half_edge_links.specs.Peel.{Peels, IsStrip, spoke, turn}
 use Rattle.half_edge_links.specs.Remove.{Opens, Removes, IsRemovable, after_removal}
-use Rattle.half_edge_links.proofs.Conditions.{spoke_at, IsUnlinkable, IsHullEdge, IsFullStrip, full_strip, strip_of}
+use Rattle.half_edge_links.proofs.Conditions.{spoke_at, IsUnlinkable, IsHullEdge, IsFullStrip}
 use Rattle.half_edge_links.proofs.Rev.{rev-rev, rev_within}
 use Rattle.half_edge_links.proofs.Triangles.{IsTriangle, triangle_at}
 use Rattle.half_edge_links.proofs.OpenSound.{sound_opened}
@@ -193,45 +192,7 @@ strip_ends m new h k at s f p is =
     )
 
 -- as long as the first edge has an inner face, there is one more
+-- a strip whose first edge has an inner face has a face
 pub one_more : (m : Mesh) (h k : ℕ) → IsStrip m h k → 0 < face m h → (j : ℕ) × (k ≡ suc j)
 one_more m h zero f some = absurd (omega (arith, some, f.last))
 one_more m h (suc k) f some = (k, refl)
-
-pub none_more : (m : Mesh) (h k : ℕ) → IsStrip m h k → face m h ≡ 0 → k ≡ 0
-none_more m h zero f none = refl
-none_more m h (suc k) f none = absurd (omega (arith, none, f.inner 0 (omega arith)))
-
--- what holds between two steps
-pub record IsStripping (old : Mesh) (first : ℕ) (m : Mesh) (h : ℕ) : Type 0 where
-  pub left : ℕ
-  pub strip : IsStrip m h left
-  pub gone : ℕ
-  pub peeled : HasPeeled gone old first m h
-  pub outline : KeepsOneOutline old m
-
-pub stripping_starts : (m : Mesh) (h : ℕ) → HasStrip m h → IsStripping m h m h
-stripping_starts m h f = record { left = f.count; strip = f.strip; gone = 0; peeled = (refl, refl); outline = λ one. one }
-
-pub stripping_more : (old : Mesh) (first : ℕ) (m new : Mesh) (h g : ℕ) → IsValid m → IsStripping old first m h → 0 < face m h → Peels m new h → g ≡ after_removal m h (turn m h) → KeepsOneOutline m new → IsStripping old first new g
-stripping_more old first m new h g v f some p is keeps =
-    let j = one_more m h f.left f.strip some in
-    let full = full_strip m h (suc j.0) v (rw j.1 at f.strip) in
-    record {
-      left = j.0;
-      strip = strip_of new g j.0 (strip_from m new h j.0 g v.sound full p is);
-      gone = suc f.gone;
-      peeled = (m, h, f.peeled, p, is);
-      outline = λ one. keeps (f.outline one);
-    }
-
-pub peelable_stripping : (old : Mesh) (first : ℕ) (m : Mesh) (h : ℕ) → IsStripping old first m h → 0 < face m h → IsPeelable m h
-peelable_stripping old first m h f some = record { within = f.strip.within; inner = some; outer = f.strip.outer }
-
-pub removable_stripping : (old : Mesh) (first : ℕ) (m : Mesh) (h : ℕ) → IsStripping old first m h → face m h ≡ 0 → IsRemovable m h
-removable_stripping old first m h f none =
-    let z = none_more m h f.left f.strip none in
-    removable_strip m h (rw z at f.strip)
-
--- the last edge has a free end
-pub pendant_stripping : (old : Mesh) (first : ℕ) (m : Mesh) (h : ℕ) → IsStripping old first m h → face m h ≡ 0 → IsPendant m h
-pendant_stripping old first m h f none = let z = none_more m h f.left f.strip none in inr (f.strip.gap ∙ ap (spoke m h) z)

@@ -5,8 +5,7 @@ use Rattle.half_edge_links.specs.Renames.{pair_moved}
 use Rattle.half_edge_links.specs.Peel.{Peels, turn}
 use Rattle.half_edge_links.specs.Remove.{Opens, Removes, after_removal}
 use Rattle.half_edge_links.proofs.Conditions.{IsFullWheel, IsFanOfTwo, IsFanOfOne}
-use Rattle.half_edge_links.proofs.RemoveSound.{sound_removed}
-use Rattle.half_edge_links.proofs.Track.{name_in, origin_at, next_at, next_twin_before}
+use Rattle.half_edge_links.proofs.Track.{name_in, origin_at}
 use Rattle.half_edge_links.proofs.WheelLemmas as wheel
 use Rattle.half_edge_links.proofs.CollapseLemmas as fan
 
@@ -67,14 +66,10 @@ pub closed_corners : (m new : Mesh) (z v c0 c1 c2 : ℕ) → IsSound m → IsHol
 closed_corners m new z v c0 c1 c2 s h r =
     let f = h.fan in
     let can = fan.can m new z s f r in
-    let s' = sound_removed m new z r in
     let l3 = fan.b3 m new z s f r in
     let l1 = fan.b1 m new z s f r in
-    let l2 = fan.b2 m new z s f r in
-    let before = fan.before m new z s f r in
-    let twin_before = fan.twin_before m new z s f r in
-    let n3 = next_at m new z s can r (next m z) l3 (λ q. l3.other_side (q ∙ before)) (λ q. f.apart.1 (sym (q ∙ twin_before))) in
-    let n2 = next_twin_before m new z s can r (next m (next m (next m z))) l2 (sym twin_before) in
-    let in2 = name_in m new z s can r _ l2 in
-    let prev_is = ap (prev new) (sym n2) ∙ (s'.edges _ in2).prev_next in
-    (origin_at m new z s can r _ l3 ∙ h.third, ap (origin new) n3 ∙ origin_at m new z s can r _ l1 ∙ h.first, ap (origin new) prev_is ∙ origin_at m new z s can r _ l2 ∙ h.second)
+    let l2 = fan.b2 m new z s f r in (
+      origin_at m new z s can r _ l3 ∙ h.third,
+      ap (origin new) (fan.next_border m new z s f r) ∙ origin_at m new z s can r _ l1 ∙ h.first,
+      ap (origin new) (fan.prev_border m new z s f r) ∙ origin_at m new z s can r _ l2 ∙ h.second,
+    )

@@ -103,7 +103,7 @@ module _ (m : Mesh) (o : ℕ) (s : IsSound m) (w : IsFullWheel m o) where
       next_is : (k : ℕ) → next mid k ≡ next m k
       next_is k = oq.next k ∙ op.next k
 
-      prev_is : (k : ℕ) → prev mid k ≡ prev m k
+      pub prev_is : (k : ℕ) → prev mid k ≡ prev m k
       prev_is k = oq.prev k ∙ op.prev k
 
       origin_is : (k : ℕ) → origin mid k ≡ origin m k
@@ -115,13 +115,13 @@ module _ (m : Mesh) (o : ℕ) (s : IsSound m) (w : IsFullWheel m o) where
       left : (k : ℕ) → k < length m.half_edges → k ≢ o → k ≢ rev o → IsLeft mid o k
       left k within p q = record { within = rw count within; other = p; other_side = q }
 
-      twin_face : face m (rev o) ≡ face m (turn m (turn m o))
+      pub twin_face : face m (rev o) ≡ face m (turn m (turn m o))
       twin_face = ap (face m) (sym before_z) ∙ (t3).face_prev
 
       pub a_left : IsLeft mid o (turn m o)
       a_left = left _ a_in (λ q. w.first_apart (sym (ap (face m) q))) (λ q. w.second_apart (ap (face m) q ∙ twin_face))
 
-      z_left : IsLeft mid o (turn m (turn m o))
+      pub z_left : IsLeft mid o (turn m (turn m o))
       z_left = left _ z_in (λ q. w.third_apart (ap (face m) q)) (λ q. (t3).prev_differs (before_z ∙ sym q))
 
       pub b1_left : IsLeft mid o (next m o)
@@ -144,10 +144,10 @@ module _ (m : Mesh) (o : ℕ) (s : IsSound m) (w : IsFullWheel m o) where
       rz_face = ap (face m) (sym before_a) ∙ (t2).face_prev
 
       -- what is before the edge that goes, and before its other side
-      mid_before : prev mid o ≡ rev (turn m o)
+      pub mid_before : prev mid o ≡ rev (turn m o)
       mid_before = prev_is o ∙ before_o
 
-      mid_twin_before : prev mid (rev o) ≡ next m (turn m (turn m o))
+      pub mid_twin_before : prev mid (rev o) ≡ next m (turn m (turn m o))
       mid_twin_before = prev_is (rev o) ∙ ap (prev m) (sym before_z) ∙ (t3).prev_prev
 
       step : (k : ℕ) → IsLeft mid o k → k ≢ rev (turn m o) → k ≢ next m (turn m (turn m o)) → next new (nm k) ≡ nm (next m k)

@@ -1,7 +1,7 @@
 -- The edges of a vertex are taken out of a mesh, face by face.
-use Rattle.std.specs.Prelude.{◌≡◌, ◌≢◌, ℕ, zero, suc, ◌<◌, length}
+use Rattle.std.specs.Prelude.{◌≡◌, ◌≢◌, ℕ, ◌<◌, length}
 use Rattle.half_edge_links.specs.Mesh.{Mesh, next, prev, face, rev, iterate}
-use Rattle.half_edge_links.specs.Remove.{Opens, Removes, ClosesLoop, after_removal}
+use Rattle.half_edge_links.specs.Remove.{Opens, Removes}
 
 -- an edge with an inner face on its left and the outer one on its right
 pub record IsPeelable (m : Mesh) (h : ℕ) : Type 0 where
@@ -27,25 +27,6 @@ pub record IsWheel (m : Mesh) (o : ℕ) : Type 0 where
   pub third_inner : 0 < face m (turn m (turn m o))
   pub round : turn m (turn m (turn m o)) ≡ o
 
--- the vertex with the three faces round edge o is cut out: one face goes, then two edges each with a face,
--- then the last edge, and what is left is made a face
-pub record Collapses (old new : Mesh) (o : ℕ) : Type 0 where
-  pub one : Mesh
-  pub two : Mesh
-  pub three : Mesh
-  pub four : Mesh
-  pub second : ℕ
-  pub third : ℕ
-  pub border : ℕ
-  pub opens : Opens old one (face old (turn old (turn old o)))
-  pub peels : Peels one two o
-  pub second_is : second ≡ after_removal one o (turn one o)
-  pub peels_more : Peels two three second
-  pub third_is : third ≡ after_removal two second (turn two second)
-  pub removes : Removes three four third
-  pub border_is : border ≡ after_removal three third (next three third)
-  pub closes : ClosesLoop four new border
-
 -- the edges out of a vertex, from h on against the clock
 abbrev pub spoke : Mesh → ℕ → ℕ → ℕ
 spoke m h i = iterate (turn m) i h
@@ -59,22 +40,3 @@ pub record IsStrip (m : Mesh) (h k : ℕ) : Type 0 where
   pub last : face m (spoke m h k) ≡ 0
   pub gap : next m (rev h) ≡ spoke m h k
   pub far : next m (spoke m h k) ≢ rev (spoke m h k)
-
-pub record HasStrip (m : Mesh) (h : ℕ) : Type 0 where
-  pub count : ℕ
-  pub strip : IsStrip m h count
-
--- so many edges, each with the face on its left, went one after the other, from edge h of the old mesh on;
--- edge g of the new one is the next
-abbrev pub HasPeeled : ℕ → Mesh → ℕ → Mesh → ℕ → Type 0
-HasPeeled zero old h new g = (new ≡ old) × (g ≡ h)
-HasPeeled (suc k) old h new g =
-    (between : Mesh) × (f : ℕ) × HasPeeled k old h between f × Peels between new f × (g ≡ after_removal between f (turn between f))
-
--- the strip of faces round a vertex went, and then the last edge of the vertex
-pub record Disconnects (old new : Mesh) (h : ℕ) : Type 0 where
-  pub count : ℕ
-  pub between : Mesh
-  pub edge : ℕ
-  pub peeled : HasPeeled count old h between edge
-  pub removes : Removes between new edge

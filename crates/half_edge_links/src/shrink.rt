@@ -7,7 +7,7 @@ ghost use Rattle.half_edge_links.specs.Outline.{ends, AddsTriangle};
 ghost use Rattle.half_edge_links.specs.Taken.{RemovesTriangle, RemovesEnds, OpensOuter, ClosesLoopOuter, RemovesOuter, PeelsOuter, MovesTriangles, MovesEnds, MovesOuter};
 ghost use Rattle.half_edge_links.specs.Room.{HasFaceRoom};
 ghost use Rattle.half_edge_links.specs.Remove.{opened, Opens, removed, Removes, IsRemovable, IsOpenTriangle, loop_closed, ClosesLoop, after_removal};
-ghost use Rattle.half_edge_links.specs.Peel.{IsPeelable, Peels, IsWheel, Collapses, HasStrip, Disconnects};
+ghost use Rattle.half_edge_links.specs.Peel.{IsPeelable, Peels};
 ghost use Rattle.half_edge_links.specs.Move.{MovesVertex};
 
 use crate::links::Links;
@@ -113,40 +113,6 @@ impl Links {
         self.open_face(edge.face);
         self.remove_edge(h);
         spoke
-    }
-
-    /// Removes the edges of the origin of `o`, which has three faces round it. One face is left of the three.
-    pub fn collapse(&mut self, o: u32)
-        requires { IsWheel self.old.mesh o }
-        ensures collapses { Collapses self.old.mesh self.new.mesh o }
-        ensures room { self.new.room ≡ self.old.room }
-        ensures sound { IsSound self.old.mesh }
-    {
-        let second = reversed(self.half_edge(o).prev);
-        let third = reversed(self.half_edge(second).prev);
-        let face = self.half_edge(third).face;
-        self.open_face(face);
-        let spoke = self.peel(o);
-        let pendant = self.peel(spoke);
-        let border = self.half_edge(pendant).next;
-        let border = self.index_after_removal(pendant, border);
-        self.remove_edge(pendant);
-        self.close_face(border);
-    }
-
-    /// Removes the edges of a vertex with the outer face between its last edge and `first`, and its inner
-    /// faces, which follow each other from `first` on.
-    pub fn disconnect_strip(&mut self, first: u32)
-        requires { HasStrip self.old.mesh first }
-        ensures disconnects { Disconnects self.old.mesh self.new.mesh first }
-        ensures room { self.new.room ≡ self.old.room }
-        ensures outline { KeepsOneOutline self.old.mesh self.new.mesh }
-    {
-        let mut h = first;
-        while self.half_edge(h).face != 0 {
-            h = self.peel(h);
-        }
-        self.remove_edge(h);
     }
 
     /// Removes vertex `v`, which has no edges. The last vertex takes its index.

@@ -6,6 +6,7 @@ use Rattle.std.specs.List.Sorted.{IsPermutation}
 use Rattle.std.proofs.lemmas.Int.{ints}
 use Rattle.std.proofs.lemmas.List.Sorted.{IsPermutation-trans, IsPermutation-cons, IsPermutation-to_front}
 use Rattle.half_edge_links.specs.Flow.{total, around, along, both_ways, outline}
+use Rattle.half_edge_links.specs.Hull.{KeepsOneOutline}
 use Rattle.half_edge_links.specs.Mesh.{Mesh, origin, next, prev, face, face_edge, rev, IsSound, IsAlone}
 use Rattle.half_edge_links.specs.Outline.{ends}
 use Rattle.half_edge_links.specs.Peel.{IsPeelable, IsWheel, Peels, turn}
@@ -15,6 +16,7 @@ use Rattle.half_edge_links.specs.Triangles.{triangles, triangle_at}
 use Rattle.half_edge_links.proofs.CollapseLemmas.{open_triangle, removable_last}
 use Rattle.half_edge_links.proofs.CollapseSteps.{peels_faces}
 use Rattle.half_edge_links.proofs.Conditions.{IsFullWheel, full_wheel, peelable, removable}
+use Rattle.half_edge_links.proofs.OutlineFilled.{outline_filled}
 use Rattle.half_edge_links.proofs.Rev.{rev-rev}
 use Rattle.half_edge_links.proofs.WheelEnds.{IsHoleOfFour, IsHoleOfThree, hole_of_four, hole_of_three, closed_corners}
 use Rattle.half_edge_links.proofs.WheelLemmas as wheel
@@ -86,9 +88,9 @@ pub fills_hole : {V D U F : Type 0} (c0 c1 c2 c3 c4 c5 : Contents V D U F) (o sp
     → full_edges c1 ≡ full_edges c0 → LosesEdges c1 c2 (joins (origin c0.mesh o) (origin c0.mesh (rev o)) ∷ []) → LosesEdges c2 c3 (joins (origin c2.mesh spoke) (origin c2.mesh (rev spoke)) ∷ []) → LosesEdges c3 c4 (joins (origin c0.mesh o) (neighbour c0.mesh o 2) ∷ []) → full_edges c5 ≡ full_edges c4
     → (third : FullFace F) → third.corners ≡ triangle_at c0.mesh (face_edge c0.mesh (face c0.mesh (turn c0.mesh (turn c0.mesh o)))) → made.value ≡ third.value
     → IsPermutation (full_faces c0) (third ∷ full_faces c1) → LosesFaces c1 c2 (triangle_at c0.mesh o ∷ []) → LosesFaces c2 c3 (triangle_at c2.mesh spoke ∷ []) → full_faces c4 ≡ full_faces c3 → full_faces c5 ≡ full_faces c4 ++ made ∷ []
-    → HasCorners made (record { first = neighbour c0.mesh o 0; second = neighbour c0.mesh o 1; third = neighbour c0.mesh o 2 })
+    → HasCorners made (record { first = neighbour c0.mesh o 0; second = neighbour c0.mesh o 1; third = neighbour c0.mesh o 2 }) → KeepsOneOutline c0.mesh c5.mesh
     → FillsHole c0 c5 (origin c0.mesh o) (neighbour c0.mesh o)
-fills_hole {V} {D} {U} {F} c0 c1 c2 c3 c4 c5 o spoke z made whole0 whole2 whole3 whole5 w h same alone e01 e12 e23 e34 e45 third third_is value_is f01 f12 f23 f34 f45 made_is =
+fills_hole {V} {D} {U} {F} c0 c1 c2 c3 c4 c5 o spoke z made whole0 whole2 whole3 whole5 w h same alone e01 e12 e23 e34 e45 third third_is value_is f01 f12 f23 f34 f45 made_is one_round =
     let m = c0.mesh in
     let s = whole0.valid.sound in
     let v : ℕ = origin m o in
@@ -120,6 +122,7 @@ fills_hole {V} {D} {U} {F} c0 c1 c2 c3 c4 c5 o spoke z made whole0 whole2 whole3
       was = was;
       is = is;
       outer = outer_filled c0 c5 v n (third ∷ g1.0) made (full_faces c3) (ap (λ k. origin m (rev k)) w.round) whole0 whole5 edges (third_at, g1.1) made_is was is;
+      outline = one_round;
     }
 
 -- ---- what the calls ensure, and what they ask for
@@ -194,3 +197,4 @@ module _ {V D U F : Type 0} (c0 c1 c2 c3 : Contents V D U F) (o face_is spoke pe
               let made_is : HasCorners made (record { first = neighbour m o 0; second = neighbour m o 1; third = neighbour m o 2 }) =
               inr (inr (ap (triangle_at c4.mesh) border_is ∙ (λ i. record { first = corners.0 i; second = corners.1 i; third = corners.2 i }))) in
               fills_hole c0 c1 c2 c3 c4 c5 o spoke four.0 made w0 w2 w3 w5 w four.1 same alone e01 (rw a at e12) e23 (rw last at e34) e45 third_face refl refl (rw is_third at gives) (rw b at f12) f23 f34 f45 made_is
+              (outline_filled m c1.mesh c2.mesh c3.mesh c4.mesh c5.mesh o spoke pendant border s w op one spoke_is w2.valid.sound two pendant_is w3.valid.sound gone border_is closes)

@@ -1,5 +1,5 @@
 -- A mesh whose undirected edges have other data.
-use Rattle.std.specs.Prelude.{◌≡◌, List}
+use Rattle.std.specs.Prelude.{◌≡◌}
 use Rattle.std.specs.List.{AllZip}
 use Rattle.half_edge_mesh.specs.Contents.{Contents}
 

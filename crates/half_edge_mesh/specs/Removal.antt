@@ -189,6 +189,7 @@ pub record FillsHole {V D U F : Type 0} (old new : Contents V D U F) (v : ℕ) (
   pub was : IsPermutation (full_faces old) (lost ++ rest)
   pub is : IsPermutation (full_faces new) (made ∷ rest)
   pub outer : OuterChanges old.mesh new.mesh [] []
+  pub outline : KeepsOneOutline old.mesh new.mesh
 
 -- these three edges are the loop round an inner vertex, against the clock
 pub record IsBorder (m : Mesh) (border : List ℕ) (v : ℕ) : Type 0 where

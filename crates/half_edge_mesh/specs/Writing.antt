@@ -1,5 +1,5 @@
 -- What a mesh ends as, where a reference for writing to its data is given out.
-use Rattle.std.specs.Prelude.{ℕ, zero, suc, ◌∷◌, slice_set}
+use Rattle.std.specs.Prelude.{ℕ, zero, suc, slice_set}
 use Rattle.half_edge_mesh.specs.Contents.{Contents}
 
 module _ {V D U F : Type 0} where

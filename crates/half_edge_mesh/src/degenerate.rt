@@ -16,7 +16,8 @@ impl<V, DE, UE, F> Dcel<V, DE, UE, F> {
     /// Removes a vertex without edges, and gives its data back. The last vertex takes its index.
     pub fn swap_remove_vertex(&mut self, vertex: FixedVertexHandle) -> V
         requires { IsAlone self.old.mesh vertex }
-        ensures { DropsVertex self.old self.new vertex result }
+        ensures drops { DropsVertex self.old self.new vertex result }
+        ensures outline { KeepsOneOutline self.old.mesh self.new.mesh }
     {
         let v = vertex.index();
         self.links.swap_remove_vertex(v);
@@ -45,7 +46,8 @@ impl<V, DE, UE, F> Dcel<V, DE, UE, F> {
         requires one_face { length self.old.faces ≡ 0 }
         requires two { let m = self.old.mesh in turn m (turn m out) ≡ out }
         requires corners { let m = self.old.mesh in origin m (rev out) ≢ origin m (rev (turn m out)) }
-        ensures { LeavesLine self.old self.new (origin self.old.mesh out) }
+        ensures leaves { LeavesLine self.old self.new (origin self.old.mesh out) }
+        ensures outline { KeepsOneOutline self.old.mesh self.new.mesh }
     {
         let _old = self.num_vertices();
         let edge = reversed(out);
@@ -64,7 +66,8 @@ impl<V, DE, UE, F> Dcel<V, DE, UE, F> {
         requires one_face { length self.old.faces ≡ 0 }
         requires one { turn self.old.mesh out ≡ out }
         requires whole { let m = self.old.mesh in next m out ≡ rev out → prev m out ≡ rev out → length m.half_edges ≡ 2 }
-        ensures { LeavesLine self.old self.new (origin self.old.mesh out) }
+        ensures leaves { LeavesLine self.old self.new (origin self.old.mesh out) }
+        ensures outline { KeepsOneOutline self.old.mesh self.new.mesh }
     {
         let _old = self.num_vertices();
         self.remove_edge(out);
@@ -79,7 +82,8 @@ impl<V, DE, UE, F> Dcel<V, DE, UE, F> {
         requires within { vertex < length self.old.vertices }
         requires one_face { length self.old.faces ≡ 0 }
         requires few { HasFewEdges self.old.mesh vertex }
-        ensures { LeavesLine self.old self.new vertex }
+        ensures leaves { LeavesLine self.old self.new vertex }
+        ensures outline { KeepsOneOutline self.old.mesh self.new.mesh }
     {
         if let Some(out) = self.out_edge(vertex) {
             let other = reversed(self.half_edge(out).prev);
@@ -100,7 +104,8 @@ impl<V, DE, UE, F> Dcel<V, DE, UE, F> {
         requires within { vertex < length self.old.vertices }
         requires one_face { length self.old.faces ≡ 0 }
         requires few { HasFewEdges self.old.mesh vertex }
-        ensures { LeavesMesh self.old self.new vertex result }
+        ensures leaves { LeavesMesh self.old self.new vertex result }
+        ensures outline { KeepsOneOutline self.old.mesh self.new.mesh }
     {
         self.leave_line(vertex.index());
         let _whole = self.num_vertices();

@@ -1,5 +1,6 @@
 //! Changes inside the outer loop.
 ghost use Rattle.std.specs.Prelude.{◌≡◌, ◌≢◌, ◌+◌, ◌*◌, ◌/◌, ◌<◌, ◌≤◌, ◌++◌, ◌∷◌, [], length};
+ghost use Rattle.half_edge_links.specs.Hull.{KeepsOneOutline};
 ghost use Rattle.half_edge_links.specs.Mesh.{with_vertex, origin, next, prev, rev, face, face_edge};
 ghost use Rattle.half_edge_links.specs.Flip.{IsFlippable, flipped};
 ghost use Rattle.half_edge_links.specs.Insert.{inserted};
@@ -25,6 +26,7 @@ impl<V, DE, UE, F> Dcel<V, DE, UE, F> {
         ensures edges { let m = self.old.mesh in edges self.new ≡ with_ends (edges self.old) edge (joins (origin m (prev m (2 * edge))) (origin m (prev m (rev (2 * edge))))) }
         ensures triangles { FlipsTriangles self.old.mesh self.new.mesh (2 * edge) }
         ensures outer { KeepsOuter self.old.mesh self.new.mesh }
+        ensures outline { KeepsOneOutline self.old.mesh self.new.mesh }
     {
         self.links.flip(edge.as_directed().index());
     }
@@ -49,6 +51,7 @@ impl<V, DE, UE, F> Dcel<V, DE, UE, F> {
         ensures triangles { InsertsTriangles self.old.mesh self.new.mesh result (face_edge self.old.mesh triangle) }
         ensures face { face self.old.mesh (face_edge self.old.mesh triangle) ≡ triangle }
         ensures outer { KeepsOuter self.old.mesh self.new.mesh }
+        ensures outline { KeepsOneOutline self.old.mesh self.new.mesh }
     {
         let edge = self.face_edge(triangle.index());
         let v = self.links.push_vertex();
@@ -84,6 +87,7 @@ impl<V, DE, UE, F> Dcel<V, DE, UE, F> {
         ensures edges { let m = self.old.mesh in SplitsEdge UE.is_default (edges self.old) (edges self.new) (edge / 2) (along edge result.0 (origin m (prev m (rev edge)))) (joins (origin m edge) result.0) (joins (origin m (next m edge)) result.0 ∷ joins (origin m (prev m edge)) result.0 ∷ []) }
         ensures triangles { SplitsTriangles self.old.mesh self.new.mesh result.0 edge }
         ensures outer { KeepsOuter self.old.mesh self.new.mesh }
+        ensures outline { KeepsOneOutline self.old.mesh self.new.mesh }
     {
         let n = self.links.half_edge_count() as u32;
         let v = self.links.push_vertex();

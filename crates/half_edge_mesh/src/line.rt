@@ -1,5 +1,6 @@
 //! Vertices without edges, the first edge, and a mesh of one line.
 ghost use Rattle.std.specs.Prelude.{◌≡◌, ◌≢◌, ◌⊎◌, ◌+◌, ◌/◌, ◌<◌, ◌++◌, ◌∷◌, [], length, IsSome};
+ghost use Rattle.half_edge_links.specs.Hull.{HasOneOutline, KeepsOneOutline};
 ghost use Rattle.half_edge_links.specs.Mesh.{with_vertex, connected, origin, rev, out_edge};
 ghost use Rattle.half_edge_links.specs.Grow.{hung, edge_into, line_split};
 ghost use Rattle.half_edge_links.specs.Triangles.{triangles};
@@ -17,6 +18,7 @@ impl<V, DE, UE, F> Dcel<V, DE, UE, F> {
         requires room { HasRoom self.old 1 0 0 }
         ensures vertex { result ≡ length self.old.vertices }
         ensures contents { self.new ≡ record self.old { mesh = with_vertex self.old.mesh; vertices = self.old.vertices ++ value ∷ [] } }
+        ensures outline { KeepsOneOutline self.old.mesh self.new.mesh }
     {
         self.vertices.push_reserved(value);
         FixedVertexHandle::from_index(self.links.push_vertex())
@@ -40,6 +42,7 @@ impl<V, DE, UE, F> Dcel<V, DE, UE, F> {
         ensures edges { AddsEdges UE.is_default (edges self.old) (edges self.new) (joins a b ∷ []) }
         ensures triangles { triangles self.new.mesh ≡ [] }
         ensures outer { OuterChanges self.old.mesh self.new.mesh (λ h. ⊥) (λ h u w. IsEdge 0 a b h u w ⊎ IsEdge 1 b a h u w) }
+        ensures outline { HasOneOutline self.new.mesh }
     {
         self.links.connect(a.index(), b.index());
         push_defaults(&mut self.directed, 2);
@@ -64,6 +67,7 @@ impl<V, DE, UE, F> Dcel<V, DE, UE, F> {
         ensures edges { AddsEdges UE.is_default (edges self.old) (edges self.new) (joins end result ∷ []) }
         ensures triangles { triangles self.new.mesh ≡ [] }
         ensures outer { ExtendsOuter self.old.mesh self.new.mesh end result (length self.old.directed) }
+        ensures outline { KeepsOneOutline self.old.mesh self.new.mesh }
     {
         let v = self.links.push_vertex();
         self.links.extend_line(end.index(), v);
@@ -96,6 +100,7 @@ impl<V, DE, UE, F> Dcel<V, DE, UE, F> {
         ensures edges { let m = self.old.mesh in AddsEdges UE.is_default (with_ends (edges self.old) (edge / 2) (along edge (origin m edge) result.0)) (edges self.new) (joins (origin m (rev edge)) result.0 ∷ []) }
         ensures triangles { triangles self.new.mesh ≡ [] }
         ensures outer { SplitsOuter self.old.mesh self.new.mesh edge result.0 (length self.old.directed) }
+        ensures outline { KeepsOneOutline self.old.mesh self.new.mesh }
     {
         let v = self.links.push_vertex();
         let [first, second] = self.links.split_line(edge.index(), v);

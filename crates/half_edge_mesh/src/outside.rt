@@ -1,5 +1,6 @@
 //! Growth beside the outer face.
 ghost use Rattle.std.specs.Prelude.{◌≡◌, ◌≢◌, ◌+◌, ◌/◌, ◌<◌, ◌++◌, ◌∷◌, [], length};
+ghost use Rattle.half_edge_links.specs.Hull.{KeepsOneOutline};
 ghost use Rattle.half_edge_links.specs.Mesh.{with_vertex, origin, next, prev, rev, face};
 ghost use Rattle.half_edge_links.specs.Grow.{with_face_beside, closed, half_split, IsHalfSplittable};
 ghost use Rattle.half_edge_links.specs.Outline.{AddsTriangle, ReplacesOuter, ClosesOuter, HalfSplitsTriangles, along};
@@ -34,6 +35,7 @@ impl<V, DE, UE, F> Dcel<V, DE, UE, F> {
         ensures edges { let m = self.old.mesh in AddsEdges UE.is_default (edges self.old) (edges self.new) (joins (origin m (rev edge)) result ∷ joins result (origin m edge) ∷ []) }
         ensures triangles { let m = self.old.mesh in AddsTriangle m self.new.mesh (origin m edge) (origin m (rev edge)) result }
         ensures outer { let n = length self.old.directed in ReplacesOuter self.old.mesh self.new.mesh edge result (n + 3) (n + 1) }
+        ensures outline { KeepsOneOutline self.old.mesh self.new.mesh }
     {
         let v = self.links.push_vertex();
         self.links.add_face_beside(edge.index(), v);
@@ -68,6 +70,7 @@ impl<V, DE, UE, F> Dcel<V, DE, UE, F> {
         ensures edges { let m = self.old.mesh in AddsEdges UE.is_default (edges self.old) (edges self.new) (joins (origin m (rev (next m edge))) (origin m edge) ∷ []) }
         ensures triangles { let m = self.old.mesh in AddsTriangle m self.new.mesh (origin m edge) (origin m (next m edge)) (origin m (rev (next m edge))) }
         ensures outer { ClosesOuter self.old.mesh self.new.mesh edge (length self.old.directed) }
+        ensures outline { KeepsOneOutline self.old.mesh self.new.mesh }
     {
         let n = self.links.half_edge_count() as u32;
         self.links.close(edge.index());
@@ -102,6 +105,7 @@ impl<V, DE, UE, F> Dcel<V, DE, UE, F> {
         ensures edges { let m = self.old.mesh in SplitsEdge UE.is_default (edges self.old) (edges self.new) (edge / 2) (along edge (origin m (prev m edge)) result.0) (joins (origin m edge) result.0) (joins result.0 (origin m (rev edge)) ∷ []) }
         ensures triangles { HalfSplitsTriangles self.old.mesh self.new.mesh result.0 edge }
         ensures outer { let n = length self.old.directed in ReplacesOuter self.old.mesh self.new.mesh (rev edge) result.0 (n + 3) (n + 1) }
+        ensures outline { KeepsOneOutline self.old.mesh self.new.mesh }
     {
         let v = self.links.push_vertex();
         let [first, second] = self.links.split_half_edge(edge.index(), v);

@@ -7,3 +7,6 @@ returns-clause-edges g c =
     let half : (2 * c.args.edge) / 2 ≡ c.args.edge = omega arith in
     let ends_are = rw (c.index.ensures, c.as_directed.ensures, half, along-even) at c.flip.ensures.ends in
     rw (← c.self.view_is, ends_are) (edges_of-set _ _ _ _)
+
+pub returns-clause-outline : goal.returns-clause-outline
+returns-clause-outline g c = rw (← c.self.view_is) c.flip.ensures.outline

@@ -6,8 +6,8 @@ half_edge-requires g c =
     let w = c.in-Some.ensures.whole in
     rw w.fits.directed_fit (w.valid.sound.vertices c.args.vertex c.in-Some.out (sym c.in-Some.ensures.value)).0
 
-pub returns-then-other-out : goal.returns-then-other-out
-returns-then-other-out g c = rw (c.in-Some.ensures.whole.valid.sound.vertices c.args.vertex c.in-Some.out (sym c.in-Some.ensures.value)).1 at c.remove_end.ensures
+pub returns-then-other-out-clause-leaves : goal.returns-then-other-out-clause-leaves
+returns-then-other-out-clause-leaves g c = rw (c.in-Some.ensures.whole.valid.sound.vertices c.args.vertex c.in-Some.out (sym c.in-Some.ensures.value)).1 at c.remove_end.ensures.leaves
 
-pub returns-else-other-out : goal.returns-else-other-out
-returns-else-other-out g c = rw (c.in-Some.ensures.whole.valid.sound.vertices c.args.vertex c.in-Some.out (sym c.in-Some.ensures.value)).1 at c.join_neighbours.ensures
+pub returns-else-other-out-clause-leaves : goal.returns-else-other-out-clause-leaves
+returns-else-other-out-clause-leaves g c = rw (c.in-Some.ensures.whole.valid.sound.vertices c.args.vertex c.in-Some.out (sym c.in-Some.ensures.value)).1 at c.join_neighbours.ensures.leaves

@@ -24,3 +24,6 @@ pub returns-clause-outer : goal.returns-clause-outer
 returns-clause-outer g c =
     let keeps = rw c.push_vertex-v.ensures.mesh at c.split_edge.ensures.outer in
     rw (← c.self.view_is) (keeps_outer c.self.inside.links.mesh _ keeps)
+
+pub returns-clause-outline : goal.returns-clause-outline
+returns-clause-outline g c = rw (← c.self.view_is) (λ one. c.split_edge.ensures.outline (c.push_vertex-v.ensures.outline one))

@@ -24,3 +24,6 @@ pub returns-clause-outer : goal.returns-clause-outer
 returns-clause-outer g c =
     let changes = rw (c.push_vertex-v.ensures.mesh, c.index.ensures, ← c.from_index.ensures, ← c.self.invariant.directed_fit) at c.split_half_edge.ensures.outer in
     rw (← c.self.view_is) (outer_changes c.self.inside.links.mesh _ _ _ changes)
+
+pub returns-clause-outline : goal.returns-clause-outline
+returns-clause-outline g c = rw (← c.self.view_is) (λ one. c.split_half_edge.ensures.outline (c.push_vertex-v.ensures.outline one))

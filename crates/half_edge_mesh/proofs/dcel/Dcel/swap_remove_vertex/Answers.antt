@@ -1,10 +1,10 @@
-use Rattle.std.proofs.Common.{◌-◌, length, refl, arith}
+use Rattle.std.proofs.Common.{length, refl, arith}
 use Rattle.half_edge_links.specs.Mesh.{Mesh}
 use Rattle.half_edge_mesh.proofs.Dropped.{edges_dropped, faces_dropped, outline_dropped, item_is}
 use Rattle.half_edge_mesh.proofs.dcel.Dcel.swap_remove_vertex.Goals as goal
 
-pub returns : goal.returns
-returns g c =
+pub returns-clause-drops : goal.returns-clause-drops
+returns-clause-drops g c =
     let m : Mesh = c.self.inside.links.mesh in
     let fit = c.self.invariant.vertices_fit in
     let alone = rw (← c.self.view_is, ← c.index-v.ensures) at c.requires in
@@ -15,3 +15,6 @@ returns g c =
       faces = faces_dropped m c.swap_remove_vertex.new.self.mesh c.index-v.result (length c.self.inside.vertices.items) fit c.self.inside.faces.items c.swap_remove_vertex.ensures.triangles;
       outer = outline_dropped m c.swap_remove_vertex.new.self.mesh c.index-v.result c.swap_remove_vertex.ensures.sound c.swap_remove_vertex.ensures.moves (length c.self.inside.vertices.items) fit;
     })
+
+pub returns-clause-outline : goal.returns-clause-outline
+returns-clause-outline g c = rw (← c.self.view_is) c.swap_remove_vertex.ensures.outline
