@@ -4,7 +4,7 @@
 //! 18 digits, and a line has at most [`MAX_LINE`] bytes.
 #![tactic(auto)]
 
-ghost use Rattle.std.specs.Prelude.{◌≡◌, IfSome, IfNone};
+ghost use Rattle.std.specs.Prelude.{IfSome, IfNone};
 ghost use Rattle.command_grammar.specs.Grammar.{Spells, SpellsNone, SpellsAtMostOne};
 
 pub mod command;

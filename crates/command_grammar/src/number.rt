@@ -1,5 +1,5 @@
 //! Numbers and indexes, a word each.
-ghost use Rattle.std.specs.Prelude.{◌≡◌, ℕ, ℤ, ◌<◌, ◌^◌, length, IfSome, IfNone};
+ghost use Rattle.std.specs.Prelude.{ℕ, ℤ, ◌<◌, ◌^◌, IfSome, IfNone};
 ghost use Rattle.command_grammar.specs.Grammar.{IsIndex, IsNumber};
 
 /// The most digits of a number.

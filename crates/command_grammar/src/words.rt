@@ -1,5 +1,5 @@
-ghost use Rattle.std.specs.Prelude.{◌≡◌, ℕ, List, [], ◌∷◌, Option, None, Some, MatchOption, IfSome, IsTrue, ◌↔◌, length, ◌≤◌};
-ghost use Rattle.command_grammar.specs.Grammar.{words_of, IsNumber, IsIndex};
+ghost use Rattle.std.specs.Prelude.{◌≡◌, ℕ, List, [], ◌∷◌, Option, None, Some, MatchOption, IfSome, IsTrue, ◌↔◌};
+ghost use Rattle.command_grammar.specs.Grammar.{words_of};
 ghost use Rattle.std.specs.Prelude.{OnSome, drop};
 ghost use Rattle.command_grammar.specs.Reading.{first_index, first_number, coordinates_of, pair_of, command_of, command_named, arity};
 

@@ -1,5 +1,5 @@
 //! What the comparisons of points mean.
-ghost use Rattle.std.specs.Prelude.{◌≡◌, ◌↔◌, ℤ, Some, IsTrue};
+ghost use Rattle.std.specs.Prelude.{◌≡◌, ◌↔◌, Some, IsTrue};
 ghost use Rattle.std.specs.Ordering.{int_cmp, ordering_then};
 
 use crate::point::{Point2, SpadeNum};
