@@ -10,7 +10,7 @@ use Rattle.plane.specs.Fraction.{Point}
 use Rattle.plane.specs.Tests.{InRange}
 use Rattle.plane.specs.Pairs.{place}
 use Rattle.plane.specs.Side.{TurnsLeft}
-use Rattle.plane.specs.Tiling.{IsTiling, IsEdge, IsFace, HasFace}
+use Rattle.plane.specs.Tiling.{IsTiling, IsFace, HasFace}
 use Rattle.plane.specs.Tiling as T
 use Rattle.plane_tiling.specs.Local.{IsMesh}
 use Rattle.plane_tiling.proofs.Totals.{Contains-none}

@@ -1,11 +1,10 @@
 //! New vertices, and new data at a known position.
-ghost use Rattle.std.specs.Prelude.{◌≡◌, ◌↔◌, ◌⊎◌, ℕ, ◌+◌, ◌*◌, ◌<◌, ◌++◌, ◌∷◌, [], length, map, All, IsTrue, IsOk, IsErrOf, IfOk, IfErr, OnErr, OnOk, slice_set};
+ghost use Rattle.std.specs.Prelude.{◌≡◌, ◌↔◌, ℕ, ◌+◌, ◌*◌, ◌<◌, ◌++◌, ◌∷◌, [], length, map, All, IsTrue, IsOk, IsErrOf, IfOk, IfErr, OnErr, OnOk, slice_set};
 ghost use Rattle.half_edge_links.specs.Room.{HasRoomFor};
 ghost use Rattle.plane.specs.Tests.{InRange};
 ghost use Rattle.plane.specs.Plain.{Inserts};
 ghost use Rattle.plane.specs.Tiling.{IsFace, IsTiling};
 ghost use Rattle.plane.specs.Delaunay.{IsConstrainedDelaunay, IsStrictlyEmpty};
-ghost use Rattle.delaunay_core.specs.Place.{place_of};
 ghost use Rattle.delaunay_core.specs.declared.math.InsertionError.TheVariants.{TooLarge, OutOfMemory, OutOfIndexes};
 ghost use Rattle.delaunay_edit.specs.Data.{KeepsData};
 ghost use Rattle.delaunay_edit.specs.Known.{IsKnown, point_at};
@@ -19,7 +18,7 @@ use crate::predicates::turns_left;
 use crate::triangulation_core::TriangulationCore;
 use crate::work_list::{legalize_all, reserve_for_edges};
 use delaunay_core::math::{InsertionError, PlaneTests, validate_vertex};
-use delaunay_core::point::{HasPosition, Point2};
+use delaunay_core::point::HasPosition;
 use half_edge_mesh::{Dcel, FixedVertexHandle, MAX_ELEMENTS, ReserveError};
 
 // Makes room for one more vertex, with the edges and faces that it can bring.

@@ -1,5 +1,5 @@
 //! The edges that a legalization has to test: room for them, and all of them after an insertion.
-ghost use Rattle.std.specs.Prelude.{◌≡◌, ◌+◌, ◌*◌, ◌≤◌, length, map, All, Err, OnErr, OnOk, vec_capacity};
+ghost use Rattle.std.specs.Prelude.{◌≡◌, ◌*◌, ◌≤◌, length, map, All, Err, OnErr, OnOk, vec_capacity};
 ghost use Rattle.std.specs.List.{range_with_len};
 ghost use Rattle.drawn_mesh.specs.Stays.{KeepsIndexes};
 ghost use Rattle.delaunay_core.specs.declared.math.InsertionError.TheVariants.{OutOfMemory};

@@ -1,5 +1,5 @@
 //! The answers of a triangulation to commands.
-ghost use Rattle.std.specs.Prelude.{◌≡◌, ◌<◌, nat_lt, if◌then◌else◌, true, List, All, IfOk, map};
+ghost use Rattle.std.specs.Prelude.{◌≡◌, ◌<◌, nat_lt, if◌then◌else◌, true, All, IfOk};
 ghost use Rattle.plane.specs.Fraction.{Point, whole};
 ghost use Rattle.plane.specs.Location.{IsLocation};
 ghost use Rattle.plane.specs.Tiling.{IsTiling};
@@ -7,7 +7,6 @@ ghost use Rattle.delaunay_edit.specs.Location.{location_of};
 ghost use Rattle.delaunay_edit.specs.Elements.{HasElement};
 ghost use Rattle.triangulate_run.specs.MeshFaces.{row_at};
 ghost use Rattle.triangulate_run.specs.declared.reply.Reply.TheVariants.{Edge};
-ghost use Rattle.delaunay_core.specs.Place.{place_of};
 ghost use Rattle.delaunay_edit.specs.State.{triangulation_of};
 ghost use Rattle.triangulate_run.specs.Stage.{position, first_stage, Fits};
 ghost use Rattle.triangulate_run.specs.Points.{place};

@@ -1,5 +1,4 @@
 //! Writing text to a watched writer.
-ghost use Rattle.std.specs.Prelude.{◌≡◌, ℕ, List};
 ghost use Rattle.std.specs.List.{flat_map};
 ghost use Rattle.triangulate_run.specs.Output.{Writes};
 ghost use Rattle.triangulate_run.specs.Piece.{text_of};

@@ -1,8 +1,7 @@
 //! The replies of the program, and how they are written.
-ghost use Rattle.std.specs.Prelude.{◌≡◌, ◌++◌, codes};
+ghost use Rattle.std.specs.Prelude.{◌++◌, codes};
 ghost use Rattle.std.specs.List.{flat_map};
 ghost use Rattle.triangulate_run.specs.Output.{Writes};
-ghost use Rattle.triangulate_run.specs.Piece.{text_of};
 ghost use Rattle.triangulate_run.specs.Reply.{corners_text, reply_text};
 ghost use Rattle.triangulate_run.specs.declared.reply.Reply.TheVariants.{Refused, Edge, Counts};
 
