@@ -32,7 +32,7 @@ pub(crate) fn write_undirected(
     Ok(())
 }
 
-fn write_face(mesh: &mut Mesh, face: FixedFaceHandle, value: u64) -> Result<(), Fail> {
+pub(crate) fn write_face(mesh: &mut Mesh, face: FixedFaceHandle, value: u64) -> Result<(), Fail> {
     if !has_face(mesh, face) {
         return Err(Fail::new("no such face"));
     }

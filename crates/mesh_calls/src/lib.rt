@@ -4,6 +4,8 @@
 #[cfg(test)]
 mod careful;
 #[cfg(test)]
+mod copies;
+#[cfg(test)]
 mod data;
 #[cfg(test)]
 mod growth;

@@ -12,7 +12,7 @@ fn the_last_vertex_that_fits(rt: HostRuntime) {
 }
 
 #[test]
-fn a_line_is_made_and_cleared(rt: HostRuntime) -> Result<(), Fail> {
+fn a_line_is_made_copied_and_cleared(rt: HostRuntime) -> Result<(), Fail> {
     let mut links = Links::new(rt.alloc());
     assert_eq!(rt;
         links.reserve(MAX_ELEMENTS + 1, 0, 1),
@@ -25,8 +25,13 @@ fn a_line_is_made_and_cleared(rt: HostRuntime) -> Result<(), Fail> {
     assert_eq!(rt; links.half_edge_count(), 2);
     assert_eq!(rt; links.inner_face_count(), 0);
     assert_eq!(rt; links.half_edge(0).next, 1);
+    let copy = links.clone()?;
     links.clear();
     assert_eq!(rt; links.half_edge_count(), 0);
     assert_eq!(rt; links.vertex_count(), 0);
+    assert_eq!(rt; copy.vertex_count(), 2);
+    assert_eq!(rt; copy.half_edge_count(), 2);
+    assert_eq!(rt; copy.half_edge(0).next, 1);
+    assert_eq!(rt; copy.outer_edge(), Some(0));
     Ok(())
 }
