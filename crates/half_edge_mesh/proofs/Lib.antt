@@ -16,4 +16,11 @@ pub mod TwoEdges
 pub mod LineChanges
 pub mod StripSteps
 pub mod HoleSteps
+pub mod Hubs
+pub mod Filtered
+pub mod Touching
+pub mod HubFaces
+pub mod TurnedEdge
+pub mod TurnedAway
+pub mod HoleFilled
 pub mod LineSteps

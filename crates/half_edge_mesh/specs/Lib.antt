@@ -1,6 +1,7 @@
 pub mod Contents
 pub mod Copied
 pub mod Growth
+pub mod Hole
 pub mod Left
 pub mod Mapped
 pub mod Removal

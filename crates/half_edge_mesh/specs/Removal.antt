@@ -6,7 +6,7 @@ use Rattle.half_edge_links.specs.Mesh.{Mesh, origin, next, prev, out_edge, rev, 
 use Rattle.half_edge_links.specs.Flow.{total, along, outline}
 use Rattle.half_edge_links.specs.Outline.{Ends, ends}
 use Rattle.half_edge_links.specs.Hull.{KeepsOneOutline}
-use Rattle.half_edge_links.specs.Peel.{turn, spoke, IsStrip, IsWheel}
+use Rattle.half_edge_links.specs.Peel.{turn, spoke, IsStrip}
 use Rattle.half_edge_links.specs.Renames.{moved}
 use Rattle.half_edge_links.specs.Triangles.{Triangle, triangles}
 use Rattle.half_edge_mesh.specs.Contents.{Contents, IsWhole}
@@ -190,11 +190,3 @@ pub record FillsHole {V D U F : Type 0} (old new : Contents V D U F) (v : ℕ) (
   pub is : IsPermutation (full_faces new) (made ∷ rest)
   pub outer : OuterChanges old.mesh new.mesh [] []
   pub outline : KeepsOneOutline old.mesh new.mesh
-
--- these three edges are the loop round an inner vertex, against the clock
-pub record IsBorder (m : Mesh) (border : List ℕ) (v : ℕ) : Type 0 where
-  pub count : length border ≡ 3
-  pub within : slice_index border 0 < length m.half_edges
-  pub round : IsWheel m (first_spoke m border)
-  pub starts : origin m (first_spoke m border) ≡ v
-  pub sides : (i : ℕ) → i < 3 → slice_index border i ≡ next m (spoke m (first_spoke m border) i)

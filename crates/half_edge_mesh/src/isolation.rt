@@ -1,10 +1,15 @@
 //! Vertices that lose their edges.
-ghost use Rattle.std.specs.Prelude.{◌≡◌, ◌<◌, length};
-ghost use Rattle.half_edge_links.specs.Mesh.{face, origin, prev};
+ghost use Rattle.std.specs.Prelude.{◌≡◌, ◌≢◌, ◌<◌, ◌≤◌, length};
+ghost use Rattle.half_edge_links.specs.Flip.{Flips};
+ghost use Rattle.half_edge_links.specs.Hull.{KeepsOneOutline};
+ghost use Rattle.half_edge_links.specs.Mesh.{face, origin, prev, rev};
+ghost use Rattle.half_edge_links.specs.Outline.{KeepsOuter, MovesEdge};
 ghost use Rattle.half_edge_links.specs.Peel.{IsStrip, IsWheel, turn};
-ghost use Rattle.half_edge_mesh.specs.Contents.{IsWhole};
 ghost use Rattle.half_edge_links.specs.Round.{neighbour};
-ghost use Rattle.half_edge_mesh.specs.Removal.{AreOpposite, FillsHole, IsBorder, LosesStrip, first_spoke};
+ghost use Rattle.half_edge_links.specs.Triangles.{FlipsTriangles};
+ghost use Rattle.half_edge_mesh.specs.Contents.{IsWhole};
+ghost use Rattle.half_edge_mesh.specs.Hole.{FillsWithFan, HasFreeTip, IsBorder, IsHub};
+ghost use Rattle.half_edge_mesh.specs.Removal.{AreOpposite, FillsHole, LosesStrip, first_spoke};
 
 use crate::dcel::Dcel;
 use crate::handles::{FixedDirectedEdgeHandle, FixedVertexHandle};
@@ -101,8 +106,52 @@ impl<V, DE, UE, F> Dcel<V, DE, UE, F> {
         let _whole = self.num_vertices();
     }
 
-    /// Removes the edges of an inner vertex with three faces round it, and puts one face in their place. `border` is the
-    /// loop round the vertex. The last edges and faces take the indexes that become free.
+    // Turns the edge after `first` round their vertex, so that it leaves the vertex.
+    fn turn_away(&mut self, first: u32)
+        requires within { first < length self.old.mesh.half_edges }
+        requires before { 0 < face self.old.mesh first }
+        requires behind { 0 < face self.old.mesh (turn self.old.mesh first) }
+        requires corners { neighbour self.old.mesh first 2 ≢ neighbour self.old.mesh first 0 }
+
+        ensures flips { let m = self.old.mesh in Flips m self.new.mesh (turn m first) }
+        ensures contents { self.new ≡ record self.old { mesh = self.new.mesh } }
+        ensures ends { let m = self.old.mesh in MovesEdge m self.new.mesh (turn m first) (origin m (prev m (turn m first))) (origin m (prev m (rev (turn m first)))) }
+        ensures triangles { let m = self.old.mesh in FlipsTriangles m self.new.mesh (turn m first) }
+        ensures outer { KeepsOuter self.old.mesh self.new.mesh }
+        ensures outline { KeepsOneOutline self.old.mesh self.new.mesh }
+        ensures whole { IsWhole self.old }
+    {
+        let _whole = self.num_vertices();
+        let spoke = reversed(self.links.half_edge(first).prev);
+        self.links.flip(spoke);
+    }
+
+    // Removes the edges of a vertex with `count` faces round it, from `first` on. A fan of faces, whose tip is the end of
+    // `first`, takes their place.
+    fn fill_hole(&mut self, first: u32, count: usize)
+    where
+        DE: Drop,
+        UE: Drop,
+        F: Drop,
+        requires many { 3 ≤ count }
+        requires hub { IsHub self.old.mesh first count }
+        requires tip { HasFreeTip (neighbour self.old.mesh first) count }
+        ensures { let m = self.old.mesh in FillsWithFan self.old self.new (origin m first) (neighbour m first) count }
+    {
+        let _old = self.num_vertices();
+        for _ in 3..count {
+            self.turn_away(first);
+        }
+        let _turned = self.num_vertices();
+        self.collapse(first);
+        let _whole = self.num_vertices();
+    }
+
+    /// Removes the edges of an inner vertex and fills the hole with a fan of faces. `border` is the loop round the vertex,
+    /// of three edges or more, and the fan's tip is where the first of them starts: this vertex gets an edge to each one
+    /// of the loop that is not beside it there, and none of these may be the tip itself. The new edges have the data of
+    /// edges of the vertex, and the new faces those of its faces. The last edges and faces take the indexes that become
+    /// free.
     pub fn isolate_vertex_and_fill_hole(
         &mut self,
         border: &[FixedDirectedEdgeHandle],
@@ -115,10 +164,10 @@ impl<V, DE, UE, F> Dcel<V, DE, UE, F> {
         requires { IsBorder self.old.mesh border.now vertex }
 
         ensures vertex { result.vertex ≡ vertex }
-        ensures hole { let m = self.old.mesh in FillsHole self.old self.new vertex (neighbour m (first_spoke m border.now)) }
+        ensures hole { let m = self.old.mesh in FillsWithFan self.old self.new vertex (neighbour m (first_spoke m border.now)) (length border.now) }
     {
         let (first, _) = self.spoke_to(border[0]);
-        self.collapse(first);
+        self.fill_hole(first, border.len());
         IsolateVertexResult { vertex }
     }
 

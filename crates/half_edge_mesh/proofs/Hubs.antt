@@ -1,0 +1,139 @@
+-- A vertex with inner faces all round, and what turning one of its edges away from it leaves.
+use Rattle.std.proofs.Common.{◌≡◌, ◌≢◌, ℕ, zero, suc, ◌+◌, ◌-◌, ◌<◌, ◌≤◌, length, refl, sym, ap, ◌∙◌, inl, inr, arith}
+use Rattle.std.proofs.lemmas.Bool.{cases_eq}
+use Rattle.half_edge_links.specs.declared.records.HalfEdge.{HalfEdge}
+use Rattle.half_edge_links.specs.Flip.{IsFlippable, Flips}
+use Rattle.half_edge_links.specs.Mesh.{Mesh, edge_at, origin, next, prev, face, rev, IsValid, IsSound}
+use Rattle.half_edge_links.specs.Peel.{turn, spoke}
+use Rattle.half_edge_links.specs.Round.{neighbour}
+use Rattle.half_edge_links.proofs.Conditions.{flippable, spoke_at, turn_in, turn_one, turn_starts, turned_apart}
+use Rattle.half_edge_links.proofs.FlipSound.{origin_kept}
+use Rattle.half_edge_links.proofs.Rev.{rev-rev, rev_within}
+use Rattle.half_edge_links.proofs.Triangles.{IsTriangle, triangle_at}
+use Rattle.half_edge_mesh.specs.Hole.{IsHub, HasFreeTip}
+
+-- the edge after one between two inner faces can be turned
+module _ (m : Mesh) (o : ℕ) (v : IsValid m) (within : o < length m.half_edges) (inner : 0 < face m o) where
+  pub turnable : 0 < face m (turn m o) → IsFlippable m (turn m o)
+  turnable second = flippable m (turn m o) v (turn_in m v o within) second (rw (rev-rev (prev m o), (triangle_at m o v.sound within inner).face_prev) inner)
+
+  -- it joins two vertices that differ where the ends of the edges beside it do
+  pub turn_corners : neighbour m o 2 ≢ neighbour m o 0 → origin m (prev m (turn m o)) ≢ origin m (prev m (rev (turn m o)))
+  turn_corners differ q =
+      let across : origin m (prev m (rev (turn m o))) ≡ neighbour m o 0 = ap (λ h. origin m (prev m h)) (rev-rev (prev m o)) ∙ ap (origin m) (triangle_at m o v.sound within inner).prev_prev ∙ (v.sound.edges o within).starts in
+      differ (ap (origin m) (rev-rev (prev m (turn m o))) ∙ q ∙ across)
+
+module _ (m : Mesh) (o k : ℕ) (v : IsValid m) (w : IsHub m o (suc k)) (some : 0 < k) (tip : HasFreeTip (neighbour m o) (suc k)) where
+  s : IsSound m
+  s = v.sound
+
+  at : (i : ℕ) → (spoke m o i < length m.half_edges) × (origin m (spoke m o i) ≡ origin m o)
+  at = spoke_at m o s w.within
+
+  -- the first edge comes again only after the whole round
+  pub first_again : (i : ℕ) → 0 < i → i < suc k → spoke m o i ≢ o
+  first_again i some_steps less same =
+      let no_turn : turn m o ≢ o = λ q. turned_apart m v o w.within (w.inner 0 (omega arith)) (ap (face m) q) in
+      elim (cases_eq i 1) [
+        | inl one ↦ no_turn (sym (ap (spoke m o) one) ∙ same)
+        | inr more ↦ elim (cases_eq i k) [
+          | inl last ↦ no_turn (ap (turn m) (sym same ∙ ap (spoke m o) last) ∙ w.round)
+          | inr before ↦ tip i (omega (arith, some_steps, more)) (omega (arith, less, before)) (ap (λ h. origin m (rev h)) same)
+        ]
+      ]
+
+  -- two edges of the round differ
+  pub spokes_apart : (i j : ℕ) → i < j → j < suc k → spoke m o i ≢ spoke m o j
+  spokes_apart zero j less within same = first_again j less within (sym same)
+  spokes_apart (suc i) zero less within same = omega (arith, less)
+  spokes_apart (suc i) (suc j) less within same = spokes_apart i j (omega (arith, less)) (omega (arith, within)) (turn_one m s _ _ (at i).0 (at j).0 same)
+
+  -- the other side of the second edge comes before the first one
+  pub twin_is : rev (turn m o) ≡ prev m o
+  twin_is = rev-rev (prev m o)
+
+  t : IsTriangle m o
+  t = triangle_at m o s w.within (w.inner 0 (omega arith))
+
+  -- the second edge can be turned
+  pub can_turn : IsFlippable m (turn m o)
+  can_turn = flippable m (turn m o) v (at 1).0 (w.inner 1 (omega (arith, some))) (rw (twin_is, t.face_prev) (w.inner 0 (omega arith)))
+
+  module _ (new : Mesh) (f : Flips m new (turn m o)) (many : 2 < k) where
+    -- an edge of the vertex that is neither of the first two keeps its links
+    kept_spoke : (h : ℕ) → h < length m.half_edges → origin m h ≡ origin m o → h ≢ o → h ≢ turn m o → edge_at new.half_edges h ≡ edge_at m.half_edges h
+    kept_spoke h within same off_first off_second =
+        let far = v.apart (turn m o) (at 1).0 in
+        f.other_edges h off_second
+        (λ q. far ((at 1).1 ∙ sym same ∙ ap (origin m) q))
+        (λ q. far ((at 1).1 ∙ sym same ∙ ap (origin m) q ∙ (s.edges (turn m o) (at 1).0).starts))
+        (λ q. off_first (q ∙ ap (next m) twin_is ∙ t.next_prev))
+        (λ q. v.apart (spoke m o 2) (at 2).0 ((at 2).1 ∙ sym same ∙ ap (origin m) (q ∙ sym (rev-rev (prev m (turn m o))))))
+        (λ q. v.apart o w.within (sym same ∙ ap (origin m) (q ∙ ap (prev m) twin_is ∙ t.prev_prev) ∙ (s.edges o w.within).starts))
+
+    -- the first edge has the third one after it now
+    first_turn : turn new o ≡ spoke m o 2
+    first_turn =
+        let at_o : next m (rev (turn m o)) ≡ o = ap (next m) twin_is ∙ t.next_prev in
+        ap rev (ap (prev new) (sym at_o) ∙ f.twin_next.prev)
+
+    -- the edges after the first one are the former ones, without the one that was turned
+    pub spokes_after : (i : ℕ) → 0 < i → i ≤ k → spoke new o i ≡ spoke m o (suc i)
+    spokes_after zero first within = absurd (omega (arith, first))
+    spokes_after (suc zero) first within = first_turn
+    spokes_after (suc (suc i)) first within =
+        let h : ℕ = spoke m o (suc (suc i)) in
+        let off = first_again (suc (suc i)) (omega arith) (omega (arith, within)) in
+        let off_second = spokes_apart 1 (suc (suc i)) (omega arith) (omega (arith, within)) in
+        let kept = kept_spoke h (at (suc (suc i))).0 (at (suc (suc i))).1 off (λ q. off_second (sym q)) in
+        ap (turn new) (spokes_after (suc i) (omega arith) (omega (arith, within))) ∙ ap (λ (x : HalfEdge). rev x.prev) kept
+
+    -- the first edge still starts at the vertex
+    pub start_after : origin new o ≡ origin m o
+    start_after =
+        let at_o : next m (rev (turn m o)) ≡ o = ap (next m) twin_is ∙ t.next_prev in
+        ap (origin new) (sym at_o) ∙ f.twin_next.origin ∙ ap (origin m) at_o
+
+    first_face : face new o ≡ face m o
+    first_face =
+        let at_o : next m (rev (turn m o)) ≡ o = ap (next m) twin_is ∙ t.next_prev in
+        ap (face new) (sym at_o) ∙ f.twin_next.face ∙ ap (face m) twin_is ∙ t.face_prev
+
+    -- the other end of an edge of the vertex
+    far_kept : (i : ℕ) → 1 < i → i ≤ suc k → origin new (rev (spoke m o i)) ≡ origin m (rev (spoke m o i))
+    far_kept i more within =
+        let h : ℕ = spoke m o i in
+        let off : h ≢ turn m o = λ q. elim (cases_eq i (suc k)) [
+          | inl last ↦ first_again 1 (omega arith) (omega (arith, some)) (sym q ∙ ap (spoke m o) last ∙ w.round)
+          | inr before ↦ spokes_apart 1 i more (omega (arith, within, before)) (sym q)
+        ] in
+        let far = v.apart (turn m o) (at 1).0 in
+        origin_kept m new (turn m o) s can_turn f (rev h)
+        (λ q. far ((at 1).1 ∙ sym (at i).1 ∙ ap (origin m) (sym (rev-rev h) ∙ ap rev q)))
+        (λ q. off (sym (rev-rev h) ∙ ap rev q ∙ rev-rev (turn m o)))
+
+    -- the neighbours follow each other as before
+    pub ends_after : (i : ℕ) → 0 < i → i ≤ k → neighbour new o i ≡ neighbour m o (suc i)
+    ends_after i first within = ap (λ h. origin new (rev h)) (spokes_after i first within) ∙ far_kept (suc i) (omega (arith, first)) (omega (arith, within))
+
+    -- the first neighbour stays
+    pub tip_after : neighbour new o 0 ≡ neighbour m o 0
+    tip_after = ap (λ h. origin new (rev h)) (sym w.round) ∙ far_kept (suc k) (omega (arith, some)) (omega arith) ∙ ap (λ h. origin m (rev h)) w.round
+
+    -- the vertex has one edge less, and the others in the same order
+    pub hub_after : IsHub new o k
+    hub_after = record {
+      within = rw f.edge_count w.within;
+      inner = inner;
+      round = spokes_after k some (omega arith) ∙ w.round;
+    }
+      where
+        inner : (i : ℕ) → i < k → 0 < face new (spoke new o i)
+        inner zero within = rw first_face (w.inner 0 (omega arith))
+        inner (suc i) within =
+            let h : ℕ = spoke m o (suc (suc i)) in
+            let off = first_again (suc (suc i)) (omega arith) (omega (arith, within)) in
+            let off_second = spokes_apart 1 (suc (suc i)) (omega arith) (omega (arith, within)) in
+            let kept = kept_spoke h (at (suc (suc i))).0 (at (suc (suc i))).1 off (λ q. off_second (sym q)) in
+            let same : face new (spoke new o (suc i)) ≡ face m h = ap (face new) (spokes_after (suc i) (omega arith) (omega (arith, within))) ∙ ap (λ (x : HalfEdge). x.face) kept in
+            rw same (w.inner (suc (suc i)) (omega (arith, within)))

@@ -1,0 +1,284 @@
+-- What turning an edge of a vertex away from it makes of the lists of edges and faces.
+use Rattle.std.proofs.Common.{◌≡◌, ◌≢◌, ◌⊎◌, ℕ, zero, suc, ◌+◌, ◌-◌, ◌*◌, ◌/◌, ◌<◌, ◌≤◌, Bool, true, false, List, [], ◌∷◌, length, set, get_or, refl, sym, ap, ◌∙◌, inl, inr, arith, subst}
+use Rattle.std.specs.List.{filter}
+use Rattle.std.specs.List.Sorted.{IsPermutation}
+use Rattle.std.proofs.lemmas.Bool.{cases_eq}
+use Rattle.std.proofs.lemmas.Bool.Decides.{nat_tests}
+use Rattle.std.proofs.lemmas.List.{length-map, length-set, get_or-set_other}
+use Rattle.std.proofs.lemmas.List.Sorted.{IsPermutation-trans}
+use Rattle.half_edge_links.specs.Flip.{Flips}
+use Rattle.half_edge_links.specs.Flow.{outer_among, outline}
+use Rattle.half_edge_links.specs.Mesh.{Mesh, origin, next, prev, face, face_edge, rev, IsSound, IsValid, IsInner}
+use Rattle.half_edge_links.specs.Outline.{Ends, ends, along, IsOuterEdge, KeepsOuter, MovesEdge}
+use Rattle.half_edge_links.specs.Peel.{turn, spoke}
+use Rattle.half_edge_links.specs.Round.{neighbour}
+use Rattle.half_edge_links.specs.Triangles.{Triangle, triangles, triangle_at, FlipsTriangles}
+use Rattle.half_edge_links.proofs.Conditions.{spoke_at, faces_apart}
+use Rattle.half_edge_links.proofs.Rev.{rev-rev}
+use Rattle.half_edge_links.proofs.TakenLists.{count_ends}
+use Rattle.half_edge_links.proofs.Triangles.{IsTriangle, triangle_at as loop_at}
+use Rattle.half_edge_mesh.specs.Contents.{Contents, IsWhole}
+use Rattle.half_edge_mesh.specs.Growth.{joins}
+use Rattle.half_edge_mesh.specs.Removal.{FullEdge, FullFace, IsBetween, HasCorners, full_edges, full_edges_of, full_faces, full_faces_of}
+use Rattle.half_edge_mesh.proofs.TakenEdges.{between, named_corners}
+use Rattle.half_edge_mesh.proofs.TakenOut.{length-full_edges, get_or-full_faces}
+use Rattle.half_edge_mesh.specs.Hole.{IsHub, HasFreeTip, HasDataOf}
+use Rattle.half_edge_mesh.proofs.Filtered.{filter_gains, filter_loses, filter_stays}
+use Rattle.half_edge_mesh.proofs.HubFaces.{listed_face, count_faces}
+use Rattle.half_edge_mesh.proofs.Hubs.{can_turn, twin_is}
+use Rattle.half_edge_mesh.proofs.Touching.{has_corner, lacks_corner, touches, misses, touches_it, touches_not, corner_there, corner_missing, misses_it, misses_not, lacks_it, lacks_not, with_other_ends, with_other_corners, full_edges-set, full_faces-set, along_between}
+
+some_item : {X : Type 0} (xs : List X) (i : ℕ) → i < length xs → (x : X) × (x ≡ get_or xs i x)
+some_item [] i within = absurd (omega (arith, within))
+some_item (x ∷ xs) zero within = (x, refl)
+some_item (x ∷ xs) (suc i) within = some_item xs i (omega (arith, within))
+
+other_way : {D U : Type 0} (e : FullEdge D U) (a b : ℕ) → IsBetween e (joins a b) → IsBetween e (joins b a)
+other_way e a b (inl q) = inr q
+other_way e a b (inr q) = inl q
+
+module _ {V D U F : Type 0} (c new : Contents V D U F) (o l v tip_end first_end next_end : ℕ) (whole : IsWhole c) (w : IsHub c.mesh o (suc l)) (some : 1 < l) (v_is : origin c.mesh o ≡ v)
+    (tip_is : neighbour c.mesh o 0 ≡ tip_end) (first_is : neighbour c.mesh o 1 ≡ first_end) (next_is : neighbour c.mesh o 2 ≡ next_end) (same : new ≡ record c { mesh = new.mesh }) where
+  abbrev m : Mesh
+  m = c.mesh
+
+  abbrev e : ℕ
+  e = turn m o
+
+  s : IsSound m
+  s = whole.valid.sound
+
+  at : (i : ℕ) → (spoke m o i < length m.half_edges) × (origin m (spoke m o i) ≡ v)
+  at i = let a = spoke_at m o s w.within i in (a.0, a.1 ∙ v_is)
+
+  off_at : (i : ℕ) → neighbour m o i ≢ v
+  off_at i q = whole.valid.apart (spoke m o i) (at i).0 ((at i).1 ∙ sym q)
+
+  t : IsTriangle m o
+  t = loop_at m o s w.within (w.inner 0 (omega arith))
+
+  twin : rev e ≡ prev m o
+  twin = rev-rev (prev m o)
+
+  -- the corners round the edge
+  far : origin m (rev e) ≡ first_end
+  far = first_is
+
+  after : origin m (prev m e) ≡ next_end
+  after = ap (origin m) (sym (rev-rev (prev m e))) ∙ next_is
+
+  before : origin m (prev m (rev e)) ≡ tip_end
+  before = ap (λ h. origin m (prev m h)) twin ∙ ap (origin m) t.prev_prev ∙ (s.edges o w.within).starts ∙ tip_is
+
+  beyond : origin m (next m e) ≡ first_end
+  beyond = (s.edges e (at 1).0).starts ∙ far
+
+  back : origin m (next m (rev e)) ≡ v
+  back = ap (λ h. origin m (next m h)) twin ∙ ap (origin m) t.next_prev ∙ v_is
+
+  tip_off : tip_end ≢ v
+  tip_off q = off_at 0 (tip_is ∙ q)
+
+  first_off : first_end ≢ v
+  first_off q = off_at 1 (first_is ∙ q)
+
+  next_off : next_end ≢ v
+  next_off q = off_at 2 (next_is ∙ q)
+
+  -- ---- edges
+  directed_is : new.directed ≡ c.directed
+  directed_is = ap (λ (x : Contents V D U F). x.directed) same
+
+  undirected_is : new.undirected ≡ c.undirected
+  undirected_is = ap (λ (x : Contents V D U F). x.undirected) same
+
+  faces_is : new.faces ≡ c.faces
+  faces_is = ap (λ (x : Contents V D U F). x.faces) same
+
+  edge_in : e / 2 < length (full_edges c)
+  edge_in =
+      let n = count_ends m s in
+      let long = length-full_edges (ends m) c.undirected c.directed (omega (arith, n, whole.fits.undirected_fit)) (omega (arith, n, whole.fits.directed_fit)) in
+      let e_in = (at 1).0 in
+      let even = s.even in
+      omega (arith, long, n, e_in, even)
+
+  -- the edge before it is turned
+  pub gone_edge : FullEdge D U
+  gone_edge = (some_item (full_edges c) (e / 2) edge_in).0
+
+  gone_is : gone_edge ≡ get_or (full_edges c) (e / 2) gone_edge
+  unfolding gone_edge
+  gone_is = (some_item (full_edges c) (e / 2) edge_in).1
+
+  pub gone_between : IsBetween gone_edge (joins v first_end)
+  gone_between =
+      let b = between m m c.undirected c.undirected c.directed c.directed e s whole.fits.directed_fit whole.fits.undirected_fit (at 1).0 gone_edge gone_is in
+      let is : joins (origin m e) (origin m (rev e)) ≡ joins v first_end = λ i. joins ((at 1).1 i) (far i) in
+      subst (IsBetween gone_edge) is b
+
+  -- the edge after it was turned
+  pub come_edge : FullEdge D U
+  come_edge = with_other_ends gone_edge (along e (origin m (prev m e)) (origin m (prev m (rev e))))
+
+  pub come_between : IsBetween come_edge (joins tip_end next_end)
+  unfolding come_edge
+  come_between =
+      let is : joins (origin m (prev m e)) (origin m (prev m (rev e))) ≡ joins next_end tip_end = λ i. joins (after i) (before i) in
+      other_way come_edge next_end tip_end (subst (IsBetween come_edge) is (along_between gone_edge e (origin m (prev m e)) (origin m (prev m (rev e)))))
+
+  pub come_data : HasDataOf come_edge gone_edge
+  unfolding come_edge with_other_ends
+  come_data = refl
+
+  module _ (ends_are : MovesEdge m new.mesh e (origin m (prev m e)) (origin m (prev m (rev e)))) where
+    edges_are : full_edges new ≡ set (full_edges c) (e / 2) come_edge
+    unfolding come_edge
+    edges_are =
+        let n = count_ends m s in
+        let even = s.even in
+        let e_in = (at 1).0 in
+        let t : Ends = along e (origin m (prev m e)) (origin m (prev m (rev e))) in
+        (λ i. full_edges_of (ends_are i) (undirected_is i) (directed_is i))
+        ∙ full_edges-set (ends m) c.undirected c.directed (e / 2) t gone_edge (omega (arith, n, whole.fits.undirected_fit)) (omega (arith, n, whole.fits.directed_fit)) (omega (arith, n, e_in, even))
+        ∙ ap (λ x. set (full_edges c) (e / 2) (with_other_ends x t)) (sym gone_is)
+
+    pub edges_lose : IsPermutation (filter (touches v) (full_edges c)) (gone_edge ∷ filter (touches v) (full_edges new))
+    edges_lose =
+        let p = filter_loses (touches v) (full_edges c) (e / 2) come_edge gone_edge edge_in (ap (touches v) (sym gone_is) ∙ touches_it v gone_edge (joins v first_end) gone_between (inl refl)) (touches_not v come_edge (joins tip_end next_end) come_between tip_off next_off) in
+        rw (edges_are, gone_is) p
+
+    pub edges_gain : IsPermutation (filter (misses v) (full_edges new)) (come_edge ∷ filter (misses v) (full_edges c))
+    edges_gain =
+        let p = filter_gains (misses v) (full_edges c) (e / 2) come_edge gone_edge edge_in (ap (misses v) (sym gone_is) ∙ misses_not v gone_edge (touches_it v gone_edge (joins v first_end) gone_between (inl refl))) (misses_it v come_edge (touches_not v come_edge (joins tip_end next_end) come_between tip_off next_off)) in
+        rw edges_are p
+
+  -- ---- faces
+  module _ (d : FullFace F) (faces_are : FlipsTriangles m new.mesh e) where
+    abbrev a : ℕ
+    a = face m e - 1
+
+    abbrev b : ℕ
+    b = face m (rev e) - 1
+
+    abbrev ta : Triangle
+    ta = record { first = origin m (prev m e); second = origin m (prev m (rev e)); third = origin m (next m e) }
+
+    abbrev tb : Triangle
+    tb = record { first = origin m (prev m (rev e)); second = origin m (prev m e); third = origin m (next m (rev e)) }
+
+    twin_face : face m (rev e) ≡ face m o
+    twin_face = ap (face m) twin ∙ t.face_prev
+
+    inner_e : IsInner m (face m e)
+    inner_e = (w.inner 1 (omega (arith, some)), (s.edges e (at 1).0).face_in)
+
+    inner_o : IsInner m (face m o)
+    inner_o = (w.inner 0 (omega arith), (s.edges o w.within).face_in)
+
+    inner_twin : IsInner m (face m (rev e))
+    inner_twin = rw twin_face inner_o
+
+    long : length (full_faces c) ≡ length m.face_edges
+    long = count_faces m c.faces whole.fits.faces_fit
+
+    a_in : a < length (full_faces c)
+    a_in = omega (arith, long, inner_e.0, inner_e.1)
+
+    b_in : b < length (full_faces c)
+    b_in = omega (arith, long, inner_twin.0, inner_twin.1)
+
+    ab : b ≢ a
+    ab q = faces_apart m e whole.valid (at 1).0 inner_e.0 (omega (arith, q, inner_e.0, inner_twin.0))
+
+    was : FullFace F
+    was = get_or (full_faces c) a d
+
+    -- the face that leaves the vertex
+    pub come_face : FullFace F
+    come_face = with_other_corners was ta
+
+    middle : List (FullFace F)
+    middle = set (full_faces c) a come_face
+
+    turned_face : FullFace F
+    turned_face = with_other_corners (get_or middle b d) tb
+
+    list_is : full_faces new ≡ set middle b turned_face
+    unfolding middle turned_face come_face was
+    list_is =
+        let n = length-map m.face_edges (triangle_at m) in
+        let fit = whole.fits.faces_fit in
+        let one = full_faces-set (triangles m) c.faces a ta d (fit ∙ sym n) (omega (arith, n, inner_e.0, inner_e.1)) in
+        let two = full_faces-set (set (triangles m) a ta) c.faces b tb d (fit ∙ sym n ∙ sym (length-set (triangles m) a ta)) (rw length-set (omega (arith, n, inner_twin.0, inner_twin.1))) in
+        (λ i. full_faces_of (faces_are i) (faces_is i)) ∙ two ∙ (λ i. set (one i) b (with_other_corners (get_or (one i) b d) tb))
+
+    was_there : has_corner v was ≡ true
+    unfolding was
+    was_there = corner_there v was (triangle_at m e) (named_corners m e was s (at 1).0 inner_e.0 (ap (λ (x : FullFace F). x.corners) (listed_face m c.faces (face m e) whole.fits.faces_fit inner_e d))) (at 1).1
+
+    other_there : has_corner v (get_or (full_faces c) b d) ≡ true
+    other_there =
+        let at_o = corner_there v (get_or (full_faces c) (face m o - 1) d) (triangle_at m o) (named_corners m o (get_or (full_faces c) (face m o - 1) d) s w.within inner_o.0 (ap (λ (x : FullFace F). x.corners) (listed_face m c.faces (face m o) whole.fits.faces_fit inner_o d))) v_is in
+        ap (λ f. has_corner v (get_or (full_faces c) (f - 1) d)) twin_face ∙ at_o
+
+    pub come_corners : HasCorners come_face (record { first = tip_end; second = first_end; third = next_end })
+    unfolding come_face with_other_corners
+    come_corners = inr (inr (λ i. record { first = after i; second = before i; third = beyond i }))
+
+    come_off : has_corner v come_face ≡ false
+    come_off = corner_missing v come_face (record { first = tip_end; second = first_end; third = next_end }) come_corners tip_off first_off next_off
+
+    turned_there : has_corner v turned_face ≡ true
+    unfolding turned_face with_other_corners
+    turned_there = corner_there v turned_face (record { first = origin m (next m (rev e)); second = origin m (prev m (rev e)); third = origin m (prev m e) }) (inr (inl refl)) back
+
+    pub faces_gain : IsPermutation (filter (lacks_corner v) (full_faces new)) (come_face ∷ filter (lacks_corner v) (full_faces c))
+    unfolding middle was
+    faces_gain =
+        let one = filter_gains (lacks_corner v) (full_faces c) a come_face d a_in (lacks_not v was was_there) (lacks_it v come_face come_off) in
+        let kept = get_or-set_other (full_faces c) a b come_face d ab in
+        let two = filter_stays (lacks_corner v) middle b turned_face d (rw length-set b_in) (lacks_not v (get_or middle b d) (ap (has_corner v) kept ∙ other_there)) (lacks_not v turned_face turned_there) in
+        rw list_is (IsPermutation-trans _ _ _ two one)
+
+    -- its data are those of a face at the vertex
+    pub come_at : (a < length (full_faces c)) × (has_corner v (get_or (full_faces c) a d) ≡ true) × (come_face.value ≡ (get_or (full_faces c) a d).value)
+    unfolding come_face was with_other_corners
+    come_at = (a_in, was_there, refl)
+
+    -- no face has got the vertex as a corner
+    pub fewer_there : (i : ℕ) → has_corner v (get_or (full_faces new) i d) ≡ true → has_corner v (get_or (full_faces c) i d) ≡ true
+    unfolding middle was
+    fewer_there i is =
+        elim (cases_eq i a) [
+          | inl q ↦ ap (λ k. has_corner v (get_or (full_faces c) k d)) q ∙ was_there
+          | inr p ↦ elim (cases_eq i b) [
+            | inl q ↦ ap (λ k. has_corner v (get_or (full_faces c) k d)) q ∙ other_there
+            | inr r ↦
+                let kept = get_or-set_other middle b i turned_face d r ∙ get_or-set_other (full_faces c) a i come_face d p in
+                ap (has_corner v) (sym kept ∙ ap (λ xs. get_or xs i d) (sym list_is)) ∙ is
+          ]
+        ]
+
+-- ---- the outer edges stay
+same_among : (m new : Mesh) → KeepsOuter m new → (k : ℕ) → k ≤ length m.half_edges → k ≤ length new.half_edges → outer_among new k ≡ outer_among m k
+same_among m new o zero p q = refl
+same_among m new o (suc k) p q =
+    let rest = same_among m new o k (omega (arith, p)) (omega (arith, q)) in
+    elim (cases_eq (face m k) 0) [
+      | inl is ↦
+          let now = o.kept k (origin m k) (origin m (rev k)) (record { within = omega (arith, p); outer = is; source = refl; target = refl }) in
+          listed new k now.outer ∙ (λ i. record { source = now.source i; target = now.target i } ∷ rest i) ∙ sym (listed m k is)
+      | inr off ↦
+          let still : face new k ≢ 0 = λ z. off (o.only k (origin new k) (origin new (rev k)) (record { within = omega (arith, q); outer = z; source = refl; target = refl })).outer in
+          passed_over new k (omega (arith, still)) ∙ rest ∙ sym (passed_over m k (omega (arith, off)))
+    ]
+  where
+    listed : (m : Mesh) (k : ℕ) → face m k ≡ 0 → outer_among m (suc k) ≡ record { source = origin m k; target = origin m (rev k) } ∷ outer_among m k
+    listed m k is = grind (arith, nat_tests)
+
+    passed_over : (m : Mesh) (k : ℕ) → 0 < face m k → outer_among m (suc k) ≡ outer_among m k
+    passed_over m k some = grind (arith, nat_tests)
+
+pub same_outline : (m new : Mesh) → KeepsOuter m new → length new.half_edges ≡ length m.half_edges → outline new ≡ outline m
+same_outline m new o count = ap (outer_among new) count ∙ same_among m new o (length m.half_edges) (omega arith) (omega (arith, count))
