@@ -1,22 +1,22 @@
 -- A vertex whose edges but three were turned away from it loses these, and the hole is filled.
-use Rattle.std.proofs.Common.{◌≡◌, ◌≢◌, ℕ, zero, suc, ◌+◌, ◌-◌, ◌*◌, ◌<◌, ◌≤◌, true, false, List, [], ◌∷◌, ◌++◌, length, get_or, refl, sym, ap, ◌∙◌, inl, arith, subst, append-nil, Option, Some, None}
+use Rattle.std.proofs.Common.{◌≡◌, ◌≢◌, ℕ, zero, suc, ◌+◌, ◌-◌, ◌*◌, ◌<◌, true, false, List, [], ◌∷◌, ◌++◌, length, get_or, refl, sym, ap, ◌∙◌, inl, arith, subst, Option, Some, None}
 use Rattle.std.specs.Prelude.{pos, ◌+ℤ◌, IsSome}
 use Rattle.std.specs.List.{All, AllZip, Contains, filter}
 use Rattle.std.specs.List.Sorted.{IsPermutation}
 use Rattle.std.proofs.lemmas.Bool.{false≢true}
 use Rattle.std.proofs.lemmas.List.Elements.{All-cons, All-head, All-nil, All-tail, All-weaker, All-contains, Contains-append_left, Contains-append_right, Contains-get_or}
-use Rattle.std.proofs.lemmas.List.Sorted.{All-permutation, Contains-permutation, IsPermutation-sym, IsPermutation-trans, IsPermutation-cons, IsPermutation-append, IsPermutation-append_left, IsPermutation-append_right, IsPermutation-filter_both, IsPermutation-middle, IsPermutation-refl}
+use Rattle.std.proofs.lemmas.List.Sorted.{All-permutation, Contains-permutation, IsPermutation-sym, IsPermutation-trans, IsPermutation-cons, IsPermutation-append_left, IsPermutation-append_right, IsPermutation-filter_both, IsPermutation-middle}
 use Rattle.half_edge_links.specs.Flow.{total, along}
-use Rattle.half_edge_links.specs.Mesh.{Mesh, origin, next, prev, face, face_edge, out_edge, rev, IsSound, IsAlone, IsInner}
+use Rattle.half_edge_links.specs.Mesh.{Mesh, origin, next, prev, face_edge, out_edge, IsSound, IsAlone, IsInner}
 use Rattle.half_edge_links.specs.Outline.{Ends, ends}
 use Rattle.half_edge_links.specs.Round.{neighbour}
 use Rattle.half_edge_links.specs.Triangles.{Triangle, triangle_at}
 use Rattle.half_edge_links.proofs.TakenLists.{ends_at, count_ends}
 use Rattle.half_edge_mesh.specs.Contents.{Contents, IsWhole}
 use Rattle.half_edge_mesh.specs.Growth.{joins}
-use Rattle.half_edge_mesh.specs.Removal.{FullEdge, FullFace, IsBetween, HasCorners, LosesEdges, FillsHole, full_edges, full_faces, spokes_to, faces_between}
+use Rattle.half_edge_mesh.specs.Removal.{FullEdge, FullFace, IsBetween, HasCorners, FillsHole, full_edges, full_faces, spokes_to, faces_between}
 use Rattle.half_edge_mesh.proofs.TakenOut.{length-full_edges, get_or-full_edges}
-use Rattle.half_edge_mesh.specs.Hole.{IsHub, HasFreeTip, HasDataOf, FillsWithFan, fan_edges, fan_faces}
+use Rattle.half_edge_mesh.specs.Hole.{IsHub, HasFreeTip, HasDataOf, FillsWithFan}
 use Rattle.half_edge_mesh.proofs.Filtered.{sorted_out, Contains-filter}
 use Rattle.half_edge_mesh.proofs.HubFaces.{no_face_of, count_faces, listed_face, round_faces, round_faces_are, faces_round}
 use Rattle.half_edge_mesh.proofs.Touching.{has_corner, lacks_corner, touches, misses, touches_it, corner_there, corners_off, ends_off, misses_is, lacks_is}

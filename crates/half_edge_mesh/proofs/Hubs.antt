@@ -1,14 +1,14 @@
 -- A vertex with inner faces all round, and what turning one of its edges away from it leaves.
-use Rattle.std.proofs.Common.{◌≡◌, ◌≢◌, ℕ, zero, suc, ◌+◌, ◌-◌, ◌<◌, ◌≤◌, length, refl, sym, ap, ◌∙◌, inl, inr, arith}
+use Rattle.std.proofs.Common.{◌≡◌, ◌≢◌, ℕ, zero, suc, ◌<◌, ◌≤◌, length, sym, ap, ◌∙◌, inl, inr, arith}
 use Rattle.std.proofs.lemmas.Bool.{cases_eq}
 use Rattle.half_edge_links.specs.declared.records.HalfEdge.{HalfEdge}
 use Rattle.half_edge_links.specs.Flip.{IsFlippable, Flips}
 use Rattle.half_edge_links.specs.Mesh.{Mesh, edge_at, origin, next, prev, face, rev, IsValid, IsSound}
 use Rattle.half_edge_links.specs.Peel.{turn, spoke}
 use Rattle.half_edge_links.specs.Round.{neighbour}
-use Rattle.half_edge_links.proofs.Conditions.{flippable, spoke_at, turn_in, turn_one, turn_starts, turned_apart}
+use Rattle.half_edge_links.proofs.Conditions.{flippable, spoke_at, turn_in, turn_one, turned_apart}
 use Rattle.half_edge_links.proofs.FlipSound.{origin_kept}
-use Rattle.half_edge_links.proofs.Rev.{rev-rev, rev_within}
+use Rattle.half_edge_links.proofs.Rev.{rev-rev}
 use Rattle.half_edge_links.proofs.Triangles.{IsTriangle, triangle_at}
 use Rattle.half_edge_mesh.specs.Hole.{IsHub, HasFreeTip}
 

@@ -1,25 +1,25 @@
 -- Edges of an inner vertex are turned away from it, one after the other.
-use Rattle.std.proofs.Common.{◌≡◌, ◌≢◌, ℕ, zero, suc, ◌+◌, ◌-◌, ◌<◌, ◌≤◌, true, List, [], ◌∷◌, ◌++◌, length, get_or, refl, sym, ap, ◌∙◌, arith}
+use Rattle.std.proofs.Common.{◌≡◌, ◌≢◌, ℕ, suc, ◌+◌, ◌-◌, ◌<◌, ◌≤◌, true, List, [], ◌∷◌, ◌++◌, length, get_or, refl, sym, ap, ◌∙◌, arith}
 use Rattle.std.specs.List.{All, AllZip, Contains, filter}
 use Rattle.std.specs.List.Sorted.{IsPermutation}
 use Rattle.std.proofs.lemmas.List.{length-map}
 use Rattle.std.proofs.lemmas.List.Elements.{All-cons, All-nil, All-weaker, Contains-append_right, Contains-get_or}
 use Rattle.std.proofs.lemmas.List.Sorted.{IsPermutation-refl, IsPermutation-trans, IsPermutation-cons, IsPermutation-append_right, IsPermutation-middle}
-use Rattle.half_edge_links.specs.Flip.{IsFlippable, Flips}
+use Rattle.half_edge_links.specs.Flip.{Flips}
 use Rattle.half_edge_links.specs.Flow.{outline}
 use Rattle.half_edge_links.specs.Hull.{KeepsOneOutline}
-use Rattle.half_edge_links.specs.Mesh.{Mesh, origin, next, prev, face, rev}
+use Rattle.half_edge_links.specs.Mesh.{origin, prev, face, rev}
 use Rattle.half_edge_links.specs.Outline.{KeepsOuter, MovesEdge}
 use Rattle.half_edge_links.specs.Peel.{IsWheel, turn, spoke}
 use Rattle.half_edge_links.specs.Round.{neighbour}
 use Rattle.half_edge_links.specs.Triangles.{triangles, triangle_at, FlipsTriangles}
 use Rattle.half_edge_mesh.specs.Contents.{Contents, IsWhole}
-use Rattle.half_edge_mesh.specs.Removal.{FullEdge, FullFace, IsBetween, HasCorners, full_edges, full_faces, full_faces_of, spokes_to}
+use Rattle.half_edge_mesh.specs.Removal.{FullEdge, FullFace, IsBetween, HasCorners, full_edges, full_faces, spokes_to}
 use Rattle.half_edge_mesh.proofs.TakenOut.{get_or-full_faces}
 use Rattle.half_edge_mesh.specs.Hole.{IsHub, HasFreeTip, HasDataOf, fan_edges, fan_faces}
 use Rattle.half_edge_mesh.proofs.Filtered.{Contains-filter}
 use Rattle.half_edge_mesh.proofs.HubFaces.{no_face_of, count_faces}
-use Rattle.half_edge_mesh.proofs.Hubs.{can_turn, hub_after, start_after, tip_after, ends_after}
+use Rattle.half_edge_mesh.proofs.Hubs.{hub_after, start_after, tip_after, ends_after}
 use Rattle.half_edge_mesh.proofs.Touching.{has_corner, lacks_corner, touches, misses}
 use Rattle.half_edge_mesh.proofs.TurnedEdge.{gone_edge, gone_between, come_edge, come_between, come_data, edges_lose, edges_gain, come_face, come_corners, come_at, faces_gain, fewer_there, same_outline}
 

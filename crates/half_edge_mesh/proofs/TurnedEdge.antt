@@ -1,15 +1,14 @@
 -- What turning an edge of a vertex away from it makes of the lists of edges and faces.
-use Rattle.std.proofs.Common.{◌≡◌, ◌≢◌, ◌⊎◌, ℕ, zero, suc, ◌+◌, ◌-◌, ◌*◌, ◌/◌, ◌<◌, ◌≤◌, Bool, true, false, List, [], ◌∷◌, length, set, get_or, refl, sym, ap, ◌∙◌, inl, inr, arith, subst}
+use Rattle.std.proofs.Common.{◌≡◌, ◌≢◌, ℕ, zero, suc, ◌-◌, ◌/◌, ◌<◌, ◌≤◌, true, false, List, [], ◌∷◌, length, set, get_or, refl, sym, ap, ◌∙◌, inl, inr, arith, subst}
 use Rattle.std.specs.List.{filter}
 use Rattle.std.specs.List.Sorted.{IsPermutation}
 use Rattle.std.proofs.lemmas.Bool.{cases_eq}
 use Rattle.std.proofs.lemmas.Bool.Decides.{nat_tests}
 use Rattle.std.proofs.lemmas.List.{length-map, length-set, get_or-set_other}
 use Rattle.std.proofs.lemmas.List.Sorted.{IsPermutation-trans}
-use Rattle.half_edge_links.specs.Flip.{Flips}
 use Rattle.half_edge_links.specs.Flow.{outer_among, outline}
-use Rattle.half_edge_links.specs.Mesh.{Mesh, origin, next, prev, face, face_edge, rev, IsSound, IsValid, IsInner}
-use Rattle.half_edge_links.specs.Outline.{Ends, ends, along, IsOuterEdge, KeepsOuter, MovesEdge}
+use Rattle.half_edge_links.specs.Mesh.{Mesh, origin, next, prev, face, rev, IsSound, IsInner}
+use Rattle.half_edge_links.specs.Outline.{Ends, ends, along, KeepsOuter, MovesEdge}
 use Rattle.half_edge_links.specs.Peel.{turn, spoke}
 use Rattle.half_edge_links.specs.Round.{neighbour}
 use Rattle.half_edge_links.specs.Triangles.{Triangle, triangles, triangle_at, FlipsTriangles}
@@ -21,11 +20,10 @@ use Rattle.half_edge_mesh.specs.Contents.{Contents, IsWhole}
 use Rattle.half_edge_mesh.specs.Growth.{joins}
 use Rattle.half_edge_mesh.specs.Removal.{FullEdge, FullFace, IsBetween, HasCorners, full_edges, full_edges_of, full_faces, full_faces_of}
 use Rattle.half_edge_mesh.proofs.TakenEdges.{between, named_corners}
-use Rattle.half_edge_mesh.proofs.TakenOut.{length-full_edges, get_or-full_faces}
-use Rattle.half_edge_mesh.specs.Hole.{IsHub, HasFreeTip, HasDataOf}
+use Rattle.half_edge_mesh.proofs.TakenOut.{length-full_edges}
+use Rattle.half_edge_mesh.specs.Hole.{IsHub, HasDataOf}
 use Rattle.half_edge_mesh.proofs.Filtered.{filter_gains, filter_loses, filter_stays}
 use Rattle.half_edge_mesh.proofs.HubFaces.{listed_face, count_faces}
-use Rattle.half_edge_mesh.proofs.Hubs.{can_turn, twin_is}
 use Rattle.half_edge_mesh.proofs.Touching.{has_corner, lacks_corner, touches, misses, touches_it, touches_not, corner_there, corner_missing, misses_it, misses_not, lacks_it, lacks_not, with_other_ends, with_other_corners, full_edges-set, full_faces-set, along_between}
 
 some_item : {X : Type 0} (xs : List X) (i : ℕ) → i < length xs → (x : X) × (x ≡ get_or xs i x)

@@ -1,10 +1,10 @@
 //! Each call that removes, once.
-ghost use Rattle.std.specs.Prelude.{◌≡◌, ◌≢◌, ◌<◌, length};
+ghost use Rattle.std.specs.Prelude.{◌≡◌, ◌≢◌, ◌<◌, ◌∷◌, [], length, slice_index, IsTrue};
 ghost use Rattle.half_edge_links.specs.Mesh.{face, next, origin, prev, rev};
 ghost use Rattle.half_edge_links.specs.Peel.{turn};
 
-use crate::careful::{append_unconnected_vertex, extend_line, insert_into_triangle};
-use crate::growth::{one_edge, one_face};
+use crate::careful::{append_unconnected_vertex, extend_line, insert_into_triangle, split_edge};
+use crate::growth::{one_edge, one_face, two_faces};
 use crate::reads::{Mesh, counts, directed, has_edge, has_vertex, vertex_at};
 use half_edge_mesh::{
     FixedDirectedEdgeHandle, FixedFaceHandle, FixedVertexHandle, IsolateVertexResult,
@@ -111,6 +111,74 @@ fn isolate_vertex(mesh: &mut Mesh, vertex: FixedVertexHandle) -> Result<IsolateV
     Ok(isolate_inner(mesh, spoke, a, b, c, vertex))
 }
 
+// Whether an edge has an inner face, and is followed round its start by another one.
+fn are_spokes(mesh: &Mesh, edge: FixedDirectedEdgeHandle, after: FixedDirectedEdgeHandle) -> bool
+    requires { edge < length mesh.now.directed }
+    ensures inner { IsTrue result → 0 < face mesh.now.mesh edge }
+    ensures after { IsTrue result → after ≡ turn mesh.now.mesh edge }
+{
+    let edge = mesh.directed_edge(edge);
+    !edge.is_outer_edge() && edge.ccw().index == after.index()
+}
+
+// Takes the edges of a vertex away that has these four, with these sides opposite it in its faces.
+fn isolate_between_four(
+    mesh: &mut Mesh,
+    spokes: [FixedDirectedEdgeHandle; 4],
+    sides: [FixedDirectedEdgeHandle; 4],
+    vertex: FixedVertexHandle,
+) -> IsolateVertexResult
+    requires within { slice_index spokes 0 < length mesh.old.directed }
+    requires starts { origin mesh.old.mesh (slice_index spokes 0) ≡ vertex }
+    requires first { 0 < face mesh.old.mesh (slice_index spokes 0) }
+    requires second { 0 < face mesh.old.mesh (slice_index spokes 1) }
+    requires third { 0 < face mesh.old.mesh (slice_index spokes 2) }
+    requires fourth { 0 < face mesh.old.mesh (slice_index spokes 3) }
+    requires at_second { slice_index spokes 1 ≡ turn mesh.old.mesh (slice_index spokes 0) }
+    requires at_third { slice_index spokes 2 ≡ turn mesh.old.mesh (slice_index spokes 1) }
+    requires at_fourth { slice_index spokes 3 ≡ turn mesh.old.mesh (slice_index spokes 2) }
+    requires round { turn mesh.old.mesh (slice_index spokes 3) ≡ slice_index spokes 0 }
+    requires corners { let m = mesh.old.mesh in origin m (rev (slice_index spokes 2)) ≢ origin m (rev (slice_index spokes 0)) }
+    requires sides { let m = mesh.old.mesh in sides ≡ next m (slice_index spokes 0) ∷ next m (slice_index spokes 1) ∷ next m (slice_index spokes 2) ∷ next m (slice_index spokes 3) ∷ [] }
+    ensures { length mesh.new.vertices ≡ length mesh.old.vertices }
+{
+    let _whole = mesh.num_vertices();
+    mesh.isolate_vertex_and_fill_hole(&sides, vertex)
+}
+
+// The same, where a vertex has four inner faces.
+fn isolate_vertex_between_four(
+    mesh: &mut Mesh,
+    vertex: FixedVertexHandle,
+) -> Result<IsolateVertexResult, Fail> {
+    if !has_vertex(mesh, vertex) {
+        return Err(Fail::new("no such vertex"));
+    }
+    let Some(first) = mesh.vertex(vertex).out_edge() else {
+        return Err(Fail::new("no edge"));
+    };
+    let second = first.ccw();
+    let third = second.ccw();
+    let fourth = third.ccw();
+    if first.from().index != vertex.index() || third.to().index == first.to().index {
+        return Err(Fail::new("no four neighbors"));
+    }
+    let [a, b, c, d] = [first.fix(), second.fix(), third.fix(), fourth.fix()];
+    let sides = [
+        first.next().fix(),
+        second.next().fix(),
+        third.next().fix(),
+        fourth.next().fix(),
+    ];
+    if !are_spokes(mesh, a, b) || !are_spokes(mesh, b, c) {
+        return Err(Fail::new("no inner vertex"));
+    }
+    if !are_spokes(mesh, c, d) || !are_spokes(mesh, d, a) {
+        return Err(Fail::new("no round of four edges"));
+    }
+    Ok(isolate_between_four(mesh, [a, b, c, d], sides, vertex))
+}
+
 #[test]
 fn the_last_vertex_takes_a_freed_index(rt: HostRuntime) -> Result<(), Fail> {
     let mut mesh = Mesh::new(rt.alloc());
@@ -153,5 +221,16 @@ fn an_inner_vertex_leaves_one_face(rt: HostRuntime) -> Result<(), Fail> {
     assert_eq!(rt; counts(&mesh), [4usize, 6, 3, 1]);
     assert!(rt; vertex_at(&mesh, inner)?.out_edge().is_none());
     assert_eq!(rt; swap_remove_vertex(&mut mesh, inner)?, 4);
+    Ok(())
+}
+
+#[test]
+fn a_fan_fills_a_hole_of_four_edges(rt: HostRuntime) -> Result<(), Fail> {
+    let mut mesh = two_faces(rt.alloc())?;
+    let (inner, _) = split_edge(&mut mesh, directed(2), 5)?;
+    let done = isolate_vertex_between_four(&mut mesh, inner)?;
+    assert!(rt; done == IsolateVertexResult { vertex: inner });
+    assert_eq!(rt; counts(&mesh), [5usize, 10, 5, 2]);
+    assert!(rt; vertex_at(&mesh, inner)?.out_edge().is_none());
     Ok(())
 }
