@@ -1,22 +1,30 @@
 -- The sides opposite a vertex, as the mesh's calls ask for them: round three faces, and along a strip on the hull.
 use Rattle.std.proofs.Common.{◌≡◌, ℕ, zero, suc, ◌<◌, List, [], ◌∷◌, length, refl, sym, ap, ◌∙◌, subst, arith}
 use Rattle.std.specs.Prelude.{slice_index}
-use Rattle.half_edge_links.specs.Mesh.{Mesh, origin, next, prev, IsSound}
+use Rattle.half_edge_links.specs.Mesh.{Mesh, origin, next, prev, face, IsSound}
 use Rattle.half_edge_links.specs.Peel.{turn, spoke, IsWheel, IsStrip}
-use Rattle.half_edge_mesh.specs.Removal.{IsBorder, AreOpposite, first_spoke}
+use Rattle.half_edge_mesh.specs.Hole.{IsBorder, IsHub}
+use Rattle.half_edge_mesh.specs.Removal.{AreOpposite, first_spoke}
 
 -- the three sides round a vertex with three faces
 pub border_of_wheel : (m : Mesh) (v first : ℕ) → IsSound m → IsWheel m first → origin m first ≡ v → IsBorder m (next m first ∷ next m (turn m first) ∷ next m (turn m (turn m first)) ∷ []) v
 border_of_wheel m v first s wheel starts = record {
-  count = refl;
+  count = omega arith;
   within = (s.edges first wheel.within).next_in;
-  round = subst (IsWheel m) (sym start) wheel;
+  round = subst (λ h. IsHub m h 3) (sym start) (record { within = wheel.within; inner = inner; round = wheel.round });
   starts = ap (origin m) start ∙ starts;
   sides = sides;
+  tip = λ i some l. absurd (omega (arith, some, l));
 }
   where
     start : prev m (next m first) ≡ first
     start = (s.edges first wheel.within).prev_next
+
+    inner : (i : ℕ) → i < 3 → 0 < face m (spoke m first i)
+    inner zero l = wheel.first_inner
+    inner (suc zero) l = wheel.second_inner
+    inner (suc (suc zero)) l = wheel.third_inner
+    inner (suc (suc (suc i))) l = absurd (omega (arith, l))
 
     sides : (i : ℕ) → i < 3 → slice_index (next m first ∷ next m (turn m first) ∷ next m (turn m (turn m first)) ∷ []) i ≡ next m (spoke m (prev m (next m first)) i)
     sides zero l = ap (next m) (sym start)
