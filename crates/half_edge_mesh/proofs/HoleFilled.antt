@@ -228,6 +228,7 @@ module _ {V D U F : Type 0} (old c new : Contents V D U F) (o turned : ℕ) (who
         faces_were = old_faces;
         faces_are = new_faces;
         outer = λ h. g.outer h ∙ ap (λ x. total (along h) x +ℤ pos 0) f.outer;
+        outline = λ one. g.outline (f.outline one);
       }
 
 -- the same, for a count of edges
@@ -255,6 +256,7 @@ fan_of_three {V} {D} {U} {F} old new v n f =
       was = f.faces_were;
       is = faces.3;
       outer = f.outer;
+      outline = f.outline;
     }
   where
     no_edge : (made : List (FullEdge D U)) → AllZip IsBetween made [] → IsPermutation (full_edges new) (made ++ f.other_edges) → IsPermutation (full_edges new) f.other_edges

@@ -2,6 +2,7 @@
 use Rattle.std.specs.Prelude.{◌≡◌, ◌≢◌, ℕ, zero, suc, ◌-◌, ◌<◌, ◌≤◌, List, [], ◌∷◌, ◌++◌, length, slice_index, All, Contains}
 use Rattle.std.specs.List.{AllZip}
 use Rattle.std.specs.List.Sorted.{IsPermutation}
+use Rattle.half_edge_links.specs.Hull.{KeepsOneOutline}
 use Rattle.half_edge_links.specs.Mesh.{Mesh, origin, next, face, IsAlone}
 use Rattle.half_edge_links.specs.Outline.{Ends}
 use Rattle.half_edge_links.specs.Peel.{spoke}
@@ -68,3 +69,4 @@ pub record FillsWithFan {V D U F : Type 0} (old new : Contents V D U F) (v : ℕ
   pub faces_were : IsPermutation (full_faces old) (lost_faces ++ other_faces)
   pub faces_are : IsPermutation (full_faces new) (made_faces ++ other_faces)
   pub outer : OuterChanges old.mesh new.mesh [] []
+  pub outline : KeepsOneOutline old.mesh new.mesh
