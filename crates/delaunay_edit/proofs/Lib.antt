@@ -7,6 +7,7 @@ pub mod MeshParts
 pub mod Nearest
 pub mod Locating
 pub mod Counts
+pub mod HullSizes
 pub mod Growing
 pub mod Cases
 pub mod Overwriting

@@ -10,7 +10,7 @@ use Rattle.plane.specs.Fraction.{Point, whole, IsSame, WithinSegment, InsideTria
 use Rattle.plane.specs.Side.{TurnsLeft}
 use Rattle.plane.specs.Circle.{gap}
 use Rattle.plane.specs.Pairs.{place}
-use Rattle.plane.specs.Tiling.{Face, IsEdge, IsFace, HasFace, vertex}
+use Rattle.plane.specs.Tiling.{Face, IsEdge, IsFace, HasFace}
 use Rattle.plane.specs.Tiling as T
 use Rattle.plane.specs.Location.{Location, on_vertex, on_edge, on_face, outside_hull, no_triangulation, IsLocation, IsOuter, IsPast}
 use Rattle.plane.proofs.Triangles.{turned_inside}

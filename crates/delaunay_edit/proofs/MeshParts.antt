@@ -34,7 +34,7 @@ no_side points m i j e h = go (subst (λ fs. Contains fs (T.face i j h.0) ⊎ (C
     go (inr (inr c)) = Contains-none (T.face h.0 i j) c
 
 -- an edge with the outer face on its left has no face there
-outer_bare : (points : List Point) (m : Mesh) (i j : ℕ) → IsMesh points (faces_of m) (outer_of m) → Contains (outer_of m) (i, j) → ¬ HasFace (drawn points m) i j
+pub outer_bare : (points : List Point) (m : Mesh) (i j : ℕ) → IsMesh points (faces_of m) (outer_of m) → Contains (outer_of m) (i, j) → ¬ HasFace (drawn points m) i j
 outer_bare points m i j (inl s) c = L.outer_is_no_side (length points) (point_at points) (faces_of m) (outer_of m) (by_signs points (faces_of m) (outer_of m) s) i j c
 outer_bare points m i j (inr s) c = no_side points m i j s.0
 

@@ -7,3 +7,4 @@ pub mod Elements
 pub mod Data
 pub mod Joining
 pub mod Flips
+pub mod Hull

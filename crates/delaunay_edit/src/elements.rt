@@ -1,7 +1,8 @@
 //! Counts, handles and iterators of vertices, edges and faces.
-ghost use Rattle.std.specs.Prelude.{◌≡◌, ◌+◌, ◌*◌, ◌<◌, ◌≤◌, length};
+ghost use Rattle.std.specs.Prelude.{◌≡◌, ◌+◌, ◌-◌, ◌*◌, ◌<◌, ◌≤◌, length};
 ghost use Rattle.half_edge_mesh.specs.Left.{vertices_left, faces_left};
 ghost use Rattle.delaunay_edit.specs.Elements.{GivesElements};
+ghost use Rattle.delaunay_edit.specs.Hull.{HasHullSize};
 ghost use Rattle.delaunay_edit.specs.State.{state_of, triangulation_of};
 
 use crate::triangulation_core::TriangulationCore;
@@ -41,6 +42,16 @@ impl<V: HasPosition, DE, UE, F> TriangulationCore<V, DE, UE, F> {
         ensures values { result ≡ length self.now.faces + 1 }
     {
         self.dcel.num_faces()
+    }
+
+    /// How many directed edges have the outer face on their left. On one line each edge counts in both directions.
+    pub fn convex_hull_size(&self) -> usize
+        ensures hull { HasHullSize (triangulation_of V.place self.now) result }
+        ensures spread { 0 < length self.now.faces → length self.now.undirected + result + 3 ≡ 3 * length self.now.vertices }
+        ensures line { length self.now.faces ≡ 0 → result ≡ 2 * (length self.now.vertices - 1) }
+    {
+        let _ = self.num_vertices();
+        self.num_directed_edges() - 3 * self.num_inner_faces()
     }
 
     pub fn vertex(&self, vertex: FixedVertexHandle) -> VertexHandle<'_, V, DE, UE, F>

@@ -1,5 +1,5 @@
 //! Triangulations without constraints.
-ghost use Rattle.std.specs.Prelude.{◌≡◌, ◌↔◌, ℕ, ◌+◌, ◌*◌, ◌<◌, ◌≤◌, [], length, map, All, MatchOption, IsOk, IsErrOf, IfOk, OnErr, OnOk, slice_set};
+ghost use Rattle.std.specs.Prelude.{◌≡◌, ◌↔◌, ℕ, ◌+◌, ◌-◌, ◌*◌, ◌<◌, ◌≤◌, [], length, map, All, MatchOption, IsOk, IsErrOf, IfOk, OnErr, OnOk, slice_set};
 ghost use Rattle.half_edge_links.specs.Mesh.{empty};
 ghost use Rattle.half_edge_mesh.specs.Left.{vertices_left, faces_left};
 ghost use Rattle.plane.specs.Fraction.{whole as fraction};
@@ -13,6 +13,7 @@ ghost use Rattle.delaunay_core.specs.declared.math.InsertionError.TheVariants.{T
 ghost use Rattle.delaunay_edit.specs.Data.{KeepsData};
 ghost use Rattle.delaunay_edit.specs.Known.{IsKnown, point_at};
 ghost use Rattle.delaunay_edit.specs.Elements.{GivesElements, HasElement};
+ghost use Rattle.delaunay_edit.specs.Hull.{HasHullSize};
 ghost use Rattle.delaunay_edit.specs.Location.{location_of};
 ghost use Rattle.delaunay_edit.specs.State.{state_of, plain_of, triangulation_of};
 
@@ -101,6 +102,15 @@ impl<V: HasPosition, DE, UE, F> DelaunayTriangulation<V, DE, UE, F> {
         ensures values { result ≡ length self.now.faces + 1 }
     {
         self.core.num_all_faces()
+    }
+
+    /// How many directed edges have the outer face on their left. On one line each edge counts in both directions.
+    pub fn convex_hull_size(&self) -> usize
+        ensures hull { HasHullSize (triangulation_of V.place self.now) result }
+        ensures spread { 0 < length self.now.faces → length self.now.undirected + result + 3 ≡ 3 * length self.now.vertices }
+        ensures line { length self.now.faces ≡ 0 → result ≡ 2 * (length self.now.vertices - 1) }
+    {
+        self.core.convex_hull_size()
     }
 
     pub fn vertex(&self, vertex: FixedVertexHandle) -> VertexHandle<'_, V, DE, UE, F>
