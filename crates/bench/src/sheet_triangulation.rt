@@ -27,22 +27,22 @@ pub enum SheetError {
     Refused(InsertionError),
 }
 
-/// A triangulation of points of a sheet, whose answers it uses.
+/// A triangulation of points of a sheet, whose answers it uses, with a number on each edge and face.
 #[derive(Drop)]
 pub struct SheetTriangulation {
     sheet: Sheet,
-    triangulation: DelaunayTriangulation<TaggedVertex, (), (), ()>,
+    triangulation: DelaunayTriangulation<TaggedVertex, u32, u32, u32>,
 }
 
 impl Model for SheetTriangulation {
-    ghost use Rattle.std.specs.Prelude.{⊤};
+    ghost use Rattle.std.specs.Prelude.{ℕ};
     ghost use Rattle.delaunay_edit.specs.State.{State};
     ghost use Rattle.triangulate_run.specs.declared.sheet.Sheet.{Sheet};
     ghost use Rattle.triangulate_run.specs.Sheet.{IsSite};
     ghost use Rattle.bench.specs.declared.tagged_vertex.TaggedVertex.{TaggedVertex};
     ghost use Rattle.bench.specs.Vertices.{AreSites};
 
-    ghost Value = { Sheet × State TaggedVertex ⊤ ⊤ ⊤ };
+    ghost Value = { Sheet × State TaggedVertex ℕ ℕ ℕ };
 
     ghost view = { λ s. (s.sheet, s.triangulation) };
 
@@ -68,7 +68,7 @@ impl SheetTriangulation {
     }
 
     /// All vertices are sites of the sheet.
-    pub fn triangulation(&self) -> &DelaunayTriangulation<TaggedVertex, (), (), ()>
+    pub fn triangulation(&self) -> &DelaunayTriangulation<TaggedVertex, u32, u32, u32>
         ensures triangulation { result.now ≡ self.now.1 }
         ensures sites { AreSites (IsSite self.now.0) result.now.vertices }
     {

@@ -7,15 +7,16 @@ use spade_delaunay::handles::{DirectedEdgeHandle, FaceHandle};
 mod empty_circles;
 mod locations;
 mod refusals;
+mod snapshots;
 mod vertices;
 
 /// The ends of an edge by their indexes, in its direction.
-fn ends_of(edge: DirectedEdgeHandle<'_, TaggedVertex, (), (), ()>) -> (u32, u32) {
+fn ends_of(edge: DirectedEdgeHandle<'_, TaggedVertex, u32, u32, u32>) -> (u32, u32) {
     (edge.from().fix().index(), edge.to().fix().index())
 }
 
 /// The corners of an inner face by their indexes, the least first.
-fn corners_of(face: FaceHandle<'_, TaggedVertex, (), (), ()>) -> [u32; 3]
+fn corners_of(face: FaceHandle<'_, TaggedVertex, u32, u32, u32>) -> [u32; 3]
     requires { 0 < face.index }
 {
     let [a, b, c] = face.vertices();

@@ -1,53 +1,33 @@
 //! What a refused insertion leaves. Memory is refused where these are run as `rt try --test --fail-alloc N`.
 
-use super::corners_of;
+use super::snapshots::Snapshot;
 use crate::sheet_triangulation::{SheetError, SheetTriangulation};
-use crate::tagged_vertex::TaggedVertex;
 use spade_delaunay::{DelaunayTriangulation, InsertionError, Point2};
 use std::test::Fail;
 use triangulate_run::sheet::Sheet;
 
-/// What a triangulation of at most three vertices holds. To ask for it takes no memory.
-#[derive(Clone, Copy, Debug, PartialEq, Eq)]
-struct Snapshot {
-    vertices: [Option<TaggedVertex>; 3],
-    edges: usize,
-    face: Option<[u32; 3]>,
-}
-
-fn take_snapshot(points: &SheetTriangulation) -> Snapshot {
-    let triangulation = points.triangulation();
-    let mut vertices = [None; 3];
-    let mut next = 0usize;
-    for vertex in triangulation.vertices() {
-        if let Some(slot) = vertices.get_mut(next) {
-            *slot = Some(*vertex.data());
-        }
-        next = next.saturating_add(1);
-    }
-    let mut face = None;
-    for inner in triangulation.inner_faces() {
-        if !inner.is_outer() {
-            face = Some(corners_of(inner));
-        }
-    }
-    Snapshot {
-        vertices,
-        edges: triangulation.num_undirected_edges(),
-        face,
-    }
-}
-
 #[test]
 fn a_refused_growth_changes_nothing(rt: HostRuntime) -> Result<(), Fail> {
     let mut points = SheetTriangulation::new(rt.alloc(), Sheet::G);
-    for (x, y, tag) in [(0i64, 1i64, 1u64), (1, 1, 2), (1, 0, 3)] {
+    // After the first two one past an end of their line, one beside it, one outside, three within edges of the hull, and
+    // one inside.
+    for (x, y, tag) in [
+        (-1i64, -1i64, 1u64),
+        (0, -1, 2),
+        (1, -1, 3),
+        (-1, 1, 4),
+        (1, 1, 5),
+        (0, 1, 6),
+        (-1, 0, 7),
+        (1, 0, 8),
+        (0, 0, 9),
+    ] {
         // One growth is refused at most, so a vertex is there after two calls.
         for _ in 0..2 {
-            let before = take_snapshot(&points);
+            let before = Snapshot::new(&points)?;
             match points.insert(Point2::new(x, y), tag) {
                 Err(SheetError::Refused(InsertionError::OutOfMemory)) => {
-                    assert_eq!(rt; take_snapshot(&points), before, "at {tag}");
+                    assert_eq!(rt; Snapshot::new(&points)?, before, "at {tag}");
                 }
                 outcome => {
                     outcome?;
@@ -56,8 +36,9 @@ fn a_refused_growth_changes_nothing(rt: HostRuntime) -> Result<(), Fail> {
             }
         }
     }
-    assert_eq!(rt; points.triangulation().num_vertices(), 3);
-    assert_eq!(rt; points.triangulation().num_inner_faces(), 1);
+    assert_eq!(rt; points.triangulation().num_vertices(), 9);
+    assert_eq!(rt; points.triangulation().num_undirected_edges(), 16);
+    assert_eq!(rt; points.triangulation().num_inner_faces(), 8);
     Ok(())
 }
 

@@ -58,3 +58,33 @@ fn a_point_beside_the_sheet_is_not_inserted(rt: HostRuntime) {
     );
     assert_eq!(rt; points.triangulation().num_vertices(), 0);
 }
+
+#[test]
+fn the_hull_has_the_edges_beside_the_outer_face(rt: HostRuntime) -> Result<(), Fail> {
+    let mut points = SheetTriangulation::new(rt.alloc(), Sheet::G);
+    assert_eq!(rt; points.triangulation().convex_hull_size(), 0);
+    for (x, y, size) in [
+        (-1i64, 0i64, 0usize),
+        (1, 0, 2),
+        (0, 0, 4),
+        (0, 1, 4),
+        (1, 1, 5),
+        (-1, 1, 6),
+        (0, -1, 6),
+        (1, -1, 7),
+        (-1, -1, 8),
+    ] {
+        points.insert(Point2::new(x, y), 0)?;
+        assert_eq!(rt;
+            points.triangulation().convex_hull_size(),
+            size,
+            "after ({x}, {y})"
+        );
+    }
+    let mut three = SheetTriangulation::new(rt.alloc(), Sheet::G);
+    for (x, y) in [(0i64, 1i64), (1, 1), (1, 0)] {
+        three.insert(Point2::new(x, y), 0)?;
+    }
+    assert_eq!(rt; three.triangulation().convex_hull_size(), 3);
+    Ok(())
+}
