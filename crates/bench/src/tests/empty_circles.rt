@@ -1,9 +1,11 @@
 //! All triples of vertices against the faces: a face has no vertex inside its circle, and a triple whose circle neither
 //! contains nor carries a further vertex is a face.
 
+use super::insert;
 use crate::sheet_triangulation::SheetTriangulation;
 use spade_delaunay::Point2;
 use std::alloc::{AllocError, Global};
+use std::process::Abort;
 use std::test::Fail;
 use triangulate_run::sheet::Sheet;
 
@@ -88,19 +90,10 @@ struct Drawing {
 
 impl Drawing {
     fn new(alloc: Global, points: &SheetTriangulation) -> Result<Self, AllocError> {
-        let triangulation = points.triangulation();
-        let mut vertices = Vec::new(alloc);
-        for vertex in triangulation.vertices() {
-            vertices.push(vertex.data().position)?;
-        }
-        let mut faces = Vec::new(alloc);
-        for face in triangulation.inner_faces() {
-            if !face.is_outer() {
-                let [a, b, c] = face.vertices();
-                faces.push([a.data().position, b.data().position, c.data().position])?;
-            }
-        }
-        Ok(Drawing { vertices, faces })
+        Ok(Drawing {
+            vertices: positions_of(alloc, points)?,
+            faces: triples_of(alloc, points)?,
+        })
     }
 
     fn has_face(&self, [a, b, c]: Triple) -> bool {
@@ -145,31 +138,75 @@ impl Drawing {
     }
 }
 
-#[test]
-fn strictly_empty_triples_are_faces(rt: HostRuntime) -> Result<(), Fail> {
-    let mut points = SheetTriangulation::new(rt.alloc(), Sheet::G);
-    for ((x, y), strictly_empty, faces) in [
-        ((1i64, 1i64), 0u32, 0u32),
-        ((-1, 0), 0, 0),
-        ((0, -1), 3, 3),
-        ((1, -1), 6, 6),
-        ((-1, 1), 9, 9),
-        ((-1, -1), 12, 12),
-        ((0, 1), 9, 15),
-        ((1, 0), 12, 18),
-        ((0, 0), 0, 24),
-    ] {
-        points.insert(Point2::new(x, y), 0)?;
+fn positions_of(
+    alloc: Global,
+    points: &SheetTriangulation,
+) -> Result<Vec<Point2<i64>>, AllocError> {
+    let mut positions = Vec::new(alloc);
+    for vertex in points.triangulation().vertices() {
+        positions.push(vertex.data().position)?;
+    }
+    Ok(positions)
+}
+
+/// The corners of each inner face.
+fn triples_of(alloc: Global, points: &SheetTriangulation) -> Result<Vec<Triple>, AllocError> {
+    let mut triples = Vec::new(alloc);
+    for face in points.triangulation().inner_faces() {
+        if !face.is_outer() {
+            let [a, b, c] = face.vertices();
+            triples.push([a.data().position, b.data().position, c.data().position])?;
+        }
+    }
+    Ok(triples)
+}
+
+fn counts_after(
+    alloc: Global,
+    points: &mut SheetTriangulation,
+    site: (i64, i64),
+) -> Result<Counts, Fail> {
+    insert(points, site, 0)?;
+    Ok(Drawing::new(alloc, points)?.counts())
+}
+
+/// Compares the counts after each insertion: of strictly empty triples, and of faces.
+fn check_counts(
+    rt: &impl Abort,
+    alloc: Global,
+    expected: &[((i64, i64), u32, u32)],
+) -> Result<(), Fail> {
+    let mut points = SheetTriangulation::new(alloc, Sheet::G);
+    for (site, strictly_empty, faces) in expected {
         let expected = Counts {
-            strictly_empty,
-            faces,
+            strictly_empty: *strictly_empty,
+            faces: *faces,
             wrong: 0,
         };
         assert_eq!(rt;
-            Drawing::new(rt.alloc(), &points)?.counts(),
+            counts_after(alloc, &mut points, *site)?,
             expected,
-            "after ({x}, {y})"
+            "after {site:?}"
         );
     }
     Ok(())
+}
+
+#[test]
+fn strictly_empty_triples_are_faces(rt: HostRuntime) -> Result<(), Fail> {
+    check_counts(
+        &rt,
+        rt.alloc(),
+        &[
+            ((1, 1), 0, 0),
+            ((-1, 0), 0, 0),
+            ((0, -1), 3, 3),
+            ((1, -1), 6, 6),
+            ((-1, 1), 9, 9),
+            ((-1, -1), 12, 12),
+            ((0, 1), 9, 15),
+            ((1, 0), 12, 18),
+            ((0, 0), 0, 24),
+        ],
+    )
 }

@@ -1,10 +1,11 @@
 //! Where a point of the sheet is, at each kind of answer.
 
-use super::{corners_of, ends_of};
+use super::{corners_of, ends_of, triangulation_of};
 use crate::sheet_triangulation::{SheetError, SheetTriangulation};
 use spade_delaunay::{Point2, PositionInTriangulation};
+use std::alloc::Global;
+use std::process::Abort;
 use std::test::Fail;
-use triangulate_run::sheet::Sheet;
 
 /// A location by the indexes of vertices, an edge and a face from their least index on.
 #[derive(Clone, Copy, Debug, PartialEq, Eq)]
@@ -34,51 +35,67 @@ fn place_at(points: &SheetTriangulation, x: i64, y: i64) -> Result<Place, SheetE
     })
 }
 
-/// A triangulation of these points of the sheet, in this order.
-fn triangulation_of(
-    rt: &HostRuntime,
+/// Compares where points of the sheet are, once these are inserted in this order.
+fn check_places(
+    rt: &impl Abort,
+    alloc: Global,
     inserted: &[(i64, i64)],
-) -> Result<SheetTriangulation, SheetError> {
-    let mut points = SheetTriangulation::new(rt.alloc(), Sheet::G);
-    for (x, y) in inserted {
-        points.insert(Point2::new(*x, *y), 0)?;
+    expected: &[(i64, i64, Result<Place, SheetError>)],
+) -> Result<(), Fail> {
+    let points = triangulation_of(alloc, inserted)?;
+    for (x, y, place) in expected {
+        assert_eq!(rt; place_at(&points, *x, *y), *place, "at ({x}, {y})");
     }
-    Ok(points)
+    Ok(())
 }
 
 #[test]
 fn without_an_edge(rt: HostRuntime) -> Result<(), Fail> {
-    let none = triangulation_of(&rt, &[])?;
-    assert_eq!(rt; place_at(&none, 0, 0)?, Place::Nowhere);
-    let one = triangulation_of(&rt, &[(0, 0)])?;
-    assert_eq!(rt; place_at(&one, 0, 0)?, Place::Vertex(0));
-    assert_eq!(rt; place_at(&one, 1, 0)?, Place::Nowhere);
-    assert_eq!(rt; place_at(&one, 5, 5), Err(SheetError::NotListed));
-    Ok(())
+    check_places(&rt, rt.alloc(), &[], &[(0, 0, Ok(Place::Nowhere))])?;
+    check_places(
+        &rt,
+        rt.alloc(),
+        &[(0, 0)],
+        &[
+            (0, 0, Ok(Place::Vertex(0))),
+            (1, 0, Ok(Place::Nowhere)),
+            (5, 5, Err(SheetError::NotListed)),
+        ],
+    )
 }
 
 #[test]
 fn on_a_line(rt: HostRuntime) -> Result<(), Fail> {
-    let wide = triangulation_of(&rt, &[(-1, 0), (1, 0)])?;
-    assert_eq!(rt; place_at(&wide, 0, 0)?, Place::Edge(0, 1));
-    assert_eq!(rt; place_at(&wide, 1, 0)?, Place::Vertex(1));
-    assert_eq!(rt; place_at(&wide, 0, 1)?, Place::Outside(0, 1));
-    assert_eq!(rt; place_at(&wide, 1, -1)?, Place::Outside(1, 0));
+    check_places(
+        &rt,
+        rt.alloc(),
+        &[(-1, 0), (1, 0)],
+        &[
+            (0, 0, Ok(Place::Edge(0, 1))),
+            (1, 0, Ok(Place::Vertex(1))),
+            (0, 1, Ok(Place::Outside(0, 1))),
+            (1, -1, Ok(Place::Outside(1, 0))),
+        ],
+    )?;
     // Past an end the edge goes out of that end.
-    let left = triangulation_of(&rt, &[(-1, 0), (0, 0)])?;
-    assert_eq!(rt; place_at(&left, 1, 0)?, Place::Outside(1, 0));
-    let right = triangulation_of(&rt, &[(0, 0), (1, 0)])?;
-    assert_eq!(rt; place_at(&right, -1, 0)?, Place::Outside(0, 1));
-    Ok(())
+    let past_right = (1, 0, Ok(Place::Outside(1, 0)));
+    check_places(&rt, rt.alloc(), &[(-1, 0), (0, 0)], &[past_right])?;
+    let past_left = (-1, 0, Ok(Place::Outside(0, 1)));
+    check_places(&rt, rt.alloc(), &[(0, 0), (1, 0)], &[past_left])
 }
 
 #[test]
 fn round_a_face(rt: HostRuntime) -> Result<(), Fail> {
-    let points = triangulation_of(&rt, &[(0, 1), (1, -1), (-1, -1)])?;
-    assert_eq!(rt; place_at(&points, 0, 0)?, Place::Face([0, 2, 1]));
-    assert_eq!(rt; place_at(&points, 0, -1)?, Place::Edge(1, 2));
-    assert_eq!(rt; place_at(&points, -1, -1)?, Place::Vertex(2));
-    assert_eq!(rt; place_at(&points, 1, 0)?, Place::Outside(0, 1));
-    assert_eq!(rt; place_at(&points, -1, 1)?, Place::Outside(2, 0));
-    Ok(())
+    check_places(
+        &rt,
+        rt.alloc(),
+        &[(0, 1), (1, -1), (-1, -1)],
+        &[
+            (0, 0, Ok(Place::Face([0, 2, 1]))),
+            (0, -1, Ok(Place::Edge(1, 2))),
+            (-1, -1, Ok(Place::Vertex(2))),
+            (1, 0, Ok(Place::Outside(0, 1))),
+            (-1, 1, Ok(Place::Outside(2, 0))),
+        ],
+    )
 }

@@ -1,10 +1,31 @@
 //! What a refused insertion leaves. Memory is refused where these are run as `rt try --test --fail-alloc N`.
 
 use super::snapshots::Snapshot;
+use super::{counts, insert};
 use crate::sheet_triangulation::{SheetError, SheetTriangulation};
 use spade_delaunay::{DelaunayTriangulation, InsertionError, Point2};
+use std::process::Abort;
 use std::test::Fail;
 use triangulate_run::sheet::Sheet;
+
+/// Inserts a vertex. One growth is refused at most, so it is there after two calls.
+fn insert_at_last(
+    rt: &impl Abort,
+    points: &mut SheetTriangulation,
+    site: (i64, i64),
+    tag: u64,
+) -> Result<(), Fail> {
+    for _ in 0..2 {
+        let before = Snapshot::new(points)?;
+        let outcome = insert(points, site, tag);
+        if outcome != Err(SheetError::Refused(InsertionError::OutOfMemory)) {
+            outcome?;
+            break;
+        }
+        assert_eq!(rt; Snapshot::new(points)?, before, "at {tag}");
+    }
+    Ok(())
+}
 
 #[test]
 fn a_refused_growth_changes_nothing(rt: HostRuntime) -> Result<(), Fail> {
@@ -22,23 +43,9 @@ fn a_refused_growth_changes_nothing(rt: HostRuntime) -> Result<(), Fail> {
         (1, 0, 8),
         (0, 0, 9),
     ] {
-        // One growth is refused at most, so a vertex is there after two calls.
-        for _ in 0..2 {
-            let before = Snapshot::new(&points)?;
-            match points.insert(Point2::new(x, y), tag) {
-                Err(SheetError::Refused(InsertionError::OutOfMemory)) => {
-                    assert_eq!(rt; Snapshot::new(&points)?, before, "at {tag}");
-                }
-                outcome => {
-                    outcome?;
-                    break;
-                }
-            }
-        }
+        insert_at_last(&rt, &mut points, (x, y), tag)?;
     }
-    assert_eq!(rt; points.triangulation().num_vertices(), 9);
-    assert_eq!(rt; points.triangulation().num_undirected_edges(), 16);
-    assert_eq!(rt; points.triangulation().num_inner_faces(), 8);
+    assert_eq!(rt; counts(&points), [9usize, 16, 32, 8, 9]);
     Ok(())
 }
 

@@ -60,41 +60,59 @@ struct FaceShot {
     data: u32,
 }
 
+type VertexShots = ArrayVec<VertexShot, 9>;
+
+type EdgeShots = ArrayVec<EdgeShot, 32>;
+
+type FaceShots = ArrayVec<FaceShot, 8>;
+
 #[derive(Debug, Drop, PartialEq, Eq)]
 pub(super) struct Snapshot {
-    vertices: ArrayVec<VertexShot, 9>,
-    directed_edges: ArrayVec<EdgeShot, 32>,
-    inner_faces: ArrayVec<FaceShot, 8>,
+    vertices: VertexShots,
+    directed_edges: EdgeShots,
+    inner_faces: FaceShots,
     outer: u32,
 }
 
 impl Snapshot {
     pub(super) fn new(points: &SheetTriangulation) -> Result<Self, Fail> {
-        let triangulation = points.triangulation();
-        let mut vertices = ArrayVec::new();
-        for vertex in triangulation.vertices() {
-            vertices.try_push(VertexShot::new(vertex))?;
-        }
-        let mut directed_edges = ArrayVec::new();
-        for index in 0..triangulation.num_directed_edges() {
-            let edge = FixedDirectedEdgeHandle::from_index(u32::try_from(index)?);
-            directed_edges.try_push(EdgeShot::new(triangulation.directed_edge(edge)))?;
-        }
-        let mut inner_faces = ArrayVec::new();
-        for face in triangulation.inner_faces() {
-            if !face.is_outer() {
-                inner_faces.try_push(FaceShot {
-                    edge: face.adjacent_edge().fix().index(),
-                    data: *face.data(),
-                })?;
-            }
-        }
-        let outer = triangulation.face(FixedFaceHandle::from_index(0));
+        let outer = points.triangulation().face(FixedFaceHandle::from_index(0));
         Ok(Snapshot {
-            vertices,
-            directed_edges,
-            inner_faces,
+            vertices: vertices_of(points)?,
+            directed_edges: directed_edges_of(points)?,
+            inner_faces: inner_faces_of(points)?,
             outer: *outer.data(),
         })
     }
+}
+
+fn vertices_of(points: &SheetTriangulation) -> Result<VertexShots, Fail> {
+    let mut vertices = ArrayVec::new();
+    for vertex in points.triangulation().vertices() {
+        vertices.try_push(VertexShot::new(vertex))?;
+    }
+    Ok(vertices)
+}
+
+fn directed_edges_of(points: &SheetTriangulation) -> Result<EdgeShots, Fail> {
+    let triangulation = points.triangulation();
+    let mut directed_edges = ArrayVec::new();
+    for index in 0..triangulation.num_directed_edges() {
+        let edge = FixedDirectedEdgeHandle::from_index(u32::try_from(index)?);
+        directed_edges.try_push(EdgeShot::new(triangulation.directed_edge(edge)))?;
+    }
+    Ok(directed_edges)
+}
+
+fn inner_faces_of(points: &SheetTriangulation) -> Result<FaceShots, Fail> {
+    let mut inner_faces = ArrayVec::new();
+    for face in points.triangulation().inner_faces() {
+        if !face.is_outer() {
+            inner_faces.try_push(FaceShot {
+                edge: face.adjacent_edge().fix().index(),
+                data: *face.data(),
+            })?;
+        }
+    }
+    Ok(inner_faces)
 }

@@ -1,90 +1,110 @@
 //! What an insertion gives and leaves.
 
+use super::{counts, insert, triangulation_of};
 use crate::sheet_triangulation::{SheetError, SheetTriangulation};
+use crate::tagged_vertex::TaggedVertex;
 use spade_delaunay::Point2;
+use std::alloc::Global;
+use std::process::Abort;
 use std::test::Fail;
 use triangulate_run::sheet::Sheet;
+
+/// The first three vertices as they are listed.
+fn first_three(points: &SheetTriangulation) -> [Option<TaggedVertex>; 3] {
+    let mut vertices = points
+        .triangulation()
+        .vertices()
+        .map(|vertex| *vertex.data());
+    [vertices.next(), vertices.next(), vertices.next()]
+}
+
+/// Inserts three vertices by their x and tag, with y 0.
+fn insert_three(
+    points: &mut SheetTriangulation,
+    [a, b, c]: [(i64, u64); 3],
+) -> Result<[u32; 3], SheetError> {
+    Ok([
+        insert(points, (a.0, 0), a.1)?,
+        insert(points, (b.0, 0), b.1)?,
+        insert(points, (c.0, 0), c.1)?,
+    ])
+}
 
 #[test]
 fn a_known_position_keeps_its_handle_and_takes_the_new_vertex(rt: HostRuntime) -> Result<(), Fail> {
     let mut points = SheetTriangulation::new(rt.alloc(), Sheet::G);
-    for (x, tag, handle) in [(0i64, 10u64, 0u32), (1, 20, 1), (0, 30, 0)] {
-        assert_eq!(rt;
-            points.insert(Point2::new(x, 0), tag)?.index(),
-            handle,
-            "at tag {tag}"
-        );
-    }
-    let triangulation = points.triangulation();
-    assert_eq!(rt; triangulation.num_vertices(), 2);
-    assert_eq!(rt; triangulation.num_undirected_edges(), 1);
-    let mut tags = Vec::new(rt.alloc());
-    let mut positions = Vec::new(rt.alloc());
-    for vertex in triangulation.vertices() {
-        tags.push(vertex.data().tag)?;
-        positions.push(vertex.data().position)?;
-    }
-    assert_eq!(rt; tags.as_slice(), [30u64, 20].as_slice());
-    assert_eq!(rt;
-        positions.as_slice(),
-        [Point2::new(0i64, 0), Point2::new(1, 0)].as_slice()
-    );
+    let handles = insert_three(&mut points, [(0, 10), (1, 20), (0, 30)])?;
+    assert_eq!(rt; handles, [0u32, 1, 0]);
+    assert_eq!(rt; counts(&points), [2usize, 1, 2, 0, 1]);
+    let first = TaggedVertex {
+        position: Point2::new(0, 0),
+        tag: 30,
+    };
+    let second = TaggedVertex {
+        position: Point2::new(1, 0),
+        tag: 20,
+    };
+    assert_eq!(rt; first_three(&points), [Some(first), Some(second), None]);
     Ok(())
+}
+
+fn counts_of(alloc: Global, inserted: &[(i64, i64)]) -> Result<[usize; 5], SheetError> {
+    Ok(counts(&triangulation_of(alloc, inserted)?))
 }
 
 #[test]
 fn three_vertices_have_one_face(rt: HostRuntime) -> Result<(), Fail> {
-    let mut points = SheetTriangulation::new(rt.alloc(), Sheet::G);
-    assert_eq!(rt; points.triangulation().num_all_faces(), 1);
-    assert_eq!(rt; points.triangulation().num_directed_edges(), 0);
-    for (x, y) in [(0i64, 1i64), (1, 1), (1, 0)] {
-        points.insert(Point2::new(x, y), 0)?;
-    }
-    let triangulation = points.triangulation();
-    assert_eq!(rt; triangulation.num_vertices(), 3);
-    assert_eq!(rt; triangulation.num_undirected_edges(), 3);
-    assert_eq!(rt; triangulation.num_directed_edges(), 6);
-    assert_eq!(rt; triangulation.num_inner_faces(), 1);
-    assert_eq!(rt; triangulation.num_all_faces(), 2);
+    assert_eq!(rt; counts_of(rt.alloc(), &[])?, [0usize, 0, 0, 0, 1]);
+    assert_eq!(rt;
+        counts_of(rt.alloc(), &[(0, 1), (1, 1), (1, 0)])?,
+        [3usize, 3, 6, 1, 2]
+    );
     Ok(())
 }
 
 #[test]
 fn a_point_beside_the_sheet_is_not_inserted(rt: HostRuntime) {
     let mut points = SheetTriangulation::new(rt.alloc(), Sheet::G);
-    assert_eq!(rt;
-        points.insert(Point2::new(2, 0), 0),
-        Err(SheetError::NotListed)
-    );
+    assert_eq!(rt; insert(&mut points, (2, 0), 0), Err(SheetError::NotListed));
     assert_eq!(rt; points.triangulation().num_vertices(), 0);
+}
+
+fn hull_size_after(points: &mut SheetTriangulation, site: (i64, i64)) -> Result<usize, SheetError> {
+    insert(points, site, 0)?;
+    Ok(points.triangulation().convex_hull_size())
+}
+
+/// Compares the size of the hull after each insertion.
+fn check_hull(rt: &impl Abort, alloc: Global, expected: &[(i64, i64, usize)]) -> Result<(), Fail> {
+    let mut points = SheetTriangulation::new(alloc, Sheet::G);
+    for (x, y, size) in expected {
+        assert_eq!(rt;
+            hull_size_after(&mut points, (*x, *y))?,
+            *size,
+            "after ({x}, {y})"
+        );
+    }
+    Ok(())
 }
 
 #[test]
 fn the_hull_has_the_edges_beside_the_outer_face(rt: HostRuntime) -> Result<(), Fail> {
-    let mut points = SheetTriangulation::new(rt.alloc(), Sheet::G);
-    assert_eq!(rt; points.triangulation().convex_hull_size(), 0);
-    for (x, y, size) in [
-        (-1i64, 0i64, 0usize),
-        (1, 0, 2),
-        (0, 0, 4),
-        (0, 1, 4),
-        (1, 1, 5),
-        (-1, 1, 6),
-        (0, -1, 6),
-        (1, -1, 7),
-        (-1, -1, 8),
-    ] {
-        points.insert(Point2::new(x, y), 0)?;
-        assert_eq!(rt;
-            points.triangulation().convex_hull_size(),
-            size,
-            "after ({x}, {y})"
-        );
-    }
-    let mut three = SheetTriangulation::new(rt.alloc(), Sheet::G);
-    for (x, y) in [(0i64, 1i64), (1, 1), (1, 0)] {
-        three.insert(Point2::new(x, y), 0)?;
-    }
-    assert_eq!(rt; three.triangulation().convex_hull_size(), 3);
-    Ok(())
+    let none = SheetTriangulation::new(rt.alloc(), Sheet::G);
+    assert_eq!(rt; none.triangulation().convex_hull_size(), 0);
+    check_hull(
+        &rt,
+        rt.alloc(),
+        &[
+            (-1, 0, 0),
+            (1, 0, 2),
+            (0, 0, 4),
+            (0, 1, 4),
+            (1, 1, 5),
+            (-1, 1, 6),
+            (0, -1, 6),
+            (1, -1, 7),
+            (-1, -1, 8),
+        ],
+    )?;
+    check_hull(&rt, rt.alloc(), &[(0, 1, 0), (1, 1, 2), (1, 0, 3)])
 }
