@@ -5,7 +5,7 @@ use Rattle.std.proofs.lemmas.Bool.{cases_eq, eq-eqb}
 use Rattle.std.proofs.lemmas.Bool.Decides.{eqb_tells}
 use Rattle.half_edge_links.specs.Mesh.{iterate}
 use Rattle.half_edge_mesh.specs.Rounds.{walk}
-use Rattle.half_edge_mesh.proofs.Steps.{map_range_step}
+use Rattle.half_edge_handles.proofs.Steps.{map_range_step}
 
 -- one place of a walk, where so many are left afterwards
 pub walk_step : (f : ℕ → ℕ) (stop k h : ℕ) → 0 < k → walk f stop k h ≡ h ∷ walk f stop (if f h == stop then 0 else k - 1) (f h)

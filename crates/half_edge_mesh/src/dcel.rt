@@ -4,7 +4,7 @@ ghost use Rattle.half_edge_links.specs.Mesh.{empty, IsInner, edge_at, face_edge,
 ghost use Rattle.half_edge_links.specs.declared.room.TheConstants.{MAX_ELEMENTS};
 ghost use Rattle.half_edge_mesh.specs.Contents.{IsWhole};
 
-use crate::handles::{
+use half_edge_handles::{
     FixedDirectedEdgeHandle, FixedFaceHandle, FixedUndirectedEdgeHandle, FixedVertexHandle,
 };
 use half_edge_links::{HalfEdge, Links};

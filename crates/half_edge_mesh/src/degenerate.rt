@@ -9,7 +9,7 @@ ghost use Rattle.half_edge_mesh.specs.Contents.{IsWhole};
 ghost use Rattle.half_edge_mesh.specs.Removal.{DropsVertex, HasFewEdges, LeavesLine, LeavesMesh};
 
 use crate::dcel::Dcel;
-use crate::handles::FixedVertexHandle;
+use half_edge_handles::FixedVertexHandle;
 use half_edge_links::reversed;
 
 impl<V, DE, UE, F> Dcel<V, DE, UE, F> {

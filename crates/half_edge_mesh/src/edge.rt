@@ -5,8 +5,8 @@ ghost use Rattle.half_edge_mesh.specs.Contents.{IsWhole};
 
 use crate::dcel::Dcel;
 use crate::face::FaceHandle;
-use crate::handles::{FixedDirectedEdgeHandle, FixedUndirectedEdgeHandle};
 use crate::vertex::VertexHandle;
+use half_edge_handles::{FixedDirectedEdgeHandle, FixedUndirectedEdgeHandle};
 use half_edge_links::reversed;
 use std::alloc::AllocError;
 

@@ -6,8 +6,8 @@ ghost use Rattle.half_edge_mesh.specs.Contents.{IsWhole};
 
 use crate::dcel::Dcel;
 use crate::edge::DirectedEdgeHandle;
-use crate::handles::FixedFaceHandle;
 use crate::vertex::VertexHandle;
+use half_edge_handles::FixedFaceHandle;
 use std::alloc::AllocError;
 
 /// A face of a mesh: the outer one where its index is 0. Two of them are equal where their indexes are.

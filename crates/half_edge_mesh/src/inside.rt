@@ -11,7 +11,7 @@ ghost use Rattle.half_edge_mesh.specs.Growth.{Grows, MovesItem, MovesTwoItems, A
 
 use crate::dcel::Dcel;
 use crate::growth::{move_item, move_two_items, push_defaults};
-use crate::handles::{
+use half_edge_handles::{
     FixedDirectedEdgeHandle, FixedFaceHandle, FixedUndirectedEdgeHandle, FixedVertexHandle,
 };
 

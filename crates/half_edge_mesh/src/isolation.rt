@@ -12,7 +12,7 @@ ghost use Rattle.half_edge_mesh.specs.Hole.{FillsWithFan, HasFreeTip, IsBorder, 
 ghost use Rattle.half_edge_mesh.specs.Removal.{AreOpposite, FillsHole, LosesStrip, first_spoke};
 
 use crate::dcel::Dcel;
-use crate::handles::{FixedDirectedEdgeHandle, FixedVertexHandle};
+use half_edge_handles::{FixedDirectedEdgeHandle, FixedVertexHandle};
 use half_edge_links::reversed;
 
 /// A vertex that has lost its edges.

@@ -1,5 +1,5 @@
 //! Iterators over the parts of a mesh together with the mesh.
-#![tactic(auto, using(crate::proofs::Steps::map_range_step))]
+#![tactic(auto, using(half_edge_handles::proofs::Steps::map_range_step))]
 
 ghost use Rattle.std.specs.Prelude.{◌≡◌, ◌+◌, length};
 ghost use Rattle.std.specs.List.{range_with_len};

@@ -8,7 +8,6 @@ mod edge;
 mod face;
 mod fixed_iterators;
 mod growth;
-mod handles;
 mod inside;
 mod isolation;
 mod iterators;
@@ -28,13 +27,11 @@ mod writing;
 pub use dcel::Dcel;
 pub use edge::{DirectedEdgeHandle, UndirectedEdgeHandle};
 pub use face::FaceHandle;
-pub use fixed_iterators::{
-    FixedDirectedEdgeIterator, FixedFaceIterator, FixedUndirectedEdgeIterator, FixedVertexIterator,
+pub use half_edge_handles::{
+    FixedDirectedEdgeHandle, FixedDirectedEdgeIterator, FixedFaceHandle, FixedFaceIterator,
+    FixedUndirectedEdgeHandle, FixedUndirectedEdgeIterator, FixedVertexHandle, FixedVertexIterator,
 };
 pub use half_edge_links::{MAX_ELEMENTS, ReserveError, are_few_enough, is_full};
-pub use handles::{
-    FixedDirectedEdgeHandle, FixedFaceHandle, FixedUndirectedEdgeHandle, FixedVertexHandle,
-};
 pub use isolation::IsolateVertexResult;
 pub use iterators::{DirectedEdgeIterator, FaceIterator, UndirectedEdgeIterator, VertexIterator};
 pub use rounds::{CircularIterator, HullIterator};

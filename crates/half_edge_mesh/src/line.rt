@@ -10,7 +10,7 @@ ghost use Rattle.half_edge_mesh.specs.Growth.{Grows, AddsEdges, joins, with_ends
 
 use crate::dcel::Dcel;
 use crate::growth::push_defaults;
-use crate::handles::{FixedDirectedEdgeHandle, FixedVertexHandle};
+use half_edge_handles::{FixedDirectedEdgeHandle, FixedVertexHandle};
 
 impl<V, DE, UE, F> Dcel<V, DE, UE, F> {
     /// A new last vertex without edges.

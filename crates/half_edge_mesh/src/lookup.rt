@@ -4,10 +4,10 @@ ghost use Rattle.std.specs.Prelude.{◌≡◌, ◌<◌, ◌≤◌, length, IsSom
 use crate::dcel::Dcel;
 use crate::edge::{DirectedEdgeHandle, UndirectedEdgeHandle};
 use crate::face::FaceHandle;
-use crate::handles::{
+use crate::vertex::VertexHandle;
+use half_edge_handles::{
     FixedDirectedEdgeHandle, FixedFaceHandle, FixedUndirectedEdgeHandle, FixedVertexHandle,
 };
-use crate::vertex::VertexHandle;
 
 impl<V, DE, UE, F> Dcel<V, DE, UE, F> {
     pub fn vertex(&self, vertex: FixedVertexHandle) -> VertexHandle<'_, V, DE, UE, F>

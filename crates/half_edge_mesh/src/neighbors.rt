@@ -6,7 +6,7 @@ ghost use Rattle.half_edge_mesh.specs.Contents.{IsWhole};
 
 use crate::dcel::Dcel;
 use crate::edge::DirectedEdgeHandle;
-use crate::handles::FixedVertexHandle;
+use half_edge_handles::FixedVertexHandle;
 use half_edge_links::reversed;
 
 impl<V, DE, UE, F> Dcel<V, DE, UE, F> {

@@ -9,7 +9,7 @@ ghost use Rattle.half_edge_mesh.specs.Growth.{Grows, MovesItem, MovesTwoItems, A
 
 use crate::dcel::Dcel;
 use crate::growth::{move_item, move_two_items, push_defaults};
-use crate::handles::{FixedDirectedEdgeHandle, FixedVertexHandle};
+use half_edge_handles::{FixedDirectedEdgeHandle, FixedVertexHandle};
 
 impl<V, DE, UE, F> Dcel<V, DE, UE, F> {
     /// Makes a face of an outer edge and a new last vertex, with two new edges.

@@ -5,8 +5,8 @@ ghost use Rattle.half_edge_mesh.specs.Contents.{IsWhole};
 
 use crate::dcel::Dcel;
 use crate::edge::DirectedEdgeHandle;
-use crate::handles::FixedVertexHandle;
 use crate::rounds::CircularIterator;
+use half_edge_handles::FixedVertexHandle;
 use std::alloc::AllocError;
 
 /// A vertex of a mesh. Two of them are equal where their indexes are.
