@@ -1,15 +1,15 @@
 //! Counts, handles and iterators of vertices, edges and faces.
 ghost use Rattle.std.specs.Prelude.{◌≡◌, ◌+◌, ◌-◌, ◌*◌, ◌<◌, ◌≤◌, length};
-ghost use Rattle.half_edge_mesh.specs.Left.{vertices_left, faces_left};
+ghost use Rattle.half_edge_views.specs.Left.{vertices_left, faces_left};
 ghost use Rattle.delaunay_edit.specs.Elements.{GivesElements};
 ghost use Rattle.delaunay_edit.specs.Hull.{HasHullSize};
 ghost use Rattle.delaunay_edit.specs.State.{state_of, triangulation_of};
 
 use crate::triangulation_core::TriangulationCore;
 use delaunay_core::point::HasPosition;
-use half_edge_mesh::{
-    DirectedEdgeHandle, FaceHandle, FaceIterator, FixedDirectedEdgeHandle, FixedFaceHandle,
-    FixedVertexHandle, VertexHandle, VertexIterator,
+use half_edge_mesh::{FixedDirectedEdgeHandle, FixedFaceHandle, FixedVertexHandle};
+use half_edge_views::{
+    DirectedEdgeHandle, FaceHandle, FaceIterator, MeshViews, VertexHandle, VertexIterator,
 };
 
 impl<V: HasPosition, DE, UE, F> TriangulationCore<V, DE, UE, F> {

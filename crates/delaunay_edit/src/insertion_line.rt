@@ -13,6 +13,7 @@ ghost use Rattle.delaunay_edit.specs.State.{state_of};
 
 use delaunay_core::point::HasPosition;
 use half_edge_mesh::{Dcel, FixedDirectedEdgeHandle, FixedVertexHandle};
+use half_edge_views::MeshViews;
 
 // The first vertex.
 pub(crate) fn insert_first<V: HasPosition, DE, UE, F>(

@@ -19,6 +19,7 @@ use crate::predicates::turns_left;
 use delaunay_core::math::PlaneTests;
 use delaunay_core::point::{HasPosition, Point2};
 use half_edge_mesh::{Dcel, FixedDirectedEdgeHandle, FixedVertexHandle};
+use half_edge_views::MeshViews;
 
 // The position of a vertex.
 fn position_of<V: HasPosition, DE, UE, F>(

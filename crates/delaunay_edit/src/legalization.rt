@@ -14,6 +14,7 @@ ghost use Rattle.delaunay_edit.specs.Known.{point_at};
 use delaunay_core::math::PlaneTests;
 use delaunay_core::point::{HasPosition, Point2};
 use half_edge_mesh::{Dcel, FixedDirectedEdgeHandle, FixedUndirectedEdgeHandle};
+use half_edge_views::MeshViews;
 
 // The position where an edge starts.
 pub(crate) fn start_of<V: HasPosition, DE, UE, F>(

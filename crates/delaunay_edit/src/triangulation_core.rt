@@ -15,6 +15,7 @@ use half_edge_mesh::{
     Dcel, FixedDirectedEdgeHandle, FixedFaceHandle, FixedUndirectedEdgeHandle, FixedVertexHandle,
     MAX_ELEMENTS,
 };
+use half_edge_views::MeshViews;
 use std::alloc::Global;
 use std::marker::Model;
 

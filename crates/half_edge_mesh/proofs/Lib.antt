@@ -1,11 +1,7 @@
 pub mod Fits
 pub mod EdgeLists
 pub mod Outlines
-pub mod Ranges
 pub mod Moves
-pub mod Walks
-pub mod Loops
-pub mod Joined
 pub mod Turning
 pub mod TakenOut
 pub mod TakenEdges

@@ -41,19 +41,6 @@ taken_item (y ∷ ys) new k t =
     let is = get_or_default (y ∷ ys) k y x t.within in
     (x, is, permuted (y ∷ ys) new k x t is)
 
--- first the odd item goes and then the even one
-pub takes_out_pair : {X : Type 0} (old mid new : List X) (k : ℕ) → TakesOut old mid (2 * k + 1) → TakesOut mid new (2 * k) → TakesOutPair old new k
-takes_out_pair old mid new k a b =
-    let p = a.count in
-    let q = b.count in
-    record {
-      within = a.within;
-      count = omega (arith, p, q);
-      first = λ d more. b.here d (omega (arith, p, more)) ∙ a.other (length mid - 1) d (λ z. absurd (omega (arith, z, p, more))) (omega (arith, p, more)) ∙ ap (λ i. get_or old i d) (let e : length mid - 1 ≡ length old - 2 = omega (arith, p) in e);
-      second = λ d more. b.other (2 * k + 1) d (λ z. absurd (omega (arith, z))) (omega (arith, p, more)) ∙ a.here d (omega (arith, more));
-      other = λ j d off off' more. b.other j d off (omega (arith, p, more)) ∙ a.other j d off' (omega (arith, more));
-    }
-
 -- ---- edges with their data
 module _ {D U : Type 0} where
   pub length-full_edges : (es : List Ends) (us : List U) (ds : List D) → length us ≡ length es → length ds ≡ 2 * length es → length (full_edges_of es us ds) ≡ length es

@@ -2,9 +2,6 @@ pub mod Contents
 pub mod Copied
 pub mod Growth
 pub mod Hole
-pub mod Left
 pub mod Mapped
 pub mod Removal
-pub mod Rounds
-pub mod Voronoi
 pub mod Writing

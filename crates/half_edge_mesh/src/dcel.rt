@@ -156,8 +156,8 @@ impl<V, DE, UE, F> Dcel<V, DE, UE, F> {
         }
     }
 
-    // The links of a directed edge.
-    pub(crate) fn half_edge(&self, edge: u32) -> HalfEdge
+    /// The links of a directed edge.
+    pub fn half_edge(&self, edge: u32) -> HalfEdge
         requires { edge < length self.now.directed }
         ensures value { result ≡ edge_at self.now.mesh.half_edges edge }
         ensures whole { IsWhole self.now }
@@ -165,8 +165,8 @@ impl<V, DE, UE, F> Dcel<V, DE, UE, F> {
         self.links.half_edge(edge)
     }
 
-    // An edge of an inner face.
-    pub(crate) fn face_edge(&self, face: u32) -> u32
+    /// An edge of an inner face.
+    pub fn face_edge(&self, face: u32) -> u32
         requires within { face ≤ length self.now.faces }
         requires inner { 0 < face }
         ensures value { result ≡ face_edge self.now.mesh face }
@@ -175,16 +175,16 @@ impl<V, DE, UE, F> Dcel<V, DE, UE, F> {
         self.links.face_edge(face)
     }
 
-    // An edge of the outer face, if there is an edge.
-    pub(crate) fn outer_edge(&self) -> Option<u32>
+    /// An edge of the outer face, if there is an edge.
+    pub fn outer_edge(&self) -> Option<u32>
         ensures value { result ≡ self.now.mesh.outer_edge }
         ensures whole { IsWhole self.now }
     {
         self.links.outer_edge()
     }
 
-    // An edge that starts at a vertex, if there is one.
-    pub(crate) fn out_edge(&self, vertex: u32) -> Option<u32>
+    /// An edge that starts at a vertex, if there is one.
+    pub fn out_edge(&self, vertex: u32) -> Option<u32>
         requires { vertex < length self.now.vertices }
         ensures value { result ≡ out_edge self.now.mesh vertex }
         ensures whole { IsWhole self.now }

@@ -8,6 +8,7 @@ use crate::reads::{Mesh, has_edge, has_face, has_vertex};
 use half_edge_mesh::{
     FixedDirectedEdgeHandle, FixedFaceHandle, FixedUndirectedEdgeHandle, FixedVertexHandle,
 };
+use half_edge_views::MeshViews;
 use std::test::Fail;
 
 /// A vertex and the two parts of the edge that it split.

@@ -6,6 +6,7 @@ use crate::reads::{Mesh, counts, edge_at, has_edge, has_face, has_vertex, vertex
 use half_edge_mesh::{
     FixedDirectedEdgeHandle, FixedFaceHandle, FixedUndirectedEdgeHandle, FixedVertexHandle,
 };
+use half_edge_views::MeshViews;
 use std::test::Fail;
 
 pub(crate) fn write_directed(

@@ -3,6 +3,7 @@
 use crate::growth::{one_edge, one_face};
 use crate::reads::{Mesh, counts, directed};
 use half_edge_mesh::{FixedFaceHandle, FixedVertexHandle};
+use half_edge_views::{MeshViews, VoronoiViews};
 use std::test::Fail;
 
 #[test]

@@ -1,10 +1,8 @@
 //! Parts of a mesh, sought before they are read.
 ghost use Rattle.std.specs.Prelude.{◌<◌, ◌≤◌, ◌↔◌, length, IsTrue};
 
-use half_edge_mesh::{
-    Dcel, DirectedEdgeHandle, FaceHandle, FixedDirectedEdgeHandle, FixedFaceHandle,
-    FixedVertexHandle, VertexHandle,
-};
+use half_edge_mesh::{Dcel, FixedDirectedEdgeHandle, FixedFaceHandle, FixedVertexHandle};
+use half_edge_views::{DirectedEdgeHandle, FaceHandle, MeshViews, VertexHandle};
 use std::test::Fail;
 
 pub(crate) type Mesh = Dcel<u8, u16, u32, u64>;

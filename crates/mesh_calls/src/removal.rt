@@ -9,6 +9,7 @@ use crate::reads::{Mesh, counts, directed, has_edge, has_vertex, vertex_at};
 use half_edge_mesh::{
     FixedDirectedEdgeHandle, FixedFaceHandle, FixedVertexHandle, IsolateVertexResult,
 };
+use half_edge_views::MeshViews;
 use std::test::Fail;
 
 fn swap_remove_vertex(mesh: &mut Mesh, vertex: FixedVertexHandle) -> Result<u8, Fail> {

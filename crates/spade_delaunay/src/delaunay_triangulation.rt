@@ -1,7 +1,7 @@
 //! Triangulations without constraints.
 ghost use Rattle.std.specs.Prelude.{◌≡◌, ◌↔◌, ℕ, ◌+◌, ◌-◌, ◌*◌, ◌<◌, ◌≤◌, [], length, map, All, MatchOption, IsOk, IsErrOf, IfOk, OnErr, OnOk, slice_set};
 ghost use Rattle.half_edge_links.specs.Mesh.{empty};
-ghost use Rattle.half_edge_mesh.specs.Left.{vertices_left, faces_left};
+ghost use Rattle.half_edge_views.specs.Left.{vertices_left, faces_left};
 ghost use Rattle.plane.specs.Fraction.{whole as fraction};
 ghost use Rattle.plane.specs.Tests.{InRange};
 ghost use Rattle.plane.specs.Plain.{IsPlain, Inserts};
@@ -20,10 +20,8 @@ ghost use Rattle.delaunay_edit.specs.State.{state_of, plain_of, triangulation_of
 use delaunay_core::math::{InsertionError, PlaneTests};
 use delaunay_core::point::{HasPosition, Point2};
 use delaunay_edit::{PositionInTriangulation, TriangulationCore};
-use half_edge_mesh::{
-    DirectedEdgeHandle, FaceHandle, FaceIterator, FixedDirectedEdgeHandle, FixedFaceHandle,
-    FixedVertexHandle, MAX_ELEMENTS, VertexHandle, VertexIterator,
-};
+use half_edge_mesh::{FixedDirectedEdgeHandle, FixedFaceHandle, FixedVertexHandle, MAX_ELEMENTS};
+use half_edge_views::{DirectedEdgeHandle, FaceHandle, FaceIterator, VertexHandle, VertexIterator};
 use std::alloc::Global;
 use std::marker::Model;
 

@@ -1,5 +1,5 @@
 //! Names of vertices, edges and faces, and the elements themselves together with the mesh that they lie in.
 pub use half_edge_mesh::{
-    DirectedEdgeHandle, FaceHandle, FixedDirectedEdgeHandle, FixedFaceHandle,
-    FixedUndirectedEdgeHandle, FixedVertexHandle, UndirectedEdgeHandle, VertexHandle,
+    FixedDirectedEdgeHandle, FixedFaceHandle, FixedUndirectedEdgeHandle, FixedVertexHandle,
 };
+pub use half_edge_views::{DirectedEdgeHandle, FaceHandle, UndirectedEdgeHandle, VertexHandle};

@@ -5,7 +5,7 @@ use Rattle.std.specs.List.{range_with_len}
 use Rattle.std.proofs.Common.{arith}
 use Rattle.std.proofs.lemmas.List.{length-map}
 use Rattle.half_edge_links.specs.Triangles.{triangles, triangle_at}
-use Rattle.half_edge_mesh.specs.Left.{faces_left}
+use Rattle.half_edge_views.specs.Left.{faces_left}
 use Rattle.triangulate_run.specs.Stage.{position}
 use Rattle.delaunay_edit.specs.State.{triangulation_of}
 use Rattle.drawn_mesh.specs.Drawn.{corners_of}

@@ -1,0 +1,40 @@
+-- The search for an edge round a vertex.
+use Rattle.std.proofs.Common.{◌≡◌, ◌≢◌, ℕ, suc, ◌+◌, ◌<◌, length, Some, sym, ap, ◌∙◌, inl, inr, arith}
+use Rattle.std.proofs.lemmas.Bool.{cases_lt}
+use Rattle.half_edge_links.specs.declared.records.HalfEdge.{HalfEdge}
+use Rattle.half_edge_links.specs.Mesh.{Mesh, edge_at, origin, rev, out_edge}
+use Rattle.half_edge_links.specs.Peel.{turn, spoke}
+use Rattle.half_edge_links.proofs.Conditions.{spoke_at}
+use Rattle.half_edge_links.proofs.OneOrbit.{edges_go_round}
+use Rattle.half_edge_mesh.specs.Contents.{Contents, IsWhole}
+use Rattle.half_edge_views.proofs.Loops.{round_fits}
+
+-- one turn further round the vertex
+pub turned_spoke : (m : Mesh) (first edge k r : ℕ) (x : HalfEdge) → r ≡ rev x.prev → x ≡ edge_at m.half_edges edge → edge ≡ spoke m first k → r ≡ spoke m first (k + 1)
+turned_spoke m first edge k r x is read reached =
+    let more : suc k ≡ k + 1 = omega arith in
+    is ∙ ap (λ (q : HalfEdge). rev q.prev) read ∙ ap (turn m) reached ∙ ap (spoke m first) more
+
+pub spoke-within : {V D U F : Type 0} (c : Contents V D U F) (first k : ℕ) → IsWhole c → first < length c.directed → spoke c.mesh first k < length c.directed
+spoke-within c first k w first_in = rw w.fits.directed_fit (spoke_at c.mesh first w.valid.sound (rw w.fits.directed_fit at first_in) k).0
+
+pub spoke-starts : {V D U F : Type 0} (c : Contents V D U F) (first k : ℕ) → IsWhole c → first < length c.directed → origin c.mesh (spoke c.mesh first k) ≡ origin c.mesh first
+spoke-starts c first k w first_in = (spoke_at c.mesh first w.valid.sound (rw w.fits.directed_fit at first_in) k).1
+
+-- one more edge does not end at the vertex
+pub missed_more : (m : Mesh) (first edge t to k : ℕ) (x : HalfEdge) → t ≡ rev edge → x ≡ edge_at m.half_edges t → edge ≡ spoke m first k → x.origin ≢ to → ((j : ℕ) → j < k → origin m (rev (spoke m first j)) ≢ to) → (j : ℕ) → j < k + 1 → origin m (rev (spoke m first j)) ≢ to
+missed_more m first edge t to k x is read reached here before j less =
+    elim (cases_lt j k) [
+      | inl old ↦ before j old
+      | inr more ↦
+          let last : j ≡ k = omega (arith, less, more) in
+          λ q. here (ap (λ (y : HalfEdge). y.origin) read ∙ ap (origin m) (is ∙ ap rev (reached ∙ ap (spoke m first) (sym last))) ∙ q)
+    ]
+
+-- no edge of the vertex was missed
+pub none_joined : {V D U F : Type 0} (c : Contents V D U F) (v first to : ℕ) → IsWhole c → out_edge c.mesh v ≡ Some first → ((j : ℕ) → j < length c.directed → origin c.mesh (rev (spoke c.mesh first j)) ≢ to) → (h : ℕ) → h < length c.directed → origin c.mesh h ≡ v → origin c.mesh (rev h) ≢ to
+none_joined c v first to w named missed h within starts ends =
+    let r = edges_go_round c.mesh w.valid v first named in
+    let few = round_fits c.mesh v first r.0 w.valid r.1 in
+    let at = r.1.all h (rw (← w.fits.directed_fit) within) starts in
+    missed at.0 (omega (arith, at.1, few, w.fits.directed_fit)) (ap (λ q. origin c.mesh (rev q)) (sym at.2) ∙ ends)

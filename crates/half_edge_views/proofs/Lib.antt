@@ -1,0 +1,4 @@
+pub mod Ranges
+pub mod Walks
+pub mod Loops
+pub mod Joined

@@ -1,0 +1,19 @@
+use Rattle.std.proofs.Common.{◌≡◌, ◌+◌, ℕ, arith}
+use Rattle.half_edge_links.specs.Peel.{spoke}
+use Rattle.half_edge_views.proofs.Joined.{turned_spoke, spoke-within, spoke-starts, missed_more}
+use Rattle.half_edge_views.proofs.neighbors.edge_to.Goals as goal
+
+pub loop-preserved : goal.loop-preserved
+loop-preserved g c =
+    let w = c.num_directed_edges-end.ensures.whole in
+    let k : ℕ = c.loop.counter + 1 in
+    let reached : c.reversed-edge.result ≡ spoke c.args.mesh.now.mesh c.args.first k = turned_spoke c.args.mesh.now.mesh c.args.first c.loop.edge c.loop.counter _ c.half_edge-in-loop.result c.reversed-edge.ensures c.half_edge-in-loop.ensures.value c.loop.invariant.reached in
+    record {
+      within = rw reached (spoke-within c.args.mesh.now c.args.first k w c.requires);
+      starts = rw reached (spoke-starts c.args.mesh.now c.args.first k w c.requires);
+      reached = reached;
+      missed = missed_more c.args.mesh.now.mesh c.args.first c.loop.edge c.reversed.result c.args.to c.loop.counter c.half_edge.result c.reversed.ensures c.half_edge.ensures.value c.loop.invariant.reached c.if-half_edge-to.false c.loop.invariant.missed;
+    }
+
+pub returns-clause-none : goal.returns-clause-none
+returns-clause-none g c = λ j less. c.loop.invariant.missed j (omega (arith, less))

@@ -1,0 +1,43 @@
+-- Walks that come back to their start, and what iterators along them have left.
+use Rattle.std.specs.Prelude.{◌≡◌, ◌≢◌, ℕ, zero, suc, ◌<◌, ◌==◌, List, [], ◌∷◌, length, map, Some, None, if◌then◌else◌}
+use Rattle.std.specs.List.{range_with_len}
+use Rattle.std.specs.Borrow.{Bor}
+use Rattle.half_edge_links.specs.Hull.{HasOneOutline}
+use Rattle.half_edge_links.specs.Mesh.{Mesh, next, face, out_edge, iterate}
+use Rattle.half_edge_links.specs.Peel.{turn, spoke}
+use Rattle.half_edge_links.specs.Round.{IsRound}
+use Rattle.half_edge_mesh.specs.Contents.{Contents}
+use Rattle.half_edge_views.specs.Left.{each_in}
+use Rattle.half_edge_views.specs.declared.rounds.CircularIterator.{CircularIterator}
+use Rattle.half_edge_views.specs.declared.rounds.HullIterator.{HullIterator}
+
+-- the places of a walk from h on that ends before it is at `stop`, or after so many places
+abbrev pub walk : (ℕ → ℕ) → ℕ → ℕ → ℕ → List ℕ
+walk f stop zero h = []
+walk f stop (suc k) h = h ∷ (if f h == stop then [] else walk f stop k (f h))
+
+abbrev pub out_edges_left : {V D U F : Type 0} → CircularIterator V D U F → List (Bor (Contents V D U F) × ℕ)
+out_edges_left it = each_in it.dcel (walk (turn it.dcel.now.mesh) it.first it.left it.next)
+
+abbrev pub hull_left : {V D U F : Type 0} → HullIterator V D U F → List (Bor (Contents V D U F) × ℕ)
+hull_left it = each_in it.dcel (walk (next it.dcel.now.mesh) it.first it.left it.next)
+
+-- the edges that start at vertex v, against the clock, each once
+pub record GivesRound {V D U F : Type 0} (dcel : Bor (Contents V D U F)) (v : ℕ) (given : List (Bor (Contents V D U F) × ℕ)) : Type 0 where
+  pub alone : out_edge dcel.now.mesh v ≡ None → given ≡ []
+  pub round : (first : ℕ) → out_edge dcel.now.mesh v ≡ Some first → (count : ℕ) × IsRound dcel.now.mesh v first count × (given ≡ each_in dcel (map (spoke dcel.now.mesh first) (range_with_len 0 count)))
+
+-- so many edges follow each other from edge first on, each once and with the outer face on its left, and then
+-- the first comes again; where the outer face has one loop, these are all its edges
+pub record IsOuterLoop (m : Mesh) (first count : ℕ) : Type 0 where
+  pub some : 0 < count
+  pub back : iterate (next m) count first ≡ first
+  pub within : (i : ℕ) → iterate (next m) i first < length m.half_edges
+  pub outer : (i : ℕ) → face m (iterate (next m) i first) ≡ 0
+  pub apart : (i j : ℕ) → i < j → j < count → iterate (next m) i first ≢ iterate (next m) j first
+  pub all : HasOneOutline m → (h : ℕ) → h < length m.half_edges → face m h ≡ 0 → (i : ℕ) × (i < count) × (h ≡ iterate (next m) i first)
+
+-- the outer loop from the edge on that the outer face names
+pub record GivesOuterLoop {V D U F : Type 0} (dcel : Bor (Contents V D U F)) (given : List (Bor (Contents V D U F) × ℕ)) : Type 0 where
+  pub empty : dcel.now.mesh.outer_edge ≡ None → given ≡ []
+  pub loop : (first : ℕ) → dcel.now.mesh.outer_edge ≡ Some first → (count : ℕ) × IsOuterLoop dcel.now.mesh first count × (given ≡ each_in dcel (map (λ i. iterate (next dcel.now.mesh) i first) (range_with_len 0 count)))

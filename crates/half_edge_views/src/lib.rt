@@ -1,0 +1,24 @@
+//! The vertices, edges and faces of a mesh, together with the mesh that they lie in.
+#![tactic(auto)]
+
+mod edge;
+mod face;
+mod iterators;
+mod neighbors;
+mod rounds;
+mod vertex;
+mod views;
+mod voronoi;
+mod voronoi_iterators;
+
+pub use edge::{DirectedEdgeHandle, UndirectedEdgeHandle};
+pub use face::FaceHandle;
+pub use iterators::{DirectedEdgeIterator, FaceIterator, UndirectedEdgeIterator, VertexIterator};
+pub use rounds::{CircularIterator, HullIterator};
+pub use vertex::VertexHandle;
+pub use views::MeshViews;
+pub use voronoi::{DirectedVoronoiEdge, UndirectedVoronoiEdge, VoronoiFace, VoronoiVertex};
+pub use voronoi_iterators::{
+    DirectedVoronoiEdgeIterator, UndirectedVoronoiEdgeIterator, VoronoiCircularIterator,
+    VoronoiFaceIterator, VoronoiViews,
+};

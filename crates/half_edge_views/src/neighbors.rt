@@ -1,0 +1,27 @@
+//! The search for an edge between two vertices.
+ghost use Rattle.std.specs.Prelude.{◌≡◌, ◌≢◌, ◌<◌, ℕ, length, IfNone, IfSome};
+ghost use Rattle.half_edge_links.specs.Mesh.{origin, rev};
+ghost use Rattle.half_edge_links.specs.Peel.{spoke};
+ghost use Rattle.half_edge_mesh.specs.Contents.{IsWhole};
+
+use half_edge_links::reversed;
+use half_edge_mesh::Dcel;
+
+// Of the edges round the vertex where `first` starts, one that ends at vertex `to`, if there is one.
+pub(crate) fn edge_to<V, DE, UE, F>(mesh: &Dcel<V, DE, UE, F>, first: u32, to: u32) -> Option<u32>
+    requires { first < length mesh.now.directed }
+    ensures within { IfSome result (λ h. h < length mesh.now.directed) }
+    ensures starts { let m = mesh.now.mesh in IfSome result (λ h. origin m h ≡ origin m first) }
+    ensures ends { let m = mesh.now.mesh in IfSome result (λ h. origin m (rev h) ≡ to) }
+    ensures none { let m = mesh.now.mesh in IfNone result ((j : ℕ) → j < length mesh.now.directed → origin m (rev (spoke m first j)) ≢ to) }
+    ensures whole { IsWhole mesh.now }
+{
+    let mut edge = first;
+    for _ in 0..mesh.num_directed_edges() {
+        if mesh.half_edge(reversed(edge)).origin == to {
+            return Some(edge);
+        }
+        edge = reversed(mesh.half_edge(edge).prev);
+    }
+    None
+}

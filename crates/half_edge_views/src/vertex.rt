@@ -1,0 +1,80 @@
+//! Vertices together with the mesh that they lie in.
+ghost use Rattle.std.specs.Prelude.{◌≡◌, ◌≢◌, ℕ, ◌+◌, ◌*◌, ◌/◌, ◌<◌, ◌≤◌, ◌∷◌, [], length, slice_get, Some, ⊤, All, map, IsNone, IsSome, IfSome, IsTrue, ◌↔◌};
+ghost use Rattle.half_edge_links.specs.Mesh.{origin, next, prev, face, rev, face_edge, out_edge};
+ghost use Rattle.half_edge_mesh.specs.Contents.{IsWhole};
+
+use crate::edge::DirectedEdgeHandle;
+use crate::rounds::CircularIterator;
+use half_edge_handles::FixedVertexHandle;
+use half_edge_mesh::Dcel;
+use std::alloc::AllocError;
+
+/// A vertex of a mesh. Two of them are equal where their indexes are.
+#[derive_where(Copy, PartialEq, Eq, PartialOrd, Ord, Hash, Debug)]
+pub struct VertexHandle<'a, V, DE, UE, F> {
+    #[derive_where(skip)]
+    pub dcel: &'a Dcel<V, DE, UE, F>,
+    pub index: u32,
+    ghost in_range: { index < length dcel.now.vertices },
+}
+
+impl<'a, V, DE, UE, F> Clone for VertexHandle<'a, V, DE, UE, F> {
+    ghost is_clone = { λ it copy. (copy.dcel ≡ it.dcel) × (copy.index ≡ it.index) };
+
+    ghost is_infallible = { λ _. ⊤ };
+
+    fn clone(&self) -> Result<Self, AllocError> {
+        Ok(*self)
+    }
+}
+
+impl<'a, V, DE, UE, F> VertexHandle<'a, V, DE, UE, F> {
+    ghost use Rattle.half_edge_views.specs.Rounds.{GivesRound, out_edges_left};
+
+    /// The name of it alone.
+    pub fn fix(&self) -> FixedVertexHandle
+        ensures value { result ≡ self.now.index }
+        ensures in_range { result < length self.now.dcel.now.vertices }
+    {
+        FixedVertexHandle::from_index(self.index)
+    }
+
+    pub fn data(&self) -> &'a V
+        ensures { slice_get self.now.dcel.now.vertices self.now.index ≡ Some result.now }
+    {
+        self.dcel.vertex_data(self.fix())
+    }
+
+    /// An edge that starts here, if there is one.
+    pub fn out_edge(&self) -> Option<DirectedEdgeHandle<'a, V, DE, UE, F>>
+        ensures none { IsNone result ↔ IsNone (out_edge self.now.dcel.now.mesh self.now.index) }
+        ensures edge { IfSome result (λ e. (e.dcel ≡ self.now.dcel) × (out_edge self.now.dcel.now.mesh self.now.index ≡ Some e.index)) }
+        ensures whole { IsWhole self.now.dcel.now }
+    {
+        let index = self.dcel.out_edge(self.index)?;
+        Some(DirectedEdgeHandle {
+            dcel: self.dcel,
+            index,
+        })
+    }
+
+    /// The edges that start here, counterclockwise.
+    pub fn out_edges(&self) -> CircularIterator<'a, V, DE, UE, F>
+        ensures { GivesRound self.now.dcel self.now.index (out_edges_left result) }
+    {
+        if let Some(first) = self.dcel.out_edge(self.index) {
+            return CircularIterator {
+                dcel: self.dcel,
+                first,
+                next: first,
+                left: self.dcel.num_directed_edges() as u32,
+            };
+        }
+        CircularIterator {
+            dcel: self.dcel,
+            first: 0,
+            next: 0,
+            left: 0,
+        }
+    }
+}
