@@ -8,8 +8,6 @@ mod neighbors;
 mod rounds;
 mod vertex;
 mod views;
-mod voronoi;
-mod voronoi_iterators;
 
 pub use edge::{DirectedEdgeHandle, UndirectedEdgeHandle};
 pub use face::FaceHandle;
@@ -17,8 +15,3 @@ pub use iterators::{DirectedEdgeIterator, FaceIterator, UndirectedEdgeIterator, 
 pub use rounds::{CircularIterator, HullIterator};
 pub use vertex::VertexHandle;
 pub use views::MeshViews;
-pub use voronoi::{DirectedVoronoiEdge, UndirectedVoronoiEdge, VoronoiFace, VoronoiVertex};
-pub use voronoi_iterators::{
-    DirectedVoronoiEdgeIterator, UndirectedVoronoiEdgeIterator, VoronoiCircularIterator,
-    VoronoiFaceIterator, VoronoiViews,
-};

@@ -3,7 +3,8 @@
 use crate::growth::{one_edge, one_face};
 use crate::reads::{Mesh, counts, directed};
 use half_edge_mesh::{FixedFaceHandle, FixedVertexHandle};
-use half_edge_views::{MeshViews, VoronoiViews};
+use half_edge_views::MeshViews;
+use half_edge_voronoi::VoronoiViews;
 use std::test::Fail;
 
 #[test]

@@ -3,7 +3,10 @@
 use crate::growth::{one_edge, one_face};
 use crate::reads::{directed, edge_at, ends, face_at, has_vertex, vertex_at};
 use half_edge_mesh::{FixedFaceHandle, FixedVertexHandle};
-use half_edge_views::{MeshViews, VoronoiVertex, VoronoiViews};
+use half_edge_views::MeshViews;
+use half_edge_voronoi::{
+    AsVoronoiEdge, AsVoronoiFace, AsVoronoiVertex, VoronoiVertex, VoronoiViews,
+};
 use std::test::Fail;
 
 #[test]

@@ -3,3 +3,7 @@ pub use half_edge_mesh::{
     FixedDirectedEdgeHandle, FixedFaceHandle, FixedUndirectedEdgeHandle, FixedVertexHandle,
 };
 pub use half_edge_views::{DirectedEdgeHandle, FaceHandle, UndirectedEdgeHandle, VertexHandle};
+pub use half_edge_voronoi::{
+    AsVoronoiEdge, AsVoronoiFace, AsVoronoiVertex, DirectedVoronoiEdge, UndirectedVoronoiEdge,
+    VoronoiFace, VoronoiVertex,
+};

@@ -3,10 +3,8 @@
 ghost use Rattle.std.specs.Prelude.{◌≡◌, ◌+◌, ◌*◌, ◌/◌, ◌<◌, ◌∷◌, [], All, map, IsNone, IsSome, IfSome, ◌↔◌};
 ghost use Rattle.half_edge_links.specs.Mesh.{next, prev, rev, origin, face_edge};
 
-use crate::edge::{DirectedEdgeHandle, UndirectedEdgeHandle};
-use crate::face::FaceHandle;
-use crate::vertex::VertexHandle;
 use crate::voronoi_iterators::VoronoiCircularIterator;
+use half_edge_views::{DirectedEdgeHandle, FaceHandle, UndirectedEdgeHandle, VertexHandle};
 
 /// The face of the Voronoi diagram that belongs to a vertex. Two of them are equal where their vertices are.
 #[derive_where(Clone, Copy, PartialEq, Eq, PartialOrd, Ord, Hash, Debug)]
@@ -35,9 +33,38 @@ pub enum VoronoiVertex<'a, V, DE, UE, F> {
     Outer(DirectedVoronoiEdge<'a, V, DE, UE, F>),
 }
 
-impl<'a, V, DE, UE, F> VertexHandle<'a, V, DE, UE, F> {
+/// What a face of the Voronoi diagram belongs to.
+pub trait AsVoronoiFace {
+    type Face;
+
     /// The face of the Voronoi diagram that belongs to the vertex.
-    pub fn as_voronoi_face(&self) -> VoronoiFace<'a, V, DE, UE, F>
+    fn as_voronoi_face(&self) -> Self::Face;
+}
+
+/// What an edge of the Voronoi diagram lies across.
+pub trait AsVoronoiEdge {
+    type Edge;
+
+    /// The edge of the Voronoi diagram between the two faces beside this edge, of a directed one from the face on its
+    /// left to the one on its right.
+    fn as_voronoi_edge(&self) -> Self::Edge;
+}
+
+/// What a vertex of the Voronoi diagram belongs to.
+pub trait AsVoronoiVertex {
+    type Vertex;
+
+    ghost has_vertex: { Self → Type 0 };
+
+    /// The vertex of the Voronoi diagram that belongs to this inner face.
+    fn as_voronoi_vertex(&self) -> Self::Vertex
+        requires { has_vertex self.now };
+}
+
+impl<'a, V, DE, UE, F> AsVoronoiFace for VertexHandle<'a, V, DE, UE, F> {
+    type Face = VoronoiFace<'a, V, DE, UE, F>;
+
+    fn as_voronoi_face(&self) -> VoronoiFace<'a, V, DE, UE, F>
         ensures { result.vertex ≡ self.now }
     {
         VoronoiFace { vertex: *self }
@@ -64,50 +91,57 @@ impl<'a, V, DE, UE, F> VoronoiFace<'a, V, DE, UE, F> {
     }
 }
 
-impl<'a, V, DE, UE, F> DirectedEdgeHandle<'a, V, DE, UE, F> {
-    /// The edge of the Voronoi diagram from the face on the left to the one on the right.
-    pub fn as_voronoi_edge(&self) -> DirectedVoronoiEdge<'a, V, DE, UE, F>
+impl<'a, V, DE, UE, F> AsVoronoiEdge for DirectedEdgeHandle<'a, V, DE, UE, F> {
+    type Edge = DirectedVoronoiEdge<'a, V, DE, UE, F>;
+
+    fn as_voronoi_edge(&self) -> DirectedVoronoiEdge<'a, V, DE, UE, F>
         ensures { result.edge ≡ self.now }
     {
         DirectedVoronoiEdge { edge: *self }
     }
 }
 
-impl<'a, V, DE, UE, F> UndirectedEdgeHandle<'a, V, DE, UE, F> {
-    /// The edge of the Voronoi diagram between the two faces beside this edge.
-    pub fn as_voronoi_edge(&self) -> UndirectedVoronoiEdge<'a, V, DE, UE, F>
+impl<'a, V, DE, UE, F> AsVoronoiEdge for UndirectedEdgeHandle<'a, V, DE, UE, F> {
+    type Edge = UndirectedVoronoiEdge<'a, V, DE, UE, F>;
+
+    fn as_voronoi_edge(&self) -> UndirectedVoronoiEdge<'a, V, DE, UE, F>
         ensures { result.edge ≡ self.now }
     {
         UndirectedVoronoiEdge { edge: *self }
     }
 }
 
-impl<'a, V, DE, UE, F> FaceHandle<'a, V, DE, UE, F> {
-    /// The vertex of the Voronoi diagram that belongs to this inner face.
-    pub fn as_voronoi_vertex(&self) -> VoronoiVertex<'a, V, DE, UE, F>
+impl<'a, V, DE, UE, F> AsVoronoiVertex for FaceHandle<'a, V, DE, UE, F> {
+    type Vertex = VoronoiVertex<'a, V, DE, UE, F>;
+
+    ghost has_vertex = { λ f. 0 < f.index };
+
+    fn as_voronoi_vertex(&self) -> VoronoiVertex<'a, V, DE, UE, F>
         requires { 0 < self.now.index }
         ensures { result ≡ VoronoiVertex.Inner self.now }
     {
         VoronoiVertex::Inner(*self)
     }
+}
 
-    // The edges of the Voronoi diagram that start at the vertex of this inner face.
-    fn voronoi_edges(&self) -> [DirectedVoronoiEdge<'a, V, DE, UE, F>; 3]
-        requires { 0 < self.now.index }
-        ensures dcel { All (λ e. e.edge.dcel ≡ self.now.dcel) result }
-        ensures indexes { let m = self.now.dcel.now.mesh in let e = face_edge m self.now.index in map (λ e. e.edge.index) result ≡ e ∷ next m e ∷ prev m e ∷ [] }
-    {
-        let edge = self.adjacent_edge();
-        [
-            edge.as_voronoi_edge(),
-            edge.next().as_voronoi_edge(),
-            edge.prev().as_voronoi_edge(),
-        ]
-    }
+// The edges of the Voronoi diagram that start at the vertex of an inner face.
+fn edges_out_of<'a, V, DE, UE, F>(
+    face: &FaceHandle<'a, V, DE, UE, F>,
+) -> [DirectedVoronoiEdge<'a, V, DE, UE, F>; 3]
+    requires { 0 < face.now.index }
+    ensures dcel { All (λ e. e.edge.dcel ≡ face.now.dcel) result }
+    ensures indexes { let m = face.now.dcel.now.mesh in let e = face_edge m face.now.index in map (λ e. e.edge.index) result ≡ e ∷ next m e ∷ prev m e ∷ [] }
+{
+    let edge = face.adjacent_edge();
+    [
+        edge.as_voronoi_edge(),
+        edge.next().as_voronoi_edge(),
+        edge.prev().as_voronoi_edge(),
+    ]
 }
 
 impl<'a, V, DE, UE, F> DirectedVoronoiEdge<'a, V, DE, UE, F> {
-    ghost use Rattle.half_edge_views.specs.Voronoi.{IsVoronoiStart};
+    ghost use Rattle.half_edge_voronoi.specs.Voronoi.{IsVoronoiStart};
 
     /// The edge that this one lies across.
     pub fn as_delaunay_edge(&self) -> DirectedEdgeHandle<'a, V, DE, UE, F>
@@ -176,7 +210,7 @@ impl<'a, V, DE, UE, F> DirectedVoronoiEdge<'a, V, DE, UE, F> {
 }
 
 impl<'a, V, DE, UE, F> UndirectedVoronoiEdge<'a, V, DE, UE, F> {
-    ghost use Rattle.half_edge_views.specs.Voronoi.{AreVoronoiEnds};
+    ghost use Rattle.half_edge_voronoi.specs.Voronoi.{AreVoronoiEnds};
 
     /// The edge that this one lies across.
     pub fn as_delaunay_edge(&self) -> UndirectedEdgeHandle<'a, V, DE, UE, F>
@@ -203,7 +237,7 @@ impl<'a, V, DE, UE, F> UndirectedVoronoiEdge<'a, V, DE, UE, F> {
 }
 
 impl<'a, V, DE, UE, F> VoronoiVertex<'a, V, DE, UE, F> {
-    ghost use Rattle.half_edge_views.specs.Voronoi.{inner_face, GoesOut, GoOut};
+    ghost use Rattle.half_edge_voronoi.specs.Voronoi.{inner_face, GoesOut, GoOut};
 
     /// The inner face that the vertex belongs to, if it is no far end.
     pub fn as_delaunay_face(&self) -> Option<FaceHandle<'a, V, DE, UE, F>>
@@ -229,6 +263,6 @@ impl<'a, V, DE, UE, F> VoronoiVertex<'a, V, DE, UE, F> {
         requires { IsSome (inner_face self.now) }
         ensures { GoOut (inner_face self.now) result }
     {
-        self.as_delaunay_face().unwrap().voronoi_edges()
+        edges_out_of(&self.as_delaunay_face().unwrap())
     }
 }

@@ -4,9 +4,9 @@ use Rattle.std.specs.Borrow.{Bor}
 use Rattle.half_edge_links.specs.Mesh.{next, prev, rev, face, face_edge}
 use Rattle.half_edge_mesh.specs.Contents.{Contents}
 use Rattle.half_edge_views.specs.declared.face.FaceHandle.{FaceHandle}
-use Rattle.half_edge_views.specs.declared.voronoi.DirectedVoronoiEdge.{DirectedVoronoiEdge}
-use Rattle.half_edge_views.specs.declared.voronoi.VoronoiVertex.{VoronoiVertex}
-use Rattle.half_edge_views.specs.declared.voronoi.VoronoiVertex.TheVariants.{Inner, Outer}
+use Rattle.half_edge_voronoi.specs.declared.voronoi.DirectedVoronoiEdge.{DirectedVoronoiEdge}
+use Rattle.half_edge_voronoi.specs.declared.voronoi.VoronoiVertex.{VoronoiVertex}
+use Rattle.half_edge_voronoi.specs.declared.voronoi.VoronoiVertex.TheVariants.{Inner, Outer}
 
 module _ {V D U F : Type 0} where
   -- where the edge of the Voronoi diagram across edge e starts: at the inner face on the left of e, or far away

@@ -4,11 +4,13 @@ ghost use Rattle.std.specs.List.{range_with_len};
 ghost use Rattle.std.specs.Iterator.{YieldsFirstBy, item_count};
 ghost use Rattle.half_edge_views.specs.Left.{each_in, vertices_left, directed_edges_left, undirected_edges_left};
 
-use crate::iterators::{DirectedEdgeIterator, UndirectedEdgeIterator, VertexIterator};
-use crate::rounds::CircularIterator;
-use crate::views::MeshViews;
-use crate::voronoi::{DirectedVoronoiEdge, UndirectedVoronoiEdge, VoronoiFace};
+use crate::voronoi::{
+    AsVoronoiEdge, AsVoronoiFace, DirectedVoronoiEdge, UndirectedVoronoiEdge, VoronoiFace,
+};
 use half_edge_mesh::Dcel;
+use half_edge_views::{
+    CircularIterator, DirectedEdgeIterator, MeshViews, UndirectedEdgeIterator, VertexIterator,
+};
 
 /// The faces of the Voronoi diagram that are left, by rising index of their vertices.
 #[derive(Drop)]

@@ -1,6 +1,0 @@
-use Rattle.std.proofs.Common.{sym, ◌∙◌}
-use Rattle.half_edge_views.proofs.voronoi.VoronoiVertex.out_edges.Goals as goal
-
-pub returns : goal.returns
-returns g c =
-    rw (sym c.as_delaunay_face.ensures ∙ c.unwrap.ensures) (c.voronoi_edges.ensures.dcel, c.voronoi_edges.ensures.indexes)
