@@ -1,6 +1,6 @@
-//! Growing calls that look first whether they may be made, so that no test has to show it. Each makes just the room
-//! that it takes.
-ghost use Rattle.std.specs.Prelude.{◌<◌, length, IsTrue, OnOk};
+//! Growing calls that look first whether they may be made, so that no test has to show it: where one may not, it gives
+//! nothing and leaves the mesh. Each makes just the room that it takes.
+ghost use Rattle.std.specs.Prelude.{◌<◌, length, IsTrue};
 ghost use Rattle.half_edge_links.specs.Flip.{IsFlippable};
 ghost use Rattle.half_edge_mesh.specs.Contents.{HasRoom};
 
@@ -9,126 +9,128 @@ use half_edge_mesh::{
     FixedDirectedEdgeHandle, FixedFaceHandle, FixedUndirectedEdgeHandle, FixedVertexHandle,
 };
 use half_edge_views::MeshViews;
-use std::test::Fail;
 
 /// A vertex and the two parts of the edge that it split.
-type Split = (FixedVertexHandle, [FixedDirectedEdgeHandle; 2]);
+pub(crate) type Split = (FixedVertexHandle, [FixedDirectedEdgeHandle; 2]);
 
-// Room for so much more.
-fn make_room(mesh: &mut Mesh, vertices: usize, edges: usize, faces: usize) -> Result<(), Fail>
+// Makes room for so much more, and tells whether it is there.
+fn make_room(mesh: &mut Mesh, vertices: usize, edges: usize, faces: usize) -> bool
     requires few_vertices { vertices < 8 }
     requires few_edges { edges < 8 }
     requires few_faces { faces < 8 }
-    ensures { OnOk result (HasRoom mesh.new vertices edges faces) }
+    ensures { IsTrue result → HasRoom mesh.new vertices edges faces }
 {
     let vertices = mesh.num_vertices() + vertices;
     let edges = mesh.num_undirected_edges() + edges;
     let faces = mesh.num_faces() + faces;
-    mesh.reserve_capacity(vertices, edges, faces)?;
-    Ok(())
+    match mesh.reserve_capacity(vertices, edges, faces) {
+        Ok(()) => true,
+        Err(_) => false,
+    }
 }
 
-pub(crate) fn append_unconnected_vertex(
-    mesh: &mut Mesh,
-    value: u8,
-) -> Result<FixedVertexHandle, Fail> {
-    make_room(mesh, 1, 0, 0)?;
-    Ok(mesh.append_unconnected_vertex(value))
+pub(crate) fn append_unconnected_vertex(mesh: &mut Mesh, value: u8) -> Option<FixedVertexHandle> {
+    if !make_room(mesh, 1, 0, 0) {
+        return None;
+    }
+    Some(mesh.append_unconnected_vertex(value))
 }
 
 pub(crate) fn setup_initial_two_vertices(
     mesh: &mut Mesh,
     a: FixedVertexHandle,
     b: FixedVertexHandle,
-) -> Result<(), Fail> {
-    make_room(mesh, 0, 1, 0)?;
-    if mesh.num_undirected_edges() > 0 || !has_vertex(mesh, a) || !has_vertex(mesh, b) || a == b {
-        return Err(Fail::new("no first edge"));
+) -> bool {
+    if !make_room(mesh, 0, 1, 0)
+        || mesh.num_undirected_edges() > 0
+        || !has_vertex(mesh, a)
+        || !has_vertex(mesh, b)
+        || a == b
+    {
+        return false;
     }
     mesh.setup_initial_two_vertices(a, b);
-    Ok(())
+    true
 }
 
 pub(crate) fn extend_line(
     mesh: &mut Mesh,
     end: FixedVertexHandle,
     value: u8,
-) -> Result<FixedVertexHandle, Fail> {
-    make_room(mesh, 1, 1, 0)?;
-    if mesh.num_inner_faces() > 0
+) -> Option<FixedVertexHandle> {
+    if !make_room(mesh, 1, 1, 0)
+        || mesh.num_inner_faces() > 0
         || !has_vertex(mesh, end)
         || mesh.vertex(end).out_edge().is_none()
     {
-        return Err(Fail::new("no line"));
+        return None;
     }
-    Ok(mesh.extend_line(end, value))
+    Some(mesh.extend_line(end, value))
 }
 
 pub(crate) fn split_edge_when_all_vertices_on_line(
     mesh: &mut Mesh,
     edge: FixedDirectedEdgeHandle,
     value: u8,
-) -> Result<Split, Fail> {
-    make_room(mesh, 1, 1, 0)?;
-    if mesh.num_inner_faces() > 0 || !has_edge(mesh, edge) {
-        return Err(Fail::new("no edge of a line"));
+) -> Option<Split> {
+    if !make_room(mesh, 1, 1, 0) || mesh.num_inner_faces() > 0 || !has_edge(mesh, edge) {
+        return None;
     }
-    Ok(mesh.split_edge_when_all_vertices_on_line(edge, value))
+    Some(mesh.split_edge_when_all_vertices_on_line(edge, value))
 }
 
 pub(crate) fn create_new_face_adjacent_to_edge(
     mesh: &mut Mesh,
     edge: FixedDirectedEdgeHandle,
     value: u8,
-) -> Result<FixedVertexHandle, Fail> {
-    make_room(mesh, 1, 2, 1)?;
-    if !has_edge(mesh, edge) || !mesh.directed_edge(edge).is_outer_edge() {
-        return Err(Fail::new("no outer edge"));
+) -> Option<FixedVertexHandle> {
+    if !make_room(mesh, 1, 2, 1)
+        || !has_edge(mesh, edge)
+        || !mesh.directed_edge(edge).is_outer_edge()
+    {
+        return None;
     }
-    Ok(mesh.create_new_face_adjacent_to_edge(edge, value))
+    Some(mesh.create_new_face_adjacent_to_edge(edge, value))
 }
 
 pub(crate) fn create_single_face_between_edge_and_next(
     mesh: &mut Mesh,
     edge: FixedDirectedEdgeHandle,
-) -> Result<FixedDirectedEdgeHandle, Fail> {
-    make_room(mesh, 0, 1, 1)?;
-    if !has_edge(mesh, edge) {
-        return Err(Fail::new("no such edge"));
+) -> Option<FixedDirectedEdgeHandle> {
+    if !make_room(mesh, 0, 1, 1) || !has_edge(mesh, edge) {
+        return None;
     }
     let side = mesh.directed_edge(edge);
     if !side.is_outer_edge() || side.next().to().index == side.from().index {
-        return Err(Fail::new("no corner of the hull"));
+        return None;
     }
-    Ok(mesh.create_single_face_between_edge_and_next(edge))
+    Some(mesh.create_single_face_between_edge_and_next(edge))
 }
 
 pub(crate) fn insert_into_triangle(
     mesh: &mut Mesh,
     value: u8,
     face: FixedFaceHandle,
-) -> Result<FixedVertexHandle, Fail> {
-    make_room(mesh, 1, 3, 2)?;
-    if face.is_outer() || !has_face(mesh, face) {
-        return Err(Fail::new("no inner face"));
+) -> Option<FixedVertexHandle> {
+    if !make_room(mesh, 1, 3, 2) || face.is_outer() || !has_face(mesh, face) {
+        return None;
     }
-    Ok(mesh.insert_into_triangle(value, face))
+    Some(mesh.insert_into_triangle(value, face))
 }
 
 pub(crate) fn split_half_edge(
     mesh: &mut Mesh,
     edge: FixedDirectedEdgeHandle,
     value: u8,
-) -> Result<Split, Fail> {
-    make_room(mesh, 1, 2, 1)?;
-    if !has_edge(mesh, edge) {
-        return Err(Fail::new("no such edge"));
+) -> Option<Split> {
+    if !make_room(mesh, 1, 2, 1) || !has_edge(mesh, edge) {
+        return None;
     }
     let side = mesh.directed_edge(edge);
     if side.is_outer_edge() || !side.rev().is_outer_edge() {
-        return Err(Fail::new("no edge of the hull"));
+        return None;
     }
-    Ok(mesh.split_half_edge(edge, value))
+    Some(mesh.split_half_edge(edge, value))
 }
 
 fn is_flippable(mesh: &Mesh, edge: FixedDirectedEdgeHandle) -> bool
@@ -150,23 +152,22 @@ pub(crate) fn split_edge(
     mesh: &mut Mesh,
     edge: FixedDirectedEdgeHandle,
     value: u8,
-) -> Result<Split, Fail> {
-    make_room(mesh, 1, 3, 2)?;
-    if !is_flippable(mesh, edge) {
-        return Err(Fail::new("no edge between two faces"));
+) -> Option<Split> {
+    if !make_room(mesh, 1, 3, 2) || !is_flippable(mesh, edge) {
+        return None;
     }
-    Ok(mesh.split_edge(edge, value))
+    Some(mesh.split_edge(edge, value))
 }
 
-pub(crate) fn flip_cw(mesh: &mut Mesh, edge: FixedUndirectedEdgeHandle) -> Result<(), Fail> {
+pub(crate) fn flip_cw(mesh: &mut Mesh, edge: FixedUndirectedEdgeHandle) -> bool {
     let there = edge.as_directed();
     if !is_flippable(mesh, there) {
-        return Err(Fail::new("no edge between two faces"));
+        return false;
     }
     let side = mesh.directed_edge(there);
     if side.prev().from().index == side.rev().prev().from().index {
-        return Err(Fail::new("one opposite corner"));
+        return false;
     }
     mesh.flip_cw(edge);
-    Ok(())
+    true
 }

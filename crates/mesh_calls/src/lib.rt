@@ -21,3 +21,5 @@ mod removal;
 mod room;
 #[cfg(test)]
 mod views;
+#[cfg(test)]
+mod voronoi;

@@ -1,6 +1,7 @@
 //! The links of a mesh, without data.
 
 use half_edge_links::{Links, MAX_ELEMENTS, ReserveError, are_few_enough, is_full};
+use std::alloc::{AllocError, Global};
 use std::test::Fail;
 
 #[test]
@@ -12,26 +13,64 @@ fn the_last_vertex_that_fits(rt: HostRuntime) {
 }
 
 #[test]
-fn a_line_is_made_copied_and_cleared(rt: HostRuntime) -> Result<(), Fail> {
+fn no_room_past_the_limit(rt: HostRuntime) {
     let mut links = Links::new(rt.alloc());
-    assert_eq!(rt;
-        links.reserve(MAX_ELEMENTS + 1, 0, 1),
-        Err(ReserveError::TooMany)
-    );
-    links.reserve(2, 1, 1).ok().ok_or("no room")?;
-    let a = links.push_vertex();
-    let b = links.push_vertex();
-    links.connect(a, b);
-    assert_eq!(rt; links.half_edge_count(), 2);
-    assert_eq!(rt; links.inner_face_count(), 0);
-    assert_eq!(rt; links.half_edge(0).next, 1);
+    let refused = links.reserve(MAX_ELEMENTS + 1, 0, 1);
+    assert!(rt; refused == Err(ReserveError::TooMany));
+}
+
+/// Two vertices, and edge 0 from the first to the second. Without room for them it is empty.
+fn line(alloc: Global) -> Links {
+    let mut links = Links::new(alloc);
+    if links.reserve(2, 1, 1) == Ok(()) {
+        let a = links.push_vertex();
+        let b = links.push_vertex();
+        links.connect(a, b);
+    }
+    links
+}
+
+/// How many vertices, half-edges and inner faces there are.
+fn counts(links: &Links) -> [usize; 3] {
+    [
+        links.vertex_count(),
+        links.half_edge_count(),
+        links.inner_face_count(),
+    ]
+}
+
+/// The edge after edge 0, if there is an edge.
+fn after_first(links: &Links) -> Option<u32> {
+    if links.half_edge_count() == 0 {
+        return None;
+    }
+    Some(links.half_edge(0).next)
+}
+
+/// A copy of a line that is cleared then, with the counts that this leaves.
+fn copy_of_cleared(alloc: Global) -> Result<(Links, [usize; 3]), AllocError> {
+    let mut links = line(alloc);
     let copy = links.clone()?;
     links.clear();
-    assert_eq!(rt; links.half_edge_count(), 0);
-    assert_eq!(rt; links.vertex_count(), 0);
-    assert_eq!(rt; copy.vertex_count(), 2);
-    assert_eq!(rt; copy.half_edge_count(), 2);
-    assert_eq!(rt; copy.half_edge(0).next, 1);
-    assert_eq!(rt; copy.outer_edge(), Some(0));
+    let left = counts(&links);
+    Ok((copy, left))
+}
+
+#[test]
+fn a_line_is_made(rt: HostRuntime) {
+    let links = line(rt.alloc());
+    assert_eq!(rt;
+        (counts(&links), after_first(&links)),
+        ([2usize, 2, 0], Some(1))
+    );
+}
+
+#[test]
+fn a_line_is_copied_and_cleared(rt: HostRuntime) -> Result<(), Fail> {
+    let (copy, left) = copy_of_cleared(rt.alloc())?;
+    assert_eq!(rt;
+        (left, counts(&copy), after_first(&copy), copy.outer_edge()),
+        ([0usize, 0, 0], [2usize, 2, 0], Some(1), Some(0))
+    );
     Ok(())
 }

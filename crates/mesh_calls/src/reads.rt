@@ -2,12 +2,9 @@
 ghost use Rattle.std.specs.Prelude.{◌<◌, ◌≤◌, ◌↔◌, length, IsTrue};
 
 use half_edge_mesh::{Dcel, FixedDirectedEdgeHandle, FixedFaceHandle, FixedVertexHandle};
-use half_edge_views::{DirectedEdgeHandle, FaceHandle, MeshViews, VertexHandle};
-use std::test::Fail;
+use half_edge_views::{DirectedEdgeHandle, FaceHandle, MeshViews};
 
 pub(crate) type Mesh = Dcel<u8, u16, u32, u64>;
-
-pub(crate) type Vertex<'a> = VertexHandle<'a, u8, u16, u32, u64>;
 
 pub(crate) type Edge<'a> = DirectedEdgeHandle<'a, u8, u16, u32, u64>;
 
@@ -15,6 +12,10 @@ pub(crate) type Face<'a> = FaceHandle<'a, u8, u16, u32, u64>;
 
 pub(crate) fn directed(index: u32) -> FixedDirectedEdgeHandle {
     FixedDirectedEdgeHandle::from_index(index)
+}
+
+pub(crate) fn vertex(index: u32) -> FixedVertexHandle {
+    FixedVertexHandle::from_index(index)
 }
 
 pub(crate) fn has_vertex(mesh: &Mesh, vertex: FixedVertexHandle) -> bool
@@ -35,25 +36,18 @@ pub(crate) fn has_face(mesh: &Mesh, face: FixedFaceHandle) -> bool
     face.index() as usize <= mesh.num_inner_faces()
 }
 
-pub(crate) fn vertex_at(mesh: &Mesh, vertex: FixedVertexHandle) -> Result<Vertex<'_>, Fail> {
-    if !has_vertex(mesh, vertex) {
-        return Err(Fail::new("no such vertex"));
-    }
-    Ok(mesh.vertex(vertex))
-}
-
-pub(crate) fn edge_at(mesh: &Mesh, edge: FixedDirectedEdgeHandle) -> Result<Edge<'_>, Fail> {
+pub(crate) fn edge_at(mesh: &Mesh, edge: FixedDirectedEdgeHandle) -> Option<Edge<'_>> {
     if !has_edge(mesh, edge) {
-        return Err(Fail::new("no such edge"));
+        return None;
     }
-    Ok(mesh.directed_edge(edge))
+    Some(mesh.directed_edge(edge))
 }
 
-pub(crate) fn face_at(mesh: &Mesh, face: FixedFaceHandle) -> Result<Face<'_>, Fail> {
+pub(crate) fn face_at(mesh: &Mesh, face: FixedFaceHandle) -> Option<Face<'_>> {
     if !has_face(mesh, face) {
-        return Err(Fail::new("no such face"));
+        return None;
     }
-    Ok(mesh.face(face))
+    Some(mesh.face(face))
 }
 
 /// How many vertices, directed edges, undirected edges and inner faces there are.
@@ -66,8 +60,55 @@ pub(crate) fn counts(mesh: &Mesh) -> [usize; 4] {
     ]
 }
 
+/// The data of a vertex, if there is one of this index.
+pub(crate) fn vertex_data(mesh: &Mesh, index: u32) -> Option<u8> {
+    let vertex = vertex(index);
+    if !has_vertex(mesh, vertex) {
+        return None;
+    }
+    Some(*mesh.vertex(vertex).data())
+}
+
+/// Whether there is a vertex of this index, without an edge.
+pub(crate) fn is_alone(mesh: &Mesh, vertex: FixedVertexHandle) -> bool {
+    has_vertex(mesh, vertex) && mesh.vertex(vertex).out_edge().is_none()
+}
+
+/// The data of an edge, first what both its directions have.
+pub(crate) fn edge_data(mesh: &Mesh, edge: FixedDirectedEdgeHandle) -> Option<(u32, u16)> {
+    if !has_edge(mesh, edge) {
+        return None;
+    }
+    let edge = mesh.directed_edge(edge);
+    Some((*edge.as_undirected().data(), *edge.data()))
+}
+
+/// The data of a face, if there is one of this index.
+pub(crate) fn face_data(mesh: &Mesh, index: u32) -> Option<u64> {
+    let face = FixedFaceHandle::from_index(index);
+    if !has_face(mesh, face) {
+        return None;
+    }
+    Some(*mesh.face(face).data())
+}
+
 /// The data of both ends of an edge.
 pub(crate) fn ends(edge: Edge<'_>) -> (u8, u8) {
     let [from, to] = edge.vertices();
     (*from.data(), *to.data())
+}
+
+/// The same, of an edge that is sought first.
+pub(crate) fn ends_at(mesh: &Mesh, edge: FixedDirectedEdgeHandle) -> Option<(u8, u8)> {
+    if !has_edge(mesh, edge) {
+        return None;
+    }
+    Some(ends(mesh.directed_edge(edge)))
+}
+
+pub(crate) fn is_outer(mesh: &Mesh, edge: FixedDirectedEdgeHandle) -> Option<bool> {
+    if !has_edge(mesh, edge) {
+        return None;
+    }
+    Some(mesh.directed_edge(edge).is_outer_edge())
 }

@@ -5,45 +5,85 @@ ghost use Rattle.half_edge_links.specs.Peel.{turn};
 
 use crate::careful::{append_unconnected_vertex, extend_line, insert_into_triangle, split_edge};
 use crate::growth::{one_edge, one_face, two_faces};
-use crate::reads::{Mesh, counts, directed, has_edge, has_vertex, vertex_at};
+use crate::reads::{
+    Mesh, counts, directed, edge_at, has_edge, has_vertex, is_alone, vertex, vertex_data,
+};
 use half_edge_mesh::{
     FixedDirectedEdgeHandle, FixedFaceHandle, FixedVertexHandle, IsolateVertexResult,
 };
 use half_edge_views::MeshViews;
-use std::test::Fail;
 
-fn swap_remove_vertex(mesh: &mut Mesh, vertex: FixedVertexHandle) -> Result<u8, Fail> {
+fn swap_remove_vertex(mesh: &mut Mesh, vertex: FixedVertexHandle) -> Option<u8> {
     if !has_vertex(mesh, vertex) || mesh.vertex(vertex).out_edge().is_some() {
-        return Err(Fail::new("no vertex without edges"));
+        return None;
     }
-    Ok(mesh.swap_remove_vertex(vertex))
+    Some(mesh.swap_remove_vertex(vertex))
 }
 
 // Removes a vertex that is between two others of a line.
-fn remove_from_line(mesh: &mut Mesh, vertex: FixedVertexHandle) -> Result<u8, Fail> {
+fn remove_from_line(mesh: &mut Mesh, vertex: FixedVertexHandle) -> Option<u8> {
     if mesh.num_inner_faces() > 0 || !has_vertex(mesh, vertex) {
-        return Err(Fail::new("no line"));
+        return None;
     }
     let Some(out) = mesh.vertex(vertex).out_edge() else {
-        return Err(Fail::new("no edge"));
+        return None;
     };
     if out.ccw().ccw().index != out.index
         || out.to().index == out.ccw().to().index
         || out.prev().index == out.rev().index
     {
-        return Err(Fail::new("no middle vertex"));
+        return None;
     }
-    Ok(mesh.remove_when_degenerate(vertex))
+    Some(mesh.remove_when_degenerate(vertex))
 }
 
-// Takes the only face of a corner of the hull away.
-fn disconnect_corner(mesh: &mut Mesh, side: FixedDirectedEdgeHandle) -> IsolateVertexResult
+// Whether an edge comes before a side that is there.
+fn is_before(mesh: &Mesh, edge: FixedDirectedEdgeHandle, side: FixedDirectedEdgeHandle) -> bool
+    ensures within { IsTrue result → side < length mesh.now.directed }
+    ensures before { IsTrue result → edge ≡ prev mesh.now.mesh side }
+{
+    has_edge(mesh, side) && mesh.directed_edge(side).prev().index == edge.index()
+}
+
+// Whether an edge has an inner face, as the only one between it and the next edge round its start.
+fn has_lone_face(mesh: &Mesh, edge: FixedDirectedEdgeHandle) -> bool
+    ensures inner { IsTrue result → 0 < face mesh.now.mesh edge }
+    ensures outer { IsTrue result → face mesh.now.mesh (rev edge) ≡ 0 }
+    ensures last { IsTrue result → face mesh.now.mesh (turn mesh.now.mesh edge) ≡ 0 }
+{
+    if !has_edge(mesh, edge) {
+        return false;
+    }
+    let edge = mesh.directed_edge(edge);
+    !edge.is_outer_edge() && edge.rev().is_outer_edge() && edge.ccw().is_outer_edge()
+}
+
+// Whether the outer face goes from an edge to the next one round its start, which is not the only one at its end.
+fn leaves_more(mesh: &Mesh, edge: FixedDirectedEdgeHandle) -> bool
+    ensures gap { let m = mesh.now.mesh in IsTrue result → next m (rev edge) ≡ turn m edge }
+    ensures far { let m = mesh.now.mesh in IsTrue result → next m (turn m edge) ≢ rev (turn m edge) }
+{
+    if !has_edge(mesh, edge) {
+        return false;
+    }
+    let edge = mesh.directed_edge(edge);
+    let last = edge.ccw();
+    edge.rev().next().index == last.index && last.next().index != last.rev().index
+}
+
+// Takes the only face of a corner of the hull away, which starts `spoke` and is opposite `side`.
+fn disconnect_corner(
+    mesh: &mut Mesh,
+    spoke: FixedDirectedEdgeHandle,
+    side: FixedDirectedEdgeHandle,
+) -> IsolateVertexResult
     requires within { side < length mesh.old.directed }
-    requires inner { let m = mesh.old.mesh in 0 < face m (prev m side) }
-    requires outer { let m = mesh.old.mesh in face m (rev (prev m side)) ≡ 0 }
-    requires last { let m = mesh.old.mesh in face m (turn m (prev m side)) ≡ 0 }
-    requires gap { let m = mesh.old.mesh in next m (rev (prev m side)) ≡ turn m (prev m side) }
-    requires far { let m = mesh.old.mesh in next m (turn m (prev m side)) ≢ rev (turn m (prev m side)) }
+    requires before { spoke ≡ prev mesh.old.mesh side }
+    requires inner { 0 < face mesh.old.mesh spoke }
+    requires outer { face mesh.old.mesh (rev spoke) ≡ 0 }
+    requires last { let m = mesh.old.mesh in face m (turn m spoke) ≡ 0 }
+    requires gap { let m = mesh.old.mesh in next m (rev spoke) ≡ turn m spoke }
+    requires far { let m = mesh.old.mesh in next m (turn m spoke) ≢ rev (turn m spoke) }
 {
     let _whole = mesh.num_vertices();
     mesh.disconnect_edge_strip(&[side])
@@ -53,73 +93,106 @@ fn disconnect_corner(mesh: &mut Mesh, side: FixedDirectedEdgeHandle) -> IsolateV
 fn disconnect_opposite_corner(
     mesh: &mut Mesh,
     side: FixedDirectedEdgeHandle,
-) -> Result<IsolateVertexResult, Fail> {
-    if !has_edge(mesh, side) {
-        return Err(Fail::new("no such edge"));
+) -> Option<IsolateVertexResult> {
+    let spoke = edge_at(mesh, side)?.prev().fix();
+    if !is_before(mesh, spoke, side) || !has_lone_face(mesh, spoke) {
+        return None;
     }
-    let spoke = mesh.directed_edge(side).prev();
-    let last = spoke.ccw();
-    if spoke.is_outer_edge() || !spoke.rev().is_outer_edge() || !last.is_outer_edge() {
-        return Err(Fail::new("no corner with one face"));
+    if !leaves_more(mesh, spoke) {
+        return None;
     }
-    if spoke.rev().next().index != last.index || last.next().index == last.rev().index {
-        return Err(Fail::new("no corner of a larger mesh"));
-    }
-    Ok(disconnect_corner(mesh, side))
+    Some(disconnect_corner(mesh, spoke, side))
 }
 
-// Takes the edges of a vertex away whose three faces have the sides `a`, `b` and `c` opposite it, the first of them
-// that of `spoke`.
-fn isolate_inner(
+// The edges after an edge, round its start and in its face.
+fn after(
+    mesh: &Mesh,
+    edge: FixedDirectedEdgeHandle,
+) -> Option<(FixedDirectedEdgeHandle, FixedDirectedEdgeHandle)> {
+    let edge = edge_at(mesh, edge)?;
+    Some((edge.ccw().fix(), edge.next().fix()))
+}
+
+// An edge that starts at a vertex.
+fn out_edge(mesh: &Mesh, vertex: FixedVertexHandle) -> Option<FixedDirectedEdgeHandle> {
+    if !has_vertex(mesh, vertex) {
+        return None;
+    }
+    let Some(edge) = mesh.vertex(vertex).out_edge() else {
+        return None;
+    };
+    Some(edge.fix())
+}
+
+// Whether an edge is there and starts at this vertex.
+fn starts_at(mesh: &Mesh, edge: FixedDirectedEdgeHandle, vertex: FixedVertexHandle) -> bool
+    ensures within { IsTrue result → edge < length mesh.now.directed }
+    ensures starts { IsTrue result → origin mesh.now.mesh edge ≡ vertex }
+{
+    has_edge(mesh, edge) && mesh.directed_edge(edge).from().index == vertex.index()
+}
+
+// Whether two edges end at different vertices.
+fn end_apart(mesh: &Mesh, edge: FixedDirectedEdgeHandle, other: FixedDirectedEdgeHandle) -> bool
+    ensures { let m = mesh.now.mesh in IsTrue result → origin m (rev other) ≢ origin m (rev edge) }
+{
+    has_edge(mesh, edge)
+        && has_edge(mesh, other)
+        && mesh.directed_edge(other).to().index != mesh.directed_edge(edge).to().index
+}
+
+// Whether an edge has an inner face, in which this side follows it, and is followed round its start by another edge.
+fn is_spoke(
+    mesh: &Mesh,
+    edge: FixedDirectedEdgeHandle,
+    side: FixedDirectedEdgeHandle,
+    after: FixedDirectedEdgeHandle,
+) -> bool
+    ensures inner { IsTrue result → 0 < face mesh.now.mesh edge }
+    ensures side { IsTrue result → side ≡ next mesh.now.mesh edge }
+    ensures after { IsTrue result → after ≡ turn mesh.now.mesh edge }
+{
+    if !has_edge(mesh, edge) {
+        return false;
+    }
+    let edge = mesh.directed_edge(edge);
+    !edge.is_outer_edge() && edge.next().index == side.index() && edge.ccw().index == after.index()
+}
+
+// Takes the edges of a vertex away that has these three, with these sides opposite it in its faces.
+fn isolate_between_three(
     mesh: &mut Mesh,
-    spoke: FixedDirectedEdgeHandle,
-    a: FixedDirectedEdgeHandle,
-    b: FixedDirectedEdgeHandle,
-    c: FixedDirectedEdgeHandle,
+    spokes: [FixedDirectedEdgeHandle; 3],
+    sides: [FixedDirectedEdgeHandle; 3],
     vertex: FixedVertexHandle,
 ) -> IsolateVertexResult
-    requires within { spoke < length mesh.old.directed }
-    requires starts { origin mesh.old.mesh spoke ≡ vertex }
-    requires first { let m = mesh.old.mesh in 0 < face m spoke }
-    requires second { let m = mesh.old.mesh in 0 < face m (turn m spoke) }
-    requires third { let m = mesh.old.mesh in 0 < face m (turn m (turn m spoke)) }
-    requires round { let m = mesh.old.mesh in turn m (turn m (turn m spoke)) ≡ spoke }
-    requires at_a { a ≡ next mesh.old.mesh spoke }
-    requires at_b { let m = mesh.old.mesh in b ≡ next m (turn m spoke) }
-    requires at_c { let m = mesh.old.mesh in c ≡ next m (turn m (turn m spoke)) }
+    requires within { slice_index spokes 0 < length mesh.old.directed }
+    requires starts { origin mesh.old.mesh (slice_index spokes 0) ≡ vertex }
+    requires first { 0 < face mesh.old.mesh (slice_index spokes 0) }
+    requires second { 0 < face mesh.old.mesh (slice_index spokes 1) }
+    requires third { 0 < face mesh.old.mesh (slice_index spokes 2) }
+    requires at_second { slice_index spokes 1 ≡ turn mesh.old.mesh (slice_index spokes 0) }
+    requires at_third { slice_index spokes 2 ≡ turn mesh.old.mesh (slice_index spokes 1) }
+    requires round { slice_index spokes 0 ≡ turn mesh.old.mesh (slice_index spokes 2) }
+    requires sides { let m = mesh.old.mesh in sides ≡ next m (slice_index spokes 0) ∷ next m (slice_index spokes 1) ∷ next m (slice_index spokes 2) ∷ [] }
 {
     let _whole = mesh.num_vertices();
-    mesh.isolate_vertex_and_fill_hole(&[a, b, c], vertex)
+    mesh.isolate_vertex_and_fill_hole(&sides, vertex)
 }
 
 // The same, where a vertex has three inner faces.
-fn isolate_vertex(mesh: &mut Mesh, vertex: FixedVertexHandle) -> Result<IsolateVertexResult, Fail> {
-    if !has_vertex(mesh, vertex) {
-        return Err(Fail::new("no such vertex"));
+fn isolate_vertex(mesh: &mut Mesh, vertex: FixedVertexHandle) -> Option<IsolateVertexResult> {
+    let a = out_edge(mesh, vertex)?;
+    let (b, ab) = after(mesh, a)?;
+    let (c, bc) = after(mesh, b)?;
+    let (_, ca) = after(mesh, c)?;
+    if !starts_at(mesh, a, vertex) {
+        return None;
     }
-    let Some(first) = mesh.vertex(vertex).out_edge() else {
-        return Err(Fail::new("no edge"));
-    };
-    let (second, third) = (first.ccw(), first.ccw().ccw());
-    if first.from().index != vertex.index() || third.ccw().index != first.index {
-        return Err(Fail::new("no three edges"));
+    if !is_spoke(mesh, a, ab, b) || !is_spoke(mesh, b, bc, c) || !is_spoke(mesh, c, ca, a) {
+        return None;
     }
-    if first.is_outer_edge() || second.is_outer_edge() || third.is_outer_edge() {
-        return Err(Fail::new("no inner vertex"));
-    }
-    let spoke = first.fix();
-    let (a, b, c) = (first.next().fix(), second.next().fix(), third.next().fix());
-    Ok(isolate_inner(mesh, spoke, a, b, c, vertex))
-}
-
-// Whether an edge has an inner face, and is followed round its start by another one.
-fn are_spokes(mesh: &Mesh, edge: FixedDirectedEdgeHandle, after: FixedDirectedEdgeHandle) -> bool
-    requires { edge < length mesh.now.directed }
-    ensures inner { IsTrue result → 0 < face mesh.now.mesh edge }
-    ensures after { IsTrue result → after ≡ turn mesh.now.mesh edge }
-{
-    let edge = mesh.directed_edge(edge);
-    !edge.is_outer_edge() && edge.ccw().index == after.index()
+    Some(isolate_between_three(mesh, [a, b, c], [ab, bc, ca], vertex))
 }
 
 // Takes the edges of a vertex away that has these four, with these sides opposite it in its faces.
@@ -138,10 +211,9 @@ fn isolate_between_four(
     requires at_second { slice_index spokes 1 ≡ turn mesh.old.mesh (slice_index spokes 0) }
     requires at_third { slice_index spokes 2 ≡ turn mesh.old.mesh (slice_index spokes 1) }
     requires at_fourth { slice_index spokes 3 ≡ turn mesh.old.mesh (slice_index spokes 2) }
-    requires round { turn mesh.old.mesh (slice_index spokes 3) ≡ slice_index spokes 0 }
+    requires round { slice_index spokes 0 ≡ turn mesh.old.mesh (slice_index spokes 3) }
     requires corners { let m = mesh.old.mesh in origin m (rev (slice_index spokes 2)) ≢ origin m (rev (slice_index spokes 0)) }
     requires sides { let m = mesh.old.mesh in sides ≡ next m (slice_index spokes 0) ∷ next m (slice_index spokes 1) ∷ next m (slice_index spokes 2) ∷ next m (slice_index spokes 3) ∷ [] }
-    ensures { length mesh.new.vertices ≡ length mesh.old.vertices }
 {
     let _whole = mesh.num_vertices();
     mesh.isolate_vertex_and_fill_hole(&sides, vertex)
@@ -151,87 +223,90 @@ fn isolate_between_four(
 fn isolate_vertex_between_four(
     mesh: &mut Mesh,
     vertex: FixedVertexHandle,
-) -> Result<IsolateVertexResult, Fail> {
-    if !has_vertex(mesh, vertex) {
-        return Err(Fail::new("no such vertex"));
+) -> Option<IsolateVertexResult> {
+    let a = out_edge(mesh, vertex)?;
+    let (b, ab) = after(mesh, a)?;
+    let (c, bc) = after(mesh, b)?;
+    let (d, cd) = after(mesh, c)?;
+    let (_, da) = after(mesh, d)?;
+    if !starts_at(mesh, a, vertex) || !end_apart(mesh, a, c) {
+        return None;
     }
-    let Some(first) = mesh.vertex(vertex).out_edge() else {
-        return Err(Fail::new("no edge"));
-    };
-    let second = first.ccw();
-    let third = second.ccw();
-    let fourth = third.ccw();
-    if first.from().index != vertex.index() || third.to().index == first.to().index {
-        return Err(Fail::new("no four neighbors"));
+    if !is_spoke(mesh, a, ab, b) || !is_spoke(mesh, b, bc, c) {
+        return None;
     }
-    let [a, b, c, d] = [first.fix(), second.fix(), third.fix(), fourth.fix()];
-    let sides = [
-        first.next().fix(),
-        second.next().fix(),
-        third.next().fix(),
-        fourth.next().fix(),
-    ];
-    if !are_spokes(mesh, a, b) || !are_spokes(mesh, b, c) {
-        return Err(Fail::new("no inner vertex"));
+    if !is_spoke(mesh, c, cd, d) || !is_spoke(mesh, d, da, a) {
+        return None;
     }
-    if !are_spokes(mesh, c, d) || !are_spokes(mesh, d, a) {
-        return Err(Fail::new("no round of four edges"));
-    }
-    Ok(isolate_between_four(mesh, [a, b, c, d], sides, vertex))
+    Some(isolate_between_four(mesh, [a, b, c, d], [ab, bc, cd, da], vertex))
 }
 
 #[test]
-fn the_last_vertex_takes_a_freed_index(rt: HostRuntime) -> Result<(), Fail> {
+fn the_last_vertex_takes_a_freed_index(rt: HostRuntime) {
     let mut mesh = Mesh::new(rt.alloc());
-    let a = append_unconnected_vertex(&mut mesh, 7)?;
-    append_unconnected_vertex(&mut mesh, 8)?;
-    assert_eq!(rt; swap_remove_vertex(&mut mesh, a)?, 7);
-    assert_eq!(rt; counts(&mesh), [1usize, 0, 0, 0]);
-    assert_eq!(rt; *vertex_at(&mesh, a)?.data(), 8);
-    Ok(())
+    append_unconnected_vertex(&mut mesh, 7);
+    append_unconnected_vertex(&mut mesh, 8);
+    let removed = swap_remove_vertex(&mut mesh, vertex(0));
+    assert_eq!(rt;
+        (removed, counts(&mesh), vertex_data(&mesh, 0)),
+        (Some(7), [1usize, 0, 0, 0], Some(8))
+    );
 }
 
 #[test]
-fn a_middle_vertex_leaves_a_line(rt: HostRuntime) -> Result<(), Fail> {
-    let mut mesh = one_edge(rt.alloc())?;
-    let b = FixedVertexHandle::from_index(1);
-    extend_line(&mut mesh, b, 3)?;
-    assert_eq!(rt; remove_from_line(&mut mesh, b)?, 2);
-    assert_eq!(rt; counts(&mesh), [2usize, 2, 1, 0]);
-    assert_eq!(rt; *vertex_at(&mesh, b)?.data(), 3);
-    Ok(())
+fn a_middle_vertex_leaves_a_line(rt: HostRuntime) {
+    let mut mesh = one_edge(rt.alloc());
+    extend_line(&mut mesh, vertex(1), 3);
+    let removed = remove_from_line(&mut mesh, vertex(1));
+    assert_eq!(rt;
+        (removed, counts(&mesh), vertex_data(&mesh, 1)),
+        (Some(2), [2usize, 2, 1, 0], Some(3))
+    );
 }
 
-#[test]
-fn a_corner_of_a_triangle_loses_its_edges(rt: HostRuntime) -> Result<(), Fail> {
-    let mut mesh = one_face(rt.alloc())?;
-    let last = FixedVertexHandle::from_index(2);
-    let done = disconnect_opposite_corner(&mut mesh, directed(0))?;
-    assert!(rt; done == IsolateVertexResult { vertex: last });
+/// The index of a vertex that has lost its edges, after it is cleaned up.
+fn cleaned_up(mesh: &mut Mesh, done: Option<IsolateVertexResult>) -> Option<u32> {
+    let done = done?;
+    let index = done.vertex.index();
     mesh.cleanup_isolated_vertex(done);
-    assert_eq!(rt; counts(&mesh), [3usize, 2, 1, 0]);
-    Ok(())
+    Some(index)
+}
+
+/// A vertex that has lost its edges.
+fn lost(index: u32) -> Option<IsolateVertexResult> {
+    Some(IsolateVertexResult {
+        vertex: vertex(index),
+    })
 }
 
 #[test]
-fn an_inner_vertex_leaves_one_face(rt: HostRuntime) -> Result<(), Fail> {
-    let mut mesh = one_face(rt.alloc())?;
-    let inner = insert_into_triangle(&mut mesh, 4, FixedFaceHandle::from_index(1))?;
-    let done = isolate_vertex(&mut mesh, inner)?;
-    assert!(rt; done == IsolateVertexResult { vertex: inner });
-    assert_eq!(rt; counts(&mesh), [4usize, 6, 3, 1]);
-    assert!(rt; vertex_at(&mesh, inner)?.out_edge().is_none());
-    assert_eq!(rt; swap_remove_vertex(&mut mesh, inner)?, 4);
-    Ok(())
+fn a_corner_of_a_triangle_loses_its_edges(rt: HostRuntime) {
+    let mut mesh = one_face(rt.alloc());
+    let done = disconnect_opposite_corner(&mut mesh, directed(0));
+    let index = cleaned_up(&mut mesh, done);
+    assert_eq!(rt; (index, counts(&mesh)), (Some(2), [3usize, 2, 1, 0]));
 }
 
 #[test]
-fn a_fan_fills_a_hole_of_four_edges(rt: HostRuntime) -> Result<(), Fail> {
-    let mut mesh = two_faces(rt.alloc())?;
-    let (inner, _) = split_edge(&mut mesh, directed(2), 5)?;
-    let done = isolate_vertex_between_four(&mut mesh, inner)?;
-    assert!(rt; done == IsolateVertexResult { vertex: inner });
-    assert_eq!(rt; counts(&mesh), [5usize, 10, 5, 2]);
-    assert!(rt; vertex_at(&mesh, inner)?.out_edge().is_none());
-    Ok(())
+fn an_inner_vertex_leaves_one_face(rt: HostRuntime) {
+    let mut mesh = one_face(rt.alloc());
+    insert_into_triangle(&mut mesh, 4, FixedFaceHandle::from_index(1));
+    let done = isolate_vertex(&mut mesh, vertex(3));
+    assert_eq!(rt;
+        (done, counts(&mesh), is_alone(&mesh, vertex(3))),
+        (lost(3), [4usize, 6, 3, 1], true)
+    );
+    let removed = swap_remove_vertex(&mut mesh, vertex(3));
+    assert!(rt; removed == Some(4));
+}
+
+#[test]
+fn a_fan_fills_a_hole_of_four_edges(rt: HostRuntime) {
+    let mut mesh = two_faces(rt.alloc());
+    split_edge(&mut mesh, directed(2), 5);
+    let done = isolate_vertex_between_four(&mut mesh, vertex(4));
+    assert_eq!(rt;
+        (done, counts(&mesh), is_alone(&mesh, vertex(4))),
+        (lost(4), [5usize, 10, 5, 2], true)
+    );
 }

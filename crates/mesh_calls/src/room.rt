@@ -1,37 +1,52 @@
 //! Room for a mesh, made and refused.
 
 use crate::growth::{one_edge, one_face};
-use crate::reads::{Mesh, counts, edge_at, vertex_at};
-use half_edge_mesh::{
-    Dcel, FixedDirectedEdgeHandle, FixedVertexHandle, MAX_ELEMENTS, ReserveError,
-};
-use std::test::Fail;
+use crate::reads::{Mesh, counts, directed, edge_data, vertex_data};
+use half_edge_mesh::{Dcel, MAX_ELEMENTS, ReserveError};
+use std::alloc::Global;
 
 #[test]
-fn room_is_refused_past_the_limit(rt: HostRuntime) -> Result<(), Fail> {
+fn room_is_refused_past_the_limit(rt: HostRuntime) {
     let mut mesh = Mesh::new(rt.alloc());
     assert_eq!(rt;
         [
             mesh.reserve_capacity(MAX_ELEMENTS + 1, 0, 1),
             mesh.reserve_capacity(0, MAX_ELEMENTS / 2 + 1, 1),
             mesh.reserve_capacity(0, 0, MAX_ELEMENTS + 1),
+            mesh.reserve_capacity(4, 6, 4),
         ],
-        [Err(ReserveError::TooMany); 3]
+        [
+            Err(ReserveError::TooMany),
+            Err(ReserveError::TooMany),
+            Err(ReserveError::TooMany),
+            Ok(()),
+        ]
     );
-    assert_eq!(rt; mesh.reserve_capacity(4, 6, 4), Ok(()));
-    Ok(())
+}
+
+/// How many vertices a mesh with so much room has.
+fn vertices_with_capacity(
+    alloc: Global,
+    vertices: usize,
+    edges: usize,
+    faces: usize,
+) -> Result<usize, ReserveError> {
+    Ok(Mesh::with_capacity(alloc, vertices, edges, faces)?.num_vertices())
 }
 
 #[test]
 fn an_empty_mesh_with_room(rt: HostRuntime) {
-    let none = Mesh::with_capacity(rt.alloc(), 0, 0, 0);
-    assert!(rt; none.is_ok());
-    let some = Mesh::with_capacity(rt.alloc(), 3, 3, 2);
-    assert!(rt; matches!(&some, Ok(mesh) if mesh.num_vertices() == 0));
-    let too_many = Mesh::with_capacity(rt.alloc(), 0, 2147483648, 0);
-    assert!(rt; matches!(&too_many, Err(ReserveError::TooMany)));
-    let most = Mesh::with_capacity(rt.alloc(), 0, 2147483647, 0);
-    assert!(rt; !matches!(&most, Err(ReserveError::TooMany)));
+    let alloc = rt.alloc();
+    assert_eq!(rt;
+        [
+            vertices_with_capacity(alloc, 0, 0, 0),
+            vertices_with_capacity(alloc, 3, 3, 2),
+            vertices_with_capacity(alloc, 0, 2147483648, 0),
+        ],
+        [Ok(0), Ok(0), Err(ReserveError::TooMany)]
+    );
+    let most = vertices_with_capacity(alloc, 0, 2147483647, 0);
+    assert!(rt; most != Err(ReserveError::TooMany));
 }
 
 // 256 MB, so that some millions of them fit nowhere.
@@ -39,45 +54,74 @@ type Large = [u64; 33554432];
 
 const MILLIONS: usize = 4000000;
 
+/// What a request for room tells, and how much there is after it.
+type Answer = (Result<(), ReserveError>, usize);
+
+fn ask_for_vertices(alloc: Global) -> Answer {
+    let mut mesh: Dcel<Large, u16, u32, u64> = Dcel::new(alloc);
+    let answer = mesh.reserve_capacity(MILLIONS, 0, 1);
+    (answer, mesh.num_vertices())
+}
+
+fn ask_for_directed_edges(alloc: Global) -> Answer {
+    let mut mesh: Dcel<u8, Large, u32, u64> = Dcel::new(alloc);
+    let answer = mesh.reserve_capacity(0, MILLIONS, 1);
+    (answer, mesh.num_directed_edges())
+}
+
+fn ask_for_undirected_edges(alloc: Global) -> Answer {
+    let mut mesh: Dcel<u8, u16, Large, u64> = Dcel::new(alloc);
+    let answer = mesh.reserve_capacity(0, MILLIONS, 1);
+    (answer, mesh.num_undirected_edges())
+}
+
 #[test]
 fn each_list_of_data_may_be_refused(rt: HostRuntime) {
-    let mut vertices: Dcel<Large, u16, u32, u64> = Dcel::new(rt.alloc());
-    let mut directed: Dcel<u8, Large, u32, u64> = Dcel::new(rt.alloc());
-    let mut undirected: Dcel<u8, u16, Large, u64> = Dcel::new(rt.alloc());
+    let alloc = rt.alloc();
     assert_eq!(rt;
         [
-            vertices.reserve_capacity(MILLIONS, 0, 1),
-            directed.reserve_capacity(0, MILLIONS, 1),
-            undirected.reserve_capacity(0, MILLIONS, 1),
+            ask_for_vertices(alloc),
+            ask_for_directed_edges(alloc),
+            ask_for_undirected_edges(alloc),
         ],
-        [Err(ReserveError::OutOfMemory); 3]
+        [(Err(ReserveError::OutOfMemory), 0); 3]
     );
-    assert_eq!(rt; vertices.num_vertices(), 0);
-    assert_eq!(rt; directed.num_directed_edges(), 0);
-    assert_eq!(rt; undirected.num_undirected_edges(), 0);
 }
 
-#[test]
-fn a_refusal_leaves_the_mesh(rt: HostRuntime) -> Result<(), Fail> {
-    let mut mesh = one_edge(rt.alloc())?;
-    assert_eq!(rt;
+/// What three requests for room tell: of too much, of some, and of what there is.
+fn ask_in_turn(mesh: &mut Mesh) -> [Result<(), ReserveError>; 3] {
+    [
         mesh.reserve_capacity(MAX_ELEMENTS + 1, 1, 1),
-        Err(ReserveError::TooMany)
-    );
-    assert!(rt; mesh.reserve_capacity(20, 20, 20) != Err(ReserveError::TooMany));
-    assert_eq!(rt; mesh.reserve_capacity(2, 1, 1), Ok(()));
-    assert_eq!(rt; counts(&mesh), [2usize, 2, 1, 0]);
-    let second = vertex_at(&mesh, FixedVertexHandle::from_index(1))?;
-    assert_eq!(rt; *second.data(), 2);
-    let edge = edge_at(&mesh, FixedDirectedEdgeHandle::from_index(0))?;
-    assert_eq!(rt; *edge.as_undirected().data(), 0);
-    Ok(())
+        mesh.reserve_capacity(20, 20, 20),
+        mesh.reserve_capacity(2, 1, 1),
+    ]
 }
 
 #[test]
-fn clearing_leaves_the_outer_face(rt: HostRuntime) -> Result<(), Fail> {
-    let mut mesh = one_face(rt.alloc())?;
+fn a_refusal_leaves_the_mesh(rt: HostRuntime) {
+    let mut mesh = one_edge(rt.alloc());
+    let [too_much, some, enough] = ask_in_turn(&mut mesh);
+    assert_eq!(rt; [too_much, enough], [Err(ReserveError::TooMany), Ok(())]);
+    assert!(rt; some != Err(ReserveError::TooMany));
+    assert_eq!(rt;
+        (
+            counts(&mesh),
+            vertex_data(&mesh, 1),
+            edge_data(&mesh, directed(0))
+        ),
+        ([2usize, 2, 1, 0], Some(2), Some((0, 0)))
+    );
+}
+
+/// One face, cleared.
+fn cleared(alloc: Global) -> Mesh {
+    let mut mesh = one_face(alloc);
     mesh.clear();
+    mesh
+}
+
+#[test]
+fn clearing_leaves_the_outer_face(rt: HostRuntime) {
+    let mesh = cleared(rt.alloc());
     assert_eq!(rt; (mesh.num_vertices(), mesh.num_faces()), (0, 1));
-    Ok(())
 }

@@ -1,108 +1,169 @@
-//! Handles, and the Voronoi forms of a mesh.
+//! Handles of a mesh.
 
 use crate::growth::{one_edge, one_face};
-use crate::reads::{directed, edge_at, ends, face_at, has_vertex, vertex_at};
+use crate::reads::{Edge, Face, Mesh, directed, edge_at, ends, face_at, has_vertex, vertex};
 use half_edge_mesh::{FixedFaceHandle, FixedVertexHandle};
 use half_edge_views::MeshViews;
-use half_edge_voronoi::{
-    AsVoronoiEdge, AsVoronoiFace, AsVoronoiVertex, VoronoiVertex, VoronoiViews,
-};
-use std::test::Fail;
+use std::alloc::Global;
 
-#[test]
-fn two_vertices_are_joined(rt: HostRuntime) -> Result<(), Fail> {
-    let mesh = one_edge(rt.alloc())?;
-    let edge = edge_at(&mesh, directed(0))?;
+/// Whether an edge is itself, is not its other direction, and is outer with no corner opposite it.
+fn is_outer_itself(edge: Edge<'_>) -> [bool; 4] {
     let again = edge;
-    assert!(rt; edge == again);
-    assert!(rt; edge != edge.rev());
-    assert_eq!(rt; ends(edge), (1, 2));
-    assert!(rt; edge.next() == edge.rev());
-    assert!(rt; edge.prev() == edge.rev());
-    assert!(rt; edge.ccw() == edge);
-    assert!(rt; edge.cw() == edge);
-    assert!(rt; edge.is_outer_edge());
-    assert!(rt; edge.opposite_vertex().is_none());
-    Ok(())
+    [
+        edge == again,
+        edge != edge.rev(),
+        edge.is_outer_edge(),
+        edge.opposite_vertex().is_none(),
+    ]
+}
+
+/// Whether both directions of an edge follow each other, and each is the only one at its start.
+fn goes_there_and_back(edge: Edge<'_>) -> [bool; 4] {
+    [
+        edge.next() == edge.rev(),
+        edge.prev() == edge.rev(),
+        edge.ccw() == edge,
+        edge.cw() == edge,
+    ]
+}
+
+/// All of that, with the data of its ends, of edge 0.
+fn first_edge(mesh: &Mesh) -> Option<((u8, u8), [bool; 4], [bool; 4])> {
+    let edge = edge_at(mesh, directed(0))?;
+    Some((ends(edge), is_outer_itself(edge), goes_there_and_back(edge)))
 }
 
 #[test]
-fn one_triangle_has_a_face_and_a_hull(rt: HostRuntime) -> Result<(), Fail> {
-    let mesh = one_face(rt.alloc())?;
-    let face = face_at(&mesh, FixedFaceHandle::from_index(1))?;
-    assert!(rt; !face.is_outer());
+fn two_vertices_are_joined(rt: HostRuntime) {
+    let mesh = one_edge(rt.alloc());
+    assert_eq!(rt; first_edge(&mesh), Some(((1, 2), [true; 4], [true; 4])));
+}
+
+/// The data of the corners of an inner face.
+fn corners(face: Face<'_>) -> Option<[u8; 3]> {
+    if face.is_outer() {
+        return None;
+    }
     let [a, b, c] = face.vertices();
-    assert_eq!(rt; [*a.data(), *b.data(), *c.data()], [1u8, 2, 3]);
+    Some([*a.data(), *b.data(), *c.data()])
+}
+
+/// Whether the edges of an inner face follow each other.
+fn has_round(face: Face<'_>) -> Option<[bool; 3]> {
+    if face.is_outer() {
+        return None;
+    }
     let [ab, bc, ca] = face.adjacent_edges();
-    assert!(rt; ab.next() == bc);
-    assert!(rt; bc.next() == ca);
-    assert!(rt; ab.face() == face);
-    assert!(rt; ab.rev().face().is_outer());
-    assert!(rt; ab.opposite_vertex() == Some(c));
-    assert!(rt; ab.as_undirected().as_directed() == ab);
-    assert!(rt; mesh.convex_hull().next().is_some());
-    assert!(rt; a.out_edges().next().is_some());
-    assert!(rt; mesh.inner_faces().next() == Some(face));
-    assert!(rt; mesh.faces().next() == Some(mesh.outer_face()));
-    Ok(())
+    Some([ab.next() == bc, bc.next() == ca, ca.next() == ab])
+}
+
+/// Whether an edge of one face has it on its left, the outer one on its right, and is the first of its directions.
+fn is_of_hull(edge: Edge<'_>, face: Face<'_>) -> [bool; 3] {
+    [
+        edge.face() == face,
+        edge.rev().face().is_outer(),
+        edge.as_undirected().as_directed() == edge,
+    ]
+}
+
+/// The same of the first edge of an inner face.
+fn is_first_of_hull(face: Face<'_>) -> Option<[bool; 3]> {
+    if face.is_outer() {
+        return None;
+    }
+    let [ab, _, _] = face.adjacent_edges();
+    Some(is_of_hull(ab, face))
+}
+
+/// Whether the last corner of an inner face is opposite its first edge.
+fn is_last_opposite(face: Face<'_>) -> Option<bool> {
+    if face.is_outer() {
+        return None;
+    }
+    let [_, _, c] = face.vertices();
+    let [ab, _, _] = face.adjacent_edges();
+    Some(ab.opposite_vertex() == Some(c))
+}
+
+/// Whether the first inner face and the first face of all are this one and the outer one.
+fn is_first(mesh: &Mesh, face: Face<'_>) -> [bool; 2] {
+    [
+        mesh.inner_faces().next() == Some(face),
+        mesh.faces().next() == Some(mesh.outer_face()),
+    ]
+}
+
+/// Whether the hull and the first vertex have an edge.
+fn have_edges(mesh: &Mesh) -> [bool; 2] {
+    let first = vertex(0);
+    [
+        mesh.convex_hull().next().is_some(),
+        has_vertex(mesh, first) && mesh.vertex(first).out_edges().next().is_some(),
+    ]
+}
+
+/// The corners of face 1, and whether it has a round of edges with the last corner opposite the first of them.
+fn first_face(mesh: &Mesh) -> Option<([u8; 3], [bool; 3], bool)> {
+    let face = face_at(mesh, FixedFaceHandle::from_index(1))?;
+    Some((corners(face)?, has_round(face)?, is_last_opposite(face)?))
 }
 
 #[test]
-fn neighbors_are_found_both_ways(rt: HostRuntime) -> Result<(), Fail> {
-    let mesh = one_face(rt.alloc())?;
-    let a = FixedVertexHandle::from_index(0);
-    let b = FixedVertexHandle::from_index(1);
-    assert!(rt; has_vertex(&mesh, a));
-    assert!(rt; has_vertex(&mesh, b));
-    let there = mesh.get_edge_from_neighbors(a, b).ok_or("not joined")?;
-    let back = mesh.get_edge_from_neighbors(b, a).ok_or("not joined")?;
-    assert!(rt; there.rev() == back);
-    assert!(rt; mesh.get_edge_from_neighbors(a, a).is_none());
-    Ok(())
+fn one_triangle_has_a_face(rt: HostRuntime) {
+    let mesh = one_face(rt.alloc());
+    assert_eq!(rt; first_face(&mesh), Some(([1, 2, 3], [true; 3], true)));
+}
+
+/// Whether the hull is that of face 1, which is the first one beside the outer face, and the first vertex has an edge.
+fn has_hull(mesh: &Mesh) -> Option<([bool; 3], [bool; 2], [bool; 2])> {
+    let face = face_at(mesh, FixedFaceHandle::from_index(1))?;
+    Some((
+        is_first_of_hull(face)?,
+        is_first(mesh, face),
+        have_edges(mesh),
+    ))
 }
 
 #[test]
-fn two_vertices_have_two_far_ends(rt: HostRuntime) -> Result<(), Fail> {
-    let mesh = one_edge(rt.alloc())?;
-    let edge = mesh.undirected_voronoi_edges().next().ok_or("no edge")?;
-    assert!(rt; edge.as_delaunay_edge() == edge_at(&mesh, directed(0))?.as_undirected());
-    let [from, to] = edge.vertices();
-    assert!(rt; from == VoronoiVertex::Outer(edge.as_directed()));
-    assert!(rt; to == VoronoiVertex::Outer(edge.as_directed().rev()));
-    assert!(rt; from.as_delaunay_face().is_none());
-    assert!(rt; to.out_edge().is_none());
-    Ok(())
+fn one_triangle_has_a_hull(rt: HostRuntime) {
+    let mesh = one_face(rt.alloc());
+    assert_eq!(rt; has_hull(&mesh), Some(([true; 3], [true; 2], [true; 2])));
+}
+
+/// Whether both directions of an edge between two vertices are found, and none from a vertex to itself.
+fn finds_both_ways(mesh: &Mesh, a: FixedVertexHandle, b: FixedVertexHandle) -> Option<[bool; 2]> {
+    if !has_vertex(mesh, a) || !has_vertex(mesh, b) {
+        return None;
+    }
+    let there = mesh.get_edge_from_neighbors(a, b)?;
+    let back = mesh.get_edge_from_neighbors(b, a)?;
+    Some([
+        there.rev() == back,
+        mesh.get_edge_from_neighbors(a, a).is_none(),
+    ])
 }
 
 #[test]
-fn one_face_has_a_vertex_with_three_edges(rt: HostRuntime) -> Result<(), Fail> {
-    let mesh = one_face(rt.alloc())?;
-    let face = face_at(&mesh, FixedFaceHandle::from_index(1))?;
-    assert!(rt; !face.is_outer());
-    let centre = face.as_voronoi_vertex();
-    assert!(rt; centre.as_delaunay_face() == Some(face));
-    let [first, second, third] = centre.out_edges();
-    assert!(rt; centre.out_edge() == Some(first));
-    assert!(rt; first.as_delaunay_edge().next() == second.as_delaunay_edge());
-    assert!(rt; third.from() == centre);
-    assert!(rt; third.to() == VoronoiVertex::Outer(third.rev()));
-    assert!(rt;
-        third.rev().as_undirected() == third.as_delaunay_edge().as_undirected().as_voronoi_edge()
+fn neighbors_are_found_both_ways(rt: HostRuntime) {
+    let mesh = one_face(rt.alloc());
+    assert_eq!(rt;
+        finds_both_ways(&mesh, vertex(0), vertex(1)),
+        Some([true; 2])
     );
-    assert!(rt; third.next().prev() == third);
-    assert!(rt; third.face() == third.as_delaunay_edge().from().as_voronoi_face());
-    assert!(rt; third.face().as_delaunay_vertex() == third.as_delaunay_edge().from());
-    assert!(rt; third.face().adjacent_edges().next().is_some());
-    Ok(())
+}
+
+/// The text that a vertex prints, if there is one of this index.
+fn printed(alloc: Global, mesh: &Mesh, index: u32) -> Option<String> {
+    let vertex = vertex(index);
+    if !has_vertex(mesh, vertex) {
+        return None;
+    }
+    format!(in alloc; "{:?}", mesh.vertex(vertex)).ok()
 }
 
 #[test]
-fn a_handle_prints_its_index(rt: HostRuntime) -> Result<(), Fail> {
-    let mesh = one_edge(rt.alloc())?;
-    let vertex = vertex_at(&mesh, FixedVertexHandle::from_index(1))?;
-    let text = format!(in rt.alloc(); "{vertex:?}")
-        .ok()
-        .ok_or("no memory")?;
-    assert_eq!(rt; text.as_str(), "VertexHandle { index: 1, .. }");
-    Ok(())
+fn a_handle_prints_its_index(rt: HostRuntime) {
+    let mesh = one_edge(rt.alloc());
+    let text = printed(rt.alloc(), &mesh, 1);
+    assert!(rt; text.is_some_and(|text| text.as_str() == "VertexHandle { index: 1, .. }"));
 }
