@@ -21,4 +21,3 @@ pub mod Joining
 pub mod WorkList
 pub mod Delaunay
 pub mod Flips
-pub mod Removing

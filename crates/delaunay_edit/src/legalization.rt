@@ -17,7 +17,7 @@ use half_edge_mesh::{Dcel, FixedDirectedEdgeHandle, FixedUndirectedEdgeHandle};
 use half_edge_views::MeshViews;
 
 // The position where an edge starts.
-pub(crate) fn start_of<V: HasPosition, DE, UE, F>(
+pub fn start_of<V: HasPosition, DE, UE, F>(
     dcel: &Dcel<V, DE, UE, F>,
     edge: FixedDirectedEdgeHandle,
 ) -> Point2<V::Scalar>
@@ -30,10 +30,7 @@ pub(crate) fn start_of<V: HasPosition, DE, UE, F>(
 }
 
 // Whether an edge has the outer face on its left.
-pub(crate) fn is_outer<V, DE, UE, F>(
-    dcel: &Dcel<V, DE, UE, F>,
-    edge: FixedDirectedEdgeHandle,
-) -> bool
+pub fn is_outer<V, DE, UE, F>(dcel: &Dcel<V, DE, UE, F>, edge: FixedDirectedEdgeHandle) -> bool
     requires { edge < length dcel.now.directed }
     ensures { IsTrue result ↔ (face dcel.now.mesh edge ≡ 0) }
 {

@@ -31,7 +31,7 @@ fn is_in_box<S: SpadeNum>(from: Point2<S>, to: Point2<S>, point: Point2<S>) -> b
 }
 
 // Whether a point is strictly within the segment of two others, from which it differs.
-pub(crate) fn is_strictly_within<S: SpadeNum, P: PlaneTests<S>>(
+pub fn is_strictly_within<S: SpadeNum, P: PlaneTests<S>>(
     from: Point2<S>,
     to: Point2<S>,
     point: Point2<S>,
@@ -49,7 +49,7 @@ pub(crate) fn is_strictly_within<S: SpadeNum, P: PlaneTests<S>>(
 }
 
 // Whether three points turn left.
-pub(crate) fn turns_left<S: SpadeNum, P: PlaneTests<S>>(
+pub fn turns_left<S: SpadeNum, P: PlaneTests<S>>(
     a: Point2<S>,
     b: Point2<S>,
     c: Point2<S>,

@@ -1,6 +1,6 @@
 use Rattle.drawn_mesh.proofs.MeshRemovals.{line_plain_removes}
-use Rattle.delaunay_edit.proofs.Removing.{few_edges_of, value_was, outer_stays, line_kept}
-use Rattle.delaunay_edit.proofs.removal_line.remove_on_line.Goals as goal
+use Rattle.delaunay_removal.proofs.Removing.{few_edges_of, value_was, outer_stays, line_kept}
+use Rattle.delaunay_removal.proofs.removal_line.remove_on_line.Goals as goal
 
 pub remove_when_degenerate-value-requires-clause-few : goal.remove_when_degenerate-value-requires-clause-few
 remove_when_degenerate-value-requires-clause-few g c = few_edges_of g.V.HasPosition.place c.args.dcel.now c.requires.kept c.requires.one_face c.args.vertex

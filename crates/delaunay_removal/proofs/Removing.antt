@@ -22,7 +22,7 @@ use Rattle.delaunay_edit.specs.Shape.{IsKept}
 use Rattle.delaunay_edit.proofs.Joining.{edges_counted, faces_counted}
 
 -- what holds of each item holds of each that is left
-all_left : {X : Type 0} (P : X → Type 0) (xs : List X) (i : ℕ) (x : X) → i < length xs → All P xs → All P (swap_remove xs i x)
+pub all_left : {X : Type 0} (P : X → Type 0) (xs : List X) (i : ℕ) (x : X) → i < length xs → All P xs → All P (swap_remove xs i x)
 all_left P xs i x within all k d h = subst P (sym (get_or-take (length xs - 1) (set xs i (get_or xs (length xs - 1) x)) k d below)) (go (cases_eq k i))
   where
     below : k < length xs - 1

@@ -1,0 +1,10 @@
+pub mod Removing
+pub mod Drops
+pub mod Rounds
+pub mod Searching
+pub mod Turns
+pub mod InnerStars
+pub mod Shrinking
+pub mod InnerHoles
+pub mod Between
+pub mod Isolating

@@ -1,0 +1,79 @@
+-- The round of a vertex from any of its edges, and the count of its edges.
+use Rattle.std.proofs.Common.{◌≡◌, ◌≢◌, ℕ, ◌+◌, ◌<◌, length, Option, Some, None, IsSome, refl, sym, ap, ◌∙◌, subst, arith, inl, inr}
+use Rattle.std.proofs.lemmas.Bool.{cases_eq, cases_lt}
+use Rattle.std.proofs.Math.Numerals.{add-one}
+use Rattle.half_edge_links.specs.Mesh.{Mesh, IsValid, origin, out_edge}
+use Rattle.half_edge_links.specs.Peel.{turn, spoke}
+use Rattle.half_edge_links.specs.Round.{IsRound}
+use Rattle.half_edge_links.proofs.OneOrbit.{edges_go_round}
+use Rattle.half_edge_views.proofs.Loops.{round_fits}
+use Rattle.drawn_mesh.proofs.RoundShift.{round_from}
+
+some_of : (o : Option ℕ) → IsSome o → (k : ℕ) × (o ≡ Some k)
+some_of None had = absurd (cc)
+some_of (Some k) had = (k, refl)
+
+-- the round of a vertex starts at any of its edges
+pub round_of : (m : Mesh) (v first count h : ℕ) → IsRound m v first count → h < length m.half_edges → origin m h ≡ v → IsRound m v h count
+round_of m v first count h round within starts =
+    let i = round.all h within starts in
+    subst (λ (x : ℕ). IsRound m v x count) (sym i.2) (round_from m v first count round i.0)
+
+pub round_at : (m : Mesh) → IsValid m → (v h : ℕ) → h < length m.half_edges → origin m h ≡ v → (count : ℕ) × IsRound m v h count
+round_at m valid v h within starts =
+    let o = some_of (out_edge m v) (subst (λ (x : ℕ). IsSome (out_edge m x)) starts (valid.sound.edges h within).has_out) in
+    let r = edges_go_round m valid v o.0 o.1 in
+    (r.0, round_of m v o.0 r.0 h r.1 within starts)
+
+-- after so many steps from edge first on the walk is at an edge, and none of the steps before led to first
+pub record IsCounting (m : Mesh) (first count edge : ℕ) : Type 0 where
+  pub within : edge < length m.half_edges
+  pub some : 0 < count
+  pub here : edge ≡ spoke m first count
+  pub before : (j : ℕ) → 0 < j → j < count → spoke m first j ≢ first
+
+module _ (m : Mesh) (valid : IsValid m) (first : ℕ) (first_in : first < length m.half_edges) where
+  pub counting_begins : (edge : ℕ) → edge < length m.half_edges → edge ≡ turn m first → IsCounting m first 1 edge
+  counting_begins edge within is = record { within = within; some = omega arith; here = is; before = λ j some less. absurd (omega (arith, some, less)) }
+
+  module _ (count edge : ℕ) (counting : IsCounting m first count edge) where
+    round : (n : ℕ) × IsRound m (origin m first) first n
+    round = round_at m valid (origin m first) first first_in refl
+
+    home : spoke m first round.0 ≡ first
+    home = ap (spoke m first) (let e : round.0 ≡ 0 + round.0 = omega arith in e) ∙ round.1.back 0
+
+    not_past : round.0 < count → ⊥
+    not_past less = counting.before round.0 round.1.some less home
+
+    pub counted : edge ≡ first → IsRound m (origin m first) first count
+    counted back = subst (λ (n : ℕ). IsRound m (origin m first) first n) same round.1
+      where
+        not_short : count < round.0 → ⊥
+        not_short less = round.1.apart 0 count counting.some less (sym (sym counting.here ∙ back))
+
+        same : round.0 ≡ count
+        same = elim (cases_lt round.0 count) [
+          | inl l ↦ absurd (not_past l)
+          | inr l ↦ elim (cases_lt count round.0) [ inl k ↦ absurd (not_short k) | inr k ↦ omega (arith, l, k) ]
+        ]
+
+    module _ (off : edge ≢ first) where
+      pub counting_fits : count < length m.half_edges
+      counting_fits =
+          let fits = round_fits m (origin m first) first round.0 valid round.1 in
+          elim (cases_lt count round.0) [
+            | inl l ↦ omega (arith, l, fits)
+            | inr l ↦ elim (cases_lt round.0 count) [ inl k ↦ absurd (not_past k) | inr k ↦ absurd (off (counting.here ∙ ap (spoke m first) (let e : count ≡ round.0 = omega (arith, l, k) in e) ∙ home)) ]
+          ]
+
+      pub counting_goes_on : (after : ℕ) → after < length m.half_edges → after ≡ turn m edge → IsCounting m first (count + 1) after
+      counting_goes_on after within is = record {
+        within = within;
+        some = omega arith;
+        here = is ∙ ap (turn m) counting.here ∙ ap (spoke m first) (sym (add-one count));
+        before = λ j some less. elim (cases_eq j count) [
+          | inl e ↦ λ q. off (counting.here ∙ ap (spoke m first) (sym e) ∙ q)
+          | inr n ↦ counting.before j some (omega (arith, less, n))
+        ];
+      }

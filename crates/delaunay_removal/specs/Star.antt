@@ -1,0 +1,50 @@
+-- The edges and faces round a vertex that is to go.
+use Rattle.std.specs.Prelude.{◌≡◌, ◌⊎◌, ℕ, suc, ◌<◌, List, [], length}
+use Rattle.half_edge_links.specs.Mesh.{Mesh, origin, face, IsAlone}
+use Rattle.half_edge_links.specs.Round.{IsRound, neighbour}
+use Rattle.half_edge_mesh.specs.Contents.{Contents}
+use Rattle.plane.specs.Fraction.{Point, WithinSegment}
+use Rattle.plane.specs.Pairs.{place}
+use Rattle.plane.specs.Side.{TurnsLeft}
+use Rattle.plane.specs.Tiling.{Face}
+use Rattle.plane_tiling.specs.Local.{LocalMesh}
+use Rattle.plane_edits.specs.Removal.{LocalMeshWithout, LineMeshWithout}
+use Rattle.drawn_mesh.specs.Drawn.{faces_of, outer_of}
+
+-- the edge after edge h, round the vertex where they start, lies across a strictly convex quadrilateral: its corners are
+-- this vertex and the ends of h and of the two edges after it
+pub record IsConvexAt (points : List Point) (m : Mesh) (h : ℕ) : Type 0 where
+  pub far : TurnsLeft (place points (neighbour m h 0)) (place points (neighbour m h 1)) (place points (neighbour m h 2))
+  pub near : TurnsLeft (place points (origin m h)) (place points (neighbour m h 0)) (place points (neighbour m h 2))
+
+-- the faces round vertex v are inner ones
+abbrev pub HasInnerFaces : Mesh → ℕ → Type 0
+HasInnerFaces m v = (h : ℕ) → h < length m.half_edges → origin m h ≡ v → 0 < face m h
+
+-- vertex v is inside the hull, and has so many edges, from edge first on
+pub record IsInnerStar (points : List Point) (m : Mesh) (v first count : ℕ) : Type 0 where
+  pub shape : LocalMesh points (faces_of m) (outer_of m)
+  pub inner : HasInnerFaces m v
+  pub round : IsRound m v first count
+
+-- the vertex where edge h starts is strictly between the ends of h and of the edge after the next
+abbrev pub IsBetweenAt : List Point → Mesh → ℕ → Type 0
+IsBetweenAt points m h = WithinSegment (place points (neighbour m h 0)) (place points (neighbour m h 2)) (place points (origin m h))
+
+-- so is vertex v at one of its edges
+abbrev pub StandsBetween : List Point → Mesh → ℕ → ℕ → ℕ → Type 0
+StandsBetween points m v first count = (i : ℕ) × (i < count) × WithinSegment (place points (neighbour m first i)) (place points (neighbour m first (suc (suc i)))) (place points v)
+
+-- there are three edges, or four with vertex v strictly between two ends
+abbrev pub IsReduced : List Point → Mesh → ℕ → ℕ → ℕ → Type 0
+IsReduced points m v first count = (count ≡ 3) ⊎ ((count ≡ 4) × StandsBetween points m v first 4)
+
+-- a mesh of all vertices but v, in the plane or on a line
+abbrev pub IsMeshWithout : ℕ → List Point → List Face → List (ℕ × ℕ) → Type 0
+IsMeshWithout v points faces outer = LocalMeshWithout v points faces outer ⊎ ((faces ≡ []) × LineMeshWithout v points outer)
+
+-- vertex v has lost its edges, and the mesh is one of the other vertices
+pub record IsolatesVertex {V D U F : Type 0} (points : List Point) (old new : Contents V D U F) (v : ℕ) : Type 0 where
+  pub contents : new ≡ record old { mesh = new.mesh; directed = new.directed; undirected = new.undirected; faces = new.faces }
+  pub alone : IsAlone new.mesh v
+  pub shape : IsMeshWithout v points (faces_of new.mesh) (outer_of new.mesh)

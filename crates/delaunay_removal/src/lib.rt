@@ -1,0 +1,10 @@
+//! Vertices that go from the mesh of a triangulation.
+#![tactic(auto)]
+
+mod removal;
+mod removal_inner;
+mod removal_line;
+mod star;
+
+pub use removal::remove_inner;
+pub use removal_line::remove_on_line;

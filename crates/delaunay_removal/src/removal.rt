@@ -1,0 +1,75 @@
+//! Vertices that go, with their edges.
+ghost use Rattle.std.specs.Prelude.{◌≡◌, ◌<◌, length, map, All, Some, IsSome, slice_get};
+ghost use Rattle.half_edge_links.specs.Mesh.{origin, out_edge, IsAlone};
+ghost use Rattle.plane.specs.Plain.{Removes};
+ghost use Rattle.plane.specs.Tests.{InRange};
+ghost use Rattle.drawn_mesh.specs.Drawn.{faces_of, outer_of};
+ghost use Rattle.delaunay_edit.specs.Shape.{IsKept};
+ghost use Rattle.delaunay_edit.specs.State.{plain_of, state_of};
+ghost use Rattle.delaunay_removal.specs.Star.{HasInnerFaces, IsMeshWithout};
+
+use crate::removal_inner::isolate_inner;
+use delaunay_core::math::PlaneTests;
+use delaunay_core::point::HasPosition;
+use half_edge_mesh::{Dcel, FixedDirectedEdgeHandle, FixedVertexHandle};
+use half_edge_views::MeshViews;
+
+// An edge that starts at a vertex with edges.
+fn first_edge<V, DE, UE, F>(
+    dcel: &Dcel<V, DE, UE, F>,
+    vertex: FixedVertexHandle,
+) -> FixedDirectedEdgeHandle
+    requires within { vertex < length dcel.now.vertices }
+    requires some { IsSome (out_edge dcel.now.mesh vertex) }
+    ensures within { result < length dcel.now.directed }
+    ensures starts { origin dcel.now.mesh result ≡ vertex }
+{
+    let _ = dcel.num_vertices();
+    match dcel.vertex(vertex).out_edge() {
+        Some(edge) => edge.fix(),
+        None => unreachable!(),
+    }
+}
+
+// Removes a vertex that has lost its edges, and gives its data back. The last vertex takes its index.
+fn drop_vertex<V: HasPosition, DE, UE, F>(
+    dcel: &mut Dcel<V, DE, UE, F>,
+    vertex: FixedVertexHandle,
+) -> V
+    requires in_range { All (λ v. InRange (V.place v)) dcel.old.vertices }
+    requires alone { IsAlone dcel.old.mesh vertex }
+    requires shape { IsMeshWithout vertex (map V.place dcel.old.vertices) (faces_of dcel.old.mesh) (outer_of dcel.old.mesh) }
+    ensures value { slice_get dcel.old.vertices vertex ≡ Some result }
+    ensures plain { Removes V.place (plain_of (state_of dcel.old)) (plain_of (state_of dcel.new)) vertex }
+    ensures kept { IsKept V.place (state_of dcel.new) }
+    ensures outer { dcel.new.outer ≡ dcel.old.outer }
+{
+    let _ = dcel.num_vertices();
+    let value = dcel.swap_remove_vertex(vertex);
+    let _ = dcel.num_vertices();
+    value
+}
+
+/// Removes a vertex inside the hull, and gives its data back. The hole that its faces leave is filled, and the last
+/// vertex takes its index.
+pub fn remove_inner<V: HasPosition, DE: Drop, UE: Drop, F: Drop, P: PlaneTests<V::Scalar>>(
+    dcel: &mut Dcel<V, DE, UE, F>,
+    vertex: FixedVertexHandle,
+    tests: &P,
+) -> V
+    requires kept { IsKept V.place (state_of dcel.old) }
+    requires some_face { 0 < length dcel.old.faces }
+    requires within { vertex < length dcel.old.vertices }
+    requires inner { HasInnerFaces dcel.old.mesh vertex }
+    requires sites { All (P.sites tests.now) (map V.place dcel.old.vertices) }
+
+    ensures value { slice_get dcel.old.vertices vertex ≡ Some result }
+    ensures plain { Removes V.place (plain_of (state_of dcel.old)) (plain_of (state_of dcel.new)) vertex }
+    ensures kept { IsKept V.place (state_of dcel.new) }
+    ensures outer { dcel.new.outer ≡ dcel.old.outer }
+{
+    let _ = dcel.num_vertices();
+    let first = first_edge(dcel, vertex);
+    isolate_inner(dcel, first, vertex, tests);
+    drop_vertex(dcel, vertex)
+}

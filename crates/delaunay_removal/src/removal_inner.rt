@@ -1,0 +1,152 @@
+//! A vertex inside the hull loses its edges.
+ghost use Rattle.std.specs.Prelude.{◌≡◌, ◌↔◌, ◌<◌, length, map, All, IsTrue};
+ghost use Rattle.half_edge_links.specs.Mesh.{origin};
+ghost use Rattle.half_edge_links.specs.Peel.{IsWheel};
+ghost use Rattle.half_edge_links.specs.Round.{neighbour};
+ghost use Rattle.half_edge_mesh.specs.Contents.{IsWhole};
+ghost use Rattle.half_edge_mesh.specs.Removal.{FillsHole};
+ghost use Rattle.plane_tiling.specs.Local.{LocalMesh};
+ghost use Rattle.drawn_mesh.specs.Drawn.{faces_of, outer_of};
+ghost use Rattle.delaunay_removal.specs.Star.{HasInnerFaces, IsBetweenAt, IsInnerStar, IsReduced, IsolatesVertex, StandsBetween};
+
+use crate::star::{count_edges, edge_after, end_of, find_convex, opposite_side, turn_away};
+use delaunay_core::math::PlaneTests;
+use delaunay_core::point::HasPosition;
+use delaunay_edit::{is_strictly_within, start_of};
+use half_edge_mesh::{Dcel, FixedDirectedEdgeHandle, FixedVertexHandle};
+
+// Turns edges of an inner vertex away, from which `first` starts, until three are left, or four with the vertex strictly
+// between two ends. Gives one of those that are left, and how many they are.
+fn shrink_star<V: HasPosition, DE, UE, F, P: PlaneTests<V::Scalar>>(
+    dcel: &mut Dcel<V, DE, UE, F>,
+    first: FixedDirectedEdgeHandle,
+    tests: &P,
+) -> (FixedDirectedEdgeHandle, usize)
+    requires within { first < length dcel.old.directed }
+    requires shape { LocalMesh (map V.place dcel.old.vertices) (faces_of dcel.old.mesh) (outer_of dcel.old.mesh) }
+    requires inner { HasInnerFaces dcel.old.mesh (origin dcel.old.mesh first) }
+    requires sites { All (P.sites tests.now) (map V.place dcel.old.vertices) }
+    ensures contents { dcel.new ≡ record dcel.old { mesh = dcel.new.mesh } }
+    ensures star { IsInnerStar (map V.place dcel.old.vertices) dcel.new.mesh (origin dcel.old.mesh first) result.0 result.1 }
+    ensures reduced { IsReduced (map V.place dcel.old.vertices) dcel.new.mesh (origin dcel.old.mesh first) result.0 result.1 }
+{
+    let mut first = first;
+    let mut count = count_edges(dcel, first);
+    while count > 3 {
+        let _ = dcel.num_directed_edges();
+        match find_convex(dcel, first, count, tests) {
+            Some(edge) => {
+                turn_away(dcel, edge);
+                let _ = dcel.num_vertices();
+                first = edge;
+                count -= 1;
+            }
+            None => return (first, count),
+        }
+    }
+    let _ = dcel.num_directed_edges();
+    (first, count)
+}
+
+// Puts one face in the place of the three faces round a vertex, the first of them on the left of `first`.
+fn fill_three<V, DE: Drop, UE: Drop, F: Drop>(
+    dcel: &mut Dcel<V, DE, UE, F>,
+    first: FixedDirectedEdgeHandle,
+    vertex: FixedVertexHandle,
+)
+    requires wheel { IsWheel dcel.old.mesh first }
+    requires starts { origin dcel.old.mesh first ≡ vertex }
+    ensures hole { FillsHole dcel.old dcel.new vertex (neighbour dcel.old.mesh first) }
+    ensures before { IsWhole dcel.old }
+    ensures whole { IsWhole dcel.new }
+{
+    let _ = dcel.num_directed_edges();
+    let second = edge_after(dcel, first);
+    let third = edge_after(dcel, second);
+    let border = [
+        opposite_side(dcel, first),
+        opposite_side(dcel, second),
+        opposite_side(dcel, third),
+    ];
+    let _ = dcel.isolate_vertex_and_fill_hole(&border, vertex);
+    let _ = dcel.num_vertices();
+}
+
+// Whether a vertex is strictly between the end of an edge at it and the end of the edge after the next.
+fn is_between<V: HasPosition, DE, UE, F, P: PlaneTests<V::Scalar>>(
+    dcel: &Dcel<V, DE, UE, F>,
+    edge: FixedDirectedEdgeHandle,
+    tests: &P,
+) -> bool
+    requires star { IsInnerStar (map V.place dcel.now.vertices) dcel.now.mesh (origin dcel.now.mesh edge) edge 4 }
+    requires sites { All (P.sites tests.now) (map V.place dcel.now.vertices) }
+    ensures { IsTrue result ↔ IsBetweenAt (map V.place dcel.now.vertices) dcel.now.mesh edge }
+{
+    let _ = dcel.num_directed_edges();
+    let second = edge_after(dcel, edge);
+    let opposite = edge_after(dcel, second);
+    let centre = start_of(dcel, edge);
+    let from = end_of(dcel, edge);
+    let to = end_of(dcel, opposite);
+    is_strictly_within(from, to, centre, tests)
+}
+
+// Of an edge of a vertex with four neighbours, strictly between two of them, and of the edge after it, one whose end is one
+// of the two.
+fn edge_beside_line<V: HasPosition, DE, UE, F, P: PlaneTests<V::Scalar>>(
+    dcel: &Dcel<V, DE, UE, F>,
+    first: FixedDirectedEdgeHandle,
+    tests: &P,
+) -> FixedDirectedEdgeHandle
+    requires star { IsInnerStar (map V.place dcel.now.vertices) dcel.now.mesh (origin dcel.now.mesh first) first 4 }
+    requires between { StandsBetween (map V.place dcel.now.vertices) dcel.now.mesh (origin dcel.now.mesh first) first 4 }
+    requires sites { All (P.sites tests.now) (map V.place dcel.now.vertices) }
+    ensures star { IsInnerStar (map V.place dcel.now.vertices) dcel.now.mesh (origin dcel.now.mesh first) result 4 }
+    ensures between { IsBetweenAt (map V.place dcel.now.vertices) dcel.now.mesh result }
+{
+    let _ = dcel.num_directed_edges();
+    if is_between(dcel, first, tests) {
+        first
+    } else {
+        edge_after(dcel, first)
+    }
+}
+
+// Removes the edges of a vertex with four neighbours, strictly between two of them, one of which is the end of `first`.
+fn fill_four<V: HasPosition, DE: Drop, UE: Drop, F: Drop>(
+    dcel: &mut Dcel<V, DE, UE, F>,
+    first: FixedDirectedEdgeHandle,
+    vertex: FixedVertexHandle,
+)
+    requires star { IsInnerStar (map V.place dcel.old.vertices) dcel.old.mesh vertex first 4 }
+    requires between { IsBetweenAt (map V.place dcel.old.vertices) dcel.old.mesh first }
+    ensures { IsolatesVertex (map V.place dcel.old.vertices) dcel.old dcel.new vertex }
+{
+    let _ = dcel.num_directed_edges();
+    turn_away(dcel, first);
+    fill_three(dcel, first, vertex);
+}
+
+// Removes the edges of a vertex inside the hull, from which `first` starts, and fills the hole that it leaves.
+pub(crate) fn isolate_inner<V: HasPosition, DE: Drop, UE: Drop, F: Drop, P: PlaneTests<V::Scalar>>(
+    dcel: &mut Dcel<V, DE, UE, F>,
+    first: FixedDirectedEdgeHandle,
+    vertex: FixedVertexHandle,
+    tests: &P,
+)
+    requires within { first < length dcel.old.directed }
+    requires starts { origin dcel.old.mesh first ≡ vertex }
+    requires shape { LocalMesh (map V.place dcel.old.vertices) (faces_of dcel.old.mesh) (outer_of dcel.old.mesh) }
+    requires inner { HasInnerFaces dcel.old.mesh vertex }
+    requires sites { All (P.sites tests.now) (map V.place dcel.old.vertices) }
+    ensures { IsolatesVertex (map V.place dcel.old.vertices) dcel.old dcel.new vertex }
+{
+    let (first, count) = shrink_star(dcel, first, tests);
+    let _ = dcel.num_vertices();
+    if count == 3 {
+        fill_three(dcel, first, vertex);
+    } else {
+        let first = edge_beside_line(dcel, first, tests);
+        fill_four(dcel, first, vertex);
+    }
+}

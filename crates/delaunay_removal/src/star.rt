@@ -1,0 +1,138 @@
+//! The edges round a vertex, and turns of them.
+ghost use Rattle.std.specs.Prelude.{◌≡◌, ◌≢◌, ◌↔◌, ℕ, ◌*◌, ◌/◌, ◌<◌, length, map, All, Contains, IsTrue, IfSome, IfNone};
+ghost use Rattle.half_edge_links.specs.Flip.{flipped};
+ghost use Rattle.half_edge_links.specs.Mesh.{origin, next, face, rev};
+ghost use Rattle.half_edge_links.specs.Outline.{KeepsOuter};
+ghost use Rattle.half_edge_links.specs.Peel.{spoke, turn};
+ghost use Rattle.half_edge_links.specs.Round.{IsRound, neighbour};
+ghost use Rattle.half_edge_links.specs.Triangles.{FlipsTriangles};
+ghost use Rattle.half_edge_mesh.specs.Contents.{IsWhole};
+ghost use Rattle.plane_tiling.specs.Local.{LocalMesh};
+ghost use Rattle.drawn_mesh.specs.Drawn.{faces_of, outer_of};
+ghost use Rattle.delaunay_core.specs.Place.{place_of};
+ghost use Rattle.delaunay_edit.specs.Known.{point_at};
+ghost use Rattle.delaunay_removal.specs.Star.{IsConvexAt};
+
+use delaunay_core::math::PlaneTests;
+use delaunay_core::point::{HasPosition, Point2};
+use delaunay_edit::{start_of, turns_left};
+use half_edge_mesh::{Dcel, FixedDirectedEdgeHandle};
+use half_edge_views::MeshViews;
+
+// The edge after an edge, against the clock round the vertex where it starts.
+pub(crate) fn edge_after<V, DE, UE, F>(
+    dcel: &Dcel<V, DE, UE, F>,
+    edge: FixedDirectedEdgeHandle,
+) -> FixedDirectedEdgeHandle
+    requires { edge < length dcel.now.directed }
+    ensures value { result ≡ turn dcel.now.mesh edge }
+    ensures within { result < length dcel.now.directed }
+{
+    dcel.directed_edge(edge).ccw().fix()
+}
+
+// The edge after an edge in its loop. In a face of the vertex where the edge starts it is opposite this vertex.
+pub(crate) fn opposite_side<V, DE, UE, F>(
+    dcel: &Dcel<V, DE, UE, F>,
+    edge: FixedDirectedEdgeHandle,
+) -> FixedDirectedEdgeHandle
+    requires { edge < length dcel.now.directed }
+    ensures { result ≡ next dcel.now.mesh edge }
+{
+    dcel.directed_edge(edge).next().fix()
+}
+
+// How many edges start where an edge starts.
+pub(crate) fn count_edges<V, DE, UE, F>(
+    dcel: &Dcel<V, DE, UE, F>,
+    first: FixedDirectedEdgeHandle,
+) -> usize
+    requires { first < length dcel.now.directed }
+    ensures { IsRound dcel.now.mesh (origin dcel.now.mesh first) first result }
+{
+    let _ = dcel.num_directed_edges();
+    let mut edge = edge_after(dcel, first);
+    let mut count: usize = 1;
+    while edge.index() != first.index() {
+        edge = edge_after(dcel, edge);
+        count += 1;
+    }
+    count
+}
+
+// The position where an edge ends.
+pub(crate) fn end_of<V: HasPosition, DE, UE, F>(
+    dcel: &Dcel<V, DE, UE, F>,
+    edge: FixedDirectedEdgeHandle,
+) -> Point2<V::Scalar>
+    requires { edge < length dcel.now.directed }
+    ensures place { place_of V.Scalar.whole result ≡ point_at (map V.place dcel.now.vertices) (origin dcel.now.mesh (rev edge)) }
+    ensures listed { Contains (map V.place dcel.now.vertices) (place_of V.Scalar.whole result) }
+{
+    start_of(dcel, dcel.directed_edge(edge).rev().fix())
+}
+
+// Whether the edge after an edge, round the vertex where they start, lies across a strictly convex quadrilateral.
+fn is_convex_at<V: HasPosition, DE, UE, F, P: PlaneTests<V::Scalar>>(
+    dcel: &Dcel<V, DE, UE, F>,
+    edge: FixedDirectedEdgeHandle,
+    tests: &P,
+) -> bool
+    requires within { edge < length dcel.now.directed }
+    requires sites { All (P.sites tests.now) (map V.place dcel.now.vertices) }
+    ensures { IsTrue result ↔ IsConvexAt (map V.place dcel.now.vertices) dcel.now.mesh edge }
+{
+    let second = edge_after(dcel, edge);
+    let third = edge_after(dcel, second);
+    let centre = start_of(dcel, edge);
+    let before = end_of(dcel, edge);
+    let corner = end_of(dcel, second);
+    let after = end_of(dcel, third);
+    turns_left(before, corner, after, tests) && turns_left(centre, before, after, tests)
+}
+
+// Of the first `count` edges from `first` on, round the vertex where they start, one before an edge across a strictly
+// convex quadrilateral.
+pub(crate) fn find_convex<V: HasPosition, DE, UE, F, P: PlaneTests<V::Scalar>>(
+    dcel: &Dcel<V, DE, UE, F>,
+    first: FixedDirectedEdgeHandle,
+    count: usize,
+    tests: &P,
+) -> Option<FixedDirectedEdgeHandle>
+    requires within { first < length dcel.now.directed }
+    requires sites { All (P.sites tests.now) (map V.place dcel.now.vertices) }
+    ensures place { IfSome result (λ e. (i : ℕ) × (i < count) × (e ≡ spoke dcel.now.mesh first i)) }
+    ensures convex { IfSome result (λ e. IsConvexAt (map V.place dcel.now.vertices) dcel.now.mesh e) }
+    ensures within { IfSome result (λ e. e < length dcel.now.directed) }
+    ensures none { IfNone result ((i : ℕ) → i < count → ¬ IsConvexAt (map V.place dcel.now.vertices) dcel.now.mesh (spoke dcel.now.mesh first i)) }
+{
+    let mut edge = first;
+    for i in 0..count {
+        if is_convex_at(dcel, edge, tests) {
+            return Some(edge);
+        }
+        edge = edge_after(dcel, edge);
+    }
+    None
+}
+
+// Turns the edge after an edge, round the vertex where they start, so that it leaves this vertex.
+pub(crate) fn turn_away<V: HasPosition, DE, UE, F>(
+    dcel: &mut Dcel<V, DE, UE, F>,
+    edge: FixedDirectedEdgeHandle,
+)
+    requires within { edge < length dcel.old.directed }
+    requires shape { LocalMesh (map V.place dcel.old.vertices) (faces_of dcel.old.mesh) (outer_of dcel.old.mesh) }
+    requires left { 0 < face dcel.old.mesh edge }
+    requires right { 0 < face dcel.old.mesh (turn dcel.old.mesh edge) }
+    requires apart { neighbour dcel.old.mesh edge 0 ≢ neighbour dcel.old.mesh edge 2 }
+    ensures mesh { dcel.new.mesh ≡ flipped dcel.old.mesh (2 * (turn dcel.old.mesh edge / 2)) }
+    ensures contents { dcel.new ≡ record dcel.old { mesh = dcel.new.mesh } }
+    ensures triangles { FlipsTriangles dcel.old.mesh dcel.new.mesh (2 * (turn dcel.old.mesh edge / 2)) }
+    ensures outer { KeepsOuter dcel.old.mesh dcel.new.mesh }
+    ensures whole { IsWhole dcel.old }
+{
+    let _ = dcel.num_directed_edges();
+    let turned = edge_after(dcel, edge);
+    dcel.flip_cw(turned.as_undirected());
+}
