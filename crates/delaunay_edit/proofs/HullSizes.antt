@@ -107,3 +107,17 @@ module _ {V D U F : Type 0} (at : V → Point) (s : State V D U F) (kept : IsKep
           let edges = line_edges_count (map at s.vertices) (outer_of s.mesh) (edges_of s.mesh) l.1 own in
           let ways = ways_add_up s.mesh kept.valid in
           omega (arith, edges, ways, count_of_faces at s kept, h, length-map s.vertices at)
+
+  -- with a face, as many faces as the vertices leave
+  pub spread_faces_count : 0 < length s.faces → length s.faces + length (outer_of s.mesh) + 2 ≡ 2 * length s.vertices
+  spread_faces_count some =
+      let pairs = kept.fits.undirected_fit in
+      let directed = kept.fits.directed_fit in
+      omega (arith, pairs, directed, sides_and_outer, spread_count some)
+
+  -- on one line, one edge fewer than vertices
+  pub line_edges : length s.faces ≡ 0 → length s.undirected ≡ length s.vertices - 1
+  line_edges none =
+      let pairs = kept.fits.undirected_fit in
+      let directed = kept.fits.directed_fit in
+      omega (arith, none, pairs, directed, sides_and_outer, line_count none)

@@ -48,7 +48,9 @@ impl<V: HasPosition, DE, UE, F> TriangulationCore<V, DE, UE, F> {
     pub fn convex_hull_size(&self) -> usize
         ensures hull { HasHullSize (triangulation_of V.place self.now) result }
         ensures spread { 0 < length self.now.faces → length self.now.undirected + result + 3 ≡ 3 * length self.now.vertices }
+        ensures spread_faces { 0 < length self.now.faces → length self.now.faces + result + 2 ≡ 2 * length self.now.vertices }
         ensures line { length self.now.faces ≡ 0 → result ≡ 2 * (length self.now.vertices - 1) }
+        ensures line_edges { length self.now.faces ≡ 0 → length self.now.undirected ≡ length self.now.vertices - 1 }
     {
         let _ = self.num_vertices();
         self.num_directed_edges() - 3 * self.num_inner_faces()

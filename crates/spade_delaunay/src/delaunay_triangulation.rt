@@ -106,7 +106,9 @@ impl<V: HasPosition, DE, UE, F> DelaunayTriangulation<V, DE, UE, F> {
     pub fn convex_hull_size(&self) -> usize
         ensures hull { HasHullSize (triangulation_of V.place self.now) result }
         ensures spread { 0 < length self.now.faces → length self.now.undirected + result + 3 ≡ 3 * length self.now.vertices }
+        ensures spread_faces { 0 < length self.now.faces → length self.now.faces + result + 2 ≡ 2 * length self.now.vertices }
         ensures line { length self.now.faces ≡ 0 → result ≡ 2 * (length self.now.vertices - 1) }
+        ensures line_edges { length self.now.faces ≡ 0 → length self.now.undirected ≡ length self.now.vertices - 1 }
     {
         self.core.convex_hull_size()
     }
