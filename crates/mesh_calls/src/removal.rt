@@ -25,9 +25,7 @@ fn remove_from_line(mesh: &mut Mesh, vertex: FixedVertexHandle) -> Option<u8> {
     if mesh.num_inner_faces() > 0 || !has_vertex(mesh, vertex) {
         return None;
     }
-    let Some(out) = mesh.vertex(vertex).out_edge() else {
-        return None;
-    };
+    let out = mesh.vertex(vertex).out_edge()?;
     if out.ccw().ccw().index != out.index
         || out.to().index == out.ccw().to().index
         || out.prev().index == out.rev().index
@@ -95,10 +93,7 @@ fn disconnect_opposite_corner(
     side: FixedDirectedEdgeHandle,
 ) -> Option<IsolateVertexResult> {
     let spoke = edge_at(mesh, side)?.prev().fix();
-    if !is_before(mesh, spoke, side) || !has_lone_face(mesh, spoke) {
-        return None;
-    }
-    if !leaves_more(mesh, spoke) {
+    if !is_before(mesh, spoke, side) || !has_lone_face(mesh, spoke) || !leaves_more(mesh, spoke) {
         return None;
     }
     Some(disconnect_corner(mesh, spoke, side))
@@ -118,9 +113,7 @@ fn out_edge(mesh: &Mesh, vertex: FixedVertexHandle) -> Option<FixedDirectedEdgeH
     if !has_vertex(mesh, vertex) {
         return None;
     }
-    let Some(edge) = mesh.vertex(vertex).out_edge() else {
-        return None;
-    };
+    let edge = mesh.vertex(vertex).out_edge()?;
     Some(edge.fix())
 }
 
