@@ -8,3 +8,9 @@ pub mod Shrinking
 pub mod InnerHoles
 pub mod Between
 pub mod Isolating
+pub mod HullStars
+pub mod HullSides
+pub mod HullCuts
+pub mod HullShrinking
+pub mod HullIsolating
+pub mod HullEdges

@@ -2,9 +2,10 @@
 #![tactic(auto)]
 
 mod removal;
+mod removal_hull;
 mod removal_inner;
 mod removal_line;
 mod star;
 
-pub use removal::remove_inner;
+pub use removal::{remove_inner, remove_vertex};
 pub use removal_line::remove_on_line;

@@ -1,14 +1,16 @@
 //! Vertices that go, with their edges.
-ghost use Rattle.std.specs.Prelude.{◌≡◌, ◌<◌, length, map, All, Some, IsSome, slice_get};
+ghost use Rattle.std.specs.Prelude.{◌≡◌, ◌<◌, ◌≤◌, length, map, All, Some, IsSome, slice_get, vec_capacity};
 ghost use Rattle.half_edge_links.specs.Mesh.{origin, out_edge, IsAlone};
 ghost use Rattle.plane.specs.Plain.{Removes};
 ghost use Rattle.plane.specs.Tests.{InRange};
 ghost use Rattle.drawn_mesh.specs.Drawn.{faces_of, outer_of};
 ghost use Rattle.delaunay_edit.specs.Shape.{IsKept};
 ghost use Rattle.delaunay_edit.specs.State.{plain_of, state_of};
-ghost use Rattle.delaunay_removal.specs.Star.{HasInnerFaces, IsMeshWithout};
+ghost use Rattle.delaunay_removal.specs.Star.{HasInnerFaces, IsMeshWithout, IsolatesVertex};
 
+use crate::removal_hull::{isolate_on_hull, outer_edge_beside};
 use crate::removal_inner::isolate_inner;
+use crate::removal_line::remove_on_line;
 use delaunay_core::math::PlaneTests;
 use delaunay_core::point::HasPosition;
 use half_edge_mesh::{Dcel, FixedDirectedEdgeHandle, FixedVertexHandle};
@@ -71,5 +73,54 @@ pub fn remove_inner<V: HasPosition, DE: Drop, UE: Drop, F: Drop, P: PlaneTests<V
     let _ = dcel.num_vertices();
     let first = first_edge(dcel, vertex);
     isolate_inner(dcel, first, vertex, tests);
+    drop_vertex(dcel, vertex)
+}
+
+// Removes the edges of a vertex in the plane, and its faces. `sides` has room for each edge.
+fn isolate<V: HasPosition, DE: Drop, UE: Drop, F: Drop, P: PlaneTests<V::Scalar>>(
+    dcel: &mut Dcel<V, DE, UE, F>,
+    vertex: FixedVertexHandle,
+    tests: &P,
+    sides: &mut Vec<FixedDirectedEdgeHandle>,
+)
+    requires kept { IsKept V.place (state_of dcel.old) }
+    requires some_face { 0 < length dcel.old.faces }
+    requires within { vertex < length dcel.old.vertices }
+    requires sites { All (P.sites tests.now) (map V.place dcel.old.vertices) }
+    requires room { length dcel.old.directed ≤ vec_capacity sides.old }
+    ensures isolates { IsolatesVertex (map V.place dcel.old.vertices) dcel.old dcel.new vertex }
+    ensures capacity { vec_capacity sides.new ≡ vec_capacity sides.old }
+{
+    let _ = dcel.num_vertices();
+    let first = first_edge(dcel, vertex);
+    match outer_edge_beside(dcel, first) {
+        Some(edge) => isolate_on_hull(dcel, edge, vertex, tests, sides),
+        None => isolate_inner(dcel, first, vertex, tests),
+    }
+}
+
+/// Removes a vertex, and gives its data back. The hole or the gap that its faces leave is filled so that the others have
+/// a mesh, and the last vertex takes its index. `sides` has room for each directed edge.
+pub fn remove_vertex<V: HasPosition, DE: Drop, UE: Drop, F: Drop, P: PlaneTests<V::Scalar>>(
+    dcel: &mut Dcel<V, DE, UE, F>,
+    vertex: FixedVertexHandle,
+    tests: &P,
+    sides: &mut Vec<FixedDirectedEdgeHandle>,
+) -> V
+    requires kept { IsKept V.place (state_of dcel.old) }
+    requires within { vertex < length dcel.old.vertices }
+    requires sites { All (P.sites tests.now) (map V.place dcel.old.vertices) }
+    requires room { length dcel.old.directed ≤ vec_capacity sides.old }
+
+    ensures value { slice_get dcel.old.vertices vertex ≡ Some result }
+    ensures plain { Removes V.place (plain_of (state_of dcel.old)) (plain_of (state_of dcel.new)) vertex }
+    ensures kept { IsKept V.place (state_of dcel.new) }
+    ensures outer { dcel.new.outer ≡ dcel.old.outer }
+    ensures capacity { vec_capacity sides.new ≡ vec_capacity sides.old }
+{
+    if dcel.num_inner_faces() == 0 {
+        return remove_on_line(dcel, vertex);
+    }
+    isolate(dcel, vertex, tests, sides);
     drop_vertex(dcel, vertex)
 }

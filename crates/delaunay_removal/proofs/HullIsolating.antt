@@ -1,0 +1,52 @@
+-- A vertex on the hull whose star was reduced loses the rest of its edges.
+use Rattle.std.proofs.Common.{◌≡◌, ℕ, ◌-◌, ◌<◌, ◌≤◌, List, length, map, sym, ap, subst, arith}
+use Rattle.std.specs.Prelude.{All}
+use Rattle.half_edge_links.specs.Round.{neighbour}
+use Rattle.half_edge_mesh.specs.Contents.{Contents, IsWhole}
+use Rattle.half_edge_views.proofs.Loops.{round_fits}
+use Rattle.plane.specs.Fraction.{Point}
+use Rattle.plane.specs.Pairs.{place as at}
+use Rattle.plane.specs.Side.{side, on}
+use Rattle.delaunay_removal.specs.Star.{IsolatesVertex}
+use Rattle.delaunay_removal.specs.Hull.{IsBent, IsCornerAt, IsHullStar}
+use Rattle.delaunay_removal.proofs.HullStars.{flat_has_three}
+use Rattle.delaunay_removal.proofs.HullSides.{corner_read}
+use Rattle.delaunay_removal.proofs.InnerHoles.{isolates_from}
+
+module _ {V D U F : Type 0} (place : V → Point) (old mid : Contents V D U F) (whole : IsWhole mid) (v first count : ℕ) (contents : mid ≡ record old { mesh = mid.mesh }) (star : IsHullStar (map place mid.vertices) mid.mesh v first count) where
+  same : mid.vertices ≡ old.vertices
+  same = ap (λ (c : Contents V D U F). c.vertices) contents
+
+  pub hull_sites : (IsSite : Point → Type 0) → All IsSite (map place old.vertices) → All IsSite (map place mid.vertices)
+  hull_sites IsSite sites = subst (λ (vs : List V). All IsSite (map place vs)) (sym same) sites
+
+  pub hull_first : first < length mid.directed
+  hull_first = subst (λ (n : ℕ). first < n) (sym whole.fits.directed_fit) (star.round.within 0)
+
+  pub hull_room : (room : ℕ) → length old.directed ≤ room → count ≤ room
+  hull_room room fits =
+      let few = round_fits mid.mesh v first count whole.valid star.round in
+      let fit = whole.fits.directed_fit in
+      let kept = ap (λ (c : Contents V D U F). length c.directed) contents in
+      omega (arith, few, fit, kept, fits)
+
+  pub hull_named : (vertex : ℕ) → v ≡ vertex → IsHullStar (map place mid.vertices) mid.mesh vertex first count
+  hull_named vertex named = subst (λ (x : ℕ). IsHullStar (map place mid.vertices) mid.mesh x first count) named star
+
+  -- no corner, and no edge to turn: a flat side with two faces
+  module _ (bent : IsBent (map place mid.vertices) mid.mesh first count) (not : ¬ IsCornerAt (map place mid.vertices) mid.mesh first) (vertex : ℕ) (named : v ≡ vertex) where
+    flat : (count ≡ 3) × (side (at (map place mid.vertices) (neighbour mid.mesh first 0)) (at (map place mid.vertices) v) (at (map place mid.vertices) (neighbour mid.mesh first (count - 1))) ≡ on)
+    flat = flat_has_three (map place mid.vertices) mid.mesh whole.valid v first count star bent (λ t. not ((corner_read (map place mid.vertices) mid.mesh whole.valid v first count star).1 t))
+
+    pub flat_star : IsHullStar (map place mid.vertices) mid.mesh vertex first 3
+    flat_star = subst (λ (n : ℕ). IsHullStar (map place mid.vertices) mid.mesh vertex first n) flat.0 (hull_named vertex named)
+
+    pub flat_side : side (at (map place mid.vertices) (neighbour mid.mesh first 0)) (at (map place mid.vertices) vertex) (at (map place mid.vertices) (neighbour mid.mesh first 2)) ≡ on
+    flat_side = subst (λ (x : ℕ × ℕ). side (at (map place mid.vertices) (neighbour mid.mesh first 0)) (at (map place mid.vertices) x.0) (at (map place mid.vertices) (neighbour mid.mesh first x.1)) ≡ on) (λ i. (named i, two i)) flat.1
+      where
+        two : count - 1 ≡ 2
+        two = let e = flat.0 in omega (arith, e)
+
+  -- what is left is what the turns and the rest left
+  pub hull_isolates : (new : Contents V D U F) (vertex : ℕ) → IsolatesVertex (map place mid.vertices) mid new vertex → IsolatesVertex (map place old.vertices) old new vertex
+  hull_isolates new vertex isolates = isolates_from (map place old.vertices) old mid new vertex contents (subst (λ (vs : List V). IsolatesVertex (map place vs) mid new vertex) same isolates)

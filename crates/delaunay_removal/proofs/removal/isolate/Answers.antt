@@ -1,0 +1,20 @@
+use Rattle.std.proofs.Common.{ℕ, ◌<◌, map, sym, subst}
+use Rattle.std.proofs.lemmas.List.{length-map}
+use Rattle.drawn_mesh.proofs.MeshStars.{vertex_has_edge}
+use Rattle.delaunay_removal.specs.Star.{HasInnerFaces}
+use Rattle.delaunay_removal.proofs.Drops.{in_the_plane}
+use Rattle.delaunay_removal.proofs.removal.isolate.Goals as goal
+
+pub first_edge-first-requires-clause-some : goal.first_edge-first-requires-clause-some
+first_edge-first-requires-clause-some g c =
+    vertex_has_edge (map g.V.HasPosition.place c.args.dcel.now.vertices) c.args.dcel.now.mesh c.num_vertices.ensures.whole.valid.sound (in_the_plane g.V.HasPosition.place c.args.dcel.now c.requires.kept c.requires.some_face) c.args.vertex
+    (subst (λ (n : ℕ). c.args.vertex < n) (sym (length-map c.args.dcel.now.vertices g.V.HasPosition.place)) c.requires.within)
+
+pub isolate_on_hull-requires-clause-shape : goal.isolate_on_hull-requires-clause-shape
+isolate_on_hull-requires-clause-shape g c = in_the_plane g.V.HasPosition.place c.args.dcel.now c.requires.kept c.requires.some_face
+
+pub isolate_inner-requires-clause-shape : goal.isolate_inner-requires-clause-shape
+isolate_inner-requires-clause-shape g c = in_the_plane g.V.HasPosition.place c.args.dcel.now c.requires.kept c.requires.some_face
+
+pub isolate_inner-requires-clause-inner : goal.isolate_inner-requires-clause-inner
+isolate_inner-requires-clause-inner g c = subst (HasInnerFaces c.args.dcel.now.mesh) c.first_edge-first.ensures.starts c.in-None.ensures.none

@@ -1,0 +1,19 @@
+use Rattle.std.proofs.Common.{◌≡◌, length, ap, ◌∙◌, arith}
+use Rattle.half_edge_links.specs.Mesh.{origin, face, rev}
+use Rattle.delaunay_edit.proofs.Questions.{both_ways}
+use Rattle.delaunay_removal.proofs.Searching.{search_goes_on}
+use Rattle.delaunay_removal.proofs.HullEdges.{faces_inner}
+use Rattle.delaunay_removal.proofs.removal_hull.outer_edge_beside.Goals as goal
+
+pub returns-then-is_outer-clause-starts : goal.returns-then-is_outer-clause-starts
+returns-then-is_outer-clause-starts g c = ap (origin c.args.dcel.now.mesh) c.loop-i.invariant.here ∙ c.count_edges-count.ensures.starts c.loop-i.i
+
+pub loop-i-preserved : goal.loop-i-preserved
+loop-i-preserved g c =
+    search_goes_on (λ h. face c.args.dcel.now.mesh (rev h) ≡ 0) (length c.args.dcel.now.directed) c.args.dcel.now.mesh c.args.first c.loop-i.i c.loop-i.edge c.edge_after-edge.result c.loop-i.invariant
+    (λ z. both_ways _ (c.is_outer.ensures.1 (ap (face c.args.dcel.now.mesh) (c.fix.ensures.value ∙ c.rev.ensures.index ∙ ap rev c.directed_edge.ensures.index) ∙ z)) c.if-is_outer.false) c.edge_after-edge.ensures.within c.edge_after-edge.ensures.value
+
+pub returns-clause-none : goal.returns-clause-none
+returns-clause-none g c =
+    faces_inner c.args.dcel.now.mesh (origin c.args.dcel.now.mesh c.args.first) c.args.first c.count_edges-count.result c.num_directed_edges.ensures.whole.valid.sound c.count_edges-count.ensures
+    (λ i less. c.loop-i.invariant.none i (let e = c.loop-i-test.false in omega (arith, e, less)))

@@ -1,0 +1,39 @@
+use Rattle.std.proofs.Common.{map, refl}
+use Rattle.half_edge_links.specs.Mesh.{origin}
+use Rattle.delaunay_removal.proofs.HullStars.{has_two}
+use Rattle.delaunay_removal.proofs.HullShrinking.{hull_sites_stay, bent_at_end, hull_first_in, place_left, place_right, place_apart, hull_shrinking_goes_on}
+use Rattle.delaunay_removal.specs.Hull.{IsHullStar}
+use Rattle.delaunay_removal.proofs.removal_hull.shrink_hull_star.Goals as goal
+
+pub loop-edge-init : goal.loop-edge-init
+loop-edge-init g c =
+    let star : IsHullStar (map g.V.HasPosition.place c.args.dcel.now.vertices) c.args.dcel.now.mesh (origin c.args.dcel.now.mesh c.args.first) c.args.first c.count_edges-count.result = record { shape = c.requires.shape; outer = c.requires.outer; round = c.count_edges-count.ensures } in
+    record {
+      contents = refl;
+      star = star;
+      many = has_two (map g.V.HasPosition.place c.args.dcel.now.vertices) c.args.dcel.now.mesh c.num_vertices.ensures.whole.valid (origin c.args.dcel.now.mesh c.args.first) c.args.first c.count_edges-count.result star;
+      whole = c.num_vertices.ensures.whole;
+    }
+
+pub find_convex-requires-clause-within : goal.find_convex-requires-clause-within
+find_convex-requires-clause-within g c = hull_first_in g.V.HasPosition.place c.args.dcel.now c.loop-edge.dcel (origin c.args.dcel.now.mesh c.args.first) c.args.first c.loop-edge.count c.loop-edge.invariant
+
+pub find_convex-requires-clause-sites : goal.find_convex-requires-clause-sites
+find_convex-requires-clause-sites g c = hull_sites_stay g.V.HasPosition.place c.args.dcel.now c.loop-edge.dcel (origin c.args.dcel.now.mesh c.args.first) c.args.first c.loop-edge.count c.loop-edge.invariant (g.P.PlaneTests.sites c.args.tests.now) c.requires.sites
+
+pub turn_away-requires-clause-left : goal.turn_away-requires-clause-left
+turn_away-requires-clause-left g c = place_left g.V.HasPosition.place c.args.dcel.now c.loop-edge.dcel (origin c.args.dcel.now.mesh c.args.first) c.args.first c.loop-edge.count c.loop-edge.invariant c.in-Some.edge c.in-Some.ensures.place
+
+pub turn_away-requires-clause-right : goal.turn_away-requires-clause-right
+turn_away-requires-clause-right g c = place_right g.V.HasPosition.place c.args.dcel.now c.loop-edge.dcel (origin c.args.dcel.now.mesh c.args.first) c.args.first c.loop-edge.count c.loop-edge.invariant c.in-Some.edge c.in-Some.ensures.place
+
+pub turn_away-requires-clause-apart : goal.turn_away-requires-clause-apart
+turn_away-requires-clause-apart g c = place_apart g.V.HasPosition.place c.args.dcel.now c.loop-edge.dcel (origin c.args.dcel.now.mesh c.args.first) c.args.first c.loop-edge.count c.loop-edge.invariant c.in-Some.edge c.in-Some.ensures.place
+
+pub loop-edge-preserved : goal.loop-edge-preserved
+loop-edge-preserved g c =
+    hull_shrinking_goes_on g.V.HasPosition.place c.args.dcel.now c.loop-edge.dcel (origin c.args.dcel.now.mesh c.args.first) c.args.first c.loop-edge.count c.loop-edge.invariant c.in-Some.edge c.in-Some.ensures.place
+    c.turn_away.new.dcel c.num_directed_edges.ensures.whole c.in-Some.ensures.convex c.turn_away.ensures.contents c.turn_away.ensures.triangles c.turn_away.ensures.outer
+
+pub returns-clause-bent : goal.returns-clause-bent
+returns-clause-bent g c = bent_at_end g.V.HasPosition.place c.args.dcel.now c.loop-edge.dcel (origin c.args.dcel.now.mesh c.args.first) c.args.first c.loop-edge.count c.loop-edge.invariant c.in_default.ensures.none

@@ -1,0 +1,30 @@
+-- The edges and faces round a vertex on the hull that is to go.
+use Rattle.std.specs.Prelude.{◌≡◌, ℕ, suc, ◌<◌, List, length, slice_index}
+use Rattle.half_edge_links.specs.Mesh.{Mesh, origin, next, face, rev}
+use Rattle.half_edge_links.specs.Peel.{spoke}
+use Rattle.half_edge_links.specs.Round.{IsRound, neighbour}
+use Rattle.plane.specs.Fraction.{Point}
+use Rattle.plane.specs.Pairs.{place}
+use Rattle.plane.specs.Side.{TurnsLeft}
+use Rattle.plane_tiling.specs.Local.{LocalMesh}
+use Rattle.drawn_mesh.specs.Drawn.{faces_of, outer_of}
+use Rattle.delaunay_removal.specs.Star.{IsConvexAt}
+
+-- vertex v is on the hull, and has so many edges, from the one with the outer face on its right on
+pub record IsHullStar (points : List Point) (m : Mesh) (v first count : ℕ) : Type 0 where
+  pub shape : LocalMesh points (faces_of m) (outer_of m)
+  pub outer : face m (rev first) ≡ 0
+  pub round : IsRound m v first count
+
+-- none of its edges lies across a strictly convex quadrilateral
+abbrev pub IsBent : List Point → Mesh → ℕ → ℕ → Type 0
+IsBent points m first count = (i : ℕ) → suc (suc i) < count → ¬ IsConvexAt points m (spoke m first i)
+
+-- the vertex where edge first starts, with the outer face on its right, is a corner of the hull
+abbrev pub IsCornerAt : List Point → Mesh → ℕ → Type 0
+IsCornerAt points m first = TurnsLeft (place points (origin m first)) (place points (neighbour m first 0)) (place points (origin m (rev (next m (rev first)))))
+
+-- the sides opposite a vertex, from its edge first on
+pub record AreSides (m : Mesh) (first count : ℕ) (sides : List ℕ) : Type 0 where
+  pub count_is : length sides ≡ count
+  pub each : (i : ℕ) → i < count → slice_index sides i ≡ next m (spoke m first i)

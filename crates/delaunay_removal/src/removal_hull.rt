@@ -1,0 +1,186 @@
+//! A vertex on the hull loses its edges.
+ghost use Rattle.std.specs.Prelude.{◌≡◌, ◌↔◌, ◌-◌, ℕ, ◌<◌, ◌≤◌, length, map, All, IsTrue, IfSome, IfNone, vec_capacity};
+ghost use Rattle.half_edge_links.specs.Mesh.{face, next, origin, rev};
+ghost use Rattle.half_edge_links.specs.Round.{neighbour};
+ghost use Rattle.plane.specs.Pairs.{place};
+ghost use Rattle.plane.specs.Side.{on, side};
+ghost use Rattle.plane_tiling.specs.Local.{LocalMesh};
+ghost use Rattle.drawn_mesh.specs.Drawn.{faces_of, outer_of};
+ghost use Rattle.delaunay_removal.specs.Hull.{AreSides, IsBent, IsCornerAt, IsHullStar};
+ghost use Rattle.delaunay_removal.specs.Star.{HasInnerFaces, IsolatesVertex};
+
+use crate::star::{count_edges, edge_after, end_of, find_convex, opposite_side, turn_away};
+use delaunay_core::math::PlaneTests;
+use delaunay_core::point::HasPosition;
+use delaunay_edit::{is_outer, start_of, turns_left};
+use half_edge_mesh::{Dcel, FixedDirectedEdgeHandle, FixedVertexHandle};
+use half_edge_views::MeshViews;
+
+// Turns edges of a vertex on the hull away while one of them lies across a strictly convex quadrilateral. `first` is the
+// one with the outer face on its right. Gives how many are left.
+fn shrink_hull_star<V: HasPosition, DE, UE, F, P: PlaneTests<V::Scalar>>(
+    dcel: &mut Dcel<V, DE, UE, F>,
+    first: FixedDirectedEdgeHandle,
+    tests: &P,
+) -> usize
+    requires within { first < length dcel.old.directed }
+    requires shape { LocalMesh (map V.place dcel.old.vertices) (faces_of dcel.old.mesh) (outer_of dcel.old.mesh) }
+    requires outer { face dcel.old.mesh (rev first) ≡ 0 }
+    requires sites { All (P.sites tests.now) (map V.place dcel.old.vertices) }
+    ensures contents { dcel.new ≡ record dcel.old { mesh = dcel.new.mesh } }
+    ensures star { IsHullStar (map V.place dcel.new.vertices) dcel.new.mesh (origin dcel.old.mesh first) first result }
+    ensures bent { IsBent (map V.place dcel.new.vertices) dcel.new.mesh first result }
+{
+    let mut count = count_edges(dcel, first);
+    let _ = dcel.num_vertices();
+    while let Some(edge) = find_convex(dcel, first, count - 2, tests) {
+        turn_away(dcel, edge);
+        let _ = dcel.num_directed_edges();
+        count -= 1;
+    }
+    count
+}
+
+// The last edge of a vertex on the hull, where `first` has the outer face on its right.
+fn last_edge<V, DE, UE, F>(
+    dcel: &Dcel<V, DE, UE, F>,
+    first: FixedDirectedEdgeHandle,
+) -> FixedDirectedEdgeHandle
+    requires { first < length dcel.now.directed }
+    ensures value { result ≡ next dcel.now.mesh (rev first) }
+    ensures within { result < length dcel.now.directed }
+{
+    dcel.directed_edge(first).cw().fix()
+}
+
+// Whether the vertex where `first` starts, with the outer face on its right, is a corner of the hull.
+fn is_corner<V: HasPosition, DE, UE, F, P: PlaneTests<V::Scalar>>(
+    dcel: &Dcel<V, DE, UE, F>,
+    first: FixedDirectedEdgeHandle,
+    tests: &P,
+) -> bool
+    requires within { first < length dcel.now.directed }
+    requires sites { All (P.sites tests.now) (map V.place dcel.now.vertices) }
+    ensures { IsTrue result ↔ IsCornerAt (map V.place dcel.now.vertices) dcel.now.mesh first }
+{
+    let last = last_edge(dcel, first);
+    let centre = start_of(dcel, first);
+    let from = end_of(dcel, first);
+    let to = end_of(dcel, last);
+    turns_left(centre, from, to, tests)
+}
+
+// Lists the sides opposite a vertex in its first `count` faces, from `first` on.
+fn collect_sides<V, DE, UE, F>(
+    dcel: &Dcel<V, DE, UE, F>,
+    first: FixedDirectedEdgeHandle,
+    count: usize,
+    sides: &mut Vec<FixedDirectedEdgeHandle>,
+)
+    requires within { first < length dcel.now.directed }
+    requires room { count ≤ vec_capacity sides.old }
+    ensures sides { AreSides dcel.now.mesh first count sides.new.items }
+    ensures capacity { vec_capacity sides.new ≡ vec_capacity sides.old }
+{
+    sides.clear();
+    let mut edge = first;
+    for i in 0..count {
+        sides.push_reserved(opposite_side(dcel, edge));
+        edge = edge_after(dcel, edge);
+    }
+}
+
+// Removes the edges of a vertex at a corner of the hull, and its faces.
+fn cut_corner<V: HasPosition, DE: Drop, UE: Drop, F: Drop>(
+    dcel: &mut Dcel<V, DE, UE, F>,
+    first: FixedDirectedEdgeHandle,
+    count: usize,
+    vertex: FixedVertexHandle,
+    sides: &mut Vec<FixedDirectedEdgeHandle>,
+)
+    requires star { IsHullStar (map V.place dcel.old.vertices) dcel.old.mesh vertex first count }
+    requires bent { IsBent (map V.place dcel.old.vertices) dcel.old.mesh first count }
+    requires corner { IsCornerAt (map V.place dcel.old.vertices) dcel.old.mesh first }
+    requires room { count ≤ vec_capacity sides.old }
+    ensures isolates { IsolatesVertex (map V.place dcel.old.vertices) dcel.old dcel.new vertex }
+    ensures capacity { vec_capacity sides.new ≡ vec_capacity sides.old }
+{
+    let _ = dcel.num_directed_edges();
+    collect_sides(dcel, first, count - 1, sides);
+    let _ = dcel.disconnect_edge_strip(sides.as_slice());
+    let _ = dcel.num_vertices();
+}
+
+// Removes the edges of a vertex on a flat side of the hull that has three of them. Its two faces become one.
+fn close_flat<V: HasPosition, DE: Drop, UE: Drop, F: Drop>(
+    dcel: &mut Dcel<V, DE, UE, F>,
+    first: FixedDirectedEdgeHandle,
+    vertex: FixedVertexHandle,
+)
+    requires star { IsHullStar (map V.place dcel.old.vertices) dcel.old.mesh vertex first 3 }
+    requires flat { side (place (map V.place dcel.old.vertices) (neighbour dcel.old.mesh first 0)) (place (map V.place dcel.old.vertices) vertex) (place (map V.place dcel.old.vertices) (neighbour dcel.old.mesh first 2)) ≡ on }
+    ensures { IsolatesVertex (map V.place dcel.old.vertices) dcel.old dcel.new vertex }
+{
+    let _ = dcel.num_directed_edges();
+    turn_away(dcel, first);
+    let _ = dcel.num_vertices();
+    let sides = [opposite_side(dcel, first)];
+    let _ = dcel.disconnect_edge_strip(&sides);
+    let _ = dcel.num_vertices();
+}
+
+// Removes the edges of a vertex on the hull, from which `first` starts, with the outer face on its right. `sides` has
+// room for each edge.
+pub(crate) fn isolate_on_hull<
+    V: HasPosition,
+    DE: Drop,
+    UE: Drop,
+    F: Drop,
+    P: PlaneTests<V::Scalar>,
+>(
+    dcel: &mut Dcel<V, DE, UE, F>,
+    first: FixedDirectedEdgeHandle,
+    vertex: FixedVertexHandle,
+    tests: &P,
+    sides: &mut Vec<FixedDirectedEdgeHandle>,
+)
+    requires within { first < length dcel.old.directed }
+    requires starts { origin dcel.old.mesh first ≡ vertex }
+    requires shape { LocalMesh (map V.place dcel.old.vertices) (faces_of dcel.old.mesh) (outer_of dcel.old.mesh) }
+    requires outer { face dcel.old.mesh (rev first) ≡ 0 }
+    requires sites { All (P.sites tests.now) (map V.place dcel.old.vertices) }
+    requires room { length dcel.old.directed ≤ vec_capacity sides.old }
+    ensures isolates { IsolatesVertex (map V.place dcel.old.vertices) dcel.old dcel.new vertex }
+    ensures capacity { vec_capacity sides.new ≡ vec_capacity sides.old }
+{
+    let count = shrink_hull_star(dcel, first, tests);
+    let _ = dcel.num_vertices();
+    if is_corner(dcel, first, tests) {
+        cut_corner(dcel, first, count, vertex, sides);
+    } else {
+        close_flat(dcel, first, vertex);
+    }
+}
+
+// Of the edges that start where `first` starts, one with the outer face on its right, if there is one.
+pub(crate) fn outer_edge_beside<V, DE, UE, F>(
+    dcel: &Dcel<V, DE, UE, F>,
+    first: FixedDirectedEdgeHandle,
+) -> Option<FixedDirectedEdgeHandle>
+    requires { first < length dcel.now.directed }
+    ensures within { IfSome result (λ e. e < length dcel.now.directed) }
+    ensures starts { IfSome result (λ e. origin dcel.now.mesh e ≡ origin dcel.now.mesh first) }
+    ensures outer { IfSome result (λ e. face dcel.now.mesh (rev e) ≡ 0) }
+    ensures none { IfNone result (HasInnerFaces dcel.now.mesh (origin dcel.now.mesh first)) }
+{
+    let _ = dcel.num_directed_edges();
+    let count = count_edges(dcel, first);
+    let mut edge = first;
+    for i in 0..count {
+        if is_outer(dcel, dcel.directed_edge(edge).rev().fix()) {
+            return Some(edge);
+        }
+        edge = edge_after(dcel, edge);
+    }
+    None
+}
