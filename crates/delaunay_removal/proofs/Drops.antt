@@ -20,9 +20,6 @@ module _ {V D U F : Type 0} (place : V → Point) (old new : Contents V D U F) (
   vertices_left : new.vertices ≡ swap_remove old.vertices v value
   vertices_left = ap (λ (c : Contents V D U F). c.vertices) drops.contents
 
-  pub dropped_outer : new.outer ≡ old.outer
-  dropped_outer = ap (λ (c : Contents V D U F). c.outer) drops.contents
-
   pub dropped_plain : Removes place (record { vertices = old.vertices; constraints = [] }) (record { vertices = new.vertices; constraints = [] }) v
   dropped_plain = plain_removes place old old new v value (λ i. old.vertices) drops
 

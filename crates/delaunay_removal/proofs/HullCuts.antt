@@ -16,8 +16,10 @@ use Rattle.drawn_mesh.specs.Drawn.{faces_of}
 use Rattle.drawn_mesh.proofs.Borders.{opposite_of_strip}
 use Rattle.drawn_mesh.proofs.MeshVertexLeaves.{leaves_corner, leaves_to_line, leaves_flat, flat_turned}
 use Rattle.drawn_mesh.proofs.StarTurns.{TurnsAway, strip_left, same_start}
+use Rattle.delaunay_removal.specs.Data.{StandsBeside}
 use Rattle.delaunay_removal.specs.Star.{IsolatesVertex}
 use Rattle.delaunay_removal.specs.Hull.{AreSides, IsHullStar, IsBent}
+use Rattle.delaunay_removal.proofs.DataStays.{strip_stands, stands_on}
 use Rattle.delaunay_removal.proofs.HullStars.{strip_of, none_turns, left_of, right_of}
 
 -- a list is empty or not
@@ -48,6 +50,7 @@ module _ {V D U F : Type 0} (points : List Point) (old new : Contents V D U F) (
       | inl none ↦ inr (none, leaves_to_line points old before star.shape v first star.outer new after count star.round corner turns loses none)
       | inr some ↦ inl (leaves_corner points old before star.shape v first star.outer new after count star.round corner turns loses some)
     ];
+    beside = strip_stands old new v (neighbour old.mesh first) (count - 1) loses;
   }
     where
       turns : NoneTurnsLeft points (count - 1) (neighbour old.mesh first)
@@ -68,9 +71,10 @@ module _ {V D U F : Type 0} (points : List Point) (old mid : Contents V D U F) (
     flat_starts = same_start old.mesh mid.mesh before.valid v first 3 star.round (omega arith) (left_of points old.mesh before.valid v first 3 star 0 (omega arith)) (right_of points old.mesh before.valid v first 3 star 0 (omega arith)) turns_first
 
   module _ (new : Contents V D U F) (middle : IsWhole mid) (after : IsWhole new) where
-    pub flat_isolates : mid ≡ record old { mesh = mid.mesh } → side (place points (neighbour old.mesh first 0)) (place points v) (place points (neighbour old.mesh first 2)) ≡ on → LosesStrip mid new v (neighbour mid.mesh first) 1 → IsolatesVertex points old new v
-    flat_isolates same flat loses = record {
+    pub flat_isolates : mid ≡ record old { mesh = mid.mesh } → StandsBeside old mid v → side (place points (neighbour old.mesh first 0)) (place points v) (place points (neighbour old.mesh first 2)) ≡ on → LosesStrip mid new v (neighbour mid.mesh first) 1 → IsolatesVertex points old new v
+    flat_isolates same stands flat loses = record {
       contents = loses.contents ∙ ap (λ (c : Contents V D U F). record c { mesh = new.mesh; directed = new.directed; undirected = new.undirected; faces = new.faces }) same;
       alone = loses.alone;
       shape = inl (leaves_flat points old before star.shape v first star.outer mid new middle after star.round turned triangles kept flat loses);
+      beside = stands_on old mid new v stands (strip_stands mid new v (neighbour mid.mesh first) 1 loses);
     }

@@ -7,6 +7,7 @@ use Rattle.half_edge_views.proofs.Loops.{round_fits}
 use Rattle.plane.specs.Fraction.{Point}
 use Rattle.plane.specs.Pairs.{place as at}
 use Rattle.plane.specs.Side.{side, on}
+use Rattle.delaunay_removal.specs.Data.{StandsBeside}
 use Rattle.delaunay_removal.specs.Star.{IsolatesVertex}
 use Rattle.delaunay_removal.specs.Hull.{IsBent, IsCornerAt, IsHullStar}
 use Rattle.delaunay_removal.proofs.HullStars.{flat_has_three}
@@ -48,5 +49,5 @@ module _ {V D U F : Type 0} (place : V → Point) (old mid : Contents V D U F) (
         two = let e = flat.0 in omega (arith, e)
 
   -- what is left is what the turns and the rest left
-  pub hull_isolates : (new : Contents V D U F) (vertex : ℕ) → IsolatesVertex (map place mid.vertices) mid new vertex → IsolatesVertex (map place old.vertices) old new vertex
-  hull_isolates new vertex isolates = isolates_from (map place old.vertices) old mid new vertex contents (subst (λ (vs : List V). IsolatesVertex (map place vs) mid new vertex) same isolates)
+  pub hull_isolates : (new : Contents V D U F) (vertex : ℕ) → v ≡ vertex → StandsBeside old mid v → IsolatesVertex (map place mid.vertices) mid new vertex → IsolatesVertex (map place old.vertices) old new vertex
+  hull_isolates new vertex named stands isolates = isolates_from (map place old.vertices) old mid new vertex contents (subst (λ (x : ℕ). StandsBeside old mid x) named stands) (subst (λ (vs : List V). IsolatesVertex (map place vs) mid new vertex) same isolates)

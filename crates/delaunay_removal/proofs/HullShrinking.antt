@@ -1,15 +1,17 @@
 -- The loop that turns edges of a vertex on the hull away.
 use Rattle.std.proofs.Common.{◌≡◌, ◌≢◌, ℕ, suc, ◌-◌, ◌*◌, ◌/◌, ◌<◌, ◌≤◌, List, length, map, sym, ap, ◌∙◌, subst, arith}
 use Rattle.std.specs.Prelude.{All}
-use Rattle.half_edge_links.specs.Mesh.{Mesh, face}
+use Rattle.half_edge_links.specs.Mesh.{Mesh, origin, face}
 use Rattle.half_edge_links.specs.Outline.{KeepsOuter}
 use Rattle.half_edge_links.specs.Peel.{turn, spoke}
 use Rattle.half_edge_links.specs.Round.{neighbour}
 use Rattle.half_edge_links.specs.Triangles.{FlipsTriangles}
 use Rattle.half_edge_mesh.specs.Contents.{Contents, IsWhole}
 use Rattle.plane.specs.Fraction.{Point}
+use Rattle.delaunay_removal.specs.Data.{StandsBeside}
 use Rattle.delaunay_removal.specs.Star.{IsConvexAt}
 use Rattle.delaunay_removal.specs.Hull.{IsHullStar, IsBent}
+use Rattle.delaunay_removal.proofs.DataStays.{stands_on}
 use Rattle.delaunay_removal.proofs.HullStars.{has_two, hull_ends_differ, left_of, right_of, hull_star_less}
 
 -- an edge of the vertex, before one that has inner faces on both sides
@@ -22,6 +24,7 @@ pub record IsHullShrinking {V D U F : Type 0} (place : V → Point) (old now : C
   pub star : IsHullStar (map place now.vertices) now.mesh v first count
   pub many : 2 ≤ count
   pub whole : IsWhole now
+  pub beside : StandsBeside old now v
 
 module _ {V D U F : Type 0} (place : V → Point) (old now : Contents V D U F) (v first count : ℕ) (shrinking : IsHullShrinking place old now v first count) where
   pub hull_sites_stay : (IsSite : Point → Type 0) → All IsSite (map place old.vertices) → All IsSite (map place now.vertices)
@@ -47,13 +50,14 @@ module _ {V D U F : Type 0} (place : V → Point) (old now : Contents V D U F) (
     place_apart = subst (λ (h : ℕ). neighbour now.mesh h 0 ≢ neighbour now.mesh h 2) (sym at.2) (hull_ends_differ (map place now.vertices) now.mesh shrinking.whole.valid v first count shrinking.star at.0 below)
 
     -- one more turn
-    pub hull_shrinking_goes_on : (new : Contents V D U F) → IsWhole new → IsConvexAt (map place now.vertices) now.mesh edge → new ≡ record now { mesh = new.mesh } → FlipsTriangles now.mesh new.mesh (2 * (turn now.mesh edge / 2)) → KeepsOuter now.mesh new.mesh
+    pub hull_shrinking_goes_on : (new : Contents V D U F) → IsWhole new → IsConvexAt (map place now.vertices) now.mesh edge → new ≡ record now { mesh = new.mesh } → FlipsTriangles now.mesh new.mesh (2 * (turn now.mesh edge / 2)) → KeepsOuter now.mesh new.mesh → StandsBeside now new (origin now.mesh edge)
         → IsHullShrinking place old new v first (count - 1)
-    hull_shrinking_goes_on new after convex contents triangles outer = record {
+    hull_shrinking_goes_on new after convex contents triangles outer stands = record {
       contents = contents ∙ ap (λ (c : Contents V D U F). record c { mesh = new.mesh }) shrinking.contents;
       star = star_now;
       many = has_two (map place new.vertices) new.mesh after.valid v first (count - 1) star_now;
       whole = after;
+      beside = stands_on old now new v shrinking.beside (subst (StandsBeside now new) (ap (origin now.mesh) at.2 ∙ shrinking.star.round.starts at.0) stands);
     }
       where
         star_now : IsHullStar (map place new.vertices) new.mesh v first (count - 1)

@@ -16,7 +16,9 @@ use Rattle.plane_tiling.proofs.Edges.{turned_within}
 use Rattle.drawn_mesh.proofs.Borders.{border_of_wheel}
 use Rattle.drawn_mesh.proofs.MeshVertexLeaves.{leaves_three, leaves_four}
 use Rattle.drawn_mesh.proofs.StarTurns.{wheel_of_three, wheel_left}
+use Rattle.delaunay_removal.specs.Data.{StandsBeside}
 use Rattle.delaunay_removal.specs.Star.{IsBetweenAt, IsInnerStar, StandsBetween, IsolatesVertex}
+use Rattle.delaunay_removal.proofs.DataStays.{hole_stands, stands_on}
 use Rattle.delaunay_removal.proofs.InnerStars.{spokes_inner, turns}
 
 -- ---- three faces
@@ -46,6 +48,7 @@ module _ {V D U F : Type 0} (points : List Point) (old new : Contents V D U F) (
     contents = hole.contents;
     alone = hole.alone;
     shape = inl (leaves_three points old before star.shape v first (spokes_inner points old.mesh before.valid v first 3 star) new after star.round hole);
+    beside = hole_stands old new v (neighbour old.mesh first) hole;
   }
 
 -- ---- four faces
@@ -73,18 +76,20 @@ module _ {V D U F : Type 0} (points : List Point) (old mid : Contents V D U F) (
 
   -- and then the hole is filled
   pub four_isolate : (new : Contents V D U F) → IsWhole mid → IsWhole new → mid ≡ record old { mesh = mid.mesh } → FlipsTriangles old.mesh mid.mesh (2 * (turn old.mesh first / 2)) → KeepsOuter old.mesh mid.mesh
-      → IsBetweenAt points old.mesh first → FillsHole mid new v (neighbour mid.mesh first) → IsolatesVertex points old new v
-  four_isolate new middle after same triangles outer between hole = record {
+      → StandsBeside old mid v → IsBetweenAt points old.mesh first → FillsHole mid new v (neighbour mid.mesh first) → IsolatesVertex points old new v
+  four_isolate new middle after same triangles outer stands between hole = record {
     contents = hole.contents ∙ ap (λ (c : Contents V D U F). record c { mesh = new.mesh; directed = new.directed; undirected = new.undirected; faces = new.faces }) same;
     alone = hole.alone;
     shape = inl (leaves_four points old before star.shape v first (spokes_inner points old.mesh before.valid v first 4 star) mid new middle after star.round turned triangles outer
         (subst (λ (x : ℕ). WithinSegment (place points (neighbour old.mesh first 0)) (place points (neighbour old.mesh first 2)) (place points x)) (star.round.starts 0) between) hole);
+    beside = stands_on old mid new v stands (hole_stands mid new v (neighbour mid.mesh first) hole);
   }
 
 -- ---- after turns
-pub isolates_from : {V D U F : Type 0} (points : List Point) (old mid new : Contents V D U F) (v : ℕ) → mid ≡ record old { mesh = mid.mesh } → IsolatesVertex points mid new v → IsolatesVertex points old new v
-isolates_from {V} {D} {U} {F} points old mid new v same isolates = record {
+pub isolates_from : {V D U F : Type 0} (points : List Point) (old mid new : Contents V D U F) (v : ℕ) → mid ≡ record old { mesh = mid.mesh } → StandsBeside old mid v → IsolatesVertex points mid new v → IsolatesVertex points old new v
+isolates_from {V} {D} {U} {F} points old mid new v same stands isolates = record {
   contents = isolates.contents ∙ ap (λ (c : Contents V D U F). record c { mesh = new.mesh; directed = new.directed; undirected = new.undirected; faces = new.faces }) same;
   alone = isolates.alone;
   shape = isolates.shape;
+  beside = stands_on old mid new v stands isolates.beside;
 }

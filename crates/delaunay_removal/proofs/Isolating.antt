@@ -7,6 +7,7 @@ use Rattle.half_edge_links.specs.Round.{neighbour}
 use Rattle.half_edge_mesh.specs.Contents.{Contents, IsWhole}
 use Rattle.half_edge_mesh.specs.Removal.{FillsHole}
 use Rattle.plane.specs.Fraction.{Point}
+use Rattle.delaunay_removal.specs.Data.{StandsBeside}
 use Rattle.delaunay_removal.specs.Star.{HasInnerFaces, IsInnerStar, IsReduced, IsolatesVertex, StandsBetween}
 use Rattle.delaunay_removal.proofs.InnerHoles.{wheel_at, three_isolate, isolates_from}
 
@@ -14,7 +15,7 @@ use Rattle.delaunay_removal.proofs.InnerHoles.{wheel_at, three_isolate, isolates
 pub inner_as : (m : Mesh) (v first : ℕ) → origin m first ≡ v → HasInnerFaces m v → HasInnerFaces m (origin m first)
 inner_as m v first starts inner = subst (HasInnerFaces m) (sym starts) inner
 
-module _ {V D U F : Type 0} (place : V → Point) (old mid : Contents V D U F) (v first count : ℕ) (contents : mid ≡ record old { mesh = mid.mesh }) (star : IsInnerStar (map place old.vertices) mid.mesh v first count) where
+module _ {V D U F : Type 0} (place : V → Point) (old mid : Contents V D U F) (v first count : ℕ) (contents : mid ≡ record old { mesh = mid.mesh }) (stands : StandsBeside old mid v) (star : IsInnerStar (map place old.vertices) mid.mesh v first count) where
   same : mid.vertices ≡ old.vertices
   same = ap (λ (c : Contents V D U F). c.vertices) contents
 
@@ -26,7 +27,7 @@ module _ {V D U F : Type 0} (place : V → Point) (old mid : Contents V D U F) (
   three_wheel whole three = wheel_at (map place old.vertices) mid whole v first (subst (λ (n : ℕ). IsInnerStar (map place old.vertices) mid.mesh v first n) three star)
 
   pub three_isolates : (new : Contents V D U F) → IsWhole mid → IsWhole new → count ≡ 3 → (vertex : ℕ) → v ≡ vertex → FillsHole mid new vertex (neighbour mid.mesh first) → IsolatesVertex (map place old.vertices) old new vertex
-  three_isolates new whole after three vertex named hole = isolates_from (map place old.vertices) old mid new vertex contents
+  three_isolates new whole after three vertex named hole = isolates_from (map place old.vertices) old mid new vertex contents (subst (λ (x : ℕ). StandsBeside old mid x) named stands)
       (three_isolate (map place old.vertices) mid new whole after vertex first (subst (λ (x : ℕ × ℕ). IsInnerStar (map place old.vertices) mid.mesh x.0 first x.1) (λ i. (named i, three i)) star) hole)
 
   -- ---- or four
@@ -43,5 +44,5 @@ module _ {V D U F : Type 0} (place : V → Point) (old mid : Contents V D U F) (
     pub four_star_named : (h vertex : ℕ) → v ≡ vertex → IsInnerStar (map place mid.vertices) mid.mesh (origin mid.mesh first) h 4 → IsInnerStar (map place mid.vertices) mid.mesh vertex h 4
     four_star_named h vertex named s = subst (λ (x : ℕ). IsInnerStar (map place mid.vertices) mid.mesh x h 4) (star.round.starts 0 ∙ named) s
 
-    pub four_isolates : (new : Contents V D U F) (vertex : ℕ) → IsolatesVertex (map place mid.vertices) mid new vertex → IsolatesVertex (map place old.vertices) old new vertex
-    four_isolates new vertex isolates = isolates_from (map place old.vertices) old mid new vertex contents (subst (λ (vs : List V). IsolatesVertex (map place vs) mid new vertex) same isolates)
+    pub four_isolates : (new : Contents V D U F) (vertex : ℕ) → v ≡ vertex → IsolatesVertex (map place mid.vertices) mid new vertex → IsolatesVertex (map place old.vertices) old new vertex
+    four_isolates new vertex named isolates = isolates_from (map place old.vertices) old mid new vertex contents (subst (λ (x : ℕ). StandsBeside old mid x) named stands) (subst (λ (vs : List V). IsolatesVertex (map place vs) mid new vertex) same isolates)

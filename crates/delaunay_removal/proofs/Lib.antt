@@ -1,3 +1,7 @@
+pub mod DataReads
+pub mod DataStays
+pub mod DataTurns
+pub mod DataDrops
 pub mod Removing
 pub mod Drops
 pub mod Rounds

@@ -79,9 +79,6 @@ module _ {V D U F : Type 0} (place : V → Point) (old : Contents V D U F) (kept
     vertices_left : new.vertices ≡ swap_remove old.vertices v value
     vertices_left = ap (λ (c : Contents V D U F). c.vertices) leaves.drops.contents ∙ ap (λ vs. swap_remove vs v value) same_vertices
 
-    pub outer_stays : new.outer ≡ old.outer
-    outer_stays = ap (λ (c : Contents V D U F). c.outer) leaves.drops.contents ∙ ap (λ (c : Contents V D U F). c.outer) leaves.leaves.contents
-
     same_faces : length new.faces ≡ 0
     same_faces = ap (λ (c : Contents V D U F). length c.faces) leaves.drops.contents ∙ ap (λ (c : Contents V D U F). length c.faces) leaves.leaves.contents ∙ none
 

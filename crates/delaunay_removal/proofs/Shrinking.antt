@@ -8,13 +8,16 @@ use Rattle.half_edge_links.specs.Peel.{turn, spoke}
 use Rattle.half_edge_links.specs.Triangles.{FlipsTriangles}
 use Rattle.half_edge_mesh.specs.Contents.{Contents, IsWhole}
 use Rattle.plane.specs.Fraction.{Point}
+use Rattle.delaunay_removal.specs.Data.{StandsBeside}
 use Rattle.delaunay_removal.specs.Star.{IsConvexAt, IsInnerStar, IsReduced}
+use Rattle.delaunay_removal.proofs.DataStays.{stands_on}
 use Rattle.delaunay_removal.proofs.InnerStars.{star_from, star_shrinks, has_three, none_left}
 
 -- vertex v lost edges by turns, and still has so many, from edge first on
 pub record IsShrinking {V D U F : Type 0} (place : V → Point) (old now : Contents V D U F) (v first count : ℕ) : Type 0 where
   pub contents : now ≡ record old { mesh = now.mesh }
   pub star : IsInnerStar (map place now.vertices) now.mesh v first count
+  pub beside : StandsBeside old now v
 
 module _ {V D U F : Type 0} (place : V → Point) (old now : Contents V D U F) (v first count : ℕ) (shrinking : IsShrinking place old now v first count) where
   pub vertices_stay : now.vertices ≡ old.vertices
@@ -35,12 +38,13 @@ module _ {V D U F : Type 0} (place : V → Point) (old now : Contents V D U F) (
 
     -- one more turn
     pub shrinking_goes_on : (new : Contents V D U F) → IsWhole new → 3 < count → (edge : ℕ) → (i : ℕ) × (i < count) × (edge ≡ spoke now.mesh first i) → IsConvexAt (map place now.vertices) now.mesh edge
-        → new.mesh ≡ flipped now.mesh (2 * (turn now.mesh edge / 2)) → new ≡ record now { mesh = new.mesh } → FlipsTriangles now.mesh new.mesh (2 * (turn now.mesh edge / 2)) → KeepsOuter now.mesh new.mesh
+        → new.mesh ≡ flipped now.mesh (2 * (turn now.mesh edge / 2)) → new ≡ record now { mesh = new.mesh } → FlipsTriangles now.mesh new.mesh (2 * (turn now.mesh edge / 2)) → KeepsOuter now.mesh new.mesh → StandsBeside now new (origin now.mesh edge)
         → IsShrinking place old new v edge (count - 1)
-    shrinking_goes_on new after many edge at convex turned contents triangles outer = record {
+    shrinking_goes_on new after many edge at convex turned contents triangles outer stands = record {
       contents = contents ∙ ap (λ (c : Contents V D U F). record c { mesh = new.mesh }) shrinking.contents;
       star = subst (λ (vs : List V). IsInnerStar (map place vs) new.mesh v edge (count - 1)) (sym (ap (λ (c : Contents V D U F). c.vertices) contents))
           (star_shrinks (map place now.vertices) now.mesh new.mesh whole.valid v edge count (star_at edge at) many turned outer after.valid triangles convex);
+      beside = stands_on old now new v shrinking.beside (subst (StandsBeside now new) (ap (origin now.mesh) at.2 ∙ shrinking.star.round.starts at.0) stands);
     }
 
     -- no edge can be turned any more

@@ -10,6 +10,7 @@ use Rattle.plane.specs.Tiling.{Face}
 use Rattle.plane_tiling.specs.Local.{LocalMesh}
 use Rattle.plane_edits.specs.Removal.{LocalMeshWithout, LineMeshWithout}
 use Rattle.drawn_mesh.specs.Drawn.{faces_of, outer_of}
+use Rattle.delaunay_removal.specs.Data.{StandsBeside}
 
 -- the edge after edge h, round the vertex where they start, lies across a strictly convex quadrilateral: its corners are
 -- this vertex and the ends of h and of the two edges after it
@@ -43,8 +44,9 @@ IsReduced points m v first count = (count ≡ 3) ⊎ ((count ≡ 4) × StandsBet
 abbrev pub IsMeshWithout : ℕ → List Point → List Face → List (ℕ × ℕ) → Type 0
 IsMeshWithout v points faces outer = LocalMeshWithout v points faces outer ⊎ ((faces ≡ []) × LineMeshWithout v points outer)
 
--- vertex v has lost its edges, and the mesh is one of the other vertices
+-- vertex v has lost its edges, the mesh is one of the other vertices, and the edges and faces beside v keep their data
 pub record IsolatesVertex {V D U F : Type 0} (points : List Point) (old new : Contents V D U F) (v : ℕ) : Type 0 where
   pub contents : new ≡ record old { mesh = new.mesh; directed = new.directed; undirected = new.undirected; faces = new.faces }
   pub alone : IsAlone new.mesh v
   pub shape : IsMeshWithout v points (faces_of new.mesh) (outer_of new.mesh)
+  pub beside : StandsBeside old new v

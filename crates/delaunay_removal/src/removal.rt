@@ -1,11 +1,13 @@
 //! Vertices that go, with their edges.
 ghost use Rattle.std.specs.Prelude.{◌≡◌, ◌<◌, ◌≤◌, length, map, All, Some, IsSome, slice_get, vec_capacity};
 ghost use Rattle.half_edge_links.specs.Mesh.{origin, out_edge, IsAlone};
+ghost use Rattle.half_edge_mesh.specs.Removal.{DropsVertex};
 ghost use Rattle.plane.specs.Plain.{Removes};
 ghost use Rattle.plane.specs.Tests.{InRange};
 ghost use Rattle.drawn_mesh.specs.Drawn.{faces_of, outer_of};
 ghost use Rattle.delaunay_edit.specs.Shape.{IsKept};
 ghost use Rattle.delaunay_edit.specs.State.{plain_of, state_of};
+ghost use Rattle.delaunay_removal.specs.Data.{KeepsDataBeside};
 ghost use Rattle.delaunay_removal.specs.Star.{HasInnerFaces, IsMeshWithout, IsolatesVertex};
 
 use crate::removal_hull::{isolate_on_hull, outer_edge_beside};
@@ -44,7 +46,7 @@ fn drop_vertex<V: HasPosition, DE, UE, F>(
     ensures value { slice_get dcel.old.vertices vertex ≡ Some result }
     ensures plain { Removes V.place (plain_of (state_of dcel.old)) (plain_of (state_of dcel.new)) vertex }
     ensures kept { IsKept V.place (state_of dcel.new) }
-    ensures outer { dcel.new.outer ≡ dcel.old.outer }
+    ensures drops { DropsVertex dcel.old dcel.new vertex result }
 {
     let _ = dcel.num_vertices();
     let value = dcel.swap_remove_vertex(vertex);
@@ -68,7 +70,7 @@ pub fn remove_inner<V: HasPosition, DE: Drop, UE: Drop, F: Drop, P: PlaneTests<V
     ensures value { slice_get dcel.old.vertices vertex ≡ Some result }
     ensures plain { Removes V.place (plain_of (state_of dcel.old)) (plain_of (state_of dcel.new)) vertex }
     ensures kept { IsKept V.place (state_of dcel.new) }
-    ensures outer { dcel.new.outer ≡ dcel.old.outer }
+    ensures data { KeepsDataBeside (state_of dcel.old) (state_of dcel.new) vertex }
 {
     let _ = dcel.num_vertices();
     let first = first_edge(dcel, vertex);
@@ -115,7 +117,7 @@ pub fn remove_vertex<V: HasPosition, DE: Drop, UE: Drop, F: Drop, P: PlaneTests<
     ensures value { slice_get dcel.old.vertices vertex ≡ Some result }
     ensures plain { Removes V.place (plain_of (state_of dcel.old)) (plain_of (state_of dcel.new)) vertex }
     ensures kept { IsKept V.place (state_of dcel.new) }
-    ensures outer { dcel.new.outer ≡ dcel.old.outer }
+    ensures data { KeepsDataBeside (state_of dcel.old) (state_of dcel.new) vertex }
     ensures capacity { vec_capacity sides.new ≡ vec_capacity sides.old }
 {
     if dcel.num_inner_faces() == 0 {

@@ -6,6 +6,7 @@ ghost use Rattle.plane.specs.Pairs.{place};
 ghost use Rattle.plane.specs.Side.{on, side};
 ghost use Rattle.plane_tiling.specs.Local.{LocalMesh};
 ghost use Rattle.drawn_mesh.specs.Drawn.{faces_of, outer_of};
+ghost use Rattle.delaunay_removal.specs.Data.{StandsBeside};
 ghost use Rattle.delaunay_removal.specs.Hull.{AreSides, IsBent, IsCornerAt, IsHullStar};
 ghost use Rattle.delaunay_removal.specs.Star.{HasInnerFaces, IsolatesVertex};
 
@@ -30,6 +31,7 @@ fn shrink_hull_star<V: HasPosition, DE, UE, F, P: PlaneTests<V::Scalar>>(
     ensures contents { dcel.new ≡ record dcel.old { mesh = dcel.new.mesh } }
     ensures star { IsHullStar (map V.place dcel.new.vertices) dcel.new.mesh (origin dcel.old.mesh first) first result }
     ensures bent { IsBent (map V.place dcel.new.vertices) dcel.new.mesh first result }
+    ensures beside { StandsBeside dcel.old dcel.new (origin dcel.old.mesh first) }
 {
     let mut count = count_edges(dcel, first);
     let _ = dcel.num_vertices();

@@ -7,6 +7,7 @@ ghost use Rattle.half_edge_mesh.specs.Contents.{IsWhole};
 ghost use Rattle.half_edge_mesh.specs.Removal.{FillsHole};
 ghost use Rattle.plane_tiling.specs.Local.{LocalMesh};
 ghost use Rattle.drawn_mesh.specs.Drawn.{faces_of, outer_of};
+ghost use Rattle.delaunay_removal.specs.Data.{StandsBeside};
 ghost use Rattle.delaunay_removal.specs.Star.{HasInnerFaces, IsBetweenAt, IsInnerStar, IsReduced, IsolatesVertex, StandsBetween};
 
 use crate::star::{count_edges, edge_after, end_of, find_convex, opposite_side, turn_away};
@@ -29,6 +30,7 @@ fn shrink_star<V: HasPosition, DE, UE, F, P: PlaneTests<V::Scalar>>(
     ensures contents { dcel.new ≡ record dcel.old { mesh = dcel.new.mesh } }
     ensures star { IsInnerStar (map V.place dcel.old.vertices) dcel.new.mesh (origin dcel.old.mesh first) result.0 result.1 }
     ensures reduced { IsReduced (map V.place dcel.old.vertices) dcel.new.mesh (origin dcel.old.mesh first) result.0 result.1 }
+    ensures beside { StandsBeside dcel.old dcel.new (origin dcel.old.mesh first) }
 {
     let mut first = first;
     let mut count = count_edges(dcel, first);

@@ -3,6 +3,7 @@ ghost use Rattle.std.specs.Prelude.{◌≡◌, ◌<◌, length, Some, slice_get}
 ghost use Rattle.plane.specs.Plain.{Removes};
 ghost use Rattle.delaunay_edit.specs.Shape.{IsKept};
 ghost use Rattle.delaunay_edit.specs.State.{plain_of, state_of};
+ghost use Rattle.delaunay_removal.specs.Data.{KeepsDataBeside};
 
 use delaunay_core::point::HasPosition;
 use half_edge_mesh::{Dcel, FixedVertexHandle};
@@ -19,7 +20,7 @@ pub fn remove_on_line<V: HasPosition, DE: Drop, UE: Drop, F>(
     ensures value { slice_get dcel.old.vertices vertex ≡ Some result }
     ensures plain { Removes V.place (plain_of (state_of dcel.old)) (plain_of (state_of dcel.new)) vertex }
     ensures kept { IsKept V.place (state_of dcel.new) }
-    ensures outer { dcel.new.outer ≡ dcel.old.outer }
+    ensures data { KeepsDataBeside (state_of dcel.old) (state_of dcel.new) vertex }
 {
     let value = dcel.remove_when_degenerate(vertex);
     let _ = dcel.num_vertices();

@@ -11,6 +11,7 @@ ghost use Rattle.plane_tiling.specs.Local.{LocalMesh};
 ghost use Rattle.drawn_mesh.specs.Drawn.{faces_of, outer_of};
 ghost use Rattle.delaunay_core.specs.Place.{place_of};
 ghost use Rattle.delaunay_edit.specs.Known.{point_at};
+ghost use Rattle.delaunay_removal.specs.Data.{StandsBeside};
 ghost use Rattle.delaunay_removal.specs.Star.{IsConvexAt};
 
 use delaunay_core::math::PlaneTests;
@@ -130,6 +131,7 @@ pub(crate) fn turn_away<V: HasPosition, DE, UE, F>(
     ensures contents { dcel.new ≡ record dcel.old { mesh = dcel.new.mesh } }
     ensures triangles { FlipsTriangles dcel.old.mesh dcel.new.mesh (2 * (turn dcel.old.mesh edge / 2)) }
     ensures outer { KeepsOuter dcel.old.mesh dcel.new.mesh }
+    ensures beside { StandsBeside dcel.old dcel.new (origin dcel.old.mesh edge) }
     ensures whole { IsWhole dcel.old }
 {
     let _ = dcel.num_directed_edges();

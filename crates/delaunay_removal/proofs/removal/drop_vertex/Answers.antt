@@ -1,4 +1,4 @@
-use Rattle.delaunay_removal.proofs.Drops.{dropped_outer, dropped_plain, dropped_kept}
+use Rattle.delaunay_removal.proofs.Drops.{dropped_plain, dropped_kept}
 use Rattle.delaunay_removal.proofs.removal.drop_vertex.Goals as goal
 
 pub returns-clause-value : goal.returns-clause-value
@@ -10,6 +10,3 @@ returns-clause-plain g c = dropped_plain g.V.HasPosition.place c.args.dcel.now c
 pub returns-clause-kept : goal.returns-clause-kept
 returns-clause-kept g c =
     dropped_kept g.V.HasPosition.place c.args.dcel.now c.swap_remove_vertex-value.new.self c.args.vertex c.swap_remove_vertex-value.result c.swap_remove_vertex-value.ensures.drops c.num_vertices.ensures.whole c.num_vertices-2.ensures.whole c.requires.in_range c.requires.shape
-
-pub returns-clause-outer : goal.returns-clause-outer
-returns-clause-outer g c = dropped_outer g.V.HasPosition.place c.args.dcel.now c.swap_remove_vertex-value.new.self c.args.vertex c.swap_remove_vertex-value.result c.swap_remove_vertex-value.ensures.drops

@@ -1,7 +1,8 @@
-use Rattle.std.proofs.Common.{ℕ, ◌<◌, map, sym, ◌∙◌, subst}
+use Rattle.std.proofs.Common.{ℕ, ◌<◌, map, sym, subst}
 use Rattle.std.proofs.lemmas.List.{length-map}
 use Rattle.drawn_mesh.proofs.MeshStars.{vertex_has_edge}
-use Rattle.delaunay_removal.proofs.Drops.{in_the_plane, ranged_as, shape_as, value_as, plain_as, same_outer}
+use Rattle.delaunay_removal.proofs.Drops.{in_the_plane, ranged_as, shape_as, value_as, plain_as}
+use Rattle.delaunay_removal.proofs.DataDrops.{plane_data_kept}
 use Rattle.delaunay_removal.proofs.removal.remove_inner.Goals as goal
 
 pub first_edge-first-requires-clause-some : goal.first_edge-first-requires-clause-some
@@ -24,5 +25,5 @@ returns-clause-value g c = value_as g.V.HasPosition.place c.args.dcel.now c.isol
 pub returns-clause-plain : goal.returns-clause-plain
 returns-clause-plain g c = plain_as g.V.HasPosition.place c.args.dcel.now c.isolate_inner.new.dcel c.args.vertex c.isolate_inner.ensures c.drop_vertex.new.dcel c.drop_vertex.ensures.plain
 
-pub returns-clause-outer : goal.returns-clause-outer
-returns-clause-outer g c = c.drop_vertex.ensures.outer ∙ same_outer g.V.HasPosition.place c.args.dcel.now c.isolate_inner.new.dcel c.args.vertex c.isolate_inner.ensures
+pub returns-clause-data : goal.returns-clause-data
+returns-clause-data g c = plane_data_kept g.V.HasPosition.place c.args.dcel.now c.isolate_inner.new.dcel c.drop_vertex.new.dcel c.args.vertex c.drop_vertex.result c.requires.kept c.drop_vertex.ensures.kept c.isolate_inner.ensures c.drop_vertex.ensures.drops

@@ -1,5 +1,5 @@
-use Rattle.std.proofs.Common.{◌∙◌}
-use Rattle.delaunay_removal.proofs.Drops.{ranged_as, shape_as, value_as, plain_as, same_outer}
+use Rattle.delaunay_removal.proofs.Drops.{ranged_as, shape_as, value_as, plain_as}
+use Rattle.delaunay_removal.proofs.DataDrops.{plane_data_kept}
 use Rattle.delaunay_removal.proofs.removal.remove_vertex.Goals as goal
 
 pub drop_vertex-requires-clause-in_range : goal.drop_vertex-requires-clause-in_range
@@ -14,5 +14,5 @@ returns-clause-value g c = value_as g.V.HasPosition.place c.args.dcel.now c.isol
 pub returns-clause-plain : goal.returns-clause-plain
 returns-clause-plain g c = plain_as g.V.HasPosition.place c.args.dcel.now c.isolate.new.dcel c.args.vertex c.isolate.ensures.isolates c.drop_vertex.new.dcel c.drop_vertex.ensures.plain
 
-pub returns-clause-outer : goal.returns-clause-outer
-returns-clause-outer g c = c.drop_vertex.ensures.outer ∙ same_outer g.V.HasPosition.place c.args.dcel.now c.isolate.new.dcel c.args.vertex c.isolate.ensures.isolates
+pub returns-clause-data : goal.returns-clause-data
+returns-clause-data g c = plane_data_kept g.V.HasPosition.place c.args.dcel.now c.isolate.new.dcel c.drop_vertex.new.dcel c.args.vertex c.drop_vertex.result c.requires.kept c.drop_vertex.ensures.kept c.isolate.ensures.isolates c.drop_vertex.ensures.drops

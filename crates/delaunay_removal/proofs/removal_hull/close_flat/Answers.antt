@@ -1,4 +1,5 @@
 use Rattle.std.proofs.Common.{ℕ, ◌<◌, [], ◌∷◌, map, sym, subst, arith}
+use Rattle.delaunay_removal.specs.Data.{StandsBeside}
 use Rattle.delaunay_removal.proofs.HullStars.{hull_ends_differ, left_of, right_of}
 use Rattle.delaunay_removal.proofs.HullSides.{one_side}
 use Rattle.delaunay_removal.proofs.HullCuts.{strip_read, sides_opposite, flat_strip, flat_starts, flat_isolates}
@@ -30,7 +31,7 @@ disconnect_edge_strip-requires g c =
 pub returns : goal.returns
 returns g c =
     flat_isolates (map g.V.HasPosition.place c.args.dcel.now.vertices) c.args.dcel.now c.turn_away.new.dcel c.num_directed_edges.ensures.whole c.args.vertex c.args.first c.requires.star c.turn_away.ensures.mesh c.turn_away.ensures.triangles c.turn_away.ensures.outer
-    c.disconnect_edge_strip.new.self c.num_vertices.ensures.whole c.num_vertices-2.ensures.whole c.turn_away.ensures.contents c.requires.flat
+    c.disconnect_edge_strip.new.self c.num_vertices.ensures.whole c.num_vertices-2.ensures.whole c.turn_away.ensures.contents (subst (StandsBeside c.args.dcel.now c.turn_away.new.dcel) (c.requires.star.round.starts 0) c.turn_away.ensures.beside) c.requires.flat
     (strip_read c.turn_away.new.dcel c.disconnect_edge_strip.new.self c.args.vertex c.args.first 1 (c.opposite_side.result ∷ []) c.num_vertices.ensures.whole.valid.sound
     (flat_strip (map g.V.HasPosition.place c.args.dcel.now.vertices) c.args.dcel.now c.turn_away.new.dcel c.num_directed_edges.ensures.whole c.args.vertex c.args.first c.requires.star c.turn_away.ensures.mesh c.turn_away.ensures.triangles c.turn_away.ensures.outer c.num_vertices.ensures.whole)
     (flat_starts (map g.V.HasPosition.place c.args.dcel.now.vertices) c.args.dcel.now c.turn_away.new.dcel c.num_directed_edges.ensures.whole c.args.vertex c.args.first c.requires.star c.turn_away.ensures.mesh c.turn_away.ensures.triangles c.turn_away.ensures.outer c.num_vertices.ensures.whole)

@@ -28,7 +28,7 @@ close_flat-requires-clause-flat g c = flat_side g.V.HasPosition.place c.args.dce
     (λ t. both_ways _ (c.is_corner.ensures.1 t) c.if-is_corner.false) c.args.vertex c.requires.starts
 
 pub returns-then-is_corner-clause-isolates : goal.returns-then-is_corner-clause-isolates
-returns-then-is_corner-clause-isolates g c = hull_isolates g.V.HasPosition.place c.args.dcel.now c.shrink_hull_star-count.new.dcel c.num_vertices.ensures.whole (origin c.args.dcel.now.mesh c.args.first) c.args.first c.shrink_hull_star-count.result c.shrink_hull_star-count.ensures.contents c.shrink_hull_star-count.ensures.star c.cut_corner.new.dcel c.args.vertex c.cut_corner.ensures.isolates
+returns-then-is_corner-clause-isolates g c = hull_isolates g.V.HasPosition.place c.args.dcel.now c.shrink_hull_star-count.new.dcel c.num_vertices.ensures.whole (origin c.args.dcel.now.mesh c.args.first) c.args.first c.shrink_hull_star-count.result c.shrink_hull_star-count.ensures.contents c.shrink_hull_star-count.ensures.star c.cut_corner.new.dcel c.args.vertex c.requires.starts c.shrink_hull_star-count.ensures.beside c.cut_corner.ensures.isolates
 
 pub returns-else-is_corner-clause-isolates : goal.returns-else-is_corner-clause-isolates
-returns-else-is_corner-clause-isolates g c = hull_isolates g.V.HasPosition.place c.args.dcel.now c.shrink_hull_star-count.new.dcel c.num_vertices.ensures.whole (origin c.args.dcel.now.mesh c.args.first) c.args.first c.shrink_hull_star-count.result c.shrink_hull_star-count.ensures.contents c.shrink_hull_star-count.ensures.star c.close_flat.new.dcel c.args.vertex c.close_flat.ensures
+returns-else-is_corner-clause-isolates g c = hull_isolates g.V.HasPosition.place c.args.dcel.now c.shrink_hull_star-count.new.dcel c.num_vertices.ensures.whole (origin c.args.dcel.now.mesh c.args.first) c.args.first c.shrink_hull_star-count.result c.shrink_hull_star-count.ensures.contents c.shrink_hull_star-count.ensures.star c.close_flat.new.dcel c.args.vertex c.requires.starts c.shrink_hull_star-count.ensures.beside c.close_flat.ensures

@@ -1,4 +1,5 @@
 use Rattle.std.proofs.Common.{ℕ, ◌<◌, map, subst, sym, arith}
+use Rattle.delaunay_removal.specs.Data.{StandsBeside}
 use Rattle.delaunay_removal.proofs.InnerStars.{spokes_inner, ends_differ, starts_after}
 use Rattle.delaunay_removal.proofs.InnerHoles.{wheel_after, four_isolate}
 use Rattle.delaunay_removal.proofs.removal_inner.fill_four.Goals as goal
@@ -24,4 +25,5 @@ fill_three-requires-clause-starts g c = starts_after (map g.V.HasPosition.place 
 pub returns : goal.returns
 returns g c =
     four_isolate (map g.V.HasPosition.place c.args.dcel.now.vertices) c.args.dcel.now c.turn_away.new.dcel c.num_directed_edges.ensures.whole c.args.vertex c.args.first c.requires.star c.turn_away.ensures.mesh
-    c.fill_three.new.dcel c.fill_three.ensures.before c.fill_three.ensures.whole c.turn_away.ensures.contents c.turn_away.ensures.triangles c.turn_away.ensures.outer c.requires.between c.fill_three.ensures.hole
+    c.fill_three.new.dcel c.fill_three.ensures.before c.fill_three.ensures.whole c.turn_away.ensures.contents c.turn_away.ensures.triangles c.turn_away.ensures.outer
+    (subst (StandsBeside c.args.dcel.now c.turn_away.new.dcel) (c.requires.star.round.starts 0) c.turn_away.ensures.beside) c.requires.between c.fill_three.ensures.hole

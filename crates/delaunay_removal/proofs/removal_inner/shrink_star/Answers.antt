@@ -1,8 +1,16 @@
-use Rattle.std.proofs.Common.{ℕ, ◌<◌, ◌≤◌, map, subst, sym, arith}
+use Rattle.std.proofs.Common.{ℕ, ◌<◌, ◌≤◌, map, refl, subst, sym, arith}
 use Rattle.half_edge_links.specs.Mesh.{origin}
+use Rattle.delaunay_removal.proofs.DataStays.{all_stands}
 use Rattle.delaunay_removal.proofs.InnerStars.{spokes_inner, ends_differ}
 use Rattle.delaunay_removal.proofs.Shrinking.{star_at, shrinking_goes_on, shrinking_stops, shrinking_ends}
 use Rattle.delaunay_removal.proofs.removal_inner.shrink_star.Goals as goal
+
+pub loop-count-init : goal.loop-count-init
+loop-count-init g c = record {
+  contents = refl;
+  star = record { shape = c.requires.shape; inner = c.requires.inner; round = c.count_edges-count.ensures };
+  beside = all_stands c.args.dcel.now (origin c.args.dcel.now.mesh c.args.first);
+}
 
 pub find_convex-requires-clause-within : goal.find_convex-requires-clause-within
 find_convex-requires-clause-within g c = subst (λ (n : ℕ). c.loop-count.first < n) (sym c.num_directed_edges.ensures.whole.fits.directed_fit) (c.loop-count.invariant.star.round.within 0)
@@ -33,7 +41,7 @@ pub loop-count-preserved : goal.loop-count-preserved
 loop-count-preserved g c =
     shrinking_goes_on g.V.HasPosition.place c.args.dcel.now c.loop-count.dcel (origin c.args.dcel.now.mesh c.args.first) c.loop-count.first c.loop-count.count c.loop-count.invariant c.turn_away.ensures.whole
     c.turn_away.new.dcel c.num_vertices.ensures.whole c.loop-count-test.true c.in-Some.edge c.in-Some.ensures.place c.in-Some.ensures.convex
-    c.turn_away.ensures.mesh c.turn_away.ensures.contents c.turn_away.ensures.triangles c.turn_away.ensures.outer
+    c.turn_away.ensures.mesh c.turn_away.ensures.contents c.turn_away.ensures.triangles c.turn_away.ensures.outer c.turn_away.ensures.beside
 
 pub returns-in-None-clause-reduced : goal.returns-in-None-clause-reduced
 returns-in-None-clause-reduced g c =

@@ -1,5 +1,6 @@
 use Rattle.drawn_mesh.proofs.MeshRemovals.{line_plain_removes}
-use Rattle.delaunay_removal.proofs.Removing.{few_edges_of, value_was, outer_stays, line_kept}
+use Rattle.delaunay_removal.proofs.Removing.{few_edges_of, value_was, line_kept}
+use Rattle.delaunay_removal.proofs.DataDrops.{line_data_kept}
 use Rattle.delaunay_removal.proofs.removal_line.remove_on_line.Goals as goal
 
 pub remove_when_degenerate-value-requires-clause-few : goal.remove_when_degenerate-value-requires-clause-few
@@ -14,5 +15,6 @@ returns-clause-plain g c = line_plain_removes g.V.HasPosition.place c.args.dcel.
 pub returns-clause-kept : goal.returns-clause-kept
 returns-clause-kept g c = line_kept g.V.HasPosition.place c.args.dcel.now c.requires.kept c.requires.one_face c.remove_when_degenerate-value.new.self c.num_vertices.ensures.whole c.args.vertex c.remove_when_degenerate-value.result c.remove_when_degenerate-value.ensures.leaves
 
-pub returns-clause-outer : goal.returns-clause-outer
-returns-clause-outer g c = outer_stays g.V.HasPosition.place c.args.dcel.now c.requires.kept c.requires.one_face c.remove_when_degenerate-value.new.self c.num_vertices.ensures.whole c.args.vertex c.remove_when_degenerate-value.result c.remove_when_degenerate-value.ensures.leaves
+pub returns-clause-data : goal.returns-clause-data
+returns-clause-data g c =
+    line_data_kept c.args.dcel.now c.remove_when_degenerate-value.new.self (record { valid = c.requires.kept.valid; fits = c.requires.kept.fits }) c.num_vertices.ensures.whole c.requires.one_face c.args.vertex c.remove_when_degenerate-value.result c.remove_when_degenerate-value.ensures.leaves

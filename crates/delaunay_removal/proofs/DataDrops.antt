@@ -1,0 +1,81 @@
+-- The data of what stands beside a vertex that goes.
+use Rattle.std.proofs.Common.{◌≡◌, ◌≢◌, ℕ, ◌-◌, ◌<◌, List, length, map, Some, sym, ap, ◌∙◌, subst, inl, inr, arith}
+use Rattle.std.specs.Prelude.{slice_get, Contains}
+use Rattle.half_edge_links.specs.Mesh.{origin, rev}
+use Rattle.half_edge_links.specs.Triangles.{Triangle, triangles}
+use Rattle.half_edge_mesh.specs.Contents.{Contents, IsWhole}
+use Rattle.half_edge_mesh.specs.Removal.{FullEdge, FullFace, full_edges, full_faces, renumbered_edge, renumbered_face, DropsVertex, LeavesMesh}
+use Rattle.half_edge_mesh.proofs.HubFaces.{count_faces}
+use Rattle.drawn_mesh.proofs.FaceChanges.{contains_map}
+use Rattle.plane.specs.Fraction.{Point}
+use Rattle.delaunay_edit.specs.Shape.{IsKept}
+use Rattle.delaunay_edit.specs.State.{state_of}
+use Rattle.delaunay_removal.specs.Star.{IsolatesVertex}
+use Rattle.delaunay_removal.specs.Data.{StandsBeside, KeepsDataBeside, HasDataOfEdge, HasDataOfFace}
+use Rattle.delaunay_removal.proofs.Drops.{same_vertices, same_outer}
+use Rattle.delaunay_removal.proofs.DataReads.{edge_of, edge_read, face_of, face_read, ends_off, same_edge_data, same_face_data}
+use Rattle.delaunay_removal.proofs.DataStays.{edges_stand, joined_stand}
+
+-- ---- what stood while the vertex lost its edges has its data when the vertex has gone
+module _ {V D U F : Type 0} (old mid new : Contents V D U F) (before : IsWhole old) (after : IsWhole new) (v : ℕ) (value : V) (stands : StandsBeside old mid v) (same : mid.vertices ≡ old.vertices) (drops : DropsVertex mid new v value) where
+  last_is : length mid.vertices - 1 ≡ length old.vertices - 1
+  last_is = ap (λ (vs : List V). length vs - 1) same
+
+  edges_keep : (g : ℕ) → g < length old.directed → origin old.mesh g ≢ v → origin old.mesh (rev g) ≢ v → (h : ℕ) × HasDataOfEdge (state_of old) (state_of new) (length old.vertices - 1) v g h
+  edges_keep g within starts ends =
+      let x = edge_of old before g within in
+      let off = ends_off old v g x.0 x.2 starts ends in
+      let is = subst (λ (es : List (FullEdge D U)). Contains es (renumbered_edge (length mid.vertices - 1) v x.0)) (sym drops.edges)
+      (contains_map (renumbered_edge (length mid.vertices - 1) v) (full_edges mid) x.0 (stands.edges x.0 x.1 off.0 off.1)) in
+      let found = same_edge_data old new (length mid.vertices - 1) v g is.0 x.0 x.2 (edge_read new after is.0 (renumbered_edge (length mid.vertices - 1) v x.0) is.1 is.2) in
+      (found.0, subst (λ (last : ℕ). HasDataOfEdge (state_of old) (state_of new) last v g found.0) last_is found.1)
+
+  faces_keep : (f : ℕ) (t : Triangle) → slice_get (triangles old.mesh) f ≡ Some t → t.first ≢ v → t.second ≢ v → t.third ≢ v → (g : ℕ) × HasDataOfFace (state_of old) (state_of new) (length old.vertices - 1) v f t g
+  faces_keep f t listed a b c =
+      let x = face_of old before f t listed in
+      let corners : x.0.corners ≡ t = some_same (x.0.corners) t (sym x.2.corners ∙ listed) in
+      let is = subst (λ (fs : List (FullFace F)). Contains fs (renumbered_face (length mid.vertices - 1) v x.0)) (sym drops.faces)
+      (contains_map (renumbered_face (length mid.vertices - 1) v) (full_faces mid) x.0
+      (stands.faces x.0 x.1 (λ q. a (sym (ap (λ (y : Triangle). y.first) corners) ∙ q)) (λ q. b (sym (ap (λ (y : Triangle). y.second) corners) ∙ q)) (λ q. c (sym (ap (λ (y : Triangle). y.third) corners) ∙ q)))) in (
+        is.0,
+        subst (λ (last : ℕ). HasDataOfFace (state_of old) (state_of new) last v f t is.0) last_is
+            (same_face_data old new (length mid.vertices - 1) v f is.0 t x.0 corners x.2 (face_read new after is.0 (renumbered_face (length mid.vertices - 1) v x.0) is.1 is.2)),
+      )
+    where
+      some_same : (p q : Triangle) → Some p ≡ Some q → p ≡ q
+      some_same p q e = cc
+
+  pub data_kept : mid.outer ≡ old.outer → KeepsDataBeside (state_of old) (state_of new) v
+  data_kept outer = record {
+    edges = edges_keep;
+    faces = faces_keep;
+    outer = ap (λ (c : Contents V D U F). c.outer) drops.contents ∙ outer;
+  }
+
+-- ---- a vertex of a line
+module _ {V D U F : Type 0} (old new : Contents V D U F) (before : IsWhole old) (after : IsWhole new) (none : length old.faces ≡ 0) (v : ℕ) (value : V) (leaves : LeavesMesh old new v value) where
+  abbrev mid : Contents V D U F
+  mid = leaves.between
+
+  line_edges : (e : FullEdge D U) → Contains (full_edges old) e → e.source ≢ v → e.target ≢ v → Contains (full_edges mid) e
+  line_edges e h a b = elim leaves.leaves.how as (λ _. Contains (full_edges mid) e) [
+    | inl same ↦ subst (λ (c : Contents V D U F). Contains (full_edges c) e) (sym same) h
+    | inr more ↦ elim more as (λ _. Contains (full_edges mid) e) [
+      | inl one ↦ edges_stand old mid v (λ i. one.0) 1 one.2 e h a b
+      | inr two ↦ joined_stand old mid v two.0 two.1 two.3 e h a b
+    ]
+  ]
+
+  line_stands : StandsBeside old mid v
+  line_stands = record {
+    edges = line_edges;
+    faces = λ f h a b c. absurd (let l = h.1 in let n = count_faces old.mesh old.faces before.fits.faces_fit in let fit = before.fits.faces_fit in omega (arith, l, n, fit, none));
+  }
+
+  pub line_data_kept : KeepsDataBeside (state_of old) (state_of new) v
+  line_data_kept = data_kept old mid new before after v value line_stands (ap (λ (c : Contents V D U F). c.vertices) leaves.leaves.contents) leaves.drops (ap (λ (c : Contents V D U F). c.outer) leaves.leaves.contents)
+
+-- ---- a vertex in the plane
+pub plane_data_kept : {V D U F : Type 0} (place : V → Point) (old mid new : Contents V D U F) (v : ℕ) (value : V) → IsKept place (state_of old) → IsKept place (state_of new) → IsolatesVertex (map place old.vertices) old mid v → DropsVertex mid new v value → KeepsDataBeside (state_of old) (state_of new) v
+plane_data_kept place old mid new v value before after isolates drops =
+    data_kept old mid new (record { valid = before.valid; fits = before.fits }) (record { valid = after.valid; fits = after.fits }) v value isolates.beside (same_vertices place old mid v isolates) drops (same_outer place old mid v isolates)

@@ -1,0 +1,92 @@
+-- What stands beside a vertex while its edges go.
+use Rattle.std.proofs.Common.{◌≢◌, ℕ, zero, suc, List, [], ◌∷◌, ◌++◌, refl, ap, ◌∙◌, subst, inl, inr}
+use Rattle.std.specs.Prelude.{Contains}
+use Rattle.std.specs.List.{AllZip}
+use Rattle.std.specs.List.Sorted.{IsPermutation}
+use Rattle.std.proofs.lemmas.List.Elements.{Contains-append_cases}
+use Rattle.std.proofs.lemmas.List.Sorted.{Contains-permutation, IsPermutation-sym}
+use Rattle.half_edge_links.specs.Outline.{Ends}
+use Rattle.half_edge_links.specs.Triangles.{Triangle}
+use Rattle.half_edge_mesh.specs.Contents.{Contents}
+use Rattle.half_edge_mesh.specs.Growth.{joins}
+use Rattle.half_edge_mesh.specs.Removal.{FullEdge, FullFace, IsBetween, HasCorners, full_edges, full_faces, spokes_to, faces_between, LosesEdges, JoinsNeighbours, LosesStrip, FillsHole}
+use Rattle.plane_tiling.proofs.Totals.{Contains-none, Contains-later, Contains-cases}
+use Rattle.delaunay_removal.specs.Data.{StandsBeside}
+
+-- nothing changes
+pub all_stands : {V D U F : Type 0} (c : Contents V D U F) (v : ℕ) → StandsBeside c c v
+all_stands c v = record { edges = λ e h a b. h; faces = λ f h p q r. h }
+
+-- one change after another
+pub stands_on : {V D U F : Type 0} (old mid new : Contents V D U F) (v : ℕ) → StandsBeside old mid v → StandsBeside mid new v → StandsBeside old new v
+stands_on old mid new v one two = record {
+  edges = λ e h a b. two.edges e (one.edges e h a b) a b;
+  faces = λ f h p q r. two.faces f (one.faces f h p q r) p q r;
+}
+
+-- ---- what is not at the vertex
+pub no_end : {D U : Type 0} (v : ℕ) (e : FullEdge D U) (p : Ends) → IsBetween e p → e.source ≢ v → e.target ≢ v → (p.source ≢ v) × (p.target ≢ v)
+no_end v e p (inl q) a b = (λ r. a (q.0 ∙ r), λ r. b (q.1 ∙ r))
+no_end v e p (inr q) a b = (λ r. b (q.1 ∙ r), λ r. a (q.0 ∙ r))
+
+pub no_corner : {F : Type 0} (v : ℕ) (f : FullFace F) (t : Triangle) → HasCorners f t → f.corners.first ≢ v → f.corners.second ≢ v → f.corners.third ≢ v → (t.first ≢ v) × (t.second ≢ v) × (t.third ≢ v)
+no_corner v f t (inl e) a b c = (λ r. a (ap (λ (x : Triangle). x.first) e ∙ r), λ r. b (ap (λ (x : Triangle). x.second) e ∙ r), λ r. c (ap (λ (x : Triangle). x.third) e ∙ r))
+no_corner v f t (inr (inl e)) a b c = (λ r. c (ap (λ (x : Triangle). x.third) e ∙ r), λ r. a (ap (λ (x : Triangle). x.first) e ∙ r), λ r. b (ap (λ (x : Triangle). x.second) e ∙ r))
+no_corner v f t (inr (inr e)) a b c = (λ r. b (ap (λ (x : Triangle). x.second) e ∙ r), λ r. c (ap (λ (x : Triangle). x.third) e ∙ r), λ r. a (ap (λ (x : Triangle). x.first) e ∙ r))
+
+-- is none of the edges of the vertex
+edge_stands : {D U : Type 0} (v : ℕ) (n : ℕ → ℕ) (lost : List (FullEdge D U)) (k : ℕ) → AllZip IsBetween lost (spokes_to v n k) → (e : FullEdge D U) → Contains lost e → e.source ≢ v → e.target ≢ v → ⊥
+edge_stands v n [] k each e h a b = Contains-none e h
+edge_stands v n (x ∷ xs) zero each e h a b = each
+edge_stands {D} {U} v n (x ∷ xs) (suc k) each e h a b = elim (Contains-cases x xs e h) as (λ _. ⊥) [
+  | inl q ↦ (no_end v e (joins v (n k)) (subst (λ (y : FullEdge D U). IsBetween y (joins v (n k))) q each.0) a b).0 refl
+  | inr r ↦ edge_stands v n xs k each.1 e r a b
+]
+
+-- and none of its faces
+face_stands : {F : Type 0} (v : ℕ) (n : ℕ → ℕ) (lost : List (FullFace F)) (k : ℕ) → AllZip HasCorners lost (faces_between v n k) → (f : FullFace F) → Contains lost f → f.corners.first ≢ v → f.corners.second ≢ v → f.corners.third ≢ v → ⊥
+face_stands v n [] k each f h a b c = Contains-none f h
+face_stands v n (x ∷ xs) zero each f h a b c = each
+face_stands {F} v n (x ∷ xs) (suc k) each f h a b c = elim (Contains-cases x xs f h) as (λ _. ⊥) [
+  | inl q ↦ (no_corner v f (record { first = v; second = n k; third = n (suc k) }) (subst (λ (y : FullFace F). HasCorners y (record { first = v; second = n k; third = n (suc k) })) q each.0) a b c).0 refl
+  | inr r ↦ face_stands v n xs k each.1 f r a b c
+]
+
+-- an item that is not among those that go
+left_over : {X : Type 0} (old lost rest : List X) (x : X) → IsPermutation old (lost ++ rest) → Contains old x → (Contains lost x → ⊥) → Contains rest x
+left_over old lost rest x same h none = elim (Contains-append_cases lost rest x (Contains-permutation old (lost ++ rest) x same h)) as (λ _. Contains rest x) [
+  | inl l ↦ absurd (none l)
+  | inr r ↦ r
+]
+
+module _ {V D U F : Type 0} (old new : Contents V D U F) (v : ℕ) where
+  pub edges_stand : (n : ℕ → ℕ) (k : ℕ) → LosesEdges old new (spokes_to v n k) → (e : FullEdge D U) → Contains (full_edges old) e → e.source ≢ v → e.target ≢ v → Contains (full_edges new) e
+  edges_stand n k (lost, are, same) e h a b = left_over (full_edges old) lost (full_edges new) e same h (λ l. edge_stands v n lost k are e l a b)
+
+  -- the edges and the faces of a vertex on the hull go
+  pub strip_stands : (n : ℕ → ℕ) (k : ℕ) → LosesStrip old new v n k → StandsBeside old new v
+  strip_stands n k loses = record {
+    edges = edges_stand n (suc k) loses.edges;
+    faces = λ f h a b c. left_over (full_faces old) loses.faces.0 (full_faces new) f loses.faces.2 h (λ l. face_stands v n loses.faces.0 k loses.faces.1 f l a b c);
+  }
+
+  -- three faces give way to one
+  pub hole_stands : (n : ℕ → ℕ) → FillsHole old new v n → StandsBeside old new v
+  hole_stands n hole = record {
+    edges = edges_stand n 3 hole.edges;
+    faces = λ f h a b c. Contains-permutation (hole.made ∷ hole.rest) (full_faces new) f (IsPermutation-sym (full_faces new) (hole.made ∷ hole.rest) hole.is)
+        (Contains-later hole.made hole.rest f (left_over (full_faces old) hole.lost hole.rest f hole.was h (λ l. face_stands v n hole.lost 3 hole.lost_are f l a b c)));
+  }
+
+  -- two edges of a line give way to one
+  pub joined_stand : (u w : ℕ) → JoinsNeighbours old new v u w → (e : FullEdge D U) → Contains (full_edges old) e → e.source ≢ v → e.target ≢ v → Contains (full_edges new) e
+  joined_stand u w j e h a b = Contains-permutation (j.moved ∷ j.rest) (full_edges new) e (IsPermutation-sym (full_edges new) (j.moved ∷ j.rest) j.is) (Contains-later j.moved j.rest e stays)
+    where
+      stays : Contains j.rest e
+      stays = left_over (full_edges old) (j.lost ∷ j.kept ∷ []) j.rest e j.was h (λ l. elim (Contains-cases j.lost (j.kept ∷ []) e l) as (λ _. ⊥) [
+        | inl q ↦ (no_end v e (joins v w) (subst (λ (y : FullEdge D U). IsBetween y (joins v w)) q j.lost_is) a b).0 refl
+        | inr r ↦ elim (Contains-cases j.kept [] e r) as (λ _. ⊥) [
+          | inl q ↦ (no_end v e (joins u v) (subst (λ (y : FullEdge D U). IsBetween y (joins u v)) q j.kept_is) a b).1 refl
+          | inr r ↦ Contains-none e r
+        ]
+      ])

@@ -1,0 +1,40 @@
+-- What becomes of the data of edges and faces when a vertex goes.
+use Rattle.std.specs.Prelude.{◌≡◌, ◌≢◌, ℕ, ◌-◌, ◌/◌, ◌<◌, length, Some, slice_get, Contains}
+use Rattle.half_edge_links.specs.Mesh.{origin, rev}
+use Rattle.half_edge_links.specs.Renames.{moved}
+use Rattle.half_edge_links.specs.Triangles.{Triangle, triangles}
+use Rattle.half_edge_mesh.specs.Contents.{Contents}
+use Rattle.half_edge_mesh.specs.Removal.{FullEdge, FullFace, full_edges, full_faces}
+use Rattle.delaunay_edit.specs.State.{State}
+
+-- each undirected edge that does not end at vertex v, with all its data, and each inner face without this corner, with its
+-- data, is there afterwards
+pub record StandsBeside {V D U F : Type 0} (old new : Contents V D U F) (v : ℕ) : Type 0 where
+  pub edges : (e : FullEdge D U) → Contains (full_edges old) e → e.source ≢ v → e.target ≢ v → Contains (full_edges new) e
+  pub faces : (f : FullFace F) → Contains (full_faces old) f → f.corners.first ≢ v → f.corners.second ≢ v → f.corners.third ≢ v → Contains (full_faces new) f
+
+-- directed edge h has the ends of the former edge g, where vertex `last` has taken index v, with its data, and its
+-- undirected edge has those of the one of g
+pub record HasDataOfEdge {V D U F : Type 0} (old new : State V D U F) (last v g h : ℕ) : Type 0 where
+  pub within : h < length new.directed
+  pub starts : origin new.mesh h ≡ moved last v (origin old.mesh g)
+  pub ends : origin new.mesh (rev h) ≡ moved last v (origin old.mesh (rev g))
+  pub directed : slice_get new.directed h ≡ slice_get old.directed g
+  pub undirected : slice_get new.undirected (h / 2) ≡ slice_get old.undirected (g / 2)
+
+-- the corners of a face, where vertex `last` has taken index v
+abbrev pub renumbered_corners : ℕ → ℕ → Triangle → Triangle
+renumbered_corners last v t = record { first = moved last v t.first; second = moved last v t.second; third = moved last v t.third }
+
+-- the inner face at index g of the list has the corners t of the former one at index f, where vertex `last` has taken index
+-- v, and its data
+pub record HasDataOfFace {V D U F : Type 0} (old new : State V D U F) (last v f : ℕ) (t : Triangle) (g : ℕ) : Type 0 where
+  pub corners : slice_get (triangles new.mesh) g ≡ Some (renumbered_corners last v t)
+  pub value : slice_get new.faces g ≡ slice_get old.faces f
+
+-- vertex v went and the last vertex took its index: each edge that did not end at v stands afterwards and has the data that
+-- it had, as a directed edge and as an undirected one. So does each inner face without the corner v, and the outer face
+pub record KeepsDataBeside {V D U F : Type 0} (old new : State V D U F) (v : ℕ) : Type 0 where
+  pub edges : (g : ℕ) → g < length old.directed → origin old.mesh g ≢ v → origin old.mesh (rev g) ≢ v → (h : ℕ) × HasDataOfEdge old new (length old.vertices - 1) v g h
+  pub faces : (f : ℕ) (t : Triangle) → slice_get (triangles old.mesh) f ≡ Some t → t.first ≢ v → t.second ≢ v → t.third ≢ v → (g : ℕ) × HasDataOfFace old new (length old.vertices - 1) v f t g
+  pub outer : new.outer ≡ old.outer
