@@ -2,6 +2,7 @@ pub mod DataReads
 pub mod DataStays
 pub mod DataTurns
 pub mod DataDrops
+pub mod DataLegalized
 pub mod Removing
 pub mod Drops
 pub mod Rounds

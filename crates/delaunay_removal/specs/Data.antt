@@ -5,6 +5,7 @@ use Rattle.half_edge_links.specs.Renames.{moved}
 use Rattle.half_edge_links.specs.Triangles.{Triangle, triangles}
 use Rattle.half_edge_mesh.specs.Contents.{Contents}
 use Rattle.half_edge_mesh.specs.Removal.{FullEdge, FullFace, full_edges, full_faces}
+use Rattle.drawn_mesh.specs.Stays.{HaveSameCorners}
 use Rattle.delaunay_edit.specs.State.{State}
 
 -- each undirected edge that does not end at vertex v, with all its data, and each inner face without this corner, with its
@@ -37,4 +38,17 @@ pub record HasDataOfFace {V D U F : Type 0} (old new : State V D U F) (last v f 
 pub record KeepsDataBeside {V D U F : Type 0} (old new : State V D U F) (v : ℕ) : Type 0 where
   pub edges : (g : ℕ) → g < length old.directed → origin old.mesh g ≢ v → origin old.mesh (rev g) ≢ v → (h : ℕ) × HasDataOfEdge old new (length old.vertices - 1) v g h
   pub faces : (f : ℕ) (t : Triangle) → slice_get (triangles old.mesh) f ≡ Some t → t.first ≢ v → t.second ≢ v → t.third ≢ v → (g : ℕ) × HasDataOfFace old new (length old.vertices - 1) v f t g
+  pub outer : new.outer ≡ old.outer
+
+-- directed edge h goes the same way as the former edge g, where vertex `last` has taken index v
+abbrev pub GoesWayOf : {V D U F : Type 0} → State V D U F → State V D U F → ℕ → ℕ → ℕ → ℕ → Type 0
+GoesWayOf old new last v g h = (origin new.mesh h ≡ moved last v (origin old.mesh g)) × (origin new.mesh (rev h) ≡ moved last v (origin old.mesh (rev g)))
+
+-- vertex v went and the last vertex took its index: an edge that did not end at v, and that stands before and after by the
+-- vertices that it joins, has the data that it had, as a directed edge and as an undirected one. So has an inner face
+-- without the corner v, by its corners, and the outer face
+pub record KeepsDataOfOthers {V D U F : Type 0} (old new : State V D U F) (v : ℕ) : Type 0 where
+  pub directed : (g h : ℕ) → g < length old.directed → h < length new.directed → origin old.mesh g ≢ v → origin old.mesh (rev g) ≢ v → GoesWayOf old new (length old.vertices - 1) v g h → slice_get new.directed h ≡ slice_get old.directed g
+  pub undirected : (g h : ℕ) → g < length old.directed → h < length new.directed → origin old.mesh g ≢ v → origin old.mesh (rev g) ≢ v → GoesWayOf old new (length old.vertices - 1) v g h → slice_get new.undirected (h / 2) ≡ slice_get old.undirected (g / 2)
+  pub faces : (f g : ℕ) (t u : Triangle) → slice_get (triangles old.mesh) f ≡ Some t → slice_get (triangles new.mesh) g ≡ Some u → t.first ≢ v → t.second ≢ v → t.third ≢ v → HaveSameCorners (renumbered_corners (length old.vertices - 1) v t) u → slice_get new.faces g ≡ slice_get old.faces f
   pub outer : new.outer ≡ old.outer
