@@ -7,5 +7,4 @@ mod removal_inner;
 mod removal_line;
 mod star;
 
-pub use removal::{remove_inner, remove_vertex};
-pub use removal_line::remove_on_line;
+pub use removal::remove_vertex;

@@ -8,7 +8,7 @@ ghost use Rattle.drawn_mesh.specs.Drawn.{faces_of, outer_of};
 ghost use Rattle.delaunay_edit.specs.Shape.{IsKept};
 ghost use Rattle.delaunay_edit.specs.State.{plain_of, state_of};
 ghost use Rattle.delaunay_removal.specs.Data.{KeepsDataBeside};
-ghost use Rattle.delaunay_removal.specs.Star.{HasInnerFaces, IsMeshWithout, IsolatesVertex};
+ghost use Rattle.delaunay_removal.specs.Star.{IsMeshWithout, IsolatesVertex};
 
 use crate::removal_hull::{isolate_on_hull, outer_edge_beside};
 use crate::removal_inner::isolate_inner;
@@ -52,30 +52,6 @@ fn drop_vertex<V: HasPosition, DE, UE, F>(
     let value = dcel.swap_remove_vertex(vertex);
     let _ = dcel.num_vertices();
     value
-}
-
-/// Removes a vertex inside the hull, and gives its data back. The hole that its faces leave is filled, and the last
-/// vertex takes its index.
-pub fn remove_inner<V: HasPosition, DE: Drop, UE: Drop, F: Drop, P: PlaneTests<V::Scalar>>(
-    dcel: &mut Dcel<V, DE, UE, F>,
-    vertex: FixedVertexHandle,
-    tests: &P,
-) -> V
-    requires kept { IsKept V.place (state_of dcel.old) }
-    requires some_face { 0 < length dcel.old.faces }
-    requires within { vertex < length dcel.old.vertices }
-    requires inner { HasInnerFaces dcel.old.mesh vertex }
-    requires sites { All (P.sites tests.now) (map V.place dcel.old.vertices) }
-
-    ensures value { slice_get dcel.old.vertices vertex ≡ Some result }
-    ensures plain { Removes V.place (plain_of (state_of dcel.old)) (plain_of (state_of dcel.new)) vertex }
-    ensures kept { IsKept V.place (state_of dcel.new) }
-    ensures data { KeepsDataBeside (state_of dcel.old) (state_of dcel.new) vertex }
-{
-    let _ = dcel.num_vertices();
-    let first = first_edge(dcel, vertex);
-    isolate_inner(dcel, first, vertex, tests);
-    drop_vertex(dcel, vertex)
 }
 
 // Removes the edges of a vertex in the plane, and its faces. `sides` has room for each edge.

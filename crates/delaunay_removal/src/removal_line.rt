@@ -8,9 +8,9 @@ ghost use Rattle.delaunay_removal.specs.Data.{KeepsDataBeside};
 use delaunay_core::point::HasPosition;
 use half_edge_mesh::{Dcel, FixedVertexHandle};
 
-/// Removes a vertex of a line, and gives its data back. Its neighbours, if it has two, are joined, and the last vertex
-/// takes its index.
-pub fn remove_on_line<V: HasPosition, DE: Drop, UE: Drop, F>(
+// Removes a vertex of a line, and gives its data back. Its neighbours, if it has two, are joined, and the last vertex
+// takes its index.
+pub(crate) fn remove_on_line<V: HasPosition, DE: Drop, UE: Drop, F>(
     dcel: &mut Dcel<V, DE, UE, F>,
     vertex: FixedVertexHandle,
 ) -> V
