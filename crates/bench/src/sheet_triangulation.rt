@@ -6,7 +6,7 @@ ghost use Rattle.plane.specs.Plain.{Inserts};
 ghost use Rattle.delaunay_core.specs.Place.{place_of};
 ghost use Rattle.delaunay_edit.specs.Elements.{HasElement};
 ghost use Rattle.delaunay_edit.specs.Location.{location_of};
-ghost use Rattle.delaunay_edit.specs.State.{plain_of, triangulation_of};
+ghost use Rattle.delaunay_legalization.specs.State.{plain_of, triangulation_of};
 ghost use Rattle.bench.specs.Vertices.{position_of, AreSites, tagged};
 ghost use Rattle.triangulate_run.specs.Sheet.{IsSite};
 
@@ -36,7 +36,7 @@ pub struct SheetTriangulation {
 
 impl Model for SheetTriangulation {
     ghost use Rattle.std.specs.Prelude.{ℕ};
-    ghost use Rattle.delaunay_edit.specs.State.{State};
+    ghost use Rattle.delaunay_legalization.specs.State.{State};
     ghost use Rattle.triangulate_run.specs.declared.sheet.Sheet.{Sheet};
     ghost use Rattle.triangulate_run.specs.Sheet.{IsSite};
     ghost use Rattle.bench.specs.declared.tagged_vertex.TaggedVertex.{TaggedVertex};

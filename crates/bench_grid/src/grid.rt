@@ -19,7 +19,7 @@ pub(crate) struct Grid {
 impl Model for Grid {
     ghost use Rattle.std.specs.Prelude.{ℤ, ⊤};
     ghost use Rattle.delaunay_core.specs.declared.point.Point2.{Point2};
-    ghost use Rattle.delaunay_edit.specs.State.{State};
+    ghost use Rattle.delaunay_legalization.specs.State.{State};
     ghost use Rattle.bench_grid.specs.Small.{AreSmall};
 
     ghost Value = { State (Point2 ℤ) ⊤ ⊤ ⊤ };

@@ -7,7 +7,7 @@ use Rattle.plane.specs.Fraction.{Point}
 use Rattle.plane.specs.Pairs.{Joins}
 use Rattle.plane.specs.Plain.{DifferInPosition, Appends, Inserts}
 use Rattle.delaunay_edit.specs.Location.{IsApart}
-use Rattle.delaunay_edit.specs.State.{State, plain_of}
+use Rattle.delaunay_legalization.specs.State.{State, plain_of}
 
 none_joined : (i j : ℕ) → ¬ Joins [] i j
 none_joined i j (inl c) = omega (arith, c.1)

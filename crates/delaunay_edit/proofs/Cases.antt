@@ -19,12 +19,12 @@ use Rattle.drawn_mesh.specs.Drawn.{drawn, faces_of, outer_of, corners_of}
 use Rattle.delaunay_edit.specs.declared.position_in_triangulation.PositionInTriangulation.{PositionInTriangulation}
 use Rattle.delaunay_edit.specs.declared.position_in_triangulation.PositionInTriangulation.TheVariants.{OnVertex, OnFace, OutsideOfConvexHull}
 use Rattle.delaunay_edit.specs.Location.{Locates, IsApart, IsLeftOfPlace, IsMeshEdge, IsWithinEdge}
-use Rattle.delaunay_edit.specs.Shape.{IsKept}
-use Rattle.delaunay_edit.specs.State.{state_of}
+use Rattle.delaunay_legalization.specs.Shape.{IsKept}
+use Rattle.delaunay_legalization.specs.State.{state_of}
 use Rattle.delaunay_edit.proofs.Joining.{sides_at_most, edges_and_faces}
 use Rattle.delaunay_edit.proofs.Locating.{same_point}
 use Rattle.delaunay_edit.proofs.MeshParts.{mesh_edge}
-use Rattle.delaunay_edit.proofs.Shapes.{laid_out_tiles}
+use Rattle.delaunay_legalization.proofs.Shapes.{laid_out_tiles}
 
 pub positive : (n : ℕ) → ¬ (n ≡ 0) → 0 < n
 positive n h = omega (arith, h)

@@ -15,11 +15,11 @@ use Rattle.plane.specs.Plain.{IsPlain}
 use Rattle.drawn_mesh.specs.Drawn.{corners_of, pair_of, faces_of, edges_of, outer_of}
 use Rattle.delaunay_edit.specs.declared.position_in_triangulation.PositionInTriangulation.{PositionInTriangulation}
 use Rattle.delaunay_edit.specs.declared.position_in_triangulation.PositionInTriangulation.TheVariants.{OnVertex, OnEdge, OnFace, OutsideOfConvexHull, NoTriangulation}
-use Rattle.delaunay_edit.specs.State.{State, state_of, plain_of}
-use Rattle.delaunay_edit.specs.Shape.{IsKept}
+use Rattle.delaunay_legalization.specs.State.{State, state_of, plain_of}
+use Rattle.delaunay_legalization.specs.Shape.{IsKept}
 use Rattle.delaunay_edit.specs.Location.{HasHandle}
 use Rattle.delaunay_edit.specs.Elements.{GivesElements, HasElement}
-use Rattle.delaunay_edit.proofs.Shapes.{laid_out_distinct}
+use Rattle.delaunay_legalization.proofs.Shapes.{laid_out_distinct}
 
 no_pairs : (i j : ℕ) → Joins [] i j → ⊥
 no_pairs i j (inl h) = absurd (omega (arith, h.1))

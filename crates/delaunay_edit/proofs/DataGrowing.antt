@@ -25,7 +25,7 @@ use Rattle.drawn_mesh.specs.Stays.{GoSameWay}
 use Rattle.drawn_mesh.proofs.MeshStays.{halved, half_same, slice_get-set_other}
 use Rattle.delaunay_edit.specs.Data.{KeepsEdge, KeepsFace, GrowsAround, IsInCorners}
 use Rattle.delaunay_edit.specs.Location.{IsWithinEdge, IsInsideFaceOf}
-use Rattle.delaunay_edit.specs.State.{State, state_of}
+use Rattle.delaunay_legalization.specs.State.{State, state_of}
 
 -- ---- entries of lists
 get_before : {X : Type 0} (xs ys : List X) (k : ℕ) → k < length xs → slice_get (xs ++ ys) k ≡ slice_get xs k

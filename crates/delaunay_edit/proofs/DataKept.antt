@@ -19,11 +19,11 @@ use Rattle.drawn_mesh.proofs.OwnEdges.{own_edges}
 use Rattle.drawn_mesh.proofs.MeshStays.{face_there, turned_back}
 use Rattle.drawn_mesh.proofs.MeshLegal.{own_indexes}
 use Rattle.delaunay_edit.specs.Data.{KeepsData, KeepsEdge, GrowsAround, IsInCorners}
-use Rattle.delaunay_edit.specs.Shape.{IsKept}
-use Rattle.delaunay_edit.specs.State.{State, state_of}
+use Rattle.delaunay_legalization.specs.Shape.{IsKept}
+use Rattle.delaunay_legalization.specs.State.{State, state_of}
 use Rattle.delaunay_edit.proofs.Edges.{edge_joins}
 use Rattle.delaunay_edit.proofs.MeshParts.{no_side}
-use Rattle.delaunay_edit.proofs.Shapes.{laid_out_tiles}
+use Rattle.delaunay_legalization.proofs.Shapes.{laid_out_tiles}
 
 first : {X : Type 0} (xs : List X) (k : ℕ) → k < length xs → X
 first [] k w = absurd (omega (arith, w))

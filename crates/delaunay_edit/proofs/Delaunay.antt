@@ -9,10 +9,10 @@ use Rattle.plane.specs.Delaunay.{IsConstrainedDelaunay, IsLocallyDelaunay, IsStr
 use Rattle.plane_delaunay.proofs.EmptyCircles.{local_gives_constrained_delaunay, strictly_empty_is_face}
 use Rattle.drawn_mesh.specs.Drawn.{drawn, faces_of}
 use Rattle.drawn_mesh.proofs.MeshLegal.{line_has_none}
-use Rattle.delaunay_edit.specs.Known.{point_at}
-use Rattle.delaunay_edit.specs.Shape.{IsLegal}
-use Rattle.delaunay_edit.specs.State.{State, state_of, triangulation_of}
-use Rattle.delaunay_edit.proofs.Shapes.{laid_out_tiles, kept_empty}
+use Rattle.delaunay_legalization.specs.Known.{point_at}
+use Rattle.delaunay_legalization.specs.Shape.{IsLegal}
+use Rattle.delaunay_legalization.specs.State.{State, state_of, triangulation_of}
+use Rattle.delaunay_legalization.proofs.Shapes.{laid_out_tiles, kept_empty}
 use Rattle.delaunay_edit.proofs.Overwriting.{kept_overwritten, same_places}
 
 no_pairs : (i j : ℕ) → ¬ Joins [] i j

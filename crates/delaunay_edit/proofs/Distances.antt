@@ -7,8 +7,8 @@ use Rattle.plane.specs.Fraction.{Point, whole, WithinSegment}
 use Rattle.plane.specs.Circle.{gap}
 use Rattle.plane.proofs.IntegerOrder.{mul-nonneg_ℤ, mul-nonneg_of_nonpos_ℤ, square-nonneg_ℤ, square-pos_ℤ, trichotomy_ℤ}
 use Rattle.plane.proofs.Solver.{num, ◌⊕◌, ◌⊖◌, ◌⊗◌, ring_in}
-use Rattle.delaunay_edit.specs.Between.{IsFrom}
-use Rattle.delaunay_edit.proofs.Between.{box_of_within}
+use Rattle.delaunay_legalization.specs.Between.{IsFrom}
+use Rattle.delaunay_legalization.proofs.Between.{box_of_within}
 
 -- what is left of the way
 rest : (a b c : ℤ) → IsFrom a b c → pos 0 ≤ℤ ((b -ℤ c) *ℤ (c -ℤ a))

@@ -21,8 +21,8 @@ use Rattle.plane_tiling.proofs.Tiles as P
 use Rattle.plane_tiling.proofs.LineMeshes.{one_vertex}
 use Rattle.drawn_mesh.specs.Drawn.{faces_of, outer_of, corners_of}
 use Rattle.drawn_mesh.proofs.MeshLines.{line_extended, line_split_at}
-use Rattle.delaunay_edit.specs.State.{state_of}
-use Rattle.delaunay_edit.specs.Shape.{IsKept}
+use Rattle.delaunay_legalization.specs.State.{state_of}
+use Rattle.delaunay_legalization.specs.Shape.{IsKept}
 use Rattle.delaunay_edit.specs.Location.{IsApart, IsWithinEdge}
 
 module _ {V D U F : Type 0} (at : V → Point) (old new : Contents V D U F) (v : V) (kept : IsKept at (state_of old)) (vertices : new.vertices ≡ old.vertices ++ v ∷ []) where

@@ -16,8 +16,8 @@ use Rattle.plane_tiling.proofs.Loops as L
 use Rattle.drawn_mesh.specs.Drawn.{faces_of, edges_of, outer_of}
 use Rattle.drawn_mesh.proofs.OwnEdges.{own_edges}
 use Rattle.drawn_mesh.proofs.OuterEdges.{real}
-use Rattle.delaunay_edit.specs.State.{State, triangulation_of}
-use Rattle.delaunay_edit.specs.Shape.{IsKept}
+use Rattle.delaunay_legalization.specs.State.{State, triangulation_of}
+use Rattle.delaunay_legalization.specs.Shape.{IsKept}
 use Rattle.delaunay_edit.specs.Hull.{HasHullSize}
 use Rattle.delaunay_edit.proofs.Counts.{count_of_edges, count_of_faces}
 use Rattle.delaunay_edit.proofs.Edges.{edge_joins}

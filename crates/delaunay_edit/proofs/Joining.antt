@@ -5,12 +5,10 @@ use Rattle.std.proofs.lemmas.Int.{ints}
 use Rattle.std.proofs.lemmas.List.{length-map, map-append}
 use Rattle.std.proofs.lemmas.List.Elements.{All-push}
 use Rattle.half_edge_links.specs.Mesh.{Mesh, IsSound, IsSoundEdge, origin, next, prev, face, rev}
-use Rattle.half_edge_links.specs.Triangles.{triangle_at, triangles}
 use Rattle.half_edge_links.specs.Outline.{ends, IsOuterEdge, AddsTriangle, ReplacesOuter, ClosesOuter}
 use Rattle.half_edge_links.specs.Grow.{IsClosable, Closes, closed}
 use Rattle.half_edge_links.specs.Room.{HasRoomFor}
 use Rattle.half_edge_links.proofs.Close.{closes}
-use Rattle.half_edge_links.proofs.Ends.{length-ends_twice}
 use Rattle.half_edge_links.proofs.Rev.{rev_within}
 use Rattle.half_edge_mesh.specs.Contents.{Contents, HasRoom, IsWhole}
 use Rattle.plane.specs.Fraction.{Point, whole}
@@ -31,33 +29,25 @@ use Rattle.plane_edits.specs.Extension.{IsExtending}
 use Rattle.plane_edits.proofs.Changes.{IsOnce}
 use Rattle.plane_edits.proofs.Growing.{extension_begins}
 use Rattle.plane_edits.proofs.OnLine.{over_line_ends}
-use Rattle.drawn_mesh.specs.Drawn.{faces_of, edges_of, outer_of, corners_of, pair_of}
+use Rattle.drawn_mesh.specs.Drawn.{faces_of, edges_of, outer_of}
 use Rattle.drawn_mesh.proofs.OuterEdges.{listed}
 use Rattle.drawn_mesh.proofs.OuterChanges.{outer_replaced}
 use Rattle.drawn_mesh.proofs.MeshEdits.{added_faces}
 use Rattle.drawn_mesh.proofs.MeshExtension.{ends_below, mesh_extension_goes_on, mesh_extension_goes_back, mesh_extension_ends}
 use Rattle.drawn_mesh.proofs.OwnEdges.{own_edges}
 use Rattle.delaunay_edit.specs.Joining.{Sees}
-use Rattle.delaunay_edit.specs.State.{state_of}
-use Rattle.delaunay_edit.specs.Shape.{IsKept}
+use Rattle.delaunay_legalization.specs.State.{state_of}
+use Rattle.delaunay_legalization.specs.Shape.{IsKept}
+use Rattle.delaunay_legalization.proofs.ElementCounts.{edges_counted, faces_counted}
 use Rattle.delaunay_edit.proofs.LineEnds.{none_seen_after, none_seen_before}
 
 -- ---- counts
 module _ {V D U F : Type 0} (c : Contents V D U F) (w : IsWhole c) where
-  pub edges_counted : length c.undirected ≡ length (edges_of c.mesh)
-  edges_counted =
-      let pairs = w.fits.undirected_fit in
-      let twice = length-ends_twice c.mesh w.valid.sound in
-      omega (arith, pairs, twice, length-map (ends c.mesh) pair_of)
-
-  pub faces_counted : length c.faces ≡ length (faces_of c.mesh)
-  faces_counted = w.fits.faces_fit ∙ sym (length-map c.mesh.face_edges (triangle_at c.mesh)) ∙ sym (length-map (triangles c.mesh) corners_of)
-
   -- each edge has two ways, and each face three sides
   pub sides_at_most : 3 * length c.faces ≤ 2 * length c.undirected
   sides_at_most =
       numbers (length (edges_of c.mesh)) (length (faces_of c.mesh)) (length (outer_of c.mesh)) (length c.undirected) (length c.faces)
-      (total (λ e. pos 1) (edges_of c.mesh)) (total (λ f. pos 1) (faces_of c.mesh)) (total (λ e. pos 1) (outer_of c.mesh)) (total_ones (edges_of c.mesh)) (total_ones (faces_of c.mesh)) (total_ones (outer_of c.mesh)) ways edges_counted faces_counted
+      (total (λ e. pos 1) (edges_of c.mesh)) (total (λ f. pos 1) (faces_of c.mesh)) (total (λ e. pos 1) (outer_of c.mesh)) (total_ones (edges_of c.mesh)) (total_ones (faces_of c.mesh)) (total_ones (outer_of c.mesh)) ways (edges_counted c w) (faces_counted c w)
     where
       ways : total (λ e. pos 1) (edges_of c.mesh) +ℤ total (λ e. pos 1) (edges_of c.mesh) ≡ total (λ f. pos 1) (faces_of c.mesh) +ℤ total (λ f. pos 1) (faces_of c.mesh) +ℤ total (λ f. pos 1) (faces_of c.mesh) +ℤ total (λ e. pos 1) (outer_of c.mesh)
       ways =
@@ -85,10 +75,6 @@ edges_and_faces place c kept some = go kept.shape
         let n = line_edges_count (map place c.vertices) (outer_of c.mesh) (edges_of c.mesh) m.1 (subst (λ fs. (f : ℕ → ℕ → ℤ) → total (λ e. f e.0 e.1 +ℤ f e.1 e.0) (edges_of c.mesh) ≡ total (around f) fs +ℤ total (along f) (outer_of c.mesh)) m.0 (own_edges c.mesh kept.valid)) in
         let none = ap length m.0 in
         omega (arith, n, none, some, edges_counted c w, faces_counted c w, length-map c.vertices place)
-
--- a listed site is covered
-pub covered_in : (IsCovered IsSite : Point → Type 0) → ((p : Point) → IsSite p → IsCovered p) → (points : List Point) (q : Point) → All IsSite points → Contains points q → IsCovered q
-covered_in IsCovered IsSite covers points q sites c = covers q (subst IsSite c.2 (sites c.0 q c.1))
 
 -- an edge starts at a vertex
 pub has_vertex : {V D U F : Type 0} (place : V → Point) (c : Contents V D U F) (e : ℕ) → IsKept place (state_of c) → e < length c.directed → 0 < length c.vertices

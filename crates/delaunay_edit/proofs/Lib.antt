@@ -1,7 +1,5 @@
-pub mod Between
 pub mod Distances
 pub mod Edges
-pub mod Shapes
 pub mod Questions
 pub mod MeshParts
 pub mod Nearest
@@ -13,11 +11,8 @@ pub mod Cases
 pub mod Overwriting
 pub mod Appending
 pub mod InsertionCases
-pub mod Legalizing
 pub mod LineEnds
 pub mod DataKept
 pub mod DataGrowing
 pub mod Joining
-pub mod WorkList
 pub mod Delaunay
-pub mod Flips

@@ -23,11 +23,11 @@ use Rattle.delaunay_edit.specs.declared.position_in_triangulation.PositionInTria
 use Rattle.drawn_mesh.specs.Drawn.{drawn, faces_of, edges_of, outer_of, corners_of}
 use Rattle.drawn_mesh.proofs.OwnEdges.{own_edges}
 use Rattle.drawn_mesh.proofs.OuterEdges.{real}
-use Rattle.delaunay_edit.specs.State.{State}
-use Rattle.delaunay_edit.specs.Shape.{IsKept}
+use Rattle.delaunay_legalization.specs.State.{State}
+use Rattle.delaunay_legalization.specs.Shape.{IsKept}
 use Rattle.delaunay_edit.specs.Location.{Locates, IsApart, IsClearOfEdge, IsInsideFaceOf, StartsNearest}
 use Rattle.delaunay_edit.proofs.Edges.{joins_edge, Contains-map_from}
-use Rattle.delaunay_edit.proofs.Shapes.{laid_out_distinct}
+use Rattle.delaunay_legalization.proofs.Shapes.{laid_out_distinct}
 use Rattle.delaunay_edit.proofs.MeshParts.{mesh_edge, mesh_face, no_side}
 use Rattle.delaunay_edit.proofs.Distances.{nearer_of_within}
 

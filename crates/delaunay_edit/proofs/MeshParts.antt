@@ -18,11 +18,11 @@ use Rattle.plane_tiling.proofs.Tiles.{by_signs, point_at}
 use Rattle.plane_tiling.proofs.Loops as L
 use Rattle.drawn_mesh.specs.Drawn.{drawn, faces_of, outer_of, corners_of}
 use Rattle.drawn_mesh.proofs.OuterEdges.{listed}
-use Rattle.delaunay_edit.specs.State.{State}
-use Rattle.delaunay_edit.specs.Shape.{IsKept}
+use Rattle.delaunay_legalization.specs.State.{State}
+use Rattle.delaunay_legalization.specs.Shape.{IsKept}
 use Rattle.delaunay_edit.specs.Location.{IsMeshEdge, IsMeshFace}
 use Rattle.delaunay_edit.proofs.Edges.{edge_joins, Contains-map}
-use Rattle.delaunay_edit.proofs.Shapes.{laid_out_tiles, laid_out_distinct}
+use Rattle.delaunay_legalization.proofs.Shapes.{laid_out_tiles, laid_out_distinct}
 
 -- there is no face where there is none in the list
 pub no_side : (points : List Point) (m : Mesh) (i j : ℕ) → faces_of m ≡ [] → ¬ HasFace (drawn points m) i j

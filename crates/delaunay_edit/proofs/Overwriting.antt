@@ -8,9 +8,9 @@ use Rattle.plane.specs.Fraction.{Point}
 use Rattle.plane.specs.Tests.{InRange}
 use Rattle.plane_tiling.specs.Local.{IsMesh}
 use Rattle.drawn_mesh.specs.Drawn.{faces_of, outer_of}
-use Rattle.delaunay_edit.specs.Known.{point_at}
-use Rattle.delaunay_edit.specs.Shape.{IsKept}
-use Rattle.delaunay_edit.specs.State.{state_of}
+use Rattle.delaunay_legalization.specs.Known.{point_at}
+use Rattle.delaunay_legalization.specs.Shape.{IsKept}
+use Rattle.delaunay_legalization.specs.State.{state_of}
 
 pub same_places : {V : Type 0} (at : V → Point) (vs : List V) (i : ℕ) (v : V) → point_at (map at vs) i ≡ at v → map at (slice_set vs i v) ≡ map at vs
 same_places at vs i v e = map-set at vs i v ∙ ap (λ q. set (map at vs) i q) (sym e) ∙ set-get_or (map at vs) i (record { x = pos 0; y = pos 0 })

@@ -1,32 +1,13 @@
--- What answers to a few side tests say of points.
-use Rattle.std.proofs.Common.{◌≡◌, ◌≢◌, ◌↔◌, ℕ, ◌+◌, ◌<◌, ◌≤◌, arith, Bool, true, false, List, length, sym, subst, inl, inr}
+-- What answers to a few side tests say of the edges and faces of a mesh.
+use Rattle.std.proofs.Common.{◌≡◌, ◌↔◌, ℕ, ◌+◌, ◌<◌, ◌≤◌, arith, List, sym, subst, inl, inr}
 use Rattle.std.proofs.lemmas.Bool.{cases_eq}
-use Rattle.std.specs.Prelude.{All, pos}
-use Rattle.std.proofs.lemmas.List.Elements.{All-get_or}
 use Rattle.half_edge_links.specs.Mesh.{Mesh, origin, next, prev, face, face_edge, rev}
 use Rattle.plane.specs.Fraction.{Point, whole, WithinSegment, InsideTriangle}
-use Rattle.plane.specs.Side.{side, on, TurnsLeft}
-use Rattle.plane.proofs.Sides.{on_if, if_on}
-use Rattle.plane_tiling.proofs.Edges.{within_on}
+use Rattle.plane.specs.Side.{TurnsLeft}
 use Rattle.plane.specs.Pairs.{place}
 use Rattle.delaunay_edit.specs.declared.position_in_triangulation.PositionInTriangulation.TheVariants.{OnEdge, OutsideOfConvexHull}
-use Rattle.delaunay_edit.specs.Between.{IsInBox}
-use Rattle.delaunay_edit.specs.Known.{point_at}
+use Rattle.delaunay_legalization.specs.Known.{point_at}
 use Rattle.delaunay_edit.specs.Location.{Locates, IsMeshEdge, IsMeshFace, IsWithinEdge, IsClearOfEdge, IsInsideFaceOf}
-use Rattle.delaunay_edit.proofs.Between.{within_of_box, box_of_within}
-
-pub within_if : (u v p : Point) → u ≢ v → p ≢ u → p ≢ v → side (whole u) (whole v) (whole p) ≡ on → IsInBox u v p → WithinSegment (whole u) (whole v) (whole p)
-within_if u v p apart from_u from_v flat box = within_of_box u v p apart from_u from_v (if_on (whole u) (whole v) (whole p) flat) box
-
-pub if_within : (u v p : Point) → WithinSegment (whole u) (whole v) (whole p) → (side (whole u) (whole v) (whole p) ≡ on) × IsInBox u v p
-if_within u v p w = (on_if (whole u) (whole v) (whole p) (within_on u v (whole p) w), box_of_within u v p w)
-
-pub both_ways : (b : Bool) → b ≡ true → b ≡ false → ⊥
-both_ways b t f = cc
-
--- a vertex of covered sites is covered
-pub covered_at : (IsCovered IsSite : Point → Type 0) → ((p : Point) → IsSite p → IsCovered p) → (points : List Point) (i : ℕ) (q : Point) → All IsSite points → i < length points → q ≡ point_at points i → IsCovered q
-covered_at IsCovered IsSite covers points i q sites h e = subst IsCovered (sym e) (covers (point_at points i) (All-get_or IsSite points i (record { x = pos 0; y = pos 0 }) h sites))
 
 module _ (points : List Point) (m : Mesh) (p a b : Point) (e : ℕ) (from : a ≡ point_at points (origin m e)) (to : b ≡ point_at points (origin m (rev e))) where
   -- what is asked of the positions of an edge's ends is asked of the edge

@@ -5,7 +5,7 @@ use Rattle.plane.specs.Fraction.{Point, whole, InTriangle}
 use Rattle.plane.specs.Pairs.{place}
 use Rattle.drawn_mesh.specs.Stays.{GoSameWay, HaveSameCorners}
 use Rattle.delaunay_edit.specs.Location.{IsWithinEdge}
-use Rattle.delaunay_edit.specs.State.{State}
+use Rattle.delaunay_legalization.specs.State.{State}
 
 -- an edge that stands before and after, by the vertices that it joins, has the data that it had: as a directed edge, and
 -- as an undirected one, which each of its directions has. So has an inner face, by its corners, and the outer face

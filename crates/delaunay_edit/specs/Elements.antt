@@ -6,7 +6,7 @@ use Rattle.half_edge_mesh.specs.Contents.{Contents}
 use Rattle.half_edge_views.specs.Left.{each_in}
 use Rattle.delaunay_edit.specs.declared.position_in_triangulation.PositionInTriangulation.{PositionInTriangulation}
 use Rattle.delaunay_edit.specs.declared.position_in_triangulation.PositionInTriangulation.TheVariants.{OnVertex, OnEdge, OnFace, OutsideOfConvexHull, NoTriangulation}
-use Rattle.delaunay_edit.specs.State.{State, state_of}
+use Rattle.delaunay_legalization.specs.State.{State, state_of}
 
 -- the given are elements of a triangulation in this state: so many, by rising index from first on
 pub record GivesElements {V D U F : Type 0} (s : State V D U F) (first count : ℕ) (given : List (Bor (Contents V D U F) × ℕ)) : Type 0 where

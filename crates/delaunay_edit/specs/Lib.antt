@@ -1,10 +1,5 @@
-pub mod Between
-pub mod State
-pub mod Shape
 pub mod Location
-pub mod Known
 pub mod Elements
 pub mod Data
 pub mod Joining
-pub mod Flips
 pub mod Hull

@@ -11,7 +11,7 @@ use Rattle.plane.specs.Tiling.{IsEdge, IsFace, HasFace}
 use Rattle.plane.specs.Location.{Location, IsLocation, on_vertex, on_edge, on_face, outside_hull, no_triangulation}
 use Rattle.delaunay_edit.specs.declared.position_in_triangulation.PositionInTriangulation.{PositionInTriangulation}
 use Rattle.delaunay_edit.specs.declared.position_in_triangulation.PositionInTriangulation.TheVariants.{OnVertex, OnEdge, OnFace, OutsideOfConvexHull, NoTriangulation}
-use Rattle.delaunay_edit.specs.Known.{point_at}
+use Rattle.delaunay_legalization.specs.Known.{point_at}
 use Rattle.drawn_mesh.specs.Drawn.{drawn}
 
 abbrev pub location_of : Mesh → PositionInTriangulation → Location

@@ -3,7 +3,7 @@ ghost use Rattle.std.specs.Prelude.{◌≡◌, ◌+◌, ◌-◌, ◌*◌, ◌<�
 ghost use Rattle.half_edge_views.specs.Left.{vertices_left, faces_left};
 ghost use Rattle.delaunay_edit.specs.Elements.{GivesElements};
 ghost use Rattle.delaunay_edit.specs.Hull.{HasHullSize};
-ghost use Rattle.delaunay_edit.specs.State.{state_of, triangulation_of};
+ghost use Rattle.delaunay_legalization.specs.State.{state_of, triangulation_of};
 
 use crate::triangulation_core::TriangulationCore;
 use delaunay_core::point::HasPosition;

@@ -7,18 +7,17 @@ ghost use Rattle.plane.specs.Tiling.{IsFace, IsTiling};
 ghost use Rattle.plane.specs.Delaunay.{IsConstrainedDelaunay, IsStrictlyEmpty};
 ghost use Rattle.delaunay_core.specs.declared.math.InsertionError.TheVariants.{TooLarge, OutOfMemory, OutOfIndexes};
 ghost use Rattle.delaunay_edit.specs.Data.{KeepsData};
-ghost use Rattle.delaunay_edit.specs.Known.{IsKnown, point_at};
+ghost use Rattle.delaunay_legalization.specs.Known.{IsKnown, point_at};
 ghost use Rattle.delaunay_edit.specs.Location.{HasHandle, IsApart, IsLeftOfPlace, Locates};
-ghost use Rattle.delaunay_edit.specs.Flips.{CountsFlips, FlipsFit};
-ghost use Rattle.delaunay_edit.specs.State.{state_of, plain_of, triangulation_of};
+ghost use Rattle.delaunay_legalization.specs.Flips.{CountsFlips, FlipsFit};
+ghost use Rattle.delaunay_legalization.specs.State.{state_of, plain_of, triangulation_of};
 
 use crate::insertion_cases::insert_at;
 use crate::position_in_triangulation::PositionInTriangulation;
-use crate::predicates::turns_left;
 use crate::triangulation_core::TriangulationCore;
-use crate::work_list::{legalize_all, reserve_for_edges};
 use delaunay_core::math::{InsertionError, PlaneTests, validate_vertex};
 use delaunay_core::point::HasPosition;
+use delaunay_legalization::{legalize_all, reserve_for_edges, turns_left};
 use half_edge_mesh::{Dcel, FixedVertexHandle, MAX_ELEMENTS, ReserveError};
 
 // Makes room for one more vertex, with the edges and faces that it can bring.

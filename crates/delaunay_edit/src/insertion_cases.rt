@@ -6,15 +6,15 @@ ghost use Rattle.half_edge_mesh.specs.Contents.{HasRoom};
 ghost use Rattle.plane.specs.Tests.{InRange};
 ghost use Rattle.delaunay_edit.specs.Data.{GrowsAround};
 ghost use Rattle.delaunay_edit.specs.Location.{IsApart, IsInsideFaceOf, IsLeftOfPlace, IsWithinEdge, Locates};
-ghost use Rattle.delaunay_edit.specs.Shape.{IsKept};
-ghost use Rattle.delaunay_edit.specs.State.{state_of};
+ghost use Rattle.delaunay_legalization.specs.Shape.{IsKept};
+ghost use Rattle.delaunay_legalization.specs.State.{state_of};
 
 use crate::insertion_line::{insert_first, insert_past_end, insert_second, insert_within_line};
 use crate::insertion_outside::join_outside;
-use crate::legalization::is_outer;
 use crate::position_in_triangulation::PositionInTriangulation;
 use delaunay_core::math::PlaneTests;
 use delaunay_core::point::HasPosition;
+use delaunay_legalization::is_outer;
 use half_edge_mesh::{Dcel, FixedDirectedEdgeHandle, FixedFaceHandle, FixedVertexHandle};
 
 // A vertex strictly inside an inner face, joined to its corners.

@@ -10,14 +10,13 @@ ghost use Rattle.plane.specs.Tests.{InRange};
 ghost use Rattle.delaunay_core.specs.Place.{place_of};
 ghost use Rattle.delaunay_edit.specs.Data.{GrowsAround};
 ghost use Rattle.delaunay_edit.specs.Joining.{Sees};
-ghost use Rattle.delaunay_edit.specs.Known.{point_at};
-ghost use Rattle.delaunay_edit.specs.Shape.{IsKept};
-ghost use Rattle.delaunay_edit.specs.State.{state_of};
+ghost use Rattle.delaunay_legalization.specs.Known.{point_at};
+ghost use Rattle.delaunay_legalization.specs.Shape.{IsKept};
+ghost use Rattle.delaunay_legalization.specs.State.{state_of};
 
-use crate::legalization::start_of;
-use crate::predicates::turns_left;
 use delaunay_core::math::PlaneTests;
 use delaunay_core::point::{HasPosition, Point2};
+use delaunay_legalization::{start_of, turns_left};
 use half_edge_mesh::{Dcel, FixedDirectedEdgeHandle, FixedVertexHandle};
 use half_edge_views::MeshViews;
 

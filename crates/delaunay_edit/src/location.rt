@@ -6,14 +6,14 @@ ghost use Rattle.plane.specs.Circle.{gap};
 ghost use Rattle.plane.specs.Pairs.{place};
 ghost use Rattle.plane.specs.Tests.{InRange};
 ghost use Rattle.delaunay_core.specs.Place.{place_of};
-ghost use Rattle.delaunay_edit.specs.Known.{point_at};
+ghost use Rattle.delaunay_legalization.specs.Known.{point_at};
 ghost use Rattle.delaunay_edit.specs.Location.{Locates, IsApart, IsClearOfEdge, IsInsideFaceOf, StartsNearest};
 
 use crate::position_in_triangulation::PositionInTriangulation;
-use crate::predicates::{is_same_point, is_strictly_inside, is_strictly_within, turns_left};
 use crate::triangulation_core::TriangulationCore;
 use delaunay_core::math::PlaneTests;
 use delaunay_core::point::{HasPosition, Point2};
+use delaunay_legalization::{is_same_point, is_strictly_inside, is_strictly_within, turns_left};
 use half_edge_mesh::{FixedDirectedEdgeHandle, FixedFaceHandle, FixedVertexHandle};
 
 impl<V: HasPosition, DE, UE, F> TriangulationCore<V, DE, UE, F> {

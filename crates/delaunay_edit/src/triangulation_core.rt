@@ -5,9 +5,9 @@ ghost use Rattle.half_edge_links.specs.Triangles.{triangle_at};
 ghost use Rattle.plane.specs.Tiling.{IsTiling, IsFace};
 ghost use Rattle.plane.specs.Delaunay.{IsConstrainedDelaunay, IsStrictlyEmpty};
 ghost use Rattle.delaunay_core.specs.Place.{place_of};
-ghost use Rattle.delaunay_edit.specs.State.{triangulation_of};
-ghost use Rattle.delaunay_edit.specs.Known.{point_at};
-ghost use Rattle.delaunay_edit.specs.Shape.{IsKept};
+ghost use Rattle.delaunay_legalization.specs.State.{triangulation_of};
+ghost use Rattle.delaunay_legalization.specs.Known.{point_at};
+ghost use Rattle.delaunay_legalization.specs.Shape.{IsKept};
 ghost use Rattle.delaunay_edit.specs.Location.{IsMeshEdge, IsMeshFace};
 
 use delaunay_core::point::{HasPosition, Point2};
@@ -29,8 +29,8 @@ pub struct TriangulationCore<V: HasPosition, DE, UE, F> {
 }
 
 impl<V: HasPosition, DE, UE, F> Model for TriangulationCore<V, DE, UE, F> {
-    ghost use Rattle.delaunay_edit.specs.State.{State, state_of};
-    ghost use Rattle.delaunay_edit.specs.Shape.{IsLegal};
+    ghost use Rattle.delaunay_legalization.specs.State.{State, state_of};
+    ghost use Rattle.delaunay_legalization.specs.Shape.{IsLegal};
 
     ghost Value = { State V DE UE F };
 

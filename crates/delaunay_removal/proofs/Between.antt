@@ -7,7 +7,7 @@ use Rattle.half_edge_links.proofs.Rev.{rev_within}
 use Rattle.plane.specs.Fraction.{Point, whole, WithinSegment}
 use Rattle.plane_tiling.specs.Local.{LocalMesh}
 use Rattle.drawn_mesh.specs.Drawn.{faces_of, outer_of}
-use Rattle.delaunay_edit.specs.Known.{point_at}
+use Rattle.delaunay_legalization.specs.Known.{point_at}
 use Rattle.delaunay_removal.specs.Star.{IsBetweenAt, IsInnerStar, StandsBetween}
 use Rattle.delaunay_removal.proofs.InnerStars.{ends_differ}
 use Rattle.delaunay_removal.proofs.InnerHoles.{between_first_or_next}

@@ -8,8 +8,8 @@ use Rattle.half_edge_mesh.specs.Removal.{FullEdge, FullFace, full_edges, full_fa
 use Rattle.half_edge_mesh.proofs.HubFaces.{count_faces}
 use Rattle.drawn_mesh.proofs.FaceChanges.{contains_map}
 use Rattle.plane.specs.Fraction.{Point}
-use Rattle.delaunay_edit.specs.Shape.{IsKept}
-use Rattle.delaunay_edit.specs.State.{state_of}
+use Rattle.delaunay_legalization.specs.Shape.{IsKept}
+use Rattle.delaunay_legalization.specs.State.{state_of}
 use Rattle.delaunay_removal.specs.Star.{IsolatesVertex}
 use Rattle.delaunay_removal.specs.Data.{StandsBeside, KeepsDataBeside, HasDataOfEdge, HasDataOfFace}
 use Rattle.delaunay_removal.proofs.Drops.{same_vertices, same_outer}

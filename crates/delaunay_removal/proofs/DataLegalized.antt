@@ -6,8 +6,8 @@ use Rattle.half_edge_links.specs.Triangles.{Triangle, triangles}
 use Rattle.half_edge_mesh.specs.Contents.{Contents}
 use Rattle.plane.specs.Fraction.{Point}
 use Rattle.drawn_mesh.specs.Stays.{HaveSameCorners, KeepsIndexes}
-use Rattle.delaunay_edit.specs.Shape.{IsKept}
-use Rattle.delaunay_edit.specs.State.{State, state_of}
+use Rattle.delaunay_legalization.specs.Shape.{IsKept}
+use Rattle.delaunay_legalization.specs.State.{State, state_of}
 use Rattle.delaunay_removal.specs.Data.{KeepsDataBeside, KeepsDataOfOthers, GoesWayOf, HasDataOfEdge, HasDataOfFace, renumbered_corners}
 
 module _ {V D U F : Type 0} (old mid new : State V D U F) (v : ℕ) (beside : KeepsDataBeside old mid v) (between : length mid.directed ≡ length mid.mesh.half_edges) (after : length new.directed ≡ length new.mesh.half_edges) (same : new ≡ record mid { mesh = new.mesh }) (indexes : KeepsIndexes mid.mesh new.mesh) where

@@ -15,7 +15,7 @@ use Rattle.half_edge_mesh.specs.Removal.{FullEdge, FullFace, full_edges, full_fa
 use Rattle.half_edge_mesh.proofs.HubFaces.{count_faces}
 use Rattle.half_edge_mesh.proofs.TakenOut.{length-full_edges, get_or-full_edges, get_or-full_faces}
 use Rattle.half_edge_mesh.proofs.TwoEdges.{item_at}
-use Rattle.delaunay_edit.specs.State.{state_of}
+use Rattle.delaunay_legalization.specs.State.{state_of}
 use Rattle.delaunay_removal.specs.Data.{HasDataOfEdge, HasDataOfFace}
 
 -- undirected edge k, with all its data

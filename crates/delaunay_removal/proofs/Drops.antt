@@ -10,9 +10,9 @@ use Rattle.plane.specs.Tests.{InRange}
 use Rattle.plane_tiling.specs.Local.{LocalMesh}
 use Rattle.drawn_mesh.specs.Drawn.{faces_of, outer_of}
 use Rattle.drawn_mesh.proofs.MeshRemovals.{vertex_goes, vertex_goes_to_line, plain_removes}
-use Rattle.delaunay_edit.specs.State.{state_of}
-use Rattle.delaunay_edit.specs.Shape.{IsKept}
-use Rattle.delaunay_edit.proofs.Joining.{faces_counted}
+use Rattle.delaunay_legalization.specs.State.{state_of}
+use Rattle.delaunay_legalization.specs.Shape.{IsKept}
+use Rattle.delaunay_legalization.proofs.ElementCounts.{faces_counted}
 use Rattle.delaunay_removal.specs.Star.{IsMeshWithout, IsolatesVertex}
 use Rattle.delaunay_removal.proofs.Removing.{all_left, kept_by_shape}
 

@@ -17,9 +17,9 @@ use Rattle.drawn_mesh.specs.Drawn.{corners_of, faces_of, edges_of, outer_of}
 use Rattle.drawn_mesh.proofs.OwnEdges.{own_edges}
 use Rattle.drawn_mesh.proofs.MeshLineRemoval.{line_removed}
 use Rattle.drawn_mesh.proofs.MeshLineEnds.{line_has_few_edges}
-use Rattle.delaunay_edit.specs.State.{state_of}
-use Rattle.delaunay_edit.specs.Shape.{IsKept}
-use Rattle.delaunay_edit.proofs.Joining.{edges_counted, faces_counted}
+use Rattle.delaunay_legalization.specs.State.{state_of}
+use Rattle.delaunay_legalization.specs.Shape.{IsKept}
+use Rattle.delaunay_legalization.proofs.ElementCounts.{edges_counted, faces_counted}
 
 -- what holds of each item holds of each that is left
 pub all_left : {X : Type 0} (P : X → Type 0) (xs : List X) (i : ℕ) (x : X) → i < length xs → All P xs → All P (swap_remove xs i x)

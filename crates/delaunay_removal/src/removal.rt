@@ -5,8 +5,8 @@ ghost use Rattle.half_edge_mesh.specs.Removal.{DropsVertex};
 ghost use Rattle.plane.specs.Plain.{Removes};
 ghost use Rattle.plane.specs.Tests.{InRange};
 ghost use Rattle.drawn_mesh.specs.Drawn.{faces_of, outer_of};
-ghost use Rattle.delaunay_edit.specs.Shape.{IsKept};
-ghost use Rattle.delaunay_edit.specs.State.{plain_of, state_of};
+ghost use Rattle.delaunay_legalization.specs.Shape.{IsKept};
+ghost use Rattle.delaunay_legalization.specs.State.{plain_of, state_of};
 ghost use Rattle.delaunay_removal.specs.Data.{KeepsDataBeside};
 ghost use Rattle.delaunay_removal.specs.Star.{IsMeshWithout, IsolatesVertex};
 

@@ -13,7 +13,7 @@ ghost use Rattle.delaunay_removal.specs.Star.{HasInnerFaces, IsolatesVertex};
 use crate::star::{count_edges, edge_after, end_of, find_convex, opposite_side, turn_away};
 use delaunay_core::math::PlaneTests;
 use delaunay_core::point::HasPosition;
-use delaunay_edit::{is_outer, start_of, turns_left};
+use delaunay_legalization::{is_outer, start_of, turns_left};
 use half_edge_mesh::{Dcel, FixedDirectedEdgeHandle, FixedVertexHandle};
 use half_edge_views::MeshViews;
 

@@ -13,7 +13,7 @@ ghost use Rattle.delaunay_removal.specs.Star.{HasInnerFaces, IsBetweenAt, IsInne
 use crate::star::{count_edges, edge_after, end_of, find_convex, opposite_side, turn_away};
 use delaunay_core::math::PlaneTests;
 use delaunay_core::point::HasPosition;
-use delaunay_edit::{is_strictly_within, start_of};
+use delaunay_legalization::{is_strictly_within, start_of};
 use half_edge_mesh::{Dcel, FixedDirectedEdgeHandle, FixedVertexHandle};
 
 // Turns edges of an inner vertex away, from which `first` starts, until three are left, or four with the vertex strictly

@@ -1,8 +1,8 @@
 //! A vertex of the line of all vertices goes.
 ghost use Rattle.std.specs.Prelude.{◌≡◌, ◌<◌, length, Some, slice_get};
 ghost use Rattle.plane.specs.Plain.{Removes};
-ghost use Rattle.delaunay_edit.specs.Shape.{IsKept};
-ghost use Rattle.delaunay_edit.specs.State.{plain_of, state_of};
+ghost use Rattle.delaunay_legalization.specs.Shape.{IsKept};
+ghost use Rattle.delaunay_legalization.specs.State.{plain_of, state_of};
 ghost use Rattle.delaunay_removal.specs.Data.{KeepsDataBeside};
 
 use delaunay_core::point::HasPosition;

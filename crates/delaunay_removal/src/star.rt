@@ -10,13 +10,13 @@ ghost use Rattle.half_edge_mesh.specs.Contents.{IsWhole};
 ghost use Rattle.plane_tiling.specs.Local.{LocalMesh};
 ghost use Rattle.drawn_mesh.specs.Drawn.{faces_of, outer_of};
 ghost use Rattle.delaunay_core.specs.Place.{place_of};
-ghost use Rattle.delaunay_edit.specs.Known.{point_at};
+ghost use Rattle.delaunay_legalization.specs.Known.{point_at};
 ghost use Rattle.delaunay_removal.specs.Data.{StandsBeside};
 ghost use Rattle.delaunay_removal.specs.Star.{IsConvexAt};
 
 use delaunay_core::math::PlaneTests;
 use delaunay_core::point::{HasPosition, Point2};
-use delaunay_edit::{start_of, turns_left};
+use delaunay_legalization::{start_of, turns_left};
 use half_edge_mesh::{Dcel, FixedDirectedEdgeHandle};
 use half_edge_views::MeshViews;
 

@@ -9,10 +9,10 @@ use Rattle.drawn_mesh.specs.Drawn.{faces_of, edges_of, outer_of}
 use Rattle.drawn_mesh.proofs.OwnEdges.{own_edges}
 use Rattle.delaunay_edit.specs.declared.position_in_triangulation.PositionInTriangulation.{PositionInTriangulation}
 use Rattle.delaunay_edit.specs.declared.position_in_triangulation.PositionInTriangulation.TheVariants.{OnVertex, OnEdge, OnFace, OutsideOfConvexHull, NoTriangulation}
-use Rattle.delaunay_edit.specs.Known.{IsKnown, point_at}
+use Rattle.delaunay_legalization.specs.Known.{IsKnown, point_at}
 use Rattle.delaunay_edit.specs.Location.{location_of}
-use Rattle.delaunay_edit.specs.Shape.{IsKept}
-use Rattle.delaunay_edit.specs.State.{State, triangulation_of}
+use Rattle.delaunay_legalization.specs.Shape.{IsKept}
+use Rattle.delaunay_legalization.specs.State.{State, triangulation_of}
 use Rattle.delaunay_edit.proofs.Locating.{at_vertex, same_point}
 
 module _ {V D U F : Type 0} (at : V → Point) (s : State V D U F) (p : Point) where

@@ -11,11 +11,11 @@ ghost use Rattle.plane.specs.Location.{IsLocation};
 ghost use Rattle.delaunay_core.specs.Place.{place_of};
 ghost use Rattle.delaunay_core.specs.declared.math.InsertionError.TheVariants.{TooLarge, OutOfIndexes};
 ghost use Rattle.delaunay_edit.specs.Data.{KeepsData};
-ghost use Rattle.delaunay_edit.specs.Known.{IsKnown, point_at};
+ghost use Rattle.delaunay_legalization.specs.Known.{IsKnown, point_at};
 ghost use Rattle.delaunay_edit.specs.Elements.{GivesElements, HasElement};
 ghost use Rattle.delaunay_edit.specs.Hull.{HasHullSize};
 ghost use Rattle.delaunay_edit.specs.Location.{location_of};
-ghost use Rattle.delaunay_edit.specs.State.{state_of, plain_of, triangulation_of};
+ghost use Rattle.delaunay_legalization.specs.State.{state_of, plain_of, triangulation_of};
 
 use delaunay_core::math::{InsertionError, PlaneTests};
 use delaunay_core::point::{HasPosition, Point2};
@@ -34,7 +34,7 @@ pub struct DelaunayTriangulation<V: HasPosition, DE, UE, F> {
 }
 
 impl<V: HasPosition, DE, UE, F> Model for DelaunayTriangulation<V, DE, UE, F> {
-    ghost use Rattle.delaunay_edit.specs.State.{State};
+    ghost use Rattle.delaunay_legalization.specs.State.{State};
 
     ghost Value = { State V DE UE F };
 

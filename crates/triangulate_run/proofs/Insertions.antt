@@ -15,10 +15,10 @@ use Rattle.delaunay_core.specs.declared.math.InsertionError.TheVariants.{TooLarg
 use Rattle.triangulate_run.specs.declared.reply.Reply.TheVariants.{Refused}
 use Rattle.triangulate_run.specs.Answer.{MayInsert, most_elements}
 use Rattle.triangulate_run.specs.Engine.{stage_of}
-use Rattle.delaunay_edit.specs.State.{State}
+use Rattle.delaunay_legalization.specs.State.{State}
 use Rattle.triangulate_run.specs.Points.{place, nowhere, IsAt, IsSiteAt, IsListed, IsListedSite}
 use Rattle.triangulate_run.specs.Stage.{position}
-use Rattle.delaunay_edit.specs.Known.{point_at, IsKnown}
+use Rattle.delaunay_legalization.specs.Known.{point_at, IsKnown}
 
 module _ (vs : List (Point2 ℤ)) (p : Point2 ℤ) where
   placed : (k : ℕ) (d : Point2 ℤ) → k < length vs → point_at (map position vs) k ≡ position (get_or vs k d)

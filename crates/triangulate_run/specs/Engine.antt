@@ -4,7 +4,7 @@ use Rattle.plane.specs.Fraction.{Point}
 use Rattle.delaunay_core.specs.declared.point.Point2.{Point2}
 use Rattle.triangulate_run.specs.declared.points.SheetPoint.{SheetPoint}
 use Rattle.triangulate_run.specs.Points.{place}
-use Rattle.delaunay_edit.specs.State.{State, plain_of, triangulation_of}
+use Rattle.delaunay_legalization.specs.State.{State, plain_of, triangulation_of}
 use Rattle.triangulate_run.specs.Stage.{Stage, position}
 
 abbrev pub stage_of : {D U F : Type 0} → State (Point2 ℤ) D U F → Stage

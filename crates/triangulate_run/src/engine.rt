@@ -7,7 +7,7 @@ ghost use Rattle.delaunay_edit.specs.Location.{location_of};
 ghost use Rattle.delaunay_edit.specs.Elements.{HasElement};
 ghost use Rattle.triangulate_run.specs.MeshFaces.{row_at};
 ghost use Rattle.triangulate_run.specs.declared.reply.Reply.TheVariants.{Edge};
-ghost use Rattle.delaunay_edit.specs.State.{triangulation_of};
+ghost use Rattle.delaunay_legalization.specs.State.{triangulation_of};
 ghost use Rattle.triangulate_run.specs.Stage.{position, first_stage, Fits};
 ghost use Rattle.triangulate_run.specs.Points.{place};
 ghost use Rattle.triangulate_run.specs.Engine.{stage_of, IsReady};

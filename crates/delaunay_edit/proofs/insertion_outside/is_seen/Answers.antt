@@ -1,7 +1,7 @@
 use Rattle.std.proofs.Common.{map}
 use Rattle.delaunay_core.specs.Place.{place_of}
-use Rattle.delaunay_edit.proofs.Joining.{covered_in}
-use Rattle.delaunay_edit.proofs.Questions.{covered_at}
+use Rattle.delaunay_legalization.proofs.Questions.{covered_in}
+use Rattle.delaunay_legalization.proofs.Questions.{covered_at}
 use Rattle.std.proofs.Common.{◌<◌, subst, sym}
 use Rattle.std.proofs.lemmas.List.{length-map}
 use Rattle.delaunay_edit.proofs.insertion_outside.is_seen.Goals as goal

@@ -1,7 +1,7 @@
 use Rattle.std.proofs.Common.{length, map}
 use Rattle.drawn_mesh.specs.Drawn.{outer_of}
 use Rattle.delaunay_edit.specs.Data.{GrowsAround}
-use Rattle.delaunay_edit.specs.State.{state_of}
+use Rattle.delaunay_legalization.specs.State.{state_of}
 use Rattle.delaunay_edit.proofs.Joining.{IsJoining, IsJoiningBack}
 use Rattle.delaunay_edit.proofs.insertion_outside.join_outside.Given as goal
 

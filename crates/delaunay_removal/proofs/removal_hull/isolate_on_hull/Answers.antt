@@ -1,6 +1,6 @@
 use Rattle.std.proofs.Common.{vec_capacity}
 use Rattle.half_edge_links.specs.Mesh.{origin}
-use Rattle.delaunay_edit.proofs.Questions.{both_ways}
+use Rattle.delaunay_legalization.proofs.Questions.{both_ways}
 use Rattle.delaunay_removal.proofs.HullIsolating.{hull_sites, hull_first, hull_room, hull_named, flat_star, flat_side, hull_isolates}
 use Rattle.delaunay_removal.proofs.removal_hull.isolate_on_hull.Goals as goal
 

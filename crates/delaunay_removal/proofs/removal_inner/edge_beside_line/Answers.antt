@@ -1,6 +1,6 @@
 use Rattle.std.proofs.Common.{ℕ, ◌<◌, map, subst, sym, ap, ◌∙◌}
 use Rattle.half_edge_links.specs.Mesh.{origin}
-use Rattle.delaunay_edit.proofs.Questions.{both_ways}
+use Rattle.delaunay_legalization.proofs.Questions.{both_ways}
 use Rattle.delaunay_removal.proofs.InnerStars.{star_from}
 use Rattle.delaunay_removal.proofs.Between.{between_at_next}
 use Rattle.delaunay_removal.proofs.removal_inner.edge_beside_line.Goals as goal

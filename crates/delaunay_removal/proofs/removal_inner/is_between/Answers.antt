@@ -3,7 +3,7 @@ use Rattle.std.proofs.lemmas.List.{length-map}
 use Rattle.half_edge_links.specs.Mesh.{origin}
 use Rattle.half_edge_links.specs.Peel.{turn}
 use Rattle.delaunay_core.specs.Place.{place_of}
-use Rattle.delaunay_edit.proofs.Joining.{covered_in}
+use Rattle.delaunay_legalization.proofs.Questions.{covered_in}
 use Rattle.delaunay_removal.proofs.Between.{ends_apart, not_from, not_to, between_read}
 use Rattle.delaunay_removal.proofs.removal_inner.is_between.Goals as goal
 

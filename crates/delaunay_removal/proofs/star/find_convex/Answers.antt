@@ -1,7 +1,7 @@
 use Rattle.std.proofs.Common.{length, map, refl, arith}
 use Rattle.delaunay_removal.specs.Star.{IsConvexAt}
 use Rattle.delaunay_removal.proofs.Searching.{search_goes_on}
-use Rattle.delaunay_edit.proofs.Questions.{both_ways}
+use Rattle.delaunay_legalization.proofs.Questions.{both_ways}
 use Rattle.delaunay_removal.proofs.star.find_convex.Goals as goal
 
 pub loop-i-init : goal.loop-i-init

@@ -1,5 +1,5 @@
 use Rattle.triangulate_run.specs.Stage.{position}
-use Rattle.delaunay_edit.specs.State.{triangulation_of}
+use Rattle.delaunay_legalization.specs.State.{triangulation_of}
 use Rattle.triangulate_run.proofs.Locations.{edges_counted, none_counted}
 use Rattle.triangulate_run.proofs.engine.counts_of.Goals as goal
 

@@ -6,7 +6,7 @@ use Rattle.delaunay_edit.specs.declared.position_in_triangulation.PositionInTria
 use Rattle.delaunay_edit.specs.Location.{location_of}
 use Rattle.triangulate_run.specs.MeshFaces.{row_at}
 use Rattle.triangulate_run.specs.Stage.{position}
-use Rattle.delaunay_edit.specs.State.{triangulation_of}
+use Rattle.delaunay_legalization.specs.State.{triangulation_of}
 use Rattle.triangulate_run.proofs.Locations.{edge_there, face_there}
 use Rattle.triangulate_run.proofs.engine.location_reply.Goals as goal
 

@@ -1,7 +1,7 @@
 use Rattle.std.proofs.Common.{ap, sym, subst}
 use Rattle.triangulate_run.specs.Sheet.{points_of, IsSite}
 use Rattle.delaunay_core.specs.Place.{place_of}
-use Rattle.delaunay_edit.specs.State.{plain_of}
+use Rattle.delaunay_legalization.specs.State.{plain_of}
 use Rattle.bench.specs.Vertices.{tagged, AreSites}
 use Rattle.bench.proofs.Sites.{found_site, sites_after}
 use Rattle.bench.proofs.sheet_triangulation.SheetTriangulation.insert.Goals as goal

@@ -1,6 +1,6 @@
 use Rattle.std.proofs.Common.{ℕ, ◌≤◌, length, subst, ap, sym}
-use Rattle.delaunay_edit.specs.State.{plain_of}
-use Rattle.delaunay_edit.proofs.Flips.{few_flips_fit}
+use Rattle.delaunay_legalization.specs.State.{plain_of}
+use Rattle.delaunay_legalization.proofs.Flips.{few_flips_fit}
 use Rattle.bench_grid.specs.Small.{AreSmall}
 use Rattle.bench_grid.proofs.Vertices.{small_after}
 use Rattle.bench_grid.proofs.grid.Grid.insert.Goals as goal

@@ -1,6 +1,6 @@
 use Rattle.std.proofs.Common.{◌∙◌, [], ◌∷◌, ◌++◌, ap, sym, subst, map}
 use Rattle.delaunay_edit.specs.Location.{Locates}
-use Rattle.delaunay_edit.specs.Shape.{IsKept}
+use Rattle.delaunay_legalization.specs.Shape.{IsKept}
 use Rattle.delaunay_edit.proofs.Appending.{sites_after}
 use Rattle.delaunay_edit.proofs.DataKept.{appended_keeps}
 use Rattle.delaunay_edit.proofs.triangulation_core.TriangulationCore.append.Goals as goal

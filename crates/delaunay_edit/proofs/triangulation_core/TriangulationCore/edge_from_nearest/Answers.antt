@@ -6,7 +6,7 @@ use Rattle.plane.specs.Circle.{gap}
 use Rattle.plane.specs.Pairs.{place}
 use Rattle.delaunay_core.specs.Place.{place_of}
 use Rattle.delaunay_edit.proofs.Nearest.{first_is_least, less_is_least, still_least}
-use Rattle.delaunay_edit.proofs.Questions.{both_ways}
+use Rattle.delaunay_legalization.proofs.Questions.{both_ways}
 use Rattle.delaunay_edit.proofs.triangulation_core.TriangulationCore.edge_from_nearest.Goals.{then-starts_nearer, else-starts_nearer}
 use Rattle.delaunay_edit.proofs.triangulation_core.TriangulationCore.edge_from_nearest.Goals as goal
 

@@ -2,7 +2,8 @@ use Rattle.std.proofs.Common.{◌≡◌, arith, map, length, ap}
 use Rattle.half_edge_links.specs.Mesh.{face_edge}
 use Rattle.delaunay_core.specs.Place.{place_of}
 use Rattle.delaunay_edit.specs.Location.{IsInsideFaceOf}
-use Rattle.delaunay_edit.proofs.Questions.{both_ways, next_face}
+use Rattle.delaunay_legalization.proofs.Questions.{both_ways}
+use Rattle.delaunay_edit.proofs.Questions.{next_face}
 use Rattle.delaunay_edit.proofs.triangulation_core.TriangulationCore.face_around.Goals as goal
 
 pub loop-index-preserved : goal.loop-index-preserved

@@ -1,4 +1,4 @@
-use Rattle.delaunay_edit.specs.State.{state_of}
+use Rattle.delaunay_legalization.specs.State.{state_of}
 use Rattle.delaunay_edit.proofs.Delaunay.{constrained_delaunay, legal_empty}
 use Rattle.delaunay_edit.proofs.triangulation_core.TriangulationCore.new.Goals as goal
 

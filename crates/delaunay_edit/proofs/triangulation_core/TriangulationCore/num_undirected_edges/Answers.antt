@@ -1,5 +1,5 @@
 use Rattle.std.proofs.Common.{◌∙◌}
-use Rattle.delaunay_edit.specs.State.{state_of}
+use Rattle.delaunay_legalization.specs.State.{state_of}
 use Rattle.delaunay_edit.proofs.Counts.{count_of_edges}
 use Rattle.delaunay_edit.proofs.triangulation_core.TriangulationCore.num_undirected_edges.Goals as goal
 

@@ -1,7 +1,7 @@
 use Rattle.std.proofs.Common.{map}
-use Rattle.delaunay_edit.specs.State.{state_of}
+use Rattle.delaunay_legalization.specs.State.{state_of}
 use Rattle.delaunay_edit.proofs.Delaunay.{constrained_delaunay, empty_triple_is_face}
-use Rattle.delaunay_edit.proofs.Shapes.{laid_out_tiles}
+use Rattle.delaunay_legalization.proofs.Shapes.{laid_out_tiles}
 use Rattle.delaunay_edit.proofs.triangulation_core.TriangulationCore.num_vertices.Goals as goal
 
 pub returns-clause-tiling : goal.returns-clause-tiling

@@ -1,6 +1,6 @@
 use Rattle.std.proofs.Common.{sym, subst}
-use Rattle.delaunay_edit.specs.Shape.{IsLegal}
-use Rattle.delaunay_edit.specs.State.{state_of}
+use Rattle.delaunay_legalization.specs.Shape.{IsLegal}
+use Rattle.delaunay_legalization.specs.State.{state_of}
 use Rattle.delaunay_edit.proofs.Delaunay.{legal_overwritten}
 use Rattle.delaunay_edit.proofs.triangulation_core.TriangulationCore.overwrite.Goals as goal
 

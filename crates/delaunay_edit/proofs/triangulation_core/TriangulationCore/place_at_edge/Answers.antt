@@ -1,6 +1,7 @@
 use Rattle.std.proofs.Common.{map}
 use Rattle.delaunay_core.specs.Place.{place_of}
-use Rattle.delaunay_edit.proofs.Questions.{both_ways, clear}
+use Rattle.delaunay_legalization.proofs.Questions.{both_ways}
+use Rattle.delaunay_edit.proofs.Questions.{clear}
 use Rattle.delaunay_edit.proofs.triangulation_core.TriangulationCore.place_at_edge.Goals.{else-is_outer-via-then-is_outer+else-turns_left, else-is_outer-via-else-is_outer}
 use Rattle.delaunay_edit.proofs.triangulation_core.TriangulationCore.place_at_edge.Goals as goal
 

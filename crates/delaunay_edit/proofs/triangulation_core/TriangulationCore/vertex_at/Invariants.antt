@@ -1,6 +1,6 @@
 use Rattle.std.proofs.Common.{◌≡◌, ◌<◌, ℕ, map}
 use Rattle.delaunay_core.specs.Place.{place_of}
-use Rattle.delaunay_edit.specs.Known.{point_at}
+use Rattle.delaunay_legalization.specs.Known.{point_at}
 use Rattle.delaunay_edit.proofs.triangulation_core.TriangulationCore.vertex_at.Given as goal
 
 abbrev pub invariant-loop-index : goal.invariant-loop-index

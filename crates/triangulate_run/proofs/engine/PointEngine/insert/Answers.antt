@@ -1,7 +1,7 @@
 use Rattle.std.proofs.Common.{ℕ, inl, inr, map, refl, sym, ◌∙◌, ap, subst}
 use Rattle.plane.specs.Plain.{Replaces}
 use Rattle.triangulate_run.specs.Stage.{position}
-use Rattle.delaunay_edit.specs.State.{plain_of}
+use Rattle.delaunay_legalization.specs.State.{plain_of}
 use Rattle.drawn_mesh.specs.Drawn.{drawn}
 use Rattle.triangulate_run.proofs.Insertions.{unknown_if_fresh, known_if_there, may_refuse, site_if_listed, listed_if_found, places_kept, sites_kept, sites_more}
 use Rattle.triangulate_run.proofs.engine.PointEngine.insert.Goals as goal

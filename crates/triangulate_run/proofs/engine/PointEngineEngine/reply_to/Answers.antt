@@ -1,7 +1,7 @@
 use Rattle.std.proofs.Common.{refl, subst, inl, inr}
 use Rattle.std.specs.Prelude.{ℤ}
 use Rattle.delaunay_core.specs.declared.point.Point2.{Point2}
-use Rattle.delaunay_edit.specs.State.{triangulation_of}
+use Rattle.delaunay_legalization.specs.State.{triangulation_of}
 use Rattle.triangulate_run.specs.Answer.{MayInsert, MayLocate}
 use Rattle.triangulate_run.specs.Engine.{stage_of}
 use Rattle.triangulate_run.specs.Stage.{position}

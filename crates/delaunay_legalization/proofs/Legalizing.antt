@@ -1,0 +1,158 @@
+-- What the functions of a legalisation need of the mesh that they are handed.
+use Rattle.std.proofs.Common.{◌≡◌, ℕ, suc, ◌+◌, ◌-◌, ◌*◌, ◌/◌, ◌<◌, ◌≤◌, ◌^◌, List, [], ◌∷◌, ◌++◌, length, map, refl, sym, ap, ◌∙◌, subst, arith}
+use mathlib.Core.Logic.{◌≢◌}
+use Rattle.std.specs.Prelude.{Bool, Contains, take}
+use Rattle.std.specs.Bool.{Decides}
+use Rattle.std.specs.List.{IsAnyAnswer}
+use Rattle.std.proofs.Math.Dec.{eqb}
+use Rattle.std.proofs.lemmas.Bool.Decides.{Decides-eqb}
+use Rattle.std.proofs.lemmas.List.Elements.{contains_decides, Decides-contains}
+use Rattle.half_edge_mesh.specs.Contents.{Contents}
+use Rattle.half_edge_links.specs.Mesh.{Mesh, origin, next, prev, face, rev, IsValid}
+use Rattle.half_edge_links.specs.Flip.{IsFlippable, flipped}
+use Rattle.half_edge_links.proofs.FlipLemmas.{flips}
+use Rattle.plane.specs.Fraction.{Point, whole}
+use Rattle.plane.specs.Side.{TurnsLeft}
+use Rattle.plane.specs.Circle.{InsideCircle}
+use Rattle.plane_tiling.specs.Local.{LocalMesh, IsMesh}
+use Rattle.plane_edits.proofs.Kept.{turning_of}
+use Rattle.plane.specs.Delaunay.{IsLocallyDelaunay}
+use Rattle.plane_edits.specs.Legal.{AllPassBut}
+use Rattle.plane_edits.proofs.Flipping.{none_left}
+use Rattle.std.proofs.lemmas.List.{length-map}
+use Rattle.drawn_mesh.specs.Drawn.{drawn, faces_of, edges_of, outer_of}
+use Rattle.drawn_mesh.specs.Legal.{AreEdges, IsFailing, IsPartlyLegal, Gains, GainsRound, pairs_at, steps_left}
+use Rattle.drawn_mesh.specs.Stays.{KeepsIndexes}
+use Rattle.drawn_mesh.proofs.MeshEdits.{face_before}
+use Rattle.drawn_mesh.proofs.MeshLegal as M
+use Rattle.drawn_mesh.proofs.WorkLists.{contains_last, contains_before, once_before}
+use Rattle.delaunay_legalization.specs.Known.{point_at}
+
+pub edges_before : (m : Mesh) (ks : List ℕ) (k : ℕ) → AreEdges m (ks ++ k ∷ []) → AreEdges m ks
+edges_before m ks k o = record { within = λ j c. o.within j (contains_before ks k j c); once = once_before ks k o.once }
+
+pub last_within : (m : Mesh) (ks : List ℕ) (k n : ℕ) → n ≡ length m.half_edges → AreEdges m (ks ++ k ∷ []) → (2 * k) < n
+last_within m ks k n e o = let h = o.within k (contains_last ks k) in omega (arith, h, e)
+
+module _ (points : List Point) (m : Mesh) (s : IsValid m) (shape : IsMesh points (faces_of m) (outer_of m)) (e n : ℕ) (count : n ≡ length m.half_edges) (within : e < n) where
+  in_mesh : e < length m.half_edges
+  in_mesh = omega (arith, count, within)
+
+  pub failing_flippable : IsFailing points m e → IsFlippable m e
+  failing_flippable x = M.between_inner points m s (M.local_of points m e s.sound shape (in_mesh, x.inner)) e in_mesh x.inner x.twin_inner
+
+  pub failing_apart : IsFailing points m e → origin m (prev m e) ≢ origin m (prev m (rev e))
+  failing_apart x = M.apart_corners points m s (M.local_of points m e s.sound shape (in_mesh, x.inner)) e in_mesh x
+
+  module _ (a c d b : Point) (next_edge prev_edge twin_prev : ℕ) (at_next : next_edge ≡ next m e) (at_prev : prev_edge ≡ prev m e) (at_twin : twin_prev ≡ prev m (rev e))
+      (first : a ≡ point_at points (origin m e)) (second : c ≡ point_at points (origin m next_edge)) (third : d ≡ point_at points (origin m prev_edge)) (fourth : b ≡ point_at points (origin m twin_prev)) where
+    pub left_turn : 0 < face m e → TurnsLeft (whole a) (whole c) (whole d)
+    left_turn h = subst (λ (x : Point × Point × Point). TurnsLeft (whole x.0) (whole x.1) (whole x.2)) (λ i. (sym first i, sym (second ∙ ap (λ (z : ℕ). point_at points (origin m z)) at_next) i, sym (third ∙ ap (λ (z : ℕ). point_at points (origin m z)) at_prev) i))
+        (turning_of points (faces_of m) (outer_of m) (M.local_of points m e s.sound shape (in_mesh, h)) (origin m e) (origin m (next m e)) (origin m (prev m e)) (face_before m e s.sound (in_mesh, h)))
+
+    corners_are : let y : Point × Point × Point × Point = (a, c, d, b) in let z : Point × Point × Point × Point = (point_at points (origin m e), point_at points (origin m (next m e)), point_at points (origin m (prev m e)), point_at points (origin m (prev m (rev e)))) in y ≡ z
+    corners_are = λ i. (first i, (second ∙ ap (λ (z : ℕ). point_at points (origin m z)) at_next) i, (third ∙ ap (λ (z : ℕ). point_at points (origin m z)) at_prev) i, (fourth ∙ ap (λ (z : ℕ). point_at points (origin m z)) at_twin) i)
+
+    pub inside_fails : 0 < face m e → 0 < face m (rev e) → InsideCircle (whole a) (whole c) (whole d) (whole b) → IsFailing points m e
+    inside_fails h t x = record { inner = h; twin_inner = t; inside = subst (λ (x : Point × Point × Point × Point). InsideCircle (whole x.0) (whole x.1) (whole x.2) (whole x.3)) corners_are x }
+
+    pub fails_inside : IsFailing points m e → InsideCircle (whole a) (whole c) (whole d) (whole b)
+    fails_inside x = subst (λ (x : Point × Point × Point × Point). InsideCircle (whole x.0) (whole x.1) (whole x.2) (whole x.3)) (sym corners_are) x.inside
+
+pub positive : (n : ℕ) → ¬ (n ≡ 0) → 0 < n
+positive n h = grind arith
+
+pub not_none : (n : ℕ) → 0 < n → ¬ (n ≡ 0)
+not_none n h e = omega arith
+
+-- ---- one step
+pub turned_by : (points : List Point) (was m new : Mesh) (ks more : List ℕ) (k start before after : ℕ) → IsValid m → new ≡ flipped m (2 * k) → after ≡ before + 1 → IsFailing points m (2 * k) → GainsRound m (2 * k) ks more → AreEdges m more → IsPartlyLegal points [] was m (ks ++ k ∷ []) start before → IsPartlyLegal points [] was new more start after
+turned_by points was m new ks more k start before after s e f x g o p = subst (λ (y : Mesh × ℕ). IsPartlyLegal points [] was y.0 more start y.1) (λ i. (sym e i, sym (f ∙ one_more before) i)) (M.turned points [] was m ks k start before s p x more g o)
+  where
+    one_more : (n : ℕ) → n + 1 ≡ suc n
+    one_more n = omega arith
+
+pub fewer_by : (points : List Point) (m new : Mesh) (ks more : List ℕ) (k : ℕ) → IsValid m → IsMesh points (faces_of m) (outer_of m) → new ≡ flipped m (2 * k) → IsFailing points m (2 * k) → AreEdges m (ks ++ k ∷ []) → AreEdges m more → steps_left points new more < steps_left points m (ks ++ k ∷ [])
+fewer_by points m new ks more k s shape e x own o = subst (λ y. steps_left points y more < steps_left points m (ks ++ k ∷ [])) (sym e)
+    (M.fewer_after_flip points m (flipped m (2 * k)) (ks ++ k ∷ []) more (M.volume_falls points m s local (2 * k) within x) (flips m (2 * k) s.sound (M.can_turn points m s local (2 * k) within x)).edge_count o)
+  where
+    within : (2 * k) < length m.half_edges
+    within = own.within k (contains_last ks k)
+
+    local : LocalMesh points (faces_of m) (outer_of m)
+    local = M.local_of points m (2 * k) s.sound shape (within, x.inner)
+
+pub round_gained : (m : Mesh) (e a b c d : ℕ) (one two three four five : List ℕ) → a ≡ next m e → b ≡ prev m e → c ≡ next m (rev e) → d ≡ prev m (rev e) → Gains one two (a / 2) → Gains two three (b / 2) → Gains three four (c / 2) → Gains four five (d / 2) → GainsRound m e one five
+round_gained m e a b c d one two three four five p q r s f g h i =
+    M.gains_round m e one two three four five (subst (λ (z : ℕ). Gains one two (z / 2)) p f) (subst (λ (z : ℕ). Gains two three (z / 2)) q g) (subst (λ (z : ℕ). Gains three four (z / 2)) r h) (subst (λ (z : ℕ). Gains four five (z / 2)) s i)
+
+-- ---- the loop
+-- what holds from one edge to the next
+pub record IsUnderway {V D U F : Type 0} (points : List Point) (was now : Contents V D U F) (ks : List ℕ) (room_was room start flips : ℕ) : Type 0 where
+  pub contents : now ≡ record was { mesh = now.mesh }
+  pub legal : IsPartlyLegal points [] was.mesh now.mesh ks start flips
+  pub room_stays : room ≡ room_was
+
+pub one_more_fits : (points : List Point) (was m : Mesh) (ks : List ℕ) (k start flips n : ℕ) → IsValid m → IsPartlyLegal points [] was m (ks ++ k ∷ []) start flips → length points ≡ n → 2 * start + n * (n - 1) < 2 ^ 65 → IsFailing points m (2 * k) → flips + 1 < 2 ^ 64
+one_more_fits points was m ks k start flips n s p e h x = fits start (length p.away) flips (n * (n - 1)) p.count h (subst (λ (z : ℕ). 2 * suc (length p.away) ≤ z * (z - 1)) e (M.one_more_flip points [] was m ks k start flips s p x))
+  where
+    fits : (start a flips q : ℕ) → start + a ≡ flips → 2 * start + q < 2 ^ 65 → 2 * suc a ≤ q → flips + 1 < 2 ^ 64
+    fits start a flips q c h b = omega arith
+
+pub gained : (ks more : List ℕ) (k l : ℕ) → l ≡ k → more ≡ ks ++ l ∷ [] → ¬ Contains ks l → Gains ks more k
+gained ks more k l e f n = subst (λ (z : ℕ). Gains ks more z) e (subst (λ (zs : List ℕ). Gains ks zs l) (sym f) (M.gains_last ks l n))
+
+pub kept : (ks : List ℕ) (k l : ℕ) → l ≡ k → Contains ks l → Gains ks ks k
+kept ks k l e c = subst (λ (z : ℕ). Gains ks ks z) e (M.gains_none ks l c)
+
+pub half_within : (m : Mesh) (h n k : ℕ) → n ≡ length m.half_edges → h < n → k ≡ h / 2 → (2 * k) < length m.half_edges
+half_within m h n k e l f = grind arith
+
+pub edges_gained : (m : Mesh) (old new : List ℕ) (h n : ℕ) → n ≡ length m.half_edges → h < n → AreEdges m old → Gains old new (h / 2) → AreEdges m new
+edges_gained m old new h n e l o g = M.gains_edges m old new (h / 2) o (half_within m h n (h / 2) e l refl) g
+
+pub fits_one : (m : Mesh) (ks : List ℕ) (h n d k room : ℕ) → d ≡ length m.half_edges → 2 * n ≡ length m.half_edges → h < d → k ≡ h / 2 → AreEdges m ks → n ≤ room → ¬ Contains ks k → length ks < room
+fits_one m ks h n d k room e f l r o b c = let w = half_within m h d k e l r in below (length ks) n room (M.room_for_one m ks n k f o (omega (arith, w, f)) c) b
+  where
+    below : (a n room : ℕ) → a < n → n ≤ room → a < room
+    below a n room h k = omega arith
+
+pub found : (xs ys : List ℕ) (x : ℕ) (r : Bool) → ys ≡ xs → IsAnyAnswer (λ y t. eqb y x ≡ t) ys r → Decides r (Contains xs x)
+found xs ys x r e h = subst (λ zs. Decides r (Contains zs x)) e (Decides-contains ys x r (contains_decides eqb Decides-eqb ys x r h))
+
+pub fits_len : (xs ys : List ℕ) (v room : ℕ) → ys ≡ xs → length ys ≡ v → length xs < room → v < room
+fits_len xs ys v room e f h = subst (λ (z : ℕ). z < room) (sym (ap (λ zs. length zs) e) ∙ f) h
+
+pub underway_begins : {V D U F : Type 0} (points : List Point) (c : Contents V D U F) (ks : List ℕ) (room start : ℕ) → IsMesh points (faces_of c.mesh) (outer_of c.mesh) → AreEdges c.mesh ks → AllPassBut points (faces_of c.mesh) [] (pairs_at c.mesh ks) → IsUnderway points c c ks room room start start
+underway_begins points c ks room start shape edges passing = record { contents = refl; legal = M.begins points [] c.mesh ks start shape edges passing; room_stays = refl }
+
+module _ {V D U F : Type 0} (at : V → Point) (was now : Contents V D U F) (all : List ℕ) (room_was room start flips : ℕ) (u : IsUnderway (map at was.vertices) was now all room_was room start flips) where
+  same_vertices : now.vertices ≡ was.vertices
+  same_vertices = ap (λ (c : Contents V D U F). c.vertices) u.contents
+
+  module _ (ks : List ℕ) (k : ℕ) (popped : all ≡ ks ++ k ∷ []) where
+    before_step : IsPartlyLegal (map at was.vertices) [] was.mesh now.mesh (ks ++ k ∷ []) start flips
+    before_step = subst (λ (zs : List ℕ). IsPartlyLegal (map at was.vertices) [] was.mesh now.mesh zs start flips) popped u.legal
+
+    pub step_fits : IsValid now.mesh → 2 * start + length was.vertices * (length was.vertices - 1) < 2 ^ 65 → IsFailing (map at now.vertices) now.mesh (2 * k) → flips + 1 < 2 ^ 64
+    step_fits s h x = one_more_fits (map at was.vertices) was.mesh now.mesh ks k start flips (length was.vertices) s before_step (length-map was.vertices at) h (subst (λ (vs : List V). IsFailing (map at vs) now.mesh (2 * k)) same_vertices x)
+
+    pub step_kept : (after : Contents V D U F) (more : List ℕ) (room_after flips_after : ℕ) → after ≡ record now { mesh = after.mesh }
+        → ((first : Mesh) (start : ℕ) → IsPartlyLegal (map at now.vertices) [] first now.mesh (ks ++ k ∷ []) start flips → IsPartlyLegal (map at now.vertices) [] first after.mesh more start flips_after) → room_after ≡ room → IsUnderway (map at was.vertices) was after more room_was room_after start flips_after
+    step_kept after more room_after flips_after contents legal e = record {
+      contents = contents ∙ ap (λ (c : Contents V D U F). record c { mesh = after.mesh }) u.contents;
+      legal = subst (λ (vs : List V). IsPartlyLegal (map at vs) [] was.mesh after.mesh more start flips_after) same_vertices (legal was.mesh start (subst (λ (vs : List V). IsPartlyLegal (map at vs) [] was.mesh now.mesh (ks ++ k ∷ []) start flips) (sym same_vertices) before_step));
+      room_stays = e ∙ u.room_stays;
+    }
+
+  pub underway_ends : all ≡ [] → IsLocallyDelaunay (drawn (map at was.vertices) now.mesh) []
+  underway_ends e = none_left (map at was.vertices) (faces_of now.mesh) (edges_of now.mesh) [] (subst (λ (zs : List ℕ). AllPassBut (map at was.vertices) (faces_of now.mesh) [] (pairs_at now.mesh zs)) e u.legal.passing)
+
+  pub underway_counts : 2 * (flips - start) ≤ length was.vertices * (length was.vertices - 1)
+  underway_counts = subst (λ (n : ℕ). 2 * (flips - start) ≤ n * (n - 1)) (length-map was.vertices at) (M.few_flips (map at was.vertices) [] was.mesh now.mesh all start flips u.legal).1
+
+  pub underway_keeps : IsValid now.mesh → KeepsIndexes was.mesh now.mesh
+  underway_keeps s = M.indexes_kept (map at was.vertices) [] was.mesh now.mesh all start flips s u.legal
+
+pub drained : (xs ys : List ℕ) (v : ℕ) → xs ≡ ys ++ [] → ys ≡ take (v - 1) xs → v ≡ 0 → xs ≡ []
+drained xs ys v e f z = e ∙ ap (λ zs. zs ++ []) (f ∙ ap (λ (n : ℕ). take (n - 1) xs) z)

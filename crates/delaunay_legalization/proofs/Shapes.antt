@@ -1,0 +1,36 @@
+-- What follows from the shape of a mesh over its points.
+use Rattle.std.proofs.Common.{◌≡◌, ◌≢◌, ℕ, ◌<◌, List, [], length, refl, sym, ap, subst, inl, inr, arith}
+use Rattle.std.specs.Prelude.{All}
+use Rattle.half_edge_links.specs.Mesh.{Mesh, IsValid, empty}
+use Rattle.half_edge_mesh.specs.Contents.{Contents, IsWhole}
+use Rattle.plane.specs.Fraction.{Point, whole}
+use Rattle.plane.specs.Tests.{InRange}
+use Rattle.plane.specs.Pairs.{place}
+use Rattle.plane.specs.Tiling.{Face, IsTiling}
+use Rattle.plane_tiling.specs.Local.{IsMesh}
+use Rattle.plane_tiling.proofs.Meshes.{meshes_tile}
+use Rattle.plane_tiling.proofs.LineMeshes.{no_vertex}
+use Rattle.delaunay_legalization.specs.Known.{point_at}
+use Rattle.drawn_mesh.specs.Drawn.{drawn, faces_of, edges_of, outer_of}
+use Rattle.drawn_mesh.proofs.OwnEdges.{own_edges}
+use Rattle.delaunay_legalization.specs.State.{state_of}
+use Rattle.delaunay_legalization.specs.Shape.{IsKept}
+
+pub laid_out_tiles : (points : List Point) (m : Mesh) → IsValid m → IsMesh points (faces_of m) (outer_of m) → IsTiling (drawn points m)
+laid_out_tiles points m v shape = meshes_tile points (faces_of m) (outer_of m) (edges_of m) shape (own_edges m v)
+
+-- vertices of different indexes differ in position
+pub laid_out_distinct : (points : List Point) (faces : List Face) (outer : List (ℕ × ℕ)) → IsMesh points faces outer → (i j : ℕ) → i < length points → j < length points → i ≢ j → point_at points i ≢ point_at points j
+laid_out_distinct points faces outer (inl s) i j h k n e = s.distinct i j h k n (ap whole e)
+laid_out_distinct points faces outer (inr s) i j h k n e = s.1.distinct i j h k n (ap whole e)
+
+-- a mesh with nothing but the outer face
+pub kept_empty : {V D U F : Type 0} (place : V → Point) (c : Contents V D U F) → c.mesh ≡ empty → c.vertices ≡ [] → c.undirected ≡ [] → c.faces ≡ [] → IsWhole c → IsKept place (state_of c)
+kept_empty place c mesh vertices undirected faces w = record {
+  in_range = subst (λ vs. All (λ v. InRange (place v)) vs) (sym vertices) (λ k d h. absurd (omega arith));
+  few_edges = rw (undirected, vertices) (omega arith);
+  few_faces = rw (faces, vertices) (omega arith);
+  valid = w.valid;
+  fits = w.fits;
+  shape = rw (mesh, vertices) (inr (refl, no_vertex));
+}

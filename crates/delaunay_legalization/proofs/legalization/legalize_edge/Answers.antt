@@ -1,0 +1,32 @@
+use Rattle.std.proofs.Common.{◌<◌, ℕ, [], length, map, subst, sym}
+use Rattle.drawn_mesh.specs.Legal.{IsFailing, GainsRound}
+use Rattle.drawn_mesh.proofs.MeshLegal.{dropped}
+use Rattle.delaunay_legalization.proofs.Questions.{both_ways}
+use Rattle.delaunay_legalization.proofs.Legalizing.{edges_before, last_within, turned_by, fewer_by}
+use Rattle.delaunay_legalization.proofs.legalization.legalize_edge.Goals as goal
+
+pub is_failing-requires-clause-within : goal.is_failing-requires-clause-within
+is_failing-requires-clause-within g c =
+    subst (λ (e : ℕ). e < length c.args.dcel.now.directed) (sym c.as_directed.ensures) (last_within c.args.dcel.now.mesh c.args.work.now.items c.args.edge (length c.args.dcel.now.directed) c.num_directed_edges.ensures.whole.fits.directed_fit c.requires.edges)
+
+pub push_sides-requires-clause-edges : goal.push_sides-requires-clause-edges
+push_sides-requires-clause-edges g c = edges_before c.args.dcel.now.mesh c.args.work.now.items c.args.edge c.requires.edges
+
+pub flip-requires-clause-failing : goal.flip-requires-clause-failing
+flip-requires-clause-failing g c = subst (λ (e : ℕ). IsFailing (map g.V.HasPosition.place c.args.dcel.now.vertices) c.args.dcel.now.mesh e) c.as_directed.ensures (c.is_failing.ensures.0 c.if-is_failing.true)
+
+pub returns-then-is_failing-clause-legal : goal.returns-then-is_failing-clause-legal
+returns-then-is_failing-clause-legal g c was start p =
+    turned_by (map g.V.HasPosition.place c.args.dcel.now.vertices) was c.args.dcel.now.mesh c.flip.new.dcel.mesh c.args.work.now.items c.push_sides.new.work.items c.args.edge start c.args.flips.now c.flip.new.flips c.num_directed_edges.ensures.whole.valid c.flip.ensures.mesh c.flip.ensures.flips
+    (subst (λ (e : ℕ). IsFailing (map g.V.HasPosition.place c.args.dcel.now.vertices) c.args.dcel.now.mesh e) c.as_directed.ensures (c.is_failing.ensures.0 c.if-is_failing.true))
+    (subst (λ (e : ℕ). GainsRound c.args.dcel.now.mesh e c.args.work.now.items c.push_sides.new.work.items) c.as_directed-then-is_failing.ensures c.push_sides.ensures.gains) c.push_sides.ensures.edges p
+
+pub returns-then-is_failing-clause-fewer : goal.returns-then-is_failing-clause-fewer
+returns-then-is_failing-clause-fewer g c =
+    fewer_by (map g.V.HasPosition.place c.args.dcel.now.vertices) c.args.dcel.now.mesh c.flip.new.dcel.mesh c.args.work.now.items c.push_sides.new.work.items c.args.edge c.num_directed_edges.ensures.whole.valid c.requires.shape c.flip.ensures.mesh
+    (subst (λ (e : ℕ). IsFailing (map g.V.HasPosition.place c.args.dcel.now.vertices) c.args.dcel.now.mesh e) c.as_directed.ensures (c.is_failing.ensures.0 c.if-is_failing.true)) c.requires.edges c.push_sides.ensures.edges
+
+pub returns-else-is_failing-clause-legal : goal.returns-else-is_failing-clause-legal
+returns-else-is_failing-clause-legal g c was start p =
+    dropped (map g.V.HasPosition.place c.args.dcel.now.vertices) [] was c.args.dcel.now.mesh c.args.work.now.items c.args.edge start c.args.flips.now c.num_directed_edges.ensures.whole.valid p
+    (λ x. both_ways _ (c.is_failing.ensures.1 (subst (λ (e : ℕ). IsFailing (map g.V.HasPosition.place c.args.dcel.now.vertices) c.args.dcel.now.mesh e) (sym c.as_directed.ensures) x)) c.if-is_failing.false)

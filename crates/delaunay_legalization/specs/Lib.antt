@@ -1,0 +1,5 @@
+pub mod Between
+pub mod State
+pub mod Shape
+pub mod Known
+pub mod Flips

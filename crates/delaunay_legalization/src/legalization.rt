@@ -1,0 +1,201 @@
+//! Flips of edges that fail the circle test, until each edge passes.
+ghost use Rattle.std.specs.Prelude.{◌≡◌, ◌↔◌, ℕ, ◌+◌, ◌-◌, ◌*◌, ◌/◌, ◌<◌, ◌≤◌, ◌^◌, ◌++◌, ◌∷◌, [], length, map, All, Contains, IsTrue, vec_capacity};
+ghost use Rattle.half_edge_links.specs.Mesh.{Mesh, origin, next, prev, face, rev};
+ghost use Rattle.half_edge_links.specs.Flip.{flipped};
+ghost use Rattle.plane.specs.Delaunay.{IsLocallyDelaunay};
+ghost use Rattle.plane_tiling.specs.Local.{IsMesh};
+ghost use Rattle.plane_edits.specs.Legal.{AllPassBut};
+ghost use Rattle.drawn_mesh.specs.Drawn.{drawn, faces_of, outer_of};
+ghost use Rattle.drawn_mesh.specs.Legal.{AreEdges, Gains, GainsRound, IsFailing, IsPartlyLegal, pairs_at, steps_left};
+ghost use Rattle.drawn_mesh.specs.Stays.{KeepsIndexes};
+ghost use Rattle.delaunay_core.specs.Place.{place_of};
+ghost use Rattle.delaunay_legalization.specs.Known.{point_at};
+
+use delaunay_core::math::PlaneTests;
+use delaunay_core::point::{HasPosition, Point2};
+use half_edge_mesh::{Dcel, FixedDirectedEdgeHandle, FixedUndirectedEdgeHandle};
+use half_edge_views::MeshViews;
+
+// The position where an edge starts.
+pub fn start_of<V: HasPosition, DE, UE, F>(
+    dcel: &Dcel<V, DE, UE, F>,
+    edge: FixedDirectedEdgeHandle,
+) -> Point2<V::Scalar>
+    requires { edge < length dcel.now.directed }
+    ensures place { place_of V.Scalar.whole result ≡ point_at (map V.place dcel.now.vertices) (origin dcel.now.mesh edge) }
+    ensures listed { Contains (map V.place dcel.now.vertices) (place_of V.Scalar.whole result) }
+{
+    let vertex = dcel.directed_edge(edge).from().fix();
+    dcel.vertex_data(vertex).position()
+}
+
+// Whether an edge has the outer face on its left.
+pub fn is_outer<V, DE, UE, F>(dcel: &Dcel<V, DE, UE, F>, edge: FixedDirectedEdgeHandle) -> bool
+    requires { edge < length dcel.now.directed }
+    ensures { IsTrue result ↔ (face dcel.now.mesh edge ≡ 0) }
+{
+    dcel.directed_edge(edge).is_outer_edge()
+}
+
+// The edge after an edge in its loop, the one before it, and the same two of its other direction.
+fn sides_round<V, DE, UE, F>(
+    dcel: &Dcel<V, DE, UE, F>,
+    edge: FixedDirectedEdgeHandle,
+) -> (
+    FixedDirectedEdgeHandle,
+    FixedDirectedEdgeHandle,
+    FixedDirectedEdgeHandle,
+    FixedDirectedEdgeHandle,
+)
+    requires { edge < length dcel.now.directed }
+    ensures next { (result.0 ≡ next dcel.now.mesh edge) × (result.0 < length dcel.now.directed) }
+    ensures prev { (result.1 ≡ prev dcel.now.mesh edge) × (result.1 < length dcel.now.directed) }
+    ensures twin_next { (result.2 ≡ next dcel.now.mesh (rev edge)) × (result.2 < length dcel.now.directed) }
+    ensures twin_prev { (result.3 ≡ prev dcel.now.mesh (rev edge)) × (result.3 < length dcel.now.directed) }
+{
+    let edge = dcel.directed_edge(edge);
+    let twin = edge.rev();
+    (
+        edge.next().fix(),
+        edge.prev().fix(),
+        twin.next().fix(),
+        twin.prev().fix(),
+    )
+}
+
+// Whether an edge lies between two inner faces, of which one has its third corner inside the circle of the other.
+fn is_failing<V: HasPosition, DE, UE, F, P: PlaneTests<V::Scalar>>(
+    dcel: &Dcel<V, DE, UE, F>,
+    edge: FixedDirectedEdgeHandle,
+    tests: &P,
+) -> bool
+    requires within { edge < length dcel.now.directed }
+    requires sites { All (P.sites tests.now) (map V.place dcel.now.vertices) }
+    requires shape { IsMesh (map V.place dcel.now.vertices) (faces_of dcel.now.mesh) (outer_of dcel.now.mesh) }
+    ensures { IsTrue result ↔ IsFailing (map V.place dcel.now.vertices) dcel.now.mesh edge }
+{
+    let _ = dcel.num_directed_edges();
+    if is_outer(dcel, edge) || is_outer(dcel, edge.rev()) {
+        return false;
+    }
+    let (next, prev, _, twin_prev) = sides_round(dcel, edge);
+    let from = start_of(dcel, edge);
+    let to = start_of(dcel, next);
+    let left = start_of(dcel, prev);
+    let right = start_of(dcel, twin_prev);
+    tests.is_in_circle(from, to, left, right)
+}
+
+// Turns a failing edge and counts the flip. No other function of a legalization flips.
+fn flip<V: HasPosition, DE, UE, F>(
+    dcel: &mut Dcel<V, DE, UE, F>,
+    edge: FixedUndirectedEdgeHandle,
+    flips: &mut u64,
+)
+    requires within { 2 * edge < length dcel.old.directed }
+    requires shape { IsMesh (map V.place dcel.old.vertices) (faces_of dcel.old.mesh) (outer_of dcel.old.mesh) }
+    requires failing { IsFailing (map V.place dcel.old.vertices) dcel.old.mesh (2 * edge) }
+    requires fits { flips.old + 1 < 2 ^ 64 }
+    ensures mesh { dcel.new.mesh ≡ flipped dcel.old.mesh (2 * edge) }
+    ensures contents { dcel.new ≡ record dcel.old { mesh = dcel.new.mesh } }
+    ensures flips { flips.new ≡ flips.old + 1 }
+{
+    let _ = dcel.num_directed_edges();
+    dcel.flip_cw(edge);
+    *flips += 1;
+}
+
+// Puts an edge into a work list, unless it is there.
+fn push_side<V, DE, UE, F>(
+    dcel: &Dcel<V, DE, UE, F>,
+    edge: FixedDirectedEdgeHandle,
+    work: &mut Vec<FixedUndirectedEdgeHandle>,
+)
+    requires within { edge < length dcel.now.directed }
+    requires edges { AreEdges dcel.now.mesh work.old.items }
+    requires room { length dcel.now.undirected ≤ vec_capacity work.old }
+    ensures gains { Gains work.old.items work.new.items (edge / 2) }
+    ensures edges { AreEdges dcel.now.mesh work.new.items }
+    ensures capacity { vec_capacity work.new ≡ vec_capacity work.old }
+{
+    let _ = dcel.num_directed_edges();
+    let side = edge.as_undirected();
+    if !work.as_slice().contains(&side) {
+        work.push_reserved(side);
+    }
+}
+
+// Puts the four edges round an edge into a work list.
+fn push_sides<V, DE, UE, F>(
+    dcel: &Dcel<V, DE, UE, F>,
+    edge: FixedDirectedEdgeHandle,
+    work: &mut Vec<FixedUndirectedEdgeHandle>,
+)
+    requires within { edge < length dcel.now.directed }
+    requires edges { AreEdges dcel.now.mesh work.old.items }
+    requires room { length dcel.now.undirected ≤ vec_capacity work.old }
+    ensures gains { GainsRound dcel.now.mesh edge work.old.items work.new.items }
+    ensures edges { AreEdges dcel.now.mesh work.new.items }
+    ensures capacity { vec_capacity work.new ≡ vec_capacity work.old }
+{
+    let (next, prev, twin_next, twin_prev) = sides_round(dcel, edge);
+    push_side(dcel, next, work);
+    push_side(dcel, prev, work);
+    push_side(dcel, twin_next, work);
+    push_side(dcel, twin_prev, work);
+}
+
+// Tests an edge that was taken from the work list. One that fails is turned, and leaves the four edges round it to test.
+fn legalize_edge<V: HasPosition, DE, UE, F, P: PlaneTests<V::Scalar>>(
+    dcel: &mut Dcel<V, DE, UE, F>,
+    edge: FixedUndirectedEdgeHandle,
+    tests: &P,
+    work: &mut Vec<FixedUndirectedEdgeHandle>,
+    flips: &mut u64,
+)
+    requires sites { All (P.sites tests.now) (map V.place dcel.old.vertices) }
+    requires shape { IsMesh (map V.place dcel.old.vertices) (faces_of dcel.old.mesh) (outer_of dcel.old.mesh) }
+    requires edges { AreEdges dcel.old.mesh (work.old.items ++ edge ∷ []) }
+    requires room { length dcel.old.undirected ≤ vec_capacity work.old }
+    requires fits { IsFailing (map V.place dcel.old.vertices) dcel.old.mesh (2 * edge) → flips.old + 1 < 2 ^ 64 }
+    ensures contents { dcel.new ≡ record dcel.old { mesh = dcel.new.mesh } }
+    ensures legal { let points = map V.place dcel.old.vertices in (was : Mesh) (start : ℕ) → IsPartlyLegal points [] was dcel.old.mesh (work.old.items ++ edge ∷ []) start flips.old → IsPartlyLegal points [] was dcel.new.mesh work.new.items start flips.new }
+    ensures fewer { let points = map V.place dcel.old.vertices in steps_left points dcel.new.mesh work.new.items < steps_left points dcel.old.mesh (work.old.items ++ edge ∷ []) }
+    ensures capacity { vec_capacity work.new ≡ vec_capacity work.old }
+{
+    let _ = dcel.num_directed_edges();
+    if is_failing(dcel, edge.as_directed(), tests) {
+        push_sides(dcel, edge.as_directed(), work);
+        flip(dcel, edge, flips);
+    }
+}
+
+// Flips edges until each passes the circle test, but for the outer ones, where before perhaps only those of the work
+// list fail. The work list has room for each edge of the mesh.
+pub fn legalize<V: HasPosition, DE, UE, F, P: PlaneTests<V::Scalar>>(
+    dcel: &mut Dcel<V, DE, UE, F>,
+    tests: &P,
+    work: &mut Vec<FixedUndirectedEdgeHandle>,
+    flips: &mut u64,
+)
+    requires sites { All (P.sites tests.now) (map V.place dcel.old.vertices) }
+    requires shape { IsMesh (map V.place dcel.old.vertices) (faces_of dcel.old.mesh) (outer_of dcel.old.mesh) }
+    requires edges { AreEdges dcel.old.mesh work.old.items }
+    requires room { length dcel.old.undirected ≤ vec_capacity work.old }
+    requires passing { AllPassBut (map V.place dcel.old.vertices) (faces_of dcel.old.mesh) [] (pairs_at dcel.old.mesh work.old.items) }
+    requires fits { let n = length dcel.old.vertices in 2 * flips.old + n * (n - 1) < 2 ^ 65 }
+    ensures contents { dcel.new ≡ record dcel.old { mesh = dcel.new.mesh } }
+    ensures shape { IsMesh (map V.place dcel.old.vertices) (faces_of dcel.new.mesh) (outer_of dcel.new.mesh) }
+    ensures locally_delaunay { IsLocallyDelaunay (drawn (map V.place dcel.old.vertices) dcel.new.mesh) [] }
+    ensures counted { flips.old ≤ flips.new }
+    ensures few_flips { let n = length dcel.old.vertices in 2 * (flips.new - flips.old) ≤ n * (n - 1) }
+    ensures indexes { KeepsIndexes dcel.old.mesh dcel.new.mesh }
+    ensures done { work.new.items ≡ [] }
+    ensures capacity { vec_capacity work.new ≡ vec_capacity work.old }
+{
+    while let Some(edge) = work.pop() {
+        let _ = dcel.num_directed_edges();
+        legalize_edge(dcel, edge, tests, work, flips);
+    }
+    let _ = dcel.num_directed_edges();
+}
