@@ -33,18 +33,3 @@ pub fn fault_text(fault: &RunError) -> &'static str
         RunError::Write => "triangulate: write failed",
     }
 }
-
-#[cfg(test)]
-mod tests {
-    use super::*;
-
-    #[test]
-    fn a_fault_has_a_status_and_a_text(rt: HostRuntime) {
-        assert_eq!(rt; status_of(&Ok(())), 0);
-        assert_eq!(rt; status_of(&Err(RunError::Read)), 1);
-        assert_eq!(rt; status_of(&Err(RunError::Write)), 1);
-        assert_eq!(rt; fault_text(&RunError::Read), "triangulate: read failed");
-        assert_eq!(rt; fault_text(&RunError::Write), "triangulate: write failed");
-        assert_eq!(rt; USAGE, "usage: triangulate G|B|R|L|X");
-    }
-}

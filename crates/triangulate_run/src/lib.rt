@@ -15,5 +15,3 @@ pub mod reply;
 pub mod session;
 pub mod sheet;
 mod table;
-#[cfg(test)]
-mod tests;

@@ -15,7 +15,7 @@ pub struct SheetPoint {
 }
 
 /// The index of a point in the list, if it is there.
-pub(crate) fn index_of(points: &[SheetPoint], point: Point2<i64>) -> Option<usize>
+pub fn index_of(points: &[SheetPoint], point: Point2<i64>) -> Option<usize>
     ensures { MatchOption result (¬ IsListed points.now (place_of (λ z. z) point))
         (λ i. IsAt points.now i (place_of (λ z. z) point)) }
 {

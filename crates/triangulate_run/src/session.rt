@@ -23,9 +23,6 @@ use std::alloc::Global;
 use std::io::{Read, Write};
 use watched::{Failed, Watched};
 
-#[cfg(test)]
-mod tests;
-
 /// What answers commands.
 pub(crate) trait Engine {
     ghost listed: { Self → List SheetPoint };

@@ -16,9 +16,6 @@ use delaunay_core::line_side_info::LineSideInfo;
 use delaunay_core::math::PlaneTests;
 use delaunay_core::point::Point2;
 
-#[cfg(test)]
-mod tests;
-
 /// A sheet of points, by its letter. As tests it covers its points, and its answers stand in tables.
 #[derive(Clone, Copy, Debug, PartialEq, Eq)]
 pub enum Sheet {

@@ -1,23 +1,21 @@
 //! Commands that depend on what was inserted before them.
 
-use super::is_answered;
-use crate::sheet::Sheet;
-use std::test::Fail;
+use crate::answers::is_answered;
+use triangulate_run::sheet::Sheet;
 
 #[test]
-fn nothing_is_there_at_first(rt: HostRuntime) -> Result<(), Fail> {
+fn nothing_is_there_at_first(rt: HostRuntime) {
     let dialogue = [
         ("counts", "0 0 0 0"),
         ("faces", "end"),
         ("locate 0 0", "no triangulation"),
         ("locate 2 0", "unknown point"),
     ];
-    assert!(rt; is_answered(rt.alloc(), Sheet::G, &dialogue)?);
-    Ok(())
+    assert!(rt; is_answered(rt.alloc(), Sheet::G, &dialogue));
 }
 
 #[test]
-fn three_vertices_have_a_face(rt: HostRuntime) -> Result<(), Fail> {
+fn three_vertices_have_a_face(rt: HostRuntime) {
     let dialogue = [
         ("insert 0 1", "vertex 0"),
         ("insert 1 1", "vertex 1"),
@@ -26,12 +24,11 @@ fn three_vertices_have_a_face(rt: HostRuntime) -> Result<(), Fail> {
         ("counts", "3 3 1 0"),
         ("faces", "0 2 1\nend"),
     ];
-    assert!(rt; is_answered(rt.alloc(), Sheet::G, &dialogue)?);
-    Ok(())
+    assert!(rt; is_answered(rt.alloc(), Sheet::G, &dialogue));
 }
 
 #[test]
-fn a_vertex_on_a_line_is_met_again(rt: HostRuntime) -> Result<(), Fail> {
+fn a_vertex_on_a_line_is_met_again(rt: HostRuntime) {
     let dialogue = [
         ("insert 0 0", "vertex 0"),
         ("insert 2 0", "unknown point"),
@@ -44,12 +41,11 @@ fn a_vertex_on_a_line_is_met_again(rt: HostRuntime) -> Result<(), Fail> {
         ("locate 5 5", "unknown point"),
         ("counts", "3 2 0 0"),
     ];
-    assert!(rt; is_answered(rt.alloc(), Sheet::G, &dialogue)?);
-    Ok(())
+    assert!(rt; is_answered(rt.alloc(), Sheet::G, &dialogue));
 }
 
 #[test]
-fn a_point_is_on_an_edge_in_a_face_or_outside(rt: HostRuntime) -> Result<(), Fail> {
+fn a_point_is_on_an_edge_in_a_face_or_outside(rt: HostRuntime) {
     let dialogue = [
         ("insert -1 -1", "vertex 0"),
         ("locate 0 -1", "no triangulation"),
@@ -61,12 +57,11 @@ fn a_point_is_on_an_edge_in_a_face_or_outside(rt: HostRuntime) -> Result<(), Fai
         ("locate 1 1", "outside"),
         ("faces", "0 1 2\nend"),
     ];
-    assert!(rt; is_answered(rt.alloc(), Sheet::G, &dialogue)?);
-    Ok(())
+    assert!(rt; is_answered(rt.alloc(), Sheet::G, &dialogue));
 }
 
 #[test]
-fn a_coordinate_out_of_range_is_refused_first(rt: HostRuntime) -> Result<(), Fail> {
+fn a_coordinate_out_of_range_is_refused_first(rt: HostRuntime) {
     let dialogue = [
         ("insert 536870913 0", "refused TooLarge"),
         ("insert 0 -536870913", "refused TooLarge"),
@@ -75,12 +70,11 @@ fn a_coordinate_out_of_range_is_refused_first(rt: HostRuntime) -> Result<(), Fai
         ("locate 999999999999999999 0", "unknown point"),
         ("counts", "0 0 0 0"),
     ];
-    assert!(rt; is_answered(rt.alloc(), Sheet::G, &dialogue)?);
-    Ok(())
+    assert!(rt; is_answered(rt.alloc(), Sheet::G, &dialogue));
 }
 
 #[test]
-fn a_vertex_between_two_of_a_row(rt: HostRuntime) -> Result<(), Fail> {
+fn a_vertex_between_two_of_a_row(rt: HostRuntime) {
     let dialogue = [
         ("insert -50 0", "vertex 0"),
         ("insert -48 0", "vertex 1"),
@@ -93,6 +87,5 @@ fn a_vertex_between_two_of_a_row(rt: HostRuntime) -> Result<(), Fail> {
         ("locate 50 0", "unknown point"),
         ("faces", "end"),
     ];
-    assert!(rt; is_answered(rt.alloc(), Sheet::R, &dialogue)?);
-    Ok(())
+    assert!(rt; is_answered(rt.alloc(), Sheet::R, &dialogue));
 }

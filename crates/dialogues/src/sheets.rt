@@ -1,11 +1,13 @@
+//! What the sheets hold, how they are named, and how faults are told.
 ghost use Rattle.std.specs.Prelude.{◌≡◌, true, All};
 ghost use Rattle.triangulate_run.specs.Points.{place};
 
-use super::{Sheet, sheet_named};
-use crate::points::{SheetPoint, index_of, site_index_of};
 use delaunay_core::math::PlaneTests;
 use delaunay_core::point::Point2;
-use std::test::Fail;
+use std::alloc::{AllocError, Global};
+use triangulate_run::fault::{RunError, USAGE, fault_text, status_of};
+use triangulate_run::points::{SheetPoint, index_of, site_index_of};
+use triangulate_run::sheet::{Sheet, sheet_named};
 
 /// The number of left-turning triples of the points, and, over these, of sites inside their circles.
 fn counts<P: PlaneTests<i64>>(tests: &P, points: &[SheetPoint]) -> (u64, u64)
@@ -53,25 +55,51 @@ fn each_rotation_of_a_listed_triple_turns_left(rt: HostRuntime) {
 #[test]
 fn points_are_found(rt: HostRuntime) {
     let points = Sheet::G.points();
-    assert_eq!(rt; points.len(), 9);
-    assert_eq!(rt; index_of(points, Point2::new(0, 0)), Some(4));
-    assert_eq!(rt; site_index_of(points, Point2::new(1, 1)), Some(8));
-    assert_eq!(rt; index_of(points, Point2::new(2, 0)), None);
-    assert_eq!(rt; site_index_of(points, Point2::new(5, 5)), None);
+    assert_eq!(rt;
+        (
+            points.len(),
+            index_of(points, Point2::new(0, 0)),
+            site_index_of(points, Point2::new(1, 1)),
+            index_of(points, Point2::new(2, 0)),
+            site_index_of(points, Point2::new(5, 5))
+        ),
+        (9, Some(4), Some(8), None, None)
+    );
 }
 
 #[test]
 fn a_row_has_a_hundred_sites(rt: HostRuntime) {
     let points = Sheet::R.points();
-    assert_eq!(rt; points.len(), 100);
-    assert_eq!(rt; site_index_of(points, Point2::new(-50, 0)), Some(0));
-    assert_eq!(rt; site_index_of(points, Point2::new(49, 0)), Some(99));
-    assert_eq!(rt; index_of(points, Point2::new(50, 0)), None);
-    assert_eq!(rt; index_of(points, Point2::new(0, 1)), None);
+    assert_eq!(rt;
+        (
+            points.len(),
+            site_index_of(points, Point2::new(-50, 0)),
+            site_index_of(points, Point2::new(49, 0)),
+            index_of(points, Point2::new(50, 0)),
+            index_of(points, Point2::new(0, 1))
+        ),
+        (100, Some(0), Some(99), None, None)
+    );
+}
+
+fn owned(alloc: Global, words: &[&str]) -> Result<Vec<String>, AllocError> {
+    let mut owned = Vec::new(alloc);
+    for word in words {
+        owned.push(String::from_str(alloc, word)?)?;
+    }
+    Ok(owned)
+}
+
+/// Whether the words after the program's name ask for just this sheet.
+fn is_named(alloc: Global, words: &[&str], sheet: Option<Sheet>) -> bool {
+    match owned(alloc, words) {
+        Ok(owned) => sheet_named(&owned) == sheet,
+        Err(_) => false,
+    }
 }
 
 #[test]
-fn a_sheet_is_named_by_one_letter(rt: HostRuntime) -> Result<(), Fail> {
+fn a_sheet_is_named_by_one_letter(rt: HostRuntime) {
     for (words, sheet) in [
         (["G"].as_slice(), Some(Sheet::G)),
         (["B"].as_slice(), Some(Sheet::B)),
@@ -83,11 +111,30 @@ fn a_sheet_is_named_by_one_letter(rt: HostRuntime) -> Result<(), Fail> {
         (["Q"].as_slice(), None),
         (["G", "G"].as_slice(), None),
     ] {
-        let mut owned = Vec::new(rt.alloc());
-        for word in words {
-            owned.push(String::from_str(rt.alloc(), word)?)?;
-        }
-        assert_eq!(rt; sheet_named(&owned), sheet);
+        assert!(rt; is_named(rt.alloc(), words, sheet), "at {words:?}");
     }
-    Ok(())
+}
+
+#[test]
+fn a_fault_has_a_status_and_a_text(rt: HostRuntime) {
+    assert_eq!(rt;
+        (
+            status_of(&Ok(())),
+            status_of(&Err(RunError::Read)),
+            status_of(&Err(RunError::Write))
+        ),
+        (0, 1, 1)
+    );
+    assert_eq!(rt;
+        (
+            fault_text(&RunError::Read),
+            fault_text(&RunError::Write),
+            USAGE
+        ),
+        (
+            "triangulate: read failed",
+            "triangulate: write failed",
+            "usage: triangulate G|B|R|L|X"
+        )
+    );
 }

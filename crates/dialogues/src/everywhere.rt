@@ -1,12 +1,11 @@
 //! Insertion at each kind of place, with more than three vertices.
 
-use super::is_answered;
-use crate::sheet::Sheet;
+use crate::answers::is_answered;
 use std::alloc::Global;
-use std::test::Fail;
+use triangulate_run::sheet::Sheet;
 
 /// Whether a square and its centre are answered with this diagonal.
-fn is_square_answered(alloc: Global, diagonal: &str) -> Result<bool, Fail> {
+fn is_square_answered(alloc: Global, diagonal: &str) -> bool {
     let dialogue = [
         ("insert -1 -1", "vertex 0"),
         ("insert 1 -1", "vertex 1"),
@@ -23,15 +22,14 @@ fn is_square_answered(alloc: Global, diagonal: &str) -> Result<bool, Fail> {
 
 // Either diagonal may stand.
 #[test]
-fn a_square_gets_its_centre(rt: HostRuntime) -> Result<(), Fail> {
-    let is_first = is_square_answered(rt.alloc(), "edge 0-2")?;
-    let is_second = is_square_answered(rt.alloc(), "edge 1-3")?;
+fn a_square_gets_its_centre(rt: HostRuntime) {
+    let is_first = is_square_answered(rt.alloc(), "edge 0-2");
+    let is_second = is_square_answered(rt.alloc(), "edge 1-3");
     assert_ne!(rt; is_first, is_second);
-    Ok(())
 }
 
 #[test]
-fn a_diamond_gets_its_centre(rt: HostRuntime) -> Result<(), Fail> {
+fn a_diamond_gets_its_centre(rt: HostRuntime) {
     let dialogue = [
         ("insert 0 -1", "vertex 0"),
         ("insert 1 0", "vertex 1"),
@@ -41,12 +39,11 @@ fn a_diamond_gets_its_centre(rt: HostRuntime) -> Result<(), Fail> {
         ("insert 0 0", "vertex 4"),
         ("faces", "0 1 4\n0 4 3\n1 2 4\n2 3 4\nend"),
     ];
-    assert!(rt; is_answered(rt.alloc(), Sheet::G, &dialogue)?);
-    Ok(())
+    assert!(rt; is_answered(rt.alloc(), Sheet::G, &dialogue));
 }
 
 #[test]
-fn a_vertex_inside_a_face_splits_it(rt: HostRuntime) -> Result<(), Fail> {
+fn a_vertex_inside_a_face_splits_it(rt: HostRuntime) {
     let dialogue = [
         ("insert -1 -1", "vertex 0"),
         ("insert 1 -1", "vertex 1"),
@@ -55,13 +52,12 @@ fn a_vertex_inside_a_face_splits_it(rt: HostRuntime) -> Result<(), Fail> {
         ("counts", "4 6 3 0"),
         ("faces", "0 1 3\n0 3 2\n1 2 3\nend"),
     ];
-    assert!(rt; is_answered(rt.alloc(), Sheet::G, &dialogue)?);
-    Ok(())
+    assert!(rt; is_answered(rt.alloc(), Sheet::G, &dialogue));
 }
 
 // Without flips the faces would be 0 1 2 and 0 2 3.
 #[test]
-fn a_failing_edge_is_flipped(rt: HostRuntime) -> Result<(), Fail> {
+fn a_failing_edge_is_flipped(rt: HostRuntime) {
     let dialogue = [
         ("insert -1 -1", "vertex 0"),
         ("insert 0 -1", "vertex 1"),
@@ -69,7 +65,7 @@ fn a_failing_edge_is_flipped(rt: HostRuntime) -> Result<(), Fail> {
         ("insert 0 0", "vertex 3"),
         ("faces", "0 1 3\n1 2 3\nend"),
     ];
-    assert!(rt; is_answered(rt.alloc(), Sheet::G, &dialogue)?);
+    assert!(rt; is_answered(rt.alloc(), Sheet::G, &dialogue));
     let dialogue = [
         ("insert -536870912 -536870912", "vertex 0"),
         ("insert 0 -536870912", "vertex 1"),
@@ -77,12 +73,11 @@ fn a_failing_edge_is_flipped(rt: HostRuntime) -> Result<(), Fail> {
         ("insert 0 0", "vertex 3"),
         ("faces", "0 1 3\n1 2 3\nend"),
     ];
-    assert!(rt; is_answered(rt.alloc(), Sheet::B, &dialogue)?);
-    Ok(())
+    assert!(rt; is_answered(rt.alloc(), Sheet::B, &dialogue));
 }
 
 #[test]
-fn the_greatest_square_gets_its_centre(rt: HostRuntime) -> Result<(), Fail> {
+fn the_greatest_square_gets_its_centre(rt: HostRuntime) {
     let dialogue = [
         ("insert -536870912 -536870912", "vertex 0"),
         ("insert 536870912 -536870912", "vertex 1"),
@@ -94,6 +89,5 @@ fn the_greatest_square_gets_its_centre(rt: HostRuntime) -> Result<(), Fail> {
         ("insert 536870913 0", "refused TooLarge"),
         ("counts", "5 8 4 0"),
     ];
-    assert!(rt; is_answered(rt.alloc(), Sheet::B, &dialogue)?);
-    Ok(())
+    assert!(rt; is_answered(rt.alloc(), Sheet::B, &dialogue));
 }
