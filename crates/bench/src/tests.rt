@@ -21,19 +21,19 @@ fn insert(
     (x, y): (i64, i64),
     tag: u64,
 ) -> Result<u32, SheetError> {
-    Ok(points.insert(Point2::new(x, y), tag)?.index())
+    match points.insert(Point2::new(x, y), tag) {
+        Ok(vertex) => Ok(vertex.index()),
+        Err(error) => Err(error),
+    }
 }
 
-/// A triangulation of these points of the sheet, in this order.
-fn triangulation_of(
-    alloc: Global,
-    inserted: &[(i64, i64)],
-) -> Result<SheetTriangulation, SheetError> {
+/// A triangulation of these points of the sheet, in this order. A refused one is left out.
+fn triangulation_of(alloc: Global, inserted: &[(i64, i64)]) -> SheetTriangulation {
     let mut points = SheetTriangulation::new(alloc, Sheet::G);
     for site in inserted {
-        insert(&mut points, *site, 0)?;
+        let _ = insert(&mut points, *site, 0);
     }
-    Ok(points)
+    points
 }
 
 /// How many vertices, undirected edges, directed edges, inner faces and faces there are.

@@ -1,11 +1,12 @@
 //! Where a point of the sheet is, at each kind of answer.
 
+ghost use Rattle.delaunay_edit.specs.Elements.{HasElement};
+
 use super::{corners_of, ends_of, triangulation_of};
 use crate::sheet_triangulation::{SheetError, SheetTriangulation};
 use spade_delaunay::{Point2, PositionInTriangulation};
 use std::alloc::Global;
 use std::process::Abort;
-use std::test::Fail;
 
 /// A location by the indexes of vertices, an edge and a face from their least index on.
 #[derive(Clone, Copy, Debug, PartialEq, Eq)]
@@ -18,9 +19,11 @@ enum Place {
     Nowhere,
 }
 
-fn place_at(points: &SheetTriangulation, x: i64, y: i64) -> Result<Place, SheetError> {
+fn place_of(points: &SheetTriangulation, answer: PositionInTriangulation) -> Place
+    requires { HasElement points.now.1 answer }
+{
     let triangulation = points.triangulation();
-    Ok(match points.locate(Point2::new(x, y))? {
+    match answer {
         PositionInTriangulation::OnVertex(vertex) => Place::Vertex(vertex.index()),
         PositionInTriangulation::OnEdge(edge) => {
             let (a, b) = ends_of(triangulation.directed_edge(edge));
@@ -32,7 +35,14 @@ fn place_at(points: &SheetTriangulation, x: i64, y: i64) -> Result<Place, SheetE
             Place::Outside(a, b)
         }
         PositionInTriangulation::NoTriangulation => Place::Nowhere,
-    })
+    }
+}
+
+fn place_at(points: &SheetTriangulation, x: i64, y: i64) -> Result<Place, SheetError> {
+    match points.locate(Point2::new(x, y)) {
+        Ok(answer) => Ok(place_of(points, answer)),
+        Err(error) => Err(error),
+    }
 }
 
 /// Compares where points of the sheet are, once these are inserted in this order.
@@ -41,17 +51,16 @@ fn check_places(
     alloc: Global,
     inserted: &[(i64, i64)],
     expected: &[(i64, i64, Result<Place, SheetError>)],
-) -> Result<(), Fail> {
-    let points = triangulation_of(alloc, inserted)?;
+) {
+    let points = triangulation_of(alloc, inserted);
     for (x, y, place) in expected {
         assert_eq!(rt; place_at(&points, *x, *y), *place, "at ({x}, {y})");
     }
-    Ok(())
 }
 
 #[test]
-fn without_an_edge(rt: HostRuntime) -> Result<(), Fail> {
-    check_places(&rt, rt.alloc(), &[], &[(0, 0, Ok(Place::Nowhere))])?;
+fn without_an_edge(rt: HostRuntime) {
+    check_places(&rt, rt.alloc(), &[], &[(0, 0, Ok(Place::Nowhere))]);
     check_places(
         &rt,
         rt.alloc(),
@@ -61,11 +70,11 @@ fn without_an_edge(rt: HostRuntime) -> Result<(), Fail> {
             (1, 0, Ok(Place::Nowhere)),
             (5, 5, Err(SheetError::NotListed)),
         ],
-    )
+    );
 }
 
 #[test]
-fn on_a_line(rt: HostRuntime) -> Result<(), Fail> {
+fn on_a_line(rt: HostRuntime) {
     check_places(
         &rt,
         rt.alloc(),
@@ -76,16 +85,16 @@ fn on_a_line(rt: HostRuntime) -> Result<(), Fail> {
             (0, 1, Ok(Place::Outside(0, 1))),
             (1, -1, Ok(Place::Outside(1, 0))),
         ],
-    )?;
+    );
     // Past an end the edge goes out of that end.
     let past_right = (1, 0, Ok(Place::Outside(1, 0)));
-    check_places(&rt, rt.alloc(), &[(-1, 0), (0, 0)], &[past_right])?;
+    check_places(&rt, rt.alloc(), &[(-1, 0), (0, 0)], &[past_right]);
     let past_left = (-1, 0, Ok(Place::Outside(0, 1)));
-    check_places(&rt, rt.alloc(), &[(0, 0), (1, 0)], &[past_left])
+    check_places(&rt, rt.alloc(), &[(0, 0), (1, 0)], &[past_left]);
 }
 
 #[test]
-fn round_a_face(rt: HostRuntime) -> Result<(), Fail> {
+fn round_a_face(rt: HostRuntime) {
     check_places(
         &rt,
         rt.alloc(),
@@ -97,5 +106,5 @@ fn round_a_face(rt: HostRuntime) -> Result<(), Fail> {
             (1, 0, Ok(Place::Outside(0, 1))),
             (-1, 1, Ok(Place::Outside(2, 0))),
         ],
-    )
+    );
 }

@@ -6,7 +6,6 @@ use arrayvec::ArrayVec;
 use spade_delaunay::handles::{
     DirectedEdgeHandle, FixedDirectedEdgeHandle, FixedFaceHandle, VertexHandle,
 };
-use std::test::Fail;
 
 /// A vertex, and the edge that it names.
 #[derive(Clone, Copy, Debug, Default, PartialEq, Eq)]
@@ -75,44 +74,47 @@ pub(super) struct Snapshot {
 }
 
 impl Snapshot {
-    pub(super) fn new(points: &SheetTriangulation) -> Result<Self, Fail> {
+    pub(super) fn new(points: &SheetTriangulation) -> Self {
         let outer = points.triangulation().face(FixedFaceHandle::from_index(0));
-        Ok(Snapshot {
-            vertices: vertices_of(points)?,
-            directed_edges: directed_edges_of(points)?,
-            inner_faces: inner_faces_of(points)?,
+        Snapshot {
+            vertices: vertices_of(points),
+            directed_edges: directed_edges_of(points),
+            inner_faces: inner_faces_of(points),
             outer: *outer.data(),
-        })
+        }
     }
 }
 
-fn vertices_of(points: &SheetTriangulation) -> Result<VertexShots, Fail> {
+// What passes nine points has no room in these lists.
+fn vertices_of(points: &SheetTriangulation) -> VertexShots {
     let mut vertices = ArrayVec::new();
     for vertex in points.triangulation().vertices() {
-        vertices.try_push(VertexShot::new(vertex))?;
+        let _ = vertices.try_push(VertexShot::new(vertex));
     }
-    Ok(vertices)
+    vertices
 }
 
-fn directed_edges_of(points: &SheetTriangulation) -> Result<EdgeShots, Fail> {
+fn directed_edges_of(points: &SheetTriangulation) -> EdgeShots {
     let triangulation = points.triangulation();
     let mut directed_edges = ArrayVec::new();
     for index in 0..triangulation.num_directed_edges() {
-        let edge = FixedDirectedEdgeHandle::from_index(u32::try_from(index)?);
-        directed_edges.try_push(EdgeShot::new(triangulation.directed_edge(edge)))?;
+        if let Ok(index) = u32::try_from(index) {
+            let edge = triangulation.directed_edge(FixedDirectedEdgeHandle::from_index(index));
+            let _ = directed_edges.try_push(EdgeShot::new(edge));
+        }
     }
-    Ok(directed_edges)
+    directed_edges
 }
 
-fn inner_faces_of(points: &SheetTriangulation) -> Result<FaceShots, Fail> {
+fn inner_faces_of(points: &SheetTriangulation) -> FaceShots {
     let mut inner_faces = ArrayVec::new();
     for face in points.triangulation().inner_faces() {
         if !face.is_outer() {
-            inner_faces.try_push(FaceShot {
+            let _ = inner_faces.try_push(FaceShot {
                 edge: face.adjacent_edge().fix().index(),
                 data: *face.data(),
-            })?;
+            });
         }
     }
-    Ok(inner_faces)
+    inner_faces
 }

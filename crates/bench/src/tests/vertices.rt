@@ -6,7 +6,6 @@ use crate::tagged_vertex::TaggedVertex;
 use spade_delaunay::Point2;
 use std::alloc::Global;
 use std::process::Abort;
-use std::test::Fail;
 use triangulate_run::sheet::Sheet;
 
 /// The first three vertices as they are listed.
@@ -22,20 +21,18 @@ fn first_three(points: &SheetTriangulation) -> [Option<TaggedVertex>; 3] {
 fn insert_three(
     points: &mut SheetTriangulation,
     [a, b, c]: [(i64, u64); 3],
-) -> Result<[u32; 3], SheetError> {
-    Ok([
-        insert(points, (a.0, 0), a.1)?,
-        insert(points, (b.0, 0), b.1)?,
-        insert(points, (c.0, 0), c.1)?,
-    ])
+) -> [Result<u32, SheetError>; 3] {
+    [
+        insert(points, (a.0, 0), a.1),
+        insert(points, (b.0, 0), b.1),
+        insert(points, (c.0, 0), c.1),
+    ]
 }
 
 #[test]
-fn a_known_position_keeps_its_handle_and_takes_the_new_vertex(rt: HostRuntime) -> Result<(), Fail> {
+fn a_known_position_keeps_its_handle_and_takes_the_new_vertex(rt: HostRuntime) {
     let mut points = SheetTriangulation::new(rt.alloc(), Sheet::G);
-    let handles = insert_three(&mut points, [(0, 10), (1, 20), (0, 30)])?;
-    assert_eq!(rt; handles, [0u32, 1, 0]);
-    assert_eq!(rt; counts(&points), [2usize, 1, 2, 0, 1]);
+    let handles = insert_three(&mut points, [(0, 10), (1, 20), (0, 30)]);
     let first = TaggedVertex {
         position: Point2::new(0, 0),
         tag: 30,
@@ -44,51 +41,56 @@ fn a_known_position_keeps_its_handle_and_takes_the_new_vertex(rt: HostRuntime) -
         position: Point2::new(1, 0),
         tag: 20,
     };
-    assert_eq!(rt; first_three(&points), [Some(first), Some(second), None]);
-    Ok(())
+    assert_eq!(rt;
+        (handles, counts(&points), first_three(&points)),
+        (
+            [Ok(0), Ok(1), Ok(0)],
+            [2usize, 1, 2, 0, 1],
+            [Some(first), Some(second), None]
+        )
+    );
 }
 
-fn counts_of(alloc: Global, inserted: &[(i64, i64)]) -> Result<[usize; 5], SheetError> {
-    Ok(counts(&triangulation_of(alloc, inserted)?))
+fn counts_of(alloc: Global, inserted: &[(i64, i64)]) -> [usize; 5] {
+    counts(&triangulation_of(alloc, inserted))
 }
 
 #[test]
-fn three_vertices_have_one_face(rt: HostRuntime) -> Result<(), Fail> {
-    assert_eq!(rt; counts_of(rt.alloc(), &[])?, [0usize, 0, 0, 0, 1]);
-    assert_eq!(rt;
-        counts_of(rt.alloc(), &[(0, 1), (1, 1), (1, 0)])?,
-        [3usize, 3, 6, 1, 2]
-    );
-    Ok(())
+fn three_vertices_have_one_face(rt: HostRuntime) {
+    let none = counts_of(rt.alloc(), &[]);
+    let three = counts_of(rt.alloc(), &[(0, 1), (1, 1), (1, 0)]);
+    assert_eq!(rt; [none, three], [[0usize, 0, 0, 0, 1], [3usize, 3, 6, 1, 2]]);
 }
 
 #[test]
 fn a_point_beside_the_sheet_is_not_inserted(rt: HostRuntime) {
     let mut points = SheetTriangulation::new(rt.alloc(), Sheet::G);
-    assert_eq!(rt; insert(&mut points, (2, 0), 0), Err(SheetError::NotListed));
-    assert_eq!(rt; points.triangulation().num_vertices(), 0);
+    let outcome = insert(&mut points, (2, 0), 0);
+    assert_eq!(rt;
+        (outcome, points.triangulation().num_vertices()),
+        (Err(SheetError::NotListed), 0)
+    );
 }
 
-fn hull_size_after(points: &mut SheetTriangulation, site: (i64, i64)) -> Result<usize, SheetError> {
-    insert(points, site, 0)?;
-    Ok(points.triangulation().convex_hull_size())
+fn hull_size_after(points: &mut SheetTriangulation, site: (i64, i64)) -> usize {
+    let _ = insert(points, site, 0);
+    points.triangulation().convex_hull_size()
 }
 
 /// Compares the size of the hull after each insertion.
-fn check_hull(rt: &impl Abort, alloc: Global, expected: &[(i64, i64, usize)]) -> Result<(), Fail> {
+fn check_hull(rt: &impl Abort, alloc: Global, expected: &[(i64, i64, usize)]) {
     let mut points = SheetTriangulation::new(alloc, Sheet::G);
     for (x, y, size) in expected {
         assert_eq!(rt;
-            hull_size_after(&mut points, (*x, *y))?,
+            hull_size_after(&mut points, (*x, *y)),
             *size,
             "after ({x}, {y})"
         );
     }
-    Ok(())
 }
 
 #[test]
-fn the_hull_has_the_edges_beside_the_outer_face(rt: HostRuntime) -> Result<(), Fail> {
+fn the_hull_has_the_edges_beside_the_outer_face(rt: HostRuntime) {
     let none = SheetTriangulation::new(rt.alloc(), Sheet::G);
     assert_eq!(rt; none.triangulation().convex_hull_size(), 0);
     check_hull(
@@ -105,6 +107,6 @@ fn the_hull_has_the_edges_beside_the_outer_face(rt: HostRuntime) -> Result<(), F
             (1, -1, 7),
             (-1, -1, 8),
         ],
-    )?;
-    check_hull(&rt, rt.alloc(), &[(0, 1, 0), (1, 1, 2), (1, 0, 3)])
+    );
+    check_hull(&rt, rt.alloc(), &[(0, 1, 0), (1, 1, 2), (1, 0, 3)]);
 }
