@@ -5,7 +5,7 @@ use Rattle.std.proofs.lemmas.Int.{ints}
 use Rattle.std.proofs.lemmas.List.{length-map, map-append}
 use Rattle.std.proofs.lemmas.List.Elements.{All-push}
 use Rattle.half_edge_links.specs.Mesh.{Mesh, IsSound, IsSoundEdge, origin, next, prev, face, rev}
-use Rattle.half_edge_links.specs.Outline.{ends, IsOuterEdge, AddsTriangle, ReplacesOuter, ClosesOuter}
+use Rattle.half_edge_links.specs.Outline.{IsOuterEdge, AddsTriangle, ReplacesOuter, ClosesOuter}
 use Rattle.half_edge_links.specs.Grow.{IsClosable, Closes, closed}
 use Rattle.half_edge_links.specs.Room.{HasRoomFor}
 use Rattle.half_edge_links.proofs.Close.{closes}

@@ -16,3 +16,4 @@ pub mod DataKept
 pub mod DataGrowing
 pub mod Joining
 pub mod Delaunay
+pub mod Removing

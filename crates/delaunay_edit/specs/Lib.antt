@@ -3,3 +3,4 @@ pub mod Elements
 pub mod Data
 pub mod Joining
 pub mod Hull
+pub mod Removal

@@ -36,15 +36,6 @@ fn reserve_for_vertex<V, DE, UE, F>(dcel: &mut Dcel<V, DE, UE, F>) -> Result<(),
 }
 
 impl<V: HasPosition + Drop, DE: Default, UE: Default, F: Default> TriangulationCore<V, DE, UE, F> {
-    // Exchanges a vertex for one of the same position.
-    fn overwrite(&mut self, vertex: FixedVertexHandle, value: V)
-        requires within { vertex < length self.old.vertices }
-        requires same { point_at (map V.place self.old.vertices) vertex ≡ V.place value }
-        ensures { self.new ≡ record self.old { vertices = slice_set self.old.vertices vertex value } }
-    {
-        let _ = self.dcel.update_vertex(vertex, value);
-    }
-
     // The new last vertex, with each edge tested again, or a refusal that changes nothing.
     fn append<P: PlaneTests<V::Scalar>>(
         &mut self,
@@ -180,7 +171,7 @@ impl<V: HasPosition + Drop, DE: Default, UE: Default, F: Default> TriangulationC
         validate_vertex(&value)?;
         match self.find(&value, tests) {
             Ok(vertex) => {
-                self.overwrite(vertex, value);
+                let _ = self.replace_vertex(vertex, value);
                 let _ = self.num_vertices();
                 Ok(vertex)
             }

@@ -8,6 +8,7 @@ mod insertion_line;
 mod insertion_outside;
 mod location;
 mod position_in_triangulation;
+mod removal;
 mod triangulation_core;
 
 pub use position_in_triangulation::PositionInTriangulation;

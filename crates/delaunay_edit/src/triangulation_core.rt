@@ -26,6 +26,8 @@ pub struct TriangulationCore<V: HasPosition, DE, UE, F> {
     pub(crate) dcel: Dcel<V, DE, UE, F>,
     // The edges that a legalization has still to test: none between edits, but the room for them stays.
     pub(crate) work: Vec<FixedUndirectedEdgeHandle>,
+    // Room for the sides opposite a vertex that a removal takes from the hull; what stands in it has no meaning.
+    pub(crate) sides: Vec<FixedDirectedEdgeHandle>,
 }
 
 impl<V: HasPosition, DE, UE, F> Model for TriangulationCore<V, DE, UE, F> {
@@ -58,6 +60,7 @@ impl<V: HasPosition, DE, UE, F> TriangulationCore<V, DE, UE, F> {
         TriangulationCore {
             dcel,
             work: Vec::new(alloc),
+            sides: Vec::new(alloc),
         }
     }
 

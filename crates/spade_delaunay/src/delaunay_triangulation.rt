@@ -1,10 +1,10 @@
 //! Triangulations without constraints.
-ghost use Rattle.std.specs.Prelude.{◌≡◌, ◌↔◌, ℕ, ◌+◌, ◌-◌, ◌*◌, ◌<◌, ◌≤◌, [], length, map, All, MatchOption, IsOk, IsErrOf, IfOk, OnErr, OnOk, slice_set};
+ghost use Rattle.std.specs.Prelude.{◌≡◌, ◌↔◌, ℕ, ◌+◌, ◌-◌, ◌*◌, ◌<◌, ◌≤◌, [], length, map, All, MatchOption, None, Ok, Some, IsOk, IsErrOf, IfOk, OnErr, OnOk, slice_get, slice_set};
 ghost use Rattle.half_edge_links.specs.Mesh.{empty};
 ghost use Rattle.half_edge_views.specs.Left.{vertices_left, faces_left};
 ghost use Rattle.plane.specs.Fraction.{whole as fraction};
 ghost use Rattle.plane.specs.Tests.{InRange};
-ghost use Rattle.plane.specs.Plain.{IsPlain, Inserts};
+ghost use Rattle.plane.specs.Plain.{IsCleared, IsPlain, Inserts, Removes, Replaces};
 ghost use Rattle.plane.specs.Tiling.{IsFace, IsTiling};
 ghost use Rattle.plane.specs.Delaunay.{IsConstrainedDelaunay, IsStrictlyEmpty};
 ghost use Rattle.plane.specs.Location.{IsLocation};
@@ -15,6 +15,8 @@ ghost use Rattle.delaunay_legalization.specs.Known.{IsKnown, point_at};
 ghost use Rattle.delaunay_edit.specs.Elements.{GivesElements, HasElement};
 ghost use Rattle.delaunay_edit.specs.Hull.{HasHullSize};
 ghost use Rattle.delaunay_edit.specs.Location.{location_of};
+ghost use Rattle.delaunay_edit.specs.Removal.{RemovesAt};
+ghost use Rattle.delaunay_removal.specs.Data.{KeepsDataOfOthers};
 ghost use Rattle.delaunay_legalization.specs.State.{state_of, plain_of, triangulation_of};
 
 use delaunay_core::math::{InsertionError, PlaneTests};
@@ -22,7 +24,7 @@ use delaunay_core::point::{HasPosition, Point2};
 use delaunay_edit::{PositionInTriangulation, TriangulationCore};
 use half_edge_mesh::{FixedDirectedEdgeHandle, FixedFaceHandle, FixedVertexHandle, MAX_ELEMENTS};
 use half_edge_views::{DirectedEdgeHandle, FaceHandle, FaceIterator, VertexHandle, VertexIterator};
-use std::alloc::Global;
+use std::alloc::{AllocError, Global};
 use std::marker::Model;
 
 /// A triangulation of vertices with different positions. Its inner faces turn left and tile the hull of the positions,
@@ -219,5 +221,85 @@ impl<V: HasPosition + Drop, DE: Default, UE: Default, F: Default> DelaunayTriang
         ensures err { OnErr result (self.new ≡ self.old) }
     {
         self.core.insert(value, tests)
+    }
+}
+
+impl<V: HasPosition, DE, UE, F> DelaunayTriangulation<V, DE, UE, F> {
+    /// Exchanges a vertex for one of the same position, which gets its handle, and gives the old one back. Edges, faces and
+    /// their data stay. It takes no memory and is never refused.
+    pub fn replace_vertex(&mut self, vertex: FixedVertexHandle, value: V) -> V
+        requires within { vertex < length self.old.vertices }
+        requires same { point_at (map V.place self.old.vertices) vertex ≡ V.place value }
+
+        ensures value { slice_get self.old.vertices vertex ≡ Some result }
+        ensures new { self.new ≡ record self.old { vertices = slice_set self.old.vertices vertex value } }
+        ensures plain { Replaces V.place (plain_of self.old) (plain_of self.new) vertex value }
+        ensures tiling { IsTiling (triangulation_of V.place self.new) }
+        ensures delaunay { IsConstrainedDelaunay (triangulation_of V.place self.new) [] }
+        ensures empty_triples { (i j k : ℕ) → IsStrictlyEmpty (triangulation_of V.place self.new) i j k → IsFace (triangulation_of V.place self.new) i j k }
+    {
+        self.core.replace_vertex(vertex, value)
+    }
+}
+
+impl<V: HasPosition, DE: Drop, UE: Drop, F: Drop> DelaunayTriangulation<V, DE, UE, F> {
+    /// Removes a vertex and gives it back; the last vertex takes its handle. Handles of edges and faces change too. An edge
+    /// that did not end at the vertex, or a face without that corner, that stands before and after keeps its data, and so
+    /// does the outer face. It gives `AllocError` where memory was refused, and then
+    /// nothing changes.
+    pub fn remove<P: PlaneTests<V::Scalar>>(
+        &mut self,
+        vertex: FixedVertexHandle,
+        tests: &P,
+    ) -> Result<V, AllocError>
+        requires within { vertex < length self.old.vertices }
+        requires sites { All (P.sites tests.now) (map V.place self.old.vertices) }
+
+        ensures value { IfOk result (λ v. slice_get self.old.vertices vertex ≡ Some v) }
+        ensures plain { OnOk result (Removes V.place (plain_of self.old) (plain_of self.new) vertex) }
+        ensures tiling { IsTiling (triangulation_of V.place self.new) }
+        ensures delaunay { IsConstrainedDelaunay (triangulation_of V.place self.new) [] }
+        ensures empty_triples { (i j k : ℕ) → IsStrictlyEmpty (triangulation_of V.place self.new) i j k → IsFace (triangulation_of V.place self.new) i j k }
+        ensures outer { self.new.outer ≡ self.old.outer }
+        ensures data { OnOk result (KeepsDataOfOthers self.old self.new vertex) }
+        ensures err { OnErr result (self.new ≡ self.old) }
+    {
+        self.core.remove(vertex, tests)
+    }
+
+    /// Removes the vertex at a position that the tests cover and gives it back, as `remove` does. It gives `None` exactly
+    /// where no vertex is there; then it takes no memory, and nothing changes. It gives `AllocError` where memory was
+    /// refused, and then nothing changes either.
+    pub fn locate_and_remove<P: PlaneTests<V::Scalar>>(
+        &mut self,
+        point: Point2<V::Scalar>,
+        tests: &P,
+    ) -> Result<Option<V>, AllocError>
+        requires sites { All (P.sites tests.now) (map V.place self.old.vertices) }
+        requires covered { P.covered tests.now (place_of V.Scalar.whole point) }
+
+        ensures apart { ¬ IsKnown (map V.place self.old.vertices) (place_of V.Scalar.whole point) → (result ≡ Ok None) × (self.new ≡ self.old) }
+        ensures ok { IfOk result (λ r. MatchOption r (¬ IsKnown (map V.place self.old.vertices) (place_of V.Scalar.whole point)) (RemovesAt V.place self.old self.new (place_of V.Scalar.whole point))) }
+        ensures tiling { IsTiling (triangulation_of V.place self.new) }
+        ensures delaunay { IsConstrainedDelaunay (triangulation_of V.place self.new) [] }
+        ensures empty_triples { (i j k : ℕ) → IsStrictlyEmpty (triangulation_of V.place self.new) i j k → IsFace (triangulation_of V.place self.new) i j k }
+        ensures outer { self.new.outer ≡ self.old.outer }
+        ensures err { OnErr result (self.new ≡ self.old) }
+    {
+        self.core.locate_and_remove(point, tests)
+    }
+}
+
+impl<V: HasPosition + Drop, DE: Drop, UE: Drop, F: Drop> DelaunayTriangulation<V, DE, UE, F> {
+    /// Forgets each vertex, each edge and each inner face. The outer face keeps its data, and memory that was taken is kept
+    /// for later insertions. It is never refused.
+    pub fn clear(&mut self)
+        ensures new { self.new ≡ record self.old { vertices = []; mesh = empty; directed = []; undirected = []; faces = [] } }
+        ensures plain { IsCleared V.place (plain_of self.new) }
+        ensures tiling { IsTiling (triangulation_of V.place self.new) }
+        ensures delaunay { IsConstrainedDelaunay (triangulation_of V.place self.new) [] }
+        ensures empty_triples { (i j k : ℕ) → IsStrictlyEmpty (triangulation_of V.place self.new) i j k → IsFace (triangulation_of V.place self.new) i j k }
+    {
+        self.core.clear();
     }
 }

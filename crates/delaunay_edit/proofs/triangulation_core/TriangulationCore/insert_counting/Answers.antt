@@ -11,7 +11,7 @@ pub returns-in-Err-clause-replaced : goal.returns-in-Err-clause-replaced
 returns-in-Err-clause-replaced g c = λ known. absurd (c.in-Err.ensures.apart.apart known.index known.below known.here)
 
 pub returns-in-Ok-clause-data : goal.returns-in-Ok-clause-data
-returns-in-Ok-clause-data g c = overwritten_keeps g.V.HasPosition.place c.args.self.now c.overwrite.new.self _ c.num_vertices.ensures.kept c.overwrite.ensures
+returns-in-Ok-clause-data g c = overwritten_keeps g.V.HasPosition.place c.args.self.now c.replace_vertex.new.self _ c.num_vertices.ensures.kept c.replace_vertex.ensures.new
 
 pub returns-in-Err-clause-full : goal.returns-in-Err-clause-full
 returns-in-Err-clause-full g c = (

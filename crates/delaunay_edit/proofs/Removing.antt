@@ -1,0 +1,32 @@
+-- A vertex goes from a triangulation, which has no constraints.
+use Rattle.std.proofs.Common.{◌≡◌, ◌∙◌, ℕ, ◌+◌, ◌*◌, ◌-◌, ◌≤◌, List, length, map, Some, sym, ap, subst, arith}
+use Rattle.std.specs.Prelude.{All, pos, slice_get}
+use Rattle.std.proofs.lemmas.List.{length-map, get_or-map}
+use Rattle.std.proofs.lemmas.Option.{get_or_from_slice_get, slice_get_within}
+use Rattle.half_edge_links.proofs.OpenSound.{length-swap_remove}
+use Rattle.drawn_mesh.proofs.MeshDrops.{mapped_swap_remove}
+use Rattle.plane.specs.Fraction.{Point}
+use Rattle.plane.specs.Plain.{Removes}
+use Rattle.delaunay_legalization.specs.Known.{point_at}
+use Rattle.delaunay_legalization.specs.State.{State, plain_of}
+use Rattle.delaunay_removal.proofs.Removing.{all_left}
+
+-- the data that are read at an index have the position that stands there
+pub read_place : {V : Type 0} (place : V → Point) (vs : List V) (i : ℕ) (v : V) → slice_get vs i ≡ Some v → point_at (map place vs) i ≡ place v
+read_place place vs i v e = get_or-map place vs i v (record { x = pos 0; y = pos 0 }) (slice_get_within vs i v e) ∙ ap place (get_or_from_slice_get vs i v v e)
+
+-- ---- what is left
+module _ {V D U F : Type 0} (place : V → Point) (old new : State V D U F) (v : ℕ) (value : V) (removes : Removes place (plain_of old) (plain_of new) v) where
+  count : length new.vertices ≡ length old.vertices - 1
+  count = ap (λ vs. length vs) (removes.vertices value) ∙ length-swap_remove old.vertices v value
+
+  -- the positions that are left are sites as before
+  pub sites_left : (sites : Point → Type 0) → All sites (map place old.vertices) → All sites (map place new.vertices)
+  sites_left sites all =
+      let within = removes.here in
+      subst (λ (ps : List Point). All sites ps) (sym (ap (map place) (removes.vertices value) ∙ mapped_swap_remove place old.vertices v value))
+      (all_left sites (map place old.vertices) v (place value) (omega (arith, within, length-map old.vertices place)) all)
+
+  -- the room for the edges of so many vertices suffices still
+  pub room_left : (n len room : ℕ) → n ≡ length old.vertices → len + 3 * n ≤ room → 3 * length new.vertices ≤ room
+  room_left n len room e fits = omega (arith, e, fits, count)
