@@ -2,6 +2,8 @@
 #![tactic(auto)]
 
 #[cfg(test)]
+mod by_index;
+#[cfg(test)]
 mod careful;
 #[cfg(test)]
 mod copies;

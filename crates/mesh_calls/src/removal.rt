@@ -35,6 +35,18 @@ fn remove_from_line(mesh: &mut Mesh, vertex: FixedVertexHandle) -> Option<u8> {
     Some(mesh.remove_when_degenerate(vertex))
 }
 
+// Removes a vertex that is at an end of a line of two edges or more.
+fn remove_from_end_of_line(mesh: &mut Mesh, vertex: FixedVertexHandle) -> Option<u8> {
+    if mesh.num_inner_faces() > 0 || !has_vertex(mesh, vertex) {
+        return None;
+    }
+    let out = mesh.vertex(vertex).out_edge()?;
+    if out.ccw().index != out.index || out.next().index == out.rev().index {
+        return None;
+    }
+    Some(mesh.remove_when_degenerate(vertex))
+}
+
 // Whether an edge comes before a side that is there.
 fn is_before(mesh: &Mesh, edge: FixedDirectedEdgeHandle, side: FixedDirectedEdgeHandle) -> bool
     ensures within { IsTrue result → side < length mesh.now.directed }
@@ -254,6 +266,21 @@ fn a_middle_vertex_leaves_a_line(rt: HostRuntime) {
     assert_eq!(rt;
         (removed, counts(&mesh), vertex_data(&mesh, 1)),
         (Some(2), [2usize, 2, 1, 0], Some(3))
+    );
+}
+
+#[test]
+fn an_end_vertex_leaves_a_line(rt: HostRuntime) {
+    let mut mesh = one_edge(rt.alloc());
+    extend_line(&mut mesh, vertex(1), 3);
+    let removed = remove_from_end_of_line(&mut mesh, vertex(0));
+    assert_eq!(rt;
+        (
+            removed,
+            counts(&mesh),
+            [vertex_data(&mesh, 0), vertex_data(&mesh, 1)]
+        ),
+        (Some(1), [2usize, 2, 1, 0], [Some(3), Some(2)])
     );
 }
 

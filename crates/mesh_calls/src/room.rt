@@ -75,6 +75,22 @@ fn ask_for_undirected_edges(alloc: Global) -> Answer {
     (answer, mesh.num_undirected_edges())
 }
 
+/// 64 KB of data of a face, so that a thousand million of them and more fit nowhere.
+#[derive(Clone, Copy)]
+struct LargeFace([u64; 8192]);
+
+impl Default for LargeFace {
+    fn default() -> Self {
+        LargeFace([0; 8192])
+    }
+}
+
+fn ask_for_faces(alloc: Global) -> Answer {
+    let mut mesh: Dcel<u8, u16, u32, LargeFace> = Dcel::new(alloc);
+    let answer = mesh.reserve_capacity(0, 0, MAX_ELEMENTS);
+    (answer, mesh.num_inner_faces())
+}
+
 #[test]
 fn each_list_of_data_may_be_refused(rt: HostRuntime) {
     let alloc = rt.alloc();
@@ -83,8 +99,33 @@ fn each_list_of_data_may_be_refused(rt: HostRuntime) {
             ask_for_vertices(alloc),
             ask_for_directed_edges(alloc),
             ask_for_undirected_edges(alloc),
+            ask_for_faces(alloc),
         ],
-        [(Err(ReserveError::OutOfMemory), 0); 3]
+        [(Err(ReserveError::OutOfMemory), 0); 4]
+    );
+}
+
+/// What a request for a mesh with room for so many large vertices tells.
+fn ask_for_mesh(alloc: Global, vertices: usize) -> Result<(), ReserveError> {
+    let mesh: Dcel<Large, u16, u32, u64> = Dcel::with_capacity(alloc, vertices, 0, 1)?;
+    drop(mesh);
+    Ok(())
+}
+
+#[test]
+fn a_mesh_with_room_may_be_refused(rt: HostRuntime) {
+    let alloc = rt.alloc();
+    assert_eq!(rt;
+        [
+            ask_for_mesh(alloc, 0),
+            ask_for_mesh(alloc, MILLIONS),
+            ask_for_mesh(alloc, MAX_ELEMENTS + 1),
+        ],
+        [
+            Ok(()),
+            Err(ReserveError::OutOfMemory),
+            Err(ReserveError::TooMany),
+        ]
     );
 }
 
