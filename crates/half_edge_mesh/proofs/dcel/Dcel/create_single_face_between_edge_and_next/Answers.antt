@@ -1,4 +1,4 @@
-use Rattle.std.proofs.Common.{refl}
+use Rattle.std.proofs.Common.{refl, arith}
 use Rattle.half_edge_mesh.proofs.EdgeLists.{adds_edges, length-ends}
 use Rattle.half_edge_mesh.proofs.dcel.Dcel.create_single_face_between_edge_and_next.Goals as goal
 
@@ -9,3 +9,8 @@ returns-clause-edges g c =
 
 pub returns-clause-outline : goal.returns-clause-outline
 returns-clause-outline g c = rw (← c.self.view_is) c.close.ensures.outline
+
+pub returns-clause-edge : goal.returns-clause-edge
+returns-clause-edge g c =
+    let fits = c.self.invariant.directed_fit in
+    rw (← c.self.view_is) (omega (arith, c.from_index.ensures, c.half_edge_count-n.ensures.value, fits))

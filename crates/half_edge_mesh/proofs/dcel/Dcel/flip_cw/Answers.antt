@@ -1,4 +1,4 @@
-use Rattle.std.proofs.Common.{◌≡◌, ◌*◌, ◌/◌, arith}
+use Rattle.std.proofs.Common.{◌≡◌, ◌*◌, ◌/◌, refl, arith}
 use Rattle.half_edge_mesh.proofs.EdgeLists.{edges_of-set, along-even}
 use Rattle.half_edge_mesh.proofs.dcel.Dcel.flip_cw.Goals as goal
 
@@ -10,3 +10,6 @@ returns-clause-edges g c =
 
 pub returns-clause-outline : goal.returns-clause-outline
 returns-clause-outline g c = rw (← c.self.view_is) c.flip.ensures.outline
+
+pub returns-clause-contents : goal.returns-clause-contents
+returns-clause-contents g c = rw (← c.self.view_is, c.flip.ensures.room) refl

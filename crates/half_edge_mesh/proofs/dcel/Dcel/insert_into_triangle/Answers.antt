@@ -16,3 +16,18 @@ returns-clause-outer g c =
 
 pub returns-clause-outline : goal.returns-clause-outline
 returns-clause-outline g c = rw (← c.self.view_is) (λ one. c.insert_beside.ensures.outline (c.push_vertex-v.ensures.outline one))
+
+pub returns-clause-mesh : goal.returns-clause-mesh
+returns-clause-mesh g c =
+    let named = rw (← c.self.view_is, c.index.ensures) at c.face_edge-edge.ensures.value in
+    let is = rw (c.push_vertex-v.ensures.mesh, named, ← c.from_index.ensures) at c.insert_beside.ensures.mesh in
+    rw (← c.self.view_is) is
+
+pub returns-clause-triangles : goal.returns-clause-triangles
+returns-clause-triangles g c =
+    let named = rw (← c.self.view_is, c.index.ensures) at c.face_edge-edge.ensures.value in
+    let inserts = rw (c.push_vertex-v.ensures.mesh, named, ← c.from_index.ensures) at c.insert_beside.ensures.triangles in
+    rw (← c.self.view_is) inserts
+
+pub returns-clause-directed : goal.returns-clause-directed
+returns-clause-directed g c = rw (← c.self.view_is) c.push_defaults.ensures.grows

@@ -9,3 +9,8 @@ returns-clause-triangles g c =
     let no_edges : length c.self.inside.undirected.items ≡ 0 = rw (← c.self.view_is) at c.requires.no_edges in
     let none : length m.half_edges ≡ 0 = omega (arith, no_edges, c.self.invariant.undirected_fit) in
     rw (c.connect.ensures.mesh, no_faces m c.connect.ensures.sound none) refl
+
+pub returns-clause-mesh : goal.returns-clause-mesh
+returns-clause-mesh g c =
+    let is = rw (c.index.ensures, c.index-2.ensures) at c.connect.ensures.mesh in
+    rw (← c.self.view_is) is

@@ -16,3 +16,13 @@ returns-clause-outer g c =
 
 pub returns-clause-outline : goal.returns-clause-outline
 returns-clause-outline g c = rw (← c.self.view_is) (λ one. c.split_line.ensures.outline (c.push_vertex-v.ensures.outline one))
+
+pub returns-clause-mesh : goal.returns-clause-mesh
+returns-clause-mesh g c =
+    let is = rw (c.push_vertex-v.ensures.mesh, c.index.ensures, ← c.from_index.ensures) at c.split_line.ensures.mesh in
+    rw (← c.self.view_is) is
+
+pub returns-clause-parts : goal.returns-clause-parts
+returns-clause-parts g c =
+    let are = rw (c.push_vertex-v.ensures.mesh, c.index.ensures, ← c.self.invariant.directed_fit) at c.split_line.ensures.parts in
+    rw (← c.self.view_is, c.from_index-2.ensures, c.from_index-3.ensures, are) refl
