@@ -13,7 +13,7 @@ use Rattle.half_edge_links.proofs.InsertSound as inserting
 use Rattle.half_edge_links.proofs.Close.{IsCorner, corner}
 use Rattle.half_edge_links.proofs.Slide.{IsTail, tail}
 use Rattle.half_edge_links.proofs.StarsInsert.{late_cases}
-use Rattle.half_edge_links.proofs.StarsKept.{grown_cases}
+use Rattle.half_edge_links.proofs.Parts.{grown_cases}
 
 -- an edge whose ends stay
 apart_kept : (m new : Mesh) (h : ℕ) → HasApartEnds m → h < length m.half_edges → origin new h ≡ origin m h → origin new (rev h) ≡ origin m (rev h) → origin new h ≢ origin new (rev h)

@@ -1,13 +1,13 @@
 -- A face of an outer edge, the next one and a new edge.
-use Rattle.std.proofs.Common.{◌≡◌, ◌≢◌, ℕ, ◌+◌, ◌-◌, ◌<◌, ◌≤◌, [], ◌∷◌, length, refl, sym, ap, ◌∙◌, inl, inr, arith, length-append}
+use Rattle.std.proofs.Common.{◌≡◌, ◌≢◌, ◌⊎◌, ℕ, ◌+◌, ◌-◌, ◌<◌, ◌≤◌, [], ◌∷◌, length, refl, sym, ap, ◌∙◌, inl, inr, arith, length-append}
 use Rattle.std.proofs.lemmas.Bool.{cases_eq}
 use Rattle.std.proofs.lemmas.List.{get_or_append_left, get_or_at}
 use Rattle.half_edge_links.specs.Mesh.{Mesh, origin, next, prev, face, face_edge, rev, IsSound, IsSoundEdge}
 use Rattle.half_edge_links.specs.Grow.{IsClosable, closed, Closes}
 use Rattle.half_edge_links.proofs.Rev.{rev_within}
 use Rattle.half_edge_links.proofs.FlipLemmas.{links_from}
-use Rattle.half_edge_links.proofs.CloseReads.{whole_length, pushed_0, pushed_1, next_before, next_second, prev_after, prev_first, face_first, face_second, other_next, other_prev, other_face, other_origin}
-use Rattle.half_edge_links.proofs.Parts.{rev_of_even, rev_of_odd, IsNextSound, IsPrevSound, IsInnerSound, sound_from, next_kept, prev_kept, inner_kept}
+use Rattle.half_edge_links.proofs.CloseReads.{closes_edges}
+use Rattle.half_edge_links.proofs.Parts.{grown_cases, rev_of_even, rev_of_odd, IsNextSound, IsInnerSound, IsBusy, sound_from, next_of_sound, next_kept, inner_kept, next_at, prev_sound, loop_sound}
 
 -- the edges round the place of a new face
 pub record IsCorner (m : Mesh) (e : ℕ) : Type 0 where
@@ -54,20 +54,21 @@ pub closes : (m : Mesh) (e : ℕ) → IsSound m → IsClosable m e → Closes m 
 unfolding closed
 closes m e s can =
     let c = corner m e s can in
+    let r = closes_edges m.half_edges e (next m e) (prev m e) (next m (next m e)) (length m.face_edges + 1) can.within c.second_in c.before_in c.after_in c.before-second c.after-first c.first-second in
     record {
-      inside = links_from _ _ _ (pushed_0 m.half_edges e (next m e) (prev m e) (next m (next m e)) (length m.face_edges + 1) can.within c.second_in c.before_in c.after_in c.before-second c.after-first c.first-second);
-      outside = links_from _ _ _ (pushed_1 m.half_edges e (next m e) (prev m e) (next m (next m e)) (length m.face_edges + 1) can.within c.second_in c.before_in c.after_in c.before-second c.after-first c.first-second);
-      next_before = next_before m.half_edges e (next m e) (prev m e) (next m (next m e)) (length m.face_edges + 1) can.within c.second_in c.before_in c.after_in c.before-second c.after-first c.first-second;
-      next_second = next_second m.half_edges e (next m e) (prev m e) (next m (next m e)) (length m.face_edges + 1) can.within c.second_in c.before_in c.after_in c.before-second c.after-first c.first-second;
-      prev_after = prev_after m.half_edges e (next m e) (prev m e) (next m (next m e)) (length m.face_edges + 1) can.within c.second_in c.before_in c.after_in c.before-second c.after-first c.first-second;
-      prev_first = prev_first m.half_edges e (next m e) (prev m e) (next m (next m e)) (length m.face_edges + 1) can.within c.second_in c.before_in c.after_in c.before-second c.after-first c.first-second;
-      other_next = other_next m.half_edges e (next m e) (prev m e) (next m (next m e)) (length m.face_edges + 1) can.within c.second_in c.before_in c.after_in c.before-second c.after-first c.first-second;
-      other_prev = λ h within a b. other_prev m.half_edges e (next m e) (prev m e) (next m (next m e)) (length m.face_edges + 1) can.within c.second_in c.before_in c.after_in c.before-second c.after-first c.first-second h within b a;
-      origins = other_origin m.half_edges e (next m e) (prev m e) (next m (next m e)) (length m.face_edges + 1) can.within c.second_in c.before_in c.after_in c.before-second c.after-first c.first-second;
-      face_first = face_first m.half_edges e (next m e) (prev m e) (next m (next m e)) (length m.face_edges + 1) can.within c.second_in c.before_in c.after_in c.before-second c.after-first c.first-second;
-      face_second = face_second m.half_edges e (next m e) (prev m e) (next m (next m e)) (length m.face_edges + 1) can.within c.second_in c.before_in c.after_in c.before-second c.after-first c.first-second;
-      other_faces = other_face m.half_edges e (next m e) (prev m e) (next m (next m e)) (length m.face_edges + 1) can.within c.second_in c.before_in c.after_in c.before-second c.after-first c.first-second;
-      edge_count = whole_length m.half_edges e (next m e) (prev m e) (next m (next m e)) (length m.face_edges + 1) can.within c.second_in c.before_in c.after_in c.before-second c.after-first c.first-second;
+      inside = links_from _ _ _ r.inside;
+      outside = links_from _ _ _ r.outside;
+      next_before = r.next_before;
+      next_second = r.next_second;
+      prev_after = r.prev_after;
+      prev_first = r.prev_first;
+      other_next = r.other_next;
+      other_prev = r.other_prev;
+      origins = r.origins;
+      face_first = r.face_first;
+      face_second = r.face_second;
+      other_faces = r.other_faces;
+      edge_count = r.count;
       out_edges = refl;
       face_edges = refl;
       outer_edge = refl;
@@ -98,200 +99,98 @@ module _ (m new : Mesh) (e : ℕ) (s : IsSound m) (can : IsClosable m e) (i : Cl
   named_old : (k : ℕ) → 0 < k → k ≤ length m.face_edges → face_edge new k ≡ face_edge m k
   named_old k some within = rw i.face_edges (get_or_append_left m.face_edges (e ∷ []) 0 (k - 1) (omega (arith, some, within)))
 
-  next_ok : (h : ℕ) → h < length m.half_edges → IsNextSound new h
-  next_ok h within =
-      let here = s.edges h within in
+  busy : (h : ℕ) → h < length m.half_edges → IsBusy new (origin m h)
+  busy h within = let here = s.edges h within in record { within = rw i.out_edges here.origin_in; has_out = rw i.out_edges here.has_out }
+
+  -- the edges of the new face
+  round_sound : IsSoundEdge new e × IsSoundEdge new (next m e) × IsSoundEdge new (length m.half_edges)
+  round_sound =
       let p = c in
-      elim (cases_eq (prev m e) h) [
-        | inl same ↦ rw (← same) (
-            let before = s.edges (prev m e) p.before_in in
-            let b = i.outside in
-            let r = rev_kept (prev m e) p.before_in in
-            let f = i.other_faces (prev m e) p.before_in p.before-first p.before-second in
-            let at = i.next_before in
-            let starts = before.starts in
-            let back = p.before_next in
-            let zero_face = p.before_outer in
-            record {
-              next_in = rw i.next_before (omega (arith, i.edge_count));
-              prev_next = cc;
-              starts = cc;
-              same_face = cc;
-              proper = λ q. absurd (omega (arith, i.next_before, q, p.before_in));
-            })
-        | inr not_before ↦ elim (cases_eq (next m e) h) [
-          | inl same ↦ rw (← same) (
-              let a = i.inside in
-              let r = rev_kept (next m e) p.second_in in
-              let f = i.face_second in
-              let at = i.next_second in
-              let starts = p.end in
-              record {
-                next_in = rw i.next_second (omega (arith, i.edge_count));
-                prev_next = cc;
-                starts = cc;
-                same_face = cc;
-                proper = λ q. absurd (omega (arith, i.next_second, q, p.second_in));
-              })
-          | inr not_second ↦
-              let at : next new h ≡ next m h = i.other_next h within (λ q. not_before (sym q)) (λ q. not_second (sym q)) in
-              let off_first : next m h ≢ e = λ q. not_before (ap (prev m) (sym q) ∙ here.prev_next) in
-              let off_after : next m h ≢ next m (next m e) = λ q. not_second (sym p.after_before ∙ ap (prev m) (sym q) ∙ here.prev_next) in
-              let back = i.other_prev (next m h) here.next_in off_first off_after in
-              let o = i.origins (next m h) here.next_in in
-              let r = rev_kept h within in
-              elim (cases_eq e h) [
-                | inl same ↦
-                    let f = i.face_first in
-                    let g = i.face_second in
-                    record {
-                      next_in = omega (arith, at, here.next_in, more);
-                      prev_next = cc here.prev_next;
-                      starts = cc here.starts;
-                      same_face = cc;
-                      proper = λ q. here.proper (sym at ∙ q);
-                    }
-                | inr not_first ↦
-                    next_kept m new h here at back o r (i.other_faces h within (λ q. not_first (sym q)) (λ q. not_second (sym q)))
-                    (i.other_faces (next m h) here.next_in off_first (λ q. not_first (sym p.second_back ∙ ap (prev m) (sym q) ∙ here.prev_next))) more
+      let off_after : next m e ≢ next m (next m e) = λ q. (s.edges (next m e) p.second_in).proper (sym q) in
+      loop_sound new e (next m e) (length m.half_edges) (origin m e) (origin m (next m e)) (origin m (next m (next m e))) (length m.face_edges + 1) (record {
+        first = record { origin = i.origins e can.within; next = i.other_next e can.within (λ q. p.before-first (sym q)) p.first-second; prev = i.prev_first; face = i.face_first };
+        second = record { origin = i.origins _ p.second_in; next = i.next_second; prev = i.other_prev _ p.second_in (λ q. p.first-second (sym q)) off_after ∙ p.second_back; face = i.face_second };
+        third = i.inside;
+        within = (omega (arith, more, can.within), omega (arith, more, p.second_in), omega (arith, i.edge_count));
+        apart = (p.first-second, λ q. absurd (omega (arith, q, p.second_in)), λ q. absurd (omega (arith, q, can.within)));
+        ends = (rev_kept e can.within ∙ sym (s.edges e can.within).starts, rev_kept _ p.second_in ∙ sym p.end, ap (origin new) rev_inside ∙ i.outside.origin);
+        busy = (busy e can.within, busy _ p.second_in, busy _ p.after_in);
+        face_in = omega (arith, face_count);
+      }) named_new
+
+  -- an edge of the new face, the new outer edge, or another
+  place : (h : ℕ) → h < length new.half_edges → IsSoundEdge new h ⊎ ((h ≡ length m.half_edges + 1) ⊎ ((h < length m.half_edges) × (h ≢ e) × (h ≢ next m e)))
+  place h within =
+      elim (cases_eq e h) [
+        | inl same ↦ inl (rw (← same) round_sound.0)
+        | inr a ↦ elim (cases_eq (next m e) h) [
+          | inl same ↦ inl (rw (← same) round_sound.1)
+          | inr b ↦ elim (grown_cases h (length m.half_edges) (rw i.edge_count at within)) [
+            | inl old ↦ inr (inr (old, λ q. a (sym q), λ q. b (sym q)))
+            | inr j ↦ elim j [ inl is ↦ inl (rw is round_sound.2) | inr is ↦ inr (inl is) ]
+          ]
+        ]
+      ]
+
+  next_ok : (h : ℕ) → h < length new.half_edges → IsNextSound new h
+  next_ok h within =
+      let p = c in
+      elim (place h within) [
+        | inl done ↦ next_of_sound new h done
+        | inr j ↦ elim j [
+          | inl is ↦ rw is (
+              next_at new (length m.half_edges + 1) (next m (next m e)) i.outside.next (omega (arith, more, p.after_in)) i.prev_after (i.origins _ p.after_in ∙ sym (ap (origin new) rev_outside ∙ i.inside.origin))
+              (i.other_faces _ p.after_in p.after-first (s.edges (next m e) p.second_in).proper ∙ p.after_outer ∙ sym i.outside.face) (λ q. absurd (omega (arith, q, p.after_in))))
+          | inr off ↦
+              let here = s.edges h off.0 in
+              elim (cases_eq (prev m e) h) [
+                | inl same ↦ rw (← same) (
+                    next_at new (prev m e) (length m.half_edges + 1) i.next_before (omega (arith, i.edge_count)) i.outside.prev
+                    (i.outside.origin ∙ sym (ap (origin m) p.before_next) ∙ (s.edges _ p.before_in).starts ∙ sym (rev_kept _ p.before_in))
+                    (i.outside.face ∙ sym (i.other_faces _ p.before_in p.before-first p.before-second ∙ p.before_outer)) (λ q. absurd (omega (arith, q, p.before_in))))
+                | inr not_before ↦
+                    let off_first : next m h ≢ e = λ q. not_before (ap (prev m) (sym q) ∙ here.prev_next) in
+                    let off_second : next m h ≢ next m e = λ q. off.1 (sym here.prev_next ∙ ap (prev m) q ∙ p.second_back) in
+                    let off_after : next m h ≢ next m (next m e) = λ q. off.2 (sym here.prev_next ∙ ap (prev m) q ∙ p.after_before) in
+                    next_kept m new h here (i.other_next h off.0 (λ q. not_before (sym q)) off.2) (i.other_prev (next m h) here.next_in off_first off_after)
+                    (i.origins (next m h) here.next_in) (rev_kept h off.0) (i.other_faces h off.0 off.1 off.2) (i.other_faces (next m h) here.next_in off_first off_second) more
               ]
         ]
       ]
 
-  prev_ok : (h : ℕ) → h < length m.half_edges → IsPrevSound new h
-  prev_ok h within =
+  inner_ok : (h : ℕ) → h < length m.half_edges → h ≢ e → h ≢ next m e → 0 < face new h → IsInnerSound new h
+  inner_ok h within not_first not_second some =
       let here = s.edges h within in
       let p = c in
-      elim (cases_eq e h) [
-        | inl same ↦ rw (← same) (
-            let a = i.inside in
-            let at = i.prev_first in
-            record { prev_in = rw i.prev_first (omega (arith, i.edge_count)); next_prev = cc })
-        | inr not_first ↦ elim (cases_eq (next m (next m e)) h) [
-          | inl same ↦ rw (← same) (
-              let b = i.outside in
-              let at = i.prev_after in
-              record { prev_in = rw i.prev_after (omega (arith, i.edge_count)); next_prev = cc })
-          | inr not_after ↦
-              prev_kept m new h here (i.other_prev h within (λ q. not_first (sym q)) (λ q. not_after (sym q)))
-              (i.other_next (prev m h) here.prev_in (λ q. not_first (sym p.before_next ∙ ap (next m) (sym q) ∙ here.next_prev)) (λ q. not_after (ap (next m) (sym q) ∙ here.next_prev))) more
-        ]
-      ]
-
-  inner_ok : (h : ℕ) → h < length m.half_edges → 0 < face new h → IsInnerSound new h
-  inner_ok h within some =
-      let here = s.edges h within in
-      let p = c in
-      elim (cases_eq e h) [
-        | inl same ↦ rw (← same) (
-            let a = i.other_next e can.within (λ q. p.before-first (sym q)) p.first-second in
-            let b = i.next_second in
-            let d = i.prev_first in
-            let f = i.face_first in
-            let named = named_new in
-            record { three = cc; owned = inl (cc) })
-        | inr not_first ↦ elim (cases_eq (next m e) h) [
-          | inl same ↦ rw (← same) (
-              let a = i.next_second in
-              let b = i.inside in
-              let back = p.second_back in
-              let d = i.other_prev (next m e) p.second_in (λ q. p.first-second (sym q)) (λ q. (s.edges (next m e) p.second_in).proper (sym q)) in
-              let f = i.face_second in
-              let named = named_new in
-              record { three = cc; owned = inr (inr (cc)) })
-          | inr not_second ↦
-              let f = i.other_faces h within (λ q. not_first (sym q)) (λ q. not_second (sym q)) in
-              let was : 0 < face m h = omega (arith, f, some) in
-              inner_kept m new h here was
-              (i.other_next h within (λ q. absurd (omega (arith, was, ap (face m) q, p.before_outer))) (λ q. not_second (sym q)))
-              (i.other_prev h within (λ q. not_first (sym q)) (λ q. absurd (omega (arith, was, ap (face m) q, p.after_outer))))
-              f
-              (i.other_next (next m h) here.next_in (λ q. absurd (omega (arith, was, here.same_face, ap (face m) q, p.before_outer))) (λ q. absurd (omega (arith, was, here.same_face, ap (face m) q, p.second_outer))))
-              (named_old (face m h) was here.face_in)
-        ]
-      ]
-
-  face_within : (h : ℕ) → h < length m.half_edges → face new h ≤ length m.face_edges + 1
-  face_within h within =
-      elim (cases_eq h e) [
-        | inl same ↦ rw (same, i.face_first) (omega arith)
-        | inr not_first ↦ elim (cases_eq h (next m e)) [
-          | inl same ↦ rw (same, i.face_second) (omega arith)
-          | inr not_second ↦ rw (i.other_faces h within not_first not_second) (omega (arith, (s.edges h within).face_in))
-        ]
-      ]
-
-  sound_old : (h : ℕ) → h < length m.half_edges → IsSoundEdge new h
-  sound_old h within =
-      let here = s.edges h within in
-      sound_from new h (record {
-        origin_in = rw (i.origins h within, i.out_edges) here.origin_in;
-        face_in = rw face_count (face_within h within);
-        has_out = rw (i.origins h within, i.out_edges) here.has_out;
-      }) (next_ok h within) (prev_ok h within) (inner_ok h within)
-
-  sound_inside : IsSoundEdge new (length m.half_edges)
-  sound_inside =
-      let p = c in
-      let a = i.inside in
-      let b = i.outside in
-      let r = rev_inside in
-      let at = i.prev_first in
-      let on = i.next_second in
-      let o = i.origins e can.within in
-      let f = i.face_first in
-      let named = named_new in
-      let after = s.edges (next m (next m e)) p.after_in in
-      let around = i.other_next e can.within (λ q. p.before-first (sym q)) p.first-second in
-      record {
-        next_in = rw a.next (omega (arith, i.edge_count, can.within));
-        prev_in = rw a.prev (omega (arith, i.edge_count, p.second_in));
-        origin_in = rw (a.origin, i.out_edges) after.origin_in;
-        face_in = rw (a.face, face_count) (omega arith);
-        prev_next = cc;
-        next_prev = cc;
-        starts = cc;
-        same_face = cc;
-        three = λ some. cc;
-        proper = λ q. absurd (omega (arith, q, a.next, can.within));
-        owned = λ some. inr (inl (cc));
-        has_out = rw (a.origin, i.out_edges) after.has_out;
-      }
-
-  sound_outside : IsSoundEdge new (length m.half_edges + 1)
-  sound_outside =
-      let p = c in
-      let a = i.inside in
-      let b = i.outside in
-      let r = rev_outside in
-      let at = i.prev_after in
-      let on = i.next_before in
-      let o = i.origins (next m (next m e)) p.after_in in
-      let f = i.other_faces (next m (next m e)) p.after_in p.after-first (s.edges (next m e) p.second_in).proper in
-      let g = p.after_outer in
-      let here = s.edges e can.within in
-      record {
-        next_in = rw b.next (omega (arith, i.edge_count, p.after_in));
-        prev_in = rw b.prev (omega (arith, i.edge_count, p.before_in));
-        origin_in = rw (b.origin, i.out_edges) here.origin_in;
-        face_in = rw b.face (omega arith);
-        prev_next = cc;
-        next_prev = cc;
-        starts = cc;
-        same_face = cc;
-        three = λ some. absurd (omega (arith, some, b.face));
-        proper = λ q. absurd (omega (arith, q, b.next, p.after_in));
-        owned = λ some. absurd (omega (arith, some, b.face));
-        has_out = rw (b.origin, i.out_edges) here.has_out;
-      }
+      let f = i.other_faces h within not_first not_second in
+      let was : 0 < face m h = omega (arith, f, some) in
+      inner_kept m new h here was
+      (i.other_next h within (λ q. absurd (omega (arith, was, ap (face m) q, p.before_outer))) not_second)
+      (i.other_prev h within not_first (λ q. absurd (omega (arith, was, ap (face m) q, p.after_outer))))
+      f
+      (i.other_next (next m h) here.next_in (λ q. absurd (omega (arith, was, here.same_face, ap (face m) q, p.before_outer))) (λ q. absurd (omega (arith, was, here.same_face, ap (face m) q, p.second_outer))))
+      (named_old (face m h) was here.face_in)
 
   sound_at : (h : ℕ) → h < length new.half_edges → IsSoundEdge new h
   sound_at h within =
-      elim (cases_eq (length m.half_edges) h) [
-        | inl same ↦ rw (← same) sound_inside
-        | inr p ↦ elim (cases_eq (length m.half_edges + 1) h) [
-          | inl same ↦ rw (← same) sound_outside
-          | inr q ↦ sound_old h (omega (arith, i.edge_count))
+      elim (place h within) [
+        | inl done ↦ done
+        | inr j ↦ elim j [
+          | inl is ↦
+              let start = busy e can.within in
+              let none : face new h ≡ 0 = ap (face new) is ∙ i.outside.face in
+              sound_from new h (record {
+                origin_in = rw (is, i.outside.origin) start.within;
+                face_in = rw none (omega arith);
+                has_out = rw (is, i.outside.origin) start.has_out;
+              }) (next_ok h within) (prev_sound new next_ok h within) (λ some. absurd (omega (arith, some, none)))
+          | inr off ↦
+              let start = busy h off.0 in
+              sound_from new h (record {
+                origin_in = rw (i.origins h off.0) start.within;
+                face_in = rw (i.other_faces h off.0 off.1 off.2, face_count) (omega (arith, (s.edges h off.0).face_in));
+                has_out = rw (i.origins h off.0) start.has_out;
+              }) (next_ok h within) (prev_sound new next_ok h within) (inner_ok h off.0 off.1 off.2)
         ]
       ]
 

@@ -7,6 +7,7 @@ use Rattle.half_edge_links.specs.Mesh.{Mesh, IsSmall, origin, next, prev, face, 
 use Rattle.half_edge_links.specs.Remove.{loop_closed, IsOpenTriangle, ClosesLoop}
 use Rattle.half_edge_links.proofs.Triangles.{IsTriangle}
 use Rattle.half_edge_links.proofs.FieldWrites.{sets_loop_face}
+use Rattle.half_edge_links.proofs.Parts.{IsBusy, loop_sound, sound_from, next_kept, prev_kept, inner_kept}
 
 abbrev pub IsRound : Mesh → ℕ → ℕ → Type 0
 IsRound m h k = (k ≡ h) ⊎ ((k ≡ next m h) ⊎ (k ≡ prev m h))
@@ -66,12 +67,6 @@ module _ (m : Mesh) (h : ℕ) (s : IsSound m) (can : IsOpenTriangle m h) where
       }
 
   module _ (new : Mesh) (c : ClosesLoop m new h) where
-    next_round : (k : ℕ) → IsRound m h k → IsRound m h (next m k)
-    next_round k r = let t = round in elim r [
-      | inl i ↦ inr (inl (ap (next m) i))
-      | inr j ↦ elim j [ inl i ↦ inr (inr (ap (next m) i ∙ t.next_next)) | inr i ↦ inl (ap (next m) i ∙ t.next_prev) ]
-    ]
-
     next_off : (k : ℕ) → k < length m.half_edges → (k ≢ h) × (k ≢ next m h) × (k ≢ prev m h) → (next m k ≢ h) × (next m k ≢ next m h) × (next m k ≢ prev m h)
     next_off k within off =
         let t = round in
@@ -87,72 +82,44 @@ module _ (m : Mesh) (h : ℕ) (s : IsSound m) (can : IsOpenTriangle m h) where
     named : (f : ℕ) → 0 < f → f ≤ length m.face_edges → face_edge new f ≡ face_edge m f
     named f some within = rw c.face_edges (get_or_append_left m.face_edges (h ∷ []) 0 (f - 1) (omega arith))
 
-    sound_round : (k : ℕ) → k < length m.half_edges → IsRound m h k → IsSoundEdge new k
-    sound_round k within r =
-        let was = s.edges k within in
+    busy : (k : ℕ) → k < length m.half_edges → IsBusy new (origin m k)
+    busy k within = let was = s.edges k within in record { within = rw c.outs was.origin_in; has_out = rw c.outs was.has_out }
+
+    loop : IsSoundEdge new h × IsSoundEdge new (next m h) × IsSoundEdge new (prev m h)
+    loop =
         let t = round in
-        let face_is = c.here k r in
-        let named_is : face_edge new (face new k) ≡ h = ap (face_edge new) face_is ∙ last_named in
-        record {
-          next_in = rw (c.nexts k, c.edge_count) was.next_in;
-          prev_in = rw (c.prevs k, c.edge_count) was.prev_in;
-          origin_in = rw (c.origins k, ap length c.outs) was.origin_in;
-          face_in = rw (face_is, face_count) (omega arith);
-          prev_next = ap (prev new) (c.nexts k) ∙ c.prevs (next m k) ∙ was.prev_next;
-          next_prev = ap (next new) (c.prevs k) ∙ c.nexts (prev m k) ∙ was.next_prev;
-          starts = ap (origin new) (c.nexts k) ∙ c.origins (next m k) ∙ was.starts ∙ sym (c.origins (rev k));
-          same_face = ap (face new) (c.nexts k) ∙ c.here (next m k) (next_round k r) ∙ sym face_is;
-          three = λ inner. ap (next new) (c.nexts k) ∙ c.nexts (next m k) ∙ elim r as (λ z. next m (next m k) ≡ prev m k) [
-            | inl i ↦ ap (λ j. next m (next m j)) i ∙ t.next_next ∙ sym (ap (prev m) i)
-            | inr j ↦ elim j as (λ z. next m (next m k) ≡ prev m k) [
-              | inl i ↦ ap (λ j. next m (next m j)) i ∙ ap (next m) t.next_next ∙ t.next_prev ∙ sym (ap (prev m) i ∙ t.prev_next)
-              | inr i ↦ ap (λ j. next m (next m j)) i ∙ ap (next m) t.next_prev ∙ sym (ap (prev m) i ∙ t.prev_prev)
-            ]
-          ] ∙ sym (c.prevs k);
-          proper = λ same.
-              let q : next m k ≡ k = sym (c.nexts k) ∙ same in
-              elim r [
-                | inl i ↦ t.next_differs (sym (ap (next m) i) ∙ q ∙ i)
-                | inr j ↦ elim j [
-                  | inl i ↦ t.both_differ (sym (sym t.next_next ∙ sym (ap (next m) i) ∙ q ∙ i))
-                  | inr i ↦ t.prev_differs (sym (sym t.next_prev ∙ sym (ap (next m) i) ∙ q ∙ i))
-                ]
-              ];
-          owned = λ inner. elim r [
-            | inl i ↦ inl (named_is ∙ sym i)
-            | inr j ↦ elim j [
-              | inl i ↦ inr (inr (named_is ∙ sym (c.prevs k ∙ ap (prev m) i ∙ t.prev_next)))
-              | inr i ↦ inr (inl (named_is ∙ sym (c.nexts k ∙ ap (next m) i ∙ t.next_prev)))
-            ]
-          ];
-          has_out = rw (c.origins k, c.outs) was.has_out;
-        }
+        loop_sound new h (next m h) (prev m h) (origin m h) (origin m (next m h)) (origin m (prev m h)) (length m.face_edges + 1) (record {
+          first = record { origin = c.origins h; next = c.nexts h; prev = c.prevs h; face = c.here h (inl refl) };
+          second = record { origin = c.origins _; next = c.nexts _ ∙ t.next_next; prev = c.prevs _ ∙ t.prev_next; face = c.here _ (inr (inl refl)) };
+          third = record { origin = c.origins _; next = c.nexts _ ∙ t.next_prev; prev = c.prevs _ ∙ t.prev_prev; face = c.here _ (inr (inr refl)) };
+          within = rw c.edge_count (t.h_in, t.next_in, t.prev_in);
+          apart = (λ q. t.next_differs (sym q), t.both_differ, t.prev_differs);
+          ends = (
+            c.origins (rev h) ∙ sym here.starts,
+            c.origins (rev (next m h)) ∙ sym (s.edges _ t.next_in).starts ∙ ap (origin m) t.next_next,
+            c.origins (rev (prev m h)) ∙ sym (s.edges _ t.prev_in).starts ∙ ap (origin m) t.next_prev,
+          );
+          busy = (busy h t.h_in, busy _ t.next_in, busy _ t.prev_in);
+          face_in = omega (arith, face_count);
+        }) last_named
+
+    sound_round : (k : ℕ) → IsRound m h k → IsSoundEdge new k
+    sound_round k r = elim r [ inl i ↦ rw i loop.0 | inr j ↦ elim j [ inl i ↦ rw i loop.1 | inr i ↦ rw i loop.2 ] ]
 
     sound_off : (k : ℕ) → k < length m.half_edges → (k ≢ h) × (k ≢ next m h) × (k ≢ prev m h) → IsSoundEdge new k
     sound_off k within off =
         let was = s.edges k within in
         let n = next_off k within off in
         let face_is = c.other k off.0 off.1 off.2 in
-        record {
-          next_in = rw (c.nexts k, c.edge_count) was.next_in;
-          prev_in = rw (c.prevs k, c.edge_count) was.prev_in;
-          origin_in = rw (c.origins k, ap length c.outs) was.origin_in;
+        let start = busy k within in
+        let more : length m.half_edges ≤ length new.half_edges = omega (arith, c.edge_count) in
+        sound_from new k (record {
+          origin_in = rw (c.origins k) start.within;
           face_in = rw (face_is, face_count) (omega (arith, was.face_in));
-          prev_next = ap (prev new) (c.nexts k) ∙ c.prevs (next m k) ∙ was.prev_next;
-          next_prev = ap (next new) (c.prevs k) ∙ c.nexts (prev m k) ∙ was.next_prev;
-          starts = ap (origin new) (c.nexts k) ∙ c.origins (next m k) ∙ was.starts ∙ sym (c.origins (rev k));
-          same_face = ap (face new) (c.nexts k) ∙ c.other (next m k) n.0 n.1 n.2 ∙ was.same_face ∙ sym face_is;
-          three = λ inner. ap (next new) (c.nexts k) ∙ c.nexts (next m k) ∙ was.three (rw (← face_is) inner) ∙ sym (c.prevs k);
-          proper = λ same. was.proper (sym (c.nexts k) ∙ same);
-          owned = λ inner.
-              let some : 0 < face m k = rw (← face_is) inner in
-              let named_is : face_edge new (face new k) ≡ face_edge m (face m k) = ap (face_edge new) face_is ∙ named (face m k) some was.face_in in
-              elim (was.owned some) [
-                | inl z ↦ inl (named_is ∙ z)
-                | inr w ↦ elim w [ inl z ↦ inr (inl (named_is ∙ z ∙ sym (c.nexts k))) | inr z ↦ inr (inr (named_is ∙ z ∙ sym (c.prevs k))) ]
-              ];
-          has_out = rw (c.origins k, c.outs) was.has_out;
-        }
+          has_out = rw (c.origins k) start.has_out;
+        }) (next_kept m new k was (c.nexts k) (c.prevs _) (c.origins _) (c.origins _) face_is (c.other _ n.0 n.1 n.2) more) (prev_kept m new k was (c.prevs k) (c.nexts _) more) (λ inner.
+        let some : 0 < face m k = rw (← face_is) inner in
+        inner_kept m new k was some (c.nexts k) (c.prevs k) face_is (c.nexts _) (named (face m k) some was.face_in))
 
     -- an edge of another face is not in the loop
     off_by_face : (k : ℕ) → 0 < face m k → (k ≢ h) × (k ≢ next m h) × (k ≢ prev m h)
@@ -166,7 +133,7 @@ module _ (m : Mesh) (h : ℕ) (s : IsSound m) (can : IsOpenTriangle m h) where
       even = rw c.edge_count s.even;
       edges = λ k within.
           let k_in : k < length m.half_edges = rw c.edge_count at within in
-          elim (is_round m h k) [ inl r ↦ sound_round k k_in r | inr off ↦ sound_off k k_in off ];
+          elim (is_round m h k) [ inl r ↦ sound_round k r | inr off ↦ sound_off k k_in off ];
       vertices = λ v k is. let had = s.vertices v k (rw c.outs at is) in (rw c.edge_count had.0, c.origins k ∙ had.1);
       faces = λ f some within.
           let f_in : f ≤ length m.face_edges + 1 = rw face_count at within in

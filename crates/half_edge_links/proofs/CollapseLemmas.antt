@@ -7,11 +7,9 @@ use Rattle.half_edge_links.proofs.Rev.{rev-rev, rev_within, rev_differs}
 use Rattle.half_edge_links.proofs.Triangles.{IsTriangle, triangle_at}
 use Rattle.half_edge_links.proofs.OpenSound.{sound_opened}
 use Rattle.half_edge_links.proofs.RemoveSound.{sound_removed}
+use Rattle.half_edge_links.proofs.UnlinkSound.{some_same}
 use Rattle.half_edge_links.proofs.PeelLemmas.{removable_opened}
 use Rattle.half_edge_links.proofs.Track.{IsLeft, name, name_in, name_same, origin_at, face_at, next_at, next_before, next_twin_before, old_at, rev_at, outer_at}
-
-pub some_same : (a b : ℕ) → (let o : Option ℕ = Some a in o) ≡ Some b → a ≡ b
-some_same a b same = cc
 
 some_of : (o : Option ℕ) → IsSome o → (k : ℕ) × (o ≡ Some k)
 some_of None had = absurd (cc)
@@ -174,9 +172,6 @@ module _ (m mid new : Mesh) (a z : ℕ) (s : IsSound m) (f : IsFanOfTwo m a z) (
   -- an edge of the outer face is not the other side of z
   off_w : (k : ℕ) → face m k ≡ 0 → k ≢ rev z
   off_w k zero q = (off_a k zero).2 (q ∙ sym a_before)
-
-  c2_face : 0 < face m (next m a)
-  c2_face = rw at_a.face_next f.peelable.inner
 
   off_c2 : (k : ℕ) → face m k ≡ 0 → next m a ≢ k
   off_c2 k zero q = (off_a k zero).1 (sym q)

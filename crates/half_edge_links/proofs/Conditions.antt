@@ -7,7 +7,8 @@ use Rattle.half_edge_links.specs.Flip.{IsFlippable}
 use Rattle.half_edge_links.specs.Remove.{IsRemovable}
 use Rattle.half_edge_links.specs.Peel.{IsPeelable, IsWheel, IsStrip, turn, spoke}
 use Rattle.half_edge_links.proofs.Rev.{rev-rev, rev_within, rev_differs}
-use Rattle.half_edge_links.proofs.Walks.{among_steps, to_steps, from_steps, steps_closed, step_add, step_back}
+use Rattle.half_edge_links.proofs.Orbits.{step_add, step_back}
+use Rattle.half_edge_links.proofs.Walks.{among_steps, to_steps, from_steps, steps_closed}
 use Rattle.half_edge_links.proofs.Triangles.{IsTriangle, triangle_at, same_loop}
 
 -- an edge with the outer face on both sides, that can be taken out: where it is the last one at an end in

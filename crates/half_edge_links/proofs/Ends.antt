@@ -2,7 +2,7 @@
 use Rattle.std.proofs.Common.{◌≡◌, ◌≢◌, ◌⊎◌, ℕ, zero, suc, ◌+◌, ◌-◌, ◌*◌, ◌/◌, ◌%◌, ◌<◌, List, [], ◌∷◌, ◌++◌, length, get_or, set, refl, sym, ap, ◌∙◌, inl, inr, arith, length-append}
 use Rattle.std.proofs.lemmas.Bool.{cases_eq, cases_lt}
 use Rattle.std.proofs.lemmas.Grind.{common_steps}
-use Rattle.std.proofs.lemmas.List.{same_lists, get_or-map, length-map, length-set, get_or-set_same, get_or-set_other, get_or_append_left, get_or-append-add}
+use Rattle.std.proofs.lemmas.List.{same_lists, get_or-map, length-map, length-set, get_or-set_same, get_or-set_other, get_or_append_left, get_or-append-add, get_or_default}
 use Rattle.half_edge_links.specs.declared.records.HalfEdge.{HalfEdge}
 use Rattle.half_edge_links.specs.Mesh.{Mesh, no_edge, origin, rev, IsSound}
 use Rattle.half_edge_links.specs.Outline.{Ends, paired, origins, ends, along}
@@ -33,11 +33,6 @@ below k n =
       | inr more ↦ inr (k - n, omega (arith, more))
     ]
 
-default : (xs : List ℕ) (k a b : ℕ) → k < length xs → get_or xs k a ≡ get_or xs k b
-default [] k a b within = absurd (omega (arith, within))
-default (x ∷ xs) zero a b within = refl
-default (x ∷ xs) (suc k) a b within = default xs k a b (omega (arith, within))
-
 module _ (m : Mesh) where
   pub length-origins : length (origins m) ≡ length m.half_edges
   length-origins = length-map m.half_edges _
@@ -61,7 +56,7 @@ module _ (m new : Mesh) (s : IsSound m) where
         | inr late ↦
             let j_in : late.0 < length added = omega (arith, in_new, count, late.1) in
             let at : length (origins m) + late.0 ≡ k = omega (arith, old_count, late.1) in
-            ap (origin new) late.1 ∙ there late.0 j_in ∙ default added late.0 0 d j_in ∙ sym (get_or-append-add (origins m) added late.0 d) ∙ ap (λ i. get_or (origins m ++ added) i d) at
+            ap (origin new) late.1 ∙ there late.0 j_in ∙ get_or_default added late.0 0 d j_in ∙ sym (get_or-append-add (origins m) added late.0 d) ∙ ap (λ i. get_or (origins m ++ added) i d) at
       ]) in
       ap paired whole ∙ paired-append (origins m) added even
 

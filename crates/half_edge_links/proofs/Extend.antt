@@ -1,11 +1,8 @@
 -- A line is extended at a vertex.
 use Rattle.std.proofs.Common.{◌≡◌, ℕ, ◌<◌, length, Some, ap, ◌∙◌, arith}
 use Rattle.half_edge_links.specs.Mesh.{Mesh, origin, out_edge, rev, IsSound}
-use Rattle.half_edge_links.specs.Grow.{IsOuter, IsOnLine, edge_into, or_zero}
+use Rattle.half_edge_links.specs.Grow.{IsOuter, IsOnLine}
 use Rattle.half_edge_links.proofs.Rev.{rev-rev, rev_within}
-
-pub into_is : (m : Mesh) (u h : ℕ) → out_edge m u ≡ Some h → edge_into m u ≡ rev h
-into_is m u h is = ap (λ o. rev (or_zero o)) is
 
 pub into_outer : (m : Mesh) (u h : ℕ) → IsSound m → IsOnLine m u → out_edge m u ≡ Some h → IsOuter m (rev h)
 into_outer m u h s line is =

@@ -1,7 +1,7 @@
 -- A face of an outer edge and a lonely vertex.
 use Rattle.std.proofs.Common.{◌≡◌, ◌≢◌, ℕ, ◌+◌, ◌<◌, [], ◌∷◌, ◌++◌, length, Some, None, sym, ap, ◌∙◌, inl, inr, arith}
 use Rattle.half_edge_links.specs.Mesh.{Mesh, origin, next, prev, out_edge, rev, IsSound, IsAlone}
-use Rattle.half_edge_links.specs.Grow.{IsOuter, IsClosable, Hangs, Closes, AddsFace}
+use Rattle.half_edge_links.specs.Grow.{IsOuter, Hangs, Closes, AddsFace}
 use Rattle.half_edge_links.specs.Outline.{HangsOuter, ClosesOuter, ReplacesOuter}
 use Rattle.half_edge_links.proofs.Parts.{rev_of_even}
 
@@ -14,15 +14,6 @@ differs_alone m h v s within alone same =
     cc
 
 module _ (m mid new : Mesh) (e v : ℕ) (s : IsSound m) (outer : IsOuter m e) (alone : IsAlone m v) (i : Hangs m mid e v (length m.half_edges)) where
-  pub closable_hung : IsClosable mid e
-  closable_hung =
-      let r0 = rev_of_even _ s.even in
-      record {
-        within = omega (arith, i.edge_count, outer.0);
-        outer = i.faces e outer.0 ∙ outer.1;
-        apart = λ q. differs_alone m e v s outer.0 alone (sym (i.origins e outer.0) ∙ sym q ∙ ap (λ k. origin mid (rev k)) i.next_at ∙ ap (origin mid) r0 ∙ i.back.origin);
-      }
-
   pub adds_face : Closes mid new e (length mid.half_edges) (length mid.face_edges) → AddsFace m new e v (length m.half_edges) (length m.face_edges)
   adds_face j =
       let here = s.edges e outer.0 in

@@ -4,7 +4,7 @@ use Rattle.std.proofs.lemmas.Bool.{cases_eq, cases_lt}
 use Rattle.std.proofs.lemmas.List.{get_or-set_same, get_or-set_other, length-set, set_past}
 use Rattle.half_edge_links.specs.declared.records.HalfEdge.{HalfEdge}
 use Rattle.half_edge_links.specs.Mesh.{no_edge, edge_at}
-use Rattle.half_edge_links.specs.Grow.{with_next, with_prev, with_face}
+use Rattle.half_edge_links.specs.Grow.{with_next, with_prev, with_face, with_origin}
 use Rattle.half_edge_links.specs.Remove.{with_loop_face}
 
 -- a write of edge h that keeps what P sees of it keeps what P sees of each edge
@@ -90,6 +90,30 @@ module _ (hs : List HalfEdge) (h x : ℕ) where
   pub origin-with_face : (k : ℕ) → (edge_at (with_face hs h x) k).origin ≡ (edge_at hs k).origin
   unfolding with_face
   origin-with_face k = kept_by (λ (e : HalfEdge). e.origin) hs h _ k refl
+
+  pub length-with_origin : length (with_origin hs h x) ≡ length hs
+  unfolding with_origin
+  length-with_origin = length-set hs h _
+
+  pub origin-with_origin : h < length hs → (edge_at (with_origin hs h x) h).origin ≡ x
+  unfolding with_origin
+  origin-with_origin within = ap (λ (e : HalfEdge). e.origin) (get_or-set_same hs h _ no_edge within)
+
+  pub other-with_origin : (k : ℕ) → k ≢ h → edge_at (with_origin hs h x) k ≡ edge_at hs k
+  unfolding with_origin
+  other-with_origin k differs = get_or-set_other hs h k _ no_edge differs
+
+  pub next-with_origin : (k : ℕ) → (edge_at (with_origin hs h x) k).next ≡ (edge_at hs k).next
+  unfolding with_origin
+  next-with_origin k = kept_by (λ (e : HalfEdge). e.next) hs h _ k refl
+
+  pub prev-with_origin : (k : ℕ) → (edge_at (with_origin hs h x) k).prev ≡ (edge_at hs k).prev
+  unfolding with_origin
+  prev-with_origin k = kept_by (λ (e : HalfEdge). e.prev) hs h _ k refl
+
+  pub face-with_origin : (k : ℕ) → (edge_at (with_origin hs h x) k).face ≡ (edge_at hs k).face
+  unfolding with_origin
+  face-with_origin k = kept_by (λ (e : HalfEdge). e.face) hs h _ k refl
 
 -- the loop of h gets face x
 pub record SetsLoopFace (old new : List HalfEdge) (h x : ℕ) : Type 0 where

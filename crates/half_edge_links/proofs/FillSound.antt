@@ -133,40 +133,14 @@ module _ (m : Mesh) (last hole : ℕ) (b : IsSoundBut m hole) (at_last : length 
   abbrev old : ℕ → ℕ
   old h = pair_moved hole last h
 
-  -- an edge that is left names edge l as its next exactly if it is before it
-  is_before : (k l : ℕ) → k < length m.half_edges → k ≢ hole → k ≢ hole + 1 → next m k ≡ l → k ≡ prev m l
-  is_before k l within a c is = sym (b.edges k within a c).prev_next ∙ ap (prev m) is
-
-  is_after : (k l : ℕ) → k < length m.half_edges → k ≢ hole → k ≢ hole + 1 → prev m k ≡ l → k ≡ next m l
-  is_after k l within a c is = sym (b.edges k within a c).next_prev ∙ ap (next m) is
-
-  before_is : (k l : ℕ) → l < length m.half_edges → k ≢ hole → k ≢ hole + 1 → k ≡ prev m l → next m k ≡ l
-  before_is k l within a c is =
-      elim (pair_cases hole l) [
-        | inl i ↦ absurd (a (is ∙ ap (prev m) i ∙ b.prev_self))
-        | inr j ↦ elim j [
-          | inl i ↦ absurd (c (is ∙ ap (prev m) i ∙ b.twin_prev_self))
-          | inr i ↦ ap (next m) is ∙ (b.edges l within i.0 i.1).next_prev
-        ]
-      ]
-
-  after_is : (k l : ℕ) → l < length m.half_edges → k ≢ hole → k ≢ hole + 1 → k ≡ next m l → prev m k ≡ l
-  after_is k l within a c is =
-      elim (pair_cases hole l) [
-        | inl i ↦ absurd (a (is ∙ ap (next m) i ∙ b.next_self))
-        | inr j ↦ elim j [
-          | inl i ↦ absurd (c (is ∙ ap (next m) i ∙ b.twin_next_self))
-          | inr i ↦ ap (prev m) is ∙ (b.edges l within i.0 i.1).prev_next
-        ]
-      ]
-
-  pub in_range : (l : ℕ) → l < length m.half_edges → (next m l < length m.half_edges) × (prev m l < length m.half_edges)
+  -- the links of each edge lead to edges, and back
+  pub in_range : (l : ℕ) → l < length m.half_edges → (next m l < length m.half_edges) × (prev m l < length m.half_edges) × (prev m (next m l) ≡ l) × (next m (prev m l) ≡ l)
   in_range l within =
       elim (pair_cases hole l) [
-        | inl i ↦ rw (i, b.next_self, b.prev_self) (rw (← i) within, rw (← i) within)
+        | inl i ↦ let n = b.next_self in let p = b.prev_self in rw (i, n, p) (rw (← i) within, rw (← i) within, refl, n)
         | inr j ↦ elim j [
-          | inl i ↦ rw (i, b.twin_next_self, b.twin_prev_self) (rw (← i) within, rw (← i) within)
-          | inr i ↦ let here = b.edges l within i.0 i.1 in (here.next_in, here.prev_in)
+          | inl i ↦ let n = b.twin_next_self in let p = b.twin_prev_self in rw (i, n, p) (rw (← i) within, rw (← i) within, refl, n)
+          | inr i ↦ let here = b.edges l within i.0 i.1 in (here.next_in, here.prev_in, here.prev_next, here.next_prev)
         ]
       ]
 
@@ -186,19 +160,19 @@ module _ (m : Mesh) (last hole : ℕ) (b : IsSoundBut m hole) (at_last : length 
   next_written k within a c =
       elim (pair_cases last (next m k)) [
         | inl i ↦
-            let at = is_before k last within a c i in
-            let off : k ≢ prev m (last + 1) = λ z. absurd (omega (arith, i, before_is k (last + 1) odd_in a c z)) in
+            let at = sym (in_range k within).2 ∙ ap (prev m) i in
+            let off : k ≢ prev m (last + 1) = λ z. absurd (omega (arith, i, ap (next m) z ∙ (in_range (last + 1) odd_in).3)) in
             next_both_other first (prev m (last + 1)) (hole + 1) (next m (last + 1)) (hole + 1) k off
             ∙ ap (next_of first) at ∙ next_both m.half_edges (prev m last) hole (next m last) hole (in_range last last_in).1
             ∙ sym (ap (pair_moved last hole) i ∙ pair_first last hole)
         | inr j ↦ elim j [
           | inl i ↦
-              let at = is_before k (last + 1) within a c i in
+              let at = sym (in_range k within).2 ∙ ap (prev m) i in
               ap (next_of second) at ∙ next_both first (prev m (last + 1)) (hole + 1) (next m (last + 1)) (hole + 1) (rw (length_both m.half_edges (prev m last) hole (next m last) hole) (in_range (last + 1) odd_in).1)
               ∙ sym (ap (pair_moved last hole) i ∙ pair_second last hole)
           | inr i ↦
-              next_both_other first (prev m (last + 1)) (hole + 1) (next m (last + 1)) (hole + 1) k (λ z. i.1 (before_is k (last + 1) odd_in a c z))
-              ∙ next_both_other m.half_edges (prev m last) hole (next m last) hole k (λ z. i.0 (before_is k last last_in a c z))
+              next_both_other first (prev m (last + 1)) (hole + 1) (next m (last + 1)) (hole + 1) k (λ z. i.1 (ap (next m) z ∙ (in_range (last + 1) odd_in).3))
+              ∙ next_both_other m.half_edges (prev m last) hole (next m last) hole k (λ z. i.0 (ap (next m) z ∙ (in_range last last_in).3))
               ∙ sym (pair_other last hole (next m k) i.0 i.1)
         ]
       ]
@@ -207,19 +181,19 @@ module _ (m : Mesh) (last hole : ℕ) (b : IsSoundBut m hole) (at_last : length 
   prev_written k within a c =
       elim (pair_cases last (prev m k)) [
         | inl i ↦
-            let at = is_after k last within a c i in
-            let off : k ≢ next m (last + 1) = λ z. absurd (omega (arith, i, after_is k (last + 1) odd_in a c z)) in
+            let at = sym (in_range k within).3 ∙ ap (next m) i in
+            let off : k ≢ next m (last + 1) = λ z. absurd (omega (arith, i, ap (prev m) z ∙ (in_range (last + 1) odd_in).2)) in
             prev_both_other first (prev m (last + 1)) (hole + 1) (next m (last + 1)) (hole + 1) k off
             ∙ ap (prev_of first) at ∙ prev_both m.half_edges (prev m last) hole (next m last) hole (in_range last last_in).0
             ∙ sym (ap (pair_moved last hole) i ∙ pair_first last hole)
         | inr j ↦ elim j [
           | inl i ↦
-              let at = is_after k (last + 1) within a c i in
+              let at = sym (in_range k within).3 ∙ ap (next m) i in
               ap (prev_of second) at ∙ prev_both first (prev m (last + 1)) (hole + 1) (next m (last + 1)) (hole + 1) (rw (length_both m.half_edges (prev m last) hole (next m last) hole) (in_range (last + 1) odd_in).0)
               ∙ sym (ap (pair_moved last hole) i ∙ pair_second last hole)
           | inr i ↦
-              prev_both_other first (prev m (last + 1)) (hole + 1) (next m (last + 1)) (hole + 1) k (λ z. i.1 (after_is k (last + 1) odd_in a c z))
-              ∙ prev_both_other m.half_edges (prev m last) hole (next m last) hole k (λ z. i.0 (after_is k last last_in a c z))
+              prev_both_other first (prev m (last + 1)) (hole + 1) (next m (last + 1)) (hole + 1) k (λ z. i.1 (ap (prev m) z ∙ (in_range (last + 1) odd_in).2))
+              ∙ prev_both_other m.half_edges (prev m last) hole (next m last) hole k (λ z. i.0 (ap (prev m) z ∙ (in_range last last_in).2))
               ∙ sym (pair_other last hole (prev m k) i.0 i.1)
         ]
       ]

@@ -7,6 +7,7 @@ use Rattle.half_edge_links.specs.Flip.{IsFlippable, Flips}
 use Rattle.half_edge_links.proofs.Rev.{rev-rev}
 use Rattle.half_edge_links.proofs.Writes.{AreSixPlaces}
 use Rattle.half_edge_links.proofs.Kept.{sound_kept}
+use Rattle.half_edge_links.proofs.Parts.{IsBusy, loop_sound}
 use Rattle.half_edge_links.proofs.Triangles.{IsTriangle, triangle_at, same_loop, six_round}
 
 -- an edge is none of the six round e
@@ -120,172 +121,58 @@ module _ (m new : Mesh) (e : ℕ) (s : IsSound m) (can : IsFlippable m e) (f : F
         faces = omega (arith, f.face_count);
       })
 
-  sound_edge : IsSoundEdge new e
-  sound_edge =
-      let l = left in
-      let r = right in
-      let at_h = f.edge in
-      let at_next = f.twin_prev in
-      let at_prev = f.edge_next in
-      let start = s.edges (prev m e) six.e_in in
-      let side = s.edges e six.a_in in
-      let at_rev = f.twin in
-      let twice = rev-rev e in
-      record {
-        next_in = rw f.edge_count (rw at_h.next six.f_in);
-        prev_in = rw f.edge_count (rw at_h.prev six.c_in);
-        origin_in = rw f.vertex_count (rw at_h.origin start.origin_in);
-        face_in = rw f.face_count (rw at_h.face side.face_in);
-        prev_next = cc;
-        next_prev = cc;
-        starts = cc;
-        same_face = cc;
-        three = λ inner. cc;
-        proper = λ same. six.af (sym (sym at_h.next ∙ same));
-        owned = λ inner. inl (cc f.left_face);
-        has_out = rw at_h.origin (has_out (origin m (prev m e)) start.has_out);
-      }
+  busy : (h : ℕ) → h < length m.half_edges → IsBusy new (origin m h)
+  busy h within = let here = s.edges h within in record { within = rw f.vertex_count here.origin_in; has_out = has_out (origin m h) here.has_out }
 
-  sound_twin_prev : IsSoundEdge new (prev m (rev e))
-  sound_twin_prev =
-      let l = left in
-      let r = right in
-      let at_h = f.twin_prev in
-      let at_next = f.edge_next in
-      let at_prev = f.edge in
-      let start = s.edges (prev m (rev e)) six.f_in in
-      let side = s.edges e six.a_in in
-      let at_rev = origin_kept (rev (prev m (rev e))) (λ same. six.bf (sym (ap rev same) ∙ rev-rev (prev m (rev e)))) (λ same. six.af (sym (rev-rev e) ∙ sym (ap rev same) ∙ rev-rev (prev m (rev e)))) in
-      record {
-        next_in = rw f.edge_count (rw at_h.next six.c_in);
-        prev_in = rw f.edge_count (rw at_h.prev six.a_in);
-        origin_in = rw f.vertex_count (rw at_h.origin start.origin_in);
-        face_in = rw f.face_count (rw at_h.face side.face_in);
-        prev_next = cc;
-        next_prev = cc;
-        starts = cc (start.starts);
-        same_face = cc;
-        three = λ inner. cc;
-        proper = λ same. six.cf (sym at_h.next ∙ same);
-        owned = λ inner. inr (inr (cc f.left_face));
-        has_out = rw at_h.origin (has_out (origin m (prev m (rev e))) start.has_out);
-      }
+  -- the far end of one of the four edges beside e
+  end_kept : (h : ℕ) → h < length m.half_edges → h ≢ e → h ≢ rev e → origin new (rev h) ≡ origin m (next m h)
+  end_kept h within off_e off_twin = origin_kept (rev h) (λ q. off_twin (sym (rev-rev h) ∙ ap rev q)) (λ q. off_e (sym (rev-rev h) ∙ ap rev q ∙ rev-rev e)) ∙ sym (s.edges h within).starts
 
-  sound_edge_next : IsSoundEdge new (next m e)
-  sound_edge_next =
+  left_sound : IsSoundEdge new e × IsSoundEdge new (prev m (rev e)) × IsSoundEdge new (next m e)
+  left_sound =
       let l = left in
       let r = right in
-      let at_h = f.edge_next in
-      let at_next = f.edge in
-      let at_prev = f.twin_prev in
-      let start = s.edges (next m e) six.c_in in
-      let side = s.edges e six.a_in in
-      let at_rev = origin_kept (rev (next m e)) (λ same. six.bc (sym (ap rev same) ∙ rev-rev (next m e))) (λ same. six.ac (sym (rev-rev e) ∙ sym (ap rev same) ∙ rev-rev (next m e))) in
-      record {
-        next_in = rw f.edge_count (rw at_h.next six.a_in);
-        prev_in = rw f.edge_count (rw at_h.prev six.f_in);
-        origin_in = rw f.vertex_count (rw at_h.origin start.origin_in);
-        face_in = rw f.face_count (rw at_h.face side.face_in);
-        prev_next = cc;
-        next_prev = cc;
-        starts = cc (start.starts);
-        same_face = cc;
-        three = λ inner. cc;
-        proper = λ same. six.ac (sym at_h.next ∙ same);
-        owned = λ inner. inr (inl (cc f.left_face));
-        has_out = rw at_h.origin (has_out (origin m (next m e)) start.has_out);
-      }
+      loop_sound new e (prev m (rev e)) (next m e) (origin m (prev m e)) (origin m (prev m (rev e))) (origin m (next m e)) (face m e) (record {
+        first = f.edge;
+        second = f.twin_prev;
+        third = f.edge_next;
+        within = rw f.edge_count (six.a_in, six.f_in, six.c_in);
+        apart = (six.af, λ q. six.cf (sym q), λ q. six.ac (sym q));
+        ends = (f.twin.origin, end_kept (prev m (rev e)) six.f_in (λ q. six.af (sym q)) (λ q. six.bf (sym q)) ∙ ap (origin m) r.next_prev ∙ sym (s.edges e six.a_in).starts, end_kept (next m e) six.c_in (λ q. six.ac (sym q)) (λ q. six.bc (sym q)) ∙ ap (origin m) l.next_next);
+        busy = (busy (prev m e) six.e_in, busy (prev m (rev e)) six.f_in, busy (next m e) six.c_in);
+        face_in = rw f.face_count (s.edges e six.a_in).face_in;
+      }) f.left_face
 
-  sound_twin : IsSoundEdge new (rev e)
-  sound_twin =
+  right_sound : IsSoundEdge new (rev e) × IsSoundEdge new (prev m e) × IsSoundEdge new (next m (rev e))
+  right_sound =
       let l = left in
       let r = right in
-      let at_h = f.twin in
-      let at_next = f.edge_prev in
-      let at_prev = f.twin_next in
-      let start = s.edges (prev m (rev e)) six.f_in in
-      let side = s.edges (rev e) six.b_in in
-      let at_rev = f.edge in
-      let twice = rev-rev e in
-      record {
-        next_in = rw f.edge_count (rw at_h.next six.e_in);
-        prev_in = rw f.edge_count (rw at_h.prev six.d_in);
-        origin_in = rw f.vertex_count (rw at_h.origin start.origin_in);
-        face_in = rw f.face_count (rw at_h.face side.face_in);
-        prev_next = cc;
-        next_prev = cc;
-        starts = cc;
-        same_face = cc;
-        three = λ inner. cc;
-        proper = λ same. six.be (sym (sym at_h.next ∙ same));
-        owned = λ inner. inl (cc f.right_face);
-        has_out = rw at_h.origin (has_out (origin m (prev m (rev e))) start.has_out);
-      }
-
-  sound_edge_prev : IsSoundEdge new (prev m e)
-  sound_edge_prev =
-      let l = left in
-      let r = right in
-      let at_h = f.edge_prev in
-      let at_next = f.twin_next in
-      let at_prev = f.twin in
-      let start = s.edges (prev m e) six.e_in in
-      let side = s.edges (rev e) six.b_in in
-      let at_rev = origin_kept (rev (prev m e)) (λ same. six.be (sym (ap rev same) ∙ rev-rev (prev m e))) (λ same. six.ae (sym (rev-rev e) ∙ sym (ap rev same) ∙ rev-rev (prev m e))) in
-      record {
-        next_in = rw f.edge_count (rw at_h.next six.d_in);
-        prev_in = rw f.edge_count (rw at_h.prev six.b_in);
-        origin_in = rw f.vertex_count (rw at_h.origin start.origin_in);
-        face_in = rw f.face_count (rw at_h.face side.face_in);
-        prev_next = cc;
-        next_prev = cc;
-        starts = cc (start.starts, rev-rev e);
-        same_face = cc;
-        three = λ inner. cc;
-        proper = λ same. six.de (sym at_h.next ∙ same);
-        owned = λ inner. inr (inr (cc f.right_face));
-        has_out = rw at_h.origin (has_out (origin m (prev m e)) start.has_out);
-      }
-
-  sound_twin_next : IsSoundEdge new (next m (rev e))
-  sound_twin_next =
-      let l = left in
-      let r = right in
-      let at_h = f.twin_next in
-      let at_next = f.twin in
-      let at_prev = f.edge_prev in
-      let start = s.edges (next m (rev e)) six.d_in in
-      let side = s.edges (rev e) six.b_in in
-      let at_rev = origin_kept (rev (next m (rev e))) (λ same. six.bd (sym (ap rev same) ∙ rev-rev (next m (rev e)))) (λ same. six.ad (sym (rev-rev e) ∙ sym (ap rev same) ∙ rev-rev (next m (rev e)))) in
-      record {
-        next_in = rw f.edge_count (rw at_h.next six.b_in);
-        prev_in = rw f.edge_count (rw at_h.prev six.e_in);
-        origin_in = rw f.vertex_count (rw at_h.origin start.origin_in);
-        face_in = rw f.face_count (rw at_h.face side.face_in);
-        prev_next = cc;
-        next_prev = cc;
-        starts = cc (start.starts);
-        same_face = cc;
-        three = λ inner. cc;
-        proper = λ same. six.bd (sym at_h.next ∙ same);
-        owned = λ inner. inr (inl (cc f.right_face));
-        has_out = rw at_h.origin (has_out (origin m (next m (rev e))) start.has_out);
-      }
+      let start : origin m (next m (rev e)) ≡ origin m e = (s.edges (rev e) six.b_in).starts ∙ ap (origin m) (rev-rev e) in
+      loop_sound new (rev e) (prev m e) (next m (rev e)) (origin m (prev m (rev e))) (origin m (prev m e)) (origin m (next m (rev e))) (face m (rev e)) (record {
+        first = f.twin;
+        second = f.edge_prev;
+        third = f.twin_next;
+        within = rw f.edge_count (six.b_in, six.e_in, six.d_in);
+        apart = (six.be, λ q. six.de (sym q), λ q. six.bd (sym q));
+        ends = (ap (origin new) (rev-rev e) ∙ f.edge.origin, end_kept (prev m e) six.e_in (λ q. six.ae (sym q)) (λ q. six.be (sym q)) ∙ ap (origin m) l.next_prev ∙ sym start, end_kept (next m (rev e)) six.d_in (λ q. six.ad (sym q)) (λ q. six.bd (sym q)) ∙ ap (origin m) r.next_next);
+        busy = (busy (prev m (rev e)) six.f_in, busy (prev m e) six.e_in, busy (next m (rev e)) six.d_in);
+        face_in = rw f.face_count (s.edges (rev e) six.b_in).face_in;
+      }) f.right_face
 
   sound_at : (h : ℕ) → h < length m.half_edges → IsSoundEdge new h
   sound_at h within =
       elim (cases_eq e h) [
-        | inl same ↦ rw (← same) sound_edge
+        | inl same ↦ rw (← same) left_sound.0
         | inr a ↦ elim (cases_eq (rev e) h) [
-          | inl same ↦ rw (← same) sound_twin
+          | inl same ↦ rw (← same) right_sound.0
           | inr b ↦ elim (cases_eq (next m e) h) [
-            | inl same ↦ rw (← same) sound_edge_next
+            | inl same ↦ rw (← same) left_sound.2
             | inr c ↦ elim (cases_eq (next m (rev e)) h) [
-              | inl same ↦ rw (← same) sound_twin_next
+              | inl same ↦ rw (← same) right_sound.2
               | inr d ↦ elim (cases_eq (prev m e) h) [
-                | inl same ↦ rw (← same) sound_edge_prev
+                | inl same ↦ rw (← same) right_sound.1
                 | inr x ↦ elim (cases_eq (prev m (rev e)) h) [
-                  | inl same ↦ rw (← same) sound_twin_prev
+                  | inl same ↦ rw (← same) left_sound.1
                   | inr y ↦ sound_away h within (record {
                     edge = λ q. a (sym q);
                     twin = λ q. b (sym q);

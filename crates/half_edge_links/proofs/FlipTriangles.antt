@@ -9,9 +9,6 @@ use Rattle.half_edge_links.proofs.FlipLemmas.{flips}
 use Rattle.half_edge_links.proofs.FlipSound.{IsAway, six, next_away, prev_away, kept, origin_kept, away_by_face}
 
 module _ (m new : Mesh) (e : ℕ) (s : IsSound m) (can : IsFlippable m e) (f : Flips m new e) where
-  same_triangle : (a b c x y z : ℕ) → a ≡ x → b ≡ y → c ≡ z → (let t : Triangle = record { first = a; second = b; third = c } in t) ≡ record { first = x; second = y; third = z }
-  same_triangle a b c x y z p q r = cc
-
   kept_triangle : (h : ℕ) → h < length m.half_edges → IsAway m e h → triangle_at new h ≡ triangle_at m h
   kept_triangle h within a =
       let at_h = kept m new e s can f h a in

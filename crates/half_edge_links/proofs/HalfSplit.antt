@@ -52,8 +52,8 @@ module _ (m mid : Mesh) (e v : ℕ) (s : IsSound m) (half : IsHalfSplittable m e
       i.other_prev e half.within off_twin (λ q. absurd (omega (arith, half.inner, ap (face m) q, twin.same_face, half.outer)))
 
   -- the corner opposite e, and its ends
-  apex : origin mid (prev mid e) ≡ origin m (prev m e)
-  apex = ap (origin mid) prev_same ∙ i.origins (prev m e) (s.edges e half.within).prev_in
+  pub apex_is : origin mid (prev mid e) ≡ origin m (prev m e)
+  apex_is = ap (origin mid) prev_same ∙ i.origins (prev m e) (s.edges e half.within).prev_in
 
   far : origin mid (next mid e) ≡ origin m (next m e)
   far = ap (origin mid) next_same ∙ i.origins (next m e) (s.edges e half.within).next_in
@@ -67,10 +67,7 @@ module _ (m mid : Mesh) (e v : ℕ) (s : IsSound m) (half : IsHalfSplittable m e
       ap (origin mid) i.edge.next ∙ i.there.origin ∙ twin.starts ∙ ap (origin m) (rev-rev e)
 
   pub corners_beside : IsAlone m v → origin mid (prev mid e) ≢ origin mid (prev mid (rev e))
-  corners_beside alone same = differs_alone m (prev m e) v s (s.edges e half.within).prev_in alone (sym apex ∙ same ∙ new_corner)
-
-  pub apex_is : origin mid (prev mid e) ≡ origin m (prev m e)
-  apex_is = apex
+  corners_beside alone same = differs_alone m (prev m e) v s (s.edges e half.within).prev_in alone (sym apex_is ∙ same ∙ new_corner)
 
   pub half_splits_triangles : (new : Mesh) → AddsTriangle m mid (origin m (rev e)) (origin m (rev (rev e))) v → FlipsTriangles mid new e → HalfSplitsTriangles m new v e
   half_splits_triangles new added turned =
@@ -82,7 +79,7 @@ module _ (m mid : Mesh) (e v : ℕ) (s : IsSound m) (half : IsHalfSplittable m e
       let cut = overwritten (triangles m) (record { first = origin m (rev e); second = origin m (rev (rev e)); third = v })
       (record { first = origin m (prev m e); second = v; third = origin m (next m e) })
       (record { first = v; second = origin m (prev m e); third = origin m e }) (face mid e - 1) (face mid (rev e) - 1) place last in
-      let a = apex in
+      let a = apex_is in
       let b = far in
       let c = new_corner in
       let d = near in
@@ -97,7 +94,7 @@ module _ (m mid : Mesh) (e v : ℕ) (s : IsSound m) (half : IsHalfSplittable m e
       let prev_e = prev_same in
       let next_t = i.edge.next in
       let prev_t = i.edge.prev in
-      let o_apex = apex in
+      let o_apex = apex_is in
       let o_far = far in
       let o_v = new_corner in
       let x = i.there in

@@ -7,8 +7,9 @@ use Rattle.half_edge_links.specs.Mesh.{Mesh, no_edge, edge_at, origin, next, pre
 use Rattle.half_edge_links.specs.Grow.{with_next, with_prev, IsOuter, hung_edges, hung, Hangs}
 use Rattle.half_edge_links.proofs.Rev.{rev_within}
 use Rattle.half_edge_links.proofs.FlipLemmas.{links_from}
-use Rattle.half_edge_links.proofs.Fields.{length-with_next, length-with_prev, next-with_next, next-with_next_other, next-with_prev, prev-with_prev, prev-with_prev_other, prev-with_next, face-with_next, face-with_prev, origin-with_next, origin-with_prev, length-two, two_before, two_at_0, two_at_1}
-use Rattle.half_edge_links.proofs.Parts.{rev_of_even, rev_of_odd, IsNextSound, IsPrevSound, IsInnerSound, sound_from, next_kept, prev_kept, inner_kept}
+use Rattle.half_edge_links.proofs.FieldWrites.{length-with_next, length-with_prev, next-with_next, other-with_next, next-with_prev, prev-with_prev, other-with_prev, prev-with_next, face-with_next, face-with_prev, origin-with_next, origin-with_prev}
+use Rattle.half_edge_links.proofs.Fields.{length-two, two_before, two_at_0, two_at_1}
+use Rattle.half_edge_links.proofs.Parts.{rev_of_even, rev_of_odd, IsInMesh, IsNextSound, IsInnerSound, sound_from, next_kept, inner_kept, next_at, prev_sound, grown_cases, still_out, still_named}
 
 module _ (hs : List HalfEdge) (x y v : ℕ) (x_in : x < length hs) (y_in : y < length hs) where
   abbrev first : List HalfEdge
@@ -32,22 +33,22 @@ module _ (hs : List HalfEdge) (x y v : ℕ) (x_in : x < length hs) (y_in : y < l
   before h within = two_before written _ _ no_edge h (rw length-written within)
 
   next_x : (edge_at (hung_edges hs x y v (length hs)) x).next ≡ length hs
-  next_x = ap (λ (q : HalfEdge). q.next) (before x x_in) ∙ next-with_prev first y _ y_first x ∙ next-with_next hs x _ x_in
+  next_x = ap (λ (q : HalfEdge). q.next) (before x x_in) ∙ next-with_prev first y _ x ∙ next-with_next hs x _ x_in
 
   next_other : (h : ℕ) → h < length hs → h ≢ x → (edge_at (hung_edges hs x y v (length hs)) h).next ≡ (edge_at hs h).next
-  next_other h within differs = ap (λ (q : HalfEdge). q.next) (before h within) ∙ next-with_prev first y _ y_first h ∙ next-with_next_other hs x _ h differs
+  next_other h within differs = ap (λ (q : HalfEdge). q.next) (before h within) ∙ next-with_prev first y _ h ∙ ap (λ (q : HalfEdge). q.next) (other-with_next hs x _ h differs)
 
   prev_y : (edge_at (hung_edges hs x y v (length hs)) y).prev ≡ length hs + 1
   prev_y = ap (λ (q : HalfEdge). q.prev) (before y y_in) ∙ prev-with_prev first y _ y_first
 
   prev_other : (h : ℕ) → h < length hs → h ≢ y → (edge_at (hung_edges hs x y v (length hs)) h).prev ≡ (edge_at hs h).prev
-  prev_other h within differs = ap (λ (q : HalfEdge). q.prev) (before h within) ∙ prev-with_prev_other first y _ h differs ∙ prev-with_next hs x _ x_in h
+  prev_other h within differs = ap (λ (q : HalfEdge). q.prev) (before h within) ∙ ap (λ (q : HalfEdge). q.prev) (other-with_prev first y _ h differs) ∙ prev-with_next hs x _ h
 
   origin_kept : (h : ℕ) → h < length hs → (edge_at (hung_edges hs x y v (length hs)) h).origin ≡ (edge_at hs h).origin
-  origin_kept h within = ap (λ (q : HalfEdge). q.origin) (before h within) ∙ origin-with_prev first y _ y_first h ∙ origin-with_next hs x _ x_in h
+  origin_kept h within = ap (λ (q : HalfEdge). q.origin) (before h within) ∙ origin-with_prev first y _ h ∙ origin-with_next hs x _ h
 
   face_kept : (h : ℕ) → h < length hs → (edge_at (hung_edges hs x y v (length hs)) h).face ≡ (edge_at hs h).face
-  face_kept h within = ap (λ (q : HalfEdge). q.face) (before h within) ∙ face-with_prev first y _ y_first h ∙ face-with_next hs x _ x_in h
+  face_kept h within = ap (λ (q : HalfEdge). q.face) (before h within) ∙ face-with_prev first y _ h ∙ face-with_next hs x _ h
 
   at_0 : edge_at (hung_edges hs x y v (length hs)) (length hs) ≡ record { origin = (edge_at hs y).origin; next = length hs + 1; prev = x; face = (edge_at hs x).face }
   unfolding hung_edges
@@ -95,11 +96,7 @@ module _ (m new : Mesh) (x v : ℕ) (s : IsSound m) (outer : IsOuter m x) (alone
   rev_kept h within = i.origins (rev h) (rev_within h _ s.even within)
 
   has_out : (u : ℕ) → IsSome (out_edge m u) → IsSome (out_edge new u)
-  has_out u had =
-      elim (cases_eq u v) [
-        | inl same ↦ rw (same, i.out) refl
-        | inr differs ↦ rw (i.other_outs u differs) had
-      ]
+  has_out = still_out m new v (length m.half_edges + 1) i.out i.other_outs
 
   more : length m.half_edges ≤ length new.half_edges
   more = omega (arith, i.edge_count)
@@ -110,40 +107,28 @@ module _ (m new : Mesh) (x v : ℕ) (s : IsSound m) (outer : IsOuter m x) (alone
   named : (k : ℕ) → face_edge new k ≡ face_edge m k
   named k = rw i.face_edges refl
 
-  next_ok : (h : ℕ) → h < length m.half_edges → IsNextSound new h
+  next_ok : (h : ℕ) → h < length new.half_edges → IsNextSound new h
   next_ok h within =
-      let here = s.edges h within in
-      elim (cases_eq x h) [
+      elim (cases_eq (length m.half_edges) h) [
         | inl same ↦ rw (← same) (
-            let a = i.there in
-            let r = rev_kept x outer.0 in
-            let f = i.faces x outer.0 in
-            let at = i.next_at in
-            record {
-              next_in = rw i.next_at (omega (arith, i.edge_count));
-              prev_next = cc;
-              starts = cc at_x.starts;
-              same_face = cc;
-              proper = λ q. absurd (omega (arith, i.next_at, q, outer.0));
-            })
-        | inr differs ↦
-            next_kept m new h here (i.other_next h within (λ q. differs (sym q))) (i.other_prev (next m h) here.next_in (λ q. differs (sym at_x.prev_next ∙ ap (prev m) (sym q) ∙ here.prev_next)))
-            (i.origins (next m h) here.next_in) (rev_kept h within) (i.faces h within) (i.faces (next m h) here.next_in) more
-      ]
-
-  prev_ok : (h : ℕ) → h < length m.half_edges → IsPrevSound new h
-  prev_ok h within =
-      let here = s.edges h within in
-      elim (cases_eq (next m x) h) [
-        | inl same ↦ rw (← same) (
-            let b = i.back in
-            let at = i.prev_at in
-            record {
-              prev_in = rw i.prev_at (omega (arith, i.edge_count));
-              next_prev = cc;
-            })
-        | inr differs ↦
-            prev_kept m new h here (i.other_prev h within (λ q. differs (sym q))) (i.other_next (prev m h) here.prev_in (λ q. differs (ap (next m) (sym q) ∙ here.next_prev))) more
+            next_at new (length m.half_edges) (length m.half_edges + 1) i.there.next (omega (arith, i.edge_count)) i.back.prev (sym (ap (origin new) rev_there)) (i.back.face ∙ sym i.there.face)
+            (λ q. absurd (omega arith)))
+        | inr not_there ↦ elim (cases_eq (length m.half_edges + 1) h) [
+          | inl same ↦ rw (← same) (
+              next_at new (length m.half_edges + 1) (next m x) i.back.next (omega (arith, at_x.next_in, more)) i.prev_at (i.origins _ at_x.next_in ∙ sym (ap (origin new) rev_back ∙ i.there.origin))
+              (i.faces _ at_x.next_in ∙ at_x.same_face ∙ sym i.back.face) (λ q. absurd (omega (arith, at_x.next_in, q))))
+          | inr not_back ↦
+              let h_in : h < length m.half_edges = omega (arith, i.edge_count) in
+              let here = s.edges h h_in in
+              elim (cases_eq x h) [
+                | inl same ↦ rw (← same) (
+                    next_at new x (length m.half_edges) i.next_at (omega (arith, i.edge_count)) i.there.prev (i.there.origin ∙ at_x.starts ∙ sym (rev_kept x outer.0)) (i.there.face ∙ sym (i.faces x outer.0))
+                    (λ q. absurd (omega (arith, outer.0, q))))
+                | inr differs ↦
+                    next_kept m new h here (i.other_next h h_in (λ q. differs (sym q))) (i.other_prev (next m h) here.next_in (λ q. differs (sym at_x.prev_next ∙ ap (prev m) (sym q) ∙ here.prev_next)))
+                    (i.origins (next m h) here.next_in) (rev_kept h h_in) (i.faces h h_in) (i.faces (next m h) here.next_in) more
+              ]
+        ]
       ]
 
   inner_ok : (h : ℕ) → h < length m.half_edges → 0 < face new h → IsInnerSound new h
@@ -157,83 +142,44 @@ module _ (m new : Mesh) (x v : ℕ) (s : IsSound m) (outer : IsOuter m x) (alone
       (i.other_next (next m h) here.next_in (λ q. absurd (omega (arith, was, here.same_face, ap (face m) q, outer.1))))
       (named (face m h))
 
-  sound_old : (h : ℕ) → h < length m.half_edges → IsSoundEdge new h
-  sound_old h within =
-      let here = s.edges h within in
-      sound_from new h (record {
-        origin_in = rw (i.origins h within, i.vertex_count) here.origin_in;
-        face_in = rw (i.faces h within, face_count) here.face_in;
-        has_out = rw (i.origins h within) (has_out (origin m h) here.has_out);
-      }) (next_ok h within) (prev_ok h within) (inner_ok h within)
-
-  sound_there : IsSoundEdge new (length m.half_edges)
-  sound_there =
-      let a = i.there in
-      let b = i.back in
-      let r = rev_there in
-      let f = outer.1 in
-      let after = s.edges (next m x) at_x.next_in in
-      let at = i.next_at in
-      record {
-        next_in = rw a.next (omega (arith, i.edge_count));
-        prev_in = rw a.prev (omega (arith, i.edge_count, outer.0));
-        origin_in = rw (a.origin, i.vertex_count) after.origin_in;
-        face_in = rw a.face (omega (arith, outer.1));
-        prev_next = cc;
-        next_prev = cc;
-        starts = cc;
-        same_face = cc;
-        three = λ some. absurd (omega (arith, some, a.face, outer.1));
-        proper = λ q. absurd (omega (arith, q, a.next));
-        owned = λ some. absurd (omega (arith, some, a.face, outer.1));
-        has_out = rw a.origin (has_out _ after.has_out);
-      }
-
-  sound_back : IsSoundEdge new (length m.half_edges + 1)
-  sound_back =
-      let a = i.there in
-      let b = i.back in
-      let r = rev_back in
-      let f = outer.1 in
-      let at = i.prev_at in
-      let o = i.origins (next m x) at_x.next_in in
-      let g = i.faces (next m x) at_x.next_in in
-      let y = after_outer in
-      record {
-        next_in = rw b.next (omega (arith, i.edge_count, at_x.next_in));
-        prev_in = rw b.prev (omega (arith, i.edge_count));
-        origin_in = rw (b.origin, i.vertex_count) alone.0;
-        face_in = rw b.face (omega (arith, outer.1));
-        prev_next = cc;
-        next_prev = cc;
-        starts = cc;
-        same_face = cc;
-        three = λ some. absurd (omega (arith, some, b.face, outer.1));
-        proper = λ q. absurd (omega (arith, q, b.next, at_x.next_in));
-        owned = λ some. absurd (omega (arith, some, b.face, outer.1));
-        has_out = rw (b.origin, i.out) refl;
-      }
-
-  sound_at : (h : ℕ) → h < length new.half_edges → IsSoundEdge new h
-  sound_at h within =
-      elim (cases_eq (length m.half_edges) h) [
-        | inl same ↦ rw (← same) sound_there
-        | inr p ↦ elim (cases_eq (length m.half_edges + 1) h) [
-          | inl same ↦ rw (← same) sound_back
-          | inr q ↦ sound_old h (omega (arith, i.edge_count))
+  in_mesh : (h : ℕ) → h < length new.half_edges → IsInMesh new h
+  in_mesh h within =
+      elim (grown_cases h (length m.half_edges) (rw i.edge_count at within)) [
+        | inl old ↦
+            let here = s.edges h old in
+            record {
+              origin_in = rw (i.origins h old, i.vertex_count) here.origin_in;
+              face_in = rw (i.faces h old, face_count) here.face_in;
+              has_out = rw (i.origins h old) (has_out (origin m h) here.has_out);
+            }
+        | inr j ↦ elim j [
+          | inl there ↦
+              let after = s.edges (next m x) at_x.next_in in
+              record {
+                origin_in = rw (there, i.there.origin, i.vertex_count) after.origin_in;
+                face_in = rw (there, i.there.face, outer.1) (omega arith);
+                has_out = rw (there, i.there.origin) (has_out _ after.has_out);
+              }
+          | inr back ↦ record {
+            origin_in = rw (back, i.back.origin, i.vertex_count) alone.0;
+            face_in = rw (back, i.back.face, outer.1) (omega arith);
+            has_out = rw (back, i.back.origin, i.out) refl;
+          }
         ]
       ]
 
+  sound_at : (h : ℕ) → h < length new.half_edges → IsSoundEdge new h
+  sound_at h within =
+      sound_from new h (in_mesh h within) (next_ok h within) (prev_sound new next_ok h within) (λ some. elim (grown_cases h (length m.half_edges) (rw i.edge_count at within)) [
+        | inl old ↦ inner_ok h old some
+        | inr j ↦ elim j [
+          | inl there ↦ absurd (omega (arith, some, ap (face new) there ∙ i.there.face ∙ outer.1))
+          | inr back ↦ absurd (omega (arith, some, ap (face new) back ∙ i.back.face ∙ outer.1))
+        ]
+      ])
+
   vertices_kept : (u h : ℕ) → out_edge new u ≡ Some h → (h < length new.half_edges) × (origin new h ≡ u)
-  vertices_kept u h is =
-      elim (cases_eq u v) [
-        | inl same ↦
-            let at : length m.half_edges + 1 ≡ h = cc (i.out) in
-            (omega (arith, i.edge_count), cc (i.back.origin))
-        | inr differs ↦
-            let had = s.vertices u h (sym (i.other_outs u differs) ∙ is) in
-            (omega (arith, i.edge_count, had.0), i.origins h had.0 ∙ had.1)
-      ]
+  vertices_kept = still_named m new v (length m.half_edges + 1) i.out i.other_outs s (omega (arith, i.edge_count)) i.back.origin (λ h within off. (omega (arith, i.edge_count, within), i.origins h within))
 
   pub sound_after_hang : IsSound new
   sound_after_hang = record {

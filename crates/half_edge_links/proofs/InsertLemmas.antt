@@ -43,23 +43,12 @@ module _ {X : Type 0} (xs : List X) (i j k : ℕ) (u v w a b c d e f o : X) (p :
   unfolding written
   grown_at_k = rw (grown_is, get_or_append_left written (a ∷ b ∷ c ∷ d ∷ e ∷ f ∷ []) o k (omega (arith, length-written, p.k_in))) (grind (arith, get_or-set_same, get_or-set_other, length-set))
 
+  -- a push
+  grown_at : (q : ℕ) → get_or (written ++ a ∷ [] ++ b ∷ [] ++ c ∷ [] ++ d ∷ [] ++ e ∷ [] ++ f ∷ []) (length xs + q) o ≡ get_or (a ∷ b ∷ c ∷ d ∷ e ∷ f ∷ []) q o
+  grown_at q = rw (grown_is, ← length-written) (get_or-append-add written (a ∷ b ∷ c ∷ d ∷ e ∷ f ∷ []) q o)
+
   grown_at_0 : get_or (written ++ a ∷ [] ++ b ∷ [] ++ c ∷ [] ++ d ∷ [] ++ e ∷ [] ++ f ∷ []) (length xs) o ≡ a
-  grown_at_0 = rw (grown_is, ← length-written) (rw add-zero at (get_or-append-add written (a ∷ b ∷ c ∷ d ∷ e ∷ f ∷ []) 0 o))
-
-  grown_at_1 : get_or (written ++ a ∷ [] ++ b ∷ [] ++ c ∷ [] ++ d ∷ [] ++ e ∷ [] ++ f ∷ []) (length xs + 1) o ≡ b
-  grown_at_1 = rw (grown_is, ← length-written) (get_or-append-add written (a ∷ b ∷ c ∷ d ∷ e ∷ f ∷ []) 1 o)
-
-  grown_at_2 : get_or (written ++ a ∷ [] ++ b ∷ [] ++ c ∷ [] ++ d ∷ [] ++ e ∷ [] ++ f ∷ []) (length xs + 2) o ≡ c
-  grown_at_2 = rw (grown_is, ← length-written) (get_or-append-add written (a ∷ b ∷ c ∷ d ∷ e ∷ f ∷ []) 2 o)
-
-  grown_at_3 : get_or (written ++ a ∷ [] ++ b ∷ [] ++ c ∷ [] ++ d ∷ [] ++ e ∷ [] ++ f ∷ []) (length xs + 3) o ≡ d
-  grown_at_3 = rw (grown_is, ← length-written) (get_or-append-add written (a ∷ b ∷ c ∷ d ∷ e ∷ f ∷ []) 3 o)
-
-  grown_at_4 : get_or (written ++ a ∷ [] ++ b ∷ [] ++ c ∷ [] ++ d ∷ [] ++ e ∷ [] ++ f ∷ []) (length xs + 4) o ≡ e
-  grown_at_4 = rw (grown_is, ← length-written) (get_or-append-add written (a ∷ b ∷ c ∷ d ∷ e ∷ f ∷ []) 4 o)
-
-  grown_at_5 : get_or (written ++ a ∷ [] ++ b ∷ [] ++ c ∷ [] ++ d ∷ [] ++ e ∷ [] ++ f ∷ []) (length xs + 5) o ≡ f
-  grown_at_5 = rw (grown_is, ← length-written) (get_or-append-add written (a ∷ b ∷ c ∷ d ∷ e ∷ f ∷ []) 5 o)
+  grown_at_0 = rw add-zero at (grown_at 0)
 
   grown_other : (h : ℕ) → h < length xs → h ≢ i → h ≢ j → h ≢ k → get_or (written ++ a ∷ [] ++ b ∷ [] ++ c ∷ [] ++ d ∷ [] ++ e ∷ [] ++ f ∷ []) h o ≡ get_or xs h o
   unfolding written
@@ -83,11 +72,11 @@ inserts m v a s inner alone =
       second = links_from _ _ _ (grown_at_j m.half_edges _ _ _ _ _ _ _ _ _ _ _ _ no_edge p);
       third = links_from _ _ _ (grown_at_k m.half_edges _ _ _ _ _ _ _ _ _ _ _ _ no_edge p);
       from_first = links_from _ _ _ (grown_at_0 m.half_edges _ _ _ _ _ _ _ _ _ _ _ _ no_edge p);
-      to_first = links_from _ _ _ (grown_at_1 m.half_edges _ _ _ _ _ _ _ _ _ _ _ _ no_edge p);
-      from_second = links_from _ _ _ (grown_at_2 m.half_edges _ _ _ _ _ _ _ _ _ _ _ _ no_edge p);
-      to_second = links_from _ _ _ (grown_at_3 m.half_edges _ _ _ _ _ _ _ _ _ _ _ _ no_edge p);
-      from_third = links_from _ _ _ (grown_at_4 m.half_edges _ _ _ _ _ _ _ _ _ _ _ _ no_edge p);
-      to_third = links_from _ _ _ (grown_at_5 m.half_edges _ _ _ _ _ _ _ _ _ _ _ _ no_edge p);
+      to_first = links_from _ _ _ (grown_at m.half_edges _ _ _ _ _ _ _ _ _ _ _ _ no_edge p 1);
+      from_second = links_from _ _ _ (grown_at m.half_edges _ _ _ _ _ _ _ _ _ _ _ _ no_edge p 2);
+      to_second = links_from _ _ _ (grown_at m.half_edges _ _ _ _ _ _ _ _ _ _ _ _ no_edge p 3);
+      from_third = links_from _ _ _ (grown_at m.half_edges _ _ _ _ _ _ _ _ _ _ _ _ no_edge p 4);
+      to_third = links_from _ _ _ (grown_at m.half_edges _ _ _ _ _ _ _ _ _ _ _ _ no_edge p 5);
       other_edges = λ h within x y z. grown_other m.half_edges _ _ _ _ _ _ _ _ _ _ _ _ no_edge p h within x y z;
       edge_count = length-grown m.half_edges _ _ _ _ _ _ _ _ _ _ _ _ no_edge p;
       vertex_count = length-set m.out_edges v _;

@@ -2,10 +2,10 @@
 use Rattle.std.proofs.Common.{◌≡◌, ◌≢◌, ℕ, ◌+◌, ◌%◌, ◌<◌, ◌≤◌, length, Some, IsSome, refl, sym, ap, ◌∙◌, inl, inr, arith}
 use Rattle.std.proofs.lemmas.Bool.{cases_eq}
 use Rattle.half_edge_links.specs.declared.records.HalfEdge.{HalfEdge}
-use Rattle.half_edge_links.specs.Mesh.{Mesh, edge_at, origin, next, prev, face, face_edge, out_edge, rev, IsSound, IsSoundEdge, IsInnerEdge, IsAlone}
+use Rattle.half_edge_links.specs.Mesh.{Mesh, edge_at, origin, next, prev, face, face_edge, out_edge, rev, IsSound, IsSoundEdge, IsInnerEdge, IsAlone, HasLinks}
 use Rattle.half_edge_links.specs.Insert.{Inserts}
 use Rattle.half_edge_links.proofs.Rev.{rev_within}
-use Rattle.half_edge_links.proofs.Parts.{rev_of_even, rev_of_odd}
+use Rattle.half_edge_links.proofs.Parts.{rev_of_even, rev_of_odd, IsBusy, loop_sound, still_out, still_named}
 use Rattle.half_edge_links.proofs.Kept.{sound_kept}
 use Rattle.half_edge_links.proofs.Triangles.{IsTriangle, triangle_at, same_loop}
 
@@ -92,14 +92,7 @@ module _ (m new : Mesh) (v f a n g : ℕ) (s : IsSound m) (inner : IsInnerEdge m
       ]
 
   has_out : (u : ℕ) → IsSome (out_edge m u) → IsSome (out_edge new u)
-  has_out u had =
-      elim (cases_eq u v) [
-        | inl same ↦ rw (same, i.out) refl
-        | inr differs ↦ rw (i.other_outs u differs) had
-      ]
-
-  has_out_v : IsSome (out_edge new v)
-  has_out_v = rw i.out refl
+  has_out = still_out m new v (n + 1) i.out i.other_outs
 
   rev_in : (h : ℕ) → h < n → rev h < n
   rev_in h within = rev_within h n n_even within
@@ -127,236 +120,54 @@ module _ (m new : Mesh) (v f a n g : ℕ) (s : IsSound m) (inner : IsInnerEdge m
         faces = omega (arith, i.face_count);
       })
 
-  sound_first : IsSoundEdge new a
-  sound_first =
-      let at_h = i.first in
-      let at_next = i.from_second in
-      let at_prev = i.to_first in
-      let t = round in
-      let start = s.edges a round.h_in in
-      let at_rev = origin_kept (rev a) (rev_in a (omega (arith, at_n, round.h_in))) in
-      record {
-        next_in = rw at_h.next (omega (arith, i.edge_count));
-        prev_in = rw at_h.prev (omega (arith, i.edge_count));
-        origin_in = rw (at_h.origin, i.vertex_count) start.origin_in;
-        face_in = rw (at_h.face, i.face_count) (omega (arith, face_within));
-        prev_next = cc;
-        next_prev = cc;
-        starts = cc (start.starts, at_rev);
-        same_face = cc;
-        three = λ inside. cc;
-        proper = λ same. absurd (omega (arith, at_n, at_h.next, same, round.h_in));
-        owned = λ inside. inl (cc (i.named));
-        has_out = rw at_h.origin (has_out (origin m a) start.has_out);
-      }
+  busy_old : (h : ℕ) → h < length m.half_edges → IsBusy new (origin m h)
+  busy_old h within = let here = s.edges h within in record { within = rw i.vertex_count here.origin_in; has_out = has_out (origin m h) here.has_out }
 
-  sound_from_second : IsSoundEdge new (n + 2)
-  sound_from_second =
-      let at_h = i.from_second in
-      let at_next = i.to_first in
-      let at_prev = i.first in
-      let t = round in
-      let start = s.edges (next m a) round.next_in in
-      let at_rev = i.to_second in
-      let rev_is = rev2 in
-      record {
-        next_in = rw at_h.next (omega (arith, i.edge_count));
-        prev_in = rw at_h.prev (omega (arith, i.edge_count, at_n, round.h_in));
-        origin_in = rw (at_h.origin, i.vertex_count) start.origin_in;
-        face_in = rw (at_h.face, i.face_count) (omega (arith, face_within));
-        prev_next = cc;
-        next_prev = cc;
-        starts = cc;
-        same_face = cc;
-        three = λ inside. cc;
-        proper = λ same. absurd (omega (arith, at_h.next, same));
-        owned = λ inside. inr (inr (cc (i.named)));
-        has_out = rw at_h.origin (has_out (origin m (next m a)) start.has_out);
-      }
+  -- old edge h, edge b from its end to v and edge d from v to its start go round a face
+  face_sound : (h b d y k : ℕ) → h < n → (n ≤ b) × (b < n + 6) → (n ≤ d) × (d < n + 6) → b ≢ d → k ≤ g + 2 → origin m (next m h) ≡ y → HasLinks new h (origin m h) b d k → HasLinks new b y d h k → HasLinks new d v h b k → origin new (rev b) ≡ v → origin new (rev d) ≡ origin m h → face_edge new k ≡ h → IsSoundEdge new h × IsSoundEdge new b × IsSoundEdge new d
+  face_sound h b d y k h_in b_in d_in b_d k_in at_y first second third at_b at_d =
+      let old : h < length m.half_edges = omega (arith, at_n) in
+      let here = s.edges h old in
+      loop_sound new h b d (origin m h) y v k (record {
+        first = first;
+        second = second;
+        third = third;
+        within = (omega (arith, i.edge_count), omega (arith, i.edge_count, b_in.1), omega (arith, i.edge_count, d_in.1));
+        apart = (λ q. absurd (omega (arith, b_in.0)), b_d, λ q. absurd (omega (arith, d_in.0)));
+        ends = (origin_kept (rev h) (rev_in h h_in) ∙ sym here.starts ∙ at_y, at_b, at_d);
+        busy = (busy_old h old, rw at_y at (busy_old (next m h) here.next_in), record { within = rw i.vertex_count alone.0; has_out = rw i.out refl });
+        face_in = omega (arith, i.face_count);
+      })
 
-  sound_to_first : IsSoundEdge new (n + 1)
-  sound_to_first =
-      let at_h = i.to_first in
-      let at_next = i.first in
-      let at_prev = i.from_second in
-      let t = round in
-      let at_rev = i.from_first in
-      let rev_is = rev1 in
-      record {
-        next_in = rw at_h.next (omega (arith, i.edge_count, at_n, round.h_in));
-        prev_in = rw at_h.prev (omega (arith, i.edge_count));
-        origin_in = rw (at_h.origin, i.vertex_count) alone.0;
-        face_in = rw (at_h.face, i.face_count) (omega (arith, face_within));
-        prev_next = cc;
-        next_prev = cc;
-        starts = cc;
-        same_face = cc;
-        three = λ inside. cc;
-        proper = λ same. absurd (omega (arith, at_n, at_h.next, same, round.h_in));
-        owned = λ inside. inr (inl (cc (i.named)));
-        has_out = rw at_h.origin has_out_v;
-      }
+  first_sound : IsSoundEdge new a × IsSoundEdge new (n + 2) × IsSoundEdge new (n + 1)
+  first_sound = face_sound a (n + 2) (n + 1) _ f (omega (arith, at_n, round.h_in)) (omega arith, omega arith) (omega arith, omega arith) (λ q. absurd (omega arith)) (omega (arith, face_within)) refl i.first i.from_second i.to_first (ap (origin new) rev2 ∙ i.to_second.origin) (ap (origin new) rev1 ∙ i.from_first.origin) i.named
 
-  sound_second : IsSoundEdge new (next m a)
-  sound_second =
-      let at_h = i.second in
-      let at_next = i.from_third in
-      let at_prev = i.to_second in
-      let t = round in
-      let start = s.edges (next m a) round.next_in in
-      let at_rev = origin_kept (rev (next m a)) (rev_in (next m a) (omega (arith, at_n, round.next_in))) in
-      record {
-        next_in = rw at_h.next (omega (arith, i.edge_count));
-        prev_in = rw at_h.prev (omega (arith, i.edge_count));
-        origin_in = rw (at_h.origin, i.vertex_count) start.origin_in;
-        face_in = rw (at_h.face, i.face_count) (omega arith);
-        prev_next = cc;
-        next_prev = cc;
-        starts = cc (start.starts, at_rev);
-        same_face = cc;
-        three = λ inside. cc;
-        proper = λ same. absurd (omega (arith, at_n, at_h.next, same, round.next_in));
-        owned = λ inside. inl (cc (i.second_face));
-        has_out = rw at_h.origin (has_out (origin m (next m a)) start.has_out);
-      }
+  second_sound : IsSoundEdge new (next m a) × IsSoundEdge new (n + 4) × IsSoundEdge new (n + 3)
+  second_sound = face_sound (next m a) (n + 4) (n + 3) _ (g + 1) (omega (arith, at_n, round.next_in)) (omega arith, omega arith) (omega arith, omega arith) (λ q. absurd (omega arith)) (omega arith) (ap (origin m) round.next_next) i.second i.from_third i.to_second (ap (origin new) rev4 ∙ i.to_third.origin) (ap (origin new) rev3 ∙ i.from_second.origin) i.second_face
 
-  sound_from_third : IsSoundEdge new (n + 4)
-  sound_from_third =
-      let at_h = i.from_third in
-      let at_next = i.to_second in
-      let at_prev = i.second in
-      let t = round in
-      let start = s.edges (prev m a) round.prev_in in
-      let at_rev = i.to_third in
-      let rev_is = rev4 in
-      record {
-        next_in = rw at_h.next (omega (arith, i.edge_count));
-        prev_in = rw at_h.prev (omega (arith, i.edge_count, at_n, round.next_in));
-        origin_in = rw (at_h.origin, i.vertex_count) start.origin_in;
-        face_in = rw (at_h.face, i.face_count) (omega arith);
-        prev_next = cc;
-        next_prev = cc;
-        starts = cc;
-        same_face = cc;
-        three = λ inside. cc;
-        proper = λ same. absurd (omega (arith, at_h.next, same));
-        owned = λ inside. inr (inr (cc (i.second_face)));
-        has_out = rw at_h.origin (has_out (origin m (prev m a)) start.has_out);
-      }
-
-  sound_to_second : IsSoundEdge new (n + 3)
-  sound_to_second =
-      let at_h = i.to_second in
-      let at_next = i.second in
-      let at_prev = i.from_third in
-      let t = round in
-      let at_rev = i.from_second in
-      let rev_is = rev3 in
-      record {
-        next_in = rw at_h.next (omega (arith, i.edge_count, at_n, round.next_in));
-        prev_in = rw at_h.prev (omega (arith, i.edge_count));
-        origin_in = rw (at_h.origin, i.vertex_count) alone.0;
-        face_in = rw (at_h.face, i.face_count) (omega arith);
-        prev_next = cc;
-        next_prev = cc;
-        starts = cc;
-        same_face = cc;
-        three = λ inside. cc;
-        proper = λ same. absurd (omega (arith, at_n, at_h.next, same, round.next_in));
-        owned = λ inside. inr (inl (cc (i.second_face)));
-        has_out = rw at_h.origin has_out_v;
-      }
-
-  sound_third : IsSoundEdge new (prev m a)
-  sound_third =
-      let at_h = i.third in
-      let at_next = i.from_first in
-      let at_prev = i.to_third in
-      let t = round in
-      let start = s.edges (prev m a) round.prev_in in
-      let at_rev = origin_kept (rev (prev m a)) (rev_in (prev m a) (omega (arith, at_n, round.prev_in))) in
-      record {
-        next_in = rw at_h.next (omega (arith, i.edge_count));
-        prev_in = rw at_h.prev (omega (arith, i.edge_count));
-        origin_in = rw (at_h.origin, i.vertex_count) start.origin_in;
-        face_in = rw (at_h.face, i.face_count) (omega arith);
-        prev_next = cc;
-        next_prev = cc;
-        starts = cc (start.starts, at_rev);
-        same_face = cc;
-        three = λ inside. cc;
-        proper = λ same. absurd (omega (arith, at_n, at_h.next, same, round.prev_in));
-        owned = λ inside. inl (cc (i.third_face));
-        has_out = rw at_h.origin (has_out (origin m (prev m a)) start.has_out);
-      }
-
-  sound_from_first : IsSoundEdge new n
-  sound_from_first =
-      let at_h = i.from_first in
-      let at_next = i.to_third in
-      let at_prev = i.third in
-      let t = round in
-      let start = s.edges a round.h_in in
-      let at_rev = i.to_first in
-      let rev_is = rev0 in
-      record {
-        next_in = rw at_h.next (omega (arith, i.edge_count));
-        prev_in = rw at_h.prev (omega (arith, i.edge_count, at_n, round.prev_in));
-        origin_in = rw (at_h.origin, i.vertex_count) start.origin_in;
-        face_in = rw (at_h.face, i.face_count) (omega arith);
-        prev_next = cc;
-        next_prev = cc;
-        starts = cc;
-        same_face = cc;
-        three = λ inside. cc;
-        proper = λ same. absurd (omega (arith, at_h.next, same));
-        owned = λ inside. inr (inr (cc (i.third_face)));
-        has_out = rw at_h.origin (has_out (origin m a) start.has_out);
-      }
-
-  sound_to_third : IsSoundEdge new (n + 5)
-  sound_to_third =
-      let at_h = i.to_third in
-      let at_next = i.third in
-      let at_prev = i.from_first in
-      let t = round in
-      let at_rev = i.from_third in
-      let rev_is = rev5 in
-      record {
-        next_in = rw at_h.next (omega (arith, i.edge_count, at_n, round.prev_in));
-        prev_in = rw at_h.prev (omega (arith, i.edge_count));
-        origin_in = rw (at_h.origin, i.vertex_count) alone.0;
-        face_in = rw (at_h.face, i.face_count) (omega arith);
-        prev_next = cc;
-        next_prev = cc;
-        starts = cc;
-        same_face = cc;
-        three = λ inside. cc;
-        proper = λ same. absurd (omega (arith, at_n, at_h.next, same, round.prev_in));
-        owned = λ inside. inr (inl (cc (i.third_face)));
-        has_out = rw at_h.origin has_out_v;
-      }
+  third_sound : IsSoundEdge new (prev m a) × IsSoundEdge new n × IsSoundEdge new (n + 5)
+  third_sound = face_sound (prev m a) n (n + 5) _ (g + 2) (omega (arith, at_n, round.prev_in)) (omega arith, omega arith) (omega arith, omega arith) (λ q. absurd (omega arith)) (omega arith) (ap (origin m) round.next_prev) i.third i.from_first i.to_third (ap (origin new) rev0 ∙ i.to_first.origin) (ap (origin new) rev5 ∙ i.from_third.origin) i.third_face
 
   sound_at : (h : ℕ) → h < length new.half_edges → IsSoundEdge new h
   sound_at h within =
       elim (cases_eq a h) [
-        | inl same ↦ rw (← same) sound_first
+        | inl same ↦ rw (← same) first_sound.0
         | inr x ↦ elim (cases_eq (next m a) h) [
-          | inl same ↦ rw (← same) sound_second
+          | inl same ↦ rw (← same) second_sound.0
           | inr y ↦ elim (cases_eq (prev m a) h) [
-            | inl same ↦ rw (← same) sound_third
+            | inl same ↦ rw (← same) third_sound.0
             | inr z ↦ elim (cases_eq n h) [
-              | inl same ↦ rw (← same) sound_from_first
+              | inl same ↦ rw (← same) third_sound.1
               | inr p0 ↦ elim (cases_eq (n + 1) h) [
-                | inl same ↦ rw (← same) sound_to_first
+                | inl same ↦ rw (← same) first_sound.2
                 | inr p1 ↦ elim (cases_eq (n + 2) h) [
-                  | inl same ↦ rw (← same) sound_from_second
+                  | inl same ↦ rw (← same) first_sound.1
                   | inr p2 ↦ elim (cases_eq (n + 3) h) [
-                    | inl same ↦ rw (← same) sound_to_second
+                    | inl same ↦ rw (← same) second_sound.2
                     | inr p3 ↦ elim (cases_eq (n + 4) h) [
-                      | inl same ↦ rw (← same) sound_from_third
+                      | inl same ↦ rw (← same) second_sound.1
                       | inr p4 ↦ elim (cases_eq (n + 5) h) [
-                        | inl same ↦ rw (← same) sound_to_third
+                        | inl same ↦ rw (← same) third_sound.2
                         | inr p5 ↦ sound_away h (omega (arith, i.edge_count)) (record { first = λ q. x (sym q); second = λ q. y (sym q); third = λ q. z (sym q) })
                       ]
                     ]
@@ -369,16 +180,7 @@ module _ (m new : Mesh) (v f a n g : ℕ) (s : IsSound m) (inner : IsInnerEdge m
       ]
 
   vertices_kept : (u h : ℕ) → out_edge new u ≡ Some h → (h < length new.half_edges) × (origin new h ≡ u)
-  vertices_kept u h named =
-      elim (cases_eq u v) [
-        | inl same ↦
-            let is : n + 1 ≡ h = cc (i.out) in
-            (omega (arith, i.edge_count), cc (i.to_first.origin))
-        | inr differs ↦
-            let had = s.vertices u h (sym (i.other_outs u differs) ∙ named) in
-            let origin_is = origin_kept h (omega (arith, had.0)) in
-            (omega (arith, i.edge_count, had.0), cc)
-      ]
+  vertices_kept = still_named m new v (n + 1) i.out i.other_outs s (omega (arith, i.edge_count)) i.to_first.origin (λ h within off. (omega (arith, i.edge_count, at_n, within), origin_kept h (omega (arith, at_n, within))))
 
   pub away_by_face : (h : ℕ) → face m h ≢ f → IsAway m a h
   away_by_face h differs =

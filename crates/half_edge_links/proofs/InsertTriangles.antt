@@ -1,8 +1,8 @@
 -- What putting a vertex into a face does to the corners of the faces.
-use Rattle.std.proofs.Common.{◌≡◌, ◌≢◌, ℕ, ◌+◌, ◌-◌, ◌<◌, List, [], ◌∷◌, ◌++◌, None, length, get_or, set, refl, sym, ◌∙◌, inl, inr, arith, length-append}
+use Rattle.std.proofs.Common.{◌≡◌, ◌≢◌, ℕ, ◌+◌, ◌-◌, ◌<◌, List, [], ◌∷◌, ◌++◌, length, get_or, set, refl, sym, ◌∙◌, inl, inr, arith, length-append}
 use Rattle.std.proofs.lemmas.Bool.{cases_eq}
-use Rattle.std.proofs.lemmas.List.{get_or-set_same, get_or-set_other, length-set, same_lists, get_or-map, length-map, get_or_append_left, get_or-append-add, get_or_at}
-use Rattle.half_edge_links.specs.Mesh.{Mesh, origin, next, prev, face, face_edge, IsSound, IsInner, IsInnerEdge, IsAlone, with_vertex}
+use Rattle.std.proofs.lemmas.List.{get_or-set_same, get_or-set_other, length-set, same_lists, get_or-map, length-map, get_or_append_left, get_or-append-add}
+use Rattle.half_edge_links.specs.Mesh.{Mesh, origin, next, prev, face, face_edge, IsSound, IsInnerEdge, IsAlone}
 use Rattle.half_edge_links.specs.Insert.{Inserts, inserted}
 use Rattle.half_edge_links.specs.Triangles.{Triangle, triangle_at, triangles, InsertsTriangles}
 use Rattle.half_edge_links.proofs.InsertLemmas.{inserts}
@@ -83,19 +83,3 @@ module _ (m new : Mesh) (v a : ℕ) (s : IsSound m) (inner : IsInnerEdge m a) (a
 
 pub triangles_inserted : (m new : Mesh) (v a : ℕ) → IsSound m → IsInnerEdge m a → IsAlone m v → new ≡ inserted m v a → InsertsTriangles m new v a
 triangles_inserted m new v a s inner alone is = rw is (inserts_triangles m (inserted m v a) v a s inner alone (inserts m v a s inner alone))
-
-pub alone_at_end : (m : Mesh) → IsAlone (with_vertex m) (length m.out_edges)
-alone_at_end m = (omega (arith, length-append m.out_edges (None ∷ [])), get_or_at m.out_edges None [] None (length m.out_edges) refl)
-
--- the same for a new last vertex
-pub triangles_inserted_new : (m grown new : Mesh) (v w a b : ℕ) → grown ≡ with_vertex m → w ≡ length m.out_edges → v ≡ w → b ≡ a → IsSound grown → IsInnerEdge m a → new ≡ inserted grown w b → InsertsTriangles m new v a
-triangles_inserted_new m grown new v w a b is_grown at_w at_v at_a s inner is =
-    let alone = alone_at_end m in
-    let is' : new ≡ inserted (with_vertex m) (length m.out_edges) a = cc in
-    rw (at_v, at_w) (triangles_inserted (with_vertex m) new (length m.out_edges) a (rw is_grown at s) inner alone is')
-
--- the edge that an inner face names is one of its edges
-pub inner_edge : (m : Mesh) (f : ℕ) → IsSound m → IsInner m f → IsInnerEdge m (face_edge m f) × (face m (face_edge m f) ≡ f)
-inner_edge m f s inner =
-    let had = s.faces f inner.0 inner.1 in
-    ((had.0, omega (arith, had.1, inner.0)), had.1)

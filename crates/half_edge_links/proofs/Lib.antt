@@ -16,7 +16,7 @@ pub mod Fields
 pub mod Parts
 pub mod Hang
 pub mod CloseReads
-pub mod SlideReads
+pub mod Relinks
 pub mod Close
 pub mod Slide
 pub mod Corners
@@ -63,7 +63,6 @@ pub mod OutlineTaken
 pub mod OutlineTraced
 pub mod Walks
 pub mod OutlineRound
-pub mod PassReads
 pub mod Passing
 pub mod PassKept
 pub mod WheelEnds

@@ -6,7 +6,8 @@ use Rattle.half_edge_links.specs.Peel.{turn, spoke}
 use Rattle.half_edge_links.specs.Move.{IsOneOrbit}
 use Rattle.half_edge_links.specs.Round.{neighbour, EdgesGoRound}
 use Rattle.half_edge_links.proofs.Rev.{rev-rev}
-use Rattle.half_edge_links.proofs.Walks.{IsPeriod, among_steps, to_steps, period_closed, in_period, period_of, steps_apart, steps_again}
+use Rattle.half_edge_links.proofs.Orbits.{IsPeriod, period_of}
+use Rattle.half_edge_links.proofs.Walks.{among_steps, to_steps, period_closed, in_period, steps_apart, steps_again}
 use Rattle.half_edge_links.proofs.Conditions.{spoke_at, turn_in, turn_one}
 
 turns : (m : Mesh) (o : ℕ) → IsValid m → o < length m.half_edges → (k : ℕ) × IsPeriod (turn m) o k

@@ -28,34 +28,42 @@ get_or-points f zero s i d within = absurd (omega arith)
 get_or-points f (suc m) s zero d within = refl
 get_or-points f (suc m) s (suc i) d within = get_or-points f m (f s) i d (omega arith) ∙ iterate_shift f i s
 
-module _ (f : ℕ → ℕ) (n : ℕ) (closed : (a : ℕ) → a < n → f a < n) (one_to_one : (a b : ℕ) → a < n → b < n → f a ≡ f b → a ≡ b) where
-  stays : (k s : ℕ) → s < n → iterate f k s < n
-  stays zero s within = within
-  stays (suc k) s within = closed _ (stays k s within)
+-- the first number of steps after which the walk from o is back
+pub record IsPeriod (f : ℕ → ℕ) (o k : ℕ) : Type 0 where
+  pub some : 0 < k
+  pub back : iterate f k o ≡ o
+  pub first : (j : ℕ) → 0 < j → j < k → iterate f j o ≢ o
 
-  -- equal places, i steps on, are equal
-  cancel : (i a b : ℕ) → a < n → b < n → iterate f i a ≡ iterate f i b → a ≡ b
-  cancel zero a b a_in b_in same = same
-  cancel (suc i) a b a_in b_in same = cancel i a b a_in b_in (one_to_one _ _ (stays i a a_in) (stays i b b_in) same)
+module _ (f : ℕ → ℕ) where
+  pub step_add : (o i d : ℕ) → iterate f (i + d) o ≡ iterate f i (iterate f d o)
+  step_add o zero d = ap (λ j. iterate f j o) (let e : 0 + d ≡ d = omega arith in e)
+  step_add o (suc i) d = let e : suc i + d ≡ suc (i + d) = omega arith in ap (λ j. iterate f j o) e ∙ ap f (step_add o i d)
 
-  iterate-add : (i k s : ℕ) → iterate f (i + k) s ≡ iterate f i (iterate f k s)
-  iterate-add zero k s = let e : 0 + k ≡ k = omega arith in ap (λ q. iterate f q s) e
-  iterate-add (suc i) k s = let e : suc i + k ≡ suc (i + k) = omega arith in ap (λ q. iterate f q s) e ∙ ap f (iterate-add i k s)
-
-  -- either some step up to m comes back, or none does
-  search_back : (m s : ℕ) → ((k : ℕ) × (0 < k) × (k ≤ m) × (iterate f k s ≡ s)) ⊎ ((k : ℕ) → 0 < k → k ≤ m → iterate f k s ≢ s)
-  search_back zero s = inr (λ k some within. absurd (omega arith))
-  search_back (suc m) s =
-      elim (search_back m s) [
-        | inl found ↦ inl (found.0, found.1, omega (arith, found.2), found.3)
-        | inr none ↦ elim (cases_eq (iterate f (suc m) s) s) [
-          | inl same ↦ inl (suc m, omega arith, omega arith, same)
-          | inr differs ↦ inr (λ k some within. elim (cases_eq k (suc m)) [
-            | inl last ↦ λ q. differs (sym (ap (λ j. iterate f j s) last) ∙ q)
-            | inr before ↦ none k some (omega arith)
+  period_up_to : (o n : ℕ) → ((k : ℕ) × (k ≤ n) × IsPeriod f o k) ⊎ ((j : ℕ) → 0 < j → j ≤ n → iterate f j o ≢ o)
+  period_up_to o zero = inr (λ j some less. absurd (omega arith))
+  period_up_to o (suc n) =
+      elim (period_up_to o n) [
+        | inl found ↦ inl (found.0, omega (arith, found.1), found.2)
+        | inr none ↦ elim (cases_eq (iterate f (suc n) o) o) [
+          | inl back ↦ inl (suc n, omega arith, record { some = omega arith; back = back; first = λ j some less. none j some (omega (arith, less)) })
+          | inr off ↦ inr (λ j some less. elim (cases_eq j (suc n)) [
+            | inl last ↦ λ q. off (ap (λ i. iterate f i o) (sym last) ∙ q)
+            | inr other ↦ none j some (omega (arith, less, other))
           ])
         ]
       ]
+
+module _ (f : ℕ → ℕ) (n : ℕ) (stays : (a : ℕ) → a < n → f a < n) (one_to_one : (a b : ℕ) → a < n → b < n → f a ≡ f b → a ≡ b) where
+  pub walk_in : (o i : ℕ) → o < n → iterate f i o < n
+  walk_in o zero within = within
+  walk_in o (suc i) within = stays _ (walk_in o i within)
+
+  -- equal places come from equal ones before
+  pub step_back : (o i d : ℕ) → o < n → iterate f i o ≡ iterate f (i + d) o → o ≡ iterate f d o
+  step_back o zero d within same = same ∙ ap (λ j. iterate f j o) (let e : 0 + d ≡ d = omega arith in e)
+  step_back o (suc i) d within same =
+      let e : suc i + d ≡ suc (i + d) = omega arith in
+      step_back o i d within (one_to_one _ _ (walk_in o i within) (walk_in o (i + d) within) (same ∙ ap (λ j. iterate f j o) e))
 
   apart : (s : ℕ) → s < n → ((k : ℕ) → 0 < k → k ≤ n → iterate f k s ≢ s) → (i j d : ℕ) → i < j → j < length (points f (suc n) s) → eqb (get_or (points f (suc n) s) i d) (get_or (points f (suc n) s) j d) ≡ false
   apart s within none i j d less j_in =
@@ -63,9 +71,8 @@ module _ (f : ℕ → ℕ) (n : ℕ) (closed : (a : ℕ) → a < n → f a < n) 
       let at_i = get_or-points f (suc n) s i d (omega arith) in
       let at_j = get_or-points f (suc n) s j d j_le in
       let k_is : i + (j - i) ≡ j = omega arith in
-      let further : iterate f j s ≡ iterate f i (iterate f (j - i) s) = rw k_is at (iterate-add i (j - i) s) in
       elim (eqb_tells (get_or (points f (suc n) s) i d) (get_or (points f (suc n) s) j d)) [
-        | inl q ↦ absurd (none (j - i) (omega arith) (omega arith) (sym (cancel i s (iterate f (j - i) s) within (stays (j - i) s within) (sym at_i ∙ q.1 ∙ at_j ∙ further))))
+        | inl q ↦ absurd (none (j - i) (omega arith) (omega arith) (sym (step_back s i (j - i) within (sym at_i ∙ q.1 ∙ at_j ∙ ap (λ k. iterate f k s) (sym k_is)))))
         | inr q ↦ q.0
       ]
 
@@ -75,14 +82,27 @@ module _ (f : ℕ → ℕ) (n : ℕ) (closed : (a : ℕ) → a < n → f a < n) 
       let place : found.0 < suc n = rw length-points at found.2 in
       let same = eqb-true q found.1 found.4 in
       let at = get_or-points f (suc n) s found.0 found.1 place in
-      rw (same ∙ sym found.3 ∙ at) (stays found.0 s within)
+      rw (same ∙ sym found.3 ∙ at) (walk_in s found.0 within)
 
-  -- the walk comes back within n steps
-  pub comes_back : (s : ℕ) → s < n → (k : ℕ) × (0 < k) × (k ≤ n) × (iterate f k s ≡ s)
-  comes_back s within =
-      elim (search_back n s) [
+  short_period : (s : ℕ) → s < n → (k : ℕ) × (k ≤ n) × IsPeriod f s k
+  short_period s within =
+      elim (period_up_to f s n) [
         | inl found ↦ found
         | inr none ↦
             let few = length-le_from_distinct_below (points f (suc n) s) n (IsDistinct-from_apart eqb (points f (suc n) s) (apart s within none)) (below s within) in
             absurd (omega (arith, few, length-points f (suc n) s))
       ]
+
+  pub period_of : (s : ℕ) → s < n → (k : ℕ) × IsPeriod f s k
+  period_of s within = let p = short_period s within in (p.0, p.2)
+
+  -- the walk comes back within n steps
+  pub comes_back : (s : ℕ) → s < n → (k : ℕ) × (0 < k) × (k ≤ n) × (iterate f k s ≡ s)
+  comes_back s within = let p = short_period s within in (p.0, p.2.some, p.1, p.2.back)
+
+  -- each number is one step from another
+  pub reached : (s : ℕ) → s < n → (a : ℕ) × (a < n) × (f a ≡ s)
+  reached s within =
+      let k = comes_back s within in
+      let j : suc (k.0 - 1) ≡ k.0 = omega (arith, k.1) in
+      (iterate f (k.0 - 1) s, walk_in s (k.0 - 1) within, ap (λ i. iterate f i s) j ∙ k.3)

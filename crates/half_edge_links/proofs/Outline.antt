@@ -2,14 +2,15 @@
 use Rattle.std.proofs.Common.{◌≡◌, ◌≢◌, ℕ, zero, suc, ◌+◌, ◌<◌, Bool, true, length, refl, sym, ap, ◌∙◌, inl, inr, arith}
 use Rattle.std.proofs.lemmas.Bool.{cases_eq}
 use Rattle.half_edge_links.specs.declared.records.HalfEdge.{HalfEdge}
-use Rattle.half_edge_links.specs.Mesh.{Mesh, next, prev, face, rev, IsSound, IsInnerEdge, IsAlone, connected}
+use Rattle.half_edge_links.specs.Mesh.{Mesh, origin, next, prev, face, rev, IsSound, IsInnerEdge, IsAlone, connected}
 use Rattle.half_edge_links.specs.Flip.{IsFlippable, Flips}
 use Rattle.half_edge_links.specs.Insert.{Inserts}
 use Rattle.half_edge_links.specs.Grow.{IsOuter, IsClosable, IsSlidable, Hangs, Closes, Slides}
 use Rattle.half_edge_links.specs.Hull.{IsClosedAlong, HasOneOutline, KeepsOneOutline}
-use Rattle.half_edge_links.proofs.StarsKept.{grown_cases}
+use Rattle.half_edge_links.proofs.Parts.{grown_cases}
 use Rattle.half_edge_links.proofs.StarsRound.{stand_in, stands_first, stands_second, stands_other}
-use Rattle.half_edge_links.proofs.StarsInsert.{late_cases}
+use Rattle.half_edge_links.proofs.KeepsOuter.{outer_flipped}
+use Rattle.half_edge_links.proofs.KeepsOuterInsert.{outer_inserted}
 use Rattle.half_edge_links.proofs.Close.{IsCorner, corner}
 use Rattle.half_edge_links.proofs.Slide.{IsTail, tail}
 use Rattle.half_edge_links.proofs.FlipSound as turning
@@ -55,57 +56,23 @@ outline_same m new o one among closed h g h_in g_in h_outer g_outer is =
 
 pub outline_flipped : (m new : Mesh) (e : ℕ) → IsSound m → IsFlippable m e → Flips m new e → KeepsOneOutline m new
 outline_flipped m new e s can f =
-    let l : IsTriangle m e = triangle_at m e s can.within can.inner in
-    let t_in = (turning.six m new e s can f).b_in in
-    let r : IsTriangle m (rev e) = triangle_at m (rev e) s t_in can.twin_inner in
     let away = λ (h : ℕ) (outer : face m h ≡ 0). turning.away_by_face m new e s can f h (λ q. absurd (omega (arith, q, outer, can.inner))) (λ q. absurd (omega (arith, q, outer, can.twin_inner))) in
     outline_same m new (record {
       there = λ h within outer.
           let same = turning.kept m new e s can f h (away h outer) in
           (omega (arith, within, f.edge_count), ap (λ (w : HalfEdge). w.face) same ∙ outer, ap (λ (w : HalfEdge). w.next) same);
-      was = λ h within outer.
-          let h_in : h < length m.half_edges = omega (arith, within, f.edge_count) in
-          let not : (k : ℕ) → 0 < face new k → h ≢ k = λ k some q. absurd (omega (arith, some, ap (face new) q, outer)) in
-          let same = f.other_edges h
-          (not e (rw f.edge.face can.inner))
-          (not (rev e) (rw f.twin.face can.twin_inner))
-          (not (next m e) (rw f.edge_next.face can.inner))
-          (not (next m (rev e)) (rw f.twin_next.face can.twin_inner))
-          (not (prev m e) (rw f.edge_prev.face can.twin_inner))
-          (not (prev m (rev e)) (rw f.twin_prev.face can.inner)) in
-          (h_in, sym (ap (λ (w : HalfEdge). w.face) same) ∙ outer);
+      was = λ h within outer. let o = (outer_flipped m new e s can f).only h (origin new h) (origin new (rev h)) (record { within = within; outer = outer; source = refl; target = refl }) in (o.within, o.outer);
     })
 
 pub outline_inserted : (m new : Mesh) (v a : ℕ) → IsSound m → IsInnerEdge m a → IsAlone m v → Inserts m new v (face m a) a (length m.half_edges) (length m.face_edges) → KeepsOneOutline m new
 outline_inserted m new v a s inner alone i =
-    let n : ℕ = length m.half_edges in
-    let g : ℕ = length m.face_edges in
     let t : IsTriangle m a = triangle_at m a s inner.0 inner.1 in
     outline_same m new (record {
       there = λ h within outer.
           let off : (k : ℕ) → face m k ≡ face m a → h ≢ k = λ k is q. absurd (omega (arith, inner.1, is, ap (face m) q, outer)) in
           let same = i.other_edges h within (off a refl) (off _ t.face_next) (off _ t.face_prev) in
           (omega (arith, within, i.edge_count), ap (λ (w : HalfEdge). w.face) same ∙ outer, ap (λ (w : HalfEdge). w.next) same);
-      was = λ h within outer.
-          let not : (k : ℕ) → 0 < face new k → h ≢ k = λ k some q. absurd (omega (arith, some, ap (face new) q, outer)) in
-          elim (late_cases h n (omega (arith, within, i.edge_count))) [
-            | inl old ↦
-                let same = i.other_edges h old (not a (rw i.first.face inner.1)) (not _ (rw i.second.face (omega arith))) (not _ (rw i.third.face (omega arith))) in
-                (old, sym (ap (λ (w : HalfEdge). w.face) same) ∙ outer)
-            | inr b ↦ absurd (elim b [
-              | inl is ↦ not n (rw i.from_first.face (omega arith)) is
-              | inr c ↦ elim c [
-                | inl is ↦ not (n + 2) (rw i.from_second.face inner.1) is
-                | inr d ↦ elim d [
-                  | inl is ↦ not (n + 4) (rw i.from_third.face (omega arith)) is
-                  | inr spoke ↦ elim spoke [
-                    | inl is ↦ not (n + 1) (rw i.to_first.face inner.1) is
-                    | inr x ↦ elim x [ inl is ↦ not (n + 3) (rw i.to_second.face (omega arith)) is | inr is ↦ not (n + 5) (rw i.to_third.face (omega arith)) is ]
-                  ]
-                ]
-              ]
-            ])
-          ];
+      was = λ h within outer. let o = (outer_inserted m new v a s inner alone i).only h (origin new h) (origin new (rev h)) (record { within = within; outer = outer; source = refl; target = refl }) in (o.within, o.outer);
     })
 
 module _ (m new : Mesh) (x v : ℕ) (s : IsSound m) (outer : IsOuter m x) (i : Hangs m new x v (length m.half_edges)) (among : ℕ → Bool) (closed : IsClosedAlong new among) where

@@ -2,7 +2,8 @@
 use Rattle.std.proofs.Common.{◌≡◌, ℕ, zero, suc, ◌-◌, ◌<◌, length, sym, ap, ◌∙◌, arith}
 use Rattle.half_edge_links.specs.Mesh.{Mesh, next, prev, face, IsSound}
 use Rattle.half_edge_links.specs.Hull.{IsClosedAlong, outer_step, OutlineGoesRound}
-use Rattle.half_edge_links.proofs.Walks.{among_steps, to_steps, period_closed, in_period, period_of, steps_apart, steps_again}
+use Rattle.half_edge_links.proofs.Orbits.{period_of}
+use Rattle.half_edge_links.proofs.Walks.{among_steps, to_steps, period_closed, in_period, steps_apart, steps_again}
 
 next_one : (m : Mesh) → IsSound m → (a b : ℕ) → a < length m.half_edges → b < length m.half_edges → next m a ≡ next m b → a ≡ b
 next_one m s a b p q same = sym (s.edges a p).prev_next ∙ ap (prev m) same ∙ (s.edges b q).prev_next

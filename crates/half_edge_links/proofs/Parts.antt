@@ -1,7 +1,17 @@
 -- The parts of an edge's soundness, for changes that write single links.
-use Rattle.std.proofs.Common.{◌≡◌, ◌≢◌, ◌⊎◌, ℕ, ◌+◌, ◌%◌, ◌<◌, ◌≤◌, length, IsSome, inl, inr, sym, ◌∙◌, arith}
+use Rattle.std.proofs.Common.{◌≡◌, ◌≢◌, ◌⊎◌, ℕ, ◌+◌, ◌%◌, ◌<◌, ◌≤◌, length, Some, IsSome, refl, inl, inr, sym, ap, ◌∙◌, arith}
+use Rattle.std.proofs.lemmas.Bool.{cases_eq}
 use Rattle.std.proofs.lemmas.Grind.{common_steps}
-use Rattle.half_edge_links.specs.Mesh.{Mesh, origin, next, prev, face, face_edge, out_edge, rev, IsSoundEdge}
+use Rattle.half_edge_links.specs.Mesh.{Mesh, origin, next, prev, face, face_edge, out_edge, rev, IsSound, IsSoundEdge, HasLinks}
+use Rattle.half_edge_links.proofs.Orbits.{reached}
+
+-- an edge of a mesh with two more is old or one of the two
+pub grown_cases : (h n : ℕ) → h < n + 2 → (h < n) ⊎ ((h ≡ n) ⊎ (h ≡ n + 1))
+grown_cases h n within =
+    elim (cases_eq h n) [
+      | inl same ↦ inr (inl same)
+      | inr p ↦ elim (cases_eq h (n + 1)) [ inl same ↦ inr (inr same) | inr q ↦ inl (omega (arith, within, p, q)) ]
+    ]
 
 -- the two sides of a new edge
 pub rev_of_even : (n : ℕ) → n % 2 ≡ 0 → rev n ≡ n + 1
@@ -70,3 +80,99 @@ module _ (old new : Mesh) (h : ℕ) (here : IsSoundEdge old h) where
       | inr y ↦ elim y [ inl x ↦ inr (inl (cc)) | inr x ↦ inr (inr (cc)) ]
     ];
   }
+
+pub next_of_sound : (m : Mesh) (h : ℕ) → IsSoundEdge m h → IsNextSound m h
+next_of_sound m h s = record { next_in = s.next_in; prev_next = s.prev_next; starts = s.starts; same_face = s.same_face; proper = s.proper }
+
+-- an edge with its next one
+pub next_at : (m : Mesh) (h n : ℕ) → next m h ≡ n → n < length m.half_edges → prev m n ≡ h → origin m n ≡ origin m (rev h) → face m n ≡ face m h → n ≢ h → IsNextSound m h
+next_at m h n at within back starts same differs = record {
+  next_in = rw at within;
+  prev_next = ap (prev m) at ∙ back;
+  starts = ap (origin m) at ∙ starts;
+  same_face = ap (face m) at ∙ same;
+  proper = λ q. differs (sym at ∙ q);
+}
+
+-- where each edge is before its next one, each is after the one before it: there are finitely many
+pub prev_sound : (m : Mesh) → ((h : ℕ) → h < length m.half_edges → IsNextSound m h) → (h : ℕ) → h < length m.half_edges → IsPrevSound m h
+prev_sound m ok h within =
+    let g = reached (next m) (length m.half_edges) (λ a a_in. (ok a a_in).next_in) (λ a b a_in b_in same. sym (ok a a_in).prev_next ∙ ap (prev m) same ∙ (ok b b_in).prev_next) h within in
+    let at : prev m h ≡ g.0 = ap (prev m) (sym g.2) ∙ (ok g.0 g.1).prev_next in
+    record { prev_in = rw at g.1; next_prev = ap (next m) at ∙ g.2 }
+
+-- a vertex at which edges may start
+pub record IsBusy (m : Mesh) (v : ℕ) : Type 0 where
+  pub within : v < length m.out_edges
+  pub has_out : IsSome (out_edge m v)
+
+-- edges a, b and c, which start at x, y and z, go round face f
+pub record IsLoop (m : Mesh) (a b c x y z f : ℕ) : Type 0 where
+  pub first : HasLinks m a x b c f
+  pub second : HasLinks m b y c a f
+  pub third : HasLinks m c z a b f
+  pub within : (a < length m.half_edges) × (b < length m.half_edges) × (c < length m.half_edges)
+  pub apart : (a ≢ b) × (b ≢ c) × (c ≢ a)
+  pub ends : (origin m (rev a) ≡ y) × (origin m (rev b) ≡ z) × (origin m (rev c) ≡ x)
+  pub busy : IsBusy m x × IsBusy m y × IsBusy m z
+  pub face_in : f ≤ length m.face_edges
+
+turned_loop : (m : Mesh) (a b c x y z f : ℕ) → IsLoop m a b c x y z f → IsLoop m b c a y z x f
+turned_loop m a b c x y z f l = record {
+  first = l.second;
+  second = l.third;
+  third = l.first;
+  within = (l.within.1, l.within.2, l.within.0);
+  apart = (l.apart.1, l.apart.2, l.apart.0);
+  ends = (l.ends.1, l.ends.2, l.ends.0);
+  busy = (l.busy.1, l.busy.2, l.busy.0);
+  face_in = l.face_in;
+}
+
+first_sound : (m : Mesh) (a b c x y z f : ℕ) → IsLoop m a b c x y z f → (face_edge m f ≡ a) ⊎ ((face_edge m f ≡ b) ⊎ (face_edge m f ≡ c)) → IsSoundEdge m a
+first_sound m a b c x y z f l named =
+    let p = l.first in
+    let q = l.second in
+    let r = l.third in
+    record {
+      next_in = rw p.next l.within.1;
+      prev_in = rw p.prev l.within.2;
+      origin_in = rw p.origin l.busy.0.within;
+      face_in = rw p.face l.face_in;
+      prev_next = ap (prev m) p.next ∙ q.prev;
+      next_prev = ap (next m) p.prev ∙ r.next;
+      starts = ap (origin m) p.next ∙ q.origin ∙ sym l.ends.0;
+      same_face = ap (face m) p.next ∙ q.face ∙ sym p.face;
+      three = λ some. ap (next m) p.next ∙ q.next ∙ sym p.prev;
+      proper = λ same. l.apart.0 (sym (sym p.next ∙ same));
+      owned = λ some. rw (p.face, p.next, p.prev) named;
+      has_out = rw p.origin l.busy.0.has_out;
+    }
+
+-- the three edges round a face that names the first one are sound
+pub loop_sound : (m : Mesh) (a b c x y z f : ℕ) → IsLoop m a b c x y z f → face_edge m f ≡ a → IsSoundEdge m a × IsSoundEdge m b × IsSoundEdge m c
+loop_sound m a b c x y z f l named =
+    let second = turned_loop m a b c x y z f l in (
+      first_sound m a b c x y z f l (inl named),
+      first_sound m b c a y z x f second (inr (inr named)),
+      first_sound m c a b z x y f (turned_loop m b c a y z x f second) (inr (inl named)),
+    )
+
+-- what the vertices name, where vertex v names edge x now
+module _ (m new : Mesh) (v x : ℕ) (out : out_edge new v ≡ Some x) (others : (u : ℕ) → u ≢ v → out_edge new u ≡ out_edge m u) where
+  pub still_out : (u : ℕ) → IsSome (out_edge m u) → IsSome (out_edge new u)
+  still_out u had =
+      elim (cases_eq u v) [
+        | inl same ↦ rw (same, out) refl
+        | inr differs ↦ rw (others u differs) had
+      ]
+
+  pub still_named : IsSound m → x < length new.half_edges → origin new x ≡ v → ((h : ℕ) → h < length m.half_edges → origin m h ≢ v → (h < length new.half_edges) × (origin new h ≡ origin m h)) → (u h : ℕ) → out_edge new u ≡ Some h → (h < length new.half_edges) × (origin new h ≡ u)
+  still_named s x_in at kept u h is =
+      elim (cases_eq u v) [
+        | inl same ↦ let now : x ≡ h = cc out in rw (← now, same) (x_in, at)
+        | inr differs ↦
+            let had = s.vertices u h (sym (others u differs) ∙ is) in
+            let k = kept h had.0 (λ q. differs (sym had.1 ∙ q)) in
+            (k.0, k.1 ∙ had.1)
+      ]

@@ -6,7 +6,7 @@ use Rattle.half_edge_links.specs.Outline.{MovesEdge}
 use Rattle.half_edge_links.specs.Hull.{IsClosedAlong, KeepsOneOutline}
 use Rattle.half_edge_links.specs.Pass.{IsPassable, passed, Passes}
 use Rattle.half_edge_links.proofs.Rev.{rev-rev, rev_within, rev_differs}
-use Rattle.half_edge_links.proofs.StarsRound.{LiesRound, rounds, stand_in, stands_first, stands_other}
+use Rattle.half_edge_links.proofs.StarsRound.{LiesRound, rounds, lies_kept, stand_in, stands_first, stands_other}
 use Rattle.half_edge_links.proofs.Outline.{LiesAlong, outlines, lies_there}
 use Rattle.half_edge_links.proofs.Ends.{ends_moved}
 use Rattle.half_edge_links.proofs.Passing.{IsBeside, beside, far_edge, passes, sound_after_pass}
@@ -78,16 +78,7 @@ module _ (m new : Mesh) (e : ℕ) (s : IsSound m) (can : IsPassable m e) (i : Pa
                 ahead_origin = ap (origin new) same ∙ i.origin_twin ∙ ap (origin m) (sym p.before_next) ∙ was;
                 goes = λ is. plain_rev z (λ q. p.edge-before (sym q)) (past_twin (ap among (sym same) ∙ is));
               }
-          | inr differs ↦ record {
-            behind = h;
-            behind_in = within;
-            behind_origin = i.other_origins h within differs;
-            comes = λ is. sym (plain h differs) ∙ is;
-            ahead = h;
-            ahead_in = within;
-            ahead_origin = i.other_origins h within differs;
-            goes = λ is. plain h differs ∙ is;
-          }
+          | inr differs ↦ lies_kept m new before among h within (i.other_origins h within differs) (plain h differs)
         ]
 
   -- ---- along the outer face

@@ -1,6 +1,6 @@
 -- The corners of the faces, and the ends of the edges, after elements went.
 use Rattle.std.proofs.Common.{◌≡◌, ℕ, zero, suc, ◌+◌, ◌-◌, ◌%◌, ◌<◌, List, [], ◌∷◌, ◌++◌, length, get_or, set, take, map, refl, sym, ap, ◌∙◌, arith}
-use Rattle.std.proofs.lemmas.List.{get_or_default, map-set, take-map, get_or-map, length-map, same_lists, map-append}
+use Rattle.std.proofs.lemmas.List.{map-set, take-map, get_or-map, length-map, same_lists, map-append}
 use Rattle.std.specs.List.{swap_remove}
 use Rattle.half_edge_links.specs.Mesh.{Mesh, origin, next, prev, face, face_edge, rev, IsSound, IsInner}
 use Rattle.half_edge_links.specs.Renames.{IsKeptEdge, pair_moved, moved}
@@ -8,10 +8,8 @@ use Rattle.half_edge_links.specs.Triangles.{Triangle, triangle_at, triangles}
 use Rattle.half_edge_links.specs.Move.{MovesVertex}
 use Rattle.half_edge_links.specs.Peel.{Peels}
 use Rattle.half_edge_links.specs.Remove.{Opens, Removes, ClosesLoop, edge_naming}
-use Rattle.std.specs.Prelude.{IsPermutation}
-use Rattle.std.proofs.lemmas.List.Sorted.{IsPermutation-swap_remove}
 use Rattle.half_edge_links.proofs.Conditions.{IsUnlinkable, IsHullEdge}
-use Rattle.half_edge_links.proofs.OpenSound.{sound_opened, swap_remove_default}
+use Rattle.half_edge_links.proofs.OpenSound.{sound_opened}
 use Rattle.half_edge_links.proofs.PeelLemmas.{removable_opened}
 use Rattle.half_edge_links.proofs.RenameSound.{kept_edge}
 use Rattle.half_edge_links.proofs.Rev.{rev_within}
@@ -101,15 +99,6 @@ triangles_peeled m new h s can p =
     let inner : IsInner m (face m h) = (can.inner, (s.edges h can.within).face_in) in
     let mid = sound_opened m p.opened (face m h) s inner p.opens in
     triangles_removed p.opened new h mid (removable_opened m p.opened h s can p.opens) p.removes ∙ triangles_opened m p.opened (face m h) p.opens
-
--- a face that is given to the outer one: all others, in some order
-pub others_opened : (m new : Mesh) (f : ℕ) → IsInner m f → Opens m new f → IsPermutation (triangles m) (get_or (triangles m) (f - 1) (triangle_at m 0) ∷ triangles new)
-others_opened m new f inner o =
-    let n = length-map m.face_edges (triangle_at m) in
-    let t : Triangle = get_or (triangles m) (f - 1) (triangle_at m 0) in
-    let within : f - 1 < length (triangles m) = omega (arith, inner.0, inner.1) in
-    let p = IsPermutation-swap_remove (triangles m) (f - 1) t within (get_or_default (triangles m) (f - 1) (triangle_at m 0) t within) in
-    rw (triangles_opened m new f o, swap_remove_default (triangles m) (f - 1) (triangle_at m 0) t (omega arith)) p
 
 -- the corners under the new index of the last vertex
 abbrev pub moved_triangle : ℕ → ℕ → Triangle → Triangle

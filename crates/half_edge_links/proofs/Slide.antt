@@ -3,10 +3,10 @@ use Rattle.std.proofs.Common.{◌≡◌, ◌≢◌, ℕ, ◌<◌, length, Some, 
 use Rattle.std.proofs.lemmas.Bool.{cases_eq}
 use Rattle.std.proofs.lemmas.List.{get_or-set_same, get_or-set_other, length-set}
 use Rattle.half_edge_links.specs.Mesh.{Mesh, origin, next, prev, face, out_edge, rev, IsSound, IsSoundEdge}
-use Rattle.half_edge_links.specs.Grow.{IsSlidable, slid, Slides}
+use Rattle.half_edge_links.specs.Grow.{IsSlidable, slid_edges, slid, Slides}
 use Rattle.half_edge_links.proofs.Rev.{rev-rev, rev_within}
-use Rattle.half_edge_links.proofs.SlideReads.{whole_length, next_edge, next_before, next_there, prev_back, prev_there, prev_twin, origin_twin, other_next, other_prev, other_face, other_origin}
-use Rattle.half_edge_links.proofs.Parts.{IsNextSound, IsPrevSound, IsInMesh, sound_from}
+use Rattle.half_edge_links.proofs.Relinks.{relinks}
+use Rattle.half_edge_links.proofs.Parts.{IsNextSound, IsInMesh, sound_from, next_kept, next_at, prev_sound, still_out, still_named}
 
 -- the edges beside an edge that is moved
 pub record IsTail (m : Mesh) (e : ℕ) : Type 0 where
@@ -52,23 +52,24 @@ tail m e s can =
     }
 
 pub slides : (m : Mesh) (e : ℕ) → IsSound m → IsSlidable m e → Slides m (slid m e) e (next m e) (next m (next m e))
-unfolding slid
+unfolding slid slid_edges
 slides m e s can =
     let t = tail m e s can in
     let there = s.edges (next m e) t.there_in in
+    let r = relinks m.half_edges e (rev e) (next m e) (next m (next m e)) (prev m (rev e)) (next m (next m e)) (next m e) (rev e) e (prev m (rev e)) (next m e) (origin m (next m (next m e))) can.within t.twin_in t.there_in t.back_in t.before_in t.edge-before t.edge-there t.before-there t.back-there t.back-twin t.there-twin in
     record {
-      next_edge = next_edge m.half_edges e (rev e) (next m e) (next m (next m e)) (prev m (rev e)) can.within t.twin_in t.there_in t.back_in t.before_in t.edge-before t.edge-there t.before-there t.back-there t.back-twin t.there-twin;
-      next_before = next_before m.half_edges e (rev e) (next m e) (next m (next m e)) (prev m (rev e)) can.within t.twin_in t.there_in t.back_in t.before_in t.edge-before t.edge-there t.before-there t.back-there t.back-twin t.there-twin;
-      next_there = next_there m.half_edges e (rev e) (next m e) (next m (next m e)) (prev m (rev e)) can.within t.twin_in t.there_in t.back_in t.before_in t.edge-before t.edge-there t.before-there t.back-there t.back-twin t.there-twin;
-      prev_back = prev_back m.half_edges e (rev e) (next m e) (next m (next m e)) (prev m (rev e)) can.within t.twin_in t.there_in t.back_in t.before_in t.edge-before t.edge-there t.before-there t.back-there t.back-twin t.there-twin;
-      prev_there = prev_there m.half_edges e (rev e) (next m e) (next m (next m e)) (prev m (rev e)) can.within t.twin_in t.there_in t.back_in t.before_in t.edge-before t.edge-there t.before-there t.back-there t.back-twin t.there-twin;
-      prev_twin = prev_twin m.half_edges e (rev e) (next m e) (next m (next m e)) (prev m (rev e)) can.within t.twin_in t.there_in t.back_in t.before_in t.edge-before t.edge-there t.before-there t.back-there t.back-twin t.there-twin;
-      other_next = other_next m.half_edges e (rev e) (next m e) (next m (next m e)) (prev m (rev e)) can.within t.twin_in t.there_in t.back_in t.before_in t.edge-before t.edge-there t.before-there t.back-there t.back-twin t.there-twin;
-      other_prev = other_prev m.half_edges e (rev e) (next m e) (next m (next m e)) (prev m (rev e)) can.within t.twin_in t.there_in t.back_in t.before_in t.edge-before t.edge-there t.before-there t.back-there t.back-twin t.there-twin;
-      origin_twin = origin_twin m.half_edges e (rev e) (next m e) (next m (next m e)) (prev m (rev e)) can.within t.twin_in t.there_in t.back_in t.before_in t.edge-before t.edge-there t.before-there t.back-there t.back-twin t.there-twin;
-      other_origins = other_origin m.half_edges e (rev e) (next m e) (next m (next m e)) (prev m (rev e)) can.within t.twin_in t.there_in t.back_in t.before_in t.edge-before t.edge-there t.before-there t.back-there t.back-twin t.there-twin;
-      faces = other_face m.half_edges e (rev e) (next m e) (next m (next m e)) (prev m (rev e)) can.within t.twin_in t.there_in t.back_in t.before_in t.edge-before t.edge-there t.before-there t.back-there t.back-twin t.there-twin;
-      edge_count = whole_length m.half_edges e (rev e) (next m e) (next m (next m e)) (prev m (rev e)) can.within t.twin_in t.there_in t.back_in t.before_in t.edge-before t.edge-there t.before-there t.back-there t.back-twin t.there-twin;
+      next_edge = r.next_e;
+      next_before = r.next_z;
+      next_there = r.next_k;
+      prev_back = r.prev_l;
+      prev_there = r.prev_k;
+      prev_twin = r.prev_t;
+      other_next = λ h within. r.other_next h;
+      other_prev = λ h within. r.other_prev h;
+      origin_twin = r.origin_t;
+      other_origins = λ h within. r.other_origin h;
+      faces = λ h within. r.faces h;
+      edge_count = r.count;
       vertex_count = length-set m.out_edges _ _;
       out = get_or-set_same m.out_edges _ _ None there.origin_in;
       other_outs = λ u differs. get_or-set_other m.out_edges _ u _ None differs;
@@ -86,117 +87,42 @@ module _ (m new : Mesh) (e : ℕ) (s : IsSound m) (can : IsSlidable m e) (i : Sl
   zero_after : (h : ℕ) → h < length m.half_edges → face new h ≡ 0
   zero_after h within = i.faces h within ∙ face_zero h within
 
+  no_face : (h g : ℕ) → h < length m.half_edges → g < length m.half_edges → face new h ≡ face new g
+  no_face h g h_in g_in = zero_after h h_in ∙ sym (zero_after g g_in)
+
   origin_rev : (h : ℕ) → h < length m.half_edges → h ≢ e → origin new (rev h) ≡ origin m (rev h)
   origin_rev h within differs = i.other_origins (rev h) (rev_within h _ s.even within) (λ q. differs (sym (rev-rev h) ∙ ap rev q ∙ rev-rev e))
 
-  -- the far end of an edge
-  next_ok : (h : ℕ) → h < length m.half_edges → IsNextSound new h
-  next_ok h within =
+  next_ok : (h : ℕ) → h < length new.half_edges → IsNextSound new h
+  next_ok h new_in =
+      let within : h < length m.half_edges = rw i.edge_count at new_in in
       let here = s.edges h within in
       let p = t in
-      let zero_h = zero_after h within in
       elim (cases_eq e h) [
         | inl same ↦ rw (← same) (
-            let at = i.next_edge in
-            let back = i.prev_back in
-            let o = i.other_origins (next m (next m e)) p.back_in p.back-twin in
-            let r = i.origin_twin in
-            let f = zero_after e can.within in
-            let g = zero_after (next m (next m e)) p.back_in in
-            record {
-              next_in = rw i.next_edge (omega (arith, i.edge_count, p.back_in));
-              prev_next = cc;
-              starts = cc;
-              same_face = cc;
-              proper = λ q. p.there-twin (sym (rev-rev (next m e)) ∙ ap rev (sym p.back_is ∙ sym at ∙ q));
-            })
+            next_at new e (next m (next m e)) i.next_edge (rw i.edge_count p.back_in) i.prev_back (i.other_origins _ p.back_in p.back-twin ∙ sym i.origin_twin) (no_face _ e p.back_in can.within)
+            (λ q. p.there-twin (sym (rev-rev (next m e)) ∙ ap rev (sym p.back_is ∙ q))))
         | inr not_edge ↦ elim (cases_eq (prev m (rev e)) h) [
           | inl same ↦ rw (← same) (
-              let at = i.next_before in
-              let back = i.prev_there in
-              let o = i.other_origins (next m e) p.there_in p.there-twin in
-              let r = origin_rev (prev m (rev e)) p.before_in (λ q. p.edge-before (sym q)) in
-              let f = zero_after (prev m (rev e)) p.before_in in
-              let g = zero_after (next m e) p.there_in in
-              let was = (s.edges (prev m (rev e)) p.before_in).starts in
-              let on = p.before_next in
-              let start = p.start in
-              record {
-                next_in = rw i.next_before (omega (arith, i.edge_count, p.there_in));
-                prev_next = cc;
-                starts = cc;
-                same_face = cc;
-                proper = λ q. p.before-there (sym (sym at ∙ q));
-              })
+              next_at new (prev m (rev e)) (next m e) i.next_before (rw i.edge_count p.there_in) i.prev_there
+              (i.other_origins _ p.there_in p.there-twin ∙ p.start ∙ sym (ap (origin m) p.before_next) ∙ (s.edges _ p.before_in).starts ∙ sym (origin_rev _ p.before_in (λ q. p.edge-before (sym q))))
+              (no_face _ _ p.there_in p.before_in) (λ q. p.before-there (sym q)))
           | inr not_before ↦ elim (cases_eq (next m e) h) [
             | inl same ↦ rw (← same) (
-                let at = i.next_there in
-                let back = i.prev_twin in
-                let o = i.origin_twin in
-                let r = origin_rev (next m e) p.there_in (λ q. p.edge-there (sym q)) in
-                let is = p.back_is in
-                let f = zero_after (next m e) p.there_in in
-                let g = zero_after (rev e) p.twin_in in
-                record {
-                  next_in = rw i.next_there (omega (arith, i.edge_count, p.twin_in));
-                  prev_next = cc;
-                  starts = cc;
-                  same_face = cc;
-                  proper = λ q. p.there-twin (sym (sym at ∙ q));
-                })
+                next_at new (next m e) (rev e) i.next_there (rw i.edge_count p.twin_in) i.prev_twin (i.origin_twin ∙ ap (origin m) p.back_is ∙ sym (origin_rev _ p.there_in (λ q. p.edge-there (sym q))))
+                (no_face _ _ p.twin_in p.there_in) (λ q. p.there-twin (sym q)))
             | inr not_there ↦
-                let at = i.other_next h within (λ q. not_edge (sym q)) (λ q. not_before (sym q)) (λ q. not_there (sym q)) in
                 let off_back : next m h ≢ next m (next m e) = λ q. not_there (sym p.there_back ∙ ap (prev m) (sym q) ∙ here.prev_next) in
                 let off_there : next m h ≢ next m e = λ q. not_edge (sym p.there_prev ∙ ap (prev m) (sym q) ∙ here.prev_next) in
                 let off_twin : next m h ≢ rev e = λ q. not_before (ap (prev m) (sym q) ∙ here.prev_next) in
-                let back = i.other_prev (next m h) here.next_in off_back off_there off_twin in
-                let o = i.other_origins (next m h) here.next_in off_twin in
-                let r = origin_rev h within (λ q. not_edge (sym q)) in
-                let g = zero_after (next m h) here.next_in in
-                record {
-                  next_in = rw at (omega (arith, i.edge_count, here.next_in));
-                  prev_next = cc here.prev_next;
-                  starts = cc here.starts;
-                  same_face = cc;
-                  proper = λ q. here.proper (sym at ∙ q);
-                }
-          ]
-        ]
-      ]
-
-  prev_ok : (h : ℕ) → h < length m.half_edges → IsPrevSound new h
-  prev_ok h within =
-      let here = s.edges h within in
-      let p = t in
-      elim (cases_eq (next m (next m e)) h) [
-        | inl same ↦ rw (← same) (
-            let at = i.prev_back in
-            let on = i.next_edge in
-            record { prev_in = rw i.prev_back (omega (arith, i.edge_count, can.within)); next_prev = cc })
-        | inr not_back ↦ elim (cases_eq (next m e) h) [
-          | inl same ↦ rw (← same) (
-              let at = i.prev_there in
-              let on = i.next_before in
-              record { prev_in = rw i.prev_there (omega (arith, i.edge_count, p.before_in)); next_prev = cc })
-          | inr not_there ↦ elim (cases_eq (rev e) h) [
-            | inl same ↦ rw (← same) (
-                let at = i.prev_twin in
-                let on = i.next_there in
-                record { prev_in = rw i.prev_twin (omega (arith, i.edge_count, p.there_in)); next_prev = cc })
-            | inr not_twin ↦
-                let at = i.other_prev h within (λ q. not_back (sym q)) (λ q. not_there (sym q)) (λ q. not_twin (sym q)) in
-                let on = i.other_next (prev m h) here.prev_in (λ q. not_there (ap (next m) (sym q) ∙ here.next_prev)) (λ q. not_twin (sym p.before_next ∙ ap (next m) (sym q) ∙ here.next_prev)) (λ q. not_back (ap (next m) (sym q) ∙ here.next_prev)) in
-                record { prev_in = rw at (omega (arith, i.edge_count, here.prev_in)); next_prev = cc here.next_prev }
+                next_kept m new h here (i.other_next h within (λ q. not_edge (sym q)) (λ q. not_before (sym q)) (λ q. not_there (sym q))) (i.other_prev (next m h) here.next_in off_back off_there off_twin)
+                (i.other_origins (next m h) here.next_in off_twin) (origin_rev h within (λ q. not_edge (sym q))) (i.faces h within) (i.faces (next m h) here.next_in) (omega (arith, i.edge_count))
           ]
         ]
       ]
 
   has_out : (u : ℕ) → IsSome (out_edge m u) → IsSome (out_edge new u)
-  has_out u had =
-      elim (cases_eq u (origin m (next m e))) [
-        | inl same ↦ rw (same, i.out) refl
-        | inr differs ↦ rw (i.other_outs u differs) had
-      ]
+  has_out = still_out m new (origin m (next m e)) (next m e) i.out i.other_outs
 
   in_mesh : (h : ℕ) → h < length m.half_edges → IsInMesh new h
   in_mesh h within =
@@ -220,19 +146,14 @@ module _ (m new : Mesh) (e : ℕ) (s : IsSound m) (can : IsSlidable m e) (i : Sl
       ]
 
   sound_at : (h : ℕ) → h < length m.half_edges → IsSoundEdge new h
-  sound_at h within = sound_from new h (in_mesh h within) (next_ok h within) (prev_ok h within) (λ some. absurd (omega (arith, some, zero_after h within)))
+  sound_at h within =
+      let new_in : h < length new.half_edges = rw i.edge_count within in
+      sound_from new h (in_mesh h within) (next_ok h new_in) (prev_sound new next_ok h new_in) (λ some. absurd (omega (arith, some, zero_after h within)))
 
   vertices_kept : (u h : ℕ) → out_edge new u ≡ Some h → (h < length new.half_edges) × (origin new h ≡ u)
-  vertices_kept u h is =
-      let p = t in
-      elim (cases_eq u (origin m (next m e))) [
-        | inl same ↦
-            let at : next m e ≡ h = cc (i.out) in
-            rw (← at, same) (omega (arith, i.edge_count, p.there_in), i.other_origins _ p.there_in p.there-twin)
-        | inr differs ↦
-            let had = s.vertices u h (sym (i.other_outs u differs) ∙ is) in
-            (omega (arith, i.edge_count, had.0), i.other_origins h had.0 (λ q. differs (sym had.1 ∙ ap (origin m) q ∙ sym p.start)) ∙ had.1)
-      ]
+  vertices_kept =
+      still_named m new (origin m (next m e)) (next m e) i.out i.other_outs s (omega (arith, i.edge_count, t.there_in)) (i.other_origins _ t.there_in t.there-twin)
+      (λ h within off. (omega (arith, i.edge_count, within), i.other_origins h within (λ q. off (ap (origin m) q ∙ sym t.start))))
 
   no_faces : length new.face_edges ≡ 0
   no_faces = ap length (i.face_edges ∙ can.one_face)

@@ -2,7 +2,7 @@
 use Rattle.std.proofs.Common.{◌≡◌, ℕ, ◌-◌, ◌<◌, List, [], ◌∷◌, ◌++◌, length, set, refl, sym, ap, ◌∙◌, ◌≢◌, arith}
 use Rattle.std.proofs.lemmas.List.{set-set, set-append_left, length-set, length-map}
 use Rattle.half_edge_links.specs.declared.records.HalfEdge.{HalfEdge}
-use Rattle.half_edge_links.specs.Mesh.{Mesh, edge_at, origin, next, prev, face, rev, IsSound, IsAlone, IsInnerEdge, with_vertex}
+use Rattle.half_edge_links.specs.Mesh.{Mesh, edge_at, origin, next, prev, face, rev, IsSound, IsAlone, IsInnerEdge}
 use Rattle.half_edge_links.specs.Flip.{IsFlippable, flipped}
 use Rattle.half_edge_links.specs.Insert.{Inserts, inserted}
 use Rattle.half_edge_links.specs.Triangles.{triangle_at, triangles, InsertsTriangles, FlipsTriangles, SplitsTriangles}
@@ -10,7 +10,7 @@ use Rattle.half_edge_links.proofs.Rev.{rev_within}
 use Rattle.half_edge_links.proofs.FaceBeside.{differs_alone}
 use Rattle.half_edge_links.proofs.InsertLemmas.{inserts}
 use Rattle.half_edge_links.proofs.InsertSound.{kept, away_by_face, origin_kept, sound_after_insert}
-use Rattle.half_edge_links.proofs.InsertTriangles.{triangles_inserted, alone_at_end}
+use Rattle.half_edge_links.proofs.InsertTriangles.{triangles_inserted}
 use Rattle.half_edge_links.proofs.FlipTriangles.{triangles_flipped}
 
 overwritten : {X : Type 0} (xs ys : List X) (i j : ℕ) (a b c : X) → i < length xs → j < length xs → set (set (set xs i a ++ ys) i b) j c ≡ set (set xs i b) j c ++ ys
@@ -67,13 +67,6 @@ module _ (m : Mesh) (v e : ℕ) (s : IsSound m) (can : IsFlippable m e) (alone :
       let right_in : face m (rev e) - 1 < length (triangles m) = omega (arith, length-map m.face_edges (triangle_at m), twin_links.face_in, can.twin_inner) in
       let cut = overwritten (triangles m) (record { first = origin m (next m e); second = origin m (prev m e); third = v } ∷ record { first = origin m (prev m e); second = origin m e; third = v } ∷ []) (face m e - 1) (face m (rev e) - 1) (record { first = origin m e; second = origin m (next m e); third = v }) (record { first = v; second = origin m (prev m (rev e)); third = origin m (next m e) }) (record { first = origin m (prev m (rev e)); second = v; third = origin m (next m (rev e)) }) left_in right_in in
       cc
-
--- the same for a new last vertex
-pub triangles_split_new : (m grown new : Mesh) (v w e d : ℕ) → grown ≡ with_vertex m → w ≡ length m.out_edges → v ≡ w → d ≡ e → IsSound grown → IsFlippable m e → new ≡ flipped (inserted grown w d) d → SplitsTriangles m new v e
-triangles_split_new m grown new v w e d is_grown at_w at_v at_e s can is =
-    let can' : IsFlippable (with_vertex m) e = record { within = can.within; inner = can.inner; twin_inner = can.twin_inner; apart = can.apart } in
-    let is' : new ≡ flipped (inserted (with_vertex m) (length m.out_edges) e) e = cc in
-    rw (at_v, at_w, is') (splits_triangles (with_vertex m) (length m.out_edges) e (rw is_grown at s) can' (alone_at_end m))
 
 pub splits_triangles_is : (m new : Mesh) (v e : ℕ) → IsSound m → IsFlippable m e → IsAlone m v → new ≡ flipped (inserted m v e) e → SplitsTriangles m new v e
 splits_triangles_is m new v e s can alone is = rw is (splits_triangles m v e s can alone)

@@ -2,7 +2,7 @@
 use Rattle.std.proofs.Common.{◌≡◌, ◌≢◌, ℕ, ◌+◌, ◌<◌, length, Some, sym, ap, ◌∙◌, inl, inr, arith}
 use Rattle.std.proofs.lemmas.Bool.{cases_eq}
 use Rattle.half_edge_links.specs.Mesh.{Mesh, origin, next, prev, face, out_edge, rev, IsSound, IsAlone}
-use Rattle.half_edge_links.specs.Grow.{IsOuter, IsSlidable, IsLineEdge, Hangs, Slides, SplitsLine}
+use Rattle.half_edge_links.specs.Grow.{IsOuter, IsLineEdge, Hangs, Slides, SplitsLine}
 use Rattle.half_edge_links.specs.Outline.{IsOuterEdge, SplitsOuter}
 use Rattle.half_edge_links.proofs.Rev.{rev-rev, rev_within, rev_differs}
 use Rattle.half_edge_links.proofs.Parts.{rev_of_even, rev_of_odd}
@@ -18,16 +18,6 @@ module _ (m mid new : Mesh) (e v : ℕ) (s : IsSound m) (line : IsLineEdge m e) 
 
   twin_in : rev e < length m.half_edges
   twin_in = rev_within e _ s.even line.0
-
-  pub slidable_hung : IsSlidable mid e
-  slidable_hung =
-      let r0 = rev_of_even _ s.even in
-      record {
-        within = omega (arith, i.edge_count, line.0);
-        pendant = ap (next mid) i.next_at ∙ i.there.next ∙ sym r0 ∙ ap rev (sym i.next_at);
-        apart = λ q. absurd (omega (arith, twin_in, sym i.next_at ∙ q));
-        one_face = i.face_edges ∙ line.1;
-      }
 
   next_next : next mid (next mid e) ≡ length m.half_edges + 1
   next_next = ap (next mid) i.next_at ∙ i.there.next

@@ -1,20 +1,12 @@
 -- The edges round each vertex stay one round.
-use Rattle.std.proofs.Common.{◌≡◌, ◌≢◌, ◌⊎◌, ℕ, ◌+◌, ◌<◌, Bool, true, length, sym, ap, ◌∙◌, inl, inr, arith}
+use Rattle.std.proofs.Common.{◌≡◌, ◌≢◌, ℕ, ◌+◌, ◌<◌, Bool, true, length, sym, ap, ◌∙◌, inl, inr, arith}
 use Rattle.std.proofs.lemmas.Bool.{cases_eq}
 use Rattle.half_edge_links.specs.Mesh.{Mesh, origin, next, prev, rev, IsSound, IsAlone}
 use Rattle.half_edge_links.specs.Grow.{IsOuter, Hangs}
 use Rattle.half_edge_links.specs.Mesh.{IsClosed, HasStars}
 use Rattle.half_edge_links.proofs.Rev.{rev_within}
-use Rattle.half_edge_links.proofs.Parts.{rev_of_odd}
+use Rattle.half_edge_links.proofs.Parts.{rev_of_odd, grown_cases}
 use Rattle.half_edge_links.proofs.FaceBeside.{differs_alone}
-
--- an edge of a mesh with two more is old or one of the two
-pub grown_cases : (h n : ℕ) → h < n + 2 → (h < n) ⊎ ((h ≡ n) ⊎ (h ≡ n + 1))
-grown_cases h n within =
-    elim (cases_eq h n) [
-      | inl same ↦ inr (inl same)
-      | inr p ↦ elim (cases_eq h (n + 1)) [ inl same ↦ inr (inr same) | inr q ↦ inl (omega (arith, within, p, q)) ]
-    ]
 
 module _ (m new : Mesh) (x v : ℕ) (s : IsSound m) (outer : IsOuter m x) (alone : IsAlone m v) (i : Hangs m new x v (length m.half_edges)) (stars : HasStars m) (among : ℕ → Bool) (closed : IsClosed new among) where
   after_in : next m x < length m.half_edges

@@ -11,7 +11,7 @@ use Rattle.half_edge_links.proofs.OpenSound.{moved_hit, moved_miss}
 use Rattle.half_edge_links.proofs.Conditions.{IsUnlinkable}
 use Rattle.half_edge_links.proofs.RemoveSound.{sound_removed}
 use Rattle.half_edge_links.proofs.StarsRound.{stand_in, stands_first, stands_second, stands_other}
-use Rattle.half_edge_links.proofs.Track.{IsLeft, name, name_in, origin_at, next_at, next_before, next_twin_before, old_at, rev_at}
+use Rattle.half_edge_links.proofs.Track.{side_left, IsLeft, name, name_in, origin_at, next_at, next_before, next_twin_before, old_at, rev_at}
 
 -- a mesh with the same walk round each vertex, and the same origins but for their names
 module _ (m new : Mesh) (count : length new.half_edges ≡ length m.half_edges) (prevs : (k : ℕ) → prev new k ≡ prev m k) where
@@ -36,11 +36,7 @@ module _ (m new : Mesh) (e : ℕ) (s : IsSound m) (can : IsUnlinkable m e) (r : 
   apart_removed apart h within same =
       let o = old_at m new e s can r h within in
       let l = o.0 in
-      let side : IsLeft m e (rev (old h)) = record {
-        within = rev_within _ _ s.even l.within;
-        other = λ q. l.other_side (sym (rev-rev _) ∙ ap rev q);
-        other_side = λ q. l.other (sym (rev-rev _) ∙ ap rev q ∙ rev-rev e);
-      } in
+      let side : IsLeft m e (rev (old h)) = side_left m e (old h) s l in
       let here : origin new h ≡ origin m (old h) = ap (origin new) (sym o.1) ∙ origin_at m new e s can r _ l in
       let there : origin new (rev h) ≡ origin m (rev (old h)) = ap (λ k. origin new (rev k)) (sym o.1) ∙ ap (origin new) (rev_at m new e s can r _ l) ∙ origin_at m new e s can r _ side in
       apart (old h) l.within (sym here ∙ same ∙ there)
@@ -56,14 +52,6 @@ module _ (m new : Mesh) (e : ℕ) (s : IsSound m) (can : IsUnlinkable m e) (r : 
 
   s' : IsSound new
   s' = sound_removed m new e r
-
-  -- the other side of an edge that is left is left
-  side_left : (k : ℕ) → IsLeft m e k → IsLeft m e (rev k)
-  side_left k l = record {
-    within = rev_within _ _ s.even l.within;
-    other = λ z. l.other_side (sym (rev-rev k) ∙ ap rev z);
-    other_side = λ z. l.other (sym (rev-rev k) ∙ ap rev z ∙ rev-rev e);
-  }
 
   module _ (among : ℕ → Bool) (closed : IsClosed new among) where
     -- the two sides of the edge that goes stand for the edges before them round their vertices
@@ -86,7 +74,7 @@ module _ (m new : Mesh) (e : ℕ) (s : IsSound m) (can : IsUnlinkable m e) (r : 
     turned : (b k : ℕ) → IsLeft m e b → IsLeft m e k → next new (nm b) ≡ nm k → among (nm k) ≡ true → before (rev b) ≡ true
     turned b k l j after is =
         let back : prev new (nm k) ≡ nm b = ap (prev new) (sym after) ∙ (s'.edges _ (name_in m new e s can r b l)).prev_next in
-        plain (rev b) (side_left b l) ∙ ap among (sym (ap rev back ∙ rev_at m new e s can r b l)) ∙ closed (nm k) (name_in m new e s can r k j) is
+        plain (rev b) (side_left m e b s l) ∙ ap among (sym (ap rev back ∙ rev_at m new e s can r b l)) ∙ closed (nm k) (name_in m new e s can r k j) is
 
     closed_at_e : before e ≡ true → before (rev (prev m e)) ≡ true
     closed_at_e is =

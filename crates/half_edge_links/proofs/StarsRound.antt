@@ -9,7 +9,7 @@ use Rattle.half_edge_links.specs.Mesh.{IsClosed, HasStars}
 use Rattle.half_edge_links.proofs.Rev.{rev_within, rev-rev}
 use Rattle.half_edge_links.proofs.Parts.{rev_of_even, rev_of_odd}
 use Rattle.half_edge_links.proofs.Close.{corner}
-use Rattle.half_edge_links.proofs.StarsKept.{grown_cases}
+use Rattle.half_edge_links.proofs.Parts.{grown_cases}
 use Rattle.half_edge_links.proofs.Writes.{AreSixPlaces}
 use Rattle.half_edge_links.proofs.FlipSound.{six, left, right, origin_kept, kept}
 
@@ -26,6 +26,19 @@ pub record LiesRound (m new : Mesh) (before among : ℕ → Bool) (k : ℕ) : Ty
 
 pub rounds : (m new : Mesh) (before among : ℕ → Bool) → HasStars m → IsClosed m before → (h g : ℕ) → LiesRound m new before among h → LiesRound m new before among g → origin new h ≡ origin new g → among h ≡ true → among g ≡ true
 rounds m new before among stars closed h g a b same is = b.comes (stars before closed a.ahead b.behind a.ahead_in b.behind_in (sym a.ahead_origin ∙ same ∙ b.behind_origin) (a.goes is))
+
+-- an old edge that keeps its vertex
+pub lies_kept : (m new : Mesh) (before among : ℕ → Bool) (k : ℕ) → k < length m.half_edges → origin new k ≡ origin m k → before k ≡ among k → LiesRound m new before among k
+lies_kept m new before among k within at same = record {
+  behind = k;
+  behind_in = within;
+  behind_origin = at;
+  comes = λ is. sym same ∙ is;
+  ahead = k;
+  ahead_in = within;
+  ahead_origin = at;
+  goes = λ is. same ∙ is;
+}
 
 module _ (m new : Mesh) (e : ℕ) (s : IsSound m) (can : IsClosable m e) (i : Closes m new e (length m.half_edges) (length m.face_edges)) (among : ℕ → Bool) (closed : IsClosed new among) where
   -- the new outer edge lies between e and the other side of the edge before e
@@ -57,7 +70,7 @@ module _ (m new : Mesh) (e : ℕ) (s : IsSound m) (can : IsClosable m e) (i : Cl
   close_lies k within =
       let c = corner m e s can in
       elim (grown_cases k _ within) [
-        | inl old ↦ record { behind = k; behind_in = old; behind_origin = i.origins k old; comes = λ is. is; ahead = k; ahead_in = old; ahead_origin = i.origins k old; goes = λ is. is }
+        | inl old ↦ lies_kept m new among among k old (i.origins k old) refl
         | inr late ↦ elim late [
           | inl there ↦ record {
             behind = next m (next m e);
@@ -203,16 +216,7 @@ module _ (m new : Mesh) (e : ℕ) (s : IsSound m) (can : IsFlippable m e) (f : F
             ahead_origin = ap (origin new) same ∙ f.twin.origin ∙ ap (origin m) (sym r.next_next) ∙ (s.edges (next m (rev e)) p.d_in).starts;
             goes = λ is. plain_rev (next m (rev e)) (neq _ _ p.ad) (neq _ _ p.bd) (from_twin (ap among (sym same) ∙ is));
           }
-          | inr b ↦ record {
-            behind = k;
-            behind_in = within;
-            behind_origin = origin_kept m new e s can f k a b;
-            comes = λ is. sym (plain k a b) ∙ is;
-            ahead = k;
-            ahead_in = within;
-            ahead_origin = origin_kept m new e s can f k a b;
-            goes = λ is. plain k a b ∙ is;
-          }
+          | inr b ↦ lies_kept m new before among k within (origin_kept m new e s can f k a b) (plain k a b)
         ]
       ]
 

@@ -4,7 +4,7 @@ use Rattle.std.proofs.lemmas.Bool.{cases_eq}
 use Rattle.half_edge_links.specs.Mesh.{Mesh, origin, next, prev, rev, IsSound, IsClosed, HasStars}
 use Rattle.half_edge_links.specs.Grow.{IsSlidable, Slides}
 use Rattle.half_edge_links.proofs.Rev.{rev-rev}
-use Rattle.half_edge_links.proofs.StarsRound.{LiesRound, rounds, stand_in, stands_first, stands_other}
+use Rattle.half_edge_links.proofs.StarsRound.{LiesRound, rounds, lies_kept, stand_in, stands_first, stands_other}
 use Rattle.half_edge_links.proofs.Slide.{IsTail, tail}
 
 module _ (m new : Mesh) (e : ℕ) (s : IsSound m) (can : IsSlidable m e) (i : Slides m new e (next m e) (next m (next m e))) (among : ℕ → Bool) (closed : IsClosed new among) where
@@ -60,16 +60,7 @@ module _ (m new : Mesh) (e : ℕ) (s : IsSound m) (can : IsSlidable m e) (i : Sl
           ahead_origin = ap (origin new) same ∙ i.origin_twin;
           goes = λ is. plain _ p.back-twin ∙ step (rev e) (next m e) (next m (next m e)) p.twin_in i.prev_twin (sym p.back_is) (ap among (sym same) ∙ is);
         }
-        | inr differs ↦ record {
-          behind = k;
-          behind_in = within;
-          behind_origin = i.other_origins k within differs;
-          comes = λ is. sym (plain k differs) ∙ is;
-          ahead = k;
-          ahead_in = within;
-          ahead_origin = i.other_origins k within differs;
-          goes = λ is. plain k differs ∙ is;
-        }
+        | inr differs ↦ lies_kept m new before among k within (i.other_origins k within differs) (plain k differs)
       ]
 
 pub stars_slid : (m new : Mesh) (e : ℕ) → IsSound m → IsSlidable m e → Slides m new e (next m e) (next m (next m e)) → HasStars m → HasStars new

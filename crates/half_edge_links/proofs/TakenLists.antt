@@ -12,14 +12,14 @@ use Rattle.half_edge_links.specs.Taken.{no_ends, no_triangle, RemovesTriangle, R
 use Rattle.half_edge_links.specs.Peel.{Peels}
 use Rattle.half_edge_links.specs.Move.{MovesVertex}
 use Rattle.half_edge_links.proofs.PeelLemmas.{removable_opened}
-use Rattle.half_edge_links.proofs.Rev.{rev-rev, rev_within}
+use Rattle.half_edge_links.proofs.Rev.{rev_within}
 use Rattle.half_edge_links.proofs.Triangles.{IsTriangle, triangle_at as loop_at, same_loop}
 use Rattle.half_edge_links.proofs.Conditions.{IsUnlinkable, IsHullEdge}
 use Rattle.half_edge_links.proofs.OpenSound.{sound_opened, swap_remove_default, get_or-swap_remove_same, get_or-swap_remove_other, length-swap_remove}
 use Rattle.half_edge_links.proofs.ShrinkTriangles.{triangles_opened, triangles_peeled, triangle_moved, sides_removed}
 use Rattle.half_edge_links.proofs.FillSound.{pair_first, pair_second, pair_other}
-use Rattle.half_edge_links.proofs.Track.{IsLeft, name_in, origin_at, face_at, old_at, rev_at}
-use Rattle.half_edge_links.proofs.Ends.{length-paired, get_or-paired, length-origins, get_or-origins}
+use Rattle.half_edge_links.proofs.Track.{side_left, IsLeft, name_in, origin_at, face_at, old_at, rev_at}
+use Rattle.half_edge_links.proofs.Ends.{length-origins, get_or-origins, length-ends_twice, get_or-ends}
 
 pub removes_triangle : (m new : Mesh) (f : ℕ) → IsInner m f → Opens m new f → RemovesTriangle m new f
 removes_triangle m new f inner o =
@@ -40,14 +40,10 @@ ends_loop_closed m new h c = same_origins_ends m new c.edge_count (λ k k_in. c.
 
 -- the two ends of each edge, by its index
 pub ends_at : (m : Mesh) (k : ℕ) (d : Ends) → IsSound m → 2 * k + 1 < length m.half_edges → get_or (ends m) k d ≡ record { source = origin m (2 * k); target = origin m (2 * k + 1) }
-ends_at m k d s within =
-    let n = length-origins m in
-    let a = get_or-origins m (2 * k) 0 (omega (arith, within)) in
-    let b = get_or-origins m (2 * k + 1) 0 within in
-    get_or-paired (origins m) k d (omega (arith, within, n)) ∙ rw (a, b) refl
+ends_at m k d s = get_or-ends m k d
 
 pub count_ends : (m : Mesh) → IsSound m → 2 * length (ends m) ≡ length m.half_edges
-count_ends m s = let n = length-origins m in let even : length (origins m) % 2 ≡ 0 = rw n s.even in length-paired (origins m) even ∙ n
+count_ends m s = length-ends_twice m s
 
 module _ (m new : Mesh) (e : ℕ) (s : IsSound m) (can : IsUnlinkable m e) (r : Removes m new e) (s' : IsSound new) where
   abbrev last : ℕ
@@ -92,20 +88,13 @@ module _ (m new : Mesh) (e : ℕ) (s : IsSound m) (can : IsUnlinkable m e) (r : 
             read ∙ rw (a', b') refl ∙ sym was ∙ sym there
       ])
 
-  side_left : (k : ℕ) → IsLeft m e k → IsLeft m e (rev k)
-  side_left k l = record {
-    within = rev_within _ _ s.even l.within;
-    other = λ z. l.other_side (sym (rev-rev k) ∙ ap rev z);
-    other_side = λ z. l.other (sym (rev-rev k) ∙ ap rev z ∙ rev-rev e);
-  }
-
   -- an edge that is left, with its ends
   pub outer_left : (k a b : ℕ) → IsLeft m e k → IsOuterEdge m k a b → IsOuterEdge new (after_removal m e k) a b
   outer_left k a b l o = record {
     within = name_in m new e s can r k l;
     outer = face_at m new e s can r k l ∙ o.outer;
     source = origin_at m new e s can r k l ∙ o.source;
-    target = ap (origin new) (rev_at m new e s can r k l) ∙ origin_at m new e s can r (rev k) (side_left k l) ∙ o.target;
+    target = ap (origin new) (rev_at m new e s can r k l) ∙ origin_at m new e s can r (rev k) (side_left m e k s l) ∙ o.target;
   }
 
   pub removes_outer : RemovesOuter m new e
@@ -116,7 +105,7 @@ module _ (m new : Mesh) (e : ℕ) (s : IsSound m) (can : IsUnlinkable m e) (r : 
         let k : ℕ = pair_moved hole last h in
         let l = was.0 in
         let source : origin m k ≡ a = sym (origin_at m new e s can r k l) ∙ ap (origin new) was.1 ∙ o.source in
-        let target : origin m (rev k) ≡ b = sym (origin_at m new e s can r (rev k) (side_left k l)) ∙ ap (origin new) (sym (rev_at m new e s can r k l)) ∙ ap (λ j. origin new (rev j)) was.1 ∙ o.target in
+        let target : origin m (rev k) ≡ b = sym (origin_at m new e s can r (rev k) (side_left m e k s l)) ∙ ap (origin new) (sym (rev_at m new e s can r k l)) ∙ ap (λ j. origin new (rev j)) was.1 ∙ o.target in
         (k, l.other, l.other_side, record { within = l.within; outer = sym (face_at m new e s can r k l) ∙ ap (face new) was.1 ∙ o.outer; source = source; target = target }, was.1);
   }
 

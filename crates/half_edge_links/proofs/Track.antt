@@ -4,7 +4,7 @@ use Rattle.half_edge_links.specs.Mesh.{Mesh, origin, next, prev, face, rev, IsSo
 use Rattle.half_edge_links.specs.Renames.{IsKeptEdge, IsRenamedEdge, pair_moved, renamed}
 use Rattle.half_edge_links.specs.Remove.{Removes, edge_naming, outer_after}
 use Rattle.half_edge_links.proofs.Conditions.{IsUnlinkable}
-use Rattle.half_edge_links.proofs.Rev.{rev_within}
+use Rattle.half_edge_links.proofs.Rev.{rev-rev, rev_within}
 use Rattle.half_edge_links.proofs.RenameSound.{kept_edge}
 use Rattle.half_edge_links.proofs.UnlinkSound.{sides, sides_back, after_cases}
 use Rattle.half_edge_links.proofs.FillSound.{new_left, old_left, old_rev}
@@ -14,6 +14,14 @@ pub record IsLeft (m : Mesh) (e k : ℕ) : Type 0 where
   pub within : k < length m.half_edges
   pub other : k ≢ e
   pub other_side : k ≢ rev e
+
+-- and its other side
+pub side_left : (m : Mesh) (e k : ℕ) → IsSound m → IsLeft m e k → IsLeft m e (rev k)
+side_left m e k s l = record {
+  within = rev_within _ _ s.even l.within;
+  other = λ z. l.other_side (sym (rev-rev k) ∙ ap rev z);
+  other_side = λ z. l.other (sym (rev-rev k) ∙ ap rev z ∙ rev-rev e);
+}
 
 module _ (m new : Mesh) (e : ℕ) (s : IsSound m) (can : IsUnlinkable m e) (r : Removes m new e) where
   abbrev last : ℕ

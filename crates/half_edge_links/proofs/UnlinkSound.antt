@@ -9,6 +9,8 @@ use Rattle.half_edge_links.specs.Grow.{with_next, with_prev}
 use Rattle.half_edge_links.specs.Remove.{with_unlinked, unlinked, out_after, outer_after, outer_beside, Unlinks, IsSoundBut}
 use Rattle.half_edge_links.proofs.Conditions.{IsUnlinkable}
 use Rattle.half_edge_links.proofs.Rev.{rev-rev, rev_within, rev_differs}
+use Rattle.half_edge_links.proofs.Orbits.{reached}
+use Rattle.half_edge_links.proofs.Parts.{sound_from, next_at, inner_kept}
 use Rattle.half_edge_links.proofs.FieldWrites.{length-with_next, next-with_next, other-with_next, prev-with_next, origin-with_next, face-with_next, length-with_prev, prev-with_prev, other-with_prev, next-with_prev, origin-with_prev, face-with_prev}
 
 abbrev pub next_of : List HalfEdge → ℕ → ℕ
@@ -158,9 +160,6 @@ module _ (m new : Mesh) (e : ℕ) (s : IsSound m) (can : IsUnlinkable m e) (u : 
   p_e : prev m e ≢ e
   p_e z = q_e (sym (ap (next m) z) ∙ at_e.next_prev)
 
-  x_t : prev m (rev e) ≢ rev e
-  x_t z = y_t (sym (ap (next m) z) ∙ at_t.next_prev)
-
   y_starts : origin m (next m (rev e)) ≡ origin m e
   y_starts = at_t.starts ∙ ap (origin m) (rev-rev e)
 
@@ -246,27 +245,29 @@ module _ (m new : Mesh) (e : ℕ) (s : IsSound m) (can : IsUnlinkable m e) (u : 
     pub prev_is : prev new h ≡ b
     pub next_is : next new b ≡ h
 
-  pub before : (h : ℕ) → h < length m.half_edges → h ≢ e → h ≢ rev e → (b : ℕ) × IsBefore h b
-  before h within h_e h_t =
-      let here = s.edges h within in
-      elim (cases_eq h (next m (rev e))) [
-        | inl is ↦
-            let p_t : prev m e ≢ rev e = λ z. h_e (is ∙ sym (ap (next m) z) ∙ at_e.next_prev) in
-            let a = after_p p_t in
-            (prev m e, record { b_in = at_e.prev_in; b_e = p_e; b_t = p_t; prev_is = ap (prev new) is ∙ a.prev_is; next_is = a.next_is ∙ sym is })
-        | inr h_y ↦ elim (cases_eq h (next m e)) [
-          | inl is ↦
-              let x_e : prev m (rev e) ≢ e = λ z. h_t (is ∙ sym (ap (next m) z) ∙ at_t.next_prev) in
-              let a = after_x x_e in
-              (prev m (rev e), record { b_in = at_t.prev_in; b_e = x_e; b_t = x_t; prev_is = ap (prev new) is ∙ a.prev_is; next_is = a.next_is ∙ sym is })
-          | inr h_q ↦
-              let b_e : prev m h ≢ e = λ z. h_q (sym here.next_prev ∙ ap (next m) z) in
-              let b_t : prev m h ≢ rev e = λ z. h_y (sym here.next_prev ∙ ap (next m) z) in
-              let b_p : prev m h ≢ prev m e = λ z. h_e (sym here.next_prev ∙ ap (next m) z ∙ at_e.next_prev) in
-              let b_x : prev m h ≢ prev m (rev e) = λ z. h_t (sym here.next_prev ∙ ap (next m) z ∙ at_t.next_prev) in
-              (prev m h, record { b_in = here.prev_in; b_e = b_e; b_t = b_t; prev_is = u.other_prev h h_e h_t h_q h_y; next_is = u.other_next (prev m h) b_e b_t b_p b_x ∙ here.next_prev })
+  -- from each edge, also those taken out, one comes back by the edge before
+  back : (h : ℕ) → h < length m.half_edges → (next new h < length m.half_edges) × (prev new (next new h) ≡ h)
+  back h within =
+      elim (cases_eq h e) [
+        | inl is ↦ rw (is, u.next_self) (can.within, u.prev_self)
+        | inr h_e ↦ elim (cases_eq h (rev e)) [
+          | inl is ↦ rw (is, u.twin_next_self) (t_in, u.twin_prev_self)
+          | inr h_t ↦ let a = after h within h_e h_t in rw a.1.next_is (a.1.n_in, a.1.prev_is)
         ]
       ]
+
+  pub before : (h : ℕ) → h < length m.half_edges → h ≢ e → h ≢ rev e → (b : ℕ) × IsBefore h b
+  before h within h_e h_t =
+      let b = reached (next new) (length m.half_edges) (λ k k_in. (back k k_in).0) (λ k l k_in l_in same. sym (back k k_in).1 ∙ ap (prev new) same ∙ (back l l_in).1) h within in (
+        b.0,
+        record {
+          b_in = b.1;
+          b_e = λ z. h_e (sym b.2 ∙ ap (next new) z ∙ u.next_self);
+          b_t = λ z. h_t (sym b.2 ∙ ap (next new) z ∙ u.twin_next_self);
+          prev_is = ap (prev new) (sym b.2) ∙ (back b.0 b.1).1;
+          next_is = b.2;
+        },
+      )
 
   -- the loop of an inner face is as it was
   pub inner_next : (h : ℕ) → h < length m.half_edges → 0 < face m h → next new h ≡ next m h
@@ -304,34 +305,15 @@ module _ (m new : Mesh) (e : ℕ) (s : IsSound m) (can : IsUnlinkable m e) (u : 
       let here = s.edges h within in
       let a = after h within h_e h_t in
       let b = before h within h_e h_t in
-      let face_is = u.faces h in
-      let face_at : (f : ℕ) → face_edge new f ≡ face_edge m f = λ f. ap (λ l. get_or l (f - 1) 0) u.face_edges in
-      record {
-        next_in = rw (a.1.next_is, u.edge_count) a.1.n_in;
-        prev_in = rw (b.1.prev_is, u.edge_count) b.1.b_in;
+      sound_from new h (record {
         origin_in = rw (u.origins h, u.vertex_count) here.origin_in;
         face_in = rw (u.faces h, ap length u.face_edges) here.face_in;
-        prev_next = ap (prev new) a.1.next_is ∙ a.1.prev_is;
-        next_prev = ap (next new) b.1.prev_is ∙ b.1.next_is;
-        starts = ap (origin new) a.1.next_is ∙ u.origins a.0 ∙ a.1.starts ∙ sym (u.origins (rev h));
-        same_face = ap (face new) a.1.next_is ∙ u.faces a.0 ∙ a.1.same_face ∙ sym (u.faces h);
-        three = λ inner.
-            let was : 0 < face m h = rw (← face_is) inner in
-            let n = inner_next h within was in
-            let nn = inner_next (next m h) here.next_in (omega (arith, here.same_face)) in
-            ap (next new) n ∙ nn ∙ here.three was ∙ sym (inner_prev h within was);
-        proper = λ same. a.1.differs (sym a.1.next_is ∙ same);
-        owned = λ inner.
-            let was : 0 < face m h = rw (← face_is) inner in
-            let n = inner_next h within was in
-            let b = inner_prev h within was in
-            let named : face_edge new (face new h) ≡ face_edge m (face m h) = ap (face_edge new) face_is ∙ face_at (face m h) in
-            elim (here.owned was) [
-              | inl z ↦ inl (named ∙ z)
-              | inr w ↦ elim w [ inl z ↦ inr (inl (named ∙ z ∙ sym n)) | inr z ↦ inr (inr (named ∙ z ∙ sym b)) ]
-            ];
         has_out = rw (u.origins h) (has_out h within h_e h_t);
-      }
+      })
+      (next_at new h a.0 a.1.next_is (rw u.edge_count a.1.n_in) a.1.prev_is (u.origins a.0 ∙ a.1.starts ∙ sym (u.origins (rev h))) (u.faces a.0 ∙ a.1.same_face ∙ sym (u.faces h)) a.1.differs)
+      (record { prev_in = rw (b.1.prev_is, u.edge_count) b.1.b_in; next_prev = ap (next new) b.1.prev_is ∙ b.1.next_is }) (λ inner.
+      let was : 0 < face m h = rw (← u.faces h) inner in
+      inner_kept m new h here was (inner_next h within was) (inner_prev h within was) (u.faces h) (inner_next (next m h) here.next_in (omega (arith, here.same_face))) (ap (λ l. get_or l (face m h - 1) 0) u.face_edges))
 
   -- the two sides of e, in order
   pub sides : (h : ℕ) → h ≢ e - e % 2 → h ≢ e - e % 2 + 1 → (h ≢ e) × (h ≢ rev e)

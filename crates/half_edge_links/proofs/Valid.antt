@@ -1,17 +1,16 @@
 -- What always holds of a mesh holds after each change.
 use Rattle.std.proofs.Common.{◌≡◌, ◌≢◌, ℕ, ◌+◌, ◌<◌, ◌≤◌, [], ◌∷◌, None, length, refl, ap, arith, length-append}
 use Rattle.std.proofs.lemmas.List.{length-set}
-use Rattle.half_edge_links.specs.declared.records.HalfEdge.{HalfEdge}
 use Rattle.half_edge_links.specs.declared.room.TheConstants.{MAX_ELEMENTS}
-use Rattle.half_edge_links.specs.Mesh.{Mesh, edge_at, origin, prev, rev, IsValid, IsInnerEdge, IsAlone, with_vertex, connected}
-use Rattle.half_edge_links.specs.Flip.{IsFlippable, flipped, flip_by}
-use Rattle.half_edge_links.specs.Insert.{inserted, insert_by}
+use Rattle.half_edge_links.specs.Mesh.{Mesh, origin, prev, rev, IsValid, IsInnerEdge, IsAlone, with_vertex, connected}
+use Rattle.half_edge_links.specs.Flip.{IsFlippable, flipped}
+use Rattle.half_edge_links.specs.Insert.{inserted}
 use Rattle.half_edge_links.specs.Grow.{IsOuter, IsClosable, IsSlidable, hung, closed, slid}
 use Rattle.half_edge_links.proofs.VertexLemmas.{sound_with_vertex}
 use Rattle.half_edge_links.proofs.ConnectLemmas.{sound_connected}
-use Rattle.half_edge_links.proofs.FlipLemmas.{flips, flip_by-is}
+use Rattle.half_edge_links.proofs.FlipLemmas.{flips}
 use Rattle.half_edge_links.proofs.FlipSound.{sound_after_flip}
-use Rattle.half_edge_links.proofs.InsertLemmas.{inserts, insert_by-is}
+use Rattle.half_edge_links.proofs.InsertLemmas.{inserts}
 use Rattle.half_edge_links.proofs.InsertSound.{sound_after_insert}
 use Rattle.half_edge_links.proofs.Hang.{hangs, sound_after_hang}
 use Rattle.half_edge_links.proofs.Close.{closes, sound_after_close}
@@ -21,6 +20,9 @@ use Rattle.half_edge_links.proofs.StarsRound.{stars_closed, stars_flipped}
 use Rattle.half_edge_links.proofs.StarsInsert.{stars_inserted}
 use Rattle.half_edge_links.proofs.StarsSlide.{stars_slid}
 use Rattle.half_edge_links.proofs.Apart.{apart_flipped, apart_hung, apart_closed, apart_slid, apart_inserted, apart_connected, stars_connected}
+
+pub valid_as : (new whole : Mesh) → new ≡ whole → IsValid whole → IsValid new
+valid_as new whole is valid = rw is valid
 
 pub valid_with_vertex : (m : Mesh) → IsValid m → length m.out_edges + 1 ≤ MAX_ELEMENTS → IsValid (with_vertex m)
 valid_with_vertex m valid room = record {
@@ -60,11 +62,6 @@ valid_flipped m e valid can corners =
       };
     }
 
--- the same for the code's reads of the six edges
-pub valid_flip_by : (m : Mesh) (e t : ℕ) (edge twin edge_next edge_prev twin_next twin_prev : HalfEdge) → IsValid m → IsFlippable m e → origin m (prev m e) ≢ origin m (prev m (rev e)) → t ≡ rev e → edge ≡ edge_at m.half_edges e → twin ≡ edge_at m.half_edges t → edge_next ≡ edge_at m.half_edges edge.next → edge_prev ≡ edge_at m.half_edges edge.prev → twin_next ≡ edge_at m.half_edges twin.next → twin_prev ≡ edge_at m.half_edges twin.prev → IsValid (flip_by m e t edge twin edge_next edge_prev twin_next twin_prev)
-valid_flip_by m e t edge twin edge_next edge_prev twin_next twin_prev valid can corners at_t a b c d x y =
-    rw (flip_by-is m e t edge twin edge_next edge_prev twin_next twin_prev at_t a b c d x y) (valid_flipped m e valid can corners)
-
 pub valid_inserted : (m : Mesh) (v a : ℕ) → IsValid m → IsInnerEdge m a → IsAlone m v → length m.half_edges + 6 ≤ MAX_ELEMENTS → length m.face_edges + 3 ≤ MAX_ELEMENTS → IsValid (inserted m v a)
 valid_inserted m v a valid inner alone room faces =
     let i = inserts m v a valid.sound inner alone in
@@ -78,11 +75,6 @@ valid_inserted m v a valid inner alone room faces =
         faces = omega (arith, i.face_count, faces);
       };
     }
-
--- the same for the code's reads
-pub valid_insert_by : (m : Mesh) (v f n g a : ℕ) (first second third : HalfEdge) → IsValid m → IsInnerEdge m a → IsAlone m v → length m.half_edges + 6 ≤ MAX_ELEMENTS → length m.face_edges + 3 ≤ MAX_ELEMENTS → n ≡ length m.half_edges → g ≡ length m.face_edges → first ≡ edge_at m.half_edges a → f ≡ first.face → second ≡ edge_at m.half_edges first.next → third ≡ edge_at m.half_edges first.prev → IsValid (insert_by m v f n g a first second third)
-valid_insert_by m v f n g a first second third valid inner alone room faces at_n at_g x at_f y z =
-    rw (insert_by-is m v f n g a first second third at_n at_g x at_f y z) (valid_inserted m v a valid inner alone room faces)
 
 pub valid_hung : (m : Mesh) (x v : ℕ) → IsValid m → IsOuter m x → IsAlone m v → length m.half_edges + 2 ≤ MAX_ELEMENTS → IsValid (hung m x v)
 valid_hung m x v valid outer alone room =

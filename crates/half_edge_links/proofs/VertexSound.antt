@@ -1,16 +1,17 @@
 -- The last vertex takes the index of one without edges.
 use Rattle.std.proofs.Common.{◌≡◌, ◌≢◌, ℕ, zero, suc, ◌+◌, ◌-◌, ◌<◌, ◌≤◌, List, length, get_or, Option, Some, None, refl, sym, ap, ◌∙◌, inl, inr, arith}
 use Rattle.std.proofs.lemmas.Bool.{cases_eq}
-use Rattle.std.proofs.lemmas.List.{get_or-set_same, get_or-set_other, length-set}
 use Rattle.std.specs.List.{swap_remove}
 use Rattle.half_edge_links.specs.declared.records.HalfEdge.{HalfEdge}
-use Rattle.half_edge_links.specs.Mesh.{Mesh, IsSmall, no_edge, edge_at, origin, next, prev, out_edge, rev, IsSound, IsAlone, iterate}
+use Rattle.half_edge_links.specs.Mesh.{Mesh, IsSmall, edge_at, origin, next, prev, out_edge, rev, IsSound, IsAlone, iterate}
 use Rattle.half_edge_links.specs.Renames.{Naming, Renames, IsKeptEdge, moved}
 use Rattle.half_edge_links.specs.Grow.{with_origin}
 use Rattle.half_edge_links.specs.Move.{turn_of, MovesOrigins, CanWalk, IsOneOrbit, MovesVertex, MovesNamed}
-use Rattle.half_edge_links.proofs.Rev.{rev-rev, rev_within}
+use Rattle.half_edge_links.proofs.Rev.{rev_within}
 use Rattle.half_edge_links.proofs.Orbits.{comes_back}
-use Rattle.half_edge_links.proofs.FieldWrites.{kept_by}
+use Rattle.half_edge_links.proofs.FieldWrites.{length-with_origin, origin-with_origin, other-with_origin, next-with_origin, prev-with_origin, face-with_origin}
+use Rattle.half_edge_links.proofs.FaceBeside.{differs_alone}
+use Rattle.half_edge_links.proofs.Conditions.{spoke_at, turn_one}
 use Rattle.half_edge_links.proofs.OpenSound.{same_renamed, moved_hit, moved_miss, get_or-swap_remove_same, get_or-swap_remove_other, length-swap_remove}
 use Rattle.half_edge_links.proofs.RenameSound.{sound_renamed}
 
@@ -18,9 +19,7 @@ use Rattle.half_edge_links.proofs.RenameSound.{sound_renamed}
 pub can_walk : (m : Mesh) → IsSound m → CanWalk m.half_edges
 can_walk m s = record {
   stays = λ h within. rev_within (prev m h) (length m.half_edges) s.even (s.edges h within).prev_in;
-  apart = λ a b p q same.
-      let prevs : prev m a ≡ prev m b = sym (rev-rev (prev m a)) ∙ ap rev same ∙ rev-rev (prev m b) in
-      sym (s.edges a p).next_prev ∙ ap (next m) prevs ∙ (s.edges b q).next_prev;
+  apart = turn_one m s;
 }
 
 -- how far the walk has come: i edges have a new origin, and h is the next
@@ -35,19 +34,6 @@ pub record HasWalked (old new : List HalfEdge) (first v i h : ℕ) : Type 0 wher
   pub other : (k : ℕ) → ((j : ℕ) → iterate (turn_of old) j first ≢ k) → (edge_at new k).origin ≡ (edge_at old k).origin
   pub further : (j : ℕ) → 0 < j → j ≤ i → iterate (turn_of old) j first ≢ first
 
-pub walk_starts : (hs : List HalfEdge) (first v : ℕ) → first < length hs → HasWalked hs hs first v 0 first
-walk_starts hs first v within = record {
-  count = refl;
-  nexts = λ k. refl;
-  prevs = λ k. refl;
-  faces = λ k. refl;
-  place = refl;
-  place_in = within;
-  there = λ j less. absurd (omega arith);
-  other = λ k off. refl;
-  further = λ j some less. absurd (omega arith);
-}
-
 module _ (old new : List HalfEdge) (first v i h : ℕ) (c : CanWalk old) (w : HasWalked old new first v i h) where
   abbrev T : ℕ → ℕ
   T = turn_of old
@@ -55,35 +41,14 @@ module _ (old new : List HalfEdge) (first v i h : ℕ) (c : CanWalk old) (w : Ha
   h_in : h < length new
   h_in = rw w.count w.place_in
 
-  origin_here : (edge_at (with_origin new h v) h).origin ≡ v
-  unfolding with_origin
-  origin_here = ap (λ (e : HalfEdge). e.origin) (get_or-set_same new h _ no_edge h_in)
-
   origin_off : (k : ℕ) → k ≢ h → (edge_at (with_origin new h v) k).origin ≡ (edge_at new k).origin
-  unfolding with_origin
-  origin_off k differs = ap (λ (e : HalfEdge). e.origin) (get_or-set_other new h k _ no_edge differs)
-
-  next_all : (k : ℕ) → (edge_at (with_origin new h v) k).next ≡ (edge_at new k).next
-  unfolding with_origin
-  next_all k = kept_by (λ (e : HalfEdge). e.next) new h _ k refl
-
-  prev_all : (k : ℕ) → (edge_at (with_origin new h v) k).prev ≡ (edge_at new k).prev
-  unfolding with_origin
-  prev_all k = kept_by (λ (e : HalfEdge). e.prev) new h _ k refl
-
-  face_all : (k : ℕ) → (edge_at (with_origin new h v) k).face ≡ (edge_at new k).face
-  unfolding with_origin
-  face_all k = kept_by (λ (e : HalfEdge). e.face) new h _ k refl
-
-  count_all : length (with_origin new h v) ≡ length new
-  unfolding with_origin
-  count_all = length-set new h _
+  origin_off k differs = ap (λ (e : HalfEdge). e.origin) (other-with_origin new h v k differs)
 
   -- the origin of a place on the walk once the next was written
   there_more : (j : ℕ) → j < i + 1 → (edge_at (with_origin new h v) (iterate (turn_of old) j first)).origin ≡ v
   there_more j less =
       elim (cases_eq (iterate (turn_of old) j first) h) [
-        | inl is ↦ ap (λ k. (edge_at (with_origin new h v) k).origin) is ∙ origin_here
+        | inl is ↦ ap (λ k. (edge_at (with_origin new h v) k).origin) is ∙ origin-with_origin new h v h_in
         | inr off ↦ origin_off _ off ∙ w.there j (elim (cases_eq j i) [
           | inl q ↦ absurd (off (ap (λ n. iterate (turn_of old) n first) q ∙ sym w.place))
           | inr q ↦ omega arith
@@ -94,18 +59,18 @@ module _ (old new : List HalfEdge) (first v i h : ℕ) (c : CanWalk old) (w : Ha
   other_more k off = origin_off k (λ q. off i (sym w.place ∙ sym q)) ∙ w.other k off
 
   pub next_place : turn_of (with_origin new h v) h ≡ iterate (turn_of old) (suc i) first
-  next_place = ap rev (prev_all h ∙ w.prevs h) ∙ ap (turn_of old) w.place
+  next_place = ap rev (prev-with_origin new h v h ∙ w.prevs h) ∙ ap (turn_of old) w.place
 
   pub walk_more : (n : ℕ) → n ≡ turn_of (with_origin new h v) h → n ≢ first → HasWalked old (with_origin new h v) first v (i + 1) n
   walk_more n is differs =
       let place : n ≡ iterate (turn_of old) (i + 1) first = let q : suc i ≡ i + 1 = omega arith in is ∙ next_place ∙ ap (λ j. iterate (turn_of old) j first) q in
       record {
-        count = count_all ∙ w.count;
-        nexts = λ k. next_all k ∙ w.nexts k;
-        prevs = λ k. prev_all k ∙ w.prevs k;
-        faces = λ k. face_all k ∙ w.faces k;
+        count = length-with_origin new h v ∙ w.count;
+        nexts = λ k. next-with_origin new h v k ∙ w.nexts k;
+        prevs = λ k. prev-with_origin new h v k ∙ w.prevs k;
+        faces = λ k. face-with_origin new h v k ∙ w.faces k;
         place = place;
-        place_in = let at = is ∙ ap rev (prev_all h ∙ w.prevs h) in rw at (c.stays h w.place_in);
+        place_in = let at = is ∙ ap rev (prev-with_origin new h v h ∙ w.prevs h) in rw at (c.stays h w.place_in);
         there = there_more;
         other = other_more;
         further = λ j some less. elim (cases_eq j (i + 1)) [
@@ -128,10 +93,10 @@ module _ (old new : List HalfEdge) (first v i h : ℕ) (c : CanWalk old) (w : Ha
   walk_ends n is back =
       let round : iterate (turn_of old) (suc i) first ≡ first = sym next_place ∙ sym is ∙ back in
       record {
-        count = count_all ∙ w.count;
-        nexts = λ k. next_all k ∙ w.nexts k;
-        prevs = λ k. prev_all k ∙ w.prevs k;
-        faces = λ k. face_all k ∙ w.faces k;
+        count = length-with_origin new h v ∙ w.count;
+        nexts = λ k. next-with_origin new h v k ∙ w.nexts k;
+        prevs = λ k. prev-with_origin new h v k ∙ w.prevs k;
+        faces = λ k. face-with_origin new h v k ∙ w.faces k;
         there = λ j. let e = early round j in ap (λ k. (edge_at (with_origin new h v) k).origin) e.2 ∙ there_more e.0 e.1;
         other = other_more;
       }
@@ -153,11 +118,7 @@ module _ (m new : Mesh) (v : ℕ) (s : IsSound m) (alone : IsAlone m v) (c : Mov
 
   -- no edge starts at a vertex without edges
   pub off_alone : (h : ℕ) → h < length m.half_edges → origin m h ≢ v
-  off_alone h within is =
-      let had = (s.edges h within).has_out in
-      let none : out_edge m (origin m h) ≡ None = ap (out_edge m) is ∙ alone.1 in
-      let no = rw none at had in
-      absurd (cc)
+  off_alone h within = differs_alone m h v s within alone
 
   kept : (h : ℕ) → h < length m.half_edges → IsKeptEdge new names h
   kept h within = record { within = rw c.edge_count within; back = refl }
@@ -234,15 +195,6 @@ module _ (m new : Mesh) (v : ℕ) (s : IsSound m) (alone : IsAlone m v) (c : Mov
     faces = rw (ap length c.face_edges) small.faces;
   }
 
--- a walk stays at its vertex
-walk_stays : (m : Mesh) → IsSound m → (o : ℕ) → o < length m.half_edges → (i : ℕ) → (iterate (turn_of m.half_edges) i o < length m.half_edges) × (origin m (iterate (turn_of m.half_edges) i o) ≡ origin m o)
-walk_stays m s o within zero = (within, refl)
-walk_stays m s o within (suc i) =
-    let was = walk_stays m s o within i in
-    let here = s.edges _ was.0 in
-    let before = s.edges _ here.prev_in in
-    (rev_within _ (length m.half_edges) s.even here.prev_in, sym before.starts ∙ ap (origin m) here.next_prev ∙ was.1)
-
 -- the last vertex has the edge first, and those round it were moved
 pub moves_some : (m new : Mesh) (v first : ℕ) → IsSound m → IsAlone m v → IsOneOrbit m (length m.out_edges - 1) → out_edge m (length m.out_edges - 1) ≡ Some first → MovesOrigins m.half_edges new.half_edges first v → new.out_edges ≡ swap_remove m.out_edges v None → new.face_edges ≡ m.face_edges → new.outer_edge ≡ m.outer_edge → MovesVertex m new v
 moves_some m new v first s alone orbit named w a b c =
@@ -257,7 +209,7 @@ moves_some m new v first s alone orbit named w a b c =
         | inl is ↦
             let i = orbit first k named within is in
             sym (ap (origin new) i.1) ∙ w.there i.0 ∙ sym (moved_hit (length m.out_edges - 1) v (origin m k) is)
-        | inr off ↦ w.other k (λ i q. off (sym (ap (origin m) q) ∙ (walk_stays m s first had.0 i).1 ∙ had.1)) ∙ sym (moved_miss (length m.out_edges - 1) v (origin m k) off)
+        | inr off ↦ w.other k (λ i q. off (sym (ap (origin m) q) ∙ (spoke_at m first s had.0 i).1 ∙ had.1)) ∙ sym (moved_miss (length m.out_edges - 1) v (origin m k) off)
       ];
       out_edges = a;
       face_edges = b;

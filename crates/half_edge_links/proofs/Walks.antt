@@ -2,7 +2,7 @@
 use Rattle.std.proofs.Common.{◌≡◌, ◌≢◌, ◌⊎◌, ℕ, zero, suc, ◌+◌, ◌-◌, ◌<◌, ◌≤◌, Bool, true, false, ◌==◌, if◌then◌else◌, refl, sym, ap, ◌∙◌, inl, inr, arith}
 use Rattle.std.proofs.lemmas.Bool.{cases_eq, eq-eqb, eqb-true}
 use Rattle.half_edge_links.specs.Mesh.{iterate}
-use Rattle.half_edge_links.proofs.Orbits.{comes_back}
+use Rattle.half_edge_links.proofs.Orbits.{IsPeriod, step_add, step_back}
 
 if_either : (b c : Bool) → (b ≡ true) ⊎ (c ≡ true) → (if b then true else c) ≡ true
 if_either true c at = refl
@@ -11,12 +11,6 @@ if_either false c at = elim at [ inl is ↦ absurd (cc) | inr is ↦ is ]
 either_if : (b c : Bool) → (if b then true else c) ≡ true → (b ≡ true) ⊎ (c ≡ true)
 either_if true c is = inl refl
 either_if false c is = inr is
-
--- the first number of steps after which the walk from o is back
-pub record IsPeriod (f : ℕ → ℕ) (o k : ℕ) : Type 0 where
-  pub some : 0 < k
-  pub back : iterate f k o ≡ o
-  pub first : (j : ℕ) → 0 < j → j < k → iterate f j o ≢ o
 
 module _ (f : ℕ → ℕ) where
   -- one of the places up to the k-th step from o
@@ -50,51 +44,14 @@ module _ (f : ℕ → ℕ) where
         | inr before ↦ ap (λ j. among_steps o k (f j)) i.2 ∙ to_steps o k (suc i.0) (omega (arith, i.1, before))
       ]
 
-  pub step_add : (o i d : ℕ) → iterate f (i + d) o ≡ iterate f i (iterate f d o)
-  step_add o zero d = ap (λ j. iterate f j o) (let e : 0 + d ≡ d = omega arith in e)
-  step_add o (suc i) d = let e : suc i + d ≡ suc (i + d) = omega arith in ap (λ j. iterate f j o) e ∙ ap f (step_add o i d)
-
-  period_up_to : (o n : ℕ) → ((k : ℕ) × IsPeriod f o k) ⊎ ((j : ℕ) → 0 < j → j ≤ n → iterate f j o ≢ o)
-  period_up_to o zero = inr (λ j some less. absurd (omega arith))
-  period_up_to o (suc n) =
-      elim (period_up_to o n) [
-        | inl found ↦ inl found
-        | inr none ↦ elim (cases_eq (iterate f (suc n) o) o) [
-          | inl back ↦ inl (suc n, record { some = omega arith; back = back; first = λ j some less. none j some (omega (arith, less)) })
-          | inr off ↦ inr (λ j some less. elim (cases_eq j (suc n)) [
-            | inl last ↦ λ q. off (ap (λ i. iterate f i o) (sym last) ∙ q)
-            | inr other ↦ none j some (omega (arith, less, other))
-          ])
-        ]
-      ]
-
   module _ (n : ℕ) (stays : (a : ℕ) → a < n → f a < n) (one_to_one : (a b : ℕ) → a < n → b < n → f a ≡ f b → a ≡ b) where
-    pub walk_in : (o i : ℕ) → o < n → iterate f i o < n
-    walk_in o zero within = within
-    walk_in o (suc i) within = stays _ (walk_in o i within)
-
-    -- equal places come from equal ones before
-    pub step_back : (o i d : ℕ) → o < n → iterate f i o ≡ iterate f (i + d) o → o ≡ iterate f d o
-    step_back o zero d within same = same ∙ ap (λ j. iterate f j o) (let e : 0 + d ≡ d = omega arith in e)
-    step_back o (suc i) d within same =
-        let e : suc i + d ≡ suc (i + d) = omega arith in
-        step_back o i d within (one_to_one _ _ (walk_in o i within) (walk_in o (i + d) within) (same ∙ ap (λ j. iterate f j o) e))
-
-    pub period_of : (o : ℕ) → o < n → (k : ℕ) × IsPeriod f o k
-    period_of o within =
-        let k = comes_back f n stays one_to_one o within in
-        elim (period_up_to o n) [
-          | inl found ↦ found
-          | inr none ↦ absurd (none k.0 k.1 k.2 k.3)
-        ]
-
     pub steps_apart : (o k i j : ℕ) → o < n → IsPeriod f o k → i < j → j < k → iterate f i o ≢ iterate f j o
     steps_apart o k i j within p less j_in same =
         let d : i + (j - i) ≡ j = omega (arith, less) in
-        p.first (j - i) (omega (arith, less)) (omega (arith, less, j_in)) (sym (step_back o i (j - i) within (same ∙ ap (λ q. iterate f q o) (sym d))))
+        p.first (j - i) (omega (arith, less)) (omega (arith, less, j_in)) (sym (step_back f n stays one_to_one o i (j - i) within (same ∙ ap (λ q. iterate f q o) (sym d))))
 
   pub steps_again : (o k i : ℕ) → IsPeriod f o k → iterate f (i + k) o ≡ iterate f i o
-  steps_again o k i p = step_add o i k ∙ ap (iterate f i) p.back
+  steps_again o k i p = step_add f o i k ∙ ap (iterate f i) p.back
 
   -- what a closed set that holds o has is one of the places
   pub in_period : (o k g : ℕ) → IsPeriod f o k → among_steps o (k - 1) g ≡ true → (i : ℕ) × (i < k) × (g ≡ iterate f i o)

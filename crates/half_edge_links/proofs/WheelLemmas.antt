@@ -4,14 +4,15 @@ use Rattle.std.proofs.lemmas.Bool.{cases_eq}
 use Rattle.half_edge_links.specs.Mesh.{Mesh, origin, next, prev, face, rev, IsSound, IsInner}
 use Rattle.half_edge_links.specs.Peel.{turn}
 use Rattle.half_edge_links.specs.Remove.{Opens, Removes}
-use Rattle.half_edge_links.proofs.Conditions.{IsUnlinkable, IsHullEdge, IsFullWheel, IsFanOfTwo}
-use Rattle.half_edge_links.proofs.Rev.{rev-rev, rev_within}
+use Rattle.half_edge_links.proofs.Conditions.{IsUnlinkable, IsHullEdge, IsFullWheel, IsFanOfTwo, spoke_at}
+use Rattle.half_edge_links.proofs.Rev.{rev-rev}
 use Rattle.half_edge_links.proofs.Triangles.{IsTriangle, triangle_at}
 use Rattle.half_edge_links.proofs.OpenSound.{sound_opened}
 use Rattle.half_edge_links.proofs.RemoveSound.{sound_removed}
 use Rattle.half_edge_links.proofs.PeelLemmas.{removable_opened}
 use Rattle.half_edge_links.proofs.Track.{IsLeft, name, name_in, name_same, origin_at, face_at, next_at, next_before, next_twin_before, old_at, rev_at, outer_at}
-use Rattle.half_edge_links.proofs.CollapseLemmas.{outer_of, some_same}
+use Rattle.half_edge_links.proofs.CollapseLemmas.{outer_of}
+use Rattle.half_edge_links.proofs.UnlinkSound.{some_same}
 
 module _ (m new : Mesh) (f : ℕ) (o : Opens m new f) (some : 0 < f) where
   -- an edge of another inner face is still one
@@ -44,12 +45,10 @@ module _ (m : Mesh) (o : ℕ) (s : IsSound m) (w : IsFullWheel m o) where
   z = turn m (turn m o)
 
   pub turn_in : (h : ℕ) → h < length m.half_edges → turn m h < length m.half_edges
-  turn_in h within = rev_within (prev m h) (length m.half_edges) s.even (s.edges h within).prev_in
+  turn_in h within = (spoke_at m h s within 1).0
 
   pub turn_starts : (h : ℕ) → h < length m.half_edges → origin m (turn m h) ≡ origin m h
-  turn_starts h within =
-      let here = s.edges h within in
-      sym (s.edges (prev m h) here.prev_in).starts ∙ ap (origin m) here.next_prev
+  turn_starts h within = (spoke_at m h s within 1).1
 
   pub a_in : turn m o < length m.half_edges
   a_in = turn_in o w.within

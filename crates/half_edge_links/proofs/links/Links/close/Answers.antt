@@ -2,23 +2,13 @@ use Rattle.std.proofs.Common.{◌≡◌, refl, length, ap, ◌∙◌, arith}
 use Rattle.half_edge_links.specs.contracts.links.Links.{the_view}
 use Rattle.half_edge_links.specs.Mesh.{Mesh, edge_at}
 use Rattle.half_edge_links.specs.Grow.{closed}
-use Rattle.half_edge_links.proofs.Valid.{valid_closed}
+use Rattle.half_edge_links.proofs.Valid.{valid_as, valid_closed}
 use Rattle.half_edge_links.proofs.Close.{closes}
 use Rattle.half_edge_links.proofs.Corners.{triangles_closed_is}
 use Rattle.half_edge_links.proofs.Outer.{outer_closed}
 use Rattle.half_edge_links.proofs.EndsKept.{ends_closed_is}
 use Rattle.half_edge_links.proofs.Outline.{outline_closed}
 use Rattle.half_edge_links.proofs.links.Links.close.Goals as goal
-
-pub invariant_of-self : goal.invariant_of-self
-unfolding closed
-invariant_of-self c =
-    let m : Mesh = (the_view c.self.inside).mesh in
-    let n_is : c.len-n.result ≡ length m.half_edges = omega arith in
-    let g_is : c.len.result ≡ length m.face_edges = omega arith in
-    let second : c.read-second.result ≡ edge_at m.half_edges c.args.e = c.read-second.ensures ∙ ap (λ hs. edge_at hs c.args.e) c.deref.ensures.value in
-    let after : c.read-after.result ≡ edge_at m.half_edges c.read-second.result.next = c.read-after.ensures ∙ ap (λ hs. edge_at hs c.read-second.result.next) c.deref-2.ensures.value in
-    rw (c.close_edges.ensures.items, c.push_reserved.ensures.items, n_is, g_is, after, second) (valid_closed m c.args.e c.self.invariant (rw (← c.self.view_is) at c.requires.closable) (omega (arith, rw (← c.self.view_is) at c.requires.edge_room)) (omega (arith, rw (← c.self.view_is) at c.requires.face_room)))
 
 pub returns-clause-mesh : goal.returns-clause-mesh
 unfolding closed
@@ -29,6 +19,10 @@ returns-clause-mesh c =
     let second : c.read-second.result ≡ edge_at m.half_edges c.args.e = c.read-second.ensures ∙ ap (λ hs. edge_at hs c.args.e) c.deref.ensures.value in
     let after : c.read-after.result ≡ edge_at m.half_edges c.read-second.result.next = c.read-after.ensures ∙ ap (λ hs. edge_at hs c.read-second.result.next) c.deref-2.ensures.value in
     rw (← c.self.view_is, c.close_edges.ensures.items, c.push_reserved.ensures.items, n_is, g_is, after, second) refl
+
+pub invariant_of-self : goal.invariant_of-self
+invariant_of-self c =
+    valid_as _ _ (rw (← c.self.view_is) at (returns-clause-mesh c)) (valid_closed (the_view c.self.inside).mesh c.args.e c.self.invariant (rw (← c.self.view_is) at c.requires.closable) (omega (arith, rw (← c.self.view_is) at c.requires.edge_room)) (omega (arith, rw (← c.self.view_is) at c.requires.face_room)))
 
 pub returns-clause-links : goal.returns-clause-links
 returns-clause-links c =

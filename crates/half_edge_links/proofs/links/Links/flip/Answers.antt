@@ -4,7 +4,7 @@ use Rattle.half_edge_links.specs.Mesh.{Mesh, edge_at, next, prev, rev}
 use Rattle.half_edge_links.specs.Flip.{flip_by}
 use Rattle.half_edge_links.proofs.Triangles.{six_round}
 use Rattle.half_edge_links.proofs.FlipLemmas.{flip_by-is}
-use Rattle.half_edge_links.proofs.Valid.{valid_flip_by}
+use Rattle.half_edge_links.proofs.Valid.{valid_as, valid_flipped}
 use Rattle.half_edge_links.proofs.FlipTriangles.{triangles_flipped}
 use Rattle.half_edge_links.proofs.KeepsOuter.{outer_flipped_is}
 use Rattle.half_edge_links.proofs.EndsKept.{ends_flipped_is}
@@ -33,22 +33,6 @@ read-twin_prev-requires c =
     let is : c.read-twin.result.prev ≡ prev m (rev c.args.e) = cc in
     rw c.deref-6.ensures.value (omega (arith, p.f_in))
 
-pub invariant_of-self : goal.invariant_of-self
-unfolding flip_by
-invariant_of-self c =
-    let m : Mesh = (the_view c.self.inside).mesh in
-    valid_flip_by m c.args.e c.reversed-t.result c.read-edge.result c.read-twin.result c.read-edge_next.result c.read-edge_prev.result c.read-twin_next.result c.read-twin_prev.result
-    c.self.invariant
-    (rw (← c.self.view_is) at c.requires.flippable)
-    (rw (← c.self.view_is) at c.requires.corners)
-    c.reversed-t.ensures
-    (c.read-edge.ensures ∙ ap (λ hs. edge_at hs c.args.e) c.deref.ensures.value)
-    (c.read-twin.ensures ∙ ap (λ hs. edge_at hs c.reversed-t.result) c.deref-2.ensures.value)
-    (c.read-edge_next.ensures ∙ ap (λ hs. edge_at hs c.read-edge.result.next) c.deref-3.ensures.value)
-    (c.read-edge_prev.ensures ∙ ap (λ hs. edge_at hs c.read-edge.result.prev) c.deref-4.ensures.value)
-    (c.read-twin_next.ensures ∙ ap (λ hs. edge_at hs c.read-twin.result.next) c.deref-5.ensures.value)
-    (c.read-twin_prev.ensures ∙ ap (λ hs. edge_at hs c.read-twin.result.prev) c.deref-6.ensures.value)
-
 pub returns-clause-mesh : goal.returns-clause-mesh
 unfolding flip_by
 returns-clause-mesh c =
@@ -60,6 +44,10 @@ returns-clause-mesh c =
     (c.read-edge_prev.ensures ∙ ap (λ hs. edge_at hs c.read-edge.result.prev) c.deref-4.ensures.value)
     (c.read-twin_next.ensures ∙ ap (λ hs. edge_at hs c.read-twin.result.next) c.deref-5.ensures.value)
     (c.read-twin_prev.ensures ∙ ap (λ hs. edge_at hs c.read-twin.result.prev) c.deref-6.ensures.value))
+
+pub invariant_of-self : goal.invariant_of-self
+invariant_of-self c =
+    valid_as _ _ (rw (← c.self.view_is) at (returns-clause-mesh c)) (valid_flipped (the_view c.self.inside).mesh c.args.e c.self.invariant (rw (← c.self.view_is) at c.requires.flippable) (rw (← c.self.view_is) at c.requires.corners))
 
 pub returns-clause-triangles : goal.returns-clause-triangles
 returns-clause-triangles c =

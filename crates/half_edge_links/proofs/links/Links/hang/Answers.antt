@@ -2,26 +2,23 @@ use Rattle.std.proofs.Common.{◌≡◌, refl, length, arith}
 use Rattle.half_edge_links.specs.contracts.links.Links.{the_view}
 use Rattle.half_edge_links.specs.Mesh.{Mesh}
 use Rattle.half_edge_links.specs.Grow.{hung}
-use Rattle.half_edge_links.proofs.Valid.{valid_hung}
+use Rattle.half_edge_links.proofs.Valid.{valid_as, valid_hung}
 use Rattle.half_edge_links.proofs.Hang.{hangs}
 use Rattle.half_edge_links.proofs.Corners.{triangles_hung}
 use Rattle.half_edge_links.proofs.Outer.{outer_hung}
-use Rattle.half_edge_links.proofs.EndsKept.{ends_hung_is}
+use Rattle.half_edge_links.proofs.EndsKept.{ends_hung}
 use Rattle.half_edge_links.proofs.Outline.{outline_hung}
 use Rattle.half_edge_links.proofs.links.Links.hang.Goals as goal
-
-pub invariant_of-self : goal.invariant_of-self
-unfolding hung
-invariant_of-self c =
-    let m : Mesh = (the_view c.self.inside).mesh in
-    let n_is : c.len-n.result ≡ length m.half_edges = omega arith in
-    rw (c.hang_edges.ensures.items, n_is) (valid_hung m c.args.x c.args.v c.self.invariant (rw (← c.self.view_is) at c.requires.outer) (rw (← c.self.view_is) at c.requires.alone) (omega (arith, rw (← c.self.view_is) at c.requires.edge_room)))
 
 pub returns-clause-mesh : goal.returns-clause-mesh
 unfolding hung
 returns-clause-mesh c =
     let n_is : c.len-n.result ≡ length c.self.inside.half_edges.items = omega arith in
     rw (← c.self.view_is, c.hang_edges.ensures.items, n_is) refl
+
+pub invariant_of-self : goal.invariant_of-self
+invariant_of-self c =
+    valid_as _ _ (rw (← c.self.view_is) at (returns-clause-mesh c)) (valid_hung (the_view c.self.inside).mesh c.args.x c.args.v c.self.invariant (rw (← c.self.view_is) at c.requires.outer) (rw (← c.self.view_is) at c.requires.alone) (omega (arith, rw (← c.self.view_is) at c.requires.edge_room)))
 
 pub returns-clause-links : goal.returns-clause-links
 returns-clause-links c =
@@ -44,7 +41,7 @@ returns-clause-outer c =
 
 pub returns-clause-ends : goal.returns-clause-ends
 returns-clause-ends c =
-    rw (← c.self.view_is) (ends_hung_is (the_view c.self.inside).mesh _ c.args.x c.args.v c.self.invariant.sound (rw (← c.self.view_is) at c.requires.outer) (rw (← c.self.view_is) at c.requires.alone) (rw (← c.self.view_is) at (returns-clause-mesh c)))
+    rw (← c.self.view_is) (ends_hung (the_view c.self.inside).mesh _ c.args.x c.args.v c.self.invariant.sound (rw (← c.self.view_is) at c.requires.outer) (rw (← c.self.view_is) at (returns-clause-links c)))
 
 pub returns-clause-outline : goal.returns-clause-outline
 returns-clause-outline c = rw (← c.self.view_is) (outline_hung (the_view c.self.inside).mesh _ c.args.x c.args.v c.self.invariant.sound (rw (← c.self.view_is) at c.requires.outer) (rw (← c.self.view_is) at (returns-clause-links c)))

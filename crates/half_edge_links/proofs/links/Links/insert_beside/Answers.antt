@@ -3,31 +3,13 @@ use Rattle.half_edge_links.specs.contracts.links.Links.{the_view}
 use Rattle.half_edge_links.specs.Mesh.{Mesh, IsInnerEdge, edge_at}
 use Rattle.half_edge_links.specs.Insert.{insert_by}
 use Rattle.half_edge_links.proofs.InsertLemmas.{insert_by-is}
-use Rattle.half_edge_links.proofs.Valid.{valid_insert_by}
+use Rattle.half_edge_links.proofs.Valid.{valid_as, valid_inserted}
 use Rattle.half_edge_links.proofs.InsertTriangles.{triangles_inserted}
 use Rattle.half_edge_links.proofs.KeepsOuterInsert.{outer_inserted_is}
 use Rattle.half_edge_links.proofs.EndsKept.{ends_inserted_is}
 use Rattle.half_edge_links.proofs.InsertLemmas.{inserts_is}
 use Rattle.half_edge_links.proofs.Outline.{outline_inserted}
 use Rattle.half_edge_links.proofs.links.Links.insert_beside.Goals as goal
-
-pub invariant_of-self : goal.invariant_of-self
-unfolding insert_by
-invariant_of-self c =
-    let m : Mesh = (the_view c.self.inside).mesh in
-    rw (c.push_reserved-6.ensures.items, c.push_reserved-5.ensures.items, c.push_reserved-4.ensures.items, c.push_reserved-3.ensures.items, c.push_reserved-2.ensures.items, c.push_reserved.ensures.items, c.push_reserved-8.ensures.items, c.push_reserved-7.ensures.items)
-    (valid_insert_by m c.args.v c.read-first.result.face c.len-n.result c.len-g.result c.args.edge c.read-first.result c.read-second.result c.read-third.result
-    c.self.invariant
-    (rw (← c.self.view_is) at c.requires.inner)
-    (rw (← c.self.view_is) at c.requires.alone)
-    (omega (arith, rw (← c.self.view_is) at c.requires.edge_room))
-    (omega (arith, rw (← c.self.view_is) at c.requires.face_room))
-    (omega arith)
-    (omega arith)
-    (c.read-first.ensures ∙ ap (λ hs. edge_at hs c.args.edge) c.deref.ensures.value)
-    refl
-    (c.read-second.ensures ∙ ap (λ hs. edge_at hs c.read-first.result.next) c.deref-2.ensures.value)
-    (c.read-third.ensures ∙ ap (λ hs. edge_at hs c.read-first.result.prev) c.deref-3.ensures.value))
 
 pub returns-clause-mesh : goal.returns-clause-mesh
 unfolding insert_by
@@ -42,6 +24,10 @@ returns-clause-mesh c =
     refl
     (c.read-second.ensures ∙ ap (λ hs. edge_at hs c.read-first.result.next) c.deref-2.ensures.value)
     (c.read-third.ensures ∙ ap (λ hs. edge_at hs c.read-first.result.prev) c.deref-3.ensures.value))
+
+pub invariant_of-self : goal.invariant_of-self
+invariant_of-self c =
+    valid_as _ _ (rw (← c.self.view_is) at (returns-clause-mesh c)) (valid_inserted (the_view c.self.inside).mesh c.args.v c.args.edge c.self.invariant (rw (← c.self.view_is) at c.requires.inner) (rw (← c.self.view_is) at c.requires.alone) (omega (arith, rw (← c.self.view_is) at c.requires.edge_room)) (omega (arith, rw (← c.self.view_is) at c.requires.face_room)))
 
 pub returns-clause-triangles : goal.returns-clause-triangles
 returns-clause-triangles c =

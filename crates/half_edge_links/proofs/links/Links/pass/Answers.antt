@@ -3,18 +3,9 @@ use Rattle.half_edge_links.specs.contracts.links.Links.{the_view}
 use Rattle.half_edge_links.specs.Mesh.{Mesh, edge_at}
 use Rattle.half_edge_links.specs.Pass.{passed}
 use Rattle.half_edge_links.proofs.Passing.{passes}
+use Rattle.half_edge_links.proofs.Valid.{valid_as}
 use Rattle.half_edge_links.proofs.PassKept.{valid_passed, ends_passed_is, outline_passed}
 use Rattle.half_edge_links.proofs.links.Links.pass.Goals as goal
-
-pub invariant_of-self : goal.invariant_of-self
-unfolding passed
-invariant_of-self c =
-    let m : Mesh = (the_view c.self.inside).mesh in
-    let l : c.read-l.result ≡ edge_at m.half_edges c.args.e = c.read-l.ensures ∙ ap (λ hs. edge_at hs c.args.e) c.deref.ensures.value in
-    let k : c.read-k.result ≡ edge_at m.half_edges c.reversed-t.result = c.read-k.ensures ∙ ap (λ hs. edge_at hs c.reversed-t.result) c.deref-2.ensures.value in
-    let there : c.read-there.result ≡ edge_at m.half_edges c.read-k.result.prev = c.read-there.ensures ∙ ap (λ hs. edge_at hs c.read-k.result.prev) c.deref-3.ensures.value in
-    let start : c.read-passed.result ≡ edge_at m.half_edges c.read-l.result.next = c.read-passed.ensures ∙ ap (λ hs. edge_at hs c.read-l.result.next) c.deref-4.ensures.value in
-    rw (c.pass_edges.ensures.items, start, there, k, l, c.reversed-t.ensures) (valid_passed m c.args.e c.self.invariant (rw (← c.self.view_is) at c.requires))
 
 pub returns-clause-mesh : goal.returns-clause-mesh
 unfolding passed
@@ -25,6 +16,10 @@ returns-clause-mesh c =
     let there : c.read-there.result ≡ edge_at m.half_edges c.read-k.result.prev = c.read-there.ensures ∙ ap (λ hs. edge_at hs c.read-k.result.prev) c.deref-3.ensures.value in
     let start : c.read-passed.result ≡ edge_at m.half_edges c.read-l.result.next = c.read-passed.ensures ∙ ap (λ hs. edge_at hs c.read-l.result.next) c.deref-4.ensures.value in
     rw (← c.self.view_is, c.pass_edges.ensures.items, start, there, k, l, c.reversed-t.ensures) refl
+
+pub invariant_of-self : goal.invariant_of-self
+invariant_of-self c =
+    valid_as _ _ (rw (← c.self.view_is) at (returns-clause-mesh c)) (valid_passed (the_view c.self.inside).mesh c.args.e c.self.invariant (rw (← c.self.view_is) at c.requires))
 
 pub returns-clause-links : goal.returns-clause-links
 returns-clause-links c =

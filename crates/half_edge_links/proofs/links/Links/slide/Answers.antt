@@ -2,20 +2,11 @@ use Rattle.std.proofs.Common.{◌≡◌, refl, ap, ◌∙◌}
 use Rattle.half_edge_links.specs.contracts.links.Links.{the_view}
 use Rattle.half_edge_links.specs.Mesh.{Mesh, edge_at}
 use Rattle.half_edge_links.specs.Grow.{slid}
-use Rattle.half_edge_links.proofs.Valid.{valid_slid}
+use Rattle.half_edge_links.proofs.Valid.{valid_as, valid_slid}
 use Rattle.half_edge_links.proofs.Slide.{slides}
-use Rattle.half_edge_links.proofs.EndsKept.{ends_slid_is}
+use Rattle.half_edge_links.proofs.EndsKept.{ends_slid}
 use Rattle.half_edge_links.proofs.Outline.{outline_slid}
 use Rattle.half_edge_links.proofs.links.Links.slide.Goals as goal
-
-pub invariant_of-self : goal.invariant_of-self
-unfolding slid
-invariant_of-self c =
-    let m : Mesh = (the_view c.self.inside).mesh in
-    let k : c.read-k.result ≡ edge_at m.half_edges c.args.e = c.read-k.ensures ∙ ap (λ hs. edge_at hs c.args.e) c.deref.ensures.value in
-    let there : c.read-there.result ≡ edge_at m.half_edges c.read-k.result.next = c.read-there.ensures ∙ ap (λ hs. edge_at hs c.read-k.result.next) c.deref-2.ensures.value in
-    let z : c.read-z.result ≡ edge_at m.half_edges c.reversed-t.result = c.read-z.ensures ∙ ap (λ hs. edge_at hs c.reversed-t.result) c.deref-3.ensures.value in
-    rw (c.slide_edges.ensures.items, z, there, k, c.reversed-t.ensures) (valid_slid m c.args.e c.self.invariant (rw (← c.self.view_is) at c.requires))
 
 pub returns-clause-mesh : goal.returns-clause-mesh
 unfolding slid
@@ -26,13 +17,17 @@ returns-clause-mesh c =
     let z : c.read-z.result ≡ edge_at m.half_edges c.reversed-t.result = c.read-z.ensures ∙ ap (λ hs. edge_at hs c.reversed-t.result) c.deref-3.ensures.value in
     rw (← c.self.view_is, c.slide_edges.ensures.items, z, there, k, c.reversed-t.ensures) refl
 
+pub invariant_of-self : goal.invariant_of-self
+invariant_of-self c =
+    valid_as _ _ (rw (← c.self.view_is) at (returns-clause-mesh c)) (valid_slid (the_view c.self.inside).mesh c.args.e c.self.invariant (rw (← c.self.view_is) at c.requires))
+
 pub returns-clause-links : goal.returns-clause-links
 returns-clause-links c =
     rw (returns-clause-mesh c, ← c.self.view_is) (slides (the_view c.self.inside).mesh c.args.e c.self.invariant.sound (rw (← c.self.view_is) at c.requires))
 
 pub returns-clause-ends : goal.returns-clause-ends
 returns-clause-ends c =
-    rw (← c.self.view_is) (ends_slid_is (the_view c.self.inside).mesh _ c.args.e c.self.invariant.sound (rw (← c.self.view_is) at c.requires) (rw (← c.self.view_is) at (returns-clause-mesh c)))
+    rw (← c.self.view_is) (ends_slid (the_view c.self.inside).mesh _ c.args.e c.self.invariant.sound (rw (← c.self.view_is) at c.requires) (rw (← c.self.view_is) at (returns-clause-links c)))
 
 pub returns-clause-outline : goal.returns-clause-outline
 returns-clause-outline c = rw (← c.self.view_is) (outline_slid (the_view c.self.inside).mesh _ c.args.e c.self.invariant.sound (rw (← c.self.view_is) at c.requires) (rw (← c.self.view_is) at (returns-clause-links c)))
