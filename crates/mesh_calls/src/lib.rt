@@ -16,6 +16,8 @@ mod links;
 #[cfg(test)]
 mod lists;
 #[cfg(test)]
+mod names;
+#[cfg(test)]
 mod reads;
 #[cfg(test)]
 mod removal;

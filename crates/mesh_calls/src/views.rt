@@ -2,9 +2,9 @@
 
 use crate::growth::{one_edge, one_face};
 use crate::reads::{Edge, Face, Mesh, directed, edge_at, ends, face_at, has_vertex, vertex};
-use half_edge_mesh::{FixedFaceHandle, FixedVertexHandle};
+use half_edge_mesh::{FixedFaceHandle, FixedUndirectedEdgeHandle, FixedVertexHandle};
 use half_edge_views::MeshViews;
-use std::alloc::Global;
+use std::alloc::{AllocError, Global};
 
 /// Whether an edge is itself, is not its other direction, and is outer with no corner opposite it.
 fn is_outer_itself(edge: Edge<'_>) -> [bool; 4] {
@@ -39,6 +39,58 @@ fn two_vertices_are_joined(rt: HostRuntime) {
     assert_eq!(rt; first_edge(&mesh), Some(((1, 2), [true; 4], [true; 4])));
 }
 
+/// Whether an edge, and its undirected edge, its face and its start, equal what is copied of them.
+fn are_copied(edge: Edge<'_>) -> Result<[bool; 4], AllocError> {
+    let (side, face, vertex) = (edge.as_undirected(), edge.face(), edge.from());
+    Ok([
+        edge.clone()? == edge,
+        side.clone()? == side,
+        face.clone()? == face,
+        vertex.clone()? == vertex,
+    ])
+}
+
+/// The indexes of their names.
+fn names(edge: Edge<'_>) -> [u32; 4] {
+    [
+        edge.fix().index(),
+        edge.as_undirected().fix().index(),
+        edge.face().fix().index(),
+        edge.from().fix().index(),
+    ]
+}
+
+/// All of that, of edge 2.
+fn third_edge(mesh: &Mesh) -> Option<([bool; 4], [u32; 4])> {
+    let edge = edge_at(mesh, directed(2))?;
+    Some((are_copied(edge).ok()?, names(edge)))
+}
+
+#[test]
+fn handles_are_copied_and_named(rt: HostRuntime) {
+    let mesh = one_face(rt.alloc());
+    assert_eq!(rt; third_edge(&mesh), Some(([true; 4], [2u32, 1, 1, 1])));
+}
+
+/// The data of the ends of undirected edge 1, if there is one, and of vertex 2.
+fn found(mesh: &Mesh) -> Option<([u8; 2], u8)> {
+    let edge = FixedUndirectedEdgeHandle::from_index(1);
+    if mesh.num_undirected_edges() <= 1 {
+        return None;
+    }
+    let [from, to] = mesh.undirected_edge(edge).vertices();
+    Some((
+        [*from.data(), *to.data()],
+        *mesh.get_vertex(vertex(2))?.data(),
+    ))
+}
+
+#[test]
+fn parts_are_found_by_name(rt: HostRuntime) {
+    let mesh = one_face(rt.alloc());
+    assert_eq!(rt; found(&mesh), Some(([2u8, 3], 3)));
+}
+
 /// The data of the corners of an inner face.
 fn corners(face: Face<'_>) -> Option<[u8; 3]> {
     if face.is_outer() {
@@ -48,13 +100,18 @@ fn corners(face: Face<'_>) -> Option<[u8; 3]> {
     Some([*a.data(), *b.data(), *c.data()])
 }
 
-/// Whether the edges of an inner face follow each other.
-fn has_round(face: Face<'_>) -> Option<[bool; 3]> {
+/// Whether the edges of an inner face follow each other, from the one that it names.
+fn has_round(face: Face<'_>) -> Option<[bool; 4]> {
     if face.is_outer() {
         return None;
     }
     let [ab, bc, ca] = face.adjacent_edges();
-    Some([ab.next() == bc, bc.next() == ca, ca.next() == ab])
+    Some([
+        face.adjacent_edge() == ab,
+        ab.next() == bc,
+        bc.next() == ca,
+        ca.next() == ab,
+    ])
 }
 
 /// Whether an edge of one face has it on its left, the outer one on its right, and is the first of its directions.
@@ -103,7 +160,7 @@ fn have_edges(mesh: &Mesh) -> [bool; 2] {
 }
 
 /// The corners of face 1, and whether it has a round of edges with the last corner opposite the first of them.
-fn first_face(mesh: &Mesh) -> Option<([u8; 3], [bool; 3], bool)> {
+fn first_face(mesh: &Mesh) -> Option<([u8; 3], [bool; 4], bool)> {
     let face = face_at(mesh, FixedFaceHandle::from_index(1))?;
     Some((corners(face)?, has_round(face)?, is_last_opposite(face)?))
 }
@@ -111,7 +168,7 @@ fn first_face(mesh: &Mesh) -> Option<([u8; 3], [bool; 3], bool)> {
 #[test]
 fn one_triangle_has_a_face(rt: HostRuntime) {
     let mesh = one_face(rt.alloc());
-    assert_eq!(rt; first_face(&mesh), Some(([1, 2, 3], [true; 3], true)));
+    assert_eq!(rt; first_face(&mesh), Some(([1, 2, 3], [true; 4], true)));
 }
 
 /// Whether the hull is that of face 1, which is the first one beside the outer face, and the first vertex has an edge.

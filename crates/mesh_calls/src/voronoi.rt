@@ -64,11 +64,12 @@ fn last_edge(face: Face<'_>) -> Option<(VoronoiEdge<'_>, bool)> {
 }
 
 /// Whether an edge ends outside, and its other forms agree.
-fn ends_outside(edge: VoronoiEdge<'_>) -> [bool; 3] {
-    let side = edge.as_delaunay_edge().as_undirected();
+fn ends_outside(edge: VoronoiEdge<'_>) -> [bool; 4] {
+    let side = edge.as_delaunay_edge();
     [
         edge.to() == VoronoiVertex::Outer(edge.rev()),
-        edge.rev().as_undirected() == side.as_voronoi_edge(),
+        side.as_voronoi_edge() == edge,
+        edge.rev().as_undirected() == side.as_undirected().as_voronoi_edge(),
         edge.next().prev() == edge,
     ]
 }
@@ -84,7 +85,7 @@ fn is_round_a_vertex(edge: VoronoiEdge<'_>) -> [bool; 3] {
 }
 
 /// All of that, of face 1 and its last edge.
-fn first_face(mesh: &Mesh) -> Option<([bool; 3], bool, [bool; 3], [bool; 3])> {
+fn first_face(mesh: &Mesh) -> Option<([bool; 3], bool, [bool; 4], [bool; 3])> {
     let face = face_at(mesh, FixedFaceHandle::from_index(1))?;
     let (edge, starts) = last_edge(face)?;
     let is_of_vertex = is_of_vertex(face)?;
@@ -101,6 +102,6 @@ fn one_face_has_a_vertex_with_three_edges(rt: HostRuntime) {
     let mesh = one_face(rt.alloc());
     assert_eq!(rt;
         first_face(&mesh),
-        Some(([true; 3], true, [true; 3], [true; 3]))
+        Some(([true; 3], true, [true; 4], [true; 3]))
     );
 }
