@@ -6,14 +6,12 @@ use Rattle.half_edge_links.specs.Flip.{IsFlippable, Flips}
 use Rattle.half_edge_links.specs.Insert.{Inserts}
 use Rattle.half_edge_links.specs.Grow.{IsOuter, IsClosable, IsSlidable, Hangs, Closes, Slides}
 use Rattle.half_edge_links.proofs.Rev.{rev-rev, rev_within}
-use Rattle.half_edge_links.proofs.Parts.{rev_of_even, rev_of_odd}
+use Rattle.half_edge_links.proofs.Parts.{grown_cases, late_cases, rev_of_even, rev_of_odd}
 use Rattle.half_edge_links.proofs.FaceBeside.{differs_alone}
 use Rattle.half_edge_links.proofs.FlipSound.{origin_kept}
 use Rattle.half_edge_links.proofs.InsertSound as inserting
 use Rattle.half_edge_links.proofs.Close.{IsCorner, corner}
 use Rattle.half_edge_links.proofs.Slide.{IsTail, tail}
-use Rattle.half_edge_links.proofs.StarsInsert.{late_cases}
-use Rattle.half_edge_links.proofs.Parts.{grown_cases}
 
 -- an edge whose ends stay
 apart_kept : (m new : Mesh) (h : ℕ) → HasApartEnds m → h < length m.half_edges → origin new h ≡ origin m h → origin new (rev h) ≡ origin m (rev h) → origin new h ≢ origin new (rev h)

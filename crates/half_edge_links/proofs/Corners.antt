@@ -4,9 +4,9 @@ use Rattle.std.proofs.lemmas.List.{same_lists, get_or-map, length-map, map-appen
 use Rattle.half_edge_links.specs.Mesh.{Mesh, origin, next, prev, face, rev, IsSound, IsAlone}
 use Rattle.half_edge_links.specs.Triangles.{Triangle, triangle_at, triangles}
 use Rattle.half_edge_links.specs.Outline.{AddsTriangle}
-use Rattle.half_edge_links.specs.Grow.{IsOuter, IsClosable, closed, Hangs, Closes}
+use Rattle.half_edge_links.specs.Grow.{IsOuter, IsClosable, Hangs, Closes}
 use Rattle.half_edge_links.proofs.Hang.{after_outer}
-use Rattle.half_edge_links.proofs.Close.{corner, closes}
+use Rattle.half_edge_links.proofs.Close.{corner}
 
 module _ (m new : Mesh) (s : IsSound m) (same : (h : ℕ) → h < length m.half_edges → 0 < face m h → triangle_at new h ≡ triangle_at m h) where
   mapped : map (triangle_at new) m.face_edges ≡ triangles m
@@ -52,6 +52,3 @@ triangles_closed m new e s can i =
     let o2 = i.origins (next m h) here.next_in in
     let o3 = i.origins (prev m h) here.prev_in in
     cc) e i.face_edges)
-
-pub triangles_closed_is : (m new : Mesh) (e : ℕ) → IsSound m → IsClosable m e → new ≡ closed m e → AddsTriangle m new (origin m e) (origin m (next m e)) (origin m (rev (next m e)))
-triangles_closed_is m new e s can is = rw is (triangles_closed m (closed m e) e s can (closes m e s can))

@@ -4,14 +4,12 @@ use Rattle.std.proofs.lemmas.List.{set-append_left}
 use Rattle.half_edge_links.specs.Mesh.{Mesh, origin, next, prev, rev, IsSound, IsAlone, IsInnerEdge}
 use Rattle.half_edge_links.specs.Flip.{IsFlippable, flipped}
 use Rattle.half_edge_links.specs.Insert.{inserted}
-use Rattle.half_edge_links.specs.Grow.{IsOuter, IsClosable, IsSlidable, IsLineEdge, IsHalfSplittable, Hangs, Closes, Slides, hung, closed, slid, AddsFace}
+use Rattle.half_edge_links.specs.Grow.{IsOuter, IsClosable, IsSlidable, IsLineEdge, IsHalfSplittable, Hangs, Closes, Slides, AddsFace}
 use Rattle.half_edge_links.specs.Outline.{ends, along, AddsEdge, AddsTwoEdges, MovesEdge, InsertsEnds, SplitsLineEnds, HalfSplitsEnds}
 use Rattle.half_edge_links.proofs.Rev.{rev-rev, rev_differs}
 use Rattle.half_edge_links.proofs.Parts.{rev_of_even}
 use Rattle.half_edge_links.proofs.Ends.{ends_grown, ends_moved, length-ends}
-use Rattle.half_edge_links.proofs.Close.{corner, closes}
-use Rattle.half_edge_links.proofs.Slide.{slides}
-use Rattle.half_edge_links.proofs.Hang.{hangs}
+use Rattle.half_edge_links.proofs.Close.{corner}
 use Rattle.half_edge_links.proofs.FlipLemmas.{flips}
 use Rattle.half_edge_links.proofs.FlipSound.{origin_kept}
 use Rattle.half_edge_links.proofs.InsertLemmas.{inserts}
@@ -74,12 +72,3 @@ ends_half m mid new e v s half i a b =
     let at_v = halves.new_corner m mid e v s half i in
     let place : e / 2 < length (ends m) = length-ends m e s half.within in
     rw (b, a, apex, at_v, rev-rev) (set-append_left (ends m) (record { source = origin m e; target = v } ∷ record { source = v; target = origin m (rev e) } ∷ []) (e / 2) (along e (origin m (prev m e)) v) place)
-
-pub ends_hung_is : (m new : Mesh) (x v : ℕ) → IsSound m → IsOuter m x → IsAlone m v → new ≡ hung m x v → AddsEdge m new (origin m (rev x)) v
-ends_hung_is m new x v s outer alone is = rw is (ends_hung m (hung m x v) x v s outer (hangs m x v s outer alone))
-
-pub ends_closed_is : (m new : Mesh) (e : ℕ) → IsSound m → IsClosable m e → new ≡ closed m e → AddsEdge m new (origin m (rev (next m e))) (origin m e)
-ends_closed_is m new e s can is = rw is (ends_closed m (closed m e) e s can (closes m e s can))
-
-pub ends_slid_is : (m new : Mesh) (e : ℕ) → IsSound m → IsSlidable m e → new ≡ slid m e → MovesEdge m new e (origin m e) (origin m (next m (next m e)))
-ends_slid_is m new e s can is = rw is (ends_slid m (slid m e) e s can (slides m e s can))

@@ -5,7 +5,7 @@ use Rattle.half_edge_links.specs.declared.records.HalfEdge.{HalfEdge}
 use Rattle.half_edge_links.specs.Mesh.{Mesh, edge_at, origin, next, prev, face, face_edge, out_edge, rev, IsSound, IsSoundEdge, IsInnerEdge, IsAlone, HasLinks}
 use Rattle.half_edge_links.specs.Insert.{Inserts}
 use Rattle.half_edge_links.proofs.Rev.{rev_within}
-use Rattle.half_edge_links.proofs.Parts.{rev_of_even, rev_of_odd, IsBusy, loop_sound, still_out, still_named}
+use Rattle.half_edge_links.proofs.Parts.{late_cases, rev_of_even, rev_of_odd, IsBusy, loop_sound, still_out, still_named}
 use Rattle.half_edge_links.proofs.Kept.{sound_kept}
 use Rattle.half_edge_links.proofs.Triangles.{IsTriangle, triangle_at, same_loop}
 
@@ -150,29 +150,26 @@ module _ (m new : Mesh) (v f a n g : ℕ) (s : IsSound m) (inner : IsInnerEdge m
 
   sound_at : (h : ℕ) → h < length new.half_edges → IsSoundEdge new h
   sound_at h within =
-      elim (cases_eq a h) [
-        | inl same ↦ rw (← same) first_sound.0
-        | inr x ↦ elim (cases_eq (next m a) h) [
-          | inl same ↦ rw (← same) second_sound.0
-          | inr y ↦ elim (cases_eq (prev m a) h) [
-            | inl same ↦ rw (← same) third_sound.0
-            | inr z ↦ elim (cases_eq n h) [
-              | inl same ↦ rw (← same) third_sound.1
-              | inr p0 ↦ elim (cases_eq (n + 1) h) [
-                | inl same ↦ rw (← same) first_sound.2
-                | inr p1 ↦ elim (cases_eq (n + 2) h) [
-                  | inl same ↦ rw (← same) first_sound.1
-                  | inr p2 ↦ elim (cases_eq (n + 3) h) [
-                    | inl same ↦ rw (← same) second_sound.2
-                    | inr p3 ↦ elim (cases_eq (n + 4) h) [
-                      | inl same ↦ rw (← same) second_sound.1
-                      | inr p4 ↦ elim (cases_eq (n + 5) h) [
-                        | inl same ↦ rw (← same) third_sound.2
-                        | inr p5 ↦ sound_away h (omega (arith, i.edge_count)) (record { first = λ q. x (sym q); second = λ q. y (sym q); third = λ q. z (sym q) })
-                      ]
-                    ]
-                  ]
-                ]
+      elim (late_cases h n (omega (arith, i.edge_count))) [
+        | inl old ↦ elim (cases_eq a h) [
+          | inl same ↦ rw (← same) first_sound.0
+          | inr x ↦ elim (cases_eq (next m a) h) [
+            | inl same ↦ rw (← same) second_sound.0
+            | inr y ↦ elim (cases_eq (prev m a) h) [
+              | inl same ↦ rw (← same) third_sound.0
+              | inr z ↦ sound_away h old (record { first = λ q. x (sym q); second = λ q. y (sym q); third = λ q. z (sym q) })
+            ]
+          ]
+        ]
+        | inr b ↦ elim b [
+          | inl is ↦ rw is third_sound.1
+          | inr c ↦ elim c [
+            | inl is ↦ rw is first_sound.1
+            | inr d ↦ elim d [
+              | inl is ↦ rw is second_sound.1
+              | inr spoke ↦ elim spoke [
+                | inl is ↦ rw is first_sound.2
+                | inr e ↦ elim e [ inl is ↦ rw is second_sound.2 | inr is ↦ rw is third_sound.2 ]
               ]
             ]
           ]

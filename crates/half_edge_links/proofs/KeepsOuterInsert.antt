@@ -1,13 +1,12 @@
 -- Putting a vertex into a face keeps the outer edges.
-use Rattle.std.proofs.Common.{◌≡◌, ℕ, ◌+◌, ◌<◌, length, refl, sym, ap, arith}
+use Rattle.std.proofs.Common.{ℕ, ◌+◌, ◌<◌, length, refl, sym, ap, arith}
 use Rattle.half_edge_links.specs.declared.records.HalfEdge.{HalfEdge}
 use Rattle.half_edge_links.specs.Mesh.{Mesh, face, rev, IsSound, IsInnerEdge, IsAlone}
-use Rattle.half_edge_links.specs.Insert.{Inserts, inserted}
+use Rattle.half_edge_links.specs.Insert.{Inserts}
 use Rattle.half_edge_links.specs.Outline.{KeepsOuter}
 use Rattle.half_edge_links.proofs.Rev.{rev_within}
 use Rattle.half_edge_links.proofs.Outer.{same_outer}
 use Rattle.half_edge_links.proofs.KeepsOuter.{not_inner}
-use Rattle.half_edge_links.proofs.InsertLemmas.{inserts}
 use Rattle.half_edge_links.proofs.InsertSound.{kept, origin_kept, away_by_face}
 
 pub outer_inserted : (m new : Mesh) (v a : ℕ) → IsSound m → IsInnerEdge m a → IsAlone m v → Inserts m new v (face m a) a (length m.half_edges) (length m.face_edges) → KeepsOuter m new
@@ -31,6 +30,3 @@ outer_inserted m new v a s inner alone i = record {
       same_outer new m h p q o within (sym (ap (λ (x : HalfEdge). x.face) same)) (sym (ap (λ (x : HalfEdge). x.origin) same))
       (sym (origin_kept m new v _ a _ _ s inner alone refl refl refl i (rev h) (rev_within h _ s.even within)));
 }
-
-pub outer_inserted_is : (m new : Mesh) (v a : ℕ) → IsSound m → IsInnerEdge m a → IsAlone m v → new ≡ inserted m v a → KeepsOuter m new
-outer_inserted_is m new v a s inner alone is = rw is (outer_inserted m (inserted m v a) v a s inner alone (inserts m v a s inner alone))

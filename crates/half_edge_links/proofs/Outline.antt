@@ -30,9 +30,9 @@ pub record LiesAlong (m : Mesh) (before among : ℕ → Bool) (k : ℕ) : Type 0
 pub outlines : (m : Mesh) (before among : ℕ → Bool) → HasOneOutline m → IsClosedAlong m before → (h g : ℕ) → LiesAlong m before among h → LiesAlong m before among g → among h ≡ true → among g ≡ true
 outlines m before among one closed h g a b is = b.comes (one before closed a.ahead b.behind a.ahead_in b.behind_in a.ahead_outer b.behind_outer (a.goes is))
 
--- an old outer edge itself
-pub lies_there : (m : Mesh) (before among : ℕ → Bool) (k : ℕ) → k < length m.half_edges → face m k ≡ 0 → before k ≡ among k → LiesAlong m before among k
-lies_there m before among k within outer same = record {
+-- edge j of the new mesh is old outer edge k
+pub lies_as : (m : Mesh) (before among : ℕ → Bool) (k j : ℕ) → k < length m.half_edges → face m k ≡ 0 → before k ≡ among j → LiesAlong m before among j
+lies_as m before among k j within outer same = record {
   behind = k;
   behind_in = within;
   behind_outer = outer;
@@ -106,7 +106,7 @@ module _ (m new : Mesh) (x v : ℕ) (s : IsSound m) (outer : IsOuter m x) (i : H
         goes = goes;
       } in
       elim (grown_cases k _ within) [
-        | inl old ↦ lies_there m among among k old (sym (i.faces k old) ∙ none) refl
+        | inl old ↦ lies_as m among among k k old (sym (i.faces k old) ∙ none) refl
         | inr late ↦ elim late [
           | inl is ↦ between (λ on. ap among is ∙ hang_there on) (λ on. hang_on (hang_back (ap among (sym is) ∙ on)))
           | inr is ↦ between (λ on. ap among is ∙ hang_back (hang_there on)) (λ on. hang_on (ap among (sym is) ∙ on))
@@ -167,7 +167,7 @@ module _ (m new : Mesh) (e : ℕ) (s : IsSound m) (can : IsClosable m e) (i : Cl
         | inl old ↦
             let a : k ≢ e = λ q. absurd (omega (arith, none, ap (face new) q, i.face_first)) in
             let b : k ≢ next m e = λ q. absurd (omega (arith, none, ap (face new) q, i.face_second)) in
-            lies_there m close_before among k old (sym (i.other_faces k old a b) ∙ none) (close_plain k a b)
+            lies_as m close_before among k k old (sym (i.other_faces k old a b) ∙ none) (close_plain k a b)
         | inr late ↦ elim late [
           | inl is ↦ absurd (omega (arith, none, ap (face new) is, i.inside.face))
           | inr is ↦ record {
@@ -243,7 +243,7 @@ module _ (m new : Mesh) (e : ℕ) (s : IsSound m) (can : IsSlidable m e) (i : Sl
           ahead_outer = no_inner _ p.twin_in;
           goes = λ on. slide_plain _ (λ q. p.there-twin (sym q)) ∙ step (next m e) (rev e) p.there_in i.next_there (ap among (sym same) ∙ on);
         }
-        | inr off ↦ lies_there m slide_before among k within (no_inner k within) (slide_plain k off)
+        | inr off ↦ lies_as m slide_before among k k within (no_inner k within) (slide_plain k off)
       ]
 
 pub outline_slid : (m new : Mesh) (e : ℕ) → IsSound m → IsSlidable m e → Slides m new e (next m e) (next m (next m e)) → KeepsOneOutline m new

@@ -14,7 +14,7 @@ use Rattle.half_edge_links.proofs.PeelLemmas.{removable_opened}
 use Rattle.half_edge_links.proofs.Triangles.{IsTriangle, triangle_at, same_loop}
 use Rattle.half_edge_links.proofs.StarsRound.{stand_in, stands_first, stands_second, stands_other}
 use Rattle.half_edge_links.proofs.Track.{IsLeft, name, name_in, face_at, next_at, next_before, next_twin_before, old_at}
-use Rattle.half_edge_links.proofs.Outline.{LiesAlong, outlines, outline_same}
+use Rattle.half_edge_links.proofs.Outline.{lies_as, LiesAlong, outlines, outline_same}
 
 pub outline_moved : (m new : Mesh) (v : ℕ) → MovesVertex m new v → KeepsOneOutline m new
 outline_moved m new v c =
@@ -138,16 +138,7 @@ module _ (m mid new : Mesh) (h : ℕ) (s : IsSound m) (can : IsHullEdge m h) (o 
               | inl last ↦ absurd (omega (arith, o.last k k_in last off, mid_outer, inner.0))
               | inr other ↦ sym (o.other k k_in off other) ∙ mid_outer
             ] in
-            record {
-              behind = k;
-              behind_in = k_in;
-              behind_outer = m_outer;
-              comes = λ is. ap among (sym was.1) ∙ sym (plain k was.0.other_side) ∙ is;
-              ahead = k;
-              ahead_in = k_in;
-              ahead_outer = m_outer;
-              goes = λ is. plain k was.0.other_side ∙ ap among was.1 ∙ is;
-            }
+            lies_as m before among k j k_in m_outer (plain k was.0.other_side ∙ ap among was.1)
       ]
 
 pub outline_peeled : (m new : Mesh) (h : ℕ) → IsSound m → IsHullEdge m h → Peels m new h → KeepsOneOutline m new
@@ -217,16 +208,7 @@ module _ (m new : Mesh) (e : ℕ) (s : IsSound m) (can : IsUnlinkable m e) (r : 
       let k : ℕ = pair_moved (e - e % 2) (length m.half_edges - 2) j in
       let k_outer : face m k ≡ 0 = sym (face_at m new e s can r k was.0) ∙ ap (face new) was.1 ∙ outer in
       let off = back k was.0 in
-      record {
-        behind = k;
-        behind_in = was.0.within;
-        behind_outer = k_outer;
-        comes = λ is. ap among (sym was.1) ∙ sym (free_plain k off.0 off.1) ∙ is;
-        ahead = k;
-        ahead_in = was.0.within;
-        ahead_outer = k_outer;
-        goes = λ is. free_plain k off.0 off.1 ∙ ap among was.1 ∙ is;
-      }
+      lies_as m free_before among k j was.0.within k_outer (free_plain k off.0 off.1 ∙ ap among was.1)
 
   free_all : HasOneOutline m → (i j : ℕ) → i < length new.half_edges → j < length new.half_edges → face new i ≡ 0 → face new j ≡ 0 → among i ≡ true → among j ≡ true
   free_all one i j i_in j_in i_outer j_outer is = outlines m free_before among one free_closed i j (free_lies i i_in i_outer) (free_lies j j_in j_outer) is

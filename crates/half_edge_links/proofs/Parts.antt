@@ -13,6 +13,33 @@ grown_cases h n within =
       | inr p ↦ elim (cases_eq h (n + 1)) [ inl same ↦ inr (inr same) | inr q ↦ inl (omega (arith, within, p, q)) ]
     ]
 
+-- one of the edges from a vertex that was put into a face
+abbrev pub IsSpoke : ℕ → ℕ → Type 0
+IsSpoke n h = (h ≡ n + 1) ⊎ ((h ≡ n + 3) ⊎ (h ≡ n + 5))
+
+-- an edge of a mesh with six more
+pub late_cases : (h n : ℕ) → h < n + 6 → (h < n) ⊎ ((h ≡ n) ⊎ ((h ≡ n + 2) ⊎ ((h ≡ n + 4) ⊎ IsSpoke n h)))
+late_cases h n within =
+    elim (cases_eq h n) [
+      | inl is ↦ inr (inl is)
+      | inr a ↦ elim (cases_eq h (n + 2)) [
+        | inl is ↦ inr (inr (inl is))
+        | inr b ↦ elim (cases_eq h (n + 4)) [
+          | inl is ↦ inr (inr (inr (inl is)))
+          | inr c ↦ elim (cases_eq h (n + 1)) [
+            | inl is ↦ inr (inr (inr (inr (inl is))))
+            | inr d ↦ elim (cases_eq h (n + 3)) [
+              | inl is ↦ inr (inr (inr (inr (inr (inl is)))))
+              | inr e ↦ elim (cases_eq h (n + 5)) [
+                | inl is ↦ inr (inr (inr (inr (inr (inr is)))))
+                | inr f ↦ inl (omega (arith, within, a, b, c, d, e, f))
+              ]
+            ]
+          ]
+        ]
+      ]
+    ]
+
 -- the two sides of a new edge
 pub rev_of_even : (n : ℕ) → n % 2 ≡ 0 → rev n ≡ n + 1
 rev_of_even n even = grind (arith, common_steps)

@@ -7,7 +7,7 @@ use Rattle.half_edge_links.specs.Hull.{IsClosedAlong, KeepsOneOutline}
 use Rattle.half_edge_links.specs.Pass.{IsPassable, passed, Passes}
 use Rattle.half_edge_links.proofs.Rev.{rev-rev, rev_within, rev_differs}
 use Rattle.half_edge_links.proofs.StarsRound.{LiesRound, rounds, lies_kept, stand_in, stands_first, stands_other}
-use Rattle.half_edge_links.proofs.Outline.{LiesAlong, outlines, lies_there}
+use Rattle.half_edge_links.proofs.Outline.{LiesAlong, outlines, lies_as}
 use Rattle.half_edge_links.proofs.Ends.{ends_moved}
 use Rattle.half_edge_links.proofs.Passing.{IsBeside, beside, far_edge, passes, sound_after_pass}
 
@@ -130,7 +130,7 @@ module _ (m new : Mesh) (e : ℕ) (s : IsSound m) (can : IsPassable m e) (i : Pa
             ahead_outer = no_inner l p.back_in;
             goes = λ on. straight l p.back-there ∙ step k l p.there_in i.next_there (ap among (sym same) ∙ on);
           }
-          | inr off ↦ lies_there m along among h within (no_inner h within) (straight h off)
+          | inr off ↦ lies_as m along among h h within (no_inner h within) (straight h off)
         ]
 
 module _ (m new : Mesh) (e : ℕ) (s : IsSound m) (can : IsPassable m e) (i : Passes m new e (far_edge m e) (next m e)) where

@@ -7,35 +7,9 @@ use Rattle.half_edge_links.specs.Insert.{Inserts}
 use Rattle.half_edge_links.proofs.Rev.{rev_within}
 use Rattle.half_edge_links.proofs.Triangles.{IsTriangle}
 use Rattle.half_edge_links.proofs.FaceBeside.{differs_alone}
+use Rattle.half_edge_links.proofs.Parts.{IsSpoke, late_cases}
 use Rattle.half_edge_links.proofs.StarsRound.{LiesRound, rounds}
 use Rattle.half_edge_links.proofs.InsertSound.{round, rev0, rev1, rev2, rev3, rev4, rev5, origin_kept}
-
--- one of the edges from the new vertex
-abbrev pub IsSpoke : ℕ → ℕ → Type 0
-IsSpoke n h = (h ≡ n + 1) ⊎ ((h ≡ n + 3) ⊎ (h ≡ n + 5))
-
--- an edge of a mesh with six more
-pub late_cases : (h n : ℕ) → h < n + 6 → (h < n) ⊎ ((h ≡ n) ⊎ ((h ≡ n + 2) ⊎ ((h ≡ n + 4) ⊎ IsSpoke n h)))
-late_cases h n within =
-    elim (cases_eq h n) [
-      | inl is ↦ inr (inl is)
-      | inr a ↦ elim (cases_eq h (n + 2)) [
-        | inl is ↦ inr (inr (inl is))
-        | inr b ↦ elim (cases_eq h (n + 4)) [
-          | inl is ↦ inr (inr (inr (inl is)))
-          | inr c ↦ elim (cases_eq h (n + 1)) [
-            | inl is ↦ inr (inr (inr (inr (inl is))))
-            | inr d ↦ elim (cases_eq h (n + 3)) [
-              | inl is ↦ inr (inr (inr (inr (inr (inl is)))))
-              | inr e ↦ elim (cases_eq h (n + 5)) [
-                | inl is ↦ inr (inr (inr (inr (inr (inr is)))))
-                | inr f ↦ inl (omega (arith, within, a, b, c, d, e, f))
-              ]
-            ]
-          ]
-        ]
-      ]
-    ]
 
 module _ (m new : Mesh) (v f a n g : ℕ) (s : IsSound m) (inner : IsInnerEdge m a) (alone : IsAlone m v) (at_f : f ≡ face m a) (at_n : n ≡ length m.half_edges) (at_g : g ≡ length m.face_edges) (i : Inserts m new v f a n g) (among : ℕ → Bool) (closed : IsClosed new among) where
   t : IsTriangle m a

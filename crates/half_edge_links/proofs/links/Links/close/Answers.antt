@@ -4,9 +4,9 @@ use Rattle.half_edge_links.specs.Mesh.{Mesh, edge_at}
 use Rattle.half_edge_links.specs.Grow.{closed}
 use Rattle.half_edge_links.proofs.Valid.{valid_as, valid_closed}
 use Rattle.half_edge_links.proofs.Close.{closes}
-use Rattle.half_edge_links.proofs.Corners.{triangles_closed_is}
+use Rattle.half_edge_links.proofs.Corners.{triangles_closed}
 use Rattle.half_edge_links.proofs.Outer.{outer_closed}
-use Rattle.half_edge_links.proofs.EndsKept.{ends_closed_is}
+use Rattle.half_edge_links.proofs.EndsKept.{ends_closed}
 use Rattle.half_edge_links.proofs.Outline.{outline_closed}
 use Rattle.half_edge_links.proofs.links.Links.close.Goals as goal
 
@@ -31,7 +31,7 @@ returns-clause-links c =
 pub returns-clause-triangles : goal.returns-clause-triangles
 returns-clause-triangles c =
     let m : Mesh = (the_view c.self.inside).mesh in
-    rw (← c.self.view_is) (triangles_closed_is m _ c.args.e c.self.invariant.sound (rw (← c.self.view_is) at c.requires.closable) (rw (← c.self.view_is) at (returns-clause-mesh c)))
+    rw (← c.self.view_is) (triangles_closed m _ c.args.e c.self.invariant.sound (rw (← c.self.view_is) at c.requires.closable) (rw (← c.self.view_is) at (returns-clause-links c)))
 
 pub returns-clause-outer : goal.returns-clause-outer
 returns-clause-outer c =
@@ -41,7 +41,7 @@ returns-clause-outer c =
 
 pub returns-clause-ends : goal.returns-clause-ends
 returns-clause-ends c =
-    rw (← c.self.view_is) (ends_closed_is (the_view c.self.inside).mesh _ c.args.e c.self.invariant.sound (rw (← c.self.view_is) at c.requires.closable) (rw (← c.self.view_is) at (returns-clause-mesh c)))
+    rw (← c.self.view_is) (ends_closed (the_view c.self.inside).mesh _ c.args.e c.self.invariant.sound (rw (← c.self.view_is) at c.requires.closable) (rw (← c.self.view_is) at (returns-clause-links c)))
 
 pub returns-clause-outline : goal.returns-clause-outline
 returns-clause-outline c = rw (← c.self.view_is) (outline_closed (the_view c.self.inside).mesh _ c.args.e c.self.invariant.sound (rw (← c.self.view_is) at c.requires.closable) (rw (← c.self.view_is) at (returns-clause-links c)))

@@ -5,7 +5,7 @@ use Rattle.half_edge_links.specs.Insert.{insert_by}
 use Rattle.half_edge_links.proofs.InsertLemmas.{insert_by-is}
 use Rattle.half_edge_links.proofs.Valid.{valid_as, valid_inserted}
 use Rattle.half_edge_links.proofs.InsertTriangles.{triangles_inserted}
-use Rattle.half_edge_links.proofs.KeepsOuterInsert.{outer_inserted_is}
+use Rattle.half_edge_links.proofs.KeepsOuterInsert.{outer_inserted}
 use Rattle.half_edge_links.proofs.EndsKept.{ends_inserted_is}
 use Rattle.half_edge_links.proofs.InsertLemmas.{inserts_is}
 use Rattle.half_edge_links.proofs.Outline.{outline_inserted}
@@ -29,21 +29,21 @@ pub invariant_of-self : goal.invariant_of-self
 invariant_of-self c =
     valid_as _ _ (rw (← c.self.view_is) at (returns-clause-mesh c)) (valid_inserted (the_view c.self.inside).mesh c.args.v c.args.edge c.self.invariant (rw (← c.self.view_is) at c.requires.inner) (rw (← c.self.view_is) at c.requires.alone) (omega (arith, rw (← c.self.view_is) at c.requires.edge_room)) (omega (arith, rw (← c.self.view_is) at c.requires.face_room)))
 
+pub returns-clause-links : goal.returns-clause-links
+returns-clause-links c =
+    rw (← c.self.view_is) (inserts_is (the_view c.self.inside).mesh _ c.args.v c.args.edge c.self.invariant.sound (rw (← c.self.view_is) at c.requires.inner) (rw (← c.self.view_is) at c.requires.alone) (rw (← c.self.view_is) at (returns-clause-mesh c)))
+
 pub returns-clause-triangles : goal.returns-clause-triangles
 returns-clause-triangles c =
     rw (← c.self.view_is) (triangles_inserted (the_view c.self.inside).mesh _ c.args.v c.args.edge c.self.invariant.sound (rw (← c.self.view_is) at c.requires.inner) (rw (← c.self.view_is) at c.requires.alone) (rw (← c.self.view_is) at (returns-clause-mesh c)))
 
 pub returns-clause-outer : goal.returns-clause-outer
 returns-clause-outer c =
-    rw (← c.self.view_is) (outer_inserted_is (the_view c.self.inside).mesh _ c.args.v c.args.edge c.self.invariant.sound (rw (← c.self.view_is) at c.requires.inner) (rw (← c.self.view_is) at c.requires.alone) (rw (← c.self.view_is) at (returns-clause-mesh c)))
+    rw (← c.self.view_is) (outer_inserted (the_view c.self.inside).mesh _ c.args.v c.args.edge c.self.invariant.sound (rw (← c.self.view_is) at c.requires.inner) (rw (← c.self.view_is) at c.requires.alone) (rw (← c.self.view_is) at (returns-clause-links c)))
 
 pub returns-clause-ends : goal.returns-clause-ends
 returns-clause-ends c =
     rw (← c.self.view_is) (ends_inserted_is (the_view c.self.inside).mesh _ c.args.v c.args.edge c.self.invariant.sound (rw (← c.self.view_is) at c.requires.inner) (rw (← c.self.view_is) at c.requires.alone) (rw (← c.self.view_is) at (returns-clause-mesh c)))
-
-pub returns-clause-links : goal.returns-clause-links
-returns-clause-links c =
-    rw (← c.self.view_is) (inserts_is (the_view c.self.inside).mesh _ c.args.v c.args.edge c.self.invariant.sound (rw (← c.self.view_is) at c.requires.inner) (rw (← c.self.view_is) at c.requires.alone) (rw (← c.self.view_is) at (returns-clause-mesh c)))
 
 pub returns-clause-outline : goal.returns-clause-outline
 returns-clause-outline c = rw (← c.self.view_is) (outline_inserted (the_view c.self.inside).mesh _ c.args.v c.args.edge c.self.invariant.sound (rw (← c.self.view_is) at c.requires.inner) (rw (← c.self.view_is) at c.requires.alone) (rw (← c.self.view_is) at (returns-clause-links c)))
