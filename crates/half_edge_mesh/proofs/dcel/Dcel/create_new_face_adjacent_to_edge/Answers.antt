@@ -1,4 +1,4 @@
-use Rattle.std.proofs.Common.{refl}
+use Rattle.std.proofs.Common.{refl, arith}
 use Rattle.half_edge_mesh.proofs.EdgeLists.{adds_edges, length-ends}
 use Rattle.half_edge_mesh.proofs.Outlines.{outer_changes}
 use Rattle.half_edge_mesh.proofs.dcel.Dcel.create_new_face_adjacent_to_edge.Goals as goal
@@ -25,3 +25,9 @@ pub returns-clause-triangles : goal.returns-clause-triangles
 returns-clause-triangles g c =
     let adds = rw (c.push_vertex-v.ensures.mesh, c.index.ensures, ← c.from_index.ensures) at c.add_face_beside.ensures.triangles in
     rw (← c.self.view_is) adds
+
+pub add_face_beside-requires-clause-outer : goal.add_face_beside-requires-clause-outer
+add_face_beside-requires-clause-outer g c =
+    let within = rw (← c.self.view_is) at c.requires.within in
+    let outer = rw (← c.self.view_is) at c.requires.outer in
+    rw (c.push_vertex-v.ensures.mesh, c.index.ensures) (omega (arith, within, c.self.invariant.directed_fit), outer)

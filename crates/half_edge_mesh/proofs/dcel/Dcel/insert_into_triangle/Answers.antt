@@ -31,3 +31,8 @@ returns-clause-triangles g c =
 
 pub returns-clause-directed : goal.returns-clause-directed
 returns-clause-directed g c = rw (← c.self.view_is) c.push_defaults.ensures.grows
+
+pub returns-clause-face : goal.returns-clause-face
+returns-clause-face g c =
+    let w = c.face_edge-edge.ensures.whole in
+    (w.valid.sound.faces c.args.triangle c.requires.inner (rw w.fits.faces_fit at c.requires.within)).1
