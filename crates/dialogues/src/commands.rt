@@ -89,3 +89,67 @@ fn a_vertex_between_two_of_a_row(rt: HostRuntime) {
     ];
     assert!(rt; is_answered(rt.alloc(), Sheet::R, &dialogue));
 }
+
+#[test]
+fn an_index_of_no_vertex_removes_nothing(rt: HostRuntime) {
+    let dialogue = [
+        ("remove 0", "no vertex"),
+        ("insert 0 0", "vertex 0"),
+        ("insert 1 0", "vertex 1"),
+        ("remove 9", "no vertex"),
+        ("remove 2", "no vertex"),
+        ("remove 999999999999999999", "no vertex"),
+        ("counts", "2 1 0 0"),
+        ("remove 000", "removed 0 0"),
+        ("counts", "1 0 0 0"),
+    ];
+    assert!(rt; is_answered(rt.alloc(), Sheet::G, &dialogue));
+}
+
+#[test]
+fn the_last_vertex_takes_a_free_index(rt: HostRuntime) {
+    let dialogue = [
+        ("insert -1 -1", "vertex 0"),
+        ("insert 1 -1", "vertex 1"),
+        ("insert 0 1", "vertex 2"),
+        ("insert 0 0", "vertex 3"),
+        ("counts", "4 6 3 0"),
+        ("remove 0", "removed -1 -1"),
+        ("locate 0 0", "vertex 0"),
+        ("counts", "3 3 1 0"),
+        ("faces", "0 1 2\nend"),
+    ];
+    assert!(rt; is_answered(rt.alloc(), Sheet::G, &dialogue));
+}
+
+#[test]
+fn a_row_loses_its_vertices(rt: HostRuntime) {
+    let dialogue = [
+        ("insert -50 0", "vertex 0"),
+        ("insert -48 0", "vertex 1"),
+        ("insert -49 0", "vertex 2"),
+        ("remove 2", "removed -49 0"),
+        ("counts", "2 1 0 0"),
+        ("remove 0", "removed -50 0"),
+        ("locate -48 0", "vertex 0"),
+        ("counts", "1 0 0 0"),
+        ("remove 0", "removed -48 0"),
+        ("counts", "0 0 0 0"),
+        ("remove 0", "no vertex"),
+    ];
+    assert!(rt; is_answered(rt.alloc(), Sheet::R, &dialogue));
+}
+
+#[test]
+fn a_line_is_left_of_a_hull(rt: HostRuntime) {
+    let dialogue = [
+        ("insert -1 0", "vertex 0"),
+        ("insert 0 0", "vertex 1"),
+        ("insert 1 0", "vertex 2"),
+        ("insert 0 1", "vertex 3"),
+        ("counts", "4 5 2 0"),
+        ("remove 3", "removed 0 1"),
+        ("counts", "3 2 0 0"),
+    ];
+    assert!(rt; is_answered(rt.alloc(), Sheet::G, &dialogue));
+}

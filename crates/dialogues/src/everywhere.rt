@@ -28,6 +28,29 @@ fn a_square_gets_its_centre(rt: HostRuntime) {
     assert_ne!(rt; is_first, is_second);
 }
 
+/// Whether a square that loses its centre is answered with these faces.
+fn is_loss_answered(alloc: Global, faces: &str) -> bool {
+    let dialogue = [
+        ("insert -1 -1", "vertex 0"),
+        ("insert 1 -1", "vertex 1"),
+        ("insert 1 1", "vertex 2"),
+        ("insert -1 1", "vertex 3"),
+        ("insert 0 0", "vertex 4"),
+        ("remove 4", "removed 0 0"),
+        ("counts", "4 5 2 0"),
+        ("faces", faces),
+    ];
+    is_answered(alloc, Sheet::G, &dialogue)
+}
+
+// Either diagonal may stand.
+#[test]
+fn a_square_loses_its_centre(rt: HostRuntime) {
+    let is_first = is_loss_answered(rt.alloc(), "0 1 2\n0 2 3\nend");
+    let is_second = is_loss_answered(rt.alloc(), "0 1 3\n1 2 3\nend");
+    assert_ne!(rt; is_first, is_second);
+}
+
 #[test]
 fn a_diamond_gets_its_centre(rt: HostRuntime) {
     let dialogue = [

@@ -64,6 +64,7 @@ impl<V: HasPosition, DE, UE, F> DelaunayTriangulation<V, DE, UE, F> {
 
     pub fn num_vertices(&self) -> usize
         ensures value { result ≡ length self.now.vertices }
+        ensures small { result ≤ MAX_ELEMENTS }
         ensures in_range { All InRange (map V.place self.now.vertices) }
         ensures plain { IsPlain V.place (plain_of self.now) }
         ensures tiling { IsTiling (triangulation_of V.place self.now) }

@@ -95,5 +95,7 @@ located points t p (reply.Edge i j) listed there = (listed, there)
 located points t p (reply.Face c) listed there = (listed, there)
 located points t p reply.Outside listed there = (listed, there)
 located points t p reply.NoTriangulation listed there = (listed, there)
+located points t p (reply.Removed x y) listed there = absurd there
+located points t p reply.NoVertex listed there = absurd there
 located points t p (reply.Counts v e f c) listed there = absurd there
 located points t p (reply.Faces list) listed there = absurd there

@@ -1,8 +1,8 @@
 -- Which reply a command may get, and what it makes of the stage.
-use Rattle.std.specs.Prelude.{◌≡◌, ◌⊎◌, ◌↔◌, ℕ, ◌<◌, ◌+◌, ◌*◌, ℤ, List, length, All, AllPairs, Contains, ⊤}
+use Rattle.std.specs.Prelude.{◌≡◌, ◌⊎◌, ◌↔◌, ℕ, ◌<◌, ◌+◌, ◌*◌, ℤ, List, Some, length, slice_get, All, AllPairs, Contains, ⊤}
 use Rattle.plane.specs.Fraction.{Point, whole}
 use Rattle.plane.specs.Pairs.{SamePairs, EachPairOnce}
-use Rattle.plane.specs.Plain.{Replaces, Appends, DifferInPosition}
+use Rattle.plane.specs.Plain.{Replaces, Appends, Removes, DifferInPosition}
 use Rattle.plane.specs.Tests.{InRange}
 use Rattle.plane.specs.Tiling.{Triangulation, IsFace}
 use Rattle.plane.specs.Location.{IsLocation, on_vertex, on_edge, on_face, outside_hull, no_triangulation}
@@ -58,6 +58,20 @@ MayInsert points old p (reply.Refused OutOfIndexes) new = IsNewSite points old p
 MayInsert points old p (reply.Refused OutOfMemory) new = IsNewSite points old p × (¬ IsFull old) × (new ≡ old)
 MayInsert points old p _ new = ⊥
 
+-- vertex i goes, which is p, and the last vertex takes its index
+pub record RemovesVertex (old : Stage) (i : ℕ) (p : Point2 ℤ) (new : Stage) : Type 0 where
+  pub was : slice_get old.plain.vertices i ≡ Some p
+  pub removed : Removes position old.plain new.plain i
+
+abbrev pub HasVertex : Stage → ℕ → Type 0
+HasVertex s i = i < length s.plain.vertices
+
+abbrev pub MayRemove : Stage → ℕ → Reply → Stage → Type 0
+MayRemove old i (reply.Removed x y) new = RemovesVertex old i (record { x = x; y = y }) new
+MayRemove old i reply.NoVertex new = (¬ HasVertex old i) × (new ≡ old)
+MayRemove old i (reply.Refused OutOfMemory) new = HasVertex old i × (new ≡ old)
+MayRemove old i _ new = ⊥
+
 -- the corners are a face in left-turning order, the least index first
 pub record IsFaceFromLeast (t : Triangulation) (c : Corners) : Type 0 where
   pub face : IsFace t c.first c.second c.third
@@ -111,7 +125,7 @@ MayReply points old (Insert c) r new = MayInsert points old (point_at c) r new
 MayReply points old (Locate c) r new = MayLocate points old.triangulation (position (point_at c)) r × (new ≡ old)
 MayReply points old Counts r new = MayCount old r × (new ≡ old)
 MayReply points old Faces r new = MayList old.triangulation r × (new ≡ old)
-MayReply points old (Remove i) r new = (r ≡ reply.BadLine) × (new ≡ old)
+MayReply points old (Remove i) r new = MayRemove old i r new
 MayReply points old (Constrain i j) r new = (r ≡ reply.BadLine) × (new ≡ old)
 MayReply points old (Release i j) r new = (r ≡ reply.BadLine) × (new ≡ old)
 MayReply points old (Nearest c) r new = (r ≡ reply.BadLine) × (new ≡ old)

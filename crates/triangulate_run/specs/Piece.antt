@@ -1,8 +1,10 @@
 -- The text of a reply, in pieces.
 use Rattle.std.specs.Prelude.{ℕ, List, decimal}
+use Rattle.std.specs.Fmt.{signed_decimal}
 use Rattle.triangulate_run.specs.declared.piece.Piece.{Piece}
-use Rattle.triangulate_run.specs.declared.piece.Piece.TheVariants.{Text, Index}
+use Rattle.triangulate_run.specs.declared.piece.Piece.TheVariants.{Text, Index, Coordinate}
 
 abbrev pub text_of : Piece → List ℕ
 text_of (Text text) = text.now
 text_of (Index n) = decimal n
+text_of (Coordinate z) = signed_decimal z

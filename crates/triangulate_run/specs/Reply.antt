@@ -1,5 +1,6 @@
 -- The texts of replies.
 use Rattle.std.specs.Prelude.{ℕ, List, ◌++◌, codes, decimal}
+use Rattle.std.specs.Fmt.{signed_decimal}
 use Rattle.std.specs.List.{flat_map}
 use Rattle.delaunay_core.specs.declared.math.InsertionError.{InsertionError}
 use Rattle.delaunay_core.specs.declared.math.InsertionError.TheVariants.{TooLarge, OutOfMemory, OutOfIndexes}
@@ -24,5 +25,7 @@ reply_text (reply.Edge i j) = codes "edge " ++ decimal i ++ codes "-" ++ decimal
 reply_text (reply.Face corners) = codes "face " ++ corners_text corners
 reply_text reply.Outside = codes "outside\n"
 reply_text reply.NoTriangulation = codes "no triangulation\n"
+reply_text (reply.Removed x y) = codes "removed " ++ signed_decimal x ++ codes " " ++ signed_decimal y ++ codes "\n"
+reply_text reply.NoVertex = codes "no vertex\n"
 reply_text (reply.Counts v e f c) = decimal v ++ codes " " ++ decimal e ++ codes " " ++ decimal f ++ codes " " ++ decimal c ++ codes "\n"
 reply_text (reply.Faces faces) = flat_map corners_text faces.items ++ codes "end\n"

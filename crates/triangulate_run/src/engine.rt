@@ -11,14 +11,14 @@ ghost use Rattle.delaunay_legalization.specs.State.{triangulation_of};
 ghost use Rattle.triangulate_run.specs.Stage.{position, first_stage, Fits};
 ghost use Rattle.triangulate_run.specs.Points.{place};
 ghost use Rattle.triangulate_run.specs.Engine.{stage_of, IsReady};
-ghost use Rattle.triangulate_run.specs.Answer.{ListsFaces, IsThere, MayInsert, MayLocate, MayCount, MayList, point_at};
+ghost use Rattle.triangulate_run.specs.Answer.{ListsFaces, IsThere, MayInsert, MayRemove, MayLocate, MayCount, MayList, point_at};
 
 use crate::corners::{Corners, from_least, sort_faces};
 use crate::points::{SheetPoint, index_of, site_index_of};
 use crate::reply::Reply;
 use crate::session::Engine;
 use command_grammar::command::{Command, Coordinates};
-use spade_delaunay::handles::FaceHandle;
+use spade_delaunay::handles::{FaceHandle, FixedVertexHandle};
 use spade_delaunay::{
     DelaunayTriangulation, InsertionError, PlaneTests, Point2, PositionInTriangulation,
     validate_vertex,
@@ -47,8 +47,8 @@ impl<P: PlaneTests<i64>> Engine for PointEngine<'_, P> {
             Command::Locate(place) => self.locate(point_of(place)),
             Command::Counts => counts_of(&self.triangulation),
             Command::Faces => self.faces(),
-            Command::Remove(_)
-            | Command::Constrain(_, _)
+            Command::Remove(index) => self.remove(index),
+            Command::Constrain(_, _)
             | Command::Release(_, _)
             | Command::Nearest(_)
             | Command::Line(_, _) => Reply::BadLine,
@@ -93,6 +93,22 @@ impl<'a, P: PlaneTests<i64>> PointEngine<'a, P> {
         match self.triangulation.insert(point, self.tests) {
             Ok(vertex) => Reply::Vertex(u64::from(vertex.index())),
             Err(error) => Reply::Refused(error),
+        }
+    }
+
+    fn remove(&mut self, index: u64) -> Reply
+        requires ready { IsReady (P.covered self.old.tests.now) (P.sites self.old.tests.now) self.old.points.now self.old.triangulation.vertices }
+        ensures ready { IsReady (P.covered self.new.tests.now) (P.sites self.new.tests.now) self.new.points.now self.new.triangulation.vertices }
+        ensures points { self.new.points ≡ self.old.points }
+        ensures reply { MayRemove (stage_of self.old.triangulation) index result (stage_of self.new.triangulation) }
+    {
+        if index >= self.triangulation.num_vertices() as u64 {
+            return Reply::NoVertex;
+        }
+        let vertex = FixedVertexHandle::from_index(index as u32);
+        match self.triangulation.remove(vertex, self.tests) {
+            Ok(point) => Reply::Removed(point.x, point.y),
+            Err(_) => Reply::Refused(InsertionError::OutOfMemory),
         }
     }
 

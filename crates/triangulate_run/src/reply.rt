@@ -3,7 +3,7 @@ ghost use Rattle.std.specs.Prelude.{◌++◌, codes};
 ghost use Rattle.std.specs.List.{flat_map};
 ghost use Rattle.triangulate_run.specs.Output.{Writes};
 ghost use Rattle.triangulate_run.specs.Reply.{corners_text, reply_text};
-ghost use Rattle.triangulate_run.specs.declared.reply.Reply.TheVariants.{Refused, Edge, Counts};
+ghost use Rattle.triangulate_run.specs.declared.reply.Reply.TheVariants.{Refused, Edge, Removed, Counts};
 
 use crate::corners::Corners;
 use crate::output::write_pieces;
@@ -31,6 +31,10 @@ pub enum Reply {
     Outside,
     /// There is no vertex, or one elsewhere.
     NoTriangulation,
+    /// The vertex that went was here.
+    Removed(i64, i64),
+    /// No vertex has the index.
+    NoVertex,
     /// How many vertices, undirected edges, inner faces and constraints there are.
     Counts(u64, u64, u64, u64),
     /// All faces, sorted.
@@ -57,6 +61,8 @@ pub(crate) fn write_reply<W: Write>(writer: &mut Watched<W>, reply: &Reply) -> R
         Reply::Face(corners) => write_face(writer, "face ", *corners),
         Reply::Outside => write_pieces(writer, &[Piece::Text("outside\n")]),
         Reply::NoTriangulation => write_pieces(writer, &[Piece::Text("no triangulation\n")]),
+        Reply::Removed(x, y) => write_removed(writer, *x, *y),
+        Reply::NoVertex => write_pieces(writer, &[Piece::Text("no vertex\n")]),
         Reply::Counts(vertices, edges, faces, constraints) => {
             write_counts(writer, *vertices, *edges, *faces, *constraints)
         }
@@ -92,6 +98,21 @@ fn write_edge<W: Write>(writer: &mut Watched<W>, from: u64, to: u64) -> Result<(
             Piece::Index(from),
             Piece::Text("-"),
             Piece::Index(to),
+            Piece::Text("\n"),
+        ],
+    )
+}
+
+fn write_removed<W: Write>(writer: &mut Watched<W>, x: i64, y: i64) -> Result<(), Failed>
+    ensures { Writes W.contents writer.old writer.new result (reply_text (Removed x y)) }
+{
+    write_pieces(
+        writer,
+        &[
+            Piece::Text("removed "),
+            Piece::Coordinate(x),
+            Piece::Text(" "),
+            Piece::Coordinate(y),
             Piece::Text("\n"),
         ],
     )

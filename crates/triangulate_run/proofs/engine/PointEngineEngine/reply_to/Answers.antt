@@ -6,7 +6,7 @@ use Rattle.triangulate_run.specs.Answer.{MayInsert, MayLocate}
 use Rattle.triangulate_run.specs.Engine.{stage_of}
 use Rattle.triangulate_run.specs.Stage.{position}
 use Rattle.triangulate_run.proofs.engine.PointEngineEngine.reply_to.Goals as goal
-use Rattle.triangulate_run.proofs.engine.PointEngineEngine.reply_to.Goals.{in-Insert, in-Locate, in-Counts, in-Faces, in-Remove}
+use Rattle.triangulate_run.proofs.engine.PointEngineEngine.reply_to.Goals.{in-Insert, in-Remove, in-Locate, in-Counts, in-Faces, in-Constrain}
 
 pub returns-clause-reply : goal.returns-clause-reply
 returns-clause-reply g c =
@@ -15,20 +15,18 @@ returns-clause-reply g c =
     elim c.match-command.branch [
       | in-Insert w ↦ rw (w.in-Insert.is, w.reply-is, w.self-is)
           (subst (λ (p : Point2 ℤ). MayInsert points (stage_of old) p w.insert-reply.result (stage_of w.insert-reply.new.self.triangulation)) w.point_of.ensures w.insert-reply.ensures.reply)
+      | in-Remove w ↦ rw (w.in-Remove.is, w.reply-is, w.self-is) w.remove-reply.ensures.reply
       | in-Locate w ↦ rw (w.in-Locate.is, w.reply-is, w.self-is)
           (subst (λ (p : Point2 ℤ). MayLocate points (triangulation_of position old) (position p) w.locate-reply.result) w.point_of-in-Locate.ensures w.locate-reply.ensures.reply, refl)
       | in-Counts w ↦ rw (w.in-Counts.is, w.reply-is, w.self-is) (w.counts_of-reply.ensures, refl)
       | in-Faces w ↦ rw (w.in-Faces.is, w.reply-is, w.self-is) (w.faces-reply.ensures.reply, refl)
-      | in-Remove w ↦ rw (w.reply-is, w.self-is) (elim w.in-Remove.is [
-        | inl a ↦ rw a.1 (refl, refl)
+      | in-Constrain w ↦ rw (w.reply-is, w.self-is) (elim w.in-Constrain.is [
+        | inl a ↦ rw a.2 (refl, refl)
         | inr h ↦ elim h [
           | inl a ↦ rw a.2 (refl, refl)
           | inr h ↦ elim h [
-            | inl a ↦ rw a.2 (refl, refl)
-            | inr h ↦ elim h [
-              | inl a ↦ rw a.1 (refl, refl)
-              | inr a ↦ rw a.2 (refl, refl)
-            ]
+            | inl a ↦ rw a.1 (refl, refl)
+            | inr a ↦ rw a.2 (refl, refl)
           ]
         ]
       ])
