@@ -104,4 +104,49 @@ impl SheetTriangulation {
             Err(error) => Err(SheetError::Refused(error)),
         }
     }
+
+    /// Gives a vertex another number, and gives the vertex as it was, or nothing where there is no such vertex.
+    pub fn replace(&mut self, vertex: FixedVertexHandle, tag: u64) -> Option<TaggedVertex>
+        ensures sheet { self.new.0 ≡ self.old.0 }
+    {
+        if (vertex.index() as usize) >= self.triangulation.num_vertices() {
+            return None;
+        }
+        let position = self.triangulation.vertex(vertex).data().position;
+        let value = TaggedVertex { position, tag };
+        Some(self.triangulation.replace_vertex(vertex, value))
+    }
+
+    /// Removes a vertex and gives it back, or nothing where there is no such vertex or no memory.
+    pub fn remove(&mut self, vertex: FixedVertexHandle) -> Option<TaggedVertex>
+        ensures sheet { self.new.0 ≡ self.old.0 }
+    {
+        if (vertex.index() as usize) >= self.triangulation.num_vertices() {
+            return None;
+        }
+        match self.triangulation.remove(vertex, &self.sheet) {
+            Ok(value) => Some(value),
+            Err(_) => None,
+        }
+    }
+
+    /// Removes the vertex at a site of the sheet and gives it back, or nothing where there is none or no memory.
+    pub fn remove_at(&mut self, position: Point2<i64>) -> Option<TaggedVertex>
+        ensures sheet { self.new.0 ≡ self.old.0 }
+    {
+        if site_index_of(self.sheet.points(), position).is_none() {
+            return None;
+        }
+        match self.triangulation.locate_and_remove(position, &self.sheet) {
+            Ok(removed) => removed,
+            Err(_) => None,
+        }
+    }
+
+    /// Removes all vertices.
+    pub fn clear(&mut self)
+        ensures sheet { self.new.0 ≡ self.old.0 }
+    {
+        self.triangulation.clear();
+    }
 }

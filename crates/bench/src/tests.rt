@@ -12,6 +12,7 @@ use triangulate_run::sheet::Sheet;
 mod empty_circles;
 mod locations;
 mod refusals;
+mod removals;
 mod snapshots;
 mod vertices;
 
