@@ -1,8 +1,7 @@
 -- The parts of a mesh where a vertex went and the last one took its index.
 use Rattle.std.proofs.Common.{◌≡◌, ℕ, zero, suc, ◌-◌, ◌<◌, ◌≤◌, List, [], ◌∷◌, length, map, get_or, Some, refl, sym, ap, ◌∙◌, inl, inr, arith}
 use Rattle.std.proofs.lemmas.Bool.{cases_eq}
-use Rattle.std.proofs.lemmas.Bool.Decides.{nat_tests}
-use Rattle.half_edge_links.specs.Mesh.{Mesh, origin, face, rev, IsSound}
+use Rattle.half_edge_links.specs.Mesh.{Mesh, face, rev, IsSound}
 use Rattle.half_edge_links.specs.Move.{MovesVertex}
 use Rattle.half_edge_links.specs.Renames.{moved}
 use Rattle.half_edge_links.specs.Flow.{outer_among, outline}
@@ -11,6 +10,7 @@ use Rattle.half_edge_links.specs.Outline.{Ends, ends}
 use Rattle.half_edge_links.specs.Taken.{MovesEnds, MovesTriangles}
 use Rattle.half_edge_links.specs.Triangles.{Triangle, triangles}
 use Rattle.half_edge_links.proofs.Rev.{rev_within}
+use Rattle.half_edge_mesh.proofs.Outlines.{listed, passed_over}
 use Rattle.half_edge_mesh.specs.Removal.{full_edges_of, full_faces_of, renumbered_edge, renumbered_face, renumbered_ends}
 
 abbrev pub renumbered_triangle : ℕ → ℕ → Triangle → Triangle
@@ -41,13 +41,6 @@ pub item_is : {X : Type 0} (xs : List X) (k : ℕ) (x : X) → k < length xs →
 item_is [] k x within is = absurd (omega (arith, within))
 item_is (y ∷ ys) zero x within is = ap Some (sym is)
 item_is (y ∷ ys) (suc k) x within is = item_is ys k x (omega (arith, within)) is
-
--- an outer edge comes first, and another edge is passed over
-listed : (m : Mesh) (k : ℕ) → face m k ≡ 0 → outer_among m (suc k) ≡ record { source = origin m k; target = origin m (rev k) } ∷ outer_among m k
-listed m k is = grind (arith, nat_tests)
-
-passed_over : (m : Mesh) (k : ℕ) → 0 < face m k → outer_among m (suc k) ≡ outer_among m k
-passed_over m k some = grind (arith, nat_tests)
 
 module _ (m new : Mesh) (v : ℕ) (s : IsSound m) (c : MovesVertex m new v) where
   among_renumbered : (k : ℕ) → k ≤ length m.half_edges → outer_among new k ≡ map (renumbered_ends (length m.out_edges - 1) v) (outer_among m k)

@@ -4,6 +4,7 @@ use Rattle.std.specs.Prelude.{pos, ◌+ℤ◌, IsSome}
 use Rattle.std.specs.List.{All, AllZip, Contains, filter}
 use Rattle.std.specs.List.Sorted.{IsPermutation}
 use Rattle.std.proofs.lemmas.Bool.{false≢true}
+use Rattle.std.proofs.lemmas.List.{get_or_default}
 use Rattle.std.proofs.lemmas.List.Elements.{All-cons, All-head, All-nil, All-tail, All-weaker, All-contains, Contains-append_left, Contains-append_right, Contains-get_or}
 use Rattle.std.proofs.lemmas.List.Sorted.{All-permutation, Contains-permutation, IsPermutation-sym, IsPermutation-trans, IsPermutation-cons, IsPermutation-append_left, IsPermutation-append_right, IsPermutation-filter_both, IsPermutation-middle}
 use Rattle.half_edge_links.specs.Flow.{total, along}
@@ -19,8 +20,9 @@ use Rattle.half_edge_mesh.proofs.TakenOut.{length-full_edges, get_or-full_edges}
 use Rattle.half_edge_mesh.specs.Hole.{IsHub, HasFreeTip, HasDataOf, FillsWithFan}
 use Rattle.half_edge_mesh.proofs.Filtered.{sorted_out, Contains-filter}
 use Rattle.half_edge_mesh.proofs.HubFaces.{no_face_of, count_faces, listed_face, round_faces, round_faces_are, faces_round}
-use Rattle.half_edge_mesh.proofs.Touching.{has_corner, lacks_corner, touches, misses, touches_it, corner_there, corners_off, ends_off, misses_is, lacks_is}
+use Rattle.half_edge_mesh.proofs.Touching.{has_corner, lacks_corner, touches, misses, touches_it, corner_there, corners_off, ends_off}
 use Rattle.half_edge_mesh.proofs.TurnedAway.{IsTurned, value_at}
+use Rattle.half_edge_mesh.proofs.Turning.{all_zip-push}
 
 -- ---- a vertex without edges
 module _ {V D U F : Type 0} (c : Contents V D U F) (v : ℕ) (whole : IsWhole c) (alone : IsAlone c.mesh v) where
@@ -83,17 +85,6 @@ first_last : (v : ℕ) (n : ℕ → ℕ) (k : ℕ) → spokes_to v n (suc k) ≡
 first_last v n zero = refl
 first_last v n (suc k) = ap (λ xs. joins v (n (suc k)) ∷ xs) (first_last v n k)
 
-zip_push : {A B : Type 0} (R : A → B → Type 0) (xs : List A) (ys : List B) (x : A) (y : B) → AllZip R xs ys → R x y → AllZip R (xs ++ x ∷ []) (ys ++ y ∷ [])
-zip_push R [] [] x y each here = (here, tt)
-zip_push R [] (z ∷ zs) x y each here = absurd each
-zip_push R (w ∷ ws) [] x y each here = absurd each
-zip_push R (w ∷ ws) (z ∷ zs) x y each here = (each.0, zip_push R ws zs x y each.1 here)
-
-same_item : {X : Type 0} (xs : List X) (i : ℕ) (a b : X) → i < length xs → get_or xs i a ≡ get_or xs i b
-same_item [] i a b within = absurd (omega (arith, within))
-same_item (x ∷ xs) zero a b within = refl
-same_item (x ∷ xs) (suc i) a b within = same_item xs i a b (omega (arith, within))
-
 -- the edges that went: those that were turned, and between them the last three
 module _ {D U : Type 0} (v : ℕ) (n : ℕ → ℕ) (turned : ℕ) (lost : List (FullEdge D U)) (lost_are : AllZip IsBetween lost (spokes_to v (λ i. n (suc i)) turned)) where
   in_order : (xs : List (FullEdge D U)) → AllZip IsBetween xs (joins v (n (suc (suc turned))) ∷ joins v (n (suc turned)) ∷ joins v (n 0) ∷ [])
@@ -103,7 +94,7 @@ module _ {D U : Type 0} (v : ℕ) (n : ℕ → ℕ) (turned : ℕ) (lost : List 
   in_order (a ∷ b ∷ []) z = absurd z.1.1
   in_order (a ∷ b ∷ c ∷ []) z = (
     a ∷ b ∷ (lost ++ c ∷ []),
-    (z.0, (z.1.0, subst (λ (ps : List Ends). AllZip IsBetween (lost ++ c ∷ []) ps) (sym (first_last v n turned)) (zip_push IsBetween lost (spokes_to v (λ i. n (suc i)) turned) c (joins v (n 0)) lost_are z.1.1.0))),
+    (z.0, (z.1.0, subst (λ (ps : List Ends). AllZip IsBetween (lost ++ c ∷ []) ps) (sym (first_last v n turned)) (all_zip-push IsBetween lost (spokes_to v (λ i. n (suc i)) turned) c (joins v (n 0)) lost_are z.1.1.0))),
     IsPermutation-trans _ _ _ (IsPermutation-middle lost a (b ∷ c ∷ [])) (IsPermutation-cons a _ _ (IsPermutation-middle lost b (c ∷ []))),
     λ x at. Contains-append_right (a ∷ b ∷ []) (lost ++ c ∷ []) x (Contains-append_left lost (c ∷ []) x at),
   )
@@ -132,7 +123,7 @@ module _ {V D U F : Type 0} (old c new : Contents V D U F) (o turned : ℕ) (who
 
   -- ---- edges
   edges_out : IsPermutation (filter (touches v) (full_edges c)) g.edges.0 × IsPermutation (filter (misses v) (full_edges c)) (full_edges new)
-  edges_out = sorted_out (touches v) (misses v) (misses_is v) (full_edges c) g.edges.0 (full_edges new) g.edges.2 (spokes_touch v (origin c.mesh o) (neighbour c.mesh o) g.edges.0 3 f.start g.edges.1) (edges_miss new v whole_new alone)
+  edges_out = sorted_out (touches v) (misses v) (λ x. refl) (full_edges c) g.edges.0 (full_edges new) g.edges.2 (spokes_touch v (origin c.mesh o) (neighbour c.mesh o) g.edges.0 3 f.start g.edges.1) (edges_miss new v whole_new alone)
 
   last_three : AllZip IsBetween g.edges.0 (joins v (n (suc (suc turned))) ∷ joins v (n (suc turned)) ∷ joins v (n 0) ∷ [])
   last_three = subst (λ (ps : List Ends). AllZip IsBetween g.edges.0 ps) (λ i. joins (f.start i) (next_is i) ∷ joins (f.start i) (first_is i) ∷ joins (f.start i) (f.tip i) ∷ []) g.edges.1
@@ -142,7 +133,7 @@ module _ {V D U F : Type 0} (old c new : Contents V D U F) (o turned : ℕ) (who
 
   old_edges : IsPermutation (full_edges old) (all_edges.0 ++ filter (misses v) (full_edges old))
   old_edges =
-      let both = IsPermutation-filter_both (touches v) (misses v) (misses_is v) (full_edges old) in
+      let both = IsPermutation-filter_both (touches v) (misses v) (λ x. refl) (full_edges old) in
       let there = IsPermutation-trans _ _ _ f.touching (IsPermutation-trans _ _ _ (IsPermutation-append_right f.lost _ _ edges_out.0) all_edges.2) in
       IsPermutation-trans _ _ _ both (IsPermutation-append_left (filter (misses v) (full_edges old)) _ _ there)
 
@@ -157,7 +148,7 @@ module _ {V D U F : Type 0} (old c new : Contents V D U F) (o turned : ℕ) (who
   lost_touch = between_touch v (origin c.mesh o) (neighbour c.mesh o) g.lost 3 f.start g.lost_are
 
   faces_out : IsPermutation (filter (has_corner v) (full_faces c)) g.lost × IsPermutation (filter (lacks_corner v) (full_faces c)) g.rest
-  faces_out = sorted_out (has_corner v) (lacks_corner v) (lacks_is v) (full_faces c) g.lost g.rest g.was lost_touch rest_misses
+  faces_out = sorted_out (has_corner v) (lacks_corner v) (λ x. refl) (full_faces c) g.lost g.rest g.was lost_touch rest_misses
 
   two_more : 0 < suc (suc turned)
   two_more = omega arith
@@ -172,7 +163,7 @@ module _ {V D U F : Type 0} (old c new : Contents V D U F) (o turned : ℕ) (who
   old_faces : IsPermutation (full_faces old) (lost_round ++ filter (lacks_corner v) (full_faces old))
   unfolding lost_round
   old_faces =
-      let both = IsPermutation-filter_both (has_corner v) (lacks_corner v) (lacks_is v) (full_faces old) in
+      let both = IsPermutation-filter_both (has_corner v) (lacks_corner v) (λ x. refl) (full_faces old) in
       IsPermutation-trans _ _ _ both (IsPermutation-append_left (filter (lacks_corner v) (full_faces old)) _ _ (faces_round old o (suc (suc turned)) whole_old w two_more tip))
 
   new_faces : IsPermutation (full_faces new) ((g.made ∷ f.faces) ++ filter (lacks_corner v) (full_faces old))
@@ -192,7 +183,7 @@ module _ {V D U F : Type 0} (old c new : Contents V D U F) (o turned : ℕ) (who
       let d : FullFace F = no_face_of v old.outer in
       let at : Contains (full_faces c) x = Contains-permutation _ _ x (IsPermutation-sym _ _ g.was) (Contains-append_left g.lost g.rest x g.former.1) in
       let i : ℕ = at.0 in
-      let read : get_or (full_faces c) i d ≡ x = same_item (full_faces c) i d x at.1 ∙ at.2 in
+      let read : get_or (full_faces c) i d ≡ x = get_or_default (full_faces c) i d x at.1 ∙ at.2 in
       let there : has_corner v (get_or (full_faces c) i d) ≡ true = ap (has_corner v) read ∙ All-contains (λ y. has_corner v y ≡ true) g.lost x lost_touch g.former.1 in
       let fs : c.faces ≡ old.faces = ap (λ (y : Contents V D U F). y.faces) f.contents in
       let long = count_faces c.mesh c.faces whole.fits.faces_fit in

@@ -1,11 +1,11 @@
 -- An inner vertex with three faces loses them and its edges, and one face takes their place.
 use Rattle.std.proofs.Common.{◌≡◌, ℕ, ◌+◌, ◌<◌, ◌≤◌, List, [], ◌∷◌, ◌++◌, length, refl, sym, ap, ◌∙◌, inr, arith, subst}
-use Rattle.std.specs.Prelude.{ℤ, pos, ◌+ℤ◌}
+use Rattle.std.specs.Prelude.{ℤ, pos}
 use Rattle.std.specs.List.{AllZip}
 use Rattle.std.specs.List.Sorted.{IsPermutation}
 use Rattle.std.proofs.lemmas.Int.{ints}
 use Rattle.std.proofs.lemmas.List.Sorted.{IsPermutation-trans, IsPermutation-cons, IsPermutation-to_front}
-use Rattle.half_edge_links.specs.Flow.{total, around, along, both_ways, outline}
+use Rattle.half_edge_links.specs.Flow.{total, around, both_ways}
 use Rattle.half_edge_links.specs.Hull.{KeepsOneOutline}
 use Rattle.half_edge_links.specs.Mesh.{Mesh, origin, next, prev, face, face_edge, rev, IsSound, IsAlone}
 use Rattle.half_edge_links.specs.Outline.{ends}
@@ -64,22 +64,10 @@ outer_filled {V} {D} {U} {F} old new v n lost made rest again a b edges lost_are
     let gone = total_lost_faces f lost (faces_between v n 3) lost_are in
     let come = any_corner f made (record { first = n 0; second = n 1; third = n 2 }) made_is in
     let ge = total (both_ways f) (spokes_to v n 3) in
-    let o = outer_sum f old.mesh new.mesh a.valid b.valid ge (pos 0) (total g lost) (g made) (moved (total (both_ways f) (ends old.mesh)) ge (total (both_ways f) (ends new.mesh)) es)
-    (swapped (total (around f) (triangles old.mesh)) (total (around f) (triangles new.mesh)) (total g lost) (g made) (total g rest) before after) in
-    flat (total (along f) (outline new.mesh)) (total (along f) (outline old.mesh)) ge (total g lost) (g made) o
-    (gone ∙ hole (f v (n 0)) (f v (n 1)) (f v (n 2)) (f (n 0) v) (f (n 1) v) (f (n 2) v) (f (n 0) (n 1)) (f (n 1) (n 2)) (f (n 2) (n 3)) (f (n 3) v) (f (n 2) (n 0)) (ap (λ k. f (n 2) k) again) (ap (λ k. f k v) again) ∙ (λ i. ge +ℤ sym come i))
-  where
-    moved : (e g e' : ℤ) → e ≡ g +ℤ e' → e' +ℤ g ≡ e +ℤ pos 0
-    moved e g e' p = omega (arith, ints, p)
-
-    swapped : (t t' l k r : ℤ) → t ≡ l +ℤ r → t' ≡ k +ℤ r → t' +ℤ l ≡ t +ℤ k
-    swapped t t' l k r p q = omega (arith, ints, p, q)
-
-    hole : (v0 v1 v2 w0 w1 w2 ab bc cd dv ca : ℤ) → cd ≡ ca → dv ≡ w0 → ((v2 +ℤ cd) +ℤ dv) +ℤ (((v1 +ℤ bc) +ℤ w2) +ℤ (((v0 +ℤ ab) +ℤ w1) +ℤ pos 0)) ≡ ((v2 +ℤ w2) +ℤ ((v1 +ℤ w1) +ℤ ((v0 +ℤ w0) +ℤ pos 0))) +ℤ ((ab +ℤ bc) +ℤ ca)
-    hole v0 v1 v2 w0 w1 w2 ab bc cd dv ca p q = omega (arith, ints, p, q)
-
-    flat : (o' o ge l k : ℤ) → o' +ℤ (ge +ℤ k) ≡ o +ℤ (pos 0 +ℤ l) → l ≡ ge +ℤ k → o' +ℤ pos 0 ≡ o +ℤ pos 0
-    flat o' o ge l k p q = omega (arith, ints, p, q)
+    let o = outer_sum f old.mesh new.mesh a.valid b.valid ge (pos 0) (total g lost) (g made) (omega (arith, ints, es)) (omega (arith, ints, before, after)) in
+    let wrap : f (n 2) (n 3) ≡ f (n 2) (n 0) = ap (λ k. f (n 2) k) again in
+    let back : f (n 3) v ≡ f (n 0) v = ap (λ k. f k v) again in
+    omega (arith, ints, o, gone, come, wrap, back)
 
 -- ---- all steps
 pub fills_hole : {V D U F : Type 0} (c0 c1 c2 c3 c4 c5 : Contents V D U F) (o spoke z : ℕ) (made : FullFace F) → IsWhole c0 → IsWhole c2 → IsWhole c3 → IsWhole c5 → (w : IsFullWheel c0.mesh o)

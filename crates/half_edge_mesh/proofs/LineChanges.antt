@@ -5,8 +5,7 @@ use Rattle.std.proofs.lemmas.Bool.Decides.{nat_tests}
 use Rattle.std.proofs.lemmas.Int.{ints}
 use Rattle.std.specs.Prelude.{ℤ, pos, ◌+ℤ◌}
 use Rattle.std.specs.List.Sorted.{IsPermutation}
-use Rattle.half_edge_links.specs.Flow.{total, around, both_ways, outline}
-use Rattle.half_edge_links.specs.Flow as flow
+use Rattle.half_edge_links.specs.Flow.{total, around, both_ways}
 use Rattle.half_edge_links.specs.Mesh.{Mesh, origin, next, prev, face, out_edge, rev, IsSound, IsValid}
 use Rattle.half_edge_links.specs.Outline.{Ends, ends, along, MovesEdge}
 use Rattle.half_edge_links.specs.Pass.{IsPassable, Passes}
@@ -18,11 +17,13 @@ use Rattle.half_edge_links.proofs.Parts.{rev_of_even, rev_of_odd}
 use Rattle.half_edge_links.proofs.Rev.{rev-rev, rev_within, rev_differs}
 use Rattle.half_edge_links.proofs.Passing.{IsBeside, beside}
 use Rattle.half_edge_links.proofs.TakenLists.{count_ends}
+use Rattle.half_edge_mesh.specs.Contents.{Contents, IsWhole}
 use Rattle.half_edge_mesh.specs.Growth.{joins}
-use Rattle.half_edge_mesh.specs.Removal.{TakesOut, FullEdge, full_edges_of, IsBetween, OuterChanges}
+use Rattle.half_edge_mesh.specs.Removal.{TakesOut, FullEdge, full_edges, full_edges_of, IsBetween, JoinsNeighbours, OuterChanges}
 use Rattle.half_edge_mesh.proofs.TakenOut.{length-full_edges}
 use Rattle.half_edge_mesh.proofs.TakenEdges.{listed_ends, between}
-use Rattle.half_edge_mesh.proofs.TwoEdges.{item_at, one_written_one_taken, full_edges-set}
+use Rattle.half_edge_mesh.proofs.TwoEdges.{item_at, one_written_one_taken}
+use Rattle.half_edge_mesh.proofs.Touching.{with_other_ends, full_edges-set}
 use Rattle.half_edge_mesh.proofs.OuterSums.{total-permutation, total_full_edges, either_way, edge_ends, outer_sum}
 
 out_self : (e : ℕ) → out_after e e ≡ None
@@ -100,8 +101,20 @@ module _ (m mid : Mesh) (e : ℕ) (s : IsSound m) (can : IsPassable m e) (i : Pa
           ]
 
 -- ---- the edges with their data
-module _ {D U : Type 0} (m mid : Mesh) (us : List U) (ds : List D) (new : List (FullEdge D U)) (e : ℕ) (s : IsSound m) (directed_fit : length ds ≡ length m.half_edges) (undirected_fit : 2 * length us ≡ length m.half_edges) (can : IsPassable m e)
-    (moves : MovesEdge m mid e (origin m e) (origin m (rev (next m e)))) (taken : TakesOut (full_edges_of (ends mid) us ds) new (next m e / 2)) where
+module _ {V D U F : Type 0} (c0 c2 : Contents V D U F) (mid : Mesh) (e : ℕ) (whole : IsWhole c0) (can : IsPassable c0.mesh e)
+    (moves : MovesEdge c0.mesh mid e (origin c0.mesh e) (origin c0.mesh (rev (next c0.mesh e)))) (taken : TakesOut (full_edges_of (ends mid) c0.undirected c0.directed) (full_edges c2) (next c0.mesh e / 2)) where
+  abbrev m : Mesh
+  m = c0.mesh
+
+  abbrev us : List U
+  us = c0.undirected
+
+  abbrev ds : List D
+  ds = c0.directed
+
+  abbrev s : IsSound m
+  s = whole.valid.sound
+
   abbrev u : ℕ
   u = origin m e
 
@@ -112,7 +125,7 @@ module _ {D U : Type 0} (m mid : Mesh) (us : List U) (ds : List D) (new : List (
   w = origin m (rev (next m e))
 
   abbrev old : List (FullEdge D U)
-  old = full_edges_of (ends m) us ds
+  old = full_edges c0
 
   -- the edge of e, with other ends
   abbrev turned : FullEdge D U → FullEdge D U
@@ -120,7 +133,7 @@ module _ {D U : Type 0} (m mid : Mesh) (us : List U) (ds : List D) (new : List (
 
   moved_is : (x : FullEdge D U) → x ≡ get_or old (e / 2) x → ((x.source ≡ u) × (turned x ≡ record x { source = u; target = w })) ⊎ ((x.source ≡ v) × (turned x ≡ record x { source = w; target = u }))
   moved_is x is =
-      let at = listed_ends m m us us ds ds e s directed_fit undirected_fit can.within x is in
+      let at = listed_ends m m us us ds ds e s whole.fits.directed_fit whole.fits.undirected_fit can.within x is in
       elim (cases_eq (e % 2) 0) [
         | inl q ↦
             let e_is : 2 * (e / 2) ≡ e = omega (arith, q) in
@@ -134,36 +147,25 @@ module _ {D U : Type 0} (m mid : Mesh) (us : List U) (ds : List D) (new : List (
             inr (at.0 ∙ ap (origin m) t_is, ap (λ (y : Ends). record x { source = y.source; target = y.target }) p)
       ]
 
-  -- what JoinsNeighbours says, for lists of edges
-  pub record AreJoined : Type 0 where
-    pub kept : FullEdge D U
-    pub kept_is : IsBetween kept (joins u v)
-    pub moved : FullEdge D U
-    pub moved_is : ((kept.source ≡ u) × (moved ≡ record kept { source = u; target = w })) ⊎ ((kept.source ≡ v) × (moved ≡ record kept { source = w; target = u }))
-    pub lost : FullEdge D U
-    pub lost_is : IsBetween lost (joins v w)
-    pub rest : List (FullEdge D U)
-    pub was : IsPermutation old (lost ∷ kept ∷ rest)
-    pub is : IsPermutation new (moved ∷ rest)
-
-  pub are_joined : AreJoined
+  pub are_joined : JoinsNeighbours c0 c2 v u w
+  unfolding with_other_ends
   are_joined =
       let n = count_ends m s in
       let even = s.even in
       let here = s.edges e can.within in
-      let us_fit : length us ≡ length (ends m) = omega (arith, n, undirected_fit) in
-      let ds_fit : length ds ≡ 2 * length (ends m) = omega (arith, n, directed_fit) in
+      let us_fit : length us ≡ length (ends m) = omega (arith, n, whole.fits.undirected_fit) in
+      let ds_fit : length ds ≡ 2 * length (ends m) = omega (arith, n, whole.fits.directed_fit) in
       let in_ends : e / 2 < length (ends m) = omega (arith, n, can.within, even) in
       let count = length-full_edges (ends m) us ds us_fit ds_fit in
       let in_old : e / 2 < length old = rw count in_ends in
       let x = item_at old (e / 2) in_old in
-      let written : full_edges_of (ends mid) us ds ≡ set old (e / 2) (turned x.0) = ap (λ es. full_edges_of es us ds) moves ∙ full_edges-set (ends m) us ds (e / 2) (along e u w) x.0 us_fit ds_fit in_ends x.1 in
+      let written : full_edges_of (ends mid) us ds ≡ set old (e / 2) (turned x.0) = ap (λ es. full_edges_of es us ds) moves ∙ full_edges-set (ends m) us ds (e / 2) (along e u w) x.0 us_fit ds_fit in_ends ∙ ap (λ y. set old (e / 2) (turned y)) (sym x.1) in
       let off : e / 2 ≢ next m e / 2 = λ q. halves_apart e (next m e) here.proper can.apart q in
-      let two = one_written_one_taken old (full_edges_of (ends mid) us ds) new (e / 2) (next m e / 2) x.0 (turned x.0) off in_old x.1 written taken in
-      let lost_is = between m m us us ds ds (next m e) s directed_fit undirected_fit here.next_in two.0 two.1 in
+      let two = one_written_one_taken old (full_edges_of (ends mid) us ds) (full_edges c2) (e / 2) (next m e / 2) x.0 (turned x.0) off in_old x.1 written taken in
+      let lost_is = between m m us us ds ds (next m e) s whole.fits.directed_fit whole.fits.undirected_fit here.next_in two.0 two.1 in
       record {
         kept = x.0;
-        kept_is = between m m us us ds ds e s directed_fit undirected_fit can.within x.0 x.1;
+        kept_is = between m m us us ds ds e s whole.fits.directed_fit whole.fits.undirected_fit can.within x.0 x.1;
         moved = turned x.0;
         moved_is = moved_is x.0 x.1;
         lost = two.0;
@@ -190,14 +192,8 @@ pub outer_end : (m new : Mesh) (v u : ℕ) → IsValid m → IsValid new → tri
     → ((f : ℕ → ℕ → ℤ) → total (both_ways f) (ends m) ≡ total (both_ways f) (joins v u ∷ []) +ℤ total (both_ways f) (ends new))
     → OuterChanges m new (joins v u ∷ joins u v ∷ []) []
 outer_end m new v u valid valid' same sums f =
-    let a = outer_sum f m new valid valid' (f v u +ℤ f u v) (pos 0) (pos 0) (pos 0) (edges_turned (total (both_ways f) (ends new)) (total (both_ways f) (ends m)) (f v u) (f u v) (sums f)) (ap (λ ts. total (around f) ts +ℤ pos 0) same) in
-    flat (total (flow.along f) (outline new)) (total (flow.along f) (outline m)) (f v u) (f u v) a
-  where
-    edges_turned : (e' e a b : ℤ) → e ≡ ((a +ℤ b) +ℤ pos 0) +ℤ e' → e' +ℤ (a +ℤ b) ≡ e +ℤ pos 0
-    edges_turned e' e a b p = omega (arith, ints, p)
-
-    flat : (o' o a b : ℤ) → o' +ℤ ((a +ℤ b) +ℤ pos 0) ≡ o +ℤ (pos 0 +ℤ pos 0) → o' +ℤ (a +ℤ (b +ℤ pos 0)) ≡ o +ℤ pos 0
-    flat o' o a b p = omega (arith, ints, p)
+    let a = outer_sum f m new valid valid' (f v u +ℤ f u v) (pos 0) (pos 0) (pos 0) (omega (arith, ints, sums f)) (ap (λ ts. total (around f) ts +ℤ pos 0) same) in
+    omega (arith, ints, a)
 
 -- two edges of a vertex give way to one
 pub outer_joined : {D U : Type 0} (m new : Mesh) (us us' : List U) (ds ds' : List D) (u v w : ℕ) (kept moved lost : FullEdge D U) (rest : List (FullEdge D U)) → IsValid m → IsValid new → triangles new ≡ triangles m
@@ -212,12 +208,5 @@ outer_joined {D} {U} m new us us' ds ds' u v w kept moved lost rest valid valid'
     let k = either_way f kept (joins u v) kept_is in
     let n = either_way f moved (joins u w) moved_is in
     let l = either_way f lost (joins v w) lost_is in
-    let sums = edges_turned (total (both_ways f) (ends new)) (total (both_ways f) (ends m)) (g kept) (g moved) (g lost) (total g rest) before after in
-    let all = outer_sum f m new valid valid' (g lost +ℤ g kept) (g moved) (pos 0) (pos 0) sums (ap (λ ts. total (around f) ts +ℤ pos 0) same) in
-    flat (total (flow.along f) (outline new)) (total (flow.along f) (outline m)) (g kept) (g moved) (g lost) (f u v) (f v u) (f u w) (f w u) (f v w) (f w v) k n l all
-  where
-    edges_turned : (e' e k n l r : ℤ) → e ≡ l +ℤ (k +ℤ r) → e' ≡ n +ℤ r → e' +ℤ (l +ℤ k) ≡ e +ℤ n
-    edges_turned e' e k n l r p q = omega (arith, ints, p, q)
-
-    flat : (o' o k n l uv vu uw wu vw wv : ℤ) → k ≡ uv +ℤ vu → n ≡ uw +ℤ wu → l ≡ vw +ℤ wv → o' +ℤ ((l +ℤ k) +ℤ pos 0) ≡ o +ℤ (n +ℤ pos 0) → o' +ℤ (vu +ℤ (uv +ℤ (vw +ℤ (wv +ℤ pos 0)))) ≡ o +ℤ (uw +ℤ (wu +ℤ pos 0))
-    flat o' o k n l uv vu uw wu vw wv p q r t = omega (arith, ints, p, q, r, t)
+    let all = outer_sum f m new valid valid' (g lost +ℤ g kept) (g moved) (pos 0) (pos 0) (omega (arith, ints, before, after)) (ap (λ ts. total (around f) ts +ℤ pos 0) same) in
+    omega (arith, ints, k, n, l, all)

@@ -11,7 +11,7 @@ use Rattle.half_edge_links.proofs.Rev.{rev-rev}
 use Rattle.half_edge_mesh.specs.Contents.{Contents, IsWhole}
 use Rattle.half_edge_mesh.specs.Growth.{joins}
 use Rattle.half_edge_mesh.specs.Removal.{TakesOut, FullEdge, IsBetween, LosesEdges, LeavesLine, JoinsNeighbours, OuterChanges, full_edges, full_edges_of}
-use Rattle.half_edge_mesh.proofs.LineChanges.{alone_after, after_turn, removable_end, removable_hanging, hangs_free, AreJoined, are_joined, outer_end, outer_joined}
+use Rattle.half_edge_mesh.proofs.LineChanges.{alone_after, after_turn, removable_end, removable_hanging, hangs_free, are_joined, outer_end, outer_joined}
 use Rattle.half_edge_mesh.proofs.OuterSums.{ends_sum}
 use Rattle.half_edge_mesh.proofs.Outlines.{empty_list}
 use Rattle.half_edge_mesh.proofs.StripSteps.{whole_ends}
@@ -65,7 +65,7 @@ module _ {V D U F : Type 0} where
       let ds_is : c1.directed ≡ c0.directed = ap (λ (x : Contents V D U F). x.directed) passed in
       let mid_is : full_edges c1 ≡ full_edges_of (ends c1.mesh) c0.undirected c0.directed = λ i. full_edges_of (ends c1.mesh) (us_is i) (ds_is i) in
       let taken' : TakesOut (full_edges_of (ends c1.mesh) c0.undirected c0.directed) (full_edges c2) (l / 2) = rw (mid_is, is) at taken in
-      let j : AreJoined m c1.mesh c0.undirected c0.directed (full_edges c2) e s w0.fits.directed_fit w0.fits.undirected_fit can moves taken' = are_joined m c1.mesh c0.undirected c0.directed (full_edges c2) e s w0.fits.directed_fit w0.fits.undirected_fit can moves taken' in
+      let j = are_joined c0 c2 c1.mesh e w0 can moves taken' in
       let u : ℕ = origin m e in
       let w : ℕ = origin m (rev l) in
       let v_is : origin m (rev e) ≡ origin m out = ap (origin m) (rev-rev out) in
@@ -76,21 +76,10 @@ module _ {V D U F : Type 0} where
       let e0 = whole_ends c0 w0 in
       let e2 = whole_ends c2 w2 in
       let moved_between : IsBetween j.moved (joins u w) = elim j.moved_is [ inl q ↦ inl (ap (λ (x : FullEdge D U). x.source) q.1, ap (λ (x : FullEdge D U). x.target) q.1) | inr q ↦ inr (ap (λ (x : FullEdge D U). x.source) q.1, ap (λ (x : FullEdge D U). x.target) q.1) ] in
-      let joined : JoinsNeighbours c0 c2 (origin m (rev e)) u w = record {
-        kept = j.kept;
-        kept_is = j.kept_is;
-        moved = j.moved;
-        moved_is = j.moved_is;
-        lost = j.lost;
-        lost_is = j.lost_is;
-        rest = j.rest;
-        was = j.was;
-        is = j.is;
-      } in
       let outer : OuterChanges m c2.mesh (joins (origin m (rev e)) u ∷ joins u (origin m (rev e)) ∷ joins (origin m (rev e)) w ∷ joins w (origin m (rev e)) ∷ []) (joins u w ∷ joins w u ∷ []) =
       outer_joined m c2.mesh c0.undirected c2.undirected c0.directed c2.directed u (origin m (rev e)) w j.kept j.moved j.lost j.rest w0.valid w2.valid none e0.0 e0.1 e2.0 e2.1 j.kept_is moved_between j.lost_is j.was j.is in
       record {
         contents = contents ∙ ap (λ (x : Contents V D U F). record x { mesh = c2.mesh; directed = c2.directed; undirected = c2.undirected }) passed;
         alone = rw at_v at gone;
-        how = inr (inr (u, w, can.corners, subst (λ v. JoinsNeighbours c0 c2 v u w) v_is joined, subst (λ v. OuterChanges m c2.mesh (joins v u ∷ joins u v ∷ joins v w ∷ joins w v ∷ []) (joins u w ∷ joins w u ∷ [])) v_is outer));
+        how = inr (inr (u, w, can.corners, subst (λ v. JoinsNeighbours c0 c2 v u w) v_is j, subst (λ v. OuterChanges m c2.mesh (joins v u ∷ joins u v ∷ joins v w ∷ joins w v ∷ []) (joins u w ∷ joins w u ∷ [])) v_is outer));
       }

@@ -1,14 +1,12 @@
 -- Items that move to the end of a list.
-use Rattle.std.proofs.Common.{◌≡◌, ◌≢◌, ℕ, zero, suc, List, [], ◌∷◌, ◌++◌, refl, sym, ap, ◌∙◌, set, append_assoc, Some}
+use Rattle.std.proofs.Common.{◌≡◌, ◌≢◌, ℕ, List, [], ◌∷◌, ◌++◌, sym, ap, ◌∙◌, set, append_assoc, arith, Some}
 use Rattle.std.specs.Prelude.{slice_get}
+use Rattle.std.proofs.lemmas.Grind.{common_steps}
+use Rattle.std.proofs.lemmas.Option.{gets}
 use Rattle.half_edge_mesh.specs.Growth.{Grows, LeavesItem, MovesItem, MovesTwoItems}
 
 slice_get-set_other : {X : Type 0} (xs : List X) (i j : ℕ) (a x : X) → j ≢ i → slice_get (set xs i a) j ≡ Some x → slice_get xs j ≡ Some x
-slice_get-set_other [] i j a x apart is = is
-slice_get-set_other (y ∷ xs) zero zero a x apart is = absurd (apart refl)
-slice_get-set_other (y ∷ xs) zero (suc j) a x apart is = is
-slice_get-set_other (y ∷ xs) (suc i) zero a x apart is = is
-slice_get-set_other (y ∷ xs) (suc i) (suc j) a x apart is = slice_get-set_other xs i j a x (λ e. apart (ap suc e)) is
+slice_get-set_other xs i j a x apart is = grind (arith, common_steps, gets)
 
 pub moves_item : {X : Type 0} (P : X → Type 0) (old left pushed new : List X) (i more : ℕ) (kept : X) → slice_get old i ≡ Some kept → LeavesItem P old left i → pushed ≡ left ++ kept ∷ [] → Grows P pushed new more → MovesItem P old new i more
 moves_item P old left pushed new i more kept was l push g = record {

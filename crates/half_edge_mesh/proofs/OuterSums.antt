@@ -1,6 +1,6 @@
 -- How the outer edges change where edges and faces go: the two directions of each edge are the sides of the faces and the outer edges.
 use Rattle.std.proofs.Common.{◌≡◌, ℕ, zero, suc, ◌*◌, ◌<◌, List, [], ◌∷◌, ◌++◌, length, set, get_or, refl, sym, ap, ◌∙◌, inl, inr, arith}
-use Rattle.std.specs.Prelude.{ℤ, pos, ◌+ℤ◌}
+use Rattle.std.specs.Prelude.{ℤ, ◌+ℤ◌}
 use Rattle.std.specs.List.{AllZip, swap}
 use Rattle.std.specs.List.Sorted.{IsPermutation}
 use Rattle.std.proofs.lemmas.Bool.{cases_eq}
@@ -18,14 +18,8 @@ use Rattle.half_edge_mesh.specs.Removal.{FullEdge, full_edges_of, FullFace, full
 module _ {X : Type 0} (f : X → ℤ) where
   total-set : (xs : List X) (i : ℕ) (y d : X) → i < length xs → total f (set xs i y) +ℤ f (get_or xs i d) ≡ total f xs +ℤ f y
   total-set [] i y d h = absurd (omega (arith, h))
-  total-set (x ∷ xs) zero y d h = turn (f y) (total f xs) (f x)
-    where
-      turn : (a b c : ℤ) → (a +ℤ b) +ℤ c ≡ (c +ℤ b) +ℤ a
-      turn a b c = omega (arith, ints)
-  total-set (x ∷ xs) (suc i) y d h = behind (f x) (total f (set xs i y)) (f (get_or xs i d)) (total f xs) (f y) (total-set xs i y d (omega (arith, h)))
-    where
-      behind : (a s t u v : ℤ) → s +ℤ t ≡ u +ℤ v → (a +ℤ s) +ℤ t ≡ (a +ℤ u) +ℤ v
-      behind a s t u v e = omega (arith, ints, e)
+  total-set (x ∷ xs) zero y d h = omega (arith, ints)
+  total-set (x ∷ xs) (suc i) y d h = omega (arith, ints, total-set xs i y d (omega (arith, h)))
 
   total-swap : (l : List X) (i j : ℕ) → i < length l → j < length l → total f (swap l i j) ≡ total f l
   total-swap [] i j p q = absurd (omega (arith, p))
@@ -39,23 +33,14 @@ module _ {X : Type 0} (f : X → ℤ) where
       ] in
       let one = total-set l i (get_or l j d) d p in
       let two = total-set w j (get_or l i d) d (omega (arith, q, long)) in
-      same_sum (total f (set w j (get_or l i d))) (total f w) (f (get_or w j d)) (f (get_or l i d)) (total f l) (f (get_or l j d)) two one (ap f there)
-    where
-      same_sum : (a w b c l g : ℤ) → a +ℤ b ≡ w +ℤ c → w +ℤ c ≡ l +ℤ g → b ≡ g → a ≡ l
-      same_sum a w b c l g p q r = omega (arith, ints, p, q, r)
+      omega (arith, ints, two, one, ap f there)
 
   pub total-permutation : (xs ys : List X) → IsPermutation xs ys → total f ys ≡ total f xs
   total-permutation xs ys = IsPermutation-keeps xs (λ l. total f l ≡ total f xs) refl (λ l i j p q h. total-swap l i j p q ∙ h) ys
 
   pub total-append : (xs ys : List X) → total f (xs ++ ys) ≡ total f xs +ℤ total f ys
-  total-append [] ys = zero_first (total f ys)
-    where
-      zero_first : (a : ℤ) → a ≡ pos 0 +ℤ a
-      zero_first a = omega (arith, ints)
-  total-append (x ∷ xs) ys = ap (λ a. f x +ℤ a) (total-append xs ys) ∙ apart (f x) (total f xs) (total f ys)
-    where
-      apart : (a b c : ℤ) → a +ℤ (b +ℤ c) ≡ (a +ℤ b) +ℤ c
-      apart a b c = omega (arith, ints)
+  total-append [] ys = omega (arith, ints)
+  total-append (x ∷ xs) ys = omega (arith, ints, total-append xs ys)
 
 -- ---- edges and faces with their data
 abbrev pub edge_ends : {D U : Type 0} → FullEdge D U → Ends
@@ -76,21 +61,12 @@ module _ (f : ℕ → ℕ → ℤ) where
 
   pub either_way : {D U : Type 0} (x : FullEdge D U) (p : Ends) → IsBetween x p → both_ways f (edge_ends x) ≡ both_ways f p
   either_way x p (inl q) = λ i. f (q.0 i) (q.1 i) +ℤ f (q.1 i) (q.0 i)
-  either_way x p (inr q) = (λ i. f (q.0 i) (q.1 i) +ℤ f (q.1 i) (q.0 i)) ∙ turn (f p.target p.source) (f p.source p.target)
-    where
-      turn : (a b : ℤ) → a +ℤ b ≡ b +ℤ a
-      turn a b = omega (arith, ints)
+  either_way x p (inr q) = (λ i. f (q.0 i) (q.1 i) +ℤ f (q.1 i) (q.0 i)) ∙ omega (arith, ints)
 
   pub any_corner : {F : Type 0} (x : FullFace F) (t : Triangle) → HasCorners x t → around f x.corners ≡ around f t
   any_corner x t (inl q) = ap (around f) q
-  any_corner x t (inr (inl q)) = ap (around f) q ∙ turn (f t.second t.third) (f t.third t.first) (f t.first t.second)
-    where
-      turn : (a b c : ℤ) → (a +ℤ b) +ℤ c ≡ (c +ℤ a) +ℤ b
-      turn a b c = omega (arith, ints)
-  any_corner x t (inr (inr q)) = ap (around f) q ∙ turn (f t.third t.first) (f t.first t.second) (f t.second t.third)
-    where
-      turn : (a b c : ℤ) → (a +ℤ b) +ℤ c ≡ (b +ℤ c) +ℤ a
-      turn a b c = omega (arith, ints)
+  any_corner x t (inr (inl q)) = ap (around f) q ∙ omega (arith, ints)
+  any_corner x t (inr (inr q)) = ap (around f) q ∙ omega (arith, ints)
 
   total_lost_edges : {D U : Type 0} (xs : List (FullEdge D U)) (ps : List Ends) → AllZip IsBetween xs ps → total (λ x. both_ways f (edge_ends x)) xs ≡ total (both_ways f) ps
   total_lost_edges [] [] z = refl
@@ -123,7 +99,4 @@ module _ (f : ℕ → ℕ → ℤ) where
       → total (both_ways f) (ends new) +ℤ gone_ends ≡ total (both_ways f) (ends m) +ℤ made_ends
       → total (around f) (triangles new) +ℤ gone_faces ≡ total (around f) (triangles m) +ℤ made_faces
       → total (along f) (outline new) +ℤ (gone_ends +ℤ made_faces) ≡ total (along f) (outline m) +ℤ (made_ends +ℤ gone_faces)
-  outer_sum m new v v' ge me gt mt a b = balance (total (both_ways f) (ends m)) (total (around f) (triangles m)) (total (along f) (outline m)) (total (both_ways f) (ends new)) (total (around f) (triangles new)) (total (along f) (outline new)) ge me gt mt (sides_add_up m v f) (sides_add_up new v' f) a b
-    where
-      balance : (e t o e' t' o' ge me gt mt : ℤ) → e ≡ t +ℤ o → e' ≡ t' +ℤ o' → e' +ℤ ge ≡ e +ℤ me → t' +ℤ gt ≡ t +ℤ mt → o' +ℤ (ge +ℤ mt) ≡ o +ℤ (me +ℤ gt)
-      balance e t o e' t' o' ge me gt mt p q r s = omega (arith, ints, p, q, r, s)
+  outer_sum m new v v' ge me gt mt a b = omega (arith, ints, sides_add_up m v f, sides_add_up new v' f, a, b)

@@ -1,7 +1,9 @@
--- A vertex without edges changes no outer edge and no face.
-use Rattle.std.proofs.Common.{◌≡◌, ℕ, List, [], ◌∷◌, length, refl, inl, inr, arith}
+-- A vertex without edges changes no outer edge and no face; the list of outer edges, edge by edge.
+use Rattle.std.proofs.Common.{◌≡◌, ℕ, suc, ◌<◌, List, [], ◌∷◌, length, refl, inl, inr, arith}
 use Rattle.std.proofs.lemmas.Bool.{cases_lt}
-use Rattle.half_edge_links.specs.Mesh.{Mesh, IsSound, with_vertex}
+use Rattle.std.proofs.lemmas.Bool.Decides.{nat_tests}
+use Rattle.half_edge_links.specs.Flow.{outer_among}
+use Rattle.half_edge_links.specs.Mesh.{Mesh, origin, face, rev, IsSound, with_vertex}
 use Rattle.half_edge_links.specs.Outline.{IsOuterEdge, OuterChanges, KeepsOuter}
 
 outer_in : (m : Mesh) (h a b : ℕ) → IsOuterEdge m h a b → IsOuterEdge (with_vertex m) h a b
@@ -37,3 +39,10 @@ no_face m s none =
 -- without edges there is no inner face
 pub no_faces : (m : Mesh) → IsSound m → length m.half_edges ≡ 0 → m.face_edges ≡ []
 no_faces m s none = empty_list m.face_edges (no_face m s none)
+
+-- an outer edge comes first, and another edge is passed over
+pub listed : (m : Mesh) (k : ℕ) → face m k ≡ 0 → outer_among m (suc k) ≡ record { source = origin m k; target = origin m (rev k) } ∷ outer_among m k
+listed m k is = grind (arith, nat_tests)
+
+pub passed_over : (m : Mesh) (k : ℕ) → 0 < face m k → outer_among m (suc k) ≡ outer_among m k
+passed_over m k some = grind (arith, nat_tests)

@@ -82,8 +82,9 @@ module _ {V D U F : Type 0} (old c new : Contents V D U F) (first count h g gone
   end_is : origin m (rev h) ≡ n gone
   end_is = f.ends_at 0 (omega arith) ∙ ap n (let e : gone + 0 ≡ gone = omega arith in e)
 
-  stripped_more : IsStripped old first count new g (suc gone)
-  stripped_more =
+  -- for the next count of a loop
+  pub stripped_next : (next_gone : ℕ) → next_gone ≡ suc gone → IsStripped old first count new g next_gone
+  stripped_next next_gone more =
       let j = one_more m h f.left f.strip some in
       let full : IsFullStrip m h (suc j.0) = full_strip m h (suc j.0) valid (rw j.1 at f.strip) in
       let after = strip_ends m new.mesh h j.0 g valid.sound full p is in
@@ -92,7 +93,7 @@ module _ {V D U F : Type 0} (old c new : Contents V D U F) (first count h g gone
       ap (origin m) (sym (rev-rev (prev m h))) ∙ f.ends_at 1 (omega (arith, j.1)) ∙ ap n (let e : gone + 1 ≡ suc gone = omega arith in e) in
       let spoke_is : joins (origin m h) (origin m (rev h)) ≡ joins v (n gone) = λ i. joins (f.start i) (end_is i) in
       let face_is : triangle_at m h ≡ record { first = v; second = n gone; third = n (suc gone) } = λ i. record { first = f.start i; second = (here.starts ∙ end_is) i; third = next_end i } in
-      record {
+      rw more (record {
         left = j.0;
         sum = omega (arith, f.sum, j.1);
         strip = strip_of new.mesh g j.0 (strip_from m new.mesh h j.0 g valid.sound full p is);
@@ -100,25 +101,14 @@ module _ {V D U F : Type 0} (old c new : Contents V D U F) (first count h g gone
         ends_at = λ i less. after.1 i less ∙ f.ends_at (suc i) (omega (arith, less, j.1)) ∙ ap n (let e : gone + suc i ≡ suc gone + i = omega arith in e);
         edges = one_more_gone IsBetween (full_edges old) (full_edges c) (full_edges new) _ (joins v (n gone)) f.edges (rw spoke_is at edges);
         faces = one_more_gone HasCorners (full_faces old) (full_faces c) (full_faces new) _ (record { first = v; second = n gone; third = n (suc gone) }) f.faces (rw face_is at faces);
-      }
-
--- the same, for the next count of a loop
-pub stripped_next : {V D U F : Type 0} (old c new : Contents V D U F) (first count h g gone next_gone : ℕ) → next_gone ≡ suc gone → IsValid c.mesh → IsStripped old first count c h gone → 0 < face c.mesh h → Peels c.mesh new.mesh h → g ≡ after_removal c.mesh h (turn c.mesh h)
-    → LosesEdges c new (joins (origin c.mesh h) (origin c.mesh (rev h)) ∷ []) → LosesFaces c new (triangle_at c.mesh h ∷ []) → IsStripped old first count new g next_gone
-stripped_next old c new first count h g gone next_gone more valid f some p is edges faces = rw more (stripped_more old c new first count h g gone valid f some p is edges faces)
+      })
 
 -- ---- the outer edges
 module _ (f : ℕ → ℕ → ℤ) (v : ℕ) (n : ℕ → ℕ) where
   -- the sides of the faces of a strip, but for the spokes, are its outer sides
   pub strip_sum : (k : ℕ) → total (around f) (faces_between v n k) +ℤ (f (n 0) v +ℤ f v (n k)) ≡ total (both_ways f) (spokes_to v n (suc k)) +ℤ total (along f) (chain n k)
-  strip_sum zero = none (f (n 0) v) (f v (n 0))
-    where
-      none : (a b : ℤ) → pos 0 +ℤ (a +ℤ b) ≡ ((b +ℤ a) +ℤ pos 0) +ℤ pos 0
-      none a b = omega (arith, ints)
-  strip_sum (suc k) = more (f v (n k)) (f (n k) (n (suc k))) (f (n (suc k)) v) (total (around f) (faces_between v n k)) (f (n 0) v) (f v (n (suc k))) (total (both_ways f) (spokes_to v n (suc k))) (total (along f) (chain n k)) (strip_sum k)
-    where
-      more : (a b c t x y s r : ℤ) → t +ℤ (x +ℤ a) ≡ s +ℤ r → (((a +ℤ b) +ℤ c) +ℤ t) +ℤ (x +ℤ y) ≡ ((y +ℤ c) +ℤ s) +ℤ (b +ℤ r)
-      more a b c t x y s r p = omega (arith, ints, p)
+  strip_sum zero = omega (arith, ints)
+  strip_sum (suc k) = omega (arith, ints, strip_sum k)
 
 -- the counts of the data, for sums
 pub whole_ends : {V D U F : Type 0} (c : Contents V D U F) → IsWhole c → (length c.undirected ≡ length (ends c.mesh)) × (length c.directed ≡ 2 * length (ends c.mesh))
@@ -139,14 +129,8 @@ outer_stripped old new v n k a b edges faces f =
     let ts = corners_sum f (triangles old.mesh) (triangles new.mesh) old.faces new.faces _ faces.0 t t' faces.1 faces.2 in
     let ge = total (both_ways f) (spokes_to v n (suc k)) in
     let gt = total (around f) (faces_between v n k) in
-    let o = outer_sum f old.mesh new.mesh a.valid b.valid ge (pos 0) gt (pos 0) (moved (total (both_ways f) (ends old.mesh)) ge (total (both_ways f) (ends new.mesh)) es) (moved (total (around f) (triangles old.mesh)) gt (total (around f) (triangles new.mesh)) ts) in
-    flat (total (along f) (outline new.mesh)) (total (along f) (outline old.mesh)) ge gt (f (n 0) v) (f v (n k)) (total (along f) (chain n k)) o (strip_sum f v n k)
-  where
-    moved : (e g e' : ℤ) → e ≡ g +ℤ e' → e' +ℤ g ≡ e +ℤ pos 0
-    moved e g e' p = omega (arith, ints, p)
-
-    flat : (o' o ge gt x y c : ℤ) → o' +ℤ (ge +ℤ pos 0) ≡ o +ℤ (pos 0 +ℤ gt) → gt +ℤ (x +ℤ y) ≡ ge +ℤ c → o' +ℤ (x +ℤ (y +ℤ pos 0)) ≡ o +ℤ c
-    flat o' o ge gt x y c p q = omega (arith, ints, p, q)
+    let o = outer_sum f old.mesh new.mesh a.valid b.valid ge (pos 0) gt (pos 0) (omega (arith, ints, es)) (omega (arith, ints, ts)) in
+    omega (arith, ints, o, strip_sum f v n k)
 
 -- ---- what the steps ask for, and the end
 module _ {V D U F : Type 0} (old c : Contents V D U F) (first count h gone : ℕ) (f : IsStripped old first count c h gone) where

@@ -1,5 +1,5 @@
 -- The edges and faces at a vertex, told by their numbers, and lists of them where one gets other ends or corners.
-use Rattle.std.proofs.Common.{◌≡◌, ◌≢◌, ◌⊎◌, ℕ, zero, suc, ◌*◌, ◌%◌, ◌<◌, Bool, true, false, not, ◌==◌, if◌then◌else◌, List, [], ◌∷◌, length, set, get_or, refl, sym, ap, ◌∙◌, inl, inr, arith}
+use Rattle.std.proofs.Common.{◌≡◌, ◌≢◌, ◌⊎◌, ℕ, zero, suc, ◌*◌, ◌%◌, ◌<◌, Bool, true, false, not, ◌==◌, if◌then◌else◌, List, [], ◌∷◌, length, set, get_or, refl, ap, ◌∙◌, inl, inr, arith}
 use Rattle.std.proofs.lemmas.Bool.{cases_eq}
 use Rattle.std.proofs.lemmas.Bool.Decides.{nat_tests}
 use Rattle.half_edge_links.specs.Outline.{Ends, along}
@@ -13,10 +13,7 @@ one_of_three v a b c = if a == v then true else (if b == v then true else (c == 
 
 to_three : (v a b c : ℕ) → (a ≡ v) ⊎ ((b ≡ v) ⊎ (c ≡ v)) → one_of_three v a b c ≡ true
 unfolding one_of_three
-to_three v a b c at = elim at [
-  | inl is ↦ grind (arith, nat_tests)
-  | inr x ↦ elim x [ inl is ↦ grind (arith, nat_tests) | inr is ↦ grind (arith, nat_tests) ]
-]
+to_three v a b c at = grind (arith, nat_tests)
 
 from_three : (v a b c : ℕ) → one_of_three v a b c ≡ true → (a ≡ v) ⊎ ((b ≡ v) ⊎ (c ≡ v))
 unfolding one_of_three
@@ -41,51 +38,39 @@ has_corner v f = one_of_three v f.corners.first f.corners.second f.corners.third
 pub touches : {D U : Type 0} → ℕ → FullEdge D U → Bool
 touches v e = one_of_three v e.source e.target e.target
 
-pub misses : {D U : Type 0} → ℕ → FullEdge D U → Bool
+abbrev pub misses : {D U : Type 0} → ℕ → FullEdge D U → Bool
 misses v e = not (touches v e)
 
-pub lacks_corner : {F : Type 0} → ℕ → FullFace F → Bool
+abbrev pub lacks_corner : {F : Type 0} → ℕ → FullFace F → Bool
 lacks_corner v f = not (has_corner v f)
 
-module _ {D U : Type 0} (v : ℕ) (e : FullEdge D U) (p : Ends) (is : IsBetween e p) where
-  pub touches_it : (p.source ≡ v) ⊎ (p.target ≡ v) → touches v e ≡ true
-  unfolding touches
-  touches_it at = elim is [
-    | inl q ↦ elim at [ inl a ↦ to_three v _ _ _ (inl (q.0 ∙ a)) | inr b ↦ to_three v _ _ _ (inr (inl (q.1 ∙ b))) ]
-    | inr q ↦ elim at [ inl a ↦ to_three v _ _ _ (inr (inl (q.1 ∙ a))) | inr b ↦ to_three v _ _ _ (inl (q.0 ∙ b)) ]
-  ]
+pub touches_it : {D U : Type 0} (v : ℕ) (e : FullEdge D U) (p : Ends) → IsBetween e p → (p.source ≡ v) ⊎ (p.target ≡ v) → touches v e ≡ true
+unfolding touches
+touches_it v e p (inl q) (inl a) = to_three v _ _ _ (inl (q.0 ∙ a))
+touches_it v e p (inl q) (inr b) = to_three v _ _ _ (inr (inl (q.1 ∙ b)))
+touches_it v e p (inr q) (inl a) = to_three v _ _ _ (inr (inl (q.1 ∙ a)))
+touches_it v e p (inr q) (inr b) = to_three v _ _ _ (inl (q.0 ∙ b))
 
-  pub touches_not : p.source ≢ v → p.target ≢ v → touches v e ≡ false
-  unfolding touches
-  touches_not a b = elim is [
-    | inl q ↦ none_of_three v _ _ _ (λ r. a (sym q.0 ∙ r)) (λ r. b (sym q.1 ∙ r)) (λ r. b (sym q.1 ∙ r))
-    | inr q ↦ none_of_three v _ _ _ (λ r. b (sym q.0 ∙ r)) (λ r. a (sym q.1 ∙ r)) (λ r. a (sym q.1 ∙ r))
-  ]
+pub touches_not : {D U : Type 0} (v : ℕ) (e : FullEdge D U) (p : Ends) → IsBetween e p → p.source ≢ v → p.target ≢ v → touches v e ≡ false
+unfolding touches
+touches_not v e p (inl q) a b = rw (q.0, q.1) (none_of_three v _ _ _ a b b)
+touches_not v e p (inr q) a b = rw (q.0, q.1) (none_of_three v _ _ _ b a a)
 
 pub ends_off : {D U : Type 0} (v : ℕ) (e : FullEdge D U) → e.source ≢ v → e.target ≢ v → touches v e ≡ false
 unfolding touches
 ends_off v e a b = none_of_three v _ _ _ a b b
 
-module _ {F : Type 0} (v : ℕ) (f : FullFace F) (t : Triangle) (is : HasCorners f t) where
-  pub corner_there : t.first ≡ v → has_corner v f ≡ true
-  unfolding has_corner
-  corner_there at = elim is [
-    | inl q ↦ to_three v _ _ _ (inl (ap (λ (x : Triangle). x.first) q ∙ at))
-    | inr r ↦ elim r [
-      | inl q ↦ to_three v _ _ _ (inr (inr (ap (λ (x : Triangle). x.third) q ∙ at)))
-      | inr q ↦ to_three v _ _ _ (inr (inl (ap (λ (x : Triangle). x.second) q ∙ at)))
-    ]
-  ]
+pub corner_there : {F : Type 0} (v : ℕ) (f : FullFace F) (t : Triangle) → HasCorners f t → t.first ≡ v → has_corner v f ≡ true
+unfolding has_corner
+corner_there v f t (inl q) at = rw q (to_three v _ _ _ (inl at))
+corner_there v f t (inr (inl q)) at = rw q (to_three v _ _ _ (inr (inr at)))
+corner_there v f t (inr (inr q)) at = rw q (to_three v _ _ _ (inr (inl at)))
 
-  pub corner_missing : t.first ≢ v → t.second ≢ v → t.third ≢ v → has_corner v f ≡ false
-  unfolding has_corner
-  corner_missing a b c = elim is [
-    | inl q ↦ none_of_three v _ _ _ (λ r. a (sym (ap (λ (x : Triangle). x.first) q) ∙ r)) (λ r. b (sym (ap (λ (x : Triangle). x.second) q) ∙ r)) (λ r. c (sym (ap (λ (x : Triangle). x.third) q) ∙ r))
-    | inr y ↦ elim y [
-      | inl q ↦ none_of_three v _ _ _ (λ r. b (sym (ap (λ (x : Triangle). x.first) q) ∙ r)) (λ r. c (sym (ap (λ (x : Triangle). x.second) q) ∙ r)) (λ r. a (sym (ap (λ (x : Triangle). x.third) q) ∙ r))
-      | inr q ↦ none_of_three v _ _ _ (λ r. c (sym (ap (λ (x : Triangle). x.first) q) ∙ r)) (λ r. a (sym (ap (λ (x : Triangle). x.second) q) ∙ r)) (λ r. b (sym (ap (λ (x : Triangle). x.third) q) ∙ r))
-    ]
-  ]
+pub corner_missing : {F : Type 0} (v : ℕ) (f : FullFace F) (t : Triangle) → HasCorners f t → t.first ≢ v → t.second ≢ v → t.third ≢ v → has_corner v f ≡ false
+unfolding has_corner
+corner_missing v f t (inl q) a b c = rw q (none_of_three v _ _ _ a b c)
+corner_missing v f t (inr (inl q)) a b c = rw q (none_of_three v _ _ _ b c a)
+corner_missing v f t (inr (inr q)) a b c = rw q (none_of_three v _ _ _ c a b)
 
 pub corners_off : {F : Type 0} (v : ℕ) (f : FullFace F) → f.corners.first ≢ v → f.corners.second ≢ v → f.corners.third ≢ v → has_corner v f ≡ false
 unfolding has_corner
@@ -94,30 +79,6 @@ corners_off v f a b c = none_of_three v _ _ _ a b c
 pub which_corner : {F : Type 0} (v : ℕ) (f : FullFace F) → has_corner v f ≡ true → (f.corners.first ≡ v) ⊎ ((f.corners.second ≡ v) ⊎ (f.corners.third ≡ v))
 unfolding has_corner
 which_corner v f is = from_three v _ _ _ is
-
-pub misses_it : {D U : Type 0} (v : ℕ) (e : FullEdge D U) → touches v e ≡ false → misses v e ≡ true
-unfolding misses
-misses_it v e is = ap not is
-
-pub misses_not : {D U : Type 0} (v : ℕ) (e : FullEdge D U) → touches v e ≡ true → misses v e ≡ false
-unfolding misses
-misses_not v e is = ap not is
-
-pub lacks_it : {F : Type 0} (v : ℕ) (f : FullFace F) → has_corner v f ≡ false → lacks_corner v f ≡ true
-unfolding lacks_corner
-lacks_it v f is = ap not is
-
-pub lacks_not : {F : Type 0} (v : ℕ) (f : FullFace F) → has_corner v f ≡ true → lacks_corner v f ≡ false
-unfolding lacks_corner
-lacks_not v f is = ap not is
-
-pub misses_is : {D U : Type 0} (v : ℕ) (e : FullEdge D U) → misses v e ≡ not (touches v e)
-unfolding misses
-misses_is v e = refl
-
-pub lacks_is : {F : Type 0} (v : ℕ) (f : FullFace F) → lacks_corner v f ≡ not (has_corner v f)
-unfolding lacks_corner
-lacks_is v f = refl
 
 -- ---- one edge gets other ends, one face other corners
 unfoldable pub with_other_ends : {D U : Type 0} → FullEdge D U → Ends → FullEdge D U

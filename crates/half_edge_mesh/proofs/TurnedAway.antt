@@ -148,9 +148,10 @@ module _ {V D U F : Type 0} (old c : Contents V D U F) (o k turned : ℕ) (whole
         let value_is = at.2 ∙ value_at c whole a d at.0 ∙ ap (λ xs. get_or xs a d.value) fs ∙ sym (value_at old whole_old a d inside) in
         (get_or (full_faces old) a d, Contains-filter (has_corner v) (full_faces old) _ (Contains-get_or (full_faces old) a d inside) (f.corners a at.1), value_is)
 
-    turned_more : IsTurned old new o k (suc turned)
+    -- for the next count of a loop
+    pub turned_next : (next_turned : ℕ) → next_turned ≡ suc turned → IsTurned old new o k next_turned
     unfolding gone come come_f
-    turned_more = record {
+    turned_next next_turned counted = rw counted (record {
       left = l;
       sum = omega (arith, f.sum, left_is);
       hub = hub_after c.mesh o l whole.valid w (omega (arith, many)) free new.mesh flip many;
@@ -174,11 +175,7 @@ module _ {V D U F : Type 0} (old c : Contents V D U F) (o k turned : ℕ) (whole
       lacking = grows_by _ _ f.faces _ come_f (faces_gain c new o l v (n 0) (n (suc turned)) (n (suc (suc turned))) whole w (omega (arith, many)) f.start f.tip first_is next_is same d faces_are) f.lacking;
       former_faces = All-cons (λ x. (g : FullFace F) × Contains (filter (has_corner v) (full_faces old)) g × (x.value ≡ g.value)) come_f f.faces come_f_former f.former_faces;
       corners = λ i is. f.corners i (fewer_there c new o l v (n 0) (n (suc turned)) (n (suc (suc turned))) whole w (omega (arith, many)) f.start f.tip first_is next_is same d faces_are i is);
-    }
-
-    -- the same, for the next count of a loop
-    pub turned_next : (next_turned : ℕ) → next_turned ≡ suc turned → IsTurned old new o k next_turned
-    turned_next next_turned is = rw is turned_more
+    })
 
 -- ---- what the steps ask for
 module _ {V D U F : Type 0} (old c : Contents V D U F) (o k turned : ℕ) (f : IsTurned old c o k turned) where

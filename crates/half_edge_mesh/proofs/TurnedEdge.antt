@@ -1,9 +1,8 @@
 -- What turning an edge of a vertex away from it makes of the lists of edges and faces.
-use Rattle.std.proofs.Common.{◌≡◌, ◌≢◌, ℕ, zero, suc, ◌-◌, ◌/◌, ◌<◌, ◌≤◌, true, false, List, [], ◌∷◌, length, set, get_or, refl, sym, ap, ◌∙◌, inl, inr, arith, subst}
+use Rattle.std.proofs.Common.{◌≡◌, ◌≢◌, ℕ, zero, suc, ◌-◌, ◌/◌, ◌<◌, ◌≤◌, true, false, not, List, ◌∷◌, length, set, get_or, refl, sym, ap, ◌∙◌, inl, inr, arith, subst}
 use Rattle.std.specs.List.{filter}
 use Rattle.std.specs.List.Sorted.{IsPermutation}
 use Rattle.std.proofs.lemmas.Bool.{cases_eq}
-use Rattle.std.proofs.lemmas.Bool.Decides.{nat_tests}
 use Rattle.std.proofs.lemmas.List.{length-map, length-set, get_or-set_other}
 use Rattle.std.proofs.lemmas.List.Sorted.{IsPermutation-trans}
 use Rattle.half_edge_links.specs.Flow.{outer_among, outline}
@@ -21,15 +20,12 @@ use Rattle.half_edge_mesh.specs.Growth.{joins}
 use Rattle.half_edge_mesh.specs.Removal.{FullEdge, FullFace, IsBetween, HasCorners, full_edges, full_edges_of, full_faces, full_faces_of}
 use Rattle.half_edge_mesh.proofs.TakenEdges.{between, named_corners}
 use Rattle.half_edge_mesh.proofs.TakenOut.{length-full_edges}
+use Rattle.half_edge_mesh.proofs.TwoEdges.{item_at}
 use Rattle.half_edge_mesh.specs.Hole.{IsHub, HasDataOf}
+use Rattle.half_edge_mesh.proofs.Outlines.{listed, passed_over}
 use Rattle.half_edge_mesh.proofs.Filtered.{filter_gains, filter_loses, filter_stays}
 use Rattle.half_edge_mesh.proofs.HubFaces.{listed_face, count_faces}
-use Rattle.half_edge_mesh.proofs.Touching.{has_corner, lacks_corner, touches, misses, touches_it, touches_not, corner_there, corner_missing, misses_it, misses_not, lacks_it, lacks_not, with_other_ends, with_other_corners, full_edges-set, full_faces-set, along_between}
-
-some_item : {X : Type 0} (xs : List X) (i : ℕ) → i < length xs → (x : X) × (x ≡ get_or xs i x)
-some_item [] i within = absurd (omega (arith, within))
-some_item (x ∷ xs) zero within = (x, refl)
-some_item (x ∷ xs) (suc i) within = some_item xs i (omega (arith, within))
+use Rattle.half_edge_mesh.proofs.Touching.{has_corner, lacks_corner, touches, misses, touches_it, touches_not, corner_there, corner_missing, with_other_ends, with_other_corners, full_edges-set, full_faces-set, along_between}
 
 other_way : {D U : Type 0} (e : FullEdge D U) (a b : ℕ) → IsBetween e (joins a b) → IsBetween e (joins b a)
 other_way e a b (inl q) = inr q
@@ -59,9 +55,6 @@ module _ {V D U F : Type 0} (c new : Contents V D U F) (o l v tip_end first_end 
   twin = rev-rev (prev m o)
 
   -- the corners round the edge
-  far : origin m (rev e) ≡ first_end
-  far = first_is
-
   after : origin m (prev m e) ≡ next_end
   after = ap (origin m) (sym (rev-rev (prev m e))) ∙ next_is
 
@@ -69,7 +62,7 @@ module _ {V D U F : Type 0} (c new : Contents V D U F) (o l v tip_end first_end 
   before = ap (λ h. origin m (prev m h)) twin ∙ ap (origin m) t.prev_prev ∙ (s.edges o w.within).starts ∙ tip_is
 
   beyond : origin m (next m e) ≡ first_end
-  beyond = (s.edges e (at 1).0).starts ∙ far
+  beyond = (s.edges e (at 1).0).starts ∙ first_is
 
   back : origin m (next m (rev e)) ≡ v
   back = ap (λ h. origin m (next m h)) twin ∙ ap (origin m) t.next_prev ∙ v_is
@@ -84,15 +77,6 @@ module _ {V D U F : Type 0} (c new : Contents V D U F) (o l v tip_end first_end 
   next_off q = off_at 2 (next_is ∙ q)
 
   -- ---- edges
-  directed_is : new.directed ≡ c.directed
-  directed_is = ap (λ (x : Contents V D U F). x.directed) same
-
-  undirected_is : new.undirected ≡ c.undirected
-  undirected_is = ap (λ (x : Contents V D U F). x.undirected) same
-
-  faces_is : new.faces ≡ c.faces
-  faces_is = ap (λ (x : Contents V D U F). x.faces) same
-
   edge_in : e / 2 < length (full_edges c)
   edge_in =
       let n = count_ends m s in
@@ -103,16 +87,16 @@ module _ {V D U F : Type 0} (c new : Contents V D U F) (o l v tip_end first_end 
 
   -- the edge before it is turned
   pub gone_edge : FullEdge D U
-  gone_edge = (some_item (full_edges c) (e / 2) edge_in).0
+  gone_edge = (item_at (full_edges c) (e / 2) edge_in).0
 
   gone_is : gone_edge ≡ get_or (full_edges c) (e / 2) gone_edge
   unfolding gone_edge
-  gone_is = (some_item (full_edges c) (e / 2) edge_in).1
+  gone_is = (item_at (full_edges c) (e / 2) edge_in).1
 
   pub gone_between : IsBetween gone_edge (joins v first_end)
   gone_between =
       let b = between m m c.undirected c.undirected c.directed c.directed e s whole.fits.directed_fit whole.fits.undirected_fit (at 1).0 gone_edge gone_is in
-      let is : joins (origin m e) (origin m (rev e)) ≡ joins v first_end = λ i. joins ((at 1).1 i) (far i) in
+      let is : joins (origin m e) (origin m (rev e)) ≡ joins v first_end = λ i. joins ((at 1).1 i) (first_is i) in
       subst (IsBetween gone_edge) is b
 
   -- the edge after it was turned
@@ -137,7 +121,7 @@ module _ {V D U F : Type 0} (c new : Contents V D U F) (o l v tip_end first_end 
         let even = s.even in
         let e_in = (at 1).0 in
         let t : Ends = along e (origin m (prev m e)) (origin m (prev m (rev e))) in
-        (λ i. full_edges_of (ends_are i) (undirected_is i) (directed_is i))
+        (λ i. full_edges_of (ends_are i) ((same i).undirected) ((same i).directed))
         ∙ full_edges-set (ends m) c.undirected c.directed (e / 2) t gone_edge (omega (arith, n, whole.fits.undirected_fit)) (omega (arith, n, whole.fits.directed_fit)) (omega (arith, n, e_in, even))
         ∙ ap (λ x. set (full_edges c) (e / 2) (with_other_ends x t)) (sym gone_is)
 
@@ -148,7 +132,7 @@ module _ {V D U F : Type 0} (c new : Contents V D U F) (o l v tip_end first_end 
 
     pub edges_gain : IsPermutation (filter (misses v) (full_edges new)) (come_edge ∷ filter (misses v) (full_edges c))
     edges_gain =
-        let p = filter_gains (misses v) (full_edges c) (e / 2) come_edge gone_edge edge_in (ap (misses v) (sym gone_is) ∙ misses_not v gone_edge (touches_it v gone_edge (joins v first_end) gone_between (inl refl))) (misses_it v come_edge (touches_not v come_edge (joins tip_end next_end) come_between tip_off next_off)) in
+        let p = filter_gains (misses v) (full_edges c) (e / 2) come_edge gone_edge edge_in (ap (misses v) (sym gone_is) ∙ ap not (touches_it v gone_edge (joins v first_end) gone_between (inl refl))) (ap not (touches_not v come_edge (joins tip_end next_end) come_between tip_off next_off)) in
         rw edges_are p
 
   -- ---- faces
@@ -209,7 +193,7 @@ module _ {V D U F : Type 0} (c new : Contents V D U F) (o l v tip_end first_end 
         let fit = whole.fits.faces_fit in
         let one = full_faces-set (triangles m) c.faces a ta d (fit ∙ sym n) (omega (arith, n, inner_e.0, inner_e.1)) in
         let two = full_faces-set (set (triangles m) a ta) c.faces b tb d (fit ∙ sym n ∙ sym (length-set (triangles m) a ta)) (rw length-set (omega (arith, n, inner_twin.0, inner_twin.1))) in
-        (λ i. full_faces_of (faces_are i) (faces_is i)) ∙ two ∙ (λ i. set (one i) b (with_other_corners (get_or (one i) b d) tb))
+        (λ i. full_faces_of (faces_are i) ((same i).faces)) ∙ two ∙ (λ i. set (one i) b (with_other_corners (get_or (one i) b d) tb))
 
     was_there : has_corner v was ≡ true
     unfolding was
@@ -234,9 +218,9 @@ module _ {V D U F : Type 0} (c new : Contents V D U F) (o l v tip_end first_end 
     pub faces_gain : IsPermutation (filter (lacks_corner v) (full_faces new)) (come_face ∷ filter (lacks_corner v) (full_faces c))
     unfolding middle was
     faces_gain =
-        let one = filter_gains (lacks_corner v) (full_faces c) a come_face d a_in (lacks_not v was was_there) (lacks_it v come_face come_off) in
+        let one = filter_gains (lacks_corner v) (full_faces c) a come_face d a_in (ap not was_there) (ap not come_off) in
         let kept = get_or-set_other (full_faces c) a b come_face d ab in
-        let two = filter_stays (lacks_corner v) middle b turned_face d (rw length-set b_in) (lacks_not v (get_or middle b d) (ap (has_corner v) kept ∙ other_there)) (lacks_not v turned_face turned_there) in
+        let two = filter_stays (lacks_corner v) middle b turned_face d (rw length-set b_in) (ap not (ap (has_corner v) kept ∙ other_there)) (ap not turned_there) in
         rw list_is (IsPermutation-trans _ _ _ two one)
 
     -- its data are those of a face at the vertex
@@ -271,12 +255,6 @@ same_among m new o (suc k) p q =
           let still : face new k ≢ 0 = λ z. off (o.only k (origin new k) (origin new (rev k)) (record { within = omega (arith, q); outer = z; source = refl; target = refl })).outer in
           passed_over new k (omega (arith, still)) ∙ rest ∙ sym (passed_over m k (omega (arith, off)))
     ]
-  where
-    listed : (m : Mesh) (k : ℕ) → face m k ≡ 0 → outer_among m (suc k) ≡ record { source = origin m k; target = origin m (rev k) } ∷ outer_among m k
-    listed m k is = grind (arith, nat_tests)
-
-    passed_over : (m : Mesh) (k : ℕ) → 0 < face m k → outer_among m (suc k) ≡ outer_among m k
-    passed_over m k some = grind (arith, nat_tests)
 
 pub same_outline : (m new : Mesh) → KeepsOuter m new → length new.half_edges ≡ length m.half_edges → outline new ≡ outline m
 same_outline m new o count = ap (outer_among new) count ∙ same_among m new o (length m.half_edges) (omega arith) (omega (arith, count))

@@ -10,7 +10,7 @@ pub record MapsSoFar {A B : Type 0} (R : A → B → Type 0) (all rest : List A)
   pub each : AllZip R done made
 
 module _ {A B : Type 0} (R : A → B → Type 0) where
-  all_zip-push : (xs : List A) (ys : List B) (x : A) (y : B) → AllZip R xs ys → R x y → AllZip R (xs ++ x ∷ []) (ys ++ y ∷ [])
+  pub all_zip-push : (xs : List A) (ys : List B) (x : A) (y : B) → AllZip R xs ys → R x y → AllZip R (xs ++ x ∷ []) (ys ++ y ∷ [])
   all_zip-push [] [] x y each here = (here, tt)
   all_zip-push [] (z ∷ zs) x y each here = absurd each
   all_zip-push (w ∷ ws) [] x y each here = absurd each

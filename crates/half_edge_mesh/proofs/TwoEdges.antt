@@ -1,11 +1,10 @@
 -- One edge gets other ends and another goes.
-use Rattle.std.proofs.Common.{◌≡◌, ◌≢◌, ℕ, zero, suc, ◌+◌, ◌-◌, ◌*◌, ◌<◌, List, [], ◌∷◌, length, set, get_or, refl, sym, ap, ◌∙◌, inl, inr, arith}
+use Rattle.std.proofs.Common.{◌≡◌, ◌≢◌, ℕ, zero, suc, ◌+◌, ◌-◌, ◌<◌, List, [], ◌∷◌, length, set, get_or, refl, sym, ap, ◌∙◌, inl, inr, arith}
 use Rattle.std.proofs.lemmas.Bool.{cases_eq}
 use Rattle.std.proofs.lemmas.List.{length-set, get_or-set_same, get_or-set_other, get_or_default}
 use Rattle.std.proofs.lemmas.List.Sorted.{IsPermutation-refl, IsPermutation-trans, IsPermutation-cons, IsPermutation-middle}
 use Rattle.std.specs.List.Sorted.{IsPermutation}
-use Rattle.half_edge_links.specs.Outline.{Ends}
-use Rattle.half_edge_mesh.specs.Removal.{TakesOut, FullEdge, full_edges_of}
+use Rattle.half_edge_mesh.specs.Removal.{TakesOut}
 use Rattle.half_edge_mesh.proofs.TakenOut.{permuted}
 
 -- the items but the i-th, in their order
@@ -81,15 +80,3 @@ module _ {X : Type 0} (old mid new : List X) (k j : ℕ) (kept now : X) (apart :
               },
             )
       ]
-
--- edge k gets other ends
-pub full_edges-set : {D U : Type 0} (es : List Ends) (us : List U) (ds : List D) (k : ℕ) (p : Ends) (kept : FullEdge D U) → length us ≡ length es → length ds ≡ 2 * length es → k < length es → kept ≡ get_or (full_edges_of es us ds) k kept
-    → full_edges_of (set es k p) us ds ≡ set (full_edges_of es us ds) k (record kept { source = p.source; target = p.target })
-full_edges-set [] us ds k p kept a b within is = absurd (omega (arith, within))
-full_edges-set (e ∷ es) [] ds k p kept a b within is = absurd (omega (arith, a))
-full_edges-set (e ∷ es) (u ∷ us) [] k p kept a b within is = absurd (omega (arith, b))
-full_edges-set (e ∷ es) (u ∷ us) (x ∷ []) k p kept a b within is = absurd (omega (arith, b))
-full_edges-set {D} {U} (e ∷ es) (u ∷ us) (x ∷ y ∷ ds) zero p kept a b within is =
-    ap (λ (q : FullEdge D U). record { source = p.source; target = p.target; value = q.value; there = q.there; back = q.back } ∷ full_edges_of es us ds) (sym is)
-full_edges-set (e ∷ es) (u ∷ us) (x ∷ y ∷ ds) (suc k) p kept a b within is =
-    ap (λ l. record { source = e.source; target = e.target; value = u; there = x; back = y } ∷ l) (full_edges-set es us ds k p kept (omega (arith, a)) (omega (arith, b)) (omega (arith, within)) is)

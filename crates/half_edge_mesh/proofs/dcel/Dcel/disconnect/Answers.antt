@@ -12,7 +12,7 @@ pub loop-preserved : goal.loop-preserved
 loop-preserved g c =
     let f = c.loop.invariant.strip in
     record {
-      strip = stripped_next c.args.self.now c.loop.self c.peel-h.new.self c.args.first c.args.count c.loop.h c.peel-h.result c.loop.counter _ (omega arith) c.peel-h.ensures.whole.valid f (stripped_inner c.args.self.now c.loop.self c.args.first c.args.count c.loop.h c.loop.counter f (omega arith)) c.peel-h.ensures.peels c.peel-h.ensures.spoke c.peel-h.ensures.edges c.peel-h.ensures.faces;
+      strip = stripped_next c.args.self.now c.loop.self c.peel-h.new.self c.args.first c.args.count c.loop.h c.peel-h.result c.loop.counter c.peel-h.ensures.whole.valid f (stripped_inner c.args.self.now c.loop.self c.args.first c.args.count c.loop.h c.loop.counter f (omega arith)) c.peel-h.ensures.peels c.peel-h.ensures.spoke c.peel-h.ensures.edges c.peel-h.ensures.faces _ (omega arith);
       contents = same_but c.args.self.now c.loop.self c.peel-h.new.self c.loop.invariant.contents c.peel-h.ensures.contents;
       outline = λ one. c.peel-h.ensures.outline (c.loop.invariant.outline one);
     }
