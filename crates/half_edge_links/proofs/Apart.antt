@@ -1,6 +1,7 @@
 -- No edge joins a vertex to itself after a change.
 use Rattle.std.proofs.Common.{◌≡◌, ◌≢◌, ℕ, zero, suc, ◌+◌, ◌<◌, length, refl, sym, ap, ◌∙◌, inl, inr, arith, true, ◌==◌}
 use Rattle.std.proofs.lemmas.Bool.{cases_eq, eq-eqb, eqb-true}
+use Rattle.half_edge_links.proofs.Cases.{◌or_else◌}
 use Rattle.half_edge_links.specs.Mesh.{Mesh, origin, next, prev, face, rev, IsSound, IsInnerEdge, IsAlone, HasApartEnds, HasStars, IsClosed, connected}
 use Rattle.half_edge_links.specs.Flip.{IsFlippable, Flips}
 use Rattle.half_edge_links.specs.Insert.{Inserts}
@@ -26,14 +27,12 @@ neq differs same = differs (sym same)
 
 pub apart_flipped : (m new : Mesh) (e : ℕ) → IsSound m → IsFlippable m e → Flips m new e → origin m (prev m e) ≢ origin m (prev m (rev e)) → HasApartEnds m → HasApartEnds new
 apart_flipped m new e s can f corners apart h within =
-    elim (cases_eq h e) [
+    elim (cases_eq h e or_else cases_eq h (rev e)) [
       | inl same ↦ λ q. corners (sym f.edge.origin ∙ ap (origin new) (sym same) ∙ q ∙ ap (λ k. origin new (rev k)) same ∙ f.twin.origin)
-      | inr a ↦ elim (cases_eq h (rev e)) [
-        | inl same ↦ λ q. corners (sym (sym f.twin.origin ∙ ap (origin new) (sym same) ∙ q ∙ ap (λ k. origin new (rev k)) same ∙ ap (origin new) (rev-rev e) ∙ f.edge.origin))
-        | inr b ↦
-            apart_kept m new h apart (omega (arith, within, f.edge_count)) (origin_kept m new e s can f h a b)
-            (origin_kept m new e s can f (rev h) (λ q. b (sym (rev-rev h) ∙ ap rev q)) (λ q. a (sym (rev-rev h) ∙ ap rev q ∙ rev-rev e)))
-      ]
+      | inr (a, inl same) ↦ λ q. corners (sym (sym f.twin.origin ∙ ap (origin new) (sym same) ∙ q ∙ ap (λ k. origin new (rev k)) same ∙ ap (origin new) (rev-rev e) ∙ f.edge.origin))
+      | inr (a, inr b) ↦
+          apart_kept m new h apart (omega (arith, within, f.edge_count)) (origin_kept m new e s can f h a b)
+          (origin_kept m new e s can f (rev h) (λ q. b (sym (rev-rev h) ∙ ap rev q)) (λ q. a (sym (rev-rev h) ∙ ap rev q ∙ rev-rev e)))
     ]
 
 pub apart_hung : (m new : Mesh) (x v : ℕ) → IsSound m → IsOuter m x → IsAlone m v → Hangs m new x v (length m.half_edges) → HasApartEnds m → HasApartEnds new
@@ -41,10 +40,8 @@ apart_hung m new x v s outer alone i apart h within =
     let there : origin new (length m.half_edges) ≢ origin new (length m.half_edges + 1) = λ q. differs_alone m (next m x) v s (s.edges x outer.0).next_in alone (sym i.there.origin ∙ q ∙ i.back.origin) in
     elim (grown_cases h _ (omega (arith, within, i.edge_count))) [
       | inl old ↦ apart_kept m new h apart old (i.origins h old) (i.origins (rev h) (rev_within _ _ s.even old))
-      | inr late ↦ elim late [
-        | inl is ↦ rw is (both_sides new _ _ (rev_of_even _ s.even) there)
-        | inr is ↦ rw is (both_sides new _ _ (rev_of_odd _ s.even) (neq there))
-      ]
+      | inr (inl is) ↦ rw is (both_sides new _ _ (rev_of_even _ s.even) there)
+      | inr (inr is) ↦ rw is (both_sides new _ _ (rev_of_odd _ s.even) (neq there))
     ]
 
 pub apart_closed : (m new : Mesh) (e : ℕ) → IsSound m → IsClosable m e → Closes m new e (length m.half_edges) (length m.face_edges) → HasApartEnds m → HasApartEnds new
@@ -53,10 +50,8 @@ apart_closed m new e s can i apart h within =
     let there : origin new (length m.half_edges) ≢ origin new (length m.half_edges + 1) = λ q. can.apart (sym c.end ∙ sym i.inside.origin ∙ q ∙ i.outside.origin) in
     elim (grown_cases h _ (omega (arith, within, i.edge_count))) [
       | inl old ↦ apart_kept m new h apart old (i.origins h old) (i.origins (rev h) (rev_within _ _ s.even old))
-      | inr late ↦ elim late [
-        | inl is ↦ rw is (both_sides new _ _ (rev_of_even _ s.even) there)
-        | inr is ↦ rw is (both_sides new _ _ (rev_of_odd _ s.even) (neq there))
-      ]
+      | inr (inl is) ↦ rw is (both_sides new _ _ (rev_of_even _ s.even) there)
+      | inr (inr is) ↦ rw is (both_sides new _ _ (rev_of_odd _ s.even) (neq there))
     ]
 
 -- the moved edge starts at no vertex with one edge
@@ -76,12 +71,10 @@ apart_slid m new e s can i stars apart h within =
     let h_in : h < length m.half_edges = omega (arith, within, i.edge_count) in
     let off : e ≢ rev e = λ q. apart e can.within (ap (origin m) q) in
     let moved : origin new e ≢ origin new (rev e) = λ q. start_off m e s can stars (sym (i.other_origins e can.within off) ∙ q ∙ i.origin_twin) in
-    elim (cases_eq h (rev e)) [
+    elim (cases_eq h (rev e) or_else cases_eq h e) [
       | inl same ↦ rw same (both_sides new _ _ (rev-rev e) (neq moved))
-      | inr a ↦ elim (cases_eq h e) [
-        | inl same ↦ rw same moved
-        | inr b ↦ apart_kept m new h apart h_in (i.other_origins h h_in a) (i.other_origins (rev h) (rev_within _ _ s.even h_in) (λ q. b (sym (rev-rev h) ∙ ap rev q ∙ rev-rev e)))
-      ]
+      | inr (a, inl same) ↦ rw same moved
+      | inr (a, inr b) ↦ apart_kept m new h apart h_in (i.other_origins h h_in a) (i.other_origins (rev h) (rev_within _ _ s.even h_in) (λ q. b (sym (rev-rev h) ∙ ap rev q ∙ rev-rev e)))
     ]
 
 pub apart_inserted : (m new : Mesh) (v a : ℕ) → IsSound m → IsInnerEdge m a → IsAlone m v → Inserts m new v (face m a) a (length m.half_edges) (length m.face_edges) → HasApartEnds m → HasApartEnds new
@@ -94,22 +87,12 @@ apart_inserted m new v a s inner alone i apart h within =
     let third : origin new (n + 4) ≢ origin new (n + 5) = λ q. differs_alone m (prev m a) v s here.prev_in alone (sym i.from_third.origin ∙ q ∙ i.to_third.origin) in
     elim (late_cases h n (omega (arith, within, i.edge_count))) [
       | inl old ↦ apart_kept m new h apart old (kept h old) (kept (rev h) (rev_within _ _ s.even old))
-      | inr b ↦ elim b [
-        | inl is ↦ rw is (both_sides new _ _ (inserting.rev0 m new v (face m a) a n (length m.face_edges) s inner alone refl refl refl i) first)
-        | inr c ↦ elim c [
-          | inl is ↦ rw is (both_sides new _ _ (inserting.rev2 m new v (face m a) a n (length m.face_edges) s inner alone refl refl refl i) second)
-          | inr d ↦ elim d [
-            | inl is ↦ rw is (both_sides new _ _ (inserting.rev4 m new v (face m a) a n (length m.face_edges) s inner alone refl refl refl i) third)
-            | inr spoke ↦ elim spoke [
-              | inl is ↦ rw is (both_sides new _ _ (inserting.rev1 m new v (face m a) a n (length m.face_edges) s inner alone refl refl refl i) (neq first))
-              | inr x ↦ elim x [
-                | inl is ↦ rw is (both_sides new _ _ (inserting.rev3 m new v (face m a) a n (length m.face_edges) s inner alone refl refl refl i) (neq second))
-                | inr is ↦ rw is (both_sides new _ _ (inserting.rev5 m new v (face m a) a n (length m.face_edges) s inner alone refl refl refl i) (neq third))
-              ]
-            ]
-          ]
-        ]
-      ]
+      | inr (inl is) ↦ rw is (both_sides new _ _ (inserting.rev0 m new v (face m a) a n (length m.face_edges) s inner alone refl refl refl i) first)
+      | inr (inr (inl is)) ↦ rw is (both_sides new _ _ (inserting.rev2 m new v (face m a) a n (length m.face_edges) s inner alone refl refl refl i) second)
+      | inr (inr (inr (inl is))) ↦ rw is (both_sides new _ _ (inserting.rev4 m new v (face m a) a n (length m.face_edges) s inner alone refl refl refl i) third)
+      | inr (inr (inr (inr (inl is)))) ↦ rw is (both_sides new _ _ (inserting.rev1 m new v (face m a) a n (length m.face_edges) s inner alone refl refl refl i) (neq first))
+      | inr (inr (inr (inr (inr (inl is))))) ↦ rw is (both_sides new _ _ (inserting.rev3 m new v (face m a) a n (length m.face_edges) s inner alone refl refl refl i) (neq second))
+      | inr (inr (inr (inr (inr (inr is))))) ↦ rw is (both_sides new _ _ (inserting.rev5 m new v (face m a) a n (length m.face_edges) s inner alone refl refl refl i) (neq third))
     ]
 
 pub apart_connected : (m : Mesh) (a b : ℕ) → a ≢ b → HasApartEnds (connected m a b)

@@ -2,6 +2,7 @@
 use Rattle.std.proofs.Common.{◌≡◌, ◌≢◌, ◌⊎◌, ℕ, ◌+◌, ◌-◌, ◌<◌, ◌≤◌, [], ◌∷◌, length, refl, sym, ap, ◌∙◌, inl, inr, arith, length-append}
 use Rattle.std.proofs.lemmas.Bool.{cases_eq}
 use Rattle.std.proofs.lemmas.List.{get_or_append_left, get_or_at}
+use Rattle.half_edge_links.proofs.Cases.{◌or_else◌}
 use Rattle.half_edge_links.specs.Mesh.{Mesh, origin, next, prev, face, face_edge, rev, IsSound, IsSoundEdge}
 use Rattle.half_edge_links.specs.Grow.{IsClosable, closed, Closes}
 use Rattle.half_edge_links.proofs.Rev.{rev_within}
@@ -121,15 +122,11 @@ module _ (m new : Mesh) (e : ℕ) (s : IsSound m) (can : IsClosable m e) (i : Cl
   -- an edge of the new face, the new outer edge, or another
   place : (h : ℕ) → h < length new.half_edges → IsSoundEdge new h ⊎ ((h ≡ length m.half_edges + 1) ⊎ ((h < length m.half_edges) × (h ≢ e) × (h ≢ next m e)))
   place h within =
-      elim (cases_eq e h) [
+      elim (cases_eq e h or_else cases_eq (next m e) h or_else grown_cases h (length m.half_edges) (rw i.edge_count at within)) [
         | inl same ↦ inl (rw (← same) round_sound.0)
-        | inr a ↦ elim (cases_eq (next m e) h) [
-          | inl same ↦ inl (rw (← same) round_sound.1)
-          | inr b ↦ elim (grown_cases h (length m.half_edges) (rw i.edge_count at within)) [
-            | inl old ↦ inr (inr (old, λ q. a (sym q), λ q. b (sym q)))
-            | inr j ↦ elim j [ inl is ↦ inl (rw is round_sound.2) | inr is ↦ inr (inl is) ]
-          ]
-        ]
+        | inr (a, inl same) ↦ inl (rw (← same) round_sound.1)
+        | inr (a, inr (b, inl old)) ↦ inr (inr (old, λ q. a (sym q), λ q. b (sym q)))
+        | inr (a, inr (b, inr j)) ↦ elim j [ inl is ↦ inl (rw is round_sound.2) | inr is ↦ inr (inl is) ]
       ]
 
   next_ok : (h : ℕ) → h < length new.half_edges → IsNextSound new h
@@ -137,25 +134,23 @@ module _ (m new : Mesh) (e : ℕ) (s : IsSound m) (can : IsClosable m e) (i : Cl
       let p = c in
       elim (place h within) [
         | inl done ↦ next_of_sound new h done
-        | inr j ↦ elim j [
-          | inl is ↦ rw is (
-              next_at new (length m.half_edges + 1) (next m (next m e)) i.outside.next (omega (arith, more, p.after_in)) i.prev_after (i.origins _ p.after_in ∙ sym (ap (origin new) rev_outside ∙ i.inside.origin))
-              (i.other_faces _ p.after_in p.after-first (s.edges (next m e) p.second_in).proper ∙ p.after_outer ∙ sym i.outside.face) (λ q. absurd (omega (arith, q, p.after_in))))
-          | inr off ↦
-              let here = s.edges h off.0 in
-              elim (cases_eq (prev m e) h) [
-                | inl same ↦ rw (← same) (
-                    next_at new (prev m e) (length m.half_edges + 1) i.next_before (omega (arith, i.edge_count)) i.outside.prev
-                    (i.outside.origin ∙ sym (ap (origin m) p.before_next) ∙ (s.edges _ p.before_in).starts ∙ sym (rev_kept _ p.before_in))
-                    (i.outside.face ∙ sym (i.other_faces _ p.before_in p.before-first p.before-second ∙ p.before_outer)) (λ q. absurd (omega (arith, q, p.before_in))))
-                | inr not_before ↦
-                    let off_first : next m h ≢ e = λ q. not_before (ap (prev m) (sym q) ∙ here.prev_next) in
-                    let off_second : next m h ≢ next m e = λ q. off.1 (sym here.prev_next ∙ ap (prev m) q ∙ p.second_back) in
-                    let off_after : next m h ≢ next m (next m e) = λ q. off.2 (sym here.prev_next ∙ ap (prev m) q ∙ p.after_before) in
-                    next_kept m new h here (i.other_next h off.0 (λ q. not_before (sym q)) off.2) (i.other_prev (next m h) here.next_in off_first off_after)
-                    (i.origins (next m h) here.next_in) (rev_kept h off.0) (i.other_faces h off.0 off.1 off.2) (i.other_faces (next m h) here.next_in off_first off_second) more
-              ]
-        ]
+        | inr (inl is) ↦ rw is (
+            next_at new (length m.half_edges + 1) (next m (next m e)) i.outside.next (omega (arith, more, p.after_in)) i.prev_after (i.origins _ p.after_in ∙ sym (ap (origin new) rev_outside ∙ i.inside.origin))
+            (i.other_faces _ p.after_in p.after-first (s.edges (next m e) p.second_in).proper ∙ p.after_outer ∙ sym i.outside.face) (λ q. absurd (omega (arith, q, p.after_in))))
+        | inr (inr off) ↦
+            let here = s.edges h off.0 in
+            elim (cases_eq (prev m e) h) [
+              | inl same ↦ rw (← same) (
+                  next_at new (prev m e) (length m.half_edges + 1) i.next_before (omega (arith, i.edge_count)) i.outside.prev
+                  (i.outside.origin ∙ sym (ap (origin m) p.before_next) ∙ (s.edges _ p.before_in).starts ∙ sym (rev_kept _ p.before_in))
+                  (i.outside.face ∙ sym (i.other_faces _ p.before_in p.before-first p.before-second ∙ p.before_outer)) (λ q. absurd (omega (arith, q, p.before_in))))
+              | inr not_before ↦
+                  let off_first : next m h ≢ e = λ q. not_before (ap (prev m) (sym q) ∙ here.prev_next) in
+                  let off_second : next m h ≢ next m e = λ q. off.1 (sym here.prev_next ∙ ap (prev m) q ∙ p.second_back) in
+                  let off_after : next m h ≢ next m (next m e) = λ q. off.2 (sym here.prev_next ∙ ap (prev m) q ∙ p.after_before) in
+                  next_kept m new h here (i.other_next h off.0 (λ q. not_before (sym q)) off.2) (i.other_prev (next m h) here.next_in off_first off_after)
+                  (i.origins (next m h) here.next_in) (rev_kept h off.0) (i.other_faces h off.0 off.1 off.2) (i.other_faces (next m h) here.next_in off_first off_second) more
+            ]
       ]
 
   inner_ok : (h : ℕ) → h < length m.half_edges → h ≢ e → h ≢ next m e → 0 < face new h → IsInnerSound new h
@@ -175,23 +170,21 @@ module _ (m new : Mesh) (e : ℕ) (s : IsSound m) (can : IsClosable m e) (i : Cl
   sound_at h within =
       elim (place h within) [
         | inl done ↦ done
-        | inr j ↦ elim j [
-          | inl is ↦
-              let start = busy e can.within in
-              let none : face new h ≡ 0 = ap (face new) is ∙ i.outside.face in
-              sound_from new h (record {
-                origin_in = rw (is, i.outside.origin) start.within;
-                face_in = rw none (omega arith);
-                has_out = rw (is, i.outside.origin) start.has_out;
-              }) (next_ok h within) (prev_sound new next_ok h within) (λ some. absurd (omega (arith, some, none)))
-          | inr off ↦
-              let start = busy h off.0 in
-              sound_from new h (record {
-                origin_in = rw (i.origins h off.0) start.within;
-                face_in = rw (i.other_faces h off.0 off.1 off.2, face_count) (omega (arith, (s.edges h off.0).face_in));
-                has_out = rw (i.origins h off.0) start.has_out;
-              }) (next_ok h within) (prev_sound new next_ok h within) (inner_ok h off.0 off.1 off.2)
-        ]
+        | inr (inl is) ↦
+            let start = busy e can.within in
+            let none : face new h ≡ 0 = ap (face new) is ∙ i.outside.face in
+            sound_from new h (record {
+              origin_in = rw (is, i.outside.origin) start.within;
+              face_in = rw none (omega arith);
+              has_out = rw (is, i.outside.origin) start.has_out;
+            }) (next_ok h within) (prev_sound new next_ok h within) (λ some. absurd (omega (arith, some, none)))
+        | inr (inr off) ↦
+            let start = busy h off.0 in
+            sound_from new h (record {
+              origin_in = rw (i.origins h off.0) start.within;
+              face_in = rw (i.other_faces h off.0 off.1 off.2, face_count) (omega (arith, (s.edges h off.0).face_in));
+              has_out = rw (i.origins h off.0) start.has_out;
+            }) (next_ok h within) (prev_sound new next_ok h within) (inner_ok h off.0 off.1 off.2)
       ]
 
   -- an edge of an inner face keeps it

@@ -2,6 +2,7 @@
 use Rattle.std.proofs.Common.{◌≡◌, ◌≢◌, ◌⊎◌, ℕ, zero, suc, ◌+◌, ◌-◌, ◌<◌, ◌≤◌, Bool, true, ◌==◌, if◌then◌else◌, length, Some, refl, sym, ap, ◌∙◌, inl, inr, arith}
 use Rattle.std.proofs.lemmas.Bool.{cases_eq, eq-eqb, eqb-true}
 use Rattle.std.proofs.lemmas.Bool.Decides.{nat_tests}
+use Rattle.half_edge_links.proofs.Cases.{◌or_else◌}
 use Rattle.half_edge_links.specs.Mesh.{Mesh, origin, next, prev, face, rev, IsSound, IsValid, IsClosed}
 use Rattle.half_edge_links.specs.Flip.{IsFlippable}
 use Rattle.half_edge_links.specs.Remove.{IsRemovable}
@@ -139,10 +140,8 @@ module _ (m : Mesh) (v : IsValid m) (h : ℕ) (within : h < length m.half_edges)
       let here = v.sound.edges h within in
       elim (same_loop m h g v.sound within g_in inner one_face) [
         | inl is ↦ is
-        | inr b ↦ elim b [
-          | inl is ↦ absurd (v.apart h within (sym same ∙ ap (origin m) is ∙ here.starts))
-          | inr is ↦ absurd (v.apart (prev m h) here.prev_in (ap (origin m) (sym is) ∙ same ∙ sym turn_starts))
-        ]
+        | inr (inl is) ↦ absurd (v.apart h within (sym same ∙ ap (origin m) is ∙ here.starts))
+        | inr (inr is) ↦ absurd (v.apart (prev m h) here.prev_in (ap (origin m) (sym is) ∙ same ∙ sym turn_starts))
       ]
 
   -- the next edge round the start of an edge with an inner face has another face
@@ -166,12 +165,10 @@ to_three o a z k at = elim at [
 from_three : (o a z k : ℕ) → in_three o a z k ≡ true → (k ≡ o) ⊎ ((k ≡ a) ⊎ (k ≡ z))
 unfolding in_three
 from_three o a z k is =
-    elim (cases_eq k o) [
+    elim (cases_eq k o or_else cases_eq k a) [
       | inl q ↦ inl q
-      | inr p ↦ elim (cases_eq k a) [
-        | inl q ↦ inr (inl q)
-        | inr r ↦ elim (cases_eq k z) [ inl q ↦ inr (inr q) | inr x ↦ absurd (grind (arith, nat_tests)) ]
-      ]
+      | inr (p, inl q) ↦ inr (inl q)
+      | inr (p, inr r) ↦ elim (cases_eq k z) [ inl q ↦ inr (inr q) | inr x ↦ absurd (grind (arith, nat_tests)) ]
     ]
 
 pub full_wheel : (m : Mesh) (o : ℕ) → IsValid m → IsWheel m o → IsFullWheel m o
@@ -252,12 +249,10 @@ faces_apart m e v within inner same =
     let here = s.edges e within in
     elim (same_loop m e (rev e) s within twin_in inner (sym same)) [
       | inl is ↦ rev_differs e is
-      | inr b ↦ elim b [
-        | inl is ↦
-            let back : next m (rev e) ≡ prev m e = ap (next m) is ∙ t.next_next in
-            v.apart (prev m e) t.prev_in (ap (origin m) (sym back) ∙ (s.edges (rev e) twin_in).starts ∙ ap (origin m) (rev-rev e ∙ sym t.next_prev) ∙ (s.edges (prev m e) t.prev_in).starts)
-        | inr is ↦ v.apart (next m e) t.next_in (here.starts ∙ ap (origin m) (is ∙ sym t.next_next) ∙ (s.edges (next m e) t.next_in).starts)
-      ]
+      | inr (inl is) ↦
+          let back : next m (rev e) ≡ prev m e = ap (next m) is ∙ t.next_next in
+          v.apart (prev m e) t.prev_in (ap (origin m) (sym back) ∙ (s.edges (rev e) twin_in).starts ∙ ap (origin m) (rev-rev e ∙ sym t.next_prev) ∙ (s.edges (prev m e) t.prev_in).starts)
+      | inr (inr is) ↦ v.apart (next m e) t.next_in (here.starts ∙ ap (origin m) (is ∙ sym t.next_next) ∙ (s.edges (next m e) t.next_in).starts)
     ]
 
 -- so an edge with inner faces on both sides has two of them

@@ -2,6 +2,7 @@
 use Rattle.std.proofs.Common.{◌≡◌, ℕ, zero, suc, ◌<◌, [], length, Some, None, IsSome, set, refl, sym, ap, ◌∙◌, inl, inr, arith}
 use Rattle.std.proofs.lemmas.List.{get_or-set_same, get_or-set_other, length-set}
 use Rattle.std.proofs.lemmas.Bool.{cases_eq}
+use Rattle.half_edge_links.proofs.Cases.{◌or_else◌}
 use Rattle.half_edge_links.specs.Mesh.{Mesh, IsSound, IsSoundEdge, origin, out_edge, connected}
 
 module _ (m : Mesh) (a b : ℕ) (s : IsSound m) (none : m.half_edges ≡ []) (a_in : a < length m.out_edges) (b_in : b < length m.out_edges) where
@@ -51,22 +52,20 @@ module _ (m : Mesh) (a b : ℕ) (s : IsSound m) (none : m.half_edges ≡ []) (a_
 
   vertices_named : (v h : ℕ) → out_edge (connected m a b) v ≡ Some h → (h < 2) × (origin (connected m a b) h ≡ v)
   vertices_named v h named =
-      elim (cases_eq v b) [
+      elim (cases_eq v b or_else cases_eq v a) [
         | inl same ↦
             let at = at_b in
             let is : 1 ≡ h = cc in
             rw (← is) (omega arith, sym same)
-        | inr differs ↦ elim (cases_eq v a) [
-          | inl same ↦
-              let at = get_or-set_other (set m.out_edges a (Some 0)) b v (Some 1) None differs in
-              let at' = get_or-set_same m.out_edges a (Some 0) None a_in in
-              let is : 0 ≡ h = cc in
-              rw (← is) (omega arith, sym same)
-          | inr other ↦
-              let at = get_or-set_other (set m.out_edges a (Some 0)) b v (Some 1) None differs in
-              let at' = get_or-set_other m.out_edges a v (Some 0) None other in
-              absurd (no_edge_at h (s.vertices v h (sym at' ∙ sym at ∙ named)).0)
-        ]
+        | inr (differs, inl same) ↦
+            let at = get_or-set_other (set m.out_edges a (Some 0)) b v (Some 1) None differs in
+            let at' = get_or-set_same m.out_edges a (Some 0) None a_in in
+            let is : 0 ≡ h = cc in
+            rw (← is) (omega arith, sym same)
+        | inr (differs, inr other) ↦
+            let at = get_or-set_other (set m.out_edges a (Some 0)) b v (Some 1) None differs in
+            let at' = get_or-set_other m.out_edges a v (Some 0) None other in
+            absurd (no_edge_at h (s.vertices v h (sym at' ∙ sym at ∙ named)).0)
       ]
 
   pub sound_connected : IsSound (connected m a b)

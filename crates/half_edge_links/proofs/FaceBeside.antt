@@ -85,10 +85,8 @@ module _ (m mid new : Mesh) (e v : ℕ) (s : IsSound m) (outer : IsOuter m e) (a
         only = λ h p q o. elim (b.only h p q o) [
           | inl x ↦ elim (a.only h p q x.0) [
             | inl y ↦ inl (y.0, λ same. x.1 (inl same))
-            | inr y ↦ elim y [
-              | inl z ↦ absurd (x.1 (inr (z.0 ∙ sym i.next_at)))
-              | inr z ↦ inr (inr z)
-            ]
+            | inr (inl z) ↦ absurd (x.1 (inr (z.0 ∙ sym i.next_at)))
+            | inr (inr z) ↦ inr (inr z)
           ]
           | inr x ↦ inr (inl (x.0 ∙ n3, x.1 ∙ start, x.2 ∙ end))
         ];

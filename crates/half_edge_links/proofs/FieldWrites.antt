@@ -149,10 +149,8 @@ sets_loop_face hs h x h_in n_in p_in =
       origin = λ k. origin-with_face b _ x k ∙ origin-with_face a _ x k ∙ origin-with_face hs h x k;
       face = λ k round. elim round [
         | inl is ↦ face_more b _ x k p_in_b (inr (face_more a _ x k n_in_a (inr (face_more hs h x k h_in (inl is)))))
-        | inr r ↦ elim r [
-          | inl is ↦ face_more b _ x k p_in_b (inr (face_more a _ x k n_in_a (inl is)))
-          | inr is ↦ face_more b _ x k p_in_b (inl is)
-        ]
+        | inr (inl is) ↦ face_more b _ x k p_in_b (inr (face_more a _ x k n_in_a (inl is)))
+        | inr (inr is) ↦ face_more b _ x k p_in_b (inl is)
       ];
       other = λ k p q r. ap (λ (e : HalfEdge). e.face) (other-with_face b _ x k r ∙ other-with_face a _ x k q ∙ other-with_face hs h x k p);
     }

@@ -4,6 +4,7 @@ use Rattle.std.proofs.lemmas.Bool.{cases_eq}
 use Rattle.std.proofs.lemmas.Bool.Decides.{nat_tests}
 use Rattle.std.proofs.lemmas.List.{get_or-set_same, get_or-set_other, length-set}
 use Rattle.std.specs.List.{swap_remove}
+use Rattle.half_edge_links.proofs.Cases.{◌or_else◌, ◌each_with◌}
 use Rattle.half_edge_links.specs.declared.records.HalfEdge.{HalfEdge}
 use Rattle.half_edge_links.specs.Mesh.{Mesh, no_edge, edge_at, origin, next, prev, face, face_edge, out_edge, rev, HasLinks}
 use Rattle.half_edge_links.specs.Renames.{Renames, IsKeptEdge, pair_moved, renamed}
@@ -43,20 +44,16 @@ module _ (last hole : ℕ) (last_even : last % 2 ≡ 0) (hole_even : hole % 2 �
   old_left h within =
       elim (pair_cases hole h) [
         | inl a ↦ rw (a, pair_first hole last) (omega arith, λ z. absurd (omega arith), λ z. absurd (omega arith), pair_first last hole)
-        | inr i ↦ elim i [
-          | inl a ↦ rw (a, pair_second hole last) (omega arith, λ z. absurd (omega arith), λ z. absurd (omega arith), pair_second last hole)
-          | inr a ↦ rw (pair_other hole last h a.0 a.1) (omega arith, a.0, a.1, pair_other last hole h (λ z. absurd (omega arith)) (λ z. absurd (omega arith)))
-        ]
+        | inr (inl a) ↦ rw (a, pair_second hole last) (omega arith, λ z. absurd (omega arith), λ z. absurd (omega arith), pair_second last hole)
+        | inr (inr a) ↦ rw (pair_other hole last h a.0 a.1) (omega arith, a.0, a.1, pair_other last hole h (λ z. absurd (omega arith)) (λ z. absurd (omega arith)))
       ]
 
   pub new_left : (h : ℕ) → h < last + 2 → h ≢ hole → h ≢ hole + 1 → (pair_moved last hole h < last) × (pair_moved hole last (pair_moved last hole h) ≡ h)
   new_left h within a b =
       elim (pair_cases last h) [
         | inl c ↦ rw (c, pair_first last hole) (omega arith, pair_first hole last)
-        | inr i ↦ elim i [
-          | inl c ↦ rw (c, pair_second last hole) (omega arith, pair_second hole last)
-          | inr c ↦ rw (pair_other last hole h c.0 c.1) (omega arith, pair_other hole last h a b)
-        ]
+        | inr (inl c) ↦ rw (c, pair_second last hole) (omega arith, pair_second hole last)
+        | inr (inr c) ↦ rw (pair_other last hole h c.0 c.1) (omega arith, pair_other hole last h a b)
       ]
 
   pub old_rev : (h : ℕ) → pair_moved hole last (rev h) ≡ rev (pair_moved hole last h)
@@ -66,15 +63,13 @@ module _ (last hole : ℕ) (last_even : last % 2 ≡ 0) (hole_even : hole % 2 �
             let r : rev hole ≡ hole + 1 = grind (arith, nat_tests) in
             let q : rev last ≡ last + 1 = grind (arith, nat_tests) in
             rw (a, r, pair_first hole last, pair_second hole last, q) refl
-        | inr i ↦ elim i [
-          | inl a ↦
-              let r : rev (hole + 1) ≡ hole = grind (arith, nat_tests) in
-              let q : rev (last + 1) ≡ last = grind (arith, nat_tests) in
-              rw (a, r, pair_first hole last, pair_second hole last, q) refl
-          | inr a ↦
-              let away = rev_away hole h hole_even a.0 a.1 in
-              rw (pair_other hole last h a.0 a.1, pair_other hole last (rev h) away.0 away.1) refl
-        ]
+        | inr (inl a) ↦
+            let r : rev (hole + 1) ≡ hole = grind (arith, nat_tests) in
+            let q : rev (last + 1) ≡ last = grind (arith, nat_tests) in
+            rw (a, r, pair_first hole last, pair_second hole last, q) refl
+        | inr (inr a) ↦
+            let away = rev_away hole h hole_even a.0 a.1 in
+            rw (pair_other hole last h a.0 a.1, pair_other hole last (rev h) away.0 away.1) refl
       ]
 
   twice : (h : ℕ) → pair_moved last hole (pair_moved last hole h) ≡ pair_moved last hole h
@@ -138,10 +133,8 @@ module _ (m : Mesh) (last hole : ℕ) (b : IsSoundBut m hole) (at_last : length 
   in_range l within =
       elim (pair_cases hole l) [
         | inl i ↦ let n = b.next_self in let p = b.prev_self in rw (i, n, p) (rw (← i) within, rw (← i) within, refl, n)
-        | inr j ↦ elim j [
-          | inl i ↦ let n = b.twin_next_self in let p = b.twin_prev_self in rw (i, n, p) (rw (← i) within, rw (← i) within, refl, n)
-          | inr i ↦ let here = b.edges l within i.0 i.1 in (here.next_in, here.prev_in, here.prev_next, here.next_prev)
-        ]
+        | inr (inl i) ↦ let n = b.twin_next_self in let p = b.twin_prev_self in rw (i, n, p) (rw (← i) within, rw (← i) within, refl, n)
+        | inr (inr i) ↦ let here = b.edges l within i.0 i.1 in (here.next_in, here.prev_in, here.prev_next, here.next_prev)
       ]
 
   abbrev first : List HalfEdge
@@ -165,16 +158,14 @@ module _ (m : Mesh) (last hole : ℕ) (b : IsSoundBut m hole) (at_last : length 
             next_both_other first (prev m (last + 1)) (hole + 1) (next m (last + 1)) (hole + 1) k off
             ∙ ap (next_of first) at ∙ next_both m.half_edges (prev m last) hole (next m last) hole (in_range last last_in).1
             ∙ sym (ap (pair_moved last hole) i ∙ pair_first last hole)
-        | inr j ↦ elim j [
-          | inl i ↦
-              let at = sym (in_range k within).2 ∙ ap (prev m) i in
-              ap (next_of second) at ∙ next_both first (prev m (last + 1)) (hole + 1) (next m (last + 1)) (hole + 1) (rw (length_both m.half_edges (prev m last) hole (next m last) hole) (in_range (last + 1) odd_in).1)
-              ∙ sym (ap (pair_moved last hole) i ∙ pair_second last hole)
-          | inr i ↦
-              next_both_other first (prev m (last + 1)) (hole + 1) (next m (last + 1)) (hole + 1) k (λ z. i.1 (ap (next m) z ∙ (in_range (last + 1) odd_in).3))
-              ∙ next_both_other m.half_edges (prev m last) hole (next m last) hole k (λ z. i.0 (ap (next m) z ∙ (in_range last last_in).3))
-              ∙ sym (pair_other last hole (next m k) i.0 i.1)
-        ]
+        | inr (inl i) ↦
+            let at = sym (in_range k within).2 ∙ ap (prev m) i in
+            ap (next_of second) at ∙ next_both first (prev m (last + 1)) (hole + 1) (next m (last + 1)) (hole + 1) (rw (length_both m.half_edges (prev m last) hole (next m last) hole) (in_range (last + 1) odd_in).1)
+            ∙ sym (ap (pair_moved last hole) i ∙ pair_second last hole)
+        | inr (inr i) ↦
+            next_both_other first (prev m (last + 1)) (hole + 1) (next m (last + 1)) (hole + 1) k (λ z. i.1 (ap (next m) z ∙ (in_range (last + 1) odd_in).3))
+            ∙ next_both_other m.half_edges (prev m last) hole (next m last) hole k (λ z. i.0 (ap (next m) z ∙ (in_range last last_in).3))
+            ∙ sym (pair_other last hole (next m k) i.0 i.1)
       ]
 
   prev_written : (k : ℕ) → k < length m.half_edges → k ≢ hole → k ≢ hole + 1 → prev_of second k ≡ to (prev m k)
@@ -186,16 +177,14 @@ module _ (m : Mesh) (last hole : ℕ) (b : IsSoundBut m hole) (at_last : length 
             prev_both_other first (prev m (last + 1)) (hole + 1) (next m (last + 1)) (hole + 1) k off
             ∙ ap (prev_of first) at ∙ prev_both m.half_edges (prev m last) hole (next m last) hole (in_range last last_in).0
             ∙ sym (ap (pair_moved last hole) i ∙ pair_first last hole)
-        | inr j ↦ elim j [
-          | inl i ↦
-              let at = sym (in_range k within).3 ∙ ap (next m) i in
-              ap (prev_of second) at ∙ prev_both first (prev m (last + 1)) (hole + 1) (next m (last + 1)) (hole + 1) (rw (length_both m.half_edges (prev m last) hole (next m last) hole) (in_range (last + 1) odd_in).0)
-              ∙ sym (ap (pair_moved last hole) i ∙ pair_second last hole)
-          | inr i ↦
-              prev_both_other first (prev m (last + 1)) (hole + 1) (next m (last + 1)) (hole + 1) k (λ z. i.1 (ap (prev m) z ∙ (in_range (last + 1) odd_in).2))
-              ∙ prev_both_other m.half_edges (prev m last) hole (next m last) hole k (λ z. i.0 (ap (prev m) z ∙ (in_range last last_in).2))
-              ∙ sym (pair_other last hole (prev m k) i.0 i.1)
-        ]
+        | inr (inl i) ↦
+            let at = sym (in_range k within).3 ∙ ap (next m) i in
+            ap (prev_of second) at ∙ prev_both first (prev m (last + 1)) (hole + 1) (next m (last + 1)) (hole + 1) (rw (length_both m.half_edges (prev m last) hole (next m last) hole) (in_range (last + 1) odd_in).0)
+            ∙ sym (ap (pair_moved last hole) i ∙ pair_second last hole)
+        | inr (inr i) ↦
+            prev_both_other first (prev m (last + 1)) (hole + 1) (next m (last + 1)) (hole + 1) k (λ z. i.1 (ap (prev m) z ∙ (in_range (last + 1) odd_in).2))
+            ∙ prev_both_other m.half_edges (prev m last) hole (next m last) hole k (λ z. i.0 (ap (prev m) z ∙ (in_range last last_in).2))
+            ∙ sym (pair_other last hole (prev m k) i.0 i.1)
       ]
 
   second_count : length second ≡ last + 2
@@ -247,15 +236,11 @@ module _ (m : Mesh) (last hole : ℕ) (b : IsSoundBut m hole) (at_last : length 
   outs v within =
       let one : List (Option ℕ) = with_out_renamed m.out_edges (origin m last) last hole in
       let one_in : v < length one = rw (length_out m.out_edges (origin m last)) within in
-      elim (cases_eq v (origin m (last + 1))) [
-        | inl i ↦ elim (cases_eq v (origin m last)) [
-          | inl j ↦ rw (← i) (out_at one v one_in ∙ rw (← j) (ap (renamed (pair_moved last hole)) (out_at m.out_edges v within) ∙ twice_some last hole last_even b.hole_even below (out_edge m v)))
-          | inr j ↦ rw (← i) (out_at one v one_in ∙ ap (renamed (pair_moved last hole)) (out_off m.out_edges (origin m last) v j))
-        ]
-        | inr i ↦ elim (cases_eq v (origin m last)) [
-          | inl j ↦ out_off one (origin m (last + 1)) v i ∙ rw (← j) (out_at m.out_edges v within)
-          | inr j ↦ out_off one (origin m (last + 1)) v i ∙ out_off m.out_edges (origin m last) v j ∙ no_out v j i (out_edge m v) refl
-        ]
+      elim (cases_eq v (origin m (last + 1)) each_with cases_eq v (origin m last)) [
+        | inl (i, inl j) ↦ rw (← i) (out_at one v one_in ∙ rw (← j) (ap (renamed (pair_moved last hole)) (out_at m.out_edges v within) ∙ twice_some last hole last_even b.hole_even below (out_edge m v)))
+        | inl (i, inr j) ↦ rw (← i) (out_at one v one_in ∙ ap (renamed (pair_moved last hole)) (out_off m.out_edges (origin m last) v j))
+        | inr (i, inl j) ↦ out_off one (origin m (last + 1)) v i ∙ rw (← j) (out_at m.out_edges v within)
+        | inr (i, inr j) ↦ out_off one (origin m (last + 1)) v i ∙ out_off m.out_edges (origin m last) v j ∙ no_out v j i (out_edge m v) refl
       ]
 
   face_at : (fs : List ℕ) (f : ℕ) → 0 < f → f ≤ length fs → get_or (with_face_renamed fs f last hole) (f - 1) 0 ≡ pair_moved last hole (get_or fs (f - 1) 0)
@@ -284,18 +269,14 @@ module _ (m : Mesh) (last hole : ℕ) (b : IsSoundBut m hole) (at_last : length 
   named f some within =
       let one : List ℕ = with_face_renamed m.face_edges (face m last) last hole in
       let one_in : f ≤ length one = rw (length_face m.face_edges (face m last)) within in
-      elim (cases_eq f (face m (last + 1))) [
-        | inl i ↦ elim (cases_eq f (face m last)) [
-          | inl j ↦ rw (← i) (face_at one f some one_in ∙ rw (← j) (ap (pair_moved last hole) (face_at m.face_edges f some within) ∙ twice last hole last_even b.hole_even below (face_edge m f)))
-          | inr j ↦ rw (← i) (face_at one f some one_in ∙ ap (pair_moved last hole) (face_off m.face_edges (face m last) f some j))
-        ]
-        | inr i ↦ elim (cases_eq f (face m last)) [
-          | inl j ↦ face_off one (face m (last + 1)) f some i ∙ rw (← j) (face_at m.face_edges f some within)
-          | inr j ↦
-              let had = b.faces f some within in
-              let same = pair_other last hole (face_edge m f) (λ z. j (sym had.1 ∙ ap (face m) z)) (λ z. i (sym had.1 ∙ ap (face m) z)) in
-              face_off one (face m (last + 1)) f some i ∙ face_off m.face_edges (face m last) f some j ∙ sym same
-        ]
+      elim (cases_eq f (face m (last + 1)) each_with cases_eq f (face m last)) [
+        | inl (i, inl j) ↦ rw (← i) (face_at one f some one_in ∙ rw (← j) (ap (pair_moved last hole) (face_at m.face_edges f some within) ∙ twice last hole last_even b.hole_even below (face_edge m f)))
+        | inl (i, inr j) ↦ rw (← i) (face_at one f some one_in ∙ ap (pair_moved last hole) (face_off m.face_edges (face m last) f some j))
+        | inr (i, inl j) ↦ face_off one (face m (last + 1)) f some i ∙ rw (← j) (face_at m.face_edges f some within)
+        | inr (i, inr j) ↦
+            let had = b.faces f some within in
+            let same = pair_other last hole (face_edge m f) (λ z. j (sym had.1 ∙ ap (face m) z)) (λ z. i (sym had.1 ∙ ap (face m) z)) in
+            face_off one (face m (last + 1)) f some i ∙ face_off m.face_edges (face m last) f some j ∙ sym same
       ]
 
   pub counts : (length (filled m last hole).half_edges ≡ last) × (length (filled m last hole).out_edges ≡ length m.out_edges) × (length (filled m last hole).face_edges ≡ length m.face_edges)

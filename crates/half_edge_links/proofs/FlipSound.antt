@@ -1,6 +1,7 @@
 -- Turning an edge keeps a mesh sound.
 use Rattle.std.proofs.Common.{◌≡◌, ◌≢◌, ◌⊎◌, ℕ, ◌<◌, ◌≤◌, length, Some, IsSome, refl, sym, ap, ◌∙◌, inl, inr, arith}
 use Rattle.std.proofs.lemmas.Bool.{cases_eq}
+use Rattle.half_edge_links.proofs.Cases.{◌or_else◌}
 use Rattle.half_edge_links.specs.declared.records.HalfEdge.{HalfEdge}
 use Rattle.half_edge_links.specs.Mesh.{Mesh, edge_at, origin, next, prev, face, face_edge, out_edge, rev, IsSound, IsSoundEdge}
 use Rattle.half_edge_links.specs.Flip.{IsFlippable, Flips}
@@ -62,29 +63,21 @@ module _ (m new : Mesh) (e : ℕ) (s : IsSound m) (can : IsFlippable m e) (f : F
 
   pub origin_kept : (h : ℕ) → h ≢ e → h ≢ rev e → origin new h ≡ origin m h
   origin_kept h a b =
-      elim (cases_eq h (next m e)) [
+      elim (cases_eq h (next m e) or_else cases_eq h (next m (rev e)) or_else cases_eq h (prev m e) or_else cases_eq h (prev m (rev e))) [
         | inl same ↦ cc (f.edge_next.origin)
-        | inr c ↦ elim (cases_eq h (next m (rev e))) [
-          | inl same ↦ cc (f.twin_next.origin)
-          | inr d ↦ elim (cases_eq h (prev m e)) [
-            | inl same ↦ cc (f.edge_prev.origin)
-            | inr x ↦ elim (cases_eq h (prev m (rev e))) [
-              | inl same ↦ cc (f.twin_prev.origin)
-              | inr y ↦ ap (λ (i : HalfEdge). i.origin) (f.other_edges h a b c d x y)
-            ]
-          ]
-        ]
+        | inr (c, inl same) ↦ cc (f.twin_next.origin)
+        | inr (c, inr (d, inl same)) ↦ cc (f.edge_prev.origin)
+        | inr (c, inr (d, inr (x, inl same))) ↦ cc (f.twin_prev.origin)
+        | inr (c, inr (d, inr (x, inr y))) ↦ ap (λ (i : HalfEdge). i.origin) (f.other_edges h a b c d x y)
       ]
 
   -- what a vertex names afterwards
   outs : (v : ℕ) → ((v ≢ origin m e) × (v ≢ origin m (rev e)) × (out_edge new v ≡ out_edge m v)) ⊎ (((v ≡ origin m e) × (out_edge new v ≡ Some (next m (rev e)))) ⊎ ((v ≡ origin m (rev e)) × (out_edge new v ≡ Some (next m e))))
   outs v =
-      elim (cases_eq v (origin m (rev e))) [
+      elim (cases_eq v (origin m (rev e)) or_else cases_eq v (origin m e)) [
         | inl same ↦ inr (inr (same, cc f.twin_origin_out))
-        | inr a ↦ elim (cases_eq v (origin m e)) [
-          | inl same ↦ inr (inl (same, cc (f.origin_out (λ equal. a (cc)))))
-          | inr b ↦ inl (b, a, f.other_outs v b a)
-        ]
+        | inr (a, inl same) ↦ inr (inl (same, cc (f.origin_out (λ equal. a (cc)))))
+        | inr (a, inr b) ↦ inl (b, a, f.other_outs v b a)
       ]
 
   has_out : (v : ℕ) → IsSome (out_edge m v) → IsSome (out_edge new v)
@@ -161,31 +154,21 @@ module _ (m new : Mesh) (e : ℕ) (s : IsSound m) (can : IsFlippable m e) (f : F
 
   sound_at : (h : ℕ) → h < length m.half_edges → IsSoundEdge new h
   sound_at h within =
-      elim (cases_eq e h) [
+      elim (cases_eq e h or_else cases_eq (rev e) h or_else cases_eq (next m e) h or_else cases_eq (next m (rev e)) h or_else cases_eq (prev m e) h or_else cases_eq (prev m (rev e)) h) [
         | inl same ↦ rw (← same) left_sound.0
-        | inr a ↦ elim (cases_eq (rev e) h) [
-          | inl same ↦ rw (← same) right_sound.0
-          | inr b ↦ elim (cases_eq (next m e) h) [
-            | inl same ↦ rw (← same) left_sound.2
-            | inr c ↦ elim (cases_eq (next m (rev e)) h) [
-              | inl same ↦ rw (← same) right_sound.2
-              | inr d ↦ elim (cases_eq (prev m e) h) [
-                | inl same ↦ rw (← same) right_sound.1
-                | inr x ↦ elim (cases_eq (prev m (rev e)) h) [
-                  | inl same ↦ rw (← same) left_sound.1
-                  | inr y ↦ sound_away h within (record {
-                    edge = λ q. a (sym q);
-                    twin = λ q. b (sym q);
-                    edge_next = λ q. c (sym q);
-                    twin_next = λ q. d (sym q);
-                    edge_prev = λ q. x (sym q);
-                    twin_prev = λ q. y (sym q);
-                  })
-                ]
-              ]
-            ]
-          ]
-        ]
+        | inr (a, inl same) ↦ rw (← same) right_sound.0
+        | inr (a, inr (b, inl same)) ↦ rw (← same) left_sound.2
+        | inr (a, inr (b, inr (c, inl same))) ↦ rw (← same) right_sound.2
+        | inr (a, inr (b, inr (c, inr (d, inl same)))) ↦ rw (← same) right_sound.1
+        | inr (a, inr (b, inr (c, inr (d, inr (x, inl same))))) ↦ rw (← same) left_sound.1
+        | inr (a, inr (b, inr (c, inr (d, inr (x, inr y))))) ↦ sound_away h within (record {
+          edge = λ q. a (sym q);
+          twin = λ q. b (sym q);
+          edge_next = λ q. c (sym q);
+          twin_next = λ q. d (sym q);
+          edge_prev = λ q. x (sym q);
+          twin_prev = λ q. y (sym q);
+        })
       ]
 
   vertices_kept : (v h : ℕ) → out_edge new v ≡ Some h → (h < length new.half_edges) × (origin new h ≡ v)
@@ -196,16 +179,14 @@ module _ (m new : Mesh) (e : ℕ) (s : IsSound m) (can : IsFlippable m e) (f : F
             let had = s.vertices v h was in
             let origin_is = origin_kept h (λ same. a.0 (cc)) (λ same. a.1 (cc)) in
             (omega (arith, had.0, f.edge_count), cc)
-        | inr b ↦ elim b [
-          | inl c ↦
-              let is : next m (rev e) ≡ h = cc in
-              let side = (s.edges (rev e) six.b_in).starts in
-              (omega (arith, six.d_in, f.edge_count), cc (f.twin_next.origin, rev-rev e))
-          | inr c ↦
-              let is : next m e ≡ h = cc in
-              let side = (s.edges e six.a_in).starts in
-              (omega (arith, six.c_in, f.edge_count), cc (f.edge_next.origin))
-        ]
+        | inr (inl c) ↦
+            let is : next m (rev e) ≡ h = cc in
+            let side = (s.edges (rev e) six.b_in).starts in
+            (omega (arith, six.d_in, f.edge_count), cc (f.twin_next.origin, rev-rev e))
+        | inr (inr c) ↦
+            let is : next m e ≡ h = cc in
+            let side = (s.edges e six.a_in).starts in
+            (omega (arith, six.c_in, f.edge_count), cc (f.edge_next.origin))
       ]
 
   -- an edge of another face is none of the six
@@ -224,20 +205,18 @@ module _ (m new : Mesh) (e : ℕ) (s : IsSound m) (can : IsFlippable m e) (f : F
 
   faces_kept : (g : ℕ) → 0 < g → g ≤ length new.face_edges → (face_edge new g < length new.half_edges) × (face new (face_edge new g) ≡ g)
   faces_kept g some within =
-      elim (cases_eq g (face m e)) [
+      elim (cases_eq g (face m e) or_else cases_eq g (face m (rev e))) [
         | inl same ↦
             let named : face_edge new g ≡ e = rw same (f.left_face) in
             (omega (arith, six.a_in, f.edge_count), cc (f.edge.face))
-        | inr a ↦ elim (cases_eq g (face m (rev e))) [
-          | inl same ↦
-              let named : face_edge new g ≡ rev e = rw same (f.right_face) in
-              (omega (arith, six.b_in, f.edge_count), cc (f.twin.face))
-          | inr b ↦
-              let named = f.other_faces g some a b in
-              let had = s.faces g some (omega (arith, f.face_count)) in
-              let at = kept (face_edge m g) (away_by_face _ (λ q. a (cc)) (λ q. b (cc))) in
-              (omega (arith, f.edge_count, had.0), cc)
-        ]
+        | inr (a, inl same) ↦
+            let named : face_edge new g ≡ rev e = rw same (f.right_face) in
+            (omega (arith, six.b_in, f.edge_count), cc (f.twin.face))
+        | inr (a, inr b) ↦
+            let named = f.other_faces g some a b in
+            let had = s.faces g some (omega (arith, f.face_count)) in
+            let at = kept (face_edge m g) (away_by_face _ (λ q. a (cc)) (λ q. b (cc))) in
+            (omega (arith, f.edge_count, had.0), cc)
       ]
 
   outer_kept : (h : ℕ) → new.outer_edge ≡ Some h → (h < length new.half_edges) × (face new h ≡ 0)

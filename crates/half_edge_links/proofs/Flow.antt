@@ -104,10 +104,8 @@ module _ (m : Mesh) (s : IsSound m) (f : ℕ → ℕ → ℤ) where
       elim (cases_eq (face m k) g) [
         | inl is ↦ face_is (face m k) g (side k) is ∙ elim (same_loop m e k s t.h_in k_in (omega (arith, had.1, some)) (is ∙ sym had.1)) [
           | inl q ↦ ap side q ∙ three_first (side e) ∙ same_three _ _ _ _ _ _ (sym (at_place e (side e) k q)) (sym (off_place (next m e) (side (next m e)) k (λ w. t.next_differs (sym w ∙ q)))) (sym (off_place (prev m e) (side (prev m e)) k (λ w. t.prev_differs (sym w ∙ q))))
-          | inr b ↦ elim b [
-            | inl q ↦ ap side q ∙ three_second (side (next m e)) ∙ same_three _ _ _ _ _ _ (sym (off_place e (side e) k (λ w. t.next_differs (sym q ∙ w)))) (sym (at_place (next m e) (side (next m e)) k q)) (sym (off_place (prev m e) (side (prev m e)) k (λ w. t.both_differ (sym q ∙ w))))
-            | inr q ↦ ap side q ∙ three_third (side (prev m e)) ∙ same_three _ _ _ _ _ _ (sym (off_place e (side e) k (λ w. t.prev_differs (sym q ∙ w)))) (sym (off_place (next m e) (side (next m e)) k (λ w. t.both_differ (sym w ∙ q)))) (sym (at_place (prev m e) (side (prev m e)) k q))
-          ]
+          | inr (inl q) ↦ ap side q ∙ three_second (side (next m e)) ∙ same_three _ _ _ _ _ _ (sym (off_place e (side e) k (λ w. t.next_differs (sym q ∙ w)))) (sym (at_place (next m e) (side (next m e)) k q)) (sym (off_place (prev m e) (side (prev m e)) k (λ w. t.both_differ (sym q ∙ w))))
+          | inr (inr q) ↦ ap side q ∙ three_third (side (prev m e)) ∙ same_three _ _ _ _ _ _ (sym (off_place e (side e) k (λ w. t.prev_differs (sym q ∙ w)))) (sym (off_place (next m e) (side (next m e)) k (λ w. t.both_differ (sym w ∙ q)))) (sym (at_place (prev m e) (side (prev m e)) k q))
         ]
         | inr off ↦
             let not_e : k ≢ e = λ q. off (ap (face m) q ∙ had.1) in

@@ -2,6 +2,7 @@
 use Rattle.std.proofs.Common.{◌≡◌, ◌≢◌, ℕ, ◌+◌, ◌<◌, ◌≤◌, List, length, Some, None, IsSome, refl, sym, ap, ◌∙◌, inl, inr, arith}
 use Rattle.std.proofs.lemmas.Bool.{cases_eq}
 use Rattle.std.proofs.lemmas.List.{get_or-set_same, get_or-set_other, length-set}
+use Rattle.half_edge_links.proofs.Cases.{◌or_else◌}
 use Rattle.half_edge_links.specs.declared.records.HalfEdge.{HalfEdge}
 use Rattle.half_edge_links.specs.Mesh.{Mesh, no_edge, edge_at, origin, next, prev, face, face_edge, out_edge, rev, IsSound, IsSoundEdge, IsAlone}
 use Rattle.half_edge_links.specs.Grow.{with_next, with_prev, IsOuter, hung_edges, hung, Hangs}
@@ -109,26 +110,24 @@ module _ (m new : Mesh) (x v : ℕ) (s : IsSound m) (outer : IsOuter m x) (alone
 
   next_ok : (h : ℕ) → h < length new.half_edges → IsNextSound new h
   next_ok h within =
-      elim (cases_eq (length m.half_edges) h) [
+      elim (cases_eq (length m.half_edges) h or_else cases_eq (length m.half_edges + 1) h) [
         | inl same ↦ rw (← same) (
             next_at new (length m.half_edges) (length m.half_edges + 1) i.there.next (omega (arith, i.edge_count)) i.back.prev (sym (ap (origin new) rev_there)) (i.back.face ∙ sym i.there.face)
             (λ q. absurd (omega arith)))
-        | inr not_there ↦ elim (cases_eq (length m.half_edges + 1) h) [
-          | inl same ↦ rw (← same) (
-              next_at new (length m.half_edges + 1) (next m x) i.back.next (omega (arith, at_x.next_in, more)) i.prev_at (i.origins _ at_x.next_in ∙ sym (ap (origin new) rev_back ∙ i.there.origin))
-              (i.faces _ at_x.next_in ∙ at_x.same_face ∙ sym i.back.face) (λ q. absurd (omega (arith, at_x.next_in, q))))
-          | inr not_back ↦
-              let h_in : h < length m.half_edges = omega (arith, i.edge_count) in
-              let here = s.edges h h_in in
-              elim (cases_eq x h) [
-                | inl same ↦ rw (← same) (
-                    next_at new x (length m.half_edges) i.next_at (omega (arith, i.edge_count)) i.there.prev (i.there.origin ∙ at_x.starts ∙ sym (rev_kept x outer.0)) (i.there.face ∙ sym (i.faces x outer.0))
-                    (λ q. absurd (omega (arith, outer.0, q))))
-                | inr differs ↦
-                    next_kept m new h here (i.other_next h h_in (λ q. differs (sym q))) (i.other_prev (next m h) here.next_in (λ q. differs (sym at_x.prev_next ∙ ap (prev m) (sym q) ∙ here.prev_next)))
-                    (i.origins (next m h) here.next_in) (rev_kept h h_in) (i.faces h h_in) (i.faces (next m h) here.next_in) more
-              ]
-        ]
+        | inr (not_there, inl same) ↦ rw (← same) (
+            next_at new (length m.half_edges + 1) (next m x) i.back.next (omega (arith, at_x.next_in, more)) i.prev_at (i.origins _ at_x.next_in ∙ sym (ap (origin new) rev_back ∙ i.there.origin))
+            (i.faces _ at_x.next_in ∙ at_x.same_face ∙ sym i.back.face) (λ q. absurd (omega (arith, at_x.next_in, q))))
+        | inr (not_there, inr not_back) ↦
+            let h_in : h < length m.half_edges = omega (arith, i.edge_count) in
+            let here = s.edges h h_in in
+            elim (cases_eq x h) [
+              | inl same ↦ rw (← same) (
+                  next_at new x (length m.half_edges) i.next_at (omega (arith, i.edge_count)) i.there.prev (i.there.origin ∙ at_x.starts ∙ sym (rev_kept x outer.0)) (i.there.face ∙ sym (i.faces x outer.0))
+                  (λ q. absurd (omega (arith, outer.0, q))))
+              | inr differs ↦
+                  next_kept m new h here (i.other_next h h_in (λ q. differs (sym q))) (i.other_prev (next m h) here.next_in (λ q. differs (sym at_x.prev_next ∙ ap (prev m) (sym q) ∙ here.prev_next)))
+                  (i.origins (next m h) here.next_in) (rev_kept h h_in) (i.faces h h_in) (i.faces (next m h) here.next_in) more
+            ]
       ]
 
   inner_ok : (h : ℕ) → h < length m.half_edges → 0 < face new h → IsInnerSound new h
@@ -152,30 +151,26 @@ module _ (m new : Mesh) (x v : ℕ) (s : IsSound m) (outer : IsOuter m x) (alone
               face_in = rw (i.faces h old, face_count) here.face_in;
               has_out = rw (i.origins h old) (has_out (origin m h) here.has_out);
             }
-        | inr j ↦ elim j [
-          | inl there ↦
-              let after = s.edges (next m x) at_x.next_in in
-              record {
-                origin_in = rw (there, i.there.origin, i.vertex_count) after.origin_in;
-                face_in = rw (there, i.there.face, outer.1) (omega arith);
-                has_out = rw (there, i.there.origin) (has_out _ after.has_out);
-              }
-          | inr back ↦ record {
-            origin_in = rw (back, i.back.origin, i.vertex_count) alone.0;
-            face_in = rw (back, i.back.face, outer.1) (omega arith);
-            has_out = rw (back, i.back.origin, i.out) refl;
-          }
-        ]
+        | inr (inl there) ↦
+            let after = s.edges (next m x) at_x.next_in in
+            record {
+              origin_in = rw (there, i.there.origin, i.vertex_count) after.origin_in;
+              face_in = rw (there, i.there.face, outer.1) (omega arith);
+              has_out = rw (there, i.there.origin) (has_out _ after.has_out);
+            }
+        | inr (inr back) ↦ record {
+          origin_in = rw (back, i.back.origin, i.vertex_count) alone.0;
+          face_in = rw (back, i.back.face, outer.1) (omega arith);
+          has_out = rw (back, i.back.origin, i.out) refl;
+        }
       ]
 
   sound_at : (h : ℕ) → h < length new.half_edges → IsSoundEdge new h
   sound_at h within =
       sound_from new h (in_mesh h within) (next_ok h within) (prev_sound new next_ok h within) (λ some. elim (grown_cases h (length m.half_edges) (rw i.edge_count at within)) [
         | inl old ↦ inner_ok h old some
-        | inr j ↦ elim j [
-          | inl there ↦ absurd (omega (arith, some, ap (face new) there ∙ i.there.face ∙ outer.1))
-          | inr back ↦ absurd (omega (arith, some, ap (face new) back ∙ i.back.face ∙ outer.1))
-        ]
+        | inr (inl there) ↦ absurd (omega (arith, some, ap (face new) there ∙ i.there.face ∙ outer.1))
+        | inr (inr back) ↦ absurd (omega (arith, some, ap (face new) back ∙ i.back.face ∙ outer.1))
       ])
 
   vertices_kept : (u h : ℕ) → out_edge new u ≡ Some h → (h < length new.half_edges) × (origin new h ≡ u)

@@ -1,6 +1,7 @@
 -- Putting a vertex into a face keeps a mesh sound.
 use Rattle.std.proofs.Common.{◌≡◌, ◌≢◌, ℕ, ◌+◌, ◌%◌, ◌<◌, ◌≤◌, length, Some, IsSome, refl, sym, ap, ◌∙◌, inl, inr, arith}
 use Rattle.std.proofs.lemmas.Bool.{cases_eq}
+use Rattle.half_edge_links.proofs.Cases.{◌or_else◌}
 use Rattle.half_edge_links.specs.declared.records.HalfEdge.{HalfEdge}
 use Rattle.half_edge_links.specs.Mesh.{Mesh, edge_at, origin, next, prev, face, face_edge, out_edge, rev, IsSound, IsSoundEdge, IsInnerEdge, IsAlone, HasLinks}
 use Rattle.half_edge_links.specs.Insert.{Inserts}
@@ -80,15 +81,11 @@ module _ (m new : Mesh) (v f a n g : ℕ) (s : IsSound m) (inner : IsInnerEdge m
 
   pub origin_kept : (h : ℕ) → h < n → origin new h ≡ origin m h
   origin_kept h within =
-      elim (cases_eq h a) [
+      elim (cases_eq h a or_else cases_eq h (next m a) or_else cases_eq h (prev m a)) [
         | inl same ↦ cc (i.first.origin)
-        | inr x ↦ elim (cases_eq h (next m a)) [
-          | inl same ↦ cc (i.second.origin)
-          | inr y ↦ elim (cases_eq h (prev m a)) [
-            | inl same ↦ cc (i.third.origin)
-            | inr z ↦ ap (λ (w : HalfEdge). w.origin) (i.other_edges h within x y z)
-          ]
-        ]
+        | inr (x, inl same) ↦ cc (i.second.origin)
+        | inr (x, inr (y, inl same)) ↦ cc (i.third.origin)
+        | inr (x, inr (y, inr z)) ↦ ap (λ (w : HalfEdge). w.origin) (i.other_edges h within x y z)
       ]
 
   has_out : (u : ℕ) → IsSome (out_edge m u) → IsSome (out_edge new u)
@@ -151,29 +148,17 @@ module _ (m new : Mesh) (v f a n g : ℕ) (s : IsSound m) (inner : IsInnerEdge m
   sound_at : (h : ℕ) → h < length new.half_edges → IsSoundEdge new h
   sound_at h within =
       elim (late_cases h n (omega (arith, i.edge_count))) [
-        | inl old ↦ elim (cases_eq a h) [
+        | inl old ↦ elim (cases_eq a h or_else cases_eq (next m a) h or_else cases_eq (prev m a) h) [
           | inl same ↦ rw (← same) first_sound.0
-          | inr x ↦ elim (cases_eq (next m a) h) [
-            | inl same ↦ rw (← same) second_sound.0
-            | inr y ↦ elim (cases_eq (prev m a) h) [
-              | inl same ↦ rw (← same) third_sound.0
-              | inr z ↦ sound_away h old (record { first = λ q. x (sym q); second = λ q. y (sym q); third = λ q. z (sym q) })
-            ]
-          ]
+          | inr (x, inl same) ↦ rw (← same) second_sound.0
+          | inr (x, inr (y, inl same)) ↦ rw (← same) third_sound.0
+          | inr (x, inr (y, inr z)) ↦ sound_away h old (record { first = λ q. x (sym q); second = λ q. y (sym q); third = λ q. z (sym q) })
         ]
-        | inr b ↦ elim b [
-          | inl is ↦ rw is third_sound.1
-          | inr c ↦ elim c [
-            | inl is ↦ rw is first_sound.1
-            | inr d ↦ elim d [
-              | inl is ↦ rw is second_sound.1
-              | inr spoke ↦ elim spoke [
-                | inl is ↦ rw is first_sound.2
-                | inr e ↦ elim e [ inl is ↦ rw is second_sound.2 | inr is ↦ rw is third_sound.2 ]
-              ]
-            ]
-          ]
-        ]
+        | inr (inl is) ↦ rw is third_sound.1
+        | inr (inr (inl is)) ↦ rw is first_sound.1
+        | inr (inr (inr (inl is))) ↦ rw is second_sound.1
+        | inr (inr (inr (inr (inl is)))) ↦ rw is first_sound.2
+        | inr (inr (inr (inr (inr e)))) ↦ elim e [ inl is ↦ rw is second_sound.2 | inr is ↦ rw is third_sound.2 ]
       ]
 
   vertices_kept : (u h : ℕ) → out_edge new u ≡ Some h → (h < length new.half_edges) × (origin new h ≡ u)
@@ -191,25 +176,21 @@ module _ (m new : Mesh) (v f a n g : ℕ) (s : IsSound m) (inner : IsInnerEdge m
 
   faces_kept : (k : ℕ) → 0 < k → k ≤ length new.face_edges → (face_edge new k < length new.half_edges) × (face new (face_edge new k) ≡ k)
   faces_kept k some within =
-      elim (cases_eq k f) [
+      elim (cases_eq k f or_else cases_eq k (g + 1) or_else cases_eq k (g + 2)) [
         | inl same ↦
             let named : face_edge new k ≡ a = rw same i.named in
             (omega (arith, i.edge_count, round.h_in), cc (i.first.face))
-        | inr x ↦ elim (cases_eq k (g + 1)) [
-          | inl same ↦
-              let named : face_edge new k ≡ next m a = rw same i.second_face in
-              (omega (arith, i.edge_count, round.next_in), cc (i.second.face))
-          | inr y ↦ elim (cases_eq k (g + 2)) [
-            | inl same ↦
-                let named : face_edge new k ≡ prev m a = rw same i.third_face in
-                (omega (arith, i.edge_count, round.prev_in), cc (i.third.face))
-            | inr z ↦
-                let named = i.kept_faces k some (omega (arith, i.face_count)) x in
-                let had = s.faces k some (omega (arith, i.face_count)) in
-                let at = kept (face_edge m k) (omega (arith, had.0)) (away_by_face _ (λ q. x (cc))) in
-                (omega (arith, i.edge_count, had.0), cc)
-          ]
-        ]
+        | inr (x, inl same) ↦
+            let named : face_edge new k ≡ next m a = rw same i.second_face in
+            (omega (arith, i.edge_count, round.next_in), cc (i.second.face))
+        | inr (x, inr (y, inl same)) ↦
+            let named : face_edge new k ≡ prev m a = rw same i.third_face in
+            (omega (arith, i.edge_count, round.prev_in), cc (i.third.face))
+        | inr (x, inr (y, inr z)) ↦
+            let named = i.kept_faces k some (omega (arith, i.face_count)) x in
+            let had = s.faces k some (omega (arith, i.face_count)) in
+            let at = kept (face_edge m k) (omega (arith, had.0)) (away_by_face _ (λ q. x (cc))) in
+            (omega (arith, i.edge_count, had.0), cc)
       ]
 
   outer_kept : (h : ℕ) → new.outer_edge ≡ Some h → (h < length new.half_edges) × (face new h ≡ 0)

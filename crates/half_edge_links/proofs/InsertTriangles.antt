@@ -2,6 +2,7 @@
 use Rattle.std.proofs.Common.{◌≡◌, ◌≢◌, ℕ, ◌+◌, ◌-◌, ◌<◌, List, [], ◌∷◌, ◌++◌, length, get_or, set, refl, sym, ◌∙◌, inl, inr, arith, length-append}
 use Rattle.std.proofs.lemmas.Bool.{cases_eq}
 use Rattle.std.proofs.lemmas.List.{get_or-set_same, get_or-set_other, length-set, same_lists, get_or-map, length-map, get_or_append_left, get_or-append-add}
+use Rattle.half_edge_links.proofs.Cases.{◌or_else◌}
 use Rattle.half_edge_links.specs.Mesh.{Mesh, origin, next, prev, face, face_edge, IsSound, IsInnerEdge, IsAlone}
 use Rattle.half_edge_links.specs.Insert.{Inserts, inserted}
 use Rattle.half_edge_links.specs.Triangles.{Triangle, triangle_at, triangles, InsertsTriangles}
@@ -40,38 +41,36 @@ module _ (m new : Mesh) (v a : ℕ) (s : IsSound m) (inner : IsInnerEdge m a) (a
       let read = get_or-map (triangle_at new) new.face_edges k 0 d in_new in
       let step : k + 1 - 1 ≡ k = omega arith in
       let len = written_length in
-      elim (cases_eq k (length m.face_edges)) [
+      elim (cases_eq k (length m.face_edges) or_else cases_eq k (length m.face_edges + 1)) [
         | inl same ↦
             let q : length m.face_edges + 1 - 1 ≡ k = omega arith in
             let named : get_or new.face_edges k 0 ≡ next m a = rw q at i.second_face in
             let at : get_or grown (length (set (triangles m) (face m a - 1) (triangle_at new a)) + 0) d ≡ triangle_at new (next m a) = get_or-append-add (set (triangles m) (face m a - 1) (triangle_at new a)) (triangle_at new (next m a) ∷ triangle_at new (prev m a) ∷ []) 0 d in
             let p : length (set (triangles m) (face m a - 1) (triangle_at new a)) + 0 ≡ k = omega arith in
             rw (read, named) (sym (rw p at at))
-        | inr x ↦ elim (cases_eq k (length m.face_edges + 1)) [
-          | inl same ↦
-              let q : length m.face_edges + 2 - 1 ≡ k = omega arith in
-              let named : get_or new.face_edges k 0 ≡ prev m a = rw q at i.third_face in
-              let at : get_or grown (length (set (triangles m) (face m a - 1) (triangle_at new a)) + 1) d ≡ triangle_at new (prev m a) = get_or-append-add (set (triangles m) (face m a - 1) (triangle_at new a)) (triangle_at new (next m a) ∷ triangle_at new (prev m a) ∷ []) 1 d in
-              let p : length (set (triangles m) (face m a - 1) (triangle_at new a)) + 1 ≡ k = omega arith in
-              rw (read, named) (sym (rw p at at))
-          | inr b ↦
-              let in_old : k < length m.face_edges = omega (arith, i.face_count) in
-              let in_list : k < length (triangles m) = omega (arith, length-map m.face_edges (triangle_at m)) in
-              let was = get_or-map (triangle_at m) m.face_edges k 0 d in_old in
-              let left = get_or_append_left (set (triangles m) (face m a - 1) (triangle_at new a)) (triangle_at new (next m a) ∷ triangle_at new (prev m a) ∷ []) d k (omega arith) in
-              elim (cases_eq (face m a - 1) k) [
-                | inl same ↦
-                    let named : get_or new.face_edges k 0 ≡ a = rw same at i.named in
-                    rw (read, named, left, same) (sym (get_or-set_same _ k _ d in_list))
-                | inr c ↦
-                    let off : k + 1 ≢ face m a = λ q. c (omega arith) in
-                    let named = rw step at (i.kept_faces (k + 1) (omega arith) (omega arith) off) in
-                    let had = s.faces (k + 1) (omega arith) (omega arith) in
-                    let away = away_by_face m new v _ a _ _ s inner alone refl refl refl i (face_edge m (k + 1)) (λ q. c (omega (arith, had.1, inner.1))) in
-                    let same = rw step at (kept_triangle (face_edge m (k + 1)) had.0 away) in
-                    rw (read, named, left, get_or-set_other _ (face m a - 1) k _ d (λ q. c (sym q)), was) same
-              ]
-        ]
+        | inr (x, inl same) ↦
+            let q : length m.face_edges + 2 - 1 ≡ k = omega arith in
+            let named : get_or new.face_edges k 0 ≡ prev m a = rw q at i.third_face in
+            let at : get_or grown (length (set (triangles m) (face m a - 1) (triangle_at new a)) + 1) d ≡ triangle_at new (prev m a) = get_or-append-add (set (triangles m) (face m a - 1) (triangle_at new a)) (triangle_at new (next m a) ∷ triangle_at new (prev m a) ∷ []) 1 d in
+            let p : length (set (triangles m) (face m a - 1) (triangle_at new a)) + 1 ≡ k = omega arith in
+            rw (read, named) (sym (rw p at at))
+        | inr (x, inr b) ↦
+            let in_old : k < length m.face_edges = omega (arith, i.face_count) in
+            let in_list : k < length (triangles m) = omega (arith, length-map m.face_edges (triangle_at m)) in
+            let was = get_or-map (triangle_at m) m.face_edges k 0 d in_old in
+            let left = get_or_append_left (set (triangles m) (face m a - 1) (triangle_at new a)) (triangle_at new (next m a) ∷ triangle_at new (prev m a) ∷ []) d k (omega arith) in
+            elim (cases_eq (face m a - 1) k) [
+              | inl same ↦
+                  let named : get_or new.face_edges k 0 ≡ a = rw same at i.named in
+                  rw (read, named, left, same) (sym (get_or-set_same _ k _ d in_list))
+              | inr c ↦
+                  let off : k + 1 ≢ face m a = λ q. c (omega arith) in
+                  let named = rw step at (i.kept_faces (k + 1) (omega arith) (omega arith) off) in
+                  let had = s.faces (k + 1) (omega arith) (omega arith) in
+                  let away = away_by_face m new v _ a _ _ s inner alone refl refl refl i (face_edge m (k + 1)) (λ q. c (omega (arith, had.1, inner.1))) in
+                  let same = rw step at (kept_triangle (face_edge m (k + 1)) had.0 away) in
+                  rw (read, named, left, get_or-set_other _ (face m a - 1) k _ d (λ q. c (sym q)), was) same
+            ]
       ]
 
   pub inserts_triangles : InsertsTriangles m new v a

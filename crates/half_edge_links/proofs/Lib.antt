@@ -34,6 +34,7 @@ pub mod StarsKept
 pub mod StarsRound
 pub mod StarsInsert
 pub mod StarsSlide
+pub mod Cases
 pub mod Apart
 pub mod Valid
 pub mod FieldWrites

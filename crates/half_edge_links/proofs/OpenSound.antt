@@ -4,6 +4,7 @@ use Rattle.std.proofs.lemmas.Bool.{cases_eq}
 use Rattle.std.proofs.lemmas.Bool.Decides.{nat_tests}
 use Rattle.std.proofs.lemmas.List.{get_or-set_same, get_or-set_other, get_or-take, length-set, length-take, get_or_read, get_or_default}
 use Rattle.std.specs.List.{swap_remove}
+use Rattle.half_edge_links.proofs.Cases.{◌or_else◌}
 use Rattle.half_edge_links.specs.declared.records.HalfEdge.{HalfEdge}
 use Rattle.half_edge_links.specs.Mesh.{Mesh, IsSmall, edge_at, next, prev, face, face_edge, out_edge, IsSound, IsInner}
 use Rattle.half_edge_links.specs.Renames.{Naming, Renames, IsKeptEdge, moved, renamed}
@@ -109,12 +110,10 @@ module _ (m new : Mesh) (f : ℕ) (s : IsSound m) (inner : IsInner m f) (o : Ope
 
   pub face_opened : (k : ℕ) → k < length m.half_edges → face new k ≡ opened_face (length m.face_edges) f (face m k)
   face_opened k within =
-      elim (cases_eq (face m k) f) [
+      elim (cases_eq (face m k) f or_else cases_eq (face m k) (length m.face_edges)) [
         | inl is ↦ o.gone k within is ∙ sym (ap (opened_face (length m.face_edges) f) is ∙ opened_gone (length m.face_edges) f)
-        | inr a ↦ elim (cases_eq (face m k) (length m.face_edges)) [
-          | inl is ↦ o.last k within is a ∙ sym (opened_last (length m.face_edges) f (face m k) is a)
-          | inr b ↦ o.other k within a b ∙ sym (opened_other (length m.face_edges) f (face m k) b a)
-        ]
+        | inr (a, inl is) ↦ o.last k within is a ∙ sym (opened_last (length m.face_edges) f (face m k) is a)
+        | inr (a, inr b) ↦ o.other k within a b ∙ sym (opened_other (length m.face_edges) f (face m k) b a)
       ]
 
   kept : (h : ℕ) → h < length m.half_edges → IsKeptEdge new names h

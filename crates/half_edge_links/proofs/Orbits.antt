@@ -6,6 +6,7 @@ use Rattle.std.proofs.lemmas.Bool.Decides.{eqb_tells}
 use Rattle.std.proofs.lemmas.List.Folds.{Any-from_list_any}
 use Rattle.std.proofs.lemmas.Map.Keys.{IsDistinct-from_apart}
 use Rattle.std.proofs.lemmas.Map.Steps.{length-le_from_distinct_below}
+use Rattle.half_edge_links.proofs.Cases.{◌or_else◌}
 use Rattle.half_edge_links.specs.Mesh.{iterate}
 
 -- the first places of a walk
@@ -42,15 +43,13 @@ module _ (f : ℕ → ℕ) where
   period_up_to : (o n : ℕ) → ((k : ℕ) × (k ≤ n) × IsPeriod f o k) ⊎ ((j : ℕ) → 0 < j → j ≤ n → iterate f j o ≢ o)
   period_up_to o zero = inr (λ j some less. absurd (omega arith))
   period_up_to o (suc n) =
-      elim (period_up_to o n) [
+      elim (period_up_to o n or_else cases_eq (iterate f (suc n) o) o) [
         | inl found ↦ inl (found.0, omega (arith, found.1), found.2)
-        | inr none ↦ elim (cases_eq (iterate f (suc n) o) o) [
-          | inl back ↦ inl (suc n, omega arith, record { some = omega arith; back = back; first = λ j some less. none j some (omega (arith, less)) })
-          | inr off ↦ inr (λ j some less. elim (cases_eq j (suc n)) [
-            | inl last ↦ λ q. off (ap (λ i. iterate f i o) (sym last) ∙ q)
-            | inr other ↦ none j some (omega (arith, less, other))
-          ])
-        ]
+        | inr (none, inl back) ↦ inl (suc n, omega arith, record { some = omega arith; back = back; first = λ j some less. none j some (omega (arith, less)) })
+        | inr (none, inr off) ↦ inr (λ j some less. elim (cases_eq j (suc n)) [
+          | inl last ↦ λ q. off (ap (λ i. iterate f i o) (sym last) ∙ q)
+          | inr other ↦ none j some (omega (arith, less, other))
+        ])
       ]
 
 module _ (f : ℕ → ℕ) (n : ℕ) (stays : (a : ℕ) → a < n → f a < n) (one_to_one : (a b : ℕ) → a < n → b < n → f a ≡ f b → a ≡ b) where

@@ -1,6 +1,7 @@
 -- The outer edges after a call.
 use Rattle.std.proofs.Common.{◌≡◌, ◌≢◌, ℕ, ◌+◌, ◌<◌, length, sym, ap, ◌∙◌, inl, inr, arith}
 use Rattle.std.proofs.lemmas.Bool.{cases_eq}
+use Rattle.half_edge_links.proofs.Cases.{◌or_else◌}
 use Rattle.half_edge_links.specs.Mesh.{Mesh, origin, next, face, rev, IsSound}
 use Rattle.half_edge_links.specs.Grow.{IsOuter, IsClosable, Hangs, Closes}
 use Rattle.half_edge_links.specs.Outline.{IsOuterEdge, IsEdge, HangsOuter, ClosesOuter}
@@ -28,14 +29,12 @@ outer_hung m new x v s outer i =
     record {
       kept = λ h a b o stays. same_outer m new h a b o (omega (arith, i.edge_count, o.within)) (i.faces h o.within) (i.origins h o.within) (i.origins (rev h) (rev_within h _ s.even o.within));
       made = λ h a b is. elim is [ inl q ↦ at_edge new h a b _ _ _ there q | inr q ↦ at_edge new h a b _ _ _ back q ];
-      only = λ h a b o. elim (cases_eq (length m.half_edges) h) [
+      only = λ h a b o. elim (cases_eq (length m.half_edges) h or_else cases_eq (length m.half_edges + 1) h) [
         | inl same ↦ inr (inl (is_edge new h a b _ _ _ o there same))
-        | inr p ↦ elim (cases_eq (length m.half_edges + 1) h) [
-          | inl same ↦ inr (inr (is_edge new h a b _ _ _ o back same))
-          | inr q ↦
-              let within : h < length m.half_edges = omega (arith, o.within, i.edge_count) in
-              inl (same_outer new m h a b o within (sym (i.faces h within)) (sym (i.origins h within)) (sym (i.origins (rev h) (rev_within h _ s.even within))), λ none. none)
-        ]
+        | inr (p, inl same) ↦ inr (inr (is_edge new h a b _ _ _ o back same))
+        | inr (p, inr q) ↦
+            let within : h < length m.half_edges = omega (arith, o.within, i.edge_count) in
+            inl (same_outer new m h a b o within (sym (i.faces h within)) (sym (i.origins h within)) (sym (i.origins (rev h) (rev_within h _ s.even within))), λ none. none)
       ];
     }
 

@@ -1,6 +1,7 @@
 -- The outer face keeps one loop.
 use Rattle.std.proofs.Common.{◌≡◌, ◌≢◌, ℕ, zero, suc, ◌+◌, ◌<◌, Bool, true, length, refl, sym, ap, ◌∙◌, inl, inr, arith}
 use Rattle.std.proofs.lemmas.Bool.{cases_eq}
+use Rattle.half_edge_links.proofs.Cases.{◌or_else◌}
 use Rattle.half_edge_links.specs.declared.records.HalfEdge.{HalfEdge}
 use Rattle.half_edge_links.specs.Mesh.{Mesh, origin, next, prev, face, rev, IsSound, IsInnerEdge, IsAlone, connected}
 use Rattle.half_edge_links.specs.Flip.{IsFlippable, Flips}
@@ -107,10 +108,8 @@ module _ (m new : Mesh) (x v : ℕ) (s : IsSound m) (outer : IsOuter m x) (i : H
       } in
       elim (grown_cases k _ within) [
         | inl old ↦ lies_as m among among k k old (sym (i.faces k old) ∙ none) refl
-        | inr late ↦ elim late [
-          | inl is ↦ between (λ on. ap among is ∙ hang_there on) (λ on. hang_on (hang_back (ap among (sym is) ∙ on)))
-          | inr is ↦ between (λ on. ap among is ∙ hang_back (hang_there on)) (λ on. hang_on (ap among (sym is) ∙ on))
-        ]
+        | inr (inl is) ↦ between (λ on. ap among is ∙ hang_there on) (λ on. hang_on (hang_back (ap among (sym is) ∙ on)))
+        | inr (inr is) ↦ between (λ on. ap among is ∙ hang_back (hang_there on)) (λ on. hang_on (ap among (sym is) ∙ on))
       ]
 
 pub outline_hung : (m new : Mesh) (x v : ℕ) → IsSound m → IsOuter m x → Hangs m new x v (length m.half_edges) → KeepsOneOutline m new
@@ -145,20 +144,18 @@ module _ (m new : Mesh) (e : ℕ) (s : IsSound m) (can : IsClosable m e) (i : Cl
   close_closed : IsClosedAlong m close_before
   close_closed h within none is =
       let here = s.edges h within in
-      elim (cases_eq h e) [
+      elim (cases_eq h e or_else cases_eq h (next m e)) [
         | inl same ↦ close_second (next m h) (ap (next m) same) ∙ sym (close_first h same) ∙ is
-        | inr a ↦ elim (cases_eq h (next m e)) [
-          | inl same ↦
-              let on : among (n + 1) ≡ true = sym (close_second h same) ∙ is in
-              ap (λ k. close_before (next m k)) same ∙ close_plain _ c.after-first (s.edges _ c.second_in).proper ∙ ap among (sym i.outside.next) ∙ closed (n + 1) (omega (arith, i.edge_count)) i.outside.face on
-          | inr b ↦
-              let on : among h ≡ true = sym (close_plain h a b) ∙ is in
-              let moved : among (next new h) ≡ true = closed h (omega (arith, within, i.edge_count)) (i.other_faces h within a b ∙ none) on in
-              elim (cases_eq h (prev m e)) [
-                | inl same ↦ close_first (next m h) (ap (next m) same ∙ c.before_next) ∙ ap among (sym (ap (next new) same ∙ i.next_before)) ∙ moved
-                | inr p ↦ close_plain (next m h) (λ q. p (sym here.prev_next ∙ ap (prev m) q)) (λ q. a (sym here.prev_next ∙ ap (prev m) q ∙ c.second_back)) ∙ ap among (sym (i.other_next h within p b)) ∙ moved
-              ]
-        ]
+        | inr (a, inl same) ↦
+            let on : among (n + 1) ≡ true = sym (close_second h same) ∙ is in
+            ap (λ k. close_before (next m k)) same ∙ close_plain _ c.after-first (s.edges _ c.second_in).proper ∙ ap among (sym i.outside.next) ∙ closed (n + 1) (omega (arith, i.edge_count)) i.outside.face on
+        | inr (a, inr b) ↦
+            let on : among h ≡ true = sym (close_plain h a b) ∙ is in
+            let moved : among (next new h) ≡ true = closed h (omega (arith, within, i.edge_count)) (i.other_faces h within a b ∙ none) on in
+            elim (cases_eq h (prev m e)) [
+              | inl same ↦ close_first (next m h) (ap (next m) same ∙ c.before_next) ∙ ap among (sym (ap (next new) same ∙ i.next_before)) ∙ moved
+              | inr p ↦ close_plain (next m h) (λ q. p (sym here.prev_next ∙ ap (prev m) q)) (λ q. a (sym here.prev_next ∙ ap (prev m) q ∙ c.second_back)) ∙ ap among (sym (i.other_next h within p b)) ∙ moved
+            ]
       ]
 
   close_lies : (k : ℕ) → k < n + 2 → face new k ≡ 0 → LiesAlong m close_before among k
@@ -168,19 +165,17 @@ module _ (m new : Mesh) (e : ℕ) (s : IsSound m) (can : IsClosable m e) (i : Cl
             let a : k ≢ e = λ q. absurd (omega (arith, none, ap (face new) q, i.face_first)) in
             let b : k ≢ next m e = λ q. absurd (omega (arith, none, ap (face new) q, i.face_second)) in
             lies_as m close_before among k k old (sym (i.other_faces k old a b) ∙ none) (close_plain k a b)
-        | inr late ↦ elim late [
-          | inl is ↦ absurd (omega (arith, none, ap (face new) is, i.inside.face))
-          | inr is ↦ record {
-            behind = e;
-            behind_in = can.within;
-            behind_outer = can.outer;
-            comes = λ on. ap among is ∙ sym (close_first e refl) ∙ on;
-            ahead = e;
-            ahead_in = can.within;
-            ahead_outer = can.outer;
-            goes = λ on. close_first e refl ∙ ap among (sym is) ∙ on;
-          }
-        ]
+        | inr (inl is) ↦ absurd (omega (arith, none, ap (face new) is, i.inside.face))
+        | inr (inr is) ↦ record {
+          behind = e;
+          behind_in = can.within;
+          behind_outer = can.outer;
+          comes = λ on. ap among is ∙ sym (close_first e refl) ∙ on;
+          ahead = e;
+          ahead_in = can.within;
+          ahead_outer = can.outer;
+          goes = λ on. close_first e refl ∙ ap among (sym is) ∙ on;
+        }
       ]
 
 pub outline_closed : (m new : Mesh) (e : ℕ) → IsSound m → IsClosable m e → Closes m new e (length m.half_edges) (length m.face_edges) → KeepsOneOutline m new
@@ -219,13 +214,11 @@ module _ (m new : Mesh) (e : ℕ) (s : IsSound m) (can : IsSlidable m e) (i : Sl
         | inl same ↦ ap (λ k. slide_before (next m k)) same ∙ slide_plain _ p.back-there ∙ sym (slide_first h same) ∙ is
         | inr a ↦
             let on : among h ≡ true = sym (slide_plain h a) ∙ is in
-            elim (cases_eq h e) [
+            elim (cases_eq h e or_else cases_eq h (prev m (rev e))) [
               | inl same ↦ slide_first (next m h) (ap (next m) same) ∙ step e _ can.within i.next_edge (ap among (sym same) ∙ on)
-              | inr b ↦ elim (cases_eq h (prev m (rev e))) [
-                | inl same ↦
-                    ap (λ k. slide_before (next m k)) same ∙ ap slide_before p.before_next ∙ slide_plain _ (λ q. p.there-twin (sym q)) ∙ step (next m e) (rev e) p.there_in i.next_there (step (prev m (rev e)) (next m e) p.before_in i.next_before (ap among (sym same) ∙ on))
-                | inr d ↦ slide_plain (next m h) (λ q. b (sym here.prev_next ∙ ap (prev m) q ∙ p.there_prev)) ∙ step h (next m h) within (i.other_next h within b d a) on
-              ]
+              | inr (b, inl same) ↦
+                  ap (λ k. slide_before (next m k)) same ∙ ap slide_before p.before_next ∙ slide_plain _ (λ q. p.there-twin (sym q)) ∙ step (next m e) (rev e) p.there_in i.next_there (step (prev m (rev e)) (next m e) p.before_in i.next_before (ap among (sym same) ∙ on))
+              | inr (b, inr d) ↦ slide_plain (next m h) (λ q. b (sym here.prev_next ∙ ap (prev m) q ∙ p.there_prev)) ∙ step h (next m h) within (i.other_next h within b d a) on
             ]
       ]
 

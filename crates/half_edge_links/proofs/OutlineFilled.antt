@@ -78,33 +78,23 @@ module _ (m one two : Mesh) (o : ℕ) (s : IsSound m) (w : IsFullWheel m o) (op 
       let k = over.edge in
       let l = over.left in
       elim over.was [
-        | inl first ↦ elim first [
-          | inl none ↦ absurd none
-          | inr a ↦ elim (same_loop m (turn m (turn m o)) k s t3.h_in a.0 w.third_inner a.1) [
-            | inl q ↦ inr (inl (sym over.is ∙ ap nm q))
-            | inr b ↦ elim b [
-              | inl q ↦ inr (inr (inl (sym over.is ∙ ap nm q ∙ sym nz)))
-              | inr q ↦ absurd (l.other_side (q ∙ wheel.before_z m o s w))
-            ]
-          ]
+        | inl (inl none) ↦ absurd none
+        | inl (inr a) ↦ elim (same_loop m (turn m (turn m o)) k s t3.h_in a.0 w.third_inner a.1) [
+          | inl q ↦ inr (inl (sym over.is ∙ ap nm q))
+          | inr (inl q) ↦ inr (inr (inl (sym over.is ∙ ap nm q ∙ sym nz)))
+          | inr (inr q) ↦ absurd (l.other_side (q ∙ wheel.before_z m o s w))
         ]
         | inr a ↦ elim (same_loop one o k s1 here.h_in a.0 (wheel.peelable_first m o s w one op).inner a.1) [
           | inl q ↦ absurd (l.other q)
-          | inr b ↦ elim b [
-            | inl q ↦ inr (inr (inr (sym over.is ∙ ap nm (q ∙ op.next o) ∙ sym n3)))
-            | inr q ↦ inl (sym over.is ∙ ap nm (q ∙ op.prev o ∙ wheel.before_o m o s w) ∙ sym rev_a)
-          ]
+          | inr (inl q) ↦ inr (inr (inr (sym over.is ∙ ap nm (q ∙ op.next o) ∙ sym n3)))
+          | inr (inr q) ↦ inl (sym over.is ∙ ap nm (q ∙ op.prev o ∙ wheel.before_o m o s w) ∙ sym rev_a)
         ]
       ])
       (λ j at. elim at [
         | inl q ↦ record { edge = rev (turn m o); left = wheel.ra_left m o s w one op p.opened two p.opens p.removes; was = at_before; is = sym rev_a ∙ sym q }
-        | inr b ↦ elim b [
-          | inl q ↦ record { edge = turn m (turn m o); left = wheel.z_left m o s w one op p.opened two p.opens p.removes; was = in_first _ t3.h_in refl; is = sym q }
-          | inr c ↦ elim c [
-            | inl q ↦ record { edge = next m (turn m (turn m o)); left = wheel.b3_left m o s w one op p.opened two p.opens p.removes; was = in_first _ t3.next_in t3.face_next; is = sym nz ∙ sym q }
-            | inr q ↦ record { edge = next m o; left = wheel.b1_left m o s w one op p.opened two p.opens p.removes; was = at_next; is = sym n3 ∙ sym q }
-          ]
-        ]
+        | inr (inl q) ↦ record { edge = turn m (turn m o); left = wheel.z_left m o s w one op p.opened two p.opens p.removes; was = in_first _ t3.h_in refl; is = sym q }
+        | inr (inr (inl q)) ↦ record { edge = next m (turn m (turn m o)); left = wheel.b3_left m o s w one op p.opened two p.opens p.removes; was = in_first _ t3.next_in t3.face_next; is = sym nz ∙ sym q }
+        | inr (inr (inr q)) ↦ record { edge = next m o; left = wheel.b1_left m o s w one op p.opened two p.opens p.removes; was = at_next; is = sym n3 ∙ sym q }
       ])
       traced_two
 
@@ -145,36 +135,22 @@ module _ (m two three : Mesh) (to : ℕ → ℕ) (a z : ℕ) (s : IsSound two) (
       let k = over.edge in
       let l = over.left in
       elim over.was [
-        | inl b ↦ elim b [
-          | inl q ↦ absurd (l.other_side q)
-          | inr c ↦ elim c [
-            | inl q ↦ inl (sym over.is ∙ ap nm' q)
-            | inr d ↦ elim d [
-              | inl q ↦ inr (inr (inl (sym over.is ∙ ap nm' q ∙ sym nz)))
-              | inr q ↦ inr (inr (inr (inl (sym over.is ∙ ap nm' q ∙ sym to1))))
-            ]
-          ]
-        ]
+        | inl (inl q) ↦ absurd (l.other_side q)
+        | inl (inr (inl q)) ↦ inl (sym over.is ∙ ap nm' q)
+        | inl (inr (inr (inl q))) ↦ inr (inr (inl (sym over.is ∙ ap nm' q ∙ sym nz)))
+        | inl (inr (inr (inr q))) ↦ inr (inr (inr (inl (sym over.is ∙ ap nm' q ∙ sym to1))))
         | inr b ↦ elim (same_loop two a k s at_a.h_in b.0 f.peelable.inner b.1) [
           | inl q ↦ absurd (l.other q)
-          | inr c ↦ elim c [
-            | inl q ↦ inr (inr (inr (inr (sym over.is ∙ ap nm' q ∙ sym to2))))
-            | inr q ↦ inr (inl (sym over.is ∙ ap nm' (q ∙ fan.a_before two p.opened three a z s f p.opens p.removes) ∙ sym rev_z))
-          ]
+          | inr (inl q) ↦ inr (inr (inr (inr (sym over.is ∙ ap nm' q ∙ sym to2))))
+          | inr (inr q) ↦ inr (inl (sym over.is ∙ ap nm' (q ∙ fan.a_before two p.opened three a z s f p.opens p.removes) ∙ sym rev_z))
         ]
       ])
       (λ j at. elim at [
         | inl q ↦ record { edge = z; left = fan.z_left two p.opened three a z s f p.opens p.removes; was = inl (inr (inl refl)); is = sym q }
-        | inr b ↦ elim b [
-          | inl q ↦ record { edge = rev z; left = fan.w_left two p.opened three a z s f p.opens p.removes; was = at_twin_z; is = sym rev_z ∙ sym q }
-          | inr c ↦ elim c [
-            | inl q ↦ record { edge = next two z; left = fan.c3_left two p.opened three a z s f p.opens p.removes; was = inl (inr (inr (inl refl))); is = sym nz ∙ sym q }
-            | inr d ↦ elim d [
-              | inl q ↦ record { edge = next two (next two z); left = fan.c1_left two p.opened three a z s f p.opens p.removes; was = inl (inr (inr (inr refl))); is = sym to1 ∙ sym q }
-              | inr q ↦ record { edge = next two a; left = fan.c2_left two p.opened three a z s f p.opens p.removes; was = inr (at_a.next_in, at_a.face_next); is = sym to2 ∙ sym q }
-            ]
-          ]
-        ]
+        | inr (inl q) ↦ record { edge = rev z; left = fan.w_left two p.opened three a z s f p.opens p.removes; was = at_twin_z; is = sym rev_z ∙ sym q }
+        | inr (inr (inl q)) ↦ record { edge = next two z; left = fan.c3_left two p.opened three a z s f p.opens p.removes; was = inl (inr (inr (inl refl))); is = sym nz ∙ sym q }
+        | inr (inr (inr (inl q))) ↦ record { edge = next two (next two z); left = fan.c1_left two p.opened three a z s f p.opens p.removes; was = inl (inr (inr (inr refl))); is = sym to1 ∙ sym q }
+        | inr (inr (inr (inr q))) ↦ record { edge = next two a; left = fan.c2_left two p.opened three a z s f p.opens p.removes; was = inr (at_a.next_in, at_a.face_next); is = sym to2 ∙ sym q }
       ])
       traced_three_of
 
@@ -191,23 +167,15 @@ traced_loop m three four to z s f r t =
     let l = over.left in
     elim over.was [
       | inl q ↦ absurd (l.other q)
-      | inr b ↦ elim b [
-        | inl q ↦ absurd (l.other_side q)
-        | inr c ↦ elim c [
-          | inl q ↦ inl (sym over.is ∙ ap (after_removal three z) q)
-          | inr d ↦ elim d [
-            | inl q ↦ inr (inl (sym over.is ∙ ap (after_removal three z) q ∙ sym next_is))
-            | inr q ↦ inr (inr (sym over.is ∙ ap (after_removal three z) q ∙ sym prev_is))
-          ]
-        ]
-      ]
+      | inr (inl q) ↦ absurd (l.other_side q)
+      | inr (inr (inl q)) ↦ inl (sym over.is ∙ ap (after_removal three z) q)
+      | inr (inr (inr (inl q))) ↦ inr (inl (sym over.is ∙ ap (after_removal three z) q ∙ sym next_is))
+      | inr (inr (inr (inr q))) ↦ inr (inr (sym over.is ∙ ap (after_removal three z) q ∙ sym prev_is))
     ])
     (λ j at. elim at [
       | inl q ↦ record { edge = next three z; left = fan.b3 three four z s f r; was = inr (inr (inl refl)); is = sym q }
-      | inr b ↦ elim b [
-        | inl q ↦ record { edge = next three (next three z); left = fan.b1 three four z s f r; was = inr (inr (inr (inl refl))); is = sym next_is ∙ sym q }
-        | inr q ↦ record { edge = next three (next three (next three z)); left = fan.b2 three four z s f r; was = inr (inr (inr (inr refl))); is = sym prev_is ∙ sym q }
-      ]
+      | inr (inl q) ↦ record { edge = next three (next three z); left = fan.b1 three four z s f r; was = inr (inr (inr (inl refl))); is = sym next_is ∙ sym q }
+      | inr (inr q) ↦ record { edge = next three (next three (next three z)); left = fan.b2 three four z s f r; was = inr (inr (inr (inr refl))); is = sym prev_is ∙ sym q }
     ])
     over
 

@@ -1,6 +1,7 @@
 -- The outer face keeps one loop where an edge of the hull, or one with a free end, goes.
 use Rattle.std.proofs.Common.{◌≡◌, ◌≢◌, ℕ, ◌-◌, ◌%◌, ◌<◌, Bool, true, length, refl, sym, ap, ◌∙◌, inl, inr, arith}
 use Rattle.std.proofs.lemmas.Bool.{cases_eq}
+use Rattle.half_edge_links.proofs.Cases.{◌or_else◌}
 use Rattle.half_edge_links.specs.Mesh.{Mesh, next, prev, face, rev, IsSound, IsInner}
 use Rattle.half_edge_links.specs.Renames.{pair_moved}
 use Rattle.half_edge_links.specs.Remove.{Opens, Removes}
@@ -128,10 +129,8 @@ module _ (m mid new : Mesh) (h : ℕ) (s : IsSound m) (can : IsHullEdge m h) (o 
       elim (cases_eq (face m k) (face m h)) [
         | inl is ↦ elim (same_loop m h k s can.within k_in can.inner is) [
           | inl q ↦ absurd (was.0.other q)
-          | inr b ↦ elim b [
-            | inl q ↦ lies_in_face j (λ on. ap among (sym was.1 ∙ ap nm q) ∙ on) (λ on. to_end (ap among (ap nm (sym q) ∙ was.1) ∙ on))
-            | inr q ↦ lies_in_face j (λ on. ap among (sym was.1 ∙ ap nm q) ∙ to_third on) (λ on. plain _ (s.edges (rev h) twin_in).proper ∙ past_third (ap among (ap nm (sym q) ∙ was.1) ∙ on))
-          ]
+          | inr (inl q) ↦ lies_in_face j (λ on. ap among (sym was.1 ∙ ap nm q) ∙ on) (λ on. to_end (ap among (ap nm (sym q) ∙ was.1) ∙ on))
+          | inr (inr q) ↦ lies_in_face j (λ on. ap among (sym was.1 ∙ ap nm q) ∙ to_third on) (λ on. plain _ (s.edges (rev h) twin_in).proper ∙ past_third (ap among (ap nm (sym q) ∙ was.1) ∙ on))
         ]
         | inr off ↦
             let m_outer : face m k ≡ 0 = elim (cases_eq (face m k) (length m.face_edges)) [
@@ -183,23 +182,21 @@ module _ (m new : Mesh) (e : ℕ) (s : IsSound m) (can : IsUnlinkable m e) (r : 
   free_closed k within outer is =
       let here = s.edges k within in
       let last = s.edges b b_in in
-      elim (cases_eq k a) [
+      elim (cases_eq k a or_else cases_eq k b) [
         | inl same ↦ free_second (next m k) (ap (next m) same ∙ free) ∙ sym (free_first k same) ∙ is
-        | inr p ↦ elim (cases_eq k b) [
-          | inl same ↦ elim (cases_eq (next m b) a) [
-            | inl whole ↦ free_first (next m k) (ap (next m) same ∙ whole) ∙ sym (free_second k same) ∙ is
-            | inr off ↦ ap (λ j. free_before (next m j)) same ∙ free_plain (next m b) off last.proper ∙ sym (free_second k same) ∙ is
-          ]
-          | inr q ↦
-              let l = other k within p q in
-              let on : among (nm' k) ≡ true = sym (free_plain k p q) ∙ is in
-              let off_b : k ≢ prev m b = λ z. p (z ∙ sym (ap (prev m) free) ∙ (s.edges a a_in).prev_next) in
-              elim (cases_eq k (prev m a)) [
-                | inl same ↦ free_first (next m k) (ap (next m) same ∙ (s.edges a a_in).next_prev) ∙ along k (next m b) l outer (jump k l same) on
-                | inr off ↦
-                    free_plain (next m k) (λ z. off (sym here.prev_next ∙ ap (prev m) z)) (λ z. off_b (sym here.prev_next ∙ ap (prev m) z)) ∙ along k (next m k) l outer (onward k l off off_b) on
-              ]
+        | inr (p, inl same) ↦ elim (cases_eq (next m b) a) [
+          | inl whole ↦ free_first (next m k) (ap (next m) same ∙ whole) ∙ sym (free_second k same) ∙ is
+          | inr off ↦ ap (λ j. free_before (next m j)) same ∙ free_plain (next m b) off last.proper ∙ sym (free_second k same) ∙ is
         ]
+        | inr (p, inr q) ↦
+            let l = other k within p q in
+            let on : among (nm' k) ≡ true = sym (free_plain k p q) ∙ is in
+            let off_b : k ≢ prev m b = λ z. p (z ∙ sym (ap (prev m) free) ∙ (s.edges a a_in).prev_next) in
+            elim (cases_eq k (prev m a)) [
+              | inl same ↦ free_first (next m k) (ap (next m) same ∙ (s.edges a a_in).next_prev) ∙ along k (next m b) l outer (jump k l same) on
+              | inr off ↦
+                  free_plain (next m k) (λ z. off (sym here.prev_next ∙ ap (prev m) z)) (λ z. off_b (sym here.prev_next ∙ ap (prev m) z)) ∙ along k (next m k) l outer (onward k l off off_b) on
+            ]
       ]
 
   free_lies : (j : ℕ) → j < length new.half_edges → face new j ≡ 0 → LiesAlong m free_before among j

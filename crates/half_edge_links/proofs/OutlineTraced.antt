@@ -1,6 +1,7 @@
 -- The outer edges through steps that make a hole, change it and fill it.
 use Rattle.std.proofs.Common.{◌≡◌, ◌≢◌, ◌⊎◌, ℕ, ◌-◌, ◌%◌, ◌<◌, length, sym, ap, ◌∙◌, inl, inr, subst, arith}
 use Rattle.std.proofs.lemmas.Bool.{cases_eq}
+use Rattle.half_edge_links.proofs.Cases.{◌or_else◌}
 use Rattle.half_edge_links.specs.Mesh.{Mesh, next, prev, face, rev, IsSound}
 use Rattle.half_edge_links.specs.Renames.{pair_moved}
 use Rattle.half_edge_links.specs.Remove.{Opens, Removes, ClosesLoop}
@@ -54,12 +55,10 @@ traces_opened m old new to InHole f some faces o t = record {
       (record { within = omega (arith, here.within, o.edge_count); outer = o.other (to h) here.within off off_last ∙ here.outer; after = o.next (to h) ∙ here.after }, elim [ inl in_hole ↦ had.1 in_hole | inr opened ↦ off opened.1 ]);
   was = λ k within outer.
       let k_in : k < length old.half_edges = omega (arith, within, o.edge_count) in
-      elim (cases_eq (face old k) f) [
+      elim (cases_eq (face old k) f or_else cases_eq (face old k) (length old.face_edges)) [
         | inl is ↦ inr (inr (k_in, is))
-        | inr off ↦ elim (cases_eq (face old k) (length old.face_edges)) [
-          | inl last ↦ absurd (omega (arith, o.last k k_in last off, outer, some))
-          | inr other ↦ elim (t.was k k_in (sym (o.other k k_in off other) ∙ outer)) [ inl a ↦ inl a | inr b ↦ inr (inl b) ]
-        ]
+        | inr (off, inl last) ↦ absurd (omega (arith, o.last k k_in last off, outer, some))
+        | inr (off, inr other) ↦ elim (t.was k k_in (sym (o.other k k_in off other) ∙ outer)) [ inl a ↦ inl a | inr b ↦ inr (inl b) ]
       ];
 }
 

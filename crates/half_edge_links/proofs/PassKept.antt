@@ -1,6 +1,7 @@
 -- What is kept where an edge of a line passes the vertex at its end: one round a vertex, different ends, one outer loop.
 use Rattle.std.proofs.Common.{◌≡◌, ◌≢◌, ℕ, ◌<◌, Bool, true, length, refl, sym, ap, ◌∙◌, inl, inr, arith}
 use Rattle.std.proofs.lemmas.Bool.{cases_eq}
+use Rattle.half_edge_links.proofs.Cases.{◌or_else◌}
 use Rattle.half_edge_links.specs.Mesh.{Mesh, origin, next, prev, face, rev, IsSound, IsValid, IsClosed, HasStars, HasApartEnds}
 use Rattle.half_edge_links.specs.Outline.{MovesEdge}
 use Rattle.half_edge_links.specs.Hull.{IsClosedAlong, KeepsOneOutline}
@@ -52,13 +53,11 @@ module _ (m new : Mesh) (e : ℕ) (s : IsSound m) (can : IsPassable m e) (i : Pa
           | inl same ↦ ap (λ j. before (rev (prev m j))) same ∙ ap before (sym p.back_is) ∙ plain l p.back-twin ∙ sym at_twin ∙ ap before (sym same) ∙ is
           | inr a ↦
               let on : among h ≡ true = sym (plain h a) ∙ is in
-              elim (cases_eq h l) [
+              elim (cases_eq h l or_else cases_eq h k) [
                 | inl same ↦ ap (λ j. before (rev j)) (ap (prev m) same ∙ p.back_prev) ∙ at_twin ∙ ap among (sym same) ∙ on
-                | inr b ↦ elim (cases_eq h k) [
-                  | inl same ↦
-                      ap (λ j. before (rev (prev m j))) same ∙ plain_rev z (λ q. p.edge-before (sym q)) (past_twin (turned k e (rev e) p.there_in i.prev_there refl (ap among (sym same) ∙ on)))
-                  | inr c ↦ plain_rev (prev m h) (λ q. b (sym (s.edges h within).next_prev ∙ ap (next m) q)) (turned h (prev m h) _ within (i.other_prev h within b c a) refl on)
-                ]
+                | inr (b, inl same) ↦
+                    ap (λ j. before (rev (prev m j))) same ∙ plain_rev z (λ q. p.edge-before (sym q)) (past_twin (turned k e (rev e) p.there_in i.prev_there refl (ap among (sym same) ∙ on)))
+                | inr (b, inr c) ↦ plain_rev (prev m h) (λ q. b (sym (s.edges h within).next_prev ∙ ap (next m) q)) (turned h (prev m h) _ within (i.other_prev h within b c a) refl on)
               ]
         ]
 
@@ -106,13 +105,11 @@ module _ (m new : Mesh) (e : ℕ) (s : IsSound m) (can : IsPassable m e) (i : Pa
           | inl same ↦ ap (λ j. along (next m j)) same ∙ ap along p.there_next ∙ straight (rev e) (λ q. p.there-twin (sym q)) ∙ sym at_far ∙ ap along (sym same) ∙ is
           | inr a ↦
               let on : among h ≡ true = sym (straight h a) ∙ is in
-              elim (cases_eq h e) [
+              elim (cases_eq h e or_else cases_eq h z) [
                 | inl same ↦
                     ap (λ j. along (next m j)) same ∙ straight l p.back-there ∙ step k l p.there_in i.next_there (step e k can.within i.next_edge (ap among (sym same) ∙ on))
-                | inr b ↦ elim (cases_eq h z) [
-                  | inl same ↦ ap (λ j. along (next m j)) same ∙ ap along p.before_next ∙ at_far ∙ step z (rev e) p.before_in i.next_before (ap among (sym same) ∙ on)
-                  | inr c ↦ straight (next m h) (λ q. c (sym (s.edges h within).prev_next ∙ ap (prev m) q)) ∙ step h (next m h) within (i.other_next h within b c a) on
-                ]
+                | inr (b, inl same) ↦ ap (λ j. along (next m j)) same ∙ ap along p.before_next ∙ at_far ∙ step z (rev e) p.before_in i.next_before (ap among (sym same) ∙ on)
+                | inr (b, inr c) ↦ straight (next m h) (λ q. c (sym (s.edges h within).prev_next ∙ ap (prev m) q)) ∙ step h (next m h) within (i.other_next h within b c a) on
               ]
         ]
 
@@ -155,14 +152,12 @@ module _ (m new : Mesh) (e : ℕ) (s : IsSound m) (can : IsPassable m e) (i : Pa
   pub apart_passed : HasApartEnds m → HasApartEnds new
   apart_passed apart h within =
       let h_in : h < length m.half_edges = omega (arith, within, i.edge_count) in
-      elim (cases_eq h (rev e)) [
+      elim (cases_eq h (rev e) or_else cases_eq h e) [
         | inl same ↦ λ q. moved (ap (origin new) (sym (rev-rev e) ∙ ap rev (sym same)) ∙ sym q ∙ ap (origin new) same)
-        | inr a ↦ elim (cases_eq h e) [
-          | inl same ↦ λ q. moved (ap (origin new) (sym same) ∙ q ∙ ap (λ j. origin new (rev j)) same)
-          | inr b ↦
-              let off : rev h ≢ rev e = λ q. b (sym (rev-rev h) ∙ ap rev q ∙ rev-rev e) in
-              λ q. apart h h_in (sym (i.other_origins h h_in a) ∙ q ∙ i.other_origins (rev h) (rev_within _ _ s.even h_in) off)
-        ]
+        | inr (a, inl same) ↦ λ q. moved (ap (origin new) (sym same) ∙ q ∙ ap (λ j. origin new (rev j)) same)
+        | inr (a, inr b) ↦
+            let off : rev h ≢ rev e = λ q. b (sym (rev-rev h) ∙ ap rev q ∙ rev-rev e) in
+            λ q. apart h h_in (sym (i.other_origins h h_in a) ∙ q ∙ i.other_origins (rev h) (rev_within _ _ s.even h_in) off)
       ]
 
   pub ends_passed : MovesEdge m new e (origin m e) (origin m (far_edge m e))

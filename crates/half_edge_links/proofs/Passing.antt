@@ -2,6 +2,7 @@
 use Rattle.std.proofs.Common.{◌≡◌, ◌≢◌, ℕ, ◌<◌, length, Some, None, IsSome, refl, sym, ap, ◌∙◌, inl, inr, arith}
 use Rattle.std.proofs.lemmas.Bool.{cases_eq}
 use Rattle.std.proofs.lemmas.List.{get_or-set_same, get_or-set_other, length-set}
+use Rattle.half_edge_links.proofs.Cases.{◌or_else◌}
 use Rattle.half_edge_links.specs.Mesh.{Mesh, origin, next, prev, face, out_edge, rev, IsSound, IsSoundEdge}
 use Rattle.half_edge_links.specs.Pass.{IsPassable, passed_edges, passed, Passes}
 use Rattle.half_edge_links.proofs.Rev.{rev-rev, rev_within, rev_differs}
@@ -106,26 +107,22 @@ module _ (m new : Mesh) (e : ℕ) (s : IsSound m) (can : IsPassable m e) (i : Pa
       let within : h < length m.half_edges = rw i.edge_count at new_in in
       let here = s.edges h within in
       let p = t in
-      elim (cases_eq e h) [
+      elim (cases_eq e h or_else cases_eq (prev m (far_edge m e)) h or_else cases_eq (far_edge m e) h) [
         | inl same ↦ rw (← same) (
             next_at new e (far_edge m e) i.next_edge (rw i.edge_count p.there_in) i.prev_there (i.other_origins _ p.there_in p.there-twin ∙ sym i.origin_twin) (no_face _ e p.there_in can.within)
             (λ q. p.edge-there (sym q)))
-        | inr not_edge ↦ elim (cases_eq (prev m (far_edge m e)) h) [
-          | inl same ↦ rw (← same) (
-              next_at new (prev m (far_edge m e)) (rev e) i.next_before (rw i.edge_count p.twin_in) i.prev_twin
-              (i.origin_twin ∙ sym (ap (origin m) p.before_next) ∙ (s.edges _ p.before_in).starts ∙ sym (origin_rev _ p.before_in (λ q. p.edge-before (sym q))))
-              (no_face _ _ p.twin_in p.before_in) (λ q. p.before-twin (sym q)))
-          | inr not_before ↦ elim (cases_eq (far_edge m e) h) [
-            | inl same ↦ rw (← same) (
-                next_at new (far_edge m e) (next m e) i.next_there (rw i.edge_count p.back_in) i.prev_back (ap (origin new) p.back_is) (no_face _ _ p.back_in p.there_in) p.back-there)
-            | inr not_there ↦
-                let off_back : next m h ≢ next m e = λ q. not_edge (sym p.back_prev ∙ ap (prev m) (sym q) ∙ here.prev_next) in
-                let off_there : next m h ≢ far_edge m e = λ q. not_before (ap (prev m) (sym q) ∙ here.prev_next) in
-                let off_twin : next m h ≢ rev e = λ q. not_there (ap (prev m) (sym q) ∙ here.prev_next) in
-                next_kept m new h here (i.other_next h within (λ q. not_edge (sym q)) (λ q. not_before (sym q)) (λ q. not_there (sym q))) (i.other_prev (next m h) here.next_in off_back off_there off_twin)
-                (i.other_origins (next m h) here.next_in off_twin) (origin_rev h within (λ q. not_edge (sym q))) (i.faces h within) (i.faces (next m h) here.next_in) (omega (arith, i.edge_count))
-          ]
-        ]
+        | inr (not_edge, inl same) ↦ rw (← same) (
+            next_at new (prev m (far_edge m e)) (rev e) i.next_before (rw i.edge_count p.twin_in) i.prev_twin
+            (i.origin_twin ∙ sym (ap (origin m) p.before_next) ∙ (s.edges _ p.before_in).starts ∙ sym (origin_rev _ p.before_in (λ q. p.edge-before (sym q))))
+            (no_face _ _ p.twin_in p.before_in) (λ q. p.before-twin (sym q)))
+        | inr (not_edge, inr (not_before, inl same)) ↦ rw (← same) (
+            next_at new (far_edge m e) (next m e) i.next_there (rw i.edge_count p.back_in) i.prev_back (ap (origin new) p.back_is) (no_face _ _ p.back_in p.there_in) p.back-there)
+        | inr (not_edge, inr (not_before, inr not_there)) ↦
+            let off_back : next m h ≢ next m e = λ q. not_edge (sym p.back_prev ∙ ap (prev m) (sym q) ∙ here.prev_next) in
+            let off_there : next m h ≢ far_edge m e = λ q. not_before (ap (prev m) (sym q) ∙ here.prev_next) in
+            let off_twin : next m h ≢ rev e = λ q. not_there (ap (prev m) (sym q) ∙ here.prev_next) in
+            next_kept m new h here (i.other_next h within (λ q. not_edge (sym q)) (λ q. not_before (sym q)) (λ q. not_there (sym q))) (i.other_prev (next m h) here.next_in off_back off_there off_twin)
+            (i.other_origins (next m h) here.next_in off_twin) (origin_rev h within (λ q. not_edge (sym q))) (i.faces h within) (i.faces (next m h) here.next_in) (omega (arith, i.edge_count))
       ]
 
   has_out : (u : ℕ) → IsSome (out_edge m u) → IsSome (out_edge new u)

@@ -1,6 +1,7 @@
 -- An edge of a line is split.
 use Rattle.std.proofs.Common.{◌≡◌, ◌≢◌, ℕ, ◌+◌, ◌<◌, length, Some, sym, ap, ◌∙◌, inl, inr, arith}
 use Rattle.std.proofs.lemmas.Bool.{cases_eq}
+use Rattle.half_edge_links.proofs.Cases.{◌or_else◌}
 use Rattle.half_edge_links.specs.Mesh.{Mesh, origin, next, prev, face, out_edge, rev, IsSound, IsAlone}
 use Rattle.half_edge_links.specs.Grow.{IsOuter, IsLineEdge, Hangs, Slides, SplitsLine}
 use Rattle.half_edge_links.specs.Outline.{IsOuterEdge, SplitsOuter}
@@ -67,12 +68,10 @@ module _ (m mid new : Mesh) (e v : ℕ) (s : IsSound m) (line : IsLineEdge m e) 
         origin_back = j.other_origins (length m.half_edges) there_in (λ q. absurd (omega (arith, q, t_in))) ∙ i.there.origin ∙ here.starts;
         origin_twin = j.origin_twin ∙ ap (origin mid) l_is ∙ i.back.origin;
         other_origins = λ h within differs. j.other_origins h (omega (arith, within, i.edge_count)) differs ∙ i.origins h within;
-        faces = λ h within. j.faces h (omega (arith, within, i.edge_count)) ∙ elim (cases_eq h (length m.half_edges)) [
+        faces = λ h within. j.faces h (omega (arith, within, i.edge_count)) ∙ elim (cases_eq h (length m.half_edges) or_else cases_eq h (length m.half_edges + 1)) [
           | inl same ↦ ap (face mid) same ∙ i.there.face ∙ face_zero e line.0
-          | inr p ↦ elim (cases_eq h (length m.half_edges + 1)) [
-            | inl same ↦ ap (face mid) same ∙ i.back.face ∙ face_zero e line.0
-            | inr q ↦ let old : h < length m.half_edges = omega (arith, within, p, q) in i.faces h old ∙ face_zero h old
-          ]
+          | inr (p, inl same) ↦ ap (face mid) same ∙ i.back.face ∙ face_zero e line.0
+          | inr (p, inr q) ↦ let old : h < length m.half_edges = omega (arith, within, p, q) in i.faces h old ∙ face_zero h old
         ];
         edge_count = j.edge_count ∙ i.edge_count;
         vertex_count = j.vertex_count ∙ i.vertex_count;
@@ -103,23 +102,17 @@ module _ (m mid new : Mesh) (e v : ℕ) (s : IsSound m) (line : IsLineEdge m e) 
           | inl x ↦ elim x [ inl y ↦ at_edge new h a b _ _ _ first y | inr y ↦ at_edge new h a b _ _ _ second y ]
           | inr x ↦ elim x [ inl y ↦ at_edge new h a b _ _ _ third y | inr y ↦ at_edge new h a b _ _ _ fourth y ]
         ];
-        only = λ h a b o. elim (cases_eq e h) [
+        only = λ h a b o. elim (cases_eq e h or_else cases_eq (length m.half_edges + 1) h or_else cases_eq (length m.half_edges) h or_else cases_eq (rev e) h) [
           | inl same ↦ inr (inl (inl (is_edge new h a b _ _ _ o first same)))
-          | inr not_first ↦ elim (cases_eq (length m.half_edges + 1) h) [
-            | inl same ↦ inr (inl (inr (is_edge new h a b _ _ _ o second same)))
-            | inr not_second ↦ elim (cases_eq (length m.half_edges) h) [
-              | inl same ↦ inr (inr (inl (is_edge new h a b _ _ _ o third same)))
-              | inr not_third ↦ elim (cases_eq (rev e) h) [
-                | inl same ↦ inr (inr (inr (is_edge new h a b _ _ _ o fourth same)))
-                | inr not_fourth ↦
-                    let within : h < length m.half_edges = omega (arith, o.within, n, not_second, not_third) in
-                    inl (
-                      same_outer new m h a b o within (face_zero h within ∙ sym o.outer) (sym (j.other_origins h within (λ q. not_fourth (sym q))))
-                          (sym (j.other_origins (rev h) (rev_within h _ s.even within) (λ q. not_first (sym (sym (rev-rev h) ∙ ap rev q ∙ rev-rev e))))),
-                      λ gone. elim gone [ inl x ↦ not_first (sym x) | inr x ↦ not_fourth (sym x) ],
-                    )
-              ]
-            ]
-          ]
+          | inr (not_first, inl same) ↦ inr (inl (inr (is_edge new h a b _ _ _ o second same)))
+          | inr (not_first, inr (not_second, inl same)) ↦ inr (inr (inl (is_edge new h a b _ _ _ o third same)))
+          | inr (not_first, inr (not_second, inr (not_third, inl same))) ↦ inr (inr (inr (is_edge new h a b _ _ _ o fourth same)))
+          | inr (not_first, inr (not_second, inr (not_third, inr not_fourth))) ↦
+              let within : h < length m.half_edges = omega (arith, o.within, n, not_second, not_third) in
+              inl (
+                same_outer new m h a b o within (face_zero h within ∙ sym o.outer) (sym (j.other_origins h within (λ q. not_fourth (sym q))))
+                    (sym (j.other_origins (rev h) (rev_within h _ s.even within) (λ q. not_first (sym (sym (rev-rev h) ∙ ap rev q ∙ rev-rev e))))),
+                λ gone. elim gone [ inl x ↦ not_first (sym x) | inr x ↦ not_fourth (sym x) ],
+              )
         ];
       }

@@ -1,6 +1,7 @@
 -- A vertex in a face has one round of edges, and its neighbours keep theirs.
 use Rattle.std.proofs.Common.{◌≡◌, ◌≢◌, ◌⊎◌, ℕ, ◌+◌, ◌<◌, Bool, true, length, refl, sym, ap, ◌∙◌, inl, inr, arith}
 use Rattle.std.proofs.lemmas.Bool.{cases_eq}
+use Rattle.half_edge_links.proofs.Cases.{◌or_else◌, ◌each_with◌}
 use Rattle.half_edge_links.specs.declared.records.HalfEdge.{HalfEdge}
 use Rattle.half_edge_links.specs.Mesh.{Mesh, origin, next, prev, face, rev, IsSound, IsInnerEdge, IsAlone, IsClosed, HasStars}
 use Rattle.half_edge_links.specs.Insert.{Inserts}
@@ -42,17 +43,13 @@ module _ (m new : Mesh) (v f a n g : ℕ) (s : IsSound m) (inner : IsInnerEdge m
 
   insert_closed : IsClosed m among
   insert_closed h within is =
-      elim (cases_eq h a) [
+      elim (cases_eq h a or_else cases_eq h (next m a) or_else cases_eq h (prev m a)) [
         | inl same ↦ ap (λ k. among (rev (prev m k))) same ∙ leave_first (enter_first (ap among (sym same) ∙ is))
-        | inr x ↦ elim (cases_eq h (next m a)) [
-          | inl same ↦ ap (λ k. among (rev k)) (ap (prev m) same ∙ t.prev_next) ∙ leave_second (enter_second (ap among (sym same) ∙ is))
-          | inr y ↦ elim (cases_eq h (prev m a)) [
-            | inl same ↦ ap (λ k. among (rev k)) (ap (prev m) same ∙ t.prev_prev) ∙ leave_third (enter_third (ap among (sym same) ∙ is))
-            | inr z ↦
-                let same = i.other_edges h (old h within) x y z in
-                step h (prev m h) (rev (prev m h)) (omega (arith, old h within)) (ap (λ (e : HalfEdge). e.prev) same) refl is
-          ]
-        ]
+        | inr (x, inl same) ↦ ap (λ k. among (rev k)) (ap (prev m) same ∙ t.prev_next) ∙ leave_second (enter_second (ap among (sym same) ∙ is))
+        | inr (x, inr (y, inl same)) ↦ ap (λ k. among (rev k)) (ap (prev m) same ∙ t.prev_prev) ∙ leave_third (enter_third (ap among (sym same) ∙ is))
+        | inr (x, inr (y, inr z)) ↦
+            let same = i.other_edges h (old h within) x y z in
+            step h (prev m h) (rev (prev m h)) (omega (arith, old h within)) (ap (λ (e : HalfEdge). e.prev) same) refl is
       ]
 
   around : (k from ahead : ℕ) → from < length m.half_edges → origin new k ≡ origin m from → (among from ≡ true → among k ≡ true) → ahead < length m.half_edges → origin m ahead ≡ origin m from → (among k ≡ true → among ahead ≡ true) → LiesRound m new among among k
@@ -112,28 +109,20 @@ module _ (m new : Mesh) (v f a n g : ℕ) (s : IsSound m) (inner : IsInnerEdge m
   place : (k : ℕ) → k < n + 6 → LiesRound m new among among k ⊎ IsSpoke n k
   place k within = elim (late_cases k n within) [
     | inl is_old ↦ inl (old_lies k is_old)
-    | inr b ↦ elim b [
-      | inl is ↦ inl (rw is first_lies)
-      | inr c ↦ elim c [
-        | inl is ↦ inl (rw is second_lies)
-        | inr d ↦ elim d [ inl is ↦ inl (rw is third_lies) | inr spoke ↦ inr spoke ]
-      ]
-    ]
+    | inr (inl is) ↦ inl (rw is first_lies)
+    | inr (inr (inl is)) ↦ inl (rw is second_lies)
+    | inr (inr (inr d)) ↦ elim d [ inl is ↦ inl (rw is third_lies) | inr spoke ↦ inr spoke ]
   ]
 
   not_new : (k : ℕ) → LiesRound m new among among k → origin new k ≢ v
   not_new k lies same = differs_alone m lies.behind v s lies.behind_in alone (sym lies.behind_origin ∙ same)
 
   all_round : HasStars m → (h k : ℕ) → h < n + 6 → k < n + 6 → origin new h ≡ origin new k → among h ≡ true → among k ≡ true
-  all_round stars h k h_in k_in same is = elim (place h h_in) [
-    | inl p ↦ elim (place k k_in) [
-      | inl q ↦ rounds m new among among stars insert_closed h k p q same is
-      | inr q ↦ absurd (not_new h p (same ∙ spoke_origin k q))
-    ]
-    | inr p ↦ elim (place k k_in) [
-      | inl q ↦ absurd (not_new k q (sym same ∙ spoke_origin h p))
-      | inr q ↦ from_first_spoke k q (to_first_spoke h p is)
-    ]
+  all_round stars h k h_in k_in same is = elim (place h h_in each_with place k k_in) [
+    | inl (p, inl q) ↦ rounds m new among among stars insert_closed h k p q same is
+    | inl (p, inr q) ↦ absurd (not_new h p (same ∙ spoke_origin k q))
+    | inr (p, inl q) ↦ absurd (not_new k q (sym same ∙ spoke_origin h p))
+    | inr (p, inr q) ↦ from_first_spoke k q (to_first_spoke h p is)
   ]
 
 pub stars_inserted : (m new : Mesh) (v a : ℕ) → IsSound m → IsInnerEdge m a → IsAlone m v → Inserts m new v (face m a) a (length m.half_edges) (length m.face_edges) → HasStars m → HasStars new

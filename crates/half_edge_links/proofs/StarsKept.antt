@@ -45,27 +45,19 @@ module _ (m new : Mesh) (x v : ℕ) (s : IsSound m) (outer : IsOuter m x) (alone
       elim (grown_cases h _ h_in) [
         | inl h_old ↦ elim (grown_cases g _ g_in) [
           | inl g_old ↦ stars among closed_before h g h_old g_old (sym (i.origins h h_old) ∙ same ∙ i.origins g g_old) is
-          | inr g_new ↦ elim g_new [
-            | inl there ↦ ap among there ∙ step_there (stars among closed_before h (next m x) h_old after_in (sym (i.origins h h_old) ∙ same ∙ ap (origin new) there ∙ i.there.origin) is)
-            | inr back ↦ absurd (old_origin h h_old (same ∙ ap (origin new) back ∙ i.back.origin))
-          ]
+          | inr (inl there) ↦ ap among there ∙ step_there (stars among closed_before h (next m x) h_old after_in (sym (i.origins h h_old) ∙ same ∙ ap (origin new) there ∙ i.there.origin) is)
+          | inr (inr back) ↦ absurd (old_origin h h_old (same ∙ ap (origin new) back ∙ i.back.origin))
         ]
-        | inr h_new ↦ elim h_new [
-          | inl there ↦ elim (grown_cases g _ g_in) [
-            | inl g_old ↦
-                stars among closed_before (rev x) g twin_in g_old (sym (s.edges x outer.0).starts ∙ sym i.there.origin ∙ ap (origin new) (sym there) ∙ same ∙ i.origins g g_old) (step_back (ap among (sym there) ∙ is))
-            | inr g_new ↦ elim g_new [
-              | inl again ↦ ap among (again ∙ sym there) ∙ is
-              | inr back ↦ absurd (there_origin (ap (origin new) (sym there) ∙ same ∙ ap (origin new) back ∙ i.back.origin))
-            ]
-          ]
-          | inr back ↦ elim (grown_cases g _ g_in) [
-            | inl g_old ↦ absurd (old_origin g g_old (sym same ∙ ap (origin new) back ∙ i.back.origin))
-            | inr g_new ↦ elim g_new [
-              | inl there ↦ absurd (there_origin (ap (origin new) (sym there) ∙ sym same ∙ ap (origin new) back ∙ i.back.origin))
-              | inr again ↦ ap among (again ∙ sym back) ∙ is
-            ]
-          ]
+        | inr (inl there) ↦ elim (grown_cases g _ g_in) [
+          | inl g_old ↦
+              stars among closed_before (rev x) g twin_in g_old (sym (s.edges x outer.0).starts ∙ sym i.there.origin ∙ ap (origin new) (sym there) ∙ same ∙ i.origins g g_old) (step_back (ap among (sym there) ∙ is))
+          | inr (inl again) ↦ ap among (again ∙ sym there) ∙ is
+          | inr (inr back) ↦ absurd (there_origin (ap (origin new) (sym there) ∙ same ∙ ap (origin new) back ∙ i.back.origin))
+        ]
+        | inr (inr back) ↦ elim (grown_cases g _ g_in) [
+          | inl g_old ↦ absurd (old_origin g g_old (sym same ∙ ap (origin new) back ∙ i.back.origin))
+          | inr (inl there) ↦ absurd (there_origin (ap (origin new) (sym there) ∙ sym same ∙ ap (origin new) back ∙ i.back.origin))
+          | inr (inr again) ↦ ap among (again ∙ sym back) ∙ is
         ]
       ]
 

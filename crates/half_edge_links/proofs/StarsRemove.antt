@@ -1,6 +1,7 @@
 -- No edge joins a vertex to itself, and each vertex has one round of edges, after a removal.
 use Rattle.std.proofs.Common.{◌≡◌, ◌≢◌, ℕ, ◌-◌, ◌%◌, ◌<◌, Bool, true, length, refl, sym, ap, ◌∙◌, inl, inr}
 use Rattle.std.proofs.lemmas.Bool.{cases_eq}
+use Rattle.half_edge_links.proofs.Cases.{◌or_else◌, ◌each_with◌}
 use Rattle.half_edge_links.specs.Mesh.{Mesh, origin, next, prev, rev, IsSound, HasApartEnds, HasStars, IsClosed, IsAlone}
 use Rattle.half_edge_links.specs.Renames.{pair_moved}
 use Rattle.half_edge_links.specs.Remove.{Removes}
@@ -104,26 +105,22 @@ module _ (m new : Mesh) (e : ℕ) (s : IsSound m) (can : IsUnlinkable m e) (r : 
     closed_left h l is =
         let here = s.edges h l.within in
         let on : among (nm h) ≡ true = sym (plain h l) ∙ is in
-        elim (cases_eq (prev m h) (rev e)) [
+        elim (cases_eq (prev m h) (rev e) or_else cases_eq (prev m h) e) [
           | inl p ↦ at_e (rev (prev m h)) (ap rev p ∙ rev-rev e) ∙ ap (λ k. among (nm k)) (ap (next m) (sym p) ∙ here.next_prev) ∙ on
-          | inr p ↦ elim (cases_eq (prev m h) e) [
-            | inl z ↦ at_t (rev (prev m h)) (ap rev z) ∙ ap (λ k. among (nm k)) (ap (next m) (sym z) ∙ here.next_prev) ∙ on
-            | inr z ↦
-                let b : IsLeft m e (prev m h) = record { within = here.prev_in; other = z; other_side = p } in
-                let off_e : prev m h ≢ prev m e = λ i. l.other (sym here.next_prev ∙ ap (next m) i ∙ (s.edges e can.within).next_prev) in
-                let off_t : prev m h ≢ prev m (rev e) = λ i. l.other_side (sym here.next_prev ∙ ap (next m) i ∙ (s.edges (rev e) t_in).next_prev) in
-                turned (prev m h) h b l (next_at m new e s can r _ b off_e off_t ∙ ap nm here.next_prev) on
-          ]
+          | inr (p, inl z) ↦ at_t (rev (prev m h)) (ap rev z) ∙ ap (λ k. among (nm k)) (ap (next m) (sym z) ∙ here.next_prev) ∙ on
+          | inr (p, inr z) ↦
+              let b : IsLeft m e (prev m h) = record { within = here.prev_in; other = z; other_side = p } in
+              let off_e : prev m h ≢ prev m e = λ i. l.other (sym here.next_prev ∙ ap (next m) i ∙ (s.edges e can.within).next_prev) in
+              let off_t : prev m h ≢ prev m (rev e) = λ i. l.other_side (sym here.next_prev ∙ ap (next m) i ∙ (s.edges (rev e) t_in).next_prev) in
+              turned (prev m h) h b l (next_at m new e s can r _ b off_e off_t ∙ ap nm here.next_prev) on
         ]
 
     closed_before : IsClosed m before
     closed_before h within is =
-        elim (cases_eq h e) [
+        elim (cases_eq h e or_else cases_eq h (rev e)) [
           | inl z ↦ ap (λ k. before (rev (prev m k))) z ∙ closed_at_e (ap before (sym z) ∙ is)
-          | inr a ↦ elim (cases_eq h (rev e)) [
-            | inl z ↦ ap (λ k. before (rev (prev m k))) z ∙ closed_at_t (ap before (sym z) ∙ is)
-            | inr b ↦ closed_left h (record { within = within; other = a; other_side = b }) is
-          ]
+          | inr (a, inl z) ↦ ap (λ k. before (rev (prev m k))) z ∙ closed_at_t (ap before (sym z) ∙ is)
+          | inr (a, inr b) ↦ closed_left h (record { within = within; other = a; other_side = b }) is
         ]
 
   pub stars_removed : HasStars m → HasStars new
@@ -144,13 +141,9 @@ moved_back m new v s alone c h g h_in g_in same =
     let at_g = c.origins g g_in in
     let off_h = differs_alone m h v s h_in alone in
     let off_g = differs_alone m g v s g_in alone in
-    elim (cases_eq (origin m h) last) [
-      | inl a ↦ elim (cases_eq (origin m g) last) [
-        | inl b ↦ a ∙ sym b
-        | inr b ↦ absurd (off_g (sym (at_g ∙ moved_miss last v _ b) ∙ sym same ∙ at_h ∙ moved_hit last v _ a))
-      ]
-      | inr a ↦ elim (cases_eq (origin m g) last) [
-        | inl b ↦ absurd (off_h (sym (at_h ∙ moved_miss last v _ a) ∙ same ∙ at_g ∙ moved_hit last v _ b))
-        | inr b ↦ sym (at_h ∙ moved_miss last v _ a) ∙ same ∙ at_g ∙ moved_miss last v _ b
-      ]
+    elim (cases_eq (origin m h) last each_with cases_eq (origin m g) last) [
+      | inl (a, inl b) ↦ a ∙ sym b
+      | inl (a, inr b) ↦ absurd (off_g (sym (at_g ∙ moved_miss last v _ b) ∙ sym same ∙ at_h ∙ moved_hit last v _ a))
+      | inr (a, inl b) ↦ absurd (off_h (sym (at_h ∙ moved_miss last v _ a) ∙ same ∙ at_g ∙ moved_hit last v _ b))
+      | inr (a, inr b) ↦ sym (at_h ∙ moved_miss last v _ a) ∙ same ∙ at_g ∙ moved_miss last v _ b
     ]

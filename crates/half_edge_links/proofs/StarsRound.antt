@@ -2,6 +2,7 @@
 use Rattle.std.proofs.Common.{◌≡◌, ◌≢◌, ℕ, ◌+◌, ◌<◌, Bool, true, ◌==◌, if◌then◌else◌, length, refl, sym, ap, ◌∙◌, inl, inr, arith}
 use Rattle.std.proofs.lemmas.Bool.{cases_eq}
 use Rattle.std.proofs.lemmas.Grind.{common_steps}
+use Rattle.half_edge_links.proofs.Cases.{◌or_else◌}
 use Rattle.half_edge_links.specs.Mesh.{Mesh, origin, next, prev, rev, IsSound}
 use Rattle.half_edge_links.specs.Flip.{IsFlippable, Flips}
 use Rattle.half_edge_links.specs.Grow.{IsClosable, Closes}
@@ -58,12 +59,10 @@ module _ (m new : Mesh) (e : ℕ) (s : IsSound m) (can : IsClosable m e) (i : Cl
   close_closed : IsClosed m among
   close_closed h within is =
       let c = corner m e s can in
-      elim (cases_eq h e) [
+      elim (cases_eq h e or_else cases_eq h (next m (next m e))) [
         | inl same ↦ ap (λ k. among (rev (prev m k))) same ∙ outside_goes (outside_comes (ap among (sym same) ∙ is))
-        | inr not_first ↦ elim (cases_eq h (next m (next m e))) [
-          | inl same ↦ ap (λ k. among (rev k)) (ap (prev m) same ∙ c.after_before) ∙ inside_goes (inside_comes (ap among (sym same) ∙ is))
-          | inr not_after ↦ ap (λ k. among (rev k)) (sym (i.other_prev h within not_first not_after)) ∙ closed h (omega (arith, within, i.edge_count)) is
-        ]
+        | inr (not_first, inl same) ↦ ap (λ k. among (rev k)) (ap (prev m) same ∙ c.after_before) ∙ inside_goes (inside_comes (ap among (sym same) ∙ is))
+        | inr (not_first, inr not_after) ↦ ap (λ k. among (rev k)) (sym (i.other_prev h within not_first not_after)) ∙ closed h (omega (arith, within, i.edge_count)) is
       ]
 
   close_lies : (k : ℕ) → k < length m.half_edges + 2 → LiesRound m new among among k
@@ -71,28 +70,26 @@ module _ (m new : Mesh) (e : ℕ) (s : IsSound m) (can : IsClosable m e) (i : Cl
       let c = corner m e s can in
       elim (grown_cases k _ within) [
         | inl old ↦ lies_kept m new among among k old (i.origins k old) refl
-        | inr late ↦ elim late [
-          | inl there ↦ record {
-            behind = next m (next m e);
-            behind_in = c.after_in;
-            behind_origin = ap (origin new) there ∙ i.inside.origin;
-            comes = λ is. ap among there ∙ inside_comes is;
-            ahead = rev (next m e);
-            ahead_in = rev_within _ _ s.even c.second_in;
-            ahead_origin = ap (origin new) there ∙ i.inside.origin ∙ c.end;
-            goes = λ is. inside_goes (ap among (sym there) ∙ is);
-          }
-          | inr back ↦ record {
-            behind = e;
-            behind_in = can.within;
-            behind_origin = ap (origin new) back ∙ i.outside.origin;
-            comes = λ is. ap among back ∙ outside_comes is;
-            ahead = rev (prev m e);
-            ahead_in = rev_within _ _ s.even c.before_in;
-            ahead_origin = ap (origin new) back ∙ i.outside.origin ∙ ap (origin m) (sym c.before_next) ∙ (s.edges (prev m e) c.before_in).starts;
-            goes = λ is. outside_goes (ap among (sym back) ∙ is);
-          }
-        ]
+        | inr (inl there) ↦ record {
+          behind = next m (next m e);
+          behind_in = c.after_in;
+          behind_origin = ap (origin new) there ∙ i.inside.origin;
+          comes = λ is. ap among there ∙ inside_comes is;
+          ahead = rev (next m e);
+          ahead_in = rev_within _ _ s.even c.second_in;
+          ahead_origin = ap (origin new) there ∙ i.inside.origin ∙ c.end;
+          goes = λ is. inside_goes (ap among (sym there) ∙ is);
+        }
+        | inr (inr back) ↦ record {
+          behind = e;
+          behind_in = can.within;
+          behind_origin = ap (origin new) back ∙ i.outside.origin;
+          comes = λ is. ap among back ∙ outside_comes is;
+          ahead = rev (prev m e);
+          ahead_in = rev_within _ _ s.even c.before_in;
+          ahead_origin = ap (origin new) back ∙ i.outside.origin ∙ ap (origin m) (sym c.before_next) ∙ (s.edges (prev m e) c.before_in).starts;
+          goes = λ is. outside_goes (ap among (sym back) ∙ is);
+        }
       ]
 
 pub stars_closed : (m new : Mesh) (e : ℕ) → IsSound m → IsClosable m e → Closes m new e (length m.half_edges) (length m.face_edges) → HasStars m → HasStars new
@@ -156,45 +153,37 @@ module _ (m new : Mesh) (e : ℕ) (s : IsSound m) (can : IsFlippable m e) (f : F
   flip_closed h within is =
       let l = left m new e s can f in
       let r = right m new e s can f in
-      elim (cases_eq h e) [
+      elim (cases_eq h e or_else cases_eq h (rev e)) [
         | inl same ↦
             ap (λ k. before (rev (prev m k))) same ∙ plain_rev (prev m e) (neq _ _ p.ae) (neq _ _ p.be) (sym (stands_first among e (rev e) _ _ h same) ∙ is)
-        | inr a ↦ elim (cases_eq h (rev e)) [
-          | inl same ↦
-              ap (λ k. before (rev (prev m k))) same ∙ plain_rev (prev m (rev e)) (neq _ _ p.af) (neq _ _ p.bf) (sym (stands_second among e (rev e) _ _ h a same) ∙ is)
-          | inr b ↦
-              let is' : among h ≡ true = sym (plain h a b) ∙ is in
-              elim (cases_eq h (next m (rev e))) [
-                | inl same ↦
-                    let on = step (next m (rev e)) (prev m e) p.d_in f.twin_next.prev (ap among (sym same) ∙ is') in
-                    ap (λ k. before (rev k)) (ap (prev m) same ∙ r.prev_next) ∙ stands_first among e (rev e) _ _ (rev (rev e)) (rev-rev e) ∙ on
-                | inr c ↦ elim (cases_eq h (next m e)) [
-                  | inl same ↦
-                      let on = step (next m e) (prev m (rev e)) p.c_in f.edge_next.prev (ap among (sym same) ∙ is') in
-                      ap (λ k. before (rev k)) (ap (prev m) same ∙ l.prev_next) ∙ stands_second among e (rev e) _ _ (rev e) (neq _ _ p.ab) refl ∙ on
-                  | inr d ↦ elim (cases_eq h (prev m e)) [
-                    | inl same ↦
-                        ap (λ k. before (rev k)) (ap (prev m) same ∙ l.prev_prev) ∙ plain_rev (next m e) (neq _ _ p.ac) (neq _ _ p.bc) (from_edge (to_edge (ap among (sym same) ∙ is')))
-                    | inr x ↦ elim (cases_eq h (prev m (rev e))) [
-                      | inl same ↦
-                          ap (λ k. before (rev k)) (ap (prev m) same ∙ r.prev_prev) ∙ plain_rev (next m (rev e)) (neq _ _ p.ad) (neq _ _ p.bd) (from_twin (to_twin (ap among (sym same) ∙ is')))
-                      | inr y ↦
-                          let here = s.edges h within in
-                          let same = kept m new e s can f h (record { edge = a; twin = b; edge_next = d; twin_next = c; edge_prev = x; twin_prev = y }) in
-                          let at : prev new h ≡ prev m h = cc in
-                          plain_rev (prev m h) (λ q. d (sym here.next_prev ∙ ap (next m) q)) (λ q. c (sym here.next_prev ∙ ap (next m) q)) (step h (prev m h) within at is')
-                    ]
-                  ]
-                ]
-              ]
-        ]
+        | inr (a, inl same) ↦
+            ap (λ k. before (rev (prev m k))) same ∙ plain_rev (prev m (rev e)) (neq _ _ p.af) (neq _ _ p.bf) (sym (stands_second among e (rev e) _ _ h a same) ∙ is)
+        | inr (a, inr b) ↦
+            let is' : among h ≡ true = sym (plain h a b) ∙ is in
+            elim (cases_eq h (next m (rev e)) or_else cases_eq h (next m e) or_else cases_eq h (prev m e) or_else cases_eq h (prev m (rev e))) [
+              | inl same ↦
+                  let on = step (next m (rev e)) (prev m e) p.d_in f.twin_next.prev (ap among (sym same) ∙ is') in
+                  ap (λ k. before (rev k)) (ap (prev m) same ∙ r.prev_next) ∙ stands_first among e (rev e) _ _ (rev (rev e)) (rev-rev e) ∙ on
+              | inr (c, inl same) ↦
+                  let on = step (next m e) (prev m (rev e)) p.c_in f.edge_next.prev (ap among (sym same) ∙ is') in
+                  ap (λ k. before (rev k)) (ap (prev m) same ∙ l.prev_next) ∙ stands_second among e (rev e) _ _ (rev e) (neq _ _ p.ab) refl ∙ on
+              | inr (c, inr (d, inl same)) ↦
+                  ap (λ k. before (rev k)) (ap (prev m) same ∙ l.prev_prev) ∙ plain_rev (next m e) (neq _ _ p.ac) (neq _ _ p.bc) (from_edge (to_edge (ap among (sym same) ∙ is')))
+              | inr (c, inr (d, inr (x, inl same))) ↦
+                  ap (λ k. before (rev k)) (ap (prev m) same ∙ r.prev_prev) ∙ plain_rev (next m (rev e)) (neq _ _ p.ad) (neq _ _ p.bd) (from_twin (to_twin (ap among (sym same) ∙ is')))
+              | inr (c, inr (d, inr (x, inr y))) ↦
+                  let here = s.edges h within in
+                  let same = kept m new e s can f h (record { edge = a; twin = b; edge_next = d; twin_next = c; edge_prev = x; twin_prev = y }) in
+                  let at : prev new h ≡ prev m h = cc in
+                  plain_rev (prev m h) (λ q. d (sym here.next_prev ∙ ap (next m) q)) (λ q. c (sym here.next_prev ∙ ap (next m) q)) (step h (prev m h) within at is')
+            ]
       ]
 
   flip_lies : (k : ℕ) → k < length m.half_edges → LiesRound m new before among k
   flip_lies k within =
       let l = left m new e s can f in
       let r = right m new e s can f in
-      elim (cases_eq k e) [
+      elim (cases_eq k e or_else cases_eq k (rev e)) [
         | inl same ↦ record {
           behind = prev m e;
           behind_in = p.e_in;
@@ -205,19 +194,17 @@ module _ (m new : Mesh) (e : ℕ) (s : IsSound m) (can : IsFlippable m e) (f : F
           ahead_origin = ap (origin new) same ∙ f.edge.origin ∙ ap (origin m) (sym l.next_next) ∙ (s.edges (next m e) p.c_in).starts;
           goes = λ is. plain_rev (next m e) (neq _ _ p.ac) (neq _ _ p.bc) (from_edge (ap among (sym same) ∙ is));
         }
-        | inr a ↦ elim (cases_eq k (rev e)) [
-          | inl same ↦ record {
-            behind = prev m (rev e);
-            behind_in = p.f_in;
-            behind_origin = ap (origin new) same ∙ f.twin.origin;
-            comes = λ is. ap among same ∙ to_twin (sym (plain (prev m (rev e)) (neq _ _ p.af) (neq _ _ p.bf)) ∙ is);
-            ahead = rev (next m (rev e));
-            ahead_in = rev_within _ _ s.even p.d_in;
-            ahead_origin = ap (origin new) same ∙ f.twin.origin ∙ ap (origin m) (sym r.next_next) ∙ (s.edges (next m (rev e)) p.d_in).starts;
-            goes = λ is. plain_rev (next m (rev e)) (neq _ _ p.ad) (neq _ _ p.bd) (from_twin (ap among (sym same) ∙ is));
-          }
-          | inr b ↦ lies_kept m new before among k within (origin_kept m new e s can f k a b) (plain k a b)
-        ]
+        | inr (a, inl same) ↦ record {
+          behind = prev m (rev e);
+          behind_in = p.f_in;
+          behind_origin = ap (origin new) same ∙ f.twin.origin;
+          comes = λ is. ap among same ∙ to_twin (sym (plain (prev m (rev e)) (neq _ _ p.af) (neq _ _ p.bf)) ∙ is);
+          ahead = rev (next m (rev e));
+          ahead_in = rev_within _ _ s.even p.d_in;
+          ahead_origin = ap (origin new) same ∙ f.twin.origin ∙ ap (origin m) (sym r.next_next) ∙ (s.edges (next m (rev e)) p.d_in).starts;
+          goes = λ is. plain_rev (next m (rev e)) (neq _ _ p.ad) (neq _ _ p.bd) (from_twin (ap among (sym same) ∙ is));
+        }
+        | inr (a, inr b) ↦ lies_kept m new before among k within (origin_kept m new e s can f k a b) (plain k a b)
       ]
 
 pub stars_flipped : (m new : Mesh) (e : ℕ) → IsSound m → IsFlippable m e → Flips m new e → HasStars m → HasStars new

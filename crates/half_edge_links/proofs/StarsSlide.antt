@@ -1,6 +1,7 @@
 -- The edges round each vertex of a line stay one round where an edge is moved to the far end of the next one.
 use Rattle.std.proofs.Common.{◌≡◌, ◌≢◌, ℕ, ◌<◌, Bool, true, length, refl, sym, ap, ◌∙◌, inl, inr, arith}
 use Rattle.std.proofs.lemmas.Bool.{cases_eq}
+use Rattle.half_edge_links.proofs.Cases.{◌or_else◌}
 use Rattle.half_edge_links.specs.Mesh.{Mesh, origin, next, prev, rev, IsSound, IsClosed, HasStars}
 use Rattle.half_edge_links.specs.Grow.{IsSlidable, Slides}
 use Rattle.half_edge_links.proofs.Rev.{rev-rev}
@@ -34,15 +35,13 @@ module _ (m new : Mesh) (e : ℕ) (s : IsSound m) (can : IsSlidable m e) (i : Sl
             ap (λ k. before (rev (prev m k))) same ∙ plain_rev _ (λ q. p.edge-before (sym q)) (step (next m e) (prev m (rev e)) _ p.there_in i.prev_there refl on)
         | inr a ↦
             let is' : among h ≡ true = sym (plain h a) ∙ is in
-            elim (cases_eq h (next m e)) [
+            elim (cases_eq h (next m e) or_else cases_eq h (next m (next m e))) [
               | inl same ↦ ap (λ k. before (rev k)) (ap (prev m) same ∙ p.there_prev) ∙ stands_first among (rev e) (rev e) _ _ (rev e) refl ∙ ap among (sym same) ∙ is'
-              | inr b ↦ elim (cases_eq h (next m (next m e))) [
-                | inl same ↦
-                    let back : rev (next m e) ≡ h = sym p.back_is ∙ sym same in
-                    ap (λ k. before (rev k)) (ap (prev m) same ∙ p.there_back) ∙ ap before back ∙ plain h a ∙ is'
-                | inr c ↦
-                    plain_rev (prev m h) (λ q. b (sym (s.edges h within).next_prev ∙ ap (next m) q)) (step h (prev m h) _ within (i.other_prev h within c b a) refl is')
-              ]
+              | inr (b, inl same) ↦
+                  let back : rev (next m e) ≡ h = sym p.back_is ∙ sym same in
+                  ap (λ k. before (rev k)) (ap (prev m) same ∙ p.there_back) ∙ ap before back ∙ plain h a ∙ is'
+              | inr (b, inr c) ↦
+                  plain_rev (prev m h) (λ q. b (sym (s.edges h within).next_prev ∙ ap (next m) q)) (step h (prev m h) _ within (i.other_prev h within c b a) refl is')
             ]
       ]
 

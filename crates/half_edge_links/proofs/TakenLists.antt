@@ -3,6 +3,7 @@ use Rattle.std.proofs.Common.{◌≡◌, ◌≢◌, ◌⊎◌, ℕ, ◌+◌, ◌
 use Rattle.std.proofs.lemmas.Bool.{cases_eq}
 use Rattle.std.proofs.lemmas.List.{same_lists, length-map, get_or-map}
 use Rattle.std.specs.List.{swap_remove}
+use Rattle.half_edge_links.proofs.Cases.{◌or_else◌}
 use Rattle.half_edge_links.specs.Mesh.{Mesh, origin, next, prev, face, rev, IsSound, IsInner}
 use Rattle.half_edge_links.specs.Renames.{moved, pair_moved}
 use Rattle.half_edge_links.specs.Triangles.{Triangle, triangle_at, triangles}
@@ -122,12 +123,10 @@ opens_outer m new f s inner o = record {
       let h_in : h < length m.half_edges = omega (arith, o.edge_count, now.within) in
       let source = sym (o.origin h) ∙ now.source in
       let target = sym (o.origin (rev h)) ∙ now.target in
-      elim (cases_eq (face m h) f) [
+      elim (cases_eq (face m h) f or_else cases_eq (face m h) (length m.face_edges)) [
         | inl is ↦ inr (h_in, is, source, target)
-        | inr off ↦ elim (cases_eq (face m h) (length m.face_edges)) [
-          | inl last ↦ absurd (omega (arith, o.last h h_in last off, now.outer, inner.0))
-          | inr other ↦ inl (record { within = h_in; outer = sym (o.other h h_in off other) ∙ now.outer; source = source; target = target }, λ none. none)
-        ]
+        | inr (off, inl last) ↦ absurd (omega (arith, o.last h h_in last off, now.outer, inner.0))
+        | inr (off, inr other) ↦ inl (record { within = h_in; outer = sym (o.other h h_in off other) ∙ now.outer; source = source; target = target }, λ none. none)
       ];
 }
 

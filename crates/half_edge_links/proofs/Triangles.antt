@@ -53,10 +53,8 @@ same_loop m h g s h_in g_in inner same =
     let b = (s.edges g g_in).owned g_inner in
     elim a [
       | inl a1 ↦ elim b [ inl b1 ↦ inl (cc) | inr b2 ↦ elim b2 [ inl b3 ↦ inr (inr (cc)) | inr b3 ↦ inr (inl (cc)) ] ]
-      | inr a2 ↦ elim a2 [
-        | inl a3 ↦ elim b [ inl b1 ↦ inr (inl (cc)) | inr b2 ↦ elim b2 [ inl b3 ↦ inl (cc) | inr b3 ↦ inr (inr (cc)) ] ]
-        | inr a3 ↦ elim b [ inl b1 ↦ inr (inr (cc)) | inr b2 ↦ elim b2 [ inl b3 ↦ inr (inl (cc)) | inr b3 ↦ inl (cc) ] ]
-      ]
+      | inr (inl a3) ↦ elim b [ inl b1 ↦ inr (inl (cc)) | inr b2 ↦ elim b2 [ inl b3 ↦ inl (cc) | inr b3 ↦ inr (inr (cc)) ] ]
+      | inr (inr a3) ↦ elim b [ inl b1 ↦ inr (inr (cc)) | inr b2 ↦ elim b2 [ inl b3 ↦ inr (inl (cc)) | inr b3 ↦ inl (cc) ] ]
     ]
 
 -- the six edges round an edge that may be turned

@@ -3,6 +3,7 @@ use Rattle.std.proofs.Common.{◌≡◌, ◌≢◌, ◌⊎◌, ℕ, ◌+◌, ◌
 use Rattle.std.proofs.lemmas.Bool.{cases_eq}
 use Rattle.std.proofs.lemmas.Bool.Decides.{nat_tests}
 use Rattle.std.proofs.lemmas.List.{get_or-set_same, get_or-set_other, length-set}
+use Rattle.half_edge_links.proofs.Cases.{◌or_else◌}
 use Rattle.half_edge_links.specs.declared.records.HalfEdge.{HalfEdge}
 use Rattle.half_edge_links.specs.Mesh.{Mesh, edge_at, origin, next, prev, face, face_edge, out_edge, rev, IsSound, IsSoundEdge}
 use Rattle.half_edge_links.specs.Grow.{with_next, with_prev}
@@ -117,12 +118,10 @@ beside_cases t n p =
 
 pub after_cases : (h e t n p : ℕ) → (((h ≡ e) ⊎ (h ≡ t)) × (outer_after (Some h) e t n p ≡ outer_beside t n p)) ⊎ ((h ≢ e) × (h ≢ t) × (outer_after (Some h) e t n p ≡ Some h))
 after_cases h e t n p =
-    elim (cases_eq h e) [
+    elim (cases_eq h e or_else cases_eq h t) [
       | inl a ↦ inl (inl a, grind (arith, nat_tests))
-      | inr a ↦ elim (cases_eq h t) [
-        | inl b ↦ inl (inr b, grind (arith, nat_tests))
-        | inr b ↦ inr (a, b, grind (arith, nat_tests))
-      ]
+      | inr (a, inl b) ↦ inl (inr b, grind (arith, nat_tests))
+      | inr (a, inr b) ↦ inr (a, b, grind (arith, nat_tests))
     ]
 
 -- what the rest of a mesh is when edge e, with other side t, was taken out
@@ -229,12 +228,10 @@ module _ (m new : Mesh) (e : ℕ) (s : IsSound m) (can : IsUnlinkable m e) (u : 
   -- what is after an edge that is left
   pub after : (h : ℕ) → h < length m.half_edges → h ≢ e → h ≢ rev e → (n : ℕ) × IsAfter h n
   after h within h_e h_t =
-      elim (cases_eq h (prev m e)) [
+      elim (cases_eq h (prev m e) or_else cases_eq h (prev m (rev e))) [
         | inl is ↦ (next m (rev e), rw (← is) at (after_p (λ z. h_t (is ∙ z))))
-        | inr h_p ↦ elim (cases_eq h (prev m (rev e))) [
-          | inl is ↦ (next m e, rw (← is) at (after_x (λ z. h_e (is ∙ z))))
-          | inr h_x ↦ (next m h, after_other h within h_e h_t h_p h_x)
-        ]
+        | inr (h_p, inl is) ↦ (next m e, rw (← is) at (after_x (λ z. h_e (is ∙ z))))
+        | inr (h_p, inr h_x) ↦ (next m h, after_other h within h_e h_t h_p h_x)
       ]
 
   -- an edge that is left, and what is before it now
@@ -248,12 +245,10 @@ module _ (m new : Mesh) (e : ℕ) (s : IsSound m) (can : IsUnlinkable m e) (u : 
   -- from each edge, also those taken out, one comes back by the edge before
   back : (h : ℕ) → h < length m.half_edges → (next new h < length m.half_edges) × (prev new (next new h) ≡ h)
   back h within =
-      elim (cases_eq h e) [
+      elim (cases_eq h e or_else cases_eq h (rev e)) [
         | inl is ↦ rw (is, u.next_self) (can.within, u.prev_self)
-        | inr h_e ↦ elim (cases_eq h (rev e)) [
-          | inl is ↦ rw (is, u.twin_next_self) (t_in, u.twin_prev_self)
-          | inr h_t ↦ let a = after h within h_e h_t in rw a.1.next_is (a.1.n_in, a.1.prev_is)
-        ]
+        | inr (h_e, inl is) ↦ rw (is, u.twin_next_self) (t_in, u.twin_prev_self)
+        | inr (h_e, inr h_t) ↦ let a = after h within h_e h_t in rw a.1.next_is (a.1.n_in, a.1.prev_is)
       ]
 
   pub before : (h : ℕ) → h < length m.half_edges → h ≢ e → h ≢ rev e → (b : ℕ) × IsBefore h b
@@ -360,10 +355,8 @@ module _ (m new : Mesh) (e : ℕ) (s : IsSound m) (can : IsUnlinkable m e) (u : 
   beside_now h named =
       elim (beside_cases (rev e) (next m e) (prev m e)) [
         | inl i ↦ let same : h ≡ next m e = some_same _ _ (sym named ∙ i.1) in rw same (at_e.next_in, at_e.same_face ∙ can.outer, q_e, i.0)
-        | inr j ↦ elim j [
-          | inl i ↦ let same : h ≡ prev m e = some_same _ _ (sym named ∙ i.2) in rw same (at_e.prev_in, p_face, p_e, i.1)
-          | inr i ↦ let none = sym named ∙ i.2 in absurd (cc)
-        ]
+        | inr (inl i) ↦ let same : h ≡ prev m e = some_same _ _ (sym named ∙ i.2) in rw same (at_e.prev_in, p_face, p_e, i.1)
+        | inr (inr i) ↦ let none = sym named ∙ i.2 in absurd (cc)
       ]
 
   outer_now : (o : Option ℕ) (h : ℕ) → m.outer_edge ≡ o → outer_after o e (rev e) (next m e) (prev m e) ≡ Some h → (h < length m.half_edges) × (face m h ≡ 0) × (h ≢ e) × (h ≢ rev e)
@@ -381,10 +374,8 @@ module _ (m new : Mesh) (e : ℕ) (s : IsSound m) (can : IsUnlinkable m e) (u : 
       elim (after_cases k e (rev e) (next m e) (prev m e)) [
         | inl i ↦ rw i.1 (elim (beside_cases (rev e) (next m e) (prev m e)) [
           | inl a ↦ rw a.1 refl
-          | inr j ↦ elim j [
-            | inl a ↦ rw a.2 refl
-            | inr a ↦ absurd (omega (arith, can.whole a.0 a.1))
-          ]
+          | inr (inl a) ↦ rw a.2 refl
+          | inr (inr a) ↦ absurd (omega (arith, can.whole a.0 a.1))
         ])
         | inr i ↦ rw i.2 refl
       ]

@@ -1,6 +1,7 @@
 -- The first step in which a vertex with three faces goes.
 use Rattle.std.proofs.Common.{◌≡◌, ◌≢◌, ℕ, ◌<◌, length, sym, ap, ◌∙◌, inl, inr, arith}
 use Rattle.std.proofs.lemmas.Bool.{cases_eq}
+use Rattle.half_edge_links.proofs.Cases.{◌each_with◌}
 use Rattle.half_edge_links.specs.Mesh.{Mesh, origin, next, prev, face, rev, IsSound, IsInner}
 use Rattle.half_edge_links.specs.Peel.{turn}
 use Rattle.half_edge_links.specs.Remove.{Opens, Removes}
@@ -26,15 +27,11 @@ module _ (m new : Mesh) (f : ℕ) (o : Opens m new f) (some : 0 < f) where
   -- edges of two other faces are still of two
   pub still_apart : (k l : ℕ) → k < length m.half_edges → l < length m.half_edges → face m k ≢ f → face m l ≢ f → face m k ≢ face m l → face new k ≢ face new l
   still_apart k l k_in l_in p q differ same =
-      elim (cases_eq (face m k) (length m.face_edges)) [
-        | inl i ↦ elim (cases_eq (face m l) (length m.face_edges)) [
-          | inl j ↦ differ (i ∙ sym j)
-          | inr j ↦ q (sym (o.other l l_in q j) ∙ sym same ∙ o.last k k_in i p)
-        ]
-        | inr i ↦ elim (cases_eq (face m l) (length m.face_edges)) [
-          | inl j ↦ p (sym (o.other k k_in p i) ∙ same ∙ o.last l l_in j q)
-          | inr j ↦ differ (sym (o.other k k_in p i) ∙ same ∙ o.other l l_in q j)
-        ]
+      elim (cases_eq (face m k) (length m.face_edges) each_with cases_eq (face m l) (length m.face_edges)) [
+        | inl (i, inl j) ↦ differ (i ∙ sym j)
+        | inl (i, inr j) ↦ q (sym (o.other l l_in q j) ∙ sym same ∙ o.last k k_in i p)
+        | inr (i, inl j) ↦ p (sym (o.other k k_in p i) ∙ same ∙ o.last l l_in j q)
+        | inr (i, inr j) ↦ differ (sym (o.other k k_in p i) ∙ same ∙ o.other l l_in q j)
       ]
 
 module _ (m : Mesh) (o : ℕ) (s : IsSound m) (w : IsFullWheel m o) where
