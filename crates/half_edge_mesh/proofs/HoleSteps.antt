@@ -23,9 +23,9 @@ use Rattle.half_edge_links.proofs.WheelLemmas as wheel
 use Rattle.half_edge_mesh.specs.Contents.{Contents, IsWhole}
 use Rattle.half_edge_mesh.specs.Growth.{joins}
 use Rattle.half_edge_mesh.specs.Removal.{FullFace, IsBetween, HasCorners, LosesEdges, LosesFaces, GivesFace, OuterChanges, FillsHole, full_edges, full_edges_of, full_faces, full_faces_of, spokes_to, faces_between}
-use Rattle.half_edge_mesh.proofs.LineChanges.{alone_after}
-use Rattle.half_edge_mesh.proofs.OuterSums.{ends_sum, total_full_faces, total_lost_faces, total-permutation, total-append, any_corner, outer_sum}
-use Rattle.half_edge_mesh.proofs.StripSteps.{IsSameBut, same_but, same_but_edges, same_but_faces, one_more_gone, none_gone, whole_ends, whole_corners}
+use Rattle.half_edge_mesh.proofs.LineSteps.{alone_after}
+use Rattle.half_edge_mesh.proofs.OuterSums.{whole_ends, whole_corners, ends_sum, total_full_faces, total_lost_faces, total-permutation, total-append, any_corner, outer_sum}
+use Rattle.half_edge_mesh.proofs.StripSteps.{IsSameBut, same_but, same_but_edges, same_but_faces, one_more_gone, none_gone}
 use Rattle.half_edge_mesh.proofs.TakenEdges.{named_corners}
 
 -- the corners of a face at a vertex with three faces

@@ -2,7 +2,7 @@
 use Rattle.std.proofs.Common.{◌≡◌, ◌≢◌, ℕ, zero, suc, ◌-◌, ◌<◌, ◌≤◌, true, false, List, length, get_or, refl, sym, ap, ◌∙◌, inl, inr, arith, subst}
 use Rattle.std.specs.List.{AllZip, filter}
 use Rattle.std.specs.List.Sorted.{IsPermutation}
-use Rattle.std.proofs.lemmas.List.{length-map, get_or-map}
+use Rattle.std.proofs.lemmas.List.{length-map}
 use Rattle.half_edge_links.specs.Mesh.{Mesh, origin, next, prev, face, face_edge, IsSound, IsValid, IsInner}
 use Rattle.half_edge_links.specs.Peel.{turn, spoke}
 use Rattle.half_edge_links.specs.Round.{neighbour}
@@ -13,21 +13,12 @@ use Rattle.half_edge_links.proofs.Triangles.{IsTriangle, triangle_at as loop_at}
 use Rattle.half_edge_links.proofs.Walks.{among_steps, to_steps, from_steps, steps_closed}
 use Rattle.half_edge_mesh.specs.Contents.{Contents, IsWhole}
 use Rattle.half_edge_mesh.specs.Removal.{FullFace, HasCorners, full_faces, full_faces_of, faces_between}
-use Rattle.half_edge_mesh.proofs.TakenEdges.{named_corners}
-use Rattle.half_edge_mesh.proofs.TakenOut.{get_or-full_faces, length-full_faces}
+use Rattle.half_edge_mesh.proofs.TakenEdges.{listed_face, named_corners}
+use Rattle.half_edge_mesh.proofs.TakenOut.{length-full_faces}
 use Rattle.half_edge_mesh.specs.Hole.{IsHub, HasFreeTip}
 use Rattle.half_edge_mesh.proofs.Filtered.{items_at, taken_all}
 use Rattle.half_edge_mesh.proofs.Hubs.{spokes_apart}
 use Rattle.half_edge_mesh.proofs.Touching.{has_corner, corner_there, corners_off, which_corner}
-
--- the listed face
-pub listed_face : {F : Type 0} (m : Mesh) (fs : List F) (f : ℕ) → length fs ≡ length m.face_edges → IsInner m f → (d : FullFace F)
-    → get_or (full_faces_of (triangles m) fs) (f - 1) d ≡ record { corners = triangle_at m (face_edge m f); value = get_or fs (f - 1) d.value }
-listed_face m fs f fits inner d =
-    let n = length-map m.face_edges (triangle_at m) in
-    let within : f - 1 < length (triangles m) = omega (arith, n, inner.0, inner.1) in
-    get_or-full_faces (triangles m) fs (f - 1) d.corners d.value (omega (arith, n, fits)) within d
-    ∙ ap (λ t. record { corners = t; value = get_or fs (f - 1) d.value }) (get_or-map (triangle_at m) m.face_edges (f - 1) 0 d.corners (omega (arith, inner.0, inner.1)))
 
 pub count_faces : {F : Type 0} (m : Mesh) (fs : List F) → length fs ≡ length m.face_edges → length (full_faces_of (triangles m) fs) ≡ length m.face_edges
 count_faces m fs fits = let n = length-map m.face_edges (triangle_at m) in length-full_faces (triangles m) fs (fits ∙ sym n) ∙ n

@@ -8,7 +8,7 @@ pub mod TakenEdges
 pub mod OuterSums
 pub mod Dropped
 pub mod TwoEdges
-pub mod LineChanges
+pub mod LineSteps
 pub mod StripSteps
 pub mod HoleSteps
 pub mod Hubs
@@ -18,4 +18,3 @@ pub mod HubFaces
 pub mod TurnedEdge
 pub mod TurnedAway
 pub mod HoleFilled
-pub mod LineSteps

@@ -5,13 +5,15 @@ use Rattle.std.specs.List.{AllZip, swap}
 use Rattle.std.specs.List.Sorted.{IsPermutation}
 use Rattle.std.proofs.lemmas.Bool.{cases_eq}
 use Rattle.std.proofs.lemmas.Int.{ints}
-use Rattle.std.proofs.lemmas.List.{length-set, get_or-set_same, get_or-set_other}
+use Rattle.std.proofs.lemmas.List.{length-map, length-set, get_or-set_same, get_or-set_other}
 use Rattle.std.proofs.lemmas.List.Sorted.{IsPermutation-keeps}
 use Rattle.half_edge_links.specs.Mesh.{Mesh, IsValid}
 use Rattle.half_edge_links.specs.Flow.{total, around, along, both_ways, outline}
 use Rattle.half_edge_links.specs.Outline.{Ends, ends}
-use Rattle.half_edge_links.specs.Triangles.{Triangle, triangles}
+use Rattle.half_edge_links.specs.Triangles.{Triangle, triangles, triangle_at}
 use Rattle.half_edge_links.proofs.Flow.{sides_add_up}
+use Rattle.half_edge_links.proofs.TakenLists.{count_ends}
+use Rattle.half_edge_mesh.specs.Contents.{Contents, IsWhole}
 use Rattle.half_edge_mesh.specs.Removal.{FullEdge, full_edges_of, FullFace, full_faces_of, IsBetween, HasCorners}
 
 -- ---- totals
@@ -100,3 +102,12 @@ module _ (f : ℕ → ℕ → ℤ) where
       → total (around f) (triangles new) +ℤ gone_faces ≡ total (around f) (triangles m) +ℤ made_faces
       → total (along f) (outline new) +ℤ (gone_ends +ℤ made_faces) ≡ total (along f) (outline m) +ℤ (made_ends +ℤ gone_faces)
   outer_sum m new v v' ge me gt mt a b = omega (arith, ints, sides_add_up m v f, sides_add_up new v' f, a, b)
+
+-- the counts of the data, for sums
+pub whole_ends : {V D U F : Type 0} (c : Contents V D U F) → IsWhole c → (length c.undirected ≡ length (ends c.mesh)) × (length c.directed ≡ 2 * length (ends c.mesh))
+whole_ends c w =
+    let n = count_ends c.mesh w.valid.sound in
+    (omega (arith, n, w.fits.undirected_fit), omega (arith, n, w.fits.directed_fit))
+
+pub whole_corners : {V D U F : Type 0} (c : Contents V D U F) → IsWhole c → length c.faces ≡ length (triangles c.mesh)
+whole_corners c w = w.fits.faces_fit ∙ sym (length-map c.mesh.face_edges (triangle_at c.mesh))

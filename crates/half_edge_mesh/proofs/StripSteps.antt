@@ -1,10 +1,9 @@
 -- A vertex on the hull loses its faces one by one.
-use Rattle.std.proofs.Common.{◌≡◌, ℕ, zero, suc, ◌+◌, ◌*◌, ◌<◌, ◌≤◌, List, [], ◌∷◌, ◌++◌, length, refl, sym, ap, ◌∙◌, inr, arith}
+use Rattle.std.proofs.Common.{◌≡◌, ℕ, zero, suc, ◌+◌, ◌<◌, ◌≤◌, List, [], ◌∷◌, ◌++◌, refl, sym, ap, ◌∙◌, inr, arith}
 use Rattle.std.specs.Prelude.{ℤ, pos, ◌+ℤ◌}
 use Rattle.std.specs.List.{AllZip}
 use Rattle.std.specs.List.Sorted.{IsPermutation}
 use Rattle.std.proofs.lemmas.Int.{ints}
-use Rattle.std.proofs.lemmas.List.{length-map}
 use Rattle.std.proofs.lemmas.List.Sorted.{IsPermutation-refl, IsPermutation-trans, IsPermutation-append_right, IsPermutation-middle}
 use Rattle.half_edge_links.specs.Hull.{KeepsOneOutline, IsPendant}
 use Rattle.half_edge_links.specs.Flow.{total, around, along, both_ways, outline}
@@ -16,13 +15,12 @@ use Rattle.half_edge_links.specs.Round.{neighbour}
 use Rattle.half_edge_links.specs.Triangles.{triangles, triangle_at}
 use Rattle.half_edge_links.proofs.Conditions.{IsFullStrip, full_strip, strip_of}
 use Rattle.half_edge_links.proofs.Rev.{rev-rev}
-use Rattle.half_edge_links.proofs.TakenLists.{count_ends}
 use Rattle.half_edge_links.proofs.StripLemmas.{strip_from, strip_ends, one_more, removable_strip}
 use Rattle.half_edge_mesh.specs.Contents.{Contents, IsWhole}
 use Rattle.half_edge_mesh.specs.Growth.{joins}
 use Rattle.half_edge_mesh.specs.Removal.{IsBetween, HasCorners, LosesEdges, LosesFaces, LosesStrip, OuterChanges, full_edges, full_faces, full_faces_of, spokes_to, faces_between, chain}
-use Rattle.half_edge_mesh.proofs.LineChanges.{alone_after}
-use Rattle.half_edge_mesh.proofs.OuterSums.{ends_sum, corners_sum, outer_sum}
+use Rattle.half_edge_mesh.proofs.LineSteps.{alone_after}
+use Rattle.half_edge_mesh.proofs.OuterSums.{whole_ends, whole_corners, ends_sum, corners_sum, outer_sum}
 
 -- a mesh with the vertices, the outer face and the room of another
 abbrev pub IsSameBut : {V D U F : Type 0} → Contents V D U F → Contents V D U F → Type 0
@@ -109,15 +107,6 @@ module _ (f : ℕ → ℕ → ℤ) (v : ℕ) (n : ℕ → ℕ) where
   pub strip_sum : (k : ℕ) → total (around f) (faces_between v n k) +ℤ (f (n 0) v +ℤ f v (n k)) ≡ total (both_ways f) (spokes_to v n (suc k)) +ℤ total (along f) (chain n k)
   strip_sum zero = omega (arith, ints)
   strip_sum (suc k) = omega (arith, ints, strip_sum k)
-
--- the counts of the data, for sums
-pub whole_ends : {V D U F : Type 0} (c : Contents V D U F) → IsWhole c → (length c.undirected ≡ length (ends c.mesh)) × (length c.directed ≡ 2 * length (ends c.mesh))
-whole_ends c w =
-    let n = count_ends c.mesh w.valid.sound in
-    (omega (arith, n, w.fits.undirected_fit), omega (arith, n, w.fits.directed_fit))
-
-pub whole_corners : {V D U F : Type 0} (c : Contents V D U F) → IsWhole c → length c.faces ≡ length (triangles c.mesh)
-whole_corners c w = w.fits.faces_fit ∙ sym (length-map c.mesh.face_edges (triangle_at c.mesh))
 
 pub outer_stripped : {V D U F : Type 0} (old new : Contents V D U F) (v : ℕ) (n : ℕ → ℕ) (k : ℕ) → IsWhole old → IsWhole new → LosesEdges old new (spokes_to v n (suc k)) → LosesFaces old new (faces_between v n k) → OuterChanges old.mesh new.mesh (joins (n 0) v ∷ joins v (n k) ∷ []) (chain n k)
 outer_stripped old new v n k a b edges faces f =

@@ -71,6 +71,15 @@ named_corners m h x s within inner is =
       ]
     ]
 
+-- the listed face
+pub listed_face : {F : Type 0} (m : Mesh) (fs : List F) (f : ℕ) → length fs ≡ length m.face_edges → IsInner m f → (d : FullFace F)
+    → get_or (full_faces_of (triangles m) fs) (f - 1) d ≡ record { corners = triangle_at m (face_edge m f); value = get_or fs (f - 1) d.value }
+listed_face m fs f fits inner d =
+    let n = length-map m.face_edges (triangle_at m) in
+    let within : f - 1 < length (triangles m) = omega (arith, n, inner.0, inner.1) in
+    get_or-full_faces (triangles m) fs (f - 1) d.corners d.value (omega (arith, n, fits)) within d
+    ∙ ap (λ t. record { corners = t; value = get_or fs (f - 1) d.value }) (get_or-map (triangle_at m) m.face_edges (f - 1) 0 d.corners (omega (arith, inner.0, inner.1)))
+
 module _ {F : Type 0} (m new : Mesh) (fs fs' : List F) (f : ℕ) (s : IsSound m) (fits : length fs ≡ length m.face_edges) (inner : IsInner m f) where
   face_taken : RemovesTriangle m new f → TakesOut fs fs' (f - 1) → TakesOut (full_faces_of (triangles m) fs) (full_faces_of (triangles new) fs') (f - 1)
   face_taken r tf =
@@ -79,19 +88,11 @@ module _ {F : Type 0} (m new : Mesh) (fs fs' : List F) (f : ℕ) (s : IsSound m)
       let tt' : TakesOut (triangles m) (triangles new) (f - 1) = rw r (takes_out (triangles m) (f - 1) no_triangle within) in
       full_faces_taken (triangles m) (triangles new) fs fs' (f - 1) (omega (arith, n, fits)) tt' tf
 
-  -- the listed face
-  face_at : (d : FullFace F) → get_or (full_faces_of (triangles m) fs) (f - 1) d ≡ record { corners = triangle_at m (face_edge m f); value = get_or fs (f - 1) d.value }
-  face_at d =
-      let n = length-map m.face_edges (triangle_at m) in
-      let within : f - 1 < length (triangles m) = omega (arith, n, inner.0, inner.1) in
-      get_or-full_faces (triangles m) fs (f - 1) d.corners d.value (omega (arith, n, fits)) within d
-      ∙ ap (λ t. record { corners = t; value = get_or fs (f - 1) d.value }) (get_or-map (triangle_at m) m.face_edges (f - 1) 0 d.corners (omega (arith, inner.0, inner.1)))
-
   pub gives_face : (value : F) → value ≡ get_or fs (f - 1) value → RemovesTriangle m new f → TakesOut fs fs' (f - 1)
       → IsPermutation (full_faces_of (triangles m) fs) (record { corners = triangle_at m (face_edge m f); value = value } ∷ full_faces_of (triangles new) fs')
   gives_face value is r tf =
       let x : FullFace F = record { corners = triangle_at m (face_edge m f); value = value } in
-      permuted (full_faces_of (triangles m) fs) (full_faces_of (triangles new) fs') (f - 1) x (face_taken r tf) (ap (λ v. record { corners = triangle_at m (face_edge m f); value = v }) is ∙ sym (face_at x))
+      permuted (full_faces_of (triangles m) fs) (full_faces_of (triangles new) fs') (f - 1) x (face_taken r tf) (ap (λ v. record { corners = triangle_at m (face_edge m f); value = v }) is ∙ sym (listed_face m fs f fits inner x))
 
 -- the face on the left of an edge goes
 pub loses_face_at : {F : Type 0} (m new : Mesh) (fs fs' : List F) (h : ℕ) (value : F) → IsSound m → length fs ≡ length m.face_edges → h < length m.half_edges → 0 < face m h → value ≡ get_or fs (face m h - 1) value → RemovesTriangle m new (face m h) → TakesOut fs fs' (face m h - 1)

@@ -18,13 +18,13 @@ use Rattle.half_edge_links.proofs.Triangles.{IsTriangle, triangle_at as loop_at}
 use Rattle.half_edge_mesh.specs.Contents.{Contents, IsWhole}
 use Rattle.half_edge_mesh.specs.Growth.{joins}
 use Rattle.half_edge_mesh.specs.Removal.{FullEdge, FullFace, IsBetween, HasCorners, full_edges, full_edges_of, full_faces, full_faces_of}
-use Rattle.half_edge_mesh.proofs.TakenEdges.{between, named_corners}
+use Rattle.half_edge_mesh.proofs.TakenEdges.{listed_face, between, named_corners}
 use Rattle.half_edge_mesh.proofs.TakenOut.{length-full_edges}
 use Rattle.half_edge_mesh.proofs.TwoEdges.{item_at}
 use Rattle.half_edge_mesh.specs.Hole.{IsHub, HasDataOf}
 use Rattle.half_edge_mesh.proofs.Outlines.{listed, passed_over}
 use Rattle.half_edge_mesh.proofs.Filtered.{filter_gains, filter_loses, filter_stays}
-use Rattle.half_edge_mesh.proofs.HubFaces.{listed_face, count_faces}
+use Rattle.half_edge_mesh.proofs.HubFaces.{count_faces}
 use Rattle.half_edge_mesh.proofs.Touching.{has_corner, lacks_corner, touches, misses, touches_it, touches_not, corner_there, corner_missing, with_other_ends, with_other_corners, full_edges-set, full_faces-set, along_between}
 
 other_way : {D U : Type 0} (e : FullEdge D U) (a b : ℕ) → IsBetween e (joins a b) → IsBetween e (joins b a)

@@ -1,27 +1,16 @@
 -- One edge gets other ends and another goes.
-use Rattle.std.proofs.Common.{◌≡◌, ◌≢◌, ℕ, zero, suc, ◌+◌, ◌-◌, ◌<◌, List, [], ◌∷◌, length, set, get_or, refl, sym, ap, ◌∙◌, inl, inr, arith}
+use Rattle.std.proofs.Common.{◌≡◌, ◌≢◌, ℕ, ◌+◌, ◌-◌, ◌<◌, List, [], ◌∷◌, length, set, get_or, sym, ap, ◌∙◌, inl, inr, arith}
 use Rattle.std.proofs.lemmas.Bool.{cases_eq}
 use Rattle.std.proofs.lemmas.List.{length-set, get_or-set_same, get_or-set_other, get_or_default}
-use Rattle.std.proofs.lemmas.List.Sorted.{IsPermutation-refl, IsPermutation-trans, IsPermutation-cons, IsPermutation-middle}
+use Rattle.std.proofs.lemmas.List.Sorted.{IsPermutation-remove, IsPermutation-trans, IsPermutation-cons}
+use Rattle.std.proofs.lemmas.Grind.{common_steps}
+use Rattle.std.specs.List.{remove}
 use Rattle.std.specs.List.Sorted.{IsPermutation}
 use Rattle.half_edge_mesh.specs.Removal.{TakesOut}
 use Rattle.half_edge_mesh.proofs.TakenOut.{permuted}
 
--- the items but the i-th, in their order
-abbrev pub except : {X : Type 0} → List X → ℕ → List X
-except [] i = []
-except (x ∷ xs) zero = xs
-except (x ∷ xs) (suc i) = x ∷ except xs i
-
-pub to_front : {X : Type 0} (xs : List X) (i : ℕ) (y : X) → i < length xs → y ≡ get_or xs i y → IsPermutation xs (y ∷ except xs i)
-to_front [] i y within is = absurd (omega (arith, within))
-to_front (x ∷ xs) zero y within is = rw is (IsPermutation-refl (x ∷ xs))
-to_front (x ∷ xs) (suc i) y within is = IsPermutation-trans _ _ _ (IsPermutation-cons x _ _ (to_front xs i y (omega (arith, within)) is)) (IsPermutation-middle (x ∷ []) y (except xs i))
-
-except-set : {X : Type 0} (xs : List X) (i : ℕ) (y : X) → except (set xs i y) i ≡ except xs i
-except-set [] i y = refl
-except-set (x ∷ xs) zero y = refl
-except-set (x ∷ xs) (suc i) y = ap (λ l. x ∷ l) (except-set xs i y)
+remove-set : {X : Type 0} (xs : List X) (i : ℕ) (y : X) → remove (set xs i y) i ≡ remove xs i
+remove-set xs i y = grind (arith, common_steps)
 
 pub item_at : {X : Type 0} (xs : List X) (k : ℕ) → k < length xs → (x : X) × (x ≡ get_or xs k x)
 item_at [] k within = absurd (omega (arith, within))
@@ -37,9 +26,9 @@ module _ {X : Type 0} (old mid new : List X) (k j : ℕ) (kept now : X) (apart :
       let l = item_at old j (f.2.within) in
       let less : i < length (set new i kept) = rw length-set f.0 in
       let a = permuted old (set new i kept) j l.0 f.2 l.1 in
-      let b = to_front (set new i kept) i kept less (sym (get_or-set_same new i kept kept f.0)) in
-      let b' : IsPermutation (set new i kept) (kept ∷ except new i) = rw (except-set new i kept) at b in
-      (l.0, l.1, except new i, IsPermutation-trans _ _ _ a (IsPermutation-cons l.0 _ _ b'), to_front new i now f.0 (sym f.1))
+      let b = IsPermutation-remove (set new i kept) i kept less (sym (get_or-set_same new i kept kept f.0)) in
+      let b' : IsPermutation (set new i kept) (kept ∷ remove new i) = rw (remove-set new i kept) at b in
+      (l.0, l.1, remove new i, IsPermutation-trans _ _ _ a (IsPermutation-cons l.0 _ _ b'), IsPermutation-remove new i now f.0 (sym f.1))
 
   pub one_written_one_taken : (lost : X) × (lost ≡ get_or old j lost) × (rest : List X) × IsPermutation old (lost ∷ kept ∷ rest) × IsPermutation new (now ∷ rest)
   one_written_one_taken =

@@ -3,8 +3,7 @@ use Rattle.half_edge_links.specs.declared.records.HalfEdge.{HalfEdge}
 use Rattle.half_edge_links.specs.Hull.{IsPendant}
 use Rattle.half_edge_links.specs.Mesh.{Mesh, next, rev}
 use Rattle.half_edge_links.proofs.Rev.{rev_within}
-use Rattle.half_edge_mesh.proofs.LineChanges.{passable, removable_hanging}
-use Rattle.half_edge_mesh.proofs.LineSteps.{no_inner_face, middle_left}
+use Rattle.half_edge_mesh.proofs.LineSteps.{passable, removable_hanging, no_inner_face, middle_left}
 use Rattle.half_edge_mesh.proofs.dcel.Dcel.join_neighbours.Goals as goal
 
 pub half_edge-lost-requires : goal.half_edge-lost-requires

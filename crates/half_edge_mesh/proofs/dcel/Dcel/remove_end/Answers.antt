@@ -1,6 +1,5 @@
 use Rattle.std.proofs.Common.{inr}
-use Rattle.half_edge_mesh.proofs.LineChanges.{after_turn, removable_end}
-use Rattle.half_edge_mesh.proofs.LineSteps.{IsRemovableEnd, no_inner_face, end_left}
+use Rattle.half_edge_mesh.proofs.LineSteps.{after_turn, removable_end, IsRemovableEnd, no_inner_face, end_left}
 use Rattle.half_edge_mesh.proofs.dcel.Dcel.remove_end.Goals as goal
 
 pub remove_edge-requires : goal.remove_edge-requires
