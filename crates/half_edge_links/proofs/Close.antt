@@ -31,7 +31,6 @@ pub corner : (m : Mesh) (e : ℕ) → IsSound m → IsClosable m e → IsCorner 
 corner m e s can =
     let here = s.edges e can.within in
     let second = s.edges (next m e) here.next_in in
-    let before = s.edges (prev m e) here.prev_in in
     let outer = can.outer in
     let differs : next m (next m e) ≢ e = λ same. can.apart (sym second.starts ∙ ap (origin m) same) in
     record {
@@ -43,7 +42,7 @@ corner m e s can =
       before_next = here.next_prev;
       end = second.starts;
       second_outer = here.same_face ∙ outer;
-      before_outer = sym before.same_face ∙ ap (face m) here.next_prev ∙ outer;
+      before_outer = sym (s.edges (prev m e) here.prev_in).same_face ∙ ap (face m) here.next_prev ∙ outer;
       after_outer = second.same_face ∙ here.same_face ∙ outer;
       before-second = λ same. differs (sym (ap (next m) same) ∙ here.next_prev);
       after-first = differs;
@@ -79,12 +78,6 @@ module _ (m new : Mesh) (e : ℕ) (s : IsSound m) (can : IsClosable m e) (i : Cl
   c : IsCorner m e
   c = corner m e s can
 
-  rev_inside : rev (length m.half_edges) ≡ length m.half_edges + 1
-  rev_inside = rev_of_even _ s.even
-
-  rev_outside : rev (length m.half_edges + 1) ≡ length m.half_edges
-  rev_outside = rev_of_odd _ s.even
-
   rev_kept : (h : ℕ) → h < length m.half_edges → origin new (rev h) ≡ origin m (rev h)
   rev_kept h within = i.origins (rev h) (rev_within h _ s.even within)
 
@@ -106,16 +99,15 @@ module _ (m new : Mesh) (e : ℕ) (s : IsSound m) (can : IsClosable m e) (i : Cl
   -- the edges of the new face
   round_sound : IsSoundEdge new e × IsSoundEdge new (next m e) × IsSoundEdge new (length m.half_edges)
   round_sound =
-      let p = c in
-      let off_after : next m e ≢ next m (next m e) = λ q. (s.edges (next m e) p.second_in).proper (sym q) in
+      let off_after : next m e ≢ next m (next m e) = λ q. (s.edges (next m e) c.second_in).proper (sym q) in
       loop_sound new e (next m e) (length m.half_edges) (origin m e) (origin m (next m e)) (origin m (next m (next m e))) (length m.face_edges + 1) (record {
-        first = record { origin = i.origins e can.within; next = i.other_next e can.within (λ q. p.before-first (sym q)) p.first-second; prev = i.prev_first; face = i.face_first };
-        second = record { origin = i.origins _ p.second_in; next = i.next_second; prev = i.other_prev _ p.second_in (λ q. p.first-second (sym q)) off_after ∙ p.second_back; face = i.face_second };
+        first = record { origin = i.origins e can.within; next = i.other_next e can.within (λ q. c.before-first (sym q)) c.first-second; prev = i.prev_first; face = i.face_first };
+        second = record { origin = i.origins _ c.second_in; next = i.next_second; prev = i.other_prev _ c.second_in (λ q. c.first-second (sym q)) off_after ∙ c.second_back; face = i.face_second };
         third = i.inside;
-        within = (omega (arith, more, can.within), omega (arith, more, p.second_in), omega (arith, i.edge_count));
-        apart = (p.first-second, λ q. absurd (omega (arith, q, p.second_in)), λ q. absurd (omega (arith, q, can.within)));
-        ends = (rev_kept e can.within ∙ sym (s.edges e can.within).starts, rev_kept _ p.second_in ∙ sym p.end, ap (origin new) rev_inside ∙ i.outside.origin);
-        busy = (busy e can.within, busy _ p.second_in, busy _ p.after_in);
+        within = (omega (arith, more, can.within), omega (arith, more, c.second_in), omega (arith, i.edge_count));
+        apart = (c.first-second, λ q. absurd (omega (arith, q, c.second_in)), λ q. absurd (omega (arith, q, can.within)));
+        ends = (rev_kept e can.within ∙ sym (s.edges e can.within).starts, rev_kept _ c.second_in ∙ sym c.end, ap (origin new) (rev_of_even (length m.half_edges) s.even) ∙ i.outside.origin);
+        busy = (busy e can.within, busy _ c.second_in, busy _ c.after_in);
         face_in = omega (arith, face_count);
       }) named_new
 
@@ -131,23 +123,22 @@ module _ (m new : Mesh) (e : ℕ) (s : IsSound m) (can : IsClosable m e) (i : Cl
 
   next_ok : (h : ℕ) → h < length new.half_edges → IsNextSound new h
   next_ok h within =
-      let p = c in
       elim (place h within) [
         | inl done ↦ next_of_sound new h done
         | inr (inl is) ↦ rw is (
-            next_at new (length m.half_edges + 1) (next m (next m e)) i.outside.next (omega (arith, more, p.after_in)) i.prev_after (i.origins _ p.after_in ∙ sym (ap (origin new) rev_outside ∙ i.inside.origin))
-            (i.other_faces _ p.after_in p.after-first (s.edges (next m e) p.second_in).proper ∙ p.after_outer ∙ sym i.outside.face) (λ q. absurd (omega (arith, q, p.after_in))))
+            next_at new (length m.half_edges + 1) (next m (next m e)) i.outside.next (omega (arith, more, c.after_in)) i.prev_after (i.origins _ c.after_in ∙ sym (ap (origin new) (rev_of_odd (length m.half_edges) s.even) ∙ i.inside.origin))
+            (i.other_faces _ c.after_in c.after-first (s.edges (next m e) c.second_in).proper ∙ c.after_outer ∙ sym i.outside.face) (λ q. absurd (omega (arith, q, c.after_in))))
         | inr (inr off) ↦
             let here = s.edges h off.0 in
             elim (cases_eq (prev m e) h) [
               | inl same ↦ rw (← same) (
                   next_at new (prev m e) (length m.half_edges + 1) i.next_before (omega (arith, i.edge_count)) i.outside.prev
-                  (i.outside.origin ∙ sym (ap (origin m) p.before_next) ∙ (s.edges _ p.before_in).starts ∙ sym (rev_kept _ p.before_in))
-                  (i.outside.face ∙ sym (i.other_faces _ p.before_in p.before-first p.before-second ∙ p.before_outer)) (λ q. absurd (omega (arith, q, p.before_in))))
+                  (i.outside.origin ∙ sym (ap (origin m) c.before_next) ∙ (s.edges _ c.before_in).starts ∙ sym (rev_kept _ c.before_in))
+                  (i.outside.face ∙ sym (i.other_faces _ c.before_in c.before-first c.before-second ∙ c.before_outer)) (λ q. absurd (omega (arith, q, c.before_in))))
               | inr not_before ↦
                   let off_first : next m h ≢ e = λ q. not_before (ap (prev m) (sym q) ∙ here.prev_next) in
-                  let off_second : next m h ≢ next m e = λ q. off.1 (sym here.prev_next ∙ ap (prev m) q ∙ p.second_back) in
-                  let off_after : next m h ≢ next m (next m e) = λ q. off.2 (sym here.prev_next ∙ ap (prev m) q ∙ p.after_before) in
+                  let off_second : next m h ≢ next m e = λ q. off.1 (sym here.prev_next ∙ ap (prev m) q ∙ c.second_back) in
+                  let off_after : next m h ≢ next m (next m e) = λ q. off.2 (sym here.prev_next ∙ ap (prev m) q ∙ c.after_before) in
                   next_kept m new h here (i.other_next h off.0 (λ q. not_before (sym q)) off.2) (i.other_prev (next m h) here.next_in off_first off_after)
                   (i.origins (next m h) here.next_in) (rev_kept h off.0) (i.other_faces h off.0 off.1 off.2) (i.other_faces (next m h) here.next_in off_first off_second) more
             ]
@@ -156,14 +147,13 @@ module _ (m new : Mesh) (e : ℕ) (s : IsSound m) (can : IsClosable m e) (i : Cl
   inner_ok : (h : ℕ) → h < length m.half_edges → h ≢ e → h ≢ next m e → 0 < face new h → IsInnerSound new h
   inner_ok h within not_first not_second some =
       let here = s.edges h within in
-      let p = c in
       let f = i.other_faces h within not_first not_second in
       let was : 0 < face m h = omega (arith, f, some) in
       inner_kept m new h here was
-      (i.other_next h within (λ q. absurd (omega (arith, was, ap (face m) q, p.before_outer))) not_second)
-      (i.other_prev h within not_first (λ q. absurd (omega (arith, was, ap (face m) q, p.after_outer))))
+      (i.other_next h within (λ q. absurd (omega (arith, was, ap (face m) q, c.before_outer))) not_second)
+      (i.other_prev h within not_first (λ q. absurd (omega (arith, was, ap (face m) q, c.after_outer))))
       f
-      (i.other_next (next m h) here.next_in (λ q. absurd (omega (arith, was, here.same_face, ap (face m) q, p.before_outer))) (λ q. absurd (omega (arith, was, here.same_face, ap (face m) q, p.second_outer))))
+      (i.other_next (next m h) here.next_in (λ q. absurd (omega (arith, was, here.same_face, ap (face m) q, c.before_outer))) (λ q. absurd (omega (arith, was, here.same_face, ap (face m) q, c.second_outer))))
       (named_old (face m h) was here.face_in)
 
   sound_at : (h : ℕ) → h < length new.half_edges → IsSoundEdge new h
@@ -190,8 +180,7 @@ module _ (m new : Mesh) (e : ℕ) (s : IsSound m) (can : IsClosable m e) (i : Cl
   -- an edge of an inner face keeps it
   pub inner_face_kept : (h : ℕ) → h < length m.half_edges → 0 < face m h → face new h ≡ face m h
   inner_face_kept h within some =
-      let p = c in
-      i.other_faces h within (λ q. absurd (omega (arith, some, ap (face m) q, can.outer))) (λ q. absurd (omega (arith, some, ap (face m) q, p.second_outer)))
+      i.other_faces h within (λ q. absurd (omega (arith, some, ap (face m) q, can.outer))) (λ q. absurd (omega (arith, some, ap (face m) q, c.second_outer)))
 
   faces_kept : (k : ℕ) → 0 < k → k ≤ length new.face_edges → (face_edge new k < length new.half_edges) × (face new (face_edge new k) ≡ k)
   faces_kept k some within =

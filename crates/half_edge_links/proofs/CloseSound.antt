@@ -27,32 +27,28 @@ module _ (m : Mesh) (h : ℕ) (s : IsSound m) (can : IsOpenTriangle m h) where
 
   pub round : IsTriangle m h
   round =
-      let at_next = s.edges (next m h) here.next_in in
-      let at_prev = s.edges (prev m h) here.prev_in in
       let three = can.three in
-      let at_h = here in
-      let face_prev : face m (prev m h) ≡ face m h = sym at_prev.same_face ∙ ap (face m) at_h.next_prev in
-      let differs : prev m h ≢ h = λ same. can.proper (sym (ap (next m) same) ∙ at_h.next_prev) in
+      let face_prev : face m (prev m h) ≡ face m h = sym (s.edges (prev m h) here.prev_in).same_face ∙ ap (face m) here.next_prev in
+      let differs : prev m h ≢ h = λ same. can.proper (sym (ap (next m) same) ∙ here.next_prev) in
       record {
         h_in = can.within;
-        next_in = at_h.next_in;
-        prev_in = at_h.prev_in;
+        next_in = here.next_in;
+        prev_in = here.prev_in;
         next_differs = can.proper;
         prev_differs = differs;
-        both_differ = λ same. differs (sym three ∙ ap (next m) same ∙ at_h.next_prev);
-        face_next = at_h.same_face;
+        both_differ = λ same. differs (sym three ∙ ap (next m) same ∙ here.next_prev);
+        face_next = here.same_face;
         face_prev = face_prev;
         next_next = three;
-        next_prev = at_h.next_prev;
-        prev_next = at_h.prev_next;
-        prev_prev = sym (ap (prev m) three) ∙ at_next.prev_next;
+        next_prev = here.next_prev;
+        prev_next = here.prev_next;
+        prev_prev = sym (ap (prev m) three) ∙ (s.edges (next m h) here.next_in).prev_next;
       }
 
   pub closes : ClosesLoop m (loop_closed m h) h
   unfolding loop_closed
   closes =
-      let t = round in
-      let w = sets_loop_face m.half_edges h (length m.face_edges + 1) t.h_in t.next_in t.prev_in in
+      let w = sets_loop_face m.half_edges h (length m.face_edges + 1) round.h_in round.next_in round.prev_in in
       record {
         edge_count = w.count;
         nexts = w.next;
@@ -68,9 +64,8 @@ module _ (m : Mesh) (h : ℕ) (s : IsSound m) (can : IsOpenTriangle m h) where
   module _ (new : Mesh) (c : ClosesLoop m new h) where
     next_off : (k : ℕ) → k < length m.half_edges → (k ≢ h) × (k ≢ next m h) × (k ≢ prev m h) → (next m k ≢ h) × (next m k ≢ next m h) × (next m k ≢ prev m h)
     next_off k within off =
-        let t = round in
         let back = (s.edges k within).prev_next in
-        (λ z. off.2 (sym back ∙ ap (prev m) z), λ z. off.0 (sym back ∙ ap (prev m) z ∙ t.prev_next), λ z. off.1 (sym back ∙ ap (prev m) z ∙ t.prev_prev))
+        (λ z. off.2 (sym back ∙ ap (prev m) z), λ z. off.0 (sym back ∙ ap (prev m) z ∙ round.prev_next), λ z. off.1 (sym back ∙ ap (prev m) z ∙ round.prev_prev))
 
     face_count : length new.face_edges ≡ length m.face_edges + 1
     face_count = ap length c.face_edges ∙ omega (arith, length-append m.face_edges (h ∷ []))
@@ -86,19 +81,18 @@ module _ (m : Mesh) (h : ℕ) (s : IsSound m) (can : IsOpenTriangle m h) where
 
     loop : IsSoundEdge new h × IsSoundEdge new (next m h) × IsSoundEdge new (prev m h)
     loop =
-        let t = round in
         loop_sound new h (next m h) (prev m h) (origin m h) (origin m (next m h)) (origin m (prev m h)) (length m.face_edges + 1) (record {
           first = record { origin = c.origins h; next = c.nexts h; prev = c.prevs h; face = c.here h (inl refl) };
-          second = record { origin = c.origins _; next = c.nexts _ ∙ t.next_next; prev = c.prevs _ ∙ t.prev_next; face = c.here _ (inr (inl refl)) };
-          third = record { origin = c.origins _; next = c.nexts _ ∙ t.next_prev; prev = c.prevs _ ∙ t.prev_prev; face = c.here _ (inr (inr refl)) };
-          within = rw c.edge_count (t.h_in, t.next_in, t.prev_in);
-          apart = (λ q. t.next_differs (sym q), t.both_differ, t.prev_differs);
+          second = record { origin = c.origins _; next = c.nexts _ ∙ round.next_next; prev = c.prevs _ ∙ round.prev_next; face = c.here _ (inr (inl refl)) };
+          third = record { origin = c.origins _; next = c.nexts _ ∙ round.next_prev; prev = c.prevs _ ∙ round.prev_prev; face = c.here _ (inr (inr refl)) };
+          within = rw c.edge_count (round.h_in, round.next_in, round.prev_in);
+          apart = (λ q. round.next_differs (sym q), round.both_differ, round.prev_differs);
           ends = (
             c.origins (rev h) ∙ sym here.starts,
-            c.origins (rev (next m h)) ∙ sym (s.edges _ t.next_in).starts ∙ ap (origin m) t.next_next,
-            c.origins (rev (prev m h)) ∙ sym (s.edges _ t.prev_in).starts ∙ ap (origin m) t.next_prev,
+            c.origins (rev (next m h)) ∙ sym (s.edges _ round.next_in).starts ∙ ap (origin m) round.next_next,
+            c.origins (rev (prev m h)) ∙ sym (s.edges _ round.prev_in).starts ∙ ap (origin m) round.next_prev,
           );
-          busy = (busy h t.h_in, busy _ t.next_in, busy _ t.prev_in);
+          busy = (busy h round.h_in, busy _ round.next_in, busy _ round.prev_in);
           face_in = omega (arith, face_count);
         }) last_named
 
@@ -123,9 +117,8 @@ module _ (m : Mesh) (h : ℕ) (s : IsSound m) (can : IsOpenTriangle m h) where
     -- an edge of another face is not in the loop
     off_by_face : (k : ℕ) → 0 < face m k → (k ≢ h) × (k ≢ next m h) × (k ≢ prev m h)
     off_by_face k some =
-        let t = round in
         let zero = can.outer in
-        (λ z. absurd (omega (arith, ap (face m) z)), λ z. absurd (omega (arith, ap (face m) z, t.face_next)), λ z. absurd (omega (arith, ap (face m) z, t.face_prev)))
+        (λ z. absurd (omega (arith, ap (face m) z)), λ z. absurd (omega (arith, ap (face m) z, round.face_next)), λ z. absurd (omega (arith, ap (face m) z, round.face_prev)))
 
     pub sound_closed : IsSound new
     sound_closed = record {

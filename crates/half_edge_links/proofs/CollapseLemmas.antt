@@ -60,9 +60,8 @@ module _ (m new : Mesh) (z : ℕ) (s : IsSound m) (f : IsFanOfOne m z) (r : Remo
 
   pub prev_border : prev new (name m new z s can r (next m z)) ≡ name m new z s can r (next m (next m (next m z)))
   prev_border =
-      let s' = sound_removed m new z r in
       let n2 = next_twin_before m new z s can r (next m (next m (next m z))) b2 (sym twin_before) in
-      ap (prev new) (sym n2) ∙ (s'.edges _ (name_in m new z s can r _ b2)).prev_next
+      ap (prev new) (sym n2) ∙ ((sound_removed m new z r).edges _ (name_in m new z s can r _ b2)).prev_next
 
   -- what is left is a loop of three edges
   pub open_triangle : IsOpenTriangle new (name m new z s can r (next m z))
@@ -70,16 +69,14 @@ module _ (m new : Mesh) (z : ℕ) (s : IsSound m) (f : IsFanOfOne m z) (r : Remo
       let n1 = next_at m new z s can r (next m (next m z)) b1 (λ q. b1.other_side (q ∙ before)) (λ q. f.apart.2 (sym (q ∙ twin_before))) in
       let k = outer_of m z s f.within in
       let off = f.unnamed k.0 k.1 in
-      let had = s.outer k.0 k.1 in
-      let l : IsLeft m z k.0 = record { within = had.0; other = off.0; other_side = off.1 } in
-      let now = outer_at m new z s can r k.0 l k.1 in
+      let l : IsLeft m z k.0 = record { within = (s.outer k.0 k.1).0; other = off.0; other_side = off.1 } in
       record {
         within = name_in m new z s can r (next m z) b3;
         outer = face_at m new z s can r (next m z) b3 ∙ (s.edges z f.within).same_face ∙ f.outer;
         three = ap (next new) next_border ∙ n1 ∙ sym prev_border;
         proper = λ q. f.apart.0 (name_same m new z s can r _ _ b1 b3 (sym next_border ∙ q));
         unnamed = λ j is.
-            let same = some_same _ _ (sym now ∙ is) in (
+            let same = some_same _ _ (sym (outer_at m new z s can r k.0 l k.1) ∙ is) in (
               λ q. off.2 (name_same m new z s can r _ _ l b3 (same ∙ q)),
               λ q. off.3 (name_same m new z s can r _ _ l b1 (same ∙ q ∙ next_border)),
               λ q. off.4 (name_same m new z s can r _ _ l b2 (same ∙ q ∙ prev_border)),
@@ -122,18 +119,14 @@ module _ (m mid new : Mesh) (a z : ℕ) (s : IsSound m) (f : IsFanOfTwo m a z) (
   pub a_before : prev m a ≡ rev z
   a_before = sym (rev-rev (prev m a)) ∙ ap rev f.spoke
 
-  twin_next : next m (rev a) ≡ z
-  twin_next = f.gap
-
   pub twin_before1 : prev m (rev a) ≡ next m (next m z)
   twin_before1 = ap (prev m) (sym f.round) ∙ (s.edges _ c1_in).prev_next
 
   -- an edge of the outer face is not in the face that goes
   off_a : (k : ℕ) → face m k ≡ 0 → (k ≢ a) × (k ≢ next m a) × (k ≢ prev m a)
   off_a k zero =
-      let t = at_a in
       let some = f.peelable.inner in
-      (λ q. absurd (omega (arith, ap (face m) q)), λ q. absurd (omega (arith, ap (face m) q, t.face_next)), λ q. absurd (omega (arith, ap (face m) q, t.face_prev)))
+      (λ q. absurd (omega (arith, ap (face m) q)), λ q. absurd (omega (arith, ap (face m) q, at_a.face_next)), λ q. absurd (omega (arith, ap (face m) q, at_a.face_prev)))
 
   left : (k : ℕ) → k < length m.half_edges → k ≢ a → k ≢ rev a → IsLeft mid a k
   left k within p q = record { within = rw o.edge_count within; other = p; other_side = q }
@@ -145,14 +138,11 @@ module _ (m mid new : Mesh) (a z : ℕ) (s : IsSound m) (f : IsFanOfTwo m a z) (
   pub z_left : IsLeft mid a z
   z_left = left z f.within (off_a z z_face).0 z_twin
 
-  c3_twin : next m z ≢ rev a
-  c3_twin q = f.off (ap (origin m) (ap (next m) q ∙ f.gap) ∙ f.same)
-
   c1_z : next m (next m z) ≢ z
   c1_z q = f.off (ap (origin m) q ∙ f.same)
 
   pub c3_left : IsLeft mid a (next m z)
-  c3_left = left (next m z) c3_in (off_a _ c3_face).0 c3_twin
+  c3_left = left (next m z) c3_in (off_a _ c3_face).0 (λ q. f.off (ap (origin m) (ap (next m) q ∙ f.gap) ∙ f.same))
 
   pub c1_left : IsLeft mid a (next m (next m z))
   c1_left = left (next m (next m z)) c1_in (off_a _ c1_face).0 (λ q. z_twin (sym f.gap ∙ sym (ap (next m) q) ∙ f.round))
@@ -179,9 +169,6 @@ module _ (m mid new : Mesh) (a z : ℕ) (s : IsSound m) (f : IsFanOfTwo m a z) (
   pub nz : next new (nm z) ≡ nm (next m z)
   nz = step z z_left (λ q. rev_differs z (sym q)) (λ q. c1_z (sym q))
 
-  n3 : next new (nm (next m z)) ≡ nm (next m (next m z))
-  n3 = step (next m z) c3_left (off_w _ c3_face) (λ q. f.apart (sym q))
-
   n1 : next new (nm (next m (next m z))) ≡ nm (next m a)
   n1 = next_twin_before mid new a s1 can1 r (next m (next m z)) c1_left (sym (o.prev (rev a) ∙ twin_before1)) ∙ ap nm (o.next a)
 
@@ -190,9 +177,6 @@ module _ (m mid new : Mesh) (a z : ℕ) (s : IsSound m) (f : IsFanOfTwo m a z) (
 
   n2 : next new (nm (next m a)) ≡ nm (rev z)
   n2 = step (next m a) c2_left c2_w (off_c2 _ c1_face) ∙ ap nm (at_a.next_next ∙ a_before)
-
-  nw : next new (nm (rev z)) ≡ nm z
-  nw = next_before mid new a s1 can1 r (rev z) w_left (sym (o.prev a ∙ a_before)) ∙ ap nm (o.next (rev a) ∙ f.gap)
 
   pub rev_z : rev (nm z) ≡ nm (rev z)
   rev_z = rev_at mid new a s1 can1 r z z_left
@@ -207,7 +191,7 @@ module _ (m mid new : Mesh) (a z : ℕ) (s : IsSound m) (f : IsFanOfTwo m a z) (
   face_zero k within zero = o.other k within (λ q. absurd (omega (arith, zero, inner.0))) (λ q. absurd (omega (arith, zero, inner.0, inner.1))) ∙ zero
 
   pub to1 : next new (next new (nm z)) ≡ nm (next m (next m z))
-  to1 = ap (next new) nz ∙ n3
+  to1 = ap (next new) nz ∙ step (next m z) c3_left (off_w _ c3_face) (λ q. f.apart (sym q))
 
   pub to2 : next new (next new (next new (nm z))) ≡ nm (next m a)
   to2 = ap (next new) to1 ∙ n1
@@ -220,11 +204,10 @@ module _ (m mid new : Mesh) (a z : ℕ) (s : IsSound m) (f : IsFanOfTwo m a z) (
       let un = f.unnamed k.0 k.1 in
       let had = s.outer k.0 k.1 in
       let l : IsLeft mid a k.0 = left k.0 had.0 (off_a k.0 had.1).0 un.0 in
-      let now = outer_at mid new a s1 can1 r k.0 l (o.outer_edge ∙ k.1) in
       record {
         within = name_in mid new a s1 can1 r z z_left;
         outer = face_at mid new a s1 can1 r z z_left ∙ face_zero z f.within z_face;
-        pendant = ap (next new) rev_z ∙ nw;
+        pendant = ap (next new) rev_z ∙ next_before mid new a s1 can1 r (rev z) w_left (sym (o.prev a ∙ a_before)) ∙ ap nm (o.next (rev a) ∙ f.gap);
         ends = λ q. f.ends (sym (origin_now (rev z) w_left) ∙ sym (ap (origin new) rev_z) ∙ sym q ∙ origin_now z z_left ∙ f.same);
         round = ap (next new) to2 ∙ n2 ∙ sym rev_z;
         first_off = (off (next m z) z c3_left z_left c3_z _ nz, λ i. off (next m z) (rev z) c3_left w_left (off_w _ c3_face) _ nz (i ∙ rev_z));
@@ -243,7 +226,7 @@ module _ (m mid new : Mesh) (a z : ℕ) (s : IsSound m) (f : IsFanOfTwo m a z) (
               | inr q ↦ sym old.1 ∙ ap nm q
             ];
         unnamed = λ j is.
-            let to : nm k.0 ≡ j = some_same _ _ (sym now ∙ is) in (
+            let to : nm k.0 ≡ j = some_same _ _ (sym (outer_at mid new a s1 can1 r k.0 l (o.outer_edge ∙ k.1)) ∙ is) in (
               λ q. un.1 (same _ z l z_left (to ∙ q)),
               λ q. off_w k.0 had.1 (same _ (rev z) l w_left (to ∙ q ∙ rev_z)),
               λ q. un.2 (same _ (next m z) l c3_left (to ∙ q ∙ nz)),

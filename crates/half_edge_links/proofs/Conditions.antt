@@ -203,8 +203,7 @@ spoke_at m h s within zero = (within, refl)
 spoke_at m h s within (suc i) =
     let was = spoke_at m h s within i in
     let here = s.edges _ was.0 in
-    let before = s.edges _ here.prev_in in
-    (rev_within _ (length m.half_edges) s.even here.prev_in, sym before.starts ∙ ap (origin m) here.next_prev ∙ was.1)
+    (rev_within _ (length m.half_edges) s.even here.prev_in, sym (s.edges _ here.prev_in).starts ∙ ap (origin m) here.next_prev ∙ was.1)
 
 -- the walk round a vertex is one to one
 pub turn_one : (m : Mesh) → IsSound m → (a b : ℕ) → a < length m.half_edges → b < length m.half_edges → turn m a ≡ turn m b → a ≡ b
@@ -246,13 +245,12 @@ faces_apart m e v within inner same =
     let s = v.sound in
     let t : IsTriangle m e = triangle_at m e s within inner in
     let twin_in = rev_within e _ s.even within in
-    let here = s.edges e within in
     elim (same_loop m e (rev e) s within twin_in inner (sym same)) [
       | inl is ↦ rev_differs e is
       | inr (inl is) ↦
           let back : next m (rev e) ≡ prev m e = ap (next m) is ∙ t.next_next in
           v.apart (prev m e) t.prev_in (ap (origin m) (sym back) ∙ (s.edges (rev e) twin_in).starts ∙ ap (origin m) (rev-rev e ∙ sym t.next_prev) ∙ (s.edges (prev m e) t.prev_in).starts)
-      | inr (inr is) ↦ v.apart (next m e) t.next_in (here.starts ∙ ap (origin m) (is ∙ sym t.next_next) ∙ (s.edges (next m e) t.next_in).starts)
+      | inr (inr is) ↦ v.apart (next m e) t.next_in ((s.edges e within).starts ∙ ap (origin m) (is ∙ sym t.next_next) ∙ (s.edges (next m e) t.next_in).starts)
     ]
 
 -- so an edge with inner faces on both sides has two of them

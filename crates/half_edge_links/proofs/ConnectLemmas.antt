@@ -64,8 +64,7 @@ module _ (m : Mesh) (a b : ℕ) (s : IsSound m) (none : m.half_edges ≡ []) (a_
             rw (← is) (omega arith, sym same)
         | inr (differs, inr other) ↦
             let at = get_or-set_other (set m.out_edges a (Some 0)) b v (Some 1) None differs in
-            let at' = get_or-set_other m.out_edges a v (Some 0) None other in
-            absurd (no_edge_at h (s.vertices v h (sym at' ∙ sym at ∙ named)).0)
+            absurd (no_edge_at h (s.vertices v h (sym (get_or-set_other m.out_edges a v (Some 0) None other) ∙ sym at ∙ named)).0)
       ]
 
   pub sound_connected : IsSound (connected m a b)

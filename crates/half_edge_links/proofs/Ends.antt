@@ -72,29 +72,19 @@ rev_even e k is even = (omega (arith, is, even), grind (arith, common_steps))
 rev_odd : (e k : ℕ) → k ≡ e / 2 → e % 2 ≡ 1 → (e ≡ 2 * k + 1) × (rev e ≡ 2 * k)
 rev_odd e k is odd = (omega (arith, is, odd), grind (arith, common_steps))
 
-along_even : (e a b : ℕ) → e % 2 ≡ 0 → along e a b ≡ record { source = a; target = b }
-along_even e a b even = rw even refl
-
-along_odd : (e a b : ℕ) → e % 2 ≡ 1 → along e a b ≡ record { source = b; target = a }
-along_odd e a b odd = rw odd refl
-
 moved_pair : (m new : Mesh) (e a b k : ℕ) → origin new e ≡ a → origin new (rev e) ≡ b → k ≡ e / 2 → get_or (origins new) (2 * k) 0 ≡ origin new (2 * k) → get_or (origins new) (2 * k + 1) 0 ≡ origin new (2 * k + 1) → (let t : Ends = record { source = get_or (origins new) (2 * k) 0; target = get_or (origins new) (2 * k + 1) 0 } in t) ≡ along e a b
 moved_pair m new e a b k at_e at_twin is o0 o1 =
     elim (parity e) [
       | inl even ↦
           let q = rev_even e k is even in
-          let q0 = q.0 in
-          let q1 = q.1 in
-          let x : get_or (origins new) (2 * k) 0 ≡ a = o0 ∙ ap (origin new) (sym q0) ∙ at_e in
-          let y : get_or (origins new) (2 * k + 1) 0 ≡ b = o1 ∙ ap (origin new) (sym q1) ∙ at_twin in
-          rw (along_even e a b even, x, y) refl
+          let x : get_or (origins new) (2 * k) 0 ≡ a = o0 ∙ ap (origin new) (sym q.0) ∙ at_e in
+          let y : get_or (origins new) (2 * k + 1) 0 ≡ b = o1 ∙ ap (origin new) (sym q.1) ∙ at_twin in
+          rw (even, x, y) refl
       | inr odd ↦
           let q = rev_odd e k is odd in
-          let q0 = q.0 in
-          let q1 = q.1 in
-          let x : get_or (origins new) (2 * k) 0 ≡ b = o0 ∙ ap (origin new) (sym q1) ∙ at_twin in
-          let y : get_or (origins new) (2 * k + 1) 0 ≡ a = o1 ∙ ap (origin new) (sym q0) ∙ at_e in
-          rw (along_odd e a b odd, x, y) refl
+          let x : get_or (origins new) (2 * k) 0 ≡ b = o0 ∙ ap (origin new) (sym q.1) ∙ at_twin in
+          let y : get_or (origins new) (2 * k + 1) 0 ≡ a = o1 ∙ ap (origin new) (sym q.0) ∙ at_e in
+          rw (odd, x, y) refl
     ]
 
 -- edge e gets other ends

@@ -79,13 +79,11 @@ module _ (last hole : ℕ) (last_even : last % 2 ≡ 0) (hole_even : hole % 2 �
           | inl d ↦ rw (ap (pair_moved last hole) d, pair_first last hole) refl
           | inr d ↦ pair_other last hole hole d (λ z. absurd (omega arith))
         ])
-        | inr i ↦ elim i [
-          | inl c ↦ rw (c, pair_second last hole) (elim (cases_eq hole last) [
-            | inl d ↦ rw (ap (λ i. pair_moved last hole (i + 1)) d, pair_second last hole) refl
-            | inr d ↦ pair_other last hole (hole + 1) (λ z. absurd (omega arith)) (λ z. d (omega arith))
-          ])
-          | inr c ↦ rw (pair_other last hole h c.0 c.1, pair_other last hole h c.0 c.1) refl
-        ]
+        | inr (inl c) ↦ rw (c, pair_second last hole) (elim (cases_eq hole last) [
+          | inl d ↦ rw (ap (λ i. pair_moved last hole (i + 1)) d, pair_second last hole) refl
+          | inr d ↦ pair_other last hole (hole + 1) (λ z. absurd (omega arith)) (λ z. d (omega arith))
+        ])
+        | inr (inr c) ↦ rw (pair_other last hole h c.0 c.1, pair_other last hole h c.0 c.1) refl
       ]
 
   pub twice_some : (o : Option ℕ) → renamed (pair_moved last hole) (renamed (pair_moved last hole) o) ≡ renamed (pair_moved last hole) o
@@ -100,10 +98,8 @@ module _ (last hole : ℕ) (last_even : last % 2 ≡ 0) (hole_even : hole % 2 �
       let k : length xs - 1 ≡ last + 1 = omega arith in
       elim (pair_cases hole h) [
         | inl a ↦ rw (a, pair_first hole last) (get_or-swap_remove_same (swap_remove xs (hole + 1) d) hole d (omega arith) ∙ ap (λ i. get_or (swap_remove xs (hole + 1) d) i d) l ∙ get_or-swap_remove_other xs (hole + 1) last d (omega arith) (λ z. absurd (omega arith)))
-        | inr i ↦ elim i [
-          | inl a ↦ rw (a, pair_second hole last) (get_or-swap_remove_other (swap_remove xs (hole + 1) d) hole (hole + 1) d (omega arith) (λ z. absurd (omega arith)) ∙ get_or-swap_remove_same xs (hole + 1) d (omega arith) ∙ ap (λ i. get_or xs i d) k)
-          | inr a ↦ rw (pair_other hole last h a.0 a.1) (get_or-swap_remove_other (swap_remove xs (hole + 1) d) hole h d (omega arith) a.0 ∙ get_or-swap_remove_other xs (hole + 1) h d (omega arith) a.1)
-        ]
+        | inr (inl a) ↦ rw (a, pair_second hole last) (get_or-swap_remove_other (swap_remove xs (hole + 1) d) hole (hole + 1) d (omega arith) (λ z. absurd (omega arith)) ∙ get_or-swap_remove_same xs (hole + 1) d (omega arith) ∙ ap (λ i. get_or xs i d) k)
+        | inr (inr a) ↦ rw (pair_other hole last h a.0 a.1) (get_or-swap_remove_other (swap_remove xs (hole + 1) d) hole h d (omega arith) a.0 ∙ get_or-swap_remove_other xs (hole + 1) h d (omega arith) a.1)
       ]
 
 abbrev out_of : List (Option ℕ) → ℕ → Option ℕ
@@ -114,6 +110,16 @@ is_zero f z x y = rw z refl
 
 not_zero : {X : Type 0} (f : ℕ) → f ≢ 0 → (x y : X) → (if f == 0 then x else y) ≡ y
 not_zero f some x y = grind (arith, nat_tests)
+
+-- a link of edge k where edges a and b, which had links to the two edges that move, were written
+twice_written : (was one two : ℕ → ℕ) (last hole a b k : ℕ) → was a ≡ last → was b ≡ last + 1 → (was k ≡ last → k ≡ a) → (was k ≡ last + 1 → k ≡ b)
+    → one a ≡ hole → ((j : ℕ) → j ≢ a → one j ≡ was j) → two b ≡ hole + 1 → ((j : ℕ) → j ≢ b → two j ≡ one j) → two k ≡ pair_moved last hole (was k)
+twice_written was one two last hole a b k at_a at_b is_a is_b first first_off second second_off =
+    elim (pair_cases last (was k)) [
+      | inl i ↦ second_off k (λ z. absurd (omega (arith, i, ap was z, at_b))) ∙ ap one (is_a i) ∙ first ∙ sym (ap (pair_moved last hole) i ∙ pair_first last hole)
+      | inr (inl i) ↦ ap two (is_b i) ∙ second ∙ sym (ap (pair_moved last hole) i ∙ pair_second last hole)
+      | inr (inr i) ↦ second_off k (λ z. i.1 (ap was z ∙ at_b)) ∙ first_off k (λ z. i.0 (ap was z ∙ at_a)) ∙ sym (pair_other last hole (was k) i.0 i.1)
+    ]
 
 module _ (m : Mesh) (last hole : ℕ) (b : IsSoundBut m hole) (at_last : length m.half_edges ≡ last + 2) where
   last_even : last % 2 ≡ 0
@@ -149,43 +155,21 @@ module _ (m : Mesh) (last hole : ℕ) (b : IsSoundBut m hole) (at_last : length 
   odd_in : last + 1 < length m.half_edges
   odd_in = omega arith
 
-  next_written : (k : ℕ) → k < length m.half_edges → k ≢ hole → k ≢ hole + 1 → next_of second k ≡ to (next m k)
-  next_written k within a c =
-      elim (pair_cases last (next m k)) [
-        | inl i ↦
-            let at = sym (in_range k within).2 ∙ ap (prev m) i in
-            let off : k ≢ prev m (last + 1) = λ z. absurd (omega (arith, i, ap (next m) z ∙ (in_range (last + 1) odd_in).3)) in
-            next_both_other first (prev m (last + 1)) (hole + 1) (next m (last + 1)) (hole + 1) k off
-            ∙ ap (next_of first) at ∙ next_both m.half_edges (prev m last) hole (next m last) hole (in_range last last_in).1
-            ∙ sym (ap (pair_moved last hole) i ∙ pair_first last hole)
-        | inr (inl i) ↦
-            let at = sym (in_range k within).2 ∙ ap (prev m) i in
-            ap (next_of second) at ∙ next_both first (prev m (last + 1)) (hole + 1) (next m (last + 1)) (hole + 1) (rw (length_both m.half_edges (prev m last) hole (next m last) hole) (in_range (last + 1) odd_in).1)
-            ∙ sym (ap (pair_moved last hole) i ∙ pair_second last hole)
-        | inr (inr i) ↦
-            next_both_other first (prev m (last + 1)) (hole + 1) (next m (last + 1)) (hole + 1) k (λ z. i.1 (ap (next m) z ∙ (in_range (last + 1) odd_in).3))
-            ∙ next_both_other m.half_edges (prev m last) hole (next m last) hole k (λ z. i.0 (ap (next m) z ∙ (in_range last last_in).3))
-            ∙ sym (pair_other last hole (next m k) i.0 i.1)
-      ]
+  next_written : (k : ℕ) → k < length m.half_edges → next_of second k ≡ to (next m k)
+  next_written k within =
+      twice_written (next m) (next_of first) (next_of second) last hole (prev m last) (prev m (last + 1)) k (in_range last last_in).3 (in_range (last + 1) odd_in).3
+      (λ i. sym (in_range k within).2 ∙ ap (prev m) i) (λ i. sym (in_range k within).2 ∙ ap (prev m) i)
+      (next_both m.half_edges (prev m last) hole (next m last) hole (in_range last last_in).1) (next_both_other m.half_edges (prev m last) hole (next m last) hole)
+      (next_both first (prev m (last + 1)) (hole + 1) (next m (last + 1)) (hole + 1) (rw (length_both m.half_edges (prev m last) hole (next m last) hole) (in_range (last + 1) odd_in).1))
+      (next_both_other first (prev m (last + 1)) (hole + 1) (next m (last + 1)) (hole + 1))
 
-  prev_written : (k : ℕ) → k < length m.half_edges → k ≢ hole → k ≢ hole + 1 → prev_of second k ≡ to (prev m k)
-  prev_written k within a c =
-      elim (pair_cases last (prev m k)) [
-        | inl i ↦
-            let at = sym (in_range k within).3 ∙ ap (next m) i in
-            let off : k ≢ next m (last + 1) = λ z. absurd (omega (arith, i, ap (prev m) z ∙ (in_range (last + 1) odd_in).2)) in
-            prev_both_other first (prev m (last + 1)) (hole + 1) (next m (last + 1)) (hole + 1) k off
-            ∙ ap (prev_of first) at ∙ prev_both m.half_edges (prev m last) hole (next m last) hole (in_range last last_in).0
-            ∙ sym (ap (pair_moved last hole) i ∙ pair_first last hole)
-        | inr (inl i) ↦
-            let at = sym (in_range k within).3 ∙ ap (next m) i in
-            ap (prev_of second) at ∙ prev_both first (prev m (last + 1)) (hole + 1) (next m (last + 1)) (hole + 1) (rw (length_both m.half_edges (prev m last) hole (next m last) hole) (in_range (last + 1) odd_in).0)
-            ∙ sym (ap (pair_moved last hole) i ∙ pair_second last hole)
-        | inr (inr i) ↦
-            prev_both_other first (prev m (last + 1)) (hole + 1) (next m (last + 1)) (hole + 1) k (λ z. i.1 (ap (prev m) z ∙ (in_range (last + 1) odd_in).2))
-            ∙ prev_both_other m.half_edges (prev m last) hole (next m last) hole k (λ z. i.0 (ap (prev m) z ∙ (in_range last last_in).2))
-            ∙ sym (pair_other last hole (prev m k) i.0 i.1)
-      ]
+  prev_written : (k : ℕ) → k < length m.half_edges → prev_of second k ≡ to (prev m k)
+  prev_written k within =
+      twice_written (prev m) (prev_of first) (prev_of second) last hole (next m last) (next m (last + 1)) k (in_range last last_in).2 (in_range (last + 1) odd_in).2
+      (λ i. sym (in_range k within).3 ∙ ap (next m) i) (λ i. sym (in_range k within).3 ∙ ap (next m) i)
+      (prev_both m.half_edges (prev m last) hole (next m last) hole (in_range last last_in).0) (prev_both_other m.half_edges (prev m last) hole (next m last) hole)
+      (prev_both first (prev m (last + 1)) (hole + 1) (next m (last + 1)) (hole + 1) (rw (length_both m.half_edges (prev m last) hole (next m last) hole) (in_range (last + 1) odd_in).0))
+      (prev_both_other first (prev m (last + 1)) (hole + 1) (next m (last + 1)) (hole + 1))
 
   second_count : length second ≡ last + 2
   second_count = length_both first (prev m (last + 1)) (hole + 1) (next m (last + 1)) (hole + 1) ∙ length_both m.half_edges (prev m last) hole (next m last) hole ∙ at_last
@@ -206,8 +190,8 @@ module _ (m : Mesh) (last hole : ℕ) (b : IsSoundBut m hole) (at_last : length 
       let g_in : old h < length m.half_edges = omega (arith, live.0) in
       record {
         origin = ap (λ (e : HalfEdge). e.origin) at ∙ origin_both first (prev m (last + 1)) (hole + 1) (next m (last + 1)) (hole + 1) (old h) ∙ origin_both m.half_edges (prev m last) hole (next m last) hole (old h);
-        next = ap (λ (e : HalfEdge). e.next) at ∙ next_written (old h) g_in live.1 live.2;
-        prev = ap (λ (e : HalfEdge). e.prev) at ∙ prev_written (old h) g_in live.1 live.2;
+        next = ap (λ (e : HalfEdge). e.next) at ∙ next_written (old h) g_in;
+        prev = ap (λ (e : HalfEdge). e.prev) at ∙ prev_written (old h) g_in;
         face = ap (λ (e : HalfEdge). e.face) at ∙ face_both first (prev m (last + 1)) (hole + 1) (next m (last + 1)) (hole + 1) (old h) ∙ face_both m.half_edges (prev m last) hole (next m last) hole (old h);
       }
 
@@ -298,11 +282,10 @@ module _ (m : Mesh) (last hole : ℕ) (b : IsSoundBut m hole) (at_last : length 
 
   pub renames_filled : Renames m (filled m last hole) (edge_naming last hole)
   renames_filled =
-      let n = counts in
       record {
-        even = rw n.0 last_even;
+        even = rw counts.0 last_even;
         edges = λ h within.
-            let h_in : h < last = omega (arith, n.0) in
+            let h_in : h < last = omega (arith, counts.0) in
             let live = old_left last hole last_even b.hole_even below h h_in in
             let g_in : old h < length m.half_edges = omega (arith, live.0) in
             let here = b.edges (old h) g_in live.1 live.2 in
@@ -315,20 +298,20 @@ module _ (m : Mesh) (last hole : ℕ) (b : IsSoundBut m hole) (at_last : length 
               next_kept = kept (next m (old h)) here.next_in nn.0 nn.1;
               prev_kept = kept (prev m (old h)) here.prev_in pp.0 pp.1;
               rev_is = old_rev last hole last_even b.hole_even below h;
-              origin_in = rw n.1 here.origin_in;
+              origin_in = rw counts.1 here.origin_in;
               origin_back = refl;
-              face_in = rw n.2 here.face_in;
+              face_in = rw counts.2 here.face_in;
               face_kept = λ some. (some, refl);
             };
         vertices = λ v within. record {
-          out = outs v (rw n.1 at within);
+          out = outs v (rw counts.1 at within);
           kept = λ h is. let had = b.vertices v h is in (kept h had.0 had.2 had.3, had.1);
           back = refl;
         };
         faces = λ f some within.
-            let had = b.faces f some (rw n.2 at within) in
+            let had = b.faces f some (rw counts.2 at within) in
             record {
-              named = named f some (rw n.2 at within);
+              named = named f some (rw counts.2 at within);
               kept = kept _ had.0 had.2 had.3;
               of = had.1;
               back = refl;
@@ -336,5 +319,5 @@ module _ (m : Mesh) (last hole : ℕ) (b : IsSoundBut m hole) (at_last : length 
         outer = outer_is;
         outer_kept = λ h is. let had = b.outer h is in (kept h had.0 had.2 had.3, had.1);
         outer_face = refl;
-        has_outer = λ some. b.has_outer (omega (arith, n.0));
+        has_outer = λ some. b.has_outer (omega (arith, counts.0));
       }

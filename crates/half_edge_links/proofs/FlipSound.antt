@@ -30,33 +30,44 @@ module _ (m new : Mesh) (e : ℕ) (s : IsSound m) (can : IsFlippable m e) (f : F
   pub right : IsTriangle m (rev e)
   right = triangle_at m (rev e) s six.b_in can.twin_inner
 
-  pub next_away : (h : ℕ) → h < length m.half_edges → IsAway m e h → IsAway m e (next m h)
-  next_away h within a =
-      let here = (s.edges h within).prev_next in
+  -- an edge of another face is none of the six
+  pub away_by_face : (h : ℕ) → face m h ≢ face m e → face m h ≢ face m (rev e) → IsAway m e h
+  away_by_face h a b =
       let l = left in
       let r = right in
       record {
-        edge = λ same. a.edge_prev (cc);
-        twin = λ same. a.twin_prev (cc);
-        edge_next = λ same. a.edge (cc);
-        twin_next = λ same. a.twin (cc);
-        edge_prev = λ same. a.edge_next (cc);
-        twin_prev = λ same. a.twin_next (cc);
+        edge = λ same. a (cc);
+        twin = λ same. b (cc);
+        edge_next = λ same. a (cc);
+        twin_next = λ same. b (cc);
+        edge_prev = λ same. a (cc);
+        twin_prev = λ same. b (cc);
       }
+
+  away_face : (h : ℕ) → h < length m.half_edges → IsAway m e h → (face m h ≢ face m e) × (face m h ≢ face m (rev e))
+  away_face h within a = (
+    λ same. elim (same_loop m e h s can.within within can.inner same) [
+      | inl x ↦ a.edge x
+      | inr y ↦ elim y [ inl x ↦ a.edge_next x | inr x ↦ a.edge_prev x ]
+    ],
+    λ same. elim (same_loop m (rev e) h s six.b_in within can.twin_inner same) [
+      | inl x ↦ a.twin x
+      | inr y ↦ elim y [ inl x ↦ a.twin_next x | inr x ↦ a.twin_prev x ]
+    ],
+  )
+
+  pub next_away : (h : ℕ) → h < length m.half_edges → IsAway m e h → IsAway m e (next m h)
+  next_away h within a =
+      let differ = away_face h within a in
+      let same = sym (s.edges h within).same_face in
+      away_by_face (next m h) (λ q. differ.0 (same ∙ q)) (λ q. differ.1 (same ∙ q))
 
   pub prev_away : (h : ℕ) → h < length m.half_edges → IsAway m e h → IsAway m e (prev m h)
   prev_away h within a =
-      let here = (s.edges h within).next_prev in
-      let l = left in
-      let r = right in
-      record {
-        edge = λ same. a.edge_next (cc);
-        twin = λ same. a.twin_next (cc);
-        edge_next = λ same. a.edge_prev (cc);
-        twin_next = λ same. a.twin_prev (cc);
-        edge_prev = λ same. a.edge (cc);
-        twin_prev = λ same. a.twin (cc);
-      }
+      let here = s.edges h within in
+      let differ = away_face h within a in
+      let same = ap (face m) (sym here.next_prev) ∙ (s.edges (prev m h) here.prev_in).same_face in
+      away_by_face (prev m h) (λ q. differ.0 (same ∙ q)) (λ q. differ.1 (same ∙ q))
 
   pub kept : (h : ℕ) → IsAway m e h → edge_at new.half_edges h ≡ edge_at m.half_edges h
   kept h a = f.other_edges h a.edge a.twin a.edge_next a.twin_next a.edge_prev a.twin_prev
@@ -87,18 +98,6 @@ module _ (m new : Mesh) (e : ℕ) (s : IsSound m) (can : IsFlippable m e) (f : F
         | inr b ↦ elim b [ inl c ↦ rw c.1 refl | inr c ↦ rw c.1 refl ]
       ]
 
-  away_face : (h : ℕ) → h < length m.half_edges → IsAway m e h → 0 < face m h → (face m h ≢ face m e) × (face m h ≢ face m (rev e))
-  away_face h within a inner = (
-    λ same. elim (same_loop m e h s can.within within can.inner same) [
-      | inl x ↦ a.edge x
-      | inr y ↦ elim y [ inl x ↦ a.edge_next x | inr x ↦ a.edge_prev x ]
-    ],
-    λ same. elim (same_loop m (rev e) h s six.b_in within can.twin_inner same) [
-      | inl x ↦ a.twin x
-      | inr y ↦ elim y [ inl x ↦ a.twin_next x | inr x ↦ a.twin_prev x ]
-    ],
-  )
-
   sound_away : (h : ℕ) → h < length m.half_edges → IsAway m e h → IsSoundEdge new h
   sound_away h within a =
       let here = s.edges h within in
@@ -107,7 +106,7 @@ module _ (m new : Mesh) (e : ℕ) (s : IsSound m) (can : IsFlippable m e) (f : F
         at_next = kept (next m h) (next_away h within a);
         at_prev = kept (prev m h) (prev_away h within a);
         at_rev = origin_kept (rev h) (λ same. a.twin (sym (rev-rev h) ∙ ap rev same)) (λ same. a.edge (sym (rev-rev h) ∙ ap rev same ∙ rev-rev e));
-        named = λ some. let differ = away_face h within a some in f.other_faces (face m h) some differ.0 differ.1;
+        named = λ some. let differ = away_face h within a in f.other_faces (face m h) some differ.0 differ.1;
         out = has_out (origin m h) here.has_out;
         edges = omega (arith, f.edge_count);
         vertices = omega (arith, f.vertex_count);
@@ -123,23 +122,19 @@ module _ (m new : Mesh) (e : ℕ) (s : IsSound m) (can : IsFlippable m e) (f : F
 
   left_sound : IsSoundEdge new e × IsSoundEdge new (prev m (rev e)) × IsSoundEdge new (next m e)
   left_sound =
-      let l = left in
-      let r = right in
       loop_sound new e (prev m (rev e)) (next m e) (origin m (prev m e)) (origin m (prev m (rev e))) (origin m (next m e)) (face m e) (record {
         first = f.edge;
         second = f.twin_prev;
         third = f.edge_next;
         within = rw f.edge_count (six.a_in, six.f_in, six.c_in);
         apart = (six.af, λ q. six.cf (sym q), λ q. six.ac (sym q));
-        ends = (f.twin.origin, end_kept (prev m (rev e)) six.f_in (λ q. six.af (sym q)) (λ q. six.bf (sym q)) ∙ ap (origin m) r.next_prev ∙ sym (s.edges e six.a_in).starts, end_kept (next m e) six.c_in (λ q. six.ac (sym q)) (λ q. six.bc (sym q)) ∙ ap (origin m) l.next_next);
+        ends = (f.twin.origin, end_kept (prev m (rev e)) six.f_in (λ q. six.af (sym q)) (λ q. six.bf (sym q)) ∙ ap (origin m) right.next_prev ∙ sym (s.edges e six.a_in).starts, end_kept (next m e) six.c_in (λ q. six.ac (sym q)) (λ q. six.bc (sym q)) ∙ ap (origin m) left.next_next);
         busy = (busy (prev m e) six.e_in, busy (prev m (rev e)) six.f_in, busy (next m e) six.c_in);
         face_in = rw f.face_count (s.edges e six.a_in).face_in;
       }) f.left_face
 
   right_sound : IsSoundEdge new (rev e) × IsSoundEdge new (prev m e) × IsSoundEdge new (next m (rev e))
   right_sound =
-      let l = left in
-      let r = right in
       let start : origin m (next m (rev e)) ≡ origin m e = (s.edges (rev e) six.b_in).starts ∙ ap (origin m) (rev-rev e) in
       loop_sound new (rev e) (prev m e) (next m (rev e)) (origin m (prev m (rev e))) (origin m (prev m e)) (origin m (next m (rev e))) (face m (rev e)) (record {
         first = f.twin;
@@ -147,7 +142,7 @@ module _ (m new : Mesh) (e : ℕ) (s : IsSound m) (can : IsFlippable m e) (f : F
         third = f.twin_next;
         within = rw f.edge_count (six.b_in, six.e_in, six.d_in);
         apart = (six.be, λ q. six.de (sym q), λ q. six.bd (sym q));
-        ends = (ap (origin new) (rev-rev e) ∙ f.edge.origin, end_kept (prev m e) six.e_in (λ q. six.ae (sym q)) (λ q. six.be (sym q)) ∙ ap (origin m) l.next_prev ∙ sym start, end_kept (next m (rev e)) six.d_in (λ q. six.ad (sym q)) (λ q. six.bd (sym q)) ∙ ap (origin m) r.next_next);
+        ends = (ap (origin new) (rev-rev e) ∙ f.edge.origin, end_kept (prev m e) six.e_in (λ q. six.ae (sym q)) (λ q. six.be (sym q)) ∙ ap (origin m) left.next_prev ∙ sym start, end_kept (next m (rev e)) six.d_in (λ q. six.ad (sym q)) (λ q. six.bd (sym q)) ∙ ap (origin m) right.next_next);
         busy = (busy (prev m (rev e)) six.f_in, busy (prev m e) six.e_in, busy (next m (rev e)) six.d_in);
         face_in = rw f.face_count (s.edges (rev e) six.b_in).face_in;
       }) f.right_face
@@ -188,20 +183,6 @@ module _ (m new : Mesh) (e : ℕ) (s : IsSound m) (can : IsFlippable m e) (f : F
             let side = (s.edges e six.a_in).starts in
             (omega (arith, six.c_in, f.edge_count), cc (f.edge_next.origin))
       ]
-
-  -- an edge of another face is none of the six
-  pub away_by_face : (h : ℕ) → face m h ≢ face m e → face m h ≢ face m (rev e) → IsAway m e h
-  away_by_face h a b =
-      let l = left in
-      let r = right in
-      record {
-        edge = λ same. a (cc);
-        twin = λ same. b (cc);
-        edge_next = λ same. a (cc);
-        twin_next = λ same. b (cc);
-        edge_prev = λ same. a (cc);
-        twin_prev = λ same. b (cc);
-      }
 
   faces_kept : (g : ℕ) → 0 < g → g ≤ length new.face_edges → (face_edge new g < length new.half_edges) × (face new (face_edge new g) ≡ g)
   faces_kept g some within =

@@ -25,19 +25,13 @@ module _ (m new : Mesh) (e : ℕ) (s : IsSound m) (can : IsFlippable m e) (f : F
   right_triangle : triangle_at new (rev e) ≡ record { first = origin m (prev m (rev e)); second = origin m (prev m e); third = origin m (next m (rev e)) }
   right_triangle = let a = f.twin in let b = f.edge_prev in let c = f.twin_next in cc
 
-  edge_face_in : face m e ≤ length m.face_edges
-  edge_face_in = (s.edges e can.within).face_in
-
-  twin_face_in : face m (rev e) ≤ length m.face_edges
-  twin_face_in = (s.edges (rev e) (six m new e s can f).b_in).face_in
-
   at_index : (k : ℕ) (d : Triangle) → k < length (triangles new) → get_or (triangles new) k d ≡ get_or (set (set (triangles m) (face m e - 1) (triangle_at new e)) (face m (rev e) - 1) (triangle_at new (rev e))) k d
   at_index k d within =
       let count = f.face_count in
       let in_new : k < length new.face_edges = omega (arith, length-map new.face_edges (triangle_at new)) in
       let in_old : k < length m.face_edges = omega (arith, f.face_count) in
-      let left_in = edge_face_in in
-      let right_in = twin_face_in in
+      let left_in = (s.edges e can.within).face_in in
+      let right_in = (s.edges (rev e) (six m new e s can f).b_in).face_in in
       let read = get_or-map (triangle_at new) new.face_edges k 0 d in_new in
       let was = get_or-map (triangle_at m) m.face_edges k 0 d in_old in
       let some_left : 0 < face m e = can.inner in

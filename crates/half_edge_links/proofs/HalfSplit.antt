@@ -63,8 +63,7 @@ module _ (m mid : Mesh) (e v : ℕ) (s : IsSound m) (half : IsHalfSplittable m e
 
   near : origin mid (next mid (rev e)) ≡ origin m e
   near =
-      let twin = s.edges (rev e) (rev_within e _ s.even half.within) in
-      ap (origin mid) i.edge.next ∙ i.there.origin ∙ twin.starts ∙ ap (origin m) (rev-rev e)
+      ap (origin mid) i.edge.next ∙ i.there.origin ∙ (s.edges (rev e) (rev_within e _ s.even half.within)).starts ∙ ap (origin m) (rev-rev e)
 
   pub corners_beside : IsAlone m v → origin mid (prev mid e) ≢ origin mid (prev mid (rev e))
   corners_beside alone same = differs_alone m (prev m e) v s (s.edges e half.within).prev_in alone (sym apex_is ∙ same ∙ new_corner)

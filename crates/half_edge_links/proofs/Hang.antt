@@ -19,9 +19,6 @@ module _ (hs : List HalfEdge) (x y v : ℕ) (x_in : x < length hs) (y_in : y < l
   abbrev written : List HalfEdge
   written = with_prev first y (length hs + 1)
 
-  y_first : y < length first
-  y_first = rw length-with_next y_in
-
   length-written : length written ≡ length hs
   length-written = length-with_prev first y _ ∙ length-with_next hs x _
 
@@ -40,7 +37,7 @@ module _ (hs : List HalfEdge) (x y v : ℕ) (x_in : x < length hs) (y_in : y < l
   next_other h within differs = ap (λ (q : HalfEdge). q.next) (before h within) ∙ next-with_prev first y _ h ∙ ap (λ (q : HalfEdge). q.next) (other-with_next hs x _ h differs)
 
   prev_y : (edge_at (hung_edges hs x y v (length hs)) y).prev ≡ length hs + 1
-  prev_y = ap (λ (q : HalfEdge). q.prev) (before y y_in) ∙ prev-with_prev first y _ y_first
+  prev_y = ap (λ (q : HalfEdge). q.prev) (before y y_in) ∙ prev-with_prev first y _ (rw length-with_next y_in)
 
   prev_other : (h : ℕ) → h < length hs → h ≢ y → (edge_at (hung_edges hs x y v (length hs)) h).prev ≡ (edge_at hs h).prev
   prev_other h within differs = ap (λ (q : HalfEdge). q.prev) (before h within) ∙ ap (λ (q : HalfEdge). q.prev) (other-with_prev first y _ h differs) ∙ prev-with_next hs x _ h
@@ -87,12 +84,6 @@ module _ (m new : Mesh) (x v : ℕ) (s : IsSound m) (outer : IsOuter m x) (alone
   pub after_outer : face m (next m x) ≡ 0
   after_outer = at_x.same_face ∙ outer.1
 
-  rev_there : rev (length m.half_edges) ≡ length m.half_edges + 1
-  rev_there = rev_of_even _ s.even
-
-  rev_back : rev (length m.half_edges + 1) ≡ length m.half_edges
-  rev_back = rev_of_odd _ s.even
-
   rev_kept : (h : ℕ) → h < length m.half_edges → origin new (rev h) ≡ origin m (rev h)
   rev_kept h within = i.origins (rev h) (rev_within h _ s.even within)
 
@@ -112,10 +103,10 @@ module _ (m new : Mesh) (x v : ℕ) (s : IsSound m) (outer : IsOuter m x) (alone
   next_ok h within =
       elim (cases_eq (length m.half_edges) h or_else cases_eq (length m.half_edges + 1) h) [
         | inl same ↦ rw (← same) (
-            next_at new (length m.half_edges) (length m.half_edges + 1) i.there.next (omega (arith, i.edge_count)) i.back.prev (sym (ap (origin new) rev_there)) (i.back.face ∙ sym i.there.face)
+            next_at new (length m.half_edges) (length m.half_edges + 1) i.there.next (omega (arith, i.edge_count)) i.back.prev (sym (ap (origin new) (rev_of_even (length m.half_edges) s.even))) (i.back.face ∙ sym i.there.face)
             (λ q. absurd (omega arith)))
         | inr (not_there, inl same) ↦ rw (← same) (
-            next_at new (length m.half_edges + 1) (next m x) i.back.next (omega (arith, at_x.next_in, more)) i.prev_at (i.origins _ at_x.next_in ∙ sym (ap (origin new) rev_back ∙ i.there.origin))
+            next_at new (length m.half_edges + 1) (next m x) i.back.next (omega (arith, at_x.next_in, more)) i.prev_at (i.origins _ at_x.next_in ∙ sym (ap (origin new) (rev_of_odd (length m.half_edges) s.even) ∙ i.there.origin))
             (i.faces _ at_x.next_in ∙ at_x.same_face ∙ sym i.back.face) (λ q. absurd (omega (arith, at_x.next_in, q))))
         | inr (not_there, inr not_back) ↦
             let h_in : h < length m.half_edges = omega (arith, i.edge_count) in

@@ -59,25 +59,30 @@ module _ (m new : Mesh) (v f a n g : ℕ) (s : IsSound m) (inner : IsInnerEdge m
   pub kept : (h : ℕ) → h < n → IsAway m a h → edge_at new.half_edges h ≡ edge_at m.half_edges h
   kept h within w = i.other_edges h within w.first w.second w.third
 
-  pub next_away : (h : ℕ) → h < n → IsAway m a h → IsAway m a (next m h)
-  next_away h within w =
-      let here = (s.edges h (rw (← at_n) within)).prev_next in
+  pub away_by_face : (h : ℕ) → face m h ≢ f → IsAway m a h
+  away_by_face h differs =
       let t = round in
+      let is = face_of in
       record {
-        first = λ same. w.third (cc);
-        second = λ same. w.first (cc);
-        third = λ same. w.second (cc);
+        first = λ same. differs (cc);
+        second = λ same. differs (cc);
+        third = λ same. differs (cc);
       }
+
+  face_differs : (h : ℕ) → h < n → IsAway m a h → face m h ≢ f
+  face_differs h within w same =
+      elim (same_loop m a h s inner.0 (rw (← at_n) within) inner.1 (same ∙ at_f)) [
+        | inl x ↦ w.first x
+        | inr y ↦ elim y [ inl x ↦ w.second x | inr x ↦ w.third x ]
+      ]
+
+  pub next_away : (h : ℕ) → h < n → IsAway m a h → IsAway m a (next m h)
+  next_away h within w = away_by_face (next m h) (λ q. face_differs h within w (sym (s.edges h (rw (← at_n) within)).same_face ∙ q))
 
   pub prev_away : (h : ℕ) → h < n → IsAway m a h → IsAway m a (prev m h)
   prev_away h within w =
-      let here = (s.edges h (rw (← at_n) within)).next_prev in
-      let t = round in
-      record {
-        first = λ same. w.second (cc);
-        second = λ same. w.third (cc);
-        third = λ same. w.first (cc);
-      }
+      let here = s.edges h (rw (← at_n) within) in
+      away_by_face (prev m h) (λ q. face_differs h within w (ap (face m) (sym here.next_prev) ∙ (s.edges (prev m h) here.prev_in).same_face ∙ q))
 
   pub origin_kept : (h : ℕ) → h < n → origin new h ≡ origin m h
   origin_kept h within =
@@ -94,13 +99,6 @@ module _ (m new : Mesh) (v f a n g : ℕ) (s : IsSound m) (inner : IsInnerEdge m
   rev_in : (h : ℕ) → h < n → rev h < n
   rev_in h within = rev_within h n n_even within
 
-  face_differs : (h : ℕ) → h < n → IsAway m a h → 0 < face m h → face m h ≢ f
-  face_differs h within w some same =
-      elim (same_loop m a h s inner.0 (rw (← at_n) within) inner.1 (same ∙ at_f)) [
-        | inl x ↦ w.first x
-        | inr y ↦ elim y [ inl x ↦ w.second x | inr x ↦ w.third x ]
-      ]
-
   sound_away : (h : ℕ) → h < n → IsAway m a h → IsSoundEdge new h
   sound_away h within w =
       let within' : h < length m.half_edges = omega arith in
@@ -110,7 +108,7 @@ module _ (m new : Mesh) (v f a n g : ℕ) (s : IsSound m) (inner : IsInnerEdge m
         at_next = kept (next m h) (omega (arith, here.next_in)) (next_away h within w);
         at_prev = kept (prev m h) (omega (arith, here.prev_in)) (prev_away h within w);
         at_rev = origin_kept (rev h) (rev_in h within);
-        named = λ some. i.kept_faces (face m h) some (omega (arith, here.face_in)) (face_differs h within w some);
+        named = λ some. i.kept_faces (face m h) some (omega (arith, here.face_in)) (face_differs h within w);
         out = has_out (origin m h) here.has_out;
         edges = omega (arith, i.edge_count);
         vertices = omega (arith, i.vertex_count);
@@ -163,16 +161,6 @@ module _ (m new : Mesh) (v f a n g : ℕ) (s : IsSound m) (inner : IsInnerEdge m
 
   vertices_kept : (u h : ℕ) → out_edge new u ≡ Some h → (h < length new.half_edges) × (origin new h ≡ u)
   vertices_kept = still_named m new v (n + 1) i.out i.other_outs s (omega (arith, i.edge_count)) i.to_first.origin (λ h within off. (omega (arith, i.edge_count, at_n, within), origin_kept h (omega (arith, at_n, within))))
-
-  pub away_by_face : (h : ℕ) → face m h ≢ f → IsAway m a h
-  away_by_face h differs =
-      let t = round in
-      let is = face_of in
-      record {
-        first = λ same. differs (cc);
-        second = λ same. differs (cc);
-        third = λ same. differs (cc);
-      }
 
   faces_kept : (k : ℕ) → 0 < k → k ≤ length new.face_edges → (face_edge new k < length new.half_edges) × (face new (face_edge new k) ≡ k)
   faces_kept k some within =

@@ -36,6 +36,8 @@ pub mod StarsInsert
 pub mod StarsSlide
 pub mod Cases
 pub mod Apart
+pub mod LineSound
+pub mod MovedInWalk
 pub mod Valid
 pub mod FieldWrites
 pub mod Conditions

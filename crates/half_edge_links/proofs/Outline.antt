@@ -13,7 +13,10 @@ use Rattle.half_edge_links.proofs.StarsRound.{stand_in, stands_first, stands_sec
 use Rattle.half_edge_links.proofs.KeepsOuter.{outer_flipped}
 use Rattle.half_edge_links.proofs.KeepsOuterInsert.{outer_inserted}
 use Rattle.half_edge_links.proofs.Close.{IsCorner, corner}
-use Rattle.half_edge_links.proofs.Slide.{IsTail, tail}
+use Rattle.half_edge_links.proofs.Slide.{IsTail, tail, end_moves}
+use Rattle.half_edge_links.proofs.LineSound.{face_zero, zero_after}
+use Rattle.half_edge_links.proofs.MovedInWalk as walk
+use Rattle.half_edge_links.proofs.MovedInWalk.{IsMoved}
 use Rattle.half_edge_links.proofs.FlipSound as turning
 use Rattle.half_edge_links.proofs.Triangles.{IsTriangle, triangle_at}
 
@@ -184,66 +187,56 @@ outline_closed m new e s can i one among closed h g h_in g_in h_outer g_outer is
     (close_lies m new e s can i among closed h (omega (arith, h_in, i.edge_count)) h_outer)
     (close_lies m new e s can i among closed g (omega (arith, g_in, i.edge_count)) g_outer) is
 
-module _ (m new : Mesh) (e : ℕ) (s : IsSound m) (can : IsSlidable m e) (i : Slides m new e (next m e) (next m (next m e))) (among : ℕ → Bool) (closed : IsClosedAlong new among) where
+-- one edge is moved along the outer face of a mesh without inner faces
+module _ (m new : Mesh) (t p q r s : ℕ) (none : (h : ℕ) → h < length m.half_edges → face m h ≡ 0) (still : (h : ℕ) → h < length m.half_edges → face new h ≡ 0) (count : length new.half_edges ≡ length m.half_edges) (s_in : s < length m.half_edges) (w : IsMoved (length m.half_edges) (next m) (next new) t p q r s) where
+  moved_lies : (among : ℕ → Bool) (on : (h : ℕ) → h < length m.half_edges → among h ≡ true → among (next new h) ≡ true) (k : ℕ) → k < length m.half_edges → LiesAlong m (walk.before (length m.half_edges) (next m) (next new) t p q r s w among on) among k
+  moved_lies among on k within =
+      elim (cases_eq k t) [
+        | inl same ↦ record {
+          behind = r;
+          behind_in = w.r_in;
+          behind_outer = none r w.r_in;
+          comes = λ is. ap among same ∙ walk.to_moved _ (next m) (next new) t p q r s w among on is;
+          ahead = s;
+          ahead_in = s_in;
+          ahead_outer = none s s_in;
+          goes = λ is. walk.from_moved _ (next m) (next new) t p q r s w among on (ap among (sym same) ∙ is);
+        }
+        | inr off ↦ lies_as m _ among k k within (none k within) (walk.plain _ (next m) (next new) t p q r s w among on k off)
+      ]
+
+  pub outline_in_walk : KeepsOneOutline m new
+  outline_in_walk one among closed h g h_in g_in h_outer g_outer is =
+      let on : (k : ℕ) → k < length m.half_edges → among k ≡ true → among (next new k) ≡ true = λ k within. closed k (rw count within) (still k within) in
+      let old_closed = λ (k : ℕ) (within : k < length m.half_edges) (outer : face m k ≡ 0). walk.closed_before _ (next m) (next new) t p q r s w among on k within in
+      outlines m (walk.before (length m.half_edges) (next m) (next new) t p q r s w among on) among one old_closed h g (moved_lies among on h (rw count at h_in)) (moved_lies among on g (rw count at g_in)) is
+
+module _ (m new : Mesh) (e : ℕ) (s : IsSound m) (can : IsSlidable m e) (i : Slides m new e (next m e) (next m (next m e))) where
   t : IsTail m e
   t = tail m e s can
 
-  no_inner : (h : ℕ) → h < length m.half_edges → face m h ≡ 0
-  no_inner h within = omega (arith, (s.edges h within).face_in, ap length can.one_face)
+  -- the edge that is passed stands before the other side of e now
+  there_moves : IsMoved (length m.half_edges) (next m) (next new) (next m e) e (next m (next m e)) (prev m (rev e)) (rev e)
+  there_moves = record {
+    t_in = t.there_in;
+    p_in = can.within;
+    r_in = t.before_in;
+    was_after = refl;
+    was_before = refl;
+    were_joined = t.before_next;
+    are_joined = i.next_edge;
+    is_after = i.next_before;
+    is_before = i.next_there;
+    q_off = t.back-there;
+    r_off = t.before-there;
+    s_off = λ q. t.there-twin (sym q);
+    other = λ h within a b c. (i.other_next h within b c a, λ q. b (sym (s.edges h within).prev_next ∙ ap (prev m) q ∙ t.there_prev));
+  }
 
-  step : (h k : ℕ) → h < length m.half_edges → next new h ≡ k → among h ≡ true → among k ≡ true
-  step h k within at is = ap among (sym at) ∙ closed h (omega (arith, within, i.edge_count)) (i.faces h within ∙ no_inner h within) is
-
-  -- the edge that is passed stands for the one after it
-  slide_before : ℕ → Bool
-  slide_before k = stand_in among (next m e) (next m e) (next m (next m e)) (next m (next m e)) k
-
-  slide_first : (k : ℕ) → k ≡ next m e → slide_before k ≡ among (next m (next m e))
-  unfolding slide_before
-  slide_first k is = stands_first among (next m e) (next m e) _ _ k is
-
-  slide_plain : (k : ℕ) → k ≢ next m e → slide_before k ≡ among k
-  unfolding slide_before
-  slide_plain k a = stands_other among (next m e) (next m e) _ _ k a a
-
-  slide_closed : IsClosedAlong m slide_before
-  slide_closed h within none is =
-      let p = t in
-      let here = s.edges h within in
-      elim (cases_eq h (next m e)) [
-        | inl same ↦ ap (λ k. slide_before (next m k)) same ∙ slide_plain _ p.back-there ∙ sym (slide_first h same) ∙ is
-        | inr a ↦
-            let on : among h ≡ true = sym (slide_plain h a) ∙ is in
-            elim (cases_eq h e or_else cases_eq h (prev m (rev e))) [
-              | inl same ↦ slide_first (next m h) (ap (next m) same) ∙ step e _ can.within i.next_edge (ap among (sym same) ∙ on)
-              | inr (b, inl same) ↦
-                  ap (λ k. slide_before (next m k)) same ∙ ap slide_before p.before_next ∙ slide_plain _ (λ q. p.there-twin (sym q)) ∙ step (next m e) (rev e) p.there_in i.next_there (step (prev m (rev e)) (next m e) p.before_in i.next_before (ap among (sym same) ∙ on))
-              | inr (b, inr d) ↦ slide_plain (next m h) (λ q. b (sym here.prev_next ∙ ap (prev m) q ∙ p.there_prev)) ∙ step h (next m h) within (i.other_next h within b d a) on
-            ]
-      ]
-
-  slide_lies : (k : ℕ) → k < length m.half_edges → LiesAlong m slide_before among k
-  slide_lies k within =
-      let p = t in
-      elim (cases_eq k (next m e)) [
-        | inl same ↦ record {
-          behind = prev m (rev e);
-          behind_in = p.before_in;
-          behind_outer = no_inner _ p.before_in;
-          comes = λ on. ap among same ∙ step (prev m (rev e)) (next m e) p.before_in i.next_before (sym (slide_plain _ p.before-there) ∙ on);
-          ahead = rev e;
-          ahead_in = p.twin_in;
-          ahead_outer = no_inner _ p.twin_in;
-          goes = λ on. slide_plain _ (λ q. p.there-twin (sym q)) ∙ step (next m e) (rev e) p.there_in i.next_there (ap among (sym same) ∙ on);
-        }
-        | inr off ↦ lies_as m slide_before among k k within (no_inner k within) (slide_plain k off)
-      ]
-
-pub outline_slid : (m new : Mesh) (e : ℕ) → IsSound m → IsSlidable m e → Slides m new e (next m e) (next m (next m e)) → KeepsOneOutline m new
-outline_slid m new e s can i one among closed h g h_in g_in h_outer g_outer is =
-    outlines m (slide_before m new e s can i among closed) among one (slide_closed m new e s can i among closed) h g
-    (slide_lies m new e s can i among closed h (omega (arith, h_in, i.edge_count)))
-    (slide_lies m new e s can i among closed g (omega (arith, g_in, i.edge_count))) is
+  pub outline_slid : KeepsOneOutline m new
+  outline_slid =
+      let moves = end_moves m new e s can i in
+      outline_in_walk m new (next m e) e (next m (next m e)) (prev m (rev e)) (rev e) (face_zero m new e _ s moves) (zero_after m new e _ s moves) i.edge_count t.twin_in there_moves
 
 pub outline_connected : (m : Mesh) (a b : ℕ) → HasOneOutline (connected m a b)
 outline_connected m a b among closed zero zero h_in g_in p q is = is

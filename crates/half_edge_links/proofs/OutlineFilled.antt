@@ -132,14 +132,13 @@ module _ (m two three : Mesh) (to : ℕ → ℕ) (a z : ℕ) (s : IsSound two) (
       let rev_z = fan.rev_z two p.opened three a z s f p.opens p.removes in
       same_hole m three (λ h. nm' (to h)) _ (InThree three (nm' z))
       (λ j over.
-      let k = over.edge in
       let l = over.left in
       elim over.was [
         | inl (inl q) ↦ absurd (l.other_side q)
         | inl (inr (inl q)) ↦ inl (sym over.is ∙ ap nm' q)
         | inl (inr (inr (inl q))) ↦ inr (inr (inl (sym over.is ∙ ap nm' q ∙ sym nz)))
         | inl (inr (inr (inr q))) ↦ inr (inr (inr (inl (sym over.is ∙ ap nm' q ∙ sym to1))))
-        | inr b ↦ elim (same_loop two a k s at_a.h_in b.0 f.peelable.inner b.1) [
+        | inr b ↦ elim (same_loop two a over.edge s at_a.h_in b.0 f.peelable.inner b.1) [
           | inl q ↦ absurd (l.other q)
           | inr (inl q) ↦ inr (inr (inr (inr (sym over.is ∙ ap nm' q ∙ sym to2))))
           | inr (inr q) ↦ inr (inl (sym over.is ∙ ap nm' (q ∙ fan.a_before two p.opened three a z s f p.opens p.removes) ∙ sym rev_z))

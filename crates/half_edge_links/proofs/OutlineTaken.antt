@@ -74,16 +74,14 @@ module _ (m mid new : Mesh) (h : ℕ) (s : IsSound m) (can : IsHullEdge m h) (o 
   -- an outer edge is none of the face that goes
   off_face : (k : ℕ) → face m k ≡ 0 → (k ≢ h) × (k ≢ next m h) × (k ≢ prev m h)
   off_face k outer =
-      let p = t in
-      (λ q. absurd (omega (arith, outer, ap (face m) q, can.inner)), λ q. absurd (omega (arith, outer, ap (face m) q, p.face_next, can.inner)), λ q. absurd (omega (arith, outer, ap (face m) q, p.face_prev, can.inner)))
+      (λ q. absurd (omega (arith, outer, ap (face m) q, can.inner)), λ q. absurd (omega (arith, outer, ap (face m) q, t.face_next, can.inner)), λ q. absurd (omega (arith, outer, ap (face m) q, t.face_prev, can.inner)))
 
   to_third : among (nm (next m h)) ≡ true → among (nm (prev m h)) ≡ true
   to_third =
-      let p = t in
       let twin = s.edges (rev h) twin_in in
       let before_twin : face m (prev m (rev h)) ≡ 0 = sym (s.edges _ twin.prev_in).same_face ∙ ap (face m) twin.next_prev ∙ can.outer in
-      step (next m h) (prev m h) second (o.gone _ p.next_in p.face_next)
-      (next_at mid new h sm gap r _ second (λ q. p.both_differ (q ∙ o.prev h)) (λ q. (off_face _ before_twin).1 (sym (q ∙ o.prev (rev h)))) ∙ ap nm (o.next _ ∙ p.next_next))
+      step (next m h) (prev m h) second (o.gone _ t.next_in t.face_next)
+      (next_at mid new h sm gap r _ second (λ q. t.both_differ (q ∙ o.prev h)) (λ q. (off_face _ before_twin).1 (sym (q ∙ o.prev (rev h)))) ∙ ap nm (o.next _ ∙ t.next_next))
 
   past_third : among (nm (prev m h)) ≡ true → among (nm (next m (rev h))) ≡ true
   past_third = step (prev m h) (next m (rev h)) third (o.gone _ t.prev_in t.face_prev) (next_before mid new h sm gap r _ third (sym (o.prev h)) ∙ ap nm (o.next (rev h)))
@@ -93,7 +91,6 @@ module _ (m mid new : Mesh) (h : ℕ) (s : IsSound m) (can : IsHullEdge m h) (o 
 
   closed_before : IsClosedAlong m before
   closed_before k within outer is =
-      let here = s.edges k within in
       let twin = s.edges (rev h) twin_in in
       elim (cases_eq k (rev h)) [
         | inl same ↦ ap (λ j. before (next m j)) same ∙ to_end (sym (at_twin k same) ∙ is)
@@ -103,7 +100,7 @@ module _ (m mid new : Mesh) (h : ℕ) (s : IsSound m) (can : IsHullEdge m h) (o 
             elim (cases_eq k (prev m (rev h))) [
               | inl same ↦ at_twin (next m k) (ap (next m) same ∙ twin.next_prev) ∙ step k (next m h) l (still k within outer) (next_twin_before mid new h sm gap r k l (same ∙ sym (o.prev (rev h))) ∙ ap nm (o.next h)) on
               | inr b ↦
-                  plain (next m k) (λ q. b (sym here.prev_next ∙ ap (prev m) q))
+                  plain (next m k) (λ q. b (sym (s.edges k within).prev_next ∙ ap (prev m) q))
                   ∙ step k (next m k) l (still k within outer) (next_at mid new h sm gap r k l (λ q. (off_face k outer).2 (q ∙ o.prev h)) (λ q. b (q ∙ o.prev (rev h))) ∙ ap nm (o.next k)) on
             ]
       ]
@@ -181,12 +178,11 @@ module _ (m new : Mesh) (e : ℕ) (s : IsSound m) (can : IsUnlinkable m e) (r : 
   free_closed : IsClosedAlong m free_before
   free_closed k within outer is =
       let here = s.edges k within in
-      let last = s.edges b b_in in
       elim (cases_eq k a or_else cases_eq k b) [
         | inl same ↦ free_second (next m k) (ap (next m) same ∙ free) ∙ sym (free_first k same) ∙ is
         | inr (p, inl same) ↦ elim (cases_eq (next m b) a) [
           | inl whole ↦ free_first (next m k) (ap (next m) same ∙ whole) ∙ sym (free_second k same) ∙ is
-          | inr off ↦ ap (λ j. free_before (next m j)) same ∙ free_plain (next m b) off last.proper ∙ sym (free_second k same) ∙ is
+          | inr off ↦ ap (λ j. free_before (next m j)) same ∙ free_plain (next m b) off (s.edges b b_in).proper ∙ sym (free_second k same) ∙ is
         ]
         | inr (p, inr q) ↦
             let l = other k within p q in

@@ -151,14 +151,13 @@ first_sound : (m : Mesh) (a b c x y z f : ℕ) → IsLoop m a b c x y z f → (f
 first_sound m a b c x y z f l named =
     let p = l.first in
     let q = l.second in
-    let r = l.third in
     record {
       next_in = rw p.next l.within.1;
       prev_in = rw p.prev l.within.2;
       origin_in = rw p.origin l.busy.0.within;
       face_in = rw p.face l.face_in;
       prev_next = ap (prev m) p.next ∙ q.prev;
-      next_prev = ap (next m) p.prev ∙ r.next;
+      next_prev = ap (next m) p.prev ∙ l.third.next;
       starts = ap (origin m) p.next ∙ q.origin ∙ sym l.ends.0;
       same_face = ap (face m) p.next ∙ q.face ∙ sym p.face;
       three = λ some. ap (next m) p.next ∙ q.next ∙ sym p.prev;

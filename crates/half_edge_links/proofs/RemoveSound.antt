@@ -1,9 +1,9 @@
 -- Removing an edge keeps a mesh sound.
 use Rattle.std.proofs.Common.{◌≡◌, ℕ, ◌+◌, ◌-◌, ◌%◌, ◌<◌, ◌≤◌, List, length, ap, ◌∙◌, arith}
 use Rattle.half_edge_links.specs.declared.records.HalfEdge.{HalfEdge}
-use Rattle.half_edge_links.specs.Mesh.{Mesh, IsSmall, edge_at, rev, IsSound}
-use Rattle.half_edge_links.specs.Remove.{with_unlinked, unlinked, removed, edge_naming, IsSoundBut, Removes}
-use Rattle.half_edge_links.proofs.Conditions.{IsUnlinkable}
+use Rattle.half_edge_links.specs.Mesh.{Mesh, IsSmall, edge_at, rev, IsSound, IsValid}
+use Rattle.half_edge_links.specs.Remove.{with_unlinked, unlinked, removed, edge_naming, IsRemovable, IsSoundBut, Removes}
+use Rattle.half_edge_links.proofs.Conditions.{IsUnlinkable, unlinkable}
 use Rattle.half_edge_links.proofs.RenameSound.{sound_renamed}
 use Rattle.half_edge_links.proofs.UnlinkSound.{unlinks, sound_but}
 use Rattle.half_edge_links.proofs.FillSound.{renames_filled, counts, in_range}
@@ -22,7 +22,7 @@ module _ (m : Mesh) (e : ℕ) (s : IsSound m) (can : IsUnlinkable m e) where
   at_last : length (unlinked m e).half_edges ≡ length m.half_edges - 2 + 2
   at_last = let even = s.even in omega (arith, (unlinks m e s can).edge_count, can.within)
 
-  pub in_range_unlinked : (k : ℕ) → k < length m.half_edges → IsInRange m (with_unlinked m.half_edges e (rev e)) k
+  in_range_unlinked : (k : ℕ) → k < length m.half_edges → IsInRange m (with_unlinked m.half_edges e (rev e)) k
   unfolding unlinked
   in_range_unlinked k within =
       let u = unlinks m e s can in
@@ -48,6 +48,14 @@ module _ (m : Mesh) (e : ℕ) (s : IsSound m) (can : IsUnlinkable m e) where
         vertex_count = n.1 ∙ u.vertex_count;
         face_count = n.2 ∙ ap length u.face_edges;
       }
+
+-- in the list whose edge e was taken out, the last edge and its other side name what there is
+pub last_in_range : (m : Mesh) (e t n : ℕ) (hs : List HalfEdge) → IsValid m → IsRemovable m e → t ≡ rev e → n ≡ length m.half_edges → hs ≡ with_unlinked m.half_edges e t → IsInRange m hs (n - 2) × IsInRange m hs (n - 2 + 1)
+last_in_range m e t n hs v can at_t at_n is =
+    let full = unlinkable m e v can in
+    let within = full.within in
+    let even = v.sound.even in
+    rw (is, at_t) (in_range_unlinked m e v.sound full (n - 2) (omega arith), in_range_unlinked m e v.sound full (n - 2 + 1) (omega arith))
 
 pub sound_removed : (m new : Mesh) (e : ℕ) → Removes m new e → IsSound new
 sound_removed m new e r = sound_renamed r.between new (edge_naming (length m.half_edges - 2) (e - e % 2)) r.renames

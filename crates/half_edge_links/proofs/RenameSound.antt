@@ -57,8 +57,7 @@ module _ (old new : Mesh) (r : Naming) (n : Renames old new r) where
               | inr y ↦ elim y [ inl x ↦ inr (inl (cc (at_h.face, named, same, x, at_h.next))) | inr x ↦ inr (inr (cc (at_h.face, named, same, x, at_h.prev))) ]
             ];
         has_out =
-            let vertex = n.vertices (r.vertex (origin old g)) here.origin_in in
-            rw (at_h.origin, vertex.out, here.origin_back) (is_some r.edge _ was.has_out);
+            rw (at_h.origin, (n.vertices (r.vertex (origin old g)) here.origin_in).out, here.origin_back) (is_some r.edge _ was.has_out);
       }
 
   sound_vertex : (v k : ℕ) → out_edge new v ≡ Some k → (k < length new.half_edges) × (origin new k ≡ v)
@@ -68,9 +67,8 @@ module _ (old new : Mesh) (r : Naming) (n : Renames old new r) where
             let vertex = n.vertices v within in
             let was = some_was r.edge _ k (sym vertex.out ∙ named) in
             let kept = vertex.kept was.0 was.1 in
-            let links = (kept_edge was.0 kept.0).links in
             let is = was.2 in
-            (rw (← is) kept.0.within, rw (← is) (links.origin ∙ ap r.vertex kept.1 ∙ vertex.back))
+            (rw (← is) kept.0.within, rw (← is) ((kept_edge was.0 kept.0).links.origin ∙ ap r.vertex kept.1 ∙ vertex.back))
         | inr past ↦
             let none = get_or_past new.out_edges v None past in
             absurd (cc)
@@ -83,13 +81,11 @@ module _ (old new : Mesh) (r : Naming) (n : Renames old new r) where
     vertices = sound_vertex;
     faces = λ f some within.
         let here = n.faces f some within in
-        let links = (kept_edge _ here.kept).links in
-        (rw here.named here.kept.within, rw here.named (links.face ∙ ap r.face here.of ∙ here.back));
+        (rw here.named here.kept.within, rw here.named ((kept_edge _ here.kept).links.face ∙ ap r.face here.of ∙ here.back));
     outer = λ k named.
         let was = some_was r.edge _ k (sym n.outer ∙ named) in
         let kept = n.outer_kept was.0 was.1 in
-        let links = (kept_edge was.0 kept.0).links in
         let is = was.2 in
-        (rw (← is) kept.0.within, rw (← is) (links.face ∙ ap r.face kept.1 ∙ n.outer_face));
+        (rw (← is) kept.0.within, rw (← is) ((kept_edge was.0 kept.0).links.face ∙ ap r.face kept.1 ∙ n.outer_face));
     has_outer = λ some. rw n.outer (is_some r.edge _ (n.has_outer some));
   }

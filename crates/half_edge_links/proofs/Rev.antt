@@ -1,5 +1,5 @@
 -- The other side of a directed edge.
-use Rattle.std.proofs.Common.{◌≡◌, ◌≢◌, ℕ, ◌%◌, ◌<◌, arith}
+use Rattle.std.proofs.Common.{◌≡◌, ◌≢◌, ℕ, ◌%◌, ◌<◌, sym, ap, ◌∙◌, arith}
 use Rattle.std.proofs.lemmas.Grind.{common_steps}
 use Rattle.half_edge_links.specs.Mesh.{rev}
 
@@ -11,3 +11,6 @@ rev_differs h = grind (arith, common_steps)
 
 pub rev_within : (h n : ℕ) → n % 2 ≡ 0 → h < n → rev h < n
 rev_within h n even within = grind (arith, common_steps)
+
+pub rev_same : (h g : ℕ) → rev h ≡ rev g → h ≡ g
+rev_same h g same = sym (rev-rev h) ∙ ap rev same ∙ rev-rev g

@@ -139,11 +139,9 @@ moved_back m new v s alone c h g h_in g_in same =
     let last : ℕ = length m.out_edges - 1 in
     let at_h = c.origins h h_in in
     let at_g = c.origins g g_in in
-    let off_h = differs_alone m h v s h_in alone in
-    let off_g = differs_alone m g v s g_in alone in
     elim (cases_eq (origin m h) last each_with cases_eq (origin m g) last) [
       | inl (a, inl b) ↦ a ∙ sym b
-      | inl (a, inr b) ↦ absurd (off_g (sym (at_g ∙ moved_miss last v _ b) ∙ sym same ∙ at_h ∙ moved_hit last v _ a))
-      | inr (a, inl b) ↦ absurd (off_h (sym (at_h ∙ moved_miss last v _ a) ∙ same ∙ at_g ∙ moved_hit last v _ b))
+      | inl (a, inr b) ↦ absurd ((differs_alone m g v s g_in alone) (sym (at_g ∙ moved_miss last v _ b) ∙ sym same ∙ at_h ∙ moved_hit last v _ a))
+      | inr (a, inl b) ↦ absurd ((differs_alone m h v s h_in alone) (sym (at_h ∙ moved_miss last v _ a) ∙ same ∙ at_g ∙ moved_hit last v _ b))
       | inr (a, inr b) ↦ sym (at_h ∙ moved_miss last v _ a) ∙ same ∙ at_g ∙ moved_miss last v _ b
     ]

@@ -181,8 +181,6 @@ module _ (m new : Mesh) (e : ℕ) (s : IsSound m) (can : IsFlippable m e) (f : F
 
   flip_lies : (k : ℕ) → k < length m.half_edges → LiesRound m new before among k
   flip_lies k within =
-      let l = left m new e s can f in
-      let r = right m new e s can f in
       elim (cases_eq k e or_else cases_eq k (rev e)) [
         | inl same ↦ record {
           behind = prev m e;
@@ -191,7 +189,7 @@ module _ (m new : Mesh) (e : ℕ) (s : IsSound m) (can : IsFlippable m e) (f : F
           comes = λ is. ap among same ∙ to_edge (sym (plain (prev m e) (neq _ _ p.ae) (neq _ _ p.be)) ∙ is);
           ahead = rev (next m e);
           ahead_in = rev_within _ _ s.even p.c_in;
-          ahead_origin = ap (origin new) same ∙ f.edge.origin ∙ ap (origin m) (sym l.next_next) ∙ (s.edges (next m e) p.c_in).starts;
+          ahead_origin = ap (origin new) same ∙ f.edge.origin ∙ ap (origin m) (sym (left m new e s can f).next_next) ∙ (s.edges (next m e) p.c_in).starts;
           goes = λ is. plain_rev (next m e) (neq _ _ p.ac) (neq _ _ p.bc) (from_edge (ap among (sym same) ∙ is));
         }
         | inr (a, inl same) ↦ record {
@@ -201,7 +199,7 @@ module _ (m new : Mesh) (e : ℕ) (s : IsSound m) (can : IsFlippable m e) (f : F
           comes = λ is. ap among same ∙ to_twin (sym (plain (prev m (rev e)) (neq _ _ p.af) (neq _ _ p.bf)) ∙ is);
           ahead = rev (next m (rev e));
           ahead_in = rev_within _ _ s.even p.d_in;
-          ahead_origin = ap (origin new) same ∙ f.twin.origin ∙ ap (origin m) (sym r.next_next) ∙ (s.edges (next m (rev e)) p.d_in).starts;
+          ahead_origin = ap (origin new) same ∙ f.twin.origin ∙ ap (origin m) (sym (right m new e s can f).next_next) ∙ (s.edges (next m (rev e)) p.d_in).starts;
           goes = λ is. plain_rev (next m (rev e)) (neq _ _ p.ad) (neq _ _ p.bd) (from_twin (ap among (sym same) ∙ is));
         }
         | inr (a, inr b) ↦ lies_kept m new before among k within (origin_kept m new e s can f k a b) (plain k a b)

@@ -40,9 +40,6 @@ module _ (m mid new : Mesh) (h k : ℕ) (s : IsSound m) (f : IsFullStrip m h (su
   pub s1 : IsSound mid
   s1 = sound_opened m mid (face m h) s inner_h o
 
-  s2 : IsSound new
-  s2 = sound_removed mid new h r
-
   abbrev pub nm : ℕ → ℕ
   nm g = name mid new h s1 can r g
 
@@ -51,9 +48,6 @@ module _ (m mid new : Mesh) (h k : ℕ) (s : IsSound m) (f : IsFullStrip m h (su
 
   tri : IsTriangle m h
   tri = triangle_at m h s f.within inner_h.0
-
-  h_twin : rev h < length m.half_edges
-  h_twin = rev_within h (length m.half_edges) s.even f.within
 
   -- the other side of the spoke after spoke i is before it, and has its face
   twin_next : (i : ℕ) → rev (spoke m h (suc i)) ≡ prev m (spoke m h i)
@@ -87,7 +81,7 @@ module _ (m mid new : Mesh) (h k : ℕ) (s : IsSound m) (f : IsFullStrip m h (su
 
   twin_before_face : face m (prev mid (rev h)) ≡ 0
   twin_before_face =
-      let here = s.edges (rev h) h_twin in
+      let here = s.edges (rev h) (rev_within h (length m.half_edges) s.even f.within) in
       ap (face m) (o.prev (rev h)) ∙ sym (s.edges _ here.prev_in).same_face ∙ ap (face m) here.next_prev ∙ f.outer
 
   -- the walk round the vertex, but for its first edge
@@ -98,7 +92,7 @@ module _ (m mid new : Mesh) (h k : ℕ) (s : IsSound m) (f : IsFullStrip m h (su
       let off_p : rev (spoke m h (suc (suc i))) ≢ prev mid h = λ q. other_face i (omega arith) (sym (twin_face (suc i)) ∙ ap (face m) (q ∙ before) ∙ twin_face 0) in
       let off_x : rev (spoke m h (suc (suc i))) ≢ prev mid (rev h) = λ q. absurd (omega (arith, some, twin_face (suc i), ap (face m) q, twin_before_face)) in
       let n : next new (nm (rev (spoke m h (suc (suc i))))) ≡ nm (spoke m h (suc i)) = next_at mid new h s1 can r _ l off_p off_x ∙ ap nm (o.next _ ∙ ap (next m) (twin_next (suc i)) ∙ (s.edges _ (at (suc i)).0).next_prev) in
-      let b : prev new (nm (spoke m h (suc i))) ≡ nm (rev (spoke m h (suc (suc i)))) = ap (prev new) (sym n) ∙ (s2.edges _ (name_in mid new h s1 can r _ l)).prev_next in
+      let b : prev new (nm (spoke m h (suc i))) ≡ nm (rev (spoke m h (suc (suc i)))) = ap (prev new) (sym n) ∙ ((sound_removed mid new h r).edges _ (name_in mid new h s1 can r _ l)).prev_next in
       ap rev b ∙ rev_at mid new h s1 can r _ l ∙ ap nm (rev-rev (spoke m h (suc (suc i))))
 
   pub spokes : (i : ℕ) → i ≤ k → spoke new (nm (turn m h)) i ≡ nm (spoke m h (suc i))
@@ -133,12 +127,11 @@ module _ (m mid new : Mesh) (h k : ℕ) (s : IsSound m) (f : IsFullStrip m h (su
               | inr z ↦ f.apart 0 k (omega arith) (omega arith) (sym tri.face_next ∙ ap (face m) same ∙ twin_face k)
             ]
         | inr off_x ↦
-            let n = next_at mid new h s1 can r _ l off_p off_x ∙ ap nm (o.next _) in
             let here = s.edges _ (at (suc k)).0 in
             let n_left = left (next m (spoke m h (suc k))) here.next_in
             (λ z. off_p (sym here.prev_next ∙ ap (prev m) z ∙ sym (o.prev h)))
             (λ z. off_x (sym here.prev_next ∙ ap (prev m) z ∙ sym (o.prev (rev h)))) in
-            f.far (name_same mid new h s1 can r _ _ n_left t (sym n ∙ q))
+            f.far (name_same mid new h s1 can r _ _ n_left t (sym (next_at mid new h s1 can r _ l off_p off_x ∙ ap nm (o.next _)) ∙ q))
       ]
 
   only_at : (g i was : ℕ) → was ≢ h → i ≤ suc k → was ≡ spoke m h i → nm was ≡ g → (j : ℕ) × (j ≤ k) × (g ≡ spoke new (nm (turn m h)) j)
@@ -175,9 +168,8 @@ module _ (m mid new : Mesh) (h k : ℕ) (s : IsSound m) (f : IsFullStrip m h (su
 -- the strip that is left after one step of the code
 pub strip_from : (m new : Mesh) (h k at : ℕ) → IsSound m → IsFullStrip m h (suc k) → Peels m new h → at ≡ after_removal m h (turn m h) → IsFullStrip new at k
 strip_from m new h k at s f p is =
-    let g = strip_less m p.opened new h k s f p.opens p.removes in
     let same : at ≡ pair_moved (length p.opened.half_edges - 2) (h - h % 2) (turn m h) = is ∙ ap (λ n. pair_moved (n - 2) (h - h % 2) (turn m h)) (sym p.opens.edge_count) in
-    rw same g
+    rw same (strip_less m p.opened new h k s f p.opens p.removes)
 
 -- its edges end where the same edges ended before
 pub strip_ends : (m new : Mesh) (h k at : ℕ) → IsSound m → IsFullStrip m h (suc k) → Peels m new h → at ≡ after_removal m h (turn m h) → (origin new at ≡ origin m h) × ((i : ℕ) → i ≤ k → origin new (rev (spoke new at i)) ≡ origin m (rev (spoke m h (suc i))))

@@ -82,9 +82,7 @@ module _ (m new : Mesh) (e : ℕ) (s : IsSound m) (can : IsUnlinkable m e) (r : 
 
   pub rev_at : (k : ℕ) → IsLeft m e k → rev (name k) ≡ name (rev k)
   rev_at k l =
-      let in_new = name_in k l in
-      let even = r.renames.even in
-      let o = old_at (rev (name k)) (rev_within (name k) (length new.half_edges) even in_new) in
+      let o = old_at (rev (name k)) (rev_within (name k) (length new.half_edges) r.renames.even (name_in k l)) in
       sym o.1 ∙ ap (pair_moved last hole) (old_rev last hole last_even hole_even below (name k) ∙ ap rev (kept_left k l).back)
 
   pub outer_at : (k : ℕ) → IsLeft m e k → m.outer_edge ≡ Some k → new.outer_edge ≡ Some (name k)

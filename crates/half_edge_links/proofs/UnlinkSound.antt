@@ -126,21 +126,6 @@ after_cases h e t n p =
 
 -- what the rest of a mesh is when edge e, with other side t, was taken out
 module _ (m new : Mesh) (e : ℕ) (s : IsSound m) (can : IsUnlinkable m e) (u : Unlinks m new e (rev e)) where
-  t : ℕ
-  t = rev e
-
-  abbrev p : ℕ
-  p = prev m e
-
-  abbrev q : ℕ
-  q = next m e
-
-  abbrev x : ℕ
-  x = prev m (rev e)
-
-  abbrev y : ℕ
-  y = next m (rev e)
-
   pub t_in : rev e < length m.half_edges
   t_in = rev_within e (length m.half_edges) s.even can.within
 

@@ -35,9 +35,6 @@ pub record HasWalked (old new : List HalfEdge) (first v i h : ℕ) : Type 0 wher
   pub further : (j : ℕ) → 0 < j → j ≤ i → iterate (turn_of old) j first ≢ first
 
 module _ (old new : List HalfEdge) (first v i h : ℕ) (c : CanWalk old) (w : HasWalked old new first v i h) where
-  abbrev T : ℕ → ℕ
-  T = turn_of old
-
   h_in : h < length new
   h_in = rw w.count w.place_in
 
@@ -116,10 +113,6 @@ module _ (m new : Mesh) (v : ℕ) (s : IsSound m) (alone : IsAlone m v) (c : Mov
   pub vertex_count : length new.out_edges + 1 ≡ length m.out_edges
   vertex_count = let e = ap length c.out_edges in omega (arith, length-swap_remove m.out_edges v None, alone.0)
 
-  -- no edge starts at a vertex without edges
-  pub off_alone : (h : ℕ) → h < length m.half_edges → origin m h ≢ v
-  off_alone h within = differs_alone m h v s within alone
-
   kept : (h : ℕ) → h < length m.half_edges → IsKeptEdge new names h
   kept h within = record { within = rw c.edge_count within; back = refl }
 
@@ -153,7 +146,7 @@ module _ (m new : Mesh) (v : ℕ) (s : IsSound m) (alone : IsAlone m v) (c : Mov
     edges = λ h within.
         let h_in : h < length m.half_edges = rw c.edge_count at within in
         let here = s.edges h h_in in
-        let at = vertex_in (origin m h) here.origin_in (off_alone h h_in) in
+        let at = vertex_in (origin m h) here.origin_in (differs_alone m h v s h_in alone) in
         record {
           links = record { origin = c.origins h h_in; next = c.nexts h; prev = c.prevs h; face = c.faces h };
           sound = here;

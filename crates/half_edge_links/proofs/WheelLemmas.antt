@@ -35,12 +35,6 @@ module _ (m new : Mesh) (f : ℕ) (o : Opens m new f) (some : 0 < f) where
       ]
 
 module _ (m : Mesh) (o : ℕ) (s : IsSound m) (w : IsFullWheel m o) where
-  abbrev pub a : ℕ
-  a = turn m o
-
-  abbrev pub z : ℕ
-  z = turn m (turn m o)
-
   pub turn_in : (h : ℕ) → h < length m.half_edges → turn m h < length m.half_edges
   turn_in h within = (spoke_at m h s within 1).0
 
@@ -167,9 +161,6 @@ module _ (m : Mesh) (o : ℕ) (s : IsSound m) (w : IsFullWheel m o) where
       pub s3 : IsSound new
       s3 = sound_removed mid new o r
 
-      prev_a : prev new (nm (turn m o)) ≡ nm (rev (turn m (turn m o)))
-      prev_a = ap (prev new) (sym nrz) ∙ (s3.edges _ (name_in mid new o s2 can r _ rz_left)).prev_next
-
       pub origin_now : (k : ℕ) → IsLeft mid o k → origin new (nm k) ≡ origin m k
       origin_now k l = origin_at mid new o s2 can r k l ∙ origin_is k
 
@@ -205,7 +196,6 @@ module _ (m : Mesh) (o : ℕ) (s : IsSound m) (w : IsFullWheel m o) where
           let had = s.outer k.0 k.1 in
           let out = λ (x : ℕ) (some : 0 < face m x) (q : k.0 ≡ x). let no : ⊥ = omega (arith, some, had.1, ap (face m) q) in no in
           let l : IsLeft mid o k.0 = left k.0 had.0 (out o w.first_inner) (out (rev o) (rw twin_face w.third_inner)) in
-          let now = outer_at mid new o s2 can r k.0 l (oq.outer_edge ∙ op.outer_edge ∙ k.1) in
           record {
             peelable = record {
               within = name_in mid new o s2 can r _ a_left;
@@ -213,7 +203,7 @@ module _ (m : Mesh) (o : ℕ) (s : IsSound m) (w : IsFullWheel m o) where
               outer = ap (face new) rev_a ∙ face_at mid new o s2 can r _ ra_left ∙ ra_outer;
               ends = λ q. w.second_end (sym (origin_now _ ra_left) ∙ sym (ap (origin new) rev_a) ∙ sym q ∙ at_a);
             };
-            spoke = ap rev prev_a ∙ rev_at mid new o s2 can r _ rz_left ∙ ap nm (rev-rev (turn m (turn m o)));
+            spoke = ap rev (ap (prev new) (sym nrz) ∙ (s3.edges _ (name_in mid new o s2 can r _ rz_left)).prev_next) ∙ rev_at mid new o s2 can r _ rz_left ∙ ap nm (rev-rev (turn m (turn m o)));
             within = name_in mid new o s2 can r _ z_left;
             same = origin_now _ z_left ∙ v_z ∙ sym at_a;
             ends = λ q. w.third_end (sym (origin_now _ rz_left) ∙ sym (ap (origin new) rev_z) ∙ q ∙ at_a);
@@ -229,7 +219,7 @@ module _ (m : Mesh) (o : ℕ) (s : IsSound m) (w : IsFullWheel m o) where
                   | inr j ↦ elim j [ inl q ↦ inl (sym old.1 ∙ ap nm q) | inr q ↦ inr (sym old.1 ∙ ap nm q) ]
                 ];
             unnamed = λ j is.
-                let to : nm k.0 ≡ j = some_same _ _ (sym now ∙ is) in (
+                let to : nm k.0 ≡ j = some_same _ _ (sym (outer_at mid new o s2 can r k.0 l (oq.outer_edge ∙ op.outer_edge ∙ k.1)) ∙ is) in (
                   λ q. out _ (rw ra_face w.first_inner) (same _ _ l ra_left (to ∙ q ∙ rev_a)),
                   λ q. out _ w.third_inner (same _ _ l z_left (to ∙ q)),
                   λ q. out _ (rw (t3).face_next w.third_inner) (same _ _ l b3_left (to ∙ q ∙ nz)),

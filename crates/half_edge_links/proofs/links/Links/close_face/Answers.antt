@@ -10,15 +10,13 @@ use Rattle.half_edge_links.proofs.links.Links.close_face.Goals as goal
 
 pub set_loop_face-requires-clause-next : goal.set_loop_face-requires-clause-next
 set_loop_face-requires-clause-next c =
-    let m : Mesh = (the_view c.self.inside).mesh in
-    let can : IsOpenTriangle m c.args.h = rw (← c.self.view_is) at c.requires.open in
-    (round m c.args.h c.self.invariant.sound can).next_in
+    let can : IsOpenTriangle (the_view c.self.inside).mesh c.args.h = rw (← c.self.view_is) at c.requires.open in
+    (round (the_view c.self.inside).mesh c.args.h c.self.invariant.sound can).next_in
 
 pub set_loop_face-requires-clause-prev : goal.set_loop_face-requires-clause-prev
 set_loop_face-requires-clause-prev c =
-    let m : Mesh = (the_view c.self.inside).mesh in
-    let can : IsOpenTriangle m c.args.h = rw (← c.self.view_is) at c.requires.open in
-    (round m c.args.h c.self.invariant.sound can).prev_in
+    let can : IsOpenTriangle (the_view c.self.inside).mesh c.args.h = rw (← c.self.view_is) at c.requires.open in
+    (round (the_view c.self.inside).mesh c.args.h c.self.invariant.sound can).prev_in
 
 pub returns-clause-mesh : goal.returns-clause-mesh
 unfolding loop_closed
@@ -29,9 +27,8 @@ returns-clause-mesh c =
 
 pub returns-clause-closes : goal.returns-clause-closes
 returns-clause-closes c =
-    let m : Mesh = (the_view c.self.inside).mesh in
-    let can : IsOpenTriangle m c.args.h = rw (← c.self.view_is) at c.requires.open in
-    rw (returns-clause-mesh c, ← c.self.view_is) (closes m c.args.h c.self.invariant.sound can)
+    let can : IsOpenTriangle (the_view c.self.inside).mesh c.args.h = rw (← c.self.view_is) at c.requires.open in
+    rw (returns-clause-mesh c, ← c.self.view_is) (closes (the_view c.self.inside).mesh c.args.h c.self.invariant.sound can)
 
 pub invariant_of-self : goal.invariant_of-self
 invariant_of-self c =

@@ -12,6 +12,5 @@ invariant_of-self c =
 
 pub returns-clause-outline : goal.returns-clause-outline
 returns-clause-outline c =
-    let m : Mesh = (the_view c.self.inside).mesh in
     let none = rw (← c.self.view_is) at c.requires.no_edges in
-    rw (c.push_reserved-2.ensures.items, c.push_reserved.ensures.items, none) (outline_connected m c.args.a c.args.b)
+    rw (c.push_reserved-2.ensures.items, c.push_reserved.ensures.items, none) (outline_connected (the_view c.self.inside).mesh c.args.a c.args.b)

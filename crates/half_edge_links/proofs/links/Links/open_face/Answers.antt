@@ -23,15 +23,13 @@ returns-clause-mesh c =
 
 pub returns-clause-opens : goal.returns-clause-opens
 returns-clause-opens c =
-    let m : Mesh = (the_view c.self.inside).mesh in
-    let inner : IsInner m c.args.f = rw (← c.self.view_is) at c.requires in
-    rw (returns-clause-mesh c, ← c.self.view_is) (opens m c.args.f c.self.invariant.sound inner)
+    let inner : IsInner (the_view c.self.inside).mesh c.args.f = rw (← c.self.view_is) at c.requires in
+    rw (returns-clause-mesh c, ← c.self.view_is) (opens (the_view c.self.inside).mesh c.args.f c.self.invariant.sound inner)
 
 pub invariant_of-self : goal.invariant_of-self
 invariant_of-self c =
-    let m : Mesh = (the_view c.self.inside).mesh in
-    let inner : IsInner m c.args.f = rw (← c.self.view_is) at c.requires in
-    valid_opened m _ c.args.f c.self.invariant inner (rw (← c.self.view_is) at (returns-clause-opens c))
+    let inner : IsInner (the_view c.self.inside).mesh c.args.f = rw (← c.self.view_is) at c.requires in
+    valid_opened (the_view c.self.inside).mesh _ c.args.f c.self.invariant inner (rw (← c.self.view_is) at (returns-clause-opens c))
 
 pub returns-clause-triangles : goal.returns-clause-triangles
 returns-clause-triangles c = rw (← c.self.view_is) (removes_triangle (the_view c.self.inside).mesh _ c.args.f (rw (← c.self.view_is) at c.requires) (rw (← c.self.view_is) at (returns-clause-opens c)))

@@ -1,113 +1,88 @@
 use Rattle.std.proofs.Common.{◌≡◌, ◌+◌, ◌-◌, length, arith}
 use Rattle.std.proofs.lemmas.List.{length-set}
 use Rattle.half_edge_links.specs.contracts.links.Links.{the_view}
-use Rattle.half_edge_links.specs.Mesh.{Mesh}
 use Rattle.half_edge_links.specs.Remove.{unlinked, filled}
-use Rattle.half_edge_links.proofs.Conditions.{IsUnlinkable, unlinkable}
-use Rattle.half_edge_links.proofs.RemoveSound.{IsInRange, in_range_unlinked, removes}
+use Rattle.half_edge_links.proofs.Conditions.{unlinkable}
+use Rattle.half_edge_links.proofs.RemoveSound.{last_in_range, removes, sound_removed}
 use Rattle.half_edge_links.proofs.Shrunk.{valid_removed}
 use Rattle.half_edge_links.proofs.ShrinkTriangles.{triangles_removed}
 use Rattle.half_edge_links.proofs.TakenLists.{removes_ends, removes_outer}
-use Rattle.half_edge_links.proofs.RemoveSound.{sound_removed}
 use Rattle.half_edge_links.proofs.OutlineTaken.{outline_removed}
 use Rattle.half_edge_links.proofs.links.Links.remove_edge.Goals as goal
 
 pub rename_out-requires-clause-vertex : goal.rename_out-requires-clause-vertex
 rename_out-requires-clause-vertex c =
-    let m : Mesh = (the_view c.self.inside).mesh in
-    let can : IsUnlinkable m c.args.e = unlinkable m c.args.e c.self.invariant (rw (← c.self.view_is) at c.requires) in
-    let r : IsInRange m c.unlink.new.half_edges.items (c.len.result - 2) = rw (c.unlink.ensures.items, c.reversed-t.ensures) (in_range_unlinked m c.args.e c.self.invariant.sound can (c.len.result - 2) (omega arith)) in
-    simp length-set (rw (c.read-even.ensures, c.deref-3.ensures.value) r.origin_in)
+    let r = last_in_range (the_view c.self.inside).mesh c.args.e c.reversed-t.result c.len.result c.unlink.new.half_edges.items c.self.invariant (rw (← c.self.view_is) at c.requires) c.reversed-t.ensures (omega arith) c.unlink.ensures.items in
+    simp length-set (rw (c.read-even.ensures, c.deref-3.ensures.value) r.0.origin_in)
 
 pub rename_out-requires-2-clause-vertex : goal.rename_out-requires-2-clause-vertex
 rename_out-requires-2-clause-vertex c =
-    let m : Mesh = (the_view c.self.inside).mesh in
-    let can : IsUnlinkable m c.args.e = unlinkable m c.args.e c.self.invariant (rw (← c.self.view_is) at c.requires) in
-    let r : IsInRange m c.unlink.new.half_edges.items (c.len.result - 2 + 1) = rw (c.unlink.ensures.items, c.reversed-t.ensures) (in_range_unlinked m c.args.e c.self.invariant.sound can (c.len.result - 2 + 1) (omega arith)) in
-    rw c.rename_out.ensures.len (simp length-set (rw (c.read-odd.ensures, c.deref-4.ensures.value) r.origin_in))
+    let r = last_in_range (the_view c.self.inside).mesh c.args.e c.reversed-t.result c.len.result c.unlink.new.half_edges.items c.self.invariant (rw (← c.self.view_is) at c.requires) c.reversed-t.ensures (omega arith) c.unlink.ensures.items in
+    rw c.rename_out.ensures.len (simp length-set (rw (c.read-odd.ensures, c.deref-4.ensures.value) r.1.origin_in))
 
 pub rename_face-requires-clause-face : goal.rename_face-requires-clause-face
 rename_face-requires-clause-face c =
-    let m : Mesh = (the_view c.self.inside).mesh in
-    let can : IsUnlinkable m c.args.e = unlinkable m c.args.e c.self.invariant (rw (← c.self.view_is) at c.requires) in
-    let r : IsInRange m c.unlink.new.half_edges.items (c.len.result - 2) = rw (c.unlink.ensures.items, c.reversed-t.ensures) (in_range_unlinked m c.args.e c.self.invariant.sound can (c.len.result - 2) (omega arith)) in
-    rw (c.read-even.ensures, c.deref-3.ensures.value) r.face_in
+    let r = last_in_range (the_view c.self.inside).mesh c.args.e c.reversed-t.result c.len.result c.unlink.new.half_edges.items c.self.invariant (rw (← c.self.view_is) at c.requires) c.reversed-t.ensures (omega arith) c.unlink.ensures.items in
+    rw (c.read-even.ensures, c.deref-3.ensures.value) r.0.face_in
 
 pub rename_face-requires-2-clause-face : goal.rename_face-requires-2-clause-face
 rename_face-requires-2-clause-face c =
-    let m : Mesh = (the_view c.self.inside).mesh in
-    let can : IsUnlinkable m c.args.e = unlinkable m c.args.e c.self.invariant (rw (← c.self.view_is) at c.requires) in
-    let r : IsInRange m c.unlink.new.half_edges.items (c.len.result - 2 + 1) = rw (c.unlink.ensures.items, c.reversed-t.ensures) (in_range_unlinked m c.args.e c.self.invariant.sound can (c.len.result - 2 + 1) (omega arith)) in
-    rw (c.rename_face.ensures.len, c.read-odd.ensures, c.deref-4.ensures.value) r.face_in
+    let r = last_in_range (the_view c.self.inside).mesh c.args.e c.reversed-t.result c.len.result c.unlink.new.half_edges.items c.self.invariant (rw (← c.self.view_is) at c.requires) c.reversed-t.ensures (omega arith) c.unlink.ensures.items in
+    rw (c.rename_face.ensures.len, c.read-odd.ensures, c.deref-4.ensures.value) r.1.face_in
 
 pub fill-requires-clause-even_next : goal.fill-requires-clause-even_next
 fill-requires-clause-even_next c =
-    let m : Mesh = (the_view c.self.inside).mesh in
-    let can : IsUnlinkable m c.args.e = unlinkable m c.args.e c.self.invariant (rw (← c.self.view_is) at c.requires) in
-    let r : IsInRange m c.unlink.new.half_edges.items (c.len.result - 2) = rw (c.unlink.ensures.items, c.reversed-t.ensures) (in_range_unlinked m c.args.e c.self.invariant.sound can (c.len.result - 2) (omega arith)) in
-    r.next_in
+    let r = last_in_range (the_view c.self.inside).mesh c.args.e c.reversed-t.result c.len.result c.unlink.new.half_edges.items c.self.invariant (rw (← c.self.view_is) at c.requires) c.reversed-t.ensures (omega arith) c.unlink.ensures.items in
+    r.0.next_in
 
 pub fill-requires-clause-even_prev : goal.fill-requires-clause-even_prev
 fill-requires-clause-even_prev c =
-    let m : Mesh = (the_view c.self.inside).mesh in
-    let can : IsUnlinkable m c.args.e = unlinkable m c.args.e c.self.invariant (rw (← c.self.view_is) at c.requires) in
-    let r : IsInRange m c.unlink.new.half_edges.items (c.len.result - 2) = rw (c.unlink.ensures.items, c.reversed-t.ensures) (in_range_unlinked m c.args.e c.self.invariant.sound can (c.len.result - 2) (omega arith)) in
-    r.prev_in
+    let r = last_in_range (the_view c.self.inside).mesh c.args.e c.reversed-t.result c.len.result c.unlink.new.half_edges.items c.self.invariant (rw (← c.self.view_is) at c.requires) c.reversed-t.ensures (omega arith) c.unlink.ensures.items in
+    r.0.prev_in
 
 pub fill-requires-clause-odd_next : goal.fill-requires-clause-odd_next
 fill-requires-clause-odd_next c =
-    let m : Mesh = (the_view c.self.inside).mesh in
-    let can : IsUnlinkable m c.args.e = unlinkable m c.args.e c.self.invariant (rw (← c.self.view_is) at c.requires) in
-    let r : IsInRange m c.unlink.new.half_edges.items (c.len.result - 2 + 1) = rw (c.unlink.ensures.items, c.reversed-t.ensures) (in_range_unlinked m c.args.e c.self.invariant.sound can (c.len.result - 2 + 1) (omega arith)) in
-    r.next_in
+    let r = last_in_range (the_view c.self.inside).mesh c.args.e c.reversed-t.result c.len.result c.unlink.new.half_edges.items c.self.invariant (rw (← c.self.view_is) at c.requires) c.reversed-t.ensures (omega arith) c.unlink.ensures.items in
+    r.1.next_in
 
 pub fill-requires-clause-odd_prev : goal.fill-requires-clause-odd_prev
 fill-requires-clause-odd_prev c =
-    let m : Mesh = (the_view c.self.inside).mesh in
-    let can : IsUnlinkable m c.args.e = unlinkable m c.args.e c.self.invariant (rw (← c.self.view_is) at c.requires) in
-    let r : IsInRange m c.unlink.new.half_edges.items (c.len.result - 2 + 1) = rw (c.unlink.ensures.items, c.reversed-t.ensures) (in_range_unlinked m c.args.e c.self.invariant.sound can (c.len.result - 2 + 1) (omega arith)) in
-    r.prev_in
+    let r = last_in_range (the_view c.self.inside).mesh c.args.e c.reversed-t.result c.len.result c.unlink.new.half_edges.items c.self.invariant (rw (← c.self.view_is) at c.requires) c.reversed-t.ensures (omega arith) c.unlink.ensures.items in
+    r.1.prev_in
 
 pub returns-clause-mesh : goal.returns-clause-mesh
 unfolding unlinked filled
 returns-clause-mesh c =
-    let m : Mesh = (the_view c.self.inside).mesh in
-    let n : c.len.result ≡ length m.half_edges = omega arith in
+    let n : c.len.result ≡ length (the_view c.self.inside).mesh.half_edges = omega arith in
     rw (← c.self.view_is, ← n) (cc)
 
 pub returns-clause-removes : goal.returns-clause-removes
 returns-clause-removes c =
-    let m : Mesh = (the_view c.self.inside).mesh in
-    let can : IsUnlinkable m c.args.e = unlinkable m c.args.e c.self.invariant (rw (← c.self.view_is) at c.requires) in
-    rw (returns-clause-mesh c, ← c.self.view_is) (removes m c.args.e c.self.invariant.sound can)
+    let can = unlinkable (the_view c.self.inside).mesh c.args.e c.self.invariant (rw (← c.self.view_is) at c.requires) in
+    rw (returns-clause-mesh c, ← c.self.view_is) (removes (the_view c.self.inside).mesh c.args.e c.self.invariant.sound can)
 
 pub invariant_of-self : goal.invariant_of-self
 invariant_of-self c =
-    let m : Mesh = (the_view c.self.inside).mesh in
-    valid_removed m _ c.args.e c.self.invariant (rw (← c.self.view_is) at c.requires) (rw (← c.self.view_is) at (returns-clause-removes c))
+    valid_removed (the_view c.self.inside).mesh _ c.args.e c.self.invariant (rw (← c.self.view_is) at c.requires) (rw (← c.self.view_is) at (returns-clause-removes c))
 
 pub returns-clause-triangles : goal.returns-clause-triangles
 returns-clause-triangles c =
-    let m : Mesh = (the_view c.self.inside).mesh in
-    let can : IsUnlinkable m c.args.e = unlinkable m c.args.e c.self.invariant (rw (← c.self.view_is) at c.requires) in
-    rw (← c.self.view_is) (triangles_removed m _ c.args.e c.self.invariant.sound can (rw (← c.self.view_is) at (returns-clause-removes c)))
+    let can = unlinkable (the_view c.self.inside).mesh c.args.e c.self.invariant (rw (← c.self.view_is) at c.requires) in
+    rw (← c.self.view_is) (triangles_removed (the_view c.self.inside).mesh _ c.args.e c.self.invariant.sound can (rw (← c.self.view_is) at (returns-clause-removes c)))
 
 pub returns-clause-ends : goal.returns-clause-ends
 returns-clause-ends c =
-    let m : Mesh = (the_view c.self.inside).mesh in
-    let can : IsUnlinkable m c.args.e = unlinkable m c.args.e c.self.invariant (rw (← c.self.view_is) at c.requires) in
+    let can = unlinkable (the_view c.self.inside).mesh c.args.e c.self.invariant (rw (← c.self.view_is) at c.requires) in
     let r = rw (← c.self.view_is) at (returns-clause-removes c) in
-    rw (← c.self.view_is) (removes_ends m _ c.args.e c.self.invariant.sound can r (sound_removed m _ c.args.e r))
+    rw (← c.self.view_is) (removes_ends (the_view c.self.inside).mesh _ c.args.e c.self.invariant.sound can r (sound_removed _ _ c.args.e r))
 
 pub returns-clause-outer : goal.returns-clause-outer
 returns-clause-outer c =
-    let m : Mesh = (the_view c.self.inside).mesh in
-    let can : IsUnlinkable m c.args.e = unlinkable m c.args.e c.self.invariant (rw (← c.self.view_is) at c.requires) in
+    let can = unlinkable (the_view c.self.inside).mesh c.args.e c.self.invariant (rw (← c.self.view_is) at c.requires) in
     let r = rw (← c.self.view_is) at (returns-clause-removes c) in
-    rw (← c.self.view_is) (removes_outer m _ c.args.e c.self.invariant.sound can r (sound_removed m _ c.args.e r))
+    rw (← c.self.view_is) (removes_outer (the_view c.self.inside).mesh _ c.args.e c.self.invariant.sound can r (sound_removed _ _ c.args.e r))
 
 pub returns-clause-outline : goal.returns-clause-outline
 returns-clause-outline c =
-    let m : Mesh = (the_view c.self.inside).mesh in
-    let can : IsUnlinkable m c.args.e = unlinkable m c.args.e c.self.invariant (rw (← c.self.view_is) at c.requires) in
-    rw (← c.self.view_is) (outline_removed m _ c.args.e c.self.invariant.sound can (rw (← c.self.view_is) at (returns-clause-removes c)))
+    let can = unlinkable (the_view c.self.inside).mesh c.args.e c.self.invariant (rw (← c.self.view_is) at c.requires) in
+    rw (← c.self.view_is) (outline_removed (the_view c.self.inside).mesh _ c.args.e c.self.invariant.sound can (rw (← c.self.view_is) at (returns-clause-removes c)))

@@ -33,9 +33,8 @@ returns-clause-moves c =
 
 pub invariant_of-self : goal.invariant_of-self
 invariant_of-self c =
-    let m : Mesh = (the_view c.self.inside).mesh in
-    let alone : IsAlone m c.args.v = rw (← c.self.view_is) at c.requires in
-    valid_moved m _ c.args.v c.self.invariant alone (rw (← c.self.view_is) at (returns-clause-moves c))
+    let alone : IsAlone (the_view c.self.inside).mesh c.args.v = rw (← c.self.view_is) at c.requires in
+    valid_moved (the_view c.self.inside).mesh _ c.args.v c.self.invariant alone (rw (← c.self.view_is) at (returns-clause-moves c))
 
 pub returns-clause-triangles : goal.returns-clause-triangles
 returns-clause-triangles c = rw (← c.self.view_is) (moves_triangles (the_view c.self.inside).mesh _ c.args.v c.self.invariant.sound (rw (← c.self.view_is) at (returns-clause-moves c)))
