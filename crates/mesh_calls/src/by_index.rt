@@ -6,9 +6,9 @@ use half_edge_mesh::{FixedDirectedEdgeHandle, FixedFaceHandle, FixedVertexHandle
 use std::alloc::Global;
 
 /// Where an edge starts, the edges after and before it, and the face on its left.
-type EdgeLinks = (u32, u32, u32, u32);
+pub(crate) type EdgeLinks = (u32, u32, u32, u32);
 
-fn links(mesh: &Mesh, index: u32) -> Option<EdgeLinks> {
+pub(crate) fn links(mesh: &Mesh, index: u32) -> Option<EdgeLinks> {
     if !has_edge(mesh, FixedDirectedEdgeHandle::from_index(index)) {
         return None;
     }
@@ -30,6 +30,16 @@ fn out_edge(mesh: &Mesh, index: u32) -> Option<u32> {
         return None;
     }
     mesh.out_edge(index)
+}
+
+/// The edges that the outer face and face 1 name, and those that the first three vertices name.
+pub(crate) type EdgesOfParts = ([Option<u32>; 2], [Option<u32>; 3]);
+
+pub(crate) fn edges_of_parts(mesh: &Mesh) -> EdgesOfParts {
+    (
+        [mesh.outer_edge(), face_edge(mesh, 1)],
+        [out_edge(mesh, 0), out_edge(mesh, 1), out_edge(mesh, 2)],
+    )
 }
 
 /// The face on the left of an edge that was found.

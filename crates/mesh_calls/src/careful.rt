@@ -1,7 +1,9 @@
 //! Growing calls that look first whether they may be made, so that no test has to show it: where one may not, it gives
 //! nothing and leaves the mesh. Each makes just the room that it takes.
-ghost use Rattle.std.specs.Prelude.{◌<◌, length, IsTrue};
+ghost use Rattle.std.specs.Prelude.{◌≡◌, ◌≢◌, ◌<◌, length, IsTrue};
 ghost use Rattle.half_edge_links.specs.Flip.{IsFlippable};
+ghost use Rattle.half_edge_links.specs.Grow.{IsHalfSplittable};
+ghost use Rattle.half_edge_links.specs.Mesh.{face, next, origin, rev};
 ghost use Rattle.half_edge_mesh.specs.Contents.{HasRoom};
 
 use crate::reads::{Mesh, has_edge, has_face, has_vertex};
@@ -93,15 +95,24 @@ pub(crate) fn create_new_face_adjacent_to_edge(
     Some(mesh.create_new_face_adjacent_to_edge(edge, value))
 }
 
+// Whether an edge is outer, and the next one does not end where it starts.
+fn leaves_corner(mesh: &Mesh, edge: FixedDirectedEdgeHandle) -> bool
+    ensures within { IsTrue result → edge < length mesh.now.directed }
+    ensures outer { IsTrue result → face mesh.now.mesh edge ≡ 0 }
+    ensures apart { let m = mesh.now.mesh in IsTrue result → origin m (rev (next m edge)) ≢ origin m edge }
+{
+    if !has_edge(mesh, edge) {
+        return false;
+    }
+    let side = mesh.directed_edge(edge);
+    side.is_outer_edge() && side.next().to().index != side.from().index
+}
+
 pub(crate) fn create_single_face_between_edge_and_next(
     mesh: &mut Mesh,
     edge: FixedDirectedEdgeHandle,
 ) -> Option<FixedDirectedEdgeHandle> {
-    if !make_room(mesh, 0, 1, 1) || !has_edge(mesh, edge) {
-        return None;
-    }
-    let side = mesh.directed_edge(edge);
-    if !side.is_outer_edge() || side.next().to().index == side.from().index {
+    if !make_room(mesh, 0, 1, 1) || !leaves_corner(mesh, edge) {
         return None;
     }
     Some(mesh.create_single_face_between_edge_and_next(edge))
@@ -118,16 +129,24 @@ pub(crate) fn insert_into_triangle(
     Some(mesh.insert_into_triangle(value, face))
 }
 
+// Whether an edge has an inner face on its left and the outer one on its right.
+fn is_of_hull(mesh: &Mesh, edge: FixedDirectedEdgeHandle) -> bool
+    ensures within { IsTrue result → edge < length mesh.now.directed }
+    ensures half { IsTrue result → IsHalfSplittable mesh.now.mesh edge }
+{
+    if !has_edge(mesh, edge) {
+        return false;
+    }
+    let side = mesh.directed_edge(edge);
+    !side.is_outer_edge() && side.rev().is_outer_edge()
+}
+
 pub(crate) fn split_half_edge(
     mesh: &mut Mesh,
     edge: FixedDirectedEdgeHandle,
     value: u8,
 ) -> Option<Split> {
-    if !make_room(mesh, 1, 2, 1) || !has_edge(mesh, edge) {
-        return None;
-    }
-    let side = mesh.directed_edge(edge);
-    if side.is_outer_edge() || !side.rev().is_outer_edge() {
+    if !make_room(mesh, 1, 2, 1) || !is_of_hull(mesh, edge) {
         return None;
     }
     Some(mesh.split_half_edge(edge, value))

@@ -8,7 +8,7 @@ use std::alloc::{AllocError, Global};
 use std::test::Fail;
 
 /// One face, with data on all faces and edges.
-fn one_face_with_data(alloc: Global) -> Mesh {
+pub(crate) fn one_face_with_data(alloc: Global) -> Mesh {
     let mut mesh = one_face(alloc);
     write_face(&mut mesh, FixedFaceHandle::from_index(0), 50);
     write_face(&mut mesh, FixedFaceHandle::from_index(1), 51);
@@ -30,7 +30,7 @@ fn copy_of_cleared(alloc: Global) -> Result<(Mesh, [usize; 4]), AllocError> {
     Ok((copy, left))
 }
 
-type EdgeView = (Option<(u8, u8)>, Option<(u32, u16)>, Option<bool>);
+pub(crate) type EdgeView = (Option<(u8, u8)>, Option<(u32, u16)>, Option<bool>);
 
 /// The ends and the data of an edge, and whether it is outer.
 fn edge_view(mesh: &Mesh, index: u32) -> EdgeView {
@@ -43,7 +43,9 @@ fn edge_view(mesh: &Mesh, index: u32) -> EdgeView {
 }
 
 /// The data of the first vertices and faces.
-fn vertices_and_faces(mesh: &Mesh) -> ([Option<u8>; 3], [Option<u64>; 2]) {
+pub(crate) type DataOfParts = ([Option<u8>; 3], [Option<u64>; 2]);
+
+pub(crate) fn data_of_parts(mesh: &Mesh) -> DataOfParts {
     (
         [
             vertex_data(mesh, 0),
@@ -55,7 +57,7 @@ fn vertices_and_faces(mesh: &Mesh) -> ([Option<u8>; 3], [Option<u64>; 2]) {
 }
 
 /// The first six edges.
-fn edges(mesh: &Mesh) -> [EdgeView; 6] {
+pub(crate) fn edges(mesh: &Mesh) -> [EdgeView; 6] {
     [
         edge_view(mesh, 0),
         edge_view(mesh, 1),
@@ -70,7 +72,7 @@ fn edges(mesh: &Mesh) -> [EdgeView; 6] {
 fn a_copy_of_one_face_has_its_links_and_data(rt: HostRuntime) -> Result<(), Fail> {
     let (copy, left) = copy_of_cleared(rt.alloc())?;
     assert_eq!(rt;
-        (left, counts(&copy), vertices_and_faces(&copy)),
+        (left, counts(&copy), data_of_parts(&copy)),
         (
             [0usize, 0, 0, 0],
             [3usize, 6, 3, 1],

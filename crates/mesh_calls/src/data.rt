@@ -1,8 +1,10 @@
 //! Data of vertices, edges and faces: written, and mapped.
 ghost use Rattle.std.specs.Prelude.{◌/◌};
 
+use crate::copies::one_face_with_data;
 use crate::growth::{one_edge, two_faces};
-use crate::reads::{Mesh, counts, edge_data, has_edge, has_face, has_vertex, vertex, vertex_data};
+use crate::reads::{Mesh, directed, has_edge, has_face, has_vertex, vertex, vertex_data};
+use crate::refusals::snapshot;
 use half_edge_mesh::{
     Dcel, FixedDirectedEdgeHandle, FixedFaceHandle, FixedUndirectedEdgeHandle, FixedVertexHandle,
 };
@@ -80,14 +82,40 @@ fn marked(mesh: &Marked) -> ([Option<u32>; 2], [usize; 2]) {
 
 #[test]
 fn data_of_edges_are_mapped(rt: HostRuntime) {
-    let mut mesh = two_faces(rt.alloc());
-    let edge = FixedUndirectedEdgeHandle::from_index(3);
-    write_undirected(&mut mesh, edge, 1000);
+    let mut mesh = one_face_with_data(rt.alloc());
+    let edge = FixedUndirectedEdgeHandle::from_index(1);
+    let is_there = write_undirected(&mut mesh, edge, 1000);
+    let before = snapshot(&mesh);
     match mesh.map_undirected_edges(|data| data / 10 == 100) {
-        Ok(mapped) => assert_eq!(rt; marked(&mapped), ([Some(3), None], [4usize, 2])),
-        Err(same) => assert_eq!(rt;
-            (counts(&same), edge_data(&same, edge.as_directed())),
-            ([4usize, 10, 5, 2], Some((1000, 0)))
-        ),
+        Ok(mapped) => {
+            let is_mapped = marked(&mapped) == ([Some(1), None], [3usize, 1]);
+            assert!(rt; is_mapped || !is_there);
+        }
+        Err(same) => assert_eq!(rt; snapshot(&same), before),
     }
+}
+
+/// The data of edge 2 and of its undirected edge, by their names.
+fn data_by_name(mesh: &Mesh) -> Option<(u16, u32)> {
+    let edge = directed(2);
+    if !has_edge(mesh, edge) {
+        return None;
+    }
+    Some((
+        *mesh.directed_edge_data(edge),
+        undirected_data(mesh, edge.as_undirected())?,
+    ))
+}
+
+fn undirected_data(mesh: &Mesh, edge: FixedUndirectedEdgeHandle) -> Option<u32> {
+    if edge.index() as usize >= mesh.num_undirected_edges() {
+        return None;
+    }
+    Some(*mesh.undirected_edge_data(edge))
+}
+
+#[test]
+fn data_of_edges_are_read_by_name(rt: HostRuntime) {
+    let mesh = one_face_with_data(rt.alloc());
+    assert_eq!(rt; data_by_name(&mesh), Some((72, 61)));
 }

@@ -10,6 +10,8 @@ mod copies;
 #[cfg(test)]
 mod data;
 #[cfg(test)]
+mod derived;
+#[cfg(test)]
 mod growth;
 #[cfg(test)]
 mod links;
@@ -19,6 +21,8 @@ mod lists;
 mod names;
 #[cfg(test)]
 mod reads;
+#[cfg(test)]
+mod refusals;
 #[cfg(test)]
 mod removal;
 #[cfg(test)]

@@ -1,6 +1,6 @@
 //! The links of a mesh, without data.
 
-use half_edge_links::{Links, MAX_ELEMENTS, ReserveError, are_few_enough, is_full};
+use half_edge_links::{HalfEdge, Links, MAX_ELEMENTS, ReserveError, are_few_enough, is_full};
 use std::alloc::{AllocError, Global};
 use std::test::Fail;
 
@@ -54,6 +54,53 @@ fn copy_of_cleared(alloc: Global) -> Result<(Links, [usize; 3]), AllocError> {
     links.clear();
     let left = counts(&links);
     Ok((copy, left))
+}
+
+/// All that a line is: its counts, its directed edges, the edges that its vertices name, and the outer edge.
+type LinksView = (
+    [usize; 3],
+    [Option<HalfEdge>; 2],
+    [Option<u32>; 2],
+    Option<u32>,
+);
+
+fn half_edge(links: &Links, edge: u32) -> Option<HalfEdge> {
+    if edge as usize >= links.half_edge_count() {
+        return None;
+    }
+    Some(links.half_edge(edge))
+}
+
+fn out_edge(links: &Links, vertex: u32) -> Option<u32> {
+    if vertex as usize >= links.vertex_count() {
+        return None;
+    }
+    links.out_edge(vertex)
+}
+
+fn view(links: &Links) -> LinksView {
+    (
+        counts(links),
+        [half_edge(links, 0), half_edge(links, 1)],
+        [out_edge(links, 0), out_edge(links, 1)],
+        links.outer_edge(),
+    )
+}
+
+/// What a copy of the links is, if it is granted.
+fn copied(links: &Links) -> Option<LinksView> {
+    let copy = links.clone().ok()?;
+    Some(view(&copy))
+}
+
+#[test]
+fn refusals_leave_the_links(rt: HostRuntime) {
+    let mut links = line(rt.alloc());
+    let before = view(&links);
+    let copy = copied(&links).unwrap_or(before);
+    let answer = links.reserve(20, 20, 20);
+    assert!(rt; answer != Err(ReserveError::TooMany));
+    assert_eq!(rt; [copy, view(&links)], [before; 2]);
 }
 
 #[test]

@@ -66,7 +66,7 @@ pub(crate) fn vertex_data(mesh: &Mesh, index: u32) -> Option<u8> {
     if !has_vertex(mesh, vertex) {
         return None;
     }
-    Some(*mesh.vertex(vertex).data())
+    Some(*mesh.vertex_data(vertex))
 }
 
 /// Whether there is a vertex of this index, without an edge.
@@ -89,7 +89,7 @@ pub(crate) fn face_data(mesh: &Mesh, index: u32) -> Option<u64> {
     if !has_face(mesh, face) {
         return None;
     }
-    Some(*mesh.face(face).data())
+    Some(*mesh.face_data(face))
 }
 
 /// The data of both ends of an edge.

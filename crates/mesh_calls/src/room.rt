@@ -1,7 +1,7 @@
 //! Room for a mesh, made and refused.
 
-use crate::growth::{one_edge, one_face};
-use crate::reads::{Mesh, counts, directed, edge_data, vertex_data};
+use crate::growth::one_face;
+use crate::reads::Mesh;
 use half_edge_mesh::{Dcel, MAX_ELEMENTS, ReserveError};
 use std::alloc::Global;
 
@@ -126,31 +126,6 @@ fn a_mesh_with_room_may_be_refused(rt: HostRuntime) {
             Err(ReserveError::OutOfMemory),
             Err(ReserveError::TooMany),
         ]
-    );
-}
-
-/// What three requests for room tell: of too much, of some, and of what there is.
-fn ask_in_turn(mesh: &mut Mesh) -> [Result<(), ReserveError>; 3] {
-    [
-        mesh.reserve_capacity(MAX_ELEMENTS + 1, 1, 1),
-        mesh.reserve_capacity(20, 20, 20),
-        mesh.reserve_capacity(2, 1, 1),
-    ]
-}
-
-#[test]
-fn a_refusal_leaves_the_mesh(rt: HostRuntime) {
-    let mut mesh = one_edge(rt.alloc());
-    let [too_much, some, enough] = ask_in_turn(&mut mesh);
-    assert_eq!(rt; [too_much, enough], [Err(ReserveError::TooMany), Ok(())]);
-    assert!(rt; some != Err(ReserveError::TooMany));
-    assert_eq!(rt;
-        (
-            counts(&mesh),
-            vertex_data(&mesh, 1),
-            edge_data(&mesh, directed(0))
-        ),
-        ([2usize, 2, 1, 0], Some(2), Some((0, 0)))
     );
 }
 
