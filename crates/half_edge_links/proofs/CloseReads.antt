@@ -4,7 +4,7 @@ use Rattle.half_edge_links.specs.declared.records.HalfEdge.{HalfEdge}
 use Rattle.half_edge_links.specs.Mesh.{no_edge, edge_at}
 use Rattle.half_edge_links.specs.Grow.{with_next, with_prev, with_face, closed_edges}
 use Rattle.half_edge_links.proofs.FieldWrites.{length-with_next, length-with_prev, length-with_face, next-with_next, other-with_next, next-with_prev, next-with_face, prev-with_prev, other-with_prev, prev-with_next, prev-with_face, face-with_face, other-with_face, face-with_next, face-with_prev, origin-with_next, origin-with_prev, origin-with_face}
-use Rattle.half_edge_links.proofs.Fields.{length-two, two_before, two_at_0, two_at_1}
+use Rattle.half_edge_links.proofs.Writes.{length-two, two_before, two_at_0, two_at_1}
 
 pub record ClosesEdges (old new : List HalfEdge) (e second before after g : ℕ) : Type 0 where
   pub count : length new ≡ length old + 2

@@ -7,8 +7,7 @@ use Rattle.half_edge_links.specs.Mesh.{Mesh, edge_at, origin, next, prev, face, 
 use Rattle.half_edge_links.specs.Flip.{IsFlippable, Flips}
 use Rattle.half_edge_links.proofs.Rev.{rev-rev}
 use Rattle.half_edge_links.proofs.Writes.{AreSixPlaces}
-use Rattle.half_edge_links.proofs.Kept.{sound_kept}
-use Rattle.half_edge_links.proofs.Parts.{IsBusy, loop_sound}
+use Rattle.half_edge_links.proofs.Parts.{sound_kept, IsBusy, loop_sound}
 use Rattle.half_edge_links.proofs.Triangles.{IsTriangle, triangle_at, same_loop, six_round}
 
 -- an edge is none of the six round e

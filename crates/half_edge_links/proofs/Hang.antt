@@ -9,7 +9,7 @@ use Rattle.half_edge_links.specs.Grow.{with_next, with_prev, IsOuter, hung_edges
 use Rattle.half_edge_links.proofs.Rev.{rev_within}
 use Rattle.half_edge_links.proofs.FlipLemmas.{links_from}
 use Rattle.half_edge_links.proofs.FieldWrites.{length-with_next, length-with_prev, next-with_next, other-with_next, next-with_prev, prev-with_prev, other-with_prev, prev-with_next, face-with_next, face-with_prev, origin-with_next, origin-with_prev}
-use Rattle.half_edge_links.proofs.Fields.{length-two, two_before, two_at_0, two_at_1}
+use Rattle.half_edge_links.proofs.Writes.{length-two, two_before, two_at_0, two_at_1}
 use Rattle.half_edge_links.proofs.Parts.{rev_of_even, rev_of_odd, IsInMesh, IsNextSound, IsInnerSound, sound_from, next_kept, inner_kept, next_at, prev_sound, grown_cases, still_out, still_named}
 
 module _ (hs : List HalfEdge) (x y v : ℕ) (x_in : x < length hs) (y_in : y < length hs) where

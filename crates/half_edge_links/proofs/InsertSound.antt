@@ -6,8 +6,7 @@ use Rattle.half_edge_links.specs.declared.records.HalfEdge.{HalfEdge}
 use Rattle.half_edge_links.specs.Mesh.{Mesh, edge_at, origin, next, prev, face, face_edge, out_edge, rev, IsSound, IsSoundEdge, IsInnerEdge, IsAlone, HasLinks}
 use Rattle.half_edge_links.specs.Insert.{Inserts}
 use Rattle.half_edge_links.proofs.Rev.{rev_within}
-use Rattle.half_edge_links.proofs.Parts.{late_cases, rev_of_even, rev_of_odd, IsBusy, loop_sound, still_out, still_named}
-use Rattle.half_edge_links.proofs.Kept.{sound_kept}
+use Rattle.half_edge_links.proofs.Parts.{late_cases, rev_of_even, rev_of_odd, IsBusy, loop_sound, still_out, still_named, sound_kept}
 use Rattle.half_edge_links.proofs.Triangles.{IsTriangle, triangle_at, same_loop}
 
 -- an edge is none of those round the face

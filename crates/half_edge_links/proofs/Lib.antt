@@ -3,7 +3,6 @@ pub mod Writes
 pub mod Triangles
 pub mod FlipLemmas
 pub mod FlipSound
-pub mod Kept
 pub mod InsertLemmas
 pub mod InsertSound
 pub mod VertexLemmas
@@ -12,7 +11,6 @@ pub mod FlipTriangles
 pub mod InsertTriangles
 pub mod SplitLemmas
 pub mod Orbits
-pub mod Fields
 pub mod Parts
 pub mod Hang
 pub mod CloseReads
@@ -28,7 +26,6 @@ pub mod KeepsOuterInsert
 pub mod HalfSplit
 pub mod Ends
 pub mod EndsKept
-pub mod Extend
 pub mod SplitOutline
 pub mod StarsKept
 pub mod StarsRound
@@ -56,7 +53,6 @@ pub mod StripLemmas
 pub mod VertexSound
 pub mod ShrinkTriangles
 pub mod StarsRemove
-pub mod Shrunk
 pub mod OneOrbit
 pub mod TakenLists
 pub mod Sums
@@ -65,7 +61,6 @@ pub mod Outline
 pub mod OutlineTaken
 pub mod OutlineTraced
 pub mod Walks
-pub mod OutlineRound
 pub mod Passing
 pub mod PassKept
 pub mod WheelEnds

@@ -1,9 +1,9 @@
--- An edge of a line is split.
+-- An edge of a line is split, and a line is extended at a vertex.
 use Rattle.std.proofs.Common.{◌≡◌, ◌≢◌, ℕ, ◌+◌, ◌<◌, length, Some, sym, ap, ◌∙◌, inl, inr, arith}
 use Rattle.std.proofs.lemmas.Bool.{cases_eq}
 use Rattle.half_edge_links.proofs.Cases.{◌or_else◌}
 use Rattle.half_edge_links.specs.Mesh.{Mesh, origin, next, prev, face, out_edge, rev, IsSound, IsAlone}
-use Rattle.half_edge_links.specs.Grow.{IsOuter, IsLineEdge, Hangs, Slides, SplitsLine}
+use Rattle.half_edge_links.specs.Grow.{IsOuter, IsLineEdge, Hangs, Slides, SplitsLine, IsOnLine}
 use Rattle.half_edge_links.specs.Outline.{IsOuterEdge, SplitsOuter}
 use Rattle.half_edge_links.proofs.Rev.{rev-rev, rev_within, rev_differs}
 use Rattle.half_edge_links.proofs.Parts.{rev_of_even, rev_of_odd}
@@ -116,3 +116,12 @@ module _ (m mid new : Mesh) (e v : ℕ) (s : IsSound m) (line : IsLineEdge m e) 
               )
         ];
       }
+
+pub into_outer : (m : Mesh) (u h : ℕ) → IsSound m → IsOnLine m u → out_edge m u ≡ Some h → IsOuter m (rev h)
+into_outer m u h s line is =
+    let had = s.vertices u h is in
+    let within : rev h < length m.half_edges = rev_within h _ s.even had.0 in
+    (within, omega (arith, (s.edges (rev h) within).face_in, ap length line.one_face))
+
+pub into_ends : (m : Mesh) (u h : ℕ) → IsSound m → out_edge m u ≡ Some h → origin m (rev (rev h)) ≡ u
+into_ends m u h s is = ap (origin m) (rev-rev h) ∙ (s.vertices u h is).1

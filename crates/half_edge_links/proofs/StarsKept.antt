@@ -1,9 +1,8 @@
 -- The edges round each vertex stay one round.
 use Rattle.std.proofs.Common.{◌≡◌, ◌≢◌, ℕ, ◌+◌, ◌<◌, Bool, true, length, sym, ap, ◌∙◌, inl, inr, arith}
 use Rattle.std.proofs.lemmas.Bool.{cases_eq}
-use Rattle.half_edge_links.specs.Mesh.{Mesh, origin, next, prev, rev, IsSound, IsAlone}
+use Rattle.half_edge_links.specs.Mesh.{Mesh, origin, next, prev, rev, IsSound, IsAlone, IsClosed, HasStars}
 use Rattle.half_edge_links.specs.Grow.{IsOuter, Hangs}
-use Rattle.half_edge_links.specs.Mesh.{IsClosed, HasStars}
 use Rattle.half_edge_links.proofs.Rev.{rev_within}
 use Rattle.half_edge_links.proofs.Parts.{rev_of_odd, grown_cases}
 use Rattle.half_edge_links.proofs.FaceBeside.{differs_alone}

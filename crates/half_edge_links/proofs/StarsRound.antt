@@ -3,14 +3,12 @@ use Rattle.std.proofs.Common.{◌≡◌, ◌≢◌, ℕ, ◌+◌, ◌<◌, Bool,
 use Rattle.std.proofs.lemmas.Bool.{cases_eq}
 use Rattle.std.proofs.lemmas.Grind.{common_steps}
 use Rattle.half_edge_links.proofs.Cases.{◌or_else◌}
-use Rattle.half_edge_links.specs.Mesh.{Mesh, origin, next, prev, rev, IsSound}
+use Rattle.half_edge_links.specs.Mesh.{Mesh, origin, next, prev, rev, IsSound, IsClosed, HasStars}
 use Rattle.half_edge_links.specs.Flip.{IsFlippable, Flips}
 use Rattle.half_edge_links.specs.Grow.{IsClosable, Closes}
-use Rattle.half_edge_links.specs.Mesh.{IsClosed, HasStars}
 use Rattle.half_edge_links.proofs.Rev.{rev_within, rev-rev}
-use Rattle.half_edge_links.proofs.Parts.{rev_of_even, rev_of_odd}
+use Rattle.half_edge_links.proofs.Parts.{rev_of_even, rev_of_odd, grown_cases}
 use Rattle.half_edge_links.proofs.Close.{corner}
-use Rattle.half_edge_links.proofs.Parts.{grown_cases}
 use Rattle.half_edge_links.proofs.Writes.{AreSixPlaces}
 use Rattle.half_edge_links.proofs.FlipSound.{six, left, right, origin_kept, kept}
 

@@ -2,7 +2,7 @@
 use Rattle.std.proofs.Common.{◌≡◌, ℕ, zero, suc, List, [], ◌∷◌, ◌++◌, Option, None, get_or, refl, arith, length-append}
 use Rattle.std.proofs.lemmas.List.{get_or_append_left}
 use Rattle.half_edge_links.specs.Mesh.{Mesh, IsSound, with_vertex}
-use Rattle.half_edge_links.proofs.Kept.{sound_kept}
+use Rattle.half_edge_links.proofs.Parts.{sound_kept}
 
 -- one more `None` changes no read
 get_or-push_none : {X : Type 0} (xs : List (Option X)) (v : ℕ) → get_or (xs ++ None ∷ []) v None ≡ get_or xs v None

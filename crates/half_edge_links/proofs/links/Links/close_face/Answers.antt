@@ -3,7 +3,7 @@ use Rattle.half_edge_links.specs.contracts.links.Links.{the_view}
 use Rattle.half_edge_links.specs.Mesh.{Mesh}
 use Rattle.half_edge_links.specs.Remove.{IsOpenTriangle, loop_closed}
 use Rattle.half_edge_links.proofs.CloseSound.{round, closes}
-use Rattle.half_edge_links.proofs.Shrunk.{valid_loop_closed}
+use Rattle.half_edge_links.proofs.Valid.{valid_loop_closed}
 use Rattle.half_edge_links.proofs.ShrinkTriangles.{triangles_closed}
 use Rattle.half_edge_links.proofs.TakenLists.{ends_loop_closed, closes_outer}
 use Rattle.half_edge_links.proofs.links.Links.close_face.Goals as goal

@@ -4,7 +4,7 @@ use Rattle.half_edge_links.specs.contracts.links.Links.{the_view}
 use Rattle.half_edge_links.specs.Remove.{unlinked, filled}
 use Rattle.half_edge_links.proofs.Conditions.{unlinkable}
 use Rattle.half_edge_links.proofs.RemoveSound.{last_in_range, removes, sound_removed}
-use Rattle.half_edge_links.proofs.Shrunk.{valid_removed}
+use Rattle.half_edge_links.proofs.Valid.{valid_removed}
 use Rattle.half_edge_links.proofs.ShrinkTriangles.{triangles_removed}
 use Rattle.half_edge_links.proofs.TakenLists.{removes_ends, removes_outer}
 use Rattle.half_edge_links.proofs.OutlineTaken.{outline_removed}

@@ -5,7 +5,7 @@ use Rattle.half_edge_links.specs.Mesh.{Mesh, IsAlone, out_edge}
 use Rattle.half_edge_links.specs.Move.{IsOneOrbit}
 use Rattle.half_edge_links.proofs.OpenSound.{swap_remove_default}
 use Rattle.half_edge_links.proofs.VertexSound.{can_walk, moves_vertex}
-use Rattle.half_edge_links.proofs.Shrunk.{valid_moved}
+use Rattle.half_edge_links.proofs.Valid.{valid_moved}
 use Rattle.half_edge_links.proofs.OneOrbit.{one_orbit}
 use Rattle.half_edge_links.proofs.TakenLists.{moves_triangles, moves_ends, moves_outer}
 use Rattle.half_edge_links.proofs.OutlineTaken.{outline_moved}
