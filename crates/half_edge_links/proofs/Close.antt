@@ -33,46 +33,22 @@ corner m e s can =
     let second = s.edges (next m e) here.next_in in
     let outer = can.outer in
     let differs : next m (next m e) ≢ e = λ same. can.apart (sym second.starts ∙ ap (origin m) same) in
-    record {
-      second_in = here.next_in;
-      before_in = here.prev_in;
-      after_in = second.next_in;
-      after_before = second.prev_next;
-      second_back = here.prev_next;
-      before_next = here.next_prev;
-      end = second.starts;
-      second_outer = here.same_face ∙ outer;
-      before_outer = sym (s.edges (prev m e) here.prev_in).same_face ∙ ap (face m) here.next_prev ∙ outer;
-      after_outer = second.same_face ∙ here.same_face ∙ outer;
-      before-second = λ same. differs (sym (ap (next m) same) ∙ here.next_prev);
-      after-first = differs;
-      first-second = λ same. here.proper (sym same);
-      before-first = λ same. here.proper (sym (ap (next m) same) ∙ here.next_prev);
-    }
+    let second_outer : face m (next m e) ≡ 0 = here.same_face ∙ outer in
+    let before_outer : face m (prev m e) ≡ 0 = sym (s.edges (prev m e) here.prev_in).same_face ∙ ap (face m) here.next_prev ∙ outer in
+    let after_outer : face m (next m (next m e)) ≡ 0 = second.same_face ∙ second_outer in
+    let before_second : prev m e ≢ next m e = λ same. differs (sym (ap (next m) same) ∙ here.next_prev) in
+    let first_second : e ≢ next m e = λ same. here.proper (sym same) in
+    let before_first : prev m e ≢ e = λ same. here.proper (sym (ap (next m) same) ∙ here.next_prev) in
+    assumption (here, second, differs, second_outer, before_outer, after_outer, before_second, first_second, before_first)
 
 pub closes : (m : Mesh) (e : ℕ) → IsSound m → IsClosable m e → Closes m (closed m e) e (length m.half_edges) (length m.face_edges)
 unfolding closed
 closes m e s can =
     let c = corner m e s can in
     let r = closes_edges m.half_edges e (next m e) (prev m e) (next m (next m e)) (length m.face_edges + 1) can.within c.second_in c.before_in c.after_in c.before-second c.after-first c.first-second in
-    record {
-      inside = links_from _ _ _ r.inside;
-      outside = links_from _ _ _ r.outside;
-      next_before = r.next_before;
-      next_second = r.next_second;
-      prev_after = r.prev_after;
-      prev_first = r.prev_first;
-      other_next = r.other_next;
-      other_prev = r.other_prev;
-      origins = r.origins;
-      face_first = r.face_first;
-      face_second = r.face_second;
-      other_faces = r.other_faces;
-      edge_count = r.count;
-      out_edges = refl;
-      face_edges = refl;
-      outer_edge = refl;
-    }
+    let inside = links_from (closed m e) (length m.half_edges) _ r.inside in
+    let outside = links_from (closed m e) (length m.half_edges + 1) _ r.outside in
+    assumption (r, inside, outside)
 
 module _ (m new : Mesh) (e : ℕ) (s : IsSound m) (can : IsClosable m e) (i : Closes m new e (length m.half_edges) (length m.face_edges)) where
   c : IsCorner m e

@@ -30,36 +30,13 @@ module _ (m : Mesh) (h : ℕ) (s : IsSound m) (can : IsOpenTriangle m h) where
       let three = can.three in
       let face_prev : face m (prev m h) ≡ face m h = sym (s.edges (prev m h) here.prev_in).same_face ∙ ap (face m) here.next_prev in
       let differs : prev m h ≢ h = λ same. can.proper (sym (ap (next m) same) ∙ here.next_prev) in
-      record {
-        h_in = can.within;
-        next_in = here.next_in;
-        prev_in = here.prev_in;
-        next_differs = can.proper;
-        prev_differs = differs;
-        both_differ = λ same. differs (sym three ∙ ap (next m) same ∙ here.next_prev);
-        face_next = here.same_face;
-        face_prev = face_prev;
-        next_next = three;
-        next_prev = here.next_prev;
-        prev_next = here.prev_next;
-        prev_prev = sym (ap (prev m) three) ∙ (s.edges (next m h) here.next_in).prev_next;
-      }
+      let both_differ : next m h ≢ prev m h = λ same. differs (sym three ∙ ap (next m) same ∙ here.next_prev) in
+      let prev_prev : prev m (prev m h) ≡ next m h = sym (ap (prev m) three) ∙ (s.edges (next m h) here.next_in).prev_next in
+      assumption (can, here, face_prev, differs, both_differ, prev_prev)
 
   pub closes : ClosesLoop m (loop_closed m h) h
   unfolding loop_closed
-  closes =
-      let w = sets_loop_face m.half_edges h (length m.face_edges + 1) round.h_in round.next_in round.prev_in in
-      record {
-        edge_count = w.count;
-        nexts = w.next;
-        prevs = w.prev;
-        origins = w.origin;
-        here = w.face;
-        other = w.other;
-        outs = refl;
-        outer_edge = refl;
-        face_edges = refl;
-      }
+  closes = assumption (sets_loop_face m.half_edges h (length m.face_edges + 1) round.h_in round.next_in round.prev_in)
 
   module _ (new : Mesh) (c : ClosesLoop m new h) where
     next_off : (k : ℕ) → k < length m.half_edges → (k ≢ h) × (k ≢ next m h) × (k ≢ prev m h) → (next m k ≢ h) × (next m k ≢ next m h) × (next m k ≢ prev m h)

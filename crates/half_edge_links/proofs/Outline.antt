@@ -217,21 +217,11 @@ module _ (m new : Mesh) (e : ℕ) (s : IsSound m) (can : IsSlidable m e) (i : Sl
 
   -- the edge that is passed stands before the other side of e now
   there_moves : IsMoved (length m.half_edges) (next m) (next new) (next m e) e (next m (next m e)) (prev m (rev e)) (rev e)
-  there_moves = record {
-    t_in = t.there_in;
-    p_in = can.within;
-    r_in = t.before_in;
-    was_after = refl;
-    was_before = refl;
-    were_joined = t.before_next;
-    are_joined = i.next_edge;
-    is_after = i.next_before;
-    is_before = i.next_there;
-    q_off = t.back-there;
-    r_off = t.before-there;
-    s_off = λ q. t.there-twin (sym q);
-    other = λ h within a b c. (i.other_next h within b c a, λ q. b (sym (s.edges h within).prev_next ∙ ap (prev m) q ∙ t.there_prev));
-  }
+  there_moves =
+      let s_off : rev e ≢ next m e = λ q. t.there-twin (sym q) in
+      let other : (h : ℕ) → h < length m.half_edges → h ≢ next m e → h ≢ e → h ≢ prev m (rev e) → (next new h ≡ next m h) × (next m h ≢ next m e) =
+      λ h within a b c. (i.other_next h within b c a, λ q. b (sym (s.edges h within).prev_next ∙ ap (prev m) q ∙ t.there_prev)) in
+      assumption (t, s_off, other)
 
   pub outline_slid : KeepsOneOutline m new
   outline_slid =

@@ -59,20 +59,10 @@ pub record IsInMesh (m : Mesh) (h : ℕ) : Type 0 where
   pub has_out : IsSome (out_edge m (origin m h))
 
 pub sound_from : (m : Mesh) (h : ℕ) → IsInMesh m h → IsNextSound m h → IsPrevSound m h → (0 < face m h → IsInnerSound m h) → IsSoundEdge m h
-sound_from m h a n p inner = record {
-  next_in = n.next_in;
-  prev_in = p.prev_in;
-  origin_in = a.origin_in;
-  face_in = a.face_in;
-  prev_next = n.prev_next;
-  next_prev = p.next_prev;
-  starts = n.starts;
-  same_face = n.same_face;
-  three = λ some. (inner some).three;
-  proper = n.proper;
-  owned = λ some. (inner some).owned;
-  has_out = a.has_out;
-}
+sound_from m h a n p inner =
+    let three = λ (some : 0 < face m h). (inner some).three in
+    let owned = λ (some : 0 < face m h). (inner some).owned in
+    assumption (a, n, p, three, owned)
 
 module _ (old new : Mesh) (h : ℕ) (here : IsSoundEdge old h) where
   pub next_kept : next new h ≡ next old h → prev new (next old h) ≡ prev old (next old h) → origin new (next old h) ≡ origin old (next old h) → origin new (rev h) ≡ origin old (rev h) → face new h ≡ face old h → face new (next old h) ≡ face old (next old h) → length old.half_edges ≤ length new.half_edges → IsNextSound new h
@@ -136,16 +126,7 @@ pub record IsLoop (m : Mesh) (a b c x y z f : ℕ) : Type 0 where
   pub face_in : f ≤ length m.face_edges
 
 turned_loop : (m : Mesh) (a b c x y z f : ℕ) → IsLoop m a b c x y z f → IsLoop m b c a y z x f
-turned_loop m a b c x y z f l = record {
-  first = l.second;
-  second = l.third;
-  third = l.first;
-  within = (l.within.1, l.within.2, l.within.0);
-  apart = (l.apart.1, l.apart.2, l.apart.0);
-  ends = (l.ends.1, l.ends.2, l.ends.0);
-  busy = (l.busy.1, l.busy.2, l.busy.0);
-  face_in = l.face_in;
-}
+turned_loop m a b c x y z f l = assumption l
 
 first_sound : (m : Mesh) (a b c x y z f : ℕ) → IsLoop m a b c x y z f → (face_edge m f ≡ a) ⊎ ((face_edge m f ≡ b) ⊎ (face_edge m f ≡ c)) → IsSoundEdge m a
 first_sound m a b c x y z f l named =

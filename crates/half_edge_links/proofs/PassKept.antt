@@ -44,21 +44,11 @@ module _ (m new : Mesh) (e : ℕ) (s : IsSound m) (can : IsPassable m e) (i : Pa
 
   -- the edge from the far end stands after e now, along the outer face
   far_moves : IsMoved (length m.half_edges) (next m) (next new) (far_edge m e) (prev m (far_edge m e)) (rev e) e (next m e)
-  far_moves = record {
-    t_in = t.there_in;
-    p_in = t.before_in;
-    r_in = can.within;
-    was_after = t.before_next;
-    was_before = t.there_next;
-    were_joined = refl;
-    are_joined = i.next_before;
-    is_after = i.next_edge;
-    is_before = i.next_there;
-    q_off = λ q. t.there-twin (sym q);
-    r_off = t.edge-there;
-    s_off = t.back-there;
-    other = λ h within a b c. (i.other_next h within c b a, λ q. b (sym (s.edges h within).prev_next ∙ ap (prev m) q));
-  }
+  far_moves =
+      let q_off : rev e ≢ far_edge m e = λ q. t.there-twin (sym q) in
+      let other : (h : ℕ) → h < length m.half_edges → h ≢ far_edge m e → h ≢ prev m (far_edge m e) → h ≢ e → (next new h ≡ next m h) × (next m h ≢ far_edge m e) =
+      λ h within a b c. (i.other_next h within c b a, λ q. b (sym (s.edges h within).prev_next ∙ ap (prev m) q)) in
+      assumption (t, q_off, other)
 
   pub outline_passed : KeepsOneOutline m new
   outline_passed =

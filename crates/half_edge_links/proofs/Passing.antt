@@ -43,49 +43,22 @@ beside m e s can =
     let back_is : next m e ≡ rev (far_edge m e) = sym (rev-rev (next m e)) ∙ ap rev (sym can.two) in
     let off : next m e ≢ far_edge m e = λ q. rev_differs (far_edge m e) (sym back_is ∙ q) in
     let end_is : origin m (far_edge m e) ≡ origin m (rev (prev m (far_edge m e))) = ap (origin m) (sym there.next_prev) ∙ (s.edges _ there.prev_in).starts in
-    record {
-      twin_in = twin_in;
-      back_in = here.next_in;
-      there_in = twin.prev_in;
-      before_in = there.prev_in;
-      back_is = back_is;
-      back_prev = here.prev_next;
-      there_next = twin.next_prev;
-      before_next = there.next_prev;
-      start = here.starts;
-      edge-before = λ q. off (ap (next m) q ∙ there.next_prev);
-      edge-there = λ q. can.apart (back_is ∙ ap rev (sym q));
-      before-there = λ q. there.proper (ap (next m) (sym q) ∙ there.next_prev ∙ sym q ∙ q);
-      back-there = off;
-      back-twin = can.apart;
-      there-twin = λ q. there.proper (twin.next_prev ∙ sym q);
-      before-twin = λ q. can.corners (ap (origin m) (sym (rev-rev e) ∙ ap rev (sym q)) ∙ sym end_is ∙ ap (origin m) can.two);
-    }
+    let edge_before : e ≢ prev m (far_edge m e) = λ q. off (ap (next m) q ∙ there.next_prev) in
+    let edge_there : e ≢ far_edge m e = λ q. can.apart (back_is ∙ ap rev (sym q)) in
+    let before_there : prev m (far_edge m e) ≢ far_edge m e = λ q. there.proper (ap (next m) (sym q) ∙ there.next_prev) in
+    let there_twin : far_edge m e ≢ rev e = λ q. there.proper (twin.next_prev ∙ sym q) in
+    let before_twin : prev m (far_edge m e) ≢ rev e = λ q. can.corners (ap (origin m) (sym (rev-rev e) ∙ ap rev (sym q)) ∙ sym end_is ∙ ap (origin m) can.two) in
+    assumption (can, here, there, twin, twin_in, back_is, off, edge_before, edge_there, before_there, there_twin, before_twin)
 
 pub passes : (m : Mesh) (e : ℕ) → IsSound m → IsPassable m e → Passes m (passed m e) e (far_edge m e) (next m e)
 unfolding passed passed_edges
 passes m e s can =
     let t = beside m e s can in
     let r = relinks m.half_edges e (rev e) (far_edge m e) (next m e) (prev m (far_edge m e)) (far_edge m e) (rev e) (next m e) (far_edge m e) e (prev m (far_edge m e)) (origin m (far_edge m e)) can.within t.twin_in t.there_in t.back_in t.before_in t.edge-before t.edge-there t.before-there t.back-there t.back-twin t.there-twin in
-    record {
-      next_edge = r.next_e;
-      next_before = r.next_z;
-      next_there = r.next_k;
-      prev_back = r.prev_l;
-      prev_there = r.prev_k;
-      prev_twin = r.prev_t;
-      other_next = λ h within. r.other_next h;
-      other_prev = λ h within. r.other_prev h;
-      origin_twin = r.origin_t;
-      other_origins = λ h within. r.other_origin h;
-      faces = λ h within. r.faces h;
-      edge_count = r.count;
-      vertex_count = length-set m.out_edges _ _;
-      out = get_or-set_same m.out_edges _ _ None (s.edges (next m e) t.back_in).origin_in;
-      other_outs = λ u differs. get_or-set_other m.out_edges _ u _ None differs;
-      face_edges = refl;
-      outer_edge = refl;
-    }
+    let count = length-set m.out_edges (origin m (next m e)) (Some (next m e)) in
+    let out = get_or-set_same m.out_edges (origin m (next m e)) (Some (next m e)) None (s.edges (next m e) t.back_in).origin_in in
+    let others = λ (u : ℕ). get_or-set_other m.out_edges (origin m (next m e)) u (Some (next m e)) None in
+    assumption (r, count, out, others)
 
 module _ (m new : Mesh) (e : ℕ) (s : IsSound m) (can : IsPassable m e) (i : Passes m new e (far_edge m e) (next m e)) where
   t : IsBeside m e

@@ -14,10 +14,10 @@ pub record Relinks (old new : List HalfEdge) (e t k l z x y w p q r o : ℕ) : T
   pub prev_k : (edge_at new k).prev ≡ q
   pub prev_t : (edge_at new t).prev ≡ r
   pub origin_t : (edge_at new t).origin ≡ o
-  pub other_next : (h : ℕ) → h ≢ e → h ≢ z → h ≢ k → (edge_at new h).next ≡ (edge_at old h).next
-  pub other_prev : (h : ℕ) → h ≢ l → h ≢ k → h ≢ t → (edge_at new h).prev ≡ (edge_at old h).prev
-  pub other_origin : (h : ℕ) → h ≢ t → (edge_at new h).origin ≡ (edge_at old h).origin
-  pub faces : (h : ℕ) → (edge_at new h).face ≡ (edge_at old h).face
+  pub other_next : (h : ℕ) → h < length old → h ≢ e → h ≢ z → h ≢ k → (edge_at new h).next ≡ (edge_at old h).next
+  pub other_prev : (h : ℕ) → h < length old → h ≢ l → h ≢ k → h ≢ t → (edge_at new h).prev ≡ (edge_at old h).prev
+  pub other_origin : (h : ℕ) → h < length old → h ≢ t → (edge_at new h).origin ≡ (edge_at old h).origin
+  pub faces : (h : ℕ) → h < length old → (edge_at new h).face ≡ (edge_at old h).face
 
 module _ (hs : List HalfEdge) (e t k l z x y w p q r o : ℕ) where
   abbrev one : List HalfEdge
@@ -70,12 +70,12 @@ module _ (hs : List HalfEdge) (e t k l z x y w p q r o : ℕ) where
         prev_k = prev-with_origin six t o k ∙ prev_off k t k-t five r ∙ prev-with_prev four k q (rw n4 k_in);
         prev_t = prev-with_origin six t o t ∙ prev-with_prev five t r (rw n5 t_in);
         origin_t = origin-with_origin six t o (rw n6 t_in);
-        other_next = λ h not_e not_z not_k. nexts h ∙ next_off h k not_k two w ∙ next_off h z not_z one y ∙ next_off h e not_e hs x;
-        other_prev = λ h not_l not_k not_t. prev-with_origin six t o h ∙ prev_off h t not_t five r ∙ prev_off h k not_k four q ∙ prev_off h l not_l three p ∙ prevs h;
-        other_origin = λ h not_t.
+        other_next = λ h within not_e not_z not_k. nexts h ∙ next_off h k not_k two w ∙ next_off h z not_z one y ∙ next_off h e not_e hs x;
+        other_prev = λ h within not_l not_k not_t. prev-with_origin six t o h ∙ prev_off h t not_t five r ∙ prev_off h k not_k four q ∙ prev_off h l not_l three p ∙ prevs h;
+        other_origin = λ h within not_t.
             ap (λ (i : HalfEdge). i.origin) (other-with_origin six t o h not_t) ∙ origin-with_prev five t r h ∙ origin-with_prev four k q h ∙ origin-with_prev three l p h
             ∙ origin-with_next two k w h ∙ origin-with_next one z y h ∙ origin-with_next hs e x h;
-        faces = λ h.
+        faces = λ h within.
             face-with_origin six t o h ∙ face-with_prev five t r h ∙ face-with_prev four k q h ∙ face-with_prev three l p h
             ∙ face-with_next two k w h ∙ face-with_next one z y h ∙ face-with_next hs e x h;
       }

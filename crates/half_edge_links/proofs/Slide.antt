@@ -36,48 +36,20 @@ tail m e s can =
     let twin_in : rev e < length m.half_edges = rev_within e _ s.even can.within in
     let twin = s.edges (rev e) twin_in in
     let off_twin : next m (next m e) ≢ rev e = λ q. here.proper (sym (rev-rev (next m e)) ∙ ap rev (sym can.pendant ∙ q) ∙ rev-rev e) in
-    record {
-      twin_in = twin_in;
-      there_in = here.next_in;
-      back_in = there.next_in;
-      before_in = twin.prev_in;
-      back_is = can.pendant;
-      there_back = there.prev_next;
-      there_prev = here.prev_next;
-      before_next = twin.next_prev;
-      start = here.starts;
-      edge-before = λ q. can.apart (ap (next m) q ∙ twin.next_prev);
-      edge-there = λ q. here.proper (sym q);
-      before-there = λ q. off_twin (ap (next m) (sym q) ∙ twin.next_prev);
-      back-there = there.proper;
-      back-twin = off_twin;
-      there-twin = can.apart;
-    }
+    let edge_before : e ≢ prev m (rev e) = λ q. can.apart (ap (next m) q ∙ twin.next_prev) in
+    let edge_there : e ≢ next m e = λ q. here.proper (sym q) in
+    let before_there : prev m (rev e) ≢ next m e = λ q. off_twin (ap (next m) (sym q) ∙ twin.next_prev) in
+    assumption (can, here, there, twin, twin_in, off_twin, edge_before, edge_there, before_there)
 
 pub slides : (m : Mesh) (e : ℕ) → IsSound m → IsSlidable m e → Slides m (slid m e) e (next m e) (next m (next m e))
 unfolding slid slid_edges
 slides m e s can =
     let t = tail m e s can in
     let r = relinks m.half_edges e (rev e) (next m e) (next m (next m e)) (prev m (rev e)) (next m (next m e)) (next m e) (rev e) e (prev m (rev e)) (next m e) (origin m (next m (next m e))) can.within t.twin_in t.there_in t.back_in t.before_in t.edge-before t.edge-there t.before-there t.back-there t.back-twin t.there-twin in
-    record {
-      next_edge = r.next_e;
-      next_before = r.next_z;
-      next_there = r.next_k;
-      prev_back = r.prev_l;
-      prev_there = r.prev_k;
-      prev_twin = r.prev_t;
-      other_next = λ h within. r.other_next h;
-      other_prev = λ h within. r.other_prev h;
-      origin_twin = r.origin_t;
-      other_origins = λ h within. r.other_origin h;
-      faces = λ h within. r.faces h;
-      edge_count = r.count;
-      vertex_count = length-set m.out_edges _ _;
-      out = get_or-set_same m.out_edges _ _ None (s.edges (next m e) t.there_in).origin_in;
-      other_outs = λ u differs. get_or-set_other m.out_edges _ u _ None differs;
-      face_edges = refl;
-      outer_edge = refl;
-    }
+    let count = length-set m.out_edges (origin m (next m e)) (Some (next m e)) in
+    let out = get_or-set_same m.out_edges (origin m (next m e)) (Some (next m e)) None (s.edges (next m e) t.there_in).origin_in in
+    let others = λ (u : ℕ). get_or-set_other m.out_edges (origin m (next m e)) u (Some (next m e)) None in
+    assumption (r, count, out, others)
 
 module _ (m new : Mesh) (e : ℕ) (s : IsSound m) (can : IsSlidable m e) (i : Slides m new e (next m e) (next m (next m e))) where
   t : IsTail m e

@@ -28,20 +28,9 @@ triangle_at m h s within inner =
     let three = here.three inner in
     let face_prev : face m (prev m h) ≡ face m h = cc in
     let differs : prev m h ≢ h = λ same. here.proper (cc) in
-    record {
-      h_in = within;
-      next_in = here.next_in;
-      prev_in = here.prev_in;
-      next_differs = here.proper;
-      prev_differs = differs;
-      both_differ = λ same. differs (cc);
-      face_next = here.same_face;
-      face_prev = face_prev;
-      next_next = three;
-      next_prev = here.next_prev;
-      prev_next = here.prev_next;
-      prev_prev = cc;
-    }
+    let both_differ : next m h ≢ prev m h = λ same. differs (cc) in
+    let prev_prev : prev m (prev m h) ≡ next m h = cc in
+    assumption (here, three, face_prev, differs, both_differ, prev_prev)
 
 -- edges with one inner face lie in one loop
 pub same_loop : (m : Mesh) (h g : ℕ) → IsSound m → h < length m.half_edges → g < length m.half_edges → 0 < face m h → face m g ≡ face m h → (g ≡ h) ⊎ ((g ≡ next m h) ⊎ (g ≡ prev m h))

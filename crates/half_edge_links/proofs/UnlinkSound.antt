@@ -199,16 +199,9 @@ module _ (m new : Mesh) (e : ℕ) (s : IsSound m) (can : IsUnlinkable m e) (u : 
       let n_t : next m h ≢ rev e = λ z. h_x (sym here.prev_next ∙ ap (prev m) z) in
       let n_q : next m h ≢ next m e = λ z. h_e (sym here.prev_next ∙ ap (prev m) z ∙ at_e.prev_next) in
       let n_y : next m h ≢ next m (rev e) = λ z. h_t (sym here.prev_next ∙ ap (prev m) z ∙ at_t.prev_next) in
-      record {
-        n_in = here.next_in;
-        n_e = n_e;
-        n_t = n_t;
-        next_is = u.other_next h h_e h_t h_p h_x;
-        prev_is = u.other_prev (next m h) n_e n_t n_q n_y ∙ here.prev_next;
-        starts = here.starts;
-        same_face = here.same_face;
-        differs = here.proper;
-      }
+      let next_is = u.other_next h h_e h_t h_p h_x in
+      let prev_is : prev new (next m h) ≡ h = u.other_prev (next m h) n_e n_t n_q n_y ∙ here.prev_next in
+      assumption (here, n_e, n_t, next_is, prev_is)
 
   -- what is after an edge that is left
   pub after : (h : ℕ) → h < length m.half_edges → h ≢ e → h ≢ rev e → (n : ℕ) × IsAfter h n

@@ -193,21 +193,14 @@ pub moves_some : (m new : Mesh) (v first : ℕ) → IsSound m → IsAlone m v �
 moves_some m new v first s alone orbit named w a b c =
     let walk = can_walk m s in
     let had = s.vertices (length m.out_edges - 1) first named in
-    record {
-      edge_count = w.count;
-      nexts = w.nexts;
-      prevs = w.prevs;
-      faces = w.faces;
-      origins = λ k within. elim (cases_eq (origin m k) (length m.out_edges - 1)) [
-        | inl is ↦
-            let i = orbit first k named within is in
-            sym (ap (origin new) i.1) ∙ w.there i.0 ∙ sym (moved_hit (length m.out_edges - 1) v (origin m k) is)
-        | inr off ↦ w.other k (λ i q. off (sym (ap (origin m) q) ∙ (spoke_at m first s had.0 i).1 ∙ had.1)) ∙ sym (moved_miss (length m.out_edges - 1) v (origin m k) off)
-      ];
-      out_edges = a;
-      face_edges = b;
-      outer_edge = c;
-    }
+    let origins : (k : ℕ) → k < length m.half_edges → origin new k ≡ moved (length m.out_edges - 1) v (origin m k) =
+    λ k within. elim (cases_eq (origin m k) (length m.out_edges - 1)) [
+      | inl is ↦
+          let i = orbit first k named within is in
+          sym (ap (origin new) i.1) ∙ w.there i.0 ∙ sym (moved_hit (length m.out_edges - 1) v (origin m k) is)
+      | inr off ↦ w.other k (λ i q. off (sym (ap (origin m) q) ∙ (spoke_at m first s had.0 i).1 ∙ had.1)) ∙ sym (moved_miss (length m.out_edges - 1) v (origin m k) off)
+    ] in
+    assumption (w, a, b, c, origins)
 
 -- the last vertex has no edges either
 pub moves_none : (m new : Mesh) (v : ℕ) → IsSound m → IsAlone m v → out_edge m (length m.out_edges - 1) ≡ None → new.half_edges ≡ m.half_edges → new.out_edges ≡ swap_remove m.out_edges v None → new.face_edges ≡ m.face_edges → new.outer_edge ≡ m.outer_edge → MovesVertex m new v
