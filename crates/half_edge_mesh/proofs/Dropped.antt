@@ -1,6 +1,8 @@
 -- The parts of a mesh where a vertex went and the last one took its index.
 use Rattle.std.proofs.Common.{◌≡◌, ℕ, zero, suc, ◌-◌, ◌<◌, ◌≤◌, List, [], ◌∷◌, length, map, get_or, Some, refl, sym, ap, ◌∙◌, inl, inr, arith}
 use Rattle.std.proofs.lemmas.Bool.{cases_eq}
+use Rattle.std.proofs.lemmas.Grind.{common_steps}
+use Rattle.std.proofs.lemmas.Option.{gets}
 use Rattle.half_edge_links.specs.Mesh.{Mesh, face, rev, IsSound}
 use Rattle.half_edge_links.specs.Move.{MovesVertex}
 use Rattle.half_edge_links.specs.Renames.{moved}
@@ -38,9 +40,7 @@ module _ (m new : Mesh) (v n : ℕ) (at : n ≡ length m.out_edges) where
 
 -- the item that goes, as a read gives it
 pub item_is : {X : Type 0} (xs : List X) (k : ℕ) (x : X) → k < length xs → x ≡ get_or xs k x → slice_get xs k ≡ Some x
-item_is [] k x within is = absurd (omega (arith, within))
-item_is (y ∷ ys) zero x within is = ap Some (sym is)
-item_is (y ∷ ys) (suc k) x within is = item_is ys k x (omega (arith, within)) is
+item_is xs k x within is = grind (arith, common_steps, gets)
 
 module _ (m new : Mesh) (v : ℕ) (s : IsSound m) (c : MovesVertex m new v) where
   among_renumbered : (k : ℕ) → k ≤ length m.half_edges → outer_among new k ≡ map (renumbered_ends (length m.out_edges - 1) v) (outer_among m k)

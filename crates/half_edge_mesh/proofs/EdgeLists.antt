@@ -3,7 +3,8 @@ use Rattle.std.proofs.Common.{◌≡◌, ℕ, zero, suc, ◌*◌, ◌%◌, List,
 use Rattle.std.specs.Prelude.{slice_get}
 use Rattle.std.proofs.lemmas.List.{length-map, length-set}
 use Rattle.half_edge_links.specs.Mesh.{Mesh}
-use Rattle.half_edge_links.specs.Outline.{Ends, paired, origins, ends, along}
+use Rattle.half_edge_links.specs.Outline.{Ends, origins, ends, along}
+use Rattle.half_edge_links.proofs.Ends.{length-paired}
 use Rattle.half_edge_mesh.specs.Contents.{FitsMesh, edge_with, edges_of}
 use Rattle.half_edge_mesh.specs.Growth.{Grows, MovesItem, AddsEdges, SplitsEdge, with_ends}
 
@@ -20,11 +21,6 @@ edges_of-set (x ∷ es) [] zero e = refl
 edges_of-set (x ∷ es) [] (suc k) e = refl
 edges_of-set (x ∷ es) (u ∷ us) zero e = refl
 edges_of-set (x ∷ es) (u ∷ us) (suc k) e = ap (λ q. edge_with x u ∷ q) (edges_of-set es us k e)
-
-length-paired : (xs : List ℕ) → length xs % 2 ≡ 0 → 2 * length (paired xs) ≡ length xs
-length-paired [] even = refl
-length-paired (a ∷ []) even = absurd (omega (arith, even))
-length-paired (a ∷ b ∷ rest) even = let e = length-paired rest (omega (arith, even)) in omega (arith, e)
 
 -- there is one list entry for each undirected edge
 pub length-ends : (m : Mesh) (v d u f : ℕ) → FitsMesh m v d u f → u ≡ length (ends m)

@@ -22,7 +22,7 @@ use Rattle.half_edge_mesh.specs.Hole.{IsHub, HasFreeTip, HasDataOf, FillsWithFan
 use Rattle.half_edge_mesh.proofs.Filtered.{sorted_out, Contains-filter}
 use Rattle.half_edge_mesh.proofs.HubFaces.{no_face_of, count_faces, round_faces, round_faces_are, faces_round}
 use Rattle.half_edge_mesh.proofs.Touching.{has_corner, lacks_corner, touches, misses, touches_it, corner_there, corners_off, ends_off}
-use Rattle.half_edge_mesh.proofs.TurnedAway.{IsTurned, value_at}
+use Rattle.half_edge_mesh.proofs.TurnedEdge.{IsTurned, value_at}
 use Rattle.half_edge_mesh.proofs.Turning.{all_zip-push}
 
 -- ---- a vertex without edges

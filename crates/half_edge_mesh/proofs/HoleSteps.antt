@@ -24,7 +24,7 @@ use Rattle.half_edge_mesh.specs.Contents.{Contents, IsWhole}
 use Rattle.half_edge_mesh.specs.Growth.{joins}
 use Rattle.half_edge_mesh.specs.Removal.{FullFace, IsBetween, HasCorners, LosesEdges, LosesFaces, GivesFace, OuterChanges, FillsHole, full_edges, full_edges_of, full_faces, full_faces_of, spokes_to, faces_between}
 use Rattle.half_edge_mesh.proofs.LineSteps.{alone_after}
-use Rattle.half_edge_mesh.proofs.OuterSums.{whole_ends, whole_corners, ends_sum, total_full_faces, total_lost_faces, total-permutation, total-append, any_corner, outer_sum}
+use Rattle.half_edge_mesh.proofs.OuterSums.{ends_sum, total_faces, total_lost_faces, total-permutation, total-append, any_corner, outer_sum}
 use Rattle.half_edge_mesh.proofs.StripSteps.{IsSameBut, same_but, same_but_edges, same_but_faces, one_more_gone, none_gone}
 use Rattle.half_edge_mesh.proofs.TakenEdges.{named_corners}
 
@@ -55,12 +55,10 @@ last_spoke m z v c0 c1 c2 s within h = λ i. joins (h.start i) ((sym (s.edges z 
 outer_filled : {V D U F : Type 0} (old new : Contents V D U F) (v : ℕ) (n : ℕ → ℕ) (lost : List (FullFace F)) (made : FullFace F) (rest : List (FullFace F)) → n 3 ≡ n 0 → IsWhole old → IsWhole new → LosesEdges old new (spokes_to v n 3)
     → AllZip HasCorners lost (faces_between v n 3) → HasCorners made (record { first = n 0; second = n 1; third = n 2 }) → IsPermutation (full_faces old) (lost ++ rest) → IsPermutation (full_faces new) (made ∷ rest) → OuterChanges old.mesh new.mesh [] []
 outer_filled {V} {D} {U} {F} old new v n lost made rest again a b edges lost_are made_is was is f =
-    let e = whole_ends old a in
-    let e' = whole_ends new b in
     let g : FullFace F → ℤ = λ x. around f x.corners in
-    let es = ends_sum f (ends old.mesh) (ends new.mesh) old.undirected new.undirected old.directed new.directed _ edges.0 e.0 e.1 e'.0 e'.1 edges.1 edges.2 in
-    let before = sym (total_full_faces f (triangles old.mesh) old.faces (whole_corners old a)) ∙ sym (total-permutation g _ _ was) ∙ total-append g lost rest in
-    let after = sym (total_full_faces f (triangles new.mesh) new.faces (whole_corners new b)) ∙ sym (total-permutation g _ _ is) in
+    let es = ends_sum f old new _ a b edges in
+    let before = sym (total_faces f old a) ∙ sym (total-permutation g _ _ was) ∙ total-append g lost rest in
+    let after = sym (total_faces f new b) ∙ sym (total-permutation g _ _ is) in
     let gone = total_lost_faces f lost (faces_between v n 3) lost_are in
     let come = any_corner f made (record { first = n 0; second = n 1; third = n 2 }) made_is in
     let ge = total (both_ways f) (spokes_to v n 3) in

@@ -16,5 +16,4 @@ pub mod Filtered
 pub mod Touching
 pub mod HubFaces
 pub mod TurnedEdge
-pub mod TurnedAway
 pub mod HoleFilled

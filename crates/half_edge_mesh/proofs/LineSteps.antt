@@ -1,10 +1,9 @@
 -- A vertex of a line loses its edges.
-use Rattle.std.proofs.Common.{◌≡◌, ◌≢◌, ◌⊎◌, ℕ, ◌+◌, ◌*◌, ◌/◌, ◌%◌, ◌<◌, List, [], ◌∷◌, length, set, get_or, None, sym, ap, ◌∙◌, inl, inr, arith, map, subst}
+use Rattle.std.proofs.Common.{◌≡◌, ◌≢◌, ◌⊎◌, ℕ, ◌+◌, ◌*◌, ◌/◌, ◌%◌, ◌<◌, List, [], ◌∷◌, length, set, get_or, None, sym, ap, ◌∙◌, inl, inr, arith, map}
 use Rattle.std.proofs.lemmas.Bool.{cases_eq}
 use Rattle.std.proofs.lemmas.Bool.Decides.{nat_tests}
 use Rattle.std.proofs.lemmas.Int.{ints}
 use Rattle.std.specs.Prelude.{ℤ, pos, ◌+ℤ◌}
-use Rattle.std.specs.List.Sorted.{IsPermutation}
 use Rattle.half_edge_links.specs.Flow.{total, around, both_ways}
 use Rattle.half_edge_links.specs.Mesh.{Mesh, origin, next, prev, face, out_edge, rev, IsSound, IsValid}
 use Rattle.half_edge_links.specs.Outline.{Ends, ends, along, MovesEdge}
@@ -24,7 +23,7 @@ use Rattle.half_edge_mesh.proofs.TakenOut.{length-full_edges}
 use Rattle.half_edge_mesh.proofs.TakenEdges.{listed_ends, between}
 use Rattle.half_edge_mesh.proofs.TwoEdges.{item_at, one_written_one_taken}
 use Rattle.half_edge_mesh.proofs.Touching.{with_other_ends, full_edges-set}
-use Rattle.half_edge_mesh.proofs.OuterSums.{whole_ends, total-permutation, total_full_edges, either_way, edge_ends, outer_sum, ends_sum}
+use Rattle.half_edge_mesh.proofs.OuterSums.{total-permutation, total_edges, either_way, edge_ends, outer_sum, ends_sum}
 use Rattle.half_edge_mesh.proofs.Outlines.{empty_list}
 
 out_self : (e : ℕ) → out_after e e ≡ None
@@ -197,55 +196,36 @@ outer_end m new v u valid valid' same sums f =
     omega (arith, ints, a)
 
 -- two edges of a vertex give way to one
-pub outer_joined : {D U : Type 0} (m new : Mesh) (us us' : List U) (ds ds' : List D) (u v w : ℕ) (kept moved lost : FullEdge D U) (rest : List (FullEdge D U)) → IsValid m → IsValid new → triangles new ≡ triangles m
-    → length us ≡ length (ends m) → length ds ≡ 2 * length (ends m) → length us' ≡ length (ends new) → length ds' ≡ 2 * length (ends new)
-    → IsBetween kept (joins u v) → IsBetween moved (joins u w) → IsBetween lost (joins v w)
-    → IsPermutation (full_edges_of (ends m) us ds) (lost ∷ kept ∷ rest) → IsPermutation (full_edges_of (ends new) us' ds') (moved ∷ rest)
-    → OuterChanges m new (joins v u ∷ joins u v ∷ joins v w ∷ joins w v ∷ []) (joins u w ∷ joins w u ∷ [])
-outer_joined {D} {U} m new us us' ds ds' u v w kept moved lost rest valid valid' same a b a' b' kept_is moved_is lost_is was is f =
+pub outer_joined : {V D U F : Type 0} (old new : Contents V D U F) (v u w : ℕ) → IsWhole old → IsWhole new → triangles new.mesh ≡ triangles old.mesh → JoinsNeighbours old new v u w
+    → OuterChanges old.mesh new.mesh (joins v u ∷ joins u v ∷ joins v w ∷ joins w v ∷ []) (joins u w ∷ joins w u ∷ [])
+outer_joined {V} {D} {U} {F} old new v u w a b same j f =
     let g : FullEdge D U → ℤ = λ x. both_ways f (edge_ends x) in
-    let before = sym (total_full_edges f (ends m) us ds a b) ∙ sym (total-permutation g _ _ was) in
-    let after = sym (total_full_edges f (ends new) us' ds' a' b') ∙ sym (total-permutation g _ _ is) in
-    let k = either_way f kept (joins u v) kept_is in
-    let n = either_way f moved (joins u w) moved_is in
-    let l = either_way f lost (joins v w) lost_is in
-    let all = outer_sum f m new valid valid' (g lost +ℤ g kept) (g moved) (pos 0) (pos 0) (omega (arith, ints, before, after)) (ap (λ ts. total (around f) ts +ℤ pos 0) same) in
+    let moved_is : IsBetween j.moved (joins u w) = elim j.moved_is [ inl q ↦ inl (ap (λ (x : FullEdge D U). x.source) q.1, ap (λ (x : FullEdge D U). x.target) q.1) | inr q ↦ inr (ap (λ (x : FullEdge D U). x.source) q.1, ap (λ (x : FullEdge D U). x.target) q.1) ] in
+    let before = sym (total_edges f old a) ∙ sym (total-permutation g _ _ j.was) in
+    let after = sym (total_edges f new b) ∙ sym (total-permutation g _ _ j.is) in
+    let k = either_way f j.kept (joins u v) j.kept_is in
+    let n = either_way f j.moved (joins u w) moved_is in
+    let l = either_way f j.lost (joins v w) j.lost_is in
+    let all = outer_sum f old.mesh new.mesh a.valid b.valid (g j.lost +ℤ g j.kept) (g j.moved) (pos 0) (pos 0) (omega (arith, ints, before, after)) (ap (λ ts. total (around f) ts +ℤ pos 0) same) in
     omega (arith, ints, k, n, l, all)
 
 -- ---- the steps
--- an edge that is the only one of the vertex where it starts
-pub record IsRemovableEnd (m : Mesh) (out : ℕ) : Type 0 where
-  pub within : out < length m.half_edges
-  pub one : turn m out ≡ out
-  pub whole : next m out ≡ rev out → prev m out ≡ rev out → length m.half_edges ≡ 2
-
-no_triangles : (m : Mesh) → m.face_edges ≡ [] → triangles m ≡ []
-no_triangles m none = ap (map (triangle_at m)) none
-
 module _ {V D U F : Type 0} where
   pub no_inner_face : (c : Contents V D U F) → IsWhole c → length c.faces ≡ 0 → c.mesh.face_edges ≡ []
   no_inner_face c w none = empty_list c.mesh.face_edges (sym w.fits.faces_fit ∙ none)
 
   -- the only edge of a vertex goes
-  pub end_left : (old new : Contents V D U F) (out : ℕ) → IsWhole old → IsWhole new → length old.faces ≡ 0 → (can : IsRemovableEnd old.mesh out) → new ≡ record old { mesh = new.mesh; directed = new.directed; undirected = new.undirected } → Removes old.mesh new.mesh out
+  pub end_left : (old new : Contents V D U F) (out : ℕ) → IsWhole old → IsWhole new → turn old.mesh out ≡ out → (can : IsRemovable old.mesh out) → new ≡ record old { mesh = new.mesh; directed = new.directed; undirected = new.undirected } → Removes old.mesh new.mesh out
       → LosesEdges old new (joins (origin old.mesh out) (origin old.mesh (rev out)) ∷ []) → triangles new.mesh ≡ triangles old.mesh → LeavesLine old new (origin old.mesh out)
-  end_left old new out a b none can contents r edges same =
+  end_left old new out a b one can contents r edges same =
       let m = old.mesh in
       let v : ℕ = origin m out in
       let u : ℕ = origin m (rev out) in
       let s = a.valid.sound in
-      let e = whole_ends old a in
-      let e' = whole_ends new b in
-      let removable = removable_end m out a.valid can.within (no_inner_face old a none) can.one can.whole in
       record {
         contents = contents;
-        alone = alone_after m new.mesh out s removable (after_turn m out out s can.within can.one) r;
-        how = inr (inl (
-          u,
-          (λ q. a.valid.apart out can.within (sym q)),
-          edges,
-          outer_end m new.mesh v u a.valid b.valid same (λ f. ends_sum f (ends m) (ends new.mesh) old.undirected new.undirected old.directed new.directed _ edges.0 e.0 e.1 e'.0 e'.1 edges.1 edges.2),
-        ));
+        alone = alone_after m new.mesh out s can (after_turn m out out s can.within one) r;
+        how = inr (inl (u, (λ q. a.valid.apart out can.within (sym q)), edges, outer_end m new.mesh v u a.valid b.valid same (λ f. ends_sum f old new _ a b edges)));
       }
 
   -- two edges of a vertex give way to one
@@ -269,14 +249,10 @@ module _ {V D U F : Type 0} where
       let r' : Removes c1.mesh c2.mesh l = rw is at r in
       let gone = alone_after c1.mesh c2.mesh l w1.valid.sound (removable_hanging m c1.mesh e s can links) (hangs_free m c1.mesh e s can links) r' in
       let at_v : origin c1.mesh l ≡ origin m out = links.other_origins l p.back_in p.back-twin ∙ p.start ∙ v_is in
-      let none : triangles c2.mesh ≡ triangles m = same ∙ no_triangles c1.mesh (links.face_edges ∙ can.one_face) ∙ sym (no_triangles m can.one_face) in
-      let e0 = whole_ends c0 w0 in
-      let e2 = whole_ends c2 w2 in
-      let moved_between : IsBetween j.moved (joins u w) = elim j.moved_is [ inl q ↦ inl (ap (λ (x : FullEdge D U). x.source) q.1, ap (λ (x : FullEdge D U). x.target) q.1) | inr q ↦ inr (ap (λ (x : FullEdge D U). x.source) q.1, ap (λ (x : FullEdge D U). x.target) q.1) ] in
-      let outer : OuterChanges m c2.mesh (joins (origin m (rev e)) u ∷ joins u (origin m (rev e)) ∷ joins (origin m (rev e)) w ∷ joins w (origin m (rev e)) ∷ []) (joins u w ∷ joins w u ∷ []) =
-      outer_joined m c2.mesh c0.undirected c2.undirected c0.directed c2.directed u (origin m (rev e)) w j.kept j.moved j.lost j.rest w0.valid w2.valid none e0.0 e0.1 e2.0 e2.1 j.kept_is moved_between j.lost_is j.was j.is in
+      let none : triangles c2.mesh ≡ triangles m = same ∙ ap (map (triangle_at c1.mesh)) (links.face_edges ∙ can.one_face) ∙ sym (ap (map (triangle_at m)) can.one_face) in
+      let joined : JoinsNeighbours c0 c2 (origin m out) u w = rw v_is at j in
       record {
         contents = contents ∙ ap (λ (x : Contents V D U F). record x { mesh = c2.mesh; directed = c2.directed; undirected = c2.undirected }) passed;
         alone = rw at_v at gone;
-        how = inr (inr (u, w, can.corners, subst (λ v. JoinsNeighbours c0 c2 v u w) v_is j, subst (λ v. OuterChanges m c2.mesh (joins v u ∷ joins u v ∷ joins v w ∷ joins w v ∷ []) (joins u w ∷ joins w u ∷ [])) v_is outer));
+        how = inr (inr (u, w, can.corners, joined, outer_joined c0 c2 (origin m out) u w w0 w2 none joined));
       }

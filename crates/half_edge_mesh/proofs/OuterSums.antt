@@ -14,7 +14,7 @@ use Rattle.half_edge_links.specs.Triangles.{Triangle, triangles, triangle_at}
 use Rattle.half_edge_links.proofs.Flow.{sides_add_up}
 use Rattle.half_edge_links.proofs.TakenLists.{count_ends}
 use Rattle.half_edge_mesh.specs.Contents.{Contents, IsWhole}
-use Rattle.half_edge_mesh.specs.Removal.{FullEdge, full_edges_of, FullFace, full_faces_of, IsBetween, HasCorners}
+use Rattle.half_edge_mesh.specs.Removal.{FullEdge, full_edges, full_edges_of, FullFace, full_faces, full_faces_of, IsBetween, HasCorners, LosesEdges, LosesFaces}
 
 -- ---- totals
 module _ {X : Type 0} (f : X → ℤ) where
@@ -82,20 +82,6 @@ module _ (f : ℕ → ℕ → ℤ) where
   total_lost_faces (x ∷ xs) [] z = absurd z
   total_lost_faces (x ∷ xs) (t ∷ ts) z = λ i. any_corner x t z.0 i +ℤ total_lost_faces xs ts z.1 i
 
-  -- edges that go
-  pub ends_sum : {D U : Type 0} (es es' : List Ends) (us us' : List U) (ds ds' : List D) (gone : List Ends) (lost : List (FullEdge D U)) → length us ≡ length es → length ds ≡ 2 * length es → length us' ≡ length es' → length ds' ≡ 2 * length es'
-      → AllZip IsBetween lost gone → IsPermutation (full_edges_of es us ds) (lost ++ full_edges_of es' us' ds') → total (both_ways f) es ≡ total (both_ways f) gone +ℤ total (both_ways f) es'
-  ends_sum {D} {U} es es' us us' ds ds' gone lost p q p' q' z perm =
-      let g : FullEdge D U → ℤ = λ x. both_ways f (edge_ends x) in
-      sym (total_full_edges es us ds p q) ∙ sym (total-permutation g _ _ perm) ∙ total-append g lost _ ∙ (λ i. total_lost_edges lost gone z i +ℤ total_full_edges es' us' ds' p' q' i)
-
-  -- faces that go
-  pub corners_sum : {F : Type 0} (ts ts' : List Triangle) (fs fs' : List F) (gone : List Triangle) (lost : List (FullFace F)) → length fs ≡ length ts → length fs' ≡ length ts'
-      → AllZip HasCorners lost gone → IsPermutation (full_faces_of ts fs) (lost ++ full_faces_of ts' fs') → total (around f) ts ≡ total (around f) gone +ℤ total (around f) ts'
-  corners_sum {F} ts ts' fs fs' gone lost p p' z perm =
-      let g : FullFace F → ℤ = λ x. around f x.corners in
-      sym (total_full_faces ts fs p) ∙ sym (total-permutation g _ _ perm) ∙ total-append g lost _ ∙ (λ i. total_lost_faces lost gone z i +ℤ total_full_faces ts' fs' p' i)
-
   -- so the outer edges make up for the difference
   pub outer_sum : (m new : Mesh) → IsValid m → IsValid new → (gone_ends made_ends gone_faces made_faces : ℤ)
       → total (both_ways f) (ends new) +ℤ gone_ends ≡ total (both_ways f) (ends m) +ℤ made_ends
@@ -111,3 +97,22 @@ whole_ends c w =
 
 pub whole_corners : {V D U F : Type 0} (c : Contents V D U F) → IsWhole c → length c.faces ≡ length (triangles c.mesh)
 whole_corners c w = w.fits.faces_fit ∙ sym (length-map c.mesh.face_edges (triangle_at c.mesh))
+
+module _ {V D U F : Type 0} (f : ℕ → ℕ → ℤ) where
+  pub total_edges : (c : Contents V D U F) → IsWhole c → total (λ (x : FullEdge D U). both_ways f (edge_ends x)) (full_edges c) ≡ total (both_ways f) (ends c.mesh)
+  total_edges c w = let fit = whole_ends c w in total_full_edges f (ends c.mesh) c.undirected c.directed fit.0 fit.1
+
+  pub total_faces : (c : Contents V D U F) → IsWhole c → total (λ (x : FullFace F). around f x.corners) (full_faces c) ≡ total (around f) (triangles c.mesh)
+  total_faces c w = total_full_faces f (triangles c.mesh) c.faces (whole_corners c w)
+
+  -- edges that go
+  pub ends_sum : (old new : Contents V D U F) (gone : List Ends) → IsWhole old → IsWhole new → LosesEdges old new gone → total (both_ways f) (ends old.mesh) ≡ total (both_ways f) gone +ℤ total (both_ways f) (ends new.mesh)
+  ends_sum old new gone a b l =
+      let g : FullEdge D U → ℤ = λ x. both_ways f (edge_ends x) in
+      sym (total_edges old a) ∙ sym (total-permutation g _ _ l.2) ∙ total-append g l.0 _ ∙ (λ i. total_lost_edges f l.0 gone l.1 i +ℤ total_edges new b i)
+
+  -- faces that go
+  pub corners_sum : (old new : Contents V D U F) (gone : List Triangle) → IsWhole old → IsWhole new → LosesFaces old new gone → total (around f) (triangles old.mesh) ≡ total (around f) gone +ℤ total (around f) (triangles new.mesh)
+  corners_sum old new gone a b l =
+      let g : FullFace F → ℤ = λ x. around f x.corners in
+      sym (total_faces old a) ∙ sym (total-permutation g _ _ l.2) ∙ total-append g l.0 _ ∙ (λ i. total_lost_faces f l.0 gone l.1 i +ℤ total_faces new b i)

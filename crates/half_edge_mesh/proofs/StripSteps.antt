@@ -8,7 +8,6 @@ use Rattle.std.proofs.lemmas.List.Sorted.{IsPermutation-refl, IsPermutation-tran
 use Rattle.half_edge_links.specs.Hull.{KeepsOneOutline, IsPendant}
 use Rattle.half_edge_links.specs.Flow.{total, around, along, both_ways, outline}
 use Rattle.half_edge_links.specs.Mesh.{Mesh, origin, prev, face, rev, IsValid}
-use Rattle.half_edge_links.specs.Outline.{ends}
 use Rattle.half_edge_links.specs.Peel.{IsStrip, IsPeelable, Peels, turn}
 use Rattle.half_edge_links.specs.Remove.{Removes, IsRemovable, after_removal}
 use Rattle.half_edge_links.specs.Round.{neighbour}
@@ -20,7 +19,7 @@ use Rattle.half_edge_mesh.specs.Contents.{Contents, IsWhole}
 use Rattle.half_edge_mesh.specs.Growth.{joins}
 use Rattle.half_edge_mesh.specs.Removal.{IsBetween, HasCorners, LosesEdges, LosesFaces, LosesStrip, OuterChanges, full_edges, full_faces, full_faces_of, spokes_to, faces_between, chain}
 use Rattle.half_edge_mesh.proofs.LineSteps.{alone_after}
-use Rattle.half_edge_mesh.proofs.OuterSums.{whole_ends, whole_corners, ends_sum, corners_sum, outer_sum}
+use Rattle.half_edge_mesh.proofs.OuterSums.{ends_sum, corners_sum, outer_sum}
 
 -- a mesh with the vertices, the outer face and the room of another
 abbrev pub IsSameBut : {V D U F : Type 0} → Contents V D U F → Contents V D U F → Type 0
@@ -110,12 +109,8 @@ module _ (f : ℕ → ℕ → ℤ) (v : ℕ) (n : ℕ → ℕ) where
 
 pub outer_stripped : {V D U F : Type 0} (old new : Contents V D U F) (v : ℕ) (n : ℕ → ℕ) (k : ℕ) → IsWhole old → IsWhole new → LosesEdges old new (spokes_to v n (suc k)) → LosesFaces old new (faces_between v n k) → OuterChanges old.mesh new.mesh (joins (n 0) v ∷ joins v (n k) ∷ []) (chain n k)
 outer_stripped old new v n k a b edges faces f =
-    let e = whole_ends old a in
-    let e' = whole_ends new b in
-    let t = whole_corners old a in
-    let t' = whole_corners new b in
-    let es = ends_sum f (ends old.mesh) (ends new.mesh) old.undirected new.undirected old.directed new.directed _ edges.0 e.0 e.1 e'.0 e'.1 edges.1 edges.2 in
-    let ts = corners_sum f (triangles old.mesh) (triangles new.mesh) old.faces new.faces _ faces.0 t t' faces.1 faces.2 in
+    let es = ends_sum f old new _ a b edges in
+    let ts = corners_sum f old new _ a b faces in
     let ge = total (both_ways f) (spokes_to v n (suc k)) in
     let gt = total (around f) (faces_between v n k) in
     let o = outer_sum f old.mesh new.mesh a.valid b.valid ge (pos 0) gt (pos 0) (omega (arith, ints, es)) (omega (arith, ints, ts)) in

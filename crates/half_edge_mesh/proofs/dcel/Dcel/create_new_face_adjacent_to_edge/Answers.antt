@@ -17,14 +17,10 @@ pub returns-clause-outline : goal.returns-clause-outline
 returns-clause-outline g c = rw (← c.self.view_is) (λ one. c.add_face_beside.ensures.outline (c.push_vertex-v.ensures.outline one))
 
 pub returns-clause-mesh : goal.returns-clause-mesh
-returns-clause-mesh g c =
-    let is = rw (c.push_vertex-v.ensures.mesh, c.index.ensures, ← c.from_index.ensures) at c.add_face_beside.ensures.mesh in
-    rw (← c.self.view_is) is
+returns-clause-mesh g c = rw (← c.self.view_is) (rw (c.push_vertex-v.ensures.mesh, c.index.ensures, ← c.from_index.ensures) at c.add_face_beside.ensures.mesh)
 
 pub returns-clause-triangles : goal.returns-clause-triangles
-returns-clause-triangles g c =
-    let adds = rw (c.push_vertex-v.ensures.mesh, c.index.ensures, ← c.from_index.ensures) at c.add_face_beside.ensures.triangles in
-    rw (← c.self.view_is) adds
+returns-clause-triangles g c = rw (← c.self.view_is) (rw (c.push_vertex-v.ensures.mesh, c.index.ensures, ← c.from_index.ensures) at c.add_face_beside.ensures.triangles)
 
 pub add_face_beside-requires-clause-outer : goal.add_face_beside-requires-clause-outer
 add_face_beside-requires-clause-outer g c =

@@ -1,6 +1,6 @@
 use Rattle.std.proofs.Common.{◌-◌, arith}
 use Rattle.half_edge_mesh.proofs.HoleFilled.{hole_filled_by}
-use Rattle.half_edge_mesh.proofs.TurnedAway.{turned_none, turned_next, turned_first, turned_second, turned_corners, turned_wheel}
+use Rattle.half_edge_mesh.proofs.TurnedEdge.{turned_none, turned_next, turned_first, turned_second, turned_corners, turned_wheel}
 use Rattle.half_edge_mesh.proofs.dcel.Dcel.fill_hole.Goals as goal
 
 pub loop-init : goal.loop-init

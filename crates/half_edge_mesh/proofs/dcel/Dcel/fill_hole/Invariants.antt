@@ -1,5 +1,5 @@
 use Rattle.std.proofs.Common.{◌-◌}
-use Rattle.half_edge_mesh.proofs.TurnedAway.{IsTurned}
+use Rattle.half_edge_mesh.proofs.TurnedEdge.{IsTurned}
 use Rattle.half_edge_mesh.proofs.dcel.Dcel.fill_hole.Given as goal
 
 abbrev pub invariant-loop : goal.invariant-loop

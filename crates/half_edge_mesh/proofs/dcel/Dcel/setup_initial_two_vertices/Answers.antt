@@ -11,6 +11,4 @@ returns-clause-triangles g c =
     rw (c.connect.ensures.mesh, no_faces m c.connect.ensures.sound none) refl
 
 pub returns-clause-mesh : goal.returns-clause-mesh
-returns-clause-mesh g c =
-    let is = rw (c.index.ensures, c.index-2.ensures) at c.connect.ensures.mesh in
-    rw (← c.self.view_is) is
+returns-clause-mesh g c = rw (← c.self.view_is) (rw (c.index.ensures, c.index-2.ensures) at c.connect.ensures.mesh)

@@ -29,11 +29,7 @@ pub returns-clause-outline : goal.returns-clause-outline
 returns-clause-outline g c = rw (← c.self.view_is) (λ one. c.split_edge.ensures.outline (c.push_vertex-v.ensures.outline one))
 
 pub returns-clause-mesh : goal.returns-clause-mesh
-returns-clause-mesh g c =
-    let is = rw (c.push_vertex-v.ensures.mesh, c.index.ensures, ← c.from_index.ensures) at c.split_edge.ensures.mesh in
-    rw (← c.self.view_is) is
+returns-clause-mesh g c = rw (← c.self.view_is) (rw (c.push_vertex-v.ensures.mesh, c.index.ensures, ← c.from_index.ensures) at c.split_edge.ensures.mesh)
 
 pub returns-clause-undirected : goal.returns-clause-undirected
-returns-clause-undirected g c =
-    let moves = rw c.index-4.ensures at c.move_item.ensures.moves in
-    rw (← c.self.view_is) moves
+returns-clause-undirected g c = rw (← c.self.view_is) (rw c.index-4.ensures at c.move_item.ensures.moves)

@@ -18,9 +18,7 @@ pub returns-clause-outline : goal.returns-clause-outline
 returns-clause-outline g c = rw (← c.self.view_is) (λ one. c.split_line.ensures.outline (c.push_vertex-v.ensures.outline one))
 
 pub returns-clause-mesh : goal.returns-clause-mesh
-returns-clause-mesh g c =
-    let is = rw (c.push_vertex-v.ensures.mesh, c.index.ensures, ← c.from_index.ensures) at c.split_line.ensures.mesh in
-    rw (← c.self.view_is) is
+returns-clause-mesh g c = rw (← c.self.view_is) (rw (c.push_vertex-v.ensures.mesh, c.index.ensures, ← c.from_index.ensures) at c.split_line.ensures.mesh)
 
 pub returns-clause-parts : goal.returns-clause-parts
 returns-clause-parts g c =
