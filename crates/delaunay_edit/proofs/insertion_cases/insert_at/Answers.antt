@@ -1,5 +1,5 @@
-use Rattle.std.proofs.Common.{map, subst}
-use Rattle.delaunay_edit.specs.Location.{Locates}
+use Rattle.std.proofs.Common.{◌<◌, map, sym, subst}
+use Rattle.delaunay_edit.specs.Location.{IsLeftOfPlace, Locates}
 use Rattle.delaunay_edit.proofs.Cases.{room_inside, vertex_of_handle, edge_of_handle, past_if_not_left, bare_if_past, not_on_vertex}
 use Rattle.delaunay_legalization.proofs.Questions.{both_ways}
 use Rattle.delaunay_edit.proofs.insertion_cases.insert_at.Goals as goal
@@ -24,3 +24,16 @@ pub unreachable-requires : goal.unreachable-requires
 unreachable-requires g c =
     not_on_vertex g.V.HasPosition.place c.args.dcel.now c.requires.kept (g.V.HasPosition.place c.args.value) c.requires.apart c.in-OnVertex.vertex
     (subst (Locates (map g.V.HasPosition.place c.args.dcel.now.vertices) c.args.dcel.now.mesh (g.V.HasPosition.place c.args.value)) c.in-OnVertex.is c.requires.location)
+
+pub join_outside-requires-clause-turns : goal.join_outside-requires-clause-turns
+join_outside-requires-clause-turns g c =
+    subst (IsLeftOfPlace (map g.V.HasPosition.place c.args.dcel.now.vertices) c.args.dcel.now.mesh (g.V.HasPosition.place c.args.value)) c.in-OutsideOfConvexHull.is (c.requires.turns.0 c.if-turns.true)
+
+pub insert_within_edge-requires-clause-within : goal.insert_within_edge-requires-clause-within
+insert_within_edge-requires-clause-within g c =
+    let here = (subst (Locates (map g.V.HasPosition.place c.args.dcel.now.vertices) c.args.dcel.now.mesh (g.V.HasPosition.place c.args.value)) c.in-OnEdge.is c.requires.location).handle in
+    subst (λ n. c.in-OnEdge.edge < n) (sym c.requires.kept.fits.directed_fit) here
+
+pub insert_within_edge-requires-clause-on_edge : goal.insert_within_edge-requires-clause-on_edge
+insert_within_edge-requires-clause-on_edge g c =
+    (subst (Locates (map g.V.HasPosition.place c.args.dcel.now.vertices) c.args.dcel.now.mesh (g.V.HasPosition.place c.args.value)) c.in-OnEdge.is c.requires.location).location.1

@@ -1,8 +1,8 @@
-use Rattle.std.proofs.Common.{◌∙◌, ◌<◌, map, ap, subst, sym}
+use Rattle.std.proofs.Common.{◌∙◌, ◌<◌, length, map, ap, subst, sym}
 use Rattle.half_edge_links.specs.Mesh.{face, rev}
 use Rattle.half_edge_links.proofs.Rev.{rev-rev}
 use Rattle.delaunay_edit.specs.Location.{IsWithinEdge}
-use Rattle.delaunay_edit.proofs.Cases.{inner_twin, within_twin, room_inside, vertex_of_edge}
+use Rattle.delaunay_edit.proofs.Cases.{inner_twin, twin_within, within_twin, room_inside, vertex_of_edge}
 use Rattle.delaunay_edit.proofs.insertion_cases.insert_within_edge.Goals as goal
 
 pub split_hull_edge-requires-clause-inner : goal.split_hull_edge-requires-clause-inner
@@ -21,3 +21,7 @@ split_hull_edge-requires-clause-on_edge g c =
 pub split_inner_edge-requires-clause-room : goal.split_inner_edge-requires-clause-room
 split_inner_edge-requires-clause-room g c =
     room_inside g.V.HasPosition.place c.args.dcel.now c.requires.kept c.requires.room (vertex_of_edge g.V.HasPosition.place c.args.dcel.now c.requires.kept c.args.edge c.requires.within)
+
+pub split_hull_edge-requires-clause-within : goal.split_hull_edge-requires-clause-within
+split_hull_edge-requires-clause-within g c =
+    subst (λ e. e < length c.args.dcel.now.directed) (sym c.rev.ensures) (twin_within g.V.HasPosition.place c.args.dcel.now c.requires.kept c.args.edge c.requires.within)

@@ -136,3 +136,6 @@ create_single_face_between_edge_and_next-ahead-requires-clause-within g c = c.lo
 
 pub create_single_face_between_edge_and_next-ahead-requires-clause-outer : goal.create_single_face_between_edge_and_next-ahead-requires-clause-outer
 create_single_face_between_edge_and_next-ahead-requires-clause-outer g c = c.loop-after.invariant.0.ahead_outer.outer
+
+pub create_new_face_adjacent_to_edge-vertex-requires-clause-outer : goal.create_new_face_adjacent_to_edge-vertex-requires-clause-outer
+create_new_face_adjacent_to_edge-vertex-requires-clause-outer g c = c.requires.outer

@@ -1,4 +1,4 @@
-use Rattle.std.proofs.Common.{refl}
+use Rattle.std.proofs.Common.{refl, arith}
 use Rattle.delaunay_edit.proofs.Appending.{inserted}
 use Rattle.delaunay_edit.proofs.DataKept.{overwritten_keeps}
 use Rattle.delaunay_edit.proofs.triangulation_core.TriangulationCore.insert_counting.Goals as goal
@@ -18,3 +18,21 @@ returns-in-Err-clause-full g c = (
   (λ e. (c.in_ok-validate_vertex.ensures.exactly.0 refl, (λ known. absurd (c.in-Err.ensures.apart.apart known.index known.below known.here)), c.append-appended.ensures.full.0 e)),
   (λ h. c.append-appended.ensures.full.1 h.2),
 )
+
+pub returns-in-Err-clause-too_large : goal.returns-in-Err-clause-too_large
+returns-in-Err-clause-too_large g c = (
+  (λ e. absurd (c.append-appended.ensures.not_too_large e)),
+  (λ far. absurd (far (c.in_ok-validate_vertex.ensures.exactly.0 refl))),
+)
+
+pub returns-in-Err-clause-known : goal.returns-in-Err-clause-known
+returns-in-Err-clause-known g c = λ in_range known. absurd (c.in-Err.ensures.apart.apart known.index known.below known.here)
+
+pub returns-in-Err-clause-err : goal.returns-in-Err-clause-err
+returns-in-Err-clause-err g c = c.append-appended.ensures.err
+
+pub returns-in-Err-clause-data : goal.returns-in-Err-clause-data
+returns-in-Err-clause-data g c = c.append-appended.ensures.data
+
+pub returns-in-Ok-clause-counted : goal.returns-in-Ok-clause-counted
+returns-in-Ok-clause-counted g c = record { grows = omega arith; few = omega arith }

@@ -11,3 +11,6 @@ returns-clause-value g c =
     let directed = c.self.invariant.kept.fits.directed_fit in
     let value : c.num_directed_edges.result ≡ 2 * length (edges_of c.self.inside.dcel.mesh) = omega (arith, count, pairs, directed, c.num_directed_edges.ensures.value) in
     rw (← c.self.view_is) value
+
+pub returns-clause-values : goal.returns-clause-values
+returns-clause-values g c = rw (← c.self.view_is) c.num_directed_edges.ensures.value

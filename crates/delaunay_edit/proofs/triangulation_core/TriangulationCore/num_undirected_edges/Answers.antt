@@ -5,3 +5,6 @@ use Rattle.delaunay_edit.proofs.triangulation_core.TriangulationCore.num_undirec
 
 pub returns-clause-value : goal.returns-clause-value
 returns-clause-value g c = rw (← c.self.view_is) (c.num_undirected_edges.ensures.value ∙ count_of_edges g.V.HasPosition.place (state_of c.self.inside.dcel) c.self.invariant.kept)
+
+pub returns-clause-values : goal.returns-clause-values
+returns-clause-values g c = rw (← c.self.view_is) c.num_undirected_edges.ensures.value
