@@ -1,6 +1,6 @@
 -- The edges that a mesh names are edges of it.
-use Rattle.std.proofs.Common.{◌≡◌, ℕ, ◌<◌, ◌≤◌, length, Some}
-use Rattle.half_edge_links.specs.Mesh.{out_edge, face_edge}
+use Rattle.std.proofs.Common.{◌≡◌, ℕ, ◌<◌, length, Some}
+use Rattle.half_edge_links.specs.Mesh.{out_edge}
 use Rattle.half_edge_mesh.specs.Contents.{Contents, IsWhole}
 
 -- the edge that a vertex names
@@ -10,7 +10,3 @@ out_edge-within c v h w is = rw w.fits.directed_fit (w.valid.sound.vertices v h 
 -- the edge that the outer face names
 pub outer_edge-within : {V D U F : Type 0} (c : Contents V D U F) (h : ℕ) → IsWhole c → c.mesh.outer_edge ≡ Some h → h < length c.directed
 outer_edge-within c h w is = rw w.fits.directed_fit (w.valid.sound.outer h is).0
-
--- the edge that an inner face names
-pub face_edge-within : {V D U F : Type 0} (c : Contents V D U F) (f : ℕ) → IsWhole c → 0 < f → f ≤ length c.faces → face_edge c.mesh f < length c.directed
-face_edge-within c f w inner within = rw w.fits.directed_fit (w.valid.sound.faces f inner (rw (← w.fits.faces_fit) within)).0
