@@ -105,6 +105,4 @@ stars_connected m a b differs among closed zero zero h_in g_in same is = is
 stars_connected m a b differs among closed zero (suc zero) h_in g_in same is = absurd (differs same)
 stars_connected m a b differs among closed (suc zero) zero h_in g_in same is = absurd (differs (sym same))
 stars_connected m a b differs among closed (suc zero) (suc zero) h_in g_in same is = is
-stars_connected m a b differs among closed (suc (suc h)) g h_in g_in same is = absurd (omega arith)
-stars_connected m a b differs among closed zero (suc (suc g)) h_in g_in same is = absurd (omega arith)
-stars_connected m a b differs among closed (suc zero) (suc (suc g)) h_in g_in same is = absurd (omega arith)
+stars_connected m a b differs among closed h g h_in g_in same is = absurd (omega arith)

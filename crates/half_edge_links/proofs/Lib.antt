@@ -22,11 +22,9 @@ pub mod Outer
 pub mod FaceBeside
 pub mod SplitLine
 pub mod KeepsOuter
-pub mod KeepsOuterInsert
 pub mod HalfSplit
 pub mod Ends
 pub mod EndsKept
-pub mod SplitOutline
 pub mod StarsKept
 pub mod StarsRound
 pub mod StarsInsert

@@ -10,8 +10,7 @@ use Rattle.half_edge_links.specs.Grow.{IsOuter, IsClosable, IsSlidable, Hangs, C
 use Rattle.half_edge_links.specs.Hull.{IsClosedAlong, HasOneOutline, KeepsOneOutline}
 use Rattle.half_edge_links.proofs.Parts.{grown_cases}
 use Rattle.half_edge_links.proofs.StarsRound.{stand_in, stands_first, stands_second, stands_other}
-use Rattle.half_edge_links.proofs.KeepsOuter.{outer_flipped}
-use Rattle.half_edge_links.proofs.KeepsOuterInsert.{outer_inserted}
+use Rattle.half_edge_links.proofs.KeepsOuter.{outer_flipped, outer_inserted}
 use Rattle.half_edge_links.proofs.Close.{IsCorner, corner}
 use Rattle.half_edge_links.proofs.Slide.{IsTail, tail, end_moves}
 use Rattle.half_edge_links.proofs.LineSound.{face_zero, zero_after}
@@ -31,21 +30,30 @@ pub record LiesAlong (m : Mesh) (before among : ℕ → Bool) (k : ℕ) : Type 0
   pub ahead_outer : face m ahead ≡ 0
   pub goes : among k ≡ true → before ahead ≡ true
 
-pub outlines : (m : Mesh) (before among : ℕ → Bool) → HasOneOutline m → IsClosedAlong m before → (h g : ℕ) → LiesAlong m before among h → LiesAlong m before among g → among h ≡ true → among g ≡ true
-outlines m before among one closed h g a b is = b.comes (one before closed a.ahead b.behind a.ahead_in b.behind_in a.ahead_outer b.behind_outer (a.goes is))
+pub outlines : (m new : Mesh) (before among : ℕ → Bool) → HasOneOutline m → IsClosedAlong m before → ((k : ℕ) → k < length new.half_edges → face new k ≡ 0 → LiesAlong m before among k)
+    → (h g : ℕ) → h < length new.half_edges → g < length new.half_edges → face new h ≡ 0 → face new g ≡ 0 → among h ≡ true → among g ≡ true
+outlines m new before among one closed lies h g h_in g_in h_outer g_outer is =
+    let a = lies h h_in h_outer in
+    let b = lies g g_in g_outer in
+    b.comes (one before closed a.ahead b.behind a.ahead_in b.behind_in a.ahead_outer b.behind_outer (a.goes is))
+
+-- edge k comes after old outer edge behind, and goes on to old outer edge ahead
+pub lies_between : (m : Mesh) (before among : ℕ → Bool) (k behind ahead : ℕ) → behind < length m.half_edges → face m behind ≡ 0 → (before behind ≡ true → among k ≡ true)
+    → ahead < length m.half_edges → face m ahead ≡ 0 → (among k ≡ true → before ahead ≡ true) → LiesAlong m before among k
+lies_between m before among k behind ahead behind_in behind_outer comes ahead_in ahead_outer goes = record {
+  behind = behind;
+  behind_in = behind_in;
+  behind_outer = behind_outer;
+  comes = comes;
+  ahead = ahead;
+  ahead_in = ahead_in;
+  ahead_outer = ahead_outer;
+  goes = goes;
+}
 
 -- edge j of the new mesh is old outer edge k
 pub lies_as : (m : Mesh) (before among : ℕ → Bool) (k j : ℕ) → k < length m.half_edges → face m k ≡ 0 → before k ≡ among j → LiesAlong m before among j
-lies_as m before among k j within outer same = record {
-  behind = k;
-  behind_in = within;
-  behind_outer = outer;
-  comes = λ is. sym same ∙ is;
-  ahead = k;
-  ahead_in = within;
-  ahead_outer = outer;
-  goes = λ is. same ∙ is;
-}
+lies_as m before among k j within outer same = lies_between m before among j k k within outer (λ is. sym same ∙ is) within outer (λ is. same ∙ is)
 
 -- the outer edges are the same, and follow each other as before
 pub record SameOuter (m new : Mesh) : Type 0 where
@@ -99,16 +107,8 @@ module _ (m new : Mesh) (x v : ℕ) (s : IsSound m) (outer : IsOuter m x) (i : H
   hang_lies : (k : ℕ) → k < length m.half_edges + 2 → face new k ≡ 0 → LiesAlong m among among k
   hang_lies k within none =
       let here = s.edges x outer.0 in
-      let between : (among x ≡ true → among k ≡ true) → (among k ≡ true → among (next m x) ≡ true) → LiesAlong m among among k = λ comes goes. record {
-        behind = x;
-        behind_in = outer.0;
-        behind_outer = outer.1;
-        comes = comes;
-        ahead = next m x;
-        ahead_in = here.next_in;
-        ahead_outer = here.same_face ∙ outer.1;
-        goes = goes;
-      } in
+      let between : (among x ≡ true → among k ≡ true) → (among k ≡ true → among (next m x) ≡ true) → LiesAlong m among among k =
+      λ comes goes. lies_between m among among k x (next m x) outer.0 outer.1 comes here.next_in (here.same_face ∙ outer.1) goes in
       elim (grown_cases k _ within) [
         | inl old ↦ lies_as m among among k k old (sym (i.faces k old) ∙ none) refl
         | inr (inl is) ↦ between (λ on. ap among is ∙ hang_there on) (λ on. hang_on (hang_back (ap among (sym is) ∙ on)))
@@ -116,10 +116,8 @@ module _ (m new : Mesh) (x v : ℕ) (s : IsSound m) (outer : IsOuter m x) (i : H
       ]
 
 pub outline_hung : (m new : Mesh) (x v : ℕ) → IsSound m → IsOuter m x → Hangs m new x v (length m.half_edges) → KeepsOneOutline m new
-outline_hung m new x v s outer i one among closed h g h_in g_in h_outer g_outer is =
-    outlines m among among one (hang_closed m new x v s outer i among closed) h g
-    (hang_lies m new x v s outer i among closed h (omega (arith, h_in, i.edge_count)) h_outer)
-    (hang_lies m new x v s outer i among closed g (omega (arith, g_in, i.edge_count)) g_outer) is
+outline_hung m new x v s outer i one among closed =
+    outlines m new among among one (hang_closed m new x v s outer i among closed) (λ k within. hang_lies m new x v s outer i among closed k (omega (arith, within, i.edge_count)))
 
 module _ (m new : Mesh) (e : ℕ) (s : IsSound m) (can : IsClosable m e) (i : Closes m new e (length m.half_edges) (length m.face_edges)) (among : ℕ → Bool) (closed : IsClosedAlong new among) where
   c : IsCorner m e
@@ -169,47 +167,30 @@ module _ (m new : Mesh) (e : ℕ) (s : IsSound m) (can : IsClosable m e) (i : Cl
             let b : k ≢ next m e = λ q. absurd (omega (arith, none, ap (face new) q, i.face_second)) in
             lies_as m close_before among k k old (sym (i.other_faces k old a b) ∙ none) (close_plain k a b)
         | inr (inl is) ↦ absurd (omega (arith, none, ap (face new) is, i.inside.face))
-        | inr (inr is) ↦ record {
-          behind = e;
-          behind_in = can.within;
-          behind_outer = can.outer;
-          comes = λ on. ap among is ∙ sym (close_first e refl) ∙ on;
-          ahead = e;
-          ahead_in = can.within;
-          ahead_outer = can.outer;
-          goes = λ on. close_first e refl ∙ ap among (sym is) ∙ on;
-        }
+        | inr (inr is) ↦ lies_as m close_before among e k can.within can.outer (close_first e refl ∙ ap among (sym is))
       ]
 
 pub outline_closed : (m new : Mesh) (e : ℕ) → IsSound m → IsClosable m e → Closes m new e (length m.half_edges) (length m.face_edges) → KeepsOneOutline m new
-outline_closed m new e s can i one among closed h g h_in g_in h_outer g_outer is =
-    outlines m (close_before m new e s can i among closed) among one (close_closed m new e s can i among closed) h g
-    (close_lies m new e s can i among closed h (omega (arith, h_in, i.edge_count)) h_outer)
-    (close_lies m new e s can i among closed g (omega (arith, g_in, i.edge_count)) g_outer) is
+outline_closed m new e s can i one among closed =
+    outlines m new (close_before m new e s can i among closed) among one (close_closed m new e s can i among closed)
+    (λ k within. close_lies m new e s can i among closed k (omega (arith, within, i.edge_count)))
 
 -- one edge is moved along the outer face of a mesh without inner faces
 module _ (m new : Mesh) (t p q r s : ℕ) (none : (h : ℕ) → h < length m.half_edges → face m h ≡ 0) (still : (h : ℕ) → h < length m.half_edges → face new h ≡ 0) (count : length new.half_edges ≡ length m.half_edges) (s_in : s < length m.half_edges) (w : IsMoved (length m.half_edges) (next m) (next new) t p q r s) where
   moved_lies : (among : ℕ → Bool) (on : (h : ℕ) → h < length m.half_edges → among h ≡ true → among (next new h) ≡ true) (k : ℕ) → k < length m.half_edges → LiesAlong m (walk.before (length m.half_edges) (next m) (next new) t p q r s w among on) among k
   moved_lies among on k within =
       elim (cases_eq k t) [
-        | inl same ↦ record {
-          behind = r;
-          behind_in = w.r_in;
-          behind_outer = none r w.r_in;
-          comes = λ is. ap among same ∙ walk.to_moved _ (next m) (next new) t p q r s w among on is;
-          ahead = s;
-          ahead_in = s_in;
-          ahead_outer = none s s_in;
-          goes = λ is. walk.from_moved _ (next m) (next new) t p q r s w among on (ap among (sym same) ∙ is);
-        }
+        | inl same ↦
+            lies_between m _ among k r s w.r_in (none r w.r_in) (λ is. ap among same ∙ walk.to_moved _ (next m) (next new) t p q r s w among on is)
+            s_in (none s s_in) (λ is. walk.from_moved _ (next m) (next new) t p q r s w among on (ap among (sym same) ∙ is))
         | inr off ↦ lies_as m _ among k k within (none k within) (walk.plain _ (next m) (next new) t p q r s w among on k off)
       ]
 
   pub outline_in_walk : KeepsOneOutline m new
-  outline_in_walk one among closed h g h_in g_in h_outer g_outer is =
+  outline_in_walk one among closed =
       let on : (k : ℕ) → k < length m.half_edges → among k ≡ true → among (next new k) ≡ true = λ k within. closed k (rw count within) (still k within) in
       let old_closed = λ (k : ℕ) (within : k < length m.half_edges) (outer : face m k ≡ 0). walk.closed_before _ (next m) (next new) t p q r s w among on k within in
-      outlines m (walk.before (length m.half_edges) (next m) (next new) t p q r s w among on) among one old_closed h g (moved_lies among on h (rw count at h_in)) (moved_lies among on g (rw count at g_in)) is
+      outlines m new (walk.before (length m.half_edges) (next m) (next new) t p q r s w among on) among one old_closed (λ k within outer. moved_lies among on k (rw count at within))
 
 module _ (m new : Mesh) (e : ℕ) (s : IsSound m) (can : IsSlidable m e) (i : Slides m new e (next m e) (next m (next m e))) where
   t : IsTail m e
@@ -233,6 +214,4 @@ outline_connected m a b among closed zero zero h_in g_in p q is = is
 outline_connected m a b among closed zero (suc zero) h_in g_in p q is = closed 0 (omega arith) refl is
 outline_connected m a b among closed (suc zero) zero h_in g_in p q is = closed 1 (omega arith) refl is
 outline_connected m a b among closed (suc zero) (suc zero) h_in g_in p q is = is
-outline_connected m a b among closed (suc (suc h)) g h_in g_in p q is = absurd (omega arith)
-outline_connected m a b among closed zero (suc (suc g)) h_in g_in p q is = absurd (omega arith)
-outline_connected m a b among closed (suc zero) (suc (suc g)) h_in g_in p q is = absurd (omega arith)
+outline_connected m a b among closed h g h_in g_in p q is = absurd (omega arith)

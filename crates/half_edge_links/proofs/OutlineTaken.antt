@@ -15,7 +15,7 @@ use Rattle.half_edge_links.proofs.PeelLemmas.{removable_opened}
 use Rattle.half_edge_links.proofs.Triangles.{IsTriangle, triangle_at, same_loop}
 use Rattle.half_edge_links.proofs.StarsRound.{stand_in, stands_first, stands_second, stands_other}
 use Rattle.half_edge_links.proofs.Track.{IsLeft, name, name_in, face_at, next_at, next_before, next_twin_before, old_at}
-use Rattle.half_edge_links.proofs.Outline.{lies_as, LiesAlong, outlines, outline_same}
+use Rattle.half_edge_links.proofs.Outline.{lies_as, lies_between, LiesAlong, outlines, outline_same}
 
 pub outline_moved : (m new : Mesh) (v : ℕ) → MovesVertex m new v → KeepsOneOutline m new
 outline_moved m new v c =
@@ -106,16 +106,9 @@ module _ (m mid new : Mesh) (h : ℕ) (s : IsSound m) (can : IsHullEdge m h) (o 
       ]
 
   lies_in_face : (j : ℕ) → (among (nm (next m h)) ≡ true → among j ≡ true) → (among j ≡ true → before (next m (rev h)) ≡ true) → LiesAlong m before among j
-  lies_in_face j comes goes = record {
-    behind = rev h;
-    behind_in = twin_in;
-    behind_outer = can.outer;
-    comes = λ is. comes (sym (at_twin (rev h) refl) ∙ is);
-    ahead = next m (rev h);
-    ahead_in = (s.edges (rev h) twin_in).next_in;
-    ahead_outer = (s.edges (rev h) twin_in).same_face ∙ can.outer;
-    goes = goes;
-  }
+  lies_in_face j comes goes =
+      let twin = s.edges (rev h) twin_in in
+      lies_between m before among j (rev h) (next m (rev h)) twin_in can.outer (λ is. comes (sym (at_twin (rev h) refl) ∙ is)) twin.next_in (twin.same_face ∙ can.outer) goes
 
   lies : (j : ℕ) → j < length new.half_edges → face new j ≡ 0 → LiesAlong m before among j
   lies j within outer =
@@ -138,10 +131,9 @@ module _ (m mid new : Mesh) (h : ℕ) (s : IsSound m) (can : IsHullEdge m h) (o 
       ]
 
 pub outline_peeled : (m new : Mesh) (h : ℕ) → IsSound m → IsHullEdge m h → Peels m new h → KeepsOneOutline m new
-outline_peeled m new h s can p one among closed i j i_in j_in i_outer j_outer is =
-    outlines m (before m p.opened new h s can p.opens p.removes among closed) among one (closed_before m p.opened new h s can p.opens p.removes among closed) i j
-    (lies m p.opened new h s can p.opens p.removes among closed i i_in i_outer)
-    (lies m p.opened new h s can p.opens p.removes among closed j j_in j_outer) is
+outline_peeled m new h s can p one among closed =
+    outlines m new (before m p.opened new h s can p.opens p.removes among closed) among one (closed_before m p.opened new h s can p.opens p.removes among closed)
+    (lies m p.opened new h s can p.opens p.removes among closed)
 
 -- an edge whose side b follows its side a goes
 module _ (m new : Mesh) (e : ℕ) (s : IsSound m) (can : IsUnlinkable m e) (r : Removes m new e) (a b : ℕ) (a_in : a < length m.half_edges) (b_in : b < length m.half_edges) (free : next m a ≡ b)
@@ -204,7 +196,7 @@ module _ (m new : Mesh) (e : ℕ) (s : IsSound m) (can : IsUnlinkable m e) (r : 
       lies_as m free_before among k j was.0.within k_outer (free_plain k off.0 off.1 ∙ ap among was.1)
 
   free_all : HasOneOutline m → (i j : ℕ) → i < length new.half_edges → j < length new.half_edges → face new i ≡ 0 → face new j ≡ 0 → among i ≡ true → among j ≡ true
-  free_all one i j i_in j_in i_outer j_outer is = outlines m free_before among one free_closed i j (free_lies i i_in i_outer) (free_lies j j_in j_outer) is
+  free_all one = outlines m new free_before among one free_closed free_lies
 
 pub outline_removed : (m new : Mesh) (e : ℕ) → IsSound m → IsUnlinkable m e → Removes m new e → IsPendant m e → KeepsOneOutline m new
 outline_removed m new e s can r pendant one among closed =

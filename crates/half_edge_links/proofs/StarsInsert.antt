@@ -9,7 +9,7 @@ use Rattle.half_edge_links.proofs.Rev.{rev_within}
 use Rattle.half_edge_links.proofs.Triangles.{IsTriangle}
 use Rattle.half_edge_links.proofs.FaceBeside.{differs_alone}
 use Rattle.half_edge_links.proofs.Parts.{IsSpoke, late_cases}
-use Rattle.half_edge_links.proofs.StarsRound.{LiesRound, rounds}
+use Rattle.half_edge_links.proofs.StarsRound.{LiesRound, rounds, lies_between}
 use Rattle.half_edge_links.proofs.InsertSound.{round, rev0, rev1, rev2, rev3, rev4, rev5, origin_kept}
 
 module _ (m new : Mesh) (v f a n g : ℕ) (s : IsSound m) (inner : IsInnerEdge m a) (alone : IsAlone m v) (at_f : f ≡ face m a) (at_n : n ≡ length m.half_edges) (at_g : g ≡ length m.face_edges) (i : Inserts m new v f a n g) (among : ℕ → Bool) (closed : IsClosed new among) where
@@ -53,16 +53,7 @@ module _ (m new : Mesh) (v f a n g : ℕ) (s : IsSound m) (inner : IsInnerEdge m
       ]
 
   around : (k from ahead : ℕ) → from < length m.half_edges → origin new k ≡ origin m from → (among from ≡ true → among k ≡ true) → ahead < length m.half_edges → origin m ahead ≡ origin m from → (among k ≡ true → among ahead ≡ true) → LiesRound m new among among k
-  around k from ahead from_in at comes ahead_in same goes = record {
-    behind = from;
-    behind_in = from_in;
-    behind_origin = at;
-    comes = comes;
-    ahead = ahead;
-    ahead_in = ahead_in;
-    ahead_origin = at ∙ sym same;
-    goes = goes;
-  }
+  around k from ahead from_in at comes ahead_in same goes = lies_between m new among among k from ahead from_in at comes ahead_in (at ∙ sym same) goes
 
   old_lies : (k : ℕ) → k < n → LiesRound m new among among k
   old_lies k within =

@@ -26,18 +26,23 @@ pub record LiesRound (m new : Mesh) (before among : ℕ → Bool) (k : ℕ) : Ty
 pub rounds : (m new : Mesh) (before among : ℕ → Bool) → HasStars m → IsClosed m before → (h g : ℕ) → LiesRound m new before among h → LiesRound m new before among g → origin new h ≡ origin new g → among h ≡ true → among g ≡ true
 rounds m new before among stars closed h g a b same is = b.comes (stars before closed a.ahead b.behind a.ahead_in b.behind_in (sym a.ahead_origin ∙ same ∙ b.behind_origin) (a.goes is))
 
+-- edge k comes after old edge behind of its vertex, and goes on to old edge ahead
+pub lies_between : (m new : Mesh) (before among : ℕ → Bool) (k behind ahead : ℕ) → behind < length m.half_edges → origin new k ≡ origin m behind → (before behind ≡ true → among k ≡ true)
+    → ahead < length m.half_edges → origin new k ≡ origin m ahead → (among k ≡ true → before ahead ≡ true) → LiesRound m new before among k
+lies_between m new before among k behind ahead behind_in at_behind comes ahead_in at_ahead goes = record {
+  behind = behind;
+  behind_in = behind_in;
+  behind_origin = at_behind;
+  comes = comes;
+  ahead = ahead;
+  ahead_in = ahead_in;
+  ahead_origin = at_ahead;
+  goes = goes;
+}
+
 -- an old edge that keeps its vertex
 pub lies_kept : (m new : Mesh) (before among : ℕ → Bool) (k : ℕ) → k < length m.half_edges → origin new k ≡ origin m k → before k ≡ among k → LiesRound m new before among k
-lies_kept m new before among k within at same = record {
-  behind = k;
-  behind_in = within;
-  behind_origin = at;
-  comes = λ is. sym same ∙ is;
-  ahead = k;
-  ahead_in = within;
-  ahead_origin = at;
-  goes = λ is. same ∙ is;
-}
+lies_kept m new before among k within at same = lies_between m new before among k k k within at (λ is. sym same ∙ is) within at (λ is. same ∙ is)
 
 module _ (m new : Mesh) (e : ℕ) (s : IsSound m) (can : IsClosable m e) (i : Closes m new e (length m.half_edges) (length m.face_edges)) (among : ℕ → Bool) (closed : IsClosed new among) where
   -- the new outer edge lies between e and the other side of the edge before e
@@ -68,26 +73,12 @@ module _ (m new : Mesh) (e : ℕ) (s : IsSound m) (can : IsClosable m e) (i : Cl
       let c = corner m e s can in
       elim (grown_cases k _ within) [
         | inl old ↦ lies_kept m new among among k old (i.origins k old) refl
-        | inr (inl there) ↦ record {
-          behind = next m (next m e);
-          behind_in = c.after_in;
-          behind_origin = ap (origin new) there ∙ i.inside.origin;
-          comes = λ is. ap among there ∙ inside_comes is;
-          ahead = rev (next m e);
-          ahead_in = rev_within _ _ s.even c.second_in;
-          ahead_origin = ap (origin new) there ∙ i.inside.origin ∙ c.end;
-          goes = λ is. inside_goes (ap among (sym there) ∙ is);
-        }
-        | inr (inr back) ↦ record {
-          behind = e;
-          behind_in = can.within;
-          behind_origin = ap (origin new) back ∙ i.outside.origin;
-          comes = λ is. ap among back ∙ outside_comes is;
-          ahead = rev (prev m e);
-          ahead_in = rev_within _ _ s.even c.before_in;
-          ahead_origin = ap (origin new) back ∙ i.outside.origin ∙ ap (origin m) (sym c.before_next) ∙ (s.edges (prev m e) c.before_in).starts;
-          goes = λ is. outside_goes (ap among (sym back) ∙ is);
-        }
+        | inr (inl there) ↦
+            lies_between m new among among k (next m (next m e)) (rev (next m e)) c.after_in (ap (origin new) there ∙ i.inside.origin) (λ is. ap among there ∙ inside_comes is)
+            (rev_within _ _ s.even c.second_in) (ap (origin new) there ∙ i.inside.origin ∙ c.end) (λ is. inside_goes (ap among (sym there) ∙ is))
+        | inr (inr back) ↦
+            lies_between m new among among k e (rev (prev m e)) can.within (ap (origin new) back ∙ i.outside.origin) (λ is. ap among back ∙ outside_comes is)
+            (rev_within _ _ s.even c.before_in) (ap (origin new) back ∙ i.outside.origin ∙ ap (origin m) (sym c.before_next) ∙ (s.edges (prev m e) c.before_in).starts) (λ is. outside_goes (ap among (sym back) ∙ is))
       ]
 
 pub stars_closed : (m new : Mesh) (e : ℕ) → IsSound m → IsClosable m e → Closes m new e (length m.half_edges) (length m.face_edges) → HasStars m → HasStars new
@@ -180,26 +171,14 @@ module _ (m new : Mesh) (e : ℕ) (s : IsSound m) (can : IsFlippable m e) (f : F
   flip_lies : (k : ℕ) → k < length m.half_edges → LiesRound m new before among k
   flip_lies k within =
       elim (cases_eq k e or_else cases_eq k (rev e)) [
-        | inl same ↦ record {
-          behind = prev m e;
-          behind_in = p.e_in;
-          behind_origin = ap (origin new) same ∙ f.edge.origin;
-          comes = λ is. ap among same ∙ to_edge (sym (plain (prev m e) (neq _ _ p.ae) (neq _ _ p.be)) ∙ is);
-          ahead = rev (next m e);
-          ahead_in = rev_within _ _ s.even p.c_in;
-          ahead_origin = ap (origin new) same ∙ f.edge.origin ∙ ap (origin m) (sym (left m new e s can f).next_next) ∙ (s.edges (next m e) p.c_in).starts;
-          goes = λ is. plain_rev (next m e) (neq _ _ p.ac) (neq _ _ p.bc) (from_edge (ap among (sym same) ∙ is));
-        }
-        | inr (a, inl same) ↦ record {
-          behind = prev m (rev e);
-          behind_in = p.f_in;
-          behind_origin = ap (origin new) same ∙ f.twin.origin;
-          comes = λ is. ap among same ∙ to_twin (sym (plain (prev m (rev e)) (neq _ _ p.af) (neq _ _ p.bf)) ∙ is);
-          ahead = rev (next m (rev e));
-          ahead_in = rev_within _ _ s.even p.d_in;
-          ahead_origin = ap (origin new) same ∙ f.twin.origin ∙ ap (origin m) (sym (right m new e s can f).next_next) ∙ (s.edges (next m (rev e)) p.d_in).starts;
-          goes = λ is. plain_rev (next m (rev e)) (neq _ _ p.ad) (neq _ _ p.bd) (from_twin (ap among (sym same) ∙ is));
-        }
+        | inl same ↦
+            lies_between m new before among k (prev m e) (rev (next m e)) p.e_in (ap (origin new) same ∙ f.edge.origin) (λ is. ap among same ∙ to_edge (sym (plain (prev m e) (neq _ _ p.ae) (neq _ _ p.be)) ∙ is))
+            (rev_within _ _ s.even p.c_in) (ap (origin new) same ∙ f.edge.origin ∙ ap (origin m) (sym (left m new e s can f).next_next) ∙ (s.edges (next m e) p.c_in).starts)
+            (λ is. plain_rev (next m e) (neq _ _ p.ac) (neq _ _ p.bc) (from_edge (ap among (sym same) ∙ is)))
+        | inr (a, inl same) ↦
+            lies_between m new before among k (prev m (rev e)) (rev (next m (rev e))) p.f_in (ap (origin new) same ∙ f.twin.origin) (λ is. ap among same ∙ to_twin (sym (plain (prev m (rev e)) (neq _ _ p.af) (neq _ _ p.bf)) ∙ is))
+            (rev_within _ _ s.even p.d_in) (ap (origin new) same ∙ f.twin.origin ∙ ap (origin m) (sym (right m new e s can f).next_next) ∙ (s.edges (next m (rev e)) p.d_in).starts)
+            (λ is. plain_rev (next m (rev e)) (neq _ _ p.ad) (neq _ _ p.bd) (from_twin (ap among (sym same) ∙ is)))
         | inr (a, inr b) ↦ lies_kept m new before among k within (origin_kept m new e s can f k a b) (plain k a b)
       ]
 

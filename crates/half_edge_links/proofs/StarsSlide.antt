@@ -7,23 +7,16 @@ use Rattle.half_edge_links.specs.Peel.{turn}
 use Rattle.half_edge_links.proofs.Rev.{rev_same, rev_within}
 use Rattle.half_edge_links.proofs.MovedInWalk as walk
 use Rattle.half_edge_links.proofs.MovedInWalk.{IsMoved}
-use Rattle.half_edge_links.proofs.StarsRound.{LiesRound, rounds, lies_kept}
+use Rattle.half_edge_links.proofs.StarsRound.{LiesRound, rounds, lies_between, lies_kept}
 use Rattle.half_edge_links.proofs.Slide.{IsTail, tail}
 
 module _ (m new : Mesh) (t p q r s : ℕ) (count : length new.half_edges ≡ length m.half_edges) (s_in : s < length m.half_edges) (at_r : origin new t ≡ origin m r) (at_s : origin new t ≡ origin m s) (others : (h : ℕ) → h < length m.half_edges → h ≢ t → origin new h ≡ origin m h) (w : IsMoved (length m.half_edges) (turn m) (turn new) t p q r s) where
   lies : (among : ℕ → Bool) (on : (h : ℕ) → h < length m.half_edges → among h ≡ true → among (turn new h) ≡ true) (k : ℕ) → k < length m.half_edges → LiesRound m new (walk.before (length m.half_edges) (turn m) (turn new) t p q r s w among on) among k
   lies among on k within =
       elim (cases_eq k t) [
-        | inl same ↦ record {
-          behind = r;
-          behind_in = w.r_in;
-          behind_origin = ap (origin new) same ∙ at_r;
-          comes = λ is. ap among same ∙ walk.to_moved _ (turn m) (turn new) t p q r s w among on is;
-          ahead = s;
-          ahead_in = s_in;
-          ahead_origin = ap (origin new) same ∙ at_s;
-          goes = λ is. walk.from_moved _ (turn m) (turn new) t p q r s w among on (ap among (sym same) ∙ is);
-        }
+        | inl same ↦
+            lies_between m new _ among k r s w.r_in (ap (origin new) same ∙ at_r) (λ is. ap among same ∙ walk.to_moved _ (turn m) (turn new) t p q r s w among on is)
+            s_in (ap (origin new) same ∙ at_s) (λ is. walk.from_moved _ (turn m) (turn new) t p q r s w among on (ap among (sym same) ∙ is))
         | inr off ↦ lies_kept m new _ among k within (others k within off) (walk.plain _ (turn m) (turn new) t p q r s w among on k off)
       ]
 

@@ -5,7 +5,7 @@ use Rattle.half_edge_links.specs.Insert.{insert_by}
 use Rattle.half_edge_links.proofs.InsertLemmas.{insert_by-is, inserts_is}
 use Rattle.half_edge_links.proofs.Valid.{valid_as, valid_inserted}
 use Rattle.half_edge_links.proofs.InsertTriangles.{triangles_inserted}
-use Rattle.half_edge_links.proofs.KeepsOuterInsert.{outer_inserted}
+use Rattle.half_edge_links.proofs.KeepsOuter.{outer_inserted}
 use Rattle.half_edge_links.proofs.EndsKept.{ends_inserted_is}
 use Rattle.half_edge_links.proofs.Outline.{outline_inserted}
 use Rattle.half_edge_links.proofs.links.Links.insert_beside.Goals as goal

@@ -1,5 +1,4 @@
-use Rattle.half_edge_links.proofs.SplitLemmas.{flippable_inserted, corners_inserted, splits_triangles_is}
-use Rattle.half_edge_links.proofs.SplitOutline.{kept_twice, ends_split}
+use Rattle.half_edge_links.proofs.SplitLemmas.{flippable_inserted, corners_inserted, splits_triangles_is, kept_twice, ends_split}
 use Rattle.half_edge_links.proofs.links.Links.split_edge.Goals as goal
 
 pub flip-requires-clause-flippable : goal.flip-requires-clause-flippable
