@@ -75,3 +75,7 @@ module _ {D U F : Type 0} (points : List SheetPoint) (old new : State (Point2 �
   may_refuse OutOfMemory is in_range site too_large known full same =
       let unknown : ¬ IsKnown (map position old.vertices) (position p) = λ k. (let ok = known in_range k in cc) in
       (record { in_range = in_range; site = site; fresh = fresh_if_unknown old.vertices p unknown }, (λ f. (let no = full.1 (in_range, unknown, f) in cc)), ap stage_of same)
+
+-- where a vertex gave way, the mesh is as it was
+pub mesh_kept : {V D U F : Type 0} (old new : State V D U F) (vertices : List V) → new ≡ record old { vertices = vertices } → new.mesh ≡ old.mesh
+mesh_kept old new vertices e = ap (λ s. s.mesh) e
