@@ -71,6 +71,9 @@ module _ (m : Mesh) (o k : ℕ) (v : IsValid m) (w : IsHub m o (suc k)) (some : 
         (λ q. v.apart (spoke m o 2) (at 2).0 ((at 2).1 ∙ sym same ∙ ap (origin m) (q ∙ sym (rev-rev (prev m (turn m o))))))
         (λ q. v.apart o w.within (sym same ∙ ap (origin m) (q ∙ ap (prev m) twin_is ∙ t.prev_prev) ∙ (s.edges o w.within).starts))
 
+    kept_at : (i : ℕ) → suc (suc i) < suc k → edge_at new.half_edges (spoke m o (suc (suc i))) ≡ edge_at m.half_edges (spoke m o (suc (suc i)))
+    kept_at i less = kept_spoke _ (at (suc (suc i))).0 (at (suc (suc i))).1 (first_again (suc (suc i)) (omega arith) less) (λ q. spokes_apart 1 (suc (suc i)) (omega arith) less (sym q))
+
     -- the first edge has the third one after it now
     first_turn : turn new o ≡ spoke m o 2
     first_turn =
@@ -82,11 +85,7 @@ module _ (m : Mesh) (o k : ℕ) (v : IsValid m) (w : IsHub m o (suc k)) (some : 
     spokes_after zero first within = absurd (omega (arith, first))
     spokes_after (suc zero) first within = first_turn
     spokes_after (suc (suc i)) first within =
-        let h : ℕ = spoke m o (suc (suc i)) in
-        let off = first_again (suc (suc i)) (omega arith) (omega (arith, within)) in
-        let off_second = spokes_apart 1 (suc (suc i)) (omega arith) (omega (arith, within)) in
-        let kept = kept_spoke h (at (suc (suc i))).0 (at (suc (suc i))).1 off (λ q. off_second (sym q)) in
-        ap (turn new) (spokes_after (suc i) (omega arith) (omega (arith, within))) ∙ ap (λ (x : HalfEdge). rev x.prev) kept
+        ap (turn new) (spokes_after (suc i) (omega arith) (omega (arith, within))) ∙ ap (λ (x : HalfEdge). rev x.prev) (kept_at i (omega (arith, within)))
 
     -- the first edge still starts at the vertex
     pub start_after : origin new o ≡ origin m o
@@ -131,9 +130,5 @@ module _ (m : Mesh) (o k : ℕ) (v : IsValid m) (w : IsHub m o (suc k)) (some : 
         inner : (i : ℕ) → i < k → 0 < face new (spoke new o i)
         inner zero within = rw first_face (w.inner 0 (omega arith))
         inner (suc i) within =
-            let h : ℕ = spoke m o (suc (suc i)) in
-            let off = first_again (suc (suc i)) (omega arith) (omega (arith, within)) in
-            let off_second = spokes_apart 1 (suc (suc i)) (omega arith) (omega (arith, within)) in
-            let kept = kept_spoke h (at (suc (suc i))).0 (at (suc (suc i))).1 off (λ q. off_second (sym q)) in
-            let same : face new (spoke new o (suc i)) ≡ face m h = ap (face new) (spokes_after (suc i) (omega arith) (omega (arith, within))) ∙ ap (λ (x : HalfEdge). x.face) kept in
+            let same : face new (spoke new o (suc i)) ≡ face m (spoke m o (suc (suc i))) = ap (face new) (spokes_after (suc i) (omega arith) (omega (arith, within))) ∙ ap (λ (x : HalfEdge). x.face) (kept_at i (omega (arith, within))) in
             rw same (w.inner (suc (suc i)) (omega (arith, within)))

@@ -1,7 +1,6 @@
 pub mod Fits
 pub mod EdgeLists
 pub mod Outlines
-pub mod Moves
 pub mod Turning
 pub mod TakenOut
 pub mod TakenEdges

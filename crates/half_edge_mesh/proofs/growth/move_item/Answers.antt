@@ -1,4 +1,4 @@
-use Rattle.half_edge_mesh.proofs.Moves.{moves_item}
+use Rattle.half_edge_mesh.proofs.EdgeLists.{moves_item}
 use Rattle.half_edge_mesh.proofs.growth.move_item.Goals as goal
 
 pub returns-clause-moves : goal.returns-clause-moves

@@ -1,4 +1,4 @@
-use Rattle.half_edge_mesh.proofs.Moves.{moves_two_items}
+use Rattle.half_edge_mesh.proofs.EdgeLists.{moves_two_items}
 use Rattle.half_edge_mesh.proofs.growth.move_two_items.Goals as goal
 
 pub returns-clause-moves : goal.returns-clause-moves
