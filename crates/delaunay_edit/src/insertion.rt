@@ -17,7 +17,7 @@ use crate::position_in_triangulation::PositionInTriangulation;
 use crate::triangulation_core::TriangulationCore;
 use delaunay_core::math::{InsertionError, PlaneTests, validate_vertex};
 use delaunay_core::point::HasPosition;
-use delaunay_legalization::{legalize_all, reserve_for_edges, turns_left};
+use delaunay_legalization::{NoneFixed, legalize_all, reserve_for_edges, turns_left};
 use half_edge_mesh::{Dcel, FixedVertexHandle, MAX_ELEMENTS, ReserveError};
 
 // Makes room for one more vertex, with the edges and faces that it can bring.
@@ -64,7 +64,7 @@ impl<V: HasPosition + Drop, DE: Default, UE: Default, F: Default> TriangulationC
         reserve_for_vertex(&mut self.dcel)?;
         reserve_for_edges(&mut self.work, 3 * (self.dcel.num_vertices() + 1))?;
         let vertex = insert_at(&mut self.dcel, location, turns, value, tests);
-        legalize_all(&mut self.dcel, tests, &mut self.work, flips);
+        legalize_all::<NoneFixed, _, _, _, _, _>(&mut self.dcel, tests, &mut self.work, flips);
         Ok(vertex)
     }
 

@@ -13,7 +13,7 @@ ghost use Rattle.delaunay_edit.specs.Removal.{RemovesAt};
 use crate::triangulation_core::TriangulationCore;
 use delaunay_core::math::PlaneTests;
 use delaunay_core::point::{HasPosition, Point2};
-use delaunay_legalization::legalize_all;
+use delaunay_legalization::{NoneFixed, legalize_all};
 use delaunay_removal::remove_vertex;
 use half_edge_mesh::FixedVertexHandle;
 use std::alloc::AllocError;
@@ -57,7 +57,7 @@ impl<V: HasPosition, DE: Drop, UE: Drop, F: Drop> TriangulationCore<V, DE, UE, F
         self.sides.reserve(self.dcel.num_directed_edges())?;
         let value = remove_vertex(&mut self.dcel, vertex, tests, &mut self.sides);
         let mut flips = 0;
-        legalize_all(&mut self.dcel, tests, &mut self.work, &mut flips);
+        legalize_all::<NoneFixed, _, _, _, _, _>(&mut self.dcel, tests, &mut self.work, &mut flips);
         Ok(value)
     }
 

@@ -31,6 +31,7 @@ pub struct TriangulationCore<V: HasPosition, DE, UE, F> {
 }
 
 impl<V: HasPosition, DE, UE, F> Model for TriangulationCore<V, DE, UE, F> {
+    ghost use Rattle.std.specs.Prelude.{[]};
     ghost use Rattle.delaunay_legalization.specs.State.{State, state_of};
     ghost use Rattle.delaunay_legalization.specs.Shape.{IsLegal};
 
@@ -38,7 +39,7 @@ impl<V: HasPosition, DE, UE, F> Model for TriangulationCore<V, DE, UE, F> {
 
     ghost view = { λ c. state_of c.dcel };
 
-    ghost invariant = { λ c. IsLegal V.place (state_of c.dcel) };
+    ghost invariant = { λ c. IsLegal V.place (λ _. []) (state_of c.dcel) };
 }
 
 impl<V: HasPosition, DE, UE, F> TriangulationCore<V, DE, UE, F> {

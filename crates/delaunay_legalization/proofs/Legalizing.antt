@@ -26,10 +26,14 @@ use Rattle.drawn_mesh.specs.Stays.{KeepsIndexes}
 use Rattle.drawn_mesh.proofs.MeshEdits.{face_before}
 use Rattle.drawn_mesh.proofs.MeshLegal as M
 use Rattle.drawn_mesh.proofs.WorkLists.{contains_last, contains_before, once_before}
+use Rattle.delaunay_legalization.specs.Fixed.{fixed_pairs}
 use Rattle.delaunay_legalization.specs.Known.{point_at}
 
 pub edges_before : (m : Mesh) (ks : List ℕ) (k : ℕ) → AreEdges m (ks ++ k ∷ []) → AreEdges m ks
 edges_before m ks k o = record { within = λ j c. o.within j (contains_before ks k j c); once = once_before ks k o.once }
+
+pub last_edge_within : (m : Mesh) (ks : List ℕ) (k n : ℕ) → 2 * n ≡ length m.half_edges → AreEdges m (ks ++ k ∷ []) → k < n
+last_edge_within m ks k n e o = let h = o.within k (contains_last ks k) in omega (arith, h, e)
 
 pub last_within : (m : Mesh) (ks : List ℕ) (k n : ℕ) → n ≡ length m.half_edges → AreEdges m (ks ++ k ∷ []) → (2 * k) < n
 last_within m ks k n e o = let h = o.within k (contains_last ks k) in omega (arith, h, e)
@@ -66,11 +70,17 @@ pub not_none : (n : ℕ) → 0 < n → ¬ (n ≡ 0)
 not_none n h e = omega arith
 
 -- ---- one step
-pub turned_by : (points : List Point) (was m new : Mesh) (ks more : List ℕ) (k start before after : ℕ) → IsValid m → new ≡ flipped m (2 * k) → after ≡ before + 1 → IsFailing points m (2 * k) → GainsRound m (2 * k) ks more → AreEdges m more → IsPartlyLegal points [] was m (ks ++ k ∷ []) start before → IsPartlyLegal points [] was new more start after
-turned_by points was m new ks more k start before after s e f x g o p = subst (λ (y : Mesh × ℕ). IsPartlyLegal points [] was y.0 more start y.1) (λ i. (sym e i, sym (f ∙ one_more before) i)) (M.turned points [] was m ks k start before s p x more g o)
+pub turned_by : (points : List Point) (fixed : List (ℕ × ℕ)) (was m new : Mesh) (ks more : List ℕ) (k start before after : ℕ) → IsValid m → new ≡ flipped m (2 * k) → after ≡ before + 1 → IsFailing points m (2 * k) → GainsRound m (2 * k) ks more → AreEdges m more → IsPartlyLegal points fixed was m (ks ++ k ∷ []) start before → IsPartlyLegal points fixed was new more start after
+turned_by points fixed was m new ks more k start before after s e f x g o p = subst (λ (y : Mesh × ℕ). IsPartlyLegal points fixed was y.0 more start y.1) (λ i. (sym e i, sym (f ∙ one_more before) i)) (M.turned points fixed was m ks k start before s p x more g o)
   where
     one_more : (n : ℕ) → n + 1 ≡ suc n
     one_more n = omega arith
+
+-- the turned edge is not fixed, so the fixed ones keep their ends
+pub fixed_stay : {U : Type 0} (fixed : List U → List ℕ) (points : List Point) (m new : Mesh) (ds after : List U) (k : ℕ) → IsValid m → IsMesh points (faces_of m) (outer_of m) → (2 * k) < length m.half_edges → IsFailing points m (2 * k) → new ≡ flipped m (2 * k) → after ≡ ds → ¬ Contains (fixed ds) k
+    → fixed_pairs fixed new after ≡ fixed_pairs fixed m ds
+fixed_stay {U = U} fixed points m new ds after k s shape within x e f free =
+    ap (λ (y : Mesh × List U). fixed_pairs fixed y.0 y.1) (λ i. (e i, f i)) ∙ M.pairs_stay points m s (M.local_of points m (2 * k) s.sound shape (within, x.inner)) k within x (fixed ds) free
 
 pub fewer_by : (points : List Point) (m new : Mesh) (ks more : List ℕ) (k : ℕ) → IsValid m → IsMesh points (faces_of m) (outer_of m) → new ≡ flipped m (2 * k) → IsFailing points m (2 * k) → AreEdges m (ks ++ k ∷ []) → AreEdges m more → steps_left points new more < steps_left points m (ks ++ k ∷ [])
 fewer_by points m new ks more k s shape e x own o = subst (λ y. steps_left points y more < steps_left points m (ks ++ k ∷ [])) (sym e)
@@ -88,13 +98,14 @@ round_gained m e a b c d one two three four five p q r s f g h i =
 
 -- ---- the loop
 -- what holds from one edge to the next
-pub record IsUnderway {V D U F : Type 0} (points : List Point) (was now : Contents V D U F) (ks : List ℕ) (room_was room start flips : ℕ) : Type 0 where
+pub record IsUnderway {V D U F : Type 0} (fix : List U → List ℕ) (points : List Point) (was now : Contents V D U F) (ks : List ℕ) (room_was room start flips : ℕ) : Type 0 where
   pub contents : now ≡ record was { mesh = now.mesh }
-  pub legal : IsPartlyLegal points [] was.mesh now.mesh ks start flips
+  pub fixed : fixed_pairs fix now.mesh now.undirected ≡ fixed_pairs fix was.mesh was.undirected
+  pub legal : IsPartlyLegal points (fixed_pairs fix was.mesh was.undirected) was.mesh now.mesh ks start flips
   pub room_stays : room ≡ room_was
 
-pub one_more_fits : (points : List Point) (was m : Mesh) (ks : List ℕ) (k start flips n : ℕ) → IsValid m → IsPartlyLegal points [] was m (ks ++ k ∷ []) start flips → length points ≡ n → 2 * start + n * (n - 1) < 2 ^ 65 → IsFailing points m (2 * k) → flips + 1 < 2 ^ 64
-one_more_fits points was m ks k start flips n s p e h x = fits start (length p.away) flips (n * (n - 1)) p.count h (subst (λ (z : ℕ). 2 * suc (length p.away) ≤ z * (z - 1)) e (M.one_more_flip points [] was m ks k start flips s p x))
+pub one_more_fits : (points : List Point) (fixed : List (ℕ × ℕ)) (was m : Mesh) (ks : List ℕ) (k start flips n : ℕ) → IsValid m → IsPartlyLegal points fixed was m (ks ++ k ∷ []) start flips → length points ≡ n → 2 * start + n * (n - 1) < 2 ^ 65 → IsFailing points m (2 * k) → flips + 1 < 2 ^ 64
+one_more_fits points fixed was m ks k start flips n s p e h x = fits start (length p.away) flips (n * (n - 1)) p.count h (subst (λ (z : ℕ). 2 * suc (length p.away) ≤ z * (z - 1)) e (M.one_more_flip points fixed was m ks k start flips s p x))
   where
     fits : (start a flips q : ℕ) → start + a ≡ flips → 2 * start + q < 2 ^ 65 → 2 * suc a ≤ q → flips + 1 < 2 ^ 64
     fits start a flips q c h b = omega arith
@@ -123,36 +134,45 @@ found xs ys x r e h = subst (λ zs. Decides r (Contains zs x)) e (Decides-contai
 pub fits_len : (xs ys : List ℕ) (v room : ℕ) → ys ≡ xs → length ys ≡ v → length xs < room → v < room
 fits_len xs ys v room e f h = subst (λ (z : ℕ). z < room) (sym (ap (λ zs. length zs) e) ∙ f) h
 
-pub underway_begins : {V D U F : Type 0} (points : List Point) (c : Contents V D U F) (ks : List ℕ) (room start : ℕ) → IsMesh points (faces_of c.mesh) (outer_of c.mesh) → AreEdges c.mesh ks → AllPassBut points (faces_of c.mesh) [] (pairs_at c.mesh ks) → IsUnderway points c c ks room room start start
-underway_begins points c ks room start shape edges passing = record { contents = refl; legal = M.begins points [] c.mesh ks start shape edges passing; room_stays = refl }
+pub underway_begins : {V D U F : Type 0} (fix : List U → List ℕ) (points : List Point) (c : Contents V D U F) (ks : List ℕ) (room start : ℕ) → IsMesh points (faces_of c.mesh) (outer_of c.mesh) → AreEdges c.mesh ks → AllPassBut points (faces_of c.mesh) (fixed_pairs fix c.mesh c.undirected) (pairs_at c.mesh ks) → IsUnderway fix points c c ks room room start start
+underway_begins fix points c ks room start shape edges passing = record { contents = refl; fixed = refl; legal = M.begins points (fixed_pairs fix c.mesh c.undirected) c.mesh ks start shape edges passing; room_stays = refl }
 
-module _ {V D U F : Type 0} (at : V → Point) (was now : Contents V D U F) (all : List ℕ) (room_was room start flips : ℕ) (u : IsUnderway (map at was.vertices) was now all room_was room start flips) where
+module _ {V D U F : Type 0} (at : V → Point) (fix : List U → List ℕ) (was now : Contents V D U F) (all : List ℕ) (room_was room start flips : ℕ) (u : IsUnderway fix (map at was.vertices) was now all room_was room start flips) where
+  abbrev fixed_first : List (ℕ × ℕ)
+  fixed_first = fixed_pairs fix was.mesh was.undirected
+
   same_vertices : now.vertices ≡ was.vertices
   same_vertices = ap (λ (c : Contents V D U F). c.vertices) u.contents
 
   module _ (ks : List ℕ) (k : ℕ) (popped : all ≡ ks ++ k ∷ []) where
-    before_step : IsPartlyLegal (map at was.vertices) [] was.mesh now.mesh (ks ++ k ∷ []) start flips
-    before_step = subst (λ (zs : List ℕ). IsPartlyLegal (map at was.vertices) [] was.mesh now.mesh zs start flips) popped u.legal
+    before_step : IsPartlyLegal (map at was.vertices) fixed_first was.mesh now.mesh (ks ++ k ∷ []) start flips
+    before_step = subst (λ (zs : List ℕ). IsPartlyLegal (map at was.vertices) fixed_first was.mesh now.mesh zs start flips) popped u.legal
 
     pub step_fits : IsValid now.mesh → 2 * start + length was.vertices * (length was.vertices - 1) < 2 ^ 65 → IsFailing (map at now.vertices) now.mesh (2 * k) → flips + 1 < 2 ^ 64
-    step_fits s h x = one_more_fits (map at was.vertices) was.mesh now.mesh ks k start flips (length was.vertices) s before_step (length-map was.vertices at) h (subst (λ (vs : List V). IsFailing (map at vs) now.mesh (2 * k)) same_vertices x)
+    step_fits s h x = one_more_fits (map at was.vertices) fixed_first was.mesh now.mesh ks k start flips (length was.vertices) s before_step (length-map was.vertices at) h (subst (λ (vs : List V). IsFailing (map at vs) now.mesh (2 * k)) same_vertices x)
 
-    pub step_kept : (after : Contents V D U F) (more : List ℕ) (room_after flips_after : ℕ) → after ≡ record now { mesh = after.mesh }
-        → ((first : Mesh) (start : ℕ) → IsPartlyLegal (map at now.vertices) [] first now.mesh (ks ++ k ∷ []) start flips → IsPartlyLegal (map at now.vertices) [] first after.mesh more start flips_after) → room_after ≡ room → IsUnderway (map at was.vertices) was after more room_was room_after start flips_after
-    step_kept after more room_after flips_after contents legal e = record {
+    pub step_kept : (after : Contents V D U F) (more : List ℕ) (room_after flips_after : ℕ) → after ≡ record now { mesh = after.mesh } → fixed_pairs fix after.mesh after.undirected ≡ fixed_pairs fix now.mesh now.undirected
+        → ((first : Mesh) (start : ℕ) → IsPartlyLegal (map at now.vertices) (fixed_pairs fix now.mesh now.undirected) first now.mesh (ks ++ k ∷ []) start flips → IsPartlyLegal (map at now.vertices) (fixed_pairs fix now.mesh now.undirected) first after.mesh more start flips_after)
+        → room_after ≡ room → IsUnderway fix (map at was.vertices) was after more room_was room_after start flips_after
+    step_kept after more room_after flips_after contents fixed legal e = record {
       contents = contents ∙ ap (λ (c : Contents V D U F). record c { mesh = after.mesh }) u.contents;
-      legal = subst (λ (vs : List V). IsPartlyLegal (map at vs) [] was.mesh after.mesh more start flips_after) same_vertices (legal was.mesh start (subst (λ (vs : List V). IsPartlyLegal (map at vs) [] was.mesh now.mesh (ks ++ k ∷ []) start flips) (sym same_vertices) before_step));
+      fixed = fixed ∙ u.fixed;
+      legal = subst (λ (y : List V × List (ℕ × ℕ)). IsPartlyLegal (map at y.0) y.1 was.mesh after.mesh more start flips_after) same_both
+          (legal was.mesh start (subst (λ (y : List V × List (ℕ × ℕ)). IsPartlyLegal (map at y.0) y.1 was.mesh now.mesh (ks ++ k ∷ []) start flips) (sym same_both) before_step));
       room_stays = e ∙ u.room_stays;
     }
+      where
+        same_both : (let a : List V × List (ℕ × ℕ) = (now.vertices, fixed_pairs fix now.mesh now.undirected) in let b : List V × List (ℕ × ℕ) = (was.vertices, fixed_first) in a ≡ b)
+        same_both = λ i. (same_vertices i, u.fixed i)
 
-  pub underway_ends : all ≡ [] → IsLocallyDelaunay (drawn (map at was.vertices) now.mesh) []
-  underway_ends e = none_left (map at was.vertices) (faces_of now.mesh) (edges_of now.mesh) [] (subst (λ (zs : List ℕ). AllPassBut (map at was.vertices) (faces_of now.mesh) [] (pairs_at now.mesh zs)) e u.legal.passing)
+  pub underway_ends : all ≡ [] → IsLocallyDelaunay (drawn (map at was.vertices) now.mesh) fixed_first
+  underway_ends e = none_left (map at was.vertices) (faces_of now.mesh) (edges_of now.mesh) fixed_first (subst (λ (zs : List ℕ). AllPassBut (map at was.vertices) (faces_of now.mesh) fixed_first (pairs_at now.mesh zs)) e u.legal.passing)
 
   pub underway_counts : 2 * (flips - start) ≤ length was.vertices * (length was.vertices - 1)
-  underway_counts = subst (λ (n : ℕ). 2 * (flips - start) ≤ n * (n - 1)) (length-map was.vertices at) (M.few_flips (map at was.vertices) [] was.mesh now.mesh all start flips u.legal).1
+  underway_counts = subst (λ (n : ℕ). 2 * (flips - start) ≤ n * (n - 1)) (length-map was.vertices at) (M.few_flips (map at was.vertices) fixed_first was.mesh now.mesh all start flips u.legal).1
 
   pub underway_keeps : IsValid now.mesh → KeepsIndexes was.mesh now.mesh
-  underway_keeps s = M.indexes_kept (map at was.vertices) [] was.mesh now.mesh all start flips s u.legal
+  underway_keeps s = M.indexes_kept (map at was.vertices) fixed_first was.mesh now.mesh all start flips s u.legal
 
 pub drained : (xs ys : List ℕ) (v : ℕ) → xs ≡ ys ++ [] → ys ≡ take (v - 1) xs → v ≡ 0 → xs ≡ []
 drained xs ys v e f z = e ∙ ap (λ zs. zs ++ []) (f ∙ ap (λ (n : ℕ). take (n - 1) xs) z)

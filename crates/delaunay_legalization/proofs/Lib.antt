@@ -2,6 +2,8 @@ pub mod Between
 pub mod Shapes
 pub mod Questions
 pub mod ElementCounts
+pub mod Fixed
 pub mod Legalizing
 pub mod WorkList
+pub mod FixedEdges
 pub mod Flips

@@ -17,6 +17,7 @@ use Rattle.plane_edits.specs.Legal.{AllPassBut}
 use Rattle.drawn_mesh.specs.Drawn.{drawn, pair_of, faces_of, edges_of, outer_of}
 use Rattle.drawn_mesh.specs.Legal.{AreEdges, pair_at, pairs_at}
 use Rattle.drawn_mesh.proofs.MeshLegal.{line_has_none}
+use Rattle.delaunay_legalization.specs.Fixed.{fixed_pairs}
 use Rattle.delaunay_legalization.specs.Shape.{IsKept, IsLegal}
 use Rattle.delaunay_legalization.specs.State.{state_of}
 use Rattle.delaunay_legalization.proofs.Shapes.{laid_out_tiles}
@@ -45,6 +46,11 @@ module _ (m : Mesh) (n : ℕ) (count : 2 * n ≡ length m.half_edges) where
       let is : 0 + c.0 ≡ k = sym (get_or-range_with_len 0 n c.0 k i_in) ∙ c.2 in
       omega (arith, i_in, is)
 
+  pub from_range : (k : ℕ) → k < n → Contains (range_with_len 0 n) k
+  from_range k h =
+      let at : 0 + k ≡ k = omega arith in
+      (k, omega (arith, h, length-range_with_len 0 n), get_or-range_with_len 0 n k k h ∙ at)
+
   pub all_are_edges : AreEdges m (range_with_len 0 n)
   all_are_edges = record {
     within = λ k c. let h = in_range k c in omega (arith, h, count);
@@ -58,7 +64,7 @@ module _ (m : Mesh) (n : ℕ) (count : 2 * n ≡ length m.half_edges) where
   twin : (k : ℕ) → rev (2 * k) ≡ 2 * k + 1
   twin k = grind arith
 
-  pairs_are_edges : IsValid m → pairs_at m (range_with_len 0 n) ≡ edges_of m
+  pub pairs_are_edges : IsValid m → pairs_at m (range_with_len 0 n) ≡ edges_of m
   pairs_are_edges v =
       let twice = length-ends_twice m v.sound in
       let places = length-map (ends m) pair_of in
@@ -79,15 +85,17 @@ module _ (m : Mesh) (n : ℕ) (count : 2 * n ≡ length m.half_edges) where
       absurd (left (subst (λ (ps : List (ℕ × ℕ)). Joins ps i j) (sym (pairs_are_edges v)) (side points i j k (laid_out_tiles points m v shape) f)))
 
 -- ---- after the last flip
-pub legalized : {V D U F : Type 0} (place : V → Point) (old new : Contents V D U F) → IsKept place (state_of old) → new ≡ record old { mesh = new.mesh } → IsWhole new → IsMesh (map place old.vertices) (faces_of new.mesh) (outer_of new.mesh) → IsLocallyDelaunay (drawn (map place old.vertices) new.mesh) [] → IsLegal place (state_of new)
-legalized {V = V} {D = D} {U = U} {F = F} place old new kept e w shape passing = subst (λ (c : Contents V D U F). IsLegal place (state_of c)) (sym e) (record {
-  kept = record {
+pub legalized : {V D U F : Type 0} (place : V → Point) (fix : List U → List ℕ) (old new : Contents V D U F) → IsKept place (state_of old) → new ≡ record old { mesh = new.mesh } → IsWhole new → IsMesh (map place old.vertices) (faces_of new.mesh) (outer_of new.mesh)
+    → fixed_pairs fix new.mesh new.undirected ≡ fixed_pairs fix old.mesh old.undirected → IsLocallyDelaunay (drawn (map place old.vertices) new.mesh) (fixed_pairs fix old.mesh old.undirected) → IsLegal place fix (state_of new)
+legalized {V = V} {D = D} {U = U} {F = F} place fix old new kept e w shape fixed passing = record {
+  kept = subst (λ (c : Contents V D U F). IsKept place (state_of c)) (sym e) (record {
     in_range = kept.in_range;
     few_edges = kept.few_edges;
     few_faces = kept.few_faces;
     valid = w.valid;
     fits = subst (λ (c : Contents V D U F). FitsMesh new.mesh (length c.vertices) (length c.directed) (length c.undirected) (length c.faces)) e w.fits;
     shape = shape;
-  };
-  passing = passing;
-})
+  });
+  passing = subst (λ (vs : List V). IsLocallyDelaunay (drawn (map place vs) new.mesh) (fixed_pairs fix new.mesh new.undirected)) (ap (λ (c : Contents V D U F). c.vertices) (sym e))
+      (subst (λ (ps : List (ℕ × ℕ)). IsLocallyDelaunay (drawn (map place old.vertices) new.mesh) ps) (sym fixed) passing);
+}

@@ -41,7 +41,7 @@ use Rattle.drawn_mesh.proofs.OuterChanges.{own_ends}
 use Rattle.drawn_mesh.proofs.FaceChanges.{turned_faces}
 use Rattle.drawn_mesh.proofs.MeshEdits.{start_of_twin, end_of_twin, face_before, face_behind, flipped_faces, flip_kept_by}
 use Rattle.drawn_mesh.proofs.MeshStays.{halved, keeps_indexes, stays_none, stays_turned}
-use Rattle.drawn_mesh.proofs.WorkLists.{contains_last, contains_before, last_or_before, once_before, last_not_before, once_after, contains_map, contains_map_from, at_most_so_many}
+use Rattle.drawn_mesh.proofs.WorkLists.{contains_last, contains_before, last_or_before, once_before, last_not_before, once_after, contains_map, contains_map_from, same_map, at_most_so_many}
 
 -- ---- the edges of a work list
 pub joins_edge : (m : Mesh) (ks : List ℕ) (k : ℕ) → Contains ks k → Joins (pairs_at m ks) (origin m (2 * k)) (origin m (rev (2 * k)))
@@ -162,8 +162,8 @@ module _ (points : List Point) (m : Mesh) (s : IsValid m) (local : LocalMesh poi
 none_or_some : (n : ℕ) → (n ≡ 0) ⊎ (0 < n)
 none_or_some n = elim (cases_eq n 0) [ inl e ↦ inl e | inr d ↦ inr (grind arith) ]
 
--- ---- an edge that does not fail is dropped
-pub dropped : (points : List Point) (fixed : List (ℕ × ℕ)) (was m : Mesh) (ks : List ℕ) (k start flips : ℕ) → IsValid m → IsPartlyLegal points fixed was m (ks ++ k ∷ []) start flips → ¬ IsFailing points m (2 * k) → IsPartlyLegal points fixed was m ks start flips
+-- ---- an edge that is fixed or does not fail is dropped
+pub dropped : (points : List Point) (fixed : List (ℕ × ℕ)) (was m : Mesh) (ks : List ℕ) (k start flips : ℕ) → IsValid m → IsPartlyLegal points fixed was m (ks ++ k ∷ []) start flips → (¬ Joins fixed (origin m (2 * k)) (origin m (rev (2 * k))) → ¬ IsFailing points m (2 * k)) → IsPartlyLegal points fixed was m ks start flips
 dropped points fixed was m ks k start flips s p passes = record {
   shape = p.shape;
   edges = record { within = λ j c. p.edges.within j (contains_before ks k j c); once = once_before ks k p.edges.once };
@@ -191,7 +191,7 @@ dropped points fixed was m ks k start flips s p passes = record {
     own (inl x) (inl o) b i l f g free = absurd (no_outer_face points m s x e within o i f)
     own (inl x) (inr h) (inl o) i l f g free = absurd (no_outer_face points m s x (rev e) (rev_within e (length m.half_edges) s.sound.even within) o l (subst (λ (y : ℕ). IsFaceOf (faces_of m) (origin m (rev e)) (origin m y) l) (sym (rev-rev e)) g))
     own (inl x) (inr h) (inr t) i l f g free =
-        subst (λ (z : ℕ). Pass points (origin m e) z i l) meet (pass_if_outside points m s x e within h t (λ c. passes (record { inner = h; twin_inner = t; inside = c })) i l
+        subst (λ (z : ℕ). Pass points (origin m e) z i l) meet (pass_if_outside points m s x e within h t (λ c. passes free (record { inner = h; twin_inner = t; inside = c })) i l
         (subst (λ (z : ℕ). IsFaceOf (faces_of m) (origin m e) z i) (sym meet) f) (subst (λ (z : ℕ). IsFaceOf (faces_of m) z (origin m e) l) (sym meet) g))
 
 -- ---- a failing edge is turned
@@ -259,6 +259,10 @@ module _ (points : List Point) (m : Mesh) (s : IsValid m) (local : LocalMesh poi
   rev_stays : (h : ℕ) → h ≢ e → h ≢ rev e → origin after (rev h) ≡ origin m (rev h)
   rev_stays h n t = origin_stays (rev h) (λ r. t (sym (rev-rev h) ∙ ap rev r)) (λ r. n (sym (rev-rev h) ∙ ap rev r ∙ rev-rev e))
 
+  -- so each other undirected edge joins what it joined
+  pair_stays : (l : ℕ) → (2 * l) ≢ e → (2 * l) ≢ rev e → pair_at after l ≡ pair_at m l
+  pair_stays l n t = λ i. (let p : ℕ × ℕ = (origin_stays (2 * l) n t i, rev_stays (2 * l) n t i) in p)
+
   abbrev Six : Type 0
   Six = AreSixPlaces (length m.half_edges) e (rev e) (next m e) (next m (rev e)) (prev m e) (prev m (rev e))
 
@@ -301,6 +305,10 @@ even_no_odd l k r = grind arith
 
 one_more : (start a b flips : ℕ) → start + a ≡ flips → b ≡ suc a → start + b ≡ suc flips
 one_more start a b flips e f = omega arith
+
+-- the undirected edges that are not turned join what they joined
+pub pairs_stay : (points : List Point) (m : Mesh) (s : IsValid m) → LocalMesh points (faces_of m) (outer_of m) → (k : ℕ) → (2 * k) < length m.half_edges → IsFailing points m (2 * k) → (ls : List ℕ) → ¬ Contains ls k → pairs_at (flipped m (2 * k)) ls ≡ pairs_at m ls
+pairs_stay points m s local k within x ls n = same_map (pair_at (flipped m (2 * k))) (pair_at m) ls (λ l c. pair_stays points m s local (2 * k) within x l (other_even l k (λ r. n (subst (Contains ls) r c))) (even_no_odd l k))
 
 module _ (points : List Point) (fixed : List (ℕ × ℕ)) (was m : Mesh) (ks : List ℕ) (k start flips : ℕ) (s : IsValid m) (p : IsPartlyLegal points fixed was m (ks ++ k ∷ []) start flips) (x : IsFailing points m (2 * k)) where
   within_mesh : (2 * k) < length m.half_edges

@@ -53,6 +53,11 @@ contains_map_from {X = X} f (x ∷ xs) y h = elim (Contains-cases (f x) (map f x
   | inr c ↦ let r = contains_map_from f xs y c in (r.0, Contains-later x xs r.0 r.1, r.2)
 ]
 
+-- functions that agree on a list
+pub same_map : {X Y : Type 0} (f g : X → Y) (xs : List X) → ((x : X) → Contains xs x → f x ≡ g x) → map f xs ≡ map g xs
+same_map f g [] h = refl
+same_map f g (x ∷ xs) h = λ i. h x (Contains-head x xs) i ∷ same_map f g xs (λ y c. h y (Contains-later x xs y c)) i
+
 -- ---- there are at most n different numbers below n
 below : ℕ → List ℕ
 below zero = []

@@ -1,0 +1,91 @@
+//! The data of an edge that may be a constraint.
+ghost use Rattle.std.specs.Prelude.{◌≡◌, true, false, refl};
+ghost use Rattle.delaunay_legalization.specs.CdtEdge.{is_constraint};
+ghost use Rattle.delaunay_legalization.specs.Fixed.{marked_edges};
+
+use crate::edge_marks::EdgeMarks;
+
+/// The data of an undirected edge of a constrained triangulation: whether the edge is a constraint, and the user's data.
+#[derive(Clone, Copy, Debug, PartialEq, Eq, PartialOrd, Ord, Hash, Drop)]
+pub struct CdtEdge<UE> {
+    is_constraint_edge: bool,
+    data: UE,
+}
+
+/// No constraint, with default data.
+impl<UE: Default> Default for CdtEdge<UE> {
+    ghost is_default = { λ e. (e.is_constraint_edge ≡ false) × UE.is_default e.«data» };
+
+    fn default() -> Self {
+        CdtEdge::new(UE::default())
+    }
+}
+
+impl<UE> CdtEdge<UE> {
+    ghost use Rattle.std.specs.Borrow.{sem};
+    ghost use Rattle.delaunay_legalization.specs.Lending.{LendsData};
+
+    /// No constraint, with these data.
+    pub fn new(value: UE) -> Self
+        ensures free { result.is_constraint_edge ≡ false }
+        ensures value { result.«data» ≡ value }
+    {
+        CdtEdge {
+            is_constraint_edge: false,
+            data: value,
+        }
+    }
+
+    /// Whether the edge is a constraint.
+    pub fn is_constraint_edge(&self) -> bool
+        ensures { result ≡ self.now.is_constraint_edge }
+    {
+        self.is_constraint_edge
+    }
+
+    /// Makes an edge that is none a constraint.
+    pub fn make_constraint_edge(&mut self)
+        requires { self.old.is_constraint_edge ≡ false }
+        ensures { self.new ≡ record self.old { is_constraint_edge = true } }
+    {
+        self.is_constraint_edge = true;
+    }
+
+    /// Makes a constraint an edge that is none.
+    pub fn unmake_constraint_edge(&mut self)
+        requires { self.old.is_constraint_edge ≡ true }
+        ensures { self.new ≡ record self.old { is_constraint_edge = false } }
+    {
+        self.is_constraint_edge = false;
+    }
+
+    /// The user's data.
+    pub fn data(&self) -> &UE
+        ensures { result.now ≡ self.now.«data» }
+    {
+        &self.data
+    }
+
+    /// The user's data, for writing.
+    pub fn data_mut(&mut self) -> &mut UE
+        ensures* writes_back { sem 𝓛 (LendsData UE.row self.entry result) }
+        ensures value { result.now ≡ self.old.«data» }
+    {
+        &mut self.data
+    }
+}
+
+/// The constraints are fixed.
+pub struct ConstraintsFixed;
+
+impl<UE> EdgeMarks<CdtEdge<UE>> for ConstraintsFixed {
+    ghost fixes = { is_constraint };
+
+    ghost fixed = { marked_edges is_constraint };
+
+    ghost fixed_are_marked = { λ ds. refl };
+
+    fn is_fixed(value: &CdtEdge<UE>) -> bool {
+        value.is_constraint_edge()
+    }
+}
