@@ -14,8 +14,7 @@ use Rattle.half_edge_links.proofs.TakenLists.{count_ends}
 use Rattle.half_edge_mesh.specs.Contents.{Contents, IsWhole}
 use Rattle.half_edge_mesh.specs.Growth.{joins}
 use Rattle.half_edge_mesh.specs.Removal.{FullEdge, FullFace, full_edges, full_edges_of, full_faces, full_faces_of}
-use Rattle.half_edge_mesh.proofs.HubFaces.{listed_face}
-use Rattle.half_edge_mesh.proofs.TakenEdges.{between, named_corners}
+use Rattle.half_edge_mesh.proofs.TakenEdges.{between, listed_face, named_corners}
 use Rattle.half_edge_mesh.proofs.Touching.{with_other_ends, with_other_corners, full_edges-set, full_faces-set}
 use Rattle.plane.specs.Fraction.{Point}
 use Rattle.plane_tiling.specs.Local.{LocalMesh}
