@@ -1,8 +1,10 @@
-//! What a refused insertion leaves. Memory is refused where these are run as `rt try --test --fail-alloc N`.
+//! What a refused insertion or removal leaves. Memory is refused where these are run as `rt try --test --fail-alloc N`.
 
 use super::snapshots::Snapshot;
 use super::{counts, insert};
 use crate::sheet_triangulation::{SheetError, SheetTriangulation};
+use crate::tagged_vertex::TaggedVertex;
+use spade_delaunay::handles::FixedVertexHandle;
 use spade_delaunay::{DelaunayTriangulation, InsertionError, Point2};
 use std::process::Abort;
 use triangulate_run::sheet::Sheet;
@@ -32,22 +34,62 @@ fn insert_at_last(
     insert_or_stay(rt, points, site, tag).is_ok() || insert_or_stay(rt, points, site, tag).is_ok()
 }
 
+/// Removes a vertex that is there, and compares what was before with what a refused growth leaves.
+fn remove_or_stay(
+    rt: &impl Abort,
+    points: &mut SheetTriangulation,
+    index: u32,
+) -> Option<TaggedVertex> {
+    let before = Snapshot::new(points);
+    let removed = points.remove(FixedVertexHandle::from_index(index));
+    if removed.is_none() {
+        assert_eq!(rt; Snapshot::new(points), before, "at {index}");
+    }
+    removed
+}
+
+/// Removes a vertex, and tells its number. One growth is refused at most, so it is gone after two calls.
+fn remove_at_last(rt: &impl Abort, points: &mut SheetTriangulation, index: u32) -> Option<u64> {
+    let removed = remove_or_stay(rt, points, index);
+    let removed = removed.or_else(|| remove_or_stay(rt, points, index));
+    removed.map(|vertex| vertex.tag)
+}
+
+// After the first two one past an end of their line, one beside it, one outside, three within edges of the hull, and one
+// inside.
+const INSERTED: [(i64, i64, u64); 9] = [
+    (-1, -1, 1),
+    (0, -1, 2),
+    (1, -1, 3),
+    (-1, 1, 4),
+    (1, 1, 5),
+    (0, 1, 6),
+    (-1, 0, 7),
+    (1, 0, 8),
+    (0, 0, 9),
+];
+
 #[test]
 fn a_refused_growth_changes_nothing(rt: HostRuntime) {
     let mut points = SheetTriangulation::new(rt.alloc(), Sheet::G);
-    // After the first two one past an end of their line, one beside it, one outside, three within edges of the hull, and
-    // one inside.
-    for (x, y, tag) in [
-        (-1i64, -1i64, 1u64),
-        (0, -1, 2),
-        (1, -1, 3),
-        (-1, 1, 4),
-        (1, 1, 5),
-        (0, 1, 6),
-        (-1, 0, 7),
-        (1, 0, 8),
-        (0, 0, 9),
-    ] {
+    for (x, y, tag) in INSERTED {
+        assert!(rt; insert_at_last(&rt, &mut points, (x, y), tag), "at {tag}");
+    }
+    assert_eq!(rt; counts(&points), [9usize, 16, 32, 8, 9]);
+}
+
+// Each vertex goes at once and comes again: the only one, then the end of a line, a corner beside a line and one of a
+// hull, a vertex on each of three sides, and one inside.
+#[test]
+fn a_refused_removal_changes_nothing(rt: HostRuntime) {
+    let mut points = SheetTriangulation::new(rt.alloc(), Sheet::G);
+    for (index, (x, y, tag)) in (0u32..).zip(INSERTED) {
+        assert!(rt; insert_at_last(&rt, &mut points, (x, y), tag), "at {tag}");
+        assert_eq!(rt;
+            remove_at_last(&rt, &mut points, index),
+            Some(tag),
+            "at {tag}"
+        );
         assert!(rt; insert_at_last(&rt, &mut points, (x, y), tag), "at {tag}");
     }
     assert_eq!(rt; counts(&points), [9usize, 16, 32, 8, 9]);
