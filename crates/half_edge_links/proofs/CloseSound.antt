@@ -2,7 +2,6 @@
 use Rattle.std.proofs.Common.{◌≡◌, ◌≢◌, ◌⊎◌, ℕ, ◌+◌, ◌-◌, ◌<◌, ◌≤◌, [], ◌∷◌, length, refl, sym, ap, ◌∙◌, inl, inr, arith, length-append}
 use Rattle.std.proofs.lemmas.Bool.{cases_eq}
 use Rattle.std.proofs.lemmas.List.{get_or_append_left, get_or_at}
-use Rattle.half_edge_links.proofs.Cases.{◌or_else◌}
 use Rattle.half_edge_links.specs.declared.room.TheConstants.{MAX_ELEMENTS}
 use Rattle.half_edge_links.specs.Mesh.{Mesh, IsSmall, origin, next, prev, face, face_edge, rev, IsSound, IsSoundEdge}
 use Rattle.half_edge_links.specs.Remove.{loop_closed, IsOpenTriangle, ClosesLoop}
@@ -14,12 +13,7 @@ abbrev pub IsRound : Mesh → ℕ → ℕ → Type 0
 IsRound m h k = (k ≡ h) ⊎ ((k ≡ next m h) ⊎ (k ≡ prev m h))
 
 pub is_round : (m : Mesh) (h k : ℕ) → IsRound m h k ⊎ ((k ≢ h) × (k ≢ next m h) × (k ≢ prev m h))
-is_round m h k =
-    elim (cases_eq k h or_else cases_eq k (next m h)) [
-      | inl a ↦ inl (inl a)
-      | inr (a, inl b) ↦ inl (inr (inl b))
-      | inr (a, inr b) ↦ elim (cases_eq k (prev m h)) [ inl c ↦ inl (inr (inr c)) | inr c ↦ inr (a, b, c) ]
-    ]
+is_round m h k = grind arith
 
 module _ (m : Mesh) (h : ℕ) (s : IsSound m) (can : IsOpenTriangle m h) where
   here : IsSoundEdge m h

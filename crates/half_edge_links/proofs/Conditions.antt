@@ -1,8 +1,7 @@
 -- What the steps of a removal find, and how it follows from what always holds of a mesh.
 use Rattle.std.proofs.Common.{◌≡◌, ◌≢◌, ◌⊎◌, ℕ, zero, suc, ◌+◌, ◌-◌, ◌<◌, ◌≤◌, Bool, true, ◌==◌, if◌then◌else◌, length, Some, refl, sym, ap, ◌∙◌, inl, inr, arith}
-use Rattle.std.proofs.lemmas.Bool.{cases_eq, eq-eqb, eqb-true}
+use Rattle.std.proofs.lemmas.Bool.{eq-eqb, eqb-true}
 use Rattle.std.proofs.lemmas.Bool.Decides.{nat_tests}
-use Rattle.half_edge_links.proofs.Cases.{◌or_else◌}
 use Rattle.half_edge_links.specs.Mesh.{Mesh, origin, next, prev, face, rev, IsSound, IsValid, IsClosed}
 use Rattle.half_edge_links.specs.Flip.{IsFlippable}
 use Rattle.half_edge_links.specs.Remove.{IsRemovable}
@@ -157,19 +156,11 @@ in_three o a z k = if k == o then true else (if k == a then true else (k == z))
 
 to_three : (o a z k : ℕ) → (k ≡ o) ⊎ ((k ≡ a) ⊎ (k ≡ z)) → in_three o a z k ≡ true
 unfolding in_three
-to_three o a z k at = elim at [
-  | inl is ↦ grind (arith, nat_tests)
-  | inr b ↦ elim b [ inl is ↦ grind (arith, nat_tests) | inr is ↦ grind (arith, nat_tests) ]
-]
+to_three o a z k at = grind (arith, nat_tests)
 
 from_three : (o a z k : ℕ) → in_three o a z k ≡ true → (k ≡ o) ⊎ ((k ≡ a) ⊎ (k ≡ z))
 unfolding in_three
-from_three o a z k is =
-    elim (cases_eq k o or_else cases_eq k a) [
-      | inl q ↦ inl q
-      | inr (p, inl q) ↦ inr (inl q)
-      | inr (p, inr r) ↦ elim (cases_eq k z) [ inl q ↦ inr (inr q) | inr x ↦ absurd (grind (arith, nat_tests)) ]
-    ]
+from_three o a z k is = grind (arith, nat_tests)
 
 pub full_wheel : (m : Mesh) (o : ℕ) → IsValid m → IsWheel m o → IsFullWheel m o
 full_wheel m o v w =

@@ -4,7 +4,7 @@ use Rattle.std.proofs.lemmas.Bool.{cases_eq}
 use Rattle.std.proofs.lemmas.Bool.Decides.{nat_tests}
 use Rattle.std.proofs.lemmas.List.{get_or-set_same, get_or-set_other, length-set}
 use Rattle.std.specs.List.{swap_remove}
-use Rattle.half_edge_links.proofs.Cases.{◌or_else◌, ◌each_with◌}
+use Rattle.half_edge_links.proofs.Cases.{◌each_with◌}
 use Rattle.half_edge_links.specs.declared.records.HalfEdge.{HalfEdge}
 use Rattle.half_edge_links.specs.Mesh.{Mesh, no_edge, edge_at, origin, next, prev, face, face_edge, out_edge, rev, HasLinks}
 use Rattle.half_edge_links.specs.Renames.{Renames, IsKeptEdge, pair_moved, renamed}
@@ -25,18 +25,10 @@ module _ (from to : ℕ) where
 
 -- where an index is one of the two that move, or not
 pair_cases : (from h : ℕ) → (h ≡ from) ⊎ ((h ≡ from + 1) ⊎ ((h ≢ from) × (h ≢ from + 1)))
-pair_cases from h =
-    elim (cases_eq h from) [
-      | inl a ↦ inl a
-      | inr a ↦ elim (cases_eq h (from + 1)) [ inl b ↦ inr (inl b) | inr b ↦ inr (inr (a, b)) ]
-    ]
+pair_cases from h = grind arith
 
 rev_away : (hole h : ℕ) → hole % 2 ≡ 0 → h ≢ hole → h ≢ hole + 1 → (rev h ≢ hole) × (rev h ≢ hole + 1)
-rev_away hole h even a b =
-    elim (cases_eq (h % 2) 0) [
-      | inl e ↦ let r : rev h ≡ h + 1 = grind (arith, nat_tests) in rw r (λ z. absurd (omega arith), λ z. absurd (omega arith))
-      | inr e ↦ let r : rev h ≡ h - 1 = grind (arith, nat_tests) in rw r (λ z. absurd (omega arith), λ z. absurd (omega arith))
-    ]
+rev_away hole h even a b = grind (arith, nat_tests)
 
 module _ (last hole : ℕ) (last_even : last % 2 ≡ 0) (hole_even : hole % 2 ≡ 0) (below : hole ≤ last) where
   -- the old index of a new one is that of an edge which is left

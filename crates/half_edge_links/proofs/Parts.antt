@@ -2,17 +2,12 @@
 use Rattle.std.proofs.Common.{◌≡◌, ◌≢◌, ◌⊎◌, ℕ, ◌+◌, ◌%◌, ◌<◌, ◌≤◌, length, Some, IsSome, refl, inl, inr, sym, ap, ◌∙◌, arith}
 use Rattle.std.proofs.lemmas.Bool.{cases_eq}
 use Rattle.std.proofs.lemmas.Grind.{common_steps}
-use Rattle.half_edge_links.proofs.Cases.{◌or_else◌}
 use Rattle.half_edge_links.specs.Mesh.{Mesh, origin, next, prev, face, face_edge, out_edge, rev, IsSound, IsSoundEdge, HasLinks, edge_at}
 use Rattle.half_edge_links.proofs.Orbits.{reached}
 
 -- an edge of a mesh with two more is old or one of the two
 pub grown_cases : (h n : ℕ) → h < n + 2 → (h < n) ⊎ ((h ≡ n) ⊎ (h ≡ n + 1))
-grown_cases h n within =
-    elim (cases_eq h n) [
-      | inl same ↦ inr (inl same)
-      | inr p ↦ elim (cases_eq h (n + 1)) [ inl same ↦ inr (inr same) | inr q ↦ inl (omega (arith, within, p, q)) ]
-    ]
+grown_cases h n within = grind arith
 
 -- one of the edges from a vertex that was put into a face
 abbrev pub IsSpoke : ℕ → ℕ → Type 0
@@ -20,16 +15,7 @@ IsSpoke n h = (h ≡ n + 1) ⊎ ((h ≡ n + 3) ⊎ (h ≡ n + 5))
 
 -- an edge of a mesh with six more
 pub late_cases : (h n : ℕ) → h < n + 6 → (h < n) ⊎ ((h ≡ n) ⊎ ((h ≡ n + 2) ⊎ ((h ≡ n + 4) ⊎ IsSpoke n h)))
-late_cases h n within =
-    elim (cases_eq h n or_else cases_eq h (n + 2) or_else cases_eq h (n + 4) or_else cases_eq h (n + 1) or_else cases_eq h (n + 3) or_else cases_eq h (n + 5)) [
-      | inl is ↦ inr (inl is)
-      | inr (a, inl is) ↦ inr (inr (inl is))
-      | inr (a, inr (b, inl is)) ↦ inr (inr (inr (inl is)))
-      | inr (a, inr (b, inr (c, inl is))) ↦ inr (inr (inr (inr (inl is))))
-      | inr (a, inr (b, inr (c, inr (d, inl is)))) ↦ inr (inr (inr (inr (inr (inl is)))))
-      | inr (a, inr (b, inr (c, inr (d, inr (e, inl is))))) ↦ inr (inr (inr (inr (inr (inr is)))))
-      | inr (a, inr (b, inr (c, inr (d, inr (e, inr f))))) ↦ inl (omega (arith, within, a, b, c, d, e, f))
-    ]
+late_cases h n within = grind arith
 
 -- the two sides of a new edge
 pub rev_of_even : (n : ℕ) → n % 2 ≡ 0 → rev n ≡ n + 1

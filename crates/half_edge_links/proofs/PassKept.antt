@@ -2,7 +2,7 @@
 use Rattle.std.proofs.Common.{◌≡◌, ◌≢◌, ℕ, ◌<◌, length, refl, sym, ap, ◌∙◌, inl, inr, arith}
 use Rattle.std.proofs.lemmas.Bool.{cases_eq}
 use Rattle.half_edge_links.proofs.Cases.{◌or_else◌}
-use Rattle.half_edge_links.specs.Mesh.{Mesh, origin, next, prev, face, rev, IsSound, IsValid, HasStars, HasApartEnds}
+use Rattle.half_edge_links.specs.Mesh.{Mesh, origin, next, prev, rev, IsSound, IsValid, HasStars, HasApartEnds}
 use Rattle.half_edge_links.specs.Outline.{MovesEdge}
 use Rattle.half_edge_links.specs.Hull.{KeepsOneOutline}
 use Rattle.half_edge_links.specs.Peel.{turn}
@@ -13,6 +13,7 @@ use Rattle.half_edge_links.proofs.Outline.{outline_in_walk}
 use Rattle.half_edge_links.proofs.LineSound.{face_zero, zero_after}
 use Rattle.half_edge_links.proofs.MovedInWalk.{IsMoved}
 use Rattle.half_edge_links.proofs.Ends.{ends_moved}
+use Rattle.half_edge_links.proofs.Valid.{small_same}
 use Rattle.half_edge_links.proofs.Passing.{IsBeside, beside, far_edge, passes, end_moves, sound_after_pass}
 
 module _ (m new : Mesh) (e : ℕ) (s : IsSound m) (can : IsPassable m e) (i : Passes m new e (far_edge m e) (next m e)) where
@@ -82,11 +83,7 @@ valid_passed m e valid can =
       sound = sound_after_pass m (passed m e) e valid.sound can i;
       apart = apart_passed m (passed m e) e valid.sound can i valid.apart;
       stars = stars_passed m (passed m e) e valid.sound can i valid.stars;
-      small = record {
-        vertices = rw i.vertex_count valid.small.vertices;
-        edges = rw i.edge_count valid.small.edges;
-        faces = rw i.face_edges valid.small.faces;
-      };
+      small = small_same m (passed m e) i.vertex_count i.edge_count (ap length i.face_edges) valid.small;
     }
 
 pub ends_passed_is : (m new : Mesh) (e : ℕ) → IsSound m → IsPassable m e → new ≡ passed m e → MovesEdge m new e (origin m e) (origin m (rev (next m e)))

@@ -100,29 +100,13 @@ some_same a b same = cc
 
 -- the two sides of an edge
 pub halves : (e : ℕ) → ((e ≡ e - e % 2) × (rev e ≡ e - e % 2 + 1)) ⊎ ((e ≡ e - e % 2 + 1) × (rev e ≡ e - e % 2))
-halves e =
-    elim (cases_eq (e % 2) 0) [
-      | inl even ↦ inl (omega arith, grind (arith, nat_tests))
-      | inr odd ↦ inr (omega arith, grind (arith, nat_tests))
-    ]
+halves e = grind (arith, nat_tests)
 
 beside_cases : (t n p : ℕ) → ((n ≢ t) × (outer_beside t n p ≡ Some n)) ⊎ (((n ≡ t) × (p ≢ t) × (outer_beside t n p ≡ Some p)) ⊎ ((n ≡ t) × (p ≡ t) × (outer_beside t n p ≡ None)))
-beside_cases t n p =
-    elim (cases_eq n t) [
-      | inr a ↦ inl (a, grind (arith, nat_tests))
-      | inl a ↦ elim (cases_eq p t) [
-        | inr b ↦ inr (inl (a, b, grind (arith, nat_tests)))
-        | inl b ↦ inr (inr (a, b, grind (arith, nat_tests)))
-      ]
-    ]
+beside_cases t n p = grind (arith, nat_tests)
 
 pub after_cases : (h e t n p : ℕ) → (((h ≡ e) ⊎ (h ≡ t)) × (outer_after (Some h) e t n p ≡ outer_beside t n p)) ⊎ ((h ≢ e) × (h ≢ t) × (outer_after (Some h) e t n p ≡ Some h))
-after_cases h e t n p =
-    elim (cases_eq h e or_else cases_eq h t) [
-      | inl a ↦ inl (inl a, grind (arith, nat_tests))
-      | inr (a, inl b) ↦ inl (inr b, grind (arith, nat_tests))
-      | inr (a, inr b) ↦ inr (a, b, grind (arith, nat_tests))
-    ]
+after_cases h e t n p = grind (arith, nat_tests)
 
 -- what the rest of a mesh is when edge e, with other side t, was taken out
 module _ (m new : Mesh) (e : ℕ) (s : IsSound m) (can : IsUnlinkable m e) (u : Unlinks m new e (rev e)) where

@@ -2,7 +2,7 @@
 use Rattle.std.proofs.Common.{◌≡◌, ◌≢◌, ℕ, ◌+◌, ◌<◌, ◌≤◌, [], ◌∷◌, None, length, refl, ap, arith, length-append, sym, ◌∙◌}
 use Rattle.std.proofs.lemmas.List.{length-set}
 use Rattle.half_edge_links.specs.declared.room.TheConstants.{MAX_ELEMENTS}
-use Rattle.half_edge_links.specs.Mesh.{Mesh, origin, prev, rev, IsValid, IsInnerEdge, IsAlone, with_vertex, connected, IsInner}
+use Rattle.half_edge_links.specs.Mesh.{Mesh, IsSmall, origin, prev, rev, IsValid, IsInnerEdge, IsAlone, with_vertex, connected, IsInner}
 use Rattle.half_edge_links.specs.Flip.{IsFlippable, flipped}
 use Rattle.half_edge_links.specs.Insert.{inserted}
 use Rattle.half_edge_links.specs.Grow.{IsOuter, IsClosable, IsSlidable, hung, closed, slid}
@@ -28,6 +28,10 @@ use Rattle.half_edge_links.proofs.CloseSound.{sound_closed, small_closed}
 use Rattle.half_edge_links.proofs.RemoveSound.{sound_removed, small_removed}
 use Rattle.half_edge_links.proofs.VertexSound.{sound_moved, small_moved}
 use Rattle.half_edge_links.proofs.StarsRemove.{stars_same, apart_same, apart_removed, stars_removed, moved_back}
+
+-- a mesh with as many parts as a small one is small
+pub small_same : (m new : Mesh) → length new.out_edges ≡ length m.out_edges → length new.half_edges ≡ length m.half_edges → length new.face_edges ≡ length m.face_edges → IsSmall m → IsSmall new
+small_same m new outs hs fs small = record { vertices = rw outs small.vertices; edges = rw hs small.edges; faces = rw fs small.faces }
 
 pub valid_as : (new whole : Mesh) → new ≡ whole → IsValid whole → IsValid new
 valid_as new whole is valid = rw is valid
@@ -63,11 +67,7 @@ valid_flipped m e valid can corners =
       sound = sound_after_flip m (flipped m e) e valid.sound can f;
       apart = apart_flipped m (flipped m e) e valid.sound can f corners valid.apart;
       stars = stars_flipped m (flipped m e) e valid.sound can f valid.stars;
-      small = record {
-        vertices = rw f.vertex_count valid.small.vertices;
-        edges = rw f.edge_count valid.small.edges;
-        faces = rw f.face_count valid.small.faces;
-      };
+      small = small_same m (flipped m e) f.vertex_count f.edge_count f.face_count valid.small;
     }
 
 pub valid_inserted : (m : Mesh) (v a : ℕ) → IsValid m → IsInnerEdge m a → IsAlone m v → length m.half_edges + 6 ≤ MAX_ELEMENTS → length m.face_edges + 3 ≤ MAX_ELEMENTS → IsValid (inserted m v a)
@@ -119,11 +119,7 @@ valid_slid m e valid can =
       sound = sound_after_slide m (slid m e) e valid.sound can i;
       apart = apart_slid m (slid m e) e valid.sound can i valid.stars valid.apart;
       stars = stars_slid m (slid m e) e valid.sound can i valid.stars;
-      small = record {
-        vertices = rw i.vertex_count valid.small.vertices;
-        edges = rw i.edge_count valid.small.edges;
-        faces = rw i.face_edges valid.small.faces;
-      };
+      small = small_same m (slid m e) i.vertex_count i.edge_count (ap length i.face_edges) valid.small;
     }
 
 pub valid_opened : (m new : Mesh) (f : ℕ) → IsValid m → IsInner m f → Opens m new f → IsValid new
