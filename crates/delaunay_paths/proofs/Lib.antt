@@ -1,0 +1,6 @@
+pub mod EdgePairs
+pub mod Towards
+pub mod Making
+pub mod LastEdge
+pub mod Walking
+pub mod Places

@@ -1,0 +1,110 @@
+-- The loop that turns edges until none crosses.
+use Rattle.std.proofs.Common.{◌≡◌, ℕ, ◌*◌, ◌/◌, ◌<◌, List, length, map, refl, sym, ap, ◌∙◌, subst}
+use mathlib.Core.Logic.{inl}
+use Rattle.std.specs.Prelude.{All}
+use Rattle.std.proofs.lemmas.List.{length-map}
+use Rattle.half_edge_links.specs.Mesh.{Mesh}
+use Rattle.half_edge_links.specs.Flip.{flipped}
+use Rattle.half_edge_links.specs.Outline.{KeepsOuter}
+use Rattle.half_edge_links.specs.Triangles.{FlipsTriangles}
+use Rattle.half_edge_mesh.specs.Contents.{Contents, IsWhole}
+use Rattle.plane.specs.Crossing.{Cross}
+use Rattle.plane.specs.Fraction.{Point}
+use Rattle.plane.specs.Pairs.{place}
+use Rattle.plane.specs.Tiling.{IsEdge}
+use Rattle.plane_tiling.specs.Local.{LocalMesh, IsMesh}
+use Rattle.plane_paths.specs.Measure.{crossing_sum}
+use Rattle.plane_paths.specs.Path.{IsFreeOfVertices}
+use Rattle.drawn_mesh.specs.Drawn.{drawn, faces_of, outer_of}
+use Rattle.delaunay_paths.specs.Crossing.{CrossesFromRight, IsLastBelow}
+use Rattle.delaunay_paths.specs.Kept.{KeepsUncrossed}
+use Rattle.delaunay_paths.proofs.Towards as T
+
+-- whether vertices are between others does not depend on the edges
+pub free_on : (points : List Point) (m n : Mesh) (i j : ℕ) → IsFreeOfVertices (drawn points m) i j → IsFreeOfVertices (drawn points n) i j
+free_on points m n i j free = record { apart = free.apart; first = free.first; second = free.second; none_between = free.none_between }
+
+-- what stays twice stays
+pub kept_on : (points : List Point) (old now new : Mesh) (i j : ℕ) → KeepsUncrossed points old now i j → KeepsUncrossed points now new i j → KeepsUncrossed points old new i j
+kept_on points old now new i j first second h clear =
+    let a = first h clear in
+    let b = second h (λ c. clear (subst (λ (x : ℕ × ℕ). Crossed x.0 x.1) (λ k. (a.0 k, a.1 k)) c)) in
+    (b.0 ∙ a.0, b.1 ∙ a.1)
+  where
+    Crossed : ℕ → ℕ → Type 0
+    Crossed v y = Cross (place points i) (place points j) (place points v) (place points y)
+
+-- ---- one turn
+module _ {V D U F : Type 0} (at : V → Point) (c : Contents V D U F) (whole : IsWhole c) (i j : ℕ) (free : IsFreeOfVertices (drawn (map at c.vertices) c.mesh) i j) (shape : IsMesh (map at c.vertices) (faces_of c.mesh) (outer_of c.mesh))
+    (e : ℕ) (within : e < length c.directed) (last : IsLastBelow (map at c.vertices) c.mesh i j (length c.directed) e) where
+  abbrev points : List Point
+  points = map at c.vertices
+
+  pub e_in : e < length c.mesh.half_edges
+  e_in = subst (λ (n : ℕ). e < n) whole.fits.directed_fit within
+
+  pub last_of_all : IsLastBelow points c.mesh i j (length c.mesh.half_edges) e
+  last_of_all = subst (λ (n : ℕ). IsLastBelow points c.mesh i j n e) whole.fits.directed_fit last
+
+  pub local : LocalMesh points (faces_of c.mesh) (outer_of c.mesh)
+  local = T.local_if_crossed points c.mesh whole.valid i j shape (length-map c.vertices at ∙ whole.fits.vertices_fit) free e e_in last.crosses
+
+  pub can_turn : (k : ℕ) → k ≡ e / 2 → T.CanTurn points c.mesh whole.valid i j local free e e_in last_of_all (2 * k)
+  can_turn k is = subst (λ (l : ℕ). T.CanTurn points c.mesh whole.valid i j local free e e_in last_of_all (2 * l)) (sym is) (T.can_turn_last points c.mesh whole.valid i j local free e e_in last_of_all)
+
+  module _ (k : ℕ) (is : k ≡ e / 2) (new : Mesh) where
+    pub turn_keeps : new ≡ flipped c.mesh (2 * k) → KeepsUncrossed points c.mesh new i j
+    turn_keeps turned = T.turned_keeps points c.mesh whole.valid i j local free e e_in last_of_all new (turned ∙ ap (λ (l : ℕ). flipped c.mesh (2 * l)) is)
+
+    module _ (change : FlipsTriangles c.mesh new (2 * k)) where
+      turns : FlipsTriangles c.mesh new (2 * (e / 2))
+      turns = subst (λ (l : ℕ). FlipsTriangles c.mesh new (2 * l)) is change
+
+      pub turn_lowers : crossing_sum points (faces_of new) i j < crossing_sum points (faces_of c.mesh) i j
+      turn_lowers = T.turned_lower points c.mesh whole.valid i j local free e e_in last_of_all new turns
+
+      pub turn_has_shape : KeepsOuter c.mesh new → IsMesh points (faces_of new) (outer_of new)
+      turn_has_shape outer = inl (T.turned_local points c.mesh whole.valid i j local free e e_in last_of_all new turns outer)
+
+-- ---- the loop
+-- after some turns
+pub record IsMaking {V D U F : Type 0} (at : V → Point) (old now : Contents V D U F) (i j : ℕ) : Type 0 where
+  pub contents : now ≡ record old { mesh = now.mesh }
+  pub shape : IsMesh (map at old.vertices) (faces_of now.mesh) (outer_of now.mesh)
+  pub kept : KeepsUncrossed (map at old.vertices) old.mesh now.mesh i j
+
+pub making_begins : {V D U F : Type 0} (at : V → Point) (old : Contents V D U F) (i j : ℕ) → IsMesh (map at old.vertices) (faces_of old.mesh) (outer_of old.mesh) → IsMaking at old old i j
+making_begins at old i j shape = record { contents = refl; shape = shape; kept = λ h clear. (refl, refl) }
+
+module _ {V D U F : Type 0} (at : V → Point) (old now : Contents V D U F) (i j : ℕ) (making : IsMaking at old now i j) where
+  same : now.vertices ≡ old.vertices
+  same = ap (λ (c : Contents V D U F). c.vertices) making.contents
+
+  pub making_sites : (IsSite : Point → Type 0) → All IsSite (map at old.vertices) → All IsSite (map at now.vertices)
+  making_sites IsSite sites = subst (λ (vs : List V). All IsSite (map at vs)) (sym same) sites
+
+  pub making_shape : IsMesh (map at now.vertices) (faces_of now.mesh) (outer_of now.mesh)
+  making_shape = subst (λ (vs : List V). IsMesh (map at vs) (faces_of now.mesh) (outer_of now.mesh)) (sym same) making.shape
+
+  pub making_index : (k : ℕ) → k < length (map at old.vertices) → k < length now.vertices
+  making_index k within = subst (λ (vs : List V). k < length vs) (sym same) (subst (λ (n : ℕ). k < n) (length-map old.vertices at) within)
+
+  module _ (free : IsFreeOfVertices (drawn (map at old.vertices) old.mesh) i j) where
+    pub making_free : IsFreeOfVertices (drawn (map at now.vertices) now.mesh) i j
+    making_free = subst (λ (vs : List V). IsFreeOfVertices (drawn (map at vs) now.mesh) i j) (sym same) (free_on (map at old.vertices) old.mesh now.mesh i j free)
+
+    pub making_ends : IsWhole now → ((h : ℕ) → h < length now.directed → ¬ CrossesFromRight (map at now.vertices) now.mesh i j h) → IsEdge (drawn (map at old.vertices) now.mesh) i j
+    making_ends whole none = T.edge_if_none (map at old.vertices) now.mesh whole.valid i j making.shape (free_on (map at old.vertices) old.mesh now.mesh i j free)
+        (λ h h_in c. none h (subst (λ (n : ℕ). h < n) (sym whole.fits.directed_fit) h_in) (subst (λ (vs : List V). CrossesFromRight (map at vs) now.mesh i j h) (sym same) c))
+
+  pub making_goes_on : (new : Contents V D U F) → new ≡ record now { mesh = new.mesh } → IsMesh (map at now.vertices) (faces_of new.mesh) (outer_of new.mesh) → KeepsUncrossed (map at now.vertices) now.mesh new.mesh i j → IsMaking at old new i j
+  making_goes_on new contents shape kept = record {
+    contents = contents ∙ ap (λ (c : Contents V D U F). record c { mesh = new.mesh }) making.contents;
+    shape = subst (λ (vs : List V). IsMesh (map at vs) (faces_of new.mesh) (outer_of new.mesh)) same shape;
+    kept = kept_on (map at old.vertices) old.mesh now.mesh new.mesh i j making.kept (subst (λ (vs : List V). KeepsUncrossed (map at vs) now.mesh new.mesh i j) same kept);
+  }
+
+  -- the number that falls
+  pub making_falls : (new : Contents V D U F) → new ≡ record now { mesh = new.mesh } → crossing_sum (map at now.vertices) (faces_of new.mesh) i j < crossing_sum (map at now.vertices) (faces_of now.mesh) i j
+      → crossing_sum (map at new.vertices) (faces_of new.mesh) i j < crossing_sum (map at now.vertices) (faces_of now.mesh) i j
+  making_falls new contents less = subst (λ (vs : List V). crossing_sum (map at vs) (faces_of new.mesh) i j < crossing_sum (map at now.vertices) (faces_of now.mesh) i j) (sym (ap (λ (c : Contents V D U F). c.vertices) contents)) less

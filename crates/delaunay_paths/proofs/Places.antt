@@ -1,0 +1,44 @@
+-- What answers to a few tests say of points.
+use Rattle.std.proofs.Common.{◌≡◌, ◌≢◌, ◌↔◌, ℕ, ◌<◌, List, length, sym, ap, subst, arith}
+use Rattle.std.specs.Prelude.{ℤ, pos, ◌+ℤ◌, ◌-ℤ◌, ◌*ℤ◌, ◌<ℤ◌}
+use Rattle.std.proofs.lemmas.Int.{ints}
+use Rattle.half_edge_links.specs.Mesh.{Mesh, IsValid, origin, rev}
+use Rattle.half_edge_links.proofs.Rev.{rev_within}
+use Rattle.plane.specs.Fraction.{Point, whole}
+use Rattle.plane.specs.Circle.{gap}
+use Rattle.plane.specs.Laws.{Parts, squared_way}
+use Rattle.plane.specs.Pairs.{place}
+use Rattle.plane.proofs.Meetings.{crossing_is_sides}
+use Rattle.plane_paths.specs.Constraints.{ArePlacedApart}
+use Rattle.plane_paths.proofs.EitherWay.{one_point}
+use Rattle.delaunay_legalization.specs.Known.{point_at}
+use Rattle.delaunay_paths.specs.Crossing.{CrossesSegment}
+
+-- the squared distance of two points
+gap_is_way : (p q : Point) → gap (whole p) (whole q) ≡ squared_way p q
+gap_is_way p q = λ i. one p.x q.x i *ℤ one p.x q.x i +ℤ one p.y q.y i *ℤ one p.y q.y i
+  where
+    one : (a b : ℤ) → b *ℤ pos 1 -ℤ a *ℤ pos 1 ≡ b -ℤ a
+    one a b = omega (arith, ints)
+
+pub nearer_by : (p q r : Point) (T : Type 0) → T ↔ (gap (whole p) (whole q) <ℤ gap (whole p) (whole r)) → T ↔ (squared_way p q <ℤ squared_way p r)
+nearer_by p q r T w = subst (λ (x : ℤ × ℤ). T ↔ (x.0 <ℤ x.1)) (λ i. (gap_is_way p q i, gap_is_way p r i)) w
+
+-- crossing by sides, of an edge and the segment of two vertices
+module _ (points : List Point) (distinct : ArePlacedApart points) (m : Mesh) (s : IsValid m) (count : length points ≡ length m.out_edges) (i j : ℕ) (hi : i < length points) (hj : j < length points) (i_not_j : i ≢ j) (e : ℕ) (within : e < length m.half_edges) where
+  abbrev AreParted : Type 0
+  AreParted = Parts (place points i) (place points j) (place points (origin m e)) (place points (origin m (rev e))) × Parts (place points (origin m e)) (place points (origin m (rev e))) (place points i) (place points j)
+
+  in_points : (h : ℕ) → h < length m.half_edges → origin m h < length points
+  in_points h h_in = subst (λ (n : ℕ). origin m h < n) (sym count) (s.sound.edges h h_in).origin_in
+
+  pub crossing_sides : CrossesSegment points m i j e ↔ AreParted
+  crossing_sides = crossing_is_sides (place points i) (place points j) (place points (origin m e)) (place points (origin m (rev e)))
+      (λ o. distinct i j hi hj i_not_j (ap whole (one_point (point_at points i) (point_at points j) o)))
+      (λ o. distinct (origin m e) (origin m (rev e)) (in_points e within) (in_points (rev e) (rev_within e (length m.half_edges) s.sound.even within)) (s.apart e within) (ap whole (one_point (point_at points (origin m e)) (point_at points (origin m (rev e))) o)))
+
+  pub crossing_by : (p q u v : Point) (T : Type 0) → p ≡ point_at points i → q ≡ point_at points j → u ≡ point_at points (origin m e) → v ≡ point_at points (origin m (rev e))
+      → T ↔ (Parts (whole p) (whole q) (whole u) (whole v) × Parts (whole u) (whole v) (whole p) (whole q)) → T ↔ CrossesSegment points m i j e
+  crossing_by p q u v T a b c d w =
+      let sides = subst (λ (x : Point × Point × Point × Point). T ↔ (Parts (whole x.0) (whole x.1) (whole x.2) (whole x.3) × Parts (whole x.2) (whole x.3) (whole x.0) (whole x.1))) (λ k. (a k, b k, c k, d k)) w in
+      ((λ t. crossing_sides.1 (sides.0 t)), (λ x. sides.1 (crossing_sides.0 x)))

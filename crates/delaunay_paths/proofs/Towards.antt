@@ -1,0 +1,207 @@
+-- The last edge of a mesh that crosses a segment is turned.
+use Rattle.std.proofs.Common.{◌≡◌, ◌≢◌, ◌⊎◌, ℕ, ◌*◌, ◌/◌, ◌<◌, [], ◌∷◌, List, length, sym, ap, ◌∙◌, subst}
+use mathlib.Core.Logic.{inl, inr}
+use Rattle.std.specs.Prelude.{Contains}
+use Rattle.std.proofs.lemmas.Bool.{cases_eq}
+use Rattle.half_edge_links.specs.Mesh.{Mesh, IsValid, origin, next, prev, face, rev}
+use Rattle.half_edge_links.specs.Flip.{IsFlippable, Flips, flipped}
+use Rattle.half_edge_links.specs.Outline.{KeepsOuter}
+use Rattle.half_edge_links.specs.Triangles.{FlipsTriangles}
+use Rattle.half_edge_links.proofs.FlipLemmas.{flips_is}
+use Rattle.half_edge_links.proofs.Rev.{rev-rev, rev_within}
+use Rattle.plane.specs.Fraction.{Point}
+use Rattle.plane.specs.Pairs.{place}
+use Rattle.plane.specs.Side.{side, right, on, opposite, TurnsLeft}
+use Rattle.plane.specs.Laws.{turn_at}
+use Rattle.plane.specs.Crossing.{Cross}
+use Rattle.plane.specs.Tiling.{face as corners, Triangulation, IsFace, IsEdge, TilesHull, vertex}
+use Rattle.plane.proofs.Sides.{side_swapped}
+use Rattle.plane.proofs.Steps.{left_not_zero}
+use Rattle.plane_tiling.specs.Local.{LocalMesh, IsMesh}
+use Rattle.plane_tiling.proofs.Loops.{mesh_tiles}
+use Rattle.plane_tiling.proofs.Meshes.{meshes_tile}
+use Rattle.plane_edits.specs.Change.{FacesChange}
+use Rattle.plane_edits.specs.Legal.{point_of}
+use Rattle.plane_edits.proofs.Kept.{flip_kept}
+use Rattle.plane_paths.specs.Measure.{crossing_sum}
+use Rattle.plane_paths.specs.Path.{IsFreeOfVertices, IsCrossing, IsLastRight, IsLastLeft, ComesAfterOnRight, ComesAfterOnLeft}
+use Rattle.plane_paths.proofs.EitherWay.{crossing_is_either_way, edge_back}
+use Rattle.plane_paths.proofs.Lowering.{chosen_flip_lowers}
+use Rattle.plane_paths.proofs.Order.{last_has_none_after}
+use Rattle.plane_paths.proofs.PathFlips.{piece_on_line_is_edge}
+use Rattle.plane_paths.proofs.Paths.{chosen_flip_is_convex, uncrossed_is_edge}
+use Rattle.plane_paths.proofs.Turns.{left_turn, turn-same}
+use Rattle.drawn_mesh.specs.Drawn.{drawn, faces_of, edges_of, outer_of}
+use Rattle.drawn_mesh.specs.Stays.{GoSameWay}
+use Rattle.drawn_mesh.proofs.FaceChanges.{turned_faces}
+use Rattle.drawn_mesh.proofs.MeshEdits.{face_before, face_behind, flipped_faces}
+use Rattle.drawn_mesh.proofs.MeshLegal.{between_inner}
+use Rattle.drawn_mesh.proofs.MeshStarFlips.{from_other_side}
+use Rattle.drawn_mesh.proofs.MeshStays.{halved}
+use Rattle.drawn_mesh.proofs.OuterChanges.{own_ends, outer_kept}
+use Rattle.drawn_mesh.proofs.OuterEdges.{listed}
+use Rattle.drawn_mesh.proofs.OwnEdges.{own_edges}
+use Rattle.delaunay_legalization.proofs.Legalizing.{positive}
+use Rattle.delaunay_paths.specs.Crossing.{CrossesFromRight, CrossesSegment, IsLastBelow}
+use Rattle.delaunay_paths.specs.Kept.{KeepsUncrossed}
+use Rattle.delaunay_paths.proofs.EdgePairs.{edge_joins, joins_edge}
+
+-- ---- the ends of edges that are not turned
+module _ (m new : Mesh) (e : ℕ) (moves : Flips m new e) where
+  origin_stays : (h : ℕ) → h ≢ e → h ≢ rev e → origin new h ≡ origin m h
+  origin_stays h n t = go (cases_eq h (next m e)) (cases_eq h (next m (rev e))) (cases_eq h (prev m e)) (cases_eq h (prev m (rev e)))
+    where
+      go : (h ≡ next m e) ⊎ (h ≢ next m e) → (h ≡ next m (rev e)) ⊎ (h ≢ next m (rev e)) → (h ≡ prev m e) ⊎ (h ≢ prev m e) → (h ≡ prev m (rev e)) ⊎ (h ≢ prev m (rev e)) → origin new h ≡ origin m h
+      go (inl r) p q w = ap (origin new) r ∙ moves.edge_next.origin ∙ sym (ap (origin m) r)
+      go (inr r) (inl p) q w = ap (origin new) p ∙ moves.twin_next.origin ∙ sym (ap (origin m) p)
+      go (inr r) (inr p) (inl q) w = ap (origin new) q ∙ moves.edge_prev.origin ∙ sym (ap (origin m) q)
+      go (inr r) (inr p) (inr q) (inl w) = ap (origin new) w ∙ moves.twin_prev.origin ∙ sym (ap (origin m) w)
+      go (inr r) (inr p) (inr q) (inr w) = ap (λ h. h.origin) (moves.other_edges h n t r p q w)
+
+  pub others_stay : (h : ℕ) → h ≢ e → h ≢ rev e → GoSameWay m h new h
+  others_stay h n t = (origin_stays h n t, origin_stays (rev h) (λ r. t (sym (rev-rev h) ∙ ap rev r)) (λ r. n (sym (rev-rev h) ∙ ap rev r ∙ rev-rev e)))
+
+-- ---- crossing edges, as the laws of the plane have them
+module _ (points : List Point) (m : Mesh) (s : IsValid m) (i j : ℕ) where
+  abbrev t : Triangulation
+  t = drawn points m
+
+  pub crossing : (h : ℕ) → h < length m.half_edges → CrossesFromRight points m i j h → IsCrossing t i j (origin m h) (origin m (rev h))
+  crossing h within c = record { edge = edge_joins m s.sound h within; from_right = c.from_right; to_left = c.to_left; start = c.start; end = c.end }
+
+  pub crossing_at : (v y : ℕ) → IsCrossing t i j v y → (h : ℕ) × (h < length m.half_edges) × (origin m h ≡ v) × (origin m (rev h) ≡ y) × CrossesFromRight points m i j h
+  crossing_at v y c =
+      let h = joins_edge m s.sound v y c.edge in
+      let at = subst (λ (x : ℕ × ℕ). At x.0 x.1) (λ k. (sym h.2 k, sym h.3 k)) (c.from_right, c.to_left, c.start, c.end) in
+      (h.0, h.1, h.2, h.3, record { from_right = at.0; to_left = at.1; start = at.2; end = at.3 })
+    where
+      At : ℕ → ℕ → Type 0
+      At v y = (side (place points i) (place points j) (place points v) ≡ right) × TurnsLeft (place points i) (place points j) (place points y) × TurnsLeft (place points v) (place points y) (place points i) × (side (place points v) (place points y) (place points j) ≡ right)
+
+  -- where an edge crosses, not all vertices are on one line
+  pub local_if_crossed : IsMesh points (faces_of m) (outer_of m) → length points ≡ length m.out_edges → IsFreeOfVertices t i j → (h : ℕ) → h < length m.half_edges → CrossesFromRight points m i j h → LocalMesh points (faces_of m) (outer_of m)
+  local_if_crossed (inl local) count free h within c = local
+  local_if_crossed (inr line) count free h within c = absurd (level (sym (line.1.straight i j (origin m h) free.first free.second (subst (λ (n : ℕ). origin m h < n) (sym count) (s.sound.edges h within).origin_in)) ∙ c.from_right))
+    where
+      level : on ≡ right → ⊥
+      level e = cc
+
+  -- ---- none crosses
+  pub edge_if_none : IsMesh points (faces_of m) (outer_of m) → IsFreeOfVertices t i j → ((h : ℕ) → h < length m.half_edges → ¬ CrossesFromRight points m i j h) → IsEdge t i j
+  edge_if_none shape free none = elim (meshes_tile points (faces_of m) (outer_of m) (edges_of m) shape (own_edges m s)) [
+    | inl hull ↦ uncrossed_is_edge t i j hull free (λ v y c. let h = crossing_at v y c in none h.0 h.1 h.4)
+    | inr line ↦ piece_on_line_is_edge t i j line free
+  ]
+
+  -- ---- the last one
+  module _ (local : LocalMesh points (faces_of m) (outer_of m)) (free : IsFreeOfVertices t i j) (e : ℕ) (within : e < length m.half_edges) (last : IsLastBelow points m i j (length m.half_edges) e) where
+    tiled : TilesHull t
+    tiled = mesh_tiles points (faces_of m) (outer_of m) (edges_of m) local (own_edges m s)
+
+    abbrev v : ℕ
+    v = origin m e
+
+    abbrev x : ℕ
+    x = origin m (prev m (rev e))
+
+    abbrev y : ℕ
+    y = origin m (next m e)
+
+    abbrev z : ℕ
+    z = origin m (prev m e)
+
+    meets : origin m (rev e) ≡ y
+    meets = sym (s.sound.edges e within).starts
+
+    twin_within : rev e < length m.half_edges
+    twin_within = rev_within e (length m.half_edges) s.sound.even within
+
+    inner : 0 < face m e
+    inner = positive (face m e) (λ o. local.supporting (origin m e, origin m (rev e)) (listed m e (origin m e) (origin m (rev e)) (own_ends m e within o)) i free.first last.crosses.start)
+
+    twin_inner : 0 < face m (rev e)
+    twin_inner = positive (face m (rev e)) (λ o.
+        local.supporting (origin m (rev e), origin m e) (subst (λ (k : ℕ). Contains (outer_of m) (origin m (rev e), origin m k)) (rev-rev e) (listed m (rev e) (origin m (rev e)) (origin m (rev (rev e))) (own_ends m (rev e) twin_within o))) j free.second
+        (side_swapped (place points (origin m e)) (place points (origin m (rev e))) (place points j) ∙ ap opposite last.crosses.end))
+
+    flippable : IsFlippable m e
+    flippable = between_inner points m s local e within inner twin_inner
+
+    twin_flippable : IsFlippable m (rev e)
+    twin_flippable = between_inner points m s local (rev e) twin_within twin_inner (subst (λ (k : ℕ). 0 < face m k) (sym (rev-rev e)) inner)
+
+    before : IsFace t v x y
+    before = turned_faces (faces_of m) y v x (face_behind m e s.sound flippable)
+
+    after : IsFace t v y z
+    after = face_before m e s.sound (within, inner)
+
+    crosses : IsCrossing t i j v y
+    crosses = subst (λ (k : ℕ). IsCrossing t i j v k) meets (crossing e within last.crosses)
+
+    last_right : IsLastRight t i j v
+    last_right = (last_has_none_after t i j v y).0 (λ u w c a.
+        let h = crossing_at u w c in
+        last.none_after h.0 h.1 h.4 (inl (subst (λ (k : ℕ). ComesAfterOnRight (point_of points i) (point_of points v) (point_of points k)) (sym h.2) a)))
+
+    last_left : IsLastLeft t i j v y
+    last_left = (last_has_none_after t i j v y).1 (λ w c a.
+        let h = crossing_at v w c in
+        last.none_after h.0 h.1 h.4 (inr (ap (point_of points) (sym h.2), subst (λ (k : ℕ × ℕ). ComesAfterOnLeft (point_of points i) (point_of points k.0) (point_of points k.1)) (λ k. (sym meets k, sym h.3 k)) a)))
+
+    convex : TurnsLeft (vertex t v) (vertex t x) (vertex t z) × TurnsLeft (vertex t x) (vertex t y) (vertex t z)
+    convex = chosen_flip_is_convex t i j v x y z tiled free crosses before after last_right last_left
+
+    corners_apart : x ≢ z
+    corners_apart same = left_not_zero (left_turn (point_of points v) (point_of points x) (point_of points z) convex.0) (ap (λ (k : ℕ). turn_at (point_of points v) (point_of points x) (point_of points k)) (sym same) ∙ turn-same (point_of points v) (point_of points x))
+
+    abbrev pub CanTurn : ℕ → Type 0
+    CanTurn h = IsFlippable m h × (origin m (prev m h) ≢ origin m (prev m (rev h)))
+
+    -- its undirected edge may be turned
+    pub can_turn_last : CanTurn (2 * (e / 2))
+    can_turn_last = elim (halved e) [
+      | inl q ↦ subst CanTurn (sym q) (flippable, λ o. corners_apart (sym o))
+      | inr q ↦ subst CanTurn (sym q) (twin_flippable, λ o. corners_apart (o ∙ ap (λ (k : ℕ). origin m (prev m k)) (rev-rev e)))
+    ]
+
+    abbrev Change : Mesh → Type 0
+    Change new = FacesChange (faces_of m) (faces_of new) (corners v x y ∷ corners v y z ∷ []) (corners v x z ∷ corners x y z ∷ [])
+
+    by_twin : (new : Mesh) → FlipsTriangles m new (rev e) → Change new
+    by_twin new change = from_other_side (faces_of m) (faces_of new) v x y z
+        (subst (λ (k : ℕ × ℕ × ℕ × ℕ). FacesChange (faces_of m) (faces_of new) (corners k.0 k.1 k.2 ∷ corners k.0 k.2 k.3 ∷ []) (corners k.0 k.1 k.3 ∷ corners k.1 k.2 k.3 ∷ []))
+        (λ k. (meets k, origin m (prev m (rev-rev e k)), ((s.sound.edges (rev e) twin_within).starts ∙ ap (origin m) (rev-rev e)) k, x)) (flipped_faces m new (rev e) s.sound twin_flippable change))
+
+    change_by : (new : Mesh) → FlipsTriangles m new (2 * (e / 2)) → Change new
+    change_by new change = elim (halved e) [
+      | inl q ↦ flipped_faces m new e s.sound flippable (subst (FlipsTriangles m new) q change)
+      | inr q ↦ by_twin new (subst (FlipsTriangles m new) q change)
+    ]
+
+    module _ (new : Mesh) (change : FlipsTriangles m new (2 * (e / 2))) where
+      -- the sum falls
+      pub turned_lower : crossing_sum points (faces_of new) i j < crossing_sum points (faces_of m) i j
+      turned_lower = chosen_flip_lowers t (faces_of new) i j v x y z tiled free crosses before after last_right last_left (change_by new change)
+
+      -- the mesh stays local
+      pub turned_local : KeepsOuter m new → LocalMesh points (faces_of new) (outer_of new)
+      turned_local outer = flip_kept points (faces_of m) (faces_of new) (outer_of m) (outer_of new) v x y z local before after convex.0 convex.1 (change_by new change) (outer_kept m new local.once outer)
+
+    -- ---- what does not cross stays
+    crosses_at : (h : ℕ) → (h ≡ e) ⊎ (h ≡ rev e) → CrossesSegment points m i j h
+    crosses_at h (inl q) = subst (λ (k : ℕ). CrossesSegment points m i j k) (sym q) ((crossing_is_either_way t i j v (origin m (rev e)) tiled free (edge_joins m s.sound e within)).1 (inl (crossing e within last.crosses)))
+    crosses_at h (inr q) = subst (λ (k : ℕ). CrossesSegment points m i j k) (sym q)
+        (subst (λ (k : ℕ). Cross (vertex t i) (vertex t j) (vertex t (origin m (rev e))) (vertex t (origin m k))) (sym (rev-rev e))
+        ((crossing_is_either_way t i j (origin m (rev e)) v tiled free (edge_back t.edges v (origin m (rev e)) (edge_joins m s.sound e within))).1 (inr (crossing e within last.crosses))))
+
+    twins : (h : ℕ) → (h ≡ 2 * (e / 2)) ⊎ (h ≡ rev (2 * (e / 2))) → (h ≡ e) ⊎ (h ≡ rev e)
+    twins h o = elim (halved e) [
+      | inl q ↦ elim o [ inl r ↦ inl (r ∙ q) | inr r ↦ inr (r ∙ ap rev q) ]
+      | inr q ↦ elim o [ inl r ↦ inr (r ∙ q) | inr r ↦ inl (r ∙ ap rev q ∙ rev-rev e) ]
+    ]
+
+    pub turned_keeps : (new : Mesh) → new ≡ flipped m (2 * (e / 2)) → KeepsUncrossed points m new i j
+    turned_keeps new is h clear =
+        others_stay m new (2 * (e / 2)) (flips_is m new (2 * (e / 2)) s.sound can_turn_last.0 is) h
+        (λ q. clear (crosses_at h (twins h (inl q)))) (λ q. clear (crosses_at h (twins h (inr q))))

@@ -1,0 +1,161 @@
+-- The scan for the next vertex of a path.
+use Rattle.std.proofs.Common.{◌≡◌, ◌≢◌, ◌⊎◌, ◌↔◌, ℕ, ◌+◌, ◌<◌, List, length, map, refl, sym, ap, ◌∙◌, subst, arith}
+use mathlib.Core.Logic.{inl, inr}
+use Rattle.std.specs.Prelude.{ℤ, pos, ◌*ℤ◌, ◌+ℤ◌, ◌<ℤ◌, Contains, Some, slice_get}
+use Rattle.std.proofs.lemmas.Int.{ints}
+use Rattle.std.proofs.lemmas.List.{length-map}
+use Rattle.std.proofs.lemmas.Option.{slice_get_within, get_or_from_slice_get}
+use Rattle.plane.specs.Fraction.{Point, whole, IsPositive, OnSegment, WithinSegment}
+use Rattle.plane.specs.Pairs.{place}
+use Rattle.plane.specs.Tiling.{Face}
+use Rattle.plane.proofs.Bracket.{bracket, lift}
+use Rattle.plane.proofs.BracketIdentities.{bracket-outer, bracket-last}
+use Rattle.plane.proofs.Collinear.{place_on, place_of_start, place_of_end}
+use Rattle.plane.proofs.IntegerOrder.{zero-mul_ℤ, zero_of_mul-zero_ℤ, pos-ne-zero_ℤ}
+use Rattle.plane.proofs.Means.{two_weights, bracket_of_two}
+use Rattle.plane.proofs.LineOrder.{IsBetween, place_within, within_places}
+use Rattle.plane.proofs.Segments.{start_on_segment, end_on_segment, on_of_within}
+use Rattle.plane_tiling.specs.Local.{IsMesh}
+use Rattle.plane_tiling.proofs.Edges.{within_on}
+use Rattle.plane_paths.specs.Constraints.{AreNextOn, ArePlacedApart}
+use Rattle.delaunay_legalization.specs.Known.{point_at}
+use Rattle.delaunay_paths.proofs.EdgePairs.{Contains-map}
+
+-- ---- points strictly within a segment
+module _ (a b : Point) (apart : ¬ (a ≡ b)) where
+  abbrev F : Point → ℤ
+  F z = place_on a b (lift z)
+
+  back : (x y z : ℤ) → x ≡ pos 0 → pos 0 <ℤ y → y <ℤ z → z <ℤ x → ⊥
+  back x y z e h k l = omega (arith, ints)
+
+  level : (x y z : ℤ) → x ≡ pos 0 → pos 0 <ℤ y → x ≡ z → z ≡ y → ⊥
+  level x y z e h k l = omega (arith, ints)
+
+  itself : (x : ℤ) → x <ℤ x → ⊥
+  itself x h = omega (arith, ints)
+
+  ordered : (k : Point) → WithinSegment (whole a) (whole b) (whole k) → (F a <ℤ F k) × (F k <ℤ F b)
+  ordered k w = go (place_within a b a b k w)
+    where
+      go : IsBetween (F a) (F b) (F k) ⊎ ((F a ≡ F k) × (F k ≡ F b)) → (F a <ℤ F k) × (F k <ℤ F b)
+      go (inl (inl h)) = h
+      go (inl (inr h)) = absurd (back (F a) (F b) (F k) (place_of_start a b) (place_of_end a b apart) h.0 h.1)
+      go (inr h) = absurd (level (F a) (F b) (F k) (place_of_start a b) (place_of_end a b apart) h.0 h.1)
+
+  abbrev On : Point → Type 0
+  On z = bracket (lift a) (lift b) (lift z) ≡ pos 0
+
+  on_of_mean : (u v z : Point) → On u → On v → WithinSegment (whole u) (whole v) (whole z) → On z
+  on_of_mean u v z on_u on_v h = let t = two_weights IsPositive (whole u) (whole v) (whole z) h in
+      zero_of_mul-zero_ℤ (pos-ne-zero_ℤ t.positive) (bracket_of_two IsPositive (lift a) (lift b) (whole u) (whole v) (whole z) t ∙ none (t.k *ℤ bracket (lift a) (lift b) (lift u)) (t.l *ℤ bracket (lift a) (lift b) (lift v)) (zero-mul_ℤ t.k on_u) (zero-mul_ℤ t.l on_v))
+    where
+      none : (x y : ℤ) → x ≡ pos 0 → y ≡ pos 0 → x +ℤ y ≡ pos 0
+      none x y e d = omega (arith, ints)
+
+  -- is neither end
+  pub not_start : ¬ WithinSegment (whole a) (whole b) (whole a)
+  not_start w = itself (F a) (ordered a w).0
+
+  pub not_end : ¬ WithinSegment (whole a) (whole b) (whole b)
+  not_end w = itself (F b) (ordered b w).1
+
+  -- within a part is within the whole
+  pub nested : (k x : Point) → WithinSegment (whole a) (whole b) (whole k) → WithinSegment (whole a) (whole k) (whole x) → WithinSegment (whole a) (whole b) (whole x)
+  nested k x h w = within_places a b apart a b x (bracket-outer (lift a) (lift b)) (bracket-last (lift a) (lift b)) (on_of_mean a k x (bracket-outer (lift a) (lift b)) (within_on a b (whole k) h) w) (go (place_within a b a k x w))
+    where
+      far : (x y z : ℤ) → y <ℤ z → z <ℤ x → x <ℤ y → ⊥
+      far x y z e h k = omega (arith, ints)
+
+      same : (x y z : ℤ) → x ≡ z → z ≡ y → x <ℤ y → ⊥
+      same x y z e h k = omega (arith, ints)
+
+      through : (x y z : ℤ) → x <ℤ y → y <ℤ z → x <ℤ z
+      through x y z e h = omega (arith, ints)
+
+      go : IsBetween (F a) (F k) (F x) ⊎ ((F a ≡ F x) × (F x ≡ F k)) → IsBetween (F a) (F b) (F x)
+      go (inl (inl o)) = inl (o.0, through (F x) (F k) (F b) o.1 (ordered k h).1)
+      go (inl (inr o)) = absurd (far (F a) (F k) (F x) o.0 o.1 (ordered k h).0)
+      go (inr o) = absurd (same (F a) (F k) (F x) o.0 o.1 (ordered k h).0)
+
+-- ---- vertices and their points
+module _ {V : Type 0} (at : V → Point) (vs : List V) where
+  pub in_map : (k : ℕ) → k < length vs → k < length (map at vs)
+  in_map k h = subst (λ (n : ℕ). k < n) (sym (length-map vs at)) h
+
+  pub of_map : (k : ℕ) → k < length (map at vs) → k < length vs
+  of_map k h = subst (λ (n : ℕ). k < n) (length-map vs at) h
+
+  pub listed_data : (k : ℕ) (v : V) (q : Point) → slice_get vs k ≡ Some v → q ≡ at v → Contains (map at vs) q
+  listed_data k v q e is = Contains-map at vs k v q (slice_get_within vs k v e) (ap at (get_or_from_slice_get vs k v v e) ∙ sym is)
+
+pub same_within : (a b k a' b' k' : Point) (T : Type 0) → a ≡ a' → b ≡ b' → k ≡ k' → T ↔ WithinSegment (whole a) (whole b) (whole k) → T ↔ WithinSegment (whole a') (whole b') (whole k')
+same_within a b k a' b' k' T e f h w = subst (λ (x : Point × Point × Point). T ↔ WithinSegment (whole x.0) (whole x.1) (whole x.2)) (λ i. (e i, f i, h i)) w
+
+-- ---- the scan
+-- of the vertices below n none is strictly within the segment from i to w, which is j or strictly within the segment of i and j
+pub record IsNextBelow (points : List Point) (i j n w : ℕ) : Type 0 where
+  pub within : w < length points
+  pub apart : i ≢ w
+  pub place_of : (w ≡ j) ⊎ WithinSegment (place points i) (place points j) (place points w)
+  pub none : (k : ℕ) → k < n → ¬ WithinSegment (place points i) (place points w) (place points k)
+
+pub placed_apart : (points : List Point) (faces : List Face) (outer : List (ℕ × ℕ)) → IsMesh points faces outer → ArePlacedApart points
+placed_apart points faces outer (inl m) = m.distinct
+placed_apart points faces outer (inr m) = m.1.distinct
+
+module _ (points : List Point) (distinct : ArePlacedApart points) (i : ℕ) (hi : i < length points) where
+  pub points_apart : (k : ℕ) → k < length points → i ≢ k → ¬ (point_at points i ≡ point_at points k)
+  points_apart k hk n e = distinct i k hi hk n (ap whole e)
+
+  module _ (j : ℕ) (hj : j < length points) (i_not_j : i ≢ j) where
+    pub walk_begins : IsNextBelow points i j 0 j
+    walk_begins = record { within = hj; apart = i_not_j; place_of = inl refl; none = λ k less. absurd (omega (arith, less)) }
+
+    cases : (h n : ℕ) → h < n + 1 → (h < n) ⊎ (h ≡ n)
+    cases h n less = grind arith
+
+    module _ (n w e : ℕ) (is : e ≡ n) (walk : IsNextBelow points i j n w) (e_in : e < length points) where
+      pub nearer_is_next : WithinSegment (place points i) (place points w) (place points e) → IsNextBelow points i j (n + 1) e
+      nearer_is_next h = record {
+        within = e_in;
+        apart = λ o. not_start (point_at points i) (point_at points w) (points_apart w walk.within walk.apart) (subst (λ (k : ℕ). WithinSegment (place points i) (place points w) (place points k)) (sym o) h);
+        place_of = inr (elim walk.place_of [
+          | inl o ↦ subst (λ (k : ℕ). WithinSegment (place points i) (place points k) (place points e)) o h
+          | inr o ↦ nested (point_at points i) (point_at points j) (points_apart j hj i_not_j) (point_at points w) (point_at points e) o h
+        ]);
+        none = λ k less o. elim (cases k n less) [
+          | inl l ↦ walk.none k l (nested (point_at points i) (point_at points w) (points_apart w walk.within walk.apart) (point_at points e) (point_at points k) h o)
+          | inr same ↦ not_end (point_at points i) (point_at points e)
+              (λ o'. not_start (point_at points i) (point_at points w) (points_apart w walk.within walk.apart) (subst (λ (x : Point). WithinSegment (place points i) (place points w) (whole x)) (sym o') h))
+              (subst (λ (x : ℕ). WithinSegment (place points i) (place points e) (place points x)) (same ∙ sym is) o)
+        ];
+      }
+
+      pub still_next : ¬ WithinSegment (place points i) (place points w) (place points e) → IsNextBelow points i j (n + 1) w
+      still_next off = record {
+        within = walk.within;
+        apart = walk.apart;
+        place_of = walk.place_of;
+        none = λ k less o. elim (cases k n less) [
+          | inl l ↦ walk.none k l o
+          | inr same ↦ off (subst (λ (x : ℕ). WithinSegment (place points i) (place points w) (place points x)) (same ∙ sym is) o)
+        ];
+      }
+
+    pub walk_ends : (n : ℕ) → length points < n + 1 → (w : ℕ) → IsNextBelow points i j n w → AreNextOn points i j i w
+    walk_ends n all w walk = record {
+      apart = walk.apart;
+      first_index = hi;
+      second_index = walk.within;
+      first = start_on_segment (place points i) (place points j);
+      second = elim walk.place_of [
+        | inl o ↦ subst (λ (k : ℕ). OnSegment (place points i) (place points j) (place points k)) (sym o) (end_on_segment (place points i) (place points j))
+        | inr o ↦ on_of_within (place points i) (place points j) (place points w) o
+      ];
+      none_between = λ k less. walk.none k (omega (arith, all, less));
+    }
+
+-- two vertices of a mesh are at two places
+pub ends_differ : {V : Type 0} (at : V → Point) (vs : List V) (faces : List Face) (outer : List (ℕ × ℕ)) → IsMesh (map at vs) faces outer → (i j : ℕ) → i < length vs → j < length vs → i ≢ j → (p q : Point) → p ≡ point_at (map at vs) i → q ≡ point_at (map at vs) j → p ≡ q → ⊥
+ends_differ at vs faces outer shape i j hi hj n p q e f o = points_apart (map at vs) (placed_apart (map at vs) faces outer shape) i (in_map at vs i hi) j (in_map at vs j hj) n (sym e ∙ o ∙ f)

@@ -1,0 +1,155 @@
+//! Which edges cross the segment between two vertices.
+ghost use Rattle.std.specs.Prelude.{◌≡◌, ◌≢◌, ◌↔◌, ℕ, ◌<◌, length, map, All, Contains, IsTrue, MatchOption};
+ghost use Rattle.half_edge_links.specs.Mesh.{origin, rev};
+ghost use Rattle.plane.specs.Fraction.{whole as fraction};
+ghost use Rattle.plane.specs.Side.{side, right, TurnsLeft};
+ghost use Rattle.plane.specs.Laws.{Parts};
+ghost use Rattle.plane_tiling.specs.Local.{IsMesh};
+ghost use Rattle.drawn_mesh.specs.Drawn.{faces_of, outer_of};
+ghost use Rattle.delaunay_core.specs.Place.{place_of};
+ghost use Rattle.delaunay_legalization.specs.Known.{point_at};
+ghost use Rattle.delaunay_paths.specs.Crossing.{CrossesFromRight, CrossesSegment};
+
+use delaunay_core::math::PlaneTests;
+use delaunay_core::point::{HasPosition, Point2, SpadeNum};
+use delaunay_legalization::start_of;
+use half_edge_mesh::{Dcel, FixedDirectedEdgeHandle, FixedVertexHandle};
+use half_edge_views::MeshViews;
+
+// The position of a vertex.
+pub(crate) fn position_of<V: HasPosition, DE, UE, F>(
+    dcel: &Dcel<V, DE, UE, F>,
+    vertex: FixedVertexHandle,
+) -> Point2<V::Scalar>
+    requires { vertex < length dcel.now.vertices }
+    ensures place { place_of V.Scalar.whole result ≡ point_at (map V.place dcel.now.vertices) vertex }
+    ensures listed { Contains (map V.place dcel.now.vertices) (place_of V.Scalar.whole result) }
+{
+    dcel.vertex_data(vertex).position()
+}
+
+// The position where an edge ends.
+pub(crate) fn end_of<V: HasPosition, DE, UE, F>(
+    dcel: &Dcel<V, DE, UE, F>,
+    edge: FixedDirectedEdgeHandle,
+) -> Point2<V::Scalar>
+    requires { edge < length dcel.now.directed }
+    ensures place { place_of V.Scalar.whole result ≡ point_at (map V.place dcel.now.vertices) (origin dcel.now.mesh (rev edge)) }
+    ensures listed { Contains (map V.place dcel.now.vertices) (place_of V.Scalar.whole result) }
+{
+    start_of(dcel, dcel.directed_edge(edge).rev().fix())
+}
+
+// Whether the way from `from` to `to` has one point strictly on its right and another strictly on its left.
+fn has_on_sides<S: SpadeNum, P: PlaneTests<S>>(
+    from: Point2<S>,
+    to: Point2<S>,
+    on_right: Point2<S>,
+    on_left: Point2<S>,
+    tests: &P,
+) -> bool
+    requires from_covered { P.covered tests.now (place_of S.whole from) }
+    requires to_covered { P.covered tests.now (place_of S.whole to) }
+    requires right_covered { P.covered tests.now (place_of S.whole on_right) }
+    requires left_covered { P.covered tests.now (place_of S.whole on_left) }
+    ensures { IsTrue result ↔ ((side (fraction (place_of S.whole from)) (fraction (place_of S.whole to)) (fraction (place_of S.whole on_right)) ≡ right) × TurnsLeft (fraction (place_of S.whole from)) (fraction (place_of S.whole to)) (fraction (place_of S.whole on_left))) }
+{
+    tests.side(from, to, on_right).is_on_right_side()
+        && tests.side(from, to, on_left).is_on_left_side()
+}
+
+// Whether the line from `from` to `to` has two points strictly on its two sides.
+fn parts<S: SpadeNum, P: PlaneTests<S>>(
+    from: Point2<S>,
+    to: Point2<S>,
+    one: Point2<S>,
+    other: Point2<S>,
+    tests: &P,
+) -> bool
+    requires from_covered { P.covered tests.now (place_of S.whole from) }
+    requires to_covered { P.covered tests.now (place_of S.whole to) }
+    requires one_covered { P.covered tests.now (place_of S.whole one) }
+    requires other_covered { P.covered tests.now (place_of S.whole other) }
+    ensures { IsTrue result ↔ Parts (fraction (place_of S.whole from)) (fraction (place_of S.whole to)) (fraction (place_of S.whole one)) (fraction (place_of S.whole other)) }
+{
+    has_on_sides(from, to, other, one, tests) || has_on_sides(from, to, one, other, tests)
+}
+
+// Whether each of two segments has the ends of the other on the two sides of its line.
+fn part_each_other<S: SpadeNum, P: PlaneTests<S>>(
+    from: Point2<S>,
+    to: Point2<S>,
+    start: Point2<S>,
+    end: Point2<S>,
+    tests: &P,
+) -> bool
+    requires from_covered { P.covered tests.now (place_of S.whole from) }
+    requires to_covered { P.covered tests.now (place_of S.whole to) }
+    requires start_covered { P.covered tests.now (place_of S.whole start) }
+    requires end_covered { P.covered tests.now (place_of S.whole end) }
+    ensures { IsTrue result ↔ (Parts (fraction (place_of S.whole from)) (fraction (place_of S.whole to)) (fraction (place_of S.whole start)) (fraction (place_of S.whole end)) × Parts (fraction (place_of S.whole start)) (fraction (place_of S.whole end)) (fraction (place_of S.whole from)) (fraction (place_of S.whole to))) }
+{
+    parts(from, to, start, end, tests) && parts(start, end, from, to, tests)
+}
+
+/// Whether an edge and the segment between two different vertices have a point strictly within both.
+pub fn crosses_segment<V: HasPosition, DE, UE, F, P: PlaneTests<V::Scalar>>(
+    dcel: &Dcel<V, DE, UE, F>,
+    edge: FixedDirectedEdgeHandle,
+    from: FixedVertexHandle,
+    to: FixedVertexHandle,
+    tests: &P,
+) -> bool
+    requires within { edge < length dcel.now.directed }
+    requires from_in { from < length dcel.now.vertices }
+    requires to_in { to < length dcel.now.vertices }
+    requires apart { from ≢ to }
+    requires shape { IsMesh (map V.place dcel.now.vertices) (faces_of dcel.now.mesh) (outer_of dcel.now.mesh) }
+    requires sites { All (P.sites tests.now) (map V.place dcel.now.vertices) }
+    ensures { IsTrue result ↔ CrossesSegment (map V.place dcel.now.vertices) dcel.now.mesh from to edge }
+{
+    let _ = dcel.num_directed_edges();
+    let (from, to) = (position_of(dcel, from), position_of(dcel, to));
+    let (start, end) = (start_of(dcel, edge), end_of(dcel, edge));
+    part_each_other(from, to, start, end, tests)
+}
+
+// Whether an edge crosses the segment between two vertices from right to left.
+pub(crate) fn crosses_from_right<V: HasPosition, DE, UE, F, P: PlaneTests<V::Scalar>>(
+    dcel: &Dcel<V, DE, UE, F>,
+    edge: FixedDirectedEdgeHandle,
+    from: FixedVertexHandle,
+    to: FixedVertexHandle,
+    tests: &P,
+) -> bool
+    requires within { edge < length dcel.now.directed }
+    requires from_in { from < length dcel.now.vertices }
+    requires to_in { to < length dcel.now.vertices }
+    requires sites { All (P.sites tests.now) (map V.place dcel.now.vertices) }
+    ensures { IsTrue result ↔ CrossesFromRight (map V.place dcel.now.vertices) dcel.now.mesh from to edge }
+{
+    let (from, to) = (position_of(dcel, from), position_of(dcel, to));
+    let (start, end) = (start_of(dcel, edge), end_of(dcel, edge));
+    has_on_sides(from, to, start, end, tests) && has_on_sides(start, end, to, from, tests)
+}
+
+// An edge that crosses the segment between two vertices from right to left, if there is one.
+pub(crate) fn crossing_edge<V: HasPosition, DE, UE, F, P: PlaneTests<V::Scalar>>(
+    dcel: &Dcel<V, DE, UE, F>,
+    from: FixedVertexHandle,
+    to: FixedVertexHandle,
+    tests: &P,
+) -> Option<FixedDirectedEdgeHandle>
+    requires from_in { from < length dcel.now.vertices }
+    requires to_in { to < length dcel.now.vertices }
+    requires sites { All (P.sites tests.now) (map V.place dcel.now.vertices) }
+    ensures { let points = map V.place dcel.now.vertices in let m = dcel.now.mesh in MatchOption result ((h : ℕ) → h < length dcel.now.directed → ¬ CrossesFromRight points m from to h) (λ h. (h < length dcel.now.directed) × CrossesFromRight points m from to h) }
+{
+    for index in 0..dcel.num_directed_edges() {
+        let edge = FixedDirectedEdgeHandle::from_index(index as u32);
+        if crosses_from_right(dcel, edge, from, to, tests) {
+            return Some(edge);
+        }
+    }
+    None
+}

@@ -1,0 +1,13 @@
+//! Segments between two vertices that become edges: the path of pieces between two vertices, the edges that cross a
+//! piece, and flips until the piece is an edge.
+#![tactic(auto)]
+
+mod crossing;
+mod flips;
+mod order;
+mod path;
+
+// For the crates of edits, and not for users.
+pub use crossing::crosses_segment;
+pub use flips::make_edge;
+pub use path::next_on_path;
