@@ -10,6 +10,7 @@ use std::alloc::Global;
 use triangulate_run::sheet::Sheet;
 
 mod empty_circles;
+mod fixed_edges;
 mod locations;
 mod refusals;
 mod removals;
