@@ -1,8 +1,9 @@
 //! Triangulations of a sheet's points.
-ghost use Rattle.std.specs.Prelude.{◌≡◌, [], IfOk};
+ghost use Rattle.std.specs.Prelude.{◌≡◌, [], length, IfOk, MatchOption};
 ghost use Rattle.plane.specs.Fraction.{whole};
 ghost use Rattle.plane.specs.Location.{IsLocation};
 ghost use Rattle.plane.specs.Plain.{Inserts};
+ghost use Rattle.plane.specs.Shape.{IsNearest};
 ghost use Rattle.delaunay_core.specs.Place.{place_of};
 ghost use Rattle.delaunay_edit.specs.Elements.{HasElement};
 ghost use Rattle.delaunay_edit.specs.Location.{location_of};
@@ -84,6 +85,22 @@ impl SheetTriangulation {
             return Err(SheetError::NotListed);
         }
         Ok(self.triangulation.locate(point, &self.sheet))
+    }
+
+    /// A vertex that is nearest to a site of the sheet, unless there is no vertex.
+    pub fn nearest_neighbor(
+        &self,
+        point: Point2<i64>,
+    ) -> Result<Option<FixedVertexHandle>, SheetError>
+        ensures { IfOk result (λ answer. MatchOption answer (length self.now.1.vertices ≡ 0) (IsNearest (triangulation_of position_of self.now.1) (whole (place_of (λ z. z) point)))) }
+    {
+        if site_index_of(self.sheet.points(), point).is_none() {
+            return Err(SheetError::NotListed);
+        }
+        match self.triangulation.nearest_neighbor(point, &self.sheet) {
+            Some(vertex) => Ok(Some(vertex.fix())),
+            None => Ok(None),
+        }
     }
 
     /// Inserts a vertex at a site of the sheet.

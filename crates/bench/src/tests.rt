@@ -12,6 +12,7 @@ use triangulate_run::sheet::Sheet;
 mod empty_circles;
 mod fixed_edges;
 mod locations;
+mod nearest;
 mod refusals;
 mod removals;
 mod snapshots;

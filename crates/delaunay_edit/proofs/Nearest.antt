@@ -1,7 +1,11 @@
--- A running search for the least of some numbers.
+-- A running search for the least of some numbers, and the vertex at the least distance.
 use Rattle.std.proofs.Common.{◌≡◌, ◌⊎◌, ℕ, ◌+◌, ◌<◌, arith, below_more, subst, inl, inr}
-use Rattle.std.specs.Prelude.{ℤ, ◌<ℤ◌, ◌≤ℤ◌}
+use Rattle.std.specs.Prelude.{ℤ, pos, ◌*ℤ◌, ◌<ℤ◌, ◌≤ℤ◌, length}
 use Rattle.std.proofs.lemmas.Int.{ints}
+use Rattle.plane.specs.Fraction.{Point, whole}
+use Rattle.plane.specs.Circle.{gap}
+use Rattle.plane.specs.Shape.{IsNearest}
+use Rattle.plane.specs.Tiling.{Triangulation, vertex}
 use Rattle.plane.proofs.IntegerOrder.{lt_or_ge_ℤ}
 
 itself : (a : ℤ) → a ≤ℤ a
@@ -26,3 +30,9 @@ module _ (at : ℕ → ℤ) where
 
   pub still_least : (i e least : ℕ) → e ≡ i → ¬ (at e <ℤ at least) → ((h : ℕ) → h < i → at least ≤ℤ at h) → (h : ℕ) → h < i + 1 → at least ≤ℤ at h
   still_least i e least is not_less before = below_more (λ h. at least ≤ℤ at h) i before (subst (λ k. at least ≤ℤ at k) is (not_below (at e) (at least) not_less))
+
+not_nearer : (a b : ℤ) → a ≤ℤ b → ¬ ((b *ℤ (pos 1 *ℤ pos 1)) <ℤ (a *ℤ (pos 1 *ℤ pos 1)))
+not_nearer a b least nearer = omega (arith, ints)
+
+pub nearest_if_least : (t : Triangulation) (p : Point) (i : ℕ) → i < length t.points → ((k : ℕ) → k < length t.points → gap (whole p) (vertex t i) ≤ℤ gap (whole p) (vertex t k)) → IsNearest t (whole p) i
+nearest_if_least t p i within least = record { is_vertex = within; none_nearer = λ k below h. not_nearer (gap (whole p) (vertex t i)) (gap (whole p) (vertex t k)) (least k below) h.nearer }

@@ -7,6 +7,7 @@ mod insertion_cases;
 mod insertion_line;
 mod insertion_outside;
 mod location;
+mod nearest_vertex;
 mod position_in_triangulation;
 mod removal;
 mod triangulation_core;

@@ -8,6 +8,8 @@ fn nothing_is_there_at_first(rt: HostRuntime) {
     let dialogue = [
         ("counts", "0 0 0 0"),
         ("faces", "end"),
+        ("nearest 0 0", "none"),
+        ("nearest 2 0", "unknown point"),
         ("locate 0 0", "no triangulation"),
         ("locate 2 0", "unknown point"),
     ];
@@ -152,4 +154,50 @@ fn a_line_is_left_of_a_hull(rt: HostRuntime) {
         ("counts", "3 2 0 0"),
     ];
     assert!(rt; is_answered(rt.alloc(), Sheet::G, &dialogue));
+}
+
+// Either vertex is nearest.
+#[test]
+fn two_vertices_are_equally_near(rt: HostRuntime) {
+    let dialogue = [
+        ("insert -1 -1", "vertex 0"),
+        ("insert 1 -1", "vertex 1"),
+        ("nearest 0 0", "distance 2"),
+        ("locate 0 -1", "edge 0-1"),
+        ("locate 0 1", "outside"),
+    ];
+    assert!(rt; is_answered(rt.alloc(), Sheet::G, &dialogue));
+}
+
+#[test]
+fn another_vertex_becomes_the_nearest(rt: HostRuntime) {
+    let dialogue = [
+        ("insert -1 -1", "vertex 0"),
+        ("nearest 1 1", "distance 8"),
+        ("nearest -1 -1", "distance 0"),
+        ("insert 1 0", "vertex 1"),
+        ("nearest 1 1", "distance 1"),
+        ("insert 0 -1", "vertex 2"),
+        ("nearest 1 1", "distance 1"),
+        ("nearest -1 1", "distance 4"),
+        ("remove 1", "removed 1 0"),
+        ("nearest 1 1", "distance 5"),
+        ("nearest 2 2", "unknown point"),
+        ("counts", "2 1 0 0"),
+    ];
+    assert!(rt; is_answered(rt.alloc(), Sheet::G, &dialogue));
+}
+
+#[test]
+fn the_greatest_distance_is_told(rt: HostRuntime) {
+    let dialogue = [
+        ("insert -536870912 -536870912", "vertex 0"),
+        (
+            "nearest 536870912 536870912",
+            "distance 2305843009213693952",
+        ),
+        ("nearest 536870913 0", "unknown point"),
+        ("nearest 999999999999999999 0", "unknown point"),
+    ];
+    assert!(rt; is_answered(rt.alloc(), Sheet::B, &dialogue));
 }

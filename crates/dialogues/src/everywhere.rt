@@ -103,6 +103,10 @@ fn a_failing_edge_is_flipped(rt: HostRuntime) {
 fn the_greatest_square_gets_its_centre(rt: HostRuntime) {
     let dialogue = [
         ("insert -536870912 -536870912", "vertex 0"),
+        (
+            "nearest 536870912 536870912",
+            "distance 2305843009213693952",
+        ),
         ("insert 536870912 -536870912", "vertex 1"),
         ("insert 536870912 536870912", "vertex 2"),
         ("insert -536870912 536870912", "vertex 3"),

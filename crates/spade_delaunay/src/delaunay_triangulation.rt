@@ -8,6 +8,7 @@ ghost use Rattle.plane.specs.Plain.{IsCleared, IsPlain, Inserts, Removes, Replac
 ghost use Rattle.plane.specs.Tiling.{IsFace, IsTiling};
 ghost use Rattle.plane.specs.Delaunay.{IsConstrainedDelaunay, IsStrictlyEmpty};
 ghost use Rattle.plane.specs.Location.{IsLocation};
+ghost use Rattle.plane.specs.Shape.{IsNearest};
 ghost use Rattle.delaunay_core.specs.Place.{place_of};
 ghost use Rattle.delaunay_core.specs.declared.math.InsertionError.TheVariants.{TooLarge, OutOfIndexes};
 ghost use Rattle.delaunay_edit.specs.Data.{KeepsData};
@@ -188,6 +189,21 @@ impl<V: HasPosition, DE, UE, F> DelaunayTriangulation<V, DE, UE, F> {
             PositionInTriangulation::OnVertex(vertex) => Some(self.vertex(vertex)),
             _ => None,
         }
+    }
+
+    /// A vertex that none is strictly nearer than to a position that the tests cover, unless there is no vertex. It takes
+    /// no memory.
+    pub fn nearest_neighbor<P: PlaneTests<V::Scalar>>(
+        &self,
+        point: Point2<V::Scalar>,
+        _tests: &P,
+    ) -> Option<VertexHandle<'_, V, DE, UE, F>>
+        requires sites { All (P.sites _tests.now) (map V.place self.now.vertices) }
+        requires covered { P.covered _tests.now (place_of V.Scalar.whole point) }
+        ensures { MatchOption result (length self.now.vertices ≡ 0) (λ v. (state_of v.dcel.now ≡ self.now) × IsNearest (triangulation_of V.place self.now) (fraction (place_of V.Scalar.whole point)) v.index) }
+    {
+        let nearest = self.core.nearest_neighbor(point)?;
+        Some(self.vertex(nearest))
     }
 }
 

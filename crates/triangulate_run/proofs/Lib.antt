@@ -9,5 +9,6 @@ pub mod RunLemmas
 pub mod SortedFaces
 pub mod FaceList
 pub mod Locations
+pub mod Distances
 pub mod MeshFaces
 pub mod Insertions

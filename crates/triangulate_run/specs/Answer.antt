@@ -4,7 +4,9 @@ use Rattle.plane.specs.Fraction.{Point, whole}
 use Rattle.plane.specs.Pairs.{SamePairs, EachPairOnce}
 use Rattle.plane.specs.Plain.{Replaces, Appends, Removes, DifferInPosition}
 use Rattle.plane.specs.Tests.{InRange}
-use Rattle.plane.specs.Tiling.{Triangulation, IsFace}
+use Rattle.plane.specs.Circle.{gap}
+use Rattle.plane.specs.Shape.{IsNearest}
+use Rattle.plane.specs.Tiling.{Triangulation, IsFace, IsVertex, vertex}
 use Rattle.plane.specs.Location.{IsLocation, on_vertex, on_edge, on_face, outside_hull, no_triangulation}
 use Rattle.delaunay_core.specs.declared.point.Point2.{Point2}
 use Rattle.delaunay_core.specs.declared.math.InsertionError.TheVariants.{TooLarge, OutOfMemory, OutOfIndexes}
@@ -92,6 +94,19 @@ abbrev pub MayLocate : List SheetPoint → Triangulation → Point → Reply →
 MayLocate points t p reply.UnknownPoint = ¬ IsListed points p
 MayLocate points t p r = IsListed points p × IsThere t p r
 
+-- d is the squared distance from p to a vertex that none is nearer than
+pub record IsLeastDistance (t : Triangulation) (p : Point) (d : ℤ) : Type 0 where
+  pub nearest : ℕ
+  pub is_nearest : IsNearest t (whole p) nearest
+  pub distance : d ≡ gap (whole p) (vertex t nearest)
+
+-- how far the nearest vertex is from p, if p is in the list
+abbrev pub MayMeasure : List SheetPoint → Triangulation → Point → Reply → Type 0
+MayMeasure points t p reply.UnknownPoint = ¬ IsListed points p
+MayMeasure points t p (reply.Distance d) = IsListed points p × IsLeastDistance t p d
+MayMeasure points t p reply.NoNeighbor = IsListed points p × ((i : ℕ) → ¬ IsVertex t i)
+MayMeasure points t p _ = ⊥
+
 -- n is the number of pairs, an order of the ends apart
 pub record AreSoMany (pairs : List (ℕ × ℕ)) (n : ℕ) : Type 0 where
   pub different : List (ℕ × ℕ)
@@ -128,5 +143,5 @@ MayReply points old Faces r new = MayList old.triangulation r × (new ≡ old)
 MayReply points old (Remove i) r new = MayRemove old i r new
 MayReply points old (Constrain i j) r new = (r ≡ reply.BadLine) × (new ≡ old)
 MayReply points old (Release i j) r new = (r ≡ reply.BadLine) × (new ≡ old)
-MayReply points old (Nearest c) r new = (r ≡ reply.BadLine) × (new ≡ old)
+MayReply points old (Nearest c) r new = MayMeasure points old.triangulation (position (point_at c)) r × (new ≡ old)
 MayReply points old (Line c d) r new = (r ≡ reply.BadLine) × (new ≡ old)

@@ -2,9 +2,9 @@
 use Rattle.std.specs.Prelude.{ℕ, List, decimal}
 use Rattle.std.specs.Fmt.{signed_decimal}
 use Rattle.triangulate_run.specs.declared.piece.Piece.{Piece}
-use Rattle.triangulate_run.specs.declared.piece.Piece.TheVariants.{Text, Index, Coordinate}
+use Rattle.triangulate_run.specs.declared.piece.Piece.TheVariants.{Text, Index, Signed}
 
 abbrev pub text_of : Piece → List ℕ
 text_of (Text text) = text.now
 text_of (Index n) = decimal n
-text_of (Coordinate z) = signed_decimal z
+text_of (Signed z) = signed_decimal z

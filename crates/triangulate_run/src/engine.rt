@@ -11,7 +11,7 @@ ghost use Rattle.delaunay_legalization.specs.State.{triangulation_of};
 ghost use Rattle.triangulate_run.specs.Stage.{position, first_stage, Fits};
 ghost use Rattle.triangulate_run.specs.Points.{place};
 ghost use Rattle.triangulate_run.specs.Engine.{stage_of, IsReady};
-ghost use Rattle.triangulate_run.specs.Answer.{ListsFaces, IsThere, MayInsert, MayRemove, MayLocate, MayCount, MayList, point_at};
+ghost use Rattle.triangulate_run.specs.Answer.{ListsFaces, IsThere, MayInsert, MayRemove, MayLocate, MayMeasure, MayCount, MayList, point_at};
 
 use crate::corners::{Corners, from_least, sort_faces};
 use crate::points::{SheetPoint, index_of, site_index_of};
@@ -48,10 +48,10 @@ impl<P: PlaneTests<i64>> Engine for PointEngine<'_, P> {
             Command::Counts => counts_of(&self.triangulation),
             Command::Faces => self.faces(),
             Command::Remove(index) => self.remove(index),
-            Command::Constrain(_, _)
-            | Command::Release(_, _)
-            | Command::Nearest(_)
-            | Command::Line(_, _) => Reply::BadLine,
+            Command::Nearest(place) => self.nearest(point_of(place)),
+            Command::Constrain(_, _) | Command::Release(_, _) | Command::Line(_, _) => {
+                Reply::BadLine
+            }
         };
         let _ = self.triangulation.num_vertices();
         reply
@@ -122,6 +122,20 @@ impl<'a, P: PlaneTests<i64>> PointEngine<'a, P> {
         let answer = self.triangulation.locate(point, self.tests);
         let _ = self.triangulation.num_vertices();
         location_reply(&self.triangulation, answer)
+    }
+
+    fn nearest(&self, point: Point2<i64>) -> Reply
+        requires ready { IsReady (P.covered self.now.tests.now) (P.sites self.now.tests.now) self.now.points.now self.now.triangulation.vertices }
+        ensures reply { MayMeasure self.now.points.now (triangulation_of position self.now.triangulation) (position point) result }
+    {
+        if index_of(self.points, point).is_none() {
+            return Reply::UnknownPoint;
+        }
+        let _ = self.triangulation.num_vertices();
+        match self.triangulation.nearest_neighbor(point, self.tests) {
+            Some(vertex) => Reply::Distance(point.distance_2(*vertex.data())),
+            None => Reply::NoNeighbor,
+        }
     }
 
     fn faces(&self) -> Reply

@@ -26,9 +26,7 @@ pub(crate) fn write_piece<W: Write>(writer: &mut Watched<W>, piece: Piece<'_>) -
     match piece {
         Piece::Text(text) => write_all(writer, text.as_bytes()),
         Piece::Index(index) => write_all(writer, Buffer::new().format(index).as_bytes()),
-        Piece::Coordinate(coordinate) => {
-            write_all(writer, Buffer::new().format(coordinate).as_bytes())
-        }
+        Piece::Signed(number) => write_all(writer, Buffer::new().format(number).as_bytes()),
     }
 }
 

@@ -3,5 +3,5 @@
 pub(crate) enum Piece<'a> {
     Text(&'a str),
     Index(u64),
-    Coordinate(i64),
+    Signed(i64),
 }

@@ -31,6 +31,10 @@ pub enum Reply {
     Outside,
     /// There is no vertex, or one elsewhere.
     NoTriangulation,
+    /// The squared distance to the nearest vertex.
+    Distance(i64),
+    /// There is no vertex to be near.
+    NoNeighbor,
     /// The vertex that went was here.
     Removed(i64, i64),
     /// No vertex has the index.
@@ -61,6 +65,15 @@ pub(crate) fn write_reply<W: Write>(writer: &mut Watched<W>, reply: &Reply) -> R
         Reply::Face(corners) => write_face(writer, "face ", *corners),
         Reply::Outside => write_pieces(writer, &[Piece::Text("outside\n")]),
         Reply::NoTriangulation => write_pieces(writer, &[Piece::Text("no triangulation\n")]),
+        Reply::Distance(distance_2) => write_pieces(
+            writer,
+            &[
+                Piece::Text("distance "),
+                Piece::Signed(*distance_2),
+                Piece::Text("\n"),
+            ],
+        ),
+        Reply::NoNeighbor => write_pieces(writer, &[Piece::Text("none\n")]),
         Reply::Removed(x, y) => write_removed(writer, *x, *y),
         Reply::NoVertex => write_pieces(writer, &[Piece::Text("no vertex\n")]),
         Reply::Counts(vertices, edges, faces, constraints) => {
@@ -110,9 +123,9 @@ fn write_removed<W: Write>(writer: &mut Watched<W>, x: i64, y: i64) -> Result<()
         writer,
         &[
             Piece::Text("removed "),
-            Piece::Coordinate(x),
+            Piece::Signed(x),
             Piece::Text(" "),
-            Piece::Coordinate(y),
+            Piece::Signed(y),
             Piece::Text("\n"),
         ],
     )

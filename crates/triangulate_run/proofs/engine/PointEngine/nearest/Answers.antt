@@ -1,0 +1,36 @@
+use Rattle.std.proofs.Common.{◌≡◌, ap, sym, subst, rules, SFits, w64, to_z-of_z}
+use Rattle.std.specs.Prelude.{slice_get, Some}
+use Rattle.delaunay_legalization.specs.State.{triangulation_of}
+use Rattle.delaunay_edit.proofs.Removing.{read_place}
+use Rattle.triangulate_run.specs.Answer.{IsLeastDistance}
+use Rattle.triangulate_run.specs.Stage.{position}
+use Rattle.triangulate_run.proofs.Distances.{vertex_in_range, covered_if_listed, least_distance}
+use Rattle.triangulate_run.proofs.Insertions.{listed_if_known}
+use Rattle.triangulate_run.proofs.engine.PointEngine.nearest.Goals as goal
+
+pub distance_2-requires-clause-in_range : goal.distance_2-requires-clause-in_range
+distance_2-requires-clause-in_range g c =
+    let e = c.args.self.now in
+    let p = position c.args.point in
+    let listed = listed_if_known e.points.now p c.index_of.result c.if-is_none.ensures c.index_of.ensures in
+    g.met.P.PlaneTests.covered_are_in_range e.tests.now p (covered_if_listed (g.P.PlaneTests.covered e.tests.now) e.points.now p c.requires.ready.points_covered listed)
+
+pub distance_2-requires-clause-other_in_range : goal.distance_2-requires-clause-other_in_range
+distance_2-requires-clause-other_in_range g c =
+    let vertices = c.args.self.now.triangulation.vertices in
+    let i = c.in-Some.vertex.index in
+    let v = c.data.result.now in
+    vertex_in_range vertices i v c.in-Some.ensures.1.is_vertex (subst (λ vs. slice_get vs i ≡ Some v) (ap (λ s. s.vertices) c.in-Some.ensures.0) c.data.ensures) c.num_vertices.ensures.in_range
+
+pub returns-in-Some : goal.returns-in-Some
+returns-in-Some g c =
+    let e = c.args.self.now in
+    let p = position c.args.point in
+    let i = c.in-Some.vertex.index in
+    let v = c.data.result.now in
+    let d = c.distance_2.result in
+    let t = triangulation_of position e.triangulation in
+    let listed = listed_if_known e.points.now p c.index_of.result c.if-is_none.ensures c.index_of.ensures in
+    let at = read_place position e.triangulation.vertices i v (subst (λ vs. slice_get vs i ≡ Some v) (ap (λ s. s.vertices) c.in-Some.ensures.0) c.data.ensures) in
+    let fits : SFits w64 d = search rules in
+    record { reply = (listed, subst (IsLeastDistance t p) (sym (to_z-of_z {w = w64} {z = d} fits)) (least_distance t p (position v) i d c.in-Some.ensures.1 at c.distance_2.ensures)) }
