@@ -11,6 +11,7 @@ use triangulate_run::sheet::Sheet;
 
 mod empty_circles;
 mod fixed_edges;
+mod hints;
 mod locations;
 mod nearest;
 mod refusals;
