@@ -8,7 +8,7 @@ use Rattle.half_edge_links.specs.Mesh.{Mesh, no_edge, edge_at, origin, next, pre
 use Rattle.half_edge_links.specs.Grow.{with_next, with_prev, IsOuter, hung_edges, hung, Hangs}
 use Rattle.half_edge_links.proofs.Rev.{rev_within}
 use Rattle.half_edge_links.proofs.FlipLemmas.{links_from}
-use Rattle.half_edge_links.proofs.FieldWrites.{length-with_next, length-with_prev, next-with_next, other-with_next, next-with_prev, prev-with_prev, other-with_prev, prev-with_next, face-with_next, face-with_prev, origin-with_next, origin-with_prev}
+use Rattle.half_edge_links.proofs.FieldWrites.{writes_next, writes_prev, next_link, prev_link, face_link, origin_link}
 use Rattle.half_edge_links.proofs.Writes.{length-two, two_before, two_at_0, two_at_1}
 use Rattle.half_edge_links.proofs.Parts.{rev_of_even, rev_of_odd, IsInMesh, IsNextSound, IsInnerSound, sound_from, next_kept, inner_kept, next_at, prev_sound, grown_cases, still_out, still_named}
 
@@ -20,7 +20,7 @@ module _ (hs : List HalfEdge) (x y v : ℕ) (x_in : x < length hs) (y_in : y < l
   written = with_prev first y (length hs + 1)
 
   length-written : length written ≡ length hs
-  length-written = length-with_prev first y _ ∙ length-with_next hs x _
+  length-written = (writes_prev first y _).count ∙ (writes_next hs x _).count
 
   length-hung : length (hung_edges hs x y v (length hs)) ≡ length hs + 2
   unfolding hung_edges
@@ -31,22 +31,22 @@ module _ (hs : List HalfEdge) (x y v : ℕ) (x_in : x < length hs) (y_in : y < l
   before h within = two_before written _ _ no_edge h (rw length-written within)
 
   next_x : (edge_at (hung_edges hs x y v (length hs)) x).next ≡ length hs
-  next_x = ap (λ (q : HalfEdge). q.next) (before x x_in) ∙ next-with_prev first y _ x ∙ next-with_next hs x _ x_in
+  next_x = ap next_link (before x x_in) ∙ (writes_prev first y _).kept next_link refl x ∙ ap next_link ((writes_next hs x _).here x_in)
 
   next_other : (h : ℕ) → h < length hs → h ≢ x → (edge_at (hung_edges hs x y v (length hs)) h).next ≡ (edge_at hs h).next
-  next_other h within differs = ap (λ (q : HalfEdge). q.next) (before h within) ∙ next-with_prev first y _ h ∙ ap (λ (q : HalfEdge). q.next) (other-with_next hs x _ h differs)
+  next_other h within differs = ap next_link (before h within) ∙ (writes_prev first y _).kept next_link refl h ∙ ap next_link ((writes_next hs x _).other h differs)
 
   prev_y : (edge_at (hung_edges hs x y v (length hs)) y).prev ≡ length hs + 1
-  prev_y = ap (λ (q : HalfEdge). q.prev) (before y y_in) ∙ prev-with_prev first y _ (rw length-with_next y_in)
+  prev_y = ap prev_link (before y y_in) ∙ ap prev_link ((writes_prev first y _).here (rw (writes_next hs x _).count y_in))
 
   prev_other : (h : ℕ) → h < length hs → h ≢ y → (edge_at (hung_edges hs x y v (length hs)) h).prev ≡ (edge_at hs h).prev
-  prev_other h within differs = ap (λ (q : HalfEdge). q.prev) (before h within) ∙ ap (λ (q : HalfEdge). q.prev) (other-with_prev first y _ h differs) ∙ prev-with_next hs x _ h
+  prev_other h within differs = ap prev_link (before h within) ∙ ap prev_link ((writes_prev first y _).other h differs) ∙ (writes_next hs x _).kept prev_link refl h
 
   origin_kept : (h : ℕ) → h < length hs → (edge_at (hung_edges hs x y v (length hs)) h).origin ≡ (edge_at hs h).origin
-  origin_kept h within = ap (λ (q : HalfEdge). q.origin) (before h within) ∙ origin-with_prev first y _ h ∙ origin-with_next hs x _ h
+  origin_kept h within = ap origin_link (before h within) ∙ (writes_prev first y _).kept origin_link refl h ∙ (writes_next hs x _).kept origin_link refl h
 
   face_kept : (h : ℕ) → h < length hs → (edge_at (hung_edges hs x y v (length hs)) h).face ≡ (edge_at hs h).face
-  face_kept h within = ap (λ (q : HalfEdge). q.face) (before h within) ∙ face-with_prev first y _ h ∙ face-with_next hs x _ h
+  face_kept h within = ap face_link (before h within) ∙ (writes_prev first y _).kept face_link refl h ∙ (writes_next hs x _).kept face_link refl h
 
   at_0 : edge_at (hung_edges hs x y v (length hs)) (length hs) ≡ record { origin = (edge_at hs y).origin; next = length hs + 1; prev = x; face = (edge_at hs x).face }
   unfolding hung_edges

@@ -12,7 +12,7 @@ use Rattle.half_edge_links.proofs.Conditions.{IsUnlinkable}
 use Rattle.half_edge_links.proofs.Rev.{rev-rev, rev_within, rev_differs}
 use Rattle.half_edge_links.proofs.Orbits.{reached}
 use Rattle.half_edge_links.proofs.Parts.{sound_from, next_at, inner_kept}
-use Rattle.half_edge_links.proofs.FieldWrites.{length-with_next, next-with_next, other-with_next, prev-with_next, origin-with_next, face-with_next, length-with_prev, prev-with_prev, other-with_prev, next-with_prev, origin-with_prev, face-with_prev}
+use Rattle.half_edge_links.proofs.FieldWrites.{writes_next, writes_prev, next_link, prev_link, face_link, origin_link}
 
 abbrev pub next_of : List HalfEdge → ℕ → ℕ
 next_of hs k = (edge_at hs k).next
@@ -26,25 +26,25 @@ both hs h x k y = with_prev (with_next hs h x) k y
 
 module _ (hs : List HalfEdge) (h x k y : ℕ) where
   pub length_both : length (both hs h x k y) ≡ length hs
-  length_both = length-with_prev (with_next hs h x) k y ∙ length-with_next hs h x
+  length_both = (writes_prev (with_next hs h x) k y).count ∙ (writes_next hs h x).count
 
   pub next_both : h < length hs → next_of (both hs h x k y) h ≡ x
-  next_both within = next-with_prev (with_next hs h x) k y h ∙ next-with_next hs h x within
+  next_both within = (writes_prev (with_next hs h x) k y).kept next_link refl h ∙ ap next_link ((writes_next hs h x).here within)
 
   pub next_both_other : (j : ℕ) → j ≢ h → next_of (both hs h x k y) j ≡ next_of hs j
-  next_both_other j differs = next-with_prev (with_next hs h x) k y j ∙ ap (λ (e : HalfEdge). e.next) (other-with_next hs h x j differs)
+  next_both_other j differs = (writes_prev (with_next hs h x) k y).kept next_link refl j ∙ ap next_link ((writes_next hs h x).other j differs)
 
   pub prev_both : k < length hs → prev_of (both hs h x k y) k ≡ y
-  prev_both within = prev-with_prev (with_next hs h x) k y (rw (length-with_next hs h x) within)
+  prev_both within = ap prev_link ((writes_prev (with_next hs h x) k y).here (rw (writes_next hs h x).count within))
 
   pub prev_both_other : (j : ℕ) → j ≢ k → prev_of (both hs h x k y) j ≡ prev_of hs j
-  prev_both_other j differs = ap (λ (e : HalfEdge). e.prev) (other-with_prev (with_next hs h x) k y j differs) ∙ prev-with_next hs h x j
+  prev_both_other j differs = ap prev_link ((writes_prev (with_next hs h x) k y).other j differs) ∙ (writes_next hs h x).kept prev_link refl j
 
   pub origin_both : (j : ℕ) → (edge_at (both hs h x k y) j).origin ≡ (edge_at hs j).origin
-  origin_both j = origin-with_prev (with_next hs h x) k y j ∙ origin-with_next hs h x j
+  origin_both j = (writes_prev (with_next hs h x) k y).kept origin_link refl j ∙ (writes_next hs h x).kept origin_link refl j
 
   pub face_both : (j : ℕ) → (edge_at (both hs h x k y) j).face ≡ (edge_at hs j).face
-  face_both j = face-with_prev (with_next hs h x) k y j ∙ face-with_next hs h x j
+  face_both j = (writes_prev (with_next hs h x) k y).kept face_link refl j ∙ (writes_next hs h x).kept face_link refl j
 
 module _ (m : Mesh) (e : ℕ) (s : IsSound m) (can : IsUnlinkable m e) where
   pub unlinks : Unlinks m (unlinked m e) e (rev e)

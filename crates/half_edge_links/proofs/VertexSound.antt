@@ -9,7 +9,7 @@ use Rattle.half_edge_links.specs.Grow.{with_origin}
 use Rattle.half_edge_links.specs.Move.{turn_of, MovesOrigins, CanWalk, IsOneOrbit, MovesVertex, MovesNamed}
 use Rattle.half_edge_links.proofs.Rev.{rev_within}
 use Rattle.half_edge_links.proofs.Orbits.{comes_back}
-use Rattle.half_edge_links.proofs.FieldWrites.{length-with_origin, origin-with_origin, other-with_origin, next-with_origin, prev-with_origin, face-with_origin}
+use Rattle.half_edge_links.proofs.FieldWrites.{writes_origin, next_link, prev_link, face_link, origin_link}
 use Rattle.half_edge_links.proofs.FaceBeside.{differs_alone}
 use Rattle.half_edge_links.proofs.Conditions.{spoke_at, turn_one}
 use Rattle.half_edge_links.proofs.OpenSound.{same_renamed, moved_hit, moved_miss, get_or-swap_remove_same, get_or-swap_remove_other, length-swap_remove}
@@ -39,13 +39,13 @@ module _ (old new : List HalfEdge) (first v i h : ℕ) (c : CanWalk old) (w : Ha
   h_in = rw w.count w.place_in
 
   origin_off : (k : ℕ) → k ≢ h → (edge_at (with_origin new h v) k).origin ≡ (edge_at new k).origin
-  origin_off k differs = ap (λ (e : HalfEdge). e.origin) (other-with_origin new h v k differs)
+  origin_off k differs = ap origin_link ((writes_origin new h v).other k differs)
 
   -- the origin of a place on the walk once the next was written
   there_more : (j : ℕ) → j < i + 1 → (edge_at (with_origin new h v) (iterate (turn_of old) j first)).origin ≡ v
   there_more j less =
       elim (cases_eq (iterate (turn_of old) j first) h) [
-        | inl is ↦ ap (λ k. (edge_at (with_origin new h v) k).origin) is ∙ origin-with_origin new h v h_in
+        | inl is ↦ ap (λ k. (edge_at (with_origin new h v) k).origin) is ∙ ap origin_link ((writes_origin new h v).here h_in)
         | inr off ↦ origin_off _ off ∙ w.there j (elim (cases_eq j i) [
           | inl q ↦ absurd (off (ap (λ n. iterate (turn_of old) n first) q ∙ sym w.place))
           | inr q ↦ omega arith
@@ -56,18 +56,18 @@ module _ (old new : List HalfEdge) (first v i h : ℕ) (c : CanWalk old) (w : Ha
   other_more k off = origin_off k (λ q. off i (sym w.place ∙ sym q)) ∙ w.other k off
 
   pub next_place : turn_of (with_origin new h v) h ≡ iterate (turn_of old) (suc i) first
-  next_place = ap rev (prev-with_origin new h v h ∙ w.prevs h) ∙ ap (turn_of old) w.place
+  next_place = ap rev ((writes_origin new h v).kept prev_link refl h ∙ w.prevs h) ∙ ap (turn_of old) w.place
 
   pub walk_more : (n : ℕ) → n ≡ turn_of (with_origin new h v) h → n ≢ first → HasWalked old (with_origin new h v) first v (i + 1) n
   walk_more n is differs =
       let place : n ≡ iterate (turn_of old) (i + 1) first = let q : suc i ≡ i + 1 = omega arith in is ∙ next_place ∙ ap (λ j. iterate (turn_of old) j first) q in
       record {
-        count = length-with_origin new h v ∙ w.count;
-        nexts = λ k. next-with_origin new h v k ∙ w.nexts k;
-        prevs = λ k. prev-with_origin new h v k ∙ w.prevs k;
-        faces = λ k. face-with_origin new h v k ∙ w.faces k;
+        count = (writes_origin new h v).count ∙ w.count;
+        nexts = λ k. (writes_origin new h v).kept next_link refl k ∙ w.nexts k;
+        prevs = λ k. (writes_origin new h v).kept prev_link refl k ∙ w.prevs k;
+        faces = λ k. (writes_origin new h v).kept face_link refl k ∙ w.faces k;
         place = place;
-        place_in = let at = is ∙ ap rev (prev-with_origin new h v h ∙ w.prevs h) in rw at (c.stays h w.place_in);
+        place_in = let at = is ∙ ap rev ((writes_origin new h v).kept prev_link refl h ∙ w.prevs h) in rw at (c.stays h w.place_in);
         there = there_more;
         other = other_more;
         further = λ j some less. elim (cases_eq j (i + 1)) [
@@ -90,10 +90,10 @@ module _ (old new : List HalfEdge) (first v i h : ℕ) (c : CanWalk old) (w : Ha
   walk_ends n is back =
       let round : iterate (turn_of old) (suc i) first ≡ first = sym next_place ∙ sym is ∙ back in
       record {
-        count = length-with_origin new h v ∙ w.count;
-        nexts = λ k. next-with_origin new h v k ∙ w.nexts k;
-        prevs = λ k. prev-with_origin new h v k ∙ w.prevs k;
-        faces = λ k. face-with_origin new h v k ∙ w.faces k;
+        count = (writes_origin new h v).count ∙ w.count;
+        nexts = λ k. (writes_origin new h v).kept next_link refl k ∙ w.nexts k;
+        prevs = λ k. (writes_origin new h v).kept prev_link refl k ∙ w.prevs k;
+        faces = λ k. (writes_origin new h v).kept face_link refl k ∙ w.faces k;
         there = λ j. let e = early round j in ap (λ k. (edge_at (with_origin new h v) k).origin) e.2 ∙ there_more e.0 e.1;
         other = other_more;
       }
