@@ -13,7 +13,7 @@ use Rattle.half_edge_links.specs.Taken.{no_ends, no_triangle}
 use Rattle.half_edge_links.proofs.Parts.{rev_of_even, rev_of_odd}
 use Rattle.half_edge_links.proofs.Triangles.{IsTriangle, same_loop, triangle_at as loop_at}
 use Rattle.half_edge_links.proofs.TakenLists.{ends_at, count_ends}
-use Rattle.half_edge_links.proofs.Sums.{sum_to, sums_agree, sums_added, sums_none, sums_exchanged, only_at, at_place, off_place, sum_single, total_by_place, sum_in_pairs}
+use Rattle.half_edge_links.proofs.Sums.{sum_to, sums_agree, sums_added, sums_none, sums_exchanged, only_at, at_place, off_place, sum_single, zero_first, zero_last, total_by_place, sum_in_pairs}
 
 same_sum : (a b c d : ℤ) → a ≡ b → c ≡ d → a +ℤ c ≡ b +ℤ d
 same_sum a b c d p q = cc
@@ -27,12 +27,6 @@ face_is a f c is = grind (arith, nat_tests)
 
 face_off : (a f : ℕ) (c : ℤ) → a ≢ f → in_face a f c ≡ pos 0
 face_off a f c off = grind (arith, nat_tests)
-
-zero_first : (c : ℤ) → pos 0 +ℤ c ≡ c
-zero_first c = omega (arith, ints)
-
-zero_last : (c : ℤ) → c +ℤ pos 0 ≡ c
-zero_last c = omega (arith, ints)
 
 three_first : (c : ℤ) → c ≡ c +ℤ pos 0 +ℤ pos 0
 three_first c = omega (arith, ints)

@@ -46,10 +46,10 @@ at_place a c k is = grind (arith, nat_tests)
 pub off_place : (a : ℕ) (c : ℤ) (k : ℕ) → k ≢ a → only_at a c k ≡ pos 0
 off_place a c k off = grind (arith, nat_tests)
 
-zero_first : (c : ℤ) → pos 0 +ℤ c ≡ c
+pub zero_first : (c : ℤ) → pos 0 +ℤ c ≡ c
 zero_first c = omega (arith, ints)
 
-zero_last : (c : ℤ) → c +ℤ pos 0 ≡ c
+pub zero_last : (c : ℤ) → c +ℤ pos 0 ≡ c
 zero_last c = omega (arith, ints)
 
 pub sum_single : (a : ℕ) (c : ℤ) (n : ℕ) → a < n → sum_to (only_at a c) n ≡ c

@@ -30,14 +30,11 @@ returns-clause-links c =
 
 pub returns-clause-triangles : goal.returns-clause-triangles
 returns-clause-triangles c =
-    let m : Mesh = (the_view c.self.inside).mesh in
-    rw (← c.self.view_is) (triangles_closed m _ c.args.e c.self.invariant.sound (rw (← c.self.view_is) at c.requires.closable) (rw (← c.self.view_is) at (returns-clause-links c)))
+    rw (← c.self.view_is) (triangles_closed (the_view c.self.inside).mesh _ c.args.e c.self.invariant.sound (rw (← c.self.view_is) at c.requires.closable) (rw (← c.self.view_is) at (returns-clause-links c)))
 
 pub returns-clause-outer : goal.returns-clause-outer
 returns-clause-outer c =
-    let m : Mesh = (the_view c.self.inside).mesh in
-    let can = rw (← c.self.view_is) at c.requires.closable in
-    rw (returns-clause-mesh c, ← c.self.view_is) (outer_closed m (closed m c.args.e) c.args.e c.self.invariant.sound can (closes m c.args.e c.self.invariant.sound can))
+    rw (← c.self.view_is) (outer_closed (the_view c.self.inside).mesh _ c.args.e c.self.invariant.sound (rw (← c.self.view_is) at c.requires.closable) (rw (← c.self.view_is) at (returns-clause-links c)))
 
 pub returns-clause-ends : goal.returns-clause-ends
 returns-clause-ends c =

@@ -1,6 +1,5 @@
 use Rattle.std.proofs.Common.{◌≡◌, refl, length, arith}
 use Rattle.half_edge_links.specs.contracts.links.Links.{the_view}
-use Rattle.half_edge_links.specs.Mesh.{Mesh}
 use Rattle.half_edge_links.specs.Grow.{hung}
 use Rattle.half_edge_links.proofs.Valid.{valid_as, valid_hung}
 use Rattle.half_edge_links.proofs.Hang.{hangs}
@@ -25,19 +24,12 @@ returns-clause-links c =
     rw (returns-clause-mesh c, ← c.self.view_is) (hangs (the_view c.self.inside).mesh c.args.x c.args.v c.self.invariant.sound (rw (← c.self.view_is) at c.requires.outer) (rw (← c.self.view_is) at c.requires.alone))
 
 pub returns-clause-triangles : goal.returns-clause-triangles
-unfolding hung
 returns-clause-triangles c =
-    let m : Mesh = (the_view c.self.inside).mesh in
-    let outer = rw (← c.self.view_is) at c.requires.outer in
-    let alone = rw (← c.self.view_is) at c.requires.alone in
-    rw (returns-clause-mesh c, ← c.self.view_is) (triangles_hung m (hung m c.args.x c.args.v) c.args.x c.args.v c.self.invariant.sound outer alone (hangs m c.args.x c.args.v c.self.invariant.sound outer alone))
+    rw (← c.self.view_is) (triangles_hung (the_view c.self.inside).mesh _ c.args.x c.args.v c.self.invariant.sound (rw (← c.self.view_is) at c.requires.outer) (rw (← c.self.view_is) at c.requires.alone) (rw (← c.self.view_is) at (returns-clause-links c)))
 
 pub returns-clause-outer : goal.returns-clause-outer
 returns-clause-outer c =
-    let m : Mesh = (the_view c.self.inside).mesh in
-    let outer = rw (← c.self.view_is) at c.requires.outer in
-    let alone = rw (← c.self.view_is) at c.requires.alone in
-    rw (returns-clause-mesh c, ← c.self.view_is) (outer_hung m (hung m c.args.x c.args.v) c.args.x c.args.v c.self.invariant.sound outer (hangs m c.args.x c.args.v c.self.invariant.sound outer alone))
+    rw (← c.self.view_is) (outer_hung (the_view c.self.inside).mesh _ c.args.x c.args.v c.self.invariant.sound (rw (← c.self.view_is) at c.requires.outer) (rw (← c.self.view_is) at (returns-clause-links c)))
 
 pub returns-clause-ends : goal.returns-clause-ends
 returns-clause-ends c =

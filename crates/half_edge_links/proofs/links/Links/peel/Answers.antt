@@ -1,5 +1,6 @@
-use Rattle.std.proofs.Common.{ap}
+use Rattle.std.proofs.Common.{ap, rules}
 use Rattle.half_edge_links.specs.declared.records.HalfEdge.{HalfEdge}
+use Rattle.half_edge_links.specs.Peel.{Peels}
 use Rattle.half_edge_links.proofs.Conditions.{hull_edge, removable}
 use Rattle.half_edge_links.proofs.PeelLemmas.{removable_opened}
 use Rattle.half_edge_links.proofs.TakenLists.{peels_triangle, peels_ends, peels_outer}
@@ -13,27 +14,20 @@ remove_edge-requires c =
     let v = c.half_edge-edge.ensures.valid in
     removable _ _ (removable_opened _ _ c.args.h v.sound (hull_edge _ _ v c.requires) (rw q at c.open_face.ensures.opens))
 
-pub returns-clause-peels : goal.returns-clause-peels
-returns-clause-peels c =
+pub returns : goal.returns
+returns c =
+    let v = c.half_edge-edge.ensures.valid in
+    let can = hull_edge _ _ v c.requires in
     let q = ap (λ (e : HalfEdge). e.face) c.half_edge-edge.ensures.value in
-    record { opened = c.open_face.new.self.mesh; opens = rw q at c.open_face.ensures.opens; removes = c.remove_edge.ensures.removes }
-
-pub returns-clause-triangles : goal.returns-clause-triangles
-returns-clause-triangles c =
-    let v = c.half_edge-edge.ensures.valid in
-    peels_triangle _ _ c.args.h v.sound (hull_edge _ _ v c.requires) (returns-clause-peels c)
-
-pub returns-clause-ends : goal.returns-clause-ends
-returns-clause-ends c =
-    let v = c.half_edge-edge.ensures.valid in
-    peels_ends _ _ c.args.h v.sound (hull_edge _ _ v c.requires) (returns-clause-peels c) (sound_removed _ _ c.args.h c.remove_edge.ensures.removes)
-
-pub returns-clause-outer : goal.returns-clause-outer
-returns-clause-outer c =
-    let v = c.half_edge-edge.ensures.valid in
-    peels_outer _ _ c.args.h v.sound (hull_edge _ _ v c.requires) (returns-clause-peels c) (sound_removed _ _ c.args.h c.remove_edge.ensures.removes)
-
-pub returns-clause-outline : goal.returns-clause-outline
-returns-clause-outline c =
-    let v = c.half_edge-edge.ensures.valid in
-    outline_peeled _ _ c.args.h v.sound (hull_edge _ _ v c.requires) (returns-clause-peels c)
+    let peels : Peels c.args.self.now.mesh c.remove_edge.new.self.mesh c.args.h = record { opened = c.open_face.new.self.mesh; opens = rw q at c.open_face.ensures.opens; removes = c.remove_edge.ensures.removes } in
+    let sound = sound_removed _ _ c.args.h c.remove_edge.ensures.removes in
+    record {
+      peels = peels;
+      triangles = peels_triangle _ _ c.args.h v.sound can peels;
+      ends = peels_ends _ _ c.args.h v.sound can peels sound;
+      outer = peels_outer _ _ c.args.h v.sound can peels sound;
+      room = search rules;
+      sound = v.sound;
+      spoke = search rules;
+      outline = outline_peeled _ _ c.args.h v.sound can peels;
+    }

@@ -1,4 +1,4 @@
-use Rattle.std.proofs.Common.{◌≡◌, length, arith}
+use Rattle.std.proofs.Common.{◌≡◌, length, arith, rules}
 use Rattle.std.proofs.lemmas.List.{length-set}
 use Rattle.half_edge_links.specs.contracts.links.Links.{the_view}
 use Rattle.half_edge_links.specs.Remove.{unlinked, filled}
@@ -30,25 +30,19 @@ rename_face-requires-2-clause-face c =
     let r = last_in_range (the_view c.self.inside).mesh c.args.e c.reversed-t.result c.len.result c.unlink.new.half_edges.items c.self.invariant (rw (← c.self.view_is) at c.requires) c.reversed-t.ensures (omega arith) c.unlink.ensures.items in
     rw (c.rename_face.ensures.len, c.read-odd.ensures, c.deref-4.ensures.value) r.1.face_in
 
-pub fill-requires-clause-even_next : goal.fill-requires-clause-even_next
-fill-requires-clause-even_next c =
+pub fill-requires : goal.fill-requires
+fill-requires c =
     let r = last_in_range (the_view c.self.inside).mesh c.args.e c.reversed-t.result c.len.result c.unlink.new.half_edges.items c.self.invariant (rw (← c.self.view_is) at c.requires) c.reversed-t.ensures (omega arith) c.unlink.ensures.items in
-    r.0.next_in
-
-pub fill-requires-clause-even_prev : goal.fill-requires-clause-even_prev
-fill-requires-clause-even_prev c =
-    let r = last_in_range (the_view c.self.inside).mesh c.args.e c.reversed-t.result c.len.result c.unlink.new.half_edges.items c.self.invariant (rw (← c.self.view_is) at c.requires) c.reversed-t.ensures (omega arith) c.unlink.ensures.items in
-    r.0.prev_in
-
-pub fill-requires-clause-odd_next : goal.fill-requires-clause-odd_next
-fill-requires-clause-odd_next c =
-    let r = last_in_range (the_view c.self.inside).mesh c.args.e c.reversed-t.result c.len.result c.unlink.new.half_edges.items c.self.invariant (rw (← c.self.view_is) at c.requires) c.reversed-t.ensures (omega arith) c.unlink.ensures.items in
-    r.1.next_in
-
-pub fill-requires-clause-odd_prev : goal.fill-requires-clause-odd_prev
-fill-requires-clause-odd_prev c =
-    let r = last_in_range (the_view c.self.inside).mesh c.args.e c.reversed-t.result c.len.result c.unlink.new.half_edges.items c.self.invariant (rw (← c.self.view_is) at c.requires) c.reversed-t.ensures (omega arith) c.unlink.ensures.items in
-    r.1.prev_in
+    record {
+      last = search rules;
+      hole = search rules;
+      small = search rules;
+      even_next = r.0.next_in;
+      even_prev = r.0.prev_in;
+      odd_next = r.1.next_in;
+      odd_prev = r.1.prev_in;
+      apart = search rules;
+    }
 
 pub returns-clause-mesh : goal.returns-clause-mesh
 unfolding unlinked filled
