@@ -1,5 +1,5 @@
 -- The sides of the faces and the outer edges are the two directions of the edges.
-use Rattle.std.proofs.Common.{◌≡◌, ◌≢◌, ℕ, zero, suc, ◌+◌, ◌-◌, ◌*◌, ◌%◌, ◌<◌, ◌≤◌, List, [], ◌∷◌, length, get_or, ◌==◌, if◌then◌else◌, refl, sym, ap, ◌∙◌, inl, inr, arith}
+use Rattle.std.proofs.Common.{◌≡◌, ◌≢◌, ℕ, zero, suc, ◌+◌, ◌-◌, ◌*◌, ◌%◌, ◌<◌, ◌≤◌, List, [], ◌∷◌, length, get_or, refl, sym, ap, ◌∙◌, inl, inr, arith}
 use Rattle.std.specs.Prelude.{ℤ, pos, ◌+ℤ◌, neg_ℤ}
 use Rattle.std.proofs.lemmas.Int.{ints}
 use Rattle.std.proofs.lemmas.Bool.{cases_eq}
@@ -13,20 +13,7 @@ use Rattle.half_edge_links.specs.Taken.{no_ends, no_triangle}
 use Rattle.half_edge_links.proofs.Parts.{rev_of_even, rev_of_odd}
 use Rattle.half_edge_links.proofs.Triangles.{IsTriangle, same_loop, triangle_at as loop_at}
 use Rattle.half_edge_links.proofs.TakenLists.{ends_at, count_ends}
-use Rattle.half_edge_links.proofs.Sums.{sum_to, sums_agree, sums_added, sums_none, sums_exchanged, only_at, at_place, off_place, sum_single, zero_first, zero_last, total_by_place, sum_in_pairs}
-
-same_sum : (a b c d : ℤ) → a ≡ b → c ≡ d → a +ℤ c ≡ b +ℤ d
-same_sum a b c d p q = cc
-
--- g if face k is f, else 0
-abbrev in_face : ℕ → ℕ → ℤ → ℤ
-in_face a f c = if a == f then c else pos 0
-
-face_is : (a f : ℕ) (c : ℤ) → a ≡ f → in_face a f c ≡ c
-face_is a f c is = grind (arith, nat_tests)
-
-face_off : (a f : ℕ) (c : ℤ) → a ≢ f → in_face a f c ≡ pos 0
-face_off a f c off = grind (arith, nat_tests)
+use Rattle.half_edge_links.proofs.Sums.{sum_to, same_sum, sums_agree, sums_added, sums_none, sums_exchanged, only_at, at_place, off_place, sum_single, zero_first, zero_last, total_by_place, sum_in_pairs}
 
 three_first : (c : ℤ) → c ≡ c +ℤ pos 0 +ℤ pos 0
 three_first c = omega (arith, ints)
@@ -63,24 +50,24 @@ module _ (m : Mesh) (s : IsSound m) (f : ℕ → ℕ → ℤ) where
       ∙ ap (sum_to side) count
 
   -- the outer edges
-  over_outline : (k : ℕ) → total (along f) (outer_among m k) ≡ sum_to (λ j. in_face (face m j) 0 (side j)) k
+  over_outline : (k : ℕ) → total (along f) (outer_among m k) ≡ sum_to (λ j. only_at 0 (side j) (face m j)) k
   unfolding side
   over_outline zero = refl
   over_outline (suc k) =
       elim (cases_eq (face m k) 0) [
         | inl is ↦
             let here : outer_among m (suc k) ≡ record { source = origin m k; target = origin m (rev k) } ∷ outer_among m k = grind (arith, nat_tests) in
-            ap (total (along f)) here ∙ swapped (side k) (total (along f) (outer_among m k)) ∙ same_sum _ _ _ _ (over_outline k) (sym (face_is (face m k) 0 (side k) is))
+            ap (total (along f)) here ∙ swapped (side k) (total (along f) (outer_among m k)) ∙ same_sum _ _ _ _ (over_outline k) (sym (at_place 0 (side k) (face m k) is))
         | inr off ↦
             let here : outer_among m (suc k) ≡ outer_among m k = grind (arith, nat_tests) in
-            ap (total (along f)) here ∙ sym (zero_last _) ∙ same_sum _ _ _ _ (over_outline k) (sym (face_off (face m k) 0 (side k) off))
+            ap (total (along f)) here ∙ sym (zero_last _) ∙ same_sum _ _ _ _ (over_outline k) (sym (off_place 0 (side k) (face m k) off))
       ]
     where
       swapped : (a b : ℤ) → a +ℤ b ≡ b +ℤ a
       swapped a b = omega (arith, ints)
 
   -- the three sides of face g
-  over_face : (g : ℕ) → 0 < g → g ≤ length m.face_edges → around f (triangle_at m (face_edge m g)) ≡ sum_to (λ k. in_face (face m k) g (side k)) n
+  over_face : (g : ℕ) → 0 < g → g ≤ length m.face_edges → around f (triangle_at m (face_edge m g)) ≡ sum_to (λ k. only_at g (side k) (face m k)) n
   unfolding side
   over_face g some within =
       let had = s.faces g some within in
@@ -94,9 +81,9 @@ module _ (m : Mesh) (s : IsSound m) (f : ℕ → ℕ → ℤ) where
       let z : ℕ → ℤ = only_at (prev m e) (side (prev m e)) in
       let sums : sum_to (λ k. x k +ℤ y k +ℤ z k) n ≡ side e +ℤ side (next m e) +ℤ side (prev m e) =
       sums_added (λ k. x k +ℤ y k) z n ∙ same_sum _ _ _ _ (sums_added x y n ∙ same_sum _ _ _ _ (sum_single e (side e) n t.h_in) (sum_single (next m e) (side (next m e)) n t.next_in)) (sum_single (prev m e) (side (prev m e)) n t.prev_in) in
-      let each : (k : ℕ) → k < n → in_face (face m k) g (side k) ≡ x k +ℤ y k +ℤ z k = λ k k_in.
+      let each : (k : ℕ) → k < n → only_at g (side k) (face m k) ≡ x k +ℤ y k +ℤ z k = λ k k_in.
       elim (cases_eq (face m k) g) [
-        | inl is ↦ face_is (face m k) g (side k) is ∙ elim (same_loop m e k s t.h_in k_in (omega (arith, had.1, some)) (is ∙ sym had.1)) [
+        | inl is ↦ at_place g (side k) (face m k) is ∙ elim (same_loop m e k s t.h_in k_in (omega (arith, had.1, some)) (is ∙ sym had.1)) [
           | inl q ↦ ap side q ∙ three_first (side e) ∙ same_three _ _ _ _ _ _ (sym (at_place e (side e) k q)) (sym (off_place (next m e) (side (next m e)) k (λ w. t.next_differs (sym w ∙ q)))) (sym (off_place (prev m e) (side (prev m e)) k (λ w. t.prev_differs (sym w ∙ q))))
           | inr (inl q) ↦ ap side q ∙ three_second (side (next m e)) ∙ same_three _ _ _ _ _ _ (sym (off_place e (side e) k (λ w. t.next_differs (sym q ∙ w)))) (sym (at_place (next m e) (side (next m e)) k q)) (sym (off_place (prev m e) (side (prev m e)) k (λ w. t.both_differ (sym q ∙ w))))
           | inr (inr q) ↦ ap side q ∙ three_third (side (prev m e)) ∙ same_three _ _ _ _ _ _ (sym (off_place e (side e) k (λ w. t.prev_differs (sym q ∙ w)))) (sym (off_place (next m e) (side (next m e)) k (λ w. t.both_differ (sym w ∙ q)))) (sym (at_place (prev m e) (side (prev m e)) k q))
@@ -105,12 +92,12 @@ module _ (m : Mesh) (s : IsSound m) (f : ℕ → ℕ → ℤ) where
             let not_e : k ≢ e = λ q. off (ap (face m) q ∙ had.1) in
             let not_next : k ≢ next m e = λ q. off (ap (face m) q ∙ t.face_next ∙ had.1) in
             let not_prev : k ≢ prev m e = λ q. off (ap (face m) q ∙ t.face_prev ∙ had.1) in
-            face_off (face m k) g (side k) off ∙ three_first (pos 0) ∙ same_three _ _ _ _ _ _ (sym (off_place e (side e) k not_e)) (sym (off_place (next m e) (side (next m e)) k not_next)) (sym (off_place (prev m e) (side (prev m e)) k not_prev))
+            off_place g (side k) (face m k) off ∙ three_first (pos 0) ∙ same_three _ _ _ _ _ _ (sym (off_place e (side e) k not_e)) (sym (off_place (next m e) (side (next m e)) k not_next)) (sym (off_place (prev m e) (side (prev m e)) k not_prev))
       ] in
       same_three _ _ _ _ _ _ first second third ∙ sym sums ∙ sym (sums_agree _ _ n each)
 
   -- all faces
-  over_faces : total (around f) (triangles m) ≡ sum_to (λ g. sum_to (λ k. in_face (face m k) (suc g) (side k)) n) (length m.face_edges)
+  over_faces : total (around f) (triangles m) ≡ sum_to (λ g. sum_to (λ k. only_at (suc g) (side k) (face m k)) n) (length m.face_edges)
   unfolding side
   over_faces =
       let count = length-map m.face_edges (triangle_at m) in
@@ -122,26 +109,26 @@ module _ (m : Mesh) (s : IsSound m) (f : ℕ → ℕ → ℤ) where
       ∙ over_face (suc g) (omega arith) (omega (arith, g_in)))
 
   -- each directed edge is an outer one or has one inner face
-  one_face : (k : ℕ) → k < n → side k ≡ in_face (face m k) 0 (side k) +ℤ sum_to (λ g. in_face (face m k) (suc g) (side k)) (length m.face_edges)
+  one_face : (k : ℕ) → k < n → side k ≡ only_at 0 (side k) (face m k) +ℤ sum_to (λ g. only_at (suc g) (side k) (face m k)) (length m.face_edges)
   unfolding side
   one_face k k_in =
       elim (cases_eq (face m k) 0) [
-        | inl is ↦ sym (zero_last (side k)) ∙ same_sum _ _ _ _ (sym (face_is (face m k) 0 (side k) is)) (sym (sums_none _ (length m.face_edges) (λ g g_in. face_off (face m k) (suc g) (side k) (λ q. absurd (omega (arith, q, is))))))
+        | inl is ↦ sym (zero_last (side k)) ∙ same_sum _ _ _ _ (sym (at_place 0 (side k) (face m k) is)) (sym (sums_none _ (length m.face_edges) (λ g g_in. off_place (suc g) (side k) (face m k) (λ q. absurd (omega (arith, q, is))))))
         | inr some ↦
-            let here : sum_to (λ g. in_face (face m k) (suc g) (side k)) (length m.face_edges) ≡ side k =
+            let here : sum_to (λ g. only_at (suc g) (side k) (face m k)) (length m.face_edges) ≡ side k =
             sums_agree _ _ (length m.face_edges) (λ g g_in. elim (cases_eq g (face m k - 1)) [
-              | inl q ↦ face_is (face m k) (suc g) (side k) (omega (arith, q, some)) ∙ sym (at_place (face m k - 1) (side k) g q)
-              | inr q ↦ face_off (face m k) (suc g) (side k) (λ w. q (omega (arith, w))) ∙ sym (off_place (face m k - 1) (side k) g q)
+              | inl q ↦ at_place (suc g) (side k) (face m k) (omega (arith, q, some)) ∙ sym (at_place (face m k - 1) (side k) g q)
+              | inr q ↦ off_place (suc g) (side k) (face m k) (λ w. q (omega (arith, w))) ∙ sym (off_place (face m k - 1) (side k) g q)
             ]) ∙ sum_single (face m k - 1) (side k) (length m.face_edges) (omega (arith, some, (s.edges k k_in).face_in)) in
-            sym (zero_first (side k)) ∙ same_sum _ _ _ _ (sym (face_off (face m k) 0 (side k) some)) (sym here)
+            sym (zero_first (side k)) ∙ same_sum _ _ _ _ (sym (off_place 0 (side k) (face m k) some)) (sym here)
       ]
 
   pub add_up : total (both_ways f) (ends m) ≡ total (around f) (triangles m) +ℤ total (along f) (outline m)
   add_up =
       over_edges
       ∙ sums_agree _ _ n one_face
-      ∙ sums_added (λ k. in_face (face m k) 0 (side k)) (λ k. sum_to (λ g. in_face (face m k) (suc g) (side k)) (length m.face_edges)) n
-      ∙ same_sum _ _ _ _ (sym (over_outline n)) (sums_exchanged (λ k g. in_face (face m k) (suc g) (side k)) n (length m.face_edges) ∙ sym over_faces)
+      ∙ sums_added (λ k. only_at 0 (side k) (face m k)) (λ k. sum_to (λ g. only_at (suc g) (side k) (face m k)) (length m.face_edges)) n
+      ∙ same_sum _ _ _ _ (sym (over_outline n)) (sums_exchanged (λ k g. only_at (suc g) (side k) (face m k)) n (length m.face_edges) ∙ sym over_faces)
       ∙ swapped (total (along f) (outline m)) (total (around f) (triangles m))
     where
       swapped : (a b : ℤ) → a +ℤ b ≡ b +ℤ a

@@ -25,12 +25,6 @@ module _ (m new : Mesh) (v f a n g : ℕ) (s : IsSound m) (inner : IsInnerEdge m
   n_even : n % 2 ≡ 0
   n_even = rw at_n s.even
 
-  two_more : (n + 2) % 2 ≡ 0
-  two_more = let e = n_even in omega arith
-
-  four_more : (n + 4) % 2 ≡ 0
-  four_more = let e = n_even in omega arith
-
   pub rev0 : rev n ≡ n + 1
   rev0 = rev_of_even n n_even
 
@@ -38,22 +32,16 @@ module _ (m new : Mesh) (v f a n g : ℕ) (s : IsSound m) (inner : IsInnerEdge m
   rev1 = rev_of_odd n n_even
 
   pub rev2 : rev (n + 2) ≡ n + 3
-  rev2 = rev_of_even (n + 2) two_more ∙ omega arith
+  rev2 = rev_of_even (n + 2) (omega (arith, n_even)) ∙ omega arith
 
   pub rev3 : rev (n + 3) ≡ n + 2
-  rev3 = let e = rev_of_odd (n + 2) two_more in let q : n + 2 + 1 ≡ n + 3 = omega arith in rw (← q) e
+  rev3 = let q : n + 2 + 1 ≡ n + 3 = omega arith in rw (← q) (rev_of_odd (n + 2) (omega (arith, n_even)))
 
   pub rev4 : rev (n + 4) ≡ n + 5
-  rev4 = rev_of_even (n + 4) four_more ∙ omega arith
+  rev4 = rev_of_even (n + 4) (omega (arith, n_even)) ∙ omega arith
 
   pub rev5 : rev (n + 5) ≡ n + 4
-  rev5 = let e = rev_of_odd (n + 4) four_more in let q : n + 4 + 1 ≡ n + 5 = omega arith in rw (← q) e
-
-  face_some : 0 < f
-  face_some = rw at_f inner.1
-
-  face_within : f ≤ g
-  face_within = rw (at_f, at_g) (s.edges a inner.0).face_in
+  rev5 = let q : n + 4 + 1 ≡ n + 5 = omega arith in rw (← q) (rev_of_odd (n + 4) (omega (arith, n_even)))
 
   pub kept : (h : ℕ) → h < n → IsAway m a h → edge_at new.half_edges h ≡ edge_at m.half_edges h
   kept h within w = i.other_edges h within w.first w.second w.third
@@ -134,7 +122,7 @@ module _ (m new : Mesh) (v f a n g : ℕ) (s : IsSound m) (inner : IsInnerEdge m
       })
 
   first_sound : IsSoundEdge new a × IsSoundEdge new (n + 2) × IsSoundEdge new (n + 1)
-  first_sound = face_sound a (n + 2) (n + 1) _ f (omega (arith, at_n, round.h_in)) (omega arith, omega arith) (omega arith, omega arith) (λ q. absurd (omega arith)) (omega (arith, face_within)) refl i.first i.from_second i.to_first (ap (origin new) rev2 ∙ i.to_second.origin) (ap (origin new) rev1 ∙ i.from_first.origin) i.named
+  first_sound = face_sound a (n + 2) (n + 1) _ f (omega (arith, at_n, round.h_in)) (omega arith, omega arith) (omega arith, omega arith) (λ q. absurd (omega arith)) (omega (arith, at_f, at_g, (s.edges a inner.0).face_in)) refl i.first i.from_second i.to_first (ap (origin new) rev2 ∙ i.to_second.origin) (ap (origin new) rev1 ∙ i.from_first.origin) i.named
 
   second_sound : IsSoundEdge new (next m a) × IsSoundEdge new (n + 4) × IsSoundEdge new (n + 3)
   second_sound = face_sound (next m a) (n + 4) (n + 3) _ (g + 1) (omega (arith, at_n, round.next_in)) (omega arith, omega arith) (omega arith, omega arith) (λ q. absurd (omega arith)) (omega arith) (ap (origin m) round.next_next) i.second i.from_third i.to_second (ap (origin new) rev4 ∙ i.to_third.origin) (ap (origin new) rev3 ∙ i.from_second.origin) i.second_face
@@ -183,7 +171,7 @@ module _ (m new : Mesh) (v f a n g : ℕ) (s : IsSound m) (inner : IsInnerEdge m
   outer_kept : (h : ℕ) → new.outer_edge ≡ Some h → (h < length new.half_edges) × (face new h ≡ 0)
   outer_kept h named =
       let had = s.outer h (sym i.outer_edge ∙ named) in
-      let at = kept h (omega (arith, had.0)) (away_by_face h (λ q. absurd (omega (arith, face_some)))) in
+      let at = kept h (omega (arith, had.0)) (away_by_face h (λ q. absurd (omega (arith, at_f, inner.1)))) in
       (omega (arith, i.edge_count, had.0), cc)
 
   pub sound_after_insert : IsSound new

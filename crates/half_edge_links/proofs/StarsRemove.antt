@@ -51,9 +51,6 @@ module _ (m new : Mesh) (e : ℕ) (s : IsSound m) (can : IsUnlinkable m e) (r : 
   t_in : rev e < length m.half_edges
   t_in = rev_within _ _ s.even can.within
 
-  s' : IsSound new
-  s' = sound_removed m new e r
-
   module _ (among : ℕ → Bool) (closed : IsClosed new among) where
     -- the two sides of the edge that goes stand for the edges before them round their vertices
     before : ℕ → Bool
@@ -74,7 +71,7 @@ module _ (m new : Mesh) (e : ℕ) (s : IsSound m) (can : IsUnlinkable m e) (r : 
     -- from an edge of the new mesh to the next one round its start
     turned : (b k : ℕ) → IsLeft m e b → IsLeft m e k → next new (nm b) ≡ nm k → among (nm k) ≡ true → before (rev b) ≡ true
     turned b k l j after is =
-        let back : prev new (nm k) ≡ nm b = ap (prev new) (sym after) ∙ (s'.edges _ (name_in m new e s can r b l)).prev_next in
+        let back : prev new (nm k) ≡ nm b = ap (prev new) (sym after) ∙ ((sound_removed m new e r).edges _ (name_in m new e s can r b l)).prev_next in
         plain (rev b) (side_left m e b s l) ∙ ap among (sym (ap rev back ∙ rev_at m new e s can r b l)) ∙ closed (nm k) (name_in m new e s can r k j) is
 
     closed_at_e : before e ≡ true → before (rev (prev m e)) ≡ true
