@@ -5,3 +5,4 @@ pub mod law;
 pub mod line_side_info;
 pub mod math;
 pub mod point;
+mod projection;

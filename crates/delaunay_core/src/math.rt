@@ -1,6 +1,6 @@
-ghost use Rattle.std.specs.Prelude.{◌≡◌, ◌↔◌, IsTrue, IsOk, OnErr, IsErrOf};
+ghost use Rattle.std.specs.Prelude.{◌≡◌, ◌≢◌, ◌↔◌, IsTrue, IsOk, OnErr, IsErrOf};
 ghost use Rattle.plane.specs.Fraction.{Point, whole as fraction};
-ghost use Rattle.plane.specs.Side.{side, TurnsLeft};
+ghost use Rattle.plane.specs.Side.{side, right, TurnsLeft};
 ghost use Rattle.plane.specs.Circle.{InsideCircle};
 ghost use Rattle.plane.specs.Tests.{IsCoordinate, InRange};
 ghost use Rattle.delaunay_core.specs.Place.{place_of};
@@ -8,6 +8,7 @@ ghost use Rattle.delaunay_core.specs.declared.math.InsertionError.TheVariants.{T
 
 use crate::line_side_info::LineSideInfo;
 use crate::point::{HasPosition, Point2, SpadeNum};
+pub use crate::projection::{PointProjection, project_point};
 use thiserror::Error;
 
 /// The greatest absolute value of a coordinate, 2 to the 29th.
@@ -76,6 +77,21 @@ pub trait PlaneTests<S: SpadeNum> {
     ghost sites_are_covered: { (t : Self) (p : Point) → sites t p → covered t p };
 
     ghost covered_are_in_range: { (t : Self) (p : Point) → covered t p → InRange p };
+}
+
+/// Whether `query_point` lies on the left of the line from `p1` to `p2` or on it. All three are covered.
+pub fn is_ordered_ccw<S: SpadeNum, P: PlaneTests<S>>(
+    p1: Point2<S>,
+    p2: Point2<S>,
+    query_point: Point2<S>,
+    tests: &P,
+) -> bool
+    requires p1_covered { P.covered tests.now (place_of S.whole p1) }
+    requires p2_covered { P.covered tests.now (place_of S.whole p2) }
+    requires query_covered { P.covered tests.now (place_of S.whole query_point) }
+    ensures { IsTrue result ↔ (side (fraction (place_of S.whole p1)) (fraction (place_of S.whole p2)) (fraction (place_of S.whole query_point)) ≢ right) }
+{
+    tests.side(p1, p2, query_point).is_on_left_side_or_on_line()
 }
 
 #[cfg(test)]

@@ -114,7 +114,8 @@ impl<S: SpadeNum> Point2<S> {
     }
 }
 
-fn difference<S: SpadeNum>(from: S, to: S) -> i64
+// The way from one coordinate to another.
+pub(crate) fn difference<S: SpadeNum>(from: S, to: S) -> i64
     requires from { IsCoordinate (S.whole from) }
     requires to { IsCoordinate (S.whole to) }
     ensures value { result ≡ S.whole to *ℤ pos 1 -ℤ S.whole from *ℤ pos 1 }

@@ -1,0 +1,163 @@
+//! Where a point falls on the line of an edge.
+ghost use Rattle.std.specs.Prelude.{◌≡◌, ◌≢◌, ◌↔◌, ◌≤◌, pos, ◌-ℤ◌, ◌*ℤ◌, ◌<ℤ◌, ◌≤ℤ◌, IsTrue, ⊤, unsigned_abs};
+ghost use Rattle.plane.specs.Fraction.{whole as fraction};
+ghost use Rattle.plane.specs.Circle.{gap};
+ghost use Rattle.plane.specs.Tests.{InRange};
+ghost use Rattle.delaunay_core.specs.Place.{place_of};
+ghost use Rattle.delaunay_core.specs.Projection.{along};
+
+use crate::point::{Point2, SpadeNum, difference};
+use std::alloc::AllocError;
+use std::fmt;
+use std::marker::PhantomData;
+
+/// Where a point falls on the line of an edge. `S` names the scalar of the points; both numbers are whole.
+#[derive_where(Copy, PartialEq, Eq, PartialOrd, Ord, Hash)]
+pub struct PointProjection<S> {
+    factor: i64,
+    length_2: i64,
+    scalar: PhantomData<S>,
+    ghost factor_fits: { unsigned_abs factor ≤ 2305843009213693952 },
+    ghost rest_fits: { unsigned_abs (length_2 -ℤ factor) ≤ 2305843009213693952 },
+}
+
+impl<S> Clone for PointProjection<S> {
+    ghost is_clone = { λ it copy. copy ≡ it };
+
+    ghost is_infallible = { λ _. ⊤ };
+
+    fn clone(&self) -> Result<Self, AllocError> {
+        Ok(*self)
+    }
+}
+
+impl<S> fmt::Debug for PointProjection<S> {
+    fn fmt<W: fmt::Write>(&self, f: &mut fmt::Formatter<W>) -> fmt::Result {
+        f.debug_struct("PointProjection")
+            .field("factor", &self.factor)
+            .field("length_2", &self.length_2)
+            .finish()
+    }
+}
+
+/// Where `query_point` falls on the line of the edge from `p1` to `p2`, all three in range. The factor is the dot product
+/// of the ways from `p1` to the two others, and `length_2` is the squared length of the edge.
+pub fn project_point<S: SpadeNum>(
+    p1: Point2<S>,
+    p2: Point2<S>,
+    query_point: Point2<S>,
+) -> PointProjection<S>
+    requires p1_in_range { InRange (place_of S.whole p1) }
+    requires p2_in_range { InRange (place_of S.whole p2) }
+    requires query_in_range { InRange (place_of S.whole query_point) }
+    ensures factor { result.factor ≡ along (place_of S.whole p1) (place_of S.whole p2) (place_of S.whole query_point) }
+    ensures length_2 { result.length_2 ≡ gap (fraction (place_of S.whole p1)) (fraction (place_of S.whole p2)) }
+{
+    let factor = product(difference(p1.x, p2.x), difference(p1.x, query_point.x))
+        + product(difference(p1.y, p2.y), difference(p1.y, query_point.y));
+    PointProjection {
+        factor,
+        length_2: p1.distance_2(p2),
+        scalar: PhantomData,
+    }
+}
+
+fn product(a: i64, b: i64) -> i64
+    requires a_bound { unsigned_abs a ≤ 1073741824 }
+    requires b_bound { unsigned_abs b ≤ 1073741824 }
+    ensures value { result ≡ a *ℤ b }
+    ensures bound { unsigned_abs result ≤ 1152921504606846976 }
+{
+    a * b
+}
+
+impl<S> PointProjection<S> {
+    /// Whether the point falls before the start of the edge.
+    pub fn is_before_edge(&self) -> bool
+        ensures { IsTrue result ↔ (self.now.factor <ℤ pos 0) }
+    {
+        self.factor < 0
+    }
+
+    /// Whether the point falls behind the end of the edge.
+    pub fn is_behind_edge(&self) -> bool
+        ensures { IsTrue result ↔ (self.now.length_2 <ℤ self.now.factor) }
+    {
+        self.factor > self.length_2
+    }
+
+    /// Whether the point falls on the edge, its ends among it.
+    pub fn is_on_edge(&self) -> bool
+        ensures { IsTrue result ↔ ((pos 0 ≤ℤ self.now.factor) × (self.now.factor ≤ℤ self.now.length_2)) }
+    {
+        !self.is_before_edge() && !self.is_behind_edge()
+    }
+
+    /// Where the point falls on the line of the same edge in the other direction.
+    pub fn reversed(&self) -> Self
+        ensures factor { result.factor ≡ self.now.length_2 -ℤ self.now.factor }
+        ensures length_2 { result.length_2 ≡ self.now.length_2 }
+    {
+        PointProjection {
+            factor: self.length_2 - self.factor,
+            length_2: self.length_2,
+            scalar: PhantomData,
+        }
+    }
+
+    /// The part of the edge that lies before the point, as a fraction: the factor over the squared length, which is not 0.
+    pub fn relative_position(&self) -> (i64, i64)
+        requires { self.now.length_2 ≢ pos 0 }
+        ensures factor { result.0 ≡ self.now.factor }
+        ensures length_2 { result.1 ≡ self.now.length_2 }
+    {
+        (self.factor, self.length_2)
+    }
+}
+
+#[cfg(test)]
+mod tests {
+    use super::*;
+    use std::test::Fail;
+
+    #[test]
+    fn before_the_edge_and_behind_the_reversed_one(rt: HostRuntime) {
+        let projection = project_point(Point2::new(1i64, 1), Point2::new(4, 5), Point2::new(0, 0));
+        assert!(rt; projection.is_before_edge() && !projection.is_on_edge());
+        assert_eq!(rt; relative_position(&projection), Some((-7, 25)));
+        let reversed = projection.reversed();
+        assert!(rt; reversed.is_behind_edge() && !reversed.is_on_edge());
+        assert_eq!(rt; relative_position(&reversed), Some((32, 25)));
+        assert_eq!(rt; reversed.reversed(), projection);
+    }
+
+    // The relative position, where the edge has a length.
+    fn relative_position<S>(projection: &PointProjection<S>) -> Option<(i64, i64)> {
+        if projection.length_2 == 0 {
+            None
+        } else {
+            Some(projection.relative_position())
+        }
+    }
+
+    #[test]
+    fn on_the_edge_with_its_ends(rt: HostRuntime) {
+        let (from, to) = (Point2::new(-2i8, 0), Point2::new(2, 0));
+        for x in [-2i8, 0, 2] {
+            assert!(rt;
+                project_point(from, to, Point2::new(x, 7)).is_on_edge(),
+                "at {x}"
+            );
+        }
+        assert!(rt; project_point(from, to, Point2::new(-3, 7)).is_before_edge());
+        assert!(rt; project_point(from, to, Point2::new(3, 7)).is_behind_edge());
+    }
+
+    #[test]
+    fn shown_by_its_numbers(rt: HostRuntime) -> Result<(), Fail> {
+        let projection = project_point(Point2::new(0, 0), Point2::new(2, 0), Point2::new(1i64, 1));
+        let text = format!(in rt.alloc(); "{projection:?}")?;
+        assert_eq!(rt; text.as_str(), "PointProjection { factor: 2, length_2: 4 }");
+        Ok(())
+    }
+}
