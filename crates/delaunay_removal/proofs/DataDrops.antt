@@ -5,7 +5,7 @@ use Rattle.half_edge_links.specs.Mesh.{origin, rev}
 use Rattle.half_edge_links.specs.Triangles.{Triangle, triangles}
 use Rattle.half_edge_mesh.specs.Contents.{Contents, IsWhole}
 use Rattle.half_edge_mesh.specs.Removal.{FullEdge, FullFace, full_edges, full_faces, renumbered_edge, renumbered_face, DropsVertex, LeavesMesh}
-use Rattle.half_edge_mesh.proofs.HubFaces.{count_faces}
+use Rattle.half_edge_mesh.proofs.Hubs.{count_faces}
 use Rattle.drawn_mesh.proofs.FaceChanges.{contains_map}
 use Rattle.plane.specs.Fraction.{Point}
 use Rattle.delaunay_legalization.specs.Shape.{IsKept}

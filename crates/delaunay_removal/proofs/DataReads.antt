@@ -12,7 +12,7 @@ use Rattle.half_edge_links.specs.Triangles.{Triangle, triangles, triangle_at}
 use Rattle.half_edge_links.proofs.TakenLists.{ends_at, count_ends}
 use Rattle.half_edge_mesh.specs.Contents.{Contents, IsWhole}
 use Rattle.half_edge_mesh.specs.Removal.{FullEdge, FullFace, full_edges, full_faces, renumbered_edge, renumbered_face}
-use Rattle.half_edge_mesh.proofs.HubFaces.{count_faces}
+use Rattle.half_edge_mesh.proofs.Hubs.{count_faces}
 use Rattle.half_edge_mesh.proofs.TakenOut.{length-full_edges, get_or-full_edges, get_or-full_faces}
 use Rattle.half_edge_mesh.proofs.TwoEdges.{item_at}
 use Rattle.delaunay_legalization.specs.State.{state_of}

@@ -20,7 +20,7 @@ use Rattle.half_edge_mesh.proofs.TakenEdges.{listed_face}
 use Rattle.half_edge_mesh.proofs.TakenOut.{length-full_edges, get_or-full_edges}
 use Rattle.half_edge_mesh.specs.Hole.{IsHub, HasFreeTip, HasDataOf, FillsWithFan}
 use Rattle.half_edge_mesh.proofs.Filtered.{sorted_out, Contains-filter}
-use Rattle.half_edge_mesh.proofs.HubFaces.{no_face_of, count_faces, round_faces, round_faces_are, faces_round}
+use Rattle.half_edge_mesh.proofs.Hubs.{no_face_of, count_faces, round_faces, round_faces_are, faces_round}
 use Rattle.half_edge_mesh.proofs.Touching.{has_corner, lacks_corner, touches, misses, touches_it, corner_there, corners_off, ends_off}
 use Rattle.half_edge_mesh.proofs.TurnedEdge.{IsTurned, value_at}
 use Rattle.half_edge_mesh.proofs.Turning.{all_zip-push}

@@ -13,6 +13,5 @@ pub mod HoleSteps
 pub mod Hubs
 pub mod Filtered
 pub mod Touching
-pub mod HubFaces
 pub mod TurnedEdge
 pub mod HoleFilled

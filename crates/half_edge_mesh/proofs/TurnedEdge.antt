@@ -27,9 +27,8 @@ use Rattle.half_edge_mesh.proofs.TwoEdges.{item_at}
 use Rattle.half_edge_mesh.specs.Hole.{IsHub, HasDataOf, HasFreeTip, fan_edges, fan_faces}
 use Rattle.half_edge_mesh.proofs.Outlines.{listed, passed_over}
 use Rattle.half_edge_mesh.proofs.Filtered.{filter_gains, filter_loses, filter_stays, Contains-filter}
-use Rattle.half_edge_mesh.proofs.HubFaces.{count_faces, no_face_of}
 use Rattle.half_edge_mesh.proofs.Touching.{has_corner, lacks_corner, touches, misses, touches_it, touches_not, corner_there, corner_missing, with_other_ends, with_other_corners, full_edges-set, full_faces-set, along_between}
-use Rattle.half_edge_mesh.proofs.Hubs.{hub_after, start_after, tip_after, ends_after}
+use Rattle.half_edge_mesh.proofs.Hubs.{count_faces, no_face_of, hub_after, start_after, tip_after, ends_after}
 
 other_way : {D U : Type 0} (e : FullEdge D U) (a b : ℕ) → IsBetween e (joins a b) → IsBetween e (joins b a)
 other_way e a b (inl q) = inr q
