@@ -5,7 +5,7 @@ use crate::reads::{Edge, Mesh, directed, edge_at, vertex};
 use half_edge_links::{HalfEdge, ReserveError};
 use half_edge_mesh::{FixedFaceHandle, FixedUndirectedEdgeHandle, IsolateVertexResult};
 use half_edge_voronoi::{AsVoronoiEdge, AsVoronoiFace};
-use std::alloc::{AllocError, Global};
+use std::alloc::Global;
 use std::cmp::Ordering;
 use std::fmt::Debug;
 use std::hash::{DefaultHasher, Hash, Hasher};
@@ -17,67 +17,66 @@ fn hash_of<T: Hash>(value: &T) -> u64 {
 }
 
 /// Whether a value equals its copy and hashes as that does, and differs from another, which it comes before.
-fn comes_before<T: Clone + Ord + Hash + Drop>(
-    value: &T,
-    later: &T,
-) -> Result<[bool; 6], AllocError> {
-    let copy = value.clone()?;
-    Ok([
+fn comes_before<T: Clone + Ord + Hash + Drop>(value: &T, later: &T) -> [bool; 6] {
+    let Ok(copy) = value.clone() else {
+        return [false; 6];
+    };
+    [
         copy == *value,
         hash_of(&copy) == hash_of(value),
         hash_of(later) != hash_of(value),
         *value != *later,
         value.partial_cmp(later) == Some(Ordering::Less),
         later.cmp(value) == Ordering::Greater,
-    ])
+    ]
 }
 
 /// The same of the first two names of each kind.
-fn names() -> Result<[[bool; 6]; 4], AllocError> {
-    Ok([
-        comes_before(&vertex(0), &vertex(1))?,
-        comes_before(&directed(0), &directed(1))?,
+fn names() -> [[bool; 6]; 4] {
+    [
+        comes_before(&vertex(0), &vertex(1)),
+        comes_before(&directed(0), &directed(1)),
         comes_before(
             &FixedUndirectedEdgeHandle::from_index(0),
             &FixedUndirectedEdgeHandle::from_index(1),
-        )?,
+        ),
         comes_before(
             &FixedFaceHandle::from_index(0),
             &FixedFaceHandle::from_index(1),
-        )?,
-    ])
+        ),
+    ]
 }
 
 #[test]
 fn names_are_copied_ordered_and_hashed(rt: HostRuntime) {
-    assert_eq!(rt; names(), Ok([[true; 6]; 4]));
+    assert_eq!(rt; names(), [[true; 6]; 4]);
 }
 
 /// The same of two edges, and of their undirected edges, starts and left faces, the last the other way round.
-fn handles(edge: Edge<'_>, later: Edge<'_>) -> Result<[[bool; 6]; 4], AllocError> {
-    Ok([
-        comes_before(&edge, &later)?,
-        comes_before(&edge.as_undirected(), &later.as_undirected())?,
-        comes_before(&edge.from(), &later.from())?,
-        comes_before(&later.face(), &edge.face())?,
-    ])
+fn handles(edge: Edge<'_>, later: Edge<'_>) -> [[bool; 6]; 4] {
+    [
+        comes_before(&edge, &later),
+        comes_before(&edge.as_undirected(), &later.as_undirected()),
+        comes_before(&edge.from(), &later.from()),
+        comes_before(&later.face(), &edge.face()),
+    ]
 }
 
 /// The same of their Voronoi forms, and of the vertices that these start at.
-fn voronoi_forms(edge: Edge<'_>, later: Edge<'_>) -> Result<[[bool; 6]; 4], AllocError> {
+fn voronoi_forms(edge: Edge<'_>, later: Edge<'_>) -> [[bool; 6]; 4] {
     let (across, later_across) = (edge.as_voronoi_edge(), later.as_voronoi_edge());
-    Ok([
-        comes_before(&across, &later_across)?,
-        comes_before(&across.as_undirected(), &later_across.as_undirected())?,
-        comes_before(&across.face(), &later_across.face())?,
-        comes_before(&across.from(), &later_across.from())?,
-    ])
+    [
+        comes_before(&across, &later_across),
+        comes_before(&across.as_undirected(), &later_across.as_undirected()),
+        comes_before(&across.face(), &later_across.face()),
+        comes_before(&across.from(), &later_across.from()),
+    ]
 }
 
 /// All of that, of edge 0, which has face 1 on its left, and of edge 3 the other way, which has the outer face there.
 fn first_and_fourth(mesh: &Mesh) -> Option<[[[bool; 6]; 4]; 2]> {
     let (edge, later) = (edge_at(mesh, directed(0))?, edge_at(mesh, directed(3))?);
-    Some([handles(edge, later).ok()?, voronoi_forms(edge, later).ok()?])
+    Some([handles(edge, later), voronoi_forms(edge, later)])
 }
 
 #[test]
