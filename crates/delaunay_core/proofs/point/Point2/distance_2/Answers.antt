@@ -1,5 +1,5 @@
 use Rattle.std.proofs.Common.{◌≡◌, ◌≤◌, ◌∙◌, ap, w64, to_z, of_z, arith, unsigned_abs}
-use Rattle.std.specs.Prelude.{ℤ, ◌+ℤ◌, ◌*ℤ◌}
+use Rattle.std.specs.Prelude.{ℤ, pos, ◌+ℤ◌, ◌-ℤ◌, ◌*ℤ◌}
 use Rattle.std.proofs.lemmas.Int.{ints}
 use Rattle.delaunay_core.proofs.point.Point2.distance_2.Goals as goal
 
@@ -14,6 +14,7 @@ added r s x y r_bound s_bound e f = omega (arith, ints)
 
 pub returns : goal.returns
 returns g c =
+    let dy : c.difference-2.result ≡ g.S.SpadeNum.whole c.args.other.y *ℤ pos 1 -ℤ g.S.SpadeNum.whole c.args.self.now.y *ℤ pos 1 = c.difference-2.ensures.value in
     added _ _ _ _ c.square.ensures.bound c.square-2.ensures.bound
     (squared _ _ _ c.difference.ensures.bound c.difference.ensures.value c.square.ensures.value)
-    (squared _ _ _ c.difference-2.ensures.bound c.difference-2.ensures.value c.square-2.ensures.value)
+    (squared _ _ _ c.difference-2.ensures.bound dy c.square-2.ensures.value)
