@@ -1,4 +1,4 @@
-use Rattle.std.proofs.Common.{◌∙◌, sym}
+use Rattle.std.proofs.Common.{◌∙◌, refl, sym}
 use Rattle.delaunay_edit.proofs.Removing.{read_place}
 use Rattle.delaunay_edit.proofs.triangulation_core.TriangulationCore.locate_and_remove.Goals as goal
 
@@ -12,3 +12,6 @@ returns-in_ok-remove-in-Some-clause-ok g c =
       plain = removed.plain;
       others = removed.data;
     }
+
+pub returns-in-None-clause-apart : goal.returns-in-None-clause-apart
+returns-in-None-clause-apart g c = λ _. (refl, refl)

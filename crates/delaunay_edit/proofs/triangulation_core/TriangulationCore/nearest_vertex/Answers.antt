@@ -1,4 +1,4 @@
-use Rattle.std.proofs.Common.{ℕ, arith, map, length}
+use Rattle.std.proofs.Common.{ℕ, arith, map}
 use Rattle.std.specs.Prelude.{ℤ}
 use Rattle.std.proofs.lemmas.List.{length-map}
 use Rattle.plane.specs.Fraction.{whole}
