@@ -33,11 +33,7 @@ pub record IsHullEdge (m : Mesh) (h : ℕ) : Type 0 where
 
 -- a vertex with three faces round it: o, the next and the one after it are all edges out of it
 pub record IsFullWheel (m : Mesh) (o : ℕ) : Type 0 where
-  pub within : o < length m.half_edges
-  pub first_inner : 0 < face m o
-  pub second_inner : 0 < face m (turn m o)
-  pub third_inner : 0 < face m (turn m (turn m o))
-  pub round : turn m (turn m (turn m o)) ≡ o
+  pub wheel : IsWheel m o
   pub first_apart : face m o ≢ face m (turn m o)
   pub second_apart : face m (turn m o) ≢ face m (turn m (turn m o))
   pub third_apart : face m (turn m (turn m o)) ≢ face m o
@@ -77,12 +73,7 @@ pub record IsFanOfOne (m : Mesh) (z : ℕ) : Type 0 where
 -- a vertex with k inner faces, one after the other from edge h on, and the outer face between the last edge
 -- and h
 pub record IsFullStrip (m : Mesh) (h k : ℕ) : Type 0 where
-  pub within : h < length m.half_edges
-  pub outer : face m (rev h) ≡ 0
-  pub inner : (i : ℕ) → i < k → 0 < face m (spoke m h i)
-  pub last : face m (spoke m h k) ≡ 0
-  pub gap : next m (rev h) ≡ spoke m h k
-  pub far : next m (spoke m h k) ≢ rev (spoke m h k)
+  pub strip : IsStrip m h k
   pub apart : (i j : ℕ) → i < j → j < k → face m (spoke m h i) ≢ face m (spoke m h j)
   pub ends : (i : ℕ) → i ≤ k → origin m (rev (spoke m h i)) ≢ origin m h
   pub only : (g : ℕ) → g < length m.half_edges → origin m g ≡ origin m h → (i : ℕ) × (i ≤ k) × (g ≡ spoke m h i)
@@ -175,11 +166,7 @@ full_wheel m o v w =
       | inr b ↦ elim b [ inl q ↦ inr (inr (ap (turn m) q)) | inr q ↦ inl (ap (turn m) q ∙ w.round) ]
     ]) in
     record {
-      within = w.within;
-      first_inner = w.first_inner;
-      second_inner = w.second_inner;
-      third_inner = w.third_inner;
-      round = w.round;
+      wheel = w;
       first_apart = λ q. turned_apart m v o w.within w.first_inner (sym q);
       second_apart = λ q. turned_apart m v a a_in w.second_inner (sym q);
       third_apart = λ q. turned_apart m v z z_in w.third_inner (ap (face m) w.round ∙ sym q);
@@ -210,12 +197,7 @@ full_strip m h k v f =
     ap (λ j. rev (prev m j)) (sym f.gap) ∙ ap rev (s.edges (rev h) (rev_within _ _ s.even f.within)).prev_next ∙ rev-rev h in
     let closed : IsClosed m (among_steps (turn m) h k) = λ g g_in is. steps_closed (turn m) h k round g is in
     record {
-      within = f.within;
-      outer = f.outer;
-      inner = f.inner;
-      last = f.last;
-      gap = f.gap;
-      far = f.far;
+      strip = f;
       apart = λ i j less j_in same.
           let one = same_spoke m v (spoke m h i) (at i).0 (spoke m h j) (at j).0 (f.inner i (omega arith)) (sym same) ((at j).1 ∙ sym (at i).1) in
           let d : i + (j - i) ≡ j = omega arith in
@@ -226,9 +208,6 @@ full_strip m h k v f =
       ends = λ i less q. v.apart (spoke m h i) (at i).0 ((at i).1 ∙ sym q);
       only = λ g g_in same. from_steps (turn m) h k g (v.stars (among_steps (turn m) h k) closed h g f.within g_in (sym same) (to_steps (turn m) h k 0 (omega arith)));
     }
-
-pub strip_of : (m : Mesh) (h k : ℕ) → IsFullStrip m h k → IsStrip m h k
-strip_of m h k f = record { within = f.within; outer = f.outer; inner = f.inner; last = f.last; gap = f.gap; far = f.far }
 
 -- the two faces of an edge differ, if one is an inner one
 pub faces_apart : (m : Mesh) (e : ℕ) → IsValid m → e < length m.half_edges → 0 < face m e → face m e ≢ face m (rev e)

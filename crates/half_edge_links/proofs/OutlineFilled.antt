@@ -53,11 +53,11 @@ module _ (m one two : Mesh) (o : ℕ) (s : IsSound m) (w : IsFullWheel m o) (op 
   at_before = subst Second (op.prev o ∙ wheel.before_o m o s w) (inr (here.prev_in, here.face_prev))
 
   twin_within : rev o < length m.half_edges
-  twin_within = rev_within o _ s.even w.within
+  twin_within = rev_within o _ s.even w.wheel.within
 
   traced_two : TracesOuter m two nm (IsLeftOver m p.opened two (λ h. h) Second o (wheel.s2 m o s w one op p.opened two p.opens p.removes) (wheel.can m o s w one op p.opened two p.opens p.removes) p.removes)
   traced_two =
-      let first = traces_opened m m one (λ h. h) (λ j. ⊥) (face m z) w.third_inner (omega (arith, (wheel.inner_z m o s w).0, (wheel.inner_z m o s w).1)) op (traces_itself m) in
+      let first = traces_opened m m one (λ h. h) (λ j. ⊥) (face m z) w.wheel.third_inner (omega (arith, (wheel.inner_z m o s w).0, (wheel.inner_z m o s w).1)) op (traces_itself m) in
       let q = wheel.peelable_first m o s w one op in
       let second = traces_opened m one p.opened (λ h. h) First (face one o) q.inner (omega (arith, q.inner, (s1.edges o q.within).face_in)) p.opens first in
       traces_removed m p.opened two (λ h. h) Second o (wheel.s2 m o s w one op p.opened two p.opens p.removes) (wheel.can m o s w one op p.opened two p.opens p.removes) p.removes
@@ -79,7 +79,7 @@ module _ (m one two : Mesh) (o : ℕ) (s : IsSound m) (w : IsFullWheel m o) (op 
       let l = over.left in
       elim over.was [
         | inl (inl none) ↦ absurd none
-        | inl (inr a) ↦ elim (same_loop m (turn m (turn m o)) k s t3.h_in a.0 w.third_inner a.1) [
+        | inl (inr a) ↦ elim (same_loop m (turn m (turn m o)) k s t3.h_in a.0 w.wheel.third_inner a.1) [
           | inl q ↦ inr (inl (sym over.is ∙ ap nm q))
           | inr (inl q) ↦ inr (inr (inl (sym over.is ∙ ap nm q ∙ sym nz)))
           | inr (inr q) ↦ absurd (l.other_side (q ∙ wheel.before_z m o s w))

@@ -24,9 +24,9 @@ removable_strip m h f = record {
 
 pub peelable_strip : (m : Mesh) (h k : ℕ) → IsFullStrip m h (suc k) → IsHullEdge m h
 peelable_strip m h k f = record {
-  within = f.within;
-  inner = f.inner 0 (omega arith);
-  outer = f.outer;
+  within = f.strip.within;
+  inner = f.strip.inner 0 (omega arith);
+  outer = f.strip.outer;
   ends = λ q. f.ends 0 (omega arith) (sym q);
 }
 
@@ -35,7 +35,7 @@ module _ (m mid new : Mesh) (h k : ℕ) (s : IsSound m) (f : IsFullStrip m h (su
   can = removable_opened m mid h s (peelable_strip m h k f) o
 
   inner_h : IsInner m (face m h)
-  inner_h = (f.inner 0 (omega arith), (s.edges h f.within).face_in)
+  inner_h = (f.strip.inner 0 (omega arith), (s.edges h f.strip.within).face_in)
 
   pub s1 : IsSound mid
   s1 = sound_opened m mid (face m h) s inner_h o
@@ -44,10 +44,10 @@ module _ (m mid new : Mesh) (h k : ℕ) (s : IsSound m) (f : IsFullStrip m h (su
   nm g = name mid new h s1 can r g
 
   at : (i : ℕ) → (spoke m h i < length m.half_edges) × (origin m (spoke m h i) ≡ origin m h)
-  at i = spoke_at m h s f.within i
+  at i = spoke_at m h s f.strip.within i
 
   tri : IsTriangle m h
-  tri = triangle_at m h s f.within inner_h.0
+  tri = triangle_at m h s f.strip.within inner_h.0
 
   -- the other side of the spoke after spoke i is before it, and has its face
   twin_next : (i : ℕ) → rev (spoke m h (suc i)) ≡ prev m (spoke m h i)
@@ -63,7 +63,7 @@ module _ (m mid new : Mesh) (h k : ℕ) (s : IsSound m) (f : IsFullStrip m h (su
   other_face : (i : ℕ) → i < suc k → face m (spoke m h (suc i)) ≢ face m h
   other_face i less same =
       elim (cases_eq i k) [
-        | inl q ↦ absurd (omega (arith, inner_h.0, same, f.last, ap (λ j. face m (spoke m h (suc j))) q))
+        | inl q ↦ absurd (omega (arith, inner_h.0, same, f.strip.last, ap (λ j. face m (spoke m h (suc j))) q))
         | inr q ↦ f.apart 0 (suc i) (omega arith) (omega arith) (sym same)
       ]
 
@@ -81,14 +81,14 @@ module _ (m mid new : Mesh) (h k : ℕ) (s : IsSound m) (f : IsFullStrip m h (su
 
   twin_before_face : face m (prev mid (rev h)) ≡ 0
   twin_before_face =
-      let here = s.edges (rev h) (rev_within h (length m.half_edges) s.even f.within) in
-      ap (face m) (o.prev (rev h)) ∙ sym (s.edges _ here.prev_in).same_face ∙ ap (face m) here.next_prev ∙ f.outer
+      let here = s.edges (rev h) (rev_within h (length m.half_edges) s.even f.strip.within) in
+      ap (face m) (o.prev (rev h)) ∙ sym (s.edges _ here.prev_in).same_face ∙ ap (face m) here.next_prev ∙ f.strip.outer
 
   -- the walk round the vertex, but for its first edge
   turn_now : (i : ℕ) → i < k → turn new (nm (spoke m h (suc i))) ≡ nm (spoke m h (suc (suc i)))
   turn_now i less =
       let l = twin_left (suc i) (omega arith) in
-      let some = f.inner (suc i) (omega arith) in
+      let some = f.strip.inner (suc i) (omega arith) in
       let off_p : rev (spoke m h (suc (suc i))) ≢ prev mid h = λ q. other_face i (omega arith) (sym (twin_face (suc i)) ∙ ap (face m) (q ∙ before) ∙ twin_face 0) in
       let off_x : rev (spoke m h (suc (suc i))) ≢ prev mid (rev h) = λ q. absurd (omega (arith, some, twin_face (suc i), ap (face m) q, twin_before_face)) in
       let n : next new (nm (rev (spoke m h (suc (suc i))))) ≡ nm (spoke m h (suc i)) = next_at mid new h s1 can r _ l off_p off_x ∙ ap nm (o.next _ ∙ ap (next m) (twin_next (suc i)) ∙ (s.edges _ (at (suc i)).0).next_prev) in
@@ -116,11 +116,11 @@ module _ (m mid new : Mesh) (h k : ℕ) (s : IsSound m) (f : IsFullStrip m h (su
   far_now q =
       let l = spoke_left k (omega arith) in
       let t = twin_left k (omega arith) in
-      let off_p : spoke m h (suc k) ≢ prev mid h = λ i. absurd (omega (arith, f.last, inner_h.0, ap (face m) (i ∙ before), twin_face 0)) in
+      let off_p : spoke m h (suc k) ≢ prev mid h = λ i. absurd (omega (arith, f.strip.last, inner_h.0, ap (face m) (i ∙ before), twin_face 0)) in
       elim (cases_eq (spoke m h (suc k)) (prev mid (rev h))) [
         | inl i ↦
             let n = next_twin_before mid new h s1 can r _ l i ∙ ap nm (o.next h) in
-            let b_left = left (next m h) tri.next_in tri.next_differs (λ z. absurd (omega (arith, ap (face m) z, tri.face_next, inner_h.0, f.outer))) in
+            let b_left = left (next m h) tri.next_in tri.next_differs (λ z. absurd (omega (arith, ap (face m) z, tri.face_next, inner_h.0, f.strip.outer))) in
             let same = name_same mid new h s1 can r _ _ b_left t (sym n ∙ q) in
             elim (cases_eq k 0) [
               | inl z ↦ tri.both_differ (same ∙ ap (λ j. rev (spoke m h (suc j))) z ∙ twin_next 0)
@@ -131,7 +131,7 @@ module _ (m mid new : Mesh) (h k : ℕ) (s : IsSound m) (f : IsFullStrip m h (su
             let n_left = left (next m (spoke m h (suc k))) here.next_in
             (λ z. off_p (sym here.prev_next ∙ ap (prev m) z ∙ sym (o.prev h)))
             (λ z. off_x (sym here.prev_next ∙ ap (prev m) z ∙ sym (o.prev (rev h)))) in
-            f.far (name_same mid new h s1 can r _ _ n_left t (sym (next_at mid new h s1 can r _ l off_p off_x ∙ ap nm (o.next _)) ∙ q))
+            f.strip.far (name_same mid new h s1 can r _ _ n_left t (sym (next_at mid new h s1 can r _ l off_p off_x ∙ ap nm (o.next _)) ∙ q))
       ]
 
   only_at : (g i was : ℕ) → was ≢ h → i ≤ suc k → was ≡ spoke m h i → nm was ≡ g → (j : ℕ) × (j ≤ k) × (g ≡ spoke new (nm (turn m h)) j)
@@ -143,14 +143,16 @@ module _ (m mid new : Mesh) (h k : ℕ) (s : IsSound m) (f : IsFullStrip m h (su
       let end = spokes k (omega arith) in
       let last_left = spoke_left k (omega arith) in
       record {
-        within = name_in mid new h s1 can r _ (spoke_left 0 (omega arith));
-        outer = ap (face new) (rev_now 0 (omega arith)) ∙ face_at mid new h s1 can r _ (twin_left 0 (omega arith)) ∙ o.gone _ (twin_in 0) (twin_face 0);
-        inner = λ i less.
-            let l = spoke_left i (omega arith) in
-            rw (spokes i (omega arith), face_at mid new h s1 can r _ l) (still_inner m mid _ o inner_h.0 _ (at (suc i)).0 (f.inner (suc i) (omega arith)) (other_face i (omega arith)));
-        last = ap (face new) end ∙ zero_now _ (at (suc k)).0 last_left f.last;
-        gap = ap (next new) (rev_now 0 (omega arith)) ∙ next_before mid new h s1 can r _ (twin_left 0 (omega arith)) (sym before) ∙ ap nm (o.next (rev h) ∙ f.gap) ∙ sym end;
-        far = λ q. far_now (ap (next new) (sym end) ∙ q ∙ ap rev end ∙ rev_now k (omega arith));
+        strip = record {
+          within = name_in mid new h s1 can r _ (spoke_left 0 (omega arith));
+          outer = ap (face new) (rev_now 0 (omega arith)) ∙ face_at mid new h s1 can r _ (twin_left 0 (omega arith)) ∙ o.gone _ (twin_in 0) (twin_face 0);
+          inner = λ i less.
+              let l = spoke_left i (omega arith) in
+              rw (spokes i (omega arith), face_at mid new h s1 can r _ l) (still_inner m mid _ o inner_h.0 _ (at (suc i)).0 (f.strip.inner (suc i) (omega arith)) (other_face i (omega arith)));
+          last = ap (face new) end ∙ zero_now _ (at (suc k)).0 last_left f.strip.last;
+          gap = ap (next new) (rev_now 0 (omega arith)) ∙ next_before mid new h s1 can r _ (twin_left 0 (omega arith)) (sym before) ∙ ap nm (o.next (rev h) ∙ f.strip.gap) ∙ sym end;
+          far = λ q. far_now (ap (next new) (sym end) ∙ q ∙ ap rev end ∙ rev_now k (omega arith));
+        };
         apart = λ i j less j_in same.
             let li = spoke_left i (omega arith) in
             let lj = spoke_left j (omega arith) in

@@ -39,8 +39,8 @@ hole_of_four m one two o spoke s w op p is =
       wheel.nm m o s w one op p.opened two p.opens p.removes (turn m (turn m o)),
       record {
         fan = rw at (wheel.fan_of_two m o s w one op p.opened two p.opens p.removes);
-        start = ap (origin two) at ∙ o_at _ (wheel.a_left m o s w one op p.opened two p.opens p.removes) ∙ wheel.turn_starts m o s w o w.within;
-        first = ap (origin two) (ap (next two) nz ∙ n3) ∙ o_at _ (wheel.b1_left m o s w one op p.opened two p.opens p.removes) ∙ (s.edges o w.within).starts;
+        start = ap (origin two) at ∙ o_at _ (wheel.a_left m o s w one op p.opened two p.opens p.removes) ∙ wheel.turn_starts m o s w o w.wheel.within;
+        first = ap (origin two) (ap (next two) nz ∙ n3) ∙ o_at _ (wheel.b1_left m o s w one op p.opened two p.opens p.removes) ∙ (s.edges o w.wheel.within).starts;
         second = ap (λ k. origin two (next two k)) at ∙ (s3.edges _ a_in).starts ∙ ap (origin two) rev_a ∙ o_at _ (wheel.ra_left m o s w one op p.opened two p.opens p.removes);
         third = ap (origin two) nz ∙ o_at _ (wheel.b3_left m o s w one op p.opened two p.opens p.removes) ∙ (s.edges _ z_in).starts;
       },

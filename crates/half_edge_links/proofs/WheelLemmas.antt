@@ -42,19 +42,19 @@ module _ (m : Mesh) (o : ℕ) (s : IsSound m) (w : IsFullWheel m o) where
   turn_starts h within = (spoke_at m h s within 1).1
 
   pub a_in : turn m o < length m.half_edges
-  a_in = turn_in o w.within
+  a_in = turn_in o w.wheel.within
 
   pub z_in : turn m (turn m o) < length m.half_edges
   z_in = turn_in (turn m o) a_in
 
   pub t1 : IsTriangle m o
-  t1 = triangle_at m o s w.within w.first_inner
+  t1 = triangle_at m o s w.wheel.within w.wheel.first_inner
 
   pub t2 : IsTriangle m (turn m o)
-  t2 = triangle_at m (turn m o) s a_in w.second_inner
+  t2 = triangle_at m (turn m o) s a_in w.wheel.second_inner
 
   pub t3 : IsTriangle m (turn m (turn m o))
-  t3 = triangle_at m (turn m (turn m o)) s z_in w.third_inner
+  t3 = triangle_at m (turn m (turn m o)) s z_in w.wheel.third_inner
 
   pub before_o : prev m o ≡ rev (turn m o)
   before_o = sym (rev-rev (prev m o))
@@ -63,16 +63,16 @@ module _ (m : Mesh) (o : ℕ) (s : IsSound m) (w : IsFullWheel m o) where
   before_a = sym (rev-rev (prev m (turn m o)))
 
   pub before_z : prev m (turn m (turn m o)) ≡ rev o
-  before_z = sym (rev-rev (prev m (turn m (turn m o)))) ∙ ap rev w.round
+  before_z = sym (rev-rev (prev m (turn m (turn m o)))) ∙ ap rev w.wheel.round
 
   pub inner_z : IsInner m (face m (turn m (turn m o)))
-  inner_z = (w.third_inner, (s.edges _ z_in).face_in)
+  inner_z = (w.wheel.third_inner, (s.edges _ z_in).face_in)
 
   module _ (m1 : Mesh) (op : Opens m m1 (face m (turn m (turn m o)))) where
     pub peelable_first : IsHullEdge m1 o
     peelable_first = record {
-      within = rw op.edge_count w.within;
-      inner = still_inner m m1 _ op w.third_inner o w.within w.first_inner (λ q. w.third_apart (sym q));
+      within = rw op.edge_count w.wheel.within;
+      inner = still_inner m m1 _ op w.wheel.third_inner o w.wheel.within w.wheel.first_inner (λ q. w.third_apart (sym q));
       outer = op.gone (rev o) (rw (← before_z) (t3).prev_in) (ap (face m) (sym before_z) ∙ (t3).face_prev);
       ends = λ q. w.first_end (sym (op.origin (rev o)) ∙ sym q ∙ op.origin o);
     }
@@ -175,8 +175,8 @@ module _ (m : Mesh) (o : ℕ) (s : IsSound m) (w : IsFullWheel m o) where
 
       a_face : 0 < face mid (turn m o)
       a_face =
-          let one = still_inner m m1 _ op w.third_inner (turn m o) a_in w.second_inner w.second_apart in
-          still_inner m1 mid _ oq peelable_first.inner (turn m o) (rw op.edge_count a_in) one (still_apart m m1 _ op w.third_inner (turn m o) o a_in w.within w.second_apart (λ q. w.third_apart (sym q)) (λ q. w.first_apart (sym q)))
+          let one = still_inner m m1 _ op w.wheel.third_inner (turn m o) a_in w.wheel.second_inner w.second_apart in
+          still_inner m1 mid _ oq peelable_first.inner (turn m o) (rw op.edge_count a_in) one (still_apart m m1 _ op w.wheel.third_inner (turn m o) o a_in w.wheel.within w.second_apart (λ q. w.third_apart (sym q)) (λ q. w.first_apart (sym q)))
 
       ra_outer : face mid (rev (turn m o)) ≡ 0
       ra_outer =
@@ -188,14 +188,14 @@ module _ (m : Mesh) (o : ℕ) (s : IsSound m) (w : IsFullWheel m o) where
 
       pub fan_of_two : IsFanOfTwo new (nm (turn m o)) (nm (turn m (turn m o)))
       fan_of_two =
-          let v_a = turn_starts o w.within in
+          let v_a = turn_starts o w.wheel.within in
           let v_z = turn_starts (turn m o) a_in ∙ v_a in
           let at_a = origin_now _ a_left ∙ v_a in
           let to1 : next new (next new (nm (turn m (turn m o)))) ≡ nm (next m o) = ap (next new) nz ∙ n3 in
-          let k = outer_of m o s w.within in
+          let k = outer_of m o s w.wheel.within in
           let had = s.outer k.0 k.1 in
           let out = λ (x : ℕ) (some : 0 < face m x) (q : k.0 ≡ x). let no : ⊥ = omega (arith, some, had.1, ap (face m) q) in no in
-          let l : IsLeft mid o k.0 = left k.0 had.0 (out o w.first_inner) (out (rev o) (rw twin_face w.third_inner)) in
+          let l : IsLeft mid o k.0 = left k.0 had.0 (out o w.wheel.first_inner) (out (rev o) (rw twin_face w.wheel.third_inner)) in
           record {
             peelable = record {
               within = name_in mid new o s2 can r _ a_left;
@@ -209,7 +209,7 @@ module _ (m : Mesh) (o : ℕ) (s : IsSound m) (w : IsFullWheel m o) where
             ends = λ q. w.third_end (sym (origin_now _ rz_left) ∙ sym (ap (origin new) rev_z) ∙ q ∙ at_a);
             gap = ap (next new) rev_a ∙ gap;
             round = ap (next new) to1 ∙ n1 ∙ sym rev_a;
-            off = λ q. w.first_end (sym (s.edges o w.within).starts ∙ sym (origin_now _ b1_left) ∙ sym (ap (origin new) to1) ∙ q ∙ at_a);
+            off = λ q. w.first_end (sym (s.edges o w.wheel.within).starts ∙ sym (origin_now _ b1_left) ∙ sym (ap (origin new) to1) ∙ q ∙ at_a);
             apart = λ q. w.third_apart (sym (sym (t1).face_next ∙ ap (face m) (same _ _ b1_left b3_left (sym to1 ∙ q ∙ nz)) ∙ (t3).face_next));
             only = λ h within is.
                 let old = old_at mid new o s2 can r h within in
@@ -220,9 +220,9 @@ module _ (m : Mesh) (o : ℕ) (s : IsSound m) (w : IsFullWheel m o) where
                 ];
             unnamed = λ j is.
                 let to : nm k.0 ≡ j = some_same _ _ (sym (outer_at mid new o s2 can r k.0 l (oq.outer_edge ∙ op.outer_edge ∙ k.1)) ∙ is) in (
-                  λ q. out _ (rw ra_face w.first_inner) (same _ _ l ra_left (to ∙ q ∙ rev_a)),
-                  λ q. out _ w.third_inner (same _ _ l z_left (to ∙ q)),
-                  λ q. out _ (rw (t3).face_next w.third_inner) (same _ _ l b3_left (to ∙ q ∙ nz)),
-                  λ q. out _ (rw (t1).face_next w.first_inner) (same _ _ l b1_left (to ∙ q ∙ to1)),
+                  λ q. out _ (rw ra_face w.wheel.first_inner) (same _ _ l ra_left (to ∙ q ∙ rev_a)),
+                  λ q. out _ w.wheel.third_inner (same _ _ l z_left (to ∙ q)),
+                  λ q. out _ (rw (t3).face_next w.wheel.third_inner) (same _ _ l b3_left (to ∙ q ∙ nz)),
+                  λ q. out _ (rw (t1).face_next w.wheel.first_inner) (same _ _ l b1_left (to ∙ q ∙ to1)),
                 );
           }

@@ -31,11 +31,11 @@ use Rattle.half_edge_mesh.proofs.TakenEdges.{named_corners}
 -- the corners of a face at a vertex with three faces
 module _ (m : Mesh) (o : ℕ) (s : IsSound m) (w : IsFullWheel m o) where
   pub first_face : triangle_at m o ≡ record { first = origin m o; second = neighbour m o 0; third = neighbour m o 1 }
-  first_face = λ i. record { first = origin m o; second = (s.edges o w.within).starts i; third = origin m (wheel.before_o m o s w i) }
+  first_face = λ i. record { first = origin m o; second = (s.edges o w.wheel.within).starts i; third = origin m (wheel.before_o m o s w i) }
 
   pub third_face : triangle_at m (turn m (turn m o)) ≡ record { first = origin m o; second = neighbour m o 2; third = neighbour m o 3 }
   third_face = λ i. record {
-    first = (wheel.turn_starts m o s w (turn m o) (wheel.a_in m o s w) ∙ wheel.turn_starts m o s w o w.within) i;
+    first = (wheel.turn_starts m o s w (turn m o) (wheel.a_in m o s w) ∙ wheel.turn_starts m o s w o w.wheel.within) i;
     second = (s.edges _ (wheel.z_in m o s w)).starts i;
     third = (ap (origin m) (sym (rev-rev (prev m (turn m (turn m o)))))) i;
   }
@@ -92,7 +92,7 @@ fills_hole {V} {D} {U} {F} c0 c1 c2 c3 c4 c5 o spoke z made whole0 whole2 whole3
     let b2 : LosesFaces c2 c3 (record { first = v; second = n 1; third = n 2 } ∷ []) = rw at_two.1 at f23 in
     let g0 = one_more_gone HasCorners (full_faces c1) (full_faces c1) (full_faces c2) [] (record { first = v; second = n 0; third = n 1 }) (none_gone HasCorners (full_faces c1)) b1 in
     let g1 = one_more_gone HasCorners (full_faces c1) (full_faces c2) (full_faces c3) _ (record { first = v; second = n 1; third = n 2 }) g0 b2 in
-    let third_at : HasCorners third (record { first = v; second = n 2; third = n 3 }) = subst (HasCorners third) (third_face m o s w) (named_corners m (turn m (turn m o)) third s (wheel.z_in m o s w) w.third_inner third_is) in
+    let third_at : HasCorners third (record { first = v; second = n 2; third = n 3 }) = subst (HasCorners third) (third_face m o s w) (named_corners m (turn m (turn m o)) third s (wheel.z_in m o s w) w.wheel.third_inner third_is) in
     let was = IsPermutation-trans _ _ _ f01 (IsPermutation-cons third _ _ g1.2) in
     let is : IsPermutation (full_faces c5) (made ∷ full_faces c3) = rw (f45, f34) (IsPermutation-to_front (full_faces c3) made) in
     record {
@@ -107,7 +107,7 @@ fills_hole {V} {D} {U} {F} c0 c1 c2 c3 c4 c5 o spoke z made whole0 whole2 whole3
       rest = full_faces c3;
       was = was;
       is = is;
-      outer = outer_filled c0 c5 v n (third ∷ g1.0) made (full_faces c3) (ap (λ k. origin m (rev k)) w.round) whole0 whole5 edges (third_at, g1.1) made_is was is;
+      outer = outer_filled c0 c5 v n (third ∷ g1.0) made (full_faces c3) (ap (λ k. origin m (rev k)) w.wheel.round) whole0 whole5 edges (third_at, g1.1) made_is was is;
       outline = one_round;
     }
 

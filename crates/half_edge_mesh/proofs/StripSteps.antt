@@ -12,7 +12,7 @@ use Rattle.half_edge_links.specs.Peel.{IsStrip, IsPeelable, Peels, turn}
 use Rattle.half_edge_links.specs.Remove.{Removes, IsRemovable, after_removal}
 use Rattle.half_edge_links.specs.Round.{neighbour}
 use Rattle.half_edge_links.specs.Triangles.{triangles, triangle_at}
-use Rattle.half_edge_links.proofs.Conditions.{IsFullStrip, full_strip, strip_of}
+use Rattle.half_edge_links.proofs.Conditions.{IsFullStrip, full_strip}
 use Rattle.half_edge_links.proofs.Rev.{rev-rev}
 use Rattle.half_edge_links.proofs.StripLemmas.{strip_from, strip_ends, one_more, removable_strip}
 use Rattle.half_edge_mesh.specs.Contents.{Contents, IsWhole}
@@ -93,7 +93,7 @@ module _ {V D U F : Type 0} (old c new : Contents V D U F) (first count h g gone
       rw more (record {
         left = j.0;
         sum = omega (arith, f.sum, j.1);
-        strip = strip_of new.mesh g j.0 (strip_from m new.mesh h j.0 g valid.sound full p is);
+        strip = (strip_from m new.mesh h j.0 g valid.sound full p is).strip;
         start = after.0 ∙ f.start;
         ends_at = λ i less. after.1 i less ∙ f.ends_at (suc i) (omega (arith, less, j.1)) ∙ ap n (let e : gone + suc i ≡ suc gone + i = omega arith in e);
         edges = one_more_gone IsBetween (full_edges old) (full_edges c) (full_edges new) _ (joins v (n gone)) f.edges (rw spoke_is at edges);

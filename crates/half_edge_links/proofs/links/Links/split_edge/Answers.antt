@@ -1,11 +1,10 @@
 use Rattle.half_edge_links.proofs.SplitLemmas.{flippable_inserted, corners_inserted, splits_triangles_is, kept_twice, ends_split}
 use Rattle.half_edge_links.proofs.links.Links.split_edge.Goals as goal
 
-pub flip-requires-clause-flippable : goal.flip-requires-clause-flippable
-flip-requires-clause-flippable c = rw c.insert_beside.ensures.mesh (flippable_inserted _ _ _ c.insert_beside.ensures.sound c.requires.flippable c.requires.alone)
-
-pub flip-requires-clause-corners : goal.flip-requires-clause-corners
-flip-requires-clause-corners c = rw c.insert_beside.ensures.mesh (corners_inserted _ _ _ c.insert_beside.ensures.sound c.requires.flippable c.requires.alone)
+pub flip-requires : goal.flip-requires
+flip-requires c =
+    let s = c.insert_beside.ensures.sound in
+    rw c.insert_beside.ensures.mesh (record { flippable = flippable_inserted _ _ _ s c.requires.flippable c.requires.alone; corners = corners_inserted _ _ _ s c.requires.flippable c.requires.alone })
 
 pub returns-clause-ends : goal.returns-clause-ends
 returns-clause-ends c = ends_split _ _ c.flip.new.self.mesh _ _ c.insert_beside.ensures.sound c.requires.flippable c.requires.alone c.insert_beside.ensures.mesh c.insert_beside.ensures.ends c.flip.ensures.ends

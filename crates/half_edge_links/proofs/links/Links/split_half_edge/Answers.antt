@@ -1,3 +1,5 @@
+use Rattle.std.proofs.Common.{rules}
+use Rattle.half_edge_links.specs.Mesh.{Mesh}
 use Rattle.half_edge_links.proofs.HalfSplit.{twin_outer, flippable_beside, corners_beside, half_splits_triangles, replaced_kept, half_splits}
 use Rattle.half_edge_links.proofs.EndsKept.{ends_half}
 use Rattle.half_edge_links.proofs.links.Links.split_half_edge.Goals as goal
@@ -5,23 +7,26 @@ use Rattle.half_edge_links.proofs.links.Links.split_half_edge.Goals as goal
 pub add_face_beside-requires-clause-outer : goal.add_face_beside-requires-clause-outer
 add_face_beside-requires-clause-outer c = rw c.reversed.ensures (twin_outer _ _ c.half_edge_count-n.ensures.sound c.requires.half)
 
-pub flip-requires-clause-flippable : goal.flip-requires-clause-flippable
-flip-requires-clause-flippable c = flippable_beside _ _ _ _ c.half_edge_count-n.ensures.sound c.requires.half (rw c.reversed.ensures at c.add_face_beside.ensures.links)
+pub flip-requires : goal.flip-requires
+flip-requires c =
+    let s = c.half_edge_count-n.ensures.sound in
+    let adds = rw c.reversed.ensures at c.add_face_beside.ensures.links in
+    record { flippable = flippable_beside _ _ _ _ s c.requires.half adds; corners = corners_beside _ _ _ _ s c.requires.half adds c.requires.alone }
 
-pub flip-requires-clause-corners : goal.flip-requires-clause-corners
-flip-requires-clause-corners c = corners_beside _ _ _ _ c.half_edge_count-n.ensures.sound c.requires.half (rw c.reversed.ensures at c.add_face_beside.ensures.links) c.requires.alone
-
-pub returns-clause-triangles : goal.returns-clause-triangles
-returns-clause-triangles c = half_splits_triangles _ _ _ _ c.half_edge_count-n.ensures.sound c.requires.half (rw c.reversed.ensures at c.add_face_beside.ensures.links) c.flip.new.self.mesh (rw c.reversed.ensures at c.add_face_beside.ensures.triangles) c.flip.ensures.triangles
-
-pub returns-clause-outer : goal.returns-clause-outer
-returns-clause-outer c = replaced_kept _ _ _ _ _ _ _ (rw c.reversed.ensures at c.add_face_beside.ensures.outer) c.flip.ensures.outer
-
-pub returns-clause-ends : goal.returns-clause-ends
-returns-clause-ends c = ends_half _ _ c.flip.new.self.mesh _ _ c.half_edge_count-n.ensures.sound c.requires.half (rw c.reversed.ensures at c.add_face_beside.ensures.links) (rw c.reversed.ensures at c.add_face_beside.ensures.ends) c.flip.ensures.ends
-
-pub returns-clause-links : goal.returns-clause-links
-returns-clause-links c = half_splits _ _ _ _ c.half_edge_count-n.ensures.sound c.requires.half (rw c.reversed.ensures at c.add_face_beside.ensures.links) c.flip.new.self.mesh c.flip.ensures.sound c.flip.ensures.links
-
-pub returns-clause-outline : goal.returns-clause-outline
-returns-clause-outline c = λ one. c.flip.ensures.outline (c.add_face_beside.ensures.outline one)
+pub returns : goal.returns
+returns c =
+    let s = c.half_edge_count-n.ensures.sound in
+    let half = c.requires.half in
+    let new : Mesh = c.flip.new.self.mesh in
+    let adds = rw c.reversed.ensures at c.add_face_beside.ensures.links in
+    record {
+      parts = search rules;
+      mesh = search rules;
+      room = search rules;
+      sound = s;
+      links = half_splits _ _ _ _ s half adds new c.flip.ensures.sound c.flip.ensures.links;
+      ends = ends_half _ _ new _ _ s half adds (rw c.reversed.ensures at c.add_face_beside.ensures.ends) c.flip.ensures.ends;
+      triangles = half_splits_triangles _ _ _ _ s half adds new (rw c.reversed.ensures at c.add_face_beside.ensures.triangles) c.flip.ensures.triangles;
+      outer = replaced_kept _ _ _ _ _ _ _ (rw c.reversed.ensures at c.add_face_beside.ensures.outer) c.flip.ensures.outer;
+      outline = λ one. c.flip.ensures.outline (c.add_face_beside.ensures.outline one);
+    }
