@@ -59,7 +59,7 @@ pub data Placed (p x y : Fraction) : Type 0 where
   later : IsNearer p y x → Placed p x y
 
 module _ (p q : Fraction) (apart : ¬ IsSame p q) where
-  nearer_if : (x y : Fraction) → OnSegment p q x → OnSegment p q y → (reach p q x *ℤ y.w) <ℤ (reach p q y *ℤ x.w) → IsNearer p x y
+  pub nearer_if : (x y : Fraction) → OnSegment p q x → OnSegment p q y → (reach p q x *ℤ y.w) <ℤ (reach p q y *ℤ x.w) → IsNearer p x y
   nearer_if x y hx hy h =
       let sx = (on_segment_is p q x apart).0 hx in
       let sy = (on_segment_is p q y apart).0 hy in
@@ -94,7 +94,7 @@ module _ (p q : Fraction) (apart : ¬ IsSame p q) where
       go (inr (inl e)) = as_soon (same_if x y hx hy (equal _ _ e))
       go (inr (inr h)) = later (nearer_if y x hy hx (more _ _ h))
 
-  not_both_nearer : (x y : Fraction) → IsNearer p x y → ¬ IsNearer p y x
+  pub not_both_nearer : (x y : Fraction) → IsNearer p x y → ¬ IsNearer p y x
   not_both_nearer x y h k = both _ _ h.nearer k.nearer
     where
       both : (a b : ℤ) → a <ℤ b → b <ℤ a → ⊥
@@ -151,7 +151,7 @@ form_order n₁ a₁ b₁ n₂ a₂ b₂ f₁ f₂ fu fv w₁ w₂ uw vw e₁ e�
     (n₂ ⊗ w₂, n₁ ⊗ f₁, a₁ ⊗ fu ⊕ b₁ ⊗ fv) ∷ (num 0 ⊖ n₁ ⊗ w₁, n₂ ⊗ f₂, a₂ ⊗ fu ⊕ b₂ ⊗ fv) ∷ (num 0 ⊖ a₂ ⊗ fu ⊖ b₂ ⊗ fv, n₁ ⊗ w₁, a₁ ⊗ uw ⊕ b₁ ⊗ vw) ∷ (a₁ ⊗ fu ⊕ b₁ ⊗ fv, n₂ ⊗ w₂, a₂ ⊗ uw ⊕ b₂ ⊗ vw) ∷ [])
     (e₁, (e₂, (e₃, (e₄, tt)))) tt
 
-after_first : (n a b f fu fv w uw vw : ℤ) → n *ℤ f ≡ a *ℤ fu +ℤ b *ℤ fv → n *ℤ w ≡ a *ℤ uw +ℤ b *ℤ vw → n *ℤ (f *ℤ uw -ℤ fu *ℤ w) ≡ b *ℤ (fv *ℤ uw -ℤ fu *ℤ vw)
+pub after_first : (n a b f fu fv w uw vw : ℤ) → n *ℤ f ≡ a *ℤ fu +ℤ b *ℤ fv → n *ℤ w ≡ a *ℤ uw +ℤ b *ℤ vw → n *ℤ (f *ℤ uw -ℤ fu *ℤ w) ≡ b *ℤ (fv *ℤ uw -ℤ fu *ℤ vw)
 after_first n a b f fu fv w uw vw e d = ring_in_from (n ∷ a ∷ b ∷ f ∷ fu ∷ fv ∷ w ∷ uw ∷ vw ∷ []) (λ n a b f fu fv w uw vw. n ⊗ (f ⊗ uw ⊖ fu ⊗ w)) (λ n a b f fu fv w uw vw. b ⊗ (fv ⊗ uw ⊖ fu ⊗ vw))
     (λ n a b f fu fv w uw vw. (uw, n ⊗ f, a ⊗ fu ⊕ b ⊗ fv) ∷ (num 0 ⊖ fu, n ⊗ w, a ⊗ uw ⊕ b ⊗ vw) ∷ []) (e, (d, tt)) tt
 
@@ -159,7 +159,7 @@ before_last : (n a b f fu fv w uw vw : ℤ) → n *ℤ f ≡ a *ℤ fu +ℤ b *�
 before_last n a b f fu fv w uw vw e d = ring_in_from (n ∷ a ∷ b ∷ f ∷ fu ∷ fv ∷ w ∷ uw ∷ vw ∷ []) (λ n a b f fu fv w uw vw. n ⊗ (fv ⊗ w ⊖ f ⊗ vw)) (λ n a b f fu fv w uw vw. a ⊗ (fv ⊗ uw ⊖ fu ⊗ vw))
     (λ n a b f fu fv w uw vw. (num 0 ⊖ vw, n ⊗ f, a ⊗ fu ⊕ b ⊗ fv) ∷ (fv, n ⊗ w, a ⊗ uw ⊕ b ⊗ vw) ∷ []) (e, (d, tt)) tt
 
-above_difference : (a b : ℤ) → a <ℤ b → pos 0 <ℤ (b -ℤ a)
+pub above_difference : (a b : ℤ) → a <ℤ b → pos 0 <ℤ (b -ℤ a)
 above_difference a b h = omega (arith, ints)
 
 below_of_difference : (a b : ℤ) → pos 0 <ℤ (b -ℤ a) → a <ℤ b
@@ -202,7 +202,7 @@ above_last n f a fu b fv e hn hf ha hu hb = go (trichotomy_ℤ fv)
     go (inr (inl h)) = absurd (low (zero_weak h))
     go (inr (inr h)) = h
 
-not_less : (a b : ℤ) → a ≤ℤ b → b <ℤ a → ⊥
+pub not_less : (a b : ℤ) → a ≤ℤ b → b <ℤ a → ⊥
 not_less a b h k = omega (arith, ints)
 
 -- from near, that u is before, to u
@@ -261,12 +261,12 @@ module _ (p q u v : Fraction) (o : OverlapAlong p q u v) where
       (mul-pos_ℤ (mul-pos_ℤ t₁.positive t₂.positive) (above_difference _ _ (reach_less p q far_apart o.near o.far o.near_first o.far_first o.from_s))))
 
   -- no point of the segment from u to v is before u
-  not_before : (r : Fraction) → OnSegment u v r → (reach p q u *ℤ r.w) ≤ℤ (reach p q r *ℤ u.w)
+  pub not_before : (r : Fraction) → OnSegment u v r → (reach p q u *ℤ r.w) ≤ℤ (reach p q r *ℤ u.w)
   not_before r h = let t = two_weights IsNotNegative u v r h in at_most_of_difference _ _ (nonneg_of_mul-nonneg_ℤ {k = t.n} t.positive
       (subst (λ z. pos 0 ≤ℤ z) (sym (after_first t.n t.k t.l (reach p q r) (reach p q u) (reach p q v) r.w u.w v.w (reach_of_two IsNotNegative p q u v r t) t.w)) (mul-nonneg_ℤ t.l_allowed (weak before))))
 
   -- and none is past v
-  not_past : (r : Fraction) → OnSegment u v r → (reach p q r *ℤ v.w) ≤ℤ (reach p q v *ℤ r.w)
+  pub not_past : (r : Fraction) → OnSegment u v r → (reach p q r *ℤ v.w) ≤ℤ (reach p q v *ℤ r.w)
   not_past r h = let t = two_weights IsNotNegative u v r h in at_most_of_difference _ _ (nonneg_of_mul-nonneg_ℤ {k = t.n} t.positive
       (subst (λ z. pos 0 ≤ℤ z) (sym (before_last t.n t.k t.l (reach p q r) (reach p q u) (reach p q v) r.w u.w v.w (reach_of_two IsNotNegative p q u v r t) t.w)) (mul-nonneg_ℤ t.k_allowed (weak before))))
 
