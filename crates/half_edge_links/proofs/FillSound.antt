@@ -27,9 +27,6 @@ module _ (from to : ℕ) where
 pair_cases : (from h : ℕ) → (h ≡ from) ⊎ ((h ≡ from + 1) ⊎ ((h ≢ from) × (h ≢ from + 1)))
 pair_cases from h = grind arith
 
-rev_away : (hole h : ℕ) → hole % 2 ≡ 0 → h ≢ hole → h ≢ hole + 1 → (rev h ≢ hole) × (rev h ≢ hole + 1)
-rev_away hole h even a b = grind (arith, nat_tests)
-
 module _ (last hole : ℕ) (last_even : last % 2 ≡ 0) (hole_even : hole % 2 ≡ 0) (below : hole ≤ last) where
   -- the old index of a new one is that of an edge which is left
   pub old_left : (h : ℕ) → h < last → (pair_moved hole last h < last + 2) × (pair_moved hole last h ≢ hole) × (pair_moved hole last h ≢ hole + 1) × (pair_moved last hole (pair_moved hole last h) ≡ h)
@@ -60,7 +57,7 @@ module _ (last hole : ℕ) (last_even : last % 2 ≡ 0) (hole_even : hole % 2 �
             let q : rev (last + 1) ≡ last = grind (arith, nat_tests) in
             rw (a, r, pair_first hole last, pair_second hole last, q) refl
         | inr (inr a) ↦
-            let away = rev_away hole h hole_even a.0 a.1 in
+            let away : (rev h ≢ hole) × (rev h ≢ hole + 1) = let off = a.0 in let off_next = a.1 in grind (arith, nat_tests) in
             rw (pair_other hole last h a.0 a.1, pair_other hole last (rev h) away.0 away.1) refl
       ]
 

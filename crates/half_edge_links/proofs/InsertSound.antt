@@ -19,9 +19,6 @@ module _ (m new : Mesh) (v f a n g : ℕ) (s : IsSound m) (inner : IsInnerEdge m
   pub round : IsTriangle m a
   round = triangle_at m a s inner.0 inner.1
 
-  pub face_of : face m a ≡ f
-  face_of = sym at_f
-
   n_even : n % 2 ≡ 0
   n_even = rw at_n s.even
 
@@ -49,7 +46,7 @@ module _ (m new : Mesh) (v f a n g : ℕ) (s : IsSound m) (inner : IsInnerEdge m
   pub away_by_face : (h : ℕ) → face m h ≢ f → IsAway m a h
   away_by_face h differs =
       let t = round in
-      let is = face_of in
+      let is = sym at_f in
       record {
         first = λ same. differs (cc);
         second = λ same. differs (cc);

@@ -1,4 +1,4 @@
--- Changes inside keep the outer edges.
+-- A flip, and a vertex put into a face, keep the outer edges.
 use Rattle.std.proofs.Common.{◌≡◌, ◌≢◌, ℕ, ◌<◌, sym, ap, ◌∙◌, arith, ◌+◌, length, refl}
 use Rattle.half_edge_links.specs.declared.records.HalfEdge.{HalfEdge}
 use Rattle.half_edge_links.specs.Mesh.{Mesh, face, rev, IsSound, IsInnerEdge, IsAlone}

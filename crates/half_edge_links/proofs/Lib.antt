@@ -46,7 +46,6 @@ pub mod Track
 pub mod PeelLemmas
 pub mod CollapseLemmas
 pub mod WheelLemmas
-pub mod CollapseSteps
 pub mod StripLemmas
 pub mod VertexSound
 pub mod ShrinkTriangles

@@ -1,7 +1,6 @@
--- The edges of a vertex are one round.
+-- The edges of a vertex are one round, and so are the edges of the outer face, where these are one loop.
 use Rattle.std.proofs.Common.{◌≡◌, ℕ, suc, ◌+◌, ◌-◌, ◌<◌, length, sym, ap, ◌∙◌, arith, zero}
 use Rattle.half_edge_links.specs.Mesh.{Mesh, origin, prev, rev, IsValid, IsClosed, next, face, IsSound}
-use Rattle.half_edge_links.specs.Triangles.{Triangle}
 use Rattle.half_edge_links.specs.Peel.{turn, spoke}
 use Rattle.half_edge_links.specs.Move.{IsOneOrbit}
 use Rattle.half_edge_links.specs.Round.{neighbour, EdgesGoRound}
@@ -9,6 +8,7 @@ use Rattle.half_edge_links.proofs.Rev.{rev-rev}
 use Rattle.half_edge_links.proofs.Orbits.{IsPeriod, period_of}
 use Rattle.half_edge_links.proofs.Walks.{among_steps, to_steps, period_closed, in_period, steps_apart, steps_again}
 use Rattle.half_edge_links.proofs.Conditions.{spoke_at, turn_in, turn_one}
+use Rattle.half_edge_links.proofs.ShrinkTriangles.{same_triangle}
 use Rattle.half_edge_links.specs.Hull.{IsClosedAlong, outer_step, OutlineGoesRound}
 
 turns : (m : Mesh) (o : ℕ) → IsValid m → o < length m.half_edges → (k : ℕ) × IsPeriod (turn m) o k
@@ -26,9 +26,6 @@ one_orbit m u v o h named h_in same =
     let p = turns m o v had.0 in
     let found = in_round m o h p.0 v had.0 p.1 h_in (same ∙ sym had.1) in
     (found.0, sym found.2)
-
-same_triangle : (a b c x y z : ℕ) → a ≡ x → b ≡ y → c ≡ z → (let t : Triangle = record { first = a; second = b; third = c } in t) ≡ record { first = x; second = y; third = z }
-same_triangle a b c x y z p q r = cc
 
 pub edges_go_round : EdgesGoRound
 edges_go_round m v u o named =

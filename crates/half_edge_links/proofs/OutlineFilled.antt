@@ -46,14 +46,8 @@ module _ (m one two : Mesh) (o : ℕ) (s : IsSound m) (w : IsFullWheel m o) (op 
   in_first : (k : ℕ) → k < length m.half_edges → face m k ≡ face m z → Second k
   in_first k within is = inl (inr (within, is))
 
-  at_next : Second (next m o)
-  at_next = subst Second (op.next o) (inr (here.next_in, here.face_next))
-
   at_before : Second (rev (turn m o))
   at_before = subst Second (op.prev o ∙ wheel.before_o m o s w) (inr (here.prev_in, here.face_prev))
-
-  twin_within : rev o < length m.half_edges
-  twin_within = rev_within o _ s.even w.wheel.within
 
   traced_two : TracesOuter m two nm (IsLeftOver m p.opened two (λ h. h) Second o (wheel.s2 m o s w one op p.opened two p.opens p.removes) (wheel.can m o s w one op p.opened two p.opens p.removes) p.removes)
   traced_two =
@@ -62,7 +56,7 @@ module _ (m one two : Mesh) (o : ℕ) (s : IsSound m) (w : IsFullWheel m o) (op 
       let second = traces_opened m one p.opened (λ h. h) First (face one o) q.inner (omega (arith, q.inner, (s1.edges o q.within).face_in)) p.opens first in
       traces_removed m p.opened two (λ h. h) Second o (wheel.s2 m o s w one op p.opened two p.opens p.removes) (wheel.can m o s w one op p.opened two p.opens p.removes) p.removes
       (inr (q.within, refl))
-      (in_first (rev o) twin_within (wheel.twin_face m o s w one op p.opened two p.opens p.removes))
+      (in_first (rev o) (rev_within o _ s.even w.wheel.within) (wheel.twin_face m o s w one op p.opened two p.opens p.removes))
       (subst Second (sym (wheel.mid_before m o s w one op p.opened two p.opens p.removes)) at_before)
       (subst Second (sym (wheel.mid_twin_before m o s w one op p.opened two p.opens p.removes)) (in_first _ t3.next_in t3.face_next))
       second
@@ -94,7 +88,7 @@ module _ (m one two : Mesh) (o : ℕ) (s : IsSound m) (w : IsFullWheel m o) (op 
         | inl q ↦ record { edge = rev (turn m o); left = wheel.ra_left m o s w one op p.opened two p.opens p.removes; was = at_before; is = sym rev_a ∙ sym q }
         | inr (inl q) ↦ record { edge = turn m (turn m o); left = wheel.z_left m o s w one op p.opened two p.opens p.removes; was = in_first _ t3.h_in refl; is = sym q }
         | inr (inr (inl q)) ↦ record { edge = next m (turn m (turn m o)); left = wheel.b3_left m o s w one op p.opened two p.opens p.removes; was = in_first _ t3.next_in t3.face_next; is = sym nz ∙ sym q }
-        | inr (inr (inr q)) ↦ record { edge = next m o; left = wheel.b1_left m o s w one op p.opened two p.opens p.removes; was = at_next; is = sym n3 ∙ sym q }
+        | inr (inr (inr q)) ↦ record { edge = next m o; left = wheel.b1_left m o s w one op p.opened two p.opens p.removes; was = subst Second (op.next o) (inr (here.next_in, here.face_next)); is = sym n3 ∙ sym q }
       ])
       traced_two
 
@@ -108,9 +102,6 @@ module _ (m two three : Mesh) (to : ℕ → ℕ) (a z : ℕ) (s : IsSound two) (
 
   at_a : IsTriangle two a
   at_a = fan.at_a two p.opened three a z s f p.opens p.removes
-
-  at_twin_z : Wider (rev z)
-  at_twin_z = subst Wider (fan.a_before two p.opened three a z s f p.opens p.removes) (inr (at_a.prev_in, at_a.face_prev))
 
   traced_three_of : TracesOuter m three (λ h. nm' (to h)) (IsLeftOver m p.opened three to Wider a (fan.s1 two p.opened three a z s f p.opens p.removes) (fan.can1 two p.opened three a z s f p.opens p.removes) p.removes)
   traced_three_of =
@@ -146,7 +137,7 @@ module _ (m two three : Mesh) (to : ℕ → ℕ) (a z : ℕ) (s : IsSound two) (
       ])
       (λ j at. elim at [
         | inl q ↦ record { edge = z; left = fan.z_left two p.opened three a z s f p.opens p.removes; was = inl (inr (inl refl)); is = sym q }
-        | inr (inl q) ↦ record { edge = rev z; left = fan.w_left two p.opened three a z s f p.opens p.removes; was = at_twin_z; is = sym rev_z ∙ sym q }
+        | inr (inl q) ↦ record { edge = rev z; left = fan.w_left two p.opened three a z s f p.opens p.removes; was = subst Wider (fan.a_before two p.opened three a z s f p.opens p.removes) (inr (at_a.prev_in, at_a.face_prev)); is = sym rev_z ∙ sym q }
         | inr (inr (inl q)) ↦ record { edge = next two z; left = fan.c3_left two p.opened three a z s f p.opens p.removes; was = inl (inr (inr (inl refl))); is = sym nz ∙ sym q }
         | inr (inr (inr (inl q))) ↦ record { edge = next two (next two z); left = fan.c1_left two p.opened three a z s f p.opens p.removes; was = inl (inr (inr (inr refl))); is = sym to1 ∙ sym q }
         | inr (inr (inr (inr q))) ↦ record { edge = next two a; left = fan.c2_left two p.opened three a z s f p.opens p.removes; was = inr (at_a.next_in, at_a.face_next); is = sym to2 ∙ sym q }

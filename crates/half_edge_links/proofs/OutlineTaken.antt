@@ -145,9 +145,6 @@ module _ (m new : Mesh) (e : ℕ) (s : IsSound m) (can : IsUnlinkable m e) (r : 
   abbrev nm' : ℕ → ℕ
   nm' k = name m new e s can r k
 
-  differs : b ≢ a
-  differs q = (s.edges a a_in).proper (free ∙ q)
-
   -- both sides stand for the edge after them
   free_before : ℕ → Bool
   free_before k = stand_in (λ j. among (nm' j)) a b (next m b) (next m b) k
@@ -158,7 +155,7 @@ module _ (m new : Mesh) (e : ℕ) (s : IsSound m) (can : IsUnlinkable m e) (r : 
 
   free_second : (k : ℕ) → k ≡ b → free_before k ≡ among (nm' (next m b))
   unfolding free_before
-  free_second k is = stands_second (λ j. among (nm' j)) a b _ _ k (λ q. differs (sym is ∙ q)) is
+  free_second k is = stands_second (λ j. among (nm' j)) a b _ _ k (λ q. (s.edges a a_in).proper (free ∙ sym is ∙ q)) is
 
   free_plain : (k : ℕ) → k ≢ a → k ≢ b → free_before k ≡ among (nm' k)
   unfolding free_before

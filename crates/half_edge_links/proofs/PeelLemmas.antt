@@ -1,7 +1,8 @@
--- An edge between an inner face and the outer one can be removed once the face is open.
-use Rattle.std.proofs.Common.{ℕ, length, refl, sym, ap, ◌∙◌, arith}
+-- An edge between an inner face and the outer one can be removed once the face is open, and one face is less.
+use Rattle.std.proofs.Common.{ℕ, ◌+◌, ◌≡◌, length, refl, sym, ap, ◌∙◌, arith}
 use Rattle.half_edge_links.specs.Mesh.{Mesh, prev, face, rev, IsSound}
 use Rattle.half_edge_links.specs.Remove.{Opens}
+use Rattle.half_edge_links.specs.Peel.{Peels}
 use Rattle.half_edge_links.proofs.Conditions.{IsUnlinkable, IsHullEdge}
 use Rattle.half_edge_links.proofs.Rev.{rev_within}
 
@@ -23,3 +24,6 @@ removable_opened m new h s can o =
       end_free = λ q. absurd (omega (arith, can.inner, can.outer, here.same_face, twin_before.same_face, ap (face m) (sym (o.prev (rev h)) ∙ q ∙ o.next h), ap (face m) there.next_prev));
       whole = λ q p. absurd (omega (arith, can.inner, can.outer, here.same_face, ap (face m) (sym (o.next h) ∙ q)));
     }
+
+pub peels_faces : (m new : Mesh) (h : ℕ) → Peels m new h → length new.face_edges + 1 ≡ length m.face_edges
+peels_faces m new h p = omega (arith, p.opens.face_count, p.removes.face_count)

@@ -15,7 +15,7 @@ use Rattle.half_edge_links.proofs.RenameSound.{kept_edge}
 use Rattle.half_edge_links.proofs.Rev.{rev_within}
 use Rattle.half_edge_links.proofs.UnlinkSound.{inner_next, inner_prev}
 
-same_triangle : (a b c x y z : ℕ) → a ≡ x → b ≡ y → c ≡ z → (let t : Triangle = record { first = a; second = b; third = c } in t) ≡ record { first = x; second = y; third = z }
+pub same_triangle : (a b c x y z : ℕ) → a ≡ x → b ≡ y → c ≡ z → (let t : Triangle = record { first = a; second = b; third = c } in t) ≡ record { first = x; second = y; third = z }
 same_triangle a b c x y z p q r = cc
 
 map_same : {X Y : Type 0} (f g : X → Y) (xs : List X) → ((x : X) → f x ≡ g x) → map f xs ≡ map g xs

@@ -1,4 +1,5 @@
--- An edge is split by putting a vertex into the face on its left and turning it.
+-- An edge is split by putting a vertex into the face on its left and turning it: that it can be turned, and what
+-- becomes of the faces, of the ends of the edges and of the outer edges.
 use Rattle.std.proofs.Common.{◌≡◌, ℕ, ◌-◌, ◌<◌, List, [], ◌∷◌, ◌++◌, length, set, refl, sym, ap, ◌∙◌, ◌≢◌, arith, ◌/◌}
 use Rattle.std.proofs.lemmas.List.{set-set, set-append_left, length-set, length-map}
 use Rattle.half_edge_links.specs.declared.records.HalfEdge.{HalfEdge}

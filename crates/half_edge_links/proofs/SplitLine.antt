@@ -20,12 +20,6 @@ module _ (m mid new : Mesh) (e v : ℕ) (s : IsSound m) (line : IsLineEdge m e) 
   twin_in : rev e < length m.half_edges
   twin_in = rev_within e _ s.even line.0
 
-  next_next : next mid (next mid e) ≡ length m.half_edges + 1
-  next_next = ap (next mid) i.next_at ∙ i.there.next
-
-  end_is : origin mid (next mid e) ≡ origin m (rev e)
-  end_is = ap (origin mid) i.next_at ∙ i.there.origin ∙ (s.edges e line.0).starts
-
   -- the edge before the other side of e
   before_at_end : next m e ≡ rev e → prev mid (rev e) ≡ length m.half_edges + 1
   before_at_end q = ap (prev mid) (sym q) ∙ i.prev_at
@@ -49,8 +43,8 @@ module _ (m mid new : Mesh) (e v : ℕ) (s : IsSound m) (line : IsLineEdge m e) 
       let e_in = line.0 in
       let t_in = twin_in in
       let n_is : next mid e ≡ length m.half_edges = i.next_at in
-      let l_is = next_next in
-      let w_is = end_is in
+      let l_is = ap (next mid) i.next_at ∙ i.there.next in
+      let w_is = ap (origin mid) i.next_at ∙ i.there.origin ∙ (s.edges e line.0).starts in
       record {
         next_edge = j.next_edge ∙ l_is;
         prev_second = ap (prev new) (sym l_is) ∙ j.prev_back;

@@ -11,9 +11,6 @@ module _ (m new : Mesh) (x v : ℕ) (s : IsSound m) (outer : IsOuter m x) (alone
   after_in : next m x < length m.half_edges
   after_in = (s.edges x outer.0).next_in
 
-  twin_in : rev x < length m.half_edges
-  twin_in = rev_within x _ s.even outer.0
-
   step_there : among (next m x) ≡ true → among (length m.half_edges) ≡ true
   step_there is =
       let on = closed (next m x) (omega (arith, after_in, i.edge_count)) is in
@@ -49,7 +46,7 @@ module _ (m new : Mesh) (x v : ℕ) (s : IsSound m) (outer : IsOuter m x) (alone
         ]
         | inr (inl there) ↦ elim (grown_cases g _ g_in) [
           | inl g_old ↦
-              stars among closed_before (rev x) g twin_in g_old (sym (s.edges x outer.0).starts ∙ sym i.there.origin ∙ ap (origin new) (sym there) ∙ same ∙ i.origins g g_old) (step_back (ap among (sym there) ∙ is))
+              stars among closed_before (rev x) g (rev_within x _ s.even outer.0) g_old (sym (s.edges x outer.0).starts ∙ sym i.there.origin ∙ ap (origin new) (sym there) ∙ same ∙ i.origins g g_old) (step_back (ap among (sym there) ∙ is))
           | inr (inl again) ↦ ap among (again ∙ sym there) ∙ is
           | inr (inr back) ↦ absurd (there_origin (ap (origin new) (sym there) ∙ same ∙ ap (origin new) back ∙ i.back.origin))
         ]

@@ -24,12 +24,9 @@ pub sums_added : (g h : ℕ → ℤ) (n : ℕ) → sum_to (λ k. g k +ℤ h k) n
 sums_added g h zero = refl
 sums_added g h (suc n) = same_sum _ _ _ _ (sums_added g h n) refl ∙ four (sum_to g n) (sum_to h n) (g n) (h n)
 
-none_twice : pos 0 +ℤ pos 0 ≡ pos 0
-none_twice = refl
-
 pub sums_none : (g : ℕ → ℤ) (n : ℕ) → ((k : ℕ) → k < n → g k ≡ pos 0) → sum_to g n ≡ pos 0
 sums_none g zero none = refl
-sums_none g (suc n) none = same_sum _ _ _ _ (sums_none g n (λ k within. none k (omega arith))) (none n (omega arith)) ∙ none_twice
+sums_none g (suc n) none = same_sum _ _ _ _ (sums_none g n (λ k within. none k (omega arith))) (none n (omega arith))
 
 -- a sum over two ranges, either first
 pub sums_exchanged : (h : ℕ → ℕ → ℤ) (n p : ℕ) → sum_to (λ k. sum_to (h k) p) n ≡ sum_to (λ f. sum_to (λ k. h k f) n) p

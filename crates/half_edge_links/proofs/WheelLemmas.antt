@@ -96,9 +96,6 @@ module _ (m : Mesh) (o : ℕ) (s : IsSound m) (w : IsFullWheel m o) where
       pub prev_is : (k : ℕ) → prev mid k ≡ prev m k
       prev_is k = oq.prev k ∙ op.prev k
 
-      origin_is : (k : ℕ) → origin mid k ≡ origin m k
-      origin_is k = oq.origin k ∙ op.origin k
-
       count : length mid.half_edges ≡ length m.half_edges
       count = oq.edge_count ∙ op.edge_count
 
@@ -162,7 +159,7 @@ module _ (m : Mesh) (o : ℕ) (s : IsSound m) (w : IsFullWheel m o) where
       s3 = sound_removed mid new o r
 
       pub origin_now : (k : ℕ) → IsLeft mid o k → origin new (nm k) ≡ origin m k
-      origin_now k l = origin_at mid new o s2 can r k l ∙ origin_is k
+      origin_now k l = origin_at mid new o s2 can r k l ∙ oq.origin k ∙ op.origin k
 
       pub rev_a : rev (nm (turn m o)) ≡ nm (rev (turn m o))
       rev_a = rev_at mid new o s2 can r _ a_left

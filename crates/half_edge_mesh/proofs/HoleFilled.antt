@@ -138,9 +138,6 @@ module _ {V D U F : Type 0} (old c new : Contents V D U F) (o turned : ℕ) (who
       let there = IsPermutation-trans _ _ _ f.touching (IsPermutation-trans _ _ _ (IsPermutation-append_right f.lost _ _ edges_out.0) all_edges.2) in
       IsPermutation-trans _ _ _ both (IsPermutation-append_left (filter (misses v) (full_edges old)) _ _ there)
 
-  new_edges : IsPermutation (full_edges new) (f.made ++ filter (misses v) (full_edges old))
-  new_edges = IsPermutation-trans _ _ _ (IsPermutation-sym _ _ edges_out.1) f.missing
-
   -- ---- faces
   rest_misses : All (λ x. has_corner v x ≡ false) g.rest
   rest_misses = All-tail (λ x. has_corner v x ≡ false) g.made g.rest (All-permutation (λ x. has_corner v x ≡ false) _ _ g.is (faces_miss new v whole_new alone))
@@ -209,7 +206,7 @@ module _ {V D U F : Type 0} (old c new : Contents V D U F) (o turned : ℕ) (who
         former_edges = All-weaker (λ e. (x : FullEdge D U) × Contains f.lost x × HasDataOf e x) (λ e. (x : FullEdge D U) × Contains all_edges.0 x × HasDataOf e x) (λ e h. (h.0, all_edges.3 h.0 h.1, h.2)) f.made f.former;
         other_edges = filter (misses v) (full_edges old);
         edges_were = old_edges;
-        edges_are = new_edges;
+        edges_are = IsPermutation-trans _ _ _ (IsPermutation-sym _ _ edges_out.1) f.missing;
         lost_faces = lost_round;
         lost_faces_are = lost_round_are;
         made_faces = g.made ∷ f.faces;

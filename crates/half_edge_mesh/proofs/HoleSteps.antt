@@ -14,7 +14,7 @@ use Rattle.half_edge_links.specs.Remove.{ClosesLoop, IsOpenTriangle, IsRemovable
 use Rattle.half_edge_links.specs.Round.{neighbour}
 use Rattle.half_edge_links.specs.Triangles.{triangles, triangle_at}
 use Rattle.half_edge_links.proofs.CollapseLemmas.{open_triangle, removable_last}
-use Rattle.half_edge_links.proofs.CollapseSteps.{peels_faces}
+use Rattle.half_edge_links.proofs.PeelLemmas.{peels_faces}
 use Rattle.half_edge_links.proofs.Conditions.{IsFullWheel, full_wheel, peelable, removable}
 use Rattle.half_edge_links.proofs.OutlineFilled.{outline_filled}
 use Rattle.half_edge_links.proofs.Rev.{rev-rev}

@@ -72,9 +72,6 @@ module _ (m mid : Mesh) (e : ℕ) (s : IsSound m) (can : IsPassable m e) (i : Pa
   t : IsBeside m e
   t = beside m e s can
 
-  pub hangs_free : next mid (rev (next m e)) ≡ next m e
-  hangs_free = i.next_there
-
   pub removable_hanging : IsRemovable mid (next m e)
   removable_hanging =
       let p = t in
@@ -247,7 +244,7 @@ module _ {V D U F : Type 0} where
       let w : ℕ = origin m (rev l) in
       let v_is : origin m (rev e) ≡ origin m out = ap (origin m) (rev-rev out) in
       let r' : Removes c1.mesh c2.mesh l = rw is at r in
-      let gone = alone_after c1.mesh c2.mesh l w1.valid.sound (removable_hanging m c1.mesh e s can links) (hangs_free m c1.mesh e s can links) r' in
+      let gone = alone_after c1.mesh c2.mesh l w1.valid.sound (removable_hanging m c1.mesh e s can links) links.next_there r' in
       let at_v : origin c1.mesh l ≡ origin m out = links.other_origins l p.back_in p.back-twin ∙ p.start ∙ v_is in
       let none : triangles c2.mesh ≡ triangles m = same ∙ ap (map (triangle_at c1.mesh)) (links.face_edges ∙ can.one_face) ∙ sym (ap (map (triangle_at m)) can.one_face) in
       let joined : JoinsNeighbours c0 c2 (origin m out) u w = rw v_is at j in

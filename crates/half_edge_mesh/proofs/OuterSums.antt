@@ -95,15 +95,12 @@ whole_ends c w =
     let n = count_ends c.mesh w.valid.sound in
     (omega (arith, n, w.fits.undirected_fit), omega (arith, n, w.fits.directed_fit))
 
-pub whole_corners : {V D U F : Type 0} (c : Contents V D U F) → IsWhole c → length c.faces ≡ length (triangles c.mesh)
-whole_corners c w = w.fits.faces_fit ∙ sym (length-map c.mesh.face_edges (triangle_at c.mesh))
-
 module _ {V D U F : Type 0} (f : ℕ → ℕ → ℤ) where
   pub total_edges : (c : Contents V D U F) → IsWhole c → total (λ (x : FullEdge D U). both_ways f (edge_ends x)) (full_edges c) ≡ total (both_ways f) (ends c.mesh)
   total_edges c w = let fit = whole_ends c w in total_full_edges f (ends c.mesh) c.undirected c.directed fit.0 fit.1
 
   pub total_faces : (c : Contents V D U F) → IsWhole c → total (λ (x : FullFace F). around f x.corners) (full_faces c) ≡ total (around f) (triangles c.mesh)
-  total_faces c w = total_full_faces f (triangles c.mesh) c.faces (whole_corners c w)
+  total_faces c w = total_full_faces f (triangles c.mesh) c.faces (w.fits.faces_fit ∙ sym (length-map c.mesh.face_edges (triangle_at c.mesh)))
 
   -- edges that go
   pub ends_sum : (old new : Contents V D U F) (gone : List Ends) → IsWhole old → IsWhole new → LosesEdges old new gone → total (both_ways f) (ends old.mesh) ≡ total (both_ways f) gone +ℤ total (both_ways f) (ends new.mesh)

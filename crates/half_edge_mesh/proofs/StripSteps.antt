@@ -130,9 +130,6 @@ module _ {V D U F : Type 0} (old c : Contents V D U F) (first count h gone : ℕ
   pub stripped_removable : gone ≡ count → IsRemovable c.mesh h
   stripped_removable is = removable_strip c.mesh h (all_gone is)
 
-  pub stripped_pendant : gone ≡ count → IsPendant c.mesh h
-  stripped_pendant is = inr ((all_gone is).gap)
-
   pub strip_lost : (new : Contents V D U F) → gone ≡ count → IsWhole old → IsWhole c → IsWhole new → IsSameBut old c → KeepsOneOutline old.mesh c.mesh
       → new ≡ record c { mesh = new.mesh; directed = new.directed; undirected = new.undirected } → Removes c.mesh new.mesh h → LosesEdges c new (joins (origin c.mesh h) (origin c.mesh (rev h)) ∷ []) → triangles new.mesh ≡ triangles c.mesh
       → (IsPendant c.mesh h → KeepsOneOutline c.mesh new.mesh) → LosesStrip old new (origin old.mesh first) (neighbour old.mesh first) count
@@ -152,5 +149,5 @@ module _ {V D U F : Type 0} (old c : Contents V D U F) (first count h gone : ℕ
         edges = all;
         faces = faces;
         outer = outer_stripped old new v n count w wn all faces;
-        outline = λ one. last_outline (stripped_pendant is) (outline one);
+        outline = λ one. last_outline (inr (all_gone is).gap) (outline one);
       }

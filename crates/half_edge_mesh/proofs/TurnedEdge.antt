@@ -64,17 +64,11 @@ module _ {V D U F : Type 0} (c new : Contents V D U F) (o l v tip_end first_end 
   before : origin m (prev m (rev e)) ≡ tip_end
   before = ap (λ h. origin m (prev m h)) twin ∙ ap (origin m) t.prev_prev ∙ (s.edges o w.within).starts ∙ tip_is
 
-  beyond : origin m (next m e) ≡ first_end
-  beyond = (s.edges e (at 1).0).starts ∙ first_is
-
   back : origin m (next m (rev e)) ≡ v
   back = ap (λ h. origin m (next m h)) twin ∙ ap (origin m) t.next_prev ∙ v_is
 
   tip_off : tip_end ≢ v
   tip_off q = off_at 0 (tip_is ∙ q)
-
-  first_off : first_end ≢ v
-  first_off q = off_at 1 (first_is ∙ q)
 
   next_off : next_end ≢ v
   next_off q = off_at 2 (next_is ∙ q)
@@ -170,12 +164,6 @@ module _ {V D U F : Type 0} (c new : Contents V D U F) (o l v tip_end first_end 
     a_in : a < length (full_faces c)
     a_in = omega (arith, long, inner_e.0, inner_e.1)
 
-    b_in : b < length (full_faces c)
-    b_in = omega (arith, long, inner_twin.0, inner_twin.1)
-
-    ab : b ≢ a
-    ab q = faces_apart m e whole.valid (at 1).0 inner_e.0 (omega (arith, q, inner_e.0, inner_twin.0))
-
     was : FullFace F
     was = get_or (full_faces c) a d
 
@@ -209,10 +197,10 @@ module _ {V D U F : Type 0} (c new : Contents V D U F) (o l v tip_end first_end 
 
     pub come_corners : HasCorners come_face (record { first = tip_end; second = first_end; third = next_end })
     unfolding come_face with_other_corners
-    come_corners = inr (inr (λ i. record { first = after i; second = before i; third = beyond i }))
+    come_corners = inr (inr (λ i. record { first = after i; second = before i; third = ((s.edges e (at 1).0).starts ∙ first_is) i }))
 
     come_off : has_corner v come_face ≡ false
-    come_off = corner_missing v come_face (record { first = tip_end; second = first_end; third = next_end }) come_corners tip_off first_off next_off
+    come_off = corner_missing v come_face (record { first = tip_end; second = first_end; third = next_end }) come_corners tip_off (λ q. off_at 1 (first_is ∙ q)) next_off
 
     turned_there : has_corner v turned_face ≡ true
     unfolding turned_face with_other_corners
@@ -222,8 +210,8 @@ module _ {V D U F : Type 0} (c new : Contents V D U F) (o l v tip_end first_end 
     unfolding middle was
     faces_gain =
         let one = filter_gains (lacks_corner v) (full_faces c) a come_face d a_in (ap not was_there) (ap not come_off) in
-        let kept = get_or-set_other (full_faces c) a b come_face d ab in
-        let two = filter_stays (lacks_corner v) middle b turned_face d (rw length-set b_in) (ap not (ap (has_corner v) kept ∙ other_there)) (ap not turned_there) in
+        let kept = get_or-set_other (full_faces c) a b come_face d (λ q. faces_apart m e whole.valid (at 1).0 inner_e.0 (omega (arith, q, inner_e.0, inner_twin.0))) in
+        let two = filter_stays (lacks_corner v) middle b turned_face d (rw length-set (omega (arith, long, inner_twin.0, inner_twin.1))) (ap not (ap (has_corner v) kept ∙ other_there)) (ap not turned_there) in
         rw list_is (IsPermutation-trans _ _ _ two one)
 
     -- its data are those of a face at the vertex
@@ -327,9 +315,6 @@ moves_over xs ys zs ws x p q = IsPermutation-trans _ _ _ p (IsPermutation-trans 
 grows_by : {X : Type 0} (xs ys zs ws : List X) (x : X) → IsPermutation xs (x ∷ ys) → IsPermutation ys (zs ++ ws) → IsPermutation xs ((x ∷ zs) ++ ws)
 grows_by xs ys zs ws x p q = IsPermutation-trans _ _ _ p (IsPermutation-cons x _ _ q)
 
-one_before : {X : Type 0} (xs : List X) (x y : X) → Contains xs y → Contains (x ∷ xs) y
-one_before xs x y at = Contains-append_right (x ∷ []) xs y at
-
 module _ {V D U F : Type 0} (old c : Contents V D U F) (o k turned : ℕ) (whole_old : IsWhole old) (whole : IsWhole c) (tip : HasFreeTip (neighbour old.mesh o) k) (f : IsTurned old c o k turned) (more : turned + 3 < k) where
   abbrev v : ℕ
   v = origin old.mesh o
@@ -409,7 +394,7 @@ module _ {V D U F : Type 0} (old c : Contents V D U F) (o k turned : ℕ) (whole
       missing = grows_by _ _ f.made _ come (edges_gain c new o l v (n 0) (n (suc turned)) (n (suc (suc turned))) whole w (omega (arith, many)) f.start f.tip first_is next_is same ends_are) f.missing;
       former = All-cons (λ e. (x : FullEdge D U) × Contains (gone ∷ f.lost) x × HasDataOf e x) come f.made
           (gone, (0, omega arith, refl), come_data c new o l v (n 0) (n (suc turned)) (n (suc (suc turned))) whole w (omega (arith, many)) f.start f.tip first_is next_is same)
-          (All-weaker (λ e. (x : FullEdge D U) × Contains f.lost x × HasDataOf e x) (λ e. (x : FullEdge D U) × Contains (gone ∷ f.lost) x × HasDataOf e x) (λ e h. (h.0, one_before f.lost gone h.0 h.1, h.2)) f.made f.former);
+          (All-weaker (λ e. (x : FullEdge D U) × Contains f.lost x × HasDataOf e x) (λ e. (x : FullEdge D U) × Contains (gone ∷ f.lost) x × HasDataOf e x) (λ e h. (h.0, Contains-append_right (gone ∷ []) f.lost h.0 h.1, h.2)) f.made f.former);
       faces = come_f ∷ f.faces;
       faces_are = (come_corners c new o l v (n 0) (n (suc turned)) (n (suc (suc turned))) whole w (omega (arith, many)) f.start f.tip first_is next_is same d faces_are, f.faces_are);
       lacking = grows_by _ _ f.faces _ come_f (faces_gain c new o l v (n 0) (n (suc turned)) (n (suc (suc turned))) whole w (omega (arith, many)) f.start f.tip first_is next_is same d faces_are) f.lacking;
