@@ -30,9 +30,6 @@ loop-index-preserved g c =
       | else-is_on_way w ↦ rw w.next-is (still_next points distinct c.args.from from_in c.args.to to_in c.requires.apart c.loop-index.index c.loop-index.next c.from_index-vertex.result c.from_index-vertex.ensures c.loop-index.invariant vertex_in (λ x. both_ways _ (c.is_on_way.ensures.1 x) w.if-is_on_way.false))
     ]
 
-pub returns-clause-within : goal.returns-clause-within
-returns-clause-within g c = of_map g.V.HasPosition.place c.args.dcel.now.vertices c.loop-index.next c.loop-index.invariant.within
-
 pub returns-clause-next : goal.returns-clause-next
 returns-clause-next g c =
     let points = map g.V.HasPosition.place c.args.dcel.now.vertices in
@@ -40,3 +37,6 @@ returns-clause-next g c =
     let count = length-map c.args.dcel.now.vertices g.V.HasPosition.place in
     walk_ends points distinct c.args.from (in_map g.V.HasPosition.place c.args.dcel.now.vertices c.args.from c.requires.from_in) c.args.to (in_map g.V.HasPosition.place c.args.dcel.now.vertices c.args.to c.requires.to_in) c.requires.apart
     c.loop-index.index (omega (arith, count, c.loop-index-test.false, c.num_vertices-index-end.ensures.value)) c.loop-index.next c.loop-index.invariant
+
+pub returns-clause-within : goal.returns-clause-within
+returns-clause-within g c = of_map g.V.HasPosition.place c.args.dcel.now.vertices c.loop-index.next c.loop-index.invariant.within
