@@ -27,3 +27,6 @@ add_face_beside-requires-clause-outer g c =
     let within = rw (← c.self.view_is) at c.requires.within in
     let outer = rw (← c.self.view_is) at c.requires.outer in
     rw (c.push_vertex-v.ensures.mesh, c.index.ensures) (omega (arith, within, c.self.invariant.directed_fit), outer)
+
+pub returns-clause-directed : goal.returns-clause-directed
+returns-clause-directed g c = rw (← c.self.view_is) c.push_defaults.ensures.grows

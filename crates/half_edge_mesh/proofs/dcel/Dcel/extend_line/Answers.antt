@@ -15,3 +15,6 @@ returns-clause-outer g c =
 
 pub returns-clause-outline : goal.returns-clause-outline
 returns-clause-outline g c = rw (← c.self.view_is) (λ one. c.extend_line.ensures.outline (c.push_vertex-v.ensures.outline one))
+
+pub returns-clause-directed : goal.returns-clause-directed
+returns-clause-directed g c = rw (← c.self.view_is) c.push_defaults.ensures.grows

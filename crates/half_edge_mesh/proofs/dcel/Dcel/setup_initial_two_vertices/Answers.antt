@@ -12,3 +12,6 @@ returns-clause-triangles g c =
 
 pub returns-clause-mesh : goal.returns-clause-mesh
 returns-clause-mesh g c = rw (← c.self.view_is) (rw (c.index.ensures, c.index-2.ensures) at c.connect.ensures.mesh)
+
+pub returns-clause-contents : goal.returns-clause-contents
+returns-clause-contents g c = rw (← c.self.view_is, c.connect.ensures.room, c.push_defaults.ensures.capacity, c.push_defaults-2.ensures.capacity) refl
