@@ -1,4 +1,3 @@
-pub mod EdgePairs
 pub mod Towards
 pub mod Making
 pub mod LastEdge

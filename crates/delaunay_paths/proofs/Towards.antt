@@ -2,12 +2,12 @@
 use Rattle.std.proofs.Common.{◌≡◌, ◌≢◌, ◌⊎◌, ℕ, ◌*◌, ◌/◌, ◌<◌, [], ◌∷◌, List, length, sym, ap, ◌∙◌, subst}
 use mathlib.Core.Logic.{inl, inr}
 use Rattle.std.specs.Prelude.{Contains}
-use Rattle.std.proofs.lemmas.Bool.{cases_eq}
-use Rattle.half_edge_links.specs.Mesh.{Mesh, IsValid, origin, next, prev, face, rev}
+use Rattle.half_edge_links.specs.Mesh.{Mesh, IsSound, IsValid, origin, next, prev, face, rev}
 use Rattle.half_edge_links.specs.Flip.{IsFlippable, Flips, flipped}
 use Rattle.half_edge_links.specs.Outline.{KeepsOuter}
 use Rattle.half_edge_links.specs.Triangles.{FlipsTriangles}
 use Rattle.half_edge_links.proofs.FlipLemmas.{flips_is}
+use Rattle.half_edge_links.proofs.FlipSound.{origin_kept}
 use Rattle.half_edge_links.proofs.Rev.{rev-rev, rev_within}
 use Rattle.plane.specs.Fraction.{Point}
 use Rattle.plane.specs.Pairs.{place}
@@ -44,22 +44,11 @@ use Rattle.drawn_mesh.proofs.OwnEdges.{own_edges}
 use Rattle.delaunay_legalization.proofs.Legalizing.{positive}
 use Rattle.delaunay_paths.specs.Crossing.{CrossesFromRight, CrossesSegment, IsLastBelow}
 use Rattle.delaunay_paths.specs.Kept.{KeepsUncrossed}
-use Rattle.delaunay_paths.proofs.EdgePairs.{edge_joins, joins_edge}
+use Rattle.drawn_mesh.proofs.EdgePairs.{edge_joins, joins_edge}
 
 -- ---- the ends of edges that are not turned
-module _ (m new : Mesh) (e : ℕ) (moves : Flips m new e) where
-  origin_stays : (h : ℕ) → h ≢ e → h ≢ rev e → origin new h ≡ origin m h
-  origin_stays h n t = go (cases_eq h (next m e)) (cases_eq h (next m (rev e))) (cases_eq h (prev m e)) (cases_eq h (prev m (rev e)))
-    where
-      go : (h ≡ next m e) ⊎ (h ≢ next m e) → (h ≡ next m (rev e)) ⊎ (h ≢ next m (rev e)) → (h ≡ prev m e) ⊎ (h ≢ prev m e) → (h ≡ prev m (rev e)) ⊎ (h ≢ prev m (rev e)) → origin new h ≡ origin m h
-      go (inl r) p q w = ap (origin new) r ∙ moves.edge_next.origin ∙ sym (ap (origin m) r)
-      go (inr r) (inl p) q w = ap (origin new) p ∙ moves.twin_next.origin ∙ sym (ap (origin m) p)
-      go (inr r) (inr p) (inl q) w = ap (origin new) q ∙ moves.edge_prev.origin ∙ sym (ap (origin m) q)
-      go (inr r) (inr p) (inr q) (inl w) = ap (origin new) w ∙ moves.twin_prev.origin ∙ sym (ap (origin m) w)
-      go (inr r) (inr p) (inr q) (inr w) = ap (λ h. h.origin) (moves.other_edges h n t r p q w)
-
-  pub others_stay : (h : ℕ) → h ≢ e → h ≢ rev e → GoSameWay m h new h
-  others_stay h n t = (origin_stays h n t, origin_stays (rev h) (λ r. t (sym (rev-rev h) ∙ ap rev r)) (λ r. n (sym (rev-rev h) ∙ ap rev r ∙ rev-rev e)))
+pub others_stay : (m new : Mesh) (e : ℕ) → IsSound m → IsFlippable m e → Flips m new e → (h : ℕ) → h ≢ e → h ≢ rev e → GoSameWay m h new h
+others_stay m new e s can f h n t = (origin_kept m new e s can f h n t, origin_kept m new e s can f (rev h) (λ r. t (sym (rev-rev h) ∙ ap rev r)) (λ r. n (sym (rev-rev h) ∙ ap rev r ∙ rev-rev e)))
 
 -- ---- crossing edges, as the laws of the plane have them
 module _ (points : List Point) (m : Mesh) (s : IsValid m) (i j : ℕ) where
@@ -203,5 +192,5 @@ module _ (points : List Point) (m : Mesh) (s : IsValid m) (i j : ℕ) where
 
     pub turned_keeps : (new : Mesh) → new ≡ flipped m (2 * (e / 2)) → KeepsUncrossed points m new i j
     turned_keeps new is h clear =
-        others_stay m new (2 * (e / 2)) (flips_is m new (2 * (e / 2)) s.sound can_turn_last.0 is) h
+        others_stay m new (2 * (e / 2)) s.sound can_turn_last.0 (flips_is m new (2 * (e / 2)) s.sound can_turn_last.0 is) h
         (λ q. clear (crosses_at h (twins h (inl q)))) (λ q. clear (crosses_at h (twins h (inr q))))

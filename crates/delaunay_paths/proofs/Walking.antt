@@ -1,25 +1,24 @@
 -- The scan for the next vertex of a path.
 use Rattle.std.proofs.Common.{◌≡◌, ◌≢◌, ◌⊎◌, ◌↔◌, ℕ, ◌+◌, ◌<◌, List, length, map, refl, sym, ap, ◌∙◌, subst, arith}
 use mathlib.Core.Logic.{inl, inr}
-use Rattle.std.specs.Prelude.{ℤ, pos, ◌*ℤ◌, ◌+ℤ◌, ◌<ℤ◌, Contains, Some, slice_get}
+use Rattle.std.specs.Prelude.{ℤ, pos, ◌<ℤ◌, Contains, Some, slice_get}
 use Rattle.std.proofs.lemmas.Int.{ints}
 use Rattle.std.proofs.lemmas.List.{length-map}
 use Rattle.std.proofs.lemmas.Option.{slice_get_within, get_or_from_slice_get}
-use Rattle.plane.specs.Fraction.{Point, whole, IsPositive, OnSegment, WithinSegment}
+use Rattle.plane.specs.Fraction.{Point, whole, OnSegment, WithinSegment}
 use Rattle.plane.specs.Pairs.{place}
 use Rattle.plane.specs.Tiling.{Face}
-use Rattle.plane.proofs.Bracket.{bracket, lift}
+use Rattle.plane.proofs.Bracket.{lift}
 use Rattle.plane.proofs.BracketIdentities.{bracket-outer, bracket-last}
 use Rattle.plane.proofs.Collinear.{place_on, place_of_start, place_of_end}
-use Rattle.plane.proofs.IntegerOrder.{zero-mul_ℤ, zero_of_mul-zero_ℤ, pos-ne-zero_ℤ}
-use Rattle.plane.proofs.Means.{two_weights, bracket_of_two}
 use Rattle.plane.proofs.LineOrder.{IsBetween, place_within, within_places}
 use Rattle.plane.proofs.Segments.{start_on_segment, end_on_segment, on_of_within}
 use Rattle.plane_tiling.specs.Local.{IsMesh}
 use Rattle.plane_tiling.proofs.Edges.{within_on}
+use Rattle.plane_paths.proofs.Pieces.{on_of_mean}
 use Rattle.plane_paths.specs.Constraints.{AreNextOn, ArePlacedApart}
 use Rattle.delaunay_legalization.specs.Known.{point_at}
-use Rattle.delaunay_paths.proofs.EdgePairs.{Contains-map}
+use Rattle.drawn_mesh.proofs.EdgePairs.{Contains-map}
 
 -- ---- points strictly within a segment
 module _ (a b : Point) (apart : ¬ (a ≡ b)) where
@@ -43,16 +42,6 @@ module _ (a b : Point) (apart : ¬ (a ≡ b)) where
       go (inl (inr h)) = absurd (back (F a) (F b) (F k) (place_of_start a b) (place_of_end a b apart) h.0 h.1)
       go (inr h) = absurd (level (F a) (F b) (F k) (place_of_start a b) (place_of_end a b apart) h.0 h.1)
 
-  abbrev On : Point → Type 0
-  On z = bracket (lift a) (lift b) (lift z) ≡ pos 0
-
-  on_of_mean : (u v z : Point) → On u → On v → WithinSegment (whole u) (whole v) (whole z) → On z
-  on_of_mean u v z on_u on_v h = let t = two_weights IsPositive (whole u) (whole v) (whole z) h in
-      zero_of_mul-zero_ℤ (pos-ne-zero_ℤ t.positive) (bracket_of_two IsPositive (lift a) (lift b) (whole u) (whole v) (whole z) t ∙ none (t.k *ℤ bracket (lift a) (lift b) (lift u)) (t.l *ℤ bracket (lift a) (lift b) (lift v)) (zero-mul_ℤ t.k on_u) (zero-mul_ℤ t.l on_v))
-    where
-      none : (x y : ℤ) → x ≡ pos 0 → y ≡ pos 0 → x +ℤ y ≡ pos 0
-      none x y e d = omega (arith, ints)
-
   -- is neither end
   pub not_start : ¬ WithinSegment (whole a) (whole b) (whole a)
   not_start w = itself (F a) (ordered a w).0
@@ -62,7 +51,7 @@ module _ (a b : Point) (apart : ¬ (a ≡ b)) where
 
   -- within a part is within the whole
   pub nested : (k x : Point) → WithinSegment (whole a) (whole b) (whole k) → WithinSegment (whole a) (whole k) (whole x) → WithinSegment (whole a) (whole b) (whole x)
-  nested k x h w = within_places a b apart a b x (bracket-outer (lift a) (lift b)) (bracket-last (lift a) (lift b)) (on_of_mean a k x (bracket-outer (lift a) (lift b)) (within_on a b (whole k) h) w) (go (place_within a b a k x w))
+  nested k x h w = within_places a b apart a b x (bracket-outer (lift a) (lift b)) (bracket-last (lift a) (lift b)) (on_of_mean a b apart a k x (bracket-outer (lift a) (lift b)) (within_on a b (whole k) h) w) (go (place_within a b a k x w))
     where
       far : (x y z : ℤ) → y <ℤ z → z <ℤ x → x <ℤ y → ⊥
       far x y z e h k = omega (arith, ints)

@@ -1,3 +1,4 @@
+pub mod EdgePairs
 pub mod OwnEdges
 pub mod OuterEdges
 pub mod FaceChanges

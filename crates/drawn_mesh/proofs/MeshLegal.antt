@@ -13,6 +13,7 @@ use Rattle.half_edge_links.proofs.Rev.{rev-rev, rev_differs, rev_within}
 use Rattle.half_edge_links.proofs.Triangles as T
 use Rattle.half_edge_links.proofs.Writes.{AreSixPlaces}
 use Rattle.half_edge_links.proofs.FlipLemmas.{flips}
+use Rattle.half_edge_links.proofs.FlipSound.{origin_kept}
 use Rattle.half_edge_links.proofs.FlipTriangles.{triangles_flipped}
 use Rattle.half_edge_links.proofs.KeepsOuter.{outer_flipped_is}
 use Rattle.plane.specs.Fraction.{Point}
@@ -247,14 +248,7 @@ module _ (points : List Point) (m : Mesh) (s : IsValid m) (local : LocalMesh poi
 
   -- ---- the ends of the edges
   origin_stays : (h : ℕ) → h ≢ e → h ≢ rev e → origin after h ≡ origin m h
-  origin_stays h n t = go (cases_eq h (next m e)) (cases_eq h (next m (rev e))) (cases_eq h (prev m e)) (cases_eq h (prev m (rev e)))
-    where
-      go : (h ≡ next m e) ⊎ (h ≢ next m e) → (h ≡ next m (rev e)) ⊎ (h ≢ next m (rev e)) → (h ≡ prev m e) ⊎ (h ≢ prev m e) → (h ≡ prev m (rev e)) ⊎ (h ≢ prev m (rev e)) → origin after h ≡ origin m h
-      go (inl r) p q w = ap (origin after) r ∙ moves.edge_next.origin ∙ sym (ap (origin m) r)
-      go (inr r) (inl p) q w = ap (origin after) p ∙ moves.twin_next.origin ∙ sym (ap (origin m) p)
-      go (inr r) (inr p) (inl q) w = ap (origin after) q ∙ moves.edge_prev.origin ∙ sym (ap (origin m) q)
-      go (inr r) (inr p) (inr q) (inl w) = ap (origin after) w ∙ moves.twin_prev.origin ∙ sym (ap (origin m) w)
-      go (inr r) (inr p) (inr q) (inr w) = ap (λ h. h.origin) (moves.other_edges h n t r p q w)
+  origin_stays = origin_kept m after e s.sound can_turn moves
 
   rev_stays : (h : ℕ) → h ≢ e → h ≢ rev e → origin after (rev h) ≡ origin m (rev h)
   rev_stays h n t = origin_stays (rev h) (λ r. t (sym (rev-rev h) ∙ ap rev r)) (λ r. n (sym (rev-rev h) ∙ ap rev r ∙ rev-rev e))

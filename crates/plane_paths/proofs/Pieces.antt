@@ -73,10 +73,10 @@ module _ (u v : Point) (apart : ¬ (u ≡ v)) where
   abbrev F : Point → ℤ
   F z = place_on u v (lift z)
 
-  abbrev On : Point → Type 0
+  abbrev pub On : Point → Type 0
   On z = bracket (lift u) (lift v) (lift z) ≡ pos 0
 
-  on_of_mean : (a b z : Point) → On a → On b → WithinSegment (whole a) (whole b) (whole z) → On z
+  pub on_of_mean : (a b z : Point) → On a → On b → WithinSegment (whole a) (whole b) (whole z) → On z
   on_of_mean a b z on_a on_b h = let t = two_weights IsPositive (whole a) (whole b) (whole z) h in
       zero_of_mul-zero_ℤ (pos-ne-zero_ℤ t.positive) (bracket_of_two IsPositive (lift u) (lift v) (whole a) (whole b) (whole z) t ∙ none (t.k *ℤ bracket (lift u) (lift v) (lift a)) (t.l *ℤ bracket (lift u) (lift v) (lift b)) (zero-mul_ℤ t.k on_a) (zero-mul_ℤ t.l on_b))
     where
