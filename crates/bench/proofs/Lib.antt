@@ -1,1 +1,2 @@
 pub mod Sites
+mod Segments

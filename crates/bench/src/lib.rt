@@ -2,6 +2,7 @@
 #![tactic(auto)]
 
 pub mod sheet_hints;
+pub mod sheet_paths;
 pub mod sheet_triangulation;
 pub mod tagged_vertex;
 #[cfg(test)]

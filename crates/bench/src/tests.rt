@@ -14,6 +14,7 @@ mod fixed_edges;
 mod hints;
 mod locations;
 mod nearest;
+mod paths;
 mod refusals;
 mod removals;
 mod snapshots;

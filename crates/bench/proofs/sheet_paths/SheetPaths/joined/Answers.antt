@@ -1,0 +1,18 @@
+use Rattle.std.proofs.Common.{◌≡◌, List, rules, sym, subst}
+use Rattle.triangulate_run.specs.Sheet.{IsSite}
+use Rattle.bench.specs.declared.tagged_vertex.TaggedVertex.{TaggedVertex}
+use Rattle.bench.specs.Vertices.{AreSites}
+use Rattle.bench.proofs.Segments.{free_in_copy}
+use Rattle.bench.proofs.sheet_paths.SheetPaths.joined.Goals as goal
+
+pub next_on_path-requires-clause-sites : goal.next_on_path-requires-clause-sites
+next_on_path-requires-clause-sites c = rw (← c.self.view_is) at c.mesh_at-mesh.ensures.sites
+
+pub make_edge-requires-clause-free : goal.make_edge-requires-clause-free
+make_edge-requires-clause-free c =
+    let same : c.next_on_path.result ≡ c.in_ok-start.end = search rules in
+    free_in_copy c.mesh_at-mesh.result.now c.in_ok-copy.copy c.in_ok-start.start c.in_ok-start.end c.next_on_path.result c.in_ok-copy.ensures c.next_on_path.ensures.next same
+
+pub make_edge-requires-clause-sites : goal.make_edge-requires-clause-sites
+make_edge-requires-clause-sites c =
+    subst (λ (vs : List TaggedVertex). AreSites (IsSite c.self.inside.sheet) vs) (sym c.in_ok-copy.ensures.0) (rw (← c.self.view_is) at c.mesh_at-mesh.ensures.sites)
