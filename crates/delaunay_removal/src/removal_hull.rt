@@ -1,5 +1,5 @@
 //! A vertex on the hull loses its edges.
-ghost use Rattle.std.specs.Prelude.{◌≡◌, ◌↔◌, ◌-◌, ℕ, ◌<◌, ◌≤◌, length, map, All, IsTrue, IfSome, IfNone, vec_capacity};
+ghost use Rattle.std.specs.Prelude.{◌≡◌, ◌↔◌, ◌-◌, ◌<◌, ◌≤◌, length, map, All, IsTrue, IfSome, IfNone, vec_capacity};
 ghost use Rattle.half_edge_links.specs.Mesh.{face, next, origin, rev};
 ghost use Rattle.half_edge_links.specs.Round.{neighbour};
 ghost use Rattle.plane.specs.Pairs.{place};
