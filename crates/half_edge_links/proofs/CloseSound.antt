@@ -67,9 +67,6 @@ module _ (m : Mesh) (h : ℕ) (s : IsSound m) (can : IsOpenTriangle m h) where
           face_in = omega (arith, face_count);
         }) last_named
 
-    sound_round : (k : ℕ) → IsRound m h k → IsSoundEdge new k
-    sound_round k r = elim r [ inl i ↦ rw i loop.0 | inr j ↦ elim j [ inl i ↦ rw i loop.1 | inr i ↦ rw i loop.2 ] ]
-
     sound_off : (k : ℕ) → k < length m.half_edges → (k ≢ h) × (k ≢ next m h) × (k ≢ prev m h) → IsSoundEdge new k
     sound_off k within off =
         let was = s.edges k within in
@@ -96,7 +93,7 @@ module _ (m : Mesh) (h : ℕ) (s : IsSound m) (can : IsOpenTriangle m h) where
       even = rw c.edge_count s.even;
       edges = λ k within.
           let k_in : k < length m.half_edges = rw c.edge_count at within in
-          elim (is_round m h k) [ inl r ↦ sound_round k r | inr off ↦ sound_off k k_in off ];
+          elim (is_round m h k) [ inl (inl i) ↦ rw i loop.0 | inl (inr (inl i)) ↦ rw i loop.1 | inl (inr (inr i)) ↦ rw i loop.2 | inr off ↦ sound_off k k_in off ];
       vertices = λ v k is. let had = s.vertices v k (rw c.outs at is) in (rw c.edge_count had.0, c.origins k ∙ had.1);
       faces = λ f some within.
           let f_in : f ≤ length m.face_edges + 1 = rw face_count at within in

@@ -15,6 +15,9 @@ use Rattle.half_edge_links.proofs.Triangles.{IsTriangle, same_loop, triangle_at 
 use Rattle.half_edge_links.proofs.TakenLists.{ends_at, count_ends}
 use Rattle.half_edge_links.proofs.Sums.{sum_to, same_sum, sums_agree, sums_added, sums_none, sums_exchanged, only_at, at_place, off_place, sum_single, zero_first, zero_last, total_by_place, sum_in_pairs}
 
+swapped : (a b : ℤ) → a +ℤ b ≡ b +ℤ a
+swapped a b = omega (arith, ints)
+
 three_first : (c : ℤ) → c ≡ c +ℤ pos 0 +ℤ pos 0
 three_first c = omega (arith, ints)
 
@@ -62,9 +65,6 @@ module _ (m : Mesh) (s : IsSound m) (f : ℕ → ℕ → ℤ) where
             let here : outer_among m (suc k) ≡ outer_among m k = grind (arith, nat_tests) in
             ap (total (along f)) here ∙ sym (zero_last _) ∙ same_sum _ _ _ _ (over_outline k) (sym (off_place 0 (side k) (face m k) off))
       ]
-    where
-      swapped : (a b : ℤ) → a +ℤ b ≡ b +ℤ a
-      swapped a b = omega (arith, ints)
 
   -- the three sides of face g
   over_face : (g : ℕ) → 0 < g → g ≤ length m.face_edges → around f (triangle_at m (face_edge m g)) ≡ sum_to (λ k. only_at g (side k) (face m k)) n
@@ -130,9 +130,6 @@ module _ (m : Mesh) (s : IsSound m) (f : ℕ → ℕ → ℤ) where
       ∙ sums_added (λ k. only_at 0 (side k) (face m k)) (λ k. sum_to (λ g. only_at (suc g) (side k) (face m k)) (length m.face_edges)) n
       ∙ same_sum _ _ _ _ (sym (over_outline n)) (sums_exchanged (λ k g. only_at (suc g) (side k) (face m k)) n (length m.face_edges) ∙ sym over_faces)
       ∙ swapped (total (along f) (outline m)) (total (around f) (triangles m))
-    where
-      swapped : (a b : ℤ) → a +ℤ b ≡ b +ℤ a
-      swapped a b = omega (arith, ints)
 
 pub sides_add_up : SidesAddUp
 sides_add_up m v f = add_up m v.sound f

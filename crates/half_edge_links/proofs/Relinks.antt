@@ -47,12 +47,6 @@ module _ (hs : List HalfEdge) (e t k l z x y w p q r o : ℕ) where
   prevs : (h : ℕ) → (edge_at three h).prev ≡ (edge_at hs h).prev
   prevs h = (writes_next two k w).kept prev_link refl h ∙ (writes_next one z y).kept prev_link refl h ∙ (writes_next hs e x).kept prev_link refl h
 
-  next_off : (h g : ℕ) → h ≢ g → (hs : List HalfEdge) (n : ℕ) → (edge_at (with_next hs g n) h).next ≡ (edge_at hs h).next
-  next_off h g differs hs n = ap next_link ((writes_next hs g n).other h differs)
-
-  prev_off : (h g : ℕ) → h ≢ g → (hs : List HalfEdge) (n : ℕ) → (edge_at (with_prev hs g n) h).prev ≡ (edge_at hs h).prev
-  prev_off h g differs hs n = ap prev_link ((writes_prev hs g n).other h differs)
-
   pub relinks : e < length hs → t < length hs → k < length hs → l < length hs → z < length hs → e ≢ z → e ≢ k → z ≢ k → l ≢ k → l ≢ t → k ≢ t → Relinks hs relinked e t k l z x y w p q r o
   relinks e_in t_in k_in l_in z_in e-z e-k z-k l-k l-t k-t =
       let n1 : length one ≡ length hs = (writes_next hs e x).count in
@@ -63,15 +57,15 @@ module _ (hs : List HalfEdge) (e t k l z x y w p q r o : ℕ) where
       let n6 : length six ≡ length hs = (writes_prev five t r).count ∙ n5 in
       record {
         count = (writes_origin six t o).count ∙ n6;
-        next_e = nexts e ∙ next_off e k e-k two w ∙ next_off e z e-z one y ∙ ap next_link ((writes_next hs e x).here e_in);
-        next_z = nexts z ∙ next_off z k z-k two w ∙ ap next_link ((writes_next one z y).here (rw n1 z_in));
+        next_e = nexts e ∙ ap next_link ((writes_next two k w).other e e-k) ∙ ap next_link ((writes_next one z y).other e e-z) ∙ ap next_link ((writes_next hs e x).here e_in);
+        next_z = nexts z ∙ ap next_link ((writes_next two k w).other z z-k) ∙ ap next_link ((writes_next one z y).here (rw n1 z_in));
         next_k = nexts k ∙ ap next_link ((writes_next two k w).here (rw n2 k_in));
-        prev_l = (writes_origin six t o).kept prev_link refl l ∙ prev_off l t l-t five r ∙ prev_off l k l-k four q ∙ ap prev_link ((writes_prev three l p).here (rw n3 l_in));
-        prev_k = (writes_origin six t o).kept prev_link refl k ∙ prev_off k t k-t five r ∙ ap prev_link ((writes_prev four k q).here (rw n4 k_in));
+        prev_l = (writes_origin six t o).kept prev_link refl l ∙ ap prev_link ((writes_prev five t r).other l l-t) ∙ ap prev_link ((writes_prev four k q).other l l-k) ∙ ap prev_link ((writes_prev three l p).here (rw n3 l_in));
+        prev_k = (writes_origin six t o).kept prev_link refl k ∙ ap prev_link ((writes_prev five t r).other k k-t) ∙ ap prev_link ((writes_prev four k q).here (rw n4 k_in));
         prev_t = (writes_origin six t o).kept prev_link refl t ∙ ap prev_link ((writes_prev five t r).here (rw n5 t_in));
         origin_t = ap origin_link ((writes_origin six t o).here (rw n6 t_in));
-        other_next = λ h within not_e not_z not_k. nexts h ∙ next_off h k not_k two w ∙ next_off h z not_z one y ∙ next_off h e not_e hs x;
-        other_prev = λ h within not_l not_k not_t. (writes_origin six t o).kept prev_link refl h ∙ prev_off h t not_t five r ∙ prev_off h k not_k four q ∙ prev_off h l not_l three p ∙ prevs h;
+        other_next = λ h within not_e not_z not_k. nexts h ∙ ap next_link ((writes_next two k w).other h not_k) ∙ ap next_link ((writes_next one z y).other h not_z) ∙ ap next_link ((writes_next hs e x).other h not_e);
+        other_prev = λ h within not_l not_k not_t. (writes_origin six t o).kept prev_link refl h ∙ ap prev_link ((writes_prev five t r).other h not_t) ∙ ap prev_link ((writes_prev four k q).other h not_k) ∙ ap prev_link ((writes_prev three l p).other h not_l) ∙ prevs h;
         other_origin = λ h within not_t.
             ap origin_link ((writes_origin six t o).other h not_t) ∙ (writes_prev five t r).kept origin_link refl h ∙ (writes_prev four k q).kept origin_link refl h ∙ (writes_prev three l p).kept origin_link refl h
             ∙ (writes_next two k w).kept origin_link refl h ∙ (writes_next one z y).kept origin_link refl h ∙ (writes_next hs e x).kept origin_link refl h;
