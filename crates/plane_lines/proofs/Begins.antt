@@ -43,6 +43,10 @@ turned_least x y e h = omega (arith, ints)
 pub above-same : (u v y x : Fraction) → IsSame y x → pos 0 <ℤ bracket u v y → pos 0 <ℤ bracket u v x
 above-same u v y x e h = pos_of_mul-pos_ℤ {k = y.w} {x = bracket u v x} y.positive (subst (λ n. pos 0 <ℤ n) (same_bracket u v y x e) (mul-pos_ℤ {a = x.w} {b = bracket u v y} x.positive h))
 
+pub edge_flipped : (t : Triangulation) (i j : ℕ) → IsEdge t i j → IsEdge t j i
+edge_flipped t i j (inl e) = inr e
+edge_flipped t i j (inr e) = inl e
+
 pub on_line : (a b x : Fraction) → OnSegment a b x → bracket a b x ≡ pos 0
 unfolding bracket
 on_line a b x m = bracket_of_line a b x (inl m)

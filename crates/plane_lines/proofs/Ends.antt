@@ -52,7 +52,7 @@ module _ (t : Triangulation) (h : TilesHull t) where
       go (inl f) = at_face i j f.0 f.1 on
       go (inr f) = at_face j i f.0 f.1 (turned_segment (vertex t i) (vertex t j) z on)
 
-  vertex_edge : (i : ℕ) → IsVertex t i → (j : ℕ) × IsEdge t i j
+  pub vertex_edge : (i : ℕ) → IsVertex t i → (j : ℕ) × IsEdge t i j
   unfolding tiling
   vertex_edge i hi = let f = corner_of_face (tiling t h) i hi in (f.0, (h.sides i f.0).1 (inl (f.1, f.2)))
 

@@ -5,4 +5,8 @@ pub mod Orders
 pub mod Overlaps
 pub mod Vertices
 pub mod Ends
+pub mod SideSigns
+pub mod VertexEnds
+pub mod Walks
+pub mod Firsts
 pub mod Steps

@@ -22,7 +22,7 @@ use Rattle.plane_delaunay.proofs.Flooded.{segment_from}
 use Rattle.plane_delaunay.proofs.LineItems.{Begins, begins, between_of, met_within, meeting_of_hull}
 use Rattle.plane_lines.specs.Steps.{ComesNext, IsLast}
 use Rattle.plane_lines.proofs.Slopes.{slope, slope_above, later_is_higher, higher_is_later, left_before, left_from}
-use Rattle.plane_lines.proofs.Begins.{turned_negative, turned_positive, turned_least, Signs, met_if, rising, above-same, begins_once, on_line, after_crossing, before_crossing, bare_inside}
+use Rattle.plane_lines.proofs.Begins.{edge_flipped, turned_negative, turned_positive, turned_least, Signs, met_if, rising, above-same, begins_once, on_line, after_crossing, before_crossing, bare_inside}
 
 -- ends on two sides of a line differ
 pub ends_apart : (p q a b : Fraction) → pos 0 <ℤ bracket p q a → bracket p q b <ℤ pos 0 → ¬ IsSame a b
@@ -105,10 +105,6 @@ module _ (t : Triangulation) (h : TilesHull t) (p q : Fraction) (apart : ¬ IsSa
   third_edge : IsEdge t d a
   third_edge = (h.sides d a).1 (inl (b, turned_face t b d a (turned_face t a b d f)))
 
-  flipped : {i j : ℕ} → IsEdge t i j → IsEdge t j i
-  flipped (inl e) = inr e
-  flipped (inr e) = inl e
-
   -- what begins between the crossing and the other sides is strictly inside the face
   inside_left : (z : Fraction) → OnSegment p q z → pos 0 ≤ℤ bracket p q D → pos 0 <ℤ bracket A B z → pos 0 <ℤ bracket B D z → Inside A B D z
   inside_left z hz hd first second = record { first = first; second = second; third = third_by (bracket A B D) (bracket B D z) (bracket D A z) (bracket A B z) (bracket p q A) (bracket p q B) (bracket p q D) (seen_by A B D z p q hz) second s.left first hd s.right }
@@ -140,7 +136,7 @@ module _ (t : Triangulation) (h : TilesHull t) (p q : Fraction) (apart : ¬ IsSa
     }
 
     second_met : Meets t p q (L.across d b)
-    second_met = met_if t p q apart d b (flipped second_edge) second_signs
+    second_met = met_if t p q apart d b (edge_flipped t b d second_edge) second_signs
 
     pub next_left : ComesNext t p q (L.across a b) (L.across d b)
     next_left = record {
@@ -164,7 +160,7 @@ module _ (t : Triangulation) (h : TilesHull t) (p q : Fraction) (apart : ¬ IsSa
     }
 
     third_met : Meets t p q (L.across a d)
-    third_met = met_if t p q apart a d (flipped third_edge) third_signs
+    third_met = met_if t p q apart a d (edge_flipped t d a third_edge) third_signs
 
     pub next_right : ComesNext t p q (L.across a b) (L.across a d)
     next_right = record {

@@ -134,3 +134,31 @@ module _ (p q : Fraction) (apart : ¬ IsSame p q) where
     where
       rises : (a b w : ℤ) → pos 0 <ℤ a → b ≤ℤ pos 0 → pos 0 <ℤ w → pos 0 <ℤ (a -ℤ b *ℤ w)
       rises a b w h k i = let s = mul-nonpos_of_nonneg_nonpos_ℤ {a = w} {b = b} (weak i) k in let c = lib.IntN.*ℤ_comm b w in omega (arith, ints)
+
+  -- left at the start and at a point: left at each point before
+  pub left_until : (u v z x : Fraction) → OnSegment p q z → OnSegment p q x → IsNearer p z x → pos 0 <ℤ bracket u v p → pos 0 <ℤ bracket u v x → pos 0 <ℤ bracket u v z
+  unfolding slope
+  left_until u v z x hz hx near hp high = go (trichotomy_ℤ (bracket u v q))
+    where
+      -- where q is not left it falls from z to x
+      falls : bracket u v q ≤ℤ pos 0 → pos 0 <ℤ bracket u v z
+      falls low = pick (trichotomy_ℤ (bracket u v z))
+        where
+          none : ¬ (bracket u v z ≤ℤ pos 0)
+          none h = both (slope_between u v z x hz hx near h high) low
+            where
+              both : pos 0 <ℤ slope u v p q → bracket u v q ≤ℤ pos 0 → ⊥
+              both s l = under (bracket u v q) (bracket u v p) p.w q.w l hp p.positive q.positive s
+                where
+                  under : (f g pw qw : ℤ) → f ≤ℤ pos 0 → pos 0 <ℤ g → pos 0 <ℤ pw → pos 0 <ℤ qw → pos 0 <ℤ (f *ℤ pw -ℤ g *ℤ qw) → ⊥
+                  under f g pw qw hf hg hpw hqw h = let m = mul-nonpos_of_nonneg_nonpos_ℤ {a = pw} {b = f} (weak hpw) hf in let c = lib.IntN.*ℤ_comm f pw in let n = mul-pos_ℤ {a = g} {b = qw} hg hqw in omega (arith, ints)
+
+          pick : (bracket u v z <ℤ pos 0) ⊎ ((bracket u v z ≡ pos 0) ⊎ (pos 0 <ℤ bracket u v z)) → pos 0 <ℤ bracket u v z
+          pick (inl h) = absurd (none (weak_right h))
+          pick (inr (inl h)) = absurd (none (zero_weak h))
+          pick (inr (inr h)) = h
+
+      go : (bracket u v q <ℤ pos 0) ⊎ ((bracket u v q ≡ pos 0) ⊎ (pos 0 <ℤ bracket u v q)) → pos 0 <ℤ bracket u v z
+      go (inl h) = falls (weak_right h)
+      go (inr (inl h)) = falls (zero_weak h)
+      go (inr (inr h)) = left_along u v z hz hp h

@@ -2,43 +2,27 @@
 use Rattle.std.proofs.Common.{◌≡◌, ℕ}
 use mathlib.Core.Logic.{◌⊎◌, inl, inr}
 use Rattle.std.specs.Prelude.{◌≢◌, pos, ◌<ℤ◌, ◌≤ℤ◌}
-use Rattle.plane.proofs.IntegerOrder.{trichotomy_ℤ}
-use Rattle.plane.proofs.Steps.{weak_right, zero_weak, left_not_zero}
-use Rattle.plane.proofs.Sides.{if_right, if_on, if_not_right}
-use Rattle.plane.proofs.Segments.{same-sym}
+use Rattle.plane.proofs.Steps.{weak_right, left_not_zero, left_not_below, right_not_above}
+use Rattle.plane.proofs.Sides.{right_if}
+use Rattle.plane.proofs.Segments.{on_of_within, same-sym}
 use Rattle.plane.specs.Fraction.{Fraction, IsSame}
-use Rattle.plane.specs.Side.{side, left, right, on}
+use Rattle.plane.specs.Side.{side, left, right}
 use Rattle.plane.specs.Tiling.{Triangulation, IsEdge, HasFace, vertex, TilesHull}
 use Rattle.plane_delaunay.proofs.Bracket.{bracket, bracket-first, above_if_left, left_if_above}
 use Rattle.plane_delaunay.proofs.Faces.{turned-above}
 use Rattle.plane_delaunay.proofs.LineItems.{meeting_of_hull}
-use Rattle.plane_lines.specs.Laws.{ItemsFollow, NextAfterCrossing, LastCrossing, NextAfterOverlap, NextAfterVertex}
-use Rattle.plane_lines.proofs.Begins.{Signs, signs_of, above-same}
+use Rattle.plane_lines.specs.Laws.{ItemsFollow, NextAfterCrossing, LastCrossing, NextAfterOverlap, NextAfterVertex, LastVertex, OverlapAhead, CrossingBySides, FirstItem, WalkIsLineList}
+use Rattle.plane_lines.proofs.SideSigns.{not_left, not_right, below_if_right, none_if_on}
+use Rattle.plane_lines.proofs.Begins.{edge_flipped, Signs, signs_of, above-same, met_if}
 use Rattle.plane_lines.proofs.NextItems.{next_left, next_right, next_vertex, last_left, last_right}
 use Rattle.plane_lines.proofs.Orders.{not_both_before, before_through}
 use Rattle.plane_lines.proofs.Overlaps.{next_unless_within, last_within}
 use Rattle.plane_lines.proofs.Vertices.{last_at_end, next_overlap, last_inside, next_across}
+use Rattle.plane_lines.proofs.VertexEnds.{ahead_met, last_bare}
+use Rattle.plane_lines.proofs.Firsts.{first_vertex, first_crossing_here, first_overlap, first_from_outside, first_from_face}
+use Rattle.plane_lines.proofs.Walks.{walk_is_line_list as walked}
+use Rattle.plane_delaunay.proofs.Ground.{inside_of}
 use Rattle.plane_lines.proofs.Ends.{last_on_edge, last_at_outer}
-
-pub not_left : (u v x : Fraction) → side u v x ≢ left → bracket u v x ≤ℤ pos 0
-not_left u v x n = go (trichotomy_ℤ (bracket u v x))
-  where
-    go : (bracket u v x <ℤ pos 0) ⊎ ((bracket u v x ≡ pos 0) ⊎ (pos 0 <ℤ bracket u v x)) → bracket u v x ≤ℤ pos 0
-    go (inl h) = weak_right h
-    go (inr (inl h)) = zero_weak h
-    go (inr (inr h)) = absurd (n (left_if_above u v x h))
-
-pub not_right : (u v x : Fraction) → side u v x ≢ right → pos 0 ≤ℤ bracket u v x
-unfolding bracket
-not_right u v x n = if_not_right u v x n
-
-pub below_if_right : (u v x : Fraction) → side u v x ≡ right → bracket u v x <ℤ pos 0
-unfolding bracket
-below_if_right u v x e = if_right u v x e
-
-pub none_if_on : (u v x : Fraction) → side u v x ≡ on → bracket u v x ≡ pos 0
-unfolding bracket
-none_if_on u v x e = if_on u v x e
 
 corners_apart : (u v w : Fraction) → pos 0 <ℤ bracket u v w → ¬ IsSame u v
 corners_apart u v w h e = left_not_zero (above-same v w u v e (turned-above u v w h)) (bracket-first v w)
@@ -99,3 +83,36 @@ next_after_vertex t h p q apart v m = (
     (λ z. next_across t p q apart v m h b c f (above_if_left _ _ _ x) (above_if_left _ _ _ y) (not_left _ _ _ z)),
   ),
 )
+
+pub last_vertex : LastVertex
+last_vertex t h p q apart v m two no_edge no_face = last_bare t p q apart v m two h no_edge (λ b c f x y. no_face b c f (left_if_above _ _ _ x) (left_if_above _ _ _ y))
+
+pub overlap_ahead : OverlapAhead
+overlap_ahead t h p q apart v b m two e ahead = ahead_met t p q apart v m two b e (edge_apart t h v b e) ahead
+
+not_left_if : (u v x : Fraction) → bracket u v x ≤ℤ pos 0 → side u v x ≢ left
+not_left_if u v x h e = left_not_below (above_if_left u v x e) h
+
+right_if_below : (u v x : Fraction) → bracket u v x <ℤ pos 0 → side u v x ≡ right
+unfolding bracket
+right_if_below u v x h = right_if u v x h
+
+not_right_if_least : (u v x : Fraction) → pos 0 ≤ℤ bracket u v x → side u v x ≢ right
+not_right_if_least u v x h e = right_not_above (below_if_right u v x e) h
+
+pub crossing_by_sides : CrossingBySides
+crossing_by_sides t h p q apart a b e = (
+  (λ m. let s = signs_of t p q apart a b (edge_apart t h a b e) m in (left_if_above p q (vertex t a) s.left, right_if_below p q (vertex t b) s.right, not_left_if (vertex t a) (vertex t b) p s.start, not_right_if_least (vertex t a) (vertex t b) q s.end)),
+  (λ x. met_if t p q apart a b e (record { left = above_if_left p q (vertex t a) x.0; right = below_if_right p q (vertex t b) x.1; start = not_left (vertex t a) (vertex t b) p x.2; end = not_right (vertex t a) (vertex t b) q x.3 })),
+)
+
+pub first_item : FirstItem
+first_item t h p q apart = (
+  first_vertex t p q apart,
+  (λ a b w. ((λ m. first_crossing_here t p q apart a b m (on_of_within _ _ p w)), (λ m. first_overlap t p q apart (meeting_of_hull t h) a b m w))),
+  (λ a b c m f inside. first_from_face t p q apart h a b (edge_flipped t b a m.0) (signs_of t p q apart b a (edge_apart t h b a m.0) m) c f (inside_of _ _ _ p (h.turning a b c f) inside)),
+  (λ a b m outer. first_from_outside t p q apart h a b (edge_flipped t b a m.0) (signs_of t p q apart b a (edge_apart t h b a m.0) m) outer),
+)
+
+pub walk_is_line_list : WalkIsLineList
+walk_is_line_list t h p q apart = walked t (meeting_of_hull t h) p q apart

@@ -100,7 +100,7 @@ module _ (t : Triangulation) (p q : Fraction) (apart : ¬ IsSame p q) (v : ℕ) 
       }
 
   -- a vertex before the end
-  before_end : ¬ IsSame V q → IsNearer p V q
+  pub before_end : ¬ IsSame V q → IsNearer p V q
   before_end two = go (placed p q apart V q m.1 (end_on_segment p q))
     where
       go : Placed p V q → IsNearer p V q

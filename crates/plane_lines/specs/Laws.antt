@@ -1,11 +1,11 @@
 -- What is proved of the items that a segment meets, one after another.
-use Rattle.std.specs.Prelude.{◌≡◌, ◌≢◌, ℕ}
+use Rattle.std.specs.Prelude.{◌≡◌, ◌≢◌, ℕ, ◌↔◌, List}
 use Rattle.plane.specs.Fraction.{Fraction, IsSame, WithinSegment}
 use Rattle.plane.specs.Side.{side, left, right, on}
-use Rattle.plane.specs.Tiling.{Triangulation, IsFace, vertex, TilesHull}
+use Rattle.plane.specs.Tiling.{Triangulation, IsVertex, IsEdge, IsFace, InsideCorners, vertex, TilesHull}
 use Rattle.plane.specs.Location.{IsOuter}
-use Rattle.plane.specs.Line.{Item, Meets, IsBefore, at_vertex, across, along}
-use Rattle.plane_lines.specs.Steps.{ComesNext, IsLast}
+use Rattle.plane.specs.Line.{Item, Meets, IsBefore, IsLineList, at_vertex, across, along}
+use Rattle.plane_lines.specs.Steps.{ComesNext, IsLast, IsFirst, IsAhead, IsWalk}
 
 -- none of the items that a segment meets is before itself, and the order goes through
 abbrev pub ItemsFollow : Type 0
@@ -40,3 +40,33 @@ NextAfterVertex = (t : Triangulation) → TilesHull t → (p q : Fraction) → �
     × ((b : ℕ) → Meets t p q (along v b) → ComesNext t p q (at_vertex v) (along v b))
     × ((b c : ℕ) → IsFace t v b c → side (vertex t v) (vertex t b) q ≡ left → side (vertex t c) (vertex t v) q ≡ left
     → (side (vertex t b) (vertex t c) q ≡ left → IsLast t p q (at_vertex v)) × (side (vertex t b) (vertex t c) q ≢ left → ComesNext t p q (at_vertex v) (across c b)))
+
+-- a vertex is the last where no edge there points to the segment's end, and no open cone of a face there holds it
+abbrev pub LastVertex : Type 0
+LastVertex = (t : Triangulation) → TilesHull t → (p q : Fraction) → ¬ IsSame p q → (v : ℕ) → Meets t p q (at_vertex v) → ¬ IsSame (vertex t v) q
+    → ((b : ℕ) → IsEdge t v b → ¬ IsAhead (vertex t v) (vertex t b) q)
+    → ((b c : ℕ) → IsFace t v b c → side (vertex t v) (vertex t b) q ≡ left → side (vertex t c) (vertex t v) q ≢ left)
+    → IsLast t p q (at_vertex v)
+
+-- an edge at a vertex of the segment that points to the segment's end is overlapped
+abbrev pub OverlapAhead : Type 0
+OverlapAhead = (t : Triangulation) → TilesHull t → (p q : Fraction) → ¬ IsSame p q → (v b : ℕ) → Meets t p q (at_vertex v) → ¬ IsSame (vertex t v) q
+    → IsEdge t v b → IsAhead (vertex t v) (vertex t b) q → Meets t p q (along v b)
+
+-- an edge is crossed from the right of the segment to its left exactly if four sides say so
+abbrev pub CrossingBySides : Type 0
+CrossingBySides = (t : Triangulation) → TilesHull t → (p q : Fraction) → ¬ IsSame p q → (a b : ℕ) → IsEdge t a b
+    → Meets t p q (across a b) ↔ ((side p q (vertex t a) ≡ left) × (side p q (vertex t b) ≡ right) × (side (vertex t a) (vertex t b) p ≢ left) × (side (vertex t a) (vertex t b) q ≢ right))
+
+-- the vertex at the segment's start comes first; else the edge that carries the start; else, of the edges met, a side of the face
+-- that the start is strictly inside, or an outer edge with the outer face on the start's side
+abbrev pub FirstItem : Type 0
+FirstItem = (t : Triangulation) → TilesHull t → (p q : Fraction) → ¬ IsSame p q
+    → ((v : ℕ) → IsVertex t v → IsSame p (vertex t v) → IsFirst t p q (at_vertex v))
+    × ((a b : ℕ) → WithinSegment (vertex t a) (vertex t b) p → (Meets t p q (across a b) → IsFirst t p q (across a b)) × (Meets t p q (along a b) → IsFirst t p q (along a b)))
+    × ((a b c : ℕ) → Meets t p q (across b a) → IsFace t a b c → InsideCorners t a b c p → IsFirst t p q (across b a))
+    × ((a b : ℕ) → Meets t p q (across b a) → IsOuter t a b → IsFirst t p q (across b a))
+
+-- a walk from the first item to the last gives the line list
+abbrev pub WalkIsLineList : Type 0
+WalkIsLineList = (t : Triangulation) → TilesHull t → (p q : Fraction) → ¬ IsSame p q → (items : List Item) → IsWalk t p q items → IsLineList t p q items

@@ -1,5 +1,6 @@
 -- From an item that a segment meets to the next.
-use Rattle.plane.specs.Fraction.{Fraction}
+use Rattle.std.specs.Prelude.{◌⊎◌, List, [], ◌∷◌}
+use Rattle.plane.specs.Fraction.{Fraction, OnSegment}
 use Rattle.plane.specs.Tiling.{Triangulation}
 use Rattle.plane.specs.Line.{Item, Meets, IsBefore}
 
@@ -17,3 +18,17 @@ pub record IsLast (t : Triangulation) (p q : Fraction) (m : Item) : Type 0 where
 pub record IsFirst (t : Triangulation) (p q : Fraction) (n : Item) : Type 0 where
   pub met : Meets t p q n
   pub none_before : (k : Item) → Meets t p q k → ¬ IsBefore t p q k n
+
+-- b is on the way from v to q, or q on the way from v to b
+abbrev pub IsAhead : Fraction → Fraction → Fraction → Type 0
+IsAhead v b q = OnSegment v b q ⊎ OnSegment v q b
+
+-- from m on each of the items comes next after the one before it, and none after the last
+abbrev pub GoesOn : Triangulation → Fraction → Fraction → Item → List Item → Type 0
+GoesOn t p q m [] = IsLast t p q m
+GoesOn t p q m (n ∷ ns) = ComesNext t p q m n × GoesOn t p q n ns
+
+-- a walk from the first item to the last
+abbrev pub IsWalk : Triangulation → Fraction → Fraction → List Item → Type 0
+IsWalk t p q [] = (m : Item) → ¬ Meets t p q m
+IsWalk t p q (m ∷ ms) = IsFirst t p q m × GoesOn t p q m ms

@@ -1,7 +1,7 @@
 //! What a segment meets, item by item: laws of the walk along a line.
 #![tactic(auto)]
 
-ghost use Rattle.plane_lines.specs.Laws.{ItemsFollow, NextAfterCrossing, LastCrossing, NextAfterOverlap, NextAfterVertex};
+ghost use Rattle.plane_lines.specs.Laws.{ItemsFollow, NextAfterCrossing, LastCrossing, NextAfterOverlap, NextAfterVertex, LastVertex, OverlapAhead, CrossingBySides, FirstItem, WalkIsLineList};
 
 /// A law: none of the items that a segment meets is before itself, and what is before what is before an item is before it.
 pub fn items_follow()
@@ -26,4 +26,29 @@ pub fn next_after_overlap()
 /// A law: after a vertex comes the overlap that starts there, or the far side of the face that the segment goes into.
 pub fn next_after_vertex()
     ensures { NextAfterVertex }
+{}
+
+/// A law: a vertex comes last where no edge there points to the segment's end and no open cone of a face there holds it.
+pub fn last_vertex()
+    ensures { LastVertex }
+{}
+
+/// A law: an edge at a vertex of the segment that points to its end is overlapped.
+pub fn overlap_ahead()
+    ensures { OverlapAhead }
+{}
+
+/// A law: whether the segment crosses an edge, in the direction that the line list gives it, is told by four sides.
+pub fn crossing_by_sides()
+    ensures { CrossingBySides }
+{}
+
+/// A law: what a segment meets first, from a vertex, an edge, a face or outside the hull.
+pub fn first_item()
+    ensures { FirstItem }
+{}
+
+/// A law: a walk from the first item to the last gives the line list.
+pub fn walk_is_line_list()
+    ensures { WalkIsLineList }
 {}
