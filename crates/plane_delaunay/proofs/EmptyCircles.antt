@@ -137,7 +137,7 @@ same_part n k l y z q a r b h e d o = mul_cancel_ℤ {k = n} (pos-ne-zero_ℤ h)
     (ring_in_from (n ∷ k ∷ l ∷ y ∷ z ∷ q ∷ a ∷ r ∷ b ∷ []) (λ n k l y z q a r b. n ⊗ (y ⊗ b)) (λ n k l y z q a r b. n ⊗ (a ⊗ z))
     (λ n k l y z q a r b. (b, n ⊗ y, k ⊗ q ⊕ l ⊗ a) ∷ (⊝ a, n ⊗ z, k ⊗ r ⊕ l ⊗ b) ∷ (q ⊗ b ⊖ a ⊗ r, k, num 0) ∷ []) (e, (d, (o, tt))) tt)
 
-same_at_end : (q a y : Fraction) (w : TwoWeights IsNotNegative q a y) → w.k ≡ pos 0 → IsSame y a
+pub same_at_end : (q a y : Fraction) (w : TwoWeights IsNotNegative q a y) → w.k ≡ pos 0 → IsSame y a
 same_at_end q a y w o = record { x = same_part w.n w.k w.l y.x y.w q.x a.x q.w a.w w.positive w.x w.w o; y = same_part w.n w.k w.l y.y y.w q.y a.y q.w a.w w.positive w.y w.w o }
 
 segment_closed : (a b c y : Fraction) → TwoWeights IsNotNegative a b y → pos 0 <ℤ bracket a b c → (bracket a b y ≡ pos 0) × Closed a b c y

@@ -9,4 +9,5 @@ pub mod SideSigns
 pub mod VertexEnds
 pub mod Walks
 pub mod Firsts
+pub mod OneLine
 pub mod Steps

@@ -1,8 +1,9 @@
 -- What is proved of the items that a segment meets, one after another.
-use Rattle.std.specs.Prelude.{◌≡◌, ◌≢◌, ℕ, ◌↔◌, List}
+use Rattle.std.specs.Prelude.{◌≡◌, ◌≢◌, ℕ, ◌↔◌, List, ◌⊎◌}
 use Rattle.plane.specs.Fraction.{Fraction, IsSame, WithinSegment}
 use Rattle.plane.specs.Side.{side, left, right, on}
-use Rattle.plane.specs.Tiling.{Triangulation, IsVertex, IsEdge, IsFace, InsideCorners, vertex, TilesHull}
+use Rattle.plane.specs.Tiling.{Triangulation, IsVertex, IsEdge, IsFace, InsideCorners, vertex, TilesHull, JoinsLine}
+use Rattle.plane_tiling.specs.Laws.{EdgesMeetAtVertices}
 use Rattle.plane.specs.Location.{IsOuter}
 use Rattle.plane.specs.Line.{Item, Meets, IsBefore, IsLineList, at_vertex, across, along}
 use Rattle.plane_lines.specs.Steps.{ComesNext, IsLast, IsFirst, IsAhead, IsWalk}
@@ -70,3 +71,16 @@ FirstItem = (t : Triangulation) → TilesHull t → (p q : Fraction) → ¬ IsSa
 -- a walk from the first item to the last gives the line list
 abbrev pub WalkIsLineList : Type 0
 WalkIsLineList = (t : Triangulation) → TilesHull t → (p q : Fraction) → ¬ IsSame p q → (items : List Item) → IsWalk t p q items → IsLineList t p q items
+
+-- no two vertices are in one place
+abbrev pub AreApart : Triangulation → Type 0
+AreApart t = (i j : ℕ) → IsVertex t i → IsVertex t j → IsSame (vertex t i) (vertex t j) → i ≡ j
+
+-- where all vertices are on one line: the items have their order; a crossed edge is the last; after an overlap comes the vertex at
+-- its end, unless the segment ends before; and a walk gives the line list
+abbrev pub StepsOnOneLine : Type 0
+StepsOnOneLine = (t : Triangulation) → JoinsLine t → EdgesMeetAtVertices t → AreApart t → (p q : Fraction) → ¬ IsSame p q
+    → ((m n : Item) → Meets t p q m → Meets t p q n → (m ≡ n) ⊎ (IsBefore t p q m n ⊎ IsBefore t p q n m))
+    × ((a b : ℕ) → Meets t p q (across a b) → IsLast t p q (across a b))
+    × ((i j : ℕ) → Meets t p q (along i j) → (WithinSegment (vertex t i) (vertex t j) q → IsLast t p q (along i j)) × (¬ WithinSegment (vertex t i) (vertex t j) q → ComesNext t p q (along i j) (at_vertex j)))
+    × ((list : List Item) → IsWalk t p q list → IsLineList t p q list)

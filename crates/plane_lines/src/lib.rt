@@ -1,7 +1,7 @@
 //! What a segment meets, item by item: laws of the walk along a line.
 #![tactic(auto)]
 
-ghost use Rattle.plane_lines.specs.Laws.{ItemsFollow, NextAfterCrossing, LastCrossing, NextAfterOverlap, NextAfterVertex, LastVertex, OverlapAhead, CrossingBySides, FirstItem, WalkIsLineList};
+ghost use Rattle.plane_lines.specs.Laws.{ItemsFollow, NextAfterCrossing, LastCrossing, NextAfterOverlap, NextAfterVertex, LastVertex, OverlapAhead, CrossingBySides, FirstItem, WalkIsLineList, StepsOnOneLine};
 
 /// A law: none of the items that a segment meets is before itself, and what is before what is before an item is before it.
 pub fn items_follow()
@@ -51,4 +51,9 @@ pub fn first_item()
 /// A law: a walk from the first item to the last gives the line list.
 pub fn walk_is_line_list()
     ensures { WalkIsLineList }
+{}
+
+/// A law: where all vertices are on one line, the order of items, what comes after an edge, and that a walk gives the line list.
+pub fn steps_on_one_line()
+    ensures { StepsOnOneLine }
 {}
