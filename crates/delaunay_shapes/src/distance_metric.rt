@@ -1,0 +1,46 @@
+//! The trait of closed shapes.
+ghost use Rattle.std.specs.Prelude.{◌≡◌, ◌↔◌, List, Bool, ℤ, pos, ◌≤ℤ◌, map, int_le, All, IsTrue};
+ghost use Rattle.plane.specs.Fraction.{Point, Fraction, whole as fraction};
+ghost use Rattle.plane.specs.Tests.{InRange};
+ghost use Rattle.plane_delaunay.specs.EdgeTests.{HasPointIn};
+ghost use Rattle.delaunay_core.specs.Place.{place_of};
+ghost use Rattle.delaunay_shapes.specs.Known.{point_at};
+
+use delaunay_core::math::PlaneTests;
+use delaunay_core::point::{Point2, SpadeNum};
+
+/// A closed shape. It tells how far a point is from it, and whether an edge has a point in it.
+pub trait DistanceMetric<S: SpadeNum>: Drop {
+    ghost shape: { Self → Fraction → Type 0 };
+
+    // The points of the shape that the tests are asked of.
+    ghost own_points: { Self → List Point };
+
+    // The answer to an edge with these ends.
+    ghost meets: { Self → Point → Point → Bool };
+
+    ghost distance: { Self → Point → ℤ };
+
+    /// Whether the closed edge with these ends has a point in the shape.
+    fn is_edge_inside<P: PlaneTests<S>>(&self, points: [Point2<S>; 2], tests: &P) -> bool
+        requires own_covered { All (P.covered tests.now) (own_points self.now) }
+        requires start_covered { P.covered tests.now (point_at (map (place_of S.whole) points) 0) }
+        requires end_covered { P.covered tests.now (point_at (map (place_of S.whole) points) 1) }
+        ensures answer { result ≡ meets self.now (point_at (map (place_of S.whole) points) 0) (point_at (map (place_of S.whole) points) 1) }
+        ensures inside { IsTrue result ↔ HasPointIn (shape self.now) (point_at (map (place_of S.whole) points) 0) (point_at (map (place_of S.whole) points) 1) };
+
+    /// How far a point in range is from the shape, at most 0 in it.
+    fn distance_to_point(&self, point: Point2<S>) -> i64
+        requires { InRange (place_of S.whole point) }
+        ensures value { result ≡ distance self.now (place_of S.whole point) }
+        ensures inside { (result ≤ℤ pos 0) ↔ shape self.now (fraction (place_of S.whole point)) };
+
+    /// Whether a point in range is in the shape.
+    final fn is_point_inside(&self, point: Point2<S>) -> bool
+        requires { InRange (place_of S.whole point) }
+        ensures answer { result ≡ int_le (distance self.now (place_of S.whole point)) (pos 0) }
+        ensures inside { IsTrue result ↔ shape self.now (fraction (place_of S.whole point)) }
+    {
+        self.distance_to_point(point) <= 0
+    }
+}
