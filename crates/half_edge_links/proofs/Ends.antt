@@ -63,25 +63,17 @@ module _ (m new : Mesh) (s : IsSound m) where
 off_edge : (e k : ℕ) → k ≢ e / 2 → (2 * k ≢ e) × (2 * k ≢ rev e) × (2 * k + 1 ≢ e) × (2 * k + 1 ≢ rev e)
 off_edge e k differs = (λ q. differs (grind (arith, common_steps)), λ q. differs (grind (arith, common_steps)), λ q. differs (grind (arith, common_steps)), λ q. differs (grind (arith, common_steps)))
 
-parity : (e : ℕ) → (e % 2 ≡ 0) ⊎ (e % 2 ≡ 1)
-parity e = elim (cases_eq (e % 2) 0) [ inl q ↦ inl q | inr q ↦ inr (omega (arith, q)) ]
-
-rev_even : (e k : ℕ) → k ≡ e / 2 → e % 2 ≡ 0 → (e ≡ 2 * k) × (rev e ≡ 2 * k + 1)
-rev_even e k is even = (omega (arith, is, even), grind (arith, common_steps))
-
-rev_odd : (e k : ℕ) → k ≡ e / 2 → e % 2 ≡ 1 → (e ≡ 2 * k + 1) × (rev e ≡ 2 * k)
-rev_odd e k is odd = (omega (arith, is, odd), grind (arith, common_steps))
-
 moved_pair : (m new : Mesh) (e a b k : ℕ) → origin new e ≡ a → origin new (rev e) ≡ b → k ≡ e / 2 → get_or (origins new) (2 * k) 0 ≡ origin new (2 * k) → get_or (origins new) (2 * k + 1) 0 ≡ origin new (2 * k + 1) → (let t : Ends = record { source = get_or (origins new) (2 * k) 0; target = get_or (origins new) (2 * k + 1) 0 } in t) ≡ along e a b
 moved_pair m new e a b k at_e at_twin is o0 o1 =
-    elim (parity e) [
+    elim (cases_eq (e % 2) 0) [
       | inl even ↦
-          let q = rev_even e k is even in
+          let q : (e ≡ 2 * k) × (rev e ≡ 2 * k + 1) = (omega (arith, is, even), grind (arith, common_steps)) in
           let x : get_or (origins new) (2 * k) 0 ≡ a = o0 ∙ ap (origin new) (sym q.0) ∙ at_e in
           let y : get_or (origins new) (2 * k + 1) 0 ≡ b = o1 ∙ ap (origin new) (sym q.1) ∙ at_twin in
           rw (even, x, y) refl
-      | inr odd ↦
-          let q = rev_odd e k is odd in
+      | inr off ↦
+          let odd : e % 2 ≡ 1 = omega (arith, off) in
+          let q : (e ≡ 2 * k + 1) × (rev e ≡ 2 * k) = (omega (arith, is, odd), grind (arith, common_steps)) in
           let x : get_or (origins new) (2 * k) 0 ≡ b = o0 ∙ ap (origin new) (sym q.1) ∙ at_twin in
           let y : get_or (origins new) (2 * k + 1) 0 ≡ a = o1 ∙ ap (origin new) (sym q.0) ∙ at_e in
           rw (odd, x, y) refl

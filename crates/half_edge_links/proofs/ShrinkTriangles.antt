@@ -1,5 +1,5 @@
 -- The corners of the faces, and the ends of the edges, after elements went.
-use Rattle.std.proofs.Common.{◌≡◌, ℕ, zero, suc, ◌+◌, ◌-◌, ◌%◌, ◌<◌, List, [], ◌∷◌, ◌++◌, length, get_or, set, take, map, refl, sym, ap, ◌∙◌, arith}
+use Rattle.std.proofs.Common.{◌≡◌, ℕ, zero, suc, ◌+◌, ◌-◌, ◌<◌, List, [], ◌∷◌, ◌++◌, length, get_or, set, take, map, refl, sym, ap, ◌∙◌, arith}
 use Rattle.std.proofs.lemmas.List.{map-set, take-map, get_or-map, length-map, same_lists, map-append}
 use Rattle.std.specs.List.{swap_remove}
 use Rattle.half_edge_links.specs.Mesh.{Mesh, origin, next, prev, face, face_edge, rev, IsSound, IsInner}
@@ -14,6 +14,7 @@ use Rattle.half_edge_links.proofs.PeelLemmas.{removable_opened}
 use Rattle.half_edge_links.proofs.RenameSound.{kept_edge}
 use Rattle.half_edge_links.proofs.Rev.{rev_within}
 use Rattle.half_edge_links.proofs.UnlinkSound.{inner_next, inner_prev}
+use Rattle.half_edge_links.proofs.Track.{last_pair, pair_at}
 
 pub same_triangle : (a b c x y z : ℕ) → a ≡ x → b ≡ y → c ≡ z → (let t : Triangle = record { first = a; second = b; third = c } in t) ≡ record { first = x; second = y; third = z }
 same_triangle a b c x y z p q r = cc
@@ -47,19 +48,13 @@ triangles_closed m new h c =
     ∙ ap (map (triangle_at m)) c.face_edges ∙ map-append (triangle_at m) m.face_edges (h ∷ [])
 
 module _ (m new : Mesh) (e : ℕ) (s : IsSound m) (can : IsUnlinkable m e) (r : Removes m new e) where
-  abbrev last : ℕ
-  last = length m.half_edges - 2
-
-  abbrev hole : ℕ
-  hole = e - e % 2
-
   -- the corners of a face whose edge is left
-  kept_triangle : (h : ℕ) → h < length m.half_edges → 0 < face m h → IsKeptEdge new (edge_naming last hole) h → triangle_at new (pair_moved last hole h) ≡ triangle_at m h
+  kept_triangle : (h : ℕ) → h < length m.half_edges → 0 < face m h → IsKeptEdge new (edge_naming (last_pair m) (pair_at e)) h → triangle_at new (pair_moved (last_pair m) (pair_at e) h) ≡ triangle_at m h
   kept_triangle h within some k =
       let u = r.unlinks in
-      let here = kept_edge r.between new (edge_naming last hole) r.renames h k in
-      let after = kept_edge r.between new (edge_naming last hole) r.renames (next r.between h) here.next_kept in
-      let before = kept_edge r.between new (edge_naming last hole) r.renames (prev r.between h) here.prev_kept in
+      let here = kept_edge r.between new (edge_naming (last_pair m) (pair_at e)) r.renames h k in
+      let after = kept_edge r.between new (edge_naming (last_pair m) (pair_at e)) r.renames (next r.between h) here.next_kept in
+      let before = kept_edge r.between new (edge_naming (last_pair m) (pair_at e)) r.renames (prev r.between h) here.prev_kept in
       same_triangle _ _ _ _ _ _
       (here.links.origin ∙ u.origins h)
       (ap (origin new) here.links.next ∙ after.links.origin ∙ u.origins (next r.between h) ∙ ap (origin m) (inner_next m r.between e s can u h within some))
@@ -76,8 +71,8 @@ module _ (m new : Mesh) (e : ℕ) (s : IsSound m) (can : IsUnlinkable m e) (r : 
       let had = s.faces (k + 1) (omega arith) (omega arith) in
       let f = r.renames.faces (k + 1) (omega arith) (omega arith) in
       let was : face_edge r.between (k + 1) ≡ face_edge m (k + 1) = ap (λ l. get_or l (k + 1 - 1) 0) r.unlinks.face_edges in
-      let named : face_edge new (k + 1) ≡ pair_moved last hole (face_edge m (k + 1)) = f.named ∙ ap (pair_moved last hole) was in
-      let kept : IsKeptEdge new (edge_naming last hole) (face_edge m (k + 1)) = rw was at f.kept in
+      let named : face_edge new (k + 1) ≡ pair_moved (last_pair m) (pair_at e) (face_edge m (k + 1)) = f.named ∙ ap (pair_moved (last_pair m) (pair_at e)) was in
+      let kept : IsKeptEdge new (edge_naming (last_pair m) (pair_at e)) (face_edge m (k + 1)) = rw was at f.kept in
       get_or-map (triangle_at new) new.face_edges k 0 d k_new
       ∙ ap (λ i. triangle_at new (get_or new.face_edges i 0)) (sym j)
       ∙ ap (triangle_at new) named
@@ -86,7 +81,7 @@ module _ (m new : Mesh) (e : ℕ) (s : IsSound m) (can : IsUnlinkable m e) (r : 
       ∙ sym (get_or-map (triangle_at m) m.face_edges k 0 d k_old))
 
   -- each edge that is left has its ends, and its faces
-  pub sides_removed : (h : ℕ) → h < length new.half_edges → (origin new h ≡ origin m (pair_moved hole last h)) × (origin new (rev h) ≡ origin m (rev (pair_moved hole last h))) × (face new h ≡ face m (pair_moved hole last h))
+  pub sides_removed : (h : ℕ) → h < length new.half_edges → (origin new h ≡ origin m (pair_moved (pair_at e) (last_pair m) h)) × (origin new (rev h) ≡ origin m (rev (pair_moved (pair_at e) (last_pair m) h))) × (face new h ≡ face m (pair_moved (pair_at e) (last_pair m) h))
   sides_removed h within =
       let here = r.renames.edges h within in
       let across = r.renames.edges (rev h) (rev_within h (length new.half_edges) r.renames.even within) in

@@ -19,7 +19,7 @@ use Rattle.half_edge_links.proofs.Conditions.{IsUnlinkable, IsHullEdge}
 use Rattle.half_edge_links.proofs.OpenSound.{sound_opened, swap_remove_default, get_or-swap_remove_same, get_or-swap_remove_other, length-swap_remove}
 use Rattle.half_edge_links.proofs.ShrinkTriangles.{triangles_opened, triangles_peeled, triangle_moved, sides_removed}
 use Rattle.half_edge_links.proofs.FillSound.{pair_first, pair_second, pair_other}
-use Rattle.half_edge_links.proofs.Track.{side_left, IsLeft, name_in, origin_at, face_at, old_at, rev_at}
+use Rattle.half_edge_links.proofs.Track.{last_pair, pair_at, side_left, IsLeft, name_in, origin_at, face_at, old_at, rev_at}
 use Rattle.half_edge_links.proofs.Ends.{length-origins, get_or-origins, length-ends_twice, get_or-ends}
 
 pub removes_triangle : (m new : Mesh) (f : ℕ) → IsInner m f → Opens m new f → RemovesTriangle m new f
@@ -47,12 +47,6 @@ pub count_ends : (m : Mesh) → IsSound m → 2 * length (ends m) ≡ length m.h
 count_ends m s = length-ends_twice m s
 
 module _ (m new : Mesh) (e : ℕ) (s : IsSound m) (can : IsUnlinkable m e) (r : Removes m new e) (s' : IsSound new) where
-  abbrev last : ℕ
-  last = length m.half_edges - 2
-
-  abbrev hole : ℕ
-  hole = e - e % 2
-
   pub removes_ends : RemovesEnds m new e
   removes_ends =
       let n = count_ends m s in
@@ -65,24 +59,24 @@ module _ (m new : Mesh) (e : ℕ) (s : IsSound m) (can : IsUnlinkable m e) (r : 
       let read = ends_at new k d s' second_in in
       elim (cases_eq k (e / 2)) [
         | inl is ↦
-            let at_hole : 2 * k ≡ hole = omega (arith, is) in
-            let at_second : 2 * k + 1 ≡ hole + 1 = omega (arith, is) in
+            let at_hole : 2 * k ≡ pair_at e = omega (arith, is) in
+            let at_second : 2 * k + 1 ≡ (pair_at e) + 1 = omega (arith, is) in
             let j : ℕ = length (ends m) - 1 in
-            let last_is : 2 * j ≡ last = omega (arith, n, can.within) in
-            let last_second : 2 * j + 1 ≡ last + 1 = omega (arith, n, can.within) in
-            let a' : origin new (2 * k) ≡ origin m (2 * j) = a ∙ ap (λ i. origin m (pair_moved hole last i)) at_hole ∙ ap (origin m) (pair_first hole last ∙ sym last_is) in
-            let b' : origin new (2 * k + 1) ≡ origin m (2 * j + 1) = b ∙ ap (λ i. origin m (pair_moved hole last i)) at_second ∙ ap (origin m) (pair_second hole last ∙ sym last_second) in
+            let last_is : 2 * j ≡ last_pair m = omega (arith, n, can.within) in
+            let last_second : 2 * j + 1 ≡ (last_pair m) + 1 = omega (arith, n, can.within) in
+            let a' : origin new (2 * k) ≡ origin m (2 * j) = a ∙ ap (λ i. origin m (pair_moved (pair_at e) (last_pair m) i)) at_hole ∙ ap (origin m) (pair_first (pair_at e) (last_pair m) ∙ sym last_is) in
+            let b' : origin new (2 * k + 1) ≡ origin m (2 * j + 1) = b ∙ ap (λ i. origin m (pair_moved (pair_at e) (last_pair m) i)) at_second ∙ ap (origin m) (pair_second (pair_at e) (last_pair m) ∙ sym last_second) in
             let was = ends_at m j d s (omega (arith, n, can.within)) in
             let fits : k + 1 < length (ends m) = omega (arith, n, second_in, count) in
             let there = ap (λ i. get_or (swap_remove (ends m) i no_ends) k d) (sym is) ∙ ap (λ xs. get_or xs k d) (swap_remove_default (ends m) k no_ends d (omega (arith, fits))) ∙ get_or-swap_remove_same (ends m) k d fits in
             read ∙ rw (a', b') refl ∙ sym was ∙ sym there
         | inr off ↦
-            let off_first : 2 * k ≢ hole = λ q. off (omega (arith, q)) in
-            let off_second : 2 * k ≢ hole + 1 = λ q. absurd (omega (arith, q)) in
-            let off_third : 2 * k + 1 ≢ hole = λ q. absurd (omega (arith, q)) in
-            let off_fourth : 2 * k + 1 ≢ hole + 1 = λ q. off (omega (arith, q)) in
-            let a' : origin new (2 * k) ≡ origin m (2 * k) = a ∙ ap (origin m) (pair_other hole last (2 * k) off_first off_second) in
-            let b' : origin new (2 * k + 1) ≡ origin m (2 * k + 1) = b ∙ ap (origin m) (pair_other hole last (2 * k + 1) off_third off_fourth) in
+            let off_first : 2 * k ≢ (pair_at e) = λ q. off (omega (arith, q)) in
+            let off_second : 2 * k ≢ (pair_at e) + 1 = λ q. absurd (omega (arith, q)) in
+            let off_third : 2 * k + 1 ≢ (pair_at e) = λ q. absurd (omega (arith, q)) in
+            let off_fourth : 2 * k + 1 ≢ (pair_at e) + 1 = λ q. off (omega (arith, q)) in
+            let a' : origin new (2 * k) ≡ origin m (2 * k) = a ∙ ap (origin m) (pair_other (pair_at e) (last_pair m) (2 * k) off_first off_second) in
+            let b' : origin new (2 * k + 1) ≡ origin m (2 * k + 1) = b ∙ ap (origin m) (pair_other (pair_at e) (last_pair m) (2 * k + 1) off_third off_fourth) in
             let fits : k + 1 < length (ends m) = omega (arith, n, second_in, count) in
             let was = ends_at m k d s (omega (arith, second_in, count)) in
             let there = ap (λ xs. get_or xs k d) (swap_remove_default (ends m) (e / 2) no_ends d (omega (arith, fits))) ∙ get_or-swap_remove_other (ends m) (e / 2) k d fits off in
@@ -103,7 +97,7 @@ module _ (m new : Mesh) (e : ℕ) (s : IsSound m) (can : IsUnlinkable m e) (r : 
     kept = λ h a b o p q. outer_left h a b (record { within = o.within; other = p; other_side = q }) o;
     only = λ h a b o.
         let was = old_at m new e s can r h o.within in
-        let k : ℕ = pair_moved hole last h in
+        let k : ℕ = pair_moved (pair_at e) (last_pair m) h in
         let l = was.0 in
         let source : origin m k ≡ a = sym (origin_at m new e s can r k l) ∙ ap (origin new) was.1 ∙ o.source in
         let target : origin m (rev k) ≡ b = sym (origin_at m new e s can r (rev k) (side_left m e k s l)) ∙ ap (origin new) (sym (rev_at m new e s can r k l)) ∙ ap (λ j. origin new (rev j)) was.1 ∙ o.target in
