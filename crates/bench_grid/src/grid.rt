@@ -7,13 +7,14 @@ use crate::small_tests::SmallTests;
 use delaunay_core::math::InsertionError;
 use delaunay_core::point::Point2;
 use delaunay_edit::TriangulationCore;
+use delaunay_legalization::NoneFixed;
 use std::alloc::Global;
 use std::marker::Model;
 
 /// A triangulation whose vertices have coordinates from 0 to 1023.
 #[derive(Drop)]
 pub(crate) struct Grid {
-    core: TriangulationCore<Point2<i64>, (), (), ()>,
+    core: TriangulationCore<Point2<i64>, (), (), (), NoneFixed>,
 }
 
 impl Model for Grid {

@@ -69,7 +69,7 @@ parts_of_edge (x ∷ es) [] k e h = absurd (cc)
 parts_of_edge (x ∷ es) (u ∷ us) zero e h = let q : edge_with x u ≡ e = cc in (ap (λ z. Some (ends_of z)) q, ap (λ z. Some z.value) q)
 parts_of_edge (x ∷ es) (u ∷ us) (suc k) e h = parts_of_edge es us k e h
 
-rev_of_even : (k : ℕ) → rev (2 * k) ≡ 2 * k + 1
+pub rev_of_even : (k : ℕ) → rev (2 * k) ≡ 2 * k + 1
 rev_of_even k = grind (arith, common_steps)
 
 rev_half : (e : ℕ) → rev e / 2 ≡ e / 2

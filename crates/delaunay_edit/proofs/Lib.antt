@@ -16,4 +16,5 @@ pub mod DataKept
 pub mod DataGrowing
 pub mod Joining
 pub mod Delaunay
+pub mod FixedEdges
 pub mod Removing

@@ -1,17 +1,19 @@
 -- A vertex that takes the place of one of its position.
 use Rattle.std.proofs.Common.{◌≡◌, ◌<◌, ℕ, List, length, map, sym, ap, ◌∙◌, subst, slice_set, set}
 use Rattle.std.specs.Prelude.{pos}
-use Rattle.std.proofs.lemmas.List.{map-set, get_or-map, set-get_or, length-set, length-map}
+use Rattle.std.proofs.lemmas.List.{get_or-map, map-set, set-get_or, length-set, length-map}
 use Rattle.std.proofs.lemmas.List.Elements.{All-set, All-map, All-get_or}
 use Rattle.half_edge_mesh.specs.Contents.{Contents}
 use Rattle.plane.specs.Fraction.{Point}
+use Rattle.plane.specs.Pairs.{Joins}
 use Rattle.plane.specs.Plain.{Replaces}
 use Rattle.plane.specs.Tests.{InRange}
 use Rattle.plane_tiling.specs.Local.{IsMesh}
 use Rattle.drawn_mesh.specs.Drawn.{faces_of, outer_of}
+use Rattle.delaunay_legalization.specs.Fixed.{fixed_of, plain_with}
 use Rattle.delaunay_legalization.specs.Known.{point_at}
 use Rattle.delaunay_legalization.specs.Shape.{IsKept}
-use Rattle.delaunay_legalization.specs.State.{State, state_of, plain_of}
+use Rattle.delaunay_legalization.specs.State.{State, state_of}
 
 pub same_places : {V : Type 0} (at : V → Point) (vs : List V) (i : ℕ) (v : V) → point_at (map at vs) i ≡ at v → map at (slice_set vs i v) ≡ map at vs
 same_places at vs i v e = map-set at vs i v ∙ ap (λ q. set (map at vs) i q) (sym e) ∙ set-get_or (map at vs) i (record { x = pos 0; y = pos 0 })
@@ -29,12 +31,15 @@ kept_overwritten at c i v kept h e =
       shape = subst (λ ps. IsMesh ps (faces_of c.mesh) (outer_of c.mesh)) (sym (same_places at c.vertices i v e)) kept.shape;
     }
 
--- in the words of plain states
-pub overwriting_replaces : {V D U F : Type 0} (at : V → Point) (old new : State V D U F) (i : ℕ) (v : V) → i < length old.vertices → point_at (map at old.vertices) i ≡ at v → new ≡ record old { vertices = slice_set old.vertices i v } → Replaces at (plain_of old) (plain_of new) i v
-overwriting_replaces at old new i v h e is =
-    record {
-      here = h;
-      same = sym (get_or-map at old.vertices i v (record { x = pos 0; y = pos 0 }) h) ∙ e;
-      vertices = ap (λ s. s.vertices) is;
-      constraints = λ a b. ((λ x. x), (λ x. x));
-    }
+-- the vertex takes the place of that one, and the constraints stay
+pub overwriting_replaces : {V D U F : Type 0} (at : V → Point) (fixed : List U → List ℕ) (old new : State V D U F) (i : ℕ) (v : V) → i < length old.vertices → point_at (map at old.vertices) i ≡ at v → new ≡ record old { vertices = slice_set old.vertices i v }
+    → Replaces at (plain_with fixed old) (plain_with fixed new) i v
+overwriting_replaces at fixed old new i v h e is = record {
+  here = h;
+  same = sym (get_or-map at old.vertices i v (record { x = pos 0; y = pos 0 }) h) ∙ e;
+  vertices = ap (λ s. s.vertices) is;
+  constraints = λ a b. (
+    subst (λ s. Joins (fixed_of fixed s) a b → Joins (fixed_of fixed old) a b) (sym is) (λ j. j),
+    subst (λ s. Joins (fixed_of fixed old) a b → Joins (fixed_of fixed s) a b) (sym is) (λ j. j),
+  );
+}

@@ -1,5 +1,6 @@
 -- What becomes of the data of edges and faces.
 use Rattle.std.specs.Prelude.{◌≡◌, ◌⊎◌, ℕ, ◌/◌, ◌<◌, List, length, Some, slice_get}
+use Rattle.std.specs.List.{AllZip}
 use Rattle.half_edge_links.specs.Triangles.{Triangle, triangles}
 use Rattle.plane.specs.Fraction.{Point, whole, InTriangle}
 use Rattle.plane.specs.Pairs.{place}
@@ -35,3 +36,8 @@ pub record GrowsAround {V D U F : Type 0} (points : List Point) (p : Point) (old
   pub edges : (h : ℕ) → h < length old.directed → KeepsEdge old new h ⊎ IsWithinEdge points old.mesh p h
   pub faces : (f : ℕ) (t : Triangle) → slice_get (triangles old.mesh) f ≡ Some t → KeepsFace old new f ⊎ IsInCorners points p t
   pub outer : new.outer ≡ old.outer
+
+-- the data of each undirected edge are as R says of the former ones, and all else is as it was
+pub record HasOtherEdgeData {V D U T F : Type 0} (R : U → T → Type 0) (old : State V D U F) (new : State V D T F) : Type 0 where
+  pub each : AllZip R old.undirected new.undirected
+  pub rest : new ≡ record { vertices = old.vertices; mesh = old.mesh; directed = old.directed; undirected = new.undirected; outer = old.outer; faces = old.faces }

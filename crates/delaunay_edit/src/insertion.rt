@@ -35,7 +35,13 @@ fn reserve_for_vertex<V, DE, UE, F>(dcel: &mut Dcel<V, DE, UE, F>) -> Result<(),
     }
 }
 
-impl<V: HasPosition + Drop, DE: Default, UE: Default, F: Default> TriangulationCore<V, DE, UE, F> {
+impl<V: HasPosition + Drop, DE: Default, UE: Default, F: Default> TriangulationCore<
+    V,
+    DE,
+    UE,
+    F,
+    NoneFixed,
+> {
     // The new last vertex, with each edge tested again, or a refusal that changes nothing.
     fn append<P: PlaneTests<V::Scalar>>(
         &mut self,

@@ -2,6 +2,7 @@
 #![tactic(auto)]
 
 mod elements;
+mod fixed_edges;
 mod insertion;
 mod insertion_cases;
 mod insertion_line;

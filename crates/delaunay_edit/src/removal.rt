@@ -5,6 +5,7 @@ ghost use Rattle.plane.specs.Plain.{IsCleared, Removes, Replaces};
 ghost use Rattle.plane.specs.Tiling.{IsFace, IsTiling};
 ghost use Rattle.plane.specs.Delaunay.{IsConstrainedDelaunay, IsStrictlyEmpty};
 ghost use Rattle.delaunay_core.specs.Place.{place_of};
+ghost use Rattle.delaunay_legalization.specs.Fixed.{fixed_of, plain_with};
 ghost use Rattle.delaunay_legalization.specs.Known.{IsKnown, point_at};
 ghost use Rattle.delaunay_legalization.specs.State.{plain_of, triangulation_of};
 ghost use Rattle.delaunay_removal.specs.Data.{KeepsDataOfOthers};
@@ -13,12 +14,12 @@ ghost use Rattle.delaunay_edit.specs.Removal.{RemovesAt};
 use crate::triangulation_core::TriangulationCore;
 use delaunay_core::math::PlaneTests;
 use delaunay_core::point::{HasPosition, Point2};
-use delaunay_legalization::{NoneFixed, legalize_all};
+use delaunay_legalization::{EdgeMarks, NoneFixed, legalize_all};
 use delaunay_removal::remove_vertex;
 use half_edge_mesh::FixedVertexHandle;
 use std::alloc::AllocError;
 
-impl<V: HasPosition, DE, UE, F> TriangulationCore<V, DE, UE, F> {
+impl<V: HasPosition, DE, UE, F, M: EdgeMarks<UE>> TriangulationCore<V, DE, UE, F, M> {
     /// Exchanges a vertex for one of the same position, and gives the old one back.
     pub fn replace_vertex(&mut self, vertex: FixedVertexHandle, value: V) -> V
         requires within { vertex < length self.old.vertices }
@@ -26,10 +27,10 @@ impl<V: HasPosition, DE, UE, F> TriangulationCore<V, DE, UE, F> {
 
         ensures value { slice_get self.old.vertices vertex ≡ Some result }
         ensures new { self.new ≡ record self.old { vertices = slice_set self.old.vertices vertex value } }
-        ensures plain { Replaces V.place (plain_of self.old) (plain_of self.new) vertex value }
+        ensures plain { Replaces V.place (plain_with M.fixed self.old) (plain_with M.fixed self.new) vertex value }
         ensures tiling { IsTiling (triangulation_of V.place self.new) }
-        ensures delaunay { IsConstrainedDelaunay (triangulation_of V.place self.new) [] }
-        ensures empty_triples { (i j k : ℕ) → IsStrictlyEmpty (triangulation_of V.place self.new) i j k → IsFace (triangulation_of V.place self.new) i j k }
+        ensures delaunay { IsConstrainedDelaunay (triangulation_of V.place self.new) (fixed_of M.fixed self.new) }
+        ensures empty_triples { fixed_of M.fixed self.new ≡ [] → (i j k : ℕ) → IsStrictlyEmpty (triangulation_of V.place self.new) i j k → IsFace (triangulation_of V.place self.new) i j k }
     {
         let former = self.dcel.update_vertex(vertex, value);
         let _ = self.num_vertices();
@@ -37,7 +38,7 @@ impl<V: HasPosition, DE, UE, F> TriangulationCore<V, DE, UE, F> {
     }
 }
 
-impl<V: HasPosition, DE: Drop, UE: Drop, F: Drop> TriangulationCore<V, DE, UE, F> {
+impl<V: HasPosition, DE: Drop, UE: Drop, F: Drop> TriangulationCore<V, DE, UE, F, NoneFixed> {
     // Takes a vertex out and tests each edge of what is left, or a refusal that changes nothing.
     fn take_out<P: PlaneTests<V::Scalar>>(
         &mut self,
@@ -111,11 +112,17 @@ impl<V: HasPosition, DE: Drop, UE: Drop, F: Drop> TriangulationCore<V, DE, UE, F
     }
 }
 
-impl<V: HasPosition + Drop, DE: Drop, UE: Drop, F: Drop> TriangulationCore<V, DE, UE, F> {
+impl<V: HasPosition + Drop, DE: Drop, UE: Drop, F: Drop, M: EdgeMarks<UE>> TriangulationCore<
+    V,
+    DE,
+    UE,
+    F,
+    M,
+> {
     /// Forgets each vertex, each edge and each inner face. The outer face keeps its data, and the room stays.
     pub fn clear(&mut self)
         ensures new { self.new ≡ record self.old { vertices = []; mesh = empty; directed = []; undirected = []; faces = [] } }
-        ensures plain { IsCleared V.place (plain_of self.new) }
+        ensures plain { IsCleared V.place (plain_with M.fixed self.new) }
         ensures tiling { IsTiling (triangulation_of V.place self.new) }
         ensures delaunay { IsConstrainedDelaunay (triangulation_of V.place self.new) [] }
         ensures empty_triples { (i j k : ℕ) → IsStrictlyEmpty (triangulation_of V.place self.new) i j k → IsFace (triangulation_of V.place self.new) i j k }

@@ -6,32 +6,35 @@ ghost use Rattle.plane.specs.Tiling.{IsTiling, IsFace};
 ghost use Rattle.plane.specs.Delaunay.{IsConstrainedDelaunay, IsStrictlyEmpty};
 ghost use Rattle.delaunay_core.specs.Place.{place_of};
 ghost use Rattle.delaunay_legalization.specs.State.{triangulation_of};
+ghost use Rattle.delaunay_legalization.specs.Fixed.{fixed_of};
 ghost use Rattle.delaunay_legalization.specs.Known.{point_at};
 ghost use Rattle.delaunay_legalization.specs.Shape.{IsKept};
 ghost use Rattle.delaunay_edit.specs.Location.{IsMeshEdge, IsMeshFace};
 
 use delaunay_core::point::{HasPosition, Point2};
+use delaunay_legalization::EdgeMarks;
 use half_edge_mesh::{
     Dcel, FixedDirectedEdgeHandle, FixedFaceHandle, FixedUndirectedEdgeHandle, FixedVertexHandle,
     MAX_ELEMENTS,
 };
 use half_edge_views::MeshViews;
 use std::alloc::Global;
-use std::marker::Model;
+use std::marker::{Model, PhantomData};
 
-/// A triangulation of vertices with different positions: its faces tile the hull of the positions, and none has a vertex
-/// strictly inside its circle, or its edges join the positions of one line to their neighbours.
+/// A triangulation of vertices with different positions: its faces tile the hull of the positions, or its edges join the
+/// positions of one line to their neighbours. The constraints are the edges that the marker `M` finds fixed by their data,
+/// and no face has a vertex strictly inside its circle that is seen from inside the face past the constraints.
 #[derive(Drop)]
-pub struct TriangulationCore<V: HasPosition, DE, UE, F> {
+pub struct TriangulationCore<V: HasPosition, DE, UE, F, M: EdgeMarks<UE>> {
     pub(crate) dcel: Dcel<V, DE, UE, F>,
     // The edges that a legalization has still to test: none between edits, but the room for them stays.
     pub(crate) work: Vec<FixedUndirectedEdgeHandle>,
     // Room for the sides opposite a vertex that a removal takes from the hull; what stands in it has no meaning.
     pub(crate) sides: Vec<FixedDirectedEdgeHandle>,
+    pub(crate) marks: PhantomData<M>,
 }
 
-impl<V: HasPosition, DE, UE, F> Model for TriangulationCore<V, DE, UE, F> {
-    ghost use Rattle.std.specs.Prelude.{[]};
+impl<V: HasPosition, DE, UE, F, M: EdgeMarks<UE>> Model for TriangulationCore<V, DE, UE, F, M> {
     ghost use Rattle.delaunay_legalization.specs.State.{State, state_of};
     ghost use Rattle.delaunay_legalization.specs.Shape.{IsLegal};
 
@@ -39,10 +42,10 @@ impl<V: HasPosition, DE, UE, F> Model for TriangulationCore<V, DE, UE, F> {
 
     ghost view = { λ c. state_of c.dcel };
 
-    ghost invariant = { λ c. IsLegal V.place (λ _. []) (state_of c.dcel) };
+    ghost invariant = { λ c. IsLegal V.place M.fixed (state_of c.dcel) };
 }
 
-impl<V: HasPosition, DE, UE, F> TriangulationCore<V, DE, UE, F> {
+impl<V: HasPosition, DE, UE, F, M: EdgeMarks<UE>> TriangulationCore<V, DE, UE, F, M> {
     /// No vertex, no edge, and the outer face with default data.
     pub fn new(alloc: Global) -> Self
     where
@@ -53,6 +56,7 @@ impl<V: HasPosition, DE, UE, F> TriangulationCore<V, DE, UE, F> {
         ensures undirected { result.undirected ≡ [] }
         ensures outer { F.is_default result.outer }
         ensures faces { result.faces ≡ [] }
+        ensures constraints { fixed_of M.fixed result ≡ [] }
         ensures tiling { IsTiling (triangulation_of V.place result) }
         ensures delaunay { IsConstrainedDelaunay (triangulation_of V.place result) [] }
     {
@@ -62,6 +66,7 @@ impl<V: HasPosition, DE, UE, F> TriangulationCore<V, DE, UE, F> {
             dcel,
             work: Vec::new(alloc),
             sides: Vec::new(alloc),
+            marks: PhantomData,
         }
     }
 
@@ -70,8 +75,8 @@ impl<V: HasPosition, DE, UE, F> TriangulationCore<V, DE, UE, F> {
         ensures small { result ≤ MAX_ELEMENTS }
         ensures kept { IsKept V.place self.now }
         ensures tiling { IsTiling (triangulation_of V.place self.now) }
-        ensures delaunay { IsConstrainedDelaunay (triangulation_of V.place self.now) [] }
-        ensures empty_triples { (i j k : ℕ) → IsStrictlyEmpty (triangulation_of V.place self.now) i j k → IsFace (triangulation_of V.place self.now) i j k }
+        ensures delaunay { IsConstrainedDelaunay (triangulation_of V.place self.now) (fixed_of M.fixed self.now) }
+        ensures empty_triples { fixed_of M.fixed self.now ≡ [] → (i j k : ℕ) → IsStrictlyEmpty (triangulation_of V.place self.now) i j k → IsFace (triangulation_of V.place self.now) i j k }
     {
         self.dcel.num_vertices()
     }

@@ -2,6 +2,7 @@
 use Rattle.std.specs.Prelude.{◌≡◌, ℕ, suc, Bool, false, List, [], ◌∷◌, if◌then◌else◌, refl}
 use Rattle.half_edge_links.specs.Mesh.{Mesh}
 use Rattle.drawn_mesh.specs.Legal.{pairs_at}
+use Rattle.plane.specs.Plain.{Plain}
 use Rattle.delaunay_legalization.specs.State.{State}
 
 -- the indexes of the marked data, where the first has this index
@@ -28,3 +29,7 @@ fixed_pairs fixed m ds = pairs_at m (fixed ds)
 -- those of a triangulation
 abbrev pub fixed_of : {V D U F : Type 0} → (List U → List ℕ) → State V D U F → List (ℕ × ℕ)
 fixed_of fixed s = fixed_pairs fixed s.mesh s.undirected
+
+-- the vertices, with the pairs that fixed edges join as the constraints
+abbrev pub plain_with : {V D U F : Type 0} → (List U → List ℕ) → State V D U F → Plain V
+plain_with fixed s = record { vertices = s.vertices; constraints = fixed_of fixed s }

@@ -76,6 +76,7 @@ impl<UE> CdtEdge<UE> {
 }
 
 /// The constraints are fixed.
+#[derive(Drop)]
 pub struct ConstraintsFixed;
 
 impl<UE> EdgeMarks<CdtEdge<UE>> for ConstraintsFixed {

@@ -17,6 +17,7 @@ pub trait EdgeMarks<UE> {
 }
 
 /// No edge is fixed, as in a triangulation without constraints.
+#[derive(Drop)]
 pub struct NoneFixed;
 
 impl<UE> EdgeMarks<UE> for NoneFixed {

@@ -1,1 +1,2 @@
 pub mod Vertices
+pub mod Constrained

@@ -23,6 +23,7 @@ ghost use Rattle.delaunay_legalization.specs.State.{state_of, plain_of, triangul
 use delaunay_core::math::{InsertionError, PlaneTests};
 use delaunay_core::point::{HasPosition, Point2};
 use delaunay_edit::{PositionInTriangulation, TriangulationCore};
+use delaunay_legalization::NoneFixed;
 use half_edge_mesh::{FixedDirectedEdgeHandle, FixedFaceHandle, FixedVertexHandle, MAX_ELEMENTS};
 use half_edge_views::{DirectedEdgeHandle, FaceHandle, FaceIterator, VertexHandle, VertexIterator};
 use std::alloc::{AllocError, Global};
@@ -33,7 +34,7 @@ use std::marker::Model;
 /// edges join the neighbours.
 #[derive(Drop)]
 pub struct DelaunayTriangulation<V: HasPosition, DE, UE, F> {
-    core: TriangulationCore<V, DE, UE, F>,
+    pub(crate) core: TriangulationCore<V, DE, UE, F, NoneFixed>,
 }
 
 impl<V: HasPosition, DE, UE, F> Model for DelaunayTriangulation<V, DE, UE, F> {

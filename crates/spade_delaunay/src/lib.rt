@@ -1,10 +1,12 @@
 //! Delaunay triangulations of points with whole-number coordinates, whose side and circle tests the caller hands in.
 #![tactic(auto)]
 
+pub mod cdt;
 mod delaunay_triangulation;
 pub mod handles;
 pub mod iterators;
 
+pub use cdt::{CdtEdge, ConstrainedDelaunayTriangulation};
 pub use delaunay_core::line_side_info::LineSideInfo;
 pub use delaunay_core::math::{
     InsertionError, MAX_ALLOWED_VALUE, PlaneTests, validate_coordinate, validate_vertex,

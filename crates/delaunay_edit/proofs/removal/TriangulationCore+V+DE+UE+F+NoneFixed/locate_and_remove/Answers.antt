@@ -1,6 +1,6 @@
 use Rattle.std.proofs.Common.{◌∙◌, refl, sym}
 use Rattle.delaunay_edit.proofs.Removing.{read_place}
-use Rattle.delaunay_edit.proofs.triangulation_core.TriangulationCore.locate_and_remove.Goals as goal
+use Rattle.delaunay_edit.proofs.removal.TriangulationCore+V+DE+UE+F+NoneFixed.locate_and_remove.Goals as goal
 
 pub returns-in_ok-remove-in-Some-clause-ok : goal.returns-in_ok-remove-in-Some-clause-ok
 returns-in_ok-remove-in-Some-clause-ok g c =
@@ -15,3 +15,6 @@ returns-in_ok-remove-in-Some-clause-ok g c =
 
 pub returns-in-None-clause-apart : goal.returns-in-None-clause-apart
 returns-in-None-clause-apart g c = λ _. (refl, refl)
+
+pub returns-in-None-clause-empty_triples : goal.returns-in-None-clause-empty_triples
+returns-in-None-clause-empty_triples g c = c.num_vertices.ensures.empty_triples refl

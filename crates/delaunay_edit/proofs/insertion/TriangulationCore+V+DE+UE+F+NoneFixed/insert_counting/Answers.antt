@@ -1,7 +1,7 @@
 use Rattle.std.proofs.Common.{refl, arith}
 use Rattle.delaunay_edit.proofs.Appending.{inserted}
 use Rattle.delaunay_edit.proofs.DataKept.{overwritten_keeps}
-use Rattle.delaunay_edit.proofs.triangulation_core.TriangulationCore.insert_counting.Goals as goal
+use Rattle.delaunay_edit.proofs.insertion.TriangulationCore+V+DE+UE+F+NoneFixed.insert_counting.Goals as goal
 
 pub returns-in-Err-clause-ok : goal.returns-in-Err-clause-ok
 returns-in-Err-clause-ok g c =
@@ -36,3 +36,12 @@ returns-in-Err-clause-data g c = c.append-appended.ensures.data
 
 pub returns-in-Ok-clause-counted : goal.returns-in-Ok-clause-counted
 returns-in-Ok-clause-counted g c = record { grows = omega arith; few = omega arith }
+
+pub returns-in_err-validate_vertex-clause-empty_triples : goal.returns-in_err-validate_vertex-clause-empty_triples
+returns-in_err-validate_vertex-clause-empty_triples g c = c.num_vertices.ensures.empty_triples refl
+
+pub returns-in-Ok-clause-empty_triples : goal.returns-in-Ok-clause-empty_triples
+returns-in-Ok-clause-empty_triples g c = c.num_vertices-in-Ok.ensures.empty_triples refl
+
+pub returns-in-Err-clause-empty_triples : goal.returns-in-Err-clause-empty_triples
+returns-in-Err-clause-empty_triples g c = c.num_vertices-in-Err.ensures.empty_triples refl

@@ -3,7 +3,7 @@ use Rattle.delaunay_edit.specs.Location.{Locates}
 use Rattle.delaunay_legalization.specs.Shape.{IsKept}
 use Rattle.delaunay_edit.proofs.Appending.{sites_after}
 use Rattle.delaunay_edit.proofs.DataKept.{appended_keeps}
-use Rattle.delaunay_edit.proofs.triangulation_core.TriangulationCore.append.Goals as goal
+use Rattle.delaunay_edit.proofs.insertion.TriangulationCore+V+DE+UE+F+NoneFixed.append.Goals as goal
 
 pub insert_at-vertex-requires-clause-location : goal.insert_at-vertex-requires-clause-location
 insert_at-vertex-requires-clause-location g c =

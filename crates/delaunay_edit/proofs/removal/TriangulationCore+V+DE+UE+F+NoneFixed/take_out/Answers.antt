@@ -4,7 +4,7 @@ use Rattle.delaunay_legalization.specs.State.{plain_of, state_of}
 use Rattle.delaunay_removal.specs.Data.{KeepsDataBeside}
 use Rattle.delaunay_removal.proofs.DataLegalized.{legalized_keeps_others}
 use Rattle.delaunay_edit.proofs.Removing.{sites_left, room_left}
-use Rattle.delaunay_edit.proofs.triangulation_core.TriangulationCore.take_out.Goals as goal
+use Rattle.delaunay_edit.proofs.removal.TriangulationCore+V+DE+UE+F+NoneFixed.take_out.Goals as goal
 
 pub legalize_all-requires-clause-sites : goal.legalize_all-requires-clause-sites
 legalize_all-requires-clause-sites g c =
