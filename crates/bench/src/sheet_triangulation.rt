@@ -62,6 +62,13 @@ impl SheetTriangulation {
         }
     }
 
+    /// The sheet, and the triangulation of its sites.
+    pub fn into_parts(self) -> (Sheet, DelaunayTriangulation<TaggedVertex, u32, u32, u32>)
+        ensures sites { AreSites (IsSite result.0) result.1.vertices }
+    {
+        (self.sheet, self.triangulation)
+    }
+
     pub fn sheet(&self) -> Sheet
         ensures { result ≡ self.now.0 }
     {

@@ -9,6 +9,7 @@ use spade_delaunay::handles::{DirectedEdgeHandle, FaceHandle};
 use std::alloc::Global;
 use triangulate_run::sheet::Sheet;
 
+mod constraints;
 mod empty_circles;
 mod fixed_edges;
 mod hints;
