@@ -7,6 +7,7 @@ ghost use Rattle.bench.specs.Vertices.{position_of, AreSites};
 
 use crate::tagged_vertex::TaggedVertex;
 use delaunay_edit::TriangulationCore;
+use delaunay_legalization::NoneFixed;
 use delaunay_paths::{crosses_segment, make_edge, next_on_path};
 use half_edge_mesh::{Dcel, FixedDirectedEdgeHandle, FixedVertexHandle};
 use spade_delaunay::Point2;
@@ -22,7 +23,7 @@ pub type SheetMesh = Dcel<TaggedVertex, u32, u32, u32>;
 #[derive(Drop)]
 pub struct SheetPaths {
     sheet: Sheet,
-    core: TriangulationCore<TaggedVertex, u32, u32, u32>,
+    core: TriangulationCore<TaggedVertex, u32, u32, u32, NoneFixed>,
 }
 
 impl Model for SheetPaths {
