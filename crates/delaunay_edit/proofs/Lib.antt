@@ -11,6 +11,7 @@ pub mod Cases
 pub mod Overwriting
 pub mod Appending
 pub mod InsertionCases
+pub mod MadeFaces
 pub mod LineEnds
 pub mod DataKept
 pub mod DataGrowing

@@ -17,7 +17,7 @@ use crate::position_in_triangulation::PositionInTriangulation;
 use crate::triangulation_core::TriangulationCore;
 use delaunay_core::math::{InsertionError, PlaneTests, validate_vertex};
 use delaunay_core::point::HasPosition;
-use delaunay_legalization::{NoneFixed, legalize_all, reserve_for_edges, turns_left};
+use delaunay_legalization::{NoneFixed, legalize_star, reserve_for_edges, turns_left};
 use half_edge_mesh::{Dcel, FixedVertexHandle, MAX_ELEMENTS, ReserveError};
 
 // Makes room for one more vertex, with the edges and faces that it can bring.
@@ -42,7 +42,7 @@ impl<V: HasPosition + Drop, DE: Default, UE: Default, F: Default> TriangulationC
     F,
     NoneFixed,
 > {
-    // The new last vertex, with each edge tested again, or a refusal that changes nothing.
+    // The new last vertex, with the edges of the faces at it tested, or a refusal that changes nothing.
     fn append<P: PlaneTests<V::Scalar>>(
         &mut self,
         location: PositionInTriangulation,
@@ -70,7 +70,13 @@ impl<V: HasPosition + Drop, DE: Default, UE: Default, F: Default> TriangulationC
         reserve_for_vertex(&mut self.dcel)?;
         reserve_for_edges(&mut self.work, 3 * (self.dcel.num_vertices() + 1))?;
         let vertex = insert_at(&mut self.dcel, location, turns, value, tests);
-        legalize_all::<NoneFixed, _, _, _, _, _>(&mut self.dcel, tests, &mut self.work, flips);
+        legalize_star::<NoneFixed, _, _, _, _, _>(
+            &mut self.dcel,
+            vertex,
+            tests,
+            &mut self.work,
+            flips,
+        );
         Ok(vertex)
     }
 

@@ -7,7 +7,9 @@ ghost use Rattle.plane.specs.Tests.{InRange};
 ghost use Rattle.delaunay_edit.specs.Data.{GrowsAround};
 ghost use Rattle.delaunay_edit.specs.Location.{IsApart, IsInsideFaceOf, IsLeftOfPlace, IsWithinEdge, Locates};
 ghost use Rattle.delaunay_legalization.specs.Shape.{IsKept};
+ghost use Rattle.delaunay_legalization.specs.Star.{MakesFacesAt};
 ghost use Rattle.delaunay_legalization.specs.State.{state_of};
+ghost use Rattle.drawn_mesh.specs.Drawn.{faces_of};
 
 use crate::insertion_line::{insert_first, insert_past_end, insert_second, insert_within_line};
 use crate::insertion_outside::join_outside;
@@ -33,6 +35,7 @@ pub(crate) fn insert_inside_face<V: HasPosition, DE: Default, UE: Default, F: De
     ensures vertices { dcel.new.vertices ≡ dcel.old.vertices ++ value ∷ [] }
     ensures kept { IsKept V.place (state_of dcel.new) }
     ensures grows { GrowsAround (map V.place dcel.old.vertices) (V.place value) (state_of dcel.old) (state_of dcel.new) }
+    ensures made { MakesFacesAt (length dcel.old.vertices) (faces_of dcel.old.mesh) (faces_of dcel.new.mesh) }
 {
     let vertex = dcel.insert_into_triangle(value, face);
     let _ = dcel.num_vertices();
@@ -56,6 +59,7 @@ pub(crate) fn split_inner_edge<V: HasPosition, DE: Default, UE: Default, F: Defa
     ensures vertices { dcel.new.vertices ≡ dcel.old.vertices ++ value ∷ [] }
     ensures kept { IsKept V.place (state_of dcel.new) }
     ensures grows { GrowsAround (map V.place dcel.old.vertices) (V.place value) (state_of dcel.old) (state_of dcel.new) }
+    ensures made { MakesFacesAt (length dcel.old.vertices) (faces_of dcel.old.mesh) (faces_of dcel.new.mesh) }
 {
     let (vertex, _parts) = dcel.split_edge(edge, value);
     let _ = dcel.num_vertices();
@@ -79,6 +83,7 @@ pub(crate) fn split_hull_edge<V: HasPosition, DE: Default, UE: Default, F: Defau
     ensures vertices { dcel.new.vertices ≡ dcel.old.vertices ++ value ∷ [] }
     ensures kept { IsKept V.place (state_of dcel.new) }
     ensures grows { GrowsAround (map V.place dcel.old.vertices) (V.place value) (state_of dcel.old) (state_of dcel.new) }
+    ensures made { MakesFacesAt (length dcel.old.vertices) (faces_of dcel.old.mesh) (faces_of dcel.new.mesh) }
 {
     let (vertex, _parts) = dcel.split_half_edge(edge, value);
     let _ = dcel.num_vertices();
@@ -100,6 +105,7 @@ fn insert_within_edge<V: HasPosition, DE: Default, UE: Default, F: Default>(
     ensures vertices { dcel.new.vertices ≡ dcel.old.vertices ++ value ∷ [] }
     ensures kept { IsKept V.place (state_of dcel.new) }
     ensures grows { GrowsAround (map V.place dcel.old.vertices) (V.place value) (state_of dcel.old) (state_of dcel.new) }
+    ensures made { MakesFacesAt (length dcel.old.vertices) (faces_of dcel.old.mesh) (faces_of dcel.new.mesh) }
 {
     if dcel.num_inner_faces() == 0 {
         insert_within_line(dcel, edge, value)
@@ -139,6 +145,7 @@ pub(crate) fn insert_at<
     ensures vertices { dcel.new.vertices ≡ dcel.old.vertices ++ value ∷ [] }
     ensures kept { IsKept V.place (state_of dcel.new) }
     ensures grows { GrowsAround (map V.place dcel.old.vertices) (V.place value) (state_of dcel.old) (state_of dcel.new) }
+    ensures made { MakesFacesAt (length dcel.old.vertices) (faces_of dcel.old.mesh) (faces_of dcel.new.mesh) }
 {
     match location {
         PositionInTriangulation::OnFace(face) => insert_inside_face(dcel, face, value),

@@ -9,7 +9,9 @@ ghost use Rattle.plane_tiling.specs.Local.{alone};
 ghost use Rattle.delaunay_edit.specs.Data.{GrowsAround};
 ghost use Rattle.delaunay_edit.specs.Location.{IsApart, IsWithinEdge};
 ghost use Rattle.delaunay_legalization.specs.Shape.{IsKept};
+ghost use Rattle.delaunay_legalization.specs.Star.{MakesFacesAt};
 ghost use Rattle.delaunay_legalization.specs.State.{state_of};
+ghost use Rattle.drawn_mesh.specs.Drawn.{faces_of};
 
 use delaunay_core::point::HasPosition;
 use half_edge_mesh::{Dcel, FixedDirectedEdgeHandle, FixedVertexHandle};
@@ -28,6 +30,7 @@ pub(crate) fn insert_first<V: HasPosition, DE, UE, F>(
     ensures vertices { dcel.new.vertices ≡ dcel.old.vertices ++ value ∷ [] }
     ensures kept { IsKept V.place (state_of dcel.new) }
     ensures grows { GrowsAround (map V.place dcel.old.vertices) (V.place value) (state_of dcel.old) (state_of dcel.new) }
+    ensures made { MakesFacesAt (length dcel.old.vertices) (faces_of dcel.old.mesh) (faces_of dcel.new.mesh) }
 {
     let vertex = dcel.append_unconnected_vertex(value);
     let _ = dcel.num_vertices();
@@ -48,6 +51,7 @@ pub(crate) fn insert_second<V: HasPosition, DE: Default, UE: Default, F>(
     ensures vertices { dcel.new.vertices ≡ dcel.old.vertices ++ value ∷ [] }
     ensures kept { IsKept V.place (state_of dcel.new) }
     ensures grows { GrowsAround (map V.place dcel.old.vertices) (V.place value) (state_of dcel.old) (state_of dcel.new) }
+    ensures made { MakesFacesAt (length dcel.old.vertices) (faces_of dcel.old.mesh) (faces_of dcel.new.mesh) }
 {
     let _ = dcel.num_vertices();
     let vertex = dcel.append_unconnected_vertex(value);
@@ -73,6 +77,7 @@ pub(crate) fn insert_past_end<V: HasPosition, DE: Default, UE: Default, F>(
     ensures vertices { dcel.new.vertices ≡ dcel.old.vertices ++ value ∷ [] }
     ensures kept { IsKept V.place (state_of dcel.new) }
     ensures grows { GrowsAround (map V.place dcel.old.vertices) (V.place value) (state_of dcel.old) (state_of dcel.new) }
+    ensures made { MakesFacesAt (length dcel.old.vertices) (faces_of dcel.old.mesh) (faces_of dcel.new.mesh) }
 {
     let end = dcel.directed_edge(edge).from().fix();
     let vertex = dcel.extend_line(end, value);
@@ -96,6 +101,7 @@ pub(crate) fn insert_within_line<V: HasPosition, DE: Default, UE: Default, F>(
     ensures vertices { dcel.new.vertices ≡ dcel.old.vertices ++ value ∷ [] }
     ensures kept { IsKept V.place (state_of dcel.new) }
     ensures grows { GrowsAround (map V.place dcel.old.vertices) (V.place value) (state_of dcel.old) (state_of dcel.new) }
+    ensures made { MakesFacesAt (length dcel.old.vertices) (faces_of dcel.old.mesh) (faces_of dcel.new.mesh) }
 {
     let (vertex, _parts) = dcel.split_edge_when_all_vertices_on_line(edge, value);
     let _ = dcel.num_vertices();

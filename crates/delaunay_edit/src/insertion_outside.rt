@@ -12,7 +12,9 @@ ghost use Rattle.delaunay_edit.specs.Data.{GrowsAround};
 ghost use Rattle.delaunay_edit.specs.Joining.{Sees};
 ghost use Rattle.delaunay_legalization.specs.Known.{point_at};
 ghost use Rattle.delaunay_legalization.specs.Shape.{IsKept};
+ghost use Rattle.delaunay_legalization.specs.Star.{MakesFacesAt};
 ghost use Rattle.delaunay_legalization.specs.State.{state_of};
+ghost use Rattle.drawn_mesh.specs.Drawn.{faces_of};
 
 use delaunay_core::math::PlaneTests;
 use delaunay_core::point::{HasPosition, Point2};
@@ -122,6 +124,7 @@ pub(crate) fn join_outside<
     ensures vertices { dcel.new.vertices ≡ dcel.old.vertices ++ value ∷ [] }
     ensures kept { IsKept V.place (state_of dcel.new) }
     ensures grows { GrowsAround (map V.place dcel.old.vertices) (V.place value) (state_of dcel.old) (state_of dcel.new) }
+    ensures made { MakesFacesAt (length dcel.old.vertices) (faces_of dcel.old.mesh) (faces_of dcel.new.mesh) }
 {
     let vertex = dcel.create_new_face_adjacent_to_edge(edge, value);
     let edges = dcel.num_directed_edges() as u32;

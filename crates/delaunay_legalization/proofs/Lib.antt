@@ -7,3 +7,4 @@ pub mod Legalizing
 pub mod WorkList
 pub mod FixedEdges
 pub mod Flips
+pub mod Stars

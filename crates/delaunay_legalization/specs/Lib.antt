@@ -6,3 +6,4 @@ pub mod Known
 pub mod Flips
 pub mod CdtEdge
 pub mod Lending
+pub mod Star

@@ -119,7 +119,7 @@ fn flip<V: HasPosition, DE, UE, F>(
 }
 
 // Puts an edge into a work list, unless it is there.
-fn push_side<V, DE, UE, F>(
+pub(crate) fn push_side<V, DE, UE, F>(
     dcel: &Dcel<V, DE, UE, F>,
     edge: FixedDirectedEdgeHandle,
     work: &mut Vec<FixedUndirectedEdgeHandle>,

@@ -202,7 +202,7 @@ module _ (t : Triangulation) (h : TilesHull t) (region : Region) where
               (weights_along IsPositive c (vertex t j) (vertex t i) a (vertex t j) (vertex t i)) (weights_along IsPositive c (vertex t m) (vertex t i) b (vertex t j) (vertex t i))
               (bracket-second (vertex t j) (vertex t i)) (bracket-first (vertex t j) (vertex t i)) a.k_allowed b.k_allowed b.l_allowed turns
 
-  not_few : ¬ (length t.points ≤ 1)
+  pub not_few : ¬ (length t.points ≤ 1)
   not_few few = level h.spread
     where
       level : (i j k : ℕ) × IsVertex t i × IsVertex t j × IsVertex t k × TurnsLeft (vertex t i) (vertex t j) (vertex t k) → ⊥

@@ -28,6 +28,8 @@ pub mod EdgeInCircle
 pub mod EdgeInRectangle
 pub mod Flooded
 pub mod LineItems
+pub mod FloodOnLine
+pub mod FloodRules
 pub mod Joining
 pub mod Uncrossed
 pub mod FlipExists

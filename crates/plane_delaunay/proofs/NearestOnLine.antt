@@ -147,7 +147,7 @@ apart p v w near = go (sign (run (whole v) (whole w))) (sign (rise (whole v) (wh
     go (none h) (none k) = absurd (same_not_nearer p (whole w) (whole v) (same-sym (whole v) (whole w) ((same_is_no_way (whole v) (whole w)).1 (h, k))) near)
 
 -- ---- along the line
-abs_less : (m : ℕ) (x y : ℤ) → x <ℤ y → pos 0 ≤ℤ x → nat_abs y < suc m → nat_abs x < m
+pub abs_less : (m : ℕ) (x y : ℤ) → x <ℤ y → pos 0 ≤ℤ x → nat_abs y < suc m → nat_abs x < m
 abs_less m (pos x) (pos y) h k l = omega (arith, ints)
 abs_less m (pos x) (negsuc y) h k l = absurd (omega (arith, ints))
 abs_less m (negsuc x) y h k l = absurd (omega (arith, ints))

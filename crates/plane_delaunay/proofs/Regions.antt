@@ -28,7 +28,7 @@ pub least_difference : (a b : ℤ) → pos 0 ≤ℤ (a -ℤ b) → b ≤ℤ a
 least_difference a b h = omega (arith, ints)
 
 -- at least c times the weight
-above_line : (n k l r a b w v u c : ℤ) → pos 0 <ℤ n → pos 0 ≤ℤ k → pos 0 ≤ℤ l → n *ℤ r ≡ k *ℤ a +ℤ l *ℤ b → n *ℤ w ≡ k *ℤ v +ℤ l *ℤ u → (c *ℤ v) ≤ℤ a → (c *ℤ u) ≤ℤ b → (c *ℤ w) ≤ℤ r
+pub above_line : (n k l r a b w v u c : ℤ) → pos 0 <ℤ n → pos 0 ≤ℤ k → pos 0 ≤ℤ l → n *ℤ r ≡ k *ℤ a +ℤ l *ℤ b → n *ℤ w ≡ k *ℤ v +ℤ l *ℤ u → (c *ℤ v) ≤ℤ a → (c *ℤ u) ≤ℤ b → (c *ℤ w) ≤ℤ r
 above_line n k l r a b w v u c hn hk hl e d h i = least_difference r (c *ℤ w) (sum_least n k l (r -ℤ c *ℤ w) (a -ℤ c *ℤ v) (b -ℤ c *ℤ u) hn (from_weights n k l r a b w v u c e d) hk (difference_least a (c *ℤ v) h) hl (difference_least b (c *ℤ u) i))
 
 -- at most c times the weight
@@ -37,7 +37,7 @@ from_weights_back n k l r a b w v u c e d = ring_in_from (n ∷ k ∷ l ∷ r �
     (λ n k l r a b w v u c. n ⊗ (c ⊗ w ⊖ r)) (λ n k l r a b w v u c. k ⊗ (c ⊗ v ⊖ a) ⊕ l ⊗ (c ⊗ u ⊖ b))
     (λ n k l r a b w v u c. (num 0 ⊖ num 1, n ⊗ r, k ⊗ a ⊕ l ⊗ b) ∷ (c, n ⊗ w, k ⊗ v ⊕ l ⊗ u) ∷ []) (e, (d, tt)) tt
 
-below_line : (n k l r a b w v u c : ℤ) → pos 0 <ℤ n → pos 0 ≤ℤ k → pos 0 ≤ℤ l → n *ℤ r ≡ k *ℤ a +ℤ l *ℤ b → n *ℤ w ≡ k *ℤ v +ℤ l *ℤ u → a ≤ℤ (c *ℤ v) → b ≤ℤ (c *ℤ u) → r ≤ℤ (c *ℤ w)
+pub below_line : (n k l r a b w v u c : ℤ) → pos 0 <ℤ n → pos 0 ≤ℤ k → pos 0 ≤ℤ l → n *ℤ r ≡ k *ℤ a +ℤ l *ℤ b → n *ℤ w ≡ k *ℤ v +ℤ l *ℤ u → a ≤ℤ (c *ℤ v) → b ≤ℤ (c *ℤ u) → r ≤ℤ (c *ℤ w)
 below_line n k l r a b w v u c hn hk hl e d h i = least_difference (c *ℤ w) r (sum_least n k l (c *ℤ w -ℤ r) (c *ℤ v -ℤ a) (c *ℤ u -ℤ b) hn (from_weights_back n k l r a b w v u c e d) hk (difference_least (c *ℤ v) a h) hl (difference_least (c *ℤ u) b i))
 
 pub rectangle_convex : (lower upper : Point) → IsConvex (InClosedRectangle lower upper)

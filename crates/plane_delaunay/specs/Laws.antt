@@ -1,16 +1,16 @@
 -- What is proved of tilings, constraints and circles, whatever made them.
-use Rattle.std.specs.Prelude.{◌≡◌, ◌⊎◌, ◌↔◌, ℕ, ℤ, ◌≤ℤ◌, ◌<◌, List, [], length}
-use Rattle.plane.specs.Fraction.{Point, Fraction, IsSame}
+use Rattle.std.specs.Prelude.{◌≡◌, ◌⊎◌, ◌↔◌, ℕ, ℤ, ◌≤ℤ◌, ◌+◌, ◌<◌, ◌≤◌, List, [], length, Bool, true, false, not, count_by, slice_index_or, slice_set}
+use Rattle.plane.specs.Fraction.{Point, Fraction, whole, IsSame}
 use Rattle.plane.specs.Side.{TurnsLeft}
 use Rattle.plane.specs.Circle.{IsNearer}
-use Rattle.plane.specs.Pairs.{Joins}
-use Rattle.plane.specs.Tiling.{Triangulation, IsVertex, vertex, IsEdge, IsFace, InCorners, InsideCorners, TilesHull, IsTiling}
+use Rattle.plane.specs.Pairs.{Joins, EachPairOnce}
+use Rattle.plane.specs.Tiling.{Triangulation, IsVertex, vertex, IsEdge, IsFace, InCorners, InsideCorners, TilesHull, JoinsLine, IsTiling}
 use Rattle.plane.specs.Delaunay.{IsConstrainedDelaunay, IsLocallyDelaunay, IsStrictlyEmpty}
 use Rattle.plane.specs.Line.{Item, Meets, IsBefore}
-use Rattle.plane.specs.Shape.{InClosedCircle, InClosedRectangle, IsNearest, IsEdgeIn}
+use Rattle.plane.specs.Shape.{InClosedCircle, InClosedRectangle, IsNearest, IsVertexIn, IsEdgeIn}
 use Rattle.plane.specs.Location.{Location, IsOuter, IsLocation}
 use Rattle.plane_delaunay.specs.Nearer.{nearer_count}
-use Rattle.plane_delaunay.specs.Flood.{Region, InRegion, IsFlooded, HasStart}
+use Rattle.plane_delaunay.specs.Flood.{Region, InRegion, IsFlooded, HasStart, IsFloodedByVertices, IsFloodedAround, start_point, IsTried}
 use Rattle.plane_delaunay.specs.EdgeTests.{MeetsCircle, MeetsRectangle, HasPointIn}
 use Rattle.plane_delaunay.specs.History.{IsVisiblyEmpty, AreOneState, HasFacesOf, NoFourOnCircle, HaveOneCircle}
 
@@ -74,3 +74,51 @@ EdgeMeetsRectangle = (lower upper : Point) → lower.x ≤ℤ upper.x → lower.
 -- of two different items that a segment meets one comes first
 abbrev pub LineItemsAreOrdered : Type 0
 LineItemsAreOrdered = (t : Triangulation) → TilesHull t → (p q : Fraction) → ¬ IsSame p q → (m n : Item) → Meets t p q m → Meets t p q n → (m ≡ n) ⊎ (IsBefore t p q m n ⊎ IsBefore t p q n m)
+
+-- where all vertices are on one line, a flood along shared vertices that has one edge in a region has each
+abbrev pub FloodFindsOnLine : Type 0
+FloodFindsOnLine = (t : Triangulation) → JoinsLine t → (region : Region) (found : List (ℕ × ℕ)) → IsFloodedByVertices t region found
+    → (i j a b : ℕ) → Joins found i j → IsEdgeIn (InRegion region) t i j → IsEdgeIn (InRegion region) t a b → Joins found a b
+
+-- with faces or without, a flood along shared vertices that has one edge in a region has each
+abbrev pub FloodByVerticesFinds : Type 0
+FloodByVerticesFinds = (t : Triangulation) → IsTiling t → (region : Region) (found : List (ℕ × ℕ)) → IsFloodedByVertices t region found
+    → (i j a b : ℕ) → Joins found i j → IsEdgeIn (InRegion region) t i j → IsEdgeIn (InRegion region) t a b → Joins found a b
+
+-- on one line too, where any edge is in a region, one is beside each point of the region
+abbrev pub FloodStartsOnLine : Type 0
+FloodStartsOnLine = (t : Triangulation) → JoinsLine t → (region : Region) (p : Fraction) → InRegion region p → (k n : ℕ) → IsEdgeIn (InRegion region) t k n
+    → (m : Location) → IsLocation t p m → HasStart t region m
+
+-- a region that has a point has its start point
+abbrev pub RegionHasStart : Type 0
+RegionHasStart = (region : Region) (p : Fraction) → InRegion region p → InRegion region (whole (start_point region))
+
+-- an edge is in a region exactly if one of those beside the region's start point is
+abbrev pub StartIsExact : Type 0
+StartIsExact = (t : Triangulation) → IsTiling t → (region : Region) (m : Location) → IsLocation t (whole (start_point region)) m
+    → ((k n : ℕ) × IsEdgeIn (InRegion region) t k n) ↔ ((a b : ℕ) × IsTried t m a b × IsEdgeIn (InRegion region) t a b)
+
+-- of two or more vertices, no two in one place, those in a region are those of its edges' ends that are in it
+abbrev pub VerticesAreEnds : Type 0
+VerticesAreEnds = (t : Triangulation) → IsTiling t → ((i j : ℕ) → IsVertex t i → IsVertex t j → IsSame (vertex t i) (vertex t j) → i ≡ j) → 2 ≤ length t.points
+    → (region : Region) (i : ℕ) → IsVertexIn (InRegion region) t i ↔ (InRegion region (vertex t i) × ((k : ℕ) × IsEdgeIn (InRegion region) t i k))
+
+-- at most one vertex, which is 0, has no edge
+abbrev pub OneVertexIsAlone : Type 0
+OneVertexIsAlone = (t : Triangulation) → IsTiling t → length t.points ≤ 1 → ((i j : ℕ) → ¬ IsEdge t i j) × ((i : ℕ) → IsVertex t i → i ≡ 0)
+
+-- a list of pairs of a second list, each once, is not longer
+abbrev pub FloodIsBounded : Type 0
+FloodIsBounded = (edges found : List (ℕ × ℕ)) → EachPairOnce found → ((i j : ℕ) → Joins found i j → Joins edges i j) → length found ≤ length edges
+
+-- with each new mark one fewer is unmarked
+abbrev pub MarksFillUp : Type 0
+MarksFillUp = (marks : List Bool) (i : ℕ) (default : Bool) → i < length marks → slice_index_or marks i default ≡ false → count_by not marks ≡ count_by not (slice_set marks i true) + 1
+
+-- edges in a region, flooded, and one of them wherever the region's start point has one beside it: they are all of its edges
+abbrev pub FloodIsExact : Type 0
+FloodIsExact = (t : Triangulation) → IsTiling t → (region : Region) (m : Location) → IsLocation t (whole (start_point region)) m → (found : List (ℕ × ℕ))
+    → ((i j : ℕ) → Joins found i j → IsEdgeIn (InRegion region) t i j) → IsFloodedAround t region found
+    → ((a b : ℕ) → IsTried t m a b → IsEdgeIn (InRegion region) t a b → (i j : ℕ) × Joins found i j)
+    → (k n : ℕ) → Joins found k n ↔ IsEdgeIn (InRegion region) t k n

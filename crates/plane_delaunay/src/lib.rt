@@ -1,7 +1,7 @@
 //! From the local circle test to constrained Delaunay: laws over tilings, constraints and circles.
 #![tactic(auto)]
 
-ghost use Rattle.plane_delaunay.specs.Laws.{OutsideIsLeftOfOuter, LocalGivesConstrainedDelaunay, StrictlyEmptyIsFace, NearestByNeighbours, NearerCountFalls, VisiblyEmptyIsFace, FacesAreUnique, OverlappingFacesTie, FloodFindsRegion, FloodStarts, EdgeMeetsCircle, EdgeMeetsRectangle, LineItemsAreOrdered};
+ghost use Rattle.plane_delaunay.specs.Laws.{OutsideIsLeftOfOuter, LocalGivesConstrainedDelaunay, StrictlyEmptyIsFace, NearestByNeighbours, NearerCountFalls, VisiblyEmptyIsFace, FacesAreUnique, OverlappingFacesTie, FloodFindsRegion, FloodStarts, EdgeMeetsCircle, EdgeMeetsRectangle, LineItemsAreOrdered, FloodFindsOnLine, FloodStartsOnLine, RegionHasStart, StartIsExact, VerticesAreEnds, OneVertexIsAlone, FloodIsBounded, FloodByVerticesFinds, MarksFillUp, FloodIsExact};
 
 /// A law: a point in no closed face is strictly left of an outer edge.
 pub fn outside_is_left_of_outer()
@@ -66,4 +66,54 @@ pub fn edge_meets_rectangle()
 /// A law: of two different items that a segment meets one comes first.
 pub fn line_items_are_ordered()
     ensures { LineItemsAreOrdered }
+{}
+
+/// A law: where all vertices are on one line, a flood along shared vertices that has one edge in a closed circle or rectangle has each.
+pub fn flood_finds_on_line()
+    ensures { FloodFindsOnLine }
+{}
+
+/// A law: where all vertices are on one line and any edge is in a closed circle or rectangle, one is beside each of its points.
+pub fn flood_starts_on_line()
+    ensures { FloodStartsOnLine }
+{}
+
+/// A law: a closed circle with a point has its centre, a closed rectangle with one its lower corner.
+pub fn region_has_start()
+    ensures { RegionHasStart }
+{}
+
+/// A law: an edge is in a closed circle or rectangle exactly if one of those beside its centre or lower corner is.
+pub fn start_is_exact()
+    ensures { StartIsExact }
+{}
+
+/// A law: of two or more vertices those in a closed circle or rectangle are those of its edges' ends that are in it.
+pub fn vertices_are_ends()
+    ensures { VerticesAreEnds }
+{}
+
+/// A law: at most one vertex has no edge.
+pub fn one_vertex_is_alone()
+    ensures { OneVertexIsAlone }
+{}
+
+/// A law: edges found once each are no more than the edges.
+pub fn flood_is_bounded()
+    ensures { FloodIsBounded }
+{}
+
+/// A law: a flood along shared vertices that has one edge in a closed circle or rectangle has each.
+pub fn flood_by_vertices_finds()
+    ensures { FloodByVerticesFinds }
+{}
+
+/// A law: with each new mark one fewer is unmarked.
+pub fn marks_fill_up()
+    ensures { MarksFillUp }
+{}
+
+/// A law: edges in a closed circle or rectangle, flooded from what is beside its centre or lower corner, are all of its edges.
+pub fn flood_is_exact()
+    ensures { FloodIsExact }
 {}

@@ -40,7 +40,7 @@ last_on_edge t p q apart a b s on = record { none_after = λ k _ o. none k o }
         go (later n) = not_less _ _ ((on_segment_is p q o.second apart).0 o.second_begins.shared).2 (reach_less p q apart q o.second (end_on_segment p q) o.second_begins.shared n)
 
 module _ (t : Triangulation) (h : TilesHull t) where
-  edge_not_left : (a b i j : ℕ) (z : Fraction) → IsOuter t a b → IsEdge t i j → OnSegment (vertex t i) (vertex t j) z → ¬ (pos 0 <ℤ bracket (vertex t a) (vertex t b) z)
+  pub edge_not_left : (a b i j : ℕ) (z : Fraction) → IsOuter t a b → IsEdge t i j → OnSegment (vertex t i) (vertex t j) z → ¬ (pos 0 <ℤ bracket (vertex t a) (vertex t b) z)
   edge_not_left a b i j z outer e on high = go ((h.sides i j).0 e)
     where
       at_face : (i j k : ℕ) → IsFace t i j k → OnSegment (vertex t i) (vertex t j) z → ⊥

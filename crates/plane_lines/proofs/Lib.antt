@@ -2,6 +2,7 @@ pub mod Slopes
 pub mod Begins
 pub mod NextItems
 pub mod Orders
+pub mod OverlapDecided
 pub mod Overlaps
 pub mod Vertices
 pub mod Ends
@@ -10,4 +11,11 @@ pub mod VertexEnds
 pub mod Walks
 pub mod Firsts
 pub mod OneLine
+pub mod EachWalk
+pub mod WalkSteps
+pub mod FaceStarts
 pub mod Steps
+pub mod OutsideStarts
+pub mod LineStarts
+pub mod EdgeStarts
+pub mod LaidMeshes

@@ -31,19 +31,16 @@ module _ (t : Triangulation) (h : JoinsLine t) where
   pub line_ends : (i j : ℕ) → IsEdge t i j → IsVertex t i × IsVertex t j
   line_ends i j e = let n = (h.neighbours i j).0 e in (n.first, n.second)
 
-  -- no item is left of a line through two vertices
-  item_level : (p q : Fraction) (a b : ℕ) → IsVertex t a → IsVertex t b → (k : Item) → Meets t p q k → (z : Fraction) → IsPointOf t k z → ¬ (pos 0 <ℤ bracket (vertex t a) (vertex t b) z)
+  -- no point of an edge is left of a line through two vertices
+  pub edge_level : (a b : ℕ) → IsVertex t a → IsVertex t b → (i j : ℕ) → IsEdge t i j → (z : Fraction) → OnSegment (vertex t i) (vertex t j) z → ¬ (pos 0 <ℤ bracket (vertex t a) (vertex t b) z)
+  edge_level a b ha hb i j e z s high = let w = two_weights IsNotNegative (vertex t i) (vertex t j) z s in let n = line_ends i j e in
+      left_not_zero high (sum_none w.n w.k w.l _ _ _ w.positive (weights_along IsNotNegative (vertex t i) (vertex t j) z w (vertex t a) (vertex t b)) (level a b i ha hb n.0) (level a b j ha hb n.1))
+
+  -- and no item
+  pub item_level : (p q : Fraction) (a b : ℕ) → IsVertex t a → IsVertex t b → (k : Item) → Meets t p q k → (z : Fraction) → IsPointOf t k z → ¬ (pos 0 <ℤ bracket (vertex t a) (vertex t b) z)
   item_level p q a b ha hb (L.at_vertex i) met z s high = left_not_zero (above-same (vertex t a) (vertex t b) z (vertex t i) s high) (level a b i ha hb met.0)
-  item_level p q a b ha hb (L.across i j) met z s high = left_not_zero high (on_edge i j met.0 s)
-    where
-      on_edge : (i j : ℕ) → IsEdge t i j → OnSegment (vertex t i) (vertex t j) z → bracket (vertex t a) (vertex t b) z ≡ pos 0
-      on_edge i j e s = let w = two_weights IsNotNegative (vertex t i) (vertex t j) z s in let n = line_ends i j e in
-          sum_none w.n w.k w.l _ _ _ w.positive (weights_along IsNotNegative (vertex t i) (vertex t j) z w (vertex t a) (vertex t b)) (level a b i ha hb n.0) (level a b j ha hb n.1)
-  item_level p q a b ha hb (L.along i j) met z s high = left_not_zero high (on_edge i j met.0 s)
-    where
-      on_edge : (i j : ℕ) → IsEdge t i j → OnSegment (vertex t i) (vertex t j) z → bracket (vertex t a) (vertex t b) z ≡ pos 0
-      on_edge i j e s = let w = two_weights IsNotNegative (vertex t i) (vertex t j) z s in let n = line_ends i j e in
-          sum_none w.n w.k w.l _ _ _ w.positive (weights_along IsNotNegative (vertex t i) (vertex t j) z w (vertex t a) (vertex t b)) (level a b i ha hb n.0) (level a b j ha hb n.1)
+  item_level p q a b ha hb (L.across i j) met z s high = edge_level a b ha hb i j met.0 z s high
+  item_level p q a b ha hb (L.along i j) met z s high = edge_level a b ha hb i j met.0 z s high
 
   -- after a crossed edge nothing comes
   pub last_across_line : (p q : Fraction) (apart : ¬ IsSame p q) (a b : ℕ) → IsEdge t a b → Signs p q (vertex t a) (vertex t b) → IsLast t p q (L.across a b)

@@ -27,7 +27,7 @@ slope_above u v p q low high = rise (bracket u v q) (bracket u v p) p.w q.w high
     rise : (f g pw qw : ℤ) → pos 0 ≤ℤ f → g <ℤ pos 0 → pos 0 <ℤ pw → pos 0 <ℤ qw → pos 0 <ℤ (f *ℤ pw -ℤ g *ℤ qw)
     rise f g pw qw hf hg hp hq = let m = mul-nonneg_ℤ {a = f} {b = pw} hf (weak hp) in let n = mul-pos_ℤ {a = neg_ℤ g} {b = qw} (omega (arith, ints)) hq in let c = neg-mul_ℤ g qw in omega (arith, ints)
 
-even : (l pw qw xw zw rx rz fp fq fx fz : ℤ) → (l *ℤ pw) *ℤ fx ≡ (l *ℤ xw -ℤ rx *ℤ qw) *ℤ fp +ℤ (rx *ℤ pw) *ℤ fq → (l *ℤ pw) *ℤ fz ≡ (l *ℤ zw -ℤ rz *ℤ qw) *ℤ fp +ℤ (rz *ℤ pw) *ℤ fq
+pub even : (l pw qw xw zw rx rz fp fq fx fz : ℤ) → (l *ℤ pw) *ℤ fx ≡ (l *ℤ xw -ℤ rx *ℤ qw) *ℤ fp +ℤ (rx *ℤ pw) *ℤ fq → (l *ℤ pw) *ℤ fz ≡ (l *ℤ zw -ℤ rz *ℤ qw) *ℤ fp +ℤ (rz *ℤ pw) *ℤ fq
     → (l *ℤ pw) *ℤ (fz *ℤ xw -ℤ fx *ℤ zw) ≡ (rz *ℤ xw -ℤ rx *ℤ zw) *ℤ (fq *ℤ pw -ℤ fp *ℤ qw)
 even l pw qw xw zw rx rz fp fq fx fz e d = ring_in_from (l ∷ pw ∷ qw ∷ xw ∷ zw ∷ rx ∷ rz ∷ fp ∷ fq ∷ fx ∷ fz ∷ [])
     (λ l pw qw xw zw rx rz fp fq fx fz. (l ⊗ pw) ⊗ (fz ⊗ xw ⊖ fx ⊗ zw)) (λ l pw qw xw zw rx rz fp fq fx fz. (rz ⊗ xw ⊖ rx ⊗ zw) ⊗ (fq ⊗ pw ⊖ fp ⊗ qw))

@@ -1,6 +1,6 @@
 -- The steps of the walk, by sides.
 use Rattle.std.proofs.Common.{◌≡◌, ℕ}
-use mathlib.Core.Logic.{◌⊎◌, inl, inr}
+use mathlib.Core.Logic.{◌⊎◌, ◌↔◌, inl, inr}
 use Rattle.std.specs.Prelude.{◌≢◌, pos, ◌<ℤ◌, ◌≤ℤ◌}
 use Rattle.plane.proofs.Steps.{weak_right, left_not_zero, left_not_below, right_not_above}
 use Rattle.plane.proofs.Sides.{right_if}
@@ -8,6 +8,7 @@ use Rattle.plane.proofs.Segments.{on_of_within, same-sym}
 use Rattle.plane.specs.Fraction.{Fraction, IsSame}
 use Rattle.plane.specs.Side.{side, left, right}
 use Rattle.plane.specs.Tiling.{Triangulation, IsEdge, HasFace, vertex, TilesHull}
+use Rattle.plane.specs.Line.{Meets, across}
 use Rattle.plane_delaunay.proofs.Bracket.{bracket, bracket-first, above_if_left, left_if_above}
 use Rattle.plane_delaunay.proofs.Faces.{turned-above}
 use Rattle.plane_delaunay.proofs.LineItems.{meeting_of_hull}
@@ -100,11 +101,16 @@ right_if_below u v x h = right_if u v x h
 not_right_if_least : (u v x : Fraction) → pos 0 ≤ℤ bracket u v x → side u v x ≢ right
 not_right_if_least u v x h e = right_not_above (below_if_right u v x e) h
 
-pub crossing_by_sides : CrossingBySides
-crossing_by_sides t h p q apart a b e = (
-  (λ m. let s = signs_of t p q apart a b (edge_apart t h a b e) m in (left_if_above p q (vertex t a) s.left, right_if_below p q (vertex t b) s.right, not_left_if (vertex t a) (vertex t b) p s.start, not_right_if_least (vertex t a) (vertex t b) q s.end)),
+-- an edge with two ends in different places
+pub crossing_sides : (t : Triangulation) (p q : Fraction) → ¬ IsSame p q → (a b : ℕ) → IsEdge t a b → ¬ IsSame (vertex t a) (vertex t b)
+    → Meets t p q (across a b) ↔ ((side p q (vertex t a) ≡ left) × (side p q (vertex t b) ≡ right) × (side (vertex t a) (vertex t b) p ≢ left) × (side (vertex t a) (vertex t b) q ≢ right))
+crossing_sides t p q apart a b e two = (
+  (λ m. let s = signs_of t p q apart a b two m in (left_if_above p q (vertex t a) s.left, right_if_below p q (vertex t b) s.right, not_left_if (vertex t a) (vertex t b) p s.start, not_right_if_least (vertex t a) (vertex t b) q s.end)),
   (λ x. met_if t p q apart a b e (record { left = above_if_left p q (vertex t a) x.0; right = below_if_right p q (vertex t b) x.1; start = not_left (vertex t a) (vertex t b) p x.2; end = not_right (vertex t a) (vertex t b) q x.3 })),
 )
+
+pub crossing_by_sides : CrossingBySides
+crossing_by_sides t h p q apart a b e = crossing_sides t p q apart a b e (edge_apart t h a b e)
 
 pub first_item : FirstItem
 first_item t h p q apart = (

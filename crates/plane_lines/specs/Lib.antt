@@ -1,2 +1,3 @@
 pub mod Steps
 pub mod Laws
+pub mod WalkLaws

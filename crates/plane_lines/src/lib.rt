@@ -1,6 +1,7 @@
 //! What a segment meets, item by item: laws of the walk along a line.
 #![tactic(auto)]
 
+ghost use Rattle.plane_lines.specs.WalkLaws.{MeshesAreLaid, CrossingOnLine, FirstFromEdge, OutsideIsOffLine, EachSegmentHasWalk, RestFalls, LineListIsWalk, FirstFromFace, FirstFromOutside, NextOnLine, FirstOnLine, EqualEnds};
 ghost use Rattle.plane_lines.specs.Laws.{ItemsFollow, NextAfterCrossing, LastCrossing, NextAfterOverlap, NextAfterVertex, LastVertex, OverlapAhead, CrossingBySides, FirstItem, WalkIsLineList, StepsOnOneLine};
 
 /// A law: none of the items that a segment meets is before itself, and what is before what is before an item is before it.
@@ -56,4 +57,64 @@ pub fn walk_is_line_list()
 /// A law: where all vertices are on one line, the order of items, what comes after an edge, and that a walk gives the line list.
 pub fn steps_on_one_line()
     ensures { StepsOnOneLine }
+{}
+
+/// A law: each segment has one walk, with no more items than there are vertices and edges.
+pub fn each_segment_has_walk()
+    ensures { EachSegmentHasWalk }
+{}
+
+/// A law: from each item of a walk on there is a list of the rest, which each step makes shorter by its head.
+pub fn rest_falls()
+    ensures { RestFalls }
+{}
+
+/// A law: the line list is the walk.
+pub fn line_list_is_walk()
+    ensures { LineListIsWalk }
+{}
+
+/// A law: what a segment meets first from strictly inside a face: nothing, a corner or a side.
+pub fn first_from_face()
+    ensures { FirstFromFace }
+{}
+
+/// A law: what a segment that crosses no outer edge from outside meets first there: a nearest vertex, or nothing.
+pub fn first_from_outside()
+    ensures { FirstFromOutside }
+{}
+
+/// A law: where all vertices are on one line, what comes after a vertex is the edge ahead, or nothing.
+pub fn next_on_line()
+    ensures { NextOnLine }
+{}
+
+/// A law: where all vertices are on one line, what a segment meets first.
+pub fn first_on_line()
+    ensures { FirstOnLine }
+{}
+
+/// A law: the line list from a point to itself.
+pub fn equal_ends()
+    ensures { EqualEnds }
+{}
+
+/// A law: what a segment meets first from strictly within an edge, by the side of its end, or by which end of the edge is ahead.
+pub fn first_from_edge()
+    ensures { FirstFromEdge }
+{}
+
+/// A law: where all vertices are on one line, no vertex is at a point outside and no edge carries it.
+pub fn outside_is_off_line()
+    ensures { OutsideIsOffLine }
+{}
+
+/// A law: where all vertices are on one line, four sides tell whether a segment crosses an edge.
+pub fn crossing_on_line()
+    ensures { CrossingOnLine }
+{}
+
+/// A law: each mesh is what the walk asks for.
+pub fn meshes_are_laid()
+    ensures { MeshesAreLaid }
 {}

@@ -4,6 +4,7 @@ use Rattle.half_edge_mesh.proofs.Fits.{length-grown}
 use Rattle.delaunay_edit.proofs.Growing.{grown}
 use Rattle.delaunay_edit.proofs.InsertionCases.{inside_shape}
 use Rattle.delaunay_edit.proofs.DataGrowing.{grows_inside}
+use Rattle.delaunay_edit.proofs.MadeFaces.{made_at_count, made_inside}
 use Rattle.delaunay_edit.proofs.insertion_cases.insert_inside_face.Goals as goal
 
 pub returns-clause-kept : goal.returns-clause-kept
@@ -24,3 +25,10 @@ returns-clause-grows g c =
     let old = c.args.dcel.now in
     let done = c.insert_into_triangle-vertex.ensures in
     grows_inside old c.insert_into_triangle-vertex.new.self c.requires.kept.valid c.requires.kept.fits c.num_vertices.ensures.whole (map g.V.HasPosition.place old.vertices) (g.V.HasPosition.place c.args.value) _ _ _ _ _ _ c.args.face _ c.requires.positive c.requires.within c.requires.inside done.directed done.faces done.edges done.triangles (ap (λ d. d.outer) done.contents)
+
+pub returns-clause-made : goal.returns-clause-made
+returns-clause-made g c =
+    let old = c.args.dcel.now in
+    let done = c.insert_into_triangle-vertex.ensures in
+    let here : c.args.face ≤ length old.mesh.face_edges = let w = c.requires.within in let f = c.requires.kept.fits.faces_fit in omega (arith, w, f) in
+    made_at_count _ _ _ _ done.vertex (made_inside old.mesh c.insert_into_triangle-vertex.new.self.mesh c.insert_into_triangle-vertex.result c.requires.kept.valid c.args.face c.requires.positive here done.triangles)

@@ -4,6 +4,7 @@ use Rattle.half_edge_mesh.proofs.Fits.{length-grown}
 use Rattle.delaunay_edit.proofs.Growing.{grown}
 use Rattle.delaunay_edit.proofs.InsertionCases.{length_moved, within_outer_shape}
 use Rattle.delaunay_edit.proofs.DataGrowing.{grows_within_hull}
+use Rattle.delaunay_edit.proofs.MadeFaces.{made_at_count, made_within_outer}
 use Rattle.delaunay_edit.proofs.insertion_cases.split_hull_edge.Goals as goal
 
 pub split_half_edge-vertex-requires-clause-half : goal.split_half_edge-vertex-requires-clause-half
@@ -31,3 +32,10 @@ returns-clause-grows g c =
     let done = c.split_half_edge-vertex.ensures in
     let here : c.args.edge < length old.mesh.half_edges = let w = c.requires.within in let f = c.requires.kept.fits.directed_fit in omega (arith, w, f) in
     grows_within_hull old c.split_half_edge-vertex.new.self c.requires.kept.valid c.requires.kept.fits c.num_vertices.ensures.whole (map g.V.HasPosition.place old.vertices) (g.V.HasPosition.place c.args.value) _ _ _ c.args.edge _ _ _ _ _ _ here c.requires.inner c.requires.on_edge done.directed done.faces done.edges done.triangles (ap (λ d. d.outer) done.contents)
+
+pub returns-clause-made : goal.returns-clause-made
+returns-clause-made g c =
+    let old = c.args.dcel.now in
+    let done = c.split_half_edge-vertex.ensures in
+    let here : c.args.edge < length old.mesh.half_edges = let w = c.requires.within in let f = c.requires.kept.fits.directed_fit in omega (arith, w, f) in
+    made_at_count _ _ _ _ done.vertex (made_within_outer old.mesh c.split_half_edge-vertex.new.self.mesh c.split_half_edge-vertex.result.0 c.requires.kept.valid c.args.edge (here, c.requires.inner) done.triangles)

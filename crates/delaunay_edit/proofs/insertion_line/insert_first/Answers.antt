@@ -4,6 +4,7 @@ use Rattle.plane_tiling.specs.Local.{IsMesh}
 use Rattle.drawn_mesh.specs.Drawn.{faces_of, outer_of}
 use Rattle.delaunay_edit.proofs.Growing.{grown, first_shape}
 use Rattle.delaunay_edit.proofs.DataGrowing.{grows_from_one}
+use Rattle.delaunay_edit.proofs.MadeFaces.{made_first}
 use Rattle.delaunay_edit.proofs.insertion_line.insert_first.Goals as goal
 
 pub returns-clause-kept : goal.returns-clause-kept
@@ -22,3 +23,6 @@ returns-clause-grows g c =
     let old = c.args.dcel.now in
     let new = c.append_unconnected_vertex-vertex.new.self in
     grows_from_one old new c.requires.kept.valid c.requires.kept.fits (map g.V.HasPosition.place old.vertices) (g.V.HasPosition.place c.args.value) (omega (arith, c.requires.none)) (ap (λ d. d.outer) c.append_unconnected_vertex-vertex.ensures.contents)
+
+pub returns-clause-made : goal.returns-clause-made
+returns-clause-made g c = made_first c.args.dcel.now.mesh c.append_unconnected_vertex-vertex.new.self.mesh _ (ap (λ d. d.mesh) c.append_unconnected_vertex-vertex.ensures.contents)

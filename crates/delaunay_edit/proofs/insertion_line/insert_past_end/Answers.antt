@@ -7,6 +7,7 @@ use Rattle.plane.specs.Location.{IsPast}
 use Rattle.plane_tiling.specs.Local.{alone}
 use Rattle.delaunay_edit.proofs.Growing.{grown, extended_shape}
 use Rattle.delaunay_edit.proofs.DataGrowing.{grows_past_end}
+use Rattle.delaunay_edit.proofs.MadeFaces.{made_none}
 use Rattle.delaunay_edit.proofs.insertion_line.insert_past_end.Goals as goal
 
 pub returns-clause-kept : goal.returns-clause-kept
@@ -33,3 +34,6 @@ returns-clause-grows g c =
     let old = c.args.dcel.now in
     let done = c.extend_line-vertex.ensures in
     grows_past_end old c.extend_line-vertex.new.self c.requires.kept.valid c.requires.kept.fits c.num_vertices.ensures.whole (map g.V.HasPosition.place old.vertices) (g.V.HasPosition.place c.args.value) _ _ _ _ c.requires.one_face done.directed done.edges (ap (λ d. d.outer) done.contents)
+
+pub returns-clause-made : goal.returns-clause-made
+returns-clause-made g c = made_none c.args.dcel.now.mesh c.extend_line-vertex.new.self.mesh _ c.extend_line-vertex.ensures.triangles

@@ -4,6 +4,7 @@ use Rattle.half_edge_links.specs.Outline.{OuterChanges, IsEdge}
 use Rattle.half_edge_mesh.proofs.Fits.{length-grown}
 use Rattle.delaunay_edit.proofs.Growing.{grown, second_shape}
 use Rattle.delaunay_edit.proofs.DataGrowing.{grows_from_one}
+use Rattle.delaunay_edit.proofs.MadeFaces.{made_none}
 use Rattle.delaunay_edit.proofs.insertion_line.insert_second.Goals as goal
 
 pub returns-clause-kept : goal.returns-clause-kept
@@ -29,3 +30,6 @@ returns-clause-grows g c =
     let new = c.setup_initial_two_vertices.new.self in
     grows_from_one old new c.requires.kept.valid c.requires.kept.fits (map g.V.HasPosition.place old.vertices) (g.V.HasPosition.place c.args.value) (omega (arith, c.requires.one))
     (ap (λ d. d.outer) c.setup_initial_two_vertices.ensures.contents ∙ ap (λ d. d.outer) c.append_unconnected_vertex-vertex.ensures.contents)
+
+pub returns-clause-made : goal.returns-clause-made
+returns-clause-made g c = made_none c.args.dcel.now.mesh c.setup_initial_two_vertices.new.self.mesh _ c.setup_initial_two_vertices.ensures.triangles

@@ -3,6 +3,7 @@ use Rattle.std.proofs.lemmas.List.{length-map}
 use Rattle.half_edge_mesh.proofs.Fits.{length-grown}
 use Rattle.delaunay_edit.proofs.Growing.{grown, split_shape}
 use Rattle.delaunay_edit.proofs.DataGrowing.{grows_within_line}
+use Rattle.delaunay_edit.proofs.MadeFaces.{made_none}
 use Rattle.delaunay_edit.proofs.insertion_line.insert_within_line.Goals as goal
 
 pub returns-clause-kept : goal.returns-clause-kept
@@ -24,3 +25,6 @@ returns-clause-grows g c =
     let old = c.args.dcel.now in
     let done = c.split_edge_when_all_vertices_on_line-vertex.ensures in
     grows_within_line old c.split_edge_when_all_vertices_on_line-vertex.new.self c.requires.kept.valid c.requires.kept.fits c.num_vertices.ensures.whole (map g.V.HasPosition.place old.vertices) (g.V.HasPosition.place c.args.value) _ _ c.args.edge _ _ _ c.requires.one_face c.requires.on_edge done.directed done.edges (ap (λ d. d.outer) done.contents)
+
+pub returns-clause-made : goal.returns-clause-made
+returns-clause-made g c = made_none c.args.dcel.now.mesh c.split_edge_when_all_vertices_on_line-vertex.new.self.mesh _ c.split_edge_when_all_vertices_on_line-vertex.ensures.triangles

@@ -1,9 +1,12 @@
 use Rattle.std.proofs.Common.{map, ◌≡◌, ◌+◌, ℕ, length, ap, sym, subst, arith}
+use Rattle.std.proofs.lemmas.List.{length-map}
 use Rattle.half_edge_links.specs.Mesh.{next}
 use Rattle.half_edge_mesh.proofs.Fits.{length-grown}
 use Rattle.delaunay_legalization.specs.State.{state_of}
 use Rattle.delaunay_edit.proofs.DataGrowing.{grows_by_face, grows_on}
 use Rattle.delaunay_edit.proofs.Joining.{IsJoining, IsJoiningBack, joining_begins, joining_ends, room_for_face, unseen_as, sites_grown, grown_count, has_vertex, ahead_apart, step_ahead, before_outer, before_apart, step_behind}
+use Rattle.drawn_mesh.specs.Drawn.{faces_of, outer_of}
+use Rattle.delaunay_edit.proofs.MadeFaces.{made_outside}
 use Rattle.delaunay_edit.proofs.insertion_outside.join_outside.Goals as goal
 
 pub loop-after-init : goal.loop-after-init
@@ -139,3 +142,8 @@ create_single_face_between_edge_and_next-ahead-requires-clause-outer g c = c.loo
 
 pub create_new_face_adjacent_to_edge-vertex-requires-clause-outer : goal.create_new_face_adjacent_to_edge-vertex-requires-clause-outer
 create_new_face_adjacent_to_edge-vertex-requires-clause-outer g c = c.requires.outer
+
+pub returns-clause-made : goal.returns-clause-made
+returns-clause-made g c =
+    let old = c.args.dcel.now in
+    made_outside (map g.V.HasPosition.place old.vertices) (g.V.HasPosition.place c.args.value) (faces_of old.mesh) (faces_of c.loop-before.dcel.mesh) (outer_of old.mesh) (outer_of c.loop-before.dcel.mesh) _ _ (length old.vertices) (sym (length-map old.vertices g.V.HasPosition.place)) c.loop-before.invariant.0.joining.extending

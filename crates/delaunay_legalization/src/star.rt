@@ -1,0 +1,81 @@
+//! A legalization that begins at one vertex, where only edges of the faces there may fail.
+ghost use Rattle.std.specs.Prelude.{◌≡◌, ℕ, ◌*◌, ◌<◌, ◌≤◌, length, map, All, Contains, vec_capacity};
+ghost use Rattle.drawn_mesh.specs.Drawn.{faces_of};
+ghost use Rattle.drawn_mesh.specs.Legal.{AreEdges};
+ghost use Rattle.drawn_mesh.specs.Stays.{KeepsIndexes};
+ghost use Rattle.delaunay_legalization.specs.Fixed.{fixed_of};
+ghost use Rattle.delaunay_legalization.specs.Flips.{CountsFlips, FlipsFit};
+ghost use Rattle.delaunay_legalization.specs.Shape.{IsKept, IsLegal};
+ghost use Rattle.delaunay_legalization.specs.Star.{AllPassBeside, HasSidesAt, HasStar};
+ghost use Rattle.delaunay_legalization.specs.State.{state_of};
+
+use crate::edge_marks::EdgeMarks;
+use crate::legalization::{legalize, push_side};
+use delaunay_core::math::PlaneTests;
+use delaunay_core::point::HasPosition;
+use half_edge_mesh::{Dcel, FixedDirectedEdgeHandle, FixedUndirectedEdgeHandle, FixedVertexHandle};
+use half_edge_views::MeshViews;
+
+// Puts an edge into a work list, and the one after it in its loop, unless they are there.
+fn push_with_next<V, DE, UE, F>(
+    dcel: &Dcel<V, DE, UE, F>,
+    edge: FixedDirectedEdgeHandle,
+    work: &mut Vec<FixedUndirectedEdgeHandle>,
+)
+    requires within { edge < length dcel.now.directed }
+    requires edges { AreEdges dcel.now.mesh work.old.items }
+    requires room { length dcel.now.undirected ≤ vec_capacity work.old }
+    ensures kept { (j : ℕ) → Contains work.old.items j → Contains work.new.items j }
+    ensures sides { HasSidesAt dcel.now.mesh edge work.new.items }
+    ensures edges { AreEdges dcel.now.mesh work.new.items }
+    ensures capacity { vec_capacity work.new ≡ vec_capacity work.old }
+{
+    push_side(dcel, edge, work);
+    push_side(dcel, dcel.directed_edge(edge).next().fix(), work);
+}
+
+// Puts the edges of a vertex into a work list, and those of the faces there that lie opposite it, in place of what was in
+// the list.
+fn push_star<V, DE, UE, F>(
+    dcel: &Dcel<V, DE, UE, F>,
+    vertex: FixedVertexHandle,
+    work: &mut Vec<FixedUndirectedEdgeHandle>,
+)
+    requires within { vertex < length dcel.now.vertices }
+    requires room { length dcel.now.undirected ≤ vec_capacity work.old }
+    ensures star { HasStar dcel.now.mesh vertex work.new.items }
+    ensures edges { AreEdges dcel.now.mesh work.new.items }
+    ensures capacity { vec_capacity work.new ≡ vec_capacity work.old }
+{
+    work.clear();
+    let _ = dcel.num_directed_edges();
+    for edge in dcel.vertex(vertex).out_edges() {
+        push_with_next(dcel, edge.fix(), work);
+    }
+}
+
+// Tests the edges of the faces at a vertex, where each other edge passes, and flips those that fail and are not fixed until
+// none does.
+pub fn legalize_star<M: EdgeMarks<UE>, V: HasPosition, DE, UE, F, P: PlaneTests<V::Scalar>>(
+    dcel: &mut Dcel<V, DE, UE, F>,
+    vertex: FixedVertexHandle,
+    tests: &P,
+    work: &mut Vec<FixedUndirectedEdgeHandle>,
+    flips: &mut u64,
+)
+    requires within { vertex < length dcel.old.vertices }
+    requires sites { All (P.sites tests.now) (map V.place dcel.old.vertices) }
+    requires kept { IsKept V.place (state_of dcel.old) }
+    requires passing { AllPassBeside (map V.place dcel.old.vertices) (faces_of dcel.old.mesh) (fixed_of M.fixed (state_of dcel.old)) vertex }
+    requires room { 3 * length dcel.old.vertices ≤ vec_capacity work.old }
+    requires fits { FlipsFit (length dcel.old.vertices) flips.old }
+    ensures contents { dcel.new ≡ record dcel.old { mesh = dcel.new.mesh } }
+    ensures legal { IsLegal V.place M.fixed (state_of dcel.new) }
+    ensures fixed { fixed_of M.fixed (state_of dcel.new) ≡ fixed_of M.fixed (state_of dcel.old) }
+    ensures counted { CountsFlips (length dcel.old.vertices) flips.old flips.new }
+    ensures indexes { KeepsIndexes dcel.old.mesh dcel.new.mesh }
+{
+    push_star(dcel, vertex, work);
+    legalize::<M, _, _, _, _, _>(dcel, tests, work, flips);
+    let _ = dcel.num_vertices();
+}
