@@ -7,14 +7,14 @@ use Rattle.plane.specs.Fraction.{Point}
 use Rattle.plane.specs.Pairs.{Joins}
 use Rattle.plane.specs.Plain.{DifferInPosition, Appends, Inserts}
 use Rattle.delaunay_edit.specs.Location.{IsApart}
-use Rattle.delaunay_legalization.specs.State.{State, plain_of}
+use Rattle.delaunay_legalization.specs.State.{State, points_and_constraints}
 
 none_joined : (i j : ℕ) → ¬ Joins [] i j
 none_joined i j (inl c) = omega (arith, c.1)
 none_joined i j (inr c) = omega (arith, c.1)
 
 module _ {V D U F : Type 0} (at : V → Point) (old new : State V D U F) (v : V) (apart : IsApart (map at old.vertices) (at v)) where
-  appended : new.vertices ≡ old.vertices ++ v ∷ [] → Appends at (plain_of old) (plain_of new) v
+  appended : new.vertices ≡ old.vertices ++ v ∷ [] → Appends at (points_and_constraints old) (points_and_constraints new) v
   appended is = record {
     fresh = All-from_get_or (DifferInPosition at v) old.vertices v (λ i h e. apart.apart i (rw length-map h) (get_or-map at old.vertices i v (record { x = pos 0; y = pos 0 }) h ∙ sym e));
     vertices = is;
@@ -28,7 +28,7 @@ module _ {V D U F : Type 0} (at : V → Point) (old new : State V D U F) (v : V)
     );
   }
 
-  pub inserted : {E : Type 0} (result : Result ℕ E) → IfOk result (λ i. i ≡ length old.vertices) → OnOk result (new.vertices ≡ old.vertices ++ v ∷ []) → IfOk result (λ i. Inserts at (plain_of old) (plain_of new) v i)
+  pub inserted : {E : Type 0} (result : Result ℕ E) → IfOk result (λ i. i ≡ length old.vertices) → OnOk result (new.vertices ≡ old.vertices ++ v ∷ []) → IfOk result (λ i. Inserts at (points_and_constraints old) (points_and_constraints new) v i)
   inserted (Ok i) last is = inr (last, appended is)
   inserted (Err e) last is = tt
 

@@ -15,11 +15,11 @@ use Rattle.plane_tiling.specs.Local.{IsMesh, alone}
 use Rattle.plane_tiling.proofs.Edges.{turned_within}
 use Rattle.plane_tiling.proofs.Places as P
 use Rattle.plane_tiling.proofs.Tiles.{by_signs, point_at}
-use Rattle.drawn_mesh.specs.Drawn.{drawn, faces_of, outer_of, corners_of}
+use Rattle.mesh_embedding.specs.Drawn.{drawn, faces_of, outer_of, corners_of}
 use Rattle.delaunay_edit.specs.declared.position_in_triangulation.PositionInTriangulation.{PositionInTriangulation}
 use Rattle.delaunay_edit.specs.declared.position_in_triangulation.PositionInTriangulation.TheVariants.{OnVertex, OnFace, OutsideOfConvexHull}
 use Rattle.delaunay_edit.specs.Location.{Locates, IsApart, IsLeftOfPlace, IsMeshEdge, IsWithinEdge}
-use Rattle.delaunay_legalization.specs.Shape.{IsKept}
+use Rattle.delaunay_legalization.specs.Shape.{IsTriangulated}
 use Rattle.delaunay_legalization.specs.State.{state_of}
 use Rattle.delaunay_edit.proofs.Joining.{sides_at_most, edges_and_faces}
 use Rattle.delaunay_edit.proofs.Locating.{same_point}
@@ -29,7 +29,7 @@ use Rattle.delaunay_legalization.proofs.Shapes.{laid_out_tiles}
 pub positive : (n : ℕ) → ¬ (n ≡ 0) → 0 < n
 positive n h = omega (arith, h)
 
-module _ {V D U F : Type 0} (at : V → Point) (c : Contents V D U F) (kept : IsKept at (state_of c)) where
+module _ {V D U F : Type 0} (at : V → Point) (c : Contents V D U F) (kept : IsTriangulated at (state_of c)) where
   -- ---- room for what a vertex brings, of the room that is reserved for it
   module _ (room : HasRoomFor c.room (length c.vertices + 1) (3 * (length c.vertices + 1)) (2 * (length c.vertices + 1))) where
     pub room_inside : 0 < length c.vertices → HasRoom c 1 3 2

@@ -12,11 +12,11 @@ use Rattle.half_edge_views.specs.Left.{each_in}
 use Rattle.plane.specs.Fraction.{Point}
 use Rattle.plane.specs.Pairs.{Joins}
 use Rattle.plane.specs.Plain.{IsPlain}
-use Rattle.drawn_mesh.specs.Drawn.{corners_of, pair_of, faces_of, edges_of, outer_of}
+use Rattle.mesh_embedding.specs.Drawn.{corners_of, pair_of, faces_of, edges_of, outer_of}
 use Rattle.delaunay_edit.specs.declared.position_in_triangulation.PositionInTriangulation.{PositionInTriangulation}
 use Rattle.delaunay_edit.specs.declared.position_in_triangulation.PositionInTriangulation.TheVariants.{OnVertex, OnEdge, OnFace, OutsideOfConvexHull, NoTriangulation}
-use Rattle.delaunay_legalization.specs.State.{State, state_of, plain_of}
-use Rattle.delaunay_legalization.specs.Shape.{IsKept}
+use Rattle.delaunay_legalization.specs.State.{State, state_of, points_and_constraints}
+use Rattle.delaunay_legalization.specs.Shape.{IsTriangulated}
 use Rattle.delaunay_edit.specs.Location.{HasHandle}
 use Rattle.delaunay_edit.specs.Elements.{GivesElements, HasElement}
 use Rattle.delaunay_legalization.proofs.Shapes.{laid_out_distinct}
@@ -25,7 +25,7 @@ no_pairs : (i j : ℕ) → Joins [] i j → ⊥
 no_pairs i j (inl h) = absurd (omega (arith, h.1))
 no_pairs i j (inr h) = absurd (omega (arith, h.1))
 
-module _ {V D U F : Type 0} (place : V → Point) (s : State V D U F) (kept : IsKept place s) where
+module _ {V D U F : Type 0} (place : V → Point) (s : State V D U F) (kept : IsTriangulated place s) where
   -- each undirected edge has its data
   pub count_of_edges : length s.undirected ≡ length (edges_of s.mesh)
   count_of_edges =
@@ -38,7 +38,7 @@ module _ {V D U F : Type 0} (place : V → Point) (s : State V D U F) (kept : Is
   count_of_faces = kept.fits.faces_fit ∙ sym (length-map s.mesh.face_edges (triangle_at s.mesh)) ∙ sym (length-map (triangles s.mesh) corners_of)
 
   -- the positions differ
-  pub plain_if_kept : IsPlain place (plain_of s)
+  pub plain_if_kept : IsPlain place (points_and_constraints s)
   plain_if_kept = record {
     distinct = λ i j d before j_in e.
         let there : Point = record { x = pos 0; y = pos 0 } in

@@ -6,13 +6,13 @@ use Rattle.std.proofs.lemmas.Grind.{common_steps}
 use Rattle.std.proofs.lemmas.Int.{ints}
 use Rattle.std.proofs.lemmas.List.{length-map, length-set, get_or-map}
 use Rattle.std.proofs.lemmas.Option.{slice_get_within, slice_get-get_or, get_or_from_slice_get}
-use Rattle.half_edge_links.specs.Mesh.{Mesh, origin, next, prev, face, face_edge, rev, IsSound, IsValid}
+use Rattle.half_edge_links.specs.Mesh.{Mesh, origin, next, prev, face, face_edge, rev, AreSoundLinks, IsValidMesh}
 use Rattle.half_edge_links.specs.Outline.{Ends, ends, AddsTriangle, HalfSplitsTriangles}
 use Rattle.half_edge_links.specs.Triangles.{Triangle, triangle_at, triangles, InsertsTriangles, SplitsTriangles}
 use Rattle.half_edge_links.proofs.Ends.{length-ends_twice, get_or-ends}
 use Rattle.half_edge_links.proofs.Rev.{rev-rev, rev_within}
 use Rattle.half_edge_links.proofs.Triangles as T
-use Rattle.half_edge_mesh.specs.Contents.{Contents, FitsMesh, IsWhole, Edge, edges, edges_of, edge_with}
+use Rattle.half_edge_mesh.specs.Contents.{Contents, FitsMesh, IsMeshWithData, Edge, edges, edges_of, edge_with}
 use Rattle.half_edge_mesh.specs.Growth.{Grows, MovesTwoItems, AddsEdges, SplitsEdge, with_ends}
 use Rattle.plane.specs.Fraction.{Point, Fraction, whole, IsPositive, IsNotNegative, WithinSegment, InTriangle, InsideTriangle}
 use Rattle.plane.specs.Pairs.{place}
@@ -21,8 +21,8 @@ use Rattle.plane.proofs.Solver.{◌⊕◌, ◌⊗◌, num, ring_in}
 use Rattle.plane.proofs.Steps.{weak}
 use Rattle.plane.proofs.Triangles.{turned_in}
 use Rattle.plane_tiling.proofs.Edges.{turned_within}
-use Rattle.drawn_mesh.specs.Stays.{GoSameWay}
-use Rattle.drawn_mesh.proofs.MeshStays.{halved, half_same, slice_get-set_other}
+use Rattle.mesh_embedding.specs.Stays.{GoSameWay}
+use Rattle.mesh_embedding.proofs.MeshStays.{halved, half_same, slice_get-set_other}
 use Rattle.delaunay_edit.specs.Data.{KeepsEdge, KeepsFace, GrowsAround, IsInCorners}
 use Rattle.delaunay_edit.specs.Location.{IsWithinEdge, IsInsideFaceOf}
 use Rattle.delaunay_legalization.specs.State.{State, state_of}
@@ -78,7 +78,7 @@ rev_half e = grind (arith, common_steps)
 no_ends : Ends
 no_ends = record { source = 0; target = 0 }
 
-ends_are : (m : Mesh) → IsSound m → (k : ℕ) (e : Ends) → slice_get (ends m) k ≡ Some e → (origin m (2 * k) ≡ e.source) × (origin m (rev (2 * k)) ≡ e.target)
+ends_are : (m : Mesh) → AreSoundLinks m → (k : ℕ) (e : Ends) → slice_get (ends m) k ≡ Some e → (origin m (2 * k) ≡ e.source) × (origin m (rev (2 * k)) ≡ e.target)
 ends_are m s k e h = (ap (λ (x : Ends). x.source) listed, ap (origin m) (rev_of_even k) ∙ ap (λ (x : Ends). x.target) listed)
   where
     listed : (let x : Ends = record { source = origin m (2 * k); target = origin m (2 * k + 1) } in x) ≡ e
@@ -122,7 +122,7 @@ module _ (points : List Point) (p : Point) (m : Mesh) where
   ]
 
   -- the listed face of an edge is the face on its left, perhaps turned
-  listed_in : (e : ℕ) → IsSound m → e < length m.half_edges → 0 < face m e → IsInCorners points p (triangle_at m e) → (t : Triangle) → slice_get (triangles m) (face m e - 1) ≡ Some t → IsInCorners points p t
+  listed_in : (e : ℕ) → AreSoundLinks m → e < length m.half_edges → 0 < face m e → IsInCorners points p (triangle_at m e) → (t : Triangle) → slice_get (triangles m) (face m e - 1) ≡ Some t → IsInCorners points p t
   listed_in e s w inner inside t h = subst (IsInCorners points p) listed (go ((s.edges e w).owned inner))
     where
       no_triangle : Triangle
@@ -148,12 +148,12 @@ module _ (points : List Point) (p : Point) (m : Mesh) where
           (turned_in (place points (origin m e)) (place points (origin m (next m e))) (place points (origin m (prev m e))) (whole p) inside)))
 
   -- an edge that has it within has it in the face on its left
-  beside_in : (e : ℕ) → IsSound m → e < length m.half_edges → IsWithinEdge points m p e → IsInCorners points p (triangle_at m e)
+  beside_in : (e : ℕ) → AreSoundLinks m → e < length m.half_edges → IsWithinEdge points m p e → IsInCorners points p (triangle_at m e)
   beside_in e s w h = within_in (place points (origin m e)) (place points (origin m (next m e))) (place points (origin m (prev m e))) (whole p)
       (subst (λ (x : ℕ). WithinSegment (place points (origin m e)) (place points x) (whole p)) (sym (s.edges e w).starts) h)
 
 -- ---- edges and faces that stay
-module _ {V D U F : Type 0} (old new : Contents V D U F) (valid : IsValid old.mesh) (fit : FitsMesh old.mesh (length old.vertices) (length old.directed) (length old.undirected) (length old.faces)) (now : IsWhole new) where
+module _ {V D U F : Type 0} (old new : Contents V D U F) (valid : IsValidMesh old.mesh) (fit : FitsMesh old.mesh (length old.vertices) (length old.directed) (length old.undirected) (length old.faces)) (now : IsMeshWithData new) where
   half_in : (h : ℕ) → h < length old.directed → h / 2 < length old.undirected
   half_in h w = let d = fit.directed_fit in let u = fit.undirected_fit in omega (arith, d, u, w)
 
@@ -314,7 +314,7 @@ module _ {V D U F : Type 0} (old new : Contents V D U F) (valid : IsValid old.me
     }
 
 -- one vertex has no edge
-pub grows_from_one : {V D U F : Type 0} (old new : Contents V D U F) → IsValid old.mesh → FitsMesh old.mesh (length old.vertices) (length old.directed) (length old.undirected) (length old.faces) → (points : List Point) (p : Point) → length old.vertices ≤ 1 → new.outer ≡ old.outer
+pub grows_from_one : {V D U F : Type 0} (old new : Contents V D U F) → IsValidMesh old.mesh → FitsMesh old.mesh (length old.vertices) (length old.directed) (length old.undirected) (length old.faces) → (points : List Point) (p : Point) → length old.vertices ≤ 1 → new.outer ≡ old.outer
     → GrowsAround points p (state_of old) (state_of new)
 grows_from_one old new valid fit points p few outer = record {
   edges = λ h w. absurd (no_edge h (subst (λ n. h < n) fit.directed_fit w));

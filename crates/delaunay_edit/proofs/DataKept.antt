@@ -13,13 +13,13 @@ use Rattle.plane.specs.Tiling.{IsEdge}
 use Rattle.plane_tiling.proofs.Appended.{kept_point, last_point}
 use Rattle.plane_tiling.proofs.Locations.{no_edges_cross}
 use Rattle.plane_edits.specs.Change.{IsFaceOf}
-use Rattle.drawn_mesh.specs.Drawn.{drawn, faces_of, edges_of, outer_of}
-use Rattle.drawn_mesh.specs.Stays.{GoSameWay, HaveSameCorners, KeepsIndexes}
-use Rattle.drawn_mesh.proofs.OwnEdges.{own_edges}
-use Rattle.drawn_mesh.proofs.MeshStays.{face_there, turned_back}
-use Rattle.drawn_mesh.proofs.MeshLegal.{own_indexes}
+use Rattle.mesh_embedding.specs.Drawn.{drawn, faces_of, edges_of, outer_of}
+use Rattle.mesh_embedding.specs.Stays.{GoSameWay, HaveSameCorners, KeepsIndexes}
+use Rattle.mesh_embedding.proofs.OwnEdges.{own_edges}
+use Rattle.mesh_embedding.proofs.MeshStays.{face_there, turned_back}
+use Rattle.mesh_embedding.proofs.MeshLegal.{own_indexes}
 use Rattle.delaunay_edit.specs.Data.{KeepsData, KeepsEdge, GrowsAround, IsInCorners}
-use Rattle.delaunay_legalization.specs.Shape.{IsKept}
+use Rattle.delaunay_legalization.specs.Shape.{IsTriangulated}
 use Rattle.delaunay_legalization.specs.State.{State, state_of}
 use Rattle.delaunay_edit.proofs.Edges.{edge_joins}
 use Rattle.delaunay_edit.proofs.MeshParts.{no_side}
@@ -30,7 +30,7 @@ first [] k w = absurd (omega (arith, w))
 first (x ∷ xs) k w = x
 
 -- the mesh and all data stay
-data_same : {V D U F : Type 0} (at : V → Point) (old new : State V D U F) → IsKept at old → new ≡ record old { vertices = new.vertices } → KeepsData old new
+data_same : {V D U F : Type 0} (at : V → Point) (old new : State V D U F) → IsTriangulated at old → new ≡ record old { vertices = new.vertices } → KeepsData old new
 data_same at old new kept same = record {
   directed = λ g h v w x. ap (λ s. slice_get s.directed h) same ∙ ap (slice_get old.directed) (one g h v w x);
   undirected = λ g h v w x. ap (λ s. slice_get s.undirected (h / 2)) same ∙ ap (λ (k : ℕ). slice_get old.undirected (k / 2)) (one g h v w x);
@@ -50,7 +50,7 @@ data_same at old new kept same = record {
     one : (g h : ℕ) → g < length old.directed → h < length new.directed → GoSameWay old.mesh g new.mesh h → h ≡ g
     one g h v w x = indexes.edges g h (subst (λ n. g < n) count v) (subst (λ n. h < n) (ap (λ s. length s.directed) same ∙ count) w) (subst (λ m. GoSameWay old.mesh g m h) mesh x)
 
-module _ {V D U F : Type 0} (at : V → Point) (v : V) (old mid new : State V D U F) (was : IsKept at old) (now : IsKept at new) (vertices : new.vertices ≡ old.vertices ++ v ∷ [])
+module _ {V D U F : Type 0} (at : V → Point) (v : V) (old mid new : State V D U F) (was : IsTriangulated at old) (now : IsTriangulated at new) (vertices : new.vertices ≡ old.vertices ++ v ∷ [])
     (fits : length mid.directed ≡ length mid.mesh.half_edges) (grows : GrowsAround (map at old.vertices) (at v) old mid) (same : new ≡ record mid { mesh = new.mesh }) (indexes : KeepsIndexes mid.mesh new.mesh) where
   abbrev before : List Point
   before = map at old.vertices
@@ -146,12 +146,12 @@ module _ {V D U F : Type 0} (at : V → Point) (v : V) (old mid new : State V D 
   }
 
 -- a vertex was put in the place of another
-pub overwritten_keeps : {V D U F : Type 0} (at : V → Point) (old new : State V D U F) (vertices : List V) → IsKept at old → new ≡ record old { vertices = vertices } → KeepsData old new
+pub overwritten_keeps : {V D U F : Type 0} (at : V → Point) (old new : State V D U F) (vertices : List V) → IsTriangulated at old → new ≡ record old { vertices = vertices } → KeepsData old new
 overwritten_keeps at old new vertices kept same = data_same at old new kept (same ∙ ap (λ vs. record old { vertices = vs }) (sym (ap (λ s. s.vertices) same)))
 
 -- room was made for a vertex, it was put in, and edges were turned
-pub appended_keeps : {V D U F : Type 0} (at : V → Point) (v : V) (old : State V D U F) (ready mid new : Contents V D U F) → IsKept at old → state_of ready ≡ old → mid.vertices ≡ ready.vertices ++ v ∷ [] → IsKept at (state_of mid) → GrowsAround (map at ready.vertices) (at v) (state_of ready) (state_of mid)
-    → new ≡ record mid { mesh = new.mesh } → KeepsIndexes mid.mesh new.mesh → IsKept at (state_of new) → KeepsData old (state_of new)
+pub appended_keeps : {V D U F : Type 0} (at : V → Point) (v : V) (old : State V D U F) (ready mid new : Contents V D U F) → IsTriangulated at old → state_of ready ≡ old → mid.vertices ≡ ready.vertices ++ v ∷ [] → IsTriangulated at (state_of mid) → GrowsAround (map at ready.vertices) (at v) (state_of ready) (state_of mid)
+    → new ≡ record mid { mesh = new.mesh } → KeepsIndexes mid.mesh new.mesh → IsTriangulated at (state_of new) → KeepsData old (state_of new)
 appended_keeps at v old ready mid new was same vertices kept grows contents indexes now =
     data_kept at v old (state_of mid) (state_of new) was now (ap (λ c. c.vertices) contents ∙ vertices ∙ ap (λ s. s.vertices ++ v ∷ []) same) kept.fits.directed_fit
     (subst (λ s. GrowsAround (map at s.vertices) (at v) s (state_of mid)) same grows) (ap state_of contents) indexes

@@ -1,45 +1,45 @@
 -- What follows for all circles where each edge between two faces passes.
 use Rattle.std.proofs.Common.{◌≡◌, ◌∙◌, ℕ, ◌<◌, Bool, List, [], length, map, sym, ap, subst, slice_set}
 use Rattle.half_edge_links.specs.Mesh.{empty}
-use Rattle.half_edge_mesh.specs.Contents.{Contents, IsWhole}
+use Rattle.half_edge_mesh.specs.Contents.{Contents, IsMeshWithData}
 use Rattle.plane.specs.Fraction.{Point}
 use Rattle.plane.specs.Tiling.{IsFace}
 use Rattle.plane.specs.Delaunay.{IsConstrainedDelaunay, IsLocallyDelaunay, IsStrictlyEmpty}
 use Rattle.plane_delaunay.proofs.EmptyCircles.{local_gives_constrained_delaunay, strictly_empty_is_face}
-use Rattle.drawn_mesh.specs.Drawn.{drawn, faces_of}
-use Rattle.drawn_mesh.specs.Legal.{pairs_at}
-use Rattle.drawn_mesh.proofs.MeshLegal.{line_has_none}
-use Rattle.delaunay_legalization.specs.Fixed.{marked_edges, fixed_pairs, fixed_of}
+use Rattle.mesh_embedding.specs.Drawn.{drawn, faces_of}
+use Rattle.mesh_embedding.specs.Legal.{pairs_at}
+use Rattle.mesh_embedding.proofs.MeshLegal.{line_has_none}
+use Rattle.delaunay_legalization.specs.Constraints.{marked_edges, constraint_pairs, constraints_by}
 use Rattle.delaunay_legalization.specs.Known.{point_at}
-use Rattle.delaunay_legalization.specs.Shape.{IsLegal}
+use Rattle.delaunay_legalization.specs.Shape.{IsDelaunayTriangulation}
 use Rattle.delaunay_legalization.specs.State.{State, state_of, triangulation_of}
-use Rattle.delaunay_legalization.proofs.FixedEdges.{fixed_are_edges}
+use Rattle.delaunay_legalization.proofs.ConstraintEdges.{constraints_are_edges}
 use Rattle.delaunay_legalization.proofs.Shapes.{laid_out_tiles, kept_empty}
 use Rattle.delaunay_edit.proofs.Overwriting.{kept_overwritten, same_places}
 
--- the fixed edges are the constraints, whatever is marked
-pub fixed_constrained_delaunay : {V D U F : Type 0} (place : V → Point) (fixes : U → Bool) (fixed : List U → List ℕ) → ((ds : List U) → fixed ds ≡ marked_edges fixes ds) → (s : State V D U F) → IsLegal place fixed s → IsConstrainedDelaunay (triangulation_of place s) (fixed_of fixed s)
-fixed_constrained_delaunay place fixes fixed marked s legal =
-    local_gives_constrained_delaunay (triangulation_of place s) (fixed_of fixed s) (laid_out_tiles (map place s.vertices) s.mesh legal.kept.valid legal.kept.shape)
-    (fixed_are_edges fixes fixed marked s.mesh s.undirected legal.kept.fits.undirected_fit legal.kept.valid) legal.passing
+-- the marked edges are the constraints, whatever is marked
+pub marked_constrained_delaunay : {V D U F : Type 0} (place : V → Point) (marks : U → Bool) (constraints : List U → List ℕ) → ((ds : List U) → constraints ds ≡ marked_edges marks ds) → (s : State V D U F) → IsDelaunayTriangulation place constraints s → IsConstrainedDelaunay (triangulation_of place s) (constraints_by constraints s)
+marked_constrained_delaunay place marks constraints marked s legal =
+    local_gives_constrained_delaunay (triangulation_of place s) (constraints_by constraints s) (laid_out_tiles (map place s.vertices) s.mesh legal.kept.valid legal.kept.shape)
+    (constraints_are_edges marks constraints marked s.mesh s.undirected legal.kept.fits.undirected_fit legal.kept.valid) legal.passing
 
--- without a fixed edge each strictly empty triple is a face
-pub empty_triple_is_face : {V D U F : Type 0} (place : V → Point) (fixed : List U → List ℕ) (s : State V D U F) → IsConstrainedDelaunay (triangulation_of place s) (fixed_of fixed s) → fixed_of fixed s ≡ [] → (i j k : ℕ) → IsStrictlyEmpty (triangulation_of place s) i j k → IsFace (triangulation_of place s) i j k
-empty_triple_is_face place fixed s all none = strictly_empty_is_face (triangulation_of place s) (subst (λ (cs : List (ℕ × ℕ)). IsConstrainedDelaunay (triangulation_of place s) cs) none all)
+-- without a constraint each strictly empty triple is a face
+pub empty_triple_is_face : {V D U F : Type 0} (place : V → Point) (constraints : List U → List ℕ) (s : State V D U F) → IsConstrainedDelaunay (triangulation_of place s) (constraints_by constraints s) → constraints_by constraints s ≡ [] → (i j k : ℕ) → IsStrictlyEmpty (triangulation_of place s) i j k → IsFace (triangulation_of place s) i j k
+empty_triple_is_face place constraints s all none = strictly_empty_is_face (triangulation_of place s) (subst (λ (cs : List (ℕ × ℕ)). IsConstrainedDelaunay (triangulation_of place s) cs) none all)
 
--- without an edge none is fixed
-pub none_without_edges : {V D U F : Type 0} (fixes : U → Bool) (fixed : List U → List ℕ) → ((ds : List U) → fixed ds ≡ marked_edges fixes ds) → (s : State V D U F) → s.undirected ≡ [] → fixed_of fixed s ≡ []
-none_without_edges fixes fixed marked s none = ap (λ ds. pairs_at s.mesh (fixed ds)) none ∙ ap (λ ks. pairs_at s.mesh ks) (marked [])
+-- without an edge none is a constraint
+pub none_without_edges : {V D U F : Type 0} (marks : U → Bool) (constraints : List U → List ℕ) → ((ds : List U) → constraints ds ≡ marked_edges marks ds) → (s : State V D U F) → s.undirected ≡ [] → constraints_by constraints s ≡ []
+none_without_edges marks constraints marked s none = ap (λ ds. pairs_at s.mesh (constraints ds)) none ∙ ap (λ ks. pairs_at s.mesh ks) (marked [])
 
 -- ---- a mesh with nothing but the outer face, and a vertex that takes the place of one of its position
-pub legal_empty : {V D U F : Type 0} (place : V → Point) (fixed : List U → List ℕ) (c : Contents V D U F) → c.mesh ≡ empty → c.vertices ≡ [] → c.undirected ≡ [] → c.faces ≡ [] → IsWhole c → IsLegal place fixed (state_of c)
-legal_empty place fixed c mesh vertices undirected faces w = record {
+pub legal_empty : {V D U F : Type 0} (place : V → Point) (constraints : List U → List ℕ) (c : Contents V D U F) → c.mesh ≡ empty → c.vertices ≡ [] → c.undirected ≡ [] → c.faces ≡ [] → IsMeshWithData c → IsDelaunayTriangulation place constraints (state_of c)
+legal_empty place constraints c mesh vertices undirected faces w = record {
   kept = kept_empty place c mesh vertices undirected faces w;
   passing = λ i j k n f. absurd (line_has_none c.mesh i j k (ap faces_of mesh) f);
 }
 
-pub legal_overwritten : {V D U F : Type 0} (at : V → Point) (fixed : List U → List ℕ) (c : Contents V D U F) (i : ℕ) (v : V) → IsLegal at fixed (state_of c) → i < length c.vertices → point_at (map at c.vertices) i ≡ at v → IsLegal at fixed (state_of (record c { vertices = slice_set c.vertices i v }))
-legal_overwritten at fixed c i v legal h e = record {
+pub legal_overwritten : {V D U F : Type 0} (at : V → Point) (constraints : List U → List ℕ) (c : Contents V D U F) (i : ℕ) (v : V) → IsDelaunayTriangulation at constraints (state_of c) → i < length c.vertices → point_at (map at c.vertices) i ≡ at v → IsDelaunayTriangulation at constraints (state_of (record c { vertices = slice_set c.vertices i v }))
+legal_overwritten at constraints c i v legal h e = record {
   kept = kept_overwritten at c i v legal.kept h e;
-  passing = subst (λ (ps : List Point). IsLocallyDelaunay (drawn ps c.mesh) (fixed_pairs fixed c.mesh c.undirected)) (sym (same_places at c.vertices i v e)) legal.passing;
+  passing = subst (λ (ps : List Point). IsLocallyDelaunay (drawn ps c.mesh) (constraint_pairs constraints c.mesh c.undirected)) (sym (same_places at c.vertices i v e)) legal.passing;
 }

@@ -3,10 +3,10 @@ use Rattle.std.proofs.Common.{◌≡◌, ◌≢◌, ◌⊎◌, ℕ, ◌+◌, ◌
 use Rattle.std.specs.Prelude.{All}
 use Rattle.std.proofs.lemmas.List.{length-map, map-append}
 use Rattle.std.proofs.lemmas.List.Elements.{All-push}
-use Rattle.half_edge_links.specs.Mesh.{Mesh, IsSound, IsValid, with_vertex}
+use Rattle.half_edge_links.specs.Mesh.{Mesh, AreSoundLinks, IsValidMesh, with_vertex}
 use Rattle.half_edge_links.specs.Triangles.{triangle_at, triangles}
 use Rattle.half_edge_links.specs.Outline.{OuterChanges, ExtendsOuter, SplitsOuter, IsEdge}
-use Rattle.half_edge_mesh.specs.Contents.{Contents, IsWhole}
+use Rattle.half_edge_mesh.specs.Contents.{Contents, IsMeshWithData}
 use Rattle.half_edge_mesh.proofs.Outlines.{outer_changes}
 use Rattle.plane.specs.Fraction.{Point, Fraction, whole}
 use Rattle.plane.specs.Pairs.{IsIndex, place}
@@ -19,17 +19,17 @@ use Rattle.plane_tiling.proofs.Counting.{corners_differ}
 use Rattle.plane_tiling.proofs.Tiles.{by_signs}
 use Rattle.plane_tiling.proofs.Tiles as P
 use Rattle.plane_tiling.proofs.LineMeshes.{one_vertex}
-use Rattle.drawn_mesh.specs.Drawn.{faces_of, outer_of, corners_of}
-use Rattle.drawn_mesh.proofs.MeshLines.{line_extended, line_split_at}
+use Rattle.mesh_embedding.specs.Drawn.{faces_of, outer_of, corners_of}
+use Rattle.mesh_embedding.proofs.MeshLines.{line_extended, line_split_at}
 use Rattle.delaunay_legalization.specs.State.{state_of}
-use Rattle.delaunay_legalization.specs.Shape.{IsKept}
+use Rattle.delaunay_legalization.specs.Shape.{IsTriangulated}
 use Rattle.delaunay_edit.specs.Location.{IsApart, IsWithinEdge}
 
-module _ {V D U F : Type 0} (at : V → Point) (old new : Contents V D U F) (v : V) (kept : IsKept at (state_of old)) (vertices : new.vertices ≡ old.vertices ++ v ∷ []) where
+module _ {V D U F : Type 0} (at : V → Point) (old new : Contents V D U F) (v : V) (kept : IsTriangulated at (state_of old)) (vertices : new.vertices ≡ old.vertices ++ v ∷ []) where
   count : length new.vertices ≡ length old.vertices + 1
   count = ap length vertices ∙ length-append old.vertices (v ∷ [])
 
-  pub grown : InRange (at v) → IsWhole new → length new.undirected ≤ length old.undirected + 3 → length new.faces ≤ length old.faces + 2 → IsMesh (map at old.vertices ++ at v ∷ []) (faces_of new.mesh) (outer_of new.mesh) → IsKept at (state_of new)
+  pub grown : InRange (at v) → IsMeshWithData new → length new.undirected ≤ length old.undirected + 3 → length new.faces ≤ length old.faces + 2 → IsMesh (map at old.vertices ++ at v ∷ []) (faces_of new.mesh) (outer_of new.mesh) → IsTriangulated at (state_of new)
   grown ok w edges faces shape = record {
     in_range = subst (λ vs. All (λ u. InRange (at u)) vs) (sym vertices) (All-push (λ u. InRange (at u)) old.vertices v kept.in_range ok);
     few_edges = let few = kept.few_edges in omega (arith, count, few, edges);
@@ -82,7 +82,7 @@ few_on_line points faces outer few (inr m) = m
 fresh_place : (points : List Point) (q : Point) → IsApart points q → (k : ℕ) → IsIndex points k → place points k ≢ whole q
 fresh_place points q apart k h e = apart.apart k h (ap (λ (f : Fraction). (let p : Point = record { x = f.x; y = f.y } in p)) e)
 
-pub second_shape : (points : List Point) (q : Point) (m new : Mesh) (a b : ℕ) → length points ≡ 1 → IsSound m → length points ≡ length m.out_edges → IsMesh points (faces_of m) (outer_of m) → IsApart points q → a ≡ 0 → b ≡ length points
+pub second_shape : (points : List Point) (q : Point) (m new : Mesh) (a b : ℕ) → length points ≡ 1 → AreSoundLinks m → length points ≡ length m.out_edges → IsMesh points (faces_of m) (outer_of m) → IsApart points q → a ≡ 0 → b ≡ length points
     → triangles new ≡ [] → OuterChanges (with_vertex m) new (λ h. ⊥) (λ h i j. IsEdge 0 a b h i j ⊎ IsEdge 1 b a h i j) → IsMesh (points ++ q ∷ []) (faces_of new) (outer_of new)
 second_shape points q m new a b one s fit shape apart first last none change =
     let l = few_on_line points (faces_of m) (outer_of m) (omega (arith, one)) shape in
@@ -95,14 +95,14 @@ second_shape points q m new a b one s fit shape apart first last none change =
     )
 
 -- past the end i of a line
-pub extended_shape : (points : List Point) (q : Point) (m new : Mesh) (i v n : ℕ) → length m.face_edges ≡ 0 → IsSound m → length points ≡ length m.out_edges → IsMesh points (faces_of m) (outer_of m) → IsApart points q → i < length points → v ≡ length points → IsPast (alone points) i (whole q)
+pub extended_shape : (points : List Point) (q : Point) (m new : Mesh) (i v n : ℕ) → length m.face_edges ≡ 0 → AreSoundLinks m → length points ≡ length m.out_edges → IsMesh points (faces_of m) (outer_of m) → IsApart points q → i < length points → v ≡ length points → IsPast (alone points) i (whole q)
     → triangles new ≡ [] → ExtendsOuter m new i v n → IsMesh (points ++ q ∷ []) (faces_of new) (outer_of new)
 extended_shape points q m new i v n bare s fit shape apart here last past none change =
     let l = bare_line points m bare shape in
     inr (ap (map corners_of) none, line_extended points q m new i n (n + 1) s fit l.1 here (fresh_place points q apart) past (subst (λ x. ExtendsOuter m new i x n) last change))
 
 -- strictly within an edge of a line
-pub split_shape : (points : List Point) (q : Point) (m new : Mesh) (e v n : ℕ) → length m.face_edges ≡ 0 → IsValid m → length points ≡ length m.out_edges → IsMesh points (faces_of m) (outer_of m) → e < length m.half_edges → v ≡ length points → IsWithinEdge points m q e
+pub split_shape : (points : List Point) (q : Point) (m new : Mesh) (e v n : ℕ) → length m.face_edges ≡ 0 → IsValidMesh m → length points ≡ length m.out_edges → IsMesh points (faces_of m) (outer_of m) → e < length m.half_edges → v ≡ length points → IsWithinEdge points m q e
     → triangles new ≡ [] → SplitsOuter m new e v n → IsMesh (points ++ q ∷ []) (faces_of new) (outer_of new)
 split_shape points q m new e v n bare w fit shape here last within none change =
     let l = bare_line points m bare shape in

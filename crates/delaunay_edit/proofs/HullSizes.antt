@@ -4,7 +4,7 @@ use mathlib.Core.Logic.{◌≢◌}
 use Rattle.std.specs.Prelude.{ℤ, pos, ◌+ℤ◌, Contains, AllPairs}
 use Rattle.std.proofs.lemmas.Int.{ints}
 use Rattle.std.proofs.lemmas.List.{length-map}
-use Rattle.half_edge_links.specs.Mesh.{Mesh, IsValid}
+use Rattle.half_edge_links.specs.Mesh.{Mesh, IsValidMesh}
 use Rattle.plane.specs.Fraction.{Point}
 use Rattle.plane.specs.Tiling.{Face, IsEdge, HasFace}
 use Rattle.plane.specs.Location.{IsOuter}
@@ -13,11 +13,11 @@ use Rattle.plane_tiling.proofs.Totals.{total-sum}
 use Rattle.plane_tiling.proofs.Rising.{total_ones}
 use Rattle.plane_tiling.proofs.Counts.{hull_edges_count, line_edges_count}
 use Rattle.plane_tiling.proofs.Loops as L
-use Rattle.drawn_mesh.specs.Drawn.{faces_of, edges_of, outer_of}
-use Rattle.drawn_mesh.proofs.OwnEdges.{own_edges}
-use Rattle.drawn_mesh.proofs.OuterEdges.{real}
+use Rattle.mesh_embedding.specs.Drawn.{faces_of, edges_of, outer_of}
+use Rattle.mesh_embedding.proofs.OwnEdges.{own_edges}
+use Rattle.mesh_embedding.proofs.OuterEdges.{real}
 use Rattle.delaunay_legalization.specs.State.{State, triangulation_of}
-use Rattle.delaunay_legalization.specs.Shape.{IsKept}
+use Rattle.delaunay_legalization.specs.Shape.{IsTriangulated}
 use Rattle.delaunay_edit.specs.Hull.{HasHullSize}
 use Rattle.delaunay_edit.proofs.Counts.{count_of_edges, count_of_faces}
 use Rattle.delaunay_edit.proofs.Edges.{edge_joins}
@@ -32,7 +32,7 @@ none_if_no_length [] e = refl
 none_if_no_length (x ∷ xs) e = absurd (omega arith)
 
 -- each edge has two ways, each face three sides
-ways_add_up : (m : Mesh) → IsValid m → 2 * length (edges_of m) ≡ 3 * length (faces_of m) + length (outer_of m)
+ways_add_up : (m : Mesh) → IsValidMesh m → 2 * length (edges_of m) ≡ 3 * length (faces_of m) + length (outer_of m)
 ways_add_up m v = numbers (length (edges_of m)) (length (faces_of m)) (length (outer_of m)) ones_of_edges ones_of_faces ones_of_outer (total_ones (edges_of m)) (total_ones (faces_of m)) (total_ones (outer_of m)) ways
   where
     ones_of_edges : ℤ
@@ -53,7 +53,7 @@ ways_add_up m v = numbers (length (edges_of m)) (length (faces_of m)) (length (o
         ∙ (λ i. total-sum (λ f. pos 1 +ℤ pos 1) (λ f. pos 1) (faces_of m) i +ℤ ones_of_outer)
         ∙ (λ i. total-sum (λ f. pos 1) (λ f. pos 1) (faces_of m) i +ℤ ones_of_faces +ℤ ones_of_outer)
 
-module _ {V D U F : Type 0} (at : V → Point) (s : State V D U F) (kept : IsKept at s) where
+module _ {V D U F : Type 0} (at : V → Point) (s : State V D U F) (kept : IsTriangulated at s) where
   -- the directed edges are the sides of faces and the outer edges
   pub sides_and_outer : length s.directed ≡ 3 * length s.faces + length (outer_of s.mesh)
   sides_and_outer =

@@ -1,7 +1,7 @@
 -- A mesh with faces gets one more vertex, inside a face or within an edge.
 use Rattle.std.proofs.Common.{◌≡◌, ℕ, ◌<◌, ◌≤◌, ◌+◌, List, [], ◌∷◌, ◌++◌, length, length-append, sym, ap, ◌∙◌, subst, inl, inr, arith}
 use Rattle.std.proofs.lemmas.List.{length-map, length-set}
-use Rattle.half_edge_links.specs.Mesh.{Mesh, IsSound, IsValid, IsInnerEdge, origin, next, face, face_edge, rev}
+use Rattle.half_edge_links.specs.Mesh.{Mesh, AreSoundLinks, IsValidMesh, IsInnerEdge, origin, next, face, face_edge, rev}
 use Rattle.half_edge_links.specs.Flip.{IsFlippable}
 use Rattle.half_edge_links.specs.Grow.{IsHalfSplittable}
 use Rattle.half_edge_links.specs.Triangles.{triangle_at, triangles, InsertsTriangles, SplitsTriangles}
@@ -12,8 +12,8 @@ use Rattle.plane.specs.Fraction.{Point, whole, WithinSegment}
 use Rattle.plane.specs.Pairs.{place}
 use Rattle.plane_tiling.specs.Local.{IsMesh, LocalMesh}
 use Rattle.plane_tiling.proofs.Edges.{turned_within}
-use Rattle.drawn_mesh.specs.Drawn.{faces_of, outer_of, corners_of}
-use Rattle.drawn_mesh.proofs.MeshEdits.{insertion_inside, insertion_within_side, insertion_within_outer}
+use Rattle.mesh_embedding.specs.Drawn.{faces_of, outer_of, corners_of}
+use Rattle.mesh_embedding.proofs.MeshEdits.{insertion_inside, insertion_within_side, insertion_within_outer}
 use Rattle.delaunay_edit.specs.Location.{IsInsideFaceOf, IsWithinEdge}
 
 -- an item that gives way, and more
@@ -21,7 +21,7 @@ pub length_moved : {X : Type 0} (P : X → Type 0) (old new : List X) (i more : 
 length_moved P old new i more g = rw g.whole (simp (length-set, length-append) (omega (arith, g.count)))
 
 -- a mesh with an edge of an inner face is not a line
-pub with_faces : (points : List Point) (m : Mesh) (e : ℕ) → IsSound m → IsInnerEdge m e → IsMesh points (faces_of m) (outer_of m) → LocalMesh points (faces_of m) (outer_of m)
+pub with_faces : (points : List Point) (m : Mesh) (e : ℕ) → AreSoundLinks m → IsInnerEdge m e → IsMesh points (faces_of m) (outer_of m) → LocalMesh points (faces_of m) (outer_of m)
 with_faces points m e s x (inl l) = l
 with_faces points m e s x (inr l) =
     let bare : length m.face_edges ≡ 0 = sym (length-map m.face_edges (triangle_at m)) ∙ sym (length-map (triangles m) corners_of) ∙ ap length l.0 in
@@ -30,7 +30,7 @@ with_faces points m e s x (inr l) =
     absurd (omega (arith, bare, f, i))
 
 -- the faces on both sides of an edge differ
-pub flippable_between : (m : Mesh) (e : ℕ) → IsValid m → e < length m.half_edges → 0 < face m e → 0 < face m (rev e) → IsFlippable m e
+pub flippable_between : (m : Mesh) (e : ℕ) → IsValidMesh m → e < length m.half_edges → 0 < face m e → 0 < face m (rev e) → IsFlippable m e
 flippable_between m e w within inner twin =
     let s = w.sound.edges e within in
     record {
@@ -40,7 +40,7 @@ flippable_between m e w within inner twin =
       apart = λ same. turned_apart m w (next m e) s.next_in (subst (λ k. 0 < k) (sym s.same_face) inner) (ap (λ k. face m (rev k)) s.prev_next ∙ sym same ∙ sym s.same_face);
     }
 
-module _ (points : List Point) (q : Point) (m new : Mesh) (v : ℕ) (w : IsValid m) (shape : IsMesh points (faces_of m) (outer_of m)) (last : v ≡ length points) where
+module _ (points : List Point) (q : Point) (m new : Mesh) (v : ℕ) (w : IsValidMesh m) (shape : IsMesh points (faces_of m) (outer_of m)) (last : v ≡ length points) where
   -- strictly inside face f
   pub inside_shape : (f : ℕ) → 0 < f → f ≤ length m.face_edges → IsInsideFaceOf points m q (face_edge m f) → InsertsTriangles m new v (face_edge m f) → KeepsOuter m new → IsMesh (points ++ q ∷ []) (faces_of new) (outer_of new)
   inside_shape f positive within inside change outer =

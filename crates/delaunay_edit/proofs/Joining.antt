@@ -4,13 +4,13 @@ use Rattle.std.specs.Prelude.{All, Contains, pos, ℤ, ◌+ℤ◌}
 use Rattle.std.proofs.lemmas.Int.{ints}
 use Rattle.std.proofs.lemmas.List.{length-map, map-append}
 use Rattle.std.proofs.lemmas.List.Elements.{All-push}
-use Rattle.half_edge_links.specs.Mesh.{Mesh, IsSound, IsSoundEdge, origin, next, prev, face, rev}
+use Rattle.half_edge_links.specs.Mesh.{Mesh, AreSoundLinks, IsSoundEdge, origin, next, prev, face, rev}
 use Rattle.half_edge_links.specs.Outline.{IsOuterEdge, AddsTriangle, ReplacesOuter, ClosesOuter}
 use Rattle.half_edge_links.specs.Grow.{IsClosable, Closes, closed}
 use Rattle.half_edge_links.specs.Room.{HasRoomFor}
 use Rattle.half_edge_links.proofs.Close.{closes}
 use Rattle.half_edge_links.proofs.Rev.{rev_within}
-use Rattle.half_edge_mesh.specs.Contents.{Contents, HasRoom, IsWhole}
+use Rattle.half_edge_mesh.specs.Contents.{Contents, HasRoom, IsMeshWithData}
 use Rattle.plane.specs.Fraction.{Point, whole}
 use Rattle.plane.specs.Pairs.{place}
 use Rattle.plane.specs.Tests.{InRange}
@@ -29,20 +29,20 @@ use Rattle.plane_edits.specs.Extension.{IsExtending}
 use Rattle.plane_edits.proofs.Changes.{IsOnce}
 use Rattle.plane_edits.proofs.Growing.{extension_begins}
 use Rattle.plane_edits.proofs.OnLine.{over_line_ends}
-use Rattle.drawn_mesh.specs.Drawn.{faces_of, edges_of, outer_of}
-use Rattle.drawn_mesh.proofs.OuterEdges.{listed}
-use Rattle.drawn_mesh.proofs.OuterChanges.{outer_replaced}
-use Rattle.drawn_mesh.proofs.MeshEdits.{added_faces}
-use Rattle.drawn_mesh.proofs.MeshExtension.{ends_below, mesh_extension_goes_on, mesh_extension_goes_back, mesh_extension_ends}
-use Rattle.drawn_mesh.proofs.OwnEdges.{own_edges}
+use Rattle.mesh_embedding.specs.Drawn.{faces_of, edges_of, outer_of}
+use Rattle.mesh_embedding.proofs.OuterEdges.{listed}
+use Rattle.mesh_embedding.proofs.OuterChanges.{outer_replaced}
+use Rattle.mesh_embedding.proofs.MeshEdits.{added_faces}
+use Rattle.mesh_embedding.proofs.MeshExtension.{ends_below, mesh_extension_goes_on, mesh_extension_goes_back, mesh_extension_ends}
+use Rattle.mesh_embedding.proofs.OwnEdges.{own_edges}
 use Rattle.delaunay_edit.specs.Joining.{Sees}
 use Rattle.delaunay_legalization.specs.State.{state_of}
-use Rattle.delaunay_legalization.specs.Shape.{IsKept}
+use Rattle.delaunay_legalization.specs.Shape.{IsTriangulated}
 use Rattle.delaunay_legalization.proofs.ElementCounts.{edges_counted, faces_counted}
 use Rattle.delaunay_edit.proofs.LineEnds.{none_seen_after, none_seen_before}
 
 -- ---- counts
-module _ {V D U F : Type 0} (c : Contents V D U F) (w : IsWhole c) where
+module _ {V D U F : Type 0} (c : Contents V D U F) (w : IsMeshWithData c) where
   -- each edge has two ways, and each face three sides
   pub sides_at_most : 3 * length c.faces ≤ 2 * length c.undirected
   sides_at_most =
@@ -59,10 +59,10 @@ module _ {V D U F : Type 0} (c : Contents V D U F) (w : IsWhole c) where
       numbers e f h u g a b c i j k x p q = omega (arith, ints)
 
 -- with a vertex, one edge fewer than vertices and faces
-pub edges_and_faces : {V D U F : Type 0} (place : V → Point) (c : Contents V D U F) → IsKept place (state_of c) → 0 < length c.vertices → length c.undirected + 1 ≡ length c.faces + length c.vertices
+pub edges_and_faces : {V D U F : Type 0} (place : V → Point) (c : Contents V D U F) → IsTriangulated place (state_of c) → 0 < length c.vertices → length c.undirected + 1 ≡ length c.faces + length c.vertices
 edges_and_faces place c kept some = go kept.shape
   where
-    w : IsWhole c
+    w : IsMeshWithData c
     w = record { valid = kept.valid; fits = kept.fits }
 
     go : IsMesh (map place c.vertices) (faces_of c.mesh) (outer_of c.mesh) → length c.undirected + 1 ≡ length c.faces + length c.vertices
@@ -77,7 +77,7 @@ edges_and_faces place c kept some = go kept.shape
         omega (arith, n, none, some, edges_counted c w, faces_counted c w, length-map c.vertices place)
 
 -- an edge starts at a vertex
-pub has_vertex : {V D U F : Type 0} (place : V → Point) (c : Contents V D U F) (e : ℕ) → IsKept place (state_of c) → e < length c.directed → 0 < length c.vertices
+pub has_vertex : {V D U F : Type 0} (place : V → Point) (c : Contents V D U F) (e : ℕ) → IsTriangulated place (state_of c) → e < length c.directed → 0 < length c.vertices
 has_vertex place c e kept within =
     let d = kept.fits.directed_fit in
     let o = (kept.valid.sound.edges e (omega (arith, d, within))).origin_in in
@@ -144,11 +144,11 @@ module _ {V D U F : Type 0} (place_at : V → Point) (old : Contents V D U F) (v
   once (inr m) = m.1.once
 
   -- the first face
-  module _ (new : Contents V D U F) (e k : ℕ) (kept : IsKept place_at (state_of old)) (some : 0 < length old.vertices) (within : e < length old.mesh.half_edges) (outer : face old.mesh e ≡ 0)
+  module _ (new : Contents V D U F) (e k : ℕ) (kept : IsTriangulated place_at (state_of old)) (some : 0 < length old.vertices) (within : e < length old.mesh.half_edges) (outer : face old.mesh e ≡ 0)
       (turns : TurnsLeft (place points (origin old.mesh e)) (place points (origin old.mesh (rev e))) (whole (place_at v)))
       (is : k ≡ length old.vertices) (vertices : new.vertices ≡ old.vertices ++ v ∷ []) (room : new.room ≡ old.room) (directed : length new.directed ≡ length old.directed + 4) (undirected : length new.undirected ≡ length old.undirected + 2) (faces : length new.faces ≡ length old.faces + 1)
       (adds : AddsTriangle old.mesh new.mesh (origin old.mesh e) (origin old.mesh (rev e)) k) (replaces : ReplacesOuter old.mesh new.mesh e k (length old.directed + 3) (length old.directed + 1)) where
-    sound_before : IsSound old.mesh
+    sound_before : AreSoundLinks old.mesh
     sound_before = kept.valid.sound
 
     k_is : k ≡ last
@@ -198,9 +198,9 @@ module _ {V D U F : Type 0} (place_at : V → Point) (old : Contents V D U F) (v
           extending = subst (λ (x : ℕ × ℕ). IsExtending points (place_at v) (faces_of old.mesh) (faces_of new.mesh) (outer_of old.mesh) (outer_of new.mesh) x.0 x.1) (λ o. (sym behind_made.source o, sym ahead_made.target o)) extending;
         }
 
-  module _ (now new : Contents V D U F) (ahead behind : ℕ) (j : IsJoining place_at old now v ahead behind) (w : IsWhole now) (same : new ≡ record now { mesh = new.mesh; directed = new.directed; undirected = new.undirected; faces = new.faces })
+  module _ (now new : Contents V D U F) (ahead behind : ℕ) (j : IsJoining place_at old now v ahead behind) (w : IsMeshWithData now) (same : new ≡ record now { mesh = new.mesh; directed = new.directed; undirected = new.undirected; faces = new.faces })
       (directed : length new.directed ≡ length now.directed + 2) (undirected : length new.undirected ≡ length now.undirected + 1) (faces : length new.faces ≡ length now.faces + 1) where
-    s : IsSound now.mesh
+    s : AreSoundLinks now.mesh
     s = w.valid.sound
 
     start_below : origin now.mesh behind < last
@@ -316,9 +316,9 @@ module _ {V D U F : Type 0} (place_at : V → Point) (old : Contents V D U F) (v
           second = ap (λ k. origin new.mesh (rev k)) kept_next ∙ links.origins (rev (next now.mesh ahead)) (rev_within (next now.mesh ahead) (length now.mesh.half_edges) s.even after_in)
 
   -- neither the edge after the edge ahead nor the one before the edge behind sees the vertex
-  module _ (now : Contents V D U F) (ahead behind : ℕ) (kept : IsKept place_at (state_of old)) (j : IsJoining place_at old now v ahead behind) (w : IsWhole now) (ok : InRange (place_at v))
+  module _ (now : Contents V D U F) (ahead behind : ℕ) (kept : IsTriangulated place_at (state_of old)) (j : IsJoining place_at old now v ahead behind) (w : IsMeshWithData now) (ok : InRange (place_at v))
       (unseen_after : ¬ Sees grown_points now.mesh last (next now.mesh ahead)) (unseen_before : ¬ Sees grown_points now.mesh last (prev now.mesh behind)) where
-    sound_now : IsSound now.mesh
+    sound_now : AreSoundLinks now.mesh
     sound_now = w.valid.sound
 
     abbrev u : ℕ
@@ -367,7 +367,7 @@ module _ {V D U F : Type 0} (place_at : V → Point) (old : Contents V D U F) (v
         (none_seen_before points (place_at v) (outer_of old.mesh) now.mesh u far m.1 w.valid x behind j.behind_outer unseen_before)
         (none_seen_after points (place_at v) (outer_of old.mesh) now.mesh u far m.1 w.valid x ahead j.ahead_outer unseen_after)
 
-    pub joining_ends : IsKept place_at (state_of now)
+    pub joining_ends : IsTriangulated place_at (state_of now)
     joining_ends =
         record {
           in_range = subst (λ vs. All (λ u. InRange (place_at u)) vs) (sym j.vertices) (All-push (λ u. InRange (place_at u)) old.vertices v kept.in_range ok);
@@ -379,7 +379,7 @@ module _ {V D U F : Type 0} (place_at : V → Point) (old : Contents V D U F) (v
         }
 
   -- room for one more face
-  pub room_for_face : (now : Contents V D U F) (ahead behind : ℕ) → IsJoining place_at old now v ahead behind → IsWhole now → HasRoomFor old.room (length old.vertices + 1) (3 * (length old.vertices + 1)) (2 * (length old.vertices + 1)) → HasRoom now 0 1 1
+  pub room_for_face : (now : Contents V D U F) (ahead behind : ℕ) → IsJoining place_at old now v ahead behind → IsMeshWithData now → HasRoomFor old.room (length old.vertices + 1) (3 * (length old.vertices + 1)) (2 * (length old.vertices + 1)) → HasRoom now 0 1 1
   room_for_face now ahead behind j w room = subst (λ r. HasRoom (record now { room = r }) 0 1 1) (sym j.room) (record {
     vertices_fit = let v = room.vertices_fit in omega (arith, v, count);
     edges_fit = let e = room.edges_fit in omega (arith, e, count, counts, sides);
@@ -403,12 +403,12 @@ module _ {V D U F : Type 0} (place_at : V → Point) (old : Contents V D U F) (v
     pub ahead_apart : origin now.mesh (rev (next now.mesh ahead)) ≢ origin now.mesh ahead
     ahead_apart p = seen_end grown_points now.mesh last (next now.mesh ahead) seen_ahead (p ∙ j.ahead_outer.source)
 
-    pub step_ahead : (new : Contents V D U F) → IsWhole now → new ≡ record now { mesh = new.mesh; directed = new.directed; undirected = new.undirected; faces = new.faces } → length new.directed ≡ length now.directed + 2 → length new.undirected ≡ length now.undirected + 1 → length new.faces ≡ length now.faces + 1
+    pub step_ahead : (new : Contents V D U F) → IsMeshWithData now → new ≡ record now { mesh = new.mesh; directed = new.directed; undirected = new.undirected; faces = new.faces } → length new.directed ≡ length now.directed + 2 → length new.undirected ≡ length now.undirected + 1 → length new.faces ≡ length now.faces + 1
         → AddsTriangle now.mesh new.mesh (origin now.mesh ahead) (origin now.mesh (next now.mesh ahead)) (origin now.mesh (rev (next now.mesh ahead))) → ClosesOuter now.mesh new.mesh ahead (length now.directed)
         → IsJoining place_at old new v (length now.directed + 1) behind × (length (outer_of new.mesh) < length (outer_of now.mesh))
     step_ahead new w same directed undirected faces adds change = joining_goes_on now new ahead behind j w same directed undirected faces seen_ahead adds change
 
-  module _ (now : Contents V D U F) (behind k e : ℕ) (b : IsJoiningBack place_at old now v behind) (k_is : k ≡ length old.vertices) (is : e ≡ prev now.mesh behind) (sees : Sees (map place_at now.vertices) now.mesh k e) (w : IsWhole now) where
+  module _ (now : Contents V D U F) (behind k e : ℕ) (b : IsJoiningBack place_at old now v behind) (k_is : k ≡ length old.vertices) (is : e ≡ prev now.mesh behind) (sees : Sees (map place_at now.vertices) now.mesh k e) (w : IsMeshWithData now) where
     seen_behind : Sees grown_points now.mesh last e
     seen_behind = seen_as now k e b.joining.vertices k_is sees
 

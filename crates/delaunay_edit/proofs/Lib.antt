@@ -17,5 +17,5 @@ pub mod DataKept
 pub mod DataGrowing
 pub mod Joining
 pub mod Delaunay
-pub mod FixedEdges
+pub mod ConstraintEdges
 pub mod Removing

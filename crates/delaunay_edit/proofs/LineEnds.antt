@@ -3,7 +3,7 @@ use Rattle.std.proofs.Common.{◌≡◌, ◌≢◌, ◌⊎◌, ℕ, ◌<◌, Lis
 use Rattle.std.specs.Prelude.{ℤ, pos, ◌<ℤ◌, ◌≤ℤ◌, neg_ℤ, Contains}
 use Rattle.std.proofs.lemmas.Int.{ints}
 use Rattle.std.proofs.lemmas.Bool.{cases_eq, eq-eqb, eqb-true}
-use Rattle.half_edge_links.specs.Mesh.{Mesh, IsValid, IsSoundEdge, IsClosed, origin, next, prev, face, rev}
+use Rattle.half_edge_links.specs.Mesh.{Mesh, IsValidMesh, IsSoundEdge, IsClosed, origin, next, prev, face, rev}
 use Rattle.half_edge_links.specs.Outline.{IsOuterEdge}
 use Rattle.half_edge_links.proofs.Rev.{rev-rev, rev_within}
 use Rattle.plane.specs.Fraction.{Point}
@@ -30,9 +30,9 @@ use Rattle.plane_edits.specs.Extension.{fan, steps, last_of, IsSeenRun, IsExtend
 use Rattle.plane_edits.proofs.Changes.{face_from}
 use Rattle.plane_edits.proofs.Extension.{fan_from}
 use Rattle.plane_edits.proofs.Growing.{run_signs, in_two}
-use Rattle.drawn_mesh.specs.Drawn.{faces_of, outer_of}
-use Rattle.drawn_mesh.proofs.OuterEdges.{listed, real, one_edge}
-use Rattle.drawn_mesh.proofs.MeshEdits.{face_before}
+use Rattle.mesh_embedding.specs.Drawn.{faces_of, outer_of}
+use Rattle.mesh_embedding.proofs.OuterEdges.{listed, real, one_edge}
+use Rattle.mesh_embedding.proofs.MeshEdits.{face_before}
 
 -- ---- a vertex of a line has at most two neighbours
 module _ (n : ℕ) (p : ℕ → Point) (outer : List (ℕ × ℕ)) (m : SignLine n p outer) (w a : ℕ) (near : IsNext n p w a) where
@@ -102,7 +102,7 @@ module _ (points : List Point) (n : ℕ) (outer : List (ℕ × ℕ)) where
   last_step_of u v (y ∷ ys) r = let t = last_step_of v y ys r.2 in record { start = t.start; step = Contains-later (u, v) (steps v (y ∷ ys)) (t.start, last_of y ys) t.step; edge = t.edge; seen = t.seen }
 
 -- an edge to which the walk round its start comes back at once is the only one there
-only_at : (m : Mesh) (e : ℕ) → IsValid m → e < length m.half_edges → next m (rev e) ≡ e → (h : ℕ) → h < length m.half_edges → origin m h ≡ origin m e → h ≡ e
+only_at : (m : Mesh) (e : ℕ) → IsValidMesh m → e < length m.half_edges → next m (rev e) ≡ e → (h : ℕ) → h < length m.half_edges → origin m h ≡ origin m e → h ≡ e
 only_at m e v within back h h_in same =
     let turned : rev (prev m e) ≡ e = ap (λ k. rev (prev m k)) (sym back) ∙ ap rev (v.sound.edges (rev e) (rev_within _ _ v.sound.even within)).prev_next ∙ rev-rev e in
     let closed : IsClosed m (λ k. k == e) = λ k k_in is. eq-eqb (rev (prev m k)) e (ap (λ j. rev (prev m j)) (eqb-true k e is) ∙ turned) in
@@ -111,7 +111,7 @@ only_at m e v within back h h_in same =
 opposite_signs : (a b : ℤ) → a ≡ neg_ℤ b → pos 0 <ℤ a → pos 0 <ℤ b → ⊥
 opposite_signs a b e h k = omega (arith, ints)
 
-module _ (points : List Point) (q : Point) (outer : List (ℕ × ℕ)) (m : Mesh) (u w : ℕ) (straight : LineMesh points outer) (valid : IsValid m) (x : IsExtending points q [] (faces_of m) outer (outer_of m) u w) where
+module _ (points : List Point) (q : Point) (outer : List (ℕ × ℕ)) (m : Mesh) (u w : ℕ) (straight : LineMesh points outer) (valid : IsValidMesh m) (x : IsExtending points q [] (faces_of m) outer (outer_of m) u w) where
   abbrev n : ℕ
   n = length points
 

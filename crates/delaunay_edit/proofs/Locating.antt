@@ -20,11 +20,11 @@ use Rattle.plane_tiling.proofs.Loops as L
 use Rattle.plane_tiling.proofs.Places as P
 use Rattle.plane_tiling.proofs.Locations.{each_point_has_one_location}
 use Rattle.delaunay_edit.specs.declared.position_in_triangulation.PositionInTriangulation.TheVariants.{OnVertex, OnFace, OutsideOfConvexHull}
-use Rattle.drawn_mesh.specs.Drawn.{drawn, faces_of, edges_of, outer_of, corners_of}
-use Rattle.drawn_mesh.proofs.OwnEdges.{own_edges}
-use Rattle.drawn_mesh.proofs.OuterEdges.{real}
+use Rattle.mesh_embedding.specs.Drawn.{drawn, faces_of, edges_of, outer_of, corners_of}
+use Rattle.mesh_embedding.proofs.OwnEdges.{own_edges}
+use Rattle.mesh_embedding.proofs.OuterEdges.{real}
 use Rattle.delaunay_legalization.specs.State.{State}
-use Rattle.delaunay_legalization.specs.Shape.{IsKept}
+use Rattle.delaunay_legalization.specs.Shape.{IsTriangulated}
 use Rattle.delaunay_edit.specs.Location.{Locates, IsApart, IsClearOfEdge, IsInsideFaceOf, StartsNearest}
 use Rattle.delaunay_edit.proofs.Edges.{joins_edge, Contains-map_from}
 use Rattle.delaunay_legalization.proofs.Shapes.{laid_out_distinct}
@@ -43,7 +43,7 @@ same_point p q s =
 not_less : (a b : ℤ) → a <ℤ b → b ≤ℤ a → ⊥
 not_less a b h k = omega (arith, ints)
 
-module _ {V D U F : Type 0} (at : V → Point) (s : State V D U F) (kept : IsKept at s) (p : Point) where
+module _ {V D U F : Type 0} (at : V → Point) (s : State V D U F) (kept : IsTriangulated at s) (p : Point) where
   abbrev points : List Point
   points = map at s.vertices
 

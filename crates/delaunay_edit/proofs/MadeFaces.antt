@@ -2,7 +2,7 @@
 use Rattle.std.proofs.Common.{◌≡◌, ◌⊎◌, ℕ, ◌<◌, ◌≤◌, List, [], ◌∷◌, ◌++◌, length, map, refl, sym, ap, ◌∙◌, subst, inl, inr}
 use Rattle.std.specs.Prelude.{Contains}
 use Rattle.std.proofs.lemmas.List.{map-append}
-use Rattle.half_edge_links.specs.Mesh.{Mesh, IsValid, IsInnerEdge, face_edge, with_vertex}
+use Rattle.half_edge_links.specs.Mesh.{Mesh, IsValidMesh, IsInnerEdge, face_edge, with_vertex}
 use Rattle.half_edge_links.specs.Flip.{IsFlippable}
 use Rattle.half_edge_links.specs.Triangles.{triangles, InsertsTriangles, SplitsTriangles}
 use Rattle.half_edge_links.specs.Outline.{HalfSplitsTriangles}
@@ -14,9 +14,9 @@ use Rattle.plane_tiling.proofs.Totals.{Contains-none, Contains-cases}
 use Rattle.plane_edits.specs.Change.{IsFaceOf, FacesChange}
 use Rattle.plane_edits.specs.Extension.{IsExtending, fan}
 use Rattle.plane_edits.proofs.Changes.{face_from, turn_of_all}
-use Rattle.drawn_mesh.specs.Drawn.{corners_of, faces_of, outer_of}
-use Rattle.drawn_mesh.proofs.MeshEdits.{inserted_faces, split_faces, half_split_faces}
-use Rattle.delaunay_legalization.specs.Shape.{IsLegal}
+use Rattle.mesh_embedding.specs.Drawn.{corners_of, faces_of, outer_of}
+use Rattle.mesh_embedding.proofs.MeshEdits.{inserted_faces, split_faces, half_split_faces}
+use Rattle.delaunay_legalization.specs.Shape.{IsDelaunayTriangulation}
 use Rattle.delaunay_legalization.specs.Star.{IsOneOf, MakesFacesAt, AllPassBeside}
 use Rattle.delaunay_legalization.specs.State.{State, state_of}
 use Rattle.delaunay_legalization.proofs.Stars.{made_at_leaves}
@@ -52,7 +52,7 @@ fan_corner q u [] = tt
 fan_corner q u (v ∷ vs) = (inr (inr refl), fan_corner q v vs)
 
 -- ---- each case
-module _ (m new : Mesh) (v : ℕ) (w : IsValid m) where
+module _ (m new : Mesh) (v : ℕ) (w : IsValidMesh m) where
   pub made_inside : (f : ℕ) → 0 < f → f ≤ length m.face_edges → InsertsTriangles m new v (face_edge m f) → MakesFacesAt v (faces_of m) (faces_of new)
   made_inside f positive within change =
       let h = w.sound.faces f positive within in
@@ -91,10 +91,10 @@ none_joined i j (inl c) = Contains-none (i, j) c
 none_joined i j (inr c) = Contains-none (j, i) c
 
 -- where nothing is marked, and each edge passed before
-pub passes_beside : {V D U F : Type 0} (at : V → Point) (old : State V D U F) (ready mid : Contents V D U F) (v : V) (k n : ℕ) → IsLegal at (λ _. []) old → state_of ready ≡ old → mid.vertices ≡ ready.vertices ++ v ∷ [] → k ≡ n → MakesFacesAt n (faces_of ready.mesh) (faces_of mid.mesh)
+pub passes_beside : {V D U F : Type 0} (at : V → Point) (old : State V D U F) (ready mid : Contents V D U F) (v : V) (k n : ℕ) → IsDelaunayTriangulation at (λ _. []) old → state_of ready ≡ old → mid.vertices ≡ ready.vertices ++ v ∷ [] → k ≡ n → MakesFacesAt n (faces_of ready.mesh) (faces_of mid.mesh)
     → AllPassBeside (map at mid.vertices) (faces_of mid.mesh) [] k
 passes_beside at old ready mid v k n legal same vertices is made =
-    let here : IsLegal at (λ _. []) (state_of ready) = subst (IsLegal at (λ _. [])) (sym same) legal in
+    let here : IsDelaunayTriangulation at (λ _. []) (state_of ready) = subst (IsDelaunayTriangulation at (λ _. [])) (sym same) legal in
     subst (λ (ps : List Point). AllPassBeside ps (faces_of mid.mesh) [] k) (sym (ap (map at) vertices ∙ map-append at ready.vertices (v ∷ [])))
     (made_at_leaves (map at ready.vertices) (at v) (faces_of ready.mesh) (faces_of mid.mesh) (outer_of ready.mesh) [] [] k here.kept.shape (λ a b c d f g free _. here.passing a b c d f g free)
     (subst (λ (x : ℕ). MakesFacesAt x (faces_of ready.mesh) (faces_of mid.mesh)) (sym is) made) (λ a b h. absurd (none_joined a b h)))

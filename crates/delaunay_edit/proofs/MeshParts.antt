@@ -16,10 +16,10 @@ use Rattle.plane_tiling.specs.Local.{IsMesh}
 use Rattle.plane_tiling.proofs.Totals.{Contains-none}
 use Rattle.plane_tiling.proofs.Tiles.{by_signs, point_at}
 use Rattle.plane_tiling.proofs.Loops as L
-use Rattle.drawn_mesh.specs.Drawn.{drawn, faces_of, outer_of, corners_of}
-use Rattle.drawn_mesh.proofs.OuterEdges.{listed}
+use Rattle.mesh_embedding.specs.Drawn.{drawn, faces_of, outer_of, corners_of}
+use Rattle.mesh_embedding.proofs.OuterEdges.{listed}
 use Rattle.delaunay_legalization.specs.State.{State}
-use Rattle.delaunay_legalization.specs.Shape.{IsKept}
+use Rattle.delaunay_legalization.specs.Shape.{IsTriangulated}
 use Rattle.delaunay_edit.specs.Location.{IsMeshEdge, IsMeshFace}
 use Rattle.delaunay_edit.proofs.Edges.{edge_joins, Contains-map}
 use Rattle.delaunay_legalization.proofs.Shapes.{laid_out_tiles, laid_out_distinct}
@@ -42,7 +42,7 @@ face_in_tiling : (points : List Point) (m : Mesh) (i j k : ℕ) → IsTiling (dr
 face_in_tiling points m i j k (inl t) h = t.turning i j k h
 face_in_tiling points m i j k (inr t) h = absurd (no_side points m i j t.no_face (k, h))
 
-module _ {V D U F : Type 0} (at : V → Point) (c : State V D U F) (kept : IsKept at c) where
+module _ {V D U F : Type 0} (at : V → Point) (c : State V D U F) (kept : IsTriangulated at c) where
   abbrev points : List Point
   points = map at c.vertices
 

@@ -9,16 +9,16 @@ use Rattle.plane.specs.Pairs.{Joins}
 use Rattle.plane.specs.Plain.{Replaces}
 use Rattle.plane.specs.Tests.{InRange}
 use Rattle.plane_tiling.specs.Local.{IsMesh}
-use Rattle.drawn_mesh.specs.Drawn.{faces_of, outer_of}
-use Rattle.delaunay_legalization.specs.Fixed.{fixed_of, plain_with}
+use Rattle.mesh_embedding.specs.Drawn.{faces_of, outer_of}
+use Rattle.delaunay_legalization.specs.Constraints.{constraints_by, points_and_constraints_by}
 use Rattle.delaunay_legalization.specs.Known.{point_at}
-use Rattle.delaunay_legalization.specs.Shape.{IsKept}
+use Rattle.delaunay_legalization.specs.Shape.{IsTriangulated}
 use Rattle.delaunay_legalization.specs.State.{State, state_of}
 
 pub same_places : {V : Type 0} (at : V → Point) (vs : List V) (i : ℕ) (v : V) → point_at (map at vs) i ≡ at v → map at (slice_set vs i v) ≡ map at vs
 same_places at vs i v e = map-set at vs i v ∙ ap (λ q. set (map at vs) i q) (sym e) ∙ set-get_or (map at vs) i (record { x = pos 0; y = pos 0 })
 
-pub kept_overwritten : {V D U F : Type 0} (at : V → Point) (c : Contents V D U F) (i : ℕ) (v : V) → IsKept at (state_of c) → i < length c.vertices → point_at (map at c.vertices) i ≡ at v → IsKept at (state_of (record c { vertices = slice_set c.vertices i v }))
+pub kept_overwritten : {V D U F : Type 0} (at : V → Point) (c : Contents V D U F) (i : ℕ) (v : V) → IsTriangulated at (state_of c) → i < length c.vertices → point_at (map at c.vertices) i ≡ at v → IsTriangulated at (state_of (record c { vertices = slice_set c.vertices i v }))
 kept_overwritten at c i v kept h e =
     let count : length (slice_set c.vertices i v) ≡ length c.vertices = length-set c.vertices i v in
     let within : i < length (map at c.vertices) = rw length-map h in
@@ -32,14 +32,14 @@ kept_overwritten at c i v kept h e =
     }
 
 -- the vertex takes the place of that one, and the constraints stay
-pub overwriting_replaces : {V D U F : Type 0} (at : V → Point) (fixed : List U → List ℕ) (old new : State V D U F) (i : ℕ) (v : V) → i < length old.vertices → point_at (map at old.vertices) i ≡ at v → new ≡ record old { vertices = slice_set old.vertices i v }
-    → Replaces at (plain_with fixed old) (plain_with fixed new) i v
-overwriting_replaces at fixed old new i v h e is = record {
+pub overwriting_replaces : {V D U F : Type 0} (at : V → Point) (constraints : List U → List ℕ) (old new : State V D U F) (i : ℕ) (v : V) → i < length old.vertices → point_at (map at old.vertices) i ≡ at v → new ≡ record old { vertices = slice_set old.vertices i v }
+    → Replaces at (points_and_constraints_by constraints old) (points_and_constraints_by constraints new) i v
+overwriting_replaces at constraints old new i v h e is = record {
   here = h;
   same = sym (get_or-map at old.vertices i v (record { x = pos 0; y = pos 0 }) h) ∙ e;
   vertices = ap (λ s. s.vertices) is;
   constraints = λ a b. (
-    subst (λ s. Joins (fixed_of fixed s) a b → Joins (fixed_of fixed old) a b) (sym is) (λ j. j),
-    subst (λ s. Joins (fixed_of fixed old) a b → Joins (fixed_of fixed s) a b) (sym is) (λ j. j),
+    subst (λ s. Joins (constraints_by constraints s) a b → Joins (constraints_by constraints old) a b) (sym is) (λ j. j),
+    subst (λ s. Joins (constraints_by constraints old) a b → Joins (constraints_by constraints s) a b) (sym is) (λ j. j),
   );
 }

@@ -4,11 +4,11 @@ use Rattle.std.specs.Prelude.{All, pos, slice_get}
 use Rattle.std.proofs.lemmas.List.{length-map, get_or-map}
 use Rattle.std.proofs.lemmas.Option.{get_or_from_slice_get, slice_get_within}
 use Rattle.half_edge_links.proofs.OpenSound.{length-swap_remove}
-use Rattle.drawn_mesh.proofs.MeshDrops.{mapped_swap_remove}
+use Rattle.mesh_embedding.proofs.MeshDrops.{mapped_swap_remove}
 use Rattle.plane.specs.Fraction.{Point}
 use Rattle.plane.specs.Plain.{Removes}
 use Rattle.delaunay_legalization.specs.Known.{point_at}
-use Rattle.delaunay_legalization.specs.State.{State, plain_of}
+use Rattle.delaunay_legalization.specs.State.{State, points_and_constraints}
 use Rattle.delaunay_removal.proofs.Removing.{all_left}
 
 -- the data that are read at an index have the position that stands there
@@ -16,7 +16,7 @@ pub read_place : {V : Type 0} (place : V → Point) (vs : List V) (i : ℕ) (v :
 read_place place vs i v e = get_or-map place vs i v (record { x = pos 0; y = pos 0 }) (slice_get_within vs i v e) ∙ ap place (get_or_from_slice_get vs i v v e)
 
 -- ---- what is left
-module _ {V D U F : Type 0} (place : V → Point) (old new : State V D U F) (v : ℕ) (value : V) (removes : Removes place (plain_of old) (plain_of new) v) where
+module _ {V D U F : Type 0} (place : V → Point) (old new : State V D U F) (v : ℕ) (value : V) (removes : Removes place (points_and_constraints old) (points_and_constraints new) v) where
   count : length new.vertices ≡ length old.vertices - 1
   count = ap (λ vs. length vs) (removes.vertices value) ∙ length-swap_remove old.vertices v value
 

@@ -4,7 +4,7 @@ use Rattle.std.specs.List.{AllZip}
 use Rattle.half_edge_links.specs.Triangles.{Triangle, triangles}
 use Rattle.plane.specs.Fraction.{Point, whole, InTriangle}
 use Rattle.plane.specs.Pairs.{place}
-use Rattle.drawn_mesh.specs.Stays.{GoSameWay, HaveSameCorners}
+use Rattle.mesh_embedding.specs.Stays.{GoSameWay, HaveSameCorners}
 use Rattle.delaunay_edit.specs.Location.{IsWithinEdge}
 use Rattle.delaunay_legalization.specs.State.{State}
 

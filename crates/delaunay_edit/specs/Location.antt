@@ -12,7 +12,7 @@ use Rattle.plane.specs.Location.{Location, IsLocation, on_vertex, on_edge, on_fa
 use Rattle.delaunay_edit.specs.declared.position_in_triangulation.PositionInTriangulation.{PositionInTriangulation}
 use Rattle.delaunay_edit.specs.declared.position_in_triangulation.PositionInTriangulation.TheVariants.{OnVertex, OnEdge, OnFace, OutsideOfConvexHull, NoTriangulation}
 use Rattle.delaunay_legalization.specs.Known.{point_at}
-use Rattle.drawn_mesh.specs.Drawn.{drawn}
+use Rattle.mesh_embedding.specs.Drawn.{drawn}
 
 abbrev pub location_of : Mesh → PositionInTriangulation → Location
 location_of m (OnVertex v) = on_vertex v

@@ -2,7 +2,7 @@
 use Rattle.std.specs.Prelude.{◌≡◌, ℕ, Some, slice_get}
 use Rattle.plane.specs.Fraction.{Point}
 use Rattle.plane.specs.Plain.{Removes}
-use Rattle.delaunay_legalization.specs.State.{State, plain_of}
+use Rattle.delaunay_legalization.specs.State.{State, points_and_constraints}
 use Rattle.delaunay_removal.specs.Data.{KeepsDataOfOthers}
 
 -- a vertex at p went, which had this value, and what was not at it has the data that it had
@@ -10,5 +10,5 @@ pub record RemovesAt {V D U F : Type 0} (place : V → Point) (old new : State V
   pub index : ℕ
   pub here : place value ≡ p
   pub had : slice_get old.vertices index ≡ Some value
-  pub plain : Removes place (plain_of old) (plain_of new) index
+  pub plain : Removes place (points_and_constraints old) (points_and_constraints new) index
   pub others : KeepsDataOfOthers old new index

@@ -7,13 +7,13 @@ ghost use Rattle.delaunay_legalization.specs.State.{state_of, triangulation_of};
 
 use crate::triangulation_core::TriangulationCore;
 use delaunay_core::point::HasPosition;
-use delaunay_legalization::EdgeMarks;
+use delaunay_legalization::ConstraintMarker;
 use half_edge_mesh::{FixedDirectedEdgeHandle, FixedFaceHandle, FixedVertexHandle};
 use half_edge_views::{
     DirectedEdgeHandle, FaceHandle, FaceIterator, MeshViews, VertexHandle, VertexIterator,
 };
 
-impl<V: HasPosition, DE, UE, F, M: EdgeMarks<UE>> TriangulationCore<V, DE, UE, F, M> {
+impl<V: HasPosition, DE, UE, F, M: ConstraintMarker<UE>> TriangulationCore<V, DE, UE, F, M> {
     pub fn num_undirected_edges(&self) -> usize
         ensures value { result ≡ length (triangulation_of V.place self.now).edges }
         ensures values { result ≡ length self.now.undirected }

@@ -10,14 +10,14 @@ ghost use Rattle.delaunay_edit.specs.Data.{KeepsData};
 ghost use Rattle.delaunay_legalization.specs.Known.{IsKnown, point_at};
 ghost use Rattle.delaunay_edit.specs.Location.{HasHandle, IsApart, IsLeftOfPlace, Locates};
 ghost use Rattle.delaunay_legalization.specs.Flips.{CountsFlips, FlipsFit};
-ghost use Rattle.delaunay_legalization.specs.State.{state_of, plain_of, triangulation_of};
+ghost use Rattle.delaunay_legalization.specs.State.{state_of, points_and_constraints, triangulation_of};
 
 use crate::insertion_cases::insert_at;
 use crate::position_in_triangulation::PositionInTriangulation;
 use crate::triangulation_core::TriangulationCore;
 use delaunay_core::math::{InsertionError, PlaneTests, validate_vertex};
 use delaunay_core::point::HasPosition;
-use delaunay_legalization::{NoneFixed, legalize_star, reserve_for_edges, turns_left};
+use delaunay_legalization::{NoConstraints, legalize_star, reserve_for_edges, turns_left};
 use half_edge_mesh::{Dcel, FixedVertexHandle, MAX_ELEMENTS, ReserveError};
 
 // Makes room for one more vertex, with the edges and faces that it can bring.
@@ -40,7 +40,7 @@ impl<V: HasPosition + Drop, DE: Default, UE: Default, F: Default> TriangulationC
     DE,
     UE,
     F,
-    NoneFixed,
+    NoConstraints,
 > {
     // The new last vertex, with the edges of the faces at it tested, or a refusal that changes nothing.
     fn append<P: PlaneTests<V::Scalar>>(
@@ -70,7 +70,7 @@ impl<V: HasPosition + Drop, DE: Default, UE: Default, F: Default> TriangulationC
         reserve_for_vertex(&mut self.dcel)?;
         reserve_for_edges(&mut self.work, 3 * (self.dcel.num_vertices() + 1))?;
         let vertex = insert_at(&mut self.dcel, location, turns, value, tests);
-        legalize_star::<NoneFixed, _, _, _, _, _>(
+        legalize_star::<NoConstraints, _, _, _, _, _>(
             &mut self.dcel,
             vertex,
             tests,
@@ -141,7 +141,7 @@ impl<V: HasPosition + Drop, DE: Default, UE: Default, F: Default> TriangulationC
         ensures too_large { IsErrOf result TooLarge ↔ ¬ InRange (V.place value) }
         ensures known { InRange (V.place value) → IsKnown (map V.place self.old.vertices) (V.place value) → IsOk result }
         ensures full { IsErrOf result OutOfIndexes ↔ (InRange (V.place value) × (¬ IsKnown (map V.place self.old.vertices) (V.place value)) × (MAX_ELEMENTS < 6 * (length self.old.vertices + 1))) }
-        ensures ok { IfOk result (λ i. Inserts V.place (plain_of self.old) (plain_of self.new) value i) }
+        ensures ok { IfOk result (λ i. Inserts V.place (points_and_constraints self.old) (points_and_constraints self.new) value i) }
         ensures replaced { IsKnown (map V.place self.old.vertices) (V.place value) → IfOk result (λ i. self.new ≡ record self.old { vertices = slice_set self.old.vertices i value }) }
         ensures tiling { IsTiling (triangulation_of V.place self.new) }
         ensures delaunay { IsConstrainedDelaunay (triangulation_of V.place self.new) [] }
@@ -169,7 +169,7 @@ impl<V: HasPosition + Drop, DE: Default, UE: Default, F: Default> TriangulationC
         ensures too_large { IsErrOf result TooLarge ↔ ¬ InRange (V.place value) }
         ensures known { InRange (V.place value) → IsKnown (map V.place self.old.vertices) (V.place value) → IsOk result }
         ensures full { IsErrOf result OutOfIndexes ↔ (InRange (V.place value) × (¬ IsKnown (map V.place self.old.vertices) (V.place value)) × (MAX_ELEMENTS < 6 * (length self.old.vertices + 1))) }
-        ensures ok { IfOk result (λ i. Inserts V.place (plain_of self.old) (plain_of self.new) value i) }
+        ensures ok { IfOk result (λ i. Inserts V.place (points_and_constraints self.old) (points_and_constraints self.new) value i) }
         ensures replaced { IsKnown (map V.place self.old.vertices) (V.place value) → IfOk result (λ i. self.new ≡ record self.old { vertices = slice_set self.old.vertices i value }) }
         ensures tiling { IsTiling (triangulation_of V.place self.new) }
         ensures delaunay { IsConstrainedDelaunay (triangulation_of V.place self.new) [] }

@@ -6,10 +6,10 @@ ghost use Rattle.half_edge_mesh.specs.Contents.{HasRoom};
 ghost use Rattle.plane.specs.Tests.{InRange};
 ghost use Rattle.delaunay_edit.specs.Data.{GrowsAround};
 ghost use Rattle.delaunay_edit.specs.Location.{IsApart, IsInsideFaceOf, IsLeftOfPlace, IsWithinEdge, Locates};
-ghost use Rattle.delaunay_legalization.specs.Shape.{IsKept};
+ghost use Rattle.delaunay_legalization.specs.Shape.{IsTriangulated};
 ghost use Rattle.delaunay_legalization.specs.Star.{MakesFacesAt};
 ghost use Rattle.delaunay_legalization.specs.State.{state_of};
-ghost use Rattle.drawn_mesh.specs.Drawn.{faces_of};
+ghost use Rattle.mesh_embedding.specs.Drawn.{faces_of};
 
 use crate::insertion_line::{insert_first, insert_past_end, insert_second, insert_within_line};
 use crate::insertion_outside::join_outside;
@@ -25,7 +25,7 @@ pub(crate) fn insert_inside_face<V: HasPosition, DE: Default, UE: Default, F: De
     face: FixedFaceHandle,
     value: V,
 ) -> FixedVertexHandle
-    requires kept { IsKept V.place (state_of dcel.old) }
+    requires kept { IsTriangulated V.place (state_of dcel.old) }
     requires in_range { InRange (V.place value) }
     requires positive { 0 < face }
     requires within { face ≤ length dcel.old.faces }
@@ -33,7 +33,7 @@ pub(crate) fn insert_inside_face<V: HasPosition, DE: Default, UE: Default, F: De
     requires room { HasRoom dcel.old 1 3 2 }
     ensures vertex { result ≡ length dcel.old.vertices }
     ensures vertices { dcel.new.vertices ≡ dcel.old.vertices ++ value ∷ [] }
-    ensures kept { IsKept V.place (state_of dcel.new) }
+    ensures kept { IsTriangulated V.place (state_of dcel.new) }
     ensures grows { GrowsAround (map V.place dcel.old.vertices) (V.place value) (state_of dcel.old) (state_of dcel.new) }
     ensures made { MakesFacesAt (length dcel.old.vertices) (faces_of dcel.old.mesh) (faces_of dcel.new.mesh) }
 {
@@ -48,7 +48,7 @@ pub(crate) fn split_inner_edge<V: HasPosition, DE: Default, UE: Default, F: Defa
     edge: FixedDirectedEdgeHandle,
     value: V,
 ) -> FixedVertexHandle
-    requires kept { IsKept V.place (state_of dcel.old) }
+    requires kept { IsTriangulated V.place (state_of dcel.old) }
     requires in_range { InRange (V.place value) }
     requires within { edge < length dcel.old.directed }
     requires inner { 0 < face dcel.old.mesh edge }
@@ -57,7 +57,7 @@ pub(crate) fn split_inner_edge<V: HasPosition, DE: Default, UE: Default, F: Defa
     requires room { HasRoom dcel.old 1 3 2 }
     ensures vertex { result ≡ length dcel.old.vertices }
     ensures vertices { dcel.new.vertices ≡ dcel.old.vertices ++ value ∷ [] }
-    ensures kept { IsKept V.place (state_of dcel.new) }
+    ensures kept { IsTriangulated V.place (state_of dcel.new) }
     ensures grows { GrowsAround (map V.place dcel.old.vertices) (V.place value) (state_of dcel.old) (state_of dcel.new) }
     ensures made { MakesFacesAt (length dcel.old.vertices) (faces_of dcel.old.mesh) (faces_of dcel.new.mesh) }
 {
@@ -72,7 +72,7 @@ pub(crate) fn split_hull_edge<V: HasPosition, DE: Default, UE: Default, F: Defau
     edge: FixedDirectedEdgeHandle,
     value: V,
 ) -> FixedVertexHandle
-    requires kept { IsKept V.place (state_of dcel.old) }
+    requires kept { IsTriangulated V.place (state_of dcel.old) }
     requires in_range { InRange (V.place value) }
     requires within { edge < length dcel.old.directed }
     requires inner { 0 < face dcel.old.mesh edge }
@@ -81,7 +81,7 @@ pub(crate) fn split_hull_edge<V: HasPosition, DE: Default, UE: Default, F: Defau
     requires room { HasRoom dcel.old 1 2 1 }
     ensures vertex { result ≡ length dcel.old.vertices }
     ensures vertices { dcel.new.vertices ≡ dcel.old.vertices ++ value ∷ [] }
-    ensures kept { IsKept V.place (state_of dcel.new) }
+    ensures kept { IsTriangulated V.place (state_of dcel.new) }
     ensures grows { GrowsAround (map V.place dcel.old.vertices) (V.place value) (state_of dcel.old) (state_of dcel.new) }
     ensures made { MakesFacesAt (length dcel.old.vertices) (faces_of dcel.old.mesh) (faces_of dcel.new.mesh) }
 {
@@ -96,14 +96,14 @@ fn insert_within_edge<V: HasPosition, DE: Default, UE: Default, F: Default>(
     edge: FixedDirectedEdgeHandle,
     value: V,
 ) -> FixedVertexHandle
-    requires kept { IsKept V.place (state_of dcel.old) }
+    requires kept { IsTriangulated V.place (state_of dcel.old) }
     requires in_range { InRange (V.place value) }
     requires within { edge < length dcel.old.directed }
     requires on_edge { IsWithinEdge (map V.place dcel.old.vertices) dcel.old.mesh (V.place value) edge }
     requires room { HasRoomFor dcel.old.room (length dcel.old.vertices + 1) (3 * (length dcel.old.vertices + 1)) (2 * (length dcel.old.vertices + 1)) }
     ensures vertex { result ≡ length dcel.old.vertices }
     ensures vertices { dcel.new.vertices ≡ dcel.old.vertices ++ value ∷ [] }
-    ensures kept { IsKept V.place (state_of dcel.new) }
+    ensures kept { IsTriangulated V.place (state_of dcel.new) }
     ensures grows { GrowsAround (map V.place dcel.old.vertices) (V.place value) (state_of dcel.old) (state_of dcel.new) }
     ensures made { MakesFacesAt (length dcel.old.vertices) (faces_of dcel.old.mesh) (faces_of dcel.new.mesh) }
 {
@@ -133,7 +133,7 @@ pub(crate) fn insert_at<
     value: V,
     tests: &P,
 ) -> FixedVertexHandle
-    requires kept { IsKept V.place (state_of dcel.old) }
+    requires kept { IsTriangulated V.place (state_of dcel.old) }
     requires in_range { InRange (V.place value) }
     requires sites { All (P.sites tests.now) (map V.place dcel.old.vertices) }
     requires new_site { P.sites tests.now (V.place value) }
@@ -143,7 +143,7 @@ pub(crate) fn insert_at<
     requires room { HasRoomFor dcel.old.room (length dcel.old.vertices + 1) (3 * (length dcel.old.vertices + 1)) (2 * (length dcel.old.vertices + 1)) }
     ensures vertex { result ≡ length dcel.old.vertices }
     ensures vertices { dcel.new.vertices ≡ dcel.old.vertices ++ value ∷ [] }
-    ensures kept { IsKept V.place (state_of dcel.new) }
+    ensures kept { IsTriangulated V.place (state_of dcel.new) }
     ensures grows { GrowsAround (map V.place dcel.old.vertices) (V.place value) (state_of dcel.old) (state_of dcel.new) }
     ensures made { MakesFacesAt (length dcel.old.vertices) (faces_of dcel.old.mesh) (faces_of dcel.new.mesh) }
 {

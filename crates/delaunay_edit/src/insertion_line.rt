@@ -8,10 +8,10 @@ ghost use Rattle.plane.specs.Tests.{InRange};
 ghost use Rattle.plane_tiling.specs.Local.{alone};
 ghost use Rattle.delaunay_edit.specs.Data.{GrowsAround};
 ghost use Rattle.delaunay_edit.specs.Location.{IsApart, IsWithinEdge};
-ghost use Rattle.delaunay_legalization.specs.Shape.{IsKept};
+ghost use Rattle.delaunay_legalization.specs.Shape.{IsTriangulated};
 ghost use Rattle.delaunay_legalization.specs.Star.{MakesFacesAt};
 ghost use Rattle.delaunay_legalization.specs.State.{state_of};
-ghost use Rattle.drawn_mesh.specs.Drawn.{faces_of};
+ghost use Rattle.mesh_embedding.specs.Drawn.{faces_of};
 
 use delaunay_core::point::HasPosition;
 use half_edge_mesh::{Dcel, FixedDirectedEdgeHandle, FixedVertexHandle};
@@ -22,13 +22,13 @@ pub(crate) fn insert_first<V: HasPosition, DE, UE, F>(
     dcel: &mut Dcel<V, DE, UE, F>,
     value: V,
 ) -> FixedVertexHandle
-    requires kept { IsKept V.place (state_of dcel.old) }
+    requires kept { IsTriangulated V.place (state_of dcel.old) }
     requires in_range { InRange (V.place value) }
     requires none { length dcel.old.vertices ≡ 0 }
     requires room { HasRoom dcel.old 1 0 0 }
     ensures vertex { result ≡ length dcel.old.vertices }
     ensures vertices { dcel.new.vertices ≡ dcel.old.vertices ++ value ∷ [] }
-    ensures kept { IsKept V.place (state_of dcel.new) }
+    ensures kept { IsTriangulated V.place (state_of dcel.new) }
     ensures grows { GrowsAround (map V.place dcel.old.vertices) (V.place value) (state_of dcel.old) (state_of dcel.new) }
     ensures made { MakesFacesAt (length dcel.old.vertices) (faces_of dcel.old.mesh) (faces_of dcel.new.mesh) }
 {
@@ -42,14 +42,14 @@ pub(crate) fn insert_second<V: HasPosition, DE: Default, UE: Default, F>(
     dcel: &mut Dcel<V, DE, UE, F>,
     value: V,
 ) -> FixedVertexHandle
-    requires kept { IsKept V.place (state_of dcel.old) }
+    requires kept { IsTriangulated V.place (state_of dcel.old) }
     requires in_range { InRange (V.place value) }
     requires apart { IsApart (map V.place dcel.old.vertices) (V.place value) }
     requires one { length dcel.old.vertices ≡ 1 }
     requires room { HasRoom dcel.old 1 1 0 }
     ensures vertex { result ≡ length dcel.old.vertices }
     ensures vertices { dcel.new.vertices ≡ dcel.old.vertices ++ value ∷ [] }
-    ensures kept { IsKept V.place (state_of dcel.new) }
+    ensures kept { IsTriangulated V.place (state_of dcel.new) }
     ensures grows { GrowsAround (map V.place dcel.old.vertices) (V.place value) (state_of dcel.old) (state_of dcel.new) }
     ensures made { MakesFacesAt (length dcel.old.vertices) (faces_of dcel.old.mesh) (faces_of dcel.new.mesh) }
 {
@@ -66,7 +66,7 @@ pub(crate) fn insert_past_end<V: HasPosition, DE: Default, UE: Default, F>(
     edge: FixedDirectedEdgeHandle,
     value: V,
 ) -> FixedVertexHandle
-    requires kept { IsKept V.place (state_of dcel.old) }
+    requires kept { IsTriangulated V.place (state_of dcel.old) }
     requires in_range { InRange (V.place value) }
     requires apart { IsApart (map V.place dcel.old.vertices) (V.place value) }
     requires one_face { length dcel.old.faces ≡ 0 }
@@ -75,7 +75,7 @@ pub(crate) fn insert_past_end<V: HasPosition, DE: Default, UE: Default, F>(
     requires room { HasRoom dcel.old 1 1 0 }
     ensures vertex { result ≡ length dcel.old.vertices }
     ensures vertices { dcel.new.vertices ≡ dcel.old.vertices ++ value ∷ [] }
-    ensures kept { IsKept V.place (state_of dcel.new) }
+    ensures kept { IsTriangulated V.place (state_of dcel.new) }
     ensures grows { GrowsAround (map V.place dcel.old.vertices) (V.place value) (state_of dcel.old) (state_of dcel.new) }
     ensures made { MakesFacesAt (length dcel.old.vertices) (faces_of dcel.old.mesh) (faces_of dcel.new.mesh) }
 {
@@ -91,7 +91,7 @@ pub(crate) fn insert_within_line<V: HasPosition, DE: Default, UE: Default, F>(
     edge: FixedDirectedEdgeHandle,
     value: V,
 ) -> FixedVertexHandle
-    requires kept { IsKept V.place (state_of dcel.old) }
+    requires kept { IsTriangulated V.place (state_of dcel.old) }
     requires in_range { InRange (V.place value) }
     requires one_face { length dcel.old.faces ≡ 0 }
     requires within { edge < length dcel.old.directed }
@@ -99,7 +99,7 @@ pub(crate) fn insert_within_line<V: HasPosition, DE: Default, UE: Default, F>(
     requires room { HasRoom dcel.old 1 1 0 }
     ensures vertex { result ≡ length dcel.old.vertices }
     ensures vertices { dcel.new.vertices ≡ dcel.old.vertices ++ value ∷ [] }
-    ensures kept { IsKept V.place (state_of dcel.new) }
+    ensures kept { IsTriangulated V.place (state_of dcel.new) }
     ensures grows { GrowsAround (map V.place dcel.old.vertices) (V.place value) (state_of dcel.old) (state_of dcel.new) }
     ensures made { MakesFacesAt (length dcel.old.vertices) (faces_of dcel.old.mesh) (faces_of dcel.new.mesh) }
 {

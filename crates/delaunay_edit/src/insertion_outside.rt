@@ -2,7 +2,7 @@
 ghost use Rattle.std.specs.Prelude.{◌≡◌, ◌↔◌, ◌+◌, ◌*◌, ◌<◌, ◌++◌, ◌∷◌, [], length, map, All, IsTrue, IfSome, IfNone};
 ghost use Rattle.half_edge_links.specs.Mesh.{origin, next, prev, rev, face};
 ghost use Rattle.half_edge_links.specs.Room.{HasRoomFor};
-ghost use Rattle.half_edge_mesh.specs.Contents.{IsWhole};
+ghost use Rattle.half_edge_mesh.specs.Contents.{IsMeshWithData};
 ghost use Rattle.plane.specs.Fraction.{whole as fraction};
 ghost use Rattle.plane.specs.Side.{TurnsLeft};
 ghost use Rattle.plane.specs.Pairs.{place};
@@ -11,10 +11,10 @@ ghost use Rattle.delaunay_core.specs.Place.{place_of};
 ghost use Rattle.delaunay_edit.specs.Data.{GrowsAround};
 ghost use Rattle.delaunay_edit.specs.Joining.{Sees};
 ghost use Rattle.delaunay_legalization.specs.Known.{point_at};
-ghost use Rattle.delaunay_legalization.specs.Shape.{IsKept};
+ghost use Rattle.delaunay_legalization.specs.Shape.{IsTriangulated};
 ghost use Rattle.delaunay_legalization.specs.Star.{MakesFacesAt};
 ghost use Rattle.delaunay_legalization.specs.State.{state_of};
-ghost use Rattle.drawn_mesh.specs.Drawn.{faces_of};
+ghost use Rattle.mesh_embedding.specs.Drawn.{faces_of};
 
 use delaunay_core::math::PlaneTests;
 use delaunay_core::point::{HasPosition, Point2};
@@ -61,7 +61,7 @@ fn seen_after<V: HasPosition, DE, UE, F, P: PlaneTests<V::Scalar>>(
     requires within { edge < length dcel.now.directed }
     requires vertex { vertex < length dcel.now.vertices }
     requires sites { All (P.sites tests.now) (map V.place dcel.now.vertices) }
-    ensures whole { IsWhole dcel.now }
+    ensures whole { IsMeshWithData dcel.now }
     ensures is { IfSome result (λ e. e ≡ next dcel.now.mesh edge) }
     ensures some { IfSome result (λ e. Sees (map V.place dcel.now.vertices) dcel.now.mesh vertex e) }
     ensures none { IfNone result (¬ Sees (map V.place dcel.now.vertices) dcel.now.mesh vertex (next dcel.now.mesh edge)) }
@@ -85,7 +85,7 @@ fn seen_before<V: HasPosition, DE, UE, F, P: PlaneTests<V::Scalar>>(
     requires within { edge < length dcel.now.directed }
     requires vertex { vertex < length dcel.now.vertices }
     requires sites { All (P.sites tests.now) (map V.place dcel.now.vertices) }
-    ensures whole { IsWhole dcel.now }
+    ensures whole { IsMeshWithData dcel.now }
     ensures is { IfSome result (λ e. (e ≡ prev dcel.now.mesh edge) × (e < length dcel.now.directed)) }
     ensures some { IfSome result (λ e. Sees (map V.place dcel.now.vertices) dcel.now.mesh vertex e) }
     ensures none { IfNone result (¬ Sees (map V.place dcel.now.vertices) dcel.now.mesh vertex (prev dcel.now.mesh edge)) }
@@ -112,7 +112,7 @@ pub(crate) fn join_outside<
     value: V,
     tests: &P,
 ) -> FixedVertexHandle
-    requires kept { IsKept V.place (state_of dcel.old) }
+    requires kept { IsTriangulated V.place (state_of dcel.old) }
     requires in_range { InRange (V.place value) }
     requires sites { All (P.sites tests.now) (map V.place dcel.old.vertices) }
     requires new_site { P.sites tests.now (V.place value) }
@@ -122,7 +122,7 @@ pub(crate) fn join_outside<
     requires room { HasRoomFor dcel.old.room (length dcel.old.vertices + 1) (3 * (length dcel.old.vertices + 1)) (2 * (length dcel.old.vertices + 1)) }
     ensures vertex { result ≡ length dcel.old.vertices }
     ensures vertices { dcel.new.vertices ≡ dcel.old.vertices ++ value ∷ [] }
-    ensures kept { IsKept V.place (state_of dcel.new) }
+    ensures kept { IsTriangulated V.place (state_of dcel.new) }
     ensures grows { GrowsAround (map V.place dcel.old.vertices) (V.place value) (state_of dcel.old) (state_of dcel.new) }
     ensures made { MakesFacesAt (length dcel.old.vertices) (faces_of dcel.old.mesh) (faces_of dcel.new.mesh) }
 {

@@ -2,7 +2,7 @@
 #![tactic(auto)]
 
 mod elements;
-mod fixed_edges;
+mod constraint_edges;
 mod insertion;
 mod insertion_cases;
 mod insertion_line;

@@ -14,11 +14,11 @@ use crate::triangulation_core::TriangulationCore;
 use delaunay_core::math::PlaneTests;
 use delaunay_core::point::{HasPosition, Point2};
 use delaunay_legalization::{
-    EdgeMarks, is_same_point, is_strictly_inside, is_strictly_within, turns_left,
+    ConstraintMarker, is_same_point, is_strictly_inside, is_strictly_within, turns_left,
 };
 use half_edge_mesh::{FixedDirectedEdgeHandle, FixedFaceHandle, FixedVertexHandle};
 
-impl<V: HasPosition, DE, UE, F, M: EdgeMarks<UE>> TriangulationCore<V, DE, UE, F, M> {
+impl<V: HasPosition, DE, UE, F, M: ConstraintMarker<UE>> TriangulationCore<V, DE, UE, F, M> {
     /// The vertex at a position.
     pub fn vertex_at(&self, point: Point2<V::Scalar>) -> Option<FixedVertexHandle>
         ensures { let points = map V.place self.now.vertices in let p = place_of V.Scalar.whole point in MatchOption result (IsApart points p) (λ v. (v < length self.now.vertices) × (point_at points v ≡ p)) }

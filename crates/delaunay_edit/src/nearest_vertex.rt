@@ -10,10 +10,10 @@ ghost use Rattle.delaunay_legalization.specs.State.{triangulation_of};
 
 use crate::triangulation_core::TriangulationCore;
 use delaunay_core::point::{HasPosition, Point2};
-use delaunay_legalization::EdgeMarks;
+use delaunay_legalization::ConstraintMarker;
 use half_edge_mesh::FixedVertexHandle;
 
-impl<V: HasPosition, DE, UE, F, M: EdgeMarks<UE>> TriangulationCore<V, DE, UE, F, M> {
+impl<V: HasPosition, DE, UE, F, M: ConstraintMarker<UE>> TriangulationCore<V, DE, UE, F, M> {
     // The squared distance from a position to a vertex.
     fn distance_2_to(&self, vertex: FixedVertexHandle, point: Point2<V::Scalar>) -> i64
         requires within { vertex < length self.now.vertices }

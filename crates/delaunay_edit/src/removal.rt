@@ -5,21 +5,21 @@ ghost use Rattle.plane.specs.Plain.{IsCleared, Removes, Replaces};
 ghost use Rattle.plane.specs.Tiling.{IsFace, IsTiling};
 ghost use Rattle.plane.specs.Delaunay.{IsConstrainedDelaunay, IsStrictlyEmpty};
 ghost use Rattle.delaunay_core.specs.Place.{place_of};
-ghost use Rattle.delaunay_legalization.specs.Fixed.{fixed_of, plain_with};
+ghost use Rattle.delaunay_legalization.specs.Constraints.{constraints_by, points_and_constraints_by};
 ghost use Rattle.delaunay_legalization.specs.Known.{IsKnown, point_at};
-ghost use Rattle.delaunay_legalization.specs.State.{plain_of, triangulation_of};
+ghost use Rattle.delaunay_legalization.specs.State.{points_and_constraints, triangulation_of};
 ghost use Rattle.delaunay_removal.specs.Data.{KeepsDataOfOthers};
 ghost use Rattle.delaunay_edit.specs.Removal.{RemovesAt};
 
 use crate::triangulation_core::TriangulationCore;
 use delaunay_core::math::PlaneTests;
 use delaunay_core::point::{HasPosition, Point2};
-use delaunay_legalization::{EdgeMarks, NoneFixed, legalize_all};
+use delaunay_legalization::{ConstraintMarker, NoConstraints, legalize_all};
 use delaunay_removal::remove_vertex;
 use half_edge_mesh::FixedVertexHandle;
 use std::alloc::AllocError;
 
-impl<V: HasPosition, DE, UE, F, M: EdgeMarks<UE>> TriangulationCore<V, DE, UE, F, M> {
+impl<V: HasPosition, DE, UE, F, M: ConstraintMarker<UE>> TriangulationCore<V, DE, UE, F, M> {
     /// Exchanges a vertex for one of the same position, and gives the old one back.
     pub fn replace_vertex(&mut self, vertex: FixedVertexHandle, value: V) -> V
         requires within { vertex < length self.old.vertices }
@@ -27,10 +27,10 @@ impl<V: HasPosition, DE, UE, F, M: EdgeMarks<UE>> TriangulationCore<V, DE, UE, F
 
         ensures value { slice_get self.old.vertices vertex ≡ Some result }
         ensures new { self.new ≡ record self.old { vertices = slice_set self.old.vertices vertex value } }
-        ensures plain { Replaces V.place (plain_with M.fixed self.old) (plain_with M.fixed self.new) vertex value }
+        ensures plain { Replaces V.place (points_and_constraints_by M.constraints self.old) (points_and_constraints_by M.constraints self.new) vertex value }
         ensures tiling { IsTiling (triangulation_of V.place self.new) }
-        ensures delaunay { IsConstrainedDelaunay (triangulation_of V.place self.new) (fixed_of M.fixed self.new) }
-        ensures empty_triples { fixed_of M.fixed self.new ≡ [] → (i j k : ℕ) → IsStrictlyEmpty (triangulation_of V.place self.new) i j k → IsFace (triangulation_of V.place self.new) i j k }
+        ensures delaunay { IsConstrainedDelaunay (triangulation_of V.place self.new) (constraints_by M.constraints self.new) }
+        ensures empty_triples { constraints_by M.constraints self.new ≡ [] → (i j k : ℕ) → IsStrictlyEmpty (triangulation_of V.place self.new) i j k → IsFace (triangulation_of V.place self.new) i j k }
     {
         let former = self.dcel.update_vertex(vertex, value);
         let _ = self.num_vertices();
@@ -38,7 +38,7 @@ impl<V: HasPosition, DE, UE, F, M: EdgeMarks<UE>> TriangulationCore<V, DE, UE, F
     }
 }
 
-impl<V: HasPosition, DE: Drop, UE: Drop, F: Drop> TriangulationCore<V, DE, UE, F, NoneFixed> {
+impl<V: HasPosition, DE: Drop, UE: Drop, F: Drop> TriangulationCore<V, DE, UE, F, NoConstraints> {
     // Takes a vertex out and tests each edge of what is left, or a refusal that changes nothing.
     fn take_out<P: PlaneTests<V::Scalar>>(
         &mut self,
@@ -48,7 +48,7 @@ impl<V: HasPosition, DE: Drop, UE: Drop, F: Drop> TriangulationCore<V, DE, UE, F
         requires within { vertex < length self.old.vertices }
         requires sites { All (P.sites tests.now) (map V.place self.old.vertices) }
         ensures value { IfOk result (λ v. slice_get self.old.vertices vertex ≡ Some v) }
-        ensures plain { OnOk result (Removes V.place (plain_of self.old) (plain_of self.new) vertex) }
+        ensures plain { OnOk result (Removes V.place (points_and_constraints self.old) (points_and_constraints self.new) vertex) }
         ensures outer { self.new.outer ≡ self.old.outer }
         ensures data { OnOk result (KeepsDataOfOthers self.old self.new vertex) }
         ensures err { OnErr result (self.new ≡ self.old) }
@@ -58,7 +58,7 @@ impl<V: HasPosition, DE: Drop, UE: Drop, F: Drop> TriangulationCore<V, DE, UE, F
         self.sides.reserve(self.dcel.num_directed_edges())?;
         let value = remove_vertex(&mut self.dcel, vertex, tests, &mut self.sides);
         let mut flips = 0;
-        legalize_all::<NoneFixed, _, _, _, _, _>(&mut self.dcel, tests, &mut self.work, &mut flips);
+        legalize_all::<NoConstraints, _, _, _, _, _>(&mut self.dcel, tests, &mut self.work, &mut flips);
         Ok(value)
     }
 
@@ -73,7 +73,7 @@ impl<V: HasPosition, DE: Drop, UE: Drop, F: Drop> TriangulationCore<V, DE, UE, F
         requires sites { All (P.sites tests.now) (map V.place self.old.vertices) }
 
         ensures value { IfOk result (λ v. slice_get self.old.vertices vertex ≡ Some v) }
-        ensures plain { OnOk result (Removes V.place (plain_of self.old) (plain_of self.new) vertex) }
+        ensures plain { OnOk result (Removes V.place (points_and_constraints self.old) (points_and_constraints self.new) vertex) }
         ensures tiling { IsTiling (triangulation_of V.place self.new) }
         ensures delaunay { IsConstrainedDelaunay (triangulation_of V.place self.new) [] }
         ensures empty_triples { (i j k : ℕ) → IsStrictlyEmpty (triangulation_of V.place self.new) i j k → IsFace (triangulation_of V.place self.new) i j k }
@@ -112,7 +112,7 @@ impl<V: HasPosition, DE: Drop, UE: Drop, F: Drop> TriangulationCore<V, DE, UE, F
     }
 }
 
-impl<V: HasPosition + Drop, DE: Drop, UE: Drop, F: Drop, M: EdgeMarks<UE>> TriangulationCore<
+impl<V: HasPosition + Drop, DE: Drop, UE: Drop, F: Drop, M: ConstraintMarker<UE>> TriangulationCore<
     V,
     DE,
     UE,
@@ -122,7 +122,7 @@ impl<V: HasPosition + Drop, DE: Drop, UE: Drop, F: Drop, M: EdgeMarks<UE>> Trian
     /// Forgets each vertex, each edge and each inner face. The outer face keeps its data, and the room stays.
     pub fn clear(&mut self)
         ensures new { self.new ≡ record self.old { vertices = []; mesh = empty; directed = []; undirected = []; faces = [] } }
-        ensures plain { IsCleared V.place (plain_with M.fixed self.new) }
+        ensures plain { IsCleared V.place (points_and_constraints_by M.constraints self.new) }
         ensures tiling { IsTiling (triangulation_of V.place self.new) }
         ensures delaunay { IsConstrainedDelaunay (triangulation_of V.place self.new) [] }
         ensures empty_triples { (i j k : ℕ) → IsStrictlyEmpty (triangulation_of V.place self.new) i j k → IsFace (triangulation_of V.place self.new) i j k }

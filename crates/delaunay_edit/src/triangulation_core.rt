@@ -6,13 +6,13 @@ ghost use Rattle.plane.specs.Tiling.{IsTiling, IsFace};
 ghost use Rattle.plane.specs.Delaunay.{IsConstrainedDelaunay, IsStrictlyEmpty};
 ghost use Rattle.delaunay_core.specs.Place.{place_of};
 ghost use Rattle.delaunay_legalization.specs.State.{triangulation_of};
-ghost use Rattle.delaunay_legalization.specs.Fixed.{fixed_of};
+ghost use Rattle.delaunay_legalization.specs.Constraints.{constraints_by};
 ghost use Rattle.delaunay_legalization.specs.Known.{point_at};
-ghost use Rattle.delaunay_legalization.specs.Shape.{IsKept};
+ghost use Rattle.delaunay_legalization.specs.Shape.{IsTriangulated};
 ghost use Rattle.delaunay_edit.specs.Location.{IsMeshEdge, IsMeshFace};
 
 use delaunay_core::point::{HasPosition, Point2};
-use delaunay_legalization::EdgeMarks;
+use delaunay_legalization::ConstraintMarker;
 use half_edge_mesh::{
     Dcel, FixedDirectedEdgeHandle, FixedFaceHandle, FixedUndirectedEdgeHandle, FixedVertexHandle,
     MAX_ELEMENTS,
@@ -22,10 +22,10 @@ use std::alloc::Global;
 use std::marker::{Model, PhantomData};
 
 /// A triangulation of vertices with different positions: its faces tile the hull of the positions, or its edges join the
-/// positions of one line to their neighbours. The constraints are the edges that the marker `M` finds fixed by their data,
+/// positions of one line to their neighbours. The constraints are the edges that the marker `M` finds by their data,
 /// and no face has a vertex strictly inside its circle that is seen from inside the face past the constraints.
 #[derive(Drop)]
-pub struct TriangulationCore<V: HasPosition, DE, UE, F, M: EdgeMarks<UE>> {
+pub struct TriangulationCore<V: HasPosition, DE, UE, F, M: ConstraintMarker<UE>> {
     pub(crate) dcel: Dcel<V, DE, UE, F>,
     // The edges that a legalization has still to test: none between edits, but the room for them stays.
     pub(crate) work: Vec<FixedUndirectedEdgeHandle>,
@@ -34,18 +34,18 @@ pub struct TriangulationCore<V: HasPosition, DE, UE, F, M: EdgeMarks<UE>> {
     pub(crate) marks: PhantomData<M>,
 }
 
-impl<V: HasPosition, DE, UE, F, M: EdgeMarks<UE>> Model for TriangulationCore<V, DE, UE, F, M> {
+impl<V: HasPosition, DE, UE, F, M: ConstraintMarker<UE>> Model for TriangulationCore<V, DE, UE, F, M> {
     ghost use Rattle.delaunay_legalization.specs.State.{State, state_of};
-    ghost use Rattle.delaunay_legalization.specs.Shape.{IsLegal};
+    ghost use Rattle.delaunay_legalization.specs.Shape.{IsDelaunayTriangulation};
 
     ghost Value = { State V DE UE F };
 
     ghost view = { λ c. state_of c.dcel };
 
-    ghost invariant = { λ c. IsLegal V.place M.fixed (state_of c.dcel) };
+    ghost invariant = { λ c. IsDelaunayTriangulation V.place M.constraints (state_of c.dcel) };
 }
 
-impl<V: HasPosition, DE, UE, F, M: EdgeMarks<UE>> TriangulationCore<V, DE, UE, F, M> {
+impl<V: HasPosition, DE, UE, F, M: ConstraintMarker<UE>> TriangulationCore<V, DE, UE, F, M> {
     /// No vertex, no edge, and the outer face with default data.
     pub fn new(alloc: Global) -> Self
     where
@@ -56,7 +56,7 @@ impl<V: HasPosition, DE, UE, F, M: EdgeMarks<UE>> TriangulationCore<V, DE, UE, F
         ensures undirected { result.undirected ≡ [] }
         ensures outer { F.is_default result.outer }
         ensures faces { result.faces ≡ [] }
-        ensures constraints { fixed_of M.fixed result ≡ [] }
+        ensures constraints { constraints_by M.constraints result ≡ [] }
         ensures tiling { IsTiling (triangulation_of V.place result) }
         ensures delaunay { IsConstrainedDelaunay (triangulation_of V.place result) [] }
     {
@@ -73,10 +73,10 @@ impl<V: HasPosition, DE, UE, F, M: EdgeMarks<UE>> TriangulationCore<V, DE, UE, F
     pub fn num_vertices(&self) -> usize
         ensures value { result ≡ length self.now.vertices }
         ensures small { result ≤ MAX_ELEMENTS }
-        ensures kept { IsKept V.place self.now }
+        ensures kept { IsTriangulated V.place self.now }
         ensures tiling { IsTiling (triangulation_of V.place self.now) }
-        ensures delaunay { IsConstrainedDelaunay (triangulation_of V.place self.now) (fixed_of M.fixed self.now) }
-        ensures empty_triples { fixed_of M.fixed self.now ≡ [] → (i j k : ℕ) → IsStrictlyEmpty (triangulation_of V.place self.now) i j k → IsFace (triangulation_of V.place self.now) i j k }
+        ensures delaunay { IsConstrainedDelaunay (triangulation_of V.place self.now) (constraints_by M.constraints self.now) }
+        ensures empty_triples { constraints_by M.constraints self.now ≡ [] → (i j k : ℕ) → IsStrictlyEmpty (triangulation_of V.place self.now) i j k → IsFace (triangulation_of V.place self.now) i j k }
     {
         self.dcel.num_vertices()
     }

@@ -4,10 +4,10 @@ use Rattle.std.proofs.lemmas.List.{length-map}
 use Rattle.half_edge_links.specs.Outline.{ends}
 use Rattle.half_edge_links.specs.Triangles.{triangle_at, triangles}
 use Rattle.half_edge_links.proofs.Ends.{length-ends_twice}
-use Rattle.half_edge_mesh.specs.Contents.{Contents, IsWhole}
-use Rattle.drawn_mesh.specs.Drawn.{corners_of, pair_of, edges_of, faces_of}
+use Rattle.half_edge_mesh.specs.Contents.{Contents, IsMeshWithData}
+use Rattle.mesh_embedding.specs.Drawn.{corners_of, pair_of, edges_of, faces_of}
 
-module _ {V D U F : Type 0} (c : Contents V D U F) (w : IsWhole c) where
+module _ {V D U F : Type 0} (c : Contents V D U F) (w : IsMeshWithData c) where
   pub edges_counted : length c.undirected ≡ length (edges_of c.mesh)
   edges_counted =
       let pairs = w.fits.undirected_fit in

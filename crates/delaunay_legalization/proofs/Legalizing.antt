@@ -8,7 +8,7 @@ use Rattle.std.proofs.Math.Dec.{eqb}
 use Rattle.std.proofs.lemmas.Bool.Decides.{Decides-eqb}
 use Rattle.std.proofs.lemmas.List.Elements.{contains_decides, Decides-contains}
 use Rattle.half_edge_mesh.specs.Contents.{Contents}
-use Rattle.half_edge_links.specs.Mesh.{Mesh, origin, next, prev, face, rev, IsValid}
+use Rattle.half_edge_links.specs.Mesh.{Mesh, origin, next, prev, face, rev, IsValidMesh}
 use Rattle.half_edge_links.specs.Flip.{IsFlippable, flipped}
 use Rattle.half_edge_links.proofs.FlipLemmas.{flips}
 use Rattle.plane.specs.Fraction.{Point, whole}
@@ -20,13 +20,13 @@ use Rattle.plane.specs.Delaunay.{IsLocallyDelaunay}
 use Rattle.plane_edits.specs.Legal.{AllPassBut}
 use Rattle.plane_edits.proofs.Flipping.{none_left}
 use Rattle.std.proofs.lemmas.List.{length-map}
-use Rattle.drawn_mesh.specs.Drawn.{drawn, faces_of, edges_of, outer_of}
-use Rattle.drawn_mesh.specs.Legal.{AreEdges, IsFailing, IsPartlyLegal, Gains, GainsRound, pairs_at, steps_left}
-use Rattle.drawn_mesh.specs.Stays.{KeepsIndexes}
-use Rattle.drawn_mesh.proofs.MeshEdits.{face_before}
-use Rattle.drawn_mesh.proofs.MeshLegal as M
-use Rattle.drawn_mesh.proofs.WorkLists.{contains_last, contains_before, once_before}
-use Rattle.delaunay_legalization.specs.Fixed.{fixed_pairs}
+use Rattle.mesh_embedding.specs.Drawn.{drawn, faces_of, edges_of, outer_of}
+use Rattle.mesh_embedding.specs.Legal.{AreEdges, IsFailing, IsPartlyLegal, Gains, GainsRound, pairs_at, steps_left}
+use Rattle.mesh_embedding.specs.Stays.{KeepsIndexes}
+use Rattle.mesh_embedding.proofs.MeshEdits.{face_before}
+use Rattle.mesh_embedding.proofs.MeshLegal as M
+use Rattle.mesh_embedding.proofs.WorkLists.{contains_last, contains_before, once_before}
+use Rattle.delaunay_legalization.specs.Constraints.{constraint_pairs}
 use Rattle.delaunay_legalization.specs.Known.{point_at}
 
 pub edges_before : (m : Mesh) (ks : List ℕ) (k : ℕ) → AreEdges m (ks ++ k ∷ []) → AreEdges m ks
@@ -38,7 +38,7 @@ last_edge_within m ks k n e o = let h = o.within k (contains_last ks k) in omega
 pub last_within : (m : Mesh) (ks : List ℕ) (k n : ℕ) → n ≡ length m.half_edges → AreEdges m (ks ++ k ∷ []) → (2 * k) < n
 last_within m ks k n e o = let h = o.within k (contains_last ks k) in omega (arith, h, e)
 
-module _ (points : List Point) (m : Mesh) (s : IsValid m) (shape : IsMesh points (faces_of m) (outer_of m)) (e n : ℕ) (count : n ≡ length m.half_edges) (within : e < n) where
+module _ (points : List Point) (m : Mesh) (s : IsValidMesh m) (shape : IsMesh points (faces_of m) (outer_of m)) (e n : ℕ) (count : n ≡ length m.half_edges) (within : e < n) where
   in_mesh : e < length m.half_edges
   in_mesh = omega (arith, count, within)
 
@@ -70,19 +70,19 @@ pub not_none : (n : ℕ) → 0 < n → ¬ (n ≡ 0)
 not_none n h e = omega arith
 
 -- ---- one step
-pub turned_by : (points : List Point) (fixed : List (ℕ × ℕ)) (was m new : Mesh) (ks more : List ℕ) (k start before after : ℕ) → IsValid m → new ≡ flipped m (2 * k) → after ≡ before + 1 → IsFailing points m (2 * k) → GainsRound m (2 * k) ks more → AreEdges m more → IsPartlyLegal points fixed was m (ks ++ k ∷ []) start before → IsPartlyLegal points fixed was new more start after
-turned_by points fixed was m new ks more k start before after s e f x g o p = subst (λ (y : Mesh × ℕ). IsPartlyLegal points fixed was y.0 more start y.1) (λ i. (sym e i, sym (f ∙ one_more before) i)) (M.turned points fixed was m ks k start before s p x more g o)
+pub turned_by : (points : List Point) (constraints : List (ℕ × ℕ)) (was m new : Mesh) (ks more : List ℕ) (k start before after : ℕ) → IsValidMesh m → new ≡ flipped m (2 * k) → after ≡ before + 1 → IsFailing points m (2 * k) → GainsRound m (2 * k) ks more → AreEdges m more → IsPartlyLegal points constraints was m (ks ++ k ∷ []) start before → IsPartlyLegal points constraints was new more start after
+turned_by points constraints was m new ks more k start before after s e f x g o p = subst (λ (y : Mesh × ℕ). IsPartlyLegal points constraints was y.0 more start y.1) (λ i. (sym e i, sym (f ∙ one_more before) i)) (M.turned points constraints was m ks k start before s p x more g o)
   where
     one_more : (n : ℕ) → n + 1 ≡ suc n
     one_more n = omega arith
 
--- the turned edge is not fixed, so the fixed ones keep their ends
-pub fixed_stay : {U : Type 0} (fixed : List U → List ℕ) (points : List Point) (m new : Mesh) (ds after : List U) (k : ℕ) → IsValid m → IsMesh points (faces_of m) (outer_of m) → (2 * k) < length m.half_edges → IsFailing points m (2 * k) → new ≡ flipped m (2 * k) → after ≡ ds → ¬ Contains (fixed ds) k
-    → fixed_pairs fixed new after ≡ fixed_pairs fixed m ds
-fixed_stay {U = U} fixed points m new ds after k s shape within x e f free =
-    ap (λ (y : Mesh × List U). fixed_pairs fixed y.0 y.1) (λ i. (e i, f i)) ∙ M.pairs_stay points m s (M.local_of points m (2 * k) s.sound shape (within, x.inner)) k within x (fixed ds) free
+-- the turned edge is no constraint, so the constraints keep their ends
+pub fixed_stay : {U : Type 0} (constraints : List U → List ℕ) (points : List Point) (m new : Mesh) (ds after : List U) (k : ℕ) → IsValidMesh m → IsMesh points (faces_of m) (outer_of m) → (2 * k) < length m.half_edges → IsFailing points m (2 * k) → new ≡ flipped m (2 * k) → after ≡ ds → ¬ Contains (constraints ds) k
+    → constraint_pairs constraints new after ≡ constraint_pairs constraints m ds
+fixed_stay {U = U} constraints points m new ds after k s shape within x e f free =
+    ap (λ (y : Mesh × List U). constraint_pairs constraints y.0 y.1) (λ i. (e i, f i)) ∙ M.pairs_stay points m s (M.local_of points m (2 * k) s.sound shape (within, x.inner)) k within x (constraints ds) free
 
-pub fewer_by : (points : List Point) (m new : Mesh) (ks more : List ℕ) (k : ℕ) → IsValid m → IsMesh points (faces_of m) (outer_of m) → new ≡ flipped m (2 * k) → IsFailing points m (2 * k) → AreEdges m (ks ++ k ∷ []) → AreEdges m more → steps_left points new more < steps_left points m (ks ++ k ∷ [])
+pub fewer_by : (points : List Point) (m new : Mesh) (ks more : List ℕ) (k : ℕ) → IsValidMesh m → IsMesh points (faces_of m) (outer_of m) → new ≡ flipped m (2 * k) → IsFailing points m (2 * k) → AreEdges m (ks ++ k ∷ []) → AreEdges m more → steps_left points new more < steps_left points m (ks ++ k ∷ [])
 fewer_by points m new ks more k s shape e x own o = subst (λ y. steps_left points y more < steps_left points m (ks ++ k ∷ [])) (sym e)
     (M.fewer_after_flip points m (flipped m (2 * k)) (ks ++ k ∷ []) more (M.volume_falls points m s local (2 * k) within x) (flips m (2 * k) s.sound (M.can_turn points m s local (2 * k) within x)).edge_count o)
   where
@@ -100,12 +100,12 @@ round_gained m e a b c d one two three four five p q r s f g h i =
 -- what holds from one edge to the next
 pub record IsUnderway {V D U F : Type 0} (fix : List U → List ℕ) (points : List Point) (was now : Contents V D U F) (ks : List ℕ) (room_was room start flips : ℕ) : Type 0 where
   pub contents : now ≡ record was { mesh = now.mesh }
-  pub fixed : fixed_pairs fix now.mesh now.undirected ≡ fixed_pairs fix was.mesh was.undirected
-  pub legal : IsPartlyLegal points (fixed_pairs fix was.mesh was.undirected) was.mesh now.mesh ks start flips
+  pub constraints : constraint_pairs fix now.mesh now.undirected ≡ constraint_pairs fix was.mesh was.undirected
+  pub legal : IsPartlyLegal points (constraint_pairs fix was.mesh was.undirected) was.mesh now.mesh ks start flips
   pub room_stays : room ≡ room_was
 
-pub one_more_fits : (points : List Point) (fixed : List (ℕ × ℕ)) (was m : Mesh) (ks : List ℕ) (k start flips n : ℕ) → IsValid m → IsPartlyLegal points fixed was m (ks ++ k ∷ []) start flips → length points ≡ n → 2 * start + n * (n - 1) < 2 ^ 65 → IsFailing points m (2 * k) → flips + 1 < 2 ^ 64
-one_more_fits points fixed was m ks k start flips n s p e h x = fits start (length p.away) flips (n * (n - 1)) p.count h (subst (λ (z : ℕ). 2 * suc (length p.away) ≤ z * (z - 1)) e (M.one_more_flip points fixed was m ks k start flips s p x))
+pub one_more_fits : (points : List Point) (constraints : List (ℕ × ℕ)) (was m : Mesh) (ks : List ℕ) (k start flips n : ℕ) → IsValidMesh m → IsPartlyLegal points constraints was m (ks ++ k ∷ []) start flips → length points ≡ n → 2 * start + n * (n - 1) < 2 ^ 65 → IsFailing points m (2 * k) → flips + 1 < 2 ^ 64
+one_more_fits points constraints was m ks k start flips n s p e h x = fits start (length p.away) flips (n * (n - 1)) p.count h (subst (λ (z : ℕ). 2 * suc (length p.away) ≤ z * (z - 1)) e (M.one_more_flip points constraints was m ks k start flips s p x))
   where
     fits : (start a flips q : ℕ) → start + a ≡ flips → 2 * start + q < 2 ^ 65 → 2 * suc a ≤ q → flips + 1 < 2 ^ 64
     fits start a flips q c h b = omega arith
@@ -134,12 +134,12 @@ found xs ys x r e h = subst (λ zs. Decides r (Contains zs x)) e (Decides-contai
 pub fits_len : (xs ys : List ℕ) (v room : ℕ) → ys ≡ xs → length ys ≡ v → length xs < room → v < room
 fits_len xs ys v room e f h = subst (λ (z : ℕ). z < room) (sym (ap (λ zs. length zs) e) ∙ f) h
 
-pub underway_begins : {V D U F : Type 0} (fix : List U → List ℕ) (points : List Point) (c : Contents V D U F) (ks : List ℕ) (room start : ℕ) → IsMesh points (faces_of c.mesh) (outer_of c.mesh) → AreEdges c.mesh ks → AllPassBut points (faces_of c.mesh) (fixed_pairs fix c.mesh c.undirected) (pairs_at c.mesh ks) → IsUnderway fix points c c ks room room start start
-underway_begins fix points c ks room start shape edges passing = record { contents = refl; fixed = refl; legal = M.begins points (fixed_pairs fix c.mesh c.undirected) c.mesh ks start shape edges passing; room_stays = refl }
+pub underway_begins : {V D U F : Type 0} (fix : List U → List ℕ) (points : List Point) (c : Contents V D U F) (ks : List ℕ) (room start : ℕ) → IsMesh points (faces_of c.mesh) (outer_of c.mesh) → AreEdges c.mesh ks → AllPassBut points (faces_of c.mesh) (constraint_pairs fix c.mesh c.undirected) (pairs_at c.mesh ks) → IsUnderway fix points c c ks room room start start
+underway_begins fix points c ks room start shape edges passing = record { contents = refl; constraints = refl; legal = M.begins points (constraint_pairs fix c.mesh c.undirected) c.mesh ks start shape edges passing; room_stays = refl }
 
 module _ {V D U F : Type 0} (at : V → Point) (fix : List U → List ℕ) (was now : Contents V D U F) (all : List ℕ) (room_was room start flips : ℕ) (u : IsUnderway fix (map at was.vertices) was now all room_was room start flips) where
   abbrev fixed_first : List (ℕ × ℕ)
-  fixed_first = fixed_pairs fix was.mesh was.undirected
+  fixed_first = constraint_pairs fix was.mesh was.undirected
 
   same_vertices : now.vertices ≡ was.vertices
   same_vertices = ap (λ (c : Contents V D U F). c.vertices) u.contents
@@ -148,22 +148,22 @@ module _ {V D U F : Type 0} (at : V → Point) (fix : List U → List ℕ) (was 
     before_step : IsPartlyLegal (map at was.vertices) fixed_first was.mesh now.mesh (ks ++ k ∷ []) start flips
     before_step = subst (λ (zs : List ℕ). IsPartlyLegal (map at was.vertices) fixed_first was.mesh now.mesh zs start flips) popped u.legal
 
-    pub step_fits : IsValid now.mesh → 2 * start + length was.vertices * (length was.vertices - 1) < 2 ^ 65 → IsFailing (map at now.vertices) now.mesh (2 * k) → flips + 1 < 2 ^ 64
+    pub step_fits : IsValidMesh now.mesh → 2 * start + length was.vertices * (length was.vertices - 1) < 2 ^ 65 → IsFailing (map at now.vertices) now.mesh (2 * k) → flips + 1 < 2 ^ 64
     step_fits s h x = one_more_fits (map at was.vertices) fixed_first was.mesh now.mesh ks k start flips (length was.vertices) s before_step (length-map was.vertices at) h (subst (λ (vs : List V). IsFailing (map at vs) now.mesh (2 * k)) same_vertices x)
 
-    pub step_kept : (after : Contents V D U F) (more : List ℕ) (room_after flips_after : ℕ) → after ≡ record now { mesh = after.mesh } → fixed_pairs fix after.mesh after.undirected ≡ fixed_pairs fix now.mesh now.undirected
-        → ((first : Mesh) (start : ℕ) → IsPartlyLegal (map at now.vertices) (fixed_pairs fix now.mesh now.undirected) first now.mesh (ks ++ k ∷ []) start flips → IsPartlyLegal (map at now.vertices) (fixed_pairs fix now.mesh now.undirected) first after.mesh more start flips_after)
+    pub step_kept : (after : Contents V D U F) (more : List ℕ) (room_after flips_after : ℕ) → after ≡ record now { mesh = after.mesh } → constraint_pairs fix after.mesh after.undirected ≡ constraint_pairs fix now.mesh now.undirected
+        → ((first : Mesh) (start : ℕ) → IsPartlyLegal (map at now.vertices) (constraint_pairs fix now.mesh now.undirected) first now.mesh (ks ++ k ∷ []) start flips → IsPartlyLegal (map at now.vertices) (constraint_pairs fix now.mesh now.undirected) first after.mesh more start flips_after)
         → room_after ≡ room → IsUnderway fix (map at was.vertices) was after more room_was room_after start flips_after
-    step_kept after more room_after flips_after contents fixed legal e = record {
+    step_kept after more room_after flips_after contents constraints legal e = record {
       contents = contents ∙ ap (λ (c : Contents V D U F). record c { mesh = after.mesh }) u.contents;
-      fixed = fixed ∙ u.fixed;
+      constraints = constraints ∙ u.constraints;
       legal = subst (λ (y : List V × List (ℕ × ℕ)). IsPartlyLegal (map at y.0) y.1 was.mesh after.mesh more start flips_after) same_both
           (legal was.mesh start (subst (λ (y : List V × List (ℕ × ℕ)). IsPartlyLegal (map at y.0) y.1 was.mesh now.mesh (ks ++ k ∷ []) start flips) (sym same_both) before_step));
       room_stays = e ∙ u.room_stays;
     }
       where
-        same_both : (let a : List V × List (ℕ × ℕ) = (now.vertices, fixed_pairs fix now.mesh now.undirected) in let b : List V × List (ℕ × ℕ) = (was.vertices, fixed_first) in a ≡ b)
-        same_both = λ i. (same_vertices i, u.fixed i)
+        same_both : (let a : List V × List (ℕ × ℕ) = (now.vertices, constraint_pairs fix now.mesh now.undirected) in let b : List V × List (ℕ × ℕ) = (was.vertices, fixed_first) in a ≡ b)
+        same_both = λ i. (same_vertices i, u.constraints i)
 
   pub underway_ends : all ≡ [] → IsLocallyDelaunay (drawn (map at was.vertices) now.mesh) fixed_first
   underway_ends e = none_left (map at was.vertices) (faces_of now.mesh) (edges_of now.mesh) fixed_first (subst (λ (zs : List ℕ). AllPassBut (map at was.vertices) (faces_of now.mesh) fixed_first (pairs_at now.mesh zs)) e u.legal.passing)
@@ -171,7 +171,7 @@ module _ {V D U F : Type 0} (at : V → Point) (fix : List U → List ℕ) (was 
   pub underway_counts : 2 * (flips - start) ≤ length was.vertices * (length was.vertices - 1)
   underway_counts = subst (λ (n : ℕ). 2 * (flips - start) ≤ n * (n - 1)) (length-map was.vertices at) (M.few_flips (map at was.vertices) fixed_first was.mesh now.mesh all start flips u.legal).1
 
-  pub underway_keeps : IsValid now.mesh → KeepsIndexes was.mesh now.mesh
+  pub underway_keeps : IsValidMesh now.mesh → KeepsIndexes was.mesh now.mesh
   underway_keeps s = M.indexes_kept (map at was.vertices) fixed_first was.mesh now.mesh all start flips s u.legal
 
 pub drained : (xs ys : List ℕ) (v : ℕ) → xs ≡ ys ++ [] → ys ≡ take (v - 1) xs → v ≡ 0 → xs ≡ []

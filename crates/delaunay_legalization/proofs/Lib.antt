@@ -2,9 +2,9 @@ pub mod Between
 pub mod Shapes
 pub mod Questions
 pub mod ElementCounts
-pub mod Fixed
+pub mod Constraints
 pub mod Legalizing
 pub mod WorkList
-pub mod FixedEdges
+pub mod ConstraintEdges
 pub mod Flips
 pub mod Stars

@@ -1,8 +1,8 @@
 -- What follows from the shape of a mesh over its points.
 use Rattle.std.proofs.Common.{◌≡◌, ◌≢◌, ℕ, ◌<◌, List, [], length, refl, sym, ap, subst, inl, inr, arith}
 use Rattle.std.specs.Prelude.{All}
-use Rattle.half_edge_links.specs.Mesh.{Mesh, IsValid, empty}
-use Rattle.half_edge_mesh.specs.Contents.{Contents, IsWhole}
+use Rattle.half_edge_links.specs.Mesh.{Mesh, IsValidMesh, empty}
+use Rattle.half_edge_mesh.specs.Contents.{Contents, IsMeshWithData}
 use Rattle.plane.specs.Fraction.{Point, whole}
 use Rattle.plane.specs.Tests.{InRange}
 use Rattle.plane.specs.Pairs.{place}
@@ -11,12 +11,12 @@ use Rattle.plane_tiling.specs.Local.{IsMesh}
 use Rattle.plane_tiling.proofs.Meshes.{meshes_tile}
 use Rattle.plane_tiling.proofs.LineMeshes.{no_vertex}
 use Rattle.delaunay_legalization.specs.Known.{point_at}
-use Rattle.drawn_mesh.specs.Drawn.{drawn, faces_of, edges_of, outer_of}
-use Rattle.drawn_mesh.proofs.OwnEdges.{own_edges}
+use Rattle.mesh_embedding.specs.Drawn.{drawn, faces_of, edges_of, outer_of}
+use Rattle.mesh_embedding.proofs.OwnEdges.{own_edges}
 use Rattle.delaunay_legalization.specs.State.{state_of}
-use Rattle.delaunay_legalization.specs.Shape.{IsKept}
+use Rattle.delaunay_legalization.specs.Shape.{IsTriangulated}
 
-pub laid_out_tiles : (points : List Point) (m : Mesh) → IsValid m → IsMesh points (faces_of m) (outer_of m) → IsTiling (drawn points m)
+pub laid_out_tiles : (points : List Point) (m : Mesh) → IsValidMesh m → IsMesh points (faces_of m) (outer_of m) → IsTiling (drawn points m)
 laid_out_tiles points m v shape = meshes_tile points (faces_of m) (outer_of m) (edges_of m) shape (own_edges m v)
 
 -- vertices of different indexes differ in position
@@ -25,7 +25,7 @@ laid_out_distinct points faces outer (inl s) i j h k n e = s.distinct i j h k n 
 laid_out_distinct points faces outer (inr s) i j h k n e = s.1.distinct i j h k n (ap whole e)
 
 -- a mesh with nothing but the outer face
-pub kept_empty : {V D U F : Type 0} (place : V → Point) (c : Contents V D U F) → c.mesh ≡ empty → c.vertices ≡ [] → c.undirected ≡ [] → c.faces ≡ [] → IsWhole c → IsKept place (state_of c)
+pub kept_empty : {V D U F : Type 0} (place : V → Point) (c : Contents V D U F) → c.mesh ≡ empty → c.vertices ≡ [] → c.undirected ≡ [] → c.faces ≡ [] → IsMeshWithData c → IsTriangulated place (state_of c)
 kept_empty place c mesh vertices undirected faces w = record {
   in_range = subst (λ vs. All (λ v. InRange (place v)) vs) (sym vertices) (λ k d h. absurd (omega arith));
   few_edges = rw (undirected, vertices) (omega arith);

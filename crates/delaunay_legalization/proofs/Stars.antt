@@ -5,7 +5,7 @@ use Rattle.std.specs.Borrow.{Bor}
 use Rattle.std.specs.List.{range_with_len}
 use Rattle.std.proofs.lemmas.Bool.{cases_eq}
 use Rattle.std.proofs.lemmas.List.FromFn.{length-range_with_len, get_or-range_with_len}
-use Rattle.half_edge_links.specs.Mesh.{Mesh, IsSound, IsValid, origin, next, prev, rev, out_edge}
+use Rattle.half_edge_links.specs.Mesh.{Mesh, AreSoundLinks, IsValidMesh, origin, next, prev, rev, out_edge}
 use Rattle.half_edge_links.specs.Peel.{spoke}
 use Rattle.half_edge_links.specs.Round.{IsRound}
 use Rattle.half_edge_mesh.specs.Contents.{Contents}
@@ -23,11 +23,11 @@ use Rattle.plane_tiling.proofs.Totals.{Contains-head, Contains-later, Contains-n
 use Rattle.plane_edits.specs.Change.{IsFaceOf}
 use Rattle.plane_edits.specs.Legal.{Pass, AllPassBut}
 use Rattle.plane_edits.proofs.Changes.{once_none}
-use Rattle.drawn_mesh.specs.Drawn.{faces_of}
-use Rattle.drawn_mesh.specs.Legal.{AreEdges, pairs_at}
-use Rattle.drawn_mesh.proofs.MeshLegal.{joins_directed}
-use Rattle.drawn_mesh.proofs.MeshStars.{IsEdgeOfFace, edge_of_face}
-use Rattle.drawn_mesh.proofs.WorkLists.{contains_map, contains_map_from}
+use Rattle.mesh_embedding.specs.Drawn.{faces_of}
+use Rattle.mesh_embedding.specs.Legal.{AreEdges, pairs_at}
+use Rattle.mesh_embedding.proofs.MeshLegal.{joins_directed}
+use Rattle.mesh_embedding.proofs.MeshStars.{IsEdgeOfFace, edge_of_face}
+use Rattle.mesh_embedding.proofs.WorkLists.{contains_map, contains_map_from}
 use Rattle.delaunay_legalization.specs.Star.{IsOneOf, MakesFacesAt, AllPassBeside, HasSidesAt, HasStar}
 
 -- ---- faces that stay, over more points
@@ -76,7 +76,7 @@ made_at_leaves points q old new outer before after v shape passing made marked i
 half_of_rev : (h : ℕ) → rev h / 2 ≡ h / 2
 half_of_rev h = grind arith
 
-module _ (m : Mesh) (s : IsSound m) (v : ℕ) (ks : List ℕ) (star : HasStar m v ks) where
+module _ (m : Mesh) (s : AreSoundLinks m) (v : ℕ) (ks : List ℕ) (star : HasStar m v ks) where
   side_joined : (h i j k : ℕ) → IsEdgeOfFace m h i j k → Contains ks (h / 2) → Joins (pairs_at m ks) i j
   side_joined h i j k e c = subst (λ (x : ℕ × ℕ). Joins (pairs_at m ks) x.0 x.1) (λ o. (e.first o, (sym (s.edges h e.inner.0).starts ∙ e.second) o)) (joins_directed m ks h c)
 
@@ -108,8 +108,8 @@ module _ (m : Mesh) (s : IsSound m) (v : ℕ) (ks : List ℕ) (star : HasStar m 
   ]
 
   -- so nothing else is left to test
-  pub star_is_left : (points : List Point) (fixed : List (ℕ × ℕ)) → AllPassBeside points (faces_of m) fixed v → AllPassBut points (faces_of m) fixed (pairs_at m ks)
-  star_is_left points fixed passing i j k l f g free untested = go (one_of_or_not i j k) (one_of_or_not j i l)
+  pub star_is_left : (points : List Point) (constraints : List (ℕ × ℕ)) → AllPassBeside points (faces_of m) constraints v → AllPassBut points (faces_of m) constraints (pairs_at m ks)
+  star_is_left points constraints passing i j k l f g free untested = go (one_of_or_not i j k) (one_of_or_not j i l)
     where
       back : Joins (pairs_at m ks) j i → Joins (pairs_at m ks) i j
       back (inl h) = inr h
@@ -153,7 +153,7 @@ no_edges m = record { within = λ k c. absurd (Contains-none k c); once = once_n
 
 module _ {V D U F : Type 0} (c : Contents V D U F) (v : ℕ) where
   -- the round of the vertex, or nothing
-  pub pushing_begins : (d : Bor (Contents V D U F)) (given : List (Bor (Contents V D U F) × ℕ)) (ks : List ℕ) (room_was room : ℕ) → d.now ≡ c → IsValid c.mesh → GivesRound d v given → ks ≡ [] → room ≡ room_was → IsPushing c v given ks room_was room
+  pub pushing_begins : (d : Bor (Contents V D U F)) (given : List (Bor (Contents V D U F) × ℕ)) (ks : List ℕ) (room_was room : ℕ) → d.now ≡ c → IsValidMesh c.mesh → GivesRound d v given → ks ≡ [] → room ≡ room_was → IsPushing c v given ks room_was room
   pushing_begins d given ks room_was room same valid gives none stays = go (out_edge d.now.mesh v) refl
     where
       mesh_is : d.now.mesh ≡ c.mesh

@@ -4,21 +4,21 @@ use Rattle.std.specs.Prelude.{Contains}
 use Rattle.std.specs.List.{range_with_len}
 use Rattle.std.proofs.lemmas.List.{same_lists, length-map, get_or-map}
 use Rattle.std.proofs.lemmas.List.FromFn.{length-range_with_len, get_or-range_with_len, length-map-range_with_len, get_or-map-range_with_len}
-use Rattle.half_edge_links.specs.Mesh.{Mesh, origin, rev, IsValid}
+use Rattle.half_edge_links.specs.Mesh.{Mesh, origin, rev, IsValidMesh}
 use Rattle.half_edge_links.specs.Outline.{Ends, ends}
 use Rattle.half_edge_links.proofs.Ends.{length-ends_twice, get_or-ends}
-use Rattle.half_edge_mesh.specs.Contents.{Contents, FitsMesh, IsWhole}
+use Rattle.half_edge_mesh.specs.Contents.{Contents, FitsMesh, IsMeshWithData}
 use Rattle.plane.specs.Fraction.{Point}
 use Rattle.plane.specs.Pairs.{Joins}
 use Rattle.plane.specs.Tiling.{IsEdge, IsFace, IsTiling}
 use Rattle.plane.specs.Delaunay.{IsLocallyDelaunay}
 use Rattle.plane_tiling.specs.Local.{IsMesh}
 use Rattle.plane_edits.specs.Legal.{AllPassBut}
-use Rattle.drawn_mesh.specs.Drawn.{drawn, pair_of, faces_of, edges_of, outer_of}
-use Rattle.drawn_mesh.specs.Legal.{AreEdges, pair_at, pairs_at}
-use Rattle.drawn_mesh.proofs.MeshLegal.{line_has_none}
-use Rattle.delaunay_legalization.specs.Fixed.{fixed_pairs}
-use Rattle.delaunay_legalization.specs.Shape.{IsKept, IsLegal}
+use Rattle.mesh_embedding.specs.Drawn.{drawn, pair_of, faces_of, edges_of, outer_of}
+use Rattle.mesh_embedding.specs.Legal.{AreEdges, pair_at, pairs_at}
+use Rattle.mesh_embedding.proofs.MeshLegal.{line_has_none}
+use Rattle.delaunay_legalization.specs.Constraints.{constraint_pairs}
+use Rattle.delaunay_legalization.specs.Shape.{IsTriangulated, IsDelaunayTriangulation}
 use Rattle.delaunay_legalization.specs.State.{state_of}
 use Rattle.delaunay_legalization.proofs.Shapes.{laid_out_tiles}
 
@@ -64,7 +64,7 @@ module _ (m : Mesh) (n : ℕ) (count : 2 * n ≡ length m.half_edges) where
   twin : (k : ℕ) → rev (2 * k) ≡ 2 * k + 1
   twin k = grind arith
 
-  pub pairs_are_edges : IsValid m → pairs_at m (range_with_len 0 n) ≡ edges_of m
+  pub pairs_are_edges : IsValidMesh m → pairs_at m (range_with_len 0 n) ≡ edges_of m
   pairs_are_edges v =
       let twice = length-ends_twice m v.sound in
       let places = length-map (ends m) pair_of in
@@ -80,15 +80,15 @@ module _ (m : Mesh) (n : ℕ) (count : 2 * n ≡ length m.half_edges) where
   side points i j k (inl h) f = (h.sides i j).1 (inl (k, f))
   side points i j k (inr l) f = absurd (line_has_none m i j k l.no_face f)
 
-  pub all_pass_but_all : (points : List Point) (fixed : List (ℕ × ℕ)) → IsValid m → IsMesh points (faces_of m) (outer_of m) → AllPassBut points (faces_of m) fixed (pairs_at m (range_with_len 0 n))
-  all_pass_but_all points fixed v shape i j k l f g free left =
+  pub all_pass_but_all : (points : List Point) (constraints : List (ℕ × ℕ)) → IsValidMesh m → IsMesh points (faces_of m) (outer_of m) → AllPassBut points (faces_of m) constraints (pairs_at m (range_with_len 0 n))
+  all_pass_but_all points constraints v shape i j k l f g free left =
       absurd (left (subst (λ (ps : List (ℕ × ℕ)). Joins ps i j) (sym (pairs_are_edges v)) (side points i j k (laid_out_tiles points m v shape) f)))
 
 -- ---- after the last flip
-pub legalized : {V D U F : Type 0} (place : V → Point) (fix : List U → List ℕ) (old new : Contents V D U F) → IsKept place (state_of old) → new ≡ record old { mesh = new.mesh } → IsWhole new → IsMesh (map place old.vertices) (faces_of new.mesh) (outer_of new.mesh)
-    → fixed_pairs fix new.mesh new.undirected ≡ fixed_pairs fix old.mesh old.undirected → IsLocallyDelaunay (drawn (map place old.vertices) new.mesh) (fixed_pairs fix old.mesh old.undirected) → IsLegal place fix (state_of new)
-legalized {V = V} {D = D} {U = U} {F = F} place fix old new kept e w shape fixed passing = record {
-  kept = subst (λ (c : Contents V D U F). IsKept place (state_of c)) (sym e) (record {
+pub legalized : {V D U F : Type 0} (place : V → Point) (fix : List U → List ℕ) (old new : Contents V D U F) → IsTriangulated place (state_of old) → new ≡ record old { mesh = new.mesh } → IsMeshWithData new → IsMesh (map place old.vertices) (faces_of new.mesh) (outer_of new.mesh)
+    → constraint_pairs fix new.mesh new.undirected ≡ constraint_pairs fix old.mesh old.undirected → IsLocallyDelaunay (drawn (map place old.vertices) new.mesh) (constraint_pairs fix old.mesh old.undirected) → IsDelaunayTriangulation place fix (state_of new)
+legalized {V = V} {D = D} {U = U} {F = F} place fix old new kept e w shape constraints passing = record {
+  kept = subst (λ (c : Contents V D U F). IsTriangulated place (state_of c)) (sym e) (record {
     in_range = kept.in_range;
     few_edges = kept.few_edges;
     few_faces = kept.few_faces;
@@ -96,6 +96,6 @@ legalized {V = V} {D = D} {U = U} {F = F} place fix old new kept e w shape fixed
     fits = subst (λ (c : Contents V D U F). FitsMesh new.mesh (length c.vertices) (length c.directed) (length c.undirected) (length c.faces)) e w.fits;
     shape = shape;
   });
-  passing = subst (λ (vs : List V). IsLocallyDelaunay (drawn (map place vs) new.mesh) (fixed_pairs fix new.mesh new.undirected)) (ap (λ (c : Contents V D U F). c.vertices) (sym e))
-      (subst (λ (ps : List (ℕ × ℕ)). IsLocallyDelaunay (drawn (map place old.vertices) new.mesh) ps) (sym fixed) passing);
+  passing = subst (λ (vs : List V). IsLocallyDelaunay (drawn (map place vs) new.mesh) (constraint_pairs fix new.mesh new.undirected)) (ap (λ (c : Contents V D U F). c.vertices) (sym e))
+      (subst (λ (ps : List (ℕ × ℕ)). IsLocallyDelaunay (drawn (map place old.vertices) new.mesh) ps) (sym constraints) passing);
 }

@@ -1,6 +1,6 @@
 pub mod Between
 pub mod State
-pub mod Fixed
+pub mod Constraints
 pub mod Shape
 pub mod Known
 pub mod Flips

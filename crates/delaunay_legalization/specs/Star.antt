@@ -15,9 +15,9 @@ IsOneOf v i j k = (i ≡ v) ⊎ ((j ≡ v) ⊎ (k ≡ v))
 pub record MakesFacesAt (v : ℕ) (old new : List Face) : Type 0 where
   pub each : (i j k : ℕ) → IsFaceOf new i j k → IsFaceOf old i j k ⊎ IsOneOf v i j k
 
--- each edge between two faces without the corner v passes, but perhaps fixed ones
+-- each edge between two faces without the corner v passes, but perhaps constraints
 abbrev pub AllPassBeside : List Point → List Face → List (ℕ × ℕ) → ℕ → Type 0
-AllPassBeside points faces fixed v = (i j k l : ℕ) → IsFaceOf faces i j k → IsFaceOf faces j i l → ¬ Joins fixed i j → ¬ IsOneOf v i j k → ¬ IsOneOf v j i l → Pass points i j k l
+AllPassBeside points faces constraints v = (i j k l : ℕ) → IsFaceOf faces i j k → IsFaceOf faces j i l → ¬ Joins constraints i j → ¬ IsOneOf v i j k → ¬ IsOneOf v j i l → Pass points i j k l
 
 -- directed edge h and the one after it in its loop are among ks, without their directions
 pub record HasSidesAt (m : Mesh) (h : ℕ) (ks : List ℕ) : Type 0 where

@@ -1,7 +1,7 @@
 -- What a contract sees of a triangulation.
 use Rattle.std.specs.Prelude.{List, [], map}
 use Rattle.half_edge_links.specs.Mesh.{Mesh}
-use Rattle.drawn_mesh.specs.Drawn.{drawn}
+use Rattle.mesh_embedding.specs.Drawn.{drawn}
 use Rattle.half_edge_mesh.specs.Contents.{Contents}
 use Rattle.plane.specs.Fraction.{Point}
 use Rattle.plane.specs.Plain.{Plain}
@@ -26,5 +26,5 @@ abbrev pub triangulation_of : {V D U F : Type 0} → (V → Point) → State V D
 triangulation_of place s = drawn (map place s.vertices) s.mesh
 
 -- the vertices, without constraints
-abbrev pub plain_of : {V D U F : Type 0} → State V D U F → Plain V
-plain_of s = record { vertices = s.vertices; constraints = [] }
+abbrev pub points_and_constraints : {V D U F : Type 0} → State V D U F → Plain V
+points_and_constraints s = record { vertices = s.vertices; constraints = [] }

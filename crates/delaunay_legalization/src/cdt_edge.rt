@@ -1,9 +1,9 @@
 //! The data of an edge that may be a constraint.
 ghost use Rattle.std.specs.Prelude.{◌≡◌, true, false, refl};
 ghost use Rattle.delaunay_legalization.specs.CdtEdge.{is_constraint};
-ghost use Rattle.delaunay_legalization.specs.Fixed.{marked_edges};
+ghost use Rattle.delaunay_legalization.specs.Constraints.{marked_edges};
 
-use crate::edge_marks::EdgeMarks;
+use crate::constraint_marker::ConstraintMarker;
 
 /// The data of an undirected edge of a constrained triangulation: whether the edge is a constraint, and the user's data.
 #[derive(Clone, Copy, Debug, PartialEq, Eq, PartialOrd, Ord, Hash, Drop)]
@@ -75,18 +75,18 @@ impl<UE> CdtEdge<UE> {
     }
 }
 
-/// The constraints are fixed.
+/// Edges whose data have the flag are constraints.
 #[derive(Drop)]
-pub struct ConstraintsFixed;
+pub struct EdgeConstraints;
 
-impl<UE> EdgeMarks<CdtEdge<UE>> for ConstraintsFixed {
-    ghost fixes = { is_constraint };
+impl<UE> ConstraintMarker<CdtEdge<UE>> for EdgeConstraints {
+    ghost marks = { is_constraint };
 
-    ghost fixed = { marked_edges is_constraint };
+    ghost constraints = { marked_edges is_constraint };
 
-    ghost fixed_are_marked = { λ ds. refl };
+    ghost constraints_are_marked = { λ ds. refl };
 
-    fn is_fixed(value: &CdtEdge<UE>) -> bool {
+    fn is_constraint_edge(value: &CdtEdge<UE>) -> bool {
         value.is_constraint_edge()
     }
 }

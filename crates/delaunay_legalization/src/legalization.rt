@@ -1,18 +1,18 @@
-//! Flips of edges that fail the circle test, until each edge passes but the fixed ones.
+//! Flips of edges that fail the circle test, until each edge passes but the constraints.
 ghost use Rattle.std.specs.Prelude.{◌≡◌, ◌↔◌, ℕ, ◌+◌, ◌-◌, ◌*◌, ◌/◌, ◌<◌, ◌≤◌, ◌^◌, ◌++◌, ◌∷◌, [], length, map, All, Contains, IsTrue, vec_capacity};
 ghost use Rattle.half_edge_links.specs.Mesh.{Mesh, origin, next, prev, face, rev};
 ghost use Rattle.half_edge_links.specs.Flip.{flipped};
 ghost use Rattle.plane.specs.Delaunay.{IsLocallyDelaunay};
 ghost use Rattle.plane_tiling.specs.Local.{IsMesh};
 ghost use Rattle.plane_edits.specs.Legal.{AllPassBut};
-ghost use Rattle.drawn_mesh.specs.Drawn.{drawn, faces_of, outer_of};
-ghost use Rattle.drawn_mesh.specs.Legal.{AreEdges, Gains, GainsRound, IsFailing, IsPartlyLegal, pairs_at, steps_left};
-ghost use Rattle.drawn_mesh.specs.Stays.{KeepsIndexes};
+ghost use Rattle.mesh_embedding.specs.Drawn.{drawn, faces_of, outer_of};
+ghost use Rattle.mesh_embedding.specs.Legal.{AreEdges, Gains, GainsRound, IsFailing, IsPartlyLegal, pairs_at, steps_left};
+ghost use Rattle.mesh_embedding.specs.Stays.{KeepsIndexes};
 ghost use Rattle.delaunay_core.specs.Place.{place_of};
-ghost use Rattle.delaunay_legalization.specs.Fixed.{fixed_pairs};
+ghost use Rattle.delaunay_legalization.specs.Constraints.{constraint_pairs};
 ghost use Rattle.delaunay_legalization.specs.Known.{point_at};
 
-use crate::edge_marks::EdgeMarks;
+use crate::constraint_marker::ConstraintMarker;
 use delaunay_core::math::PlaneTests;
 use delaunay_core::point::{HasPosition, Point2};
 use half_edge_mesh::{Dcel, FixedDirectedEdgeHandle, FixedUndirectedEdgeHandle};
@@ -65,15 +65,15 @@ fn sides_round<V, DE, UE, F>(
     )
 }
 
-// Whether an edge is fixed, by its data.
-pub fn is_fixed<M: EdgeMarks<UE>, V, DE, UE, F>(
+// Whether an edge is a constraint, by its data.
+pub fn is_constraint_edge<M: ConstraintMarker<UE>, V, DE, UE, F>(
     dcel: &Dcel<V, DE, UE, F>,
     edge: FixedUndirectedEdgeHandle,
 ) -> bool
     requires { edge < length dcel.now.undirected }
-    ensures { IsTrue result ↔ Contains (M.fixed dcel.now.undirected) edge }
+    ensures { IsTrue result ↔ Contains (M.constraints dcel.now.undirected) edge }
 {
-    M::is_fixed(dcel.undirected_edge_data(edge))
+    M::is_constraint_edge(dcel.undirected_edge_data(edge))
 }
 
 // Whether an edge lies between two inner faces, of which one has its third corner inside the circle of the other.
@@ -158,9 +158,9 @@ fn push_sides<V, DE, UE, F>(
     push_side(dcel, twin_prev, work);
 }
 
-// Tests an edge that was taken from the work list. One that is not fixed and fails is turned, and leaves the four edges
+// Tests an edge that was taken from the work list. One that is no constraint and fails is turned, and leaves the four edges
 // round it to test.
-fn legalize_edge<M: EdgeMarks<UE>, V: HasPosition, DE, UE, F, P: PlaneTests<V::Scalar>>(
+fn legalize_edge<M: ConstraintMarker<UE>, V: HasPosition, DE, UE, F, P: PlaneTests<V::Scalar>>(
     dcel: &mut Dcel<V, DE, UE, F>,
     edge: FixedUndirectedEdgeHandle,
     tests: &P,
@@ -173,13 +173,13 @@ fn legalize_edge<M: EdgeMarks<UE>, V: HasPosition, DE, UE, F, P: PlaneTests<V::S
     requires room { length dcel.old.undirected ≤ vec_capacity work.old }
     requires fits { IsFailing (map V.place dcel.old.vertices) dcel.old.mesh (2 * edge) → flips.old + 1 < 2 ^ 64 }
     ensures contents { dcel.new ≡ record dcel.old { mesh = dcel.new.mesh } }
-    ensures fixed { fixed_pairs M.fixed dcel.new.mesh dcel.new.undirected ≡ fixed_pairs M.fixed dcel.old.mesh dcel.old.undirected }
-    ensures legal { let points = map V.place dcel.old.vertices in let fixed = fixed_pairs M.fixed dcel.old.mesh dcel.old.undirected in (was : Mesh) (start : ℕ) → IsPartlyLegal points fixed was dcel.old.mesh (work.old.items ++ edge ∷ []) start flips.old → IsPartlyLegal points fixed was dcel.new.mesh work.new.items start flips.new }
+    ensures constraints { constraint_pairs M.constraints dcel.new.mesh dcel.new.undirected ≡ constraint_pairs M.constraints dcel.old.mesh dcel.old.undirected }
+    ensures legal { let points = map V.place dcel.old.vertices in let constraints = constraint_pairs M.constraints dcel.old.mesh dcel.old.undirected in (was : Mesh) (start : ℕ) → IsPartlyLegal points constraints was dcel.old.mesh (work.old.items ++ edge ∷ []) start flips.old → IsPartlyLegal points constraints was dcel.new.mesh work.new.items start flips.new }
     ensures fewer { let points = map V.place dcel.old.vertices in steps_left points dcel.new.mesh work.new.items < steps_left points dcel.old.mesh (work.old.items ++ edge ∷ []) }
     ensures capacity { vec_capacity work.new ≡ vec_capacity work.old }
 {
     let _ = dcel.num_directed_edges();
-    if is_fixed::<M, _, _, _, _>(dcel, edge) {
+    if is_constraint_edge::<M, _, _, _, _>(dcel, edge) {
         return;
     }
     if is_failing(dcel, edge.as_directed(), tests) {
@@ -188,9 +188,9 @@ fn legalize_edge<M: EdgeMarks<UE>, V: HasPosition, DE, UE, F, P: PlaneTests<V::S
     }
 }
 
-// Flips edges until each passes the circle test, but for the outer and the fixed ones, where before perhaps only those of
-// the work list fail. The work list has room for each edge of the mesh. A fixed edge keeps its ends and its index.
-pub fn legalize<M: EdgeMarks<UE>, V: HasPosition, DE, UE, F, P: PlaneTests<V::Scalar>>(
+// Flips edges until each passes the circle test, but for the outer ones and the constraints, where before perhaps only those of
+// the work list fail. The work list has room for each edge of the mesh. A constraint keeps its ends and its index.
+pub fn legalize<M: ConstraintMarker<UE>, V: HasPosition, DE, UE, F, P: PlaneTests<V::Scalar>>(
     dcel: &mut Dcel<V, DE, UE, F>,
     tests: &P,
     work: &mut Vec<FixedUndirectedEdgeHandle>,
@@ -200,12 +200,12 @@ pub fn legalize<M: EdgeMarks<UE>, V: HasPosition, DE, UE, F, P: PlaneTests<V::Sc
     requires shape { IsMesh (map V.place dcel.old.vertices) (faces_of dcel.old.mesh) (outer_of dcel.old.mesh) }
     requires edges { AreEdges dcel.old.mesh work.old.items }
     requires room { length dcel.old.undirected ≤ vec_capacity work.old }
-    requires passing { AllPassBut (map V.place dcel.old.vertices) (faces_of dcel.old.mesh) (fixed_pairs M.fixed dcel.old.mesh dcel.old.undirected) (pairs_at dcel.old.mesh work.old.items) }
+    requires passing { AllPassBut (map V.place dcel.old.vertices) (faces_of dcel.old.mesh) (constraint_pairs M.constraints dcel.old.mesh dcel.old.undirected) (pairs_at dcel.old.mesh work.old.items) }
     requires fits { let n = length dcel.old.vertices in 2 * flips.old + n * (n - 1) < 2 ^ 65 }
     ensures contents { dcel.new ≡ record dcel.old { mesh = dcel.new.mesh } }
     ensures shape { IsMesh (map V.place dcel.old.vertices) (faces_of dcel.new.mesh) (outer_of dcel.new.mesh) }
-    ensures fixed { fixed_pairs M.fixed dcel.new.mesh dcel.new.undirected ≡ fixed_pairs M.fixed dcel.old.mesh dcel.old.undirected }
-    ensures locally_delaunay { IsLocallyDelaunay (drawn (map V.place dcel.old.vertices) dcel.new.mesh) (fixed_pairs M.fixed dcel.old.mesh dcel.old.undirected) }
+    ensures constraints { constraint_pairs M.constraints dcel.new.mesh dcel.new.undirected ≡ constraint_pairs M.constraints dcel.old.mesh dcel.old.undirected }
+    ensures locally_delaunay { IsLocallyDelaunay (drawn (map V.place dcel.old.vertices) dcel.new.mesh) (constraint_pairs M.constraints dcel.old.mesh dcel.old.undirected) }
     ensures counted { flips.old ≤ flips.new }
     ensures few_flips { let n = length dcel.old.vertices in 2 * (flips.new - flips.old) ≤ n * (n - 1) }
     ensures indexes { KeepsIndexes dcel.old.mesh dcel.new.mesh }

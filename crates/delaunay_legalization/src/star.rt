@@ -1,15 +1,15 @@
 //! A legalization that begins at one vertex, where only edges of the faces there may fail.
 ghost use Rattle.std.specs.Prelude.{◌≡◌, ℕ, ◌*◌, ◌<◌, ◌≤◌, length, map, All, Contains, vec_capacity};
-ghost use Rattle.drawn_mesh.specs.Drawn.{faces_of};
-ghost use Rattle.drawn_mesh.specs.Legal.{AreEdges};
-ghost use Rattle.drawn_mesh.specs.Stays.{KeepsIndexes};
-ghost use Rattle.delaunay_legalization.specs.Fixed.{fixed_of};
+ghost use Rattle.mesh_embedding.specs.Drawn.{faces_of};
+ghost use Rattle.mesh_embedding.specs.Legal.{AreEdges};
+ghost use Rattle.mesh_embedding.specs.Stays.{KeepsIndexes};
+ghost use Rattle.delaunay_legalization.specs.Constraints.{constraints_by};
 ghost use Rattle.delaunay_legalization.specs.Flips.{CountsFlips, FlipsFit};
-ghost use Rattle.delaunay_legalization.specs.Shape.{IsKept, IsLegal};
+ghost use Rattle.delaunay_legalization.specs.Shape.{IsTriangulated, IsDelaunayTriangulation};
 ghost use Rattle.delaunay_legalization.specs.Star.{AllPassBeside, HasSidesAt, HasStar};
 ghost use Rattle.delaunay_legalization.specs.State.{state_of};
 
-use crate::edge_marks::EdgeMarks;
+use crate::constraint_marker::ConstraintMarker;
 use crate::legalization::{legalize, push_side};
 use delaunay_core::math::PlaneTests;
 use delaunay_core::point::HasPosition;
@@ -54,9 +54,9 @@ fn push_star<V, DE, UE, F>(
     }
 }
 
-// Tests the edges of the faces at a vertex, where each other edge passes, and flips those that fail and are not fixed until
+// Tests the edges of the faces at a vertex, where each other edge passes, and flips those that fail and are no constraints until
 // none does.
-pub fn legalize_star<M: EdgeMarks<UE>, V: HasPosition, DE, UE, F, P: PlaneTests<V::Scalar>>(
+pub fn legalize_star<M: ConstraintMarker<UE>, V: HasPosition, DE, UE, F, P: PlaneTests<V::Scalar>>(
     dcel: &mut Dcel<V, DE, UE, F>,
     vertex: FixedVertexHandle,
     tests: &P,
@@ -65,13 +65,13 @@ pub fn legalize_star<M: EdgeMarks<UE>, V: HasPosition, DE, UE, F, P: PlaneTests<
 )
     requires within { vertex < length dcel.old.vertices }
     requires sites { All (P.sites tests.now) (map V.place dcel.old.vertices) }
-    requires kept { IsKept V.place (state_of dcel.old) }
-    requires passing { AllPassBeside (map V.place dcel.old.vertices) (faces_of dcel.old.mesh) (fixed_of M.fixed (state_of dcel.old)) vertex }
+    requires kept { IsTriangulated V.place (state_of dcel.old) }
+    requires passing { AllPassBeside (map V.place dcel.old.vertices) (faces_of dcel.old.mesh) (constraints_by M.constraints (state_of dcel.old)) vertex }
     requires room { 3 * length dcel.old.vertices ≤ vec_capacity work.old }
     requires fits { FlipsFit (length dcel.old.vertices) flips.old }
     ensures contents { dcel.new ≡ record dcel.old { mesh = dcel.new.mesh } }
-    ensures legal { IsLegal V.place M.fixed (state_of dcel.new) }
-    ensures fixed { fixed_of M.fixed (state_of dcel.new) ≡ fixed_of M.fixed (state_of dcel.old) }
+    ensures legal { IsDelaunayTriangulation V.place M.constraints (state_of dcel.new) }
+    ensures constraints { constraints_by M.constraints (state_of dcel.new) ≡ constraints_by M.constraints (state_of dcel.old) }
     ensures counted { CountsFlips (length dcel.old.vertices) flips.old flips.new }
     ensures indexes { KeepsIndexes dcel.old.mesh dcel.new.mesh }
 {

@@ -1,14 +1,14 @@
 //! The edges that a legalization has to test: room for them, and all of them after an edit.
 ghost use Rattle.std.specs.Prelude.{◌≡◌, ◌*◌, ◌≤◌, length, map, All, Err, OnErr, OnOk, vec_capacity};
 ghost use Rattle.std.specs.List.{range_with_len};
-ghost use Rattle.drawn_mesh.specs.Stays.{KeepsIndexes};
+ghost use Rattle.mesh_embedding.specs.Stays.{KeepsIndexes};
 ghost use Rattle.delaunay_core.specs.declared.math.InsertionError.TheVariants.{OutOfMemory};
-ghost use Rattle.delaunay_legalization.specs.Fixed.{fixed_of};
+ghost use Rattle.delaunay_legalization.specs.Constraints.{constraints_by};
 ghost use Rattle.delaunay_legalization.specs.Flips.{CountsFlips, FlipsFit};
-ghost use Rattle.delaunay_legalization.specs.Shape.{IsKept, IsLegal};
+ghost use Rattle.delaunay_legalization.specs.Shape.{IsTriangulated, IsDelaunayTriangulation};
 ghost use Rattle.delaunay_legalization.specs.State.{state_of};
 
-use crate::edge_marks::EdgeMarks;
+use crate::constraint_marker::ConstraintMarker;
 use crate::legalization::legalize;
 use delaunay_core::math::{InsertionError, PlaneTests};
 use delaunay_core::point::HasPosition;
@@ -40,20 +40,20 @@ fn fill<V, DE, UE, F>(dcel: &Dcel<V, DE, UE, F>, work: &mut Vec<FixedUndirectedE
     }
 }
 
-// Tests each edge, and flips those that fail and are not fixed until none does.
-pub fn legalize_all<M: EdgeMarks<UE>, V: HasPosition, DE, UE, F, P: PlaneTests<V::Scalar>>(
+// Tests each edge, and flips those that fail and are no constraints until none does.
+pub fn legalize_all<M: ConstraintMarker<UE>, V: HasPosition, DE, UE, F, P: PlaneTests<V::Scalar>>(
     dcel: &mut Dcel<V, DE, UE, F>,
     tests: &P,
     work: &mut Vec<FixedUndirectedEdgeHandle>,
     flips: &mut u64,
 )
     requires sites { All (P.sites tests.now) (map V.place dcel.old.vertices) }
-    requires kept { IsKept V.place (state_of dcel.old) }
+    requires kept { IsTriangulated V.place (state_of dcel.old) }
     requires room { 3 * length dcel.old.vertices ≤ vec_capacity work.old }
     requires fits { FlipsFit (length dcel.old.vertices) flips.old }
     ensures contents { dcel.new ≡ record dcel.old { mesh = dcel.new.mesh } }
-    ensures legal { IsLegal V.place M.fixed (state_of dcel.new) }
-    ensures fixed { fixed_of M.fixed (state_of dcel.new) ≡ fixed_of M.fixed (state_of dcel.old) }
+    ensures legal { IsDelaunayTriangulation V.place M.constraints (state_of dcel.new) }
+    ensures constraints { constraints_by M.constraints (state_of dcel.new) ≡ constraints_by M.constraints (state_of dcel.old) }
     ensures counted { CountsFlips (length dcel.old.vertices) flips.old flips.new }
     ensures indexes { KeepsIndexes dcel.old.mesh dcel.new.mesh }
 {

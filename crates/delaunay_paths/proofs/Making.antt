@@ -7,7 +7,7 @@ use Rattle.half_edge_links.specs.Mesh.{Mesh}
 use Rattle.half_edge_links.specs.Flip.{flipped}
 use Rattle.half_edge_links.specs.Outline.{KeepsOuter}
 use Rattle.half_edge_links.specs.Triangles.{FlipsTriangles}
-use Rattle.half_edge_mesh.specs.Contents.{Contents, IsWhole}
+use Rattle.half_edge_mesh.specs.Contents.{Contents, IsMeshWithData}
 use Rattle.plane.specs.Crossing.{Cross}
 use Rattle.plane.specs.Fraction.{Point}
 use Rattle.plane.specs.Pairs.{place}
@@ -15,7 +15,7 @@ use Rattle.plane.specs.Tiling.{IsEdge}
 use Rattle.plane_tiling.specs.Local.{LocalMesh, IsMesh}
 use Rattle.plane_paths.specs.Measure.{crossing_sum}
 use Rattle.plane_paths.specs.Path.{IsFreeOfVertices}
-use Rattle.drawn_mesh.specs.Drawn.{drawn, faces_of, outer_of}
+use Rattle.mesh_embedding.specs.Drawn.{drawn, faces_of, outer_of}
 use Rattle.delaunay_paths.specs.Crossing.{CrossesFromRight, IsLastBelow}
 use Rattle.delaunay_paths.specs.Kept.{KeepsUncrossed}
 use Rattle.delaunay_paths.proofs.Towards as T
@@ -35,7 +35,7 @@ kept_on points old now new i j first second h clear =
     Crossed v y = Cross (place points i) (place points j) (place points v) (place points y)
 
 -- ---- one turn
-module _ {V D U F : Type 0} (at : V → Point) (c : Contents V D U F) (whole : IsWhole c) (i j : ℕ) (free : IsFreeOfVertices (drawn (map at c.vertices) c.mesh) i j) (shape : IsMesh (map at c.vertices) (faces_of c.mesh) (outer_of c.mesh))
+module _ {V D U F : Type 0} (at : V → Point) (c : Contents V D U F) (whole : IsMeshWithData c) (i j : ℕ) (free : IsFreeOfVertices (drawn (map at c.vertices) c.mesh) i j) (shape : IsMesh (map at c.vertices) (faces_of c.mesh) (outer_of c.mesh))
     (e : ℕ) (within : e < length c.directed) (last : IsLastBelow (map at c.vertices) c.mesh i j (length c.directed) e) where
   abbrev points : List Point
   points = map at c.vertices
@@ -93,7 +93,7 @@ module _ {V D U F : Type 0} (at : V → Point) (old now : Contents V D U F) (i j
     pub making_free : IsFreeOfVertices (drawn (map at now.vertices) now.mesh) i j
     making_free = subst (λ (vs : List V). IsFreeOfVertices (drawn (map at vs) now.mesh) i j) (sym same) (free_on (map at old.vertices) old.mesh now.mesh i j free)
 
-    pub making_ends : IsWhole now → ((h : ℕ) → h < length now.directed → ¬ CrossesFromRight (map at now.vertices) now.mesh i j h) → IsEdge (drawn (map at old.vertices) now.mesh) i j
+    pub making_ends : IsMeshWithData now → ((h : ℕ) → h < length now.directed → ¬ CrossesFromRight (map at now.vertices) now.mesh i j h) → IsEdge (drawn (map at old.vertices) now.mesh) i j
     making_ends whole none = T.edge_if_none (map at old.vertices) now.mesh whole.valid i j making.shape (free_on (map at old.vertices) old.mesh now.mesh i j free)
         (λ h h_in c. none h (subst (λ (n : ℕ). h < n) (sym whole.fits.directed_fit) h_in) (subst (λ (vs : List V). CrossesFromRight (map at vs) now.mesh i j h) (sym same) c))
 

@@ -2,7 +2,7 @@
 use Rattle.std.proofs.Common.{◌≡◌, ◌≢◌, ◌↔◌, ℕ, ◌<◌, List, length, sym, ap, subst, arith}
 use Rattle.std.specs.Prelude.{ℤ, pos, ◌+ℤ◌, ◌-ℤ◌, ◌*ℤ◌, ◌<ℤ◌}
 use Rattle.std.proofs.lemmas.Int.{ints}
-use Rattle.half_edge_links.specs.Mesh.{Mesh, IsValid, origin, rev}
+use Rattle.half_edge_links.specs.Mesh.{Mesh, IsValidMesh, origin, rev}
 use Rattle.half_edge_links.proofs.Rev.{rev_within}
 use Rattle.plane.specs.Fraction.{Point, whole}
 use Rattle.plane.specs.Circle.{gap}
@@ -25,7 +25,7 @@ pub nearer_by : (p q r : Point) (T : Type 0) → T ↔ (gap (whole p) (whole q) 
 nearer_by p q r T w = subst (λ (x : ℤ × ℤ). T ↔ (x.0 <ℤ x.1)) (λ i. (gap_is_way p q i, gap_is_way p r i)) w
 
 -- crossing by sides, of an edge and the segment of two vertices
-module _ (points : List Point) (distinct : ArePlacedApart points) (m : Mesh) (s : IsValid m) (count : length points ≡ length m.out_edges) (i j : ℕ) (hi : i < length points) (hj : j < length points) (i_not_j : i ≢ j) (e : ℕ) (within : e < length m.half_edges) where
+module _ (points : List Point) (distinct : ArePlacedApart points) (m : Mesh) (s : IsValidMesh m) (count : length points ≡ length m.out_edges) (i j : ℕ) (hi : i < length points) (hj : j < length points) (i_not_j : i ≢ j) (e : ℕ) (within : e < length m.half_edges) where
   abbrev AreParted : Type 0
   AreParted = Parts (place points i) (place points j) (place points (origin m e)) (place points (origin m (rev e))) × Parts (place points (origin m e)) (place points (origin m (rev e))) (place points i) (place points j)
 

@@ -2,7 +2,7 @@
 use Rattle.std.proofs.Common.{◌≡◌, ◌≢◌, ◌⊎◌, ℕ, ◌*◌, ◌/◌, ◌<◌, [], ◌∷◌, List, length, sym, ap, ◌∙◌, subst}
 use mathlib.Core.Logic.{inl, inr}
 use Rattle.std.specs.Prelude.{Contains}
-use Rattle.half_edge_links.specs.Mesh.{Mesh, IsSound, IsValid, origin, next, prev, face, rev}
+use Rattle.half_edge_links.specs.Mesh.{Mesh, AreSoundLinks, IsValidMesh, origin, next, prev, face, rev}
 use Rattle.half_edge_links.specs.Flip.{IsFlippable, Flips, flipped}
 use Rattle.half_edge_links.specs.Outline.{KeepsOuter}
 use Rattle.half_edge_links.specs.Triangles.{FlipsTriangles}
@@ -31,27 +31,27 @@ use Rattle.plane_paths.proofs.Order.{last_has_none_after}
 use Rattle.plane_paths.proofs.PathFlips.{piece_on_line_is_edge}
 use Rattle.plane_paths.proofs.Paths.{chosen_flip_is_convex, uncrossed_is_edge}
 use Rattle.plane_paths.proofs.Turns.{left_turn, turn-same}
-use Rattle.drawn_mesh.specs.Drawn.{drawn, faces_of, edges_of, outer_of}
-use Rattle.drawn_mesh.specs.Stays.{GoSameWay}
-use Rattle.drawn_mesh.proofs.FaceChanges.{turned_faces}
-use Rattle.drawn_mesh.proofs.MeshEdits.{face_before, face_behind, flipped_faces}
-use Rattle.drawn_mesh.proofs.MeshLegal.{between_inner}
-use Rattle.drawn_mesh.proofs.MeshStarFlips.{from_other_side}
-use Rattle.drawn_mesh.proofs.MeshStays.{halved}
-use Rattle.drawn_mesh.proofs.OuterChanges.{own_ends, outer_kept}
-use Rattle.drawn_mesh.proofs.OuterEdges.{listed}
-use Rattle.drawn_mesh.proofs.OwnEdges.{own_edges}
+use Rattle.mesh_embedding.specs.Drawn.{drawn, faces_of, edges_of, outer_of}
+use Rattle.mesh_embedding.specs.Stays.{GoSameWay}
+use Rattle.mesh_embedding.proofs.FaceChanges.{turned_faces}
+use Rattle.mesh_embedding.proofs.MeshEdits.{face_before, face_behind, flipped_faces}
+use Rattle.mesh_embedding.proofs.MeshLegal.{between_inner}
+use Rattle.mesh_embedding.proofs.MeshStarFlips.{from_other_side}
+use Rattle.mesh_embedding.proofs.MeshStays.{halved}
+use Rattle.mesh_embedding.proofs.OuterChanges.{own_ends, outer_kept}
+use Rattle.mesh_embedding.proofs.OuterEdges.{listed}
+use Rattle.mesh_embedding.proofs.OwnEdges.{own_edges}
 use Rattle.delaunay_legalization.proofs.Legalizing.{positive}
 use Rattle.delaunay_paths.specs.Crossing.{CrossesFromRight, CrossesSegment, IsLastBelow}
 use Rattle.delaunay_paths.specs.Kept.{KeepsUncrossed}
-use Rattle.drawn_mesh.proofs.EdgePairs.{edge_joins, joins_edge}
+use Rattle.mesh_embedding.proofs.EdgePairs.{edge_joins, joins_edge}
 
 -- ---- the ends of edges that are not turned
-pub others_stay : (m new : Mesh) (e : ℕ) → IsSound m → IsFlippable m e → Flips m new e → (h : ℕ) → h ≢ e → h ≢ rev e → GoSameWay m h new h
+pub others_stay : (m new : Mesh) (e : ℕ) → AreSoundLinks m → IsFlippable m e → Flips m new e → (h : ℕ) → h ≢ e → h ≢ rev e → GoSameWay m h new h
 others_stay m new e s can f h n t = (origin_kept m new e s can f h n t, origin_kept m new e s can f (rev h) (λ r. t (sym (rev-rev h) ∙ ap rev r)) (λ r. n (sym (rev-rev h) ∙ ap rev r ∙ rev-rev e)))
 
 -- ---- crossing edges, as the laws of the plane have them
-module _ (points : List Point) (m : Mesh) (s : IsValid m) (i j : ℕ) where
+module _ (points : List Point) (m : Mesh) (s : IsValidMesh m) (i j : ℕ) where
   abbrev t : Triangulation
   t = drawn points m
 

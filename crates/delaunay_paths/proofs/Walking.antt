@@ -18,7 +18,7 @@ use Rattle.plane_tiling.proofs.Edges.{within_on}
 use Rattle.plane_paths.proofs.Pieces.{on_of_mean}
 use Rattle.plane_paths.specs.Constraints.{AreNextOn, ArePlacedApart}
 use Rattle.delaunay_legalization.specs.Known.{point_at}
-use Rattle.drawn_mesh.proofs.EdgePairs.{Contains-map}
+use Rattle.mesh_embedding.proofs.EdgePairs.{Contains-map}
 
 -- ---- points strictly within a segment
 module _ (a b : Point) (apart : ¬ (a ≡ b)) where

@@ -2,7 +2,7 @@
 use Rattle.std.specs.Prelude.{ℕ, List}
 use Rattle.half_edge_links.specs.Mesh.{Mesh}
 use Rattle.plane.specs.Fraction.{Point}
-use Rattle.drawn_mesh.specs.Stays.{GoSameWay}
+use Rattle.mesh_embedding.specs.Stays.{GoSameWay}
 use Rattle.delaunay_paths.specs.Crossing.{CrossesSegment}
 
 -- each edge that does not cross the segment from i to j joins what it joined, under its index

@@ -5,7 +5,7 @@ ghost use Rattle.plane.specs.Fraction.{whole as fraction};
 ghost use Rattle.plane.specs.Side.{side, right, TurnsLeft};
 ghost use Rattle.plane.specs.Laws.{Parts};
 ghost use Rattle.plane_tiling.specs.Local.{IsMesh};
-ghost use Rattle.drawn_mesh.specs.Drawn.{faces_of, outer_of};
+ghost use Rattle.mesh_embedding.specs.Drawn.{faces_of, outer_of};
 ghost use Rattle.delaunay_core.specs.Place.{place_of};
 ghost use Rattle.delaunay_legalization.specs.Known.{point_at};
 ghost use Rattle.delaunay_paths.specs.Crossing.{CrossesFromRight, CrossesSegment};

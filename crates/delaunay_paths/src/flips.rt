@@ -4,7 +4,7 @@ ghost use Rattle.plane.specs.Tiling.{IsEdge};
 ghost use Rattle.plane_tiling.specs.Local.{IsMesh};
 ghost use Rattle.plane_paths.specs.Path.{IsFreeOfVertices};
 ghost use Rattle.plane_paths.specs.Measure.{crossing_sum};
-ghost use Rattle.drawn_mesh.specs.Drawn.{drawn, faces_of, outer_of};
+ghost use Rattle.mesh_embedding.specs.Drawn.{drawn, faces_of, outer_of};
 ghost use Rattle.delaunay_paths.specs.Crossing.{CrossesFromRight};
 ghost use Rattle.delaunay_paths.specs.Kept.{KeepsUncrossed};
 

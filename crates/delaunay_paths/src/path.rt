@@ -4,7 +4,7 @@ ghost use Rattle.plane.specs.Fraction.{whole as fraction, WithinSegment};
 ghost use Rattle.plane.specs.Pairs.{place};
 ghost use Rattle.plane_tiling.specs.Local.{IsMesh};
 ghost use Rattle.plane_paths.specs.Constraints.{AreNextOn};
-ghost use Rattle.drawn_mesh.specs.Drawn.{faces_of, outer_of};
+ghost use Rattle.mesh_embedding.specs.Drawn.{faces_of, outer_of};
 ghost use Rattle.delaunay_core.specs.Place.{place_of};
 
 use crate::crossing::position_of;

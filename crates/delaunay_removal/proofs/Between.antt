@@ -1,19 +1,19 @@
 -- An inner vertex with four neighbours, strictly between two of them.
 use Rattle.std.proofs.Common.{◌≡◌, ◌≢◌, ◌↔◌, ℕ, ◌<◌, List, length, sym, ap, ◌∙◌, subst, arith, inl, inr}
-use Rattle.half_edge_links.specs.Mesh.{Mesh, IsSound, IsValid, origin, rev}
+use Rattle.half_edge_links.specs.Mesh.{Mesh, AreSoundLinks, IsValidMesh, origin, rev}
 use Rattle.half_edge_links.specs.Peel.{turn, spoke}
 use Rattle.half_edge_links.specs.Round.{neighbour}
 use Rattle.half_edge_links.proofs.Rev.{rev_within}
 use Rattle.plane.specs.Fraction.{Point, whole, WithinSegment}
 use Rattle.plane_tiling.specs.Local.{LocalMesh}
-use Rattle.drawn_mesh.specs.Drawn.{faces_of, outer_of}
+use Rattle.mesh_embedding.specs.Drawn.{faces_of, outer_of}
 use Rattle.delaunay_legalization.specs.Known.{point_at}
 use Rattle.delaunay_removal.specs.Star.{IsBetweenAt, IsInnerStar, StandsBetween}
 use Rattle.delaunay_removal.proofs.InnerStars.{ends_differ}
 use Rattle.delaunay_removal.proofs.InnerHoles.{between_first_or_next}
 
 -- edges of different vertices start at different positions
-pub starts_apart : (points : List Point) (m : Mesh) → IsSound m → length m.out_edges ≡ length points → LocalMesh points (faces_of m) (outer_of m) → (a b : ℕ) → a < length m.half_edges → b < length m.half_edges → origin m a ≢ origin m b
+pub starts_apart : (points : List Point) (m : Mesh) → AreSoundLinks m → length m.out_edges ≡ length points → LocalMesh points (faces_of m) (outer_of m) → (a b : ℕ) → a < length m.half_edges → b < length m.half_edges → origin m a ≢ origin m b
     → (p q : Point) → p ≡ point_at points (origin m a) → q ≡ point_at points (origin m b) → p ≢ q
 starts_apart points m s count local a b a_in b_in differ p q at_p at_q e =
     local.distinct (origin m a) (origin m b)
@@ -21,7 +21,7 @@ starts_apart points m s count local a b a_in b_in differ p q at_p at_q e =
     differ (ap whole (sym at_p ∙ e ∙ at_q))
 
 -- ---- what is read at an edge of a vertex with four neighbours: its ends, and the end of the edge after the next
-module _ (points : List Point) (m : Mesh) (valid : IsValid m) (count : length m.out_edges ≡ length points) (v h opposite : ℕ) (star : IsInnerStar points m v h 4) (is : opposite ≡ turn m (turn m h))
+module _ (points : List Point) (m : Mesh) (valid : IsValidMesh m) (count : length m.out_edges ≡ length points) (v h opposite : ℕ) (star : IsInnerStar points m v h 4) (is : opposite ≡ turn m (turn m h))
     (p a b : Point) (at_p : p ≡ point_at points (origin m h)) (at_a : a ≡ point_at points (origin m (rev h))) (at_b : b ≡ point_at points (origin m (rev opposite))) where
   at_end : b ≡ point_at points (neighbour m h 2)
   at_end = at_b ∙ ap (λ e. point_at points (origin m (rev e))) is

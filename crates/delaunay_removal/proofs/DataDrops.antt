@@ -3,12 +3,12 @@ use Rattle.std.proofs.Common.{◌≡◌, ◌≢◌, ℕ, ◌-◌, ◌<◌, List,
 use Rattle.std.specs.Prelude.{slice_get, Contains}
 use Rattle.half_edge_links.specs.Mesh.{origin, rev}
 use Rattle.half_edge_links.specs.Triangles.{Triangle, triangles}
-use Rattle.half_edge_mesh.specs.Contents.{Contents, IsWhole}
+use Rattle.half_edge_mesh.specs.Contents.{Contents, IsMeshWithData}
 use Rattle.half_edge_mesh.specs.Removal.{FullEdge, FullFace, full_edges, full_faces, renumbered_edge, renumbered_face, DropsVertex, LeavesMesh}
 use Rattle.half_edge_mesh.proofs.Hubs.{count_faces}
-use Rattle.drawn_mesh.proofs.FaceChanges.{contains_map}
+use Rattle.mesh_embedding.proofs.FaceChanges.{contains_map}
 use Rattle.plane.specs.Fraction.{Point}
-use Rattle.delaunay_legalization.specs.Shape.{IsKept}
+use Rattle.delaunay_legalization.specs.Shape.{IsTriangulated}
 use Rattle.delaunay_legalization.specs.State.{state_of}
 use Rattle.delaunay_removal.specs.Star.{IsolatesVertex}
 use Rattle.delaunay_removal.specs.Data.{StandsBeside, KeepsDataBeside, HasDataOfEdge, HasDataOfFace}
@@ -17,7 +17,7 @@ use Rattle.delaunay_removal.proofs.DataReads.{edge_of, edge_read, face_of, face_
 use Rattle.delaunay_removal.proofs.DataStays.{edges_stand, joined_stand}
 
 -- ---- what stood while the vertex lost its edges has its data when the vertex has gone
-module _ {V D U F : Type 0} (old mid new : Contents V D U F) (before : IsWhole old) (after : IsWhole new) (v : ℕ) (value : V) (stands : StandsBeside old mid v) (same : mid.vertices ≡ old.vertices) (drops : DropsVertex mid new v value) where
+module _ {V D U F : Type 0} (old mid new : Contents V D U F) (before : IsMeshWithData old) (after : IsMeshWithData new) (v : ℕ) (value : V) (stands : StandsBeside old mid v) (same : mid.vertices ≡ old.vertices) (drops : DropsVertex mid new v value) where
   last_is : length mid.vertices - 1 ≡ length old.vertices - 1
   last_is = ap (λ (vs : List V). length vs - 1) same
 
@@ -53,7 +53,7 @@ module _ {V D U F : Type 0} (old mid new : Contents V D U F) (before : IsWhole o
   }
 
 -- ---- a vertex of a line
-module _ {V D U F : Type 0} (old new : Contents V D U F) (before : IsWhole old) (after : IsWhole new) (none : length old.faces ≡ 0) (v : ℕ) (value : V) (leaves : LeavesMesh old new v value) where
+module _ {V D U F : Type 0} (old new : Contents V D U F) (before : IsMeshWithData old) (after : IsMeshWithData new) (none : length old.faces ≡ 0) (v : ℕ) (value : V) (leaves : LeavesMesh old new v value) where
   abbrev mid : Contents V D U F
   mid = leaves.between
 
@@ -76,6 +76,6 @@ module _ {V D U F : Type 0} (old new : Contents V D U F) (before : IsWhole old) 
   line_data_kept = data_kept old mid new before after v value line_stands (ap (λ (c : Contents V D U F). c.vertices) leaves.leaves.contents) leaves.drops (ap (λ (c : Contents V D U F). c.outer) leaves.leaves.contents)
 
 -- ---- a vertex in the plane
-pub plane_data_kept : {V D U F : Type 0} (place : V → Point) (old mid new : Contents V D U F) (v : ℕ) (value : V) → IsKept place (state_of old) → IsKept place (state_of new) → IsolatesVertex (map place old.vertices) old mid v → DropsVertex mid new v value → KeepsDataBeside (state_of old) (state_of new) v
+pub plane_data_kept : {V D U F : Type 0} (place : V → Point) (old mid new : Contents V D U F) (v : ℕ) (value : V) → IsTriangulated place (state_of old) → IsTriangulated place (state_of new) → IsolatesVertex (map place old.vertices) old mid v → DropsVertex mid new v value → KeepsDataBeside (state_of old) (state_of new) v
 plane_data_kept place old mid new v value before after isolates drops =
     data_kept old mid new (record { valid = before.valid; fits = before.fits }) (record { valid = after.valid; fits = after.fits }) v value isolates.beside (same_vertices place old mid v isolates) drops (same_outer place old mid v isolates)

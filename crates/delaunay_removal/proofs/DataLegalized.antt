@@ -5,8 +5,8 @@ use Rattle.half_edge_links.specs.Mesh.{origin, rev}
 use Rattle.half_edge_links.specs.Triangles.{Triangle, triangles}
 use Rattle.half_edge_mesh.specs.Contents.{Contents}
 use Rattle.plane.specs.Fraction.{Point}
-use Rattle.drawn_mesh.specs.Stays.{HaveSameCorners, KeepsIndexes}
-use Rattle.delaunay_legalization.specs.Shape.{IsKept}
+use Rattle.mesh_embedding.specs.Stays.{HaveSameCorners, KeepsIndexes}
+use Rattle.delaunay_legalization.specs.Shape.{IsTriangulated}
 use Rattle.delaunay_legalization.specs.State.{State, state_of}
 use Rattle.delaunay_removal.specs.Data.{KeepsDataBeside, KeepsDataOfOthers, GoesWayOf, HasDataOfEdge, HasDataOfFace, renumbered_corners}
 
@@ -35,7 +35,7 @@ module _ {V D U F : Type 0} (old mid new : State V D U F) (v : ℕ) (beside : Ke
   }
 
 -- a vertex went, and the mesh that it left was legalized
-pub legalized_keeps_others : {V D U F : Type 0} (at : V → Point) (old : State V D U F) (mid new : Contents V D U F) (v : ℕ) → KeepsDataBeside old (state_of mid) v → IsKept at (state_of mid) → IsKept at (state_of new)
+pub legalized_keeps_others : {V D U F : Type 0} (at : V → Point) (old : State V D U F) (mid new : Contents V D U F) (v : ℕ) → KeepsDataBeside old (state_of mid) v → IsTriangulated at (state_of mid) → IsTriangulated at (state_of new)
     → new ≡ record mid { mesh = new.mesh } → KeepsIndexes mid.mesh new.mesh → KeepsDataOfOthers old (state_of new) v
 legalized_keeps_others at old mid new v beside before after same indexes =
     others_keep_data old (state_of mid) (state_of new) v beside before.fits.directed_fit after.fits.directed_fit (ap state_of same) indexes

@@ -5,12 +5,12 @@ use Rattle.std.proofs.lemmas.Bool.{cases_eq}
 use Rattle.std.proofs.lemmas.Grind.{common_steps}
 use Rattle.std.proofs.lemmas.List.{length-map}
 use Rattle.std.proofs.lemmas.Option.{slice_get-get_or, slice_get_within}
-use Rattle.half_edge_links.specs.Mesh.{IsSound, origin, rev}
+use Rattle.half_edge_links.specs.Mesh.{AreSoundLinks, origin, rev}
 use Rattle.half_edge_links.specs.Outline.{Ends, ends}
 use Rattle.half_edge_links.specs.Renames.{moved}
 use Rattle.half_edge_links.specs.Triangles.{Triangle, triangles, triangle_at}
 use Rattle.half_edge_links.proofs.TakenLists.{ends_at, count_ends}
-use Rattle.half_edge_mesh.specs.Contents.{Contents, IsWhole}
+use Rattle.half_edge_mesh.specs.Contents.{Contents, IsMeshWithData}
 use Rattle.half_edge_mesh.specs.Removal.{FullEdge, FullFace, full_edges, full_faces, renumbered_edge, renumbered_face}
 use Rattle.half_edge_mesh.proofs.Hubs.{count_faces}
 use Rattle.half_edge_mesh.proofs.TakenOut.{length-full_edges, get_or-full_edges, get_or-full_faces}
@@ -32,8 +32,8 @@ pub record IsFaceAt {V D U F : Type 0} (c : Contents V D U F) (k : ℕ) (f : Ful
   pub corners : slice_get (triangles c.mesh) k ≡ Some f.corners
   pub value : slice_get c.faces k ≡ Some f.value
 
-module _ {V D U F : Type 0} (c : Contents V D U F) (whole : IsWhole c) where
-  s : IsSound c.mesh
+module _ {V D U F : Type 0} (c : Contents V D U F) (whole : IsMeshWithData c) where
+  s : AreSoundLinks c.mesh
   s = whole.valid.sound
 
   us : length c.undirected ≡ length (ends c.mesh)

@@ -3,7 +3,7 @@ use Rattle.std.proofs.Common.{◌≡◌, ◌≢◌, ◌⊎◌, ℕ, ◌-◌, ◌
 use Rattle.std.specs.Prelude.{Contains}
 use Rattle.std.proofs.lemmas.List.{length-map, length-set, get_or-set_other}
 use Rattle.half_edge_links.specs.Flip.{IsFlippable, flipped}
-use Rattle.half_edge_links.specs.Mesh.{Mesh, IsSound, IsInner, origin, next, prev, face, rev}
+use Rattle.half_edge_links.specs.Mesh.{Mesh, AreSoundLinks, IsInner, origin, next, prev, face, rev}
 use Rattle.half_edge_links.specs.Outline.{Ends, ends, along}
 use Rattle.half_edge_links.specs.Peel.{turn}
 use Rattle.half_edge_links.specs.Round.{neighbour}
@@ -11,15 +11,15 @@ use Rattle.half_edge_links.specs.Triangles.{Triangle, triangles, triangle_at, Fl
 use Rattle.half_edge_links.proofs.EndsKept.{ends_flipped_is}
 use Rattle.half_edge_links.proofs.Rev.{rev-rev, rev_within}
 use Rattle.half_edge_links.proofs.TakenLists.{count_ends}
-use Rattle.half_edge_mesh.specs.Contents.{Contents, IsWhole}
+use Rattle.half_edge_mesh.specs.Contents.{Contents, IsMeshWithData}
 use Rattle.half_edge_mesh.specs.Growth.{joins}
 use Rattle.half_edge_mesh.specs.Removal.{FullEdge, FullFace, full_edges, full_edges_of, full_faces, full_faces_of}
 use Rattle.half_edge_mesh.proofs.TakenEdges.{between, listed_face, named_corners}
 use Rattle.half_edge_mesh.proofs.Touching.{with_other_ends, with_other_corners, full_edges-set, full_faces-set}
 use Rattle.plane.specs.Fraction.{Point}
 use Rattle.plane_tiling.specs.Local.{LocalMesh}
-use Rattle.drawn_mesh.specs.Drawn.{faces_of, outer_of}
-use Rattle.drawn_mesh.proofs.MeshStays.{halved}
+use Rattle.mesh_embedding.specs.Drawn.{faces_of, outer_of}
+use Rattle.mesh_embedding.proofs.MeshStays.{halved}
 use Rattle.delaunay_removal.specs.Data.{StandsBeside}
 use Rattle.delaunay_removal.proofs.DataStays.{no_end, no_corner}
 use Rattle.delaunay_removal.proofs.Rounds.{round_at}
@@ -29,11 +29,11 @@ use Rattle.delaunay_removal.proofs.Turns.{may_turn}
 pub unwritten : {X : Type 0} (xs : List X) (i j : ℕ) (x y : X) → j ≢ i → j < length xs → get_or xs j y ≡ y → (j < length (set xs i x)) × (get_or (set xs i x) j y ≡ y)
 unwritten xs i j x y off within is = (subst (λ (n : ℕ). j < n) (sym (length-set xs i x)) within, get_or-set_other xs i j x y off ∙ is)
 
-module _ {V D U F : Type 0} (c new : Contents V D U F) (whole : IsWhole c) (e v : ℕ) (flips : IsFlippable c.mesh e) (turned : new.mesh ≡ flipped c.mesh e) (same : new ≡ record c { mesh = new.mesh }) (at_v : (origin c.mesh e ≡ v) ⊎ (origin c.mesh (rev e) ≡ v)) where
+module _ {V D U F : Type 0} (c new : Contents V D U F) (whole : IsMeshWithData c) (e v : ℕ) (flips : IsFlippable c.mesh e) (turned : new.mesh ≡ flipped c.mesh e) (same : new ≡ record c { mesh = new.mesh }) (at_v : (origin c.mesh e ≡ v) ⊎ (origin c.mesh (rev e) ≡ v)) where
   abbrev m : Mesh
   m = c.mesh
 
-  s : IsSound m
+  s : AreSoundLinks m
   s = whole.valid.sound
 
   -- ---- edges
@@ -129,7 +129,7 @@ starts_or_ends m h v starts = elim (halved h) [
 ]
 
 -- the edge after h is turned, round the vertex where they start
-pub turned_stands : {V D U F : Type 0} (points : List Point) (c new : Contents V D U F) → IsWhole c → LocalMesh points (faces_of c.mesh) (outer_of c.mesh) → (h : ℕ) → h < length c.directed → 0 < face c.mesh h → 0 < face c.mesh (turn c.mesh h) → neighbour c.mesh h 0 ≢ neighbour c.mesh h 2
+pub turned_stands : {V D U F : Type 0} (points : List Point) (c new : Contents V D U F) → IsMeshWithData c → LocalMesh points (faces_of c.mesh) (outer_of c.mesh) → (h : ℕ) → h < length c.directed → 0 < face c.mesh h → 0 < face c.mesh (turn c.mesh h) → neighbour c.mesh h 0 ≢ neighbour c.mesh h 2
     → (k : ℕ) → k ≡ turn c.mesh h / 2 → new.mesh ≡ flipped c.mesh (2 * k) → new ≡ record c { mesh = new.mesh } → FlipsTriangles c.mesh new.mesh (2 * k) → StandsBeside c new (origin c.mesh h)
 turned_stands points c new whole local h within left right apart k is turned same triangles_are =
     let h_in = subst (λ (n : ℕ). h < n) whole.fits.directed_fit within in

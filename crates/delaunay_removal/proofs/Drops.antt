@@ -2,16 +2,16 @@
 use Rattle.std.proofs.Common.{◌≡◌, ℕ, ◌<◌, List, [], length, map, Some, sym, ap, subst, inl, inr, arith}
 use Rattle.std.specs.Prelude.{All, slice_get, swap_remove}
 use Rattle.std.proofs.lemmas.Option.{slice_get_within}
-use Rattle.half_edge_mesh.specs.Contents.{Contents, IsWhole}
+use Rattle.half_edge_mesh.specs.Contents.{Contents, IsMeshWithData}
 use Rattle.half_edge_mesh.specs.Removal.{DropsVertex}
 use Rattle.plane.specs.Fraction.{Point}
 use Rattle.plane.specs.Plain.{Removes}
 use Rattle.plane.specs.Tests.{InRange}
 use Rattle.plane_tiling.specs.Local.{LocalMesh}
-use Rattle.drawn_mesh.specs.Drawn.{faces_of, outer_of}
-use Rattle.drawn_mesh.proofs.MeshRemovals.{vertex_goes, vertex_goes_to_line, plain_removes}
+use Rattle.mesh_embedding.specs.Drawn.{faces_of, outer_of}
+use Rattle.mesh_embedding.proofs.MeshRemovals.{vertex_goes, vertex_goes_to_line, plain_removes}
 use Rattle.delaunay_legalization.specs.State.{state_of}
-use Rattle.delaunay_legalization.specs.Shape.{IsKept}
+use Rattle.delaunay_legalization.specs.Shape.{IsTriangulated}
 use Rattle.delaunay_legalization.proofs.ElementCounts.{faces_counted}
 use Rattle.delaunay_removal.specs.Star.{IsMeshWithout, IsolatesVertex}
 use Rattle.delaunay_removal.proofs.Removing.{all_left, kept_by_shape}
@@ -23,7 +23,7 @@ module _ {V D U F : Type 0} (place : V → Point) (old new : Contents V D U F) (
   pub dropped_plain : Removes place (record { vertices = old.vertices; constraints = [] }) (record { vertices = new.vertices; constraints = [] }) v
   dropped_plain = plain_removes place old old new v value (λ i. old.vertices) drops
 
-  pub dropped_kept : IsWhole old → IsWhole new → All (λ u. InRange (place u)) old.vertices → IsMeshWithout v (map place old.vertices) (faces_of old.mesh) (outer_of old.mesh) → IsKept place (state_of new)
+  pub dropped_kept : IsMeshWithData old → IsMeshWithData new → All (λ u. InRange (place u)) old.vertices → IsMeshWithout v (map place old.vertices) (faces_of old.mesh) (outer_of old.mesh) → IsTriangulated place (state_of new)
   dropped_kept before after ranged shape = kept_by_shape place new
       (subst (λ (vs : List V). All (λ u. InRange (place u)) vs) (sym vertices_left) (all_left (λ u. InRange (place u)) old.vertices v value (slice_get_within old.vertices v value drops.had) ranged))
       after
@@ -53,7 +53,7 @@ module _ {V D U F : Type 0} (place : V → Point) (old mid : Contents V D U F) (
   plain_as new removes = subst (λ (vs : List V). Removes place (record { vertices = vs; constraints = [] }) (record { vertices = new.vertices; constraints = [] }) v) same_vertices removes
 
 -- ---- with inner faces the mesh is one in the plane
-pub in_the_plane : {V D U F : Type 0} (place : V → Point) (c : Contents V D U F) → IsKept place (state_of c) → 0 < length c.faces → LocalMesh (map place c.vertices) (faces_of c.mesh) (outer_of c.mesh)
+pub in_the_plane : {V D U F : Type 0} (place : V → Point) (c : Contents V D U F) → IsTriangulated place (state_of c) → 0 < length c.faces → LocalMesh (map place c.vertices) (faces_of c.mesh) (outer_of c.mesh)
 in_the_plane place c kept some = elim kept.shape [
   | inl m ↦ m
   | inr m ↦ absurd (let n = faces_counted c (record { valid = kept.valid; fits = kept.fits }) in let z = ap length m.0 in omega (arith, n, z, some))

@@ -1,14 +1,14 @@
 -- The search for an edge of a vertex with the outer face on its right.
 use Rattle.std.proofs.Common.{◌≡◌, ℕ, zero, suc, ◌+◌, ◌<◌, sym, ap, ◌∙◌, arith, inl, inr}
 use Rattle.std.proofs.lemmas.Bool.{cases_lt}
-use Rattle.half_edge_links.specs.Mesh.{Mesh, IsSound, prev, face, rev}
+use Rattle.half_edge_links.specs.Mesh.{Mesh, AreSoundLinks, prev, face, rev}
 use Rattle.half_edge_links.specs.Peel.{spoke}
 use Rattle.half_edge_links.specs.Round.{IsRound}
 use Rattle.half_edge_links.proofs.Rev.{rev-rev}
 use Rattle.delaunay_removal.specs.Star.{HasInnerFaces}
 
 -- where none has it, the faces round the vertex are inner ones
-pub faces_inner : (m : Mesh) (v first count : ℕ) → IsSound m → IsRound m v first count → ((i : ℕ) → i < count → ¬ (face m (rev (spoke m first i)) ≡ 0)) → HasInnerFaces m v
+pub faces_inner : (m : Mesh) (v first count : ℕ) → AreSoundLinks m → IsRound m v first count → ((i : ℕ) → i < count → ¬ (face m (rev (spoke m first i)) ≡ 0)) → HasInnerFaces m v
 faces_inner m v first count s round none h within starts = go (face m h) refl_face
   where
     at : (i : ℕ) × (i < count) × (h ≡ spoke m first i)

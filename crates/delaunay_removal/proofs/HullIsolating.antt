@@ -2,19 +2,19 @@
 use Rattle.std.proofs.Common.{◌≡◌, ℕ, ◌-◌, ◌<◌, ◌≤◌, List, length, map, sym, ap, subst, arith}
 use Rattle.std.specs.Prelude.{All}
 use Rattle.half_edge_links.specs.Round.{neighbour}
-use Rattle.half_edge_mesh.specs.Contents.{Contents, IsWhole}
+use Rattle.half_edge_mesh.specs.Contents.{Contents, IsMeshWithData}
 use Rattle.half_edge_views.proofs.Loops.{round_fits}
 use Rattle.plane.specs.Fraction.{Point}
 use Rattle.plane.specs.Pairs.{place as at}
 use Rattle.plane.specs.Side.{side, on}
 use Rattle.delaunay_removal.specs.Data.{StandsBeside}
 use Rattle.delaunay_removal.specs.Star.{IsolatesVertex}
-use Rattle.delaunay_removal.specs.Hull.{IsBent, IsCornerAt, IsHullStar}
+use Rattle.delaunay_removal.specs.Hull.{HasNoFlippableEdge, IsCornerAt, IsHullStar}
 use Rattle.delaunay_removal.proofs.HullStars.{flat_has_three}
 use Rattle.delaunay_removal.proofs.HullSides.{corner_read}
 use Rattle.delaunay_removal.proofs.InnerHoles.{isolates_from}
 
-module _ {V D U F : Type 0} (place : V → Point) (old mid : Contents V D U F) (whole : IsWhole mid) (v first count : ℕ) (contents : mid ≡ record old { mesh = mid.mesh }) (star : IsHullStar (map place mid.vertices) mid.mesh v first count) where
+module _ {V D U F : Type 0} (place : V → Point) (old mid : Contents V D U F) (whole : IsMeshWithData mid) (v first count : ℕ) (contents : mid ≡ record old { mesh = mid.mesh }) (star : IsHullStar (map place mid.vertices) mid.mesh v first count) where
   same : mid.vertices ≡ old.vertices
   same = ap (λ (c : Contents V D U F). c.vertices) contents
 
@@ -35,7 +35,7 @@ module _ {V D U F : Type 0} (place : V → Point) (old mid : Contents V D U F) (
   hull_named vertex named = subst (λ (x : ℕ). IsHullStar (map place mid.vertices) mid.mesh x first count) named star
 
   -- no corner, and no edge to turn: a flat side with two faces
-  module _ (bent : IsBent (map place mid.vertices) mid.mesh first count) (not : ¬ IsCornerAt (map place mid.vertices) mid.mesh first) (vertex : ℕ) (named : v ≡ vertex) where
+  module _ (bent : HasNoFlippableEdge (map place mid.vertices) mid.mesh first count) (not : ¬ IsCornerAt (map place mid.vertices) mid.mesh first) (vertex : ℕ) (named : v ≡ vertex) where
     flat : (count ≡ 3) × (side (at (map place mid.vertices) (neighbour mid.mesh first 0)) (at (map place mid.vertices) v) (at (map place mid.vertices) (neighbour mid.mesh first (count - 1))) ≡ on)
     flat = flat_has_three (map place mid.vertices) mid.mesh whole.valid v first count star bent (λ t. not ((corner_read (map place mid.vertices) mid.mesh whole.valid v first count star).1 t))
 

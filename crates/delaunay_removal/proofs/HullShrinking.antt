@@ -6,11 +6,11 @@ use Rattle.half_edge_links.specs.Outline.{KeepsOuter}
 use Rattle.half_edge_links.specs.Peel.{turn, spoke}
 use Rattle.half_edge_links.specs.Round.{neighbour}
 use Rattle.half_edge_links.specs.Triangles.{FlipsTriangles}
-use Rattle.half_edge_mesh.specs.Contents.{Contents, IsWhole}
+use Rattle.half_edge_mesh.specs.Contents.{Contents, IsMeshWithData}
 use Rattle.plane.specs.Fraction.{Point}
 use Rattle.delaunay_removal.specs.Data.{StandsBeside}
 use Rattle.delaunay_removal.specs.Star.{IsConvexAt}
-use Rattle.delaunay_removal.specs.Hull.{IsHullStar, IsBent}
+use Rattle.delaunay_removal.specs.Hull.{IsHullStar, HasNoFlippableEdge}
 use Rattle.delaunay_removal.proofs.DataStays.{stands_on}
 use Rattle.delaunay_removal.proofs.HullStars.{has_two, hull_ends_differ, left_of, right_of, hull_star_less}
 
@@ -23,14 +23,14 @@ pub record IsHullShrinking {V D U F : Type 0} (place : V → Point) (old now : C
   pub contents : now ≡ record old { mesh = now.mesh }
   pub star : IsHullStar (map place now.vertices) now.mesh v first count
   pub many : 2 ≤ count
-  pub whole : IsWhole now
+  pub whole : IsMeshWithData now
   pub beside : StandsBeside old now v
 
 module _ {V D U F : Type 0} (place : V → Point) (old now : Contents V D U F) (v first count : ℕ) (shrinking : IsHullShrinking place old now v first count) where
   pub hull_sites_stay : (IsSite : Point → Type 0) → All IsSite (map place old.vertices) → All IsSite (map place now.vertices)
   hull_sites_stay IsSite sites = subst (λ (vs : List V). All IsSite (map place vs)) (sym (ap (λ (c : Contents V D U F). c.vertices) shrinking.contents)) sites
 
-  pub bent_at_end : ((i : ℕ) → i < count - 2 → ¬ IsConvexAt (map place now.vertices) now.mesh (spoke now.mesh first i)) → IsBent (map place now.vertices) now.mesh first count
+  pub bent_at_end : ((i : ℕ) → i < count - 2 → ¬ IsConvexAt (map place now.vertices) now.mesh (spoke now.mesh first i)) → HasNoFlippableEdge (map place now.vertices) now.mesh first count
   bent_at_end none i less = none i (omega (arith, less))
 
   pub hull_first_in : first < length now.directed
@@ -50,7 +50,7 @@ module _ {V D U F : Type 0} (place : V → Point) (old now : Contents V D U F) (
     place_apart = subst (λ (h : ℕ). neighbour now.mesh h 0 ≢ neighbour now.mesh h 2) (sym at.2) (hull_ends_differ (map place now.vertices) now.mesh shrinking.whole.valid v first count shrinking.star at.0 below)
 
     -- one more turn
-    pub hull_shrinking_goes_on : (new : Contents V D U F) → IsWhole new → IsConvexAt (map place now.vertices) now.mesh edge → new ≡ record now { mesh = new.mesh } → FlipsTriangles now.mesh new.mesh (2 * (turn now.mesh edge / 2)) → KeepsOuter now.mesh new.mesh → StandsBeside now new (origin now.mesh edge)
+    pub hull_shrinking_goes_on : (new : Contents V D U F) → IsMeshWithData new → IsConvexAt (map place now.vertices) now.mesh edge → new ≡ record now { mesh = new.mesh } → FlipsTriangles now.mesh new.mesh (2 * (turn now.mesh edge / 2)) → KeepsOuter now.mesh new.mesh → StandsBeside now new (origin now.mesh edge)
         → IsHullShrinking place old new v first (count - 1)
     hull_shrinking_goes_on new after convex contents triangles outer stands = record {
       contents = contents ∙ ap (λ (c : Contents V D U F). record c { mesh = new.mesh }) shrinking.contents;

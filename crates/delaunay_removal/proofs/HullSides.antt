@@ -4,7 +4,7 @@ use Rattle.std.specs.Prelude.{slice_index}
 use Rattle.std.proofs.lemmas.Bool.{cases_lt}
 use Rattle.std.proofs.lemmas.List.{length-append, get_or_append_left, get_or_push}
 use Rattle.std.proofs.Math.Numerals.{add-one}
-use Rattle.half_edge_links.specs.Mesh.{Mesh, IsValid, origin, next, rev}
+use Rattle.half_edge_links.specs.Mesh.{Mesh, IsValidMesh, origin, next, rev}
 use Rattle.half_edge_links.specs.Peel.{turn, spoke}
 use Rattle.half_edge_links.specs.Round.{neighbour}
 use Rattle.plane.specs.Fraction.{Point}
@@ -47,7 +47,7 @@ collecting_goes_on m bound room first count edge sides listed capacity so_far si
     ]
 
 -- the question is that of the first and the last neighbour
-pub corner_read : (points : List Point) (m : Mesh) → IsValid m → (v first count : ℕ) → IsHullStar points m v first count → IsCornerAt points m first ↔ TurnsLeft (place points v) (place points (neighbour m first 0)) (place points (neighbour m first (count - 1)))
+pub corner_read : (points : List Point) (m : Mesh) → IsValidMesh m → (v first count : ℕ) → IsHullStar points m v first count → IsCornerAt points m first ↔ TurnsLeft (place points v) (place points (neighbour m first 0)) (place points (neighbour m first (count - 1)))
 corner_read points m valid v first count star = (
   (λ t. subst (λ (x : ℕ × ℕ). TurnsLeft (place points x.0) (place points (neighbour m first 0)) (place points (origin m (rev x.1)))) (λ i. (star.round.starts 0 i, gap i)) t),
   (λ t. subst (λ (x : ℕ × ℕ). TurnsLeft (place points x.0) (place points (neighbour m first 0)) (place points (origin m (rev x.1)))) (λ i. (sym (star.round.starts 0) i, sym gap i)) t),

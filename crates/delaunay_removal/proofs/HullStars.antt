@@ -2,7 +2,7 @@
 use Rattle.std.proofs.Common.{◌≡◌, ◌≢◌, ℕ, zero, suc, ◌-◌, ◌*◌, ◌/◌, ◌<◌, ◌≤◌, List, length, refl, sym, ap, ◌∙◌, subst, arith, inl, inr}
 use Rattle.std.specs.Prelude.{Contains}
 use Rattle.std.proofs.lemmas.Bool.{cases_lt}
-use Rattle.half_edge_links.specs.Mesh.{Mesh, IsValid, origin, face, rev}
+use Rattle.half_edge_links.specs.Mesh.{Mesh, IsValidMesh, origin, face, rev}
 use Rattle.half_edge_links.specs.Outline.{KeepsOuter, IsOuterEdge}
 use Rattle.half_edge_links.specs.Peel.{spoke, IsStrip}
 use Rattle.half_edge_links.specs.Round.{IsRound, neighbour}
@@ -17,15 +17,15 @@ use Rattle.plane_tiling.proofs.Tiles.{point_at, by_signs}
 use Rattle.plane_edits.specs.RemovalHull as P
 use Rattle.plane_edits.specs.StarFlips.{IsStarFlip}
 use Rattle.plane_edits.proofs.RemovalHulls.{corner_or_flat, corner_star_flips, flat_star_flips}
-use Rattle.drawn_mesh.specs.Drawn.{faces_of, outer_of}
-use Rattle.drawn_mesh.proofs.MeshStars.{hull_star, hull_strip, neighbours_apart}
-use Rattle.drawn_mesh.proofs.MeshStarFlips.{star_flip, star_flip_local, one_hull_neighbour_less}
+use Rattle.mesh_embedding.specs.Drawn.{faces_of, outer_of}
+use Rattle.mesh_embedding.proofs.MeshStars.{hull_star, hull_strip, neighbours_apart}
+use Rattle.mesh_embedding.proofs.MeshStarFlips.{star_flip, star_flip_local, one_hull_neighbour_less}
 use Rattle.delaunay_removal.specs.Star.{IsConvexAt}
-use Rattle.delaunay_removal.specs.Hull.{IsHullStar, IsBent}
+use Rattle.delaunay_removal.specs.Hull.{IsHullStar, HasNoFlippableEdge}
 use Rattle.delaunay_removal.proofs.Rounds.{round_at}
 
 -- ---- what the edges of a vertex on the hull know
-module _ (points : List Point) (m : Mesh) (valid : IsValid m) (v first count : ℕ) (star : IsHullStar points m v first count) where
+module _ (points : List Point) (m : Mesh) (valid : IsValidMesh m) (v first count : ℕ) (star : IsHullStar points m v first count) where
   pub hull_in_plane : P.IsHullStar (faces_of m) (outer_of m) v (count - 1) (neighbour m first)
   hull_in_plane = hull_star points m valid star.shape v first count star.round star.outer
 
@@ -50,7 +50,7 @@ module _ (points : List Point) (m : Mesh) (valid : IsValid m) (v first count : �
   hull_ends_differ i less e = absurd (let q = neighbours_apart points m valid star.shape v first count star.round i (suc (suc i)) (omega (arith, less)) less e in omega (arith, q))
 
   -- a corner of the hull where no edge can be turned
-  module _ (bent : IsBent points m first count) where
+  module _ (bent : HasNoFlippableEdge points m first count) where
     pub none_turns : TurnsLeft (place points v) (place points (neighbour m first 0)) (place points (neighbour m first (count - 1))) → P.NoneTurnsLeft points (count - 1) (neighbour m first)
     none_turns corner i less far = bent i (omega (arith, less)) (record {
       far = far;
@@ -80,7 +80,7 @@ module _ (points : List Point) (m : Mesh) (valid : IsValid m) (v first count : �
     pub right_of : 0 < face m (spoke m first (suc i))
     right_of = strip_of.inner (suc i) (omega (arith, less))
 
-    module _ (new : Mesh) (after : IsValid new) (convex : IsConvexAt points m (spoke m first i)) (triangles : FlipsTriangles m new (2 * (spoke m first (suc i) / 2))) (outer : KeepsOuter m new) where
+    module _ (new : Mesh) (after : IsValidMesh new) (convex : IsConvexAt points m (spoke m first i)) (triangles : FlipsTriangles m new (2 * (spoke m first (suc i) / 2))) (outer : KeepsOuter m new) where
       flip : IsStarFlip points (faces_of m) (faces_of new) (outer_of m) (outer_of new) v (neighbour m first) i
       flip = star_flip points m valid star.shape v first count star.round i left_of right_of new triangles outer convex.far
           (subst (λ (x : ℕ). TurnsLeft (place points x) (place points (neighbour m first i)) (place points (neighbour m first (suc (suc i))))) (star.round.starts i) convex.near)

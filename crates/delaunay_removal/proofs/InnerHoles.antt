@@ -1,21 +1,21 @@
 -- The hole that an inner vertex leaves: of three faces one, of four two.
 use Rattle.std.proofs.Common.{◌≡◌, ◌⊎◌, ℕ, zero, suc, ◌+◌, ◌*◌, ◌/◌, ◌<◌, List, [], ◌∷◌, refl, sym, ap, ◌∙◌, subst, arith, inl, inr}
-use Rattle.half_edge_links.specs.Mesh.{Mesh, IsSound, origin, next, prev, rev}
+use Rattle.half_edge_links.specs.Mesh.{Mesh, AreSoundLinks, origin, next, prev, rev}
 use Rattle.half_edge_links.specs.Flip.{flipped}
 use Rattle.half_edge_links.specs.Outline.{KeepsOuter}
 use Rattle.half_edge_links.specs.Peel.{turn, IsWheel}
 use Rattle.half_edge_links.specs.Round.{neighbour}
 use Rattle.half_edge_links.specs.Triangles.{FlipsTriangles}
-use Rattle.half_edge_mesh.specs.Contents.{Contents, IsWhole}
+use Rattle.half_edge_mesh.specs.Contents.{Contents, IsMeshWithData}
 use Rattle.half_edge_mesh.specs.Hole.{IsBorder, FillsWithFan}
 use Rattle.half_edge_mesh.specs.Removal.{FillsHole, first_spoke}
 use Rattle.half_edge_mesh.proofs.HoleFilled.{fan_of_three}
 use Rattle.plane.specs.Fraction.{Point, WithinSegment}
 use Rattle.plane.specs.Pairs.{place}
 use Rattle.plane_tiling.proofs.Edges.{turned_within}
-use Rattle.drawn_mesh.proofs.Borders.{border_of_wheel}
-use Rattle.drawn_mesh.proofs.MeshVertexLeaves.{leaves_three, leaves_four}
-use Rattle.drawn_mesh.proofs.StarTurns.{wheel_of_three, wheel_left}
+use Rattle.mesh_embedding.proofs.Borders.{border_of_wheel}
+use Rattle.mesh_embedding.proofs.MeshVertexLeaves.{leaves_three, leaves_four}
+use Rattle.mesh_embedding.proofs.StarTurns.{wheel_of_three, wheel_left}
 use Rattle.delaunay_removal.specs.Data.{StandsBeside}
 use Rattle.delaunay_removal.specs.Star.{IsBetweenAt, IsInnerStar, StandsBetween, IsolatesVertex}
 use Rattle.delaunay_removal.proofs.DataStays.{hole_stands, stands_on}
@@ -23,7 +23,7 @@ use Rattle.delaunay_removal.proofs.InnerStars.{spokes_inner, turns}
 
 -- ---- three faces
 -- the sides opposite a vertex, as they are read
-pub border_read : (m : Mesh) (v first second third a b c : ℕ) → IsSound m → IsWheel m first → origin m first ≡ v → second ≡ turn m first → third ≡ turn m second → a ≡ next m first → b ≡ next m second → c ≡ next m third → IsBorder m (a ∷ b ∷ c ∷ []) v
+pub border_read : (m : Mesh) (v first second third a b c : ℕ) → AreSoundLinks m → IsWheel m first → origin m first ≡ v → second ≡ turn m first → third ≡ turn m second → a ≡ next m first → b ≡ next m second → c ≡ next m third → IsBorder m (a ∷ b ∷ c ∷ []) v
 border_read m v first second third a b c s wheel starts is_second is_third is_a is_b is_c =
     subst (λ (x : ℕ × ℕ × ℕ). IsBorder m (x.0 ∷ x.1 ∷ x.2 ∷ []) v) (λ i. (sym is_a i, sym at_b i, sym at_c i)) (border_of_wheel m v first s wheel starts)
   where
@@ -34,15 +34,15 @@ border_read m v first second third a b c s wheel starts is_second is_third is_a 
     at_c = is_c ∙ ap (next m) (is_third ∙ ap (turn m) is_second)
 
 -- the hole is one of the neighbours from first on
-pub hole_read : {V D U F : Type 0} (old new : Contents V D U F) (v first a b c : ℕ) → IsSound old.mesh → IsWheel old.mesh first → a ≡ next old.mesh first
+pub hole_read : {V D U F : Type 0} (old new : Contents V D U F) (v first a b c : ℕ) → AreSoundLinks old.mesh → IsWheel old.mesh first → a ≡ next old.mesh first
     → FillsWithFan old new v (neighbour old.mesh (first_spoke old.mesh (a ∷ b ∷ c ∷ []))) 3 → FillsHole old new v (neighbour old.mesh first)
 hole_read old new v first a b c s wheel is_a fills = fan_of_three old new v (neighbour old.mesh first) (subst (λ (h : ℕ). FillsWithFan old new v (neighbour old.mesh h) 3) (ap (prev old.mesh) is_a ∙ (s.edges first wheel.within).prev_next) fills)
 
-module _ {V D U F : Type 0} (points : List Point) (old : Contents V D U F) (before : IsWhole old) (v first : ℕ) where
+module _ {V D U F : Type 0} (points : List Point) (old : Contents V D U F) (before : IsMeshWithData old) (v first : ℕ) where
   pub wheel_at : IsInnerStar points old.mesh v first 3 → IsWheel old.mesh first
   wheel_at star = wheel_of_three old.mesh v first star.round (spokes_inner points old.mesh before.valid v first 3 star)
 
-module _ {V D U F : Type 0} (points : List Point) (old new : Contents V D U F) (before : IsWhole old) (after : IsWhole new) (v first : ℕ) where
+module _ {V D U F : Type 0} (points : List Point) (old new : Contents V D U F) (before : IsMeshWithData old) (after : IsMeshWithData new) (v first : ℕ) where
   pub three_isolate : IsInnerStar points old.mesh v first 3 → FillsHole old new v (neighbour old.mesh first) → IsolatesVertex points old new v
   three_isolate star hole = record {
     contents = hole.contents;
@@ -69,13 +69,13 @@ between_first_or_next points m v first star (i, less, within) = go i less within
     go (suc (suc (suc zero))) l w = inr (subst (λ (x : ℕ × ℕ). WithinSegment (place points x.0) (place points (neighbour m first 3)) (place points x.1)) (λ t. (again 1 5 refl t, sym (star.round.starts 1) t)) (at (neighbour m first 3) (neighbour m first 5) w))
     go (suc (suc (suc (suc i)))) l w = absurd (omega (arith, l))
 
-module _ {V D U F : Type 0} (points : List Point) (old mid : Contents V D U F) (before : IsWhole old) (v first : ℕ) (star : IsInnerStar points old.mesh v first 4) (turned : mid.mesh ≡ flipped old.mesh (2 * (turn old.mesh first / 2))) where
+module _ {V D U F : Type 0} (points : List Point) (old mid : Contents V D U F) (before : IsMeshWithData old) (v first : ℕ) (star : IsInnerStar points old.mesh v first 4) (turned : mid.mesh ≡ flipped old.mesh (2 * (turn old.mesh first / 2))) where
   -- a turn leaves three of them
   pub wheel_after : IsWheel mid.mesh first
   wheel_after = wheel_left old.mesh mid.mesh before.valid v first star.round (spokes_inner points old.mesh before.valid v first 4 star) (turns points old.mesh mid.mesh before.valid v first 4 star (omega arith) turned)
 
   -- and then the hole is filled
-  pub four_isolate : (new : Contents V D U F) → IsWhole mid → IsWhole new → mid ≡ record old { mesh = mid.mesh } → FlipsTriangles old.mesh mid.mesh (2 * (turn old.mesh first / 2)) → KeepsOuter old.mesh mid.mesh
+  pub four_isolate : (new : Contents V D U F) → IsMeshWithData mid → IsMeshWithData new → mid ≡ record old { mesh = mid.mesh } → FlipsTriangles old.mesh mid.mesh (2 * (turn old.mesh first / 2)) → KeepsOuter old.mesh mid.mesh
       → StandsBeside old mid v → IsBetweenAt points old.mesh first → FillsHole mid new v (neighbour mid.mesh first) → IsolatesVertex points old new v
   four_isolate new middle after same triangles outer stands between hole = record {
     contents = hole.contents ∙ ap (λ (c : Contents V D U F). record c { mesh = new.mesh; directed = new.directed; undirected = new.undirected; faces = new.faces }) same;

@@ -1,12 +1,12 @@
 -- An inner vertex loses a neighbour by a turn of an edge, until three are left, or four with the vertex between two of them.
 use Rattle.std.proofs.Common.{◌≡◌, ◌≢◌, ℕ, zero, suc, ◌+◌, ◌-◌, ◌*◌, ◌/◌, ◌<◌, ◌≤◌, List, length, refl, sym, ap, ◌∙◌, subst, arith, inl, inr}
-use Rattle.half_edge_links.specs.Mesh.{Mesh, IsValid, origin, face, rev}
+use Rattle.half_edge_links.specs.Mesh.{Mesh, IsValidMesh, origin, face, rev}
 use Rattle.half_edge_links.specs.Flip.{flipped}
 use Rattle.half_edge_links.specs.Outline.{KeepsOuter}
 use Rattle.half_edge_links.specs.Peel.{turn, spoke}
 use Rattle.half_edge_links.specs.Round.{IsRound, neighbour}
 use Rattle.half_edge_links.specs.Triangles.{FlipsTriangles}
-use Rattle.half_edge_mesh.specs.Contents.{Contents, IsWhole}
+use Rattle.half_edge_mesh.specs.Contents.{Contents, IsMeshWithData}
 use Rattle.plane.specs.Fraction.{Point, Fraction}
 use Rattle.plane.specs.Pairs.{place}
 use Rattle.plane.specs.Side.{TurnsLeft, left, right, opposite}
@@ -15,11 +15,11 @@ use Rattle.plane_tiling.specs.Local.{LocalMesh}
 use Rattle.plane_edits.specs.Removal.{IsStar}
 use Rattle.plane_edits.specs.StarFlips.{IsStarFlip}
 use Rattle.plane_edits.proofs.Kept.{turning_of}
-use Rattle.drawn_mesh.specs.Drawn.{faces_of, outer_of}
-use Rattle.drawn_mesh.proofs.MeshStars.{inner_star}
-use Rattle.drawn_mesh.proofs.MeshStarFlips.{spoke_flippable, twin_flippable, star_flip, star_flip_local, one_neighbour_less}
-use Rattle.drawn_mesh.proofs.MeshVertexLeaves.{inner_choice}
-use Rattle.drawn_mesh.proofs.StarTurns.{TurnsAway, turns_away, same_start}
+use Rattle.mesh_embedding.specs.Drawn.{faces_of, outer_of}
+use Rattle.mesh_embedding.proofs.MeshStars.{inner_star}
+use Rattle.mesh_embedding.proofs.MeshStarFlips.{spoke_flippable, twin_flippable, star_flip, star_flip_local, one_neighbour_less}
+use Rattle.mesh_embedding.proofs.MeshVertexLeaves.{inner_choice}
+use Rattle.mesh_embedding.proofs.StarTurns.{TurnsAway, turns_away, same_start}
 use Rattle.delaunay_removal.specs.Star.{IsConvexAt, HasInnerFaces, IsInnerStar, IsReduced}
 use Rattle.delaunay_removal.proofs.Rounds.{round_of, round_at}
 
@@ -31,7 +31,7 @@ no_way_back v a b there back = clash (sym back ∙ sym (side_turned v b a) ∙ s
     clash e = cc
 
 -- ---- what the edges of an inner vertex know
-module _ (points : List Point) (m : Mesh) (valid : IsValid m) (v first count : ℕ) (star : IsInnerStar points m v first count) where
+module _ (points : List Point) (m : Mesh) (valid : IsValidMesh m) (v first count : ℕ) (star : IsInnerStar points m v first count) where
   pub spokes_inner : (i : ℕ) → 0 < face m (spoke m first i)
   spokes_inner i = star.inner (spoke m first i) (star.round.within i) (star.round.starts i)
 
@@ -62,7 +62,7 @@ module _ (points : List Point) (m : Mesh) (valid : IsValid m) (v first count : �
       at_least (suc (suc (suc n))) is = omega (arith, is)
 
 -- ---- a turn of the edge after h
-module _ (points : List Point) (m new : Mesh) (valid : IsValid m) (v h count : ℕ) (star : IsInnerStar points m v h count) (many : 3 < count) (turned : new ≡ flipped m (2 * (turn m h / 2))) where
+module _ (points : List Point) (m new : Mesh) (valid : IsValidMesh m) (v h count : ℕ) (star : IsInnerStar points m v h count) (many : 3 < count) (turned : new ≡ flipped m (2 * (turn m h / 2))) where
   spoke_in : (i : ℕ) → 0 < face m (spoke m h i)
   spoke_in = spokes_inner points m valid v h count star
 
@@ -87,7 +87,7 @@ module _ (points : List Point) (m new : Mesh) (valid : IsValid m) (v h count : �
             let o = outer.only g v (origin new (rev g)) (record { within = within; outer = e; source = starts; target = refl }) in
             absurd (let i = star.inner g o.within o.source in let z = o.outer in omega (arith, i, z))
 
-    module _ (after : IsValid new) (triangles : FlipsTriangles m new (2 * (turn m h / 2))) (convex : IsConvexAt points m h) where
+    module _ (after : IsValidMesh new) (triangles : FlipsTriangles m new (2 * (turn m h / 2))) (convex : IsConvexAt points m h) where
       star_at : IsStar (faces_of m) v count (neighbour m h)
       star_at = plane_star points m valid v h count star
 
@@ -112,13 +112,13 @@ module _ (points : List Point) (m new : Mesh) (valid : IsValid m) (v h count : �
           less e = omega (arith, e)
 
 -- ---- which edge may be turned
-module _ (points : List Point) (m : Mesh) (valid : IsValid m) (v h count : ℕ) (star : IsInnerStar points m v h count) (many : 3 ≤ count) where
+module _ (points : List Point) (m : Mesh) (valid : IsValidMesh m) (v h count : ℕ) (star : IsInnerStar points m v h count) (many : 3 ≤ count) where
   -- its ends differ
   pub ends_differ : neighbour m h 0 ≢ neighbour m h 2
   ends_differ e = absurd (let q = (plane_star points m valid v h count star).apart 0 2 (omega (arith, many)) (omega (arith, many)) e in omega (arith, q))
 
 -- where none may be turned, three edges are left, or four with the vertex between two ends
-pub none_left : {V D U F : Type 0} (points : List Point) (c : Contents V D U F) (whole : IsWhole c) (v first count : ℕ) → IsInnerStar points c.mesh v first count → 3 < count → ((i : ℕ) → i < count → ¬ IsConvexAt points c.mesh (spoke c.mesh first i)) → IsReduced points c.mesh v first count
+pub none_left : {V D U F : Type 0} (points : List Point) (c : Contents V D U F) (whole : IsMeshWithData c) (v first count : ℕ) → IsInnerStar points c.mesh v first count → 3 < count → ((i : ℕ) → i < count → ¬ IsConvexAt points c.mesh (spoke c.mesh first i)) → IsReduced points c.mesh v first count
 none_left points c whole v first count star many none = elim (inner_choice points c whole star.shape v first (spokes_inner points c.mesh whole.valid v first count star) count star.round (omega (arith, many))) [
   | inl r ↦ absurd (none r.0 r.1 (record { far = r.2; near = subst (λ (x : ℕ). TurnsLeft (place points x) (place points (neighbour c.mesh first r.0)) (place points (neighbour c.mesh first (suc (suc r.0))))) (sym (star.round.starts r.0)) r.3 }))
   | inr r ↦ inr (r.0, (r.1.0, subst (λ (n : ℕ). r.1.0 < n) r.0 r.1.1, r.1.2))

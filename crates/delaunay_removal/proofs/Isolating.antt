@@ -4,7 +4,7 @@ use Rattle.std.specs.Prelude.{All}
 use Rattle.half_edge_links.specs.Mesh.{Mesh, origin}
 use Rattle.half_edge_links.specs.Peel.{IsWheel}
 use Rattle.half_edge_links.specs.Round.{neighbour}
-use Rattle.half_edge_mesh.specs.Contents.{Contents, IsWhole}
+use Rattle.half_edge_mesh.specs.Contents.{Contents, IsMeshWithData}
 use Rattle.half_edge_mesh.specs.Removal.{FillsHole}
 use Rattle.plane.specs.Fraction.{Point}
 use Rattle.delaunay_removal.specs.Data.{StandsBeside}
@@ -23,10 +23,10 @@ module _ {V D U F : Type 0} (place : V → Point) (old mid : Contents V D U F) (
   same_sites IsSite sites = subst (λ (vs : List V). All IsSite (map place vs)) (sym same) sites
 
   -- ---- three edges are left
-  pub three_wheel : IsWhole mid → count ≡ 3 → IsWheel mid.mesh first
+  pub three_wheel : IsMeshWithData mid → count ≡ 3 → IsWheel mid.mesh first
   three_wheel whole three = wheel_at (map place old.vertices) mid whole v first (subst (λ (n : ℕ). IsInnerStar (map place old.vertices) mid.mesh v first n) three star)
 
-  pub three_isolates : (new : Contents V D U F) → IsWhole mid → IsWhole new → count ≡ 3 → (vertex : ℕ) → v ≡ vertex → FillsHole mid new vertex (neighbour mid.mesh first) → IsolatesVertex (map place old.vertices) old new vertex
+  pub three_isolates : (new : Contents V D U F) → IsMeshWithData mid → IsMeshWithData new → count ≡ 3 → (vertex : ℕ) → v ≡ vertex → FillsHole mid new vertex (neighbour mid.mesh first) → IsolatesVertex (map place old.vertices) old new vertex
   three_isolates new whole after three vertex named hole = isolates_from (map place old.vertices) old mid new vertex contents (subst (λ (x : ℕ). StandsBeside old mid x) named stands)
       (three_isolate (map place old.vertices) mid new whole after vertex first (subst (λ (x : ℕ × ℕ). IsInnerStar (map place old.vertices) mid.mesh x.0 first x.1) (λ i. (named i, three i)) star) hole)
 

@@ -6,19 +6,19 @@ use Rattle.std.proofs.lemmas.List.{length-map, get_or-take, get_or-set_same, get
 use Rattle.std.proofs.lemmas.Option.{slice_get_within}
 use Rattle.half_edge_links.specs.Triangles.{triangle_at}
 use Rattle.half_edge_links.proofs.OpenSound.{length-swap_remove}
-use Rattle.half_edge_mesh.specs.Contents.{Contents, IsWhole}
+use Rattle.half_edge_mesh.specs.Contents.{Contents, IsMeshWithData}
 use Rattle.half_edge_mesh.specs.Removal.{HasFewEdges, LeavesMesh}
 use Rattle.half_edge_mesh.proofs.Outlines.{empty_list}
 use Rattle.plane.specs.Fraction.{Point}
 use Rattle.plane.specs.Tests.{InRange}
 use Rattle.plane_tiling.specs.Local.{total, around, along, IsMesh, LineMesh}
 use Rattle.plane_tiling.proofs.Counts.{hull_edges_count, line_edges_count}
-use Rattle.drawn_mesh.specs.Drawn.{corners_of, faces_of, edges_of, outer_of}
-use Rattle.drawn_mesh.proofs.OwnEdges.{own_edges}
-use Rattle.drawn_mesh.proofs.MeshLineRemoval.{line_removed}
-use Rattle.drawn_mesh.proofs.MeshLineEnds.{line_has_few_edges}
+use Rattle.mesh_embedding.specs.Drawn.{corners_of, faces_of, edges_of, outer_of}
+use Rattle.mesh_embedding.proofs.OwnEdges.{own_edges}
+use Rattle.mesh_embedding.proofs.MeshLineRemoval.{line_removed}
+use Rattle.mesh_embedding.proofs.MeshLineEnds.{line_has_few_edges}
 use Rattle.delaunay_legalization.specs.State.{state_of}
-use Rattle.delaunay_legalization.specs.Shape.{IsKept}
+use Rattle.delaunay_legalization.specs.Shape.{IsTriangulated}
 use Rattle.delaunay_legalization.proofs.ElementCounts.{edges_counted, faces_counted}
 
 -- what holds of each item holds of each that is left
@@ -33,7 +33,7 @@ all_left P xs i x within all k d h = subst P (sym (get_or-take (length xs - 1) (
     go (inr n) = subst P (sym (get_or-set_other xs i k (get_or xs (length xs - 1) x) d n)) (all k d (omega (arith, below)))
 
 -- a mesh of points in range is what a triangulation keeps
-pub kept_by_shape : {V D U F : Type 0} (place : V → Point) (c : Contents V D U F) → All (λ v. InRange (place v)) c.vertices → IsWhole c → IsMesh (map place c.vertices) (faces_of c.mesh) (outer_of c.mesh) → IsKept place (state_of c)
+pub kept_by_shape : {V D U F : Type 0} (place : V → Point) (c : Contents V D U F) → All (λ v. InRange (place v)) c.vertices → IsMeshWithData c → IsMesh (map place c.vertices) (faces_of c.mesh) (outer_of c.mesh) → IsTriangulated place (state_of c)
 kept_by_shape place c ranged w shape = record {
   in_range = ranged;
   few_edges = (few shape).0;
@@ -55,11 +55,11 @@ kept_by_shape place c ranged w shape = record {
         (omega (arith, n, edges_counted c w, length-map c.vertices place), omega (arith, none, faces_counted c w))
 
 -- without inner faces the mesh is one of a line
-no_faces : {V D U F : Type 0} (c : Contents V D U F) → IsWhole c → length c.faces ≡ 0 → faces_of c.mesh ≡ []
+no_faces : {V D U F : Type 0} (c : Contents V D U F) → IsMeshWithData c → length c.faces ≡ 0 → faces_of c.mesh ≡ []
 no_faces c w none = ap (λ es. map corners_of (map (triangle_at c.mesh) es)) (empty_list c.mesh.face_edges (sym w.fits.faces_fit ∙ none))
 
-module _ {V D U F : Type 0} (place : V → Point) (old : Contents V D U F) (kept : IsKept place (state_of old)) (none : length old.faces ≡ 0) where
-  abbrev before : IsWhole old
+module _ {V D U F : Type 0} (place : V → Point) (old : Contents V D U F) (kept : IsTriangulated place (state_of old)) (none : length old.faces ≡ 0) where
+  abbrev before : IsMeshWithData old
   before = record { valid = kept.valid; fits = kept.fits }
 
   on_line : LineMesh (map place old.vertices) (outer_of old.mesh)
@@ -69,7 +69,7 @@ module _ {V D U F : Type 0} (place : V → Point) (old : Contents V D U F) (kept
   pub few_edges_of : (v : ℕ) → HasFewEdges old.mesh v
   few_edges_of v = line_has_few_edges (map place old.vertices) old.mesh kept.valid (no_faces old before none) (sym kept.fits.faces_fit ∙ none) on_line v (length-map old.vertices place ∙ kept.fits.vertices_fit)
 
-  module _ (new : Contents V D U F) (after : IsWhole new) (v : ℕ) (value : V) (leaves : LeavesMesh old new v value) where
+  module _ (new : Contents V D U F) (after : IsMeshWithData new) (v : ℕ) (value : V) (leaves : LeavesMesh old new v value) where
     same_vertices : leaves.between.vertices ≡ old.vertices
     same_vertices = ap (λ (c : Contents V D U F). c.vertices) leaves.leaves.contents
 
@@ -83,7 +83,7 @@ module _ {V D U F : Type 0} (place : V → Point) (old : Contents V D U F) (kept
     same_faces = ap (λ (c : Contents V D U F). length c.faces) leaves.drops.contents ∙ ap (λ (c : Contents V D U F). length c.faces) leaves.leaves.contents ∙ none
 
     -- and what is left is kept
-    pub line_kept : IsKept place (state_of new)
+    pub line_kept : IsTriangulated place (state_of new)
     line_kept = kept_by_shape place new
         (subst (λ (vs : List V). All (λ u. InRange (place u)) vs) (sym vertices_left) (all_left (λ u. InRange (place u)) old.vertices v value (slice_get_within old.vertices v value value_was) kept.in_range))
         after (inr (no_faces new after same_faces, line_removed place old new v value on_line leaves))

@@ -2,12 +2,12 @@
 use Rattle.std.proofs.Common.{◌≡◌, ◌≢◌, ℕ, ◌+◌, ◌<◌, length, Option, Some, None, IsSome, refl, sym, ap, ◌∙◌, subst, arith, inl, inr}
 use Rattle.std.proofs.lemmas.Bool.{cases_eq, cases_lt}
 use Rattle.std.proofs.Math.Numerals.{add-one}
-use Rattle.half_edge_links.specs.Mesh.{Mesh, IsValid, origin, out_edge}
+use Rattle.half_edge_links.specs.Mesh.{Mesh, IsValidMesh, origin, out_edge}
 use Rattle.half_edge_links.specs.Peel.{turn, spoke}
 use Rattle.half_edge_links.specs.Round.{IsRound}
 use Rattle.half_edge_links.proofs.OneOrbit.{edges_go_round}
 use Rattle.half_edge_views.proofs.Loops.{round_fits}
-use Rattle.drawn_mesh.proofs.RoundShift.{round_from}
+use Rattle.mesh_embedding.proofs.RoundShift.{round_from}
 
 some_of : (o : Option ℕ) → IsSome o → (k : ℕ) × (o ≡ Some k)
 some_of None had = absurd (cc)
@@ -19,7 +19,7 @@ round_of m v first count h round within starts =
     let i = round.all h within starts in
     subst (λ (x : ℕ). IsRound m v x count) (sym i.2) (round_from m v first count round i.0)
 
-pub round_at : (m : Mesh) → IsValid m → (v h : ℕ) → h < length m.half_edges → origin m h ≡ v → (count : ℕ) × IsRound m v h count
+pub round_at : (m : Mesh) → IsValidMesh m → (v h : ℕ) → h < length m.half_edges → origin m h ≡ v → (count : ℕ) × IsRound m v h count
 round_at m valid v h within starts =
     let o = some_of (out_edge m v) (subst (λ (x : ℕ). IsSome (out_edge m x)) starts (valid.sound.edges h within).has_out) in
     let r = edges_go_round m valid v o.0 o.1 in
@@ -32,7 +32,7 @@ pub record IsCounting (m : Mesh) (first count edge : ℕ) : Type 0 where
   pub here : edge ≡ spoke m first count
   pub before : (j : ℕ) → 0 < j → j < count → spoke m first j ≢ first
 
-module _ (m : Mesh) (valid : IsValid m) (first : ℕ) (first_in : first < length m.half_edges) where
+module _ (m : Mesh) (valid : IsValidMesh m) (first : ℕ) (first_in : first < length m.half_edges) where
   pub counting_begins : (edge : ℕ) → edge < length m.half_edges → edge ≡ turn m first → IsCounting m first 1 edge
   counting_begins edge within is = record { within = within; some = omega arith; here = is; before = λ j some less. absurd (omega (arith, some, less)) }
 

@@ -6,7 +6,7 @@ use Rattle.half_edge_links.specs.Flip.{flipped}
 use Rattle.half_edge_links.specs.Outline.{KeepsOuter}
 use Rattle.half_edge_links.specs.Peel.{turn, spoke}
 use Rattle.half_edge_links.specs.Triangles.{FlipsTriangles}
-use Rattle.half_edge_mesh.specs.Contents.{Contents, IsWhole}
+use Rattle.half_edge_mesh.specs.Contents.{Contents, IsMeshWithData}
 use Rattle.plane.specs.Fraction.{Point}
 use Rattle.delaunay_removal.specs.Data.{StandsBeside}
 use Rattle.delaunay_removal.specs.Star.{IsConvexAt, IsInnerStar, IsReduced}
@@ -29,7 +29,7 @@ module _ {V D U F : Type 0} (place : V → Point) (old now : Contents V D U F) (
   pub star_stays : IsInnerStar (map place old.vertices) now.mesh v first count
   star_stays = subst (λ (vs : List V). IsInnerStar (map place vs) now.mesh v first count) vertices_stay shrinking.star
 
-  module _ (whole : IsWhole now) where
+  module _ (whole : IsMeshWithData now) where
     -- the star from an edge that was found
     pub star_at : (edge : ℕ) → (i : ℕ) × (i < count) × (edge ≡ spoke now.mesh first i) → IsInnerStar (map place now.vertices) now.mesh v edge count
     star_at edge (i, less, is) = star_from (map place now.vertices) now.mesh whole.valid v first count shrinking.star edge
@@ -37,7 +37,7 @@ module _ {V D U F : Type 0} (place : V → Point) (old now : Contents V D U F) (
         (ap (origin now.mesh) is ∙ shrinking.star.round.starts i)
 
     -- one more turn
-    pub shrinking_goes_on : (new : Contents V D U F) → IsWhole new → 3 < count → (edge : ℕ) → (i : ℕ) × (i < count) × (edge ≡ spoke now.mesh first i) → IsConvexAt (map place now.vertices) now.mesh edge
+    pub shrinking_goes_on : (new : Contents V D U F) → IsMeshWithData new → 3 < count → (edge : ℕ) → (i : ℕ) × (i < count) × (edge ≡ spoke now.mesh first i) → IsConvexAt (map place now.vertices) now.mesh edge
         → new.mesh ≡ flipped now.mesh (2 * (turn now.mesh edge / 2)) → new ≡ record now { mesh = new.mesh } → FlipsTriangles now.mesh new.mesh (2 * (turn now.mesh edge / 2)) → KeepsOuter now.mesh new.mesh → StandsBeside now new (origin now.mesh edge)
         → IsShrinking place old new v edge (count - 1)
     shrinking_goes_on new after many edge at convex turned contents triangles outer stands = record {

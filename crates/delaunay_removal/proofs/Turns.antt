@@ -1,17 +1,17 @@
 -- An edge of a vertex between two inner faces may be turned.
 use Rattle.std.proofs.Common.{◌≢◌, ℕ, ◌*◌, ◌/◌, ◌<◌, List, length, refl}
-use Rattle.half_edge_links.specs.Mesh.{Mesh, IsValid, origin, prev, face, rev}
+use Rattle.half_edge_links.specs.Mesh.{Mesh, IsValidMesh, origin, prev, face, rev}
 use Rattle.half_edge_links.specs.Flip.{IsFlippable}
 use Rattle.half_edge_links.specs.Peel.{turn}
 use Rattle.half_edge_links.specs.Round.{neighbour}
 use Rattle.plane.specs.Fraction.{Point}
 use Rattle.plane_tiling.specs.Local.{LocalMesh}
-use Rattle.drawn_mesh.specs.Drawn.{faces_of, outer_of}
-use Rattle.drawn_mesh.proofs.MeshStarFlips.{can_turn_spoke}
+use Rattle.mesh_embedding.specs.Drawn.{faces_of, outer_of}
+use Rattle.mesh_embedding.proofs.MeshStarFlips.{can_turn_spoke}
 use Rattle.delaunay_removal.proofs.Rounds.{round_at}
 
 -- the edge after h, where the ends beside it differ
-pub may_turn : (points : List Point) (m : Mesh) → IsValid m → LocalMesh points (faces_of m) (outer_of m) → (h : ℕ) → h < length m.half_edges → 0 < face m h → 0 < face m (turn m h) → neighbour m h 0 ≢ neighbour m h 2
+pub may_turn : (points : List Point) (m : Mesh) → IsValidMesh m → LocalMesh points (faces_of m) (outer_of m) → (h : ℕ) → h < length m.half_edges → 0 < face m h → 0 < face m (turn m h) → neighbour m h 0 ≢ neighbour m h 2
     → IsFlippable m (2 * (turn m h / 2)) × (origin m (prev m (2 * (turn m h / 2))) ≢ origin m (prev m (rev (2 * (turn m h / 2)))))
 may_turn points m valid local h within left right apart =
     let r = round_at m valid (origin m h) h within refl in

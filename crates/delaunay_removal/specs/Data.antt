@@ -5,7 +5,7 @@ use Rattle.half_edge_links.specs.Renames.{moved}
 use Rattle.half_edge_links.specs.Triangles.{Triangle, triangles}
 use Rattle.half_edge_mesh.specs.Contents.{Contents}
 use Rattle.half_edge_mesh.specs.Removal.{FullEdge, FullFace, full_edges, full_faces}
-use Rattle.drawn_mesh.specs.Stays.{HaveSameCorners}
+use Rattle.mesh_embedding.specs.Stays.{HaveSameCorners}
 use Rattle.delaunay_legalization.specs.State.{State}
 
 -- each undirected edge that does not end at vertex v, with all its data, and each inner face without this corner, with its

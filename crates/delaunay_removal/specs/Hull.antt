@@ -7,7 +7,7 @@ use Rattle.plane.specs.Fraction.{Point}
 use Rattle.plane.specs.Pairs.{place}
 use Rattle.plane.specs.Side.{TurnsLeft}
 use Rattle.plane_tiling.specs.Local.{LocalMesh}
-use Rattle.drawn_mesh.specs.Drawn.{faces_of, outer_of}
+use Rattle.mesh_embedding.specs.Drawn.{faces_of, outer_of}
 use Rattle.delaunay_removal.specs.Star.{IsConvexAt}
 
 -- vertex v is on the hull, and has so many edges, from the one with the outer face on its right on
@@ -17,8 +17,8 @@ pub record IsHullStar (points : List Point) (m : Mesh) (v first count : ℕ) : T
   pub round : IsRound m v first count
 
 -- none of its edges lies across a strictly convex quadrilateral
-abbrev pub IsBent : List Point → Mesh → ℕ → ℕ → Type 0
-IsBent points m first count = (i : ℕ) → suc (suc i) < count → ¬ IsConvexAt points m (spoke m first i)
+abbrev pub HasNoFlippableEdge : List Point → Mesh → ℕ → ℕ → Type 0
+HasNoFlippableEdge points m first count = (i : ℕ) → suc (suc i) < count → ¬ IsConvexAt points m (spoke m first i)
 
 -- the vertex where edge first starts, with the outer face on its right, is a corner of the hull
 abbrev pub IsCornerAt : List Point → Mesh → ℕ → Type 0

@@ -9,7 +9,7 @@ use Rattle.plane.specs.Side.{TurnsLeft}
 use Rattle.plane.specs.Tiling.{Face}
 use Rattle.plane_tiling.specs.Local.{LocalMesh}
 use Rattle.plane_edits.specs.Removal.{LocalMeshWithout, LineMeshWithout}
-use Rattle.drawn_mesh.specs.Drawn.{faces_of, outer_of}
+use Rattle.mesh_embedding.specs.Drawn.{faces_of, outer_of}
 use Rattle.delaunay_removal.specs.Data.{StandsBeside}
 
 -- the edge after edge h, round the vertex where they start, lies across a strictly convex quadrilateral: its corners are

@@ -4,9 +4,9 @@ ghost use Rattle.half_edge_links.specs.Mesh.{origin, out_edge, IsAlone};
 ghost use Rattle.half_edge_mesh.specs.Removal.{DropsVertex};
 ghost use Rattle.plane.specs.Plain.{Removes};
 ghost use Rattle.plane.specs.Tests.{InRange};
-ghost use Rattle.drawn_mesh.specs.Drawn.{faces_of, outer_of};
-ghost use Rattle.delaunay_legalization.specs.Shape.{IsKept};
-ghost use Rattle.delaunay_legalization.specs.State.{plain_of, state_of};
+ghost use Rattle.mesh_embedding.specs.Drawn.{faces_of, outer_of};
+ghost use Rattle.delaunay_legalization.specs.Shape.{IsTriangulated};
+ghost use Rattle.delaunay_legalization.specs.State.{points_and_constraints, state_of};
 ghost use Rattle.delaunay_removal.specs.Data.{KeepsDataBeside};
 ghost use Rattle.delaunay_removal.specs.Star.{IsMeshWithout, IsolatesVertex};
 
@@ -44,8 +44,8 @@ fn drop_vertex<V: HasPosition, DE, UE, F>(
     requires alone { IsAlone dcel.old.mesh vertex }
     requires shape { IsMeshWithout vertex (map V.place dcel.old.vertices) (faces_of dcel.old.mesh) (outer_of dcel.old.mesh) }
     ensures value { slice_get dcel.old.vertices vertex ≡ Some result }
-    ensures plain { Removes V.place (plain_of (state_of dcel.old)) (plain_of (state_of dcel.new)) vertex }
-    ensures kept { IsKept V.place (state_of dcel.new) }
+    ensures plain { Removes V.place (points_and_constraints (state_of dcel.old)) (points_and_constraints (state_of dcel.new)) vertex }
+    ensures kept { IsTriangulated V.place (state_of dcel.new) }
     ensures drops { DropsVertex dcel.old dcel.new vertex result }
 {
     let _ = dcel.num_vertices();
@@ -61,7 +61,7 @@ fn isolate<V: HasPosition, DE: Drop, UE: Drop, F: Drop, P: PlaneTests<V::Scalar>
     tests: &P,
     sides: &mut Vec<FixedDirectedEdgeHandle>,
 )
-    requires kept { IsKept V.place (state_of dcel.old) }
+    requires kept { IsTriangulated V.place (state_of dcel.old) }
     requires some_face { 0 < length dcel.old.faces }
     requires within { vertex < length dcel.old.vertices }
     requires sites { All (P.sites tests.now) (map V.place dcel.old.vertices) }
@@ -85,14 +85,14 @@ pub fn remove_vertex<V: HasPosition, DE: Drop, UE: Drop, F: Drop, P: PlaneTests<
     tests: &P,
     sides: &mut Vec<FixedDirectedEdgeHandle>,
 ) -> V
-    requires kept { IsKept V.place (state_of dcel.old) }
+    requires kept { IsTriangulated V.place (state_of dcel.old) }
     requires within { vertex < length dcel.old.vertices }
     requires sites { All (P.sites tests.now) (map V.place dcel.old.vertices) }
     requires room { length dcel.old.directed ≤ vec_capacity sides.old }
 
     ensures value { slice_get dcel.old.vertices vertex ≡ Some result }
-    ensures plain { Removes V.place (plain_of (state_of dcel.old)) (plain_of (state_of dcel.new)) vertex }
-    ensures kept { IsKept V.place (state_of dcel.new) }
+    ensures plain { Removes V.place (points_and_constraints (state_of dcel.old)) (points_and_constraints (state_of dcel.new)) vertex }
+    ensures kept { IsTriangulated V.place (state_of dcel.new) }
     ensures data { KeepsDataBeside (state_of dcel.old) (state_of dcel.new) vertex }
     ensures capacity { vec_capacity sides.new ≡ vec_capacity sides.old }
 {

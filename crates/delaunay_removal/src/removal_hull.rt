@@ -5,9 +5,9 @@ ghost use Rattle.half_edge_links.specs.Round.{neighbour};
 ghost use Rattle.plane.specs.Pairs.{place};
 ghost use Rattle.plane.specs.Side.{on, side};
 ghost use Rattle.plane_tiling.specs.Local.{LocalMesh};
-ghost use Rattle.drawn_mesh.specs.Drawn.{faces_of, outer_of};
+ghost use Rattle.mesh_embedding.specs.Drawn.{faces_of, outer_of};
 ghost use Rattle.delaunay_removal.specs.Data.{StandsBeside};
-ghost use Rattle.delaunay_removal.specs.Hull.{AreSides, IsBent, IsCornerAt, IsHullStar};
+ghost use Rattle.delaunay_removal.specs.Hull.{AreSides, HasNoFlippableEdge, IsCornerAt, IsHullStar};
 ghost use Rattle.delaunay_removal.specs.Star.{HasInnerFaces, IsolatesVertex};
 
 use crate::star::{count_edges, edge_after, end_of, find_convex, opposite_side, turn_away};
@@ -30,7 +30,7 @@ fn shrink_hull_star<V: HasPosition, DE, UE, F, P: PlaneTests<V::Scalar>>(
     requires sites { All (P.sites tests.now) (map V.place dcel.old.vertices) }
     ensures contents { dcel.new ≡ record dcel.old { mesh = dcel.new.mesh } }
     ensures star { IsHullStar (map V.place dcel.new.vertices) dcel.new.mesh (origin dcel.old.mesh first) first result }
-    ensures bent { IsBent (map V.place dcel.new.vertices) dcel.new.mesh first result }
+    ensures bent { HasNoFlippableEdge (map V.place dcel.new.vertices) dcel.new.mesh first result }
     ensures beside { StandsBeside dcel.old dcel.new (origin dcel.old.mesh first) }
 {
     let mut count = count_edges(dcel, first);
@@ -101,7 +101,7 @@ fn cut_corner<V: HasPosition, DE: Drop, UE: Drop, F: Drop>(
     sides: &mut Vec<FixedDirectedEdgeHandle>,
 )
     requires star { IsHullStar (map V.place dcel.old.vertices) dcel.old.mesh vertex first count }
-    requires bent { IsBent (map V.place dcel.old.vertices) dcel.old.mesh first count }
+    requires bent { HasNoFlippableEdge (map V.place dcel.old.vertices) dcel.old.mesh first count }
     requires corner { IsCornerAt (map V.place dcel.old.vertices) dcel.old.mesh first }
     requires room { count ≤ vec_capacity sides.old }
     ensures isolates { IsolatesVertex (map V.place dcel.old.vertices) dcel.old dcel.new vertex }

@@ -3,10 +3,10 @@ ghost use Rattle.std.specs.Prelude.{◌≡◌, ◌↔◌, ◌<◌, length, map, 
 ghost use Rattle.half_edge_links.specs.Mesh.{origin};
 ghost use Rattle.half_edge_links.specs.Peel.{IsWheel};
 ghost use Rattle.half_edge_links.specs.Round.{neighbour};
-ghost use Rattle.half_edge_mesh.specs.Contents.{IsWhole};
+ghost use Rattle.half_edge_mesh.specs.Contents.{IsMeshWithData};
 ghost use Rattle.half_edge_mesh.specs.Removal.{FillsHole};
 ghost use Rattle.plane_tiling.specs.Local.{LocalMesh};
-ghost use Rattle.drawn_mesh.specs.Drawn.{faces_of, outer_of};
+ghost use Rattle.mesh_embedding.specs.Drawn.{faces_of, outer_of};
 ghost use Rattle.delaunay_removal.specs.Data.{StandsBeside};
 ghost use Rattle.delaunay_removal.specs.Star.{HasInnerFaces, IsBetweenAt, IsInnerStar, IsReduced, IsolatesVertex, StandsBetween};
 
@@ -59,8 +59,8 @@ fn fill_three<V, DE: Drop, UE: Drop, F: Drop>(
     requires wheel { IsWheel dcel.old.mesh first }
     requires starts { origin dcel.old.mesh first ≡ vertex }
     ensures hole { FillsHole dcel.old dcel.new vertex (neighbour dcel.old.mesh first) }
-    ensures before { IsWhole dcel.old }
-    ensures whole { IsWhole dcel.new }
+    ensures before { IsMeshWithData dcel.old }
+    ensures whole { IsMeshWithData dcel.new }
 {
     let _ = dcel.num_directed_edges();
     let second = edge_after(dcel, first);

@@ -1,8 +1,8 @@
 //! A vertex of the line of all vertices goes.
 ghost use Rattle.std.specs.Prelude.{◌≡◌, ◌<◌, length, Some, slice_get};
 ghost use Rattle.plane.specs.Plain.{Removes};
-ghost use Rattle.delaunay_legalization.specs.Shape.{IsKept};
-ghost use Rattle.delaunay_legalization.specs.State.{plain_of, state_of};
+ghost use Rattle.delaunay_legalization.specs.Shape.{IsTriangulated};
+ghost use Rattle.delaunay_legalization.specs.State.{points_and_constraints, state_of};
 ghost use Rattle.delaunay_removal.specs.Data.{KeepsDataBeside};
 
 use delaunay_core::point::HasPosition;
@@ -14,12 +14,12 @@ pub(crate) fn remove_on_line<V: HasPosition, DE: Drop, UE: Drop, F>(
     dcel: &mut Dcel<V, DE, UE, F>,
     vertex: FixedVertexHandle,
 ) -> V
-    requires kept { IsKept V.place (state_of dcel.old) }
+    requires kept { IsTriangulated V.place (state_of dcel.old) }
     requires one_face { length dcel.old.faces ≡ 0 }
     requires within { vertex < length dcel.old.vertices }
     ensures value { slice_get dcel.old.vertices vertex ≡ Some result }
-    ensures plain { Removes V.place (plain_of (state_of dcel.old)) (plain_of (state_of dcel.new)) vertex }
-    ensures kept { IsKept V.place (state_of dcel.new) }
+    ensures plain { Removes V.place (points_and_constraints (state_of dcel.old)) (points_and_constraints (state_of dcel.new)) vertex }
+    ensures kept { IsTriangulated V.place (state_of dcel.new) }
     ensures data { KeepsDataBeside (state_of dcel.old) (state_of dcel.new) vertex }
 {
     let value = dcel.remove_when_degenerate(vertex);

@@ -6,9 +6,9 @@ ghost use Rattle.half_edge_links.specs.Outline.{KeepsOuter};
 ghost use Rattle.half_edge_links.specs.Peel.{spoke, turn};
 ghost use Rattle.half_edge_links.specs.Round.{IsRound, neighbour};
 ghost use Rattle.half_edge_links.specs.Triangles.{FlipsTriangles};
-ghost use Rattle.half_edge_mesh.specs.Contents.{IsWhole};
+ghost use Rattle.half_edge_mesh.specs.Contents.{IsMeshWithData};
 ghost use Rattle.plane_tiling.specs.Local.{LocalMesh};
-ghost use Rattle.drawn_mesh.specs.Drawn.{faces_of, outer_of};
+ghost use Rattle.mesh_embedding.specs.Drawn.{faces_of, outer_of};
 ghost use Rattle.delaunay_core.specs.Place.{place_of};
 ghost use Rattle.delaunay_legalization.specs.Known.{point_at};
 ghost use Rattle.delaunay_removal.specs.Data.{StandsBeside};
@@ -132,7 +132,7 @@ pub(crate) fn turn_away<V: HasPosition, DE, UE, F>(
     ensures triangles { FlipsTriangles dcel.old.mesh dcel.new.mesh (2 * (turn dcel.old.mesh edge / 2)) }
     ensures outer { KeepsOuter dcel.old.mesh dcel.new.mesh }
     ensures beside { StandsBeside dcel.old dcel.new (origin dcel.old.mesh edge) }
-    ensures whole { IsWhole dcel.old }
+    ensures whole { IsMeshWithData dcel.old }
 {
     let _ = dcel.num_directed_edges();
     let turned = edge_after(dcel, edge);

@@ -2,7 +2,7 @@
 use Rattle.std.proofs.Common.{◌≡◌, ◌≢◌, ℕ, zero, suc, ◌+◌, ◌<◌, length, refl, sym, ap, ◌∙◌, inl, inr, arith, true, ◌==◌}
 use Rattle.std.proofs.lemmas.Bool.{cases_eq, eq-eqb, eqb-true}
 use Rattle.half_edge_links.proofs.Cases.{◌or_else◌}
-use Rattle.half_edge_links.specs.Mesh.{Mesh, origin, next, prev, face, rev, IsSound, IsInnerEdge, IsAlone, HasApartEnds, HasStars, IsClosed, connected}
+use Rattle.half_edge_links.specs.Mesh.{Mesh, origin, next, prev, face, rev, AreSoundLinks, IsInnerEdge, IsAlone, HasApartEnds, HasStars, IsClosed, connected}
 use Rattle.half_edge_links.specs.Flip.{IsFlippable, Flips}
 use Rattle.half_edge_links.specs.Insert.{Inserts}
 use Rattle.half_edge_links.specs.Grow.{IsOuter, IsClosable, IsSlidable, Hangs, Closes, Slides}
@@ -25,7 +25,7 @@ both_sides new h k is differs = rw is differs
 neq : {X : Type 0} {a b : X} → a ≢ b → b ≢ a
 neq differs same = differs (sym same)
 
-pub apart_flipped : (m new : Mesh) (e : ℕ) → IsSound m → IsFlippable m e → Flips m new e → origin m (prev m e) ≢ origin m (prev m (rev e)) → HasApartEnds m → HasApartEnds new
+pub apart_flipped : (m new : Mesh) (e : ℕ) → AreSoundLinks m → IsFlippable m e → Flips m new e → origin m (prev m e) ≢ origin m (prev m (rev e)) → HasApartEnds m → HasApartEnds new
 apart_flipped m new e s can f corners apart h within =
     elim (cases_eq h e or_else cases_eq h (rev e)) [
       | inl same ↦ λ q. corners (sym f.edge.origin ∙ ap (origin new) (sym same) ∙ q ∙ ap (λ k. origin new (rev k)) same ∙ f.twin.origin)
@@ -35,7 +35,7 @@ apart_flipped m new e s can f corners apart h within =
           (origin_kept m new e s can f (rev h) (λ q. b (sym (rev-rev h) ∙ ap rev q)) (λ q. a (sym (rev-rev h) ∙ ap rev q ∙ rev-rev e)))
     ]
 
-pub apart_hung : (m new : Mesh) (x v : ℕ) → IsSound m → IsOuter m x → IsAlone m v → Hangs m new x v (length m.half_edges) → HasApartEnds m → HasApartEnds new
+pub apart_hung : (m new : Mesh) (x v : ℕ) → AreSoundLinks m → IsOuter m x → IsAlone m v → Hangs m new x v (length m.half_edges) → HasApartEnds m → HasApartEnds new
 apart_hung m new x v s outer alone i apart h within =
     let there : origin new (length m.half_edges) ≢ origin new (length m.half_edges + 1) = λ q. differs_alone m (next m x) v s (s.edges x outer.0).next_in alone (sym i.there.origin ∙ q ∙ i.back.origin) in
     elim (grown_cases h _ (omega (arith, within, i.edge_count))) [
@@ -44,7 +44,7 @@ apart_hung m new x v s outer alone i apart h within =
       | inr (inr is) ↦ rw is (both_sides new _ _ (rev_of_odd _ s.even) (neq there))
     ]
 
-pub apart_closed : (m new : Mesh) (e : ℕ) → IsSound m → IsClosable m e → Closes m new e (length m.half_edges) (length m.face_edges) → HasApartEnds m → HasApartEnds new
+pub apart_closed : (m new : Mesh) (e : ℕ) → AreSoundLinks m → IsClosable m e → Closes m new e (length m.half_edges) (length m.face_edges) → HasApartEnds m → HasApartEnds new
 apart_closed m new e s can i apart h within =
     let c : IsCorner m e = corner m e s can in
     let there : origin new (length m.half_edges) ≢ origin new (length m.half_edges + 1) = λ q. can.apart (sym c.end ∙ sym i.inside.origin ∙ q ∙ i.outside.origin) in
@@ -55,7 +55,7 @@ apart_closed m new e s can i apart h within =
     ]
 
 -- the moved edge starts at no vertex with one edge
-start_off : (m : Mesh) (e : ℕ) → IsSound m → IsSlidable m e → HasStars m → origin m e ≢ origin m (next m (next m e))
+start_off : (m : Mesh) (e : ℕ) → AreSoundLinks m → IsSlidable m e → HasStars m → origin m e ≢ origin m (next m (next m e))
 start_off m e s can stars same =
     let t : IsTail m e = tail m e s can in
     let l : ℕ = next m (next m e) in
@@ -65,7 +65,7 @@ start_off m e s can stars same =
     let at : e ≡ l = eqb-true e l is in
     can.apart (sym (rev-rev (next m e)) ∙ ap rev (sym t.back_is) ∙ ap rev (sym at))
 
-pub apart_slid : (m new : Mesh) (e : ℕ) → IsSound m → IsSlidable m e → Slides m new e (next m e) (next m (next m e)) → HasStars m → HasApartEnds m → HasApartEnds new
+pub apart_slid : (m new : Mesh) (e : ℕ) → AreSoundLinks m → IsSlidable m e → Slides m new e (next m e) (next m (next m e)) → HasStars m → HasApartEnds m → HasApartEnds new
 apart_slid m new e s can i stars apart h within =
     let t : IsTail m e = tail m e s can in
     let h_in : h < length m.half_edges = omega (arith, within, i.edge_count) in
@@ -77,7 +77,7 @@ apart_slid m new e s can i stars apart h within =
       | inr (a, inr b) ↦ apart_kept m new h apart h_in (i.other_origins h h_in a) (i.other_origins (rev h) (rev_within _ _ s.even h_in) (λ q. b (sym (rev-rev h) ∙ ap rev q ∙ rev-rev e)))
     ]
 
-pub apart_inserted : (m new : Mesh) (v a : ℕ) → IsSound m → IsInnerEdge m a → IsAlone m v → Inserts m new v (face m a) a (length m.half_edges) (length m.face_edges) → HasApartEnds m → HasApartEnds new
+pub apart_inserted : (m new : Mesh) (v a : ℕ) → AreSoundLinks m → IsInnerEdge m a → IsAlone m v → Inserts m new v (face m a) a (length m.half_edges) (length m.face_edges) → HasApartEnds m → HasApartEnds new
 apart_inserted m new v a s inner alone i apart h within =
     let n : ℕ = length m.half_edges in
     let here = s.edges a inner.0 in

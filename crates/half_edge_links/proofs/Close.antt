@@ -3,7 +3,7 @@ use Rattle.std.proofs.Common.{◌≡◌, ◌≢◌, ◌⊎◌, ℕ, ◌+◌, ◌
 use Rattle.std.proofs.lemmas.Bool.{cases_eq}
 use Rattle.std.proofs.lemmas.List.{get_or_append_left, get_or_at}
 use Rattle.half_edge_links.proofs.Cases.{◌or_else◌}
-use Rattle.half_edge_links.specs.Mesh.{Mesh, origin, next, prev, face, face_edge, rev, IsSound, IsSoundEdge}
+use Rattle.half_edge_links.specs.Mesh.{Mesh, origin, next, prev, face, face_edge, rev, AreSoundLinks, IsSoundEdge}
 use Rattle.half_edge_links.specs.Grow.{IsClosable, closed, Closes}
 use Rattle.half_edge_links.proofs.Rev.{rev_within}
 use Rattle.half_edge_links.proofs.FlipLemmas.{links_from}
@@ -27,7 +27,7 @@ pub record IsCorner (m : Mesh) (e : ℕ) : Type 0 where
   pub first-second : e ≢ next m e
   pub before-first : prev m e ≢ e
 
-pub corner : (m : Mesh) (e : ℕ) → IsSound m → IsClosable m e → IsCorner m e
+pub corner : (m : Mesh) (e : ℕ) → AreSoundLinks m → IsClosable m e → IsCorner m e
 corner m e s can =
     let here = s.edges e can.within in
     let second = s.edges (next m e) here.next_in in
@@ -41,7 +41,7 @@ corner m e s can =
     let before_first : prev m e ≢ e = λ same. here.proper (sym (ap (next m) same) ∙ here.next_prev) in
     assumption (here, second, differs, second_outer, before_outer, after_outer, before_second, first_second, before_first)
 
-pub closes : (m : Mesh) (e : ℕ) → IsSound m → IsClosable m e → Closes m (closed m e) e (length m.half_edges) (length m.face_edges)
+pub closes : (m : Mesh) (e : ℕ) → AreSoundLinks m → IsClosable m e → Closes m (closed m e) e (length m.half_edges) (length m.face_edges)
 unfolding closed
 closes m e s can =
     let c = corner m e s can in
@@ -50,7 +50,7 @@ closes m e s can =
     let outside = links_from (closed m e) (length m.half_edges + 1) _ r.outside in
     assumption (r, inside, outside)
 
-module _ (m new : Mesh) (e : ℕ) (s : IsSound m) (can : IsClosable m e) (i : Closes m new e (length m.half_edges) (length m.face_edges)) where
+module _ (m new : Mesh) (e : ℕ) (s : AreSoundLinks m) (can : IsClosable m e) (i : Closes m new e (length m.half_edges) (length m.face_edges)) where
   c : IsCorner m e
   c = corner m e s can
 
@@ -168,7 +168,7 @@ module _ (m new : Mesh) (e : ℕ) (s : IsSound m) (can : IsClosable m e) (i : Cl
             rw (named_old k some below) (omega (arith, i.edge_count, had.0), inner_face_kept _ had.0 (omega (arith, had.1, some)) ∙ had.1)
       ]
 
-  pub sound_after_close : IsSound new
+  pub sound_after_close : AreSoundLinks new
   sound_after_close = record {
     even = rw i.edge_count (let e = s.even in omega arith);
     edges = sound_at;

@@ -3,7 +3,7 @@ use Rattle.std.proofs.Common.{◌≡◌, ◌≢◌, ◌⊎◌, ℕ, ◌+◌, ◌
 use Rattle.std.proofs.lemmas.Bool.{cases_eq}
 use Rattle.std.proofs.lemmas.List.{get_or_append_left, get_or_at}
 use Rattle.half_edge_links.specs.declared.room.TheConstants.{MAX_ELEMENTS}
-use Rattle.half_edge_links.specs.Mesh.{Mesh, IsSmall, origin, next, prev, face, face_edge, rev, IsSound, IsSoundEdge}
+use Rattle.half_edge_links.specs.Mesh.{Mesh, IsSmall, origin, next, prev, face, face_edge, rev, AreSoundLinks, IsSoundEdge}
 use Rattle.half_edge_links.specs.Remove.{loop_closed, IsOpenTriangle, ClosesLoop}
 use Rattle.half_edge_links.proofs.Triangles.{IsTriangle}
 use Rattle.half_edge_links.proofs.FieldWrites.{sets_loop_face}
@@ -15,7 +15,7 @@ IsRound m h k = (k ≡ h) ⊎ ((k ≡ next m h) ⊎ (k ≡ prev m h))
 pub is_round : (m : Mesh) (h k : ℕ) → IsRound m h k ⊎ ((k ≢ h) × (k ≢ next m h) × (k ≢ prev m h))
 is_round m h k = grind arith
 
-module _ (m : Mesh) (h : ℕ) (s : IsSound m) (can : IsOpenTriangle m h) where
+module _ (m : Mesh) (h : ℕ) (s : AreSoundLinks m) (can : IsOpenTriangle m h) where
   here : IsSoundEdge m h
   here = s.edges h can.within
 
@@ -88,7 +88,7 @@ module _ (m : Mesh) (h : ℕ) (s : IsSound m) (can : IsOpenTriangle m h) where
         let zero = can.outer in
         (λ z. absurd (omega (arith, ap (face m) z)), λ z. absurd (omega (arith, ap (face m) z, round.face_next)), λ z. absurd (omega (arith, ap (face m) z, round.face_prev)))
 
-    pub sound_closed : IsSound new
+    pub sound_closed : AreSoundLinks new
     sound_closed = record {
       even = rw c.edge_count s.even;
       edges = λ k within.

@@ -1,6 +1,6 @@
 -- The steps in which a vertex with three faces goes.
 use Rattle.std.proofs.Common.{◌≡◌, ◌≢◌, ℕ, ◌<◌, length, Option, Some, None, IsSome, refl, sym, ap, ◌∙◌, inl, inr, arith}
-use Rattle.half_edge_links.specs.Mesh.{Mesh, origin, next, prev, face, rev, IsSound, IsInner}
+use Rattle.half_edge_links.specs.Mesh.{Mesh, origin, next, prev, face, rev, AreSoundLinks, IsInner}
 use Rattle.half_edge_links.specs.Remove.{Opens, Removes, IsOpenTriangle}
 use Rattle.half_edge_links.proofs.Conditions.{IsUnlinkable, IsFanOfTwo, IsFanOfOne}
 use Rattle.half_edge_links.proofs.Rev.{rev-rev, rev_within, rev_differs}
@@ -16,10 +16,10 @@ some_of None had = absurd (cc)
 some_of (Some k) had = (k, refl)
 
 -- the outer edge of a mesh with edges
-pub outer_of : (m : Mesh) (h : ℕ) → IsSound m → h < length m.half_edges → (k : ℕ) × (m.outer_edge ≡ Some k)
+pub outer_of : (m : Mesh) (h : ℕ) → AreSoundLinks m → h < length m.half_edges → (k : ℕ) × (m.outer_edge ≡ Some k)
 outer_of m h s within = some_of m.outer_edge (s.has_outer (omega arith))
 
-pub removable_last : (m : Mesh) (z : ℕ) → IsSound m → IsFanOfOne m z → IsUnlinkable m z
+pub removable_last : (m : Mesh) (z : ℕ) → AreSoundLinks m → IsFanOfOne m z → IsUnlinkable m z
 removable_last m z s f =
     let t_in = rev_within z (length m.half_edges) s.even f.within in
     let there = s.edges (rev z) t_in in
@@ -36,7 +36,7 @@ removable_last m z s f =
       whole = λ q. absurd (f.first_off.1 q);
     }
 
-module _ (m new : Mesh) (z : ℕ) (s : IsSound m) (f : IsFanOfOne m z) (r : Removes m new z) where
+module _ (m new : Mesh) (z : ℕ) (s : AreSoundLinks m) (f : IsFanOfOne m z) (r : Removes m new z) where
   abbrev pub can : IsUnlinkable m z
   can = removable_last m z s f
 
@@ -84,7 +84,7 @@ module _ (m new : Mesh) (z : ℕ) (s : IsSound m) (f : IsFanOfOne m z) (r : Remo
       }
 
 -- the middle step: the face between the last two edges goes with the first of them
-module _ (m mid new : Mesh) (a z : ℕ) (s : IsSound m) (f : IsFanOfTwo m a z) (o : Opens m mid (face m a)) (r : Removes mid new a) where
+module _ (m mid new : Mesh) (a z : ℕ) (s : AreSoundLinks m) (f : IsFanOfTwo m a z) (o : Opens m mid (face m a)) (r : Removes mid new a) where
   abbrev a_in : a < length m.half_edges
   a_in = f.peelable.within
 
@@ -94,7 +94,7 @@ module _ (m mid new : Mesh) (a z : ℕ) (s : IsSound m) (f : IsFanOfTwo m a z) (
   abbrev inner : IsInner m (face m a)
   inner = (f.peelable.inner, (s.edges a a_in).face_in)
 
-  abbrev pub s1 : IsSound mid
+  abbrev pub s1 : AreSoundLinks mid
   s1 = sound_opened m mid (face m a) s inner o
 
   abbrev pub can1 : IsUnlinkable mid a

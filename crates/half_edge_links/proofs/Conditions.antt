@@ -2,7 +2,7 @@
 use Rattle.std.proofs.Common.{◌≡◌, ◌≢◌, ◌⊎◌, ℕ, zero, suc, ◌+◌, ◌-◌, ◌<◌, ◌≤◌, Bool, true, ◌==◌, if◌then◌else◌, length, Some, refl, sym, ap, ◌∙◌, inl, inr, arith}
 use Rattle.std.proofs.lemmas.Bool.{eq-eqb, eqb-true}
 use Rattle.std.proofs.lemmas.Bool.Decides.{nat_tests}
-use Rattle.half_edge_links.specs.Mesh.{Mesh, origin, next, prev, face, rev, IsSound, IsValid, IsClosed}
+use Rattle.half_edge_links.specs.Mesh.{Mesh, origin, next, prev, face, rev, AreSoundLinks, IsValidMesh, IsClosed}
 use Rattle.half_edge_links.specs.Flip.{IsFlippable}
 use Rattle.half_edge_links.specs.Remove.{IsRemovable}
 use Rattle.half_edge_links.specs.Peel.{IsPeelable, IsWheel, IsStrip, turn, spoke}
@@ -79,21 +79,21 @@ pub record IsFullStrip (m : Mesh) (h k : ℕ) : Type 0 where
   pub only : (g : ℕ) → g < length m.half_edges → origin m g ≡ origin m h → (i : ℕ) × (i ≤ k) × (g ≡ spoke m h i)
 
 -- an edge that is alone at its start, where the walk round it comes back at once
-alone_at : (m : Mesh) (e : ℕ) → IsValid m → e < length m.half_edges → next m (rev e) ≡ e → (h : ℕ) → h < length m.half_edges → origin m h ≡ origin m e → h ≡ e
+alone_at : (m : Mesh) (e : ℕ) → IsValidMesh m → e < length m.half_edges → next m (rev e) ≡ e → (h : ℕ) → h < length m.half_edges → origin m h ≡ origin m e → h ≡ e
 alone_at m e v within back h h_in same =
     let turned : rev (prev m e) ≡ e = ap (λ k. rev (prev m k)) (sym back) ∙ ap rev (v.sound.edges (rev e) (rev_within _ _ v.sound.even within)).prev_next ∙ rev-rev e in
     let closed : IsClosed m (λ k. k == e) = λ k k_in is. eq-eqb (rev (prev m k)) e (ap (λ j. rev (prev m j)) (eqb-true k e is) ∙ turned) in
     eqb-true h e (v.stars (λ k. k == e) closed e h within h_in (sym same) (eq-eqb e e refl))
 
 -- the edge after one into a vertex is not the edge itself, whose ends differ
-free_at : (m : Mesh) (e : ℕ) → IsValid m → e < length m.half_edges → next m (rev e) ≢ prev m e
+free_at : (m : Mesh) (e : ℕ) → IsValidMesh m → e < length m.half_edges → next m (rev e) ≢ prev m e
 free_at m e v within same =
     let here = v.sound.edges e within in
     let there = v.sound.edges (rev e) (rev_within _ _ v.sound.even within) in
     let before = v.sound.edges (prev m e) here.prev_in in
     v.apart (prev m e) here.prev_in (ap (origin m) (sym same) ∙ there.starts ∙ ap (origin m) (rev-rev e ∙ sym here.next_prev) ∙ before.starts)
 
-pub unlinkable : (m : Mesh) (e : ℕ) → IsValid m → IsRemovable m e → IsUnlinkable m e
+pub unlinkable : (m : Mesh) (e : ℕ) → IsValidMesh m → IsRemovable m e → IsUnlinkable m e
 unlinkable m e v can =
     let t_in = rev_within e (length m.half_edges) v.sound.even can.within in
     record {
@@ -111,13 +111,13 @@ unlinkable m e v can =
 pub removable : (m : Mesh) (e : ℕ) → IsUnlinkable m e → IsRemovable m e
 removable m e can = record { within = can.within; outer = can.outer; twin_outer = can.twin_outer; whole = can.whole }
 
-pub hull_edge : (m : Mesh) (h : ℕ) → IsValid m → IsPeelable m h → IsHullEdge m h
+pub hull_edge : (m : Mesh) (h : ℕ) → IsValidMesh m → IsPeelable m h → IsHullEdge m h
 hull_edge m h v can = record { within = can.within; inner = can.inner; outer = can.outer; ends = v.apart h can.within }
 
 pub peelable : (m : Mesh) (h : ℕ) → IsHullEdge m h → IsPeelable m h
 peelable m h can = record { within = can.within; inner = can.inner; outer = can.outer }
 
-module _ (m : Mesh) (v : IsValid m) (h : ℕ) (within : h < length m.half_edges) where
+module _ (m : Mesh) (v : IsValidMesh m) (h : ℕ) (within : h < length m.half_edges) where
   pub turn_in : turn m h < length m.half_edges
   turn_in = rev_within _ _ v.sound.even (v.sound.edges h within).prev_in
 
@@ -153,7 +153,7 @@ from_three : (o a z k : ℕ) → in_three o a z k ≡ true → (k ≡ o) ⊎ ((k
 unfolding in_three
 from_three o a z k is = grind (arith, nat_tests)
 
-pub full_wheel : (m : Mesh) (o : ℕ) → IsValid m → IsWheel m o → IsFullWheel m o
+pub full_wheel : (m : Mesh) (o : ℕ) → IsValidMesh m → IsWheel m o → IsFullWheel m o
 full_wheel m o v w =
     let a : ℕ = turn m o in
     let z : ℕ = turn m (turn m o) in
@@ -176,7 +176,7 @@ full_wheel m o v w =
       only = λ h h_in same. from_three o a z h (v.stars (in_three o a z) closed o h w.within h_in (sym same) (to_three o a z o (inl refl)));
     }
 
-pub spoke_at : (m : Mesh) (h : ℕ) → IsSound m → h < length m.half_edges → (i : ℕ) → (spoke m h i < length m.half_edges) × (origin m (spoke m h i) ≡ origin m h)
+pub spoke_at : (m : Mesh) (h : ℕ) → AreSoundLinks m → h < length m.half_edges → (i : ℕ) → (spoke m h i < length m.half_edges) × (origin m (spoke m h i) ≡ origin m h)
 spoke_at m h s within zero = (within, refl)
 spoke_at m h s within (suc i) =
     let was = spoke_at m h s within i in
@@ -184,12 +184,12 @@ spoke_at m h s within (suc i) =
     (rev_within _ (length m.half_edges) s.even here.prev_in, sym (s.edges _ here.prev_in).starts ∙ ap (origin m) here.next_prev ∙ was.1)
 
 -- the walk round a vertex is one to one
-pub turn_one : (m : Mesh) → IsSound m → (a b : ℕ) → a < length m.half_edges → b < length m.half_edges → turn m a ≡ turn m b → a ≡ b
+pub turn_one : (m : Mesh) → AreSoundLinks m → (a b : ℕ) → a < length m.half_edges → b < length m.half_edges → turn m a ≡ turn m b → a ≡ b
 turn_one m s a b p q same =
     let prevs : prev m a ≡ prev m b = sym (rev-rev (prev m a)) ∙ ap rev same ∙ rev-rev (prev m b) in
     sym (s.edges a p).next_prev ∙ ap (next m) prevs ∙ (s.edges b q).next_prev
 
-pub full_strip : (m : Mesh) (h k : ℕ) → IsValid m → IsStrip m h k → IsFullStrip m h k
+pub full_strip : (m : Mesh) (h k : ℕ) → IsValidMesh m → IsStrip m h k → IsFullStrip m h k
 full_strip m h k v f =
     let s = v.sound in
     let at = spoke_at m h s f.within in
@@ -210,7 +210,7 @@ full_strip m h k v f =
     }
 
 -- the two faces of an edge differ, if one is an inner one
-pub faces_apart : (m : Mesh) (e : ℕ) → IsValid m → e < length m.half_edges → 0 < face m e → face m e ≢ face m (rev e)
+pub faces_apart : (m : Mesh) (e : ℕ) → IsValidMesh m → e < length m.half_edges → 0 < face m e → face m e ≢ face m (rev e)
 faces_apart m e v within inner same =
     let s = v.sound in
     let t : IsTriangle m e = triangle_at m e s within inner in
@@ -224,5 +224,5 @@ faces_apart m e v within inner same =
     ]
 
 -- so an edge with inner faces on both sides has two of them
-pub flippable : (m : Mesh) (e : ℕ) → IsValid m → e < length m.half_edges → 0 < face m e → 0 < face m (rev e) → IsFlippable m e
+pub flippable : (m : Mesh) (e : ℕ) → IsValidMesh m → e < length m.half_edges → 0 < face m e → 0 < face m (rev e) → IsFlippable m e
 flippable m e v within inner twin_inner = record { within = within; inner = inner; twin_inner = twin_inner; apart = faces_apart m e v within inner }

@@ -3,9 +3,9 @@ use Rattle.std.proofs.Common.{◌≡◌, ℕ, zero, suc, ◌<◌, [], length, So
 use Rattle.std.proofs.lemmas.List.{get_or-set_same, get_or-set_other, length-set}
 use Rattle.std.proofs.lemmas.Bool.{cases_eq}
 use Rattle.half_edge_links.proofs.Cases.{◌or_else◌}
-use Rattle.half_edge_links.specs.Mesh.{Mesh, IsSound, IsSoundEdge, origin, out_edge, connected}
+use Rattle.half_edge_links.specs.Mesh.{Mesh, AreSoundLinks, IsSoundEdge, origin, out_edge, connected}
 
-module _ (m : Mesh) (a b : ℕ) (s : IsSound m) (none : m.half_edges ≡ []) (a_in : a < length m.out_edges) (b_in : b < length m.out_edges) where
+module _ (m : Mesh) (a b : ℕ) (s : AreSoundLinks m) (none : m.half_edges ≡ []) (a_in : a < length m.out_edges) (b_in : b < length m.out_edges) where
   no_edge_at : (h : ℕ) → h < length m.half_edges → ⊥
   no_edge_at h within = let empty : length m.half_edges ≡ 0 = ap length none in omega arith
 
@@ -67,7 +67,7 @@ module _ (m : Mesh) (a b : ℕ) (s : IsSound m) (none : m.half_edges ≡ []) (a_
             absurd (no_edge_at h (s.vertices v h (sym (get_or-set_other m.out_edges a v (Some 0) None other) ∙ sym at ∙ named)).0)
       ]
 
-  pub sound_connected : IsSound (connected m a b)
+  pub sound_connected : AreSoundLinks (connected m a b)
   sound_connected = record {
     even = refl;
     edges = sound_at;

@@ -1,14 +1,14 @@
 -- The corners of the faces where no inner face changes.
 use Rattle.std.proofs.Common.{◌≡◌, ℕ, ◌+◌, ◌-◌, ◌<◌, List, [], ◌∷◌, ◌++◌, length, map, sym, ap, ◌∙◌, arith}
 use Rattle.std.proofs.lemmas.List.{same_lists, get_or-map, length-map, map-append}
-use Rattle.half_edge_links.specs.Mesh.{Mesh, origin, next, prev, face, rev, IsSound, IsAlone}
+use Rattle.half_edge_links.specs.Mesh.{Mesh, origin, next, prev, face, rev, AreSoundLinks, IsAlone}
 use Rattle.half_edge_links.specs.Triangles.{Triangle, triangle_at, triangles}
 use Rattle.half_edge_links.specs.Outline.{AddsTriangle}
 use Rattle.half_edge_links.specs.Grow.{IsOuter, IsClosable, Hangs, Closes}
 use Rattle.half_edge_links.proofs.Hang.{after_outer}
 use Rattle.half_edge_links.proofs.Close.{corner}
 
-module _ (m new : Mesh) (s : IsSound m) (same : (h : ℕ) → h < length m.half_edges → 0 < face m h → triangle_at new h ≡ triangle_at m h) where
+module _ (m new : Mesh) (s : AreSoundLinks m) (same : (h : ℕ) → h < length m.half_edges → 0 < face m h → triangle_at new h ≡ triangle_at m h) where
   mapped : map (triangle_at new) m.face_edges ≡ triangles m
   mapped =
       same_lists _ _ (length-map m.face_edges (triangle_at new) ∙ sym (length-map m.face_edges (triangle_at m))) (λ k d within.
@@ -23,7 +23,7 @@ module _ (m new : Mesh) (s : IsSound m) (same : (h : ℕ) → h < length m.half_
   pub triangles_added : (h : ℕ) → new.face_edges ≡ m.face_edges ++ h ∷ [] → triangles new ≡ triangles m ++ triangle_at new h ∷ []
   triangles_added h is = ap (map (triangle_at new)) is ∙ map-append (triangle_at new) m.face_edges (h ∷ []) ∙ ap (λ (q : List Triangle). q ++ triangle_at new h ∷ []) mapped
 
-pub triangles_hung : (m new : Mesh) (x v : ℕ) → IsSound m → IsOuter m x → IsAlone m v → Hangs m new x v (length m.half_edges) → triangles new ≡ triangles m
+pub triangles_hung : (m new : Mesh) (x v : ℕ) → AreSoundLinks m → IsOuter m x → IsAlone m v → Hangs m new x v (length m.half_edges) → triangles new ≡ triangles m
 triangles_hung m new x v s outer alone i =
     triangles_kept m new s (λ h within some.
     let here = s.edges h within in
@@ -34,7 +34,7 @@ triangles_hung m new x v s outer alone i =
     let o3 = i.origins (prev m h) here.prev_in in
     cc) i.face_edges
 
-pub triangles_closed : (m new : Mesh) (e : ℕ) → IsSound m → IsClosable m e → Closes m new e (length m.half_edges) (length m.face_edges) → AddsTriangle m new (origin m e) (origin m (next m e)) (origin m (rev (next m e)))
+pub triangles_closed : (m new : Mesh) (e : ℕ) → AreSoundLinks m → IsClosable m e → Closes m new e (length m.half_edges) (length m.face_edges) → AddsTriangle m new (origin m e) (origin m (next m e)) (origin m (rev (next m e)))
 triangles_closed m new e s can i =
     let p = corner m e s can in
     let a = i.other_next e can.within (λ q. p.before-first (sym q)) p.first-second in

@@ -4,7 +4,7 @@ use Rattle.std.proofs.lemmas.Bool.{cases_eq, cases_lt}
 use Rattle.std.proofs.lemmas.Grind.{common_steps}
 use Rattle.std.proofs.lemmas.List.{same_lists, get_or-map, length-map, length-set, get_or-set_same, get_or-set_other, get_or_append_left, get_or-append-add, get_or_default}
 use Rattle.half_edge_links.specs.declared.records.HalfEdge.{HalfEdge}
-use Rattle.half_edge_links.specs.Mesh.{Mesh, no_edge, origin, rev, IsSound}
+use Rattle.half_edge_links.specs.Mesh.{Mesh, no_edge, origin, rev, AreSoundLinks}
 use Rattle.half_edge_links.specs.Outline.{Ends, paired, origins, ends, along}
 
 paired-append : (xs ys : List ℕ) → length xs % 2 ≡ 0 → paired (xs ++ ys) ≡ paired xs ++ paired ys
@@ -40,7 +40,7 @@ module _ (m : Mesh) where
   pub get_or-origins : (h d : ℕ) → h < length m.half_edges → get_or (origins m) h d ≡ origin m h
   get_or-origins h d within = get_or-map (λ (x : HalfEdge). x.origin) m.half_edges h no_edge d within
 
-module _ (m new : Mesh) (s : IsSound m) where
+module _ (m new : Mesh) (s : AreSoundLinks m) where
   even : length (origins m) % 2 ≡ 0
   even = rw length-origins s.even
 
@@ -80,7 +80,7 @@ moved_pair m new e a b k at_e at_twin is o0 o1 =
     ]
 
 -- edge e gets other ends
-pub ends_moved : (m new : Mesh) (e a b : ℕ) → IsSound m → e < length m.half_edges → length new.half_edges ≡ length m.half_edges → origin new e ≡ a → origin new (rev e) ≡ b → ((h : ℕ) → h < length m.half_edges → h ≢ e → h ≢ rev e → origin new h ≡ origin m h) → ends new ≡ set (ends m) (e / 2) (along e a b)
+pub ends_moved : (m new : Mesh) (e a b : ℕ) → AreSoundLinks m → e < length m.half_edges → length new.half_edges ≡ length m.half_edges → origin new e ≡ a → origin new (rev e) ≡ b → ((h : ℕ) → h < length m.half_edges → h ≢ e → h ≢ rev e → origin new h ≡ origin m h) → ends new ≡ set (ends m) (e / 2) (along e a b)
 ends_moved m new e a b s within count at_e at_twin kept =
     let old_even : length (origins m) % 2 ≡ 0 = rw length-origins s.even in
     let new_even : length (origins new) % 2 ≡ 0 = rw (length-origins, count) s.even in
@@ -108,12 +108,12 @@ ends_moved m new e a b s within count at_e at_twin kept =
           read ∙ pairs ∙ sym was ∙ sym (get_or-set_other (ends m) (e / 2) k (along e a b) d (λ q. differs (sym q)))
     ])
 
-pub length-ends : (m : Mesh) (e : ℕ) → IsSound m → e < length m.half_edges → e / 2 < length (ends m)
+pub length-ends : (m : Mesh) (e : ℕ) → AreSoundLinks m → e < length m.half_edges → e / 2 < length (ends m)
 length-ends m e s within =
     let even_origins : length (origins m) % 2 ≡ 0 = rw length-origins s.even in
     omega (arith, within, length-paired (origins m) even_origins, length-origins m)
 
-pub length-ends_twice : (m : Mesh) → IsSound m → 2 * length (ends m) ≡ length m.half_edges
+pub length-ends_twice : (m : Mesh) → AreSoundLinks m → 2 * length (ends m) ≡ length m.half_edges
 length-ends_twice m s =
     let even_origins : length (origins m) % 2 ≡ 0 = rw length-origins s.even in
     length-paired (origins m) even_origins ∙ length-origins m

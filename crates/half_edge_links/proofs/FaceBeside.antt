@@ -1,19 +1,19 @@
 -- A face of an outer edge and a lonely vertex.
 use Rattle.std.proofs.Common.{◌≡◌, ◌≢◌, ℕ, ◌+◌, ◌<◌, [], ◌∷◌, ◌++◌, length, Some, None, sym, ap, ◌∙◌, inl, inr, arith}
-use Rattle.half_edge_links.specs.Mesh.{Mesh, origin, next, prev, out_edge, rev, IsSound, IsAlone}
+use Rattle.half_edge_links.specs.Mesh.{Mesh, origin, next, prev, out_edge, rev, AreSoundLinks, IsAlone}
 use Rattle.half_edge_links.specs.Grow.{IsOuter, Hangs, Closes, AddsFace}
 use Rattle.half_edge_links.specs.Outline.{HangsOuter, ClosesOuter, ReplacesOuter}
 use Rattle.half_edge_links.proofs.Parts.{rev_of_even}
 
 -- a vertex without edges is none of an edge's
-pub differs_alone : (m : Mesh) (h v : ℕ) → IsSound m → h < length m.half_edges → IsAlone m v → origin m h ≢ v
+pub differs_alone : (m : Mesh) (h v : ℕ) → AreSoundLinks m → h < length m.half_edges → IsAlone m v → origin m h ≢ v
 differs_alone m h v s within alone same =
     let has = (s.edges h within).has_out in
     let none : out_edge m (origin m h) ≡ None = ap (out_edge m) same ∙ alone.1 in
     let clash = rw none at has in
     cc
 
-module _ (m mid new : Mesh) (e v : ℕ) (s : IsSound m) (outer : IsOuter m e) (alone : IsAlone m v) (i : Hangs m mid e v (length m.half_edges)) where
+module _ (m mid new : Mesh) (e v : ℕ) (s : AreSoundLinks m) (outer : IsOuter m e) (alone : IsAlone m v) (i : Hangs m mid e v (length m.half_edges)) where
   pub adds_face : Closes mid new e (length mid.half_edges) (length mid.face_edges) → AddsFace m new e v (length m.half_edges) (length m.face_edges)
   adds_face j =
       let here = s.edges e outer.0 in

@@ -2,7 +2,7 @@
 use Rattle.std.proofs.Common.{◌≡◌, ℕ, refl, ap, arith}
 use Rattle.std.proofs.lemmas.List.{get_or-set_same, get_or-set_other, length-set}
 use Rattle.half_edge_links.specs.declared.records.HalfEdge.{HalfEdge}
-use Rattle.half_edge_links.specs.Mesh.{Mesh, no_edge, edge_at, rev, IsSound, HasLinks}
+use Rattle.half_edge_links.specs.Mesh.{Mesh, no_edge, edge_at, rev, AreSoundLinks, HasLinks}
 use Rattle.half_edge_links.specs.Flip.{IsFlippable, flip_by, flipped, Flips}
 use Rattle.half_edge_links.proofs.Writes.{length-set_six, get_or-set_six_a, get_or-set_six_b, get_or-set_six_c, get_or-set_six_d, get_or-set_six_e, get_or-set_six_f, get_or-set_six_other}
 use Rattle.half_edge_links.proofs.Triangles.{six_round}
@@ -15,7 +15,7 @@ links_from m h r same = record {
   face = ap (λ (x : HalfEdge). x.face) same;
 }
 
-pub flips : (m : Mesh) (e : ℕ) → IsSound m → IsFlippable m e → Flips m (flipped m e) e
+pub flips : (m : Mesh) (e : ℕ) → AreSoundLinks m → IsFlippable m e → Flips m (flipped m e) e
 unfolding flipped flip_by
 flips m e s f =
     let p = six_round m e s f in
@@ -45,5 +45,5 @@ pub flip_by-is : (m : Mesh) (e t : ℕ) (edge twin edge_next edge_prev twin_next
 unfolding flipped
 flip_by-is m e t edge twin edge_next edge_prev twin_next twin_prev at_t a b c d x y = cc
 
-pub flips_is : (m new : Mesh) (e : ℕ) → IsSound m → IsFlippable m e → new ≡ flipped m e → Flips m new e
+pub flips_is : (m new : Mesh) (e : ℕ) → AreSoundLinks m → IsFlippable m e → new ≡ flipped m e → Flips m new e
 flips_is m new e s can is = rw is (flips m e s can)

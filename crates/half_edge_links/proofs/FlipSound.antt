@@ -3,7 +3,7 @@ use Rattle.std.proofs.Common.{◌≡◌, ◌≢◌, ◌⊎◌, ℕ, ◌<◌, ◌
 use Rattle.std.proofs.lemmas.Bool.{cases_eq}
 use Rattle.half_edge_links.proofs.Cases.{◌or_else◌}
 use Rattle.half_edge_links.specs.declared.records.HalfEdge.{HalfEdge}
-use Rattle.half_edge_links.specs.Mesh.{Mesh, edge_at, origin, next, prev, face, face_edge, out_edge, rev, IsSound, IsSoundEdge}
+use Rattle.half_edge_links.specs.Mesh.{Mesh, edge_at, origin, next, prev, face, face_edge, out_edge, rev, AreSoundLinks, IsSoundEdge}
 use Rattle.half_edge_links.specs.Flip.{IsFlippable, Flips}
 use Rattle.half_edge_links.proofs.Rev.{rev-rev}
 use Rattle.half_edge_links.proofs.Writes.{AreSixPlaces}
@@ -19,7 +19,7 @@ pub record IsAway (m : Mesh) (e h : ℕ) : Type 0 where
   pub edge_prev : h ≢ prev m e
   pub twin_prev : h ≢ prev m (rev e)
 
-module _ (m new : Mesh) (e : ℕ) (s : IsSound m) (can : IsFlippable m e) (f : Flips m new e) where
+module _ (m new : Mesh) (e : ℕ) (s : AreSoundLinks m) (can : IsFlippable m e) (f : Flips m new e) where
   pub six : AreSixPlaces (length m.half_edges) e (rev e) (next m e) (next m (rev e)) (prev m e) (prev m (rev e))
   six = six_round m e s can
 
@@ -205,7 +205,7 @@ module _ (m new : Mesh) (e : ℕ) (s : IsSound m) (can : IsFlippable m e) (f : F
       let at = kept h (away_by_face h (λ q. absurd (omega (arith, can.inner))) (λ q. absurd (omega (arith, can.twin_inner)))) in
       (omega (arith, f.edge_count, had.0), cc)
 
-  pub sound_after_flip : IsSound new
+  pub sound_after_flip : AreSoundLinks new
   sound_after_flip = record {
     even = rw f.edge_count s.even;
     edges = λ h within. sound_at h (omega (arith, f.edge_count));

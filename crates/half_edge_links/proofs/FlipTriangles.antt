@@ -2,13 +2,13 @@
 use Rattle.std.proofs.Common.{◌≡◌, ◌≢◌, ℕ, ◌+◌, ◌-◌, ◌<◌, length, get_or, set, sym, ap, ◌∙◌, inl, inr, arith}
 use Rattle.std.proofs.lemmas.Bool.{cases_eq}
 use Rattle.std.proofs.lemmas.List.{get_or-set_same, get_or-set_other, length-set, same_lists, get_or-map, length-map}
-use Rattle.half_edge_links.specs.Mesh.{Mesh, origin, next, prev, face, face_edge, rev, IsSound}
+use Rattle.half_edge_links.specs.Mesh.{Mesh, origin, next, prev, face, face_edge, rev, AreSoundLinks}
 use Rattle.half_edge_links.specs.Flip.{IsFlippable, Flips, flipped}
 use Rattle.half_edge_links.specs.Triangles.{Triangle, triangle_at, triangles, FlipsTriangles}
 use Rattle.half_edge_links.proofs.FlipLemmas.{flips}
 use Rattle.half_edge_links.proofs.FlipSound.{IsAway, six, next_away, prev_away, kept, origin_kept, away_by_face}
 
-module _ (m new : Mesh) (e : ℕ) (s : IsSound m) (can : IsFlippable m e) (f : Flips m new e) where
+module _ (m new : Mesh) (e : ℕ) (s : AreSoundLinks m) (can : IsFlippable m e) (f : Flips m new e) where
   kept_triangle : (h : ℕ) → h < length m.half_edges → IsAway m e h → triangle_at new h ≡ triangle_at m h
   kept_triangle h within a =
       let at_h = kept m new e s can f h a in
@@ -66,5 +66,5 @@ module _ (m new : Mesh) (e : ℕ) (s : IsSound m) (can : IsFlippable m e) (f : F
       let count : length (triangles new) ≡ length (triangles m) = length-map new.face_edges (triangle_at new) ∙ f.face_count ∙ sym (length-map m.face_edges (triangle_at m)) in
       rw (← left_triangle, ← right_triangle) (same_lists _ _ (simp length-set count) at_index)
 
-pub triangles_flipped : (m new : Mesh) (e : ℕ) → IsSound m → IsFlippable m e → new ≡ flipped m e → FlipsTriangles m new e
+pub triangles_flipped : (m new : Mesh) (e : ℕ) → AreSoundLinks m → IsFlippable m e → new ≡ flipped m e → FlipsTriangles m new e
 triangles_flipped m new e s can is = rw is (flips_triangles m (flipped m e) e s can (flips m e s can))

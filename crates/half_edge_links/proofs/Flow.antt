@@ -5,7 +5,7 @@ use Rattle.std.proofs.lemmas.Int.{ints}
 use Rattle.std.proofs.lemmas.Bool.{cases_eq}
 use Rattle.std.proofs.lemmas.Bool.Decides.{nat_tests}
 use Rattle.std.proofs.lemmas.List.{length-map, get_or-map}
-use Rattle.half_edge_links.specs.Mesh.{Mesh, IsSound, origin, next, prev, face, face_edge, rev}
+use Rattle.half_edge_links.specs.Mesh.{Mesh, AreSoundLinks, origin, next, prev, face, face_edge, rev}
 use Rattle.half_edge_links.specs.Triangles.{triangle_at, triangles}
 use Rattle.half_edge_links.specs.Outline.{Ends, ends}
 use Rattle.half_edge_links.specs.Flow.{total, around, along, both_ways, outer_among, outline, SidesAddUp, SidesCancel}
@@ -30,7 +30,7 @@ three_third c = omega (arith, ints)
 same_three : (a b c x y z : ℤ) → a ≡ x → b ≡ y → c ≡ z → a +ℤ b +ℤ c ≡ x +ℤ y +ℤ z
 same_three a b c x y z p q r = cc
 
-module _ (m : Mesh) (s : IsSound m) (f : ℕ → ℕ → ℤ) where
+module _ (m : Mesh) (s : AreSoundLinks m) (f : ℕ → ℕ → ℤ) where
   abbrev n : ℕ
   n = length m.half_edges
 

@@ -2,7 +2,7 @@
 use Rattle.std.proofs.Common.{◌≤◌, ◌+◌, ◌≡◌, ◌≢◌, ℕ, ◌-◌, ◌<◌, List, [], ◌∷◌, ◌++◌, length, set, refl, sym, ap, ◌∙◌, arith}
 use Rattle.std.proofs.lemmas.List.{set-append_left, set-append_right, length-set, length-map}
 use Rattle.half_edge_links.specs.declared.records.HalfEdge.{HalfEdge}
-use Rattle.half_edge_links.specs.Mesh.{edge_at, Mesh, origin, next, prev, face, rev, IsSound, IsAlone}
+use Rattle.half_edge_links.specs.Mesh.{edge_at, Mesh, origin, next, prev, face, rev, AreSoundLinks, IsAlone}
 use Rattle.half_edge_links.specs.Flip.{Flips, IsFlippable}
 use Rattle.half_edge_links.specs.Triangles.{triangle_at, triangles, FlipsTriangles}
 use Rattle.half_edge_links.specs.Grow.{HalfSplits, AddsFace, IsHalfSplittable, IsOuter}
@@ -11,7 +11,7 @@ use Rattle.half_edge_links.proofs.FlipSound.{origin_kept}
 use Rattle.half_edge_links.proofs.FaceBeside.{differs_alone}
 use Rattle.half_edge_links.proofs.Rev.{rev-rev, rev_within, rev_differs}
 
-pub twin_outer : (m : Mesh) (e : ℕ) → IsSound m → IsHalfSplittable m e → IsOuter m (rev e)
+pub twin_outer : (m : Mesh) (e : ℕ) → AreSoundLinks m → IsHalfSplittable m e → IsOuter m (rev e)
 twin_outer m e s half = (rev_within e _ s.even half.within, half.outer)
 
 pub replaced_kept : (m mid new : Mesh) (e v i j : ℕ) → ReplacesOuter m mid e v i j → KeepsOuter mid new → ReplacesOuter m new e v i j
@@ -26,7 +26,7 @@ overwritten xs x a b i j within is =
     let e : j - length xs ≡ 0 = omega arith in
     rw (set-append_left xs (x ∷ []) i a within, set-append_right (set xs i a) (x ∷ []) (length xs) j b (length-set xs i a) (omega arith), e) refl
 
-module _ (m mid : Mesh) (e v : ℕ) (s : IsSound m) (half : IsHalfSplittable m e) (i : AddsFace m mid (rev e) v (length m.half_edges) (length m.face_edges)) where
+module _ (m mid : Mesh) (e v : ℕ) (s : AreSoundLinks m) (half : IsHalfSplittable m e) (i : AddsFace m mid (rev e) v (length m.half_edges) (length m.face_edges)) where
   off_twin : e ≢ rev e
   off_twin q = rev_differs e (sym q)
 
@@ -84,7 +84,7 @@ module _ (m mid : Mesh) (e v : ℕ) (s : IsSound m) (half : IsHalfSplittable m e
       let d = near in
       cc
 
-  pub half_splits : (new : Mesh) → IsSound mid → Flips mid new e → HalfSplits m new e v (length m.half_edges) (length m.face_edges)
+  pub half_splits : (new : Mesh) → AreSoundLinks mid → Flips mid new e → HalfSplits m new e v (length m.half_edges) (length m.face_edges)
   half_splits new sound f =
       let here = s.edges e half.within in
       let twin = s.edges (rev e) (rev_within e _ s.even half.within) in

@@ -4,7 +4,7 @@ use Rattle.std.proofs.lemmas.Bool.{cases_eq}
 use Rattle.std.proofs.lemmas.List.{get_or-set_same, get_or-set_other, length-set}
 use Rattle.half_edge_links.proofs.Cases.{◌or_else◌}
 use Rattle.half_edge_links.specs.declared.records.HalfEdge.{HalfEdge}
-use Rattle.half_edge_links.specs.Mesh.{Mesh, no_edge, edge_at, origin, next, prev, face, face_edge, out_edge, rev, IsSound, IsSoundEdge, IsAlone}
+use Rattle.half_edge_links.specs.Mesh.{Mesh, no_edge, edge_at, origin, next, prev, face, face_edge, out_edge, rev, AreSoundLinks, IsSoundEdge, IsAlone}
 use Rattle.half_edge_links.specs.Grow.{with_next, with_prev, IsOuter, hung_edges, hung, Hangs}
 use Rattle.half_edge_links.proofs.Rev.{rev_within}
 use Rattle.half_edge_links.proofs.FlipLemmas.{links_from}
@@ -56,7 +56,7 @@ module _ (hs : List HalfEdge) (x y v : ℕ) (x_in : x < length hs) (y_in : y < l
   unfolding hung_edges
   at_1 = ap (λ q. edge_at (hung_edges hs x y v (length hs)) (q + 1)) (sym length-written) ∙ two_at_1 written _ _ no_edge
 
-pub hangs : (m : Mesh) (x v : ℕ) → IsSound m → IsOuter m x → IsAlone m v → Hangs m (hung m x v) x v (length m.half_edges)
+pub hangs : (m : Mesh) (x v : ℕ) → AreSoundLinks m → IsOuter m x → IsAlone m v → Hangs m (hung m x v) x v (length m.half_edges)
 unfolding hung
 hangs m x v s out alone =
     let y_in = (s.edges x out.0).next_in in
@@ -77,7 +77,7 @@ hangs m x v s out alone =
       outer_edge = refl;
     }
 
-module _ (m new : Mesh) (x v : ℕ) (s : IsSound m) (outer : IsOuter m x) (alone : IsAlone m v) (i : Hangs m new x v (length m.half_edges)) where
+module _ (m new : Mesh) (x v : ℕ) (s : AreSoundLinks m) (outer : IsOuter m x) (alone : IsAlone m v) (i : Hangs m new x v (length m.half_edges)) where
   at_x : IsSoundEdge m x
   at_x = s.edges x outer.0
 
@@ -167,7 +167,7 @@ module _ (m new : Mesh) (x v : ℕ) (s : IsSound m) (outer : IsOuter m x) (alone
   vertices_kept : (u h : ℕ) → out_edge new u ≡ Some h → (h < length new.half_edges) × (origin new h ≡ u)
   vertices_kept = still_named m new v (length m.half_edges + 1) i.out i.other_outs s (omega (arith, i.edge_count)) i.back.origin (λ h within off. (omega (arith, i.edge_count, within), i.origins h within))
 
-  pub sound_after_hang : IsSound new
+  pub sound_after_hang : AreSoundLinks new
   sound_after_hang = record {
     even = rw i.edge_count (let e = s.even in omega arith);
     edges = sound_at;

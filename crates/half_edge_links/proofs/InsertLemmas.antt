@@ -2,7 +2,7 @@
 use Rattle.std.proofs.Common.{◌≡◌, ◌≢◌, ℕ, ◌+◌, ◌-◌, ◌<◌, List, [], ◌∷◌, ◌++◌, length, None, get_or, set, refl, sym, arith, append_assoc, length-append, add-zero}
 use Rattle.std.proofs.lemmas.List.{get_or-set_same, get_or-set_other, length-set, get_or_append_left, get_or-append-add, get_or_at}
 use Rattle.half_edge_links.specs.declared.records.HalfEdge.{HalfEdge}
-use Rattle.half_edge_links.specs.Mesh.{Mesh, no_edge, edge_at, next, prev, face, IsSound, IsInnerEdge, IsAlone}
+use Rattle.half_edge_links.specs.Mesh.{Mesh, no_edge, edge_at, next, prev, face, AreSoundLinks, IsInnerEdge, IsAlone}
 use Rattle.half_edge_links.specs.Insert.{insert_by, inserted, Inserts}
 use Rattle.half_edge_links.proofs.Triangles.{triangle_at}
 use Rattle.half_edge_links.proofs.FlipLemmas.{links_from}
@@ -54,7 +54,7 @@ module _ {X : Type 0} (xs : List X) (i j k : ℕ) (u v w a b c d e f o : X) (p :
   unfolding written
   grown_other h within hi hj hk = rw (grown_is, get_or_append_left written (a ∷ b ∷ c ∷ d ∷ e ∷ f ∷ []) o h (omega (arith, length-written))) (grind (arith, get_or-set_same, get_or-set_other, length-set))
 
-pub inserts : (m : Mesh) (v a : ℕ) → IsSound m → IsInnerEdge m a → IsAlone m v → Inserts m (inserted m v a) v (face m a) a (length m.half_edges) (length m.face_edges)
+pub inserts : (m : Mesh) (v a : ℕ) → AreSoundLinks m → IsInnerEdge m a → IsAlone m v → Inserts m (inserted m v a) v (face m a) a (length m.half_edges) (length m.face_edges)
 unfolding inserted insert_by written
 inserts m v a s inner alone =
     let t = triangle_at m a s inner.0 inner.1 in
@@ -94,5 +94,5 @@ pub insert_by-is : (m : Mesh) (v f n g a : ℕ) (first second third : HalfEdge) 
 unfolding inserted
 insert_by-is m v f n g a first second third at_n at_g x at_f y z = cc
 
-pub inserts_is : (m new : Mesh) (v a : ℕ) → IsSound m → IsInnerEdge m a → IsAlone m v → new ≡ inserted m v a → Inserts m new v (face m a) a (length m.half_edges) (length m.face_edges)
+pub inserts_is : (m new : Mesh) (v a : ℕ) → AreSoundLinks m → IsInnerEdge m a → IsAlone m v → new ≡ inserted m v a → Inserts m new v (face m a) a (length m.half_edges) (length m.face_edges)
 inserts_is m new v a s inner alone is = rw is (inserts m v a s inner alone)

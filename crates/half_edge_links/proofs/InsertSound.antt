@@ -3,7 +3,7 @@ use Rattle.std.proofs.Common.{◌≡◌, ◌≢◌, ℕ, ◌+◌, ◌%◌, ◌<�
 use Rattle.std.proofs.lemmas.Bool.{cases_eq}
 use Rattle.half_edge_links.proofs.Cases.{◌or_else◌}
 use Rattle.half_edge_links.specs.declared.records.HalfEdge.{HalfEdge}
-use Rattle.half_edge_links.specs.Mesh.{Mesh, edge_at, origin, next, prev, face, face_edge, out_edge, rev, IsSound, IsSoundEdge, IsInnerEdge, IsAlone, HasLinks}
+use Rattle.half_edge_links.specs.Mesh.{Mesh, edge_at, origin, next, prev, face, face_edge, out_edge, rev, AreSoundLinks, IsSoundEdge, IsInnerEdge, IsAlone, HasLinks}
 use Rattle.half_edge_links.specs.Insert.{Inserts}
 use Rattle.half_edge_links.proofs.Rev.{rev_within}
 use Rattle.half_edge_links.proofs.Parts.{late_cases, rev_of_even, rev_of_odd, IsBusy, loop_sound, still_out, still_named, sound_kept}
@@ -15,7 +15,7 @@ pub record IsAway (m : Mesh) (a h : ℕ) : Type 0 where
   pub second : h ≢ next m a
   pub third : h ≢ prev m a
 
-module _ (m new : Mesh) (v f a n g : ℕ) (s : IsSound m) (inner : IsInnerEdge m a) (alone : IsAlone m v) (at_f : f ≡ face m a) (at_n : n ≡ length m.half_edges) (at_g : g ≡ length m.face_edges) (i : Inserts m new v f a n g) where
+module _ (m new : Mesh) (v f a n g : ℕ) (s : AreSoundLinks m) (inner : IsInnerEdge m a) (alone : IsAlone m v) (at_f : f ≡ face m a) (at_n : n ≡ length m.half_edges) (at_g : g ≡ length m.face_edges) (i : Inserts m new v f a n g) where
   pub round : IsTriangle m a
   round = triangle_at m a s inner.0 inner.1
 
@@ -171,7 +171,7 @@ module _ (m new : Mesh) (v f a n g : ℕ) (s : IsSound m) (inner : IsInnerEdge m
       let at = kept h (omega (arith, had.0)) (away_by_face h (λ q. absurd (omega (arith, at_f, inner.1)))) in
       (omega (arith, i.edge_count, had.0), cc)
 
-  pub sound_after_insert : IsSound new
+  pub sound_after_insert : AreSoundLinks new
   sound_after_insert = record {
     even = rw i.edge_count (let e = n_even in omega arith);
     edges = sound_at;

@@ -3,13 +3,13 @@ use Rattle.std.proofs.Common.{◌≡◌, ◌≢◌, ℕ, ◌+◌, ◌-◌, ◌<�
 use Rattle.std.proofs.lemmas.Bool.{cases_eq}
 use Rattle.std.proofs.lemmas.List.{get_or-set_same, get_or-set_other, length-set, same_lists, get_or-map, length-map, get_or_append_left, get_or-append-add}
 use Rattle.half_edge_links.proofs.Cases.{◌or_else◌}
-use Rattle.half_edge_links.specs.Mesh.{Mesh, origin, next, prev, face, face_edge, IsSound, IsInnerEdge, IsAlone}
+use Rattle.half_edge_links.specs.Mesh.{Mesh, origin, next, prev, face, face_edge, AreSoundLinks, IsInnerEdge, IsAlone}
 use Rattle.half_edge_links.specs.Insert.{Inserts, inserted}
 use Rattle.half_edge_links.specs.Triangles.{Triangle, triangle_at, triangles, InsertsTriangles}
 use Rattle.half_edge_links.proofs.InsertLemmas.{inserts}
 use Rattle.half_edge_links.proofs.InsertSound.{IsAway, kept, origin_kept, away_by_face}
 
-module _ (m new : Mesh) (v a : ℕ) (s : IsSound m) (inner : IsInnerEdge m a) (alone : IsAlone m v) (i : Inserts m new v (face m a) a (length m.half_edges) (length m.face_edges)) where
+module _ (m new : Mesh) (v a : ℕ) (s : AreSoundLinks m) (inner : IsInnerEdge m a) (alone : IsAlone m v) (i : Inserts m new v (face m a) a (length m.half_edges) (length m.face_edges)) where
   kept_triangle : (h : ℕ) → h < length m.half_edges → IsAway m a h → triangle_at new h ≡ triangle_at m h
   kept_triangle h within w =
       let here = s.edges h within in
@@ -80,5 +80,5 @@ module _ (m new : Mesh) (v a : ℕ) (s : IsSound m) (inner : IsInnerEdge m a) (a
       let whole : length grown ≡ length m.face_edges + 2 = rw length-append (omega (arith, written_length)) in
       rw (← first_triangle, ← second_triangle, ← third_triangle) (same_lists (triangles new) grown (count ∙ sym whole) at_index)
 
-pub triangles_inserted : (m new : Mesh) (v a : ℕ) → IsSound m → IsInnerEdge m a → IsAlone m v → new ≡ inserted m v a → InsertsTriangles m new v a
+pub triangles_inserted : (m new : Mesh) (v a : ℕ) → AreSoundLinks m → IsInnerEdge m a → IsAlone m v → new ≡ inserted m v a → InsertsTriangles m new v a
 triangles_inserted m new v a s inner alone is = rw is (inserts_triangles m (inserted m v a) v a s inner alone (inserts m v a s inner alone))

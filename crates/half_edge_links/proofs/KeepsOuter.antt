@@ -1,7 +1,7 @@
 -- A flip, and a vertex put into a face, keep the outer edges.
 use Rattle.std.proofs.Common.{◌≡◌, ◌≢◌, ℕ, ◌<◌, sym, ap, ◌∙◌, arith, ◌+◌, length, refl}
 use Rattle.half_edge_links.specs.declared.records.HalfEdge.{HalfEdge}
-use Rattle.half_edge_links.specs.Mesh.{Mesh, face, rev, IsSound, IsInnerEdge, IsAlone}
+use Rattle.half_edge_links.specs.Mesh.{Mesh, face, rev, AreSoundLinks, IsInnerEdge, IsAlone}
 use Rattle.half_edge_links.specs.Flip.{IsFlippable, Flips, flipped}
 use Rattle.half_edge_links.specs.Outline.{KeepsOuter}
 use Rattle.half_edge_links.proofs.Rev.{rev-rev, rev_within}
@@ -15,7 +15,7 @@ use Rattle.half_edge_links.proofs.InsertSound as inserting
 pub not_inner : (m : Mesh) (h k f : ℕ) → face m h ≡ 0 → face m k ≡ f → 0 < f → h ≢ k
 not_inner m h k f zero is some same = absurd (omega (arith, some, is, ap (face m) same, zero))
 
-pub outer_flipped : (m new : Mesh) (e : ℕ) → IsSound m → IsFlippable m e → Flips m new e → KeepsOuter m new
+pub outer_flipped : (m new : Mesh) (e : ℕ) → AreSoundLinks m → IsFlippable m e → Flips m new e → KeepsOuter m new
 outer_flipped m new e s can f = record {
   kept = λ h a b o.
       let away = away_by_face m new e s can f h (λ q. absurd (omega (arith, q, can.inner, o.outer))) (λ q. absurd (omega (arith, q, can.twin_inner, o.outer))) in
@@ -30,10 +30,10 @@ outer_flipped m new e s can f = record {
       (sym (origin_kept m new e s can f (rev h) (λ q. x1 (sym (rev-rev h) ∙ ap rev q)) (λ q. x0 (sym (rev-rev h) ∙ ap rev q ∙ rev-rev e))));
 }
 
-pub outer_flipped_is : (m new : Mesh) (e : ℕ) → IsSound m → IsFlippable m e → new ≡ flipped m e → KeepsOuter m new
+pub outer_flipped_is : (m new : Mesh) (e : ℕ) → AreSoundLinks m → IsFlippable m e → new ≡ flipped m e → KeepsOuter m new
 outer_flipped_is m new e s can is = rw is (outer_flipped m (flipped m e) e s can (flips m e s can))
 
-pub outer_inserted : (m new : Mesh) (v a : ℕ) → IsSound m → IsInnerEdge m a → IsAlone m v → Inserts m new v (face m a) a (length m.half_edges) (length m.face_edges) → KeepsOuter m new
+pub outer_inserted : (m new : Mesh) (v a : ℕ) → AreSoundLinks m → IsInnerEdge m a → IsAlone m v → Inserts m new v (face m a) a (length m.half_edges) (length m.face_edges) → KeepsOuter m new
 outer_inserted m new v a s inner alone i = record {
   kept = λ h p q o.
       let away = inserting.away_by_face m new v _ a _ _ s inner alone refl refl refl i h (λ same. absurd (omega (arith, same, inner.1, o.outer))) in

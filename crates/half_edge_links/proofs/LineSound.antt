@@ -1,7 +1,7 @@
 -- A mesh without inner faces stays sound where one end of an edge moves to another vertex.
 use Rattle.std.proofs.Common.{◌≡◌, ◌≢◌, ℕ, ◌<◌, [], length, Some, IsSome, sym, ap, ◌∙◌, inl, inr, arith}
 use Rattle.std.proofs.lemmas.Bool.{cases_eq}
-use Rattle.half_edge_links.specs.Mesh.{Mesh, origin, next, face, out_edge, rev, IsSound}
+use Rattle.half_edge_links.specs.Mesh.{Mesh, origin, next, face, out_edge, rev, AreSoundLinks}
 use Rattle.half_edge_links.proofs.Rev.{rev_same, rev_within}
 use Rattle.half_edge_links.proofs.Parts.{IsNextSound, IsInMesh, sound_from, prev_sound, still_out, still_named}
 
@@ -22,7 +22,7 @@ pub record MovesEnd (m new : Mesh) (e x : ℕ) : Type 0 where
   pub face_edges : new.face_edges ≡ m.face_edges
   pub outer_edge : new.outer_edge ≡ m.outer_edge
 
-module _ (m new : Mesh) (e x : ℕ) (s : IsSound m) (i : MovesEnd m new e x) where
+module _ (m new : Mesh) (e x : ℕ) (s : AreSoundLinks m) (i : MovesEnd m new e x) where
   pub face_zero : (h : ℕ) → h < length m.half_edges → face m h ≡ 0
   face_zero h within = omega (arith, (s.edges h within).face_in, ap length i.one_face)
 
@@ -61,7 +61,7 @@ module _ (m new : Mesh) (e x : ℕ) (s : IsSound m) (i : MovesEnd m new e x) whe
       still_named m new (origin m (next m e)) (next m e) i.out i.other_outs s (omega (arith, i.edge_count, i.after_in)) (i.other_origins _ i.after_in i.after_off)
       (λ h within off. (omega (arith, i.edge_count, within), i.other_origins h within (λ q. off (ap (origin m) q ∙ sym i.start))))
 
-  pub sound_with : ((h : ℕ) → h < length new.half_edges → IsNextSound new h) → IsSound new
+  pub sound_with : ((h : ℕ) → h < length new.half_edges → IsNextSound new h) → AreSoundLinks new
   sound_with next_ok = record {
     even = rw i.edge_count s.even;
     edges = λ h within.

@@ -1,6 +1,6 @@
 -- The edges of a vertex are one round, and so are the edges of the outer face, where these are one loop.
 use Rattle.std.proofs.Common.{◌≡◌, ℕ, suc, ◌+◌, ◌-◌, ◌<◌, length, sym, ap, ◌∙◌, arith, zero}
-use Rattle.half_edge_links.specs.Mesh.{Mesh, origin, prev, rev, IsValid, IsClosed, next, face, IsSound}
+use Rattle.half_edge_links.specs.Mesh.{Mesh, origin, prev, rev, IsValidMesh, IsClosed, next, face, AreSoundLinks}
 use Rattle.half_edge_links.specs.Peel.{turn, spoke}
 use Rattle.half_edge_links.specs.Move.{IsOneOrbit}
 use Rattle.half_edge_links.specs.Round.{neighbour, EdgesGoRound}
@@ -11,16 +11,16 @@ use Rattle.half_edge_links.proofs.Conditions.{spoke_at, turn_in, turn_one}
 use Rattle.half_edge_links.proofs.ShrinkTriangles.{same_triangle}
 use Rattle.half_edge_links.specs.Hull.{IsClosedAlong, outer_step, OutlineGoesRound}
 
-turns : (m : Mesh) (o : ℕ) → IsValid m → o < length m.half_edges → (k : ℕ) × IsPeriod (turn m) o k
+turns : (m : Mesh) (o : ℕ) → IsValidMesh m → o < length m.half_edges → (k : ℕ) × IsPeriod (turn m) o k
 turns m o v within = period_of (turn m) (length m.half_edges) (λ a a_in. turn_in m v a a_in) (turn_one m v.sound) o within
 
 -- each edge of the vertex is one of the round
-in_round : (m : Mesh) (o h k : ℕ) → IsValid m → o < length m.half_edges → IsPeriod (turn m) o k → h < length m.half_edges → origin m h ≡ origin m o → (i : ℕ) × (i < k) × (h ≡ spoke m o i)
+in_round : (m : Mesh) (o h k : ℕ) → IsValidMesh m → o < length m.half_edges → IsPeriod (turn m) o k → h < length m.half_edges → origin m h ≡ origin m o → (i : ℕ) × (i < k) × (h ≡ spoke m o i)
 in_round m o h k v o_in p h_in same =
     let closed : IsClosed m (among_steps (turn m) o (k - 1)) = λ g g_in is. period_closed (turn m) o k p g is in
     in_period (turn m) o k h p (v.stars (among_steps (turn m) o (k - 1)) closed o h o_in h_in (sym same) (to_steps (turn m) o (k - 1) 0 (omega arith)))
 
-pub one_orbit : (m : Mesh) (u : ℕ) → IsValid m → IsOneOrbit m u
+pub one_orbit : (m : Mesh) (u : ℕ) → IsValidMesh m → IsOneOrbit m u
 one_orbit m u v o h named h_in same =
     let had = v.sound.vertices u o named in
     let p = turns m o v had.0 in
@@ -50,10 +50,10 @@ edges_go_round m v u o named =
       },
     )
 
-next_one : (m : Mesh) → IsSound m → (a b : ℕ) → a < length m.half_edges → b < length m.half_edges → next m a ≡ next m b → a ≡ b
+next_one : (m : Mesh) → AreSoundLinks m → (a b : ℕ) → a < length m.half_edges → b < length m.half_edges → next m a ≡ next m b → a ≡ b
 next_one m s a b p q same = sym (s.edges a p).prev_next ∙ ap (prev m) same ∙ (s.edges b q).prev_next
 
-step_at : (m : Mesh) (o : ℕ) → IsSound m → o < length m.half_edges → face m o ≡ 0 → (i : ℕ) → (outer_step m o i < length m.half_edges) × (face m (outer_step m o i) ≡ 0)
+step_at : (m : Mesh) (o : ℕ) → AreSoundLinks m → o < length m.half_edges → face m o ≡ 0 → (i : ℕ) → (outer_step m o i < length m.half_edges) × (face m (outer_step m o i) ≡ 0)
 step_at m o s within outer zero = (within, outer)
 step_at m o s within outer (suc i) =
     let was = step_at m o s within outer i in

@@ -6,7 +6,7 @@ use Rattle.std.proofs.lemmas.List.{get_or-set_same, get_or-set_other, get_or-tak
 use Rattle.std.specs.List.{swap_remove}
 use Rattle.half_edge_links.proofs.Cases.{◌or_else◌}
 use Rattle.half_edge_links.specs.declared.records.HalfEdge.{HalfEdge}
-use Rattle.half_edge_links.specs.Mesh.{Mesh, IsSmall, edge_at, next, prev, face, face_edge, out_edge, IsSound, IsInner}
+use Rattle.half_edge_links.specs.Mesh.{Mesh, IsSmall, edge_at, next, prev, face, face_edge, out_edge, AreSoundLinks, IsInner}
 use Rattle.half_edge_links.specs.Renames.{Naming, Renames, IsKeptEdge, moved, renamed}
 use Rattle.half_edge_links.specs.Remove.{opened, opened_face, with_loop_face, Opens}
 use Rattle.half_edge_links.proofs.Triangles.{triangle_at, same_loop}
@@ -30,7 +30,7 @@ swap_remove_default xs i d e some = ap (λ x. take (length xs - 1) (set xs i x))
 pub length-swap_remove : {X : Type 0} (xs : List X) (i : ℕ) (d : X) → length (swap_remove xs i d) ≡ length xs - 1
 length-swap_remove xs i d = omega (arith, length-take (length xs - 1) (set xs i (get_or xs (length xs - 1) d)), length-set xs i (get_or xs (length xs - 1) d))
 
-module _ (m : Mesh) (f : ℕ) (s : IsSound m) (inner : IsInner m f) where
+module _ (m : Mesh) (f : ℕ) (s : AreSoundLinks m) (inner : IsInner m f) where
   pub opens : Opens m (opened m f) f
   unfolding opened
   opens =
@@ -104,7 +104,7 @@ module _ (g f : ℕ) where
   opened_back : (x : ℕ) → f ≤ g → x < g → opened_face g f (moved f g x) ≡ x
   opened_back x within x_in = grind (arith, nat_tests)
 
-module _ (m new : Mesh) (f : ℕ) (s : IsSound m) (inner : IsInner m f) (o : Opens m new f) where
+module _ (m new : Mesh) (f : ℕ) (s : AreSoundLinks m) (inner : IsInner m f) (o : Opens m new f) where
   abbrev names : Naming
   names = record { edge = λ h. h; old_edge = λ h. h; vertex = λ v. v; old_vertex = λ v. v; face = opened_face (length m.face_edges) f; old_face = moved f (length m.face_edges) }
 
@@ -171,7 +171,7 @@ module _ (m new : Mesh) (f : ℕ) (s : IsSound m) (inner : IsInner m f) (o : Ope
     has_outer = λ some. s.has_outer (rw o.edge_count at some);
   }
 
-  pub sound_opened : IsSound new
+  pub sound_opened : AreSoundLinks new
   sound_opened = sound_renamed m new names renames_opened
 
 pub small_opened : (m new : Mesh) (f : ℕ) → Opens m new f → IsSmall m → IsSmall new
@@ -191,7 +191,7 @@ opened-is m f last edge d hs one fs inner a b p q r =
     cc
 
 -- the loop of a face after the first write
-pub in_loop : (m : Mesh) (f last edge : ℕ) (one : List HalfEdge) → IsSound m → IsInner m f → last ≡ get_or m.face_edges (length m.face_edges - 1) last → edge ≡ get_or m.face_edges (f - 1) edge → one ≡ with_loop_face m.half_edges last f → (edge < length one) × ((edge_at one edge).next < length one) × ((edge_at one edge).prev < length one)
+pub in_loop : (m : Mesh) (f last edge : ℕ) (one : List HalfEdge) → AreSoundLinks m → IsInner m f → last ≡ get_or m.face_edges (length m.face_edges - 1) last → edge ≡ get_or m.face_edges (f - 1) edge → one ≡ with_loop_face m.half_edges last f → (edge < length one) × ((edge_at one edge).next < length one) × ((edge_at one edge).prev < length one)
 in_loop m f last edge one s inner a b p =
     let a' = get_or_read m.face_edges (length m.face_edges - 1) last (omega (arith, inner.0, inner.1)) a 0 in
     let b' = get_or_read m.face_edges (f - 1) edge (omega (arith, inner.0, inner.1)) b 0 in

@@ -2,7 +2,7 @@
 use Rattle.std.proofs.Common.{◌≡◌, ◌≢◌, ℕ, ◌+◌, ◌<◌, length, sym, ap, ◌∙◌, inl, inr, arith}
 use Rattle.std.proofs.lemmas.Bool.{cases_eq}
 use Rattle.half_edge_links.proofs.Cases.{◌or_else◌}
-use Rattle.half_edge_links.specs.Mesh.{Mesh, origin, next, face, rev, IsSound}
+use Rattle.half_edge_links.specs.Mesh.{Mesh, origin, next, face, rev, AreSoundLinks}
 use Rattle.half_edge_links.specs.Grow.{IsOuter, IsClosable, Hangs, Closes}
 use Rattle.half_edge_links.specs.Outline.{IsOuterEdge, IsEdge, HangsOuter, ClosesOuter}
 use Rattle.half_edge_links.proofs.Rev.{rev_within}
@@ -19,7 +19,7 @@ at_edge m h a b i p q o is = rw (is.0, is.1, is.2) o
 pub is_edge : (m : Mesh) (h a b i p q : ℕ) → IsOuterEdge m h a b → IsOuterEdge m i p q → i ≡ h → IsEdge i p q h a b
 is_edge m h a b i p q o made same = (sym same, sym o.source ∙ ap (origin m) (sym same) ∙ made.source, sym o.target ∙ ap (λ k. origin m (rev k)) (sym same) ∙ made.target)
 
-pub outer_hung : (m new : Mesh) (x v : ℕ) → IsSound m → IsOuter m x → Hangs m new x v (length m.half_edges) → HangsOuter m new x v (length m.half_edges)
+pub outer_hung : (m new : Mesh) (x v : ℕ) → AreSoundLinks m → IsOuter m x → Hangs m new x v (length m.half_edges) → HangsOuter m new x v (length m.half_edges)
 outer_hung m new x v s outer i =
     let here = s.edges x outer.0 in
     let r0 = rev_of_even _ s.even in
@@ -38,7 +38,7 @@ outer_hung m new x v s outer i =
       ];
     }
 
-pub outer_closed : (m new : Mesh) (e : ℕ) → IsSound m → IsClosable m e → Closes m new e (length m.half_edges) (length m.face_edges) → ClosesOuter m new e (length m.half_edges)
+pub outer_closed : (m new : Mesh) (e : ℕ) → AreSoundLinks m → IsClosable m e → Closes m new e (length m.half_edges) (length m.face_edges) → ClosesOuter m new e (length m.half_edges)
 outer_closed m new e s can i =
     let p = corner m e s can in
     let r1 = rev_of_odd _ s.even in

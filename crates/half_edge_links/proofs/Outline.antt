@@ -3,7 +3,7 @@ use Rattle.std.proofs.Common.{◌≡◌, ◌≢◌, ℕ, zero, suc, ◌+◌, ◌
 use Rattle.std.proofs.lemmas.Bool.{cases_eq}
 use Rattle.half_edge_links.proofs.Cases.{◌or_else◌}
 use Rattle.half_edge_links.specs.declared.records.HalfEdge.{HalfEdge}
-use Rattle.half_edge_links.specs.Mesh.{Mesh, origin, next, prev, face, rev, IsSound, IsInnerEdge, IsAlone, connected}
+use Rattle.half_edge_links.specs.Mesh.{Mesh, origin, next, prev, face, rev, AreSoundLinks, IsInnerEdge, IsAlone, connected}
 use Rattle.half_edge_links.specs.Flip.{IsFlippable, Flips}
 use Rattle.half_edge_links.specs.Insert.{Inserts}
 use Rattle.half_edge_links.specs.Grow.{IsOuter, IsClosable, IsSlidable, Hangs, Closes, Slides}
@@ -66,7 +66,7 @@ outline_same m new o one among closed h g h_in g_in h_outer g_outer is =
     let b = o.was g g_in g_outer in
     one among (λ k k_in outer on. let c = o.there k k_in outer in ap among (sym c.2) ∙ closed k c.0 c.1 on) h g a.0 b.0 a.1 b.1 is
 
-pub outline_flipped : (m new : Mesh) (e : ℕ) → IsSound m → IsFlippable m e → Flips m new e → KeepsOneOutline m new
+pub outline_flipped : (m new : Mesh) (e : ℕ) → AreSoundLinks m → IsFlippable m e → Flips m new e → KeepsOneOutline m new
 outline_flipped m new e s can f =
     let away = λ (h : ℕ) (outer : face m h ≡ 0). turning.away_by_face m new e s can f h (λ q. absurd (omega (arith, q, outer, can.inner))) (λ q. absurd (omega (arith, q, outer, can.twin_inner))) in
     outline_same m new (record {
@@ -76,7 +76,7 @@ outline_flipped m new e s can f =
       was = λ h within outer. let o = (outer_flipped m new e s can f).only h (origin new h) (origin new (rev h)) (record { within = within; outer = outer; source = refl; target = refl }) in (o.within, o.outer);
     })
 
-pub outline_inserted : (m new : Mesh) (v a : ℕ) → IsSound m → IsInnerEdge m a → IsAlone m v → Inserts m new v (face m a) a (length m.half_edges) (length m.face_edges) → KeepsOneOutline m new
+pub outline_inserted : (m new : Mesh) (v a : ℕ) → AreSoundLinks m → IsInnerEdge m a → IsAlone m v → Inserts m new v (face m a) a (length m.half_edges) (length m.face_edges) → KeepsOneOutline m new
 outline_inserted m new v a s inner alone i =
     let t : IsTriangle m a = triangle_at m a s inner.0 inner.1 in
     outline_same m new (record {
@@ -87,7 +87,7 @@ outline_inserted m new v a s inner alone i =
       was = λ h within outer. let o = (outer_inserted m new v a s inner alone i).only h (origin new h) (origin new (rev h)) (record { within = within; outer = outer; source = refl; target = refl }) in (o.within, o.outer);
     })
 
-module _ (m new : Mesh) (x v : ℕ) (s : IsSound m) (outer : IsOuter m x) (i : Hangs m new x v (length m.half_edges)) (among : ℕ → Bool) (closed : IsClosedAlong new among) where
+module _ (m new : Mesh) (x v : ℕ) (s : AreSoundLinks m) (outer : IsOuter m x) (i : Hangs m new x v (length m.half_edges)) (among : ℕ → Bool) (closed : IsClosedAlong new among) where
   hang_there : among x ≡ true → among (length m.half_edges) ≡ true
   hang_there is = ap among (sym i.next_at) ∙ closed x (omega (arith, outer.0, i.edge_count)) (i.faces x outer.0 ∙ outer.1) is
 
@@ -115,11 +115,11 @@ module _ (m new : Mesh) (x v : ℕ) (s : IsSound m) (outer : IsOuter m x) (i : H
         | inr (inr is) ↦ between (λ on. ap among is ∙ hang_back (hang_there on)) (λ on. hang_on (ap among (sym is) ∙ on))
       ]
 
-pub outline_hung : (m new : Mesh) (x v : ℕ) → IsSound m → IsOuter m x → Hangs m new x v (length m.half_edges) → KeepsOneOutline m new
+pub outline_hung : (m new : Mesh) (x v : ℕ) → AreSoundLinks m → IsOuter m x → Hangs m new x v (length m.half_edges) → KeepsOneOutline m new
 outline_hung m new x v s outer i one among closed =
     outlines m new among among one (hang_closed m new x v s outer i among closed) (λ k within. hang_lies m new x v s outer i among closed k (omega (arith, within, i.edge_count)))
 
-module _ (m new : Mesh) (e : ℕ) (s : IsSound m) (can : IsClosable m e) (i : Closes m new e (length m.half_edges) (length m.face_edges)) (among : ℕ → Bool) (closed : IsClosedAlong new among) where
+module _ (m new : Mesh) (e : ℕ) (s : AreSoundLinks m) (can : IsClosable m e) (i : Closes m new e (length m.half_edges) (length m.face_edges)) (among : ℕ → Bool) (closed : IsClosedAlong new among) where
   c : IsCorner m e
   c = corner m e s can
 
@@ -170,7 +170,7 @@ module _ (m new : Mesh) (e : ℕ) (s : IsSound m) (can : IsClosable m e) (i : Cl
         | inr (inr is) ↦ lies_as m close_before among e k can.within can.outer (close_first e refl ∙ ap among (sym is))
       ]
 
-pub outline_closed : (m new : Mesh) (e : ℕ) → IsSound m → IsClosable m e → Closes m new e (length m.half_edges) (length m.face_edges) → KeepsOneOutline m new
+pub outline_closed : (m new : Mesh) (e : ℕ) → AreSoundLinks m → IsClosable m e → Closes m new e (length m.half_edges) (length m.face_edges) → KeepsOneOutline m new
 outline_closed m new e s can i one among closed =
     outlines m new (close_before m new e s can i among closed) among one (close_closed m new e s can i among closed)
     (λ k within. close_lies m new e s can i among closed k (omega (arith, within, i.edge_count)))
@@ -192,7 +192,7 @@ module _ (m new : Mesh) (t p q r s : ℕ) (none : (h : ℕ) → h < length m.hal
       let old_closed = λ (k : ℕ) (within : k < length m.half_edges) (outer : face m k ≡ 0). walk.closed_before _ (next m) (next new) t p q r s w among on k within in
       outlines m new (walk.before (length m.half_edges) (next m) (next new) t p q r s w among on) among one old_closed (λ k within outer. moved_lies among on k (rw count at within))
 
-module _ (m new : Mesh) (e : ℕ) (s : IsSound m) (can : IsSlidable m e) (i : Slides m new e (next m e) (next m (next m e))) where
+module _ (m new : Mesh) (e : ℕ) (s : AreSoundLinks m) (can : IsSlidable m e) (i : Slides m new e (next m e) (next m (next m e))) where
   t : IsTail m e
   t = tail m e s can
 

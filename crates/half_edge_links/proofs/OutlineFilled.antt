@@ -1,6 +1,6 @@
 -- The outer face keeps one loop where a vertex with three faces goes and the hole is filled.
 use Rattle.std.proofs.Common.{◌≡◌, ◌⊎◌, ℕ, ◌-◌, ◌%◌, ◌<◌, length, refl, sym, ap, ◌∙◌, inl, inr, subst, arith}
-use Rattle.half_edge_links.specs.Mesh.{Mesh, next, face, rev, IsSound}
+use Rattle.half_edge_links.specs.Mesh.{Mesh, next, face, rev, AreSoundLinks}
 use Rattle.half_edge_links.specs.Hull.{KeepsOneOutline}
 use Rattle.half_edge_links.specs.Peel.{Peels, turn}
 use Rattle.half_edge_links.specs.Remove.{Opens, Removes, ClosesLoop, after_removal}
@@ -21,7 +21,7 @@ abbrev pub InThree : Mesh → ℕ → ℕ → Type 0
 InThree m z k = (k ≡ z) ⊎ ((k ≡ rev z) ⊎ ((k ≡ next m z) ⊎ ((k ≡ next m (next m z)) ⊎ (k ≡ next m (next m (next m z))))))
 
 -- the first step: one face goes, and another with an edge between them
-module _ (m one two : Mesh) (o : ℕ) (s : IsSound m) (w : IsFullWheel m o) (op : Opens m one (face m (turn m (turn m o)))) (p : Peels one two o) where
+module _ (m one two : Mesh) (o : ℕ) (s : AreSoundLinks m) (w : IsFullWheel m o) (op : Opens m one (face m (turn m (turn m o)))) (p : Peels one two o) where
   abbrev z : ℕ
   z = turn m (turn m o)
 
@@ -37,7 +37,7 @@ module _ (m one two : Mesh) (o : ℕ) (s : IsSound m) (w : IsFullWheel m o) (op 
   t3 : IsTriangle m (turn m (turn m o))
   t3 = wheel.t3 m o s w
 
-  s1 : IsSound one
+  s1 : AreSoundLinks one
   s1 = wheel.s1 m o s w one op
 
   here : IsTriangle one o
@@ -93,7 +93,7 @@ module _ (m one two : Mesh) (o : ℕ) (s : IsSound m) (w : IsFullWheel m o) (op 
       traced_two
 
 -- the second: the face between the last two edges goes with the first of them
-module _ (m two three : Mesh) (to : ℕ → ℕ) (a z : ℕ) (s : IsSound two) (f : IsFanOfTwo two a z) (p : Peels two three a) (t : TracesOuter m two to (InFour two a z)) where
+module _ (m two three : Mesh) (to : ℕ → ℕ) (a z : ℕ) (s : AreSoundLinks two) (f : IsFanOfTwo two a z) (p : Peels two three a) (t : TracesOuter m two to (InFour two a z)) where
   abbrev nm' : ℕ → ℕ
   nm' k = fan.nm two p.opened three a z s f p.opens p.removes k
 
@@ -145,7 +145,7 @@ module _ (m two three : Mesh) (to : ℕ → ℕ) (a z : ℕ) (s : IsSound two) (
       traced_three_of
 
 -- the last edge goes
-pub traced_loop : (m three four : Mesh) (to : ℕ → ℕ) (z : ℕ) (s : IsSound three) (f : IsFanOfOne three z) (r : Removes three four z) → TracesOuter m three to (InThree three z)
+pub traced_loop : (m three four : Mesh) (to : ℕ → ℕ) (z : ℕ) (s : AreSoundLinks three) (f : IsFanOfOne three z) (r : Removes three four z) → TracesOuter m three to (InThree three z)
     → TracesOuter m four (renamed m three four to (InThree three z) z s (fan.can three four z s f r) r) (InLoop four (after_removal three z (next three z)))
 traced_loop m three four to z s f r t =
     let next_is = fan.next_border three four z s f r in
@@ -170,8 +170,8 @@ traced_loop m three four to z s f r t =
     over
 
 -- all steps: one face goes, then two edges each with a face, then the last edge, and what is left is made a face
-pub outline_filled : (m one two three four new : Mesh) (o spoke pendant border : ℕ) → IsSound m → IsFullWheel m o → Opens m one (face m (turn m (turn m o))) → Peels one two o → spoke ≡ after_removal one o (turn one o)
-    → IsSound two → Peels two three spoke → pendant ≡ after_removal two spoke (turn two spoke) → IsSound three → Removes three four pendant → border ≡ after_removal three pendant (next three pendant) → ClosesLoop four new border → KeepsOneOutline m new
+pub outline_filled : (m one two three four new : Mesh) (o spoke pendant border : ℕ) → AreSoundLinks m → IsFullWheel m o → Opens m one (face m (turn m (turn m o))) → Peels one two o → spoke ≡ after_removal one o (turn one o)
+    → AreSoundLinks two → Peels two three spoke → pendant ≡ after_removal two spoke (turn two spoke) → AreSoundLinks three → Removes three four pendant → border ≡ after_removal three pendant (next three pendant) → ClosesLoop four new border → KeepsOneOutline m new
 outline_filled m one two three four new o spoke pendant border s w op p spoke_is s2 q pendant_is s3 r border_is c =
     let f = wheel.fan_of_two m o s w one op p.opened two p.opens p.removes in
     let a : ℕ = wheel.nm m o s w one op p.opened two p.opens p.removes (turn m o) in

@@ -2,7 +2,7 @@
 use Rattle.std.proofs.Common.{◌≡◌, ◌≢◌, ℕ, ◌-◌, ◌%◌, ◌<◌, Bool, true, length, refl, sym, ap, ◌∙◌, inl, inr, arith}
 use Rattle.std.proofs.lemmas.Bool.{cases_eq}
 use Rattle.half_edge_links.proofs.Cases.{◌or_else◌}
-use Rattle.half_edge_links.specs.Mesh.{Mesh, next, prev, face, rev, IsSound, IsInner}
+use Rattle.half_edge_links.specs.Mesh.{Mesh, next, prev, face, rev, AreSoundLinks, IsInner}
 use Rattle.half_edge_links.specs.Renames.{pair_moved}
 use Rattle.half_edge_links.specs.Remove.{Opens, Removes}
 use Rattle.half_edge_links.specs.Peel.{Peels}
@@ -25,11 +25,11 @@ outline_moved m new v c =
     })
 
 -- an edge of the hull goes with its face
-module _ (m mid new : Mesh) (h : ℕ) (s : IsSound m) (can : IsHullEdge m h) (o : Opens m mid (face m h)) (r : Removes mid new h) (among : ℕ → Bool) (closed : IsClosedAlong new among) where
+module _ (m mid new : Mesh) (h : ℕ) (s : AreSoundLinks m) (can : IsHullEdge m h) (o : Opens m mid (face m h)) (r : Removes mid new h) (among : ℕ → Bool) (closed : IsClosedAlong new among) where
   inner : IsInner m (face m h)
   inner = (can.inner, (s.edges h can.within).face_in)
 
-  sm : IsSound mid
+  sm : AreSoundLinks mid
   sm = sound_opened m mid (face m h) s inner o
 
   gap : IsUnlinkable mid h
@@ -130,13 +130,13 @@ module _ (m mid new : Mesh) (h : ℕ) (s : IsSound m) (can : IsHullEdge m h) (o 
             lies_as m before among k j k_in m_outer (plain k was.0.other_side ∙ ap among was.1)
       ]
 
-pub outline_peeled : (m new : Mesh) (h : ℕ) → IsSound m → IsHullEdge m h → Peels m new h → KeepsOneOutline m new
+pub outline_peeled : (m new : Mesh) (h : ℕ) → AreSoundLinks m → IsHullEdge m h → Peels m new h → KeepsOneOutline m new
 outline_peeled m new h s can p one among closed =
     outlines m new (before m p.opened new h s can p.opens p.removes among closed) among one (closed_before m p.opened new h s can p.opens p.removes among closed)
     (lies m p.opened new h s can p.opens p.removes among closed)
 
 -- an edge whose side b follows its side a goes
-module _ (m new : Mesh) (e : ℕ) (s : IsSound m) (can : IsUnlinkable m e) (r : Removes m new e) (a b : ℕ) (a_in : a < length m.half_edges) (b_in : b < length m.half_edges) (free : next m a ≡ b)
+module _ (m new : Mesh) (e : ℕ) (s : AreSoundLinks m) (can : IsUnlinkable m e) (r : Removes m new e) (a b : ℕ) (a_in : a < length m.half_edges) (b_in : b < length m.half_edges) (free : next m a ≡ b)
     (other : (k : ℕ) → k < length m.half_edges → k ≢ a → k ≢ b → IsLeft m e k)
     (back : (k : ℕ) → IsLeft m e k → (k ≢ a) × (k ≢ b))
     (jump : (k : ℕ) → IsLeft m e k → k ≡ prev m a → next new (name m new e s can r k) ≡ name m new e s can r (next m b))
@@ -195,7 +195,7 @@ module _ (m new : Mesh) (e : ℕ) (s : IsSound m) (can : IsUnlinkable m e) (r : 
   free_all : HasOneOutline m → (i j : ℕ) → i < length new.half_edges → j < length new.half_edges → face new i ≡ 0 → face new j ≡ 0 → among i ≡ true → among j ≡ true
   free_all one = outlines m new free_before among one free_closed free_lies
 
-pub outline_removed : (m new : Mesh) (e : ℕ) → IsSound m → IsUnlinkable m e → Removes m new e → IsPendant m e → KeepsOneOutline m new
+pub outline_removed : (m new : Mesh) (e : ℕ) → AreSoundLinks m → IsUnlinkable m e → Removes m new e → IsPendant m e → KeepsOneOutline m new
 outline_removed m new e s can r pendant one among closed =
     let t_in = rev_within e (length m.half_edges) s.even can.within in
     elim pendant [

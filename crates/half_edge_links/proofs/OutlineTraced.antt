@@ -2,7 +2,7 @@
 use Rattle.std.proofs.Common.{◌≡◌, ◌≢◌, ◌⊎◌, ℕ, ◌-◌, ◌%◌, ◌<◌, length, sym, ap, ◌∙◌, inl, inr, subst, arith}
 use Rattle.std.proofs.lemmas.Bool.{cases_eq}
 use Rattle.half_edge_links.proofs.Cases.{◌or_else◌}
-use Rattle.half_edge_links.specs.Mesh.{Mesh, next, prev, face, rev, IsSound}
+use Rattle.half_edge_links.specs.Mesh.{Mesh, next, prev, face, rev, AreSoundLinks}
 use Rattle.half_edge_links.specs.Renames.{pair_moved}
 use Rattle.half_edge_links.specs.Remove.{Opens, Removes, ClosesLoop}
 use Rattle.half_edge_links.specs.Hull.{KeepsOneOutline}
@@ -63,7 +63,7 @@ traces_opened m old new to InHole f some faces o t = record {
 }
 
 -- an edge with both sides in the hole goes
-module _ (m old new : Mesh) (to : ℕ → ℕ) (InHole : ℕ → Type 0) (e : ℕ) (s : IsSound old) (can : IsUnlinkable old e) (r : Removes old new e) where
+module _ (m old new : Mesh) (to : ℕ → ℕ) (InHole : ℕ → Type 0) (e : ℕ) (s : AreSoundLinks old) (can : IsUnlinkable old e) (r : Removes old new e) where
   abbrev pub renamed : ℕ → ℕ
   renamed h = name old new e s can r (to h)
 

@@ -2,7 +2,7 @@
 use Rattle.std.proofs.Common.{◌≡◌, ◌≢◌, ◌⊎◌, ℕ, ◌+◌, ◌%◌, ◌<◌, ◌≤◌, length, Some, IsSome, refl, inl, inr, sym, ap, ◌∙◌, arith}
 use Rattle.std.proofs.lemmas.Bool.{cases_eq}
 use Rattle.std.proofs.lemmas.Grind.{common_steps}
-use Rattle.half_edge_links.specs.Mesh.{Mesh, origin, next, prev, face, face_edge, out_edge, rev, IsSound, IsSoundEdge, HasLinks, edge_at}
+use Rattle.half_edge_links.specs.Mesh.{Mesh, origin, next, prev, face, face_edge, out_edge, rev, AreSoundLinks, IsSoundEdge, HasLinks, edge_at}
 use Rattle.half_edge_links.proofs.Orbits.{reached}
 
 -- an edge of a mesh with two more is old or one of the two
@@ -151,7 +151,7 @@ module _ (m new : Mesh) (v x : ℕ) (out : out_edge new v ≡ Some x) (others : 
         | inr differs ↦ rw (others u differs) had
       ]
 
-  pub still_named : IsSound m → x < length new.half_edges → origin new x ≡ v → ((h : ℕ) → h < length m.half_edges → origin m h ≢ v → (h < length new.half_edges) × (origin new h ≡ origin m h)) → (u h : ℕ) → out_edge new u ≡ Some h → (h < length new.half_edges) × (origin new h ≡ u)
+  pub still_named : AreSoundLinks m → x < length new.half_edges → origin new x ≡ v → ((h : ℕ) → h < length m.half_edges → origin m h ≢ v → (h < length new.half_edges) × (origin new h ≡ origin m h)) → (u h : ℕ) → out_edge new u ≡ Some h → (h < length new.half_edges) × (origin new h ≡ u)
   still_named s x_in at kept u h is =
       elim (cases_eq u v) [
         | inl same ↦ let now : x ≡ h = cc out in rw (← now, same) (x_in, at)

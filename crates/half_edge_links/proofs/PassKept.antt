@@ -2,7 +2,7 @@
 use Rattle.std.proofs.Common.{◌≡◌, ◌≢◌, ℕ, ◌<◌, length, refl, sym, ap, ◌∙◌, inl, inr, arith}
 use Rattle.std.proofs.lemmas.Bool.{cases_eq}
 use Rattle.half_edge_links.proofs.Cases.{◌or_else◌}
-use Rattle.half_edge_links.specs.Mesh.{Mesh, origin, next, prev, rev, IsSound, IsValid, HasStars, HasApartEnds}
+use Rattle.half_edge_links.specs.Mesh.{Mesh, origin, next, prev, rev, AreSoundLinks, IsValidMesh, HasStars, HasApartEnds}
 use Rattle.half_edge_links.specs.Outline.{MovesEdge}
 use Rattle.half_edge_links.specs.Hull.{KeepsOneOutline}
 use Rattle.half_edge_links.specs.Peel.{turn}
@@ -16,7 +16,7 @@ use Rattle.half_edge_links.proofs.Ends.{ends_moved}
 use Rattle.half_edge_links.proofs.Valid.{small_same}
 use Rattle.half_edge_links.proofs.Passing.{IsBeside, beside, far_edge, passes, end_moves, sound_after_pass}
 
-module _ (m new : Mesh) (e : ℕ) (s : IsSound m) (can : IsPassable m e) (i : Passes m new e (far_edge m e) (next m e)) where
+module _ (m new : Mesh) (e : ℕ) (s : AreSoundLinks m) (can : IsPassable m e) (i : Passes m new e (far_edge m e) (next m e)) where
   t : IsBeside m e
   t = beside m e s can
 
@@ -76,7 +76,7 @@ module _ (m new : Mesh) (e : ℕ) (s : IsSound m) (can : IsPassable m e) (i : Pa
   pub ends_passed : MovesEdge m new e (origin m e) (origin m (far_edge m e))
   ends_passed = ends_moved m new e (origin m e) (origin m (far_edge m e)) s can.within i.edge_count start_kept i.origin_twin (λ h within a b. i.other_origins h within b)
 
-pub valid_passed : (m : Mesh) (e : ℕ) → IsValid m → IsPassable m e → IsValid (passed m e)
+pub valid_passed : (m : Mesh) (e : ℕ) → IsValidMesh m → IsPassable m e → IsValidMesh (passed m e)
 valid_passed m e valid can =
     let i = passes m e valid.sound can in
     record {
@@ -86,5 +86,5 @@ valid_passed m e valid can =
       small = small_same m (passed m e) i.vertex_count i.edge_count (ap length i.face_edges) valid.small;
     }
 
-pub ends_passed_is : (m new : Mesh) (e : ℕ) → IsSound m → IsPassable m e → new ≡ passed m e → MovesEdge m new e (origin m e) (origin m (rev (next m e)))
+pub ends_passed_is : (m new : Mesh) (e : ℕ) → AreSoundLinks m → IsPassable m e → new ≡ passed m e → MovesEdge m new e (origin m e) (origin m (rev (next m e)))
 ends_passed_is m new e s can is = rw (is, ← can.two) (ends_passed m (passed m e) e s can (passes m e s can))

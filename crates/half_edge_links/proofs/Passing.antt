@@ -3,7 +3,7 @@ use Rattle.std.proofs.Common.{◌≡◌, ◌≢◌, ℕ, ◌<◌, length, Some, 
 use Rattle.std.proofs.lemmas.Bool.{cases_eq}
 use Rattle.std.proofs.lemmas.List.{get_or-set_same, get_or-set_other, length-set}
 use Rattle.half_edge_links.proofs.Cases.{◌or_else◌}
-use Rattle.half_edge_links.specs.Mesh.{Mesh, origin, next, prev, rev, IsSound}
+use Rattle.half_edge_links.specs.Mesh.{Mesh, origin, next, prev, rev, AreSoundLinks}
 use Rattle.half_edge_links.specs.Pass.{IsPassable, passed_edges, passed, Passes}
 use Rattle.half_edge_links.proofs.Rev.{rev-rev, rev_within, rev_differs}
 use Rattle.half_edge_links.proofs.Relinks.{relinks}
@@ -34,7 +34,7 @@ pub record IsBeside (m : Mesh) (e : ℕ) : Type 0 where
   pub there-twin : far_edge m e ≢ rev e
   pub before-twin : prev m (far_edge m e) ≢ rev e
 
-pub beside : (m : Mesh) (e : ℕ) → IsSound m → IsPassable m e → IsBeside m e
+pub beside : (m : Mesh) (e : ℕ) → AreSoundLinks m → IsPassable m e → IsBeside m e
 beside m e s can =
     let here = s.edges e can.within in
     let twin_in : rev e < length m.half_edges = rev_within e _ s.even can.within in
@@ -50,7 +50,7 @@ beside m e s can =
     let before_twin : prev m (far_edge m e) ≢ rev e = λ q. can.corners (ap (origin m) (sym (rev-rev e) ∙ ap rev (sym q)) ∙ sym end_is ∙ ap (origin m) can.two) in
     assumption (can, here, there, twin, twin_in, back_is, off, edge_before, edge_there, before_there, there_twin, before_twin)
 
-pub passes : (m : Mesh) (e : ℕ) → IsSound m → IsPassable m e → Passes m (passed m e) e (far_edge m e) (next m e)
+pub passes : (m : Mesh) (e : ℕ) → AreSoundLinks m → IsPassable m e → Passes m (passed m e) e (far_edge m e) (next m e)
 unfolding passed passed_edges
 passes m e s can =
     let t = beside m e s can in
@@ -60,7 +60,7 @@ passes m e s can =
     let others = λ (u : ℕ). get_or-set_other m.out_edges (origin m (next m e)) u (Some (next m e)) None in
     assumption (r, count, out, others)
 
-module _ (m new : Mesh) (e : ℕ) (s : IsSound m) (can : IsPassable m e) (i : Passes m new e (far_edge m e) (next m e)) where
+module _ (m new : Mesh) (e : ℕ) (s : AreSoundLinks m) (can : IsPassable m e) (i : Passes m new e (far_edge m e) (next m e)) where
   t : IsBeside m e
   t = beside m e s can
 
@@ -91,5 +91,5 @@ module _ (m new : Mesh) (e : ℕ) (s : IsSound m) (can : IsPassable m e) (i : Pa
             (i.other_origins (next m h) here.next_in off_twin) (origin_rev h within (λ q. not_edge (sym q))) (i.faces h within) (i.faces (next m h) here.next_in) (omega (arith, i.edge_count))
       ]
 
-  pub sound_after_pass : IsSound new
+  pub sound_after_pass : AreSoundLinks new
   sound_after_pass = line.sound_with m new e _ s end_moves next_ok

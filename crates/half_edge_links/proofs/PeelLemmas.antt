@@ -1,12 +1,12 @@
 -- An edge between an inner face and the outer one can be removed once the face is open, and one face is less.
 use Rattle.std.proofs.Common.{ℕ, ◌+◌, ◌≡◌, length, refl, sym, ap, ◌∙◌, arith}
-use Rattle.half_edge_links.specs.Mesh.{Mesh, prev, face, rev, IsSound}
+use Rattle.half_edge_links.specs.Mesh.{Mesh, prev, face, rev, AreSoundLinks}
 use Rattle.half_edge_links.specs.Remove.{Opens}
 use Rattle.half_edge_links.specs.Peel.{Peels}
 use Rattle.half_edge_links.proofs.Conditions.{IsUnlinkable, IsHullEdge}
 use Rattle.half_edge_links.proofs.Rev.{rev_within}
 
-pub removable_opened : (m new : Mesh) (h : ℕ) → IsSound m → IsHullEdge m h → Opens m new (face m h) → IsUnlinkable new h
+pub removable_opened : (m new : Mesh) (h : ℕ) → AreSoundLinks m → IsHullEdge m h → Opens m new (face m h) → IsUnlinkable new h
 removable_opened m new h s can o =
     let t_in = rev_within h (length m.half_edges) s.even can.within in
     let here = s.edges h can.within in

@@ -1,7 +1,7 @@
 -- Removing an edge keeps a mesh sound.
 use Rattle.std.proofs.Common.{◌≡◌, ℕ, ◌+◌, ◌-◌, ◌%◌, ◌<◌, ◌≤◌, List, length, ap, ◌∙◌, arith}
 use Rattle.half_edge_links.specs.declared.records.HalfEdge.{HalfEdge}
-use Rattle.half_edge_links.specs.Mesh.{Mesh, IsSmall, edge_at, rev, IsSound, IsValid}
+use Rattle.half_edge_links.specs.Mesh.{Mesh, IsSmall, edge_at, rev, AreSoundLinks, IsValidMesh}
 use Rattle.half_edge_links.specs.Remove.{with_unlinked, unlinked, removed, edge_naming, IsRemovable, IsSoundBut, Removes}
 use Rattle.half_edge_links.proofs.Conditions.{IsUnlinkable, unlinkable}
 use Rattle.half_edge_links.proofs.RenameSound.{sound_renamed}
@@ -15,7 +15,7 @@ pub record IsInRange (m : Mesh) (hs : List HalfEdge) (k : ℕ) : Type 0 where
   pub origin_in : (edge_at hs k).origin < length m.out_edges
   pub face_in : (edge_at hs k).face ≤ length m.face_edges
 
-module _ (m : Mesh) (e : ℕ) (s : IsSound m) (can : IsUnlinkable m e) where
+module _ (m : Mesh) (e : ℕ) (s : AreSoundLinks m) (can : IsUnlinkable m e) where
   but : IsSoundBut (unlinked m e) (e - e % 2)
   but = sound_but m (unlinked m e) e s can (unlinks m e s can)
 
@@ -50,14 +50,14 @@ module _ (m : Mesh) (e : ℕ) (s : IsSound m) (can : IsUnlinkable m e) where
       }
 
 -- in the list whose edge e was taken out, the last edge and its other side name what there is
-pub last_in_range : (m : Mesh) (e t n : ℕ) (hs : List HalfEdge) → IsValid m → IsRemovable m e → t ≡ rev e → n ≡ length m.half_edges → hs ≡ with_unlinked m.half_edges e t → IsInRange m hs (n - 2) × IsInRange m hs (n - 2 + 1)
+pub last_in_range : (m : Mesh) (e t n : ℕ) (hs : List HalfEdge) → IsValidMesh m → IsRemovable m e → t ≡ rev e → n ≡ length m.half_edges → hs ≡ with_unlinked m.half_edges e t → IsInRange m hs (n - 2) × IsInRange m hs (n - 2 + 1)
 last_in_range m e t n hs v can at_t at_n is =
     let full = unlinkable m e v can in
     let within = full.within in
     let even = v.sound.even in
     rw (is, at_t) (in_range_unlinked m e v.sound full (n - 2) (omega arith), in_range_unlinked m e v.sound full (n - 2 + 1) (omega arith))
 
-pub sound_removed : (m new : Mesh) (e : ℕ) → Removes m new e → IsSound new
+pub sound_removed : (m new : Mesh) (e : ℕ) → Removes m new e → AreSoundLinks new
 sound_removed m new e r = sound_renamed r.between new (edge_naming (length m.half_edges - 2) (e - e % 2)) r.renames
 
 pub small_removed : (m new : Mesh) (e : ℕ) → Removes m new e → IsSmall m → IsSmall new

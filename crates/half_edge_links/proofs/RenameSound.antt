@@ -2,7 +2,7 @@
 use Rattle.std.proofs.Common.{◌≡◌, ℕ, ◌<◌, length, Option, Some, None, IsSome, refl, sym, ap, ◌∙◌, inl, inr}
 use Rattle.std.proofs.lemmas.Bool.{cases_lt}
 use Rattle.std.proofs.lemmas.List.{get_or_past}
-use Rattle.half_edge_links.specs.Mesh.{Mesh, origin, next, prev, face, out_edge, rev, IsSound, IsSoundEdge}
+use Rattle.half_edge_links.specs.Mesh.{Mesh, origin, next, prev, face, out_edge, rev, AreSoundLinks, IsSoundEdge}
 use Rattle.half_edge_links.specs.Renames.{Naming, Renames, IsKeptEdge, IsRenamedEdge, renamed}
 use Rattle.half_edge_links.proofs.Rev.{rev_within}
 
@@ -74,7 +74,7 @@ module _ (old new : Mesh) (r : Naming) (n : Renames old new r) where
             absurd (cc)
       ]
 
-  pub sound_renamed : IsSound new
+  pub sound_renamed : AreSoundLinks new
   sound_renamed = record {
     even = n.even;
     edges = sound_edge;

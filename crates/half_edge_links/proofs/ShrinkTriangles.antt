@@ -2,7 +2,7 @@
 use Rattle.std.proofs.Common.{◌≡◌, ℕ, zero, suc, ◌+◌, ◌-◌, ◌<◌, List, [], ◌∷◌, ◌++◌, length, get_or, set, take, map, refl, sym, ap, ◌∙◌, arith}
 use Rattle.std.proofs.lemmas.List.{map-set, take-map, get_or-map, length-map, same_lists, map-append}
 use Rattle.std.specs.List.{swap_remove}
-use Rattle.half_edge_links.specs.Mesh.{Mesh, origin, next, prev, face, face_edge, rev, IsSound, IsInner}
+use Rattle.half_edge_links.specs.Mesh.{Mesh, origin, next, prev, face, face_edge, rev, AreSoundLinks, IsInner}
 use Rattle.half_edge_links.specs.Renames.{IsKeptEdge, pair_moved, moved}
 use Rattle.half_edge_links.specs.Triangles.{Triangle, triangle_at, triangles}
 use Rattle.half_edge_links.specs.Move.{MovesVertex}
@@ -47,7 +47,7 @@ triangles_closed m new h c =
     map_same (triangle_at new) (triangle_at m) new.face_edges (λ k. same_triangle _ _ _ _ _ _ (c.origins k) (ap (origin new) (c.nexts k) ∙ c.origins (next m k)) (ap (origin new) (c.prevs k) ∙ c.origins (prev m k)))
     ∙ ap (map (triangle_at m)) c.face_edges ∙ map-append (triangle_at m) m.face_edges (h ∷ [])
 
-module _ (m new : Mesh) (e : ℕ) (s : IsSound m) (can : IsUnlinkable m e) (r : Removes m new e) where
+module _ (m new : Mesh) (e : ℕ) (s : AreSoundLinks m) (can : IsUnlinkable m e) (r : Removes m new e) where
   -- the corners of a face whose edge is left
   kept_triangle : (h : ℕ) → h < length m.half_edges → 0 < face m h → IsKeptEdge new (edge_naming (last_pair m) (pair_at e)) h → triangle_at new (pair_moved (last_pair m) (pair_at e) h) ≡ triangle_at m h
   kept_triangle h within some k =
@@ -89,7 +89,7 @@ module _ (m new : Mesh) (e : ℕ) (s : IsSound m) (can : IsUnlinkable m e) (r : 
       (here.links.origin ∙ u.origins _, across.links.origin ∙ u.origins _ ∙ ap (origin m) here.rev_is, here.links.face ∙ u.faces _)
 
 -- one face goes with an edge that is peeled off: the last takes its place, and no other changes its corners
-pub triangles_peeled : (m new : Mesh) (h : ℕ) → IsSound m → IsHullEdge m h → Peels m new h → triangles new ≡ swap_remove (triangles m) (face m h - 1) (triangle_at m 0)
+pub triangles_peeled : (m new : Mesh) (h : ℕ) → AreSoundLinks m → IsHullEdge m h → Peels m new h → triangles new ≡ swap_remove (triangles m) (face m h - 1) (triangle_at m 0)
 triangles_peeled m new h s can p =
     let inner : IsInner m (face m h) = (can.inner, (s.edges h can.within).face_in) in
     let mid = sound_opened m p.opened (face m h) s inner p.opens in
@@ -99,7 +99,7 @@ triangles_peeled m new h s can p =
 abbrev pub moved_triangle : ℕ → ℕ → Triangle → Triangle
 moved_triangle from to t = record { first = moved from to t.first; second = moved from to t.second; third = moved from to t.third }
 
-pub triangle_moved : (m new : Mesh) (v h : ℕ) → IsSound m → MovesVertex m new v → h < length m.half_edges → triangle_at new h ≡ moved_triangle (length m.out_edges - 1) v (triangle_at m h)
+pub triangle_moved : (m new : Mesh) (v h : ℕ) → AreSoundLinks m → MovesVertex m new v → h < length m.half_edges → triangle_at new h ≡ moved_triangle (length m.out_edges - 1) v (triangle_at m h)
 triangle_moved m new v h s c within =
     let here = s.edges h within in
     same_triangle _ _ _ _ _ _ (c.origins h within) (ap (origin new) (c.nexts h) ∙ c.origins (next m h) here.next_in) (ap (origin new) (c.prevs h) ∙ c.origins (prev m h) here.prev_in)

@@ -3,7 +3,7 @@ use Rattle.std.proofs.Common.{◌≡◌, ◌≢◌, ℕ, ◌<◌, length, Some, 
 use Rattle.std.proofs.lemmas.Bool.{cases_eq}
 use Rattle.std.proofs.lemmas.List.{get_or-set_same, get_or-set_other, length-set}
 use Rattle.half_edge_links.proofs.Cases.{◌or_else◌}
-use Rattle.half_edge_links.specs.Mesh.{Mesh, origin, next, prev, rev, IsSound}
+use Rattle.half_edge_links.specs.Mesh.{Mesh, origin, next, prev, rev, AreSoundLinks}
 use Rattle.half_edge_links.specs.Grow.{IsSlidable, slid_edges, slid, Slides}
 use Rattle.half_edge_links.proofs.Rev.{rev-rev, rev_within}
 use Rattle.half_edge_links.proofs.Relinks.{relinks}
@@ -29,7 +29,7 @@ pub record IsTail (m : Mesh) (e : ℕ) : Type 0 where
   pub back-twin : next m (next m e) ≢ rev e
   pub there-twin : next m e ≢ rev e
 
-pub tail : (m : Mesh) (e : ℕ) → IsSound m → IsSlidable m e → IsTail m e
+pub tail : (m : Mesh) (e : ℕ) → AreSoundLinks m → IsSlidable m e → IsTail m e
 tail m e s can =
     let here = s.edges e can.within in
     let there = s.edges (next m e) here.next_in in
@@ -41,7 +41,7 @@ tail m e s can =
     let before_there : prev m (rev e) ≢ next m e = λ q. off_twin (ap (next m) (sym q) ∙ twin.next_prev) in
     assumption (can, here, there, twin, twin_in, off_twin, edge_before, edge_there, before_there)
 
-pub slides : (m : Mesh) (e : ℕ) → IsSound m → IsSlidable m e → Slides m (slid m e) e (next m e) (next m (next m e))
+pub slides : (m : Mesh) (e : ℕ) → AreSoundLinks m → IsSlidable m e → Slides m (slid m e) e (next m e) (next m (next m e))
 unfolding slid slid_edges
 slides m e s can =
     let t = tail m e s can in
@@ -51,7 +51,7 @@ slides m e s can =
     let others = λ (u : ℕ). get_or-set_other m.out_edges (origin m (next m e)) u (Some (next m e)) None in
     assumption (r, count, out, others)
 
-module _ (m new : Mesh) (e : ℕ) (s : IsSound m) (can : IsSlidable m e) (i : Slides m new e (next m e) (next m (next m e))) where
+module _ (m new : Mesh) (e : ℕ) (s : AreSoundLinks m) (can : IsSlidable m e) (i : Slides m new e (next m e) (next m (next m e))) where
   t : IsTail m e
   t = tail m e s can
 
@@ -83,5 +83,5 @@ module _ (m new : Mesh) (e : ℕ) (s : IsSound m) (can : IsSlidable m e) (i : Sl
             (i.other_origins (next m h) here.next_in off_twin) (origin_rev h within (λ q. not_edge (sym q))) (i.faces h within) (i.faces (next m h) here.next_in) (omega (arith, i.edge_count))
       ]
 
-  pub sound_after_slide : IsSound new
+  pub sound_after_slide : AreSoundLinks new
   sound_after_slide = line.sound_with m new e _ s end_moves next_ok

@@ -3,7 +3,7 @@
 use Rattle.std.proofs.Common.{◌≡◌, ℕ, ◌-◌, ◌<◌, List, [], ◌∷◌, ◌++◌, length, set, refl, sym, ap, ◌∙◌, ◌≢◌, arith, ◌/◌}
 use Rattle.std.proofs.lemmas.List.{set-set, set-append_left, length-set, length-map}
 use Rattle.half_edge_links.specs.declared.records.HalfEdge.{HalfEdge}
-use Rattle.half_edge_links.specs.Mesh.{Mesh, edge_at, origin, next, prev, face, rev, IsSound, IsAlone, IsInnerEdge}
+use Rattle.half_edge_links.specs.Mesh.{Mesh, edge_at, origin, next, prev, face, rev, AreSoundLinks, IsAlone, IsInnerEdge}
 use Rattle.half_edge_links.specs.Flip.{IsFlippable, flipped}
 use Rattle.half_edge_links.specs.Insert.{Inserts, inserted}
 use Rattle.half_edge_links.specs.Triangles.{triangle_at, triangles, InsertsTriangles, FlipsTriangles, SplitsTriangles}
@@ -20,7 +20,7 @@ use Rattle.half_edge_links.proofs.InsertSound as inserting
 overwritten : {X : Type 0} (xs ys : List X) (i j : ℕ) (a b c : X) → i < length xs → j < length xs → set (set (set xs i a ++ ys) i b) j c ≡ set (set xs i b) j c ++ ys
 overwritten xs ys i j a b c i_in j_in = rw (set-append_left (set xs i a) ys i b (rw length-set i_in), set-set xs i a b, set-append_left (set xs i b) ys j c (rw length-set j_in))
 
-module _ (m : Mesh) (v e : ℕ) (s : IsSound m) (can : IsFlippable m e) (alone : IsAlone m v) where
+module _ (m : Mesh) (v e : ℕ) (s : AreSoundLinks m) (can : IsFlippable m e) (alone : IsAlone m v) where
   inner : IsInnerEdge m e
   inner = (can.within, can.inner)
 
@@ -72,7 +72,7 @@ module _ (m : Mesh) (v e : ℕ) (s : IsSound m) (can : IsFlippable m e) (alone :
       let cut = overwritten (triangles m) (record { first = origin m (next m e); second = origin m (prev m e); third = v } ∷ record { first = origin m (prev m e); second = origin m e; third = v } ∷ []) (face m e - 1) (face m (rev e) - 1) (record { first = origin m e; second = origin m (next m e); third = v }) (record { first = v; second = origin m (prev m (rev e)); third = origin m (next m e) }) (record { first = origin m (prev m (rev e)); second = v; third = origin m (next m (rev e)) }) left_in right_in in
       cc
 
-pub splits_triangles_is : (m new : Mesh) (v e : ℕ) → IsSound m → IsFlippable m e → IsAlone m v → new ≡ flipped (inserted m v e) e → SplitsTriangles m new v e
+pub splits_triangles_is : (m new : Mesh) (v e : ℕ) → AreSoundLinks m → IsFlippable m e → IsAlone m v → new ≡ flipped (inserted m v e) e → SplitsTriangles m new v e
 splits_triangles_is m new v e s can alone is = rw is (splits_triangles m v e s can alone)
 
 pub kept_twice : (m mid new : Mesh) → KeepsOuter m mid → KeepsOuter mid new → KeepsOuter m new
@@ -81,7 +81,7 @@ kept_twice m mid new a b = record {
   only = λ h p q o. a.only h p q (b.only h p q o);
 }
 
-pub ends_split : (m mid new : Mesh) (v e : ℕ) → IsSound m → IsFlippable m e → IsAlone m v → mid ≡ inserted m v e → InsertsEnds m mid v e → MovesEdge mid new e (origin mid (prev mid e)) (origin mid (prev mid (rev e))) → SplitsEnds m new e v
+pub ends_split : (m mid new : Mesh) (v e : ℕ) → AreSoundLinks m → IsFlippable m e → IsAlone m v → mid ≡ inserted m v e → InsertsEnds m mid v e → MovesEdge mid new e (origin mid (prev mid e)) (origin mid (prev mid (rev e))) → SplitsEnds m new e v
 ends_split m mid new v e s can alone is a b =
     let i = inserts m v e s (can.within, can.inner) alone in
     let twin_in : rev e < length m.half_edges = rev_within e _ s.even can.within in

@@ -2,7 +2,7 @@
 use Rattle.std.proofs.Common.{◌≡◌, ◌≢◌, ℕ, ◌+◌, ◌<◌, length, Some, sym, ap, ◌∙◌, inl, inr, arith}
 use Rattle.std.proofs.lemmas.Bool.{cases_eq}
 use Rattle.half_edge_links.proofs.Cases.{◌or_else◌}
-use Rattle.half_edge_links.specs.Mesh.{Mesh, origin, next, prev, face, out_edge, rev, IsSound, IsAlone}
+use Rattle.half_edge_links.specs.Mesh.{Mesh, origin, next, prev, face, out_edge, rev, AreSoundLinks, IsAlone}
 use Rattle.half_edge_links.specs.Grow.{IsOuter, IsLineEdge, Hangs, Slides, SplitsLine, IsOnLine}
 use Rattle.half_edge_links.specs.Outline.{IsOuterEdge, SplitsOuter}
 use Rattle.half_edge_links.proofs.Rev.{rev-rev, rev_within, rev_differs}
@@ -10,10 +10,10 @@ use Rattle.half_edge_links.proofs.Parts.{rev_of_even, rev_of_odd}
 use Rattle.half_edge_links.proofs.Outer.{same_outer, at_edge, is_edge}
 use Rattle.half_edge_links.proofs.FaceBeside.{differs_alone}
 
-pub line_outer : (m : Mesh) (e : ℕ) → IsSound m → IsLineEdge m e → IsOuter m e
+pub line_outer : (m : Mesh) (e : ℕ) → AreSoundLinks m → IsLineEdge m e → IsOuter m e
 line_outer m e s line = (line.0, omega (arith, (s.edges e line.0).face_in, ap length line.1))
 
-module _ (m mid new : Mesh) (e v : ℕ) (s : IsSound m) (line : IsLineEdge m e) (alone : IsAlone m v) (i : Hangs m mid e v (length m.half_edges)) where
+module _ (m mid new : Mesh) (e v : ℕ) (s : AreSoundLinks m) (line : IsLineEdge m e) (alone : IsAlone m v) (i : Hangs m mid e v (length m.half_edges)) where
   face_zero : (h : ℕ) → h < length m.half_edges → face m h ≡ 0
   face_zero h within = omega (arith, (s.edges h within).face_in, ap length line.1)
 
@@ -111,11 +111,11 @@ module _ (m mid new : Mesh) (e v : ℕ) (s : IsSound m) (line : IsLineEdge m e) 
         ];
       }
 
-pub into_outer : (m : Mesh) (u h : ℕ) → IsSound m → IsOnLine m u → out_edge m u ≡ Some h → IsOuter m (rev h)
+pub into_outer : (m : Mesh) (u h : ℕ) → AreSoundLinks m → IsOnLine m u → out_edge m u ≡ Some h → IsOuter m (rev h)
 into_outer m u h s line is =
     let had = s.vertices u h is in
     let within : rev h < length m.half_edges = rev_within h _ s.even had.0 in
     (within, omega (arith, (s.edges (rev h) within).face_in, ap length line.one_face))
 
-pub into_ends : (m : Mesh) (u h : ℕ) → IsSound m → out_edge m u ≡ Some h → origin m (rev (rev h)) ≡ u
+pub into_ends : (m : Mesh) (u h : ℕ) → AreSoundLinks m → out_edge m u ≡ Some h → origin m (rev (rev h)) ≡ u
 into_ends m u h s is = ap (origin m) (rev-rev h) ∙ (s.vertices u h is).1

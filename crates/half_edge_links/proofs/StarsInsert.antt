@@ -3,7 +3,7 @@ use Rattle.std.proofs.Common.{◌≡◌, ◌≢◌, ◌⊎◌, ℕ, ◌+◌, ◌
 use Rattle.std.proofs.lemmas.Bool.{cases_eq}
 use Rattle.half_edge_links.proofs.Cases.{◌or_else◌, ◌each_with◌}
 use Rattle.half_edge_links.specs.declared.records.HalfEdge.{HalfEdge}
-use Rattle.half_edge_links.specs.Mesh.{Mesh, origin, next, prev, face, rev, IsSound, IsInnerEdge, IsAlone, IsClosed, HasStars}
+use Rattle.half_edge_links.specs.Mesh.{Mesh, origin, next, prev, face, rev, AreSoundLinks, IsInnerEdge, IsAlone, IsClosed, HasStars}
 use Rattle.half_edge_links.specs.Insert.{Inserts}
 use Rattle.half_edge_links.proofs.Rev.{rev_within}
 use Rattle.half_edge_links.proofs.Triangles.{IsTriangle}
@@ -12,7 +12,7 @@ use Rattle.half_edge_links.proofs.Parts.{IsSpoke, late_cases}
 use Rattle.half_edge_links.proofs.StarsRound.{LiesRound, rounds, lies_between}
 use Rattle.half_edge_links.proofs.InsertSound.{round, rev0, rev1, rev2, rev3, rev4, rev5, origin_kept}
 
-module _ (m new : Mesh) (v f a n g : ℕ) (s : IsSound m) (inner : IsInnerEdge m a) (alone : IsAlone m v) (at_f : f ≡ face m a) (at_n : n ≡ length m.half_edges) (at_g : g ≡ length m.face_edges) (i : Inserts m new v f a n g) (among : ℕ → Bool) (closed : IsClosed new among) where
+module _ (m new : Mesh) (v f a n g : ℕ) (s : AreSoundLinks m) (inner : IsInnerEdge m a) (alone : IsAlone m v) (at_f : f ≡ face m a) (at_n : n ≡ length m.half_edges) (at_g : g ≡ length m.face_edges) (i : Inserts m new v f a n g) (among : ℕ → Bool) (closed : IsClosed new among) where
   t : IsTriangle m a
   t = round m new v f a n g s inner alone at_f at_n at_g i
 
@@ -116,6 +116,6 @@ module _ (m new : Mesh) (v f a n g : ℕ) (s : IsSound m) (inner : IsInnerEdge m
     | inr (p, inr q) ↦ from_first_spoke k q (to_first_spoke h p is)
   ]
 
-pub stars_inserted : (m new : Mesh) (v a : ℕ) → IsSound m → IsInnerEdge m a → IsAlone m v → Inserts m new v (face m a) a (length m.half_edges) (length m.face_edges) → HasStars m → HasStars new
+pub stars_inserted : (m new : Mesh) (v a : ℕ) → AreSoundLinks m → IsInnerEdge m a → IsAlone m v → Inserts m new v (face m a) a (length m.half_edges) (length m.face_edges) → HasStars m → HasStars new
 stars_inserted m new v a s inner alone i stars among closed h k h_in k_in =
     all_round m new v (face m a) a (length m.half_edges) (length m.face_edges) s inner alone refl refl refl i among closed stars h k (omega (arith, h_in, i.edge_count)) (omega (arith, k_in, i.edge_count))

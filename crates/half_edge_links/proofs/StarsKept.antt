@@ -1,13 +1,13 @@
 -- The edges round each vertex stay one round.
 use Rattle.std.proofs.Common.{◌≡◌, ◌≢◌, ℕ, ◌+◌, ◌<◌, Bool, true, length, sym, ap, ◌∙◌, inl, inr, arith}
 use Rattle.std.proofs.lemmas.Bool.{cases_eq}
-use Rattle.half_edge_links.specs.Mesh.{Mesh, origin, next, prev, rev, IsSound, IsAlone, IsClosed, HasStars}
+use Rattle.half_edge_links.specs.Mesh.{Mesh, origin, next, prev, rev, AreSoundLinks, IsAlone, IsClosed, HasStars}
 use Rattle.half_edge_links.specs.Grow.{IsOuter, Hangs}
 use Rattle.half_edge_links.proofs.Rev.{rev_within}
 use Rattle.half_edge_links.proofs.Parts.{rev_of_odd, grown_cases}
 use Rattle.half_edge_links.proofs.FaceBeside.{differs_alone}
 
-module _ (m new : Mesh) (x v : ℕ) (s : IsSound m) (outer : IsOuter m x) (alone : IsAlone m v) (i : Hangs m new x v (length m.half_edges)) (stars : HasStars m) (among : ℕ → Bool) (closed : IsClosed new among) where
+module _ (m new : Mesh) (x v : ℕ) (s : AreSoundLinks m) (outer : IsOuter m x) (alone : IsAlone m v) (i : Hangs m new x v (length m.half_edges)) (stars : HasStars m) (among : ℕ → Bool) (closed : IsClosed new among) where
   after_in : next m x < length m.half_edges
   after_in = (s.edges x outer.0).next_in
 
@@ -57,5 +57,5 @@ module _ (m new : Mesh) (x v : ℕ) (s : IsSound m) (outer : IsOuter m x) (alone
         ]
       ]
 
-pub stars_hung : (m new : Mesh) (x v : ℕ) → IsSound m → IsOuter m x → IsAlone m v → Hangs m new x v (length m.half_edges) → HasStars m → HasStars new
+pub stars_hung : (m new : Mesh) (x v : ℕ) → AreSoundLinks m → IsOuter m x → IsAlone m v → Hangs m new x v (length m.half_edges) → HasStars m → HasStars new
 stars_hung m new x v s outer alone i stars among closed h g h_in g_in = all_round m new x v s outer alone i stars among closed h g (omega (arith, h_in, i.edge_count)) (omega (arith, g_in, i.edge_count))

@@ -2,7 +2,7 @@
 use Rattle.std.proofs.Common.{◌≡◌, ◌≢◌, ℕ, ◌-◌, ◌%◌, ◌<◌, Bool, true, length, refl, sym, ap, ◌∙◌, inl, inr}
 use Rattle.std.proofs.lemmas.Bool.{cases_eq}
 use Rattle.half_edge_links.proofs.Cases.{◌or_else◌, ◌each_with◌}
-use Rattle.half_edge_links.specs.Mesh.{Mesh, origin, next, prev, rev, IsSound, HasApartEnds, HasStars, IsClosed, IsAlone}
+use Rattle.half_edge_links.specs.Mesh.{Mesh, origin, next, prev, rev, AreSoundLinks, HasApartEnds, HasStars, IsClosed, IsAlone}
 use Rattle.half_edge_links.specs.Renames.{pair_moved}
 use Rattle.half_edge_links.specs.Remove.{Removes}
 use Rattle.half_edge_links.specs.Move.{MovesVertex}
@@ -25,7 +25,7 @@ module _ (m new : Mesh) (count : length new.half_edges ≡ length m.half_edges) 
       let h_in : h < length m.half_edges = rw (← count) within in
       apart h h_in (origins h (rev h) h_in (rev_within _ _ even h_in) same)
 
-module _ (m new : Mesh) (e : ℕ) (s : IsSound m) (can : IsUnlinkable m e) (r : Removes m new e) where
+module _ (m new : Mesh) (e : ℕ) (s : AreSoundLinks m) (can : IsUnlinkable m e) (r : Removes m new e) where
   old : ℕ → ℕ
   old h = pair_moved (e - e % 2) (length m.half_edges - 2) h
 
@@ -131,7 +131,7 @@ module _ (m new : Mesh) (e : ℕ) (s : IsSound m) (can : IsUnlinkable m e) (r : 
       ap among (sym b.1) ∙ sym (plain among closed (old g) b.0) ∙ found
 
 -- edges of one vertex were so before the last one took the index of one without edges
-pub moved_back : (m new : Mesh) (v : ℕ) → IsSound m → IsAlone m v → MovesVertex m new v → (h g : ℕ) → h < length m.half_edges → g < length m.half_edges → origin new h ≡ origin new g → origin m h ≡ origin m g
+pub moved_back : (m new : Mesh) (v : ℕ) → AreSoundLinks m → IsAlone m v → MovesVertex m new v → (h g : ℕ) → h < length m.half_edges → g < length m.half_edges → origin new h ≡ origin new g → origin m h ≡ origin m g
 moved_back m new v s alone c h g h_in g_in same =
     let last : ℕ = length m.out_edges - 1 in
     let at_h = c.origins h h_in in

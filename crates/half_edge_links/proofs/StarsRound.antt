@@ -3,7 +3,7 @@ use Rattle.std.proofs.Common.{◌≡◌, ◌≢◌, ℕ, ◌+◌, ◌<◌, Bool,
 use Rattle.std.proofs.lemmas.Bool.{cases_eq}
 use Rattle.std.proofs.lemmas.Grind.{common_steps}
 use Rattle.half_edge_links.proofs.Cases.{◌or_else◌}
-use Rattle.half_edge_links.specs.Mesh.{Mesh, origin, next, prev, rev, IsSound, IsClosed, HasStars}
+use Rattle.half_edge_links.specs.Mesh.{Mesh, origin, next, prev, rev, AreSoundLinks, IsClosed, HasStars}
 use Rattle.half_edge_links.specs.Flip.{IsFlippable, Flips}
 use Rattle.half_edge_links.specs.Grow.{IsClosable, Closes}
 use Rattle.half_edge_links.proofs.Rev.{rev_within, rev-rev}
@@ -44,7 +44,7 @@ lies_between m new before among k behind ahead behind_in at_behind comes ahead_i
 pub lies_kept : (m new : Mesh) (before among : ℕ → Bool) (k : ℕ) → k < length m.half_edges → origin new k ≡ origin m k → before k ≡ among k → LiesRound m new before among k
 lies_kept m new before among k within at same = lies_between m new before among k k k within at (λ is. sym same ∙ is) within at (λ is. same ∙ is)
 
-module _ (m new : Mesh) (e : ℕ) (s : IsSound m) (can : IsClosable m e) (i : Closes m new e (length m.half_edges) (length m.face_edges)) (among : ℕ → Bool) (closed : IsClosed new among) where
+module _ (m new : Mesh) (e : ℕ) (s : AreSoundLinks m) (can : IsClosable m e) (i : Closes m new e (length m.half_edges) (length m.face_edges)) (among : ℕ → Bool) (closed : IsClosed new among) where
   -- the new outer edge lies between e and the other side of the edge before e
   outside_comes : among e ≡ true → among (length m.half_edges + 1) ≡ true
   outside_comes is = ap among (sym (ap rev i.prev_first ∙ rev_of_even _ s.even)) ∙ closed e (omega (arith, can.within, i.edge_count)) is
@@ -81,7 +81,7 @@ module _ (m new : Mesh) (e : ℕ) (s : IsSound m) (can : IsClosable m e) (i : Cl
             (rev_within _ _ s.even c.before_in) (ap (origin new) back ∙ i.outside.origin ∙ ap (origin m) (sym c.before_next) ∙ (s.edges (prev m e) c.before_in).starts) (λ is. outside_goes (ap among (sym back) ∙ is))
       ]
 
-pub stars_closed : (m new : Mesh) (e : ℕ) → IsSound m → IsClosable m e → Closes m new e (length m.half_edges) (length m.face_edges) → HasStars m → HasStars new
+pub stars_closed : (m new : Mesh) (e : ℕ) → AreSoundLinks m → IsClosable m e → Closes m new e (length m.half_edges) (length m.face_edges) → HasStars m → HasStars new
 stars_closed m new e s can i stars among closed h g h_in g_in =
     rounds m new among among stars (close_closed m new e s can i among closed) h g
     (close_lies m new e s can i among closed h (omega (arith, h_in, i.edge_count)))
@@ -103,7 +103,7 @@ pub stands_other : (among : ℕ → Bool) (e t x y h : ℕ) → h ≢ e → h �
 unfolding stand_in
 stands_other among e t x y h a b = grind (arith, common_steps)
 
-module _ (m new : Mesh) (e : ℕ) (s : IsSound m) (can : IsFlippable m e) (f : Flips m new e) (among : ℕ → Bool) (closed : IsClosed new among) where
+module _ (m new : Mesh) (e : ℕ) (s : AreSoundLinks m) (can : IsFlippable m e) (f : Flips m new e) (among : ℕ → Bool) (closed : IsClosed new among) where
   abbrev before : ℕ → Bool
   before h = stand_in among e (rev e) (rev (prev m e)) (rev (prev m (rev e))) h
 
@@ -182,7 +182,7 @@ module _ (m new : Mesh) (e : ℕ) (s : IsSound m) (can : IsFlippable m e) (f : F
         | inr (a, inr b) ↦ lies_kept m new before among k within (origin_kept m new e s can f k a b) (plain k a b)
       ]
 
-pub stars_flipped : (m new : Mesh) (e : ℕ) → IsSound m → IsFlippable m e → Flips m new e → HasStars m → HasStars new
+pub stars_flipped : (m new : Mesh) (e : ℕ) → AreSoundLinks m → IsFlippable m e → Flips m new e → HasStars m → HasStars new
 stars_flipped m new e s can f stars among closed h g h_in g_in =
     rounds m new (before m new e s can f among closed) among stars (flip_closed m new e s can f among closed) h g
     (flip_lies m new e s can f among closed h (omega (arith, h_in, f.edge_count)))

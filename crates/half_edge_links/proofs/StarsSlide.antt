@@ -1,7 +1,7 @@
 -- The edges round each vertex of a line stay one round where one of them moves to another vertex.
 use Rattle.std.proofs.Common.{◌≡◌, ◌≢◌, ℕ, ◌<◌, Bool, true, length, refl, sym, ap, ◌∙◌, inl, inr}
 use Rattle.std.proofs.lemmas.Bool.{cases_eq}
-use Rattle.half_edge_links.specs.Mesh.{Mesh, origin, next, prev, rev, IsSound, HasStars}
+use Rattle.half_edge_links.specs.Mesh.{Mesh, origin, next, prev, rev, AreSoundLinks, HasStars}
 use Rattle.half_edge_links.specs.Grow.{IsSlidable, Slides}
 use Rattle.half_edge_links.specs.Peel.{turn}
 use Rattle.half_edge_links.proofs.Rev.{rev_same, rev_within}
@@ -26,7 +26,7 @@ module _ (m new : Mesh) (t p q r s : ℕ) (count : length new.half_edges ≡ len
       rounds m new (walk.before (length m.half_edges) (turn m) (turn new) t p q r s w among on) among stars (walk.closed_before _ (turn m) (turn new) t p q r s w among on) h g
       (lies among on h (rw count at h_in)) (lies among on g (rw count at g_in))
 
-module _ (m new : Mesh) (e : ℕ) (s : IsSound m) (can : IsSlidable m e) (i : Slides m new e (next m e) (next m (next m e))) where
+module _ (m new : Mesh) (e : ℕ) (s : AreSoundLinks m) (can : IsSlidable m e) (i : Slides m new e (next m e) (next m (next m e))) where
   t : IsTail m e
   t = tail m e s can
 

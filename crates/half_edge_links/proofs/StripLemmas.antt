@@ -1,7 +1,7 @@
 -- A vertex of the hull loses its faces one by one.
 use Rattle.std.proofs.Common.{◌≡◌, ◌≢◌, ℕ, zero, suc, ◌-◌, ◌%◌, ◌<◌, ◌≤◌, length, refl, sym, ap, ◌∙◌, inl, inr, arith}
 use Rattle.std.proofs.lemmas.Bool.{cases_eq}
-use Rattle.half_edge_links.specs.Mesh.{Mesh, origin, next, prev, face, rev, IsSound, IsInner}
+use Rattle.half_edge_links.specs.Mesh.{Mesh, origin, next, prev, face, rev, AreSoundLinks, IsInner}
 use Rattle.half_edge_links.specs.Renames.{pair_moved}
 use Rattle.half_edge_links.specs.Peel.{Peels, IsStrip, spoke, turn}
 use Rattle.half_edge_links.specs.Remove.{Opens, Removes, IsRemovable, after_removal}
@@ -30,14 +30,14 @@ peelable_strip m h k f = record {
   ends = λ q. f.ends 0 (omega arith) (sym q);
 }
 
-module _ (m mid new : Mesh) (h k : ℕ) (s : IsSound m) (f : IsFullStrip m h (suc k)) (o : Opens m mid (face m h)) (r : Removes mid new h) where
+module _ (m mid new : Mesh) (h k : ℕ) (s : AreSoundLinks m) (f : IsFullStrip m h (suc k)) (o : Opens m mid (face m h)) (r : Removes mid new h) where
   pub can : IsUnlinkable mid h
   can = removable_opened m mid h s (peelable_strip m h k f) o
 
   inner_h : IsInner m (face m h)
   inner_h = (f.strip.inner 0 (omega arith), (s.edges h f.strip.within).face_in)
 
-  pub s1 : IsSound mid
+  pub s1 : AreSoundLinks mid
   s1 = sound_opened m mid (face m h) s inner_h o
 
   abbrev pub nm : ℕ → ℕ
@@ -168,13 +168,13 @@ module _ (m mid new : Mesh) (h k : ℕ) (s : IsSound m) (f : IsFullStrip m h (su
       }
 
 -- the strip that is left after one step of the code
-pub strip_from : (m new : Mesh) (h k at : ℕ) → IsSound m → IsFullStrip m h (suc k) → Peels m new h → at ≡ after_removal m h (turn m h) → IsFullStrip new at k
+pub strip_from : (m new : Mesh) (h k at : ℕ) → AreSoundLinks m → IsFullStrip m h (suc k) → Peels m new h → at ≡ after_removal m h (turn m h) → IsFullStrip new at k
 strip_from m new h k at s f p is =
     let same : at ≡ pair_moved (length p.opened.half_edges - 2) (h - h % 2) (turn m h) = is ∙ ap (λ n. pair_moved (n - 2) (h - h % 2) (turn m h)) (sym p.opens.edge_count) in
     rw same (strip_less m p.opened new h k s f p.opens p.removes)
 
 -- its edges end where the same edges ended before
-pub strip_ends : (m new : Mesh) (h k at : ℕ) → IsSound m → IsFullStrip m h (suc k) → Peels m new h → at ≡ after_removal m h (turn m h) → (origin new at ≡ origin m h) × ((i : ℕ) → i ≤ k → origin new (rev (spoke new at i)) ≡ origin m (rev (spoke m h (suc i))))
+pub strip_ends : (m new : Mesh) (h k at : ℕ) → AreSoundLinks m → IsFullStrip m h (suc k) → Peels m new h → at ≡ after_removal m h (turn m h) → (origin new at ≡ origin m h) × ((i : ℕ) → i ≤ k → origin new (rev (spoke new at i)) ≡ origin m (rev (spoke m h (suc i))))
 strip_ends m new h k at s f p is =
     let same : at ≡ pair_moved (length p.opened.half_edges - 2) (h - h % 2) (turn m h) = is ∙ ap (λ n. pair_moved (n - 2) (h - h % 2) (turn m h)) (sym p.opens.edge_count) in (
       ap (origin new) same ∙ start m p.opened new h k s f p.opens p.removes,

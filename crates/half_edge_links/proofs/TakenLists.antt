@@ -4,7 +4,7 @@ use Rattle.std.proofs.lemmas.Bool.{cases_eq}
 use Rattle.std.proofs.lemmas.List.{same_lists, length-map, get_or-map}
 use Rattle.std.specs.List.{swap_remove}
 use Rattle.half_edge_links.proofs.Cases.{◌or_else◌}
-use Rattle.half_edge_links.specs.Mesh.{Mesh, origin, next, prev, face, rev, IsSound, IsInner}
+use Rattle.half_edge_links.specs.Mesh.{Mesh, origin, next, prev, face, rev, AreSoundLinks, IsInner}
 use Rattle.half_edge_links.specs.Renames.{moved, pair_moved}
 use Rattle.half_edge_links.specs.Triangles.{Triangle, triangle_at, triangles}
 use Rattle.half_edge_links.specs.Outline.{Ends, ends, origins, paired, IsOuterEdge}
@@ -40,13 +40,13 @@ pub ends_loop_closed : (m new : Mesh) (h : ℕ) → ClosesLoop m new h → ends 
 ends_loop_closed m new h c = same_origins_ends m new c.edge_count (λ k k_in. c.origins k)
 
 -- the two ends of each edge, by its index
-pub ends_at : (m : Mesh) (k : ℕ) (d : Ends) → IsSound m → 2 * k + 1 < length m.half_edges → get_or (ends m) k d ≡ record { source = origin m (2 * k); target = origin m (2 * k + 1) }
+pub ends_at : (m : Mesh) (k : ℕ) (d : Ends) → AreSoundLinks m → 2 * k + 1 < length m.half_edges → get_or (ends m) k d ≡ record { source = origin m (2 * k); target = origin m (2 * k + 1) }
 ends_at m k d s = get_or-ends m k d
 
-pub count_ends : (m : Mesh) → IsSound m → 2 * length (ends m) ≡ length m.half_edges
+pub count_ends : (m : Mesh) → AreSoundLinks m → 2 * length (ends m) ≡ length m.half_edges
 count_ends m s = length-ends_twice m s
 
-module _ (m new : Mesh) (e : ℕ) (s : IsSound m) (can : IsUnlinkable m e) (r : Removes m new e) (s' : IsSound new) where
+module _ (m new : Mesh) (e : ℕ) (s : AreSoundLinks m) (can : IsUnlinkable m e) (r : Removes m new e) (s' : AreSoundLinks new) where
   pub removes_ends : RemovesEnds m new e
   removes_ends =
       let n = count_ends m s in
@@ -104,7 +104,7 @@ module _ (m new : Mesh) (e : ℕ) (s : IsSound m) (can : IsUnlinkable m e) (r : 
         (k, l.other, l.other_side, record { within = l.within; outer = sym (face_at m new e s can r k l) ∙ ap (face new) was.1 ∙ o.outer; source = source; target = target }, was.1);
   }
 
-pub opens_outer : (m new : Mesh) (f : ℕ) → IsSound m → IsInner m f → Opens m new f → OpensOuter m new f
+pub opens_outer : (m new : Mesh) (f : ℕ) → AreSoundLinks m → IsInner m f → Opens m new f → OpensOuter m new f
 opens_outer m new f s inner o = record {
   kept = λ h a b was stays. record {
     within = omega (arith, o.edge_count, was.within);
@@ -147,11 +147,11 @@ closes_outer m new h can c = record {
       );
 }
 
-pub peels_outer : (m new : Mesh) (h : ℕ) → IsSound m → IsHullEdge m h → Peels m new h → IsSound new → PeelsOuter m new h
+pub peels_outer : (m new : Mesh) (h : ℕ) → AreSoundLinks m → IsHullEdge m h → Peels m new h → AreSoundLinks new → PeelsOuter m new h
 peels_outer m new h s can p s' =
     let inner : IsInner m (face m h) = (can.inner, (s.edges h can.within).face_in) in
     let mid : Mesh = p.opened in
-    let sm : IsSound mid = sound_opened m mid (face m h) s inner p.opens in
+    let sm : AreSoundLinks mid = sound_opened m mid (face m h) s inner p.opens in
     let opened : OpensOuter m mid (face m h) = opens_outer m mid (face m h) s inner p.opens in
     let gone : RemovesOuter mid new h = removes_outer mid new h sm (removable_opened m mid h s can p.opens) p.removes s' in
     let t : IsTriangle m h = loop_at m h s can.within can.inner in
@@ -179,16 +179,16 @@ peels_outer m new h s can p s' =
           );
     }
 
-pub peels_triangle : (m new : Mesh) (h : ℕ) → IsSound m → IsHullEdge m h → Peels m new h → RemovesTriangle m new (face m h)
+pub peels_triangle : (m new : Mesh) (h : ℕ) → AreSoundLinks m → IsHullEdge m h → Peels m new h → RemovesTriangle m new (face m h)
 peels_triangle m new h s can p =
     let here = s.edges h can.within in
     let n = length-map m.face_edges (triangle_at m) in
     triangles_peeled m new h s can p ∙ swap_remove_default (triangles m) (face m h - 1) (triangle_at m 0) no_triangle (omega (arith, n, can.inner, here.face_in))
 
-pub peels_ends : (m new : Mesh) (h : ℕ) → IsSound m → IsHullEdge m h → Peels m new h → IsSound new → RemovesEnds m new h
+pub peels_ends : (m new : Mesh) (h : ℕ) → AreSoundLinks m → IsHullEdge m h → Peels m new h → AreSoundLinks new → RemovesEnds m new h
 peels_ends m new h s can p s' =
     let inner : IsInner m (face m h) = (can.inner, (s.edges h can.within).face_in) in
-    let sm : IsSound p.opened = sound_opened m p.opened (face m h) s inner p.opens in
+    let sm : AreSoundLinks p.opened = sound_opened m p.opened (face m h) s inner p.opens in
     removes_ends p.opened new h sm (removable_opened m p.opened h s can p.opens) p.removes s'
     ∙ ap (λ xs. swap_remove xs (h / 2) no_ends) (same_origins_ends m p.opened p.opens.edge_count (λ k k_in. p.opens.origin k))
 
@@ -197,7 +197,7 @@ paired-map f [] = refl
 paired-map f (a ∷ []) = refl
 paired-map f (a ∷ b ∷ rest) = ap (λ (q : List Ends). record { source = f a; target = f b } ∷ q) (paired-map f rest)
 
-module _ (m new : Mesh) (v : ℕ) (s : IsSound m) (c : MovesVertex m new v) where
+module _ (m new : Mesh) (v : ℕ) (s : AreSoundLinks m) (c : MovesVertex m new v) where
   abbrev to : ℕ → ℕ
   to k = moved (length m.out_edges - 1) v k
 

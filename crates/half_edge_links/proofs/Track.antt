@@ -1,6 +1,6 @@
 -- The edges that are left once one was removed, under their new indexes.
 use Rattle.std.proofs.Common.{◌≡◌, ◌≢◌, ℕ, ◌-◌, ◌%◌, ◌<◌, ◌≤◌, length, Some, sym, ap, ◌∙◌, inl, inr, arith}
-use Rattle.half_edge_links.specs.Mesh.{Mesh, origin, next, prev, face, rev, IsSound}
+use Rattle.half_edge_links.specs.Mesh.{Mesh, origin, next, prev, face, rev, AreSoundLinks}
 use Rattle.half_edge_links.specs.Renames.{IsKeptEdge, IsRenamedEdge, pair_moved, renamed}
 use Rattle.half_edge_links.specs.Remove.{Removes, edge_naming, outer_after}
 use Rattle.half_edge_links.proofs.Conditions.{IsUnlinkable}
@@ -16,7 +16,7 @@ pub record IsLeft (m : Mesh) (e k : ℕ) : Type 0 where
   pub other_side : k ≢ rev e
 
 -- and its other side
-pub side_left : (m : Mesh) (e k : ℕ) → IsSound m → IsLeft m e k → IsLeft m e (rev k)
+pub side_left : (m : Mesh) (e k : ℕ) → AreSoundLinks m → IsLeft m e k → IsLeft m e (rev k)
 side_left m e k s l = record {
   within = rev_within _ _ s.even l.within;
   other = λ z. l.other_side (sym (rev-rev k) ∙ ap rev z);
@@ -30,7 +30,7 @@ last_pair m = length m.half_edges - 2
 abbrev pub pair_at : ℕ → ℕ
 pair_at e = e - e % 2
 
-module _ (m new : Mesh) (e : ℕ) (s : IsSound m) (can : IsUnlinkable m e) (r : Removes m new e) where
+module _ (m new : Mesh) (e : ℕ) (s : AreSoundLinks m) (can : IsUnlinkable m e) (r : Removes m new e) where
   -- the new index
   abbrev pub name : ℕ → ℕ
   name k = pair_moved (last_pair m) (pair_at e) k

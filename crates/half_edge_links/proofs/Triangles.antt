@@ -1,6 +1,6 @@
 -- The loops of inner faces.
 use Rattle.std.proofs.Common.{◌≡◌, ◌≢◌, ◌⊎◌, ℕ, ◌<◌, length, inl, inr, arith}
-use Rattle.half_edge_links.specs.Mesh.{Mesh, next, prev, face, rev, IsSound}
+use Rattle.half_edge_links.specs.Mesh.{Mesh, next, prev, face, rev, AreSoundLinks}
 use Rattle.half_edge_links.specs.Flip.{IsFlippable}
 use Rattle.half_edge_links.proofs.Rev.{rev_within}
 use Rattle.half_edge_links.proofs.Writes.{AreSixPlaces}
@@ -20,7 +20,7 @@ pub record IsTriangle (m : Mesh) (h : ℕ) : Type 0 where
   pub prev_next : prev m (next m h) ≡ h
   pub prev_prev : prev m (prev m h) ≡ next m h
 
-pub triangle_at : (m : Mesh) (h : ℕ) → IsSound m → h < length m.half_edges → 0 < face m h → IsTriangle m h
+pub triangle_at : (m : Mesh) (h : ℕ) → AreSoundLinks m → h < length m.half_edges → 0 < face m h → IsTriangle m h
 triangle_at m h s within inner =
     let here = s.edges h within in
     let at_next = s.edges (next m h) here.next_in in
@@ -33,7 +33,7 @@ triangle_at m h s within inner =
     assumption (here, three, face_prev, differs, both_differ, prev_prev)
 
 -- edges with one inner face lie in one loop
-pub same_loop : (m : Mesh) (h g : ℕ) → IsSound m → h < length m.half_edges → g < length m.half_edges → 0 < face m h → face m g ≡ face m h → (g ≡ h) ⊎ ((g ≡ next m h) ⊎ (g ≡ prev m h))
+pub same_loop : (m : Mesh) (h g : ℕ) → AreSoundLinks m → h < length m.half_edges → g < length m.half_edges → 0 < face m h → face m g ≡ face m h → (g ≡ h) ⊎ ((g ≡ next m h) ⊎ (g ≡ prev m h))
 same_loop m h g s h_in g_in inner same =
     let t = triangle_at m h s h_in inner in
     let g_inner : 0 < face m g = omega arith in
@@ -47,7 +47,7 @@ same_loop m h g s h_in g_in inner same =
     ]
 
 -- the six edges round an edge that may be turned
-pub six_round : (m : Mesh) (e : ℕ) → IsSound m → IsFlippable m e → AreSixPlaces (length m.half_edges) e (rev e) (next m e) (next m (rev e)) (prev m e) (prev m (rev e))
+pub six_round : (m : Mesh) (e : ℕ) → AreSoundLinks m → IsFlippable m e → AreSixPlaces (length m.half_edges) e (rev e) (next m e) (next m (rev e)) (prev m e) (prev m (rev e))
 six_round m e s f =
     let t = triangle_at m e s f.within f.inner in
     let u = triangle_at m (rev e) s (rev_within e (length m.half_edges) s.even f.within) f.twin_inner in

@@ -5,7 +5,7 @@ use Rattle.std.proofs.lemmas.Bool.Decides.{nat_tests}
 use Rattle.std.proofs.lemmas.List.{get_or-set_same, get_or-set_other, length-set}
 use Rattle.half_edge_links.proofs.Cases.{◌or_else◌}
 use Rattle.half_edge_links.specs.declared.records.HalfEdge.{HalfEdge}
-use Rattle.half_edge_links.specs.Mesh.{Mesh, edge_at, origin, next, prev, face, face_edge, out_edge, rev, IsSound, IsSoundEdge}
+use Rattle.half_edge_links.specs.Mesh.{Mesh, edge_at, origin, next, prev, face, face_edge, out_edge, rev, AreSoundLinks, IsSoundEdge}
 use Rattle.half_edge_links.specs.Grow.{with_next, with_prev}
 use Rattle.half_edge_links.specs.Remove.{with_unlinked, unlinked, out_after, outer_after, outer_beside, Unlinks, IsSoundBut}
 use Rattle.half_edge_links.proofs.Conditions.{IsUnlinkable}
@@ -46,7 +46,7 @@ module _ (hs : List HalfEdge) (h x k y : ℕ) where
   pub face_both : (j : ℕ) → (edge_at (both hs h x k y) j).face ≡ (edge_at hs j).face
   face_both j = (writes_prev (with_next hs h x) k y).kept face_link refl j ∙ (writes_next hs h x).kept face_link refl j
 
-module _ (m : Mesh) (e : ℕ) (s : IsSound m) (can : IsUnlinkable m e) where
+module _ (m : Mesh) (e : ℕ) (s : AreSoundLinks m) (can : IsUnlinkable m e) where
   pub unlinks : Unlinks m (unlinked m e) e (rev e)
   unfolding unlinked with_unlinked
   unlinks =
@@ -109,7 +109,7 @@ pub after_cases : (h e t n p : ℕ) → (((h ≡ e) ⊎ (h ≡ t)) × (outer_aft
 after_cases h e t n p = grind (arith, nat_tests)
 
 -- what the rest of a mesh is when edge e, with other side t, was taken out
-module _ (m new : Mesh) (e : ℕ) (s : IsSound m) (can : IsUnlinkable m e) (u : Unlinks m new e (rev e)) where
+module _ (m new : Mesh) (e : ℕ) (s : AreSoundLinks m) (can : IsUnlinkable m e) (u : Unlinks m new e (rev e)) where
   pub t_in : rev e < length m.half_edges
   t_in = rev_within e (length m.half_edges) s.even can.within
 

@@ -2,7 +2,7 @@
 use Rattle.std.proofs.Common.{◌≡◌, ◌≢◌, ℕ, ◌+◌, ◌<◌, ◌≤◌, [], ◌∷◌, None, length, refl, ap, arith, length-append, sym, ◌∙◌}
 use Rattle.std.proofs.lemmas.List.{length-set}
 use Rattle.half_edge_links.specs.declared.room.TheConstants.{MAX_ELEMENTS}
-use Rattle.half_edge_links.specs.Mesh.{Mesh, IsSmall, origin, prev, rev, IsValid, IsInnerEdge, IsAlone, with_vertex, connected, IsInner}
+use Rattle.half_edge_links.specs.Mesh.{Mesh, IsSmall, origin, prev, rev, IsValidMesh, IsInnerEdge, IsAlone, with_vertex, connected, IsInner}
 use Rattle.half_edge_links.specs.Flip.{IsFlippable, flipped}
 use Rattle.half_edge_links.specs.Insert.{inserted}
 use Rattle.half_edge_links.specs.Grow.{IsOuter, IsClosable, IsSlidable, hung, closed, slid}
@@ -33,10 +33,10 @@ use Rattle.half_edge_links.proofs.StarsRemove.{stars_same, apart_same, apart_rem
 pub small_same : (m new : Mesh) → length new.out_edges ≡ length m.out_edges → length new.half_edges ≡ length m.half_edges → length new.face_edges ≡ length m.face_edges → IsSmall m → IsSmall new
 small_same m new outs hs fs small = record { vertices = rw outs small.vertices; edges = rw hs small.edges; faces = rw fs small.faces }
 
-pub valid_as : (new whole : Mesh) → new ≡ whole → IsValid whole → IsValid new
+pub valid_as : (new whole : Mesh) → new ≡ whole → IsValidMesh whole → IsValidMesh new
 valid_as new whole is valid = rw is valid
 
-pub valid_with_vertex : (m : Mesh) → IsValid m → length m.out_edges + 1 ≤ MAX_ELEMENTS → IsValid (with_vertex m)
+pub valid_with_vertex : (m : Mesh) → IsValidMesh m → length m.out_edges + 1 ≤ MAX_ELEMENTS → IsValidMesh (with_vertex m)
 valid_with_vertex m valid room = record {
   sound = sound_with_vertex m valid.sound;
   apart = valid.apart;
@@ -48,7 +48,7 @@ valid_with_vertex m valid room = record {
   };
 }
 
-pub valid_connected : (m : Mesh) (a b : ℕ) → IsValid m → m.half_edges ≡ [] → a < length m.out_edges → b < length m.out_edges → a ≢ b → IsValid (connected m a b)
+pub valid_connected : (m : Mesh) (a b : ℕ) → IsValidMesh m → m.half_edges ≡ [] → a < length m.out_edges → b < length m.out_edges → a ≢ b → IsValidMesh (connected m a b)
 valid_connected m a b valid none a_in b_in differs = record {
   sound = sound_connected m a b valid.sound none a_in b_in;
   apart = apart_connected m a b differs;
@@ -60,7 +60,7 @@ valid_connected m a b valid none a_in b_in differs = record {
   };
 }
 
-pub valid_flipped : (m : Mesh) (e : ℕ) → IsValid m → IsFlippable m e → origin m (prev m e) ≢ origin m (prev m (rev e)) → IsValid (flipped m e)
+pub valid_flipped : (m : Mesh) (e : ℕ) → IsValidMesh m → IsFlippable m e → origin m (prev m e) ≢ origin m (prev m (rev e)) → IsValidMesh (flipped m e)
 valid_flipped m e valid can corners =
     let f = flips m e valid.sound can in
     record {
@@ -70,7 +70,7 @@ valid_flipped m e valid can corners =
       small = small_same m (flipped m e) f.vertex_count f.edge_count f.face_count valid.small;
     }
 
-pub valid_inserted : (m : Mesh) (v a : ℕ) → IsValid m → IsInnerEdge m a → IsAlone m v → length m.half_edges + 6 ≤ MAX_ELEMENTS → length m.face_edges + 3 ≤ MAX_ELEMENTS → IsValid (inserted m v a)
+pub valid_inserted : (m : Mesh) (v a : ℕ) → IsValidMesh m → IsInnerEdge m a → IsAlone m v → length m.half_edges + 6 ≤ MAX_ELEMENTS → length m.face_edges + 3 ≤ MAX_ELEMENTS → IsValidMesh (inserted m v a)
 valid_inserted m v a valid inner alone room faces =
     let i = inserts m v a valid.sound inner alone in
     record {
@@ -84,7 +84,7 @@ valid_inserted m v a valid inner alone room faces =
       };
     }
 
-pub valid_hung : (m : Mesh) (x v : ℕ) → IsValid m → IsOuter m x → IsAlone m v → length m.half_edges + 2 ≤ MAX_ELEMENTS → IsValid (hung m x v)
+pub valid_hung : (m : Mesh) (x v : ℕ) → IsValidMesh m → IsOuter m x → IsAlone m v → length m.half_edges + 2 ≤ MAX_ELEMENTS → IsValidMesh (hung m x v)
 valid_hung m x v valid outer alone room =
     let i = hangs m x v valid.sound outer alone in
     record {
@@ -98,7 +98,7 @@ valid_hung m x v valid outer alone room =
       };
     }
 
-pub valid_closed : (m : Mesh) (e : ℕ) → IsValid m → IsClosable m e → length m.half_edges + 2 ≤ MAX_ELEMENTS → length m.face_edges + 2 ≤ MAX_ELEMENTS → IsValid (closed m e)
+pub valid_closed : (m : Mesh) (e : ℕ) → IsValidMesh m → IsClosable m e → length m.half_edges + 2 ≤ MAX_ELEMENTS → length m.face_edges + 2 ≤ MAX_ELEMENTS → IsValidMesh (closed m e)
 valid_closed m e valid can room faces =
     let i = closes m e valid.sound can in
     record {
@@ -112,7 +112,7 @@ valid_closed m e valid can room faces =
       };
     }
 
-pub valid_slid : (m : Mesh) (e : ℕ) → IsValid m → IsSlidable m e → IsValid (slid m e)
+pub valid_slid : (m : Mesh) (e : ℕ) → IsValidMesh m → IsSlidable m e → IsValidMesh (slid m e)
 valid_slid m e valid can =
     let i = slides m e valid.sound can in
     record {
@@ -122,7 +122,7 @@ valid_slid m e valid can =
       small = small_same m (slid m e) i.vertex_count i.edge_count (ap length i.face_edges) valid.small;
     }
 
-pub valid_opened : (m new : Mesh) (f : ℕ) → IsValid m → IsInner m f → Opens m new f → IsValid new
+pub valid_opened : (m new : Mesh) (f : ℕ) → IsValidMesh m → IsInner m f → Opens m new f → IsValidMesh new
 valid_opened m new f v inner o = record {
   sound = sound_opened m new f v.sound inner o;
   apart = apart_same m new o.edge_count o.prev v.sound.even (λ h g h_in g_in same. sym (o.origin h) ∙ same ∙ o.origin g) v.apart;
@@ -130,7 +130,7 @@ valid_opened m new f v inner o = record {
   small = small_opened m new f o v.small;
 }
 
-pub valid_loop_closed : (m new : Mesh) (h : ℕ) → IsValid m → IsOpenTriangle m h → ClosesLoop m new h → length m.face_edges + 2 ≤ MAX_ELEMENTS → IsValid new
+pub valid_loop_closed : (m new : Mesh) (h : ℕ) → IsValidMesh m → IsOpenTriangle m h → ClosesLoop m new h → length m.face_edges + 2 ≤ MAX_ELEMENTS → IsValidMesh new
 valid_loop_closed m new h v can c room = record {
   sound = sound_closed m h v.sound can new c;
   apart = apart_same m new c.edge_count c.prevs v.sound.even (λ k g k_in g_in same. sym (c.origins k) ∙ same ∙ c.origins g) v.apart;
@@ -138,7 +138,7 @@ valid_loop_closed m new h v can c room = record {
   small = small_closed m h v.sound can new c v.small room;
 }
 
-pub valid_removed : (m new : Mesh) (e : ℕ) → IsValid m → IsRemovable m e → Removes m new e → IsValid new
+pub valid_removed : (m new : Mesh) (e : ℕ) → IsValidMesh m → IsRemovable m e → Removes m new e → IsValidMesh new
 valid_removed m new e v can r =
     let full = unlinkable m e v can in
     record {
@@ -148,7 +148,7 @@ valid_removed m new e v can r =
       small = small_removed m new e r v.small;
     }
 
-pub valid_moved : (m new : Mesh) (u : ℕ) → IsValid m → IsAlone m u → MovesVertex m new u → IsValid new
+pub valid_moved : (m new : Mesh) (u : ℕ) → IsValidMesh m → IsAlone m u → MovesVertex m new u → IsValidMesh new
 valid_moved m new u v alone c = record {
   sound = sound_moved m new u v.sound alone c;
   apart = apart_same m new c.edge_count c.prevs v.sound.even (moved_back m new u v.sound alone c) v.apart;

@@ -1,7 +1,7 @@
 -- One more vertex.
 use Rattle.std.proofs.Common.{◌≡◌, ℕ, zero, suc, List, [], ◌∷◌, ◌++◌, Option, None, get_or, refl, arith, length-append}
 use Rattle.std.proofs.lemmas.List.{get_or_append_left}
-use Rattle.half_edge_links.specs.Mesh.{Mesh, IsSound, with_vertex}
+use Rattle.half_edge_links.specs.Mesh.{Mesh, AreSoundLinks, with_vertex}
 use Rattle.half_edge_links.proofs.Parts.{sound_kept}
 
 -- one more `None` changes no read
@@ -11,7 +11,7 @@ get_or-push_none [] (suc v) = refl
 get_or-push_none (x ∷ xs) zero = refl
 get_or-push_none (x ∷ xs) (suc v) = get_or-push_none xs v
 
-pub sound_with_vertex : (m : Mesh) → IsSound m → IsSound (with_vertex m)
+pub sound_with_vertex : (m : Mesh) → AreSoundLinks m → AreSoundLinks (with_vertex m)
 sound_with_vertex m s = record {
   even = s.even;
   edges = λ h within.

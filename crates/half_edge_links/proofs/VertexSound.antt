@@ -3,7 +3,7 @@ use Rattle.std.proofs.Common.{◌≡◌, ◌≢◌, ℕ, zero, suc, ◌+◌, ◌
 use Rattle.std.proofs.lemmas.Bool.{cases_eq}
 use Rattle.std.specs.List.{swap_remove}
 use Rattle.half_edge_links.specs.declared.records.HalfEdge.{HalfEdge}
-use Rattle.half_edge_links.specs.Mesh.{Mesh, IsSmall, edge_at, origin, next, prev, out_edge, rev, IsSound, IsAlone, iterate}
+use Rattle.half_edge_links.specs.Mesh.{Mesh, IsSmall, edge_at, origin, next, prev, out_edge, rev, AreSoundLinks, IsAlone, iterate}
 use Rattle.half_edge_links.specs.Renames.{Naming, Renames, IsKeptEdge, moved}
 use Rattle.half_edge_links.specs.Grow.{with_origin}
 use Rattle.half_edge_links.specs.Move.{turn_of, MovesOrigins, CanWalk, IsOneOrbit, MovesVertex, MovesNamed}
@@ -16,7 +16,7 @@ use Rattle.half_edge_links.proofs.OpenSound.{same_renamed, moved_hit, moved_miss
 use Rattle.half_edge_links.proofs.RenameSound.{sound_renamed}
 
 -- a walk on a sound mesh
-pub can_walk : (m : Mesh) → IsSound m → CanWalk m.half_edges
+pub can_walk : (m : Mesh) → AreSoundLinks m → CanWalk m.half_edges
 can_walk m s = record {
   stays = λ h within. rev_within (prev m h) (length m.half_edges) s.even (s.edges h within).prev_in;
   apart = turn_one m s;
@@ -103,7 +103,7 @@ module _ (old new : List HalfEdge) (first v i h : ℕ) (c : CanWalk old) (w : Ha
       let b = comes_back (turn_of old) (length old) c.stays c.apart first within in
       w.further b.0 b.1 (omega (arith, b.2)) b.3
 
-module _ (m new : Mesh) (v : ℕ) (s : IsSound m) (alone : IsAlone m v) (c : MovesVertex m new v) where
+module _ (m new : Mesh) (v : ℕ) (s : AreSoundLinks m) (alone : IsAlone m v) (c : MovesVertex m new v) where
   abbrev last : ℕ
   last = length m.out_edges - 1
 
@@ -178,7 +178,7 @@ module _ (m new : Mesh) (v : ℕ) (s : IsSound m) (alone : IsAlone m v) (c : Mov
     has_outer = λ some. s.has_outer (rw c.edge_count at some);
   }
 
-  pub sound_moved : IsSound new
+  pub sound_moved : AreSoundLinks new
   sound_moved = sound_renamed m new names renames_moved
 
   pub small_moved : IsSmall m → IsSmall new
@@ -189,7 +189,7 @@ module _ (m new : Mesh) (v : ℕ) (s : IsSound m) (alone : IsAlone m v) (c : Mov
   }
 
 -- the last vertex has the edge first, and those round it were moved
-pub moves_some : (m new : Mesh) (v first : ℕ) → IsSound m → IsAlone m v → IsOneOrbit m (length m.out_edges - 1) → out_edge m (length m.out_edges - 1) ≡ Some first → MovesOrigins m.half_edges new.half_edges first v → new.out_edges ≡ swap_remove m.out_edges v None → new.face_edges ≡ m.face_edges → new.outer_edge ≡ m.outer_edge → MovesVertex m new v
+pub moves_some : (m new : Mesh) (v first : ℕ) → AreSoundLinks m → IsAlone m v → IsOneOrbit m (length m.out_edges - 1) → out_edge m (length m.out_edges - 1) ≡ Some first → MovesOrigins m.half_edges new.half_edges first v → new.out_edges ≡ swap_remove m.out_edges v None → new.face_edges ≡ m.face_edges → new.outer_edge ≡ m.outer_edge → MovesVertex m new v
 moves_some m new v first s alone orbit named w a b c =
     let walk = can_walk m s in
     let had = s.vertices (length m.out_edges - 1) first named in
@@ -203,7 +203,7 @@ moves_some m new v first s alone orbit named w a b c =
     assumption (w, a, b, c, origins)
 
 -- the last vertex has no edges either
-pub moves_none : (m new : Mesh) (v : ℕ) → IsSound m → IsAlone m v → out_edge m (length m.out_edges - 1) ≡ None → new.half_edges ≡ m.half_edges → new.out_edges ≡ swap_remove m.out_edges v None → new.face_edges ≡ m.face_edges → new.outer_edge ≡ m.outer_edge → MovesVertex m new v
+pub moves_none : (m new : Mesh) (v : ℕ) → AreSoundLinks m → IsAlone m v → out_edge m (length m.out_edges - 1) ≡ None → new.half_edges ≡ m.half_edges → new.out_edges ≡ swap_remove m.out_edges v None → new.face_edges ≡ m.face_edges → new.outer_edge ≡ m.outer_edge → MovesVertex m new v
 moves_none m new v s alone none same a b c = record {
   edge_count = ap length same;
   nexts = λ k. ap (λ hs. (edge_at hs k).next) same;
@@ -218,6 +218,6 @@ moves_none m new v s alone none same a b c = record {
   outer_edge = c;
 }
 
-pub moves_vertex : (m new : Mesh) (v : ℕ) (named : Option ℕ) → IsSound m → IsAlone m v → IsOneOrbit m (length m.out_edges - 1) → out_edge m (length m.out_edges - 1) ≡ named → MovesNamed m.half_edges new.half_edges named v → new.out_edges ≡ swap_remove m.out_edges v None → new.face_edges ≡ m.face_edges → new.outer_edge ≡ m.outer_edge → MovesVertex m new v
+pub moves_vertex : (m new : Mesh) (v : ℕ) (named : Option ℕ) → AreSoundLinks m → IsAlone m v → IsOneOrbit m (length m.out_edges - 1) → out_edge m (length m.out_edges - 1) ≡ named → MovesNamed m.half_edges new.half_edges named v → new.out_edges ≡ swap_remove m.out_edges v None → new.face_edges ≡ m.face_edges → new.outer_edge ≡ m.outer_edge → MovesVertex m new v
 moves_vertex m new v None s alone orbit named w a b c = moves_none m new v s alone named (w.none refl) a b c
 moves_vertex m new v (Some first) s alone orbit named w a b c = moves_some m new v first s alone orbit named (w.some first refl) a b c

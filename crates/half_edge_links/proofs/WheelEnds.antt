@@ -1,6 +1,6 @@
 -- The corners of the hole that a vertex with three faces leaves.
 use Rattle.std.proofs.Common.{◌≡◌, ℕ, ◌-◌, ◌%◌, length, sym, ap, ◌∙◌}
-use Rattle.half_edge_links.specs.Mesh.{Mesh, origin, next, prev, face, rev, IsSound}
+use Rattle.half_edge_links.specs.Mesh.{Mesh, origin, next, prev, face, rev, AreSoundLinks}
 use Rattle.half_edge_links.specs.Renames.{pair_moved}
 use Rattle.half_edge_links.specs.Peel.{Peels, turn}
 use Rattle.half_edge_links.specs.Remove.{Opens, Removes, after_removal}
@@ -25,7 +25,7 @@ pub record IsHoleOfThree (m : Mesh) (z v c0 c1 c2 : ℕ) : Type 0 where
   pub second : origin m (next m (next m (next m z))) ≡ c1
   pub third : origin m (next m z) ≡ c2
 
-pub hole_of_four : (m one two : Mesh) (o spoke : ℕ) → IsSound m → IsFullWheel m o → Opens m one (face m (turn m (turn m o))) → Peels one two o → spoke ≡ after_removal one o (turn one o)
+pub hole_of_four : (m one two : Mesh) (o spoke : ℕ) → AreSoundLinks m → IsFullWheel m o → Opens m one (face m (turn m (turn m o))) → Peels one two o → spoke ≡ after_removal one o (turn one o)
     → (z : ℕ) × IsHoleOfFour two spoke z (origin m o) (origin m (rev o)) (origin m (rev (turn m o))) (origin m (rev (turn m (turn m o))))
 hole_of_four m one two o spoke s w op p is =
     let at : spoke ≡ wheel.nm m o s w one op p.opened two p.opens p.removes (turn m o) = is ∙ ap (λ n. pair_moved (n - 2) (o - o % 2) (turn one o)) (sym p.opens.edge_count) ∙ ap (λ k. pair_moved (length p.opened.half_edges - 2) (o - o % 2) (rev k)) (op.prev o) in
@@ -46,7 +46,7 @@ hole_of_four m one two o spoke s w op p is =
       },
     )
 
-pub hole_of_three : (m three : Mesh) (a z pendant v c0 c1 c2 : ℕ) → IsSound m → IsHoleOfFour m a z v c0 c1 c2 → Peels m three a → pendant ≡ after_removal m a (turn m a) → IsHoleOfThree three pendant v c0 c1 c2
+pub hole_of_three : (m three : Mesh) (a z pendant v c0 c1 c2 : ℕ) → AreSoundLinks m → IsHoleOfFour m a z v c0 c1 c2 → Peels m three a → pendant ≡ after_removal m a (turn m a) → IsHoleOfThree three pendant v c0 c1 c2
 hole_of_three m three a z pendant v c0 c1 c2 s h p is =
     let f = h.fan in
     let at : pendant ≡ fan.nm m p.opened three a z s f p.opens p.removes z = is ∙ ap (λ n. pair_moved (n - 2) (a - a % 2) (turn m a)) (sym p.opens.edge_count) ∙ ap (λ k. pair_moved (length p.opened.half_edges - 2) (a - a % 2) k) f.spoke in
@@ -60,7 +60,7 @@ hole_of_three m three a z pendant v c0 c1 c2 s h p is =
     }
 
 -- the loop that is left when edge z went
-pub closed_corners : (m new : Mesh) (z v c0 c1 c2 : ℕ) → IsSound m → IsHoleOfThree m z v c0 c1 c2 → Removes m new z → (origin new (after_removal m z (next m z)) ≡ c2) × (origin new (next new (after_removal m z (next m z))) ≡ c0) × (origin new (prev new (after_removal m z (next m z))) ≡ c1)
+pub closed_corners : (m new : Mesh) (z v c0 c1 c2 : ℕ) → AreSoundLinks m → IsHoleOfThree m z v c0 c1 c2 → Removes m new z → (origin new (after_removal m z (next m z)) ≡ c2) × (origin new (next new (after_removal m z (next m z))) ≡ c0) × (origin new (prev new (after_removal m z (next m z))) ≡ c1)
 closed_corners m new z v c0 c1 c2 s h r =
     let f = h.fan in
     let can = fan.can m new z s f r in

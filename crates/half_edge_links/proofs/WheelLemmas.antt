@@ -2,7 +2,7 @@
 use Rattle.std.proofs.Common.{◌≡◌, ◌≢◌, ℕ, ◌<◌, length, sym, ap, ◌∙◌, inl, inr, arith}
 use Rattle.std.proofs.lemmas.Bool.{cases_eq}
 use Rattle.half_edge_links.proofs.Cases.{◌each_with◌}
-use Rattle.half_edge_links.specs.Mesh.{Mesh, origin, next, prev, face, rev, IsSound, IsInner}
+use Rattle.half_edge_links.specs.Mesh.{Mesh, origin, next, prev, face, rev, AreSoundLinks, IsInner}
 use Rattle.half_edge_links.specs.Peel.{turn}
 use Rattle.half_edge_links.specs.Remove.{Opens, Removes}
 use Rattle.half_edge_links.proofs.Conditions.{IsUnlinkable, IsHullEdge, IsFullWheel, IsFanOfTwo, spoke_at}
@@ -34,7 +34,7 @@ module _ (m new : Mesh) (f : ℕ) (o : Opens m new f) (some : 0 < f) where
         | inr (i, inr j) ↦ differ (sym (o.other k k_in p i) ∙ same ∙ o.other l l_in q j)
       ]
 
-module _ (m : Mesh) (o : ℕ) (s : IsSound m) (w : IsFullWheel m o) where
+module _ (m : Mesh) (o : ℕ) (s : AreSoundLinks m) (w : IsFullWheel m o) where
   pub turn_in : (h : ℕ) → h < length m.half_edges → turn m h < length m.half_edges
   turn_in h within = (spoke_at m h s within 1).0
 
@@ -77,11 +77,11 @@ module _ (m : Mesh) (o : ℕ) (s : IsSound m) (w : IsFullWheel m o) where
       ends = λ q. w.first_end (sym (op.origin (rev o)) ∙ sym q ∙ op.origin o);
     }
 
-    pub s1 : IsSound m1
+    pub s1 : AreSoundLinks m1
     s1 = sound_opened m m1 _ s inner_z op
 
     module _ (mid new : Mesh) (oq : Opens m1 mid (face m1 o)) (r : Removes mid new o) where
-      pub s2 : IsSound mid
+      pub s2 : AreSoundLinks mid
       s2 = sound_opened m1 mid (face m1 o) s1 (peelable_first.inner, (s1.edges o peelable_first.within).face_in) oq
 
       pub can : IsUnlinkable mid o
@@ -155,7 +155,7 @@ module _ (m : Mesh) (o : ℕ) (s : IsSound m) (w : IsFullWheel m o) where
       nrz : next new (nm (rev (turn m (turn m o)))) ≡ nm (turn m o)
       nrz = step _ rz_left (λ q. w.first_apart (sym (sym rz_face ∙ ap (face m) q ∙ ra_face))) (λ q. w.second_apart (sym rz_face ∙ ap (face m) q ∙ (t3).face_next)) ∙ ap nm (ap (next m) (sym before_a) ∙ (t2).next_prev)
 
-      pub s3 : IsSound new
+      pub s3 : AreSoundLinks new
       s3 = sound_removed mid new o r
 
       pub origin_now : (k : ℕ) → IsLeft mid o k → origin new (nm k) ≡ origin m k

@@ -1,6 +1,6 @@
 -- The loop of the outer face.
 use Rattle.std.specs.Prelude.{◌≡◌, ◌≢◌, ◌⊎◌, ℕ, ◌+◌, ◌<◌, length, Some, Bool, true}
-use Rattle.half_edge_links.specs.Mesh.{Mesh, IsValid, next, face, rev, iterate}
+use Rattle.half_edge_links.specs.Mesh.{Mesh, IsValidMesh, next, face, rev, iterate}
 
 -- a set of edges holds with each outer edge the next one
 abbrev pub IsClosedAlong : Mesh → (ℕ → Bool) → Type 0
@@ -33,4 +33,4 @@ pub record IsOutline (m : Mesh) (first count : ℕ) : Type 0 where
 
 -- the outer edges of a mesh with one outer loop are one round
 abbrev pub OutlineGoesRound : Type 0
-OutlineGoesRound = (m : Mesh) → IsValid m → HasOneOutline m → (first : ℕ) → m.outer_edge ≡ Some first → (count : ℕ) × IsOutline m first count
+OutlineGoesRound = (m : Mesh) → IsValidMesh m → HasOneOutline m → (first : ℕ) → m.outer_edge ≡ Some first → (count : ℕ) × IsOutline m first count

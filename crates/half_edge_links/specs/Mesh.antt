@@ -56,7 +56,7 @@ pub record IsSoundEdge (m : Mesh) (h : ℕ) : Type 0 where
   pub owned : 0 < face m h → (face_edge m (face m h) ≡ h) ⊎ ((face_edge m (face m h) ≡ next m h) ⊎ (face_edge m (face m h) ≡ prev m h))
   pub has_out : IsSome (out_edge m (origin m h))
 
-pub record IsSound (m : Mesh) : Type 0 where
+pub record AreSoundLinks (m : Mesh) : Type 0 where
   pub even : length m.half_edges % 2 ≡ 0
   pub edges : (h : ℕ) → h < length m.half_edges → IsSoundEdge m h
   pub vertices : (v h : ℕ) → out_edge m v ≡ Some h → (h < length m.half_edges) × (origin m h ≡ v)
@@ -83,8 +83,8 @@ abbrev pub HasStars : Mesh → Type 0
 HasStars m = (among : ℕ → Bool) → IsClosed m among → (h g : ℕ) → h < length m.half_edges → g < length m.half_edges → origin m h ≡ origin m g → among h ≡ true → among g ≡ true
 
 -- what always holds of a mesh
-pub record IsValid (m : Mesh) : Type 0 where
-  pub sound : IsSound m
+pub record IsValidMesh (m : Mesh) : Type 0 where
+  pub sound : AreSoundLinks m
   pub apart : HasApartEnds m
   pub stars : HasStars m
   pub small : IsSmall m

@@ -1,6 +1,6 @@
 -- The edges of a vertex in their order round it.
 use Rattle.std.specs.Prelude.{◌≡◌, ◌≢◌, ℕ, ◌+◌, ◌<◌, length, Some}
-use Rattle.half_edge_links.specs.Mesh.{Mesh, IsValid, origin, face, out_edge, rev}
+use Rattle.half_edge_links.specs.Mesh.{Mesh, IsValidMesh, origin, face, out_edge, rev}
 use Rattle.half_edge_links.specs.Triangles.{triangle_at}
 use Rattle.half_edge_links.specs.Peel.{spoke}
 
@@ -21,4 +21,4 @@ pub record IsRound (m : Mesh) (u first count : ℕ) : Type 0 where
 -- each vertex with edges has one round of them: an inner face at it lies between two neighbours that follow
 -- each other
 abbrev pub EdgesGoRound : Type 0
-EdgesGoRound = (m : Mesh) → IsValid m → (u first : ℕ) → out_edge m u ≡ Some first → (count : ℕ) × IsRound m u first count
+EdgesGoRound = (m : Mesh) → IsValidMesh m → (u first : ℕ) → out_edge m u ≡ Some first → (count : ℕ) × IsRound m u first count

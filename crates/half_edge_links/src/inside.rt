@@ -1,7 +1,7 @@
 //! Changes inside the outer loop: an edge is turned, a vertex is put into a face or on an edge.
 ghost use Rattle.std.specs.Prelude.{◌≡◌, ◌≢◌, ◌+◌, ◌-◌, length, Some};
 ghost use Rattle.half_edge_links.specs.Hull.{KeepsOneOutline};
-ghost use Rattle.half_edge_links.specs.Mesh.{face, origin, next, prev, rev, IsInnerEdge, IsAlone, IsSound};
+ghost use Rattle.half_edge_links.specs.Mesh.{face, origin, next, prev, rev, IsInnerEdge, IsAlone, AreSoundLinks};
 ghost use Rattle.half_edge_links.specs.Flip.{Flips, IsFlippable, flipped};
 ghost use Rattle.half_edge_links.specs.Insert.{Inserts, inserted};
 ghost use Rattle.half_edge_links.specs.Room.{HasEdgeRoom, HasFaceRoom};
@@ -18,7 +18,7 @@ impl Links {
         requires corners { origin self.old.mesh (prev self.old.mesh e) ≢ origin self.old.mesh (prev self.old.mesh (rev e)) }
         ensures mesh { self.new.mesh ≡ flipped self.old.mesh e }
         ensures room { self.new.room ≡ self.old.room }
-        ensures sound { IsSound self.old.mesh }
+        ensures sound { AreSoundLinks self.old.mesh }
         ensures links { Flips self.old.mesh self.new.mesh e }
         ensures ends { MovesEdge self.old.mesh self.new.mesh e (origin self.old.mesh (prev self.old.mesh e)) (origin self.old.mesh (prev self.old.mesh (rev e))) }
         ensures triangles { FlipsTriangles self.old.mesh self.new.mesh e }
@@ -82,7 +82,7 @@ impl Links {
         requires face_room { HasFaceRoom self.old.mesh self.old.room 2 }
         ensures mesh { self.new.mesh ≡ inserted self.old.mesh v edge }
         ensures room { self.new.room ≡ self.old.room }
-        ensures sound { IsSound self.old.mesh }
+        ensures sound { AreSoundLinks self.old.mesh }
         ensures links { let m = self.old.mesh in Inserts m self.new.mesh v (face m edge) edge (length m.half_edges) (length m.face_edges) }
         ensures ends { InsertsEnds self.old.mesh self.new.mesh v edge }
         ensures triangles { InsertsTriangles self.old.mesh self.new.mesh v edge }
@@ -164,7 +164,7 @@ impl Links {
         requires face_room { HasFaceRoom self.old.mesh self.old.room 2 }
         ensures mesh { self.new.mesh ≡ flipped (inserted self.old.mesh v edge) edge }
         ensures room { self.new.room ≡ self.old.room }
-        ensures sound { IsSound self.old.mesh }
+        ensures sound { AreSoundLinks self.old.mesh }
         ensures ends { SplitsEnds self.old.mesh self.new.mesh edge v }
         ensures triangles { SplitsTriangles self.old.mesh self.new.mesh v edge }
         ensures outer { KeepsOuter self.old.mesh self.new.mesh }

@@ -1,7 +1,7 @@
 //! The first edge, and a mesh of one line.
 ghost use Rattle.std.specs.Prelude.{◌≡◌, ◌≢◌, ◌+◌, ◌-◌, ◌<◌, length, Some, [], ◌∷◌};
 ghost use Rattle.half_edge_links.specs.Hull.{HasOneOutline, KeepsOneOutline};
-ghost use Rattle.half_edge_links.specs.Mesh.{face, origin, next, prev, IsAlone, connected, IsSound};
+ghost use Rattle.half_edge_links.specs.Mesh.{face, origin, next, prev, IsAlone, connected, AreSoundLinks};
 ghost use Rattle.half_edge_links.specs.Room.{HasEdgeRoom};
 ghost use Rattle.half_edge_links.specs.Outline.{SplitsOuter, AddsEdge, MovesEdge, SplitsLineEnds, ExtendsOuter};
 ghost use Rattle.half_edge_links.specs.Grow.{hung, slid, IsSlidable, Hangs, Slides, IsLineEdge, line_split, SplitsLine, IsOnLine, edge_into};
@@ -19,7 +19,7 @@ impl Links {
         requires room { HasEdgeRoom self.old.mesh self.old.room 2 }
         ensures mesh { self.new.mesh ≡ connected self.old.mesh a b }
         ensures room { self.new.room ≡ self.old.room }
-        ensures sound { IsSound self.old.mesh }
+        ensures sound { AreSoundLinks self.old.mesh }
         ensures outline { HasOneOutline self.new.mesh }
     {
         self.half_edges.push_reserved(HalfEdge {
@@ -46,7 +46,7 @@ impl Links {
         requires edge_room { HasEdgeRoom self.old.mesh self.old.room 2 }
         ensures mesh { self.new.mesh ≡ hung self.old.mesh (edge_into self.old.mesh u) v }
         ensures room { self.new.room ≡ self.old.room }
-        ensures sound { IsSound self.old.mesh }
+        ensures sound { AreSoundLinks self.old.mesh }
         ensures links { Hangs self.old.mesh self.new.mesh (edge_into self.old.mesh u) v (length self.old.mesh.half_edges) }
         ensures ends { AddsEdge self.old.mesh self.new.mesh u v }
         ensures outer { ExtendsOuter self.old.mesh self.new.mesh u v (length self.old.mesh.half_edges) }
@@ -63,7 +63,7 @@ impl Links {
         requires { IsSlidable self.old.mesh e }
         ensures mesh { self.new.mesh ≡ slid self.old.mesh e }
         ensures room { self.new.room ≡ self.old.room }
-        ensures sound { IsSound self.old.mesh }
+        ensures sound { AreSoundLinks self.old.mesh }
         ensures ends { let m = self.old.mesh in MovesEdge m self.new.mesh e (origin m e) (origin m (next m (next m e))) }
         ensures links { let m = self.old.mesh in Slides m self.new.mesh e (next m e) (next m (next m e)) }
         ensures outline { KeepsOneOutline self.old.mesh self.new.mesh }
@@ -84,7 +84,7 @@ impl Links {
         ensures parts { let n = length self.old.mesh.half_edges in result ≡ e ∷ (n + 1) ∷ [] }
         ensures mesh { self.new.mesh ≡ line_split self.old.mesh e v }
         ensures room { self.new.room ≡ self.old.room }
-        ensures sound { IsSound self.old.mesh }
+        ensures sound { AreSoundLinks self.old.mesh }
         ensures ends { SplitsLineEnds self.old.mesh self.new.mesh e v }
         ensures links { SplitsLine self.old.mesh self.new.mesh e v (length self.old.mesh.half_edges) }
         ensures outer { SplitsOuter self.old.mesh self.new.mesh e v (length self.old.mesh.half_edges) }

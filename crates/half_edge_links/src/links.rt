@@ -1,6 +1,6 @@
 //! The vertices, edges and faces of a mesh, and reads of them.
 ghost use Rattle.std.specs.Prelude.{◌≡◌, ◌+◌, ◌-◌, ◌<◌, ◌≤◌, length, Option, None, vec_capacity};
-ghost use Rattle.half_edge_links.specs.Mesh.{edge_at, empty, IsInner, IsSound, IsValid, face_edge, out_edge};
+ghost use Rattle.half_edge_links.specs.Mesh.{edge_at, empty, IsInner, AreSoundLinks, IsValidMesh, face_edge, out_edge};
 
 use crate::records::HalfEdge;
 use crate::room::MAX_ELEMENTS;
@@ -21,7 +21,7 @@ pub struct Links {
 
 impl Model for Links {
     ghost use Rattle.std.specs.Prelude.{vec_capacity, min, ◌-◌};
-    ghost use Rattle.half_edge_links.specs.Mesh.{IsValid};
+    ghost use Rattle.half_edge_links.specs.Mesh.{IsValidMesh};
     ghost use Rattle.half_edge_links.specs.Room.{Held};
     ghost use Rattle.half_edge_links.specs.declared.room.TheConstants.{MAX_ELEMENTS};
 
@@ -41,7 +41,7 @@ impl Model for Links {
       };
     } };
 
-    ghost invariant = { λ l. IsValid (record {
+    ghost invariant = { λ l. IsValidMesh (record {
       out_edges = l.out_edges.items;
       half_edges = l.half_edges.items;
       outer_edge = l.outer_edge;
@@ -66,25 +66,25 @@ impl Links {
     pub fn half_edge(&self, h: u32) -> HalfEdge
         requires { h < length self.now.mesh.half_edges }
         ensures value { result ≡ edge_at self.now.mesh.half_edges h }
-        ensures sound { IsSound self.now.mesh }
-        ensures valid { IsValid self.now.mesh }
+        ensures sound { AreSoundLinks self.now.mesh }
+        ensures valid { IsValidMesh self.now.mesh }
     {
         self.half_edges[h as usize]
     }
 
     pub fn half_edge_count(&self) -> usize
         ensures value { result ≡ length self.now.mesh.half_edges }
-        ensures sound { IsSound self.now.mesh }
+        ensures sound { AreSoundLinks self.now.mesh }
         ensures small { result ≤ MAX_ELEMENTS }
         ensures room { self.now.room.edges ≤ MAX_ELEMENTS }
-        ensures valid { IsValid self.now.mesh }
+        ensures valid { IsValidMesh self.now.mesh }
     {
         self.half_edges.len()
     }
 
     pub fn vertex_count(&self) -> usize
         ensures value { result ≡ length self.now.mesh.out_edges }
-        ensures valid { IsValid self.now.mesh }
+        ensures valid { IsValidMesh self.now.mesh }
     {
         self.out_edges.len()
     }
@@ -93,7 +93,7 @@ impl Links {
     pub fn inner_face_count(&self) -> usize
         ensures value { result ≡ length self.now.mesh.face_edges }
         ensures small { result < MAX_ELEMENTS }
-        ensures valid { IsValid self.now.mesh }
+        ensures valid { IsValidMesh self.now.mesh }
     {
         self.face_edges.len()
     }
@@ -102,8 +102,8 @@ impl Links {
     pub fn face_edge(&self, f: u32) -> u32
         requires { IsInner self.now.mesh f }
         ensures value { result ≡ face_edge self.now.mesh f }
-        ensures sound { IsSound self.now.mesh }
-        ensures valid { IsValid self.now.mesh }
+        ensures sound { AreSoundLinks self.now.mesh }
+        ensures valid { IsValidMesh self.now.mesh }
     {
         self.face_edges[f as usize - 1]
     }
@@ -111,7 +111,7 @@ impl Links {
     pub fn out_edge(&self, v: u32) -> Option<u32>
         requires { v < length self.now.mesh.out_edges }
         ensures value { result ≡ out_edge self.now.mesh v }
-        ensures valid { IsValid self.now.mesh }
+        ensures valid { IsValidMesh self.now.mesh }
     {
         self.out_edges[v as usize]
     }
@@ -119,7 +119,7 @@ impl Links {
     /// An edge with the outer face on its left, if there is an edge.
     pub fn outer_edge(&self) -> Option<u32>
         ensures value { result ≡ self.now.mesh.outer_edge }
-        ensures valid { IsValid self.now.mesh }
+        ensures valid { IsValidMesh self.now.mesh }
     {
         self.outer_edge
     }

@@ -1,7 +1,7 @@
 //! Changes of the outer loop.
 ghost use Rattle.std.specs.Prelude.{◌≡◌, ◌+◌, ◌-◌, length, Some, [], ◌∷◌};
 ghost use Rattle.half_edge_links.specs.Hull.{KeepsOneOutline};
-ghost use Rattle.half_edge_links.specs.Mesh.{origin, next, rev, IsAlone, IsSound};
+ghost use Rattle.half_edge_links.specs.Mesh.{origin, next, rev, IsAlone, AreSoundLinks};
 ghost use Rattle.half_edge_links.specs.Room.{HasEdgeRoom, HasFaceRoom};
 ghost use Rattle.half_edge_links.specs.Triangles.{triangles};
 ghost use Rattle.half_edge_links.specs.Outline.{HangsOuter, ClosesOuter, ReplacesOuter, AddsTriangle, HalfSplitsTriangles, AddsEdge, AddsTwoEdges, HalfSplitsEnds};
@@ -18,7 +18,7 @@ impl Links {
         requires edge_room { HasEdgeRoom self.old.mesh self.old.room 2 }
         ensures mesh { self.new.mesh ≡ hung self.old.mesh x v }
         ensures room { self.new.room ≡ self.old.room }
-        ensures sound { IsSound self.old.mesh }
+        ensures sound { AreSoundLinks self.old.mesh }
         ensures ends { AddsEdge self.old.mesh self.new.mesh (origin self.old.mesh (rev x)) v }
         ensures links { Hangs self.old.mesh self.new.mesh x v (length self.old.mesh.half_edges) }
         ensures triangles { triangles self.new.mesh ≡ triangles self.old.mesh }
@@ -37,7 +37,7 @@ impl Links {
         requires face_room { HasFaceRoom self.old.mesh self.old.room 1 }
         ensures mesh { self.new.mesh ≡ closed self.old.mesh e }
         ensures room { self.new.room ≡ self.old.room }
-        ensures sound { IsSound self.old.mesh }
+        ensures sound { AreSoundLinks self.old.mesh }
         ensures ends { AddsEdge self.old.mesh self.new.mesh (origin self.old.mesh (rev (next self.old.mesh e))) (origin self.old.mesh e) }
         ensures links { Closes self.old.mesh self.new.mesh e (length self.old.mesh.half_edges) (length self.old.mesh.face_edges) }
         ensures triangles { let m = self.old.mesh in AddsTriangle m self.new.mesh (origin m e) (origin m (next m e)) (origin m (rev (next m e))) }
@@ -61,7 +61,7 @@ impl Links {
         requires face_room { HasFaceRoom self.old.mesh self.old.room 1 }
         ensures mesh { self.new.mesh ≡ with_face_beside self.old.mesh e v }
         ensures room { self.new.room ≡ self.old.room }
-        ensures sound { IsSound self.old.mesh }
+        ensures sound { AreSoundLinks self.old.mesh }
         ensures ends { AddsTwoEdges self.old.mesh self.new.mesh (origin self.old.mesh (rev e)) v v (origin self.old.mesh e) }
         ensures links { AddsFace self.old.mesh self.new.mesh e v (length self.old.mesh.half_edges) (length self.old.mesh.face_edges) }
         ensures triangles { AddsTriangle self.old.mesh self.new.mesh (origin self.old.mesh e) (origin self.old.mesh (rev e)) v }
@@ -82,7 +82,7 @@ impl Links {
         ensures parts { let n = length self.old.mesh.half_edges in result ≡ n ∷ (n + 2) ∷ [] }
         ensures mesh { self.new.mesh ≡ half_split self.old.mesh e v }
         ensures room { self.new.room ≡ self.old.room }
-        ensures sound { IsSound self.old.mesh }
+        ensures sound { AreSoundLinks self.old.mesh }
         ensures links { HalfSplits self.old.mesh self.new.mesh e v (length self.old.mesh.half_edges) (length self.old.mesh.face_edges) }
         ensures ends { HalfSplitsEnds self.old.mesh self.new.mesh e v }
         ensures triangles { HalfSplitsTriangles self.old.mesh self.new.mesh v e }

@@ -1,7 +1,7 @@
 //! An edge of a line that passes a vertex.
 ghost use Rattle.std.specs.Prelude.{◌≡◌, ◌<◌, length, vec_capacity};
 ghost use Rattle.half_edge_links.specs.Hull.{KeepsOneOutline};
-ghost use Rattle.half_edge_links.specs.Mesh.{origin, next, rev, IsSound};
+ghost use Rattle.half_edge_links.specs.Mesh.{origin, next, rev, AreSoundLinks};
 ghost use Rattle.half_edge_links.specs.Outline.{MovesEdge};
 ghost use Rattle.half_edge_links.specs.Pass.{passed_edges, passed, IsPassable, Passes};
 
@@ -37,7 +37,7 @@ impl Links {
         requires { IsPassable self.old.mesh e }
         ensures mesh { self.new.mesh ≡ passed self.old.mesh e }
         ensures room { self.new.room ≡ self.old.room }
-        ensures sound { IsSound self.old.mesh }
+        ensures sound { AreSoundLinks self.old.mesh }
         ensures ends { let m = self.old.mesh in MovesEdge m self.new.mesh e (origin m e) (origin m (rev (next m e))) }
         ensures links { let m = self.old.mesh in Passes m self.new.mesh e (rev (next m e)) (next m e) }
         ensures outline { KeepsOneOutline self.old.mesh self.new.mesh }

@@ -1,7 +1,7 @@
 //! Taking edges, faces and vertices out of a mesh.
 ghost use Rattle.std.specs.Prelude.{◌≡◌, ◌+◌, ◌-◌, ◌<◌, length};
 ghost use Rattle.half_edge_links.specs.Hull.{KeepsOneOutline, IsPendant};
-ghost use Rattle.half_edge_links.specs.Mesh.{origin, next, prev, face, rev, IsInner, IsAlone, IsSound};
+ghost use Rattle.half_edge_links.specs.Mesh.{origin, next, prev, face, rev, IsInner, IsAlone, AreSoundLinks};
 ghost use Rattle.half_edge_links.specs.Triangles.{triangles};
 ghost use Rattle.half_edge_links.specs.Outline.{ends, AddsTriangle};
 ghost use Rattle.half_edge_links.specs.Taken.{RemovesTriangle, RemovesEnds, OpensOuter, ClosesLoopOuter, RemovesOuter, PeelsOuter, MovesTriangles, MovesEnds, MovesOuter};
@@ -28,7 +28,7 @@ impl Links {
         ensures outer { OpensOuter self.old.mesh self.new.mesh f }
         ensures spare { HasFaceRoom self.new.mesh self.new.room 1 }
         ensures room { self.new.room ≡ self.old.room }
-        ensures sound { IsSound self.old.mesh }
+        ensures sound { AreSoundLinks self.old.mesh }
     {
         let last = self.face_edges[self.face_edges.len() - 1];
         let edge = self.face_edges[f as usize - 1];
@@ -47,7 +47,7 @@ impl Links {
         ensures ends { ends self.new.mesh ≡ ends self.old.mesh }
         ensures outer { ClosesLoopOuter self.old.mesh self.new.mesh h }
         ensures room { self.new.room ≡ self.old.room }
-        ensures sound { IsSound self.old.mesh }
+        ensures sound { AreSoundLinks self.old.mesh }
     {
         let face = self.face_edges.len() as u32 + 1;
         set_loop_face(&mut self.half_edges, h, face);
@@ -63,7 +63,7 @@ impl Links {
         ensures ends { RemovesEnds self.old.mesh self.new.mesh e }
         ensures outer { RemovesOuter self.old.mesh self.new.mesh e }
         ensures room { self.new.room ≡ self.old.room }
-        ensures sound { IsSound self.old.mesh }
+        ensures sound { AreSoundLinks self.old.mesh }
         ensures outline { IsPendant self.old.mesh e → KeepsOneOutline self.old.mesh self.new.mesh }
     {
         let t = reversed(e);
@@ -89,7 +89,7 @@ impl Links {
     fn index_after_removal(&self, e: u32, h: u32) -> u32
         requires { e < length self.now.mesh.half_edges }
         ensures value { result ≡ after_removal self.now.mesh e h }
-        ensures sound { IsSound self.now.mesh }
+        ensures sound { AreSoundLinks self.now.mesh }
     {
         let last = (self.half_edges.len() - 2) as u32;
         pair_moved(last, e - e % 2, h)
@@ -104,7 +104,7 @@ impl Links {
         ensures ends { RemovesEnds self.old.mesh self.new.mesh h }
         ensures outer { PeelsOuter self.old.mesh self.new.mesh h }
         ensures room { self.new.room ≡ self.old.room }
-        ensures sound { IsSound self.old.mesh }
+        ensures sound { AreSoundLinks self.old.mesh }
         ensures spoke { result ≡ after_removal self.old.mesh h (rev (prev self.old.mesh h)) }
         ensures outline { KeepsOneOutline self.old.mesh self.new.mesh }
     {
@@ -123,7 +123,7 @@ impl Links {
         ensures ends { MovesEnds self.old.mesh self.new.mesh v }
         ensures outer { MovesOuter self.old.mesh self.new.mesh v }
         ensures room { self.new.room ≡ self.old.room }
-        ensures sound { IsSound self.old.mesh }
+        ensures sound { AreSoundLinks self.old.mesh }
         ensures outline { KeepsOneOutline self.old.mesh self.new.mesh }
     {
         let last = self.out_edges[self.out_edges.len() - 1];

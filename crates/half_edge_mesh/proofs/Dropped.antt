@@ -3,7 +3,7 @@ use Rattle.std.proofs.Common.{◌≡◌, ℕ, zero, suc, ◌-◌, ◌<◌, ◌�
 use Rattle.std.proofs.lemmas.Bool.{cases_eq}
 use Rattle.std.proofs.lemmas.Grind.{common_steps}
 use Rattle.std.proofs.lemmas.Option.{gets}
-use Rattle.half_edge_links.specs.Mesh.{Mesh, face, rev, IsSound}
+use Rattle.half_edge_links.specs.Mesh.{Mesh, face, rev, AreSoundLinks}
 use Rattle.half_edge_links.specs.Move.{MovesVertex}
 use Rattle.half_edge_links.specs.Renames.{moved}
 use Rattle.half_edge_links.specs.Flow.{outer_among, outline}
@@ -42,7 +42,7 @@ module _ (m new : Mesh) (v n : ℕ) (at : n ≡ length m.out_edges) where
 pub item_is : {X : Type 0} (xs : List X) (k : ℕ) (x : X) → k < length xs → x ≡ get_or xs k x → slice_get xs k ≡ Some x
 item_is xs k x within is = grind (arith, common_steps, gets)
 
-module _ (m new : Mesh) (v : ℕ) (s : IsSound m) (c : MovesVertex m new v) where
+module _ (m new : Mesh) (v : ℕ) (s : AreSoundLinks m) (c : MovesVertex m new v) where
   among_renumbered : (k : ℕ) → k ≤ length m.half_edges → outer_among new k ≡ map (renumbered_ends (length m.out_edges - 1) v) (outer_among m k)
   among_renumbered zero within = refl
   among_renumbered (suc k) within =

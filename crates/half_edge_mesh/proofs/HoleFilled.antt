@@ -8,12 +8,12 @@ use Rattle.std.proofs.lemmas.List.{get_or_default}
 use Rattle.std.proofs.lemmas.List.Elements.{All-cons, All-head, All-nil, All-tail, All-weaker, All-contains, Contains-append_left, Contains-append_right, Contains-get_or}
 use Rattle.std.proofs.lemmas.List.Sorted.{All-permutation, Contains-permutation, IsPermutation-sym, IsPermutation-trans, IsPermutation-cons, IsPermutation-append_left, IsPermutation-append_right, IsPermutation-filter_both, IsPermutation-middle}
 use Rattle.half_edge_links.specs.Flow.{total, along}
-use Rattle.half_edge_links.specs.Mesh.{Mesh, origin, next, prev, face_edge, out_edge, IsSound, IsAlone, IsInner}
+use Rattle.half_edge_links.specs.Mesh.{Mesh, origin, next, prev, face_edge, out_edge, AreSoundLinks, IsAlone, IsInner}
 use Rattle.half_edge_links.specs.Outline.{Ends, ends}
 use Rattle.half_edge_links.specs.Round.{neighbour}
 use Rattle.half_edge_links.specs.Triangles.{Triangle, triangle_at}
 use Rattle.half_edge_links.proofs.TakenLists.{ends_at, count_ends}
-use Rattle.half_edge_mesh.specs.Contents.{Contents, IsWhole}
+use Rattle.half_edge_mesh.specs.Contents.{Contents, IsMeshWithData}
 use Rattle.half_edge_mesh.specs.Growth.{joins}
 use Rattle.half_edge_mesh.specs.Removal.{FullEdge, FullFace, IsBetween, HasCorners, FillsHole, full_edges, full_faces, spokes_to, faces_between}
 use Rattle.half_edge_mesh.proofs.TakenEdges.{listed_face}
@@ -26,11 +26,11 @@ use Rattle.half_edge_mesh.proofs.TurnedEdge.{IsTurned, value_at}
 use Rattle.half_edge_mesh.proofs.Turning.{all_zip-push}
 
 -- ---- a vertex without edges
-module _ {V D U F : Type 0} (c : Contents V D U F) (v : ℕ) (whole : IsWhole c) (alone : IsAlone c.mesh v) where
+module _ {V D U F : Type 0} (c : Contents V D U F) (v : ℕ) (whole : IsMeshWithData c) (alone : IsAlone c.mesh v) where
   abbrev m : Mesh
   m = c.mesh
 
-  s : IsSound m
+  s : AreSoundLinks m
   s = whole.valid.sound
 
   starts_off : (h : ℕ) → h < length m.half_edges → origin m h ≢ v
@@ -102,7 +102,7 @@ module _ {D U : Type 0} (v : ℕ) (n : ℕ → ℕ) (turned : ℕ) (lost : List 
   in_order (a ∷ b ∷ c ∷ y ∷ ys) z = absurd z.1.1.1
 
 -- ---- all together
-module _ {V D U F : Type 0} (old c new : Contents V D U F) (o turned : ℕ) (whole_old : IsWhole old) (whole : IsWhole c) (whole_new : IsWhole new) (w : IsHub old.mesh o (suc (suc (suc turned)))) (tip : HasFreeTip (neighbour old.mesh o) (suc (suc (suc turned))))
+module _ {V D U F : Type 0} (old c new : Contents V D U F) (o turned : ℕ) (whole_old : IsMeshWithData old) (whole : IsMeshWithData c) (whole_new : IsMeshWithData new) (w : IsHub old.mesh o (suc (suc (suc turned)))) (tip : HasFreeTip (neighbour old.mesh o) (suc (suc (suc turned))))
     (f : IsTurned old c o (suc (suc (suc turned))) turned) (g : FillsHole c new (origin c.mesh o) (neighbour c.mesh o)) where
   abbrev v : ℕ
   v = origin old.mesh o
@@ -221,7 +221,7 @@ module _ {V D U F : Type 0} (old c new : Contents V D U F) (o turned : ℕ) (who
       }
 
 -- the same, for a count of edges
-pub hole_filled_by : {V D U F : Type 0} (old c new : Contents V D U F) (o k turned : ℕ) → turned + 3 ≡ k → IsWhole old → IsWhole c → IsWhole new → IsHub old.mesh o k → HasFreeTip (neighbour old.mesh o) k → IsTurned old c o k turned
+pub hole_filled_by : {V D U F : Type 0} (old c new : Contents V D U F) (o k turned : ℕ) → turned + 3 ≡ k → IsMeshWithData old → IsMeshWithData c → IsMeshWithData new → IsHub old.mesh o k → HasFreeTip (neighbour old.mesh o) k → IsTurned old c o k turned
     → FillsHole c new (origin c.mesh o) (neighbour c.mesh o) → FillsWithFan old new (origin old.mesh o) (neighbour old.mesh o) k
 hole_filled_by old c new o k turned is a b e w tip f g =
     let at : suc (suc (suc turned)) ≡ k = omega (arith, is) in

@@ -7,7 +7,7 @@ use Rattle.std.proofs.lemmas.Int.{ints}
 use Rattle.std.proofs.lemmas.List.Sorted.{IsPermutation-trans, IsPermutation-cons, IsPermutation-to_front}
 use Rattle.half_edge_links.specs.Flow.{total, around, both_ways}
 use Rattle.half_edge_links.specs.Hull.{KeepsOneOutline}
-use Rattle.half_edge_links.specs.Mesh.{Mesh, origin, next, prev, face, face_edge, rev, IsSound, IsAlone}
+use Rattle.half_edge_links.specs.Mesh.{Mesh, origin, next, prev, face, face_edge, rev, AreSoundLinks, IsAlone}
 use Rattle.half_edge_links.specs.Outline.{ends}
 use Rattle.half_edge_links.specs.Peel.{IsPeelable, IsWheel, Peels, turn}
 use Rattle.half_edge_links.specs.Remove.{ClosesLoop, IsOpenTriangle, IsRemovable, Opens, Removes, after_removal}
@@ -20,7 +20,7 @@ use Rattle.half_edge_links.proofs.OutlineFilled.{outline_filled}
 use Rattle.half_edge_links.proofs.Rev.{rev-rev}
 use Rattle.half_edge_links.proofs.WheelEnds.{IsHoleOfFour, IsHoleOfThree, hole_of_four, hole_of_three, closed_corners}
 use Rattle.half_edge_links.proofs.WheelLemmas as wheel
-use Rattle.half_edge_mesh.specs.Contents.{Contents, IsWhole}
+use Rattle.half_edge_mesh.specs.Contents.{Contents, IsMeshWithData}
 use Rattle.half_edge_mesh.specs.Growth.{joins}
 use Rattle.half_edge_mesh.specs.Removal.{FullFace, IsBetween, HasCorners, LosesEdges, LosesFaces, GivesFace, OuterChanges, FillsHole, full_edges, full_edges_of, full_faces, full_faces_of, spokes_to, faces_between}
 use Rattle.half_edge_mesh.proofs.LineSteps.{alone_after}
@@ -29,7 +29,7 @@ use Rattle.half_edge_mesh.proofs.StripSteps.{IsSameBut, same_but, same_but_edges
 use Rattle.half_edge_mesh.proofs.TakenEdges.{named_corners}
 
 -- the corners of a face at a vertex with three faces
-module _ (m : Mesh) (o : ℕ) (s : IsSound m) (w : IsFullWheel m o) where
+module _ (m : Mesh) (o : ℕ) (s : AreSoundLinks m) (w : IsFullWheel m o) where
   pub first_face : triangle_at m o ≡ record { first = origin m o; second = neighbour m o 0; third = neighbour m o 1 }
   first_face = λ i. record { first = origin m o; second = (s.edges o w.wheel.within).starts i; third = origin m (wheel.before_o m o s w i) }
 
@@ -41,18 +41,18 @@ module _ (m : Mesh) (o : ℕ) (s : IsSound m) (w : IsFullWheel m o) where
   }
 
 -- a face between two edges of a vertex
-pub fan_face : (m : Mesh) (a z v c0 c1 c2 : ℕ) → IsSound m → IsHoleOfFour m a z v c0 c1 c2 → (joins (origin m a) (origin m (rev a)) ≡ joins v c1) × (triangle_at m a ≡ record { first = v; second = c1; third = c2 })
+pub fan_face : (m : Mesh) (a z v c0 c1 c2 : ℕ) → AreSoundLinks m → IsHoleOfFour m a z v c0 c1 c2 → (joins (origin m a) (origin m (rev a)) ≡ joins v c1) × (triangle_at m a ≡ record { first = v; second = c1; third = c2 })
 fan_face m a z v c0 c1 c2 s h =
     let f = h.fan in
     let end : origin m (rev a) ≡ c1 = sym (s.edges a f.peelable.within).starts ∙ h.second in
     let last : origin m (prev m a) ≡ c2 = ap (origin m) (sym (rev-rev (prev m a)) ∙ ap rev f.spoke) ∙ sym (s.edges z f.within).starts ∙ h.third in
     (λ i. joins (h.start i) (end i), λ i. record { first = h.start i; second = h.second i; third = last i })
 
-pub last_spoke : (m : Mesh) (z v c0 c1 c2 : ℕ) → IsSound m → z < length m.half_edges → IsHoleOfThree m z v c0 c1 c2 → joins (origin m z) (origin m (rev z)) ≡ joins v c2
+pub last_spoke : (m : Mesh) (z v c0 c1 c2 : ℕ) → AreSoundLinks m → z < length m.half_edges → IsHoleOfThree m z v c0 c1 c2 → joins (origin m z) (origin m (rev z)) ≡ joins v c2
 last_spoke m z v c0 c1 c2 s within h = λ i. joins (h.start i) ((sym (s.edges z within).starts ∙ h.third) i)
 
 -- ---- the outer edges
-outer_filled : {V D U F : Type 0} (old new : Contents V D U F) (v : ℕ) (n : ℕ → ℕ) (lost : List (FullFace F)) (made : FullFace F) (rest : List (FullFace F)) → n 3 ≡ n 0 → IsWhole old → IsWhole new → LosesEdges old new (spokes_to v n 3)
+outer_filled : {V D U F : Type 0} (old new : Contents V D U F) (v : ℕ) (n : ℕ → ℕ) (lost : List (FullFace F)) (made : FullFace F) (rest : List (FullFace F)) → n 3 ≡ n 0 → IsMeshWithData old → IsMeshWithData new → LosesEdges old new (spokes_to v n 3)
     → AllZip HasCorners lost (faces_between v n 3) → HasCorners made (record { first = n 0; second = n 1; third = n 2 }) → IsPermutation (full_faces old) (lost ++ rest) → IsPermutation (full_faces new) (made ∷ rest) → OuterChanges old.mesh new.mesh [] []
 outer_filled {V} {D} {U} {F} old new v n lost made rest again a b edges lost_are made_is was is f =
     let g : FullFace F → ℤ = λ x. around f x.corners in
@@ -68,7 +68,7 @@ outer_filled {V} {D} {U} {F} old new v n lost made rest again a b edges lost_are
     omega (arith, ints, o, gone, come, wrap, back)
 
 -- ---- all steps
-pub fills_hole : {V D U F : Type 0} (c0 c1 c2 c3 c4 c5 : Contents V D U F) (o spoke z : ℕ) (made : FullFace F) → IsWhole c0 → IsWhole c2 → IsWhole c3 → IsWhole c5 → (w : IsFullWheel c0.mesh o)
+pub fills_hole : {V D U F : Type 0} (c0 c1 c2 c3 c4 c5 : Contents V D U F) (o spoke z : ℕ) (made : FullFace F) → IsMeshWithData c0 → IsMeshWithData c2 → IsMeshWithData c3 → IsMeshWithData c5 → (w : IsFullWheel c0.mesh o)
     → (h : IsHoleOfFour c2.mesh spoke z (origin c0.mesh o) (neighbour c0.mesh o 0) (neighbour c0.mesh o 1) (neighbour c0.mesh o 2))
     → IsSameBut c0 c5 → IsAlone c5.mesh (origin c0.mesh o)
     → full_edges c1 ≡ full_edges c0 → LosesEdges c1 c2 (joins (origin c0.mesh o) (origin c0.mesh (rev o)) ∷ []) → LosesEdges c2 c3 (joins (origin c2.mesh spoke) (origin c2.mesh (rev spoke)) ∷ []) → LosesEdges c3 c4 (joins (origin c0.mesh o) (neighbour c0.mesh o 2) ∷ []) → full_edges c5 ≡ full_edges c4
@@ -112,11 +112,11 @@ fills_hole {V} {D} {U} {F} c0 c1 c2 c3 c4 c5 o spoke z made whole0 whole2 whole3
     }
 
 -- ---- what the calls ensure, and what they ask for
-module _ {V D U F : Type 0} (c0 c1 c2 c3 : Contents V D U F) (o face_is spoke pendant : ℕ) (w0 : IsWhole c0) (round : IsWheel c0.mesh o) (is_third : face_is ≡ face c0.mesh (turn c0.mesh (turn c0.mesh o))) (opens : Opens c0.mesh c1.mesh face_is) where
+module _ {V D U F : Type 0} (c0 c1 c2 c3 : Contents V D U F) (o face_is spoke pendant : ℕ) (w0 : IsMeshWithData c0) (round : IsWheel c0.mesh o) (is_third : face_is ≡ face c0.mesh (turn c0.mesh (turn c0.mesh o))) (opens : Opens c0.mesh c1.mesh face_is) where
   abbrev m : Mesh
   m = c0.mesh
 
-  abbrev s : IsSound m
+  abbrev s : AreSoundLinks m
   s = w0.valid.sound
 
   abbrev w : IsFullWheel m o
@@ -131,21 +131,21 @@ module _ {V D U F : Type 0} (c0 c1 c2 c3 : Contents V D U F) (o face_is spoke pe
   pub first_peelable : IsPeelable c1.mesh o
   first_peelable = peelable c1.mesh o (wheel.peelable_first m o s w c1.mesh opened_third)
 
-  module _ (w1 : IsWhole c1) (one : Peels c1.mesh c2.mesh o) (spoke_is : spoke ≡ after_removal c1.mesh o (turn c1.mesh o)) where
+  module _ (w1 : IsMeshWithData c1) (one : Peels c1.mesh c2.mesh o) (spoke_is : spoke ≡ after_removal c1.mesh o (turn c1.mesh o)) where
     four : (z : ℕ) × IsHoleOfFour c2.mesh spoke z (origin m o) (neighbour m o 0) (neighbour m o 1) (neighbour m o 2)
     four = hole_of_four m c1.mesh c2.mesh o spoke s w opened_third one spoke_is
 
     pub second_peelable : IsPeelable c2.mesh spoke
     second_peelable = peelable c2.mesh spoke four.1.fan.peelable
 
-    module _ (w2 : IsWhole c2) (two : Peels c2.mesh c3.mesh spoke) (pendant_is : pendant ≡ after_removal c2.mesh spoke (turn c2.mesh spoke)) where
+    module _ (w2 : IsMeshWithData c2) (two : Peels c2.mesh c3.mesh spoke) (pendant_is : pendant ≡ after_removal c2.mesh spoke (turn c2.mesh spoke)) where
       three : IsHoleOfThree c3.mesh pendant (origin m o) (neighbour m o 0) (neighbour m o 1) (neighbour m o 2)
       three = hole_of_three c2.mesh c3.mesh spoke four.0 pendant _ _ _ _ w2.valid.sound four.1 two pendant_is
 
       pub pendant_within : pendant < length c3.mesh.half_edges
       pendant_within = three.fan.within
 
-      module _ (w3 : IsWhole c3) where
+      module _ (w3 : IsMeshWithData c3) where
         pub pendant_removable : IsRemovable c3.mesh pendant
         pendant_removable = removable c3.mesh pendant (removable_last c3.mesh pendant w3.valid.sound three.fan)
 
@@ -160,7 +160,7 @@ module _ {V D U F : Type 0} (c0 c1 c2 c3 : Contents V D U F) (o face_is spoke pe
               let n : length c4.faces ≡ length c3.faces = ap (λ (x : Contents V D U F). length x.faces) d in
               omega (arith, spare, r, n, w1.fits.faces_fit, w2.fits.faces_fit, w3.fits.faces_fit, peels_faces _ _ _ one, peels_faces _ _ _ two)
 
-          pub collapsed : (c5 : Contents V D U F) (value : F) → IsWhole c5 → c1 ≡ record c0 { mesh = c1.mesh; faces = c1.faces } → GivesFace c0 c1 (triangle_at m (face_edge m face_is)) value → ends c1.mesh ≡ ends m
+          pub collapsed : (c5 : Contents V D U F) (value : F) → IsMeshWithData c5 → c1 ≡ record c0 { mesh = c1.mesh; faces = c1.faces } → GivesFace c0 c1 (triangle_at m (face_edge m face_is)) value → ends c1.mesh ≡ ends m
               → IsSameBut c1 c2 → LosesEdges c1 c2 (joins (origin c1.mesh o) (origin c1.mesh (rev o)) ∷ []) → LosesFaces c1 c2 (triangle_at c1.mesh o ∷ [])
               → IsSameBut c2 c3 → LosesEdges c2 c3 (joins (origin c2.mesh spoke) (origin c2.mesh (rev spoke)) ∷ []) → LosesFaces c2 c3 (triangle_at c2.mesh spoke ∷ [])
               → c4 ≡ record c3 { mesh = c4.mesh; directed = c4.directed; undirected = c4.undirected } → LosesEdges c3 c4 (joins (origin c3.mesh pendant) (origin c3.mesh (rev pendant)) ∷ []) → triangles c4.mesh ≡ triangles c3.mesh

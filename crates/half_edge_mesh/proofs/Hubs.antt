@@ -7,7 +7,7 @@ use Rattle.std.proofs.lemmas.Bool.{cases_eq}
 use Rattle.std.proofs.lemmas.List.{length-map}
 use Rattle.half_edge_links.specs.declared.records.HalfEdge.{HalfEdge}
 use Rattle.half_edge_links.specs.Flip.{IsFlippable, Flips}
-use Rattle.half_edge_links.specs.Mesh.{Mesh, edge_at, origin, next, prev, face, face_edge, rev, IsSound, IsValid, IsInner}
+use Rattle.half_edge_links.specs.Mesh.{Mesh, edge_at, origin, next, prev, face, face_edge, rev, AreSoundLinks, IsValidMesh, IsInner}
 use Rattle.half_edge_links.specs.Peel.{turn, spoke}
 use Rattle.half_edge_links.specs.Round.{neighbour}
 use Rattle.half_edge_links.specs.Triangles.{Triangle, triangles, triangle_at}
@@ -16,7 +16,7 @@ use Rattle.half_edge_links.proofs.FlipSound.{origin_kept}
 use Rattle.half_edge_links.proofs.Rev.{rev-rev}
 use Rattle.half_edge_links.proofs.Triangles.{IsTriangle, triangle_at as loop_at}
 use Rattle.half_edge_links.proofs.Walks.{among_steps, to_steps, from_steps, steps_closed}
-use Rattle.half_edge_mesh.specs.Contents.{Contents, IsWhole}
+use Rattle.half_edge_mesh.specs.Contents.{Contents, IsMeshWithData}
 use Rattle.half_edge_mesh.specs.Removal.{FullFace, HasCorners, full_faces, full_faces_of, faces_between}
 use Rattle.half_edge_mesh.specs.Hole.{IsHub, HasFreeTip}
 use Rattle.half_edge_mesh.proofs.TakenEdges.{listed_face, named_corners}
@@ -25,7 +25,7 @@ use Rattle.half_edge_mesh.proofs.Filtered.{items_at, taken_all}
 use Rattle.half_edge_mesh.proofs.Touching.{has_corner, corner_there, corners_off, which_corner}
 
 -- the edge after one between two inner faces can be turned
-module _ (m : Mesh) (o : ℕ) (v : IsValid m) (within : o < length m.half_edges) (inner : 0 < face m o) where
+module _ (m : Mesh) (o : ℕ) (v : IsValidMesh m) (within : o < length m.half_edges) (inner : 0 < face m o) where
   pub turnable : 0 < face m (turn m o) → IsFlippable m (turn m o)
   turnable second = flippable m (turn m o) v (turn_in m v o within) second (rw (rev-rev (prev m o), (loop_at m o v.sound within inner).face_prev) inner)
 
@@ -35,8 +35,8 @@ module _ (m : Mesh) (o : ℕ) (v : IsValid m) (within : o < length m.half_edges)
       let across : origin m (prev m (rev (turn m o))) ≡ neighbour m o 0 = ap (λ h. origin m (prev m h)) (rev-rev (prev m o)) ∙ ap (origin m) (loop_at m o v.sound within inner).prev_prev ∙ (v.sound.edges o within).starts in
       differ (ap (origin m) (rev-rev (prev m (turn m o))) ∙ q ∙ across)
 
-module _ (m : Mesh) (o k : ℕ) (v : IsValid m) (w : IsHub m o (suc k)) (some : 0 < k) (tip : HasFreeTip (neighbour m o) (suc k)) where
-  s : IsSound m
+module _ (m : Mesh) (o k : ℕ) (v : IsValidMesh m) (w : IsHub m o (suc k)) (some : 0 < k) (tip : HasFreeTip (neighbour m o) (suc k)) where
+  s : AreSoundLinks m
   s = v.sound
 
   at : (i : ℕ) → (spoke m o i < length m.half_edges) × (origin m (spoke m o i) ≡ origin m o)
@@ -156,11 +156,11 @@ pub no_face-off : {F : Type 0} (v : ℕ) (value : F) → has_corner v (no_face_o
 unfolding no_face_of
 no_face-off v value = corners_off v (no_face_of v value) (λ q. absurd (omega (arith, q))) (λ q. absurd (omega (arith, q))) (λ q. absurd (omega (arith, q)))
 
-module _ {V D U F : Type 0} (c : Contents V D U F) (o j : ℕ) (whole : IsWhole c) (w : IsHub c.mesh o (suc j)) (some : 0 < j) (tip : HasFreeTip (neighbour c.mesh o) (suc j)) where
+module _ {V D U F : Type 0} (c : Contents V D U F) (o j : ℕ) (whole : IsMeshWithData c) (w : IsHub c.mesh o (suc j)) (some : 0 < j) (tip : HasFreeTip (neighbour c.mesh o) (suc j)) where
   abbrev m : Mesh
   m = c.mesh
 
-  abbrev val : IsValid m
+  abbrev val : IsValidMesh m
   val = whole.valid
 
   abbrev v : ℕ

@@ -5,7 +5,7 @@ use Rattle.std.proofs.lemmas.Bool.Decides.{nat_tests}
 use Rattle.std.proofs.lemmas.Int.{ints}
 use Rattle.std.specs.Prelude.{ℤ, pos, ◌+ℤ◌}
 use Rattle.half_edge_links.specs.Flow.{total, around, both_ways}
-use Rattle.half_edge_links.specs.Mesh.{Mesh, origin, next, prev, face, out_edge, rev, IsSound, IsValid}
+use Rattle.half_edge_links.specs.Mesh.{Mesh, origin, next, prev, face, out_edge, rev, AreSoundLinks, IsValidMesh}
 use Rattle.half_edge_links.specs.Outline.{Ends, ends, along, MovesEdge}
 use Rattle.half_edge_links.specs.Pass.{IsPassable, Passes}
 use Rattle.half_edge_links.specs.Peel.{turn}
@@ -16,7 +16,7 @@ use Rattle.half_edge_links.proofs.Parts.{rev_of_even, rev_of_odd}
 use Rattle.half_edge_links.proofs.Rev.{rev-rev, rev_within, rev_differs}
 use Rattle.half_edge_links.proofs.Passing.{IsBeside, beside}
 use Rattle.half_edge_links.proofs.TakenLists.{count_ends}
-use Rattle.half_edge_mesh.specs.Contents.{Contents, IsWhole}
+use Rattle.half_edge_mesh.specs.Contents.{Contents, IsMeshWithData}
 use Rattle.half_edge_mesh.specs.Growth.{joins}
 use Rattle.half_edge_mesh.specs.Removal.{TakesOut, FullEdge, full_edges, full_edges_of, IsBetween, JoinsNeighbours, OuterChanges, LosesEdges, LeavesLine}
 use Rattle.half_edge_mesh.proofs.TakenOut.{length-full_edges}
@@ -30,18 +30,18 @@ out_self : (e : ℕ) → out_after e e ≡ None
 out_self e = grind (arith, nat_tests)
 
 -- a vertex whose only edge goes has none
-pub alone_after : (m new : Mesh) (e : ℕ) → IsSound m → IsRemovable m e → next m (rev e) ≡ e → Removes m new e → (origin m e < length new.out_edges) × (out_edge new (origin m e) ≡ None)
+pub alone_after : (m new : Mesh) (e : ℕ) → AreSoundLinks m → IsRemovable m e → next m (rev e) ≡ e → Removes m new e → (origin m e < length new.out_edges) × (out_edge new (origin m e) ≡ None)
 alone_after m new e s can free r =
     let v_in : origin m e < length new.out_edges = omega (arith, (s.edges e can.within).origin_in, r.vertex_count) in
     let none : out_after e (next m (rev e)) ≡ None = ap (out_after e) free ∙ out_self e in
     (v_in, (r.renames.vertices (origin m e) v_in).out ∙ ap (renamed _) (r.unlinks.out ∙ none))
 
 -- the edge before the other side of an edge comes next to it
-pub after_turn : (m : Mesh) (h g : ℕ) → IsSound m → h < length m.half_edges → turn m h ≡ g → next m (rev g) ≡ h
+pub after_turn : (m : Mesh) (h g : ℕ) → AreSoundLinks m → h < length m.half_edges → turn m h ≡ g → next m (rev g) ≡ h
 after_turn m h g s within is = ap (next m) (ap rev (sym is) ∙ rev-rev (prev m h)) ∙ (s.edges h within).next_prev
 
 -- a vertex with two edges can be passed
-pub passable : (m : Mesh) (o : ℕ) → IsSound m → o < length m.half_edges → m.face_edges ≡ [] → turn m (turn m o) ≡ o → origin m (rev o) ≢ origin m (rev (turn m o)) → IsPassable m (rev o)
+pub passable : (m : Mesh) (o : ℕ) → AreSoundLinks m → o < length m.half_edges → m.face_edges ≡ [] → turn m (turn m o) ≡ o → origin m (rev o) ≢ origin m (rev (turn m o)) → IsPassable m (rev o)
 passable m o s within none two corners =
     let twin_in = rev_within o _ s.even within in
     let other_in = rev_within (prev m o) _ s.even (s.edges o within).prev_in in
@@ -55,11 +55,11 @@ passable m o s within none two corners =
     }
 
 -- no inner face
-no_inner : (m : Mesh) (h : ℕ) → IsSound m → m.face_edges ≡ [] → h < length m.half_edges → face m h ≡ 0
+no_inner : (m : Mesh) (h : ℕ) → AreSoundLinks m → m.face_edges ≡ [] → h < length m.half_edges → face m h ≡ 0
 no_inner m h s none within = omega (arith, (s.edges h within).face_in, ap length none)
 
 -- an end of a line
-pub removable_end : (m : Mesh) (o : ℕ) → IsValid m → o < length m.half_edges → m.face_edges ≡ [] → turn m o ≡ o → (next m o ≡ rev o → prev m o ≡ rev o → length m.half_edges ≡ 2) → IsRemovable m o
+pub removable_end : (m : Mesh) (o : ℕ) → IsValidMesh m → o < length m.half_edges → m.face_edges ≡ [] → turn m o ≡ o → (next m o ≡ rev o → prev m o ≡ rev o → length m.half_edges ≡ 2) → IsRemovable m o
 removable_end m o v within none one whole = record {
   within = within;
   outer = no_inner m o v.sound none within;
@@ -68,7 +68,7 @@ removable_end m o v within none one whole = record {
 }
 
 -- the edge that is left hanging after one passed its vertex
-module _ (m mid : Mesh) (e : ℕ) (s : IsSound m) (can : IsPassable m e) (i : Passes m mid e (rev (next m e)) (next m e)) where
+module _ (m mid : Mesh) (e : ℕ) (s : AreSoundLinks m) (can : IsPassable m e) (i : Passes m mid e (rev (next m e)) (next m e)) where
   t : IsBeside m e
   t = beside m e s can
 
@@ -98,7 +98,7 @@ module _ (m mid : Mesh) (e : ℕ) (s : IsSound m) (can : IsPassable m e) (i : Pa
           ]
 
 -- ---- the edges with their data
-module _ {V D U F : Type 0} (c0 c2 : Contents V D U F) (mid : Mesh) (e : ℕ) (whole : IsWhole c0) (can : IsPassable c0.mesh e)
+module _ {V D U F : Type 0} (c0 c2 : Contents V D U F) (mid : Mesh) (e : ℕ) (whole : IsMeshWithData c0) (can : IsPassable c0.mesh e)
     (moves : MovesEdge c0.mesh mid e (origin c0.mesh e) (origin c0.mesh (rev (next c0.mesh e)))) (taken : TakesOut (full_edges_of (ends mid) c0.undirected c0.directed) (full_edges c2) (next c0.mesh e / 2)) where
   abbrev m : Mesh
   m = c0.mesh
@@ -109,7 +109,7 @@ module _ {V D U F : Type 0} (c0 c2 : Contents V D U F) (mid : Mesh) (e : ℕ) (w
   abbrev ds : List D
   ds = c0.directed
 
-  abbrev s : IsSound m
+  abbrev s : AreSoundLinks m
   s = whole.valid.sound
 
   abbrev u : ℕ
@@ -185,7 +185,7 @@ module _ {V D U F : Type 0} (c0 c2 : Contents V D U F) (mid : Mesh) (e : ℕ) (w
 
 -- ---- the outer edges
 -- the only edge of a vertex goes
-pub outer_end : (m new : Mesh) (v u : ℕ) → IsValid m → IsValid new → triangles new ≡ triangles m
+pub outer_end : (m new : Mesh) (v u : ℕ) → IsValidMesh m → IsValidMesh new → triangles new ≡ triangles m
     → ((f : ℕ → ℕ → ℤ) → total (both_ways f) (ends m) ≡ total (both_ways f) (joins v u ∷ []) +ℤ total (both_ways f) (ends new))
     → OuterChanges m new (joins v u ∷ joins u v ∷ []) []
 outer_end m new v u valid valid' same sums f =
@@ -193,7 +193,7 @@ outer_end m new v u valid valid' same sums f =
     omega (arith, ints, a)
 
 -- two edges of a vertex give way to one
-pub outer_joined : {V D U F : Type 0} (old new : Contents V D U F) (v u w : ℕ) → IsWhole old → IsWhole new → triangles new.mesh ≡ triangles old.mesh → JoinsNeighbours old new v u w
+pub outer_joined : {V D U F : Type 0} (old new : Contents V D U F) (v u w : ℕ) → IsMeshWithData old → IsMeshWithData new → triangles new.mesh ≡ triangles old.mesh → JoinsNeighbours old new v u w
     → OuterChanges old.mesh new.mesh (joins v u ∷ joins u v ∷ joins v w ∷ joins w v ∷ []) (joins u w ∷ joins w u ∷ [])
 outer_joined {V} {D} {U} {F} old new v u w a b same j f =
     let g : FullEdge D U → ℤ = λ x. both_ways f (edge_ends x) in
@@ -208,11 +208,11 @@ outer_joined {V} {D} {U} {F} old new v u w a b same j f =
 
 -- ---- the steps
 module _ {V D U F : Type 0} where
-  pub no_inner_face : (c : Contents V D U F) → IsWhole c → length c.faces ≡ 0 → c.mesh.face_edges ≡ []
+  pub no_inner_face : (c : Contents V D U F) → IsMeshWithData c → length c.faces ≡ 0 → c.mesh.face_edges ≡ []
   no_inner_face c w none = empty_list c.mesh.face_edges (sym w.fits.faces_fit ∙ none)
 
   -- the only edge of a vertex goes
-  pub end_left : (old new : Contents V D U F) (out : ℕ) → IsWhole old → IsWhole new → turn old.mesh out ≡ out → (can : IsRemovable old.mesh out) → new ≡ record old { mesh = new.mesh; directed = new.directed; undirected = new.undirected } → Removes old.mesh new.mesh out
+  pub end_left : (old new : Contents V D U F) (out : ℕ) → IsMeshWithData old → IsMeshWithData new → turn old.mesh out ≡ out → (can : IsRemovable old.mesh out) → new ≡ record old { mesh = new.mesh; directed = new.directed; undirected = new.undirected } → Removes old.mesh new.mesh out
       → LosesEdges old new (joins (origin old.mesh out) (origin old.mesh (rev out)) ∷ []) → triangles new.mesh ≡ triangles old.mesh → LeavesLine old new (origin old.mesh out)
   end_left old new out a b one can contents r edges same =
       let m = old.mesh in
@@ -226,7 +226,7 @@ module _ {V D U F : Type 0} where
       }
 
   -- two edges of a vertex give way to one
-  pub middle_left : (c0 c1 c2 : Contents V D U F) (out lost : ℕ) → IsWhole c0 → IsWhole c1 → IsWhole c2 → (can : IsPassable c0.mesh (rev out)) → lost ≡ next c0.mesh (rev out) → c1 ≡ record c0 { mesh = c1.mesh }
+  pub middle_left : (c0 c1 c2 : Contents V D U F) (out lost : ℕ) → IsMeshWithData c0 → IsMeshWithData c1 → IsMeshWithData c2 → (can : IsPassable c0.mesh (rev out)) → lost ≡ next c0.mesh (rev out) → c1 ≡ record c0 { mesh = c1.mesh }
       → Passes c0.mesh c1.mesh (rev out) (rev (next c0.mesh (rev out))) (next c0.mesh (rev out)) → MovesEdge c0.mesh c1.mesh (rev out) (origin c0.mesh (rev out)) (origin c0.mesh (rev (next c0.mesh (rev out))))
       → c2 ≡ record c1 { mesh = c2.mesh; directed = c2.directed; undirected = c2.undirected } → Removes c1.mesh c2.mesh lost → TakesOut (full_edges c1) (full_edges c2) (lost / 2) → triangles c2.mesh ≡ triangles c1.mesh → LeavesLine c0 c2 (origin c0.mesh out)
   middle_left c0 c1 c2 out lost w0 w1 w2 can is passed links moves contents r taken same =

@@ -7,13 +7,13 @@ use Rattle.std.proofs.lemmas.Bool.{cases_eq}
 use Rattle.std.proofs.lemmas.Int.{ints}
 use Rattle.std.proofs.lemmas.List.{length-map, length-set, get_or-set_same, get_or-set_other}
 use Rattle.std.proofs.lemmas.List.Sorted.{IsPermutation-keeps}
-use Rattle.half_edge_links.specs.Mesh.{Mesh, IsValid}
+use Rattle.half_edge_links.specs.Mesh.{Mesh, IsValidMesh}
 use Rattle.half_edge_links.specs.Flow.{total, around, along, both_ways, outline}
 use Rattle.half_edge_links.specs.Outline.{Ends, ends}
 use Rattle.half_edge_links.specs.Triangles.{Triangle, triangles, triangle_at}
 use Rattle.half_edge_links.proofs.Flow.{sides_add_up}
 use Rattle.half_edge_links.proofs.TakenLists.{count_ends}
-use Rattle.half_edge_mesh.specs.Contents.{Contents, IsWhole}
+use Rattle.half_edge_mesh.specs.Contents.{Contents, IsMeshWithData}
 use Rattle.half_edge_mesh.specs.Removal.{FullEdge, full_edges, full_edges_of, FullFace, full_faces, full_faces_of, IsBetween, HasCorners, LosesEdges, LosesFaces}
 
 -- ---- totals
@@ -83,33 +83,33 @@ module _ (f : ℕ → ℕ → ℤ) where
   total_lost_faces (x ∷ xs) (t ∷ ts) z = λ i. any_corner x t z.0 i +ℤ total_lost_faces xs ts z.1 i
 
   -- so the outer edges make up for the difference
-  pub outer_sum : (m new : Mesh) → IsValid m → IsValid new → (gone_ends made_ends gone_faces made_faces : ℤ)
+  pub outer_sum : (m new : Mesh) → IsValidMesh m → IsValidMesh new → (gone_ends made_ends gone_faces made_faces : ℤ)
       → total (both_ways f) (ends new) +ℤ gone_ends ≡ total (both_ways f) (ends m) +ℤ made_ends
       → total (around f) (triangles new) +ℤ gone_faces ≡ total (around f) (triangles m) +ℤ made_faces
       → total (along f) (outline new) +ℤ (gone_ends +ℤ made_faces) ≡ total (along f) (outline m) +ℤ (made_ends +ℤ gone_faces)
   outer_sum m new v v' ge me gt mt a b = omega (arith, ints, sides_add_up m v f, sides_add_up new v' f, a, b)
 
 -- the counts of the data, for sums
-pub whole_ends : {V D U F : Type 0} (c : Contents V D U F) → IsWhole c → (length c.undirected ≡ length (ends c.mesh)) × (length c.directed ≡ 2 * length (ends c.mesh))
+pub whole_ends : {V D U F : Type 0} (c : Contents V D U F) → IsMeshWithData c → (length c.undirected ≡ length (ends c.mesh)) × (length c.directed ≡ 2 * length (ends c.mesh))
 whole_ends c w =
     let n = count_ends c.mesh w.valid.sound in
     (omega (arith, n, w.fits.undirected_fit), omega (arith, n, w.fits.directed_fit))
 
 module _ {V D U F : Type 0} (f : ℕ → ℕ → ℤ) where
-  pub total_edges : (c : Contents V D U F) → IsWhole c → total (λ (x : FullEdge D U). both_ways f (edge_ends x)) (full_edges c) ≡ total (both_ways f) (ends c.mesh)
+  pub total_edges : (c : Contents V D U F) → IsMeshWithData c → total (λ (x : FullEdge D U). both_ways f (edge_ends x)) (full_edges c) ≡ total (both_ways f) (ends c.mesh)
   total_edges c w = let fit = whole_ends c w in total_full_edges f (ends c.mesh) c.undirected c.directed fit.0 fit.1
 
-  pub total_faces : (c : Contents V D U F) → IsWhole c → total (λ (x : FullFace F). around f x.corners) (full_faces c) ≡ total (around f) (triangles c.mesh)
+  pub total_faces : (c : Contents V D U F) → IsMeshWithData c → total (λ (x : FullFace F). around f x.corners) (full_faces c) ≡ total (around f) (triangles c.mesh)
   total_faces c w = total_full_faces f (triangles c.mesh) c.faces (w.fits.faces_fit ∙ sym (length-map c.mesh.face_edges (triangle_at c.mesh)))
 
   -- edges that go
-  pub ends_sum : (old new : Contents V D U F) (gone : List Ends) → IsWhole old → IsWhole new → LosesEdges old new gone → total (both_ways f) (ends old.mesh) ≡ total (both_ways f) gone +ℤ total (both_ways f) (ends new.mesh)
+  pub ends_sum : (old new : Contents V D U F) (gone : List Ends) → IsMeshWithData old → IsMeshWithData new → LosesEdges old new gone → total (both_ways f) (ends old.mesh) ≡ total (both_ways f) gone +ℤ total (both_ways f) (ends new.mesh)
   ends_sum old new gone a b l =
       let g : FullEdge D U → ℤ = λ x. both_ways f (edge_ends x) in
       sym (total_edges old a) ∙ sym (total-permutation g _ _ l.2) ∙ total-append g l.0 _ ∙ (λ i. total_lost_edges f l.0 gone l.1 i +ℤ total_edges new b i)
 
   -- faces that go
-  pub corners_sum : (old new : Contents V D U F) (gone : List Triangle) → IsWhole old → IsWhole new → LosesFaces old new gone → total (around f) (triangles old.mesh) ≡ total (around f) gone +ℤ total (around f) (triangles new.mesh)
+  pub corners_sum : (old new : Contents V D U F) (gone : List Triangle) → IsMeshWithData old → IsMeshWithData new → LosesFaces old new gone → total (around f) (triangles old.mesh) ≡ total (around f) gone +ℤ total (around f) (triangles new.mesh)
   corners_sum old new gone a b l =
       let g : FullFace F → ℤ = λ x. around f x.corners in
       sym (total_faces old a) ∙ sym (total-permutation g _ _ l.2) ∙ total-append g l.0 _ ∙ (λ i. total_lost_faces f l.0 gone l.1 i +ℤ total_faces new b i)

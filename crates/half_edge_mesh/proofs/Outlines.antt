@@ -3,7 +3,7 @@ use Rattle.std.proofs.Common.{◌≡◌, ℕ, suc, ◌<◌, List, [], ◌∷◌,
 use Rattle.std.proofs.lemmas.Bool.{cases_lt}
 use Rattle.std.proofs.lemmas.Bool.Decides.{nat_tests}
 use Rattle.half_edge_links.specs.Flow.{outer_among}
-use Rattle.half_edge_links.specs.Mesh.{Mesh, origin, face, rev, IsSound, with_vertex}
+use Rattle.half_edge_links.specs.Mesh.{Mesh, origin, face, rev, AreSoundLinks, with_vertex}
 use Rattle.half_edge_links.specs.Outline.{IsOuterEdge, OuterChanges, KeepsOuter}
 
 outer_in : (m : Mesh) (h a b : ℕ) → IsOuterEdge m h a b → IsOuterEdge (with_vertex m) h a b
@@ -29,7 +29,7 @@ pub empty_list : {X : Type 0} (xs : List X) → length xs ≡ 0 → xs ≡ []
 empty_list [] none = refl
 empty_list (x ∷ xs) none = absurd (omega (arith, none))
 
-no_face : (m : Mesh) → IsSound m → length m.half_edges ≡ 0 → length m.face_edges ≡ 0
+no_face : (m : Mesh) → AreSoundLinks m → length m.half_edges ≡ 0 → length m.face_edges ≡ 0
 no_face m s none =
     elim (cases_lt 0 (length m.face_edges)) [
       | inl some ↦ absurd (omega (arith, none, (s.faces 1 (omega arith) (omega (arith, some))).0))
@@ -37,7 +37,7 @@ no_face m s none =
     ]
 
 -- without edges there is no inner face
-pub no_faces : (m : Mesh) → IsSound m → length m.half_edges ≡ 0 → m.face_edges ≡ []
+pub no_faces : (m : Mesh) → AreSoundLinks m → length m.half_edges ≡ 0 → m.face_edges ≡ []
 no_faces m s none = empty_list m.face_edges (no_face m s none)
 
 -- an outer edge comes first, and another edge is passed over

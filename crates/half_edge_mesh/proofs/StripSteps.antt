@@ -7,7 +7,7 @@ use Rattle.std.proofs.lemmas.Int.{ints}
 use Rattle.std.proofs.lemmas.List.Sorted.{IsPermutation-refl, IsPermutation-trans, IsPermutation-append_right, IsPermutation-middle}
 use Rattle.half_edge_links.specs.Hull.{KeepsOneOutline, IsPendant}
 use Rattle.half_edge_links.specs.Flow.{total, around, along, both_ways, outline}
-use Rattle.half_edge_links.specs.Mesh.{Mesh, origin, prev, face, rev, IsValid}
+use Rattle.half_edge_links.specs.Mesh.{Mesh, origin, prev, face, rev, IsValidMesh}
 use Rattle.half_edge_links.specs.Peel.{IsStrip, IsPeelable, Peels, turn}
 use Rattle.half_edge_links.specs.Remove.{Removes, IsRemovable, after_removal}
 use Rattle.half_edge_links.specs.Round.{neighbour}
@@ -15,7 +15,7 @@ use Rattle.half_edge_links.specs.Triangles.{triangles, triangle_at}
 use Rattle.half_edge_links.proofs.Conditions.{IsFullStrip, full_strip}
 use Rattle.half_edge_links.proofs.Rev.{rev-rev}
 use Rattle.half_edge_links.proofs.StripLemmas.{strip_from, strip_ends, one_more, removable_strip}
-use Rattle.half_edge_mesh.specs.Contents.{Contents, IsWhole}
+use Rattle.half_edge_mesh.specs.Contents.{Contents, IsMeshWithData}
 use Rattle.half_edge_mesh.specs.Growth.{joins}
 use Rattle.half_edge_mesh.specs.Removal.{IsBetween, HasCorners, LosesEdges, LosesFaces, LosesStrip, OuterChanges, full_edges, full_faces, full_faces_of, spokes_to, faces_between, chain}
 use Rattle.half_edge_mesh.proofs.LineSteps.{alone_after}
@@ -65,7 +65,7 @@ stripped_none c h count f = record {
   faces = none_gone HasCorners (full_faces c);
 }
 
-module _ {V D U F : Type 0} (old c new : Contents V D U F) (first count h g gone : ℕ) (valid : IsValid c.mesh) (f : IsStripped old first count c h gone) (some : 0 < face c.mesh h) (p : Peels c.mesh new.mesh h) (is : g ≡ after_removal c.mesh h (turn c.mesh h))
+module _ {V D U F : Type 0} (old c new : Contents V D U F) (first count h g gone : ℕ) (valid : IsValidMesh c.mesh) (f : IsStripped old first count c h gone) (some : 0 < face c.mesh h) (p : Peels c.mesh new.mesh h) (is : g ≡ after_removal c.mesh h (turn c.mesh h))
     (edges : LosesEdges c new (joins (origin c.mesh h) (origin c.mesh (rev h)) ∷ [])) (faces : LosesFaces c new (triangle_at c.mesh h ∷ [])) where
   abbrev m : Mesh
   m = c.mesh
@@ -107,7 +107,7 @@ module _ (f : ℕ → ℕ → ℤ) (v : ℕ) (n : ℕ → ℕ) where
   strip_sum zero = omega (arith, ints)
   strip_sum (suc k) = omega (arith, ints, strip_sum k)
 
-pub outer_stripped : {V D U F : Type 0} (old new : Contents V D U F) (v : ℕ) (n : ℕ → ℕ) (k : ℕ) → IsWhole old → IsWhole new → LosesEdges old new (spokes_to v n (suc k)) → LosesFaces old new (faces_between v n k) → OuterChanges old.mesh new.mesh (joins (n 0) v ∷ joins v (n k) ∷ []) (chain n k)
+pub outer_stripped : {V D U F : Type 0} (old new : Contents V D U F) (v : ℕ) (n : ℕ → ℕ) (k : ℕ) → IsMeshWithData old → IsMeshWithData new → LosesEdges old new (spokes_to v n (suc k)) → LosesFaces old new (faces_between v n k) → OuterChanges old.mesh new.mesh (joins (n 0) v ∷ joins v (n k) ∷ []) (chain n k)
 outer_stripped old new v n k a b edges faces f =
     let es = ends_sum f old new _ a b edges in
     let ts = corners_sum f old new _ a b faces in
@@ -130,7 +130,7 @@ module _ {V D U F : Type 0} (old c : Contents V D U F) (first count h gone : ℕ
   pub stripped_removable : gone ≡ count → IsRemovable c.mesh h
   stripped_removable is = removable_strip c.mesh h (all_gone is)
 
-  pub strip_lost : (new : Contents V D U F) → gone ≡ count → IsWhole old → IsWhole c → IsWhole new → IsSameBut old c → KeepsOneOutline old.mesh c.mesh
+  pub strip_lost : (new : Contents V D U F) → gone ≡ count → IsMeshWithData old → IsMeshWithData c → IsMeshWithData new → IsSameBut old c → KeepsOneOutline old.mesh c.mesh
       → new ≡ record c { mesh = new.mesh; directed = new.directed; undirected = new.undirected } → Removes c.mesh new.mesh h → LosesEdges c new (joins (origin c.mesh h) (origin c.mesh (rev h)) ∷ []) → triangles new.mesh ≡ triangles c.mesh
       → (IsPendant c.mesh h → KeepsOneOutline c.mesh new.mesh) → LosesStrip old new (origin old.mesh first) (neighbour old.mesh first) count
   strip_lost new is w wc wn same outline contents r edges triangles_are last_outline =

@@ -4,7 +4,7 @@ use Rattle.std.proofs.lemmas.Bool.{cases_eq}
 use Rattle.std.proofs.lemmas.List.{length-map, get_or-map}
 use Rattle.std.specs.List.{AllZip}
 use Rattle.std.specs.List.Sorted.{IsPermutation}
-use Rattle.half_edge_links.specs.Mesh.{Mesh, origin, next, prev, face, face_edge, rev, IsSound, IsInner}
+use Rattle.half_edge_links.specs.Mesh.{Mesh, origin, next, prev, face, face_edge, rev, AreSoundLinks, IsInner}
 use Rattle.half_edge_links.specs.Outline.{Ends, ends}
 use Rattle.half_edge_links.specs.Taken.{RemovesEnds, RemovesTriangle, no_ends, no_triangle}
 use Rattle.half_edge_links.specs.Triangles.{triangles, triangle_at}
@@ -15,7 +15,7 @@ use Rattle.half_edge_mesh.specs.Growth.{joins}
 use Rattle.half_edge_mesh.specs.Removal.{TakesOut, TakesOutPair, FullEdge, full_edges_of, FullFace, full_faces_of, IsBetween, HasCorners}
 use Rattle.half_edge_mesh.proofs.TakenOut.{takes_out, permuted, taken_item, full_edges_taken, get_or-full_edges, full_faces_taken, get_or-full_faces}
 
-module _ {D U : Type 0} (m new : Mesh) (us us' : List U) (ds ds' : List D) (e : ℕ) (s : IsSound m) (directed_fit : length ds ≡ length m.half_edges) (undirected_fit : 2 * length us ≡ length m.half_edges) (within : e < length m.half_edges) where
+module _ {D U : Type 0} (m new : Mesh) (us us' : List U) (ds ds' : List D) (e : ℕ) (s : AreSoundLinks m) (directed_fit : length ds ≡ length m.half_edges) (undirected_fit : 2 * length us ≡ length m.half_edges) (within : e < length m.half_edges) where
   abbrev k : ℕ
   k = e / 2
 
@@ -60,7 +60,7 @@ module _ {D U : Type 0} (m new : Mesh) (us us' : List U) (ds ds' : List D) (e : 
       (x.0 ∷ [], (between x.0 x.1, tt), x.2)
 
 -- the corners of a face, from the edge on that it names
-pub named_corners : {F : Type 0} (m : Mesh) (h : ℕ) (x : FullFace F) → IsSound m → h < length m.half_edges → 0 < face m h → x.corners ≡ triangle_at m (face_edge m (face m h)) → HasCorners x (triangle_at m h)
+pub named_corners : {F : Type 0} (m : Mesh) (h : ℕ) (x : FullFace F) → AreSoundLinks m → h < length m.half_edges → 0 < face m h → x.corners ≡ triangle_at m (face_edge m (face m h)) → HasCorners x (triangle_at m h)
 named_corners m h x s within inner is =
     let t : IsTriangle m h = loop_at m h s within inner in
     elim ((s.edges h within).owned inner) [
@@ -80,7 +80,7 @@ listed_face m fs f fits inner d =
     get_or-full_faces (triangles m) fs (f - 1) d.corners d.value (omega (arith, n, fits)) within d
     ∙ ap (λ t. record { corners = t; value = get_or fs (f - 1) d.value }) (get_or-map (triangle_at m) m.face_edges (f - 1) 0 d.corners (omega (arith, inner.0, inner.1)))
 
-module _ {F : Type 0} (m new : Mesh) (fs fs' : List F) (f : ℕ) (s : IsSound m) (fits : length fs ≡ length m.face_edges) (inner : IsInner m f) where
+module _ {F : Type 0} (m new : Mesh) (fs fs' : List F) (f : ℕ) (s : AreSoundLinks m) (fits : length fs ≡ length m.face_edges) (inner : IsInner m f) where
   face_taken : RemovesTriangle m new f → TakesOut fs fs' (f - 1) → TakesOut (full_faces_of (triangles m) fs) (full_faces_of (triangles new) fs') (f - 1)
   face_taken r tf =
       let n = length-map m.face_edges (triangle_at m) in
@@ -95,7 +95,7 @@ module _ {F : Type 0} (m new : Mesh) (fs fs' : List F) (f : ℕ) (s : IsSound m)
       permuted (full_faces_of (triangles m) fs) (full_faces_of (triangles new) fs') (f - 1) x (face_taken r tf) (ap (λ v. record { corners = triangle_at m (face_edge m f); value = v }) is ∙ sym (listed_face m fs f fits inner x))
 
 -- the face on the left of an edge goes
-pub loses_face_at : {F : Type 0} (m new : Mesh) (fs fs' : List F) (h : ℕ) (value : F) → IsSound m → length fs ≡ length m.face_edges → h < length m.half_edges → 0 < face m h → value ≡ get_or fs (face m h - 1) value → RemovesTriangle m new (face m h) → TakesOut fs fs' (face m h - 1)
+pub loses_face_at : {F : Type 0} (m new : Mesh) (fs fs' : List F) (h : ℕ) (value : F) → AreSoundLinks m → length fs ≡ length m.face_edges → h < length m.half_edges → 0 < face m h → value ≡ get_or fs (face m h - 1) value → RemovesTriangle m new (face m h) → TakesOut fs fs' (face m h - 1)
     → (lost : List (FullFace F)) × AllZip HasCorners lost (triangle_at m h ∷ []) × IsPermutation (full_faces_of (triangles m) fs) (lost ++ full_faces_of (triangles new) fs')
 loses_face_at {F} m new fs fs' h value s fits within inner is r tf =
     let at : IsInner m (face m h) = (inner, (s.edges h within).face_in) in

@@ -7,7 +7,7 @@ use Rattle.std.proofs.lemmas.List.{length-map, length-set, get_or-set_other}
 use Rattle.std.proofs.lemmas.List.Sorted.{IsPermutation-trans, IsPermutation-refl, IsPermutation-cons, IsPermutation-append_right, IsPermutation-middle}
 use Rattle.std.proofs.lemmas.List.Elements.{All-cons, All-nil, All-weaker, Contains-append_right, Contains-get_or}
 use Rattle.half_edge_links.specs.Flow.{outer_among, outline}
-use Rattle.half_edge_links.specs.Mesh.{Mesh, origin, next, prev, face, rev, IsSound, IsInner}
+use Rattle.half_edge_links.specs.Mesh.{Mesh, origin, next, prev, face, rev, AreSoundLinks, IsInner}
 use Rattle.half_edge_links.specs.Outline.{Ends, ends, along, KeepsOuter, MovesEdge}
 use Rattle.half_edge_links.specs.Peel.{turn, spoke, IsWheel}
 use Rattle.half_edge_links.specs.Round.{neighbour}
@@ -18,7 +18,7 @@ use Rattle.half_edge_links.proofs.TakenLists.{count_ends}
 use Rattle.half_edge_links.proofs.Triangles.{IsTriangle, triangle_at as loop_at}
 use Rattle.half_edge_links.specs.Flip.{Flips}
 use Rattle.half_edge_links.specs.Hull.{KeepsOneOutline}
-use Rattle.half_edge_mesh.specs.Contents.{Contents, IsWhole}
+use Rattle.half_edge_mesh.specs.Contents.{Contents, IsMeshWithData}
 use Rattle.half_edge_mesh.specs.Growth.{joins}
 use Rattle.half_edge_mesh.specs.Removal.{FullEdge, FullFace, IsBetween, HasCorners, full_edges, full_edges_of, full_faces, full_faces_of, spokes_to}
 use Rattle.half_edge_mesh.proofs.TakenEdges.{listed_face, between, named_corners}
@@ -34,7 +34,7 @@ other_way : {D U : Type 0} (e : FullEdge D U) (a b : ℕ) → IsBetween e (joins
 other_way e a b (inl q) = inr q
 other_way e a b (inr q) = inl q
 
-module _ {V D U F : Type 0} (c new : Contents V D U F) (o l v tip_end first_end next_end : ℕ) (whole : IsWhole c) (w : IsHub c.mesh o (suc l)) (some : 1 < l) (v_is : origin c.mesh o ≡ v)
+module _ {V D U F : Type 0} (c new : Contents V D U F) (o l v tip_end first_end next_end : ℕ) (whole : IsMeshWithData c) (w : IsHub c.mesh o (suc l)) (some : 1 < l) (v_is : origin c.mesh o ≡ v)
     (tip_is : neighbour c.mesh o 0 ≡ tip_end) (first_is : neighbour c.mesh o 1 ≡ first_end) (next_is : neighbour c.mesh o 2 ≡ next_end) (same : new ≡ record c { mesh = new.mesh }) where
   abbrev m : Mesh
   m = c.mesh
@@ -42,7 +42,7 @@ module _ {V D U F : Type 0} (c new : Contents V D U F) (o l v tip_end first_end 
   abbrev e : ℕ
   e = turn m o
 
-  s : IsSound m
+  s : AreSoundLinks m
   s = whole.valid.sound
 
   at : (i : ℕ) → (spoke m o i < length m.half_edges) × (origin m (spoke m o i) ≡ v)
@@ -302,7 +302,7 @@ turned_none c o k w = record {
 }
 
 -- the data of the faces are those of the list
-pub value_at : {V D U F : Type 0} (c : Contents V D U F) → IsWhole c → (i : ℕ) (d : FullFace F) → i < length (full_faces c) → (get_or (full_faces c) i d).value ≡ get_or c.faces i d.value
+pub value_at : {V D U F : Type 0} (c : Contents V D U F) → IsMeshWithData c → (i : ℕ) (d : FullFace F) → i < length (full_faces c) → (get_or (full_faces c) i d).value ≡ get_or c.faces i d.value
 value_at {V} {D} {U} {F} c whole i d within =
     let n = length-map c.mesh.face_edges (triangle_at c.mesh) in
     let long = count_faces c.mesh c.faces whole.fits.faces_fit in
@@ -315,7 +315,7 @@ moves_over xs ys zs ws x p q = IsPermutation-trans _ _ _ p (IsPermutation-trans 
 grows_by : {X : Type 0} (xs ys zs ws : List X) (x : X) → IsPermutation xs (x ∷ ys) → IsPermutation ys (zs ++ ws) → IsPermutation xs ((x ∷ zs) ++ ws)
 grows_by xs ys zs ws x p q = IsPermutation-trans _ _ _ p (IsPermutation-cons x _ _ q)
 
-module _ {V D U F : Type 0} (old c : Contents V D U F) (o k turned : ℕ) (whole_old : IsWhole old) (whole : IsWhole c) (tip : HasFreeTip (neighbour old.mesh o) k) (f : IsTurned old c o k turned) (more : turned + 3 < k) where
+module _ {V D U F : Type 0} (old c : Contents V D U F) (o k turned : ℕ) (whole_old : IsMeshWithData old) (whole : IsMeshWithData c) (tip : HasFreeTip (neighbour old.mesh o) k) (f : IsTurned old c o k turned) (more : turned + 3 < k) where
   abbrev v : ℕ
   v = origin old.mesh o
 

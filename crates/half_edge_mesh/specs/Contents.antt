@@ -1,6 +1,6 @@
 -- What a contract sees of a mesh with data.
 use Rattle.std.specs.Prelude.{◌≡◌, ℕ, ◌+◌, ◌*◌, ◌≤◌, List, [], ◌∷◌, length}
-use Rattle.half_edge_links.specs.Mesh.{Mesh, IsValid}
+use Rattle.half_edge_links.specs.Mesh.{Mesh, IsValidMesh}
 use Rattle.half_edge_links.specs.Room.{Room}
 use Rattle.half_edge_links.specs.Outline.{Ends, ends}
 
@@ -23,8 +23,8 @@ pub record FitsMesh (m : Mesh) (vertices directed undirected faces : ℕ) : Type
   pub faces_fit : faces ≡ length m.face_edges
 
 -- what always holds of a mesh with data
-pub record IsWhole {V D U F : Type 0} (c : Contents V D U F) : Type 0 where
-  pub valid : IsValid c.mesh
+pub record IsMeshWithData {V D U F : Type 0} (c : Contents V D U F) : Type 0 where
+  pub valid : IsValidMesh c.mesh
   pub fits : FitsMesh c.mesh (length c.vertices) (length c.directed) (length c.undirected) (length c.faces)
 
 -- so many more vertices, undirected edges and inner faces fit with no allocation

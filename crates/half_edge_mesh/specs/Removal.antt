@@ -9,7 +9,7 @@ use Rattle.half_edge_links.specs.Hull.{KeepsOneOutline}
 use Rattle.half_edge_links.specs.Peel.{turn, spoke, IsStrip}
 use Rattle.half_edge_links.specs.Renames.{moved}
 use Rattle.half_edge_links.specs.Triangles.{Triangle, triangles}
-use Rattle.half_edge_mesh.specs.Contents.{Contents, IsWhole}
+use Rattle.half_edge_mesh.specs.Contents.{Contents, IsMeshWithData}
 use Rattle.half_edge_mesh.specs.Growth.{joins}
 
 -- item k goes, and the last one takes its place
@@ -135,7 +135,7 @@ pub record LeavesLine {V D U F : Type 0} (old new : Contents V D U F) (v : ℕ) 
 pub record LeavesMesh {V D U F : Type 0} (old new : Contents V D U F) (v : ℕ) (value : V) : Type 0 where
   pub between : Contents V D U F
   pub leaves : LeavesLine old between v
-  pub whole : IsWhole between
+  pub whole : IsMeshWithData between
   pub drops : DropsVertex between new v value
 
 -- the edges from vertex v to the first k vertices n 0, n 1, .. round it, the last of them first

@@ -2,7 +2,7 @@
 ghost use Rattle.std.specs.Prelude.{◌≡◌, ◌<◌, ◌≤◌, ◌+◌, ◌*◌, ◌∷◌, [], length, Some, slice_get, slice_set};
 ghost use Rattle.half_edge_links.specs.Mesh.{empty, IsInner, edge_at, face_edge, out_edge};
 ghost use Rattle.half_edge_links.specs.declared.room.TheConstants.{MAX_ELEMENTS};
-ghost use Rattle.half_edge_mesh.specs.Contents.{IsWhole};
+ghost use Rattle.half_edge_mesh.specs.Contents.{IsMeshWithData};
 
 use half_edge_handles::{
     FixedDirectedEdgeHandle, FixedFaceHandle, FixedUndirectedEdgeHandle, FixedVertexHandle,
@@ -72,7 +72,7 @@ impl<V, DE, UE, F> Dcel<V, DE, UE, F> {
     pub fn num_vertices(&self) -> usize
         ensures value { result ≡ length self.now.vertices }
         ensures small { result ≤ MAX_ELEMENTS }
-        ensures whole { IsWhole self.now }
+        ensures whole { IsMeshWithData self.now }
     {
         self.links.vertex_count()
     }
@@ -80,7 +80,7 @@ impl<V, DE, UE, F> Dcel<V, DE, UE, F> {
     pub fn num_directed_edges(&self) -> usize
         ensures value { result ≡ length self.now.directed }
         ensures small { result ≤ MAX_ELEMENTS }
-        ensures whole { IsWhole self.now }
+        ensures whole { IsMeshWithData self.now }
     {
         self.links.half_edge_count()
     }
@@ -88,7 +88,7 @@ impl<V, DE, UE, F> Dcel<V, DE, UE, F> {
     pub fn num_undirected_edges(&self) -> usize
         ensures value { result ≡ length self.now.undirected }
         ensures small { 2 * result ≤ MAX_ELEMENTS }
-        ensures whole { IsWhole self.now }
+        ensures whole { IsMeshWithData self.now }
     {
         self.links.half_edge_count() / 2
     }
@@ -97,7 +97,7 @@ impl<V, DE, UE, F> Dcel<V, DE, UE, F> {
     pub fn num_inner_faces(&self) -> usize
         ensures value { result ≡ length self.now.faces }
         ensures small { result < MAX_ELEMENTS }
-        ensures whole { IsWhole self.now }
+        ensures whole { IsMeshWithData self.now }
     {
         self.links.inner_face_count()
     }
@@ -106,7 +106,7 @@ impl<V, DE, UE, F> Dcel<V, DE, UE, F> {
     pub fn num_faces(&self) -> usize
         ensures value { result ≡ length self.now.faces + 1 }
         ensures small { result ≤ MAX_ELEMENTS }
-        ensures whole { IsWhole self.now }
+        ensures whole { IsMeshWithData self.now }
     {
         self.links.inner_face_count() + 1
     }
@@ -160,7 +160,7 @@ impl<V, DE, UE, F> Dcel<V, DE, UE, F> {
     pub fn half_edge(&self, edge: u32) -> HalfEdge
         requires { edge < length self.now.directed }
         ensures value { result ≡ edge_at self.now.mesh.half_edges edge }
-        ensures whole { IsWhole self.now }
+        ensures whole { IsMeshWithData self.now }
     {
         self.links.half_edge(edge)
     }
@@ -170,7 +170,7 @@ impl<V, DE, UE, F> Dcel<V, DE, UE, F> {
         requires within { face ≤ length self.now.faces }
         requires inner { 0 < face }
         ensures value { result ≡ face_edge self.now.mesh face }
-        ensures whole { IsWhole self.now }
+        ensures whole { IsMeshWithData self.now }
     {
         self.links.face_edge(face)
     }
@@ -178,7 +178,7 @@ impl<V, DE, UE, F> Dcel<V, DE, UE, F> {
     /// An edge of the outer face, if there is an edge.
     pub fn outer_edge(&self) -> Option<u32>
         ensures value { result ≡ self.now.mesh.outer_edge }
-        ensures whole { IsWhole self.now }
+        ensures whole { IsMeshWithData self.now }
     {
         self.links.outer_edge()
     }
@@ -187,7 +187,7 @@ impl<V, DE, UE, F> Dcel<V, DE, UE, F> {
     pub fn out_edge(&self, vertex: u32) -> Option<u32>
         requires { vertex < length self.now.vertices }
         ensures value { result ≡ out_edge self.now.mesh vertex }
-        ensures whole { IsWhole self.now }
+        ensures whole { IsMeshWithData self.now }
     {
         self.links.out_edge(vertex)
     }

@@ -5,7 +5,7 @@ ghost use Rattle.half_edge_links.specs.Mesh.{origin, next, prev, rev, IsAlone};
 ghost use Rattle.half_edge_links.specs.Outline.{MovesEdge};
 ghost use Rattle.half_edge_links.specs.Pass.{IsPassable, Passes};
 ghost use Rattle.half_edge_links.specs.Peel.{turn};
-ghost use Rattle.half_edge_mesh.specs.Contents.{IsWhole};
+ghost use Rattle.half_edge_mesh.specs.Contents.{IsMeshWithData};
 ghost use Rattle.half_edge_mesh.specs.Removal.{DropsVertex, HasFewEdges, LeavesLine, LeavesMesh};
 
 use crate::dcel::Dcel;
@@ -31,7 +31,7 @@ impl<V, DE, UE, F> Dcel<V, DE, UE, F> {
         ensures links { let m = self.old.mesh in Passes m self.new.mesh edge (rev (next m edge)) (next m edge) }
         ensures ends { let m = self.old.mesh in MovesEdge m self.new.mesh edge (origin m edge) (origin m (rev (next m edge))) }
         ensures outline { KeepsOneOutline self.old.mesh self.new.mesh }
-        ensures whole { IsWhole self.old }
+        ensures whole { IsMeshWithData self.old }
     {
         let _whole = self.num_vertices();
         self.links.pass(edge);

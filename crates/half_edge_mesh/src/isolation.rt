@@ -7,7 +7,7 @@ ghost use Rattle.half_edge_links.specs.Outline.{KeepsOuter, MovesEdge};
 ghost use Rattle.half_edge_links.specs.Peel.{IsStrip, IsWheel, turn};
 ghost use Rattle.half_edge_links.specs.Round.{neighbour};
 ghost use Rattle.half_edge_links.specs.Triangles.{FlipsTriangles};
-ghost use Rattle.half_edge_mesh.specs.Contents.{IsWhole};
+ghost use Rattle.half_edge_mesh.specs.Contents.{IsMeshWithData};
 ghost use Rattle.half_edge_mesh.specs.Hole.{FillsWithFan, HasFreeTip, IsBorder, IsHub};
 ghost use Rattle.half_edge_mesh.specs.Removal.{AreOpposite, FillsHole, LosesStrip, first_spoke};
 
@@ -78,7 +78,7 @@ impl<V, DE, UE, F> Dcel<V, DE, UE, F> {
     fn third_face(&self, first: u32) -> u32
         requires { IsWheel self.now.mesh first }
         ensures value { let m = self.now.mesh in result ≡ face m (turn m (turn m first)) }
-        ensures whole { IsWhole self.now }
+        ensures whole { IsMeshWithData self.now }
     {
         let second = reversed(self.links.half_edge(first).prev);
         let third = reversed(self.links.half_edge(second).prev);
@@ -119,7 +119,7 @@ impl<V, DE, UE, F> Dcel<V, DE, UE, F> {
         ensures triangles { let m = self.old.mesh in FlipsTriangles m self.new.mesh (turn m first) }
         ensures outer { KeepsOuter self.old.mesh self.new.mesh }
         ensures outline { KeepsOneOutline self.old.mesh self.new.mesh }
-        ensures whole { IsWhole self.old }
+        ensures whole { IsMeshWithData self.old }
     {
         let _whole = self.num_vertices();
         let spoke = reversed(self.links.half_edge(first).prev);

@@ -6,7 +6,7 @@ ghost use Rattle.half_edge_links.specs.Outline.{ends};
 ghost use Rattle.half_edge_links.specs.Peel.{IsPeelable, Peels};
 ghost use Rattle.half_edge_links.specs.Remove.{Opens, Removes, IsRemovable, IsOpenTriangle, ClosesLoop, after_removal};
 ghost use Rattle.half_edge_links.specs.Triangles.{triangles, triangle_at};
-ghost use Rattle.half_edge_mesh.specs.Contents.{IsWhole};
+ghost use Rattle.half_edge_mesh.specs.Contents.{IsMeshWithData};
 ghost use Rattle.half_edge_mesh.specs.Growth.{joins};
 ghost use Rattle.half_edge_mesh.specs.Removal.{TakesOut, TakesOutPair, LosesEdges, LosesFaces, GivesFace, full_edges, full_faces};
 
@@ -36,7 +36,7 @@ impl<V, DE, UE, F> Dcel<V, DE, UE, F> {
         ensures edges { let m = self.old.mesh in LosesEdges self.old self.new (joins (origin m edge) (origin m (rev edge)) ∷ []) }
         ensures taken { TakesOut (full_edges self.old) (full_edges self.new) (edge / 2) }
         ensures triangles { triangles self.new.mesh ≡ triangles self.old.mesh }
-        ensures whole { IsWhole self.old }
+        ensures whole { IsMeshWithData self.old }
         ensures outline { IsPendant self.old.mesh edge → KeepsOneOutline self.old.mesh self.new.mesh }
     {
         let _whole = self.num_vertices();
@@ -54,7 +54,7 @@ impl<V, DE, UE, F> Dcel<V, DE, UE, F> {
         ensures faces { GivesFace self.old self.new (triangle_at self.old.mesh (face_edge self.old.mesh face)) result }
         ensures ends { ends self.new.mesh ≡ ends self.old.mesh }
         ensures spare { length self.new.faces + 1 ≤ self.new.room.faces }
-        ensures whole { IsWhole self.old }
+        ensures whole { IsMeshWithData self.old }
     {
         let _whole = self.num_vertices();
         self.links.open_face(face);
@@ -76,7 +76,7 @@ impl<V, DE, UE, F> Dcel<V, DE, UE, F> {
         ensures edges { let m = self.old.mesh in LosesEdges self.old self.new (joins (origin m edge) (origin m (rev edge)) ∷ []) }
         ensures faces { LosesFaces self.old self.new (triangle_at self.old.mesh edge ∷ []) }
         ensures spoke { result ≡ after_removal self.old.mesh edge (rev (prev self.old.mesh edge)) }
-        ensures whole { IsWhole self.old }
+        ensures whole { IsMeshWithData self.old }
         ensures outline { KeepsOneOutline self.old.mesh self.new.mesh }
     {
         let left = self.half_edge(edge).face as usize - 1;
@@ -105,7 +105,7 @@ impl<V, DE, UE, F> Dcel<V, DE, UE, F> {
     pub(crate) fn index_after_removal(&self, edge: u32) -> u32
         requires { edge < length self.now.mesh.half_edges }
         ensures value { let m = self.now.mesh in result ≡ after_removal m edge (next m edge) }
-        ensures whole { IsWhole self.now }
+        ensures whole { IsMeshWithData self.now }
     {
         let last = self.num_directed_edges() as u32 - 2;
         let hole = edge - edge % 2;

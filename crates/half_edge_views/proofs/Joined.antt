@@ -6,7 +6,7 @@ use Rattle.half_edge_links.specs.Mesh.{Mesh, edge_at, origin, rev, out_edge}
 use Rattle.half_edge_links.specs.Peel.{turn, spoke}
 use Rattle.half_edge_links.proofs.Conditions.{spoke_at}
 use Rattle.half_edge_links.proofs.OneOrbit.{edges_go_round}
-use Rattle.half_edge_mesh.specs.Contents.{Contents, IsWhole}
+use Rattle.half_edge_mesh.specs.Contents.{Contents, IsMeshWithData}
 use Rattle.half_edge_views.proofs.Loops.{round_fits}
 
 -- one turn further round the vertex
@@ -15,10 +15,10 @@ turned_spoke m first edge k r x is read reached =
     let more : suc k ≡ k + 1 = omega arith in
     is ∙ ap (λ (q : HalfEdge). rev q.prev) read ∙ ap (turn m) reached ∙ ap (spoke m first) more
 
-pub spoke-within : {V D U F : Type 0} (c : Contents V D U F) (first k : ℕ) → IsWhole c → first < length c.directed → spoke c.mesh first k < length c.directed
+pub spoke-within : {V D U F : Type 0} (c : Contents V D U F) (first k : ℕ) → IsMeshWithData c → first < length c.directed → spoke c.mesh first k < length c.directed
 spoke-within c first k w first_in = rw w.fits.directed_fit (spoke_at c.mesh first w.valid.sound (rw w.fits.directed_fit at first_in) k).0
 
-pub spoke-starts : {V D U F : Type 0} (c : Contents V D U F) (first k : ℕ) → IsWhole c → first < length c.directed → origin c.mesh (spoke c.mesh first k) ≡ origin c.mesh first
+pub spoke-starts : {V D U F : Type 0} (c : Contents V D U F) (first k : ℕ) → IsMeshWithData c → first < length c.directed → origin c.mesh (spoke c.mesh first k) ≡ origin c.mesh first
 spoke-starts c first k w first_in = (spoke_at c.mesh first w.valid.sound (rw w.fits.directed_fit at first_in) k).1
 
 -- one more edge does not end at the vertex
@@ -32,7 +32,7 @@ missed_more m first edge t to k x is read reached here before j less =
     ]
 
 -- no edge of the vertex was missed
-pub none_joined : {V D U F : Type 0} (c : Contents V D U F) (v first to : ℕ) → IsWhole c → out_edge c.mesh v ≡ Some first → ((j : ℕ) → j < length c.directed → origin c.mesh (rev (spoke c.mesh first j)) ≢ to) → (h : ℕ) → h < length c.directed → origin c.mesh h ≡ v → origin c.mesh (rev h) ≢ to
+pub none_joined : {V D U F : Type 0} (c : Contents V D U F) (v first to : ℕ) → IsMeshWithData c → out_edge c.mesh v ≡ Some first → ((j : ℕ) → j < length c.directed → origin c.mesh (rev (spoke c.mesh first j)) ≢ to) → (h : ℕ) → h < length c.directed → origin c.mesh h ≡ v → origin c.mesh (rev h) ≢ to
 none_joined c v first to w named missed h within starts ends =
     let r = edges_go_round c.mesh w.valid v first named in
     let few = round_fits c.mesh v first r.0 w.valid r.1 in

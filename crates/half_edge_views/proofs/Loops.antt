@@ -2,7 +2,7 @@
 use Rattle.std.proofs.Common.{◌≡◌, ◌≢◌, ◌⊎◌, ℕ, zero, suc, ◌+◌, ◌-◌, ◌<◌, ◌≤◌, length, Some, None, sym, ap, ◌∙◌, inl, inr, arith}
 use Rattle.std.specs.Borrow.{Bor}
 use Rattle.std.proofs.lemmas.Bool.{cases_eq, cases_lt}
-use Rattle.half_edge_links.specs.Mesh.{Mesh, IsSound, IsValid, next, prev, face, out_edge, iterate}
+use Rattle.half_edge_links.specs.Mesh.{Mesh, AreSoundLinks, IsValidMesh, next, prev, face, out_edge, iterate}
 use Rattle.half_edge_links.specs.Hull.{HasOneOutline, IsClosedAlong}
 use Rattle.half_edge_links.specs.Peel.{turn}
 use Rattle.half_edge_links.specs.Round.{IsRound}
@@ -10,13 +10,13 @@ use Rattle.half_edge_links.proofs.Walks.{among_steps, to_steps, from_steps, step
 use Rattle.half_edge_links.proofs.Orbits.{comes_back}
 use Rattle.half_edge_links.proofs.OneOrbit.{edges_go_round}
 use Rattle.half_edge_links.proofs.Conditions.{turn_in, turn_one}
-use Rattle.half_edge_mesh.specs.Contents.{Contents, IsWhole}
+use Rattle.half_edge_mesh.specs.Contents.{Contents, IsMeshWithData}
 use Rattle.half_edge_views.specs.Left.{each_in}
 use Rattle.half_edge_views.specs.Rounds.{walk, GivesRound, IsOuterLoop, GivesOuterLoop}
 use Rattle.half_edge_views.proofs.Walks.{walk-list}
 
 -- a round has no more edges than the mesh
-pub round_fits : (m : Mesh) (u first count : ℕ) → IsValid m → IsRound m u first count → count ≤ length m.half_edges
+pub round_fits : (m : Mesh) (u first count : ℕ) → IsValidMesh m → IsRound m u first count → count ≤ length m.half_edges
 round_fits m u first count v r =
     let k = comes_back (turn m) (length m.half_edges) (λ a a_in. turn_in m v a a_in) (turn_one m v.sound) first (r.within 0) in
     elim (cases_lt k.0 count) [
@@ -24,7 +24,7 @@ round_fits m u first count v r =
       | inr more ↦ omega (arith, more, k.2)
     ]
 
-pub gives_round : {V D U F : Type 0} (d : Bor (Contents V D U F)) (v first : ℕ) → IsWhole d.now → out_edge d.now.mesh v ≡ Some first → GivesRound d v (each_in d (walk (turn d.now.mesh) first (length d.now.directed) first))
+pub gives_round : {V D U F : Type 0} (d : Bor (Contents V D U F)) (v first : ℕ) → IsMeshWithData d.now → out_edge d.now.mesh v ≡ Some first → GivesRound d v (each_in d (walk (turn d.now.mesh) first (length d.now.directed) first))
 gives_round d v first w named = record {
   alone = λ none. let e : Some first ≡ None = sym named ∙ none in absurd (cc);
   round = λ other is.
@@ -55,7 +55,7 @@ module _ (m : Mesh) (first : ℕ) where
         ]
       ]
 
-  module _ (s : IsSound m) (first_in : first < length m.half_edges) (first_outer : face m first ≡ 0) where
+  module _ (s : AreSoundLinks m) (first_in : first < length m.half_edges) (first_outer : face m first ≡ 0) where
     along_in : (i : ℕ) → iterate (next m) i first < length m.half_edges
     along_in zero = first_in
     along_in (suc i) = (s.edges _ (along_in i)).next_in
@@ -102,7 +102,7 @@ module _ (m : Mesh) (first : ℕ) where
           )
         ]
 
-pub gives_loop : {V D U F : Type 0} (d : Bor (Contents V D U F)) (first : ℕ) → IsWhole d.now → d.now.mesh.outer_edge ≡ Some first → GivesOuterLoop d (each_in d (walk (next d.now.mesh) first (length d.now.directed) first))
+pub gives_loop : {V D U F : Type 0} (d : Bor (Contents V D U F)) (first : ℕ) → IsMeshWithData d.now → d.now.mesh.outer_edge ≡ Some first → GivesOuterLoop d (each_in d (walk (next d.now.mesh) first (length d.now.directed) first))
 gives_loop d first w named = record {
   empty = λ none. let e : Some first ≡ None = sym named ∙ none in absurd (cc);
   loop = λ other is.

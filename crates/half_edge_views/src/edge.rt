@@ -1,7 +1,7 @@
 //! Edges together with the mesh that they lie in.
 ghost use Rattle.std.specs.Prelude.{◌≡◌, ◌≢◌, ℕ, ◌+◌, ◌*◌, ◌/◌, ◌<◌, ◌≤◌, ◌∷◌, [], length, slice_get, Some, ⊤, All, map, IsNone, IsSome, IfSome, IsTrue, ◌↔◌};
 ghost use Rattle.half_edge_links.specs.Mesh.{origin, next, prev, face, rev, face_edge, out_edge};
-ghost use Rattle.half_edge_mesh.specs.Contents.{IsWhole};
+ghost use Rattle.half_edge_mesh.specs.Contents.{IsMeshWithData};
 
 use crate::face::FaceHandle;
 use crate::vertex::VertexHandle;
@@ -48,7 +48,7 @@ impl<'a, V, DE, UE, F> DirectedEdgeHandle<'a, V, DE, UE, F> {
     pub fn from(&self) -> VertexHandle<'a, V, DE, UE, F>
         ensures dcel { result.dcel ≡ self.now.dcel }
         ensures index { result.index ≡ origin self.now.dcel.now.mesh self.now.index }
-        ensures whole { IsWhole self.now.dcel.now }
+        ensures whole { IsMeshWithData self.now.dcel.now }
     {
         VertexHandle {
             dcel: self.dcel,
@@ -60,7 +60,7 @@ impl<'a, V, DE, UE, F> DirectedEdgeHandle<'a, V, DE, UE, F> {
     pub fn to(&self) -> VertexHandle<'a, V, DE, UE, F>
         ensures dcel { result.dcel ≡ self.now.dcel }
         ensures index { result.index ≡ origin self.now.dcel.now.mesh (rev self.now.index) }
-        ensures whole { IsWhole self.now.dcel.now }
+        ensures whole { IsMeshWithData self.now.dcel.now }
     {
         self.rev().from()
     }
@@ -77,7 +77,7 @@ impl<'a, V, DE, UE, F> DirectedEdgeHandle<'a, V, DE, UE, F> {
     pub fn next(&self) -> DirectedEdgeHandle<'a, V, DE, UE, F>
         ensures dcel { result.dcel ≡ self.now.dcel }
         ensures index { result.index ≡ next self.now.dcel.now.mesh self.now.index }
-        ensures whole { IsWhole self.now.dcel.now }
+        ensures whole { IsMeshWithData self.now.dcel.now }
     {
         DirectedEdgeHandle {
             dcel: self.dcel,
@@ -89,7 +89,7 @@ impl<'a, V, DE, UE, F> DirectedEdgeHandle<'a, V, DE, UE, F> {
     pub fn prev(&self) -> DirectedEdgeHandle<'a, V, DE, UE, F>
         ensures dcel { result.dcel ≡ self.now.dcel }
         ensures index { result.index ≡ prev self.now.dcel.now.mesh self.now.index }
-        ensures whole { IsWhole self.now.dcel.now }
+        ensures whole { IsMeshWithData self.now.dcel.now }
     {
         DirectedEdgeHandle {
             dcel: self.dcel,
@@ -101,7 +101,7 @@ impl<'a, V, DE, UE, F> DirectedEdgeHandle<'a, V, DE, UE, F> {
     pub fn rev(&self) -> DirectedEdgeHandle<'a, V, DE, UE, F>
         ensures dcel { result.dcel ≡ self.now.dcel }
         ensures index { result.index ≡ rev self.now.index }
-        ensures whole { IsWhole self.now.dcel.now }
+        ensures whole { IsMeshWithData self.now.dcel.now }
     {
         let _ = self.dcel.num_directed_edges();
         DirectedEdgeHandle {
@@ -114,7 +114,7 @@ impl<'a, V, DE, UE, F> DirectedEdgeHandle<'a, V, DE, UE, F> {
     pub fn ccw(&self) -> DirectedEdgeHandle<'a, V, DE, UE, F>
         ensures dcel { result.dcel ≡ self.now.dcel }
         ensures index { result.index ≡ rev (prev self.now.dcel.now.mesh self.now.index) }
-        ensures whole { IsWhole self.now.dcel.now }
+        ensures whole { IsMeshWithData self.now.dcel.now }
     {
         self.prev().rev()
     }
@@ -123,7 +123,7 @@ impl<'a, V, DE, UE, F> DirectedEdgeHandle<'a, V, DE, UE, F> {
     pub fn cw(&self) -> DirectedEdgeHandle<'a, V, DE, UE, F>
         ensures dcel { result.dcel ≡ self.now.dcel }
         ensures index { result.index ≡ next self.now.dcel.now.mesh (rev self.now.index) }
-        ensures whole { IsWhole self.now.dcel.now }
+        ensures whole { IsMeshWithData self.now.dcel.now }
     {
         self.rev().next()
     }
@@ -132,7 +132,7 @@ impl<'a, V, DE, UE, F> DirectedEdgeHandle<'a, V, DE, UE, F> {
     pub fn face(&self) -> FaceHandle<'a, V, DE, UE, F>
         ensures dcel { result.dcel ≡ self.now.dcel }
         ensures index { result.index ≡ face self.now.dcel.now.mesh self.now.index }
-        ensures whole { IsWhole self.now.dcel.now }
+        ensures whole { IsMeshWithData self.now.dcel.now }
     {
         FaceHandle {
             dcel: self.dcel,

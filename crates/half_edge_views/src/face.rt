@@ -2,7 +2,7 @@
 ghost use Rattle.std.specs.Prelude.{◌≡◌, ◌≢◌, ℕ, ◌+◌, ◌*◌, ◌/◌, ◌<◌, ◌≤◌, ◌∷◌, [], length, slice_get, Some, ⊤, All, map, IsNone, IsSome, IfSome, IsTrue, ◌↔◌};
 ghost use Rattle.half_edge_links.specs.Mesh.{origin, next, prev, face, rev, face_edge, out_edge};
 ghost use Rattle.half_edge_links.specs.Triangles.{triangle_at};
-ghost use Rattle.half_edge_mesh.specs.Contents.{IsWhole};
+ghost use Rattle.half_edge_mesh.specs.Contents.{IsMeshWithData};
 
 use crate::edge::DirectedEdgeHandle;
 use crate::vertex::VertexHandle;
@@ -55,7 +55,7 @@ impl<'a, V, DE, UE, F> FaceHandle<'a, V, DE, UE, F> {
         requires { 0 < self.now.index }
         ensures dcel { result.dcel ≡ self.now.dcel }
         ensures index { result.index ≡ face_edge self.now.dcel.now.mesh self.now.index }
-        ensures whole { IsWhole self.now.dcel.now }
+        ensures whole { IsMeshWithData self.now.dcel.now }
     {
         DirectedEdgeHandle {
             dcel: self.dcel,

@@ -2,7 +2,7 @@
 ghost use Rattle.std.specs.Prelude.{◌≡◌, ◌≢◌, ◌<◌, ℕ, length, IfNone, IfSome};
 ghost use Rattle.half_edge_links.specs.Mesh.{origin, rev};
 ghost use Rattle.half_edge_links.specs.Peel.{spoke};
-ghost use Rattle.half_edge_mesh.specs.Contents.{IsWhole};
+ghost use Rattle.half_edge_mesh.specs.Contents.{IsMeshWithData};
 
 use half_edge_links::reversed;
 use half_edge_mesh::Dcel;
@@ -14,7 +14,7 @@ pub(crate) fn edge_to<V, DE, UE, F>(mesh: &Dcel<V, DE, UE, F>, first: u32, to: u
     ensures starts { let m = mesh.now.mesh in IfSome result (λ h. origin m h ≡ origin m first) }
     ensures ends { let m = mesh.now.mesh in IfSome result (λ h. origin m (rev h) ≡ to) }
     ensures none { let m = mesh.now.mesh in IfNone result ((j : ℕ) → j < length mesh.now.directed → origin m (rev (spoke m first j)) ≢ to) }
-    ensures whole { IsWhole mesh.now }
+    ensures whole { IsMeshWithData mesh.now }
 {
     let mut edge = first;
     for _ in 0..mesh.num_directed_edges() {

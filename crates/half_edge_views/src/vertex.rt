@@ -1,7 +1,7 @@
 //! Vertices together with the mesh that they lie in.
 ghost use Rattle.std.specs.Prelude.{◌≡◌, ◌≢◌, ℕ, ◌+◌, ◌*◌, ◌/◌, ◌<◌, ◌≤◌, ◌∷◌, [], length, slice_get, Some, ⊤, All, map, IsNone, IsSome, IfSome, IsTrue, ◌↔◌};
 ghost use Rattle.half_edge_links.specs.Mesh.{origin, next, prev, face, rev, face_edge, out_edge};
-ghost use Rattle.half_edge_mesh.specs.Contents.{IsWhole};
+ghost use Rattle.half_edge_mesh.specs.Contents.{IsMeshWithData};
 
 use crate::edge::DirectedEdgeHandle;
 use crate::rounds::CircularIterator;
@@ -49,7 +49,7 @@ impl<'a, V, DE, UE, F> VertexHandle<'a, V, DE, UE, F> {
     pub fn out_edge(&self) -> Option<DirectedEdgeHandle<'a, V, DE, UE, F>>
         ensures none { IsNone result ↔ IsNone (out_edge self.now.dcel.now.mesh self.now.index) }
         ensures edge { IfSome result (λ e. (e.dcel ≡ self.now.dcel) × (out_edge self.now.dcel.now.mesh self.now.index ≡ Some e.index)) }
-        ensures whole { IsWhole self.now.dcel.now }
+        ensures whole { IsMeshWithData self.now.dcel.now }
     {
         let index = self.dcel.out_edge(self.index)?;
         Some(DirectedEdgeHandle {

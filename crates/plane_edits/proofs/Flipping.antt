@@ -260,8 +260,8 @@ module _ (points : List Point) (faces new : List Face) (outer : List (ℕ × ℕ
   diagonal_passes i j k l f g (inl e) = from_first i j k l f g e.0 e.1
   diagonal_passes i j k l f g (inr e) = let x = from_first j i l k g f e.1 e.0 in (x.1, x.0)
 
-  module _ (fixed before after : List (ℕ × ℕ)) (passing : AllPassBut points faces fixed before) (left : (i j : ℕ) → Joins before i j → IsSamePair i j a c ⊎ Joins after i j) (round : (i j : ℕ) → IsRoundSide a b c d i j → Joins fixed i j ⊎ Joins after i j) where
-    still_passing : AllPassBut points new fixed after
+  module _ (constraints before after : List (ℕ × ℕ)) (passing : AllPassBut points faces constraints before) (left : (i j : ℕ) → Joins before i j → IsSamePair i j a c ⊎ Joins after i j) (round : (i j : ℕ) → IsRoundSide a b c d i j → Joins constraints i j ⊎ Joins after i j) where
+    still_passing : AllPassBut points new constraints after
     still_passing i j k l f g free untested = go (face_from faces new gone made change i j k f) (face_from faces new gone made change j i l g)
       where
         of_made : IsMadeSide i j → Pass points i j k l
@@ -277,17 +277,17 @@ pub flip_lowers : FlipLowers
 flip_lowers points faces new outer a b c d m first second change failing = flip_lowered points faces new outer a b c d m first second change failing
 
 pub flip_leaves_sides : FlipLeavesSides
-flip_leaves_sides points faces new outer fixed before after a b c d m first second change failing passing left round = still_passing points faces new outer a b c d m first second change failing fixed before after passing left round
+flip_leaves_sides points faces new outer constraints before after a b c d m first second change failing passing left round = still_passing points faces new outer a b c d m first second change failing constraints before after passing left round
 
 pub passing_is_dropped : PassingIsDropped
-passing_is_dropped points faces fixed before after u v passing left own i j k l f g free untested = go (joins_or_not before i j)
+passing_is_dropped points faces constraints before after u v passing left own i j k l f g free untested = go (joins_or_not before i j)
   where
     of_own : IsSamePair i j u v → Pass points i j k l
     of_own (inl e) = subst (λ (x : ℕ × ℕ). Pass points x.0 x.1 k l) (λ o. (sym e.0 o, sym e.1 o)) (own k l (subst (λ (x : ℕ × ℕ). IsFaceOf faces x.0 x.1 k) (λ o. (e.0 o, e.1 o)) f) (subst (λ (x : ℕ × ℕ). IsFaceOf faces x.1 x.0 l) (λ o. (e.0 o, e.1 o)) g)
-        (λ h. free (subst (λ (x : ℕ × ℕ). Joins fixed x.0 x.1) (λ o. (sym e.0 o, sym e.1 o)) h)))
+        (λ h. free (subst (λ (x : ℕ × ℕ). Joins constraints x.0 x.1) (λ o. (sym e.0 o, sym e.1 o)) h)))
     of_own (inr e) =
         let x = own l k (subst (λ (x : ℕ × ℕ). IsFaceOf faces x.1 x.0 l) (λ o. (e.0 o, e.1 o)) g) (subst (λ (x : ℕ × ℕ). IsFaceOf faces x.0 x.1 k) (λ o. (e.0 o, e.1 o)) f)
-        (λ h. free (elim (subst (λ (x : ℕ × ℕ). Joins fixed x.1 x.0) (λ o. (sym e.0 o, sym e.1 o)) h) [ inl y ↦ inr y | inr y ↦ inl y ])) in
+        (λ h. free (elim (subst (λ (x : ℕ × ℕ). Joins constraints x.1 x.0) (λ o. (sym e.0 o, sym e.1 o)) h) [ inl y ↦ inr y | inr y ↦ inl y ])) in
         subst (λ (x : ℕ × ℕ). Pass points x.0 x.1 k l) (λ o. (sym e.0 o, sym e.1 o)) (x.1, x.0)
 
     go : Joins before i j ⊎ (¬ Joins before i j) → Pass points i j k l
@@ -295,7 +295,7 @@ passing_is_dropped points faces fixed before after u v passing left own i j k l 
     go (inr n) = passing i j k l f g free n
 
 pub change_leaves_sides : ChangeLeavesSides
-change_leaves_sides points faces new gone made fixed before after change passing left sides i j k l f g free untested = go (face_from faces new gone made change i j k f) (face_from faces new gone made change j i l g)
+change_leaves_sides points faces new gone made constraints before after change passing left sides i j k l f g free untested = go (face_from faces new gone made change i j k f) (face_from faces new gone made change j i l g)
   where
     tested : IsSideOfOne made i j → Pass points i j k l
     tested s = elim (sides i j s) [ inl x ↦ absurd (free x) | inr x ↦ absurd (untested x) ]
@@ -306,4 +306,4 @@ change_leaves_sides points faces new gone made fixed before after change passing
     go (inl x) (inl y) = passing i j k l x y free (λ h. untested (left i j h))
 
 pub none_left : NoneLeftIsLocallyDelaunay
-none_left points faces edges fixed passing i j k l f g free = passing i j k l f g free (λ h. elim h [ inl x ↦ Contains-none (i, j) x | inr x ↦ Contains-none (j, i) x ])
+none_left points faces edges constraints passing i j k l f g free = passing i j k l f g free (λ h. elim h [ inl x ↦ Contains-none (i, j) x | inr x ↦ Contains-none (j, i) x ])

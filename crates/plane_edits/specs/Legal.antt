@@ -12,9 +12,9 @@ use Rattle.plane_edits.specs.Change.{IsFaceOf}
 abbrev pub Pass : List Point → ℕ → ℕ → ℕ → ℕ → Type 0
 Pass points i j k l = (¬ InsideCircle (place points i) (place points j) (place points k) (place points l)) × (¬ InsideCircle (place points j) (place points i) (place points l) (place points k))
 
--- each edge between two faces passes, but perhaps fixed ones and those that are left to test
+-- each edge between two faces passes, but perhaps constraints and those that are left to test
 abbrev pub AllPassBut : List Point → List Face → List (ℕ × ℕ) → List (ℕ × ℕ) → Type 0
-AllPassBut points faces fixed left = (i j k l : ℕ) → IsFaceOf faces i j k → IsFaceOf faces j i l → ¬ Joins fixed i j → ¬ Joins left i j → Pass points i j k l
+AllPassBut points faces constraints left = (i j k l : ℕ) → IsFaceOf faces i j k → IsFaceOf faces j i l → ¬ Joins constraints i j → ¬ Joins left i j → Pass points i j k l
 
 -- i and j are next to one another round the quadrilateral a b c d
 abbrev pub IsRoundSide : ℕ → ℕ → ℕ → ℕ → ℕ → ℕ → Type 0

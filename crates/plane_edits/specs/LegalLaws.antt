@@ -26,23 +26,23 @@ FlipLowers = (points : List Point) (faces new : List Face) (outer : List (ℕ ×
 
 -- and leaves the four sides of the quadrilateral to test: the other edges and the new diagonal pass
 abbrev pub FlipLeavesSides : Type 0
-FlipLeavesSides = (points : List Point) (faces new : List Face) (outer fixed before after : List (ℕ × ℕ)) (a b c d : ℕ) → LocalMesh points faces outer → IsFaceOf faces a b c → IsFaceOf faces a c d
+FlipLeavesSides = (points : List Point) (faces new : List Face) (outer constraints before after : List (ℕ × ℕ)) (a b c d : ℕ) → LocalMesh points faces outer → IsFaceOf faces a b c → IsFaceOf faces a c d
     → FacesChange faces new (face a b c ∷ face a c d ∷ []) (face a b d ∷ face b c d ∷ []) → InsideCircle (place points a) (place points c) (place points d) (place points b)
-    → AllPassBut points faces fixed before → ((i j : ℕ) → Joins before i j → IsSamePair i j a c ⊎ Joins after i j) → ((i j : ℕ) → IsRoundSide a b c d i j → Joins fixed i j ⊎ Joins after i j) → AllPassBut points new fixed after
+    → AllPassBut points faces constraints before → ((i j : ℕ) → Joins before i j → IsSamePair i j a c ⊎ Joins after i j) → ((i j : ℕ) → IsRoundSide a b c d i j → Joins constraints i j ⊎ Joins after i j) → AllPassBut points new constraints after
 
--- an edge that is fixed, passes, or has the outer face beside it, is left no longer
+-- an edge that is a constraint, passes, or has the outer face beside it, is left no longer
 abbrev pub PassingIsDropped : Type 0
-PassingIsDropped = (points : List Point) (faces : List Face) (fixed before after : List (ℕ × ℕ)) (u v : ℕ) → AllPassBut points faces fixed before → ((i j : ℕ) → Joins before i j → IsSamePair i j u v ⊎ Joins after i j)
-    → ((k l : ℕ) → IsFaceOf faces u v k → IsFaceOf faces v u l → ¬ Joins fixed u v → Pass points u v k l) → AllPassBut points faces fixed after
+PassingIsDropped = (points : List Point) (faces : List Face) (constraints before after : List (ℕ × ℕ)) (u v : ℕ) → AllPassBut points faces constraints before → ((i j : ℕ) → Joins before i j → IsSamePair i j u v ⊎ Joins after i j)
+    → ((k l : ℕ) → IsFaceOf faces u v k → IsFaceOf faces v u l → ¬ Joins constraints u v → Pass points u v k l) → AllPassBut points faces constraints after
 
 -- any change of faces leaves the sides of the faces that were made
 abbrev pub ChangeLeavesSides : Type 0
-ChangeLeavesSides = (points : List Point) (faces new gone made : List Face) (fixed before after : List (ℕ × ℕ)) → FacesChange faces new gone made → AllPassBut points faces fixed before → ((i j : ℕ) → Joins before i j → Joins after i j)
-    → ((i j : ℕ) → IsSideOfOne made i j → Joins fixed i j ⊎ Joins after i j) → AllPassBut points new fixed after
+ChangeLeavesSides = (points : List Point) (faces new gone made : List Face) (constraints before after : List (ℕ × ℕ)) → FacesChange faces new gone made → AllPassBut points faces constraints before → ((i j : ℕ) → Joins before i j → Joins after i j)
+    → ((i j : ℕ) → IsSideOfOne made i j → Joins constraints i j ⊎ Joins after i j) → AllPassBut points new constraints after
 
--- where none is left, each edge that is not fixed passes
+-- where none is left, each edge that is no constraint passes
 abbrev pub NoneLeftIsLocallyDelaunay : Type 0
-NoneLeftIsLocallyDelaunay = (points : List Point) (faces : List Face) (edges fixed : List (ℕ × ℕ)) → AllPassBut points faces fixed [] → IsLocallyDelaunay (record { points = points; faces = faces; edges = edges }) fixed
+NoneLeftIsLocallyDelaunay = (points : List Point) (faces : List Face) (edges constraints : List (ℕ × ℕ)) → AllPassBut points faces constraints [] → IsLocallyDelaunay (record { points = points; faces = faces; edges = edges }) constraints
 
 -- ---- a bound on the flips of one legalising
 -- a pair that has been flipped away is no edge

@@ -83,7 +83,7 @@ pub fn change_leaves_sides()
     ensures { ChangeLeavesSides }
 {}
 
-/// A law: where no edge is left to test, each one that is not fixed passes.
+/// A law: where no edge is left to test, each one that is no constraint passes.
 pub fn none_left_is_locally_delaunay()
     ensures { NoneLeftIsLocallyDelaunay }
 {}

@@ -6,16 +6,16 @@ use Rattle.half_edge_links.proofs.Rev.{rev_within}
 use Rattle.plane.specs.Fraction.{Point}
 use Rattle.plane.specs.Pairs.{Joins}
 use Rattle.plane.specs.Plain.{IsPlain, Unconstrains}
-use Rattle.drawn_mesh.specs.Drawn.{edges_of}
+use Rattle.mesh_embedding.specs.Drawn.{edges_of}
 use Rattle.delaunay_legalization.specs.declared.cdt_edge.CdtEdge.{CdtEdge}
-use Rattle.delaunay_legalization.specs.Shape.{IsKept}
-use Rattle.delaunay_legalization.specs.State.{State, plain_of}
+use Rattle.delaunay_legalization.specs.Shape.{IsTriangulated}
+use Rattle.delaunay_legalization.specs.State.{State, points_and_constraints}
 use Rattle.delaunay_edit.specs.Data.{HasOtherEdgeData}
 use Rattle.delaunay_edit.proofs.Counts.{plain_if_kept}
 use Rattle.delaunay_edit.proofs.Edges.{joins_edge}
 use Rattle.spade_delaunay.specs.Constrained.{constrained, constraints_of}
 
-module _ {V D U F : Type 0} (place : V → Point) (s : State V D U F) (kept : IsKept place s) where
+module _ {V D U F : Type 0} (place : V → Point) (s : State V D U F) (kept : IsTriangulated place s) where
   start_in : (h : ℕ) → h < length s.mesh.half_edges → origin s.mesh h < length s.vertices
   start_in h w = let o = (kept.valid.sound.edges h w).origin_in in let f = kept.fits.vertices_fit in omega (arith, o, f)
 
@@ -34,7 +34,7 @@ module _ {V D U F : Type 0} (place : V → Point) (s : State V D U F) (kept : Is
   plain_with_edges cs edges = record { distinct = (plain_if_kept place s kept).distinct; pairs = λ i j h. edge_in i j (edges i j h) }
 
 -- the vertices stay, and no pair is left
-pub unconstrained : {V D U F : Type 0} (place : V → Point) {R : U → CdtEdge U → Type 0} (old : State V D U F) (new : State V D (CdtEdge U) F) → HasOtherEdgeData R old new → constraints_of new ≡ [] → Unconstrains place (plain_of old) (constrained new)
+pub unconstrained : {V D U F : Type 0} (place : V → Point) {R : U → CdtEdge U → Type 0} (old : State V D U F) (new : State V D (CdtEdge U) F) → HasOtherEdgeData R old new → constraints_of new ≡ [] → Unconstrains place (points_and_constraints old) (constrained new)
 unconstrained place old new other none = record { vertices = ap (λ s. s.vertices) other.rest; constraints = none }
 
 -- the data of each undirected edge are as S says where they are as R says

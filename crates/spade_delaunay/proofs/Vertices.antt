@@ -5,13 +5,13 @@ use Rattle.plane.specs.Fraction.{Point, whole}
 use Rattle.plane.specs.Location.{Location, on_vertex, no_triangulation, IsLocation}
 use Rattle.plane_tiling.specs.Laws.{IsSameLocation}
 use Rattle.plane_tiling.proofs.Locations.{each_point_has_one_location}
-use Rattle.drawn_mesh.specs.Drawn.{faces_of, edges_of, outer_of}
-use Rattle.drawn_mesh.proofs.OwnEdges.{own_edges}
+use Rattle.mesh_embedding.specs.Drawn.{faces_of, edges_of, outer_of}
+use Rattle.mesh_embedding.proofs.OwnEdges.{own_edges}
 use Rattle.delaunay_edit.specs.declared.position_in_triangulation.PositionInTriangulation.{PositionInTriangulation}
 use Rattle.delaunay_edit.specs.declared.position_in_triangulation.PositionInTriangulation.TheVariants.{OnVertex, OnEdge, OnFace, OutsideOfConvexHull, NoTriangulation}
 use Rattle.delaunay_legalization.specs.Known.{IsKnown, point_at}
 use Rattle.delaunay_edit.specs.Location.{location_of}
-use Rattle.delaunay_legalization.specs.Shape.{IsKept}
+use Rattle.delaunay_legalization.specs.Shape.{IsTriangulated}
 use Rattle.delaunay_legalization.specs.State.{State, triangulation_of}
 use Rattle.delaunay_edit.proofs.Locating.{at_vertex, same_point}
 
@@ -20,10 +20,10 @@ module _ {V D U F : Type 0} (at : V → Point) (s : State V D U F) (p : Point) w
   here_if_on_vertex v h = let below = h.0 in (omega (arith, below, length-map s.vertices at), same_point p (point_at (map at s.vertices) v) h.1)
 
 -- of what a type holds, seen from outside
-pub kept_outside : {V D U F : Type 0} (at : V → Point) (s t : State V D U F) → s ≡ t → IsKept at s → IsKept at t
-kept_outside at s t e kept = subst (IsKept at) e kept
+pub kept_outside : {V D U F : Type 0} (at : V → Point) (s t : State V D U F) → s ≡ t → IsTriangulated at s → IsTriangulated at t
+kept_outside at s t e kept = subst (IsTriangulated at) e kept
 
-module _ {V D U F : Type 0} (at : V → Point) (s : State V D U F) (kept : IsKept at s) (p : Point) where
+module _ {V D U F : Type 0} (at : V → Point) (s : State V D U F) (kept : IsTriangulated at s) (p : Point) where
   one_location : (l m : Location) → IsLocation (triangulation_of at s) (whole p) l → IsLocation (triangulation_of at s) (whole p) m → IsSameLocation l m
   one_location = (each_point_has_one_location (map at s.vertices) (faces_of s.mesh) (outer_of s.mesh) (edges_of s.mesh) kept.shape (own_edges s.mesh kept.valid) (whole p)).1
 

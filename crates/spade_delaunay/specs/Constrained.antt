@@ -3,7 +3,7 @@ use Rattle.std.specs.Prelude.{◌≡◌, ℕ, false, List}
 use Rattle.plane.specs.Plain.{Plain}
 use Rattle.delaunay_legalization.specs.declared.cdt_edge.CdtEdge.{CdtEdge}
 use Rattle.delaunay_legalization.specs.CdtEdge.{is_constraint}
-use Rattle.delaunay_legalization.specs.Fixed.{marked_edges, fixed_of, plain_with}
+use Rattle.delaunay_legalization.specs.Constraints.{marked_edges, constraints_by, points_and_constraints_by}
 use Rattle.delaunay_legalization.specs.State.{State}
 
 -- the undirected edges that are constraints, by the data of all of them
@@ -12,11 +12,11 @@ constraint_edges ds = marked_edges is_constraint ds
 
 -- the pairs of vertices that constraints join
 abbrev pub constraints_of : {V D U F : Type 0} → State V D (CdtEdge U) F → List (ℕ × ℕ)
-constraints_of s = fixed_of constraint_edges s
+constraints_of s = constraints_by constraint_edges s
 
 -- the vertices, with the constraints
 abbrev pub constrained : {V D U F : Type 0} → State V D (CdtEdge U) F → Plain V
-constrained s = plain_with constraint_edges s
+constrained s = points_and_constraints_by constraint_edges s
 
 -- an edge that is no constraint, with these data
 abbrev pub IsFree : {U : Type 0} → U → CdtEdge U → Type 0

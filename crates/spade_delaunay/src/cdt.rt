@@ -15,7 +15,7 @@ ghost use Rattle.delaunay_edit.specs.Elements.{GivesElements, HasElement};
 ghost use Rattle.delaunay_edit.specs.Hull.{HasHullSize};
 ghost use Rattle.delaunay_edit.specs.Location.{location_of};
 ghost use Rattle.delaunay_legalization.specs.Known.{IsKnown, point_at};
-ghost use Rattle.delaunay_legalization.specs.State.{state_of, plain_of, triangulation_of};
+ghost use Rattle.delaunay_legalization.specs.State.{state_of, points_and_constraints, triangulation_of};
 ghost use Rattle.spade_delaunay.specs.Constrained.{IsFree, constrained, constraint_edges, constraints_of};
 
 use crate::delaunay_triangulation::DelaunayTriangulation;
@@ -23,7 +23,7 @@ use delaunay_core::math::PlaneTests;
 use delaunay_core::point::{HasPosition, Point2};
 use delaunay_edit::{PositionInTriangulation, TriangulationCore};
 pub use delaunay_legalization::CdtEdge;
-use delaunay_legalization::ConstraintsFixed;
+use delaunay_legalization::EdgeConstraints;
 use half_edge_mesh::{
     FixedDirectedEdgeHandle, FixedFaceHandle, FixedUndirectedEdgeHandle, FixedVertexHandle,
     MAX_ELEMENTS,
@@ -38,7 +38,7 @@ use std::marker::Model;
 /// neighbours.
 #[derive(Drop)]
 pub struct ConstrainedDelaunayTriangulation<V: HasPosition, DE, UE, F> {
-    core: TriangulationCore<V, DE, CdtEdge<UE>, F, ConstraintsFixed>,
+    core: TriangulationCore<V, DE, CdtEdge<UE>, F, EdgeConstraints>,
 }
 
 impl<V: HasPosition, DE, UE, F> Model for ConstrainedDelaunayTriangulation<V, DE, UE, F> {
@@ -116,7 +116,7 @@ impl<V: HasPosition, DE, UE, F> ConstrainedDelaunayTriangulation<V, DE, UE, F> {
     pub fn num_constraints(&self) -> usize
         ensures value { result ≡ length (constraints_of self.now) }
     {
-        self.core.num_fixed_edges()
+        self.core.num_constraints()
     }
 
     /// Whether an edge is a constraint.
@@ -125,14 +125,14 @@ impl<V: HasPosition, DE, UE, F> ConstrainedDelaunayTriangulation<V, DE, UE, F> {
         ensures marked { IsTrue result ↔ Contains (constraint_edges self.now.undirected) edge }
         ensures joined { IsTrue result ↔ Joins (constraints_of self.now) (origin self.now.mesh (2 * edge)) (origin self.now.mesh (rev (2 * edge))) }
     {
-        self.core.is_fixed_edge(edge)
+        self.core.is_constraint_edge(edge)
     }
 
     /// Whether a constraint joins two vertices, in either order, by a look at all edges.
     pub fn exists_constraint(&self, from: FixedVertexHandle, to: FixedVertexHandle) -> bool
         ensures { IsTrue result ↔ Joins (constraints_of self.now) from to }
     {
-        self.core.joins_fixed(from, to)
+        self.core.exists_constraint(from, to)
     }
 
     /// How many directed edges have the outer face on their left. On one line each edge counts in both directions.
@@ -228,7 +228,7 @@ impl<V: HasPosition, DE, UE, F> ConstrainedDelaunayTriangulation<V, DE, UE, F> {
     where
         UE: Drop,
         ensures ok { IfOk result (HasOtherEdgeData IsFree plain) }
-        ensures plain { IfOk result (λ c. Unconstrains V.place (plain_of plain) (constrained c)) }
+        ensures plain { IfOk result (λ c. Unconstrains V.place (points_and_constraints plain) (constrained c)) }
         ensures err { IfErr result (λ d. d ≡ plain) }
     {
         match plain.core.map_undirected_edges(CdtEdge::new) {

@@ -18,12 +18,12 @@ ghost use Rattle.delaunay_edit.specs.Hull.{HasHullSize};
 ghost use Rattle.delaunay_edit.specs.Location.{location_of};
 ghost use Rattle.delaunay_edit.specs.Removal.{RemovesAt};
 ghost use Rattle.delaunay_removal.specs.Data.{KeepsDataOfOthers};
-ghost use Rattle.delaunay_legalization.specs.State.{state_of, plain_of, triangulation_of};
+ghost use Rattle.delaunay_legalization.specs.State.{state_of, points_and_constraints, triangulation_of};
 
 use delaunay_core::math::{InsertionError, PlaneTests};
 use delaunay_core::point::{HasPosition, Point2};
 use delaunay_edit::{PositionInTriangulation, TriangulationCore};
-use delaunay_legalization::NoneFixed;
+use delaunay_legalization::NoConstraints;
 use half_edge_mesh::{FixedDirectedEdgeHandle, FixedFaceHandle, FixedVertexHandle, MAX_ELEMENTS};
 use half_edge_views::{DirectedEdgeHandle, FaceHandle, FaceIterator, VertexHandle, VertexIterator};
 use std::alloc::{AllocError, Global};
@@ -34,7 +34,7 @@ use std::marker::Model;
 /// edges join the neighbours.
 #[derive(Drop)]
 pub struct DelaunayTriangulation<V: HasPosition, DE, UE, F> {
-    pub(crate) core: TriangulationCore<V, DE, UE, F, NoneFixed>,
+    pub(crate) core: TriangulationCore<V, DE, UE, F, NoConstraints>,
 }
 
 impl<V: HasPosition, DE, UE, F> Model for DelaunayTriangulation<V, DE, UE, F> {
@@ -68,7 +68,7 @@ impl<V: HasPosition, DE, UE, F> DelaunayTriangulation<V, DE, UE, F> {
         ensures value { result ≡ length self.now.vertices }
         ensures small { result ≤ MAX_ELEMENTS }
         ensures in_range { All InRange (map V.place self.now.vertices) }
-        ensures plain { IsPlain V.place (plain_of self.now) }
+        ensures plain { IsPlain V.place (points_and_constraints self.now) }
         ensures tiling { IsTiling (triangulation_of V.place self.now) }
         ensures delaunay { IsConstrainedDelaunay (triangulation_of V.place self.now) [] }
         ensures empty_triples { (i j k : ℕ) → IsStrictlyEmpty (triangulation_of V.place self.now) i j k → IsFace (triangulation_of V.place self.now) i j k }
@@ -229,7 +229,7 @@ impl<V: HasPosition + Drop, DE: Default, UE: Default, F: Default> DelaunayTriang
         ensures too_large { IsErrOf result TooLarge ↔ ¬ InRange (V.place value) }
         ensures known { InRange (V.place value) → IsKnown (map V.place self.old.vertices) (V.place value) → IsOk result }
         ensures full { IsErrOf result OutOfIndexes ↔ (InRange (V.place value) × (¬ IsKnown (map V.place self.old.vertices) (V.place value)) × (MAX_ELEMENTS < 6 * (length self.old.vertices + 1))) }
-        ensures ok { IfOk result (λ i. Inserts V.place (plain_of self.old) (plain_of self.new) value i) }
+        ensures ok { IfOk result (λ i. Inserts V.place (points_and_constraints self.old) (points_and_constraints self.new) value i) }
         ensures replaced { IsKnown (map V.place self.old.vertices) (V.place value) → IfOk result (λ i. self.new ≡ record self.old { vertices = slice_set self.old.vertices i value }) }
         ensures tiling { IsTiling (triangulation_of V.place self.new) }
         ensures delaunay { IsConstrainedDelaunay (triangulation_of V.place self.new) [] }
@@ -251,7 +251,7 @@ impl<V: HasPosition, DE, UE, F> DelaunayTriangulation<V, DE, UE, F> {
 
         ensures value { slice_get self.old.vertices vertex ≡ Some result }
         ensures new { self.new ≡ record self.old { vertices = slice_set self.old.vertices vertex value } }
-        ensures plain { Replaces V.place (plain_of self.old) (plain_of self.new) vertex value }
+        ensures plain { Replaces V.place (points_and_constraints self.old) (points_and_constraints self.new) vertex value }
         ensures tiling { IsTiling (triangulation_of V.place self.new) }
         ensures delaunay { IsConstrainedDelaunay (triangulation_of V.place self.new) [] }
         ensures empty_triples { (i j k : ℕ) → IsStrictlyEmpty (triangulation_of V.place self.new) i j k → IsFace (triangulation_of V.place self.new) i j k }
@@ -274,7 +274,7 @@ impl<V: HasPosition, DE: Drop, UE: Drop, F: Drop> DelaunayTriangulation<V, DE, U
         requires sites { All (P.sites tests.now) (map V.place self.old.vertices) }
 
         ensures value { IfOk result (λ v. slice_get self.old.vertices vertex ≡ Some v) }
-        ensures plain { OnOk result (Removes V.place (plain_of self.old) (plain_of self.new) vertex) }
+        ensures plain { OnOk result (Removes V.place (points_and_constraints self.old) (points_and_constraints self.new) vertex) }
         ensures tiling { IsTiling (triangulation_of V.place self.new) }
         ensures delaunay { IsConstrainedDelaunay (triangulation_of V.place self.new) [] }
         ensures empty_triples { (i j k : ℕ) → IsStrictlyEmpty (triangulation_of V.place self.new) i j k → IsFace (triangulation_of V.place self.new) i j k }
@@ -313,7 +313,7 @@ impl<V: HasPosition + Drop, DE: Drop, UE: Drop, F: Drop> DelaunayTriangulation<V
     /// for later insertions. It is never refused.
     pub fn clear(&mut self)
         ensures new { self.new ≡ record self.old { vertices = []; mesh = empty; directed = []; undirected = []; faces = [] } }
-        ensures plain { IsCleared V.place (plain_of self.new) }
+        ensures plain { IsCleared V.place (points_and_constraints self.new) }
         ensures tiling { IsTiling (triangulation_of V.place self.new) }
         ensures delaunay { IsConstrainedDelaunay (triangulation_of V.place self.new) [] }
         ensures empty_triples { (i j k : ℕ) → IsStrictlyEmpty (triangulation_of V.place self.new) i j k → IsFace (triangulation_of V.place self.new) i j k }

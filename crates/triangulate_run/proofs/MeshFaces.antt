@@ -14,7 +14,7 @@ use Rattle.half_edge_views.specs.Left.{each_in}
 use Rattle.triangulate_run.specs.declared.corners.Corners.{Corners}
 use Rattle.triangulate_run.specs.Corners.{least_first}
 use Rattle.triangulate_run.specs.MeshFaces.{row_of, row_at}
-use Rattle.drawn_mesh.specs.Drawn.{corners_of}
+use Rattle.mesh_embedding.specs.Drawn.{corners_of}
 
 -- the first item of what is left
 pub first_left : {C : Type 0} (m : Bor C) (rest : List ℕ) (x : Bor C × ℕ) (left : List (Bor C × ℕ)) → each_in m rest ≡ x ∷ left

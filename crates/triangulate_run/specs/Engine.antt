@@ -4,11 +4,11 @@ use Rattle.plane.specs.Fraction.{Point}
 use Rattle.delaunay_core.specs.declared.point.Point2.{Point2}
 use Rattle.triangulate_run.specs.declared.points.SheetPoint.{SheetPoint}
 use Rattle.triangulate_run.specs.Points.{place}
-use Rattle.delaunay_legalization.specs.State.{State, plain_of, triangulation_of}
+use Rattle.delaunay_legalization.specs.State.{State, points_and_constraints, triangulation_of}
 use Rattle.triangulate_run.specs.Stage.{Stage, position}
 
 abbrev pub stage_of : {D U F : Type 0} → State (Point2 ℤ) D U F → Stage
-stage_of s = record { plain = plain_of s; triangulation = triangulation_of position s }
+stage_of s = record { plain = points_and_constraints s; triangulation = triangulation_of position s }
 
 -- the list's points are covered, its sites are sites, and each vertex is a site
 pub record IsReady (covered sites : Point → Type 0) (points : List SheetPoint) (vertices : List (Point2 ℤ)) : Type 0 where

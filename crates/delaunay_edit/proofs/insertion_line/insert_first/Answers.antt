@@ -1,7 +1,7 @@
 use Rattle.std.proofs.Common.{◌≤◌, ◌∙◌, ◌+◌, ◌++◌, ◌∷◌, [], length, map, ap, sym, subst, arith}
 use Rattle.std.proofs.lemmas.List.{length-map}
 use Rattle.plane_tiling.specs.Local.{IsMesh}
-use Rattle.drawn_mesh.specs.Drawn.{faces_of, outer_of}
+use Rattle.mesh_embedding.specs.Drawn.{faces_of, outer_of}
 use Rattle.delaunay_edit.proofs.Growing.{grown, first_shape}
 use Rattle.delaunay_edit.proofs.DataGrowing.{grows_from_one}
 use Rattle.delaunay_edit.proofs.MadeFaces.{made_first}

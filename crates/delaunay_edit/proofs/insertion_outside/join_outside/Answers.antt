@@ -5,7 +5,7 @@ use Rattle.half_edge_mesh.proofs.Fits.{length-grown}
 use Rattle.delaunay_legalization.specs.State.{state_of}
 use Rattle.delaunay_edit.proofs.DataGrowing.{grows_by_face, grows_on}
 use Rattle.delaunay_edit.proofs.Joining.{IsJoining, IsJoiningBack, joining_begins, joining_ends, room_for_face, unseen_as, sites_grown, grown_count, has_vertex, ahead_apart, step_ahead, before_outer, before_apart, step_behind}
-use Rattle.drawn_mesh.specs.Drawn.{faces_of, outer_of}
+use Rattle.mesh_embedding.specs.Drawn.{faces_of, outer_of}
 use Rattle.delaunay_edit.proofs.MadeFaces.{made_outside}
 use Rattle.delaunay_edit.proofs.insertion_outside.join_outside.Goals as goal
 

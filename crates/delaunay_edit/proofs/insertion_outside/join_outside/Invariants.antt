@@ -1,5 +1,5 @@
 use Rattle.std.proofs.Common.{length, map}
-use Rattle.drawn_mesh.specs.Drawn.{outer_of}
+use Rattle.mesh_embedding.specs.Drawn.{outer_of}
 use Rattle.delaunay_edit.specs.Data.{GrowsAround}
 use Rattle.delaunay_legalization.specs.State.{state_of}
 use Rattle.delaunay_edit.proofs.Joining.{IsJoining, IsJoiningBack}

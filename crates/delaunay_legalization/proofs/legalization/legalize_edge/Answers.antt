@@ -1,7 +1,7 @@
 use Rattle.std.proofs.Common.{◌<◌, ℕ, length, map, subst, sym, ap}
-use Rattle.drawn_mesh.specs.Legal.{IsFailing, GainsRound}
-use Rattle.drawn_mesh.proofs.MeshLegal.{dropped, joins_edge}
-use Rattle.drawn_mesh.proofs.WorkLists.{contains_last}
+use Rattle.mesh_embedding.specs.Legal.{IsFailing, GainsRound}
+use Rattle.mesh_embedding.proofs.MeshLegal.{dropped, joins_edge}
+use Rattle.mesh_embedding.proofs.WorkLists.{contains_last}
 use Rattle.delaunay_legalization.proofs.Questions.{both_ways}
 use Rattle.delaunay_legalization.proofs.Legalizing.{edges_before, last_within, last_edge_within, turned_by, fixed_stay, fewer_by}
 use Rattle.delaunay_legalization.proofs.legalization.legalize_edge.Goals as goal
@@ -22,12 +22,12 @@ returns-then-is_failing-clause-legal g c was start p =
     (subst (λ (e : ℕ). IsFailing (map g.V.HasPosition.place c.args.dcel.now.vertices) c.args.dcel.now.mesh e) c.as_directed.ensures (c.is_failing.ensures.0 c.if-is_failing.true))
     (subst (λ (e : ℕ). GainsRound c.args.dcel.now.mesh e c.args.work.now.items c.push_sides.new.work.items) c.as_directed-then-is_failing.ensures c.push_sides.ensures.gains) c.push_sides.ensures.edges p
 
-pub returns-then-is_failing-clause-fixed : goal.returns-then-is_failing-clause-fixed
-returns-then-is_failing-clause-fixed g c =
-    fixed_stay g.M.EdgeMarks.fixed (map g.V.HasPosition.place c.args.dcel.now.vertices) c.args.dcel.now.mesh c.flip.new.dcel.mesh c.args.dcel.now.undirected c.flip.new.dcel.undirected c.args.edge c.num_directed_edges.ensures.whole.valid c.requires.shape
+pub returns-then-is_failing-clause-constraints : goal.returns-then-is_failing-clause-constraints
+returns-then-is_failing-clause-constraints g c =
+    fixed_stay g.M.ConstraintMarker.constraints (map g.V.HasPosition.place c.args.dcel.now.vertices) c.args.dcel.now.mesh c.flip.new.dcel.mesh c.args.dcel.now.undirected c.flip.new.dcel.undirected c.args.edge c.num_directed_edges.ensures.whole.valid c.requires.shape
     (c.requires.edges.within c.args.edge (contains_last c.args.work.now.items c.args.edge))
     (subst (λ (e : ℕ). IsFailing (map g.V.HasPosition.place c.args.dcel.now.vertices) c.args.dcel.now.mesh e) c.as_directed.ensures (c.is_failing.ensures.0 c.if-is_failing.true))
-    c.flip.ensures.mesh (ap (λ d. d.undirected) c.flip.ensures.contents) (λ h. both_ways _ (c.is_fixed.ensures.1 h) c.if-is_fixed.false)
+    c.flip.ensures.mesh (ap (λ d. d.undirected) c.flip.ensures.contents) (λ h. both_ways _ (c.is_constraint_edge.ensures.1 h) c.if-is_constraint_edge.false)
 
 pub returns-then-is_failing-clause-fewer : goal.returns-then-is_failing-clause-fewer
 returns-then-is_failing-clause-fewer g c =
@@ -39,12 +39,12 @@ returns-else-is_failing-clause-legal g c was start p =
     dropped (map g.V.HasPosition.place c.args.dcel.now.vertices) _ was c.args.dcel.now.mesh c.args.work.now.items c.args.edge start c.args.flips.now c.num_directed_edges.ensures.whole.valid p
     (λ free x. both_ways _ (c.is_failing.ensures.1 (subst (λ (e : ℕ). IsFailing (map g.V.HasPosition.place c.args.dcel.now.vertices) c.args.dcel.now.mesh e) (sym c.as_directed.ensures) x)) c.if-is_failing.false)
 
-pub is_fixed-requires : goal.is_fixed-requires
-is_fixed-requires g c =
+pub is_constraint_edge-requires : goal.is_constraint_edge-requires
+is_constraint_edge-requires g c =
     let w = c.num_directed_edges.ensures.whole in
     last_edge_within c.args.dcel.now.mesh c.args.work.now.items c.args.edge (length c.args.dcel.now.undirected) w.fits.undirected_fit c.requires.edges
 
-pub returns-then-is_fixed-clause-legal : goal.returns-then-is_fixed-clause-legal
-returns-then-is_fixed-clause-legal g c was start p =
+pub returns-then-is_constraint_edge-clause-legal : goal.returns-then-is_constraint_edge-clause-legal
+returns-then-is_constraint_edge-clause-legal g c was start p =
     dropped (map g.V.HasPosition.place c.args.dcel.now.vertices) _ was c.args.dcel.now.mesh c.args.work.now.items c.args.edge start c.args.flips.now c.num_directed_edges.ensures.whole.valid p
-    (λ free. absurd (free (joins_edge c.args.dcel.now.mesh (g.M.EdgeMarks.fixed c.args.dcel.now.undirected) c.args.edge (c.is_fixed.ensures.0 c.if-is_fixed.true))))
+    (λ free. absurd (free (joins_edge c.args.dcel.now.mesh (g.M.ConstraintMarker.constraints c.args.dcel.now.undirected) c.args.edge (c.is_constraint_edge.ensures.0 c.if-is_constraint_edge.true))))

@@ -1,5 +1,5 @@
 use Rattle.std.proofs.Common.{map}
-use Rattle.delaunay_legalization.specs.Fixed.{fixed_pairs}
+use Rattle.delaunay_legalization.specs.Constraints.{constraint_pairs}
 use Rattle.delaunay_legalization.proofs.Stars.{star_is_left}
 use Rattle.delaunay_legalization.proofs.WorkList.{legalized}
 use Rattle.delaunay_legalization.proofs.star.legalize_star.Goals as goal
@@ -7,8 +7,8 @@ use Rattle.delaunay_legalization.proofs.star.legalize_star.Goals as goal
 pub legalize-requires-clause-passing : goal.legalize-requires-clause-passing
 legalize-requires-clause-passing g c =
     let m = c.args.dcel.now.mesh in
-    star_is_left m c.requires.kept.valid.sound c.args.vertex c.push_star.new.work.items c.push_star.ensures.star (map g.V.HasPosition.place c.args.dcel.now.vertices) (fixed_pairs g.M.EdgeMarks.fixed m c.args.dcel.now.undirected) c.requires.passing
+    star_is_left m c.requires.kept.valid.sound c.args.vertex c.push_star.new.work.items c.push_star.ensures.star (map g.V.HasPosition.place c.args.dcel.now.vertices) (constraint_pairs g.M.ConstraintMarker.constraints m c.args.dcel.now.undirected) c.requires.passing
 
 pub returns-clause-legal : goal.returns-clause-legal
 returns-clause-legal g c =
-    legalized g.V.HasPosition.place g.M.EdgeMarks.fixed c.args.dcel.now c.legalize.new.dcel c.requires.kept c.legalize.ensures.contents c.num_vertices.ensures.whole c.legalize.ensures.shape c.legalize.ensures.fixed c.legalize.ensures.locally_delaunay
+    legalized g.V.HasPosition.place g.M.ConstraintMarker.constraints c.args.dcel.now c.legalize.new.dcel c.requires.kept c.legalize.ensures.contents c.num_vertices.ensures.whole c.legalize.ensures.shape c.legalize.ensures.constraints c.legalize.ensures.locally_delaunay

@@ -1,7 +1,7 @@
 use Rattle.std.proofs.Common.{◌<◌, ℕ, map, subst, ◌∙◌}
 use Rattle.std.specs.Prelude.{IsTrue}
 use Rattle.std.proofs.lemmas.List.{length-map}
-use Rattle.drawn_mesh.specs.Drawn.{faces_of, outer_of}
+use Rattle.mesh_embedding.specs.Drawn.{faces_of, outer_of}
 use Rattle.delaunay_core.specs.Place.{place_of}
 use Rattle.delaunay_paths.proofs.Places.{crossing_by}
 use Rattle.delaunay_paths.proofs.Walking.{in_map, placed_apart}

@@ -1,6 +1,6 @@
 use Rattle.std.proofs.Common.{map, arith}
 use Rattle.std.proofs.lemmas.List.{length-map}
-use Rattle.drawn_mesh.specs.Drawn.{faces_of, outer_of}
+use Rattle.mesh_embedding.specs.Drawn.{faces_of, outer_of}
 use Rattle.delaunay_legalization.proofs.Questions.{both_ways}
 use Rattle.delaunay_paths.proofs.Walking.{in_map, of_map, placed_apart, walk_begins, nearer_is_next, still_next, walk_ends}
 use Rattle.delaunay_paths.proofs.path.next_on_path.Goals.{then-is_on_way, else-is_on_way}

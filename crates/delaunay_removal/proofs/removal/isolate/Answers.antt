@@ -1,6 +1,6 @@
 use Rattle.std.proofs.Common.{ℕ, ◌<◌, map, sym, subst}
 use Rattle.std.proofs.lemmas.List.{length-map}
-use Rattle.drawn_mesh.proofs.MeshStars.{vertex_has_edge}
+use Rattle.mesh_embedding.proofs.MeshStars.{vertex_has_edge}
 use Rattle.delaunay_removal.specs.Star.{HasInnerFaces}
 use Rattle.delaunay_removal.proofs.Drops.{in_the_plane}
 use Rattle.delaunay_removal.proofs.removal.isolate.Goals as goal

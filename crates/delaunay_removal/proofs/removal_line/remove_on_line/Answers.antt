@@ -1,4 +1,4 @@
-use Rattle.drawn_mesh.proofs.MeshRemovals.{line_plain_removes}
+use Rattle.mesh_embedding.proofs.MeshRemovals.{line_plain_removes}
 use Rattle.delaunay_removal.proofs.Removing.{few_edges_of, value_was, line_kept}
 use Rattle.delaunay_removal.proofs.DataDrops.{line_data_kept}
 use Rattle.delaunay_removal.proofs.removal_line.remove_on_line.Goals as goal

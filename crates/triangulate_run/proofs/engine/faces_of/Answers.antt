@@ -8,7 +8,7 @@ use Rattle.half_edge_links.specs.Triangles.{triangles, triangle_at}
 use Rattle.half_edge_views.specs.Left.{faces_left}
 use Rattle.triangulate_run.specs.Stage.{position}
 use Rattle.delaunay_legalization.specs.State.{triangulation_of}
-use Rattle.drawn_mesh.specs.Drawn.{corners_of}
+use Rattle.mesh_embedding.specs.Drawn.{corners_of}
 use Rattle.triangulate_run.specs.MeshFaces.{row_at}
 use Rattle.triangulate_run.proofs.MeshFaces.{first_left, none_left, positive_from_one, row_more, rows_end, positive_first, positive_rest, rows_by_index, row_same_mesh, twice}
 use Rattle.triangulate_run.proofs.FaceList.{lists_faces, rows_differ}

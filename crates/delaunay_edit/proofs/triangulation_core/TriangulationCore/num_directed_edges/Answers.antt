@@ -1,5 +1,5 @@
 use Rattle.std.proofs.Common.{◌≡◌, ◌*◌, length, arith}
-use Rattle.drawn_mesh.specs.Drawn.{edges_of}
+use Rattle.mesh_embedding.specs.Drawn.{edges_of}
 use Rattle.delaunay_legalization.specs.State.{state_of}
 use Rattle.delaunay_edit.proofs.Counts.{count_of_edges}
 use Rattle.delaunay_edit.proofs.triangulation_core.TriangulationCore.num_directed_edges.Goals as goal

@@ -1,5 +1,5 @@
 use Rattle.std.proofs.Common.{ap, sym, subst}
-use Rattle.delaunay_legalization.specs.Shape.{IsLegal}
+use Rattle.delaunay_legalization.specs.Shape.{IsDelaunayTriangulation}
 use Rattle.delaunay_legalization.specs.State.{state_of}
 use Rattle.delaunay_edit.proofs.Delaunay.{legal_overwritten}
 use Rattle.delaunay_edit.proofs.Overwriting.{overwriting_replaces}
@@ -7,8 +7,8 @@ use Rattle.delaunay_edit.proofs.triangulation_core.TriangulationCore.replace_ver
 
 pub invariant_of-self : goal.invariant_of-self
 invariant_of-self g c =
-    subst (λ d. IsLegal g.V.HasPosition.place g.M.EdgeMarks.fixed (state_of d)) (sym c.update_vertex-former.ensures.contents)
-    (legal_overwritten g.V.HasPosition.place g.M.EdgeMarks.fixed c.self.inside.dcel c.args.vertex c.args.value c.self.invariant (rw (← c.self.view_is) at c.requires.within) (rw (← c.self.view_is) at c.requires.same))
+    subst (λ d. IsDelaunayTriangulation g.V.HasPosition.place g.M.ConstraintMarker.constraints (state_of d)) (sym c.update_vertex-former.ensures.contents)
+    (legal_overwritten g.V.HasPosition.place g.M.ConstraintMarker.constraints c.self.inside.dcel c.args.vertex c.args.value c.self.invariant (rw (← c.self.view_is) at c.requires.within) (rw (← c.self.view_is) at c.requires.same))
 
 pub returns-clause-value : goal.returns-clause-value
 returns-clause-value g c = rw (← c.self.view_is) c.update_vertex-former.ensures.former
@@ -17,4 +17,4 @@ pub returns-clause-new : goal.returns-clause-new
 returns-clause-new g c = rw (← c.self.view_is) (ap state_of c.update_vertex-former.ensures.contents)
 
 pub returns-clause-plain : goal.returns-clause-plain
-returns-clause-plain g c = overwriting_replaces g.V.HasPosition.place g.M.EdgeMarks.fixed c.args.self.now _ c.args.vertex c.args.value c.requires.within c.requires.same (returns-clause-new g c)
+returns-clause-plain g c = overwriting_replaces g.V.HasPosition.place g.M.ConstraintMarker.constraints c.args.self.now _ c.args.vertex c.args.value c.requires.within c.requires.same (returns-clause-new g c)

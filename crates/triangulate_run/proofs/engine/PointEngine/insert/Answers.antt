@@ -1,8 +1,8 @@
 use Rattle.std.proofs.Common.{ℕ, inl, inr, map, refl, sym, ◌∙◌, ap, subst}
 use Rattle.plane.specs.Plain.{Replaces}
 use Rattle.triangulate_run.specs.Stage.{position}
-use Rattle.delaunay_legalization.specs.State.{plain_of}
-use Rattle.drawn_mesh.specs.Drawn.{drawn}
+use Rattle.delaunay_legalization.specs.State.{points_and_constraints}
+use Rattle.mesh_embedding.specs.Drawn.{drawn}
 use Rattle.triangulate_run.proofs.Insertions.{unknown_if_fresh, known_if_there, may_refuse, site_if_listed, listed_if_found, mesh_kept, places_kept, sites_kept, sites_more}
 use Rattle.triangulate_run.proofs.engine.PointEngine.insert.Goals as goal
 
@@ -33,7 +33,7 @@ returns-in-Ok-clause-reply g c =
       | inl kept ↦ inl (record {
         in_range = in_range;
         site = listed;
-        replaced = subst (λ (i : ℕ). Replaces position (plain_of old) (plain_of new) i p) (sym index) kept;
+        replaced = subst (λ (i : ℕ). Replaces position (points_and_constraints old) (points_and_constraints new) i p) (sym index) kept;
         same = ap (λ ps. drawn ps new.mesh) (ap (map position) kept.vertices ∙ places_kept old.vertices _ p kept.same)
             ∙ ap (drawn (map position old.vertices)) (mesh_kept old new _ (c.in-Ok.ensures.replaced (known_if_there old.vertices p _ kept.here kept.same)));
       })

@@ -3,7 +3,7 @@ use Rattle.std.specs.Prelude.{slice_get, Some}
 use Rattle.delaunay_core.specs.declared.point.Point2.{Point2}
 use Rattle.plane.specs.Plain.{Removes}
 use Rattle.triangulate_run.specs.Stage.{position}
-use Rattle.delaunay_legalization.specs.State.{plain_of}
+use Rattle.delaunay_legalization.specs.State.{points_and_constraints}
 use Rattle.delaunay_edit.proofs.Removing.{sites_left}
 use Rattle.triangulate_run.proofs.engine.PointEngine.remove.Goals as goal
 
@@ -32,5 +32,5 @@ returns-in-Ok-clause-reply g c =
     let y_fits : SFits w64 c.in-Ok.point.y = search rules in
     record {
       was = read_point old.vertices c.args.index c.in-Ok.point x_fits y_fits (subst (λ (i : ℕ). slice_get old.vertices i ≡ Some c.in-Ok.point) c.from_index-vertex.ensures c.in-Ok.ensures.value);
-      removed = subst (λ (i : ℕ). Removes position (plain_of old) (plain_of new) i) c.from_index-vertex.ensures c.in-Ok.ensures.plain;
+      removed = subst (λ (i : ℕ). Removes position (points_and_constraints old) (points_and_constraints new) i) c.from_index-vertex.ensures c.in-Ok.ensures.plain;
     }

@@ -1,7 +1,0 @@
-use Rattle.triangulate_run.specs.Sheet.{IsSite}
-use Rattle.delaunay_legalization.specs.State.{plain_of}
-use Rattle.bench.proofs.Sites.{sites_kept}
-use Rattle.bench.proofs.sheet_triangulation.SheetTriangulation.replace.Goals as goal
-
-pub invariant_of-self : goal.invariant_of-self
-invariant_of-self c = sites_kept (IsSite c.self.inside.sheet) (plain_of c.self.inside.triangulation) (plain_of c.replace_vertex.new.self) _ _ c.replace_vertex.ensures.plain c.self.invariant

@@ -1,0 +1,64 @@
+-- The directed edges of a mesh and the pairs of vertices that its edges join.
+use Rattle.std.proofs.Common.{◌≡◌, ◌≢◌, ◌⊎◌, ℕ, ◌+◌, ◌*◌, ◌/◌, ◌%◌, ◌<◌, List, length, map, get_or, refl, sym, ap, ◌∙◌, inl, inr, arith}
+use Rattle.std.specs.Prelude.{Contains}
+use Rattle.std.proofs.lemmas.Bool.{cases_eq}
+use Rattle.std.proofs.lemmas.Grind.{common_steps}
+use Rattle.std.proofs.lemmas.List.{get_or-map, length-map}
+use Rattle.half_edge_links.specs.Mesh.{Mesh, origin, rev, AreSoundLinks}
+use Rattle.half_edge_links.specs.Outline.{Ends, ends}
+use Rattle.half_edge_links.proofs.Ends.{length-ends_twice, get_or-ends}
+use Rattle.plane.specs.Pairs.{Joins}
+use Rattle.mesh_embedding.specs.Drawn.{pair_of, edges_of}
+
+abbrev no_ends : Ends
+no_ends = record { source = 0; target = 0 }
+
+pub Contains-map : {X Y : Type 0} (f : X → Y) (xs : List X) (k : ℕ) (d : X) (y : Y) → k < length xs → f (get_or xs k d) ≡ y → Contains (map f xs) y
+Contains-map f xs k d y within e = (k, omega (arith, length-map xs f), get_or-map f xs k d y within ∙ e)
+
+pub Contains-map_from : {X Y : Type 0} (f : X → Y) (xs : List X) (d : X) (y : Y) → Contains (map f xs) y → (k : ℕ) × (k < length xs) × (f (get_or xs k d) ≡ y)
+Contains-map_from f xs d y h =
+    let within : h.0 < length xs = let l = h.1 in omega (arith, length-map xs f) in
+    (h.0, within, sym (get_or-map f xs h.0 d y within) ∙ h.2)
+
+rev_of_even : (k : ℕ) → rev (2 * k) ≡ 2 * k + 1
+rev_of_even k = let even : 2 * k % 2 ≡ 0 = omega arith in rw even refl
+
+rev_of_odd : (k : ℕ) → rev (2 * k + 1) ≡ 2 * k
+rev_of_odd k = let odd : (2 * k + 1) % 2 ≡ 1 = omega arith in rw odd (omega arith)
+
+module _ (m : Mesh) (s : AreSoundLinks m) where
+  pair_there : (k : ℕ) → 2 * k + 1 < length m.half_edges → Contains (edges_of m) (origin m (2 * k), origin m (2 * k + 1))
+  pair_there k within = Contains-map pair_of (ends m) k (record { source = 0; target = 0 }) (origin m (2 * k), origin m (2 * k + 1)) (omega (arith, length-ends_twice m s)) (ap pair_of (get_or-ends m k (record { source = 0; target = 0 }) within))
+
+  pub edge_joins : (h : ℕ) → h < length m.half_edges → Joins (edges_of m) (origin m h) (origin m (rev h))
+  edge_joins h within = go (cases_eq (h % 2) 0)
+    where
+      even : length m.half_edges % 2 ≡ 0
+      even = s.even
+
+      go : (h % 2 ≡ 0) ⊎ (h % 2 ≢ 0) → Joins (edges_of m) (origin m h) (origin m (rev h))
+      go (inl e) =
+          let here : 2 * (h / 2) ≡ h = omega (arith, e) in
+          let there : 2 * (h / 2) + 1 ≡ rev h = grind (arith, common_steps) in
+          inl (rw (ap (origin m) (sym here), ap (origin m) (sym there)) (pair_there (h / 2) (omega (arith, e, even, within))))
+      go (inr n) =
+          let here : 2 * (h / 2) + 1 ≡ h = omega (arith, n) in
+          let there : 2 * (h / 2) ≡ rev h = grind (arith, common_steps) in
+          inr (rw (ap (origin m) (sym here), ap (origin m) (sym there)) (pair_there (h / 2) (omega (arith, n, even, within))))
+
+  pub joins_edge : (i j : ℕ) → Joins (edges_of m) i j → (h : ℕ) × (h < length m.half_edges) × (origin m h ≡ i) × (origin m (rev h) ≡ j)
+  joins_edge i j (inl c) =
+      let r = Contains-map_from pair_of (ends m) no_ends (i, j) c in
+      let k : r.0 < length (ends m) = r.1 in
+      let within : 2 * r.0 + 1 < length m.half_edges = omega (arith, k, length-ends_twice m s) in
+      let e = sym (ap pair_of (get_or-ends m r.0 no_ends within)) ∙ r.2 in
+      let there = rev_of_even r.0 in
+      (2 * r.0, omega (arith, within), ap (λ q. q.0) e, ap (origin m) there ∙ ap (λ q. q.1) e)
+  joins_edge i j (inr c) =
+      let r = Contains-map_from pair_of (ends m) no_ends (j, i) c in
+      let k : r.0 < length (ends m) = r.1 in
+      let within : 2 * r.0 + 1 < length m.half_edges = omega (arith, k, length-ends_twice m s) in
+      let e = sym (ap pair_of (get_or-ends m r.0 no_ends within)) ∙ r.2 in
+      let there = rev_of_odd r.0 in
+      (2 * r.0 + 1, within, ap (λ q. q.1) e, ap (origin m) there ∙ ap (λ q. q.0) e)
