@@ -6,8 +6,8 @@ use Rattle.plane_paths.specs.Path.{IsFreeOfVertices}
 use Rattle.half_edge_links.specs.Mesh.{Mesh}
 use Rattle.half_edge_mesh.specs.Contents.{Contents}
 use Rattle.mesh_embedding.specs.Drawn.{drawn}
-use Rattle.bench.specs.declared.tagged_vertex.TaggedVertex.{TaggedVertex}
-use Rattle.bench.specs.Vertices.{position_of}
+use Rattle.library_tests.specs.declared.tagged_vertex.TaggedVertex.{TaggedVertex}
+use Rattle.library_tests.specs.Vertices.{position_of}
 
 free_if_next : (points : List Point) (m : Mesh) (i j : ℕ) → AreNextOn points i j i j → IsFreeOfVertices (drawn points m) i j
 free_if_next points m i j next = record { apart = next.apart; first = next.first_index; second = next.second_index; none_between = next.none_between }

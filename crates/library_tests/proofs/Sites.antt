@@ -13,8 +13,8 @@ use Rattle.delaunay_edit.proofs.Removing.{sites_left}
 use Rattle.triangulate_run.specs.declared.points.SheetPoint.{SheetPoint}
 use Rattle.triangulate_run.specs.Points.{IsListedSite, IsSiteAt}
 use Rattle.triangulate_run.proofs.Insertions.{listed_if_found}
-use Rattle.bench.specs.declared.tagged_vertex.TaggedVertex.{TaggedVertex}
-use Rattle.bench.specs.Vertices.{position_of, AreSites}
+use Rattle.library_tests.specs.declared.tagged_vertex.TaggedVertex.{TaggedVertex}
+use Rattle.library_tests.specs.Vertices.{position_of, AreSites}
 
 -- a site of a list that is found
 pub found_site : (points listed : List SheetPoint) (p : Point) (o : Option ℕ) → points ≡ listed → is_some o ≡ true → MatchOption o (¬ IsListedSite points p) (λ i. IsSiteAt points i p) → IsListedSite listed p

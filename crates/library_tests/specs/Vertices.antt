@@ -3,7 +3,7 @@ use Rattle.std.specs.Prelude.{ℕ, ℤ, List, All, map}
 use Rattle.plane.specs.Fraction.{Point}
 use Rattle.delaunay_core.specs.Place.{place_of}
 use Rattle.delaunay_core.specs.declared.point.Point2.{Point2}
-use Rattle.bench.specs.declared.tagged_vertex.TaggedVertex.{TaggedVertex}
+use Rattle.library_tests.specs.declared.tagged_vertex.TaggedVertex.{TaggedVertex}
 
 abbrev pub position_of : TaggedVertex → Point
 position_of v = place_of (λ z. z) v.position

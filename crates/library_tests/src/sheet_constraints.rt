@@ -6,7 +6,7 @@ ghost use Rattle.delaunay_core.specs.Place.{place_of};
 ghost use Rattle.delaunay_edit.specs.Elements.{HasElement};
 ghost use Rattle.delaunay_edit.specs.Location.{location_of};
 ghost use Rattle.delaunay_legalization.specs.State.{triangulation_of};
-ghost use Rattle.bench.specs.Vertices.{position_of, AreSites};
+ghost use Rattle.library_tests.specs.Vertices.{position_of, AreSites};
 ghost use Rattle.triangulate_run.specs.Sheet.{IsSite};
 
 use crate::sheet_triangulation::{SheetError, SheetTriangulation};
@@ -30,8 +30,8 @@ impl Model for SheetConstraints {
     ghost use Rattle.delaunay_legalization.specs.declared.cdt_edge.CdtEdge.{CdtEdge};
     ghost use Rattle.triangulate_run.specs.declared.sheet.Sheet.{Sheet};
     ghost use Rattle.triangulate_run.specs.Sheet.{IsSite};
-    ghost use Rattle.bench.specs.declared.tagged_vertex.TaggedVertex.{TaggedVertex};
-    ghost use Rattle.bench.specs.Vertices.{AreSites};
+    ghost use Rattle.library_tests.specs.declared.tagged_vertex.TaggedVertex.{TaggedVertex};
+    ghost use Rattle.library_tests.specs.Vertices.{AreSites};
 
     ghost Value = { Sheet × State TaggedVertex ℕ (CdtEdge ℕ) ℕ };
 

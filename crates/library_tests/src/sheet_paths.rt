@@ -3,7 +3,7 @@ ghost use Rattle.std.specs.Prelude.{◌≡◌, ◌≢◌, ◌<◌, length, map, 
 ghost use Rattle.plane_tiling.specs.Local.{IsMesh};
 ghost use Rattle.mesh_embedding.specs.Drawn.{faces_of, outer_of};
 ghost use Rattle.triangulate_run.specs.Sheet.{IsSite};
-ghost use Rattle.bench.specs.Vertices.{position_of, AreSites};
+ghost use Rattle.library_tests.specs.Vertices.{position_of, AreSites};
 
 use crate::tagged_vertex::TaggedVertex;
 use delaunay_edit::TriangulationCore;
@@ -31,8 +31,8 @@ impl Model for SheetPaths {
     ghost use Rattle.delaunay_legalization.specs.State.{State};
     ghost use Rattle.triangulate_run.specs.declared.sheet.Sheet.{Sheet};
     ghost use Rattle.triangulate_run.specs.Sheet.{IsSite};
-    ghost use Rattle.bench.specs.declared.tagged_vertex.TaggedVertex.{TaggedVertex};
-    ghost use Rattle.bench.specs.Vertices.{AreSites};
+    ghost use Rattle.library_tests.specs.declared.tagged_vertex.TaggedVertex.{TaggedVertex};
+    ghost use Rattle.library_tests.specs.Vertices.{AreSites};
 
     ghost Value = { Sheet × State TaggedVertex ℕ ℕ ℕ };
 

@@ -8,7 +8,7 @@ ghost use Rattle.delaunay_core.specs.Place.{place_of};
 ghost use Rattle.delaunay_edit.specs.Elements.{HasElement};
 ghost use Rattle.delaunay_edit.specs.Location.{location_of};
 ghost use Rattle.delaunay_legalization.specs.State.{points_and_constraints, triangulation_of};
-ghost use Rattle.bench.specs.Vertices.{position_of, AreSites, tagged};
+ghost use Rattle.library_tests.specs.Vertices.{position_of, AreSites, tagged};
 ghost use Rattle.triangulate_run.specs.Sheet.{IsSite};
 
 use crate::tagged_vertex::TaggedVertex;
@@ -40,8 +40,8 @@ impl Model for SheetTriangulation {
     ghost use Rattle.delaunay_legalization.specs.State.{State};
     ghost use Rattle.triangulate_run.specs.declared.sheet.Sheet.{Sheet};
     ghost use Rattle.triangulate_run.specs.Sheet.{IsSite};
-    ghost use Rattle.bench.specs.declared.tagged_vertex.TaggedVertex.{TaggedVertex};
-    ghost use Rattle.bench.specs.Vertices.{AreSites};
+    ghost use Rattle.library_tests.specs.declared.tagged_vertex.TaggedVertex.{TaggedVertex};
+    ghost use Rattle.library_tests.specs.Vertices.{AreSites};
 
     ghost Value = { Sheet × State TaggedVertex ℕ ℕ ℕ };
 

@@ -1,7 +1,7 @@
 use Rattle.triangulate_run.specs.Sheet.{points_of}
 use Rattle.delaunay_core.specs.Place.{place_of}
-use Rattle.bench.proofs.Sites.{found_site}
-use Rattle.bench.proofs.sheet_hints.hint.Goals as goal
+use Rattle.library_tests.proofs.Sites.{found_site}
+use Rattle.library_tests.proofs.sheet_hints.hint.Goals as goal
 
 pub get_hint-requires : goal.get_hint-requires
 get_hint-requires c =

@@ -1,7 +1,7 @@
 use Rattle.triangulate_run.specs.Sheet.{points_of}
 use Rattle.delaunay_core.specs.Place.{place_of}
-use Rattle.bench.proofs.Sites.{found_site}
-use Rattle.bench.proofs.sheet_hints.tell_insertion.Goals as goal
+use Rattle.library_tests.proofs.Sites.{found_site}
+use Rattle.library_tests.proofs.sheet_hints.tell_insertion.Goals as goal
 
 pub notify_vertex_inserted-requires : goal.notify_vertex_inserted-requires
 notify_vertex_inserted-requires c =

@@ -1,7 +1,7 @@
 use Rattle.triangulate_run.specs.Sheet.{points_of}
 use Rattle.delaunay_core.specs.Place.{place_of}
-use Rattle.bench.proofs.Sites.{found_site}
-use Rattle.bench.proofs.sheet_constraints.SheetConstraints.locate.Goals as goal
+use Rattle.library_tests.proofs.Sites.{found_site}
+use Rattle.library_tests.proofs.sheet_constraints.SheetConstraints.locate.Goals as goal
 
 pub locate-requires-clause-covered : goal.locate-requires-clause-covered
 locate-requires-clause-covered c =

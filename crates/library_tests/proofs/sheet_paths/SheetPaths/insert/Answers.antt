@@ -2,10 +2,10 @@ use Rattle.std.proofs.Common.{ap, sym, subst}
 use Rattle.triangulate_run.specs.Sheet.{points_of, IsSite}
 use Rattle.delaunay_core.specs.Place.{place_of}
 use Rattle.delaunay_legalization.specs.State.{points_and_constraints}
-use Rattle.bench.specs.Vertices.{tagged, AreSites}
-use Rattle.bench.proofs.Sites.{found_site, sites_after}
-use Rattle.bench.proofs.sheet_paths.SheetPaths.insert.Goals as goal
-use Rattle.bench.proofs.sheet_paths.SheetPaths.insert.Goals.{in-Ok, in-Err}
+use Rattle.library_tests.specs.Vertices.{tagged, AreSites}
+use Rattle.library_tests.proofs.Sites.{found_site, sites_after}
+use Rattle.library_tests.proofs.sheet_paths.SheetPaths.insert.Goals as goal
+use Rattle.library_tests.proofs.sheet_paths.SheetPaths.insert.Goals.{in-Ok, in-Err}
 
 pub insert-requires-clause-new_site : goal.insert-requires-clause-new_site
 insert-requires-clause-new_site c = λ in_range. found_site c.points.result.now (points_of c.self.inside.sheet) (place_of (λ z. z) c.args.position) c.site_index_of.result c.points.ensures.list c.if-is_none.ensures c.site_index_of.ensures

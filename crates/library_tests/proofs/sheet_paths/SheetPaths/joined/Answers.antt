@@ -1,9 +1,9 @@
 use Rattle.std.proofs.Common.{◌≡◌, List, rules, sym, subst}
 use Rattle.triangulate_run.specs.Sheet.{IsSite}
-use Rattle.bench.specs.declared.tagged_vertex.TaggedVertex.{TaggedVertex}
-use Rattle.bench.specs.Vertices.{AreSites}
-use Rattle.bench.proofs.Segments.{free_in_copy}
-use Rattle.bench.proofs.sheet_paths.SheetPaths.joined.Goals as goal
+use Rattle.library_tests.specs.declared.tagged_vertex.TaggedVertex.{TaggedVertex}
+use Rattle.library_tests.specs.Vertices.{AreSites}
+use Rattle.library_tests.proofs.Segments.{free_in_copy}
+use Rattle.library_tests.proofs.sheet_paths.SheetPaths.joined.Goals as goal
 
 pub next_on_path-requires-clause-sites : goal.next_on_path-requires-clause-sites
 next_on_path-requires-clause-sites c = rw (← c.self.view_is) at c.mesh_at-mesh.ensures.sites

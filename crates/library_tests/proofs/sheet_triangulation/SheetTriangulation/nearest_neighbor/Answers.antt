@@ -1,7 +1,7 @@
 use Rattle.triangulate_run.specs.Sheet.{points_of}
 use Rattle.delaunay_core.specs.Place.{place_of}
-use Rattle.bench.proofs.Sites.{found_site}
-use Rattle.bench.proofs.sheet_triangulation.SheetTriangulation.nearest_neighbor.Goals as goal
+use Rattle.library_tests.proofs.Sites.{found_site}
+use Rattle.library_tests.proofs.sheet_triangulation.SheetTriangulation.nearest_neighbor.Goals as goal
 
 pub nearest_neighbor-requires-clause-covered : goal.nearest_neighbor-requires-clause-covered
 nearest_neighbor-requires-clause-covered c =

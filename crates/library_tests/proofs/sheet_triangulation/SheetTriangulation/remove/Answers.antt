@@ -1,9 +1,9 @@
 use Rattle.std.proofs.Common.{ap, sym, subst}
 use Rattle.triangulate_run.specs.Sheet.{IsSite}
 use Rattle.delaunay_edit.proofs.Removing.{sites_left}
-use Rattle.bench.specs.Vertices.{position_of, AreSites}
-use Rattle.bench.proofs.sheet_triangulation.SheetTriangulation.remove.Goals as goal
-use Rattle.bench.proofs.sheet_triangulation.SheetTriangulation.remove.Goals.{in-Ok, in-Err}
+use Rattle.library_tests.specs.Vertices.{position_of, AreSites}
+use Rattle.library_tests.proofs.sheet_triangulation.SheetTriangulation.remove.Goals as goal
+use Rattle.library_tests.proofs.sheet_triangulation.SheetTriangulation.remove.Goals.{in-Ok, in-Err}
 
 pub invariant_of-self : goal.invariant_of-self
 invariant_of-self c =

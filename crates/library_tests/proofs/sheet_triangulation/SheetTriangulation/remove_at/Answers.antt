@@ -1,10 +1,10 @@
 use Rattle.std.proofs.Common.{ap, sym, subst}
 use Rattle.triangulate_run.specs.Sheet.{points_of, IsSite}
 use Rattle.delaunay_core.specs.Place.{place_of}
-use Rattle.bench.specs.Vertices.{AreSites}
-use Rattle.bench.proofs.Sites.{found_site, sites_after_removal}
-use Rattle.bench.proofs.sheet_triangulation.SheetTriangulation.remove_at.Goals as goal
-use Rattle.bench.proofs.sheet_triangulation.SheetTriangulation.remove_at.Goals.{in-Ok, in-Err}
+use Rattle.library_tests.specs.Vertices.{AreSites}
+use Rattle.library_tests.proofs.Sites.{found_site, sites_after_removal}
+use Rattle.library_tests.proofs.sheet_triangulation.SheetTriangulation.remove_at.Goals as goal
+use Rattle.library_tests.proofs.sheet_triangulation.SheetTriangulation.remove_at.Goals.{in-Ok, in-Err}
 
 pub locate_and_remove-requires-clause-covered : goal.locate_and_remove-requires-clause-covered
 locate_and_remove-requires-clause-covered c =
