@@ -125,17 +125,3 @@ impl<S: SpadeNum> DistanceMetric<S> for CircleMetric<S> {
         self.distance_to_rim(point)
     }
 }
-
-#[cfg(test)]
-mod tests {
-    use super::*;
-
-    #[test]
-    fn squared_distances_less_the_squared_radius(rt: HostRuntime) {
-        let circle = CircleMetric::new(Point2::new(0i64, -1), 2);
-        assert_eq!(rt; circle.distance_to_point(Point2::new(0, 1)), 2);
-        assert_eq!(rt; circle.distance_to_point(Point2::new(0, -1)), -2);
-        assert!(rt; circle.is_point_inside(Point2::new(1, 0)));
-        assert!(rt; !circle.is_point_inside(Point2::new(0, 1)));
-    }
-}

@@ -180,24 +180,3 @@ impl<S: SpadeNum> DistanceMetric<S> for RectangleMetric<S> {
         ))
     }
 }
-
-#[cfg(test)]
-mod tests {
-    use super::*;
-
-    #[test]
-    fn squared_distances_to_the_nearest_point(rt: HostRuntime) {
-        let square = RectangleMetric::new(Point2::new(-1i64, -1), Point2::new(1, 1));
-        assert_eq!(rt; square.distance_to_point(Point2::new(1, 0)), 0);
-        assert_eq!(rt; square.distance_to_point(Point2::new(4, 5)), 25);
-        assert!(rt; square.is_point_inside(Point2::new(-1, 1)));
-        assert!(rt; !square.is_point_inside(Point2::new(0, 2)));
-    }
-
-    #[test]
-    fn reversed_rectangle_is_far_from_all(rt: HostRuntime) {
-        let reversed = RectangleMetric::new(Point2::new(1i64, 1), Point2::new(-1, -1));
-        assert_eq!(rt; reversed.distance_to_point(Point2::new(0, 0)), i64::MAX);
-        assert!(rt; !reversed.is_point_inside(Point2::new(0, 0)));
-    }
-}

@@ -1,5 +1,6 @@
 pub mod Contents
 pub mod Copied
+pub mod Empty
 pub mod Growth
 pub mod Hole
 pub mod Mapped

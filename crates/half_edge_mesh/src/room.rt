@@ -1,7 +1,8 @@
 //! Room for a mesh to grow in.
-ghost use Rattle.std.specs.Prelude.{◌≡◌, [], OnOk, IfOk, IsOk, Err};
+ghost use Rattle.std.specs.Prelude.{◌≡◌, ◌≤◌, [], OnOk, IfOk, IsOk, Err};
 ghost use Rattle.half_edge_links.specs.Mesh.{empty};
 ghost use Rattle.half_edge_links.specs.Room.{AreFewEnough, HasRoomFor, KeepsRoom};
+ghost use Rattle.half_edge_mesh.specs.Empty.{IsEmptyMesh};
 
 use crate::dcel::Dcel;
 use half_edge_links::ReserveError;
@@ -54,7 +55,8 @@ impl<V, DE, UE, F> Dcel<V, DE, UE, F> {
         self.faces.clear();
     }
 
-    /// An empty mesh with room for these totals, the outer face among them, or a refusal as of `reserve_capacity`.
+    /// An empty mesh with room for these totals, the outer face among them, or a refusal as of `reserve_capacity`. Where
+    /// no vertex and no edge is asked for, and no face beside the outer one, it takes no memory and is never refused.
     pub fn with_capacity(
         alloc: Global,
         vertices: usize,
@@ -66,15 +68,11 @@ impl<V, DE, UE, F> Dcel<V, DE, UE, F> {
         DE: Drop,
         UE: Drop,
         F: Default + Drop,
-        ensures mesh { IfOk result (λ d. d.mesh ≡ empty) }
-        ensures vertices { IfOk result (λ d. d.vertices ≡ []) }
-        ensures directed { IfOk result (λ d. d.directed ≡ []) }
-        ensures undirected { IfOk result (λ d. d.undirected ≡ []) }
-        ensures outer { IfOk result (λ d. F.is_default d.outer) }
-        ensures faces { IfOk result (λ d. d.faces ≡ []) }
+        ensures contents { IfOk result (IsEmptyMesh F.is_default) }
         ensures room { IfOk result (λ d. HasRoomFor d.room vertices undirected_edges faces) }
         ensures too_many { result ≡ Err ReserveError.TooMany → ¬ AreFewEnough vertices undirected_edges faces }
         ensures few_enough { ¬ AreFewEnough vertices undirected_edges faces → result ≡ Err ReserveError.TooMany }
+        ensures nothing { vertices ≡ 0 → undirected_edges ≡ 0 → faces ≤ 1 → IsOk result }
     {
         let mut mesh = Dcel::new(alloc);
         mesh.reserve_capacity(vertices, undirected_edges, faces)?;

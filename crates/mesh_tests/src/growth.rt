@@ -1,155 +1,193 @@
-//! Each call that lets a mesh grow, once.
+//! Calls that let a mesh grow, and the flip. Each looks first whether it may be made, makes just the room that it takes,
+//! and gives indexes, or nothing where it was not made.
+ghost use Rattle.std.specs.Prelude.{◌≡◌, ◌≢◌, ◌<◌, length, IsTrue};
+ghost use Rattle.half_edge_links.specs.Flip.{IsFlippable};
+ghost use Rattle.half_edge_links.specs.Grow.{IsHalfSplittable};
+ghost use Rattle.half_edge_links.specs.Mesh.{face, next, origin, rev};
+ghost use Rattle.half_edge_mesh.specs.Contents.{HasRoom};
 
-use crate::careful::{
-    Split, append_unconnected_vertex, create_new_face_adjacent_to_edge,
-    create_single_face_between_edge_and_next, extend_line, flip_cw, insert_into_triangle,
-    setup_initial_two_vertices, split_edge, split_edge_when_all_vertices_on_line, split_half_edge,
-};
-use crate::data::{write_directed, write_undirected};
-use crate::reads::{Mesh, counts, directed, edge_at, edge_data, ends, ends_at, is_outer, vertex};
-use half_edge_mesh::{FixedDirectedEdgeHandle, FixedFaceHandle, FixedUndirectedEdgeHandle};
-use std::alloc::Global;
+use crate::lookups::{Mesh, directed, has_edge, has_face, has_vertex, undirected_at, vertex};
+use half_edge_mesh::{FixedDirectedEdgeHandle, FixedFaceHandle, FixedVertexHandle};
+use half_edge_views::MeshViews;
 
-/// Two vertices and edge 0 from the first to the second. Vertex k has the data k + 1.
-pub(crate) fn one_edge(alloc: Global) -> Mesh {
-    let mut mesh = Mesh::new(alloc);
-    append_unconnected_vertex(&mut mesh, 1);
-    append_unconnected_vertex(&mut mesh, 2);
-    setup_initial_two_vertices(&mut mesh, vertex(0), vertex(1));
-    mesh
+/// A vertex and the two parts of the edge that it split.
+pub type Split = (u32, [u32; 2]);
+
+fn split_indexes(
+    vertex: FixedVertexHandle,
+    [first, second]: [FixedDirectedEdgeHandle; 2],
+) -> Split {
+    (vertex.index(), [first.index(), second.index()])
 }
 
-/// A face of vertices 0, 1 and 2 on the left of edge 0.
-pub(crate) fn one_face(alloc: Global) -> Mesh {
-    let mut mesh = one_edge(alloc);
-    create_new_face_adjacent_to_edge(&mut mesh, directed(0), 3);
-    mesh
+// Makes room for so much more, and tells whether it is there.
+fn make_room(mesh: &mut Mesh, vertices: usize, edges: usize, faces: usize) -> bool
+    requires few_vertices { vertices < 8 }
+    requires few_edges { edges < 8 }
+    requires few_faces { faces < 8 }
+    ensures { IsTrue result → HasRoom mesh.new vertices edges faces }
+{
+    let vertices = mesh.num_vertices() + vertices;
+    let edges = mesh.num_undirected_edges() + edges;
+    let faces = mesh.num_faces() + faces;
+    match mesh.reserve_capacity(vertices, edges, faces) {
+        Ok(()) => true,
+        Err(_) => false,
+    }
 }
 
-/// A face of vertices 0, 1 and 2 and one of vertices 2, 1 and 3, which share edge 1.
-pub(crate) fn two_faces(alloc: Global) -> Mesh {
-    let mut mesh = one_face(alloc);
-    create_new_face_adjacent_to_edge(&mut mesh, directed(3), 4);
-    mesh
+pub fn append_unconnected_vertex(mesh: &mut Mesh, value: u8) -> Option<u32> {
+    if !make_room(mesh, 1, 0, 0) {
+        return None;
+    }
+    Some(mesh.append_unconnected_vertex(value).index())
 }
 
-#[test]
-fn a_line_grows_at_its_end(rt: HostRuntime) {
-    let mut mesh = one_edge(rt.alloc());
-    let end = extend_line(&mut mesh, vertex(1), 3);
-    assert_eq!(rt; (end, counts(&mesh)), (Some(vertex(2)), [3usize, 4, 2, 0]));
+pub fn setup_initial_two_vertices(mesh: &mut Mesh, a: u32, b: u32) -> bool {
+    let (a, b) = (vertex(a), vertex(b));
+    if !make_room(mesh, 0, 1, 0)
+        || mesh.num_undirected_edges() > 0
+        || !has_vertex(mesh, a)
+        || !has_vertex(mesh, b)
+        || a == b
+    {
+        return false;
+    }
+    mesh.setup_initial_two_vertices(a, b);
+    true
 }
 
-/// The index of a vertex that split an edge, and the ends of both parts of it.
-fn split_parts(mesh: &Mesh, split: Option<Split>) -> Option<(u32, [Option<(u8, u8)>; 2])> {
-    let (vertex, [first, second]) = split?;
-    Some((
-        vertex.index(),
-        [ends_at(mesh, first), ends_at(mesh, second)],
-    ))
+pub fn extend_line(mesh: &mut Mesh, end: u32, value: u8) -> Option<u32> {
+    let end = vertex(end);
+    if !make_room(mesh, 1, 1, 0)
+        || mesh.num_inner_faces() > 0
+        || !has_vertex(mesh, end)
+        || mesh.vertex(end).out_edge().is_none()
+    {
+        return None;
+    }
+    Some(mesh.extend_line(end, value).index())
 }
 
-#[test]
-fn a_line_grows_within(rt: HostRuntime) {
-    let mut mesh = one_edge(rt.alloc());
-    extend_line(&mut mesh, vertex(1), 3);
-    let split = split_edge_when_all_vertices_on_line(&mut mesh, directed(0), 4);
-    assert_eq!(rt;
-        (split_parts(&mesh, split), counts(&mesh)),
-        (Some((3, [Some((1, 4)), Some((4, 2))])), [4usize, 6, 3, 0])
-    );
+pub fn split_edge_when_all_vertices_on_line(
+    mesh: &mut Mesh,
+    edge: u32,
+    value: u8,
+) -> Option<Split> {
+    let edge = directed(edge);
+    if !make_room(mesh, 1, 1, 0) || mesh.num_inner_faces() > 0 || !has_edge(mesh, edge) {
+        return None;
+    }
+    let (vertex, parts) = mesh.split_edge_when_all_vertices_on_line(edge, value);
+    Some(split_indexes(vertex, parts))
 }
 
-#[test]
-fn a_face_becomes_three(rt: HostRuntime) {
-    let mut mesh = one_face(rt.alloc());
-    let before = counts(&mesh);
-    let inner = insert_into_triangle(&mut mesh, 4, FixedFaceHandle::from_index(1));
-    assert_eq!(rt;
-        (before, inner, counts(&mesh)),
-        ([3usize, 6, 3, 1], Some(vertex(3)), [4usize, 12, 6, 3])
-    );
+pub fn create_new_face_adjacent_to_edge(mesh: &mut Mesh, edge: u32, value: u8) -> Option<u32> {
+    let edge = directed(edge);
+    if !make_room(mesh, 1, 2, 1)
+        || !has_edge(mesh, edge)
+        || !mesh.directed_edge(edge).is_outer_edge()
+    {
+        return None;
+    }
+    Some(mesh.create_new_face_adjacent_to_edge(edge, value).index())
 }
 
-#[test]
-fn a_hull_edge_is_split(rt: HostRuntime) {
-    let mut mesh = one_face(rt.alloc());
-    let split = split_half_edge(&mut mesh, directed(0), 4);
-    let parts = [directed(6), directed(8)];
-    assert_eq!(rt;
-        (split, counts(&mesh)),
-        (Some((vertex(3), parts)), [4usize, 10, 5, 2])
-    );
+// Whether an edge is outer, and the next one does not end where it starts.
+fn leaves_corner(mesh: &Mesh, edge: FixedDirectedEdgeHandle) -> bool
+    ensures within { IsTrue result → edge < length mesh.now.directed }
+    ensures outer { IsTrue result → face mesh.now.mesh edge ≡ 0 }
+    ensures apart { let m = mesh.now.mesh in IsTrue result → origin m (rev (next m edge)) ≢ origin m edge }
+{
+    if !has_edge(mesh, edge) {
+        return false;
+    }
+    let side = mesh.directed_edge(edge);
+    side.is_outer_edge() && side.next().to().index != side.from().index
 }
 
-#[test]
-fn an_edge_between_two_faces_is_split(rt: HostRuntime) {
-    let mut mesh = two_faces(rt.alloc());
-    let before = counts(&mesh);
-    let split = split_edge(&mut mesh, directed(2), 5);
-    assert_eq!(rt;
-        (before, split_parts(&mesh, split), counts(&mesh)),
-        (
-            [4usize, 10, 5, 2],
-            Some((4, [Some((2, 5)), Some((5, 3))])),
-            [5usize, 16, 8, 4]
-        )
-    );
+pub fn create_single_face_between_edge_and_next(mesh: &mut Mesh, edge: u32) -> Option<u32> {
+    let edge = directed(edge);
+    if !make_room(mesh, 0, 1, 1) || !leaves_corner(mesh, edge) {
+        return None;
+    }
+    Some(mesh.create_single_face_between_edge_and_next(edge).index())
 }
 
-#[test]
-fn data_of_a_split_edge_stay_on_its_first_part(rt: HostRuntime) {
-    let mut mesh = two_faces(rt.alloc());
-    let edge = directed(2);
-    write_undirected(&mut mesh, edge.as_undirected(), 70);
-    write_directed(&mut mesh, edge, 71);
-    let split = split_edge(&mut mesh, edge, 5);
-    let parts = [directed(10), directed(13)];
-    assert_eq!(rt;
-        (
-            split,
-            edge_data(&mesh, directed(10)),
-            edge_data(&mesh, edge)
-        ),
-        (Some((vertex(4), parts)), Some((70, 71)), Some((0, 0)))
-    );
+pub fn insert_into_triangle(mesh: &mut Mesh, value: u8, face: u32) -> Option<u32> {
+    let face = FixedFaceHandle::from_index(face);
+    if !make_room(mesh, 1, 3, 2) || face.is_outer() || !has_face(mesh, face) {
+        return None;
+    }
+    Some(mesh.insert_into_triangle(value, face).index())
 }
 
-#[test]
-fn an_edge_between_two_faces_is_turned_clockwise(rt: HostRuntime) {
-    let mut mesh = two_faces(rt.alloc());
-    let edge = FixedUndirectedEdgeHandle::from_index(1);
-    write_undirected(&mut mesh, edge, 70);
-    let is_turned = flip_cw(&mut mesh, edge);
-    let turned = edge.as_directed();
-    assert_eq!(rt;
-        (
-            is_turned,
-            counts(&mesh),
-            ends_at(&mesh, turned),
-            edge_data(&mesh, turned)
-        ),
-        (true, [4usize, 10, 5, 2], Some((1, 4)), Some((70, 0)))
-    );
+// Whether an edge has an inner face on its left and the outer one on its right.
+fn is_of_hull(mesh: &Mesh, edge: FixedDirectedEdgeHandle) -> bool
+    ensures within { IsTrue result → edge < length mesh.now.directed }
+    ensures half { IsTrue result → IsHalfSplittable mesh.now.mesh edge }
+{
+    if !has_edge(mesh, edge) {
+        return false;
+    }
+    let side = mesh.directed_edge(edge);
+    !side.is_outer_edge() && side.rev().is_outer_edge()
 }
 
-/// The ends of an edge, and whether it is outer.
-fn outline_of(mesh: &Mesh, edge: Option<FixedDirectedEdgeHandle>) -> Option<((u8, u8), bool)> {
-    let edge = edge_at(mesh, edge?)?;
-    Some((ends(edge), edge.is_outer_edge()))
+pub fn split_half_edge(mesh: &mut Mesh, edge: u32, value: u8) -> Option<Split> {
+    let edge = directed(edge);
+    if !make_room(mesh, 1, 2, 1) || !is_of_hull(mesh, edge) {
+        return None;
+    }
+    let (vertex, parts) = mesh.split_half_edge(edge, value);
+    Some(split_indexes(vertex, parts))
 }
 
-#[test]
-fn a_face_fills_a_corner_of_the_hull(rt: HostRuntime) {
-    let mut mesh = two_faces(rt.alloc());
-    let edge = directed(7);
-    let outer = create_single_face_between_edge_and_next(&mut mesh, edge);
-    assert_eq!(rt;
-        (
-            counts(&mesh),
-            outline_of(&mesh, outer),
-            is_outer(&mesh, edge)
-        ),
-        ([4usize, 12, 6, 3], Some(((4, 1), true)), Some(false))
-    );
+fn is_flippable(mesh: &Mesh, edge: FixedDirectedEdgeHandle) -> bool
+    ensures within { IsTrue result → edge < length mesh.now.directed }
+    ensures flippable { IsTrue result → IsFlippable mesh.now.mesh edge }
+{
+    if !has_edge(mesh, edge) {
+        return false;
+    }
+    let side = mesh.directed_edge(edge);
+    let (left, right) = (side.face(), side.rev().face());
+    if left.is_outer() || right.is_outer() || left.index == right.index {
+        return false;
+    }
+    true
+}
+
+pub fn split_edge(mesh: &mut Mesh, edge: u32, value: u8) -> Option<Split> {
+    let edge = directed(edge);
+    if !make_room(mesh, 1, 3, 2) || !is_flippable(mesh, edge) {
+        return None;
+    }
+    let (vertex, parts) = mesh.split_edge(edge, value);
+    Some(split_indexes(vertex, parts))
+}
+
+pub fn flip_cw(mesh: &mut Mesh, edge: u32) -> bool {
+    let Some(edge) = undirected_at(mesh, edge) else {
+        return false;
+    };
+    let there = edge.as_directed();
+    if !is_flippable(mesh, there) {
+        return false;
+    }
+    let side = mesh.directed_edge(there);
+    if side.prev().from().index == side.rev().prev().from().index {
+        return false;
+    }
+    mesh.flip_cw(edge);
+    true
+}
+
+/// The data that a vertex had, which has new ones now.
+pub fn update_vertex(mesh: &mut Mesh, index: u32, value: u8) -> Option<u8> {
+    let vertex = vertex(index);
+    if !has_vertex(mesh, vertex) {
+        return None;
+    }
+    Some(mesh.update_vertex(vertex, value))
 }

@@ -1,23 +1,28 @@
-//! Each call that removes, once.
+//! Calls that remove. Each looks first whether it may be made, and gives nothing where it may not.
 ghost use Rattle.std.specs.Prelude.{◌≡◌, ◌≢◌, ◌<◌, ◌∷◌, [], length, slice_index, IsTrue};
 ghost use Rattle.half_edge_links.specs.Mesh.{face, next, origin, prev, rev};
 ghost use Rattle.half_edge_links.specs.Peel.{turn};
 
-use crate::careful::{append_unconnected_vertex, extend_line, insert_into_triangle, split_edge};
-use crate::growth::{one_edge, one_face, two_faces};
-use crate::reads::{
-    Mesh, counts, directed, edge_at, has_edge, has_vertex, is_alone, vertex, vertex_data,
-};
-use half_edge_mesh::{
-    FixedDirectedEdgeHandle, FixedFaceHandle, FixedVertexHandle, IsolateVertexResult,
-};
+use crate::lookups::{Mesh, directed, edge_at, has_edge, has_vertex, vertex};
+use half_edge_mesh::{FixedDirectedEdgeHandle, FixedVertexHandle, IsolateVertexResult};
 use half_edge_views::MeshViews;
 
-fn swap_remove_vertex(mesh: &mut Mesh, vertex: FixedVertexHandle) -> Option<u8> {
+/// The data of a vertex without edges, which is gone.
+pub fn swap_remove_vertex(mesh: &mut Mesh, index: u32) -> Option<u8> {
+    let vertex = vertex(index);
     if !has_vertex(mesh, vertex) || mesh.vertex(vertex).out_edge().is_some() {
         return None;
     }
     Some(mesh.swap_remove_vertex(vertex))
+}
+
+/// The data of a vertex of a line, which is gone: it was between two others, or at an end of two edges or more.
+pub fn remove_when_degenerate(mesh: &mut Mesh, index: u32) -> Option<u8> {
+    let vertex = vertex(index);
+    match remove_from_line(mesh, vertex) {
+        Some(data) => Some(data),
+        None => remove_from_end_of_line(mesh, vertex),
+    }
 }
 
 // Removes a vertex that is between two others of a line.
@@ -99,16 +104,17 @@ fn disconnect_corner(
     mesh.disconnect_edge_strip(&[side])
 }
 
-// The same, where `side` is the side opposite such a corner.
-fn disconnect_opposite_corner(
-    mesh: &mut Mesh,
-    side: FixedDirectedEdgeHandle,
-) -> Option<IsolateVertexResult> {
+/// The index of a vertex with one face, of which this is the side opposite it: it has lost its edges.
+pub fn disconnect_edge_strip(mesh: &mut Mesh, side: u32) -> Option<u32> {
     let spoke = edge_at(mesh, side)?.prev().fix();
+    let side = directed(side);
     if !is_before(mesh, spoke, side) || !has_lone_face(mesh, spoke) || !leaves_more(mesh, spoke) {
         return None;
     }
-    Some(disconnect_corner(mesh, spoke, side))
+    let done = disconnect_corner(mesh, spoke, side);
+    let index = done.vertex.index();
+    mesh.cleanup_isolated_vertex(done);
+    Some(index)
 }
 
 // The edges after an edge, round its start and in its face.
@@ -116,7 +122,7 @@ fn after(
     mesh: &Mesh,
     edge: FixedDirectedEdgeHandle,
 ) -> Option<(FixedDirectedEdgeHandle, FixedDirectedEdgeHandle)> {
-    let edge = edge_at(mesh, edge)?;
+    let edge = edge_at(mesh, edge.index())?;
     Some((edge.ccw().fix(), edge.next().fix()))
 }
 
@@ -246,87 +252,12 @@ fn isolate_vertex_between_four(
     Some(isolate_between_four(mesh, [a, b, c, d], [ab, bc, cd, da], vertex))
 }
 
-#[test]
-fn the_last_vertex_takes_a_freed_index(rt: HostRuntime) {
-    let mut mesh = Mesh::new(rt.alloc());
-    append_unconnected_vertex(&mut mesh, 7);
-    append_unconnected_vertex(&mut mesh, 8);
-    let removed = swap_remove_vertex(&mut mesh, vertex(0));
-    assert_eq!(rt;
-        (removed, counts(&mesh), vertex_data(&mesh, 0)),
-        (Some(7), [1usize, 0, 0, 0], Some(8))
-    );
-}
-
-#[test]
-fn a_middle_vertex_leaves_a_line(rt: HostRuntime) {
-    let mut mesh = one_edge(rt.alloc());
-    extend_line(&mut mesh, vertex(1), 3);
-    let removed = remove_from_line(&mut mesh, vertex(1));
-    assert_eq!(rt;
-        (removed, counts(&mesh), vertex_data(&mesh, 1)),
-        (Some(2), [2usize, 2, 1, 0], Some(3))
-    );
-}
-
-#[test]
-fn an_end_vertex_leaves_a_line(rt: HostRuntime) {
-    let mut mesh = one_edge(rt.alloc());
-    extend_line(&mut mesh, vertex(1), 3);
-    let removed = remove_from_end_of_line(&mut mesh, vertex(0));
-    assert_eq!(rt;
-        (
-            removed,
-            counts(&mesh),
-            [vertex_data(&mesh, 0), vertex_data(&mesh, 1)]
-        ),
-        (Some(1), [2usize, 2, 1, 0], [Some(3), Some(2)])
-    );
-}
-
-/// The index of a vertex that has lost its edges, after it is cleaned up.
-fn cleaned_up(mesh: &mut Mesh, done: Option<IsolateVertexResult>) -> Option<u32> {
-    let done = done?;
-    let index = done.vertex.index();
-    mesh.cleanup_isolated_vertex(done);
-    Some(index)
-}
-
-/// A vertex that has lost its edges.
-fn lost(index: u32) -> Option<IsolateVertexResult> {
-    Some(IsolateVertexResult {
-        vertex: vertex(index),
-    })
-}
-
-#[test]
-fn a_corner_of_a_triangle_loses_its_edges(rt: HostRuntime) {
-    let mut mesh = one_face(rt.alloc());
-    let done = disconnect_opposite_corner(&mut mesh, directed(0));
-    let index = cleaned_up(&mut mesh, done);
-    assert_eq!(rt; (index, counts(&mesh)), (Some(2), [3usize, 2, 1, 0]));
-}
-
-#[test]
-fn an_inner_vertex_leaves_one_face(rt: HostRuntime) {
-    let mut mesh = one_face(rt.alloc());
-    insert_into_triangle(&mut mesh, 4, FixedFaceHandle::from_index(1));
-    let done = isolate_vertex(&mut mesh, vertex(3));
-    assert_eq!(rt;
-        (done, counts(&mesh), is_alone(&mesh, vertex(3))),
-        (lost(3), [4usize, 6, 3, 1], true)
-    );
-    let removed = swap_remove_vertex(&mut mesh, vertex(3));
-    assert!(rt; removed == Some(4));
-}
-
-#[test]
-fn a_fan_fills_a_hole_of_four_edges(rt: HostRuntime) {
-    let mut mesh = two_faces(rt.alloc());
-    split_edge(&mut mesh, directed(2), 5);
-    let done = isolate_vertex_between_four(&mut mesh, vertex(4));
-    assert_eq!(rt;
-        (done, counts(&mesh), is_alone(&mesh, vertex(4))),
-        (lost(4), [5usize, 10, 5, 2], true)
-    );
+/// The index of a vertex with three or four faces round it: it has lost its edges, and one or two faces fill the hole.
+pub fn isolate_vertex_and_fill_hole(mesh: &mut Mesh, index: u32) -> Option<u32> {
+    let vertex = vertex(index);
+    let done = match isolate_vertex(mesh, vertex) {
+        Some(done) => done,
+        None => isolate_vertex_between_four(mesh, vertex)?,
+    };
+    Some(done.vertex.index())
 }

@@ -1,52 +1,44 @@
-//! Room for a mesh, made and refused.
+//! Room for a mesh, made and refused, and the links of a mesh without data.
 
-use crate::growth::one_face;
-use crate::reads::Mesh;
-use half_edge_mesh::{Dcel, MAX_ELEMENTS, ReserveError};
-use std::alloc::Global;
+use crate::lookups::Mesh;
+use half_edge_links::{HalfEdge, Links};
+use half_edge_mesh::{Dcel, MAX_ELEMENTS, ReserveError, are_few_enough, is_full};
+use std::alloc::{AllocError, Global};
 
-#[test]
-fn room_is_refused_past_the_limit(rt: HostRuntime) {
-    let mut mesh = Mesh::new(rt.alloc());
-    assert_eq!(rt;
-        [
-            mesh.reserve_capacity(MAX_ELEMENTS + 1, 0, 1),
-            mesh.reserve_capacity(0, MAX_ELEMENTS / 2 + 1, 1),
-            mesh.reserve_capacity(0, 0, MAX_ELEMENTS + 1),
-            mesh.reserve_capacity(4, 6, 4),
-        ],
-        [
-            Err(ReserveError::TooMany),
-            Err(ReserveError::TooMany),
-            Err(ReserveError::TooMany),
-            Ok(()),
-        ]
-    );
+pub fn reserve(mesh: &mut Mesh, vertices: u32, edges: u32, faces: u32) -> Result<(), ReserveError> {
+    mesh.reserve_capacity(vertices as usize, edges as usize, faces as usize)
 }
 
 /// How many vertices a mesh with so much room has.
-fn vertices_with_capacity(
+pub fn with_capacity(
     alloc: Global,
-    vertices: usize,
-    edges: usize,
-    faces: usize,
+    vertices: u32,
+    edges: u32,
+    faces: u32,
 ) -> Result<usize, ReserveError> {
-    Ok(Mesh::with_capacity(alloc, vertices, edges, faces)?.num_vertices())
+    let mesh = Mesh::with_capacity(alloc, vertices as usize, edges as usize, faces as usize)?;
+    Ok(mesh.num_vertices())
 }
 
-#[test]
-fn an_empty_mesh_with_room(rt: HostRuntime) {
-    let alloc = rt.alloc();
-    assert_eq!(rt;
-        [
-            vertices_with_capacity(alloc, 0, 0, 0),
-            vertices_with_capacity(alloc, 3, 3, 2),
-            vertices_with_capacity(alloc, 0, 2147483648, 0),
-        ],
-        [Ok(0), Ok(0), Err(ReserveError::TooMany)]
-    );
-    let most = vertices_with_capacity(alloc, 0, 2147483647, 0);
-    assert!(rt; most != Err(ReserveError::TooMany));
+/// Whether so many elements are few enough, by the counts alone and by a request for room, which may be refused for
+/// memory.
+pub fn few_enough(alloc: Global, vertices: u32, edges: u32, faces: u32) -> [bool; 2] {
+    [
+        are_few_enough(vertices as usize, edges as usize, faces as usize),
+        with_capacity(alloc, vertices, edges, faces) != Err(ReserveError::TooMany),
+    ]
+}
+
+pub fn full(vertices: u32) -> bool {
+    is_full(vertices as usize)
+}
+
+/// What requests for more than `MAX_ELEMENTS` vertices and faces tell.
+pub fn past_the_limit(mesh: &mut Mesh) -> [Result<(), ReserveError>; 2] {
+    [
+        mesh.reserve_capacity(MAX_ELEMENTS + 1, 0, 1),
+        mesh.reserve_capacity(0, 0, MAX_ELEMENTS + 1),
+    ]
 }
 
 // 256 MB, so that some millions of them fit nowhere.
@@ -91,53 +83,62 @@ fn ask_for_faces(alloc: Global) -> Answer {
     (answer, mesh.num_inner_faces())
 }
 
-#[test]
-fn each_list_of_data_may_be_refused(rt: HostRuntime) {
-    let alloc = rt.alloc();
-    assert_eq!(rt;
-        [
-            ask_for_vertices(alloc),
-            ask_for_directed_edges(alloc),
-            ask_for_undirected_edges(alloc),
-            ask_for_faces(alloc),
-        ],
-        [(Err(ReserveError::OutOfMemory), 0); 4]
-    );
+fn ask_for_mesh(alloc: Global) -> Answer {
+    match Dcel::<Large, u16, u32, u64>::with_capacity(alloc, MILLIONS, 0, 1) {
+        Ok(mesh) => (Ok(()), mesh.num_vertices()),
+        Err(error) => (Err(error), 0),
+    }
 }
 
-/// What a request for a mesh with room for so many large vertices tells.
-fn ask_for_mesh(alloc: Global, vertices: usize) -> Result<(), ReserveError> {
-    let mesh: Dcel<Large, u16, u32, u64> = Dcel::with_capacity(alloc, vertices, 0, 1)?;
-    drop(mesh);
-    Ok(())
+/// What requests for room tell that no memory has.
+pub fn large_data(alloc: Global) -> [Answer; 5] {
+    [
+        ask_for_mesh(alloc),
+        ask_for_vertices(alloc),
+        ask_for_directed_edges(alloc),
+        ask_for_undirected_edges(alloc),
+        ask_for_faces(alloc),
+    ]
 }
 
-#[test]
-fn a_mesh_with_room_may_be_refused(rt: HostRuntime) {
-    let alloc = rt.alloc();
-    assert_eq!(rt;
-        [
-            ask_for_mesh(alloc, 0),
-            ask_for_mesh(alloc, MILLIONS),
-            ask_for_mesh(alloc, MAX_ELEMENTS + 1),
-        ],
-        [
-            Ok(()),
-            Err(ReserveError::OutOfMemory),
-            Err(ReserveError::TooMany),
-        ]
-    );
+/// Two vertices, and edge 0 from the first to the second. Without room for them it is empty.
+fn line(alloc: Global) -> Links {
+    let mut links = Links::new(alloc);
+    if links.reserve(2, 1, 1) == Ok(()) {
+        let a = links.push_vertex();
+        let b = links.push_vertex();
+        links.connect(a, b);
+    }
+    links
 }
 
-/// One face, cleared.
-fn cleared(alloc: Global) -> Mesh {
-    let mut mesh = one_face(alloc);
-    mesh.clear();
-    mesh
+/// How many vertices, half-edges and inner faces there are.
+fn link_counts(links: &Links) -> [usize; 3] {
+    [
+        links.vertex_count(),
+        links.half_edge_count(),
+        links.inner_face_count(),
+    ]
 }
 
-#[test]
-fn clearing_leaves_the_outer_face(rt: HostRuntime) {
-    let mesh = cleared(rt.alloc());
-    assert_eq!(rt; (mesh.num_vertices(), mesh.num_faces()), (0, 1));
+/// Edge 0, if there is an edge, the edge that vertex 1 names, and the outer edge.
+fn first_links(links: &Links) -> Option<(HalfEdge, Option<u32>, Option<u32>)> {
+    if links.half_edge_count() == 0 || links.vertex_count() < 2 {
+        return None;
+    }
+    Some((links.half_edge(0), links.out_edge(1), links.outer_edge()))
+}
+
+/// The counts of a line that was cleared, and those of its copy and its links.
+type LineAndCopy = (
+    [usize; 3],
+    [usize; 3],
+    Option<(HalfEdge, Option<u32>, Option<u32>)>,
+);
+
+pub fn links_of_a_line(alloc: Global) -> Result<LineAndCopy, AllocError> {
+    let mut links = line(alloc);
+    let copy = links.clone()?;
+    links.clear();
+    Ok((link_counts(&links), link_counts(&copy), first_links(&copy)))
 }

@@ -1,107 +1,79 @@
-//! The Voronoi forms of a mesh.
+//! The Voronoi forms of a mesh, by the indexes of what they are forms of.
 
-use crate::growth::{one_edge, one_face};
-use crate::reads::{Edge, Face, Mesh, directed, edge_at, face_at};
+use crate::lookups::{Edge, Mesh, edge_at, has_face, undirected_at, vertex};
 use half_edge_mesh::FixedFaceHandle;
 use half_edge_views::MeshViews;
 use half_edge_voronoi::{
-    AsVoronoiEdge, AsVoronoiFace, AsVoronoiVertex, DirectedVoronoiEdge, UndirectedVoronoiEdge,
-    VoronoiVertex, VoronoiViews,
+    AsVoronoiEdge, AsVoronoiFace, AsVoronoiVertex, DirectedVoronoiEdge, VoronoiVertex, VoronoiViews,
 };
 
 type VoronoiEdge<'a> = DirectedVoronoiEdge<'a, u8, u16, u32, u64>;
 
-/// Whether an edge is that of `side`, and has two ends outside.
-fn is_without_vertices(
-    edge: UndirectedVoronoiEdge<'_, u8, u16, u32, u64>,
-    side: Edge<'_>,
-) -> [bool; 5] {
-    let [from, to] = edge.vertices();
+fn index_of(edge: VoronoiEdge<'_>) -> u32 {
+    edge.as_delaunay_edge().fix().index()
+}
+
+/// The face that a vertex is the centre of, if it is of one, and an edge out of it.
+fn centre(vertex: VoronoiVertex<'_, u8, u16, u32, u64>) -> (Option<u32>, Option<u32>) {
+    (
+        vertex.as_delaunay_face().map(|face| face.fix().index()),
+        vertex.out_edge().map(|edge| index_of(edge)),
+    )
+}
+
+/// The other direction, the next and the previous edge, the undirected one and the face of an edge's Voronoi form.
+fn beside(edge: VoronoiEdge<'_>) -> [u32; 5] {
     [
-        edge.as_delaunay_edge() == side.as_undirected(),
-        from == VoronoiVertex::Outer(edge.as_directed()),
-        to == VoronoiVertex::Outer(edge.as_directed().rev()),
-        from.as_delaunay_face().is_none(),
-        to.out_edge().is_none(),
+        index_of(edge.rev()),
+        index_of(edge.next()),
+        index_of(edge.prev()),
+        edge.as_undirected().as_delaunay_edge().fix().index(),
+        edge.face().as_delaunay_vertex().fix().index(),
     ]
 }
 
-/// The same of the first edge.
-fn is_first_without_vertices(mesh: &Mesh) -> Option<[bool; 5]> {
-    let side = edge_at(mesh, directed(0))?;
-    let edge = mesh.undirected_voronoi_edges().next()?;
-    Some(is_without_vertices(edge, side))
+/// The same, and where it starts and ends.
+pub fn voronoi_edge(
+    mesh: &Mesh,
+    index: u32,
+) -> Option<([u32; 5], [(Option<u32>, Option<u32>); 2])> {
+    let edge: Edge<'_> = edge_at(mesh, index)?;
+    let across = edge.as_voronoi_edge();
+    Some((beside(across), [centre(across.from()), centre(across.to())]))
 }
 
-#[test]
-fn two_vertices_have_two_far_ends(rt: HostRuntime) {
-    let mesh = one_edge(rt.alloc());
-    assert_eq!(rt; is_first_without_vertices(&mesh), Some([true; 5]));
+/// The first direction of the Voronoi form of an undirected edge, and its ends.
+pub fn undirected_voronoi_edge(
+    mesh: &Mesh,
+    index: u32,
+) -> Option<(u32, [(Option<u32>, Option<u32>); 2])> {
+    let edge = mesh.undirected_edge(undirected_at(mesh, index)?);
+    let across = edge.as_voronoi_edge();
+    let [from, to] = across.vertices();
+    Some((index_of(across.as_directed()), [centre(from), centre(to)]))
 }
 
-/// Whether an inner face and its vertex name each other, and the edges of both start with the same.
-fn is_of_vertex(face: Face<'_>) -> Option<[bool; 3]> {
-    if face.is_outer() {
+/// The edges out of the Voronoi vertex of an inner face.
+pub fn voronoi_vertex(mesh: &Mesh, index: u32) -> Option<[u32; 3]> {
+    let name = FixedFaceHandle::from_index(index);
+    if name.is_outer() || !has_face(mesh, name) {
         return None;
     }
-    let centre = face.as_voronoi_vertex();
-    let [first, second, _] = centre.out_edges();
+    let [first, second, third] = mesh.face(name).as_voronoi_vertex().out_edges();
+    Some([index_of(first), index_of(second), index_of(third)])
+}
+
+/// The vertex of a Voronoi face and the first edge round it; then the first of all faces and of all edges.
+pub fn voronoi_face(mesh: &Mesh, index: u32) -> Option<[Option<u32>; 4]> {
+    let face = mesh.get_vertex(vertex(index))?.as_voronoi_face();
     Some([
-        centre.as_delaunay_face() == Some(face),
-        centre.out_edge() == Some(first),
-        first.as_delaunay_edge().next() == second.as_delaunay_edge(),
+        Some(face.as_delaunay_vertex().fix().index()),
+        face.adjacent_edges().next().map(|edge| index_of(edge)),
+        mesh.voronoi_faces()
+            .next()
+            .map(|face| face.as_delaunay_vertex().fix().index()),
+        mesh.directed_voronoi_edges()
+            .next()
+            .map(|edge| index_of(edge)),
     ])
-}
-
-/// The last edge out of the vertex of an inner face, and whether it starts there.
-fn last_edge(face: Face<'_>) -> Option<(VoronoiEdge<'_>, bool)> {
-    if face.is_outer() {
-        return None;
-    }
-    let centre = face.as_voronoi_vertex();
-    let [_, _, third] = centre.out_edges();
-    Some((third, third.from() == centre))
-}
-
-/// Whether an edge ends outside, and its other forms agree.
-fn ends_outside(edge: VoronoiEdge<'_>) -> [bool; 4] {
-    let side = edge.as_delaunay_edge();
-    [
-        edge.to() == VoronoiVertex::Outer(edge.rev()),
-        side.as_voronoi_edge() == edge,
-        edge.rev().as_undirected() == side.as_undirected().as_voronoi_edge(),
-        edge.next().prev() == edge,
-    ]
-}
-
-/// Whether the face of an edge is that of the vertex that the side starts at, and has an edge.
-fn is_round_a_vertex(edge: VoronoiEdge<'_>) -> [bool; 3] {
-    let vertex = edge.as_delaunay_edge().from();
-    [
-        edge.face() == vertex.as_voronoi_face(),
-        edge.face().as_delaunay_vertex() == vertex,
-        edge.face().adjacent_edges().next().is_some(),
-    ]
-}
-
-/// All of that, of face 1 and its last edge.
-fn first_face(mesh: &Mesh) -> Option<([bool; 3], bool, [bool; 4], [bool; 3])> {
-    let face = face_at(mesh, FixedFaceHandle::from_index(1))?;
-    let (edge, starts) = last_edge(face)?;
-    let is_of_vertex = is_of_vertex(face)?;
-    Some((
-        is_of_vertex,
-        starts,
-        ends_outside(edge),
-        is_round_a_vertex(edge),
-    ))
-}
-
-#[test]
-fn one_face_has_a_vertex_with_three_edges(rt: HostRuntime) {
-    let mesh = one_face(rt.alloc());
-    assert_eq!(rt;
-        first_face(&mesh),
-        Some(([true; 3], true, [true; 4], [true; 3]))
-    );
 }

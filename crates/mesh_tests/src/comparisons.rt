@@ -1,0 +1,104 @@
+//! What names and handles of the parts of a mesh derive: copies, equality, order, hashes and printed forms.
+
+use crate::lookups::{Edge, Mesh, directed, edge_at, vertex};
+use half_edge_links::{HalfEdge, ReserveError};
+use half_edge_mesh::{FixedFaceHandle, IsolateVertexResult};
+use half_edge_voronoi::{AsVoronoiEdge, AsVoronoiFace};
+use std::cmp::Ordering;
+use std::hash::{DefaultHasher, Hash, Hasher};
+use std::io;
+
+fn hash_of<T: Hash>(value: &T) -> u64 {
+    let mut state = DefaultHasher::new();
+    value.hash(&mut state);
+    state.finish()
+}
+
+/// Whether a value equals its copy, hashes as that does, equals another, and hashes as that does; and the order of both.
+type Comparison = Option<([bool; 4], Option<Ordering>, Ordering)>;
+
+fn compare<T: Clone + Ord + Hash + Drop>(value: &T, other: &T) -> Comparison {
+    let copy = value.clone().ok()?;
+    let equal = [
+        copy == *value,
+        hash_of(&copy) == hash_of(value),
+        *value == *other,
+        hash_of(other) == hash_of(value),
+    ];
+    Some((equal, value.partial_cmp(other), value.cmp(other)))
+}
+
+/// Of the names of vertices, directed edges, undirected edges and faces with these indexes.
+pub fn compare_names(a: u32, b: u32) -> [Comparison; 4] {
+    let (first, second) = (directed(a), directed(b));
+    [
+        compare(&vertex(a), &vertex(b)),
+        compare(&first, &second),
+        compare(&first.as_undirected(), &second.as_undirected()),
+        compare(
+            &FixedFaceHandle::from_index(a),
+            &FixedFaceHandle::from_index(b),
+        ),
+    ]
+}
+
+/// Of two edges, and of their undirected edges, starts and left faces.
+pub fn compare_edges(mesh: &Mesh, a: u32, b: u32) -> Option<[Comparison; 4]> {
+    let (first, second) = (edge_at(mesh, a)?, edge_at(mesh, b)?);
+    Some([
+        compare(&first, &second),
+        compare(&first.as_undirected(), &second.as_undirected()),
+        compare(&first.from(), &second.from()),
+        compare(&first.face(), &second.face()),
+    ])
+}
+
+/// The same of their Voronoi forms, and of the vertices that these start at.
+pub fn compare_voronoi(mesh: &Mesh, a: u32, b: u32) -> Option<[Comparison; 4]> {
+    let (first, second) = (edge_at(mesh, a)?, edge_at(mesh, b)?);
+    let (first, second) = (first.as_voronoi_edge(), second.as_voronoi_edge());
+    Some([
+        compare(&first, &second),
+        compare(&first.as_undirected(), &second.as_undirected()),
+        compare(&first.face(), &second.face()),
+        compare(&first.from(), &second.from()),
+    ])
+}
+
+fn print_handles(rt: &impl Print, edge: Edge<'_>) -> io::Result<()> {
+    println!(rt; "{:?} {:?}", edge, edge.fix())?;
+    println!(rt;
+        "{:?} {:?}",
+        edge.as_undirected(),
+        edge.as_undirected().fix()
+    )?;
+    println!(rt; "{:?} {:?}", edge.from(), edge.from().fix())?;
+    println!(rt; "{:?} {:?}", edge.face(), edge.face().fix())
+}
+
+fn print_voronoi_forms(rt: &impl Print, edge: Edge<'_>) -> io::Result<()> {
+    let across = edge.as_voronoi_edge();
+    println!(rt; "{:?}", across.as_undirected())?;
+    println!(rt; "{:?}", across.face())?;
+    println!(rt; "{:?}", across.to())
+}
+
+/// Prints an edge with its parts and its Voronoi forms, if it is there, and records that no other call prints.
+pub fn print_edge(rt: &impl Print, mesh: &Mesh, index: u32) -> io::Result<()> {
+    if let Some(edge) = edge_at(mesh, index) {
+        print_handles(rt, edge)?;
+        print_voronoi_forms(rt, edge)?;
+    }
+    print_records(rt)
+}
+
+fn print_records(rt: &impl Print) -> io::Result<()> {
+    let links = HalfEdge {
+        origin: 1,
+        next: 2,
+        prev: 3,
+        face: 4,
+    };
+    let lost = IsolateVertexResult { vertex: vertex(5) };
+    println!(rt; "{links:?} {:?} {lost:?}", ReserveError::TooMany)
+}

@@ -1,0 +1,166 @@
+//! What the elements of a mesh are, read through handles and by indexes.
+
+use crate::lookups::{
+    Edge, Mesh, directed, edge_at, has_edge, has_face, has_vertex, undirected_at, vertex as name,
+};
+use half_edge_mesh::{FixedFaceHandle, HalfEdge};
+use half_edge_views::{FaceHandle, MeshViews};
+
+/// How many vertices, directed edges, undirected edges, inner faces and faces there are.
+pub fn counts(mesh: &Mesh) -> [usize; 5] {
+    [
+        mesh.num_vertices(),
+        mesh.num_directed_edges(),
+        mesh.num_undirected_edges(),
+        mesh.num_inner_faces(),
+        mesh.num_faces(),
+    ]
+}
+
+/// The data of a vertex by its handle and by its name, and the start of the edge that it names.
+pub fn vertex(mesh: &Mesh, index: u32) -> Option<([u8; 2], Option<u32>)> {
+    let vertex = name(index);
+    let handle = mesh.get_vertex(vertex)?;
+    let start = handle.out_edge().map(|edge| edge.from().fix().index());
+    if !has_vertex(mesh, vertex) {
+        return None;
+    }
+    Some(([*handle.data(), *mesh.vertex_data(vertex)], start))
+}
+
+/// The start and the end of an edge, the next and the previous one, the other direction, the next ones round its start
+/// counterclockwise and clockwise, and the face on its left.
+pub fn directed_edge(mesh: &Mesh, index: u32) -> Option<[u32; 8]> {
+    let edge = edge_at(mesh, index)?;
+    Some([
+        edge.from().fix().index(),
+        edge.to().fix().index(),
+        edge.next().fix().index(),
+        edge.prev().fix().index(),
+        edge.rev().fix().index(),
+        edge.ccw().fix().index(),
+        edge.cw().fix().index(),
+        edge.face().fix().index(),
+    ])
+}
+
+fn opposite(edge: Edge<'_>) -> Option<u32> {
+    Some(edge.opposite_vertex()?.fix().index())
+}
+
+/// Whether an edge is outer, the vertex opposite it, and both data of its ends.
+pub fn edge_kind(mesh: &Mesh, index: u32) -> Option<(bool, Option<u32>, [u8; 2])> {
+    let edge = edge_at(mesh, index)?;
+    let [from, to] = edge.vertices();
+    Some((
+        edge.is_outer_edge(),
+        opposite(edge),
+        [*from.data(), *to.data()],
+    ))
+}
+
+/// An undirected edge's directed edge, ends and data.
+pub fn undirected_edge(mesh: &Mesh, index: u32) -> Option<(u32, [u32; 2], u32)> {
+    let name = undirected_at(mesh, index)?;
+    let edge = mesh.undirected_edge(name);
+    let [from, to] = edge.vertices();
+    let ends = [from.fix().index(), to.fix().index()];
+    Some((
+        edge.as_directed().fix().index(),
+        ends,
+        *mesh.undirected_edge_data(name),
+    ))
+}
+
+/// The data of an undirected edge and of both its directions, first the asked one.
+pub fn edge_data(mesh: &Mesh, index: u32) -> Option<(u32, [u16; 2])> {
+    let edge = edge_at(mesh, index)?;
+    let other = directed(index);
+    if !has_edge(mesh, other) {
+        return None;
+    }
+    let reverse = *edge.rev().data();
+    Some((
+        *edge.as_undirected().data(),
+        [*mesh.directed_edge_data(other), reverse],
+    ))
+}
+
+/// The edges of an inner face by their indexes, and the data of its corners.
+fn corners(face: FaceHandle<'_, u8, u16, u32, u64>) -> Option<([u32; 3], [u8; 3])> {
+    if face.is_outer() {
+        return None;
+    }
+    let [ab, bc, ca] = face.adjacent_edges();
+    let [a, b, c] = face.vertices();
+    Some((
+        [ab.fix().index(), bc.fix().index(), ca.fix().index()],
+        [*a.data(), *b.data(), *c.data()],
+    ))
+}
+
+/// A face's data, by its handle and by its name, and for an inner one its edges and the data of its corners.
+pub fn face(mesh: &Mesh, index: u32) -> Option<(u64, u64, Option<([u32; 3], [u8; 3])>)> {
+    let name = FixedFaceHandle::from_index(index);
+    if !has_face(mesh, name) {
+        return None;
+    }
+    let face = mesh.face(name);
+    Some((*face.data(), *mesh.face_data(name), corners(face)))
+}
+
+/// The edge from one vertex to another, and the one back.
+pub fn edges_between(mesh: &Mesh, from: u32, to: u32) -> Option<[u32; 2]> {
+    let (from, to) = (name(from), name(to));
+    if !has_vertex(mesh, from) || !has_vertex(mesh, to) {
+        return None;
+    }
+    let there = mesh.get_edge_from_neighbors(from, to)?;
+    let back = mesh.get_edge_from_neighbors(to, from)?;
+    Some([there.fix().index(), back.fix().index()])
+}
+
+/// By indexes alone: start, next, previous and face of an edge, the start of the edge that its start names, and the
+/// face of the edge that its face names.
+pub fn links(mesh: &Mesh, index: u32) -> Option<([u32; 4], [Option<u32>; 2])> {
+    let edge = links_of(mesh, index)?;
+    let parts = [
+        origin_of(mesh, out_edge(mesh, edge.origin)),
+        face_of(mesh, edge_of_face(mesh, edge.face)),
+    ];
+    Some(([edge.origin, edge.next, edge.prev, edge.face], parts))
+}
+
+fn links_of(mesh: &Mesh, index: u32) -> Option<HalfEdge> {
+    let edge = directed(index);
+    if !has_edge(mesh, edge) {
+        return None;
+    }
+    Some(mesh.half_edge(edge.index()))
+}
+
+fn origin_of(mesh: &Mesh, edge: Option<u32>) -> Option<u32> {
+    Some(links_of(mesh, edge?)?.origin)
+}
+
+fn face_of(mesh: &Mesh, edge: Option<u32>) -> Option<u32> {
+    Some(links_of(mesh, edge?)?.face)
+}
+
+fn out_edge(mesh: &Mesh, index: u32) -> Option<u32> {
+    let vertex = name(index);
+    if !has_vertex(mesh, vertex) {
+        return None;
+    }
+    mesh.out_edge(vertex.index())
+}
+
+fn edge_of_face(mesh: &Mesh, face: u32) -> Option<u32> {
+    if face == 0 {
+        return mesh.outer_edge();
+    }
+    if !has_face(mesh, FixedFaceHandle::from_index(face)) {
+        return None;
+    }
+    Some(mesh.face_edge(face))
+}

@@ -1,0 +1,74 @@
+//! What the iterators of a mesh give.
+ghost use Rattle.std.specs.Iterator.{IsFinite};
+
+use crate::lookups::{Mesh, vertex};
+use half_edge_views::MeshViews;
+use half_edge_voronoi::{AsVoronoiFace, VoronoiViews};
+
+/// How many items are given. No list here is so long that it saturates.
+pub fn count_of<T: Drop, I: Iterator<Item = T> + Drop>(items: I) -> usize
+    requires can { I.can_next items }
+    requires ends { IsFinite (I.remaining items) }
+{
+    let mut count = 0usize;
+    for _ in items {
+        count = count.saturating_add(1);
+    }
+    count
+}
+
+/// How many edges the hull gives, and the greatest index of them.
+fn hull(mesh: &Mesh) -> (usize, Option<u32>) {
+    (
+        count_of(mesh.convex_hull()),
+        mesh.convex_hull().map(|edge| edge.fix().index()).max(),
+    )
+}
+
+/// How many vertices, directed edges, undirected edges, faces, inner faces, Voronoi faces, directed and undirected
+/// Voronoi edges are given, and those of the hull.
+pub fn lists(mesh: &Mesh) -> ([usize; 8], (usize, Option<u32>)) {
+    let counts = [
+        count_of(mesh.vertices()),
+        count_of(mesh.directed_edges()),
+        count_of(mesh.undirected_edges()),
+        count_of(mesh.faces()),
+        count_of(mesh.inner_faces()),
+        count_of(mesh.voronoi_faces()),
+        count_of(mesh.directed_voronoi_edges()),
+        count_of(mesh.undirected_voronoi_edges()),
+    ];
+    (counts, hull(mesh))
+}
+
+/// How many names of vertices, directed edges, undirected edges, faces and inner faces are given, and the first name of
+/// a face and of an inner one.
+pub fn names(mesh: &Mesh) -> ([usize; 5], [Option<u32>; 2]) {
+    let counts = [
+        count_of(mesh.fixed_vertices()),
+        count_of(mesh.fixed_directed_edges()),
+        count_of(mesh.fixed_undirected_edges()),
+        count_of(mesh.fixed_faces()),
+        count_of(mesh.fixed_inner_faces()),
+    ];
+    let first = [
+        mesh.fixed_faces().next().map(|face| face.index()),
+        mesh.fixed_inner_faces().next().map(|face| face.index()),
+    ];
+    (counts, first)
+}
+
+/// How many edges start at a vertex, how many edges its face of the Voronoi diagram has, and the least and the
+/// greatest index of a vertex where the former end.
+pub fn round(mesh: &Mesh, index: u32) -> Option<([usize; 2], [Option<u32>; 2])> {
+    let vertex = mesh.get_vertex(vertex(index))?;
+    let counts = [
+        count_of(vertex.out_edges()),
+        count_of(vertex.as_voronoi_face().adjacent_edges()),
+    ];
+    let ends = [
+        vertex.out_edges().map(|edge| edge.to().index).min(),
+        vertex.out_edges().map(|edge| edge.to().index).max(),
+    ];
+    Some((counts, ends))
+}

@@ -1,0 +1,54 @@
+//! Whether a part of a mesh is there.
+ghost use Rattle.std.specs.Prelude.{◌<◌, ◌≤◌, ◌↔◌, length, IsTrue, IfSome};
+
+use half_edge_mesh::{
+    Dcel, FixedDirectedEdgeHandle, FixedFaceHandle, FixedUndirectedEdgeHandle, FixedVertexHandle,
+};
+use half_edge_views::{DirectedEdgeHandle, MeshViews};
+
+pub type Mesh = Dcel<u8, u16, u32, u64>;
+
+pub type Edge<'a> = DirectedEdgeHandle<'a, u8, u16, u32, u64>;
+
+pub fn vertex(index: u32) -> FixedVertexHandle {
+    FixedVertexHandle::from_index(index)
+}
+
+pub fn directed(index: u32) -> FixedDirectedEdgeHandle {
+    FixedDirectedEdgeHandle::from_index(index)
+}
+
+pub fn has_vertex(mesh: &Mesh, vertex: FixedVertexHandle) -> bool
+    ensures { IsTrue result ↔ (vertex < length mesh.now.vertices) }
+{
+    (vertex.index() as usize) < mesh.num_vertices()
+}
+
+pub fn has_edge(mesh: &Mesh, edge: FixedDirectedEdgeHandle) -> bool
+    ensures { IsTrue result ↔ (edge < length mesh.now.directed) }
+{
+    (edge.index() as usize) < mesh.num_directed_edges()
+}
+
+pub fn has_face(mesh: &Mesh, face: FixedFaceHandle) -> bool
+    ensures { IsTrue result ↔ (face ≤ length mesh.now.faces) }
+{
+    face.index() as usize <= mesh.num_inner_faces()
+}
+
+pub fn edge_at(mesh: &Mesh, index: u32) -> Option<Edge<'_>> {
+    let edge = directed(index);
+    if !has_edge(mesh, edge) {
+        return None;
+    }
+    Some(mesh.directed_edge(edge))
+}
+
+pub fn undirected_at(mesh: &Mesh, index: u32) -> Option<FixedUndirectedEdgeHandle>
+    ensures { IfSome result (λ edge. edge < length mesh.now.undirected) }
+{
+    if index as usize >= mesh.num_undirected_edges() {
+        return None;
+    }
+    Some(FixedUndirectedEdgeHandle::from_index(index))
+}

@@ -1,0 +1,31 @@
+//! Runs a script of calls of the half-edge mesh, and prints each line with what its call gives. A call that may not be
+//! made, or is refused, gives `None` or an error. Lines that start with `#` are printed as they are.
+#![tactic(auto)]
+
+mod comparisons;
+mod data;
+mod elements;
+mod growth;
+mod indexes;
+mod iterators;
+mod lookups;
+mod removal;
+mod room;
+mod script;
+mod voronoi;
+
+use lookups::Mesh;
+use script::{Call, answer};
+use std::io;
+
+fn main(rt: HostRuntime) -> io::Result<()> {
+    let mut mesh = Mesh::new(rt.alloc());
+    for line in rt.lines(rt.alloc()) {
+        let line = line?;
+        match Call::parse(line.as_str()) {
+            Some(call) => answer(&rt, &mut mesh, &call)?,
+            None => println!(rt; "{line}")?,
+        }
+    }
+    Ok(())
+}
