@@ -54,7 +54,9 @@ fn dialogue_of<'a>(
 /// Whether the program answers as the dialogue says, whose first line begins with the sheet's letter.
 pub(crate) fn is_answered(alloc: Global, text: &str) -> Result<bool, AllocError> {
     let (heading, lines) = text.split_once('\n').unwrap_or((text, ""));
-    let letter = heading.split_once(' ').map_or(heading, |(letter, _)| letter);
+    let letter = heading
+        .split_once(' ')
+        .map_or(heading, |(letter, _)| letter);
     let Some(sheet) = letter_named(letter) else {
         return Ok(false);
     };

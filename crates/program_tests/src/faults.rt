@@ -204,7 +204,10 @@ fn ends_at_each_fault(alloc: Global, width: usize, takes_none: bool) -> bool {
                 && left.taken.as_slice() == OUTPUT;
         }
         let is_told = left.outcome == Err(RunError::Write) && left.failed == (false, true);
-        if !is_told || left.calls != write.wrapping_add(1) || !OUTPUT.starts_with(left.taken.as_slice()) {
+        if !is_told
+            || left.calls != write.wrapping_add(1)
+            || !OUTPUT.starts_with(left.taken.as_slice())
+        {
             return false;
         }
     }

@@ -37,5 +37,8 @@ fn each_command_is_read(rt: HostRuntime) {
 
 #[test]
 fn a_line_that_is_no_text_is_no_command(rt: HostRuntime) {
-    assert_eq!(rt; (parse(b"counts\xff"), parse(b"insert 0 \x801"), parse(b"\0")), (None, None, None));
+    assert_eq!(rt;
+        (parse(b"counts\xff"), parse(b"insert 0 \x801"), parse(b"\0")),
+        (None, None, None)
+    );
 }

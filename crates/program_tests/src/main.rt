@@ -3,7 +3,6 @@
 #![tactic(auto)]
 
 mod dialogue;
-
 #[cfg(test)]
 mod failures;
 #[cfg(test)]

@@ -38,11 +38,7 @@ fn commands(alloc: Global, points: &[SheetPoint]) -> Result<String, AllocError> 
 }
 
 /// The next index for each insertion, then the counts, then each point: of those that are left the last comes to index 0.
-fn replies(
-    alloc: Global,
-    mut points: Vec<SheetPoint>,
-    counts: &str,
-) -> Result<String, AllocError> {
+fn replies(alloc: Global, mut points: Vec<SheetPoint>, counts: &str) -> Result<String, AllocError> {
     let mut text = String::new(alloc);
     for (j, _) in points.iter().enumerate() {
         writeln!(text, "vertex {j}")?;

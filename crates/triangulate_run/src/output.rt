@@ -28,11 +28,7 @@ pub(crate) fn write_all<W: Write>(writer: &mut Watched<W>, bytes: &[u8]) -> Resu
 }
 
 /// Puts the bytes behind what is held.
-fn put_bytes<W: Write>(
-    writer: &mut Watched<W>,
-    held: &mut Held,
-    bytes: &[u8],
-) -> Result<(), Failed>
+fn put_bytes<W: Write>(writer: &mut Watched<W>, held: &mut Held, bytes: &[u8]) -> Result<(), Failed>
     requires works { has_failed writer.old ≡ false }
     ensures { Puts W.contents writer.old writer.new held.old.items held.new.items result bytes.now }
 {
