@@ -28,6 +28,7 @@ returns-in_err-put_piece g c =
 
 pub returns : goal.returns
 returns g c =
-    let all = take_all c.loop-piece.piece-index c.args.pieces.now c.loop-piece-test.false in
-    (subst (λ (ys : List Piece). Passes (g.W.Write.contents (inner_of c.args.writer.now)) (g.W.Write.contents (inner_of c.loop-piece.writer)) c.args.held.now.items c.loop-piece.held.items (flat_map text_of ys)) all c.loop-piece.invariant.so_far,
-    c.loop-piece.invariant.works)
+    let all = take_all c.loop-piece.piece-index c.args.pieces.now c.loop-piece-test.false in (
+      subst (λ (ys : List Piece). Passes (g.W.Write.contents (inner_of c.args.writer.now)) (g.W.Write.contents (inner_of c.loop-piece.writer)) c.args.held.now.items c.loop-piece.held.items (flat_map text_of ys)) all c.loop-piece.invariant.so_far,
+      c.loop-piece.invariant.works,
+    )
