@@ -9,8 +9,6 @@ ghost use Rattle.command_grammar.specs.Grammar.{Spells, SpellsNone, SpellsAtMost
 
 pub mod command;
 mod number;
-#[cfg(test)]
-mod tests;
 mod words;
 
 use command::Command;

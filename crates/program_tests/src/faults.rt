@@ -1,40 +1,38 @@
-//! Runs over no points, with readers and writers that fail.
+//! Runs with readers and writers that fail at a call.
 
 use std::alloc::Global;
 use std::cell::Cell;
 use std::io;
 use std::io::{ErrorKind, Read, Write};
 use triangulate_run::fault::RunError;
-use triangulate_run::points::SheetPoint;
 use triangulate_run::session::run;
 use triangulate_run::sheet::Sheet;
 use watched::Watched;
 
-/// The tests may be asked about no point.
-const NO_POINTS: &[SheetPoint] = &[];
+/// The lines of the input, and what answers each.
+const ANSWERS: [(&str, &str); 6] = [
+    ("insert 0 1\n", "vertex 0\n"),
+    ("insert 1 1\n", "vertex 1\n"),
+    ("counts\n", "2 1 0 0\n"),
+    ("insert 1 0\n", "vertex 2\n"),
+    ("counts\n", "3 3 1 0\n"),
+    ("faces\n", "0 2 1\nend\n"),
+];
 
-const INPUT: &[u8] = b"counts\nlocate 0 0\nfaces\nhello\ninsert 0 1\ninsert 536870913 0\ncounts";
+const INPUT: &[u8] = b"insert 0 1\ninsert 1 1\ncounts\ninsert 1 0\ncounts\nfaces\n";
 
-const OUTPUT: &[u8] =
-    b"0 0 0 0\nunknown point\nend\nbad line\nunknown point\nrefused TooLarge\nbad line\n";
+const OUTPUT: &[u8] = b"vertex 0\nvertex 1\n2 1 0 0\nvertex 2\n3 3 1 0\n0 2 1\nend\n";
 
 /// How many bytes of `OUTPUT` answer the complete lines among the first bytes of `INPUT`.
 fn due(read: usize) -> usize {
-    let mut lines = 0usize;
-    for byte in &INPUT[..read.min(INPUT.len())] {
-        if *byte == b'\n' {
-            lines = lines.saturating_add(1);
-        }
-    }
+    let mut left = read;
     let mut due = 0usize;
-    for byte in OUTPUT {
-        if lines == 0 {
+    for (line, reply) in ANSWERS {
+        if left < line.len() {
             return due;
         }
-        due = due.saturating_add(1);
-        if *byte == b'\n' {
-            lines -= 1;
-        }
+        left -= line.len();
+        due = due.saturating_add(reply.len());
     }
     due
 }
@@ -66,10 +64,11 @@ impl Read for Bytewise<'_> {
     }
 }
 
-/// Takes at most three bytes a call, and fails at a call or takes none.
+/// Takes at most so many bytes a call, and fails at a call or takes none.
 #[derive(Drop)]
 struct Narrow<'a> {
     taken: Vec<u8>,
+    width: usize,
     calls: usize,
     fails_at: usize,
     takes_none: bool,
@@ -92,7 +91,7 @@ impl Write for Narrow<'_> {
             }
             return Err(io::Error::from(ErrorKind::Other));
         }
-        let count = buf.len().min(3);
+        let count = buf.len().min(self.width);
         self.taken.extend_from_slice(&buf[..count])?;
         Ok(count)
     }
@@ -119,24 +118,40 @@ struct Left {
     taken: Vec<u8>,
 }
 
-/// Runs with a reader and a writer that fail at these calls.
-fn run_to_fault(alloc: Global, read: usize, write: usize, takes_none: bool) -> Left {
+/// The calls that fail, and how the writer takes its bytes.
+#[derive(Clone, Copy)]
+struct Faults {
+    read: usize,
+    write: usize,
+    takes_none: bool,
+    width: usize,
+}
+
+/// Runs over `INPUT`, a byte a call of the reader.
+fn run_to_fault(alloc: Global, faults: Faults) -> Left {
     let flushed = Cell::new(0);
     let is_late = Cell::new(false);
     let mut reader = Watched::new(Bytewise {
         read: 0,
-        fails_at: read,
+        fails_at: faults.read,
         flushed: &flushed,
         is_late: &is_late,
     });
     let mut writer = Watched::new(Narrow {
         taken: Vec::new(alloc),
+        width: faults.width,
         calls: 0,
-        fails_at: write,
-        takes_none,
+        fails_at: faults.write,
+        takes_none: faults.takes_none,
         flushed: &flushed,
     });
-    let outcome = run(alloc, &Sheet::G, NO_POINTS, &mut reader, &mut writer);
+    let outcome = run(
+        alloc,
+        &Sheet::G,
+        Sheet::G.points(),
+        &mut reader,
+        &mut writer,
+    );
     let failed = (reader.failed(), writer.failed());
     let Narrow { taken, calls, .. } = writer.into_inner();
     Left {
@@ -148,93 +163,69 @@ fn run_to_fault(alloc: Global, read: usize, write: usize, takes_none: bool) -> L
     }
 }
 
-/// What is written, if the run comes to the end of the input.
-fn writes(alloc: Global, input: &[u8], output: &[u8]) -> bool {
-    let mut reader = Watched::new(input);
-    let mut writer = Watched::new(Vec::new(alloc));
-    let outcome = run(alloc, &Sheet::G, NO_POINTS, &mut reader, &mut writer);
-    outcome.is_ok() && writer.into_inner().as_slice() == output
-}
-
-#[test]
-fn each_line_is_answered(rt: HostRuntime) {
-    assert!(rt; writes(rt.alloc(), INPUT, OUTPUT));
-}
-
 #[test]
 fn lines_are_answered_before_more_is_read(rt: HostRuntime) {
-    for fails_at in 0..80 {
-        let left = run_to_fault(rt.alloc(), fails_at, 1000, false);
+    for read in 0..60 {
+        let faults = Faults {
+            read,
+            write: 1000,
+            takes_none: false,
+            width: 3,
+        };
+        let left = run_to_fault(rt.alloc(), faults);
         let found = (left.outcome, left.failed, left.is_late, left.taken.len());
-        let wanted = if fails_at <= INPUT.len() {
-            (Err(RunError::Read), (true, false), false, due(fails_at))
+        let wanted = if read <= INPUT.len() {
+            (Err(RunError::Read), (true, false), false, due(read))
         } else {
             (Ok(()), (false, false), false, OUTPUT.len())
         };
-        assert_eq!(rt; found, wanted, "at {fails_at}");
-        assert!(rt; OUTPUT.starts_with(left.taken.as_slice()), "at {fails_at}");
-    }
-}
-
-#[test]
-fn a_fault_of_the_writer_ends_the_run(rt: HostRuntime) {
-    for fails_at in 0..60 {
-        for takes_none in [false, true] {
-            let left = run_to_fault(rt.alloc(), 1000, fails_at, takes_none);
-            assert!(rt; OUTPUT.starts_with(left.taken.as_slice()), "at {fails_at}");
-            let is_whole = left.taken.len() == OUTPUT.len();
-            // A flush has no bytes to take, so a fault that takes none is an error there too.
-            let wanted = if left.calls > fails_at {
-                (Err(RunError::Write), (false, true), is_whole)
-            } else {
-                (Ok(()), (false, false), true)
-            };
-            assert_eq!(rt;
-                (left.outcome, left.failed, is_whole),
-                wanted,
-                "at {fails_at}"
-            );
-        }
-    }
-}
-
-/// Whether a line of so many bytes is no command, and the next one is.
-fn is_long_line_answered(alloc: Global, length: usize) -> bool {
-    let Ok(mut input) = vec![in alloc; b'x'; length] else {
-        return false;
-    };
-    if input.extend_from_slice(b"\ncounts\n").is_err() {
-        return false;
-    }
-    writes(alloc, input.as_slice(), b"bad line\n0 0 0 0\n")
-}
-
-#[test]
-fn long_lines_get_one_reply(rt: HostRuntime) {
-    for length in [120usize, 121, 5000] {
-        assert!(rt; is_long_line_answered(rt.alloc(), length), "at {length}");
-    }
-}
-
-#[test]
-fn malformed_lines_get_one_reply(rt: HostRuntime) {
-    for (input, output) in [
-        ("insert 999999999999999999 0\n", "refused TooLarge\n"),
-        ("insert 1000000000000000000 0\n", "bad line\n"),
-        ("locate 999999999999999999 0\n", "unknown point\n"),
-        ("insert +1 0\n", "bad line\n"),
-        ("insert  0 1\n", "bad line\n"),
-        ("insert 0 1 \n", "bad line\n"),
-        ("remove -1\n", "bad line\n"),
-        ("\n", "bad line\n"),
-        ("counts\r\n", "bad line\n"),
-        ("", ""),
-        ("x", "bad line\n"),
-    ] {
-        assert!(rt;
-            writes(rt.alloc(), input.as_bytes(), output.as_bytes()),
-            "at {input:?}"
+        assert_eq!(rt;
+            (found, OUTPUT.starts_with(left.taken.as_slice())),
+            (wanted, true),
+            "at {read}"
         );
     }
-    assert!(rt; writes(rt.alloc(), b"\xff\n", b"bad line\n"));
+}
+
+/// Runs with a writer that fails at each of its calls, up to the first that it isn't called for, and
+/// tells whether each run ended as it has to.
+fn ends_at_each_fault(alloc: Global, width: usize, takes_none: bool) -> bool {
+    for write in 0..80 {
+        let faults = Faults {
+            read: 1000,
+            write,
+            takes_none,
+            width,
+        };
+        let left = run_to_fault(alloc, faults);
+        if left.calls <= write {
+            return left.outcome == Ok(())
+                && left.failed == (false, false)
+                && left.taken.as_slice() == OUTPUT;
+        }
+        let is_told = left.outcome == Err(RunError::Write) && left.failed == (false, true);
+        if !is_told
+            || left.calls != write.wrapping_add(1)
+            || !OUTPUT.starts_with(left.taken.as_slice())
+        {
+            return false;
+        }
+    }
+    false
+}
+
+// A flush has no bytes to take, so a fault that takes none is an error there too.
+#[test]
+fn a_fault_of_the_writer_ends_the_run(rt: HostRuntime) {
+    assert_eq!(rt;
+        (
+            ends_at_each_fault(rt.alloc(), 1, false),
+            ends_at_each_fault(rt.alloc(), 1, true),
+            ends_at_each_fault(rt.alloc(), 3, false),
+            ends_at_each_fault(rt.alloc(), 3, true),
+            ends_at_each_fault(rt.alloc(), 1000, false),
+            ends_at_each_fault(rt.alloc(), 1000, true)
+        ),
+        (true, true, true, true, true, true)
+    );
 }

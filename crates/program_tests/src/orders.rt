@@ -1,49 +1,72 @@
 //! The points of a sheet in many orders.
 
-use crate::answers::writes;
+use crate::dialogue::written;
 use std::alloc::{AllocError, Global};
 use triangulate_run::points::SheetPoint;
 use triangulate_run::sheet::Sheet;
 
-/// Inserts the points in the order `start`, `start + step`, `start + 2 * step` and so on, from the list's beginning again
-/// past its end, and asks for the counts.
-fn insertions(
+/// The points in the order `start`, `start + step`, `start + 2 * step` and so on, from the list's beginning
+/// again past its end.
+fn ordered(
     alloc: Global,
     points: &[SheetPoint],
     start: usize,
     step: usize,
-) -> Result<String, AllocError> {
-    let mut text = String::new(alloc);
+) -> Result<Vec<SheetPoint>, AllocError> {
+    let mut ordered = Vec::new(alloc);
     for (j, _) in points.iter().enumerate() {
         let number = start.wrapping_add(step.wrapping_mul(j)) % points.len().max(1);
         if let Some(point) = points.get(number) {
-            writeln!(text, "insert {} {}", point.position.x, point.position.y)?;
+            ordered.push(*point)?;
         }
+    }
+    Ok(ordered)
+}
+
+/// The points inserted, counted, removed again, index 0 first, and counted.
+fn commands(alloc: Global, points: &[SheetPoint]) -> Result<String, AllocError> {
+    let mut text = String::new(alloc);
+    for point in points {
+        writeln!(text, "insert {} {}", point.position.x, point.position.y)?;
+    }
+    text.push_str("counts\n")?;
+    for _ in points {
+        text.push_str("remove 0\n")?;
     }
     text.push_str("counts\n")?;
     Ok(text)
 }
 
-/// The next index for each insertion, and then the counts.
-fn replies(alloc: Global, points: &[SheetPoint], counts: &str) -> Result<String, AllocError> {
+/// The next index for each insertion, then the counts, then each point: of those that are left the last comes to index 0.
+fn replies(alloc: Global, mut points: Vec<SheetPoint>, counts: &str) -> Result<String, AllocError> {
     let mut text = String::new(alloc);
     for (j, _) in points.iter().enumerate() {
         writeln!(text, "vertex {j}")?;
     }
     writeln!(text, "{counts}")?;
+    while !points.is_empty() {
+        let point = points.swap_remove(0);
+        writeln!(text, "removed {} {}", point.position.x, point.position.y)?;
+    }
+    text.push_str("0 0 0 0\n")?;
     Ok(text)
 }
 
-/// Whether each insertion gets the next index, and then the counts are these.
-fn is_counted(alloc: Global, sheet: Sheet, start: usize, step: usize, counts: &str) -> bool {
-    let points = sheet.points();
-    match (
-        insertions(alloc, points, start, step),
-        replies(alloc, points, counts),
-    ) {
-        (Ok(input), Ok(output)) => writes(alloc, sheet, input.as_bytes(), output.as_bytes()),
-        _ => false,
-    }
+/// Whether each insertion gets the next index, the counts are these, and each removal gives the point
+/// of index 0.
+fn is_answered(
+    alloc: Global,
+    sheet: Sheet,
+    (start, step): (usize, usize),
+    counts: &str,
+) -> Result<bool, AllocError> {
+    let points = ordered(alloc, sheet.points(), start, step)?;
+    let input = commands(alloc, points.as_slice())?;
+    let output = replies(alloc, points, counts)?;
+    Ok(match written(alloc, sheet, input.as_bytes()) {
+        Some(found) => found.as_slice() == output.as_bytes(),
+        None => false,
+    })
 }
 
 #[test]
@@ -52,7 +75,7 @@ fn nine_points_in_54_orders(rt: HostRuntime) {
         for start in 0..9 {
             for step in [1usize, 2, 4, 5, 7, 8] {
                 assert!(rt;
-                    is_counted(rt.alloc(), sheet, start, step, "9 16 8 0"),
+                    is_answered(rt.alloc(), sheet, (start, step), "9 16 8 0") == Ok(true),
                     "{sheet:?} from {start} by {step}"
                 );
             }
@@ -61,12 +84,13 @@ fn nine_points_in_54_orders(rt: HostRuntime) {
 }
 
 #[test]
-fn a_hundred_points_of_a_line_in_4_orders(rt: HostRuntime) {
-    for start in [0usize, 1, 50, 99] {
+fn a_hundred_points_of_a_line_in_5_orders(rt: HostRuntime) {
+    for order in [(0usize, 37usize), (1, 37), (50, 37), (99, 37), (0, 1)] {
         assert!(rt;
-            is_counted(rt.alloc(), Sheet::R, start, 37, "100 99 0 0"),
-            "from {start}"
+            is_answered(rt.alloc(), Sheet::R, order, "100 99 0 0") == Ok(true),
+            "from {} by {}",
+            order.0,
+            order.1
         );
     }
-    assert!(rt; is_counted(rt.alloc(), Sheet::R, 0, 1, "100 99 0 0"));
 }

@@ -1,13 +1,14 @@
 //! The program over standard input and output.
 #![tactic(auto)]
 
+use std::env::FillError;
 use std::io;
-use std::io::Input;
+use std::io::{BufReader, Input, Read};
 use std::process::ExitCode;
 use std::rt::Env;
 use triangulate_run::fault::{RunError, USAGE, fault_text, status_of};
 use triangulate_run::session::run;
-use triangulate_run::sheet::{Sheet, sheet_named};
+use triangulate_run::sheet::{Sheet, letter_named};
 use watched::Watched;
 
 #[cfg(test)]
@@ -16,17 +17,48 @@ mod tests;
 /// The status where the arguments name no sheet.
 const WRONG_ARGUMENTS: u8 = 2;
 
-/// The sheet that the arguments name. Arguments that are no text name none.
-fn sheet_of(rt: &(impl Env + AllocGlobal)) -> Option<Sheet> {
-    let words: Vec<String> = std::env::args(rt).ok()?.skip(1).collect(rt.alloc()).ok()?;
-    sheet_named(&words)
+/// The argument at this index, if it is one byte. None is longer where it names a sheet, so that the
+/// arguments are read without memory of the heap.
+fn letter_at(rt: &impl Env, index: usize) -> Option<u8> {
+    let mut letter = [0u8; 1];
+    match rt.arg(index, &mut letter) {
+        Ok(1) => Some(letter[0]),
+        _ => None,
+    }
 }
 
-/// Answers standard input on standard output.
-fn answer(rt: &(impl Input + Print + AllocGlobal), sheet: Sheet) -> Result<(), RunError> {
-    let mut reader = Watched::new(rt.reader());
+/// Whether the arguments end before this index.
+fn ends_before(rt: &impl Env, index: usize) -> bool {
+    matches!(rt.arg(index, &mut [0u8; 1]), Err(FillError::NotPresent))
+}
+
+/// The sheet that the arguments name: there is one behind the program's name, and it is a sheet's letter.
+fn sheet_of(rt: &impl Env) -> Option<Sheet> {
+    let letter = [letter_at(rt, 1)?];
+    if !ends_before(rt, 2) {
+        return None;
+    }
+    letter_named(str::from_utf8(&letter).ok()?)
+}
+
+/// Answers what the reader gives on standard output.
+fn answer_all<R: Read + Drop>(
+    rt: &(impl Print + AllocGlobal),
+    sheet: Sheet,
+    reader: R,
+) -> Result<(), RunError> {
+    let mut reader = Watched::new(reader);
     let mut writer = Watched::new(io::writer(rt));
     run(rt.alloc(), &sheet, sheet.points(), &mut reader, &mut writer)
+}
+
+/// Answers standard input on standard output. Where there is no memory for a buffer, each byte is read
+/// by a call of its own.
+fn answer(rt: &(impl Input + Print + AllocGlobal), sheet: Sheet) -> Result<(), RunError> {
+    match BufReader::new(rt.alloc(), rt.reader()) {
+        Ok(reader) => answer_all(rt, sheet, reader),
+        Err(_) => answer_all(rt, sheet, rt.reader()),
+    }
 }
 
 /// Does what the arguments ask for, tells of a fault on standard error, and gives the exit status.

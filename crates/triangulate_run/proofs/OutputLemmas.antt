@@ -1,11 +1,11 @@
 -- Texts that are written one after another.
-use Rattle.std.proofs.Common.{◌≡◌, ℕ, List, [], ◌++◌, Option, Some, None, sym, ◌∙◌, ap, append_assoc, append-nil, subst, suc, ◌∷◌, ◌<◌, length, take, drop, get_or}
+use Rattle.std.proofs.Common.{◌≡◌, ℕ, List, [], ◌++◌, Option, Some, None, sym, ◌∙◌, ap, append_assoc, append-nil, subst, suc, ◌∷◌, ◌<◌, ◌+◌, add-one, length, take, drop, get_or}
 use Rattle.std.specs.List.{flat_map}
 use Rattle.std.proofs.lemmas.Grind.{flat_map-append}
-use Rattle.std.proofs.Math.Seq.{split_at}
+use Rattle.std.proofs.Math.Seq.{split_at, take-suc}
 use Rattle.std.specs.Io.KnownBytes.{Appends, Keeps}
-use Rattle.triangulate_run.specs.Output.{AppendsPart, Writes}
-use Rattle.std.proofs.Common.{Result, Ok, Err, true}
+use Rattle.triangulate_run.specs.Output.{AppendsPart, Writes, Passes, Puts}
+use Rattle.std.proofs.Common.{Result, Ok, Err, true, false}
 use Rattle.std.specs.Prelude.{OnOk, OnErr}
 use Rattle.watched.specs.declared.Watched.{Watched}
 use Rattle.watched.specs.Watched.{inner_of, has_failed}
@@ -35,35 +35,102 @@ part_more a b c s t u h p = record {
   written = appends_more a b c s p.part h p.written;
 }
 
--- a part of the text at i, behind the texts before it
-pub part_at : {X : Type 0} (f : X → List ℕ) (xs : List X) (i : ℕ) (d : X) (a b c : Option (List ℕ)) → i < length xs → Appends a b (flat_map f (take i xs)) → AppendsPart b c (f (get_or xs i d)) → AppendsPart a c (flat_map f xs)
-part_at f xs i d a b c h before p =
-    let whole : flat_map f (take i xs) ++ (f (get_or xs i d) ++ flat_map f (drop (suc i) xs)) ≡ flat_map f xs =
-    sym (flat_map-append f (take i xs) (get_or xs i d ∷ drop (suc i) xs)) ∙ ap (flat_map f) (sym (split_at xs i d h)) in
-    subst (λ (t : List ℕ). AppendsPart a c t) whole (part_more a b c (flat_map f (take i xs)) (f (get_or xs i d)) (flat_map f (drop (suc i) xs)) before p)
+-- a part of a text is a part of a longer one
+pub part_longer : (a b : Option (List ℕ)) (s t : List ℕ) → AppendsPart a b s → AppendsPart a b (s ++ t)
+part_longer a b s t p = record { part = p.part; rest = p.rest ++ t; whole = ap (λ ys. ys ++ t) p.whole ∙ append_assoc p.part p.rest t; written = p.written }
 
--- a part of a piece of the text, behind what stands before the piece
-pub part_within : (a b c : Option (List ℕ)) (text before piece after : List ℕ) → Appends a b before → AppendsPart b c piece → text ≡ before ++ (piece ++ after) → AppendsPart a c text
-part_within a b c text before piece after h p e = subst (λ (t : List ℕ). AppendsPart a c t) (sym e) (part_more a b c before piece after h p)
+-- nothing was put
+pub passes_nil : (a : Option (List ℕ)) (held : List ℕ) → Passes a a held held []
+passes_nil a held = record { part = []; whole = append-nil held; written = appends_nil a }
 
--- the last piece of the text
-pub writes_behind : {W T E : Type 0} (contents : W → Option (List ℕ)) (w0 w1 w2 : Watched W) (r : Result T E) (text before piece : List ℕ)
-    → Appends (contents (inner_of w0)) (contents (inner_of w1)) before → has_failed w1 ≡ has_failed w0 → Writes contents w1 w2 r piece → text ≡ before ++ piece → Writes contents w0 w2 r text
-writes_behind contents w0 w1 w2 (Ok x) text before piece h f (wrote, still) e =
-    (subst (λ (t : List ℕ). Appends (contents (inner_of w0)) (contents (inner_of w2)) t) (sym e) (appends_more _ _ _ before piece h wrote), still ∙ f)
-writes_behind contents w0 w1 w2 (Err x) text before piece h f (wrote, failed) e =
-    (part_within _ _ _ text before piece [] h wrote (e ∙ ap (λ ys. before ++ ys) (sym (append-nil piece))), failed)
+-- what is held, and then the second text, is what was passed on and is held afterwards
+passed_on : (held mid kept s t p q : List ℕ) → held ++ s ≡ p ++ mid → mid ++ t ≡ q ++ kept → held ++ (s ++ t) ≡ (p ++ q) ++ kept
+passed_on held mid kept s t p q e f =
+    sym (append_assoc held s t) ∙ ap (λ ys. ys ++ t) e ∙ append_assoc p mid t ∙ ap (λ ys. p ++ ys) f ∙ sym (append_assoc p q kept)
 
--- a part of the text at i, where a further text stands behind all of them
-pub part_before : {X : Type 0} (f : X → List ℕ) (xs : List X) (i : ℕ) (d : X) (end : List ℕ) (a b c : Option (List ℕ)) → i < length xs → Appends a b (flat_map f (take i xs)) → AppendsPart b c (f (get_or xs i d)) → AppendsPart a c (flat_map f xs ++ end)
-part_before f xs i d end a b c h before p =
-    let q = part_at f xs i d a b c h before p in
-    record { part = q.part; rest = q.rest ++ end; whole = ap (λ ys. ys ++ end) q.whole ∙ append_assoc q.part q.rest end; written = q.written }
+-- one text was put behind another
+pub passes_more : (a b c : Option (List ℕ)) (held mid kept s t : List ℕ) → Passes a b held mid s → Passes b c mid kept t → Passes a c held kept (s ++ t)
+passes_more a b c held mid kept s t x y = record {
+  part = x.part ++ y.part;
+  whole = passed_on held mid kept s t x.part y.part x.whole y.whole;
+  written = appends_more a b c x.part y.part x.written y.written;
+}
+
+-- the writer failed at the second text
+pub passes_part : (a b c : Option (List ℕ)) (held mid s t : List ℕ) → Passes a b held mid s → AppendsPart b c (mid ++ t) → AppendsPart a c (held ++ (s ++ t))
+passes_part a b c held mid s t x y = record {
+  part = x.part ++ y.part;
+  rest = y.rest;
+  whole = passed_on held mid y.rest s t x.part y.part x.whole y.whole;
+  written = appends_more a b c x.part y.part x.written y.written;
+}
+
+-- one more text of a list
+texts_more : {X : Type 0} (f : X → List ℕ) (xs : List X) (i : ℕ) (d : X) → i < length xs → flat_map f (take (i + 1) xs) ≡ flat_map f (take i xs) ++ f (get_or xs i d)
+texts_more f xs i d h = ap (λ n. flat_map f (take n xs)) (add-one i) ∙ ap (flat_map f) (take-suc xs i d h) ∙ flat_map-append f (take i xs) (get_or xs i d ∷ []) ∙ ap (λ ys. flat_map f (take i xs) ++ ys) (append-nil (f (get_or xs i d)))
+
+-- one more text of a list was put
+pub passes_at : {X : Type 0} (f : X → List ℕ) (xs : List X) (i : ℕ) (d : X) (a b c : Option (List ℕ)) (held mid kept : List ℕ) → i < length xs
+    → Passes a b held mid (flat_map f (take i xs)) → Passes b c mid kept (f (get_or xs i d)) → Passes a c held kept (flat_map f (take (i + 1) xs))
+passes_at f xs i d a b c held mid kept h x y =
+    subst (λ (t : List ℕ). Passes a c held kept t) (sym (texts_more f xs i d h)) (passes_more a b c held mid kept (flat_map f (take i xs)) (f (get_or xs i d)) x y)
+
+-- the writer failed at a text of a list
+pub part_at : {X : Type 0} (f : X → List ℕ) (xs : List X) (i : ℕ) (d : X) (a b c : Option (List ℕ)) (held mid : List ℕ) → i < length xs
+    → Passes a b held mid (flat_map f (take i xs)) → AppendsPart b c (mid ++ f (get_or xs i d)) → AppendsPart a c (held ++ flat_map f xs)
+part_at f xs i d a b c held mid h x y =
+    let before = flat_map f (take i xs) in
+    let here = f (get_or xs i d) in
+    let after = flat_map f (drop (suc i) xs) in
+    let all : flat_map f xs ≡ before ++ (here ++ after) = ap (flat_map f) (split_at xs i d h) ∙ flat_map-append f (take i xs) (get_or xs i d ∷ drop (suc i) xs) in
+    let whole : (held ++ (before ++ here)) ++ after ≡ held ++ flat_map f xs =
+    append_assoc held (before ++ here) after ∙ ap (λ ys. held ++ ys) (append_assoc before here after ∙ sym all) in
+    subst (λ (t : List ℕ). AppendsPart a c t) whole (part_longer a c (held ++ (before ++ here)) after (passes_part a b c held mid before here x y))
+
+-- the writer failed at a text of a list, which another text follows
+pub part_before : {X : Type 0} (f : X → List ℕ) (xs : List X) (i : ℕ) (d : X) (end : List ℕ) (a b c : Option (List ℕ)) (held mid : List ℕ) → i < length xs
+    → Passes a b held mid (flat_map f (take i xs)) → AppendsPart b c (mid ++ f (get_or xs i d)) → AppendsPart a c (held ++ (flat_map f xs ++ end))
+part_before f xs i d end a b c held mid h x y =
+    subst (λ (t : List ℕ). AppendsPart a c t) (append_assoc held (flat_map f xs) end) (part_longer a c (held ++ flat_map f xs) end (part_at f xs i d a b c held mid h x y))
+
+-- the last text is put behind the others
+pub puts_behind : {W T E : Type 0} (contents : W → Option (List ℕ)) (w0 w1 w2 : Watched W) (r : Result T E) (held mid kept s t : List ℕ)
+    → Passes (contents (inner_of w0)) (contents (inner_of w1)) held mid s → Puts contents w1 w2 mid kept r t → Puts contents w0 w2 held kept r (s ++ t)
+puts_behind contents w0 w1 w2 (Ok x) held mid kept s t p (q, works) = (passes_more _ _ _ held mid kept s t p q, works)
+puts_behind contents w0 w1 w2 (Err x) held mid kept s t p (q, failed) = (passes_part _ _ _ held mid s t p q, failed)
+
+-- there was room for the bytes
+pub puts_room : (a : Option (List ℕ)) (held kept bytes : List ℕ) → kept ≡ held ++ bytes → Passes a a held kept bytes
+puts_room a held kept bytes e = record { part = []; whole = sym e; written = appends_nil a }
+
+-- what was held was written, and then the bytes
+pub puts_direct : {W T E : Type 0} (contents : W → Option (List ℕ)) (w0 w1 w2 : Watched W) (r : Result T E) (held kept bytes : List ℕ) → kept ≡ []
+    → Appends (contents (inner_of w0)) (contents (inner_of w1)) held → Writes contents w1 w2 r bytes → Puts contents w0 w2 held kept r bytes
+puts_direct contents w0 w1 w2 (Ok x) held kept bytes e h (wrote, works) =
+    (record { part = held ++ bytes; whole = sym (append-nil (held ++ bytes)) ∙ ap (λ ys. (held ++ bytes) ++ ys) (sym e); written = appends_more _ _ _ held bytes h wrote }, works)
+puts_direct contents w0 w1 w2 (Err x) held kept bytes e h (wrote, failed) =
+    (subst (λ (t : List ℕ). AppendsPart (contents (inner_of w0)) (contents (inner_of w2)) (held ++ t)) (append-nil bytes) (part_more _ _ _ held bytes [] h wrote), failed)
+
+-- what is held at the end is written
+pub writes_held : {W T E : Type 0} (contents : W → Option (List ℕ)) (w0 w1 w2 : Watched W) (r : Result T E) (held kept text : List ℕ) → held ≡ []
+    → Passes (contents (inner_of w0)) (contents (inner_of w1)) held kept text → Writes contents w1 w2 r kept → Writes contents w0 w2 r text
+writes_held contents w0 w1 w2 (Ok x) held kept text e p (wrote, works) =
+    let whole : text ≡ p.part ++ kept = ap (λ ys. ys ++ text) (sym e) ∙ p.whole in
+    (subst (λ (t : List ℕ). Appends (contents (inner_of w0)) (contents (inner_of w2)) t) (sym whole) (appends_more _ _ _ p.part kept p.written wrote), works)
+writes_held contents w0 w1 w2 (Err x) held kept text e p (wrote, failed) =
+    let whole : text ≡ p.part ++ kept = ap (λ ys. ys ++ text) (sym e) ∙ p.whole in
+    let behind = part_more _ _ _ p.part kept [] p.written wrote in
+    (subst (λ (t : List ℕ). AppendsPart (contents (inner_of w0)) (contents (inner_of w2)) t) (ap (λ ys. p.part ++ ys) (append-nil kept) ∙ sym whole) behind, failed)
 
 -- the text is written, and passed on
 pub writes_flushed : {W T E : Type 0} (contents : W → Option (List ℕ)) (w0 w1 w2 : Watched W) (r : Result T E) (text : List ℕ)
-    → Appends (contents (inner_of w0)) (contents (inner_of w1)) text → has_failed w1 ≡ has_failed w0 → Keeps (contents (inner_of w1)) (contents (inner_of w2))
-    → OnOk r (has_failed w2 ≡ has_failed w1) → OnErr r (has_failed w2 ≡ true) → Writes contents w0 w2 r text
-writes_flushed contents w0 w1 w2 (Ok x) text wrote still kept ok err = (appends_keep _ _ _ text wrote kept, ok ∙ still)
-writes_flushed contents w0 w1 w2 (Err x) text wrote still kept ok err =
+    → Appends (contents (inner_of w0)) (contents (inner_of w1)) text → Keeps (contents (inner_of w1)) (contents (inner_of w2))
+    → OnOk r (has_failed w2 ≡ false) → OnErr r (has_failed w2 ≡ true) → Writes contents w0 w2 r text
+writes_flushed contents w0 w1 w2 (Ok x) text wrote kept ok err = (appends_keep _ _ _ text wrote kept, ok)
+writes_flushed contents w0 w1 w2 (Err x) text wrote kept ok err =
     (record { part = text; rest = []; whole = sym (append-nil text); written = appends_keep _ _ _ text wrote kept }, err)
+
+-- a writer that took the text has not failed
+pub works_if_ok : {W T E : Type 0} (contents : W → Option (List ℕ)) (w0 w1 : Watched W) (r : Result T E) (text : List ℕ) → Writes contents w0 w1 r text → OnOk r (has_failed w1 ≡ false)
+works_if_ok contents w0 w1 (Ok x) text (wrote, works) = works
+works_if_ok contents w0 w1 (Err x) text (wrote, failed) = tt

@@ -87,7 +87,7 @@ start remaining contents r w line points stage e f hr hw = record {
 
 pub byte_more : {R W : Type 0} {remaining : R → Option (List ℕ)} {contents : W → Option (List ℕ)} {r0 r1 : Watched R} {w0 w1 : Watched W} {line : Option (List ℕ)} {points : List SheetPoint} {stage : Stage}
     → IsRunning points remaining contents r0 r1 w0 w1 line stage → (r2 : Watched R) (b : ℕ) (after : Option (List ℕ))
-    → Consumes (remaining (inner_of r1)) (remaining (inner_of r2)) (b ∷ []) → has_failed r2 ≡ has_failed r1 → b ≢ 10 → after ≡ push_kept line b
+    → Consumes (remaining (inner_of r1)) (remaining (inner_of r2)) (b ∷ []) → has_failed r2 ≡ false → b ≢ 10 → after ≡ push_kept line b
     → IsRunning points remaining contents r0 r2 w0 w1 after stage
 byte_more s r2 b after took works ne e = record {
   input = s.input ++ b ∷ [];
@@ -99,14 +99,14 @@ byte_more s r2 b after took works ne e = record {
   cut = cut_byte s.input s.lines s.rest b s.cut ne;
   answered = s.answered;
   held = e ∙ ap (λ k. push_kept k b) s.held ∙ kept_push s.rest b;
-  reader_works = works ∙ s.reader_works;
+  reader_works = works;
   writer_works = s.writer_works;
 }
 
 pub line_more : {R W : Type 0} {remaining : R → Option (List ℕ)} {contents : W → Option (List ℕ)} {r0 r1 : Watched R} {w0 w1 : Watched W} {line : Option (List ℕ)} {points : List SheetPoint} {stage : Stage}
     (s : IsRunning points remaining contents r0 r1 w0 w1 line stage) → (r2 : Watched R) (w2 : Watched W) (first : List ℕ) (new : Stage) (after : Option (List ℕ))
-    → Consumes (remaining (inner_of r1)) (remaining (inner_of r2)) (10 ∷ []) → has_failed r2 ≡ has_failed r1
-    → Answers points stage s.rest first new → Fits new → Appends (contents (inner_of w1)) (contents (inner_of w2)) first → has_failed w2 ≡ has_failed w1 → after ≡ Some []
+    → Consumes (remaining (inner_of r1)) (remaining (inner_of r2)) (10 ∷ []) → has_failed r2 ≡ false
+    → Answers points stage s.rest first new → Fits new → Appends (contents (inner_of w1)) (contents (inner_of w2)) first → has_failed w2 ≡ false → after ≡ Some []
     → IsRunning points remaining contents r0 r2 w0 w2 after new
 line_more {points = points} {stage = stage} s r2 w2 first new after took works answer fits wrote still e = record {
   input = s.input ++ 10 ∷ [];
@@ -118,8 +118,8 @@ line_more {points = points} {stage = stage} s r2 w2 first new after took works a
   cut = cut_line s.input s.lines s.rest s.cut;
   answered = answers_more points first_stage s.lines s.text stage s.rest first new s.answered answer fits;
   held = e;
-  reader_works = works ∙ s.reader_works;
-  writer_works = still ∙ s.writer_works;
+  reader_works = works;
+  writer_works = still;
 }
 
 part_behind : (a b c : Option (List ℕ)) (s t : List ℕ) → Appends a b s → AppendsPart b c t → AppendsPart a c (s ++ t)
@@ -127,7 +127,7 @@ part_behind a b c s t h p = subst (λ (ys : List ℕ). AppendsPart a c (s ++ ys)
 
 pub line_fault : {R W : Type 0} {remaining : R → Option (List ℕ)} {contents : W → Option (List ℕ)} {r0 r1 : Watched R} {w0 w1 : Watched W} {line : Option (List ℕ)} {points : List SheetPoint} {stage : Stage}
     (s : IsRunning points remaining contents r0 r1 w0 w1 line stage) → (r2 : Watched R) (w2 : Watched W) (first : List ℕ) (new : Stage)
-    → Consumes (remaining (inner_of r1)) (remaining (inner_of r2)) (10 ∷ []) → has_failed r2 ≡ has_failed r1
+    → Consumes (remaining (inner_of r1)) (remaining (inner_of r2)) (10 ∷ []) → has_failed r2 ≡ false
     → Answers points stage s.rest first new → Fits new → AppendsPart (contents (inner_of w1)) (contents (inner_of w2)) first → has_failed w2 ≡ true
     → RanInPart points remaining contents r0 r2 w0 w2
 line_fault {points = points} {stage = stage} s r2 w2 first new took works answer fits wrote failed = record {
@@ -144,13 +144,13 @@ line_fault {points = points} {stage = stage} s r2 w2 first new took works answer
     answered = answers_more points first_stage s.lines s.text stage s.rest first new s.answered answer fits;
     whole = sym (append-nil (s.text ++ first));
   };
-  reader_works = works ∙ s.reader_works;
+  reader_works = works;
   writer_failed = failed;
 }
 
 pub end_fault : {R W : Type 0} {remaining : R → Option (List ℕ)} {contents : W → Option (List ℕ)} {r0 r1 : Watched R} {w0 w1 : Watched W} {line : Option (List ℕ)} {points : List SheetPoint} {stage : Stage}
     (s : IsRunning points remaining contents r0 r1 w0 w1 line stage) → (r2 : Watched R) (w2 : Watched W)
-    → Consumes (remaining (inner_of r1)) (remaining (inner_of r2)) [] → has_failed r2 ≡ has_failed r1
+    → Consumes (remaining (inner_of r1)) (remaining (inner_of r2)) [] → has_failed r2 ≡ false
     → AppendsPart (contents (inner_of w1)) (contents (inner_of w2)) (end_text s.rest) → has_failed w2 ≡ true
     → RanInPart points remaining contents r0 r2 w0 w2
 end_fault {points = points} {stage = stage} s r2 w2 took works wrote failed = record {
@@ -167,14 +167,14 @@ end_fault {points = points} {stage = stage} s r2 w2 took works wrote failed = re
     answered = s.answered;
     whole = refl;
   };
-  reader_works = works ∙ s.reader_works;
+  reader_works = works;
   writer_failed = failed;
 }
 
 pub end_more : {R W : Type 0} {remaining : R → Option (List ℕ)} {contents : W → Option (List ℕ)} {r0 r1 : Watched R} {w0 w1 : Watched W} {line : Option (List ℕ)} {points : List SheetPoint} {stage : Stage}
     (s : IsRunning points remaining contents r0 r1 w0 w1 line stage) → (r2 : Watched R) (w2 : Watched W)
-    → Consumes (remaining (inner_of r1)) (remaining (inner_of r2)) [] → IsAtEnd (remaining (inner_of r2)) → has_failed r2 ≡ has_failed r1
-    → Appends (contents (inner_of w1)) (contents (inner_of w2)) (end_text s.rest) → has_failed w2 ≡ has_failed w1
+    → Consumes (remaining (inner_of r1)) (remaining (inner_of r2)) [] → IsAtEnd (remaining (inner_of r2)) → has_failed r2 ≡ false
+    → Appends (contents (inner_of w1)) (contents (inner_of w2)) (end_text s.rest) → has_failed w2 ≡ false
     → RanToEnd points remaining contents r0 r2 w0 w2
 end_more {points = points} {stage = stage} s r2 w2 took end works wrote still = record {
   input = s.input ++ [];
@@ -191,6 +191,6 @@ end_more {points = points} {stage = stage} s r2 w2 took end works wrote still = 
     answered = s.answered;
     whole = refl;
   };
-  reader_works = works ∙ s.reader_works;
-  writer_works = still ∙ s.writer_works;
+  reader_works = works;
+  writer_works = still;
 }

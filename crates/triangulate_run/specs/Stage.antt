@@ -1,9 +1,9 @@
 -- What stands between two lines: the vertices and constraints so far, and a triangulation of them.
-use Rattle.std.specs.Prelude.{◌≡◌, ℤ, [], map}
+use Rattle.std.specs.Prelude.{◌≡◌, ℕ, ℤ, [], map}
 use Rattle.plane.specs.Fraction.{Point}
 use Rattle.plane.specs.Plain.{Plain, IsPlain}
-use Rattle.plane.specs.Tiling.{Triangulation}
-use Rattle.plane.specs.Delaunay.{IsConstrainedDelaunay}
+use Rattle.plane.specs.Tiling.{Triangulation, IsFace}
+use Rattle.plane.specs.Delaunay.{IsConstrainedDelaunay, IsStrictlyEmpty}
 use Rattle.delaunay_core.specs.declared.point.Point2.{Point2}
 use Rattle.delaunay_core.specs.Place.{place_of}
 
@@ -19,8 +19,10 @@ pub record Stage : Type 0 where
 abbrev pub first_stage : Stage
 first_stage = record { plain = record { vertices = []; constraints = [] }; triangulation = record { points = []; faces = []; edges = [] } }
 
--- the triangulation is a constrained Delaunay one of these vertices and constraints
+-- the triangulation is a constrained Delaunay one of these vertices and constraints, and without constraints each strictly
+-- empty triple is a face of it
 pub record Fits (s : Stage) : Type 0 where
   pub is_plain : IsPlain position s.plain
   pub points : s.triangulation.points ≡ map position s.plain.vertices
   pub delaunay : IsConstrainedDelaunay s.triangulation s.plain.constraints
+  pub empty_triples : s.plain.constraints ≡ [] → (i j k : ℕ) → IsStrictlyEmpty s.triangulation i j k → IsFace s.triangulation i j k

@@ -1,15 +1,23 @@
 //! Writing text to a watched writer.
+ghost use Rattle.std.specs.Prelude.{◌≡◌, false};
 ghost use Rattle.std.specs.List.{flat_map};
-ghost use Rattle.triangulate_run.specs.Output.{Writes};
+ghost use Rattle.watched.specs.Watched.{has_failed};
+ghost use Rattle.triangulate_run.specs.Output.{Writes, Puts};
 ghost use Rattle.triangulate_run.specs.Piece.{text_of};
 
 use crate::piece::Piece;
+use arrayvec::ArrayVec;
 use itoa::Buffer;
 use std::io::Write;
 use watched::{Failed, Watched};
 
+/// Text that waits to be written, so that a reply takes one call of the writer. It is written
+/// earlier where its room is used up.
+pub(crate) type Held = ArrayVec<u8, 2048>;
+
 /// Writes the bytes in as many calls as it takes.
 pub(crate) fn write_all<W: Write>(writer: &mut Watched<W>, bytes: &[u8]) -> Result<(), Failed>
+    requires works { has_failed writer.old ≡ false }
     ensures { Writes W.contents writer.old writer.new result bytes.now }
 {
     let mut written = 0;
@@ -19,26 +27,50 @@ pub(crate) fn write_all<W: Write>(writer: &mut Watched<W>, bytes: &[u8]) -> Resu
     Ok(())
 }
 
-/// Writes one piece of a reply.
-pub(crate) fn write_piece<W: Write>(writer: &mut Watched<W>, piece: Piece<'_>) -> Result<(), Failed>
-    ensures { Writes W.contents writer.old writer.new result (text_of piece.entry) }
+/// Puts the bytes behind what is held.
+fn put_bytes<W: Write>(writer: &mut Watched<W>, held: &mut Held, bytes: &[u8]) -> Result<(), Failed>
+    requires works { has_failed writer.old ≡ false }
+    ensures { Puts W.contents writer.old writer.new held.old.items held.new.items result bytes.now }
 {
-    match piece {
-        Piece::Text(text) => write_all(writer, text.as_bytes()),
-        Piece::Index(index) => write_all(writer, Buffer::new().format(index).as_bytes()),
-        Piece::Signed(number) => write_all(writer, Buffer::new().format(number).as_bytes()),
+    match held.try_extend_from_slice(bytes) {
+        Ok(()) => Ok(()),
+        Err(_) => {
+            write_all(writer, held.as_slice())?;
+            held.clear();
+            write_all(writer, bytes)
+        }
     }
 }
 
-/// Writes the pieces in a row.
-pub(crate) fn write_pieces<W: Write>(
+/// Puts one piece of a reply behind what is held.
+pub(crate) fn put_piece<W: Write>(
     writer: &mut Watched<W>,
+    held: &mut Held,
+    piece: Piece<'_>,
+) -> Result<(), Failed>
+    requires works { has_failed writer.old ≡ false }
+    ensures { Puts W.contents writer.old writer.new held.old.items held.new.items
+        result (text_of piece.entry) }
+{
+    match piece {
+        Piece::Text(text) => put_bytes(writer, held, text.as_bytes()),
+        Piece::Index(index) => put_bytes(writer, held, Buffer::new().format(index).as_bytes()),
+        Piece::Signed(number) => put_bytes(writer, held, Buffer::new().format(number).as_bytes()),
+    }
+}
+
+/// Puts the pieces in a row behind what is held.
+pub(crate) fn put_pieces<W: Write>(
+    writer: &mut Watched<W>,
+    held: &mut Held,
     pieces: &[Piece<'_>],
 ) -> Result<(), Failed>
-    ensures { Writes W.contents writer.old writer.new result (flat_map text_of pieces.now) }
+    requires works { has_failed writer.old ≡ false }
+    ensures { Puts W.contents writer.old writer.new held.old.items held.new.items
+        result (flat_map text_of pieces.now) }
 {
     for piece in pieces {
-        write_piece(writer, *piece)?;
+        put_piece(writer, held, *piece)?;
     }
     Ok(())
 }

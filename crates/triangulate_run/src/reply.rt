@@ -1,12 +1,13 @@
 //! The replies of the program, and how they are written.
-ghost use Rattle.std.specs.Prelude.{◌++◌, codes};
+ghost use Rattle.std.specs.Prelude.{◌≡◌, ◌++◌, codes, false};
 ghost use Rattle.std.specs.List.{flat_map};
-ghost use Rattle.triangulate_run.specs.Output.{Writes};
+ghost use Rattle.watched.specs.Watched.{has_failed};
+ghost use Rattle.triangulate_run.specs.Output.{Writes, Puts};
 ghost use Rattle.triangulate_run.specs.Reply.{corners_text, reply_text};
 ghost use Rattle.triangulate_run.specs.declared.reply.Reply.TheVariants.{Refused, Edge, Removed, Counts};
 
 use crate::corners::Corners;
-use crate::output::write_pieces;
+use crate::output::{Held, put_pieces, write_all};
 use crate::piece::Piece;
 use delaunay_core::math::InsertionError;
 use std::io::Write;
@@ -45,54 +46,79 @@ pub enum Reply {
     Faces(Vec<Corners>),
 }
 
-/// Writes the reply, each line of it with its byte 10.
+/// Writes the reply, each line of it with its byte 10, in one call where the writer takes it whole. A
+/// long list of faces takes more.
 pub(crate) fn write_reply<W: Write>(writer: &mut Watched<W>, reply: &Reply) -> Result<(), Failed>
+    requires works { has_failed writer.old ≡ false }
     ensures { Writes W.contents writer.old writer.new result (reply_text reply.now) }
 {
+    let mut held = Held::new();
+    put_reply(writer, &mut held, reply)?;
+    write_all(writer, held.as_slice())
+}
+
+fn put_reply<W: Write>(
+    writer: &mut Watched<W>,
+    held: &mut Held,
+    reply: &Reply,
+) -> Result<(), Failed>
+    requires works { has_failed writer.old ≡ false }
+    ensures { Puts W.contents writer.old writer.new held.old.items held.new.items
+        result (reply_text reply.now) }
+{
     match reply {
-        Reply::BadLine => write_pieces(writer, &[Piece::Text("bad line\n")]),
-        Reply::UnknownPoint => write_pieces(writer, &[Piece::Text("unknown point\n")]),
-        Reply::Refused(error) => write_refusal(writer, *error),
-        Reply::Vertex(index) => write_pieces(
+        Reply::BadLine => put_pieces(writer, held, &[Piece::Text("bad line\n")]),
+        Reply::UnknownPoint => put_pieces(writer, held, &[Piece::Text("unknown point\n")]),
+        Reply::Refused(error) => put_refusal(writer, held, *error),
+        Reply::Vertex(index) => put_pieces(
             writer,
+            held,
             &[
                 Piece::Text("vertex "),
                 Piece::Index(*index),
                 Piece::Text("\n"),
             ],
         ),
-        Reply::Edge(from, to) => write_edge(writer, *from, *to),
-        Reply::Face(corners) => write_face(writer, "face ", *corners),
-        Reply::Outside => write_pieces(writer, &[Piece::Text("outside\n")]),
-        Reply::NoTriangulation => write_pieces(writer, &[Piece::Text("no triangulation\n")]),
-        Reply::Distance(distance_2) => write_pieces(
+        Reply::Edge(from, to) => put_edge(writer, held, *from, *to),
+        Reply::Face(corners) => put_face(writer, held, "face ", *corners),
+        Reply::Outside => put_pieces(writer, held, &[Piece::Text("outside\n")]),
+        Reply::NoTriangulation => put_pieces(writer, held, &[Piece::Text("no triangulation\n")]),
+        Reply::Distance(distance_2) => put_pieces(
             writer,
+            held,
             &[
                 Piece::Text("distance "),
                 Piece::Signed(*distance_2),
                 Piece::Text("\n"),
             ],
         ),
-        Reply::NoNeighbor => write_pieces(writer, &[Piece::Text("none\n")]),
-        Reply::Removed(x, y) => write_removed(writer, *x, *y),
-        Reply::NoVertex => write_pieces(writer, &[Piece::Text("no vertex\n")]),
+        Reply::NoNeighbor => put_pieces(writer, held, &[Piece::Text("none\n")]),
+        Reply::Removed(x, y) => put_removed(writer, held, *x, *y),
+        Reply::NoVertex => put_pieces(writer, held, &[Piece::Text("no vertex\n")]),
         Reply::Counts(vertices, edges, faces, constraints) => {
-            write_counts(writer, *vertices, *edges, *faces, *constraints)
+            put_counts(writer, held, *vertices, *edges, *faces, *constraints)
         }
-        Reply::Faces(faces) => write_faces(writer, faces.as_slice()),
+        Reply::Faces(faces) => put_faces(writer, held, faces.as_slice()),
     }
 }
 
-fn write_refusal<W: Write>(writer: &mut Watched<W>, error: InsertionError) -> Result<(), Failed>
-    ensures { Writes W.contents writer.old writer.new result (reply_text (Refused error)) }
+fn put_refusal<W: Write>(
+    writer: &mut Watched<W>,
+    held: &mut Held,
+    error: InsertionError,
+) -> Result<(), Failed>
+    requires works { has_failed writer.old ≡ false }
+    ensures { Puts W.contents writer.old writer.new held.old.items held.new.items
+        result (reply_text (Refused error)) }
 {
     let name = match error {
         InsertionError::TooLarge => "TooLarge",
         InsertionError::OutOfMemory => "OutOfMemory",
         InsertionError::OutOfIndexes => "OutOfIndexes",
     };
-    write_pieces(
+    put_pieces(
         writer,
+        held,
         &[
             Piece::Text("refused "),
             Piece::Text(name),
@@ -101,11 +127,19 @@ fn write_refusal<W: Write>(writer: &mut Watched<W>, error: InsertionError) -> Re
     )
 }
 
-fn write_edge<W: Write>(writer: &mut Watched<W>, from: u64, to: u64) -> Result<(), Failed>
-    ensures { Writes W.contents writer.old writer.new result (reply_text (Edge from to)) }
+fn put_edge<W: Write>(
+    writer: &mut Watched<W>,
+    held: &mut Held,
+    from: u64,
+    to: u64,
+) -> Result<(), Failed>
+    requires works { has_failed writer.old ≡ false }
+    ensures { Puts W.contents writer.old writer.new held.old.items held.new.items
+        result (reply_text (Edge from to)) }
 {
-    write_pieces(
+    put_pieces(
         writer,
+        held,
         &[
             Piece::Text("edge "),
             Piece::Index(from),
@@ -116,11 +150,19 @@ fn write_edge<W: Write>(writer: &mut Watched<W>, from: u64, to: u64) -> Result<(
     )
 }
 
-fn write_removed<W: Write>(writer: &mut Watched<W>, x: i64, y: i64) -> Result<(), Failed>
-    ensures { Writes W.contents writer.old writer.new result (reply_text (Removed x y)) }
+fn put_removed<W: Write>(
+    writer: &mut Watched<W>,
+    held: &mut Held,
+    x: i64,
+    y: i64,
+) -> Result<(), Failed>
+    requires works { has_failed writer.old ≡ false }
+    ensures { Puts W.contents writer.old writer.new held.old.items held.new.items
+        result (reply_text (Removed x y)) }
 {
-    write_pieces(
+    put_pieces(
         writer,
+        held,
         &[
             Piece::Text("removed "),
             Piece::Signed(x),
@@ -131,17 +173,21 @@ fn write_removed<W: Write>(writer: &mut Watched<W>, x: i64, y: i64) -> Result<()
     )
 }
 
-fn write_counts<W: Write>(
+fn put_counts<W: Write>(
     writer: &mut Watched<W>,
+    held: &mut Held,
     vertices: u64,
     edges: u64,
     faces: u64,
     constraints: u64,
 ) -> Result<(), Failed>
-    ensures { Writes W.contents writer.old writer.new result (reply_text (Counts vertices edges faces constraints)) }
+    requires works { has_failed writer.old ≡ false }
+    ensures { Puts W.contents writer.old writer.new held.old.items held.new.items
+        result (reply_text (Counts vertices edges faces constraints)) }
 {
-    write_pieces(
+    put_pieces(
         writer,
+        held,
         &[
             Piece::Index(vertices),
             Piece::Text(" "),
@@ -155,16 +201,20 @@ fn write_counts<W: Write>(
     )
 }
 
-/// Writes a text, and behind it the corners of a face and the end of the line.
-fn write_face<W: Write>(
+/// Puts a text, and behind it the corners of a face and the end of the line.
+fn put_face<W: Write>(
     writer: &mut Watched<W>,
+    held: &mut Held,
     before: &str,
     corners: Corners,
 ) -> Result<(), Failed>
-    ensures { Writes W.contents writer.old writer.new result (before.now ++ corners_text corners) }
+    requires works { has_failed writer.old ≡ false }
+    ensures { Puts W.contents writer.old writer.new held.old.items held.new.items
+        result (before.now ++ corners_text corners) }
 {
-    write_pieces(
+    put_pieces(
         writer,
+        held,
         &[
             Piece::Text(before),
             Piece::Index(corners.first),
@@ -177,11 +227,17 @@ fn write_face<W: Write>(
     )
 }
 
-fn write_faces<W: Write>(writer: &mut Watched<W>, faces: &[Corners]) -> Result<(), Failed>
-    ensures { Writes W.contents writer.old writer.new result (flat_map corners_text faces.now ++ codes "end\n") }
+fn put_faces<W: Write>(
+    writer: &mut Watched<W>,
+    held: &mut Held,
+    faces: &[Corners],
+) -> Result<(), Failed>
+    requires works { has_failed writer.old ≡ false }
+    ensures { Puts W.contents writer.old writer.new held.old.items held.new.items
+        result (flat_map corners_text faces.now ++ codes "end\n") }
 {
     for corners in faces {
-        write_face(writer, "", *corners)?;
+        put_face(writer, held, "", *corners)?;
     }
-    write_pieces(writer, &[Piece::Text("end\n")])
+    put_pieces(writer, held, &[Piece::Text("end\n")])
 }

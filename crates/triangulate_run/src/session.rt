@@ -1,5 +1,5 @@
 //! Lines in, replies out.
-ghost use Rattle.std.specs.Prelude.{◌≡◌, ℕ, List, true, false, All, IfSome, IfNone};
+ghost use Rattle.std.specs.Prelude.{◌≡◌, ℕ, List, true, false, All, IfSome, IfNone, OnOk};
 ghost use Rattle.command_grammar.specs.Grammar.{Spells, SpellsNone};
 ghost use Rattle.watched.specs.Watched.{has_failed};
 ghost use Rattle.triangulate_run.specs.Line.{kept};
@@ -57,12 +57,14 @@ fn answer_line<E: Engine, W: Write>(
 ) -> Result<(), Failed>
     requires ready { E.is_ready engine.old }
     requires fits { Fits (E.stage engine.old) }
+    requires works { has_failed writer.old ≡ false }
     ensures ready { E.is_ready engine.new }
     ensures listed { E.listed engine.new ≡ E.listed engine.old }
     ensures fits { Fits (E.stage engine.new) }
     ensures answered { (whole : List ℕ) → line.now ≡ kept whole → (text : List ℕ)
         × Answers (E.listed engine.old) (E.stage engine.old) whole text (E.stage engine.new)
         × Writes W.contents writer.old writer.new result text }
+    ensures works { OnOk result (has_failed writer.new ≡ false) }
 {
     let Some(command) = command_of(line) else {
         return write_all(writer, b"bad line\n");
@@ -79,6 +81,7 @@ fn answer<E: Engine, W: Write>(
 ) -> Result<(), Failed>
     requires ready { E.is_ready engine.old }
     requires fits { Fits (E.stage engine.old) }
+    requires works { has_failed writer.old ≡ false }
     ensures ready { E.is_ready engine.new }
     ensures listed { E.listed engine.new ≡ E.listed engine.old }
     ensures fits { Fits (E.stage engine.new) }
@@ -92,6 +95,7 @@ fn answer<E: Engine, W: Write>(
 
 /// Answers what stands behind the last byte 10.
 fn finish<W: Write>(line: &LineBuffer, writer: &mut Watched<W>) -> Result<(), Failed>
+    requires works { has_failed writer.old ≡ false }
     ensures { (whole : List ℕ) → line.now ≡ kept whole
         → Writes W.contents writer.old writer.new result (end_text whole) }
 {

@@ -38,7 +38,8 @@ pub fn sheet_named(words: &[String]) -> Option<Sheet>
     letter_named(word.as_str())
 }
 
-fn letter_named(word: &str) -> Option<Sheet>
+/// The sheet whose letter is the word.
+pub fn letter_named(word: &str) -> Option<Sheet>
     ensures found { IfSome result (λ sheet. word.now ≡ letter_of sheet) }
     ensures none { IfNone result ((sheet : Sheet) → ¬ (word.now ≡ letter_of sheet)) }
 {

@@ -8,14 +8,11 @@ ghost use Rattle.watched.specs.Watched.{inner_of, has_failed, reads_left_of};
 
 use std::io::{Read, Write};
 
-#[cfg(test)]
-mod tests;
-
 /// A call of a reader or a writer has failed. What the reader or writer said of it is dropped.
 #[derive(Clone, Copy, Debug, PartialEq, Eq)]
 pub struct Failed;
 
-/// A reader or a writer, and whether a call of it has failed.
+/// A reader or a writer, and whether a call of it has failed. One that has failed isn't called again.
 #[derive(Drop)]
 pub struct Watched<T> {
     inner: T,
@@ -62,9 +59,11 @@ impl<T: Read> Watched<T> {
     /// come to an end, it is also the answer to each call after 2^64 - 1 others, without a call of
     /// the reader.
     pub fn read(&mut self, buf: &mut [u8]) -> Result<usize, Failed>
+        requires { has_failed self.old ≡ false }
         ensures bound { ReadsAtMost result buf.new }
-        ensures bytes { ReadConsumes (T.remaining (inner_of self.old)) (T.remaining (inner_of self.new)) result buf.new }
-        ensures ok { OnOk result (has_failed self.new ≡ has_failed self.old) }
+        ensures bytes { ReadConsumes (T.remaining (inner_of self.old)) (T.remaining (inner_of self.new))
+            result buf.new }
+        ensures ok { OnOk result (has_failed self.new ≡ false) }
         ensures err { OnErr result (has_failed self.new ≡ true) }
         ensures turn { OnOk result (reads_left_of self.old ≡ reads_left_of self.new + 1) }
     {
@@ -90,10 +89,12 @@ impl<T: Write> Watched<T> {
     ///
     /// [`Failed`] where the writer answers an error, or takes none of some bytes.
     pub fn write(&mut self, bytes: &[u8]) -> Result<usize, Failed>
+        requires { has_failed self.old ≡ false }
         ensures bound { WritesAtMost result bytes.now }
         ensures progress { IfOk result (λ n. 0 < length bytes.now → 0 < n) }
-        ensures bytes { WriteAppends (T.contents (inner_of self.old)) (T.contents (inner_of self.new)) result bytes.now }
-        ensures ok { OnOk result (has_failed self.new ≡ has_failed self.old) }
+        ensures bytes { WriteAppends (T.contents (inner_of self.old)) (T.contents (inner_of self.new))
+            result bytes.now }
+        ensures ok { OnOk result (has_failed self.new ≡ false) }
         ensures err { OnErr result (has_failed self.new ≡ true) }
         ensures turns { reads_left_of self.new ≡ reads_left_of self.old }
     {
@@ -112,8 +113,9 @@ impl<T: Write> Watched<T> {
     ///
     /// [`Failed`] where the writer answers an error.
     pub fn flush(&mut self) -> Result<(), Failed>
+        requires { has_failed self.old ≡ false }
         ensures bytes { Keeps (T.contents (inner_of self.old)) (T.contents (inner_of self.new)) }
-        ensures ok { OnOk result (has_failed self.new ≡ has_failed self.old) }
+        ensures ok { OnOk result (has_failed self.new ≡ false) }
         ensures err { OnErr result (has_failed self.new ≡ true) }
         ensures turns { reads_left_of self.new ≡ reads_left_of self.old }
     {

@@ -1,4 +1,4 @@
-use Rattle.std.proofs.Common.{◌≡◌, ℕ, List, ◌-◌, ◌≤◌, length, take, drop, arith, sym, ◌∙◌, subst, length-drop}
+use Rattle.std.proofs.Common.{◌≡◌, ℕ, List, ◌-◌, ◌≤◌, length, take, drop, arith, sym, subst, length-drop}
 use Rattle.std.specs.Io.KnownBytes.{Appends}
 use Rattle.std.proofs.lemmas.Result.{err_from_is_err_and}
 use Rattle.std.proofs.lemmas.List.{take-append-drop, take_all}
@@ -33,5 +33,5 @@ loop-written-preserved g c =
     record {
       within = omega (arith, bound, length-drop w bytes);
       so_far = rw (take-add w n bytes) (appends_more _ _ _ _ _ c.loop-written.invariant.so_far wrote);
-      failed = c.in_ok-written.ensures.ok ∙ c.loop-written.invariant.failed;
+      works = c.in_ok-written.ensures.ok;
     }

@@ -1,4 +1,4 @@
-use Rattle.std.proofs.Common.{◌≡◌, ◌≤◌, ◌-◌, length, take}
+use Rattle.std.proofs.Common.{◌≡◌, ◌≤◌, ◌-◌, false, length, take}
 use Rattle.std.specs.Io.KnownBytes.{Appends}
 use Rattle.watched.specs.Watched.{inner_of, has_failed}
 use Rattle.triangulate_run.proofs.output.write_all.Given as goal
@@ -7,7 +7,7 @@ abbrev pub invariant-loop-written : goal.invariant-loop-written
 invariant-loop-written g l = record {
   within : l.written ≤ length l.bytes;
   so_far : Appends (g.W.Write.contents (inner_of l.fn.writer)) (g.W.Write.contents (inner_of l.writer)) (take l.written l.bytes);
-  failed : has_failed l.writer ≡ has_failed l.fn.writer;
+  works : has_failed l.writer ≡ false;
 }
 
 abbrev pub decreases-loop-written : goal.decreases-loop-written

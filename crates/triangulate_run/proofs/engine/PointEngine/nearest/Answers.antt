@@ -34,3 +34,9 @@ returns-in-Some g c =
     let at = read_place position e.triangulation.vertices i v (subst (λ vs. slice_get vs i ≡ Some v) (ap (λ s. s.vertices) c.in-Some.ensures.0) c.data.ensures) in
     let fits : SFits w64 d = search rules in
     record { reply = (listed, subst (IsLeastDistance t p) (sym (to_z-of_z {w = w64} {z = d} fits)) (least_distance t p (position v) i d c.in-Some.ensures.1 at c.distance_2.ensures)) }
+
+pub nearest_neighbor-requires-clause-covered : goal.nearest_neighbor-requires-clause-covered
+nearest_neighbor-requires-clause-covered g c =
+    let e = c.args.self.now in
+    let p = position c.args.point in
+    covered_if_listed (g.P.PlaneTests.covered e.tests.now) e.points.now p c.requires.ready.points_covered (listed_if_known e.points.now p c.index_of.result c.if-is_none.ensures c.index_of.ensures)

@@ -1,0 +1,71 @@
+//! Dialogues with the program.
+
+use std::alloc::{AllocError, Global};
+use triangulate_run::session::run;
+use triangulate_run::sheet::{Sheet, letter_named};
+use watched::Watched;
+
+/// What the program writes for the input, with the points and answers of a sheet, if it comes to its
+/// end.
+pub(crate) fn written(alloc: Global, sheet: Sheet, input: &[u8]) -> Option<Vec<u8>> {
+    let mut reader = Watched::new(input);
+    let mut writer = Watched::new(Vec::new(alloc));
+    run(alloc, &sheet, sheet.points(), &mut reader, &mut writer).ok()?;
+    Some(writer.into_inner())
+}
+
+/// What is put to the program, and what it may write.
+#[derive(Drop)]
+struct Dialogue {
+    input: String,
+    outputs: Vec<String>,
+}
+
+fn push_line(text: &mut String, line: &str) -> Result<(), AllocError> {
+    text.push_str(line)?;
+    text.push('\n')
+}
+
+/// The dialogue of these lines: `> ` before a line for the program, `. ` before one without its end, `< `
+/// before a line of its replies. Below a line `or` are all lines of the replies that it may give in their place.
+fn dialogue_of<'a>(
+    alloc: Global,
+    lines: impl Iterator<Item = &'a str> + Drop,
+) -> Result<Dialogue, AllocError> {
+    let mut input = String::new(alloc);
+    let mut output = String::new(alloc);
+    let mut outputs = Vec::new(alloc);
+    for line in lines {
+        match line.split_once(' ') {
+            Some((">", command)) => push_line(&mut input, command)?,
+            Some((".", command)) => input.push_str(command)?,
+            Some(("<", reply)) => push_line(&mut output, reply)?,
+            _ if line == "or" => {
+                outputs.push(output)?;
+                output = String::new(alloc);
+            }
+            _ => {}
+        }
+    }
+    outputs.push(output)?;
+    Ok(Dialogue { input, outputs })
+}
+
+/// Whether the program answers as the dialogue says, whose first line begins with the sheet's letter.
+pub(crate) fn is_answered(alloc: Global, text: &str) -> Result<bool, AllocError> {
+    let (heading, lines) = text.split_once('\n').unwrap_or((text, ""));
+    let letter = heading
+        .split_once(' ')
+        .map_or(heading, |(letter, _)| letter);
+    let Some(sheet) = letter_named(letter) else {
+        return Ok(false);
+    };
+    let dialogue = dialogue_of(alloc, lines.split('\n'))?;
+    Ok(match written(alloc, sheet, dialogue.input.as_bytes()) {
+        Some(output) => dialogue
+            .outputs
+            .iter()
+            .any(|allowed| allowed.as_bytes() == output.as_slice()),
+        None => false,
+    })
+}
