@@ -1,0 +1,4 @@
+pub mod Distances
+pub mod Questions
+pub mod Nearest
+pub mod Locating
