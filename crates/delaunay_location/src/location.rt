@@ -83,7 +83,7 @@ fn place_at_edges<V: HasPosition, DE, UE, F, P: PlaneTests<V::Scalar>>(
 }
 
 // Whether a position is strictly inside an inner face.
-fn is_inside_face<V: HasPosition, DE, UE, F, P: PlaneTests<V::Scalar>>(
+pub(crate) fn is_inside_face<V: HasPosition, DE, UE, F, P: PlaneTests<V::Scalar>>(
     dcel: &Dcel<V, DE, UE, F>,
     face: FixedFaceHandle,
     point: Point2<V::Scalar>,
@@ -179,8 +179,8 @@ pub fn locate_apart<V: HasPosition, DE, UE, F, P: PlaneTests<V::Scalar>>(
     }
 }
 
-/// Where a position is.
-pub fn locate<V: HasPosition, DE, UE, F, P: PlaneTests<V::Scalar>>(
+/// Where a position is, by a look at all vertices, edges and faces.
+pub(crate) fn locate_by_scan<V: HasPosition, DE, UE, F, P: PlaneTests<V::Scalar>>(
     dcel: &Dcel<V, DE, UE, F>,
     point: Point2<V::Scalar>,
     tests: &P,

@@ -28,7 +28,7 @@ fn distance_2_to<V: HasPosition, DE, UE, F>(
 }
 
 // Whether a vertex is nearer to a position than another.
-fn is_nearer<V: HasPosition, DE, UE, F>(
+pub(crate) fn is_nearer<V: HasPosition, DE, UE, F>(
     dcel: &Dcel<V, DE, UE, F>,
     vertex: FixedVertexHandle,
     other: FixedVertexHandle,
