@@ -1,9 +1,4 @@
-pub mod Distances
 pub mod Edges
-pub mod Questions
-pub mod MeshParts
-pub mod Nearest
-pub mod Locating
 pub mod Counts
 pub mod HullSizes
 pub mod Growing
@@ -19,3 +14,7 @@ pub mod Joining
 pub mod Delaunay
 pub mod ConstraintEdges
 pub mod Removing
+pub mod Constrained
+pub mod Vertices
+pub mod WellFormed
+pub mod Inserting

@@ -1,23 +1,19 @@
 //! What both triangulation types hold.
-ghost use Rattle.std.specs.Prelude.{◌≡◌, ◌↔◌, ℕ, ◌<◌, ◌≤◌, [], length, map, IsTrue};
-ghost use Rattle.half_edge_links.specs.Mesh.{empty, origin, rev, face, face_edge};
-ghost use Rattle.half_edge_links.specs.Triangles.{triangle_at};
-ghost use Rattle.plane.specs.Tiling.{IsTiling, IsFace};
-ghost use Rattle.plane.specs.Delaunay.{IsConstrainedDelaunay, IsStrictlyEmpty};
+ghost use Rattle.std.specs.Prelude.{◌≡◌, ℕ, ◌<◌, ◌≤◌, [], length, map};
+ghost use Rattle.half_edge_links.specs.Mesh.{empty, origin, rev};
 ghost use Rattle.delaunay_core.specs.Place.{place_of};
-ghost use Rattle.delaunay_legalization.specs.State.{triangulation_of};
 ghost use Rattle.delaunay_legalization.specs.Constraints.{constraints_by};
 ghost use Rattle.delaunay_legalization.specs.Known.{point_at};
-ghost use Rattle.delaunay_legalization.specs.Shape.{IsTriangulated};
-ghost use Rattle.delaunay_edit.specs.Location.{IsMeshEdge, IsMeshFace};
+ghost use Rattle.delaunay_edit.specs.Headline.{IsDelaunay, IsWellFormed};
+ghost use Rattle.delaunay_edit.specs.Location.{IsMeshEdge};
 
 use delaunay_core::point::{HasPosition, Point2};
 use delaunay_legalization::ConstraintMarker;
 use half_edge_mesh::{
-    Dcel, FixedDirectedEdgeHandle, FixedFaceHandle, FixedUndirectedEdgeHandle, FixedVertexHandle,
-    MAX_ELEMENTS,
+    Dcel, FixedDirectedEdgeHandle, FixedUndirectedEdgeHandle, FixedVertexHandle, MAX_ELEMENTS,
 };
 use half_edge_views::MeshViews;
+use hint_generators::HintGenerator;
 use std::alloc::Global;
 use std::marker::{Model, PhantomData};
 
@@ -25,16 +21,25 @@ use std::marker::{Model, PhantomData};
 /// positions of one line to their neighbours. The constraints are the edges that the marker `M` finds by their data,
 /// and no face has a vertex strictly inside its circle that is seen from inside the face past the constraints.
 #[derive(Drop)]
-pub struct TriangulationCore<V: HasPosition, DE, UE, F, M: ConstraintMarker<UE>> {
+pub struct TriangulationCore<
+    V: HasPosition,
+    DE,
+    UE,
+    F,
+    L: HintGenerator<V::Scalar>,
+    M: ConstraintMarker<UE>,
+> {
     pub(crate) dcel: Dcel<V, DE, UE, F>,
     // The edges that a legalization has still to test: none between edits, but the room for them stays.
     pub(crate) work: Vec<FixedUndirectedEdgeHandle>,
     // Room for the sides opposite a vertex that a removal takes from the hull; what stands in it has no meaning.
     pub(crate) sides: Vec<FixedDirectedEdgeHandle>,
+    pub(crate) hint_generator: L,
     pub(crate) marks: PhantomData<M>,
 }
 
-impl<V: HasPosition, DE, UE, F, M: ConstraintMarker<UE>> Model for TriangulationCore<V, DE, UE, F, M> {
+impl<V: HasPosition, DE, UE, F, L: HintGenerator<V::Scalar>, M: ConstraintMarker<UE>> Model
+    for TriangulationCore<V, DE, UE, F, L, M> {
     ghost use Rattle.delaunay_legalization.specs.State.{State, state_of};
     ghost use Rattle.delaunay_legalization.specs.Shape.{IsDelaunayTriangulation};
 
@@ -45,7 +50,14 @@ impl<V: HasPosition, DE, UE, F, M: ConstraintMarker<UE>> Model for Triangulation
     ghost invariant = { λ c. IsDelaunayTriangulation V.place M.constraints (state_of c.dcel) };
 }
 
-impl<V: HasPosition, DE, UE, F, M: ConstraintMarker<UE>> TriangulationCore<V, DE, UE, F, M> {
+impl<
+    V: HasPosition,
+    DE,
+    UE,
+    F,
+    L: HintGenerator<V::Scalar>,
+    M: ConstraintMarker<UE>,
+> TriangulationCore<V, DE, UE, F, L, M> {
     /// No vertex, no edge, and the outer face with default data.
     pub fn new(alloc: Global) -> Self
     where
@@ -57,8 +69,7 @@ impl<V: HasPosition, DE, UE, F, M: ConstraintMarker<UE>> TriangulationCore<V, DE
         ensures outer { F.is_default result.outer }
         ensures faces { result.faces ≡ [] }
         ensures constraints { constraints_by M.constraints result ≡ [] }
-        ensures tiling { IsTiling (triangulation_of V.place result) }
-        ensures delaunay { IsConstrainedDelaunay (triangulation_of V.place result) [] }
+        ensures headline { IsDelaunay V.place M.constraints result }
     {
         let dcel = Dcel::new(alloc);
         let _ = dcel.num_vertices();
@@ -66,17 +77,21 @@ impl<V: HasPosition, DE, UE, F, M: ConstraintMarker<UE>> TriangulationCore<V, DE
             dcel,
             work: Vec::new(alloc),
             sides: Vec::new(alloc),
+            hint_generator: L::new(alloc),
             marks: PhantomData,
         }
+    }
+
+    /// Gives a proof what holds of each triangulation between edits. It does nothing when it runs.
+    pub fn recall_invariant(&self)
+        ensures { IsWellFormed V.place M.constraints self.now }
+    {
+        let _ = self.dcel.num_vertices();
     }
 
     pub fn num_vertices(&self) -> usize
         ensures value { result ≡ length self.now.vertices }
         ensures small { result ≤ MAX_ELEMENTS }
-        ensures kept { IsTriangulated V.place self.now }
-        ensures tiling { IsTiling (triangulation_of V.place self.now) }
-        ensures delaunay { IsConstrainedDelaunay (triangulation_of V.place self.now) (constraints_by M.constraints self.now) }
-        ensures empty_triples { constraints_by M.constraints self.now ≡ [] → (i j k : ℕ) → IsStrictlyEmpty (triangulation_of V.place self.now) i j k → IsFace (triangulation_of V.place self.now) i j k }
     {
         self.dcel.num_vertices()
     }
@@ -103,36 +118,5 @@ impl<V: HasPosition, DE, UE, F, M: ConstraintMarker<UE>> TriangulationCore<V, DE
         let from = edge.from().fix();
         let to = edge.to().fix();
         (self.position_of(from), self.position_of(to))
-    }
-
-    // Whether an edge has the outer face on its left.
-    pub(crate) fn is_outer(&self, edge: FixedDirectedEdgeHandle) -> bool
-        requires { edge < length self.now.directed }
-        ensures { IsTrue result ↔ (face self.now.mesh edge ≡ 0) }
-    {
-        self.dcel.directed_edge(edge).is_outer_edge()
-    }
-
-    // The positions of the corners of an inner face, in their order round it.
-    pub(crate) fn corners_of(
-        &self,
-        face: FixedFaceHandle,
-    ) -> (Point2<V::Scalar>, Point2<V::Scalar>, Point2<V::Scalar>)
-        requires positive { 0 < face }
-        requires within { face ≤ length self.now.faces }
-        ensures first { place_of V.Scalar.whole result.0 ≡ point_at (map V.place self.now.vertices) (triangle_at self.now.mesh (face_edge self.now.mesh face)).first }
-        ensures second { place_of V.Scalar.whole result.1 ≡ point_at (map V.place self.now.vertices) (triangle_at self.now.mesh (face_edge self.now.mesh face)).second }
-        ensures third { place_of V.Scalar.whole result.2 ≡ point_at (map V.place self.now.vertices) (triangle_at self.now.mesh (face_edge self.now.mesh face)).third }
-        ensures face { IsMeshFace (map V.place self.now.vertices) self.now.mesh face }
-    {
-        let edge = self.dcel.face(face).adjacent_edge();
-        let first = edge.from().fix();
-        let second = edge.next().from().fix();
-        let third = edge.prev().from().fix();
-        (
-            self.position_of(first),
-            self.position_of(second),
-            self.position_of(third),
-        )
     }
 }

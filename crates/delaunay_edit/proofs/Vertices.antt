@@ -1,0 +1,38 @@
+-- A position in another place than on a vertex is at none.
+use Rattle.std.proofs.Common.{◌≡◌, ℕ, ◌<◌, length, map, refl, subst, arith}
+use Rattle.std.proofs.lemmas.List.{length-map}
+use Rattle.plane.specs.Fraction.{Point, whole}
+use Rattle.plane.specs.Location.{Location, on_vertex, no_triangulation, IsLocation}
+use Rattle.plane_tiling.specs.Laws.{IsSameLocation}
+use Rattle.plane_tiling.proofs.Locations.{each_point_has_one_location}
+use Rattle.mesh_embedding.specs.Drawn.{faces_of, edges_of, outer_of}
+use Rattle.mesh_embedding.proofs.OwnEdges.{own_edges}
+use Rattle.delaunay_location.specs.declared.position_in_triangulation.PositionInTriangulation.{PositionInTriangulation}
+use Rattle.delaunay_location.specs.declared.position_in_triangulation.PositionInTriangulation.TheVariants.{OnVertex, OnEdge, OnFace, OutsideOfConvexHull, NoTriangulation}
+use Rattle.delaunay_legalization.specs.Known.{IsKnown, point_at}
+use Rattle.delaunay_edit.specs.Location.{location_of}
+use Rattle.delaunay_legalization.specs.Shape.{IsTriangulated}
+use Rattle.delaunay_legalization.specs.State.{State, triangulation_of}
+use Rattle.delaunay_location.proofs.Locating.{at_vertex, same_point}
+
+module _ {V D U F : Type 0} (at : V → Point) (s : State V D U F) (p : Point) where
+  pub here_if_on_vertex : (v : ℕ) → IsLocation (triangulation_of at s) (whole p) (on_vertex v) → (v < length s.vertices) × (point_at (map at s.vertices) v ≡ p)
+  here_if_on_vertex v h = let below = h.0 in (omega (arith, below, length-map s.vertices at), same_point p (point_at (map at s.vertices) v) h.1)
+
+-- of what a type holds, seen from outside
+pub kept_outside : {V D U F : Type 0} (at : V → Point) (s t : State V D U F) → s ≡ t → IsTriangulated at s → IsTriangulated at t
+kept_outside at s t e kept = subst (IsTriangulated at) e kept
+
+module _ {V D U F : Type 0} (at : V → Point) (s : State V D U F) (kept : IsTriangulated at s) (p : Point) where
+  one_location : (l m : Location) → IsLocation (triangulation_of at s) (whole p) l → IsLocation (triangulation_of at s) (whole p) m → IsSameLocation l m
+  one_location = (each_point_has_one_location (map at s.vertices) (faces_of s.mesh) (outer_of s.mesh) (edges_of s.mesh) kept.shape (own_edges s.mesh kept.valid) (whole p)).1
+
+  at_known : (k : IsKnown (map at s.vertices) p) → IsLocation (triangulation_of at s) (whole p) (on_vertex k.index)
+  at_known k = let below = k.below in (at_vertex at s kept p k.index (omega (arith, below, length-map s.vertices at)) k.here).location
+
+  pub unknown_elsewhere : (answer : PositionInTriangulation) → IsLocation (triangulation_of at s) (whole p) (location_of s.mesh answer) → ((v : ℕ) → ¬ (answer ≡ OnVertex v)) → ¬ IsKnown (map at s.vertices) p
+  unknown_elsewhere (OnVertex v) there other k = other v refl
+  unknown_elsewhere (OnEdge e) there other k = one_location (on_vertex k.index) (location_of s.mesh (OnEdge e)) (at_known k) there
+  unknown_elsewhere (OnFace f) there other k = one_location (on_vertex k.index) (location_of s.mesh (OnFace f)) (at_known k) there
+  unknown_elsewhere (OutsideOfConvexHull e) there other k = one_location (on_vertex k.index) (location_of s.mesh (OutsideOfConvexHull e)) (at_known k) there
+  unknown_elsewhere NoTriangulation there other k = one_location (on_vertex k.index) no_triangulation (at_known k) there
