@@ -16,14 +16,14 @@ use Rattle.plane_tiling.proofs.Edges.{turned_within}
 use Rattle.plane_tiling.proofs.Places as P
 use Rattle.plane_tiling.proofs.Tiles.{by_signs, point_at}
 use Rattle.mesh_embedding.specs.Drawn.{drawn, faces_of, outer_of, corners_of}
-use Rattle.delaunay_edit.specs.declared.position_in_triangulation.PositionInTriangulation.{PositionInTriangulation}
-use Rattle.delaunay_edit.specs.declared.position_in_triangulation.PositionInTriangulation.TheVariants.{OnVertex, OnFace, OutsideOfConvexHull}
+use Rattle.delaunay_location.specs.declared.position_in_triangulation.PositionInTriangulation.{PositionInTriangulation}
+use Rattle.delaunay_location.specs.declared.position_in_triangulation.PositionInTriangulation.TheVariants.{OnVertex, OnFace, OutsideOfConvexHull}
 use Rattle.delaunay_edit.specs.Location.{Locates, IsApart, IsLeftOfPlace, IsMeshEdge, IsWithinEdge}
 use Rattle.delaunay_legalization.specs.Shape.{IsTriangulated}
 use Rattle.delaunay_legalization.specs.State.{state_of}
 use Rattle.delaunay_edit.proofs.Joining.{sides_at_most, edges_and_faces}
-use Rattle.delaunay_edit.proofs.Locating.{same_point}
-use Rattle.delaunay_edit.proofs.MeshParts.{mesh_edge}
+use Rattle.delaunay_location.proofs.Locating.{same_point}
+use Rattle.delaunay_legalization.proofs.MeshParts.{mesh_edge}
 use Rattle.delaunay_legalization.proofs.Shapes.{laid_out_tiles}
 
 pub positive : (n : ℕ) → ¬ (n ≡ 0) → 0 < n

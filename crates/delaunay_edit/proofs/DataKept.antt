@@ -22,7 +22,7 @@ use Rattle.delaunay_edit.specs.Data.{KeepsData, KeepsEdge, GrowsAround, IsInCorn
 use Rattle.delaunay_legalization.specs.Shape.{IsTriangulated}
 use Rattle.delaunay_legalization.specs.State.{State, state_of}
 use Rattle.delaunay_edit.proofs.Edges.{edge_joins}
-use Rattle.delaunay_edit.proofs.MeshParts.{no_side}
+use Rattle.delaunay_legalization.proofs.MeshParts.{no_side}
 use Rattle.delaunay_legalization.proofs.Shapes.{laid_out_tiles}
 
 first : {X : Type 0} (xs : List X) (k : ℕ) → k < length xs → X

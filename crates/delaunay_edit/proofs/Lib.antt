@@ -1,9 +1,4 @@
-pub mod Distances
 pub mod Edges
-pub mod Questions
-pub mod MeshParts
-pub mod Nearest
-pub mod Locating
 pub mod Counts
 pub mod HullSizes
 pub mod Growing

@@ -7,13 +7,13 @@ use Rattle.plane_tiling.specs.Laws.{IsSameLocation}
 use Rattle.plane_tiling.proofs.Locations.{each_point_has_one_location}
 use Rattle.mesh_embedding.specs.Drawn.{faces_of, edges_of, outer_of}
 use Rattle.mesh_embedding.proofs.OwnEdges.{own_edges}
-use Rattle.delaunay_edit.specs.declared.position_in_triangulation.PositionInTriangulation.{PositionInTriangulation}
-use Rattle.delaunay_edit.specs.declared.position_in_triangulation.PositionInTriangulation.TheVariants.{OnVertex, OnEdge, OnFace, OutsideOfConvexHull, NoTriangulation}
+use Rattle.delaunay_location.specs.declared.position_in_triangulation.PositionInTriangulation.{PositionInTriangulation}
+use Rattle.delaunay_location.specs.declared.position_in_triangulation.PositionInTriangulation.TheVariants.{OnVertex, OnEdge, OnFace, OutsideOfConvexHull, NoTriangulation}
 use Rattle.delaunay_legalization.specs.Known.{IsKnown, point_at}
 use Rattle.delaunay_edit.specs.Location.{location_of}
 use Rattle.delaunay_legalization.specs.Shape.{IsTriangulated}
 use Rattle.delaunay_legalization.specs.State.{State, triangulation_of}
-use Rattle.delaunay_edit.proofs.Locating.{at_vertex, same_point}
+use Rattle.delaunay_location.proofs.Locating.{at_vertex, same_point}
 
 module _ {V D U F : Type 0} (at : V → Point) (s : State V D U F) (p : Point) where
   pub here_if_on_vertex : (v : ℕ) → IsLocation (triangulation_of at s) (whole p) (on_vertex v) → (v < length s.vertices) × (point_at (map at s.vertices) v ≡ p)

@@ -7,8 +7,8 @@ use Rattle.half_edge_views.specs.Left.{each_in}
 use Rattle.plane.specs.Fraction.{Point, whole}
 use Rattle.plane.specs.Location.{IsLocation}
 use Rattle.plane.specs.Shape.{IsNearest}
-use Rattle.delaunay_edit.specs.declared.position_in_triangulation.PositionInTriangulation.{PositionInTriangulation}
-use Rattle.delaunay_edit.specs.declared.position_in_triangulation.PositionInTriangulation.TheVariants.{OnVertex, OnEdge, OnFace, OutsideOfConvexHull, NoTriangulation}
+use Rattle.delaunay_location.specs.declared.position_in_triangulation.PositionInTriangulation.{PositionInTriangulation}
+use Rattle.delaunay_location.specs.declared.position_in_triangulation.PositionInTriangulation.TheVariants.{OnVertex, OnEdge, OnFace, OutsideOfConvexHull, NoTriangulation}
 use Rattle.delaunay_legalization.specs.State.{State, state_of, triangulation_of}
 use Rattle.delaunay_legalization.specs.Known.{point_at}
 use Rattle.delaunay_edit.specs.Location.{location_of}

@@ -4,7 +4,7 @@ use Rattle.half_edge_links.specs.Mesh.{Mesh}
 use Rattle.plane.specs.Fraction.{Point}
 use Rattle.delaunay_edit.specs.declared.insertion.Entry.{Entry}
 use Rattle.delaunay_edit.specs.declared.insertion.Entry.TheVariants.{Occupied, Vacant}
-use Rattle.delaunay_edit.specs.declared.position_in_triangulation.PositionInTriangulation.{PositionInTriangulation}
+use Rattle.delaunay_location.specs.declared.position_in_triangulation.PositionInTriangulation.{PositionInTriangulation}
 use Rattle.delaunay_edit.specs.Location.{IsApart, IsLeftOfPlace, Locates}
 use Rattle.delaunay_legalization.specs.Known.{point_at}
 use Rattle.delaunay_legalization.specs.State.{State}

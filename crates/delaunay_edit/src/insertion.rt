@@ -14,10 +14,10 @@ ghost use Rattle.delaunay_edit.specs.Location.{HasHandle, IsLeftOfPlace};
 
 use crate::delaunay_triangulation::DelaunayTriangulation;
 use crate::insertion_cases::insert_at;
-use crate::position_in_triangulation::PositionInTriangulation;
 use delaunay_core::math::{InsertionError, PlaneTests, validate_vertex};
 use delaunay_core::point::HasPosition;
 use delaunay_legalization::{NoConstraints, legalize_star, reserve_for_edges, turns_left};
+use delaunay_location::PositionInTriangulation;
 use half_edge_mesh::{Dcel, FixedVertexHandle, MAX_ELEMENTS, ReserveError};
 use hint_generators::HintGenerator;
 
@@ -44,9 +44,13 @@ fn reserve_for_vertex<V, DE, UE, F>(dcel: &mut Dcel<V, DE, UE, F>) -> Result<(),
     }
 }
 
-impl<V: HasPosition + Drop, DE: Default, UE: Default, F: Default, L: HintGenerator<V::Scalar>>
-    DelaunayTriangulation<V, DE, UE, F, L>
-{
+impl<
+    V: HasPosition + Drop,
+    DE: Default,
+    UE: Default,
+    F: Default,
+    L: HintGenerator<V::Scalar>,
+> DelaunayTriangulation<V, DE, UE, F, L> {
     // The new last vertex, with the edges of the faces at it tested, or a refusal that changes nothing.
     fn append<P: PlaneTests<V::Scalar>>(
         &mut self,
@@ -106,16 +110,18 @@ impl<V: HasPosition + Drop, DE: Default, UE: Default, F: Default, L: HintGenerat
         }
     }
 
-    // What is at the position of a value.
+    // What is at the position of a value. The search begins at the last vertex.
     fn entry<P: PlaneTests<V::Scalar>>(&self, value: &V, tests: &P) -> Entry
         requires sites { All (P.sites tests.now) (map V.place self.now.vertices) }
         requires covered { P.covered tests.now (V.place value.now) }
         ensures { IsEntry V.place self.now (V.place value.now) result }
     {
-        match self.vertex_at(value.position()) {
-            Some(vertex) => Entry::Occupied(vertex),
-            None => {
-                let location = self.locate_apart(value.position(), tests);
+        self.recall_invariant();
+        let last = FixedVertexHandle::from_index(self.num_vertices().saturating_sub(1) as u32);
+        let location = self.find_location(value.position(), last, tests);
+        match location {
+            PositionInTriangulation::OnVertex(vertex) => Entry::Occupied(vertex),
+            _ => {
                 let turns = self.is_left_of(&location, value, tests);
                 Entry::Vacant(location, turns)
             }

@@ -13,10 +13,10 @@ ghost use Rattle.mesh_embedding.specs.Drawn.{faces_of};
 
 use crate::insertion_line::{insert_first, insert_past_end, insert_second, insert_within_line};
 use crate::insertion_outside::join_outside;
-use crate::position_in_triangulation::PositionInTriangulation;
 use delaunay_core::math::PlaneTests;
 use delaunay_core::point::HasPosition;
 use delaunay_legalization::is_outer;
+use delaunay_location::PositionInTriangulation;
 use half_edge_mesh::{Dcel, FixedDirectedEdgeHandle, FixedFaceHandle, FixedVertexHandle};
 
 // A vertex strictly inside an inner face, joined to its corners.

@@ -10,11 +10,10 @@ mod insertion_line;
 mod insertion_outside;
 mod location;
 mod nearest_vertex;
-mod position_in_triangulation;
 mod removal;
 mod triangulation_core;
 
 pub use cdt::ConstrainedDelaunayTriangulation;
+pub use delaunay_location::PositionInTriangulation;
 pub use delaunay_triangulation::DelaunayTriangulation;
-pub use position_in_triangulation::PositionInTriangulation;
 pub use triangulation_core::TriangulationCore;

@@ -1,18 +1,16 @@
 //! What both triangulation types hold.
-ghost use Rattle.std.specs.Prelude.{◌≡◌, ◌↔◌, ℕ, ◌<◌, ◌≤◌, [], length, map, IsTrue};
-ghost use Rattle.half_edge_links.specs.Mesh.{empty, origin, rev, face, face_edge};
-ghost use Rattle.half_edge_links.specs.Triangles.{triangle_at};
+ghost use Rattle.std.specs.Prelude.{◌≡◌, ℕ, ◌<◌, ◌≤◌, [], length, map};
+ghost use Rattle.half_edge_links.specs.Mesh.{empty, origin, rev};
 ghost use Rattle.delaunay_core.specs.Place.{place_of};
 ghost use Rattle.delaunay_legalization.specs.Constraints.{constraints_by};
 ghost use Rattle.delaunay_legalization.specs.Known.{point_at};
 ghost use Rattle.delaunay_edit.specs.Headline.{IsDelaunay, IsWellFormed};
-ghost use Rattle.delaunay_edit.specs.Location.{IsMeshEdge, IsMeshFace};
+ghost use Rattle.delaunay_edit.specs.Location.{IsMeshEdge};
 
 use delaunay_core::point::{HasPosition, Point2};
 use delaunay_legalization::ConstraintMarker;
 use half_edge_mesh::{
-    Dcel, FixedDirectedEdgeHandle, FixedFaceHandle, FixedUndirectedEdgeHandle, FixedVertexHandle,
-    MAX_ELEMENTS,
+    Dcel, FixedDirectedEdgeHandle, FixedUndirectedEdgeHandle, FixedVertexHandle, MAX_ELEMENTS,
 };
 use half_edge_views::MeshViews;
 use hint_generators::HintGenerator;
@@ -52,8 +50,14 @@ impl<V: HasPosition, DE, UE, F, L: HintGenerator<V::Scalar>, M: ConstraintMarker
     ghost invariant = { λ c. IsDelaunayTriangulation V.place M.constraints (state_of c.dcel) };
 }
 
-impl<V: HasPosition, DE, UE, F, L: HintGenerator<V::Scalar>, M: ConstraintMarker<UE>>
-    TriangulationCore<V, DE, UE, F, L, M> {
+impl<
+    V: HasPosition,
+    DE,
+    UE,
+    F,
+    L: HintGenerator<V::Scalar>,
+    M: ConstraintMarker<UE>,
+> TriangulationCore<V, DE, UE, F, L, M> {
     /// No vertex, no edge, and the outer face with default data.
     pub fn new(alloc: Global) -> Self
     where
@@ -114,36 +118,5 @@ impl<V: HasPosition, DE, UE, F, L: HintGenerator<V::Scalar>, M: ConstraintMarker
         let from = edge.from().fix();
         let to = edge.to().fix();
         (self.position_of(from), self.position_of(to))
-    }
-
-    // Whether an edge has the outer face on its left.
-    pub(crate) fn is_outer(&self, edge: FixedDirectedEdgeHandle) -> bool
-        requires { edge < length self.now.directed }
-        ensures { IsTrue result ↔ (face self.now.mesh edge ≡ 0) }
-    {
-        self.dcel.directed_edge(edge).is_outer_edge()
-    }
-
-    // The positions of the corners of an inner face, in their order round it.
-    pub(crate) fn corners_of(
-        &self,
-        face: FixedFaceHandle,
-    ) -> (Point2<V::Scalar>, Point2<V::Scalar>, Point2<V::Scalar>)
-        requires positive { 0 < face }
-        requires within { face ≤ length self.now.faces }
-        ensures first { place_of V.Scalar.whole result.0 ≡ point_at (map V.place self.now.vertices) (triangle_at self.now.mesh (face_edge self.now.mesh face)).first }
-        ensures second { place_of V.Scalar.whole result.1 ≡ point_at (map V.place self.now.vertices) (triangle_at self.now.mesh (face_edge self.now.mesh face)).second }
-        ensures third { place_of V.Scalar.whole result.2 ≡ point_at (map V.place self.now.vertices) (triangle_at self.now.mesh (face_edge self.now.mesh face)).third }
-        ensures face { IsMeshFace (map V.place self.now.vertices) self.now.mesh face }
-    {
-        let edge = self.dcel.face(face).adjacent_edge();
-        let first = edge.from().fix();
-        let second = edge.next().from().fix();
-        let third = edge.prev().from().fix();
-        (
-            self.position_of(first),
-            self.position_of(second),
-            self.position_of(third),
-        )
     }
 }

@@ -7,3 +7,4 @@ pub mod Flips
 pub mod CdtEdge
 pub mod Lending
 pub mod Star
+pub mod Parts

@@ -19,3 +19,6 @@ returns-in_ok-remove-in-Some-clause-removes g c =
       outer = removed.outer;
       err = tt;
     }
+
+pub vertex_at-requires-clause-sites : goal.vertex_at-requires-clause-sites
+vertex_at-requires-clause-sites g c = c.requires.sites c.recall_invariant.ensures.in_range

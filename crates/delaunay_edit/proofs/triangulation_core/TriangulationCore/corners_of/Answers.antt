@@ -1,6 +1,0 @@
-use Rattle.delaunay_legalization.specs.State.{state_of}
-use Rattle.delaunay_edit.proofs.MeshParts.{mesh_face}
-use Rattle.delaunay_edit.proofs.triangulation_core.TriangulationCore.corners_of.Goals as goal
-
-pub returns-clause-face : goal.returns-clause-face
-returns-clause-face g c = rw (← c.self.view_is) (mesh_face g.V.HasPosition.place (state_of c.self.inside.dcel) c.self.invariant.kept c.args.face c.requires.positive (rw (← c.self.view_is) at c.requires.within))

@@ -1,0 +1,7 @@
+pub mod Distances
+pub mod Questions
+pub mod Nearest
+pub mod Locating
+pub mod Walking
+pub mod Rounds
+pub mod Neighbours

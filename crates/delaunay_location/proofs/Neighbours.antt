@@ -1,0 +1,87 @@
+-- A walk from vertex to nearer neighbour.
+use Rattle.std.proofs.Common.{◌≡◌, ◌⊎◌, ℕ, ◌+◌, ◌^◌, ◌<◌, ◌≤◌, List, length, map, sym, subst, ◌∙◌, inl, inr, arith}
+use Rattle.std.specs.Prelude.{ℤ, pos, ◌*ℤ◌, ◌<ℤ◌}
+use Rattle.std.proofs.lemmas.Int.{ints}
+use Rattle.half_edge_links.specs.Mesh.{Mesh, origin, rev, AreSoundLinks}
+use Rattle.plane.specs.Fraction.{Point, whole}
+use Rattle.plane.specs.Circle.{gap, IsNearer}
+use Rattle.plane.specs.Delaunay.{IsConstrainedDelaunay}
+use Rattle.plane.specs.Pairs.{place}
+use Rattle.plane.specs.Shape.{IsNearest}
+use Rattle.plane.specs.Tiling.{Triangulation, IsEdge, vertex}
+use Rattle.plane_delaunay.specs.Nearer.{nearer_count}
+use Rattle.plane_delaunay.proofs.NearerCount.{nearer_count_falls}
+use Rattle.mesh_embedding.specs.Drawn.{drawn}
+use Rattle.mesh_embedding.proofs.EdgePairs.{joins_edge}
+
+scaled : (a b : ℤ) → a <ℤ b → (a *ℤ (pos 1 *ℤ pos 1)) <ℤ (b *ℤ (pos 1 *ℤ pos 1))
+scaled a b h = omega (arith, ints)
+
+unscaled : (a b : ℤ) → (a *ℤ (pos 1 *ℤ pos 1)) <ℤ (b *ℤ (pos 1 *ℤ pos 1)) → a <ℤ b
+unscaled a b h = omega (arith, ints)
+
+-- which of two points is nearer, by their squared distances
+pub nearer_by_gaps : (p a b : Point) → gap (whole p) (whole a) <ℤ gap (whole p) (whole b) → IsNearer (whole p) (whole a) (whole b)
+nearer_by_gaps p a b h = record { nearer = scaled (gap (whole p) (whole a)) (gap (whole p) (whole b)) h }
+
+pub gaps_of_nearer : (p a b : Point) → IsNearer (whole p) (whole a) (whole b) → gap (whole p) (whole a) <ℤ gap (whole p) (whole b)
+gaps_of_nearer p a b h = unscaled (gap (whole p) (whole a)) (gap (whole p) (whole b)) h.nearer
+
+-- no neighbour is nearer where no edge of the vertex ends nearer
+pub no_nearer_neighbour : (points : List Point) (m : Mesh) (p : Point) (v : ℕ) → AreSoundLinks m
+    → ((h : ℕ) → h < length m.half_edges → origin m h ≡ v → ¬ (gap (whole p) (place points (origin m (rev h))) <ℤ gap (whole p) (place points v)))
+    → (k : ℕ) → IsEdge (drawn points m) v k → ¬ IsNearer (whole p) (vertex (drawn points m) k) (vertex (drawn points m) v)
+no_nearer_neighbour points m p v sound none k edge near =
+    let h = joins_edge m sound v k edge in
+    none h.0 h.1 h.2 (subst (λ x. gap (whole p) (place points x) <ℤ gap (whole p) (place points v)) (sym h.3) (unscaled (gap (whole p) (place points k)) (gap (whole p) (place points v)) near.nearer))
+
+counts : (moves was k here n : ℕ) → moves ≡ was → k < here → here < n → moves + 1 + k < was + n
+counts moves was k here n e a b = omega (arith, e, a, b)
+
+counts_on : (moves was k here n : ℕ) → moves + here < was + n → k < here → moves + 1 + k < was + n
+counts_on moves was k here n l a = omega (arith, l, a)
+
+below_by : (a b c d : ℕ) → a + b < c → c ≤ d → a < d
+below_by a b c d h l = omega (arith, h, l)
+
+some_more : (moves was here n : ℕ) → moves ≡ was → here < n → moves < was + n
+some_more moves was here n e v = omega (arith, e, v)
+
+-- after the moves since `was` the walk is at vertex `here`: with the vertices that are nearer than it, they are fewer than all
+-- vertices, once there was a move
+pub record IsWalking (t : Triangulation) (p : Point) (here was moves : ℕ) : Type 0 where
+  pub within : here < length t.points
+  pub grown : was ≤ moves
+  pub fewer : (moves ≡ was) ⊎ (moves + nearer_count t (whole p) here < was + length t.points)
+
+module _ (t : Triangulation) (p : Point) (was : ℕ) where
+  pub walking_begins : (start moves : ℕ) → start < length t.points → moves ≡ was → IsWalking t p start was moves
+  walking_begins start moves h same = record { within = h; grown = omega (arith, same); fewer = inl same }
+
+  module _ (here moves : ℕ) (w : IsWalking t p here was moves) where
+    module _ (k : ℕ) (h : k < length t.points) (near : IsNearer (whole p) (vertex t k) (vertex t here)) where
+      pub nearer_falls : nearer_count t (whole p) k < nearer_count t (whole p) here
+      nearer_falls = (nearer_count_falls t (whole p) here k w.within h near).0
+
+      still_fewer : moves + 1 + nearer_count t (whole p) k < was + length t.points
+      still_fewer = go w.fewer
+        where
+          f : (nearer_count t (whole p) k < nearer_count t (whole p) here) × (nearer_count t (whole p) here < length t.points)
+          f = nearer_count_falls t (whole p) here k w.within h near
+
+          go : (moves ≡ was) ⊎ (moves + nearer_count t (whole p) here < was + length t.points) → moves + 1 + nearer_count t (whole p) k < was + length t.points
+          go (inl e) = let a = f.0 in let b = f.1 in counts moves was (nearer_count t (whole p) k) (nearer_count t (whole p) here) (length t.points) e a b
+          go (inr l) = let a = f.0 in counts_on moves was (nearer_count t (whole p) k) (nearer_count t (whole p) here) (length t.points) l a
+
+      pub move_fits : was + length t.points ≤ 2 ^ 64 → moves + 1 < 2 ^ 64
+      move_fits fits = below_by (moves + 1) (nearer_count t (whole p) k) (was + length t.points) (2 ^ 64) still_fewer fits
+
+      pub walking_goes_on : IsWalking t p k was (moves + 1)
+      walking_goes_on = record { within = h; grown = (let g = w.grown in omega (arith, g)); fewer = inr still_fewer }
+
+    pub walking_ends : moves < was + length t.points
+    walking_ends = go w.fewer
+      where
+        go : (moves ≡ was) ⊎ (moves + nearer_count t (whole p) here < was + length t.points) → moves < was + length t.points
+        go (inl e) = let v = w.within in some_more moves was here (length t.points) e v
+        go (inr l) = below_by moves (nearer_count t (whole p) here) (was + length t.points) (was + length t.points) l (omega arith)

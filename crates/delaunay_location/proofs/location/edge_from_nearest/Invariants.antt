@@ -1,0 +1,16 @@
+use Rattle.std.proofs.Common.{◌<◌, ℕ, map, length}
+use Rattle.std.specs.Prelude.{◌≤ℤ◌}
+use Rattle.half_edge_links.specs.Mesh.{origin}
+use Rattle.plane.specs.Fraction.{whole}
+use Rattle.plane.specs.Circle.{gap}
+use Rattle.plane.specs.Pairs.{place}
+use Rattle.delaunay_core.specs.Place.{place_of}
+use Rattle.delaunay_location.proofs.location.edge_from_nearest.Given as goal
+
+abbrev pub invariant-loop-index : goal.invariant-loop-index
+invariant-loop-index g l =
+    let at = λ (e : ℕ). gap (whole (place_of g.V.Scalar.SpadeNum.whole l.point)) (place (map g.V.HasPosition.place l.dcel.vertices) (origin l.dcel.mesh e)) in
+    record {
+      within : l.nearest < length l.dcel.directed;
+      nearest : (h : ℕ) → h < l.index → at l.nearest ≤ℤ at h;
+    }

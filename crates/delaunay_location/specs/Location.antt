@@ -1,0 +1,52 @@
+-- What an answer to a location says: vertices in place of handles.
+use Rattle.std.specs.Prelude.{◌≡◌, ℕ, ◌<◌, ◌≤ℤ◌, List, length}
+use Rattle.half_edge_links.specs.Mesh.{Mesh, origin, face, face_edge, rev, IsInner}
+use Rattle.half_edge_links.specs.Triangles.{triangle_at}
+use Rattle.plane.specs.Fraction.{Point, whole}
+use Rattle.plane.specs.Side.{TurnsLeft}
+use Rattle.plane.specs.Circle.{gap}
+use Rattle.plane.specs.Pairs.{place}
+use Rattle.plane.specs.Location.{Location, IsLocation, on_vertex, on_edge, on_face, outside_hull, no_triangulation}
+use Rattle.delaunay_location.specs.declared.position_in_triangulation.PositionInTriangulation.{PositionInTriangulation}
+use Rattle.delaunay_location.specs.declared.position_in_triangulation.PositionInTriangulation.TheVariants.{OnVertex, OnEdge, OnFace, OutsideOfConvexHull, NoTriangulation}
+use Rattle.delaunay_legalization.specs.Parts.{IsWithinEdge}
+use Rattle.mesh_embedding.specs.Drawn.{drawn}
+
+abbrev pub location_of : Mesh → PositionInTriangulation → Location
+location_of m (OnVertex v) = on_vertex v
+location_of m (OnEdge e) = on_edge (origin m e) (origin m (rev e))
+location_of m (OnFace f) = let t = triangle_at m (face_edge m f) in on_face t.first t.second t.third
+location_of m (OutsideOfConvexHull e) = outside_hull (origin m e) (origin m (rev e))
+location_of m NoTriangulation = no_triangulation
+
+-- the handle is one of the mesh, and the edge of an outside position has the outer face on its left
+abbrev pub HasHandle : Mesh → PositionInTriangulation → Type 0
+HasHandle m (OnVertex v) = v < length m.out_edges
+HasHandle m (OnEdge e) = e < length m.half_edges
+HasHandle m (OnFace f) = IsInner m f
+HasHandle m (OutsideOfConvexHull e) = (e < length m.half_edges) × (face m e ≡ 0)
+HasHandle m NoTriangulation = Unit {0}
+
+-- the answer is where p is
+pub record Locates (points : List Point) (m : Mesh) (p : Point) (answer : PositionInTriangulation) : Type 0 where
+  pub handle : HasHandle m answer
+  pub location : IsLocation (drawn points m) (whole p) (location_of m answer)
+
+-- directed edge e has the outer face on its left, and p strictly on its left
+abbrev pub IsLeftOfEdge : List Point → Mesh → Point → ℕ → Type 0
+IsLeftOfEdge points m p e = (face m e ≡ 0) × TurnsLeft (place points (origin m e)) (place points (origin m (rev e))) (whole p)
+
+-- p is neither
+pub record IsClearOfEdge (points : List Point) (m : Mesh) (p : Point) (e : ℕ) : Type 0 where
+  pub not_within : ¬ IsWithinEdge points m p e
+  pub not_left : ¬ IsLeftOfEdge points m p e
+
+-- no directed edge starts nearer to p than e does
+pub record StartsNearest (points : List Point) (m : Mesh) (p : Point) (e : ℕ) : Type 0 where
+  pub within : e < length m.half_edges
+  pub nearest : (h : ℕ) → h < length m.half_edges → gap (whole p) (place points (origin m e)) ≤ℤ gap (whole p) (place points (origin m h))
+
+-- the edge that the answer names has p strictly on its left
+abbrev pub IsLeftOfPlace : List Point → Mesh → Point → PositionInTriangulation → Type 0
+IsLeftOfPlace points m p (OutsideOfConvexHull e) = TurnsLeft (place points (origin m e)) (place points (origin m (rev e))) (whole p)
+IsLeftOfPlace points m p _ = ⊥

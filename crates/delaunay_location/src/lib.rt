@@ -1,0 +1,18 @@
+//! Where a position is among the vertices, edges and faces of a triangulation, and which vertex is nearest to it.
+#![tactic(auto)]
+
+mod location;
+mod nearest_vertex;
+mod nearest_walk;
+mod parts;
+mod position_in_triangulation;
+mod walk;
+
+pub use position_in_triangulation::PositionInTriangulation;
+
+// For the crates of edits, and not for users.
+pub use location::{locate_apart, vertex_at};
+pub use nearest_vertex::nearest_neighbor;
+pub use nearest_walk::nearest_by_neighbors;
+pub use parts::{ends_of, position_of};
+pub use walk::{locate, locate_vertex, locate_with_hint};

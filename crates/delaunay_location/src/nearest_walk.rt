@@ -1,0 +1,61 @@
+//! The vertex that is nearest to a position, by a walk from neighbour to neighbour.
+ghost use Rattle.std.specs.Prelude.{◌≡◌, ℕ, ◌+◌, ◌<◌, ◌≤◌, ◌^◌, [], length, MatchOption};
+ghost use Rattle.plane.specs.Fraction.{whole as fraction};
+ghost use Rattle.plane.specs.Circle.{IsNearer};
+ghost use Rattle.plane.specs.Delaunay.{IsConstrainedDelaunay};
+ghost use Rattle.plane.specs.Shape.{IsNearest};
+ghost use Rattle.plane.specs.Tests.{InRange};
+ghost use Rattle.plane.specs.Tiling.{IsEdge, vertex};
+ghost use Rattle.delaunay_core.specs.Place.{place_of};
+ghost use Rattle.delaunay_legalization.specs.Shape.{IsTriangulated};
+ghost use Rattle.delaunay_legalization.specs.State.{state_of, triangulation_of};
+
+use crate::nearest_vertex::is_nearer;
+use crate::parts::end_vertex;
+use delaunay_core::point::{HasPosition, Point2};
+use half_edge_mesh::{Dcel, FixedVertexHandle};
+use half_edge_views::MeshViews;
+
+// A neighbour of a vertex that is strictly nearer to a position, if there is one.
+fn nearer_neighbor<V: HasPosition, DE, UE, F>(
+    dcel: &Dcel<V, DE, UE, F>,
+    from: FixedVertexHandle,
+    point: Point2<V::Scalar>,
+) -> Option<FixedVertexHandle>
+    requires kept { IsTriangulated V.place (state_of dcel.now) }
+    requires within { from < length dcel.now.vertices }
+    requires in_range { InRange (place_of V.Scalar.whole point) }
+    ensures { let t = triangulation_of V.place (state_of dcel.now) in let p = fraction (place_of V.Scalar.whole point) in MatchOption result ((k : ℕ) → IsEdge t from k → ¬ IsNearer p (vertex t k) (vertex t from)) (λ k. (k < length dcel.now.vertices) × IsNearer p (vertex t k) (vertex t from)) }
+{
+    for edge in dcel.vertex(from).out_edges() {
+        let neighbor = end_vertex(dcel, edge.fix());
+        if is_nearer(dcel, neighbor, from, point) {
+            return Some(neighbor);
+        }
+    }
+    None
+}
+
+// The vertex that is nearest to a position, by a walk from `start` to nearer neighbours until there is none. It adds the
+// number of its moves to `moves`: fewer than there are vertices.
+pub fn nearest_by_neighbors<V: HasPosition, DE, UE, F>(
+    dcel: &Dcel<V, DE, UE, F>,
+    start: FixedVertexHandle,
+    point: Point2<V::Scalar>,
+    moves: &mut u64,
+) -> FixedVertexHandle
+    requires kept { IsTriangulated V.place (state_of dcel.now) }
+    requires delaunay { IsConstrainedDelaunay (triangulation_of V.place (state_of dcel.now)) [] }
+    requires within { start < length dcel.now.vertices }
+    requires in_range { InRange (place_of V.Scalar.whole point) }
+    requires fits { moves.old + length dcel.now.vertices ≤ 2 ^ 64 }
+    ensures nearest { IsNearest (triangulation_of V.place (state_of dcel.now)) (fraction (place_of V.Scalar.whole point)) result }
+    ensures counted { (moves.old ≤ moves.new) × (moves.new < moves.old + length dcel.now.vertices) }
+{
+    let mut nearest = start;
+    while let Some(nearer) = nearer_neighbor(dcel, nearest, point) {
+        nearest = nearer;
+        *moves += 1;
+    }
+    nearest
+}

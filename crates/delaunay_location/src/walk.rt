@@ -1,0 +1,297 @@
+//! Where a position is, by a walk from face to face.
+ghost use Rattle.std.specs.Prelude.{◌≡◌, ◌↔◌, ◌<◌, length, map, All, IsTrue, IfSome, MatchOption};
+ghost use Rattle.half_edge_links.specs.Mesh.{origin, rev, face};
+ghost use Rattle.plane.specs.Fraction.{whole as fraction};
+ghost use Rattle.plane.specs.Side.{side, right};
+ghost use Rattle.plane.specs.Pairs.{place};
+ghost use Rattle.delaunay_core.specs.Place.{place_of};
+ghost use Rattle.delaunay_legalization.specs.Known.{point_at};
+ghost use Rattle.delaunay_legalization.specs.Parts.{IsApart};
+ghost use Rattle.delaunay_legalization.specs.Shape.{IsTriangulated};
+ghost use Rattle.delaunay_legalization.specs.State.{state_of};
+ghost use Rattle.delaunay_location.specs.Location.{Locates};
+
+use crate::location::{is_inside_face, locate_by_scan};
+use crate::parts::{ends_of, left_face, start_vertex};
+use crate::position_in_triangulation::PositionInTriangulation;
+use delaunay_core::math::PlaneTests;
+use delaunay_core::point::{HasPosition, Point2};
+use delaunay_legalization::{is_outer, is_same_point, is_strictly_within, turns_left};
+use half_edge_mesh::{Dcel, FixedDirectedEdgeHandle, FixedVertexHandle};
+use half_edge_views::MeshViews;
+
+// Whether an edge has a position strictly on its right.
+fn is_right_of<V: HasPosition, DE, UE, F, P: PlaneTests<V::Scalar>>(
+    dcel: &Dcel<V, DE, UE, F>,
+    edge: FixedDirectedEdgeHandle,
+    point: Point2<V::Scalar>,
+    tests: &P,
+) -> bool
+    requires kept { IsTriangulated V.place (state_of dcel.now) }
+    requires within { edge < length dcel.now.directed }
+    requires sites { All (P.sites tests.now) (map V.place dcel.now.vertices) }
+    requires covered { P.covered tests.now (place_of V.Scalar.whole point) }
+    ensures { let points = map V.place dcel.now.vertices in let m = dcel.now.mesh in IsTrue result ↔ (side (place points (origin m edge)) (place points (origin m (rev edge))) (fraction (place_of V.Scalar.whole point)) ≡ right) }
+{
+    let (from, to) = ends_of(dcel, edge);
+    tests.side(from, to, point).is_on_right_side()
+}
+
+// The location of a position on an edge: at its start, or within it.
+fn place_on_edge<V: HasPosition, DE, UE, F, P: PlaneTests<V::Scalar>>(
+    dcel: &Dcel<V, DE, UE, F>,
+    edge: FixedDirectedEdgeHandle,
+    point: Point2<V::Scalar>,
+    tests: &P,
+) -> Option<PositionInTriangulation>
+    requires kept { IsTriangulated V.place (state_of dcel.now) }
+    requires within { edge < length dcel.now.directed }
+    requires sites { All (P.sites tests.now) (map V.place dcel.now.vertices) }
+    requires covered { P.covered tests.now (place_of V.Scalar.whole point) }
+    ensures { IfSome result (Locates (map V.place dcel.now.vertices) dcel.now.mesh (place_of V.Scalar.whole point)) }
+{
+    let (from, to) = ends_of(dcel, edge);
+    if is_same_point(from, point) {
+        return Some(PositionInTriangulation::OnVertex(start_vertex(dcel, edge)));
+    }
+    if is_same_point(to, point) {
+        return None;
+    }
+    if is_strictly_within(from, to, point, tests) {
+        return Some(PositionInTriangulation::OnEdge(edge));
+    }
+    None
+}
+
+// The location of a position in the closed face on the left of an edge.
+fn place_in_face<V: HasPosition, DE, UE, F, P: PlaneTests<V::Scalar>>(
+    dcel: &Dcel<V, DE, UE, F>,
+    edge: FixedDirectedEdgeHandle,
+    point: Point2<V::Scalar>,
+    tests: &P,
+) -> Option<PositionInTriangulation>
+    requires kept { IsTriangulated V.place (state_of dcel.now) }
+    requires within { edge < length dcel.now.directed }
+    requires inner { 0 < face dcel.now.mesh edge }
+    requires sites { All (P.sites tests.now) (map V.place dcel.now.vertices) }
+    requires covered { P.covered tests.now (place_of V.Scalar.whole point) }
+    ensures { IfSome result (Locates (map V.place dcel.now.vertices) dcel.now.mesh (place_of V.Scalar.whole point)) }
+{
+    let face = left_face(dcel, edge);
+    if is_inside_face(dcel, face, point, tests) {
+        return Some(PositionInTriangulation::OnFace(face));
+    }
+    if let Some(place) = place_on_edge(dcel, edge, point, tests) {
+        return Some(place);
+    }
+    let edge = dcel.directed_edge(edge);
+    if let Some(place) = place_on_edge(dcel, edge.next().fix(), point, tests) {
+        return Some(place);
+    }
+    place_on_edge(dcel, edge.prev().fix(), point, tests)
+}
+
+// The location of a position strictly on the left of an edge that has the outer face there.
+fn place_outside<V: HasPosition, DE, UE, F, P: PlaneTests<V::Scalar>>(
+    dcel: &Dcel<V, DE, UE, F>,
+    edge: FixedDirectedEdgeHandle,
+    point: Point2<V::Scalar>,
+    tests: &P,
+) -> Option<PositionInTriangulation>
+    requires kept { IsTriangulated V.place (state_of dcel.now) }
+    requires within { edge < length dcel.now.directed }
+    requires outer { face dcel.now.mesh edge ≡ 0 }
+    requires sites { All (P.sites tests.now) (map V.place dcel.now.vertices) }
+    requires covered { P.covered tests.now (place_of V.Scalar.whole point) }
+    ensures { IfSome result (Locates (map V.place dcel.now.vertices) dcel.now.mesh (place_of V.Scalar.whole point)) }
+{
+    let (from, to) = ends_of(dcel, edge);
+    if turns_left(from, to, point, tests) {
+        Some(PositionInTriangulation::OutsideOfConvexHull(edge))
+    } else {
+        None
+    }
+}
+
+// The location of a position in the closed face on the left of an edge, or strictly on the left of an edge that has the
+// outer face there.
+fn place_at<V: HasPosition, DE, UE, F, P: PlaneTests<V::Scalar>>(
+    dcel: &Dcel<V, DE, UE, F>,
+    edge: FixedDirectedEdgeHandle,
+    point: Point2<V::Scalar>,
+    tests: &P,
+) -> Option<PositionInTriangulation>
+    requires kept { IsTriangulated V.place (state_of dcel.now) }
+    requires within { edge < length dcel.now.directed }
+    requires sites { All (P.sites tests.now) (map V.place dcel.now.vertices) }
+    requires covered { P.covered tests.now (place_of V.Scalar.whole point) }
+    ensures { IfSome result (Locates (map V.place dcel.now.vertices) dcel.now.mesh (place_of V.Scalar.whole point)) }
+{
+    if is_outer(dcel, edge) {
+        place_outside(dcel, edge, point, tests)
+    } else {
+        place_in_face(dcel, edge, point, tests)
+    }
+}
+
+// The way from an edge that has the outer face on its left to a position: the other direction of the edge, unless the
+// position is strictly on its left.
+fn way_in<V: HasPosition, DE, UE, F, P: PlaneTests<V::Scalar>>(
+    dcel: &Dcel<V, DE, UE, F>,
+    edge: FixedDirectedEdgeHandle,
+    point: Point2<V::Scalar>,
+    tests: &P,
+) -> Option<FixedDirectedEdgeHandle>
+    requires kept { IsTriangulated V.place (state_of dcel.now) }
+    requires within { edge < length dcel.now.directed }
+    requires sites { All (P.sites tests.now) (map V.place dcel.now.vertices) }
+    requires covered { P.covered tests.now (place_of V.Scalar.whole point) }
+    ensures { IfSome result (λ e. e < length dcel.now.directed) }
+{
+    let (from, to) = ends_of(dcel, edge);
+    if turns_left(from, to, point, tests) {
+        None
+    } else {
+        Some(edge.rev())
+    }
+}
+
+// The way from the face on the left of an edge to a position outside it: a side that has the position strictly on its
+// right, in the other direction. From the outer face it leads inside, unless the position is on the left of the edge.
+fn way_out<V: HasPosition, DE, UE, F, P: PlaneTests<V::Scalar>>(
+    dcel: &Dcel<V, DE, UE, F>,
+    edge: FixedDirectedEdgeHandle,
+    point: Point2<V::Scalar>,
+    tests: &P,
+) -> Option<FixedDirectedEdgeHandle>
+    requires kept { IsTriangulated V.place (state_of dcel.now) }
+    requires within { edge < length dcel.now.directed }
+    requires sites { All (P.sites tests.now) (map V.place dcel.now.vertices) }
+    requires covered { P.covered tests.now (place_of V.Scalar.whole point) }
+    ensures { IfSome result (λ e. e < length dcel.now.directed) }
+{
+    let here = dcel.directed_edge(edge);
+    if here.is_outer_edge() {
+        return way_in(dcel, edge, point, tests);
+    }
+    let next = here.next().fix();
+    if is_right_of(dcel, next, point, tests) {
+        return Some(next.rev());
+    }
+    let prev = here.prev().fix();
+    if is_right_of(dcel, prev, point, tests) {
+        return Some(prev.rev());
+    }
+    if is_right_of(dcel, edge, point, tests) {
+        return Some(edge.rev());
+    }
+    None
+}
+
+// The location that a walk from an edge ends at, unless it has not ended after as many steps as there are directed edges.
+// Among faces that pass the circle test it ends earlier.
+fn walk<V: HasPosition, DE, UE, F, P: PlaneTests<V::Scalar>>(
+    dcel: &Dcel<V, DE, UE, F>,
+    start: FixedDirectedEdgeHandle,
+    point: Point2<V::Scalar>,
+    tests: &P,
+) -> Option<PositionInTriangulation>
+    requires kept { IsTriangulated V.place (state_of dcel.now) }
+    requires within { start < length dcel.now.directed }
+    requires sites { All (P.sites tests.now) (map V.place dcel.now.vertices) }
+    requires covered { P.covered tests.now (place_of V.Scalar.whole point) }
+    ensures { IfSome result (Locates (map V.place dcel.now.vertices) dcel.now.mesh (place_of V.Scalar.whole point)) }
+{
+    let mut edge = start;
+    for _ in 0..dcel.num_directed_edges() {
+        match way_out(dcel, edge, point, tests) {
+            Some(beyond) => edge = beyond,
+            None => return place_at(dcel, edge, point, tests),
+        }
+    }
+    None
+}
+
+// An edge that a walk begins at: one of the vertex `hint`, or of vertex 0 where there is no such vertex.
+fn first_edge<V, DE, UE, F>(
+    dcel: &Dcel<V, DE, UE, F>,
+    hint: FixedVertexHandle,
+) -> Option<FixedDirectedEdgeHandle>
+    ensures { IfSome result (λ e. e < length dcel.now.directed) }
+{
+    let vertex = match dcel.get_vertex(hint) {
+        Some(vertex) => vertex,
+        None => dcel.get_vertex(FixedVertexHandle::from_index(0))?,
+    };
+    Some(vertex.out_edge()?.fix())
+}
+
+// Where a position is, by a walk from a vertex, or from vertex 0 where there is no such vertex. There is no answer where
+// there are no faces.
+fn walk_from<V: HasPosition, DE, UE, F, P: PlaneTests<V::Scalar>>(
+    dcel: &Dcel<V, DE, UE, F>,
+    hint: FixedVertexHandle,
+    point: Point2<V::Scalar>,
+    tests: &P,
+) -> Option<PositionInTriangulation>
+    requires kept { IsTriangulated V.place (state_of dcel.now) }
+    requires sites { All (P.sites tests.now) (map V.place dcel.now.vertices) }
+    requires covered { P.covered tests.now (place_of V.Scalar.whole point) }
+    ensures { IfSome result (Locates (map V.place dcel.now.vertices) dcel.now.mesh (place_of V.Scalar.whole point)) }
+{
+    if dcel.num_inner_faces() == 0 {
+        return None;
+    }
+    walk(dcel, first_edge(dcel, hint)?, point, tests)
+}
+
+/// Where a position is. The search begins at the vertex `hint`, or at vertex 0 where there is no such vertex: the nearer it
+/// is, the shorter the way.
+pub fn locate_with_hint<V: HasPosition, DE, UE, F, P: PlaneTests<V::Scalar>>(
+    dcel: &Dcel<V, DE, UE, F>,
+    point: Point2<V::Scalar>,
+    hint: FixedVertexHandle,
+    tests: &P,
+) -> PositionInTriangulation
+    requires kept { IsTriangulated V.place (state_of dcel.now) }
+    requires sites { All (P.sites tests.now) (map V.place dcel.now.vertices) }
+    requires covered { P.covered tests.now (place_of V.Scalar.whole point) }
+    ensures { Locates (map V.place dcel.now.vertices) dcel.now.mesh (place_of V.Scalar.whole point) result }
+{
+    match walk_from(dcel, hint, point, tests) {
+        Some(place) => place,
+        None => locate_by_scan(dcel, point, tests),
+    }
+}
+
+/// Where a position is, by a search from vertex 0.
+pub fn locate<V: HasPosition, DE, UE, F, P: PlaneTests<V::Scalar>>(
+    dcel: &Dcel<V, DE, UE, F>,
+    point: Point2<V::Scalar>,
+    tests: &P,
+) -> PositionInTriangulation
+    requires kept { IsTriangulated V.place (state_of dcel.now) }
+    requires sites { All (P.sites tests.now) (map V.place dcel.now.vertices) }
+    requires covered { P.covered tests.now (place_of V.Scalar.whole point) }
+    ensures { Locates (map V.place dcel.now.vertices) dcel.now.mesh (place_of V.Scalar.whole point) result }
+{
+    locate_with_hint(dcel, point, FixedVertexHandle::from_index(0), tests)
+}
+
+/// The vertex at a position, if there is one. The search begins at the vertex `hint`, or at vertex 0.
+pub fn locate_vertex<V: HasPosition, DE, UE, F, P: PlaneTests<V::Scalar>>(
+    dcel: &Dcel<V, DE, UE, F>,
+    point: Point2<V::Scalar>,
+    hint: FixedVertexHandle,
+    tests: &P,
+) -> Option<FixedVertexHandle>
+    requires kept { IsTriangulated V.place (state_of dcel.now) }
+    requires sites { All (P.sites tests.now) (map V.place dcel.now.vertices) }
+    requires covered { P.covered tests.now (place_of V.Scalar.whole point) }
+    ensures { let points = map V.place dcel.now.vertices in let p = place_of V.Scalar.whole point in MatchOption result (IsApart points p) (λ v. (v < length dcel.now.vertices) × (point_at points v ≡ p)) }
+{
+    match locate_with_hint(dcel, point, hint, tests) {
+        PositionInTriangulation::OnVertex(vertex) => Some(vertex),
+        _ => None,
+    }
+}
