@@ -3,3 +3,6 @@ pub mod Circles
 pub mod Rectangles
 pub mod Distances
 pub mod FallsOn
+pub mod Asking
+pub mod Flooding
+pub mod Starting

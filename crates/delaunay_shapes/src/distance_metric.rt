@@ -5,9 +5,12 @@ ghost use Rattle.plane.specs.Tests.{InRange};
 ghost use Rattle.plane_delaunay.specs.EdgeTests.{HasPointIn};
 ghost use Rattle.delaunay_core.specs.Place.{place_of};
 ghost use Rattle.delaunay_shapes.specs.Known.{point_at};
+ghost use Rattle.delaunay_shapes.specs.InShape.{IsEdgeInShape};
 
+use crate::positions::position_of;
 use delaunay_core::math::PlaneTests;
-use delaunay_core::point::{Point2, SpadeNum};
+use delaunay_core::point::{HasPosition, Point2, SpadeNum};
+use half_edge_views::UndirectedEdgeHandle;
 
 /// A closed shape. It tells how far a point is from it, and whether an edge has a point in it.
 pub trait DistanceMetric<S: SpadeNum>: Drop {
@@ -42,5 +45,19 @@ pub trait DistanceMetric<S: SpadeNum>: Drop {
         ensures inside { IsTrue result ↔ shape self.now (fraction (place_of S.whole point)) }
     {
         self.distance_to_point(point) <= 0
+    }
+
+    /// Whether the closed edge of a handle has a point in the shape.
+    final fn is_handle_inside<V: HasPosition<Scalar = S>, DE, UE, F, P: PlaneTests<S>>(
+        &self,
+        handle: UndirectedEdgeHandle<'_, V, DE, UE, F>,
+        tests: &P,
+    ) -> bool
+        requires own_covered { All (P.covered tests.now) (own_points self.now) }
+        requires covered { All (P.covered tests.now) (map V.place handle.dcel.now.vertices) }
+        ensures inside { IsTrue result ↔ IsEdgeInShape (shape self.now) (map V.place handle.entry.dcel.now.vertices) handle.entry.dcel.now.mesh handle.entry.index }
+    {
+        let edge = handle.as_directed();
+        self.is_edge_inside([position_of(edge.from()), position_of(edge.to())], tests)
     }
 }

@@ -3,8 +3,14 @@
 
 mod circle;
 mod distance_metric;
+mod filter;
+mod flood;
+mod in_shape;
+mod positions;
 mod rectangle;
 
 pub use circle::CircleMetric;
 pub use distance_metric::DistanceMetric;
+pub use filter::{edges_by_filter, vertices_by_filter};
+pub use in_shape::{EdgesInShapeIterator, VerticesInShapeIterator};
 pub use rectangle::RectangleMetric;

@@ -1,0 +1,98 @@
+//! A flood over the edges of a mesh that have a point in a shape: from those found, to those beside them in their faces.
+ghost use Rattle.std.specs.Prelude.{◌<◌, length, map, All, OnOk};
+ghost use Rattle.delaunay_shapes.specs.Flood.{Asks, AsksBeside, GoesOn, IsFlooding, IsSpread};
+ghost use Rattle.delaunay_shapes.specs.InShape.{IsInside};
+
+use crate::distance_metric::DistanceMetric;
+use delaunay_core::math::PlaneTests;
+use delaunay_core::point::HasPosition;
+use half_edge_mesh::{Dcel, FixedDirectedEdgeHandle, FixedUndirectedEdgeHandle};
+use half_edge_views::MeshViews;
+use std::alloc::AllocError;
+
+// Asks the metric of an edge, unless it was asked before, and keeps the edge where it has a point in the shape.
+pub(crate) fn ask<
+    V: HasPosition,
+    DE,
+    UE,
+    F,
+    M: DistanceMetric<V::Scalar>,
+    P: PlaneTests<V::Scalar>,
+>(
+    dcel: &Dcel<V, DE, UE, F>,
+    metric: &M,
+    tests: &P,
+    edge: FixedUndirectedEdgeHandle,
+    asked: &mut Vec<bool>,
+    found: &mut Vec<FixedUndirectedEdgeHandle>,
+) -> Result<(), AllocError>
+    requires own_covered { All (P.covered tests.now) (M.own_points metric.now) }
+    requires covered { All (P.covered tests.now) (map V.place dcel.now.vertices) }
+    requires within { edge < length dcel.now.undirected }
+    requires flooding { IsFlooding (IsInside (M.shape metric.now) V.place dcel.now) (length dcel.now.undirected) asked.old.items found.old.items }
+    ensures { OnOk result (Asks (IsInside (M.shape metric.now) V.place dcel.now) (length dcel.now.undirected) asked.old.items asked.new.items found.old.items found.new.items edge) }
+{
+    let index = edge.index() as usize;
+    if asked[index] {
+        return Ok(());
+    }
+    asked[index] = true;
+    if metric.is_handle_inside(dcel.undirected_edge(edge), tests) {
+        found.push(edge)?;
+    }
+    Ok(())
+}
+
+// Asks of the edges before and after an edge in its loop.
+fn ask_beside<V: HasPosition, DE, UE, F, M: DistanceMetric<V::Scalar>, P: PlaneTests<V::Scalar>>(
+    dcel: &Dcel<V, DE, UE, F>,
+    metric: &M,
+    tests: &P,
+    edge: FixedDirectedEdgeHandle,
+    asked: &mut Vec<bool>,
+    found: &mut Vec<FixedUndirectedEdgeHandle>,
+) -> Result<(), AllocError>
+    requires own_covered { All (P.covered tests.now) (M.own_points metric.now) }
+    requires covered { All (P.covered tests.now) (map V.place dcel.now.vertices) }
+    requires within { edge < length dcel.now.directed }
+    requires flooding { IsFlooding (IsInside (M.shape metric.now) V.place dcel.now) (length dcel.now.undirected) asked.old.items found.old.items }
+    ensures { OnOk result (AsksBeside (IsInside (M.shape metric.now) V.place dcel.now) dcel.now.mesh (length dcel.now.undirected) asked.old.items asked.new.items found.old.items found.new.items edge) }
+{
+    let edge = dcel.directed_edge(edge);
+    let after = edge.next().as_undirected().fix();
+    let before = edge.prev().as_undirected().fix();
+    ask(dcel, metric, tests, after, asked, found)?;
+    ask(dcel, metric, tests, before, asked, found)
+}
+
+// Goes on from each edge found to those beside it, until none is new.
+pub(crate) fn spread<
+    V: HasPosition,
+    DE,
+    UE,
+    F,
+    M: DistanceMetric<V::Scalar>,
+    P: PlaneTests<V::Scalar>,
+>(
+    dcel: &Dcel<V, DE, UE, F>,
+    metric: &M,
+    tests: &P,
+    asked: &mut Vec<bool>,
+    found: &mut Vec<FixedUndirectedEdgeHandle>,
+) -> Result<(), AllocError>
+    requires own_covered { All (P.covered tests.now) (M.own_points metric.now) }
+    requires covered { All (P.covered tests.now) (map V.place dcel.now.vertices) }
+    requires flooding { IsFlooding (IsInside (M.shape metric.now) V.place dcel.now) (length dcel.now.undirected) asked.old.items found.old.items }
+    ensures flooding { OnOk result (IsFlooding (IsInside (M.shape metric.now) V.place dcel.now) (length dcel.now.undirected) asked.new.items found.new.items) }
+    ensures on { OnOk result (GoesOn asked.old.items asked.new.items found.old.items found.new.items) }
+    ensures spread { OnOk result (IsSpread dcel.now.mesh asked.new.items found.new.items) }
+{
+    let mut index = 0;
+    'edges: while index < found.len() {
+        let edge = found[index].as_directed();
+        ask_beside(dcel, metric, tests, edge, asked, found)?;
+        ask_beside(dcel, metric, tests, edge.rev(), asked, found)?;
+        index += 1;
+    }
+    Ok(())
+}
