@@ -4,5 +4,6 @@ pub mod Rectangles
 pub mod Distances
 pub mod FallsOn
 pub mod Asking
+pub mod Handles
 pub mod Flooding
 pub mod Starting

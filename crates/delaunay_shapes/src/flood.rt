@@ -89,9 +89,9 @@ pub(crate) fn spread<
 {
     let mut index = 0;
     'edges: while index < found.len() {
-        let edge = found[index].as_directed();
-        ask_beside(dcel, metric, tests, edge, asked, found)?;
-        ask_beside(dcel, metric, tests, edge.rev(), asked, found)?;
+        let edge = dcel.undirected_edge(found[index]).as_directed();
+        ask_beside(dcel, metric, tests, edge.fix(), asked, found)?;
+        ask_beside(dcel, metric, tests, edge.rev().fix(), asked, found)?;
         index += 1;
     }
     Ok(())

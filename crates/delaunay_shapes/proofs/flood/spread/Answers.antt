@@ -1,24 +1,45 @@
-use Rattle.std.proofs.Common.{rules, ◌<◌, length, map, All, OnOk, ◌≡◌, ℕ, ◌+◌, ◌-◌, ◌*◌, ◌≤◌, ◌/◌, ◌%◌, Bool, true, false, nat_eq, nat_lt, List, [], ◌∷◌, ◌++◌, slice_index_or, slice_set, bit_and, bit_or, Fits, w8, w32, w64, Bor, MutBor}
-use Rattle.delaunay_shapes.specs.Flood.{Asks, AsksBeside, GoesOn, IsFlooding, IsSpread}
+use Rattle.std.proofs.Common.{ℕ, ◌*◌, ◌<◌, ◌≤◌, ◌∙◌, ap, length, subst, arith}
+use Rattle.half_edge_links.specs.Mesh.{rev}
+use Rattle.delaunay_shapes.specs.Flood.{AsksBeside}
 use Rattle.delaunay_shapes.specs.InShape.{IsInside}
+use Rattle.delaunay_shapes.proofs.Asking.{goes_on_twice, spread_ends, spread_more}
+use Rattle.delaunay_shapes.proofs.Handles.{found_below, found_fits}
 use Rattle.delaunay_shapes.proofs.flood.spread.Goals as goal
 
--- src/flood.rt:93:9
-pub ask_beside-requires-clause-within : goal.ask_beside-requires-clause-within
-ask_beside-requires-clause-within g c = ?
+pub undirected_edge-requires : goal.undirected_edge-requires
+undirected_edge-requires g c =
+    let here : c.edges.index < length c.edges.found.items = let at = c.edges-test.true in let many = c.len.ensures in let same = c.edges.found.ok in omega (arith, at, many, same) in
+    let below = found_below (IsInside (g.M.DistanceMetric.shape c.args.metric.now) g.V.HasPosition.place c.args.dcel.now) (length c.args.dcel.now.undirected) c.edges.asked.items c.edges.found.items c.edges.index c.index.result.now c.edges.invariant.flooding here in
+    let is = c.index.ensures in
+    omega (arith, below, is)
 
--- src/flood.rt:94:9
-pub ask_beside-requires-in-edges-clause-within : goal.ask_beside-requires-in-edges-clause-within
-ask_beside-requires-in-edges-clause-within g c = ?
-
--- src/flood.rt:91:5
 pub edges-smaller : goal.edges-smaller
-edges-smaller g c = ?
+edges-smaller g c =
+    let fits = found_fits (IsInside (g.M.DistanceMetric.shape c.args.metric.now) g.V.HasPosition.place c.args.dcel.now) (length c.args.dcel.now.undirected) c.edges.asked.items c.edges.found.items c.edges.invariant.flooding in
+    let here = c.edges-test.true in
+    let count = c.len.ensures in
+    let same = c.edges.found.ok in
+    omega (arith, fits, here, count, same)
 
--- src/flood.rt:91:5
 pub edges-preserved : goal.edges-preserved
-edges-preserved g c = ?
+edges-preserved g c =
+    let Inside : ℕ → Type 0 = IsInside (g.M.DistanceMetric.shape c.args.metric.now) g.V.HasPosition.place c.args.dcel.now in
+    let m = c.args.dcel.now.mesh in
+    let count = length c.args.dcel.now.undirected in
+    let here : c.edges.index < length c.edges.found.items = let at = c.edges-test.true in let many = c.len.ensures in let same = c.edges.found.ok in omega (arith, at, many, same) in
+    let way = c.as_directed-edge.ensures.index ∙ ap (λ (k : ℕ). 2 * k) (c.undirected_edge.ensures.index ∙ c.index.ensures) in
+    let first = subst (λ (h : ℕ). AsksBeside Inside m count c.edges.asked.items c.ask_beside.new.asked.items c.edges.found.items c.ask_beside.new.found.items h) (c.fix.ensures.value ∙ way) c.in_ok-ask_beside.ensures in
+    let second = subst (λ (h : ℕ). AsksBeside Inside m count c.ask_beside.new.asked.items c.ask_beside-in-edges.new.asked.items c.ask_beside.new.found.items c.ask_beside-in-edges.new.found.items h) (c.fix-in-edges.ensures.value ∙ c.rev.ensures.index ∙ ap rev way) c.in_ok-ask_beside-2.ensures in
+    record {
+      flooding = second.flooding;
+      on = goes_on_twice c.args.asked.now.items c.edges.asked.items c.ask_beside-in-edges.new.asked.items c.args.found.now.items c.edges.found.items c.ask_beside-in-edges.new.found.items c.edges.invariant.on
+          (goes_on_twice c.edges.asked.items c.ask_beside.new.asked.items c.ask_beside-in-edges.new.asked.items c.edges.found.items c.ask_beside.new.found.items c.ask_beside-in-edges.new.found.items first.on second.on);
+      spread = spread_more Inside m count c.edges.asked.items c.ask_beside.new.asked.items c.ask_beside-in-edges.new.asked.items c.edges.found.items c.ask_beside.new.found.items c.ask_beside-in-edges.new.found.items c.edges.index c.index.result.now c.edges.invariant.spread here first second;
+    }
 
--- src/flood.rt:69:1
 pub returns-clause-spread : goal.returns-clause-spread
-returns-clause-spread g c = ?
+returns-clause-spread g c =
+    let over = c.edges-test.false in
+    let count = c.len.ensures in
+    let same = c.edges.found.ok in
+    spread_ends c.args.dcel.now.mesh c.edges.asked.items c.edges.found.items c.edges.index c.edges.invariant.spread (omega (arith, over, count, same))
