@@ -5,6 +5,8 @@ use mathlib.Core.Bool.{Bool, true, false}
 use Rattle.std.specs.Prelude.{Contains}
 use Rattle.std.proofs.lemmas.Bool.{cases_eq}
 use Rattle.std.proofs.lemmas.List.{get_or-set_same, get_or-set_other, get_or_append_left, length-set, append-nil}
+use Rattle.std.proofs.lemmas.List.{length-replicate}
+use Rattle.std.specs.Prelude.{replicate}
 use Rattle.half_edge_links.specs.Mesh.{Mesh, next, prev, rev}
 use Rattle.plane_tiling.proofs.Totals.{Contains-none, get_or_any}
 use Rattle.plane_edits.proofs.Changes.{IsOnce, once_none}
@@ -190,3 +192,46 @@ spread_ends m asked found i s last = record {
   left = λ k c. let w = c.1 in subst (λ x. AreAskedBeside m asked (2 * x)) (get_or_any found c.0 0 k c.1 ∙ c.2) (s.left c.0 (omega (arith, w, last)));
   right = λ k c. let w = c.1 in subst (λ x. AreAskedBeside m asked (rev (2 * x))) (get_or_any found c.0 0 k c.1 ∙ c.2) (s.right c.0 (omega (arith, w, last)));
 }
+
+-- ---- before the first question
+none_marked : (n k : ℕ) → get_or (replicate n false) k false ≡ false
+none_marked zero k = refl
+none_marked (suc n) zero = refl
+none_marked (suc n) (suc k) = none_marked n k
+
+pub flood_begins : (Inside : ℕ → Type 0) (count : ℕ) (asked : List Bool) (found : List ℕ) → asked ≡ replicate count false → found ≡ [] → IsFlooding Inside count asked found
+flood_begins Inside count asked found e f = subst (λ a. IsFlooding Inside count a found) (sym e) (subst (IsFlooding Inside count (replicate count false)) (sym f) (record {
+  marks = length-replicate count false;
+  once = once_none;
+  within = λ k c. absurd (Contains-none k c);
+  inside = λ k c. absurd (Contains-none k c);
+  marked = λ k c. absurd (Contains-none k c);
+  complete = λ k w yes_asked p. absurd (never k yes_asked);
+}))
+  where
+    never : (k : ℕ) → get_or (replicate count false) k false ≡ true → ⊥
+    never k h = let same : false ≡ true = sym (none_marked count k) ∙ h in absurd (cc)
+
+-- ---- one after the other, of a list
+pub record AreAskedTo (Inside : ℕ → Type 0) (count : ℕ) (asked : List Bool) (found starts : List ℕ) (i : ℕ) : Type 0 where
+  pub flooding : IsFlooding Inside count asked found
+  pub all : (j : ℕ) → j < i → IsAsked asked (get_or starts j 0)
+
+pub ask_first : (Inside : ℕ → Type 0) (count : ℕ) (asked : List Bool) (found starts : List ℕ) → IsFlooding Inside count asked found → AreAskedTo Inside count asked found starts 0
+ask_first Inside count asked found starts f = record { flooding = f; all = λ j h. absurd (never j h) }
+  where
+    never : (j : ℕ) → j < 0 → ⊥
+    never j h = omega (arith, h)
+
+pub ask_more : (Inside : ℕ → Type 0) (count : ℕ) (asked asked' : List Bool) (found found' starts : List ℕ) (i k d : ℕ) → AreAskedTo Inside count asked found starts i → k ≡ get_or starts i d → i < length starts
+    → Asks Inside count asked asked' found found' k → AreAskedTo Inside count asked' found' starts (i + 1)
+ask_more Inside count asked asked' found found' starts i k d s is here a = record {
+  flooding = a.flooding;
+  all = λ j h. elim (cases_eq j i) as (λ _. IsAsked asked' (get_or starts j 0)) [
+    | inl e ↦ subst (λ (x : ℕ). IsAsked asked' (get_or starts x 0)) (sym e) (subst (IsAsked asked') (is ∙ get_or_any starts i d 0 here) a.there)
+    | inr n ↦ a.on.kept (get_or starts j 0) (s.all j (below_other j i h n))
+  ];
+}
+
+pub ask_last : (Inside : ℕ → Type 0) (count : ℕ) (asked : List Bool) (found starts : List ℕ) (i : ℕ) → AreAskedTo Inside count asked found starts i → length starts ≤ i → (k : ℕ) → Contains starts k → IsAsked asked k
+ask_last Inside count asked found starts i s last k c = let w = c.1 in subst (IsAsked asked) (get_or_any starts c.0 0 k c.1 ∙ c.2) (s.all c.0 (omega (arith, w, last)))

@@ -10,13 +10,12 @@ use Rattle.half_edge_links.proofs.Rev.{rev-rev, rev_within}
 use Rattle.plane.specs.Fraction.{Point, Fraction, whole}
 use Rattle.plane.specs.Pairs.{Joins}
 use Rattle.plane.specs.Shape.{IsEdgeIn}
-use Rattle.plane.specs.Location.{Location, IsLocation}
 use Rattle.plane.specs.Tiling.{Triangulation, IsEdge, IsFace, IsTiling, TilesHull, JoinsLine}
 use Rattle.plane_tiling.specs.Local.{IsMesh, LineMesh}
 use Rattle.plane_delaunay.specs.EdgeTests.{HasPointIn}
-use Rattle.plane_delaunay.specs.Flood.{Region, InRegion, IsFlooded, IsFloodedByVertices, IsFloodedAround, IsTried, start_point}
-use Rattle.plane_delaunay.proofs.FloodOnLine.{turned_join, turned_edge}
-use Rattle.plane_delaunay.proofs.FloodRules.{flood_is_exact}
+use Rattle.plane_delaunay.specs.Flood.{Region, InRegion, IsFlooded, IsFloodedByVertices, IsFloodedAround}
+use Rattle.plane_delaunay.proofs.FloodOnLine.{turned_join, turned_edge, flood_finds_on_line}
+use Rattle.plane_delaunay.proofs.Flooded.{flood_finds_region}
 use Rattle.mesh_embedding.specs.Drawn.{drawn, faces_of, edges_of, outer_of}
 use Rattle.mesh_embedding.specs.Legal.{pair_at, pairs_at}
 use Rattle.mesh_embedding.proofs.OwnEdges.{own_edges}
@@ -29,7 +28,7 @@ use Rattle.mesh_embedding.proofs.LineNeighbours.{two_neighbours}
 use Rattle.mesh_embedding.proofs.WorkLists.{contains_map, contains_map_from}
 use Rattle.delaunay_shapes.specs.Known.{point_at}
 use Rattle.delaunay_shapes.specs.InShape.{IsEdgeInShape, AreEdgesInShape}
-use Rattle.delaunay_shapes.specs.Flood.{IsAsked, IsFlooding, AreAskedBeside, IsSpread}
+use Rattle.delaunay_shapes.specs.Flood.{IsAsked, IsFlooding, AreAskedBeside, IsSpread, IsRegion, IsBegunBy}
 
 half_of_even : (k : ℕ) → (2 * k) / 2 ≡ k
 half_of_even k = omega arith
@@ -44,7 +43,7 @@ module _ (points : List Point) (m : Mesh) (v : IsValidMesh m) (shape : IsMesh po
   abbrev t : Triangulation
   t = drawn points m
 
-  tiles : IsTiling t
+  pub tiles : IsTiling t
   tiles = meshes_tile points (faces_of m) (outer_of m) (edges_of m) shape (own_edges m v)
 
   one_edge : (g h : ℕ) → g < length m.half_edges → h < length m.half_edges → origin m h ≡ origin m g → origin m (rev h) ≡ origin m (rev g) → h ≡ g
@@ -191,22 +190,24 @@ module _ (points : List Point) (m : Mesh) (v : IsValidMesh m) (shape : IsMesh po
       }
 
   -- ---- a flood that has spread
-  pub spread_is_exact : (Shape : Fraction → Type 0) (region : Region) → ((p : Fraction) → Shape p ↔ InRegion region p) → (l : Location) → IsLocation t (whole (start_point region)) l
-      → (count : ℕ) → 2 * count ≡ length m.half_edges → (asked : List Bool) (found : List ℕ) → IsFlooding (IsEdgeInShape Shape points m) count asked found → IsSpread m asked found
-      → ((a b : ℕ) → IsTried t l a b → IsEdgeIn Shape t a b → (k : ℕ) × Contains found k) → AreEdgesInShape Shape points m found
-  spread_is_exact Shape region same l located count even asked found flooding spread started = record {
+  pub spread_finds_all : (Shape : Fraction → Type 0) → IsRegion Shape → (count : ℕ) → 2 * count ≡ length m.half_edges → (starts : List ℕ) (asked : List Bool) (found : List ℕ) → IsFlooding (IsEdgeInShape Shape points m) count asked found → IsSpread m asked found
+      → IsBegunBy (IsEdgeInShape Shape points m) count starts → ((k : ℕ) → Contains starts k → (k < count) × IsAsked asked k) → AreEdgesInShape Shape points m found
+  spread_finds_all Shape shaped count even starts asked found flooding spread begun tried = record {
     once = flooding.once;
     exact = λ k. ((λ c. (within k c, flooding.inside k c)), (λ p. back k p.0 p.1));
   }
     where
+      region : Region
+      region = shaped.region
+
       within : (k : ℕ) → Contains found k → 2 * k < length m.half_edges
       within k c = let h = flooding.within k c in omega (arith, h, even)
 
       into : (i j : ℕ) → IsEdgeIn (InRegion region) t i j → IsEdgeIn Shape t i j
-      into i j e = (e.0, (e.1.0, e.1.1, (same e.1.0).1 e.1.2))
+      into i j e = (e.0, (e.1.0, e.1.1, (shaped.same e.1.0).1 e.1.2))
 
       out_of : (i j : ℕ) → IsEdgeIn Shape t i j → IsEdgeIn (InRegion region) t i j
-      out_of i j e = (e.0, (e.1.0, e.1.1, (same e.1.0).0 e.1.2))
+      out_of i j e = (e.0, (e.1.0, e.1.1, (shaped.same e.1.0).0 e.1.2))
 
       beside : (h : ℕ) → Contains found (h / 2) → AreAskedBeside m asked h
       beside h c = elim (half_same (2 * (h / 2)) h (sym (half_of_even (h / 2)))) [
@@ -229,13 +230,14 @@ module _ (points : List Point) (m : Mesh) (v : IsValidMesh m) (shape : IsMesh po
           let p = edge_in Shape r.0 r.1 (from_half Shape r.0 r.1 (flooding.inside (r.0 / 2) r.4)) in
           out_of i j (subst (λ x. IsEdgeIn Shape t x j) r.2 (subst (λ x. IsEdgeIn Shape t (origin m r.0) x) r.3 p))
 
-      begun : (a b : ℕ) → IsTried t l a b → IsEdgeIn (InRegion region) t a b → (i j : ℕ) × Joins (pairs found within) i j
-      begun a b tried e =
-          let r = started a b tried (into a b e) in
-          (origin m (2 * r.0), origin m (rev (2 * r.0)), half_joined found within (2 * r.0) (subst (Contains found) (sym (half_of_even r.0)) r.1))
+      reach : IsTiling t → (i j a b : ℕ) → Joins (pairs found within) i j → IsEdgeIn (InRegion region) t a b → Joins (pairs found within) a b
+      reach (inl h) i j a b s e = flood_finds_region t h region (pairs found within) (around.faces h) i j a b s (sound i j s) e
+      reach (inr h) i j a b s e = flood_finds_on_line t h region (pairs found within) (around.line h) i j a b s (sound i j s) e
 
       back : (k : ℕ) → 2 * k < length m.half_edges → IsEdgeInShape Shape points m k → Contains found k
       back k w p =
+          let first = begun.begun k (subst (λ (x : ℕ). x < count) (half_of_even k) (below (2 * k) w)) p in
+          let here = flooding.complete first.0 (tried first.0 first.1).0 (tried first.0 first.1).1 first.2 in
+          let s = half_joined found within (2 * first.0) (subst (Contains found) (sym (half_of_even first.0)) here) in
           let e = out_of (origin m (2 * k)) (origin m (rev (2 * k))) (edge_in Shape (2 * k) w p) in
-          let s = (flood_is_exact t tiles region l located (pairs found within) sound around begun (origin m (2 * k)) (origin m (rev (2 * k)))).1 e in
-          subst (Contains found) (half_of_even k) (joined_half found within (origin m (2 * k)) (origin m (rev (2 * k))) (2 * k) w refl refl s)
+          subst (Contains found) (half_of_even k) (joined_half found within (origin m (2 * k)) (origin m (rev (2 * k))) (2 * k) w refl refl (reach tiles (origin m (2 * first.0)) (origin m (rev (2 * first.0))) (origin m (2 * k)) (origin m (rev (2 * k))) s e))

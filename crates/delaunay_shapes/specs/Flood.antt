@@ -1,11 +1,12 @@
 -- A flood over the edges of a mesh: which were asked of, and which of them were found.
-use Rattle.std.specs.Prelude.{◌≡◌, ◌≢◌, ℕ, ◌*◌, ◌/◌, ◌<◌, List, [], ◌++◌, length, Bool, true, false, Contains, AllPairs, slice_index_or}
-use Rattle.half_edge_links.specs.Mesh.{Mesh, next, prev, face, rev}
-use Rattle.plane.specs.Fraction.{Fraction}
+use Rattle.std.specs.Prelude.{◌≡◌, ◌≢◌, ◌↔◌, ℕ, ◌*◌, ◌/◌, ◌<◌, List, [], ◌++◌, length, Bool, true, false, Contains, AllPairs, slice_index_or}
+use Rattle.half_edge_links.specs.Mesh.{Mesh, next, prev, rev}
+use Rattle.plane.specs.Fraction.{Point, Fraction}
 use Rattle.plane.specs.Shape.{IsEdgeIn}
 use Rattle.plane.specs.Location.{Location}
-use Rattle.plane.specs.Tiling.{Triangulation}
-use Rattle.plane_delaunay.specs.Flood.{IsTried}
+use Rattle.plane_delaunay.specs.Flood.{Region, InRegion, IsTried}
+use Rattle.mesh_embedding.specs.Drawn.{drawn}
+use Rattle.delaunay_shapes.specs.InShape.{IsEdgeInShape}
 
 abbrev pub IsAsked : List Bool → ℕ → Type 0
 IsAsked asked k = slice_index_or asked k false ≡ true
@@ -47,10 +48,15 @@ pub record AsksBeside (Inside : ℕ → Type 0) (m : Mesh) (count : ℕ) (asked 
   pub on : GoesOn asked asked' found found'
   pub beside : AreAskedBeside m asked' h
 
--- where an edge has a point in the shape and is one of those tried from a location, some edge was found
-pub record HasBegun (Shape : Fraction → Type 0) (t : Triangulation) (found : List ℕ) (l : Location) : Type 0 where
-  pub begun : (a b : ℕ) → IsTried t l a b → IsEdgeIn Shape t a b → (k : ℕ) × Contains found k
+-- the shape is a closed circle or a closed rectangle
+pub record IsRegion (Shape : Fraction → Type 0) : Type 0 where
+  pub region : Region
+  pub same : (p : Fraction) → Shape p ↔ InRegion region p
 
--- each outer edge was asked of, unless one was found
-pub record HasAskedHull (m : Mesh) (asked : List Bool) (found : List ℕ) : Type 0 where
-  pub all : found ≡ [] → (h : ℕ) → h < length m.half_edges → face m h ≡ 0 → IsAsked asked (h / 2)
+-- where any edge is inside, one of the first is
+pub record IsBegunBy (Inside : ℕ → Type 0) (count : ℕ) (starts : List ℕ) : Type 0 where
+  pub begun : (k : ℕ) → k < count → Inside k → (j : ℕ) × Contains starts j × Inside j
+
+-- the same of the edges that are tried first from a location
+pub record HasBegun (Shape : Fraction → Type 0) (points : List Point) (m : Mesh) (starts : List ℕ) (l : Location) : Type 0 where
+  pub begun : (a b : ℕ) → IsTried (drawn points m) l a b → IsEdgeIn Shape (drawn points m) a b → (k : ℕ) × Contains starts k × IsEdgeInShape Shape points m k

@@ -1,24 +1,21 @@
 //! A flood over the edges of a mesh that have a point in a shape: from those found, to those beside them in their faces.
-ghost use Rattle.std.specs.Prelude.{◌<◌, length, map, All, OnOk};
-ghost use Rattle.delaunay_shapes.specs.Flood.{Asks, AsksBeside, GoesOn, IsFlooding, IsSpread};
+ghost use Rattle.std.specs.Prelude.{◌≡◌, ◌<◌, ℕ, false, length, map, replicate, All, Contains, IfOk, OnOk};
+ghost use Rattle.mesh_embedding.specs.Drawn.{faces_of, outer_of};
+ghost use Rattle.plane_tiling.specs.Local.{IsMesh};
+ghost use Rattle.delaunay_shapes.specs.Flood.{Asks, AsksBeside, GoesOn, IsAsked, IsBegunBy, IsFlooding, IsRegion, IsSpread};
 ghost use Rattle.delaunay_shapes.specs.InShape.{IsInside};
+ghost use Rattle.delaunay_shapes.specs.Left.{GivesEdgesIn, edges_left};
 
 use crate::distance_metric::DistanceMetric;
+use crate::in_shape::EdgesInShapeIterator;
 use delaunay_core::math::PlaneTests;
 use delaunay_core::point::HasPosition;
 use half_edge_mesh::{Dcel, FixedDirectedEdgeHandle, FixedUndirectedEdgeHandle};
 use half_edge_views::MeshViews;
-use std::alloc::AllocError;
+use std::alloc::{AllocError, Global};
 
 // Asks the metric of an edge, unless it was asked before, and keeps the edge where it has a point in the shape.
-pub(crate) fn ask<
-    V: HasPosition,
-    DE,
-    UE,
-    F,
-    M: DistanceMetric<V::Scalar>,
-    P: PlaneTests<V::Scalar>,
->(
+fn ask<V: HasPosition, DE, UE, F, M: DistanceMetric<V::Scalar>, P: PlaneTests<V::Scalar>>(
     dcel: &Dcel<V, DE, UE, F>,
     metric: &M,
     tests: &P,
@@ -66,14 +63,7 @@ fn ask_beside<V: HasPosition, DE, UE, F, M: DistanceMetric<V::Scalar>, P: PlaneT
 }
 
 // Goes on from each edge found to those beside it, until none is new.
-pub(crate) fn spread<
-    V: HasPosition,
-    DE,
-    UE,
-    F,
-    M: DistanceMetric<V::Scalar>,
-    P: PlaneTests<V::Scalar>,
->(
+fn spread<V: HasPosition, DE, UE, F, M: DistanceMetric<V::Scalar>, P: PlaneTests<V::Scalar>>(
     dcel: &Dcel<V, DE, UE, F>,
     metric: &M,
     tests: &P,
@@ -95,4 +85,68 @@ pub(crate) fn spread<
         index += 1;
     }
     Ok(())
+}
+
+// Marks for so many edges, none of them set.
+fn unmarked(count: usize, alloc: Global) -> Result<Vec<bool>, AllocError>
+    ensures { IfOk result (λ v. v.items ≡ replicate count false) }
+{
+    vec![in alloc; false; count]
+}
+
+// Asks of each edge of a list.
+fn ask_each<V: HasPosition, DE, UE, F, M: DistanceMetric<V::Scalar>, P: PlaneTests<V::Scalar>>(
+    dcel: &Dcel<V, DE, UE, F>,
+    metric: &M,
+    tests: &P,
+    edges: &[FixedUndirectedEdgeHandle],
+    asked: &mut Vec<bool>,
+    found: &mut Vec<FixedUndirectedEdgeHandle>,
+) -> Result<(), AllocError>
+    requires own_covered { All (P.covered tests.now) (M.own_points metric.now) }
+    requires covered { All (P.covered tests.now) (map V.place dcel.now.vertices) }
+    requires within { All (λ e. e < length dcel.now.undirected) edges.now }
+    requires flooding { IsFlooding (IsInside (M.shape metric.now) V.place dcel.now) (length dcel.now.undirected) asked.old.items found.old.items }
+    ensures flooding { OnOk result (IsFlooding (IsInside (M.shape metric.now) V.place dcel.now) (length dcel.now.undirected) asked.new.items found.new.items) }
+    ensures each { OnOk result ((k : ℕ) → Contains edges.now k → IsAsked asked.new.items k) }
+{
+    for edge in edges {
+        ask(dcel, metric, tests, *edge, asked, found)?;
+    }
+    Ok(())
+}
+
+/// The edges with a point in a closed circle or rectangle, found from a list of edges of which one has, if any has.
+pub fn edges_by_flood<
+    'a,
+    V: HasPosition,
+    DE,
+    UE,
+    F,
+    M: DistanceMetric<V::Scalar>,
+    P: PlaneTests<V::Scalar>,
+>(
+    dcel: &'a Dcel<V, DE, UE, F>,
+    metric: &M,
+    tests: &P,
+    starts: &[FixedUndirectedEdgeHandle],
+    alloc: Global,
+) -> Result<EdgesInShapeIterator<'a, V, DE, UE, F>, AllocError>
+    requires own_covered { All (P.covered tests.now) (M.own_points metric.now) }
+    requires covered { All (P.covered tests.now) (map V.place dcel.now.vertices) }
+    requires shape { IsMesh (map V.place dcel.now.vertices) (faces_of dcel.now.mesh) (outer_of dcel.now.mesh) }
+    requires region { IsRegion (M.shape metric.now) }
+    requires within { All (λ e. e < length dcel.now.undirected) starts.now }
+    requires begun { IsBegunBy (IsInside (M.shape metric.now) V.place dcel.now) (length dcel.now.undirected) starts.now }
+    ensures { IfOk result (λ it. GivesEdgesIn (M.shape metric.now) V.place dcel.entry (edges_left it)) }
+{
+    let mut asked = unmarked(dcel.num_undirected_edges(), alloc)?;
+    let mut edges = Vec::new(alloc);
+    ask_each(dcel, metric, tests, starts, &mut asked, &mut edges)?;
+    spread(dcel, metric, tests, &mut asked, &mut edges)?;
+    Ok(EdgesInShapeIterator {
+        dcel,
+        edges,
+        next: 0,
+    })
 }

@@ -12,5 +12,6 @@ mod rectangle;
 pub use circle::CircleMetric;
 pub use distance_metric::DistanceMetric;
 pub use filter::{edges_by_filter, vertices_by_filter};
+pub use flood::edges_by_flood;
 pub use in_shape::{EdgesInShapeIterator, VerticesInShapeIterator};
 pub use rectangle::RectangleMetric;
