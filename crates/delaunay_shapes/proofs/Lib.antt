@@ -7,3 +7,4 @@ pub mod Asking
 pub mod Handles
 pub mod Flooding
 pub mod Starting
+pub mod VertexFlood

@@ -1,6 +1,6 @@
 -- A flood over the edges of a mesh: which were asked of, and which of them were found.
 use Rattle.std.specs.Prelude.{◌≡◌, ◌≢◌, ◌↔◌, ℕ, ◌*◌, ◌/◌, ◌<◌, List, [], ◌++◌, length, Bool, true, false, Contains, AllPairs, slice_index_or}
-use Rattle.half_edge_links.specs.Mesh.{Mesh, next, prev, rev}
+use Rattle.half_edge_links.specs.Mesh.{Mesh, origin, next, prev, rev}
 use Rattle.plane.specs.Fraction.{Point, Fraction}
 use Rattle.plane.specs.Shape.{IsEdgeIn}
 use Rattle.plane.specs.Location.{Location}
@@ -60,3 +60,8 @@ pub record IsBegunBy (Inside : ℕ → Type 0) (count : ℕ) (starts : List ℕ)
 -- the same of the edges that are tried first from a location
 pub record HasBegun (Shape : Fraction → Type 0) (points : List Point) (m : Mesh) (starts : List ℕ) (l : Location) : Type 0 where
   pub begun : (a b : ℕ) → IsTried (drawn points m) l a b → IsEdgeIn Shape (drawn points m) a b → (k : ℕ) × Contains starts k × IsEdgeInShape Shape points m k
+
+-- both ends of each of the edges were asked of
+pub record HasAskedEnds (m : Mesh) (asked : List Bool) (edges : List ℕ) : Type 0 where
+  pub sources : (k : ℕ) → Contains edges k → IsAsked asked (origin m (2 * k))
+  pub targets : (k : ℕ) → Contains edges k → IsAsked asked (origin m (rev (2 * k)))

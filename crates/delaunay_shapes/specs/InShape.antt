@@ -19,6 +19,10 @@ pub record AreEdgesInShape (Shape : Fraction → Type 0) (points : List Point) (
   pub once : AllPairs (λ i j. i ≢ j) given
   pub exact : (k : ℕ) → Contains given k ↔ (((2 * k) < length m.half_edges) × IsEdgeInShape Shape points m k)
 
+-- vertex i is in the shape
+abbrev pub IsVertexInside : {V D U F : Type 0} → (Fraction → Type 0) → (V → Point) → Contents V D U F → ℕ → Type 0
+IsVertexInside Shape place c i = Shape (whole (point_at (map place c.vertices) i))
+
 -- the vertices in the shape, each once
 pub record AreVerticesInShape (Shape : Fraction → Type 0) (points : List Point) (given : List ℕ) : Type 0 where
   pub once : AllPairs (λ i j. i ≢ j) given

@@ -3,7 +3,7 @@ ghost use Rattle.std.specs.Prelude.{◌≡◌, ◌<◌, ℕ, false, length, map,
 ghost use Rattle.mesh_embedding.specs.Drawn.{faces_of, outer_of};
 ghost use Rattle.plane_tiling.specs.Local.{IsMesh};
 ghost use Rattle.delaunay_shapes.specs.Flood.{Asks, AsksBeside, GoesOn, IsAsked, IsBegunBy, IsFlooding, IsRegion, IsSpread};
-ghost use Rattle.delaunay_shapes.specs.InShape.{IsInside};
+ghost use Rattle.delaunay_shapes.specs.InShape.{AreEdgesInShape, IsInside};
 ghost use Rattle.delaunay_shapes.specs.Left.{GivesEdgesIn, edges_left};
 
 use crate::distance_metric::DistanceMetric;
@@ -88,7 +88,7 @@ fn spread<V: HasPosition, DE, UE, F, M: DistanceMetric<V::Scalar>, P: PlaneTests
 }
 
 // Marks for so many edges, none of them set.
-fn unmarked(count: usize, alloc: Global) -> Result<Vec<bool>, AllocError>
+pub(crate) fn unmarked(count: usize, alloc: Global) -> Result<Vec<bool>, AllocError>
     ensures { IfOk result (λ v. v.items ≡ replicate count false) }
 {
     vec![in alloc; false; count]
@@ -116,6 +116,37 @@ fn ask_each<V: HasPosition, DE, UE, F, M: DistanceMetric<V::Scalar>, P: PlaneTes
     Ok(())
 }
 
+// The edges with a point in a closed circle or rectangle, each once.
+pub(crate) fn flood<
+    V: HasPosition,
+    DE,
+    UE,
+    F,
+    M: DistanceMetric<V::Scalar>,
+    P: PlaneTests<V::Scalar>,
+>(
+    dcel: &Dcel<V, DE, UE, F>,
+    metric: &M,
+    tests: &P,
+    starts: &[FixedUndirectedEdgeHandle],
+    alloc: Global,
+) -> Result<Vec<FixedUndirectedEdgeHandle>, AllocError>
+    requires own_covered { All (P.covered tests.now) (M.own_points metric.now) }
+    requires covered { All (P.covered tests.now) (map V.place dcel.now.vertices) }
+    requires shape { IsMesh (map V.place dcel.now.vertices) (faces_of dcel.now.mesh) (outer_of dcel.now.mesh) }
+    requires region { IsRegion (M.shape metric.now) }
+    requires within { All (λ e. e < length dcel.now.undirected) starts.now }
+    requires begun { IsBegunBy (IsInside (M.shape metric.now) V.place dcel.now) (length dcel.now.undirected) starts.now }
+    ensures exact { IfOk result (λ v. AreEdgesInShape (M.shape metric.now) (map V.place dcel.now.vertices) dcel.now.mesh v.items) }
+    ensures within { IfOk result (λ v. All (λ e. e < length dcel.now.undirected) v.items) }
+{
+    let mut asked = unmarked(dcel.num_undirected_edges(), alloc)?;
+    let mut edges = Vec::new(alloc);
+    ask_each(dcel, metric, tests, starts, &mut asked, &mut edges)?;
+    spread(dcel, metric, tests, &mut asked, &mut edges)?;
+    Ok(edges)
+}
+
 /// The edges with a point in a closed circle or rectangle, found from a list of edges of which one has, if any has.
 pub fn edges_by_flood<
     'a,
@@ -140,10 +171,7 @@ pub fn edges_by_flood<
     requires begun { IsBegunBy (IsInside (M.shape metric.now) V.place dcel.now) (length dcel.now.undirected) starts.now }
     ensures { IfOk result (λ it. GivesEdgesIn (M.shape metric.now) V.place dcel.entry (edges_left it)) }
 {
-    let mut asked = unmarked(dcel.num_undirected_edges(), alloc)?;
-    let mut edges = Vec::new(alloc);
-    ask_each(dcel, metric, tests, starts, &mut asked, &mut edges)?;
-    spread(dcel, metric, tests, &mut asked, &mut edges)?;
+    let edges = flood(dcel, metric, tests, starts, alloc)?;
     Ok(EdgesInShapeIterator {
         dcel,
         edges,

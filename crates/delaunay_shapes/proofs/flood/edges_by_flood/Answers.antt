@@ -1,21 +1,5 @@
-use Rattle.std.proofs.Common.{ℕ, ◌<◌, refl, map, length, subst}
-use Rattle.delaunay_shapes.specs.InShape.{IsInside}
-use Rattle.delaunay_shapes.proofs.Flooding.{spread_finds_all}
-use Rattle.delaunay_shapes.proofs.Handles.{found_below}
+use Rattle.std.proofs.Common.{refl}
 use Rattle.delaunay_shapes.proofs.flood.edges_by_flood.Goals as goal
 
-pub invariant_of-result : goal.invariant_of-result
-invariant_of-result g c = record {
-  in_range = λ k d h. found_below (IsInside (g.M.DistanceMetric.shape c.args.metric.now) g.V.HasPosition.place c.args.dcel.now) (length c.args.dcel.now.undirected) c.spread.new.asked.items c.spread.new.found.items k d c.in_ok-spread.ensures.flooding h;
-}
-
 pub returns : goal.returns
-returns g c =
-    let whole = c.num_undirected_edges.ensures.whole in
-    record {
-      edges = c.spread.new.found.items;
-      listed = refl;
-      exact = spread_finds_all (map g.V.HasPosition.place c.args.dcel.now.vertices) c.args.dcel.now.mesh whole.valid c.requires.shape (g.M.DistanceMetric.shape c.args.metric.now) c.requires.region (length c.args.dcel.now.undirected) whole.fits.undirected_fit
-          c.args.starts.now c.spread.new.asked.items c.spread.new.found.items c.in_ok-spread.ensures.flooding c.in_ok-spread.ensures.spread c.requires.begun
-          (λ k h. (subst (λ (x : ℕ). x < length c.args.dcel.now.undirected) h.2 (c.requires.within h.0 k h.1), c.in_ok-spread.ensures.on.kept k (c.in_ok-ask_each.ensures.each k h)));
-    }
+returns g c = record { edges = c.in_ok-edges.edges.items; listed = refl; exact = c.in_ok-edges.ensures.exact }
