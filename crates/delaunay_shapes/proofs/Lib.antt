@@ -3,3 +3,8 @@ pub mod Circles
 pub mod Rectangles
 pub mod Distances
 pub mod FallsOn
+pub mod Asking
+pub mod Handles
+pub mod Flooding
+pub mod Starting
+pub mod VertexFlood

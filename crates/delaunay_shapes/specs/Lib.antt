@@ -1,3 +1,6 @@
 pub mod Known
 pub mod Tests
 pub mod Distance
+pub mod InShape
+pub mod Flood
+pub mod Left

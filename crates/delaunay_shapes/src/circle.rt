@@ -1,12 +1,11 @@
 //! Closed circles.
-ghost use Rattle.std.specs.Prelude.{◌≡◌, ◌↔◌, [], pos, ◌-ℤ◌, ◌*ℤ◌, ◌<ℤ◌, ◌≤ℤ◌, ⊤, map, All, IsTrue};
+ghost use Rattle.std.specs.Prelude.{◌≡◌, ◌↔◌, [], pos, ◌-ℤ◌, ◌*ℤ◌, ◌<ℤ◌, ◌≤ℤ◌, ⊤, All, IsTrue};
 ghost use Rattle.plane.specs.Fraction.{whole as fraction};
 ghost use Rattle.plane.specs.Circle.{gap};
 ghost use Rattle.plane.specs.Shape.{InClosedCircle};
 ghost use Rattle.plane.specs.Tests.{InRange};
 ghost use Rattle.plane_delaunay.specs.EdgeTests.{HasPointIn};
 ghost use Rattle.delaunay_core.specs.Place.{place_of};
-ghost use Rattle.delaunay_shapes.specs.Known.{point_at};
 ghost use Rattle.delaunay_shapes.specs.Tests.{circle_distance, FallsOn, IsEdgeNear, meets_circle};
 
 use crate::distance_metric::DistanceMetric;
@@ -106,14 +105,14 @@ impl<S: SpadeNum> DistanceMetric<S> for CircleMetric<S> {
 
     ghost distance = { λ m. circle_distance (place_of S.whole m.center) m.radius_2 };
 
-    fn is_edge_inside<P: PlaneTests<S>>(&self, points: [Point2<S>; 2], _tests: &P) -> bool
+    fn is_edge_inside<P: PlaneTests<S>>(&self, points: (Point2<S>, Point2<S>), _tests: &P) -> bool
         requires own_covered { All (P.covered _tests.now) [] }
-        requires start_covered { P.covered _tests.now (point_at (map (place_of S.whole) points) 0) }
-        requires end_covered { P.covered _tests.now (point_at (map (place_of S.whole) points) 1) }
-        ensures answer { result ≡ meets_circle (place_of S.whole self.now.center) self.now.radius_2 (point_at (map (place_of S.whole) points) 0) (point_at (map (place_of S.whole) points) 1) }
-        ensures inside { IsTrue result ↔ HasPointIn (InClosedCircle (place_of S.whole self.now.center) self.now.radius_2) (point_at (map (place_of S.whole) points) 0) (point_at (map (place_of S.whole) points) 1) }
+        requires start_covered { P.covered _tests.now (place_of S.whole points.0) }
+        requires end_covered { P.covered _tests.now (place_of S.whole points.1) }
+        ensures answer { result ≡ meets_circle (place_of S.whole self.now.center) self.now.radius_2 (place_of S.whole points.0) (place_of S.whole points.1) }
+        ensures inside { IsTrue result ↔ HasPointIn (InClosedCircle (place_of S.whole self.now.center) self.now.radius_2) (place_of S.whole points.0) (place_of S.whole points.1) }
     {
-        let [from, to] = points;
+        let (from, to) = points;
         self.meets(from, to)
     }
 

@@ -4,10 +4,12 @@ ghost use Rattle.plane.specs.Fraction.{Point, Fraction, whole as fraction};
 ghost use Rattle.plane.specs.Tests.{InRange};
 ghost use Rattle.plane_delaunay.specs.EdgeTests.{HasPointIn};
 ghost use Rattle.delaunay_core.specs.Place.{place_of};
-ghost use Rattle.delaunay_shapes.specs.Known.{point_at};
+ghost use Rattle.delaunay_shapes.specs.InShape.{IsEdgeInShape};
 
+use crate::positions::position_of;
 use delaunay_core::math::PlaneTests;
-use delaunay_core::point::{Point2, SpadeNum};
+use delaunay_core::point::{HasPosition, Point2, SpadeNum};
+use half_edge_views::UndirectedEdgeHandle;
 
 /// A closed shape. It tells how far a point is from it, and whether an edge has a point in it.
 pub trait DistanceMetric<S: SpadeNum>: Drop {
@@ -22,12 +24,12 @@ pub trait DistanceMetric<S: SpadeNum>: Drop {
     ghost distance: { Self → Point → ℤ };
 
     /// Whether the closed edge with these ends has a point in the shape.
-    fn is_edge_inside<P: PlaneTests<S>>(&self, points: [Point2<S>; 2], tests: &P) -> bool
+    fn is_edge_inside<P: PlaneTests<S>>(&self, points: (Point2<S>, Point2<S>), tests: &P) -> bool
         requires own_covered { All (P.covered tests.now) (own_points self.now) }
-        requires start_covered { P.covered tests.now (point_at (map (place_of S.whole) points) 0) }
-        requires end_covered { P.covered tests.now (point_at (map (place_of S.whole) points) 1) }
-        ensures answer { result ≡ meets self.now (point_at (map (place_of S.whole) points) 0) (point_at (map (place_of S.whole) points) 1) }
-        ensures inside { IsTrue result ↔ HasPointIn (shape self.now) (point_at (map (place_of S.whole) points) 0) (point_at (map (place_of S.whole) points) 1) };
+        requires start_covered { P.covered tests.now (place_of S.whole points.0) }
+        requires end_covered { P.covered tests.now (place_of S.whole points.1) }
+        ensures answer { result ≡ meets self.now (place_of S.whole points.0) (place_of S.whole points.1) }
+        ensures inside { IsTrue result ↔ HasPointIn (shape self.now) (place_of S.whole points.0) (place_of S.whole points.1) };
 
     /// How far a point in range is from the shape, at most 0 in it.
     fn distance_to_point(&self, point: Point2<S>) -> i64
@@ -42,5 +44,19 @@ pub trait DistanceMetric<S: SpadeNum>: Drop {
         ensures inside { IsTrue result ↔ shape self.now (fraction (place_of S.whole point)) }
     {
         self.distance_to_point(point) <= 0
+    }
+
+    /// Whether the closed edge of a handle has a point in the shape.
+    final fn is_handle_inside<V: HasPosition<Scalar = S>, DE, UE, F, P: PlaneTests<S>>(
+        &self,
+        handle: UndirectedEdgeHandle<'_, V, DE, UE, F>,
+        tests: &P,
+    ) -> bool
+        requires own_covered { All (P.covered tests.now) (own_points self.now) }
+        requires covered { All (P.covered tests.now) (map V.place handle.dcel.now.vertices) }
+        ensures inside { IsTrue result ↔ IsEdgeInShape (shape self.now) (map V.place handle.entry.dcel.now.vertices) handle.entry.dcel.now.mesh handle.entry.index }
+    {
+        let edge = handle.as_directed();
+        self.is_edge_inside((position_of(edge.from()), position_of(edge.to())), tests)
     }
 }

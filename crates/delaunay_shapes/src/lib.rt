@@ -3,8 +3,17 @@
 
 mod circle;
 mod distance_metric;
+mod filter;
+mod flood;
+mod flood_vertices;
+mod in_shape;
+mod positions;
 mod rectangle;
 
 pub use circle::CircleMetric;
 pub use distance_metric::DistanceMetric;
+pub use filter::{edges_by_filter, vertices_by_filter};
+pub use flood::edges_by_flood;
+pub use flood_vertices::vertices_by_flood;
+pub use in_shape::{EdgesInShapeIterator, VerticesInShapeIterator};
 pub use rectangle::RectangleMetric;

@@ -1,12 +1,11 @@
 //! Closed rectangles.
-ghost use Rattle.std.specs.Prelude.{◌≡◌, ◌↔◌, ◌⊎◌, ◌∷◌, [], ℤ, pos, ◌<ℤ◌, ◌≤ℤ◌, ⊤, map, All, IsTrue};
+ghost use Rattle.std.specs.Prelude.{◌≡◌, ◌↔◌, ◌⊎◌, ◌∷◌, [], ℤ, pos, ◌<ℤ◌, ◌≤ℤ◌, ⊤, All, IsTrue};
 ghost use Rattle.plane.specs.Fraction.{whole as fraction};
 ghost use Rattle.plane.specs.Shape.{InClosedRectangle};
 ghost use Rattle.plane.specs.Side.{left, right, side};
 ghost use Rattle.plane.specs.Tests.{InRange};
 ghost use Rattle.plane_delaunay.specs.EdgeTests.{AreCornersOn, HasPointIn, MeetsRectangle, RangeMeets};
 ghost use Rattle.delaunay_core.specs.Place.{place_of};
-ghost use Rattle.delaunay_shapes.specs.Known.{point_at};
 ghost use Rattle.delaunay_shapes.specs.Distance.{IsLeastDistance, clamped, farthest, rectangle_distance};
 ghost use Rattle.delaunay_shapes.specs.Tests.{IsReversed, corners, meets_rectangle};
 
@@ -152,14 +151,14 @@ impl<S: SpadeNum> DistanceMetric<S> for RectangleMetric<S> {
 
     ghost distance = { λ m. rectangle_distance (place_of S.whole m.lower) (place_of S.whole m.upper) };
 
-    fn is_edge_inside<P: PlaneTests<S>>(&self, points: [Point2<S>; 2], tests: &P) -> bool
+    fn is_edge_inside<P: PlaneTests<S>>(&self, points: (Point2<S>, Point2<S>), tests: &P) -> bool
         requires own_covered { All (P.covered tests.now) (corners (place_of S.whole self.now.lower) (place_of S.whole self.now.upper)) }
-        requires start_covered { P.covered tests.now (point_at (map (place_of S.whole) points) 0) }
-        requires end_covered { P.covered tests.now (point_at (map (place_of S.whole) points) 1) }
-        ensures answer { result ≡ meets_rectangle (place_of S.whole self.now.lower) (place_of S.whole self.now.upper) (point_at (map (place_of S.whole) points) 0) (point_at (map (place_of S.whole) points) 1) }
-        ensures inside { IsTrue result ↔ HasPointIn (InClosedRectangle (place_of S.whole self.now.lower) (place_of S.whole self.now.upper)) (point_at (map (place_of S.whole) points) 0) (point_at (map (place_of S.whole) points) 1) }
+        requires start_covered { P.covered tests.now (place_of S.whole points.0) }
+        requires end_covered { P.covered tests.now (place_of S.whole points.1) }
+        ensures answer { result ≡ meets_rectangle (place_of S.whole self.now.lower) (place_of S.whole self.now.upper) (place_of S.whole points.0) (place_of S.whole points.1) }
+        ensures inside { IsTrue result ↔ HasPointIn (InClosedRectangle (place_of S.whole self.now.lower) (place_of S.whole self.now.upper)) (place_of S.whole points.0) (place_of S.whole points.1) }
     {
-        let [from, to] = points;
+        let (from, to) = points;
         self.meets(from, to, tests)
     }
 

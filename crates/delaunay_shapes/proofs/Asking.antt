@@ -1,0 +1,237 @@
+-- Lists of what has a point in a shape, as they grow.
+use Rattle.std.proofs.Common.{◌≡◌, ◌⊎◌, ◌↔◌, ℕ, zero, suc, ◌+◌, ◌<◌, ◌≤◌, List, [], ◌∷◌, ◌++◌, length, map, get_or, set, drop, refl, sym, ap, ◌∙◌, subst, arith, drop-cons, append_assoc, length-append, ◌*◌, ◌/◌}
+use mathlib.Core.Logic.{inl, inr, ◌≢◌}
+use mathlib.Core.Bool.{Bool, true, false}
+use Rattle.std.specs.Prelude.{Contains}
+use Rattle.std.proofs.lemmas.Bool.{cases_eq}
+use Rattle.std.proofs.lemmas.List.{get_or-set_same, get_or-set_other, get_or_append_left, length-set, append-nil}
+use Rattle.std.proofs.lemmas.List.{length-replicate}
+use Rattle.std.specs.Prelude.{replicate}
+use Rattle.half_edge_links.specs.Mesh.{Mesh, next, prev, rev}
+use Rattle.plane_tiling.proofs.Totals.{Contains-none, get_or_any}
+use Rattle.plane_edits.proofs.Changes.{IsOnce, once_none}
+use Rattle.mesh_embedding.proofs.WorkLists.{contains_last, contains_before, last_or_before, once_after}
+use Rattle.delaunay_shapes.specs.Flood.{IsAsked, IsFlooding, GoesOn, Asks, AsksBeside, AreAskedBeside, IsSpread}
+
+-- ---- a filter
+-- of the numbers below i those that are inside, each once
+pub record IsFilteredTo (Inside : ℕ → Type 0) (i : ℕ) (found : List ℕ) : Type 0 where
+  pub once : IsOnce found
+  pub exact : (k : ℕ) → Contains found k ↔ ((k < i) × Inside k)
+
+pub filter_begins : (Inside : ℕ → Type 0) (found : List ℕ) → found ≡ [] → IsFilteredTo Inside 0 found
+filter_begins Inside found e = subst (IsFilteredTo Inside 0) (sym e) (record { once = once_none; exact = λ k. ((λ c. absurd (Contains-none k c)), (λ p. absurd (none k p.0))) })
+  where
+    none : (k : ℕ) → k < 0 → ⊥
+    none k h = omega (arith, h)
+
+below_more : (j i : ℕ) → j < i → j < i + 1
+below_more j i h = omega (arith, h)
+
+below_other : (j i : ℕ) → j < i + 1 → j ≢ i → j < i
+below_other j i h n = omega (arith, h, n)
+
+at_last : (j i : ℕ) → j ≡ i → j < i + 1
+at_last j i e = omega (arith, e)
+
+not_below : (k i : ℕ) → k ≡ i → k < i → ⊥
+not_below k i e h = omega (arith, e, h)
+
+pub filter_finds : (Inside : ℕ → Type 0) (i k : ℕ) (found found' : List ℕ) → IsFilteredTo Inside i found → k ≡ i → Inside k → found' ≡ found ++ k ∷ [] → IsFilteredTo Inside (i + 1) found'
+filter_finds Inside i k found found' f is inside grown = subst (IsFilteredTo Inside (i + 1)) (sym grown) (record { once = once_after found k f.once (λ c. not_below k i is ((f.exact k).0 c).0); exact = λ j. (there j, back j) })
+  where
+    there : (j : ℕ) → Contains (found ++ k ∷ []) j → (j < i + 1) × Inside j
+    there j c = elim (last_or_before found k j c) as (λ _. (j < i + 1) × Inside j) [
+      | inl e ↦ (at_last j i (e ∙ is), subst Inside (sym e) inside)
+      | inr d ↦ (below_more j i ((f.exact j).0 d).0, ((f.exact j).0 d).1)
+    ]
+
+    back : (j : ℕ) → (j < i + 1) × Inside j → Contains (found ++ k ∷ []) j
+    back j p = elim (cases_eq j k) as (λ _. Contains (found ++ k ∷ []) j) [
+      | inl e ↦ subst (Contains (found ++ k ∷ [])) (sym e) (contains_last found k)
+      | inr n ↦ contains_before found k j ((f.exact j).1 (below_other j i p.0 (λ e. n (e ∙ sym is)), p.1))
+    ]
+
+pub filter_passes : (Inside : ℕ → Type 0) (i k : ℕ) (found : List ℕ) → IsFilteredTo Inside i found → k ≡ i → ¬ Inside k → IsFilteredTo Inside (i + 1) found
+filter_passes Inside i k found f is out = record { once = f.once; exact = λ j. (there j, back j) }
+  where
+    there : (j : ℕ) → Contains found j → (j < i + 1) × Inside j
+    there j c = (below_more j i ((f.exact j).0 c).0, ((f.exact j).0 c).1)
+
+    back : (j : ℕ) → (j < i + 1) × Inside j → Contains found j
+    back j p = elim (cases_eq j k) as (λ _. Contains found j) [
+      | inl e ↦ absurd (out (subst Inside e p.1))
+      | inr n ↦ (f.exact j).1 (below_other j i p.0 (λ e. n (e ∙ sym is)), p.1)
+    ]
+
+-- ---- a step of an iterator
+pub drop_step : {X : Type 0} (f : ℕ → X) (xs : List ℕ) (i : ℕ) (d : ℕ) → i < length xs → map f (drop i xs) ≡ f (get_or xs i d) ∷ map f (drop (i + 1) xs)
+drop_step f xs i d h =
+    let more : suc i ≡ i + 1 = omega arith in
+    ap (map f) (drop-cons xs i d h) ∙ ap (λ k. f (get_or xs i d) ∷ map f (drop k xs)) more
+
+-- ---- a question of a flood
+module _ (Inside : ℕ → Type 0) (count : ℕ) where
+  goes_nowhere : (asked : List Bool) (found : List ℕ) → GoesOn asked asked found found
+  goes_nowhere asked found = record { kept = λ k h. h; more = []; grown = sym (append-nil found) }
+
+  pub asked_before : (asked : List Bool) (found : List ℕ) (k : ℕ) → IsFlooding Inside count asked found → IsAsked asked k → Asks Inside count asked asked found found k
+  asked_before asked found k f h = record { flooding = f; on = goes_nowhere asked found; there = h }
+
+  marks_more : (asked : List Bool) (k j : ℕ) → k < length asked → IsAsked asked j → IsAsked (set asked k true) j
+  marks_more asked k j w h = elim (cases_eq j k) as (λ _. IsAsked (set asked k true) j) [
+    | inl e ↦ subst (IsAsked (set asked k true)) (sym e) (get_or-set_same asked k true false w)
+    | inr n ↦ get_or-set_other asked k j true false n ∙ h
+  ]
+
+  marks_other : (asked : List Bool) (k j : ℕ) → j ≢ k → IsAsked (set asked k true) j → IsAsked asked j
+  marks_other asked k j n h = sym (get_or-set_other asked k j true false n) ∙ h
+
+  pub asked_inside : (asked asked' : List Bool) (found found' : List ℕ) (k : ℕ) → IsFlooding Inside count asked found → k < count → ¬ IsAsked asked k → Inside k → asked' ≡ set asked k true → found' ≡ found ++ k ∷ []
+      → Asks Inside count asked asked' found found' k
+  asked_inside asked asked' found found' k f w new inside e grown =
+      let here : k < length asked = let l = f.marks in omega (arith, l, w) in
+      subst (λ a. Asks Inside count asked a found found' k) (sym e) (subst (λ xs. Asks Inside count asked (set asked k true) found xs k) (sym grown) (record {
+        flooding = record {
+          marks = length-set asked k true ∙ f.marks;
+          once = once_after found k f.once (λ c. new (f.marked k c));
+          within = λ j c. elim (last_or_before found k j c) as (λ _. j < count) [ inl e ↦ subst (λ (x : ℕ). x < count) (sym e) w | inr d ↦ f.within j d ];
+          inside = λ j c. elim (last_or_before found k j c) as (λ _. Inside j) [ inl e ↦ subst Inside (sym e) inside | inr d ↦ f.inside j d ];
+          marked = λ j c. elim (last_or_before found k j c) as (λ _. IsAsked (set asked k true) j) [ inl e ↦ subst (IsAsked (set asked k true)) (sym e) (get_or-set_same asked k true false here) | inr d ↦ marks_more asked k j here (f.marked j d) ];
+          complete = λ j h m p. elim (cases_eq j k) as (λ _. Contains (found ++ k ∷ []) j) [
+            | inl e ↦ subst (Contains (found ++ k ∷ [])) (sym e) (contains_last found k)
+            | inr n ↦ contains_before found k j (f.complete j h (marks_other asked k j n m) p)
+          ];
+        };
+        on = record { kept = λ j h. marks_more asked k j here h; more = k ∷ []; grown = refl };
+        there = get_or-set_same asked k true false here;
+      }))
+
+  pub asked_outside : (asked asked' : List Bool) (found : List ℕ) (k : ℕ) → IsFlooding Inside count asked found → k < count → ¬ Inside k → asked' ≡ set asked k true → Asks Inside count asked asked' found found k
+  asked_outside asked asked' found k f w out e =
+      let here : k < length asked = let l = f.marks in omega (arith, l, w) in
+      subst (λ a. Asks Inside count asked a found found k) (sym e) (record {
+        flooding = record {
+          marks = length-set asked k true ∙ f.marks;
+          once = f.once;
+          within = f.within;
+          inside = f.inside;
+          marked = λ j c. marks_more asked k j here (f.marked j c);
+          complete = λ j h m p. elim (cases_eq j k) as (λ _. Contains found j) [
+            | inl e ↦ absurd (out (subst Inside e p))
+            | inr n ↦ f.complete j h (marks_other asked k j n m) p
+          ];
+        };
+        on = record { kept = λ j h. marks_more asked k j here h; more = []; grown = sym (append-nil found) };
+        there = get_or-set_same asked k true false here;
+      })
+
+-- ---- questions one after the other
+pub goes_on_twice : (asked mid asked' : List Bool) (found more found' : List ℕ) → GoesOn asked mid found more → GoesOn mid asked' more found' → GoesOn asked asked' found found'
+goes_on_twice asked mid asked' found more found' a b = record {
+  kept = λ k h. b.kept k (a.kept k h);
+  more = a.more ++ b.more;
+  grown = b.grown ∙ ap (λ xs. xs ++ b.more) a.grown ∙ append_assoc found a.more b.more;
+}
+
+pub stays_beside : (m : Mesh) (asked asked' : List Bool) (found found' : List ℕ) (h : ℕ) → GoesOn asked asked' found found' → AreAskedBeside m asked h → AreAskedBeside m asked' h
+stays_beside m asked asked' found found' h on b = record { after = on.kept (next m h / 2) b.after; before = on.kept (prev m h / 2) b.before }
+
+-- both edges beside an edge, one after the other
+pub asked_both : (Inside : ℕ → Type 0) (m : Mesh) (count : ℕ) (asked mid asked' : List Bool) (found more found' : List ℕ) (h after before : ℕ) → after ≡ next m h / 2 → before ≡ prev m h / 2
+    → Asks Inside count asked mid found more after → Asks Inside count mid asked' more found' before → AsksBeside Inside m count asked asked' found found' h
+asked_both Inside m count asked mid asked' found more found' h after before e f a b = record {
+  flooding = b.flooding;
+  on = goes_on_twice asked mid asked' found more found' a.on b.on;
+  beside = record { after = subst (IsAsked asked') e (b.on.kept after a.there); before = subst (IsAsked asked') f b.there };
+}
+
+-- ---- a flood that has spread from the first i edges
+pub record IsSpreadTo (m : Mesh) (asked : List Bool) (found : List ℕ) (i : ℕ) : Type 0 where
+  pub bound : i ≤ length found
+  pub left : (j : ℕ) → j < i → AreAskedBeside m asked (2 * get_or found j 0)
+  pub right : (j : ℕ) → j < i → AreAskedBeside m asked (rev (2 * get_or found j 0))
+
+pub spread_begins : (m : Mesh) (asked : List Bool) (found : List ℕ) → IsSpreadTo m asked found 0
+spread_begins m asked found = record { bound = omega arith; left = λ j h. absurd (omega (arith, h)); right = λ j h. absurd (omega (arith, h)) }
+
+kept_place : (asked asked' : List Bool) (found found' : List ℕ) (j : ℕ) → GoesOn asked asked' found found' → j < length found → get_or found' j 0 ≡ get_or found j 0
+kept_place asked asked' found found' j on h = ap (λ xs. get_or xs j 0) on.grown ∙ get_or_append_left found on.more 0 j h
+
+pub spread_more : (Inside : ℕ → Type 0) (m : Mesh) (count : ℕ) (asked mid asked' : List Bool) (found more found' : List ℕ) (i d : ℕ) → IsSpreadTo m asked found i → i < length found
+    → AsksBeside Inside m count asked mid found more (2 * get_or found i d) → AsksBeside Inside m count mid asked' more found' (rev (2 * get_or found i d)) → IsSpreadTo m asked' found' (i + 1)
+spread_more Inside m count asked mid asked' found more found' i d s here a b = record {
+  bound = let l = ap length on.grown ∙ length-append found on.more in omega (arith, l, here);
+  left = λ j h. elim (cases_eq j i) as (λ _. AreAskedBeside m asked' (2 * get_or found' j 0)) [
+    | inl e ↦ subst (λ k. AreAskedBeside m asked' (2 * k)) (sym (place j (within j h) ∙ ap (λ k. get_or found k 0) e ∙ same)) (stays_beside m mid asked' more found' (2 * get_or found i d) b.on a.beside)
+    | inr n ↦ subst (λ k. AreAskedBeside m asked' (2 * k)) (sym (place j (within j h))) (stays_beside m asked asked' found found' (2 * get_or found j 0) on (s.left j (before j h n)))
+  ];
+  right = λ j h. elim (cases_eq j i) as (λ _. AreAskedBeside m asked' (rev (2 * get_or found' j 0))) [
+    | inl e ↦ subst (λ k. AreAskedBeside m asked' (rev (2 * k))) (sym (place j (within j h) ∙ ap (λ k. get_or found k 0) e ∙ same)) b.beside
+    | inr n ↦ subst (λ k. AreAskedBeside m asked' (rev (2 * k))) (sym (place j (within j h))) (stays_beside m asked asked' found found' (rev (2 * get_or found j 0)) on (s.right j (before j h n)))
+  ];
+}
+  where
+    on : GoesOn asked asked' found found'
+    on = goes_on_twice asked mid asked' found more found' a.on b.on
+
+    same : get_or found i 0 ≡ get_or found i d
+    same = get_or_any found i 0 d here
+
+    within : (j : ℕ) → j < i + 1 → j < length found
+    within j h = omega (arith, h, here)
+
+    before : (j : ℕ) → j < i + 1 → j ≢ i → j < i
+    before j h n = omega (arith, h, n)
+
+    place : (j : ℕ) → j < length found → get_or found' j 0 ≡ get_or found j 0
+    place j h = kept_place asked asked' found found' j on h
+
+pub spread_ends : (m : Mesh) (asked : List Bool) (found : List ℕ) (i : ℕ) → IsSpreadTo m asked found i → length found ≤ i → IsSpread m asked found
+spread_ends m asked found i s last = record {
+  left = λ k c. let w = c.1 in subst (λ x. AreAskedBeside m asked (2 * x)) (get_or_any found c.0 0 k c.1 ∙ c.2) (s.left c.0 (omega (arith, w, last)));
+  right = λ k c. let w = c.1 in subst (λ x. AreAskedBeside m asked (rev (2 * x))) (get_or_any found c.0 0 k c.1 ∙ c.2) (s.right c.0 (omega (arith, w, last)));
+}
+
+-- ---- before the first question
+none_marked : (n k : ℕ) → get_or (replicate n false) k false ≡ false
+none_marked zero k = refl
+none_marked (suc n) zero = refl
+none_marked (suc n) (suc k) = none_marked n k
+
+pub flood_begins : (Inside : ℕ → Type 0) (count : ℕ) (asked : List Bool) (found : List ℕ) → asked ≡ replicate count false → found ≡ [] → IsFlooding Inside count asked found
+flood_begins Inside count asked found e f = subst (λ a. IsFlooding Inside count a found) (sym e) (subst (IsFlooding Inside count (replicate count false)) (sym f) (record {
+  marks = length-replicate count false;
+  once = once_none;
+  within = λ k c. absurd (Contains-none k c);
+  inside = λ k c. absurd (Contains-none k c);
+  marked = λ k c. absurd (Contains-none k c);
+  complete = λ k w yes_asked p. absurd (never k yes_asked);
+}))
+  where
+    never : (k : ℕ) → get_or (replicate count false) k false ≡ true → ⊥
+    never k h = let same : false ≡ true = sym (none_marked count k) ∙ h in absurd (cc)
+
+-- ---- one after the other, of a list
+pub record AreAskedTo (Inside : ℕ → Type 0) (count : ℕ) (asked : List Bool) (found starts : List ℕ) (i : ℕ) : Type 0 where
+  pub flooding : IsFlooding Inside count asked found
+  pub all : (j : ℕ) → j < i → IsAsked asked (get_or starts j 0)
+
+pub ask_first : (Inside : ℕ → Type 0) (count : ℕ) (asked : List Bool) (found starts : List ℕ) → IsFlooding Inside count asked found → AreAskedTo Inside count asked found starts 0
+ask_first Inside count asked found starts f = record { flooding = f; all = λ j h. absurd (never j h) }
+  where
+    never : (j : ℕ) → j < 0 → ⊥
+    never j h = omega (arith, h)
+
+pub ask_more : (Inside : ℕ → Type 0) (count : ℕ) (asked asked' : List Bool) (found found' starts : List ℕ) (i k d : ℕ) → AreAskedTo Inside count asked found starts i → k ≡ get_or starts i d → i < length starts
+    → Asks Inside count asked asked' found found' k → AreAskedTo Inside count asked' found' starts (i + 1)
+ask_more Inside count asked asked' found found' starts i k d s is here a = record {
+  flooding = a.flooding;
+  all = λ j h. elim (cases_eq j i) as (λ _. IsAsked asked' (get_or starts j 0)) [
+    | inl e ↦ subst (λ (x : ℕ). IsAsked asked' (get_or starts x 0)) (sym e) (subst (IsAsked asked') (is ∙ get_or_any starts i d 0 here) a.there)
+    | inr n ↦ a.on.kept (get_or starts j 0) (s.all j (below_other j i h n))
+  ];
+}
+
+pub ask_last : (Inside : ℕ → Type 0) (count : ℕ) (asked : List Bool) (found starts : List ℕ) (i : ℕ) → AreAskedTo Inside count asked found starts i → length starts ≤ i → (k : ℕ) → Contains starts k → IsAsked asked k
+ask_last Inside count asked found starts i s last k c = let w = c.1 in subst (IsAsked asked) (get_or_any starts c.0 0 k c.1 ∙ c.2) (s.all c.0 (omega (arith, w, last)))

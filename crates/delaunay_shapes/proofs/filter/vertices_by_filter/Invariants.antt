@@ -1,0 +1,8 @@
+use Rattle.std.proofs.Common.{ℕ, map}
+use Rattle.plane.specs.Fraction.{whole}
+use Rattle.delaunay_shapes.specs.Known.{point_at}
+use Rattle.delaunay_shapes.proofs.Asking.{IsFilteredTo}
+use Rattle.delaunay_shapes.proofs.filter.vertices_by_filter.Given as goal
+
+abbrev pub invariant-loop-index : goal.invariant-loop-index
+invariant-loop-index g l = IsFilteredTo (λ i. g.M.DistanceMetric.shape l.metric (whole (point_at (map g.V.HasPosition.place l.dcel.vertices) i))) l.index l.vertices.items

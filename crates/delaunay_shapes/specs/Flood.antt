@@ -1,0 +1,67 @@
+-- A flood over the edges of a mesh: which were asked of, and which of them were found.
+use Rattle.std.specs.Prelude.{◌≡◌, ◌≢◌, ◌↔◌, ℕ, ◌*◌, ◌/◌, ◌<◌, List, [], ◌++◌, length, Bool, true, false, Contains, AllPairs, slice_index_or}
+use Rattle.half_edge_links.specs.Mesh.{Mesh, origin, next, prev, rev}
+use Rattle.plane.specs.Fraction.{Point, Fraction}
+use Rattle.plane.specs.Shape.{IsEdgeIn}
+use Rattle.plane.specs.Location.{Location}
+use Rattle.plane_delaunay.specs.Flood.{Region, InRegion, IsTried}
+use Rattle.mesh_embedding.specs.Drawn.{drawn}
+use Rattle.delaunay_shapes.specs.InShape.{IsEdgeInShape}
+
+abbrev pub IsAsked : List Bool → ℕ → Type 0
+IsAsked asked k = slice_index_or asked k false ≡ true
+
+-- of the edges asked of, those inside were found, each once
+pub record IsFlooding (Inside : ℕ → Type 0) (count : ℕ) (asked : List Bool) (found : List ℕ) : Type 0 where
+  pub marks : length asked ≡ count
+  pub once : AllPairs (λ i j. i ≢ j) found
+  pub within : (k : ℕ) → Contains found k → k < count
+  pub inside : (k : ℕ) → Contains found k → Inside k
+  pub marked : (k : ℕ) → Contains found k → IsAsked asked k
+  pub complete : (k : ℕ) → k < count → IsAsked asked k → Inside k → Contains found k
+
+-- each edge that was asked of still is, and found edges keep their places
+pub record GoesOn (asked asked' : List Bool) (found found' : List ℕ) : Type 0 where
+  pub kept : (k : ℕ) → IsAsked asked k → IsAsked asked' k
+  pub more : List ℕ
+  pub grown : found' ≡ found ++ more
+
+-- edge k was asked of
+pub record Asks (Inside : ℕ → Type 0) (count : ℕ) (asked asked' : List Bool) (found found' : List ℕ) (k : ℕ) : Type 0 where
+  pub flooding : IsFlooding Inside count asked' found'
+  pub on : GoesOn asked asked' found found'
+  pub there : IsAsked asked' k
+
+-- the edges before and after directed edge h in its loop were asked of
+pub record AreAskedBeside (m : Mesh) (asked : List Bool) (h : ℕ) : Type 0 where
+  pub after : IsAsked asked (next m h / 2)
+  pub before : IsAsked asked (prev m h / 2)
+
+-- so were those beside both directions of each edge that was found
+pub record IsSpread (m : Mesh) (asked : List Bool) (found : List ℕ) : Type 0 where
+  pub left : (k : ℕ) → Contains found k → AreAskedBeside m asked (2 * k)
+  pub right : (k : ℕ) → Contains found k → AreAskedBeside m asked (rev (2 * k))
+
+-- the edges beside directed edge h were asked of
+pub record AsksBeside (Inside : ℕ → Type 0) (m : Mesh) (count : ℕ) (asked asked' : List Bool) (found found' : List ℕ) (h : ℕ) : Type 0 where
+  pub flooding : IsFlooding Inside count asked' found'
+  pub on : GoesOn asked asked' found found'
+  pub beside : AreAskedBeside m asked' h
+
+-- the shape is a closed circle or a closed rectangle
+pub record IsRegion (Shape : Fraction → Type 0) : Type 0 where
+  pub region : Region
+  pub same : (p : Fraction) → Shape p ↔ InRegion region p
+
+-- where any edge is inside, one of the first is
+pub record IsBegunBy (Inside : ℕ → Type 0) (count : ℕ) (starts : List ℕ) : Type 0 where
+  pub begun : (k : ℕ) → k < count → Inside k → (j : ℕ) × Contains starts j × Inside j
+
+-- the same of the edges that are tried first from a location
+pub record HasBegun (Shape : Fraction → Type 0) (points : List Point) (m : Mesh) (starts : List ℕ) (l : Location) : Type 0 where
+  pub begun : (a b : ℕ) → IsTried (drawn points m) l a b → IsEdgeIn Shape (drawn points m) a b → (k : ℕ) × Contains starts k × IsEdgeInShape Shape points m k
+
+-- both ends of each of the edges were asked of
+pub record HasAskedEnds (m : Mesh) (asked : List Bool) (edges : List ℕ) : Type 0 where
+  pub sources : (k : ℕ) → Contains edges k → IsAsked asked (origin m (2 * k))
+  pub targets : (k : ℕ) → Contains edges k → IsAsked asked (origin m (rev (2 * k)))
