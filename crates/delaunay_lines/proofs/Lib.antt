@@ -1,0 +1,5 @@
+pub mod SegmentTests
+pub mod MeshSteps
+pub mod Advance
+pub mod Round
+pub mod Turn
