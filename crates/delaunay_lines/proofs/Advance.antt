@@ -1,10 +1,10 @@
 -- What is left of a walk from one item to the next.
-use Rattle.std.proofs.Common.{◌≡◌, ◌≢◌, ◌⊎◌, ℕ, ◌+◌, ◌-◌, ◌<◌, ◌≤◌, List, [], ◌∷◌, length, map, Option, Some, None, refl, sym, ap, ◌∙◌, subst, inl, inr, arith}
+use Rattle.std.proofs.Common.{◌≡◌, ◌≢◌, ◌⊎◌, ℕ, ◌+◌, ◌-◌, ◌<◌, ◌≤◌, List, [], ◌∷◌, length, map, Option, Some, None, refl, sym, ap, subst, inl, inr, arith}
 use Rattle.std.proofs.lemmas.List.{length-map}
 use Rattle.half_edge_mesh.specs.Contents.{Contents}
 use Rattle.plane.specs.Fraction.{Point, whole, IsSame}
 use Rattle.plane.specs.Line.{Item, IsLineList, at_vertex}
-use Rattle.plane_lines.specs.Steps.{GoesOn, IsWalk, IsFirst}
+use Rattle.plane_lines.specs.Steps.{IsWalk, IsFirst}
 use Rattle.plane_lines.proofs.Steps.{first_item}
 use Rattle.plane_lines.proofs.LineStarts.{first_on_line, equal_ends}
 use Rattle.plane_lines.proofs.WalkSteps.{each_segment_has_walk, rest_falls, line_list_is_the_walk}
@@ -63,7 +63,7 @@ pub record Begins (t : Triangulation) (p q : Point) (k : Item) : Type 0 where
   pub after : ComeAfter t p q k others
   pub few : length (k ∷ others) ≤ length t.points + length t.edges
 
-first_of : (t : Triangulation) (p q : Point) → IsLaid t → p ≢ q → (k : Item) → IsFirst t (whole p) (whole q) k → Begins t p q k
+pub first_of : (t : Triangulation) (p q : Point) → IsLaid t → p ≢ q → (k : Item) → IsFirst t (whole p) (whole q) k → Begins t p q k
 first_of t p q laid apart k first = go walks.0
   where
     ways_apart : ¬ IsSame (whole p) (whole q)
@@ -107,7 +107,7 @@ module _ {V D U F : Type 0} (at : V → Point) (IsSite IsCovered : Point → Typ
       let f = edges_counted c over.mesh in
       omega (arith, h, e, f)
 
-  starts_with : (i : FixedIntersection) → IsHandleOf c i → Begins (drawn (map at c.vertices) c.mesh) p q (item_of c.mesh i) → Starts at c p q (Some i)
+  pub starts_with : (i : FixedIntersection) → IsHandleOf c i → Begins (drawn (map at c.vertices) c.mesh) p q (item_of c.mesh i) → Starts at c p q (Some i)
   starts_with i here b = record { items = item_of c.mesh i ∷ b.others; line_list = b.line_list; are_from = (here, (b.others, refl, b.after)); few = few_in (length (item_of c.mesh i ∷ b.others)) b.few }
 
   pub starts_at_vertex : (v : ℕ) → v < length c.vertices → p ≡ point_at (map at c.vertices) v → Starts at c p q (Some (Vertex v))

@@ -3,3 +3,4 @@ pub mod MeshSteps
 pub mod Advance
 pub mod Round
 pub mod Turn
+pub mod FirstItems

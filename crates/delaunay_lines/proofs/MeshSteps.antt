@@ -25,7 +25,6 @@ use Rattle.mesh_embedding.proofs.MeshStars.{edge_of_face}
 use Rattle.mesh_embedding.proofs.OwnEdges.{own_edges}
 use Rattle.delaunay_legalization.specs.Known.{point_at}
 use Rattle.delaunay_lines.specs.declared.intersection.FixedIntersection.{FixedIntersection}
-use Rattle.delaunay_lines.specs.declared.intersection.FixedIntersection.TheVariants.{Edge, Vertex, Overlap}
 use Rattle.delaunay_lines.specs.Items.{item_of, IsHandleOf}
 use Rattle.delaunay_lines.specs.Steps.{IsOverMesh, IsNext, IsLeftOf, LeavesBy, IsEdgeAhead, IsInCone, LeadsTo}
 
@@ -52,16 +51,16 @@ module _ {V D U F : Type 0} (at : V → Point) (IsSite IsCovered : Point → Typ
   pub laid : IsLaid t
   laid = meshes_are_laid points (faces_of m) (outer_of m) (edges_of m) over.shape (own_edges m s)
 
-  in_mesh : (h : ℕ) → h < length c.directed → h < length m.half_edges
+  pub in_mesh : (h : ℕ) → h < length c.directed → h < length m.half_edges
   in_mesh h w = subst (λ (n : ℕ). h < n) over.mesh.fits.directed_fit w
 
-  of_mesh : (h : ℕ) → h < length m.half_edges → h < length c.directed
+  pub of_mesh : (h : ℕ) → h < length m.half_edges → h < length c.directed
   of_mesh h w = subst (λ (n : ℕ). h < n) (sym over.mesh.fits.directed_fit) w
 
-  joined : (h : ℕ) → h < length m.half_edges → IsEdge t (origin m h) (origin m (rev h))
+  pub joined : (h : ℕ) → h < length m.half_edges → IsEdge t (origin m h) (origin m (rev h))
   joined h w = edge_joins m s.sound h w
 
-  tiles_with : (i j k : ℕ) → IsFace t i j k → TilesHull t
+  pub tiles_with : (i j k : ℕ) → IsFace t i j k → TilesHull t
   tiles_with i j k f = elim laid [
     | inl h ↦ h
     | inr l ↦ absurd (line_has_none m i j k l.0.no_face f)
@@ -74,11 +73,11 @@ module _ {V D U F : Type 0} (at : V → Point) (IsSite IsCovered : Point → Typ
     | inr l ↦ line_has_none m (origin m h) (origin m (rev h)) f.0 l.0 f.1
   ]
 
-  face_at : (h : ℕ) → h < length m.half_edges → 0 < face m h → IsFace t (origin m h) (origin m (rev h)) (origin m (prev m h))
+  pub face_at : (h : ℕ) → h < length m.half_edges → 0 < face m h → IsFace t (origin m h) (origin m (rev h)) (origin m (prev m h))
   face_at h w inner = subst (λ (b : ℕ). IsFace t (origin m h) b (origin m (prev m h))) (s.sound.edges h w).starts (face_before m h s.sound (w, inner))
 
   -- the ends of an edge are at two positions
-  start_in : (h : ℕ) → h < length m.half_edges → origin m h < length points
+  pub start_in : (h : ℕ) → h < length m.half_edges → origin m h < length points
   start_in h w = subst (λ (n : ℕ). origin m h < n) (sym (length-map c.vertices at ∙ over.mesh.fits.vertices_fit)) (s.sound.edges h w).origin_in
 
   pub ends_apart : (h : ℕ) → h < length c.directed → (u v : Point) → u ≡ point_at points (origin m h) → v ≡ point_at points (origin m (rev h)) → u ≢ v
@@ -94,12 +93,12 @@ module _ {V D U F : Type 0} (at : V → Point) (IsSite IsCovered : Point → Typ
       ]
 
   -- where the sides of a face start
-  twin_of_prev : (h : ℕ) → h < length m.half_edges → 0 < face m h → origin m (rev (prev m h)) ≡ origin m h
+  pub twin_of_prev : (h : ℕ) → h < length m.half_edges → 0 < face m h → origin m (rev (prev m h)) ≡ origin m h
   twin_of_prev h w inner =
       let r = T.triangle_at m h s.sound w inner in
       sym (s.sound.edges (prev m h) r.prev_in).starts ∙ ap (origin m) r.next_prev
 
-  twin_of_next : (h : ℕ) → h < length m.half_edges → 0 < face m h → origin m (rev (next m h)) ≡ origin m (prev m h)
+  pub twin_of_next : (h : ℕ) → h < length m.half_edges → 0 < face m h → origin m (rev (next m h)) ≡ origin m (prev m h)
   twin_of_next h w inner =
       let r = T.triangle_at m h s.sound w inner in
       sym (s.sound.edges (next m h) r.next_in).starts ∙ ap (origin m) r.next_next

@@ -1,11 +1,11 @@
 -- What answers about points of a segment say.
-use Rattle.std.proofs.Common.{◌≡◌, ◌≢◌, ◌⊎◌, ℕ, ◌<◌, List, map, sym, ap, ◌∙◌, subst, inl, inr, arith}
+use Rattle.std.proofs.Common.{◌≡◌, ◌≢◌, ◌⊎◌, ℕ, List, map, sym, ap, ◌∙◌, subst, inl, inr, arith}
 use Rattle.std.specs.Prelude.{ℤ, pos, ◌<ℤ◌, ◌*ℤ◌, Contains, Some, slice_get}
 use Rattle.std.proofs.lemmas.Int.{ints}
 use Rattle.std.proofs.lemmas.Option.{slice_get_within, get_or_from_slice_get}
 use Rattle.plane.specs.Fraction.{Point, whole, IsSame, OnSegment, WithinSegment}
 use Rattle.plane.proofs.Decisions.{Decision, decide_point}
-use Rattle.plane.proofs.Segments.{reach, reach-start, within_segment_is, start_on_segment, end_on_segment, on_of_within}
+use Rattle.plane.proofs.Segments.{reach, reach-start, within_segment_is, start_on_segment, end_on_segment}
 use Rattle.plane_paths.proofs.EitherWay.{one_point}
 use Rattle.plane_paths.proofs.Pieces.{on_parts}
 use Rattle.mesh_embedding.proofs.EdgePairs.{Contains-map}

@@ -8,7 +8,9 @@ ghost use Rattle.delaunay_core.specs.Place.{place_of};
 ghost use Rattle.delaunay_lines.specs.Steps.{IsOverMesh, IsNext, LeavesBy};
 
 use crate::intersection::FixedIntersection;
-use crate::sides::{edge_after, edge_before, is_left_of, is_within, side_of_edge, side_of_start, twin_of, vertex_of};
+use crate::sides::{
+    edge_after, edge_before, is_left_of, is_within, side_of_edge, side_of_start, twin_of, vertex_of,
+};
 use delaunay_core::math::PlaneTests;
 use delaunay_core::point::{HasPosition, Point2};
 use delaunay_legalization::{is_outer, start_of};

@@ -82,9 +82,14 @@ pub(crate) fn starting<'a, V: HasPosition, DE, UE, F, P: PlaneTests<V::Scalar>>(
     }
 }
 
-impl<'a, V: HasPosition, DE, UE, F, P: PlaneTests<V::Scalar>>
-    LineIntersectionIterator<'a, V, DE, UE, F, P>
-{
+impl<'a, V: HasPosition, DE, UE, F, P: PlaneTests<V::Scalar>> LineIntersectionIterator<
+    'a,
+    V,
+    DE,
+    UE,
+    F,
+    P,
+> {
     /// What the segment from one vertex to another meets, from `from` on: of one vertex to itself, that vertex alone.
     pub fn new_from_handles(
         dcel: &'a Dcel<V, DE, UE, F>,
@@ -107,8 +112,7 @@ impl<'a, V: HasPosition, DE, UE, F, P: PlaneTests<V::Scalar>>
 }
 
 impl<'a, V: HasPosition, DE, UE, F, P: PlaneTests<V::Scalar> + 'a> Iterator
-    for LineIntersectionIterator<'a, V, DE, UE, F, P>
-{
+    for LineIntersectionIterator<'a, V, DE, UE, F, P> {
     type Item = Intersection<'a, V, DE, UE, F>;
 
     ghost can_next = { IsReady V.place V.Scalar.whole P.sites P.covered };

@@ -5,6 +5,7 @@ mod crossing;
 mod intersection;
 mod iterator;
 mod sides;
+mod starts;
 mod vertex;
 
 pub use intersection::{FixedIntersection, Intersection};

@@ -49,8 +49,7 @@ fn is_in_cone<V: HasPosition, DE, UE, F, P: PlaneTests<V::Scalar>>(
     if is_outer(dcel, edge) {
         return false;
     }
-    is_left_of(dcel, edge, to, tests)
-        && is_left_of(dcel, edge_before(dcel, edge), to, tests)
+    is_left_of(dcel, edge, to, tests) && is_left_of(dcel, edge_before(dcel, edge), to, tests)
 }
 
 // Whether an edge, or the face on its left, leads towards a position.

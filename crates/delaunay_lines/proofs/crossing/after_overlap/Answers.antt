@@ -30,7 +30,7 @@ returns g c =
     let is = same_within _ _ (place_of g.V.Scalar.SpadeNum.whole c.args.to) (point_at points (origin m c.args.edge)) (point_at points (origin m (rev c.args.edge))) (IsTrue c.is_within.result) c.start_of-start.ensures.place (c.start_of-end.ensures.place ∙ ap (λ (h : ℕ). point_at points (origin m h)) c.twin_of-twin.ensures.value) c.is_within.ensures in (
       c.vertex_of.ensures.within,
       subst (λ (k : ℕ). ComesNext (drawn points m) (whole (place_of g.V.Scalar.SpadeNum.whole c.args.from)) (whole (place_of g.V.Scalar.SpadeNum.whole c.args.to)) (along (origin m c.args.edge) (origin m (rev c.args.edge))) (at_vertex k)) (sym (c.vertex_of.ensures.value ∙ ap (origin m) c.twin_of-twin.ensures.value))
-      (end_of_overlap _ _ _ _ _ _ c.requires.over c.requires.apart c.args.edge c.requires.met (λ x. both_ways _ (is.1 x) c.if-is_within.false)),
+          (end_of_overlap _ _ _ _ _ _ c.requires.over c.requires.apart c.args.edge c.requires.met (λ x. both_ways _ (is.1 x) c.if-is_within.false)),
     )
 
 pub is_within-requires-clause-from_covered : goal.is_within-requires-clause-from_covered

@@ -1,5 +1,5 @@
 use Rattle.std.proofs.Common.{◌≡◌, ℕ, map, sym, ap, subst, ◌∙◌}
-use Rattle.half_edge_links.specs.Mesh.{origin, prev, rev}
+use Rattle.half_edge_links.specs.Mesh.{origin, rev}
 use Rattle.plane.specs.Fraction.{whole}
 use Rattle.plane.specs.Side.{side}
 use Rattle.plane.specs.Pairs.{place}
@@ -50,6 +50,6 @@ returns g c =
     let is = c.vertex_of.ensures.value ∙ ap (origin m) c.edge_before-prev.ensures.value in (
       c.vertex_of.ensures.within,
       subst (λ (k : ℕ). ComesNext (drawn points m) P Q (across (origin m c.args.edge) (origin m (rev c.args.edge))) (at_vertex k)) (sym is)
-      (at_corner _ _ _ _ _ _ c.requires.over c.requires.apart c.args.edge c.requires.within c.requires.met c.requires.inner (λ e. both_ways _ (c.is_on_right_side.ensures.1 (corner ∙ e)) c.if-is_on_right_side.false) (λ e. both_ways _ (c.is_on_left_side.ensures.1 (corner ∙ e)) c.if-is_on_left_side.false)
-      (λ x. both_ways _ (c.is_left_of.ensures.1 (subst (λ (e : ℕ). IsLeftOf points m (place_of g.V.Scalar.SpadeNum.whole c.args.to) e) (sym c.edge_after-next.ensures.value) x)) c.if-is_left_of.false)),
+          (at_corner _ _ _ _ _ _ c.requires.over c.requires.apart c.args.edge c.requires.within c.requires.met c.requires.inner (λ e. both_ways _ (c.is_on_right_side.ensures.1 (corner ∙ e)) c.if-is_on_right_side.false) (λ e. both_ways _ (c.is_on_left_side.ensures.1 (corner ∙ e)) c.if-is_on_left_side.false)
+          (λ x. both_ways _ (c.is_left_of.ensures.1 (subst (λ (e : ℕ). IsLeftOf points m (place_of g.V.Scalar.SpadeNum.whole c.args.to) e) (sym c.edge_after-next.ensures.value) x)) c.if-is_left_of.false)),
     )

@@ -1,5 +1,4 @@
-use Rattle.std.proofs.Common.{◌≡◌, ℕ, map, sym, ap, subst, ◌∙◌}
-use Rattle.half_edge_links.specs.Mesh.{origin}
+use Rattle.std.proofs.Common.{ℕ, map, sym, ap, subst, ◌∙◌}
 use Rattle.plane.specs.Fraction.{Point, whole, IsSame}
 use Rattle.plane.specs.Line.{Meets, at_vertex}
 use Rattle.plane.proofs.Segments.{same-refl}

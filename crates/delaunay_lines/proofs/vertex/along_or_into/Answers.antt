@@ -1,7 +1,7 @@
-use Rattle.std.proofs.Common.{◌⊎◌, ℕ, map, subst, inl, inr}
+use Rattle.std.proofs.Common.{◌⊎◌, ℕ, subst, inl, inr}
 use Rattle.delaunay_core.specs.Place.{place_of}
 use Rattle.delaunay_legalization.proofs.Questions.{both_ways}
-use Rattle.delaunay_lines.specs.Steps.{IsEdgeAhead, IsInCone, LeavesBy}
+use Rattle.delaunay_lines.specs.Steps.{LeavesBy}
 use Rattle.delaunay_lines.proofs.MeshSteps.{not_same, along_ahead, into_face}
 use Rattle.delaunay_lines.proofs.vertex.along_or_into.Goals as goal
 
