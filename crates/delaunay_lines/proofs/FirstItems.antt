@@ -46,16 +46,16 @@ module _ {V D U F : Type 0} (at : V → Point) (IsSite IsCovered : Point → Typ
   is_in : (h : ℕ) → h < length c.directed → h < length m.half_edges
   is_in = in_mesh at IsSite IsCovered c p q over
 
-  starts_first : p ≢ q → (i : FixedIntersection) → IsHandleOf c i → IsFirst t (whole p) (whole q) (item_of m i) → Starts at c p q (Some i)
+  pub starts_first : p ≢ q → (i : FixedIntersection) → IsHandleOf c i → IsFirst t (whole p) (whole q) (item_of m i) → Starts at c p q (Some i)
   starts_first apart i here first = starts_with at IsSite IsCovered c p q over i here (first_of t p q (laid at IsSite IsCovered c p q over) apart (item_of m i) first)
 
-  nothing : IsLineList t (whole p) (whole q) [] → Starts at c p q None
+  pub nothing : IsLineList t (whole p) (whole q) [] → Starts at c p q None
   nothing l = record { items = []; line_list = l; are_from = refl; few = omega arith }
 
-  nothing_met : p ≢ q → IsWalk t (whole p) (whole q) [] → Starts at c p q None
+  pub nothing_met : p ≢ q → IsWalk t (whole p) (whole q) [] → Starts at c p q None
   nothing_met apart w = nothing ((line_list_is_the_walk t (laid at IsSite IsCovered c p q over) (whole p) (whole q) (not_same p q apart) []).1 w)
 
-  same_ends : p ≡ q → IsSame (whole p) (whole q)
+  pub same_ends : p ≡ q → IsSame (whole p) (whole q)
   same_ends e = subst (λ (z : Point). IsSame (whole p) (whole z)) e (same-refl (whole p))
 
   -- ---- strictly within an edge

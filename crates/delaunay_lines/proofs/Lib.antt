@@ -4,3 +4,4 @@ pub mod Advance
 pub mod Round
 pub mod Turn
 pub mod FirstItems
+pub mod OutsideItems

@@ -67,7 +67,7 @@ module _ {V D U F : Type 0} (at : V → Point) (IsSite IsCovered : Point → Typ
   ]
 
   -- no face is where the outer one is
-  bare : (h : ℕ) → h < length m.half_edges → face m h ≡ 0 → ¬ HasFace t (origin m h) (origin m (rev h))
+  pub bare : (h : ℕ) → h < length m.half_edges → face m h ≡ 0 → ¬ HasFace t (origin m h) (origin m (rev h))
   bare h w o f = elim over.shape as (λ _. ⊥) [
     | inl l ↦ no_outer_face points m s l h w o f.0 f.1
     | inr l ↦ line_has_none m (origin m h) (origin m (rev h)) f.0 l.0 f.1

@@ -90,6 +90,26 @@ impl<'a, V: HasPosition, DE, UE, F, P: PlaneTests<V::Scalar>> LineIntersectionIt
     F,
     P,
 > {
+    /// What the segment from a vertex to a position meets, from the vertex on: of a vertex to its own position, that vertex alone.
+    pub fn new_from_vertex(
+        dcel: &'a Dcel<V, DE, UE, F>,
+        from: FixedVertexHandle,
+        to: Point2<V::Scalar>,
+        tests: &'a P,
+    ) -> Self
+        requires from_in { from < length dcel.now.vertices }
+        requires shape { IsMesh (map V.place dcel.now.vertices) (faces_of dcel.now.mesh) (outer_of dcel.now.mesh) }
+        requires sites { All (P.sites tests.now) (map V.place dcel.now.vertices) }
+        requires to_covered { P.covered tests.now (place_of V.Scalar.whole to) }
+        ensures line { WalksLine V.place V.Scalar.whole dcel.now (point_at (map V.place dcel.now.vertices) from) (place_of V.Scalar.whole to) result }
+        ensures ready { IsReady V.place V.Scalar.whole P.sites P.covered result }
+    {
+        let (vertices, edges) = (dcel.num_vertices(), dcel.num_undirected_edges());
+        let start = position_of(dcel, from);
+        let first = FixedIntersection::Vertex(from);
+        starting(dcel, Some(first), start, to, vertices + edges, tests)
+    }
+
     /// What the segment from one vertex to another meets, from `from` on: of one vertex to itself, that vertex alone.
     pub fn new_from_handles(
         dcel: &'a Dcel<V, DE, UE, F>,
@@ -104,10 +124,8 @@ impl<'a, V: HasPosition, DE, UE, F, P: PlaneTests<V::Scalar>> LineIntersectionIt
         ensures line { let points = map V.place dcel.now.vertices in WalksLine V.place V.Scalar.whole dcel.now (point_at points from) (point_at points to) result }
         ensures ready { IsReady V.place V.Scalar.whole P.sites P.covered result }
     {
-        let (vertices, edges) = (dcel.num_vertices(), dcel.num_undirected_edges());
-        let (start, end) = (position_of(dcel, from), position_of(dcel, to));
-        let first = FixedIntersection::Vertex(from);
-        starting(dcel, Some(first), start, end, vertices + edges, tests)
+        let end = position_of(dcel, to);
+        LineIntersectionIterator::new_from_vertex(dcel, from, end, tests)
     }
 }
 

@@ -4,6 +4,7 @@
 mod crossing;
 mod intersection;
 mod iterator;
+mod outside;
 mod sides;
 mod starts;
 mod vertex;
