@@ -19,3 +19,7 @@ pub mod Joining
 pub mod Delaunay
 pub mod ConstraintEdges
 pub mod Removing
+pub mod Constrained
+pub mod Vertices
+pub mod WellFormed
+pub mod Inserting

@@ -4,3 +4,7 @@ pub mod Data
 pub mod Joining
 pub mod Hull
 pub mod Removal
+pub mod Headline
+pub mod Edits
+pub mod Constrained
+pub mod Entry
