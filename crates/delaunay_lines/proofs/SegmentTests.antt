@@ -1,0 +1,61 @@
+-- What answers about points of a segment say.
+use Rattle.std.proofs.Common.{◌≡◌, ◌≢◌, ◌⊎◌, ℕ, List, map, sym, ap, ◌∙◌, subst, inl, inr, arith}
+use Rattle.std.specs.Prelude.{ℤ, pos, ◌<ℤ◌, ◌*ℤ◌, Contains, Some, slice_get}
+use Rattle.std.proofs.lemmas.Int.{ints}
+use Rattle.std.proofs.lemmas.Option.{slice_get_within, get_or_from_slice_get}
+use Rattle.plane.specs.Fraction.{Point, whole, IsSame, OnSegment, WithinSegment}
+use Rattle.plane.proofs.Decisions.{Decision, decide_point}
+use Rattle.plane.proofs.Segments.{reach, reach-start, within_segment_is, start_on_segment, end_on_segment}
+use Rattle.plane_paths.proofs.EitherWay.{one_point}
+use Rattle.plane_paths.proofs.Pieces.{on_parts}
+use Rattle.mesh_embedding.proofs.EdgePairs.{Contains-map}
+
+none_below : (a b : ℤ) → a ≡ pos 0 → pos 0 <ℤ a → ⊥
+none_below a b e h = omega (arith, ints)
+
+itself : (a : ℤ) → a <ℤ a → ⊥
+itself a h = omega (arith, ints)
+
+module _ (u v : Point) (apart : u ≢ v) where
+  ways_apart : ¬ IsSame (whole u) (whole v)
+  ways_apart e = apart (one_point u v e)
+
+  -- an end is not strictly within
+  not_start : ¬ WithinSegment (whole u) (whole v) (whole u)
+  not_start w = none_below (reach (whole u) (whole v) (whole u)) (pos 0) (reach-start (whole u) (whole v)) ((within_segment_is (whole u) (whole v) (whole u) ways_apart).0 w).1
+
+  not_end : ¬ WithinSegment (whole u) (whole v) (whole v)
+  not_end w = itself (reach (whole u) (whole v) (whole v) *ℤ (whole v).w) ((within_segment_is (whole u) (whole v) (whole v) ways_apart).0 w).2
+
+  pub differs_if_within : (p : Point) → WithinSegment (whole u) (whole v) (whole p) → (p ≢ u) × (p ≢ v)
+  differs_if_within p w = (
+    (λ e. not_start (subst (λ (x : Point). WithinSegment (whole u) (whole v) (whole x)) e w)),
+    (λ e. not_end (subst (λ (x : Point). WithinSegment (whole u) (whole v) (whole x)) e w)),
+  )
+
+-- a point of the segment is strictly within, or one of the ends
+pub within_if_differs : (u v p : Point) → p ≢ u → p ≢ v → OnSegment (whole u) (whole v) (whole p) → WithinSegment (whole u) (whole v) (whole p)
+within_if_differs u v p a b o = elim (on_parts (whole u) (whole v) (whole p) o) [
+  | inl e ↦ absurd (a (one_point p u e))
+  | inr x ↦ elim x [
+    | inl e ↦ absurd (b (one_point p v e))
+    | inr w ↦ w
+  ]
+]
+
+on_if_same : (u v p : Point) → (p ≡ u) ⊎ (p ≡ v) → OnSegment (whole u) (whole v) (whole p)
+on_if_same u v p (inl e) = subst (λ (x : Point). OnSegment (whole u) (whole v) (whole x)) (sym e) (start_on_segment (whole u) (whole v))
+on_if_same u v p (inr e) = subst (λ (x : Point). OnSegment (whole u) (whole v) (whole x)) (sym e) (end_on_segment (whole u) (whole v))
+
+-- the position of a vertex is listed
+pub listed_data : {V : Type 0} (at : V → Point) (vs : List V) (k : ℕ) (v : V) (q : Point) → slice_get vs k ≡ Some v → q ≡ at v → Contains (map at vs) q
+listed_data at vs k v q e is = Contains-map at vs k v q (slice_get_within vs k v e) (ap at (get_or_from_slice_get vs k v v e) ∙ sym is)
+
+-- a point that does not differ from both ends is on the segment
+pub on_if_not_apart : (u v p : Point) → (p ≢ u → p ≢ v → ⊥) → OnSegment (whole u) (whole v) (whole p)
+on_if_not_apart u v p both = go (decide_point p u) (decide_point p v)
+  where
+    go : Decision (p ≡ u) → Decision (p ≡ v) → OnSegment (whole u) (whole v) (whole p)
+    go (inl e) d = on_if_same u v p (inl e)
+    go (inr a) (inl e) = on_if_same u v p (inr e)
+    go (inr a) (inr b) = absurd (both a b)

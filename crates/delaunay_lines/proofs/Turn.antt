@@ -1,0 +1,65 @@
+-- One call of the iterator along a segment.
+use Rattle.std.proofs.Common.{◌≡◌, ◌≢◌, ◌-◌, ◌≤◌, List, [], ◌∷◌, map, Option, Some, None, refl, sym, ap, ◌∙◌, subst}
+use Rattle.std.specs.Prelude.{ℤ}
+use Rattle.plane.specs.Fraction.{Point, whole}
+use Rattle.plane.specs.Line.{Item, Meets}
+use Rattle.mesh_embedding.specs.Drawn.{drawn}
+use Rattle.delaunay_core.specs.Place.{place_of}
+use Rattle.delaunay_lines.specs.declared.intersection.Intersection.{Intersection}
+use Rattle.delaunay_lines.specs.declared.intersection.FixedIntersection.{FixedIntersection}
+use Rattle.delaunay_lines.specs.declared.iterator.LineIntersectionIterator.{LineIntersectionIterator}
+use Rattle.delaunay_lines.specs.Items.{item_of, item_in, mesh_of, IsHandleOf}
+use Rattle.delaunay_lines.specs.Steps.{IsNext}
+use Rattle.delaunay_lines.specs.Walk.{AreFrom, AreLeft, GivesNext, IsReady}
+use Rattle.delaunay_lines.proofs.Advance.{further, one_fewer, some_left}
+
+module _ {V D U F P S : Type 0} (at : V → Point) (number : S → ℤ) (IsSite IsCovered : P → Point → Type 0) (it : LineIntersectionIterator V D U F P S) where
+  abbrev p : Point
+  p = place_of number it.from
+
+  abbrev q : Point
+  q = place_of number it.to
+
+  -- nothing is left without a current item
+  pub gives_none : it.current ≡ None → GivesNext at number it None it
+  gives_none is = record {
+    same_mesh = refl;
+    gives = λ items left. (none items left, subst (λ (o : Option FixedIntersection). AreFrom at it.dcel.now p q o []) (sym is) refl);
+  }
+    where
+      none : (items : List Item) → AreLeft at number it items → items ≡ []
+      none items left = subst (λ (o : Option FixedIntersection). AreFrom at it.dcel.now p q o items) is left
+
+  module _ (ready : IsReady at number IsSite IsCovered it) (i : FixedIntersection) (is : it.current ≡ Some i) where
+    from_here : (items : List Item) → AreLeft at number it items → AreFrom at it.dcel.now p q (Some i) items
+    from_here items left = subst (λ (o : Option FixedIntersection). AreFrom at it.dcel.now p q o items) is left
+
+    pub handle_here : IsHandleOf it.dcel.now i
+    handle_here = (from_here ready.items ready.are_left).0
+
+    pub met_here : p ≢ q → Meets (drawn (map at it.dcel.now.vertices) it.dcel.now.mesh) (whole p) (whole q) (item_of it.dcel.now.mesh i)
+    met_here apart = (from_here ready.items ready.are_left).1.2.met apart
+
+    pub counts_more : 1 ≤ it.left
+    counts_more = some_left ready.items (from_here ready.items ready.are_left).1.0 (item_of it.dcel.now.mesh i) it.left (from_here ready.items ready.are_left).1.1 ready.few
+
+    module _ (r : Option FixedIntersection) (alone : p ≡ q → r ≡ None) (next : p ≢ q → IsNext at it.dcel.now p q (item_of it.dcel.now.mesh i) r) where
+      abbrev after : LineIntersectionIterator V D U F P S
+      after = record it { current = r; left = it.left - 1 }
+
+      others : (items : List Item) → AreLeft at number it items → (others : List Item) × (items ≡ item_of it.dcel.now.mesh i ∷ others) × AreLeft at number after others
+      others items left = further at (IsSite it.tests.now) (IsCovered it.tests.now) it.dcel.now p q ready.over i items (from_here items left) r alone next
+
+      pub gives_some : (x : Intersection V D U F) → item_in x ≡ item_of it.dcel.now.mesh i → mesh_of x ≡ it.dcel → GivesNext at number it (Some x) after
+      gives_some x item mesh = record {
+        same_mesh = refl;
+        gives = λ items left. let o = others items left in (mesh, (o.0, o.1 ∙ ap (λ (k : Item). k ∷ o.0) (sym item), o.2));
+      }
+
+      pub ready_after : IsReady at number IsSite IsCovered after
+      ready_after = record {
+        over = ready.over;
+        items = (others ready.items ready.are_left).0;
+        are_left = (others ready.items ready.are_left).2;
+        few = one_fewer ready.items (others ready.items ready.are_left).0 (item_of it.dcel.now.mesh i) it.left (others ready.items ready.are_left).1 ready.few;
+      }

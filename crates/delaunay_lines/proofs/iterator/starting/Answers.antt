@@ -1,0 +1,13 @@
+use Rattle.std.proofs.Common.{refl, arith}
+use Rattle.delaunay_lines.proofs.iterator.starting.Goals as goal
+
+pub returns-clause-line : goal.returns-clause-line
+returns-clause-line g c = record { mesh = refl; items = c.requires.starts.items; line_list = c.requires.starts.line_list; are_left = c.requires.starts.are_from }
+
+pub returns-clause-ready : goal.returns-clause-ready
+returns-clause-ready g c = record {
+  over = c.requires.over;
+  items = c.requires.starts.items;
+  are_left = c.requires.starts.are_from;
+  few = let few = c.requires.starts.few in let most = c.requires.few in omega (arith, few, most);
+}

@@ -1,0 +1,4 @@
+pub mod Items
+pub mod Steps
+pub mod Starts
+pub mod Walk

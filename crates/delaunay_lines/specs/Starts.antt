@@ -1,0 +1,60 @@
+-- Where a segment starts in a mesh.
+use Rattle.std.specs.Prelude.{◌≡◌, ◌≢◌, ℕ, ◌<◌, ◌<ℤ◌, List, Option, MatchOption, ⊤}
+use Rattle.half_edge_links.specs.Mesh.{Mesh, origin, prev, face, rev}
+use Rattle.plane.specs.Fraction.{Point, whole, IsSame, OnSegment, WithinSegment, InsideTriangle}
+use Rattle.plane.specs.Side.{side, left, right, TurnsLeft}
+use Rattle.plane.specs.Circle.{gap, IsNearer}
+use Rattle.plane.specs.Pairs.{place}
+use Rattle.plane.specs.Tiling.{Triangulation, IsVertex, IsEdge, vertex, TilesHull}
+use Rattle.plane.specs.Location.{IsOuter}
+
+-- p is strictly within directed edge h
+abbrev pub StartsWithin : List Point → Mesh → Point → ℕ → Type 0
+StartsWithin points m p h = WithinSegment (place points (origin m h)) (place points (origin m (rev h))) (whole p)
+
+-- p is strictly inside the face on the left of directed edge h
+pub record StartsInside (points : List Point) (m : Mesh) (p : Point) (h : ℕ) : Type 0 where
+  pub inner : 0 < face m h
+  pub inside : InsideTriangle (place points (origin m h)) (place points (origin m (rev h))) (place points (origin m (prev m h))) (whole p)
+
+-- directed edge h starts on the right of the segment from p to q, or on its line, and ends on its left
+pub record GoesOver (points : List Point) (m : Mesh) (p q : Point) (h : ℕ) : Type 0 where
+  pub start : side (whole p) (whole q) (place points (origin m h)) ≢ left
+  pub end : side (whole p) (whole q) (place points (origin m (rev h))) ≡ left
+
+-- directed edge h goes from the left of the segment from p to q, or of its line, to the right
+pub record GoesRight (points : List Point) (m : Mesh) (p q : Point) (h : ℕ) : Type 0 where
+  pub start : side (whole p) (whole q) (place points (origin m h)) ≡ left
+  pub end : side (whole p) (whole q) (place points (origin m (rev h))) ≡ right
+
+-- p is on its right or its line, and q on its left or its line
+pub record HasEndsOnSides (points : List Point) (m : Mesh) (p q : Point) (h : ℕ) : Type 0 where
+  pub from : side (place points (origin m h)) (place points (origin m (rev h))) (whole p) ≢ left
+  pub to : side (place points (origin m h)) (place points (origin m (rev h))) (whole q) ≢ right
+
+-- both: it is crossed by the segment
+abbrev pub IsCrossed : List Point → Mesh → Point → Point → ℕ → Type 0
+IsCrossed points m p q h = GoesRight points m p q h × HasEndsOnSides points m p q h
+
+-- and it has the outer face on its right
+abbrev pub IsEntered : List Point → Mesh → Point → Point → ℕ → Type 0
+IsEntered points m p q h = (face m (rev h) ≡ 0) × IsCrossed points m p q h
+
+-- p is outside: no vertex is there, no edge carries it, and off one line it is on the left of an outer edge
+pub record StartsOutside (t : Triangulation) (p : Point) : Type 0 where
+  pub no_vertex : (k : ℕ) → IsVertex t k → ¬ IsSame (whole p) (vertex t k)
+  pub no_edge : (i j : ℕ) → IsEdge t i j → ¬ OnSegment (vertex t i) (vertex t j) (whole p)
+  pub left_of : TilesHull t → (i : ℕ) × (j : ℕ) × IsOuter t i j × TurnsLeft (vertex t i) (vertex t j) (whole p)
+
+-- of the first n vertices, v is on the segment from p to q, and none on it is nearer to p; or none of them is on it
+abbrev pub IsNearestOf : List Point → ℕ → Point → Point → Option ℕ → Type 0
+IsNearestOf points n p q r = MatchOption r ((k : ℕ) → k < n → ¬ OnSegment (whole p) (whole q) (place points k))
+    (λ v. (v < n) × OnSegment (whole p) (whole q) (place points v) × ((k : ℕ) → k < n → OnSegment (whole p) (whole q) (place points k) → ¬ IsNearer (whole p) (place points k) (place points v)))
+
+-- vertex v is nearer to p than the other one, if there is one
+abbrev pub IsNearerVertex : List Point → Point → ℕ → Option ℕ → Type 0
+IsNearerVertex points p v r = MatchOption r ⊤ (λ o. gap (whole p) (place points v) <ℤ gap (whole p) (place points o))
+
+-- and it is on the segment from p to q
+abbrev pub IsBetter : List Point → Point → Point → ℕ → Option ℕ → Type 0
+IsBetter points p q v r = OnSegment (whole p) (whole q) (place points v) × IsNearerVertex points p v r

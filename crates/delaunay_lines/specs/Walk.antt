@@ -1,0 +1,56 @@
+-- What is left of the walk along a segment over a mesh.
+use Rattle.std.specs.Prelude.{◌≡◌, ◌+◌, ◌≤◌, List, [], ◌∷◌, ℤ, length, map, Option, Some, None, MatchOption}
+use Rattle.half_edge_mesh.specs.Contents.{Contents}
+use Rattle.plane.specs.Fraction.{Point, whole}
+use Rattle.plane.specs.Tiling.{Triangulation}
+use Rattle.plane.specs.Line.{Item, Meets, IsLineList}
+use Rattle.plane_lines.specs.Steps.{GoesOn}
+use Rattle.mesh_embedding.specs.Drawn.{drawn}
+use Rattle.delaunay_core.specs.Place.{place_of}
+use Rattle.delaunay_lines.specs.declared.intersection.Intersection.{Intersection}
+use Rattle.delaunay_lines.specs.declared.intersection.FixedIntersection.{FixedIntersection}
+use Rattle.delaunay_lines.specs.declared.iterator.LineIntersectionIterator.{LineIntersectionIterator}
+use Rattle.delaunay_lines.specs.Items.{item_of, item_in, mesh_of, IsHandleOf}
+use Rattle.delaunay_lines.specs.Steps.{IsOverMesh}
+
+-- of the line list from p to q these items come after item k; from a point to itself none does
+pub record ComeAfter (t : Triangulation) (p q : Point) (k : Item) (others : List Item) : Type 0 where
+  pub met : ¬ (p ≡ q) → Meets t (whole p) (whole q) k
+  pub goes_on : ¬ (p ≡ q) → GoesOn t (whole p) (whole q) k others
+  pub alone : p ≡ q → others ≡ []
+
+-- these items are the one that the handle names and those after it; without a handle, none
+abbrev pub AreFrom : {V D U F : Type 0} → (V → Point) → Contents V D U F → Point → Point → Option FixedIntersection → List Item → Type 0
+AreFrom at c p q None items = items ≡ []
+AreFrom at c p q (Some i) items = IsHandleOf c i × ((others : List Item) × (items ≡ item_of c.mesh i ∷ others) × ComeAfter (drawn (map at c.vertices) c.mesh) p q (item_of c.mesh i) others)
+
+-- the line list from p to q is this first item and those after it; without a first one it has none
+pub record Starts {V D U F : Type 0} (at : V → Point) (c : Contents V D U F) (p q : Point) (first : Option FixedIntersection) : Type 0 where
+  pub items : List Item
+  pub line_list : IsLineList (drawn (map at c.vertices) c.mesh) (whole p) (whole q) items
+  pub are_from : AreFrom at c p q first items
+  pub few : length items ≤ length c.vertices + length c.undirected
+
+-- these items are left of an iterator
+abbrev pub AreLeft : {V D U F P S : Type 0} → (V → Point) → (S → ℤ) → LineIntersectionIterator V D U F P S → List Item → Type 0
+AreLeft at number it items = AreFrom at it.dcel.now (place_of number it.from) (place_of number it.to) it.current items
+
+-- a call gives the first of the items that are left, as a part of the same mesh, and leaves the others; or nothing is left
+pub record GivesNext {V D U F P S : Type 0} (at : V → Point) (number : S → ℤ) (it : LineIntersectionIterator V D U F P S) (r : Option (Intersection V D U F)) (after : LineIntersectionIterator V D U F P S) : Type 0 where
+  pub same_mesh : after.dcel ≡ it.dcel
+  pub gives : (items : List Item) → AreLeft at number it items → MatchOption r ((items ≡ []) × AreLeft at number after [])
+      (λ x. (mesh_of x ≡ it.dcel) × ((others : List Item) × (items ≡ item_in x ∷ others) × AreLeft at number after others))
+
+-- an iterator over a mesh whose vertices are sites of its tests, which cover its ends; some items are left, no more than it counts
+pub record IsReady {V D U F P S : Type 0} (at : V → Point) (number : S → ℤ) (IsSite IsCovered : P → Point → Type 0) (it : LineIntersectionIterator V D U F P S) : Type 0 where
+  pub over : IsOverMesh at (IsSite it.tests.now) (IsCovered it.tests.now) it.dcel.now (place_of number it.from) (place_of number it.to)
+  pub items : List Item
+  pub are_left : AreLeft at number it items
+  pub few : length items ≤ it.left
+
+-- the line list from p to q is left of the iterator, over the mesh c
+pub record WalksLine {V D U F P S : Type 0} (at : V → Point) (number : S → ℤ) (c : Contents V D U F) (p q : Point) (it : LineIntersectionIterator V D U F P S) : Type 0 where
+  pub mesh : it.dcel.now ≡ c
+  pub items : List Item
+  pub line_list : IsLineList (drawn (map at c.vertices) c.mesh) (whole p) (whole q) items
+  pub are_left : AreLeft at number it items

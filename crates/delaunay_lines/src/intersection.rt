@@ -1,0 +1,54 @@
+//! What a segment meets in a mesh.
+ghost use Rattle.std.specs.Prelude.{◌≡◌};
+ghost use Rattle.delaunay_lines.specs.Items.{item_of, item_in, mesh_of, crossed_edge, IsHandleOf};
+
+use half_edge_mesh::{Dcel, FixedDirectedEdgeHandle, FixedVertexHandle};
+use half_edge_views::{DirectedEdgeHandle, MeshViews, VertexHandle};
+
+/// A vertex or an edge that a segment meets.
+#[derive_where(Clone, Copy, PartialEq, Debug)]
+pub enum Intersection<'a, V, DE, UE, F> {
+    /// An edge that the segment meets in one point strictly within the edge. The segment's end is on its left, or, where it
+    /// lies on the edge, the segment's start is on its right.
+    EdgeIntersection(DirectedEdgeHandle<'a, V, DE, UE, F>),
+    /// A vertex on the segment.
+    VertexIntersection(VertexHandle<'a, V, DE, UE, F>),
+    /// An edge that has more than one point of the segment, directed along the segment.
+    EdgeOverlap(DirectedEdgeHandle<'a, V, DE, UE, F>),
+}
+
+impl<'a, V, DE, UE, F> Intersection<'a, V, DE, UE, F> {
+    /// The edge of an `EdgeIntersection`.
+    pub fn as_edge_intersection(&self) -> Option<DirectedEdgeHandle<'a, V, DE, UE, F>>
+        ensures { result ≡ crossed_edge self.now }
+    {
+        match self {
+            Intersection::EdgeIntersection(edge) => Some(*edge),
+            _ => None,
+        }
+    }
+}
+
+/// The same by names alone, without the mesh.
+#[derive(Clone, Copy)]
+pub enum FixedIntersection {
+    Edge(FixedDirectedEdgeHandle),
+    Vertex(FixedVertexHandle),
+    Overlap(FixedDirectedEdgeHandle),
+}
+
+// An item together with its mesh.
+pub(crate) fn intersection_in<'a, V, DE, UE, F>(
+    dcel: &'a Dcel<V, DE, UE, F>,
+    item: &FixedIntersection,
+) -> Intersection<'a, V, DE, UE, F>
+    requires { IsHandleOf dcel.now item.now }
+    ensures item { item_in result ≡ item_of dcel.now.mesh item.now }
+    ensures mesh { mesh_of result ≡ dcel.entry }
+{
+    match item {
+        FixedIntersection::Edge(edge) => Intersection::EdgeIntersection(dcel.directed_edge(*edge)),
+        FixedIntersection::Vertex(vertex) => Intersection::VertexIntersection(dcel.vertex(*vertex)),
+        FixedIntersection::Overlap(edge) => Intersection::EdgeOverlap(dcel.directed_edge(*edge)),
+    }
+}
