@@ -8,3 +8,5 @@ pub mod WorkList
 pub mod ConstraintEdges
 pub mod Flips
 pub mod Stars
+pub mod MeshParts
+pub mod MarkedPairs

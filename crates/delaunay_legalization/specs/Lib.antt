@@ -7,3 +7,5 @@ pub mod Flips
 pub mod CdtEdge
 pub mod Lending
 pub mod Star
+pub mod Parts
+pub mod Marking

@@ -1,0 +1,100 @@
+-- A new vertex is a corner of each face that is made for it, so that no other edge is left to test.
+use Rattle.std.proofs.Common.{◌≡◌, ◌⊎◌, ℕ, ◌<◌, ◌≤◌, List, [], ◌∷◌, ◌++◌, length, map, refl, sym, ap, ◌∙◌, subst, inl, inr}
+use Rattle.std.specs.Prelude.{Contains}
+use Rattle.std.proofs.lemmas.List.{map-append}
+use Rattle.half_edge_links.specs.Mesh.{Mesh, IsValidMesh, IsInnerEdge, face_edge, with_vertex}
+use Rattle.half_edge_links.specs.Flip.{IsFlippable}
+use Rattle.half_edge_links.specs.Triangles.{triangles, InsertsTriangles, SplitsTriangles}
+use Rattle.half_edge_links.specs.Outline.{HalfSplitsTriangles}
+use Rattle.half_edge_mesh.specs.Contents.{Contents}
+use Rattle.plane.specs.Fraction.{Point}
+use Rattle.plane.specs.Pairs.{Joins}
+use Rattle.plane.specs.Tiling.{Face, face as corners}
+use Rattle.plane_tiling.proofs.Totals.{Contains-none, Contains-cases}
+use Rattle.plane_edits.specs.Change.{IsFaceOf, FacesChange}
+use Rattle.plane_edits.specs.Extension.{IsExtending, fan}
+use Rattle.plane_edits.proofs.Changes.{face_from, turn_of_all}
+use Rattle.mesh_embedding.specs.Drawn.{corners_of, faces_of, outer_of}
+use Rattle.mesh_embedding.proofs.MeshEdits.{inserted_faces, split_faces, half_split_faces}
+use Rattle.delaunay_legalization.specs.Shape.{IsDelaunayTriangulation}
+use Rattle.delaunay_legalization.specs.Star.{IsOneOf, MakesFacesAt, AllPassBeside}
+use Rattle.delaunay_legalization.specs.State.{State, state_of}
+use Rattle.delaunay_legalization.proofs.Stars.{made_at_leaves}
+
+-- ---- faces with one corner in common
+abbrev HaveCorner : ℕ → List Face → Type 0
+HaveCorner v [] = Unit {0}
+HaveCorner v (f ∷ fs) = IsOneOf v f.a f.b f.c × HaveCorner v fs
+
+corner_of : (v : ℕ) (fs : List Face) → HaveCorner v fs → (f : Face) → Contains fs f → IsOneOf v f.a f.b f.c
+corner_of v [] a f c = absurd (Contains-none f c)
+corner_of v (g ∷ gs) a f c = go (Contains-cases g gs f c) (corner_of v gs a.1 f)
+  where
+    go : (g ≡ f) ⊎ Contains gs f → (Contains gs f → IsOneOf v f.a f.b f.c) → IsOneOf v f.a f.b f.c
+    go (inl e) r = subst (λ (h : Face). IsOneOf v h.a h.b h.c) e a.0
+    go (inr k) r = r k
+
+turned_corner : (v i j k : ℕ) → IsOneOf v i j k → IsOneOf v j k i
+turned_corner v i j k (inl e) = inr (inr e)
+turned_corner v i j k (inr (inl e)) = inl e
+turned_corner v i j k (inr (inr e)) = inr (inl e)
+
+made_by : (old new gone made : List Face) (v : ℕ) → FacesChange old new gone made → HaveCorner v made → MakesFacesAt v old new
+made_by old new gone made v change all = record {
+  each = λ i j k f. elim (face_from old new gone made change i j k f) [
+    | inl x ↦ inl x
+    | inr x ↦ inr (turn_of_all made (IsOneOf v) (turned_corner v) (corner_of v made all) i j k x)
+  ];
+}
+
+fan_corner : (q u : ℕ) (vs : List ℕ) → HaveCorner q (fan q u vs)
+fan_corner q u [] = tt
+fan_corner q u (v ∷ vs) = (inr (inr refl), fan_corner q v vs)
+
+-- ---- each case
+module _ (m new : Mesh) (v : ℕ) (w : IsValidMesh m) where
+  pub made_inside : (f : ℕ) → 0 < f → f ≤ length m.face_edges → InsertsTriangles m new v (face_edge m f) → MakesFacesAt v (faces_of m) (faces_of new)
+  made_inside f positive within change =
+      let h = w.sound.faces f positive within in
+      let x : IsInnerEdge m (face_edge m f) = (h.0, subst (λ k. 0 < k) (sym h.1) positive) in
+      made_by (faces_of m) (faces_of new) _ _ v (inserted_faces m new v (face_edge m f) w.sound x change) (inr (inr refl), (inr (inr refl), (inr (inr refl), tt)))
+
+  pub made_within_side : (e : ℕ) → IsFlippable m e → SplitsTriangles m new v e → MakesFacesAt v (faces_of m) (faces_of new)
+  made_within_side e x change = made_by (faces_of m) (faces_of new) _ _ v (split_faces m new v e w.sound x change) (inl refl, (inr (inl refl), (inr (inr refl), (inr (inr refl), tt))))
+
+  pub made_within_outer : (e : ℕ) → IsInnerEdge m e → HalfSplitsTriangles m new v e → MakesFacesAt v (faces_of m) (faces_of new)
+  made_within_outer e x change = made_by (faces_of m) (faces_of new) _ _ v (half_split_faces m new v e w.sound x change) (inr (inl refl), (inl refl, tt))
+
+-- the new vertex comes last
+pub made_at_count : (old new : List Face) (v n : ℕ) → v ≡ n → MakesFacesAt v old new → MakesFacesAt n old new
+made_at_count old new v n is made = subst (λ (k : ℕ). MakesFacesAt k old new) is made
+
+no_face : (i j k : ℕ) → ¬ IsFaceOf [] i j k
+no_face i j k (inl c) = Contains-none (corners i j k) c
+no_face i j k (inr (inl c)) = Contains-none (corners j k i) c
+no_face i j k (inr (inr c)) = Contains-none (corners k i j) c
+
+-- on a line there is none
+pub made_none : (m new : Mesh) (v : ℕ) → triangles new ≡ [] → MakesFacesAt v (faces_of m) (faces_of new)
+made_none m new v none = record { each = λ i j k f. absurd (no_face i j k (subst (λ fs. IsFaceOf fs i j k) (ap (map corners_of) none) f)) }
+
+pub made_first : (m new : Mesh) (v : ℕ) → new ≡ with_vertex m → MakesFacesAt v (faces_of m) (faces_of new)
+made_first m new v is = subst (λ (x : Mesh). MakesFacesAt v (faces_of m) (faces_of x)) (sym is) (record { each = λ i j k f. inl f })
+
+-- outside
+pub made_outside : (points : List Point) (q : Point) (faces new : List Face) (outer now : List (ℕ × ℕ)) (u w v : ℕ) → v ≡ length points → IsExtending points q faces new outer now u w → MakesFacesAt v faces new
+made_outside points q faces new outer now u w v is x = subst (λ (k : ℕ). MakesFacesAt k faces new) (sym is) (made_by faces new [] (fan (length points) u (x.second ∷ x.rest)) (length points) x.faces_change (fan_corner (length points) u (x.second ∷ x.rest)))
+
+-- ---- what is left to test
+none_joined : (i j : ℕ) → ¬ Joins [] i j
+none_joined i j (inl c) = Contains-none (i, j) c
+none_joined i j (inr c) = Contains-none (j, i) c
+
+-- where nothing is marked, and each edge passed before
+pub passes_beside : {V D U F : Type 0} (at : V → Point) (old : State V D U F) (ready mid : Contents V D U F) (v : V) (k n : ℕ) → IsDelaunayTriangulation at (λ _. []) old → state_of ready ≡ old → mid.vertices ≡ ready.vertices ++ v ∷ [] → k ≡ n → MakesFacesAt n (faces_of ready.mesh) (faces_of mid.mesh)
+    → AllPassBeside (map at mid.vertices) (faces_of mid.mesh) [] k
+passes_beside at old ready mid v k n legal same vertices is made =
+    let here : IsDelaunayTriangulation at (λ _. []) (state_of ready) = subst (IsDelaunayTriangulation at (λ _. [])) (sym same) legal in
+    subst (λ (ps : List Point). AllPassBeside ps (faces_of mid.mesh) [] k) (sym (ap (map at) vertices ∙ map-append at ready.vertices (v ∷ [])))
+    (made_at_leaves (map at ready.vertices) (at v) (faces_of ready.mesh) (faces_of mid.mesh) (outer_of ready.mesh) [] [] k here.kept.shape (λ a b c d f g free _. here.passing a b c d f g free)
+    (subst (λ (x : ℕ). MakesFacesAt x (faces_of ready.mesh) (faces_of mid.mesh)) (sym is) made) (λ a b h. absurd (none_joined a b h)))
