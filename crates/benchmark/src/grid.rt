@@ -4,17 +4,14 @@ ghost use Rattle.delaunay_core.specs.Place.{place_of};
 ghost use Rattle.benchmark.specs.Small.{IsSmall};
 
 use crate::small_tests::SmallTests;
-use delaunay_core::math::InsertionError;
-use delaunay_core::point::Point2;
-use delaunay_edit::TriangulationCore;
-use delaunay_legalization::NoConstraints;
+use spade_delaunay::{DelaunayTriangulation, InsertionError, Point2};
 use std::alloc::Global;
 use std::marker::Model;
 
 /// A triangulation whose vertices have coordinates from 0 to 1023.
 #[derive(Drop)]
 pub(crate) struct Grid {
-    core: TriangulationCore<Point2<i64>, (), (), (), NoConstraints>,
+    triangulation: DelaunayTriangulation<Point2<i64>>,
 }
 
 impl Model for Grid {
@@ -25,9 +22,9 @@ impl Model for Grid {
 
     ghost Value = { State (Point2 ℤ) ⊤ ⊤ ⊤ };
 
-    ghost view = { λ g. g.core };
+    ghost view = { λ g. g.triangulation };
 
-    ghost invariant = { λ g. AreSmall g.core.vertices };
+    ghost invariant = { λ g. AreSmall g.triangulation.vertices };
 }
 
 impl Grid {
@@ -36,7 +33,7 @@ impl Grid {
         ensures { result.vertices ≡ [] }
     {
         Grid {
-            core: TriangulationCore::new(alloc),
+            triangulation: DelaunayTriangulation::new(alloc),
         }
     }
 
@@ -44,9 +41,9 @@ impl Grid {
     pub(crate) fn insert(&mut self, point: Point2<i64>) -> Result<u64, InsertionError>
         requires { IsSmall (place_of (λ z. z) point) }
     {
-        let _ = self.core.num_vertices();
+        self.triangulation.recall_invariant();
         let mut flips = 0;
-        match self.core.insert_counting(point, &SmallTests, &mut flips) {
+        match self.triangulation.insert_counting(point, &SmallTests, &mut flips) {
             Ok(_) => Ok(flips),
             Err(error) => Err(error),
         }
@@ -57,9 +54,9 @@ impl Grid {
         ensures { result.0 ≡ length self.now.vertices }
     {
         (
-            self.core.num_vertices(),
-            self.core.num_undirected_edges(),
-            self.core.num_inner_faces(),
+            self.triangulation.num_vertices(),
+            self.triangulation.num_undirected_edges(),
+            self.triangulation.num_inner_faces(),
         )
     }
 }

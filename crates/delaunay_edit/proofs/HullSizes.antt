@@ -21,7 +21,7 @@ use Rattle.delaunay_legalization.specs.Shape.{IsTriangulated}
 use Rattle.delaunay_edit.specs.Hull.{HasHullSize}
 use Rattle.delaunay_edit.proofs.Counts.{count_of_edges, count_of_faces}
 use Rattle.delaunay_edit.proofs.Edges.{edge_joins}
-use Rattle.delaunay_edit.proofs.MeshParts.{outer_bare}
+use Rattle.delaunay_legalization.proofs.MeshParts.{outer_bare}
 
 each_once : (points : List Point) (faces : List Face) (outer : List (ℕ × ℕ)) → IsMesh points faces outer → AllPairs (λ d e. d ≢ e) outer
 each_once points faces outer (inl s) = s.once

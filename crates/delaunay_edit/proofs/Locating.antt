@@ -28,7 +28,7 @@ use Rattle.delaunay_legalization.specs.Shape.{IsTriangulated}
 use Rattle.delaunay_edit.specs.Location.{Locates, IsApart, IsClearOfEdge, IsInsideFaceOf, StartsNearest}
 use Rattle.delaunay_edit.proofs.Edges.{joins_edge, Contains-map_from}
 use Rattle.delaunay_legalization.proofs.Shapes.{laid_out_distinct}
-use Rattle.delaunay_edit.proofs.MeshParts.{mesh_edge, mesh_face, no_side}
+use Rattle.delaunay_legalization.proofs.MeshParts.{mesh_edge, mesh_face, no_side}
 use Rattle.delaunay_edit.proofs.Distances.{nearer_of_within}
 
 same_number : (a b : ℤ) → a *ℤ pos 1 ≡ b *ℤ pos 1 → b ≡ a

@@ -1,6 +1,9 @@
 pub mod Location
 pub mod Elements
 pub mod Data
-pub mod Joining
 pub mod Hull
 pub mod Removal
+pub mod Headline
+pub mod Edits
+pub mod Constrained
+pub mod Entry

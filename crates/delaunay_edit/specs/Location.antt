@@ -11,7 +11,7 @@ use Rattle.plane.specs.Tiling.{IsEdge, IsFace, HasFace}
 use Rattle.plane.specs.Location.{Location, IsLocation, on_vertex, on_edge, on_face, outside_hull, no_triangulation}
 use Rattle.delaunay_edit.specs.declared.position_in_triangulation.PositionInTriangulation.{PositionInTriangulation}
 use Rattle.delaunay_edit.specs.declared.position_in_triangulation.PositionInTriangulation.TheVariants.{OnVertex, OnEdge, OnFace, OutsideOfConvexHull, NoTriangulation}
-use Rattle.delaunay_legalization.specs.Known.{point_at}
+pub use Rattle.delaunay_legalization.specs.Parts.{IsApart, IsWithinEdge, IsInsideFaceOf, IsMeshEdge, IsMeshFace}
 use Rattle.mesh_embedding.specs.Drawn.{drawn}
 
 abbrev pub location_of : Mesh → PositionInTriangulation → Location
@@ -34,14 +34,6 @@ pub record Locates (points : List Point) (m : Mesh) (p : Point) (answer : Positi
   pub handle : HasHandle m answer
   pub location : IsLocation (drawn points m) (whole p) (location_of m answer)
 
--- p is at none of the points
-pub record IsApart (points : List Point) (p : Point) : Type 0 where
-  pub apart : (k : ℕ) → k < length points → ¬ (point_at points k ≡ p)
-
--- p is strictly within directed edge e
-abbrev pub IsWithinEdge : List Point → Mesh → Point → ℕ → Type 0
-IsWithinEdge points m p e = WithinSegment (place points (origin m e)) (place points (origin m (rev e))) (whole p)
-
 -- directed edge e has the outer face on its left, and p strictly on its left
 abbrev pub IsLeftOfEdge : List Point → Mesh → Point → ℕ → Type 0
 IsLeftOfEdge points m p e = (face m e ≡ 0) × TurnsLeft (place points (origin m e)) (place points (origin m (rev e))) (whole p)
@@ -51,32 +43,10 @@ pub record IsClearOfEdge (points : List Point) (m : Mesh) (p : Point) (e : ℕ) 
   pub not_within : ¬ IsWithinEdge points m p e
   pub not_left : ¬ IsLeftOfEdge points m p e
 
--- p is strictly inside the triangle of the face on the left of directed edge e
-abbrev pub IsInsideFaceOf : List Point → Mesh → Point → ℕ → Type 0
-IsInsideFaceOf points m p e = let t = triangle_at m e in InsideTriangle (place points t.first) (place points t.second) (place points t.third) (whole p)
-
 -- no directed edge starts nearer to p than e does
 pub record StartsNearest (points : List Point) (m : Mesh) (p : Point) (e : ℕ) : Type 0 where
   pub within : e < length m.half_edges
   pub nearest : (h : ℕ) → h < length m.half_edges → gap (whole p) (place points (origin m e)) ≤ℤ gap (whole p) (place points (origin m h))
-
--- what is known of the ends of directed edge e
-pub record IsMeshEdge (points : List Point) (m : Mesh) (e : ℕ) : Type 0 where
-  pub within : e < length m.half_edges
-  pub source : origin m e < length points
-  pub source_in_range : InRange (point_at points (origin m e))
-  pub target : origin m (rev e) < length points
-  pub joined : IsEdge (drawn points m) (origin m e) (origin m (rev e))
-  pub apart : point_at points (origin m e) ≢ point_at points (origin m (rev e))
-  pub bare : face m e ≡ 0 → ¬ HasFace (drawn points m) (origin m e) (origin m (rev e))
-
--- what is known of the corners of inner face f
-pub record IsMeshFace (points : List Point) (m : Mesh) (f : ℕ) : Type 0 where
-  pub first : origin m (face_edge m f) < length points
-  pub second : origin m (next m (face_edge m f)) < length points
-  pub third : origin m (prev m (face_edge m f)) < length points
-  pub listed : IsFace (drawn points m) (origin m (face_edge m f)) (origin m (next m (face_edge m f))) (origin m (prev m (face_edge m f)))
-  pub turning : TurnsLeft (place points (origin m (face_edge m f))) (place points (origin m (next m (face_edge m f)))) (place points (origin m (prev m (face_edge m f))))
 
 -- the edge that the answer names has p strictly on its left
 abbrev pub IsLeftOfPlace : List Point → Mesh → Point → PositionInTriangulation → Type 0

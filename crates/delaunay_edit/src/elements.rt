@@ -2,7 +2,7 @@
 ghost use Rattle.std.specs.Prelude.{◌≡◌, ◌+◌, ◌-◌, ◌*◌, ◌<◌, ◌≤◌, length};
 ghost use Rattle.half_edge_views.specs.Left.{vertices_left, faces_left};
 ghost use Rattle.delaunay_edit.specs.Elements.{GivesElements};
-ghost use Rattle.delaunay_edit.specs.Hull.{HasHullSize};
+ghost use Rattle.delaunay_edit.specs.Hull.{CountsHullEdges};
 ghost use Rattle.delaunay_legalization.specs.State.{state_of, triangulation_of};
 
 use crate::triangulation_core::TriangulationCore;
@@ -12,8 +12,16 @@ use half_edge_mesh::{FixedDirectedEdgeHandle, FixedFaceHandle, FixedVertexHandle
 use half_edge_views::{
     DirectedEdgeHandle, FaceHandle, FaceIterator, MeshViews, VertexHandle, VertexIterator,
 };
+use hint_generators::HintGenerator;
 
-impl<V: HasPosition, DE, UE, F, M: ConstraintMarker<UE>> TriangulationCore<V, DE, UE, F, M> {
+impl<
+    V: HasPosition,
+    DE,
+    UE,
+    F,
+    L: HintGenerator<V::Scalar>,
+    M: ConstraintMarker<UE>,
+> TriangulationCore<V, DE, UE, F, L, M> {
     pub fn num_undirected_edges(&self) -> usize
         ensures value { result ≡ length (triangulation_of V.place self.now).edges }
         ensures values { result ≡ length self.now.undirected }
@@ -47,13 +55,9 @@ impl<V: HasPosition, DE, UE, F, M: ConstraintMarker<UE>> TriangulationCore<V, DE
 
     /// How many directed edges have the outer face on their left. On one line each edge counts in both directions.
     pub fn convex_hull_size(&self) -> usize
-        ensures hull { HasHullSize (triangulation_of V.place self.now) result }
-        ensures spread { 0 < length self.now.faces → length self.now.undirected + result + 3 ≡ 3 * length self.now.vertices }
-        ensures spread_faces { 0 < length self.now.faces → length self.now.faces + result + 2 ≡ 2 * length self.now.vertices }
-        ensures line { length self.now.faces ≡ 0 → result ≡ 2 * (length self.now.vertices - 1) }
-        ensures line_edges { length self.now.faces ≡ 0 → length self.now.undirected ≡ length self.now.vertices - 1 }
+        ensures { CountsHullEdges V.place self.now result }
     {
-        let _ = self.num_vertices();
+        self.recall_invariant();
         self.num_directed_edges() - 3 * self.num_inner_faces()
     }
 

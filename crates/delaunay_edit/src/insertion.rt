@@ -1,47 +1,40 @@
 //! New vertices, and new data at a known position.
-ghost use Rattle.std.specs.Prelude.{◌≡◌, ◌↔◌, ℕ, ◌+◌, ◌*◌, ◌<◌, ◌++◌, ◌∷◌, [], length, map, All, IsTrue, IsOk, IsErrOf, IfOk, IfErr, OnErr, OnOk, slice_set};
-ghost use Rattle.half_edge_links.specs.Room.{HasRoomFor};
+ghost use Rattle.std.specs.Prelude.{◌≡◌, ◌↔◌, ℕ, ◌+◌, ◌*◌, ◌<◌, ◌++◌, ◌∷◌, [], length, map, All, IsTrue, IsErrOf, IfOk, OnErr, OnOk};
 ghost use Rattle.plane.specs.Tests.{InRange};
-ghost use Rattle.plane.specs.Plain.{Inserts};
-ghost use Rattle.plane.specs.Tiling.{IsFace, IsTiling};
-ghost use Rattle.plane.specs.Delaunay.{IsConstrainedDelaunay, IsStrictlyEmpty};
 ghost use Rattle.delaunay_core.specs.declared.math.InsertionError.TheVariants.{TooLarge, OutOfMemory, OutOfIndexes};
-ghost use Rattle.delaunay_edit.specs.Data.{KeepsData};
-ghost use Rattle.delaunay_legalization.specs.Known.{IsKnown, point_at};
-ghost use Rattle.delaunay_edit.specs.Location.{HasHandle, IsApart, IsLeftOfPlace, Locates};
 ghost use Rattle.delaunay_legalization.specs.Flips.{CountsFlips, FlipsFit};
-ghost use Rattle.delaunay_legalization.specs.State.{state_of, points_and_constraints, triangulation_of};
+ghost use Rattle.delaunay_edit.specs.Constrained.{none};
+ghost use Rattle.delaunay_edit.specs.Data.{KeepsData};
+ghost use Rattle.delaunay_edit.specs.Edits.{InsertsVertex};
+ghost use Rattle.delaunay_edit.specs.Entry.{IsEntry, IsVacant};
+ghost use Rattle.delaunay_edit.specs.Headline.{AreSites, IsDelaunay};
+ghost use Rattle.delaunay_edit.specs.Location.{HasHandle, IsLeftOfPlace};
 
+use crate::delaunay_triangulation::DelaunayTriangulation;
 use crate::insertion_cases::insert_at;
 use crate::position_in_triangulation::PositionInTriangulation;
-use crate::triangulation_core::TriangulationCore;
 use delaunay_core::math::{InsertionError, PlaneTests, validate_vertex};
 use delaunay_core::point::HasPosition;
+use delaunay_insertion::reserve_for_vertex;
 use delaunay_legalization::{NoConstraints, legalize_star, reserve_for_edges, turns_left};
-use half_edge_mesh::{Dcel, FixedVertexHandle, MAX_ELEMENTS, ReserveError};
+use half_edge_mesh::{FixedVertexHandle, MAX_ELEMENTS};
+use hint_generators::HintGenerator;
 
-// Makes room for one more vertex, with the edges and faces that it can bring.
-fn reserve_for_vertex<V, DE, UE, F>(dcel: &mut Dcel<V, DE, UE, F>) -> Result<(), InsertionError>
-    ensures same { state_of dcel.new ≡ state_of dcel.old }
-    ensures full { IsErrOf result OutOfIndexes ↔ (MAX_ELEMENTS < 6 * (length dcel.old.vertices + 1)) }
-    ensures not_too_large { ¬ IsErrOf result TooLarge }
-    ensures ok { OnOk result (HasRoomFor dcel.new.room (length dcel.old.vertices + 1) (3 * (length dcel.old.vertices + 1)) (2 * (length dcel.old.vertices + 1))) }
-{
-    let vertices = dcel.num_vertices() + 1;
-    match dcel.reserve_capacity(vertices, 3 * vertices, 2 * vertices) {
-        Ok(()) => Ok(()),
-        Err(ReserveError::TooMany) => Err(InsertionError::OutOfIndexes),
-        Err(ReserveError::OutOfMemory) => Err(InsertionError::OutOfMemory),
-    }
+/// What is at the position of a value.
+pub(crate) enum Entry {
+    /// This vertex.
+    Occupied(FixedVertexHandle),
+    /// No vertex. The location of the position, and whether the position is strictly on the left of the edge that it names.
+    Vacant(PositionInTriangulation, bool),
 }
 
-impl<V: HasPosition + Drop, DE: Default, UE: Default, F: Default> TriangulationCore<
-    V,
-    DE,
-    UE,
-    F,
-    NoConstraints,
-> {
+impl<
+    V: HasPosition + Drop,
+    DE: Default,
+    UE: Default,
+    F: Default,
+    L: HintGenerator<V::Scalar>,
+> DelaunayTriangulation<V, DE, UE, F, L> {
     // The new last vertex, with the edges of the faces at it tested, or a refusal that changes nothing.
     fn append<P: PlaneTests<V::Scalar>>(
         &mut self,
@@ -52,9 +45,7 @@ impl<V: HasPosition + Drop, DE: Default, UE: Default, F: Default> TriangulationC
         flips: &mut u64,
     ) -> Result<FixedVertexHandle, InsertionError>
         requires in_range { InRange (V.place value) }
-        requires apart { IsApart (map V.place self.old.vertices) (V.place value) }
-        requires location { Locates (map V.place self.old.vertices) self.old.mesh (V.place value) location }
-        requires turns { IsTrue turns ↔ IsLeftOfPlace (map V.place self.old.vertices) self.old.mesh (V.place value) location }
+        requires vacant { IsVacant (map V.place self.old.vertices) self.old.mesh (V.place value) location turns }
         requires sites { All (P.sites tests.now) (map V.place self.old.vertices) }
         requires new_site { P.sites tests.now (V.place value) }
         requires fits { FlipsFit (length self.old.vertices + 1) flips.old }
@@ -92,7 +83,7 @@ impl<V: HasPosition + Drop, DE: Default, UE: Default, F: Default> TriangulationC
         requires covered { P.covered tests.now (V.place value.now) }
         ensures { IsTrue result ↔ IsLeftOfPlace (map V.place self.now.vertices) self.now.mesh (V.place value.now) location.now }
     {
-        let _ = self.num_vertices();
+        self.recall_invariant();
         match *location {
             PositionInTriangulation::OutsideOfConvexHull(edge) => {
                 let (from, to) = self.ends_of(edge);
@@ -103,54 +94,37 @@ impl<V: HasPosition + Drop, DE: Default, UE: Default, F: Default> TriangulationC
         }
     }
 
-    // The vertex at the position of a value, or else the location of that position, and whether it is strictly on the
-    // left of the edge that the location names.
-    fn find<P: PlaneTests<V::Scalar>>(
-        &self,
-        value: &V,
-        tests: &P,
-    ) -> Result<FixedVertexHandle, (PositionInTriangulation, bool)>
+    // What is at the position of a value.
+    fn entry<P: PlaneTests<V::Scalar>>(&self, value: &V, tests: &P) -> Entry
         requires sites { All (P.sites tests.now) (map V.place self.now.vertices) }
         requires covered { P.covered tests.now (V.place value.now) }
-        ensures known { IfOk result (λ i. (i < length self.now.vertices) × (point_at (map V.place self.now.vertices) i ≡ V.place value.now)) }
-        ensures apart { OnErr result (IsApart (map V.place self.now.vertices) (V.place value.now)) }
-        ensures location { IfErr result (λ e. Locates (map V.place self.now.vertices) self.now.mesh (V.place value.now) e.0) }
-        ensures turns { IfErr result (λ e. IsTrue e.1 ↔ IsLeftOfPlace (map V.place self.now.vertices) self.now.mesh (V.place value.now) e.0) }
+        ensures { IsEntry V.place self.now (V.place value.now) result }
     {
         match self.vertex_at(value.position()) {
-            Some(vertex) => Ok(vertex),
+            Some(vertex) => Entry::Occupied(vertex),
             None => {
                 let location = self.locate_apart(value.position(), tests);
                 let turns = self.is_left_of(&location, value, tests);
-                Err((location, turns))
+                Entry::Vacant(location, turns)
             }
         }
     }
 
-    /// Inserts a vertex and gives its handle, or gives in this order `TooLarge` where a coordinate is out of range, the
-    /// handle of the vertex at its position, which it replaces, `OutOfIndexes` where the mesh is full, and `OutOfMemory`
-    /// where memory was refused. A refused vertex is dropped, and nothing else changes.
+    /// Inserts a vertex and gives its handle. The first of these that applies decides: `TooLarge` where a coordinate is out
+    /// of range; the handle of the vertex at its position, which it replaces; `OutOfIndexes` where the mesh is full;
+    /// `OutOfMemory` where memory was refused; else the handle of the new last vertex. A refused vertex is dropped, and
+    /// nothing else changes.
     pub fn insert<P: PlaneTests<V::Scalar>>(
         &mut self,
         value: V,
         tests: &P,
     ) -> Result<FixedVertexHandle, InsertionError>
-        requires sites { All (P.sites tests.now) (map V.place self.old.vertices) }
+        requires sites { AreSites V.place (P.sites tests.now) self.old.vertices }
         requires new_site { InRange (V.place value) → P.sites tests.now (V.place value) }
-
-        ensures too_large { IsErrOf result TooLarge ↔ ¬ InRange (V.place value) }
-        ensures known { InRange (V.place value) → IsKnown (map V.place self.old.vertices) (V.place value) → IsOk result }
-        ensures full { IsErrOf result OutOfIndexes ↔ (InRange (V.place value) × (¬ IsKnown (map V.place self.old.vertices) (V.place value)) × (MAX_ELEMENTS < 6 * (length self.old.vertices + 1))) }
-        ensures ok { IfOk result (λ i. Inserts V.place (points_and_constraints self.old) (points_and_constraints self.new) value i) }
-        ensures replaced { IsKnown (map V.place self.old.vertices) (V.place value) → IfOk result (λ i. self.new ≡ record self.old { vertices = slice_set self.old.vertices i value }) }
-        ensures tiling { IsTiling (triangulation_of V.place self.new) }
-        ensures delaunay { IsConstrainedDelaunay (triangulation_of V.place self.new) [] }
-        ensures empty_triples { (i j k : ℕ) → IsStrictlyEmpty (triangulation_of V.place self.new) i j k → IsFace (triangulation_of V.place self.new) i j k }
-        ensures outer { self.new.outer ≡ self.old.outer }
-        ensures data { OnOk result (KeepsData self.old self.new) }
-        ensures err { OnErr result (self.new ≡ self.old) }
+        ensures inserts { InsertsVertex V.place none value result self.old self.new }
+        ensures headline { IsDelaunay V.place none self.new }
     {
-        let _ = self.num_vertices();
+        self.recall_invariant();
         let mut flips = 0;
         self.insert_counting(value, tests, &mut flips)
     }
@@ -162,34 +136,23 @@ impl<V: HasPosition + Drop, DE: Default, UE: Default, F: Default> TriangulationC
         tests: &P,
         flips: &mut u64,
     ) -> Result<FixedVertexHandle, InsertionError>
-        requires sites { All (P.sites tests.now) (map V.place self.old.vertices) }
+        requires sites { AreSites V.place (P.sites tests.now) self.old.vertices }
         requires new_site { InRange (V.place value) → P.sites tests.now (V.place value) }
         requires fits { FlipsFit (length self.old.vertices + 1) flips.old }
-
-        ensures too_large { IsErrOf result TooLarge ↔ ¬ InRange (V.place value) }
-        ensures known { InRange (V.place value) → IsKnown (map V.place self.old.vertices) (V.place value) → IsOk result }
-        ensures full { IsErrOf result OutOfIndexes ↔ (InRange (V.place value) × (¬ IsKnown (map V.place self.old.vertices) (V.place value)) × (MAX_ELEMENTS < 6 * (length self.old.vertices + 1))) }
-        ensures ok { IfOk result (λ i. Inserts V.place (points_and_constraints self.old) (points_and_constraints self.new) value i) }
-        ensures replaced { IsKnown (map V.place self.old.vertices) (V.place value) → IfOk result (λ i. self.new ≡ record self.old { vertices = slice_set self.old.vertices i value }) }
-        ensures tiling { IsTiling (triangulation_of V.place self.new) }
-        ensures delaunay { IsConstrainedDelaunay (triangulation_of V.place self.new) [] }
-        ensures empty_triples { (i j k : ℕ) → IsStrictlyEmpty (triangulation_of V.place self.new) i j k → IsFace (triangulation_of V.place self.new) i j k }
-        ensures outer { self.new.outer ≡ self.old.outer }
-        ensures data { OnOk result (KeepsData self.old self.new) }
-        ensures err { OnErr result (self.new ≡ self.old) }
+        ensures inserts { InsertsVertex V.place none value result self.old self.new }
+        ensures headline { IsDelaunay V.place none self.new }
         ensures counted { CountsFlips (length self.new.vertices) flips.old flips.new }
     {
-        let _ = self.num_vertices();
+        self.recall_invariant();
         validate_vertex(&value)?;
-        match self.find(&value, tests) {
-            Ok(vertex) => {
+        match self.entry(&value, tests) {
+            Entry::Occupied(vertex) => {
                 let _ = self.replace_vertex(vertex, value);
-                let _ = self.num_vertices();
                 Ok(vertex)
             }
-            Err((location, turns)) => {
+            Entry::Vacant(location, turns) => {
                 let appended = self.append(location, turns, value, tests, flips);
-                let _ = self.num_vertices();
+                self.recall_invariant();
                 appended
             }
         }

@@ -1,17 +1,18 @@
-//! The edits and queries that plain and constrained triangulations share.
+//! The struct that plain and constrained triangulations are names of, with its edits and queries.
 #![tactic(auto)]
 
+mod cdt;
+mod delaunay_triangulation;
 mod elements;
-mod constraint_edges;
 mod insertion;
 mod insertion_cases;
-mod insertion_line;
-mod insertion_outside;
 mod location;
 mod nearest_vertex;
 mod position_in_triangulation;
 mod removal;
 mod triangulation_core;
 
+pub use cdt::ConstrainedDelaunayTriangulation;
+pub use delaunay_triangulation::DelaunayTriangulation;
 pub use position_in_triangulation::PositionInTriangulation;
 pub use triangulation_core::TriangulationCore;

@@ -6,7 +6,9 @@ ghost use Rattle.plane.specs.Circle.{gap};
 ghost use Rattle.plane.specs.Pairs.{place};
 ghost use Rattle.plane.specs.Tests.{InRange};
 ghost use Rattle.delaunay_core.specs.Place.{place_of};
-ghost use Rattle.delaunay_legalization.specs.Known.{point_at};
+ghost use Rattle.delaunay_legalization.specs.Known.{IsKnown, point_at};
+ghost use Rattle.delaunay_edit.specs.Elements.{FindsLocation, IsVertexAt};
+ghost use Rattle.delaunay_edit.specs.Headline.{AreSites};
 ghost use Rattle.delaunay_edit.specs.Location.{Locates, IsApart, IsClearOfEdge, IsInsideFaceOf, StartsNearest};
 
 use crate::position_in_triangulation::PositionInTriangulation;
@@ -17,10 +19,19 @@ use delaunay_legalization::{
     ConstraintMarker, is_same_point, is_strictly_inside, is_strictly_within, turns_left,
 };
 use half_edge_mesh::{FixedDirectedEdgeHandle, FixedFaceHandle, FixedVertexHandle};
+use half_edge_views::VertexHandle;
+use hint_generators::HintGenerator;
 
-impl<V: HasPosition, DE, UE, F, M: ConstraintMarker<UE>> TriangulationCore<V, DE, UE, F, M> {
-    /// The vertex at a position.
-    pub fn vertex_at(&self, point: Point2<V::Scalar>) -> Option<FixedVertexHandle>
+impl<
+    V: HasPosition,
+    DE,
+    UE,
+    F,
+    L: HintGenerator<V::Scalar>,
+    M: ConstraintMarker<UE>,
+> TriangulationCore<V, DE, UE, F, L, M> {
+    // The vertex at a position.
+    pub(crate) fn vertex_at(&self, point: Point2<V::Scalar>) -> Option<FixedVertexHandle>
         ensures { let points = map V.place self.now.vertices in let p = place_of V.Scalar.whole point in MatchOption result (IsApart points p) (λ v. (v < length self.now.vertices) × (point_at points v ≡ p)) }
     {
         for index in 0..self.num_vertices() {
@@ -152,6 +163,7 @@ impl<V: HasPosition, DE, UE, F, M: ConstraintMarker<UE>> TriangulationCore<V, DE
         requires apart { IsApart (map V.place self.now.vertices) (place_of V.Scalar.whole point) }
         ensures { Locates (map V.place self.now.vertices) self.now.mesh (place_of V.Scalar.whole point) result }
     {
+        self.recall_invariant();
         if self.num_vertices() < 2 {
             return PositionInTriangulation::NoTriangulation;
         }
@@ -164,8 +176,8 @@ impl<V: HasPosition, DE, UE, F, M: ConstraintMarker<UE>> TriangulationCore<V, DE
         }
     }
 
-    /// Where a position is.
-    pub fn locate<P: PlaneTests<V::Scalar>>(
+    // Where a position is.
+    fn find_location<P: PlaneTests<V::Scalar>>(
         &self,
         point: Point2<V::Scalar>,
         tests: &P,
@@ -174,10 +186,44 @@ impl<V: HasPosition, DE, UE, F, M: ConstraintMarker<UE>> TriangulationCore<V, DE
         requires covered { P.covered tests.now (place_of V.Scalar.whole point) }
         ensures { Locates (map V.place self.now.vertices) self.now.mesh (place_of V.Scalar.whole point) result }
     {
-        let _ = self.num_vertices();
+        self.recall_invariant();
         match self.vertex_at(point) {
             Some(vertex) => PositionInTriangulation::OnVertex(vertex),
             None => self.locate_apart(point, tests),
+        }
+    }
+
+    /// Where a position is that the tests cover: on a vertex, on an edge, in a face, outside, or, without a triangulation,
+    /// at no vertex.
+    pub fn locate<P: PlaneTests<V::Scalar>>(
+        &self,
+        point: Point2<V::Scalar>,
+        tests: &P,
+    ) -> PositionInTriangulation
+        requires sites { AreSites V.place (P.sites tests.now) self.now.vertices }
+        requires covered { P.covered tests.now (place_of V.Scalar.whole point) }
+        ensures { FindsLocation V.place self.now (place_of V.Scalar.whole point) result }
+    {
+        self.recall_invariant();
+        self.find_location(point, tests)
+    }
+
+    /// The vertex at a position that the tests cover, if there is one.
+    pub fn locate_vertex<P: PlaneTests<V::Scalar>>(
+        &self,
+        point: Point2<V::Scalar>,
+        tests: &P,
+    ) -> Option<VertexHandle<'_, V, DE, UE, F>>
+        requires sites { AreSites V.place (P.sites tests.now) self.now.vertices }
+        requires covered { P.covered tests.now (place_of V.Scalar.whole point) }
+        ensures { let p = place_of V.Scalar.whole point in
+            MatchOption result (¬ IsKnown (map V.place self.now.vertices) p)
+            (λ v. IsVertexAt V.place self.now p v.dcel.now v.index) }
+    {
+        self.recall_invariant();
+        match self.locate(point, tests) {
+            PositionInTriangulation::OnVertex(vertex) => Some(self.vertex(vertex)),
+            _ => None,
         }
     }
 }

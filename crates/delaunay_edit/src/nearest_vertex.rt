@@ -7,20 +7,30 @@ ghost use Rattle.plane.specs.Shape.{IsNearest};
 ghost use Rattle.plane.specs.Tests.{InRange};
 ghost use Rattle.delaunay_core.specs.Place.{place_of};
 ghost use Rattle.delaunay_legalization.specs.State.{triangulation_of};
+ghost use Rattle.delaunay_edit.specs.Elements.{IsNearestVertex};
+ghost use Rattle.delaunay_edit.specs.Headline.{AreSites};
 
-use crate::triangulation_core::TriangulationCore;
+use crate::delaunay_triangulation::DelaunayTriangulation;
+use delaunay_core::math::PlaneTests;
 use delaunay_core::point::{HasPosition, Point2};
-use delaunay_legalization::ConstraintMarker;
 use half_edge_mesh::FixedVertexHandle;
+use half_edge_views::VertexHandle;
+use hint_generators::HintGenerator;
 
-impl<V: HasPosition, DE, UE, F, M: ConstraintMarker<UE>> TriangulationCore<V, DE, UE, F, M> {
+impl<V: HasPosition, DE, UE, F, L: HintGenerator<V::Scalar>> DelaunayTriangulation<
+    V,
+    DE,
+    UE,
+    F,
+    L,
+> {
     // The squared distance from a position to a vertex.
     fn distance_2_to(&self, vertex: FixedVertexHandle, point: Point2<V::Scalar>) -> i64
         requires within { vertex < length self.now.vertices }
         requires in_range { InRange (place_of V.Scalar.whole point) }
         ensures { result ≡ gap (fraction (place_of V.Scalar.whole point)) (place (map V.place self.now.vertices) vertex) }
     {
-        let _ = self.num_vertices();
+        self.recall_invariant();
         point.distance_2(self.position_of(vertex))
     }
 
@@ -55,16 +65,22 @@ impl<V: HasPosition, DE, UE, F, M: ConstraintMarker<UE>> TriangulationCore<V, DE
         nearest
     }
 
-    /// A vertex that none is strictly nearer than to a position in range, unless there is no vertex. Of several it gives
-    /// the one of the least index.
-    pub fn nearest_neighbor(&self, point: Point2<V::Scalar>) -> Option<FixedVertexHandle>
-        requires in_range { InRange (place_of V.Scalar.whole point) }
-        ensures { MatchOption result (length self.now.vertices ≡ 0) (IsNearest (triangulation_of V.place self.now) (fraction (place_of V.Scalar.whole point))) }
+    /// A vertex that none is strictly nearer than to a position that the tests cover, unless there is no vertex. Of several
+    /// it gives the one of the least index. It takes no memory.
+    pub fn nearest_neighbor<P: PlaneTests<V::Scalar>>(
+        &self,
+        point: Point2<V::Scalar>,
+        _tests: &P,
+    ) -> Option<VertexHandle<'_, V, DE, UE, F>>
+        requires sites { AreSites V.place (P.sites _tests.now) self.now.vertices }
+        requires covered { P.covered _tests.now (place_of V.Scalar.whole point) }
+        ensures { MatchOption result (length self.now.vertices ≡ 0)
+            (λ v. IsNearestVertex V.place self.now (place_of V.Scalar.whole point) v.dcel.now v.index) }
     {
         if self.num_vertices() == 0 {
             None
         } else {
-            Some(self.nearest_vertex(point))
+            Some(self.vertex(self.nearest_vertex(point)))
         }
     }
 }

@@ -2,13 +2,10 @@
 ghost use Rattle.std.specs.Prelude.{◌≡◌, ◌↔◌, ℕ, ◌<◌, ◌≤◌, [], length, map, IsTrue};
 ghost use Rattle.half_edge_links.specs.Mesh.{empty, origin, rev, face, face_edge};
 ghost use Rattle.half_edge_links.specs.Triangles.{triangle_at};
-ghost use Rattle.plane.specs.Tiling.{IsTiling, IsFace};
-ghost use Rattle.plane.specs.Delaunay.{IsConstrainedDelaunay, IsStrictlyEmpty};
 ghost use Rattle.delaunay_core.specs.Place.{place_of};
-ghost use Rattle.delaunay_legalization.specs.State.{triangulation_of};
 ghost use Rattle.delaunay_legalization.specs.Constraints.{constraints_by};
 ghost use Rattle.delaunay_legalization.specs.Known.{point_at};
-ghost use Rattle.delaunay_legalization.specs.Shape.{IsTriangulated};
+ghost use Rattle.delaunay_edit.specs.Headline.{IsDelaunay, IsWellFormed};
 ghost use Rattle.delaunay_edit.specs.Location.{IsMeshEdge, IsMeshFace};
 
 use delaunay_core::point::{HasPosition, Point2};
@@ -18,6 +15,7 @@ use half_edge_mesh::{
     MAX_ELEMENTS,
 };
 use half_edge_views::MeshViews;
+use hint_generators::HintGenerator;
 use std::alloc::Global;
 use std::marker::{Model, PhantomData};
 
@@ -25,16 +23,25 @@ use std::marker::{Model, PhantomData};
 /// positions of one line to their neighbours. The constraints are the edges that the marker `M` finds by their data,
 /// and no face has a vertex strictly inside its circle that is seen from inside the face past the constraints.
 #[derive(Drop)]
-pub struct TriangulationCore<V: HasPosition, DE, UE, F, M: ConstraintMarker<UE>> {
+pub struct TriangulationCore<
+    V: HasPosition,
+    DE,
+    UE,
+    F,
+    L: HintGenerator<V::Scalar>,
+    M: ConstraintMarker<UE>,
+> {
     pub(crate) dcel: Dcel<V, DE, UE, F>,
     // The edges that a legalization has still to test: none between edits, but the room for them stays.
     pub(crate) work: Vec<FixedUndirectedEdgeHandle>,
     // Room for the sides opposite a vertex that a removal takes from the hull; what stands in it has no meaning.
     pub(crate) sides: Vec<FixedDirectedEdgeHandle>,
+    pub(crate) hint_generator: L,
     pub(crate) marks: PhantomData<M>,
 }
 
-impl<V: HasPosition, DE, UE, F, M: ConstraintMarker<UE>> Model for TriangulationCore<V, DE, UE, F, M> {
+impl<V: HasPosition, DE, UE, F, L: HintGenerator<V::Scalar>, M: ConstraintMarker<UE>> Model
+    for TriangulationCore<V, DE, UE, F, L, M> {
     ghost use Rattle.delaunay_legalization.specs.State.{State, state_of};
     ghost use Rattle.delaunay_legalization.specs.Shape.{IsDelaunayTriangulation};
 
@@ -45,7 +52,14 @@ impl<V: HasPosition, DE, UE, F, M: ConstraintMarker<UE>> Model for Triangulation
     ghost invariant = { λ c. IsDelaunayTriangulation V.place M.constraints (state_of c.dcel) };
 }
 
-impl<V: HasPosition, DE, UE, F, M: ConstraintMarker<UE>> TriangulationCore<V, DE, UE, F, M> {
+impl<
+    V: HasPosition,
+    DE,
+    UE,
+    F,
+    L: HintGenerator<V::Scalar>,
+    M: ConstraintMarker<UE>,
+> TriangulationCore<V, DE, UE, F, L, M> {
     /// No vertex, no edge, and the outer face with default data.
     pub fn new(alloc: Global) -> Self
     where
@@ -57,8 +71,7 @@ impl<V: HasPosition, DE, UE, F, M: ConstraintMarker<UE>> TriangulationCore<V, DE
         ensures outer { F.is_default result.outer }
         ensures faces { result.faces ≡ [] }
         ensures constraints { constraints_by M.constraints result ≡ [] }
-        ensures tiling { IsTiling (triangulation_of V.place result) }
-        ensures delaunay { IsConstrainedDelaunay (triangulation_of V.place result) [] }
+        ensures headline { IsDelaunay V.place M.constraints result }
     {
         let dcel = Dcel::new(alloc);
         let _ = dcel.num_vertices();
@@ -66,17 +79,21 @@ impl<V: HasPosition, DE, UE, F, M: ConstraintMarker<UE>> TriangulationCore<V, DE
             dcel,
             work: Vec::new(alloc),
             sides: Vec::new(alloc),
+            hint_generator: L::new(alloc),
             marks: PhantomData,
         }
+    }
+
+    /// Gives a proof what holds of each triangulation between edits. It does nothing when it runs.
+    pub fn recall_invariant(&self)
+        ensures { IsWellFormed V.place M.constraints self.now }
+    {
+        let _ = self.dcel.num_vertices();
     }
 
     pub fn num_vertices(&self) -> usize
         ensures value { result ≡ length self.now.vertices }
         ensures small { result ≤ MAX_ELEMENTS }
-        ensures kept { IsTriangulated V.place self.now }
-        ensures tiling { IsTiling (triangulation_of V.place self.now) }
-        ensures delaunay { IsConstrainedDelaunay (triangulation_of V.place self.now) (constraints_by M.constraints self.now) }
-        ensures empty_triples { constraints_by M.constraints self.now ≡ [] → (i j k : ℕ) → IsStrictlyEmpty (triangulation_of V.place self.now) i j k → IsFace (triangulation_of V.place self.now) i j k }
     {
         self.dcel.num_vertices()
     }

@@ -6,11 +6,9 @@ ghost use Rattle.triangulate_run.specs.Sheet.{IsSite};
 ghost use Rattle.library_tests.specs.Vertices.{position_of, AreSites};
 
 use crate::tagged_vertex::TaggedVertex;
-use delaunay_edit::TriangulationCore;
-use delaunay_legalization::NoConstraints;
 use delaunay_paths::{crosses_segment, make_edge, next_on_path};
 use half_edge_mesh::{Dcel, FixedDirectedEdgeHandle, FixedVertexHandle};
-use spade_delaunay::Point2;
+use spade_delaunay::{DelaunayTriangulation, Point2};
 use std::alloc::Global;
 use std::marker::Model;
 use triangulate_run::points::site_index_of;
@@ -23,7 +21,7 @@ pub type SheetMesh = Dcel<TaggedVertex, u32, u32, u32>;
 #[derive(Drop)]
 pub struct SheetPaths {
     sheet: Sheet,
-    core: TriangulationCore<TaggedVertex, u32, u32, u32, NoConstraints>,
+    triangulation: DelaunayTriangulation<TaggedVertex, u32, u32, u32>,
 }
 
 impl Model for SheetPaths {
@@ -36,9 +34,9 @@ impl Model for SheetPaths {
 
     ghost Value = { Sheet × State TaggedVertex ℕ ℕ ℕ };
 
-    ghost view = { λ s. (s.sheet, s.core) };
+    ghost view = { λ s. (s.sheet, s.triangulation) };
 
-    ghost invariant = { λ s. AreSites (IsSite s.sheet) s.core.vertices };
+    ghost invariant = { λ s. AreSites (IsSite s.sheet) s.triangulation.vertices };
 }
 
 impl SheetPaths {
@@ -46,7 +44,7 @@ impl SheetPaths {
     pub fn new(alloc: Global, sheet: Sheet) -> Self {
         SheetPaths {
             sheet,
-            core: TriangulationCore::new(alloc),
+            triangulation: DelaunayTriangulation::new(alloc),
         }
     }
 
@@ -56,7 +54,7 @@ impl SheetPaths {
             return false;
         }
         let vertex = TaggedVertex { position, tag: 0 };
-        match self.core.insert(vertex, &self.sheet) {
+        match self.triangulation.insert(vertex, &self.sheet) {
             Ok(_) => true,
             Err(_) => false,
         }
@@ -66,7 +64,7 @@ impl SheetPaths {
     fn ends(&self, from: u32, to: u32) -> Option<(FixedVertexHandle, FixedVertexHandle)>
         ensures { IfSome result (λ e. (e.0 ≢ e.1) × (e.0 < length self.now.1.vertices) × (e.1 < length self.now.1.vertices)) }
     {
-        let count = self.core.num_vertices();
+        let count = self.triangulation.num_vertices();
         if from == to || from as usize >= count || to as usize >= count {
             return None;
         }
@@ -83,8 +81,8 @@ impl SheetPaths {
         ensures shape { IsMesh (map position_of result.now.vertices) (faces_of result.now.mesh) (outer_of result.now.mesh) }
         ensures sites { AreSites (IsSite self.now.0) result.now.vertices }
     {
-        let _ = self.core.num_vertices();
-        self.core.vertex(vertex).dcel
+        self.triangulation.recall_invariant();
+        self.triangulation.vertex(vertex).dcel
     }
 
     /// The first vertex after its start on the segment between two different vertices, by their indexes.

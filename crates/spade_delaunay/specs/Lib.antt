@@ -1,1 +1,16 @@
-pub mod Constrained
+pub use Rattle.delaunay_core.specs.Place
+pub use Rattle.delaunay_legalization.specs.CdtEdge
+pub use Rattle.delaunay_legalization.specs.Constraints
+pub use Rattle.delaunay_legalization.specs.Flips
+pub use Rattle.delaunay_legalization.specs.Known
+pub use Rattle.delaunay_legalization.specs.Shape
+pub use Rattle.delaunay_legalization.specs.State
+pub use Rattle.delaunay_edit.specs.Constrained
+pub use Rattle.delaunay_edit.specs.Data
+pub use Rattle.delaunay_edit.specs.Edits
+pub use Rattle.delaunay_edit.specs.Elements
+pub use Rattle.delaunay_edit.specs.Headline
+pub use Rattle.delaunay_edit.specs.Hull
+pub use Rattle.delaunay_edit.specs.Location
+pub use Rattle.delaunay_edit.specs.Removal
+pub use Rattle.hint_generators.specs.Held

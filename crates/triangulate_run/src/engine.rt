@@ -53,7 +53,7 @@ impl<P: PlaneTests<i64>> Engine for PointEngine<'_, P> {
                 Reply::BadLine
             }
         };
-        let _ = self.triangulation.num_vertices();
+        self.triangulation.recall_invariant();
         reply
     }
 }
@@ -69,7 +69,7 @@ impl<'a, P: PlaneTests<i64>> PointEngine<'a, P> {
         ensures fits { Fits (stage_of result.triangulation) }
     {
         let triangulation = Triangulation::new(alloc);
-        let _ = triangulation.num_vertices();
+        triangulation.recall_invariant();
         PointEngine {
             triangulation,
             tests,
@@ -120,7 +120,7 @@ impl<'a, P: PlaneTests<i64>> PointEngine<'a, P> {
             return Reply::UnknownPoint;
         }
         let answer = self.triangulation.locate(point, self.tests);
-        let _ = self.triangulation.num_vertices();
+        self.triangulation.recall_invariant();
         location_reply(&self.triangulation, answer)
     }
 
@@ -131,7 +131,7 @@ impl<'a, P: PlaneTests<i64>> PointEngine<'a, P> {
         if index_of(self.points, point).is_none() {
             return Reply::UnknownPoint;
         }
-        let _ = self.triangulation.num_vertices();
+        self.triangulation.recall_invariant();
         match self.triangulation.nearest_neighbor(point, self.tests) {
             Some(vertex) => Reply::Distance(point.distance_2(*vertex.data())),
             None => Reply::NoNeighbor,
@@ -159,6 +159,7 @@ fn point_of(place: Coordinates) -> Point2<i64>
 fn counts_of(triangulation: &Triangulation) -> Reply
     ensures { MayCount (stage_of triangulation.now) result }
 {
+    triangulation.recall_invariant();
     Reply::Counts(
         triangulation.num_vertices() as u64,
         triangulation.num_undirected_edges() as u64,
@@ -168,13 +169,13 @@ fn counts_of(triangulation: &Triangulation) -> Reply
 }
 
 /// Vertices that are points and carry no further data.
-type Triangulation = DelaunayTriangulation<Point2<i64>, (), (), ()>;
+type Triangulation = DelaunayTriangulation<Point2<i64>>;
 
 /// All faces, sorted.
 fn faces_of(triangulation: &Triangulation, alloc: Global) -> Result<Vec<Corners>, AllocError>
     ensures { IfOk result (λ list. ListsFaces (triangulation_of position triangulation.now) list.items) }
 {
-    let _ = triangulation.num_vertices();
+    triangulation.recall_invariant();
     let mut faces = Vec::with_capacity(alloc, triangulation.num_inner_faces())?;
     for face in triangulation.inner_faces() {
         faces.push(corners_of(face))?;

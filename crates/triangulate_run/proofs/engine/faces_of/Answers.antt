@@ -60,7 +60,7 @@ returns c =
     let done = rows_end (row_at i.mesh.now.mesh) c.loop-face.faces.items i.rest _ (none_left i.mesh i.rest (i.left ∙ c.in-None.ensures.steps.0)) i.so_far in
     let all = done ∙ ap (λ m. map (row_at m) (range_with_len 1 (length c.args.triangulation.now.faces))) mesh_is ∙ rows_by_index c.args.triangulation.now.mesh (map position c.args.triangulation.now.vertices) (length c.args.triangulation.now.faces) many
     ∙ sym (twice c.args.triangulation.now.mesh (map position c.args.triangulation.now.vertices) (triangles c.args.triangulation.now.mesh)) in
-    let tiles = c.num_vertices.ensures.tiling in
+    let tiles = c.recall_invariant.ensures.headline.tiling in
     let list = c.sort_faces.new.faces.items in
     let apart = subst (λ (ys : List Corners). AllPairs (λ c d. c ≢ d) ys) (sym all) (rows_differ t tiles) in
     lists_faces t tiles list (subst (λ (ys : List Corners). IsPermutation ys list) all c.sort_faces.ensures.permutation) (c.in_ok-sort_faces.ensures.sorted apart)

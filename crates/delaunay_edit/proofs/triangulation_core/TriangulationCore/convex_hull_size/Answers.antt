@@ -4,31 +4,21 @@ use Rattle.delaunay_edit.proofs.triangulation_core.TriangulationCore.convex_hull
 
 pub overflow_sub-result : goal.overflow_sub-result
 overflow_sub-result g c =
-    let ways = sides_and_outer g.V.HasPosition.place c.args.self.now c.num_vertices.ensures.kept in
+    let ways = sides_and_outer g.V.HasPosition.place c.args.self.now c.recall_invariant.ensures.kept in
     omega (arith, ways, c.num_directed_edges.ensures.values, c.num_inner_faces.ensures.values)
 
-pub returns-clause-hull : goal.returns-clause-hull
-returns-clause-hull g c =
-    let ways = sides_and_outer g.V.HasPosition.place c.args.self.now c.num_vertices.ensures.kept in
-    hull_size g.V.HasPosition.place c.args.self.now c.num_vertices.ensures.kept _ (omega (arith, ways, c.num_directed_edges.ensures.values, c.num_inner_faces.ensures.values))
-
-pub returns-clause-spread : goal.returns-clause-spread
-returns-clause-spread g c = λ some.
-    let ways = sides_and_outer g.V.HasPosition.place c.args.self.now c.num_vertices.ensures.kept in
-    let count = spread_count g.V.HasPosition.place c.args.self.now c.num_vertices.ensures.kept some in
-    omega (arith, ways, count, c.num_directed_edges.ensures.values, c.num_inner_faces.ensures.values)
-
-pub returns-clause-line : goal.returns-clause-line
-returns-clause-line g c = λ none.
-    let ways = sides_and_outer g.V.HasPosition.place c.args.self.now c.num_vertices.ensures.kept in
-    let count = line_count g.V.HasPosition.place c.args.self.now c.num_vertices.ensures.kept none in
-    omega (arith, ways, count, c.num_directed_edges.ensures.values, c.num_inner_faces.ensures.values)
-
-pub returns-clause-spread_faces : goal.returns-clause-spread_faces
-returns-clause-spread_faces g c = λ some.
-    let ways = sides_and_outer g.V.HasPosition.place c.args.self.now c.num_vertices.ensures.kept in
-    let count = spread_faces_count g.V.HasPosition.place c.args.self.now c.num_vertices.ensures.kept some in
-    omega (arith, ways, count, c.num_directed_edges.ensures.values, c.num_inner_faces.ensures.values)
-
-pub returns-clause-line_edges : goal.returns-clause-line_edges
-returns-clause-line_edges g c = line_edges g.V.HasPosition.place c.args.self.now c.num_vertices.ensures.kept
+pub returns : goal.returns
+returns g c =
+    let at = g.V.HasPosition.place in
+    let s = c.args.self.now in
+    let kept = c.recall_invariant.ensures.kept in
+    let ways = sides_and_outer at s kept in
+    let directed = c.num_directed_edges.ensures.values in
+    let inner = c.num_inner_faces.ensures.values in
+    record {
+      hull = hull_size at s kept _ (omega (arith, ways, directed, inner));
+      spread = λ some. let count = spread_count at s kept some in omega (arith, ways, count, directed, inner);
+      spread_faces = λ some. let count = spread_faces_count at s kept some in omega (arith, ways, count, directed, inner);
+      line = λ none. let count = line_count at s kept none in omega (arith, ways, count, directed, inner);
+      line_edges = line_edges at s kept;
+    }

@@ -1,5 +1,5 @@
 use Rattle.delaunay_legalization.specs.State.{state_of}
-use Rattle.delaunay_edit.proofs.MeshParts.{mesh_edge}
+use Rattle.delaunay_legalization.proofs.MeshParts.{mesh_edge}
 use Rattle.delaunay_edit.proofs.triangulation_core.TriangulationCore.ends_of.Goals as goal
 
 pub returns-clause-edge : goal.returns-clause-edge

@@ -1,6 +1,11 @@
-use Rattle.delaunay_core.specs.Place.{place_of}
-use Rattle.delaunay_edit.proofs.Locating.{at_vertex}
+use Rattle.delaunay_edit.proofs.Counts.{element_if_handle}
 use Rattle.delaunay_edit.proofs.triangulation_core.TriangulationCore.locate.Goals as goal
 
-pub returns-in-Some : goal.returns-in-Some
-returns-in-Some g c = at_vertex g.V.HasPosition.place c.args.self.now c.num_vertices.ensures.kept (place_of g.V.Scalar.SpadeNum.whole c.args.point) c.in-Some.vertex c.in-Some.ensures.0 c.in-Some.ensures.1
+pub find_location-requires-clause-sites : goal.find_location-requires-clause-sites
+find_location-requires-clause-sites g c = c.requires.sites c.recall_invariant.ensures.in_range
+
+pub returns : goal.returns
+returns g c = record {
+  location = c.find_location.ensures.location;
+  element = element_if_handle g.V.HasPosition.place c.args.self.now c.recall_invariant.ensures.kept c.find_location.result c.find_location.ensures.handle;
+}

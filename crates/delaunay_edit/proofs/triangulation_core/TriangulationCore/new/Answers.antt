@@ -1,7 +1,6 @@
-use Rattle.std.proofs.Common.{subst, List, ℕ}
-use Rattle.plane.specs.Delaunay.{IsConstrainedDelaunay}
-use Rattle.delaunay_legalization.specs.State.{state_of, triangulation_of}
-use Rattle.delaunay_edit.proofs.Delaunay.{marked_constrained_delaunay, legal_empty, none_without_edges}
+use Rattle.delaunay_legalization.specs.State.{state_of}
+use Rattle.delaunay_edit.proofs.Delaunay.{legal_empty, none_without_edges}
+use Rattle.delaunay_edit.proofs.WellFormed.{is_delaunay}
 use Rattle.delaunay_edit.proofs.triangulation_core.TriangulationCore.new.Goals as goal
 
 pub invariant_of-result : goal.invariant_of-result
@@ -10,7 +9,5 @@ invariant_of-result g c = legal_empty g.V.HasPosition.place g.M.ConstraintMarker
 pub returns-clause-constraints : goal.returns-clause-constraints
 returns-clause-constraints g c = none_without_edges g.M.ConstraintMarker.marks g.M.ConstraintMarker.constraints g.met.M.ConstraintMarker.constraints_are_marked (state_of c.new-dcel.result) c.new-dcel.ensures.undirected
 
-pub returns-clause-delaunay : goal.returns-clause-delaunay
-returns-clause-delaunay g c =
-    subst (λ (cs : List (ℕ × ℕ)). IsConstrainedDelaunay (triangulation_of g.V.HasPosition.place (state_of c.new-dcel.result)) cs) (returns-clause-constraints g c)
-    (marked_constrained_delaunay g.V.HasPosition.place g.M.ConstraintMarker.marks g.M.ConstraintMarker.constraints g.met.M.ConstraintMarker.constraints_are_marked (state_of c.new-dcel.result) (invariant_of-result g c))
+pub returns-clause-headline : goal.returns-clause-headline
+returns-clause-headline g c = is_delaunay g.V.HasPosition.place g.M.ConstraintMarker.marks g.M.ConstraintMarker.constraints g.met.M.ConstraintMarker.constraints_are_marked (state_of c.new-dcel.result) (invariant_of-result g c)

@@ -9,6 +9,6 @@ pub invariant_of-self : goal.invariant_of-self
 invariant_of-self c =
     let sites = IsSite c.self.inside.sheet in
     elim c.match-remove.branch [
-      | in-Ok w ↦ sites_left position_of c.self.inside.triangulation c.remove.new.self _ w.in-Ok.value w.in-Ok.ensures.plain sites c.self.invariant
-      | in-Err w ↦ subst (λ vertices. AreSites sites vertices) (ap (λ s. s.vertices) (sym w.in-Err.ensures.err)) c.self.invariant
+      | in-Ok w ↦ sites_left position_of c.self.inside.triangulation c.remove.new.self _ w.in-Ok.value w.in-Ok.ensures.removes.plain sites c.self.invariant
+      | in-Err w ↦ subst (λ vertices. AreSites sites vertices) (ap (λ s. s.vertices) (sym w.in-Err.ensures.removes.err)) c.self.invariant
     ]

@@ -15,7 +15,7 @@ returns-in-Ok-clause-ready g c =
     record {
       points_covered = ready.points_covered;
       points_sites = ready.points_sites;
-      vertices_sites = elim c.in-Ok.ensures.ok [
+      vertices_sites = elim c.in-Ok.ensures.inserts.ok [
         | inl kept ↦ sites_kept sites _ _ (ap (map position) kept.vertices ∙ places_kept _ _ c.args.point kept.same) ready.vertices_sites
         | inr more ↦ sites_more sites _ _ c.args.point more.1.vertices site ready.vertices_sites
       ];
@@ -29,17 +29,17 @@ returns-in-Ok-clause-reply g c =
     let in_range = c.in_default.ensures.exactly.0 refl in
     let listed = listed_if_found c.args.self.now.points.now (position p) c.site_index_of.result c.if-is_none.ensures c.site_index_of.ensures in
     let index = c.from.ensures ∙ c.index.ensures in
-    elim c.in-Ok.ensures.ok [
+    elim c.in-Ok.ensures.inserts.ok [
       | inl kept ↦ inl (record {
         in_range = in_range;
         site = listed;
         replaced = subst (λ (i : ℕ). Replaces position (points_and_constraints old) (points_and_constraints new) i p) (sym index) kept;
         same = ap (λ ps. drawn ps new.mesh) (ap (map position) kept.vertices ∙ places_kept old.vertices _ p kept.same)
-            ∙ ap (drawn (map position old.vertices)) (mesh_kept old new _ (c.in-Ok.ensures.replaced (known_if_there old.vertices p _ kept.here kept.same)));
+            ∙ ap (drawn (map position old.vertices)) (mesh_kept old new _ (c.in-Ok.ensures.inserts.replaced (known_if_there old.vertices p _ kept.here kept.same)));
       })
       | inr more ↦ inr (record {
         new_site = record { in_range = in_range; site = listed; fresh = more.1.fresh };
-        room = λ full. (let no = c.insert.ensures.full.1 (in_range, unknown_if_fresh old.vertices p more.1.fresh, full) in cc);
+        room = λ full. (let no = c.insert.ensures.inserts.full.1 (in_range, unknown_if_fresh old.vertices p more.1.fresh, full) in cc);
         index = index ∙ more.0;
         appended = more.1;
       })
@@ -51,4 +51,4 @@ returns-in-Err-insert-clause-reply g c =
     let in_range = c.in_default.ensures.exactly.0 refl in
     let listed = listed_if_found c.args.self.now.points.now (position p) c.site_index_of.result c.if-is_none.ensures c.site_index_of.ensures in
     may_refuse c.args.self.now.points.now c.args.self.now.triangulation c.insert.new.self p c.insert.result c.in-Err-insert.error c.in-Err-insert.is in_range listed
-    c.insert.ensures.too_large c.insert.ensures.known c.insert.ensures.full c.in-Err-insert.ensures.err
+    c.insert.ensures.inserts.too_large c.insert.ensures.inserts.known c.insert.ensures.inserts.full c.in-Err-insert.ensures.inserts.err

@@ -21,7 +21,7 @@ returns-in-Ok-clause-ready g c =
     record {
       points_covered = ready.points_covered;
       points_sites = ready.points_sites;
-      vertices_sites = sites_left position c.args.self.now.triangulation c.remove.new.self _ c.in-Ok.point c.in-Ok.ensures.plain (g.P.PlaneTests.sites c.args.self.now.tests.now) ready.vertices_sites;
+      vertices_sites = sites_left position c.args.self.now.triangulation c.remove.new.self _ c.in-Ok.point c.in-Ok.ensures.removes.plain (g.P.PlaneTests.sites c.args.self.now.tests.now) ready.vertices_sites;
     }
 
 pub returns-in-Ok-clause-reply : goal.returns-in-Ok-clause-reply
@@ -31,6 +31,6 @@ returns-in-Ok-clause-reply g c =
     let x_fits : SFits w64 c.in-Ok.point.x = search rules in
     let y_fits : SFits w64 c.in-Ok.point.y = search rules in
     record {
-      was = read_point old.vertices c.args.index c.in-Ok.point x_fits y_fits (subst (λ (i : ℕ). slice_get old.vertices i ≡ Some c.in-Ok.point) c.from_index-vertex.ensures c.in-Ok.ensures.value);
-      removed = subst (λ (i : ℕ). Removes position (points_and_constraints old) (points_and_constraints new) i) c.from_index-vertex.ensures c.in-Ok.ensures.plain;
+      was = read_point old.vertices c.args.index c.in-Ok.point x_fits y_fits (subst (λ (i : ℕ). slice_get old.vertices i ≡ Some c.in-Ok.point) c.from_index-vertex.ensures c.in-Ok.ensures.removes.value);
+      removed = subst (λ (i : ℕ). Removes position (points_and_constraints old) (points_and_constraints new) i) c.from_index-vertex.ensures c.in-Ok.ensures.removes.plain;
     }

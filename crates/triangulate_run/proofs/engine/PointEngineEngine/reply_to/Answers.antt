@@ -32,4 +32,4 @@ returns-clause-reply g c =
     ]
 
 pub returns-clause-fits : goal.returns-clause-fits
-returns-clause-fits g c = record { is_plain = c.num_vertices.ensures.plain; points = refl; delaunay = c.num_vertices.ensures.delaunay }
+returns-clause-fits g c = record { is_plain = c.recall_invariant.ensures.plain; points = refl; delaunay = c.recall_invariant.ensures.headline.delaunay }

@@ -1,0 +1,33 @@
+-- What callers learn of a triangulation, by what its struct keeps.
+use Rattle.std.proofs.Common.{◌≡◌, ◌≤◌, ℕ, Bool, List, length, map}
+use Rattle.std.proofs.lemmas.List.Elements.{All-map}
+use Rattle.half_edge_links.specs.declared.room.TheConstants.{MAX_ELEMENTS}
+use Rattle.plane.specs.Fraction.{Point}
+use Rattle.plane.specs.Tests.{InRange}
+use Rattle.plane.specs.Delaunay.{IsConstrainedDelaunay}
+use Rattle.delaunay_legalization.specs.Constraints.{marked_edges, constraints_by}
+use Rattle.delaunay_legalization.specs.Shape.{IsDelaunayTriangulation}
+use Rattle.delaunay_legalization.specs.State.{State, triangulation_of}
+use Rattle.delaunay_legalization.proofs.Shapes.{laid_out_tiles}
+use Rattle.delaunay_edit.specs.Headline.{IsDelaunay, IsWellFormed}
+use Rattle.delaunay_edit.proofs.Constrained.{plain_with_edges}
+use Rattle.delaunay_edit.proofs.Delaunay.{marked_constrained_delaunay, empty_triple_is_face}
+
+module _ {V D U F : Type 0} (place : V → Point) (marks : U → Bool) (constraints : List U → List ℕ) (marked : (ds : List U) → constraints ds ≡ marked_edges marks ds) (s : State V D U F) (legal : IsDelaunayTriangulation place constraints s) where
+  pub is_delaunay : IsDelaunay place constraints s
+  is_delaunay =
+      let all : IsConstrainedDelaunay (triangulation_of place s) (constraints_by constraints s) = marked_constrained_delaunay place marks constraints marked s legal in
+      record {
+        tiling = laid_out_tiles (map place s.vertices) s.mesh legal.kept.valid legal.kept.shape;
+        delaunay = all;
+        empty_triples = λ none. empty_triple_is_face place constraints s all none;
+      }
+
+  pub well_formed : length s.vertices ≤ MAX_ELEMENTS → IsWellFormed place constraints s
+  well_formed small = record {
+    small = small;
+    in_range = All-map InRange place s.vertices legal.kept.in_range;
+    plain = plain_with_edges place s legal.kept (constraints_by constraints s) is_delaunay.delaunay.kept;
+    kept = legal.kept;
+    headline = is_delaunay;
+  }

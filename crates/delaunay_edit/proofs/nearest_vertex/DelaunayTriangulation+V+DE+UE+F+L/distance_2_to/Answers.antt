@@ -1,0 +1,12 @@
+use Rattle.std.proofs.Common.{arith, map, sym, subst}
+use Rattle.std.specs.Prelude.{pos}
+use Rattle.std.proofs.lemmas.List.{length-map}
+use Rattle.std.proofs.lemmas.List.Elements.{All-get_or}
+use Rattle.plane.specs.Tests.{InRange}
+use Rattle.delaunay_edit.proofs.nearest_vertex.DelaunayTriangulation+V+DE+UE+F+L.distance_2_to.Goals as goal
+
+pub distance_2-requires-clause-other_in_range : goal.distance_2-requires-clause-other_in_range
+distance_2-requires-clause-other_in_range g c =
+    let at = g.V.HasPosition.place in
+    let vertices = c.args.self.now.vertices in
+    subst InRange (sym c.position_of.ensures) (All-get_or InRange (map at vertices) c.args.vertex (record { x = pos 0; y = pos 0 }) (omega (arith, c.requires.within, length-map vertices at)) c.recall_invariant.ensures.in_range)

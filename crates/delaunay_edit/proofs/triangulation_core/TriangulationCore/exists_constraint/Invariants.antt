@@ -1,8 +1,0 @@
-use Rattle.std.proofs.Common.{◌*◌, ◌<◌, ℕ}
-use Rattle.std.specs.Prelude.{Contains}
-use Rattle.half_edge_links.specs.Mesh.{origin, rev}
-use Rattle.plane.specs.Pairs.{IsSamePair}
-use Rattle.delaunay_edit.proofs.triangulation_core.TriangulationCore.exists_constraint.Given as goal
-
-abbrev pub invariant-loop-index : goal.invariant-loop-index
-invariant-loop-index g l = (k : ℕ) → k < l.index → ¬ (Contains (g.M.ConstraintMarker.constraints l.self.undirected) k × IsSamePair l.from l.to (origin l.self.mesh (2 * k)) (origin l.self.mesh (rev (2 * k))))

@@ -1,0 +1,11 @@
+use Rattle.delaunay_core.specs.Place.{place_of}
+use Rattle.delaunay_edit.proofs.Vertices.{here_if_on_vertex, unknown_elsewhere}
+use Rattle.delaunay_edit.proofs.triangulation_core.TriangulationCore.locate_vertex.Goals as goal
+
+pub returns-in-OnVertex : goal.returns-in-OnVertex
+returns-in-OnVertex g c =
+    let here = here_if_on_vertex g.V.HasPosition.place c.args.self.now (place_of g.V.Scalar.SpadeNum.whole c.args.point) c.in-OnVertex.vertex c.in-OnVertex.ensures.location in
+    rw c.vertex.ensures.index (c.vertex.ensures.state, here.0, here.1)
+
+pub returns-in_default : goal.returns-in_default
+returns-in_default g c = unknown_elsewhere g.V.HasPosition.place c.args.self.now c.recall_invariant.ensures.kept (place_of g.V.Scalar.SpadeNum.whole c.args.point) c.locate.result c.locate.ensures.location c.in_default.not-OnVertex

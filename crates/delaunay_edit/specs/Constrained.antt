@@ -1,0 +1,27 @@
+-- The constraints of a triangulation, which are the edges whose data say so.
+use Rattle.std.specs.Prelude.{◌≡◌, ℕ, false, List, []}
+use Rattle.plane.specs.Plain.{Plain}
+use Rattle.delaunay_legalization.specs.declared.cdt_edge.CdtEdge.{CdtEdge}
+use Rattle.delaunay_legalization.specs.CdtEdge.{is_constraint}
+use Rattle.delaunay_legalization.specs.Constraints.{marked_edges, constraints_by, points_and_constraints_by}
+use Rattle.delaunay_legalization.specs.State.{State}
+
+-- no edge is a constraint
+abbrev pub none : {U : Type 0} → List U → List ℕ
+none ds = []
+
+-- the undirected edges that are constraints, by the data of all of them
+abbrev pub constraint_edges : {U : Type 0} → List (CdtEdge U) → List ℕ
+constraint_edges ds = marked_edges is_constraint ds
+
+-- the pairs of vertices that constraints join
+abbrev pub constraints_of : {V D U F : Type 0} → State V D (CdtEdge U) F → List (ℕ × ℕ)
+constraints_of s = constraints_by constraint_edges s
+
+-- the vertices, with the constraints
+abbrev pub constrained : {V D U F : Type 0} → State V D (CdtEdge U) F → Plain V
+constrained s = points_and_constraints_by constraint_edges s
+
+-- an edge that is no constraint, with these data
+abbrev pub IsFree : {U : Type 0} → U → CdtEdge U → Type 0
+IsFree u e = (e.is_constraint_edge ≡ false) × (e.«data» ≡ u)

@@ -1,0 +1,20 @@
+-- What is at the position of a value that is to be inserted.
+use Rattle.std.specs.Prelude.{◌≡◌, ◌↔◌, ℕ, ◌<◌, Bool, List, length, map, IsTrue}
+use Rattle.half_edge_links.specs.Mesh.{Mesh}
+use Rattle.plane.specs.Fraction.{Point}
+use Rattle.delaunay_edit.specs.declared.insertion.Entry.{Entry}
+use Rattle.delaunay_edit.specs.declared.insertion.Entry.TheVariants.{Occupied, Vacant}
+use Rattle.delaunay_edit.specs.declared.position_in_triangulation.PositionInTriangulation.{PositionInTriangulation}
+use Rattle.delaunay_edit.specs.Location.{IsApart, IsLeftOfPlace, Locates}
+use Rattle.delaunay_legalization.specs.Known.{point_at}
+use Rattle.delaunay_legalization.specs.State.{State}
+
+-- p is at none of the points, it is at this location, and turns says whether it is strictly on the left of the edge there
+pub record IsVacant (points : List Point) (m : Mesh) (p : Point) (answer : PositionInTriangulation) (turns : Bool) : Type 0 where
+  pub apart : IsApart points p
+  pub location : Locates points m p answer
+  pub left : IsTrue turns ↔ IsLeftOfPlace points m p answer
+
+abbrev pub IsEntry : {V D U F : Type 0} → (V → Point) → State V D U F → Point → Entry → Type 0
+IsEntry place s p (Occupied v) = (v < length s.vertices) × (point_at (map place s.vertices) v ≡ p)
+IsEntry place s p (Vacant answer turns) = IsVacant (map place s.vertices) s.mesh p answer turns

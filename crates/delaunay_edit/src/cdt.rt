@@ -1,0 +1,158 @@
+//! Triangulations with constraints.
+ghost use Rattle.std.specs.Prelude.{◌≡◌, ◌↔◌, ◌*◌, ◌<◌, length, Contains, IsTrue, IfErr, IfOk};
+ghost use Rattle.half_edge_links.specs.Mesh.{origin, rev};
+ghost use Rattle.plane.specs.Pairs.{IsSamePair, Joins};
+ghost use Rattle.plane.specs.Plain.{Unconstrains};
+ghost use Rattle.delaunay_legalization.specs.State.{points_and_constraints};
+ghost use Rattle.delaunay_edit.specs.Constrained.{IsFree, constrained, constraint_edges, constraints_of};
+ghost use Rattle.delaunay_edit.specs.Data.{HasOtherEdgeData};
+ghost use Rattle.delaunay_edit.specs.Headline.{IsDelaunay};
+
+use crate::delaunay_triangulation::DelaunayTriangulation;
+use crate::triangulation_core::TriangulationCore;
+use delaunay_core::point::HasPosition;
+use delaunay_legalization::{CdtEdge, EdgeConstraints, is_constraint_edge};
+use half_edge_mesh::{FixedDirectedEdgeHandle, FixedUndirectedEdgeHandle, FixedVertexHandle};
+use half_edge_views::MeshViews;
+use hint_generators::{HintGenerator, LastUsedVertexHintGenerator};
+use std::marker::PhantomData;
+
+/// A triangulation of vertices with different positions, some of whose edges are constraints, which stay edges. Its inner
+/// faces turn left and tile the hull of the positions, and none has a vertex strictly inside its circle that is seen from
+/// inside the face past the constraints; where the positions are on one line there is no inner face, and edges join the
+/// neighbours.
+pub type ConstrainedDelaunayTriangulation<
+    V,
+    DE = (),
+    UE = (),
+    F = (),
+    L = LastUsedVertexHintGenerator,
+> = TriangulationCore<V, DE, CdtEdge<UE>, F, L, EdgeConstraints>;
+
+impl<V: HasPosition, DE, UE, F, L: HintGenerator<V::Scalar>> ConstrainedDelaunayTriangulation<
+    V,
+    DE,
+    UE,
+    F,
+    L,
+> {
+    /// Whether an edge is a constraint.
+    pub fn is_constraint_edge(&self, edge: FixedUndirectedEdgeHandle) -> bool
+        requires { edge < length self.now.undirected }
+        ensures marked { IsTrue result ↔ Contains (constraint_edges self.now.undirected) edge }
+        ensures joined { let m = self.now.mesh in
+            IsTrue result ↔ Joins (constraints_of self.now) (origin m (2 * edge)) (origin m (rev (2 * edge))) }
+    {
+        is_constraint_edge::<EdgeConstraints, _, _, _, _>(&self.dcel, edge)
+    }
+
+    /// How many edges are constraints, by a look at all edges.
+    pub fn num_constraints(&self) -> usize
+        ensures { result ≡ length (constraints_of self.now) }
+    {
+        let mut count = 0;
+        for index in 0..self.dcel.num_undirected_edges() {
+            let edge = FixedUndirectedEdgeHandle::from_index(index as u32);
+            if self.dcel.undirected_edge_data(edge).is_constraint_edge() {
+                count += 1;
+            }
+        }
+        count
+    }
+
+    // Whether an edge goes from one vertex to another.
+    fn goes(
+        &self,
+        edge: FixedDirectedEdgeHandle,
+        from: FixedVertexHandle,
+        to: FixedVertexHandle,
+    ) -> bool
+        requires { edge < length self.now.directed }
+        ensures { IsTrue result ↔ ((from ≡ origin self.now.mesh edge) × (to ≡ origin self.now.mesh (rev edge))) }
+    {
+        let edge = self.dcel.directed_edge(edge);
+        from == edge.from().fix() && to == edge.to().fix()
+    }
+
+    // Whether an edge joins two vertices.
+    fn has_ends(
+        &self,
+        edge: FixedUndirectedEdgeHandle,
+        from: FixedVertexHandle,
+        to: FixedVertexHandle,
+    ) -> bool
+        requires { edge < length self.now.undirected }
+        ensures { IsTrue result ↔ IsSamePair from to (origin self.now.mesh (2 * edge)) (origin self.now.mesh (rev (2 * edge))) }
+    {
+        self.recall_invariant();
+        let edge = edge.as_directed();
+        self.goes(edge, from, to) || self.goes(edge, to, from)
+    }
+
+    // Whether an edge is a constraint and joins two vertices.
+    fn fixes_pair(
+        &self,
+        edge: FixedUndirectedEdgeHandle,
+        from: FixedVertexHandle,
+        to: FixedVertexHandle,
+    ) -> bool
+        requires { edge < length self.now.undirected }
+        ensures { IsTrue result ↔ (Contains (constraint_edges self.now.undirected) edge × IsSamePair from to (origin self.now.mesh (2 * edge)) (origin self.now.mesh (rev (2 * edge)))) }
+    {
+        self.is_constraint_edge(edge) && self.has_ends(edge, from, to)
+    }
+
+    /// Whether a constraint joins two vertices, in either order, by a look at all edges.
+    pub fn exists_constraint(&self, from: FixedVertexHandle, to: FixedVertexHandle) -> bool
+        ensures { IsTrue result ↔ Joins (constraints_of self.now) from to }
+    {
+        for index in 0..self.dcel.num_undirected_edges() {
+            let edge = FixedUndirectedEdgeHandle::from_index(index as u32);
+            if self.fixes_pair(edge, from, to) {
+                return true;
+            }
+        }
+        false
+    }
+
+    /// The vertices, edges and faces of a triangulation without constraints, under the same handles, and no constraint.
+    /// Where memory was refused, it gives the triangulation back as it was.
+    pub fn from_delaunay(
+        plain: DelaunayTriangulation<V, DE, UE, F, L>,
+    ) -> Result<Self, DelaunayTriangulation<V, DE, UE, F, L>>
+    where
+        UE: Drop,
+        ensures ok { IfOk result (HasOtherEdgeData IsFree plain) }
+        ensures plain { IfOk result (λ c. Unconstrains V.place (points_and_constraints plain) (constrained c)) }
+        ensures headline { IfOk result (IsDelaunay V.place constraint_edges) }
+        ensures err { IfErr result (λ d. d ≡ plain) }
+    {
+        let TriangulationCore {
+            dcel,
+            work,
+            sides,
+            hint_generator,
+            marks,
+        } = plain;
+        match dcel.map_undirected_edges(CdtEdge::new) {
+            Ok(dcel) => {
+                let constrained = TriangulationCore {
+                    dcel,
+                    work,
+                    sides,
+                    hint_generator,
+                    marks: PhantomData,
+                };
+                constrained.recall_invariant();
+                Ok(constrained)
+            }
+            Err(dcel) => Err(TriangulationCore {
+                dcel,
+                work,
+                sides,
+                hint_generator,
+                marks,
+            }),
+        }
+    }
+}

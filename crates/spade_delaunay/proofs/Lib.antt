@@ -1,2 +1,0 @@
-pub mod Vertices
-pub mod Constrained
