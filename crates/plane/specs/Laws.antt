@@ -1,7 +1,7 @@
 -- What is proved of the definitions of segment, triangle, crossing, side and circle: that they are the usual ones.
 use Rattle.std.specs.Prelude.{◌≡◌, ◌⊎◌, ◌↔◌, ℤ, pos, ◌+ℤ◌, ◌-ℤ◌, ◌*ℤ◌, ◌<ℤ◌, ◌≤ℤ◌}
 use Rattle.plane.specs.Fraction.{Point, Fraction, whole, IsSame, OnSegment, InTriangle, InsideTriangle}
-use Rattle.plane.specs.Side.{side, left, right, IsSide, TurnsLeft}
+use Rattle.plane.specs.Side.{side, left, right, on, IsSide, TurnsLeft}
 use Rattle.plane.specs.Circle.{IsCentre, InsideCircle, OnCircle}
 use Rattle.plane.specs.Crossing.{Cross}
 
@@ -50,6 +50,13 @@ squared_way q p = (p.x -ℤ q.x) *ℤ (p.x -ℤ q.x) +ℤ (p.y -ℤ q.y) *ℤ (p
 
 abbrev pub turn_at : Point → Point → Point → ℤ
 turn_at q u v = (u.x -ℤ q.x) *ℤ (v.y -ℤ q.y) -ℤ (u.y -ℤ q.y) *ℤ (v.x -ℤ q.x)
+
+-- the third point is on the left of the line from the first to the second exactly if twice the area is positive, on its
+-- right exactly if it is negative, and on the line exactly if it is 0
+abbrev pub SideIsDeterminant : Type 0
+SideIsDeterminant = (u v p : Point) → ((side (whole u) (whole v) (whole p) ≡ left) ↔ (pos 0 <ℤ turn_at u v p))
+    × ((side (whole u) (whole v) (whole p) ≡ right) ↔ (turn_at u v p <ℤ pos 0))
+    × ((side (whole u) (whole v) (whole p) ≡ on) ↔ (turn_at u v p ≡ pos 0))
 
 -- the determinant of three rows: for each of u, v and p its way from q, x and y, and the way's squared length
 abbrev pub lifted_determinant : Point → Point → Point → Point → ℤ

@@ -1,0 +1,45 @@
+-- Numbers that fit their width keep their value as they are passed on, and so do sums, differences and products of
+-- them.
+use Rattle.std.proofs.Common.{◌≡◌, ◌≤◌, arith, w64, to_z, of_z}
+use mir.Syntax.{w128}
+use Rattle.std.specs.Prelude.{ℤ, ◌+ℤ◌, ◌-ℤ◌, ◌*ℤ◌, unsigned_abs}
+use Rattle.std.specs.Int.RustNames.{FitsSigned}
+use Rattle.std.proofs.lemmas.Int.{ints, fits_signed_from_abs}
+
+abbrev kept : ℤ → ℤ
+kept z = to_z w64 (of_z w64 z)
+
+abbrev kept_long : ℤ → ℤ
+kept_long z = to_z w128 (of_z w128 z)
+
+-- ---- 64 bits
+pub kept_is : (z : ℤ) → unsigned_abs z ≤ 4611686018427387904 → kept z ≡ z
+kept_is z h = omega (arith, ints)
+
+pub product_of : (a b x y z : ℤ) → unsigned_abs a ≤ 1073741824 → unsigned_abs b ≤ 1073741824 → a ≡ x → b ≡ y → z ≡ kept a *ℤ kept b → z ≡ x *ℤ y
+product_of a b x y z h k e f g = let p = kept_is a (omega (arith, h)) in let q = kept_is b (omega (arith, k)) in cc
+
+pub sum_of : (a b x y : ℤ) → unsigned_abs a ≤ 1152921504606846976 → unsigned_abs b ≤ 1152921504606846976 → a ≡ x → b ≡ y → kept (kept a +ℤ kept b) ≡ x +ℤ y
+sum_of a b x y h k e f = omega (arith, ints)
+
+pub difference_of : (a b x y : ℤ) → unsigned_abs a ≤ 1152921504606846976 → unsigned_abs b ≤ 1152921504606846976 → a ≡ x → b ≡ y → kept (kept a -ℤ kept b) ≡ x -ℤ y
+difference_of a b x y h k e f = omega (arith, ints)
+
+pub difference_fits : (a b : ℤ) → unsigned_abs a ≤ 1152921504606846976 → unsigned_abs b ≤ 1152921504606846976 → FitsSigned w64 (kept a -ℤ kept b)
+difference_fits a b h k = fits_signed_from_abs w64 (kept a -ℤ kept b) (omega (arith, ints))
+
+pub difference_bound : (a b : ℤ) → unsigned_abs a ≤ 1152921504606846976 → unsigned_abs b ≤ 1152921504606846976 → unsigned_abs (kept (kept a -ℤ kept b)) ≤ 2305843009213693952
+difference_bound a b h k = omega (arith, ints)
+
+-- ---- 128 bits
+pub term_of : (a b x y z : ℤ) → unsigned_abs a ≤ 2305843009213693952 → unsigned_abs b ≤ 2305843009213693952 → a ≡ x → b ≡ y → z ≡ kept a *ℤ kept b → z ≡ x *ℤ y
+term_of a b x y z h k e f g = let p = kept_is a (omega (arith, h)) in let q = kept_is b (omega (arith, k)) in cc
+
+pub two_fit : (a b : ℤ) → unsigned_abs a ≤ 5316911983139663491615228241121378304 → unsigned_abs b ≤ 5316911983139663491615228241121378304 → FitsSigned w128 (kept_long a +ℤ kept_long b)
+two_fit a b h k = fits_signed_from_abs w128 (kept_long a +ℤ kept_long b) (omega (arith, ints))
+
+pub three_fit : (a b d : ℤ) → unsigned_abs a ≤ 5316911983139663491615228241121378304 → unsigned_abs b ≤ 5316911983139663491615228241121378304 → unsigned_abs d ≤ 5316911983139663491615228241121378304 → FitsSigned w128 (kept_long (kept_long a +ℤ kept_long b) +ℤ kept_long d)
+three_fit a b d h k l = fits_signed_from_abs w128 (kept_long (kept_long a +ℤ kept_long b) +ℤ kept_long d) (omega (arith, ints))
+
+pub sum_of_three : (a b d x y z : ℤ) → unsigned_abs a ≤ 5316911983139663491615228241121378304 → unsigned_abs b ≤ 5316911983139663491615228241121378304 → unsigned_abs d ≤ 5316911983139663491615228241121378304 → a ≡ x → b ≡ y → d ≡ z → kept_long (kept_long (kept_long a +ℤ kept_long b) +ℤ kept_long d) ≡ x +ℤ y +ℤ z
+sum_of_three a b d x y z h k l e f g = omega (arith, ints)
