@@ -29,19 +29,17 @@ pub type ConstrainedDelaunayTriangulation<
     L = LastUsedVertexHintGenerator,
 > = TriangulationCore<V, DE, CdtEdge<UE>, F, L, EdgeConstraints>;
 
-impl<V: HasPosition, DE, UE, F, L: HintGenerator<V::Scalar>> ConstrainedDelaunayTriangulation<
-    V,
-    DE,
-    UE,
-    F,
-    L,
-> {
+impl<V: HasPosition, DE, UE, F, L: HintGenerator<V::Scalar>>
+    ConstrainedDelaunayTriangulation<V, DE, UE, F, L>
+{
     /// Whether an edge is a constraint.
     pub fn is_constraint_edge(&self, edge: FixedUndirectedEdgeHandle) -> bool
         requires { edge < length self.now.undirected }
         ensures marked { IsTrue result ↔ Contains (constraint_edges self.now.undirected) edge }
-        ensures joined { let m = self.now.mesh in
-            IsTrue result ↔ Joins (constraints_of self.now) (origin m (2 * edge)) (origin m (rev (2 * edge))) }
+        ensures joined {
+            let m = self.now.mesh in
+            IsTrue result ↔ Joins (constraints_of self.now) (origin m (2 * edge)) (origin m (rev (2 * edge)))
+        }
     {
         is_constraint_edge::<EdgeConstraints, _, _, _, _>(&self.dcel, edge)
     }
@@ -123,7 +121,9 @@ impl<V: HasPosition, DE, UE, F, L: HintGenerator<V::Scalar>> ConstrainedDelaunay
     where
         UE: Drop,
         ensures ok { IfOk result (HasOtherEdgeData IsFree plain) }
-        ensures plain { IfOk result (λ c. Unconstrains V.place (points_and_constraints plain) (constrained c)) }
+        ensures plain {
+            IfOk result (λ c. Unconstrains V.place (points_and_constraints plain) (constrained c))
+        }
         ensures headline { IfOk result (IsDelaunay V.place constraint_edges) }
         ensures err { IfErr result (λ d. d ≡ plain) }
     {
@@ -141,7 +141,7 @@ impl<V: HasPosition, DE, UE, F, L: HintGenerator<V::Scalar>> ConstrainedDelaunay
                     work,
                     sides,
                     hint_generator,
-                    marks: PhantomData,
+                            marks: PhantomData,
                 };
                 constrained.recall_invariant();
                 Ok(constrained)
@@ -151,7 +151,7 @@ impl<V: HasPosition, DE, UE, F, L: HintGenerator<V::Scalar>> ConstrainedDelaunay
                 work,
                 sides,
                 hint_generator,
-                marks,
+                    marks,
             }),
         }
     }

@@ -14,14 +14,8 @@ use half_edge_views::{
 };
 use hint_generators::HintGenerator;
 
-impl<
-    V: HasPosition,
-    DE,
-    UE,
-    F,
-    L: HintGenerator<V::Scalar>,
-    M: ConstraintMarker<UE>,
-> TriangulationCore<V, DE, UE, F, L, M> {
+impl<V: HasPosition, DE, UE, F, L: HintGenerator<V::Scalar>, M: ConstraintMarker<UE>>
+    TriangulationCore<V, DE, UE, F, L, M> {
     pub fn num_undirected_edges(&self) -> usize
         ensures value { result ≡ length (triangulation_of V.place self.now).edges }
         ensures values { result ≡ length self.now.undirected }

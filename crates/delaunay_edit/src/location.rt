@@ -22,14 +22,8 @@ use half_edge_mesh::{FixedDirectedEdgeHandle, FixedFaceHandle, FixedVertexHandle
 use half_edge_views::VertexHandle;
 use hint_generators::HintGenerator;
 
-impl<
-    V: HasPosition,
-    DE,
-    UE,
-    F,
-    L: HintGenerator<V::Scalar>,
-    M: ConstraintMarker<UE>,
-> TriangulationCore<V, DE, UE, F, L, M> {
+impl<V: HasPosition, DE, UE, F, L: HintGenerator<V::Scalar>, M: ConstraintMarker<UE>>
+    TriangulationCore<V, DE, UE, F, L, M> {
     // The vertex at a position.
     pub(crate) fn vertex_at(&self, point: Point2<V::Scalar>) -> Option<FixedVertexHandle>
         ensures { let points = map V.place self.now.vertices in let p = place_of V.Scalar.whole point in MatchOption result (IsApart points p) (λ v. (v < length self.now.vertices) × (point_at points v ≡ p)) }
@@ -216,9 +210,11 @@ impl<
     ) -> Option<VertexHandle<'_, V, DE, UE, F>>
         requires sites { AreSites V.place (P.sites tests.now) self.now.vertices }
         requires covered { P.covered tests.now (place_of V.Scalar.whole point) }
-        ensures { let p = place_of V.Scalar.whole point in
+        ensures {
+            let p = place_of V.Scalar.whole point in
             MatchOption result (¬ IsKnown (map V.place self.now.vertices) p)
-            (λ v. IsVertexAt V.place self.now p v.dcel.now v.index) }
+                (λ v. IsVertexAt V.place self.now p v.dcel.now v.index)
+        }
     {
         self.recall_invariant();
         match self.locate(point, tests) {

@@ -17,13 +17,7 @@ use half_edge_mesh::FixedVertexHandle;
 use half_edge_views::VertexHandle;
 use hint_generators::HintGenerator;
 
-impl<V: HasPosition, DE, UE, F, L: HintGenerator<V::Scalar>> DelaunayTriangulation<
-    V,
-    DE,
-    UE,
-    F,
-    L,
-> {
+impl<V: HasPosition, DE, UE, F, L: HintGenerator<V::Scalar>> DelaunayTriangulation<V, DE, UE, F, L> {
     // The squared distance from a position to a vertex.
     fn distance_2_to(&self, vertex: FixedVertexHandle, point: Point2<V::Scalar>) -> i64
         requires within { vertex < length self.now.vertices }
@@ -74,8 +68,10 @@ impl<V: HasPosition, DE, UE, F, L: HintGenerator<V::Scalar>> DelaunayTriangulati
     ) -> Option<VertexHandle<'_, V, DE, UE, F>>
         requires sites { AreSites V.place (P.sites _tests.now) self.now.vertices }
         requires covered { P.covered _tests.now (place_of V.Scalar.whole point) }
-        ensures { MatchOption result (length self.now.vertices ≡ 0)
-            (λ v. IsNearestVertex V.place self.now (place_of V.Scalar.whole point) v.dcel.now v.index) }
+        ensures {
+            MatchOption result (length self.now.vertices ≡ 0)
+                (λ v. IsNearestVertex V.place self.now (place_of V.Scalar.whole point) v.dcel.now v.index)
+        }
     {
         if self.num_vertices() == 0 {
             None

@@ -21,23 +21,21 @@ use half_edge_mesh::FixedVertexHandle;
 use hint_generators::HintGenerator;
 use std::alloc::AllocError;
 
-impl<
-    V: HasPosition,
-    DE,
-    UE,
-    F,
-    L: HintGenerator<V::Scalar>,
-    M: ConstraintMarker<UE>,
-> TriangulationCore<V, DE, UE, F, L, M> {
+impl<V: HasPosition, DE, UE, F, L: HintGenerator<V::Scalar>, M: ConstraintMarker<UE>>
+    TriangulationCore<V, DE, UE, F, L, M> {
     /// Exchanges a vertex for one of the same position, and gives the old one back.
     pub fn replace_vertex(&mut self, vertex: FixedVertexHandle, value: V) -> V
         requires within { vertex < length self.old.vertices }
         requires same { point_at (map V.place self.old.vertices) vertex ≡ V.place value }
 
         ensures value { slice_get self.old.vertices vertex ≡ Some result }
-        ensures new { self.new ≡ record self.old { vertices = slice_set self.old.vertices vertex value } }
-        ensures plain { Replaces V.place (points_and_constraints_by M.constraints self.old)
-            (points_and_constraints_by M.constraints self.new) vertex value }
+        ensures new {
+            self.new ≡ record self.old { vertices = slice_set self.old.vertices vertex value }
+        }
+        ensures plain {
+            Replaces V.place (points_and_constraints_by M.constraints self.old)
+                (points_and_constraints_by M.constraints self.new) vertex value
+        }
         ensures headline { IsDelaunay V.place M.constraints self.new }
     {
         let former = self.dcel.update_vertex(vertex, value);
@@ -46,13 +44,9 @@ impl<
     }
 }
 
-impl<
-    V: HasPosition,
-    DE: Drop,
-    UE: Drop,
-    F: Drop,
-    L: HintGenerator<V::Scalar>,
-> DelaunayTriangulation<V, DE, UE, F, L> {
+impl<V: HasPosition, DE: Drop, UE: Drop, F: Drop, L: HintGenerator<V::Scalar>>
+    DelaunayTriangulation<V, DE, UE, F, L>
+{
     // Takes a vertex out and tests each edge of what is left, or a refusal that changes nothing.
     fn take_out<P: PlaneTests<V::Scalar>>(
         &mut self,
@@ -72,12 +66,7 @@ impl<
         self.sides.reserve(self.dcel.num_directed_edges())?;
         let value = remove_vertex(&mut self.dcel, vertex, tests, &mut self.sides);
         let mut flips = 0;
-        legalize_all::<NoConstraints, _, _, _, _, _>(
-            &mut self.dcel,
-            tests,
-            &mut self.work,
-            &mut flips,
-        );
+        legalize_all::<NoConstraints, _, _, _, _, _>(&mut self.dcel, tests, &mut self.work, &mut flips);
         Ok(value)
     }
 
@@ -110,8 +99,10 @@ impl<
     ) -> Result<Option<V>, AllocError>
         requires sites { AreSites V.place (P.sites tests.now) self.old.vertices }
         requires covered { P.covered tests.now (place_of V.Scalar.whole point) }
-        ensures removes { let p = place_of V.Scalar.whole point in
-            LocatesAndRemoves V.place none p result self.old self.new }
+        ensures removes {
+            let p = place_of V.Scalar.whole point in
+            LocatesAndRemoves V.place none p result self.old self.new
+        }
         ensures headline { IsDelaunay V.place none self.new }
     {
         self.recall_invariant();
@@ -133,7 +124,9 @@ impl<
     /// Forgets each vertex, each edge with its constraint, and each inner face. The outer face keeps its data, and memory
     /// that was taken is kept for later insertions. It is never refused.
     pub fn clear(&mut self)
-        ensures new { self.new ≡ record self.old { vertices = []; mesh = empty; directed = []; undirected = []; faces = [] } }
+        ensures new {
+            self.new ≡ record self.old { vertices = []; mesh = empty; directed = []; undirected = []; faces = [] }
+        }
         ensures plain { IsCleared V.place (points_and_constraints_by M.constraints self.new) }
         ensures headline { IsDelaunay V.place M.constraints self.new }
     {

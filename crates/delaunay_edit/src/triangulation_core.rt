@@ -52,14 +52,8 @@ impl<V: HasPosition, DE, UE, F, L: HintGenerator<V::Scalar>, M: ConstraintMarker
     ghost invariant = { λ c. IsDelaunayTriangulation V.place M.constraints (state_of c.dcel) };
 }
 
-impl<
-    V: HasPosition,
-    DE,
-    UE,
-    F,
-    L: HintGenerator<V::Scalar>,
-    M: ConstraintMarker<UE>,
-> TriangulationCore<V, DE, UE, F, L, M> {
+impl<V: HasPosition, DE, UE, F, L: HintGenerator<V::Scalar>, M: ConstraintMarker<UE>>
+    TriangulationCore<V, DE, UE, F, L, M> {
     /// No vertex, no edge, and the outer face with default data.
     pub fn new(alloc: Global) -> Self
     where
