@@ -1,90 +1,32 @@
--- Where a position is, and the room for a vertex there.
-use Rattle.std.proofs.Common.{◌≡◌, ◌⊎◌, ℕ, ◌+◌, ◌*◌, ◌<◌, ◌≤◌, [], length, map, ap, sym, ◌∙◌, subst, inl, inr, arith}
-use Rattle.std.proofs.lemmas.List.{length-map}
-use Rattle.half_edge_links.specs.Mesh.{origin, rev, face}
-use Rattle.half_edge_links.specs.Room.{HasRoomFor}
-use Rattle.half_edge_links.specs.Triangles.{triangle_at, triangles}
-use Rattle.half_edge_links.proofs.Rev.{rev-rev, rev_within}
-use Rattle.half_edge_mesh.specs.Contents.{Contents, HasRoom}
-use Rattle.plane.specs.Fraction.{Point, whole, WithinSegment}
+-- Where a position is, for the vertex that comes there.
+use Rattle.std.proofs.Common.{◌≡◌, ◌⊎◌, ℕ, ◌<◌, ◌≤◌, length, map, sym, subst, inl, inr}
+use Rattle.half_edge_links.specs.Mesh.{origin, rev}
+use Rattle.half_edge_mesh.specs.Contents.{Contents}
+use Rattle.plane.specs.Fraction.{Point, whole}
 use Rattle.plane.specs.Pairs.{place}
 use Rattle.plane.specs.Side.{TurnsLeft}
 use Rattle.plane.specs.Location.{IsPast}
-use Rattle.plane.specs.Tiling.{IsTiling, HasFace}
 use Rattle.plane_tiling.specs.Local.{IsMesh, alone}
-use Rattle.plane_tiling.proofs.Edges.{turned_within}
 use Rattle.plane_tiling.proofs.Places as P
 use Rattle.plane_tiling.proofs.Tiles.{by_signs, point_at}
-use Rattle.mesh_embedding.specs.Drawn.{drawn, faces_of, outer_of, corners_of}
+use Rattle.mesh_embedding.specs.Drawn.{faces_of, outer_of}
 use Rattle.delaunay_location.specs.declared.position_in_triangulation.PositionInTriangulation.{PositionInTriangulation}
 use Rattle.delaunay_location.specs.declared.position_in_triangulation.PositionInTriangulation.TheVariants.{OnVertex, OnFace, OutsideOfConvexHull}
-use Rattle.delaunay_edit.specs.Location.{Locates, IsApart, IsLeftOfPlace, IsMeshEdge, IsWithinEdge}
+use Rattle.delaunay_edit.specs.Location.{Locates, IsApart, IsLeftOfPlace}
 use Rattle.delaunay_legalization.specs.Shape.{IsTriangulated}
 use Rattle.delaunay_legalization.specs.State.{state_of}
-use Rattle.delaunay_edit.proofs.Joining.{sides_at_most, edges_and_faces}
-use Rattle.delaunay_location.proofs.Locating.{same_point}
 use Rattle.delaunay_legalization.proofs.MeshParts.{mesh_edge}
-use Rattle.delaunay_legalization.proofs.Shapes.{laid_out_tiles}
-
-pub positive : (n : ℕ) → ¬ (n ≡ 0) → 0 < n
-positive n h = omega (arith, h)
+use Rattle.delaunay_insertion.proofs.EdgeSides.{vertex_of_face, no_listed_face}
+use Rattle.delaunay_location.proofs.Locating.{same_point}
 
 module _ {V D U F : Type 0} (at : V → Point) (c : Contents V D U F) (kept : IsTriangulated at (state_of c)) where
-  -- ---- room for what a vertex brings, of the room that is reserved for it
-  module _ (room : HasRoomFor c.room (length c.vertices + 1) (3 * (length c.vertices + 1)) (2 * (length c.vertices + 1))) where
-    pub room_inside : 0 < length c.vertices → HasRoom c 1 3 2
-    room_inside some =
-        let v = room.vertices_fit in
-        let e = room.edges_fit in
-        let f = room.faces_fit in
-        let counts = edges_and_faces at c kept some in
-        let sides = sides_at_most c (record { valid = kept.valid; fits = kept.fits }) in
-        record { vertices_fit = omega (arith, v); edges_fit = omega (arith, e, counts, sides); faces_fit = omega (arith, f, counts, sides) }
-
-  vertex_of_face : (f : ℕ) → 0 < f → f ≤ length c.faces → 0 < length c.vertices
-  vertex_of_face f some within = let few = kept.few_faces in omega (arith, some, within, few)
-
-  pub vertex_of_edge : (e : ℕ) → e < length c.directed → 0 < length c.vertices
-  vertex_of_edge e within = let d = kept.fits.directed_fit in let u = kept.fits.undirected_fit in let few = kept.few_edges in omega (arith, within, d, u, few)
-
-  -- ---- the two sides of an edge
-  pub twin_within : (e : ℕ) → e < length c.directed → rev e < length c.directed
-  twin_within e within =
-      let d = kept.fits.directed_fit in
-      let h : e < length c.mesh.half_edges = omega (arith, within, d) in
-      let r = rev_within e (length c.mesh.half_edges) kept.valid.sound.even h in
-      omega (arith, r, d)
-
-  pub within_twin : (p : Point) (e : ℕ) → IsWithinEdge (map at c.vertices) c.mesh p e → IsWithinEdge (map at c.vertices) c.mesh p (rev e)
-  within_twin p e w = subst (λ k. WithinSegment (place (map at c.vertices) (origin c.mesh (rev e))) (place (map at c.vertices) (origin c.mesh k)) (whole p)) (sym (rev-rev e)) (turned_within (place (map at c.vertices) (origin c.mesh e)) (place (map at c.vertices) (origin c.mesh (rev e))) (whole p) w)
-
-  no_listed_face : faces_of c.mesh ≡ [] → length c.faces ≡ 0
-  no_listed_face none = kept.fits.faces_fit ∙ sym (length-map c.mesh.face_edges (triangle_at c.mesh)) ∙ sym (length-map (triangles c.mesh) corners_of) ∙ ap length none
-
-  -- where there are faces, an edge has one on its left or on its right
-  pub inner_twin : (e : ℕ) → e < length c.directed → ¬ (length c.faces ≡ 0) → face c.mesh e ≡ 0 → 0 < face c.mesh (rev e)
-  inner_twin e within some outer = positive (face c.mesh (rev e)) (λ twin_outer. go twin_outer (laid_out_tiles (map at c.vertices) c.mesh kept.valid kept.shape))
-    where
-      own : IsMeshEdge (map at c.vertices) c.mesh e
-      own = mesh_edge at (state_of c) kept e within
-
-      twin : IsMeshEdge (map at c.vertices) c.mesh (rev e)
-      twin = mesh_edge at (state_of c) kept (rev e) (twin_within e within)
-
-      go : face c.mesh (rev e) ≡ 0 → IsTiling (drawn (map at c.vertices) c.mesh) → ⊥
-      go twin_outer (inr l) = some (no_listed_face l.no_face)
-      go twin_outer (inl t) = elim ((t.sides (origin c.mesh e) (origin c.mesh (rev e))).0 own.joined) [
-        | inl h ↦ own.bare outer h
-        | inr h ↦ twin.bare twin_outer (subst (λ k. HasFace (drawn (map at c.vertices) c.mesh) (origin c.mesh (rev e)) (origin c.mesh k)) (sym (rev-rev e)) h)
-      ]
-
   -- ---- where a position is
   module _ (p : Point) where
     pub vertex_of_handle : (x : PositionInTriangulation) (f : ℕ) → Locates (map at c.vertices) c.mesh p x → x ≡ OnFace f → 0 < length c.vertices
     vertex_of_handle x f l is =
         let h = (subst (Locates (map at c.vertices) c.mesh p) is l).handle in
         let fit = kept.fits.faces_fit in
-        vertex_of_face f h.0 (subst (λ n. f ≤ n) (sym fit) h.1)
+        vertex_of_face at c kept f h.0 (subst (λ n. f ≤ n) (sym fit) h.1)
 
     pub edge_of_handle : (x : PositionInTriangulation) (e : ℕ) → Locates (map at c.vertices) c.mesh p x → x ≡ OutsideOfConvexHull e → e < length c.directed
     edge_of_handle x e l is = subst (λ n. e < n) (sym kept.fits.directed_fit) (subst (Locates (map at c.vertices) c.mesh p) is l).handle.0
@@ -102,7 +44,7 @@ module _ {V D U F : Type 0} (at : V → Point) (c : Contents V D U F) (kept : Is
       where
         go : IsMesh (map at c.vertices) (faces_of c.mesh) (outer_of c.mesh) → length c.faces ≡ 0
         go (inl l) = absurd (P.none_beyond (length (map at c.vertices)) (point_at (map at c.vertices)) (faces_of c.mesh) (outer_of c.mesh) (by_signs (map at c.vertices) (faces_of c.mesh) (outer_of c.mesh) l) (whole p) (origin c.mesh e) (mesh_edge at (state_of c) kept e within).source past)
-        go (inr l) = no_listed_face l.0
+        go (inr l) = no_listed_face at c kept l.0
 
     pub not_on_vertex : IsApart (map at c.vertices) p → (v : ℕ) → ¬ Locates (map at c.vertices) c.mesh p (OnVertex v)
     not_on_vertex apart v l = apart.apart v l.location.0 (same_point p _ l.location.1)

@@ -20,7 +20,7 @@ use Rattle.delaunay_legalization.proofs.Constraints.{fixed_within}
 use Rattle.delaunay_legalization.specs.Shape.{IsTriangulated, IsDelaunayTriangulation}
 use Rattle.delaunay_legalization.specs.State.{State, state_of}
 use Rattle.delaunay_edit.specs.Data.{HasOtherEdgeData}
-use Rattle.delaunay_edit.proofs.DataGrowing.{rev_of_even}
+use Rattle.delaunay_insertion.proofs.DataGrowing.{rev_of_even}
 
 -- ---- how many there are
 abbrev add_mark : Bool → ℕ → ℕ

@@ -16,8 +16,8 @@ use Rattle.delaunay_edit.specs.Constrained.{none}
 use Rattle.delaunay_edit.specs.Data.{KeepsData}
 use Rattle.delaunay_edit.specs.Edits.{InsertsVertex}
 use Rattle.delaunay_edit.specs.Location.{IsApart}
-use Rattle.delaunay_edit.proofs.Appending.{inserted}
-use Rattle.delaunay_edit.proofs.DataKept.{overwritten_keeps}
+use Rattle.delaunay_insertion.proofs.Appending.{inserted}
+use Rattle.delaunay_insertion.proofs.DataKept.{overwritten_keeps}
 
 ok_is_no_error : {E : Type 0} (i : ℕ) (e : E) → ¬ (Ok i ≡ Err e)
 ok_is_no_error i e h = cc

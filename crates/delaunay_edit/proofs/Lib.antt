@@ -1,16 +1,8 @@
 pub mod Edges
 pub mod Counts
 pub mod HullSizes
-pub mod Growing
 pub mod Cases
 pub mod Overwriting
-pub mod Appending
-pub mod InsertionCases
-pub mod MadeFaces
-pub mod LineEnds
-pub mod DataKept
-pub mod DataGrowing
-pub mod Joining
 pub mod Delaunay
 pub mod ConstraintEdges
 pub mod Removing

@@ -1,7 +1,6 @@
 pub mod Location
 pub mod Elements
 pub mod Data
-pub mod Joining
 pub mod Hull
 pub mod Removal
 pub mod Headline

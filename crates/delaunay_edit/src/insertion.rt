@@ -1,10 +1,8 @@
 //! New vertices, and new data at a known position.
 ghost use Rattle.std.specs.Prelude.{◌≡◌, ◌↔◌, ℕ, ◌+◌, ◌*◌, ◌<◌, ◌++◌, ◌∷◌, [], length, map, All, IsTrue, IsErrOf, IfOk, OnErr, OnOk};
-ghost use Rattle.half_edge_links.specs.Room.{HasRoomFor};
 ghost use Rattle.plane.specs.Tests.{InRange};
 ghost use Rattle.delaunay_core.specs.declared.math.InsertionError.TheVariants.{TooLarge, OutOfMemory, OutOfIndexes};
 ghost use Rattle.delaunay_legalization.specs.Flips.{CountsFlips, FlipsFit};
-ghost use Rattle.delaunay_legalization.specs.State.{state_of};
 ghost use Rattle.delaunay_edit.specs.Constrained.{none};
 ghost use Rattle.delaunay_edit.specs.Data.{KeepsData};
 ghost use Rattle.delaunay_edit.specs.Edits.{InsertsVertex};
@@ -16,9 +14,10 @@ use crate::delaunay_triangulation::DelaunayTriangulation;
 use crate::insertion_cases::insert_at;
 use delaunay_core::math::{InsertionError, PlaneTests, validate_vertex};
 use delaunay_core::point::HasPosition;
+use delaunay_insertion::reserve_for_vertex;
 use delaunay_legalization::{NoConstraints, legalize_star, reserve_for_edges, turns_left};
 use delaunay_location::PositionInTriangulation;
-use half_edge_mesh::{Dcel, FixedVertexHandle, MAX_ELEMENTS, ReserveError};
+use half_edge_mesh::{FixedVertexHandle, MAX_ELEMENTS};
 use hint_generators::HintGenerator;
 
 /// What is at the position of a value.
@@ -27,21 +26,6 @@ pub(crate) enum Entry {
     Occupied(FixedVertexHandle),
     /// No vertex. The location of the position, and whether the position is strictly on the left of the edge that it names.
     Vacant(PositionInTriangulation, bool),
-}
-
-// Makes room for one more vertex, with the edges and faces that it can bring.
-fn reserve_for_vertex<V, DE, UE, F>(dcel: &mut Dcel<V, DE, UE, F>) -> Result<(), InsertionError>
-    ensures same { state_of dcel.new ≡ state_of dcel.old }
-    ensures full { IsErrOf result OutOfIndexes ↔ (MAX_ELEMENTS < 6 * (length dcel.old.vertices + 1)) }
-    ensures not_too_large { ¬ IsErrOf result TooLarge }
-    ensures ok { OnOk result (HasRoomFor dcel.new.room (length dcel.old.vertices + 1) (3 * (length dcel.old.vertices + 1)) (2 * (length dcel.old.vertices + 1))) }
-{
-    let vertices = dcel.num_vertices() + 1;
-    match dcel.reserve_capacity(vertices, 3 * vertices, 2 * vertices) {
-        Ok(()) => Ok(()),
-        Err(ReserveError::TooMany) => Err(InsertionError::OutOfIndexes),
-        Err(ReserveError::OutOfMemory) => Err(InsertionError::OutOfMemory),
-    }
 }
 
 impl<

@@ -6,8 +6,6 @@ mod delaunay_triangulation;
 mod elements;
 mod insertion;
 mod insertion_cases;
-mod insertion_line;
-mod insertion_outside;
 mod location;
 mod nearest_vertex;
 mod removal;

@@ -9,3 +9,4 @@ pub mod ConstraintEdges
 pub mod Flips
 pub mod Stars
 pub mod MeshParts
+pub mod MarkedPairs

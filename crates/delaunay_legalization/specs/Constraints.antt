@@ -1,5 +1,5 @@
 -- Which edges are constraints, so that no legalising flips them: those whose data are marked.
-use Rattle.std.specs.Prelude.{◌≡◌, ℕ, suc, Bool, false, List, [], ◌∷◌, if◌then◌else◌, refl}
+use Rattle.std.specs.Prelude.{◌≡◌, ℕ, suc, Bool, true, false, List, [], ◌∷◌, if◌then◌else◌, refl}
 use Rattle.half_edge_links.specs.Mesh.{Mesh}
 use Rattle.mesh_embedding.specs.Legal.{pairs_at}
 use Rattle.plane.specs.Plain.{Plain}
@@ -21,6 +21,10 @@ none_marked_from first (d ∷ ds) = none_marked_from (suc first) ds
 
 pub none_marked : {U : Type 0} (ds : List U) → [] ≡ marked_edges (λ _. false) ds
 none_marked ds = none_marked_from 0 ds
+
+-- no truth value is both
+pub not_both : {A : Type 0} → false ≡ true → A
+not_both e = absurd (cc)
 
 -- the vertices that the constraints of a mesh join, by the data of all its edges
 abbrev pub constraint_pairs : {U : Type 0} → (List U → List ℕ) → Mesh → List U → List (ℕ × ℕ)

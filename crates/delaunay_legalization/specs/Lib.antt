@@ -8,3 +8,4 @@ pub mod CdtEdge
 pub mod Lending
 pub mod Star
 pub mod Parts
+pub mod Marking

@@ -1,6 +1,6 @@
 //! The data of an edge that may be a constraint.
 ghost use Rattle.std.specs.Prelude.{◌≡◌, true, false, refl};
-ghost use Rattle.delaunay_legalization.specs.CdtEdge.{is_constraint};
+ghost use Rattle.delaunay_legalization.specs.CdtEdge.{is_constraint, with_mark};
 ghost use Rattle.delaunay_legalization.specs.Constraints.{marked_edges};
 
 use crate::constraint_marker::ConstraintMarker;
@@ -84,9 +84,29 @@ impl<UE> ConstraintMarker<CdtEdge<UE>> for EdgeConstraints {
 
     ghost constraints = { marked_edges is_constraint };
 
+    ghost can_mark = { true };
+
+    ghost marked = { with_mark true };
+
+    ghost unmarked = { with_mark false };
+
     ghost constraints_are_marked = { λ ds. refl };
+
+    ghost marked_has_mark = { λ d can. refl };
+
+    ghost unmarked_has_none = { λ d. refl };
+
+    ghost can_mark_where_marked = { λ d is. refl };
 
     fn is_constraint_edge(value: &CdtEdge<UE>) -> bool {
         value.is_constraint_edge()
+    }
+
+    fn make_constraint(value: &mut CdtEdge<UE>) {
+        value.is_constraint_edge = true;
+    }
+
+    fn free(value: &mut CdtEdge<UE>) {
+        value.is_constraint_edge = false;
     }
 }

@@ -5,6 +5,7 @@
 mod cdt_edge;
 mod constraint_marker;
 mod legalization;
+mod marking;
 mod predicates;
 mod star;
 mod work_list;
@@ -14,6 +15,7 @@ pub use constraint_marker::{ConstraintMarker, NoConstraints};
 
 // For the crates of edits, and not for users.
 pub use legalization::{is_constraint_edge, is_outer, legalize, start_of};
+pub use marking::{free_edge, make_constraint};
 pub use predicates::{is_same_point, is_strictly_inside, is_strictly_within, turns_left};
 pub use star::legalize_star;
 pub use work_list::{legalize_all, reserve_for_edges};

@@ -3,3 +3,7 @@ pub mod Making
 pub mod LastEdge
 pub mod Walking
 pub mod Places
+pub mod AddingPieces
+pub mod InTheWay
+pub mod Releasing
+pub mod Marks

@@ -1,2 +1,4 @@
 pub mod Crossing
 pub mod Kept
+pub mod Adding
+pub mod Releasing

@@ -2,12 +2,16 @@
 //! piece, and flips until the piece is an edge.
 #![tactic(auto)]
 
+mod adding;
+mod constraints;
 mod crossing;
 mod flips;
 mod order;
 mod path;
 
 // For the crates of edits, and not for users.
+pub use adding::{add_path, can_add_path};
+pub use constraints::{add_constraints, release_constraint};
 pub use crossing::crosses_segment;
 pub use flips::make_edge;
 pub use path::next_on_path;

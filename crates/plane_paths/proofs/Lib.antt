@@ -13,3 +13,4 @@ pub mod Shorter
 pub mod PathFlips
 pub mod HalvesJoin
 pub mod RemovalKeeps
+pub mod Adding

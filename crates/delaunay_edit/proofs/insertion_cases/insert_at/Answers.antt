@@ -1,6 +1,7 @@
 use Rattle.std.proofs.Common.{◌<◌, map, sym, subst}
 use Rattle.delaunay_edit.specs.Location.{IsLeftOfPlace, Locates}
-use Rattle.delaunay_edit.proofs.Cases.{room_inside, vertex_of_handle, edge_of_handle, past_if_not_left, bare_if_past, not_on_vertex}
+use Rattle.delaunay_insertion.proofs.EdgeSides.{room_inside}
+use Rattle.delaunay_edit.proofs.Cases.{vertex_of_handle, edge_of_handle, past_if_not_left, bare_if_past, not_on_vertex}
 use Rattle.delaunay_legalization.proofs.Questions.{both_ways}
 use Rattle.delaunay_edit.proofs.insertion_cases.insert_at.Goals as goal
 

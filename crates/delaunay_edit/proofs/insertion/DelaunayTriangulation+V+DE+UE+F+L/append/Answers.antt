@@ -1,9 +1,9 @@
 use Rattle.std.proofs.Common.{◌∙◌, [], ◌∷◌, ◌++◌, ap, sym, subst, map}
 use Rattle.delaunay_edit.specs.Location.{Locates}
 use Rattle.delaunay_legalization.specs.Shape.{IsTriangulated, IsDelaunayTriangulation}
-use Rattle.delaunay_edit.proofs.Appending.{sites_after}
-use Rattle.delaunay_edit.proofs.DataKept.{appended_keeps}
-use Rattle.delaunay_edit.proofs.MadeFaces.{passes_beside}
+use Rattle.delaunay_insertion.proofs.Appending.{sites_after}
+use Rattle.delaunay_insertion.proofs.DataKept.{appended_keeps}
+use Rattle.delaunay_insertion.proofs.MadeFaces.{passes_beside}
 use Rattle.delaunay_edit.proofs.insertion.DelaunayTriangulation+V+DE+UE+F+L.append.Goals as goal
 
 pub insert_at-vertex-requires-clause-location : goal.insert_at-vertex-requires-clause-location

@@ -1,0 +1,71 @@
+-- The room for a vertex, and the two sides of an edge.
+use Rattle.std.proofs.Common.{◌≡◌, ℕ, ◌+◌, ◌*◌, ◌<◌, ◌≤◌, [], length, map, ap, sym, ◌∙◌, subst, inl, inr, arith}
+use Rattle.std.proofs.lemmas.List.{length-map}
+use Rattle.half_edge_links.specs.Mesh.{origin, rev, face}
+use Rattle.half_edge_links.specs.Room.{HasRoomFor}
+use Rattle.half_edge_links.specs.Triangles.{triangle_at, triangles}
+use Rattle.half_edge_links.proofs.Rev.{rev-rev, rev_within}
+use Rattle.half_edge_mesh.specs.Contents.{Contents, HasRoom}
+use Rattle.plane.specs.Fraction.{Point, whole, WithinSegment}
+use Rattle.plane.specs.Pairs.{place}
+use Rattle.plane.specs.Tiling.{IsTiling, HasFace}
+use Rattle.plane_tiling.proofs.Edges.{turned_within}
+use Rattle.mesh_embedding.specs.Drawn.{drawn, faces_of, corners_of}
+use Rattle.delaunay_legalization.specs.Parts.{IsMeshEdge, IsWithinEdge}
+use Rattle.delaunay_legalization.specs.Shape.{IsTriangulated}
+use Rattle.delaunay_legalization.specs.State.{state_of}
+use Rattle.delaunay_insertion.proofs.Joining.{sides_at_most, edges_and_faces}
+use Rattle.delaunay_legalization.proofs.MeshParts.{mesh_edge}
+use Rattle.delaunay_legalization.proofs.Shapes.{laid_out_tiles}
+
+pub positive : (n : ℕ) → ¬ (n ≡ 0) → 0 < n
+positive n h = omega (arith, h)
+
+module _ {V D U F : Type 0} (at : V → Point) (c : Contents V D U F) (kept : IsTriangulated at (state_of c)) where
+  -- ---- room for what a vertex brings, of the room that is reserved for it
+  module _ (room : HasRoomFor c.room (length c.vertices + 1) (3 * (length c.vertices + 1)) (2 * (length c.vertices + 1))) where
+    pub room_inside : 0 < length c.vertices → HasRoom c 1 3 2
+    room_inside some =
+        let v = room.vertices_fit in
+        let e = room.edges_fit in
+        let f = room.faces_fit in
+        let counts = edges_and_faces at c kept some in
+        let sides = sides_at_most c (record { valid = kept.valid; fits = kept.fits }) in
+        record { vertices_fit = omega (arith, v); edges_fit = omega (arith, e, counts, sides); faces_fit = omega (arith, f, counts, sides) }
+
+  pub vertex_of_face : (f : ℕ) → 0 < f → f ≤ length c.faces → 0 < length c.vertices
+  vertex_of_face f some within = let few = kept.few_faces in omega (arith, some, within, few)
+
+  pub vertex_of_edge : (e : ℕ) → e < length c.directed → 0 < length c.vertices
+  vertex_of_edge e within = let d = kept.fits.directed_fit in let u = kept.fits.undirected_fit in let few = kept.few_edges in omega (arith, within, d, u, few)
+
+  -- ---- the two sides of an edge
+  pub twin_within : (e : ℕ) → e < length c.directed → rev e < length c.directed
+  twin_within e within =
+      let d = kept.fits.directed_fit in
+      let h : e < length c.mesh.half_edges = omega (arith, within, d) in
+      let r = rev_within e (length c.mesh.half_edges) kept.valid.sound.even h in
+      omega (arith, r, d)
+
+  pub within_twin : (p : Point) (e : ℕ) → IsWithinEdge (map at c.vertices) c.mesh p e → IsWithinEdge (map at c.vertices) c.mesh p (rev e)
+  within_twin p e w = subst (λ k. WithinSegment (place (map at c.vertices) (origin c.mesh (rev e))) (place (map at c.vertices) (origin c.mesh k)) (whole p)) (sym (rev-rev e)) (turned_within (place (map at c.vertices) (origin c.mesh e)) (place (map at c.vertices) (origin c.mesh (rev e))) (whole p) w)
+
+  pub no_listed_face : faces_of c.mesh ≡ [] → length c.faces ≡ 0
+  no_listed_face none = kept.fits.faces_fit ∙ sym (length-map c.mesh.face_edges (triangle_at c.mesh)) ∙ sym (length-map (triangles c.mesh) corners_of) ∙ ap length none
+
+  -- where there are faces, an edge has one on its left or on its right
+  pub inner_twin : (e : ℕ) → e < length c.directed → ¬ (length c.faces ≡ 0) → face c.mesh e ≡ 0 → 0 < face c.mesh (rev e)
+  inner_twin e within some outer = positive (face c.mesh (rev e)) (λ twin_outer. go twin_outer (laid_out_tiles (map at c.vertices) c.mesh kept.valid kept.shape))
+    where
+      own : IsMeshEdge (map at c.vertices) c.mesh e
+      own = mesh_edge at (state_of c) kept e within
+
+      twin : IsMeshEdge (map at c.vertices) c.mesh (rev e)
+      twin = mesh_edge at (state_of c) kept (rev e) (twin_within e within)
+
+      go : face c.mesh (rev e) ≡ 0 → IsTiling (drawn (map at c.vertices) c.mesh) → ⊥
+      go twin_outer (inr l) = some (no_listed_face l.no_face)
+      go twin_outer (inl t) = elim ((t.sides (origin c.mesh e) (origin c.mesh (rev e))).0 own.joined) [
+        | inl h ↦ own.bare outer h
+        | inr h ↦ twin.bare twin_outer (subst (λ k. HasFace (drawn (map at c.vertices) c.mesh) (origin c.mesh (rev e)) (origin c.mesh k)) (sym (rev-rev e)) h)
+      ]

@@ -1,0 +1,9 @@
+pub mod LineEnds
+pub mod Joining
+pub mod EdgeSides
+pub mod Growing
+pub mod InsertionCases
+pub mod MadeFaces
+pub mod DataGrowing
+pub mod DataKept
+pub mod Appending

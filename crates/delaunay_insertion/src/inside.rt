@@ -1,0 +1,116 @@
+//! A new vertex inside a face or within an edge.
+ghost use Rattle.std.specs.Prelude.{◌≡◌, ◌+◌, ◌*◌, ◌<◌, ◌≤◌, ◌++◌, ◌∷◌, [], length, map};
+ghost use Rattle.half_edge_links.specs.Mesh.{rev, face, face_edge};
+ghost use Rattle.half_edge_links.specs.Room.{HasRoomFor};
+ghost use Rattle.half_edge_mesh.specs.Contents.{HasRoom};
+ghost use Rattle.plane.specs.Tests.{InRange};
+ghost use Rattle.delaunay_insertion.specs.Data.{GrowsAround};
+ghost use Rattle.delaunay_legalization.specs.Parts.{IsInsideFaceOf, IsWithinEdge};
+ghost use Rattle.delaunay_legalization.specs.Shape.{IsTriangulated};
+ghost use Rattle.delaunay_legalization.specs.Star.{MakesFacesAt};
+ghost use Rattle.delaunay_legalization.specs.State.{state_of};
+ghost use Rattle.mesh_embedding.specs.Drawn.{faces_of};
+
+use crate::on_line::insert_within_line;
+use delaunay_core::point::HasPosition;
+use delaunay_legalization::is_outer;
+use half_edge_mesh::{Dcel, FixedDirectedEdgeHandle, FixedFaceHandle, FixedVertexHandle};
+
+// A vertex strictly inside an inner face, joined to its corners.
+pub fn insert_inside_face<V: HasPosition, DE: Default, UE: Default, F: Default>(
+    dcel: &mut Dcel<V, DE, UE, F>,
+    face: FixedFaceHandle,
+    value: V,
+) -> FixedVertexHandle
+    requires kept { IsTriangulated V.place (state_of dcel.old) }
+    requires in_range { InRange (V.place value) }
+    requires positive { 0 < face }
+    requires within { face ≤ length dcel.old.faces }
+    requires inside { IsInsideFaceOf (map V.place dcel.old.vertices) dcel.old.mesh (V.place value) (face_edge dcel.old.mesh face) }
+    requires room { HasRoom dcel.old 1 3 2 }
+    ensures vertex { result ≡ length dcel.old.vertices }
+    ensures vertices { dcel.new.vertices ≡ dcel.old.vertices ++ value ∷ [] }
+    ensures kept { IsTriangulated V.place (state_of dcel.new) }
+    ensures grows { GrowsAround (map V.place dcel.old.vertices) (V.place value) (state_of dcel.old) (state_of dcel.new) }
+    ensures made { MakesFacesAt (length dcel.old.vertices) (faces_of dcel.old.mesh) (faces_of dcel.new.mesh) }
+{
+    let vertex = dcel.insert_into_triangle(value, face);
+    let _ = dcel.num_vertices();
+    vertex
+}
+
+// A vertex strictly within an edge between two inner faces, joined to their corners.
+fn split_inner_edge<V: HasPosition, DE: Default, UE: Default, F: Default>(
+    dcel: &mut Dcel<V, DE, UE, F>,
+    edge: FixedDirectedEdgeHandle,
+    value: V,
+) -> FixedVertexHandle
+    requires kept { IsTriangulated V.place (state_of dcel.old) }
+    requires in_range { InRange (V.place value) }
+    requires within { edge < length dcel.old.directed }
+    requires inner { 0 < face dcel.old.mesh edge }
+    requires twin_inner { 0 < face dcel.old.mesh (rev edge) }
+    requires on_edge { IsWithinEdge (map V.place dcel.old.vertices) dcel.old.mesh (V.place value) edge }
+    requires room { HasRoom dcel.old 1 3 2 }
+    ensures vertex { result ≡ length dcel.old.vertices }
+    ensures vertices { dcel.new.vertices ≡ dcel.old.vertices ++ value ∷ [] }
+    ensures kept { IsTriangulated V.place (state_of dcel.new) }
+    ensures grows { GrowsAround (map V.place dcel.old.vertices) (V.place value) (state_of dcel.old) (state_of dcel.new) }
+    ensures made { MakesFacesAt (length dcel.old.vertices) (faces_of dcel.old.mesh) (faces_of dcel.new.mesh) }
+{
+    let (vertex, _parts) = dcel.split_edge(edge, value);
+    let _ = dcel.num_vertices();
+    vertex
+}
+
+// A vertex strictly within an edge of the hull, which has an inner face on its left, joined to the corners of that face.
+fn split_hull_edge<V: HasPosition, DE: Default, UE: Default, F: Default>(
+    dcel: &mut Dcel<V, DE, UE, F>,
+    edge: FixedDirectedEdgeHandle,
+    value: V,
+) -> FixedVertexHandle
+    requires kept { IsTriangulated V.place (state_of dcel.old) }
+    requires in_range { InRange (V.place value) }
+    requires within { edge < length dcel.old.directed }
+    requires inner { 0 < face dcel.old.mesh edge }
+    requires outer { face dcel.old.mesh (rev edge) ≡ 0 }
+    requires on_edge { IsWithinEdge (map V.place dcel.old.vertices) dcel.old.mesh (V.place value) edge }
+    requires room { HasRoom dcel.old 1 2 1 }
+    ensures vertex { result ≡ length dcel.old.vertices }
+    ensures vertices { dcel.new.vertices ≡ dcel.old.vertices ++ value ∷ [] }
+    ensures kept { IsTriangulated V.place (state_of dcel.new) }
+    ensures grows { GrowsAround (map V.place dcel.old.vertices) (V.place value) (state_of dcel.old) (state_of dcel.new) }
+    ensures made { MakesFacesAt (length dcel.old.vertices) (faces_of dcel.old.mesh) (faces_of dcel.new.mesh) }
+{
+    let (vertex, _parts) = dcel.split_half_edge(edge, value);
+    let _ = dcel.num_vertices();
+    vertex
+}
+
+// A vertex strictly within an edge.
+pub fn insert_within_edge<V: HasPosition, DE: Default, UE: Default, F: Default>(
+    dcel: &mut Dcel<V, DE, UE, F>,
+    edge: FixedDirectedEdgeHandle,
+    value: V,
+) -> FixedVertexHandle
+    requires kept { IsTriangulated V.place (state_of dcel.old) }
+    requires in_range { InRange (V.place value) }
+    requires within { edge < length dcel.old.directed }
+    requires on_edge { IsWithinEdge (map V.place dcel.old.vertices) dcel.old.mesh (V.place value) edge }
+    requires room { HasRoomFor dcel.old.room (length dcel.old.vertices + 1) (3 * (length dcel.old.vertices + 1)) (2 * (length dcel.old.vertices + 1)) }
+    ensures vertex { result ≡ length dcel.old.vertices }
+    ensures vertices { dcel.new.vertices ≡ dcel.old.vertices ++ value ∷ [] }
+    ensures kept { IsTriangulated V.place (state_of dcel.new) }
+    ensures grows { GrowsAround (map V.place dcel.old.vertices) (V.place value) (state_of dcel.old) (state_of dcel.new) }
+    ensures made { MakesFacesAt (length dcel.old.vertices) (faces_of dcel.old.mesh) (faces_of dcel.new.mesh) }
+{
+    if dcel.num_inner_faces() == 0 {
+        insert_within_line(dcel, edge, value)
+    } else if is_outer(dcel, edge) {
+        split_hull_edge(dcel, edge.rev(), value)
+    } else if is_outer(dcel, edge.rev()) {
+        split_hull_edge(dcel, edge, value)
+    } else {
+        split_inner_edge(dcel, edge, value)
+    }
+}

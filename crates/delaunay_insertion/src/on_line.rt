@@ -1,0 +1,109 @@
+//! New vertices on the line of all vertices.
+ghost use Rattle.std.specs.Prelude.{◌≡◌, ◌<◌, ◌++◌, ◌∷◌, [], length, map};
+ghost use Rattle.half_edge_links.specs.Mesh.{origin};
+ghost use Rattle.half_edge_mesh.specs.Contents.{HasRoom};
+ghost use Rattle.plane.specs.Fraction.{whole as fraction};
+ghost use Rattle.plane.specs.Location.{IsPast};
+ghost use Rattle.plane.specs.Tests.{InRange};
+ghost use Rattle.plane_tiling.specs.Local.{alone};
+ghost use Rattle.delaunay_insertion.specs.Data.{GrowsAround};
+ghost use Rattle.delaunay_legalization.specs.Parts.{IsApart, IsWithinEdge};
+ghost use Rattle.delaunay_legalization.specs.Shape.{IsTriangulated};
+ghost use Rattle.delaunay_legalization.specs.Star.{MakesFacesAt};
+ghost use Rattle.delaunay_legalization.specs.State.{state_of};
+ghost use Rattle.mesh_embedding.specs.Drawn.{faces_of};
+
+use delaunay_core::point::HasPosition;
+use half_edge_mesh::{Dcel, FixedDirectedEdgeHandle, FixedVertexHandle};
+use half_edge_views::MeshViews;
+
+// The first vertex.
+pub fn insert_first<V: HasPosition, DE, UE, F>(
+    dcel: &mut Dcel<V, DE, UE, F>,
+    value: V,
+) -> FixedVertexHandle
+    requires kept { IsTriangulated V.place (state_of dcel.old) }
+    requires in_range { InRange (V.place value) }
+    requires none { length dcel.old.vertices ≡ 0 }
+    requires room { HasRoom dcel.old 1 0 0 }
+    ensures vertex { result ≡ length dcel.old.vertices }
+    ensures vertices { dcel.new.vertices ≡ dcel.old.vertices ++ value ∷ [] }
+    ensures kept { IsTriangulated V.place (state_of dcel.new) }
+    ensures grows { GrowsAround (map V.place dcel.old.vertices) (V.place value) (state_of dcel.old) (state_of dcel.new) }
+    ensures made { MakesFacesAt (length dcel.old.vertices) (faces_of dcel.old.mesh) (faces_of dcel.new.mesh) }
+{
+    let vertex = dcel.append_unconnected_vertex(value);
+    let _ = dcel.num_vertices();
+    vertex
+}
+
+// The second vertex, joined to the first.
+pub fn insert_second<V: HasPosition, DE: Default, UE: Default, F>(
+    dcel: &mut Dcel<V, DE, UE, F>,
+    value: V,
+) -> FixedVertexHandle
+    requires kept { IsTriangulated V.place (state_of dcel.old) }
+    requires in_range { InRange (V.place value) }
+    requires apart { IsApart (map V.place dcel.old.vertices) (V.place value) }
+    requires one { length dcel.old.vertices ≡ 1 }
+    requires room { HasRoom dcel.old 1 1 0 }
+    ensures vertex { result ≡ length dcel.old.vertices }
+    ensures vertices { dcel.new.vertices ≡ dcel.old.vertices ++ value ∷ [] }
+    ensures kept { IsTriangulated V.place (state_of dcel.new) }
+    ensures grows { GrowsAround (map V.place dcel.old.vertices) (V.place value) (state_of dcel.old) (state_of dcel.new) }
+    ensures made { MakesFacesAt (length dcel.old.vertices) (faces_of dcel.old.mesh) (faces_of dcel.new.mesh) }
+{
+    let _ = dcel.num_vertices();
+    let vertex = dcel.append_unconnected_vertex(value);
+    dcel.setup_initial_two_vertices(FixedVertexHandle::from_index(0), vertex);
+    let _ = dcel.num_vertices();
+    vertex
+}
+
+// A vertex past the end of the line of all vertices, joined to that end.
+pub fn insert_past_end<V: HasPosition, DE: Default, UE: Default, F>(
+    dcel: &mut Dcel<V, DE, UE, F>,
+    edge: FixedDirectedEdgeHandle,
+    value: V,
+) -> FixedVertexHandle
+    requires kept { IsTriangulated V.place (state_of dcel.old) }
+    requires in_range { InRange (V.place value) }
+    requires apart { IsApart (map V.place dcel.old.vertices) (V.place value) }
+    requires one_face { length dcel.old.faces ≡ 0 }
+    requires within { edge < length dcel.old.directed }
+    requires past { IsPast (alone (map V.place dcel.old.vertices)) (origin dcel.old.mesh edge) (fraction (V.place value)) }
+    requires room { HasRoom dcel.old 1 1 0 }
+    ensures vertex { result ≡ length dcel.old.vertices }
+    ensures vertices { dcel.new.vertices ≡ dcel.old.vertices ++ value ∷ [] }
+    ensures kept { IsTriangulated V.place (state_of dcel.new) }
+    ensures grows { GrowsAround (map V.place dcel.old.vertices) (V.place value) (state_of dcel.old) (state_of dcel.new) }
+    ensures made { MakesFacesAt (length dcel.old.vertices) (faces_of dcel.old.mesh) (faces_of dcel.new.mesh) }
+{
+    let end = dcel.directed_edge(edge).from().fix();
+    let vertex = dcel.extend_line(end, value);
+    let _ = dcel.num_vertices();
+    vertex
+}
+
+// A vertex strictly within an edge of the line of all vertices.
+pub fn insert_within_line<V: HasPosition, DE: Default, UE: Default, F>(
+    dcel: &mut Dcel<V, DE, UE, F>,
+    edge: FixedDirectedEdgeHandle,
+    value: V,
+) -> FixedVertexHandle
+    requires kept { IsTriangulated V.place (state_of dcel.old) }
+    requires in_range { InRange (V.place value) }
+    requires one_face { length dcel.old.faces ≡ 0 }
+    requires within { edge < length dcel.old.directed }
+    requires on_edge { IsWithinEdge (map V.place dcel.old.vertices) dcel.old.mesh (V.place value) edge }
+    requires room { HasRoom dcel.old 1 1 0 }
+    ensures vertex { result ≡ length dcel.old.vertices }
+    ensures vertices { dcel.new.vertices ≡ dcel.old.vertices ++ value ∷ [] }
+    ensures kept { IsTriangulated V.place (state_of dcel.new) }
+    ensures grows { GrowsAround (map V.place dcel.old.vertices) (V.place value) (state_of dcel.old) (state_of dcel.new) }
+    ensures made { MakesFacesAt (length dcel.old.vertices) (faces_of dcel.old.mesh) (faces_of dcel.new.mesh) }
+{
+    let (vertex, _parts) = dcel.split_edge_when_all_vertices_on_line(edge, value);
+    let _ = dcel.num_vertices();
+    vertex
+}

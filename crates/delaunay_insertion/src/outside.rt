@@ -1,0 +1,136 @@
+//! A new vertex outside the hull, or off the line of all vertices.
+ghost use Rattle.std.specs.Prelude.{◌≡◌, ◌↔◌, ◌+◌, ◌*◌, ◌<◌, ◌++◌, ◌∷◌, [], length, map, All, IsTrue, IfSome, IfNone};
+ghost use Rattle.half_edge_links.specs.Mesh.{origin, next, prev, rev, face};
+ghost use Rattle.half_edge_links.specs.Room.{HasRoomFor};
+ghost use Rattle.half_edge_mesh.specs.Contents.{IsMeshWithData};
+ghost use Rattle.plane.specs.Fraction.{whole as fraction};
+ghost use Rattle.plane.specs.Side.{TurnsLeft};
+ghost use Rattle.plane.specs.Pairs.{place};
+ghost use Rattle.plane.specs.Tests.{InRange};
+ghost use Rattle.delaunay_core.specs.Place.{place_of};
+ghost use Rattle.delaunay_insertion.specs.Data.{GrowsAround};
+ghost use Rattle.delaunay_insertion.specs.Joining.{Sees};
+ghost use Rattle.delaunay_legalization.specs.Known.{point_at};
+ghost use Rattle.delaunay_legalization.specs.Shape.{IsTriangulated};
+ghost use Rattle.delaunay_legalization.specs.Star.{MakesFacesAt};
+ghost use Rattle.delaunay_legalization.specs.State.{state_of};
+ghost use Rattle.mesh_embedding.specs.Drawn.{faces_of};
+
+use delaunay_core::math::PlaneTests;
+use delaunay_core::point::{HasPosition, Point2};
+use delaunay_legalization::{start_of, turns_left};
+use half_edge_mesh::{Dcel, FixedDirectedEdgeHandle, FixedVertexHandle};
+use half_edge_views::MeshViews;
+
+// The position of a vertex.
+fn position_of<V: HasPosition, DE, UE, F>(
+    dcel: &Dcel<V, DE, UE, F>,
+    vertex: FixedVertexHandle,
+) -> Point2<V::Scalar>
+    requires { vertex < length dcel.now.vertices }
+    ensures { place_of V.Scalar.whole result ≡ point_at (map V.place dcel.now.vertices) vertex }
+{
+    dcel.vertex_data(vertex).position()
+}
+
+// Whether an edge has a vertex strictly on its left.
+fn is_seen<V: HasPosition, DE, UE, F, P: PlaneTests<V::Scalar>>(
+    dcel: &Dcel<V, DE, UE, F>,
+    edge: FixedDirectedEdgeHandle,
+    vertex: FixedVertexHandle,
+    tests: &P,
+) -> bool
+    requires within { edge < length dcel.now.directed }
+    requires vertex { vertex < length dcel.now.vertices }
+    requires sites { All (P.sites tests.now) (map V.place dcel.now.vertices) }
+    ensures { IsTrue result ↔ Sees (map V.place dcel.now.vertices) dcel.now.mesh vertex edge }
+{
+    let from = start_of(dcel, edge);
+    let to = start_of(dcel, dcel.directed_edge(edge).rev().fix());
+    let point = position_of(dcel, vertex);
+    turns_left(from, to, point, tests)
+}
+
+// The edge after an edge in its loop, where it has a vertex strictly on its left.
+fn seen_after<V: HasPosition, DE, UE, F, P: PlaneTests<V::Scalar>>(
+    dcel: &Dcel<V, DE, UE, F>,
+    edge: FixedDirectedEdgeHandle,
+    vertex: FixedVertexHandle,
+    tests: &P,
+) -> Option<FixedDirectedEdgeHandle>
+    requires within { edge < length dcel.now.directed }
+    requires vertex { vertex < length dcel.now.vertices }
+    requires sites { All (P.sites tests.now) (map V.place dcel.now.vertices) }
+    ensures whole { IsMeshWithData dcel.now }
+    ensures is { IfSome result (λ e. e ≡ next dcel.now.mesh edge) }
+    ensures some { IfSome result (λ e. Sees (map V.place dcel.now.vertices) dcel.now.mesh vertex e) }
+    ensures none { IfNone result (¬ Sees (map V.place dcel.now.vertices) dcel.now.mesh vertex (next dcel.now.mesh edge)) }
+{
+    let _ = dcel.num_directed_edges();
+    let after = dcel.directed_edge(edge).next().fix();
+    if is_seen(dcel, after, vertex, tests) {
+        Some(after)
+    } else {
+        None
+    }
+}
+
+// The edge before an edge in its loop, where it has a vertex strictly on its left.
+fn seen_before<V: HasPosition, DE, UE, F, P: PlaneTests<V::Scalar>>(
+    dcel: &Dcel<V, DE, UE, F>,
+    edge: FixedDirectedEdgeHandle,
+    vertex: FixedVertexHandle,
+    tests: &P,
+) -> Option<FixedDirectedEdgeHandle>
+    requires within { edge < length dcel.now.directed }
+    requires vertex { vertex < length dcel.now.vertices }
+    requires sites { All (P.sites tests.now) (map V.place dcel.now.vertices) }
+    ensures whole { IsMeshWithData dcel.now }
+    ensures is { IfSome result (λ e. (e ≡ prev dcel.now.mesh edge) × (e < length dcel.now.directed)) }
+    ensures some { IfSome result (λ e. Sees (map V.place dcel.now.vertices) dcel.now.mesh vertex e) }
+    ensures none { IfNone result (¬ Sees (map V.place dcel.now.vertices) dcel.now.mesh vertex (prev dcel.now.mesh edge)) }
+{
+    let _ = dcel.num_directed_edges();
+    let before = dcel.directed_edge(edge).prev().fix();
+    if is_seen(dcel, before, vertex, tests) {
+        Some(before)
+    } else {
+        None
+    }
+}
+
+// A vertex strictly on the left of an outer edge, joined to each outer edge that has it on its left.
+pub fn join_outside<V: HasPosition, DE: Default, UE: Default, F: Default, P: PlaneTests<V::Scalar>>(
+    dcel: &mut Dcel<V, DE, UE, F>,
+    edge: FixedDirectedEdgeHandle,
+    value: V,
+    tests: &P,
+) -> FixedVertexHandle
+    requires kept { IsTriangulated V.place (state_of dcel.old) }
+    requires in_range { InRange (V.place value) }
+    requires sites { All (P.sites tests.now) (map V.place dcel.old.vertices) }
+    requires new_site { P.sites tests.now (V.place value) }
+    requires within { edge < length dcel.old.directed }
+    requires outer { face dcel.old.mesh edge ≡ 0 }
+    requires turns { TurnsLeft (place (map V.place dcel.old.vertices) (origin dcel.old.mesh edge)) (place (map V.place dcel.old.vertices) (origin dcel.old.mesh (rev edge))) (fraction (V.place value)) }
+    requires room { HasRoomFor dcel.old.room (length dcel.old.vertices + 1) (3 * (length dcel.old.vertices + 1)) (2 * (length dcel.old.vertices + 1)) }
+    ensures vertex { result ≡ length dcel.old.vertices }
+    ensures vertices { dcel.new.vertices ≡ dcel.old.vertices ++ value ∷ [] }
+    ensures kept { IsTriangulated V.place (state_of dcel.new) }
+    ensures grows { GrowsAround (map V.place dcel.old.vertices) (V.place value) (state_of dcel.old) (state_of dcel.new) }
+    ensures made { MakesFacesAt (length dcel.old.vertices) (faces_of dcel.old.mesh) (faces_of dcel.new.mesh) }
+{
+    let vertex = dcel.create_new_face_adjacent_to_edge(edge, value);
+    let edges = dcel.num_directed_edges() as u32;
+    let mut ahead = FixedDirectedEdgeHandle::from_index(edges - 3);
+    let mut behind = FixedDirectedEdgeHandle::from_index(edges - 1);
+    while let Some(_after) = seen_after(dcel, ahead, vertex, tests) {
+        ahead = dcel.create_single_face_between_edge_and_next(ahead);
+        let _ = dcel.num_directed_edges();
+    }
+    while let Some(before) = seen_before(dcel, behind, vertex, tests) {
+        behind = dcel.create_single_face_between_edge_and_next(before);
+        let _ = dcel.num_directed_edges();
+    }
+    vertex
+}

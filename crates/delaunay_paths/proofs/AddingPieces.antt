@@ -1,0 +1,207 @@
+-- Pieces of a path that become edges and constraints, one after another.
+use Rattle.std.proofs.Common.{◌≡◌, ◌≢◌, ◌⊎◌, ◌↔◌, ℕ, ◌*◌, ◌/◌, ◌<◌, List, length, map, set, refl, sym, ap, ◌∙◌, subst, inl, inr}
+use Rattle.std.specs.Prelude.{Bool, true, false, All, nat_abs}
+use Rattle.std.proofs.lemmas.List.{length-set}
+use Rattle.half_edge_links.specs.Mesh.{Mesh, IsSoundEdge, origin, rev}
+use Rattle.half_edge_links.proofs.Rev.{rev-rev, rev_within}
+use Rattle.half_edge_mesh.specs.Contents.{Contents, IsMeshWithData}
+use Rattle.plane.specs.Fraction.{Point}
+use Rattle.plane.specs.Laws.{squared_way}
+use Rattle.plane.specs.Pairs.{Joins, IsSamePair, IsIndex}
+use Rattle.plane.specs.Tests.{InRange}
+use Rattle.plane_edits.specs.Legal.{point_of}
+use Rattle.plane_tiling.specs.Local.{IsMesh}
+use Rattle.plane_paths.specs.Constraints.{AreNextOn, ArePlacedApart}
+use Rattle.plane_paths.specs.Path.{IsFreeOfVertices}
+use Rattle.plane_paths.proofs.Adding.{IsAddingPath, adding_begins, adding_goes_on, adding_ends, adding_adds, piece_is_clear}
+use Rattle.plane_paths.proofs.PathFlips.{piece_is_free}
+use Rattle.plane_paths.proofs.Shorter.{path_shortens}
+use Rattle.mesh_embedding.specs.Drawn.{drawn, faces_of, outer_of}
+use Rattle.mesh_embedding.proofs.EdgePairs as E
+use Rattle.mesh_embedding.proofs.MeshLegal.{joins_edge}
+use Rattle.mesh_embedding.proofs.MeshStays.{halved}
+use Rattle.delaunay_legalization.specs.Constraints.{marked_edges, constraint_pairs, constraints_by, points_and_constraints_by}
+use Rattle.delaunay_legalization.specs.Marking.{HasEdgeData}
+use Rattle.delaunay_legalization.specs.Shape.{IsTriangulated}
+use Rattle.delaunay_legalization.specs.State.{state_of}
+use Rattle.delaunay_legalization.proofs.ConstraintEdges.{constraints_are_edges}
+use Rattle.delaunay_legalization.proofs.MarkedPairs.{pairs_stay, marking_joins}
+use Rattle.delaunay_paths.specs.Adding.{NoneCrosses, CanAddPath, MarksSome, AddsPiece, AddsPath}
+use Rattle.delaunay_paths.specs.Kept.{KeepsUncrossed}
+use Rattle.delaunay_paths.proofs.Marks.{marks_none, marks_one, marks_more}
+use Rattle.delaunay_paths.proofs.Walking.{in_map, of_map, placed_apart}
+
+-- ---- the ends of an undirected edge, by those of one of its directions
+same_ends : (u v i j a b : ℕ) → u ≡ i → v ≡ j → IsSamePair a b u v ↔ IsSamePair a b i j
+same_ends u v i j a b e f = (
+  (λ x. elim x [ inl s ↦ inl (s.0 ∙ e, s.1 ∙ f) | inr s ↦ inr (s.0 ∙ f, s.1 ∙ e) ]),
+  (λ x. elim x [ inl s ↦ inl (s.0 ∙ sym e, s.1 ∙ sym f) | inr s ↦ inr (s.0 ∙ sym f, s.1 ∙ sym e) ]),
+)
+
+turned_ends : (u v i j a b : ℕ) → u ≡ j → v ≡ i → IsSamePair a b u v ↔ IsSamePair a b i j
+turned_ends u v i j a b e f = (
+  (λ x. elim x [ inl s ↦ inr (s.0 ∙ e, s.1 ∙ f) | inr s ↦ inl (s.0 ∙ f, s.1 ∙ e) ]),
+  (λ x. elim x [ inl s ↦ inr (s.0 ∙ sym f, s.1 ∙ sym e) | inr s ↦ inl (s.0 ∙ sym e, s.1 ∙ sym f) ]),
+)
+
+pub half_ends : (m : Mesh) (h i j a b : ℕ) → origin m h ≡ i → origin m (rev h) ≡ j → IsSamePair a b (origin m (2 * (h / 2))) (origin m (rev (2 * (h / 2)))) ↔ IsSamePair a b i j
+half_ends m h i j a b e f = elim (halved h) [
+  | inl k ↦ same_ends (origin m (2 * (h / 2))) (origin m (rev (2 * (h / 2)))) i j a b (ap (origin m) k ∙ e) (ap (λ (x : ℕ). origin m (rev x)) k ∙ f)
+  | inr k ↦ turned_ends (origin m (2 * (h / 2))) (origin m (rev (2 * (h / 2)))) i j a b (ap (origin m) k ∙ f) (ap (λ (x : ℕ). origin m (rev x)) k ∙ ap (origin m) (rev-rev h) ∙ e)
+]
+
+-- ---- one piece
+module _ {U : Type 0} (marks : U → Bool) (constraints : List U → List ℕ) (marked : (ds : List U) → constraints ds ≡ marked_edges marks ds) where
+  module _ {V D F : Type 0} (at : V → Point) (old mid new : Contents V D U F) (i j e k : ℕ) (flipped : mid ≡ record old { mesh = mid.mesh }) (change : U → U) (written : HasEdgeData change mid new k) where
+    abbrev entry : U
+    entry = change written.value
+
+    mesh_is : new.mesh ≡ mid.mesh
+    mesh_is = ap (λ (c : Contents V D U F). c.mesh) written.whole
+
+    data_are : new.undirected ≡ set mid.undirected k entry
+    data_are = ap (λ (c : Contents V D U F). c.undirected) written.whole
+
+    data_were : mid.undirected ≡ old.undirected
+    data_were = ap (λ (c : Contents V D U F). c.undirected) flipped
+
+    contents : new ≡ record old { mesh = new.mesh; undirected = new.undirected }
+    contents =
+        written.whole ∙ ap (λ (c : Contents V D U F). record c { undirected = set mid.undirected k entry }) flipped
+        ∙ ap (λ (y : Mesh × List U). record old { mesh = y.0; undirected = y.1 }) (λ o. (sym mesh_is o, sym data_are o))
+
+    count : length new.undirected ≡ length old.undirected
+    count = ap length data_are ∙ length-set mid.undirected k entry ∙ ap length data_were
+
+    pub piece_whole : IsMeshWithData mid → IsMeshWithData new
+    piece_whole w = subst (λ (c : Contents V D U F). IsMeshWithData c) (sym written.whole) (record { valid = w.valid; fits = rw (length-set mid.undirected k entry) w.fits })
+
+    module _ (kept : KeepsUncrossed (map at old.vertices) old.mesh mid.mesh i j) (clear : NoneCrosses (map at old.vertices) (constraints_by constraints (state_of old)) i j) where
+      stays : constraint_pairs constraints mid.mesh mid.undirected ≡ constraint_pairs constraints old.mesh old.undirected
+      stays = ap (constraint_pairs constraints mid.mesh) data_were ∙ pairs_stay marks constraints marked old.mesh mid.mesh old.undirected
+          (λ l c. kept (2 * l) (clear (origin old.mesh (2 * l)) (origin old.mesh (rev (2 * l))) (joins_edge old.mesh (constraints old.undirected) l c)))
+
+      now_is : constraint_pairs constraints new.mesh new.undirected ≡ constraint_pairs constraints mid.mesh (set mid.undirected k entry)
+      now_is = ap (λ (y : Mesh × List U). constraint_pairs constraints y.0 y.1) (λ o. (mesh_is o, data_are o))
+
+      pub piece_added : (marked_as : U → U) → marks entry ≡ true → (entry ≡ written.value) ⊎ ((marks written.value ≡ false) × (entry ≡ marked_as written.value)) → origin mid.mesh e ≡ i → origin mid.mesh (rev e) ≡ j → k ≡ e / 2 → AddsPiece marks marked_as constraints old new i j
+      piece_added marked_as mark same_as source target half = record {
+        contents = contents;
+        count = count;
+        marks_some = subst (λ (x : List U × List U). MarksSome marks marked_as x.0 x.1) (λ o. (data_were o, sym data_are o)) (marks_one marks marked_as mid.undirected k written.value entry written.was same_as);
+        pair = λ a b. (
+          (λ h. elim ((joined a b).0 (subst (λ (ps : List (ℕ × ℕ)). Joins ps a b) now_is h)) [
+            | inl y ↦ inl (subst (λ (ps : List (ℕ × ℕ)). Joins ps a b) stays y)
+            | inr y ↦ inr ((ends a b).0 y)
+          ]),
+          (λ h. subst (λ (ps : List (ℕ × ℕ)). Joins ps a b) (sym now_is) ((joined a b).1 (elim h [
+            | inl y ↦ inl (subst (λ (ps : List (ℕ × ℕ)). Joins ps a b) (sym stays) y)
+            | inr y ↦ inr ((ends a b).1 y)
+          ]))),
+        );
+      }
+        where
+          joined : (a b : ℕ) → Joins (constraint_pairs constraints mid.mesh (set mid.undirected k entry)) a b ↔ (Joins (constraint_pairs constraints mid.mesh mid.undirected) a b ⊎ IsSamePair a b (origin mid.mesh (2 * k)) (origin mid.mesh (rev (2 * k))))
+          joined = marking_joins marks constraints marked mid.undirected k written.value entry written.was mid.mesh mark
+
+          ends : (a b : ℕ) → IsSamePair a b (origin mid.mesh (2 * k)) (origin mid.mesh (rev (2 * k))) ↔ IsSamePair a b i j
+          ends a b = subst (λ (l : ℕ). IsSamePair a b (origin mid.mesh (2 * l)) (origin mid.mesh (rev (2 * l))) ↔ IsSamePair a b i j) (sym half) (half_ends mid.mesh e i j a b source target)
+
+  -- ---- the loop
+  -- the pieces from i to w are added, and those from w to j are to come
+  pub record IsAddingTo {V D F : Type 0} (at : V → Point) (marked_as : U → U) (old now : Contents V D U F) (i j w : ℕ) : Type 0 where
+    pub contents : now ≡ record old { mesh = now.mesh; undirected = now.undirected }
+    pub count : length now.undirected ≡ length old.undirected
+    pub marks_some : MarksSome marks marked_as old.undirected now.undirected
+    pub whole : IsMeshWithData now
+    pub shape : IsMesh (map at old.vertices) (faces_of now.mesh) (outer_of now.mesh)
+    pub path : IsAddingPath (map at old.vertices) (constraints_by constraints (state_of old)) (constraints_by constraints (state_of now)) i j w
+
+  pub adding_to_begins : {V D F : Type 0} (at : V → Point) (marked_as : U → U) (old : Contents V D U F) (i j : ℕ) → IsTriangulated at (state_of old) → i < length old.vertices → IsAddingTo at marked_as old old i j i
+  adding_to_begins at marked_as old i j kept within = record {
+    contents = refl;
+    count = refl;
+    marks_some = marks_none marks marked_as old.undirected;
+    whole = record { valid = kept.valid; fits = kept.fits };
+    shape = kept.shape;
+    path = adding_begins (map at old.vertices) (constraints_by constraints (state_of old)) i j (in_map at old.vertices i within);
+  }
+
+  module _ {V D F : Type 0} (at : V → Point) (marked_as : U → U) (old now : Contents V D U F) (i j w : ℕ) (hi : i < length old.vertices) (hj : j < length old.vertices) (p : IsAddingTo at marked_as old now i j w) where
+    abbrev points : List Point
+    points = map at old.vertices
+
+    same : now.vertices ≡ old.vertices
+    same = ap (λ (c : Contents V D U F). c.vertices) p.contents
+
+    pub adding_sites : (IsSite : Point → Type 0) → All IsSite (map at old.vertices) → All IsSite (map at now.vertices)
+    adding_sites IsSite sites = subst (λ (vs : List V). All IsSite (map at vs)) (sym same) sites
+
+    pub adding_shape : IsMesh (map at now.vertices) (faces_of now.mesh) (outer_of now.mesh)
+    adding_shape = subst (λ (vs : List V). IsMesh (map at vs) (faces_of now.mesh) (outer_of now.mesh)) (sym same) p.shape
+
+    pub adding_index : (k : ℕ) → k < length old.vertices → k < length now.vertices
+    adding_index k h = subst (λ (vs : List V). k < length vs) (sym same) h
+
+    pub adding_at : w < length now.vertices
+    adding_at = adding_index w (of_map at old.vertices w p.path.within)
+
+    distinct : ArePlacedApart points
+    distinct = placed_apart points (faces_of now.mesh) (outer_of now.mesh) p.shape
+
+    -- the ends of a constraint are two vertices
+    constraint_ends : (a b : ℕ) → Joins (constraints_by constraints (state_of now)) a b → IsIndex points a × (IsIndex points b × (a ≢ b))
+    constraint_ends a b joined = (there a (subst (λ (k : ℕ). k < length now.mesh.out_edges) h.2 edge.origin_in), (there b (subst (λ (k : ℕ). k < length now.mesh.out_edges) h.3 twin.origin_in), (λ is. p.whole.valid.apart h.0 h.1 (h.2 ∙ is ∙ sym h.3))))
+      where
+        h : (e : ℕ) × (e < length now.mesh.half_edges) × (origin now.mesh e ≡ a) × (origin now.mesh (rev e) ≡ b)
+        h = E.joins_edge now.mesh p.whole.valid.sound a b (constraints_are_edges marks constraints marked now.mesh now.undirected p.whole.fits.undirected_fit p.whole.valid a b joined)
+
+        edge : IsSoundEdge now.mesh h.0
+        edge = p.whole.valid.sound.edges h.0 h.1
+
+        twin : IsSoundEdge now.mesh (rev h.0)
+        twin = p.whole.valid.sound.edges (rev h.0) (rev_within h.0 (length now.mesh.half_edges) p.whole.valid.sound.even h.1)
+
+        there : (k : ℕ) → k < length now.mesh.out_edges → IsIndex points k
+        there k l = in_map at old.vertices k (subst (λ (vs : List V). k < length vs) same (subst (λ (n : ℕ). k < n) (sym p.whole.fits.vertices_fit) l))
+
+    module _ (v : ℕ) (on_way : w ≢ j) (next : AreNextOn (map at now.vertices) w j w v) where
+      next_here : AreNextOn points w j w v
+      next_here = subst (λ (vs : List V). AreNextOn (map at vs) w j w v) same next
+
+      pub adding_free : IsFreeOfVertices (drawn (map at now.vertices) now.mesh) w v
+      adding_free = piece_is_free (drawn (map at now.vertices) now.mesh) w j w v next
+
+      pub adding_clear : CanAddPath at constraints old i j → NoneCrosses (map at now.vertices) (constraints_by constraints (state_of now)) w v
+      adding_clear free = subst (λ (vs : List V). NoneCrosses (map at vs) (constraints_by constraints (state_of now)) w v) (sym same)
+          (λ a b joined. let e = constraint_ends a b joined in
+          piece_is_clear points distinct (constraints_by constraints (state_of old)) (constraints_by constraints (state_of now)) i j w (in_map at old.vertices i hi) (in_map at old.vertices j hj) p.path v on_way next_here free a b joined e.0 e.1.0 e.1.1)
+
+      pub adding_to_goes_on : ((x : U) → marks (marked_as x) ≡ true) → (new : Contents V D U F) → AddsPiece marks marked_as constraints now new w v → IsMeshWithData new → IsMesh (map at now.vertices) (faces_of new.mesh) (outer_of new.mesh) → IsAddingTo at marked_as old new i j v
+      adding_to_goes_on has new adds whole shape = record {
+        contents = adds.contents ∙ ap (λ (c : Contents V D U F). record c { mesh = new.mesh; undirected = new.undirected }) p.contents;
+        count = adds.count ∙ p.count;
+        marks_some = marks_more marks marked_as has old.undirected now.undirected new.undirected p.marks_some adds.marks_some;
+        whole = whole;
+        shape = subst (λ (vs : List V). IsMesh (map at vs) (faces_of new.mesh) (outer_of new.mesh)) same shape;
+        path = adding_goes_on points distinct (constraints_by constraints (state_of old)) (constraints_by constraints (state_of now)) i j w (in_map at old.vertices i hi) (in_map at old.vertices j hj) p.path v on_way next_here (constraints_by constraints (state_of new)) adds.pair;
+      }
+
+      pub adding_shortens : nat_abs (squared_way (point_of points v) (point_of points j)) < nat_abs (squared_way (point_of points w) (point_of points j))
+      adding_shortens = path_shortens points w j v distinct p.path.within (in_map at old.vertices j hj) on_way next_here
+
+    pub adding_to_ends : w ≡ j → IsTriangulated at (state_of old) → CanAddPath at constraints old i j → AddsPath at marks marked_as constraints old now i j
+    adding_to_ends is kept free = record {
+      contents = p.contents;
+      marks_some = p.marks_some;
+      plain = adding_adds at (points_and_constraints_by constraints (state_of old)) (points_and_constraints_by constraints (state_of now)) i j hi hj free same
+          (adding_ends points distinct (constraints_by constraints (state_of old)) (constraints_by constraints (state_of now)) i j w (in_map at old.vertices i hi) (in_map at old.vertices j hj) p.path is);
+      kept = record {
+        in_range = subst (λ (vs : List V). All (λ v. InRange (at v)) vs) (sym same) kept.in_range;
+        few_edges = rw (p.count, ap length same) kept.few_edges;
+        few_faces = rw (ap (λ (c : Contents V D U F). length c.faces) p.contents, ap length same) kept.few_faces;
+        valid = p.whole.valid;
+        fits = p.whole.fits;
+        shape = adding_shape;
+      };
+    }

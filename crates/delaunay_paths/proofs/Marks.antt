@@ -1,0 +1,70 @@
+-- Data that get the mark.
+use Rattle.std.proofs.Common.{◌≡◌, ◌⊎◌, ℕ, zero, suc, Bool, true, false, List, [], ◌∷◌, set, refl, sym, ap, ◌∙◌, subst, inl, inr}
+use Rattle.std.specs.Prelude.{Some, slice_get}
+use Rattle.std.proofs.lemmas.Bool.{cases_eq}
+use Rattle.mesh_embedding.proofs.MeshStays.{slice_get-set_other}
+use Rattle.delaunay_legalization.specs.Constraints.{not_both}
+use Rattle.half_edge_mesh.specs.Contents.{Contents}
+use Rattle.delaunay_legalization.specs.Marking.{HasEdgeData}
+use Rattle.delaunay_paths.specs.Adding.{MarksEdge, MarksSome}
+
+one_value : {X : Type 0} (x y : X) → Some x ≡ Some y → x ≡ y
+one_value x y e = cc
+
+pub set_same : {X : Type 0} (xs : List X) (k : ℕ) (d : X) → slice_get xs k ≡ Some d → set xs k d ≡ xs
+set_same [] k d e = refl
+set_same (x ∷ xs) zero d e = ap (λ y. y ∷ xs) (sym (one_value x d e))
+set_same (x ∷ xs) (suc k) d e = ap (λ ys. x ∷ ys) (set_same xs k d e)
+
+set_here : {X : Type 0} (xs : List X) (k : ℕ) (d x : X) → slice_get xs k ≡ Some d → slice_get (set xs k x) k ≡ Some x
+set_here [] k d x e = cc
+set_here (y ∷ ys) zero d x e = refl
+set_here (y ∷ ys) (suc k) d x e = set_here ys k d x e
+
+module _ {V D U F : Type 0} (marks : U → Bool) (marked : U → U) (old new : Contents V D U F) (k : ℕ) (d : U) (was : slice_get old.undirected k ≡ Some d) where
+  -- an edge that has the mark
+  pub has_mark : marks d ≡ true → MarksEdge marks marked old old k
+  has_mark mark = record {
+    value = d;
+    was = was;
+    after = d;
+    mark = mark;
+    same = inl refl;
+    whole = ap (λ (us : List U). record old { undirected = us }) (sym (set_same old.undirected k d was));
+  }
+
+  -- and one that gets it
+  pub gets_mark : marks d ≡ false → ((x : U) → marks (marked x) ≡ true) → HasEdgeData marked old new k → MarksEdge marks marked old new k
+  gets_mark free has written = record {
+    value = written.value;
+    was = written.was;
+    after = marked written.value;
+    mark = has written.value;
+    same = inr (subst (λ (x : U). marks x ≡ false) (one_value d written.value (sym was ∙ written.was)) free, refl);
+    whole = written.whole;
+  }
+
+module _ {U : Type 0} (marks : U → Bool) (marked : U → U) where
+  pub marks_none : (ds : List U) → MarksSome marks marked ds ds
+  marks_none ds k d e = inl e
+
+  pub marks_one : (ds : List U) (k : ℕ) (value after : U) → slice_get ds k ≡ Some value → (after ≡ value) ⊎ ((marks value ≡ false) × (after ≡ marked value)) → MarksSome marks marked ds (set ds k after)
+  marks_one ds k value after was same l d e = elim (cases_eq l k) [
+    | inr n ↦ inl (slice_get-set_other ds k l after n ∙ e)
+    | inl is ↦ (
+        let here : slice_get (set ds k after) l ≡ Some after = ap (slice_get (set ds k after)) is ∙ set_here ds k value after was in
+        let one : value ≡ d = one_value value d (sym was ∙ ap (slice_get ds) (sym is) ∙ e) in
+        elim same [
+          | inl s ↦ inl (here ∙ ap (λ (x : U). Some x) (s ∙ one))
+          | inr s ↦ inr (subst (λ (x : U). marks x ≡ false) one s.0, here ∙ ap (λ (x : U). Some x) (s.1 ∙ ap marked one))
+        ])
+  ]
+
+  pub marks_more : ((x : U) → marks (marked x) ≡ true) → (old now new : List U) → MarksSome marks marked old now → MarksSome marks marked now new → MarksSome marks marked old new
+  marks_more has old now new a b k d e = elim (a k d e) [
+    | inl x ↦ b k d x
+    | inr x ↦ elim (b k (marked d) x.1) [
+      | inl y ↦ inr (x.0, y)
+      | inr y ↦ not_both (sym y.0 ∙ has d)
+    ]
+  ]

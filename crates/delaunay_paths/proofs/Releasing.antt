@@ -1,0 +1,167 @@
+-- A constraint that is released, and what is left to test then.
+use Rattle.std.proofs.Common.{◌≡◌, ◌≢◌, ◌⊎◌, ◌↔◌, ℕ, ◌+◌, ◌*◌, ◌<◌, ◌≤◌, List, [], ◌∷◌, length, map, set, sym, ap, ◌∙◌, subst, inl, inr, arith}
+use Rattle.std.specs.Prelude.{Bool, false, All, Contains}
+use Rattle.std.proofs.lemmas.Bool.{cases_eq}
+use Rattle.std.proofs.lemmas.Grind.{common_steps}
+use Rattle.std.proofs.lemmas.List.{length-set}
+use Rattle.half_edge_links.specs.Mesh.{Mesh, origin, rev}
+use Rattle.half_edge_links.proofs.Rev.{rev-rev, rev_within}
+use Rattle.half_edge_mesh.specs.Contents.{Contents}
+use Rattle.plane.specs.Fraction.{Point}
+use Rattle.plane.specs.Pairs.{Joins, IsSamePair}
+use Rattle.plane.specs.Plain.{points_of, AreNeighboursOn}
+use Rattle.plane_edits.specs.Legal.{AllPassBut}
+use Rattle.plane_edits.proofs.Changes.{once_none}
+use Rattle.plane_tiling.proofs.Totals.{Contains-head, Contains-none, Contains-cases}
+use Rattle.mesh_embedding.specs.Drawn.{faces_of}
+use Rattle.mesh_embedding.specs.Legal.{AreEdges, pairs_at}
+use Rattle.mesh_embedding.specs.Stays.{GoSameWay}
+use Rattle.mesh_embedding.proofs.MeshLegal.{joins_edge, own_indexes}
+use Rattle.mesh_embedding.proofs.WorkLists.{once_after}
+use Rattle.delaunay_legalization.specs.Constraints.{marked_edges, constraint_pairs, constraints_by, points_and_constraints_by}
+use Rattle.delaunay_legalization.specs.Flips.{CountsFlips, FlipsFit}
+use Rattle.delaunay_legalization.specs.Marking.{HasEdgeData}
+use Rattle.delaunay_legalization.specs.Shape.{IsTriangulated, IsDelaunayTriangulation}
+use Rattle.delaunay_legalization.specs.State.{state_of}
+use Rattle.delaunay_legalization.proofs.Constraints.{fixed_within}
+use Rattle.delaunay_legalization.proofs.MarkedPairs.{unmarking_leaves}
+use Rattle.delaunay_paths.specs.Adding.{AddsPath, MarksSome}
+use Rattle.delaunay_paths.specs.Releasing.{AddsConstraints, ReleasesEdge}
+
+rev_of_even : (k : ℕ) → rev (2 * k) ≡ 2 * k + 1
+rev_of_even k = grind (arith, common_steps)
+
+same_pair_or_not : (a b u v : ℕ) → IsSamePair a b u v ⊎ (¬ IsSamePair a b u v)
+same_pair_or_not a b u v = go (cases_eq a u) (cases_eq b v) (cases_eq a v) (cases_eq b u)
+  where
+    second : (a ≡ v) ⊎ (a ≢ v) → (b ≡ u) ⊎ (b ≢ u) → ¬ ((a ≡ u) × (b ≡ v)) → IsSamePair a b u v ⊎ (¬ IsSamePair a b u v)
+    second (inl e) (inl f) n = inl (inr (e, f))
+    second (inl e) (inr f) n = inr (λ s. elim s as (λ _. ⊥) [ inl x ↦ n x | inr x ↦ f x.1 ])
+    second (inr e) q n = inr (λ s. elim s as (λ _. ⊥) [ inl x ↦ n x | inr x ↦ e x.0 ])
+
+    go : (a ≡ u) ⊎ (a ≢ u) → (b ≡ v) ⊎ (b ≢ v) → (a ≡ v) ⊎ (a ≢ v) → (b ≡ u) ⊎ (b ≢ u) → IsSamePair a b u v ⊎ (¬ IsSamePair a b u v)
+    go (inl e) (inl f) q r = inl (inl (e, f))
+    go (inl e) (inr f) q r = second q r (λ x. f x.1)
+    go (inr e) f q r = second q r (λ x. e x.0)
+
+-- an edge has the ends of no other
+module _ {V D U F : Type 0} (at : V → Point) (c : Contents V D U F) (kept : IsTriangulated at (state_of c)) where
+  indexes : (g h : ℕ) → g < length c.mesh.half_edges → h < length c.mesh.half_edges → GoSameWay c.mesh g c.mesh h → h ≡ g
+  indexes = (own_indexes (map at c.vertices) c.mesh kept.valid kept.shape).edges
+
+  double : (j : ℕ) → j < length c.undirected → 2 * j < length c.mesh.half_edges
+  double j h = let f = kept.fits.undirected_fit in omega (arith, f, h)
+
+  pub one_edge : (k l : ℕ) → k < length c.undirected → l < length c.undirected → IsSamePair (origin c.mesh (2 * l)) (origin c.mesh (rev (2 * l))) (origin c.mesh (2 * k)) (origin c.mesh (rev (2 * k))) → l ≡ k
+  one_edge k l v w (inl e) = let r = indexes (2 * k) (2 * l) (double k v) (double l w) (e.0, e.1) in omega (arith, r)
+  one_edge k l v w (inr e) =
+      let r = indexes (2 * k) (rev (2 * l)) (double k v) (rev_within (2 * l) (length c.mesh.half_edges) kept.valid.sound.even (double l w)) (e.1, ap (origin c.mesh) (rev-rev (2 * l)) ∙ e.0) in
+      let f = rev_of_even l in
+      omega (arith, r, f)
+
+module _ {V D U F : Type 0} (at : V → Point) (marks : U → Bool) (constraints : List U → List ℕ) (marked : (ds : List U) → constraints ds ≡ marked_edges marks ds) (old : Contents V D U F) (k : ℕ) (there : Contains (constraints old.undirected) k) where
+  pub edge_there : k < length old.undirected
+  edge_there = fixed_within marks constraints marked old.undirected k there
+
+  module _ (legal : IsDelaunayTriangulation at constraints (state_of old)) (mid : Contents V D U F) (change : U → U) (free : (d : U) → marks (change d) ≡ false) (written : HasEdgeData change old mid k) where
+    same : mid.mesh ≡ old.mesh
+    same = ap (λ (c : Contents V D U F). c.mesh) written.whole
+
+    pub same_vertices : mid.vertices ≡ old.vertices
+    same_vertices = ap (λ (c : Contents V D U F). c.vertices) written.whole
+
+    pub released_kept : IsTriangulated at (state_of mid)
+    released_kept = subst (λ (c : Contents V D U F). IsTriangulated at (state_of c)) (sym written.whole) (record {
+      in_range = legal.kept.in_range;
+      few_edges = rw (length-set old.undirected k (change written.value)) legal.kept.few_edges;
+      few_faces = legal.kept.few_faces;
+      valid = legal.kept.valid;
+      fits = rw (length-set old.undirected k (change written.value)) legal.kept.fits;
+      shape = legal.kept.shape;
+    })
+
+    abbrev u : ℕ
+    u = origin old.mesh (2 * k)
+
+    abbrev v : ℕ
+    v = origin old.mesh (rev (2 * k))
+
+    now_is : constraint_pairs constraints mid.mesh mid.undirected ≡ constraint_pairs constraints old.mesh (set old.undirected k (change written.value))
+    now_is = ap (λ (c : Contents V D U F). constraint_pairs constraints c.mesh c.undirected) written.whole
+
+    leaves : (a b : ℕ) → Joins (constraint_pairs constraints mid.mesh mid.undirected) a b ↔ (Joins (constraint_pairs constraints old.mesh old.undirected) a b × ¬ IsSamePair a b u v)
+    leaves a b = subst (λ (ps : List (ℕ × ℕ)). Joins ps a b ↔ (Joins (constraint_pairs constraints old.mesh old.undirected) a b × ¬ IsSamePair a b u v)) (sym now_is)
+        (unmarking_leaves marks constraints marked old.undirected k written.value (change written.value) written.was old.mesh (free written.value) (λ l within. one_edge at old legal.kept k l edge_there within) a b)
+
+    here : Joins (pairs_at old.mesh (k ∷ [])) u v
+    here = joins_edge old.mesh (k ∷ []) k (Contains-head k [])
+
+    at_pair : (a b : ℕ) → IsSamePair a b u v → Joins (pairs_at old.mesh (k ∷ [])) u v → Joins (pairs_at old.mesh (k ∷ [])) a b
+    at_pair a b (inl s) h = subst (λ (x : ℕ × ℕ). Joins (pairs_at old.mesh (k ∷ [])) x.0 x.1) (λ o. (sym s.0 o, sym s.1 o)) h
+    at_pair a b (inr s) (inl h) = subst (λ (x : ℕ × ℕ). Joins (pairs_at old.mesh (k ∷ [])) x.0 x.1) (λ o. (sym s.0 o, sym s.1 o)) (inr h)
+    at_pair a b (inr s) (inr h) = subst (λ (x : ℕ × ℕ). Joins (pairs_at old.mesh (k ∷ [])) x.0 x.1) (λ o. (sym s.0 o, sym s.1 o)) (inl h)
+
+    was_passing : AllPassBut (map at old.vertices) (faces_of old.mesh) (constraint_pairs constraints mid.mesh mid.undirected) (pairs_at old.mesh (k ∷ []))
+    was_passing i j x l f g unmarked untested = legal.passing i j x l f g (λ h. elim (same_pair_or_not i j u v) as (λ _. ⊥) [
+      | inl s ↦ untested (at_pair i j s here)
+      | inr n ↦ unmarked ((leaves i j).1 (h, n))
+    ])
+
+    -- only this edge is left to test
+    pub released_passing : AllPassBut (map at mid.vertices) (faces_of mid.mesh) (constraint_pairs constraints mid.mesh mid.undirected) (pairs_at mid.mesh (k ∷ []))
+    released_passing = subst (λ (x : List V × Mesh). AllPassBut (map at x.0) (faces_of x.1) (constraint_pairs constraints mid.mesh mid.undirected) (pairs_at x.1 (k ∷ []))) (λ o. (sym same_vertices o, sym same o)) was_passing
+
+    pub left_to_test : AreEdges mid.mesh (k ∷ [])
+    left_to_test = subst (λ (m : Mesh). AreEdges m (k ∷ [])) (sym same) (record {
+      within = λ l c. elim (Contains-cases k [] l c) [
+        | inl e ↦ subst (λ (x : ℕ). 2 * x < length old.mesh.half_edges) e (double at old legal.kept k edge_there)
+        | inr n ↦ absurd (Contains-none l n)
+      ];
+      once = once_after [] k once_none (λ c. Contains-none k c);
+    })
+
+    pub released : (new : Contents V D U F) → new ≡ record mid { mesh = new.mesh } → constraint_pairs constraints new.mesh new.undirected ≡ constraint_pairs constraints mid.mesh mid.undirected → IsDelaunayTriangulation at constraints (state_of new) → ReleasesEdge at change constraints old new k
+    released new contents constraints_stay now_legal = record {
+      value = written.value;
+      was = written.was;
+      contents = contents ∙ ap (λ (c : Contents V D U F). record c { mesh = new.mesh }) written.whole;
+      plain = record {
+        there = joins_edge old.mesh (constraints old.undirected) k there;
+        vertices = ap (λ (c : Contents V D U F). c.vertices) contents ∙ same_vertices;
+        constraints = λ a b. subst (λ (ps : List (ℕ × ℕ)). Joins ps a b ↔ (Joins (constraint_pairs constraints old.mesh old.undirected) a b × ¬ IsSamePair a b u v)) (sym constraints_stay) (leaves a b);
+      };
+      legal = now_legal;
+    }
+
+-- ---- where only the mesh and the data of edges change
+module _ {V D U F : Type 0} (old mid : Contents V D U F) (stays : mid ≡ record old { mesh = mid.mesh; undirected = mid.undirected }) where
+  stay : mid.vertices ≡ old.vertices
+  stay = ap (λ (c : Contents V D U F). c.vertices) stays
+
+  pub room_on : (room : ℕ) → 3 * length old.vertices ≤ room → 3 * length mid.vertices ≤ room
+  room_on room h = subst (λ (vs : List V). 3 * length vs ≤ room) (sym stay) h
+
+  pub fits_on : (flips : ℕ) → FlipsFit (length old.vertices) flips → FlipsFit (length mid.vertices) flips
+  fits_on flips h = subst (λ (vs : List V). FlipsFit (length vs) flips) (sym stay) h
+
+  pub counts_on : (before after : ℕ) → CountsFlips (length mid.vertices) before after → CountsFlips (length old.vertices) before after
+  counts_on before after h = subst (λ (vs : List V). CountsFlips (length vs) before after) stay h
+
+module _ {V D U F : Type 0} (at : V → Point) (old mid : Contents V D U F) (stays : mid ≡ record old { mesh = mid.mesh; undirected = mid.undirected }) where
+  pub sites_on : (IsSite : Point → Type 0) → All IsSite (map at old.vertices) → All IsSite (map at mid.vertices)
+  sites_on IsSite sites = subst (λ (vs : List V). All IsSite (map at vs)) (sym (ap (λ (c : Contents V D U F). c.vertices) stays)) sites
+
+-- a path was added, and edges were flipped
+pub constraints_added : {V D U F : Type 0} (at : V → Point) (marks : U → Bool) (marked : U → U) (constraints : List U → List ℕ) (old mid new : Contents V D U F) (i j : ℕ) → AddsPath at marks marked constraints old mid i j → new ≡ record mid { mesh = new.mesh }
+    → constraints_by constraints (state_of new) ≡ constraints_by constraints (state_of mid) → IsDelaunayTriangulation at constraints (state_of new) → AddsConstraints at marks marked constraints old new i j
+constraints_added {V = V} {D = D} {U = U} {F = F} at marks marked constraints old mid new i j adds contents same legal = record {
+  contents = contents ∙ ap (λ (c : Contents V D U F). record c { mesh = new.mesh }) adds.contents ∙ ap (λ (us : List U). record old { mesh = new.mesh; undirected = us }) (sym (ap (λ (c : Contents V D U F). c.undirected) contents));
+  marks_some = subst (λ (us : List U). MarksSome marks marked old.undirected us) (sym (ap (λ (c : Contents V D U F). c.undirected) contents)) adds.marks_some;
+  plain = record {
+    ends = adds.plain.ends;
+    free = adds.plain.free;
+    vertices = ap (λ (c : Contents V D U F). c.vertices) contents ∙ adds.plain.vertices;
+    constraints = λ a b. subst (λ (ps : List (ℕ × ℕ)). Joins ps a b ↔ (Joins (constraints_by constraints (state_of old)) a b ⊎ AreNeighboursOn at (points_of at (points_and_constraints_by constraints (state_of old))) i j a b)) (sym same) (adds.plain.constraints a b);
+  };
+  legal = legal;
+}

@@ -1,0 +1,192 @@
+//! Constraints along the path between two vertices.
+ghost use Rattle.std.specs.Prelude.{◌≡◌, ◌≢◌, ◌↔◌, ◌*◌, ◌<◌, true, length, map, All, Contains, IsTrue, IfNone, IfSome};
+ghost use Rattle.half_edge_links.specs.Mesh.{origin, rev};
+ghost use Rattle.half_edge_mesh.specs.Contents.{IsMeshWithData};
+ghost use Rattle.plane.specs.Pairs.{Joins};
+ghost use Rattle.plane_tiling.specs.Local.{IsMesh};
+ghost use Rattle.plane_paths.specs.Constraints.{AreNextOn};
+ghost use Rattle.plane_paths.specs.Path.{IsFreeOfVertices};
+ghost use Rattle.mesh_embedding.specs.Drawn.{drawn, edges_of, faces_of, outer_of};
+ghost use Rattle.delaunay_legalization.specs.Constraints.{constraints_by};
+ghost use Rattle.delaunay_legalization.specs.Shape.{IsTriangulated};
+ghost use Rattle.delaunay_legalization.specs.State.{state_of};
+ghost use Rattle.delaunay_paths.specs.Adding.{AddsPath, AddsPiece, CanAddPath, HasFreeWay, MarksEdge, NoneCrosses};
+ghost use Rattle.delaunay_paths.specs.Crossing.{CrossesSegment};
+
+use crate::crossing::crosses_segment;
+use crate::flips::make_edge;
+use crate::path::next_on_path;
+use delaunay_core::math::PlaneTests;
+use delaunay_core::point::HasPosition;
+use delaunay_legalization::{ConstraintMarker, is_constraint_edge, make_constraint};
+use half_edge_mesh::{Dcel, FixedDirectedEdgeHandle, FixedUndirectedEdgeHandle, FixedVertexHandle};
+use half_edge_views::MeshViews;
+
+// Whether two vertices are one.
+fn is_same_vertex(one: FixedVertexHandle, other: FixedVertexHandle) -> bool
+    ensures { IsTrue result ↔ (one ≡ other) }
+{
+    one == other
+}
+
+// Whether an edge is a constraint that crosses the segment between two different vertices.
+fn is_in_the_way<M: ConstraintMarker<UE>, V: HasPosition, DE, UE, F, P: PlaneTests<V::Scalar>>(
+    dcel: &Dcel<V, DE, UE, F>,
+    edge: FixedUndirectedEdgeHandle,
+    from: FixedVertexHandle,
+    to: FixedVertexHandle,
+    tests: &P,
+) -> bool
+    requires within { edge < length dcel.now.undirected }
+    requires from_in { from < length dcel.now.vertices }
+    requires to_in { to < length dcel.now.vertices }
+    requires apart { from ≢ to }
+    requires kept { IsTriangulated V.place (state_of dcel.now) }
+    requires sites { All (P.sites tests.now) (map V.place dcel.now.vertices) }
+    ensures { IsTrue result ↔ (Contains (M.constraints dcel.now.undirected) edge × CrossesSegment (map V.place dcel.now.vertices) dcel.now.mesh from to (2 * edge)) }
+{
+    is_constraint_edge::<M, _, _, _, _>(dcel, edge)
+        && crosses_segment(dcel, edge.as_directed(), from, to, tests)
+}
+
+/// Whether no constraint crosses the segment between two vertices.
+pub fn can_add_path<M: ConstraintMarker<UE>, V: HasPosition, DE, UE, F, P: PlaneTests<V::Scalar>>(
+    dcel: &Dcel<V, DE, UE, F>,
+    from: FixedVertexHandle,
+    to: FixedVertexHandle,
+    tests: &P,
+) -> bool
+    requires from_in { from < length dcel.now.vertices }
+    requires to_in { to < length dcel.now.vertices }
+    requires kept { IsTriangulated V.place (state_of dcel.now) }
+    requires sites { All (P.sites tests.now) (map V.place dcel.now.vertices) }
+
+    ensures { IsTrue result ↔ CanAddPath V.place M.constraints dcel.now from to }
+{
+    if is_same_vertex(from, to) {
+        return true;
+    }
+    for index in 0..dcel.num_undirected_edges() {
+        let edge = FixedUndirectedEdgeHandle::from_index(index as u32);
+        if is_in_the_way::<M, _, _, _, _, _>(dcel, edge, from, to, tests) {
+            return false;
+        }
+    }
+    true
+}
+
+// Whether an edge goes from one vertex to another.
+fn goes<V, DE, UE, F>(
+    dcel: &Dcel<V, DE, UE, F>,
+    edge: FixedDirectedEdgeHandle,
+    from: FixedVertexHandle,
+    to: FixedVertexHandle,
+) -> bool
+    requires { edge < length dcel.now.directed }
+    ensures { IsTrue result ↔ ((from ≡ origin dcel.now.mesh edge) × (to ≡ origin dcel.now.mesh (rev edge))) }
+{
+    let edge = dcel.directed_edge(edge);
+    from == edge.from().fix() && to == edge.to().fix()
+}
+
+// The edge from one vertex to another, which are joined.
+fn edge_between<V, DE, UE, F>(
+    dcel: &Dcel<V, DE, UE, F>,
+    from: FixedVertexHandle,
+    to: FixedVertexHandle,
+) -> FixedDirectedEdgeHandle
+    requires { Joins (edges_of dcel.now.mesh) from to }
+    ensures whole { IsMeshWithData dcel.now }
+    ensures within { result < length dcel.now.directed }
+    ensures source { origin dcel.now.mesh result ≡ from }
+    ensures target { origin dcel.now.mesh (rev result) ≡ to }
+{
+    for index in 0..dcel.num_directed_edges() {
+        let edge = FixedDirectedEdgeHandle::from_index(index as u32);
+        if goes(dcel, edge, from, to) {
+            return edge;
+        }
+    }
+    unreachable!()
+}
+
+// Makes an edge a constraint, unless it is one.
+fn mark<M: ConstraintMarker<UE>, V, DE, UE, F>(
+    dcel: &mut Dcel<V, DE, UE, F>,
+    edge: FixedUndirectedEdgeHandle,
+)
+    requires within { edge < length dcel.old.undirected }
+    requires can_mark { M.can_mark ≡ true }
+    ensures { MarksEdge M.marks M.marked dcel.old dcel.new edge }
+{
+    if M::is_constraint_edge(dcel.undirected_edge_data(edge)) {
+        return;
+    }
+    make_constraint::<M, _, _, _, _>(dcel, edge);
+}
+
+// Makes an edge of the segment between two vertices with none strictly between, which no constraint crosses, and a
+// constraint of this edge.
+fn add_piece<M: ConstraintMarker<UE>, V: HasPosition, DE, UE, F, P: PlaneTests<V::Scalar>>(
+    dcel: &mut Dcel<V, DE, UE, F>,
+    from: FixedVertexHandle,
+    to: FixedVertexHandle,
+    tests: &P,
+)
+    requires can_mark { M.can_mark ≡ true }
+    requires free { IsFreeOfVertices (drawn (map V.place dcel.old.vertices) dcel.old.mesh) from to }
+    requires shape { IsMesh (map V.place dcel.old.vertices) (faces_of dcel.old.mesh) (outer_of dcel.old.mesh) }
+    requires clear { NoneCrosses (map V.place dcel.old.vertices) (constraints_by M.constraints (state_of dcel.old)) from to }
+    requires sites { All (P.sites tests.now) (map V.place dcel.old.vertices) }
+    ensures adds { AddsPiece M.marks M.marked M.constraints dcel.old dcel.new from to }
+    ensures whole { IsMeshWithData dcel.new }
+    ensures shape { IsMesh (map V.place dcel.old.vertices) (faces_of dcel.new.mesh) (outer_of dcel.new.mesh) }
+{
+    make_edge(dcel, from, to, tests);
+    let edge = edge_between(dcel, from, to);
+    mark::<M, _, _, _, _>(dcel, edge.as_undirected());
+}
+
+// The vertex where the first piece of the path between two vertices ends, unless they are one.
+fn next_piece<V: HasPosition, DE, UE, F, P: PlaneTests<V::Scalar>>(
+    dcel: &Dcel<V, DE, UE, F>,
+    from: FixedVertexHandle,
+    to: FixedVertexHandle,
+    tests: &P,
+) -> Option<FixedVertexHandle>
+    requires from_in { from < length dcel.now.vertices }
+    requires to_in { to < length dcel.now.vertices }
+    requires shape { IsMesh (map V.place dcel.now.vertices) (faces_of dcel.now.mesh) (outer_of dcel.now.mesh) }
+    requires sites { All (P.sites tests.now) (map V.place dcel.now.vertices) }
+    ensures end { IfNone result (from ≡ to) }
+    ensures apart { IfSome result (λ v. from ≢ to) }
+    ensures next { IfSome result (λ v. AreNextOn (map V.place dcel.now.vertices) from to from v) }
+{
+    if is_same_vertex(from, to) {
+        None
+    } else {
+        Some(next_on_path(dcel, from, to, tests))
+    }
+}
+
+/// Makes constraints of the pieces of the path between two vertices, whose segment no constraint crosses: each of its
+/// vertices is joined to the next. Edges that cross a piece are flipped, and no circle test is made.
+pub fn add_path<M: ConstraintMarker<UE>, V: HasPosition, DE, UE, F, P: PlaneTests<V::Scalar>>(
+    dcel: &mut Dcel<V, DE, UE, F>,
+    from: FixedVertexHandle,
+    to: FixedVertexHandle,
+    tests: &P,
+)
+    requires can_mark { M.can_mark ≡ true }
+    requires way { HasFreeWay V.place M.constraints dcel.old from to }
+    requires kept { IsTriangulated V.place (state_of dcel.old) }
+    requires sites { All (P.sites tests.now) (map V.place dcel.old.vertices) }
+
+    ensures { AddsPath V.place M.marks M.marked M.constraints dcel.old dcel.new from to }
+{
+    let mut at = from;
+    while let Some(next) = next_piece(dcel, at, to, tests) {
+        add_piece::<M, _, _, _, _, _>(dcel, at, next, tests);
+        at = next;
+    }
+}

@@ -1,0 +1,85 @@
+//! Constraints that are added and released, with each other edge legal afterwards.
+ghost use Rattle.std.specs.Prelude.{◌≡◌, ◌*◌, ◌<◌, ◌≤◌, ◌∷◌, [], true, length, map, All, Contains, vec_capacity};
+ghost use Rattle.delaunay_legalization.specs.Flips.{CountsFlips, FlipsFit};
+ghost use Rattle.delaunay_legalization.specs.Shape.{IsDelaunayTriangulation};
+ghost use Rattle.delaunay_legalization.specs.State.{state_of};
+ghost use Rattle.delaunay_paths.specs.Adding.{HasFreeWay};
+ghost use Rattle.delaunay_paths.specs.Releasing.{AddsConstraints, ReleasesEdge};
+
+use crate::adding::add_path;
+use delaunay_core::math::PlaneTests;
+use delaunay_core::point::HasPosition;
+use delaunay_legalization::{ConstraintMarker, free_edge, legalize, legalize_all};
+use half_edge_mesh::{Dcel, FixedUndirectedEdgeHandle, FixedVertexHandle};
+
+/// Adds the pieces of the path between two vertices, whose segment no constraint crosses, to the constraints, and flips
+/// edges that fail the circle test until none does. `work` has room for each edge, and `flips` counts on.
+pub fn add_constraints<
+    M: ConstraintMarker<UE>,
+    V: HasPosition,
+    DE,
+    UE,
+    F,
+    P: PlaneTests<V::Scalar>,
+>(
+    dcel: &mut Dcel<V, DE, UE, F>,
+    from: FixedVertexHandle,
+    to: FixedVertexHandle,
+    tests: &P,
+    work: &mut Vec<FixedUndirectedEdgeHandle>,
+    flips: &mut u64,
+)
+    requires can_mark { M.can_mark ≡ true }
+    requires way { HasFreeWay V.place M.constraints dcel.old from to }
+    requires legal { IsDelaunayTriangulation V.place M.constraints (state_of dcel.old) }
+    requires sites { All (P.sites tests.now) (map V.place dcel.old.vertices) }
+    requires room { 3 * length dcel.old.vertices ≤ vec_capacity work.old }
+    requires fits { FlipsFit (length dcel.old.vertices) flips.old }
+
+    ensures adds { AddsConstraints V.place M.marks M.marked M.constraints dcel.old dcel.new from to }
+    ensures counted { CountsFlips (length dcel.old.vertices) flips.old flips.new }
+{
+    add_path::<M, _, _, _, _, _>(dcel, from, to, tests);
+    legalize_all::<M, _, _, _, _, _>(dcel, tests, work, flips);
+}
+
+// Puts an edge into a work list, in place of what was there.
+fn put_alone(edge: FixedUndirectedEdgeHandle, work: &mut Vec<FixedUndirectedEdgeHandle>)
+    requires { 0 < vec_capacity work.old }
+    ensures edges { work.new.items ≡ edge ∷ [] }
+    ensures capacity { vec_capacity work.new ≡ vec_capacity work.old }
+{
+    work.clear();
+    work.push_reserved(edge);
+}
+
+/// Makes a constraint an edge that is none, and flips edges from there on until each that is no constraint passes the
+/// circle test. `work` has room for each edge, and `flips` counts on.
+pub fn release_constraint<
+    M: ConstraintMarker<UE>,
+    V: HasPosition,
+    DE,
+    UE,
+    F,
+    P: PlaneTests<V::Scalar>,
+>(
+    dcel: &mut Dcel<V, DE, UE, F>,
+    edge: FixedUndirectedEdgeHandle,
+    tests: &P,
+    work: &mut Vec<FixedUndirectedEdgeHandle>,
+    flips: &mut u64,
+)
+    requires constraint { Contains (M.constraints dcel.old.undirected) edge }
+    requires legal { IsDelaunayTriangulation V.place M.constraints (state_of dcel.old) }
+    requires sites { All (P.sites tests.now) (map V.place dcel.old.vertices) }
+    requires room { 3 * length dcel.old.vertices ≤ vec_capacity work.old }
+    requires fits { FlipsFit (length dcel.old.vertices) flips.old }
+
+    ensures releases { ReleasesEdge V.place M.unmarked M.constraints dcel.old dcel.new edge }
+    ensures counted { CountsFlips (length dcel.old.vertices) flips.old flips.new }
+{
+    free_edge::<M, _, _, _, _>(dcel, edge);
+    put_alone(edge, work);
+    legalize::<M, _, _, _, _, _>(dcel, tests, work, flips);
+    let _ = dcel.num_vertices();
+}
