@@ -1,22 +1,22 @@
 -- The search for the next conflict along a walk.
-use Rattle.std.proofs.Common.{append-nil, ◌≡◌, ◌≢◌, ℕ, ◌/◌, ◌<◌, ◌≤◌, List, [], ◌∷◌, ◌++◌, length, map, Option, Some, None, refl, sym, ap, ◌∙◌, subst, append_assoc, inl, inr, arith}
+use Rattle.std.proofs.Common.{append-nil, ◌≡◌, ℕ, ◌/◌, ◌<◌, ◌≤◌, List, [], ◌∷◌, ◌++◌, length, Some, None, refl, sym, ap, ◌∙◌, subst, append_assoc, inl, inr, arith}
 use Rattle.std.specs.Prelude.{ℤ, Contains}
 use Rattle.std.specs.Borrow.{Bor}
 use Rattle.std.proofs.lemmas.List.Elements.{Contains-push_cases}
-use Rattle.half_edge_links.specs.Mesh.{Mesh, origin, rev}
+use Rattle.half_edge_links.specs.Mesh.{origin, rev}
 use Rattle.half_edge_mesh.specs.Contents.{Contents}
 use Rattle.half_edge_views.specs.declared.edge.DirectedEdgeHandle.{DirectedEdgeHandle}
 use Rattle.plane.specs.Fraction.{Point}
 use Rattle.plane.specs.Pairs.{EachPairOnce}
 use Rattle.plane.specs.Line.{Item, at_vertex, across, along}
 use Rattle.plane_tiling.proofs.Totals.{Contains-none}
-use Rattle.mesh_embedding.specs.Drawn.{drawn, edges_of}
+use Rattle.mesh_embedding.specs.Drawn.{edges_of}
 use Rattle.mesh_embedding.proofs.MeshStays.{one_way}
 use Rattle.delaunay_core.specs.Place.{place_of}
 use Rattle.delaunay_lines.specs.declared.intersection.Intersection.{Intersection}
 use Rattle.delaunay_lines.specs.declared.intersection.Intersection.TheVariants.{EdgeIntersection, VertexIntersection, EdgeOverlap}
 use Rattle.delaunay_lines.specs.declared.iterator.LineIntersectionIterator.{LineIntersectionIterator}
-use Rattle.delaunay_lines.specs.Conflicts.{IsConflict, IsConflictOf, HasNoConflict, FindsConflict, GivesConflict}
+use Rattle.delaunay_lines.specs.Conflicts.{IsConflict, IsConflictOf, HasNoConflict, GivesConflict}
 use Rattle.delaunay_lines.specs.Items.{crossed_edge, item_in, mesh_of}
 use Rattle.delaunay_lines.specs.Steps.{IsOverMesh}
 use Rattle.delaunay_lines.specs.Walk.{AreLeft, GivesNext, IsReady}

@@ -1,14 +1,18 @@
 //! The constraints that a segment crosses.
-ghost use Rattle.std.specs.Prelude.{◌↔◌, ◌/◌, ◌<◌, Contains, IfSome, IsTrue};
+ghost use Rattle.std.specs.Prelude.{◌↔◌, ◌/◌, ◌<◌, length, map, All, Contains, IfSome, IsTrue};
 ghost use Rattle.std.specs.Iterator.{at_most};
+ghost use Rattle.plane_tiling.specs.Local.{IsMesh};
+ghost use Rattle.mesh_embedding.specs.Drawn.{faces_of, outer_of};
+ghost use Rattle.delaunay_legalization.specs.Known.{point_at};
 ghost use Rattle.delaunay_lines.specs.Conflicts.{GivesConflict, IsConflictOf};
-ghost use Rattle.delaunay_lines.specs.Walk.{IsReady};
+ghost use Rattle.delaunay_lines.specs.Walk.{IsReady, WalksLine};
 
 use crate::intersection::Intersection;
 use crate::iterator::LineIntersectionIterator;
 use delaunay_core::math::PlaneTests;
 use delaunay_core::point::HasPosition;
 use delaunay_legalization::{ConstraintMarker, is_constraint_edge};
+use half_edge_mesh::{Dcel, FixedVertexHandle};
 use half_edge_views::DirectedEdgeHandle;
 use std::marker::PhantomData;
 
@@ -66,6 +70,36 @@ pub struct ConflictingEdgesIterator<
 > {
     pub line: LineIntersectionIterator<'a, V, DE, UE, F, P>,
     pub marks: PhantomData<M>,
+}
+
+impl<
+    'a,
+    M: ConstraintMarker<UE>,
+    V: HasPosition,
+    DE,
+    UE,
+    F,
+    P: PlaneTests<V::Scalar>,
+> ConflictingEdgesIterator<'a, M, V, DE, UE, F, P> {
+    /// The constraints that the segment between two vertices crosses.
+    pub fn between_vertices(
+        dcel: &'a Dcel<V, DE, UE, F>,
+        from: FixedVertexHandle,
+        to: FixedVertexHandle,
+        tests: &'a P,
+    ) -> Self
+        requires from_in { from < length dcel.now.vertices }
+        requires to_in { to < length dcel.now.vertices }
+        requires shape { IsMesh (map V.place dcel.now.vertices) (faces_of dcel.now.mesh) (outer_of dcel.now.mesh) }
+        requires sites { All (P.sites tests.now) (map V.place dcel.now.vertices) }
+        ensures line { let points = map V.place dcel.now.vertices in WalksLine V.place V.Scalar.whole dcel.now (point_at points from) (point_at points to) result.line }
+        ensures ready { IsReady V.place V.Scalar.whole P.sites P.covered result.line }
+    {
+        ConflictingEdgesIterator {
+            line: LineIntersectionIterator::new_from_handles(dcel, from, to, tests),
+            marks: PhantomData,
+        }
+    }
 }
 
 impl<'a, M: ConstraintMarker<UE>, V: HasPosition, DE, UE, F, P: PlaneTests<V::Scalar>> Iterator
