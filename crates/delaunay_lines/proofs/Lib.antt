@@ -5,3 +5,4 @@ pub mod Round
 pub mod Turn
 pub mod FirstItems
 pub mod OutsideItems
+pub mod ConflictSearch

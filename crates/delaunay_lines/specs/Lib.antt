@@ -1,3 +1,4 @@
+pub mod Conflicts
 pub mod Items
 pub mod Steps
 pub mod Starts

@@ -1,0 +1,122 @@
+//! The constraints that a segment crosses.
+ghost use Rattle.std.specs.Prelude.{◌↔◌, ◌/◌, ◌<◌, length, map, All, Contains, IfSome, IsTrue};
+ghost use Rattle.std.specs.Iterator.{at_most};
+ghost use Rattle.plane_tiling.specs.Local.{IsMesh};
+ghost use Rattle.mesh_embedding.specs.Drawn.{faces_of, outer_of};
+ghost use Rattle.delaunay_legalization.specs.Known.{point_at};
+ghost use Rattle.delaunay_lines.specs.Conflicts.{GivesConflict, IsConflictOf};
+ghost use Rattle.delaunay_lines.specs.Walk.{IsReady, WalksLine};
+
+use crate::intersection::Intersection;
+use crate::iterator::LineIntersectionIterator;
+use delaunay_core::math::PlaneTests;
+use delaunay_core::point::HasPosition;
+use delaunay_legalization::{ConstraintMarker, is_constraint_edge};
+use half_edge_mesh::{Dcel, FixedVertexHandle};
+use half_edge_views::DirectedEdgeHandle;
+use std::marker::PhantomData;
+
+// Whether an edge is a constraint.
+fn is_constraint<M: ConstraintMarker<UE>, V, DE, UE, F>(
+    edge: &DirectedEdgeHandle<'_, V, DE, UE, F>,
+) -> bool
+    ensures { IsTrue result ↔ Contains (M.constraints edge.now.dcel.now.undirected) (edge.now.index / 2) }
+{
+    is_constraint_edge::<M, _, _, _, _>(edge.dcel, edge.as_undirected().fix())
+}
+
+// The edge of an item, if the segment crosses it and it is a constraint.
+fn conflict_in<'a, M: ConstraintMarker<UE>, V, DE, UE, F>(
+    item: &Intersection<'a, V, DE, UE, F>,
+) -> Option<DirectedEdgeHandle<'a, V, DE, UE, F>>
+    ensures { IsConflictOf M.constraints item.now result }
+{
+    let edge = item.as_edge_intersection()?;
+    if is_constraint::<M, _, _, _, _>(&edge) {
+        Some(edge)
+    } else {
+        None
+    }
+}
+
+// The next constraint that a segment crosses.
+fn next_conflict<'a, M: ConstraintMarker<UE>, V: HasPosition, DE, UE, F, P: PlaneTests<V::Scalar>>(
+    line: &mut LineIntersectionIterator<'a, V, DE, UE, F, P>,
+) -> Option<DirectedEdgeHandle<'a, V, DE, UE, F>>
+    requires { IsReady V.place V.Scalar.whole P.sites P.covered line.old }
+    ensures gives { GivesConflict V.place V.Scalar.whole M.constraints line.old result line.new }
+    ensures ready { IfSome result (λ _. IsReady V.place V.Scalar.whole P.sites P.covered line.new) }
+    ensures fewer { IfSome result (λ _. line.new.left < line.old.left) }
+{
+    while let Some(item) = line.next() {
+        if let Some(edge) = conflict_in::<M, _, _, _, _>(&item) {
+            return Some(edge);
+        }
+    }
+    None
+}
+
+/// The constraints that a segment meets in one point strictly within them, in the order along the segment. No call takes
+/// memory.
+#[derive(Drop)]
+pub struct ConflictingEdgesIterator<
+    'a,
+    M: ConstraintMarker<UE>,
+    V: HasPosition,
+    DE,
+    UE,
+    F,
+    P: PlaneTests<V::Scalar>,
+> {
+    pub line: LineIntersectionIterator<'a, V, DE, UE, F, P>,
+    pub marks: PhantomData<M>,
+}
+
+impl<
+    'a,
+    M: ConstraintMarker<UE>,
+    V: HasPosition,
+    DE,
+    UE,
+    F,
+    P: PlaneTests<V::Scalar>,
+> ConflictingEdgesIterator<'a, M, V, DE, UE, F, P> {
+    /// The constraints that the segment between two vertices crosses.
+    pub fn between_vertices(
+        dcel: &'a Dcel<V, DE, UE, F>,
+        from: FixedVertexHandle,
+        to: FixedVertexHandle,
+        tests: &'a P,
+    ) -> Self
+        requires from_in { from < length dcel.now.vertices }
+        requires to_in { to < length dcel.now.vertices }
+        requires shape { IsMesh (map V.place dcel.now.vertices) (faces_of dcel.now.mesh) (outer_of dcel.now.mesh) }
+        requires sites { All (P.sites tests.now) (map V.place dcel.now.vertices) }
+        ensures line { let points = map V.place dcel.now.vertices in WalksLine V.place V.Scalar.whole dcel.now (point_at points from) (point_at points to) result.line }
+        ensures ready { IsReady V.place V.Scalar.whole P.sites P.covered result.line }
+    {
+        ConflictingEdgesIterator {
+            line: LineIntersectionIterator::new_from_handles(dcel, from, to, tests),
+            marks: PhantomData,
+        }
+    }
+}
+
+impl<'a, M: ConstraintMarker<UE>, V: HasPosition, DE, UE, F, P: PlaneTests<V::Scalar>> Iterator
+    for ConflictingEdgesIterator<'a, M, V, DE, UE, F, P> {
+    type Item = DirectedEdgeHandle<'a, V, DE, UE, F>;
+
+    ghost can_next = { λ it. IsReady V.place V.Scalar.whole P.sites P.covered it.line };
+
+    ghost next_gives = { λ it r after. GivesConflict V.place V.Scalar.whole M.constraints it.line r after.line };
+
+    ghost remaining = { λ it. at_most it.line.left };
+
+    fn next(&mut self) -> Option<DirectedEdgeHandle<'a, V, DE, UE, F>> {
+        next_conflict::<M, _, _, _, _, _>(&mut self.line)
+    }
+
+    fn size_hint(&self) -> (usize, Option<usize>) {
+        (0, Some(self.line.left))
+    }
+}
