@@ -1,19 +1,19 @@
 -- A flood over a mesh that has spread is a flood round the triangulation, and has each edge in its region.
-use Rattle.std.proofs.Common.{◌≡◌, ◌⊎◌, ◌↔◌, ℕ, ◌+◌, ◌*◌, ◌/◌, ◌<◌, List, [], ◌∷◌, ◌++◌, length, map, get_or, set, refl, sym, ap, ◌∙◌, subst, arith, eq-eqb}
+use Rattle.std.proofs.Common.{◌≡◌, ◌⊎◌, ℕ, ◌*◌, ◌/◌, ◌<◌, List, length, refl, sym, ap, ◌∙◌, subst, arith, eq-eqb}
 use mathlib.Core.Logic.{inl, inr, ◌≢◌}
-use mathlib.Core.Bool.{Bool, true, false}
+use mathlib.Core.Bool.{Bool}
 use Rattle.std.specs.Prelude.{Contains, ◌==◌}
 use Rattle.std.proofs.lemmas.Bool.{cases_eq, eqb-true}
 use Rattle.std.proofs.lemmas.Grind.{common_steps}
-use Rattle.half_edge_links.specs.Mesh.{Mesh, origin, next, prev, face, rev, AreSoundLinks, IsValidMesh, IsClosed}
+use Rattle.half_edge_links.specs.Mesh.{Mesh, origin, next, prev, rev, IsValidMesh, IsClosed}
 use Rattle.half_edge_links.proofs.Rev.{rev-rev, rev_within}
-use Rattle.plane.specs.Fraction.{Point, Fraction, whole}
+use Rattle.plane.specs.Fraction.{Point, Fraction}
 use Rattle.plane.specs.Pairs.{Joins}
 use Rattle.plane.specs.Shape.{IsEdgeIn}
-use Rattle.plane.specs.Tiling.{Triangulation, IsEdge, IsFace, IsTiling, TilesHull, JoinsLine}
+use Rattle.plane.specs.Tiling.{Triangulation, IsEdge, IsFace, IsTiling, JoinsLine}
 use Rattle.plane_tiling.specs.Local.{IsMesh, LineMesh}
 use Rattle.plane_delaunay.specs.EdgeTests.{HasPointIn}
-use Rattle.plane_delaunay.specs.Flood.{Region, InRegion, IsFlooded, IsFloodedByVertices, IsFloodedAround}
+use Rattle.plane_delaunay.specs.Flood.{Region, InRegion, IsFloodedAround}
 use Rattle.plane_delaunay.proofs.FloodOnLine.{turned_join, turned_edge, flood_finds_on_line}
 use Rattle.plane_delaunay.proofs.Flooded.{flood_finds_region}
 use Rattle.mesh_embedding.specs.Drawn.{drawn, faces_of, edges_of, outer_of}
@@ -21,9 +21,9 @@ use Rattle.mesh_embedding.specs.Legal.{pair_at, pairs_at}
 use Rattle.mesh_embedding.proofs.OwnEdges.{own_edges}
 use Rattle.plane_tiling.proofs.Meshes.{meshes_tile}
 use Rattle.mesh_embedding.proofs.EdgePairs.{edge_joins, joins_edge}
-use Rattle.mesh_embedding.proofs.MeshStars.{IsEdgeOfFace, edge_of_face}
+use Rattle.mesh_embedding.proofs.MeshStars.{edge_of_face}
 use Rattle.mesh_embedding.proofs.MeshStays.{halved, half_same}
-use Rattle.mesh_embedding.proofs.MeshLegal.{own_indexes, line_has_none}
+use Rattle.mesh_embedding.proofs.MeshLegal.{own_indexes}
 use Rattle.mesh_embedding.proofs.LineNeighbours.{two_neighbours}
 use Rattle.mesh_embedding.proofs.WorkLists.{contains_map, contains_map_from}
 use Rattle.delaunay_shapes.specs.Known.{point_at}

@@ -1,7 +1,7 @@
 -- What a handle tells, of the mesh and the index that it has.
 use Rattle.std.proofs.Common.{◌≡◌, ◌↔◌, ℕ, ◌*◌, ◌/◌, ◌<◌, ◌≤◌, List, length, map, get_or, sym, ap, ◌∙◌, subst, arith}
 use mathlib.Core.Bool.{Bool, true, false}
-use Rattle.std.specs.Prelude.{pos, All, IsTrue, Contains}
+use Rattle.std.specs.Prelude.{pos, All, IsTrue}
 use Rattle.std.specs.Borrow.{Bor}
 use Rattle.std.proofs.lemmas.List.{length-map}
 use Rattle.half_edge_links.specs.Mesh.{Mesh, origin, next, prev, rev}

@@ -1,5 +1,5 @@
 -- Where a flood begins: if any edge has a point in the region, one of those tried first has.
-use Rattle.std.proofs.Common.{◌≡◌, ◌⊎◌, ◌↔◌, ℕ, ◌*◌, ◌/◌, ◌<◌, List, [], ◌∷◌, length, refl, sym, ap, ◌∙◌, subst, arith, Some, None}
+use Rattle.std.proofs.Common.{◌≡◌, ◌↔◌, ℕ, ◌*◌, ◌/◌, ◌<◌, List, length, refl, sym, ap, ◌∙◌, subst, arith, None}
 use mathlib.Core.Logic.{inl, inr, ◌≢◌}
 use Rattle.std.specs.Prelude.{Contains, IsSome}
 use Rattle.plane_edits.specs.Change.{IsFaceOf}

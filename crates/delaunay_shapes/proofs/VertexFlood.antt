@@ -1,5 +1,5 @@
 -- The vertices in a region as ends of its edges.
-use Rattle.std.proofs.Common.{◌≡◌, ◌⊎◌, ◌↔◌, ℕ, zero, suc, ◌+◌, ◌*◌, ◌/◌, ◌<◌, ◌≤◌, List, [], ◌∷◌, ◌++◌, length, get_or, refl, sym, ap, ◌∙◌, subst, arith}
+use Rattle.std.proofs.Common.{◌≡◌, ◌⊎◌, ℕ, ◌+◌, ◌*◌, ◌/◌, ◌<◌, ◌≤◌, List, [], length, get_or, sym, ap, ◌∙◌, subst, arith}
 use mathlib.Core.Logic.{inl, inr, ◌≢◌}
 use mathlib.Core.Bool.{Bool}
 use Rattle.std.specs.Prelude.{ℤ, pos, ◌*ℤ◌, Contains}
@@ -17,7 +17,7 @@ use Rattle.mesh_embedding.specs.Drawn.{drawn, faces_of, outer_of}
 use Rattle.mesh_embedding.proofs.EdgePairs.{joins_edge}
 use Rattle.mesh_embedding.proofs.MeshStays.{halved}
 use Rattle.delaunay_shapes.specs.Known.{point_at}
-use Rattle.delaunay_shapes.specs.InShape.{IsEdgeInShape, AreEdgesInShape, AreVerticesInShape}
+use Rattle.delaunay_shapes.specs.InShape.{AreEdgesInShape, AreVerticesInShape}
 use Rattle.delaunay_shapes.specs.Flood.{IsAsked, IsFlooding, GoesOn, Asks, HasAskedEnds, IsRegion}
 use Rattle.delaunay_shapes.proofs.Asking.{goes_on_twice}
 use Rattle.delaunay_shapes.proofs.Flooding.{tiles, half_by_ends}

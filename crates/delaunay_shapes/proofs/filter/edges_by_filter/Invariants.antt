@@ -1,4 +1,3 @@
-use Rattle.std.proofs.Common.{ℕ}
 use Rattle.delaunay_shapes.specs.InShape.{IsInside}
 use Rattle.delaunay_shapes.proofs.Asking.{IsFilteredTo}
 use Rattle.delaunay_shapes.proofs.filter.edges_by_filter.Given as goal

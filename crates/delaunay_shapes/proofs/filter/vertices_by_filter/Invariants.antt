@@ -1,4 +1,4 @@
-use Rattle.std.proofs.Common.{ℕ, map}
+use Rattle.std.proofs.Common.{map}
 use Rattle.plane.specs.Fraction.{whole}
 use Rattle.delaunay_shapes.specs.Known.{point_at}
 use Rattle.delaunay_shapes.proofs.Asking.{IsFilteredTo}

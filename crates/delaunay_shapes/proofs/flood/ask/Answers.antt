@@ -1,5 +1,5 @@
-use Rattle.std.proofs.Common.{ℕ, ◌<◌, ap, length, set, subst, arith}
-use mathlib.Core.Bool.{Bool, true}
+use Rattle.std.proofs.Common.{ℕ, ◌<◌, ap, length, set, arith}
+use mathlib.Core.Bool.{true}
 use Rattle.delaunay_shapes.specs.InShape.{IsInside}
 use Rattle.delaunay_shapes.proofs.Asking.{asked_inside, asked_outside}
 use Rattle.delaunay_shapes.proofs.Handles.{edge_told, not_asked}

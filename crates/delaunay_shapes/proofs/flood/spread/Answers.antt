@@ -1,4 +1,4 @@
-use Rattle.std.proofs.Common.{ℕ, ◌*◌, ◌<◌, ◌≤◌, ◌∙◌, ap, length, subst, arith}
+use Rattle.std.proofs.Common.{ℕ, ◌*◌, ◌<◌, ◌∙◌, ap, length, subst, arith}
 use Rattle.half_edge_links.specs.Mesh.{rev}
 use Rattle.delaunay_shapes.specs.Flood.{AsksBeside}
 use Rattle.delaunay_shapes.specs.InShape.{IsInside}

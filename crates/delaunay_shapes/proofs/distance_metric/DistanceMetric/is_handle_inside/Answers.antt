@@ -1,4 +1,4 @@
-use Rattle.std.proofs.Common.{◌∙◌, map, ap, rules}
+use Rattle.std.proofs.Common.{map}
 use Rattle.delaunay_core.specs.Place.{place_of}
 use Rattle.delaunay_shapes.proofs.Handles.{start_is, end_is, end_covered, ends_told}
 use Rattle.delaunay_shapes.proofs.distance_metric.DistanceMetric.is_handle_inside.Goals as goal
