@@ -43,7 +43,10 @@ impl Grid {
     {
         self.triangulation.recall_invariant();
         let mut flips = 0;
-        match self.triangulation.insert_counting(point, &SmallTests, &mut flips) {
+        match self
+            .triangulation
+            .insert_counting(point, &SmallTests, &mut flips)
+        {
             Ok(_) => Ok(flips),
             Err(error) => Err(error),
         }

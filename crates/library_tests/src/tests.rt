@@ -9,9 +9,9 @@ use spade_delaunay::handles::{DirectedEdgeHandle, FaceHandle};
 use std::alloc::Global;
 use triangulate_run::sheet::Sheet;
 
+mod constraint_edges;
 mod constraints;
 mod empty_circles;
-mod constraint_edges;
 mod hints;
 mod locations;
 mod nearest;

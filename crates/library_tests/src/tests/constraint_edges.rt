@@ -1,6 +1,6 @@
 //! The data of edges that may be constraints, and which edges they fix.
 
-use delaunay_legalization::{CdtEdge, EdgeConstraints, ConstraintMarker, NoConstraints};
+use delaunay_legalization::{CdtEdge, ConstraintMarker, EdgeConstraints, NoConstraints};
 
 /// An edge's data, as a constraint or as none.
 fn edge(is_constraint: bool, data: u32) -> CdtEdge<u32> {
