@@ -29,8 +29,8 @@ pub fn circle_edge(
     }
     let circle = CircleMetric::new(center, radius_2);
     Some([
-        circle.is_edge_inside([from, to], &ExactTests),
-        circle.is_edge_inside([to, from], &ExactTests),
+        circle.is_edge_inside((from, to), &ExactTests),
+        circle.is_edge_inside((to, from), &ExactTests),
     ])
 }
 
@@ -53,7 +53,7 @@ pub fn rectangle_edge(
     let (from, to) = (point(from)?, point(to)?);
     let rectangle = RectangleMetric::new(lower, upper);
     Some([
-        rectangle.is_edge_inside([from, to], &ExactTests),
-        rectangle.is_edge_inside([to, from], &ExactTests),
+        rectangle.is_edge_inside((from, to), &ExactTests),
+        rectangle.is_edge_inside((to, from), &ExactTests),
     ])
 }

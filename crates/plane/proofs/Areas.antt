@@ -25,6 +25,7 @@ on_if_zero u v p h = on_if (whole u) (whole v) (whole p) (bracket_is_area u v p 
 -- the area's sign is the side, each way
 pub side_by_area : SideIsDeterminant
 side_by_area u v p = (
-    ((λ e. subst (λ z. pos 0 <ℤ z) (bracket_is_area u v p) (if_left (whole u) (whole v) (whole p) e)), left_if_positive u v p),
-    ((λ e. subst (λ z. z <ℤ pos 0) (bracket_is_area u v p) (if_right (whole u) (whole v) (whole p) e)), right_if_negative u v p),
-    ((λ e. sym (bracket_is_area u v p) ∙ if_on (whole u) (whole v) (whole p) e), on_if_zero u v p))
+  ((λ e. subst (λ z. pos 0 <ℤ z) (bracket_is_area u v p) (if_left (whole u) (whole v) (whole p) e)), left_if_positive u v p),
+  ((λ e. subst (λ z. z <ℤ pos 0) (bracket_is_area u v p) (if_right (whole u) (whole v) (whole p) e)), right_if_negative u v p),
+  ((λ e. sym (bracket_is_area u v p) ∙ if_on (whole u) (whole v) (whole p) e), on_if_zero u v p),
+)
