@@ -28,14 +28,11 @@ fn push_line(text: &mut String, line: &str) -> Result<(), AllocError> {
 
 /// The dialogue of these lines: `> ` before a line for the program, `. ` before one without its end, `< `
 /// before a line of its replies. Below a line `or` are all lines of the replies that it may give in their place.
-fn dialogue_of<'a>(
-    alloc: Global,
-    lines: impl Iterator<Item = &'a str> + Drop,
-) -> Result<Dialogue, AllocError> {
+fn dialogue_of(alloc: Global, lines: &str) -> Result<Dialogue, AllocError> {
     let mut input = String::new(alloc);
     let mut output = String::new(alloc);
     let mut outputs = Vec::new(alloc);
-    for line in lines {
+    for line in lines.split('\n') {
         match line.split_once(' ') {
             Some((">", command)) => push_line(&mut input, command)?,
             Some((".", command)) => input.push_str(command)?,
@@ -60,7 +57,7 @@ pub(crate) fn is_answered(alloc: Global, text: &str) -> Result<bool, AllocError>
     let Some(sheet) = letter_named(letter) else {
         return Ok(false);
     };
-    let dialogue = dialogue_of(alloc, lines.split('\n'))?;
+    let dialogue = dialogue_of(alloc, lines)?;
     Ok(match written(alloc, sheet, dialogue.input.as_bytes()) {
         Some(output) => dialogue
             .outputs

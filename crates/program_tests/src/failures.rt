@@ -49,27 +49,23 @@ impl Write for Fake {
     }
 }
 
-fn fake(answer: Answer) -> Watched<Fake> {
-    Watched::new(Fake { answer, calls: 0 })
-}
-
 /// What a first read of four bytes tells, and how often the reader was called.
 fn first_read(answer: Answer) -> (Result<usize, Failed>, u64) {
-    let mut reader = fake(answer);
+    let mut reader = Watched::new(Fake { answer, calls: 0 });
     let told = reader.read(&mut [0u8; 4]);
     (told, reader.into_inner().calls)
 }
 
 /// What a first write of these bytes tells, and how often the writer was called.
 fn first_write(answer: Answer, bytes: &[u8]) -> (Result<usize, Failed>, u64) {
-    let mut writer = fake(answer);
+    let mut writer = Watched::new(Fake { answer, calls: 0 });
     let told = writer.write(bytes);
     (told, writer.into_inner().calls)
 }
 
 /// The same of a flush.
 fn first_flush(answer: Answer) -> (Result<(), Failed>, u64) {
-    let mut writer = fake(answer);
+    let mut writer = Watched::new(Fake { answer, calls: 0 });
     let told = writer.flush();
     (told, writer.into_inner().calls)
 }

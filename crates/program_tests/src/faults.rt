@@ -145,13 +145,8 @@ fn run_to_fault(alloc: Global, faults: Faults) -> Left {
         takes_none: faults.takes_none,
         flushed: &flushed,
     });
-    let outcome = run(
-        alloc,
-        &Sheet::G,
-        Sheet::G.points(),
-        &mut reader,
-        &mut writer,
-    );
+    let sheet = Sheet::G;
+    let outcome = run(alloc, &sheet, sheet.points(), &mut reader, &mut writer);
     let failed = (reader.failed(), writer.failed());
     let Narrow { taken, calls, .. } = writer.into_inner();
     Left {

@@ -44,7 +44,10 @@ fn replies(alloc: Global, mut points: Vec<SheetPoint>, counts: &str) -> Result<S
         writeln!(text, "vertex {j}")?;
     }
     writeln!(text, "{counts}")?;
-    while !points.is_empty() {
+    for _ in 0..points.len() {
+        if points.is_empty() {
+            break;
+        }
         let point = points.swap_remove(0);
         writeln!(text, "removed {} {}", point.position.x, point.position.y)?;
     }
