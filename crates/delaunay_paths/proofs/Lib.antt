@@ -7,3 +7,4 @@ pub mod AddingPieces
 pub mod InTheWay
 pub mod Releasing
 pub mod Marks
+pub mod ListingPath

@@ -1,5 +1,5 @@
 -- What answers to a few tests say of points.
-use Rattle.std.proofs.Common.{◌≡◌, ◌≢◌, ◌↔◌, ℕ, ◌<◌, List, length, sym, ap, subst, arith}
+use Rattle.std.proofs.Common.{◌≡◌, ◌≢◌, ◌↔◌, ℕ, ◌<◌, List, [], ◌∷◌, length, sym, ap, ◌∙◌, subst, arith}
 use Rattle.std.specs.Prelude.{ℤ, pos, ◌+ℤ◌, ◌-ℤ◌, ◌*ℤ◌, ◌<ℤ◌}
 use Rattle.std.proofs.lemmas.Int.{ints}
 use Rattle.half_edge_links.specs.Mesh.{Mesh, IsValidMesh, origin, rev}
@@ -9,6 +9,7 @@ use Rattle.plane.specs.Circle.{gap}
 use Rattle.plane.specs.Laws.{Parts, squared_way}
 use Rattle.plane.specs.Pairs.{place}
 use Rattle.plane.proofs.Meetings.{crossing_is_sides}
+use Rattle.plane.proofs.Solver.{◌⊖◌, ◌⊗◌, ring_in}
 use Rattle.plane_paths.specs.Constraints.{ArePlacedApart}
 use Rattle.plane_paths.proofs.EitherWay.{one_point}
 use Rattle.delaunay_legalization.specs.Known.{point_at}
@@ -20,6 +21,13 @@ gap_is_way p q = λ i. one p.x q.x i *ℤ one p.x q.x i +ℤ one p.y q.y i *ℤ 
   where
     one : (a b : ℤ) → b *ℤ pos 1 -ℤ a *ℤ pos 1 ≡ b -ℤ a
     one a b = omega (arith, ints)
+
+-- the same, with the points in the other order
+pub gap_is_way_back : (p q : Point) → gap (whole p) (whole q) ≡ squared_way q p
+gap_is_way_back p q = gap_is_way p q ∙ (λ i. turned_square p.x q.x i +ℤ turned_square p.y q.y i)
+  where
+    turned_square : (a b : ℤ) → (b -ℤ a) *ℤ (b -ℤ a) ≡ (a -ℤ b) *ℤ (a -ℤ b)
+    turned_square a b = ring_in (a ∷ b ∷ []) (λ a b. (b ⊖ a) ⊗ (b ⊖ a)) (λ a b. (a ⊖ b) ⊗ (a ⊖ b)) tt
 
 pub nearer_by : (p q r : Point) (T : Type 0) → T ↔ (gap (whole p) (whole q) <ℤ gap (whole p) (whole r)) → T ↔ (squared_way p q <ℤ squared_way p r)
 nearer_by p q r T w = subst (λ (x : ℤ × ℤ). T ↔ (x.0 <ℤ x.1)) (λ i. (gap_is_way p q i, gap_is_way p r i)) w

@@ -2,3 +2,4 @@ pub mod Crossing
 pub mod Kept
 pub mod Adding
 pub mod Releasing
+pub mod PathEdges

@@ -90,7 +90,7 @@ fn goes<V, DE, UE, F>(
 }
 
 // The edge from one vertex to another, which are joined.
-fn edge_between<V, DE, UE, F>(
+pub(crate) fn edge_between<V, DE, UE, F>(
     dcel: &Dcel<V, DE, UE, F>,
     from: FixedVertexHandle,
     to: FixedVertexHandle,
@@ -148,7 +148,7 @@ fn add_piece<M: ConstraintMarker<UE>, V: HasPosition, DE, UE, F, P: PlaneTests<V
 }
 
 // The vertex where the first piece of the path between two vertices ends, unless they are one.
-fn next_piece<V: HasPosition, DE, UE, F, P: PlaneTests<V::Scalar>>(
+pub(crate) fn next_piece<V: HasPosition, DE, UE, F, P: PlaneTests<V::Scalar>>(
     dcel: &Dcel<V, DE, UE, F>,
     from: FixedVertexHandle,
     to: FixedVertexHandle,

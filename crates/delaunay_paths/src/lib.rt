@@ -8,6 +8,7 @@ mod crossing;
 mod flips;
 mod order;
 mod path;
+mod path_edges;
 
 // For the crates of edits, and not for users.
 pub use adding::{add_path, can_add_path};
@@ -15,3 +16,4 @@ pub use constraints::{add_constraints, release_constraint};
 pub use crossing::crosses_segment;
 pub use flips::make_edge;
 pub use path::next_on_path;
+pub use path_edges::edges_along;

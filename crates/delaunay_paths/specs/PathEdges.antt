@@ -1,0 +1,16 @@
+-- The directed edges along a path, in order.
+use Rattle.std.specs.Prelude.{◌≡◌, ℕ, ◌<◌, List, [], ◌∷◌, length}
+use Rattle.half_edge_links.specs.Mesh.{Mesh, origin, rev}
+use Rattle.plane.specs.Fraction.{Point}
+use Rattle.plane.specs.Pairs.{Joins}
+use Rattle.plane_paths.specs.Constraints.{AreNextOn}
+use Rattle.mesh_embedding.specs.Drawn.{edges_of}
+
+-- each piece of the path from i to j is an edge
+abbrev pub HasPath : List Point → Mesh → ℕ → ℕ → Type 0
+HasPath points m i j = (a b : ℕ) → AreNextOn points i j a b → Joins (edges_of m) a b
+
+-- these edges lead from i to j, each from one vertex of the segment to the next
+abbrev pub LeadAlong : List Point → Mesh → ℕ → ℕ → List ℕ → Type 0
+LeadAlong points m i j [] = i ≡ j
+LeadAlong points m i j (h ∷ hs) = (h < length m.half_edges) × (origin m h ≡ i) × AreNextOn points i j i (origin m (rev h)) × LeadAlong points m (origin m (rev h)) j hs

@@ -1,0 +1,37 @@
+//! The edges along the path between two vertices.
+ghost use Rattle.std.specs.Prelude.{◌<◌, ◌≤◌, length, map, All, vec_capacity};
+ghost use Rattle.delaunay_legalization.specs.Shape.{IsTriangulated};
+ghost use Rattle.delaunay_legalization.specs.State.{state_of};
+ghost use Rattle.delaunay_paths.specs.PathEdges.{HasPath, LeadAlong};
+
+use crate::adding::{edge_between, next_piece};
+use delaunay_core::math::PlaneTests;
+use delaunay_core::point::HasPosition;
+use half_edge_mesh::{Dcel, FixedDirectedEdgeHandle, FixedVertexHandle};
+
+/// The edges along the path between two vertices, in order, where each of its pieces is one. They replace what is in
+/// `edges`, which has room for as many as there are vertices.
+pub fn edges_along<V: HasPosition, DE, UE, F, P: PlaneTests<V::Scalar>>(
+    dcel: &Dcel<V, DE, UE, F>,
+    from: FixedVertexHandle,
+    to: FixedVertexHandle,
+    tests: &P,
+    edges: &mut Vec<FixedDirectedEdgeHandle>,
+)
+    requires from_in { from < length dcel.now.vertices }
+    requires to_in { to < length dcel.now.vertices }
+    requires joined { HasPath (map V.place dcel.now.vertices) dcel.now.mesh from to }
+    requires kept { IsTriangulated V.place (state_of dcel.now) }
+    requires sites { All (P.sites tests.now) (map V.place dcel.now.vertices) }
+    requires room { length dcel.now.vertices ≤ vec_capacity edges.old }
+
+    ensures { LeadAlong (map V.place dcel.now.vertices) dcel.now.mesh from to edges.new.items }
+{
+    edges.clear();
+    let mut at = from;
+    while let Some(next) = next_piece(dcel, at, to, tests) {
+        let edge = edge_between(dcel, at, next);
+        edges.push_reserved(edge);
+        at = next;
+    }
+}
