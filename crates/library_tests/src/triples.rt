@@ -1,12 +1,9 @@
 //! All triples of vertices against the faces: a face has no vertex inside its circle, and a triple whose circle neither
 //! contains nor carries a further vertex is a face.
 
-use super::insert;
 use crate::sheet_triangulation::SheetTriangulation;
 use spade_delaunay::Point2;
 use std::alloc::{AllocError, Global};
-use std::process::Abort;
-use triangulate_run::sheet::Sheet;
 
 /// The way from one point to another. Coordinates of the sheet are at most 1, so nothing wraps.
 #[derive(Clone, Copy)]
@@ -73,7 +70,7 @@ fn carries(vertices: &[Point2<i64>], triple: Triple) -> bool {
 
 /// How many left-turning triples there are of a kind, each three times, from each of its vertices on.
 #[derive(Clone, Copy, Debug, PartialEq, Eq)]
-struct Counts {
+pub struct Counts {
     strictly_empty: u32,
     faces: u32,
     /// Faces that contain a vertex, and strictly empty triples that are no face.
@@ -160,53 +157,7 @@ fn triples_of(alloc: Global, points: &SheetTriangulation) -> Result<Vec<Triple>,
     Ok(triples)
 }
 
-/// The counts once a further point is inserted, where memory is there.
-fn counts_after(
-    alloc: Global,
-    points: &mut SheetTriangulation,
-    site: (i64, i64),
-) -> Option<Counts> {
-    if insert(points, site, 0).is_err() {
-        return None;
-    }
-    match Drawing::new(alloc, points) {
-        Ok(drawing) => Some(drawing.counts()),
-        Err(_) => None,
-    }
-}
-
-/// Compares the counts after each insertion: of strictly empty triples, and of faces.
-fn check_counts(rt: &impl Abort, alloc: Global, expected: &[((i64, i64), u32, u32)]) {
-    let mut points = SheetTriangulation::new(alloc, Sheet::G);
-    for (site, strictly_empty, faces) in expected {
-        let expected = Counts {
-            strictly_empty: *strictly_empty,
-            faces: *faces,
-            wrong: 0,
-        };
-        assert_eq!(rt;
-            counts_after(alloc, &mut points, *site),
-            Some(expected),
-            "after {site:?}"
-        );
-    }
-}
-
-#[test]
-fn strictly_empty_triples_are_faces(rt: HostRuntime) {
-    check_counts(
-        &rt,
-        rt.alloc(),
-        &[
-            ((1, 1), 0, 0),
-            ((-1, 0), 0, 0),
-            ((0, -1), 3, 3),
-            ((1, -1), 6, 6),
-            ((-1, 1), 9, 9),
-            ((-1, -1), 12, 12),
-            ((0, 1), 9, 15),
-            ((1, 0), 12, 18),
-            ((0, 0), 0, 24),
-        ],
-    );
+/// The counts of a triangulation.
+pub fn counts_of_triples(alloc: Global, points: &SheetTriangulation) -> Result<Counts, AllocError> {
+    Ok(Drawing::new(alloc, points)?.counts())
 }

@@ -1,0 +1,57 @@
+//! The data of edges that may be constraints, and which edges they fix.
+
+use delaunay_legalization::{CdtEdge, ConstraintMarker, EdgeConstraints, NoConstraints};
+
+/// An edge's data, as a constraint or as none.
+fn edge(is_constraint: bool, data: u32) -> CdtEdge<u32> {
+    let mut edge = CdtEdge::new(data);
+    if is_constraint {
+        edge.make_constraint_edge();
+    }
+    edge
+}
+
+/// Whether an edge is a constraint when it is new, made one and unmade; and whether the default edge is a new one of 0.
+pub fn made_and_unmade() -> [bool; 4] {
+    let mut edge = CdtEdge::new(7u32);
+    let is_new = edge.is_constraint_edge();
+    edge.make_constraint_edge();
+    let is_made = edge.is_constraint_edge();
+    edge.unmake_constraint_edge();
+    [
+        is_new,
+        is_made,
+        edge.is_constraint_edge(),
+        CdtEdge::<u32>::default() == CdtEdge::new(0),
+    ]
+}
+
+/// The data of a constraint that were written over, and whether it is one still.
+pub fn written() -> (u32, bool) {
+    let mut edge = edge(true, 7);
+    *edge.data_mut() = 8;
+    (*edge.data(), edge.is_constraint_edge())
+}
+
+/// Whether each marker takes a constraint and another edge for constraints.
+pub fn markers() -> [[bool; 2]; 2] {
+    let (constraint, other) = (edge(true, 7), edge(false, 7));
+    [
+        [
+            EdgeConstraints::is_constraint_edge(&constraint),
+            EdgeConstraints::is_constraint_edge(&other),
+        ],
+        [
+            NoConstraints::is_constraint_edge(&constraint),
+            NoConstraints::is_constraint_edge(&other),
+        ],
+    ]
+}
+
+/// Whether the flag comes before the data in the order, and the data after it.
+pub fn order() -> [bool; 2] {
+    [
+        edge(false, 9) < edge(true, 0),
+        edge(false, 0) < edge(false, 1),
+    ]
+}

@@ -1,0 +1,32 @@
+//! Runs a script of library calls over the points of sheet G, three rows of three, and prints each line with what its
+//! call gives. Lines that start with `#` are printed as they are.
+#![tactic(auto)]
+
+mod constrained;
+mod constraint_edges;
+mod elements;
+mod hints;
+mod locations;
+mod paths;
+mod script;
+mod sheet_constraints;
+mod sheet_hints;
+mod sheet_paths;
+mod sheet_triangulation;
+mod tagged_vertex;
+mod triples;
+
+use script::{Call, Session, answer};
+use std::io;
+
+fn main(rt: HostRuntime) -> io::Result<()> {
+    let mut session = Session::new(rt.alloc());
+    for line in rt.lines(rt.alloc()) {
+        let line = line?;
+        match Call::parse(line.as_str()) {
+            Some(call) => answer(&rt, &mut session, &call)?,
+            None => println!(rt; "{line}")?,
+        }
+    }
+    Ok(())
+}
