@@ -1,7 +1,7 @@
 //! A new vertex inside a face or within an edge.
 ghost use Rattle.std.specs.Prelude.{◌≡◌, ◌+◌, ◌*◌, ◌<◌, ◌≤◌, ◌++◌, ◌∷◌, [], length, map};
-ghost use Rattle.half_edge_links.specs.Mesh.{rev, face, face_edge};
-ghost use Rattle.half_edge_links.specs.Room.{HasRoomFor};
+ghost use Rattle.half_edge_mesh.specs.Mesh.{rev, face, face_edge};
+ghost use Rattle.half_edge_mesh.specs.Room.{HasRoomFor};
 ghost use Rattle.half_edge_mesh.specs.Contents.{HasRoom};
 ghost use Rattle.plane.specs.Tests.{InRange};
 ghost use Rattle.delaunay_insertion.specs.Data.{GrowsAround};
@@ -35,7 +35,7 @@ pub fn insert_inside_face<V: HasPosition, DE: Default, UE: Default, F: Default>(
     ensures made { MakesFacesAt (length dcel.old.vertices) (faces_of dcel.old.mesh) (faces_of dcel.new.mesh) }
 {
     let vertex = dcel.insert_into_triangle(value, face);
-    let _ = dcel.num_vertices();
+    dcel.recall_invariant();
     vertex
 }
 
@@ -59,7 +59,7 @@ fn split_inner_edge<V: HasPosition, DE: Default, UE: Default, F: Default>(
     ensures made { MakesFacesAt (length dcel.old.vertices) (faces_of dcel.old.mesh) (faces_of dcel.new.mesh) }
 {
     let (vertex, _parts) = dcel.split_edge(edge, value);
-    let _ = dcel.num_vertices();
+    dcel.recall_invariant();
     vertex
 }
 
@@ -83,7 +83,7 @@ fn split_hull_edge<V: HasPosition, DE: Default, UE: Default, F: Default>(
     ensures made { MakesFacesAt (length dcel.old.vertices) (faces_of dcel.old.mesh) (faces_of dcel.new.mesh) }
 {
     let (vertex, _parts) = dcel.split_half_edge(edge, value);
-    let _ = dcel.num_vertices();
+    dcel.recall_invariant();
     vertex
 }
 

@@ -1,6 +1,6 @@
 //! New vertices on the line of all vertices.
 ghost use Rattle.std.specs.Prelude.{◌≡◌, ◌<◌, ◌++◌, ◌∷◌, [], length, map};
-ghost use Rattle.half_edge_links.specs.Mesh.{origin};
+ghost use Rattle.half_edge_mesh.specs.Mesh.{origin};
 ghost use Rattle.half_edge_mesh.specs.Contents.{HasRoom};
 ghost use Rattle.plane.specs.Fraction.{whole as fraction};
 ghost use Rattle.plane.specs.Location.{IsPast};
@@ -14,8 +14,7 @@ ghost use Rattle.delaunay_legalization.specs.State.{state_of};
 ghost use Rattle.mesh_embedding.specs.Drawn.{faces_of};
 
 use delaunay_core::point::HasPosition;
-use half_edge_mesh::{Dcel, FixedDirectedEdgeHandle, FixedVertexHandle};
-use half_edge_views::MeshViews;
+use half_edge_mesh::{Dcel, FixedDirectedEdgeHandle, FixedVertexHandle, MeshViews};
 
 // The first vertex.
 pub fn insert_first<V: HasPosition, DE, UE, F>(
@@ -33,7 +32,7 @@ pub fn insert_first<V: HasPosition, DE, UE, F>(
     ensures made { MakesFacesAt (length dcel.old.vertices) (faces_of dcel.old.mesh) (faces_of dcel.new.mesh) }
 {
     let vertex = dcel.append_unconnected_vertex(value);
-    let _ = dcel.num_vertices();
+    dcel.recall_invariant();
     vertex
 }
 
@@ -53,10 +52,10 @@ pub fn insert_second<V: HasPosition, DE: Default, UE: Default, F>(
     ensures grows { GrowsAround (map V.place dcel.old.vertices) (V.place value) (state_of dcel.old) (state_of dcel.new) }
     ensures made { MakesFacesAt (length dcel.old.vertices) (faces_of dcel.old.mesh) (faces_of dcel.new.mesh) }
 {
-    let _ = dcel.num_vertices();
+    dcel.recall_invariant();
     let vertex = dcel.append_unconnected_vertex(value);
     dcel.setup_initial_two_vertices(FixedVertexHandle::from_index(0), vertex);
-    let _ = dcel.num_vertices();
+    dcel.recall_invariant();
     vertex
 }
 
@@ -81,7 +80,7 @@ pub fn insert_past_end<V: HasPosition, DE: Default, UE: Default, F>(
 {
     let end = dcel.directed_edge(edge).from().fix();
     let vertex = dcel.extend_line(end, value);
-    let _ = dcel.num_vertices();
+    dcel.recall_invariant();
     vertex
 }
 
@@ -104,6 +103,6 @@ pub fn insert_within_line<V: HasPosition, DE: Default, UE: Default, F>(
     ensures made { MakesFacesAt (length dcel.old.vertices) (faces_of dcel.old.mesh) (faces_of dcel.new.mesh) }
 {
     let (vertex, _parts) = dcel.split_edge_when_all_vertices_on_line(edge, value);
-    let _ = dcel.num_vertices();
+    dcel.recall_invariant();
     vertex
 }

@@ -15,5 +15,5 @@ loop-i-preserved g c =
 
 pub returns-clause-none : goal.returns-clause-none
 returns-clause-none g c =
-    faces_inner c.args.dcel.now.mesh (origin c.args.dcel.now.mesh c.args.first) c.args.first c.count_edges-count.result c.num_directed_edges.ensures.whole.valid.sound c.count_edges-count.ensures
+    faces_inner c.args.dcel.now.mesh (origin c.args.dcel.now.mesh c.args.first) c.args.first c.count_edges-count.result c.recall_invariant.ensures.whole.valid.sound c.count_edges-count.ensures
     (λ i less. c.loop-i.invariant.none i (let e = c.loop-i-test.false in omega (arith, e, less)))
