@@ -1,5 +1,7 @@
 //! A terrain: heights on a grid of posts, with a hole where a cloud hid the ground, which a second survey fills.
 
+ghost use Rattle.std.specs.Prelude.{◌<◌};
+
 use exact_tests::ExactTests;
 use spade_delaunay::{DelaunayTriangulation, HasPosition, Point2, PositionInTriangulation};
 use spade_delaunay::{InsertionError, validate_vertex};
@@ -24,7 +26,7 @@ impl HasPosition for Post {
 type Terrain = DelaunayTriangulation<Post>;
 
 /// Posts a row, and rows.
-const SIDE: i64 = 7;
+const SIDE: u8 = 7;
 
 /// Metres above the sea, row by row from the south.
 const HEIGHTS: [[i32; 7]; 7] = [
@@ -41,17 +43,20 @@ const HEIGHTS: [[i32; 7]; 7] = [
 const WALKERS: [(i64, i64); 5] = [(60, 30), (310, 290), (300, 300), (480, 120), (900, 100)];
 
 /// Whether the cloud hid a post.
-fn is_hidden(column: i64, row: i64) -> bool {
+fn is_hidden(column: u8, row: u8) -> bool {
     2 <= column && column <= 4 && 2 <= row && row <= 4
 }
 
 /// Posts are a hundred metres apart. Those of each second row are moved by fifty metres to the east, so that no four
 /// neighbours lie on a circle.
-fn post_at(column: i64, row: i64) -> Post {
-    let x = 100 * column + 50 * (row % 2);
+fn post_at(column: u8, row: u8) -> Post
+    requires column { column < SIDE }
+    requires row { row < SIDE }
+{
+    let x = 100 * i64::from(column) + 50 * i64::from(row % 2);
     Post {
-        place: Point2::new(x, 100 * row),
-        metres: HEIGHTS[row as usize][column as usize],
+        place: Point2::new(x, 100 * i64::from(row)),
+        metres: HEIGHTS[usize::from(row)][usize::from(column)],
     }
 }
 
