@@ -1,5 +1,6 @@
-// cgal KIND ORDER N [REMOVALS]: what crates/benchmark does, with CGAL's triangulations, over the same points.
-// KIND is plain (each search begins at the face where the last one ended) or hierarchy (of triangulations).
+// cgal KIND ORDER N [REMOVALS]: what crates/benchmark does, with CGAL's triangulations, over the
+// same points. KIND is plain (each search begins at the face where the last one ended) or hierarchy
+// (of triangulations).
 #include <CGAL/Delaunay_triangulation_2.h>
 #include <CGAL/Exact_predicates_inexact_constructions_kernel.h>
 #include <CGAL/Triangulation_hierarchy_2.h>

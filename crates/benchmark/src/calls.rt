@@ -18,8 +18,8 @@ pub fn insert_all(alloc: Global, points: &[Point2<i64>]) -> Result<Triangulation
     Ok(triangulation)
 }
 
-/// How many points are on vertices, on edges or in faces, and outside of the hull. Edges and faces count as one, since
-/// points on a circle have more than one triangulation.
+/// How many points are on vertices, on edges or in faces, and outside of the hull. Edges and faces
+/// count as one, since points on a circle have more than one triangulation.
 #[derive(Drop)]
 pub struct Located {
     pub vertices: u32,
@@ -55,7 +55,8 @@ fn squared(a: i64, b: i64) -> i64 {
     difference.wrapping_mul(difference)
 }
 
-/// The sum of the squared distances from points to their nearest vertices, without what 64 bits do not hold.
+/// The sum of the squared distances from points to their nearest vertices, without what 64 bits do
+/// not hold.
 pub fn nearest_all(triangulation: &Triangulation, queries: &[Point2<i64>]) -> i64 {
     let mut sum = 0i64;
     for point in queries {
@@ -84,7 +85,10 @@ pub fn remove_some(
     random: &mut Random,
     removals: u32,
 ) -> Result<Removed, AllocError> {
-    let mut removed = Removed { count: 0, digest: 0 };
+    let mut removed = Removed {
+        count: 0,
+        digest: 0,
+    };
     for _ in 0..removals {
         let vertices = triangulation.num_vertices();
         if vertices == 0 {

@@ -1,7 +1,9 @@
-//! `benchmark ORDER N [REMOVALS]` inserts N points in an order, asks for as many locations and nearest vertices, and removes
-//! vertices at random, all of them where no number says how many. Without words it runs each order with few points.
-//! Standard output has what was found, so that other programs can be compared, and standard error the figures: the
-//! thread's nanoseconds a call, and the peak of resident bytes a vertex.
+//! `benchmark ORDER N [REMOVALS]` inserts N points in an order, asks for as many locations and
+//! nearest vertices, and removes vertices at random, all of them where no number says how many.
+//! Without words it runs each order with few points. Standard output has what was found, so that
+//! other programs can be compared, and standard error the figures: the thread's nanoseconds a call,
+//! and the peak of resident bytes a vertex. The stored output is that of `compare/cgal.cpp`, which
+//! does the same with another library.
 #![tactic(auto)]
 
 mod calls;
@@ -87,9 +89,7 @@ fn ask(
     eprintln!(rt; "locate {nanoseconds} ns")?;
     println!(rt;
         "located: {} on vertices, {} inside, {} outside",
-        located.vertices,
-        located.inside,
-        located.outside
+        located.vertices, located.inside, located.outside
     )?;
     let start = rt.thread_cpu_time()?;
     let sum = nearest_all(triangulation, queries);
@@ -109,7 +109,10 @@ fn remove(
     let removed = remove_some(triangulation, random, removals)?;
     let nanoseconds = nanoseconds_a_call(rt, start, removed.count)?;
     eprintln!(rt; "remove {nanoseconds} ns")?;
-    println!(rt; "removed: {} vertices, digest {}", removed.count, removed.digest)?;
+    println!(rt;
+        "removed: {} vertices, digest {}",
+        removed.count, removed.digest
+    )?;
     tell_counts(rt, "left", triangulation)?;
     Ok(())
 }

@@ -17,7 +17,8 @@ pub enum Order {
     Scattered,
 }
 
-/// How far the points of a grid are apart. It is a power of two, so that floating-point tests of other programs stay exact.
+/// How far the points of a grid are apart. It is a power of two, so that floating-point tests of
+/// other programs stay exact.
 const STEP: i64 = 1024;
 
 /// How many coordinates random points have, a side.
@@ -72,7 +73,8 @@ impl Order {
         in_order(alloc, keyed)
     }
 
-    /// The points to ask for: random ones of the square that the others lie in, along the curve where the others are.
+    /// The points to ask for: random ones of the square that the others lie in, along the curve
+    /// where the others are.
     pub fn queries(
         self,
         alloc: Global,

@@ -8,7 +8,9 @@ pub struct Random {
 
 impl Random {
     pub fn new() -> Self {
-        Random { state: 88172645463325252 }
+        Random {
+            state: 88172645463325252,
+        }
     }
 
     pub fn number(&mut self) -> u64 {

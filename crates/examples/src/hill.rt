@@ -11,7 +11,11 @@ pub fn run(rt: &HostRuntime) -> io::Result<()> {
             return println!(rt; "refused: {error}");
         }
     }
-    println!(rt; "{} edges, {} faces", hill.num_undirected_edges(), hill.num_inner_faces())?;
+    println!(rt;
+        "{} edges, {} faces",
+        hill.num_undirected_edges(),
+        hill.num_inner_faces()
+    )?;
     if let Some(nearest) = hill.nearest_neighbor(Point2::new(70, 110), &ExactTests) {
         println!(rt; "nearest to the camp: vertex {}", nearest.fix().index())?;
     }

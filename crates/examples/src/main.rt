@@ -1,4 +1,6 @@
-//! Small programs as users of the library write them. Each line of standard input is the name of one, which is run.
+//! Small programs as users of the library write them. Each line of standard input is the name of
+//! one, which is run. The stored output was worked out without a triangulation, by
+//! `compare/examples`.
 #![tactic(auto)]
 
 mod facilities;

@@ -1,10 +1,13 @@
-//! A terrain: heights on a grid of posts, with a hole where a cloud hid the ground, which a second survey fills.
+//! A terrain: heights on a grid of posts, with a hole where a cloud hid the ground, which a second
+//! survey fills.
 
 ghost use Rattle.std.specs.Prelude.{◌<◌};
 
 use exact_tests::ExactTests;
-use spade_delaunay::{DelaunayTriangulation, HasPosition, Point2, PositionInTriangulation};
-use spade_delaunay::{InsertionError, validate_vertex};
+use spade_delaunay::{
+    DelaunayTriangulation, HasPosition, InsertionError, Point2, PositionInTriangulation,
+    validate_vertex,
+};
 
 /// A post of the survey.
 #[derive(Drop)]
@@ -47,8 +50,8 @@ fn is_hidden(column: u8, row: u8) -> bool {
     2 <= column && column <= 4 && 2 <= row && row <= 4
 }
 
-/// Posts are a hundred metres apart. Those of each second row are moved by fifty metres to the east, so that no four
-/// neighbours lie on a circle.
+/// Posts are a hundred metres apart. Those of each second row are moved by fifty metres to the
+/// east, so that no four neighbours lie on a circle.
 fn post_at(column: u8, row: u8) -> Post
     requires column { column < SIDE }
     requires row { row < SIDE }
