@@ -5,5 +5,10 @@ pub mod Growing
 pub mod InsertionCases
 pub mod MadeFaces
 pub mod DataGrowing
+pub mod EdgeLists
+pub mod NewVertex
+pub mod MarkedEdges
+pub mod EdgeSplits
+pub mod SplitConstraints
 pub mod DataKept
 pub mod Appending
