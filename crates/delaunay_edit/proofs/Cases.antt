@@ -1,6 +1,6 @@
 -- Where a position is, for the vertex that comes there.
 use Rattle.std.proofs.Common.{◌≡◌, ◌⊎◌, ℕ, ◌<◌, ◌≤◌, length, map, sym, subst, inl, inr}
-use Rattle.half_edge_links.specs.Mesh.{origin, rev}
+use Rattle.half_edge_mesh.specs.Mesh.{origin, rev}
 use Rattle.half_edge_mesh.specs.Contents.{Contents}
 use Rattle.plane.specs.Fraction.{Point, whole}
 use Rattle.plane.specs.Pairs.{place}

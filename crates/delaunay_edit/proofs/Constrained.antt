@@ -1,7 +1,7 @@
 -- A triangulation with constraints that are edges, and one that gets the edges of a triangulation without constraints.
 use Rattle.std.proofs.Common.{◌≡◌, ◌≢◌, ℕ, ◌<◌, List, [], ◌∷◌, length, sym, ap, ◌∙◌, subst, arith}
 use Rattle.std.specs.List.{AllZip}
-use Rattle.half_edge_links.specs.Mesh.{origin, rev}
+use Rattle.half_edge_mesh.specs.Mesh.{origin, rev}
 use Rattle.half_edge_links.proofs.Rev.{rev_within}
 use Rattle.plane.specs.Fraction.{Point}
 use Rattle.plane.specs.Pairs.{Joins}

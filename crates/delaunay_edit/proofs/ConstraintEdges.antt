@@ -3,7 +3,7 @@ use Rattle.std.proofs.Common.{◌≡◌, ◌⊎◌, ℕ, zero, suc, ◌+◌, ◌
 use Rattle.std.specs.Prelude.{Contains, Some, slice_get, if◌then◌else◌}
 use Rattle.std.specs.List.{AllZip}
 use Rattle.std.proofs.lemmas.List.{length-map}
-use Rattle.half_edge_links.specs.Mesh.{Mesh, origin, rev}
+use Rattle.half_edge_mesh.specs.Mesh.{Mesh, origin, rev}
 use Rattle.half_edge_links.proofs.Rev.{rev-rev, rev_within}
 use Rattle.plane.specs.Fraction.{Point}
 use Rattle.plane.specs.Pairs.{IsSamePair, Joins}

@@ -1,6 +1,6 @@
 -- What follows for all circles where each edge between two faces passes.
 use Rattle.std.proofs.Common.{◌≡◌, ◌∙◌, ℕ, ◌<◌, Bool, List, [], length, map, sym, ap, subst, slice_set}
-use Rattle.half_edge_links.specs.Mesh.{empty}
+use Rattle.half_edge_mesh.specs.Mesh.{empty}
 use Rattle.half_edge_mesh.specs.Contents.{Contents, IsMeshWithData}
 use Rattle.plane.specs.Fraction.{Point}
 use Rattle.plane.specs.Tiling.{IsFace}

@@ -4,7 +4,7 @@ use mathlib.Core.Logic.{◌≢◌}
 use Rattle.std.specs.Prelude.{ℤ, pos, ◌+ℤ◌, Contains, AllPairs}
 use Rattle.std.proofs.lemmas.Int.{ints}
 use Rattle.std.proofs.lemmas.List.{length-map}
-use Rattle.half_edge_links.specs.Mesh.{Mesh, IsValidMesh}
+use Rattle.half_edge_mesh.specs.Mesh.{Mesh, IsValidMesh}
 use Rattle.plane.specs.Fraction.{Point}
 use Rattle.plane.specs.Tiling.{Face, IsEdge, HasFace}
 use Rattle.plane.specs.Location.{IsOuter}

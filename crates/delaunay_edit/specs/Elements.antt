@@ -3,7 +3,7 @@ use Rattle.std.specs.Prelude.{◌≡◌, ℕ, ◌<◌, ◌≤◌, List, length, 
 use Rattle.std.specs.List.{range_with_len}
 use Rattle.std.specs.Borrow.{Bor}
 use Rattle.half_edge_mesh.specs.Contents.{Contents}
-use Rattle.half_edge_views.specs.Left.{each_in}
+use Rattle.half_edge_mesh.specs.Left.{each_in}
 use Rattle.plane.specs.Fraction.{Point, whole}
 use Rattle.plane.specs.Location.{IsLocation}
 use Rattle.plane.specs.Shape.{IsNearest}

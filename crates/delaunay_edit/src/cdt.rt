@@ -1,6 +1,6 @@
 //! Triangulations with constraints.
 ghost use Rattle.std.specs.Prelude.{◌≡◌, ◌↔◌, ◌*◌, ◌<◌, length, Contains, IsTrue, IfErr, IfOk};
-ghost use Rattle.half_edge_links.specs.Mesh.{origin, rev};
+ghost use Rattle.half_edge_mesh.specs.Mesh.{origin, rev};
 ghost use Rattle.plane.specs.Pairs.{IsSamePair, Joins};
 ghost use Rattle.plane.specs.Plain.{Unconstrains};
 ghost use Rattle.delaunay_legalization.specs.State.{points_and_constraints};
@@ -11,10 +11,11 @@ ghost use Rattle.delaunay_edit.specs.Headline.{IsDelaunay};
 use crate::delaunay_triangulation::DelaunayTriangulation;
 use crate::triangulation_core::TriangulationCore;
 use delaunay_core::point::HasPosition;
+use delaunay_core::{HintGenerator, LastUsedVertexHintGenerator};
 use delaunay_legalization::{CdtEdge, EdgeConstraints, is_constraint_edge};
-use half_edge_mesh::{FixedDirectedEdgeHandle, FixedUndirectedEdgeHandle, FixedVertexHandle};
-use half_edge_views::MeshViews;
-use hint_generators::{HintGenerator, LastUsedVertexHintGenerator};
+use half_edge_mesh::{
+    FixedDirectedEdgeHandle, FixedUndirectedEdgeHandle, FixedVertexHandle, MeshViews,
+};
 use std::marker::PhantomData;
 
 /// A triangulation of vertices with different positions, some of whose edges are constraints, which stay edges. Its inner

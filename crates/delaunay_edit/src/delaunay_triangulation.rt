@@ -1,7 +1,7 @@
 //! Triangulations without constraints.
 use crate::triangulation_core::TriangulationCore;
+use delaunay_core::LastUsedVertexHintGenerator;
 use delaunay_legalization::NoConstraints;
-use hint_generators::LastUsedVertexHintGenerator;
 
 /// A triangulation of vertices with different positions. Its inner faces turn left and tile the hull of the positions,
 /// and none has a vertex strictly inside its circle; where the positions are on one line there is no inner face, and

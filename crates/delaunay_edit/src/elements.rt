@@ -1,18 +1,18 @@
 //! Counts, handles and iterators of vertices, edges and faces.
 ghost use Rattle.std.specs.Prelude.{◌≡◌, ◌+◌, ◌-◌, ◌*◌, ◌<◌, ◌≤◌, length};
-ghost use Rattle.half_edge_views.specs.Left.{vertices_left, faces_left};
+ghost use Rattle.half_edge_mesh.specs.Left.{vertices_left, faces_left};
 ghost use Rattle.delaunay_edit.specs.Elements.{GivesElements};
 ghost use Rattle.delaunay_edit.specs.Hull.{CountsHullEdges};
 ghost use Rattle.delaunay_legalization.specs.State.{state_of, triangulation_of};
 
 use crate::triangulation_core::TriangulationCore;
+use delaunay_core::HintGenerator;
 use delaunay_core::point::HasPosition;
 use delaunay_legalization::ConstraintMarker;
-use half_edge_mesh::{FixedDirectedEdgeHandle, FixedFaceHandle, FixedVertexHandle};
-use half_edge_views::{
-    DirectedEdgeHandle, FaceHandle, FaceIterator, MeshViews, VertexHandle, VertexIterator,
+use half_edge_mesh::{
+    DirectedEdgeHandle, FaceHandle, FaceIterator, FixedDirectedEdgeHandle, FixedFaceHandle,
+    FixedVertexHandle, MeshViews, VertexHandle, VertexIterator,
 };
-use hint_generators::HintGenerator;
 
 impl<
     V: HasPosition,

@@ -12,13 +12,13 @@ ghost use Rattle.delaunay_edit.specs.Location.{HasHandle, IsLeftOfPlace};
 
 use crate::delaunay_triangulation::DelaunayTriangulation;
 use crate::insertion_cases::insert_at;
+use delaunay_core::HintGenerator;
 use delaunay_core::math::{InsertionError, PlaneTests, validate_vertex};
 use delaunay_core::point::HasPosition;
 use delaunay_insertion::reserve_for_vertex;
 use delaunay_legalization::{NoConstraints, legalize_star, reserve_for_edges, turns_left};
 use delaunay_location::PositionInTriangulation;
 use half_edge_mesh::{FixedVertexHandle, MAX_ELEMENTS};
-use hint_generators::HintGenerator;
 
 /// What is at the position of a value.
 pub(crate) enum Entry {

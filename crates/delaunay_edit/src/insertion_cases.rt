@@ -1,6 +1,6 @@
 //! A new vertex at any position that no vertex has.
 ghost use Rattle.std.specs.Prelude.{◌≡◌, ◌↔◌, ◌+◌, ◌*◌, ◌++◌, ◌∷◌, [], length, map, All, IsTrue};
-ghost use Rattle.half_edge_links.specs.Room.{HasRoomFor};
+ghost use Rattle.half_edge_mesh.specs.Room.{HasRoomFor};
 ghost use Rattle.plane.specs.Tests.{InRange};
 ghost use Rattle.delaunay_insertion.specs.Data.{GrowsAround};
 ghost use Rattle.delaunay_edit.specs.Location.{IsApart, IsLeftOfPlace, Locates};

@@ -8,13 +8,12 @@ ghost use Rattle.delaunay_edit.specs.Elements.{FindsLocation, IsVertexAt};
 ghost use Rattle.delaunay_edit.specs.Headline.{AreSites};
 
 use crate::triangulation_core::TriangulationCore;
+use delaunay_core::HintGenerator;
 use delaunay_core::math::PlaneTests;
 use delaunay_core::point::{HasPosition, Point2};
 use delaunay_legalization::ConstraintMarker;
 use delaunay_location::{PositionInTriangulation, locate_vertex, locate_with_hint};
-use half_edge_mesh::FixedVertexHandle;
-use half_edge_views::VertexHandle;
-use hint_generators::HintGenerator;
+use half_edge_mesh::{FixedVertexHandle, VertexHandle};
 
 impl<
     V: HasPosition,

@@ -5,12 +5,11 @@ ghost use Rattle.delaunay_edit.specs.Elements.{IsNearestVertex};
 ghost use Rattle.delaunay_edit.specs.Headline.{AreSites};
 
 use crate::delaunay_triangulation::DelaunayTriangulation;
+use delaunay_core::HintGenerator;
 use delaunay_core::math::PlaneTests;
 use delaunay_core::point::{HasPosition, Point2};
 use delaunay_location::nearest_by_neighbors;
-use half_edge_mesh::FixedVertexHandle;
-use half_edge_views::VertexHandle;
-use hint_generators::HintGenerator;
+use half_edge_mesh::{FixedVertexHandle, VertexHandle};
 
 impl<V: HasPosition, DE, UE, F, L: HintGenerator<V::Scalar>> DelaunayTriangulation<
     V,

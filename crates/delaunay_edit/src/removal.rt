@@ -1,6 +1,6 @@
 //! Vertices that go, one or all of them, and a vertex that gives way to one of its position.
 ghost use Rattle.std.specs.Prelude.{◌≡◌, ◌<◌, [], length, map, All, Some, IfOk, OnErr, OnOk, slice_get, slice_set};
-ghost use Rattle.half_edge_links.specs.Mesh.{empty};
+ghost use Rattle.half_edge_mesh.specs.Mesh.{empty};
 ghost use Rattle.plane.specs.Plain.{IsCleared, Removes, Replaces};
 ghost use Rattle.delaunay_core.specs.Place.{place_of};
 ghost use Rattle.delaunay_legalization.specs.Constraints.{points_and_constraints_by};
@@ -13,12 +13,12 @@ ghost use Rattle.delaunay_edit.specs.Headline.{AreSites, IsDelaunay};
 
 use crate::delaunay_triangulation::DelaunayTriangulation;
 use crate::triangulation_core::TriangulationCore;
+use delaunay_core::HintGenerator;
 use delaunay_core::math::PlaneTests;
 use delaunay_core::point::{HasPosition, Point2};
 use delaunay_legalization::{ConstraintMarker, NoConstraints, legalize_all};
 use delaunay_removal::remove_vertex;
 use half_edge_mesh::FixedVertexHandle;
-use hint_generators::HintGenerator;
 use std::alloc::AllocError;
 
 impl<
@@ -139,7 +139,7 @@ impl<
     {
         self.dcel.clear();
         self.hint_generator = L::new(*self.work.allocator());
-        let _ = self.dcel.num_vertices();
+        self.dcel.recall_invariant();
         self.recall_invariant();
     }
 }

@@ -1,19 +1,19 @@
 //! What both triangulation types hold.
 ghost use Rattle.std.specs.Prelude.{◌≡◌, ℕ, ◌<◌, ◌≤◌, [], length, map};
-ghost use Rattle.half_edge_links.specs.Mesh.{empty, origin, rev};
+ghost use Rattle.half_edge_mesh.specs.Mesh.{empty, origin, rev};
 ghost use Rattle.delaunay_core.specs.Place.{place_of};
 ghost use Rattle.delaunay_legalization.specs.Constraints.{constraints_by};
 ghost use Rattle.delaunay_legalization.specs.Known.{point_at};
 ghost use Rattle.delaunay_edit.specs.Headline.{IsDelaunay, IsWellFormed};
 ghost use Rattle.delaunay_edit.specs.Location.{IsMeshEdge};
 
+use delaunay_core::HintGenerator;
 use delaunay_core::point::{HasPosition, Point2};
 use delaunay_legalization::ConstraintMarker;
 use half_edge_mesh::{
     Dcel, FixedDirectedEdgeHandle, FixedUndirectedEdgeHandle, FixedVertexHandle, MAX_ELEMENTS,
+    MeshViews,
 };
-use half_edge_views::MeshViews;
-use hint_generators::HintGenerator;
 use std::alloc::Global;
 use std::marker::{Model, PhantomData};
 
@@ -72,7 +72,7 @@ impl<
         ensures headline { IsDelaunay V.place M.constraints result }
     {
         let dcel = Dcel::new(alloc);
-        let _ = dcel.num_vertices();
+        dcel.recall_invariant();
         TriangulationCore {
             dcel,
             work: Vec::new(alloc),
@@ -86,7 +86,7 @@ impl<
     pub fn recall_invariant(&self)
         ensures { IsWellFormed V.place M.constraints self.now }
     {
-        let _ = self.dcel.num_vertices();
+        self.dcel.recall_invariant();
     }
 
     pub fn num_vertices(&self) -> usize

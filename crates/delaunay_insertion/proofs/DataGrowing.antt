@@ -6,9 +6,9 @@ use Rattle.std.proofs.lemmas.Grind.{common_steps}
 use Rattle.std.proofs.lemmas.Int.{ints}
 use Rattle.std.proofs.lemmas.List.{length-map, length-set, get_or-map}
 use Rattle.std.proofs.lemmas.Option.{slice_get_within, slice_get-get_or, get_or_from_slice_get}
-use Rattle.half_edge_links.specs.Mesh.{Mesh, origin, next, prev, face, face_edge, rev, AreSoundLinks, IsValidMesh}
-use Rattle.half_edge_links.specs.Outline.{Ends, ends, AddsTriangle, HalfSplitsTriangles}
-use Rattle.half_edge_links.specs.Triangles.{Triangle, triangle_at, triangles, InsertsTriangles, SplitsTriangles}
+use Rattle.half_edge_mesh.specs.Mesh.{Mesh, origin, next, prev, face, face_edge, rev, AreSoundLinks, IsValidMesh}
+use Rattle.half_edge_mesh.specs.Outline.{Ends, ends, AddsTriangle, HalfSplitsTriangles}
+use Rattle.half_edge_mesh.specs.Triangles.{Triangle, triangle_at, triangles, InsertsTriangles, SplitsTriangles}
 use Rattle.half_edge_links.proofs.Ends.{length-ends_twice, get_or-ends}
 use Rattle.half_edge_links.proofs.Rev.{rev-rev, rev_within}
 use Rattle.half_edge_links.proofs.Triangles as T

@@ -3,8 +3,8 @@ use Rattle.std.proofs.Common.{◌≡◌, ℕ, ◌/◌, ◌<◌, List, [], ◌∷
 use Rattle.std.specs.Prelude.{slice_get}
 use Rattle.std.proofs.lemmas.List.{length-map, map-append, length-append}
 use Rattle.std.proofs.lemmas.Option.{slice_get_within, slice_get-get_or}
-use Rattle.half_edge_links.specs.Mesh.{origin, rev}
-use Rattle.half_edge_links.specs.Triangles.{Triangle, triangles}
+use Rattle.half_edge_mesh.specs.Mesh.{origin, rev}
+use Rattle.half_edge_mesh.specs.Triangles.{Triangle, triangles}
 use Rattle.half_edge_links.proofs.Rev.{rev_within}
 use Rattle.half_edge_mesh.specs.Contents.{Contents}
 use Rattle.plane.specs.Fraction.{Point, Fraction, whole, WithinSegment, InTriangle}

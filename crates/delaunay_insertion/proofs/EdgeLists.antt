@@ -5,7 +5,7 @@ use Rattle.std.proofs.lemmas.Bool.{cases_eq}
 use Rattle.std.proofs.lemmas.List.{length-set}
 use Rattle.std.proofs.lemmas.List.Elements.{All-get_or}
 use Rattle.std.proofs.lemmas.Option.{slice_get_within, get_or_from_slice_get}
-use Rattle.half_edge_links.specs.Outline.{Ends, along}
+use Rattle.half_edge_mesh.specs.Outline.{Ends, along}
 use Rattle.half_edge_mesh.specs.Contents.{Edge, edges_of, edge_with}
 use Rattle.half_edge_mesh.specs.Growth.{AddsEdges, SplitsEdge, with_ends, joins}
 use Rattle.plane.specs.Pairs.{IsSamePair}

@@ -1,9 +1,9 @@
 -- The room for a vertex, and the two sides of an edge.
 use Rattle.std.proofs.Common.{◌≡◌, ℕ, ◌+◌, ◌*◌, ◌<◌, ◌≤◌, [], length, map, ap, sym, ◌∙◌, subst, inl, inr, arith}
 use Rattle.std.proofs.lemmas.List.{length-map}
-use Rattle.half_edge_links.specs.Mesh.{origin, rev, face}
-use Rattle.half_edge_links.specs.Room.{HasRoomFor}
-use Rattle.half_edge_links.specs.Triangles.{triangle_at, triangles}
+use Rattle.half_edge_mesh.specs.Mesh.{origin, rev, face}
+use Rattle.half_edge_mesh.specs.Room.{HasRoomFor}
+use Rattle.half_edge_mesh.specs.Triangles.{triangle_at, triangles}
 use Rattle.half_edge_links.proofs.Rev.{rev-rev, rev_within}
 use Rattle.half_edge_mesh.specs.Contents.{Contents, HasRoom}
 use Rattle.plane.specs.Fraction.{Point, whole, WithinSegment}

@@ -3,8 +3,8 @@ use Rattle.std.proofs.Common.{◌≡◌, ◌≢◌, ◌⊎◌, ◌↔◌, ℕ, z
 use Rattle.std.specs.Prelude.{Contains, IsTrue, slice_get}
 use Rattle.std.proofs.lemmas.List.{length-set}
 use Rattle.std.proofs.lemmas.Option.{slice_get_within}
-use Rattle.half_edge_links.specs.Mesh.{Mesh, origin, next, rev}
-use Rattle.half_edge_links.specs.Outline.{Ends, along, ends}
+use Rattle.half_edge_mesh.specs.Mesh.{Mesh, origin, next, rev}
+use Rattle.half_edge_mesh.specs.Outline.{Ends, along, ends}
 use Rattle.half_edge_links.proofs.Ends.{length-ends_twice}
 use Rattle.half_edge_links.proofs.Rev.{rev-rev}
 use Rattle.half_edge_mesh.specs.Contents.{Contents, Edge, edges, edges_of, FitsMesh, IsMeshWithData}

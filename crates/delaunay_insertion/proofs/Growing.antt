@@ -3,11 +3,11 @@ use Rattle.std.proofs.Common.{◌≡◌, ◌≢◌, ◌⊎◌, ℕ, ◌+◌, ◌
 use Rattle.std.specs.Prelude.{All}
 use Rattle.std.proofs.lemmas.List.{length-map, map-append}
 use Rattle.std.proofs.lemmas.List.Elements.{All-push}
-use Rattle.half_edge_links.specs.Mesh.{Mesh, AreSoundLinks, IsValidMesh, with_vertex}
-use Rattle.half_edge_links.specs.Triangles.{triangle_at, triangles}
-use Rattle.half_edge_links.specs.Outline.{OuterChanges, ExtendsOuter, SplitsOuter, IsEdge}
+use Rattle.half_edge_mesh.specs.Mesh.{Mesh, AreSoundLinks, IsValidMesh, with_vertex}
+use Rattle.half_edge_mesh.specs.Triangles.{triangle_at, triangles}
+use Rattle.half_edge_mesh.specs.Outline.{OuterChanges, ExtendsOuter, SplitsOuter, IsEdge}
 use Rattle.half_edge_mesh.specs.Contents.{Contents, IsMeshWithData}
-use Rattle.half_edge_mesh.proofs.Outlines.{outer_changes}
+use Rattle.half_edge_dcel.proofs.Outlines.{outer_changes}
 use Rattle.plane.specs.Fraction.{Point, Fraction, whole}
 use Rattle.plane.specs.Pairs.{IsIndex, place}
 use Rattle.plane.specs.Location.{IsPast}

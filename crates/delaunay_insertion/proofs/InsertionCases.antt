@@ -1,11 +1,11 @@
 -- A mesh with faces gets one more vertex, inside a face or within an edge.
 use Rattle.std.proofs.Common.{◌≡◌, ℕ, ◌<◌, ◌≤◌, ◌+◌, List, [], ◌∷◌, ◌++◌, length, length-append, sym, ap, ◌∙◌, subst, inl, inr, arith}
 use Rattle.std.proofs.lemmas.List.{length-map, length-set}
-use Rattle.half_edge_links.specs.Mesh.{Mesh, AreSoundLinks, IsValidMesh, IsInnerEdge, origin, next, face, face_edge, rev}
-use Rattle.half_edge_links.specs.Flip.{IsFlippable}
-use Rattle.half_edge_links.specs.Grow.{IsHalfSplittable}
-use Rattle.half_edge_links.specs.Triangles.{triangle_at, triangles, InsertsTriangles, SplitsTriangles}
-use Rattle.half_edge_links.specs.Outline.{KeepsOuter, ReplacesOuter, HalfSplitsTriangles}
+use Rattle.half_edge_mesh.specs.Mesh.{Mesh, AreSoundLinks, IsValidMesh, IsInnerEdge, origin, next, face, face_edge, rev}
+use Rattle.half_edge_mesh.specs.Flip.{IsFlippable}
+use Rattle.half_edge_mesh.specs.Grow.{IsHalfSplittable}
+use Rattle.half_edge_mesh.specs.Triangles.{triangle_at, triangles, InsertsTriangles, SplitsTriangles}
+use Rattle.half_edge_mesh.specs.Outline.{KeepsOuter, ReplacesOuter, HalfSplitsTriangles}
 use Rattle.half_edge_links.proofs.Conditions.{turned_apart}
 use Rattle.half_edge_mesh.specs.Growth.{MovesItem}
 use Rattle.plane.specs.Fraction.{Point, whole, WithinSegment}

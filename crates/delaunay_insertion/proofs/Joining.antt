@@ -4,10 +4,10 @@ use Rattle.std.specs.Prelude.{All, Contains, pos, ℤ, ◌+ℤ◌}
 use Rattle.std.proofs.lemmas.Int.{ints}
 use Rattle.std.proofs.lemmas.List.{length-map, map-append}
 use Rattle.std.proofs.lemmas.List.Elements.{All-push}
-use Rattle.half_edge_links.specs.Mesh.{Mesh, AreSoundLinks, IsSoundEdge, origin, next, prev, face, rev}
-use Rattle.half_edge_links.specs.Outline.{IsOuterEdge, AddsTriangle, ReplacesOuter, ClosesOuter}
-use Rattle.half_edge_links.specs.Grow.{IsClosable, Closes, closed}
-use Rattle.half_edge_links.specs.Room.{HasRoomFor}
+use Rattle.half_edge_mesh.specs.Mesh.{Mesh, AreSoundLinks, IsSoundEdge, origin, next, prev, face, rev}
+use Rattle.half_edge_mesh.specs.Outline.{IsOuterEdge, AddsTriangle, ReplacesOuter, ClosesOuter}
+use Rattle.half_edge_mesh.specs.Grow.{IsClosable, Closes, closed}
+use Rattle.half_edge_mesh.specs.Room.{HasRoomFor}
 use Rattle.half_edge_links.proofs.Close.{closes}
 use Rattle.half_edge_links.proofs.Rev.{rev_within}
 use Rattle.half_edge_mesh.specs.Contents.{Contents, HasRoom, IsMeshWithData}

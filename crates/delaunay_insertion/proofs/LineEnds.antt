@@ -3,8 +3,8 @@ use Rattle.std.proofs.Common.{◌≡◌, ◌≢◌, ◌⊎◌, ℕ, ◌<◌, Lis
 use Rattle.std.specs.Prelude.{ℤ, pos, ◌<ℤ◌, ◌≤ℤ◌, neg_ℤ, Contains}
 use Rattle.std.proofs.lemmas.Int.{ints}
 use Rattle.std.proofs.lemmas.Bool.{cases_eq, eq-eqb, eqb-true}
-use Rattle.half_edge_links.specs.Mesh.{Mesh, IsValidMesh, IsSoundEdge, IsClosed, origin, next, prev, face, rev}
-use Rattle.half_edge_links.specs.Outline.{IsOuterEdge}
+use Rattle.half_edge_mesh.specs.Mesh.{Mesh, IsValidMesh, IsSoundEdge, IsClosed, origin, next, prev, face, rev}
+use Rattle.half_edge_mesh.specs.Outline.{IsOuterEdge}
 use Rattle.half_edge_links.proofs.Rev.{rev-rev, rev_within}
 use Rattle.plane.specs.Fraction.{Point}
 use Rattle.plane.specs.Pairs.{place}

@@ -2,10 +2,10 @@
 use Rattle.std.proofs.Common.{◌≡◌, ◌⊎◌, ℕ, ◌<◌, ◌≤◌, List, [], ◌∷◌, ◌++◌, length, map, refl, sym, ap, ◌∙◌, subst, inl, inr}
 use Rattle.std.specs.Prelude.{Contains}
 use Rattle.std.proofs.lemmas.List.{map-append}
-use Rattle.half_edge_links.specs.Mesh.{Mesh, IsValidMesh, IsInnerEdge, face_edge, with_vertex}
-use Rattle.half_edge_links.specs.Flip.{IsFlippable}
-use Rattle.half_edge_links.specs.Triangles.{triangles, InsertsTriangles, SplitsTriangles}
-use Rattle.half_edge_links.specs.Outline.{HalfSplitsTriangles}
+use Rattle.half_edge_mesh.specs.Mesh.{Mesh, IsValidMesh, IsInnerEdge, face_edge, with_vertex}
+use Rattle.half_edge_mesh.specs.Flip.{IsFlippable}
+use Rattle.half_edge_mesh.specs.Triangles.{triangles, InsertsTriangles, SplitsTriangles}
+use Rattle.half_edge_mesh.specs.Outline.{HalfSplitsTriangles}
 use Rattle.half_edge_mesh.specs.Contents.{Contents}
 use Rattle.plane.specs.Fraction.{Point}
 use Rattle.plane.specs.Pairs.{Joins}

@@ -2,8 +2,8 @@
 use Rattle.std.proofs.Common.{◌≡◌, ◌⊎◌, ℕ, ◌*◌, ◌<◌, Bool, true, List, length, refl, sym, ap, ◌∙◌, subst, Some, inl, inr, arith}
 use Rattle.std.specs.Prelude.{slice_get}
 use Rattle.std.proofs.lemmas.Option.{slice_get_within}
-use Rattle.half_edge_links.specs.Mesh.{origin, rev, IsValidMesh}
-use Rattle.half_edge_links.specs.Outline.{Ends, ends}
+use Rattle.half_edge_mesh.specs.Mesh.{origin, rev, IsValidMesh}
+use Rattle.half_edge_mesh.specs.Outline.{Ends, ends}
 use Rattle.half_edge_links.proofs.Ends.{length-ends_twice}
 use Rattle.half_edge_mesh.specs.Contents.{Contents, Edge, edges, IsMeshWithData}
 use Rattle.plane.specs.Pairs.{Joins, IsSamePair}

@@ -4,8 +4,8 @@ use Rattle.std.specs.Prelude.{◌↔◌, Contains, slice_get}
 use Rattle.std.proofs.lemmas.Bool.{cases_eq}
 use Rattle.std.proofs.lemmas.List.{length-map}
 use Rattle.std.proofs.lemmas.Option.{slice_get_within, get_or_from_slice_get}
-use Rattle.half_edge_links.specs.Mesh.{Mesh, origin, rev}
-use Rattle.half_edge_links.specs.Outline.{Ends, ends}
+use Rattle.half_edge_mesh.specs.Mesh.{Mesh, origin, rev}
+use Rattle.half_edge_mesh.specs.Outline.{Ends, ends}
 use Rattle.half_edge_mesh.specs.Contents.{Contents, Edge, edges, IsMeshWithData}
 use Rattle.plane.specs.Fraction.{Point, whole, WithinSegment}
 use Rattle.plane.specs.Pairs.{Joins, IsSamePair, place}

@@ -1,6 +1,6 @@
 -- What becomes of the data of edges and faces.
 use Rattle.std.specs.Prelude.{◌≡◌, ◌⊎◌, ℕ, ◌/◌, ◌<◌, List, length, Some, slice_get}
-use Rattle.half_edge_links.specs.Triangles.{Triangle, triangles}
+use Rattle.half_edge_mesh.specs.Triangles.{Triangle, triangles}
 use Rattle.plane.specs.Fraction.{Point, whole, InTriangle}
 use Rattle.plane.specs.Pairs.{place}
 use Rattle.mesh_embedding.specs.Stays.{GoSameWay, HaveSameCorners}

@@ -1,6 +1,6 @@
 -- A new vertex beside edges that it sees.
 use Rattle.std.specs.Prelude.{ℕ, List}
-use Rattle.half_edge_links.specs.Mesh.{Mesh, origin, rev}
+use Rattle.half_edge_mesh.specs.Mesh.{Mesh, origin, rev}
 use Rattle.plane.specs.Fraction.{Point}
 use Rattle.plane.specs.Pairs.{place}
 use Rattle.plane.specs.Side.{TurnsLeft}

@@ -1,7 +1,7 @@
 //! A new vertex inside a face or within an edge.
 ghost use Rattle.std.specs.Prelude.{◌≡◌, ◌+◌, ◌*◌, ◌/◌, ◌<◌, ◌≤◌, ◌++◌, ◌∷◌, [], length, map};
-ghost use Rattle.half_edge_links.specs.Mesh.{rev, face, face_edge};
-ghost use Rattle.half_edge_links.specs.Room.{HasRoomFor};
+ghost use Rattle.half_edge_mesh.specs.Mesh.{rev, face, face_edge};
+ghost use Rattle.half_edge_mesh.specs.Room.{HasRoomFor};
 ghost use Rattle.half_edge_mesh.specs.Contents.{HasRoom, edges};
 ghost use Rattle.plane.specs.Tests.{InRange};
 ghost use Rattle.delaunay_insertion.specs.Constraints.{SplitsConstraints};
@@ -41,7 +41,7 @@ pub fn insert_inside_face<V: HasPosition, DE: Default, UE: Default, F: Default>(
     ensures edges { AddsOnly UE.is_default (edges dcel.old) (edges dcel.new) }
 {
     let vertex = dcel.insert_into_triangle(value, face);
-    let _ = dcel.num_vertices();
+    dcel.recall_invariant();
     vertex
 }
 
@@ -66,7 +66,7 @@ fn split_inner_edge<V: HasPosition, DE: Default, UE: Default, F: Default>(
     ensures edges { SplitsAt UE.is_default (edges dcel.old) (edges dcel.new) (edge / 2) result.0 result.1 }
 {
     let (vertex, parts) = dcel.split_edge(edge, value);
-    let _ = dcel.num_vertices();
+    dcel.recall_invariant();
     (vertex, parts[1].as_undirected())
 }
 
@@ -91,7 +91,7 @@ fn split_hull_edge<V: HasPosition, DE: Default, UE: Default, F: Default>(
     ensures edges { SplitsAt UE.is_default (edges dcel.old) (edges dcel.new) (edge / 2) result.0 result.1 }
 {
     let (vertex, parts) = dcel.split_half_edge(edge, value);
-    let _ = dcel.num_vertices();
+    dcel.recall_invariant();
     (vertex, parts[1].as_undirected())
 }
 

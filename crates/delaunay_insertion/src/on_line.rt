@@ -1,6 +1,6 @@
 //! New vertices on the line of all vertices.
 ghost use Rattle.std.specs.Prelude.{◌≡◌, ◌/◌, ◌<◌, ◌++◌, ◌∷◌, [], length, map};
-ghost use Rattle.half_edge_links.specs.Mesh.{origin};
+ghost use Rattle.half_edge_mesh.specs.Mesh.{origin};
 ghost use Rattle.half_edge_mesh.specs.Contents.{HasRoom, edges};
 ghost use Rattle.plane.specs.Fraction.{whole as fraction};
 ghost use Rattle.plane.specs.Location.{IsPast};
@@ -15,8 +15,9 @@ ghost use Rattle.delaunay_legalization.specs.State.{state_of};
 ghost use Rattle.mesh_embedding.specs.Drawn.{faces_of};
 
 use delaunay_core::point::HasPosition;
-use half_edge_mesh::{Dcel, FixedDirectedEdgeHandle, FixedUndirectedEdgeHandle, FixedVertexHandle};
-use half_edge_views::MeshViews;
+use half_edge_mesh::{
+    Dcel, FixedDirectedEdgeHandle, FixedUndirectedEdgeHandle, FixedVertexHandle, MeshViews,
+};
 
 // The first vertex.
 pub fn insert_first<V: HasPosition, DE, UE: Default, F>(
@@ -35,7 +36,7 @@ pub fn insert_first<V: HasPosition, DE, UE: Default, F>(
     ensures edges { AddsOnly UE.is_default (edges dcel.old) (edges dcel.new) }
 {
     let vertex = dcel.append_unconnected_vertex(value);
-    let _ = dcel.num_vertices();
+    dcel.recall_invariant();
     vertex
 }
 
@@ -56,10 +57,10 @@ pub fn insert_second<V: HasPosition, DE: Default, UE: Default, F>(
     ensures made { MakesFacesAt (length dcel.old.vertices) (faces_of dcel.old.mesh) (faces_of dcel.new.mesh) }
     ensures edges { AddsOnly UE.is_default (edges dcel.old) (edges dcel.new) }
 {
-    let _ = dcel.num_vertices();
+    dcel.recall_invariant();
     let vertex = dcel.append_unconnected_vertex(value);
     dcel.setup_initial_two_vertices(FixedVertexHandle::from_index(0), vertex);
-    let _ = dcel.num_vertices();
+    dcel.recall_invariant();
     vertex
 }
 
@@ -85,7 +86,7 @@ pub fn insert_past_end<V: HasPosition, DE: Default, UE: Default, F>(
 {
     let end = dcel.directed_edge(edge).from().fix();
     let vertex = dcel.extend_line(end, value);
-    let _ = dcel.num_vertices();
+    dcel.recall_invariant();
     vertex
 }
 
@@ -109,6 +110,6 @@ pub(crate) fn split_line_edge<V: HasPosition, DE: Default, UE: Default, F>(
     ensures edges { SplitsAt UE.is_default (edges dcel.old) (edges dcel.new) (edge / 2) result.0 result.1 }
 {
     let (vertex, parts) = dcel.split_edge_when_all_vertices_on_line(edge, value);
-    let _ = dcel.num_vertices();
+    dcel.recall_invariant();
     (vertex, parts[1].as_undirected())
 }

@@ -1,7 +1,7 @@
 //! A new vertex outside the hull, or off the line of all vertices.
 ghost use Rattle.std.specs.Prelude.{◌≡◌, ◌↔◌, ◌+◌, ◌*◌, ◌<◌, ◌++◌, ◌∷◌, [], length, map, All, IsTrue, IfSome, IfNone};
-ghost use Rattle.half_edge_links.specs.Mesh.{origin, next, prev, rev, face};
-ghost use Rattle.half_edge_links.specs.Room.{HasRoomFor};
+ghost use Rattle.half_edge_mesh.specs.Mesh.{origin, next, prev, rev, face};
+ghost use Rattle.half_edge_mesh.specs.Room.{HasRoomFor};
 ghost use Rattle.half_edge_mesh.specs.Contents.{IsMeshWithData, edges};
 ghost use Rattle.plane.specs.Fraction.{whole as fraction};
 ghost use Rattle.plane.specs.Side.{TurnsLeft};
@@ -20,8 +20,7 @@ ghost use Rattle.mesh_embedding.specs.Drawn.{faces_of};
 use delaunay_core::math::PlaneTests;
 use delaunay_core::point::{HasPosition, Point2};
 use delaunay_legalization::{start_of, turns_left};
-use half_edge_mesh::{Dcel, FixedDirectedEdgeHandle, FixedVertexHandle};
-use half_edge_views::MeshViews;
+use half_edge_mesh::{Dcel, FixedDirectedEdgeHandle, FixedVertexHandle, MeshViews};
 
 // The position of a vertex.
 fn position_of<V: HasPosition, DE, UE, F>(
@@ -67,7 +66,7 @@ fn seen_after<V: HasPosition, DE, UE, F, P: PlaneTests<V::Scalar>>(
     ensures some { IfSome result (λ e. Sees (map V.place dcel.now.vertices) dcel.now.mesh vertex e) }
     ensures none { IfNone result (¬ Sees (map V.place dcel.now.vertices) dcel.now.mesh vertex (next dcel.now.mesh edge)) }
 {
-    let _ = dcel.num_directed_edges();
+    dcel.recall_invariant();
     let after = dcel.directed_edge(edge).next().fix();
     if is_seen(dcel, after, vertex, tests) {
         Some(after)
@@ -91,7 +90,7 @@ fn seen_before<V: HasPosition, DE, UE, F, P: PlaneTests<V::Scalar>>(
     ensures some { IfSome result (λ e. Sees (map V.place dcel.now.vertices) dcel.now.mesh vertex e) }
     ensures none { IfNone result (¬ Sees (map V.place dcel.now.vertices) dcel.now.mesh vertex (prev dcel.now.mesh edge)) }
 {
-    let _ = dcel.num_directed_edges();
+    dcel.recall_invariant();
     let before = dcel.directed_edge(edge).prev().fix();
     if is_seen(dcel, before, vertex, tests) {
         Some(before)
@@ -128,11 +127,11 @@ pub fn join_outside<V: HasPosition, DE: Default, UE: Default, F: Default, P: Pla
     let mut behind = FixedDirectedEdgeHandle::from_index(edges - 1);
     while let Some(_after) = seen_after(dcel, ahead, vertex, tests) {
         ahead = dcel.create_single_face_between_edge_and_next(ahead);
-        let _ = dcel.num_directed_edges();
+        dcel.recall_invariant();
     }
     while let Some(before) = seen_before(dcel, behind, vertex, tests) {
         behind = dcel.create_single_face_between_edge_and_next(before);
-        let _ = dcel.num_directed_edges();
+        dcel.recall_invariant();
     }
     vertex
 }

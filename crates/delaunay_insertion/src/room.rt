@@ -1,6 +1,6 @@
 //! Room for what one more vertex can bring.
 ghost use Rattle.std.specs.Prelude.{◌≡◌, ◌↔◌, ◌+◌, ◌*◌, ◌<◌, length, IsErrOf, OnOk};
-ghost use Rattle.half_edge_links.specs.Room.{HasRoomFor};
+ghost use Rattle.half_edge_mesh.specs.Room.{HasRoomFor};
 ghost use Rattle.delaunay_core.specs.declared.math.InsertionError.TheVariants.{TooLarge, OutOfIndexes};
 ghost use Rattle.delaunay_legalization.specs.State.{state_of};
 

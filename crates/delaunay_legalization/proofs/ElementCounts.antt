@@ -1,8 +1,8 @@
 -- The data of a mesh are as many as its edges and faces.
 use Rattle.std.proofs.Common.{◌≡◌, ◌∙◌, length, sym, arith}
 use Rattle.std.proofs.lemmas.List.{length-map}
-use Rattle.half_edge_links.specs.Outline.{ends}
-use Rattle.half_edge_links.specs.Triangles.{triangle_at, triangles}
+use Rattle.half_edge_mesh.specs.Outline.{ends}
+use Rattle.half_edge_mesh.specs.Triangles.{triangle_at, triangles}
 use Rattle.half_edge_links.proofs.Ends.{length-ends_twice}
 use Rattle.half_edge_mesh.specs.Contents.{Contents, IsMeshWithData}
 use Rattle.mesh_embedding.specs.Drawn.{corners_of, pair_of, edges_of, faces_of}

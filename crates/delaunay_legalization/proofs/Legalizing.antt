@@ -8,8 +8,8 @@ use Rattle.std.proofs.Math.Dec.{eqb}
 use Rattle.std.proofs.lemmas.Bool.Decides.{Decides-eqb}
 use Rattle.std.proofs.lemmas.List.Elements.{contains_decides, Decides-contains}
 use Rattle.half_edge_mesh.specs.Contents.{Contents}
-use Rattle.half_edge_links.specs.Mesh.{Mesh, origin, next, prev, face, rev, IsValidMesh}
-use Rattle.half_edge_links.specs.Flip.{IsFlippable, flipped}
+use Rattle.half_edge_mesh.specs.Mesh.{Mesh, origin, next, prev, face, rev, IsValidMesh}
+use Rattle.half_edge_mesh.specs.Flip.{IsFlippable, flipped}
 use Rattle.half_edge_links.proofs.FlipLemmas.{flips}
 use Rattle.plane.specs.Fraction.{Point, whole}
 use Rattle.plane.specs.Side.{TurnsLeft}

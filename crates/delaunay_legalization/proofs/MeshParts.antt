@@ -3,8 +3,8 @@ use Rattle.std.proofs.Common.{◌≡◌, ◌⊎◌, ℕ, ◌-◌, ◌<◌, ◌�
 use Rattle.std.specs.Prelude.{Contains, pos}
 use Rattle.std.proofs.lemmas.List.Elements.{All-get_or, All-map}
 use Rattle.std.proofs.lemmas.List.{length-map, get_or-map}
-use Rattle.half_edge_links.specs.Mesh.{Mesh, origin, next, prev, face_edge, rev}
-use Rattle.half_edge_links.specs.Triangles.{triangle_at, triangles}
+use Rattle.half_edge_mesh.specs.Mesh.{Mesh, origin, next, prev, face_edge, rev}
+use Rattle.half_edge_mesh.specs.Triangles.{triangle_at, triangles}
 use Rattle.half_edge_links.proofs.Rev.{rev_within}
 use Rattle.plane.specs.Fraction.{Point}
 use Rattle.plane.specs.Tests.{InRange}

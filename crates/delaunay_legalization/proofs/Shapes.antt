@@ -1,7 +1,7 @@
 -- What follows from the shape of a mesh over its points.
 use Rattle.std.proofs.Common.{◌≡◌, ◌≢◌, ℕ, ◌<◌, List, [], length, refl, sym, ap, subst, inl, inr, arith}
 use Rattle.std.specs.Prelude.{All}
-use Rattle.half_edge_links.specs.Mesh.{Mesh, IsValidMesh, empty}
+use Rattle.half_edge_mesh.specs.Mesh.{Mesh, IsValidMesh, empty}
 use Rattle.half_edge_mesh.specs.Contents.{Contents, IsMeshWithData}
 use Rattle.plane.specs.Fraction.{Point, whole}
 use Rattle.plane.specs.Tests.{InRange}

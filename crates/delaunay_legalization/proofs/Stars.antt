@@ -5,12 +5,12 @@ use Rattle.std.specs.Borrow.{Bor}
 use Rattle.std.specs.List.{range_with_len}
 use Rattle.std.proofs.lemmas.Bool.{cases_eq}
 use Rattle.std.proofs.lemmas.List.FromFn.{length-range_with_len, get_or-range_with_len}
-use Rattle.half_edge_links.specs.Mesh.{Mesh, AreSoundLinks, IsValidMesh, origin, next, prev, rev, out_edge}
-use Rattle.half_edge_links.specs.Peel.{spoke}
-use Rattle.half_edge_links.specs.Round.{IsRound}
+use Rattle.half_edge_mesh.specs.Mesh.{Mesh, AreSoundLinks, IsValidMesh, origin, next, prev, rev, out_edge}
+use Rattle.half_edge_mesh.specs.Peel.{spoke}
+use Rattle.half_edge_mesh.specs.Round.{IsRound}
 use Rattle.half_edge_mesh.specs.Contents.{Contents}
-use Rattle.half_edge_views.specs.Left.{each_in}
-use Rattle.half_edge_views.specs.Rounds.{GivesRound}
+use Rattle.half_edge_mesh.specs.Left.{each_in}
+use Rattle.half_edge_mesh.specs.Rounds.{GivesRound}
 use Rattle.half_edge_links.proofs.Rev.{rev_within}
 use Rattle.half_edge_links.proofs.Triangles as T
 use Rattle.plane.specs.Fraction.{Point, Fraction, whole}

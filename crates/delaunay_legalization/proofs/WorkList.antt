@@ -4,8 +4,8 @@ use Rattle.std.specs.Prelude.{Contains}
 use Rattle.std.specs.List.{range_with_len}
 use Rattle.std.proofs.lemmas.List.{same_lists, length-map, get_or-map}
 use Rattle.std.proofs.lemmas.List.FromFn.{length-range_with_len, get_or-range_with_len, length-map-range_with_len, get_or-map-range_with_len}
-use Rattle.half_edge_links.specs.Mesh.{Mesh, origin, rev, IsValidMesh}
-use Rattle.half_edge_links.specs.Outline.{Ends, ends}
+use Rattle.half_edge_mesh.specs.Mesh.{Mesh, origin, rev, IsValidMesh}
+use Rattle.half_edge_mesh.specs.Outline.{Ends, ends}
 use Rattle.half_edge_links.proofs.Ends.{length-ends_twice, get_or-ends}
 use Rattle.half_edge_mesh.specs.Contents.{Contents, FitsMesh, IsMeshWithData}
 use Rattle.plane.specs.Fraction.{Point}

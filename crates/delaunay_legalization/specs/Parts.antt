@@ -1,7 +1,7 @@
 -- Edges and faces of a mesh by the points of its vertices, and where a further point is.
 use Rattle.std.specs.Prelude.{◌≡◌, ◌≢◌, ℕ, ◌<◌, List, length}
-use Rattle.half_edge_links.specs.Mesh.{Mesh, origin, next, prev, face, face_edge, rev}
-use Rattle.half_edge_links.specs.Triangles.{triangle_at}
+use Rattle.half_edge_mesh.specs.Mesh.{Mesh, origin, next, prev, face, face_edge, rev}
+use Rattle.half_edge_mesh.specs.Triangles.{triangle_at}
 use Rattle.plane.specs.Fraction.{Point, whole, WithinSegment, InsideTriangle}
 use Rattle.plane.specs.Side.{TurnsLeft}
 use Rattle.plane.specs.Tests.{InRange}

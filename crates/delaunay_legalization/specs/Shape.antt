@@ -1,6 +1,6 @@
 -- What always holds of the positions of the vertices and of the mesh of their indexes.
 use Rattle.std.specs.Prelude.{◌*◌, ◌≤◌, ℕ, List, length, map, All}
-use Rattle.half_edge_links.specs.Mesh.{IsValidMesh}
+use Rattle.half_edge_mesh.specs.Mesh.{IsValidMesh}
 use Rattle.half_edge_mesh.specs.Contents.{FitsMesh}
 use Rattle.plane.specs.Fraction.{Point}
 use Rattle.plane.specs.Tests.{InRange}

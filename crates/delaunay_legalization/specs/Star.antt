@@ -1,6 +1,6 @@
 -- The faces at one vertex, and the edges round them, where only these may fail the circle test.
 use Rattle.std.specs.Prelude.{◌≡◌, ◌⊎◌, ℕ, ◌/◌, ◌<◌, List, length, Contains}
-use Rattle.half_edge_links.specs.Mesh.{Mesh, origin, next}
+use Rattle.half_edge_mesh.specs.Mesh.{Mesh, origin, next}
 use Rattle.plane.specs.Fraction.{Point}
 use Rattle.plane.specs.Pairs.{Joins}
 use Rattle.plane.specs.Tiling.{Face}

@@ -1,6 +1,6 @@
 -- What a contract sees of a triangulation.
 use Rattle.std.specs.Prelude.{List, [], map}
-use Rattle.half_edge_links.specs.Mesh.{Mesh}
+use Rattle.half_edge_mesh.specs.Mesh.{Mesh}
 use Rattle.mesh_embedding.specs.Drawn.{drawn}
 use Rattle.half_edge_mesh.specs.Contents.{Contents}
 use Rattle.plane.specs.Fraction.{Point}

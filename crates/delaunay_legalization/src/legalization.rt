@@ -1,7 +1,7 @@
 //! Flips of edges that fail the circle test, until each edge passes but the constraints.
 ghost use Rattle.std.specs.Prelude.{◌≡◌, ◌↔◌, ℕ, ◌+◌, ◌-◌, ◌*◌, ◌/◌, ◌<◌, ◌≤◌, ◌^◌, ◌++◌, ◌∷◌, [], length, map, All, Contains, IsTrue, vec_capacity};
-ghost use Rattle.half_edge_links.specs.Mesh.{Mesh, origin, next, prev, face, rev};
-ghost use Rattle.half_edge_links.specs.Flip.{flipped};
+ghost use Rattle.half_edge_mesh.specs.Mesh.{Mesh, origin, next, prev, face, rev};
+ghost use Rattle.half_edge_mesh.specs.Flip.{flipped};
 ghost use Rattle.plane.specs.Delaunay.{IsLocallyDelaunay};
 ghost use Rattle.plane_tiling.specs.Local.{IsMesh};
 ghost use Rattle.plane_edits.specs.Legal.{AllPassBut};
@@ -15,8 +15,7 @@ ghost use Rattle.delaunay_legalization.specs.Known.{point_at};
 use crate::constraint_marker::ConstraintMarker;
 use delaunay_core::math::PlaneTests;
 use delaunay_core::point::{HasPosition, Point2};
-use half_edge_mesh::{Dcel, FixedDirectedEdgeHandle, FixedUndirectedEdgeHandle};
-use half_edge_views::MeshViews;
+use half_edge_mesh::{Dcel, FixedDirectedEdgeHandle, FixedUndirectedEdgeHandle, MeshViews};
 
 // The position where an edge starts.
 pub fn start_of<V: HasPosition, DE, UE, F>(
@@ -87,7 +86,7 @@ fn is_failing<V: HasPosition, DE, UE, F, P: PlaneTests<V::Scalar>>(
     requires shape { IsMesh (map V.place dcel.now.vertices) (faces_of dcel.now.mesh) (outer_of dcel.now.mesh) }
     ensures { IsTrue result ↔ IsFailing (map V.place dcel.now.vertices) dcel.now.mesh edge }
 {
-    let _ = dcel.num_directed_edges();
+    dcel.recall_invariant();
     if is_outer(dcel, edge) || is_outer(dcel, edge.rev()) {
         return false;
     }
@@ -113,7 +112,7 @@ fn flip<V: HasPosition, DE, UE, F>(
     ensures contents { dcel.new ≡ record dcel.old { mesh = dcel.new.mesh } }
     ensures flips { flips.new ≡ flips.old + 1 }
 {
-    let _ = dcel.num_directed_edges();
+    dcel.recall_invariant();
     dcel.flip_cw(edge);
     *flips += 1;
 }
@@ -131,7 +130,7 @@ pub(crate) fn push_side<V, DE, UE, F>(
     ensures edges { AreEdges dcel.now.mesh work.new.items }
     ensures capacity { vec_capacity work.new ≡ vec_capacity work.old }
 {
-    let _ = dcel.num_directed_edges();
+    dcel.recall_invariant();
     let side = edge.as_undirected();
     if !work.as_slice().contains(&side) {
         work.push_reserved(side);
@@ -178,7 +177,7 @@ fn legalize_edge<M: ConstraintMarker<UE>, V: HasPosition, DE, UE, F, P: PlaneTes
     ensures fewer { let points = map V.place dcel.old.vertices in steps_left points dcel.new.mesh work.new.items < steps_left points dcel.old.mesh (work.old.items ++ edge ∷ []) }
     ensures capacity { vec_capacity work.new ≡ vec_capacity work.old }
 {
-    let _ = dcel.num_directed_edges();
+    dcel.recall_invariant();
     if is_constraint_edge::<M, _, _, _, _>(dcel, edge) {
         return;
     }
@@ -213,8 +212,8 @@ pub fn legalize<M: ConstraintMarker<UE>, V: HasPosition, DE, UE, F, P: PlaneTest
     ensures capacity { vec_capacity work.new ≡ vec_capacity work.old }
 {
     while let Some(edge) = work.pop() {
-        let _ = dcel.num_directed_edges();
+        dcel.recall_invariant();
         legalize_edge::<M, _, _, _, _, _>(dcel, edge, tests, work, flips);
     }
-    let _ = dcel.num_directed_edges();
+    dcel.recall_invariant();
 }

@@ -13,8 +13,9 @@ use crate::constraint_marker::ConstraintMarker;
 use crate::legalization::{legalize, push_side};
 use delaunay_core::math::PlaneTests;
 use delaunay_core::point::HasPosition;
-use half_edge_mesh::{Dcel, FixedDirectedEdgeHandle, FixedUndirectedEdgeHandle, FixedVertexHandle};
-use half_edge_views::MeshViews;
+use half_edge_mesh::{
+    Dcel, FixedDirectedEdgeHandle, FixedUndirectedEdgeHandle, FixedVertexHandle, MeshViews,
+};
 
 // Puts an edge into a work list, and the one after it in its loop, unless they are there.
 fn push_with_next<V, DE, UE, F>(
@@ -48,7 +49,7 @@ fn push_star<V, DE, UE, F>(
     ensures capacity { vec_capacity work.new ≡ vec_capacity work.old }
 {
     work.clear();
-    let _ = dcel.num_directed_edges();
+    dcel.recall_invariant();
     for edge in dcel.vertex(vertex).out_edges() {
         push_with_next(dcel, edge.fix(), work);
     }
@@ -77,5 +78,5 @@ pub fn legalize_star<M: ConstraintMarker<UE>, V: HasPosition, DE, UE, F, P: Plan
 {
     push_star(dcel, vertex, work);
     legalize::<M, _, _, _, _, _>(dcel, tests, work, flips);
-    let _ = dcel.num_vertices();
+    dcel.recall_invariant();
 }

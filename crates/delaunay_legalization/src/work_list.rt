@@ -59,5 +59,5 @@ pub fn legalize_all<M: ConstraintMarker<UE>, V: HasPosition, DE, UE, F, P: Plane
 {
     fill(dcel, work);
     legalize::<M, _, _, _, _, _>(dcel, tests, work, flips);
-    let _ = dcel.num_vertices();
+    dcel.recall_invariant();
 }

@@ -1,7 +1,7 @@
 -- What a segment meets first, by where in a mesh it starts.
 use Rattle.std.proofs.Common.{◌≡◌, ◌≢◌, ◌⊎◌, ℕ, ◌<◌, List, [], ◌∷◌, length, map, Some, None, refl, sym, ap, ◌∙◌, subst, inl, inr, arith}
 use Rattle.std.proofs.lemmas.List.{length-map}
-use Rattle.half_edge_links.specs.Mesh.{Mesh, origin, next, prev, rev}
+use Rattle.half_edge_mesh.specs.Mesh.{Mesh, origin, next, prev, rev}
 use Rattle.half_edge_links.proofs.Rev.{rev-rev}
 use Rattle.half_edge_links.proofs.Triangles as T
 use Rattle.half_edge_mesh.specs.Contents.{Contents}
@@ -14,12 +14,12 @@ use Rattle.plane.proofs.Segments.{same-refl}
 use Rattle.plane.proofs.Sides.{side_swapped}
 use Rattle.plane.proofs.Triangles.{turned_inside}
 use Rattle.plane_tiling.proofs.Edges.{turned_within}
-use Rattle.plane_lines.specs.Steps.{IsFirst, IsWalk, IsAhead}
-use Rattle.plane_lines.proofs.Begins.{edge_flipped}
-use Rattle.plane_lines.proofs.EdgeStarts.{first_from_an_edge}
-use Rattle.plane_lines.proofs.FaceStarts.{first_from_a_face}
-use Rattle.plane_lines.proofs.LineStarts.{equal_ends}
-use Rattle.plane_lines.proofs.WalkSteps.{line_list_is_the_walk}
+use Rattle.plane_segments.specs.Steps.{IsFirst, IsWalk, IsAhead}
+use Rattle.plane_segments.proofs.Begins.{edge_flipped}
+use Rattle.plane_segments.proofs.EdgeStarts.{first_from_an_edge}
+use Rattle.plane_segments.proofs.FaceStarts.{first_from_a_face}
+use Rattle.plane_segments.proofs.LineStarts.{equal_ends}
+use Rattle.plane_segments.proofs.WalkSteps.{line_list_is_the_walk}
 use Rattle.mesh_embedding.specs.Drawn.{drawn}
 use Rattle.delaunay_lines.specs.declared.intersection.FixedIntersection.{FixedIntersection}
 use Rattle.delaunay_lines.specs.declared.intersection.FixedIntersection.TheVariants.{Edge, Vertex, Overlap}

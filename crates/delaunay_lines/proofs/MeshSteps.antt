@@ -1,7 +1,7 @@
 -- From an item that a segment meets to the next, by the links of a mesh.
 use Rattle.std.proofs.Common.{◌≡◌, ◌≢◌, ◌⊎◌, ◌↔◌, ℕ, ◌<◌, List, length, map, Option, Some, None, sym, ap, ◌∙◌, subst, inl, inr, arith}
 use Rattle.std.proofs.lemmas.List.{length-map}
-use Rattle.half_edge_links.specs.Mesh.{Mesh, IsValidMesh, origin, next, prev, face, rev}
+use Rattle.half_edge_mesh.specs.Mesh.{Mesh, IsValidMesh, origin, next, prev, face, rev}
 use Rattle.half_edge_links.proofs.Rev.{rev-rev, rev_within}
 use Rattle.half_edge_links.proofs.Triangles as T
 use Rattle.half_edge_mesh.specs.Contents.{Contents}
@@ -10,13 +10,13 @@ use Rattle.plane.specs.Side.{Side, side, left, right, on}
 use Rattle.plane.specs.Pairs.{place}
 use Rattle.plane.specs.Tiling.{Triangulation, IsEdge, IsFace, HasFace, TilesHull}
 use Rattle.plane.specs.Line.{Item, Meets, at_vertex, across, along}
-use Rattle.plane_lines.specs.Steps.{ComesNext, IsLast, IsAhead}
-use Rattle.plane_lines.specs.WalkLaws.{IsLaid}
-use Rattle.plane_lines.proofs.LaidMeshes.{meshes_are_laid}
-use Rattle.plane_lines.proofs.Steps.{next_after_crossing, last_crossing, next_after_overlap, next_after_vertex, last_vertex, overlap_ahead}
-use Rattle.plane_lines.proofs.OneLine.{steps_on_one_line}
-use Rattle.plane_lines.proofs.LineStarts.{next_on_line}
-use Rattle.plane_paths.proofs.EitherWay.{one_point}
+use Rattle.plane_segments.specs.Steps.{ComesNext, IsLast, IsAhead}
+use Rattle.plane_segments.specs.WalkLaws.{IsLaid}
+use Rattle.plane_segments.proofs.LaidMeshes.{meshes_are_laid}
+use Rattle.plane_segments.proofs.Steps.{next_after_crossing, last_crossing, next_after_overlap, next_after_vertex, last_vertex, overlap_ahead}
+use Rattle.plane_segments.proofs.OneLine.{steps_on_one_line}
+use Rattle.plane_segments.proofs.LineStarts.{next_on_line}
+use Rattle.plane_segments.proofs.EitherWay.{one_point}
 use Rattle.mesh_embedding.specs.Drawn.{drawn, faces_of, edges_of, outer_of}
 use Rattle.mesh_embedding.proofs.EdgePairs.{edge_joins, joins_edge}
 use Rattle.mesh_embedding.proofs.MeshEdits.{face_before}

@@ -3,7 +3,7 @@ use Rattle.std.proofs.Common.{◌≡◌, ◌≢◌, ◌⊎◌, ℕ, zero, suc, �
 use Rattle.std.specs.Prelude.{IfSome, ℤ, pos, ◌<ℤ◌, ◌*ℤ◌}
 use Rattle.std.proofs.lemmas.Int.{ints}
 use Rattle.std.proofs.lemmas.List.{length-map}
-use Rattle.half_edge_links.specs.Mesh.{Mesh, origin, prev, face, rev}
+use Rattle.half_edge_mesh.specs.Mesh.{Mesh, origin, prev, face, rev}
 use Rattle.half_edge_links.proofs.Rev.{rev-rev, rev_within}
 use Rattle.half_edge_mesh.specs.Contents.{Contents}
 use Rattle.plane.specs.Fraction.{Point, whole, IsSame, OnSegment}
@@ -14,12 +14,12 @@ use Rattle.plane.specs.Tiling.{Triangulation, HasFace, vertex, TilesHull, JoinsL
 use Rattle.plane.specs.Location.{IsOuter}
 use Rattle.plane.specs.Line.{Meets, at_vertex, across}
 use Rattle.plane.proofs.Segments.{on_of_within}
-use Rattle.plane_lines.specs.WalkLaws.{IsLaid}
-use Rattle.plane_lines.proofs.Steps.{crossing_by_sides, first_item}
-use Rattle.plane_lines.proofs.EdgeStarts.{crossing_on_line}
-use Rattle.plane_lines.proofs.OutsideStarts.{first_from_the_outside}
-use Rattle.plane_lines.proofs.LineStarts.{equal_ends, first_on_line}
-use Rattle.plane_lines.proofs.Begins.{edge_flipped}
+use Rattle.plane_segments.specs.WalkLaws.{IsLaid}
+use Rattle.plane_segments.proofs.Steps.{crossing_by_sides, first_item}
+use Rattle.plane_segments.proofs.EdgeStarts.{crossing_on_line}
+use Rattle.plane_segments.proofs.OutsideStarts.{first_from_the_outside}
+use Rattle.plane_segments.proofs.LineStarts.{equal_ends, first_on_line}
+use Rattle.plane_segments.proofs.Begins.{edge_flipped}
 use Rattle.mesh_embedding.specs.Drawn.{drawn}
 use Rattle.mesh_embedding.proofs.EdgePairs.{joins_edge}
 use Rattle.mesh_embedding.proofs.MeshLegal.{line_has_none}

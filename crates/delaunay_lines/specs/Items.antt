@@ -1,7 +1,7 @@
 -- Items of the line list by handles: of a mesh alone, and together with the mesh.
 use Rattle.std.specs.Prelude.{◌<◌, Option, Some, None, length}
 use Rattle.std.specs.Borrow.{Bor}
-use Rattle.half_edge_links.specs.Mesh.{Mesh, origin, rev}
+use Rattle.half_edge_mesh.specs.Mesh.{Mesh, origin, rev}
 use Rattle.half_edge_mesh.specs.Contents.{Contents}
 use Rattle.half_edge_views.specs.declared.edge.DirectedEdgeHandle.{DirectedEdgeHandle}
 use Rattle.plane.specs.Line.{Item, at_vertex, across, along}

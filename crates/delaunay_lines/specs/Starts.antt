@@ -1,6 +1,6 @@
 -- Where a segment starts in a mesh.
 use Rattle.std.specs.Prelude.{◌≡◌, ◌≢◌, ℕ, ◌<◌, ◌<ℤ◌, List, Option, MatchOption, ⊤}
-use Rattle.half_edge_links.specs.Mesh.{Mesh, origin, prev, face, rev}
+use Rattle.half_edge_mesh.specs.Mesh.{Mesh, origin, prev, face, rev}
 use Rattle.plane.specs.Fraction.{Point, whole, IsSame, OnSegment, WithinSegment, InsideTriangle}
 use Rattle.plane.specs.Side.{side, left, right, TurnsLeft}
 use Rattle.plane.specs.Circle.{gap, IsNearer}

@@ -1,13 +1,13 @@
 -- From an item that a segment meets in a mesh to the next, by handles.
 use Rattle.std.specs.Prelude.{◌≡◌, ◌⊎◌, ℕ, ◌<◌, List, length, map, All, Option, MatchOption}
-use Rattle.half_edge_links.specs.Mesh.{Mesh, origin, prev, face, rev}
+use Rattle.half_edge_mesh.specs.Mesh.{Mesh, origin, prev, face, rev}
 use Rattle.half_edge_mesh.specs.Contents.{Contents, IsMeshWithData}
 use Rattle.plane.specs.Fraction.{Point, whole}
 use Rattle.plane.specs.Side.{TurnsLeft}
 use Rattle.plane.specs.Pairs.{place}
 use Rattle.plane.specs.Line.{Item}
 use Rattle.plane_tiling.specs.Local.{IsMesh}
-use Rattle.plane_lines.specs.Steps.{ComesNext, IsLast, IsAhead}
+use Rattle.plane_segments.specs.Steps.{ComesNext, IsLast, IsAhead}
 use Rattle.mesh_embedding.specs.Drawn.{drawn, faces_of, outer_of}
 use Rattle.delaunay_lines.specs.declared.intersection.FixedIntersection.{FixedIntersection}
 use Rattle.delaunay_lines.specs.declared.intersection.FixedIntersection.TheVariants.{Edge}

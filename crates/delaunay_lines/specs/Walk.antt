@@ -4,7 +4,7 @@ use Rattle.half_edge_mesh.specs.Contents.{Contents}
 use Rattle.plane.specs.Fraction.{Point, whole}
 use Rattle.plane.specs.Tiling.{Triangulation}
 use Rattle.plane.specs.Line.{Item, Meets, IsLineList}
-use Rattle.plane_lines.specs.Steps.{GoesOn}
+use Rattle.plane_segments.specs.Steps.{GoesOn}
 use Rattle.mesh_embedding.specs.Drawn.{drawn}
 use Rattle.delaunay_core.specs.Place.{place_of}
 use Rattle.delaunay_lines.specs.declared.intersection.Intersection.{Intersection}

@@ -12,8 +12,7 @@ use crate::iterator::LineIntersectionIterator;
 use delaunay_core::math::PlaneTests;
 use delaunay_core::point::HasPosition;
 use delaunay_legalization::{ConstraintMarker, is_constraint_edge};
-use half_edge_mesh::{Dcel, FixedVertexHandle};
-use half_edge_views::DirectedEdgeHandle;
+use half_edge_mesh::{Dcel, DirectedEdgeHandle, FixedVertexHandle};
 use std::marker::PhantomData;
 
 // Whether an edge is a constraint.

@@ -1,6 +1,6 @@
 //! What a segment meets after an edge that it crosses or goes along.
 ghost use Rattle.std.specs.Prelude.{◌≡◌, ◌≢◌, ◌<◌, length, map, All};
-ghost use Rattle.half_edge_links.specs.Mesh.{origin, rev, face};
+ghost use Rattle.half_edge_mesh.specs.Mesh.{origin, rev, face};
 ghost use Rattle.plane.specs.Fraction.{whole as fraction};
 ghost use Rattle.plane.specs.Line.{Meets, across, along};
 ghost use Rattle.mesh_embedding.specs.Drawn.{drawn};

@@ -2,8 +2,9 @@
 ghost use Rattle.std.specs.Prelude.{◌≡◌};
 ghost use Rattle.delaunay_lines.specs.Items.{item_of, item_in, mesh_of, crossed_edge, IsHandleOf};
 
-use half_edge_mesh::{Dcel, FixedDirectedEdgeHandle, FixedVertexHandle};
-use half_edge_views::{DirectedEdgeHandle, MeshViews, VertexHandle};
+use half_edge_mesh::{
+    Dcel, DirectedEdgeHandle, FixedDirectedEdgeHandle, FixedVertexHandle, MeshViews, VertexHandle,
+};
 
 /// A vertex or an edge that a segment meets.
 #[derive_where(Clone, Copy, PartialEq, Debug)]

@@ -1,10 +1,10 @@
 //! Questions about the ends of a segment and the edges of a mesh.
 ghost use Rattle.std.specs.Prelude.{◌≡◌, ◌≢◌, ◌↔◌, ◌<◌, length, map, All, Contains, IsTrue};
-ghost use Rattle.half_edge_links.specs.Mesh.{origin, next, prev, rev};
+ghost use Rattle.half_edge_mesh.specs.Mesh.{origin, next, prev, rev};
 ghost use Rattle.plane.specs.Fraction.{whole as fraction, OnSegment, WithinSegment};
 ghost use Rattle.plane.specs.Side.{side};
 ghost use Rattle.plane.specs.Pairs.{place};
-ghost use Rattle.plane_lines.specs.Steps.{IsAhead};
+ghost use Rattle.plane_segments.specs.Steps.{IsAhead};
 ghost use Rattle.delaunay_core.specs.Place.{place_of};
 ghost use Rattle.delaunay_legalization.specs.Known.{point_at};
 ghost use Rattle.delaunay_lines.specs.Steps.{IsLeftOf};
@@ -13,8 +13,7 @@ use delaunay_core::line_side_info::LineSideInfo;
 use delaunay_core::math::PlaneTests;
 use delaunay_core::point::{HasPosition, Point2, SpadeNum};
 use delaunay_legalization::{is_same_point, is_strictly_within, start_of};
-use half_edge_mesh::{Dcel, FixedDirectedEdgeHandle, FixedVertexHandle};
-use half_edge_views::MeshViews;
+use half_edge_mesh::{Dcel, FixedDirectedEdgeHandle, FixedVertexHandle, MeshViews};
 
 // Whether a point differs from two others.
 fn differs<S: SpadeNum>(point: Point2<S>, from: Point2<S>, to: Point2<S>) -> bool

@@ -1,6 +1,6 @@
 //! What a segment meets after a vertex.
 ghost use Rattle.std.specs.Prelude.{◌≡◌, ◌≢◌, ◌↔◌, ◌<◌, ℕ, length, map, IsTrue, MatchOption};
-ghost use Rattle.half_edge_links.specs.Mesh.{origin, rev};
+ghost use Rattle.half_edge_mesh.specs.Mesh.{origin, rev};
 ghost use Rattle.plane.specs.Fraction.{whole as fraction};
 ghost use Rattle.plane.specs.Line.{Meets, at_vertex};
 ghost use Rattle.mesh_embedding.specs.Drawn.{drawn};
@@ -14,8 +14,7 @@ use crate::sides::{edge_after, edge_before, is_ahead, is_left_of, position_of, t
 use delaunay_core::math::PlaneTests;
 use delaunay_core::point::{HasPosition, Point2};
 use delaunay_legalization::{is_outer, is_same_point, start_of};
-use half_edge_mesh::{Dcel, FixedDirectedEdgeHandle, FixedVertexHandle};
-use half_edge_views::MeshViews;
+use half_edge_mesh::{Dcel, FixedDirectedEdgeHandle, FixedVertexHandle, MeshViews};
 
 // Whether an edge points towards a position, or the position is on the edge.
 fn is_edge_ahead<V: HasPosition, DE, UE, F, P: PlaneTests<V::Scalar>>(

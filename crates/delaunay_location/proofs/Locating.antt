@@ -4,8 +4,8 @@ use Rattle.std.specs.Prelude.{ℤ, pos, ◌*ℤ◌, ◌<ℤ◌, ◌≤ℤ◌, Co
 use Rattle.std.proofs.lemmas.Int.{ints}
 use Rattle.std.proofs.lemmas.Bool.{cases_eq}
 use Rattle.std.proofs.lemmas.List.{length-map, get_or-map}
-use Rattle.half_edge_links.specs.Mesh.{Mesh, origin, face, face_edge, rev}
-use Rattle.half_edge_links.specs.Triangles.{triangle_at, triangles}
+use Rattle.half_edge_mesh.specs.Mesh.{Mesh, origin, face, face_edge, rev}
+use Rattle.half_edge_mesh.specs.Triangles.{triangle_at, triangles}
 use Rattle.plane.specs.Fraction.{Point, whole, IsSame, WithinSegment, InsideTriangle}
 use Rattle.plane.specs.Side.{TurnsLeft}
 use Rattle.plane.specs.Circle.{gap}

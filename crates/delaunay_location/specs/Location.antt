@@ -1,7 +1,7 @@
 -- What an answer to a location says: vertices in place of handles.
 use Rattle.std.specs.Prelude.{◌≡◌, ℕ, ◌<◌, ◌≤ℤ◌, List, length}
-use Rattle.half_edge_links.specs.Mesh.{Mesh, origin, face, face_edge, rev, IsInner}
-use Rattle.half_edge_links.specs.Triangles.{triangle_at}
+use Rattle.half_edge_mesh.specs.Mesh.{Mesh, origin, face, face_edge, rev, IsInner}
+use Rattle.half_edge_mesh.specs.Triangles.{triangle_at}
 use Rattle.plane.specs.Fraction.{Point, whole}
 use Rattle.plane.specs.Side.{TurnsLeft}
 use Rattle.plane.specs.Circle.{gap}

@@ -1,6 +1,6 @@
 //! Where a position is, by a look at all vertices, edges and faces.
 ghost use Rattle.std.specs.Prelude.{◌≡◌, ◌↔◌, ℕ, ◌<◌, ◌≤◌, ◌<ℤ◌, length, map, All, IsTrue, MatchOption};
-ghost use Rattle.half_edge_links.specs.Mesh.{face_edge, origin};
+ghost use Rattle.half_edge_mesh.specs.Mesh.{face_edge, origin};
 ghost use Rattle.plane.specs.Fraction.{whole as fraction};
 ghost use Rattle.plane.specs.Circle.{gap};
 ghost use Rattle.plane.specs.Pairs.{place};

@@ -13,8 +13,7 @@ ghost use Rattle.delaunay_legalization.specs.State.{state_of, triangulation_of};
 use crate::nearest_vertex::is_nearer;
 use crate::parts::end_vertex;
 use delaunay_core::point::{HasPosition, Point2};
-use half_edge_mesh::{Dcel, FixedVertexHandle};
-use half_edge_views::MeshViews;
+use half_edge_mesh::{Dcel, FixedVertexHandle, MeshViews};
 
 // A neighbour of a vertex that is strictly nearer to a position, if there is one.
 fn nearer_neighbor<V: HasPosition, DE, UE, F>(

@@ -1,7 +1,7 @@
 //! The positions of vertices, of the ends of edges and of the corners of faces.
 ghost use Rattle.std.specs.Prelude.{◌≡◌, ◌<◌, ◌≤◌, length, map};
-ghost use Rattle.half_edge_links.specs.Mesh.{origin, rev, face, face_edge};
-ghost use Rattle.half_edge_links.specs.Triangles.{triangle_at};
+ghost use Rattle.half_edge_mesh.specs.Mesh.{origin, rev, face, face_edge};
+ghost use Rattle.half_edge_mesh.specs.Triangles.{triangle_at};
 ghost use Rattle.delaunay_core.specs.Place.{place_of};
 ghost use Rattle.delaunay_legalization.specs.Known.{point_at};
 ghost use Rattle.delaunay_legalization.specs.Shape.{IsTriangulated};
@@ -9,8 +9,9 @@ ghost use Rattle.delaunay_legalization.specs.State.{state_of};
 ghost use Rattle.delaunay_legalization.specs.Parts.{IsMeshEdge, IsMeshFace};
 
 use delaunay_core::point::{HasPosition, Point2};
-use half_edge_mesh::{Dcel, FixedDirectedEdgeHandle, FixedFaceHandle, FixedVertexHandle};
-use half_edge_views::MeshViews;
+use half_edge_mesh::{
+    Dcel, FixedDirectedEdgeHandle, FixedFaceHandle, FixedVertexHandle, MeshViews,
+};
 
 /// The position of a vertex.
 pub fn position_of<V: HasPosition, DE, UE, F>(

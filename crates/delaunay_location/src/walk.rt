@@ -1,6 +1,6 @@
 //! Where a position is, by a walk from face to face.
 ghost use Rattle.std.specs.Prelude.{◌≡◌, ◌↔◌, ◌<◌, length, map, All, IsTrue, IfSome, MatchOption};
-ghost use Rattle.half_edge_links.specs.Mesh.{origin, rev, face};
+ghost use Rattle.half_edge_mesh.specs.Mesh.{origin, rev, face};
 ghost use Rattle.plane.specs.Fraction.{whole as fraction};
 ghost use Rattle.plane.specs.Side.{side, right};
 ghost use Rattle.plane.specs.Pairs.{place};
@@ -17,8 +17,7 @@ use crate::position_in_triangulation::PositionInTriangulation;
 use delaunay_core::math::PlaneTests;
 use delaunay_core::point::{HasPosition, Point2};
 use delaunay_legalization::{is_outer, is_same_point, is_strictly_within, turns_left};
-use half_edge_mesh::{Dcel, FixedDirectedEdgeHandle, FixedVertexHandle};
-use half_edge_views::MeshViews;
+use half_edge_mesh::{Dcel, FixedDirectedEdgeHandle, FixedVertexHandle, MeshViews};
 
 // Whether an edge has a position strictly on its right.
 fn is_right_of<V: HasPosition, DE, UE, F, P: PlaneTests<V::Scalar>>(

@@ -2,7 +2,7 @@
 use Rattle.std.proofs.Common.{◌≡◌, ◌≢◌, ◌⊎◌, ◌↔◌, ℕ, ◌*◌, ◌/◌, ◌<◌, List, length, map, set, refl, sym, ap, ◌∙◌, subst, inl, inr}
 use Rattle.std.specs.Prelude.{Bool, true, false, All, nat_abs}
 use Rattle.std.proofs.lemmas.List.{length-set}
-use Rattle.half_edge_links.specs.Mesh.{Mesh, IsSoundEdge, origin, rev}
+use Rattle.half_edge_mesh.specs.Mesh.{Mesh, IsSoundEdge, origin, rev}
 use Rattle.half_edge_links.proofs.Rev.{rev-rev, rev_within}
 use Rattle.half_edge_mesh.specs.Contents.{Contents, IsMeshWithData}
 use Rattle.plane.specs.Fraction.{Point}
@@ -11,11 +11,11 @@ use Rattle.plane.specs.Pairs.{Joins, IsSamePair, IsIndex}
 use Rattle.plane.specs.Tests.{InRange}
 use Rattle.plane_edits.specs.Legal.{point_of}
 use Rattle.plane_tiling.specs.Local.{IsMesh}
-use Rattle.plane_paths.specs.Constraints.{AreNextOn, ArePlacedApart}
-use Rattle.plane_paths.specs.Path.{IsFreeOfVertices}
-use Rattle.plane_paths.proofs.Adding.{IsAddingPath, adding_begins, adding_goes_on, adding_ends, adding_adds, piece_is_clear}
-use Rattle.plane_paths.proofs.PathFlips.{piece_is_free}
-use Rattle.plane_paths.proofs.Shorter.{path_shortens}
+use Rattle.plane_segments.specs.Constraints.{AreNextOn, ArePlacedApart}
+use Rattle.plane_segments.specs.Path.{IsFreeOfVertices}
+use Rattle.plane_segments.proofs.Adding.{IsAddingPath, adding_begins, adding_goes_on, adding_ends, adding_adds, piece_is_clear}
+use Rattle.plane_segments.proofs.PathFlips.{piece_is_free}
+use Rattle.plane_segments.proofs.Shorter.{path_shortens}
 use Rattle.mesh_embedding.specs.Drawn.{drawn, faces_of, outer_of}
 use Rattle.mesh_embedding.proofs.EdgePairs as E
 use Rattle.mesh_embedding.proofs.MeshLegal.{joins_edge}

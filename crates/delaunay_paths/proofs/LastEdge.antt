@@ -1,10 +1,10 @@
 -- The scan for the last of the edges that cross.
 use Rattle.std.proofs.Common.{◌≡◌, ◌⊎◌, ℕ, ◌+◌, ◌<◌, List, sym, ◌∙◌, subst, arith}
 use mathlib.Core.Logic.{inl, inr}
-use Rattle.half_edge_links.specs.Mesh.{Mesh, origin, rev}
+use Rattle.half_edge_mesh.specs.Mesh.{Mesh, origin, rev}
 use Rattle.plane.specs.Fraction.{Point}
-use Rattle.plane_paths.specs.Path.{ComesAfterOnRight}
-use Rattle.plane_paths.proofs.Order.{right-trans, left-trans, right-irrefl, left-irrefl}
+use Rattle.plane_segments.specs.Path.{ComesAfterOnRight}
+use Rattle.plane_segments.proofs.Order.{right-trans, left-trans, right-irrefl, left-irrefl}
 use Rattle.delaunay_legalization.specs.Known.{point_at}
 use Rattle.delaunay_paths.specs.Crossing.{CrossesFromRight, ComesAfter, IsLastBelow}
 

@@ -3,7 +3,7 @@ use Rattle.std.proofs.Common.{◌≡◌, ◌≢◌, ◌⊎◌, ℕ, ◌+◌, ◌
 use Rattle.std.specs.Prelude.{ℤ, pos, negsuc, ◌+ℤ◌, ◌-ℤ◌, ◌*ℤ◌, ◌≤ℤ◌, ◌<ℤ◌, nat_abs}
 use Rattle.std.proofs.lemmas.Bool.{cases_eq}
 use Rattle.std.proofs.lemmas.Int.{ints}
-use Rattle.half_edge_links.specs.Mesh.{Mesh, origin, rev}
+use Rattle.half_edge_mesh.specs.Mesh.{Mesh, origin, rev}
 use Rattle.plane.specs.Circle.{gap, IsNearer}
 use Rattle.plane.specs.Fraction.{Point, whole}
 use Rattle.plane.specs.Laws.{squared_way}
@@ -12,9 +12,9 @@ use Rattle.plane.proofs.IntegerOrder.{square-nonneg_ℤ}
 use Rattle.plane_delaunay.specs.Nearer.{nearer_count}
 use Rattle.plane_delaunay.proofs.NearerCount.{nearer_count_falls}
 use Rattle.plane_edits.specs.Legal.{point_of}
-use Rattle.plane_paths.specs.Constraints.{AreNextOn, ArePlacedApart}
-use Rattle.plane_paths.proofs.Pieces.{path_begins, path_goes_on}
-use Rattle.plane_paths.proofs.Shorter.{path_shortens}
+use Rattle.plane_segments.specs.Constraints.{AreNextOn, ArePlacedApart}
+use Rattle.plane_segments.proofs.Pieces.{path_begins, path_goes_on}
+use Rattle.plane_segments.proofs.Shorter.{path_shortens}
 use Rattle.mesh_embedding.specs.Drawn.{drawn}
 use Rattle.delaunay_paths.specs.PathEdges.{LeadAlong}
 use Rattle.delaunay_paths.proofs.Places.{gap_is_way_back}

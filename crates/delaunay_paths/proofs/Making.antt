@@ -3,18 +3,18 @@ use Rattle.std.proofs.Common.{◌≡◌, ℕ, ◌*◌, ◌/◌, ◌<◌, List, l
 use mathlib.Core.Logic.{inl}
 use Rattle.std.specs.Prelude.{All}
 use Rattle.std.proofs.lemmas.List.{length-map}
-use Rattle.half_edge_links.specs.Mesh.{Mesh}
-use Rattle.half_edge_links.specs.Flip.{flipped}
-use Rattle.half_edge_links.specs.Outline.{KeepsOuter}
-use Rattle.half_edge_links.specs.Triangles.{FlipsTriangles}
+use Rattle.half_edge_mesh.specs.Mesh.{Mesh}
+use Rattle.half_edge_mesh.specs.Flip.{flipped}
+use Rattle.half_edge_mesh.specs.Outline.{KeepsOuter}
+use Rattle.half_edge_mesh.specs.Triangles.{FlipsTriangles}
 use Rattle.half_edge_mesh.specs.Contents.{Contents, IsMeshWithData}
 use Rattle.plane.specs.Crossing.{Cross}
 use Rattle.plane.specs.Fraction.{Point}
 use Rattle.plane.specs.Pairs.{place}
 use Rattle.plane.specs.Tiling.{IsEdge}
 use Rattle.plane_tiling.specs.Local.{LocalMesh, IsMesh}
-use Rattle.plane_paths.specs.Measure.{crossing_sum}
-use Rattle.plane_paths.specs.Path.{IsFreeOfVertices}
+use Rattle.plane_segments.specs.Measure.{crossing_sum}
+use Rattle.plane_segments.specs.Path.{IsFreeOfVertices}
 use Rattle.mesh_embedding.specs.Drawn.{drawn, faces_of, outer_of}
 use Rattle.delaunay_paths.specs.Crossing.{CrossesFromRight, IsLastBelow}
 use Rattle.delaunay_paths.specs.Kept.{KeepsUncrossed}

@@ -2,7 +2,7 @@
 use Rattle.std.proofs.Common.{◌≡◌, ◌≢◌, ◌↔◌, ℕ, ◌<◌, List, [], ◌∷◌, length, sym, ap, ◌∙◌, subst, arith}
 use Rattle.std.specs.Prelude.{ℤ, pos, ◌+ℤ◌, ◌-ℤ◌, ◌*ℤ◌, ◌<ℤ◌}
 use Rattle.std.proofs.lemmas.Int.{ints}
-use Rattle.half_edge_links.specs.Mesh.{Mesh, IsValidMesh, origin, rev}
+use Rattle.half_edge_mesh.specs.Mesh.{Mesh, IsValidMesh, origin, rev}
 use Rattle.half_edge_links.proofs.Rev.{rev_within}
 use Rattle.plane.specs.Fraction.{Point, whole}
 use Rattle.plane.specs.Circle.{gap}
@@ -10,8 +10,8 @@ use Rattle.plane.specs.Laws.{Parts, squared_way}
 use Rattle.plane.specs.Pairs.{place}
 use Rattle.plane.proofs.Meetings.{crossing_is_sides}
 use Rattle.plane.proofs.Solver.{◌⊖◌, ◌⊗◌, ring_in}
-use Rattle.plane_paths.specs.Constraints.{ArePlacedApart}
-use Rattle.plane_paths.proofs.EitherWay.{one_point}
+use Rattle.plane_segments.specs.Constraints.{ArePlacedApart}
+use Rattle.plane_segments.proofs.EitherWay.{one_point}
 use Rattle.delaunay_legalization.specs.Known.{point_at}
 use Rattle.delaunay_paths.specs.Crossing.{CrossesSegment}
 

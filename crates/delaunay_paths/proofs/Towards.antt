@@ -2,10 +2,10 @@
 use Rattle.std.proofs.Common.{◌≡◌, ◌≢◌, ◌⊎◌, ℕ, ◌*◌, ◌/◌, ◌<◌, [], ◌∷◌, List, length, sym, ap, ◌∙◌, subst}
 use mathlib.Core.Logic.{inl, inr}
 use Rattle.std.specs.Prelude.{Contains}
-use Rattle.half_edge_links.specs.Mesh.{Mesh, AreSoundLinks, IsValidMesh, origin, next, prev, face, rev}
-use Rattle.half_edge_links.specs.Flip.{IsFlippable, Flips, flipped}
-use Rattle.half_edge_links.specs.Outline.{KeepsOuter}
-use Rattle.half_edge_links.specs.Triangles.{FlipsTriangles}
+use Rattle.half_edge_mesh.specs.Mesh.{Mesh, AreSoundLinks, IsValidMesh, origin, next, prev, face, rev}
+use Rattle.half_edge_mesh.specs.Flip.{IsFlippable, Flips, flipped}
+use Rattle.half_edge_mesh.specs.Outline.{KeepsOuter}
+use Rattle.half_edge_mesh.specs.Triangles.{FlipsTriangles}
 use Rattle.half_edge_links.proofs.FlipLemmas.{flips_is}
 use Rattle.half_edge_links.proofs.FlipSound.{origin_kept}
 use Rattle.half_edge_links.proofs.Rev.{rev-rev, rev_within}
@@ -23,14 +23,14 @@ use Rattle.plane_tiling.proofs.Meshes.{meshes_tile}
 use Rattle.plane_edits.specs.Change.{FacesChange}
 use Rattle.plane_edits.specs.Legal.{point_of}
 use Rattle.plane_edits.proofs.Kept.{flip_kept}
-use Rattle.plane_paths.specs.Measure.{crossing_sum}
-use Rattle.plane_paths.specs.Path.{IsFreeOfVertices, IsCrossing, IsLastRight, IsLastLeft, ComesAfterOnRight, ComesAfterOnLeft}
-use Rattle.plane_paths.proofs.EitherWay.{crossing_is_either_way, edge_back}
-use Rattle.plane_paths.proofs.Lowering.{chosen_flip_lowers}
-use Rattle.plane_paths.proofs.Order.{last_has_none_after}
-use Rattle.plane_paths.proofs.PathFlips.{piece_on_line_is_edge}
-use Rattle.plane_paths.proofs.Paths.{chosen_flip_is_convex, uncrossed_is_edge}
-use Rattle.plane_paths.proofs.Turns.{left_turn, turn-same}
+use Rattle.plane_segments.specs.Measure.{crossing_sum}
+use Rattle.plane_segments.specs.Path.{IsFreeOfVertices, IsCrossing, IsLastRight, IsLastLeft, ComesAfterOnRight, ComesAfterOnLeft}
+use Rattle.plane_segments.proofs.EitherWay.{crossing_is_either_way, edge_back}
+use Rattle.plane_segments.proofs.Lowering.{chosen_flip_lowers}
+use Rattle.plane_segments.proofs.Order.{last_has_none_after}
+use Rattle.plane_segments.proofs.PathFlips.{piece_on_line_is_edge}
+use Rattle.plane_segments.proofs.Paths.{chosen_flip_is_convex, uncrossed_is_edge}
+use Rattle.plane_segments.proofs.Turns.{left_turn, turn-same}
 use Rattle.mesh_embedding.specs.Drawn.{drawn, faces_of, edges_of, outer_of}
 use Rattle.mesh_embedding.specs.Stays.{GoSameWay}
 use Rattle.mesh_embedding.proofs.FaceChanges.{turned_faces}

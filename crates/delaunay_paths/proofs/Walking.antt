@@ -15,8 +15,8 @@ use Rattle.plane.proofs.LineOrder.{IsBetween, place_within, within_places}
 use Rattle.plane.proofs.Segments.{start_on_segment, end_on_segment, on_of_within}
 use Rattle.plane_tiling.specs.Local.{IsMesh}
 use Rattle.plane_tiling.proofs.Edges.{within_on}
-use Rattle.plane_paths.proofs.Pieces.{on_of_mean}
-use Rattle.plane_paths.specs.Constraints.{AreNextOn, ArePlacedApart}
+use Rattle.plane_segments.proofs.Pieces.{on_of_mean}
+use Rattle.plane_segments.specs.Constraints.{AreNextOn, ArePlacedApart}
 use Rattle.delaunay_legalization.specs.Known.{point_at}
 use Rattle.mesh_embedding.proofs.EdgePairs.{Contains-map}
 

@@ -1,11 +1,11 @@
 -- The edges of a mesh that cross the segment between two of its vertices, and an order of them.
 use Rattle.std.specs.Prelude.{◌≡◌, ◌⊎◌, ℕ, ◌<◌, List}
-use Rattle.half_edge_links.specs.Mesh.{Mesh, origin, rev}
+use Rattle.half_edge_mesh.specs.Mesh.{Mesh, origin, rev}
 use Rattle.plane.specs.Fraction.{Point}
 use Rattle.plane.specs.Crossing.{Cross}
 use Rattle.plane.specs.Pairs.{place}
 use Rattle.plane.specs.Side.{side, right, TurnsLeft}
-use Rattle.plane_paths.specs.Path.{ComesAfterOnRight, ComesAfterOnLeft}
+use Rattle.plane_segments.specs.Path.{ComesAfterOnRight, ComesAfterOnLeft}
 use Rattle.delaunay_legalization.specs.Known.{point_at}
 
 -- directed edge h and the segment from i to j have a point strictly within both

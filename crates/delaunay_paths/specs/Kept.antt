@@ -1,6 +1,6 @@
 -- What stays where a segment between two vertices is made an edge.
 use Rattle.std.specs.Prelude.{ℕ, List}
-use Rattle.half_edge_links.specs.Mesh.{Mesh}
+use Rattle.half_edge_mesh.specs.Mesh.{Mesh}
 use Rattle.plane.specs.Fraction.{Point}
 use Rattle.mesh_embedding.specs.Stays.{GoSameWay}
 use Rattle.delaunay_paths.specs.Crossing.{CrossesSegment}

@@ -1,9 +1,9 @@
 -- The directed edges along a path, in order.
 use Rattle.std.specs.Prelude.{◌≡◌, ℕ, ◌<◌, List, [], ◌∷◌, length}
-use Rattle.half_edge_links.specs.Mesh.{Mesh, origin, rev}
+use Rattle.half_edge_mesh.specs.Mesh.{Mesh, origin, rev}
 use Rattle.plane.specs.Fraction.{Point}
 use Rattle.plane.specs.Pairs.{Joins}
-use Rattle.plane_paths.specs.Constraints.{AreNextOn}
+use Rattle.plane_segments.specs.Constraints.{AreNextOn}
 use Rattle.mesh_embedding.specs.Drawn.{edges_of}
 
 -- each piece of the path from i to j is an edge

@@ -1,11 +1,11 @@
 //! Constraints along the path between two vertices.
 ghost use Rattle.std.specs.Prelude.{◌≡◌, ◌≢◌, ◌↔◌, ◌*◌, ◌<◌, true, length, map, All, Contains, IsTrue, IfNone, IfSome};
-ghost use Rattle.half_edge_links.specs.Mesh.{origin, rev};
+ghost use Rattle.half_edge_mesh.specs.Mesh.{origin, rev};
 ghost use Rattle.half_edge_mesh.specs.Contents.{IsMeshWithData};
 ghost use Rattle.plane.specs.Pairs.{Joins};
 ghost use Rattle.plane_tiling.specs.Local.{IsMesh};
-ghost use Rattle.plane_paths.specs.Constraints.{AreNextOn};
-ghost use Rattle.plane_paths.specs.Path.{IsFreeOfVertices};
+ghost use Rattle.plane_segments.specs.Constraints.{AreNextOn};
+ghost use Rattle.plane_segments.specs.Path.{IsFreeOfVertices};
 ghost use Rattle.mesh_embedding.specs.Drawn.{drawn, edges_of, faces_of, outer_of};
 ghost use Rattle.delaunay_legalization.specs.Constraints.{constraints_by};
 ghost use Rattle.delaunay_legalization.specs.Shape.{IsTriangulated};
@@ -19,8 +19,9 @@ use crate::path::next_on_path;
 use delaunay_core::math::PlaneTests;
 use delaunay_core::point::HasPosition;
 use delaunay_legalization::{ConstraintMarker, is_constraint_edge, make_constraint};
-use half_edge_mesh::{Dcel, FixedDirectedEdgeHandle, FixedUndirectedEdgeHandle, FixedVertexHandle};
-use half_edge_views::MeshViews;
+use half_edge_mesh::{
+    Dcel, FixedDirectedEdgeHandle, FixedUndirectedEdgeHandle, FixedVertexHandle, MeshViews,
+};
 
 // Whether two vertices are one.
 fn is_same_vertex(one: FixedVertexHandle, other: FixedVertexHandle) -> bool

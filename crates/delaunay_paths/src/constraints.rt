@@ -81,5 +81,5 @@ pub fn release_constraint<
     free_edge::<M, _, _, _, _>(dcel, edge);
     put_alone(edge, work);
     legalize::<M, _, _, _, _, _>(dcel, tests, work, flips);
-    let _ = dcel.num_vertices();
+    dcel.recall_invariant();
 }

@@ -1,6 +1,6 @@
 //! Which edges cross the segment between two vertices.
 ghost use Rattle.std.specs.Prelude.{◌≡◌, ◌≢◌, ◌↔◌, ℕ, ◌<◌, length, map, All, Contains, IsTrue, MatchOption};
-ghost use Rattle.half_edge_links.specs.Mesh.{origin, rev};
+ghost use Rattle.half_edge_mesh.specs.Mesh.{origin, rev};
 ghost use Rattle.plane.specs.Fraction.{whole as fraction};
 ghost use Rattle.plane.specs.Side.{side, right, TurnsLeft};
 ghost use Rattle.plane.specs.Laws.{Parts};
@@ -13,8 +13,7 @@ ghost use Rattle.delaunay_paths.specs.Crossing.{CrossesFromRight, CrossesSegment
 use delaunay_core::math::PlaneTests;
 use delaunay_core::point::{HasPosition, Point2, SpadeNum};
 use delaunay_legalization::start_of;
-use half_edge_mesh::{Dcel, FixedDirectedEdgeHandle, FixedVertexHandle};
-use half_edge_views::MeshViews;
+use half_edge_mesh::{Dcel, FixedDirectedEdgeHandle, FixedVertexHandle, MeshViews};
 
 // The position of a vertex.
 pub(crate) fn position_of<V: HasPosition, DE, UE, F>(
@@ -108,7 +107,7 @@ pub fn crosses_segment<V: HasPosition, DE, UE, F, P: PlaneTests<V::Scalar>>(
     requires sites { All (P.sites tests.now) (map V.place dcel.now.vertices) }
     ensures { IsTrue result ↔ CrossesSegment (map V.place dcel.now.vertices) dcel.now.mesh from to edge }
 {
-    let _ = dcel.num_directed_edges();
+    dcel.recall_invariant();
     let (from, to) = (position_of(dcel, from), position_of(dcel, to));
     let (start, end) = (start_of(dcel, edge), end_of(dcel, edge));
     part_each_other(from, to, start, end, tests)

@@ -2,8 +2,8 @@
 ghost use Rattle.std.specs.Prelude.{◌≡◌, ◌<◌, length, map, All};
 ghost use Rattle.plane.specs.Tiling.{IsEdge};
 ghost use Rattle.plane_tiling.specs.Local.{IsMesh};
-ghost use Rattle.plane_paths.specs.Path.{IsFreeOfVertices};
-ghost use Rattle.plane_paths.specs.Measure.{crossing_sum};
+ghost use Rattle.plane_segments.specs.Path.{IsFreeOfVertices};
+ghost use Rattle.plane_segments.specs.Measure.{crossing_sum};
 ghost use Rattle.mesh_embedding.specs.Drawn.{drawn, faces_of, outer_of};
 ghost use Rattle.delaunay_paths.specs.Crossing.{CrossesFromRight};
 ghost use Rattle.delaunay_paths.specs.Kept.{KeepsUncrossed};
@@ -33,7 +33,7 @@ fn turn_last<V: HasPosition, DE, UE, F, P: PlaneTests<V::Scalar>>(
     ensures kept { KeepsUncrossed (map V.place dcel.old.vertices) dcel.old.mesh dcel.new.mesh from to }
     ensures lower { let points = map V.place dcel.old.vertices in crossing_sum points (faces_of dcel.new.mesh) from to < crossing_sum points (faces_of dcel.old.mesh) from to }
 {
-    let _ = dcel.num_directed_edges();
+    dcel.recall_invariant();
     let edge = last_crossing(dcel, first, from, to, tests);
     dcel.flip_cw(edge.as_undirected());
 }
@@ -58,5 +58,5 @@ pub fn make_edge<V: HasPosition, DE, UE, F, P: PlaneTests<V::Scalar>>(
     while let Some(first) = crossing_edge(dcel, from, to, tests) {
         turn_last(dcel, first, from, to, tests);
     }
-    let _ = dcel.num_directed_edges();
+    dcel.recall_invariant();
 }

@@ -3,7 +3,7 @@ ghost use Rattle.std.specs.Prelude.{◌≡◌, ◌↔◌, ◌<ℤ◌, ◌<◌, l
 ghost use Rattle.plane.specs.Fraction.{whole as fraction};
 ghost use Rattle.plane.specs.Circle.{gap};
 ghost use Rattle.plane.specs.Laws.{squared_way};
-ghost use Rattle.plane_paths.specs.Path.{ComesAfterOnRight, ComesAfterOnLeft};
+ghost use Rattle.plane_segments.specs.Path.{ComesAfterOnRight, ComesAfterOnLeft};
 ghost use Rattle.delaunay_core.specs.Place.{place_of};
 ghost use Rattle.delaunay_paths.specs.Crossing.{CrossesFromRight, ComesAfter, IsLastBelow};
 

@@ -3,7 +3,7 @@ ghost use Rattle.std.specs.Prelude.{◌≡◌, ◌≢◌, ◌↔◌, ◌<◌, le
 ghost use Rattle.plane.specs.Fraction.{whole as fraction, WithinSegment};
 ghost use Rattle.plane.specs.Pairs.{place};
 ghost use Rattle.plane_tiling.specs.Local.{IsMesh};
-ghost use Rattle.plane_paths.specs.Constraints.{AreNextOn};
+ghost use Rattle.plane_segments.specs.Constraints.{AreNextOn};
 ghost use Rattle.mesh_embedding.specs.Drawn.{faces_of, outer_of};
 ghost use Rattle.delaunay_core.specs.Place.{place_of};
 

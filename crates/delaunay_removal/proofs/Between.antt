@@ -1,8 +1,8 @@
 -- An inner vertex with four neighbours, strictly between two of them.
 use Rattle.std.proofs.Common.{◌≡◌, ◌≢◌, ◌↔◌, ℕ, ◌<◌, List, length, sym, ap, ◌∙◌, subst, arith, inl, inr}
-use Rattle.half_edge_links.specs.Mesh.{Mesh, AreSoundLinks, IsValidMesh, origin, rev}
-use Rattle.half_edge_links.specs.Peel.{turn, spoke}
-use Rattle.half_edge_links.specs.Round.{neighbour}
+use Rattle.half_edge_mesh.specs.Mesh.{Mesh, AreSoundLinks, IsValidMesh, origin, rev}
+use Rattle.half_edge_mesh.specs.Peel.{turn, spoke}
+use Rattle.half_edge_mesh.specs.Round.{neighbour}
 use Rattle.half_edge_links.proofs.Rev.{rev_within}
 use Rattle.plane.specs.Fraction.{Point, whole, WithinSegment}
 use Rattle.plane_tiling.specs.Local.{LocalMesh}

@@ -1,11 +1,11 @@
 -- The data of what stands beside a vertex that goes.
 use Rattle.std.proofs.Common.{◌≡◌, ◌≢◌, ℕ, ◌-◌, ◌<◌, List, length, map, Some, sym, ap, ◌∙◌, subst, inl, inr, arith}
 use Rattle.std.specs.Prelude.{slice_get, Contains}
-use Rattle.half_edge_links.specs.Mesh.{origin, rev}
-use Rattle.half_edge_links.specs.Triangles.{Triangle, triangles}
+use Rattle.half_edge_mesh.specs.Mesh.{origin, rev}
+use Rattle.half_edge_mesh.specs.Triangles.{Triangle, triangles}
 use Rattle.half_edge_mesh.specs.Contents.{Contents, IsMeshWithData}
 use Rattle.half_edge_mesh.specs.Removal.{FullEdge, FullFace, full_edges, full_faces, renumbered_edge, renumbered_face, DropsVertex, LeavesMesh}
-use Rattle.half_edge_mesh.proofs.Hubs.{count_faces}
+use Rattle.half_edge_dcel.proofs.Hubs.{count_faces}
 use Rattle.mesh_embedding.proofs.FaceChanges.{contains_map}
 use Rattle.plane.specs.Fraction.{Point}
 use Rattle.delaunay_legalization.specs.Shape.{IsTriangulated}

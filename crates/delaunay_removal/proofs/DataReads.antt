@@ -5,16 +5,16 @@ use Rattle.std.proofs.lemmas.Bool.{cases_eq}
 use Rattle.std.proofs.lemmas.Grind.{common_steps}
 use Rattle.std.proofs.lemmas.List.{length-map}
 use Rattle.std.proofs.lemmas.Option.{slice_get-get_or, slice_get_within}
-use Rattle.half_edge_links.specs.Mesh.{AreSoundLinks, origin, rev}
-use Rattle.half_edge_links.specs.Outline.{Ends, ends}
-use Rattle.half_edge_links.specs.Renames.{moved}
-use Rattle.half_edge_links.specs.Triangles.{Triangle, triangles, triangle_at}
+use Rattle.half_edge_mesh.specs.Mesh.{AreSoundLinks, origin, rev}
+use Rattle.half_edge_mesh.specs.Outline.{Ends, ends}
+use Rattle.half_edge_mesh.specs.Renames.{moved}
+use Rattle.half_edge_mesh.specs.Triangles.{Triangle, triangles, triangle_at}
 use Rattle.half_edge_links.proofs.TakenLists.{ends_at, count_ends}
 use Rattle.half_edge_mesh.specs.Contents.{Contents, IsMeshWithData}
 use Rattle.half_edge_mesh.specs.Removal.{FullEdge, FullFace, full_edges, full_faces, renumbered_edge, renumbered_face}
-use Rattle.half_edge_mesh.proofs.Hubs.{count_faces}
-use Rattle.half_edge_mesh.proofs.TakenOut.{length-full_edges, get_or-full_edges, get_or-full_faces}
-use Rattle.half_edge_mesh.proofs.TwoEdges.{item_at}
+use Rattle.half_edge_dcel.proofs.Hubs.{count_faces}
+use Rattle.half_edge_dcel.proofs.TakenOut.{length-full_edges, get_or-full_edges, get_or-full_faces}
+use Rattle.half_edge_dcel.proofs.TwoEdges.{item_at}
 use Rattle.delaunay_legalization.specs.State.{state_of}
 use Rattle.delaunay_removal.specs.Data.{HasDataOfEdge, HasDataOfFace}
 

@@ -5,8 +5,8 @@ use Rattle.std.specs.List.{AllZip}
 use Rattle.std.specs.List.Sorted.{IsPermutation}
 use Rattle.std.proofs.lemmas.List.Elements.{Contains-append_cases}
 use Rattle.std.proofs.lemmas.List.Sorted.{Contains-permutation, IsPermutation-sym}
-use Rattle.half_edge_links.specs.Outline.{Ends}
-use Rattle.half_edge_links.specs.Triangles.{Triangle}
+use Rattle.half_edge_mesh.specs.Outline.{Ends}
+use Rattle.half_edge_mesh.specs.Triangles.{Triangle}
 use Rattle.half_edge_mesh.specs.Contents.{Contents}
 use Rattle.half_edge_mesh.specs.Growth.{joins}
 use Rattle.half_edge_mesh.specs.Removal.{FullEdge, FullFace, IsBetween, HasCorners, full_edges, full_faces, spokes_to, faces_between, LosesEdges, JoinsNeighbours, LosesStrip, FillsHole}

@@ -2,20 +2,20 @@
 use Rattle.std.proofs.Common.{◌≡◌, ◌≢◌, ◌⊎◌, ℕ, ◌-◌, ◌*◌, ◌/◌, ◌<◌, List, length, get_or, set, refl, sym, ap, ◌∙◌, subst, inl, inr, arith}
 use Rattle.std.specs.Prelude.{Contains}
 use Rattle.std.proofs.lemmas.List.{length-map, length-set, get_or-set_other}
-use Rattle.half_edge_links.specs.Flip.{IsFlippable, flipped}
-use Rattle.half_edge_links.specs.Mesh.{Mesh, AreSoundLinks, IsInner, origin, next, prev, face, rev}
-use Rattle.half_edge_links.specs.Outline.{Ends, ends, along}
-use Rattle.half_edge_links.specs.Peel.{turn}
-use Rattle.half_edge_links.specs.Round.{neighbour}
-use Rattle.half_edge_links.specs.Triangles.{Triangle, triangles, triangle_at, FlipsTriangles}
+use Rattle.half_edge_mesh.specs.Flip.{IsFlippable, flipped}
+use Rattle.half_edge_mesh.specs.Mesh.{Mesh, AreSoundLinks, IsInner, origin, next, prev, face, rev}
+use Rattle.half_edge_mesh.specs.Outline.{Ends, ends, along}
+use Rattle.half_edge_mesh.specs.Peel.{turn}
+use Rattle.half_edge_mesh.specs.Round.{neighbour}
+use Rattle.half_edge_mesh.specs.Triangles.{Triangle, triangles, triangle_at, FlipsTriangles}
 use Rattle.half_edge_links.proofs.EndsKept.{ends_flipped_is}
 use Rattle.half_edge_links.proofs.Rev.{rev-rev, rev_within}
 use Rattle.half_edge_links.proofs.TakenLists.{count_ends}
 use Rattle.half_edge_mesh.specs.Contents.{Contents, IsMeshWithData}
 use Rattle.half_edge_mesh.specs.Growth.{joins}
 use Rattle.half_edge_mesh.specs.Removal.{FullEdge, FullFace, full_edges, full_edges_of, full_faces, full_faces_of}
-use Rattle.half_edge_mesh.proofs.TakenEdges.{between, listed_face, named_corners}
-use Rattle.half_edge_mesh.proofs.Touching.{with_other_ends, with_other_corners, full_edges-set, full_faces-set}
+use Rattle.half_edge_dcel.proofs.TakenEdges.{between, listed_face, named_corners}
+use Rattle.half_edge_dcel.proofs.Touching.{with_other_ends, with_other_corners, full_edges-set, full_faces-set}
 use Rattle.plane.specs.Fraction.{Point}
 use Rattle.plane_tiling.specs.Local.{LocalMesh}
 use Rattle.mesh_embedding.specs.Drawn.{faces_of, outer_of}

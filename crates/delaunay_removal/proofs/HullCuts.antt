@@ -1,11 +1,11 @@
 -- A vertex on the hull loses the rest of its edges: at a corner its faces go, on a flat side its two faces become one.
 use Rattle.std.proofs.Common.{◌≡◌, ◌≢◌, ◌⊎◌, ℕ, ◌-◌, ◌*◌, ◌/◌, ◌<◌, List, [], ◌∷◌, length, refl, ap, ◌∙◌, subst, arith, inl, inr}
-use Rattle.half_edge_links.specs.Mesh.{Mesh, AreSoundLinks, origin, prev}
-use Rattle.half_edge_links.specs.Flip.{flipped}
-use Rattle.half_edge_links.specs.Outline.{KeepsOuter}
-use Rattle.half_edge_links.specs.Peel.{turn, IsStrip}
-use Rattle.half_edge_links.specs.Round.{neighbour}
-use Rattle.half_edge_links.specs.Triangles.{FlipsTriangles}
+use Rattle.half_edge_mesh.specs.Mesh.{Mesh, AreSoundLinks, origin, prev}
+use Rattle.half_edge_mesh.specs.Flip.{flipped}
+use Rattle.half_edge_mesh.specs.Outline.{KeepsOuter}
+use Rattle.half_edge_mesh.specs.Peel.{turn, IsStrip}
+use Rattle.half_edge_mesh.specs.Round.{neighbour}
+use Rattle.half_edge_mesh.specs.Triangles.{FlipsTriangles}
 use Rattle.half_edge_mesh.specs.Contents.{Contents, IsMeshWithData}
 use Rattle.half_edge_mesh.specs.Removal.{AreOpposite, LosesStrip, first_spoke}
 use Rattle.plane.specs.Fraction.{Point}

@@ -1,9 +1,9 @@
 -- The search for an edge of a vertex with the outer face on its right.
 use Rattle.std.proofs.Common.{◌≡◌, ℕ, zero, suc, ◌+◌, ◌<◌, sym, ap, ◌∙◌, arith, inl, inr}
 use Rattle.std.proofs.lemmas.Bool.{cases_lt}
-use Rattle.half_edge_links.specs.Mesh.{Mesh, AreSoundLinks, prev, face, rev}
-use Rattle.half_edge_links.specs.Peel.{spoke}
-use Rattle.half_edge_links.specs.Round.{IsRound}
+use Rattle.half_edge_mesh.specs.Mesh.{Mesh, AreSoundLinks, prev, face, rev}
+use Rattle.half_edge_mesh.specs.Peel.{spoke}
+use Rattle.half_edge_mesh.specs.Round.{IsRound}
 use Rattle.half_edge_links.proofs.Rev.{rev-rev}
 use Rattle.delaunay_removal.specs.Star.{HasInnerFaces}
 

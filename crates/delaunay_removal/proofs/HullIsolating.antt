@@ -1,7 +1,7 @@
 -- A vertex on the hull whose star was reduced loses the rest of its edges.
 use Rattle.std.proofs.Common.{◌≡◌, ℕ, ◌-◌, ◌<◌, ◌≤◌, List, length, map, sym, ap, subst, arith}
 use Rattle.std.specs.Prelude.{All}
-use Rattle.half_edge_links.specs.Round.{neighbour}
+use Rattle.half_edge_mesh.specs.Round.{neighbour}
 use Rattle.half_edge_mesh.specs.Contents.{Contents, IsMeshWithData}
 use Rattle.half_edge_views.proofs.Loops.{round_fits}
 use Rattle.plane.specs.Fraction.{Point}

@@ -4,9 +4,9 @@ use Rattle.std.specs.Prelude.{slice_index}
 use Rattle.std.proofs.lemmas.Bool.{cases_lt}
 use Rattle.std.proofs.lemmas.List.{length-append, get_or_append_left, get_or_push}
 use Rattle.std.proofs.Math.Numerals.{add-one}
-use Rattle.half_edge_links.specs.Mesh.{Mesh, IsValidMesh, origin, next, rev}
-use Rattle.half_edge_links.specs.Peel.{turn, spoke}
-use Rattle.half_edge_links.specs.Round.{neighbour}
+use Rattle.half_edge_mesh.specs.Mesh.{Mesh, IsValidMesh, origin, next, rev}
+use Rattle.half_edge_mesh.specs.Peel.{turn, spoke}
+use Rattle.half_edge_mesh.specs.Round.{neighbour}
 use Rattle.plane.specs.Fraction.{Point}
 use Rattle.plane.specs.Pairs.{place}
 use Rattle.plane.specs.Side.{TurnsLeft}

@@ -2,11 +2,11 @@
 use Rattle.std.proofs.Common.{◌≡◌, ◌≢◌, ℕ, zero, suc, ◌-◌, ◌*◌, ◌/◌, ◌<◌, ◌≤◌, List, length, refl, sym, ap, ◌∙◌, subst, arith, inl, inr}
 use Rattle.std.specs.Prelude.{Contains}
 use Rattle.std.proofs.lemmas.Bool.{cases_lt}
-use Rattle.half_edge_links.specs.Mesh.{Mesh, IsValidMesh, origin, face, rev}
-use Rattle.half_edge_links.specs.Outline.{KeepsOuter, IsOuterEdge}
-use Rattle.half_edge_links.specs.Peel.{spoke, IsStrip}
-use Rattle.half_edge_links.specs.Round.{IsRound, neighbour}
-use Rattle.half_edge_links.specs.Triangles.{FlipsTriangles}
+use Rattle.half_edge_mesh.specs.Mesh.{Mesh, IsValidMesh, origin, face, rev}
+use Rattle.half_edge_mesh.specs.Outline.{KeepsOuter, IsOuterEdge}
+use Rattle.half_edge_mesh.specs.Peel.{spoke, IsStrip}
+use Rattle.half_edge_mesh.specs.Round.{IsRound, neighbour}
+use Rattle.half_edge_mesh.specs.Triangles.{FlipsTriangles}
 use Rattle.half_edge_links.proofs.Rev.{rev-rev, rev_within}
 use Rattle.plane.specs.Fraction.{Point}
 use Rattle.plane.specs.Pairs.{place}

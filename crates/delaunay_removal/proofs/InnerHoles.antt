@@ -1,15 +1,15 @@
 -- The hole that an inner vertex leaves: of three faces one, of four two.
 use Rattle.std.proofs.Common.{◌≡◌, ◌⊎◌, ℕ, zero, suc, ◌+◌, ◌*◌, ◌/◌, ◌<◌, List, [], ◌∷◌, refl, sym, ap, ◌∙◌, subst, arith, inl, inr}
-use Rattle.half_edge_links.specs.Mesh.{Mesh, AreSoundLinks, origin, next, prev, rev}
-use Rattle.half_edge_links.specs.Flip.{flipped}
-use Rattle.half_edge_links.specs.Outline.{KeepsOuter}
-use Rattle.half_edge_links.specs.Peel.{turn, IsWheel}
-use Rattle.half_edge_links.specs.Round.{neighbour}
-use Rattle.half_edge_links.specs.Triangles.{FlipsTriangles}
+use Rattle.half_edge_mesh.specs.Mesh.{Mesh, AreSoundLinks, origin, next, prev, rev}
+use Rattle.half_edge_mesh.specs.Flip.{flipped}
+use Rattle.half_edge_mesh.specs.Outline.{KeepsOuter}
+use Rattle.half_edge_mesh.specs.Peel.{turn, IsWheel}
+use Rattle.half_edge_mesh.specs.Round.{neighbour}
+use Rattle.half_edge_mesh.specs.Triangles.{FlipsTriangles}
 use Rattle.half_edge_mesh.specs.Contents.{Contents, IsMeshWithData}
 use Rattle.half_edge_mesh.specs.Hole.{IsBorder, FillsWithFan}
 use Rattle.half_edge_mesh.specs.Removal.{FillsHole, first_spoke}
-use Rattle.half_edge_mesh.proofs.HoleFilled.{fan_of_three}
+use Rattle.half_edge_dcel.proofs.HoleFilled.{fan_of_three}
 use Rattle.plane.specs.Fraction.{Point, WithinSegment}
 use Rattle.plane.specs.Pairs.{place}
 use Rattle.plane_tiling.proofs.Edges.{turned_within}

@@ -1,11 +1,11 @@
 -- An inner vertex loses a neighbour by a turn of an edge, until three are left, or four with the vertex between two of them.
 use Rattle.std.proofs.Common.{◌≡◌, ◌≢◌, ℕ, zero, suc, ◌+◌, ◌-◌, ◌*◌, ◌/◌, ◌<◌, ◌≤◌, List, length, refl, sym, ap, ◌∙◌, subst, arith, inl, inr}
-use Rattle.half_edge_links.specs.Mesh.{Mesh, IsValidMesh, origin, face, rev}
-use Rattle.half_edge_links.specs.Flip.{flipped}
-use Rattle.half_edge_links.specs.Outline.{KeepsOuter}
-use Rattle.half_edge_links.specs.Peel.{turn, spoke}
-use Rattle.half_edge_links.specs.Round.{IsRound, neighbour}
-use Rattle.half_edge_links.specs.Triangles.{FlipsTriangles}
+use Rattle.half_edge_mesh.specs.Mesh.{Mesh, IsValidMesh, origin, face, rev}
+use Rattle.half_edge_mesh.specs.Flip.{flipped}
+use Rattle.half_edge_mesh.specs.Outline.{KeepsOuter}
+use Rattle.half_edge_mesh.specs.Peel.{turn, spoke}
+use Rattle.half_edge_mesh.specs.Round.{IsRound, neighbour}
+use Rattle.half_edge_mesh.specs.Triangles.{FlipsTriangles}
 use Rattle.half_edge_mesh.specs.Contents.{Contents, IsMeshWithData}
 use Rattle.plane.specs.Fraction.{Point, Fraction}
 use Rattle.plane.specs.Pairs.{place}

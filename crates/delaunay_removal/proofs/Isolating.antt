@@ -1,9 +1,9 @@
 -- An inner vertex whose star was reduced loses the rest of its edges.
 use Rattle.std.proofs.Common.{◌≡◌, ◌≢◌, ℕ, List, map, sym, ap, ◌∙◌, subst, inl, inr}
 use Rattle.std.specs.Prelude.{All}
-use Rattle.half_edge_links.specs.Mesh.{Mesh, origin}
-use Rattle.half_edge_links.specs.Peel.{IsWheel}
-use Rattle.half_edge_links.specs.Round.{neighbour}
+use Rattle.half_edge_mesh.specs.Mesh.{Mesh, origin}
+use Rattle.half_edge_mesh.specs.Peel.{IsWheel}
+use Rattle.half_edge_mesh.specs.Round.{neighbour}
 use Rattle.half_edge_mesh.specs.Contents.{Contents, IsMeshWithData}
 use Rattle.half_edge_mesh.specs.Removal.{FillsHole}
 use Rattle.plane.specs.Fraction.{Point}

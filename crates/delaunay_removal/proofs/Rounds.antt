@@ -2,9 +2,9 @@
 use Rattle.std.proofs.Common.{◌≡◌, ◌≢◌, ℕ, ◌+◌, ◌<◌, length, Option, Some, None, IsSome, refl, sym, ap, ◌∙◌, subst, arith, inl, inr}
 use Rattle.std.proofs.lemmas.Bool.{cases_eq, cases_lt}
 use Rattle.std.proofs.Math.Numerals.{add-one}
-use Rattle.half_edge_links.specs.Mesh.{Mesh, IsValidMesh, origin, out_edge}
-use Rattle.half_edge_links.specs.Peel.{turn, spoke}
-use Rattle.half_edge_links.specs.Round.{IsRound}
+use Rattle.half_edge_mesh.specs.Mesh.{Mesh, IsValidMesh, origin, out_edge}
+use Rattle.half_edge_mesh.specs.Peel.{turn, spoke}
+use Rattle.half_edge_mesh.specs.Round.{IsRound}
 use Rattle.half_edge_links.proofs.OneOrbit.{edges_go_round}
 use Rattle.half_edge_views.proofs.Loops.{round_fits}
 use Rattle.mesh_embedding.proofs.RoundShift.{round_from}

@@ -2,8 +2,8 @@
 use Rattle.std.proofs.Common.{◌≡◌, ℕ, ◌+◌, ◌<◌, sym, ap, ◌∙◌, subst, arith, inl, inr}
 use Rattle.std.proofs.lemmas.Bool.{cases_eq}
 use Rattle.std.proofs.Math.Numerals.{add-one}
-use Rattle.half_edge_links.specs.Mesh.{Mesh}
-use Rattle.half_edge_links.specs.Peel.{turn, spoke}
+use Rattle.half_edge_mesh.specs.Mesh.{Mesh}
+use Rattle.half_edge_mesh.specs.Peel.{turn, spoke}
 
 -- after so many steps from edge first on the walk is at an edge, and none before it is one
 pub record IsSearching (Found : ℕ → Type 0) (bound : ℕ) (m : Mesh) (first count edge : ℕ) : Type 0 where

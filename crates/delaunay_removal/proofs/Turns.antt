@@ -1,9 +1,9 @@
 -- An edge of a vertex between two inner faces may be turned.
 use Rattle.std.proofs.Common.{◌≢◌, ℕ, ◌*◌, ◌/◌, ◌<◌, List, length, refl}
-use Rattle.half_edge_links.specs.Mesh.{Mesh, IsValidMesh, origin, prev, face, rev}
-use Rattle.half_edge_links.specs.Flip.{IsFlippable}
-use Rattle.half_edge_links.specs.Peel.{turn}
-use Rattle.half_edge_links.specs.Round.{neighbour}
+use Rattle.half_edge_mesh.specs.Mesh.{Mesh, IsValidMesh, origin, prev, face, rev}
+use Rattle.half_edge_mesh.specs.Flip.{IsFlippable}
+use Rattle.half_edge_mesh.specs.Peel.{turn}
+use Rattle.half_edge_mesh.specs.Round.{neighbour}
 use Rattle.plane.specs.Fraction.{Point}
 use Rattle.plane_tiling.specs.Local.{LocalMesh}
 use Rattle.mesh_embedding.specs.Drawn.{faces_of, outer_of}

@@ -1,8 +1,8 @@
 -- What becomes of the data of edges and faces when a vertex goes.
 use Rattle.std.specs.Prelude.{◌≡◌, ◌≢◌, ℕ, ◌-◌, ◌/◌, ◌<◌, length, Some, slice_get, Contains}
-use Rattle.half_edge_links.specs.Mesh.{origin, rev}
-use Rattle.half_edge_links.specs.Renames.{moved}
-use Rattle.half_edge_links.specs.Triangles.{Triangle, triangles}
+use Rattle.half_edge_mesh.specs.Mesh.{origin, rev}
+use Rattle.half_edge_mesh.specs.Renames.{moved}
+use Rattle.half_edge_mesh.specs.Triangles.{Triangle, triangles}
 use Rattle.half_edge_mesh.specs.Contents.{Contents}
 use Rattle.half_edge_mesh.specs.Removal.{FullEdge, FullFace, full_edges, full_faces}
 use Rattle.mesh_embedding.specs.Stays.{HaveSameCorners}

@@ -1,8 +1,8 @@
 -- The edges and faces round a vertex on the hull that is to go.
 use Rattle.std.specs.Prelude.{◌≡◌, ℕ, suc, ◌<◌, List, length, slice_index}
-use Rattle.half_edge_links.specs.Mesh.{Mesh, origin, next, face, rev}
-use Rattle.half_edge_links.specs.Peel.{spoke}
-use Rattle.half_edge_links.specs.Round.{IsRound, neighbour}
+use Rattle.half_edge_mesh.specs.Mesh.{Mesh, origin, next, face, rev}
+use Rattle.half_edge_mesh.specs.Peel.{spoke}
+use Rattle.half_edge_mesh.specs.Round.{IsRound, neighbour}
 use Rattle.plane.specs.Fraction.{Point}
 use Rattle.plane.specs.Pairs.{place}
 use Rattle.plane.specs.Side.{TurnsLeft}

@@ -1,7 +1,7 @@
 -- The edges and faces round a vertex that is to go.
 use Rattle.std.specs.Prelude.{◌≡◌, ◌⊎◌, ℕ, suc, ◌<◌, List, [], length}
-use Rattle.half_edge_links.specs.Mesh.{Mesh, origin, face, IsAlone}
-use Rattle.half_edge_links.specs.Round.{IsRound, neighbour}
+use Rattle.half_edge_mesh.specs.Mesh.{Mesh, origin, face, IsAlone}
+use Rattle.half_edge_mesh.specs.Round.{IsRound, neighbour}
 use Rattle.half_edge_mesh.specs.Contents.{Contents}
 use Rattle.plane.specs.Fraction.{Point, WithinSegment}
 use Rattle.plane.specs.Pairs.{place}

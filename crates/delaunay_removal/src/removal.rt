@@ -1,6 +1,6 @@
 //! Vertices that go, with their edges.
 ghost use Rattle.std.specs.Prelude.{◌≡◌, ◌<◌, ◌≤◌, length, map, All, Some, IsSome, slice_get, vec_capacity};
-ghost use Rattle.half_edge_links.specs.Mesh.{origin, out_edge, IsAlone};
+ghost use Rattle.half_edge_mesh.specs.Mesh.{origin, out_edge, IsAlone};
 ghost use Rattle.half_edge_mesh.specs.Removal.{DropsVertex};
 ghost use Rattle.plane.specs.Plain.{Removes};
 ghost use Rattle.plane.specs.Tests.{InRange};
@@ -15,8 +15,7 @@ use crate::removal_inner::isolate_inner;
 use crate::removal_line::remove_on_line;
 use delaunay_core::math::PlaneTests;
 use delaunay_core::point::HasPosition;
-use half_edge_mesh::{Dcel, FixedDirectedEdgeHandle, FixedVertexHandle};
-use half_edge_views::MeshViews;
+use half_edge_mesh::{Dcel, FixedDirectedEdgeHandle, FixedVertexHandle, MeshViews};
 
 // An edge that starts at a vertex with edges.
 fn first_edge<V, DE, UE, F>(
@@ -28,7 +27,7 @@ fn first_edge<V, DE, UE, F>(
     ensures within { result < length dcel.now.directed }
     ensures starts { origin dcel.now.mesh result ≡ vertex }
 {
-    let _ = dcel.num_vertices();
+    dcel.recall_invariant();
     match dcel.vertex(vertex).out_edge() {
         Some(edge) => edge.fix(),
         None => unreachable!(),
@@ -48,9 +47,9 @@ fn drop_vertex<V: HasPosition, DE, UE, F>(
     ensures kept { IsTriangulated V.place (state_of dcel.new) }
     ensures drops { DropsVertex dcel.old dcel.new vertex result }
 {
-    let _ = dcel.num_vertices();
+    dcel.recall_invariant();
     let value = dcel.swap_remove_vertex(vertex);
-    let _ = dcel.num_vertices();
+    dcel.recall_invariant();
     value
 }
 
@@ -69,7 +68,7 @@ fn isolate<V: HasPosition, DE: Drop, UE: Drop, F: Drop, P: PlaneTests<V::Scalar>
     ensures isolates { IsolatesVertex (map V.place dcel.old.vertices) dcel.old dcel.new vertex }
     ensures capacity { vec_capacity sides.new ≡ vec_capacity sides.old }
 {
-    let _ = dcel.num_vertices();
+    dcel.recall_invariant();
     let first = first_edge(dcel, vertex);
     match outer_edge_beside(dcel, first) {
         Some(edge) => isolate_on_hull(dcel, edge, vertex, tests, sides),

@@ -1,7 +1,7 @@
 //! A vertex on the hull loses its edges.
 ghost use Rattle.std.specs.Prelude.{◌≡◌, ◌↔◌, ◌-◌, ◌<◌, ◌≤◌, length, map, All, IsTrue, IfSome, IfNone, vec_capacity};
-ghost use Rattle.half_edge_links.specs.Mesh.{face, next, origin, rev};
-ghost use Rattle.half_edge_links.specs.Round.{neighbour};
+ghost use Rattle.half_edge_mesh.specs.Mesh.{face, next, origin, rev};
+ghost use Rattle.half_edge_mesh.specs.Round.{neighbour};
 ghost use Rattle.plane.specs.Pairs.{place};
 ghost use Rattle.plane.specs.Side.{on, side};
 ghost use Rattle.plane_tiling.specs.Local.{LocalMesh};
@@ -14,8 +14,7 @@ use crate::star::{count_edges, edge_after, end_of, find_convex, opposite_side, t
 use delaunay_core::math::PlaneTests;
 use delaunay_core::point::HasPosition;
 use delaunay_legalization::{is_outer, start_of, turns_left};
-use half_edge_mesh::{Dcel, FixedDirectedEdgeHandle, FixedVertexHandle};
-use half_edge_views::MeshViews;
+use half_edge_mesh::{Dcel, FixedDirectedEdgeHandle, FixedVertexHandle, MeshViews};
 
 // Turns edges of a vertex on the hull away while one of them lies across a strictly convex quadrilateral. `first` is the
 // one with the outer face on its right. Gives how many are left.
@@ -34,10 +33,10 @@ fn shrink_hull_star<V: HasPosition, DE, UE, F, P: PlaneTests<V::Scalar>>(
     ensures beside { StandsBeside dcel.old dcel.new (origin dcel.old.mesh first) }
 {
     let mut count = count_edges(dcel, first);
-    let _ = dcel.num_vertices();
+    dcel.recall_invariant();
     while let Some(edge) = find_convex(dcel, first, count - 2, tests) {
         turn_away(dcel, edge);
-        let _ = dcel.num_directed_edges();
+        dcel.recall_invariant();
         count -= 1;
     }
     count
@@ -107,10 +106,10 @@ fn cut_corner<V: HasPosition, DE: Drop, UE: Drop, F: Drop>(
     ensures isolates { IsolatesVertex (map V.place dcel.old.vertices) dcel.old dcel.new vertex }
     ensures capacity { vec_capacity sides.new ≡ vec_capacity sides.old }
 {
-    let _ = dcel.num_directed_edges();
+    dcel.recall_invariant();
     collect_sides(dcel, first, count - 1, sides);
     let _ = dcel.disconnect_edge_strip(sides.as_slice());
-    let _ = dcel.num_vertices();
+    dcel.recall_invariant();
 }
 
 // Removes the edges of a vertex on a flat side of the hull that has three of them. Its two faces become one.
@@ -123,12 +122,12 @@ fn close_flat<V: HasPosition, DE: Drop, UE: Drop, F: Drop>(
     requires flat { side (place (map V.place dcel.old.vertices) (neighbour dcel.old.mesh first 0)) (place (map V.place dcel.old.vertices) vertex) (place (map V.place dcel.old.vertices) (neighbour dcel.old.mesh first 2)) ≡ on }
     ensures { IsolatesVertex (map V.place dcel.old.vertices) dcel.old dcel.new vertex }
 {
-    let _ = dcel.num_directed_edges();
+    dcel.recall_invariant();
     turn_away(dcel, first);
-    let _ = dcel.num_vertices();
+    dcel.recall_invariant();
     let sides = [opposite_side(dcel, first)];
     let _ = dcel.disconnect_edge_strip(&sides);
-    let _ = dcel.num_vertices();
+    dcel.recall_invariant();
 }
 
 // Removes the edges of a vertex on the hull, from which `first` starts, with the outer face on its right. `sides` has
@@ -156,7 +155,7 @@ pub(crate) fn isolate_on_hull<
     ensures capacity { vec_capacity sides.new ≡ vec_capacity sides.old }
 {
     let count = shrink_hull_star(dcel, first, tests);
-    let _ = dcel.num_vertices();
+    dcel.recall_invariant();
     if is_corner(dcel, first, tests) {
         cut_corner(dcel, first, count, vertex, sides);
     } else {
@@ -175,7 +174,7 @@ pub(crate) fn outer_edge_beside<V, DE, UE, F>(
     ensures outer { IfSome result (λ e. face dcel.now.mesh (rev e) ≡ 0) }
     ensures none { IfNone result (HasInnerFaces dcel.now.mesh (origin dcel.now.mesh first)) }
 {
-    let _ = dcel.num_directed_edges();
+    dcel.recall_invariant();
     let count = count_edges(dcel, first);
     let mut edge = first;
     for i in 0..count {

@@ -1,8 +1,8 @@
 //! A vertex inside the hull loses its edges.
 ghost use Rattle.std.specs.Prelude.{◌≡◌, ◌↔◌, ◌<◌, length, map, All, IsTrue};
-ghost use Rattle.half_edge_links.specs.Mesh.{origin};
-ghost use Rattle.half_edge_links.specs.Peel.{IsWheel};
-ghost use Rattle.half_edge_links.specs.Round.{neighbour};
+ghost use Rattle.half_edge_mesh.specs.Mesh.{origin};
+ghost use Rattle.half_edge_mesh.specs.Peel.{IsWheel};
+ghost use Rattle.half_edge_mesh.specs.Round.{neighbour};
 ghost use Rattle.half_edge_mesh.specs.Contents.{IsMeshWithData};
 ghost use Rattle.half_edge_mesh.specs.Removal.{FillsHole};
 ghost use Rattle.plane_tiling.specs.Local.{LocalMesh};
@@ -35,18 +35,18 @@ fn shrink_star<V: HasPosition, DE, UE, F, P: PlaneTests<V::Scalar>>(
     let mut first = first;
     let mut count = count_edges(dcel, first);
     while count > 3 {
-        let _ = dcel.num_directed_edges();
+        dcel.recall_invariant();
         match find_convex(dcel, first, count, tests) {
             Some(edge) => {
                 turn_away(dcel, edge);
-                let _ = dcel.num_vertices();
+                dcel.recall_invariant();
                 first = edge;
                 count -= 1;
             }
             None => return (first, count),
         }
     }
-    let _ = dcel.num_directed_edges();
+    dcel.recall_invariant();
     (first, count)
 }
 
@@ -62,7 +62,7 @@ fn fill_three<V, DE: Drop, UE: Drop, F: Drop>(
     ensures before { IsMeshWithData dcel.old }
     ensures whole { IsMeshWithData dcel.new }
 {
-    let _ = dcel.num_directed_edges();
+    dcel.recall_invariant();
     let second = edge_after(dcel, first);
     let third = edge_after(dcel, second);
     let border = [
@@ -71,7 +71,7 @@ fn fill_three<V, DE: Drop, UE: Drop, F: Drop>(
         opposite_side(dcel, third),
     ];
     let _ = dcel.isolate_vertex_and_fill_hole(&border, vertex);
-    let _ = dcel.num_vertices();
+    dcel.recall_invariant();
 }
 
 // Whether a vertex is strictly between the end of an edge at it and the end of the edge after the next.
@@ -84,7 +84,7 @@ fn is_between<V: HasPosition, DE, UE, F, P: PlaneTests<V::Scalar>>(
     requires sites { All (P.sites tests.now) (map V.place dcel.now.vertices) }
     ensures { IsTrue result ↔ IsBetweenAt (map V.place dcel.now.vertices) dcel.now.mesh edge }
 {
-    let _ = dcel.num_directed_edges();
+    dcel.recall_invariant();
     let second = edge_after(dcel, edge);
     let opposite = edge_after(dcel, second);
     let centre = start_of(dcel, edge);
@@ -106,7 +106,7 @@ fn edge_beside_line<V: HasPosition, DE, UE, F, P: PlaneTests<V::Scalar>>(
     ensures star { IsInnerStar (map V.place dcel.now.vertices) dcel.now.mesh (origin dcel.now.mesh first) result 4 }
     ensures between { IsBetweenAt (map V.place dcel.now.vertices) dcel.now.mesh result }
 {
-    let _ = dcel.num_directed_edges();
+    dcel.recall_invariant();
     if is_between(dcel, first, tests) {
         first
     } else {
@@ -124,7 +124,7 @@ fn fill_four<V: HasPosition, DE: Drop, UE: Drop, F: Drop>(
     requires between { IsBetweenAt (map V.place dcel.old.vertices) dcel.old.mesh first }
     ensures { IsolatesVertex (map V.place dcel.old.vertices) dcel.old dcel.new vertex }
 {
-    let _ = dcel.num_directed_edges();
+    dcel.recall_invariant();
     turn_away(dcel, first);
     fill_three(dcel, first, vertex);
 }
@@ -144,7 +144,7 @@ pub(crate) fn isolate_inner<V: HasPosition, DE: Drop, UE: Drop, F: Drop, P: Plan
     ensures { IsolatesVertex (map V.place dcel.old.vertices) dcel.old dcel.new vertex }
 {
     let (first, count) = shrink_star(dcel, first, tests);
-    let _ = dcel.num_vertices();
+    dcel.recall_invariant();
     if count == 3 {
         fill_three(dcel, first, vertex);
     } else {

@@ -23,6 +23,6 @@ pub(crate) fn remove_on_line<V: HasPosition, DE: Drop, UE: Drop, F>(
     ensures data { KeepsDataBeside (state_of dcel.old) (state_of dcel.new) vertex }
 {
     let value = dcel.remove_when_degenerate(vertex);
-    let _ = dcel.num_vertices();
+    dcel.recall_invariant();
     value
 }

@@ -1,11 +1,11 @@
 //! The edges round a vertex, and turns of them.
 ghost use Rattle.std.specs.Prelude.{◌≡◌, ◌≢◌, ◌↔◌, ℕ, ◌*◌, ◌/◌, ◌<◌, length, map, All, Contains, IsTrue, IfSome, IfNone};
-ghost use Rattle.half_edge_links.specs.Flip.{flipped};
-ghost use Rattle.half_edge_links.specs.Mesh.{origin, next, face, rev};
-ghost use Rattle.half_edge_links.specs.Outline.{KeepsOuter};
-ghost use Rattle.half_edge_links.specs.Peel.{spoke, turn};
-ghost use Rattle.half_edge_links.specs.Round.{IsRound, neighbour};
-ghost use Rattle.half_edge_links.specs.Triangles.{FlipsTriangles};
+ghost use Rattle.half_edge_mesh.specs.Flip.{flipped};
+ghost use Rattle.half_edge_mesh.specs.Mesh.{origin, next, face, rev};
+ghost use Rattle.half_edge_mesh.specs.Outline.{KeepsOuter};
+ghost use Rattle.half_edge_mesh.specs.Peel.{spoke, turn};
+ghost use Rattle.half_edge_mesh.specs.Round.{IsRound, neighbour};
+ghost use Rattle.half_edge_mesh.specs.Triangles.{FlipsTriangles};
 ghost use Rattle.half_edge_mesh.specs.Contents.{IsMeshWithData};
 ghost use Rattle.plane_tiling.specs.Local.{LocalMesh};
 ghost use Rattle.mesh_embedding.specs.Drawn.{faces_of, outer_of};
@@ -17,8 +17,7 @@ ghost use Rattle.delaunay_removal.specs.Star.{IsConvexAt};
 use delaunay_core::math::PlaneTests;
 use delaunay_core::point::{HasPosition, Point2};
 use delaunay_legalization::{start_of, turns_left};
-use half_edge_mesh::{Dcel, FixedDirectedEdgeHandle};
-use half_edge_views::MeshViews;
+use half_edge_mesh::{Dcel, FixedDirectedEdgeHandle, MeshViews};
 
 // The edge after an edge, against the clock round the vertex where it starts.
 pub(crate) fn edge_after<V, DE, UE, F>(
@@ -51,7 +50,7 @@ pub(crate) fn count_edges<V, DE, UE, F>(
     requires { first < length dcel.now.directed }
     ensures { IsRound dcel.now.mesh (origin dcel.now.mesh first) first result }
 {
-    let _ = dcel.num_directed_edges();
+    dcel.recall_invariant();
     let mut edge = edge_after(dcel, first);
     let mut count: usize = 1;
     while edge.index() != first.index() {
@@ -134,7 +133,7 @@ pub(crate) fn turn_away<V: HasPosition, DE, UE, F>(
     ensures beside { StandsBeside dcel.old dcel.new (origin dcel.old.mesh edge) }
     ensures whole { IsMeshWithData dcel.old }
 {
-    let _ = dcel.num_directed_edges();
+    dcel.recall_invariant();
     let turned = edge_after(dcel, edge);
     dcel.flip_cw(turned.as_undirected());
 }

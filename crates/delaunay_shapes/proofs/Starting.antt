@@ -4,7 +4,7 @@ use mathlib.Core.Logic.{inl, inr, ◌≢◌}
 use Rattle.std.specs.Prelude.{Contains, IsSome}
 use Rattle.plane_edits.specs.Change.{IsFaceOf}
 use Rattle.std.proofs.lemmas.Bool.{cases_eq}
-use Rattle.half_edge_links.specs.Mesh.{Mesh, origin, next, prev, face, rev, out_edge, IsValidMesh}
+use Rattle.half_edge_mesh.specs.Mesh.{Mesh, origin, next, prev, face, rev, out_edge, IsValidMesh}
 use Rattle.plane.specs.Fraction.{Point, Fraction, whole, IsSame}
 use Rattle.plane.specs.Pairs.{IsSamePair}
 use Rattle.plane.specs.Shape.{IsEdgeIn}

@@ -1,6 +1,6 @@
 -- A flood over the edges of a mesh: which were asked of, and which of them were found.
 use Rattle.std.specs.Prelude.{◌≡◌, ◌≢◌, ◌↔◌, ℕ, ◌*◌, ◌/◌, ◌<◌, List, ◌++◌, length, Bool, true, false, Contains, AllPairs, slice_index_or}
-use Rattle.half_edge_links.specs.Mesh.{Mesh, origin, next, prev, rev}
+use Rattle.half_edge_mesh.specs.Mesh.{Mesh, origin, next, prev, rev}
 use Rattle.plane.specs.Fraction.{Point, Fraction}
 use Rattle.plane.specs.Shape.{IsEdgeIn}
 use Rattle.plane.specs.Location.{Location}

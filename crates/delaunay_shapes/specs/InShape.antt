@@ -1,7 +1,7 @@
 -- Which edges and vertices of a mesh have a point in a shape.
 use Rattle.std.specs.Prelude.{◌≢◌, ◌↔◌, ℕ, ◌*◌, ◌<◌, List, length, map, Contains, AllPairs}
 use Rattle.half_edge_mesh.specs.Contents.{Contents}
-use Rattle.half_edge_links.specs.Mesh.{Mesh, origin, rev}
+use Rattle.half_edge_mesh.specs.Mesh.{Mesh, origin, rev}
 use Rattle.plane.specs.Fraction.{Point, Fraction, whole}
 use Rattle.plane_delaunay.specs.EdgeTests.{HasPointIn}
 use Rattle.delaunay_shapes.specs.Known.{point_at}

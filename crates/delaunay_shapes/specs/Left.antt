@@ -2,7 +2,7 @@
 use Rattle.std.specs.Prelude.{◌≡◌, ℕ, List, map, drop}
 use Rattle.std.specs.Borrow.{Bor}
 use Rattle.half_edge_mesh.specs.Contents.{Contents}
-use Rattle.half_edge_views.specs.Left.{each_in}
+use Rattle.half_edge_mesh.specs.Left.{each_in}
 use Rattle.plane.specs.Fraction.{Point, Fraction}
 use Rattle.delaunay_shapes.specs.InShape.{AreEdgesInShape, AreVerticesInShape}
 use Rattle.delaunay_shapes.specs.declared.in_shape.EdgesInShapeIterator.{EdgesInShapeIterator}

@@ -9,7 +9,7 @@ ghost use Rattle.delaunay_shapes.specs.InShape.{IsEdgeInShape};
 use crate::positions::position_of;
 use delaunay_core::math::PlaneTests;
 use delaunay_core::point::{HasPosition, Point2, SpadeNum};
-use half_edge_views::UndirectedEdgeHandle;
+use half_edge_mesh::UndirectedEdgeHandle;
 
 /// A closed shape. It tells how far a point is from it, and whether an edge has a point in it.
 pub trait DistanceMetric<S: SpadeNum>: Drop {

@@ -7,8 +7,7 @@ use crate::in_shape::{EdgesInShapeIterator, VerticesInShapeIterator};
 use crate::positions::position_of;
 use delaunay_core::math::PlaneTests;
 use delaunay_core::point::HasPosition;
-use half_edge_mesh::{Dcel, FixedUndirectedEdgeHandle, FixedVertexHandle};
-use half_edge_views::MeshViews;
+use half_edge_mesh::{Dcel, FixedUndirectedEdgeHandle, FixedVertexHandle, MeshViews};
 use std::alloc::{AllocError, Global};
 
 // The edges with a point in a shape.

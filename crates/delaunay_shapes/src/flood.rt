@@ -10,8 +10,7 @@ use crate::distance_metric::DistanceMetric;
 use crate::in_shape::EdgesInShapeIterator;
 use delaunay_core::math::PlaneTests;
 use delaunay_core::point::HasPosition;
-use half_edge_mesh::{Dcel, FixedDirectedEdgeHandle, FixedUndirectedEdgeHandle};
-use half_edge_views::MeshViews;
+use half_edge_mesh::{Dcel, FixedDirectedEdgeHandle, FixedUndirectedEdgeHandle, MeshViews};
 use std::alloc::{AllocError, Global};
 
 // Asks the metric of an edge, unless it was asked before, and keeps the edge where it has a point in the shape.

@@ -13,8 +13,7 @@ use crate::in_shape::VerticesInShapeIterator;
 use crate::positions::position_of;
 use delaunay_core::math::PlaneTests;
 use delaunay_core::point::HasPosition;
-use half_edge_mesh::{Dcel, FixedUndirectedEdgeHandle, FixedVertexHandle};
-use half_edge_views::MeshViews;
+use half_edge_mesh::{Dcel, FixedUndirectedEdgeHandle, FixedVertexHandle, MeshViews};
 use std::alloc::{AllocError, Global};
 
 // Asks the metric of a vertex, unless it was asked before, and keeps the vertex where it is in the shape.

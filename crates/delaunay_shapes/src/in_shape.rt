@@ -2,8 +2,10 @@
 ghost use Rattle.std.specs.Prelude.{◌<◌, length, All};
 ghost use Rattle.std.specs.Iterator.{YieldsFirstBy, item_count};
 
-use half_edge_mesh::{Dcel, FixedUndirectedEdgeHandle, FixedVertexHandle};
-use half_edge_views::{MeshViews, UndirectedEdgeHandle, VertexHandle};
+use half_edge_mesh::{
+    Dcel, FixedUndirectedEdgeHandle, FixedVertexHandle, MeshViews, UndirectedEdgeHandle,
+    VertexHandle,
+};
 
 /// The edges with a point in a shape, of which some are left.
 #[derive(Drop)]

@@ -4,7 +4,7 @@ ghost use Rattle.delaunay_core.specs.Place.{place_of};
 ghost use Rattle.delaunay_shapes.specs.Known.{point_at};
 
 use delaunay_core::point::{HasPosition, Point2};
-use half_edge_views::VertexHandle;
+use half_edge_mesh::VertexHandle;
 
 pub(crate) fn position_of<V: HasPosition, DE, UE, F>(
     vertex: VertexHandle<'_, V, DE, UE, F>,

@@ -1,24 +1,21 @@
-//! A mesh of vertices, edges and faces with data on them, held by its directed edges.
+//! A mesh of half edges with data: all that a user of the mesh names is here.
 #![tactic(auto)]
 
-mod copies;
-mod dcel;
-mod degenerate;
-mod fixed_iterators;
-mod growth;
-mod inside;
-mod isolation;
-mod line;
-mod mapped;
-mod outside;
-mod room;
-mod taking;
-mod writing;
-
-pub use dcel::Dcel;
-pub use half_edge_handles::{
-    FixedDirectedEdgeHandle, FixedDirectedEdgeIterator, FixedFaceHandle, FixedFaceIterator,
+pub use half_edge_dcel::{
+    Dcel, FixedDirectedEdgeHandle, FixedDirectedEdgeIterator, FixedFaceHandle, FixedFaceIterator,
     FixedUndirectedEdgeHandle, FixedUndirectedEdgeIterator, FixedVertexHandle, FixedVertexIterator,
+    HalfEdge, IsolateVertexResult, MAX_ELEMENTS, ReserveError, are_few_enough, is_full,
 };
-pub use half_edge_links::{HalfEdge, MAX_ELEMENTS, ReserveError, are_few_enough, is_full};
-pub use isolation::IsolateVertexResult;
+pub use half_edge_links::{
+    Links, edges_go_round, outline_goes_round, reversed, sides_add_up, sides_cancel,
+};
+pub use half_edge_views::{
+    CircularIterator, DirectedEdgeHandle, DirectedEdgeIterator, FaceHandle, FaceIterator,
+    HullIterator, MeshViews, UndirectedEdgeHandle, UndirectedEdgeIterator, VertexHandle,
+    VertexIterator,
+};
+pub use half_edge_voronoi::{
+    AsVoronoiEdge, AsVoronoiFace, AsVoronoiVertex, DirectedVoronoiEdge,
+    DirectedVoronoiEdgeIterator, UndirectedVoronoiEdge, UndirectedVoronoiEdgeIterator,
+    VoronoiCircularIterator, VoronoiFace, VoronoiFaceIterator, VoronoiVertex, VoronoiViews,
+};

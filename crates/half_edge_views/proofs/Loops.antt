@@ -10,7 +10,7 @@ use Rattle.half_edge_links.proofs.Walks.{among_steps, to_steps, from_steps, step
 use Rattle.half_edge_links.proofs.Orbits.{comes_back}
 use Rattle.half_edge_links.proofs.OneOrbit.{edges_go_round}
 use Rattle.half_edge_links.proofs.Conditions.{turn_in, turn_one}
-use Rattle.half_edge_mesh.specs.Contents.{Contents, IsMeshWithData}
+use Rattle.half_edge_dcel.specs.Contents.{Contents, IsMeshWithData}
 use Rattle.half_edge_views.specs.Left.{each_in}
 use Rattle.half_edge_views.specs.Rounds.{walk, GivesRound, IsOuterLoop, GivesOuterLoop}
 use Rattle.half_edge_views.proofs.Walks.{walk-list}

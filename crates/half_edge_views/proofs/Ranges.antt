@@ -1,7 +1,7 @@
 -- The edges that a mesh names are edges of it.
 use Rattle.std.proofs.Common.{◌≡◌, ℕ, ◌<◌, length, Some}
 use Rattle.half_edge_links.specs.Mesh.{out_edge}
-use Rattle.half_edge_mesh.specs.Contents.{Contents, IsMeshWithData}
+use Rattle.half_edge_dcel.specs.Contents.{Contents, IsMeshWithData}
 
 -- the edge that a vertex names
 pub out_edge-within : {V D U F : Type 0} (c : Contents V D U F) (v h : ℕ) → IsMeshWithData c → out_edge c.mesh v ≡ Some h → h < length c.directed

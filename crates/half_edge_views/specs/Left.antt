@@ -2,7 +2,7 @@
 use Rattle.std.specs.Prelude.{ℕ, ◌+◌, ◌-◌, List, length, map}
 use Rattle.std.specs.List.{range_with_len}
 use Rattle.std.specs.Borrow.{Bor}
-use Rattle.half_edge_mesh.specs.Contents.{Contents}
+use Rattle.half_edge_dcel.specs.Contents.{Contents}
 use Rattle.half_edge_views.specs.declared.iterators.VertexIterator.{VertexIterator}
 use Rattle.half_edge_views.specs.declared.iterators.DirectedEdgeIterator.{DirectedEdgeIterator}
 use Rattle.half_edge_views.specs.declared.iterators.UndirectedEdgeIterator.{UndirectedEdgeIterator}

@@ -6,7 +6,7 @@ use Rattle.half_edge_links.specs.Hull.{HasOneOutline}
 use Rattle.half_edge_links.specs.Mesh.{Mesh, next, face, out_edge, iterate}
 use Rattle.half_edge_links.specs.Peel.{turn, spoke}
 use Rattle.half_edge_links.specs.Round.{IsRound}
-use Rattle.half_edge_mesh.specs.Contents.{Contents}
+use Rattle.half_edge_dcel.specs.Contents.{Contents}
 use Rattle.half_edge_views.specs.Left.{each_in}
 use Rattle.half_edge_views.specs.declared.rounds.CircularIterator.{CircularIterator}
 use Rattle.half_edge_views.specs.declared.rounds.HullIterator.{HullIterator}

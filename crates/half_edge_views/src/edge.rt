@@ -1,13 +1,13 @@
 //! Edges together with the mesh that they lie in.
 ghost use Rattle.std.specs.Prelude.{◌≡◌, ◌≢◌, ℕ, ◌+◌, ◌*◌, ◌/◌, ◌<◌, ◌≤◌, ◌∷◌, [], length, slice_get, Some, ⊤, All, map, IsNone, IsSome, IfSome, IsTrue, ◌↔◌};
 ghost use Rattle.half_edge_links.specs.Mesh.{origin, next, prev, face, rev, face_edge, out_edge};
-ghost use Rattle.half_edge_mesh.specs.Contents.{IsMeshWithData};
+ghost use Rattle.half_edge_dcel.specs.Contents.{IsMeshWithData};
 
 use crate::face::FaceHandle;
 use crate::vertex::VertexHandle;
+use half_edge_dcel::Dcel;
 use half_edge_handles::{FixedDirectedEdgeHandle, FixedUndirectedEdgeHandle};
 use half_edge_links::reversed;
-use half_edge_mesh::Dcel;
 use std::alloc::AllocError;
 
 /// A directed edge of a mesh. Two of them are equal where their indexes are.
@@ -103,7 +103,7 @@ impl<'a, V, DE, UE, F> DirectedEdgeHandle<'a, V, DE, UE, F> {
         ensures index { result.index ≡ rev self.now.index }
         ensures whole { IsMeshWithData self.now.dcel.now }
     {
-        let _ = self.dcel.num_directed_edges();
+        self.dcel.recall_invariant();
         DirectedEdgeHandle {
             dcel: self.dcel,
             index: reversed(self.index),
@@ -164,7 +164,7 @@ impl<'a, V, DE, UE, F> DirectedEdgeHandle<'a, V, DE, UE, F> {
         ensures dcel { result.dcel ≡ self.now.dcel }
         ensures index { result.index ≡ self.now.index / 2 }
     {
-        let _ = self.dcel.num_directed_edges();
+        self.dcel.recall_invariant();
         UndirectedEdgeHandle {
             dcel: self.dcel,
             index: self.index / 2,
@@ -197,7 +197,7 @@ impl<'a, V, DE, UE, F> UndirectedEdgeHandle<'a, V, DE, UE, F> {
         ensures value { result ≡ self.now.index }
         ensures in_range { result < length self.now.dcel.now.undirected }
     {
-        let _ = self.dcel.num_undirected_edges();
+        self.dcel.recall_invariant();
         FixedUndirectedEdgeHandle::from_index(self.index)
     }
 
@@ -212,7 +212,7 @@ impl<'a, V, DE, UE, F> UndirectedEdgeHandle<'a, V, DE, UE, F> {
         ensures dcel { result.dcel ≡ self.now.dcel }
         ensures index { result.index ≡ 2 * self.now.index }
     {
-        let _ = self.dcel.num_undirected_edges();
+        self.dcel.recall_invariant();
         DirectedEdgeHandle {
             dcel: self.dcel,
             index: 2 * self.index,

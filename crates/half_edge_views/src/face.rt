@@ -2,12 +2,12 @@
 ghost use Rattle.std.specs.Prelude.{◌≡◌, ◌≢◌, ℕ, ◌+◌, ◌*◌, ◌/◌, ◌<◌, ◌≤◌, ◌∷◌, [], length, slice_get, Some, ⊤, All, map, IsNone, IsSome, IfSome, IsTrue, ◌↔◌};
 ghost use Rattle.half_edge_links.specs.Mesh.{origin, next, prev, face, rev, face_edge, out_edge};
 ghost use Rattle.half_edge_links.specs.Triangles.{triangle_at};
-ghost use Rattle.half_edge_mesh.specs.Contents.{IsMeshWithData};
+ghost use Rattle.half_edge_dcel.specs.Contents.{IsMeshWithData};
 
 use crate::edge::DirectedEdgeHandle;
 use crate::vertex::VertexHandle;
+use half_edge_dcel::Dcel;
 use half_edge_handles::FixedFaceHandle;
-use half_edge_mesh::Dcel;
 use std::alloc::AllocError;
 
 /// A face of a mesh: the outer one where its index is 0. Two of them are equal where their indexes are.

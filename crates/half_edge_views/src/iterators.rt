@@ -6,7 +6,7 @@ ghost use Rattle.std.specs.Iterator.{YieldsFirstBy, item_count};
 use crate::edge::{DirectedEdgeHandle, UndirectedEdgeHandle};
 use crate::face::FaceHandle;
 use crate::vertex::VertexHandle;
-use half_edge_mesh::Dcel;
+use half_edge_dcel::Dcel;
 
 /// The vertices that are left, by rising index.
 #[derive(Drop)]

@@ -2,10 +2,10 @@
 ghost use Rattle.std.specs.Prelude.{◌≡◌, ◌≢◌, ◌<◌, ℕ, length, IfNone, IfSome};
 ghost use Rattle.half_edge_links.specs.Mesh.{origin, rev};
 ghost use Rattle.half_edge_links.specs.Peel.{spoke};
-ghost use Rattle.half_edge_mesh.specs.Contents.{IsMeshWithData};
+ghost use Rattle.half_edge_dcel.specs.Contents.{IsMeshWithData};
 
+use half_edge_dcel::Dcel;
 use half_edge_links::reversed;
-use half_edge_mesh::Dcel;
 
 // Of the edges round the vertex where `first` starts, one that ends at vertex `to`, if there is one.
 pub(crate) fn edge_to<V, DE, UE, F>(mesh: &Dcel<V, DE, UE, F>, first: u32, to: u32) -> Option<u32>

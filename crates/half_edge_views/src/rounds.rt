@@ -5,7 +5,7 @@ ghost use Rattle.std.specs.Prelude.{◌≡◌, ◌≢◌, ◌-◌, ◌<◌, ◌=
 ghost use Rattle.std.specs.Iterator.{YieldsFirstBy, item_count};
 
 use crate::edge::DirectedEdgeHandle;
-use half_edge_mesh::Dcel;
+use half_edge_dcel::Dcel;
 
 // How many edges may come after one that `after` follows.
 fn left_after(after: u32, first: u32, left: u32) -> u32

@@ -1,12 +1,12 @@
 //! Vertices together with the mesh that they lie in.
 ghost use Rattle.std.specs.Prelude.{◌≡◌, ◌≢◌, ℕ, ◌+◌, ◌*◌, ◌/◌, ◌<◌, ◌≤◌, ◌∷◌, [], length, slice_get, Some, ⊤, All, map, IsNone, IsSome, IfSome, IsTrue, ◌↔◌};
 ghost use Rattle.half_edge_links.specs.Mesh.{origin, next, prev, face, rev, face_edge, out_edge};
-ghost use Rattle.half_edge_mesh.specs.Contents.{IsMeshWithData};
+ghost use Rattle.half_edge_dcel.specs.Contents.{IsMeshWithData};
 
 use crate::edge::DirectedEdgeHandle;
 use crate::rounds::CircularIterator;
+use half_edge_dcel::Dcel;
 use half_edge_handles::FixedVertexHandle;
-use half_edge_mesh::Dcel;
 use std::alloc::AllocError;
 
 /// A vertex of a mesh. Two of them are equal where their indexes are.

@@ -4,7 +4,7 @@
 ghost use Rattle.std.specs.Prelude.{◌≡◌, ◌≢◌, ◌<◌, ◌≤◌, ◌+◌, ◌↔◌, ℕ, length, IsSome, IfNone, IfSome};
 ghost use Rattle.std.specs.List.{range_with_len};
 ghost use Rattle.half_edge_links.specs.Mesh.{origin, rev};
-ghost use Rattle.half_edge_mesh.specs.Contents.{Contents};
+ghost use Rattle.half_edge_dcel.specs.Contents.{Contents};
 ghost use Rattle.half_edge_views.specs.Left.{each_in, vertices_left, directed_edges_left, undirected_edges_left, faces_left};
 ghost use Rattle.half_edge_views.specs.Rounds.{GivesOuterLoop, hull_left};
 
@@ -16,7 +16,7 @@ use crate::iterators::{
 use crate::neighbors::edge_to;
 use crate::rounds::HullIterator;
 use crate::vertex::VertexHandle;
-use half_edge_mesh::{
+use half_edge_dcel::{
     Dcel, FixedDirectedEdgeHandle, FixedFaceHandle, FixedUndirectedEdgeHandle, FixedVertexHandle,
 };
 

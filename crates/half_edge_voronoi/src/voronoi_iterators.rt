@@ -7,7 +7,7 @@ ghost use Rattle.half_edge_views.specs.Left.{each_in, vertices_left, directed_ed
 use crate::voronoi::{
     AsVoronoiEdge, AsVoronoiFace, DirectedVoronoiEdge, UndirectedVoronoiEdge, VoronoiFace,
 };
-use half_edge_mesh::Dcel;
+use half_edge_dcel::Dcel;
 use half_edge_views::{
     CircularIterator, DirectedEdgeIterator, MeshViews, UndirectedEdgeIterator, VertexIterator,
 };

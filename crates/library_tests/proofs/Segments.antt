@@ -1,9 +1,9 @@
 -- A piece of a path in a mesh, and in a copy of it, has no vertex within.
 use Rattle.std.proofs.Common.{◌≡◌, ℕ, List, map, sym, subst}
 use Rattle.plane.specs.Fraction.{Point}
-use Rattle.plane_paths.specs.Constraints.{AreNextOn}
-use Rattle.plane_paths.specs.Path.{IsFreeOfVertices}
-use Rattle.half_edge_links.specs.Mesh.{Mesh}
+use Rattle.plane_segments.specs.Constraints.{AreNextOn}
+use Rattle.plane_segments.specs.Path.{IsFreeOfVertices}
+use Rattle.half_edge_mesh.specs.Mesh.{Mesh}
 use Rattle.half_edge_mesh.specs.Contents.{Contents}
 use Rattle.mesh_embedding.specs.Drawn.{drawn}
 use Rattle.library_tests.specs.declared.tagged_vertex.TaggedVertex.{TaggedVertex}

@@ -39,7 +39,7 @@ pub fn is_constraint(points: &SheetConstraints, index: u16) -> Option<(bool, boo
     }
     let edge = FixedUndirectedEdgeHandle::from_index(u32::from(index));
     let is_constraint = triangulation.is_constraint_edge(edge);
-    let _ = triangulation.num_directed_edges();
+    triangulation.recall_invariant();
     let edge = triangulation.directed_edge(edge.as_directed());
     let (from, to) = (edge.from().fix(), edge.to().fix());
     Some((is_constraint, triangulation.exists_constraint(from, to)))

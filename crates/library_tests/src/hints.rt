@@ -1,8 +1,8 @@
 //! Which vertex a hint generator gives after what it was told, with vertices at points of the sheet.
 
 use crate::sheet_hints;
-use half_edge_handles::FixedVertexHandle;
-use hint_generators::{HintGenerator, LastUsedVertexHintGenerator};
+use delaunay_core::{HintGenerator, LastUsedVertexHintGenerator};
+use half_edge_mesh::FixedVertexHandle;
 use spade_delaunay::Point2;
 use std::alloc::Global;
 use triangulate_run::sheet::Sheet;

@@ -1,8 +1,7 @@
 //! Segments between vertices: the next vertex on the way, how many edges cross, and flips that make one an edge.
 
 use crate::sheet_paths::{SheetMesh, SheetPaths};
-use half_edge_mesh::FixedDirectedEdgeHandle;
-use half_edge_views::MeshViews;
+use half_edge_mesh::{FixedDirectedEdgeHandle, MeshViews};
 
 /// Whether two vertices are joined.
 fn are_joined(mesh: &SheetMesh, from: u32, to: u32) -> bool {

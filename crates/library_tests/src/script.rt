@@ -11,7 +11,7 @@ use crate::sheet_paths::SheetPaths;
 use crate::sheet_triangulation::{SheetError, SheetTriangulation};
 use crate::tagged_vertex::TaggedVertex;
 use crate::triples::counts_of_triples;
-use hint_generators::LastUsedVertexHintGenerator;
+use delaunay_core::LastUsedVertexHintGenerator;
 use spade_delaunay::handles::FixedVertexHandle;
 use spade_delaunay::{DelaunayTriangulation, InsertionError, Point2};
 use std::alloc::Global;

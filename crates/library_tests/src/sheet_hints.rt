@@ -1,7 +1,7 @@
 //! What a hint generator is told of sites of a sheet.
 
-use half_edge_handles::FixedVertexHandle;
-use hint_generators::{HintGenerator, LastUsedVertexHintGenerator};
+use delaunay_core::{HintGenerator, LastUsedVertexHintGenerator};
+use half_edge_mesh::FixedVertexHandle;
 use spade_delaunay::Point2;
 use triangulate_run::points::site_index_of;
 use triangulate_run::sheet::Sheet;

@@ -1,8 +1,8 @@
 -- The sides opposite a vertex, as the mesh's calls ask for them: round three faces, and along a strip on the hull.
 use Rattle.std.proofs.Common.{◌≡◌, ℕ, zero, suc, ◌<◌, List, [], ◌∷◌, length, sym, ap, ◌∙◌, subst, arith}
 use Rattle.std.specs.Prelude.{slice_index}
-use Rattle.half_edge_links.specs.Mesh.{Mesh, origin, next, prev, face, AreSoundLinks}
-use Rattle.half_edge_links.specs.Peel.{turn, spoke, IsWheel, IsStrip}
+use Rattle.half_edge_mesh.specs.Mesh.{Mesh, origin, next, prev, face, AreSoundLinks}
+use Rattle.half_edge_mesh.specs.Peel.{turn, spoke, IsWheel, IsStrip}
 use Rattle.half_edge_mesh.specs.Hole.{IsBorder, IsHub}
 use Rattle.half_edge_mesh.specs.Removal.{AreOpposite, first_spoke}
 

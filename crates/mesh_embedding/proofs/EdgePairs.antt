@@ -4,8 +4,8 @@ use Rattle.std.specs.Prelude.{Contains}
 use Rattle.std.proofs.lemmas.Bool.{cases_eq}
 use Rattle.std.proofs.lemmas.Grind.{common_steps}
 use Rattle.std.proofs.lemmas.List.{get_or-map, length-map}
-use Rattle.half_edge_links.specs.Mesh.{Mesh, origin, rev, AreSoundLinks}
-use Rattle.half_edge_links.specs.Outline.{Ends, ends}
+use Rattle.half_edge_mesh.specs.Mesh.{Mesh, origin, rev, AreSoundLinks}
+use Rattle.half_edge_mesh.specs.Outline.{Ends, ends}
 use Rattle.half_edge_links.proofs.Ends.{length-ends_twice, get_or-ends}
 use Rattle.plane.specs.Pairs.{Joins}
 use Rattle.mesh_embedding.specs.Drawn.{pair_of, edges_of}

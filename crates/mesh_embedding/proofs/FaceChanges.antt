@@ -3,8 +3,8 @@ use Rattle.std.proofs.Common.{◌≡◌, ◌⊎◌, ℕ, zero, suc, ◌<◌, ◌
 use mathlib.Core.Logic.{inl, inr, ◌≢◌}
 use Rattle.std.specs.Prelude.{ℤ, ◌+ℤ◌, Contains}
 use Rattle.std.proofs.lemmas.Int.{ints}
-use Rattle.half_edge_links.specs.Mesh.{Mesh, origin, next, prev, face, face_edge, AreSoundLinks}
-use Rattle.half_edge_links.specs.Triangles.{Triangle, triangles, triangle_at}
+use Rattle.half_edge_mesh.specs.Mesh.{Mesh, origin, next, prev, face, face_edge, AreSoundLinks}
+use Rattle.half_edge_mesh.specs.Triangles.{Triangle, triangles, triangle_at}
 use Rattle.half_edge_links.proofs.Triangles as T
 use Rattle.plane.specs.Tiling.{Face, face as corners}
 use Rattle.plane_tiling.specs.Local.{total}

@@ -4,14 +4,14 @@ use mathlib.Core.Logic.{inl, inr}
 use Rattle.std.specs.Prelude.{Contains, Option, None, IsSome, swap_remove, take, nat_eq, if◌then◌else◌}
 use Rattle.std.proofs.lemmas.Option.{slice_get_within}
 use Rattle.std.proofs.lemmas.List.{take-map}
-use Rattle.half_edge_links.specs.Mesh.{Mesh, AreSoundLinks, IsAlone, origin, out_edge}
-use Rattle.half_edge_links.specs.Outline.{Ends}
-use Rattle.half_edge_links.specs.Flow.{outline}
-use Rattle.half_edge_links.specs.Triangles.{Triangle, triangles, triangle_at}
+use Rattle.half_edge_mesh.specs.Mesh.{Mesh, AreSoundLinks, IsAlone, origin, out_edge}
+use Rattle.half_edge_mesh.specs.Outline.{Ends}
+use Rattle.half_edge_mesh.specs.Flow.{outline}
+use Rattle.half_edge_mesh.specs.Triangles.{Triangle, triangles, triangle_at}
 use Rattle.half_edge_links.proofs.OpenSound.{swap_remove_default}
 use Rattle.half_edge_mesh.specs.Contents.{Contents, IsMeshWithData}
 use Rattle.half_edge_mesh.specs.Removal.{FullFace, full_faces, full_faces_of, renumbered_ends, renumbered_face, DropsVertex}
-use Rattle.half_edge_mesh.proofs.Dropped.{renumbered_triangle}
+use Rattle.half_edge_dcel.proofs.Dropped.{renumbered_triangle}
 use Rattle.plane.specs.Fraction.{Point}
 use Rattle.plane.specs.Pairs.{Joins}
 use Rattle.plane.specs.Plain.{Removes}

@@ -4,11 +4,11 @@ use mathlib.Core.Logic.{inl, ◌≢◌}
 use Rattle.std.specs.Prelude.{ℤ, pos, ◌+ℤ◌, Contains}
 use Rattle.std.proofs.lemmas.Int.{ints}
 use Rattle.std.proofs.lemmas.List.Elements.{Contains-append_left, Contains-append_right}
-use Rattle.half_edge_links.specs.Mesh.{Mesh, origin, next, prev, face, rev, AreSoundLinks, IsInnerEdge}
-use Rattle.half_edge_links.specs.Flip.{IsFlippable}
-use Rattle.half_edge_links.specs.Grow.{IsHalfSplittable}
-use Rattle.half_edge_links.specs.Triangles.{Triangle, triangles, FlipsTriangles, InsertsTriangles, SplitsTriangles}
-use Rattle.half_edge_links.specs.Outline.{KeepsOuter, ReplacesOuter, AddsTriangle, HalfSplitsTriangles}
+use Rattle.half_edge_mesh.specs.Mesh.{Mesh, origin, next, prev, face, rev, AreSoundLinks, IsInnerEdge}
+use Rattle.half_edge_mesh.specs.Flip.{IsFlippable}
+use Rattle.half_edge_mesh.specs.Grow.{IsHalfSplittable}
+use Rattle.half_edge_mesh.specs.Triangles.{Triangle, triangles, FlipsTriangles, InsertsTriangles, SplitsTriangles}
+use Rattle.half_edge_mesh.specs.Outline.{KeepsOuter, ReplacesOuter, AddsTriangle, HalfSplitsTriangles}
 use Rattle.half_edge_links.proofs.Rev.{rev-rev, rev_within}
 use Rattle.half_edge_links.proofs.Triangles as T
 use Rattle.plane.specs.Fraction.{Point, whole, WithinSegment, InsideTriangle}

@@ -2,8 +2,8 @@
 use Rattle.std.proofs.Common.{◌≡◌, ◌⊎◌, ℕ, ◌<◌, List, [], ◌∷◌, ◌++◌, length, refl, sym, ap, ◌∙◌, subst, arith}
 use mathlib.Core.Logic.{inl, inr}
 use Rattle.std.specs.Prelude.{pos, ◌+ℤ◌, Contains}
-use Rattle.half_edge_links.specs.Mesh.{Mesh, origin, next, face, rev, AreSoundLinks, HasApartEnds}
-use Rattle.half_edge_links.specs.Outline.{ReplacesOuter, ClosesOuter, AddsTriangle}
+use Rattle.half_edge_mesh.specs.Mesh.{Mesh, origin, next, face, rev, AreSoundLinks, HasApartEnds}
+use Rattle.half_edge_mesh.specs.Outline.{ReplacesOuter, ClosesOuter, AddsTriangle}
 use Rattle.half_edge_links.proofs.Rev.{rev_within}
 use Rattle.plane.specs.Fraction.{Point}
 use Rattle.plane.specs.Side.{TurnsLeft}

@@ -5,10 +5,10 @@ use Rattle.std.specs.Prelude.{Contains}
 use Rattle.std.proofs.lemmas.Bool.{cases_eq}
 use Rattle.std.proofs.Math.Nat.{mul-le-mul_right, suc-mul}
 use Rattle.std.proofs.lemmas.List.{length-append}
-use Rattle.half_edge_links.specs.Mesh.{Mesh, origin, next, prev, face, rev, AreSoundLinks, IsValidMesh, IsInnerEdge}
-use Rattle.half_edge_links.specs.Flip.{IsFlippable, Flips, flipped}
-use Rattle.half_edge_links.specs.Triangles.{FlipsTriangles}
-use Rattle.half_edge_links.specs.Outline.{KeepsOuter}
+use Rattle.half_edge_mesh.specs.Mesh.{Mesh, origin, next, prev, face, rev, AreSoundLinks, IsValidMesh, IsInnerEdge}
+use Rattle.half_edge_mesh.specs.Flip.{IsFlippable, Flips, flipped}
+use Rattle.half_edge_mesh.specs.Triangles.{FlipsTriangles}
+use Rattle.half_edge_mesh.specs.Outline.{KeepsOuter}
 use Rattle.half_edge_links.proofs.Rev.{rev-rev, rev_differs, rev_within}
 use Rattle.half_edge_links.proofs.Triangles as T
 use Rattle.half_edge_links.proofs.Writes.{AreSixPlaces}

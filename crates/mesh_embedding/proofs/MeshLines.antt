@@ -2,8 +2,8 @@
 use Rattle.std.proofs.Common.{◌≡◌, ◌⊎◌, ℕ, ◌<◌, ◌+◌, List, [], ◌∷◌, ◌++◌, length, refl, sym, ap, ◌∙◌, subst, arith}
 use mathlib.Core.Logic.{inl, inr, ◌≢◌}
 use Rattle.std.specs.Prelude.{Contains}
-use Rattle.half_edge_links.specs.Mesh.{Mesh, origin, face, rev, AreSoundLinks, HasApartEnds}
-use Rattle.half_edge_links.specs.Outline.{IsOuterEdge, OuterChanges, SplitsOuter, IsEdge}
+use Rattle.half_edge_mesh.specs.Mesh.{Mesh, origin, face, rev, AreSoundLinks, HasApartEnds}
+use Rattle.half_edge_mesh.specs.Outline.{IsOuterEdge, OuterChanges, SplitsOuter, IsEdge}
 use Rattle.half_edge_links.proofs.Rev.{rev-rev, rev_within}
 use Rattle.plane.specs.Fraction.{Point, whole, WithinSegment}
 use Rattle.plane.specs.Pairs.{place, IsIndex}

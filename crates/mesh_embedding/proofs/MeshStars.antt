@@ -4,11 +4,11 @@ use mathlib.Core.Logic.{inl, inr, ◌≢◌}
 use Rattle.std.specs.Prelude.{Contains, IsSome}
 use Rattle.std.proofs.Math.Numerals.{add-one}
 use Rattle.std.proofs.lemmas.Bool.{cases_lt}
-use Rattle.half_edge_links.specs.Mesh.{Mesh, origin, next, prev, face, rev, out_edge, IsValidMesh, AreSoundLinks, IsInnerEdge}
-use Rattle.half_edge_links.specs.Outline.{IsOuterEdge}
-use Rattle.half_edge_links.specs.Peel.{turn, spoke, IsStrip}
-use Rattle.half_edge_links.specs.Round.{IsRound, neighbour}
-use Rattle.half_edge_links.specs.Triangles.{Triangle, triangles, triangle_at}
+use Rattle.half_edge_mesh.specs.Mesh.{Mesh, origin, next, prev, face, rev, out_edge, IsValidMesh, AreSoundLinks, IsInnerEdge}
+use Rattle.half_edge_mesh.specs.Outline.{IsOuterEdge}
+use Rattle.half_edge_mesh.specs.Peel.{turn, spoke, IsStrip}
+use Rattle.half_edge_mesh.specs.Round.{IsRound, neighbour}
+use Rattle.half_edge_mesh.specs.Triangles.{Triangle, triangles, triangle_at}
 use Rattle.half_edge_links.proofs.Rev.{rev-rev, rev_within}
 use Rattle.half_edge_links.proofs.Triangles as T
 use Rattle.plane.specs.Fraction.{Point}

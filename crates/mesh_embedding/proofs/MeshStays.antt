@@ -6,9 +6,9 @@ use Rattle.std.proofs.lemmas.Bool.{cases_eq, cases_lt}
 use Rattle.std.proofs.lemmas.Grind.{common_steps}
 use Rattle.std.proofs.lemmas.List.{length-map, get_or-map}
 use Rattle.std.proofs.lemmas.Option.{slice_get_within, get_or_from_slice_get, gets}
-use Rattle.half_edge_links.specs.Mesh.{Mesh, origin, next, prev, face, face_edge, rev, AreSoundLinks, IsValidMesh}
-use Rattle.half_edge_links.specs.Outline.{Ends, ends}
-use Rattle.half_edge_links.specs.Triangles.{Triangle, triangle_at, triangles, FlipsTriangles}
+use Rattle.half_edge_mesh.specs.Mesh.{Mesh, origin, next, prev, face, face_edge, rev, AreSoundLinks, IsValidMesh}
+use Rattle.half_edge_mesh.specs.Outline.{Ends, ends}
+use Rattle.half_edge_mesh.specs.Triangles.{Triangle, triangle_at, triangles, FlipsTriangles}
 use Rattle.half_edge_links.proofs.Ends.{length-ends_twice, get_or-ends}
 use Rattle.half_edge_links.proofs.Rev.{rev-rev, rev_within}
 use Rattle.half_edge_links.proofs.Triangles as T

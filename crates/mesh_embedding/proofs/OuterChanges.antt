@@ -2,8 +2,8 @@
 use Rattle.std.proofs.Common.{◌≡◌, ◌⊎◌, ℕ, ◌<◌, ◌+◌, [], ◌∷◌, length, refl, sym, ap, ◌∙◌, subst, arith}
 use mathlib.Core.Logic.{inl, inr, ◌≢◌}
 use Rattle.std.specs.Prelude.{Contains}
-use Rattle.half_edge_links.specs.Mesh.{Mesh, origin, next, face, rev, AreSoundLinks, IsSoundEdge}
-use Rattle.half_edge_links.specs.Outline.{IsOuterEdge, KeepsOuter, ReplacesOuter, ClosesOuter, IsEdge}
+use Rattle.half_edge_mesh.specs.Mesh.{Mesh, origin, next, face, rev, AreSoundLinks, IsSoundEdge}
+use Rattle.half_edge_mesh.specs.Outline.{IsOuterEdge, KeepsOuter, ReplacesOuter, ClosesOuter, IsEdge}
 use Rattle.half_edge_links.proofs.Rev.{rev_within}
 use Rattle.plane_tiling.proofs.Totals.{Contains-head, Contains-later, Contains-none, Contains-cases}
 use Rattle.plane_edits.specs.Change.{OuterChange}

@@ -4,9 +4,9 @@ use mathlib.Core.Logic.{inl, inr, ◌≢◌}
 use Rattle.std.specs.Prelude.{Contains}
 use Rattle.std.proofs.lemmas.Bool.{cases_eq}
 use Rattle.std.proofs.lemmas.Grind.{common_steps}
-use Rattle.half_edge_links.specs.Mesh.{Mesh, origin, face, rev}
-use Rattle.half_edge_links.specs.Outline.{Ends, IsOuterEdge, OuterChanges}
-use Rattle.half_edge_links.specs.Flow.{outer_among}
+use Rattle.half_edge_mesh.specs.Mesh.{Mesh, origin, face, rev}
+use Rattle.half_edge_mesh.specs.Outline.{Ends, IsOuterEdge, OuterChanges}
+use Rattle.half_edge_mesh.specs.Flow.{outer_among}
 use Rattle.plane_tiling.proofs.Totals.{Contains-head, Contains-later, Contains-none, Contains-cases}
 use Rattle.plane_edits.specs.Change.{OuterChange}
 use Rattle.plane_edits.proofs.Changes.{IsOnce, once_none, once_head, once_tail, once_cons}

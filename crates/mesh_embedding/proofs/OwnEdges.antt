@@ -1,11 +1,11 @@
 -- The two ways of each edge of a mesh are the sides of its faces and its outer edges, as the plane reads them.
 use Rattle.std.proofs.Common.{◌≡◌, List, [], ◌∷◌, map, refl, sym, ◌∙◌}
 use Rattle.std.specs.Prelude.{ℤ, ◌+ℤ◌}
-use Rattle.half_edge_links.specs.Mesh.{Mesh, IsValidMesh}
-use Rattle.half_edge_links.specs.Triangles.{triangles}
-use Rattle.half_edge_links.specs.Outline.{ends}
-use Rattle.half_edge_links.specs.Flow.{outline}
-use Rattle.half_edge_links.specs.Flow as F
+use Rattle.half_edge_mesh.specs.Mesh.{Mesh, IsValidMesh}
+use Rattle.half_edge_mesh.specs.Triangles.{triangles}
+use Rattle.half_edge_mesh.specs.Outline.{ends}
+use Rattle.half_edge_mesh.specs.Flow.{outline}
+use Rattle.half_edge_mesh.specs.Flow as F
 use Rattle.half_edge_links.proofs.Flow.{sides_add_up}
 use Rattle.plane_tiling.specs.Local.{total, around, along, AreEdgesOf}
 use Rattle.mesh_embedding.specs.Drawn.{corners_of, pair_of, faces_of, edges_of, outer_of}

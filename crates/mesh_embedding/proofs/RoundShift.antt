@@ -3,10 +3,10 @@ use Rattle.std.proofs.Common.{◌≡◌, ℕ, zero, suc, ◌<◌, ◌+◌, ◌*�
 use mathlib.Core.Logic.{inl, inr, ◌≢◌}
 use Rattle.std.proofs.Math.Nat.{suc-mul, le-mul_of_pos_right}
 use Rattle.std.proofs.lemmas.Bool.{cases_lt}
-use Rattle.half_edge_links.specs.Mesh.{Mesh, origin, face, rev}
-use Rattle.half_edge_links.specs.Peel.{turn, spoke}
-use Rattle.half_edge_links.specs.Round.{IsRound, neighbour}
-use Rattle.half_edge_links.specs.Triangles.{triangle_at}
+use Rattle.half_edge_mesh.specs.Mesh.{Mesh, origin, face, rev}
+use Rattle.half_edge_mesh.specs.Peel.{turn, spoke}
+use Rattle.half_edge_mesh.specs.Round.{IsRound, neighbour}
+use Rattle.half_edge_mesh.specs.Triangles.{triangle_at}
 
 -- what comes again after so many steps
 module _ {X : Type 0} (f : ℕ → X) (count : ℕ) (again : (i : ℕ) → f (i + count) ≡ f i) where

@@ -3,10 +3,10 @@ use Rattle.std.proofs.Common.{◌≡◌, ℕ, zero, suc, ◌<◌, ◌*◌, ◌/�
 use mathlib.Core.Logic.{inl, inr, ◌≢◌}
 use Rattle.std.proofs.lemmas.Bool.{cases_eq}
 use Rattle.half_edge_links.specs.declared.records.HalfEdge.{HalfEdge}
-use Rattle.half_edge_links.specs.Mesh.{Mesh, edge_at, origin, next, prev, face, rev, IsValidMesh, AreSoundLinks}
-use Rattle.half_edge_links.specs.Flip.{IsFlippable, Flips, flipped}
-use Rattle.half_edge_links.specs.Peel.{turn, spoke, IsWheel, IsStrip}
-use Rattle.half_edge_links.specs.Round.{IsRound, neighbour}
+use Rattle.half_edge_mesh.specs.Mesh.{Mesh, edge_at, origin, next, prev, face, rev, IsValidMesh, AreSoundLinks}
+use Rattle.half_edge_mesh.specs.Flip.{IsFlippable, Flips, flipped}
+use Rattle.half_edge_mesh.specs.Peel.{turn, spoke, IsWheel, IsStrip}
+use Rattle.half_edge_mesh.specs.Round.{IsRound, neighbour}
 use Rattle.half_edge_links.proofs.FlipLemmas.{flips_is}
 use Rattle.half_edge_links.proofs.Rev.{rev-rev}
 use Rattle.half_edge_links.proofs.Triangles as T

@@ -1,9 +1,9 @@
 -- What a removal asks for, from the links round one vertex.
 use Rattle.std.proofs.Common.{◌≡◌, ◌≢◌, ℕ, zero, suc, ◌<◌, [], ◌∷◌, length, sym, ap, ◌∙◌, arith}
 use Rattle.std.specs.Prelude.{slice_index}
-use Rattle.half_edge_links.specs.Mesh.{Mesh, origin, next, prev, face, rev, AreSoundLinks}
-use Rattle.half_edge_links.specs.Peel.{turn, spoke}
-use Rattle.half_edge_links.specs.Round.{neighbour}
+use Rattle.half_edge_mesh.specs.Mesh.{Mesh, origin, next, prev, face, rev, AreSoundLinks}
+use Rattle.half_edge_mesh.specs.Peel.{turn, spoke}
+use Rattle.half_edge_mesh.specs.Round.{neighbour}
 use Rattle.half_edge_mesh.specs.Hole.{IsBorder}
 use Rattle.half_edge_mesh.specs.Removal.{AreOpposite}
 

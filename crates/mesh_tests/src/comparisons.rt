@@ -1,9 +1,9 @@
 //! What names and handles of the parts of a mesh derive: copies, equality, order, hashes and printed forms.
 
 use crate::lookups::{Edge, Mesh, directed, edge_at, vertex};
-use half_edge_links::{HalfEdge, ReserveError};
-use half_edge_mesh::{FixedFaceHandle, IsolateVertexResult};
-use half_edge_voronoi::{AsVoronoiEdge, AsVoronoiFace};
+use half_edge_mesh::{
+    AsVoronoiEdge, AsVoronoiFace, FixedFaceHandle, HalfEdge, IsolateVertexResult, ReserveError,
+};
 use std::cmp::Ordering;
 use std::hash::{DefaultHasher, Hash, Hasher};
 use std::io;

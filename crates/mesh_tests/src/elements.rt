@@ -3,8 +3,7 @@
 use crate::lookups::{
     Edge, Mesh, directed, edge_at, has_edge, has_face, has_vertex, undirected_at, vertex as name,
 };
-use half_edge_mesh::{FixedFaceHandle, HalfEdge};
-use half_edge_views::{FaceHandle, MeshViews};
+use half_edge_mesh::{FaceHandle, FixedFaceHandle, HalfEdge, MeshViews};
 
 /// How many vertices, directed edges, undirected edges, inner faces and faces there are.
 pub fn counts(mesh: &Mesh) -> [usize; 5] {

@@ -1,14 +1,13 @@
 //! Calls that let a mesh grow, and the flip. Each looks first whether it may be made, makes just the room that it takes,
 //! and gives indexes, or nothing where it was not made.
 ghost use Rattle.std.specs.Prelude.{◌≡◌, ◌≢◌, ◌<◌, length, IsTrue};
-ghost use Rattle.half_edge_links.specs.Flip.{IsFlippable};
-ghost use Rattle.half_edge_links.specs.Grow.{IsHalfSplittable};
-ghost use Rattle.half_edge_links.specs.Mesh.{face, next, origin, rev};
+ghost use Rattle.half_edge_mesh.specs.Flip.{IsFlippable};
+ghost use Rattle.half_edge_mesh.specs.Grow.{IsHalfSplittable};
+ghost use Rattle.half_edge_mesh.specs.Mesh.{face, next, origin, rev};
 ghost use Rattle.half_edge_mesh.specs.Contents.{HasRoom};
 
 use crate::lookups::{Mesh, directed, has_edge, has_face, has_vertex, undirected_at, vertex};
-use half_edge_mesh::{FixedDirectedEdgeHandle, FixedFaceHandle, FixedVertexHandle};
-use half_edge_views::MeshViews;
+use half_edge_mesh::{FixedDirectedEdgeHandle, FixedFaceHandle, FixedVertexHandle, MeshViews};
 
 /// A vertex and the two parts of the edge that it split.
 pub type Split = (u32, [u32; 2]);

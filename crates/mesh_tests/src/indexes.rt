@@ -2,10 +2,10 @@
 
 use crate::iterators::count_of;
 use crate::lookups::{directed, vertex};
-use half_edge_handles::{
-    FixedDirectedEdgeIterator, FixedFaceIterator, FixedUndirectedEdgeIterator, FixedVertexIterator,
+use half_edge_mesh::{
+    FixedDirectedEdgeIterator, FixedFaceHandle, FixedFaceIterator, FixedUndirectedEdgeIterator,
+    FixedVertexIterator,
 };
-use half_edge_mesh::FixedFaceHandle;
 
 /// The index of an edge in the other direction, without its direction, and of the first direction of that; then of the
 /// vertex and the face of this index, and whether this is the outer face.

@@ -2,9 +2,9 @@
 ghost use Rattle.std.specs.Prelude.{◌<◌, ◌≤◌, ◌↔◌, length, IsTrue, IfSome};
 
 use half_edge_mesh::{
-    Dcel, FixedDirectedEdgeHandle, FixedFaceHandle, FixedUndirectedEdgeHandle, FixedVertexHandle,
+    Dcel, DirectedEdgeHandle, FixedDirectedEdgeHandle, FixedFaceHandle, FixedUndirectedEdgeHandle,
+    FixedVertexHandle, MeshViews,
 };
-use half_edge_views::{DirectedEdgeHandle, MeshViews};
 
 pub type Mesh = Dcel<u8, u16, u32, u64>;
 

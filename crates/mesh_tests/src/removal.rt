@@ -1,11 +1,10 @@
 //! Calls that remove. Each looks first whether it may be made, and gives nothing where it may not.
 ghost use Rattle.std.specs.Prelude.{◌≡◌, ◌≢◌, ◌<◌, ◌∷◌, [], length, slice_index, IsTrue};
-ghost use Rattle.half_edge_links.specs.Mesh.{face, next, origin, prev, rev};
-ghost use Rattle.half_edge_links.specs.Peel.{turn};
+ghost use Rattle.half_edge_mesh.specs.Mesh.{face, next, origin, prev, rev};
+ghost use Rattle.half_edge_mesh.specs.Peel.{turn};
 
 use crate::lookups::{Mesh, directed, edge_at, has_edge, has_vertex, vertex};
-use half_edge_mesh::{FixedDirectedEdgeHandle, FixedVertexHandle, IsolateVertexResult};
-use half_edge_views::MeshViews;
+use half_edge_mesh::{FixedDirectedEdgeHandle, FixedVertexHandle, IsolateVertexResult, MeshViews};
 
 /// The data of a vertex without edges, which is gone.
 pub fn swap_remove_vertex(mesh: &mut Mesh, index: u32) -> Option<u8> {

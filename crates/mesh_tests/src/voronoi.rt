@@ -1,10 +1,9 @@
 //! The Voronoi forms of a mesh, by the indexes of what they are forms of.
 
 use crate::lookups::{Edge, Mesh, edge_at, has_face, undirected_at, vertex};
-use half_edge_mesh::FixedFaceHandle;
-use half_edge_views::MeshViews;
-use half_edge_voronoi::{
-    AsVoronoiEdge, AsVoronoiFace, AsVoronoiVertex, DirectedVoronoiEdge, VoronoiVertex, VoronoiViews,
+use half_edge_mesh::{
+    AsVoronoiEdge, AsVoronoiFace, AsVoronoiVertex, DirectedVoronoiEdge, FixedFaceHandle, MeshViews,
+    VoronoiVertex, VoronoiViews,
 };
 
 type VoronoiEdge<'a> = DirectedVoronoiEdge<'a, u8, u16, u32, u64>;

@@ -13,4 +13,4 @@ pub use Rattle.delaunay_edit.specs.Headline
 pub use Rattle.delaunay_edit.specs.Hull
 pub use Rattle.delaunay_edit.specs.Location
 pub use Rattle.delaunay_edit.specs.Removal
-pub use Rattle.hint_generators.specs.Held
+pub use Rattle.delaunay_core.specs.Held

@@ -1,2 +1,2 @@
 //! Iterators over the elements of a triangulation.
-pub use half_edge_views::{CircularIterator, FaceIterator, VertexIterator};
+pub use half_edge_mesh::{CircularIterator, FaceIterator, VertexIterator};

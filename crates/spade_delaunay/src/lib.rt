@@ -10,10 +10,10 @@ pub use delaunay_core::math::{
     InsertionError, MAX_ALLOWED_VALUE, PlaneTests, validate_coordinate, validate_vertex,
 };
 pub use delaunay_core::point::{HasPosition, Point2, SpadeNum};
+pub use delaunay_core::{HintGenerator, LastUsedVertexHintGenerator};
 pub use delaunay_edit::{
     ConstrainedDelaunayTriangulation, DelaunayTriangulation, PositionInTriangulation,
     TriangulationCore,
 };
 pub use delaunay_legalization::{CdtEdge, ConstraintMarker, EdgeConstraints, NoConstraints};
 pub use half_edge_mesh::{Dcel, MAX_ELEMENTS};
-pub use hint_generators::{HintGenerator, LastUsedVertexHintGenerator};

@@ -8,9 +8,9 @@ use Rattle.std.proofs.Math.ListN.{get_or-map as get_or-map-default}
 use Rattle.std.proofs.lemmas.List.Elements.{All-head, All-tail}
 use Rattle.std.proofs.lemmas.List.FromFn.{get_or-map-range_with_len, length-map-range_with_len, get_or-range_with_len, length-range_with_len}
 use Rattle.plane.specs.Fraction.{Point}
-use Rattle.half_edge_links.specs.Mesh.{Mesh, face_edge}
-use Rattle.half_edge_links.specs.Triangles.{Triangle, triangle_at, triangles}
-use Rattle.half_edge_views.specs.Left.{each_in}
+use Rattle.half_edge_mesh.specs.Mesh.{Mesh, face_edge}
+use Rattle.half_edge_mesh.specs.Triangles.{Triangle, triangle_at, triangles}
+use Rattle.half_edge_mesh.specs.Left.{each_in}
 use Rattle.triangulate_run.specs.declared.corners.Corners.{Corners}
 use Rattle.triangulate_run.specs.Corners.{least_first}
 use Rattle.triangulate_run.specs.MeshFaces.{row_of, row_at}

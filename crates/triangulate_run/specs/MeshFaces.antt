@@ -1,7 +1,7 @@
 -- The faces of a mesh as they are written.
 use Rattle.std.specs.Prelude.{ℕ}
-use Rattle.half_edge_links.specs.Mesh.{Mesh, face_edge}
-use Rattle.half_edge_links.specs.Triangles.{Triangle, triangle_at}
+use Rattle.half_edge_mesh.specs.Mesh.{Mesh, face_edge}
+use Rattle.half_edge_mesh.specs.Triangles.{Triangle, triangle_at}
 use Rattle.triangulate_run.specs.declared.corners.Corners.{Corners}
 use Rattle.triangulate_run.specs.Corners.{least_first}
 

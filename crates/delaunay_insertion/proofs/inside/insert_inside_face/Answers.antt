@@ -1,6 +1,6 @@
 use Rattle.std.proofs.Common.{◌≤◌, ◌∙◌, ◌+◌, length, map, ap, sym, arith}
 use Rattle.std.proofs.lemmas.List.{length-map}
-use Rattle.half_edge_mesh.proofs.Fits.{length-grown}
+use Rattle.half_edge_dcel.proofs.Fits.{length-grown}
 use Rattle.delaunay_insertion.proofs.Growing.{grown}
 use Rattle.delaunay_insertion.proofs.InsertionCases.{inside_shape}
 use Rattle.delaunay_insertion.proofs.DataGrowing.{grows_inside}
@@ -18,7 +18,7 @@ returns-clause-kept g c =
     let edges : length new.undirected ≤ length old.undirected + 3 = let f = length-grown _ old.undirected new.undirected 3 done.undirected in omega (arith, f) in
     let faces : length new.faces ≤ length old.faces + 2 = let f = length-grown _ old.faces new.faces 2 done.faces in omega (arith, f) in
     let here : c.args.face ≤ length old.mesh.face_edges = let w = c.requires.within in let f = c.requires.kept.fits.faces_fit in omega (arith, w, f) in
-    grown g.V.HasPosition.place old new c.args.value c.requires.kept (ap (λ d. d.vertices) done.contents) c.requires.in_range c.num_vertices.ensures.whole edges faces
+    grown g.V.HasPosition.place old new c.args.value c.requires.kept (ap (λ d. d.vertices) done.contents) c.requires.in_range c.recall_invariant.ensures.whole edges faces
     (inside_shape (map g.V.HasPosition.place old.vertices) (g.V.HasPosition.place c.args.value) old.mesh new.mesh c.insert_into_triangle-vertex.result c.requires.kept.valid c.requires.kept.shape (done.vertex ∙ sym places)
     c.args.face c.requires.positive here c.requires.inside done.triangles done.outer)
 
@@ -26,7 +26,7 @@ pub returns-clause-grows : goal.returns-clause-grows
 returns-clause-grows g c =
     let old = c.args.dcel.now in
     let done = c.insert_into_triangle-vertex.ensures in
-    grows_inside old c.insert_into_triangle-vertex.new.self c.requires.kept.valid c.requires.kept.fits c.num_vertices.ensures.whole (map g.V.HasPosition.place old.vertices) (g.V.HasPosition.place c.args.value) _ _ _ _ _ _ c.args.face _ c.requires.positive c.requires.within c.requires.inside done.directed done.faces done.edges done.triangles (ap (λ d. d.outer) done.contents)
+    grows_inside old c.insert_into_triangle-vertex.new.self c.requires.kept.valid c.requires.kept.fits c.recall_invariant.ensures.whole (map g.V.HasPosition.place old.vertices) (g.V.HasPosition.place c.args.value) _ _ _ _ _ _ c.args.face _ c.requires.positive c.requires.within c.requires.inside done.directed done.faces done.edges done.triangles (ap (λ d. d.outer) done.contents)
 
 pub returns-clause-made : goal.returns-clause-made
 returns-clause-made g c =

@@ -33,7 +33,7 @@ returns-then-was_constraint-clause-constraints g c =
     let laws = g.met.M.ConstraintMarker in
     let written = c.make_constraint.ensures in
     let has = had_mark marker.marks marker.constraints laws.constraints_are_marked c.is_constraint_edge-was_constraint.result old.undirected (c.args.edge / 2) done.edges.edge.value (own_ends old (whole_mesh g.V.HasPosition.place old c.requires.kept) (c.args.edge / 2) done.edges.edge done.edges.was).0
-        (subst (λ k. IsTrue c.is_constraint_edge-was_constraint.result ↔ Contains (marker.constraints old.undirected) k) c.as_undirected.ensures c.is_constraint_edge-was_constraint.ensures) c.if-was_constraint.true in
+    (subst (λ k. IsTrue c.is_constraint_edge-was_constraint.result ↔ Contains (marker.constraints old.undirected) k) c.as_undirected.ensures c.is_constraint_edge-was_constraint.ensures) c.if-was_constraint.true in
     split_with_mark g.V.HasPosition.place c.args.value old new c.requires.kept (returns-then-was_constraint-clause-kept g c) (written_vertices g.V.HasPosition.place mid new _ _ written ∙ done.vertices)
     marker.marks marker.constraints laws.constraints_are_marked _ g.met.M.FreeByDefault.default_is_free _ _ _ mid (whole_mesh g.V.HasPosition.place mid done.kept) done.edges
     done.vertex (written_mesh g.V.HasPosition.place mid new _ _ written) c.args.edge refl c.requires.on_edge marker.marked written has (λ d. laws.marked_has_mark d (laws.can_mark_where_marked done.edges.edge.value has))
@@ -46,7 +46,7 @@ returns-else-was_constraint-clause-constraints g c =
     let marker = g.M.ConstraintMarker in
     let laws = g.met.M.ConstraintMarker in
     let none = had_none marker.marks marker.constraints laws.constraints_are_marked c.is_constraint_edge-was_constraint.result old.undirected (c.args.edge / 2) done.edges.edge.value (own_ends old (whole_mesh g.V.HasPosition.place old c.requires.kept) (c.args.edge / 2) done.edges.edge done.edges.was).0
-        (subst (λ k. IsTrue c.is_constraint_edge-was_constraint.result ↔ Contains (marker.constraints old.undirected) k) c.as_undirected.ensures c.is_constraint_edge-was_constraint.ensures) c.if-was_constraint.false in
+    (subst (λ k. IsTrue c.is_constraint_edge-was_constraint.result ↔ Contains (marker.constraints old.undirected) k) c.as_undirected.ensures c.is_constraint_edge-was_constraint.ensures) c.if-was_constraint.false in
     split_without_mark g.V.HasPosition.place c.args.value old mid c.requires.kept done.kept done.vertices
     marker.marks marker.constraints laws.constraints_are_marked _ g.met.M.FreeByDefault.default_is_free _ _ _ mid (whole_mesh g.V.HasPosition.place mid done.kept) done.edges
     done.vertex refl c.args.edge refl c.requires.on_edge refl none

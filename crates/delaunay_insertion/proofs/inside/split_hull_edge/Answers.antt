@@ -1,6 +1,6 @@
 use Rattle.std.proofs.Common.{◌/◌, get_or, ◌≤◌, ◌<◌, ◌∙◌, ◌+◌, length, map, ap, sym, arith}
 use Rattle.std.proofs.lemmas.List.{length-map}
-use Rattle.half_edge_mesh.proofs.Fits.{length-grown}
+use Rattle.half_edge_dcel.proofs.Fits.{length-grown}
 use Rattle.delaunay_insertion.proofs.Growing.{grown}
 use Rattle.delaunay_insertion.proofs.InsertionCases.{length_moved, within_outer_shape}
 use Rattle.delaunay_insertion.proofs.DataGrowing.{grows_within_hull}
@@ -24,7 +24,7 @@ returns-clause-kept g c =
     let edges : length new.undirected ≤ length old.undirected + 3 = let f = length_moved _ old.undirected new.undirected _ 1 done.undirected in omega (arith, f) in
     let faces : length new.faces ≤ length old.faces + 2 = let f = length-grown _ old.faces new.faces 1 done.faces in omega (arith, f) in
     let here : c.args.edge < length old.mesh.half_edges = let w = c.requires.within in let f = c.requires.kept.fits.directed_fit in omega (arith, w, f) in
-    grown g.V.HasPosition.place old new c.args.value c.requires.kept (ap (λ d. d.vertices) done.contents) c.requires.in_range c.num_vertices.ensures.whole edges faces
+    grown g.V.HasPosition.place old new c.args.value c.requires.kept (ap (λ d. d.vertices) done.contents) c.requires.in_range c.recall_invariant.ensures.whole edges faces
     (within_outer_shape (map g.V.HasPosition.place old.vertices) (g.V.HasPosition.place c.args.value) old.mesh new.mesh c.split_half_edge-vertex.result.0 c.requires.kept.valid c.requires.kept.shape (done.vertex ∙ sym places)
     c.args.edge _ _ (record { within = here; inner = c.requires.inner; outer = c.requires.outer }) (places ∙ c.requires.kept.fits.vertices_fit) c.requires.on_edge done.triangles done.outer)
 
@@ -33,7 +33,7 @@ returns-clause-grows g c =
     let old = c.args.dcel.now in
     let done = c.split_half_edge-vertex.ensures in
     let here : c.args.edge < length old.mesh.half_edges = let w = c.requires.within in let f = c.requires.kept.fits.directed_fit in omega (arith, w, f) in
-    grows_within_hull old c.split_half_edge-vertex.new.self c.requires.kept.valid c.requires.kept.fits c.num_vertices.ensures.whole (map g.V.HasPosition.place old.vertices) (g.V.HasPosition.place c.args.value) _ _ _ c.args.edge _ _ _ _ _ _ here c.requires.inner c.requires.on_edge done.directed done.faces done.edges done.triangles (ap (λ d. d.outer) done.contents)
+    grows_within_hull old c.split_half_edge-vertex.new.self c.requires.kept.valid c.requires.kept.fits c.recall_invariant.ensures.whole (map g.V.HasPosition.place old.vertices) (g.V.HasPosition.place c.args.value) _ _ _ c.args.edge _ _ _ _ _ _ here c.requires.inner c.requires.on_edge done.directed done.faces done.edges done.triangles (ap (λ d. d.outer) done.contents)
 
 pub returns-clause-made : goal.returns-clause-made
 returns-clause-made g c =

@@ -14,7 +14,7 @@ returns-clause-kept g c =
     let is = c.append_unconnected_vertex-vertex.ensures.contents in
     let edges : length new.undirected ≤ length old.undirected + 3 = let e = ap (λ d. length d.undirected) is in omega (arith, e) in
     let faces : length new.faces ≤ length old.faces + 2 = let e = ap (λ d. length d.faces) is in omega (arith, e) in
-    grown g.V.HasPosition.place old new c.args.value c.requires.kept (ap (λ d. d.vertices) is) c.requires.in_range c.num_vertices.ensures.whole edges faces
+    grown g.V.HasPosition.place old new c.args.value c.requires.kept (ap (λ d. d.vertices) is) c.requires.in_range c.recall_invariant.ensures.whole edges faces
     (subst (λ m. IsMesh (map g.V.HasPosition.place old.vertices ++ g.V.HasPosition.place c.args.value ∷ []) (faces_of m) (outer_of m)) (sym (ap (λ d. d.mesh) is))
     (first_shape (map g.V.HasPosition.place old.vertices) (g.V.HasPosition.place c.args.value) old.mesh (length-map old.vertices g.V.HasPosition.place ∙ c.requires.none) c.requires.kept.shape))
 

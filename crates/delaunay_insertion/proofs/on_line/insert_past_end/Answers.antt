@@ -1,7 +1,7 @@
 use Rattle.std.proofs.Common.{◌≡◌, ◌≤◌, ◌<◌, ◌∙◌, ◌+◌, refl, length, map, ap, sym, subst, arith}
 use Rattle.std.proofs.lemmas.List.{length-map}
-use Rattle.half_edge_links.specs.Mesh.{origin}
-use Rattle.half_edge_mesh.proofs.Fits.{length-grown}
+use Rattle.half_edge_mesh.specs.Mesh.{origin}
+use Rattle.half_edge_dcel.proofs.Fits.{length-grown}
 use Rattle.plane.specs.Fraction.{whole}
 use Rattle.plane.specs.Location.{IsPast}
 use Rattle.plane_tiling.specs.Local.{alone}
@@ -25,7 +25,7 @@ returns-clause-kept g c =
     let here : c.args.edge < length old.mesh.half_edges = let w = c.requires.within in let f = c.requires.kept.fits.directed_fit in omega (arith, w, f) in
     let start_in = (c.requires.kept.valid.sound.edges c.args.edge here).origin_in in
     let fit = c.requires.kept.fits.vertices_fit in
-    grown g.V.HasPosition.place old new c.args.value c.requires.kept (ap (λ d. d.vertices) is) c.requires.in_range c.num_vertices.ensures.whole edges faces
+    grown g.V.HasPosition.place old new c.args.value c.requires.kept (ap (λ d. d.vertices) is) c.requires.in_range c.recall_invariant.ensures.whole edges faces
     (extended_shape (map g.V.HasPosition.place old.vertices) (g.V.HasPosition.place c.args.value) old.mesh new.mesh end c.extend_line-vertex.result (length old.directed) (sym c.requires.kept.fits.faces_fit ∙ c.requires.one_face) c.requires.kept.valid.sound (places ∙ c.requires.kept.fits.vertices_fit) c.requires.kept.shape c.requires.apart
     (omega (arith, starts, start_in, fit, places)) (c.extend_line-vertex.ensures.vertex ∙ sym places)
     (subst (λ i. IsPast (alone (map g.V.HasPosition.place old.vertices)) i (whole (g.V.HasPosition.place c.args.value))) (sym starts) c.requires.past)
@@ -35,7 +35,7 @@ pub returns-clause-grows : goal.returns-clause-grows
 returns-clause-grows g c =
     let old = c.args.dcel.now in
     let done = c.extend_line-vertex.ensures in
-    grows_past_end old c.extend_line-vertex.new.self c.requires.kept.valid c.requires.kept.fits c.num_vertices.ensures.whole (map g.V.HasPosition.place old.vertices) (g.V.HasPosition.place c.args.value) _ _ _ _ c.requires.one_face done.directed done.edges (ap (λ d. d.outer) done.contents)
+    grows_past_end old c.extend_line-vertex.new.self c.requires.kept.valid c.requires.kept.fits c.recall_invariant.ensures.whole (map g.V.HasPosition.place old.vertices) (g.V.HasPosition.place c.args.value) _ _ _ _ c.requires.one_face done.directed done.edges (ap (λ d. d.outer) done.contents)
 
 pub returns-clause-made : goal.returns-clause-made
 returns-clause-made g c = made_none c.args.dcel.now.mesh c.extend_line-vertex.new.self.mesh _ c.extend_line-vertex.ensures.triangles

@@ -1,7 +1,7 @@
 use Rattle.std.proofs.Common.{◌≤◌, ◌∙◌, ◌⊎◌, ◌+◌, length, map, ap, sym, subst, arith}
 use Rattle.std.proofs.lemmas.List.{length-map}
-use Rattle.half_edge_links.specs.Outline.{OuterChanges, IsEdge}
-use Rattle.half_edge_mesh.proofs.Fits.{length-grown}
+use Rattle.half_edge_mesh.specs.Outline.{OuterChanges, IsEdge}
+use Rattle.half_edge_dcel.proofs.Fits.{length-grown}
 use Rattle.delaunay_insertion.proofs.Growing.{grown, second_shape}
 use Rattle.delaunay_insertion.proofs.DataGrowing.{grows_from_one}
 use Rattle.delaunay_insertion.proofs.MadeFaces.{made_none}
@@ -21,7 +21,7 @@ returns-clause-kept g c =
     let places = length-map old.vertices g.V.HasPosition.place in
     let edges : length new.undirected ≤ length old.undirected + 3 = let e = ap (λ d. length d.undirected) is in let f = length-grown _ middle.undirected new.undirected 1 c.setup_initial_two_vertices.ensures.undirected in omega (arith, e, f) in
     let faces : length new.faces ≤ length old.faces + 2 = let e = ap (λ d. length d.faces) is in let f = ap (λ d. length d.faces) then in omega (arith, e, f) in
-    grown g.V.HasPosition.place old new c.args.value c.requires.kept (ap (λ d. d.vertices) then ∙ ap (λ d. d.vertices) is) c.requires.in_range c.num_vertices-2.ensures.whole edges faces
+    grown g.V.HasPosition.place old new c.args.value c.requires.kept (ap (λ d. d.vertices) then ∙ ap (λ d. d.vertices) is) c.requires.in_range c.recall_invariant-2.ensures.whole edges faces
     (second_shape (map g.V.HasPosition.place old.vertices) (g.V.HasPosition.place c.args.value) old.mesh new.mesh a b (places ∙ c.requires.one) c.requires.kept.valid.sound (places ∙ c.requires.kept.fits.vertices_fit) c.requires.kept.shape c.requires.apart c.from_index.ensures (c.append_unconnected_vertex-vertex.ensures.vertex ∙ sym places)
     c.setup_initial_two_vertices.ensures.triangles
     (subst (λ m. OuterChanges m new.mesh (λ h. ⊥) (λ h i j. IsEdge 0 a b h i j ⊎ IsEdge 1 b a h i j)) (ap (λ d. d.mesh) is) c.setup_initial_two_vertices.ensures.outer))

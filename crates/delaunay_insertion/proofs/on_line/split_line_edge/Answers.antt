@@ -1,6 +1,6 @@
 use Rattle.std.proofs.Common.{◌/◌, get_or, ◌≤◌, ◌<◌, ◌∙◌, ◌+◌, length, map, ap, sym, arith}
 use Rattle.std.proofs.lemmas.List.{length-map}
-use Rattle.half_edge_mesh.proofs.Fits.{length-grown}
+use Rattle.half_edge_dcel.proofs.Fits.{length-grown}
 use Rattle.delaunay_insertion.proofs.Growing.{grown, split_shape}
 use Rattle.delaunay_insertion.proofs.DataGrowing.{grows_within_line}
 use Rattle.delaunay_insertion.proofs.MadeFaces.{made_none}
@@ -18,7 +18,7 @@ returns-clause-kept g c =
     let edges : length new.undirected ≤ length old.undirected + 3 = let f = length-grown _ old.undirected new.undirected 1 done.undirected in omega (arith, f) in
     let faces : length new.faces ≤ length old.faces + 2 = let e = ap (λ d. length d.faces) is in omega (arith, e) in
     let here : c.args.edge < length old.mesh.half_edges = let w = c.requires.within in let f = c.requires.kept.fits.directed_fit in omega (arith, w, f) in
-    grown g.V.HasPosition.place old new c.args.value c.requires.kept (ap (λ d. d.vertices) is) c.requires.in_range c.num_vertices.ensures.whole edges faces
+    grown g.V.HasPosition.place old new c.args.value c.requires.kept (ap (λ d. d.vertices) is) c.requires.in_range c.recall_invariant.ensures.whole edges faces
     (split_shape (map g.V.HasPosition.place old.vertices) (g.V.HasPosition.place c.args.value) old.mesh new.mesh c.args.edge c.split_edge_when_all_vertices_on_line-vertex.result.0 (length old.directed) (sym c.requires.kept.fits.faces_fit ∙ c.requires.one_face) c.requires.kept.valid (places ∙ c.requires.kept.fits.vertices_fit) c.requires.kept.shape here
     (done.vertex ∙ sym places) c.requires.on_edge done.triangles done.outer)
 
@@ -26,7 +26,7 @@ pub returns-clause-grows : goal.returns-clause-grows
 returns-clause-grows g c =
     let old = c.args.dcel.now in
     let done = c.split_edge_when_all_vertices_on_line-vertex.ensures in
-    grows_within_line old c.split_edge_when_all_vertices_on_line-vertex.new.self c.requires.kept.valid c.requires.kept.fits c.num_vertices.ensures.whole (map g.V.HasPosition.place old.vertices) (g.V.HasPosition.place c.args.value) _ _ c.args.edge _ _ _ c.requires.one_face c.requires.on_edge done.directed done.edges (ap (λ d. d.outer) done.contents)
+    grows_within_line old c.split_edge_when_all_vertices_on_line-vertex.new.self c.requires.kept.valid c.requires.kept.fits c.recall_invariant.ensures.whole (map g.V.HasPosition.place old.vertices) (g.V.HasPosition.place c.args.value) _ _ c.args.edge _ _ _ c.requires.one_face c.requires.on_edge done.directed done.edges (ap (λ d. d.outer) done.contents)
 
 pub returns-clause-made : goal.returns-clause-made
 returns-clause-made g c = made_none c.args.dcel.now.mesh c.split_edge_when_all_vertices_on_line-vertex.new.self.mesh _ c.split_edge_when_all_vertices_on_line-vertex.ensures.triangles

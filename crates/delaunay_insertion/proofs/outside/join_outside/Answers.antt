@@ -1,7 +1,7 @@
 use Rattle.std.proofs.Common.{map, ◌≡◌, ◌+◌, ℕ, length, ap, sym, subst, arith}
 use Rattle.std.proofs.lemmas.List.{length-map}
-use Rattle.half_edge_links.specs.Mesh.{next}
-use Rattle.half_edge_mesh.proofs.Fits.{length-grown}
+use Rattle.half_edge_mesh.specs.Mesh.{next}
+use Rattle.half_edge_dcel.proofs.Fits.{length-grown}
 use Rattle.delaunay_legalization.specs.State.{state_of}
 use Rattle.delaunay_insertion.proofs.DataGrowing.{grows_by_face, grows_on}
 use Rattle.delaunay_insertion.proofs.Joining.{IsJoining, IsJoiningBack, joining_begins, joining_ends, room_for_face, unseen_as, sites_grown, grown_count, has_vertex, ahead_apart, step_ahead, before_outer, before_apart, step_behind}
@@ -57,7 +57,7 @@ loop-after-preserved g c =
       subst (λ k. IsJoining g.V.HasPosition.place c.args.dcel.now new c.args.value k c.from_index-behind.result) (sym done.edge) (step_ahead g.V.HasPosition.place c.args.dcel.now c.args.value now c.loop-after.ahead c.from_index-behind.result c.create_new_face_adjacent_to_edge-vertex.result c.in-Some._after c.loop-after.invariant.0 c.create_new_face_adjacent_to_edge-vertex.ensures.vertex c.in-Some.ensures.is c.in-Some.ensures.some new c.in-Some.ensures.whole done.contents
           (length-grown _ now.directed new.directed 2 done.directed) (length-grown _ now.undirected new.undirected 1 done.undirected) (length-grown _ now.faces new.faces 1 done.faces) done.triangles done.outer).0,
       grows_on (map g.V.HasPosition.place c.args.dcel.now.vertices) (g.V.HasPosition.place c.args.value) (state_of c.args.dcel.now) (state_of now) (state_of new) c.loop-after.invariant.1
-          (grows_by_face now new c.in-Some.ensures.whole.valid c.in-Some.ensures.whole.fits c.num_directed_edges.ensures.whole (map g.V.HasPosition.place c.args.dcel.now.vertices) (g.V.HasPosition.place c.args.value) _ _ _ _ _ _ _ _ _ done.directed done.faces done.edges done.triangles (ap (λ d. d.outer) done.contents)),
+          (grows_by_face now new c.in-Some.ensures.whole.valid c.in-Some.ensures.whole.fits c.recall_invariant.ensures.whole (map g.V.HasPosition.place c.args.dcel.now.vertices) (g.V.HasPosition.place c.args.value) _ _ _ _ _ _ _ _ _ done.directed done.faces done.edges done.triangles (ap (λ d. d.outer) done.contents)),
       adds_on _ (edges c.args.dcel.now) (edges now) (edges new) c.loop-after.invariant.2 (adds_only _ (edges now) (edges new) _ done.edges),
     )
 
@@ -114,7 +114,7 @@ loop-before-preserved g c =
       subst (λ k. IsJoiningBack g.V.HasPosition.place c.args.dcel.now new c.args.value k) (sym done.edge) (step_behind g.V.HasPosition.place c.args.dcel.now c.args.value c.loop-before.dcel c.loop-before.behind c.create_new_face_adjacent_to_edge-vertex.result c.in-Some-seen_before.before c.loop-before.invariant.0 c.create_new_face_adjacent_to_edge-vertex.ensures.vertex c.in-Some-seen_before.ensures.is.0 c.in-Some-seen_before.ensures.some c.in-Some-seen_before.ensures.whole new done.contents
           (length-grown _ now.directed new.directed 2 done.directed) (length-grown _ now.undirected new.undirected 1 done.undirected) (length-grown _ now.faces new.faces 1 done.faces) done.triangles done.outer done.mesh).0,
       grows_on (map g.V.HasPosition.place c.args.dcel.now.vertices) (g.V.HasPosition.place c.args.value) (state_of c.args.dcel.now) (state_of now) (state_of new) c.loop-before.invariant.1
-          (grows_by_face now new c.in-Some-seen_before.ensures.whole.valid c.in-Some-seen_before.ensures.whole.fits c.num_directed_edges-in-Some-seen_before.ensures.whole (map g.V.HasPosition.place c.args.dcel.now.vertices) (g.V.HasPosition.place c.args.value) _ _ _ _ _ _ _ _ _ done.directed done.faces done.edges done.triangles (ap (λ d. d.outer) done.contents)),
+          (grows_by_face now new c.in-Some-seen_before.ensures.whole.valid c.in-Some-seen_before.ensures.whole.fits c.recall_invariant-in-Some-seen_before.ensures.whole (map g.V.HasPosition.place c.args.dcel.now.vertices) (g.V.HasPosition.place c.args.value) _ _ _ _ _ _ _ _ _ done.directed done.faces done.edges done.triangles (ap (λ d. d.outer) done.contents)),
       adds_on _ (edges c.args.dcel.now) (edges now) (edges new) c.loop-before.invariant.2 (adds_only _ (edges now) (edges new) _ done.edges),
     )
 

@@ -7,7 +7,7 @@ loop-edge-init g c = underway_begins g.M.ConstraintMarker.constraints (map g.V.H
 
 pub legalize_edge-requires-clause-fits : goal.legalize_edge-requires-clause-fits
 legalize_edge-requires-clause-fits g c =
-    step_fits g.V.HasPosition.place g.M.ConstraintMarker.constraints c.args.dcel.now c.loop-edge.dcel c.loop-edge.work.items _ _ c.args.flips.now c.loop-edge.flips c.loop-edge.invariant c.pop.new.self.items c.in-Some.edge c.in-Some.ensures.items c.num_directed_edges.ensures.whole.valid c.requires.fits
+    step_fits g.V.HasPosition.place g.M.ConstraintMarker.constraints c.args.dcel.now c.loop-edge.dcel c.loop-edge.work.items _ _ c.args.flips.now c.loop-edge.flips c.loop-edge.invariant c.pop.new.self.items c.in-Some.edge c.in-Some.ensures.items c.recall_invariant.ensures.whole.valid c.requires.fits
 
 pub loop-edge-preserved : goal.loop-edge-preserved
 loop-edge-preserved g c =
@@ -22,7 +22,7 @@ pub returns-clause-few_flips : goal.returns-clause-few_flips
 returns-clause-few_flips g c = underway_counts g.V.HasPosition.place g.M.ConstraintMarker.constraints c.args.dcel.now c.loop-edge.dcel c.loop-edge.work.items _ _ c.args.flips.now c.loop-edge.flips c.loop-edge.invariant
 
 pub returns-clause-indexes : goal.returns-clause-indexes
-returns-clause-indexes g c = underway_keeps g.V.HasPosition.place g.M.ConstraintMarker.constraints c.args.dcel.now c.loop-edge.dcel c.loop-edge.work.items _ _ c.args.flips.now c.loop-edge.flips c.loop-edge.invariant c.num_directed_edges-2.ensures.whole.valid
+returns-clause-indexes g c = underway_keeps g.V.HasPosition.place g.M.ConstraintMarker.constraints c.args.dcel.now c.loop-edge.dcel c.loop-edge.work.items _ _ c.args.flips.now c.loop-edge.flips c.loop-edge.invariant c.recall_invariant-2.ensures.whole.valid
 
 pub returns-clause-constraints : goal.returns-clause-constraints
 returns-clause-constraints g c = c.loop-edge.invariant.constraints

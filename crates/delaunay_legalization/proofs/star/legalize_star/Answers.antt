@@ -11,4 +11,4 @@ legalize-requires-clause-passing g c =
 
 pub returns-clause-legal : goal.returns-clause-legal
 returns-clause-legal g c =
-    legalized g.V.HasPosition.place g.M.ConstraintMarker.constraints c.args.dcel.now c.legalize.new.dcel c.requires.kept c.legalize.ensures.contents c.num_vertices.ensures.whole c.legalize.ensures.shape c.legalize.ensures.constraints c.legalize.ensures.locally_delaunay
+    legalized g.V.HasPosition.place g.M.ConstraintMarker.constraints c.args.dcel.now c.legalize.new.dcel c.requires.kept c.legalize.ensures.contents c.recall_invariant.ensures.whole c.legalize.ensures.shape c.legalize.ensures.constraints c.legalize.ensures.locally_delaunay

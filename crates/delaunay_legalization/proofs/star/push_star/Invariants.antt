@@ -1,6 +1,6 @@
 use Rattle.std.proofs.Common.{vec_capacity}
 use Rattle.delaunay_legalization.proofs.Stars.{IsPushing}
-use Rattle.half_edge_views.specs.Rounds.{out_edges_left}
+use Rattle.half_edge_mesh.specs.Rounds.{out_edges_left}
 use Rattle.delaunay_legalization.proofs.star.push_star.Given as goal
 
 abbrev pub invariant-loop-edge : goal.invariant-loop-edge

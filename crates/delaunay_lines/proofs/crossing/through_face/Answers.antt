@@ -1,10 +1,10 @@
 use Rattle.std.proofs.Common.{◌≡◌, ℕ, map, sym, ap, subst, ◌∙◌}
-use Rattle.half_edge_links.specs.Mesh.{origin, rev}
+use Rattle.half_edge_mesh.specs.Mesh.{origin, rev}
 use Rattle.plane.specs.Fraction.{whole}
 use Rattle.plane.specs.Side.{side}
 use Rattle.plane.specs.Pairs.{place}
 use Rattle.plane.specs.Line.{across, at_vertex}
-use Rattle.plane_lines.specs.Steps.{ComesNext}
+use Rattle.plane_segments.specs.Steps.{ComesNext}
 use Rattle.mesh_embedding.specs.Drawn.{drawn}
 use Rattle.delaunay_core.specs.Place.{place_of}
 use Rattle.delaunay_legalization.proofs.Questions.{both_ways}

@@ -1,6 +1,6 @@
 use Rattle.std.proofs.Common.{ℕ, ◌<◌, map, sym, ap, subst, ◌∙◌, arith}
-use Rattle.half_edge_links.specs.Mesh.{origin}
-use Rattle.half_edge_views.specs.Rounds.{GivesRound, out_edges_left}
+use Rattle.half_edge_mesh.specs.Mesh.{origin}
+use Rattle.half_edge_mesh.specs.Rounds.{GivesRound, out_edges_left}
 use Rattle.delaunay_core.specs.Place.{place_of}
 use Rattle.delaunay_legalization.specs.Known.{point_at}
 use Rattle.delaunay_legalization.proofs.Questions.{both_ways}

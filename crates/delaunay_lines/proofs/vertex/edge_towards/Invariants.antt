@@ -1,5 +1,5 @@
 use Rattle.std.proofs.Common.{ℕ, map}
-use Rattle.half_edge_views.specs.Rounds.{out_edges_left}
+use Rattle.half_edge_mesh.specs.Rounds.{out_edges_left}
 use Rattle.delaunay_core.specs.Place.{place_of}
 use Rattle.delaunay_lines.specs.Steps.{LeadsTo}
 use Rattle.delaunay_lines.proofs.Round.{IsLooking}

@@ -1,6 +1,6 @@
 use Rattle.std.proofs.Common.{◌≡◌, ℕ, arith, map, length}
 use Rattle.std.specs.Prelude.{ℤ}
-use Rattle.half_edge_links.specs.Mesh.{origin}
+use Rattle.half_edge_mesh.specs.Mesh.{origin}
 use Rattle.plane.specs.Fraction.{whole}
 use Rattle.plane.specs.Circle.{gap}
 use Rattle.plane.specs.Pairs.{place}

@@ -1,5 +1,5 @@
 use Rattle.std.proofs.Common.{arith, map}
-use Rattle.half_edge_links.specs.Mesh.{face_edge}
+use Rattle.half_edge_mesh.specs.Mesh.{face_edge}
 use Rattle.delaunay_core.specs.Place.{place_of}
 use Rattle.delaunay_legalization.specs.Parts.{IsInsideFaceOf}
 use Rattle.delaunay_legalization.proofs.Questions.{both_ways}

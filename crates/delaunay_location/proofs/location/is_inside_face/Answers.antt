@@ -1,5 +1,5 @@
 use Rattle.std.proofs.Common.{map}
-use Rattle.half_edge_links.specs.Mesh.{origin, next, prev, face_edge}
+use Rattle.half_edge_mesh.specs.Mesh.{origin, next, prev, face_edge}
 use Rattle.delaunay_core.specs.Place.{place_of}
 use Rattle.delaunay_legalization.proofs.Questions.{covered_at}
 use Rattle.delaunay_location.proofs.Questions.{turns_as_face, inside_face, both_iff}

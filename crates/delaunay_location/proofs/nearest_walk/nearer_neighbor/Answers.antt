@@ -1,7 +1,7 @@
 use Rattle.std.proofs.Common.{◌≡◌, ℕ, ◌<◌, length, map, sym, ap, ◌∙◌, subst, arith}
 use Rattle.std.specs.Prelude.{◌<ℤ◌}
-use Rattle.half_edge_links.specs.Mesh.{origin, rev}
-use Rattle.half_edge_views.specs.Rounds.{GivesRound, out_edges_left}
+use Rattle.half_edge_mesh.specs.Mesh.{origin, rev}
+use Rattle.half_edge_mesh.specs.Rounds.{GivesRound, out_edges_left}
 use Rattle.plane.specs.Fraction.{whole}
 use Rattle.plane.specs.Circle.{gap}
 use Rattle.plane.specs.Pairs.{place}

@@ -1,7 +1,7 @@
 use Rattle.std.proofs.Common.{map, ℕ}
 use Rattle.std.specs.Prelude.{◌<ℤ◌}
-use Rattle.half_edge_links.specs.Mesh.{origin, rev}
-use Rattle.half_edge_views.specs.Rounds.{out_edges_left}
+use Rattle.half_edge_mesh.specs.Mesh.{origin, rev}
+use Rattle.half_edge_mesh.specs.Rounds.{out_edges_left}
 use Rattle.plane.specs.Fraction.{whole}
 use Rattle.plane.specs.Circle.{gap}
 use Rattle.plane.specs.Pairs.{place}

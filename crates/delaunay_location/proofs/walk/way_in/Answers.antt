@@ -1,5 +1,5 @@
 use Rattle.std.proofs.Common.{map}
-use Rattle.half_edge_links.specs.Mesh.{origin, rev}
+use Rattle.half_edge_mesh.specs.Mesh.{origin, rev}
 use Rattle.delaunay_core.specs.Place.{place_of}
 use Rattle.delaunay_legalization.proofs.Questions.{covered_at}
 use Rattle.delaunay_location.proofs.walk.way_in.Goals as goal

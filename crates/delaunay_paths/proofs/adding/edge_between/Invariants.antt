@@ -1,5 +1,5 @@
 use Rattle.std.proofs.Common.{◌≡◌, ◌<◌, ℕ}
-use Rattle.half_edge_links.specs.Mesh.{origin, rev}
+use Rattle.half_edge_mesh.specs.Mesh.{origin, rev}
 use Rattle.delaunay_paths.proofs.adding.edge_between.Given as goal
 
 abbrev pub invariant-loop-index : goal.invariant-loop-index

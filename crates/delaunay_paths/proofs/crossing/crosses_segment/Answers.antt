@@ -9,7 +9,7 @@ use Rattle.delaunay_paths.proofs.crossing.crosses_segment.Goals as goal
 
 pub returns : goal.returns
 returns g c =
-    let w = c.num_directed_edges.ensures.whole in
+    let w = c.recall_invariant.ensures.whole in
     let points = map g.V.HasPosition.place c.args.dcel.now.vertices in
     let m = c.args.dcel.now.mesh in
     crossing_by points (placed_apart points (faces_of m) (outer_of m) c.requires.shape) m w.valid (length-map c.args.dcel.now.vertices g.V.HasPosition.place ∙ w.fits.vertices_fit) c.args.from c.args.to

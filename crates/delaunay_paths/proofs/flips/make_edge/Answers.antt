@@ -28,4 +28,4 @@ loop-first-smaller g c =
 
 pub returns-clause-edge : goal.returns-clause-edge
 returns-clause-edge g c =
-    making_ends g.V.HasPosition.place c.args.dcel.now c.loop-first.dcel c.args.from c.args.to c.loop-first.invariant c.requires.free c.num_directed_edges.ensures.whole c.in_default.ensures
+    making_ends g.V.HasPosition.place c.args.dcel.now c.loop-first.dcel c.args.from c.args.to c.loop-first.invariant c.requires.free c.recall_invariant.ensures.whole c.in_default.ensures

@@ -1,5 +1,5 @@
 use Rattle.std.proofs.Common.{map}
-use Rattle.plane_paths.specs.Measure.{crossing_sum}
+use Rattle.plane_segments.specs.Measure.{crossing_sum}
 use Rattle.mesh_embedding.specs.Drawn.{faces_of}
 use Rattle.delaunay_paths.proofs.Making.{IsMaking}
 use Rattle.delaunay_paths.proofs.flips.make_edge.Given as goal

@@ -7,7 +7,7 @@ use Rattle.delaunay_removal.proofs.removal.isolate.Goals as goal
 
 pub first_edge-first-requires-clause-some : goal.first_edge-first-requires-clause-some
 first_edge-first-requires-clause-some g c =
-    vertex_has_edge (map g.V.HasPosition.place c.args.dcel.now.vertices) c.args.dcel.now.mesh c.num_vertices.ensures.whole.valid.sound (in_the_plane g.V.HasPosition.place c.args.dcel.now c.requires.kept c.requires.some_face) c.args.vertex
+    vertex_has_edge (map g.V.HasPosition.place c.args.dcel.now.vertices) c.args.dcel.now.mesh c.recall_invariant.ensures.whole.valid.sound (in_the_plane g.V.HasPosition.place c.args.dcel.now c.requires.kept c.requires.some_face) c.args.vertex
     (subst (λ (n : ℕ). c.args.vertex < n) (sym (length-map c.args.dcel.now.vertices g.V.HasPosition.place)) c.requires.within)
 
 pub isolate_on_hull-requires-clause-shape : goal.isolate_on_hull-requires-clause-shape

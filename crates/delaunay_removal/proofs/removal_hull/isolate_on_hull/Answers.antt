@@ -1,34 +1,34 @@
 use Rattle.std.proofs.Common.{vec_capacity}
-use Rattle.half_edge_links.specs.Mesh.{origin}
+use Rattle.half_edge_mesh.specs.Mesh.{origin}
 use Rattle.delaunay_legalization.proofs.Questions.{both_ways}
 use Rattle.delaunay_removal.proofs.HullIsolating.{hull_sites, hull_first, hull_room, hull_named, flat_star, flat_side, hull_isolates}
 use Rattle.delaunay_removal.proofs.removal_hull.isolate_on_hull.Goals as goal
 
 pub is_corner-requires-clause-within : goal.is_corner-requires-clause-within
-is_corner-requires-clause-within g c = hull_first g.V.HasPosition.place c.args.dcel.now c.shrink_hull_star-count.new.dcel c.num_vertices.ensures.whole (origin c.args.dcel.now.mesh c.args.first) c.args.first c.shrink_hull_star-count.result c.shrink_hull_star-count.ensures.contents c.shrink_hull_star-count.ensures.star
+is_corner-requires-clause-within g c = hull_first g.V.HasPosition.place c.args.dcel.now c.shrink_hull_star-count.new.dcel c.recall_invariant.ensures.whole (origin c.args.dcel.now.mesh c.args.first) c.args.first c.shrink_hull_star-count.result c.shrink_hull_star-count.ensures.contents c.shrink_hull_star-count.ensures.star
 
 pub is_corner-requires-clause-sites : goal.is_corner-requires-clause-sites
-is_corner-requires-clause-sites g c = hull_sites g.V.HasPosition.place c.args.dcel.now c.shrink_hull_star-count.new.dcel c.num_vertices.ensures.whole (origin c.args.dcel.now.mesh c.args.first) c.args.first c.shrink_hull_star-count.result c.shrink_hull_star-count.ensures.contents c.shrink_hull_star-count.ensures.star (g.P.PlaneTests.sites c.args.tests.now) c.requires.sites
+is_corner-requires-clause-sites g c = hull_sites g.V.HasPosition.place c.args.dcel.now c.shrink_hull_star-count.new.dcel c.recall_invariant.ensures.whole (origin c.args.dcel.now.mesh c.args.first) c.args.first c.shrink_hull_star-count.result c.shrink_hull_star-count.ensures.contents c.shrink_hull_star-count.ensures.star (g.P.PlaneTests.sites c.args.tests.now) c.requires.sites
 
 pub cut_corner-requires-clause-star : goal.cut_corner-requires-clause-star
-cut_corner-requires-clause-star g c = hull_named g.V.HasPosition.place c.args.dcel.now c.shrink_hull_star-count.new.dcel c.num_vertices.ensures.whole (origin c.args.dcel.now.mesh c.args.first) c.args.first c.shrink_hull_star-count.result c.shrink_hull_star-count.ensures.contents c.shrink_hull_star-count.ensures.star c.args.vertex c.requires.starts
+cut_corner-requires-clause-star g c = hull_named g.V.HasPosition.place c.args.dcel.now c.shrink_hull_star-count.new.dcel c.recall_invariant.ensures.whole (origin c.args.dcel.now.mesh c.args.first) c.args.first c.shrink_hull_star-count.result c.shrink_hull_star-count.ensures.contents c.shrink_hull_star-count.ensures.star c.args.vertex c.requires.starts
 
 pub cut_corner-requires-clause-corner : goal.cut_corner-requires-clause-corner
 cut_corner-requires-clause-corner g c = c.is_corner.ensures.0 c.if-is_corner.true
 
 pub cut_corner-requires-clause-room : goal.cut_corner-requires-clause-room
-cut_corner-requires-clause-room g c = hull_room g.V.HasPosition.place c.args.dcel.now c.shrink_hull_star-count.new.dcel c.num_vertices.ensures.whole (origin c.args.dcel.now.mesh c.args.first) c.args.first c.shrink_hull_star-count.result c.shrink_hull_star-count.ensures.contents c.shrink_hull_star-count.ensures.star (vec_capacity c.args.sides.now) c.requires.room
+cut_corner-requires-clause-room g c = hull_room g.V.HasPosition.place c.args.dcel.now c.shrink_hull_star-count.new.dcel c.recall_invariant.ensures.whole (origin c.args.dcel.now.mesh c.args.first) c.args.first c.shrink_hull_star-count.result c.shrink_hull_star-count.ensures.contents c.shrink_hull_star-count.ensures.star (vec_capacity c.args.sides.now) c.requires.room
 
 pub close_flat-requires-clause-star : goal.close_flat-requires-clause-star
-close_flat-requires-clause-star g c = flat_star g.V.HasPosition.place c.args.dcel.now c.shrink_hull_star-count.new.dcel c.num_vertices.ensures.whole (origin c.args.dcel.now.mesh c.args.first) c.args.first c.shrink_hull_star-count.result c.shrink_hull_star-count.ensures.contents c.shrink_hull_star-count.ensures.star c.shrink_hull_star-count.ensures.bent
+close_flat-requires-clause-star g c = flat_star g.V.HasPosition.place c.args.dcel.now c.shrink_hull_star-count.new.dcel c.recall_invariant.ensures.whole (origin c.args.dcel.now.mesh c.args.first) c.args.first c.shrink_hull_star-count.result c.shrink_hull_star-count.ensures.contents c.shrink_hull_star-count.ensures.star c.shrink_hull_star-count.ensures.bent
     (λ t. both_ways _ (c.is_corner.ensures.1 t) c.if-is_corner.false) c.args.vertex c.requires.starts
 
 pub close_flat-requires-clause-flat : goal.close_flat-requires-clause-flat
-close_flat-requires-clause-flat g c = flat_side g.V.HasPosition.place c.args.dcel.now c.shrink_hull_star-count.new.dcel c.num_vertices.ensures.whole (origin c.args.dcel.now.mesh c.args.first) c.args.first c.shrink_hull_star-count.result c.shrink_hull_star-count.ensures.contents c.shrink_hull_star-count.ensures.star c.shrink_hull_star-count.ensures.bent
+close_flat-requires-clause-flat g c = flat_side g.V.HasPosition.place c.args.dcel.now c.shrink_hull_star-count.new.dcel c.recall_invariant.ensures.whole (origin c.args.dcel.now.mesh c.args.first) c.args.first c.shrink_hull_star-count.result c.shrink_hull_star-count.ensures.contents c.shrink_hull_star-count.ensures.star c.shrink_hull_star-count.ensures.bent
     (λ t. both_ways _ (c.is_corner.ensures.1 t) c.if-is_corner.false) c.args.vertex c.requires.starts
 
 pub returns-then-is_corner-clause-isolates : goal.returns-then-is_corner-clause-isolates
-returns-then-is_corner-clause-isolates g c = hull_isolates g.V.HasPosition.place c.args.dcel.now c.shrink_hull_star-count.new.dcel c.num_vertices.ensures.whole (origin c.args.dcel.now.mesh c.args.first) c.args.first c.shrink_hull_star-count.result c.shrink_hull_star-count.ensures.contents c.shrink_hull_star-count.ensures.star c.cut_corner.new.dcel c.args.vertex c.requires.starts c.shrink_hull_star-count.ensures.beside c.cut_corner.ensures.isolates
+returns-then-is_corner-clause-isolates g c = hull_isolates g.V.HasPosition.place c.args.dcel.now c.shrink_hull_star-count.new.dcel c.recall_invariant.ensures.whole (origin c.args.dcel.now.mesh c.args.first) c.args.first c.shrink_hull_star-count.result c.shrink_hull_star-count.ensures.contents c.shrink_hull_star-count.ensures.star c.cut_corner.new.dcel c.args.vertex c.requires.starts c.shrink_hull_star-count.ensures.beside c.cut_corner.ensures.isolates
 
 pub returns-else-is_corner-clause-isolates : goal.returns-else-is_corner-clause-isolates
-returns-else-is_corner-clause-isolates g c = hull_isolates g.V.HasPosition.place c.args.dcel.now c.shrink_hull_star-count.new.dcel c.num_vertices.ensures.whole (origin c.args.dcel.now.mesh c.args.first) c.args.first c.shrink_hull_star-count.result c.shrink_hull_star-count.ensures.contents c.shrink_hull_star-count.ensures.star c.close_flat.new.dcel c.args.vertex c.requires.starts c.shrink_hull_star-count.ensures.beside c.close_flat.ensures
+returns-else-is_corner-clause-isolates g c = hull_isolates g.V.HasPosition.place c.args.dcel.now c.shrink_hull_star-count.new.dcel c.recall_invariant.ensures.whole (origin c.args.dcel.now.mesh c.args.first) c.args.first c.shrink_hull_star-count.result c.shrink_hull_star-count.ensures.contents c.shrink_hull_star-count.ensures.star c.close_flat.new.dcel c.args.vertex c.requires.starts c.shrink_hull_star-count.ensures.beside c.close_flat.ensures

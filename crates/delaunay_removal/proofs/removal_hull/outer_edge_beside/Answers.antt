@@ -1,5 +1,5 @@
 use Rattle.std.proofs.Common.{◌≡◌, length, ap, ◌∙◌, arith}
-use Rattle.half_edge_links.specs.Mesh.{origin, face, rev}
+use Rattle.half_edge_mesh.specs.Mesh.{origin, face, rev}
 use Rattle.delaunay_legalization.proofs.Questions.{both_ways}
 use Rattle.delaunay_removal.proofs.Searching.{search_goes_on}
 use Rattle.delaunay_removal.proofs.HullEdges.{faces_inner}
@@ -15,5 +15,5 @@ loop-i-preserved g c =
 
 pub returns-clause-none : goal.returns-clause-none
 returns-clause-none g c =
-    faces_inner c.args.dcel.now.mesh (origin c.args.dcel.now.mesh c.args.first) c.args.first c.count_edges-count.result c.num_directed_edges.ensures.whole.valid.sound c.count_edges-count.ensures
+    faces_inner c.args.dcel.now.mesh (origin c.args.dcel.now.mesh c.args.first) c.args.first c.count_edges-count.result c.recall_invariant.ensures.whole.valid.sound c.count_edges-count.ensures
     (λ i less. c.loop-i.invariant.none i (let e = c.loop-i-test.false in omega (arith, e, less)))

@@ -1,5 +1,5 @@
 use Rattle.std.proofs.Common.{map, refl}
-use Rattle.half_edge_links.specs.Mesh.{origin}
+use Rattle.half_edge_mesh.specs.Mesh.{origin}
 use Rattle.delaunay_removal.proofs.DataStays.{all_stands}
 use Rattle.delaunay_removal.proofs.HullStars.{has_two}
 use Rattle.delaunay_removal.proofs.HullShrinking.{hull_sites_stay, bent_at_end, hull_first_in, place_left, place_right, place_apart, hull_shrinking_goes_on}
@@ -12,8 +12,8 @@ loop-edge-init g c =
     record {
       contents = refl;
       star = star;
-      many = has_two (map g.V.HasPosition.place c.args.dcel.now.vertices) c.args.dcel.now.mesh c.num_vertices.ensures.whole.valid (origin c.args.dcel.now.mesh c.args.first) c.args.first c.count_edges-count.result star;
-      whole = c.num_vertices.ensures.whole;
+      many = has_two (map g.V.HasPosition.place c.args.dcel.now.vertices) c.args.dcel.now.mesh c.recall_invariant.ensures.whole.valid (origin c.args.dcel.now.mesh c.args.first) c.args.first c.count_edges-count.result star;
+      whole = c.recall_invariant.ensures.whole;
       beside = all_stands c.args.dcel.now (origin c.args.dcel.now.mesh c.args.first);
     }
 
@@ -35,7 +35,7 @@ turn_away-requires-clause-apart g c = place_apart g.V.HasPosition.place c.args.d
 pub loop-edge-preserved : goal.loop-edge-preserved
 loop-edge-preserved g c =
     hull_shrinking_goes_on g.V.HasPosition.place c.args.dcel.now c.loop-edge.dcel (origin c.args.dcel.now.mesh c.args.first) c.args.first c.loop-edge.count c.loop-edge.invariant c.in-Some.edge c.in-Some.ensures.place
-    c.turn_away.new.dcel c.num_directed_edges.ensures.whole c.in-Some.ensures.convex c.turn_away.ensures.contents c.turn_away.ensures.triangles c.turn_away.ensures.outer c.turn_away.ensures.beside
+    c.turn_away.new.dcel c.recall_invariant-2.ensures.whole c.in-Some.ensures.convex c.turn_away.ensures.contents c.turn_away.ensures.triangles c.turn_away.ensures.outer c.turn_away.ensures.beside
 
 pub returns-clause-bent : goal.returns-clause-bent
 returns-clause-bent g c = bent_at_end g.V.HasPosition.place c.args.dcel.now c.loop-edge.dcel (origin c.args.dcel.now.mesh c.args.first) c.args.first c.loop-edge.count c.loop-edge.invariant c.in_default.ensures.none

@@ -1,5 +1,5 @@
 use Rattle.std.proofs.Common.{◌∙◌}
-use Rattle.half_edge_links.specs.Mesh.{origin}
+use Rattle.half_edge_mesh.specs.Mesh.{origin}
 use Rattle.delaunay_removal.proofs.Isolating.{inner_as, same_sites, three_wheel, three_isolates, four_star, four_between, four_star_named, four_isolates}
 use Rattle.delaunay_removal.proofs.removal_inner.isolate_inner.Goals as goal
 
@@ -8,7 +8,7 @@ shrink_star-first-requires-clause-inner g c = inner_as c.args.dcel.now.mesh c.ar
 
 pub fill_three-requires-clause-wheel : goal.fill_three-requires-clause-wheel
 fill_three-requires-clause-wheel g c =
-    three_wheel g.V.HasPosition.place c.args.dcel.now c.shrink_star-first.new.dcel (origin c.args.dcel.now.mesh c.args.first) c.shrink_star-first.result.0 c.shrink_star-first.result.1 c.shrink_star-first.ensures.contents c.shrink_star-first.ensures.beside c.shrink_star-first.ensures.star c.num_vertices.ensures.whole c.if-count-eq3.true
+    three_wheel g.V.HasPosition.place c.args.dcel.now c.shrink_star-first.new.dcel (origin c.args.dcel.now.mesh c.args.first) c.shrink_star-first.result.0 c.shrink_star-first.result.1 c.shrink_star-first.ensures.contents c.shrink_star-first.ensures.beside c.shrink_star-first.ensures.star c.recall_invariant.ensures.whole c.if-count-eq3.true
 
 pub fill_three-requires-clause-starts : goal.fill_three-requires-clause-starts
 fill_three-requires-clause-starts g c = c.shrink_star-first.ensures.star.round.starts 0 ∙ c.requires.starts
@@ -33,7 +33,7 @@ fill_four-requires-clause-star g c =
 pub returns-then-count-eq3 : goal.returns-then-count-eq3
 returns-then-count-eq3 g c =
     three_isolates g.V.HasPosition.place c.args.dcel.now c.shrink_star-first.new.dcel (origin c.args.dcel.now.mesh c.args.first) c.shrink_star-first.result.0 c.shrink_star-first.result.1 c.shrink_star-first.ensures.contents c.shrink_star-first.ensures.beside c.shrink_star-first.ensures.star
-    c.fill_three.new.dcel c.num_vertices.ensures.whole c.fill_three.ensures.whole c.if-count-eq3.true c.args.vertex c.requires.starts c.fill_three.ensures.hole
+    c.fill_three.new.dcel c.recall_invariant.ensures.whole c.fill_three.ensures.whole c.if-count-eq3.true c.args.vertex c.requires.starts c.fill_three.ensures.hole
 
 pub returns-else-count-eq3 : goal.returns-else-count-eq3
 returns-else-count-eq3 g c =

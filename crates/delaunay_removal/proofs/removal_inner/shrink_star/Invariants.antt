@@ -1,4 +1,4 @@
-use Rattle.half_edge_links.specs.Mesh.{origin}
+use Rattle.half_edge_mesh.specs.Mesh.{origin}
 use Rattle.delaunay_removal.proofs.Shrinking.{IsShrinking}
 use Rattle.delaunay_removal.proofs.removal_inner.shrink_star.Given as goal
 

@@ -1,5 +1,5 @@
 use Rattle.std.proofs.Common.{ℕ, ◌*◌, ◌<◌, ◌∙◌, ap, length, subst, arith}
-use Rattle.half_edge_links.specs.Mesh.{rev}
+use Rattle.half_edge_mesh.specs.Mesh.{rev}
 use Rattle.delaunay_shapes.specs.Flood.{AsksBeside}
 use Rattle.delaunay_shapes.specs.InShape.{IsInside}
 use Rattle.delaunay_shapes.proofs.Asking.{goes_on_twice, spread_ends, spread_more}

@@ -1,5 +1,5 @@
 use Rattle.std.proofs.Common.{ℕ, ◌*◌, ◌∙◌, ap, length}
-use Rattle.half_edge_links.specs.Mesh.{origin, rev}
+use Rattle.half_edge_mesh.specs.Mesh.{origin, rev}
 use Rattle.delaunay_shapes.specs.InShape.{IsVertexInside}
 use Rattle.delaunay_shapes.proofs.VertexFlood.{ends_first, ends_more, ends_last}
 use Rattle.delaunay_shapes.proofs.flood_vertices.ask_ends.Goals as goal

@@ -1,7 +1,7 @@
 use Rattle.std.proofs.Common.{◌≡◌, ℕ, refl, sym, ap, ◌∙◌}
 use Rattle.std.specs.Prelude.{slice_index}
-use Rattle.half_edge_links.specs.Mesh.{Mesh, next, origin, rev}
-use Rattle.half_edge_links.specs.Peel.{spoke, turn}
+use Rattle.half_edge_mesh.specs.Mesh.{Mesh, next, origin, rev}
+use Rattle.half_edge_mesh.specs.Peel.{spoke, turn}
 use Rattle.mesh_tests.proofs.SmallRemovals.{four_sides}
 use Rattle.mesh_tests.proofs.removal.isolate_between_four.Goals as goal
 

@@ -1,7 +1,7 @@
 use Rattle.std.proofs.Common.{◌≡◌, ℕ, refl, sym, ap, ◌∙◌}
 use Rattle.std.specs.Prelude.{slice_index}
-use Rattle.half_edge_links.specs.Mesh.{Mesh, next}
-use Rattle.half_edge_links.specs.Peel.{turn}
+use Rattle.half_edge_mesh.specs.Mesh.{Mesh, next}
+use Rattle.half_edge_mesh.specs.Peel.{turn}
 use Rattle.mesh_tests.proofs.SmallRemovals.{three_sides}
 use Rattle.mesh_tests.proofs.removal.isolate_between_three.Goals as goal
 

@@ -4,8 +4,8 @@ use Rattle.std.proofs.Common.{◌<◌, List, ◌≢◌, ◌≡◌, ◌++◌, len
 use Rattle.std.specs.List.{range_with_len}
 use Rattle.std.proofs.Common.{arith}
 use Rattle.std.proofs.lemmas.List.{length-map}
-use Rattle.half_edge_links.specs.Triangles.{triangles, triangle_at}
-use Rattle.half_edge_views.specs.Left.{faces_left}
+use Rattle.half_edge_mesh.specs.Triangles.{triangles, triangle_at}
+use Rattle.half_edge_mesh.specs.Left.{faces_left}
 use Rattle.triangulate_run.specs.Stage.{position}
 use Rattle.delaunay_legalization.specs.State.{triangulation_of}
 use Rattle.mesh_embedding.specs.Drawn.{corners_of}

@@ -3,7 +3,7 @@ use Rattle.std.specs.Prelude.{All}
 use Rattle.std.specs.Borrow.{Bor}
 use Rattle.std.specs.List.{range_with_len}
 use Rattle.half_edge_mesh.specs.Contents.{Contents}
-use Rattle.half_edge_views.specs.Left.{each_in, faces_left}
+use Rattle.half_edge_mesh.specs.Left.{each_in, faces_left}
 use Rattle.delaunay_legalization.specs.State.{state_of}
 use Rattle.triangulate_run.specs.MeshFaces.{row_at}
 use Rattle.triangulate_run.proofs.engine.faces_of.Given as goal

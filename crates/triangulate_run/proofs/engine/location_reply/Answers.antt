@@ -1,7 +1,7 @@
 use Rattle.std.proofs.Common.{◌∙◌, ap, subst}
 use Rattle.plane.specs.Fraction.{whole}
 use Rattle.plane.specs.Location.{IsLocation}
-use Rattle.half_edge_links.specs.Mesh.{origin, rev}
+use Rattle.half_edge_mesh.specs.Mesh.{origin, rev}
 use Rattle.delaunay_location.specs.declared.position_in_triangulation.PositionInTriangulation.{PositionInTriangulation}
 use Rattle.delaunay_edit.specs.Location.{location_of}
 use Rattle.triangulate_run.specs.MeshFaces.{row_at}

@@ -1,6 +1,6 @@
 use Rattle.std.proofs.Common.{◌*◌, ◌<◌, ℕ}
 use Rattle.std.specs.Prelude.{Contains}
-use Rattle.half_edge_links.specs.Mesh.{origin, rev}
+use Rattle.half_edge_mesh.specs.Mesh.{origin, rev}
 use Rattle.plane.specs.Pairs.{IsSamePair}
 use Rattle.delaunay_legalization.specs.CdtEdge.{is_constraint}
 use Rattle.delaunay_edit.specs.Constrained.{constraint_edges}

@@ -7,4 +7,4 @@ use Rattle.delaunay_edit.proofs.triangulation_core.TriangulationCore.recall_inva
 pub returns : goal.returns
 returns g c =
     rw (← c.self.view_is) (well_formed g.V.HasPosition.place g.M.ConstraintMarker.marks g.M.ConstraintMarker.constraints g.met.M.ConstraintMarker.constraints_are_marked (state_of c.self.inside.dcel) c.self.invariant
-    (subst (λ (n : ℕ). n ≤ MAX_ELEMENTS) c.num_vertices.ensures.value c.num_vertices.ensures.small))
+    (subst (λ (n : ℕ). n ≤ MAX_ELEMENTS) c.recall_invariant.ensures.value c.recall_invariant.ensures.small))

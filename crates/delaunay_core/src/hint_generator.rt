@@ -1,0 +1,69 @@
+//! The trait of hint generators.
+ghost use Rattle.std.specs.Prelude.{◌≡◌, All, Some};
+ghost use Rattle.plane.specs.Fraction.{Point};
+ghost use Rattle.plane.specs.Hint.{IsAtMost, IsAtMostOf, IsAtMostWith, IsAtMostWithout, IsNone};
+ghost use Rattle.delaunay_core.specs.Place.{place_of};
+ghost use Rattle.delaunay_core.specs.Held.{AreDistinct, place_if, places};
+
+use crate::math::PlaneTests;
+use crate::point::{Point2, SpadeNum};
+use half_edge_handles::FixedVertexHandle;
+use std::alloc::Global;
+
+/// Tells a search at which vertex to begin. A triangulation tells its generator once of each appended and of each removed
+/// vertex. Any handle may be answered, and no call is refused: a generator that finds no memory holds less.
+pub trait HintGenerator<S: SpadeNum>: Drop {
+    // The positions that it keeps. Calls with `&self` leave them, since they are read off the value.
+    ghost holds: { Self → Point → Type 0 };
+
+    /// One that holds no position. It takes no memory.
+    fn new(alloc: Global) -> Self
+        ensures { IsNone (holds result) };
+
+    /// A copy, which holds at most what this one does.
+    fn duplicate(&self) -> Self
+        ensures { IsAtMost (holds self.now) (holds result) };
+
+    /// A vertex that is likely near a position, or a handle of none.
+    fn get_hint<P: PlaneTests<S>>(&self, position: Point2<S>, tests: &P) -> FixedVertexHandle
+        requires held { IsAtMost (P.sites tests.now) (holds self.now) }
+        requires covered { P.covered tests.now (place_of S.whole position) };
+
+    /// Tells of a vertex that a search ended at.
+    fn notify_vertex_lookup(&self, vertex: FixedVertexHandle);
+
+    /// Tells of a vertex that was appended, and of its position.
+    fn notify_vertex_inserted<P: PlaneTests<S>>(
+        &mut self,
+        vertex: FixedVertexHandle,
+        position: Point2<S>,
+        tests: &P,
+    )
+        requires held { IsAtMost (P.sites tests.now) (holds self.old) }
+        requires site { P.sites tests.now (place_of S.whole position) }
+        ensures { IsAtMostWith (holds self.old) (holds self.new) (place_of S.whole position) };
+
+    /// Tells of a vertex that was removed and of the position that it had. Where it was not the last, the last vertex has
+    /// taken its handle, and `swapped_in_point` is that vertex's position.
+    fn notify_vertex_removed<P: PlaneTests<S>>(
+        &mut self,
+        swapped_in_point: Option<Point2<S>>,
+        vertex: FixedVertexHandle,
+        position: Point2<S>,
+        tests: &P,
+    )
+        requires held { IsAtMost (P.sites tests.now) (holds self.old) }
+        requires site { P.sites tests.now (place_of S.whole position) }
+        requires swapped_site { (p : Point) → place_if S.whole swapped_in_point ≡ Some p → P.sites tests.now p }
+        ensures { IsAtMostWithout (holds self.old) (holds self.new) (place_of S.whole position) (place_if S.whole swapped_in_point) };
+
+    /// One for the vertices at these positions, which all differ, in the order of their handles.
+    fn initialize_from_triangulation<P: PlaneTests<S>>(
+        alloc: Global,
+        positions: &[Point2<S>],
+        tests: &P,
+    ) -> Self
+        requires sites { All (P.sites tests.now) (places S.whole positions.now) }
+        requires distinct { AreDistinct (places S.whole positions.now) }
+        ensures { IsAtMostOf (holds result) (places S.whole positions.now) };
+}

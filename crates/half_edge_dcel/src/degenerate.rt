@@ -1,0 +1,114 @@
+//! Vertices that go, without edges or from a line.
+ghost use Rattle.std.specs.Prelude.{◌≡◌, ◌≢◌, ◌<◌, length};
+ghost use Rattle.half_edge_links.specs.Hull.{KeepsOneOutline};
+ghost use Rattle.half_edge_links.specs.Mesh.{origin, next, prev, rev, IsAlone};
+ghost use Rattle.half_edge_links.specs.Outline.{MovesEdge};
+ghost use Rattle.half_edge_links.specs.Pass.{IsPassable, Passes};
+ghost use Rattle.half_edge_links.specs.Peel.{turn};
+ghost use Rattle.half_edge_dcel.specs.Contents.{IsMeshWithData};
+ghost use Rattle.half_edge_dcel.specs.Removal.{DropsVertex, HasFewEdges, LeavesLine, LeavesMesh};
+
+use crate::dcel::Dcel;
+use half_edge_handles::FixedVertexHandle;
+use half_edge_links::reversed;
+
+impl<V, DE, UE, F> Dcel<V, DE, UE, F> {
+    /// Removes a vertex without edges, and gives its data back. The last vertex takes its index.
+    pub fn swap_remove_vertex(&mut self, vertex: FixedVertexHandle) -> V
+        requires { IsAlone self.old.mesh vertex }
+        ensures drops { DropsVertex self.old self.new vertex result }
+        ensures outline { KeepsOneOutline self.old.mesh self.new.mesh }
+    {
+        let v = vertex.index();
+        self.links.swap_remove_vertex(v);
+        self.vertices.swap_remove(v as usize)
+    }
+
+    // Lets an edge of a line pass the vertex at its end, and end where the edge after it ends. All data stay.
+    fn pass(&mut self, edge: u32)
+        requires { IsPassable self.old.mesh edge }
+        ensures contents { self.new ≡ record self.old { mesh = self.new.mesh } }
+        ensures links { let m = self.old.mesh in Passes m self.new.mesh edge (rev (next m edge)) (next m edge) }
+        ensures ends { let m = self.old.mesh in MovesEdge m self.new.mesh edge (origin m edge) (origin m (rev (next m edge))) }
+        ensures outline { KeepsOneOutline self.old.mesh self.new.mesh }
+        ensures whole { IsMeshWithData self.old }
+    {
+        let _whole = self.num_vertices();
+        self.links.pass(edge);
+    }
+
+    // Joins the two neighbours of the vertex where `out` starts, which keeps no edge.
+    fn join_neighbours(&mut self, out: u32)
+    where
+        DE: Drop,
+        UE: Drop,
+        requires within { out < length self.old.directed }
+        requires one_face { length self.old.faces ≡ 0 }
+        requires two { let m = self.old.mesh in turn m (turn m out) ≡ out }
+        requires corners { let m = self.old.mesh in origin m (rev out) ≢ origin m (rev (turn m out)) }
+        ensures leaves { LeavesLine self.old self.new (origin self.old.mesh out) }
+        ensures outline { KeepsOneOutline self.old.mesh self.new.mesh }
+    {
+        let _old = self.num_vertices();
+        let edge = reversed(out);
+        let lost = self.half_edge(edge).next;
+        self.pass(edge);
+        self.remove_edge(lost);
+        let _whole = self.num_vertices();
+    }
+
+    // Removes the only edge of the vertex where `out` starts.
+    fn remove_end(&mut self, out: u32)
+    where
+        DE: Drop,
+        UE: Drop,
+        requires within { out < length self.old.directed }
+        requires one_face { length self.old.faces ≡ 0 }
+        requires one { turn self.old.mesh out ≡ out }
+        requires whole { let m = self.old.mesh in next m out ≡ rev out → prev m out ≡ rev out → length m.half_edges ≡ 2 }
+        ensures leaves { LeavesLine self.old self.new (origin self.old.mesh out) }
+        ensures outline { KeepsOneOutline self.old.mesh self.new.mesh }
+    {
+        let _old = self.num_vertices();
+        self.remove_edge(out);
+        let _whole = self.num_vertices();
+    }
+
+    // Removes the edges of a vertex of a line, and joins its neighbours, if it has two.
+    fn leave_line(&mut self, vertex: u32)
+    where
+        DE: Drop,
+        UE: Drop,
+        requires within { vertex < length self.old.vertices }
+        requires one_face { length self.old.faces ≡ 0 }
+        requires few { HasFewEdges self.old.mesh vertex }
+        ensures leaves { LeavesLine self.old self.new vertex }
+        ensures outline { KeepsOneOutline self.old.mesh self.new.mesh }
+    {
+        if let Some(out) = self.out_edge(vertex) {
+            let other = reversed(self.half_edge(out).prev);
+            if other == out {
+                self.remove_end(out);
+            } else {
+                self.join_neighbours(out);
+            }
+        }
+    }
+
+    /// Removes a vertex of a mesh with one face, and gives its data back. If it has two neighbours, they are joined by
+    /// an edge with the data of one of its edges. The last vertex takes its index.
+    pub fn remove_when_degenerate(&mut self, vertex: FixedVertexHandle) -> V
+    where
+        DE: Drop,
+        UE: Drop,
+        requires within { vertex < length self.old.vertices }
+        requires one_face { length self.old.faces ≡ 0 }
+        requires few { HasFewEdges self.old.mesh vertex }
+        ensures leaves { LeavesMesh self.old self.new vertex result }
+        ensures outline { KeepsOneOutline self.old.mesh self.new.mesh }
+    {
+        self.leave_line(vertex.index());
+        let _whole = self.num_vertices();
+        self.swap_remove_vertex(vertex)
+    }
+}

@@ -1,0 +1,178 @@
+//! Vertices that lose their edges.
+ghost use Rattle.std.specs.Prelude.{◌≡◌, ◌≢◌, ◌<◌, ◌≤◌, length};
+ghost use Rattle.half_edge_links.specs.Flip.{Flips};
+ghost use Rattle.half_edge_links.specs.Hull.{KeepsOneOutline};
+ghost use Rattle.half_edge_links.specs.Mesh.{face, origin, prev, rev};
+ghost use Rattle.half_edge_links.specs.Outline.{KeepsOuter, MovesEdge};
+ghost use Rattle.half_edge_links.specs.Peel.{IsStrip, IsWheel, turn};
+ghost use Rattle.half_edge_links.specs.Round.{neighbour};
+ghost use Rattle.half_edge_links.specs.Triangles.{FlipsTriangles};
+ghost use Rattle.half_edge_dcel.specs.Contents.{IsMeshWithData};
+ghost use Rattle.half_edge_dcel.specs.Hole.{FillsWithFan, HasFreeTip, IsBorder, IsHub};
+ghost use Rattle.half_edge_dcel.specs.Removal.{AreOpposite, FillsHole, LosesStrip, first_spoke};
+
+use crate::dcel::Dcel;
+use half_edge_handles::{FixedDirectedEdgeHandle, FixedVertexHandle};
+use half_edge_links::reversed;
+
+/// A vertex that has lost its edges.
+#[derive(Clone, Copy, PartialEq, Eq, Debug)]
+pub struct IsolateVertexResult {
+    pub vertex: FixedVertexHandle,
+}
+
+impl<V, DE, UE, F> Dcel<V, DE, UE, F> {
+    // The edge before a side, and the vertex where it starts.
+    fn spoke_to(&self, side: FixedDirectedEdgeHandle) -> (u32, u32)
+        requires { side < length self.now.mesh.half_edges }
+        ensures edge { result.0 ≡ prev self.now.mesh side }
+        ensures vertex { result.1 ≡ origin self.now.mesh (prev self.now.mesh side) }
+    {
+        let edge = self.links.half_edge(side.index()).prev;
+        (edge, self.links.half_edge(edge).origin)
+    }
+
+    // Removes the edges of a vertex with `count` inner faces, which follow each other from `first` on, and the outer
+    // face between its last edge and `first`.
+    fn disconnect(&mut self, first: u32, count: usize)
+    where
+        DE: Drop,
+        UE: Drop,
+        F: Drop,
+        requires { IsStrip self.old.mesh first count }
+        ensures { let m = self.old.mesh in LosesStrip self.old self.new (origin m first) (neighbour m first) count }
+    {
+        let _old = self.num_vertices();
+        let mut h = first;
+        for _ in 0..count {
+            h = self.peel(h);
+        }
+        self.remove_edge(h);
+        let _whole = self.num_vertices();
+    }
+
+    /// Removes the edges of a vertex on the hull, and its faces. `edges` are the sides opposite it in these faces, at
+    /// least one, in their order round it; afterwards they have the outer face on their left. The last edges and faces
+    /// take the indexes that become free.
+    pub fn disconnect_edge_strip(
+        &mut self,
+        edges: &[FixedDirectedEdgeHandle],
+    ) -> IsolateVertexResult
+    where
+        DE: Drop,
+        UE: Drop,
+        F: Drop,
+        requires { AreOpposite self.old.mesh edges.now }
+
+        ensures vertex { result.vertex ≡ origin self.old.mesh (first_spoke self.old.mesh edges.now) }
+        ensures strip { let first = first_spoke self.old.mesh edges.now in LosesStrip self.old self.new (origin self.old.mesh first) (neighbour self.old.mesh first) (length edges.now) }
+    {
+        let (first, vertex) = self.spoke_to(edges[0]);
+        self.disconnect(first, edges.len());
+        IsolateVertexResult {
+            vertex: FixedVertexHandle::from_index(vertex),
+        }
+    }
+
+    // The last of the three faces round a vertex, from `first` on.
+    fn third_face(&self, first: u32) -> u32
+        requires { IsWheel self.now.mesh first }
+        ensures value { let m = self.now.mesh in result ≡ face m (turn m (turn m first)) }
+        ensures whole { IsMeshWithData self.now }
+    {
+        let second = reversed(self.links.half_edge(first).prev);
+        let third = reversed(self.links.half_edge(second).prev);
+        let _whole = self.num_vertices();
+        self.links.half_edge(third).face
+    }
+
+    // Removes the edges of a vertex with three faces round it, one of them on the left of `first`. One face of its
+    // neighbours takes their place.
+    fn collapse(&mut self, first: u32)
+    where
+        DE: Drop,
+        UE: Drop,
+        F: Drop,
+        requires { IsWheel self.old.mesh first }
+        ensures { let m = self.old.mesh in FillsHole self.old self.new (origin m first) (neighbour m first) }
+    {
+        let face = self.third_face(first);
+        let value = self.open_face(face);
+        let spoke = self.peel(first);
+        let pendant = self.peel(spoke);
+        let border = self.index_after_removal(pendant);
+        self.remove_edge(pendant);
+        self.close_face(border, value);
+        let _whole = self.num_vertices();
+    }
+
+    // Turns the edge after `first` round their vertex, so that it leaves the vertex.
+    fn turn_away(&mut self, first: u32)
+        requires within { first < length self.old.mesh.half_edges }
+        requires before { 0 < face self.old.mesh first }
+        requires behind { 0 < face self.old.mesh (turn self.old.mesh first) }
+        requires corners { neighbour self.old.mesh first 2 ≢ neighbour self.old.mesh first 0 }
+
+        ensures flips { let m = self.old.mesh in Flips m self.new.mesh (turn m first) }
+        ensures contents { self.new ≡ record self.old { mesh = self.new.mesh } }
+        ensures ends { let m = self.old.mesh in MovesEdge m self.new.mesh (turn m first) (origin m (prev m (turn m first))) (origin m (prev m (rev (turn m first)))) }
+        ensures triangles { let m = self.old.mesh in FlipsTriangles m self.new.mesh (turn m first) }
+        ensures outer { KeepsOuter self.old.mesh self.new.mesh }
+        ensures outline { KeepsOneOutline self.old.mesh self.new.mesh }
+        ensures whole { IsMeshWithData self.old }
+    {
+        let _whole = self.num_vertices();
+        let spoke = reversed(self.links.half_edge(first).prev);
+        self.links.flip(spoke);
+    }
+
+    // Removes the edges of a vertex with `count` faces round it, from `first` on. A fan of faces, whose tip is the end of
+    // `first`, takes their place.
+    fn fill_hole(&mut self, first: u32, count: usize)
+    where
+        DE: Drop,
+        UE: Drop,
+        F: Drop,
+        requires many { 3 ≤ count }
+        requires hub { IsHub self.old.mesh first count }
+        requires tip { HasFreeTip (neighbour self.old.mesh first) count }
+        ensures { let m = self.old.mesh in FillsWithFan self.old self.new (origin m first) (neighbour m first) count }
+    {
+        let _old = self.num_vertices();
+        for _ in 3..count {
+            self.turn_away(first);
+        }
+        let _turned = self.num_vertices();
+        self.collapse(first);
+        let _whole = self.num_vertices();
+    }
+
+    /// Removes the edges of an inner vertex and fills the hole with a fan of faces. `border` is the loop round the vertex,
+    /// of three edges or more, and the fan's tip is where the first of them starts: this vertex gets an edge to each one
+    /// of the loop that is not beside it there, and none of these may be the tip itself. The new edges have the data of
+    /// edges of the vertex, and the new faces those of its faces. The last edges and faces take the indexes that become
+    /// free.
+    pub fn isolate_vertex_and_fill_hole(
+        &mut self,
+        border: &[FixedDirectedEdgeHandle],
+        vertex: FixedVertexHandle,
+    ) -> IsolateVertexResult
+    where
+        DE: Drop,
+        UE: Drop,
+        F: Drop,
+        requires { IsBorder self.old.mesh border.now vertex }
+
+        ensures vertex { result.vertex ≡ vertex }
+        ensures hole { let m = self.old.mesh in FillsWithFan self.old self.new vertex (neighbour m (first_spoke m border.now)) (length border.now) }
+    {
+        let (first, _) = self.spoke_to(border[0]);
+        self.fill_hole(first, border.len());
+        IsolateVertexResult { vertex }
+    }
+
+    /// Does nothing: a vertex that loses its edges leaves no edge or face without use.
+    pub fn cleanup_isolated_vertex(&mut self, _result: IsolateVertexResult)
+        ensures { self.new ≡ self.old }
+    {}
+}

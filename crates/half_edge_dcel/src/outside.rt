@@ -1,0 +1,129 @@
+//! Growth beside the outer face.
+ghost use Rattle.std.specs.Prelude.{◌≡◌, ◌≢◌, ◌+◌, ◌/◌, ◌<◌, ◌++◌, ◌∷◌, [], length};
+ghost use Rattle.half_edge_links.specs.Hull.{KeepsOneOutline};
+ghost use Rattle.half_edge_links.specs.Mesh.{with_vertex, origin, next, prev, rev, face};
+ghost use Rattle.half_edge_links.specs.Grow.{with_face_beside, closed, half_split, IsHalfSplittable};
+ghost use Rattle.half_edge_links.specs.Outline.{AddsTriangle, ReplacesOuter, ClosesOuter, HalfSplitsTriangles, along};
+ghost use Rattle.half_edge_dcel.specs.Contents.{HasRoom, edges};
+ghost use Rattle.half_edge_dcel.specs.Growth.{Grows, MovesItem, MovesTwoItems, AddsEdges, SplitsEdge, joins};
+
+use crate::dcel::Dcel;
+use crate::growth::{move_item, move_two_items, push_defaults};
+use half_edge_handles::{FixedDirectedEdgeHandle, FixedVertexHandle};
+
+impl<V, DE, UE, F> Dcel<V, DE, UE, F> {
+    /// Makes a face of an outer edge and a new last vertex, with two new edges.
+    pub fn create_new_face_adjacent_to_edge(
+        &mut self,
+        edge: FixedDirectedEdgeHandle,
+        value: V,
+    ) -> FixedVertexHandle
+    where
+        DE: Default,
+        UE: Default,
+        F: Default,
+        requires within { edge < length self.old.directed }
+        requires outer { face self.old.mesh edge ≡ 0 }
+        requires room { HasRoom self.old 1 2 1 }
+
+        ensures vertex { result ≡ length self.old.vertices }
+        ensures mesh { self.new.mesh ≡ with_face_beside (with_vertex self.old.mesh) edge result }
+        ensures contents { self.new ≡ record self.old { mesh = self.new.mesh; vertices = self.old.vertices ++ value ∷ []; directed = self.new.directed; undirected = self.new.undirected; faces = self.new.faces } }
+        ensures directed { Grows DE.is_default self.old.directed self.new.directed 4 }
+        ensures undirected { Grows UE.is_default self.old.undirected self.new.undirected 2 }
+        ensures faces { Grows F.is_default self.old.faces self.new.faces 1 }
+        ensures edges { let m = self.old.mesh in AddsEdges UE.is_default (edges self.old) (edges self.new) (joins (origin m (rev edge)) result ∷ joins result (origin m edge) ∷ []) }
+        ensures triangles { let m = self.old.mesh in AddsTriangle m self.new.mesh (origin m edge) (origin m (rev edge)) result }
+        ensures outer { let n = length self.old.directed in ReplacesOuter self.old.mesh self.new.mesh edge result (n + 3) (n + 1) }
+        ensures outline { KeepsOneOutline self.old.mesh self.new.mesh }
+    {
+        let v = self.links.push_vertex();
+        self.links.add_face_beside(edge.index(), v);
+        self.vertices.push_reserved(value);
+        push_defaults(&mut self.directed, 4);
+        push_defaults(&mut self.undirected, 2);
+        push_defaults(&mut self.faces, 1);
+        FixedVertexHandle::from_index(v)
+    }
+
+    /// Makes a face of an outer edge, the one after it and a new edge. Gives the new outer edge, from the start of
+    /// `edge` to the end of the one after it.
+    pub fn create_single_face_between_edge_and_next(
+        &mut self,
+        edge: FixedDirectedEdgeHandle,
+    ) -> FixedDirectedEdgeHandle
+    where
+        DE: Default,
+        UE: Default,
+        F: Default,
+        requires within { edge < length self.old.directed }
+        requires outer { face self.old.mesh edge ≡ 0 }
+        requires apart { let m = self.old.mesh in origin m (rev (next m edge)) ≢ origin m edge }
+        requires room { HasRoom self.old 0 1 1 }
+
+        ensures edge { result ≡ length self.old.directed + 1 }
+        ensures mesh { self.new.mesh ≡ closed self.old.mesh edge }
+        ensures contents { self.new ≡ record self.old { mesh = self.new.mesh; directed = self.new.directed; undirected = self.new.undirected; faces = self.new.faces } }
+        ensures directed { Grows DE.is_default self.old.directed self.new.directed 2 }
+        ensures undirected { Grows UE.is_default self.old.undirected self.new.undirected 1 }
+        ensures faces { Grows F.is_default self.old.faces self.new.faces 1 }
+        ensures edges { let m = self.old.mesh in AddsEdges UE.is_default (edges self.old) (edges self.new) (joins (origin m (rev (next m edge))) (origin m edge) ∷ []) }
+        ensures triangles { let m = self.old.mesh in AddsTriangle m self.new.mesh (origin m edge) (origin m (next m edge)) (origin m (rev (next m edge))) }
+        ensures outer { ClosesOuter self.old.mesh self.new.mesh edge (length self.old.directed) }
+        ensures outline { KeepsOneOutline self.old.mesh self.new.mesh }
+    {
+        let n = self.links.half_edge_count() as u32;
+        self.links.close(edge.index());
+        push_defaults(&mut self.directed, 2);
+        push_defaults(&mut self.undirected, 1);
+        push_defaults(&mut self.faces, 1);
+        FixedDirectedEdgeHandle::from_index(n + 1)
+    }
+
+    /// Splits an edge with an inner face on its left and the outer one on its right at a new last vertex, which is
+    /// joined to the opposite corner. Gives the vertex and both parts, directed as `edge`, the first of which keeps the
+    /// data of `edge`.
+    pub fn split_half_edge(
+        &mut self,
+        edge: FixedDirectedEdgeHandle,
+        value: V,
+    ) -> (FixedVertexHandle, [FixedDirectedEdgeHandle; 2])
+    where
+        DE: Default,
+        UE: Default,
+        F: Default,
+        requires half { IsHalfSplittable self.old.mesh edge }
+        requires room { HasRoom self.old 1 2 1 }
+
+        ensures vertex { result.0 ≡ length self.old.vertices }
+        ensures parts { let n = length self.old.directed in result.1 ≡ n ∷ (n + 2) ∷ [] }
+        ensures mesh { self.new.mesh ≡ half_split (with_vertex self.old.mesh) edge result.0 }
+        ensures contents { self.new ≡ record self.old { mesh = self.new.mesh; vertices = self.old.vertices ++ value ∷ []; directed = self.new.directed; undirected = self.new.undirected; faces = self.new.faces } }
+        ensures directed { MovesTwoItems DE.is_default self.old.directed self.new.directed edge (rev edge) 2 }
+        ensures undirected { MovesItem UE.is_default self.old.undirected self.new.undirected (edge / 2) 1 }
+        ensures faces { Grows F.is_default self.old.faces self.new.faces 1 }
+        ensures edges { let m = self.old.mesh in SplitsEdge UE.is_default (edges self.old) (edges self.new) (edge / 2) (along edge (origin m (prev m edge)) result.0) (joins (origin m edge) result.0) (joins result.0 (origin m (rev edge)) ∷ []) }
+        ensures triangles { HalfSplitsTriangles self.old.mesh self.new.mesh result.0 edge }
+        ensures outer { let n = length self.old.directed in ReplacesOuter self.old.mesh self.new.mesh (rev edge) result.0 (n + 3) (n + 1) }
+        ensures outline { KeepsOneOutline self.old.mesh self.new.mesh }
+    {
+        let v = self.links.push_vertex();
+        let [first, second] = self.links.split_half_edge(edge.index(), v);
+        self.vertices.push_reserved(value);
+        move_two_items(
+            &mut self.directed,
+            edge.index() as usize,
+            edge.rev().index() as usize,
+            2,
+        );
+        move_item(&mut self.undirected, edge.index() as usize / 2, 1);
+        push_defaults(&mut self.faces, 1);
+        (
+            FixedVertexHandle::from_index(v),
+            [
+                FixedDirectedEdgeHandle::from_index(first),
+                FixedDirectedEdgeHandle::from_index(second),
+            ],
+        )
+    }
+}

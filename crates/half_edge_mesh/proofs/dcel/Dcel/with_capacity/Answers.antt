@@ -1,4 +1,0 @@
-use Rattle.half_edge_mesh.proofs.dcel.Dcel.with_capacity.Goals as goal
-
-pub returns-clause-room : goal.returns-clause-room
-returns-clause-room g c = c.in_ok-reserve_capacity.ensures.ok

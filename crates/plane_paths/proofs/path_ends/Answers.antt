@@ -1,5 +1,0 @@
-use Rattle.plane_paths.proofs.Pieces as Pieces
-use Rattle.plane_paths.proofs.path_ends.Goals as goal
-
-pub returns : goal.returns
-returns c = Pieces.path_ends

@@ -1,5 +1,0 @@
-use Rattle.plane_paths.proofs.PathFlips.{piece_on_line_is_edge}
-use Rattle.plane_paths.proofs.piece_on_line_is_edge.Goals as goal
-
-pub returns : goal.returns
-returns c = piece_on_line_is_edge

@@ -1,0 +1,5 @@
+use Rattle.plane_segments.proofs.EdgeStarts as EdgeStarts
+use Rattle.plane_segments.proofs.line_laws.crossing_on_line.Goals as goal
+
+pub returns : goal.returns
+returns c = EdgeStarts.crossing_on_line

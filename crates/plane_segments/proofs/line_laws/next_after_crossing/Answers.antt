@@ -1,0 +1,5 @@
+use Rattle.plane_segments.proofs.Steps as Steps
+use Rattle.plane_segments.proofs.line_laws.next_after_crossing.Goals as goal
+
+pub returns : goal.returns
+returns c = Steps.next_after_crossing

@@ -1,0 +1,5 @@
+use Rattle.plane_segments.proofs.WalkSteps as WalkSteps
+use Rattle.plane_segments.proofs.line_laws.rest_falls.Goals as goal
+
+pub returns : goal.returns
+returns c = WalkSteps.rest_falls

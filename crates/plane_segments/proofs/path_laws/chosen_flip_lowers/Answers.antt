@@ -1,0 +1,5 @@
+use Rattle.plane_segments.proofs.Lowering as Lowering
+use Rattle.plane_segments.proofs.path_laws.chosen_flip_lowers.Goals as goal
+
+pub returns : goal.returns
+returns c = Lowering.chosen_flip_lowers
