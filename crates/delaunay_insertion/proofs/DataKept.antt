@@ -1,21 +1,17 @@
 -- Data that stay where they are while a triangulation grows and edges are turned belong to what stands before and after.
 use Rattle.std.proofs.Common.{◌≡◌, ℕ, ◌/◌, ◌<◌, List, [], ◌∷◌, ◌++◌, length, map, get_or, sym, ap, ◌∙◌, subst, Some, inl, inr, arith}
 use Rattle.std.specs.Prelude.{slice_get}
-use Rattle.std.proofs.lemmas.List.{length-map, map-append, length-append}
+use Rattle.std.proofs.lemmas.List.{length-map}
 use Rattle.std.proofs.lemmas.Option.{slice_get_within, slice_get-get_or}
 use Rattle.half_edge_mesh.specs.Mesh.{origin, rev}
 use Rattle.half_edge_mesh.specs.Triangles.{Triangle, triangles}
-use Rattle.half_edge_links.proofs.Rev.{rev_within}
 use Rattle.half_edge_mesh.specs.Contents.{Contents}
-use Rattle.plane.specs.Fraction.{Point, Fraction, whole, WithinSegment, InTriangle}
+use Rattle.plane.specs.Fraction.{Point, Fraction, InTriangle}
 use Rattle.plane.specs.Pairs.{place, Joins}
 use Rattle.plane.specs.Tiling.{IsEdge}
-use Rattle.plane_tiling.proofs.Appended.{kept_point, last_point}
-use Rattle.plane_tiling.proofs.Locations.{no_edges_cross}
 use Rattle.plane_edits.specs.Change.{IsFaceOf}
-use Rattle.mesh_embedding.specs.Drawn.{drawn, faces_of, edges_of, outer_of}
+use Rattle.mesh_embedding.specs.Drawn.{drawn, faces_of, edges_of}
 use Rattle.mesh_embedding.specs.Stays.{GoSameWay, HaveSameCorners, KeepsIndexes}
-use Rattle.mesh_embedding.proofs.OwnEdges.{own_edges}
 use Rattle.mesh_embedding.proofs.MeshStays.{face_there, turned_back}
 use Rattle.mesh_embedding.proofs.MeshLegal.{own_indexes}
 use Rattle.delaunay_insertion.proofs.NewVertex.{place_stays, place_last, is_vertex, not_within, source_in, target_in}

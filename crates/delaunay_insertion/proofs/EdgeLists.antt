@@ -1,5 +1,5 @@
 -- The edges of a mesh, with their data, where edges are added or one is split.
-use Rattle.std.proofs.Common.{◌≡◌, ◌≢◌, ◌⊎◌, ℕ, zero, suc, ◌+◌, ◌%◌, ◌<◌, ◌≤◌, Bool, true, false, List, [], ◌∷◌, ◌++◌, length, get_or, set, refl, sym, ap, ◌∙◌, subst, Some, None, inl, inr, arith, length-append}
+use Rattle.std.proofs.Common.{◌≡◌, ◌≢◌, ◌⊎◌, ℕ, zero, suc, ◌+◌, ◌%◌, Bool, true, false, List, [], ◌∷◌, ◌++◌, length, set, refl, sym, ap, ◌∙◌, subst, Some, inl, inr, arith}
 use Rattle.std.specs.Prelude.{All, slice_get, if◌then◌else◌, nat_eq}
 use Rattle.std.proofs.lemmas.Bool.{cases_eq}
 use Rattle.std.proofs.lemmas.List.{length-set}
@@ -7,7 +7,7 @@ use Rattle.std.proofs.lemmas.List.Elements.{All-get_or}
 use Rattle.std.proofs.lemmas.Option.{slice_get_within, get_or_from_slice_get}
 use Rattle.half_edge_mesh.specs.Outline.{Ends, along}
 use Rattle.half_edge_mesh.specs.Contents.{Edge, edges_of, edge_with}
-use Rattle.half_edge_mesh.specs.Growth.{AddsEdges, SplitsEdge, with_ends, joins}
+use Rattle.half_edge_mesh.specs.Growth.{AddsEdges, SplitsEdge, with_ends}
 use Rattle.plane.specs.Pairs.{IsSamePair}
 use Rattle.mesh_embedding.proofs.MeshStays.{slice_get-set_other}
 use Rattle.delaunay_insertion.specs.Edges.{AddsOnly, SplitsAt}

@@ -1,9 +1,9 @@
 -- An edge of a mesh that is split at a new vertex, and the mark that its second half may get.
-use Rattle.std.proofs.Common.{◌≡◌, ◌≢◌, ◌⊎◌, ◌↔◌, ℕ, zero, suc, ◌+◌, ◌*◌, ◌/◌, ◌<◌, ◌≤◌, Bool, true, false, List, [], ◌∷◌, ◌++◌, length, map, set, refl, sym, ap, ◌∙◌, subst, Some, inl, inr, arith}
+use Rattle.std.proofs.Common.{◌≡◌, ◌≢◌, ◌↔◌, ℕ, suc, ◌+◌, ◌*◌, ◌/◌, ◌<◌, ◌≤◌, Bool, true, false, List, [], ◌∷◌, length, refl, sym, ap, ◌∙◌, subst, Some, inl, inr, arith}
 use Rattle.std.specs.Prelude.{Contains, IsTrue, slice_get}
 use Rattle.std.proofs.lemmas.List.{length-set}
 use Rattle.std.proofs.lemmas.Option.{slice_get_within}
-use Rattle.half_edge_mesh.specs.Mesh.{Mesh, origin, next, rev}
+use Rattle.half_edge_mesh.specs.Mesh.{origin, next, rev}
 use Rattle.half_edge_mesh.specs.Outline.{Ends, along, ends}
 use Rattle.half_edge_links.proofs.Ends.{length-ends_twice}
 use Rattle.half_edge_links.proofs.Rev.{rev-rev}

@@ -10,5 +10,6 @@ pub mod NewVertex
 pub mod MarkedEdges
 pub mod EdgeSplits
 pub mod SplitConstraints
+pub mod LeftToTest
 pub mod DataKept
 pub mod Appending

@@ -1,9 +1,9 @@
 -- The pairs that constraints join, by the list of edges with their data.
-use Rattle.std.proofs.Common.{◌≡◌, ◌⊎◌, ℕ, ◌*◌, ◌<◌, Bool, true, List, length, refl, sym, ap, ◌∙◌, subst, Some, inl, inr, arith}
+use Rattle.std.proofs.Common.{◌≡◌, ℕ, ◌*◌, ◌<◌, Bool, true, List, length, sym, ap, ◌∙◌, subst, Some, arith}
 use Rattle.std.specs.Prelude.{slice_get}
 use Rattle.std.proofs.lemmas.Option.{slice_get_within}
-use Rattle.half_edge_mesh.specs.Mesh.{origin, rev, IsValidMesh}
-use Rattle.half_edge_mesh.specs.Outline.{Ends, ends}
+use Rattle.half_edge_mesh.specs.Mesh.{origin, rev}
+use Rattle.half_edge_mesh.specs.Outline.{ends}
 use Rattle.half_edge_links.proofs.Ends.{length-ends_twice}
 use Rattle.half_edge_mesh.specs.Contents.{Contents, Edge, edges, IsMeshWithData}
 use Rattle.plane.specs.Pairs.{Joins, IsSamePair}

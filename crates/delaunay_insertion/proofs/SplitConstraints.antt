@@ -1,17 +1,16 @@
 -- What becomes of the constraints where a vertex is appended: one that it is strictly within becomes two.
-use Rattle.std.proofs.Common.{◌≡◌, ◌≢◌, ◌⊎◌, ℕ, ◌*◌, ◌/◌, ◌<◌, Bool, true, false, List, [], ◌∷◌, ◌++◌, length, map, set, refl, sym, ap, ◌∙◌, subst, Some, inl, inr, arith}
+use Rattle.std.proofs.Common.{◌≡◌, ◌≢◌, ◌⊎◌, ℕ, ◌*◌, ◌/◌, ◌<◌, Bool, true, false, List, [], ◌∷◌, ◌++◌, length, map, set, sym, ap, ◌∙◌, subst, Some, inl, inr, arith}
 use Rattle.std.specs.Prelude.{◌↔◌, Contains, slice_get}
 use Rattle.std.proofs.lemmas.Bool.{cases_eq}
-use Rattle.std.proofs.lemmas.List.{length-map}
 use Rattle.std.proofs.lemmas.Option.{slice_get_within, get_or_from_slice_get}
 use Rattle.half_edge_mesh.specs.Mesh.{Mesh, origin, rev}
 use Rattle.half_edge_mesh.specs.Outline.{Ends, ends}
 use Rattle.half_edge_mesh.specs.Contents.{Contents, Edge, edges, IsMeshWithData}
 use Rattle.plane.specs.Fraction.{Point, whole, WithinSegment}
 use Rattle.plane.specs.Pairs.{Joins, IsSamePair, place}
-use Rattle.plane.specs.Plain.{Carries, IsHalf}
+use Rattle.plane.specs.Plain.{IsHalf}
 use Rattle.plane_tiling.proofs.Edges.{turned_within}
-use Rattle.mesh_embedding.specs.Drawn.{drawn, edges_of, pair_of}
+use Rattle.mesh_embedding.specs.Drawn.{edges_of, pair_of}
 use Rattle.mesh_embedding.proofs.EdgePairs.{Contains-map}
 use Rattle.delaunay_legalization.specs.Constraints.{marked_edges, constraint_pairs, constraints_by, points_and_constraints_by, not_both}
 use Rattle.delaunay_legalization.specs.Marking.{HasEdgeData}
@@ -22,7 +21,7 @@ use Rattle.delaunay_legalization.proofs.MarkedPairs.{marking_joins}
 use Rattle.delaunay_insertion.specs.Constraints.{SplitsConstraints}
 use Rattle.delaunay_insertion.specs.Edges.{AddsOnly, SplitsAt}
 use Rattle.delaunay_insertion.proofs.DataGrowing.{parts_of_edge, within_both}
-use Rattle.delaunay_insertion.proofs.MarkedEdges.{JoinsWithMark, own_ends, own_edge, joins_with_mark, joined_with_mark}
+use Rattle.delaunay_insertion.proofs.MarkedEdges.{JoinsWithMark, own_ends, joins_with_mark, joined_with_mark}
 use Rattle.delaunay_insertion.proofs.NewVertex.{not_within, source_in, target_in}
 
 one_value : {X : Type 0} (x y : X) → Some x ≡ Some y → x ≡ y

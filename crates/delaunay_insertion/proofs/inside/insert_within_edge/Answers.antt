@@ -1,4 +1,4 @@
-use Rattle.std.proofs.Common.{◌/◌, ◌↔◌, ◌∙◌, refl, length, map, ap, sym, subst}
+use Rattle.std.proofs.Common.{◌/◌, ◌↔◌, ◌∙◌, refl, map, subst}
 use Rattle.std.specs.Prelude.{Contains, IsTrue}
 use Rattle.delaunay_insertion.proofs.EdgeSplits.{second_there, second_late, had_mark, had_none, written_vertices, written_mesh, written_kept, written_grows}
 use Rattle.delaunay_insertion.proofs.MarkedEdges.{own_ends}
