@@ -76,7 +76,7 @@ module _ {V D U F : Type 0} (old new : Contents V D U F) (v : ℕ) where
   pub edges_stand : (n : ℕ → ℕ) (k : ℕ) → LosesEdges old new (spokes_to v n k) → (e : FullEdge D U) → Contains (full_edges old) e → e.source ≢ v → e.target ≢ v → Contains (full_edges new) e
   edges_stand n k (lost, are, same) e h a b = left_over (full_edges old) lost (full_edges new) e same h (λ l. edge_stands v n lost k are e l a b)
 
-  edges_come : (n : ℕ → ℕ) (k : ℕ) → LosesEdges old new (spokes_to v n k) → (e : FullEdge D U) → Contains (full_edges new) e → Contains (full_edges old) e ⊎ HasValueAt old v e.value
+  pub edges_come : (n : ℕ → ℕ) (k : ℕ) → LosesEdges old new (spokes_to v n k) → (e : FullEdge D U) → Contains (full_edges new) e → Contains (full_edges old) e ⊎ HasValueAt old v e.value
   edges_come n k (lost, are, same) e h = inl (Contains-permutation (lost ++ full_edges new) (full_edges old) e (IsPermutation-sym (full_edges old) (lost ++ full_edges new) same) (contains_after lost (full_edges new) e h))
 
   -- the edges and the faces of a vertex on the hull go

@@ -134,10 +134,10 @@ module _ {U : Type 0} (marks : U → Bool) (constraints : List U → List ℕ) (
     came : (a b : ℕ) → JoinsByEdge new a b → (a < last) × (b < last) × JoinsByEdge old (old_index v last a) (old_index v last b)
     came a b j = elim (renumbers.comes j.edge j.there) [
       | inl x ↦ (
-        let mark : marks x.0.value ≡ true = ap (λ (e : FullEdge D U). marks e.value) x.2 ∙ j.mark in
-        let k = kept_ends a b x.0 x.1 mark (subst (λ (e : FullEdge D U). IsSamePair a b e.source e.target) (sym x.2) j.ends) in
-        (k.0, k.1, record { edge = x.0; there = x.1; mark = mark; ends = k.2 })
-      )
+          let mark : marks x.0.value ≡ true = ap (λ (e : FullEdge D U). marks e.value) x.2 ∙ j.mark in
+          let k = kept_ends a b x.0 x.1 mark (subst (λ (e : FullEdge D U). IsSamePair a b e.source e.target) (sym x.2) j.ends) in
+          (k.0, k.1, record { edge = x.0; there = x.1; mark = mark; ends = k.2 })
+          )
       | inr y ↦ absurd (both_ways (marks j.edge.value) j.mark (sym (ap marks y.same) ∙ free y.edge y.there y.ends))
     ]
 

@@ -81,6 +81,12 @@ module _ {V D U F : Type 0} (place : V → Point) (marks : U → Bool) (constrai
         ends = ends;
       })
 
+  abbrev last : ℕ
+  last = length old.vertices - 1
+
+  abbrev old_index : ℕ → ℕ
+  old_index k = if nat_eq k v then last else k
+
   -- ---- and the vertex goes
   module _ (new : Contents V D U F) (after : IsMeshWithData new) where
     pub plain_left : Removes place (points_and_constraints (state_of mid)) (points_and_constraints (state_of new)) v → RenumbersEdges mid new v → Removes place (points_and_constraints_by constraints (state_of old)) (points_and_constraints_by constraints (state_of new)) v
@@ -92,12 +98,6 @@ module _ {V D U F : Type 0} (place : V → Point) (marks : U → Bool) (constrai
       where
         here : v < length old.vertices
         here = subst (λ (vs : List V). v < length vs) freed_vertices removes.here
-
-        abbrev last : ℕ
-        last = length old.vertices - 1
-
-        abbrev old_index : ℕ → ℕ
-        old_index k = if nat_eq k v then last else k
 
         left : (a b : ℕ) → Joins (constraint_pairs constraints new.mesh new.undirected) a b ↔ ((a < last) × (b < last) × Joins now (old_index a) (old_index b))
         left a b = subst (λ (vs : List V). Joins (constraint_pairs constraints new.mesh new.undirected) a b ↔ ((a < length vs - 1) × (b < length vs - 1) × Joins now (if nat_eq a v then length vs - 1 else a) (if nat_eq b v then length vs - 1 else b))) freed_vertices
