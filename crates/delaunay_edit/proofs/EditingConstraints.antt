@@ -1,6 +1,6 @@
 -- Paths of constraints that are added to a triangulation, and constraints that are released.
-use Rattle.std.proofs.Common.{◌≡◌, ◌≢◌, ◌⊎◌, ◌↔◌, ℕ, ◌*◌, ◌<◌, ◌≤◌, Bool, true, false, List, [], length, map, refl, sym, ap, subst, inl, inr}
-use Rattle.std.specs.Prelude.{Contains, IsTrue, Result, Ok}
+use Rattle.std.proofs.Common.{◌≡◌, ◌≢◌, ◌⊎◌, ℕ, ◌*◌, ◌<◌, Bool, true, false, List, [], length, map, refl, sym, ap, subst, inl, inr}
+use Rattle.std.specs.Prelude.{Contains, Result, Ok}
 use Rattle.half_edge_mesh.specs.Contents.{Contents}
 use Rattle.half_edge_mesh.specs.Mesh.{origin, rev}
 use Rattle.plane.specs.Fraction.{Point}
@@ -18,11 +18,12 @@ use Rattle.delaunay_edit.specs.ConstraintEdits.{AddsConstraint, AddsPathIfFree, 
 use Rattle.delaunay_edit.specs.Headline.{IsDelaunay}
 
 -- ---- pieces of a path are neighbours on its segment
-next_of : (points : List Point) (i j a b : ℕ) → AreNeighboursOn points i j a b → AreNextOn points i j a b
-next_of points i j a b n = record { apart = n.apart; first_index = n.first_index; second_index = n.second_index; first = n.first; second = n.second; none_between = n.none_between }
+module _ {V : Type 0} (place : V → Point) (points : List Point) (i j a b : ℕ) where
+  next_of : AreNeighboursOn place points i j a b → AreNextOn points i j a b
+  next_of n = record { apart = n.apart; first_index = n.first_index; second_index = n.second_index; first = n.first; second = n.second; none_between = n.none_between }
 
-neighbours_of : (points : List Point) (i j a b : ℕ) → AreNextOn points i j a b → AreNeighboursOn points i j a b
-neighbours_of points i j a b n = record { apart = n.apart; first_index = n.first_index; second_index = n.second_index; first = n.first; second = n.second; none_between = n.none_between }
+  neighbours_of : AreNextOn points i j a b → AreNeighboursOn place points i j a b
+  neighbours_of n = record { apart = n.apart; first_index = n.first_index; second_index = n.second_index; first = n.first; second = n.second; none_between = n.none_between }
 
 module _ {V D U F : Type 0} (place : V → Point) where
   -- ---- nothing is left to add
@@ -36,7 +37,7 @@ module _ {V D U F : Type 0} (place : V → Point) where
         ends = (hi, hj);
         free = free;
         vertices = refl;
-        constraints = λ a b. ((λ x. inl x), (λ x. elim x [ inl y ↦ y | inr n ↦ all a b (next_of (map place s.vertices) from to a b n) ]));
+        constraints = λ a b. ((λ x. inl x), (λ x. elim x [ inl y ↦ y | inr n ↦ all a b (next_of place (map place s.vertices) from to a b n) ]));
       };
       told = ((λ t. absurd (both_ways false t refl)), (λ differ. absurd (differ (λ a b. ((λ x. x), (λ x. x))))));
       «data» = unmarked;
@@ -46,7 +47,7 @@ module _ {V D U F : Type 0} (place : V → Point) where
   -- ---- a path is added
   module _ (old new : State V D (CdtEdge U) F) (from to : ℕ) (adds : Adds place (constrained old) (constrained new) from to) where
     pub pairs_differ : ¬ AreJoinedAlong (map place old.vertices) (constraints_of old) from to → ¬ SamePairs (constraints_of old) (constraints_of new)
-    pairs_differ some same = some (λ a b next. (same a b).0 ((adds.constraints a b).1 (inr (neighbours_of (map place old.vertices) from to a b next))))
+    pairs_differ some same = some (λ a b next. (same a b).0 ((adds.constraints a b).1 (inr (neighbours_of place (map place old.vertices) from to a b next))))
 
     pub path_added : {E : Type 0} (result : Result Bool E) → result ≡ Ok true → ¬ AreJoinedAlong (map place old.vertices) (constraints_of old) from to → MarksEdges old new → AddsConstraint place from to result old new
     path_added {E} result is some marks = subst (λ (r : Result Bool E). AddsConstraint place from to r old new) (sym is) (record {
@@ -58,7 +59,7 @@ module _ {V D U F : Type 0} (place : V → Point) where
 
     -- each of its pieces is an edge
     pub path_is_there : IsDelaunay place constraint_edges new → HasPath (map place new.vertices) new.mesh from to
-    path_is_there headline a b next = headline.delaunay.kept a b ((adds.constraints a b).1 (inr (neighbours_of (map place old.vertices) from to a b (subst (λ (vs : List V). AreNextOn (map place vs) from to a b) adds.vertices next))))
+    path_is_there headline a b next = headline.delaunay.kept a b ((adds.constraints a b).1 (inr (neighbours_of place (map place old.vertices) from to a b (subst (λ (vs : List V). AreNextOn (map place vs) from to a b) adds.vertices next))))
 
     pub path_listed : from ≢ to → CanAdd place (constrained old) from to → (edges : List ℕ) → LeadAlong (map place new.vertices) new.mesh from to edges → MarksEdges old new → AddsPathIfFree place from to edges old new
     path_listed apart free edges along marks = record {

@@ -1,12 +1,12 @@
 -- The edges round a vertex cease to be constraints, one after another.
-use Rattle.std.proofs.Common.{◌≡◌, ◌≢◌, ◌⊎◌, ℕ, ◌+◌, ◌*◌, ◌/◌, ◌<◌, List, length, set, Some, refl, sym, ap, ◌∙◌, subst, inl, inr, arith}
+use Rattle.std.proofs.Common.{◌≡◌, ◌≢◌, ℕ, ◌+◌, ◌*◌, ◌/◌, ◌<◌, List, length, set, Some, refl, sym, ap, ◌∙◌, subst, inl, inr, arith}
 use Rattle.std.specs.Prelude.{Bool, false, Option, None, IsSome, slice_get}
 use Rattle.std.proofs.lemmas.Bool.{cases_eq}
 use Rattle.std.proofs.lemmas.List.{length-set, get_or-set_same}
 use Rattle.std.proofs.lemmas.Option.{slice_get_within, get_or_from_slice_get}
 use Rattle.std.proofs.Math.Numerals.{add-one}
 use Rattle.half_edge_mesh.specs.Contents.{Contents, IsMeshWithData}
-use Rattle.half_edge_mesh.specs.Mesh.{Mesh, IsValidMesh, origin, out_edge, rev}
+use Rattle.half_edge_mesh.specs.Mesh.{Mesh, origin, out_edge, rev}
 use Rattle.half_edge_mesh.specs.Peel.{turn, spoke}
 use Rattle.half_edge_mesh.specs.Round.{IsRound}
 use Rattle.half_edge_links.proofs.Rev.{rev_within}

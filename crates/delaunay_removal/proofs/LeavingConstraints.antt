@@ -1,11 +1,11 @@
 -- The constraints that are left where a vertex goes that has none.
-use Rattle.std.proofs.Common.{◌≡◌, ◌≢◌, ◌⊎◌, ◌↔◌, ℕ, suc, ◌+◌, ◌-◌, ◌*◌, ◌/◌, ◌<◌, List, length, Some, refl, sym, ap, ◌∙◌, subst, inl, inr, arith}
+use Rattle.std.proofs.Common.{◌≡◌, ◌≢◌, ◌⊎◌, ◌↔◌, ℕ, suc, ◌+◌, ◌-◌, ◌*◌, ◌<◌, List, length, Some, refl, sym, ap, ◌∙◌, subst, inl, inr, arith}
 use Rattle.std.specs.Prelude.{Bool, true, false, nat_eq, if◌then◌else◌, Contains}
 use Rattle.std.proofs.lemmas.Bool.{cases_eq}
 use Rattle.std.proofs.lemmas.Bool.Decides.{nat_tests}
 use Rattle.std.proofs.lemmas.Option.{slice_get_within}
 use Rattle.half_edge_mesh.specs.Contents.{Contents, IsMeshWithData}
-use Rattle.half_edge_mesh.specs.Mesh.{origin, rev}
+use Rattle.half_edge_mesh.specs.Mesh.{origin}
 use Rattle.half_edge_mesh.specs.Removal.{FullEdge, full_edges, renumbered_edge}
 use Rattle.half_edge_mesh.specs.Renames.{moved}
 use Rattle.half_edge_links.proofs.OpenSound.{moved_hit, moved_miss}
@@ -13,7 +13,7 @@ use Rattle.plane.specs.Pairs.{Joins, IsSamePair}
 use Rattle.delaunay_legalization.specs.Constraints.{marked_edges, constraint_pairs}
 use Rattle.delaunay_legalization.proofs.MarkedPairs.{JoinsByMark, mark_joins, joined_by_mark}
 use Rattle.delaunay_legalization.proofs.Questions.{both_ways}
-use Rattle.delaunay_removal.specs.Data.{HasValueAt, RenumbersEdges}
+use Rattle.delaunay_removal.specs.Data.{RenumbersEdges}
 use Rattle.delaunay_removal.proofs.DataReads.{IsEdgeAt, edge_of, edge_read, rev_of_even, half_of_even}
 
 -- ---- the indexes

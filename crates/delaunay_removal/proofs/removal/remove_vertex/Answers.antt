@@ -1,4 +1,4 @@
-use Rattle.std.proofs.Common.{◌≡◌, ◌<◌, ◌≤◌, List, length, map, Some, sym, subst, vec_capacity}
+use Rattle.std.proofs.Common.{◌≡◌, ◌<◌, ◌≤◌, length, map, Some, sym, subst, vec_capacity}
 use Rattle.std.specs.Prelude.{All, slice_get}
 use Rattle.delaunay_removal.proofs.RemovingConstraints.{freed_vertices, freed_directed, freed_kept, plain_left, data_left}
 use Rattle.delaunay_removal.proofs.removal.remove_vertex.Goals as goal
