@@ -2,8 +2,8 @@
 //! refused.
 ghost use Rattle.std.specs.Prelude.{◌<◌, length, IfSome};
 
-use delaunay_edit::ConstrainedDelaunayTriangulation;
 use delaunay_core::point::Point2;
+use delaunay_edit::ConstrainedDelaunayTriangulation;
 use exact_tests::ExactTests;
 use half_edge_mesh::{FixedUndirectedEdgeHandle, FixedVertexHandle};
 

@@ -17,5 +17,5 @@ returns g c = (
       let index = c.index.ensures in
       let count = c.num_vertices.ensures.value in
       omega (arith, below, not, index, count)
-  )),
+      )),
 )
