@@ -1,4 +1,4 @@
-use Rattle.delaunay_edit.proofs.removal.DelaunayTriangulation+V+DE+UE+F+L.remove.Goals as goal
+use Rattle.delaunay_edit.proofs.triangulation_core.TriangulationCore.remove.Goals as goal
 
 pub take_out-removed-requires-clause-sites : goal.take_out-removed-requires-clause-sites
 take_out-removed-requires-clause-sites g c = c.requires.sites c.recall_invariant.ensures.in_range

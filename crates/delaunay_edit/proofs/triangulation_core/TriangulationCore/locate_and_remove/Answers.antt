@@ -1,7 +1,7 @@
 use Rattle.std.proofs.Common.{◌∙◌, refl, sym}
 use Rattle.std.proofs.lemmas.List.{length-map}
 use Rattle.delaunay_edit.proofs.Removing.{read_place}
-use Rattle.delaunay_edit.proofs.removal.DelaunayTriangulation+V+DE+UE+F+L.locate_and_remove.Goals as goal
+use Rattle.delaunay_edit.proofs.triangulation_core.TriangulationCore.locate_and_remove.Goals as goal
 
 pub returns-in_ok-remove-in-Some-clause-removes : goal.returns-in_ok-remove-in-Some-clause-removes
 returns-in_ok-remove-in-Some-clause-removes g c =
