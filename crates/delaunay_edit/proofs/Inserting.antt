@@ -1,31 +1,32 @@
 -- Each way in which an insertion ends.
-use Rattle.std.proofs.Common.{◌≡◌, ℕ, ◌+◌, ◌*◌, ◌<◌, List, ◌++◌, ◌∷◌, [], length, map, refl, ap, inl, slice_set, Result, Ok, Err}
+use Rattle.std.proofs.Common.{◌≡◌, ℕ, ◌+◌, ◌*◌, ◌<◌, List, ◌++◌, ◌∷◌, [], length, map, refl, sym, ap, subst, inl, slice_set, Result, Ok, Err}
 use Rattle.std.specs.Prelude.{◌↔◌, IfOk, OnOk, OnErr, IsErrOf}
 use Rattle.std.proofs.lemmas.List.{length-map}
 use Rattle.half_edge_links.specs.declared.room.TheConstants.{MAX_ELEMENTS}
 use Rattle.plane.specs.Fraction.{Point}
+use Rattle.plane.specs.Pairs.{Joins}
 use Rattle.plane.specs.Plain.{Replaces}
 use Rattle.plane.specs.Tests.{InRange}
 use Rattle.delaunay_core.specs.declared.math.InsertionError.{InsertionError}
 use Rattle.delaunay_core.specs.declared.math.InsertionError.TheVariants.{TooLarge, OutOfIndexes}
-use Rattle.delaunay_legalization.specs.Constraints.{points_and_constraints_by}
+use Rattle.delaunay_legalization.specs.Constraints.{constraints_by, points_and_constraints_by}
 use Rattle.delaunay_legalization.specs.Known.{IsKnown, point_at}
 use Rattle.delaunay_legalization.specs.Shape.{IsTriangulated}
 use Rattle.delaunay_legalization.specs.State.{State}
-use Rattle.delaunay_edit.specs.Constrained.{none}
 use Rattle.delaunay_edit.specs.Data.{KeepsData}
 use Rattle.delaunay_edit.specs.Edits.{InsertsVertex}
 use Rattle.delaunay_edit.specs.Location.{IsApart}
+use Rattle.delaunay_insertion.specs.Constraints.{SplitsConstraints}
 use Rattle.delaunay_insertion.proofs.Appending.{inserted}
 use Rattle.delaunay_insertion.proofs.DataKept.{overwritten_keeps}
 
 ok_is_no_error : {E : Type 0} (i : ℕ) (e : E) → ¬ (Ok i ≡ Err e)
 ok_is_no_error i e h = cc
 
-module _ {V D U F : Type 0} (place : V → Point) (old : State V D U F) (value : V) where
+module _ {V D U F : Type 0} (place : V → Point) (constraints : List U → List ℕ) (old : State V D U F) (value : V) where
   -- a vertex is overwritten
   pub overwritten : (new : State V D U F) (i : ℕ) → IsTriangulated place old → InRange (place value) → i < length old.vertices → point_at (map place old.vertices) i ≡ place value → new ≡ record old { vertices = slice_set old.vertices i value }
-      → Replaces place (points_and_constraints_by none old) (points_and_constraints_by none new) i value → InsertsVertex place none value (Ok i) old new
+      → Replaces place (points_and_constraints_by constraints old) (points_and_constraints_by constraints new) i value → InsertsVertex place constraints value (Ok i) old new
   overwritten new i kept near below here same replaces =
       let known : IsKnown (map place old.vertices) (place value) = record { index = i; below = rw length-map below; here = here } in
       record {
@@ -41,17 +42,23 @@ module _ {V D U F : Type 0} (place : V → Point) (old : State V D U F) (value :
 
   -- a vertex is appended, or there is no room for it
   pub appended_or_refused : (new : State V D U F) (result : Result ℕ InsertionError) → InRange (place value) → IsApart (map place old.vertices) (place value) → ¬ IsErrOf result TooLarge
-      → (IsErrOf result OutOfIndexes ↔ (MAX_ELEMENTS < 6 * (length old.vertices + 1))) → IfOk result (λ i. i ≡ length old.vertices) → OnOk result (new.vertices ≡ old.vertices ++ value ∷ []) → new.outer ≡ old.outer → OnOk result (KeepsData old new) → OnErr result (new ≡ old)
-      → InsertsVertex place none value result old new
-  appended_or_refused new result near apart not_large full last vertices outer kept err =
+      → (IsErrOf result OutOfIndexes ↔ (MAX_ELEMENTS < 6 * (length old.vertices + 1))) → IfOk result (λ i. i ≡ length old.vertices) → OnOk result (new.vertices ≡ old.vertices ++ value ∷ []) → new.outer ≡ old.outer → OnOk result (KeepsData old new) → OnOk result (SplitsConstraints place constraints old new value) → OnErr result (new ≡ old)
+      → InsertsVertex place constraints value result old new
+  appended_or_refused new result near apart not_large full last vertices outer kept splits err =
       let unknown : ¬ IsKnown (map place old.vertices) (place value) = λ known. apart.apart known.index known.below known.here in
       record {
         too_large = ((λ e. absurd (not_large e)), (λ far. absurd (far near)));
         known = λ _ known. absurd (unknown known);
         full = ((λ e. (near, unknown, full.0 e)), (λ h. full.1 h.2));
-        ok = inserted place old new value apart result last vertices;
+        ok = inserted place constraints old new value apart result last vertices splits;
         replaced = λ known. absurd (unknown known);
         outer = outer;
         «data» = kept;
         err = err;
       }
+
+-- room was made, a vertex was put in, and edges were turned
+pub splits_legalized : {V D U F : Type 0} (place : V → Point) (constraints : List U → List ℕ) (value : V) (ready old mid new : State V D U F) → SplitsConstraints place constraints ready mid value → ready ≡ old → constraints_by constraints new ≡ constraints_by constraints mid → SplitsConstraints place constraints old new value
+splits_legalized place constraints value ready old mid new splits same stays =
+    subst (λ s. SplitsConstraints place constraints s new value) same
+    (λ i j. ((λ h. (splits i j).0 (subst (λ (ps : List (ℕ × ℕ)). Joins ps i j) stays h)), (λ x. subst (λ (ps : List (ℕ × ℕ)). Joins ps i j) (sym stays) ((splits i j).1 x))))

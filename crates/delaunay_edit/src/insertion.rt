@@ -2,21 +2,21 @@
 ghost use Rattle.std.specs.Prelude.{◌≡◌, ◌↔◌, ℕ, ◌+◌, ◌*◌, ◌<◌, ◌++◌, ◌∷◌, [], length, map, All, IsTrue, IsErrOf, IfOk, OnErr, OnOk};
 ghost use Rattle.plane.specs.Tests.{InRange};
 ghost use Rattle.delaunay_core.specs.declared.math.InsertionError.TheVariants.{TooLarge, OutOfMemory, OutOfIndexes};
+ghost use Rattle.delaunay_insertion.specs.Constraints.{SplitsConstraints};
 ghost use Rattle.delaunay_legalization.specs.Flips.{CountsFlips, FlipsFit};
-ghost use Rattle.delaunay_edit.specs.Constrained.{none};
 ghost use Rattle.delaunay_edit.specs.Data.{KeepsData};
 ghost use Rattle.delaunay_edit.specs.Edits.{InsertsVertex};
 ghost use Rattle.delaunay_edit.specs.Entry.{IsEntry, IsVacant};
 ghost use Rattle.delaunay_edit.specs.Headline.{AreSites, IsDelaunay};
 ghost use Rattle.delaunay_edit.specs.Location.{HasHandle, IsLeftOfPlace};
 
-use crate::delaunay_triangulation::DelaunayTriangulation;
 use crate::insertion_cases::insert_at;
+use crate::triangulation_core::TriangulationCore;
 use delaunay_core::HintGenerator;
 use delaunay_core::math::{InsertionError, PlaneTests, validate_vertex};
 use delaunay_core::point::HasPosition;
-use delaunay_insertion::reserve_for_vertex;
-use delaunay_legalization::{NoConstraints, legalize_star, reserve_for_edges, turns_left};
+use delaunay_insertion::{FreeByDefault, reserve_for_vertex};
+use delaunay_legalization::{legalize_star, reserve_for_edges, turns_left};
 use delaunay_location::PositionInTriangulation;
 use half_edge_mesh::{FixedVertexHandle, MAX_ELEMENTS};
 
@@ -34,7 +34,8 @@ impl<
     UE: Default,
     F: Default,
     L: HintGenerator<V::Scalar>,
-> DelaunayTriangulation<V, DE, UE, F, L> {
+    M: FreeByDefault<UE>,
+> TriangulationCore<V, DE, UE, F, L, M> {
     // The new last vertex, with the edges of the faces at it tested, or a refusal that changes nothing.
     fn append<P: PlaneTests<V::Scalar>>(
         &mut self,
@@ -55,19 +56,14 @@ impl<
         ensures vertices { OnOk result (self.new.vertices ≡ self.old.vertices ++ value ∷ []) }
         ensures outer { self.new.outer ≡ self.old.outer }
         ensures data { OnOk result (KeepsData self.old self.new) }
+        ensures constraints { OnOk result (SplitsConstraints V.place M.constraints self.old self.new value) }
         ensures err { OnErr result (self.new ≡ self.old) }
         ensures counted { CountsFlips (length self.new.vertices) flips.old flips.new }
     {
         reserve_for_vertex(&mut self.dcel)?;
         reserve_for_edges(&mut self.work, 3 * (self.dcel.num_vertices() + 1))?;
-        let vertex = insert_at(&mut self.dcel, location, turns, value, tests);
-        legalize_star::<NoConstraints, _, _, _, _, _>(
-            &mut self.dcel,
-            vertex,
-            tests,
-            &mut self.work,
-            flips,
-        );
+        let vertex = insert_at::<M, _, _, _, _, _>(&mut self.dcel, location, turns, value, tests);
+        legalize_star::<M, _, _, _, _, _>(&mut self.dcel, vertex, tests, &mut self.work, flips);
         Ok(vertex)
     }
 
@@ -94,15 +90,19 @@ impl<
         }
     }
 
-    // What is at the position of a value. The search begins at the last vertex.
-    fn entry<P: PlaneTests<V::Scalar>>(&self, value: &V, tests: &P) -> Entry
+    // What is at the position of a value. The search begins at a vertex, or at vertex 0 where there is no such vertex.
+    fn entry<P: PlaneTests<V::Scalar>>(
+        &self,
+        value: &V,
+        start: FixedVertexHandle,
+        tests: &P,
+    ) -> Entry
         requires sites { All (P.sites tests.now) (map V.place self.now.vertices) }
         requires covered { P.covered tests.now (V.place value.now) }
         ensures { IsEntry V.place self.now (V.place value.now) result }
     {
         self.recall_invariant();
-        let last = FixedVertexHandle::from_index(self.num_vertices().saturating_sub(1) as u32);
-        let location = self.find_location(value.position(), last, tests);
+        let location = self.find_location(value.position(), start, tests);
         match location {
             PositionInTriangulation::OnVertex(vertex) => Entry::Occupied(vertex),
             _ => {
@@ -114,8 +114,8 @@ impl<
 
     /// Inserts a vertex and gives its handle. The first of these that applies decides: `TooLarge` where a coordinate is out
     /// of range; the handle of the vertex at its position, which it replaces; `OutOfIndexes` where the mesh is full;
-    /// `OutOfMemory` where memory was refused; else the handle of the new last vertex. A refused vertex is dropped, and
-    /// nothing else changes.
+    /// `OutOfMemory` where memory was refused; else the handle of the new last vertex. A constraint that the new vertex is
+    /// strictly within becomes two, and no other edge becomes one. A refused vertex is dropped, and nothing else changes.
     pub fn insert<P: PlaneTests<V::Scalar>>(
         &mut self,
         value: V,
@@ -123,8 +123,8 @@ impl<
     ) -> Result<FixedVertexHandle, InsertionError>
         requires sites { AreSites V.place (P.sites tests.now) self.old.vertices }
         requires new_site { InRange (V.place value) → P.sites tests.now (V.place value) }
-        ensures inserts { InsertsVertex V.place none value result self.old self.new }
-        ensures headline { IsDelaunay V.place none self.new }
+        ensures inserts { InsertsVertex V.place M.constraints value result self.old self.new }
+        ensures headline { IsDelaunay V.place M.constraints self.new }
     {
         self.recall_invariant();
         let mut flips = 0;
@@ -141,13 +141,33 @@ impl<
         requires sites { AreSites V.place (P.sites tests.now) self.old.vertices }
         requires new_site { InRange (V.place value) → P.sites tests.now (V.place value) }
         requires fits { FlipsFit (length self.old.vertices + 1) flips.old }
-        ensures inserts { InsertsVertex V.place none value result self.old self.new }
-        ensures headline { IsDelaunay V.place none self.new }
+        ensures inserts { InsertsVertex V.place M.constraints value result self.old self.new }
+        ensures headline { IsDelaunay V.place M.constraints self.new }
+        ensures counted { CountsFlips (length self.new.vertices) flips.old flips.new }
+    {
+        let last = FixedVertexHandle::from_index(self.num_vertices().saturating_sub(1) as u32);
+        self.insert_from(value, last, tests, flips)
+    }
+
+    /// Does what `insert` does, and adds the number of flips to `flips`. The search for the position begins at a vertex, or
+    /// at vertex 0 where there is no such vertex.
+    pub fn insert_from<P: PlaneTests<V::Scalar>>(
+        &mut self,
+        value: V,
+        start: FixedVertexHandle,
+        tests: &P,
+        flips: &mut u64,
+    ) -> Result<FixedVertexHandle, InsertionError>
+        requires sites { AreSites V.place (P.sites tests.now) self.old.vertices }
+        requires new_site { InRange (V.place value) → P.sites tests.now (V.place value) }
+        requires fits { FlipsFit (length self.old.vertices + 1) flips.old }
+        ensures inserts { InsertsVertex V.place M.constraints value result self.old self.new }
+        ensures headline { IsDelaunay V.place M.constraints self.new }
         ensures counted { CountsFlips (length self.new.vertices) flips.old flips.new }
     {
         self.recall_invariant();
         validate_vertex(&value)?;
-        match self.entry(&value, tests) {
+        match self.entry(&value, start, tests) {
             Entry::Occupied(vertex) => {
                 let _ = self.replace_vertex(vertex, value);
                 Ok(vertex)

@@ -2,6 +2,7 @@
 ghost use Rattle.std.specs.Prelude.{◌≡◌, ◌↔◌, ◌+◌, ◌*◌, ◌++◌, ◌∷◌, [], length, map, All, IsTrue};
 ghost use Rattle.half_edge_mesh.specs.Room.{HasRoomFor};
 ghost use Rattle.plane.specs.Tests.{InRange};
+ghost use Rattle.delaunay_insertion.specs.Constraints.{SplitsConstraints};
 ghost use Rattle.delaunay_insertion.specs.Data.{GrowsAround};
 ghost use Rattle.delaunay_edit.specs.Location.{IsApart, IsLeftOfPlace, Locates};
 ghost use Rattle.delaunay_legalization.specs.Shape.{IsTriangulated};
@@ -12,15 +13,16 @@ ghost use Rattle.mesh_embedding.specs.Drawn.{faces_of};
 use delaunay_core::math::PlaneTests;
 use delaunay_core::point::HasPosition;
 use delaunay_insertion::{
-    insert_first, insert_inside_face, insert_past_end, insert_second, insert_within_edge,
-    join_outside,
+    FreeByDefault, insert_first, insert_inside_face, insert_past_end, insert_second,
+    insert_within_edge, join_outside,
 };
 use delaunay_location::PositionInTriangulation;
 use half_edge_mesh::{Dcel, FixedVertexHandle};
 
 // The new last vertex at a position that no vertex has. `turns` says whether the position is strictly on the left of the
-// edge that the location names.
+// edge that the location names. A constraint that the position is strictly within becomes two.
 pub(crate) fn insert_at<
+    M: FreeByDefault<UE>,
     V: HasPosition,
     DE: Default,
     UE: Default,
@@ -46,10 +48,13 @@ pub(crate) fn insert_at<
     ensures kept { IsTriangulated V.place (state_of dcel.new) }
     ensures grows { GrowsAround (map V.place dcel.old.vertices) (V.place value) (state_of dcel.old) (state_of dcel.new) }
     ensures made { MakesFacesAt (length dcel.old.vertices) (faces_of dcel.old.mesh) (faces_of dcel.new.mesh) }
+    ensures constraints { SplitsConstraints V.place M.constraints (state_of dcel.old) (state_of dcel.new) value }
 {
     match location {
         PositionInTriangulation::OnFace(face) => insert_inside_face(dcel, face, value),
-        PositionInTriangulation::OnEdge(edge) => insert_within_edge(dcel, edge, value),
+        PositionInTriangulation::OnEdge(edge) => {
+            insert_within_edge::<M, _, _, _, _>(dcel, edge, value)
+        }
         PositionInTriangulation::OutsideOfConvexHull(edge) => {
             if turns {
                 join_outside(dcel, edge, value, tests)

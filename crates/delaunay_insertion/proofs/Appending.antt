@@ -1,36 +1,27 @@
--- A vertex after the others, where there are no constraints.
-use Rattle.std.proofs.Common.{◌≡◌, ◌∙◌, ℕ, List, ◌++◌, ◌∷◌, [], length, map, sym, ap, subst, arith, Result, Ok, Err, inl, inr}
+-- A vertex after the others.
+use Rattle.std.proofs.Common.{◌≡◌, ◌∙◌, ℕ, List, ◌++◌, ◌∷◌, [], length, map, sym, ap, subst, Result, Ok, Err, inr}
 use Rattle.std.specs.Prelude.{pos, All, IfOk, OnOk}
 use Rattle.std.proofs.lemmas.List.{length-map, get_or-map, map-append}
 use Rattle.std.proofs.lemmas.List.Elements.{All-from_get_or, All-push}
 use Rattle.plane.specs.Fraction.{Point}
-use Rattle.plane.specs.Pairs.{Joins}
 use Rattle.plane.specs.Plain.{DifferInPosition, Appends, Inserts}
 use Rattle.delaunay_legalization.specs.Parts.{IsApart}
-use Rattle.delaunay_legalization.specs.State.{State, points_and_constraints}
+use Rattle.delaunay_legalization.specs.Constraints.{points_and_constraints_by}
+use Rattle.delaunay_legalization.specs.State.{State}
+use Rattle.delaunay_insertion.specs.Constraints.{SplitsConstraints}
 
-none_joined : (i j : ℕ) → ¬ Joins [] i j
-none_joined i j (inl c) = omega (arith, c.1)
-none_joined i j (inr c) = omega (arith, c.1)
-
-module _ {V D U F : Type 0} (at : V → Point) (old new : State V D U F) (v : V) (apart : IsApart (map at old.vertices) (at v)) where
-  appended : new.vertices ≡ old.vertices ++ v ∷ [] → Appends at (points_and_constraints old) (points_and_constraints new) v
-  appended is = record {
+module _ {V D U F : Type 0} (at : V → Point) (constraints : List U → List ℕ) (old new : State V D U F) (v : V) (apart : IsApart (map at old.vertices) (at v)) where
+  appended : new.vertices ≡ old.vertices ++ v ∷ [] → SplitsConstraints at constraints old new v → Appends at (points_and_constraints_by constraints old) (points_and_constraints_by constraints new) v
+  appended is splits = record {
     fresh = All-from_get_or (DifferInPosition at v) old.vertices v (λ i h e. apart.apart i (rw length-map h) (get_or-map at old.vertices i v (record { x = pos 0; y = pos 0 }) h ∙ sym e));
     vertices = is;
-    constraints = λ i j. (
-      (λ joined. absurd (none_joined i j joined)),
-      (λ was. elim was [
-        | inl kept ↦ absurd (none_joined i j kept.0)
-        | inr (inl half) ↦ absurd (none_joined _ _ half.1.1)
-        | inr (inr half) ↦ absurd (none_joined _ _ half.1.1)
-      ]),
-    );
+    constraints = splits;
   }
 
-  pub inserted : {E : Type 0} (result : Result ℕ E) → IfOk result (λ i. i ≡ length old.vertices) → OnOk result (new.vertices ≡ old.vertices ++ v ∷ []) → IfOk result (λ i. Inserts at (points_and_constraints old) (points_and_constraints new) v i)
-  inserted (Ok i) last is = inr (last, appended is)
-  inserted (Err e) last is = tt
+  pub inserted : {E : Type 0} (result : Result ℕ E) → IfOk result (λ i. i ≡ length old.vertices) → OnOk result (new.vertices ≡ old.vertices ++ v ∷ []) → OnOk result (SplitsConstraints at constraints old new v)
+      → IfOk result (λ i. Inserts at (points_and_constraints_by constraints old) (points_and_constraints_by constraints new) v i)
+  inserted (Ok i) last is splits = inr (last, appended is splits)
+  inserted (Err e) last is splits = tt
 
 -- the new vertex is a site as the others are
 pub sites_after : {V : Type 0} (at : V → Point) (sites : Point → Type 0) (old new : List V) (v : V) → new ≡ old ++ v ∷ [] → All sites (map at old) → sites (at v) → All sites (map at new)

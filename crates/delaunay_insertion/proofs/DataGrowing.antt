@@ -33,7 +33,7 @@ get_before [] ys k w = absurd (omega (arith, w))
 get_before (x ∷ xs) ys zero w = refl
 get_before (x ∷ xs) ys (suc k) w = get_before xs ys k (omega (arith, w))
 
-some_before : {X : Type 0} (xs ys : List X) (k : ℕ) (x : X) → slice_get xs k ≡ Some x → slice_get (xs ++ ys) k ≡ Some x
+pub some_before : {X : Type 0} (xs ys : List X) (k : ℕ) (x : X) → slice_get xs k ≡ Some x → slice_get (xs ++ ys) k ≡ Some x
 some_before xs ys k x e = get_before xs ys k (slice_get_within xs k x e) ∙ e
 
 -- in a list that grew
@@ -46,7 +46,7 @@ moved_entry P old new i j more k w n m g =
     ap (λ xs. slice_get xs k) g.whole ∙ get_before (set (set old i g.made) j g.also_made) (g.kept ∷ g.also_kept ∷ g.added) k (rw (length-set (set old i g.made) j g.also_made, length-set old i g.made) w)
     ∙ slice_get-set_other (set old i g.made) j k g.also_made m ∙ slice_get-set_other old i k g.made n
 
-with_ends_other : {U : Type 0} (xs : List (Edge U)) (i j : ℕ) (e : Ends) → j ≢ i → slice_get (with_ends xs i e) j ≡ slice_get xs j
+pub with_ends_other : {U : Type 0} (xs : List (Edge U)) (i j : ℕ) (e : Ends) → j ≢ i → slice_get (with_ends xs i e) j ≡ slice_get xs j
 with_ends_other [] i j e n = refl
 with_ends_other (x ∷ xs) zero zero e n = absurd (n refl)
 with_ends_other (x ∷ xs) zero (suc j) e n = refl
@@ -54,7 +54,7 @@ with_ends_other (x ∷ xs) (suc i) zero e n = refl
 with_ends_other (x ∷ xs) (suc i) (suc j) e n = with_ends_other xs i j e (λ q. n (ap suc q))
 
 -- in the list of edges with their data
-some_edge : {U : Type 0} (es : List Ends) (us : List U) (k : ℕ) → k < length es → k < length us → (e : Edge U) × (slice_get (edges_of es us) k ≡ Some e)
+pub some_edge : {U : Type 0} (es : List Ends) (us : List U) (k : ℕ) → k < length es → k < length us → (e : Edge U) × (slice_get (edges_of es us) k ≡ Some e)
 some_edge [] us k v w = absurd (omega (arith, v))
 some_edge (x ∷ es) [] k v w = absurd (omega (arith, w))
 some_edge (x ∷ es) (u ∷ us) zero v w = (edge_with x u, refl)
@@ -63,7 +63,7 @@ some_edge (x ∷ es) (u ∷ us) (suc k) v w = some_edge es us k (omega (arith, v
 abbrev ends_of : {U : Type 0} → Edge U → Ends
 ends_of e = record { source = e.source; target = e.target }
 
-parts_of_edge : {U : Type 0} (es : List Ends) (us : List U) (k : ℕ) (e : Edge U) → slice_get (edges_of es us) k ≡ Some e → (slice_get es k ≡ Some (ends_of e)) × (slice_get us k ≡ Some e.value)
+pub parts_of_edge : {U : Type 0} (es : List Ends) (us : List U) (k : ℕ) (e : Edge U) → slice_get (edges_of es us) k ≡ Some e → (slice_get es k ≡ Some (ends_of e)) × (slice_get us k ≡ Some e.value)
 parts_of_edge [] us k e h = absurd (cc)
 parts_of_edge (x ∷ es) [] k e h = absurd (cc)
 parts_of_edge (x ∷ es) (u ∷ us) zero e h = let q : edge_with x u ≡ e = cc in (ap (λ z. Some (ends_of z)) q, ap (λ z. Some z.value) q)
@@ -72,13 +72,13 @@ parts_of_edge (x ∷ es) (u ∷ us) (suc k) e h = parts_of_edge es us k e h
 pub rev_of_even : (k : ℕ) → rev (2 * k) ≡ 2 * k + 1
 rev_of_even k = grind (arith, common_steps)
 
-rev_half : (e : ℕ) → rev e / 2 ≡ e / 2
+pub rev_half : (e : ℕ) → rev e / 2 ≡ e / 2
 rev_half e = grind (arith, common_steps)
 
 no_ends : Ends
 no_ends = record { source = 0; target = 0 }
 
-ends_are : (m : Mesh) → AreSoundLinks m → (k : ℕ) (e : Ends) → slice_get (ends m) k ≡ Some e → (origin m (2 * k) ≡ e.source) × (origin m (rev (2 * k)) ≡ e.target)
+pub ends_are : (m : Mesh) → AreSoundLinks m → (k : ℕ) (e : Ends) → slice_get (ends m) k ≡ Some e → (origin m (2 * k) ≡ e.source) × (origin m (rev (2 * k)) ≡ e.target)
 ends_are m s k e h = (ap (λ (x : Ends). x.source) listed, ap (origin m) (rev_of_even k) ∙ ap (λ (x : Ends). x.target) listed)
   where
     listed : (let x : Ends = record { source = origin m (2 * k); target = origin m (2 * k + 1) } in x) ≡ e
@@ -114,7 +114,7 @@ inside_in a b c p h = go (three_weights IsPositive a b c p h)
 
 module _ (points : List Point) (p : Point) (m : Mesh) where
   -- both directions of an edge have it within
-  within_both : (e h : ℕ) → IsWithinEdge points m p e → h / 2 ≡ e / 2 → IsWithinEdge points m p h
+  pub within_both : (e h : ℕ) → IsWithinEdge points m p e → h / 2 ≡ e / 2 → IsWithinEdge points m p h
   within_both e h w same = elim (half_same e h same) [
     | inl q ↦ subst (IsWithinEdge points m p) (sym q) w
     | inr q ↦ subst (IsWithinEdge points m p) (sym q)

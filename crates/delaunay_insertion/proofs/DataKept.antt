@@ -1,23 +1,20 @@
 -- Data that stay where they are while a triangulation grows and edges are turned belong to what stands before and after.
 use Rattle.std.proofs.Common.{◌≡◌, ℕ, ◌/◌, ◌<◌, List, [], ◌∷◌, ◌++◌, length, map, get_or, sym, ap, ◌∙◌, subst, Some, inl, inr, arith}
 use Rattle.std.specs.Prelude.{slice_get}
-use Rattle.std.proofs.lemmas.List.{length-map, map-append, length-append}
+use Rattle.std.proofs.lemmas.List.{length-map}
 use Rattle.std.proofs.lemmas.Option.{slice_get_within, slice_get-get_or}
 use Rattle.half_edge_mesh.specs.Mesh.{origin, rev}
 use Rattle.half_edge_mesh.specs.Triangles.{Triangle, triangles}
-use Rattle.half_edge_links.proofs.Rev.{rev_within}
 use Rattle.half_edge_mesh.specs.Contents.{Contents}
-use Rattle.plane.specs.Fraction.{Point, Fraction, whole, WithinSegment, InTriangle}
+use Rattle.plane.specs.Fraction.{Point, Fraction, InTriangle}
 use Rattle.plane.specs.Pairs.{place, Joins}
 use Rattle.plane.specs.Tiling.{IsEdge}
-use Rattle.plane_tiling.proofs.Appended.{kept_point, last_point}
-use Rattle.plane_tiling.proofs.Locations.{no_edges_cross}
 use Rattle.plane_edits.specs.Change.{IsFaceOf}
-use Rattle.mesh_embedding.specs.Drawn.{drawn, faces_of, edges_of, outer_of}
+use Rattle.mesh_embedding.specs.Drawn.{drawn, faces_of, edges_of}
 use Rattle.mesh_embedding.specs.Stays.{GoSameWay, HaveSameCorners, KeepsIndexes}
-use Rattle.mesh_embedding.proofs.OwnEdges.{own_edges}
 use Rattle.mesh_embedding.proofs.MeshStays.{face_there, turned_back}
 use Rattle.mesh_embedding.proofs.MeshLegal.{own_indexes}
+use Rattle.delaunay_insertion.proofs.NewVertex.{place_stays, place_last, is_vertex, not_within, source_in, target_in}
 use Rattle.delaunay_insertion.specs.Data.{KeepsData, KeepsEdge, GrowsAround, IsInCorners}
 use Rattle.delaunay_legalization.specs.Shape.{IsTriangulated}
 use Rattle.delaunay_legalization.specs.State.{State, state_of}
@@ -58,37 +55,13 @@ module _ {V D U F : Type 0} (at : V → Point) (v : V) (old mid new : State V D 
   abbrev after : List Point
   after = map at new.vertices
 
-  points : after ≡ before ++ at v ∷ []
-  points = ap (map at) vertices ∙ map-append at old.vertices (v ∷ [])
-
-  place_stays : (i : ℕ) → i < length old.vertices → place before i ≡ place after i
-  place_stays i w = ap whole (kept_point before (at v) i (omega (arith, w, length-map old.vertices at))) ∙ ap (λ ps. place ps i) (sym points)
-
-  place_last : whole (at v) ≡ place after (length old.vertices)
-  place_last = ap whole (sym (last_point before (at v))) ∙ ap (λ ps. place ps (length before)) (sym points) ∙ ap (place after) (length-map old.vertices at)
-
-  is_vertex : length old.vertices < length after
-  is_vertex = omega (arith, length-map new.vertices at, ap length vertices, length-append old.vertices (v ∷ []))
-
-  -- an edge that stands afterwards does not have the new vertex strictly within it
-  not_within : (i j : ℕ) → i < length old.vertices → j < length old.vertices → IsEdge (drawn after new.mesh) i j → ¬ WithinSegment (place before i) (place before j) (whole (at v))
-  not_within i j k l e w =
-      (no_edges_cross after (faces_of new.mesh) (outer_of new.mesh) (edges_of new.mesh) now.shape (own_edges new.mesh now.valid)).0 i j (length old.vertices) e is_vertex
-      (subst (λ (x : Fraction × Fraction × Fraction). WithinSegment x.0 x.1 x.2) (λ o. (place_stays i k o, place_stays j l o, place_last o)) w)
-
-  source_in : (g : ℕ) → g < length old.directed → origin old.mesh g < length old.vertices
-  source_in g w = let o = (was.valid.sound.edges g (subst (λ n. g < n) was.fits.directed_fit w)).origin_in in let f = was.fits.vertices_fit in omega (arith, o, f)
-
-  target_in : (g : ℕ) → g < length old.directed → origin old.mesh (rev g) < length old.vertices
-  target_in g w = source_in (rev g) (subst (λ n. rev g < n) (sym was.fits.directed_fit) (rev_within g (length old.mesh.half_edges) was.valid.sound.even (subst (λ n. g < n) was.fits.directed_fit w)))
-
   new_directed : new.directed ≡ mid.directed
   new_directed = ap (λ s. s.directed) same
 
   data_edges : (g h : ℕ) → g < length old.directed → h < length new.directed → GoSameWay old.mesh g new.mesh h → KeepsEdge old mid g × (h ≡ g)
   data_edges g h w x way = elim (grows.edges g w) [
     | inl k ↦ (k, indexes.edges g h (still k) there (way.0 ∙ sym k.ends.0, way.1 ∙ sym k.ends.1))
-    | inr inside ↦ absurd (not_within (origin old.mesh g) (origin old.mesh (rev g)) (source_in g w) (target_in g w) (stands (edge_joins new.mesh now.valid.sound h there)) inside)
+    | inr inside ↦ absurd (not_within at v old new was now vertices (origin old.mesh g) (origin old.mesh (rev g)) (source_in at v old new was now vertices g w) (target_in at v old new was now vertices g w) (stands (edge_joins new.mesh now.valid.sound h there)) inside)
   ]
     where
       there : h < length new.mesh.half_edges
@@ -104,7 +77,7 @@ module _ {V D U F : Type 0} (at : V → Point) (v : V) (old mid new : State V D 
   not_in_face : (f : ℕ) (t u : Triangle) (g : ℕ) → slice_get (triangles old.mesh) f ≡ Some t → slice_get (triangles new.mesh) g ≡ Some u → HaveSameCorners t u → ¬ IsInCorners before (at v) t
   not_in_face f t u g p q corners inside = elim (laid_out_tiles after new.mesh now.valid now.shape) as (λ _. ⊥) [
     | inr line ↦ no_side after new.mesh t.first t.second line.no_face (t.third, listed)
-    | inl tiling ↦ elim (tiling.empty t.first t.second t.third (length old.vertices) listed is_vertex moved) as (λ _. ⊥) [
+    | inl tiling ↦ elim (tiling.empty t.first t.second t.third (length old.vertices) listed (is_vertex at v old new was now vertices) moved) as (λ _. ⊥) [
       | inl e ↦ differs t.first bounds.0 e
       | inr r ↦ elim r as (λ _. ⊥) [ inl e ↦ differs t.second bounds.1 e | inr e ↦ differs t.third bounds.2 e ]
     ]
@@ -129,7 +102,7 @@ module _ {V D U F : Type 0} (at : V → Point) (v : V) (old mid new : State V D 
       ]
 
       moved : InTriangle (place after t.first) (place after t.second) (place after t.third) (place after (length old.vertices))
-      moved = subst (λ (x : Fraction × Fraction × Fraction × Fraction). InTriangle x.0 x.1 x.2 x.3) (λ o. (place_stays t.first bounds.0 o, place_stays t.second bounds.1 o, place_stays t.third bounds.2 o, place_last o)) inside
+      moved = subst (λ (x : Fraction × Fraction × Fraction × Fraction). InTriangle x.0 x.1 x.2 x.3) (λ o. (place_stays at v old new was now vertices t.first bounds.0 o, place_stays at v old new was now vertices t.second bounds.1 o, place_stays at v old new was now vertices t.third bounds.2 o, place_last at v old new was now vertices o)) inside
 
   data_face : (f g : ℕ) (t u : Triangle) → slice_get (triangles old.mesh) f ≡ Some t → slice_get (triangles new.mesh) g ≡ Some u → HaveSameCorners t u → slice_get new.faces g ≡ slice_get old.faces f
   data_face f g t u p q corners = elim (grows.faces f t p) [

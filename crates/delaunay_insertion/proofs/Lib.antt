@@ -5,5 +5,11 @@ pub mod Growing
 pub mod InsertionCases
 pub mod MadeFaces
 pub mod DataGrowing
+pub mod EdgeLists
+pub mod NewVertex
+pub mod MarkedEdges
+pub mod EdgeSplits
+pub mod SplitConstraints
+pub mod LeftToTest
 pub mod DataKept
 pub mod Appending

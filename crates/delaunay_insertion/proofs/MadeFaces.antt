@@ -1,25 +1,19 @@
 -- A new vertex is a corner of each face that is made for it, so that no other edge is left to test.
-use Rattle.std.proofs.Common.{◌≡◌, ◌⊎◌, ℕ, ◌<◌, ◌≤◌, List, [], ◌∷◌, ◌++◌, length, map, refl, sym, ap, ◌∙◌, subst, inl, inr}
+use Rattle.std.proofs.Common.{◌≡◌, ◌⊎◌, ℕ, ◌<◌, ◌≤◌, List, [], ◌∷◌, length, map, refl, sym, ap, subst, inl, inr}
 use Rattle.std.specs.Prelude.{Contains}
-use Rattle.std.proofs.lemmas.List.{map-append}
 use Rattle.half_edge_mesh.specs.Mesh.{Mesh, IsValidMesh, IsInnerEdge, face_edge, with_vertex}
 use Rattle.half_edge_mesh.specs.Flip.{IsFlippable}
 use Rattle.half_edge_mesh.specs.Triangles.{triangles, InsertsTriangles, SplitsTriangles}
 use Rattle.half_edge_mesh.specs.Outline.{HalfSplitsTriangles}
-use Rattle.half_edge_mesh.specs.Contents.{Contents}
 use Rattle.plane.specs.Fraction.{Point}
-use Rattle.plane.specs.Pairs.{Joins}
 use Rattle.plane.specs.Tiling.{Face, face as corners}
 use Rattle.plane_tiling.proofs.Totals.{Contains-none, Contains-cases}
 use Rattle.plane_edits.specs.Change.{IsFaceOf, FacesChange}
 use Rattle.plane_edits.specs.Extension.{IsExtending, fan}
 use Rattle.plane_edits.proofs.Changes.{face_from, turn_of_all}
-use Rattle.mesh_embedding.specs.Drawn.{corners_of, faces_of, outer_of}
+use Rattle.mesh_embedding.specs.Drawn.{corners_of, faces_of}
 use Rattle.mesh_embedding.proofs.MeshEdits.{inserted_faces, split_faces, half_split_faces}
-use Rattle.delaunay_legalization.specs.Shape.{IsDelaunayTriangulation}
-use Rattle.delaunay_legalization.specs.Star.{IsOneOf, MakesFacesAt, AllPassBeside}
-use Rattle.delaunay_legalization.specs.State.{State, state_of}
-use Rattle.delaunay_legalization.proofs.Stars.{made_at_leaves}
+use Rattle.delaunay_legalization.specs.Star.{IsOneOf, MakesFacesAt}
 
 -- ---- faces with one corner in common
 abbrev HaveCorner : ℕ → List Face → Type 0
@@ -84,17 +78,3 @@ made_first m new v is = subst (λ (x : Mesh). MakesFacesAt v (faces_of m) (faces
 -- outside
 pub made_outside : (points : List Point) (q : Point) (faces new : List Face) (outer now : List (ℕ × ℕ)) (u w v : ℕ) → v ≡ length points → IsExtending points q faces new outer now u w → MakesFacesAt v faces new
 made_outside points q faces new outer now u w v is x = subst (λ (k : ℕ). MakesFacesAt k faces new) (sym is) (made_by faces new [] (fan (length points) u (x.second ∷ x.rest)) (length points) x.faces_change (fan_corner (length points) u (x.second ∷ x.rest)))
-
--- ---- what is left to test
-none_joined : (i j : ℕ) → ¬ Joins [] i j
-none_joined i j (inl c) = Contains-none (i, j) c
-none_joined i j (inr c) = Contains-none (j, i) c
-
--- where nothing is marked, and each edge passed before
-pub passes_beside : {V D U F : Type 0} (at : V → Point) (old : State V D U F) (ready mid : Contents V D U F) (v : V) (k n : ℕ) → IsDelaunayTriangulation at (λ _. []) old → state_of ready ≡ old → mid.vertices ≡ ready.vertices ++ v ∷ [] → k ≡ n → MakesFacesAt n (faces_of ready.mesh) (faces_of mid.mesh)
-    → AllPassBeside (map at mid.vertices) (faces_of mid.mesh) [] k
-passes_beside at old ready mid v k n legal same vertices is made =
-    let here : IsDelaunayTriangulation at (λ _. []) (state_of ready) = subst (IsDelaunayTriangulation at (λ _. [])) (sym same) legal in
-    subst (λ (ps : List Point). AllPassBeside ps (faces_of mid.mesh) [] k) (sym (ap (map at) vertices ∙ map-append at ready.vertices (v ∷ [])))
-    (made_at_leaves (map at ready.vertices) (at v) (faces_of ready.mesh) (faces_of mid.mesh) (outer_of ready.mesh) [] [] k here.kept.shape (λ a b c d f g free _. here.passing a b c d f g free)
-    (subst (λ (x : ℕ). MakesFacesAt x (faces_of ready.mesh) (faces_of mid.mesh)) (sym is) made) (λ a b h. absurd (none_joined a b h)))

@@ -1,2 +1,4 @@
 pub mod Data
+pub mod Edges
+pub mod Constraints
 pub mod Joining

@@ -1,20 +1,25 @@
 //! A new vertex inside a face or within an edge.
-ghost use Rattle.std.specs.Prelude.{◌≡◌, ◌+◌, ◌*◌, ◌<◌, ◌≤◌, ◌++◌, ◌∷◌, [], length, map};
+ghost use Rattle.std.specs.Prelude.{◌≡◌, ◌+◌, ◌*◌, ◌/◌, ◌<◌, ◌≤◌, ◌++◌, ◌∷◌, [], length, map};
 ghost use Rattle.half_edge_mesh.specs.Mesh.{rev, face, face_edge};
 ghost use Rattle.half_edge_mesh.specs.Room.{HasRoomFor};
-ghost use Rattle.half_edge_mesh.specs.Contents.{HasRoom};
+ghost use Rattle.half_edge_mesh.specs.Contents.{HasRoom, edges};
 ghost use Rattle.plane.specs.Tests.{InRange};
+ghost use Rattle.delaunay_insertion.specs.Constraints.{SplitsConstraints};
 ghost use Rattle.delaunay_insertion.specs.Data.{GrowsAround};
+ghost use Rattle.delaunay_insertion.specs.Edges.{AddsOnly, SplitsAt};
 ghost use Rattle.delaunay_legalization.specs.Parts.{IsInsideFaceOf, IsWithinEdge};
 ghost use Rattle.delaunay_legalization.specs.Shape.{IsTriangulated};
 ghost use Rattle.delaunay_legalization.specs.Star.{MakesFacesAt};
 ghost use Rattle.delaunay_legalization.specs.State.{state_of};
 ghost use Rattle.mesh_embedding.specs.Drawn.{faces_of};
 
-use crate::on_line::insert_within_line;
+use crate::free_by_default::FreeByDefault;
+use crate::on_line::split_line_edge;
 use delaunay_core::point::HasPosition;
-use delaunay_legalization::is_outer;
-use half_edge_mesh::{Dcel, FixedDirectedEdgeHandle, FixedFaceHandle, FixedVertexHandle};
+use delaunay_legalization::{is_constraint_edge, is_outer, make_constraint};
+use half_edge_mesh::{
+    Dcel, FixedDirectedEdgeHandle, FixedFaceHandle, FixedUndirectedEdgeHandle, FixedVertexHandle,
+};
 
 // A vertex strictly inside an inner face, joined to its corners.
 pub fn insert_inside_face<V: HasPosition, DE: Default, UE: Default, F: Default>(
@@ -33,6 +38,7 @@ pub fn insert_inside_face<V: HasPosition, DE: Default, UE: Default, F: Default>(
     ensures kept { IsTriangulated V.place (state_of dcel.new) }
     ensures grows { GrowsAround (map V.place dcel.old.vertices) (V.place value) (state_of dcel.old) (state_of dcel.new) }
     ensures made { MakesFacesAt (length dcel.old.vertices) (faces_of dcel.old.mesh) (faces_of dcel.new.mesh) }
+    ensures edges { AddsOnly UE.is_default (edges dcel.old) (edges dcel.new) }
 {
     let vertex = dcel.insert_into_triangle(value, face);
     dcel.recall_invariant();
@@ -44,7 +50,7 @@ fn split_inner_edge<V: HasPosition, DE: Default, UE: Default, F: Default>(
     dcel: &mut Dcel<V, DE, UE, F>,
     edge: FixedDirectedEdgeHandle,
     value: V,
-) -> FixedVertexHandle
+) -> (FixedVertexHandle, FixedUndirectedEdgeHandle)
     requires kept { IsTriangulated V.place (state_of dcel.old) }
     requires in_range { InRange (V.place value) }
     requires within { edge < length dcel.old.directed }
@@ -52,15 +58,16 @@ fn split_inner_edge<V: HasPosition, DE: Default, UE: Default, F: Default>(
     requires twin_inner { 0 < face dcel.old.mesh (rev edge) }
     requires on_edge { IsWithinEdge (map V.place dcel.old.vertices) dcel.old.mesh (V.place value) edge }
     requires room { HasRoom dcel.old 1 3 2 }
-    ensures vertex { result ≡ length dcel.old.vertices }
+    ensures vertex { result.0 ≡ length dcel.old.vertices }
     ensures vertices { dcel.new.vertices ≡ dcel.old.vertices ++ value ∷ [] }
     ensures kept { IsTriangulated V.place (state_of dcel.new) }
     ensures grows { GrowsAround (map V.place dcel.old.vertices) (V.place value) (state_of dcel.old) (state_of dcel.new) }
     ensures made { MakesFacesAt (length dcel.old.vertices) (faces_of dcel.old.mesh) (faces_of dcel.new.mesh) }
+    ensures edges { SplitsAt UE.is_default (edges dcel.old) (edges dcel.new) (edge / 2) result.0 result.1 }
 {
-    let (vertex, _parts) = dcel.split_edge(edge, value);
+    let (vertex, parts) = dcel.split_edge(edge, value);
     dcel.recall_invariant();
-    vertex
+    (vertex, parts[1].as_undirected())
 }
 
 // A vertex strictly within an edge of the hull, which has an inner face on its left, joined to the corners of that face.
@@ -68,7 +75,7 @@ fn split_hull_edge<V: HasPosition, DE: Default, UE: Default, F: Default>(
     dcel: &mut Dcel<V, DE, UE, F>,
     edge: FixedDirectedEdgeHandle,
     value: V,
-) -> FixedVertexHandle
+) -> (FixedVertexHandle, FixedUndirectedEdgeHandle)
     requires kept { IsTriangulated V.place (state_of dcel.old) }
     requires in_range { InRange (V.place value) }
     requires within { edge < length dcel.old.directed }
@@ -76,23 +83,56 @@ fn split_hull_edge<V: HasPosition, DE: Default, UE: Default, F: Default>(
     requires outer { face dcel.old.mesh (rev edge) ≡ 0 }
     requires on_edge { IsWithinEdge (map V.place dcel.old.vertices) dcel.old.mesh (V.place value) edge }
     requires room { HasRoom dcel.old 1 2 1 }
-    ensures vertex { result ≡ length dcel.old.vertices }
+    ensures vertex { result.0 ≡ length dcel.old.vertices }
     ensures vertices { dcel.new.vertices ≡ dcel.old.vertices ++ value ∷ [] }
     ensures kept { IsTriangulated V.place (state_of dcel.new) }
     ensures grows { GrowsAround (map V.place dcel.old.vertices) (V.place value) (state_of dcel.old) (state_of dcel.new) }
     ensures made { MakesFacesAt (length dcel.old.vertices) (faces_of dcel.old.mesh) (faces_of dcel.new.mesh) }
+    ensures edges { SplitsAt UE.is_default (edges dcel.old) (edges dcel.new) (edge / 2) result.0 result.1 }
 {
-    let (vertex, _parts) = dcel.split_half_edge(edge, value);
+    let (vertex, parts) = dcel.split_half_edge(edge, value);
     dcel.recall_invariant();
-    vertex
+    (vertex, parts[1].as_undirected())
 }
 
-// A vertex strictly within an edge.
-pub fn insert_within_edge<V: HasPosition, DE: Default, UE: Default, F: Default>(
+// A vertex strictly within an edge, and the second half of the edge, which has default data as all new edges do; the first half
+// has those of the edge.
+fn split_at<V: HasPosition, DE: Default, UE: Default, F: Default>(
     dcel: &mut Dcel<V, DE, UE, F>,
     edge: FixedDirectedEdgeHandle,
     value: V,
-) -> FixedVertexHandle
+) -> (FixedVertexHandle, FixedUndirectedEdgeHandle)
+    requires kept { IsTriangulated V.place (state_of dcel.old) }
+    requires in_range { InRange (V.place value) }
+    requires within { edge < length dcel.old.directed }
+    requires on_edge { IsWithinEdge (map V.place dcel.old.vertices) dcel.old.mesh (V.place value) edge }
+    requires room { HasRoomFor dcel.old.room (length dcel.old.vertices + 1) (3 * (length dcel.old.vertices + 1)) (2 * (length dcel.old.vertices + 1)) }
+    ensures vertex { result.0 ≡ length dcel.old.vertices }
+    ensures vertices { dcel.new.vertices ≡ dcel.old.vertices ++ value ∷ [] }
+    ensures kept { IsTriangulated V.place (state_of dcel.new) }
+    ensures grows { GrowsAround (map V.place dcel.old.vertices) (V.place value) (state_of dcel.old) (state_of dcel.new) }
+    ensures made { MakesFacesAt (length dcel.old.vertices) (faces_of dcel.old.mesh) (faces_of dcel.new.mesh) }
+    ensures edges { SplitsAt UE.is_default (edges dcel.old) (edges dcel.new) (edge / 2) result.0 result.1 }
+{
+    if dcel.num_inner_faces() == 0 {
+        split_line_edge(dcel, edge, value)
+    } else if is_outer(dcel, edge) {
+        split_hull_edge(dcel, edge.rev(), value)
+    } else if is_outer(dcel, edge.rev()) {
+        split_hull_edge(dcel, edge, value)
+    } else {
+        split_inner_edge(dcel, edge, value)
+    }
+}
+
+// A vertex strictly within an edge. Where the edge was a constraint, both halves are.
+pub fn insert_within_edge<
+    M: FreeByDefault<UE>,
+    V: HasPosition,
+    DE: Default,
+    UE: Default,
+    F: Default,
+>(dcel: &mut Dcel<V, DE, UE, F>, edge: FixedDirectedEdgeHandle, value: V) -> FixedVertexHandle
     requires kept { IsTriangulated V.place (state_of dcel.old) }
     requires in_range { InRange (V.place value) }
     requires within { edge < length dcel.old.directed }
@@ -103,14 +143,12 @@ pub fn insert_within_edge<V: HasPosition, DE: Default, UE: Default, F: Default>(
     ensures kept { IsTriangulated V.place (state_of dcel.new) }
     ensures grows { GrowsAround (map V.place dcel.old.vertices) (V.place value) (state_of dcel.old) (state_of dcel.new) }
     ensures made { MakesFacesAt (length dcel.old.vertices) (faces_of dcel.old.mesh) (faces_of dcel.new.mesh) }
+    ensures constraints { SplitsConstraints V.place M.constraints (state_of dcel.old) (state_of dcel.new) value }
 {
-    if dcel.num_inner_faces() == 0 {
-        insert_within_line(dcel, edge, value)
-    } else if is_outer(dcel, edge) {
-        split_hull_edge(dcel, edge.rev(), value)
-    } else if is_outer(dcel, edge.rev()) {
-        split_hull_edge(dcel, edge, value)
-    } else {
-        split_inner_edge(dcel, edge, value)
+    let was_constraint = is_constraint_edge::<M, _, _, _, _>(dcel, edge.as_undirected());
+    let (vertex, second_half) = split_at(dcel, edge, value);
+    if was_constraint {
+        make_constraint::<M, _, _, _, _>(dcel, second_half);
     }
+    vertex
 }

@@ -1,10 +1,13 @@
 //! Growth of a triangulated mesh by one vertex: inside a face, within an edge, outside the hull or on the line of all vertices.
 #![tactic(auto)]
 
+mod free_by_default;
 mod inside;
 mod on_line;
 mod outside;
 mod room;
+
+pub use free_by_default::FreeByDefault;
 
 // For the crates of edits, and not for users.
 pub use inside::{insert_inside_face, insert_within_edge};

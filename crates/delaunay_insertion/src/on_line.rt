@@ -1,12 +1,13 @@
 //! New vertices on the line of all vertices.
-ghost use Rattle.std.specs.Prelude.{◌≡◌, ◌<◌, ◌++◌, ◌∷◌, [], length, map};
+ghost use Rattle.std.specs.Prelude.{◌≡◌, ◌/◌, ◌<◌, ◌++◌, ◌∷◌, [], length, map};
 ghost use Rattle.half_edge_mesh.specs.Mesh.{origin};
-ghost use Rattle.half_edge_mesh.specs.Contents.{HasRoom};
+ghost use Rattle.half_edge_mesh.specs.Contents.{HasRoom, edges};
 ghost use Rattle.plane.specs.Fraction.{whole as fraction};
 ghost use Rattle.plane.specs.Location.{IsPast};
 ghost use Rattle.plane.specs.Tests.{InRange};
 ghost use Rattle.plane_tiling.specs.Local.{alone};
 ghost use Rattle.delaunay_insertion.specs.Data.{GrowsAround};
+ghost use Rattle.delaunay_insertion.specs.Edges.{AddsOnly, SplitsAt};
 ghost use Rattle.delaunay_legalization.specs.Parts.{IsApart, IsWithinEdge};
 ghost use Rattle.delaunay_legalization.specs.Shape.{IsTriangulated};
 ghost use Rattle.delaunay_legalization.specs.Star.{MakesFacesAt};
@@ -14,10 +15,12 @@ ghost use Rattle.delaunay_legalization.specs.State.{state_of};
 ghost use Rattle.mesh_embedding.specs.Drawn.{faces_of};
 
 use delaunay_core::point::HasPosition;
-use half_edge_mesh::{Dcel, FixedDirectedEdgeHandle, FixedVertexHandle, MeshViews};
+use half_edge_mesh::{
+    Dcel, FixedDirectedEdgeHandle, FixedUndirectedEdgeHandle, FixedVertexHandle, MeshViews,
+};
 
 // The first vertex.
-pub fn insert_first<V: HasPosition, DE, UE, F>(
+pub fn insert_first<V: HasPosition, DE, UE: Default, F>(
     dcel: &mut Dcel<V, DE, UE, F>,
     value: V,
 ) -> FixedVertexHandle
@@ -30,6 +33,7 @@ pub fn insert_first<V: HasPosition, DE, UE, F>(
     ensures kept { IsTriangulated V.place (state_of dcel.new) }
     ensures grows { GrowsAround (map V.place dcel.old.vertices) (V.place value) (state_of dcel.old) (state_of dcel.new) }
     ensures made { MakesFacesAt (length dcel.old.vertices) (faces_of dcel.old.mesh) (faces_of dcel.new.mesh) }
+    ensures edges { AddsOnly UE.is_default (edges dcel.old) (edges dcel.new) }
 {
     let vertex = dcel.append_unconnected_vertex(value);
     dcel.recall_invariant();
@@ -51,6 +55,7 @@ pub fn insert_second<V: HasPosition, DE: Default, UE: Default, F>(
     ensures kept { IsTriangulated V.place (state_of dcel.new) }
     ensures grows { GrowsAround (map V.place dcel.old.vertices) (V.place value) (state_of dcel.old) (state_of dcel.new) }
     ensures made { MakesFacesAt (length dcel.old.vertices) (faces_of dcel.old.mesh) (faces_of dcel.new.mesh) }
+    ensures edges { AddsOnly UE.is_default (edges dcel.old) (edges dcel.new) }
 {
     dcel.recall_invariant();
     let vertex = dcel.append_unconnected_vertex(value);
@@ -77,6 +82,7 @@ pub fn insert_past_end<V: HasPosition, DE: Default, UE: Default, F>(
     ensures kept { IsTriangulated V.place (state_of dcel.new) }
     ensures grows { GrowsAround (map V.place dcel.old.vertices) (V.place value) (state_of dcel.old) (state_of dcel.new) }
     ensures made { MakesFacesAt (length dcel.old.vertices) (faces_of dcel.old.mesh) (faces_of dcel.new.mesh) }
+    ensures edges { AddsOnly UE.is_default (edges dcel.old) (edges dcel.new) }
 {
     let end = dcel.directed_edge(edge).from().fix();
     let vertex = dcel.extend_line(end, value);
@@ -84,25 +90,26 @@ pub fn insert_past_end<V: HasPosition, DE: Default, UE: Default, F>(
     vertex
 }
 
-// A vertex strictly within an edge of the line of all vertices.
-pub fn insert_within_line<V: HasPosition, DE: Default, UE: Default, F>(
+// A vertex strictly within an edge of the line of all vertices, and the second half of the edge.
+pub(crate) fn split_line_edge<V: HasPosition, DE: Default, UE: Default, F>(
     dcel: &mut Dcel<V, DE, UE, F>,
     edge: FixedDirectedEdgeHandle,
     value: V,
-) -> FixedVertexHandle
+) -> (FixedVertexHandle, FixedUndirectedEdgeHandle)
     requires kept { IsTriangulated V.place (state_of dcel.old) }
     requires in_range { InRange (V.place value) }
     requires one_face { length dcel.old.faces ≡ 0 }
     requires within { edge < length dcel.old.directed }
     requires on_edge { IsWithinEdge (map V.place dcel.old.vertices) dcel.old.mesh (V.place value) edge }
     requires room { HasRoom dcel.old 1 1 0 }
-    ensures vertex { result ≡ length dcel.old.vertices }
+    ensures vertex { result.0 ≡ length dcel.old.vertices }
     ensures vertices { dcel.new.vertices ≡ dcel.old.vertices ++ value ∷ [] }
     ensures kept { IsTriangulated V.place (state_of dcel.new) }
     ensures grows { GrowsAround (map V.place dcel.old.vertices) (V.place value) (state_of dcel.old) (state_of dcel.new) }
     ensures made { MakesFacesAt (length dcel.old.vertices) (faces_of dcel.old.mesh) (faces_of dcel.new.mesh) }
+    ensures edges { SplitsAt UE.is_default (edges dcel.old) (edges dcel.new) (edge / 2) result.0 result.1 }
 {
-    let (vertex, _parts) = dcel.split_edge_when_all_vertices_on_line(edge, value);
+    let (vertex, parts) = dcel.split_edge_when_all_vertices_on_line(edge, value);
     dcel.recall_invariant();
-    vertex
+    (vertex, parts[1].as_undirected())
 }

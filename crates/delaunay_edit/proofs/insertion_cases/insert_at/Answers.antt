@@ -1,6 +1,7 @@
 use Rattle.std.proofs.Common.{◌<◌, map, sym, subst}
 use Rattle.delaunay_edit.specs.Location.{IsLeftOfPlace, Locates}
 use Rattle.delaunay_insertion.proofs.EdgeSides.{room_inside}
+use Rattle.delaunay_insertion.proofs.SplitConstraints.{adding_splits_none}
 use Rattle.delaunay_edit.proofs.Cases.{vertex_of_handle, edge_of_handle, past_if_not_left, bare_if_past, not_on_vertex}
 use Rattle.delaunay_legalization.proofs.Questions.{both_ways}
 use Rattle.delaunay_edit.proofs.insertion_cases.insert_at.Goals as goal
@@ -38,3 +39,28 @@ insert_within_edge-requires-clause-within g c =
 pub insert_within_edge-requires-clause-on_edge : goal.insert_within_edge-requires-clause-on_edge
 insert_within_edge-requires-clause-on_edge g c =
     (subst (Locates (map g.V.HasPosition.place c.args.dcel.now.vertices) c.args.dcel.now.mesh (g.V.HasPosition.place c.args.value)) c.in-OnEdge.is c.requires.location).location.1
+
+pub returns-in-OnFace-clause-constraints : goal.returns-in-OnFace-clause-constraints
+returns-in-OnFace-clause-constraints g c =
+    adding_splits_none g.V.HasPosition.place c.args.value c.args.dcel.now c.insert_inside_face.new.dcel c.requires.kept c.insert_inside_face.ensures.kept c.insert_inside_face.ensures.vertices
+    g.M.ConstraintMarker.marks g.M.ConstraintMarker.constraints g.met.M.ConstraintMarker.constraints_are_marked g.UE.Default.is_default g.met.M.FreeByDefault.default_is_free c.insert_inside_face.ensures.edges
+
+pub returns-then-turns-clause-constraints : goal.returns-then-turns-clause-constraints
+returns-then-turns-clause-constraints g c =
+    adding_splits_none g.V.HasPosition.place c.args.value c.args.dcel.now c.join_outside.new.dcel c.requires.kept c.join_outside.ensures.kept c.join_outside.ensures.vertices
+    g.M.ConstraintMarker.marks g.M.ConstraintMarker.constraints g.met.M.ConstraintMarker.constraints_are_marked g.UE.Default.is_default g.met.M.FreeByDefault.default_is_free c.join_outside.ensures.edges
+
+pub returns-else-turns-clause-constraints : goal.returns-else-turns-clause-constraints
+returns-else-turns-clause-constraints g c =
+    adding_splits_none g.V.HasPosition.place c.args.value c.args.dcel.now c.insert_past_end.new.dcel c.requires.kept c.insert_past_end.ensures.kept c.insert_past_end.ensures.vertices
+    g.M.ConstraintMarker.marks g.M.ConstraintMarker.constraints g.met.M.ConstraintMarker.constraints_are_marked g.UE.Default.is_default g.met.M.FreeByDefault.default_is_free c.insert_past_end.ensures.edges
+
+pub returns-then-num_vertices-eq0-clause-constraints : goal.returns-then-num_vertices-eq0-clause-constraints
+returns-then-num_vertices-eq0-clause-constraints g c =
+    adding_splits_none g.V.HasPosition.place c.args.value c.args.dcel.now c.insert_first.new.dcel c.requires.kept c.insert_first.ensures.kept c.insert_first.ensures.vertices
+    g.M.ConstraintMarker.marks g.M.ConstraintMarker.constraints g.met.M.ConstraintMarker.constraints_are_marked g.UE.Default.is_default g.met.M.FreeByDefault.default_is_free c.insert_first.ensures.edges
+
+pub returns-else-num_vertices-eq0-clause-constraints : goal.returns-else-num_vertices-eq0-clause-constraints
+returns-else-num_vertices-eq0-clause-constraints g c =
+    adding_splits_none g.V.HasPosition.place c.args.value c.args.dcel.now c.insert_second.new.dcel c.requires.kept c.insert_second.ensures.kept c.insert_second.ensures.vertices
+    g.M.ConstraintMarker.marks g.M.ConstraintMarker.constraints g.met.M.ConstraintMarker.constraints_are_marked g.UE.Default.is_default g.met.M.FreeByDefault.default_is_free c.insert_second.ensures.edges

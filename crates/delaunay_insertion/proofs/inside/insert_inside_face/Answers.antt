@@ -6,6 +6,8 @@ use Rattle.delaunay_insertion.proofs.InsertionCases.{inside_shape}
 use Rattle.delaunay_insertion.proofs.DataGrowing.{grows_inside}
 use Rattle.delaunay_insertion.proofs.MadeFaces.{made_at_count, made_inside}
 use Rattle.delaunay_insertion.proofs.inside.insert_inside_face.Goals as goal
+use Rattle.half_edge_mesh.specs.Contents.{edges}
+use Rattle.delaunay_insertion.proofs.EdgeLists.{adds_only}
 
 pub returns-clause-kept : goal.returns-clause-kept
 returns-clause-kept g c =
@@ -32,3 +34,6 @@ returns-clause-made g c =
     let done = c.insert_into_triangle-vertex.ensures in
     let here : c.args.face ≤ length old.mesh.face_edges = let w = c.requires.within in let f = c.requires.kept.fits.faces_fit in omega (arith, w, f) in
     made_at_count _ _ _ _ done.vertex (made_inside old.mesh c.insert_into_triangle-vertex.new.self.mesh c.insert_into_triangle-vertex.result c.requires.kept.valid c.args.face c.requires.positive here done.triangles)
+
+pub returns-clause-edges : goal.returns-clause-edges
+returns-clause-edges g c = adds_only _ (edges c.args.dcel.now) (edges c.insert_into_triangle-vertex.new.self) _ c.insert_into_triangle-vertex.ensures.edges

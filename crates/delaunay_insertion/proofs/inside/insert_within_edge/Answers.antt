@@ -1,27 +1,52 @@
-use Rattle.std.proofs.Common.{◌∙◌, ◌<◌, length, map, ap, subst, sym}
-use Rattle.half_edge_mesh.specs.Mesh.{face, rev}
-use Rattle.half_edge_links.proofs.Rev.{rev-rev}
-use Rattle.delaunay_legalization.specs.Parts.{IsWithinEdge}
-use Rattle.delaunay_insertion.proofs.EdgeSides.{inner_twin, twin_within, within_twin, room_inside, vertex_of_edge}
+use Rattle.std.proofs.Common.{◌/◌, ◌↔◌, ◌∙◌, refl, map, subst}
+use Rattle.std.specs.Prelude.{Contains, IsTrue}
+use Rattle.delaunay_insertion.proofs.EdgeSplits.{second_there, second_late, had_mark, had_none, written_vertices, written_mesh, written_kept, written_grows}
+use Rattle.delaunay_insertion.proofs.MarkedEdges.{own_ends}
+use Rattle.delaunay_insertion.proofs.SplitConstraints.{whole_mesh, split_with_mark, split_without_mark}
 use Rattle.delaunay_insertion.proofs.inside.insert_within_edge.Goals as goal
 
-pub split_hull_edge-requires-clause-inner : goal.split_hull_edge-requires-clause-inner
-split_hull_edge-requires-clause-inner g c =
-    subst (λ e. 0 < face c.args.dcel.now.mesh e) (sym c.rev.ensures)
-    (inner_twin g.V.HasPosition.place c.args.dcel.now c.requires.kept c.args.edge c.requires.within (λ none. c.if-num_inner_faces-eq0.false (c.num_inner_faces.ensures.value ∙ none)) (c.is_outer.ensures.0 c.if-is_outer.true))
+pub make_constraint-requires : goal.make_constraint-requires
+make_constraint-requires g c =
+    let old = c.args.dcel.now in
+    let mid = c.split_at-vertex.new.dcel in
+    second_there old mid (whole_mesh g.V.HasPosition.place old c.requires.kept) (whole_mesh g.V.HasPosition.place mid c.split_at-vertex.ensures.kept) _ _ _ _ c.split_at-vertex.ensures.edges
 
-pub split_hull_edge-requires-clause-outer : goal.split_hull_edge-requires-clause-outer
-split_hull_edge-requires-clause-outer g c = ap (face c.args.dcel.now.mesh) (ap rev c.rev.ensures ∙ rev-rev c.args.edge) ∙ c.is_outer.ensures.0 c.if-is_outer.true
+pub returns-then-was_constraint-clause-kept : goal.returns-then-was_constraint-clause-kept
+returns-then-was_constraint-clause-kept g c =
+    written_kept g.V.HasPosition.place c.split_at-vertex.new.dcel c.make_constraint.new.dcel _ _ c.make_constraint.ensures c.split_at-vertex.ensures.kept
 
-pub split_hull_edge-requires-clause-on_edge : goal.split_hull_edge-requires-clause-on_edge
-split_hull_edge-requires-clause-on_edge g c =
-    subst (λ e. IsWithinEdge (map g.V.HasPosition.place c.args.dcel.now.vertices) c.args.dcel.now.mesh (g.V.HasPosition.place c.args.value) e) (sym c.rev.ensures)
-    (within_twin g.V.HasPosition.place c.args.dcel.now c.requires.kept (g.V.HasPosition.place c.args.value) c.args.edge c.requires.on_edge)
+pub returns-then-was_constraint-clause-grows : goal.returns-then-was_constraint-clause-grows
+returns-then-was_constraint-clause-grows g c =
+    let old = c.args.dcel.now in
+    let mid = c.split_at-vertex.new.dcel in
+    written_grows g.V.HasPosition.place mid c.make_constraint.new.dcel _ _ c.make_constraint.ensures old c.requires.kept.fits
+    (second_late old mid (whole_mesh g.V.HasPosition.place old c.requires.kept) (whole_mesh g.V.HasPosition.place mid c.split_at-vertex.ensures.kept) _ _ _ _ c.split_at-vertex.ensures.edges)
+    (map g.V.HasPosition.place old.vertices) (g.V.HasPosition.place c.args.value) c.split_at-vertex.ensures.grows
 
-pub split_inner_edge-requires-clause-room : goal.split_inner_edge-requires-clause-room
-split_inner_edge-requires-clause-room g c =
-    room_inside g.V.HasPosition.place c.args.dcel.now c.requires.kept c.requires.room (vertex_of_edge g.V.HasPosition.place c.args.dcel.now c.requires.kept c.args.edge c.requires.within)
+pub returns-then-was_constraint-clause-constraints : goal.returns-then-was_constraint-clause-constraints
+returns-then-was_constraint-clause-constraints g c =
+    let old = c.args.dcel.now in
+    let mid = c.split_at-vertex.new.dcel in
+    let new = c.make_constraint.new.dcel in
+    let done = c.split_at-vertex.ensures in
+    let marker = g.M.ConstraintMarker in
+    let laws = g.met.M.ConstraintMarker in
+    let written = c.make_constraint.ensures in
+    let has = had_mark marker.marks marker.constraints laws.constraints_are_marked c.is_constraint_edge-was_constraint.result old.undirected (c.args.edge / 2) done.edges.edge.value (own_ends old (whole_mesh g.V.HasPosition.place old c.requires.kept) (c.args.edge / 2) done.edges.edge done.edges.was).0
+    (subst (λ k. IsTrue c.is_constraint_edge-was_constraint.result ↔ Contains (marker.constraints old.undirected) k) c.as_undirected.ensures c.is_constraint_edge-was_constraint.ensures) c.if-was_constraint.true in
+    split_with_mark g.V.HasPosition.place c.args.value old new c.requires.kept (returns-then-was_constraint-clause-kept g c) (written_vertices g.V.HasPosition.place mid new _ _ written ∙ done.vertices)
+    marker.marks marker.constraints laws.constraints_are_marked _ g.met.M.FreeByDefault.default_is_free _ _ _ mid (whole_mesh g.V.HasPosition.place mid done.kept) done.edges
+    done.vertex (written_mesh g.V.HasPosition.place mid new _ _ written) c.args.edge refl c.requires.on_edge marker.marked written has (λ d. laws.marked_has_mark d (laws.can_mark_where_marked done.edges.edge.value has))
 
-pub split_hull_edge-requires-clause-within : goal.split_hull_edge-requires-clause-within
-split_hull_edge-requires-clause-within g c =
-    subst (λ e. e < length c.args.dcel.now.directed) (sym c.rev.ensures) (twin_within g.V.HasPosition.place c.args.dcel.now c.requires.kept c.args.edge c.requires.within)
+pub returns-else-was_constraint-clause-constraints : goal.returns-else-was_constraint-clause-constraints
+returns-else-was_constraint-clause-constraints g c =
+    let old = c.args.dcel.now in
+    let mid = c.split_at-vertex.new.dcel in
+    let done = c.split_at-vertex.ensures in
+    let marker = g.M.ConstraintMarker in
+    let laws = g.met.M.ConstraintMarker in
+    let none = had_none marker.marks marker.constraints laws.constraints_are_marked c.is_constraint_edge-was_constraint.result old.undirected (c.args.edge / 2) done.edges.edge.value (own_ends old (whole_mesh g.V.HasPosition.place old c.requires.kept) (c.args.edge / 2) done.edges.edge done.edges.was).0
+    (subst (λ k. IsTrue c.is_constraint_edge-was_constraint.result ↔ Contains (marker.constraints old.undirected) k) c.as_undirected.ensures c.is_constraint_edge-was_constraint.ensures) c.if-was_constraint.false in
+    split_without_mark g.V.HasPosition.place c.args.value old mid c.requires.kept done.kept done.vertices
+    marker.marks marker.constraints laws.constraints_are_marked _ g.met.M.FreeByDefault.default_is_free _ _ _ mid (whole_mesh g.V.HasPosition.place mid done.kept) done.edges
+    done.vertex refl c.args.edge refl c.requires.on_edge refl none

@@ -1,4 +1,4 @@
-use Rattle.std.proofs.Common.{◌≤◌, ◌<◌, ◌∙◌, ◌+◌, length, map, ap, sym, arith}
+use Rattle.std.proofs.Common.{◌/◌, get_or, ◌≤◌, ◌<◌, ◌∙◌, ◌+◌, length, map, ap, sym, arith}
 use Rattle.std.proofs.lemmas.List.{length-map}
 use Rattle.half_edge_dcel.proofs.Fits.{length-grown}
 use Rattle.delaunay_insertion.proofs.Growing.{grown}
@@ -6,6 +6,8 @@ use Rattle.delaunay_insertion.proofs.InsertionCases.{length_moved, within_side_s
 use Rattle.delaunay_insertion.proofs.DataGrowing.{grows_within_side}
 use Rattle.delaunay_insertion.proofs.MadeFaces.{made_at_count, made_within_side}
 use Rattle.delaunay_insertion.proofs.inside.split_inner_edge.Goals as goal
+use Rattle.delaunay_insertion.proofs.SplitConstraints.{whole_mesh}
+use Rattle.delaunay_insertion.proofs.EdgeSplits.{inner_split}
 
 pub split_edge-vertex-requires-clause-flippable : goal.split_edge-vertex-requires-clause-flippable
 split_edge-vertex-requires-clause-flippable g c =
@@ -39,3 +41,9 @@ returns-clause-made g c =
     let done = c.split_edge-vertex.ensures in
     let here : c.args.edge < length old.mesh.half_edges = let w = c.requires.within in let f = c.requires.kept.fits.directed_fit in omega (arith, w, f) in
     made_at_count _ _ _ _ done.vertex (made_within_side old.mesh c.split_edge-vertex.new.self.mesh c.split_edge-vertex.result.0 c.requires.kept.valid c.args.edge (flippable_between old.mesh c.args.edge c.requires.kept.valid here c.requires.inner c.requires.twin_inner) done.triangles)
+
+pub returns-clause-edges : goal.returns-clause-edges
+returns-clause-edges g c =
+    let old = c.args.dcel.now in
+    inner_split old c.split_edge-vertex.new.self (whole_mesh g.V.HasPosition.place old c.requires.kept) _ c.args.edge c.split_edge-vertex.result.0 c.requires.within c.as_undirected.result _ _
+    (c.as_undirected.ensures ∙ ap (λ xs. get_or xs 1 c.index-parts-1.result / 2) c.split_edge-vertex.ensures.parts) c.split_edge-vertex.ensures.edges

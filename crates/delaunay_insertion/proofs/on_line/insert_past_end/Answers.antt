@@ -9,6 +9,8 @@ use Rattle.delaunay_insertion.proofs.Growing.{grown, extended_shape}
 use Rattle.delaunay_insertion.proofs.DataGrowing.{grows_past_end}
 use Rattle.delaunay_insertion.proofs.MadeFaces.{made_none}
 use Rattle.delaunay_insertion.proofs.on_line.insert_past_end.Goals as goal
+use Rattle.half_edge_mesh.specs.Contents.{edges}
+use Rattle.delaunay_insertion.proofs.EdgeLists.{adds_only}
 
 pub returns-clause-kept : goal.returns-clause-kept
 returns-clause-kept g c =
@@ -37,3 +39,6 @@ returns-clause-grows g c =
 
 pub returns-clause-made : goal.returns-clause-made
 returns-clause-made g c = made_none c.args.dcel.now.mesh c.extend_line-vertex.new.self.mesh _ c.extend_line-vertex.ensures.triangles
+
+pub returns-clause-edges : goal.returns-clause-edges
+returns-clause-edges g c = adds_only _ (edges c.args.dcel.now) (edges c.extend_line-vertex.new.self) _ c.extend_line-vertex.ensures.edges

@@ -6,6 +6,8 @@ use Rattle.delaunay_insertion.proofs.Growing.{grown, second_shape}
 use Rattle.delaunay_insertion.proofs.DataGrowing.{grows_from_one}
 use Rattle.delaunay_insertion.proofs.MadeFaces.{made_none}
 use Rattle.delaunay_insertion.proofs.on_line.insert_second.Goals as goal
+use Rattle.half_edge_mesh.specs.Contents.{edges}
+use Rattle.delaunay_insertion.proofs.EdgeLists.{adds_only, adds_nothing, adds_on}
 
 pub returns-clause-kept : goal.returns-clause-kept
 returns-clause-kept g c =
@@ -33,3 +35,10 @@ returns-clause-grows g c =
 
 pub returns-clause-made : goal.returns-clause-made
 returns-clause-made g c = made_none c.args.dcel.now.mesh c.setup_initial_two_vertices.new.self.mesh _ c.setup_initial_two_vertices.ensures.triangles
+
+pub returns-clause-edges : goal.returns-clause-edges
+returns-clause-edges g c =
+    let middle = c.append_unconnected_vertex-vertex.new.self in
+    adds_on _ (edges c.args.dcel.now) (edges middle) (edges c.setup_initial_two_vertices.new.self)
+    (adds_nothing _ (edges c.args.dcel.now) (edges middle) (ap edges c.append_unconnected_vertex-vertex.ensures.contents))
+    (adds_only _ (edges middle) (edges c.setup_initial_two_vertices.new.self) _ c.setup_initial_two_vertices.ensures.edges)

@@ -8,6 +8,8 @@ use Rattle.delaunay_insertion.proofs.Joining.{IsJoining, IsJoiningBack, joining_
 use Rattle.mesh_embedding.specs.Drawn.{faces_of, outer_of}
 use Rattle.delaunay_insertion.proofs.MadeFaces.{made_outside}
 use Rattle.delaunay_insertion.proofs.outside.join_outside.Goals as goal
+use Rattle.half_edge_mesh.specs.Contents.{edges}
+use Rattle.delaunay_insertion.proofs.EdgeLists.{adds_only, adds_on}
 
 pub loop-after-init : goal.loop-after-init
 loop-after-init g c =
@@ -17,13 +19,14 @@ loop-after-init g c =
     let w = c.requires.within in
     let f = c.requires.kept.fits.directed_fit in
     let count = length-grown _ old.directed new.directed 4 done.directed in
-    let edges = c.num_directed_edges-edges.ensures.value in
-    let one : c.from_index-ahead.result ≡ length old.directed + 1 = let i = c.from_index-ahead.ensures in omega (arith, i, count, edges) in
-    let three : c.from_index-behind.result ≡ length old.directed + 3 = let i = c.from_index-behind.ensures in omega (arith, i, count, edges) in (
+    let counted = c.num_directed_edges-edges.ensures.value in
+    let one : c.from_index-ahead.result ≡ length old.directed + 1 = let i = c.from_index-ahead.ensures in omega (arith, i, count, counted) in
+    let three : c.from_index-behind.result ≡ length old.directed + 3 = let i = c.from_index-behind.ensures in omega (arith, i, count, counted) in (
       subst (λ (x : ℕ × ℕ). IsJoining g.V.HasPosition.place old new c.args.value x.0 x.1) (λ o. (sym one o, sym three o))
           (joining_begins g.V.HasPosition.place old c.args.value new c.args.edge c.create_new_face_adjacent_to_edge-vertex.result c.requires.kept (has_vertex g.V.HasPosition.place old c.args.edge c.requires.kept c.requires.within) (omega (arith, w, f)) c.requires.outer c.requires.turns done.vertex
           (ap (λ d. d.vertices) done.contents) (ap (λ d. d.room) done.contents) count (length-grown _ old.undirected new.undirected 2 done.undirected) (length-grown _ old.faces new.faces 1 done.faces) done.triangles done.outer),
       grows_by_face old new c.requires.kept.valid c.requires.kept.fits c.num_directed_edges-edges.ensures.whole (map g.V.HasPosition.place old.vertices) (g.V.HasPosition.place c.args.value) _ _ _ _ _ _ _ _ _ done.directed done.faces done.edges done.triangles (ap (λ d. d.outer) done.contents),
+      adds_only _ (edges old) (edges new) _ done.edges,
     )
 
 pub seen_after-requires-clause-sites : goal.seen_after-requires-clause-sites
@@ -55,6 +58,7 @@ loop-after-preserved g c =
           (length-grown _ now.directed new.directed 2 done.directed) (length-grown _ now.undirected new.undirected 1 done.undirected) (length-grown _ now.faces new.faces 1 done.faces) done.triangles done.outer).0,
       grows_on (map g.V.HasPosition.place c.args.dcel.now.vertices) (g.V.HasPosition.place c.args.value) (state_of c.args.dcel.now) (state_of now) (state_of new) c.loop-after.invariant.1
           (grows_by_face now new c.in-Some.ensures.whole.valid c.in-Some.ensures.whole.fits c.recall_invariant.ensures.whole (map g.V.HasPosition.place c.args.dcel.now.vertices) (g.V.HasPosition.place c.args.value) _ _ _ _ _ _ _ _ _ done.directed done.faces done.edges done.triangles (ap (λ d. d.outer) done.contents)),
+      adds_on _ (edges c.args.dcel.now) (edges now) (edges new) c.loop-after.invariant.2 (adds_only _ (edges now) (edges new) _ done.edges),
     )
 
 pub loop-before-init : goal.loop-before-init
@@ -65,6 +69,7 @@ loop-before-init g c = (
     unseen = unseen_as g.V.HasPosition.place c.args.dcel.now c.args.value c.loop-after.dcel c.create_new_face_adjacent_to_edge-vertex.result (next c.loop-after.dcel.mesh c.loop-after.ahead) c.loop-after.invariant.0.vertices c.create_new_face_adjacent_to_edge-vertex.ensures.vertex c.in_default.ensures.none;
   },
   c.loop-after.invariant.1,
+  c.loop-after.invariant.2,
 )
 
 pub seen_before-requires-clause-within : goal.seen_before-requires-clause-within
@@ -110,6 +115,7 @@ loop-before-preserved g c =
           (length-grown _ now.directed new.directed 2 done.directed) (length-grown _ now.undirected new.undirected 1 done.undirected) (length-grown _ now.faces new.faces 1 done.faces) done.triangles done.outer done.mesh).0,
       grows_on (map g.V.HasPosition.place c.args.dcel.now.vertices) (g.V.HasPosition.place c.args.value) (state_of c.args.dcel.now) (state_of now) (state_of new) c.loop-before.invariant.1
           (grows_by_face now new c.in-Some-seen_before.ensures.whole.valid c.in-Some-seen_before.ensures.whole.fits c.recall_invariant-in-Some-seen_before.ensures.whole (map g.V.HasPosition.place c.args.dcel.now.vertices) (g.V.HasPosition.place c.args.value) _ _ _ _ _ _ _ _ _ done.directed done.faces done.edges done.triangles (ap (λ d. d.outer) done.contents)),
+      adds_on _ (edges c.args.dcel.now) (edges now) (edges new) c.loop-before.invariant.2 (adds_only _ (edges now) (edges new) _ done.edges),
     )
 
 pub returns-clause-vertices : goal.returns-clause-vertices
@@ -147,3 +153,6 @@ pub returns-clause-made : goal.returns-clause-made
 returns-clause-made g c =
     let old = c.args.dcel.now in
     made_outside (map g.V.HasPosition.place old.vertices) (g.V.HasPosition.place c.args.value) (faces_of old.mesh) (faces_of c.loop-before.dcel.mesh) (outer_of old.mesh) (outer_of c.loop-before.dcel.mesh) _ _ (length old.vertices) (sym (length-map old.vertices g.V.HasPosition.place)) c.loop-before.invariant.0.joining.extending
+
+pub returns-clause-edges : goal.returns-clause-edges
+returns-clause-edges g c = c.loop-before.invariant.2

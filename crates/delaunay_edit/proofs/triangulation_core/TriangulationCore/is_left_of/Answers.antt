@@ -3,7 +3,7 @@ use Rattle.half_edge_mesh.specs.Mesh.{origin, rev}
 use Rattle.delaunay_core.specs.Place.{place_of}
 use Rattle.delaunay_edit.specs.Location.{HasHandle}
 use Rattle.delaunay_legalization.proofs.Questions.{covered_at}
-use Rattle.delaunay_edit.proofs.insertion.DelaunayTriangulation+V+DE+UE+F+L.is_left_of.Goals as goal
+use Rattle.delaunay_edit.proofs.triangulation_core.TriangulationCore.is_left_of.Goals as goal
 
 pub ends_of-from-requires : goal.ends_of-from-requires
 ends_of-from-requires g c =

@@ -1,6 +1,6 @@
 use Rattle.std.proofs.Common.{length}
 use Rattle.delaunay_legalization.proofs.Flips.{few_flips_fit}
-use Rattle.delaunay_edit.proofs.insertion.DelaunayTriangulation+V+DE+UE+F+L.insert.Goals as goal
+use Rattle.delaunay_edit.proofs.triangulation_core.TriangulationCore.insert.Goals as goal
 
 pub insert_counting-requires-clause-fits : goal.insert_counting-requires-clause-fits
 insert_counting-requires-clause-fits g c =

@@ -1,10 +1,12 @@
-use Rattle.std.proofs.Common.{◌≤◌, ◌<◌, ◌∙◌, ◌+◌, length, map, ap, sym, arith}
+use Rattle.std.proofs.Common.{◌/◌, get_or, ◌≤◌, ◌<◌, ◌∙◌, ◌+◌, length, map, ap, sym, arith}
 use Rattle.std.proofs.lemmas.List.{length-map}
 use Rattle.half_edge_dcel.proofs.Fits.{length-grown}
 use Rattle.delaunay_insertion.proofs.Growing.{grown, split_shape}
 use Rattle.delaunay_insertion.proofs.DataGrowing.{grows_within_line}
 use Rattle.delaunay_insertion.proofs.MadeFaces.{made_none}
-use Rattle.delaunay_insertion.proofs.on_line.insert_within_line.Goals as goal
+use Rattle.delaunay_insertion.proofs.on_line.split_line_edge.Goals as goal
+use Rattle.delaunay_insertion.proofs.SplitConstraints.{whole_mesh}
+use Rattle.delaunay_insertion.proofs.EdgeSplits.{line_split}
 
 pub returns-clause-kept : goal.returns-clause-kept
 returns-clause-kept g c =
@@ -28,3 +30,9 @@ returns-clause-grows g c =
 
 pub returns-clause-made : goal.returns-clause-made
 returns-clause-made g c = made_none c.args.dcel.now.mesh c.split_edge_when_all_vertices_on_line-vertex.new.self.mesh _ c.split_edge_when_all_vertices_on_line-vertex.ensures.triangles
+
+pub returns-clause-edges : goal.returns-clause-edges
+returns-clause-edges g c =
+    let old = c.args.dcel.now in
+    line_split old c.split_edge_when_all_vertices_on_line-vertex.new.self (whole_mesh g.V.HasPosition.place old c.requires.kept) _ c.args.edge c.split_edge_when_all_vertices_on_line-vertex.result.0 c.requires.within c.as_undirected.result
+    (c.as_undirected.ensures ∙ ap (λ xs. get_or xs 1 c.index-parts-1.result / 2) c.split_edge_when_all_vertices_on_line-vertex.ensures.parts) c.split_edge_when_all_vertices_on_line-vertex.ensures.edges

@@ -2,7 +2,7 @@ use Rattle.std.proofs.Common.{map, subst}
 use Rattle.delaunay_location.specs.Location.{Locates}
 use Rattle.delaunay_location.proofs.Walking.{apart_elsewhere}
 use Rattle.delaunay_edit.proofs.Vertices.{here_if_on_vertex}
-use Rattle.delaunay_edit.proofs.insertion.DelaunayTriangulation+V+DE+UE+F+L.entry.Goals as goal
+use Rattle.delaunay_edit.proofs.triangulation_core.TriangulationCore.entry.Goals as goal
 
 pub returns-in-OnVertex : goal.returns-in-OnVertex
 returns-in-OnVertex g c =

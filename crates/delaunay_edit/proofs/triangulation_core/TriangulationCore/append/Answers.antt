@@ -1,10 +1,12 @@
 use Rattle.std.proofs.Common.{◌∙◌, [], ◌∷◌, ◌++◌, ap, sym, subst, map}
 use Rattle.delaunay_edit.specs.Location.{Locates}
 use Rattle.delaunay_legalization.specs.Shape.{IsTriangulated, IsDelaunayTriangulation}
+use Rattle.delaunay_legalization.specs.State.{state_of}
 use Rattle.delaunay_insertion.proofs.Appending.{sites_after}
 use Rattle.delaunay_insertion.proofs.DataKept.{appended_keeps}
-use Rattle.delaunay_insertion.proofs.MadeFaces.{passes_beside}
-use Rattle.delaunay_edit.proofs.insertion.DelaunayTriangulation+V+DE+UE+F+L.append.Goals as goal
+use Rattle.delaunay_insertion.proofs.LeftToTest.{passes_beside}
+use Rattle.delaunay_edit.proofs.Inserting.{splits_legalized}
+use Rattle.delaunay_edit.proofs.triangulation_core.TriangulationCore.append.Goals as goal
 
 pub insert_at-vertex-requires-clause-location : goal.insert_at-vertex-requires-clause-location
 insert_at-vertex-requires-clause-location g c =
@@ -25,5 +27,10 @@ returns-clause-data g c =
 
 pub legalize_star-requires-clause-passing : goal.legalize_star-requires-clause-passing
 legalize_star-requires-clause-passing g c =
-    passes_beside g.V.HasPosition.place c.args.self.now c.reserve_for_vertex.new.dcel c.insert_at-vertex.new.dcel c.args.value c.insert_at-vertex.result _ (subst (IsDelaunayTriangulation g.V.HasPosition.place (λ _. [])) c.self.view_is c.self.invariant) (c.reserve_for_vertex.ensures.same ∙ c.self.view_is)
-    c.insert_at-vertex.ensures.vertices c.insert_at-vertex.ensures.vertex c.insert_at-vertex.ensures.made
+    passes_beside g.V.HasPosition.place g.M.ConstraintMarker.marks g.M.ConstraintMarker.constraints g.met.M.ConstraintMarker.constraints_are_marked c.args.self.now c.reserve_for_vertex.new.dcel c.insert_at-vertex.new.dcel c.args.value c.insert_at-vertex.result _
+    (subst (IsDelaunayTriangulation g.V.HasPosition.place g.M.ConstraintMarker.constraints) c.self.view_is c.self.invariant) (c.reserve_for_vertex.ensures.same ∙ c.self.view_is)
+    c.insert_at-vertex.ensures.vertices c.insert_at-vertex.ensures.vertex c.insert_at-vertex.ensures.made c.insert_at-vertex.ensures.kept c.insert_at-vertex.ensures.constraints
+
+pub returns-clause-constraints : goal.returns-clause-constraints
+returns-clause-constraints g c =
+    splits_legalized g.V.HasPosition.place g.M.ConstraintMarker.constraints c.args.value (state_of c.reserve_for_vertex.new.dcel) c.args.self.now (state_of c.insert_at-vertex.new.dcel) (state_of c.legalize_star.new.dcel) c.insert_at-vertex.ensures.constraints (c.reserve_for_vertex.ensures.same ∙ c.self.view_is) c.legalize_star.ensures.constraints
