@@ -6,3 +6,6 @@ pub mod Turn
 pub mod FirstItems
 pub mod OutsideItems
 pub mod ConflictSearch
+pub mod Located
+pub mod EitherWay
+pub mod Intersecting

@@ -1,10 +1,13 @@
 -- The constraints that a segment crosses.
-use Rattle.std.specs.Prelude.{◌≡◌, ℕ, ◌/◌, ◌<◌, List, [], ◌∷◌, ◌++◌, length, ℤ, Option, Some, MatchOption, Contains}
+use Rattle.std.specs.Prelude.{◌≡◌, ◌≢◌, ℕ, ◌/◌, ◌<◌, List, [], ◌∷◌, ◌++◌, length, ℤ, Option, Some, MatchOption, Contains}
 use Rattle.half_edge_mesh.specs.Mesh.{origin, rev}
 use Rattle.half_edge_mesh.specs.Contents.{Contents}
 use Rattle.half_edge_views.specs.declared.edge.DirectedEdgeHandle.{DirectedEdgeHandle}
-use Rattle.plane.specs.Fraction.{Point}
+use Rattle.plane.specs.Crossing.{MeetsWithin}
+use Rattle.plane.specs.Fraction.{Point, whole}
 use Rattle.plane.specs.Line.{Item, across}
+use Rattle.plane.specs.Pairs.{Joins}
+use Rattle.plane.specs.Tiling.{Triangulation, vertex}
 use Rattle.delaunay_lines.specs.declared.iterator.LineIntersectionIterator.{LineIntersectionIterator}
 use Rattle.delaunay_lines.specs.declared.intersection.Intersection.{Intersection}
 use Rattle.delaunay_lines.specs.Items.{crossed_edge}
@@ -37,3 +40,11 @@ pub record GivesConflict {V D U F P S : Type 0} (at : V → Point) (number : S �
   pub same_mesh : after.dcel ≡ it.dcel
   pub gives : (items : List Item) → AreLeft at number it items → MatchOption r (HasNoConflict constraints it.dcel.now items × AreLeft at number after [])
       (λ e. (e.dcel ≡ it.dcel) × FindsConflict at number constraints it.dcel.now items e after)
+
+-- p and q differ, and the segment between them meets a constraint in one point, strictly within the constraint
+pub record IntersectsConstraint (t : Triangulation) (constraints : List (ℕ × ℕ)) (p q : Point) : Type 0 where
+  pub apart : p ≢ q
+  pub from : ℕ
+  pub to : ℕ
+  pub constraint : Joins constraints from to
+  pub met : MeetsWithin (whole p) (whole q) (vertex t from) (vertex t to)

@@ -7,6 +7,7 @@ use Rattle.plane.specs.Line.{Item, Meets, IsLineList}
 use Rattle.plane_segments.specs.Steps.{GoesOn}
 use Rattle.mesh_embedding.specs.Drawn.{drawn}
 use Rattle.delaunay_core.specs.Place.{place_of}
+use Rattle.delaunay_legalization.specs.State.{State, state_of, triangulation_of}
 use Rattle.delaunay_lines.specs.declared.intersection.Intersection.{Intersection}
 use Rattle.delaunay_lines.specs.declared.intersection.FixedIntersection.{FixedIntersection}
 use Rattle.delaunay_lines.specs.declared.iterator.LineIntersectionIterator.{LineIntersectionIterator}
@@ -48,9 +49,9 @@ pub record IsReady {V D U F P S : Type 0} (at : V → Point) (number : S → ℤ
   pub are_left : AreLeft at number it items
   pub few : length items ≤ it.left
 
--- the line list from p to q is left of the iterator, over the mesh c
-pub record WalksLine {V D U F P S : Type 0} (at : V → Point) (number : S → ℤ) (c : Contents V D U F) (p q : Point) (it : LineIntersectionIterator V D U F P S) : Type 0 where
-  pub mesh : it.dcel.now ≡ c
+-- the line list from p to q in a triangulation is left of the iterator, which is over its mesh
+pub record WalksLine {V D U F P S : Type 0} (at : V → Point) (number : S → ℤ) (s : State V D U F) (p q : Point) (it : LineIntersectionIterator V D U F P S) : Type 0 where
+  pub state : state_of it.dcel.now ≡ s
   pub items : List Item
-  pub line_list : IsLineList (drawn (map at c.vertices) c.mesh) (whole p) (whole q) items
+  pub line_list : IsLineList (triangulation_of at s) (whole p) (whole q) items
   pub are_left : AreLeft at number it items

@@ -3,14 +3,19 @@ ghost use Rattle.std.specs.Prelude.{◌↔◌, ◌/◌, ◌<◌, length, map, Al
 ghost use Rattle.std.specs.Iterator.{at_most};
 ghost use Rattle.plane_tiling.specs.Local.{IsMesh};
 ghost use Rattle.mesh_embedding.specs.Drawn.{faces_of, outer_of};
+ghost use Rattle.delaunay_core.specs.Place.{place_of};
+ghost use Rattle.delaunay_legalization.specs.Constraints.{constraints_by};
 ghost use Rattle.delaunay_legalization.specs.Known.{point_at};
-ghost use Rattle.delaunay_lines.specs.Conflicts.{GivesConflict, IsConflictOf};
+ghost use Rattle.delaunay_legalization.specs.Shape.{IsTriangulated};
+ghost use Rattle.delaunay_legalization.specs.State.{state_of, triangulation_of};
+ghost use Rattle.delaunay_lines.specs.Conflicts.{GivesConflict, IntersectsConstraint, IsConflictOf};
 ghost use Rattle.delaunay_lines.specs.Walk.{IsReady, WalksLine};
 
+use crate::between::{line_between, line_between_vertices};
 use crate::intersection::Intersection;
 use crate::iterator::LineIntersectionIterator;
 use delaunay_core::math::PlaneTests;
-use delaunay_core::point::HasPosition;
+use delaunay_core::point::{HasPosition, Point2};
 use delaunay_legalization::{ConstraintMarker, is_constraint_edge};
 use half_edge_mesh::{Dcel, DirectedEdgeHandle, FixedVertexHandle};
 use std::marker::PhantomData;
@@ -91,14 +96,53 @@ impl<
         requires to_in { to < length dcel.now.vertices }
         requires shape { IsMesh (map V.place dcel.now.vertices) (faces_of dcel.now.mesh) (outer_of dcel.now.mesh) }
         requires sites { All (P.sites tests.now) (map V.place dcel.now.vertices) }
-        ensures line { let points = map V.place dcel.now.vertices in WalksLine V.place V.Scalar.whole dcel.now (point_at points from) (point_at points to) result.line }
+        ensures line { let points = map V.place dcel.now.vertices in WalksLine V.place V.Scalar.whole (state_of dcel.now) (point_at points from) (point_at points to) result.line }
         ensures ready { IsReady V.place V.Scalar.whole P.sites P.covered result.line }
     {
         ConflictingEdgesIterator {
-            line: LineIntersectionIterator::new_from_handles(dcel, from, to, tests),
+            line: line_between_vertices(dcel, from, to, tests),
             marks: PhantomData,
         }
     }
+
+    /// The constraints that the segment between two positions crosses.
+    pub fn between_points(
+        dcel: &'a Dcel<V, DE, UE, F>,
+        from: Point2<V::Scalar>,
+        to: Point2<V::Scalar>,
+        tests: &'a P,
+    ) -> Self
+        requires kept { IsTriangulated V.place (state_of dcel.now) }
+        requires sites { All (P.sites tests.now) (map V.place dcel.now.vertices) }
+        requires from_covered { P.covered tests.now (place_of V.Scalar.whole from) }
+        requires to_covered { P.covered tests.now (place_of V.Scalar.whole to) }
+        ensures line { WalksLine V.place V.Scalar.whole (state_of dcel.now) (place_of V.Scalar.whole from) (place_of V.Scalar.whole to) result.line }
+        ensures ready { IsReady V.place V.Scalar.whole P.sites P.covered result.line }
+    {
+        ConflictingEdgesIterator {
+            line: line_between(dcel, from, to, tests),
+            marks: PhantomData,
+        }
+    }
+}
+
+/// Whether two positions differ and the segment between them meets a constraint in one point, strictly within the constraint.
+pub fn intersects_constraint<
+    M: ConstraintMarker<UE>,
+    V: HasPosition,
+    DE,
+    UE,
+    F,
+    P: PlaneTests<V::Scalar>,
+>(dcel: &Dcel<V, DE, UE, F>, from: Point2<V::Scalar>, to: Point2<V::Scalar>, tests: &P) -> bool
+    requires kept { IsTriangulated V.place (state_of dcel.now) }
+    requires sites { All (P.sites tests.now) (map V.place dcel.now.vertices) }
+    requires from_covered { P.covered tests.now (place_of V.Scalar.whole from) }
+    requires to_covered { P.covered tests.now (place_of V.Scalar.whole to) }
+    ensures { let s = state_of dcel.now in IsTrue result ↔ IntersectsConstraint (triangulation_of V.place s) (constraints_by M.constraints s) (place_of V.Scalar.whole from) (place_of V.Scalar.whole to) }
+{
+    let mut line = line_between(dcel, from, to, tests);
+    next_conflict::<M, _, _, _, _, _>(&mut line).is_some()
 }
 
 impl<'a, M: ConstraintMarker<UE>, V: HasPosition, DE, UE, F, P: PlaneTests<V::Scalar>> Iterator

@@ -7,6 +7,7 @@ ghost use Rattle.plane_tiling.specs.Local.{IsMesh};
 ghost use Rattle.mesh_embedding.specs.Drawn.{drawn, faces_of, outer_of};
 ghost use Rattle.delaunay_core.specs.Place.{place_of};
 ghost use Rattle.delaunay_legalization.specs.Known.{point_at};
+ghost use Rattle.delaunay_legalization.specs.State.{state_of};
 ghost use Rattle.delaunay_lines.specs.Items.{item_of, IsHandleOf};
 ghost use Rattle.delaunay_lines.specs.Steps.{IsOverMesh, IsNext};
 ghost use Rattle.delaunay_lines.specs.Walk.{GivesNext, IsReady, Starts, WalksLine};
@@ -69,7 +70,7 @@ pub(crate) fn starting<'a, V: HasPosition, DE, UE, F, P: PlaneTests<V::Scalar>>(
     requires over { IsOverMesh V.place (P.sites tests.now) (P.covered tests.now) dcel.now (place_of V.Scalar.whole from) (place_of V.Scalar.whole to) }
     requires starts { Starts V.place dcel.now (place_of V.Scalar.whole from) (place_of V.Scalar.whole to) first }
     requires few { length dcel.now.vertices + length dcel.now.undirected ≤ most }
-    ensures line { WalksLine V.place V.Scalar.whole dcel.now (place_of V.Scalar.whole from) (place_of V.Scalar.whole to) result }
+    ensures line { WalksLine V.place V.Scalar.whole (state_of dcel.now) (place_of V.Scalar.whole from) (place_of V.Scalar.whole to) result }
     ensures ready { IsReady V.place V.Scalar.whole P.sites P.covered result }
 {
     LineIntersectionIterator {
@@ -91,7 +92,7 @@ impl<'a, V: HasPosition, DE, UE, F, P: PlaneTests<V::Scalar>> LineIntersectionIt
     P,
 > {
     /// What the segment from a vertex to a position meets, from the vertex on: of a vertex to its own position, that vertex alone.
-    pub fn new_from_vertex(
+    pub(crate) fn new_from_vertex(
         dcel: &'a Dcel<V, DE, UE, F>,
         from: FixedVertexHandle,
         to: Point2<V::Scalar>,
@@ -101,31 +102,13 @@ impl<'a, V: HasPosition, DE, UE, F, P: PlaneTests<V::Scalar>> LineIntersectionIt
         requires shape { IsMesh (map V.place dcel.now.vertices) (faces_of dcel.now.mesh) (outer_of dcel.now.mesh) }
         requires sites { All (P.sites tests.now) (map V.place dcel.now.vertices) }
         requires to_covered { P.covered tests.now (place_of V.Scalar.whole to) }
-        ensures line { WalksLine V.place V.Scalar.whole dcel.now (point_at (map V.place dcel.now.vertices) from) (place_of V.Scalar.whole to) result }
+        ensures line { WalksLine V.place V.Scalar.whole (state_of dcel.now) (point_at (map V.place dcel.now.vertices) from) (place_of V.Scalar.whole to) result }
         ensures ready { IsReady V.place V.Scalar.whole P.sites P.covered result }
     {
         let (vertices, edges) = (dcel.num_vertices(), dcel.num_undirected_edges());
         let start = position_of(dcel, from);
         let first = FixedIntersection::Vertex(from);
         starting(dcel, Some(first), start, to, vertices + edges, tests)
-    }
-
-    /// What the segment from one vertex to another meets, from `from` on: of one vertex to itself, that vertex alone.
-    pub fn new_from_handles(
-        dcel: &'a Dcel<V, DE, UE, F>,
-        from: FixedVertexHandle,
-        to: FixedVertexHandle,
-        tests: &'a P,
-    ) -> Self
-        requires from_in { from < length dcel.now.vertices }
-        requires to_in { to < length dcel.now.vertices }
-        requires shape { IsMesh (map V.place dcel.now.vertices) (faces_of dcel.now.mesh) (outer_of dcel.now.mesh) }
-        requires sites { All (P.sites tests.now) (map V.place dcel.now.vertices) }
-        ensures line { let points = map V.place dcel.now.vertices in WalksLine V.place V.Scalar.whole dcel.now (point_at points from) (point_at points to) result }
-        ensures ready { IsReady V.place V.Scalar.whole P.sites P.covered result }
-    {
-        let end = position_of(dcel, to);
-        LineIntersectionIterator::new_from_vertex(dcel, from, end, tests)
     }
 }
 

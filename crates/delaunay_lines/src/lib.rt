@@ -1,10 +1,12 @@
 //! What a segment meets in a triangulation, item by item: the walk along a line over the mesh.
 #![tactic(auto)]
 
+mod between;
 mod conflicts;
 mod crossing;
 mod intersection;
 mod iterator;
+mod lines;
 mod outside;
 mod sides;
 mod starts;
@@ -13,3 +15,8 @@ mod vertex;
 pub use conflicts::ConflictingEdgesIterator;
 pub use intersection::{FixedIntersection, Intersection};
 pub use iterator::LineIntersectionIterator;
+pub use lines::HasMesh;
+
+// For the crate of the struct, and not for users.
+pub use between::{line_between, line_between_vertices};
+pub use conflicts::intersects_constraint;

@@ -5,6 +5,7 @@ ghost use Rattle.plane.specs.Circle.{gap};
 ghost use Rattle.plane_tiling.specs.Local.{IsMesh};
 ghost use Rattle.mesh_embedding.specs.Drawn.{drawn, faces_of, outer_of};
 ghost use Rattle.delaunay_core.specs.Place.{place_of};
+ghost use Rattle.delaunay_legalization.specs.State.{state_of};
 ghost use Rattle.delaunay_lines.specs.Starts.{GoesRight, HasEndsOnSides, IsBetter, IsCrossed, IsEntered, IsNearerVertex, IsNearestOf, StartsOutside};
 ghost use Rattle.delaunay_lines.specs.Steps.{IsOverMesh};
 ghost use Rattle.delaunay_lines.specs.Walk.{IsReady, Starts, WalksLine};
@@ -239,7 +240,7 @@ impl<'a, V: HasPosition, DE, UE, F, P: PlaneTests<V::Scalar>> LineIntersectionIt
 > {
     /// What the segment from `from`, outside the triangulation, to `to` meets: of a point to itself, nothing. It looks at all
     /// outer edges, and, where the segment crosses none, at all vertices.
-    pub fn new_from_outside(
+    pub(crate) fn new_from_outside(
         dcel: &'a Dcel<V, DE, UE, F>,
         from: Point2<V::Scalar>,
         to: Point2<V::Scalar>,
@@ -250,7 +251,7 @@ impl<'a, V: HasPosition, DE, UE, F, P: PlaneTests<V::Scalar>> LineIntersectionIt
         requires sites { All (P.sites tests.now) (map V.place dcel.now.vertices) }
         requires from_covered { P.covered tests.now (place_of V.Scalar.whole from) }
         requires to_covered { P.covered tests.now (place_of V.Scalar.whole to) }
-        ensures line { WalksLine V.place V.Scalar.whole dcel.now (place_of V.Scalar.whole from) (place_of V.Scalar.whole to) result }
+        ensures line { WalksLine V.place V.Scalar.whole (state_of dcel.now) (place_of V.Scalar.whole from) (place_of V.Scalar.whole to) result }
         ensures ready { IsReady V.place V.Scalar.whole P.sites P.covered result }
     {
         let (vertices, edges) = (dcel.num_vertices(), dcel.num_undirected_edges());

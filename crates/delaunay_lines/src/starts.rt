@@ -3,6 +3,7 @@ ghost use Rattle.std.specs.Prelude.{◌≡◌, ◌≢◌, ◌↔◌, ◌<◌, le
 ghost use Rattle.plane_tiling.specs.Local.{IsMesh};
 ghost use Rattle.mesh_embedding.specs.Drawn.{faces_of, outer_of};
 ghost use Rattle.delaunay_core.specs.Place.{place_of};
+ghost use Rattle.delaunay_legalization.specs.State.{state_of};
 ghost use Rattle.delaunay_lines.specs.Starts.{StartsWithin, StartsInside, GoesOver};
 ghost use Rattle.delaunay_lines.specs.Steps.{IsOverMesh};
 ghost use Rattle.delaunay_lines.specs.Walk.{IsReady, Starts, WalksLine};
@@ -128,7 +129,7 @@ impl<'a, V: HasPosition, DE, UE, F, P: PlaneTests<V::Scalar>> LineIntersectionIt
     P,
 > {
     /// What the segment from `from`, strictly within an edge, to `to` meets: of a point to itself, the edge alone.
-    pub fn new_from_edge(
+    pub(crate) fn new_from_edge(
         dcel: &'a Dcel<V, DE, UE, F>,
         edge: FixedDirectedEdgeHandle,
         from: Point2<V::Scalar>,
@@ -141,7 +142,7 @@ impl<'a, V: HasPosition, DE, UE, F, P: PlaneTests<V::Scalar>> LineIntersectionIt
         requires sites { All (P.sites tests.now) (map V.place dcel.now.vertices) }
         requires from_covered { P.covered tests.now (place_of V.Scalar.whole from) }
         requires to_covered { P.covered tests.now (place_of V.Scalar.whole to) }
-        ensures line { WalksLine V.place V.Scalar.whole dcel.now (place_of V.Scalar.whole from) (place_of V.Scalar.whole to) result }
+        ensures line { WalksLine V.place V.Scalar.whole (state_of dcel.now) (place_of V.Scalar.whole from) (place_of V.Scalar.whole to) result }
         ensures ready { IsReady V.place V.Scalar.whole P.sites P.covered result }
     {
         let (vertices, edges) = (dcel.num_vertices(), dcel.num_undirected_edges());
@@ -151,7 +152,7 @@ impl<'a, V: HasPosition, DE, UE, F, P: PlaneTests<V::Scalar>> LineIntersectionIt
 
     /// What the segment from `from`, strictly inside the face on the left of an edge, to `to` meets: of a point to itself,
     /// nothing.
-    pub fn new_from_face(
+    pub(crate) fn new_from_face(
         dcel: &'a Dcel<V, DE, UE, F>,
         edge: FixedDirectedEdgeHandle,
         from: Point2<V::Scalar>,
@@ -164,7 +165,7 @@ impl<'a, V: HasPosition, DE, UE, F, P: PlaneTests<V::Scalar>> LineIntersectionIt
         requires sites { All (P.sites tests.now) (map V.place dcel.now.vertices) }
         requires from_covered { P.covered tests.now (place_of V.Scalar.whole from) }
         requires to_covered { P.covered tests.now (place_of V.Scalar.whole to) }
-        ensures line { WalksLine V.place V.Scalar.whole dcel.now (place_of V.Scalar.whole from) (place_of V.Scalar.whole to) result }
+        ensures line { WalksLine V.place V.Scalar.whole (state_of dcel.now) (place_of V.Scalar.whole from) (place_of V.Scalar.whole to) result }
         ensures ready { IsReady V.place V.Scalar.whole P.sites P.covered result }
     {
         let (vertices, edges) = (dcel.num_vertices(), dcel.num_undirected_edges());

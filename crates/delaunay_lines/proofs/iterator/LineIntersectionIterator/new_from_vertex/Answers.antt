@@ -2,6 +2,7 @@ use Rattle.std.proofs.Common.{map, subst}
 use Rattle.plane.specs.Fraction.{Point}
 use Rattle.delaunay_core.specs.Place.{place_of}
 use Rattle.delaunay_legalization.proofs.Questions.{covered_in}
+use Rattle.delaunay_legalization.specs.State.{state_of}
 use Rattle.delaunay_lines.specs.Walk.{WalksLine}
 use Rattle.delaunay_lines.proofs.Advance.{starts_at_vertex}
 use Rattle.delaunay_lines.proofs.iterator.LineIntersectionIterator.new_from_vertex.Goals as goal
@@ -20,4 +21,4 @@ starting-requires-clause-starts g c = starts_at_vertex _ _ _ _ _ _ (starting-req
 
 pub returns-clause-line : goal.returns-clause-line
 returns-clause-line g c =
-    subst (λ (x : Point). WalksLine g.V.HasPosition.place g.V.Scalar.SpadeNum.whole c.args.dcel.now x (place_of g.V.Scalar.SpadeNum.whole c.args.to) c.starting.result) c.position_of-start.ensures.position c.starting.ensures.line
+    subst (λ (x : Point). WalksLine g.V.HasPosition.place g.V.Scalar.SpadeNum.whole (state_of c.args.dcel.now) x (place_of g.V.Scalar.SpadeNum.whole c.args.to) c.starting.result) c.position_of-start.ensures.position c.starting.ensures.line

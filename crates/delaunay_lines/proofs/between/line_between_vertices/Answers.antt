@@ -3,8 +3,9 @@ use Rattle.plane.specs.Fraction.{Point}
 use Rattle.delaunay_core.specs.Place.{place_of}
 use Rattle.delaunay_legalization.specs.Known.{point_at}
 use Rattle.delaunay_legalization.proofs.Questions.{covered_in}
+use Rattle.delaunay_legalization.specs.State.{state_of}
 use Rattle.delaunay_lines.specs.Walk.{WalksLine}
-use Rattle.delaunay_lines.proofs.iterator.LineIntersectionIterator.new_from_handles.Goals as goal
+use Rattle.delaunay_lines.proofs.between.line_between_vertices.Goals as goal
 
 pub new_from_vertex-requires-clause-to_covered : goal.new_from_vertex-requires-clause-to_covered
 new_from_vertex-requires-clause-to_covered g c =
@@ -12,4 +13,4 @@ new_from_vertex-requires-clause-to_covered g c =
 
 pub returns-clause-line : goal.returns-clause-line
 returns-clause-line g c =
-    subst (λ (x : Point). WalksLine g.V.HasPosition.place g.V.Scalar.SpadeNum.whole c.args.dcel.now (point_at (map g.V.HasPosition.place c.args.dcel.now.vertices) c.args.from) x c.new_from_vertex.result) c.position_of-end.ensures.position c.new_from_vertex.ensures.line
+    subst (λ (x : Point). WalksLine g.V.HasPosition.place g.V.Scalar.SpadeNum.whole (state_of c.args.dcel.now) (point_at (map g.V.HasPosition.place c.args.dcel.now.vertices) c.args.from) x c.new_from_vertex.result) c.position_of-end.ensures.position c.new_from_vertex.ensures.line

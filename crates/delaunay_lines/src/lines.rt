@@ -1,0 +1,69 @@
+//! The walk along a segment over whatever has the mesh of a triangulation.
+ghost use Rattle.std.specs.Prelude.{◌≡◌, ◌<◌, length, map, All};
+ghost use Rattle.plane.specs.Tests.{InRange};
+ghost use Rattle.delaunay_core.specs.Place.{place_of};
+ghost use Rattle.delaunay_legalization.specs.Known.{point_at};
+ghost use Rattle.delaunay_legalization.specs.Shape.{IsTriangulated};
+ghost use Rattle.delaunay_legalization.specs.State.{State, state_of};
+ghost use Rattle.delaunay_lines.specs.Walk.{IsReady, WalksLine};
+
+use crate::between::{line_between, line_between_vertices};
+use crate::iterator::LineIntersectionIterator;
+use delaunay_core::math::PlaneTests;
+use delaunay_core::point::{HasPosition, Point2};
+use half_edge_mesh::{Dcel, FixedVertexHandle};
+
+/// What has the mesh of a triangulation: each of the two types of triangulations.
+pub trait HasMesh<V: HasPosition, DE, UE, F> {
+    // What a contract sees of it.
+    ghost state: { Self → State V DE UE F };
+
+    /// The mesh.
+    fn mesh(&self) -> &Dcel<V, DE, UE, F>
+        ensures state { state_of result.now ≡ state self.now }
+        ensures in_range { All InRange (map V.place result.now.vertices) }
+        ensures kept { IsTriangulated V.place (state_of result.now) };
+}
+
+impl<'a, V: HasPosition, DE, UE, F, P: PlaneTests<V::Scalar>> LineIntersectionIterator<
+    'a,
+    V,
+    DE,
+    UE,
+    F,
+    P,
+> {
+    /// What the segment from one position to another meets, both of which the tests cover. From a position to itself it meets
+    /// the vertex there, or else the edge that carries it, or else nothing. Where the segment starts is looked for by a walk
+    /// from vertex 0, or, where all vertices are on one line, by a look at all of them.
+    pub fn new<T: HasMesh<V, DE, UE, F>>(
+        triangulation: &'a T,
+        from: Point2<V::Scalar>,
+        to: Point2<V::Scalar>,
+        tests: &'a P,
+    ) -> Self
+        requires sites { let points = map V.place (T.state triangulation.now).vertices in All InRange points → All (P.sites tests.now) points }
+        requires from_covered { P.covered tests.now (place_of V.Scalar.whole from) }
+        requires to_covered { P.covered tests.now (place_of V.Scalar.whole to) }
+        ensures line { WalksLine V.place V.Scalar.whole (T.state triangulation.now) (place_of V.Scalar.whole from) (place_of V.Scalar.whole to) result }
+        ensures ready { IsReady V.place V.Scalar.whole P.sites P.covered result }
+    {
+        line_between(triangulation.mesh(), from, to, tests)
+    }
+
+    /// What the segment from one vertex to another meets, from the first vertex on: of a vertex to itself, that vertex alone.
+    pub fn new_from_handles<T: HasMesh<V, DE, UE, F>>(
+        triangulation: &'a T,
+        from: FixedVertexHandle,
+        to: FixedVertexHandle,
+        tests: &'a P,
+    ) -> Self
+        requires from_in { from < length (T.state triangulation.now).vertices }
+        requires to_in { to < length (T.state triangulation.now).vertices }
+        requires sites { let points = map V.place (T.state triangulation.now).vertices in All InRange points → All (P.sites tests.now) points }
+        ensures line { let s = T.state triangulation.now in let points = map V.place s.vertices in WalksLine V.place V.Scalar.whole s (point_at points from) (point_at points to) result }
+        ensures ready { IsReady V.place V.Scalar.whole P.sites P.covered result }
+    {
+        line_between_vertices(triangulation.mesh(), from, to, tests)
+    }
+}
