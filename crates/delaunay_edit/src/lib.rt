@@ -7,12 +7,16 @@ mod delaunay_triangulation;
 mod elements;
 mod insertion;
 mod insertion_cases;
+mod lines;
 mod location;
 mod nearest_vertex;
 mod removal;
 mod triangulation_core;
 
 pub use cdt::ConstrainedDelaunayTriangulation;
+pub use delaunay_lines::{
+    ConflictingEdgesIterator, HasMesh, Intersection, LineIntersectionIterator,
+};
 pub use delaunay_location::PositionInTriangulation;
 pub use delaunay_triangulation::DelaunayTriangulation;
 pub use triangulation_core::TriangulationCore;
