@@ -1,84 +1,143 @@
-//! Inserts the points of a square grid in two orders, and tells how fast, on standard error.
+//! `benchmark ORDER N [REMOVALS]` inserts N points in an order, asks for as many locations and
+//! nearest vertices, and removes vertices at random, all of them where no number says how many.
+//! Without words it runs each order with few points. Standard output has what was found, so that
+//! other programs can be compared, and standard error the figures: the thread's nanoseconds a call,
+//! and the peak of resident bytes a vertex. The stored output is that of `compare/cgal.cpp`, which
+//! does the same with another library.
 #![tactic(auto)]
 
-ghost use Rattle.std.specs.Prelude.{◌≤◌, ◌<◌};
+mod calls;
+mod memory;
+mod orders;
+mod random;
 
-mod grid;
-mod small_tests;
-
-use crate::grid::Grid;
-use delaunay_core::math::InsertionError;
-use delaunay_core::point::Point2;
-use std::alloc::Global;
+use crate::calls::{Triangulation, insert_all, locate_all, nearest_all, remove_some};
+use crate::memory::{peak_bytes, resident_bytes};
+use crate::orders::Order;
+use crate::random::Random;
+use spade_delaunay::Point2;
 use std::io;
-use std::rt::Env;
-use std::time::CpuClock;
+use std::time::{CpuClock, Duration};
 
-/// Points a side where no argument says how many.
-const SIDE: u16 = 32;
+/// Points of each order where no words say what to run.
+const FEW: u32 = 200;
 
-/// The points of the grid are taken this many apart, from the first again behind the last.
-const STRIDES: [u32; 2] = [1, 421];
+/// How many of them are left at the end.
+const LEFT: u32 = 50;
 
-/// How many points a side the first argument asks for, up to 1024.
-fn side_of(rt: &(impl Env + AllocGlobal)) -> u16
-    ensures low { 0 < result }
-    ensures high { result ≤ 1024 }
-{
-    let Ok(words) = std::env::args(rt) else {
-        return SIDE;
-    };
-    for word in words.skip(1) {
-        if let Ok(side) = word.parse::<u16>() {
-            return side.clamp(1, 1024);
-        }
-    }
-    SIDE
+/// What the first words ask for.
+#[derive(Drop)]
+struct Task {
+    order: Order,
+    count: u32,
+    removals: u32,
 }
 
-/// Inserts all points, and gives the counts of vertices, edges and faces, and that of the flips.
-fn insert_all(
-    alloc: Global,
-    side: u16,
-    stride: u32,
-) -> Result<((usize, usize, usize), u64), InsertionError>
-    requires low { 0 < side }
-    requires high { side ≤ 1024 }
-{
-    let mut grid = Grid::new(alloc);
-    let mut flips = 0u64;
-    let side = u32::from(side);
-    let count = side * side;
-    for j in 0..count {
-        let number = j.wrapping_mul(stride) % count;
-        let point = Point2::new(i64::from(number % side), i64::from(number / side));
-        flips = flips.wrapping_add(grid.insert(point)?);
+impl Task {
+    /// Nothing where the words do not name an order and a number.
+    fn asked_for(rt: &HostRuntime) -> Option<Self> {
+        let mut words = std::env::args(rt).ok()?.skip(1);
+        let order = Order::named(words.next()?.as_str())?;
+        let count = words.next()?.parse().ok()?;
+        let removals = match words.next() {
+            Some(word) => word.parse().ok()?,
+            None => count,
+        };
+        Some(Task {
+            order,
+            count,
+            removals,
+        })
     }
-    Ok((grid.counts(), flips))
 }
 
-/// Insertions a second, and flips a hundred insertions.
-fn rates(insertions: usize, flips: u64, micros: u128) -> (u128, u128) {
-    let insertions = insertions as u128;
-    (
-        insertions * 1_000_000 / micros.max(1),
-        u128::from(flips) * 100 / insertions.max(1),
+/// The thread's nanoseconds a call, from a moment on.
+fn nanoseconds_a_call(rt: &HostRuntime, start: Duration, calls: usize) -> io::Result<u128> {
+    let taken = rt.thread_cpu_time()?.saturating_sub(start);
+    Ok(taken.as_nanos() / (calls as u128).max(1))
+}
+
+fn tell_counts(rt: &HostRuntime, word: &str, triangulation: &Triangulation) -> io::Result<()> {
+    println!(rt;
+        "{word}: {} vertices, {} edges, {} faces",
+        triangulation.num_vertices(),
+        triangulation.num_undirected_edges(),
+        triangulation.num_inner_faces()
     )
 }
 
-fn main(rt: HostRuntime) -> io::Result<()> {
-    let side = side_of(&rt);
-    for stride in STRIDES {
-        let start = rt.thread_cpu_time()?;
-        let Ok(((vertices, edges, faces), flips)) = insert_all(rt.alloc(), side, stride) else {
-            return rt.println("refused");
+fn insert(rt: &HostRuntime, points: &[Point2<i64>]) -> anyhow::Result<Triangulation> {
+    let before = resident_bytes(rt);
+    let start = rt.thread_cpu_time()?;
+    let triangulation = insert_all(rt.alloc(), points)?;
+    let nanoseconds = nanoseconds_a_call(rt, start, points.len())?;
+    let bytes = peak_bytes(rt).saturating_sub(before) / (points.len() as u64).max(1);
+    eprintln!(rt; "insert {nanoseconds} ns")?;
+    eprintln!(rt; "peak {bytes} bytes a vertex")?;
+    tell_counts(rt, "inserted", &triangulation)?;
+    Ok(triangulation)
+}
+
+fn ask(
+    rt: &HostRuntime,
+    triangulation: &Triangulation,
+    queries: &[Point2<i64>],
+) -> anyhow::Result<()> {
+    let start = rt.thread_cpu_time()?;
+    let located = locate_all(triangulation, queries);
+    let nanoseconds = nanoseconds_a_call(rt, start, queries.len())?;
+    eprintln!(rt; "locate {nanoseconds} ns")?;
+    println!(rt;
+        "located: {} on vertices, {} inside, {} outside",
+        located.vertices, located.inside, located.outside
+    )?;
+    let start = rt.thread_cpu_time()?;
+    let sum = nearest_all(triangulation, queries);
+    let nanoseconds = nanoseconds_a_call(rt, start, queries.len())?;
+    eprintln!(rt; "nearest {nanoseconds} ns")?;
+    println!(rt; "nearest: squared distances {sum}")?;
+    Ok(())
+}
+
+fn remove(
+    rt: &HostRuntime,
+    triangulation: &mut Triangulation,
+    random: &mut Random,
+    removals: u32,
+) -> anyhow::Result<()> {
+    let start = rt.thread_cpu_time()?;
+    let removed = remove_some(triangulation, random, removals)?;
+    let nanoseconds = nanoseconds_a_call(rt, start, removed.count)?;
+    eprintln!(rt; "remove {nanoseconds} ns")?;
+    println!(rt;
+        "removed: {} vertices, digest {}",
+        removed.count, removed.digest
+    )?;
+    tell_counts(rt, "left", triangulation)?;
+    Ok(())
+}
+
+fn run(rt: &HostRuntime, task: &Task) -> anyhow::Result<()> {
+    let mut random = Random::new();
+    let points = task.order.points(rt.alloc(), task.count, &mut random)?;
+    let queries = task.order.queries(rt.alloc(), task.count, &mut random)?;
+    let mut triangulation = insert(rt, points.as_slice())?;
+    ask(rt, &triangulation, queries.as_slice())?;
+    remove(rt, &mut triangulation, &mut random, task.removals)
+}
+
+fn main(rt: HostRuntime) -> anyhow::Result<()> {
+    if let Some(task) = Task::asked_for(&rt) {
+        return run(&rt, &task);
+    }
+    for order in Order::ALL {
+        println!(rt; "{}", order.name())?;
+        let task = Task {
+            order,
+            count: FEW,
+            removals: FEW - LEFT,
         };
-        let taken = rt.thread_cpu_time()?.saturating_sub(start);
-        println!(rt; "{vertices} vertices, {edges} edges, {faces} faces")?;
-        let (a_second, a_hundred) = rates(vertices, flips, taken.as_micros());
-        eprintln!(rt;
-            "stride {stride}: {a_second} insertions a second, {a_hundred} flips a hundred insertions"
-        )?;
+        run(&rt, &task)?;
     }
     Ok(())
 }

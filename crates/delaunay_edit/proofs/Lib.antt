@@ -10,3 +10,4 @@ pub mod Constrained
 pub mod Vertices
 pub mod WellFormed
 pub mod Inserting
+pub mod EditingConstraints

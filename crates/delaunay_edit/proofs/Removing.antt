@@ -1,14 +1,16 @@
--- A vertex goes from a triangulation, which has no constraints.
+-- A vertex goes from a triangulation.
 use Rattle.std.proofs.Common.{◌≡◌, ◌∙◌, ℕ, ◌+◌, ◌*◌, ◌-◌, ◌≤◌, List, length, map, Some, sym, ap, subst, arith}
 use Rattle.std.specs.Prelude.{All, pos, slice_get}
 use Rattle.std.proofs.lemmas.List.{length-map, get_or-map}
 use Rattle.std.proofs.lemmas.Option.{get_or_from_slice_get, slice_get_within}
 use Rattle.half_edge_links.proofs.OpenSound.{length-swap_remove}
 use Rattle.mesh_embedding.proofs.MeshDrops.{mapped_swap_remove}
+use Rattle.half_edge_mesh.specs.Contents.{Contents}
 use Rattle.plane.specs.Fraction.{Point}
 use Rattle.plane.specs.Plain.{Removes}
 use Rattle.delaunay_legalization.specs.Known.{point_at}
-use Rattle.delaunay_legalization.specs.State.{State, points_and_constraints}
+use Rattle.delaunay_legalization.specs.Constraints.{constraints_by, points_and_constraints_by}
+use Rattle.delaunay_legalization.specs.State.{State, state_of}
 use Rattle.delaunay_removal.proofs.Removing.{all_left}
 
 -- the data that are read at an index have the position that stands there
@@ -16,7 +18,7 @@ pub read_place : {V : Type 0} (place : V → Point) (vs : List V) (i : ℕ) (v :
 read_place place vs i v e = get_or-map place vs i v (record { x = pos 0; y = pos 0 }) (slice_get_within vs i v e) ∙ ap place (get_or_from_slice_get vs i v v e)
 
 -- ---- what is left
-module _ {V D U F : Type 0} (place : V → Point) (old new : State V D U F) (v : ℕ) (value : V) (removes : Removes place (points_and_constraints old) (points_and_constraints new) v) where
+module _ {V D U F : Type 0} (place : V → Point) (constraints : List U → List ℕ) (old new : State V D U F) (v : ℕ) (value : V) (removes : Removes place (points_and_constraints_by constraints old) (points_and_constraints_by constraints new) v) where
   count : length new.vertices ≡ length old.vertices - 1
   count = ap (λ vs. length vs) (removes.vertices value) ∙ length-swap_remove old.vertices v value
 
@@ -30,3 +32,10 @@ module _ {V D U F : Type 0} (place : V → Point) (old new : State V D U F) (v :
   -- the room for the edges of so many vertices suffices still
   pub room_left : (n len room : ℕ) → n ≡ length old.vertices → len + 3 * n ≤ room → 3 * length new.vertices ≤ room
   room_left n len room e fits = omega (arith, e, fits, count)
+
+-- edges are flipped afterwards
+pub removed_on : {V D U F : Type 0} (place : V → Point) (constraints : List U → List ℕ) (old : State V D U F) (mid new : Contents V D U F) (v : ℕ) → Removes place (points_and_constraints_by constraints old) (points_and_constraints_by constraints (state_of mid)) v
+    → new ≡ record mid { mesh = new.mesh } → constraints_by constraints (state_of new) ≡ constraints_by constraints (state_of mid) → Removes place (points_and_constraints_by constraints old) (points_and_constraints_by constraints (state_of new)) v
+removed_on {V = V} {D = D} {U = U} {F = F} place constraints old mid new v removes contents pairs =
+    subst (λ (x : List V × List (ℕ × ℕ)). Removes place (points_and_constraints_by constraints old) (record { vertices = x.0; constraints = x.1 }) v)
+    (λ o. (sym (ap (λ (c : Contents V D U F). c.vertices) contents) o, sym pairs o)) removes

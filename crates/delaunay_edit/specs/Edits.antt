@@ -37,6 +37,6 @@ module _ {V D U F : Type 0} (place : V → Point) (constraints : List U → List
   -- a removal of the vertex at p gave this result
   pub record LocatesAndRemoves {E : Type 0} (p : Point) (result : Result (Option V) E) (old new : State V D U F) : Type 0 where
     pub apart : ¬ IsKnown (map place old.vertices) p → (result ≡ Ok None) × (new ≡ old)
-    pub ok : IfOk result (λ r. MatchOption r (¬ IsKnown (map place old.vertices) p) (RemovesAt place old new p))
+    pub ok : IfOk result (λ r. MatchOption r (¬ IsKnown (map place old.vertices) p) (RemovesAt place constraints old new p))
     pub outer : new.outer ≡ old.outer
     pub err : OnErr result (new ≡ old)

@@ -7,3 +7,4 @@ pub mod Headline
 pub mod Edits
 pub mod Constrained
 pub mod Entry
+pub mod ConstraintEdits

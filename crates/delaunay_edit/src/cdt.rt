@@ -1,7 +1,7 @@
 //! Triangulations with constraints.
 ghost use Rattle.std.specs.Prelude.{◌≡◌, ◌↔◌, ◌*◌, ◌<◌, length, Contains, IsTrue, IfErr, IfOk};
 ghost use Rattle.half_edge_mesh.specs.Mesh.{origin, rev};
-ghost use Rattle.plane.specs.Pairs.{IsSamePair, Joins};
+ghost use Rattle.plane.specs.Pairs.{Joins};
 ghost use Rattle.plane.specs.Plain.{Unconstrains};
 ghost use Rattle.delaunay_legalization.specs.State.{points_and_constraints};
 ghost use Rattle.delaunay_edit.specs.Constrained.{IsFree, constrained, constraint_edges, constraints_of};
@@ -13,9 +13,8 @@ use crate::triangulation_core::TriangulationCore;
 use delaunay_core::point::HasPosition;
 use delaunay_core::{HintGenerator, LastUsedVertexHintGenerator};
 use delaunay_legalization::{CdtEdge, EdgeConstraints, is_constraint_edge};
-use half_edge_mesh::{
-    FixedDirectedEdgeHandle, FixedUndirectedEdgeHandle, FixedVertexHandle, MeshViews,
-};
+use delaunay_paths::is_constraint_between;
+use half_edge_mesh::{FixedUndirectedEdgeHandle, FixedVertexHandle};
 use std::marker::PhantomData;
 
 /// A triangulation of vertices with different positions, some of whose edges are constraints, which stay edges. Its inner
@@ -61,57 +60,13 @@ impl<V: HasPosition, DE, UE, F, L: HintGenerator<V::Scalar>> ConstrainedDelaunay
         count
     }
 
-    // Whether an edge goes from one vertex to another.
-    fn goes(
-        &self,
-        edge: FixedDirectedEdgeHandle,
-        from: FixedVertexHandle,
-        to: FixedVertexHandle,
-    ) -> bool
-        requires { edge < length self.now.directed }
-        ensures { IsTrue result ↔ ((from ≡ origin self.now.mesh edge) × (to ≡ origin self.now.mesh (rev edge))) }
-    {
-        let edge = self.dcel.directed_edge(edge);
-        from == edge.from().fix() && to == edge.to().fix()
-    }
-
-    // Whether an edge joins two vertices.
-    fn has_ends(
-        &self,
-        edge: FixedUndirectedEdgeHandle,
-        from: FixedVertexHandle,
-        to: FixedVertexHandle,
-    ) -> bool
-        requires { edge < length self.now.undirected }
-        ensures { IsTrue result ↔ IsSamePair from to (origin self.now.mesh (2 * edge)) (origin self.now.mesh (rev (2 * edge))) }
-    {
-        self.recall_invariant();
-        let edge = edge.as_directed();
-        self.goes(edge, from, to) || self.goes(edge, to, from)
-    }
-
-    // Whether an edge is a constraint and joins two vertices.
-    fn fixes_pair(
-        &self,
-        edge: FixedUndirectedEdgeHandle,
-        from: FixedVertexHandle,
-        to: FixedVertexHandle,
-    ) -> bool
-        requires { edge < length self.now.undirected }
-        ensures { IsTrue result ↔ (Contains (constraint_edges self.now.undirected) edge × IsSamePair from to (origin self.now.mesh (2 * edge)) (origin self.now.mesh (rev (2 * edge)))) }
-    {
-        self.is_constraint_edge(edge) && self.has_ends(edge, from, to)
-    }
-
-    /// Whether a constraint joins two vertices, in either order, by a look at all edges.
+    /// Whether a constraint joins two vertices, in either order, by a look round the first.
     pub fn exists_constraint(&self, from: FixedVertexHandle, to: FixedVertexHandle) -> bool
         ensures { IsTrue result ↔ Joins (constraints_of self.now) from to }
     {
-        for index in 0..self.dcel.num_undirected_edges() {
-            let edge = FixedUndirectedEdgeHandle::from_index(index as u32);
-            if self.fixes_pair(edge, from, to) {
-                return true;
-            }
+        self.recall_invariant();
+        if (from.index() as usize) < self.num_vertices() {
+            return is_constraint_between::<EdgeConstraints, _, _, _, _>(&self.dcel, from, to);
         }
         false
     }

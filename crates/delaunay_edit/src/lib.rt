@@ -2,6 +2,7 @@
 #![tactic(auto)]
 
 mod cdt;
+mod constraint_edits;
 mod delaunay_triangulation;
 mod elements;
 mod insertion;

@@ -5,18 +5,15 @@ ghost use Rattle.plane.specs.Plain.{IsCleared, Removes, Replaces};
 ghost use Rattle.delaunay_core.specs.Place.{place_of};
 ghost use Rattle.delaunay_legalization.specs.Constraints.{points_and_constraints_by};
 ghost use Rattle.delaunay_legalization.specs.Known.{point_at};
-ghost use Rattle.delaunay_legalization.specs.State.{points_and_constraints};
 ghost use Rattle.delaunay_removal.specs.Data.{KeepsDataOfOthers};
-ghost use Rattle.delaunay_edit.specs.Constrained.{none};
 ghost use Rattle.delaunay_edit.specs.Edits.{LocatesAndRemoves, RemovesVertex};
 ghost use Rattle.delaunay_edit.specs.Headline.{AreSites, IsDelaunay};
 
-use crate::delaunay_triangulation::DelaunayTriangulation;
 use crate::triangulation_core::TriangulationCore;
 use delaunay_core::HintGenerator;
 use delaunay_core::math::PlaneTests;
 use delaunay_core::point::{HasPosition, Point2};
-use delaunay_legalization::{ConstraintMarker, NoConstraints, legalize_all};
+use delaunay_legalization::{ConstraintMarker, legalize_all};
 use delaunay_removal::remove_vertex;
 use half_edge_mesh::FixedVertexHandle;
 use std::alloc::AllocError;
@@ -52,7 +49,8 @@ impl<
     UE: Drop,
     F: Drop,
     L: HintGenerator<V::Scalar>,
-> DelaunayTriangulation<V, DE, UE, F, L> {
+    M: ConstraintMarker<UE>,
+> TriangulationCore<V, DE, UE, F, L, M> {
     // Takes a vertex out and tests each edge of what is left, or a refusal that changes nothing.
     fn take_out<P: PlaneTests<V::Scalar>>(
         &mut self,
@@ -62,7 +60,8 @@ impl<
         requires within { vertex < length self.old.vertices }
         requires sites { All (P.sites tests.now) (map V.place self.old.vertices) }
         ensures value { IfOk result (λ v. slice_get self.old.vertices vertex ≡ Some v) }
-        ensures plain { OnOk result (Removes V.place (points_and_constraints self.old) (points_and_constraints self.new) vertex) }
+        ensures plain { OnOk result (Removes V.place (points_and_constraints_by M.constraints self.old)
+            (points_and_constraints_by M.constraints self.new) vertex) }
         ensures outer { self.new.outer ≡ self.old.outer }
         ensures data { OnOk result (KeepsDataOfOthers self.old self.new vertex) }
         ensures err { OnErr result (self.new ≡ self.old) }
@@ -70,20 +69,21 @@ impl<
         self.work.reserve(3 * self.dcel.num_vertices())?;
         self.sides.clear();
         self.sides.reserve(self.dcel.num_directed_edges())?;
-        let value = remove_vertex(&mut self.dcel, vertex, tests, &mut self.sides);
-        let mut flips = 0;
-        legalize_all::<NoConstraints, _, _, _, _, _>(
+        let value = remove_vertex::<M, _, _, _, _, _>(
             &mut self.dcel,
+            vertex,
             tests,
-            &mut self.work,
-            &mut flips,
+            &mut self.sides,
         );
+        let mut flips = 0;
+        legalize_all::<M, _, _, _, _, _>(&mut self.dcel, tests, &mut self.work, &mut flips);
         Ok(value)
     }
 
-    /// Removes a vertex and gives it back; the last vertex takes its handle. Handles of edges and faces change too. An edge
-    /// that did not end at the vertex, or a face without that corner, that is there before and after keeps its data, and
-    /// so does the outer face. It gives `AllocError` where memory was refused, and then nothing changes.
+    /// Removes a vertex, with the constraints that end at it, and gives it back; the last vertex takes its handle. Handles of
+    /// edges and faces change too. Each other constraint stays. An edge that did not end at the vertex, or a face without
+    /// that corner, that is there before and after keeps its data, and so does the outer face. It gives `AllocError` where
+    /// memory was refused, and then nothing changes.
     pub fn remove<P: PlaneTests<V::Scalar>>(
         &mut self,
         vertex: FixedVertexHandle,
@@ -91,8 +91,8 @@ impl<
     ) -> Result<V, AllocError>
         requires within { vertex < length self.old.vertices }
         requires sites { AreSites V.place (P.sites tests.now) self.old.vertices }
-        ensures removes { RemovesVertex V.place none vertex result self.old self.new }
-        ensures headline { IsDelaunay V.place none self.new }
+        ensures removes { RemovesVertex V.place M.constraints vertex result self.old self.new }
+        ensures headline { IsDelaunay V.place M.constraints self.new }
     {
         self.recall_invariant();
         let removed = self.take_out(vertex, tests);
@@ -111,8 +111,8 @@ impl<
         requires sites { AreSites V.place (P.sites tests.now) self.old.vertices }
         requires covered { P.covered tests.now (place_of V.Scalar.whole point) }
         ensures removes { let p = place_of V.Scalar.whole point in
-            LocatesAndRemoves V.place none p result self.old self.new }
-        ensures headline { IsDelaunay V.place none self.new }
+            LocatesAndRemoves V.place M.constraints p result self.old self.new }
+        ensures headline { IsDelaunay V.place M.constraints self.new }
     {
         self.recall_invariant();
         match self.vertex_at(point, tests) {

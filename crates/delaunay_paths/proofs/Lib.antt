@@ -8,3 +8,4 @@ pub mod InTheWay
 pub mod Releasing
 pub mod Marks
 pub mod ListingPath
+pub mod JoinedPairs

@@ -15,7 +15,7 @@ use Rattle.plane_edits.proofs.Changes.{once_none}
 use Rattle.plane_tiling.proofs.Totals.{Contains-head, Contains-none, Contains-cases}
 use Rattle.mesh_embedding.specs.Drawn.{faces_of}
 use Rattle.mesh_embedding.specs.Legal.{AreEdges, pairs_at}
-use Rattle.mesh_embedding.specs.Stays.{GoSameWay}
+use Rattle.mesh_embedding.specs.Stays.{GoSameWay, KeepsIndexes}
 use Rattle.mesh_embedding.proofs.MeshLegal.{joins_edge, own_indexes}
 use Rattle.mesh_embedding.proofs.WorkLists.{once_after}
 use Rattle.delaunay_legalization.specs.Constraints.{marked_edges, constraint_pairs, constraints_by, points_and_constraints_by}
@@ -120,11 +120,12 @@ module _ {V D U F : Type 0} (at : V → Point) (marks : U → Bool) (constraints
       once = once_after [] k once_none (λ c. Contains-none k c);
     })
 
-    pub released : (new : Contents V D U F) → new ≡ record mid { mesh = new.mesh } → constraint_pairs constraints new.mesh new.undirected ≡ constraint_pairs constraints mid.mesh mid.undirected → IsDelaunayTriangulation at constraints (state_of new) → ReleasesEdge at change constraints old new k
-    released new contents constraints_stay now_legal = record {
+    pub released : (new : Contents V D U F) → new ≡ record mid { mesh = new.mesh } → KeepsIndexes mid.mesh new.mesh → constraint_pairs constraints new.mesh new.undirected ≡ constraint_pairs constraints mid.mesh mid.undirected → IsDelaunayTriangulation at constraints (state_of new) → ReleasesEdge at change constraints old new k
+    released new contents indexes constraints_stay now_legal = record {
       value = written.value;
       was = written.was;
       contents = contents ∙ ap (λ (c : Contents V D U F). record c { mesh = new.mesh }) written.whole;
+      indexes = subst (λ (m : Mesh). KeepsIndexes m new.mesh) same indexes;
       plain = record {
         there = joins_edge old.mesh (constraints old.undirected) k there;
         vertices = ap (λ (c : Contents V D U F). c.vertices) contents ∙ same_vertices;

@@ -1,12 +1,10 @@
 //! Constraints along the path between two vertices.
 ghost use Rattle.std.specs.Prelude.{◌≡◌, ◌≢◌, ◌↔◌, ◌*◌, ◌<◌, true, length, map, All, Contains, IsTrue, IfNone, IfSome};
-ghost use Rattle.half_edge_mesh.specs.Mesh.{origin, rev};
 ghost use Rattle.half_edge_mesh.specs.Contents.{IsMeshWithData};
-ghost use Rattle.plane.specs.Pairs.{Joins};
 ghost use Rattle.plane_tiling.specs.Local.{IsMesh};
 ghost use Rattle.plane_segments.specs.Constraints.{AreNextOn};
 ghost use Rattle.plane_segments.specs.Path.{IsFreeOfVertices};
-ghost use Rattle.mesh_embedding.specs.Drawn.{drawn, edges_of, faces_of, outer_of};
+ghost use Rattle.mesh_embedding.specs.Drawn.{drawn, faces_of, outer_of};
 ghost use Rattle.delaunay_legalization.specs.Constraints.{constraints_by};
 ghost use Rattle.delaunay_legalization.specs.Shape.{IsTriangulated};
 ghost use Rattle.delaunay_legalization.specs.State.{state_of};
@@ -15,13 +13,12 @@ ghost use Rattle.delaunay_paths.specs.Crossing.{CrossesSegment};
 
 use crate::crossing::crosses_segment;
 use crate::flips::make_edge;
+use crate::joined::edge_between;
 use crate::path::next_on_path;
 use delaunay_core::math::PlaneTests;
 use delaunay_core::point::HasPosition;
 use delaunay_legalization::{ConstraintMarker, is_constraint_edge, make_constraint};
-use half_edge_mesh::{
-    Dcel, FixedDirectedEdgeHandle, FixedUndirectedEdgeHandle, FixedVertexHandle, MeshViews,
-};
+use half_edge_mesh::{Dcel, FixedUndirectedEdgeHandle, FixedVertexHandle};
 
 // Whether two vertices are one.
 fn is_same_vertex(one: FixedVertexHandle, other: FixedVertexHandle) -> bool
@@ -74,41 +71,6 @@ pub fn can_add_path<M: ConstraintMarker<UE>, V: HasPosition, DE, UE, F, P: Plane
         }
     }
     true
-}
-
-// Whether an edge goes from one vertex to another.
-fn goes<V, DE, UE, F>(
-    dcel: &Dcel<V, DE, UE, F>,
-    edge: FixedDirectedEdgeHandle,
-    from: FixedVertexHandle,
-    to: FixedVertexHandle,
-) -> bool
-    requires { edge < length dcel.now.directed }
-    ensures { IsTrue result ↔ ((from ≡ origin dcel.now.mesh edge) × (to ≡ origin dcel.now.mesh (rev edge))) }
-{
-    let edge = dcel.directed_edge(edge);
-    from == edge.from().fix() && to == edge.to().fix()
-}
-
-// The edge from one vertex to another, which are joined.
-pub(crate) fn edge_between<V, DE, UE, F>(
-    dcel: &Dcel<V, DE, UE, F>,
-    from: FixedVertexHandle,
-    to: FixedVertexHandle,
-) -> FixedDirectedEdgeHandle
-    requires { Joins (edges_of dcel.now.mesh) from to }
-    ensures whole { IsMeshWithData dcel.now }
-    ensures within { result < length dcel.now.directed }
-    ensures source { origin dcel.now.mesh result ≡ from }
-    ensures target { origin dcel.now.mesh (rev result) ≡ to }
-{
-    for index in 0..dcel.num_directed_edges() {
-        let edge = FixedDirectedEdgeHandle::from_index(index as u32);
-        if goes(dcel, edge, from, to) {
-            return edge;
-        }
-    }
-    unreachable!()
 }
 
 // Makes an edge a constraint, unless it is one.

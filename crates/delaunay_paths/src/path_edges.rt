@@ -4,7 +4,8 @@ ghost use Rattle.delaunay_legalization.specs.Shape.{IsTriangulated};
 ghost use Rattle.delaunay_legalization.specs.State.{state_of};
 ghost use Rattle.delaunay_paths.specs.PathEdges.{HasPath, LeadAlong};
 
-use crate::adding::{edge_between, next_piece};
+use crate::adding::next_piece;
+use crate::joined::edge_between;
 use delaunay_core::math::PlaneTests;
 use delaunay_core::point::HasPosition;
 use half_edge_mesh::{Dcel, FixedDirectedEdgeHandle, FixedVertexHandle};

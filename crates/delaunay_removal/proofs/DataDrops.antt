@@ -1,5 +1,5 @@
 -- The data of what stands beside a vertex that goes.
-use Rattle.std.proofs.Common.{◌≡◌, ◌≢◌, ℕ, ◌-◌, ◌<◌, List, length, map, Some, sym, ap, ◌∙◌, subst, inl, inr, arith}
+use Rattle.std.proofs.Common.{◌≡◌, ◌≢◌, ◌⊎◌, ℕ, ◌-◌, ◌<◌, List, length, map, Some, sym, ap, ◌∙◌, subst, inl, inr, arith}
 use Rattle.std.specs.Prelude.{slice_get, Contains}
 use Rattle.half_edge_mesh.specs.Mesh.{origin, rev}
 use Rattle.half_edge_mesh.specs.Triangles.{Triangle, triangles}
@@ -7,14 +7,15 @@ use Rattle.half_edge_mesh.specs.Contents.{Contents, IsMeshWithData}
 use Rattle.half_edge_mesh.specs.Removal.{FullEdge, FullFace, full_edges, full_faces, renumbered_edge, renumbered_face, DropsVertex, LeavesMesh}
 use Rattle.half_edge_dcel.proofs.Hubs.{count_faces}
 use Rattle.mesh_embedding.proofs.FaceChanges.{contains_map}
+use Rattle.mesh_embedding.proofs.WorkLists.{contains_map_from}
 use Rattle.plane.specs.Fraction.{Point}
 use Rattle.delaunay_legalization.specs.Shape.{IsTriangulated}
 use Rattle.delaunay_legalization.specs.State.{state_of}
 use Rattle.delaunay_removal.specs.Star.{IsolatesVertex}
-use Rattle.delaunay_removal.specs.Data.{StandsBeside, KeepsDataBeside, HasDataOfEdge, HasDataOfFace}
+use Rattle.delaunay_removal.specs.Data.{HasValueAt, StandsBeside, RenumbersEdges, KeepsDataBeside, HasDataOfEdge, HasDataOfFace}
 use Rattle.delaunay_removal.proofs.Drops.{same_vertices, same_outer}
 use Rattle.delaunay_removal.proofs.DataReads.{edge_of, edge_read, face_of, face_read, ends_off, same_edge_data, same_face_data}
-use Rattle.delaunay_removal.proofs.DataStays.{edges_stand, joined_stand}
+use Rattle.delaunay_removal.proofs.DataStays.{edges_come, edges_stand, joined_comes, joined_stand}
 
 -- ---- what stood while the vertex lost its edges has its data when the vertex has gone
 module _ {V D U F : Type 0} (old mid new : Contents V D U F) (before : IsMeshWithData old) (after : IsMeshWithData new) (v : ℕ) (value : V) (stands : StandsBeside old mid v) (same : mid.vertices ≡ old.vertices) (drops : DropsVertex mid new v value) where
@@ -45,6 +46,20 @@ module _ {V D U F : Type 0} (old mid new : Contents V D U F) (before : IsMeshWit
       some_same : (p q : Triangle) → Some p ≡ Some q → p ≡ q
       some_same p q e = cc
 
+  pub renumbers : RenumbersEdges old new v
+  renumbers = record {
+    goes = λ e h a b. subst (λ (last : ℕ). Contains (full_edges new) (renumbered_edge last v e)) last_is
+        (subst (λ (es : List (FullEdge D U)). Contains es (renumbered_edge (length mid.vertices - 1) v e)) (sym drops.edges)
+        (contains_map (renumbered_edge (length mid.vertices - 1) v) (full_edges mid) e (stands.edges e h a b)));
+    comes = λ e h. came e (contains_map_from (renumbered_edge (length mid.vertices - 1) v) (full_edges mid) e (subst (λ (es : List (FullEdge D U)). Contains es e) drops.edges h));
+  }
+    where
+      came : (e : FullEdge D U) → (x : FullEdge D U) × Contains (full_edges mid) x × (renumbered_edge (length mid.vertices - 1) v x ≡ e) → ((x : FullEdge D U) × Contains (full_edges old) x × (renumbered_edge (length old.vertices - 1) v x ≡ e)) ⊎ HasValueAt old v e.value
+      came e (x, there, is) = elim (stands.comes x there) [
+        | inl was ↦ inl (x, was, subst (λ (last : ℕ). renumbered_edge last v x ≡ e) last_is is)
+        | inr y ↦ inr (record { edge = y.edge; there = y.there; ends = y.ends; same = y.same ∙ ap (λ (z : FullEdge D U). z.value) is })
+      ]
+
   pub data_kept : mid.outer ≡ old.outer → KeepsDataBeside (state_of old) (state_of new) v
   data_kept outer = record {
     edges = edges_keep;
@@ -66,16 +81,33 @@ module _ {V D U F : Type 0} (old new : Contents V D U F) (before : IsMeshWithDat
     ]
   ]
 
+  line_comes : (e : FullEdge D U) → Contains (full_edges mid) e → Contains (full_edges old) e ⊎ HasValueAt old v e.value
+  line_comes e h = elim leaves.leaves.how as (λ _. Contains (full_edges old) e ⊎ HasValueAt old v e.value) [
+    | inl same ↦ inl (subst (λ (c : Contents V D U F). Contains (full_edges c) e) same h)
+    | inr more ↦ elim more as (λ _. Contains (full_edges old) e ⊎ HasValueAt old v e.value) [
+      | inl one ↦ edges_come old mid v (λ i. one.0) 1 one.2 e h
+      | inr two ↦ joined_comes old mid v two.0 two.1 two.3 e h
+    ]
+  ]
+
   line_stands : StandsBeside old mid v
   line_stands = record {
     edges = line_edges;
     faces = λ f h a b c. absurd (let l = h.1 in let n = count_faces old.mesh old.faces before.fits.faces_fit in let fit = before.fits.faces_fit in omega (arith, l, n, fit, none));
+    comes = line_comes;
   }
 
   pub line_data_kept : KeepsDataBeside (state_of old) (state_of new) v
   line_data_kept = data_kept old mid new before after v value line_stands (ap (λ (c : Contents V D U F). c.vertices) leaves.leaves.contents) leaves.drops (ap (λ (c : Contents V D U F). c.outer) leaves.leaves.contents)
 
+  pub line_renumbers : RenumbersEdges old new v
+  line_renumbers = renumbers old mid new before after v value line_stands (ap (λ (c : Contents V D U F). c.vertices) leaves.leaves.contents) leaves.drops
+
 -- ---- a vertex in the plane
+pub plane_renumbers : {V D U F : Type 0} (place : V → Point) (old mid new : Contents V D U F) (v : ℕ) (value : V) → IsTriangulated place (state_of old) → IsTriangulated place (state_of new) → IsolatesVertex (map place old.vertices) old mid v → DropsVertex mid new v value → RenumbersEdges old new v
+plane_renumbers place old mid new v value before after isolates drops =
+    renumbers old mid new (record { valid = before.valid; fits = before.fits }) (record { valid = after.valid; fits = after.fits }) v value isolates.beside (same_vertices place old mid v isolates) drops
+
 pub plane_data_kept : {V D U F : Type 0} (place : V → Point) (old mid new : Contents V D U F) (v : ℕ) (value : V) → IsTriangulated place (state_of old) → IsTriangulated place (state_of new) → IsolatesVertex (map place old.vertices) old mid v → DropsVertex mid new v value → KeepsDataBeside (state_of old) (state_of new) v
 plane_data_kept place old mid new v value before after isolates drops =
     data_kept old mid new (record { valid = before.valid; fits = before.fits }) (record { valid = after.valid; fits = after.fits }) v value isolates.beside (same_vertices place old mid v isolates) drops (same_outer place old mid v isolates)

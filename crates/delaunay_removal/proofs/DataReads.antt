@@ -109,16 +109,16 @@ even_or_odd g = elim (cases_eq (g % 2) 0) [
   | inr q ↦ inr (omega (arith, q), grind (arith, common_steps))
 ]
 
-rev_of_even : (j : ℕ) → rev (2 * j) ≡ 2 * j + 1
+pub rev_of_even : (j : ℕ) → rev (2 * j) ≡ 2 * j + 1
 rev_of_even j = grind (arith, common_steps)
 
 rev_of_odd : (j : ℕ) → rev (2 * j + 1) ≡ 2 * j
 rev_of_odd j = grind (arith, common_steps)
 
-half_of_odd : (j : ℕ) → (2 * j + 1) / 2 ≡ j
+pub half_of_odd : (j : ℕ) → (2 * j + 1) / 2 ≡ j
 half_of_odd j = omega arith
 
-half_of_even : (j : ℕ) → (2 * j) / 2 ≡ j
+pub half_of_even : (j : ℕ) → (2 * j) / 2 ≡ j
 half_of_even j = omega arith
 
 -- ---- an item of one list with an item of the other

@@ -1,5 +1,5 @@
 -- What stands beside a vertex while its edges go.
-use Rattle.std.proofs.Common.{◌≢◌, ℕ, zero, suc, List, [], ◌∷◌, ◌++◌, refl, ap, ◌∙◌, subst, inl, inr}
+use Rattle.std.proofs.Common.{◌≡◌, ◌≢◌, ◌⊎◌, ℕ, zero, suc, List, [], ◌∷◌, ◌++◌, refl, sym, ap, ◌∙◌, subst, inl, inr}
 use Rattle.std.specs.Prelude.{Contains}
 use Rattle.std.specs.List.{AllZip}
 use Rattle.std.specs.List.Sorted.{IsPermutation}
@@ -10,18 +10,26 @@ use Rattle.half_edge_mesh.specs.Triangles.{Triangle}
 use Rattle.half_edge_mesh.specs.Contents.{Contents}
 use Rattle.half_edge_mesh.specs.Growth.{joins}
 use Rattle.half_edge_mesh.specs.Removal.{FullEdge, FullFace, IsBetween, HasCorners, full_edges, full_faces, spokes_to, faces_between, LosesEdges, JoinsNeighbours, LosesStrip, FillsHole}
-use Rattle.plane_tiling.proofs.Totals.{Contains-none, Contains-later, Contains-cases}
-use Rattle.delaunay_removal.specs.Data.{StandsBeside}
+use Rattle.plane_tiling.proofs.Totals.{Contains-none, Contains-head, Contains-later, Contains-cases}
+use Rattle.delaunay_removal.specs.Data.{HasValueAt, StandsBeside}
 
 -- nothing changes
 pub all_stands : {V D U F : Type 0} (c : Contents V D U F) (v : ℕ) → StandsBeside c c v
-all_stands c v = record { edges = λ e h a b. h; faces = λ f h p q r. h }
+all_stands c v = record { edges = λ e h a b. h; faces = λ f h p q r. h; comes = λ e h. inl h }
+
+-- data that an edge at the vertex has after a change are those of one before
+value_before : {V D U F : Type 0} (old mid : Contents V D U F) (v : ℕ) (u : U) → StandsBeside old mid v → HasValueAt mid v u → HasValueAt old v u
+value_before old mid v u one w = elim (one.comes w.edge w.there) [
+  | inl there ↦ record { edge = w.edge; there = there; ends = w.ends; same = w.same }
+  | inr y ↦ record { edge = y.edge; there = y.there; ends = y.ends; same = y.same ∙ w.same }
+]
 
 -- one change after another
 pub stands_on : {V D U F : Type 0} (old mid new : Contents V D U F) (v : ℕ) → StandsBeside old mid v → StandsBeside mid new v → StandsBeside old new v
 stands_on old mid new v one two = record {
   edges = λ e h a b. two.edges e (one.edges e h a b) a b;
   faces = λ f h p q r. two.faces f (one.faces f h p q r) p q r;
+  comes = λ e h. elim (two.comes e h) [ inl m ↦ one.comes e m | inr w ↦ inr (value_before old mid v e.value one w) ];
 }
 
 -- ---- what is not at the vertex
@@ -52,6 +60,11 @@ face_stands {F} v n (x ∷ xs) (suc k) each f h a b c = elim (Contains-cases x x
   | inr r ↦ face_stands v n xs k each.1 f r a b c
 ]
 
+-- an item after those that go
+contains_after : {X : Type 0} (lost rest : List X) (x : X) → Contains rest x → Contains (lost ++ rest) x
+contains_after [] rest x h = h
+contains_after (y ∷ ys) rest x h = Contains-later y (ys ++ rest) x (contains_after ys rest x h)
+
 -- an item that is not among those that go
 left_over : {X : Type 0} (old lost rest : List X) (x : X) → IsPermutation old (lost ++ rest) → Contains old x → (Contains lost x → ⊥) → Contains rest x
 left_over old lost rest x same h none = elim (Contains-append_cases lost rest x (Contains-permutation old (lost ++ rest) x same h)) as (λ _. Contains rest x) [
@@ -63,11 +76,15 @@ module _ {V D U F : Type 0} (old new : Contents V D U F) (v : ℕ) where
   pub edges_stand : (n : ℕ → ℕ) (k : ℕ) → LosesEdges old new (spokes_to v n k) → (e : FullEdge D U) → Contains (full_edges old) e → e.source ≢ v → e.target ≢ v → Contains (full_edges new) e
   edges_stand n k (lost, are, same) e h a b = left_over (full_edges old) lost (full_edges new) e same h (λ l. edge_stands v n lost k are e l a b)
 
+  pub edges_come : (n : ℕ → ℕ) (k : ℕ) → LosesEdges old new (spokes_to v n k) → (e : FullEdge D U) → Contains (full_edges new) e → Contains (full_edges old) e ⊎ HasValueAt old v e.value
+  edges_come n k (lost, are, same) e h = inl (Contains-permutation (lost ++ full_edges new) (full_edges old) e (IsPermutation-sym (full_edges old) (lost ++ full_edges new) same) (contains_after lost (full_edges new) e h))
+
   -- the edges and the faces of a vertex on the hull go
   pub strip_stands : (n : ℕ → ℕ) (k : ℕ) → LosesStrip old new v n k → StandsBeside old new v
   strip_stands n k loses = record {
     edges = edges_stand n (suc k) loses.edges;
     faces = λ f h a b c. left_over (full_faces old) loses.faces.0 (full_faces new) f loses.faces.2 h (λ l. face_stands v n loses.faces.0 k loses.faces.1 f l a b c);
+    comes = edges_come n (suc k) loses.edges;
   }
 
   -- three faces give way to one
@@ -76,6 +93,7 @@ module _ {V D U F : Type 0} (old new : Contents V D U F) (v : ℕ) where
     edges = edges_stand n 3 hole.edges;
     faces = λ f h a b c. Contains-permutation (hole.made ∷ hole.rest) (full_faces new) f (IsPermutation-sym (full_faces new) (hole.made ∷ hole.rest) hole.is)
         (Contains-later hole.made hole.rest f (left_over (full_faces old) hole.lost hole.rest f hole.was h (λ l. face_stands v n hole.lost 3 hole.lost_are f l a b c)));
+    comes = edges_come n 3 hole.edges;
   }
 
   -- two edges of a line give way to one
@@ -90,3 +108,21 @@ module _ {V D U F : Type 0} (old new : Contents V D U F) (v : ℕ) where
           | inr r ↦ Contains-none e r
         ]
       ])
+
+  pub joined_comes : (u w : ℕ) → JoinsNeighbours old new v u w → (e : FullEdge D U) → Contains (full_edges new) e → Contains (full_edges old) e ⊎ HasValueAt old v e.value
+  joined_comes u w j e h = elim (Contains-cases j.moved j.rest e (Contains-permutation (full_edges new) (j.moved ∷ j.rest) e j.is h)) as (λ _. Contains (full_edges old) e ⊎ HasValueAt old v e.value) [
+    | inl q ↦ inr (record {
+      edge = j.kept;
+      there = was j.kept (Contains-later j.lost (j.kept ∷ j.rest) j.kept (Contains-head j.kept j.rest));
+      ends = elim j.kept_is [ inl b ↦ inr b.1 | inr b ↦ inl b.0 ];
+      same = kept_value j.moved_is ∙ ap (λ (x : FullEdge D U). x.value) q;
+    })
+    | inr r ↦ inl (was e (Contains-later j.lost (j.kept ∷ j.rest) e (Contains-later j.kept j.rest e r)))
+  ]
+    where
+      was : (x : FullEdge D U) → Contains (j.lost ∷ j.kept ∷ j.rest) x → Contains (full_edges old) x
+      was x c = Contains-permutation (j.lost ∷ j.kept ∷ j.rest) (full_edges old) x (IsPermutation-sym (full_edges old) (j.lost ∷ j.kept ∷ j.rest) j.was) c
+
+      kept_value : ((j.kept.source ≡ u) × (j.moved ≡ record j.kept { source = u; target = w })) ⊎ ((j.kept.source ≡ v) × (j.moved ≡ record j.kept { source = w; target = u })) → j.kept.value ≡ j.moved.value
+      kept_value (inl q) = sym (ap (λ (x : FullEdge D U). x.value) q.1)
+      kept_value (inr q) = sym (ap (λ (x : FullEdge D U). x.value) q.1)

@@ -1,7 +1,8 @@
 -- An edge of a vertex is turned: what is not at the vertex stays.
 use Rattle.std.proofs.Common.{◌≡◌, ◌≢◌, ◌⊎◌, ℕ, ◌-◌, ◌*◌, ◌/◌, ◌<◌, List, length, get_or, set, refl, sym, ap, ◌∙◌, subst, inl, inr, arith}
 use Rattle.std.specs.Prelude.{Contains}
-use Rattle.std.proofs.lemmas.List.{length-map, length-set, get_or-set_other}
+use Rattle.std.proofs.lemmas.Bool.{cases_eq}
+use Rattle.std.proofs.lemmas.List.{length-map, length-set, get_or-set_same, get_or-set_other}
 use Rattle.half_edge_mesh.specs.Flip.{IsFlippable, flipped}
 use Rattle.half_edge_mesh.specs.Mesh.{Mesh, AreSoundLinks, IsInner, origin, next, prev, face, rev}
 use Rattle.half_edge_mesh.specs.Outline.{Ends, ends, along}
@@ -13,14 +14,16 @@ use Rattle.half_edge_links.proofs.Rev.{rev-rev, rev_within}
 use Rattle.half_edge_links.proofs.TakenLists.{count_ends}
 use Rattle.half_edge_mesh.specs.Contents.{Contents, IsMeshWithData}
 use Rattle.half_edge_mesh.specs.Growth.{joins}
-use Rattle.half_edge_mesh.specs.Removal.{FullEdge, FullFace, full_edges, full_edges_of, full_faces, full_faces_of}
+use Rattle.half_edge_mesh.specs.Removal.{FullEdge, FullFace, IsBetween, full_edges, full_edges_of, full_faces, full_faces_of}
 use Rattle.half_edge_dcel.proofs.TakenEdges.{between, listed_face, named_corners}
+use Rattle.half_edge_dcel.proofs.TakenOut.{length-full_edges}
+use Rattle.half_edge_dcel.proofs.TwoEdges.{item_at}
 use Rattle.half_edge_dcel.proofs.Touching.{with_other_ends, with_other_corners, full_edges-set, full_faces-set}
 use Rattle.plane.specs.Fraction.{Point}
 use Rattle.plane_tiling.specs.Local.{LocalMesh}
 use Rattle.mesh_embedding.specs.Drawn.{faces_of, outer_of}
 use Rattle.mesh_embedding.proofs.MeshStays.{halved}
-use Rattle.delaunay_removal.specs.Data.{StandsBeside}
+use Rattle.delaunay_removal.specs.Data.{HasValueAt, StandsBeside}
 use Rattle.delaunay_removal.proofs.DataStays.{no_end, no_corner}
 use Rattle.delaunay_removal.proofs.Rounds.{round_at}
 use Rattle.delaunay_removal.proofs.Turns.{may_turn}
@@ -64,6 +67,42 @@ module _ {V D U F : Type 0} (c new : Contents V D U F) (whole : IsMeshWithData c
       let off : j ≢ e / 2 = λ q. turned_edge x (ap (λ k. get_or (full_edges c) k x) (sym q) ∙ is) a b in
       let u = unwritten (full_edges c) (e / 2) j (with_other_ends (get_or (full_edges c) (e / 2) x) t) x off within is in
       subst (λ (xs : List (FullEdge D U)). Contains xs x) (sym (edges_are x)) (j, u.0, u.1)
+
+  -- the edge that is turned ended at the vertex
+  ends_at : (a b : ℕ) (x : FullEdge D U) → IsBetween x (joins a b) → (a ≡ v) ⊎ (b ≡ v) → (x.source ≡ v) ⊎ (x.target ≡ v)
+  ends_at a b x (inl q) (inl r) = inl (q.0 ∙ r)
+  ends_at a b x (inl q) (inr r) = inr (q.1 ∙ r)
+  ends_at a b x (inr q) (inl r) = inr (q.1 ∙ r)
+  ends_at a b x (inr q) (inr r) = inl (q.0 ∙ r)
+
+  other_value : (y x : FullEdge D U) → x ≡ with_other_ends y t → y.value ≡ x.value
+  unfolding with_other_ends
+  other_value y x is = sym (ap (λ (z : FullEdge D U). z.value) is)
+
+  edges_come : (x : FullEdge D U) → Contains (full_edges new) x → Contains (full_edges c) x ⊎ HasValueAt c v x.value
+  edges_come x h =
+      let long = length-full_edges (ends m) c.undirected c.directed us ds in
+      let half = half_in in
+      let inside : e / 2 < length (full_edges c) = omega (arith, long, half) in
+      let y = item_at (full_edges c) (e / 2) inside in
+      from_set y.0 inside y.1 (subst (λ (xs : List (FullEdge D U)). Contains xs x) (edges_are y.0) h)
+    where
+      from_set : (y : FullEdge D U) → e / 2 < length (full_edges c) → y ≡ get_or (full_edges c) (e / 2) y → Contains (set (full_edges c) (e / 2) (with_other_ends (get_or (full_edges c) (e / 2) y) t)) x → Contains (full_edges c) x ⊎ HasValueAt c v x.value
+      from_set y inside here (j, within, is) = elim (cases_eq j (e / 2)) [
+        | inl q ↦ inr (record {
+          edge = y;
+          there = (e / 2, inside, sym here);
+          ends = ends_at (origin m e) (origin m (rev e)) y (between m m c.undirected c.undirected c.directed c.directed e s whole.fits.directed_fit whole.fits.undirected_fit flips.within y here) at_v;
+          same = other_value y x
+              (sym is ∙ ap (λ k. get_or (set (full_edges c) (e / 2) (with_other_ends (get_or (full_edges c) (e / 2) y) t)) k x) q
+              ∙ get_or-set_same (full_edges c) (e / 2) (with_other_ends (get_or (full_edges c) (e / 2) y) t) x inside ∙ ap (λ z. with_other_ends z t) (sym here));
+        })
+        | inr off ↦ inl (
+          j,
+          subst (λ (n : ℕ). j < n) (length-set (full_edges c) (e / 2) (with_other_ends (get_or (full_edges c) (e / 2) y) t)) within,
+          sym (get_or-set_other (full_edges c) (e / 2) j (with_other_ends (get_or (full_edges c) (e / 2) y) t) x off) ∙ is,
+        )
+      ]
 
   -- ---- faces
   twin_in : rev e < length m.half_edges
@@ -119,7 +158,7 @@ module _ {V D U F : Type 0} (c new : Contents V D U F) (whole : IsMeshWithData c
         subst (λ (xs : List (FullFace F)). Contains xs x) (sym (faces_are x)) (j, two.0, two.1)
 
     pub turn_stands : StandsBeside c new v
-    turn_stands = record { edges = edges_beside; faces = faces_beside }
+    turn_stands = record { edges = edges_beside; faces = faces_beside; comes = edges_come }
 
 -- one of the two directions starts at the vertex
 pub starts_or_ends : (m : Mesh) (h v : ℕ) → origin m h ≡ v → (origin m (2 * (h / 2)) ≡ v) ⊎ (origin m (rev (2 * (h / 2))) ≡ v)

@@ -19,3 +19,6 @@ pub mod HullCuts
 pub mod HullShrinking
 pub mod HullIsolating
 pub mod HullEdges
+pub mod LeavingConstraints
+pub mod FreedEdges
+pub mod RemovingConstraints

@@ -1,18 +1,32 @@
 -- What becomes of the data of edges and faces when a vertex goes.
-use Rattle.std.specs.Prelude.{◌≡◌, ◌≢◌, ℕ, ◌-◌, ◌/◌, ◌<◌, length, Some, slice_get, Contains}
+use Rattle.std.specs.Prelude.{◌≡◌, ◌≢◌, ◌⊎◌, ℕ, ◌-◌, ◌/◌, ◌<◌, length, Some, slice_get, Contains}
 use Rattle.half_edge_mesh.specs.Mesh.{origin, rev}
 use Rattle.half_edge_mesh.specs.Renames.{moved}
 use Rattle.half_edge_mesh.specs.Triangles.{Triangle, triangles}
 use Rattle.half_edge_mesh.specs.Contents.{Contents}
-use Rattle.half_edge_mesh.specs.Removal.{FullEdge, FullFace, full_edges, full_faces}
+use Rattle.half_edge_mesh.specs.Removal.{FullEdge, FullFace, full_edges, full_faces, renumbered_edge}
 use Rattle.mesh_embedding.specs.Stays.{HaveSameCorners}
 use Rattle.delaunay_legalization.specs.State.{State}
 
+-- an edge that ends at vertex v has these undirected data
+pub record HasValueAt {V D U F : Type 0} (c : Contents V D U F) (v : ℕ) (value : U) : Type 0 where
+  pub edge : FullEdge D U
+  pub there : Contains (full_edges c) edge
+  pub ends : (edge.source ≡ v) ⊎ (edge.target ≡ v)
+  pub same : edge.value ≡ value
+
 -- each undirected edge that does not end at vertex v, with all its data, and each inner face without this corner, with its
--- data, is there afterwards
+-- data, is there afterwards. An edge that is there afterwards was there, or has the undirected data of one that ended at v
 pub record StandsBeside {V D U F : Type 0} (old new : Contents V D U F) (v : ℕ) : Type 0 where
   pub edges : (e : FullEdge D U) → Contains (full_edges old) e → e.source ≢ v → e.target ≢ v → Contains (full_edges new) e
   pub faces : (f : FullFace F) → Contains (full_faces old) f → f.corners.first ≢ v → f.corners.second ≢ v → f.corners.third ≢ v → Contains (full_faces new) f
+  pub comes : (e : FullEdge D U) → Contains (full_edges new) e → Contains (full_edges old) e ⊎ HasValueAt old v e.value
+
+-- vertex v went and the last vertex took its index: each edge that did not end at v is there afterwards, with all its data,
+-- and an edge that is there afterwards was there so, or has the undirected data of one that ended at v
+pub record RenumbersEdges {V D U F : Type 0} (old new : Contents V D U F) (v : ℕ) : Type 0 where
+  pub goes : (e : FullEdge D U) → Contains (full_edges old) e → e.source ≢ v → e.target ≢ v → Contains (full_edges new) (renumbered_edge (length old.vertices - 1) v e)
+  pub comes : (e : FullEdge D U) → Contains (full_edges new) e → ((x : FullEdge D U) × Contains (full_edges old) x × (renumbered_edge (length old.vertices - 1) v x ≡ e)) ⊎ HasValueAt old v e.value
 
 -- directed edge h has the ends of the former edge g, where vertex `last` has taken index v, with its data, and its
 -- undirected edge has those of the one of g

@@ -1,3 +1,4 @@
 pub mod Data
 pub mod Star
 pub mod Hull
+pub mod Freeing

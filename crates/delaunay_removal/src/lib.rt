@@ -1,6 +1,7 @@
 //! Vertices that go from the mesh of a triangulation.
 #![tactic(auto)]
 
+mod freeing;
 mod removal;
 mod removal_hull;
 mod removal_inner;

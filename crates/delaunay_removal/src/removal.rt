@@ -5,16 +5,19 @@ ghost use Rattle.half_edge_mesh.specs.Removal.{DropsVertex};
 ghost use Rattle.plane.specs.Plain.{Removes};
 ghost use Rattle.plane.specs.Tests.{InRange};
 ghost use Rattle.mesh_embedding.specs.Drawn.{faces_of, outer_of};
+ghost use Rattle.delaunay_legalization.specs.Constraints.{points_and_constraints_by};
 ghost use Rattle.delaunay_legalization.specs.Shape.{IsTriangulated};
 ghost use Rattle.delaunay_legalization.specs.State.{points_and_constraints, state_of};
-ghost use Rattle.delaunay_removal.specs.Data.{KeepsDataBeside};
+ghost use Rattle.delaunay_removal.specs.Data.{KeepsDataBeside, RenumbersEdges};
 ghost use Rattle.delaunay_removal.specs.Star.{IsMeshWithout, IsolatesVertex};
 
+use crate::freeing::free_edges_at;
 use crate::removal_hull::{isolate_on_hull, outer_edge_beside};
 use crate::removal_inner::isolate_inner;
 use crate::removal_line::remove_on_line;
 use delaunay_core::math::PlaneTests;
 use delaunay_core::point::HasPosition;
+use delaunay_legalization::ConstraintMarker;
 use half_edge_mesh::{Dcel, FixedDirectedEdgeHandle, FixedVertexHandle, MeshViews};
 
 // An edge that starts at a vertex with edges.
@@ -76,9 +79,43 @@ fn isolate<V: HasPosition, DE: Drop, UE: Drop, F: Drop, P: PlaneTests<V::Scalar>
     }
 }
 
-/// Removes a vertex, and gives its data back. The hole or the gap that its faces leave is filled so that the others have
-/// a mesh, and the last vertex takes its index. `sides` has room for each directed edge.
-pub fn remove_vertex<V: HasPosition, DE: Drop, UE: Drop, F: Drop, P: PlaneTests<V::Scalar>>(
+// Takes a vertex out, and gives its data back. The hole or the gap that its faces leave is filled so that the others have
+// a mesh, and the last vertex takes its index. `sides` has room for each directed edge.
+fn take_vertex<V: HasPosition, DE: Drop, UE: Drop, F: Drop, P: PlaneTests<V::Scalar>>(
+    dcel: &mut Dcel<V, DE, UE, F>,
+    vertex: FixedVertexHandle,
+    tests: &P,
+    sides: &mut Vec<FixedDirectedEdgeHandle>,
+) -> V
+    requires kept { IsTriangulated V.place (state_of dcel.old) }
+    requires within { vertex < length dcel.old.vertices }
+    requires sites { All (P.sites tests.now) (map V.place dcel.old.vertices) }
+    requires room { length dcel.old.directed ≤ vec_capacity sides.old }
+    ensures value { slice_get dcel.old.vertices vertex ≡ Some result }
+    ensures plain { Removes V.place (points_and_constraints (state_of dcel.old)) (points_and_constraints (state_of dcel.new)) vertex }
+    ensures kept { IsTriangulated V.place (state_of dcel.new) }
+    ensures data { KeepsDataBeside (state_of dcel.old) (state_of dcel.new) vertex }
+    ensures edges { RenumbersEdges dcel.old dcel.new vertex }
+    ensures capacity { vec_capacity sides.new ≡ vec_capacity sides.old }
+{
+    if dcel.num_inner_faces() == 0 {
+        return remove_on_line(dcel, vertex);
+    }
+    isolate(dcel, vertex, tests, sides);
+    drop_vertex(dcel, vertex)
+}
+
+/// Removes a vertex with the constraints that end at it, and gives its data back. The hole or the gap that its faces leave
+/// is filled so that the others have a mesh, and the last vertex takes its index. Each other constraint stays. `sides` has
+/// room for each directed edge.
+pub fn remove_vertex<
+    M: ConstraintMarker<UE>,
+    V: HasPosition,
+    DE: Drop,
+    UE: Drop,
+    F: Drop,
+    P: PlaneTests<V::Scalar>,
+>(
     dcel: &mut Dcel<V, DE, UE, F>,
     vertex: FixedVertexHandle,
     tests: &P,
@@ -90,14 +127,12 @@ pub fn remove_vertex<V: HasPosition, DE: Drop, UE: Drop, F: Drop, P: PlaneTests<
     requires room { length dcel.old.directed ≤ vec_capacity sides.old }
 
     ensures value { slice_get dcel.old.vertices vertex ≡ Some result }
-    ensures plain { Removes V.place (points_and_constraints (state_of dcel.old)) (points_and_constraints (state_of dcel.new)) vertex }
+    ensures plain { Removes V.place (points_and_constraints_by M.constraints (state_of dcel.old))
+        (points_and_constraints_by M.constraints (state_of dcel.new)) vertex }
     ensures kept { IsTriangulated V.place (state_of dcel.new) }
     ensures data { KeepsDataBeside (state_of dcel.old) (state_of dcel.new) vertex }
     ensures capacity { vec_capacity sides.new ≡ vec_capacity sides.old }
 {
-    if dcel.num_inner_faces() == 0 {
-        return remove_on_line(dcel, vertex);
-    }
-    isolate(dcel, vertex, tests, sides);
-    drop_vertex(dcel, vertex)
+    free_edges_at::<M, _, _, _, _>(dcel, vertex);
+    take_vertex(dcel, vertex, tests, sides)
 }

@@ -41,5 +41,5 @@ returns-clause-releases g c =
     let m = g.M.ConstraintMarker in
     let laws = g.met.M.ConstraintMarker in
     released g.V.HasPosition.place m.marks m.constraints laws.constraints_are_marked c.args.dcel.now c.args.edge c.requires.constraint c.requires.legal c.free_edge.new.dcel m.unmarked laws.unmarked_has_none c.free_edge.ensures
-    c.legalize.new.dcel c.legalize.ensures.contents c.legalize.ensures.constraints
+    c.legalize.new.dcel c.legalize.ensures.contents c.legalize.ensures.indexes c.legalize.ensures.constraints
     (legalized g.V.HasPosition.place m.constraints c.free_edge.new.dcel c.legalize.new.dcel (released_kept g.V.HasPosition.place m.marks m.constraints laws.constraints_are_marked c.args.dcel.now c.args.edge c.requires.constraint c.requires.legal c.free_edge.new.dcel m.unmarked laws.unmarked_has_none c.free_edge.ensures) c.legalize.ensures.contents c.recall_invariant.ensures.whole c.legalize.ensures.shape c.legalize.ensures.constraints c.legalize.ensures.locally_delaunay)

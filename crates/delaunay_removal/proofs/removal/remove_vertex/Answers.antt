@@ -1,18 +1,47 @@
-use Rattle.delaunay_removal.proofs.Drops.{ranged_as, shape_as, value_as, plain_as}
-use Rattle.delaunay_removal.proofs.DataDrops.{plane_data_kept}
+use Rattle.std.proofs.Common.{◌≡◌, ◌<◌, ◌≤◌, length, map, Some, sym, subst, vec_capacity}
+use Rattle.std.specs.Prelude.{All, slice_get}
+use Rattle.delaunay_removal.proofs.RemovingConstraints.{freed_vertices, freed_directed, freed_kept, plain_left, data_left}
 use Rattle.delaunay_removal.proofs.removal.remove_vertex.Goals as goal
 
-pub drop_vertex-requires-clause-in_range : goal.drop_vertex-requires-clause-in_range
-drop_vertex-requires-clause-in_range g c = ranged_as g.V.HasPosition.place c.args.dcel.now c.isolate.new.dcel c.args.vertex c.isolate.ensures.isolates c.requires.kept.in_range
+pub take_vertex-requires-clause-kept : goal.take_vertex-requires-clause-kept
+take_vertex-requires-clause-kept g c =
+    let m = g.M.ConstraintMarker in
+    freed_kept g.V.HasPosition.place m.marks m.constraints g.met.M.ConstraintMarker.constraints_are_marked c.args.dcel.now c.free_edges_at.new.dcel c.args.vertex c.free_edges_at.ensures.frees c.free_edges_at.ensures.whole c.requires.kept
 
-pub drop_vertex-requires-clause-shape : goal.drop_vertex-requires-clause-shape
-drop_vertex-requires-clause-shape g c = shape_as g.V.HasPosition.place c.args.dcel.now c.isolate.new.dcel c.args.vertex c.isolate.ensures.isolates
+pub take_vertex-requires-clause-within : goal.take_vertex-requires-clause-within
+take_vertex-requires-clause-within g c =
+    let m = g.M.ConstraintMarker in
+    subst (λ vs. c.args.vertex < length vs)
+    (sym (freed_vertices g.V.HasPosition.place m.marks m.constraints g.met.M.ConstraintMarker.constraints_are_marked c.args.dcel.now c.free_edges_at.new.dcel c.args.vertex c.free_edges_at.ensures.frees c.free_edges_at.ensures.whole c.requires.kept)) c.requires.within
+
+pub take_vertex-requires-clause-sites : goal.take_vertex-requires-clause-sites
+take_vertex-requires-clause-sites g c =
+    let m = g.M.ConstraintMarker in
+    subst (λ vs. All (g.P.PlaneTests.sites c.args.tests.now) (map g.V.HasPosition.place vs))
+    (sym (freed_vertices g.V.HasPosition.place m.marks m.constraints g.met.M.ConstraintMarker.constraints_are_marked c.args.dcel.now c.free_edges_at.new.dcel c.args.vertex c.free_edges_at.ensures.frees c.free_edges_at.ensures.whole c.requires.kept)) c.requires.sites
+
+pub take_vertex-requires-clause-room : goal.take_vertex-requires-clause-room
+take_vertex-requires-clause-room g c =
+    let m = g.M.ConstraintMarker in
+    subst (λ ds. length ds ≤ vec_capacity c.args.sides.now)
+    (sym (freed_directed g.V.HasPosition.place m.marks m.constraints g.met.M.ConstraintMarker.constraints_are_marked c.args.dcel.now c.free_edges_at.new.dcel c.args.vertex c.free_edges_at.ensures.frees c.free_edges_at.ensures.whole c.requires.kept)) c.requires.room
 
 pub returns-clause-value : goal.returns-clause-value
-returns-clause-value g c = value_as g.V.HasPosition.place c.args.dcel.now c.isolate.new.dcel c.args.vertex c.isolate.ensures.isolates c.drop_vertex.result c.drop_vertex.ensures.value
+returns-clause-value g c =
+    let m = g.M.ConstraintMarker in
+    subst (λ vs. slice_get vs c.args.vertex ≡ Some c.take_vertex.result)
+    (freed_vertices g.V.HasPosition.place m.marks m.constraints g.met.M.ConstraintMarker.constraints_are_marked c.args.dcel.now c.free_edges_at.new.dcel c.args.vertex c.free_edges_at.ensures.frees c.free_edges_at.ensures.whole c.requires.kept) c.take_vertex.ensures.value
 
 pub returns-clause-plain : goal.returns-clause-plain
-returns-clause-plain g c = plain_as g.V.HasPosition.place c.args.dcel.now c.isolate.new.dcel c.args.vertex c.isolate.ensures.isolates c.drop_vertex.new.dcel c.drop_vertex.ensures.plain
+returns-clause-plain g c =
+    let m = g.M.ConstraintMarker in
+    let kept = c.take_vertex.ensures.kept in
+    plain_left g.V.HasPosition.place m.marks m.constraints g.met.M.ConstraintMarker.constraints_are_marked c.args.dcel.now c.free_edges_at.new.dcel c.args.vertex c.free_edges_at.ensures.frees c.free_edges_at.ensures.whole c.requires.kept
+    c.take_vertex.new.dcel (record { valid = kept.valid; fits = kept.fits }) c.take_vertex.ensures.plain c.take_vertex.ensures.edges
 
 pub returns-clause-data : goal.returns-clause-data
-returns-clause-data g c = plane_data_kept g.V.HasPosition.place c.args.dcel.now c.isolate.new.dcel c.drop_vertex.new.dcel c.args.vertex c.drop_vertex.result c.requires.kept c.drop_vertex.ensures.kept c.isolate.ensures.isolates c.drop_vertex.ensures.drops
+returns-clause-data g c =
+    let m = g.M.ConstraintMarker in
+    let kept = c.take_vertex.ensures.kept in
+    data_left g.V.HasPosition.place m.marks m.constraints g.met.M.ConstraintMarker.constraints_are_marked c.args.dcel.now c.free_edges_at.new.dcel c.args.vertex c.free_edges_at.ensures.frees c.free_edges_at.ensures.whole c.requires.kept
+    c.take_vertex.new.dcel (record { valid = kept.valid; fits = kept.fits }) c.take_vertex.ensures.data

@@ -1,3 +1,0 @@
-pub mod Determinants
-pub mod Vertices
-pub mod Widths

@@ -1,0 +1,104 @@
+//! The calls that are measured, and what they find.
+
+use crate::random::Random;
+use exact_tests::ExactTests;
+use spade_delaunay::handles::FixedVertexHandle;
+use spade_delaunay::{
+    DelaunayTriangulation, InsertionError, Point2, PositionInTriangulation, validate_vertex,
+};
+use std::alloc::{AllocError, Global};
+
+pub type Triangulation = DelaunayTriangulation<Point2<i64>>;
+
+pub fn insert_all(alloc: Global, points: &[Point2<i64>]) -> Result<Triangulation, InsertionError> {
+    let mut triangulation = Triangulation::new(alloc);
+    for point in points {
+        triangulation.insert(*point, &ExactTests)?;
+    }
+    Ok(triangulation)
+}
+
+/// How many points are on vertices, on edges or in faces, and outside of the hull. Edges and faces
+/// count as one, since points on a circle have more than one triangulation.
+#[derive(Drop)]
+pub struct Located {
+    pub vertices: u32,
+    pub inside: u32,
+    pub outside: u32,
+}
+
+pub fn locate_all(triangulation: &Triangulation, queries: &[Point2<i64>]) -> Located {
+    let mut located = Located {
+        vertices: 0,
+        inside: 0,
+        outside: 0,
+    };
+    for point in queries {
+        if validate_vertex(point).is_err() {
+            continue;
+        }
+        let count = match triangulation.locate(*point, &ExactTests) {
+            PositionInTriangulation::OnVertex(_) => &mut located.vertices,
+            PositionInTriangulation::OnEdge(_) | PositionInTriangulation::OnFace(_) => {
+                &mut located.inside
+            }
+            _ => &mut located.outside,
+        };
+        *count = count.wrapping_add(1);
+    }
+    located
+}
+
+// The square of a difference, without what 64 bits do not hold.
+fn squared(a: i64, b: i64) -> i64 {
+    let difference = a.wrapping_sub(b);
+    difference.wrapping_mul(difference)
+}
+
+/// The sum of the squared distances from points to their nearest vertices, without what 64 bits do
+/// not hold.
+pub fn nearest_all(triangulation: &Triangulation, queries: &[Point2<i64>]) -> i64 {
+    let mut sum = 0i64;
+    for point in queries {
+        if validate_vertex(point).is_err() {
+            continue;
+        }
+        if let Some(nearest) = triangulation.nearest_neighbor(*point, &ExactTests) {
+            let vertex = nearest.data();
+            let distance = squared(vertex.x, point.x).wrapping_add(squared(vertex.y, point.y));
+            sum = sum.wrapping_add(distance);
+        }
+    }
+    sum
+}
+
+/// How many vertices were removed, and a number that depends on which, and in which order.
+#[derive(Drop)]
+pub struct Removed {
+    pub count: usize,
+    pub digest: i64,
+}
+
+/// Removes random vertices until there is none, or so many are gone.
+pub fn remove_some(
+    triangulation: &mut Triangulation,
+    random: &mut Random,
+    removals: u32,
+) -> Result<Removed, AllocError> {
+    let mut removed = Removed {
+        count: 0,
+        digest: 0,
+    };
+    for _ in 0..removals {
+        let vertices = triangulation.num_vertices();
+        if vertices == 0 {
+            break;
+        }
+        let vertex = FixedVertexHandle::from_index(random.below(vertices as u64) as u32);
+        let point = triangulation.remove(vertex, &ExactTests)?;
+        removed.count = removed.count.wrapping_add(1);
+        removed.digest = removed.digest.wrapping_mul(31).wrapping_add(point.x);
+        removed.digest = removed.digest.wrapping_mul(31).wrapping_add(point.y);
+    }
+    Ok(removed)
+}

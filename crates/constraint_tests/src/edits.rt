@@ -1,0 +1,101 @@
+//! Edits of constraints, and of vertices beside them, by indexes: nothing where an index names no element or memory was
+//! refused.
+ghost use Rattle.std.specs.Prelude.{◌<◌, length, IfSome};
+
+use delaunay_core::point::Point2;
+use delaunay_edit::ConstrainedDelaunayTriangulation;
+use exact_tests::ExactTests;
+use half_edge_mesh::{FixedUndirectedEdgeHandle, FixedVertexHandle};
+
+/// A triangulation of points with constraints.
+pub type Constrained = ConstrainedDelaunayTriangulation<Point2<i64>>;
+
+// A vertex, by its index.
+fn vertex(points: &Constrained, index: u32) -> Option<FixedVertexHandle>
+    ensures { IfSome result (λ v. v < length points.now.vertices) }
+{
+    if (index as usize) < points.num_vertices() {
+        Some(FixedVertexHandle::from_index(index))
+    } else {
+        None
+    }
+}
+
+/// How many vertices, undirected edges, inner faces and constraints there are.
+pub fn counts(points: &Constrained) -> [usize; 4] {
+    [
+        points.num_vertices(),
+        points.num_undirected_edges(),
+        points.num_inner_faces(),
+        points.num_constraints(),
+    ]
+}
+
+/// Whether the segment between two vertices can become a path of constraints.
+pub fn can_add(points: &Constrained, from: u32, to: u32) -> Option<bool> {
+    let (from, to) = (vertex(points, from)?, vertex(points, to)?);
+    Some(points.can_add_constraint(from, to, &ExactTests))
+}
+
+/// Whether a constraint was made, where none crosses.
+pub fn add(points: &mut Constrained, from: u32, to: u32) -> Option<bool> {
+    let (from, to) = (vertex(points, from)?, vertex(points, to)?);
+    if !points.can_add_constraint(from, to, &ExactTests) {
+        return None;
+    }
+    match points.add_constraint(from, to, &ExactTests) {
+        Ok(made) => Some(made),
+        Err(_) => None,
+    }
+}
+
+/// How many edges the path between two vertices has that became constraints.
+pub fn try_add(points: &mut Constrained, from: u32, to: u32) -> Option<usize> {
+    let (from, to) = (vertex(points, from)?, vertex(points, to)?);
+    match points.try_add_constraint(from, to, &ExactTests) {
+        Ok(edges) => Some(edges.len()),
+        Err(_) => None,
+    }
+}
+
+/// Whether a constraint joins two vertices.
+pub fn exists(points: &Constrained, from: u32, to: u32) -> bool {
+    points.exists_constraint(
+        FixedVertexHandle::from_index(from),
+        FixedVertexHandle::from_index(to),
+    )
+}
+
+// The edge that joins two vertices, by its index.
+fn edge(points: &Constrained, from: u32, to: u32) -> Option<FixedUndirectedEdgeHandle>
+    ensures { IfSome result (λ e. e < length points.now.undirected) }
+{
+    for index in 0..points.num_undirected_edges() {
+        let edge = FixedUndirectedEdgeHandle::from_index(index as u32);
+        points.recall_invariant();
+        let directed = points.directed_edge(edge.as_directed());
+        let (start, end) = (directed.from().fix().index(), directed.to().fix().index());
+        if (start, end) == (from, to) || (end, start) == (from, to) {
+            return Some(edge);
+        }
+    }
+    None
+}
+
+/// Whether the edge that joins two vertices was a constraint, which is released.
+pub fn release(points: &mut Constrained, from: u32, to: u32) -> Option<bool> {
+    let edge = edge(points, from, to)?;
+    match points.remove_constraint_edge(edge, &ExactTests) {
+        Ok(released) => Some(released),
+        Err(_) => None,
+    }
+}
+
+/// The position of a vertex that was removed.
+pub fn remove(points: &mut Constrained, index: u32) -> Option<(i64, i64)> {
+    let vertex = vertex(points, index)?;
+    match points.remove(vertex, &ExactTests) {
+        Ok(point) => Some((point.x, point.y)),
+        Err(_) => None,
+    }
+}

@@ -1,0 +1,21 @@
+//! Runs a script of insertions, and of edits of constraints, and prints each line with what its call gives. Lines that start
+//! with `#` are printed as they are.
+#![tactic(auto)]
+
+mod edits;
+mod script;
+
+use script::{Call, Session, answer};
+use std::io;
+
+fn main(rt: HostRuntime) -> io::Result<()> {
+    let mut session = Session::new(rt.alloc());
+    for line in rt.lines(rt.alloc()) {
+        let line = line?;
+        match Call::parse(line.as_str()) {
+            Some(call) => answer(&rt, &mut session, &call)?,
+            None => println!(rt; "{line}")?,
+        }
+    }
+    Ok(())
+}

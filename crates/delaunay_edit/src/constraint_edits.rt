@@ -1,0 +1,197 @@
+//! Constraints that are added and released.
+ghost use Rattle.std.specs.Prelude.{◌≡◌, ◌≢◌, ◌⊎◌, ◌↔◌, ◌*◌, ◌<◌, ◌≤◌, [], length, map, All, Contains, IsTrue, IsOk, IfOk, OnErr, OnOk};
+ghost use Rattle.half_edge_links.specs.declared.room.TheConstants.{MAX_ELEMENTS};
+ghost use Rattle.half_edge_mesh.specs.Mesh.{origin, rev};
+ghost use Rattle.plane.specs.Plain.{Adds, CanAdd, Releases};
+ghost use Rattle.delaunay_edit.specs.Constrained.{constrained, constraint_edges};
+ghost use Rattle.delaunay_edit.specs.ConstraintEdits.{AddsConstraint, AddsPathIfFree, FreesEdge, MarksEdges, ReleasesConstraint};
+ghost use Rattle.delaunay_edit.specs.Headline.{AreSites, IsDelaunay};
+
+use crate::cdt::ConstrainedDelaunayTriangulation;
+use delaunay_core::HintGenerator;
+use delaunay_core::math::PlaneTests;
+use delaunay_core::point::HasPosition;
+use delaunay_legalization::EdgeConstraints;
+use delaunay_paths::{
+    add_constraints, can_add_path, edges_along, is_path_constrained, release_constraint,
+};
+use half_edge_mesh::{FixedDirectedEdgeHandle, FixedUndirectedEdgeHandle, FixedVertexHandle};
+use std::alloc::AllocError;
+
+impl<V: HasPosition, DE, UE, F, L: HintGenerator<V::Scalar>> ConstrainedDelaunayTriangulation<
+    V,
+    DE,
+    UE,
+    F,
+    L,
+> {
+    /// Whether no constraint has one point in common with the segment between two vertices that is strictly within both.
+    pub fn can_add_constraint<P: PlaneTests<V::Scalar>>(
+        &self,
+        from: FixedVertexHandle,
+        to: FixedVertexHandle,
+        tests: &P,
+    ) -> bool
+        requires from_in { from < length self.now.vertices }
+        requires to_in { to < length self.now.vertices }
+        requires sites { AreSites V.place (P.sites tests.now) self.now.vertices }
+        ensures { IsTrue result ↔ CanAdd V.place (constrained self.now) from to }
+    {
+        self.recall_invariant();
+        can_add_path::<EdgeConstraints, _, _, _, _, _>(&self.dcel, from, to, tests)
+    }
+
+    // Adds the path between two vertices, or a refusal that changes nothing.
+    fn add_path<P: PlaneTests<V::Scalar>>(
+        &mut self,
+        from: FixedVertexHandle,
+        to: FixedVertexHandle,
+        tests: &P,
+    ) -> Result<(), AllocError>
+        requires from_in { from < length self.old.vertices }
+        requires to_in { to < length self.old.vertices }
+        requires free { CanAdd V.place (constrained self.old) from to }
+        requires sites { All (P.sites tests.now) (map V.place self.old.vertices) }
+        requires few { length self.old.vertices ≤ MAX_ELEMENTS }
+        ensures plain { OnOk result (Adds V.place (constrained self.old) (constrained self.new) from to) }
+        ensures data { OnOk result (MarksEdges self.old self.new) }
+        ensures err { OnErr result (self.new ≡ self.old) }
+    {
+        self.work.reserve(3 * self.dcel.num_vertices())?;
+        let mut flips = 0;
+        add_constraints::<EdgeConstraints, _, _, _, _, _>(
+            &mut self.dcel,
+            from,
+            to,
+            tests,
+            &mut self.work,
+            &mut flips,
+        );
+        Ok(())
+    }
+
+    /// Makes constraints of the edges between neighbours among the vertices on the segment between two, which no constraint
+    /// crosses. It tells whether that made a constraint of an edge that was none, and gives `AllocError` where memory was
+    /// refused; then nothing changes, and so where it made none.
+    pub fn add_constraint<P: PlaneTests<V::Scalar>>(
+        &mut self,
+        from: FixedVertexHandle,
+        to: FixedVertexHandle,
+        tests: &P,
+    ) -> Result<bool, AllocError>
+        requires from_in { from < length self.old.vertices }
+        requires to_in { to < length self.old.vertices }
+        requires free { CanAdd V.place (constrained self.old) from to }
+        requires sites { AreSites V.place (P.sites tests.now) self.old.vertices }
+        ensures adds { AddsConstraint V.place from to result self.old self.new }
+        ensures headline { IsDelaunay V.place constraint_edges self.new }
+    {
+        self.recall_invariant();
+        if is_path_constrained::<EdgeConstraints, _, _, _, _, _>(&self.dcel, from, to, tests) {
+            return Ok(false);
+        }
+        let added = self.add_path(from, to, tests);
+        self.recall_invariant();
+        added?;
+        Ok(true)
+    }
+
+    // The edges of the path between two vertices, which becomes constraints.
+    fn add_free_path<P: PlaneTests<V::Scalar>>(
+        &mut self,
+        from: FixedVertexHandle,
+        to: FixedVertexHandle,
+        tests: &P,
+    ) -> Result<Vec<FixedDirectedEdgeHandle>, AllocError>
+        requires from_in { from < length self.old.vertices }
+        requires to_in { to < length self.old.vertices }
+        requires apart { from ≢ to }
+        requires free { CanAdd V.place (constrained self.old) from to }
+        requires sites { All (P.sites tests.now) (map V.place self.old.vertices) }
+        ensures path { IfOk result (λ edges. AddsPathIfFree V.place from to edges.items self.old self.new) }
+        ensures err { OnErr result (self.new ≡ self.old) }
+    {
+        self.recall_invariant();
+        let mut edges = Vec::new(*self.work.allocator());
+        edges.reserve(self.num_vertices())?;
+        self.add_path(from, to, tests)?;
+        self.recall_invariant();
+        edges_along(&self.dcel, from, to, tests, &mut edges);
+        Ok(edges)
+    }
+
+    /// Does what `add_constraint` does and gives the edges of the path, in order, as they are after the last flip. Where a
+    /// constraint crosses the segment, or where the two vertices are one, it gives no edge and changes nothing, and takes no
+    /// memory. It gives `AllocError` where memory was refused, and then nothing changes either.
+    pub fn try_add_constraint<P: PlaneTests<V::Scalar>>(
+        &mut self,
+        from: FixedVertexHandle,
+        to: FixedVertexHandle,
+        tests: &P,
+    ) -> Result<Vec<FixedDirectedEdgeHandle>, AllocError>
+        requires from_in { from < length self.old.vertices }
+        requires to_in { to < length self.old.vertices }
+        requires sites { AreSites V.place (P.sites tests.now) self.old.vertices }
+        ensures path { IfOk result (λ edges. AddsPathIfFree V.place from to edges.items self.old self.new) }
+        ensures none { (from ≡ to) ⊎ (¬ CanAdd V.place (constrained self.old) from to) → IsOk result }
+        ensures err { OnErr result (self.new ≡ self.old) }
+        ensures headline { IsDelaunay V.place constraint_edges self.new }
+    {
+        self.recall_invariant();
+        if from == to || !self.can_add_constraint(from, to, tests) {
+            return Ok(Vec::new(*self.work.allocator()));
+        }
+        let edges = self.add_free_path(from, to, tests);
+        self.recall_invariant();
+        edges
+    }
+
+    // Makes a constraint an edge that is none, or a refusal that changes nothing.
+    fn release<P: PlaneTests<V::Scalar>>(
+        &mut self,
+        edge: FixedUndirectedEdgeHandle,
+        tests: &P,
+    ) -> Result<(), AllocError>
+        requires constraint { Contains (constraint_edges self.old.undirected) edge }
+        requires sites { All (P.sites tests.now) (map V.place self.old.vertices) }
+        requires few { length self.old.vertices ≤ MAX_ELEMENTS }
+        ensures plain { let m = self.old.mesh in
+            OnOk result (Releases V.place (constrained self.old) (constrained self.new) (origin m (2 * edge)) (origin m (rev (2 * edge)))) }
+        ensures data { OnOk result (FreesEdge self.old self.new edge) }
+        ensures err { OnErr result (self.new ≡ self.old) }
+    {
+        self.work.reserve(3 * self.dcel.num_vertices())?;
+        let mut flips = 0;
+        release_constraint::<EdgeConstraints, _, _, _, _, _>(
+            &mut self.dcel,
+            edge,
+            tests,
+            &mut self.work,
+            &mut flips,
+        );
+        Ok(())
+    }
+
+    /// Makes a constraint an edge that is none, and tells whether it was one: where it was none, nothing changes, and no
+    /// memory is taken. An edge or face that is there before and after keeps its handle and its data. It gives `AllocError`
+    /// where memory was refused, and then nothing changes.
+    pub fn remove_constraint_edge<P: PlaneTests<V::Scalar>>(
+        &mut self,
+        edge: FixedUndirectedEdgeHandle,
+        tests: &P,
+    ) -> Result<bool, AllocError>
+        requires within { edge < length self.old.undirected }
+        requires sites { AreSites V.place (P.sites tests.now) self.old.vertices }
+        ensures releases { ReleasesConstraint V.place edge result self.old self.new }
+        ensures headline { IsDelaunay V.place constraint_edges self.new }
+    {
+        self.recall_invariant();
+        if !self.is_constraint_edge(edge) {
+            return Ok(false);
+        }
+        let released = self.release(edge, tests);
+        self.recall_invariant();
+        released?;
+        Ok(true)
+    }
+}

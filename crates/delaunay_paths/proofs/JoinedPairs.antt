@@ -1,0 +1,82 @@
+-- The constraint between two vertices, by the edge between them; a path whose pieces are constraints.
+use Rattle.std.proofs.Common.{◌≡◌, ◌≢◌, ◌↔◌, ℕ, ◌*◌, ◌/◌, ◌<◌, List, length, refl, sym, ap, ◌∙◌, subst, inl, inr, arith}
+use Rattle.std.specs.Prelude.{Bool, Contains}
+use Rattle.std.proofs.lemmas.Option.{slice_get_within}
+use Rattle.half_edge_mesh.specs.Mesh.{origin, rev}
+use Rattle.half_edge_links.proofs.Rev.{rev-rev, rev_within}
+use Rattle.half_edge_mesh.specs.Contents.{Contents}
+use Rattle.plane.specs.Fraction.{Point}
+use Rattle.plane.specs.Pairs.{Joins, IsSamePair, IsIndex}
+use Rattle.plane_segments.specs.Constraints.{AreNextOn, ArePlacedApart}
+use Rattle.plane_segments.proofs.Adding.{IsAddingPath, adding_goes_on, adding_ends}
+use Rattle.mesh_embedding.proofs.MeshLegal.{joins_edge}
+use Rattle.delaunay_legalization.specs.Constraints.{marked_edges, constraint_pairs}
+use Rattle.delaunay_legalization.specs.Shape.{IsTriangulated}
+use Rattle.delaunay_legalization.specs.State.{state_of}
+use Rattle.delaunay_legalization.proofs.Constraints.{is_constraint_edge}
+use Rattle.delaunay_legalization.proofs.MarkedPairs.{JoinsByMark, mark_joins}
+use Rattle.delaunay_paths.specs.PathEdges.{AreJoinedAlong}
+use Rattle.delaunay_paths.proofs.AddingPieces.{half_ends}
+use Rattle.delaunay_paths.proofs.Releasing.{one_edge}
+
+-- a pair with the ends of another is listed where this is
+joins_same : (pairs : List (ℕ × ℕ)) (a b u v : ℕ) → IsSamePair a b u v → Joins pairs u v → Joins pairs a b
+joins_same pairs a b u v (inl s) h = subst (λ (x : ℕ × ℕ). Joins pairs x.0 x.1) (λ o. (sym s.0 o, sym s.1 o)) h
+joins_same pairs a b u v (inr s) (inl h) = subst (λ (x : ℕ × ℕ). Joins pairs x.0 x.1) (λ o. (sym s.0 o, sym s.1 o)) (inr h)
+joins_same pairs a b u v (inr s) (inr h) = subst (λ (x : ℕ × ℕ). Joins pairs x.0 x.1) (λ o. (sym s.0 o, sym s.1 o)) (inl h)
+
+-- two pairs with the ends of a third have the same ends
+same_as_third : (a b u v x y : ℕ) → IsSamePair a b u v → IsSamePair a b x y → IsSamePair u v x y
+same_as_third a b u v x y (inl s) (inl t) = inl (sym s.0 ∙ t.0, sym s.1 ∙ t.1)
+same_as_third a b u v x y (inl s) (inr t) = inr (sym s.0 ∙ t.0, sym s.1 ∙ t.1)
+same_as_third a b u v x y (inr s) (inl t) = inr (sym s.1 ∙ t.1, sym s.0 ∙ t.0)
+same_as_third a b u v x y (inr s) (inr t) = inl (sym s.1 ∙ t.1, sym s.0 ∙ t.0)
+
+module _ {V D U F : Type 0} (at : V → Point) (marks : U → Bool) (constraints : List U → List ℕ) (marked : (ds : List U) → constraints ds ≡ marked_edges marks ds) (c : Contents V D U F) (kept : IsTriangulated at (state_of c)) where
+  abbrev pairs : List (ℕ × ℕ)
+  pairs = constraint_pairs constraints c.mesh c.undirected
+
+  half_in : (h : ℕ) → h < length c.mesh.half_edges → h / 2 < length c.undirected
+  half_in h within = let f = kept.fits.undirected_fit in omega (arith, f, within)
+
+  -- the edge from a to b is a constraint exactly if one joins these
+  pub edge_joins : (a b h : ℕ) → h < length c.mesh.half_edges → origin c.mesh h ≡ a → origin c.mesh (rev h) ≡ b → Contains (constraints c.undirected) (h / 2) ↔ Joins pairs a b
+  edge_joins a b h within starts ends = (
+    (λ there. joins_same pairs a b (origin c.mesh (2 * (h / 2))) (origin c.mesh (rev (2 * (h / 2)))) here (joins_edge c.mesh (constraints c.undirected) (h / 2) there)),
+    (λ joined. found (mark_joins marks constraints marked c.mesh c.undirected a b joined)),
+  )
+    where
+      here : IsSamePair a b (origin c.mesh (2 * (h / 2))) (origin c.mesh (rev (2 * (h / 2))))
+      here = (half_ends c.mesh h a b a b starts ends).1 (inl (refl, refl))
+
+      found : JoinsByMark marks constraints marked c.mesh c.undirected a b → Contains (constraints c.undirected) (h / 2)
+      found j = subst (λ (k : ℕ). Contains (constraints c.undirected) k)
+          (one_edge at c kept (h / 2) j.edge (half_in h within) (slice_get_within c.undirected j.edge j.is.value j.is.has)
+          (same_as_third a b (origin c.mesh (2 * j.edge)) (origin c.mesh (rev (2 * j.edge))) (origin c.mesh (2 * (h / 2))) (origin c.mesh (rev (2 * (h / 2)))) j.ends here))
+          (is_constraint_edge marks constraints marked c.undirected j.edge j.is.value j.is.has j.is.mark)
+
+  -- where no edge goes from a to b, no constraint joins these
+  pub no_edge_joins : (a b : ℕ) → ((h : ℕ) → h < length c.mesh.half_edges → origin c.mesh h ≡ a → origin c.mesh (rev h) ≢ b) → ¬ Joins pairs a b
+  no_edge_joins a b none joined = go (mark_joins marks constraints marked c.mesh c.undirected a b joined)
+    where
+      double : (j : ℕ) → j < length c.undirected → 2 * j < length c.mesh.half_edges
+      double j h = let f = kept.fits.undirected_fit in omega (arith, f, h)
+
+      at_ends : (k : ℕ) → 2 * k < length c.mesh.half_edges → IsSamePair a b (origin c.mesh (2 * k)) (origin c.mesh (rev (2 * k))) → ⊥
+      at_ends k within (inl s) = none (2 * k) within (sym s.0) (sym s.1)
+      at_ends k within (inr s) = none (rev (2 * k)) (rev_within (2 * k) (length c.mesh.half_edges) kept.valid.sound.even within) (sym s.0) (ap (origin c.mesh) (rev-rev (2 * k)) ∙ sym s.1)
+
+      go : JoinsByMark marks constraints marked c.mesh c.undirected a b → ⊥
+      go j = at_ends j.edge (double j.edge (slice_get_within c.undirected j.edge j.is.value j.is.has)) j.ends
+
+-- ---- a path whose pieces are pairs of a list
+module _ (points : List Point) (distinct : ArePlacedApart points) (pairs : List (ℕ × ℕ)) (i j w : ℕ) (hi : IsIndex points i) (hj : IsIndex points j) (p : IsAddingPath points pairs pairs i j w) where
+  pub all_joined : w ≡ j → AreJoinedAlong points pairs i j
+  all_joined is a b next = (adding_ends points distinct pairs pairs i j w hi hj p is a b).1 (inr next)
+
+  module _ (v : ℕ) (on_way : w ≢ j) (next : AreNextOn points w j w v) where
+    pub joined_further : Joins pairs w v → IsAddingPath points pairs pairs i j v
+    joined_further here = adding_goes_on points distinct pairs pairs i j w hi hj p v on_way next pairs (λ a b. ((λ x. inl x), (λ x. elim x [ inl y ↦ y | inr s ↦ joins_same pairs a b w v s here ])))
+
+    pub one_not_joined : ¬ Joins pairs w v → ¬ AreJoinedAlong points pairs i j
+    one_not_joined not all = not (all w v (p.rest w v next))

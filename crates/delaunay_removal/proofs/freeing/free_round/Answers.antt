@@ -1,0 +1,32 @@
+use Rattle.std.proofs.Common.{◌<◌, length, sym, ap, ◌∙◌, subst, arith}
+use Rattle.half_edge_mesh.specs.Mesh.{origin}
+use Rattle.delaunay_legalization.specs.Marking.{HasEdgeData}
+use Rattle.delaunay_removal.proofs.FreedEdges.{freeing_begins, freeing_goes_on, freeing_ends, same_directed}
+use Rattle.delaunay_removal.proofs.freeing.free_round.Goals as goal
+
+pub loop-i-init : goal.loop-i-init
+loop-i-init g c = freeing_begins g.M.ConstraintMarker.marks c.args.dcel.now c.args.first c.requires
+
+pub free_edge-requires : goal.free_edge-requires
+free_edge-requires g c =
+    let half = c.as_undirected.ensures in
+    let within = c.loop-i.invariant.within in
+    let count = c.loop-i.invariant.count in
+    let us = c.recall_invariant.ensures.whole.fits.undirected_fit in
+    let ds = c.recall_invariant.ensures.whole.fits.directed_fit in
+    omega (arith, half, within, count, us, ds)
+
+pub edge_after-edge-requires : goal.edge_after-edge-requires
+edge_after-edge-requires g c =
+    subst (λ ds. c.loop-i.edge < length ds) (sym (ap (λ d. d.directed) c.free_edge.ensures.whole ∙ same_directed g.M.ConstraintMarker.marks c.args.dcel.now c.args.first c.loop-i.dcel c.loop-i.invariant.contents)) c.loop-i.invariant.within
+
+pub loop-i-preserved : goal.loop-i-preserved
+loop-i-preserved g c =
+    let m = g.M.ConstraintMarker in
+    freeing_goes_on m.marks c.args.dcel.now c.args.first c.loop-i.dcel c.free_edge.new.dcel c.loop-i.i c.loop-i.edge c.loop-i.invariant m.unmarked g.met.M.ConstraintMarker.unmarked_has_none
+    (subst (HasEdgeData m.unmarked c.loop-i.dcel c.free_edge.new.dcel) c.as_undirected.ensures c.free_edge.ensures) c.edge_after-edge.result c.edge_after-edge.ensures.within c.edge_after-edge.ensures.value
+
+pub returns-clause-frees : goal.returns-clause-frees
+returns-clause-frees g c =
+    freeing_ends g.M.ConstraintMarker.marks c.args.dcel.now c.args.first c.recall_invariant.ensures.whole (origin c.args.dcel.now.mesh c.args.first) c.count_edges-count.result c.count_edges-count.ensures
+    c.loop-i.dcel c.loop-i.i c.loop-i.edge c.loop-i.invariant (λ j less. let e = c.loop-i-test.false in omega (arith, e, less))

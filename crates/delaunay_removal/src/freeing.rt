@@ -1,0 +1,61 @@
+//! The edges of a vertex cease to be constraints.
+ghost use Rattle.std.specs.Prelude.{◌≡◌, ◌<◌, length, None, IfNone, IfSome};
+ghost use Rattle.half_edge_mesh.specs.Contents.{IsMeshWithData};
+ghost use Rattle.half_edge_mesh.specs.Mesh.{origin, out_edge};
+ghost use Rattle.delaunay_removal.specs.Freeing.{FreesEdgesAt};
+
+use crate::star::{count_edges, edge_after};
+use delaunay_legalization::{ConstraintMarker, free_edge};
+use half_edge_mesh::{Dcel, FixedDirectedEdgeHandle, FixedVertexHandle, MeshViews};
+
+// An edge that starts at a vertex, if there is one.
+fn some_edge<V, DE, UE, F>(
+    dcel: &Dcel<V, DE, UE, F>,
+    vertex: FixedVertexHandle,
+) -> Option<FixedDirectedEdgeHandle>
+    requires { vertex < length dcel.now.vertices }
+    ensures within { IfSome result (λ e. e < length dcel.now.directed) }
+    ensures starts { IfSome result (λ e. origin dcel.now.mesh e ≡ vertex) }
+    ensures none { IfNone result (out_edge dcel.now.mesh vertex ≡ None) }
+{
+    dcel.recall_invariant();
+    match dcel.vertex(vertex).out_edge() {
+        Some(edge) => Some(edge.fix()),
+        None => None,
+    }
+}
+
+// Makes each edge round the vertex where `first` starts one that is no constraint.
+fn free_round<M: ConstraintMarker<UE>, V, DE, UE, F>(
+    dcel: &mut Dcel<V, DE, UE, F>,
+    first: FixedDirectedEdgeHandle,
+)
+    requires { first < length dcel.old.directed }
+    ensures frees { FreesEdgesAt M.marks dcel.old dcel.new (origin dcel.old.mesh first) }
+    ensures whole { IsMeshWithData dcel.new }
+{
+    dcel.recall_invariant();
+    let count = count_edges(dcel, first);
+    let mut edge = first;
+    for i in 0..count {
+        free_edge::<M, _, _, _, _>(dcel, edge.as_undirected());
+        edge = edge_after(dcel, edge);
+    }
+    dcel.recall_invariant();
+}
+
+// Makes each edge of a vertex one that is no constraint.
+pub(crate) fn free_edges_at<M: ConstraintMarker<UE>, V, DE, UE, F>(
+    dcel: &mut Dcel<V, DE, UE, F>,
+    vertex: FixedVertexHandle,
+)
+    requires { vertex < length dcel.old.vertices }
+    ensures frees { FreesEdgesAt M.marks dcel.old dcel.new vertex }
+    ensures whole { IsMeshWithData dcel.new }
+{
+    dcel.recall_invariant();
+    match some_edge(dcel, vertex) {
+        Some(first) => free_round::<M, _, _, _, _>(dcel, first),
+        None => {}
+    }
+}

@@ -1,0 +1,89 @@
+//! Which fire station is nearest to a fire, before and after one of them closes.
+
+use exact_tests::ExactTests;
+use spade_delaunay::{DelaunayTriangulation, HasPosition, Point2, validate_vertex};
+use std::alloc::Global;
+
+/// A vertex is whatever has a position.
+#[derive(Drop)]
+struct Station {
+    name: &'static str,
+    place: Point2<i64>,
+}
+
+impl HasPosition for Station {
+    type Scalar = i64;
+
+    // A user's position is that of a field; proofs see it so too.
+    ghost place = { λ s. ⟦<Point2<i64> as HasPosition>⟧.place s.place };
+
+    fn position(&self) -> Point2<i64> {
+        self.place
+    }
+}
+
+type Stations = DelaunayTriangulation<Station>;
+
+/// Names, and metres east and north of the town hall.
+const STATIONS: [(&str, i64, i64); 12] = [
+    ("Town hall", 0, 0),
+    ("Harbour", 5200, -800),
+    ("Mill", -2300, 1900),
+    ("North gate", 400, 4100),
+    ("South gate", -300, -3700),
+    ("Airport", 9800, 7600),
+    ("Quarry", -8700, -2500),
+    ("Forest", -6100, 6800),
+    ("Lake", 3100, 6900),
+    ("Vineyard", 2600, 2200),
+    ("Depot", 2700, -2600),
+    ("Marsh", 7400, -6100),
+];
+
+/// Metres east and north of the town hall, too.
+const FIRES: [(i64, i64); 6] = [
+    (100, -200),
+    (4000, 600),
+    (2500, 2100),
+    (-4000, 4100),
+    (30000, 30000),
+    (-1000, -1900),
+];
+
+fn open_all(alloc: Global) -> anyhow::Result<Stations> {
+    let mut stations = Stations::new(alloc);
+    for (name, x, y) in STATIONS {
+        let place = Point2::new(x, y);
+        stations.insert(Station { name, place }, &ExactTests)?;
+    }
+    Ok(stations)
+}
+
+/// Nothing where the place is too far off, or no station is open.
+fn nearest_to(stations: &Stations, place: Point2<i64>) -> Option<&'static str> {
+    if validate_vertex(&place).is_err() {
+        return None;
+    }
+    let nearest = stations.nearest_neighbor(place, &ExactTests)?;
+    Some(nearest.data().name)
+}
+
+fn send_crews(rt: &HostRuntime, stations: &Stations) -> anyhow::Result<()> {
+    for (x, y) in FIRES {
+        match nearest_to(stations, Point2::new(x, y)) {
+            Some(name) => println!(rt; "fire at {x} {y}: {name}")?,
+            None => println!(rt; "fire at {x} {y}: nobody comes")?,
+        }
+    }
+    Ok(())
+}
+
+pub fn run(rt: &HostRuntime) -> anyhow::Result<()> {
+    let mut stations = open_all(rt.alloc())?;
+    println!(rt; "{} stations", stations.num_vertices())?;
+    send_crews(rt, &stations)?;
+    if let Some(closed) = stations.locate_and_remove(Point2::new(2600, 2200), &ExactTests)? {
+        println!(rt; "{} closes", closed.name)?;
+    }
+    send_crews(rt, &stations)
+}
