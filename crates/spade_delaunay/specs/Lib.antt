@@ -14,3 +14,6 @@ pub use Rattle.delaunay_edit.specs.Hull
 pub use Rattle.delaunay_edit.specs.Location
 pub use Rattle.delaunay_edit.specs.Removal
 pub use Rattle.delaunay_core.specs.Held
+pub use Rattle.delaunay_lines.specs.Conflicts
+pub use Rattle.delaunay_lines.specs.Items
+pub use Rattle.delaunay_lines.specs.Walk

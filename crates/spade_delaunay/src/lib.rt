@@ -12,8 +12,8 @@ pub use delaunay_core::math::{
 pub use delaunay_core::point::{HasPosition, Point2, SpadeNum};
 pub use delaunay_core::{HintGenerator, LastUsedVertexHintGenerator};
 pub use delaunay_edit::{
-    ConstrainedDelaunayTriangulation, DelaunayTriangulation, PositionInTriangulation,
-    TriangulationCore,
+    ConflictingEdgesIterator, ConstrainedDelaunayTriangulation, DelaunayTriangulation, HasMesh,
+    Intersection, LineIntersectionIterator, PositionInTriangulation, TriangulationCore,
 };
 pub use delaunay_legalization::{CdtEdge, ConstraintMarker, EdgeConstraints, NoConstraints};
 pub use half_edge_mesh::{Dcel, MAX_ELEMENTS};
