@@ -8,3 +8,4 @@ pub mod Handles
 pub mod Flooding
 pub mod Starting
 pub mod VertexFlood
+pub mod Shapes
