@@ -1,5 +1,5 @@
 use Rattle.std.proofs.Common.{◌≡◌, ℕ, map, sym, subst, ◌∙◌}
-use Rattle.half_edge_links.specs.Mesh.{origin}
+use Rattle.half_edge_mesh.specs.Mesh.{origin}
 use Rattle.plane.specs.Fraction.{whole}
 use Rattle.plane.specs.Side.{side}
 use Rattle.plane.specs.Pairs.{place}

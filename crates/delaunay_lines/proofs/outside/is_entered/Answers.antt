@@ -1,5 +1,5 @@
 use Rattle.std.proofs.Common.{◌≡◌, ℕ, sym, subst}
-use Rattle.half_edge_links.specs.Mesh.{face}
+use Rattle.half_edge_mesh.specs.Mesh.{face}
 use Rattle.delaunay_legalization.proofs.Questions.{both_ways}
 use Rattle.delaunay_lines.proofs.outside.is_entered.Goals as goal
 

@@ -1,5 +1,5 @@
-use Rattle.plane_lines.proofs.EdgeStarts as EdgeStarts
-use Rattle.plane_lines.proofs.outside_is_off_line.Goals as goal
+use Rattle.plane_segments.proofs.EdgeStarts as EdgeStarts
+use Rattle.plane_segments.proofs.line_laws.outside_is_off_line.Goals as goal
 
 pub returns : goal.returns
 returns c = EdgeStarts.outside_is_off_line
