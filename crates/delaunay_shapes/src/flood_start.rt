@@ -46,7 +46,9 @@ fn edge_alone<V, DE, UE, F>(
     ensures starts { IfOk result (λ v. Contains v.items (edge / 2)) }
     ensures within { IfOk result (λ v. All (λ e. e < length dcel.now.undirected) v.items) }
 {
-    Vec::from_array(alloc, [dcel.directed_edge(edge).as_undirected().fix()])
+    let edge = dcel.directed_edge(edge).as_undirected().fix();
+    let starts = vec![in alloc; edge]?;
+    Ok(starts)
 }
 
 // The sides of an inner face.
@@ -64,7 +66,8 @@ fn sides_of_face<V, DE, UE, F>(
     let first = edge.as_undirected().fix();
     let second = edge.next().as_undirected().fix();
     let third = edge.prev().as_undirected().fix();
-    Vec::from_array(alloc, [first, second, third])
+    let starts = vec![in alloc; first, second, third]?;
+    Ok(starts)
 }
 
 // Whether an edge has the outer face on its left and a point in the shape.
@@ -106,7 +109,7 @@ fn outer_edge_inside<
     requires own_covered { All (P.covered tests.now) (M.own_points metric.now) }
     requires covered { All (P.covered tests.now) (map V.place dcel.now.vertices) }
     ensures some { IfSome result (λ e. (e < length dcel.now.directed) × IsInside (M.shape metric.now) V.place dcel.now (e / 2)) }
-    ensures none { IfNone result ((h : ℕ) → h < length dcel.now.directed → face dcel.now.mesh h ≡ 0 → ¬ IsInside (M.shape metric.now) V.place dcel.now (h / 2)) }
+    ensures none { IfNone result ((h : ℕ) → h < length dcel.now.mesh.half_edges → face dcel.now.mesh h ≡ 0 → ¬ IsInside (M.shape metric.now) V.place dcel.now (h / 2)) }
 {
     for index in 0..dcel.num_directed_edges() {
         let edge = FixedDirectedEdgeHandle::from_index(index as u32);
