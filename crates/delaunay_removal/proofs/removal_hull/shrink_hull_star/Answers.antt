@@ -35,7 +35,7 @@ turn_away-requires-clause-apart g c = place_apart g.V.HasPosition.place c.args.d
 pub loop-edge-preserved : goal.loop-edge-preserved
 loop-edge-preserved g c =
     hull_shrinking_goes_on g.V.HasPosition.place c.args.dcel.now c.loop-edge.dcel (origin c.args.dcel.now.mesh c.args.first) c.args.first c.loop-edge.count c.loop-edge.invariant c.in-Some.edge c.in-Some.ensures.place
-    c.turn_away.new.dcel c.recall_invariant-2.ensures.whole c.in-Some.ensures.convex c.turn_away.ensures.contents c.turn_away.ensures.triangles c.turn_away.ensures.outer c.turn_away.ensures.beside
+    c.turn_away.new.dcel c.recall_invariant-in-Some.ensures.whole c.in-Some.ensures.convex c.turn_away.ensures.contents c.turn_away.ensures.triangles c.turn_away.ensures.outer c.turn_away.ensures.beside
 
 pub returns-clause-bent : goal.returns-clause-bent
 returns-clause-bent g c = bent_at_end g.V.HasPosition.place c.args.dcel.now c.loop-edge.dcel (origin c.args.dcel.now.mesh c.args.first) c.args.first c.loop-edge.count c.loop-edge.invariant c.in_default.ensures.none

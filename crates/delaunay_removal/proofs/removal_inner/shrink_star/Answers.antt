@@ -40,7 +40,7 @@ turn_away-requires-clause-apart g c =
 pub loop-count-preserved : goal.loop-count-preserved
 loop-count-preserved g c =
     shrinking_goes_on g.V.HasPosition.place c.args.dcel.now c.loop-count.dcel (origin c.args.dcel.now.mesh c.args.first) c.loop-count.first c.loop-count.count c.loop-count.invariant c.turn_away.ensures.whole
-    c.turn_away.new.dcel c.recall_invariant-2.ensures.whole c.loop-count-test.true c.in-Some.edge c.in-Some.ensures.place c.in-Some.ensures.convex
+    c.turn_away.new.dcel c.recall_invariant-in-Some.ensures.whole c.loop-count-test.true c.in-Some.edge c.in-Some.ensures.place c.in-Some.ensures.convex
     c.turn_away.ensures.mesh c.turn_away.ensures.contents c.turn_away.ensures.triangles c.turn_away.ensures.outer c.turn_away.ensures.beside
 
 pub returns-in-None-clause-reduced : goal.returns-in-None-clause-reduced
@@ -49,4 +49,4 @@ returns-in-None-clause-reduced g c =
 
 pub returns-clause-reduced : goal.returns-clause-reduced
 returns-clause-reduced g c =
-    shrinking_ends g.V.HasPosition.place c.args.dcel.now c.loop-count.dcel (origin c.args.dcel.now.mesh c.args.first) c.loop-count.first c.loop-count.count c.loop-count.invariant c.recall_invariant-3.ensures.whole c.loop-count-test.false
+    shrinking_ends g.V.HasPosition.place c.args.dcel.now c.loop-count.dcel (origin c.args.dcel.now.mesh c.args.first) c.loop-count.first c.loop-count.count c.loop-count.invariant c.recall_invariant-2.ensures.whole c.loop-count-test.false

@@ -7,10 +7,9 @@ overflow_add-count g c =
     let w = c.recall_invariant.ensures.whole in
     let few = counting_fits c.args.dcel.now.mesh w.valid c.args.first (subst (λ (n : ℕ). c.args.first < n) w.fits.directed_fit c.requires) c.loop-first.count c.loop-first.edge c.loop-first.invariant
     (λ e. c.loop-first-test.true (c.index.ensures ∙ e ∙ sym c.index-in-loop-first.ensures)) in
-    let value = c.recall_invariant.ensures.value in
-    let small = c.recall_invariant.ensures.small in
+    let small = c.recall_invariant.ensures.few_edges in
     let fit = w.fits.directed_fit in
-    omega (arith, few, value, small, fit)
+    omega (arith, few, small, fit)
 
 pub loop-first-smaller : goal.loop-first-smaller
 loop-first-smaller g c =

@@ -1,5 +1,3 @@
-use Rattle.std.proofs.Common.{◌≤◌, length, ℕ, subst, ap}
-use Rattle.half_edge_links.specs.declared.room.TheConstants.{MAX_ELEMENTS}
 use Rattle.delaunay_legalization.specs.State.{state_of}
 use Rattle.delaunay_edit.proofs.WellFormed.{well_formed}
 use Rattle.delaunay_edit.proofs.triangulation_core.TriangulationCore.recall_invariant.Goals as goal
@@ -7,4 +5,4 @@ use Rattle.delaunay_edit.proofs.triangulation_core.TriangulationCore.recall_inva
 pub returns : goal.returns
 returns g c =
     rw (← c.self.view_is) (well_formed g.V.HasPosition.place g.M.ConstraintMarker.marks g.M.ConstraintMarker.constraints g.met.M.ConstraintMarker.constraints_are_marked (state_of c.self.inside.dcel) c.self.invariant
-    (subst (λ (n : ℕ). n ≤ MAX_ELEMENTS) c.recall_invariant.ensures.value c.recall_invariant.ensures.small))
+    c.recall_invariant.ensures.few_vertices)
