@@ -9,9 +9,9 @@ ghost use Rattle.delaunay_shapes.specs.Tests.{corners};
 ghost use Rattle.delaunay_shape_queries.specs.Found.{FindsEdges, FindsVertices};
 ghost use Rattle.plane.specs.Shape.{InClosedCircle, InClosedRectangle};
 
+use delaunay_core::HintGenerator;
 use delaunay_core::math::PlaneTests;
 use delaunay_core::point::{HasPosition, Point2};
-use delaunay_core::HintGenerator;
 use delaunay_edit::TriangulationCore;
 use delaunay_legalization::ConstraintMarker;
 use delaunay_shapes::{
@@ -37,9 +37,7 @@ pub trait FloatTriangulation {
     ghost state: { Self → State Self.Vertex Self.DirectedEdge Self.UndirectedEdge Self.Face };
 
     // The mesh, for the bodies below.
-    fn mesh(
-        &self,
-    ) -> &Dcel<Self::Vertex, Self::DirectedEdge, Self::UndirectedEdge, Self::Face>
+    fn mesh(&self) -> &Dcel<Self::Vertex, Self::DirectedEdge, Self::UndirectedEdge, Self::Face>
         ensures state { state_of result.now ≡ state self.now }
         ensures kept { IsTriangulated Self.Vertex.place (state self.now) };
 

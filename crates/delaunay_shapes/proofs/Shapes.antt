@@ -1,5 +1,5 @@
 -- What a search from the start of a shape needs: the shapes' starts, and covered points.
-use Rattle.std.proofs.Common.{ℕ, ◌<◌, List, length, map, refl, get_or}
+use Rattle.std.proofs.Common.{List, refl, get_or}
 use Rattle.std.specs.Prelude.{All, ℤ}
 use Rattle.plane.specs.Fraction.{Point, Fraction}
 use Rattle.plane.specs.Shape.{InClosedCircle, InClosedRectangle}

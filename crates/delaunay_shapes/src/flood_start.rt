@@ -78,12 +78,7 @@ fn is_outer_inside<
     F,
     M: DistanceMetric<V::Scalar>,
     P: PlaneTests<V::Scalar>,
->(
-    dcel: &Dcel<V, DE, UE, F>,
-    metric: &M,
-    edge: FixedDirectedEdgeHandle,
-    tests: &P,
-) -> bool
+>(dcel: &Dcel<V, DE, UE, F>, metric: &M, edge: FixedDirectedEdgeHandle, tests: &P) -> bool
     requires own_covered { All (P.covered tests.now) (M.own_points metric.now) }
     requires covered { All (P.covered tests.now) (map V.place dcel.now.vertices) }
     requires within { edge < length dcel.now.directed }
@@ -101,11 +96,7 @@ fn outer_edge_inside<
     F,
     M: DistanceMetric<V::Scalar>,
     P: PlaneTests<V::Scalar>,
->(
-    dcel: &Dcel<V, DE, UE, F>,
-    metric: &M,
-    tests: &P,
-) -> Option<FixedDirectedEdgeHandle>
+>(dcel: &Dcel<V, DE, UE, F>, metric: &M, tests: &P) -> Option<FixedDirectedEdgeHandle>
     requires own_covered { All (P.covered tests.now) (M.own_points metric.now) }
     requires covered { All (P.covered tests.now) (map V.place dcel.now.vertices) }
     ensures some { IfSome result (λ e. (e < length dcel.now.directed) × IsInside (M.shape metric.now) V.place dcel.now (e / 2)) }
@@ -146,14 +137,7 @@ fn outer_edge_alone<
 }
 
 // The edges to begin with from a location.
-fn edges_at<
-    V: HasPosition,
-    DE,
-    UE,
-    F,
-    M: DistanceMetric<V::Scalar>,
-    P: PlaneTests<V::Scalar>,
->(
+fn edges_at<V: HasPosition, DE, UE, F, M: DistanceMetric<V::Scalar>, P: PlaneTests<V::Scalar>>(
     dcel: &Dcel<V, DE, UE, F>,
     metric: &M,
     location: PositionInTriangulation,

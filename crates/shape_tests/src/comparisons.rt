@@ -49,7 +49,10 @@ fn looked_up_in_rectangle<T: FloatTriangulation<Vertex = Point2<i64>>>(
     let mesh = triangulation.mesh();
     let edges = edges_by_filter(mesh, &metric, &ExactTests, alloc).ok()?;
     let vertices = vertices_by_filter(mesh, &metric, &ExactTests, alloc).ok()?;
-    Some((ends_of(edges, alloc).ok()?, indexes_of(vertices, alloc).ok()?))
+    Some((
+        ends_of(edges, alloc).ok()?,
+        indexes_of(vertices, alloc).ok()?,
+    ))
 }
 
 /// The edges and vertices in a circle, by a look at each.
@@ -67,7 +70,10 @@ fn looked_up_in_circle<T: FloatTriangulation<Vertex = Point2<i64>>>(
     let mesh = triangulation.mesh();
     let edges = edges_by_filter(mesh, &metric, &ExactTests, alloc).ok()?;
     let vertices = vertices_by_filter(mesh, &metric, &ExactTests, alloc).ok()?;
-    Some((ends_of(edges, alloc).ok()?, indexes_of(vertices, alloc).ok()?))
+    Some((
+        ends_of(edges, alloc).ok()?,
+        indexes_of(vertices, alloc).ok()?,
+    ))
 }
 
 /// All rectangles with two of the nine points as corners, in either order.
@@ -113,5 +119,8 @@ pub fn asks_fewer<T: FloatTriangulation<Vertex = Point2<i64>>>(
     let mesh = triangulation.mesh();
     let edges = edges_in_shape(mesh, &metric, lower, &ExactTests, alloc).ok()?;
     let found = ends_of(edges, alloc).ok()?;
-    Some(((metric.asked() as usize) < mesh.num_undirected_edges(), found))
+    Some((
+        (metric.asked() as usize) < mesh.num_undirected_edges(),
+        found,
+    ))
 }

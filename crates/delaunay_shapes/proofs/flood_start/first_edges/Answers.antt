@@ -1,5 +1,4 @@
-use Rattle.std.proofs.Common.{ℕ, List, length, map, ◌<◌}
-use Rattle.plane.specs.Fraction.{Point}
+use Rattle.std.proofs.Common.{ℕ, length, map}
 use Rattle.delaunay_core.specs.Place.{place_of}
 use Rattle.delaunay_shapes.specs.Flood.{IsBegunBy}
 use Rattle.delaunay_shapes.specs.InShape.{IsInside}
@@ -17,5 +16,5 @@ returns-clause-begun g c =
     let Inside : ℕ → Type 0 = IsInside (g.M.DistanceMetric.shape c.args.metric.now) g.V.HasPosition.place c.args.dcel.now in
     if_ok (λ v. HasStarts Inside c.args.dcel.now.mesh v.items c.locate.result) (λ v. IsBegunBy Inside (length c.args.dcel.now.undirected) v.items) c.edges_at.result
     (λ v s. begun_by_starts (map g.V.HasPosition.place c.args.dcel.now.vertices) c.args.dcel.now.mesh c.requires.kept.valid c.requires.kept.shape (g.M.DistanceMetric.shape c.args.metric.now) v.items
-        (place_of g.V.Scalar.SpadeNum.whole c.args.start) c.requires.begins c.locate.result c.locate.ensures s (length c.args.dcel.now.undirected) c.requires.kept.fits.undirected_fit)
+    (place_of g.V.Scalar.SpadeNum.whole c.args.start) c.requires.begins c.locate.result c.locate.ensures s (length c.args.dcel.now.undirected) c.requires.kept.fits.undirected_fit)
     c.edges_at.ensures.starts

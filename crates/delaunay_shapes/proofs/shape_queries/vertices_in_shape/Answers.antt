@@ -1,8 +1,5 @@
-use Rattle.std.proofs.Common.{map, ℕ, ◌<◌, length, sym, subst}
-use Rattle.std.specs.Prelude.{All}
+use Rattle.std.proofs.Common.{map}
 use Rattle.delaunay_core.specs.Place.{place_of}
-use Rattle.delaunay_shapes.specs.Flood.{IsBegunBy}
-use Rattle.delaunay_shapes.specs.InShape.{IsInside}
 use Rattle.delaunay_shapes.proofs.Shapes.{all_are, region_of_start}
 use Rattle.delaunay_shapes.proofs.shape_queries.vertices_in_shape.Goals as goal
 
