@@ -1,4 +1,5 @@
-use Rattle.std.proofs.Common.{ap, subst}
+use Rattle.std.proofs.Common.{ap, subst, ◌∙◌, w64}
+use Rattle.std.proofs.lemmas.Int.{to_z-of_z}
 use Rattle.std.specs.Prelude.{IfOk}
 use Rattle.plane.specs.Shape.{InClosedCircle}
 use Rattle.delaunay_core.specs.Place.{place_of}
@@ -18,5 +19,5 @@ vertices_in_shape-requires-clause-begins g c = subst (λ p. BeginsAt (InClosedCi
 pub returns : goal.returns
 returns g c =
     same_circle (λ Shape. IfOk c.vertices_in_shape.result (λ it. FindsVertices g.Self.Vertex.HasPosition.place (g.Self.FloatTriangulation.state c.args.self.now) Shape (vertices_left it))) (place_of g.Self.Vertex.Scalar.SpadeNum.whole c.new-circle.result.center) (place_of g.Self.Vertex.Scalar.SpadeNum.whole c.args.center) c.new-circle.result.radius_2 c.args.radius_2
-    (ap (λ p. place_of g.Self.Vertex.Scalar.SpadeNum.whole p) c.new-circle.ensures.center) c.new-circle.ensures.radius_2
+    (ap (λ p. place_of g.Self.Vertex.Scalar.SpadeNum.whole p) c.new-circle.ensures.center) (c.new-circle.ensures.radius_2 ∙ to_z-of_z w64 c.args.radius_2 c.ranges.radius_2)
     (vertices_found g.Self.Vertex.HasPosition.place (g.Self.FloatTriangulation.state c.args.self.now) c.mesh.result c.mesh.ensures.state (InClosedCircle (place_of g.Self.Vertex.Scalar.SpadeNum.whole c.new-circle.result.center) c.new-circle.result.radius_2) c.vertices_in_shape.result c.vertices_in_shape.ensures)
