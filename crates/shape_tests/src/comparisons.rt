@@ -46,13 +46,12 @@ fn looked_up_in_rectangle<T: FloatTriangulation<Vertex = Point2<i64>>>(
     alloc: Global,
 ) -> Option<Found> {
     let metric = RectangleMetric::new(point(lower)?, point(upper)?);
-    let mesh = triangulation.mesh();
-    let edges = edges_by_filter(mesh, &metric, &ExactTests, alloc).ok()?;
-    let vertices = vertices_by_filter(mesh, &metric, &ExactTests, alloc).ok()?;
-    Some((
-        ends_of(edges, alloc).ok()?,
-        indexes_of(vertices, alloc).ok()?,
-    ))
+    let dcel = triangulation.mesh();
+    let edges = edges_by_filter(dcel, &metric, &ExactTests, alloc);
+    let vertices = vertices_by_filter(dcel, &metric, &ExactTests, alloc);
+    let ends = ends_of(edges.ok()?, alloc).ok()?;
+    let indexes = indexes_of(vertices.ok()?, alloc).ok()?;
+    Some((ends, indexes))
 }
 
 /// The edges and vertices in a circle, by a look at each.
@@ -67,13 +66,12 @@ fn looked_up_in_circle<T: FloatTriangulation<Vertex = Point2<i64>>>(
         return None;
     }
     let metric = CircleMetric::new(center, radius_2);
-    let mesh = triangulation.mesh();
-    let edges = edges_by_filter(mesh, &metric, &ExactTests, alloc).ok()?;
-    let vertices = vertices_by_filter(mesh, &metric, &ExactTests, alloc).ok()?;
-    Some((
-        ends_of(edges, alloc).ok()?,
-        indexes_of(vertices, alloc).ok()?,
-    ))
+    let dcel = triangulation.mesh();
+    let edges = edges_by_filter(dcel, &metric, &ExactTests, alloc);
+    let vertices = vertices_by_filter(dcel, &metric, &ExactTests, alloc);
+    let ends = ends_of(edges.ok()?, alloc).ok()?;
+    let indexes = indexes_of(vertices.ok()?, alloc).ok()?;
+    Some((ends, indexes))
 }
 
 /// All rectangles with two of the nine points as corners, in either order.
