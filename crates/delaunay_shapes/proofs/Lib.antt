@@ -7,4 +7,6 @@ pub mod Asking
 pub mod Handles
 pub mod Flooding
 pub mod Starting
+pub mod FirstEdges
 pub mod VertexFlood
+pub mod Shapes

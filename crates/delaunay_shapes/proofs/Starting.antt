@@ -1,10 +1,10 @@
 -- Where a flood begins: if any edge has a point in the region, one of those tried first has.
 use Rattle.std.proofs.Common.{◌≡◌, ◌↔◌, ℕ, ◌*◌, ◌/◌, ◌<◌, List, length, refl, sym, ap, ◌∙◌, subst, arith, None}
 use mathlib.Core.Logic.{inl, inr, ◌≢◌}
-use Rattle.std.specs.Prelude.{Contains, IsSome}
+use Rattle.std.specs.Prelude.{Contains, IsSome, Option, Some}
 use Rattle.plane_edits.specs.Change.{IsFaceOf}
 use Rattle.std.proofs.lemmas.Bool.{cases_eq}
-use Rattle.half_edge_mesh.specs.Mesh.{Mesh, origin, next, prev, face, rev, out_edge, IsValidMesh}
+use Rattle.half_edge_mesh.specs.Mesh.{Mesh, origin, next, prev, face, rev, out_edge, face_edge, IsInner, IsValidMesh}
 use Rattle.plane.specs.Fraction.{Point, Fraction, whole, IsSame}
 use Rattle.plane.specs.Pairs.{IsSamePair}
 use Rattle.plane.specs.Shape.{IsEdgeIn}
@@ -20,7 +20,11 @@ use Rattle.mesh_embedding.specs.Drawn.{drawn, faces_of, outer_of}
 use Rattle.mesh_embedding.proofs.EdgePairs.{edge_joins, joins_edge}
 use Rattle.mesh_embedding.proofs.MeshEdits.{face_before}
 use Rattle.delaunay_shapes.specs.InShape.{IsEdgeInShape}
+use Rattle.delaunay_location.specs.declared.position_in_triangulation.PositionInTriangulation.{PositionInTriangulation}
+use Rattle.delaunay_location.specs.declared.position_in_triangulation.PositionInTriangulation.TheVariants.{OnVertex, OnEdge, OnFace, OutsideOfConvexHull, NoTriangulation}
+use Rattle.delaunay_location.specs.Location.{location_of, Locates}
 use Rattle.delaunay_shapes.specs.Flood.{HasBegun, IsBegunBy}
+use Rattle.delaunay_shapes.specs.Start.{BeginsAt, HasOuter, HasSides, HasStarts}
 use Rattle.delaunay_shapes.proofs.Flooding.{half_by_ends, tiles}
 
 module _ (points : List Point) (m : Mesh) (v : IsValidMesh m) (shape : IsMesh points (faces_of m) (outer_of m)) (Shape : Fraction → Type 0) (starts : List ℕ) where
@@ -44,12 +48,12 @@ module _ (points : List Point) (m : Mesh) (v : IsValidMesh m) (shape : IsMesh po
       go a b (inr (inl s)) e = listed_edge (next m h) (origin m (next m h)) (origin m (prev m h)) (v.sound.edges h w).next_in second refl (sym (v.sound.edges (next m h) (v.sound.edges h w).next_in).starts ∙ ap (origin m) ((v.sound.edges h w).three inner)) a b s e
       go a b (inr (inr s)) e = listed_edge (prev m h) (origin m (prev m h)) (origin m h) (v.sound.edges h w).prev_in third refl (sym (v.sound.edges (prev m h) (v.sound.edges h w).prev_in).starts ∙ ap (origin m) (v.sound.edges h w).next_prev) a b s e
 
-  -- with all outer edges
-  pub begun_outside : (i j : ℕ) → ((h : ℕ) → h < length m.half_edges → face m h ≡ 0 → Contains starts (h / 2)) → HasBegun Shape points m starts (outside_hull i j)
-  begun_outside i j all = record {
+  -- where an outer edge that is inside is told by a listed one
+  pub begun_outside : (i j : ℕ) → HasOuter (IsEdgeInShape Shape points m) m starts → HasBegun Shape points m starts (outside_hull i j)
+  begun_outside i j told = record {
     begun = λ a b outer e.
         let r = joins_edge m v.sound a b e.0 in
-        listed_edge r.0 a b r.1 (all r.0 r.1 (bare a b r.0 r.1 r.2 r.3 outer)) r.2 r.3 a b (inl (refl, refl)) e;
+        told r.0 r.1 (bare a b r.0 r.1 r.2 r.3 outer) (half_by_ends points m v shape Shape r.0 a b r.1 r.2 r.3 e);
   }
     where
       positive : (f : ℕ) → f ≢ 0 → 0 < f
@@ -94,3 +98,26 @@ module _ (points : List Point) (m : Mesh) (v : IsValidMesh m) (shape : IsMesh po
       go k w p =
           let s = (start_is_exact (drawn points m) (tiles points m v shape) region l located).0 (origin m (2 * k), origin m (rev (2 * k)), (edge_joins m v.sound (2 * k) w, (p.0, p.1, (same p.0).0 p.2))) in
           first.begun s.0 s.1 s.2 (s.3.0, (s.3.1.0, s.3.1.1, (same s.3.1.0).1 s.3.1.2))
+
+  -- ---- the edges to begin with
+  module _ (p : Point) (at : BeginsAt Shape p) where
+    at_vertex : (i : ℕ) → IsSame (whole p) (vertex (drawn points m) i) → ((h : ℕ) → out_edge m i ≡ Some h → Contains starts (h / 2)) → (o : Option ℕ) → out_edge m i ≡ o → HasBegun Shape points m starts (on_vertex i)
+    at_vertex i here listed None e = begun_alone i e
+    at_vertex i here listed (Some h) e =
+        let w = v.sound.vertices i h e in
+        begun_at_vertex at.region at.same i h (subst (λ q. IsSame (whole q) (vertex (drawn points m) i)) (sym at.start) here) w.0 w.1 (listed h e)
+
+    in_face : (f : ℕ) → IsInner m f → HasSides m starts (face_edge m f) → HasBegun Shape points m starts (location_of m (OnFace f))
+    in_face f inner sides =
+        let w = v.sound.faces f inner.0 inner.1 in
+        begun_on_face (face_edge m f) w.0 (subst (λ g. 0 < g) (sym w.1) inner.0) sides.first sides.second sides.third
+
+    begun_at : (place : PositionInTriangulation) → Locates points m p place → HasStarts (IsEdgeInShape Shape points m) m starts place → HasBegun Shape points m starts (location_of m place)
+    begun_at (OnVertex i) l s = at_vertex i l.location.1 s (out_edge m i) refl
+    begun_at (OnEdge e) l s = begun_on_edge e l.handle s
+    begun_at (OnFace f) l s = in_face f l.handle s
+    begun_at (OutsideOfConvexHull e) l s = begun_outside (origin m e) (origin m (rev e)) s
+    begun_at NoTriangulation l s = record { begun = λ a b tried e. absurd tried }
+
+    pub begun_by_starts : (place : PositionInTriangulation) → Locates points m p place → HasStarts (IsEdgeInShape Shape points m) m starts place → (count : ℕ) → 2 * count ≡ length m.half_edges → IsBegunBy (IsEdgeInShape Shape points m) count starts
+    begun_by_starts place l s count even = begun_by_location at.region at.same (location_of m place) (subst (λ q. IsLocation (drawn points m) (whole q) (location_of m place)) (sym at.start) l.location) count even (begun_at place l s)

@@ -4,3 +4,4 @@ pub mod Distance
 pub mod InShape
 pub mod Flood
 pub mod Left
+pub mod Start

@@ -5,10 +5,12 @@ mod circle;
 mod distance_metric;
 mod filter;
 mod flood;
+mod flood_start;
 mod flood_vertices;
 mod in_shape;
 mod positions;
 mod rectangle;
+mod shape_queries;
 
 pub use circle::CircleMetric;
 pub use distance_metric::DistanceMetric;
@@ -17,3 +19,4 @@ pub use flood::edges_by_flood;
 pub use flood_vertices::vertices_by_flood;
 pub use in_shape::{EdgesInShapeIterator, VerticesInShapeIterator};
 pub use rectangle::RectangleMetric;
+pub use shape_queries::{edges_in_shape, vertices_in_shape};

@@ -1,0 +1,46 @@
+-- What the calls of a triangulation hand to a search over its mesh, and make of what it gives.
+use Rattle.std.proofs.Common.{◌≡◌, ℕ, ◌<◌, List, length, map, sym, subst, arith}
+use Rattle.std.specs.Prelude.{ℤ, All, Result, Ok, Err, IfOk}
+use Rattle.std.specs.Borrow.{Bor}
+use Rattle.std.proofs.lemmas.List.Elements.{All-map}
+use Rattle.half_edge_mesh.specs.Contents.{Contents}
+use Rattle.plane.specs.Fraction.{Point, Fraction}
+use Rattle.plane.specs.Shape.{InClosedCircle, InClosedRectangle}
+use Rattle.plane.specs.Tests.{InRange}
+use Rattle.delaunay_edit.specs.Headline.{AreSites}
+use Rattle.delaunay_legalization.specs.Shape.{IsTriangulated}
+use Rattle.delaunay_legalization.specs.State.{State, state_of}
+use Rattle.delaunay_shapes.specs.declared.in_shape.EdgesInShapeIterator.{EdgesInShapeIterator}
+use Rattle.delaunay_shapes.specs.declared.in_shape.VerticesInShapeIterator.{VerticesInShapeIterator}
+use Rattle.delaunay_shapes.specs.Left.{GivesEdgesIn, GivesVerticesIn, edges_left, vertices_left}
+use Rattle.delaunay_shapes.specs.Tests.{corners}
+use Rattle.delaunay_shape_queries.specs.Found.{FindsEdges, FindsVertices}
+
+pub lower_corner : (C : Point → Type 0) (lower upper : Point) → All C (corners lower upper) → C lower
+lower_corner C lower upper all = all 0 lower (omega arith)
+
+pub upper_corner : (C : Point → Type 0) (lower upper : Point) → All C (corners lower upper) → C upper
+upper_corner C lower upper all = all 2 upper (omega arith)
+
+-- a circle and a rectangle by other names of the same numbers
+pub same_circle : (Q : (Fraction → Type 0) → Type 0) (c d : Point) (r s : ℤ) → c ≡ d → r ≡ s → Q (InClosedCircle c r) → Q (InClosedCircle d s)
+same_circle Q c d r s e f q = subst (λ (x : ℤ). Q (InClosedCircle d x)) f (subst (λ (x : Point). Q (InClosedCircle x r)) e q)
+
+pub same_rectangle : (Q : (Fraction → Type 0) → Type 0) (l m u v : Point) → l ≡ m → u ≡ v → Q (InClosedRectangle l u) → Q (InClosedRectangle m v)
+same_rectangle Q l m u v e f q = subst (λ (x : Point). Q (InClosedRectangle m x)) f (subst (λ (x : Point). Q (InClosedRectangle x u)) e q)
+
+module _ {V D U F : Type 0} (place : V → Point) (s : State V D U F) (mesh : Bor (Contents V D U F)) (same : state_of mesh.now ≡ s) where
+  pub kept_in_mesh : IsTriangulated place s → IsTriangulated place (state_of mesh.now)
+  kept_in_mesh kept = subst (IsTriangulated place) (sym same) kept
+
+  pub sites_in_mesh : (Sites : Point → Type 0) → IsTriangulated place s → AreSites place Sites s.vertices → All Sites (map place mesh.now.vertices)
+  sites_in_mesh Sites kept sites = subst (λ x. All Sites (map place x.vertices)) (sym same) (sites (All-map InRange place s.vertices kept.in_range))
+
+  module _ {E : Type 0} (Shape : Fraction → Type 0) where
+    pub edges_found : (r : Result (EdgesInShapeIterator V D U F) E) → IfOk r (λ it. GivesEdgesIn Shape place mesh (edges_left it)) → IfOk r (λ it. FindsEdges place s Shape (edges_left it))
+    edges_found (Ok it) given = record { mesh = mesh; state = same; edges = given }
+    edges_found (Err e) given = given
+
+    pub vertices_found : (r : Result (VerticesInShapeIterator V D U F) E) → IfOk r (λ it. GivesVerticesIn Shape place mesh (vertices_left it)) → IfOk r (λ it. FindsVertices place s Shape (vertices_left it))
+    vertices_found (Ok it) given = record { mesh = mesh; state = same; vertices = given }
+    vertices_found (Err e) given = given

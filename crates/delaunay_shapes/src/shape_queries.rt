@@ -1,0 +1,73 @@
+//! The edges and vertices in a shape, by a flood from its start.
+ghost use Rattle.std.specs.Prelude.{map, All, IfOk};
+ghost use Rattle.delaunay_core.specs.Place.{place_of};
+ghost use Rattle.delaunay_legalization.specs.Shape.{IsTriangulated};
+ghost use Rattle.delaunay_legalization.specs.State.{state_of};
+ghost use Rattle.delaunay_shapes.specs.Left.{GivesEdgesIn, GivesVerticesIn, edges_left, vertices_left};
+ghost use Rattle.delaunay_shapes.specs.Start.{BeginsAt};
+
+use crate::distance_metric::DistanceMetric;
+use crate::flood::edges_by_flood;
+use crate::flood_start::first_edges;
+use crate::flood_vertices::vertices_by_flood;
+use crate::in_shape::{EdgesInShapeIterator, VerticesInShapeIterator};
+use delaunay_core::math::PlaneTests;
+use delaunay_core::point::{HasPosition, Point2};
+use half_edge_mesh::Dcel;
+use std::alloc::{AllocError, Global};
+
+/// The edges with a point in a shape, each once. The shape is a closed circle, and `start` its centre, or a closed
+/// rectangle, and `start` its lower corner. Memory is refused here alone: the iterator takes none.
+pub fn edges_in_shape<
+    'a,
+    V: HasPosition,
+    DE,
+    UE,
+    F,
+    M: DistanceMetric<V::Scalar>,
+    P: PlaneTests<V::Scalar>,
+>(
+    dcel: &'a Dcel<V, DE, UE, F>,
+    metric: &M,
+    start: Point2<V::Scalar>,
+    tests: &P,
+    alloc: Global,
+) -> Result<EdgesInShapeIterator<'a, V, DE, UE, F>, AllocError>
+    requires kept { IsTriangulated V.place (state_of dcel.now) }
+    requires sites { All (P.sites tests.now) (map V.place dcel.now.vertices) }
+    requires own_covered { All (P.covered tests.now) (M.own_points metric.now) }
+    requires start_covered { P.covered tests.now (place_of V.Scalar.whole start) }
+    requires begins { BeginsAt (M.shape metric.now) (place_of V.Scalar.whole start) }
+    ensures { IfOk result (λ it. GivesEdgesIn (M.shape metric.now) V.place dcel.entry (edges_left it)) }
+{
+    let starts = first_edges(dcel, metric, start, tests, alloc)?;
+    edges_by_flood(dcel, metric, tests, starts.as_slice(), alloc)
+}
+
+/// The vertices in a shape, each once. The shape is a closed circle, and `start` its centre, or a closed rectangle, and
+/// `start` its lower corner. Memory is refused here alone: the iterator takes none.
+pub fn vertices_in_shape<
+    'a,
+    V: HasPosition,
+    DE,
+    UE,
+    F,
+    M: DistanceMetric<V::Scalar>,
+    P: PlaneTests<V::Scalar>,
+>(
+    dcel: &'a Dcel<V, DE, UE, F>,
+    metric: &M,
+    start: Point2<V::Scalar>,
+    tests: &P,
+    alloc: Global,
+) -> Result<VerticesInShapeIterator<'a, V, DE, UE, F>, AllocError>
+    requires kept { IsTriangulated V.place (state_of dcel.now) }
+    requires sites { All (P.sites tests.now) (map V.place dcel.now.vertices) }
+    requires own_covered { All (P.covered tests.now) (M.own_points metric.now) }
+    requires start_covered { P.covered tests.now (place_of V.Scalar.whole start) }
+    requires begins { BeginsAt (M.shape metric.now) (place_of V.Scalar.whole start) }
+    ensures { IfOk result (λ it. GivesVerticesIn (M.shape metric.now) V.place dcel.entry (vertices_left it)) }
+{
+    let starts = first_edges(dcel, metric, start, tests, alloc)?;
+    vertices_by_flood(dcel, metric, tests, starts.as_slice(), alloc)
+}
