@@ -17,3 +17,4 @@ pub use Rattle.delaunay_core.specs.Held
 pub use Rattle.delaunay_lines.specs.Conflicts
 pub use Rattle.delaunay_lines.specs.Items
 pub use Rattle.delaunay_lines.specs.Walk
+pub use Rattle.delaunay_shape_queries.specs.Found

@@ -16,4 +16,8 @@ pub use delaunay_edit::{
     Intersection, LineIntersectionIterator, PositionInTriangulation, TriangulationCore,
 };
 pub use delaunay_legalization::{CdtEdge, ConstraintMarker, EdgeConstraints, NoConstraints};
+pub use delaunay_shape_queries::{
+    CircleMetric, DistanceMetric, EdgesInShapeIterator, FloatTriangulation, RectangleMetric,
+    VerticesInShapeIterator,
+};
 pub use half_edge_mesh::{Dcel, MAX_ELEMENTS};
