@@ -71,7 +71,7 @@ fn edge(points: &Constrained, from: u32, to: u32) -> Option<FixedUndirectedEdgeH
     ensures { IfSome result (λ e. e < length points.now.undirected) }
 {
     for index in 0..points.num_undirected_edges() {
-        let edge = FixedUndirectedEdgeHandle::from_index(index as u32);
+        let edge = FixedUndirectedEdgeHandle::from_index(u32::from(u16::try_from(index).ok()?));
         points.recall_invariant();
         let directed = points.directed_edge(edge.as_directed());
         let (start, end) = (directed.from().fix().index(), directed.to().fix().index());
