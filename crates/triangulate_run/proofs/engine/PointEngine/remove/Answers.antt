@@ -4,6 +4,7 @@ use Rattle.delaunay_core.specs.declared.point.Point2.{Point2}
 use Rattle.plane.specs.Plain.{Removes}
 use Rattle.triangulate_run.specs.Stage.{position}
 use Rattle.delaunay_legalization.specs.State.{points_and_constraints}
+use Rattle.delaunay_edit.specs.Constrained.{none}
 use Rattle.delaunay_edit.proofs.Removing.{sites_left}
 use Rattle.triangulate_run.proofs.engine.PointEngine.remove.Goals as goal
 
@@ -21,7 +22,7 @@ returns-in-Ok-clause-ready g c =
     record {
       points_covered = ready.points_covered;
       points_sites = ready.points_sites;
-      vertices_sites = sites_left position c.args.self.now.triangulation c.remove.new.self _ c.in-Ok.point c.in-Ok.ensures.removes.plain (g.P.PlaneTests.sites c.args.self.now.tests.now) ready.vertices_sites;
+      vertices_sites = sites_left position none c.args.self.now.triangulation c.remove.new.self _ c.in-Ok.point c.in-Ok.ensures.removes.plain (g.P.PlaneTests.sites c.args.self.now.tests.now) ready.vertices_sites;
     }
 
 pub returns-in-Ok-clause-reply : goal.returns-in-Ok-clause-reply
