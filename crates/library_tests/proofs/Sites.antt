@@ -25,9 +25,9 @@ pub sites_kept : (sites : Point → Type 0) (old new : Plain TaggedVertex) (v : 
 sites_kept sites old new v i kept all = subst (λ (ps : List Point). All sites ps) (sym (ap (map position_of) kept.vertices ∙ map-set_same position_of old.vertices i v v (sym kept.same))) all
 
 -- after the removal of the vertex at a point, if one was there
-pub sites_after_removal : {D U F : Type 0} {constraints : List U → List ℕ} (sites : Point → Type 0) (old new : State TaggedVertex D U F) (p : Point) (o : Option TaggedVertex) → (¬ IsKnown (map position_of old.vertices) p → new ≡ old) → MatchOption o (¬ IsKnown (map position_of old.vertices) p) (RemovesAt position_of constraints old new p) → AreSites sites old.vertices → AreSites sites new.vertices
-sites_after_removal sites old new p None same none all = subst (λ s. AreSites sites s.vertices) (sym (same none)) all
-sites_after_removal {constraints = constraints} sites old new p (Some v) same went all = sites_left position_of constraints old new went.index v went.plain sites all
+pub sites_after_removal : {D U F : Type 0} (constraints : List U → List ℕ) (sites : Point → Type 0) (old new : State TaggedVertex D U F) (p : Point) (o : Option TaggedVertex) → (¬ IsKnown (map position_of old.vertices) p → new ≡ old) → MatchOption o (¬ IsKnown (map position_of old.vertices) p) (RemovesAt position_of constraints old new p) → AreSites sites old.vertices → AreSites sites new.vertices
+sites_after_removal constraints sites old new p None same none all = subst (λ s. AreSites sites s.vertices) (sym (same none)) all
+sites_after_removal constraints sites old new p (Some v) same went all = sites_left position_of constraints old new went.index v went.plain sites all
 
 -- where there is no vertex
 pub no_sites : (sites : Point → Type 0) (vertices : List TaggedVertex) → vertices ≡ [] → AreSites sites vertices

@@ -1,6 +1,7 @@
 use Rattle.std.proofs.Common.{ap, sym, subst}
 use Rattle.triangulate_run.specs.Sheet.{points_of, IsSite}
 use Rattle.delaunay_core.specs.Place.{place_of}
+use Rattle.delaunay_edit.specs.Constrained.{none}
 use Rattle.library_tests.specs.Vertices.{AreSites}
 use Rattle.library_tests.proofs.Sites.{found_site, sites_after_removal}
 use Rattle.library_tests.proofs.sheet_triangulation.SheetTriangulation.remove_at.Goals as goal
@@ -15,6 +16,6 @@ pub invariant_of-self : goal.invariant_of-self
 invariant_of-self c =
     let sites = IsSite c.self.inside.sheet in
     elim c.match-locate_and_remove.branch [
-      | in-Ok w ↦ sites_after_removal sites c.self.inside.triangulation c.locate_and_remove.new.self (place_of (λ z. z) c.args.position) _ (λ none. (c.locate_and_remove.ensures.removes.apart none).1) w.in-Ok.ensures.removes.ok c.self.invariant
+      | in-Ok w ↦ sites_after_removal none sites c.self.inside.triangulation c.locate_and_remove.new.self (place_of (λ z. z) c.args.position) _ (λ none. (c.locate_and_remove.ensures.removes.apart none).1) w.in-Ok.ensures.removes.ok c.self.invariant
       | in-Err w ↦ subst (λ vertices. AreSites sites vertices) (ap (λ s. s.vertices) (sym w.in-Err.ensures.removes.err)) c.self.invariant
     ]
