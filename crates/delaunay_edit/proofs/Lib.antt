@@ -10,4 +10,6 @@ pub mod Constrained
 pub mod Vertices
 pub mod WellFormed
 pub mod Inserting
+pub mod OtherData
+pub mod Copies
 pub mod EditingConstraints

@@ -7,4 +7,7 @@ pub mod Headline
 pub mod Edits
 pub mod Constrained
 pub mod Entry
+pub mod EdgeData
+pub mod Writing
+pub mod Storage
 pub mod ConstraintEdits

@@ -4,6 +4,7 @@
 mod cdt;
 mod constraint_edits;
 mod delaunay_triangulation;
+mod edge_data;
 mod elements;
 mod insertion;
 mod insertion_cases;
@@ -11,7 +12,9 @@ mod lines;
 mod location;
 mod nearest_vertex;
 mod removal;
+mod storage;
 mod triangulation_core;
+mod writing;
 
 pub use cdt::ConstrainedDelaunayTriangulation;
 pub use delaunay_lines::{
@@ -19,4 +22,6 @@ pub use delaunay_lines::{
 };
 pub use delaunay_location::PositionInTriangulation;
 pub use delaunay_triangulation::DelaunayTriangulation;
+pub use edge_data::EdgeData;
 pub use triangulation_core::TriangulationCore;
+pub use writing::WriteData;

@@ -4,6 +4,7 @@ ghost use Rattle.half_edge_mesh.specs.Mesh.{empty, origin, rev};
 ghost use Rattle.delaunay_core.specs.Place.{place_of};
 ghost use Rattle.delaunay_legalization.specs.Constraints.{constraints_by};
 ghost use Rattle.delaunay_legalization.specs.Known.{point_at};
+ghost use Rattle.delaunay_legalization.specs.State.{state_of};
 ghost use Rattle.delaunay_edit.specs.Headline.{IsDelaunay, IsWellFormed};
 ghost use Rattle.delaunay_edit.specs.Location.{IsMeshEdge};
 
@@ -94,6 +95,13 @@ impl<
         ensures small { result ≤ MAX_ELEMENTS }
     {
         self.dcel.num_vertices()
+    }
+
+    /// The mesh of the vertices, edges and faces.
+    pub fn mesh(&self) -> &Dcel<V, DE, UE, F>
+        ensures { state_of result.now ≡ self.now }
+    {
+        &self.dcel
     }
 
     // The position of a vertex.

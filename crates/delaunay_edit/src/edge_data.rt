@@ -1,0 +1,63 @@
+//! The user's part of the data of an edge.
+ghost use Rattle.std.specs.Prelude.{◌≡◌, ◌<◌, ℕ, List, length, refl, slice_set};
+ghost use Rattle.std.proofs.Common.{length-set};
+ghost use Rattle.std.specs.Borrow.{Lends, sem};
+ghost use Rattle.half_edge_dcel.specs.contracts.dcel.Dcel.{the_row};
+ghost use Rattle.delaunay_edit.specs.EdgeData.{with_data, with_data_marks};
+
+use delaunay_legalization::{CdtEdge, ConstraintMarker, EdgeConstraints, NoConstraints};
+use half_edge_mesh::{Dcel, FixedUndirectedEdgeHandle};
+
+/// Which edges are constraints, by a mark in their data, and the part of the data that is the user's.
+pub trait EdgeData<UE>: ConstraintMarker<UE> {
+    type User;
+
+    // The data of all edges, with another user's part at one.
+    ghost with_user: { List UE → ℕ → Self.User → List UE };
+
+    /// The user's part of the data of an edge, for writing.
+    fn user_data_mut<V, DE, F>(
+        dcel: &mut Dcel<V, DE, UE, F>,
+        edge: FixedUndirectedEdgeHandle,
+    ) -> &mut Self::User
+        requires { edge < length dcel.old.undirected }
+        ensures* writes_back { sem 𝓛 (Lends (the_row V.row DE.row UE.row F.row) Self.User.row dcel.entry result (λ w. record dcel.old { undirected = with_user dcel.old.undirected edge w })) };
+
+    ghost with_user_length: { (es : List UE) (i : ℕ) (w : Self.User) → length (with_user es i w) ≡ length es };
+
+    ghost with_user_constraints: { (es : List UE) (i : ℕ) (w : Self.User) → Self.constraints (with_user es i w) ≡ Self.constraints es };
+}
+
+impl<UE> EdgeData<UE> for NoConstraints {
+    type User = UE;
+
+    ghost with_user = { slice_set };
+
+    ghost with_user_length = { λ es i w. length-set es i w };
+
+    ghost with_user_constraints = { λ _ _ _. refl };
+
+    fn user_data_mut<V, DE, F>(
+        dcel: &mut Dcel<V, DE, UE, F>,
+        edge: FixedUndirectedEdgeHandle,
+    ) -> &mut UE {
+        dcel.undirected_edge_data_mut(edge)
+    }
+}
+
+impl<UE> EdgeData<CdtEdge<UE>> for EdgeConstraints {
+    type User = UE;
+
+    ghost with_user = { with_data };
+
+    ghost with_user_length = { λ es i w. length-set es i _ };
+
+    ghost with_user_constraints = { λ es i w. with_data_marks 0 es i w };
+
+    fn user_data_mut<V, DE, F>(
+        dcel: &mut Dcel<V, DE, CdtEdge<UE>, F>,
+        edge: FixedUndirectedEdgeHandle,
+    ) -> &mut UE {
+        dcel.undirected_edge_data_mut(edge).data_mut()
+    }
+}

@@ -1,0 +1,96 @@
+//! Triangulations with room for more, and copies.
+ghost use Rattle.std.specs.Prelude.{◌≡◌, ◌≤◌, ◌↔◌, IfOk, IsErrOf, IsOk};
+ghost use Rattle.half_edge_mesh.specs.Room.{AreFewEnough};
+ghost use Rattle.delaunay_core.specs.declared.math.InsertionError.TheVariants.{TooLarge, OutOfIndexes};
+ghost use Rattle.delaunay_legalization.specs.State.{state_of};
+ghost use Rattle.delaunay_edit.specs.Headline.{IsDelaunay};
+ghost use Rattle.delaunay_edit.specs.Storage.{IsCopy, IsEmptyState};
+
+use crate::edge_data::EdgeData;
+use crate::triangulation_core::TriangulationCore;
+use delaunay_core::HintGenerator;
+use delaunay_core::math::InsertionError;
+use delaunay_core::point::HasPosition;
+use delaunay_legalization::ConstraintMarker;
+use half_edge_mesh::{Dcel, ReserveError};
+use std::alloc::{AllocError, Global};
+use std::marker::PhantomData;
+
+// An empty mesh with room for these totals, and the refusals of an insertion.
+fn empty_mesh<V: Drop, DE: Drop, UE: Drop, F: Default + Drop>(
+    alloc: Global,
+    vertices: usize,
+    undirected_edges: usize,
+    faces: usize,
+) -> Result<Dcel<V, DE, UE, F>, InsertionError>
+    ensures ok { IfOk result (λ d. IsEmptyState F.is_default (state_of d)) }
+    ensures full { IsErrOf result OutOfIndexes ↔ ¬ AreFewEnough vertices undirected_edges faces }
+    ensures not_too_large { ¬ IsErrOf result TooLarge }
+    ensures nothing { vertices ≡ 0 → undirected_edges ≡ 0 → faces ≤ 1 → IsOk result }
+{
+    match Dcel::with_capacity(alloc, vertices, undirected_edges, faces) {
+        Ok(dcel) => Ok(dcel),
+        Err(ReserveError::TooMany) => Err(InsertionError::OutOfIndexes),
+        Err(ReserveError::OutOfMemory) => Err(InsertionError::OutOfMemory),
+    }
+}
+
+impl<
+    V: HasPosition + Drop,
+    DE: Drop,
+    UE: Drop,
+    F: Default + Drop,
+    L: HintGenerator<V::Scalar>,
+    M: ConstraintMarker<UE>,
+> TriangulationCore<V, DE, UE, F, L, M> {
+    /// A triangulation without vertices that has room for these totals, the outer face among them. It gives `OutOfIndexes`
+    /// where a total passes `MAX_ELEMENTS`, with edges counted twice, and else `OutOfMemory` where memory was refused.
+    pub fn with_capacity(
+        alloc: Global,
+        vertices: usize,
+        undirected_edges: usize,
+        faces: usize,
+    ) -> Result<Self, InsertionError>
+        ensures ok { IfOk result (IsEmptyState F.is_default) }
+        ensures full { IsErrOf result OutOfIndexes ↔ ¬ AreFewEnough vertices undirected_edges faces }
+        ensures not_too_large { ¬ IsErrOf result TooLarge }
+        ensures nothing { vertices ≡ 0 → undirected_edges ≡ 0 → faces ≤ 1 → IsOk result }
+    {
+        let dcel = empty_mesh(alloc, vertices, undirected_edges, faces)?;
+        dcel.recall_invariant();
+        Ok(TriangulationCore {
+            dcel,
+            work: Vec::new(alloc),
+            sides: Vec::new(alloc),
+            hint_generator: L::new(alloc),
+            marks: PhantomData,
+        })
+    }
+}
+
+impl<
+    V: HasPosition + Clone + Drop,
+    DE: Clone + Drop,
+    UE: Clone + Drop,
+    F: Clone + Drop,
+    L: HintGenerator<V::Scalar>,
+    M: EdgeData<UE>,
+> TriangulationCore<V, DE, UE, F, L, M> {
+    /// A copy with clones of all data, where a clone of a vertex has its position and one of an edge's data its mark.
+    pub fn try_clone(&self) -> Result<Self, AllocError>
+        requires places { (v w : V) → V.is_clone v w → V.place w ≡ V.place v }
+        requires marks { (d e : UE) → UE.is_clone d e → M.marks e ≡ M.marks d }
+        ensures { IfOk result (IsCopy V.is_clone DE.is_clone UE.is_clone F.is_clone self.now) }
+    {
+        let alloc = *self.work.allocator();
+        let dcel = self.dcel.clone()?;
+        dcel.recall_invariant();
+        Ok(TriangulationCore {
+            dcel,
+            work: Vec::new(alloc),
+            sides: Vec::new(alloc),
+            hint_generator: L::new(alloc),
+            marks: PhantomData,
+        })
+    }
+}
