@@ -1,0 +1,34 @@
+use Rattle.std.proofs.Common.{[], length, ◌<◌, map, sym, subst, ap, ◌∙◌, arith}
+use Rattle.std.proofs.lemmas.List.{length-map}
+use Rattle.plane.specs.Fraction.{whole}
+use Rattle.plane.specs.Delaunay.{IsConstrainedDelaunay}
+use Rattle.plane.specs.Shape.{IsNearest}
+use Rattle.delaunay_core.specs.Place.{place_of}
+use Rattle.delaunay_edit.specs.Headline.{AreSites}
+use Rattle.delaunay_legalization.specs.Shape.{IsTriangulated}
+use Rattle.delaunay_legalization.specs.State.{state_of, triangulation_of}
+use Rattle.delaunay_interface.proofs.Held.{held_are_sites}
+use Rattle.delaunay_interface.proofs.nearest_vertex.DelaunayTriangulation+V+DE+UE+F+L.nearest_neighbor.Goals as goal
+
+pub get_hint-hint-requires-clause-held : goal.get_hint-hint-requires-clause-held
+get_hint-hint-requires-clause-held g c =
+    let sites = subst (λ s. AreSites g.V.HasPosition.place (g.P.PlaneTests.sites c.args.tests.now) s.vertices) (sym c.self.view_is) c.requires.sites in
+    held_are_sites _ _ _ c.self.invariant (sites c.recall_invariant.ensures.in_range)
+
+pub nearest_by_neighbors-nearest-requires-clause-kept : goal.nearest_by_neighbors-nearest-requires-clause-kept
+nearest_by_neighbors-nearest-requires-clause-kept g c = subst (IsTriangulated g.V.HasPosition.place) (sym c.mesh-mesh.ensures) c.recall_invariant.ensures.kept
+
+pub nearest_by_neighbors-nearest-requires-clause-delaunay : goal.nearest_by_neighbors-nearest-requires-clause-delaunay
+nearest_by_neighbors-nearest-requires-clause-delaunay g c = subst (λ s. IsConstrainedDelaunay (triangulation_of g.V.HasPosition.place s) []) (sym c.mesh-mesh.ensures) c.recall_invariant.ensures.headline.delaunay
+
+pub nearest_by_neighbors-nearest-requires-clause-in_range : goal.nearest_by_neighbors-nearest-requires-clause-in_range
+nearest_by_neighbors-nearest-requires-clause-in_range g c = g.met.P.PlaneTests.covered_are_in_range c.args.tests.now (place_of g.V.Scalar.SpadeNum.whole c.args.point) c.requires.covered
+
+pub vertex-requires : goal.vertex-requires
+vertex-requires g c =
+    let b = c.nearest_by_neighbors-nearest.ensures.nearest.is_vertex in
+    omega (arith, b, length-map c.mesh-mesh.result.now.vertices g.V.HasPosition.place)
+
+pub returns : goal.returns
+returns g c =
+    rw c.vertex.ensures.index (ap (λ m. state_of m.now) c.vertex.ensures.dcel ∙ c.mesh-mesh.ensures ∙ c.self.view_is, subst (λ s. IsNearest (triangulation_of g.V.HasPosition.place s) (whole (place_of g.V.Scalar.SpadeNum.whole c.args.point)) c.nearest_by_neighbors-nearest.result) (c.mesh-mesh.ensures ∙ c.self.view_is) c.nearest_by_neighbors-nearest.ensures.nearest)

@@ -1,0 +1,82 @@
+//! Calls of a triangulation with constraints alone.
+ghost use Rattle.std.specs.Prelude.{◌≡◌, ◌↔◌, ◌*◌, ◌<◌, length, Contains, IsTrue, IfErr, IfOk};
+ghost use Rattle.half_edge_mesh.specs.Mesh.{origin, rev};
+ghost use Rattle.plane.specs.Pairs.{Joins};
+ghost use Rattle.plane.specs.Plain.{Unconstrains};
+ghost use Rattle.delaunay_legalization.specs.State.{points_and_constraints};
+ghost use Rattle.delaunay_edit.specs.Constrained.{IsFree, constrained, constraint_edges, constraints_of};
+ghost use Rattle.delaunay_edit.specs.Data.{HasOtherEdgeData};
+ghost use Rattle.delaunay_edit.specs.Headline.{IsDelaunay};
+
+use crate::triangulation_core::{
+    ConstrainedDelaunayTriangulation, DelaunayTriangulation, TriangulationCore,
+};
+use delaunay_core::HintGenerator;
+use delaunay_core::point::HasPosition;
+use delaunay_edit::ConstrainedDelaunayTriangulation as EditedMesh;
+use half_edge_mesh::{FixedUndirectedEdgeHandle, FixedVertexHandle};
+
+impl<V: HasPosition, DE, UE, F, L: HintGenerator<V::Scalar>> ConstrainedDelaunayTriangulation<
+    V,
+    DE,
+    UE,
+    F,
+    L,
+> {
+    /// Whether an edge is a constraint.
+    pub fn is_constraint_edge(&self, edge: FixedUndirectedEdgeHandle) -> bool
+        requires { edge < length self.now.undirected }
+        ensures marked { IsTrue result ↔ Contains (constraint_edges self.now.undirected) edge }
+        ensures joined { let m = self.now.mesh in
+            IsTrue result ↔ Joins (constraints_of self.now) (origin m (2 * edge)) (origin m (rev (2 * edge))) }
+    {
+        self.edited.is_constraint_edge(edge)
+    }
+
+    /// How many edges are constraints, by a look at all edges.
+    pub fn num_constraints(&self) -> usize
+        ensures { result ≡ length (constraints_of self.now) }
+    {
+        self.edited.num_constraints()
+    }
+
+    /// Whether a constraint joins two vertices, in either order, by a look at all edges.
+    pub fn exists_constraint(&self, from: FixedVertexHandle, to: FixedVertexHandle) -> bool
+        ensures { IsTrue result ↔ Joins (constraints_of self.now) from to }
+    {
+        self.edited.exists_constraint(from, to)
+    }
+
+    /// The vertices, edges and faces of a triangulation without constraints, under the same
+    /// handles, with its hint generator and no constraint. Where memory was refused, it gives the
+    /// triangulation back as it was.
+    pub fn from_delaunay(
+        plain: DelaunayTriangulation<V, DE, UE, F, L>,
+    ) -> Result<Self, DelaunayTriangulation<V, DE, UE, F, L>>
+    where
+        UE: Drop,
+        ensures ok { IfOk result (HasOtherEdgeData IsFree plain) }
+        ensures plain { IfOk result
+            (λ c. Unconstrains V.place (points_and_constraints plain) (constrained c)) }
+        ensures headline { IfOk result (IsDelaunay V.place constraint_edges) }
+        ensures err { IfErr result (λ d. d ≡ plain) }
+    {
+        let TriangulationCore {
+            edited,
+            hint_generator,
+            alloc,
+        } = plain;
+        match EditedMesh::from_delaunay(edited) {
+            Ok(edited) => Ok(TriangulationCore {
+                edited,
+                hint_generator,
+                alloc,
+            }),
+            Err(edited) => Err(TriangulationCore {
+                edited,
+                hint_generator,
+                alloc,
+            }),
+        }
+    }
+}

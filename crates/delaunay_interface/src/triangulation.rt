@@ -1,0 +1,716 @@
+//! The calls of both triangulation types.
+ghost use Rattle.std.specs.Prelude.{◌≡◌, ℕ, ◌+◌, ◌*◌, ◌<◌, ◌≤◌, ◌↔◌, [], ◌∷◌, length, map, Some, IsTrue, IsOk, IsErrOf, IfOk, MatchOption, slice_get, slice_set};
+ghost use Rattle.std.specs.Borrow.{Lends, sem};
+ghost use Rattle.half_edge_mesh.specs.Mesh.{empty};
+ghost use Rattle.half_edge_mesh.specs.Room.{AreFewEnough};
+ghost use Rattle.plane.specs.Plain.{IsCleared, Replaces};
+ghost use Rattle.plane.specs.Tests.{InRange};
+ghost use Rattle.delaunay_core.specs.declared.math.InsertionError.TheVariants.{TooLarge, OutOfIndexes};
+ghost use Rattle.delaunay_legalization.specs.Constraints.{points_and_constraints_by};
+ghost use Rattle.delaunay_edit.specs.Storage.{IsEmptyState};
+ghost use Rattle.delaunay_edit.specs.Writing.{with_directed_data, with_undirected_data, with_face_data};
+ghost use Rattle.std.specs.List.{range_with_len};
+ghost use Rattle.half_edge_mesh.specs.Left.{vertices_left, directed_edges_left, undirected_edges_left, faces_left};
+ghost use Rattle.half_edge_mesh.specs.Rounds.{hull_left};
+ghost use Rattle.plane.specs.Hint.{IsAtMostOf};
+ghost use Rattle.delaunay_core.specs.Place.{place_of};
+ghost use Rattle.delaunay_legalization.specs.Known.{IsKnown, point_at};
+ghost use Rattle.delaunay_legalization.specs.State.{State, state_of, triangulation_of};
+ghost use Rattle.delaunay_edit.specs.Edits.{InsertsVertex};
+ghost use Rattle.delaunay_edit.specs.Elements.{FindsLocation, GivesElements, IsVertexAt};
+ghost use Rattle.delaunay_edit.specs.Headline.{AreSites, IsDelaunay, IsWellFormed};
+ghost use Rattle.delaunay_edit.specs.Hull.{CountsHullEdges};
+ghost use Rattle.delaunay_interface.specs.Views.{AreNotJoined, AreOnLine, GivesOutline, IsEdgeBetween, IsElement, corners_at, ends_at};
+
+use crate::lookups::vertex_near;
+use crate::triangulation_core::TriangulationCore;
+use delaunay_core::HintGenerator;
+use delaunay_core::math::{InsertionError, PlaneTests};
+use delaunay_core::point::{HasPosition, Point2};
+use delaunay_edit::{EdgeData, TriangulationCore as EditedMesh, WriteData};
+use delaunay_insertion::FreeByDefault;
+use delaunay_location::{PositionInTriangulation, locate_with_hint};
+use half_edge_mesh::{
+    Dcel, DirectedEdgeHandle, DirectedEdgeIterator, DirectedVoronoiEdgeIterator, FaceHandle,
+    FaceIterator, FixedDirectedEdgeHandle, FixedDirectedEdgeIterator, FixedFaceHandle,
+    FixedFaceIterator, FixedUndirectedEdgeHandle, FixedUndirectedEdgeIterator, FixedVertexHandle,
+    FixedVertexIterator, HullIterator, MeshViews, UndirectedEdgeHandle, UndirectedEdgeIterator,
+    UndirectedVoronoiEdgeIterator, VertexHandle, VertexIterator, VoronoiFaceIterator, VoronoiViews,
+};
+use std::alloc::Global;
+
+mod sealed {
+    pub trait Sealed {}
+}
+
+impl<V: HasPosition, DE, UE, F, L: HintGenerator<V::Scalar>, M: EdgeData<UE>> sealed::Sealed
+    for TriangulationCore<V, DE, UE, F, L, M> {}
+
+/// What `DelaunayTriangulation` and `ConstrainedDelaunayTriangulation` have in common. No other
+/// type has it.
+pub trait Triangulation: Drop + sealed::Sealed {
+    type Vertex: HasPosition + Drop;
+
+    type DirectedEdge: Default + Drop;
+
+    type UndirectedEdge: Default + Drop;
+
+    /// The user's part of the data of an edge.
+    type UndirectedUserData;
+
+    type Face: Default + Drop;
+
+    type HintGenerator: HintGenerator<<Self::Vertex as HasPosition>::Scalar>;
+
+    /// Which edges are constraints.
+    type Constraints: EdgeData<Self::UndirectedEdge, User = Self::UndirectedUserData>;
+
+    ghost state: { Self → State Self.Vertex Self.DirectedEdge Self.UndirectedEdge Self.Face };
+
+    // The mesh, for the bodies below.
+    fn s(&self) -> &Dcel<Self::Vertex, Self::DirectedEdge, Self::UndirectedEdge, Self::Face>
+        ensures { state_of result.now ≡ state self.now };
+
+    // The generator that is asked where searches begin.
+    fn hint_generator(&self) -> &Self::HintGenerator
+        ensures { IsAtMostOf (Self.HintGenerator.holds result.now)
+            (map Self.Vertex.place (state self.now).vertices) };
+
+    /// Gives a proof what holds of each triangulation between edits. It does nothing when it runs.
+    fn recall_invariant(&self)
+        ensures { IsWellFormed Self.Vertex.place Self.Constraints.constraints (state self.now) };
+
+    // What it ends as, with other data of a directed edge, of the user's of an edge, or of a face.
+    ghost with_directed: { Self → ℕ → Self.DirectedEdge → Self };
+
+    ghost with_user: { Self → ℕ → Self.UndirectedUserData → Self };
+
+    ghost with_face: { Self → ℕ → Self.Face → Self };
+
+    /// No vertex, no edge, and the outer face with default data.
+    fn new(alloc: Global) -> Self
+        ensures empty { IsEmptyState Self.Face.is_default (state result) }
+        ensures headline { IsDelaunay Self.Vertex.place Self.Constraints.constraints
+            (state result) };
+
+    /// No vertex and no edge, with room for these totals, the outer face among them. It gives
+    /// `OutOfIndexes` where a total passes `MAX_ELEMENTS`, with edges counted twice, and else
+    /// `OutOfMemory` where memory was refused.
+    fn with_capacity(
+        alloc: Global,
+        vertices: usize,
+        undirected_edges: usize,
+        faces: usize,
+    ) -> Result<Self, InsertionError>
+        ensures ok { IfOk result (λ t. IsEmptyState Self.Face.is_default (state t)) }
+        ensures full { IsErrOf result OutOfIndexes ↔ ¬ AreFewEnough vertices undirected_edges
+            faces }
+        ensures not_too_large { ¬ IsErrOf result TooLarge }
+        ensures nothing { vertices ≡ 0 → undirected_edges ≡ 0 → faces ≤ 1 → IsOk result };
+
+    /// Inserts a vertex and gives its handle. The first of these that applies decides: `TooLarge`
+    /// where a coordinate is out of range; the handle of the vertex at its position, which it
+    /// replaces; `OutOfIndexes` where the mesh is full; `OutOfMemory` where memory was refused;
+    /// else the handle of the new last vertex, of which the hint generator is told. A constraint
+    /// that the new vertex is strictly within becomes two, and no other edge becomes one. A refused
+    /// vertex is dropped, and nothing else changes.
+    fn insert<P: PlaneTests<<Self::Vertex as HasPosition>::Scalar>>(
+        &mut self,
+        value: Self::Vertex,
+        tests: &P,
+    ) -> Result<FixedVertexHandle, InsertionError>
+        requires sites { AreSites Self.Vertex.place (P.sites tests.now) (state self.old).vertices }
+        requires new_site { InRange (Self.Vertex.place value) → P.sites tests.now
+            (Self.Vertex.place value) }
+        ensures inserts { InsertsVertex Self.Vertex.place Self.Constraints.constraints value
+            result (state self.old) (state self.new) }
+        ensures headline { IsDelaunay Self.Vertex.place Self.Constraints.constraints
+            (state self.new) };
+
+    /// Does what `insert` does, by a search from the vertex `hint`; a handle of no vertex counts as
+    /// the first.
+    fn insert_with_hint<P: PlaneTests<<Self::Vertex as HasPosition>::Scalar>>(
+        &mut self,
+        value: Self::Vertex,
+        hint: FixedVertexHandle,
+        tests: &P,
+    ) -> Result<FixedVertexHandle, InsertionError>
+        requires sites { AreSites Self.Vertex.place (P.sites tests.now) (state self.old).vertices }
+        requires new_site { InRange (Self.Vertex.place value) → P.sites tests.now
+            (Self.Vertex.place value) }
+        ensures inserts { InsertsVertex Self.Vertex.place Self.Constraints.constraints value
+            result (state self.old) (state self.new) }
+        ensures headline { IsDelaunay Self.Vertex.place Self.Constraints.constraints
+            (state self.new) };
+
+    /// Forgets each vertex, each edge with its constraint, and each inner face. The outer face
+    /// keeps its data, memory that was taken is kept for later insertions, and the hint generator
+    /// is a new one. It is never refused.
+    fn clear(&mut self)
+        ensures new { state self.new ≡ record (state self.old)
+            { vertices = []; mesh = empty; directed = []; undirected = []; faces = [] } }
+        ensures plain { IsCleared Self.Vertex.place
+            (points_and_constraints_by Self.Constraints.constraints (state self.new)) }
+        ensures headline { IsDelaunay Self.Vertex.place Self.Constraints.constraints
+            (state self.new) };
+
+    /// Exchanges a vertex for one of the same position, and gives the old one back.
+    fn replace_vertex(&mut self, vertex: FixedVertexHandle, value: Self::Vertex) -> Self::Vertex
+        requires within { vertex < length (state self.old).vertices }
+        requires same { point_at (map Self.Vertex.place (state self.old).vertices) vertex ≡
+            Self.Vertex.place value }
+        ensures value { slice_get (state self.old).vertices vertex ≡ Some result }
+        ensures new { state self.new ≡ record (state self.old)
+            { vertices = slice_set (state self.old).vertices vertex value } }
+        ensures plain { Replaces Self.Vertex.place
+            (points_and_constraints_by Self.Constraints.constraints (state self.old))
+            (points_and_constraints_by Self.Constraints.constraints (state self.new)) vertex value }
+        ensures headline { IsDelaunay Self.Vertex.place Self.Constraints.constraints
+            (state self.new) };
+
+    /// The data of a directed edge, for writing.
+    fn directed_edge_data_mut(&mut self, edge: FixedDirectedEdgeHandle) -> &mut Self::DirectedEdge
+        requires { edge < length (state self.old).directed }
+        ensures* writes_back { sem 𝓛
+            (Lends Self.row Self.DirectedEdge.row self.entry result
+            (with_directed self.entry.now edge)) }
+        ensures value { slice_get (state self.old).directed edge ≡ Some result.now };
+
+    /// The user's part of the data of an edge, for writing. Whether the edge is a constraint cannot
+    /// be written.
+    fn undirected_edge_data_mut(
+        &mut self,
+        edge: FixedUndirectedEdgeHandle,
+    ) -> &mut Self::UndirectedUserData
+        requires { edge < length (state self.old).undirected }
+        ensures* writes_back { sem 𝓛
+            (Lends Self.row Self.UndirectedUserData.row self.entry result
+            (with_user self.entry.now edge)) };
+
+    /// The data of a face, the outer one among them, for writing.
+    fn face_data_mut(&mut self, face: FixedFaceHandle) -> &mut Self::Face
+        requires { face ≤ length (state self.old).faces }
+        ensures* writes_back { sem 𝓛
+            (Lends Self.row Self.Face.row self.entry result (with_face self.entry.now face)) }
+        ensures value { slice_get ((state self.old).outer ∷ (state self.old).faces) face ≡ Some
+            result.now };
+
+    final fn num_vertices(&self) -> usize
+        ensures { result ≡ length (state self.now).vertices }
+    {
+        self.s().num_vertices()
+    }
+
+    final fn num_undirected_edges(&self) -> usize
+        ensures value { result ≡ length
+            (triangulation_of Self.Vertex.place (state self.now)).edges }
+        ensures values { result ≡ length (state self.now).undirected }
+    {
+        self.recall_invariant();
+        self.s().num_undirected_edges()
+    }
+
+    /// Each undirected edge has two directions.
+    final fn num_directed_edges(&self) -> usize
+        ensures value { result ≡ 2 * length
+            (triangulation_of Self.Vertex.place (state self.now)).edges }
+        ensures values { result ≡ length (state self.now).directed }
+    {
+        self.recall_invariant();
+        self.s().num_directed_edges()
+    }
+
+    /// How many faces there are beside the outer one.
+    final fn num_inner_faces(&self) -> usize
+        ensures value { result ≡ length
+            (triangulation_of Self.Vertex.place (state self.now)).faces }
+        ensures values { result ≡ length (state self.now).faces }
+    {
+        self.recall_invariant();
+        self.s().num_inner_faces()
+    }
+
+    /// How many faces there are, the outer one among them.
+    final fn num_all_faces(&self) -> usize
+        ensures value { result ≡ length
+            (triangulation_of Self.Vertex.place (state self.now)).faces + 1 }
+        ensures values { result ≡ length (state self.now).faces + 1 }
+    {
+        self.recall_invariant();
+        self.s().num_faces()
+    }
+
+    /// How many directed edges have the outer face on their left. On one line each edge counts in
+    /// both directions.
+    final fn convex_hull_size(&self) -> usize
+        ensures { CountsHullEdges Self.Vertex.place (state self.now) result }
+    {
+        self.recall_invariant();
+        self.num_directed_edges() - 3 * self.num_inner_faces()
+    }
+
+    /// Whether all vertices are on one line, as those of an empty triangulation are.
+    final fn all_vertices_on_line(&self) -> bool
+        ensures { IsTrue result ↔ AreOnLine (triangulation_of Self.Vertex.place (state self.now)) }
+    {
+        self.recall_invariant();
+        self.num_inner_faces() == 0
+    }
+
+    final fn vertex(
+        &self,
+        vertex: FixedVertexHandle,
+    ) -> VertexHandle<'_, Self::Vertex, Self::DirectedEdge, Self::UndirectedEdge, Self::Face>
+        requires { vertex < length (state self.now).vertices }
+        ensures state { state_of result.dcel.now ≡ state self.now }
+        ensures index { result.index ≡ vertex }
+    {
+        self.s().vertex(vertex)
+    }
+
+    /// The vertex with this handle, if there is one.
+    final fn get_vertex(
+        &self,
+        vertex: FixedVertexHandle,
+    ) -> Option<
+        VertexHandle<'_, Self::Vertex, Self::DirectedEdge, Self::UndirectedEdge, Self::Face>,
+    >
+        ensures { MatchOption result (length (state self.now).vertices ≤ vertex)
+            (λ v. IsElement (state self.now) vertex v.dcel.now v.index) }
+    {
+        self.s().get_vertex(vertex)
+    }
+
+    final fn directed_edge(
+        &self,
+        edge: FixedDirectedEdgeHandle,
+    ) -> DirectedEdgeHandle<'_, Self::Vertex, Self::DirectedEdge, Self::UndirectedEdge, Self::Face>
+        requires { edge < length (state self.now).directed }
+        ensures state { state_of result.dcel.now ≡ state self.now }
+        ensures index { result.index ≡ edge }
+    {
+        self.s().directed_edge(edge)
+    }
+
+    final fn undirected_edge(
+        &self,
+        edge: FixedUndirectedEdgeHandle,
+    ) -> UndirectedEdgeHandle<
+        '_,
+        Self::Vertex,
+        Self::DirectedEdge,
+        Self::UndirectedEdge,
+        Self::Face,
+    >
+        requires { edge < length (state self.now).undirected }
+        ensures state { state_of result.dcel.now ≡ state self.now }
+        ensures index { result.index ≡ edge }
+    {
+        self.s().undirected_edge(edge)
+    }
+
+    /// The edge from one vertex to another, if they are joined.
+    final fn get_edge_from_neighbors(
+        &self,
+        from: FixedVertexHandle,
+        to: FixedVertexHandle,
+    ) -> Option<
+        DirectedEdgeHandle<'_, Self::Vertex, Self::DirectedEdge, Self::UndirectedEdge, Self::Face>,
+    >
+        requires { from < length (state self.now).vertices }
+        ensures { MatchOption result (AreNotJoined (state self.now) from to)
+            (λ e. IsEdgeBetween (state self.now) from to e.dcel.now e.index) }
+    {
+        self.s().get_edge_from_neighbors(from, to)
+    }
+
+    final fn face(
+        &self,
+        face: FixedFaceHandle,
+    ) -> FaceHandle<'_, Self::Vertex, Self::DirectedEdge, Self::UndirectedEdge, Self::Face>
+        requires { face ≤ length (state self.now).faces }
+        ensures state { state_of result.dcel.now ≡ state self.now }
+        ensures index { result.index ≡ face }
+    {
+        self.s().face(face)
+    }
+
+    final fn outer_face(
+        &self,
+    ) -> FaceHandle<'_, Self::Vertex, Self::DirectedEdge, Self::UndirectedEdge, Self::Face>
+        ensures state { state_of result.dcel.now ≡ state self.now }
+        ensures index { result.index ≡ 0 }
+    {
+        self.s().outer_face()
+    }
+
+    /// The position of a vertex of this triangulation.
+    final fn vertex_position(
+        &self,
+        vertex: VertexHandle<
+            '_,
+            Self::Vertex,
+            Self::DirectedEdge,
+            Self::UndirectedEdge,
+            Self::Face,
+        >,
+    ) -> Point2<<Self::Vertex as HasPosition>::Scalar>
+        requires { state_of vertex.dcel.now ≡ state self.now }
+        ensures { place_of Self.Vertex.Scalar.whole result ≡ point_at
+            (map Self.Vertex.place (state self.now).vertices) vertex.entry.index }
+    {
+        vertex.data().position()
+    }
+
+    /// The positions of the ends of an edge of this triangulation, in its direction.
+    final fn edge_positions(
+        &self,
+        edge: DirectedEdgeHandle<
+            '_,
+            Self::Vertex,
+            Self::DirectedEdge,
+            Self::UndirectedEdge,
+            Self::Face,
+        >,
+    ) -> [Point2<<Self::Vertex as HasPosition>::Scalar>; 2]
+        requires { state_of edge.dcel.now ≡ state self.now }
+        ensures { map (place_of Self.Vertex.Scalar.whole) result ≡ ends_at Self.Vertex.place
+            (state self.now) edge.entry.index }
+    {
+        [
+            self.vertex_position(edge.from()),
+            self.vertex_position(edge.to()),
+        ]
+    }
+
+    /// The positions of the corners of an inner face of this triangulation, counterclockwise.
+    final fn face_positions(
+        &self,
+        face: FaceHandle<'_, Self::Vertex, Self::DirectedEdge, Self::UndirectedEdge, Self::Face>,
+    ) -> [Point2<<Self::Vertex as HasPosition>::Scalar>; 3]
+        requires mesh { state_of face.dcel.now ≡ state self.now }
+        requires inner { 0 < face.index }
+        ensures { map (place_of Self.Vertex.Scalar.whole) result ≡ corners_at Self.Vertex.place
+            (state self.now) face.entry.index }
+    {
+        let edge = face.adjacent_edge();
+        [
+            self.vertex_position(edge.from()),
+            self.vertex_position(edge.to()),
+            self.vertex_position(edge.prev().from()),
+        ]
+    }
+
+    /// The vertices, by rising index.
+    final fn vertices(
+        &self,
+    ) -> VertexIterator<'_, Self::Vertex, Self::DirectedEdge, Self::UndirectedEdge, Self::Face>
+        ensures { GivesElements (state self.now) 0 (length (state self.now).vertices)
+            (vertices_left result) }
+    {
+        self.s().vertices()
+    }
+
+    /// The directed edges, by rising index.
+    final fn directed_edges(
+        &self,
+    ) -> DirectedEdgeIterator<
+        '_,
+        Self::Vertex,
+        Self::DirectedEdge,
+        Self::UndirectedEdge,
+        Self::Face,
+    >
+        ensures { GivesElements (state self.now) 0 (length (state self.now).directed)
+            (directed_edges_left result) }
+    {
+        self.s().directed_edges()
+    }
+
+    /// The undirected edges, by rising index.
+    final fn undirected_edges(
+        &self,
+    ) -> UndirectedEdgeIterator<
+        '_,
+        Self::Vertex,
+        Self::DirectedEdge,
+        Self::UndirectedEdge,
+        Self::Face,
+    >
+        ensures { GivesElements (state self.now) 0 (length (state self.now).undirected)
+            (undirected_edges_left result) }
+    {
+        self.s().undirected_edges()
+    }
+
+    /// The faces, by rising index, the outer one first.
+    final fn all_faces(
+        &self,
+    ) -> FaceIterator<'_, Self::Vertex, Self::DirectedEdge, Self::UndirectedEdge, Self::Face>
+        ensures { GivesElements (state self.now) 0 (length (state self.now).faces + 1)
+            (faces_left result) }
+    {
+        self.s().faces()
+    }
+
+    /// The faces but the outer one, by rising index.
+    final fn inner_faces(
+        &self,
+    ) -> FaceIterator<'_, Self::Vertex, Self::DirectedEdge, Self::UndirectedEdge, Self::Face>
+        ensures { GivesElements (state self.now) 1 (length (state self.now).faces)
+            (faces_left result) }
+    {
+        self.s().inner_faces()
+    }
+
+    /// The handles of the vertices, by rising index.
+    final fn fixed_vertices(&self) -> FixedVertexIterator
+        ensures { result ≡ range_with_len 0 (length (state self.now).vertices) }
+    {
+        self.s().fixed_vertices()
+    }
+
+    /// The handles of the directed edges, by rising index.
+    final fn fixed_directed_edges(&self) -> FixedDirectedEdgeIterator
+        ensures { result ≡ range_with_len 0 (length (state self.now).directed) }
+    {
+        self.s().fixed_directed_edges()
+    }
+
+    /// The handles of the undirected edges, by rising index.
+    final fn fixed_undirected_edges(&self) -> FixedUndirectedEdgeIterator
+        ensures { result ≡ range_with_len 0 (length (state self.now).undirected) }
+    {
+        self.s().fixed_undirected_edges()
+    }
+
+    /// The handles of the faces, by rising index, the outer one first.
+    final fn fixed_all_faces(&self) -> FixedFaceIterator
+        ensures { result ≡ range_with_len 0 (length (state self.now).faces + 1) }
+    {
+        self.s().fixed_faces()
+    }
+
+    /// The handles of the faces but the outer one, by rising index.
+    final fn fixed_inner_faces(&self) -> FixedFaceIterator
+        ensures { result ≡ range_with_len 1 (length (state self.now).faces) }
+    {
+        self.s().fixed_inner_faces()
+    }
+
+    /// The edges with the outer face on their left, clockwise round the hull.
+    final fn convex_hull(
+        &self,
+    ) -> HullIterator<'_, Self::Vertex, Self::DirectedEdge, Self::UndirectedEdge, Self::Face>
+        ensures { GivesOutline (state self.now) (hull_left result) }
+    {
+        self.s().convex_hull()
+    }
+
+    /// The faces of the Voronoi diagram, by rising index of their vertices.
+    final fn voronoi_faces(
+        &self,
+    ) -> VoronoiFaceIterator<'_, Self::Vertex, Self::DirectedEdge, Self::UndirectedEdge, Self::Face>
+        ensures { GivesElements (state self.now) 0 (length (state self.now).vertices)
+            (vertices_left result.vertices) }
+    {
+        self.s().voronoi_faces()
+    }
+
+    /// The directed edges of the Voronoi diagram, by rising index of the edges that they lie
+    /// across.
+    final fn directed_voronoi_edges(
+        &self,
+    ) -> DirectedVoronoiEdgeIterator<
+        '_,
+        Self::Vertex,
+        Self::DirectedEdge,
+        Self::UndirectedEdge,
+        Self::Face,
+    >
+        ensures { GivesElements (state self.now) 0 (length (state self.now).directed)
+            (directed_edges_left result.edges) }
+    {
+        self.s().directed_voronoi_edges()
+    }
+
+    /// The undirected edges of the Voronoi diagram, by rising index of the edges that they lie
+    /// across.
+    final fn undirected_voronoi_edges(
+        &self,
+    ) -> UndirectedVoronoiEdgeIterator<
+        '_,
+        Self::Vertex,
+        Self::DirectedEdge,
+        Self::UndirectedEdge,
+        Self::Face,
+    >
+        ensures { GivesElements (state self.now) 0 (length (state self.now).undirected)
+            (undirected_edges_left result.edges) }
+    {
+        self.s().undirected_voronoi_edges()
+    }
+
+    /// Where a position is that the tests cover: on a vertex, on an edge, in a face, outside, or,
+    /// without a triangulation, at no vertex. The search begins at the vertex `hint`; a handle of
+    /// no vertex counts as the first.
+    final fn locate_with_hint<P: PlaneTests<<Self::Vertex as HasPosition>::Scalar>>(
+        &self,
+        point: Point2<<Self::Vertex as HasPosition>::Scalar>,
+        hint: FixedVertexHandle,
+        tests: &P,
+    ) -> PositionInTriangulation
+        requires sites { AreSites Self.Vertex.place (P.sites tests.now) (state self.now).vertices }
+        requires covered { P.covered tests.now (place_of Self.Vertex.Scalar.whole point) }
+        ensures { FindsLocation Self.Vertex.place (state self.now)
+            (place_of Self.Vertex.Scalar.whole point) result }
+    {
+        self.recall_invariant();
+        let mesh = self.s();
+        let answer = locate_with_hint(mesh, point, hint, tests);
+        let vertex = vertex_near(mesh, &answer);
+        self.hint_generator().notify_vertex_lookup(vertex);
+        answer
+    }
+
+    /// Where a position is that the tests cover, as `locate_with_hint` says. The hint generator
+    /// says where the search begins.
+    final fn locate<P: PlaneTests<<Self::Vertex as HasPosition>::Scalar>>(
+        &self,
+        point: Point2<<Self::Vertex as HasPosition>::Scalar>,
+        tests: &P,
+    ) -> PositionInTriangulation
+        requires sites { AreSites Self.Vertex.place (P.sites tests.now) (state self.now).vertices }
+        requires covered { P.covered tests.now (place_of Self.Vertex.Scalar.whole point) }
+        ensures { FindsLocation Self.Vertex.place (state self.now)
+            (place_of Self.Vertex.Scalar.whole point) result }
+    {
+        self.recall_invariant();
+        let hint = self.hint_generator().get_hint(point, tests);
+        self.locate_with_hint(point, hint, tests)
+    }
+
+    /// The vertex at a position that the tests cover, if there is one.
+    final fn locate_vertex<P: PlaneTests<<Self::Vertex as HasPosition>::Scalar>>(
+        &self,
+        point: Point2<<Self::Vertex as HasPosition>::Scalar>,
+        tests: &P,
+    ) -> Option<
+        VertexHandle<'_, Self::Vertex, Self::DirectedEdge, Self::UndirectedEdge, Self::Face>,
+    >
+        requires sites { AreSites Self.Vertex.place (P.sites tests.now) (state self.now).vertices }
+        requires covered { P.covered tests.now (place_of Self.Vertex.Scalar.whole point) }
+        ensures { let p = place_of Self.Vertex.Scalar.whole point in
+            MatchOption result (¬ IsKnown (map Self.Vertex.place (state self.now).vertices) p)
+            (λ v. IsVertexAt Self.Vertex.place (state self.now) p v.dcel.now v.index) }
+    {
+        self.recall_invariant();
+        match self.locate(point, tests) {
+            PositionInTriangulation::OnVertex(vertex) => Some(self.vertex(vertex)),
+            _ => None,
+        }
+    }
+}
+
+impl<
+    V: HasPosition + Drop,
+    DE: Default + Drop,
+    UE: Default + Drop,
+    F: Default + Drop,
+    L: HintGenerator<V::Scalar>,
+    M: EdgeData<UE> + FreeByDefault<UE>,
+> Triangulation for TriangulationCore<V, DE, UE, F, L, M> {
+    type Vertex = V;
+
+    type DirectedEdge = DE;
+
+    type UndirectedEdge = UE;
+
+    type UndirectedUserData = M::User;
+
+    type Face = F;
+
+    type HintGenerator = L;
+
+    type Constraints = M;
+
+    ghost state = { λ t. t };
+
+    ghost with_directed = { with_directed_data };
+
+    ghost with_user = { λ s e w. with_undirected_data s (M.with_user s.undirected e w) };
+
+    ghost with_face = { with_face_data };
+
+    fn s(&self) -> &Dcel<V, DE, UE, F> {
+        self.edited.mesh()
+    }
+
+    fn hint_generator(&self) -> &L {
+        &self.hint_generator
+    }
+
+    fn recall_invariant(&self) {
+        self.edited.recall_invariant();
+    }
+
+    fn new(alloc: Global) -> Self {
+        TriangulationCore {
+            edited: EditedMesh::new(alloc),
+            hint_generator: L::new(alloc),
+            alloc,
+        }
+    }
+
+    fn with_capacity(
+        alloc: Global,
+        vertices: usize,
+        undirected_edges: usize,
+        faces: usize,
+    ) -> Result<Self, InsertionError> {
+        Ok(TriangulationCore {
+            edited: EditedMesh::with_capacity(alloc, vertices, undirected_edges, faces)?,
+            hint_generator: L::new(alloc),
+            alloc,
+        })
+    }
+
+    fn insert<P: PlaneTests<V::Scalar>>(
+        &mut self,
+        value: V,
+        tests: &P,
+    ) -> Result<FixedVertexHandle, InsertionError> {
+        let hint = self.hint_for(&value, tests);
+        self.insert_hinted(value, hint, tests)
+    }
+
+    fn insert_with_hint<P: PlaneTests<V::Scalar>>(
+        &mut self,
+        value: V,
+        hint: FixedVertexHandle,
+        tests: &P,
+    ) -> Result<FixedVertexHandle, InsertionError> {
+        self.insert_hinted(value, hint, tests)
+    }
+
+    fn clear(&mut self) {
+        self.edited.clear();
+        self.hint_generator = L::new(self.alloc);
+    }
+
+    fn replace_vertex(&mut self, vertex: FixedVertexHandle, value: V) -> V {
+        self.edited.replace_vertex(vertex, value)
+    }
+
+    fn directed_edge_data_mut(&mut self, edge: FixedDirectedEdgeHandle) -> &mut DE {
+        self.edited.directed_edge_data_mut(edge)
+    }
+
+    fn undirected_edge_data_mut(&mut self, edge: FixedUndirectedEdgeHandle) -> &mut M::User {
+        self.edited.undirected_edge_data_mut(edge)
+    }
+
+    fn face_data_mut(&mut self, face: FixedFaceHandle) -> &mut F {
+        self.edited.face_data_mut(face)
+    }
+}

@@ -1,0 +1,59 @@
+//! The struct that both triangulation types are.
+
+use delaunay_core::point::HasPosition;
+use delaunay_core::{HintGenerator, LastUsedVertexHintGenerator};
+use delaunay_edit::{EdgeData, TriangulationCore as EditedMesh};
+use delaunay_legalization::{CdtEdge, EdgeConstraints, NoConstraints};
+use std::alloc::Global;
+use std::marker::Model;
+
+/// A triangulation of vertices with different positions: its faces tile the hull of the positions,
+/// or its edges join the positions of one line to their neighbours. The constraints are the edges
+/// that the marker `M` finds by their data, and no face has a vertex strictly inside its circle
+/// that is seen from inside the face past the constraints. A hint generator is told of each vertex
+/// that comes and goes, and says where searches begin.
+#[derive(Drop)]
+pub struct TriangulationCore<
+    V: HasPosition,
+    DE,
+    UE,
+    F,
+    L: HintGenerator<V::Scalar>,
+    M: EdgeData<UE>,
+> {
+    pub(crate) edited: EditedMesh<V, DE, UE, F, LastUsedVertexHintGenerator, M>,
+    pub(crate) hint_generator: L,
+    pub(crate) alloc: Global,
+}
+
+impl<V: HasPosition, DE, UE, F, L: HintGenerator<V::Scalar>, M: EdgeData<UE>> Model
+    for TriangulationCore<V, DE, UE, F, L, M> {
+    ghost use Rattle.std.specs.Prelude.{map};
+    ghost use Rattle.plane.specs.Hint.{IsAtMostOf};
+    ghost use Rattle.delaunay_legalization.specs.State.{State};
+
+    ghost Value = { State V DE UE F };
+
+    ghost view = { λ c. c.edited };
+
+    // What the generator holds are positions of vertices.
+    ghost invariant = { λ c. IsAtMostOf (L.holds c.hint_generator) (map V.place c.edited.vertices) };
+}
+
+/// A triangulation of vertices with different positions. Its inner faces turn left and tile the
+/// hull of the positions, and none has a vertex strictly inside its circle; where the positions are
+/// on one line there is no inner face, and edges join the neighbours.
+pub type DelaunayTriangulation<V, DE = (), UE = (), F = (), L = LastUsedVertexHintGenerator> =
+    TriangulationCore<V, DE, UE, F, L, NoConstraints>;
+
+/// A triangulation of vertices with different positions, some of whose edges are constraints, which
+/// stay edges. Its inner faces turn left and tile the hull of the positions, and none has a vertex
+/// strictly inside its circle that is seen from inside the face past the constraints; where the
+/// positions are on one line there is no inner face, and edges join the neighbours.
+pub type ConstrainedDelaunayTriangulation<
+    V,
+    DE = (),
+    UE = (),
+    F = (),
+    L = LastUsedVertexHintGenerator,
+> = TriangulationCore<V, DE, CdtEdge<UE>, F, L, EdgeConstraints>;

@@ -1,0 +1,28 @@
+//! Calls of the shared interface, with hint generators of every kind. Each line of standard input names a test.
+#![tactic(auto)]
+
+mod data;
+mod generators;
+mod reads;
+mod searches;
+mod told;
+
+use generators::{Always1000, EachInTurn};
+use spade_delaunay::LastUsedVertexHintGenerator;
+
+fn main(rt: HostRuntime) -> anyhow::Result<()> {
+    for line in rt.lines(rt.alloc()) {
+        let name = line?;
+        println!(rt; "# {name}")?;
+        match name.as_str() {
+            "searches, last used" => searches::run::<LastUsedVertexHintGenerator>(&rt)?,
+            "searches, each in turn" => searches::run::<EachInTurn>(&rt)?,
+            "searches, always 1000" => searches::run::<Always1000>(&rt)?,
+            "told" => told::run(&rt)?,
+            "data" => data::run(&rt)?,
+            "reads" => reads::run(&rt)?,
+            _ => println!(rt; "no such test")?,
+        }
+    }
+    Ok(())
+}

@@ -1,0 +1,97 @@
+//! Each call that reads, of both types, in a square with its centre.
+
+use crate::searches::Hinted;
+use delaunay_interface::{ConstrainedDelaunayTriangulation, Triangulation};
+use exact_tests::ExactTests;
+use spade_delaunay::handles::FixedVertexHandle;
+use spade_delaunay::{LastUsedVertexHintGenerator, Point2, SpadeNum};
+
+type Points = Hinted<LastUsedVertexHintGenerator>;
+
+fn print_counts<T: Triangulation>(rt: &HostRuntime, points: &T) -> anyhow::Result<()> {
+    println!(rt;
+        "{} vertices, {} edges, {} directed, {} inner faces, {} faces, {} on the hull, on a line: {}",
+        points.num_vertices(),
+        points.num_undirected_edges(),
+        points.num_directed_edges(),
+        points.num_inner_faces(),
+        points.num_all_faces(),
+        points.convex_hull_size(),
+        points.all_vertices_on_line()
+    )?;
+    Ok(())
+}
+
+// How many items the iterators give: of handles, of names, and of the Voronoi diagram.
+fn print_lists<T: Triangulation>(rt: &HostRuntime, points: &T) -> anyhow::Result<()> {
+    let elements = [
+        points.vertices().count(),
+        points.directed_edges().count(),
+        points.undirected_edges().count(),
+        points.all_faces().count(),
+        points.inner_faces().count(),
+        points.convex_hull().count(),
+    ];
+    let names = [
+        points.fixed_vertices().count(),
+        points.fixed_directed_edges().count(),
+        points.fixed_undirected_edges().count(),
+        points.fixed_all_faces().count(),
+        points.fixed_inner_faces().count(),
+    ];
+    let voronoi = [
+        points.voronoi_faces().count(),
+        points.directed_voronoi_edges().count(),
+        points.undirected_voronoi_edges().count(),
+    ];
+    println!(rt; "{elements:?} {names:?} {voronoi:?}")?;
+    Ok(())
+}
+
+fn coordinates<S: SpadeNum>(point: Point2<S>) -> (i64, i64) {
+    (point.x.to_i64(), point.y.to_i64())
+}
+
+fn print_positions<T: Triangulation>(rt: &HostRuntime, points: &T) -> anyhow::Result<()> {
+    for vertex in points.fixed_vertices() {
+        if let Some(vertex) = points.get_vertex(vertex) {
+            println!(rt;
+                "vertex at {:?}",
+                coordinates(points.vertex_position(vertex))
+            )?;
+        }
+    }
+    Ok(())
+}
+
+fn print_all<T: Triangulation>(rt: &HostRuntime, points: &T) -> anyhow::Result<()> {
+    print_counts(rt, points)?;
+    print_lists(rt, points)?;
+    print_positions(rt, points)?;
+    let none = points
+        .get_vertex(FixedVertexHandle::from_index(1000))
+        .is_none();
+    println!(rt;
+        "no vertex 1000: {none}, outer face: {}",
+        points.outer_face().is_outer()
+    )?;
+    Ok(())
+}
+
+pub fn run(rt: &HostRuntime) -> anyhow::Result<()> {
+    let mut points = Points::new(rt.alloc());
+    print_all(rt, &points)?;
+    for (x, y) in [(-1, -1), (1, -1), (1, 1), (-1, 1), (0, 0)] {
+        points.insert(Point2::new(x, y), &ExactTests)?;
+    }
+    print_all(rt, &points)?;
+    let Ok(constrained) = ConstrainedDelaunayTriangulation::from_delaunay(points) else {
+        return Ok(());
+    };
+    print_all(rt, &constrained)?;
+    match Points::with_capacity(rt.alloc(), 0, 2147483648, 0) {
+        Ok(_) => println!(rt; "room")?,
+        Err(error) => println!(rt; "refused: {error}")?,
+    }
+    Ok(())
+}

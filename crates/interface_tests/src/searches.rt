@@ -1,0 +1,78 @@
+//! Where points of three rows of three are, and which vertex is nearest, as a triangulation grows.
+use delaunay_interface::{DelaunayTriangulation, Triangulation};
+use exact_tests::ExactTests;
+use spade_delaunay::{HintGenerator, Point2, PositionInTriangulation, validate_vertex};
+
+/// A triangulation with data, and with hints of this type.
+pub type Hinted<L> = DelaunayTriangulation<Point2<i64>, u32, u32, u32, L>;
+
+const POINTS: [(i64, i64); 9] = [
+    (-1, -1),
+    (1, -1),
+    (0, 1),
+    (0, 0),
+    (1, 1),
+    (-1, 1),
+    (0, -1),
+    (1, 0),
+    (-1, 0),
+];
+
+// The kind of an answer.
+fn kind_of(answer: PositionInTriangulation) -> &'static str {
+    match answer {
+        PositionInTriangulation::OnVertex(_) => "vertex",
+        PositionInTriangulation::OnEdge(_) => "edge",
+        PositionInTriangulation::OnFace(_) => "face",
+        PositionInTriangulation::OutsideOfConvexHull(_) => "outside",
+        PositionInTriangulation::NoTriangulation => "nowhere",
+    }
+}
+
+// The squared distance to the nearest vertex.
+fn distance<L: HintGenerator<i64>>(points: &Hinted<L>, point: Point2<i64>) -> Option<i64> {
+    if validate_vertex(&point).is_err() {
+        return None;
+    }
+    let nearest = points.nearest_neighbor(point, &ExactTests)?;
+    points.recall_invariant();
+    Some(nearest.data().distance_2(point))
+}
+
+fn print_answers<L: HintGenerator<i64>>(
+    rt: &HostRuntime,
+    points: &Hinted<L>,
+) -> anyhow::Result<()> {
+    for (x, y) in POINTS {
+        let point = Point2::new(x, y);
+        if validate_vertex(&point).is_ok() {
+            let kind = kind_of(points.locate(point, &ExactTests));
+            match points.locate_vertex(point, &ExactTests) {
+                Some(vertex) => println!(rt; "{x} {y}: {kind} {}", vertex.fix().index())?,
+                None => println!(rt; "{x} {y}: {kind}")?,
+            }
+            match distance(points, point) {
+                Some(distance) => println!(rt; "distance {distance}")?,
+                None => println!(rt; "no distance")?,
+            }
+        }
+    }
+    Ok(())
+}
+
+pub fn run<L: HintGenerator<i64>>(rt: &HostRuntime) -> anyhow::Result<()> {
+    let mut points: Hinted<L> = Hinted::new(rt.alloc());
+    print_answers(rt, &points)?;
+    for (x, y) in POINTS {
+        points.insert(Point2::new(x, y), &ExactTests)?;
+        print_answers(rt, &points)?;
+    }
+    println!(rt;
+        "{} vertices, {} edges, {} faces, {} on the hull",
+        points.num_vertices(),
+        points.num_undirected_edges(),
+        points.num_inner_faces(),
+        points.convex_hull_size()
+    )?;
+    Ok(())
+}

@@ -1,0 +1,39 @@
+//! What a generator is told of insertions, an overwrite and a removal, and how often it is asked.
+
+use crate::generators::{Listing, Told};
+use crate::searches::Hinted;
+use delaunay_interface::Triangulation;
+use exact_tests::ExactTests;
+use spade_delaunay::Point2;
+use spade_delaunay::handles::FixedVertexHandle;
+
+fn print_told(rt: &HostRuntime, points: &Hinted<Listing>) -> anyhow::Result<()> {
+    for told in &points.hint_generator().told {
+        match *told {
+            Told::Inserted(vertex, x, y) => println!(rt; "inserted {vertex} at {x} {y}")?,
+            Told::Removed(vertex, x, y) => println!(rt; "removed {vertex} at {x} {y}")?,
+            Told::SwappedIn(x, y) => println!(rt; "swapped in from {x} {y}")?,
+        }
+    }
+    println!(rt; "asked {} times", points.hint_generator().asked.get())?;
+    Ok(())
+}
+
+pub fn run(rt: &HostRuntime) -> anyhow::Result<()> {
+    let mut points: Hinted<Listing> = Hinted::new(rt.alloc());
+    for (x, y) in [(0, 1), (1, 1), (1, 0)] {
+        points.insert(Point2::new(x, y), &ExactTests)?;
+    }
+    points.insert(Point2::new(1, 1), &ExactTests)?;
+    print_told(rt, &points)?;
+    let center = Point2::new(0, 0);
+    let _ = points.locate(center, &ExactTests);
+    let _ = points.locate_vertex(center, &ExactTests);
+    let _ = points.nearest_neighbor(center, &ExactTests);
+    if points.num_vertices() > 0 {
+        points.remove(FixedVertexHandle::from_index(0), &ExactTests)?;
+    }
+    print_told(rt, &points)?;
+    points.clear();
+    print_told(rt, &points)
+}
