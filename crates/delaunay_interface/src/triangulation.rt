@@ -19,8 +19,10 @@ ghost use Rattle.delaunay_edit.specs.Edits.{InsertsVertex, LocatesAndRemoves, Re
 ghost use Rattle.delaunay_edit.specs.Elements.{FindsLocation, GivesElements, IsVertexAt};
 ghost use Rattle.delaunay_edit.specs.Headline.{AreSites, IsDelaunay, IsWellFormed};
 ghost use Rattle.delaunay_edit.specs.Hull.{CountsHullEdges};
+ghost use Rattle.delaunay_interface.specs.InnerFaces.{inner_faces_left};
 ghost use Rattle.delaunay_interface.specs.Views.{AreNotJoined, AreOnLine, GivesOutline, IsEdgeBetween, IsElement, corners_at, ends_at};
 
+use crate::inner_faces::InnerFaceIterator;
 use crate::lookups::vertex_near;
 use delaunay_core::HintGenerator;
 use delaunay_core::math::{InsertionError, PlaneTests};
@@ -464,14 +466,15 @@ pub trait Triangulation: Drop + sealed::Sealed {
         self.s().faces()
     }
 
-    /// The faces but the outer one, by rising index.
+    /// The faces but the outer one, by rising index. Each is known to be an inner one, so that its
+    /// corners can be asked for.
     final fn inner_faces(
         &self,
-    ) -> FaceIterator<'_, Self::Vertex, Self::DirectedEdge, Self::UndirectedEdge, Self::Face>
+    ) -> InnerFaceIterator<'_, Self::Vertex, Self::DirectedEdge, Self::UndirectedEdge, Self::Face>
         ensures { GivesElements (state self.now) 1 (length (state self.now).faces)
-            (faces_left result) }
+            (inner_faces_left result) }
     {
-        self.s().inner_faces()
+        InnerFaceIterator::new(self.s())
     }
 
     /// The handles of the vertices, by rising index.
