@@ -44,6 +44,22 @@ pub(crate) mod sealed {
 
 /// What `DelaunayTriangulation` and `ConstrainedDelaunayTriangulation` have in common. No other
 /// type has it.
+///
+/// A function over either type, which looks for a position and removes the vertex there:
+///
+/// ```
+/// fn forget<T: Triangulation, P: PlaneTests<<T::Vertex as HasPosition>::Scalar>>(
+///     points: &mut T,
+///     position: Point2<<T::Vertex as HasPosition>::Scalar>,
+///     tests: &P,
+/// ) -> Result<bool, AllocError> {
+///     Ok(points.locate_and_remove(position, tests)?.is_some())
+/// }
+/// ```
+///
+/// Calls that ask tests want each vertex to be a site of them, and each position that is asked for
+/// to be covered by them. Handles are those of this triangulation: `get_vertex` and the counts tell
+/// whether they are in range.
 pub trait Triangulation: Drop + sealed::Sealed {
     type Vertex: HasPosition + Drop;
 

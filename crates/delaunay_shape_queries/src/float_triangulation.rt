@@ -21,6 +21,15 @@ use std::alloc::{AllocError, Global};
 /// All vertices are sites of the tests, which also cover the four corners of a rectangle or the
 /// centre of a circle. Memory is taken as the iterator is made, and refused only there; what it
 /// gives comes in no promised order.
+///
+/// The vertices of a triangulation `points` at most 5 from the origin:
+///
+/// ```
+/// let near = points.get_vertices_in_circle(Point2::new(0, 0), 25, &ExactTests, rt.alloc())?;
+/// for vertex in near {
+///     println!(rt; "{}", vertex.fix().index())?;
+/// }
+/// ```
 pub trait FloatTriangulation: Triangulation {
     /// The edges with a point in a closed rectangle, each once: none where `upper` is left of
     /// `lower` or below it.
