@@ -102,6 +102,7 @@ impl<'a, P: PlaneTests<i64>> PointEngine<'a, P> {
         ensures points { self.new.points ≡ self.old.points }
         ensures reply { MayRemove (stage_of self.old.triangulation) index result (stage_of self.new.triangulation) }
     {
+        self.triangulation.recall_invariant();
         if index >= self.triangulation.num_vertices() as u64 {
             return Reply::NoVertex;
         }
