@@ -1,6 +1,6 @@
 -- A new vertex is joined to edges of a line: where the next outer edge at an end does not see it, no outer edge there does.
 use Rattle.std.proofs.Common.{◌≡◌, ◌≢◌, ◌⊎◌, ℕ, ◌<◌, List, [], ◌∷◌, ◌++◌, ◌==◌, length, refl, sym, ap, ◌∙◌, subst, inl, inr, arith}
-use Rattle.std.specs.Prelude.{ℤ, pos, ◌<ℤ◌, ◌≤ℤ◌, neg_ℤ, Contains}
+use Rattle.std.specs.Prelude.{ℤ, pos, ◌<ℤ◌, ◌≤ℤ◌, Contains}
 use Rattle.std.proofs.lemmas.Int.{ints}
 use Rattle.std.proofs.lemmas.Bool.{cases_eq, eq-eqb, eqb-true}
 use Rattle.half_edge_mesh.specs.Mesh.{Mesh, IsValidMesh, IsSoundEdge, IsClosed, origin, next, prev, face, rev}
@@ -33,6 +33,7 @@ use Rattle.plane_edits.proofs.Growing.{run_signs, in_two}
 use Rattle.mesh_embedding.specs.Drawn.{faces_of, outer_of}
 use Rattle.mesh_embedding.proofs.OuterEdges.{listed, real, one_edge}
 use Rattle.mesh_embedding.proofs.MeshEdits.{face_before}
+use Rattle.plane.proofs.Signs.{opposites_not_both_positive}
 
 -- ---- a vertex of a line has at most two neighbours
 module _ (n : ℕ) (p : ℕ → Point) (outer : List (ℕ × ℕ)) (m : SignLine n p outer) (w a : ℕ) (near : IsNext n p w a) where
@@ -108,9 +109,6 @@ only_at m e v within back h h_in same =
     let closed : IsClosed m (λ k. k == e) = λ k k_in is. eq-eqb (rev (prev m k)) e (ap (λ j. rev (prev m j)) (eqb-true k e is) ∙ turned) in
     eqb-true h e (v.stars (λ k. k == e) closed e h within h_in (sym same) (eq-eqb e e refl))
 
-opposite_signs : (a b : ℤ) → a ≡ neg_ℤ b → pos 0 <ℤ a → pos 0 <ℤ b → ⊥
-opposite_signs a b e h k = omega (arith, ints)
-
 module _ (points : List Point) (q : Point) (outer : List (ℕ × ℕ)) (m : Mesh) (u w : ℕ) (straight : LineMesh points outer) (valid : IsValidMesh m) (x : IsExtending points q [] (faces_of m) outer (outer_of m) u w) where
   abbrev n : ℕ
   n = length points
@@ -128,7 +126,7 @@ module _ (points : List Point) (q : Point) (outer : List (ℕ × ℕ)) (m : Mesh
   signs i j s = if_left (place (points ++ q ∷ []) i) (place (points ++ q ∷ []) j) (place (points ++ q ∷ []) (length points)) s
 
   one_way : (i j : ℕ) → pos 0 <ℤ bracket (at p i) (at p j) (at p n) → pos 0 <ℤ bracket (at p j) (at p i) (at p n) → ⊥
-  one_way i j h k = opposite_signs (bracket (at p i) (at p j) (at p n)) (bracket (at p j) (at p i) (at p n)) (bracket-swap (at p i) (at p j) (at p n)) h k
+  one_way i j h k = opposites_not_both_positive (bracket (at p i) (at p j) (at p n)) (bracket (at p j) (at p i) (at p n)) (bracket-swap (at p i) (at p j) (at p n)) h k
 
   -- a face has no side whose way back sees the new vertex
   unseen_side : (i j k : ℕ) → i < n → j < n → Sees j i → ¬ IsFaceOf (faces_of m) i j k

@@ -1,6 +1,6 @@
 -- What a segment meets first from outside a mesh.
 use Rattle.std.proofs.Common.{◌≡◌, ◌≢◌, ◌⊎◌, ℕ, zero, suc, ◌+◌, ◌<◌, ◌≤◌, List, length, map, Option, Some, None, refl, sym, ap, ◌∙◌, subst, inl, inr, arith, below_more}
-use Rattle.std.specs.Prelude.{IfSome, ℤ, pos, ◌<ℤ◌, ◌*ℤ◌}
+use Rattle.std.specs.Prelude.{IfSome, ℤ, ◌<ℤ◌, ◌*ℤ◌}
 use Rattle.std.proofs.lemmas.Int.{ints}
 use Rattle.std.proofs.lemmas.List.{length-map}
 use Rattle.half_edge_mesh.specs.Mesh.{Mesh, origin, prev, face, rev}
@@ -29,16 +29,11 @@ use Rattle.delaunay_lines.specs.Starts.{IsCrossed, IsEntered, IsNearestOf, IsBet
 use Rattle.delaunay_lines.specs.Walk.{Starts}
 use Rattle.delaunay_lines.proofs.MeshSteps.{laid, in_mesh, of_mesh, joined, bare, face_at, not_same}
 use Rattle.delaunay_lines.proofs.FirstItems.{starts_first, nothing, nothing_met, same_ends}
+use Rattle.plane.proofs.Signs.{less_with_ones, less_without_ones}
 
 -- ---- the nearest of some vertices
 through : (a b c : ℤ) → a <ℤ b → c <ℤ a → c <ℤ b
 through a b c h k = omega (arith, ints)
-
-scaled : (a b : ℤ) → (a *ℤ (pos 1 *ℤ pos 1)) <ℤ (b *ℤ (pos 1 *ℤ pos 1)) → a <ℤ b
-scaled a b h = omega (arith, ints)
-
-unscaled : (a b : ℤ) → a <ℤ b → (a *ℤ (pos 1 *ℤ pos 1)) <ℤ (b *ℤ (pos 1 *ℤ pos 1))
-unscaled a b h = omega (arith, ints)
 
 itself : (a : ℤ) → a <ℤ a → ⊥
 itself a h = omega (arith, ints)
@@ -54,7 +49,7 @@ module _ (points : List Point) (p q : Point) where
   Nearer k v = IsNearer (whole p) (place points k) (place points v)
 
   nearer_of : (k v : ℕ) → Nearer k v → d k <ℤ d v
-  nearer_of k v h = scaled (d k) (d v) h.nearer
+  nearer_of k v h = less_without_ones (d k) (d v) h.nearer
 
   pub none_of_none : IsNearestOf points 0 p q None
   none_of_none k less = absurd (omega (arith, less))
@@ -65,7 +60,7 @@ module _ (points : List Point) (p q : Point) where
     better_is_nearest (Some o) before better = (
       omega (arith, is),
       better.0,
-      below_more (λ k. On k → ¬ Nearer k v) n (λ k less on h. before.2 k less on (record { nearer = unscaled (d k) (d o) (through (d v) (d o) (d k) better.1 (nearer_of k v h)) })) (subst (λ k. On k → ¬ Nearer k v) is (λ on h. itself (d v) (nearer_of v v h))),
+      below_more (λ k. On k → ¬ Nearer k v) n (λ k less on h. before.2 k less on (record { nearer = less_with_ones (d k) (d o) (through (d v) (d o) (d k) better.1 (nearer_of k v h)) })) (subst (λ k. On k → ¬ Nearer k v) is (λ on h. itself (d v) (nearer_of v v h))),
     )
 
     pub still_nearest : (r : Option ℕ) → IsNearestOf points n p q r → ¬ IsBetter points p q v r → IsNearestOf points (n + 1) p q r

@@ -18,6 +18,7 @@ use Rattle.plane_segments.proofs.Shorter.{path_shortens}
 use Rattle.mesh_embedding.specs.Drawn.{drawn}
 use Rattle.delaunay_paths.specs.PathEdges.{LeadAlong}
 use Rattle.delaunay_paths.proofs.Places.{gap_is_way_back}
+use Rattle.plane.proofs.Signs.{sum_not_negative}
 
 -- ---- the next vertex is nearer to the end
 less_of_abs : (x y : ℤ) → pos 0 ≤ℤ x → pos 0 ≤ℤ y → nat_abs x < nat_abs y → x <ℤ y
@@ -25,11 +26,8 @@ less_of_abs (pos a) (pos b) h k l = omega (arith, ints, l)
 less_of_abs (pos a) (negsuc b) h k l = absurd (omega (arith, ints, k))
 less_of_abs (negsuc a) y h k l = absurd (omega (arith, ints, h))
 
-plus : (a b : ℤ) → pos 0 ≤ℤ a → pos 0 ≤ℤ b → pos 0 ≤ℤ (a +ℤ b)
-plus a b h k = omega (arith, ints)
-
 way_nonneg : (q p : Point) → pos 0 ≤ℤ squared_way q p
-way_nonneg q p = plus ((p.x -ℤ q.x) *ℤ (p.x -ℤ q.x)) ((p.y -ℤ q.y) *ℤ (p.y -ℤ q.y)) (square-nonneg_ℤ (p.x -ℤ q.x)) (square-nonneg_ℤ (p.y -ℤ q.y))
+way_nonneg q p = sum_not_negative ((p.x -ℤ q.x) *ℤ (p.x -ℤ q.x)) ((p.y -ℤ q.y) *ℤ (p.y -ℤ q.y)) (square-nonneg_ℤ (p.x -ℤ q.x)) (square-nonneg_ℤ (p.y -ℤ q.y))
 
 by_one : (x : ℤ) → x *ℤ (pos 1 *ℤ pos 1) ≡ x
 by_one x = omega (arith, ints)

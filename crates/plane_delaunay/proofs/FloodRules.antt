@@ -23,6 +23,7 @@ use Rattle.plane.specs.Tiling.{Triangulation, IsVertex, vertex, IsEdge, AreNeigh
 use Rattle.plane.specs.Location.{Location, on_vertex, on_edge, on_face, outside_hull, no_triangulation, IsLocation}
 use Rattle.plane.specs.Shape.{IsVertexIn, IsEdgeIn}
 use Rattle.plane_delaunay.specs.Flood.{Region, circle, rectangle, InRegion, IsFlooded, IsFloodedByVertices, IsFloodedAround, HasStart, start_point, IsTried}
+use Rattle.plane.proofs.Signs.{at_most_times_one}
 
 -- ---- a region with a point has its start point
 no_gap : (p : Fraction) → gap p p ≡ pos 0
@@ -38,9 +39,6 @@ at_centre g r e h = omega (arith, ints)
 corners_in_order : (a b x w : ℤ) → (a *ℤ w) ≤ℤ x → x ≤ℤ (b *ℤ w) → pos 0 <ℤ w → a ≤ℤ b
 corners_in_order a b x w h k p = le_of_mul-le-mul_ℤ {k = w} {x = a} {y = b} p (let e = *ℤ_comm w a in let d = *ℤ_comm w b in omega (arith, ints))
 
-whole_low : (a b : ℤ) → a ≤ℤ b → (a *ℤ pos 1) ≤ℤ b
-whole_low a b h = omega (arith, ints)
-
 whole_high : (a b : ℤ) → a ≤ℤ b → a ≤ℤ (b *ℤ pos 1)
 whole_high a b h = omega (arith, ints)
 
@@ -50,9 +48,9 @@ self_most a = omega (arith, ints)
 pub region_has_start : (region : Region) (p : Fraction) → InRegion region p → InRegion region (whole (start_point region))
 region_has_start (circle c r) p h = record { near = at_centre (gap (whole c) (whole c)) r (no_gap (whole c)) (radius_least (gap (whole c) p) r p.w (gap_not_negative (whole c) p) h.near p.positive) }
 region_has_start (rectangle lower upper) p h = record {
-  left = whole_low lower.x lower.x (self_most lower.x);
+  left = at_most_times_one lower.x lower.x (self_most lower.x);
   right = whole_high lower.x upper.x (corners_in_order lower.x upper.x p.x p.w h.left h.right p.positive);
-  below = whole_low lower.y lower.y (self_most lower.y);
+  below = at_most_times_one lower.y lower.y (self_most lower.y);
   above = whole_high lower.y upper.y (corners_in_order lower.y upper.y p.y p.w h.below h.above p.positive);
 }
 

@@ -21,6 +21,7 @@ use Rattle.plane_delaunay.proofs.Across.{none_of_sum}
 use Rattle.plane_delaunay.proofs.Walk.{IsOff}
 use Rattle.plane.proofs.Means.{TwoWeights}
 use Rattle.plane.specs.Fraction.{Fraction, IsSame, IsNotNegative}
+use Rattle.plane.proofs.Signs.{negated_not_negative, one_times_sum}
 
 abbrev pub AllLeft : List (Fraction × Fraction) → Fraction → Type 0
 AllLeft [] q = Unit {0}
@@ -107,9 +108,6 @@ unfolding bracket
 same_bracket u v y p e = ring_over_from fraction [] (u ∷ v ∷ y ∷ p ∷ []) (λ u v y p. p.w ⊗ bracketᵖ u v y) (λ u v y p. y.w ⊗ bracketᵖ u v p)
     (λ u v y p. (u.y ⊗ v.w ⊖ u.w ⊗ v.y, y.x ⊗ p.w, p.x ⊗ y.w) ∷ (u.w ⊗ v.x ⊖ u.x ⊗ v.w, y.y ⊗ p.w, p.y ⊗ y.w) ∷ []) (e.x, (e.y, tt)) tt
 
-once : (x y : ℤ) → pos 1 *ℤ (x +ℤ y) ≡ x +ℤ y
-once x y = omega (arith, ints)
-
 met_sum : (s t x y k a l b : ℤ) → s *ℤ x -ℤ t *ℤ y ≡ k *ℤ a -ℤ l *ℤ b → pos 1 *ℤ (neg_ℤ t *ℤ y +ℤ s *ℤ x) ≡ k *ℤ a +ℤ neg_ℤ l *ℤ b
 met_sum s t x y k a l b e = omega (arith, ints, neg-mul_ℤ t y, neg-mul_ℤ l b)
 
@@ -118,9 +116,6 @@ not_positive s t x y k a l b e h ha hb hk hl =
     let p = mul-nonneg_ℤ {a = neg_ℤ k} {b = a} (omega (arith, ints)) (weak ha) in
     let q = mul-nonneg_ℤ {a = l} {b = b} hl (weak hb) in
     omega (arith, ints, neg-mul_ℤ t y, neg-mul_ℤ k a)
-
-weakly_negated : {z : ℤ} → z ≤ℤ pos 0 → pos 0 ≤ℤ neg_ℤ z
-weakly_negated h = omega (arith, ints)
 
 open_from_right : (a b p q : Fraction) → bracket a b p <ℤ pos 0 → ((y : Fraction) → TwoWeights IsNotNegative q p y → TwoWeights IsNotNegative a b y → IsSame y p) → IsOpen a b p q
 open_from_right a b p q right free = go (lt_or_ge_ℤ (bracket a b q) (pos 0))
@@ -142,16 +137,16 @@ open_from_right a b p q right free = go (lt_or_ge_ℤ (bracket a b q) (pos 0))
               k_allowed = weak (neg-pos_ℤ right);
               l_allowed = left;
               positive = record { lt = tt };
-              x = once (neg_ℤ (bracket a b p) *ℤ q.x) (bracket a b q *ℤ p.x);
-              y = once (neg_ℤ (bracket a b p) *ℤ q.y) (bracket a b q *ℤ p.y);
-              w = once (neg_ℤ (bracket a b p) *ℤ q.w) (bracket a b q *ℤ p.w);
+              x = one_times_sum (neg_ℤ (bracket a b p) *ℤ q.x) (bracket a b q *ℤ p.x);
+              y = one_times_sum (neg_ℤ (bracket a b p) *ℤ q.y) (bracket a b q *ℤ p.y);
+              w = one_times_sum (neg_ℤ (bracket a b p) *ℤ q.w) (bracket a b q *ℤ p.w);
             })
             (record {
               k = bracket q p b;
               l = neg_ℤ (bracket q p a);
               n = pos 1;
               k_allowed = hb;
-              l_allowed = weakly_negated ha;
+              l_allowed = negated_not_negative ha;
               positive = record { lt = tt };
               x = met_sum (bracket a b q) (bracket a b p) p.x q.x (bracket q p b) a.x (bracket q p a) b.x (meeting-x a b p q);
               y = met_sum (bracket a b q) (bracket a b p) p.y q.y (bracket q p b) a.y (bracket q p a) b.y (meeting-y a b p q);

@@ -17,6 +17,7 @@ use Rattle.plane.specs.Side.{run, rise}
 use Rattle.plane.specs.Circle.{gap, IsNearer}
 use Rattle.plane.specs.Tiling.{Triangulation, IsVertex, vertex, IsEdge, JoinsLine}
 use Rattle.plane.specs.Shape.{IsNearest}
+use Rattle.plane.proofs.Signs.{not_negative_plus_positive, positive_plus_not_negative}
 
 -- ---- one coordinate
 -- where k is the mean of v and w under the weights a and b, of the sum n
@@ -114,12 +115,6 @@ module _ (p : Fraction) (v w k : Point) (m : TwoWeights IsPositive (whole v) (wh
       (two_parts (m.n *ℤ m.n) (m.l *ℤ m.l) (square (run (whole v) (whole k))) (square (rise (whole v) (whole k))) (square (run (whole v) (whole w))) (square (rise (whole v) (whole w))) (part_way m.n m.k m.l k.x v.x w.x m.x m.w) (part_way m.n m.k m.l k.y v.y w.y m.y m.w))
       m.positive m.k_allowed m.l_allowed h
 
-first_square : (a b : ℤ) → pos 0 <ℤ a → pos 0 ≤ℤ b → pos 0 <ℤ (a +ℤ b)
-first_square a b h k = omega (arith, ints)
-
-second_square : (a b : ℤ) → pos 0 ≤ℤ a → pos 0 <ℤ b → pos 0 <ℤ (a +ℤ b)
-second_square a b h k = omega (arith, ints)
-
 not_zero : {z : ℤ} → (z <ℤ pos 0) ⊎ (pos 0 <ℤ z) → ¬ (z ≡ pos 0)
 not_zero (inl h) e = omega (arith, ints)
 not_zero (inr h) e = omega (arith, ints)
@@ -134,10 +129,10 @@ apart p v w near = go (sign (run (whole v) (whole w))) (sign (rise (whole v) (wh
     dy = rise (whole v) (whole w)
 
     wide : ¬ (dx ≡ pos 0) → pos 0 <ℤ gap (whole v) (whole w)
-    wide n = first_square (dx *ℤ dx) (dy *ℤ dy) (square-pos_ℤ {a = dx} n) (square-nonneg_ℤ dy)
+    wide n = positive_plus_not_negative (dx *ℤ dx) (dy *ℤ dy) (square-pos_ℤ {a = dx} n) (square-nonneg_ℤ dy)
 
     high : ¬ (dy ≡ pos 0) → pos 0 <ℤ gap (whole v) (whole w)
-    high n = second_square (dx *ℤ dx) (dy *ℤ dy) (square-nonneg_ℤ dx) (square-pos_ℤ {a = dy} n)
+    high n = not_negative_plus_positive (dx *ℤ dx) (dy *ℤ dy) (square-nonneg_ℤ dx) (square-pos_ℤ {a = dy} n)
 
     go : Sign dx → Sign dy → pos 0 <ℤ gap (whole v) (whole w)
     go (below h) s = wide (not_zero (inl h))

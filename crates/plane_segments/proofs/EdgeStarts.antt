@@ -15,7 +15,6 @@ use Rattle.plane.specs.Fraction.{Fraction, IsSame, OnSegment, WithinSegment, IsN
 use Rattle.plane.specs.Side.{TurnsLeft}
 use Rattle.plane.specs.Tiling.{Triangulation, IsVertex, IsEdge, vertex, JoinsLine}
 use Rattle.plane.specs.Location.{IsPast}
-use Rattle.plane.specs.Line.{Item, Meets}
 use Rattle.plane.specs.Line as L
 use Rattle.plane_delaunay.proofs.Bracket.{bracket, bracket-turned, bracket-swapped, bracket-first, bracket-second, above_if_left}
 use Rattle.plane_delaunay.proofs.EmptyCircles.{same_at_end}
@@ -32,6 +31,7 @@ use Rattle.plane_segments.proofs.OverlapDecided.{overlaps_if}
 use Rattle.plane_segments.proofs.EachWalk.{ends_differ}
 use Rattle.plane_segments.proofs.Steps.{crossing_sides}
 use Rattle.plane_segments.proofs.WalkSteps.{meeting_of}
+use Rattle.plane.proofs.Signs.{opposite_of_zero_of}
 
 -- ---- numbers: n x = k a + l b
 last_only : (n k l x a b : ℤ) → n *ℤ x ≡ k *ℤ a +ℤ l *ℤ b → a ≡ pos 0 → n *ℤ x ≡ l *ℤ b
@@ -158,10 +158,7 @@ module _ (t : Triangulation) (c₀ : Meeting t) (p q : Fraction) (apart : ¬ IsS
     on_a z = sym (bracket-turned p q A) ∙ none_by m.n (bracket q A p) m.l (bracket q A B) by_first m.n_above (sym (bracket-turned q A B) ∙ z)
 
     on_b : bracket A B q ≡ pos 0 → bracket p q B ≡ pos 0
-    on_b z = sym (bracket-turned p q B) ∙ none_by m.n (bracket q B p) m.k (bracket q B A) by_second m.n_above (none_turned (bracket-swapped B q A) (bracket-turned A B q ∙ z))
-      where
-        none_turned : {x y : ℤ} → x ≡ neg_ℤ y → y ≡ pos 0 → x ≡ pos 0
-        none_turned e d = omega (arith, ints)
+    on_b z = sym (bracket-turned p q B) ∙ none_by m.n (bracket q B p) m.k (bracket q B A) by_second m.n_above (opposite_of_zero_of (bracket-swapped B q A) (bracket-turned A B q ∙ z))
 
     not_at_last : ¬ IsSame p B
     not_at_last s = c₀.none_within a b b e (c₀.ends a b e).1 (within_segment-same A B p B s here)

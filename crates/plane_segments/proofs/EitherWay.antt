@@ -9,7 +9,7 @@ use Rattle.plane.specs.Pairs.{Joins}
 use Rattle.plane.specs.Laws.{Parts, turn_at}
 use Rattle.plane.specs.Tiling.{Triangulation, IsVertex, IsEdge, HasFace, TilesHull, vertex}
 use Rattle.plane.proofs.Sides.{side_swapped}
-use Rattle.plane.proofs.Steps.{left_not_zero}
+use Rattle.plane.proofs.Steps.{left_not_zero, times_one}
 use Rattle.plane.proofs.Meetings.{crossing_is_sides}
 use Rattle.plane_delaunay.proofs.Bracket.{bracket}
 use Rattle.plane_delaunay.proofs.Ground.{tiling}
@@ -21,10 +21,7 @@ use Rattle.plane_segments.proofs.Turns.{left_turn, right_turn, turns-differ, tur
 
 -- two points of the code at one place are one
 pub one_point : (p q : Point) → IsSame (whole p) (whole q) → p ≡ q
-one_point p q e = λ i. record { x = part p.x q.x e.x i; y = part p.y q.y e.y i }
-  where
-    part : (a b : ℤ) → a *ℤ pos 1 ≡ b *ℤ pos 1 → a ≡ b
-    part a b e = omega (arith, ints)
+one_point p q e = λ i. record { x = times_one p.x q.x e.x i; y = times_one p.y q.y e.y i }
 
 pub one_vertex : (t : Triangulation) → TilesHull t → (i j : ℕ) → IsVertex t i → IsVertex t j → IsSame (vertex t i) (vertex t j) → i ≡ j
 unfolding tiling

@@ -1,7 +1,6 @@
 -- Where a point is, as the replies write it: the lesser end first, the least corner first.
 use Rattle.std.proofs.Common.{◌≡◌, List, [], refl, ◌≢◌, ℕ, inl, inr, length, arith, sym, cond, ltb, lt-ltb, le-ltb, ◌≤◌, ◌<◌}
 use Rattle.std.specs.Prelude.{ℤ, ◌+ℤ◌, ◌*ℤ◌}
-use Rattle.std.proofs.lemmas.Int.{ints}
 use Rattle.plane.specs.Fraction.{Point, whole, Fraction, IsPositive, WithinSegment}
 use Rattle.std.proofs.lemmas.Bool.{cases_lt}
 use Rattle.plane.specs.Pairs.{EachPairOnce}
@@ -17,9 +16,7 @@ use Rattle.triangulate_run.specs.declared.corners.Corners.{Corners}
 use Rattle.triangulate_run.specs.declared.reply.Reply.{Reply}
 use Rattle.triangulate_run.specs.declared.reply.Reply.TheVariants as reply
 use Rattle.triangulate_run.proofs.FaceList.{is_first, is_second, is_third, least, first_least, second_least, third_least, turned_face, differ, from_least_of}
-
-swapped_sum : (n x y : ℤ) → n ≡ x +ℤ y → n ≡ y +ℤ x
-swapped_sum n x y e = omega (arith, ints)
+use Rattle.plane.proofs.Signs.{sum_turned}
 
 within_swapped : (u v p : Fraction) → WithinSegment u v p → WithinSegment v u p
 within_swapped u v p h =
@@ -31,9 +28,9 @@ within_swapped u v p h =
       k_allowed = t.l_allowed;
       l_allowed = t.k_allowed;
       positive = t.positive;
-      x = swapped_sum (t.n *ℤ p.x) (t.k *ℤ u.x) (t.l *ℤ v.x) t.x;
-      y = swapped_sum (t.n *ℤ p.y) (t.k *ℤ u.y) (t.l *ℤ v.y) t.y;
-      w = swapped_sum (t.n *ℤ p.w) (t.k *ℤ u.w) (t.l *ℤ v.w) t.w;
+      x = sum_turned (t.n *ℤ p.x) (t.k *ℤ u.x) (t.l *ℤ v.x) t.x;
+      y = sum_turned (t.n *ℤ p.y) (t.k *ℤ u.y) (t.l *ℤ v.y) t.y;
+      w = sum_turned (t.n *ℤ p.w) (t.k *ℤ u.w) (t.l *ℤ v.w) t.w;
     })
 
 edge_swapped : (t : Triangulation) (i j : ℕ) → IsEdge t i j → IsEdge t j i
