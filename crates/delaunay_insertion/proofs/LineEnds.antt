@@ -2,8 +2,8 @@
 use Rattle.std.proofs.Common.{◌≡◌, ◌≢◌, ◌⊎◌, ℕ, ◌<◌, List, [], ◌∷◌, ◌++◌, ◌==◌, length, refl, sym, ap, ◌∙◌, subst, inl, inr, arith}
 use Rattle.std.specs.Prelude.{ℤ, pos, ◌<ℤ◌, ◌≤ℤ◌, Contains}
 use Rattle.std.proofs.lemmas.Int.{ints}
-use Rattle.std.proofs.lemmas.Bool.{cases_eq, eq-eqb, eqb-true}
-use Rattle.half_edge_mesh.specs.Mesh.{Mesh, IsValidMesh, IsSoundEdge, IsClosed, origin, next, prev, face, rev}
+use Rattle.std.proofs.lemmas.Bool.{cases_eq}
+use Rattle.half_edge_mesh.specs.Mesh.{Mesh, IsValidMesh, IsSoundEdge, origin, next, prev, face, rev}
 use Rattle.half_edge_mesh.specs.Outline.{IsOuterEdge}
 use Rattle.half_edge_links.proofs.Rev.{rev-rev, rev_within}
 use Rattle.plane.specs.Fraction.{Point}
@@ -34,6 +34,7 @@ use Rattle.mesh_embedding.specs.Drawn.{faces_of, outer_of}
 use Rattle.mesh_embedding.proofs.OuterEdges.{listed, real, one_edge}
 use Rattle.mesh_embedding.proofs.MeshEdits.{face_before}
 use Rattle.plane.proofs.Signs.{opposites_not_both_positive}
+use Rattle.half_edge_links.proofs.Conditions.{alone_at}
 
 -- ---- a vertex of a line has at most two neighbours
 module _ (n : ℕ) (p : ℕ → Point) (outer : List (ℕ × ℕ)) (m : SignLine n p outer) (w a : ℕ) (near : IsNext n p w a) where
@@ -101,13 +102,6 @@ module _ (points : List Point) (n : ℕ) (outer : List (ℕ × ℕ)) where
   last_step_of : (u v : ℕ) (vs : List ℕ) → IsSeenRun points n outer u (v ∷ vs) → IsLastStep u v vs
   last_step_of u v [] r = record { start = u; step = Contains-head (u, v) []; edge = r.0; seen = r.1 }
   last_step_of u v (y ∷ ys) r = let t = last_step_of v y ys r.2 in record { start = t.start; step = Contains-later (u, v) (steps v (y ∷ ys)) (t.start, last_of y ys) t.step; edge = t.edge; seen = t.seen }
-
--- an edge to which the walk round its start comes back at once is the only one there
-only_at : (m : Mesh) (e : ℕ) → IsValidMesh m → e < length m.half_edges → next m (rev e) ≡ e → (h : ℕ) → h < length m.half_edges → origin m h ≡ origin m e → h ≡ e
-only_at m e v within back h h_in same =
-    let turned : rev (prev m e) ≡ e = ap (λ k. rev (prev m k)) (sym back) ∙ ap rev (v.sound.edges (rev e) (rev_within _ _ v.sound.even within)).prev_next ∙ rev-rev e in
-    let closed : IsClosed m (λ k. k == e) = λ k k_in is. eq-eqb (rev (prev m k)) e (ap (λ j. rev (prev m j)) (eqb-true k e is) ∙ turned) in
-    eqb-true h e (v.stars (λ k. k == e) closed e h within h_in (sym same) (eq-eqb e e refl))
 
 module _ (points : List Point) (q : Point) (outer : List (ℕ × ℕ)) (m : Mesh) (u w : ℕ) (straight : LineMesh points outer) (valid : IsValidMesh m) (x : IsExtending points q [] (faces_of m) outer (outer_of m) u w) where
   abbrev n : ℕ
@@ -241,7 +235,7 @@ module _ (points : List Point) (q : Point) (outer : List (ℕ × ℕ)) (m : Mesh
           to_y : z ≡ y → ⊥
           to_y same =
               let is : rev h.0 ≡ k = one (rev h.0) k y w back (subst (λ i. IsOuterEdge m k i w) same before) in
-              d (sym (only_at m h.0 valid h.1.within (ap (next m) is ∙ here.next_prev) (next m e) (valid.sound.edges e own.within).next_in ((valid.sound.edges e own.within).starts ∙ own.target ∙ sym h.1.source)))
+              d (sym (alone_at m h.0 valid h.1.within (ap (next m) is ∙ here.next_prev) (next m e) (valid.sound.edges e own.within).next_in ((valid.sound.edges e own.within).starts ∙ own.target ∙ sym h.1.source)))
 
           go : (z ≡ n) ⊎ (z ≢ n) → ⊥
           go (inl same) = d (sym here.next_prev ∙ ap (next m) (one k e n w (subst (λ i. IsOuterEdge m k i w) same before) own))
@@ -297,7 +291,7 @@ module _ (points : List Point) (q : Point) (outer : List (ℕ × ℕ)) (m : Mesh
           to_y : z ≡ y → ⊥
           to_y same =
               let is : rev h.0 ≡ k = one (rev h.0) k u y back (subst (λ i. IsOuterEdge m k u i) same after) in
-              let own_is : e ≡ rev h.0 = only_at m (rev h.0) valid back.within (ap (next m) (rev-rev h.0) ∙ sym is) e own.within (own.source ∙ sym back.source) in
+              let own_is : e ≡ rev h.0 = alone_at m (rev h.0) valid back.within (ap (next m) (rev-rev h.0) ∙ sym is) e own.within (own.source ∙ sym back.source) in
               not_last (sym back.target ∙ ap (λ i. origin m (rev i)) (sym own_is) ∙ own.target)
 
           go : (z ≡ n) ⊎ (z ≢ n) → ⊥

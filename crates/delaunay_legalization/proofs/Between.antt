@@ -12,7 +12,7 @@ use Rattle.plane.proofs.Bracket.{bracket, lift}
 use Rattle.plane.proofs.BracketIdentities.{bracket-outer, bracket-last}
 use Rattle.plane.proofs.Collinear.{place_on, place_of_start, within_by_places, same_by_places}
 use Rattle.delaunay_legalization.specs.Between.{IsFrom, IsInBox}
-use Rattle.plane.proofs.Signs.{at_most_by_difference, difference_not_positive, less_if_not_same}
+use Rattle.plane.proofs.Signs.{at_most_by_difference, difference_not_positive, less_if_not_same, sum_not_negative}
 
 -- the part of a place that one coordinate has is not negative, nor more than that of the end
 part_low : (u v p : ℤ) → IsFrom u v p → pos 0 ≤ℤ ((v -ℤ u) *ℤ (p -ℤ pos 1 *ℤ u))
@@ -22,9 +22,6 @@ part_low u v p (inr h) = mul-nonneg_of_nonpos_ℤ {a = v -ℤ u} {b = p -ℤ pos
 part_high : (u v p : ℤ) → IsFrom u v p → pos 0 ≤ℤ ((v -ℤ u) *ℤ (v -ℤ p))
 part_high u v p (inl h) = mul-nonneg_ℤ {a = v -ℤ u} {b = v -ℤ p} (let k = h.0 in let l = h.1 in omega (arith, ints)) (let k = h.1 in omega (arith, ints))
 part_high u v p (inr h) = mul-nonneg_of_nonpos_ℤ {a = v -ℤ u} {b = v -ℤ p} (let k = h.0 in let l = h.1 in omega (arith, ints)) (let k = h.0 in omega (arith, ints))
-
-sum_not_negative : (a b : ℤ) → pos 0 ≤ℤ a → pos 0 ≤ℤ b → pos 0 ≤ℤ (a +ℤ b)
-sum_not_negative a b h k = omega (arith, ints)
 
 place_low : (u v p : Point) → IsInBox u v p → pos 0 ≤ℤ place_on u v (lift p)
 unfolding place_on

@@ -1,5 +1,5 @@
 -- What a segment meets first from outside a mesh.
-use Rattle.std.proofs.Common.{◌≡◌, ◌≢◌, ◌⊎◌, ℕ, zero, suc, ◌+◌, ◌<◌, ◌≤◌, List, length, map, Option, Some, None, refl, sym, ap, ◌∙◌, subst, inl, inr, arith, below_more}
+use Rattle.std.proofs.Common.{◌≡◌, ◌≢◌, ◌⊎◌, ℕ, ◌+◌, ◌<◌, ◌≤◌, List, length, map, Option, Some, None, sym, ap, ◌∙◌, subst, inl, inr, arith, below_more}
 use Rattle.std.specs.Prelude.{IfSome, ℤ, ◌<ℤ◌, ◌*ℤ◌}
 use Rattle.std.proofs.lemmas.Int.{ints}
 use Rattle.std.proofs.lemmas.List.{length-map}
@@ -22,7 +22,7 @@ use Rattle.plane_segments.proofs.LineStarts.{equal_ends, first_on_line}
 use Rattle.plane_segments.proofs.Begins.{edge_flipped}
 use Rattle.mesh_embedding.specs.Drawn.{drawn}
 use Rattle.mesh_embedding.proofs.EdgePairs.{joins_edge}
-use Rattle.mesh_embedding.proofs.MeshLegal.{line_has_none}
+use Rattle.mesh_embedding.proofs.MeshLegal.{line_has_none, none_or_some}
 use Rattle.delaunay_lines.specs.declared.intersection.FixedIntersection.TheVariants.{Edge, Vertex}
 use Rattle.delaunay_lines.specs.Steps.{IsOverMesh}
 use Rattle.delaunay_lines.specs.Starts.{IsCrossed, IsEntered, IsNearestOf, IsBetter, StartsOutside}
@@ -77,10 +77,6 @@ module _ (points : List Point) (p q : Point) where
 
 pub same_count : (n count : ℕ) → n ≤ count → count ≤ n → n ≡ count
 same_count n count h k = omega (arith, h, k)
-
-zero_or : (n : ℕ) → (n ≡ 0) ⊎ (0 < n)
-zero_or zero = inl refl
-zero_or (suc n) = inr (omega arith)
 
 -- ---- the first item
 module _ {V D U F : Type 0} (at : V → Point) (IsSite IsCovered : Point → Type 0) (c : Contents V D U F) (p q : Point) (over : IsOverMesh at IsSite IsCovered c p q) (outside : StartsOutside (drawn (map at c.vertices) c.mesh) p) where
@@ -146,7 +142,7 @@ module _ {V D U F : Type 0} (at : V → Point) (IsSite IsCovered : Point → Typ
       no_outer_crossed : TilesHull t → (a b : ℕ) → IsOuter t a b → ¬ Meets t (whole p) (whole q) (across b a)
       no_outer_crossed tiles a b outer met =
           let h = joins_edge m over.mesh.valid.sound b a met.0 in
-          none h.0 (of_mesh at IsSite IsCovered c p q over h.0 h.1) (twin_is_outer h.0 h.1 h.2 h.3 (zero_or (face m (rev h.0))), crossed_if h.0 h.1 (subst (λ (x : ℕ × ℕ). Meets t (whole p) (whole q) (across x.0 x.1)) (λ i. (sym h.2 i, sym h.3 i)) met))
+          none h.0 (of_mesh at IsSite IsCovered c p q over h.0 h.1) (twin_is_outer h.0 h.1 h.2 h.3 (none_or_some (face m (rev h.0))), crossed_if h.0 h.1 (subst (λ (x : ℕ × ℕ). Meets t (whole p) (whole q) (across x.0 x.1)) (λ i. (sym h.2 i, sym h.3 i)) met))
         where
           twin_is_outer : (h : ℕ) → h < length m.half_edges → origin m h ≡ b → origin m (rev h) ≡ a → (face m (rev h) ≡ 0) ⊎ (0 < face m (rev h)) → face m (rev h) ≡ 0
           twin_is_outer h w e f (inl o) = o
@@ -155,7 +151,7 @@ module _ {V D U F : Type 0} (at : V → Point) (IsSite IsCovered : Point → Typ
       no_crossed_on_line : JoinsLine t → (a b : ℕ) → ¬ Meets t (whole p) (whole q) (across a b)
       no_crossed_on_line line a b met =
           let h = joins_edge m over.mesh.valid.sound a b met.0 in
-          none h.0 (of_mesh at IsSite IsCovered c p q over h.0 h.1) (twin_is_outer h.0 h.1 (zero_or (face m (rev h.0))), crossed_if h.0 h.1 (subst (λ (x : ℕ × ℕ). Meets t (whole p) (whole q) (across x.0 x.1)) (λ i. (sym h.2 i, sym h.3 i)) met))
+          none h.0 (of_mesh at IsSite IsCovered c p q over h.0 h.1) (twin_is_outer h.0 h.1 (none_or_some (face m (rev h.0))), crossed_if h.0 h.1 (subst (λ (x : ℕ × ℕ). Meets t (whole p) (whole q) (across x.0 x.1)) (λ i. (sym h.2 i, sym h.3 i)) met))
         where
           twin_is_outer : (h : ℕ) → h < length m.half_edges → (face m (rev h) ≡ 0) ⊎ (0 < face m (rev h)) → face m (rev h) ≡ 0
           twin_is_outer h w (inl o) = o

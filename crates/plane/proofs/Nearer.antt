@@ -12,7 +12,8 @@ use Rattle.plane.specs.Side.{run, rise}
 use Rattle.plane.specs.Circle.{gap, IsNearer}
 use Rattle.plane.proofs.Signs.{less_is_not_same, sum_not_negative}
 
-gap_of_none : (p : Fraction) → gap p p ≡ pos 0
+-- no distance from a point to itself
+pub gap_of_none : (p : Fraction) → gap p p ≡ pos 0
 gap_of_none p = ring_in (p.x ∷ p.y ∷ p.w ∷ []) (λ x y w. (x ⊗ w ⊖ x ⊗ w) ⊗ (x ⊗ w ⊖ x ⊗ w) ⊕ (y ⊗ w ⊖ y ⊗ w) ⊗ (y ⊗ w ⊖ y ⊗ w)) (λ x y w. num 0) tt
 
 -- a squared distance is not negative

@@ -83,7 +83,7 @@ pub on_of_within : (u v p : Fraction) → WithinSegment u v p → OnSegment u v 
 on_of_within u v p h = mean_of_two IsNotNegative u v p (weak_two u v p (two_weights IsPositive u v p h))
 
 -- ---- the ends
-start_part : (a b : ℤ) → pos 1 *ℤ a ≡ pos 1 *ℤ a +ℤ pos 0 *ℤ b
+pub start_part : (a b : ℤ) → pos 1 *ℤ a ≡ pos 1 *ℤ a +ℤ pos 0 *ℤ b
 start_part a b = ring_in (a ∷ b ∷ []) (λ a b. num 1 ⊗ a) (λ a b. num 1 ⊗ a ⊕ num 0 ⊗ b) tt
 
 end_part : (a b : ℤ) → pos 1 *ℤ b ≡ pos 0 *ℤ a +ℤ pos 1 *ℤ b

@@ -22,6 +22,8 @@ use Rattle.plane_delaunay.proofs.Walk.{IsOff}
 use Rattle.plane.proofs.Means.{TwoWeights}
 use Rattle.plane.specs.Fraction.{Fraction, IsSame, IsNotNegative}
 use Rattle.plane.proofs.Signs.{negated_not_negative, one_times_sum}
+use Rattle.plane_delaunay.proofs.Flood.{swapped_above, swapped_below}
+use Rattle.plane_delaunay.proofs.Faces.{turned-above}
 
 abbrev pub AllLeft : List (Fraction × Fraction) → Fraction → Type 0
 AllLeft [] q = Unit {0}
@@ -42,9 +44,6 @@ data Found (ls : List (Fraction × Fraction)) (a b c u v : Fraction) : Type 0 wh
   to_left : (q : Fraction) → Inside a b c q → AllLeft ls q → pos 0 <ℤ bracket u v q → Found ls a b c u v
   to_right : (q : Fraction) → Inside a b c q → AllLeft ls q → pos 0 <ℤ bracket v u q → Found ls a b c u v
   nowhere : (q : Fraction) → Inside a b c q → AllLeft ls q → ((s : Fraction) → bracket u v s ≡ pos 0) → Found ls a b c u v
-
-swapped_above : (u v q : Fraction) → bracket u v q <ℤ pos 0 → pos 0 <ℤ bracket v u q
-swapped_above u v q h = let e = bracket-swapped u v q in omega (arith, ints)
 
 find : (ls : List (Fraction × Fraction)) (a b c u v q : Fraction) → pos 0 <ℤ bracket a b c → Inside a b c q → AllLeft ls q → Found ls a b c u v
 find ls a b c u v q t inside left = go (sign (bracket u v q))
@@ -92,9 +91,6 @@ pub data IsOpen (a b p q : Fraction) : Type 0 where
   both_right : bracket a b p <ℤ pos 0 → bracket a b q <ℤ pos 0 → IsOpen a b p q
   past_left : pos 0 <ℤ bracket q p a → pos 0 <ℤ bracket q p b → IsOpen a b p q
   past_right : bracket q p a <ℤ pos 0 → bracket q p b <ℤ pos 0 → IsOpen a b p q
-
-swapped_below : (u v q : Fraction) → pos 0 <ℤ bracket u v q → bracket v u q <ℤ pos 0
-swapped_below u v q h = let e = bracket-swapped u v q in omega (arith, ints)
 
 pub open-swapped : (a b p q : Fraction) → IsOpen a b p q → IsOpen b a p q
 open-swapped a b p q (on_line h) = on_line (swapped_none a b p h)
@@ -199,9 +195,6 @@ open_if_free a b p q free = go (sign (bracket a b p))
 abbrev pub AllOpen : (ℕ → Fraction) → List (ℕ × ℕ) → Fraction → Fraction → Type 0
 AllOpen at cs p q = (i j : ℕ) → Member (i, j) cs → IsOpen (at i) (at j) p q
 
-turned_to_front : (q p a : Fraction) → pos 0 <ℤ bracket q p a → pos 0 <ℤ bracket p a q
-turned_to_front q p a h = subst (λ t. pos 0 <ℤ t) (sym (bracket-turned q p a)) h
-
 turned_to_back : (q p a : Fraction) → pos 0 <ℤ bracket p a q → pos 0 <ℤ bracket q p a
 turned_to_back q p a h = subst (λ t. pos 0 <ℤ t) (bracket-turned q p a) h
 
@@ -228,5 +221,5 @@ keeps at (s ∷ cs) p q h = go (keeps at cs p q (λ i j m. h i j (inr m))) (h s.
     go k (on_line e) = record { lines = k.lines; left = k.left; keep = λ q' l. both q' (on_line e) (k.keep q' l) }
     go k (both_left e f) = record { lines = (at s.0, at s.1) ∷ k.lines; left = (f, k.left); keep = λ q' l. both q' (both_left e l.0) (k.keep q' l.1) }
     go k (both_right e f) = record { lines = (at s.1, at s.0) ∷ k.lines; left = (swapped_above (at s.0) (at s.1) q f, k.left); keep = λ q' l. both q' (both_right e (swapped_below (at s.1) (at s.0) q' l.0)) (k.keep q' l.1) }
-    go k (past_left e f) = record { lines = (p, at s.0) ∷ (p, at s.1) ∷ k.lines; left = (turned_to_front q p (at s.0) e, (turned_to_front q p (at s.1) f, k.left)); keep = λ q' l. both q' (past_left (turned_to_back q' p (at s.0) l.0) (turned_to_back q' p (at s.1) l.1.0)) (k.keep q' l.1.1) }
+    go k (past_left e f) = record { lines = (p, at s.0) ∷ (p, at s.1) ∷ k.lines; left = (turned-above q p (at s.0) e, (turned-above q p (at s.1) f, k.left)); keep = λ q' l. both q' (past_left (turned_to_back q' p (at s.0) l.0) (turned_to_back q' p (at s.1) l.1.0)) (k.keep q' l.1.1) }
     go k (past_right e f) = record { lines = (at s.0, p) ∷ (at s.1, p) ∷ k.lines; left = (front_right q p (at s.0) e, (front_right q p (at s.1) f, k.left)); keep = λ q' l. both q' (past_right (back_right q' p (at s.0) l.0) (back_right q' p (at s.1) l.1.0)) (k.keep q' l.1.1) }

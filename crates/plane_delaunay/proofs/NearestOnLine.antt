@@ -17,7 +17,7 @@ use Rattle.plane.specs.Side.{run, rise}
 use Rattle.plane.specs.Circle.{gap, IsNearer}
 use Rattle.plane.specs.Tiling.{Triangulation, IsVertex, vertex, IsEdge, JoinsLine}
 use Rattle.plane.specs.Shape.{IsNearest}
-use Rattle.plane.proofs.Signs.{not_negative_plus_positive, positive_plus_not_negative}
+use Rattle.plane.proofs.Signs.{not_negative_plus_positive, positive_plus_not_negative, less_without_ones}
 
 -- ---- one coordinate
 -- where k is the mean of v and w under the weights a and b, of the sum n
@@ -84,9 +84,6 @@ plain_sum n a b e = omega (arith, ints)
 pub with_ones : (a b : ℤ) → a <ℤ b → (a *ℤ (pos 1 *ℤ pos 1)) <ℤ (b *ℤ (pos 1 *ℤ pos 1))
 with_ones a b h = omega (arith, ints)
 
-pub without_ones : (a b : ℤ) → (a *ℤ (pos 1 *ℤ pos 1)) <ℤ (b *ℤ (pos 1 *ℤ pos 1)) → a <ℤ b
-without_ones a b h = omega (arith, ints)
-
 abbrev square : ℤ → ℤ
 square z = z *ℤ z
 
@@ -106,7 +103,7 @@ module _ (p : Fraction) (v w k : Point) (m : TwoWeights IsPositive (whole v) (wh
         (mean_square m.n m.k m.l (rise p (whole k)) (rise p (whole v)) (rise p (whole w)) (mean_way m.n m.k m.l k.y v.y w.y p.y p.w m.y m.w) total_weight))
         (mul-pos_ℤ m.positive m.positive) (mul-pos_ℤ m.positive m.l_allowed) (weak (mul-pos_ℤ m.k_allowed m.l_allowed))
         (sum_weak (square-nonneg_ℤ (run p (whole w) -ℤ run p (whole v))) (square-nonneg_ℤ (rise p (whole w) -ℤ rise p (whole v))))
-        (without_ones (gap p (whole w)) (gap p (whole v)) near.nearer));
+        (less_without_ones (gap p (whole w)) (gap p (whole v)) near.nearer));
   }
 
   -- and nearer to v than w is

@@ -399,7 +399,8 @@ another points faces new outer away i j m stays g h k s n = record {
   once = once_cons (i, j) away (λ x. no_edge points i j faces outer m (g.above i j x) s) g.once;
 }
 
-less_or_more : (a c : ℕ) → a ≢ c → (a < c) ⊎ (c < a)
+-- different numbers: one is less
+pub less_or_more : (a c : ℕ) → a ≢ c → (a < c) ⊎ (c < a)
 less_or_more a c n = grind arith
 
 in_more : (e : ℕ × ℕ) (away : List (ℕ × ℕ)) (i j : ℕ) → Joins away i j → Joins (e ∷ away) i j

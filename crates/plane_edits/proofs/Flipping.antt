@@ -150,7 +150,8 @@ one_pair i j a c x y (inl e) (inr f) = inr (sym e.0 ∙ f.0, sym e.1 ∙ f.1)
 one_pair i j a c x y (inr e) (inl f) = inr (sym e.1 ∙ f.1, sym e.0 ∙ f.0)
 one_pair i j a c x y (inr e) (inr f) = inl (sym e.1 ∙ f.1, sym e.0 ∙ f.0)
 
-joins_or_not : (pairs : List (ℕ × ℕ)) (i j : ℕ) → Joins pairs i j ⊎ (¬ Joins pairs i j)
+-- joined or not
+pub joins_or_not : (pairs : List (ℕ × ℕ)) (i j : ℕ) → Joins pairs i j ⊎ (¬ Joins pairs i j)
 joins_or_not pairs i j = go (has_pair_or_not pairs i j) (has_pair_or_not pairs j i)
   where
     go : Contains pairs (i, j) ⊎ (¬ Contains pairs (i, j)) → Contains pairs (j, i) ⊎ (¬ Contains pairs (j, i)) → Joins pairs i j ⊎ (¬ Joins pairs i j)

@@ -26,6 +26,7 @@ use Rattle.plane_edits.proofs.Changes.{face_from, turn_of_all, IsOnce, once_none
 use Rattle.plane_edits.proofs.Additions.{IsUsed, corner_of_used, AreTurning, turning_turned, around_turn_free, outer_totals}
 use Rattle.plane_edits.proofs.Extension.{IsRun, run_up_to, fan_from, fan_total, fans_balance, last_step, only_first, only_last, not_own_end, not_own_start}
 use Rattle.plane.proofs.Signs.{difference_is_positive, difference_not_negative, less_by_difference, same_is_at_most_of, sum_of_zeros}
+use Rattle.plane_edits.proofs.Hull.{factor_left}
 
 -- ---- turns towards q, by places on the line of a and b
 abbrev placeᵖ : Pointᵖ → Pointᵖ → Pointᵖ → Poly
@@ -40,9 +41,6 @@ turn_by_places a b i j q = ring_over points [] (a ∷ b ∷ i ∷ j ∷ q ∷ []
 
 two_none : (s d e g : ℤ) → s ≡ d -ℤ e +ℤ g → e ≡ pos 0 → g ≡ pos 0 → s ≡ d
 two_none s d e g h k l = omega (arith, ints)
-
-factor_left : {a b : ℤ} → pos 0 <ℤ b → pos 0 <ℤ (a *ℤ b) → pos 0 <ℤ a
-factor_left {a} {b} h e = pos_of_mul-pos_ℤ h (subst (λ z. pos 0 <ℤ z) (*ℤ_comm a b) e)
 
 -- ---- the greatest of the numbers below b
 greatest_below : (f : ℕ → ℤ) (b : ℤ) (n : ℕ) → ((k : ℕ) → k < n → b ≤ℤ f k) ⊎ ((i : ℕ) × (i < n) × (f i <ℤ b) × ((k : ℕ) → k < n → f k <ℤ b → f k ≤ℤ f i))

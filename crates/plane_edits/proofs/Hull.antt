@@ -326,7 +326,8 @@ no_farther k = omega (arith, ints)
 middle_left : (a b c d s : ℤ) → a -ℤ b +ℤ c -ℤ d ≡ pos 0 → pos 0 <ℤ a → pos 0 <ℤ c → d ≡ pos 0 → pos 0 <ℤ b
 middle_left a b c d s e h k z = omega (arith, ints)
 
-factor_left : {a b : ℤ} → pos 0 <ℤ b → pos 0 <ℤ (a *ℤ b) → pos 0 <ℤ a
+-- a positive product with a positive second factor
+pub factor_left : {a b : ℤ} → pos 0 <ℤ b → pos 0 <ℤ (a *ℤ b) → pos 0 <ℤ a
 factor_left {a} {b} h e = pos_of_mul-pos_ℤ h (subst (λ z. pos 0 <ℤ z) (*ℤ_comm a b) e)
 
 module _ (n : ℕ) (p : ℕ → Point) (faces : List Face) (outer : List (ℕ × ℕ)) (m : SignMesh n p faces outer) (q : Point) where

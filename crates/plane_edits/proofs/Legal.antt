@@ -36,7 +36,8 @@ other_positive k x h p = go (lt_or_ge_ℤ (pos 0) x)
     go (inl l) = l
     go (inr l) = clash (k *ℤ x) (mul-nonpos_of_nonneg_nonpos_ℤ h l) p
 
-squared_way_nonneg : (q p : Point) → pos 0 ≤ℤ squared_way q p
+-- a squared distance is not negative
+pub squared_way_nonneg : (q p : Point) → pos 0 ≤ℤ squared_way q p
 squared_way_nonneg q p = sum_not_negative ((p.x -ℤ q.x) *ℤ (p.x -ℤ q.x)) ((p.y -ℤ q.y) *ℤ (p.y -ℤ q.y)) (square-nonneg_ℤ (p.x -ℤ q.x)) (square-nonneg_ℤ (p.y -ℤ q.y))
 
 pub convex_at_first : (a b c d : Point) → pos 0 <ℤ bracket (lift a) (lift b) (lift c) → pos 0 <ℤ bracket (lift a) (lift c) (lift d) → pos 0 <ℤ incircle (lift a) (lift b) (lift c) (lift d) → pos 0 <ℤ bracket (lift a) (lift b) (lift d)

@@ -9,7 +9,7 @@ use Rattle.plane.proofs.IntegerLaws.{neg-mul_ℤ, mul-neg_ℤ}
 use Rattle.plane.proofs.IntegerOrder.{Sign, sign, below, none, above, lt_or_ge_ℤ, mul-pos_ℤ, mul-nonneg_ℤ, pos_of_mul-pos_ℤ, mul-nonpos_of_nonneg_nonpos_ℤ, zero-mul_ℤ, zero_of_mul-zero_ℤ, pos-ne-zero_ℤ}
 use Rattle.plane.proofs.Steps.{weak, weak_right, zero_weak, right_not_above, product_zero_left}
 use Rattle.plane.proofs.Solver.{◌⊕◌, ◌⊗◌, ring_in_from}
-use Rattle.plane.proofs.Means.{TwoWeights, two_weights, mean_of_two, turned_mean_of_two}
+use Rattle.plane.proofs.Means.{TwoWeights, two_weights, mean_of_two}
 use Rattle.plane.proofs.Segments.{reach, reach-start, reach-end, reach_of_two, on_segment_is, on_segment-same, within_segment-same, on_of_within, only_point, same-sym, same-trans, start_on_segment, end_on_segment}
 use Rattle.plane.specs.Fraction.{Fraction, IsSame, OnSegment, WithinSegment, IsNotNegative, IsPositive}
 use Rattle.plane.specs.Side.{TurnsLeft}
@@ -32,6 +32,7 @@ use Rattle.plane_segments.proofs.EachWalk.{ends_differ}
 use Rattle.plane_segments.proofs.Steps.{crossing_sides}
 use Rattle.plane_segments.proofs.WalkSteps.{meeting_of}
 use Rattle.plane.proofs.Signs.{opposite_of_zero_of}
+use Rattle.plane_tiling.proofs.Edges.{turned_within}
 
 -- ---- numbers: n x = k a + l b
 last_only : (n k l x a b : ℤ) → n *ℤ x ≡ k *ℤ a +ℤ l *ℤ b → a ≡ pos 0 → n *ℤ x ≡ l *ℤ b
@@ -211,9 +212,6 @@ module _ (t : Triangulation) (c₀ : Meeting t) (p q : Fraction) (apart : ¬ IsS
           where
             both : (a b : ℤ) → a ≡ pos 0 → b ≡ pos 0 → a ≡ b
             both a b e d = omega (arith, ints)
-
-turned_within : (a b x : Fraction) → WithinSegment a b x → WithinSegment b a x
-turned_within a b x h = turned_mean_of_two IsPositive a b x h
 
 pub first_from_an_edge : FirstFromEdge
 first_from_an_edge t h p q apart a b e here = (

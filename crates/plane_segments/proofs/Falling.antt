@@ -8,12 +8,13 @@ use Rattle.plane.specs.Fraction.{Point}
 use Rattle.plane.specs.Laws.{turn_at, squared_way}
 use Rattle.plane.proofs.IntegerOrder.{mul-nonneg_ℤ, mul-neg_of_pos_neg_ℤ, lt_or_ge_ℤ, trichotomy_ℤ, square-nonneg_ℤ, mul-nonpos_of_nonneg_nonpos_ℤ, zero_of_mul-zero_ℤ, zero-mul_ℤ, mul_cancel_ℤ, mul-eq-zero_ℤ}
 use Rattle.plane.proofs.Steps.{weak, zero_or_left, right_not_zero, product_zero_left, left_not_zero, no_difference, right_not_above, weak_right, zero_weak, zero_weak_left}
-use Rattle.plane.proofs.Solver.{Poly, num, ◌⊕◌, ◌⊖◌, ◌⊗◌, ⊝, ring_in, ring_in_from, ring_over}
+use Rattle.plane.proofs.Solver.{Poly, ◌⊕◌, ◌⊖◌, ◌⊗◌, ⊝, ring_in, ring_in_from, ring_over}
 use Rattle.plane.proofs.Bracket.{Pointᵖ, points as points_shape}
 use Rattle.plane_edits.specs.Legal.{point_of}
-use Rattle.plane_segments.proofs.Turns.{turnᵖ}
+use Rattle.plane_segments.proofs.Turns.{turnᵖ, turn-same}
 use Rattle.plane_segments.specs.Measure.{comes_before, is_right, one_if, rank_below}
 use Rattle.plane.proofs.Signs.{at_most_both_ways, difference_of_zeros, negated_negative, negated_not_negative, same_after_shift, same_have_no_difference, sum_not_negative_of, sum_of_zeros_from}
+use Rattle.plane.proofs.Sides.{test_false}
 
 -- ---- tests
 only_false : Bool → Type 0
@@ -27,9 +28,6 @@ off e = subst only_false e tt
 pub says : (a b : ℤ) → a <ℤ b → int_lt a b ≡ true
 says a b h = grind (arith, ints)
 
-denies : (a b : ℤ) → b ≤ℤ a → int_lt a b ≡ false
-denies a b h = grind (arith, ints)
-
 pub said : (a b : ℤ) → int_lt a b ≡ true → a <ℤ b
 said a b h = grind (arith, ints)
 
@@ -40,7 +38,7 @@ IsBefore i u v = (pos 0 <ℤ turn_at i v u) ⊎ ((turn_at i v u ≡ pos 0) × (s
 
 before_test : (i u v : Point) → IsBefore i u v → comes_before i u v ≡ true
 before_test i u v (inl h) = rw (says (pos 0) (turn_at i v u) h)
-before_test i u v (inr h) = rw (denies (pos 0) (turn_at i v u) (zero_weak h.0), denies (turn_at i v u) (pos 0) (zero_weak_left h.0)) (says (squared_way i u) (squared_way i v) h.1)
+before_test i u v (inr h) = rw (test_false (pos 0) (turn_at i v u) (zero_weak h.0), test_false (turn_at i v u) (pos 0) (zero_weak_left h.0)) (says (squared_way i u) (squared_way i v) h.1)
 
 by_tests : (t a b : ℤ) → (if int_lt (pos 0) t then true else (if int_lt t (pos 0) then false else int_lt a b)) ≡ true → (pos 0 <ℤ t) ⊎ ((t ≡ pos 0) × (a <ℤ b))
 by_tests t a b h = go (trichotomy_ℤ t)
@@ -50,8 +48,8 @@ by_tests t a b h = go (trichotomy_ℤ t)
 
     go : (t <ℤ pos 0) ⊎ ((t ≡ pos 0) ⊎ (pos 0 <ℤ t)) → (pos 0 <ℤ t) ⊎ ((t ≡ pos 0) × (a <ℤ b))
     go (inr (inr k)) = inl k
-    go (inr (inl e)) = inr (e, said a b (rw (denies (pos 0) t (zero_weak e), denies t (pos 0) (zero_weak_left e)) at h))
-    go (inl k) = wrong (rw (denies (pos 0) t (weak_right k), says t (pos 0) k) at h)
+    go (inr (inl e)) = inr (e, said a b (rw (test_false (pos 0) t (zero_weak e), test_false t (pos 0) (zero_weak_left e)) at h))
+    go (inl k) = wrong (rw (test_false (pos 0) t (weak_right k), says t (pos 0) k) at h)
 
 test_before : (i u v : Point) → comes_before i u v ≡ true → IsBefore i u v
 test_before i u v h = by_tests (turn_at i v u) (squared_way i u) (squared_way i v) h
@@ -169,11 +167,8 @@ and_off : (a b : Bool) → b ≡ false → (a && b) ≡ false
 and_off true b h = h
 and_off false b h = refl
 
-turn_none : (i p : Point) → turn_at i p p ≡ pos 0
-turn_none i p = ring_over points_shape [] (i ∷ p ∷ []) (λ i p. turnᵖ i p p) (λ i p. num 0) tt
-
 not_before_itself : (i p : Point) → comes_before i p p ≡ false
-not_before_itself i p = rw (denies (pos 0) (turn_at i p p) (zero_weak (turn_none i p)), denies (turn_at i p p) (pos 0) (zero_weak_left (turn_none i p))) (denies (squared_way i p) (squared_way i p) (own (squared_way i p)))
+not_before_itself i p = rw (test_false (pos 0) (turn_at i p p) (zero_weak (turn-same i p)), test_false (turn_at i p p) (pos 0) (zero_weak_left (turn-same i p))) (test_false (squared_way i p) (squared_way i p) (own (squared_way i p)))
   where
 
     own : (z : ℤ) → z ≤ℤ z

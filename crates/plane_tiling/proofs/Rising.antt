@@ -13,6 +13,7 @@ use Rattle.plane.proofs.IntegerOrder.{lt_or_ge_ℤ}
 use Rattle.plane_tiling.proofs.Flows.{bit, bit_is, bit_nonneg, is_true}
 use Rattle.plane_tiling.proofs.Totals.{total_at_least, total_agree, total-sum, total_exchanged}
 use Rattle.plane.proofs.Signs.{at_most_both_ways, at_most_then_less, less_both_ways, less_in_a_ring, same_is_at_most, same_plus_zero, zero_plus_same}
+use Rattle.plane.proofs.Sides.{test_false}
 
 -- ---- the greatest of some numbers
 pub greatest : (f : ℕ → ℤ) (n : ℕ) → 0 < n → (k : ℕ) × (k < n) × ((j : ℕ) → j < n → f j ≤ℤ f k)
@@ -42,11 +43,8 @@ greatest f (suc n) h = go (cases_lt 0 n) (greatest f n)
 pub rises_if : (a b : ℤ) → a <ℤ b → int_lt a b ≡ true
 rises_if a b h = grind (arith, ints)
 
-pub falls_if : (a b : ℤ) → b ≤ℤ a → int_lt a b ≡ false
-falls_if a b h = grind (arith, ints)
-
 pub if_rises : (a b : ℤ) → int_lt a b ≡ true → a <ℤ b
-if_rises a b e = elim (lt_or_ge_ℤ a b) [ inl l ↦ l | inr l ↦ absurd (let f = falls_if a b l in cc) ]
+if_rises a b e = elim (lt_or_ge_ℤ a b) [ inl l ↦ l | inr l ↦ absurd (let f = test_false a b l in cc) ]
 
 pub if_falls : (a b : ℤ) → int_lt a b ≡ false → b ≤ℤ a
 if_falls a b e = elim (lt_or_ge_ℤ a b) [ inl l ↦ absurd (let f = rises_if a b l in cc) | inr l ↦ l ]

@@ -13,6 +13,7 @@ use Rattle.triangulate_run.specs.declared.points.SheetPoint.{SheetPoint}
 use Rattle.triangulate_run.specs.declared.circles.Circle.{Circle}
 use Rattle.triangulate_run.specs.Points.{point_in, is_site_in}
 use Rattle.triangulate_run.specs.Table.{is_left_in, side_in, is_inside_in}
+use Rattle.plane.proofs.Sides.{test_true}
 
 abbrev pub all_below : (ℕ → Bool) → ℕ → Bool
 all_below f zero = true
@@ -53,9 +54,6 @@ if_yes false c e h = cc
 
 lt_of_test : (a b : ℤ) → int_lt a b ≡ true → a <ℤ b
 lt_of_test a b e = grind (arith, ints)
-
-test_of_lt : (a b : ℤ) → a <ℤ b → int_lt a b ≡ true
-test_of_lt a b h = grind (arith, ints)
 
 listed_if_left : (b c : Bool) → (cond b left (cond c right on)) ≡ left → b ≡ true
 listed_if_left true c e = refl
@@ -101,4 +99,4 @@ module _ (ps : List SheetPoint) (cs : List Circle) where
       let at_l = all_below_at (λ l. circle_agrees i j k l) (length ps) l (if_yes _ _ (if_yes _ _ (if_yes _ _ (if_yes _ _ at_k listed) si) sj) sk) hl in
       let answer = beq-true _ _ (if_yes _ _ at_l sl) in
       let inside = inside_is_determinant (point_in ps i) (point_in ps j) (point_in ps k) (point_in ps l) turns in
-      (λ h. inside.1 (lt_of_test _ _ (sym answer ∙ h)), λ h. answer ∙ test_of_lt _ _ (inside.0 h))
+      (λ h. inside.1 (lt_of_test _ _ (sym answer ∙ h)), λ h. answer ∙ test_true _ _ (inside.0 h))
