@@ -1,8 +1,0 @@
-use Rattle.std.proofs.Common.{length, subst}
-use Rattle.delaunay_legalization.specs.Flips.{FlipsFit}
-use Rattle.delaunay_legalization.proofs.Flips.{few_flips_fit}
-use Rattle.delaunay_interface.proofs.triangulation_core.TriangulationCore.insert_hinted.Goals as goal
-
-pub insert_told-requires-clause-fits : goal.insert_told-requires-clause-fits
-insert_told-requires-clause-fits g c =
-    rw (← c.self.view_is) (few_flips_fit (length c.self.inside.edited.vertices) c.recall_invariant.ensures.small)
