@@ -1,7 +1,8 @@
 //! Where points of three rows of three are, and which vertex is nearest, as a triangulation grows.
 use exact_tests::ExactTests;
 use spade_delaunay::{
-    DelaunayTriangulation, HintGenerator, Point2, PositionInTriangulation, Triangulation, validate_vertex,
+    DelaunayTriangulation, HintGenerator, Point2, PositionInTriangulation, Triangulation,
+    validate_vertex,
 };
 
 /// A triangulation with data, and with hints of this type.
