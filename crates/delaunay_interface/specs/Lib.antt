@@ -1,1 +1,2 @@
+pub mod ConstraintEdges
 pub mod Views
