@@ -18,7 +18,7 @@ pub struct InnerFaceIterator<'a, V, DE, UE, F> {
 impl<'a, V, DE, UE, F> InnerFaceIterator<'a, V, DE, UE, F> {
     // All inner faces of a mesh.
     pub(crate) fn new(dcel: &'a Dcel<V, DE, UE, F>) -> Self
-        ensures dcel { result.dcel ≡ dcel }
+        ensures dcel { result.dcel ≡ dcel.entry }
         ensures next { result.next ≡ 1 }
     {
         InnerFaceIterator { dcel, next: 1 }

@@ -23,7 +23,7 @@ notify_vertex_removed-requires-clause-swapped_site g c = λ p e.
     let at = g.V.HasPosition.place in
     let sites = subst (λ s. AreSites at (g.P.PlaneTests.sites c.args.tests.now) s.vertices) (sym c.self.view_is) c.requires.sites in
     All-contains (g.P.PlaneTests.sites c.args.tests.now) (map at c.remove.new.self.vertices) p
-    (sites_left at c.self.inside.edited c.remove.new.self c.args.vertex c.in_ok-value.value c.in_ok-value.ensures.removes.plain (g.P.PlaneTests.sites c.args.tests.now) (sites c.recall_invariant.ensures.in_range))
+    (sites_left at g.M.ConstraintMarker.constraints c.self.inside.edited c.remove.new.self c.args.vertex c.in_ok-value.value c.in_ok-value.ensures.removes.plain (g.P.PlaneTests.sites c.args.tests.now) (sites c.recall_invariant.ensures.in_range))
     (subst (λ s. Contains (map at s.vertices) p) c.mesh.ensures (c.position_if-swapped_in.ensures p e))
 
 pub invariant_of-self-2 : goal.invariant_of-self-2

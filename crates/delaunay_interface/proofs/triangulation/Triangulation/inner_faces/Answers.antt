@@ -1,6 +1,3 @@
-use Rattle.std.proofs.Common.{◌∙◌, length, ap, sym}
-use Rattle.std.specs.List.{range_with_len}
-use Rattle.half_edge_mesh.specs.Left.{each_in}
 use Rattle.delaunay_interface.proofs.Faces.{gives_inner_faces}
 use Rattle.delaunay_interface.proofs.triangulation.Triangulation.inner_faces.Goals as goal
 
