@@ -19,7 +19,7 @@ use Rattle.delaunay_edit.specs.Edits.{InsertsVertex}
 use Rattle.delaunay_edit.specs.Headline.{AreSites}
 use Rattle.delaunay_interface.specs.declared.constraint_error.ConstraintError.{ConstraintError}
 use Rattle.delaunay_interface.specs.declared.constraint_error.ConstraintError.TheVariants.{Insertion, Conflict}
-use Rattle.delaunay_interface.specs.ConstraintEdges.{AddsConstraintEdge, AddsConstraintEdges, ClosesPath, ExtendsPath, JoinsVertices, MayGive, Takes}
+use Rattle.delaunay_interface.specs.ConstraintEdges.{AddsConstraintEdge, AddsConstraintEdges, ClosesPath, ExtendsPath, InsertsEnd, JoinsVertices, MayGive, RefusesEnd, Takes}
 use Rattle.delaunay_interface.proofs.Held.{new_is_listed}
 
 -- ---- after an insertion
@@ -81,12 +81,10 @@ module _ {V D U F : Type 0} (place : V → Point) (from to : ℕ) where
         adds = record { plain = added.plain; told = added.told; «data» = added.«data»; err = tt };
       })
 
-  -- to join leaves the vertices
-  pub joined_vertices : (s new : State V D (CdtEdge U) F) (made : Bool) → JoinsVertices place from to (Ok made) s new → new.vertices ≡ s.vertices
-  joined_vertices s new made j = j.adds.plain.vertices
-
-  pub refused_stays : (s new : State V D (CdtEdge U) F) (e : ConstraintError) → JoinsVertices place from to (Err e) s new → new ≡ s
-  refused_stays s new e j = j.adds.err
+  -- to join leaves the vertices, and a refusal all
+  pub joined_vertices : (s new : State V D (CdtEdge U) F) (result : Result Bool ConstraintError) → JoinsVertices place from to result s new → new.vertices ≡ s.vertices
+  joined_vertices s new (Ok made) j = j.adds.plain.vertices
+  joined_vertices s new (Err e) j = ap (λ (t : State V D (CdtEdge U) F). t.vertices) j.adds.err
 
 -- ---- what calls of an iterator gave
 module _ {I V : Type 0} (steps : I → Option V → I → Type 0) where
@@ -115,61 +113,65 @@ module _ {I V : Type 0} (steps : I → Option V → I → Type 0) where
   taken_anyhow s xs (Err e) (u, (j, ys, last)) = (j, ys)
 
 module _ {V D U F : Type 0} (place : V → Point) where
-  abbrev S : Type 0
-  S = State V D (CdtEdge U) F
-
-  -- the two kinds of steps
-  abbrev Inserts : V → Result ℕ InsertionError → S → S → Type 0
-  Inserts v r old new = InsertsVertex place constraint_edges v r old new
-
-  abbrev Joins : ℕ → ℕ → Result Bool ConstraintError → S → S → Type 0
-  Joins from to r old new = JoinsVertices place from to r old new
-
-  abbrev Ext : List V → ℕ → Result ℕ ConstraintError → S → S → Type 0
-  Ext = ExtendsPath place
-
   -- what is left of a path, from what is there so far
-  pub record IsSoFar (done : List V) (first : ℕ) (old : S) (last : ℕ) (now : S) : Type 0 where
-    pub goes_on : (vs : List V) (result : Result ℕ ConstraintError) (new : S) → Ext vs last result now new → Ext (done ++ vs) first result old new
+  pub record IsSoFar (done : List V) (first : ℕ) (old : State V D (CdtEdge U) F) (last : ℕ) (now : State V D (CdtEdge U) F) : Type 0 where
+    pub goes_on : (vs : List V) (result : Result ℕ ConstraintError) (new : State V D (CdtEdge U) F) → ExtendsPath place vs last result now new → ExtendsPath place (done ++ vs) first result old new
 
-  pub begins : (first : ℕ) (old : S) → IsSoFar [] first old first old
+  pub begins : (first : ℕ) (old : State V D (CdtEdge U) F) → IsSoFar [] first old first old
   begins first old = record { goes_on = λ vs result new e. e }
 
-  module _ (done : List V) (first : ℕ) (old : S) (last : ℕ) (now : S) (so : IsSoFar done first old last now) where
-    pub ends : Ext done first (Ok last) old now
-    ends = subst (λ (xs : List V). Ext xs first (Ok last) old now) (append-nil done) (so.goes_on [] (Ok last) now (refl, refl))
+  module _ (done : List V) (first : ℕ) (old : State V D (CdtEdge U) F) (last : ℕ) (now : State V D (CdtEdge U) F) (so : IsSoFar done first old last now) where
+    pub ends : ExtendsPath place done first (Ok last) old now
+    ends = subst (λ (xs : List V). ExtendsPath place xs first (Ok last) old now) (append-nil done) (so.goes_on [] (Ok last) now (refl, refl))
 
     module _ (v : V) where
-      pub stops_at_vertex : (error : InsertionError) (new : S) → Inserts v (Err error) now new → Ext (done ++ v ∷ []) first (Err (Insertion error)) old new
-      stops_at_vertex error new i = so.goes_on (v ∷ []) (Err (Insertion error)) new (inl (record { error = error; refused = i; told = refl }))
+      pub stops_at_vertex : (error : ConstraintError) (new : State V D (CdtEdge U) F) → RefusesEnd place v error now new → ExtendsPath place (done ++ v ∷ []) first (Err error) old new
+      stops_at_vertex error new i = so.goes_on (v ∷ []) (Err error) new (inl (record { error = error; refused = i; told = refl }))
 
-      module _ (next : ℕ) (inserted : S) (i : Inserts v (Ok next) now inserted) where
-        pub stops_at_join : (error : ConstraintError) (new : S) → Joins last next (Err error) inserted new → Ext (done ++ v ∷ []) first (Err error) old new
+      module _ (next : ℕ) (inserted : State V D (CdtEdge U) F) (i : InsertsVertex place constraint_edges v (Ok next) now inserted) where
+        pub stops_at_join : (error : ConstraintError) (new : State V D (CdtEdge U) F) → JoinsVertices place last next (Err error) inserted new → ExtendsPath place (done ++ v ∷ []) first (Err error) old new
         stops_at_join error new j = so.goes_on (v ∷ []) (Err error) new
             (inr (record { index = next; middle = inserted; inserts = i; then = inl (record { error = error; refused = j; told = refl }) }))
 
-        pub one_more : (made : Bool) (joined : S) → Joins last next (Ok made) inserted joined → IsSoFar (done ++ v ∷ []) first old next joined
+        pub one_more : (made : Bool) (joined : State V D (CdtEdge U) F) → JoinsVertices place last next (Ok made) inserted joined → IsSoFar (done ++ v ∷ []) first old next joined
         one_more made joined j = record {
-          goes_on = λ vs result new e. subst (λ (xs : List V). Ext xs first result old new) (sym (append_assoc done (v ∷ []) vs))
+          goes_on = λ vs result new e. subst (λ (xs : List V). ExtendsPath place xs first result old new) (sym (append_assoc done (v ∷ []) vs))
             (so.goes_on (v ∷ vs) result new (inr (record { index = next; middle = inserted; inserts = i; then = inr (record { made = made; middle = joined; joins = j; then = e }) })));
         }
 
   -- ---- the end of a path
-  module _ (closed : Bool) (first last : ℕ) (s : S) where
+  module _ (closed : Bool) (first last : ℕ) (s : State V D (CdtEdge U) F) where
     pub stays_open : (¬ (IsTrue closed × (last ≢ first))) → ClosesPath place closed first last (Ok tt) s s
     stays_open none = record { joins = λ c apart. absurd (none (c, apart)); stays = λ _. (refl, refl) }
 
-    pub closes : (made : Bool) (new : S) → IsTrue closed → last ≢ first → Joins last first (Ok made) s new → ClosesPath place closed first last (Ok tt) s new
+    pub closes : (made : Bool) (new : State V D (CdtEdge U) F) → IsTrue closed → last ≢ first → JoinsVertices place last first (Ok made) s new → ClosesPath place closed first last (Ok tt) s new
     closes made new c apart j = record { joins = λ _ _. inr (record { made = made; middle = new; joins = j; then = (refl, refl) }); stays = λ none. absurd (none (c, apart)) }
 
-    pub cannot_close : (error : ConstraintError) (new : S) → IsTrue closed → last ≢ first → Joins last first (Err error) s new → ClosesPath place closed first last (Err error) s new
+    pub cannot_close : (error : ConstraintError) (new : State V D (CdtEdge U) F) → IsTrue closed → last ≢ first → JoinsVertices place last first (Err error) s new → ClosesPath place closed first last (Err error) s new
     cannot_close error new c apart j = record { joins = λ _ _. inl (record { error = error; refused = j; told = refl }); stays = λ none. absurd (none (c, apart)) }
 
-  module _ (v : V) (vs : List V) (closed : Bool) (index : ℕ) (old inserted joined new : S) (i : Inserts v (Ok index) old inserted) where
+  module _ (v : V) (vs : List V) (closed : Bool) (index : ℕ) (old inserted joined new : State V D (CdtEdge U) F) (i : InsertsVertex place constraint_edges v (Ok index) old inserted) where
     -- the path was made, and its end too
-    pub all_joined : (last : ℕ) (result : Result (Unit {0}) ConstraintError) → Ext vs index (Ok last) inserted joined → ClosesPath place closed index last result joined new → AddsConstraintEdges place (v ∷ vs) closed result old new
+    pub all_joined : (last : ℕ) (result : Result (Unit {0}) ConstraintError) → ExtendsPath place vs index (Ok last) inserted joined → ClosesPath place closed index last result joined new → AddsConstraintEdges place (v ∷ vs) closed result old new
     all_joined last result e c = inr (record { index = index; middle = inserted; inserts = i; then = record { path = Ok last; middle = joined; extends = e; closes = c } })
 
     -- the path was not made to its end
-    pub some_joined : (error : ConstraintError) → Ext vs index (Err error) inserted joined → new ≡ joined → AddsConstraintEdges place (v ∷ vs) closed (Err error) old new
+    pub some_joined : (error : ConstraintError) → ExtendsPath place vs index (Err error) inserted joined → new ≡ joined → AddsConstraintEdges place (v ∷ vs) closed (Err error) old new
     some_joined error e same = inr (record { index = index; middle = inserted; inserts = i; then = record { path = Err error; middle = joined; extends = e; closes = (refl, same) } })
+
+  module _ (v : V) (vs : List V) (closed : Bool) (old new : State V D (CdtEdge U) F) where
+    -- not even the first was inserted
+    pub none_inserted : (error : ConstraintError) → RefusesEnd place v error old new → AddsConstraintEdges place (v ∷ vs) closed (Err error) old new
+    none_inserted error refused = inl (record { error = error; refused = refused; told = refl })
+
+  -- ---- two vertices
+  module _ (from to : V) (old new : State V D (CdtEdge U) F) where
+    pub stops_at_from : (error : ConstraintError) (result : Result Bool ConstraintError) → result ≡ Err error → RefusesEnd place from error old new → AddsConstraintEdge place from to result old new
+    stops_at_from error result told refused = inl (record { error = error; refused = refused; told = told })
+
+    module _ (i : ℕ) (first : State V D (CdtEdge U) F) (one : InsertsVertex place constraint_edges from (Ok i) old first) where
+      pub stops_at_to : (error : ConstraintError) (result : Result Bool ConstraintError) → result ≡ Err error → RefusesEnd place to error first new → AddsConstraintEdge place from to result old new
+      stops_at_to error result told refused = inr (record { index = i; middle = first; inserts = one; then = inl (record { error = error; refused = refused; told = told }) })
+
+      pub both_inserted : (j : ℕ) (second : State V D (CdtEdge U) F) → InsertsVertex place constraint_edges to (Ok j) first second → (result : Result Bool ConstraintError) → JoinsVertices place i j result second new → AddsConstraintEdge place from to result old new
+      both_inserted j second two result joins = inr (record { index = i; middle = first; inserts = one; then = inr (record { index = j; middle = second; inserts = two; then = joins }) })

@@ -30,11 +30,21 @@ module _ {V D U F : Type 0} (place : V → Point) where
     pub memory : IfErr result (λ e. (e ≡ Conflict) ⊎ (e ≡ Insertion OutOfMemory))
     pub adds : AddsConstraint place from to result old new
 
-  -- a vertex was refused
+  -- a vertex was refused, for this reason
+  pub record RefusesEnd (v : V) (error : ConstraintError) (old new : State V D (CdtEdge U) F) : Type 0 where
+    pub reason : InsertionError
+    pub refused : InsertsVertex place constraint_edges v (Err reason) old new
+    pub told : error ≡ Insertion reason
+
+  -- an insertion of a vertex gave this result
+  abbrev pub InsertsEnd : V → Result ℕ ConstraintError → State V D (CdtEdge U) F → State V D (CdtEdge U) F → Type 0
+  InsertsEnd v result old new = MatchResult result (λ i. InsertsVertex place constraint_edges v (Ok i) old new) (λ e. RefusesEnd v e old new)
+
+  -- a vertex was refused, and that was the result
   pub record RefusesVertex {R : Type 0} (v : V) (result : Result R ConstraintError) (old new : State V D (CdtEdge U) F) : Type 0 where
-    pub error : InsertionError
-    pub refused : InsertsVertex place constraint_edges v (Err error) old new
-    pub told : result ≡ Err (Insertion error)
+    pub error : ConstraintError
+    pub refused : RefusesEnd v error old new
+    pub told : result ≡ Err error
 
   -- a vertex was inserted, and then this was done, at its index
   pub record InsertsAndThen (v : V) (after : ℕ → State V D (CdtEdge U) F → Type 0) (old : State V D (CdtEdge U) F) : Type 0 where

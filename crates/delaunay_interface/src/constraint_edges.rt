@@ -4,7 +4,7 @@ ghost use Rattle.std.specs.Iterator.{IsFinite};
 ghost use Rattle.plane.specs.Tests.{InRange};
 ghost use Rattle.delaunay_edit.specs.Constrained.{constraint_edges};
 ghost use Rattle.delaunay_edit.specs.Headline.{AreSites, IsDelaunay};
-ghost use Rattle.delaunay_interface.specs.ConstraintEdges.{AddsConstraintEdge, AddsConstraintEdges, ExtendsPath, JoinsVertices, MayGive, Takes};
+ghost use Rattle.delaunay_interface.specs.ConstraintEdges.{AddsConstraintEdge, AddsConstraintEdges, ClosesPath, ExtendsPath, InsertsEnd, JoinsVertices, MayGive, Takes};
 
 use crate::constraint_error::ConstraintError;
 use crate::triangulation::Triangulation;
@@ -21,6 +21,27 @@ impl<
     F: Default + Drop,
     L: HintGenerator<V::Scalar>,
 > ConstrainedDelaunayTriangulation<V, DE, UE, F, L> {
+    // Inserts a vertex as `insert` does.
+    fn insert_end<P: PlaneTests<V::Scalar>>(
+        &mut self,
+        value: V,
+        tests: &P,
+    ) -> Result<FixedVertexHandle, ConstraintError>
+        requires sites { AreSites V.place (P.sites tests.now) self.old.vertices }
+        requires new_site { InRange (V.place value) → P.sites tests.now (V.place value) }
+        ensures inserts { InsertsEnd V.place value result self.old self.new }
+        ensures within { IfOk result (λ v. v < length self.new.vertices) }
+        ensures grows { length self.old.vertices ≤ length self.new.vertices }
+        ensures sites { AreSites V.place (P.sites tests.now) self.new.vertices }
+        ensures headline { IsDelaunay V.place constraint_edges self.new }
+    {
+        self.recall_invariant();
+        match self.insert(value, tests) {
+            Ok(vertex) => Ok(vertex),
+            Err(error) => Err(ConstraintError::Insertion(error)),
+        }
+    }
+
     // Joins two vertices by constraints, or says why not.
     fn join_vertices<P: PlaneTests<V::Scalar>>(
         &mut self,
@@ -32,6 +53,7 @@ impl<
         requires to_in { to < length self.old.vertices }
         requires sites { AreSites V.place (P.sites tests.now) self.old.vertices }
         ensures joins { JoinsVertices V.place from to result self.old self.new }
+        ensures vertices { self.new.vertices ≡ self.old.vertices }
         ensures headline { IsDelaunay V.place constraint_edges self.new }
     {
         self.recall_invariant();
@@ -60,12 +82,8 @@ impl<
         ensures adds { AddsConstraintEdge V.place from to result self.old self.new }
         ensures headline { IsDelaunay V.place constraint_edges self.new }
     {
-        let from = self
-            .insert(from, tests)
-            .map_err(ConstraintError::Insertion)?;
-        self.recall_invariant();
-        let to = self.insert(to, tests).map_err(ConstraintError::Insertion)?;
-        self.recall_invariant();
+        let from = self.insert_end(from, tests)?;
+        let to = self.insert_end(to, tests)?;
         self.join_vertices(from, to, tests)
     }
 
@@ -85,21 +103,41 @@ impl<
             P.sites tests.now (V.place v) }
         ensures extends { (vs : List V) × Takes I.next_gives vertices vs result ×
             ExtendsPath V.place vs last result self.old self.new }
-        ensures grows { length self.old.vertices ≤ length self.new.vertices }
         ensures last_in { IfOk result (λ v. v < length self.new.vertices) }
+        ensures grows { length self.old.vertices ≤ length self.new.vertices }
         ensures sites { AreSites V.place (P.sites tests.now) self.new.vertices }
     {
-        self.recall_invariant();
         for vertex in vertices {
-            let next = self
-                .insert(vertex, tests)
-                .map_err(ConstraintError::Insertion)?;
-            self.recall_invariant();
+            let next = self.insert_end(vertex, tests)?;
             self.join_vertices(last, next, tests)?;
-            self.recall_invariant();
             last = next;
         }
         Ok(last)
+    }
+
+    // Joins the last vertex of a path to the first, where that is asked and they are not one.
+    fn close_path<P: PlaneTests<V::Scalar>>(
+        &mut self,
+        first: FixedVertexHandle,
+        last: FixedVertexHandle,
+        closed: bool,
+        tests: &P,
+    ) -> Result<(), ConstraintError>
+        requires first_in { first < length self.old.vertices }
+        requires last_in { last < length self.old.vertices }
+        requires sites { AreSites V.place (P.sites tests.now) self.old.vertices }
+        ensures closes { ClosesPath V.place closed first last result self.old self.new }
+        ensures headline { IsDelaunay V.place constraint_edges self.new }
+    {
+        self.recall_invariant();
+        if !closed {
+            return Ok(());
+        }
+        if last == first {
+            return Ok(());
+        }
+        self.join_vertices(last, first, tests)?;
+        Ok(())
     }
 
     /// Inserts vertices as `insert` does, joins each to the one before it by constraints as
@@ -126,15 +164,8 @@ impl<
         let Some(first) = vertices.next() else {
             return Ok(());
         };
-        let first = self
-            .insert(first, tests)
-            .map_err(ConstraintError::Insertion)?;
-        self.recall_invariant();
+        let first = self.insert_end(first, tests)?;
         let last = self.extend_path(first, vertices, tests)?;
-        self.recall_invariant();
-        if closed && last != first {
-            self.join_vertices(last, first, tests)?;
-        }
-        Ok(())
+        self.close_path(first, last, closed, tests)
     }
 }
