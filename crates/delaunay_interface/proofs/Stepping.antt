@@ -98,14 +98,16 @@ module _ {I V : Type 0} (steps : I → Option V → I → Type 0) where
   pub may_come_later : (s : I) (x : V) (t : I) (v : V) → steps s (Some x) t → MayGive steps t v → MayGive steps s v
   may_come_later s x t v step (xs, u, (j, ys, last)) = (x ∷ xs, u, (j, (t, step, ys), last))
 
-  pub may_come_then : (s : I) (xs : List V) (t : I) (v : V) → Yields steps s xs t → MayGive steps t v → MayGive steps s v
-  may_come_then s [] t v same may = subst (λ (a : I). MayGive steps a v) (sym same) may
-  may_come_then s (y ∷ ys) t v (j, first, rest) may = may_come_later s y j v first (may_come_then j ys t v rest may)
+  -- an item that comes now, where calls from the start gave the others
+  module _ (s0 s : I) (same : s0 ≡ s) (xs : List V) (t : I) (taken : Yields steps s0 xs t) where
+    pub comes_now : (x : V) (u : I) → steps t (Some x) u → MayGive steps s x
+    comes_now x u step = subst (λ (a : I). MayGive steps a x) same (xs, u, (t, taken, step))
 
-  -- with the item that came first
-  pub taken_after : {R E : Type 0} (s : I) (x : V) (t : I) (xs : List V) (result : Result R E) → steps s (Some x) t → Takes steps t xs result → Takes steps s (x ∷ xs) result
-  taken_after s x t xs (Ok r) step (u, (j, ys, last)) = (u, (j, (t, step, ys), last))
-  taken_after s x t xs (Err e) step (u, ys) = (u, (t, step, ys))
+    pub taken_with : (x : V) (u : I) → steps t (Some x) u → Yields steps s (xs ++ x ∷ []) u
+    taken_with x u step = subst (λ (a : I). Yields steps a (xs ++ x ∷ []) u) same (one_taken s0 xs t x u taken step)
+
+    pub all_taken : (u : I) → steps t None u → Drains steps s xs
+    all_taken u step = subst (λ (a : I). Drains steps a xs) same (u, (t, taken, step))
 
   -- where all have come, they have come before a refusal too
   pub taken_anyhow : {T E : Type 0} (s : I) (xs : List V) (result : Result T E) → Drains steps s xs → Takes steps s xs result

@@ -106,12 +106,14 @@ impl<
         ensures last_in { IfOk result (λ v. v < length self.new.vertices) }
         ensures grows { length self.old.vertices ≤ length self.new.vertices }
         ensures sites { AreSites V.place (P.sites tests.now) self.new.vertices }
+        ensures headline { IsDelaunay V.place constraint_edges self.new }
     {
         for vertex in vertices {
             let next = self.insert_end(vertex, tests)?;
             self.join_vertices(last, next, tests)?;
             last = next;
         }
+        self.recall_invariant();
         Ok(last)
     }
 
