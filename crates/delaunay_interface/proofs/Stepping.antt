@@ -138,7 +138,7 @@ module _ {V D U F : Type 0} (place : V → Point) where
         pub one_more : (made : Bool) (joined : State V D (CdtEdge U) F) → JoinsVertices place last next (Ok made) inserted joined → IsSoFar (done ++ v ∷ []) first old next joined
         one_more made joined j = record {
           goes_on = λ vs result new e. subst (λ (xs : List V). ExtendsPath place xs first result old new) (sym (append_assoc done (v ∷ []) vs))
-            (so.goes_on (v ∷ vs) result new (inr (record { index = next; middle = inserted; inserts = i; then = inr (record { made = made; middle = joined; joins = j; then = e }) })));
+              (so.goes_on (v ∷ vs) result new (inr (record { index = next; middle = inserted; inserts = i; then = inr (record { made = made; middle = joined; joins = j; then = e }) })));
         }
 
   -- ---- the end of a path
