@@ -30,14 +30,20 @@ fn kind_of(answer: PositionInTriangulation) -> &'static str {
     }
 }
 
+// The square of a difference, which is small here.
+fn squared(a: i64, b: i64) -> i64 {
+    let difference = a.wrapping_sub(b);
+    difference.wrapping_mul(difference)
+}
+
 // The squared distance to the nearest vertex.
 fn distance<L: HintGenerator<i64>>(points: &Hinted<L>, point: Point2<i64>) -> Option<i64> {
     if validate_vertex(&point).is_err() {
         return None;
     }
-    let nearest = points.nearest_neighbor(point, &ExactTests)?;
-    points.recall_invariant();
-    Some(nearest.data().distance_2(point))
+    let nearest = points.nearest_neighbor(point, &ExactTests)?.data();
+    let (x, y) = (squared(nearest.x, point.x), squared(nearest.y, point.y));
+    Some(x.wrapping_add(y))
 }
 
 fn print_answers<L: HintGenerator<i64>>(
