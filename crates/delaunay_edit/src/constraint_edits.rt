@@ -7,8 +7,7 @@ ghost use Rattle.delaunay_edit.specs.Constrained.{constrained, constraint_edges}
 ghost use Rattle.delaunay_edit.specs.ConstraintEdits.{AddsConstraint, AddsPathIfFree, FreesEdge, MarksEdges, ReleasesConstraint};
 ghost use Rattle.delaunay_edit.specs.Headline.{AreSites, IsDelaunay};
 
-use crate::cdt::ConstrainedDelaunayTriangulation;
-use delaunay_core::HintGenerator;
+use crate::edited_mesh::ConstrainedMesh;
 use delaunay_core::math::PlaneTests;
 use delaunay_core::point::HasPosition;
 use delaunay_legalization::EdgeConstraints;
@@ -18,13 +17,7 @@ use delaunay_paths::{
 use half_edge_mesh::{FixedDirectedEdgeHandle, FixedUndirectedEdgeHandle, FixedVertexHandle};
 use std::alloc::AllocError;
 
-impl<V: HasPosition, DE, UE, F, L: HintGenerator<V::Scalar>> ConstrainedDelaunayTriangulation<
-    V,
-    DE,
-    UE,
-    F,
-    L,
-> {
+impl<V: HasPosition, DE, UE, F> ConstrainedMesh<V, DE, UE, F> {
     /// Whether no constraint has one point in common with the segment between two vertices that is strictly within both.
     pub fn can_add_constraint<P: PlaneTests<V::Scalar>>(
         &self,

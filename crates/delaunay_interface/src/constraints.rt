@@ -1,4 +1,4 @@
-//! Calls of a triangulation with constraints alone.
+//! Which edges of a triangulation are constraints, and a triangulation that takes on constraints.
 ghost use Rattle.std.specs.Prelude.{◌≡◌, ◌↔◌, ◌*◌, ◌<◌, length, Contains, IsTrue, IfErr, IfOk};
 ghost use Rattle.half_edge_mesh.specs.Mesh.{origin, rev};
 ghost use Rattle.plane.specs.Pairs.{Joins};
@@ -13,7 +13,7 @@ use crate::triangulation_core::{
 };
 use delaunay_core::HintGenerator;
 use delaunay_core::point::HasPosition;
-use delaunay_edit::ConstrainedDelaunayTriangulation as EditedMesh;
+use delaunay_edit::EditedMesh;
 use half_edge_mesh::{FixedUndirectedEdgeHandle, FixedVertexHandle};
 
 impl<V: HasPosition, DE, UE, F, L: HintGenerator<V::Scalar>> ConstrainedDelaunayTriangulation<
@@ -40,7 +40,7 @@ impl<V: HasPosition, DE, UE, F, L: HintGenerator<V::Scalar>> ConstrainedDelaunay
         self.edited.num_constraints()
     }
 
-    /// Whether a constraint joins two vertices, in either order, by a look at all edges.
+    /// Whether a constraint joins two vertices, in either order, by a look round the first.
     pub fn exists_constraint(&self, from: FixedVertexHandle, to: FixedVertexHandle) -> bool
         ensures { IsTrue result ↔ Joins (constraints_of self.now) from to }
     {

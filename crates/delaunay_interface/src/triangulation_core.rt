@@ -1,8 +1,7 @@
 //! The struct that both triangulation types are.
-
 use delaunay_core::point::HasPosition;
 use delaunay_core::{HintGenerator, LastUsedVertexHintGenerator};
-use delaunay_edit::{EdgeData, TriangulationCore as EditedMesh};
+use delaunay_edit::{EdgeData, EditedMesh};
 use delaunay_legalization::{CdtEdge, EdgeConstraints, NoConstraints};
 use std::alloc::Global;
 use std::marker::Model;
@@ -21,7 +20,7 @@ pub struct TriangulationCore<
     L: HintGenerator<V::Scalar>,
     M: EdgeData<UE>,
 > {
-    pub(crate) edited: EditedMesh<V, DE, UE, F, LastUsedVertexHintGenerator, M>,
+    pub(crate) edited: EditedMesh<V, DE, UE, F, M>,
     pub(crate) hint_generator: L,
     pub(crate) alloc: Global,
 }

@@ -1,2 +1,7 @@
 //! Iterators over the elements of a triangulation.
-pub use half_edge_mesh::{CircularIterator, FaceIterator, VertexIterator};
+pub use half_edge_mesh::{
+    CircularIterator, DirectedEdgeIterator, DirectedVoronoiEdgeIterator, FaceIterator,
+    FixedDirectedEdgeIterator, FixedFaceIterator, FixedUndirectedEdgeIterator, FixedVertexIterator,
+    HullIterator, UndirectedEdgeIterator, UndirectedVoronoiEdgeIterator, VertexIterator,
+    VoronoiCircularIterator, VoronoiFaceIterator,
+};
