@@ -13,11 +13,15 @@ positions number layer = map (place_of number) layer.vertices
 abbrev pub IsAt : {S D U F : Type 0} → (S → ℤ) → State (Point2 S) D U F → Point → Type 0
 IsAt number layer p = Contains (positions number layer) p
 
--- p is the position of a vertex of some layer
-pub record IsHeld {S D U F : Type 0} (number : S → ℤ) (layers : List (State (Point2 S) D U F)) (p : Point) : Type 0 where
-  pub layer : State (Point2 S) D U F
+-- p is one of the positions of some layer
+pub record IsInSome {L : Type 0} (positions_of : L → List Point) (layers : List L) (p : Point) : Type 0 where
+  pub layer : L
   pub among : Contains layers layer
-  pub vertex : IsAt number layer p
+  pub vertex : Contains (positions_of layer) p
+
+-- p is the position of a vertex of some layer
+abbrev pub IsHeld : {S D U F : Type 0} → (S → ℤ) → List (State (Point2 S) D U F) → Point → Type 0
+IsHeld number layers p = IsInSome (positions number) layers p
 
 -- each position of the new set is one of the old, or that of the vertex that is swapped in, if any
 abbrev pub IsAtMostOr : (old new : Point → Type 0) → Option Point → Type 0

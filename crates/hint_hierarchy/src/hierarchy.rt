@@ -6,7 +6,7 @@ ghost use Rattle.delaunay_core.specs.Held.{AreDistinct, place_if, places};
 ghost use Rattle.delaunay_core.specs.Place.{place_of};
 ghost use Rattle.hint_hierarchy.specs.Layers.{IsHeld};
 
-use crate::layer::{Layer, first_position, insert, is_vacant, nearest_from};
+use crate::layer::{Layer, copy, first_position, insert, is_vacant, nearest_from};
 use crate::positions::{index_above, index_below};
 use delaunay_core::HintGenerator;
 use delaunay_core::math::PlaneTests;
@@ -65,6 +65,18 @@ impl<S: SpadeNum, const BRANCH_FACTOR: u32> HierarchyHintGeneratorWithBranchFact
         }
     }
 
+    // The position of the first vertex, or another where there is no layer yet.
+    fn first_or(&self, other: Point2<S>) -> Point2<S>
+        ensures { IsHeld S.whole self.now.layers.items (place_of S.whole result) ⊎
+            (result ≡ other) }
+    {
+        if self.layers.is_empty() {
+            other
+        } else {
+            first_position(&self.layers[0], other)
+        }
+    }
+
     // Puts a layer of the first vertex alone on top; whether there was memory for it. The position
     // is that of the vertex where there is no layer yet.
     fn add_layer<P: PlaneTests<S>>(&mut self, position: Point2<S>, tests: &P) -> bool
@@ -73,11 +85,7 @@ impl<S: SpadeNum, const BRANCH_FACTOR: u32> HierarchyHintGeneratorWithBranchFact
         ensures { IsAtMostWith (IsHeld S.whole self.old.layers.items)
             (IsHeld S.whole self.new.layers.items) (place_of S.whole position) }
     {
-        let first = if self.layers.is_empty() {
-            position
-        } else {
-            first_position(&self.layers[0], position)
-        };
+        let first = self.first_or(position);
         let mut layer = Layer::new(self.alloc);
         insert(&mut layer, 0, first, tests) && self.layers.push(layer).is_ok()
     }
@@ -148,7 +156,7 @@ impl<S: SpadeNum, const BRANCH_FACTOR: u32> HierarchyHintGeneratorWithBranchFact
     {
         let mut copies = Vec::new(self.alloc);
         for layer in &self.layers {
-            copies.push(layer.try_clone()?)?;
+            copies.push(copy(layer)?)?;
         }
         Ok(copies)
     }

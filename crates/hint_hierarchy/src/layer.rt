@@ -1,8 +1,6 @@
 //! One layer of a hierarchy: a plain triangulation of positions.
-ghost use Rattle.std.specs.Prelude.{◌≡◌, ◌⊎◌, ◌→◌, All, IsTrue, Some};
-ghost use Rattle.plane.specs.Fraction.{Point};
+ghost use Rattle.std.specs.Prelude.{◌≡◌, ◌⊎◌, All, IfOk, IsTrue};
 ghost use Rattle.plane.specs.Hint.{IsAtMost, IsAtMostWith};
-ghost use Rattle.delaunay_core.specs.Held.{place_if};
 ghost use Rattle.delaunay_core.specs.Place.{place_of};
 ghost use Rattle.hint_hierarchy.specs.Layers.{IsAt, positions};
 
@@ -11,6 +9,7 @@ use delaunay_core::math::PlaneTests;
 use delaunay_core::point::{Point2, SpadeNum};
 use delaunay_interface::{DelaunayTriangulation, Triangulation};
 use half_edge_mesh::FixedVertexHandle;
+use std::alloc::AllocError;
 
 pub(crate) type Layer<S> = DelaunayTriangulation<Point2<S>>;
 
@@ -104,4 +103,11 @@ pub(crate) fn first_position<S: SpadeNum>(layer: &Layer<S>, other: Point2<S>) ->
         Some(vertex) => *vertex.data(),
         None => other,
     }
+}
+
+// A copy, with the same positions.
+pub(crate) fn copy<S: SpadeNum>(layer: &Layer<S>) -> Result<Layer<S>, AllocError>
+    ensures { IfOk result (λ l. positions S.whole l ≡ positions S.whole layer.now) }
+{
+    layer.try_clone()
 }
