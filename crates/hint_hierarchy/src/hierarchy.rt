@@ -134,7 +134,8 @@ impl<S: SpadeNum, const BRANCH_FACTOR: u32> HierarchyHintGeneratorWithBranchFact
     fn is_vacant<P: PlaneTests<S>>(&self, position: Point2<S>, tests: &P) -> bool
         requires held { IsAtMost (P.sites tests.now) (IsHeld S.whole self.now.layers.items) }
         requires covered { P.covered tests.now (place_of S.whole position) }
-        ensures { IsTrue result → ¬ IsHeld S.whole self.now.layers.items (place_of S.whole position) }
+        ensures { IsTrue result →
+            ¬ IsHeld S.whole self.now.layers.items (place_of S.whole position) }
     {
         let mut start = 0;
         let mut level = self.layers.len();
