@@ -52,6 +52,41 @@ fn each_rotation_of_a_listed_triple_turns_left(rt: HostRuntime) {
     }
 }
 
+// Of 35 triples of L, 4 are on a line, and of 84 triples of X, 20 are. The sites inside the circles of ten and nine
+// triples of sites are counted.
+#[test]
+fn sheets_with_points_that_are_no_sites_turn_as_listed(rt: HostRuntime) {
+    let inside = (1 + 2 + 1 + 1 + 2 + 1, 2 + 2 + 1 + 1 + 1);
+    assert_eq!(rt;
+        (
+            counts(&Sheet::L, Sheet::L.points()),
+            counts(&Sheet::X, Sheet::X.points())
+        ),
+        (((35 - 4) * 3, inside.0 * 3), ((84 - 20) * 3, inside.1 * 3))
+    );
+}
+
+#[test]
+fn points_that_are_no_sites_are_found_as_such(rt: HostRuntime) {
+    let (l, x) = (Sheet::L.points(), Sheet::X.points());
+    assert_eq!(rt;
+        (
+            (l.len(), x.len()),
+            (
+                index_of(l, Point2::new(40, 0)),
+                site_index_of(l, Point2::new(40, 0)),
+                site_index_of(l, Point2::new(30, 0))
+            ),
+            (
+                index_of(x, Point2::new(0, 0)),
+                site_index_of(x, Point2::new(0, 0)),
+                site_index_of(x, Point2::new(1, 1))
+            )
+        ),
+        ((7, 9), (Some(6), None, Some(4)), (Some(6), None, Some(4)))
+    );
+}
+
 #[test]
 fn points_are_found(rt: HostRuntime) {
     let points = Sheet::G.points();
@@ -104,8 +139,8 @@ fn a_sheet_is_named_by_one_letter(rt: HostRuntime) {
         (["G"].as_slice(), Some(Sheet::G)),
         (["B"].as_slice(), Some(Sheet::B)),
         (["R"].as_slice(), Some(Sheet::R)),
-        (["L"].as_slice(), None),
-        (["X"].as_slice(), None),
+        (["L"].as_slice(), Some(Sheet::L)),
+        (["X"].as_slice(), Some(Sheet::X)),
         ([].as_slice(), None),
         (["g"].as_slice(), None),
         (["Q"].as_slice(), None),

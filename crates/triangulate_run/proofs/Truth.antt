@@ -4,27 +4,31 @@ use Rattle.plane.specs.Fraction.{Point, whole}
 use Rattle.plane.specs.Side.{Side, side, TurnsLeft}
 use Rattle.plane.specs.Circle.{InsideCircle}
 use Rattle.triangulate_run.specs.declared.sheet.Sheet.{Sheet}
-use Rattle.triangulate_run.specs.declared.sheet.Sheet.TheVariants.{G, B, R}
+use Rattle.triangulate_run.specs.declared.sheet.Sheet.TheVariants.{G, B, R, L, X}
 use Rattle.triangulate_run.specs.declared.circles.Circle.{Circle}
-use Rattle.triangulate_run.specs.declared.table.TheConstants.{G_POINTS, B_POINTS, R_POINTS, GRID_CIRCLES}
+use Rattle.triangulate_run.specs.declared.table.TheConstants.{G_POINTS, B_POINTS, R_POINTS, L_POINTS, X_POINTS, GRID_CIRCLES, L_CIRCLES, X_CIRCLES}
 use Rattle.triangulate_run.specs.Points.{IsAt, IsSiteAt}
 use Rattle.triangulate_run.specs.Sheet.{points_of, circles_of}
 use Rattle.triangulate_run.specs.Table.{side_in, is_inside_in}
 use Rattle.triangulate_run.proofs.Rule.{SidesAreTrue, CirclesAreTrue, sides_true, circles_true}
 use Rattle.triangulate_run.proofs.Level.{level_sides_true, level_circles_true}
-use Rattle.triangulate_run.proofs.Tables.{g_sides, g_circles, b_sides, b_circles, r_level}
+use Rattle.triangulate_run.proofs.Tables.{g_sides, g_circles, b_sides, b_circles, l_sides, l_circles, x_sides, x_circles, r_level}
 
 pub sides_are_true : (s : Sheet) → SidesAreTrue (points_of s) (circles_of s)
 unfolding points_of circles_of
 sides_are_true G = sides_true G_POINTS GRID_CIRCLES g_sides
 sides_are_true B = sides_true B_POINTS GRID_CIRCLES b_sides
 sides_are_true R = level_sides_true R_POINTS r_level
+sides_are_true L = sides_true L_POINTS L_CIRCLES l_sides
+sides_are_true X = sides_true X_POINTS X_CIRCLES x_sides
 
 pub circles_are_true : (s : Sheet) → CirclesAreTrue (points_of s) (circles_of s)
 unfolding points_of circles_of
 circles_are_true G = circles_true G_POINTS GRID_CIRCLES (sides_true G_POINTS GRID_CIRCLES g_sides) g_circles
 circles_are_true B = circles_true B_POINTS GRID_CIRCLES (sides_true B_POINTS GRID_CIRCLES b_sides) b_circles
 circles_are_true R = level_circles_true R_POINTS r_level
+circles_are_true L = circles_true L_POINTS L_CIRCLES (sides_true L_POINTS L_CIRCLES l_sides) l_circles
+circles_are_true X = circles_true X_POINTS X_CIRCLES (sides_true X_POINTS X_CIRCLES x_sides) x_circles
 
 -- at points that stand in the list
 pub side_from : (s : Sheet) (circles : List Circle) (r : Side) (a b c : Point) (i j k : ℕ) → circles ≡ circles_of s → IsAt (points_of s) i a → IsAt (points_of s) j b → IsAt (points_of s) k c → r ≡ side_in circles i j k → r ≡ side (whole a) (whole b) (whole c)

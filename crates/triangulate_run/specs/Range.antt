@@ -5,7 +5,7 @@ use Rattle.std.proofs.lemmas.Bool.{and_parts}
 use Rattle.plane.specs.Fraction.{Point}
 use Rattle.plane.specs.Tests.{limit, IsCoordinate, InRange}
 use Rattle.triangulate_run.specs.declared.sheet.Sheet.{Sheet}
-use Rattle.triangulate_run.specs.declared.sheet.Sheet.TheVariants.{G, B, R}
+use Rattle.triangulate_run.specs.declared.sheet.Sheet.TheVariants.{G, B, R, L, X}
 use Rattle.triangulate_run.specs.declared.points.SheetPoint.{SheetPoint}
 use Rattle.triangulate_run.specs.Points.{place, point_in}
 use Rattle.triangulate_run.specs.Sheet.{points_of, IsCovered}
@@ -37,6 +37,8 @@ unfolding points_of
 sheet_in_range G = refl
 sheet_in_range B = refl
 sheet_in_range R = refl
+sheet_in_range L = refl
+sheet_in_range X = refl
 
 pub covered_in_range : (s : Sheet) (p : Point) → IsCovered s p → InRange p
 covered_in_range s p h = subst InRange h.1.1 (in_range (points_of s) (sheet_in_range s) h.0)

@@ -6,7 +6,7 @@ ghost use Rattle.triangulate_run.specs.Line.{kept};
 ghost use Rattle.triangulate_run.specs.Points.{place};
 ghost use Rattle.triangulate_run.specs.Output.{Writes};
 ghost use Rattle.triangulate_run.specs.Stage.{Stage, first_stage, Fits};
-ghost use Rattle.triangulate_run.specs.Answer.{MayReply};
+ghost use Rattle.triangulate_run.specs.Answer.{MayAnswer};
 ghost use Rattle.triangulate_run.specs.Run.{Answers, Ran, end_text};
 ghost use Rattle.triangulate_run.specs.declared.points.SheetPoint.{SheetPoint};
 
@@ -16,8 +16,8 @@ use crate::input::next_byte;
 use crate::line_buffer::LineBuffer;
 use crate::output::write_all;
 use crate::points::SheetPoint;
-use crate::reply::{Reply, write_reply};
 use command_grammar::command::Command;
+use delaunay_core::HintGenerator;
 use delaunay_core::math::PlaneTests;
 use std::alloc::Global;
 use std::io::{Read, Write};
@@ -32,13 +32,20 @@ pub(crate) trait Engine {
     // what it needs to be able to answer
     ghost is_ready: { Self → Type 0 };
 
-    /// Does what the command asks for.
-    fn reply_to(&mut self, command: Command) -> Reply
+    /// Does what the command asks for, and writes what there is to tell.
+    fn answer<W: Write>(
+        &mut self,
+        command: Command,
+        writer: &mut Watched<W>,
+    ) -> Result<(), Failed>
         requires ready { is_ready self.old }
+        requires works { has_failed writer.old ≡ false }
         ensures ready { is_ready self.new }
         ensures listed { listed self.new ≡ listed self.old }
-        ensures reply { MayReply (listed self.old) (stage self.old) command result (stage self.new) }
-        ensures fits { Fits (stage self.new) };
+        ensures fits { Fits (stage self.new) }
+        ensures answered { (text : List ℕ)
+            × MayAnswer (listed self.old) (stage self.old) command text (stage self.new)
+            × Writes W.contents writer.old writer.new result text };
 }
 
 /// The command of a line.
@@ -69,8 +76,7 @@ fn answer_line<E: Engine, W: Write>(
     let Some(command) = command_of(line) else {
         return write_all(writer, b"bad line\n");
     };
-    let reply = engine.reply_to(command);
-    write_reply(writer, &reply)
+    engine.answer(command, writer)
 }
 
 /// Answers a line, and has the writer pass the answer on.
@@ -147,7 +153,7 @@ pub(crate) fn converse<E: Engine, R: Read, W: Write>(
 ///
 /// `Read` where the reader failed: all complete lines that it gave are answered. `Write` where the
 /// writer failed: what it took is a beginning of the answers.
-pub fn run<P: PlaneTests<i64>, R: Read, W: Write>(
+pub fn run<L: HintGenerator<i64>, P: PlaneTests<i64>, R: Read, W: Write>(
     alloc: Global,
     tests: &P,
     points: &[SheetPoint],
@@ -160,6 +166,6 @@ pub fn run<P: PlaneTests<i64>, R: Read, W: Write>(
     requires writer_works { has_failed writer.old ≡ false }
     ensures { Ran points.now R.remaining W.contents reader.old reader.new writer.old writer.new result }
 {
-    let mut engine = PointEngine::new(alloc, tests, points);
+    let mut engine: PointEngine<'_, P, L> = PointEngine::new(alloc, tests, points);
     converse(&mut engine, reader, writer)
 }

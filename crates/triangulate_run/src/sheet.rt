@@ -11,7 +11,9 @@ ghost use Rattle.triangulate_run.specs.declared.sheet.Sheet.{Sheet};
 
 use crate::circles::{Circle, is_inside_at, side_at};
 use crate::points::{SheetPoint, index_of, site_index_of};
-use crate::table::{B_POINTS, G_POINTS, GRID_CIRCLES, R_POINTS};
+use crate::table::{
+    B_POINTS, G_POINTS, GRID_CIRCLES, L_CIRCLES, L_POINTS, R_POINTS, X_CIRCLES, X_POINTS,
+};
 use delaunay_core::line_side_info::LineSideInfo;
 use delaunay_core::math::PlaneTests;
 use delaunay_core::point::Point2;
@@ -25,6 +27,10 @@ pub enum Sheet {
     B,
     /// A hundred points on one line, 1 apart.
     R,
+    /// Five sites, and two points that are none on the line through two of them.
+    L,
+    /// Five sites on two lines that cross, and four points on the lines that are none.
+    X,
 }
 
 /// The sheet that the words after the program's name ask for: one word, its letter.
@@ -47,6 +53,8 @@ pub fn letter_named(word: &str) -> Option<Sheet>
         "G" => Some(Sheet::G),
         "B" => Some(Sheet::B),
         "R" => Some(Sheet::R),
+        "L" => Some(Sheet::L),
+        "X" => Some(Sheet::X),
         _ => None,
     }
 }
@@ -69,6 +77,8 @@ impl Sheet {
             Sheet::G => &G_POINTS,
             Sheet::B => &B_POINTS,
             Sheet::R => &R_POINTS,
+            Sheet::L => &L_POINTS,
+            Sheet::X => &X_POINTS,
         }
     }
 
@@ -79,6 +89,8 @@ impl Sheet {
         match self {
             Sheet::G | Sheet::B => &GRID_CIRCLES,
             Sheet::R => &[],
+            Sheet::L => &L_CIRCLES,
+            Sheet::X => &X_CIRCLES,
         }
     }
 

@@ -13,6 +13,16 @@ macro_rules! site {
     };
 }
 
+// A point at which no vertex may be.
+macro_rules! covered {
+    ($x:expr, $y:expr) => {
+        SheetPoint {
+            position: Point2 { x: $x, y: $y },
+            site: false,
+        }
+    };
+}
+
 // Sites on the line y = 0.
 macro_rules! row {
     ($($x:expr),*) => {
@@ -131,4 +141,75 @@ pub(crate) const R_POINTS: [SheetPoint; 100] = row![
     -12, -11, -10, -9, -8, -7, -6, -5, -4, -3, -2, -1, 0, 1, 2, 3, 4, 5, 6, 7, 8, 9, 10, 11, 12,
     13, 14, 15, 16, 17, 18, 19, 20, 21, 22, 23, 24, 25, 26, 27, 28, 29, 30, 31, 32, 33, 34, 35, 36,
     37, 38, 39, 40, 41, 42, 43, 44, 45, 46, 47, 48, 49
+];
+
+pub(crate) const L_POINTS: [SheetPoint; 7] = [
+    site!(-30, 20),
+    site!(0, -20),
+    site!(0, 20),
+    site!(14, 0),
+    site!(30, 0),
+    covered!(-30, 0),
+    covered!(40, 0),
+];
+
+// First each triple of sites, with the sites inside its circle, then the other triples, whose
+// circles are never asked for.
+pub(crate) const L_CIRCLES: [Circle; 16] = [
+    circle!([[0, 1, 2]; 4];),
+    circle!([[0, 1, 3]; 4]; 2),
+    circle!([[0, 1, 4]; 4]; 2, 3),
+    circle!([[0, 3, 2]; 4]; 1),
+    circle!([[0, 3, 4]; 4]; 2),
+    circle!([[0, 4, 2]; 4]; 1, 3),
+    circle!([[1, 3, 2]; 4];),
+    circle!([[1, 4, 2]; 4]; 3),
+    circle!([[1, 4, 3]; 4];),
+    circle!([[2, 3, 4]; 4];),
+    circle!([[0, 1, 6], [0, 3, 6], [0, 4, 6], [0, 5, 1]];),
+    circle!([[0, 5, 2], [0, 5, 3], [0, 5, 4], [0, 5, 6]];),
+    circle!([[0, 6, 2], [1, 2, 5], [1, 3, 5], [1, 4, 5]];),
+    circle!([[1, 6, 2], [1, 6, 3], [1, 6, 4], [1, 6, 5]];),
+    circle!([[2, 3, 6], [2, 4, 6], [2, 5, 3], [2, 5, 4]];),
+    circle!([[2, 5, 6]; 4];),
+];
+
+// Two lines that cross at (0, 0).
+pub(crate) const X_POINTS: [SheetPoint; 9] = [
+    site!(-2, -2),
+    site!(2, 2),
+    site!(1, -1),
+    site!(-1, 1),
+    site!(1, 1),
+    covered!(-1, -1),
+    covered!(0, 0),
+    covered!(-3, 3),
+    covered!(3, -3),
+];
+
+// First each triple of sites, as above.
+pub(crate) const X_CIRCLES: [Circle; 23] = [
+    circle!([[0, 1, 3]; 4]; 2, 4),
+    circle!([[0, 2, 1]; 4]; 3, 4),
+    circle!([[0, 2, 3]; 4];),
+    circle!([[0, 2, 4]; 4]; 3),
+    circle!([[0, 4, 3]; 4]; 2),
+    circle!([[1, 3, 2]; 4]; 4),
+    circle!([[1, 3, 4]; 4];),
+    circle!([[1, 4, 2]; 4];),
+    circle!([[2, 4, 3]; 4];),
+    circle!([[0, 1, 7], [0, 2, 5], [0, 2, 6], [0, 2, 7]];),
+    circle!([[0, 3, 7], [0, 4, 7], [0, 5, 3], [0, 5, 7]];),
+    circle!([[0, 6, 3], [0, 6, 7], [0, 8, 1], [0, 8, 2]];),
+    circle!([[0, 8, 3], [0, 8, 4], [0, 8, 5], [0, 8, 6]];),
+    circle!([[0, 8, 7], [1, 2, 8], [1, 3, 5], [1, 3, 6]];),
+    circle!([[1, 3, 8], [1, 4, 8], [1, 5, 2], [1, 5, 8]];),
+    circle!([[1, 6, 2], [1, 6, 8], [1, 7, 2], [1, 7, 3]];),
+    circle!([[1, 7, 4], [1, 7, 5], [1, 7, 6], [1, 7, 8]];),
+    circle!([[2, 3, 5], [2, 4, 5], [2, 4, 6], [2, 4, 7]];),
+    circle!([[2, 5, 8], [2, 6, 5], [2, 7, 5], [2, 8, 4]];),
+    circle!([[3, 4, 7], [3, 5, 4], [3, 5, 6], [3, 5, 8]];),
+    circle!([[3, 6, 4], [3, 7, 5], [3, 8, 4], [4, 5, 8]];),
+    circle!([[4, 6, 8], [4, 7, 5], [4, 7, 6], [4, 7, 8]];),
+    circle!([[5, 6, 7], [5, 8, 6], [5, 8, 7], [5, 8, 7]];),
 ];

@@ -6,3 +6,12 @@ returns-in-G c = search rules
 
 pub returns-in-B : goal.returns-in-B
 returns-in-B c = search rules
+
+pub returns-in-R : goal.returns-in-R
+returns-in-R c = search rules
+
+pub returns-in-L : goal.returns-in-L
+returns-in-L c = search rules
+
+pub returns-in-X : goal.returns-in-X
+returns-in-X c = search rules

@@ -5,3 +5,11 @@ use Rattle.triangulate_run.proofs.sheet.Sheet.circles.Goals as goal
 pub returns-in-R : goal.returns-in-R
 unfolding circles_of
 returns-in-R c = search rules
+
+pub returns-in-L : goal.returns-in-L
+unfolding circles_of
+returns-in-L c = search rules
+
+pub returns-in-X : goal.returns-in-X
+unfolding circles_of
+returns-in-X c = search rules

@@ -5,3 +5,11 @@ use Rattle.triangulate_run.proofs.sheet.Sheet.listed.Goals as goal
 pub returns-in-B : goal.returns-in-B
 unfolding points_of
 returns-in-B c = search rules
+
+pub returns-in-L : goal.returns-in-L
+unfolding points_of
+returns-in-L c = search rules
+
+pub returns-in-X : goal.returns-in-X
+unfolding points_of
+returns-in-X c = search rules
