@@ -51,8 +51,9 @@ impl<V: HasPosition, DE, UE, F> ConstrainedMesh<V, DE, UE, F> {
         false
     }
 
-    /// The vertices, edges and faces of a triangulation without constraints, under the same handles, and no constraint.
-    /// Where memory was refused, it gives the triangulation back as it was.
+    /// The vertices, edges and faces of a triangulation without constraints, under the same
+    /// handles, and no constraint. Where memory was refused, it gives the triangulation back as it
+    /// was.
     pub fn from_delaunay(
         plain: PlainMesh<V, DE, UE, F>,
     ) -> Result<Self, PlainMesh<V, DE, UE, F>>

@@ -17,9 +17,10 @@ use half_edge_mesh::{
 use std::alloc::Global;
 use std::marker::{Model, PhantomData};
 
-/// The mesh of a triangulation of vertices with different positions: its faces tile the hull of the positions, or its edges
-/// join the positions of one line to their neighbours. The constraints are the edges that the marker `M` finds by their data,
-/// and no face has a vertex strictly inside its circle that is seen from inside the face past the constraints.
+/// The mesh of a triangulation of vertices with different positions: its faces tile the hull of the
+/// positions, or its edges join the positions of one line to their neighbours. The constraints are
+/// the edges that the marker `M` finds by their data, and no face has a vertex strictly inside its
+/// circle that is seen from inside the face past the constraints.
 #[derive(Drop)]
 pub struct EditedMesh<
     V: HasPosition,

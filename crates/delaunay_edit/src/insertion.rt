@@ -23,7 +23,8 @@ use half_edge_mesh::{FixedVertexHandle, MAX_ELEMENTS};
 pub(crate) enum Entry {
     /// This vertex.
     Occupied(FixedVertexHandle),
-    /// No vertex. The location of the position, and whether the position is strictly on the left of the edge that it names.
+    /// No vertex. The location of the position, and whether the position is strictly on the left of
+    /// the edge that it names.
     Vacant(PositionInTriangulation, bool),
 }
 
@@ -110,12 +111,13 @@ impl<
         }
     }
 
-    /// Inserts a vertex and gives its handle. The first of these that applies decides: `TooLarge` where a coordinate is out
-    /// of range; the handle of the vertex at its position, which it replaces; `OutOfIndexes` where the mesh is full;
-    /// `OutOfMemory` where memory was refused; else the handle of the new last vertex. A constraint that the new vertex is
-    /// strictly within becomes two, and no other edge becomes one. A refused vertex is dropped, and nothing else changes.
-    /// The search for the position begins at a vertex, or at vertex 0 where there is no such vertex. The number of flips is
-    /// added to `flips`.
+    /// Inserts a vertex and gives its handle. The first of these that applies decides: `TooLarge`
+    /// where a coordinate is out of range; the handle of the vertex at its position, which it
+    /// replaces; `OutOfIndexes` where the mesh is full; `OutOfMemory` where memory was refused;
+    /// else the handle of the new last vertex. A constraint that the new vertex is strictly within
+    /// becomes two, and no other edge becomes one. A refused vertex is dropped, and nothing else
+    /// changes. The search for the position begins at a vertex, or at vertex 0 where there is no
+    /// such vertex. The number of flips is added to `flips`.
     pub fn insert_from<P: PlaneTests<V::Scalar>>(
         &mut self,
         value: V,

@@ -76,10 +76,11 @@ impl<
         Ok(value)
     }
 
-    /// Removes a vertex, with the constraints that end at it, and gives it back; the last vertex takes its handle. Handles of
-    /// edges and faces change too. Each other constraint stays. An edge that did not end at the vertex, or a face without
-    /// that corner, that is there before and after keeps its data, and so does the outer face. It gives `AllocError` where
-    /// memory was refused, and then nothing changes.
+    /// Removes a vertex, with the constraints that end at it, and gives it back; the last vertex
+    /// takes its handle. Handles of edges and faces change too. Each other constraint stays. An
+    /// edge that did not end at the vertex, or a face without that corner, that is there before and
+    /// after keeps its data, and so does the outer face. It gives `AllocError` where memory was
+    /// refused, and then nothing changes.
     pub fn remove<P: PlaneTests<V::Scalar>>(
         &mut self,
         vertex: FixedVertexHandle,
@@ -104,8 +105,8 @@ impl<
     F: Drop,
     M: ConstraintMarker<UE>,
 > EditedMesh<V, DE, UE, F, M> {
-    /// Forgets each vertex, each edge with its constraint, and each inner face. The outer face keeps its data, and memory
-    /// that was taken is kept for later insertions. It is never refused.
+    /// Forgets each vertex, each edge with its constraint, and each inner face. The outer face
+    /// keeps its data, and memory that was taken is kept for later insertions. It is never refused.
     pub fn clear(&mut self)
         ensures new { self.new ≡ record self.old { vertices = []; mesh = empty; directed = []; undirected = []; faces = [] } }
         ensures plain { IsCleared V.place (points_and_constraints_by M.constraints self.new) }

@@ -28,7 +28,8 @@ impl<V: HasPosition, DE, UE, F, L: HintGenerator<V::Scalar>> ConstrainedDelaunay
         requires { edge < length self.now.undirected }
         ensures marked { IsTrue result ↔ Contains (constraint_edges self.now.undirected) edge }
         ensures joined { let m = self.now.mesh in
-            IsTrue result ↔ Joins (constraints_of self.now) (origin m (2 * edge)) (origin m (rev (2 * edge))) }
+            IsTrue result ↔ Joins (constraints_of self.now) (origin m (2 * edge))
+            (origin m (rev (2 * edge))) }
     {
         self.edited.is_constraint_edge(edge)
     }

@@ -6,6 +6,7 @@ mod constraint_paths;
 mod constraints;
 mod copies;
 mod edits;
+mod inner_faces;
 mod lookups;
 mod nearest_vertex;
 mod segments;
@@ -18,6 +19,7 @@ pub use delaunay_lines::{
     ConflictingEdgesIterator, HasMesh, Intersection, LineIntersectionIterator,
 };
 pub use delaunay_location::PositionInTriangulation;
+pub use inner_faces::InnerFaceIterator;
 pub use triangulation::Triangulation;
 pub use triangulation_core::{
     ConstrainedDelaunayTriangulation, DelaunayTriangulation, TriangulationCore,

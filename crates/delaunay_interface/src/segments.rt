@@ -38,8 +38,9 @@ impl<V: HasPosition, DE, UE, F, L: HintGenerator<V::Scalar>> ConstrainedDelaunay
     F,
     L,
 > {
-    /// Whether two positions that the tests cover differ and the segment between them meets a constraint in one point,
-    /// strictly within the constraint. A constraint along the segment does not count, nor one that only ends on it.
+    /// Whether two positions that the tests cover differ and the segment between them meets a
+    /// constraint in one point, strictly within the constraint. A constraint along the segment does
+    /// not count, nor one that only ends on it.
     pub fn intersects_constraint<P: PlaneTests<V::Scalar>>(
         &self,
         from: Point2<V::Scalar>,
@@ -49,14 +50,16 @@ impl<V: HasPosition, DE, UE, F, L: HintGenerator<V::Scalar>> ConstrainedDelaunay
         requires sites { AreSites V.place (P.sites tests.now) self.now.vertices }
         requires from_covered { P.covered tests.now (place_of V.Scalar.whole from) }
         requires to_covered { P.covered tests.now (place_of V.Scalar.whole to) }
-        ensures { IsTrue result ↔ IntersectsConstraint (triangulation_of V.place self.now) (constraints_of self.now) (place_of V.Scalar.whole from) (place_of V.Scalar.whole to) }
+        ensures { let whole = V.Scalar.whole in
+            IsTrue result ↔ IntersectsConstraint (triangulation_of V.place self.now)
+            (constraints_of self.now) (place_of whole from) (place_of whole to) }
     {
         self.edited.recall_invariant();
         intersects_constraint::<EdgeConstraints, _, _, _, _, _>(self.edited.mesh(), from, to, tests)
     }
 
-    /// The constraints that the segment from one position to another meets in one point strictly within them, in the order
-    /// along the segment. The tests cover both positions.
+    /// The constraints that the segment from one position to another meets in one point strictly
+    /// within them, in the order along the segment. The tests cover both positions.
     pub fn get_conflicting_edges_between_points<'a, P: PlaneTests<V::Scalar>>(
         &'a self,
         from: Point2<V::Scalar>,
@@ -66,7 +69,8 @@ impl<V: HasPosition, DE, UE, F, L: HintGenerator<V::Scalar>> ConstrainedDelaunay
         requires sites { AreSites V.place (P.sites tests.now) self.now.vertices }
         requires from_covered { P.covered tests.now (place_of V.Scalar.whole from) }
         requires to_covered { P.covered tests.now (place_of V.Scalar.whole to) }
-        ensures line { WalksLine V.place V.Scalar.whole self.now (place_of V.Scalar.whole from) (place_of V.Scalar.whole to) result.line }
+        ensures line { let whole = V.Scalar.whole in
+            WalksLine V.place whole self.now (place_of whole from) (place_of whole to) result.line }
         ensures ready { IsReady V.place V.Scalar.whole P.sites P.covered result.line }
     {
         self.edited.recall_invariant();
@@ -83,7 +87,9 @@ impl<V: HasPosition, DE, UE, F, L: HintGenerator<V::Scalar>> ConstrainedDelaunay
         requires from_in { from < length self.now.vertices }
         requires to_in { to < length self.now.vertices }
         requires sites { AreSites V.place (P.sites tests.now) self.now.vertices }
-        ensures line { let points = map V.place self.now.vertices in WalksLine V.place V.Scalar.whole self.now (point_at points from) (point_at points to) result.line }
+        ensures line { let points = map V.place self.now.vertices in
+            WalksLine V.place V.Scalar.whole self.now (point_at points from) (point_at points to)
+            result.line }
         ensures ready { IsReady V.place V.Scalar.whole P.sites P.covered result.line }
     {
         self.edited.recall_invariant();

@@ -19,8 +19,10 @@ ghost use Rattle.delaunay_edit.specs.Edits.{InsertsVertex, LocatesAndRemoves, Re
 ghost use Rattle.delaunay_edit.specs.Elements.{FindsLocation, GivesElements, IsVertexAt};
 ghost use Rattle.delaunay_edit.specs.Headline.{AreSites, IsDelaunay, IsWellFormed};
 ghost use Rattle.delaunay_edit.specs.Hull.{CountsHullEdges};
+ghost use Rattle.delaunay_interface.specs.InnerFaces.{inner_faces_left};
 ghost use Rattle.delaunay_interface.specs.Views.{AreNotJoined, AreOnLine, GivesOutline, IsEdgeBetween, IsElement, corners_at, ends_at};
 
+use crate::inner_faces::InnerFaceIterator;
 use crate::lookups::vertex_near;
 use delaunay_core::HintGenerator;
 use delaunay_core::math::{InsertionError, PlaneTests};
@@ -42,6 +44,22 @@ pub(crate) mod sealed {
 
 /// What `DelaunayTriangulation` and `ConstrainedDelaunayTriangulation` have in common. No other
 /// type has it.
+///
+/// A function over either type, which looks for a position and removes the vertex there:
+///
+/// ```
+/// fn forget<T: Triangulation, P: PlaneTests<<T::Vertex as HasPosition>::Scalar>>(
+///     points: &mut T,
+///     position: Point2<<T::Vertex as HasPosition>::Scalar>,
+///     tests: &P,
+/// ) -> Result<bool, AllocError> {
+///     Ok(points.locate_and_remove(position, tests)?.is_some())
+/// }
+/// ```
+///
+/// Calls that ask tests want each vertex to be a site of them, and each position that is asked for
+/// to be covered by them. Handles are those of this triangulation: `get_vertex` and the counts tell
+/// whether they are in range.
 pub trait Triangulation: Drop + sealed::Sealed {
     type Vertex: HasPosition + Drop;
 
@@ -464,14 +482,15 @@ pub trait Triangulation: Drop + sealed::Sealed {
         self.s().faces()
     }
 
-    /// The faces but the outer one, by rising index.
+    /// The faces but the outer one, by rising index. Each is known to be an inner one, so that its
+    /// corners can be asked for.
     final fn inner_faces(
         &self,
-    ) -> FaceIterator<'_, Self::Vertex, Self::DirectedEdge, Self::UndirectedEdge, Self::Face>
+    ) -> InnerFaceIterator<'_, Self::Vertex, Self::DirectedEdge, Self::UndirectedEdge, Self::Face>
         ensures { GivesElements (state self.now) 1 (length (state self.now).faces)
-            (faces_left result) }
+            (inner_faces_left result) }
     {
-        self.s().inner_faces()
+        InnerFaceIterator::new(self.s())
     }
 
     /// The handles of the vertices, by rising index.

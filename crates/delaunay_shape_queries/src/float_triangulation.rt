@@ -18,10 +18,21 @@ use std::alloc::{AllocError, Global};
 
 /// Edges and vertices in closed rectangles and circles: of both triangulations.
 ///
-/// All vertices are sites of the tests, which also cover the four corners of a rectangle or the centre of a circle. Memory
-/// is taken as the iterator is made, and refused only there; what it gives comes in no promised order.
+/// All vertices are sites of the tests, which also cover the four corners of a rectangle or the
+/// centre of a circle. Memory is taken as the iterator is made, and refused only there; what it
+/// gives comes in no promised order.
+///
+/// The vertices of a triangulation `points` at most 5 from the origin:
+///
+/// ```
+/// let near = points.get_vertices_in_circle(Point2::new(0, 0), 25, &ExactTests, rt.alloc())?;
+/// for vertex in near {
+///     println!(rt; "{}", vertex.fix().index())?;
+/// }
+/// ```
 pub trait FloatTriangulation: Triangulation {
-    /// The edges with a point in a closed rectangle, each once: none where `upper` is left of `lower` or below it.
+    /// The edges with a point in a closed rectangle, each once: none where `upper` is left of
+    /// `lower` or below it.
     final fn get_edges_in_rectangle<P: PlaneTests<<Self::Vertex as HasPosition>::Scalar>>(
         &self,
         lower: Point2<<Self::Vertex as HasPosition>::Scalar>,
@@ -38,17 +49,21 @@ pub trait FloatTriangulation: Triangulation {
         >,
         AllocError,
     >
-        requires sites { AreSites Self.Vertex.place (P.sites tests.now) (Self.state self.now).vertices }
-        requires covered { All (P.covered tests.now) (corners (place_of Self.Vertex.Scalar.whole lower) (place_of Self.Vertex.Scalar.whole upper)) }
+        requires sites { AreSites Self.Vertex.place (P.sites tests.now)
+            (Self.state self.now).vertices }
+        requires covered { let whole = Self.Vertex.Scalar.whole in
+            All (P.covered tests.now) (corners (place_of whole lower) (place_of whole upper)) }
         ensures { let whole = Self.Vertex.Scalar.whole in
-            IfOk result (λ it. FindsEdges Self.Vertex.place (Self.state self.now) (InClosedRectangle (place_of whole lower) (place_of whole upper)) (edges_left it)) }
+            IfOk result (λ it. FindsEdges Self.Vertex.place (Self.state self.now)
+            (InClosedRectangle (place_of whole lower) (place_of whole upper)) (edges_left it)) }
     {
         self.recall_invariant();
         let rectangle = RectangleMetric::new(lower, upper);
         edges_in_shape(self.s(), &rectangle, lower, tests, alloc)
     }
 
-    /// The vertices in a closed rectangle, each once: none where `upper` is left of `lower` or below it.
+    /// The vertices in a closed rectangle, each once: none where `upper` is left of `lower` or
+    /// below it.
     final fn get_vertices_in_rectangle<P: PlaneTests<<Self::Vertex as HasPosition>::Scalar>>(
         &self,
         lower: Point2<<Self::Vertex as HasPosition>::Scalar>,
@@ -65,10 +80,13 @@ pub trait FloatTriangulation: Triangulation {
         >,
         AllocError,
     >
-        requires sites { AreSites Self.Vertex.place (P.sites tests.now) (Self.state self.now).vertices }
-        requires covered { All (P.covered tests.now) (corners (place_of Self.Vertex.Scalar.whole lower) (place_of Self.Vertex.Scalar.whole upper)) }
+        requires sites { AreSites Self.Vertex.place (P.sites tests.now)
+            (Self.state self.now).vertices }
+        requires covered { let whole = Self.Vertex.Scalar.whole in
+            All (P.covered tests.now) (corners (place_of whole lower) (place_of whole upper)) }
         ensures { let whole = Self.Vertex.Scalar.whole in
-            IfOk result (λ it. FindsVertices Self.Vertex.place (Self.state self.now) (InClosedRectangle (place_of whole lower) (place_of whole upper)) (vertices_left it)) }
+            IfOk result (λ it. FindsVertices Self.Vertex.place (Self.state self.now)
+            (InClosedRectangle (place_of whole lower) (place_of whole upper)) (vertices_left it)) }
     {
         self.recall_invariant();
         let rectangle = RectangleMetric::new(lower, upper);
@@ -92,10 +110,12 @@ pub trait FloatTriangulation: Triangulation {
         >,
         AllocError,
     >
-        requires sites { AreSites Self.Vertex.place (P.sites tests.now) (Self.state self.now).vertices }
+        requires sites { AreSites Self.Vertex.place (P.sites tests.now)
+            (Self.state self.now).vertices }
         requires covered { P.covered tests.now (place_of Self.Vertex.Scalar.whole center) }
         requires not_negative { pos 0 ≤ℤ radius_2 }
-        ensures { IfOk result (λ it. FindsEdges Self.Vertex.place (Self.state self.now) (InClosedCircle (place_of Self.Vertex.Scalar.whole center) radius_2) (edges_left it)) }
+        ensures { IfOk result (λ it. FindsEdges Self.Vertex.place (Self.state self.now)
+            (InClosedCircle (place_of Self.Vertex.Scalar.whole center) radius_2) (edges_left it)) }
     {
         self.recall_invariant();
         let circle = CircleMetric::new(center, radius_2);
@@ -119,10 +139,12 @@ pub trait FloatTriangulation: Triangulation {
         >,
         AllocError,
     >
-        requires sites { AreSites Self.Vertex.place (P.sites tests.now) (Self.state self.now).vertices }
+        requires sites { AreSites Self.Vertex.place (P.sites tests.now)
+            (Self.state self.now).vertices }
         requires covered { P.covered tests.now (place_of Self.Vertex.Scalar.whole center) }
         requires not_negative { pos 0 ≤ℤ radius_2 }
-        ensures { IfOk result (λ it. FindsVertices Self.Vertex.place (Self.state self.now) (InClosedCircle (place_of Self.Vertex.Scalar.whole center) radius_2) (vertices_left it)) }
+        ensures { IfOk result (λ it. FindsVertices Self.Vertex.place (Self.state self.now)
+            (InClosedCircle (place_of Self.Vertex.Scalar.whole center) radius_2) (vertices_left it)) }
     {
         self.recall_invariant();
         let circle = CircleMetric::new(center, radius_2);

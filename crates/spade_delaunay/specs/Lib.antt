@@ -1,3 +1,15 @@
+pub use Rattle.plane.specs.Circle
+pub use Rattle.plane.specs.Crossing
+pub use Rattle.plane.specs.Delaunay
+pub use Rattle.plane.specs.Fraction
+pub use Rattle.plane.specs.Hint
+pub use Rattle.plane.specs.Line
+pub use Rattle.plane.specs.Pairs
+pub use Rattle.plane.specs.Plain
+pub use Rattle.plane.specs.Shape
+pub use Rattle.plane.specs.Side
+pub use Rattle.plane.specs.Tests
+pub use Rattle.plane.specs.Tiling
 pub use Rattle.half_edge_mesh.specs.Contents
 pub use Rattle.half_edge_mesh.specs.Left
 pub use Rattle.half_edge_mesh.specs.Mesh
@@ -11,7 +23,6 @@ pub use Rattle.delaunay_legalization.specs.CdtEdge
 pub use Rattle.delaunay_legalization.specs.Constraints
 pub use Rattle.delaunay_legalization.specs.Flips
 pub use Rattle.delaunay_legalization.specs.Known
-pub use Rattle.delaunay_legalization.specs.Shape
 pub use Rattle.delaunay_legalization.specs.State
 pub use Rattle.delaunay_lines.specs.Conflicts
 pub use Rattle.delaunay_lines.specs.Items
@@ -28,5 +39,6 @@ pub use Rattle.delaunay_edit.specs.Location
 pub use Rattle.delaunay_edit.specs.Removal
 pub use Rattle.delaunay_edit.specs.Storage
 pub use Rattle.delaunay_edit.specs.Writing
+pub use Rattle.delaunay_interface.specs.InnerFaces
 pub use Rattle.delaunay_interface.specs.Views
 pub use Rattle.delaunay_shape_queries.specs.Found

@@ -1,4 +1,5 @@
 //! Iterators over the elements of a triangulation.
+pub use delaunay_interface::InnerFaceIterator;
 pub use half_edge_mesh::{
     CircularIterator, DirectedEdgeIterator, DirectedVoronoiEdgeIterator, FaceIterator,
     FixedDirectedEdgeIterator, FixedFaceIterator, FixedUndirectedEdgeIterator, FixedVertexIterator,

@@ -1,5 +1,5 @@
-//! Delaunay triangulations of points with whole-number coordinates, whose side and circle tests the caller hands in. All
-//! that a user names is here.
+//! Delaunay triangulations of points with whole-number coordinates, whose side and circle tests the
+//! caller hands in. All that a user names is here.
 #![tactic(auto)]
 
 pub mod handles;

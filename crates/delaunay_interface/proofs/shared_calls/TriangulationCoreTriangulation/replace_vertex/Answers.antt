@@ -1,7 +1,7 @@
 use Rattle.std.proofs.Common.{◌∙◌, map, sym, ap, subst}
 use Rattle.plane.specs.Hint.{IsAtMostOf}
 use Rattle.delaunay_edit.proofs.Overwriting.{same_places}
-use Rattle.delaunay_interface.proofs.triangulation.TriangulationCoreTriangulation.replace_vertex.Goals as goal
+use Rattle.delaunay_interface.proofs.shared_calls.TriangulationCoreTriangulation.replace_vertex.Goals as goal
 
 pub invariant_of-self : goal.invariant_of-self
 invariant_of-self g c =

@@ -1,11 +1,10 @@
 use Rattle.std.proofs.Common.{map, sym, subst}
 use Rattle.std.specs.Prelude.{All, Contains}
 use Rattle.std.proofs.lemmas.List.Elements.{All-contains}
-use Rattle.delaunay_edit.specs.Constrained.{none}
 use Rattle.delaunay_edit.specs.Headline.{AreSites}
 use Rattle.delaunay_edit.proofs.Removing.{sites_left}
 use Rattle.delaunay_interface.proofs.Held.{held_are_sites, held_then, was_listed}
-use Rattle.delaunay_interface.proofs.edits.DelaunayTriangulation+V+DE+UE+F+L.remove.Goals as goal
+use Rattle.delaunay_interface.proofs.shared_calls.TriangulationCoreTriangulation.remove.Goals as goal
 
 pub notify_vertex_removed-requires-clause-held : goal.notify_vertex_removed-requires-clause-held
 notify_vertex_removed-requires-clause-held g c =
@@ -30,6 +29,6 @@ notify_vertex_removed-requires-clause-swapped_site g c = λ p e.
 pub invariant_of-self-2 : goal.invariant_of-self-2
 invariant_of-self-2 g c =
     let at = g.V.HasPosition.place in
-    held_then at none c.self.inside.edited c.remove.new.self c.args.vertex c.in_ok-value.value c.in_ok-value.ensures.removes.value c.in_ok-value.ensures.removes.plain _ _ _ c.self.invariant
+    held_then at g.M.ConstraintMarker.constraints c.self.inside.edited c.remove.new.self c.args.vertex c.in_ok-value.value c.in_ok-value.ensures.removes.value c.in_ok-value.ensures.removes.plain _ _ _ c.self.invariant
     (λ p e. subst (λ s. Contains (map at s.vertices) p) c.mesh.ensures (c.position_if-swapped_in.ensures p e))
     (rw (← c.position-position.ensures) c.notify_vertex_removed.ensures)
