@@ -4,14 +4,15 @@ use crate::random::Random;
 use exact_tests::ExactTests;
 use spade_delaunay::handles::FixedVertexHandle;
 use spade_delaunay::{
-    DelaunayTriangulation, InsertionError, Point2, PositionInTriangulation, validate_vertex,
+    DelaunayTriangulation, InsertionError, Point2, PositionInTriangulation, Triangulation,
+    validate_vertex,
 };
 use std::alloc::{AllocError, Global};
 
-pub type Triangulation = DelaunayTriangulation<Point2<i64>>;
+pub type Points = DelaunayTriangulation<Point2<i64>>;
 
-pub fn insert_all(alloc: Global, points: &[Point2<i64>]) -> Result<Triangulation, InsertionError> {
-    let mut triangulation = Triangulation::new(alloc);
+pub fn insert_all(alloc: Global, points: &[Point2<i64>]) -> Result<Points, InsertionError> {
+    let mut triangulation = Points::new(alloc);
     for point in points {
         triangulation.insert(*point, &ExactTests)?;
     }
@@ -27,7 +28,7 @@ pub struct Located {
     pub outside: u32,
 }
 
-pub fn locate_all(triangulation: &Triangulation, queries: &[Point2<i64>]) -> Located {
+pub fn locate_all(triangulation: &Points, queries: &[Point2<i64>]) -> Located {
     let mut located = Located {
         vertices: 0,
         inside: 0,
@@ -57,7 +58,7 @@ fn squared(a: i64, b: i64) -> i64 {
 
 /// The sum of the squared distances from points to their nearest vertices, without what 64 bits do
 /// not hold.
-pub fn nearest_all(triangulation: &Triangulation, queries: &[Point2<i64>]) -> i64 {
+pub fn nearest_all(triangulation: &Points, queries: &[Point2<i64>]) -> i64 {
     let mut sum = 0i64;
     for point in queries {
         if validate_vertex(point).is_err() {
@@ -81,7 +82,7 @@ pub struct Removed {
 
 /// Removes random vertices until there is none, or so many are gone.
 pub fn remove_some(
-    triangulation: &mut Triangulation,
+    triangulation: &mut Points,
     random: &mut Random,
     removals: u32,
 ) -> Result<Removed, AllocError> {

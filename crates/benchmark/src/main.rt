@@ -11,11 +11,11 @@ mod memory;
 mod orders;
 mod random;
 
-use crate::calls::{Triangulation, insert_all, locate_all, nearest_all, remove_some};
+use crate::calls::{Points, insert_all, locate_all, nearest_all, remove_some};
 use crate::memory::{peak_bytes, resident_bytes};
 use crate::orders::Order;
 use crate::random::Random;
-use spade_delaunay::Point2;
+use spade_delaunay::{Point2, Triangulation};
 use std::io;
 use std::time::{CpuClock, Duration};
 
@@ -57,7 +57,7 @@ fn nanoseconds_a_call(rt: &HostRuntime, start: Duration, calls: usize) -> io::Re
     Ok(taken.as_nanos() / (calls as u128).max(1))
 }
 
-fn tell_counts(rt: &HostRuntime, word: &str, triangulation: &Triangulation) -> io::Result<()> {
+fn tell_counts(rt: &HostRuntime, word: &str, triangulation: &Points) -> io::Result<()> {
     println!(rt;
         "{word}: {} vertices, {} edges, {} faces",
         triangulation.num_vertices(),
@@ -66,7 +66,7 @@ fn tell_counts(rt: &HostRuntime, word: &str, triangulation: &Triangulation) -> i
     )
 }
 
-fn insert(rt: &HostRuntime, points: &[Point2<i64>]) -> anyhow::Result<Triangulation> {
+fn insert(rt: &HostRuntime, points: &[Point2<i64>]) -> anyhow::Result<Points> {
     let before = resident_bytes(rt);
     let start = rt.thread_cpu_time()?;
     let triangulation = insert_all(rt.alloc(), points)?;
@@ -80,7 +80,7 @@ fn insert(rt: &HostRuntime, points: &[Point2<i64>]) -> anyhow::Result<Triangulat
 
 fn ask(
     rt: &HostRuntime,
-    triangulation: &Triangulation,
+    triangulation: &Points,
     queries: &[Point2<i64>],
 ) -> anyhow::Result<()> {
     let start = rt.thread_cpu_time()?;
@@ -101,7 +101,7 @@ fn ask(
 
 fn remove(
     rt: &HostRuntime,
-    triangulation: &mut Triangulation,
+    triangulation: &mut Points,
     random: &mut Random,
     removals: u32,
 ) -> anyhow::Result<()> {

@@ -2,10 +2,9 @@
 //! refused.
 ghost use Rattle.std.specs.Prelude.{◌<◌, length, IfSome};
 
-use delaunay_core::point::Point2;
-use delaunay_edit::ConstrainedDelaunayTriangulation;
 use exact_tests::ExactTests;
-use half_edge_mesh::{FixedUndirectedEdgeHandle, FixedVertexHandle};
+use spade_delaunay::handles::{FixedUndirectedEdgeHandle, FixedVertexHandle};
+use spade_delaunay::{ConstrainedDelaunayTriangulation, Point2, Triangulation};
 
 /// A triangulation of points with constraints.
 pub type Constrained = ConstrainedDelaunayTriangulation<Point2<i64>>;

@@ -2,10 +2,11 @@
 ghost use Rattle.std.specs.Prelude.{◌<◌};
 
 use crate::edits::{Constrained, add, can_add, counts, exists, release, remove, try_add};
-use delaunay_core::point::Point2;
-use delaunay_edit::{ConstrainedDelaunayTriangulation, DelaunayTriangulation};
 use exact_tests::ExactTests;
-use half_edge_mesh::FaceHandle;
+use spade_delaunay::handles::FaceHandle;
+use spade_delaunay::{
+    CdtEdge, ConstrainedDelaunayTriangulation, DelaunayTriangulation, Point2, Triangulation,
+};
 use std::alloc::Global;
 use std::fmt::Debug;
 use std::io;
@@ -92,7 +93,7 @@ impl Session {
 
 // The corners of an inner face by their indexes, the least first.
 fn corners_of(
-    face: FaceHandle<'_, Point2<i64>, (), delaunay_legalization::CdtEdge<()>, ()>,
+    face: FaceHandle<'_, Point2<i64>, (), CdtEdge<()>, ()>,
 ) -> [u32; 3]
     requires { 0 < face.index }
 {

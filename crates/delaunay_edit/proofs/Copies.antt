@@ -22,7 +22,7 @@ same_length R (x ∷ xs) [] h = absurd h
 same_length R (x ∷ xs) (y ∷ ys) h = ap suc (same_length R xs ys h.1)
 
 -- what the function gives is the same of each
-same_image : {X Y : Type 0} (R : X → X → Type 0) (f : X → Y) → ((x y : X) → R x y → f y ≡ f x) → (xs ys : List X) → AllZip R xs ys → map f ys ≡ map f xs
+pub same_image : {X Y : Type 0} (R : X → X → Type 0) (f : X → Y) → ((x y : X) → R x y → f y ≡ f x) → (xs ys : List X) → AllZip R xs ys → map f ys ≡ map f xs
 same_image R f same [] [] h = refl
 same_image R f same [] (y ∷ ys) h = absurd h
 same_image R f same (x ∷ xs) [] h = absurd h

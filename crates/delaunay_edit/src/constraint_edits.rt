@@ -7,8 +7,7 @@ ghost use Rattle.delaunay_edit.specs.Constrained.{constrained, constraint_edges}
 ghost use Rattle.delaunay_edit.specs.ConstraintEdits.{AddsConstraint, AddsPathIfFree, FreesEdge, MarksEdges, ReleasesConstraint};
 ghost use Rattle.delaunay_edit.specs.Headline.{AreSites, IsDelaunay};
 
-use crate::cdt::ConstrainedDelaunayTriangulation;
-use delaunay_core::HintGenerator;
+use crate::edited_mesh::ConstrainedMesh;
 use delaunay_core::math::PlaneTests;
 use delaunay_core::point::HasPosition;
 use delaunay_legalization::EdgeConstraints;
@@ -18,14 +17,9 @@ use delaunay_paths::{
 use half_edge_mesh::{FixedDirectedEdgeHandle, FixedUndirectedEdgeHandle, FixedVertexHandle};
 use std::alloc::AllocError;
 
-impl<V: HasPosition, DE, UE, F, L: HintGenerator<V::Scalar>> ConstrainedDelaunayTriangulation<
-    V,
-    DE,
-    UE,
-    F,
-    L,
-> {
-    /// Whether no constraint has one point in common with the segment between two vertices that is strictly within both.
+impl<V: HasPosition, DE, UE, F> ConstrainedMesh<V, DE, UE, F> {
+    /// Whether no constraint has one point in common with the segment between two vertices that is
+    /// strictly within both.
     pub fn can_add_constraint<P: PlaneTests<V::Scalar>>(
         &self,
         from: FixedVertexHandle,
@@ -70,9 +64,10 @@ impl<V: HasPosition, DE, UE, F, L: HintGenerator<V::Scalar>> ConstrainedDelaunay
         Ok(())
     }
 
-    /// Makes constraints of the edges between neighbours among the vertices on the segment between two, which no constraint
-    /// crosses. It tells whether that made a constraint of an edge that was none, and gives `AllocError` where memory was
-    /// refused; then nothing changes, and so where it made none.
+    /// Makes constraints of the edges between neighbours among the vertices on the segment between
+    /// two, which no constraint crosses. It tells whether that made a constraint of an edge that
+    /// was none, and gives `AllocError` where memory was refused; then nothing changes, and so
+    /// where it made none.
     pub fn add_constraint<P: PlaneTests<V::Scalar>>(
         &mut self,
         from: FixedVertexHandle,
@@ -120,9 +115,10 @@ impl<V: HasPosition, DE, UE, F, L: HintGenerator<V::Scalar>> ConstrainedDelaunay
         Ok(edges)
     }
 
-    /// Does what `add_constraint` does and gives the edges of the path, in order, as they are after the last flip. Where a
-    /// constraint crosses the segment, or where the two vertices are one, it gives no edge and changes nothing, and takes no
-    /// memory. It gives `AllocError` where memory was refused, and then nothing changes either.
+    /// Does what `add_constraint` does and gives the edges of the path, in order, as they are after
+    /// the last flip. Where a constraint crosses the segment, or where the two vertices are one, it
+    /// gives no edge and changes nothing, and takes no memory. It gives `AllocError` where memory
+    /// was refused, and then nothing changes either.
     pub fn try_add_constraint<P: PlaneTests<V::Scalar>>(
         &mut self,
         from: FixedVertexHandle,
@@ -172,9 +168,10 @@ impl<V: HasPosition, DE, UE, F, L: HintGenerator<V::Scalar>> ConstrainedDelaunay
         Ok(())
     }
 
-    /// Makes a constraint an edge that is none, and tells whether it was one: where it was none, nothing changes, and no
-    /// memory is taken. An edge or face that is there before and after keeps its handle and its data. It gives `AllocError`
-    /// where memory was refused, and then nothing changes.
+    /// Makes a constraint an edge that is none, and tells whether it was one: where it was none,
+    /// nothing changes, and no memory is taken. An edge or face that is there before and after
+    /// keeps its handle and its data. It gives `AllocError` where memory was refused, and then
+    /// nothing changes.
     pub fn remove_constraint_edge<P: PlaneTests<V::Scalar>>(
         &mut self,
         edge: FixedUndirectedEdgeHandle,

@@ -11,8 +11,7 @@ ghost use Rattle.delaunay_edit.specs.Headline.{AreSites, IsDelaunay};
 ghost use Rattle.delaunay_edit.specs.Location.{HasHandle, IsLeftOfPlace};
 
 use crate::insertion_cases::insert_at;
-use crate::triangulation_core::TriangulationCore;
-use delaunay_core::HintGenerator;
+use crate::edited_mesh::EditedMesh;
 use delaunay_core::math::{InsertionError, PlaneTests, validate_vertex};
 use delaunay_core::point::HasPosition;
 use delaunay_insertion::{FreeByDefault, reserve_for_vertex};
@@ -24,7 +23,8 @@ use half_edge_mesh::{FixedVertexHandle, MAX_ELEMENTS};
 pub(crate) enum Entry {
     /// This vertex.
     Occupied(FixedVertexHandle),
-    /// No vertex. The location of the position, and whether the position is strictly on the left of the edge that it names.
+    /// No vertex. The location of the position, and whether the position is strictly on the left of
+    /// the edge that it names.
     Vacant(PositionInTriangulation, bool),
 }
 
@@ -33,9 +33,8 @@ impl<
     DE: Default,
     UE: Default,
     F: Default,
-    L: HintGenerator<V::Scalar>,
     M: FreeByDefault<UE>,
-> TriangulationCore<V, DE, UE, F, L, M> {
+> EditedMesh<V, DE, UE, F, M> {
     // The new last vertex, with the edges of the faces at it tested, or a refusal that changes nothing.
     fn append<P: PlaneTests<V::Scalar>>(
         &mut self,
@@ -112,45 +111,13 @@ impl<
         }
     }
 
-    /// Inserts a vertex and gives its handle. The first of these that applies decides: `TooLarge` where a coordinate is out
-    /// of range; the handle of the vertex at its position, which it replaces; `OutOfIndexes` where the mesh is full;
-    /// `OutOfMemory` where memory was refused; else the handle of the new last vertex. A constraint that the new vertex is
-    /// strictly within becomes two, and no other edge becomes one. A refused vertex is dropped, and nothing else changes.
-    pub fn insert<P: PlaneTests<V::Scalar>>(
-        &mut self,
-        value: V,
-        tests: &P,
-    ) -> Result<FixedVertexHandle, InsertionError>
-        requires sites { AreSites V.place (P.sites tests.now) self.old.vertices }
-        requires new_site { InRange (V.place value) → P.sites tests.now (V.place value) }
-        ensures inserts { InsertsVertex V.place M.constraints value result self.old self.new }
-        ensures headline { IsDelaunay V.place M.constraints self.new }
-    {
-        self.recall_invariant();
-        let mut flips = 0;
-        self.insert_counting(value, tests, &mut flips)
-    }
-
-    /// Does what `insert` does, and adds the number of flips to `flips`.
-    pub fn insert_counting<P: PlaneTests<V::Scalar>>(
-        &mut self,
-        value: V,
-        tests: &P,
-        flips: &mut u64,
-    ) -> Result<FixedVertexHandle, InsertionError>
-        requires sites { AreSites V.place (P.sites tests.now) self.old.vertices }
-        requires new_site { InRange (V.place value) → P.sites tests.now (V.place value) }
-        requires fits { FlipsFit (length self.old.vertices + 1) flips.old }
-        ensures inserts { InsertsVertex V.place M.constraints value result self.old self.new }
-        ensures headline { IsDelaunay V.place M.constraints self.new }
-        ensures counted { CountsFlips (length self.new.vertices) flips.old flips.new }
-    {
-        let last = FixedVertexHandle::from_index(self.num_vertices().saturating_sub(1) as u32);
-        self.insert_from(value, last, tests, flips)
-    }
-
-    /// Does what `insert` does, and adds the number of flips to `flips`. The search for the position begins at a vertex, or
-    /// at vertex 0 where there is no such vertex.
+    /// Inserts a vertex and gives its handle. The first of these that applies decides: `TooLarge`
+    /// where a coordinate is out of range; the handle of the vertex at its position, which it
+    /// replaces; `OutOfIndexes` where the mesh is full; `OutOfMemory` where memory was refused;
+    /// else the handle of the new last vertex. A constraint that the new vertex is strictly within
+    /// becomes two, and no other edge becomes one. A refused vertex is dropped, and nothing else
+    /// changes. The search for the position begins at a vertex, or at vertex 0 where there is no
+    /// such vertex. The number of flips is added to `flips`.
     pub fn insert_from<P: PlaneTests<V::Scalar>>(
         &mut self,
         value: V,

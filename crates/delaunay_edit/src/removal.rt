@@ -2,17 +2,15 @@
 ghost use Rattle.std.specs.Prelude.{◌≡◌, ◌<◌, [], length, map, All, Some, IfOk, OnErr, OnOk, slice_get, slice_set};
 ghost use Rattle.half_edge_mesh.specs.Mesh.{empty};
 ghost use Rattle.plane.specs.Plain.{IsCleared, Removes, Replaces};
-ghost use Rattle.delaunay_core.specs.Place.{place_of};
 ghost use Rattle.delaunay_legalization.specs.Constraints.{points_and_constraints_by};
 ghost use Rattle.delaunay_legalization.specs.Known.{point_at};
 ghost use Rattle.delaunay_removal.specs.Data.{KeepsDataOfOthers};
-ghost use Rattle.delaunay_edit.specs.Edits.{LocatesAndRemoves, RemovesVertex};
+ghost use Rattle.delaunay_edit.specs.Edits.{RemovesVertex};
 ghost use Rattle.delaunay_edit.specs.Headline.{AreSites, IsDelaunay};
 
-use crate::triangulation_core::TriangulationCore;
-use delaunay_core::HintGenerator;
+use crate::edited_mesh::EditedMesh;
 use delaunay_core::math::PlaneTests;
-use delaunay_core::point::{HasPosition, Point2};
+use delaunay_core::point::HasPosition;
 use delaunay_legalization::{ConstraintMarker, legalize_all};
 use delaunay_removal::remove_vertex;
 use half_edge_mesh::FixedVertexHandle;
@@ -23,9 +21,8 @@ impl<
     DE,
     UE,
     F,
-    L: HintGenerator<V::Scalar>,
     M: ConstraintMarker<UE>,
-> TriangulationCore<V, DE, UE, F, L, M> {
+> EditedMesh<V, DE, UE, F, M> {
     /// Exchanges a vertex for one of the same position, and gives the old one back.
     pub fn replace_vertex(&mut self, vertex: FixedVertexHandle, value: V) -> V
         requires within { vertex < length self.old.vertices }
@@ -48,9 +45,8 @@ impl<
     DE: Drop,
     UE: Drop,
     F: Drop,
-    L: HintGenerator<V::Scalar>,
     M: ConstraintMarker<UE>,
-> TriangulationCore<V, DE, UE, F, L, M> {
+> EditedMesh<V, DE, UE, F, M> {
     // Takes a vertex out and tests each edge of what is left, or a refusal that changes nothing.
     fn take_out<P: PlaneTests<V::Scalar>>(
         &mut self,
@@ -80,10 +76,11 @@ impl<
         Ok(value)
     }
 
-    /// Removes a vertex, with the constraints that end at it, and gives it back; the last vertex takes its handle. Handles of
-    /// edges and faces change too. Each other constraint stays. An edge that did not end at the vertex, or a face without
-    /// that corner, that is there before and after keeps its data, and so does the outer face. It gives `AllocError` where
-    /// memory was refused, and then nothing changes.
+    /// Removes a vertex, with the constraints that end at it, and gives it back; the last vertex
+    /// takes its handle. Handles of edges and faces change too. Each other constraint stays. An
+    /// edge that did not end at the vertex, or a face without that corner, that is there before and
+    /// after keeps its data, and so does the outer face. It gives `AllocError` where memory was
+    /// refused, and then nothing changes.
     pub fn remove<P: PlaneTests<V::Scalar>>(
         &mut self,
         vertex: FixedVertexHandle,
@@ -99,27 +96,6 @@ impl<
         self.recall_invariant();
         removed
     }
-
-    /// Removes the vertex at a position that the tests cover and gives it back, as `remove` does. It gives `None` exactly
-    /// where no vertex is there; then it takes no memory, and nothing changes. It gives `AllocError` where memory was
-    /// refused, and then nothing changes either.
-    pub fn locate_and_remove<P: PlaneTests<V::Scalar>>(
-        &mut self,
-        point: Point2<V::Scalar>,
-        tests: &P,
-    ) -> Result<Option<V>, AllocError>
-        requires sites { AreSites V.place (P.sites tests.now) self.old.vertices }
-        requires covered { P.covered tests.now (place_of V.Scalar.whole point) }
-        ensures removes { let p = place_of V.Scalar.whole point in
-            LocatesAndRemoves V.place M.constraints p result self.old self.new }
-        ensures headline { IsDelaunay V.place M.constraints self.new }
-    {
-        self.recall_invariant();
-        match self.vertex_at(point, tests) {
-            Some(vertex) => Ok(Some(self.remove(vertex, tests)?)),
-            None => Ok(None),
-        }
-    }
 }
 
 impl<
@@ -127,18 +103,16 @@ impl<
     DE: Drop,
     UE: Drop,
     F: Drop,
-    L: HintGenerator<V::Scalar>,
     M: ConstraintMarker<UE>,
-> TriangulationCore<V, DE, UE, F, L, M> {
-    /// Forgets each vertex, each edge with its constraint, and each inner face. The outer face keeps its data, and memory
-    /// that was taken is kept for later insertions. It is never refused.
+> EditedMesh<V, DE, UE, F, M> {
+    /// Forgets each vertex, each edge with its constraint, and each inner face. The outer face
+    /// keeps its data, and memory that was taken is kept for later insertions. It is never refused.
     pub fn clear(&mut self)
         ensures new { self.new ≡ record self.old { vertices = []; mesh = empty; directed = []; undirected = []; faces = [] } }
         ensures plain { IsCleared V.place (points_and_constraints_by M.constraints self.new) }
         ensures headline { IsDelaunay V.place M.constraints self.new }
     {
         self.dcel.clear();
-        self.hint_generator = L::new(*self.work.allocator());
         self.dcel.recall_invariant();
         self.recall_invariant();
     }

@@ -7,8 +7,7 @@ ghost use Rattle.delaunay_edit.specs.Headline.{IsDelaunay};
 ghost use Rattle.delaunay_edit.specs.Storage.{IsCopy, IsEmptyState};
 
 use crate::edge_data::EdgeData;
-use crate::triangulation_core::TriangulationCore;
-use delaunay_core::HintGenerator;
+use crate::edited_mesh::EditedMesh;
 use delaunay_core::math::InsertionError;
 use delaunay_core::point::HasPosition;
 use delaunay_legalization::ConstraintMarker;
@@ -40,9 +39,8 @@ impl<
     DE: Drop,
     UE: Drop,
     F: Default + Drop,
-    L: HintGenerator<V::Scalar>,
     M: ConstraintMarker<UE>,
-> TriangulationCore<V, DE, UE, F, L, M> {
+> EditedMesh<V, DE, UE, F, M> {
     /// A triangulation without vertices that has room for these totals, the outer face among them. It gives `OutOfIndexes`
     /// where a total passes `MAX_ELEMENTS`, with edges counted twice, and else `OutOfMemory` where memory was refused.
     pub fn with_capacity(
@@ -58,11 +56,10 @@ impl<
     {
         let dcel = empty_mesh(alloc, vertices, undirected_edges, faces)?;
         dcel.recall_invariant();
-        Ok(TriangulationCore {
+        Ok(EditedMesh {
             dcel,
             work: Vec::new(alloc),
             sides: Vec::new(alloc),
-            hint_generator: L::new(alloc),
             marks: PhantomData,
         })
     }
@@ -73,9 +70,8 @@ impl<
     DE: Clone + Drop,
     UE: Clone + Drop,
     F: Clone + Drop,
-    L: HintGenerator<V::Scalar>,
     M: EdgeData<UE>,
-> TriangulationCore<V, DE, UE, F, L, M> {
+> EditedMesh<V, DE, UE, F, M> {
     /// A copy with clones of all data, where a clone of a vertex has its position and one of an edge's data its mark.
     pub fn try_clone(&self) -> Result<Self, AllocError>
         requires places { (v w : V) → V.is_clone v w → V.place w ≡ V.place v }
@@ -85,11 +81,10 @@ impl<
         let alloc = *self.work.allocator();
         let dcel = self.dcel.clone()?;
         dcel.recall_invariant();
-        Ok(TriangulationCore {
+        Ok(EditedMesh {
             dcel,
             work: Vec::new(alloc),
             sides: Vec::new(alloc),
-            hint_generator: L::new(alloc),
             marks: PhantomData,
         })
     }

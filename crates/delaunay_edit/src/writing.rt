@@ -5,8 +5,7 @@ ghost use Rattle.delaunay_legalization.specs.State.{State};
 ghost use Rattle.delaunay_edit.specs.Writing.{with_directed_data, with_undirected_data, with_face_data};
 
 use crate::edge_data::EdgeData;
-use crate::triangulation_core::TriangulationCore;
-use delaunay_core::HintGenerator;
+use crate::edited_mesh::EditedMesh;
 use delaunay_core::point::HasPosition;
 use half_edge_mesh::{FixedDirectedEdgeHandle, FixedFaceHandle, FixedUndirectedEdgeHandle};
 
@@ -50,8 +49,8 @@ pub trait WriteData {
         ensures value { slice_get ((written self.old).outer ∷ (written self.old).faces) face ≡ Some result.now };
 }
 
-impl<V: HasPosition, DE, UE, F, L: HintGenerator<V::Scalar>, M: EdgeData<UE>> WriteData
-    for TriangulationCore<V, DE, UE, F, L, M> {
+impl<V: HasPosition, DE, UE, F, M: EdgeData<UE>> WriteData
+    for EditedMesh<V, DE, UE, F, M> {
     type Vertex = V;
 
     type DirectedEdge = DE;

@@ -1,2 +1,4 @@
 pub mod Held
 pub mod Locating
+pub mod Kept
+pub mod Faces

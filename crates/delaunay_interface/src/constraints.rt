@@ -1,4 +1,4 @@
-//! Calls of a triangulation with constraints alone.
+//! Which edges of a triangulation are constraints, and a triangulation that takes on constraints.
 ghost use Rattle.std.specs.Prelude.{◌≡◌, ◌↔◌, ◌*◌, ◌<◌, length, Contains, IsTrue, IfErr, IfOk};
 ghost use Rattle.half_edge_mesh.specs.Mesh.{origin, rev};
 ghost use Rattle.plane.specs.Pairs.{Joins};
@@ -13,7 +13,7 @@ use crate::triangulation_core::{
 };
 use delaunay_core::HintGenerator;
 use delaunay_core::point::HasPosition;
-use delaunay_edit::ConstrainedDelaunayTriangulation as EditedMesh;
+use delaunay_edit::EditedMesh;
 use half_edge_mesh::{FixedUndirectedEdgeHandle, FixedVertexHandle};
 
 impl<V: HasPosition, DE, UE, F, L: HintGenerator<V::Scalar>> ConstrainedDelaunayTriangulation<
@@ -28,7 +28,8 @@ impl<V: HasPosition, DE, UE, F, L: HintGenerator<V::Scalar>> ConstrainedDelaunay
         requires { edge < length self.now.undirected }
         ensures marked { IsTrue result ↔ Contains (constraint_edges self.now.undirected) edge }
         ensures joined { let m = self.now.mesh in
-            IsTrue result ↔ Joins (constraints_of self.now) (origin m (2 * edge)) (origin m (rev (2 * edge))) }
+            IsTrue result ↔ Joins (constraints_of self.now) (origin m (2 * edge))
+            (origin m (rev (2 * edge))) }
     {
         self.edited.is_constraint_edge(edge)
     }
@@ -40,7 +41,7 @@ impl<V: HasPosition, DE, UE, F, L: HintGenerator<V::Scalar>> ConstrainedDelaunay
         self.edited.num_constraints()
     }
 
-    /// Whether a constraint joins two vertices, in either order, by a look at all edges.
+    /// Whether a constraint joins two vertices, in either order, by a look round the first.
     pub fn exists_constraint(&self, from: FixedVertexHandle, to: FixedVertexHandle) -> bool
         ensures { IsTrue result ↔ Joins (constraints_of self.now) from to }
     {

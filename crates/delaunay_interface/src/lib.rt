@@ -2,14 +2,24 @@
 //! trait of their calls.
 #![tactic(auto)]
 
+mod constraint_paths;
 mod constraints;
+mod copies;
 mod edits;
+mod inner_faces;
 mod lookups;
 mod nearest_vertex;
+mod segments;
+mod shared_calls;
 mod telling;
 mod triangulation;
 mod triangulation_core;
 
+pub use delaunay_lines::{
+    ConflictingEdgesIterator, HasMesh, Intersection, LineIntersectionIterator,
+};
+pub use delaunay_location::PositionInTriangulation;
+pub use inner_faces::InnerFaceIterator;
 pub use triangulation::Triangulation;
 pub use triangulation_core::{
     ConstrainedDelaunayTriangulation, DelaunayTriangulation, TriangulationCore,

@@ -40,7 +40,8 @@ impl<V: HasPosition, DE, UE, F, L: HintGenerator<V::Scalar>> DelaunayTriangulati
         requires sites { AreSites V.place (P.sites tests.now) self.now.vertices }
         requires covered { P.covered tests.now (place_of V.Scalar.whole point) }
         ensures { MatchOption result (length self.now.vertices ≡ 0)
-            (λ v. IsNearestVertex V.place self.now (place_of V.Scalar.whole point) v.dcel.now v.index) }
+            (λ v. IsNearestVertex V.place self.now (place_of V.Scalar.whole point) v.dcel.now
+            v.index) }
     {
         self.edited.recall_invariant();
         let mesh = self.edited.mesh();

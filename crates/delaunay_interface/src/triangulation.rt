@@ -8,7 +8,6 @@ ghost use Rattle.plane.specs.Tests.{InRange};
 ghost use Rattle.delaunay_core.specs.declared.math.InsertionError.TheVariants.{TooLarge, OutOfIndexes};
 ghost use Rattle.delaunay_legalization.specs.Constraints.{points_and_constraints_by};
 ghost use Rattle.delaunay_edit.specs.Storage.{IsEmptyState};
-ghost use Rattle.delaunay_edit.specs.Writing.{with_directed_data, with_undirected_data, with_face_data};
 ghost use Rattle.std.specs.List.{range_with_len};
 ghost use Rattle.half_edge_mesh.specs.Left.{vertices_left, directed_edges_left, undirected_edges_left, faces_left};
 ghost use Rattle.half_edge_mesh.specs.Rounds.{hull_left};
@@ -16,19 +15,19 @@ ghost use Rattle.plane.specs.Hint.{IsAtMostOf};
 ghost use Rattle.delaunay_core.specs.Place.{place_of};
 ghost use Rattle.delaunay_legalization.specs.Known.{IsKnown, point_at};
 ghost use Rattle.delaunay_legalization.specs.State.{State, state_of, triangulation_of};
-ghost use Rattle.delaunay_edit.specs.Edits.{InsertsVertex};
+ghost use Rattle.delaunay_edit.specs.Edits.{InsertsVertex, LocatesAndRemoves, RemovesVertex};
 ghost use Rattle.delaunay_edit.specs.Elements.{FindsLocation, GivesElements, IsVertexAt};
 ghost use Rattle.delaunay_edit.specs.Headline.{AreSites, IsDelaunay, IsWellFormed};
 ghost use Rattle.delaunay_edit.specs.Hull.{CountsHullEdges};
+ghost use Rattle.delaunay_interface.specs.InnerFaces.{inner_faces_left};
 ghost use Rattle.delaunay_interface.specs.Views.{AreNotJoined, AreOnLine, GivesOutline, IsEdgeBetween, IsElement, corners_at, ends_at};
 
+use crate::inner_faces::InnerFaceIterator;
 use crate::lookups::vertex_near;
-use crate::triangulation_core::TriangulationCore;
 use delaunay_core::HintGenerator;
 use delaunay_core::math::{InsertionError, PlaneTests};
 use delaunay_core::point::{HasPosition, Point2};
-use delaunay_edit::{EdgeData, TriangulationCore as EditedMesh, WriteData};
-use delaunay_insertion::FreeByDefault;
+use delaunay_edit::EdgeData;
 use delaunay_location::{PositionInTriangulation, locate_with_hint};
 use half_edge_mesh::{
     Dcel, DirectedEdgeHandle, DirectedEdgeIterator, DirectedVoronoiEdgeIterator, FaceHandle,
@@ -37,17 +36,30 @@ use half_edge_mesh::{
     FixedVertexIterator, HullIterator, MeshViews, UndirectedEdgeHandle, UndirectedEdgeIterator,
     UndirectedVoronoiEdgeIterator, VertexHandle, VertexIterator, VoronoiFaceIterator, VoronoiViews,
 };
-use std::alloc::Global;
+use std::alloc::{AllocError, Global};
 
-mod sealed {
+pub(crate) mod sealed {
     pub trait Sealed {}
 }
 
-impl<V: HasPosition, DE, UE, F, L: HintGenerator<V::Scalar>, M: EdgeData<UE>> sealed::Sealed
-    for TriangulationCore<V, DE, UE, F, L, M> {}
-
 /// What `DelaunayTriangulation` and `ConstrainedDelaunayTriangulation` have in common. No other
 /// type has it.
+///
+/// A function over either type, which looks for a position and removes the vertex there:
+///
+/// ```
+/// fn forget<T: Triangulation, P: PlaneTests<<T::Vertex as HasPosition>::Scalar>>(
+///     points: &mut T,
+///     position: Point2<<T::Vertex as HasPosition>::Scalar>,
+///     tests: &P,
+/// ) -> Result<bool, AllocError> {
+///     Ok(points.locate_and_remove(position, tests)?.is_some())
+/// }
+/// ```
+///
+/// Calls that ask tests want each vertex to be a site of them, and each position that is asked for
+/// to be covered by them. Handles are those of this triangulation: `get_vertex` and the counts tell
+/// whether they are in range.
 pub trait Triangulation: Drop + sealed::Sealed {
     type Vertex: HasPosition + Drop;
 
@@ -139,6 +151,23 @@ pub trait Triangulation: Drop + sealed::Sealed {
         requires new_site { InRange (Self.Vertex.place value) → P.sites tests.now
             (Self.Vertex.place value) }
         ensures inserts { InsertsVertex Self.Vertex.place Self.Constraints.constraints value
+            result (state self.old) (state self.new) }
+        ensures headline { IsDelaunay Self.Vertex.place Self.Constraints.constraints
+            (state self.new) };
+
+    /// Removes a vertex, with the constraints that end at it, and gives it back; the last vertex
+    /// takes its handle, and the hint generator is told. Handles of edges and faces change too. Each
+    /// other constraint stays. An edge that did not end at the vertex, or a face without that
+    /// corner, that is there before and after keeps its data, and so does the outer face. It gives
+    /// `AllocError` where memory was refused, and then nothing changes.
+    fn remove<P: PlaneTests<<Self::Vertex as HasPosition>::Scalar>>(
+        &mut self,
+        vertex: FixedVertexHandle,
+        tests: &P,
+    ) -> Result<Self::Vertex, AllocError>
+        requires within { vertex < length (state self.old).vertices }
+        requires sites { AreSites Self.Vertex.place (P.sites tests.now) (state self.old).vertices }
+        ensures removes { RemovesVertex Self.Vertex.place Self.Constraints.constraints vertex
             result (state self.old) (state self.new) }
         ensures headline { IsDelaunay Self.Vertex.place Self.Constraints.constraints
             (state self.new) };
@@ -453,14 +482,15 @@ pub trait Triangulation: Drop + sealed::Sealed {
         self.s().faces()
     }
 
-    /// The faces but the outer one, by rising index.
+    /// The faces but the outer one, by rising index. Each is known to be an inner one, so that its
+    /// corners can be asked for.
     final fn inner_faces(
         &self,
-    ) -> FaceIterator<'_, Self::Vertex, Self::DirectedEdge, Self::UndirectedEdge, Self::Face>
+    ) -> InnerFaceIterator<'_, Self::Vertex, Self::DirectedEdge, Self::UndirectedEdge, Self::Face>
         ensures { GivesElements (state self.now) 1 (length (state self.now).faces)
-            (faces_left result) }
+            (inner_faces_left result) }
     {
-        self.s().inner_faces()
+        InnerFaceIterator::new(self.s())
     }
 
     /// The handles of the vertices, by rising index.
@@ -610,107 +640,27 @@ pub trait Triangulation: Drop + sealed::Sealed {
             _ => None,
         }
     }
-}
 
-impl<
-    V: HasPosition + Drop,
-    DE: Default + Drop,
-    UE: Default + Drop,
-    F: Default + Drop,
-    L: HintGenerator<V::Scalar>,
-    M: EdgeData<UE> + FreeByDefault<UE>,
-> Triangulation for TriangulationCore<V, DE, UE, F, L, M> {
-    type Vertex = V;
-
-    type DirectedEdge = DE;
-
-    type UndirectedEdge = UE;
-
-    type UndirectedUserData = M::User;
-
-    type Face = F;
-
-    type HintGenerator = L;
-
-    type Constraints = M;
-
-    ghost state = { λ t. t };
-
-    ghost with_directed = { with_directed_data };
-
-    ghost with_user = { λ s e w. with_undirected_data s (M.with_user s.undirected e w) };
-
-    ghost with_face = { with_face_data };
-
-    fn s(&self) -> &Dcel<V, DE, UE, F> {
-        self.edited.mesh()
-    }
-
-    fn hint_generator(&self) -> &L {
-        &self.hint_generator
-    }
-
-    fn recall_invariant(&self) {
-        self.edited.recall_invariant();
-    }
-
-    fn new(alloc: Global) -> Self {
-        TriangulationCore {
-            edited: EditedMesh::new(alloc),
-            hint_generator: L::new(alloc),
-            alloc,
+    /// Removes the vertex at a position that the tests cover and gives it back, as `remove` does.
+    /// It gives `None` exactly where no vertex is there; then it takes no memory, and nothing
+    /// changes. It gives `AllocError` where memory was refused, and then nothing changes either.
+    final fn locate_and_remove<P: PlaneTests<<Self::Vertex as HasPosition>::Scalar>>(
+        &mut self,
+        point: Point2<<Self::Vertex as HasPosition>::Scalar>,
+        tests: &P,
+    ) -> Result<Option<Self::Vertex>, AllocError>
+        requires sites { AreSites Self.Vertex.place (P.sites tests.now) (state self.old).vertices }
+        requires covered { P.covered tests.now (place_of Self.Vertex.Scalar.whole point) }
+        ensures removes { let p = place_of Self.Vertex.Scalar.whole point in
+            LocatesAndRemoves Self.Vertex.place Self.Constraints.constraints p result
+            (state self.old) (state self.new) }
+        ensures headline { IsDelaunay Self.Vertex.place Self.Constraints.constraints
+            (state self.new) }
+    {
+        self.recall_invariant();
+        match self.locate(point, tests) {
+            PositionInTriangulation::OnVertex(vertex) => Ok(Some(self.remove(vertex, tests)?)),
+            _ => Ok(None),
         }
-    }
-
-    fn with_capacity(
-        alloc: Global,
-        vertices: usize,
-        undirected_edges: usize,
-        faces: usize,
-    ) -> Result<Self, InsertionError> {
-        Ok(TriangulationCore {
-            edited: EditedMesh::with_capacity(alloc, vertices, undirected_edges, faces)?,
-            hint_generator: L::new(alloc),
-            alloc,
-        })
-    }
-
-    fn insert<P: PlaneTests<V::Scalar>>(
-        &mut self,
-        value: V,
-        tests: &P,
-    ) -> Result<FixedVertexHandle, InsertionError> {
-        let hint = self.hint_for(&value, tests);
-        self.insert_hinted(value, hint, tests)
-    }
-
-    fn insert_with_hint<P: PlaneTests<V::Scalar>>(
-        &mut self,
-        value: V,
-        hint: FixedVertexHandle,
-        tests: &P,
-    ) -> Result<FixedVertexHandle, InsertionError> {
-        self.insert_hinted(value, hint, tests)
-    }
-
-    fn clear(&mut self) {
-        self.edited.clear();
-        self.hint_generator = L::new(self.alloc);
-    }
-
-    fn replace_vertex(&mut self, vertex: FixedVertexHandle, value: V) -> V {
-        self.edited.replace_vertex(vertex, value)
-    }
-
-    fn directed_edge_data_mut(&mut self, edge: FixedDirectedEdgeHandle) -> &mut DE {
-        self.edited.directed_edge_data_mut(edge)
-    }
-
-    fn undirected_edge_data_mut(&mut self, edge: FixedUndirectedEdgeHandle) -> &mut M::User {
-        self.edited.undirected_edge_data_mut(edge)
-    }
-
-    fn face_data_mut(&mut self, face: FixedFaceHandle) -> &mut F {
-        self.edited.face_data_mut(face)
     }
 }

@@ -1,8 +1,7 @@
 //! The struct that both triangulation types are.
-
 use delaunay_core::point::HasPosition;
 use delaunay_core::{HintGenerator, LastUsedVertexHintGenerator};
-use delaunay_edit::{EdgeData, TriangulationCore as EditedMesh};
+use delaunay_edit::{EdgeData, EditedMesh};
 use delaunay_legalization::{CdtEdge, EdgeConstraints, NoConstraints};
 use std::alloc::Global;
 use std::marker::Model;
@@ -21,7 +20,7 @@ pub struct TriangulationCore<
     L: HintGenerator<V::Scalar>,
     M: EdgeData<UE>,
 > {
-    pub(crate) edited: EditedMesh<V, DE, UE, F, LastUsedVertexHintGenerator, M>,
+    pub(crate) edited: EditedMesh<V, DE, UE, F, M>,
     pub(crate) hint_generator: L,
     pub(crate) alloc: Global,
 }
@@ -43,6 +42,17 @@ impl<V: HasPosition, DE, UE, F, L: HintGenerator<V::Scalar>, M: EdgeData<UE>> Mo
 /// A triangulation of vertices with different positions. Its inner faces turn left and tile the
 /// hull of the positions, and none has a vertex strictly inside its circle; where the positions are
 /// on one line there is no inner face, and edges join the neighbours.
+///
+/// Here a square of four points and its centre, and the vertex that is nearest to `(3, 1)`:
+///
+/// ```
+/// let mut square: DelaunayTriangulation<Point2<i64>> = DelaunayTriangulation::new(rt.alloc());
+/// for (x, y) in [(-1, -1), (1, -1), (1, 1), (-1, 1), (0, 0)] {
+///     square.insert(Point2::new(x, y), &ExactTests)?;
+/// }
+/// println!(rt; "{} faces", square.num_inner_faces())?; // 4 faces
+/// let nearest = square.nearest_neighbor(Point2::new(3, 1), &ExactTests); // vertex 2
+/// ```
 pub type DelaunayTriangulation<V, DE = (), UE = (), F = (), L = LastUsedVertexHintGenerator> =
     TriangulationCore<V, DE, UE, F, L, NoConstraints>;
 
@@ -50,6 +60,15 @@ pub type DelaunayTriangulation<V, DE = (), UE = (), F = (), L = LastUsedVertexHi
 /// stay edges. Its inner faces turn left and tile the hull of the positions, and none has a vertex
 /// strictly inside its circle that is seen from inside the face past the constraints; where the
 /// positions are on one line there is no inner face, and edges join the neighbours.
+///
+/// Here a wall from vertex 0 to vertex 2, where no other constraint crosses it:
+///
+/// ```
+/// if site.can_add_constraint(from, to, &ExactTests) {
+///     let made = site.add_constraint(from, to, &ExactTests)?; // true
+/// }
+/// println!(rt; "{} walls", site.num_constraints())?; // 1 walls
+/// ```
 pub type ConstrainedDelaunayTriangulation<
     V,
     DE = (),

@@ -4,7 +4,8 @@ use Rattle.std.specs.Borrow.{Bor}
 use Rattle.half_edge_mesh.specs.Contents.{Contents}
 use Rattle.plane.specs.Fraction.{Point, Fraction}
 use Rattle.delaunay_legalization.specs.State.{State, state_of}
-use Rattle.delaunay_shapes.specs.Left.{GivesEdgesIn, GivesVerticesIn}
+pub use Rattle.delaunay_shapes.specs.Left.{GivesEdgesIn, GivesVerticesIn, edges_left, vertices_left}
+pub use Rattle.delaunay_shapes.specs.Tests.{corners}
 
 -- the given are handles of the edges of a triangulation in state s that have a point in the shape, each once
 pub record FindsEdges {V D U F : Type 0} (place : V → Point) (s : State V D U F) (Shape : Fraction → Type 0) (given : List (Bor (Contents V D U F) × ℕ)) : Type 0 where

@@ -1,47 +1,38 @@
 //! The calls of both triangulations that ask for edges and vertices in a rectangle or a circle.
-ghost use Rattle.std.specs.Prelude.{◌≡◌, ◌≤ℤ◌, pos, All, IfOk};
+ghost use Rattle.std.specs.Prelude.{◌≤ℤ◌, pos, All, IfOk};
 ghost use Rattle.delaunay_core.specs.Place.{place_of};
 ghost use Rattle.delaunay_edit.specs.Headline.{AreSites};
-ghost use Rattle.delaunay_legalization.specs.Shape.{IsTriangulated};
-ghost use Rattle.delaunay_legalization.specs.State.{State, state_of};
 ghost use Rattle.delaunay_shapes.specs.Left.{edges_left, vertices_left};
 ghost use Rattle.delaunay_shapes.specs.Tests.{corners};
 ghost use Rattle.delaunay_shape_queries.specs.Found.{FindsEdges, FindsVertices};
 ghost use Rattle.plane.specs.Shape.{InClosedCircle, InClosedRectangle};
 
-use delaunay_core::HintGenerator;
 use delaunay_core::math::PlaneTests;
 use delaunay_core::point::{HasPosition, Point2};
-use delaunay_edit::TriangulationCore;
-use delaunay_legalization::ConstraintMarker;
+use delaunay_interface::Triangulation;
 use delaunay_shapes::{
     CircleMetric, EdgesInShapeIterator, RectangleMetric, VerticesInShapeIterator, edges_in_shape,
     vertices_in_shape,
 };
-use half_edge_mesh::{Dcel, FixedFaceHandle};
 use std::alloc::{AllocError, Global};
 
 /// Edges and vertices in closed rectangles and circles: of both triangulations.
 ///
-/// All vertices are sites of the tests, which also cover the four corners of a rectangle or the centre of a circle. Memory
-/// is taken as the iterator is made, and refused only there; what it gives comes in no promised order.
-pub trait FloatTriangulation {
-    type Vertex: HasPosition;
-
-    type DirectedEdge;
-
-    type UndirectedEdge;
-
-    type Face;
-
-    ghost state: { Self → State Self.Vertex Self.DirectedEdge Self.UndirectedEdge Self.Face };
-
-    // The mesh, for the bodies below.
-    fn mesh(&self) -> &Dcel<Self::Vertex, Self::DirectedEdge, Self::UndirectedEdge, Self::Face>
-        ensures state { state_of result.now ≡ state self.now }
-        ensures kept { IsTriangulated Self.Vertex.place (state self.now) };
-
-    /// The edges with a point in a closed rectangle, each once: none where `upper` is left of `lower` or below it.
+/// All vertices are sites of the tests, which also cover the four corners of a rectangle or the
+/// centre of a circle. Memory is taken as the iterator is made, and refused only there; what it
+/// gives comes in no promised order.
+///
+/// The vertices of a triangulation `points` at most 5 from the origin:
+///
+/// ```
+/// let near = points.get_vertices_in_circle(Point2::new(0, 0), 25, &ExactTests, rt.alloc())?;
+/// for vertex in near {
+///     println!(rt; "{}", vertex.fix().index())?;
+/// }
+/// ```
+pub trait FloatTriangulation: Triangulation {
+    /// The edges with a point in a closed rectangle, each once: none where `upper` is left of
+    /// `lower` or below it.
     final fn get_edges_in_rectangle<P: PlaneTests<<Self::Vertex as HasPosition>::Scalar>>(
         &self,
         lower: Point2<<Self::Vertex as HasPosition>::Scalar>,
@@ -58,16 +49,21 @@ pub trait FloatTriangulation {
         >,
         AllocError,
     >
-        requires sites { AreSites Self.Vertex.place (P.sites tests.now) (state self.now).vertices }
-        requires covered { All (P.covered tests.now) (corners (place_of Self.Vertex.Scalar.whole lower) (place_of Self.Vertex.Scalar.whole upper)) }
+        requires sites { AreSites Self.Vertex.place (P.sites tests.now)
+            (Self.state self.now).vertices }
+        requires covered { let whole = Self.Vertex.Scalar.whole in
+            All (P.covered tests.now) (corners (place_of whole lower) (place_of whole upper)) }
         ensures { let whole = Self.Vertex.Scalar.whole in
-            IfOk result (λ it. FindsEdges Self.Vertex.place (state self.now) (InClosedRectangle (place_of whole lower) (place_of whole upper)) (edges_left it)) }
+            IfOk result (λ it. FindsEdges Self.Vertex.place (Self.state self.now)
+            (InClosedRectangle (place_of whole lower) (place_of whole upper)) (edges_left it)) }
     {
+        self.recall_invariant();
         let rectangle = RectangleMetric::new(lower, upper);
-        edges_in_shape(self.mesh(), &rectangle, lower, tests, alloc)
+        edges_in_shape(self.s(), &rectangle, lower, tests, alloc)
     }
 
-    /// The vertices in a closed rectangle, each once: none where `upper` is left of `lower` or below it.
+    /// The vertices in a closed rectangle, each once: none where `upper` is left of `lower` or
+    /// below it.
     final fn get_vertices_in_rectangle<P: PlaneTests<<Self::Vertex as HasPosition>::Scalar>>(
         &self,
         lower: Point2<<Self::Vertex as HasPosition>::Scalar>,
@@ -84,13 +80,17 @@ pub trait FloatTriangulation {
         >,
         AllocError,
     >
-        requires sites { AreSites Self.Vertex.place (P.sites tests.now) (state self.now).vertices }
-        requires covered { All (P.covered tests.now) (corners (place_of Self.Vertex.Scalar.whole lower) (place_of Self.Vertex.Scalar.whole upper)) }
+        requires sites { AreSites Self.Vertex.place (P.sites tests.now)
+            (Self.state self.now).vertices }
+        requires covered { let whole = Self.Vertex.Scalar.whole in
+            All (P.covered tests.now) (corners (place_of whole lower) (place_of whole upper)) }
         ensures { let whole = Self.Vertex.Scalar.whole in
-            IfOk result (λ it. FindsVertices Self.Vertex.place (state self.now) (InClosedRectangle (place_of whole lower) (place_of whole upper)) (vertices_left it)) }
+            IfOk result (λ it. FindsVertices Self.Vertex.place (Self.state self.now)
+            (InClosedRectangle (place_of whole lower) (place_of whole upper)) (vertices_left it)) }
     {
+        self.recall_invariant();
         let rectangle = RectangleMetric::new(lower, upper);
-        vertices_in_shape(self.mesh(), &rectangle, lower, tests, alloc)
+        vertices_in_shape(self.s(), &rectangle, lower, tests, alloc)
     }
 
     /// The edges with a point in a closed circle, each once. The squared radius is not negative.
@@ -110,13 +110,16 @@ pub trait FloatTriangulation {
         >,
         AllocError,
     >
-        requires sites { AreSites Self.Vertex.place (P.sites tests.now) (state self.now).vertices }
+        requires sites { AreSites Self.Vertex.place (P.sites tests.now)
+            (Self.state self.now).vertices }
         requires covered { P.covered tests.now (place_of Self.Vertex.Scalar.whole center) }
         requires not_negative { pos 0 ≤ℤ radius_2 }
-        ensures { IfOk result (λ it. FindsEdges Self.Vertex.place (state self.now) (InClosedCircle (place_of Self.Vertex.Scalar.whole center) radius_2) (edges_left it)) }
+        ensures { IfOk result (λ it. FindsEdges Self.Vertex.place (Self.state self.now)
+            (InClosedCircle (place_of Self.Vertex.Scalar.whole center) radius_2) (edges_left it)) }
     {
+        self.recall_invariant();
         let circle = CircleMetric::new(center, radius_2);
-        edges_in_shape(self.mesh(), &circle, center, tests, alloc)
+        edges_in_shape(self.s(), &circle, center, tests, alloc)
     }
 
     /// The vertices in a closed circle, each once. The squared radius is not negative.
@@ -136,36 +139,17 @@ pub trait FloatTriangulation {
         >,
         AllocError,
     >
-        requires sites { AreSites Self.Vertex.place (P.sites tests.now) (state self.now).vertices }
+        requires sites { AreSites Self.Vertex.place (P.sites tests.now)
+            (Self.state self.now).vertices }
         requires covered { P.covered tests.now (place_of Self.Vertex.Scalar.whole center) }
         requires not_negative { pos 0 ≤ℤ radius_2 }
-        ensures { IfOk result (λ it. FindsVertices Self.Vertex.place (state self.now) (InClosedCircle (place_of Self.Vertex.Scalar.whole center) radius_2) (vertices_left it)) }
+        ensures { IfOk result (λ it. FindsVertices Self.Vertex.place (Self.state self.now)
+            (InClosedCircle (place_of Self.Vertex.Scalar.whole center) radius_2) (vertices_left it)) }
     {
-        let circle = CircleMetric::new(center, radius_2);
-        vertices_in_shape(self.mesh(), &circle, center, tests, alloc)
-    }
-}
-
-impl<
-    V: HasPosition,
-    DE,
-    UE,
-    F,
-    L: HintGenerator<V::Scalar>,
-    M: ConstraintMarker<UE>,
-> FloatTriangulation for TriangulationCore<V, DE, UE, F, L, M> {
-    type Vertex = V;
-
-    type DirectedEdge = DE;
-
-    type UndirectedEdge = UE;
-
-    type Face = F;
-
-    ghost state = { λ t. t };
-
-    fn mesh(&self) -> &Dcel<V, DE, UE, F> {
         self.recall_invariant();
-        self.face(FixedFaceHandle::from_index(0)).dcel
+        let circle = CircleMetric::new(center, radius_2);
+        vertices_in_shape(self.s(), &circle, center, tests, alloc)
     }
 }
+
+impl<T: Triangulation> FloatTriangulation for T {}

@@ -1,7 +1,7 @@
 //! Which fire station is nearest to a fire, before and after one of them closes.
 
 use exact_tests::ExactTests;
-use spade_delaunay::{DelaunayTriangulation, HasPosition, Point2, validate_vertex};
+use spade_delaunay::{DelaunayTriangulation, HasPosition, Point2, Triangulation, validate_vertex};
 use std::alloc::Global;
 
 /// A vertex is whatever has a position.

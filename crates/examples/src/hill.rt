@@ -1,7 +1,7 @@
 //! Triangulates the survey points of a hill, and tells its counts and the point nearest to a camp.
 
 use exact_tests::ExactTests;
-use spade_delaunay::{DelaunayTriangulation, Point2};
+use spade_delaunay::{DelaunayTriangulation, Point2, Triangulation};
 use std::io;
 
 pub fn run(rt: &HostRuntime) -> io::Result<()> {

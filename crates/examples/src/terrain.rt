@@ -6,7 +6,7 @@ ghost use Rattle.std.specs.Prelude.{◌<◌};
 use exact_tests::ExactTests;
 use spade_delaunay::{
     DelaunayTriangulation, HasPosition, InsertionError, Point2, PositionInTriangulation,
-    validate_vertex,
+    Triangulation, validate_vertex,
 };
 
 /// A post of the survey.

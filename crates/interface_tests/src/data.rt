@@ -1,12 +1,13 @@
 //! Data of an edge and of the outer face, written, and read after an insertion and its removal.
 
 use crate::searches::Hinted;
-use delaunay_interface::{ConstrainedDelaunayTriangulation, Triangulation};
 use exact_tests::ExactTests;
 use spade_delaunay::handles::{
     FixedDirectedEdgeHandle, FixedFaceHandle, FixedUndirectedEdgeHandle, FixedVertexHandle,
 };
-use spade_delaunay::{LastUsedVertexHintGenerator, Point2};
+use spade_delaunay::{
+    ConstrainedDelaunayTriangulation, LastUsedVertexHintGenerator, Point2, Triangulation,
+};
 
 type Points = Hinted<LastUsedVertexHintGenerator>;
 

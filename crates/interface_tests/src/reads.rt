@@ -1,10 +1,11 @@
 //! Each call that reads, of both types, in a square with its centre.
 
 use crate::searches::Hinted;
-use delaunay_interface::{ConstrainedDelaunayTriangulation, Triangulation};
 use exact_tests::ExactTests;
 use spade_delaunay::handles::FixedVertexHandle;
-use spade_delaunay::{LastUsedVertexHintGenerator, Point2, SpadeNum};
+use spade_delaunay::{
+    ConstrainedDelaunayTriangulation, LastUsedVertexHintGenerator, Point2, SpadeNum, Triangulation,
+};
 
 type Points = Hinted<LastUsedVertexHintGenerator>;
 

@@ -1,7 +1,8 @@
 //! Where points of three rows of three are, and which vertex is nearest, as a triangulation grows.
-use delaunay_interface::{DelaunayTriangulation, Triangulation};
 use exact_tests::ExactTests;
-use spade_delaunay::{HintGenerator, Point2, PositionInTriangulation, validate_vertex};
+use spade_delaunay::{
+    DelaunayTriangulation, HintGenerator, Point2, PositionInTriangulation, Triangulation, validate_vertex,
+};
 
 /// A triangulation with data, and with hints of this type.
 pub type Hinted<L> = DelaunayTriangulation<Point2<i64>, u32, u32, u32, L>;

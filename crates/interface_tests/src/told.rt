@@ -2,9 +2,8 @@
 
 use crate::generators::{Listing, Told};
 use crate::searches::Hinted;
-use delaunay_interface::Triangulation;
 use exact_tests::ExactTests;
-use spade_delaunay::Point2;
+use spade_delaunay::{Point2, Triangulation};
 use spade_delaunay::handles::FixedVertexHandle;
 
 fn print_told(rt: &HostRuntime, points: &Hinted<Listing>) -> anyhow::Result<()> {

@@ -1,5 +1,5 @@
-//! Delaunay triangulations of points with whole-number coordinates, whose side and circle tests the caller hands in. All
-//! that a user names is here.
+//! Delaunay triangulations of points with whole-number coordinates, whose side and circle tests the
+//! caller hands in. All that a user names is here.
 #![tactic(auto)]
 
 pub mod handles;
@@ -7,13 +7,16 @@ pub mod iterators;
 
 pub use delaunay_core::line_side_info::LineSideInfo;
 pub use delaunay_core::math::{
-    InsertionError, MAX_ALLOWED_VALUE, PlaneTests, validate_coordinate, validate_vertex,
+    InsertionError, MAX_ALLOWED_VALUE, PlaneTests, PointProjection, is_ordered_ccw, project_point,
+    validate_coordinate, validate_vertex,
 };
 pub use delaunay_core::point::{HasPosition, Point2, SpadeNum};
 pub use delaunay_core::{HintGenerator, LastUsedVertexHintGenerator};
-pub use delaunay_edit::{
+pub use delaunay_edit::EdgeData;
+pub use delaunay_interface::{
     ConflictingEdgesIterator, ConstrainedDelaunayTriangulation, DelaunayTriangulation, HasMesh,
-    Intersection, LineIntersectionIterator, PositionInTriangulation, TriangulationCore,
+    Intersection, LineIntersectionIterator, PositionInTriangulation, Triangulation,
+    TriangulationCore,
 };
 pub use delaunay_legalization::{CdtEdge, ConstraintMarker, EdgeConstraints, NoConstraints};
 pub use delaunay_shape_queries::{

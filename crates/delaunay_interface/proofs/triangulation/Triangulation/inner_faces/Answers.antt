@@ -1,6 +1,5 @@
-use Rattle.std.proofs.Common.{length, ap, ◌+◌}
-use Rattle.delaunay_edit.proofs.Counts.{gives_elements}
+use Rattle.delaunay_interface.proofs.Faces.{gives_inner_faces}
 use Rattle.delaunay_interface.proofs.triangulation.Triangulation.inner_faces.Goals as goal
 
 pub returns : goal.returns
-returns g c = gives_elements _ _ 1 _ _ _ c.inner_faces.ensures c.s.ensures (ap (λ s. length s.faces) c.s.ensures)
+returns g c = gives_inner_faces (g.Self.Triangulation.state c.args.self.now) c.new.result c.s.result c.s.ensures c.new.ensures.dcel c.new.ensures.next

@@ -19,13 +19,13 @@ pub edges_in_shape-requires-clause-start_covered : goal.edges_in_shape-requires-
 edges_in_shape-requires-clause-start_covered g c = lower_corner (g.P.PlaneTests.covered c.args.tests.now) (place_of g.Self.Vertex.Scalar.SpadeNum.whole c.args.lower) (place_of g.Self.Vertex.Scalar.SpadeNum.whole c.args.upper) c.requires.covered
 
 pub edges_in_shape-requires-clause-sites : goal.edges_in_shape-requires-clause-sites
-edges_in_shape-requires-clause-sites g c = sites_in_mesh g.Self.Vertex.HasPosition.place (g.Self.FloatTriangulation.state c.args.self.now) c.mesh.result c.mesh.ensures.state (g.P.PlaneTests.sites c.args.tests.now) c.mesh.ensures.kept c.requires.sites
+edges_in_shape-requires-clause-sites g c = sites_in_mesh g.Self.Vertex.HasPosition.place (g.Self.Triangulation.state c.args.self.now) c.s.result c.s.ensures (g.P.PlaneTests.sites c.args.tests.now) c.recall_invariant.ensures.kept c.requires.sites
 
 pub edges_in_shape-requires-clause-begins : goal.edges_in_shape-requires-clause-begins
 edges_in_shape-requires-clause-begins g c = subst (λ p. BeginsAt (InClosedRectangle (place_of g.Self.Vertex.Scalar.SpadeNum.whole c.new-rectangle.result.lower) (place_of g.Self.Vertex.Scalar.SpadeNum.whole c.new-rectangle.result.upper)) p) (ap (λ p. place_of g.Self.Vertex.Scalar.SpadeNum.whole p) c.new-rectangle.ensures.lower) (rectangle_begins (place_of g.Self.Vertex.Scalar.SpadeNum.whole c.new-rectangle.result.lower) (place_of g.Self.Vertex.Scalar.SpadeNum.whole c.new-rectangle.result.upper))
 
 pub returns : goal.returns
 returns g c =
-    same_rectangle (λ Shape. IfOk c.edges_in_shape.result (λ it. FindsEdges g.Self.Vertex.HasPosition.place (g.Self.FloatTriangulation.state c.args.self.now) Shape (edges_left it))) (place_of g.Self.Vertex.Scalar.SpadeNum.whole c.new-rectangle.result.lower) (place_of g.Self.Vertex.Scalar.SpadeNum.whole c.args.lower) (place_of g.Self.Vertex.Scalar.SpadeNum.whole c.new-rectangle.result.upper) (place_of g.Self.Vertex.Scalar.SpadeNum.whole c.args.upper)
+    same_rectangle (λ Shape. IfOk c.edges_in_shape.result (λ it. FindsEdges g.Self.Vertex.HasPosition.place (g.Self.Triangulation.state c.args.self.now) Shape (edges_left it))) (place_of g.Self.Vertex.Scalar.SpadeNum.whole c.new-rectangle.result.lower) (place_of g.Self.Vertex.Scalar.SpadeNum.whole c.args.lower) (place_of g.Self.Vertex.Scalar.SpadeNum.whole c.new-rectangle.result.upper) (place_of g.Self.Vertex.Scalar.SpadeNum.whole c.args.upper)
     (ap (λ p. place_of g.Self.Vertex.Scalar.SpadeNum.whole p) c.new-rectangle.ensures.lower) (ap (λ p. place_of g.Self.Vertex.Scalar.SpadeNum.whole p) c.new-rectangle.ensures.upper)
-    (edges_found g.Self.Vertex.HasPosition.place (g.Self.FloatTriangulation.state c.args.self.now) c.mesh.result c.mesh.ensures.state (InClosedRectangle (place_of g.Self.Vertex.Scalar.SpadeNum.whole c.new-rectangle.result.lower) (place_of g.Self.Vertex.Scalar.SpadeNum.whole c.new-rectangle.result.upper)) c.edges_in_shape.result c.edges_in_shape.ensures)
+    (edges_found g.Self.Vertex.HasPosition.place (g.Self.Triangulation.state c.args.self.now) c.s.result c.s.ensures (InClosedRectangle (place_of g.Self.Vertex.Scalar.SpadeNum.whole c.new-rectangle.result.lower) (place_of g.Self.Vertex.Scalar.SpadeNum.whole c.new-rectangle.result.upper)) c.edges_in_shape.result c.edges_in_shape.ensures)

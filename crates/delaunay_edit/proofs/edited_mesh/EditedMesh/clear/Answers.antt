@@ -1,0 +1,8 @@
+use Rattle.std.proofs.Common.{ap}
+use Rattle.delaunay_edit.proofs.Delaunay.{legal_empty}
+use Rattle.delaunay_edit.proofs.edited_mesh.EditedMesh.clear.Goals as goal
+
+pub invariant_of-self : goal.invariant_of-self
+invariant_of-self g c =
+    let now = c.clear.ensures.contents in
+    legal_empty g.V.HasPosition.place g.M.ConstraintMarker.constraints c.clear.new.self (ap (λ d. d.mesh) now) (ap (λ d. d.vertices) now) (ap (λ d. d.undirected) now) (ap (λ d. d.faces) now) c.recall_invariant.ensures.whole

@@ -1,0 +1,34 @@
+use Rattle.std.proofs.Common.{subst}
+use Rattle.plane.specs.Plain.{Removes}
+use Rattle.delaunay_legalization.specs.Constraints.{points_and_constraints_by}
+use Rattle.delaunay_legalization.specs.State.{state_of}
+use Rattle.delaunay_removal.specs.Data.{KeepsDataBeside}
+use Rattle.delaunay_removal.proofs.DataLegalized.{legalized_keeps_others}
+use Rattle.delaunay_edit.proofs.Removing.{sites_left, room_left, removed_on}
+use Rattle.delaunay_edit.proofs.edited_mesh.EditedMesh.take_out.Goals as goal
+
+pub legalize_all-requires-clause-sites : goal.legalize_all-requires-clause-sites
+legalize_all-requires-clause-sites g c =
+    let at = g.V.HasPosition.place in
+    let constraints = g.M.ConstraintMarker.constraints in
+    sites_left at constraints c.args.self.now (state_of c.remove_vertex-value.new.dcel) c.args.vertex c.remove_vertex-value.result
+    (subst (λ s. Removes at (points_and_constraints_by constraints s) (points_and_constraints_by constraints (state_of c.remove_vertex-value.new.dcel)) c.args.vertex) c.self.view_is c.remove_vertex-value.ensures.plain)
+    (g.P.PlaneTests.sites c.args.tests.now) c.requires.sites
+
+pub legalize_all-requires-clause-room : goal.legalize_all-requires-clause-room
+legalize_all-requires-clause-room g c =
+    room_left g.V.HasPosition.place g.M.ConstraintMarker.constraints (state_of c.self.inside.dcel) (state_of c.remove_vertex-value.new.dcel) c.args.vertex c.remove_vertex-value.result c.remove_vertex-value.ensures.plain _ _ _ c.num_vertices.ensures.value c.in_ok-reserve.ensures.ok
+
+pub returns-clause-plain : goal.returns-clause-plain
+returns-clause-plain g c =
+    let at = g.V.HasPosition.place in
+    let constraints = g.M.ConstraintMarker.constraints in
+    removed_on at constraints c.args.self.now c.remove_vertex-value.new.dcel c.legalize_all.new.dcel c.args.vertex
+    (subst (λ s. Removes at (points_and_constraints_by constraints s) (points_and_constraints_by constraints (state_of c.remove_vertex-value.new.dcel)) c.args.vertex) c.self.view_is c.remove_vertex-value.ensures.plain)
+    c.legalize_all.ensures.contents c.legalize_all.ensures.constraints
+
+pub returns-clause-data : goal.returns-clause-data
+returns-clause-data g c =
+    legalized_keeps_others g.V.HasPosition.place c.args.self.now c.remove_vertex-value.new.dcel c.legalize_all.new.dcel c.args.vertex
+    (subst (λ s. KeepsDataBeside s (state_of c.remove_vertex-value.new.dcel) c.args.vertex) c.self.view_is c.remove_vertex-value.ensures.data)
+    c.remove_vertex-value.ensures.kept c.legalize_all.ensures.legal.kept c.legalize_all.ensures.contents c.legalize_all.ensures.indexes

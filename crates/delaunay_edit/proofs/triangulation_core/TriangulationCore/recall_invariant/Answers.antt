@@ -1,8 +1,0 @@
-use Rattle.delaunay_legalization.specs.State.{state_of}
-use Rattle.delaunay_edit.proofs.WellFormed.{well_formed}
-use Rattle.delaunay_edit.proofs.triangulation_core.TriangulationCore.recall_invariant.Goals as goal
-
-pub returns : goal.returns
-returns g c =
-    rw (← c.self.view_is) (well_formed g.V.HasPosition.place g.M.ConstraintMarker.marks g.M.ConstraintMarker.constraints g.met.M.ConstraintMarker.constraints_are_marked (state_of c.self.inside.dcel) c.self.invariant
-    c.recall_invariant.ensures.few_vertices)

@@ -1,0 +1,132 @@
+//! A mesh with its edits, which both triangulation types hold.
+ghost use Rattle.std.specs.Prelude.{◌≡◌, ℕ, ◌<◌, ◌≤◌, [], length, map};
+ghost use Rattle.half_edge_mesh.specs.Mesh.{empty, origin, rev};
+ghost use Rattle.delaunay_core.specs.Place.{place_of};
+ghost use Rattle.delaunay_legalization.specs.Constraints.{constraints_by};
+ghost use Rattle.delaunay_legalization.specs.Known.{point_at};
+ghost use Rattle.delaunay_legalization.specs.State.{state_of};
+ghost use Rattle.delaunay_edit.specs.Headline.{IsDelaunay, IsWellFormed};
+ghost use Rattle.delaunay_edit.specs.Location.{IsMeshEdge};
+
+use delaunay_core::point::{HasPosition, Point2};
+use delaunay_legalization::{CdtEdge, ConstraintMarker, EdgeConstraints, NoConstraints};
+use half_edge_mesh::{
+    Dcel, FixedDirectedEdgeHandle, FixedUndirectedEdgeHandle, FixedVertexHandle, MAX_ELEMENTS,
+    MeshViews,
+};
+use std::alloc::Global;
+use std::marker::{Model, PhantomData};
+
+/// The mesh of a triangulation of vertices with different positions: its faces tile the hull of the
+/// positions, or its edges join the positions of one line to their neighbours. The constraints are
+/// the edges that the marker `M` finds by their data, and no face has a vertex strictly inside its
+/// circle that is seen from inside the face past the constraints.
+#[derive(Drop)]
+pub struct EditedMesh<
+    V: HasPosition,
+    DE,
+    UE,
+    F,
+    M: ConstraintMarker<UE>,
+> {
+    pub(crate) dcel: Dcel<V, DE, UE, F>,
+    // The edges that a legalization has still to test: none between edits, but the room for them stays.
+    pub(crate) work: Vec<FixedUndirectedEdgeHandle>,
+    // Room for the sides opposite a vertex that a removal takes from the hull; what stands in it has no meaning.
+    pub(crate) sides: Vec<FixedDirectedEdgeHandle>,
+    pub(crate) marks: PhantomData<M>,
+}
+
+/// One without constraints.
+pub(crate) type PlainMesh<V, DE, UE, F> = EditedMesh<V, DE, UE, F, NoConstraints>;
+
+/// One whose edges may be constraints.
+pub(crate) type ConstrainedMesh<V, DE, UE, F> = EditedMesh<V, DE, CdtEdge<UE>, F, EdgeConstraints>;
+
+impl<V: HasPosition, DE, UE, F, M: ConstraintMarker<UE>> Model
+    for EditedMesh<V, DE, UE, F, M> {
+    ghost use Rattle.delaunay_legalization.specs.State.{State, state_of};
+    ghost use Rattle.delaunay_legalization.specs.Shape.{IsDelaunayTriangulation};
+
+    ghost Value = { State V DE UE F };
+
+    ghost view = { λ c. state_of c.dcel };
+
+    ghost invariant = { λ c. IsDelaunayTriangulation V.place M.constraints (state_of c.dcel) };
+}
+
+impl<
+    V: HasPosition,
+    DE,
+    UE,
+    F,
+    M: ConstraintMarker<UE>,
+> EditedMesh<V, DE, UE, F, M> {
+    /// No vertex, no edge, and the outer face with default data.
+    pub fn new(alloc: Global) -> Self
+    where
+        F: Default,
+        ensures vertices { result.vertices ≡ [] }
+        ensures mesh { result.mesh ≡ empty }
+        ensures directed { result.directed ≡ [] }
+        ensures undirected { result.undirected ≡ [] }
+        ensures outer { F.is_default result.outer }
+        ensures faces { result.faces ≡ [] }
+        ensures constraints { constraints_by M.constraints result ≡ [] }
+        ensures headline { IsDelaunay V.place M.constraints result }
+    {
+        let dcel = Dcel::new(alloc);
+        dcel.recall_invariant();
+        EditedMesh {
+            dcel,
+            work: Vec::new(alloc),
+            sides: Vec::new(alloc),
+            marks: PhantomData,
+        }
+    }
+
+    /// Gives a proof what holds of each triangulation between edits. It does nothing when it runs.
+    pub fn recall_invariant(&self)
+        ensures { IsWellFormed V.place M.constraints self.now }
+    {
+        self.dcel.recall_invariant();
+    }
+
+    pub fn num_vertices(&self) -> usize
+        ensures value { result ≡ length self.now.vertices }
+        ensures small { result ≤ MAX_ELEMENTS }
+    {
+        self.dcel.num_vertices()
+    }
+
+    /// The mesh of the vertices, edges and faces.
+    pub fn mesh(&self) -> &Dcel<V, DE, UE, F>
+        ensures { state_of result.now ≡ self.now }
+    {
+        &self.dcel
+    }
+
+    // The position of a vertex.
+    pub(crate) fn position_of(&self, vertex: FixedVertexHandle) -> Point2<V::Scalar>
+        requires { vertex < length self.now.vertices }
+        ensures { place_of V.Scalar.whole result ≡ point_at (map V.place self.now.vertices) vertex }
+    {
+        self.dcel.vertex_data(vertex).position()
+    }
+
+    // The positions of the ends of an edge, in its direction.
+    pub(crate) fn ends_of(
+        &self,
+        edge: FixedDirectedEdgeHandle,
+    ) -> (Point2<V::Scalar>, Point2<V::Scalar>)
+        requires { edge < length self.now.directed }
+        ensures from { place_of V.Scalar.whole result.0 ≡ point_at (map V.place self.now.vertices) (origin self.now.mesh edge) }
+        ensures to { place_of V.Scalar.whole result.1 ≡ point_at (map V.place self.now.vertices) (origin self.now.mesh (rev edge)) }
+        ensures edge { IsMeshEdge (map V.place self.now.vertices) self.now.mesh edge }
+    {
+        let edge = self.dcel.directed_edge(edge);
+        let from = edge.from().fix();
+        let to = edge.to().fix();
+        (self.position_of(from), self.position_of(to))
+    }
+}

@@ -1,0 +1,14 @@
+use Rattle.std.proofs.Common.{sym, subst}
+use Rattle.plane.specs.Plain.{CanAdd}
+use Rattle.delaunay_edit.specs.Constrained.{constrained}
+use Rattle.delaunay_interface.proofs.Kept.{held_of_same, vertices_after_adding}
+use Rattle.delaunay_interface.proofs.constraint_paths.ConstrainedDelaunayTriangulation+V+DE+UE+F+L.add_constraint.Goals as goal
+
+pub invariant_of-self : goal.invariant_of-self
+invariant_of-self g c =
+    let at = g.V.HasPosition.place in
+    held_of_same at (g.L.HintGenerator.holds c.self.inside.hint_generator) c.self.inside.edited.vertices c.add_constraint.new.self.vertices
+    (vertices_after_adding at c.self.inside.edited c.add_constraint.new.self c.args.from c.args.to c.add_constraint.result c.add_constraint.ensures.adds) c.self.invariant
+
+pub add_constraint-requires-clause-free : goal.add_constraint-requires-clause-free
+add_constraint-requires-clause-free g c = subst (λ s. CanAdd g.V.HasPosition.place (constrained s) c.args.from c.args.to) (sym c.self.view_is) c.requires.free

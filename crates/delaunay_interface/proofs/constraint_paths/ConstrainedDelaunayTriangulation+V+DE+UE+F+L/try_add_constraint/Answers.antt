@@ -1,0 +1,16 @@
+use Rattle.std.proofs.Common.{◌≡◌, subst}
+use Rattle.std.specs.Prelude.{◌⊎◌, IsOk}
+use Rattle.plane.specs.Plain.{CanAdd}
+use Rattle.delaunay_edit.specs.Constrained.{constrained}
+use Rattle.delaunay_interface.proofs.Kept.{held_of_same, vertices_after_path}
+use Rattle.delaunay_interface.proofs.constraint_paths.ConstrainedDelaunayTriangulation+V+DE+UE+F+L.try_add_constraint.Goals as goal
+
+pub invariant_of-self : goal.invariant_of-self
+invariant_of-self g c =
+    let at = g.V.HasPosition.place in
+    held_of_same at (g.L.HintGenerator.holds c.self.inside.hint_generator) c.self.inside.edited.vertices c.try_add_constraint.new.self.vertices
+    (vertices_after_path at c.self.inside.edited c.try_add_constraint.new.self c.args.from c.args.to (λ edges. edges.items) c.try_add_constraint.result c.try_add_constraint.ensures.path c.try_add_constraint.ensures.err) c.self.invariant
+
+pub returns-clause-none : goal.returns-clause-none
+returns-clause-none g c =
+    subst (λ s. ((c.args.from ≡ c.args.to) ⊎ (¬ CanAdd g.V.HasPosition.place (constrained s) c.args.from c.args.to)) → IsOk c.try_add_constraint.result) c.self.view_is c.try_add_constraint.ensures.none

@@ -1,0 +1,97 @@
+//! Constraints that are added and released.
+ghost use Rattle.std.specs.Prelude.{◌≡◌, ◌⊎◌, ◌↔◌, ◌<◌, length, IsTrue, IsOk, IfOk, OnErr};
+ghost use Rattle.plane.specs.Plain.{CanAdd};
+ghost use Rattle.delaunay_edit.specs.Constrained.{constrained, constraint_edges};
+ghost use Rattle.delaunay_edit.specs.ConstraintEdits.{AddsConstraint, AddsPathIfFree, ReleasesConstraint};
+ghost use Rattle.delaunay_edit.specs.Headline.{AreSites, IsDelaunay};
+
+use crate::triangulation_core::ConstrainedDelaunayTriangulation;
+use delaunay_core::HintGenerator;
+use delaunay_core::math::PlaneTests;
+use delaunay_core::point::HasPosition;
+use half_edge_mesh::{FixedDirectedEdgeHandle, FixedUndirectedEdgeHandle, FixedVertexHandle};
+use std::alloc::AllocError;
+
+impl<V: HasPosition, DE, UE, F, L: HintGenerator<V::Scalar>> ConstrainedDelaunayTriangulation<
+    V,
+    DE,
+    UE,
+    F,
+    L,
+> {
+    /// Whether no constraint has one point in common with the segment between two vertices that is
+    /// strictly within both.
+    pub fn can_add_constraint<P: PlaneTests<V::Scalar>>(
+        &self,
+        from: FixedVertexHandle,
+        to: FixedVertexHandle,
+        tests: &P,
+    ) -> bool
+        requires from_in { from < length self.now.vertices }
+        requires to_in { to < length self.now.vertices }
+        requires sites { AreSites V.place (P.sites tests.now) self.now.vertices }
+        ensures { IsTrue result ↔ CanAdd V.place (constrained self.now) from to }
+    {
+        self.edited.can_add_constraint(from, to, tests)
+    }
+
+    /// Makes constraints of the edges between neighbours among the vertices on the segment between
+    /// two, which no constraint crosses. It tells whether that made a constraint of an edge that was
+    /// none, and gives `AllocError` where memory was refused; then nothing changes, and so where it
+    /// made none.
+    pub fn add_constraint<P: PlaneTests<V::Scalar>>(
+        &mut self,
+        from: FixedVertexHandle,
+        to: FixedVertexHandle,
+        tests: &P,
+    ) -> Result<bool, AllocError>
+        requires from_in { from < length self.old.vertices }
+        requires to_in { to < length self.old.vertices }
+        requires free { CanAdd V.place (constrained self.old) from to }
+        requires sites { AreSites V.place (P.sites tests.now) self.old.vertices }
+        ensures adds { AddsConstraint V.place from to result self.old self.new }
+        ensures headline { IsDelaunay V.place constraint_edges self.new }
+    {
+        self.edited.add_constraint(from, to, tests)
+    }
+
+    /// Does what `add_constraint` does and gives the edges of the path, in order, as they are after
+    /// the last flip. Where a constraint crosses the segment, or where the two vertices are one, it
+    /// gives no edge and changes nothing, and takes no memory. It gives `AllocError` where memory
+    /// was refused, and then nothing changes either.
+    pub fn try_add_constraint<P: PlaneTests<V::Scalar>>(
+        &mut self,
+        from: FixedVertexHandle,
+        to: FixedVertexHandle,
+        tests: &P,
+    ) -> Result<Vec<FixedDirectedEdgeHandle>, AllocError>
+        requires from_in { from < length self.old.vertices }
+        requires to_in { to < length self.old.vertices }
+        requires sites { AreSites V.place (P.sites tests.now) self.old.vertices }
+        ensures path { IfOk result
+            (λ edges. AddsPathIfFree V.place from to edges.items self.old self.new) }
+        ensures none { (from ≡ to) ⊎ (¬ CanAdd V.place (constrained self.old) from to) →
+            IsOk result }
+        ensures err { OnErr result (self.new ≡ self.old) }
+        ensures headline { IsDelaunay V.place constraint_edges self.new }
+    {
+        self.edited.try_add_constraint(from, to, tests)
+    }
+
+    /// Takes from an edge that it is a constraint, and tells whether it was one: where it was none,
+    /// nothing changes, and no memory is taken. An edge or face that is there before and after keeps
+    /// its handle and its data. It gives `AllocError` where memory was refused, and then nothing
+    /// changes.
+    pub fn remove_constraint_edge<P: PlaneTests<V::Scalar>>(
+        &mut self,
+        edge: FixedUndirectedEdgeHandle,
+        tests: &P,
+    ) -> Result<bool, AllocError>
+        requires within { edge < length self.old.undirected }
+        requires sites { AreSites V.place (P.sites tests.now) self.old.vertices }
+        ensures releases { ReleasesConstraint V.place edge result self.old self.new }
+        ensures headline { IsDelaunay V.place constraint_edges self.new }
+    {
+        self.edited.remove_constraint_edge(edge, tests)
+    }
+}

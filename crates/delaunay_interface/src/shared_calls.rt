@@ -1,0 +1,135 @@
+//! The calls of the trait, for the struct that both triangulation types are.
+ghost use Rattle.delaunay_edit.specs.Writing.{with_directed_data, with_undirected_data, with_face_data};
+
+use crate::telling::position_if;
+use crate::triangulation::{Triangulation, sealed};
+use crate::triangulation_core::TriangulationCore;
+use delaunay_core::HintGenerator;
+use delaunay_core::math::{InsertionError, PlaneTests};
+use delaunay_core::point::HasPosition;
+use delaunay_edit::{EdgeData, EditedMesh, WriteData};
+use delaunay_insertion::FreeByDefault;
+use half_edge_mesh::{
+    Dcel, FixedDirectedEdgeHandle, FixedFaceHandle, FixedUndirectedEdgeHandle, FixedVertexHandle,
+};
+use std::alloc::{AllocError, Global};
+
+impl<V: HasPosition, DE, UE, F, L: HintGenerator<V::Scalar>, M: EdgeData<UE>> sealed::Sealed
+    for TriangulationCore<V, DE, UE, F, L, M> {}
+
+impl<
+    V: HasPosition + Drop,
+    DE: Default + Drop,
+    UE: Default + Drop,
+    F: Default + Drop,
+    L: HintGenerator<V::Scalar>,
+    M: EdgeData<UE> + FreeByDefault<UE>,
+> Triangulation for TriangulationCore<V, DE, UE, F, L, M> {
+    type Vertex = V;
+
+    type DirectedEdge = DE;
+
+    type UndirectedEdge = UE;
+
+    type UndirectedUserData = M::User;
+
+    type Face = F;
+
+    type HintGenerator = L;
+
+    type Constraints = M;
+
+    ghost state = { λ t. t };
+
+    ghost with_directed = { with_directed_data };
+
+    ghost with_user = { λ s e w. with_undirected_data s (M.with_user s.undirected e w) };
+
+    ghost with_face = { with_face_data };
+
+    fn s(&self) -> &Dcel<V, DE, UE, F> {
+        self.edited.mesh()
+    }
+
+    fn hint_generator(&self) -> &L {
+        &self.hint_generator
+    }
+
+    fn recall_invariant(&self) {
+        self.edited.recall_invariant();
+    }
+
+    fn new(alloc: Global) -> Self {
+        TriangulationCore {
+            edited: EditedMesh::new(alloc),
+            hint_generator: L::new(alloc),
+            alloc,
+        }
+    }
+
+    fn with_capacity(
+        alloc: Global,
+        vertices: usize,
+        undirected_edges: usize,
+        faces: usize,
+    ) -> Result<Self, InsertionError> {
+        Ok(TriangulationCore {
+            edited: EditedMesh::with_capacity(alloc, vertices, undirected_edges, faces)?,
+            hint_generator: L::new(alloc),
+            alloc,
+        })
+    }
+
+    fn insert<P: PlaneTests<V::Scalar>>(
+        &mut self,
+        value: V,
+        tests: &P,
+    ) -> Result<FixedVertexHandle, InsertionError> {
+        let hint = self.hint_for(&value, tests);
+        self.insert_hinted(value, hint, tests)
+    }
+
+    fn insert_with_hint<P: PlaneTests<V::Scalar>>(
+        &mut self,
+        value: V,
+        hint: FixedVertexHandle,
+        tests: &P,
+    ) -> Result<FixedVertexHandle, InsertionError> {
+        self.insert_hinted(value, hint, tests)
+    }
+
+    fn remove<P: PlaneTests<V::Scalar>>(
+        &mut self,
+        vertex: FixedVertexHandle,
+        tests: &P,
+    ) -> Result<V, AllocError> {
+        self.edited.recall_invariant();
+        let value = self.edited.remove(vertex, tests)?;
+        let swapped_in = position_if(self.edited.mesh(), vertex);
+        let position = value.position();
+        let generator = &mut self.hint_generator;
+        generator.notify_vertex_removed(swapped_in, vertex, position, tests);
+        Ok(value)
+    }
+
+    fn clear(&mut self) {
+        self.edited.clear();
+        self.hint_generator = L::new(self.alloc);
+    }
+
+    fn replace_vertex(&mut self, vertex: FixedVertexHandle, value: V) -> V {
+        self.edited.replace_vertex(vertex, value)
+    }
+
+    fn directed_edge_data_mut(&mut self, edge: FixedDirectedEdgeHandle) -> &mut DE {
+        self.edited.directed_edge_data_mut(edge)
+    }
+
+    fn undirected_edge_data_mut(&mut self, edge: FixedUndirectedEdgeHandle) -> &mut M::User {
+        self.edited.undirected_edge_data_mut(edge)
+    }
+
+    fn face_data_mut(&mut self, face: FixedFaceHandle) -> &mut F {
+        self.edited.face_data_mut(face)
+    }
+}
