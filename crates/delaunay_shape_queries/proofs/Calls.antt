@@ -22,6 +22,10 @@ lower_corner C lower upper all = all 0 lower (omega arith)
 pub upper_corner : (C : Point → Type 0) (lower upper : Point) → All C (corners lower upper) → C upper
 upper_corner C lower upper all = all 2 upper (omega arith)
 
+-- corners by other names of the same points
+pub same_corners : (C : Point → Type 0) (l m u v : Point) → l ≡ m → u ≡ v → All C (corners m v) → All C (corners l u)
+same_corners C l m u v e f all = subst (λ (x : Point). All C (corners x u)) (sym e) (subst (λ (y : Point). All C (corners m y)) (sym f) all)
+
 -- a circle and a rectangle by other names of the same numbers
 pub same_circle : (Q : (Fraction → Type 0) → Type 0) (c d : Point) (r s : ℤ) → c ≡ d → r ≡ s → Q (InClosedCircle c r) → Q (InClosedCircle d s)
 same_circle Q c d r s e f q = subst (λ (x : ℤ). Q (InClosedCircle d x)) f (subst (λ (x : Point). Q (InClosedCircle x r)) e q)

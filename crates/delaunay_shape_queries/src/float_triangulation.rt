@@ -51,8 +51,8 @@ pub trait FloatTriangulation: Triangulation {
     >
         requires sites { AreSites Self.Vertex.place (P.sites tests.now)
             (Self.state self.now).vertices }
-        requires covered { let whole = Self.Vertex.Scalar.whole in
-            All (P.covered tests.now) (corners (place_of whole lower) (place_of whole upper)) }
+        requires covered { All (P.covered tests.now) (corners
+            (place_of Self.Vertex.Scalar.whole lower) (place_of Self.Vertex.Scalar.whole upper)) }
         ensures { let whole = Self.Vertex.Scalar.whole in
             IfOk result (λ it. FindsEdges Self.Vertex.place (Self.state self.now)
             (InClosedRectangle (place_of whole lower) (place_of whole upper)) (edges_left it)) }
@@ -82,8 +82,8 @@ pub trait FloatTriangulation: Triangulation {
     >
         requires sites { AreSites Self.Vertex.place (P.sites tests.now)
             (Self.state self.now).vertices }
-        requires covered { let whole = Self.Vertex.Scalar.whole in
-            All (P.covered tests.now) (corners (place_of whole lower) (place_of whole upper)) }
+        requires covered { All (P.covered tests.now) (corners
+            (place_of Self.Vertex.Scalar.whole lower) (place_of Self.Vertex.Scalar.whole upper)) }
         ensures { let whole = Self.Vertex.Scalar.whole in
             IfOk result (λ it. FindsVertices Self.Vertex.place (Self.state self.now)
             (InClosedRectangle (place_of whole lower) (place_of whole upper)) (vertices_left it)) }
@@ -144,7 +144,8 @@ pub trait FloatTriangulation: Triangulation {
         requires covered { P.covered tests.now (place_of Self.Vertex.Scalar.whole center) }
         requires not_negative { pos 0 ≤ℤ radius_2 }
         ensures { IfOk result (λ it. FindsVertices Self.Vertex.place (Self.state self.now)
-            (InClosedCircle (place_of Self.Vertex.Scalar.whole center) radius_2) (vertices_left it)) }
+            (InClosedCircle (place_of Self.Vertex.Scalar.whole center) radius_2)
+            (vertices_left it)) }
     {
         self.recall_invariant();
         let circle = CircleMetric::new(center, radius_2);

@@ -1,12 +1,12 @@
 //! Hint generators with bad answers, and one that lists what it is told.
 ghost use Rattle.std.specs.Prelude.{◌≡◌, All, Some};
-ghost use Rattle.plane.specs.Fraction.{Point};
-ghost use Rattle.plane.specs.Hint.{IsAtMostOf, IsAtMostWith, IsAtMostWithout};
+ghost use Rattle.spade_delaunay.specs.Fraction.{Point};
+ghost use Rattle.spade_delaunay.specs.Hint.{IsAtMostOf, IsAtMostWith, IsAtMostWithout};
 ghost use Rattle.spade_delaunay.specs.Held.{AreDistinct, place_if, places};
 ghost use Rattle.spade_delaunay.specs.Place.{place_of};
 
 use spade_delaunay::handles::FixedVertexHandle;
-use spade_delaunay::{HintGenerator, PlaneTests, Point2};
+use spade_delaunay::{HintGenerator, PlaneTests, Point2, SpadeNum};
 use std::alloc::Global;
 use std::cell::Cell;
 
@@ -16,7 +16,7 @@ pub struct EachInTurn {
     next: Cell<u32>,
 }
 
-impl HintGenerator<i64> for EachInTurn {
+impl<S: SpadeNum> HintGenerator<S> for EachInTurn {
     ghost holds = { λ _ _. ⊥ };
 
     fn new(_alloc: Global) -> Self {
@@ -29,11 +29,13 @@ impl HintGenerator<i64> for EachInTurn {
         }
     }
 
-    fn get_hint<P: PlaneTests<i64>>(
+    fn get_hint<P: PlaneTests<S>>(
         &self,
-        _position: Point2<i64>,
+        _position: Point2<S>,
         _tests: &P,
-    ) -> FixedVertexHandle {
+    ) -> FixedVertexHandle
+        requires covered { P.covered _tests.now (place_of S.whole _position) }
+    {
         let next = self.next.get();
         self.next.set(if next < 20 { next + 1 } else { 0 });
         FixedVertexHandle::from_index(next)
@@ -41,24 +43,33 @@ impl HintGenerator<i64> for EachInTurn {
 
     fn notify_vertex_lookup(&self, _vertex: FixedVertexHandle) {}
 
-    fn notify_vertex_inserted<P: PlaneTests<i64>>(
+    fn notify_vertex_inserted<P: PlaneTests<S>>(
         &mut self,
         _vertex: FixedVertexHandle,
-        _position: Point2<i64>,
+        _position: Point2<S>,
         _tests: &P,
-    ) {}
+    )
+        requires site { P.sites _tests.now (place_of S.whole _position) }
+        ensures { IsAtMostWith (λ _. ⊥) (λ _. ⊥) (place_of S.whole _position) }
+    {}
 
-    fn notify_vertex_removed<P: PlaneTests<i64>>(
+    fn notify_vertex_removed<P: PlaneTests<S>>(
         &mut self,
-        _swapped_in_point: Option<Point2<i64>>,
+        _swapped_in_point: Option<Point2<S>>,
         _vertex: FixedVertexHandle,
-        _position: Point2<i64>,
+        _position: Point2<S>,
         _tests: &P,
-    ) {}
+    )
+        requires site { P.sites _tests.now (place_of S.whole _position) }
+        requires swapped_site { (p : Point) → place_if S.whole _swapped_in_point ≡ Some p → P.sites
+            _tests.now p }
+        ensures { IsAtMostWithout (λ _. ⊥) (λ _. ⊥) (place_of S.whole _position)
+            (place_if S.whole _swapped_in_point) }
+    {}
 
-    fn initialize_from_triangulation<P: PlaneTests<i64>>(
+    fn initialize_from_triangulation<P: PlaneTests<S>>(
         _alloc: Global,
-        _positions: &[Point2<i64>],
+        _positions: &[Point2<S>],
         _tests: &P,
     ) -> Self {
         EachInTurn { next: Cell::new(0) }
@@ -69,7 +80,7 @@ impl HintGenerator<i64> for EachInTurn {
 #[derive(Drop)]
 pub struct Always1000;
 
-impl HintGenerator<i64> for Always1000 {
+impl<S: SpadeNum> HintGenerator<S> for Always1000 {
     ghost holds = { λ _ _. ⊥ };
 
     fn new(_alloc: Global) -> Self {
@@ -80,34 +91,45 @@ impl HintGenerator<i64> for Always1000 {
         Always1000
     }
 
-    fn get_hint<P: PlaneTests<i64>>(
+    fn get_hint<P: PlaneTests<S>>(
         &self,
-        _position: Point2<i64>,
+        _position: Point2<S>,
         _tests: &P,
-    ) -> FixedVertexHandle {
+    ) -> FixedVertexHandle
+        requires covered { P.covered _tests.now (place_of S.whole _position) }
+    {
         FixedVertexHandle::from_index(1000)
     }
 
     fn notify_vertex_lookup(&self, _vertex: FixedVertexHandle) {}
 
-    fn notify_vertex_inserted<P: PlaneTests<i64>>(
+    fn notify_vertex_inserted<P: PlaneTests<S>>(
         &mut self,
         _vertex: FixedVertexHandle,
-        _position: Point2<i64>,
+        _position: Point2<S>,
         _tests: &P,
-    ) {}
+    )
+        requires site { P.sites _tests.now (place_of S.whole _position) }
+        ensures { IsAtMostWith (λ _. ⊥) (λ _. ⊥) (place_of S.whole _position) }
+    {}
 
-    fn notify_vertex_removed<P: PlaneTests<i64>>(
+    fn notify_vertex_removed<P: PlaneTests<S>>(
         &mut self,
-        _swapped_in_point: Option<Point2<i64>>,
+        _swapped_in_point: Option<Point2<S>>,
         _vertex: FixedVertexHandle,
-        _position: Point2<i64>,
+        _position: Point2<S>,
         _tests: &P,
-    ) {}
+    )
+        requires site { P.sites _tests.now (place_of S.whole _position) }
+        requires swapped_site { (p : Point) → place_if S.whole _swapped_in_point ≡ Some p → P.sites
+            _tests.now p }
+        ensures { IsAtMostWithout (λ _. ⊥) (λ _. ⊥) (place_of S.whole _position)
+            (place_if S.whole _swapped_in_point) }
+    {}
 
-    fn initialize_from_triangulation<P: PlaneTests<i64>>(
+    fn initialize_from_triangulation<P: PlaneTests<S>>(
         _alloc: Global,
-        _positions: &[Point2<i64>],
+        _positions: &[Point2<S>],
         _tests: &P,
     ) -> Self {
         Always1000
@@ -129,14 +151,18 @@ pub struct Listing {
     pub asked: Cell<u32>,
 }
 
-impl HintGenerator<i64> for Listing {
+fn nothing_told(alloc: Global) -> Listing {
+    Listing {
+        told: Vec::new(alloc),
+        asked: Cell::new(0),
+    }
+}
+
+impl<S: SpadeNum> HintGenerator<S> for Listing {
     ghost holds = { λ _ _. ⊥ };
 
     fn new(alloc: Global) -> Self {
-        Listing {
-            told: Vec::new(alloc),
-            asked: Cell::new(0),
-        }
+        nothing_told(alloc)
     }
 
     fn duplicate(&self) -> Self {
@@ -146,46 +172,58 @@ impl HintGenerator<i64> for Listing {
         }
     }
 
-    fn get_hint<P: PlaneTests<i64>>(
+    fn get_hint<P: PlaneTests<S>>(
         &self,
-        _position: Point2<i64>,
+        _position: Point2<S>,
         _tests: &P,
-    ) -> FixedVertexHandle {
+    ) -> FixedVertexHandle
+        requires covered { P.covered _tests.now (place_of S.whole _position) }
+    {
         self.asked.set(self.asked.get().saturating_add(1));
         FixedVertexHandle::from_index(0)
     }
 
     fn notify_vertex_lookup(&self, _vertex: FixedVertexHandle) {}
 
-    fn notify_vertex_inserted<P: PlaneTests<i64>>(
+    fn notify_vertex_inserted<P: PlaneTests<S>>(
         &mut self,
         vertex: FixedVertexHandle,
-        position: Point2<i64>,
+        position: Point2<S>,
         _tests: &P,
-    ) {
-        let told = Told::Inserted(vertex.index(), position.x, position.y);
+    )
+        requires site { P.sites _tests.now (place_of S.whole position) }
+        ensures { IsAtMostWith (λ _. ⊥) (λ _. ⊥) (place_of S.whole position) }
+    {
+        let told = Told::Inserted(vertex.index(), position.x.to_i64(), position.y.to_i64());
         let _ = self.told.push(told);
     }
 
-    fn notify_vertex_removed<P: PlaneTests<i64>>(
+    fn notify_vertex_removed<P: PlaneTests<S>>(
         &mut self,
-        swapped_in_point: Option<Point2<i64>>,
+        swapped_in_point: Option<Point2<S>>,
         vertex: FixedVertexHandle,
-        position: Point2<i64>,
+        position: Point2<S>,
         _tests: &P,
-    ) {
-        let told = Told::Removed(vertex.index(), position.x, position.y);
+    )
+        requires site { P.sites _tests.now (place_of S.whole position) }
+        requires swapped_site { (p : Point) → place_if S.whole swapped_in_point ≡ Some p → P.sites
+            _tests.now p }
+        ensures { IsAtMostWithout (λ _. ⊥) (λ _. ⊥) (place_of S.whole position)
+            (place_if S.whole swapped_in_point) }
+    {
+        let told = Told::Removed(vertex.index(), position.x.to_i64(), position.y.to_i64());
         let _ = self.told.push(told);
         if let Some(point) = swapped_in_point {
-            let _ = self.told.push(Told::SwappedIn(point.x, point.y));
+            let told = Told::SwappedIn(point.x.to_i64(), point.y.to_i64());
+            let _ = self.told.push(told);
         }
     }
 
-    fn initialize_from_triangulation<P: PlaneTests<i64>>(
+    fn initialize_from_triangulation<P: PlaneTests<S>>(
         alloc: Global,
-        _positions: &[Point2<i64>],
+        _positions: &[Point2<S>],
         _tests: &P,
     ) -> Self {
-        HintGenerator::<i64>::new(alloc)
+        nothing_told(alloc)
     }
 }

@@ -1,6 +1,7 @@
 //! What a triangulation that may have constraints holds.
 
 use crate::sheet_constraints::SheetConstraints;
+use spade_delaunay::Triangulation;
 use spade_delaunay::handles::{FixedFaceHandle, FixedUndirectedEdgeHandle, FixedVertexHandle};
 
 /// How many vertices, undirected edges, directed edges, inner faces, faces, directed edges beside the outer face and

@@ -3,6 +3,7 @@ ghost use Rattle.std.specs.Prelude.{◌<◌};
 
 use crate::sheet_triangulation::SheetTriangulation;
 use crate::tagged_vertex::TaggedVertex;
+use spade_delaunay::Triangulation;
 use spade_delaunay::handles::{
     DirectedEdgeHandle, FaceHandle, FixedDirectedEdgeHandle, FixedFaceHandle, VertexHandle,
 };

@@ -4,7 +4,7 @@ ghost use Rattle.delaunay_edit.specs.Elements.{HasElement};
 
 use crate::elements::{corners_of, ends_of};
 use crate::sheet_triangulation::{SheetError, SheetTriangulation};
-use spade_delaunay::{Point2, PositionInTriangulation};
+use spade_delaunay::{Point2, PositionInTriangulation, Triangulation};
 
 /// A location by the indexes of vertices, an edge and a face from their least index on.
 #[derive(Clone, Copy, Debug, PartialEq, Eq)]

@@ -13,7 +13,7 @@ use crate::tagged_vertex::TaggedVertex;
 use crate::triples::counts_of_triples;
 use delaunay_core::LastUsedVertexHintGenerator;
 use spade_delaunay::handles::FixedVertexHandle;
-use spade_delaunay::{DelaunayTriangulation, InsertionError, Point2};
+use spade_delaunay::{DelaunayTriangulation, InsertionError, Point2, Triangulation};
 use std::alloc::Global;
 use std::fmt::Debug;
 use std::io;

@@ -12,7 +12,9 @@ ghost use Rattle.triangulate_run.specs.Sheet.{IsSite};
 use crate::sheet_triangulation::{SheetError, SheetTriangulation};
 use crate::tagged_vertex::TaggedVertex;
 use spade_delaunay::handles::FixedVertexHandle;
-use spade_delaunay::{ConstrainedDelaunayTriangulation, Point2, PositionInTriangulation};
+use spade_delaunay::{
+    ConstrainedDelaunayTriangulation, Point2, PositionInTriangulation, Triangulation,
+};
 use std::marker::Model;
 use triangulate_run::points::site_index_of;
 use triangulate_run::sheet::Sheet;

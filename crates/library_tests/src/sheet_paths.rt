@@ -8,7 +8,7 @@ ghost use Rattle.library_tests.specs.Vertices.{position_of, AreSites};
 use crate::tagged_vertex::TaggedVertex;
 use delaunay_paths::{crosses_segment, make_edge, next_on_path};
 use half_edge_mesh::{Dcel, FixedDirectedEdgeHandle, FixedVertexHandle};
-use spade_delaunay::{DelaunayTriangulation, Point2};
+use spade_delaunay::{DelaunayTriangulation, Point2, Triangulation};
 use std::alloc::Global;
 use std::marker::Model;
 use triangulate_run::points::site_index_of;

@@ -13,7 +13,9 @@ ghost use Rattle.triangulate_run.specs.Sheet.{IsSite};
 
 use crate::tagged_vertex::TaggedVertex;
 use spade_delaunay::handles::FixedVertexHandle;
-use spade_delaunay::{DelaunayTriangulation, InsertionError, Point2, PositionInTriangulation};
+use spade_delaunay::{
+    DelaunayTriangulation, InsertionError, Point2, PositionInTriangulation, Triangulation,
+};
 use std::alloc::Global;
 use std::marker::Model;
 use triangulate_run::points::site_index_of;

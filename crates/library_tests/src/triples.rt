@@ -2,7 +2,7 @@
 //! contains nor carries a further vertex is a face.
 
 use crate::sheet_triangulation::SheetTriangulation;
-use spade_delaunay::Point2;
+use spade_delaunay::{Point2, Triangulation};
 use std::alloc::{AllocError, Global};
 
 /// The way from one point to another. Coordinates of the sheet are at most 1, so nothing wraps.

@@ -6,7 +6,7 @@ use Rattle.delaunay_shapes.specs.Left.{edges_left}
 use Rattle.delaunay_shapes.specs.Start.{BeginsAt}
 use Rattle.delaunay_shapes.proofs.Shapes.{rectangle_begins}
 use Rattle.delaunay_shape_queries.specs.Found.{FindsEdges}
-use Rattle.delaunay_shape_queries.proofs.Calls.{lower_corner, upper_corner, same_rectangle, sites_in_mesh, edges_found}
+use Rattle.delaunay_shape_queries.proofs.Calls.{lower_corner, upper_corner, same_corners, same_rectangle, sites_in_mesh, edges_found}
 use Rattle.delaunay_shape_queries.proofs.float_triangulation.FloatTriangulation.get_edges_in_rectangle.Goals as goal
 
 pub new-rectangle-requires-clause-lower_in_range : goal.new-rectangle-requires-clause-lower_in_range
@@ -29,3 +29,9 @@ returns g c =
     same_rectangle (λ Shape. IfOk c.edges_in_shape.result (λ it. FindsEdges g.Self.Vertex.HasPosition.place (g.Self.Triangulation.state c.args.self.now) Shape (edges_left it))) (place_of g.Self.Vertex.Scalar.SpadeNum.whole c.new-rectangle.result.lower) (place_of g.Self.Vertex.Scalar.SpadeNum.whole c.args.lower) (place_of g.Self.Vertex.Scalar.SpadeNum.whole c.new-rectangle.result.upper) (place_of g.Self.Vertex.Scalar.SpadeNum.whole c.args.upper)
     (ap (λ p. place_of g.Self.Vertex.Scalar.SpadeNum.whole p) c.new-rectangle.ensures.lower) (ap (λ p. place_of g.Self.Vertex.Scalar.SpadeNum.whole p) c.new-rectangle.ensures.upper)
     (edges_found g.Self.Vertex.HasPosition.place (g.Self.Triangulation.state c.args.self.now) c.s.result c.s.ensures (InClosedRectangle (place_of g.Self.Vertex.Scalar.SpadeNum.whole c.new-rectangle.result.lower) (place_of g.Self.Vertex.Scalar.SpadeNum.whole c.new-rectangle.result.upper)) c.edges_in_shape.result c.edges_in_shape.ensures)
+
+pub edges_in_shape-requires-clause-own_covered : goal.edges_in_shape-requires-clause-own_covered
+edges_in_shape-requires-clause-own_covered g c =
+    let whole = g.Self.Vertex.Scalar.SpadeNum.whole in
+    same_corners (g.P.PlaneTests.covered c.args.tests.now) (place_of whole c.new-rectangle.result.lower) (place_of whole c.args.lower) (place_of whole c.new-rectangle.result.upper) (place_of whole c.args.upper)
+    (ap (λ p. place_of whole p) c.new-rectangle.ensures.lower) (ap (λ p. place_of whole p) c.new-rectangle.ensures.upper) c.requires.covered
