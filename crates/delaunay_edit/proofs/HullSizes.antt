@@ -22,14 +22,11 @@ use Rattle.delaunay_edit.specs.Hull.{HasHullSize}
 use Rattle.delaunay_edit.proofs.Counts.{count_of_edges, count_of_faces}
 use Rattle.delaunay_edit.proofs.Edges.{edge_joins}
 use Rattle.delaunay_legalization.proofs.MeshParts.{outer_bare}
+use Rattle.half_edge_dcel.proofs.Outlines.{empty_list}
 
 each_once : (points : List Point) (faces : List Face) (outer : List (ℕ × ℕ)) → IsMesh points faces outer → AllPairs (λ d e. d ≢ e) outer
 each_once points faces outer (inl s) = s.once
 each_once points faces outer (inr s) = s.1.once
-
-none_if_no_length : {X : Type 0} (xs : List X) → length xs ≡ 0 → xs ≡ []
-none_if_no_length [] e = refl
-none_if_no_length (x ∷ xs) e = absurd (omega arith)
 
 -- each edge has two ways, each face three sides
 ways_add_up : (m : Mesh) → IsValidMesh m → 2 * length (edges_of m) ≡ 3 * length (faces_of m) + length (outer_of m)
@@ -98,7 +95,7 @@ module _ {V D U F : Type 0} (at : V → Point) (s : State V D U F) (kept : IsTri
   line_count h = go kept.shape
     where
       bare : faces_of s.mesh ≡ []
-      bare = none_if_no_length (faces_of s.mesh) (sym (count_of_faces at s kept) ∙ h)
+      bare = empty_list (faces_of s.mesh) (sym (count_of_faces at s kept) ∙ h)
 
       go : IsMesh (map at s.vertices) (faces_of s.mesh) (outer_of s.mesh) → length (outer_of s.mesh) ≡ 2 * (length s.vertices - 1)
       go (inl l) = absurd (l.some_face bare)

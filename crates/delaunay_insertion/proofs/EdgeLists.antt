@@ -12,8 +12,10 @@ use Rattle.plane.specs.Pairs.{IsSamePair}
 use Rattle.mesh_embedding.proofs.MeshStays.{slice_get-set_other}
 use Rattle.delaunay_insertion.specs.Edges.{AddsOnly, SplitsAt}
 use Rattle.delaunay_insertion.proofs.DataGrowing.{some_before, with_ends_other, parts_of_edge}
+use Rattle.delaunay_legalization.proofs.MarkedPairs.{set_entry}
 
-one_value : {X : Type 0} (x y : X) → Some x ≡ Some y → x ≡ y
+-- two values that are the same where they are there
+pub one_value : {X : Type 0} (x y : X) → Some x ≡ Some y → x ≡ y
 one_value x y e = cc
 
 -- an entry of two lists joined is in one of them
@@ -28,11 +30,6 @@ before_or_after (y ∷ xs) ys (suc l) x e = elim (before_or_after xs ys l x e) [
 after_all : {X : Type 0} (xs ys : List X) (i : ℕ) → slice_get (xs ++ ys) (length xs + i) ≡ slice_get ys i
 after_all [] ys i = ap (slice_get ys) (let e : 0 + i ≡ i = omega arith in e)
 after_all (x ∷ xs) ys i = ap (slice_get (x ∷ xs ++ ys)) (let e : suc (length xs) + i ≡ suc (length xs + i) = omega arith in e) ∙ after_all xs ys i
-
-set_here : {X : Type 0} (xs : List X) (k : ℕ) (d x : X) → slice_get xs k ≡ Some d → slice_get (set xs k x) k ≡ Some x
-set_here [] k d x e = cc
-set_here (y ∷ ys) zero d x e = refl
-set_here (y ∷ ys) (suc k) d x e = set_here ys k d x e
 
 with_ends_here : {U : Type 0} (xs : List (Edge U)) (k : ℕ) (e : Ends) (x : Edge U) → slice_get xs k ≡ Some x → slice_get (with_ends xs k e) k ≡ Some (edge_with e x.value)
 with_ends_here [] k e x h = cc
@@ -104,7 +101,7 @@ module _ {U : Type 0} (P : U → Type 0) where
             | inl is ↦ inr (inl is)
             | inr n ↦ elim (before_or_after gone tail l e (ap (λ xs. slice_get xs l) (sym whole) ∙ h)) [
               | inl x ↦ elim (cases_eq l k) [
-                | inl is ↦ inr (inr (subst (λ (x : Edge U). P x.value) (one_value (edge_with turned s.made) e (sym (set_here old k s.edge (edge_with turned s.made) s.was) ∙ ap (slice_get gone) (sym is) ∙ x)) s.is_new))
+                | inl is ↦ inr (inr (subst (λ (x : Edge U). P x.value) (one_value (edge_with turned s.made) e (sym (set_entry old k s.edge (edge_with turned s.made) s.was) ∙ ap (slice_get gone) (sym is) ∙ x)) s.is_new))
                 | inr o ↦ inl (o, sym (slice_get-set_other old k l (edge_with turned s.made) o) ∙ x)
               ]
               | inr x ↦ inr (inr (in_tail x.0 e (λ z. n (let f : length gone + x.0 ≡ l = x.2 in omega (arith, f, z, same_length))) x.1))

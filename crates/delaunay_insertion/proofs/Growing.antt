@@ -7,7 +7,7 @@ use Rattle.half_edge_mesh.specs.Mesh.{Mesh, AreSoundLinks, IsValidMesh, with_ver
 use Rattle.half_edge_mesh.specs.Triangles.{triangle_at, triangles}
 use Rattle.half_edge_mesh.specs.Outline.{OuterChanges, ExtendsOuter, SplitsOuter, IsEdge}
 use Rattle.half_edge_mesh.specs.Contents.{Contents, IsMeshWithData}
-use Rattle.half_edge_dcel.proofs.Outlines.{outer_changes}
+use Rattle.half_edge_dcel.proofs.Outlines.{outer_changes, empty_list}
 use Rattle.plane.specs.Fraction.{Point, Fraction, whole}
 use Rattle.plane.specs.Pairs.{IsIndex, place}
 use Rattle.plane.specs.Location.{IsPast}
@@ -58,13 +58,9 @@ first_shape [] q m e shape =
     inr (b.0, subst (LineMesh (q ∷ [])) (sym b.1) (one_vertex q))
 first_shape (p ∷ ps) q m e shape = absurd (omega (arith, e))
 
-no_items : {X : Type 0} (xs : List X) → length xs ≡ 0 → xs ≡ []
-no_items [] e = refl
-no_items (x ∷ xs) e = absurd (omega (arith, e))
-
 -- a mesh without faces is a line
 pub bare_line : (points : List Point) (m : Mesh) → length m.face_edges ≡ 0 → IsMesh points (faces_of m) (outer_of m) → (faces_of m ≡ []) × LineMesh points (outer_of m)
-bare_line points m bare (inl l) = absurd (l.some_face (no_items (faces_of m) (length-map (triangles m) corners_of ∙ length-map m.face_edges (triangle_at m) ∙ bare)))
+bare_line points m bare (inl l) = absurd (l.some_face (empty_list (faces_of m) (length-map (triangles m) corners_of ∙ length-map m.face_edges (triangle_at m) ∙ bare)))
 bare_line points m bare (inr l) = l
 
 -- two points are on a line

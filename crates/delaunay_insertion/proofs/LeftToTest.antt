@@ -1,6 +1,6 @@
 -- Where a vertex was put in, only the edges of the faces at it are left to test.
 use Rattle.std.proofs.Common.{◌≡◌, ◌⊎◌, ℕ, ◌*◌, ◌<◌, Bool, List, [], ◌∷◌, ◌++◌, length, map, sym, ap, ◌∙◌, subst, inl, inr, arith}
-use Rattle.std.specs.Prelude.{Contains, slice_get, Some}
+use Rattle.std.specs.Prelude.{slice_get, Some}
 use Rattle.std.proofs.lemmas.List.{map-append}
 use Rattle.std.proofs.lemmas.Option.{slice_get_within}
 use Rattle.half_edge_mesh.specs.Mesh.{origin, rev}
@@ -9,7 +9,6 @@ use Rattle.plane.specs.Fraction.{Point}
 use Rattle.plane.specs.Pairs.{Joins, IsSamePair}
 use Rattle.plane.specs.Tiling.{IsEdge}
 use Rattle.plane_edits.specs.Change.{IsFaceOf}
-use Rattle.plane_edits.proofs.Changes.{has_pair_or_not}
 use Rattle.mesh_embedding.specs.Drawn.{drawn, faces_of, edges_of, outer_of}
 use Rattle.mesh_embedding.proofs.EdgePairs.{edge_joins}
 use Rattle.mesh_embedding.proofs.MeshStars.{edge_of_face}
@@ -22,14 +21,7 @@ use Rattle.delaunay_insertion.specs.Constraints.{SplitsConstraints}
 use Rattle.delaunay_insertion.proofs.MarkedEdges.{JoinsWithMark, own_ends, joins_with_mark}
 use Rattle.delaunay_insertion.proofs.NewVertex.{not_within, source_in, target_in}
 use Rattle.delaunay_insertion.proofs.SplitConstraints.{whole_mesh}
-
-joins_or_not : (pairs : List (ℕ × ℕ)) (i j : ℕ) → Joins pairs i j ⊎ (¬ Joins pairs i j)
-joins_or_not pairs i j = go (has_pair_or_not pairs i j) (has_pair_or_not pairs j i)
-  where
-    go : Contains pairs (i, j) ⊎ (¬ Contains pairs (i, j)) → Contains pairs (j, i) ⊎ (¬ Contains pairs (j, i)) → Joins pairs i j ⊎ (¬ Joins pairs i j)
-    go (inl x) y = inl (inl x)
-    go (inr x) (inl y) = inl (inr y)
-    go (inr x) (inr y) = inr (λ h. elim h as (λ _. ⊥) [ inl z ↦ x z | inr z ↦ y z ])
+use Rattle.plane_edits.proofs.Flipping.{joins_or_not}
 
 module _ {V D U F : Type 0} (at : V → Point) (marks : U → Bool) (constraints : List U → List ℕ) (marked : (ds : List U) → constraints ds ≡ marked_edges marks ds) where
   module _ (v : V) (old new : Contents V D U F) (was : IsTriangulated at (state_of old)) (now : IsTriangulated at (state_of new)) (vertices : new.vertices ≡ old.vertices ++ v ∷ []) where

@@ -1,9 +1,9 @@
 -- A new vertex is joined to edges of a line: where the next outer edge at an end does not see it, no outer edge there does.
 use Rattle.std.proofs.Common.{◌≡◌, ◌≢◌, ◌⊎◌, ℕ, ◌<◌, List, [], ◌∷◌, ◌++◌, ◌==◌, length, refl, sym, ap, ◌∙◌, subst, inl, inr, arith}
-use Rattle.std.specs.Prelude.{ℤ, pos, ◌<ℤ◌, ◌≤ℤ◌, neg_ℤ, Contains}
+use Rattle.std.specs.Prelude.{ℤ, pos, ◌<ℤ◌, ◌≤ℤ◌, Contains}
 use Rattle.std.proofs.lemmas.Int.{ints}
-use Rattle.std.proofs.lemmas.Bool.{cases_eq, eq-eqb, eqb-true}
-use Rattle.half_edge_mesh.specs.Mesh.{Mesh, IsValidMesh, IsSoundEdge, IsClosed, origin, next, prev, face, rev}
+use Rattle.std.proofs.lemmas.Bool.{cases_eq}
+use Rattle.half_edge_mesh.specs.Mesh.{Mesh, IsValidMesh, IsSoundEdge, origin, next, prev, face, rev}
 use Rattle.half_edge_mesh.specs.Outline.{IsOuterEdge}
 use Rattle.half_edge_links.proofs.Rev.{rev-rev, rev_within}
 use Rattle.plane.specs.Fraction.{Point}
@@ -33,6 +33,8 @@ use Rattle.plane_edits.proofs.Growing.{run_signs, in_two}
 use Rattle.mesh_embedding.specs.Drawn.{faces_of, outer_of}
 use Rattle.mesh_embedding.proofs.OuterEdges.{listed, real, one_edge}
 use Rattle.mesh_embedding.proofs.MeshEdits.{face_before}
+use Rattle.plane.proofs.Signs.{opposites_not_both_positive}
+use Rattle.half_edge_links.proofs.Conditions.{alone_at}
 
 -- ---- a vertex of a line has at most two neighbours
 module _ (n : ℕ) (p : ℕ → Point) (outer : List (ℕ × ℕ)) (m : SignLine n p outer) (w a : ℕ) (near : IsNext n p w a) where
@@ -101,16 +103,6 @@ module _ (points : List Point) (n : ℕ) (outer : List (ℕ × ℕ)) where
   last_step_of u v [] r = record { start = u; step = Contains-head (u, v) []; edge = r.0; seen = r.1 }
   last_step_of u v (y ∷ ys) r = let t = last_step_of v y ys r.2 in record { start = t.start; step = Contains-later (u, v) (steps v (y ∷ ys)) (t.start, last_of y ys) t.step; edge = t.edge; seen = t.seen }
 
--- an edge to which the walk round its start comes back at once is the only one there
-only_at : (m : Mesh) (e : ℕ) → IsValidMesh m → e < length m.half_edges → next m (rev e) ≡ e → (h : ℕ) → h < length m.half_edges → origin m h ≡ origin m e → h ≡ e
-only_at m e v within back h h_in same =
-    let turned : rev (prev m e) ≡ e = ap (λ k. rev (prev m k)) (sym back) ∙ ap rev (v.sound.edges (rev e) (rev_within _ _ v.sound.even within)).prev_next ∙ rev-rev e in
-    let closed : IsClosed m (λ k. k == e) = λ k k_in is. eq-eqb (rev (prev m k)) e (ap (λ j. rev (prev m j)) (eqb-true k e is) ∙ turned) in
-    eqb-true h e (v.stars (λ k. k == e) closed e h within h_in (sym same) (eq-eqb e e refl))
-
-opposite_signs : (a b : ℤ) → a ≡ neg_ℤ b → pos 0 <ℤ a → pos 0 <ℤ b → ⊥
-opposite_signs a b e h k = omega (arith, ints)
-
 module _ (points : List Point) (q : Point) (outer : List (ℕ × ℕ)) (m : Mesh) (u w : ℕ) (straight : LineMesh points outer) (valid : IsValidMesh m) (x : IsExtending points q [] (faces_of m) outer (outer_of m) u w) where
   abbrev n : ℕ
   n = length points
@@ -128,7 +120,7 @@ module _ (points : List Point) (q : Point) (outer : List (ℕ × ℕ)) (m : Mesh
   signs i j s = if_left (place (points ++ q ∷ []) i) (place (points ++ q ∷ []) j) (place (points ++ q ∷ []) (length points)) s
 
   one_way : (i j : ℕ) → pos 0 <ℤ bracket (at p i) (at p j) (at p n) → pos 0 <ℤ bracket (at p j) (at p i) (at p n) → ⊥
-  one_way i j h k = opposite_signs (bracket (at p i) (at p j) (at p n)) (bracket (at p j) (at p i) (at p n)) (bracket-swap (at p i) (at p j) (at p n)) h k
+  one_way i j h k = opposites_not_both_positive (bracket (at p i) (at p j) (at p n)) (bracket (at p j) (at p i) (at p n)) (bracket-swap (at p i) (at p j) (at p n)) h k
 
   -- a face has no side whose way back sees the new vertex
   unseen_side : (i j k : ℕ) → i < n → j < n → Sees j i → ¬ IsFaceOf (faces_of m) i j k
@@ -243,7 +235,7 @@ module _ (points : List Point) (q : Point) (outer : List (ℕ × ℕ)) (m : Mesh
           to_y : z ≡ y → ⊥
           to_y same =
               let is : rev h.0 ≡ k = one (rev h.0) k y w back (subst (λ i. IsOuterEdge m k i w) same before) in
-              d (sym (only_at m h.0 valid h.1.within (ap (next m) is ∙ here.next_prev) (next m e) (valid.sound.edges e own.within).next_in ((valid.sound.edges e own.within).starts ∙ own.target ∙ sym h.1.source)))
+              d (sym (alone_at m h.0 valid h.1.within (ap (next m) is ∙ here.next_prev) (next m e) (valid.sound.edges e own.within).next_in ((valid.sound.edges e own.within).starts ∙ own.target ∙ sym h.1.source)))
 
           go : (z ≡ n) ⊎ (z ≢ n) → ⊥
           go (inl same) = d (sym here.next_prev ∙ ap (next m) (one k e n w (subst (λ i. IsOuterEdge m k i w) same before) own))
@@ -299,7 +291,7 @@ module _ (points : List Point) (q : Point) (outer : List (ℕ × ℕ)) (m : Mesh
           to_y : z ≡ y → ⊥
           to_y same =
               let is : rev h.0 ≡ k = one (rev h.0) k u y back (subst (λ i. IsOuterEdge m k u i) same after) in
-              let own_is : e ≡ rev h.0 = only_at m (rev h.0) valid back.within (ap (next m) (rev-rev h.0) ∙ sym is) e own.within (own.source ∙ sym back.source) in
+              let own_is : e ≡ rev h.0 = alone_at m (rev h.0) valid back.within (ap (next m) (rev-rev h.0) ∙ sym is) e own.within (own.source ∙ sym back.source) in
               not_last (sym back.target ∙ ap (λ i. origin m (rev i)) (sym own_is) ∙ own.target)
 
           go : (z ≡ n) ⊎ (z ≢ n) → ⊥

@@ -14,6 +14,7 @@ use Rattle.plane_edits.proofs.Changes.{face_from, turn_of_all}
 use Rattle.mesh_embedding.specs.Drawn.{corners_of, faces_of}
 use Rattle.mesh_embedding.proofs.MeshEdits.{inserted_faces, split_faces, half_split_faces}
 use Rattle.delaunay_legalization.specs.Star.{IsOneOf, MakesFacesAt}
+use Rattle.delaunay_legalization.proofs.Stars.{no_face}
 
 -- ---- faces with one corner in common
 abbrev HaveCorner : ℕ → List Face → Type 0
@@ -62,11 +63,6 @@ module _ (m new : Mesh) (v : ℕ) (w : IsValidMesh m) where
 -- the new vertex comes last
 pub made_at_count : (old new : List Face) (v n : ℕ) → v ≡ n → MakesFacesAt v old new → MakesFacesAt n old new
 made_at_count old new v n is made = subst (λ (k : ℕ). MakesFacesAt k old new) is made
-
-no_face : (i j k : ℕ) → ¬ IsFaceOf [] i j k
-no_face i j k (inl c) = Contains-none (corners i j k) c
-no_face i j k (inr (inl c)) = Contains-none (corners j k i) c
-no_face i j k (inr (inr c)) = Contains-none (corners k i j) c
 
 -- on a line there is none
 pub made_none : (m new : Mesh) (v : ℕ) → triangles new ≡ [] → MakesFacesAt v (faces_of m) (faces_of new)

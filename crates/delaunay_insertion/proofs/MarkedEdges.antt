@@ -10,9 +10,7 @@ use Rattle.plane.specs.Pairs.{Joins, IsSamePair}
 use Rattle.delaunay_legalization.specs.Constraints.{marked_edges, constraint_pairs}
 use Rattle.delaunay_legalization.proofs.MarkedPairs.{JoinsByMark, joined_by_mark, mark_joins}
 use Rattle.delaunay_insertion.proofs.DataGrowing.{some_edge, parts_of_edge, ends_are}
-
-one_value : {X : Type 0} (x y : X) → Some x ≡ Some y → x ≡ y
-one_value x y e = cc
+use Rattle.delaunay_insertion.proofs.EdgeLists.{one_value}
 
 -- edge k of the list joins a and b, and has the mark
 pub record JoinsWithMark {U : Type 0} (marks : U → Bool) (es : List (Edge U)) (k a b : ℕ) : Type 0 where

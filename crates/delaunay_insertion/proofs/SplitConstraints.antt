@@ -23,19 +23,8 @@ use Rattle.delaunay_insertion.specs.Edges.{AddsOnly, SplitsAt}
 use Rattle.delaunay_insertion.proofs.DataGrowing.{parts_of_edge, within_both}
 use Rattle.delaunay_insertion.proofs.MarkedEdges.{JoinsWithMark, own_ends, joins_with_mark, joined_with_mark}
 use Rattle.delaunay_insertion.proofs.NewVertex.{not_within, source_in, target_in}
-
-one_value : {X : Type 0} (x y : X) → Some x ≡ Some y → x ≡ y
-one_value x y e = cc
-
-pair_back : (a b i j : ℕ) → IsSamePair a b i j → IsSamePair i j a b
-pair_back a b i j (inl s) = inl (sym s.0, sym s.1)
-pair_back a b i j (inr s) = inr (sym s.1, sym s.0)
-
-pair_on : (a b i j u w : ℕ) → IsSamePair a b i j → IsSamePair i j u w → IsSamePair a b u w
-pair_on a b i j u w (inl s) (inl t) = inl (s.0 ∙ t.0, s.1 ∙ t.1)
-pair_on a b i j u w (inl s) (inr t) = inr (s.0 ∙ t.0, s.1 ∙ t.1)
-pair_on a b i j u w (inr s) (inl t) = inr (s.0 ∙ t.1, s.1 ∙ t.0)
-pair_on a b i j u w (inr s) (inr t) = inl (s.0 ∙ t.1, s.1 ∙ t.0)
+use Rattle.delaunay_insertion.proofs.EdgeLists.{one_value}
+use Rattle.mesh_embedding.proofs.MeshStays.{same_pair_back, same_pair_on}
 
 pair_turned : (a b i j : ℕ) → IsSamePair a b i j → IsSamePair b a i j
 pair_turned a b i j (inl s) = inr (s.1, s.0)
@@ -58,7 +47,7 @@ module _ {V D U F : Type 0} (at : V → Point) (v : V) (old new : Contents V D U
   none_within k e a b h pair same w = not_within at v (state_of old) (state_of new) was now vertices e.source e.target
       (subst (λ (i : ℕ). i < length old.vertices) o.1.0 (source_in at v (state_of old) (state_of new) was now vertices (2 * k) inside))
       (subst (λ (i : ℕ). i < length old.vertices) o.1.1 (target_in at v (state_of old) (state_of new) was now vertices (2 * k) inside))
-      (inl listed) (turned_pair e.source e.target a b (pair_back a b e.source e.target same) w)
+      (inl listed) (turned_pair e.source e.target a b (same_pair_back a b e.source e.target same) w)
     where
       o : (slice_get old.undirected k ≡ Some e.value) × ((origin old.mesh (2 * k) ≡ e.source) × (origin old.mesh (rev (2 * k)) ≡ e.target))
       o = own_ends old (whole_mesh at old was) k e h
@@ -116,13 +105,13 @@ module _ {V D U F : Type 0} (at : V → Point) (v : V) (old new : Contents V D U
               | inr x ↦ elim x [
                 | inl is ↦ (
                     let one : m.1.edge ≡ s.first_half = one_value m.1.edge s.first_half (sym m.1.there ∙ ap (slice_get (edges mid)) is ∙ s.first_is) in
-                    inr (ap marks (sym s.first_value ∙ ap (λ (e : Edge U). e.value) (sym one)) ∙ m.1.mark, pair_on a b s.first_half.source s.first_half.target s.near n (subst (λ (e : Edge U). IsSamePair a b e.source e.target) one m.1.ends) s.first_ends))
+                    inr (ap marks (sym s.first_value ∙ ap (λ (e : Edge U). e.value) (sym one)) ∙ m.1.mark, same_pair_on a b s.first_half.source s.first_half.target s.near n (subst (λ (e : Edge U). IsSamePair a b e.source e.target) one m.1.ends) s.first_ends))
                 | inr fresh ↦ not_both (sym (free m.1.edge.value fresh) ∙ m.1.mark)
               ]
             ]),
         (λ x. elim x [
           | inl o ↦ joined_with_mark marks constraints marked mid w a b o.0 (record { edge = o.2.edge; there = s.kept o.0 o.2.edge o.1 o.2.there; mark = o.2.mark; ends = o.2.ends })
-          | inr y ↦ joined_with_mark marks constraints marked mid w a b s.first (record { edge = s.first_half; there = s.first_is; mark = ap marks s.first_value ∙ y.0; ends = pair_on a b s.near n s.first_half.source s.first_half.target y.1 (pair_back s.first_half.source s.first_half.target s.near n s.first_ends) })
+          | inr y ↦ joined_with_mark marks constraints marked mid w a b s.first (record { edge = s.first_half; there = s.first_is; mark = ap marks s.first_value ∙ y.0; ends = same_pair_on a b s.near n s.first_half.source s.first_half.target y.1 (same_pair_back s.first_half.source s.first_half.target s.near n s.first_ends) })
         ]),
       )
 
@@ -138,13 +127,13 @@ module _ {V D U F : Type 0} (at : V → Point) (v : V) (old new : Contents V D U
       marked_halves change written has gets a b = subst (λ (ps : List (ℕ × ℕ)). Joins ps a b ↔ HalfJoins a b) (sym (ap (λ (c : Contents V D U F). constraint_pairs constraints c.mesh c.undirected) written.whole)) (
         (λ h. elim (both.0 h) [
           | inl x ↦ elim ((first_joins a b).0 x) [ inl y ↦ inl y | inr y ↦ inr (y.0, inl y.1) ]
-          | inr x ↦ inr (has, inr (pair_on a b s.second_half.source s.second_half.target s.far n (subst (λ (z : ℕ × ℕ). IsSamePair a b z.0 z.1) (λ o. (at_second.1.0 o, at_second.1.1 o)) x) s.second_ends))
+          | inr x ↦ inr (has, inr (same_pair_on a b s.second_half.source s.second_half.target s.far n (subst (λ (z : ℕ × ℕ). IsSamePair a b z.0 z.1) (λ o. (at_second.1.0 o, at_second.1.1 o)) x) s.second_ends))
         ]),
         (λ x. both.1 (elim x [
           | inl y ↦ inl ((first_joins a b).1 (inl y))
           | inr y ↦ elim y.1 [
             | inl z ↦ inl ((first_joins a b).1 (inr (y.0, z)))
-            | inr z ↦ inr (subst (λ (z : ℕ × ℕ). IsSamePair a b z.0 z.1) (λ o. (sym at_second.1.0 o, sym at_second.1.1 o)) (pair_on a b s.far n s.second_half.source s.second_half.target z (pair_back s.second_half.source s.second_half.target s.far n s.second_ends)))
+            | inr z ↦ inr (subst (λ (z : ℕ × ℕ). IsSamePair a b z.0 z.1) (λ o. (sym at_second.1.0 o, sym at_second.1.1 o)) (same_pair_on a b s.far n s.second_half.source s.second_half.target z (same_pair_back s.second_half.source s.second_half.target s.far n s.second_ends)))
           ]
         ])),
       )
@@ -171,8 +160,8 @@ module _ {V D U F : Type 0} (at : V → Point) (v : V) (old new : Contents V D U
           (λ h. elim ((now_joins i j).0 h) [
             | inl o ↦ inl (joined_with_mark marks constraints marked old (whole_mesh at old was) i j o.0 o.2, other_free o.0 i j o.1 o.2)
             | inr y ↦ inr (elim y.1 [
-              | inl x ↦ split_half i j s.near s.far x (pair_back s.edge.source s.edge.target s.near s.far s.ends) y.0
-              | inr x ↦ split_half i j s.far s.near x (pair_turned s.near s.far s.edge.source s.edge.target (pair_back s.edge.source s.edge.target s.near s.far s.ends)) y.0
+              | inl x ↦ split_half i j s.near s.far x (same_pair_back s.edge.source s.edge.target s.near s.far s.ends) y.0
+              | inr x ↦ split_half i j s.far s.near x (pair_turned s.near s.far s.edge.source s.edge.target (same_pair_back s.edge.source s.edge.target s.near s.far s.ends)) y.0
             ])
           ]),
           (λ x. (now_joins i j).1 (elim x [
@@ -211,7 +200,7 @@ module _ {V D U F : Type 0} (at : V → Point) (v : V) (old new : Contents V D U
                   | inr o ↦ absurd (other_free m.0 a h.1.0 o m.1 h.1.2)
                   | inl is ↦ (
                       let t = the_edge m.0 a h.1.0 is m.1 in
-                      (t.1, elim (pair_on a h.1.0 s.edge.source s.edge.target s.near s.far t.0 s.ends) [ inl x ↦ inl (inl (x.0, h.0 ∙ sym last)) | inr x ↦ inr (inl (x.0, h.0 ∙ sym last)) ]))
+                      (t.1, elim (same_pair_on a h.1.0 s.edge.source s.edge.target s.near s.far t.0 s.ends) [ inl x ↦ inl (inl (x.0, h.0 ∙ sym last)) | inr x ↦ inr (inl (x.0, h.0 ∙ sym last)) ]))
                 ]
 
             turned_half : (a b : ℕ) → IsMade b a → IsMade a b

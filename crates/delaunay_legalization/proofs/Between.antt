@@ -12,6 +12,7 @@ use Rattle.plane.proofs.Bracket.{bracket, lift}
 use Rattle.plane.proofs.BracketIdentities.{bracket-outer, bracket-last}
 use Rattle.plane.proofs.Collinear.{place_on, place_of_start, within_by_places, same_by_places}
 use Rattle.delaunay_legalization.specs.Between.{IsFrom, IsInBox}
+use Rattle.plane.proofs.Signs.{at_most_by_difference, difference_not_positive, less_if_not_same, sum_not_negative}
 
 -- the part of a place that one coordinate has is not negative, nor more than that of the end
 part_low : (u v p : ℤ) → IsFrom u v p → pos 0 ≤ℤ ((v -ℤ u) *ℤ (p -ℤ pos 1 *ℤ u))
@@ -21,9 +22,6 @@ part_low u v p (inr h) = mul-nonneg_of_nonpos_ℤ {a = v -ℤ u} {b = p -ℤ pos
 part_high : (u v p : ℤ) → IsFrom u v p → pos 0 ≤ℤ ((v -ℤ u) *ℤ (v -ℤ p))
 part_high u v p (inl h) = mul-nonneg_ℤ {a = v -ℤ u} {b = v -ℤ p} (let k = h.0 in let l = h.1 in omega (arith, ints)) (let k = h.1 in omega (arith, ints))
 part_high u v p (inr h) = mul-nonneg_of_nonpos_ℤ {a = v -ℤ u} {b = v -ℤ p} (let k = h.0 in let l = h.1 in omega (arith, ints)) (let k = h.0 in omega (arith, ints))
-
-sum_not_negative : (a b : ℤ) → pos 0 ≤ℤ a → pos 0 ≤ℤ b → pos 0 ≤ℤ (a +ℤ b)
-sum_not_negative a b h k = omega (arith, ints)
 
 place_low : (u v p : Point) → IsInBox u v p → pos 0 ≤ℤ place_on u v (lift p)
 unfolding place_on
@@ -41,23 +39,13 @@ place_high : (u v p : Point) → IsInBox u v p → place_on u v (lift p) ≤ℤ 
 unfolding place_on
 place_high u v p b = below_by_rest (place_on u v (lift v)) (place_on u v (lift p)) ((v.x -ℤ u.x) *ℤ (v.x -ℤ p.x)) ((v.y -ℤ u.y) *ℤ (v.y -ℤ p.y)) (rest_of_place u.x u.y v.x v.y p.x p.y) (part_high u.x v.x p.x b.x) (part_high u.y v.y p.y b.y)
 
-below_or_same : (a b : ℤ) → a ≤ℤ b → ¬ (a ≡ b) → a <ℤ b
-below_or_same a b h n = go (lt_or_ge_ℤ a b)
-  where
-    level : (a b : ℤ) → a ≤ℤ b → b ≤ℤ a → a ≡ b
-    level a b h k = omega (arith, ints)
-
-    go : (a <ℤ b) ⊎ (b ≤ℤ a) → a <ℤ b
-    go (inl k) = k
-    go (inr k) = absurd (n (level a b h k))
-
 pub within_of_box : (u v p : Point) → ¬ (u ≡ v) → ¬ (p ≡ u) → ¬ (p ≡ v) → bracket (lift u) (lift v) (lift p) ≡ pos 0 → IsInBox u v p → WithinSegment (whole u) (whole v) (whole p)
 within_of_box u v p apart from_u from_v flat b =
     let on_u = bracket-outer (lift u) (lift v) in
     let on_v = bracket-last (lift u) (lift v) in
     within_by_places u v apart u p v on_u flat on_v
-    (below_or_same (place_on u v (lift u)) (place_on u v (lift p)) (subst (λ z. z ≤ℤ place_on u v (lift p)) (sym (place_of_start u v)) (place_low u v p b)) (λ e. from_u (sym (same_by_places u v apart u p on_u flat e))))
-    (below_or_same (place_on u v (lift p)) (place_on u v (lift v)) (place_high u v p b) (λ e. from_v (same_by_places u v apart p v flat on_v e)))
+    (less_if_not_same (place_on u v (lift u)) (place_on u v (lift p)) (subst (λ z. z ≤ℤ place_on u v (lift p)) (sym (place_of_start u v)) (place_low u v p b)) (λ e. from_u (sym (same_by_places u v apart u p on_u flat e))))
+    (less_if_not_same (place_on u v (lift p)) (place_on u v (lift v)) (place_high u v p b) (λ e. from_v (same_by_places u v apart p v flat on_v e)))
 
 -- a weighted average is between its parts
 average_from : (k l n a b c : ℤ) → pos 0 <ℤ k → pos 0 <ℤ l → pos 0 <ℤ n → n *ℤ c ≡ k *ℤ a +ℤ l *ℤ b → n *ℤ pos 1 ≡ k *ℤ pos 1 +ℤ l *ℤ pos 1 → IsFrom a b c
@@ -74,26 +62,20 @@ average_from k l n a b c hk hl hn e w = go (lt_or_ge_ℤ a b)
     back : (m x y z : ℤ) → m *ℤ (x -ℤ y) ≡ z → m *ℤ (y -ℤ x) ≡ pos 0 -ℤ z
     back m x y z e = ring_in_from (m ∷ x ∷ y ∷ z ∷ []) (λ m x y z. m ⊗ (y ⊖ x)) (λ m x y z. num 0 ⊖ z) (λ m x y z. (num 0 ⊖ num 1, m ⊗ (x ⊖ y), z) ∷ []) (e, tt) tt
 
-    over : (x y : ℤ) → pos 0 ≤ℤ (x -ℤ y) → y ≤ℤ x
-    over x y h = omega (arith, ints)
-
     rises : (x y : ℤ) → y <ℤ x → pos 0 ≤ℤ (x -ℤ y)
     rises x y h = omega (arith, ints)
-
-    falls : (x y : ℤ) → x ≤ℤ y → (x -ℤ y) ≤ℤ pos 0
-    falls x y h = omega (arith, ints)
 
     negated : (z : ℤ) → z ≤ℤ pos 0 → pos 0 ≤ℤ (pos 0 -ℤ z)
     negated z h = omega (arith, ints)
 
     go : (a <ℤ b) ⊎ (b ≤ℤ a) → IsFrom a b c
     go (inl h) = inl (
-      over c a (nonneg_from_ℤ first hn (mul-nonneg_ℤ {a = l} {b = b -ℤ a} (weak hl) (rises b a h))),
-      over b c (nonneg_from_ℤ second hn (mul-nonneg_ℤ {a = k} {b = b -ℤ a} (weak hk) (rises b a h))),
+      at_most_by_difference c a (nonneg_from_ℤ first hn (mul-nonneg_ℤ {a = l} {b = b -ℤ a} (weak hl) (rises b a h))),
+      at_most_by_difference b c (nonneg_from_ℤ second hn (mul-nonneg_ℤ {a = k} {b = b -ℤ a} (weak hk) (rises b a h))),
     )
     go (inr h) = inr (
-      over c b (nonneg_from_ℤ (back n b c (k *ℤ (b -ℤ a)) second) hn (negated (k *ℤ (b -ℤ a)) (mul-nonpos_of_nonneg_nonpos_ℤ (weak hk) (falls b a h)))),
-      over a c (nonneg_from_ℤ (back n c a (l *ℤ (b -ℤ a)) first) hn (negated (l *ℤ (b -ℤ a)) (mul-nonpos_of_nonneg_nonpos_ℤ (weak hl) (falls b a h)))),
+      at_most_by_difference c b (nonneg_from_ℤ (back n b c (k *ℤ (b -ℤ a)) second) hn (negated (k *ℤ (b -ℤ a)) (mul-nonpos_of_nonneg_nonpos_ℤ (weak hk) (difference_not_positive b a h)))),
+      at_most_by_difference a c (nonneg_from_ℤ (back n c a (l *ℤ (b -ℤ a)) first) hn (negated (l *ℤ (b -ℤ a)) (mul-nonpos_of_nonneg_nonpos_ℤ (weak hl) (difference_not_positive b a h)))),
     )
 
 pub box_of_within : (u v p : Point) → WithinSegment (whole u) (whole v) (whole p) → IsInBox u v p

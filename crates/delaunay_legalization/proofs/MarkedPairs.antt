@@ -12,7 +12,8 @@ use Rattle.mesh_embedding.proofs.WorkLists.{contains_map, contains_map_from, sam
 use Rattle.delaunay_legalization.specs.Constraints.{marked_edges, constraint_pairs, not_both}
 use Rattle.delaunay_legalization.proofs.Constraints.{is_constraint_edge, fixed_edge_is, fixed_within}
 
-set_entry : {X : Type 0} (xs : List X) (k : ℕ) (d x : X) → slice_get xs k ≡ Some d → slice_get (set xs k x) k ≡ Some x
+-- what was written is read
+pub set_entry : {X : Type 0} (xs : List X) (k : ℕ) (d x : X) → slice_get xs k ≡ Some d → slice_get (set xs k x) k ≡ Some x
 set_entry [] k d x e = cc
 set_entry (y ∷ ys) zero d x e = refl
 set_entry (y ∷ ys) (suc k) d x e = set_entry ys k d x e

@@ -17,7 +17,7 @@ use Rattle.plane.specs.Fraction.{Point, Fraction, whole}
 use Rattle.plane.specs.Circle.{InsideCircle}
 use Rattle.plane.specs.Pairs.{place, Joins}
 use Rattle.plane.specs.Tiling.{Face, face as corners}
-use Rattle.plane_tiling.specs.Local.{IsMesh, LocalMesh}
+use Rattle.plane_tiling.specs.Local.{IsMesh}
 use Rattle.plane_tiling.proofs.Appended.{kept_point}
 use Rattle.plane_tiling.proofs.Totals.{Contains-head, Contains-later, Contains-none, Contains-cases}
 use Rattle.plane_edits.specs.Change.{IsFaceOf}
@@ -29,20 +29,16 @@ use Rattle.mesh_embedding.proofs.MeshLegal.{joins_directed}
 use Rattle.mesh_embedding.proofs.MeshStars.{IsEdgeOfFace, edge_of_face}
 use Rattle.mesh_embedding.proofs.WorkLists.{contains_map, contains_map_from}
 use Rattle.delaunay_legalization.specs.Star.{IsOneOf, MakesFacesAt, AllPassBeside, HasSidesAt, HasStar}
+use Rattle.plane_edits.proofs.Kept.{index_of}
 
--- ---- faces that stay, over more points
-local_corners : (points : List Point) (faces : List Face) (outer : List (ℕ × ℕ)) → LocalMesh points faces outer → (i j k : ℕ) → IsFaceOf faces i j k → (i < length points) × (j < length points) × (k < length points)
-local_corners points faces outer m i j k (inl c) = m.corners (corners i j k) c
-local_corners points faces outer m i j k (inr (inl c)) = let b = m.corners (corners j k i) c in (b.2, b.0, b.1)
-local_corners points faces outer m i j k (inr (inr c)) = let b = m.corners (corners k i j) c in (b.1, b.2, b.0)
-
-no_face : (i j k : ℕ) → ¬ IsFaceOf [] i j k
+-- no face is in the empty list
+pub no_face : (i j k : ℕ) → ¬ IsFaceOf [] i j k
 no_face i j k (inl c) = Contains-none (corners i j k) c
 no_face i j k (inr (inl c)) = Contains-none (corners j k i) c
 no_face i j k (inr (inr c)) = Contains-none (corners k i j) c
 
 face_corners : (points : List Point) (faces : List Face) (outer : List (ℕ × ℕ)) → IsMesh points faces outer → (i j k : ℕ) → IsFaceOf faces i j k → (i < length points) × (j < length points) × (k < length points)
-face_corners points faces outer (inl m) i j k f = local_corners points faces outer m i j k f
+face_corners points faces outer (inl m) i j k f = index_of points faces outer m i j k f
 face_corners points faces outer (inr m) i j k f = absurd (no_face i j k (subst (λ fs. IsFaceOf fs i j k) m.0 f))
 
 place_kept : (points : List Point) (q : Point) (k : ℕ) → k < length points → place points k ≡ place (points ++ q ∷ []) k
@@ -137,14 +133,16 @@ pub first_left : {C : Type 0} (m : Bor C) (rest : List ℕ) (x : Bor C × ℕ) (
 first_left m [] x left e = cc
 first_left m (i ∷ rest) x left e = (i, rest, refl, cc, cc)
 
-none_left : {C : Type 0} (m : Bor C) (rest : List ℕ) → each_in m rest ≡ [] → rest ≡ []
+-- nothing is given, so nothing was left
+pub none_left : {C : Type 0} (m : Bor C) (rest : List ℕ) → each_in m rest ≡ [] → rest ≡ []
 none_left m [] e = refl
 none_left m (i ∷ rest) e = cc
 
 sides_kept : (m : Mesh) (h : ℕ) (ks more : List ℕ) → ((j : ℕ) → Contains ks j → Contains more j) → HasSidesAt m h ks → HasSidesAt m h more
 sides_kept m h ks more kept x = record { here = kept (h / 2) x.here; after = kept (next m h / 2) x.after }
 
-not_some : (o : Option ℕ) → o ≡ None → ¬ IsSome o
+-- none, so not some
+pub not_some : (o : Option ℕ) → o ≡ None → ¬ IsSome o
 not_some None e had = cc
 not_some (Some k) e had = cc
 

@@ -1,6 +1,6 @@
 -- What a segment meets first from outside a mesh.
-use Rattle.std.proofs.Common.{◌≡◌, ◌≢◌, ◌⊎◌, ℕ, zero, suc, ◌+◌, ◌<◌, ◌≤◌, List, length, map, Option, Some, None, refl, sym, ap, ◌∙◌, subst, inl, inr, arith, below_more}
-use Rattle.std.specs.Prelude.{IfSome, ℤ, pos, ◌<ℤ◌, ◌*ℤ◌}
+use Rattle.std.proofs.Common.{◌≡◌, ◌≢◌, ◌⊎◌, ℕ, ◌+◌, ◌<◌, ◌≤◌, List, length, map, Option, Some, None, sym, ap, ◌∙◌, subst, inl, inr, arith, below_more}
+use Rattle.std.specs.Prelude.{IfSome, ℤ, ◌<ℤ◌, ◌*ℤ◌}
 use Rattle.std.proofs.lemmas.Int.{ints}
 use Rattle.std.proofs.lemmas.List.{length-map}
 use Rattle.half_edge_mesh.specs.Mesh.{Mesh, origin, prev, face, rev}
@@ -22,23 +22,18 @@ use Rattle.plane_segments.proofs.LineStarts.{equal_ends, first_on_line}
 use Rattle.plane_segments.proofs.Begins.{edge_flipped}
 use Rattle.mesh_embedding.specs.Drawn.{drawn}
 use Rattle.mesh_embedding.proofs.EdgePairs.{joins_edge}
-use Rattle.mesh_embedding.proofs.MeshLegal.{line_has_none}
+use Rattle.mesh_embedding.proofs.MeshLegal.{line_has_none, none_or_some}
 use Rattle.delaunay_lines.specs.declared.intersection.FixedIntersection.TheVariants.{Edge, Vertex}
 use Rattle.delaunay_lines.specs.Steps.{IsOverMesh}
 use Rattle.delaunay_lines.specs.Starts.{IsCrossed, IsEntered, IsNearestOf, IsBetter, StartsOutside}
 use Rattle.delaunay_lines.specs.Walk.{Starts}
 use Rattle.delaunay_lines.proofs.MeshSteps.{laid, in_mesh, of_mesh, joined, bare, face_at, not_same}
 use Rattle.delaunay_lines.proofs.FirstItems.{starts_first, nothing, nothing_met, same_ends}
+use Rattle.plane.proofs.Signs.{less_with_ones, less_without_ones}
 
 -- ---- the nearest of some vertices
 through : (a b c : ℤ) → a <ℤ b → c <ℤ a → c <ℤ b
 through a b c h k = omega (arith, ints)
-
-scaled : (a b : ℤ) → (a *ℤ (pos 1 *ℤ pos 1)) <ℤ (b *ℤ (pos 1 *ℤ pos 1)) → a <ℤ b
-scaled a b h = omega (arith, ints)
-
-unscaled : (a b : ℤ) → a <ℤ b → (a *ℤ (pos 1 *ℤ pos 1)) <ℤ (b *ℤ (pos 1 *ℤ pos 1))
-unscaled a b h = omega (arith, ints)
 
 itself : (a : ℤ) → a <ℤ a → ⊥
 itself a h = omega (arith, ints)
@@ -54,7 +49,7 @@ module _ (points : List Point) (p q : Point) where
   Nearer k v = IsNearer (whole p) (place points k) (place points v)
 
   nearer_of : (k v : ℕ) → Nearer k v → d k <ℤ d v
-  nearer_of k v h = scaled (d k) (d v) h.nearer
+  nearer_of k v h = less_without_ones (d k) (d v) h.nearer
 
   pub none_of_none : IsNearestOf points 0 p q None
   none_of_none k less = absurd (omega (arith, less))
@@ -65,7 +60,7 @@ module _ (points : List Point) (p q : Point) where
     better_is_nearest (Some o) before better = (
       omega (arith, is),
       better.0,
-      below_more (λ k. On k → ¬ Nearer k v) n (λ k less on h. before.2 k less on (record { nearer = unscaled (d k) (d o) (through (d v) (d o) (d k) better.1 (nearer_of k v h)) })) (subst (λ k. On k → ¬ Nearer k v) is (λ on h. itself (d v) (nearer_of v v h))),
+      below_more (λ k. On k → ¬ Nearer k v) n (λ k less on h. before.2 k less on (record { nearer = less_with_ones (d k) (d o) (through (d v) (d o) (d k) better.1 (nearer_of k v h)) })) (subst (λ k. On k → ¬ Nearer k v) is (λ on h. itself (d v) (nearer_of v v h))),
     )
 
     pub still_nearest : (r : Option ℕ) → IsNearestOf points n p q r → ¬ IsBetter points p q v r → IsNearestOf points (n + 1) p q r
@@ -82,10 +77,6 @@ module _ (points : List Point) (p q : Point) where
 
 pub same_count : (n count : ℕ) → n ≤ count → count ≤ n → n ≡ count
 same_count n count h k = omega (arith, h, k)
-
-zero_or : (n : ℕ) → (n ≡ 0) ⊎ (0 < n)
-zero_or zero = inl refl
-zero_or (suc n) = inr (omega arith)
 
 -- ---- the first item
 module _ {V D U F : Type 0} (at : V → Point) (IsSite IsCovered : Point → Type 0) (c : Contents V D U F) (p q : Point) (over : IsOverMesh at IsSite IsCovered c p q) (outside : StartsOutside (drawn (map at c.vertices) c.mesh) p) where
@@ -151,7 +142,7 @@ module _ {V D U F : Type 0} (at : V → Point) (IsSite IsCovered : Point → Typ
       no_outer_crossed : TilesHull t → (a b : ℕ) → IsOuter t a b → ¬ Meets t (whole p) (whole q) (across b a)
       no_outer_crossed tiles a b outer met =
           let h = joins_edge m over.mesh.valid.sound b a met.0 in
-          none h.0 (of_mesh at IsSite IsCovered c p q over h.0 h.1) (twin_is_outer h.0 h.1 h.2 h.3 (zero_or (face m (rev h.0))), crossed_if h.0 h.1 (subst (λ (x : ℕ × ℕ). Meets t (whole p) (whole q) (across x.0 x.1)) (λ i. (sym h.2 i, sym h.3 i)) met))
+          none h.0 (of_mesh at IsSite IsCovered c p q over h.0 h.1) (twin_is_outer h.0 h.1 h.2 h.3 (none_or_some (face m (rev h.0))), crossed_if h.0 h.1 (subst (λ (x : ℕ × ℕ). Meets t (whole p) (whole q) (across x.0 x.1)) (λ i. (sym h.2 i, sym h.3 i)) met))
         where
           twin_is_outer : (h : ℕ) → h < length m.half_edges → origin m h ≡ b → origin m (rev h) ≡ a → (face m (rev h) ≡ 0) ⊎ (0 < face m (rev h)) → face m (rev h) ≡ 0
           twin_is_outer h w e f (inl o) = o
@@ -160,7 +151,7 @@ module _ {V D U F : Type 0} (at : V → Point) (IsSite IsCovered : Point → Typ
       no_crossed_on_line : JoinsLine t → (a b : ℕ) → ¬ Meets t (whole p) (whole q) (across a b)
       no_crossed_on_line line a b met =
           let h = joins_edge m over.mesh.valid.sound a b met.0 in
-          none h.0 (of_mesh at IsSite IsCovered c p q over h.0 h.1) (twin_is_outer h.0 h.1 (zero_or (face m (rev h.0))), crossed_if h.0 h.1 (subst (λ (x : ℕ × ℕ). Meets t (whole p) (whole q) (across x.0 x.1)) (λ i. (sym h.2 i, sym h.3 i)) met))
+          none h.0 (of_mesh at IsSite IsCovered c p q over h.0 h.1) (twin_is_outer h.0 h.1 (none_or_some (face m (rev h.0))), crossed_if h.0 h.1 (subst (λ (x : ℕ × ℕ). Meets t (whole p) (whole q) (across x.0 x.1)) (λ i. (sym h.2 i, sym h.3 i)) met))
         where
           twin_is_outer : (h : ℕ) → h < length m.half_edges → (face m (rev h) ≡ 0) ⊎ (0 < face m (rev h)) → face m (rev h) ≡ 0
           twin_is_outer h w (inl o) = o

@@ -12,7 +12,7 @@ use Rattle.half_edge_mesh.specs.Left.{each_in}
 use Rattle.half_edge_mesh.specs.Rounds.{GivesRound}
 use Rattle.plane_tiling.proofs.Totals.{Contains-head, Contains-later, Contains-none, Contains-cases}
 use Rattle.mesh_embedding.proofs.WorkLists.{contains_map, contains_map_from}
-use Rattle.delaunay_legalization.proofs.Stars.{first_left}
+use Rattle.delaunay_legalization.proofs.Stars.{first_left, none_left, not_some}
 
 -- what is left of the edges of vertex v, where each other one was missed
 pub record IsLooking {V D U F : Type 0} (c : Contents V D U F) (v : ℕ) (IsMissed : ℕ → Type 0) (given : List (Bor (Contents V D U F) × ℕ)) : Type 0 where
@@ -23,14 +23,6 @@ pub record IsLooking {V D U F : Type 0} (c : Contents V D U F) (v : ℕ) (IsMiss
   pub within : (h : ℕ) → Contains rest h → h < length c.mesh.half_edges
   pub starts : (h : ℕ) → Contains rest h → origin c.mesh h ≡ v
   pub each : (h : ℕ) → h < length c.mesh.half_edges → origin c.mesh h ≡ v → Contains rest h ⊎ IsMissed h
-
-none_left : {C : Type 0} (m : Bor C) (rest : List ℕ) → each_in m rest ≡ [] → rest ≡ []
-none_left m [] e = refl
-none_left m (i ∷ rest) e = cc
-
-not_some : (o : Option ℕ) → o ≡ None → ¬ IsSome o
-not_some None e had = cc
-not_some (Some k) e had = cc
 
 from_zero : (n k : ℕ) → k < n → Contains (range_with_len 0 n) k
 from_zero n k h =

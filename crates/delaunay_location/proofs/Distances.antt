@@ -9,6 +9,8 @@ use Rattle.plane.proofs.IntegerOrder.{mul-nonneg_ℤ, mul-nonneg_of_nonpos_ℤ, 
 use Rattle.plane.proofs.Solver.{num, ◌⊕◌, ◌⊖◌, ◌⊗◌, ring_in}
 use Rattle.delaunay_legalization.specs.Between.{IsFrom}
 use Rattle.delaunay_legalization.proofs.Between.{box_of_within}
+use Rattle.plane.proofs.Signs.{negative_is_not_zero, not_negative_plus_positive, positive_is_not_zero, positive_plus_not_negative}
+use Rattle.plane.proofs.Steps.{no_difference}
 
 -- what is left of the way
 rest : (a b c : ℤ) → IsFrom a b c → pos 0 ≤ℤ ((b -ℤ c) *ℤ (c -ℤ a))
@@ -26,33 +28,19 @@ longer px py kx ky ix iy = ring_in (px ∷ py ∷ kx ∷ ky ∷ ix ∷ iy ∷ []
 sum_of_squares : (a b c d : ℤ) → ¬ ((a ≡ c) × (b ≡ d)) → pos 0 <ℤ ((a -ℤ c) *ℤ (a -ℤ c) +ℤ (b -ℤ d) *ℤ (b -ℤ d))
 sum_of_squares a b c d n = go (trichotomy_ℤ (a -ℤ c)) (trichotomy_ℤ (b -ℤ d))
   where
-    first : (r s : ℤ) → pos 0 <ℤ r → pos 0 ≤ℤ s → pos 0 <ℤ (r +ℤ s)
-    first r s h k = omega (arith, ints)
-
-    second : (r s : ℤ) → pos 0 ≤ℤ r → pos 0 <ℤ s → pos 0 <ℤ (r +ℤ s)
-    second r s h k = omega (arith, ints)
-
-    low : (z : ℤ) → z <ℤ pos 0 → ¬ (z ≡ pos 0)
-    low z h e = omega (arith, ints)
-
-    high : (z : ℤ) → pos 0 <ℤ z → ¬ (z ≡ pos 0)
-    high z h e = omega (arith, ints)
-
-    level : (x y : ℤ) → x -ℤ y ≡ pos 0 → x ≡ y
-    level x y e = omega (arith, ints)
 
     by_first : ¬ (a -ℤ c ≡ pos 0) → pos 0 <ℤ ((a -ℤ c) *ℤ (a -ℤ c) +ℤ (b -ℤ d) *ℤ (b -ℤ d))
-    by_first h = first ((a -ℤ c) *ℤ (a -ℤ c)) ((b -ℤ d) *ℤ (b -ℤ d)) (square-pos_ℤ h) (square-nonneg_ℤ (b -ℤ d))
+    by_first h = positive_plus_not_negative ((a -ℤ c) *ℤ (a -ℤ c)) ((b -ℤ d) *ℤ (b -ℤ d)) (square-pos_ℤ h) (square-nonneg_ℤ (b -ℤ d))
 
     by_second : ¬ (b -ℤ d ≡ pos 0) → pos 0 <ℤ ((a -ℤ c) *ℤ (a -ℤ c) +ℤ (b -ℤ d) *ℤ (b -ℤ d))
-    by_second h = second ((a -ℤ c) *ℤ (a -ℤ c)) ((b -ℤ d) *ℤ (b -ℤ d)) (square-nonneg_ℤ (a -ℤ c)) (square-pos_ℤ h)
+    by_second h = not_negative_plus_positive ((a -ℤ c) *ℤ (a -ℤ c)) ((b -ℤ d) *ℤ (b -ℤ d)) (square-nonneg_ℤ (a -ℤ c)) (square-pos_ℤ h)
 
     go : ((a -ℤ c) <ℤ pos 0) ⊎ ((a -ℤ c ≡ pos 0) ⊎ (pos 0 <ℤ (a -ℤ c))) → ((b -ℤ d) <ℤ pos 0) ⊎ ((b -ℤ d ≡ pos 0) ⊎ (pos 0 <ℤ (b -ℤ d))) → pos 0 <ℤ ((a -ℤ c) *ℤ (a -ℤ c) +ℤ (b -ℤ d) *ℤ (b -ℤ d))
-    go (inl h) k = by_first (low (a -ℤ c) h)
-    go (inr (inr h)) k = by_first (high (a -ℤ c) h)
-    go (inr (inl h)) (inl k) = by_second (low (b -ℤ d) k)
-    go (inr (inl h)) (inr (inr k)) = by_second (high (b -ℤ d) k)
-    go (inr (inl h)) (inr (inl k)) = absurd (n (level a c h, level b d k))
+    go (inl h) k = by_first (negative_is_not_zero (a -ℤ c) h)
+    go (inr (inr h)) k = by_first (positive_is_not_zero (a -ℤ c) h)
+    go (inr (inl h)) (inl k) = by_second (negative_is_not_zero (b -ℤ d) k)
+    go (inr (inl h)) (inr (inr k)) = by_second (positive_is_not_zero (b -ℤ d) k)
+    go (inr (inl h)) (inr (inl k)) = absurd (n (no_difference a c h, no_difference b d k))
 
 less_by : (a b s r q : ℤ) → a ≡ b +ℤ (s +ℤ (pos 2 *ℤ r +ℤ pos 2 *ℤ q)) → pos 0 <ℤ s → pos 0 ≤ℤ r → pos 0 ≤ℤ q → b <ℤ a
 less_by a b s r q e h k l = omega (arith, ints)

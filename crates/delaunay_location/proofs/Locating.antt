@@ -31,6 +31,7 @@ use Rattle.mesh_embedding.proofs.EdgePairs.{joins_edge, Contains-map_from}
 use Rattle.delaunay_legalization.proofs.Shapes.{laid_out_distinct}
 use Rattle.delaunay_legalization.proofs.MeshParts.{mesh_edge, mesh_face, no_side}
 use Rattle.delaunay_location.proofs.Distances.{nearer_of_within}
+use Rattle.plane.proofs.Signs.{below_and_not_below}
 
 same_number : (a b : ℤ) → a *ℤ pos 1 ≡ b *ℤ pos 1 → b ≡ a
 same_number a b e = omega (arith, ints)
@@ -40,9 +41,6 @@ same_point p q s =
     let x = same_number p.x q.x s.x in
     let y = same_number p.y q.y s.y in
     λ i. record { x = x i; y = y i }
-
-not_less : (a b : ℤ) → a <ℤ b → b ≤ℤ a → ⊥
-not_less a b h k = omega (arith, ints)
 
 module _ {V D U F : Type 0} (at : V → Point) (s : State V D U F) (kept : IsTriangulated at s) (p : Point) where
   abbrev points : List Point
@@ -141,6 +139,6 @@ module _ {V D U F : Type 0} (at : V → Point) (s : State V D U F) (kept : IsTri
         go : (i : ℕ) → i < length points → IsPast (drawn points m) i (whole p) → origin m e < length points → gap (whole p) (place points (origin m e)) ≤ℤ gap (whole p) (place points i) → origin m e ≡ i
         go i i_in past o_in least = elim (cases_eq (origin m e) i) [
           | inl same ↦ same
-          | inr other ↦ absurd (not_less (gap (whole p) (place points i)) (gap (whole p) (place points (origin m e)))
+          | inr other ↦ absurd (below_and_not_below (gap (whole p) (place points i)) (gap (whole p) (place points (origin m e)))
               (nearer_of_within p (point_at points (origin m e)) (point_at points i) (laid_out_distinct points (faces_of m) (outer_of m) kept.shape (origin m e) i o_in i_in other) (past (origin m e) o_in other)) least)
         ]

@@ -1,31 +1,23 @@
 -- A walk from vertex to nearer neighbour.
-use Rattle.std.proofs.Common.{◌≡◌, ◌⊎◌, ℕ, ◌+◌, ◌^◌, ◌<◌, ◌≤◌, List, length, map, sym, subst, ◌∙◌, inl, inr, arith}
-use Rattle.std.specs.Prelude.{ℤ, pos, ◌*ℤ◌, ◌<ℤ◌}
-use Rattle.std.proofs.lemmas.Int.{ints}
+use Rattle.std.proofs.Common.{◌≡◌, ◌⊎◌, ℕ, ◌+◌, ◌^◌, ◌<◌, ◌≤◌, List, length, sym, subst, ◌∙◌, inl, inr, arith}
+use Rattle.std.specs.Prelude.{ℤ, ◌*ℤ◌, ◌<ℤ◌}
 use Rattle.half_edge_mesh.specs.Mesh.{Mesh, origin, rev, AreSoundLinks}
 use Rattle.plane.specs.Fraction.{Point, whole}
 use Rattle.plane.specs.Circle.{gap, IsNearer}
-use Rattle.plane.specs.Delaunay.{IsConstrainedDelaunay}
 use Rattle.plane.specs.Pairs.{place}
-use Rattle.plane.specs.Shape.{IsNearest}
 use Rattle.plane.specs.Tiling.{Triangulation, IsEdge, vertex}
 use Rattle.plane_delaunay.specs.Nearer.{nearer_count}
 use Rattle.plane_delaunay.proofs.NearerCount.{nearer_count_falls}
 use Rattle.mesh_embedding.specs.Drawn.{drawn}
 use Rattle.mesh_embedding.proofs.EdgePairs.{joins_edge}
-
-scaled : (a b : ℤ) → a <ℤ b → (a *ℤ (pos 1 *ℤ pos 1)) <ℤ (b *ℤ (pos 1 *ℤ pos 1))
-scaled a b h = omega (arith, ints)
-
-unscaled : (a b : ℤ) → (a *ℤ (pos 1 *ℤ pos 1)) <ℤ (b *ℤ (pos 1 *ℤ pos 1)) → a <ℤ b
-unscaled a b h = omega (arith, ints)
+use Rattle.plane.proofs.Signs.{less_with_ones, less_without_ones}
 
 -- which of two points is nearer, by their squared distances
 pub nearer_by_gaps : (p a b : Point) → gap (whole p) (whole a) <ℤ gap (whole p) (whole b) → IsNearer (whole p) (whole a) (whole b)
-nearer_by_gaps p a b h = record { nearer = scaled (gap (whole p) (whole a)) (gap (whole p) (whole b)) h }
+nearer_by_gaps p a b h = record { nearer = less_with_ones (gap (whole p) (whole a)) (gap (whole p) (whole b)) h }
 
 pub gaps_of_nearer : (p a b : Point) → IsNearer (whole p) (whole a) (whole b) → gap (whole p) (whole a) <ℤ gap (whole p) (whole b)
-gaps_of_nearer p a b h = unscaled (gap (whole p) (whole a)) (gap (whole p) (whole b)) h.nearer
+gaps_of_nearer p a b h = less_without_ones (gap (whole p) (whole a)) (gap (whole p) (whole b)) h.nearer
 
 -- no neighbour is nearer where no edge of the vertex ends nearer
 pub no_nearer_neighbour : (points : List Point) (m : Mesh) (p : Point) (v : ℕ) → AreSoundLinks m
@@ -33,7 +25,7 @@ pub no_nearer_neighbour : (points : List Point) (m : Mesh) (p : Point) (v : ℕ)
     → (k : ℕ) → IsEdge (drawn points m) v k → ¬ IsNearer (whole p) (vertex (drawn points m) k) (vertex (drawn points m) v)
 no_nearer_neighbour points m p v sound none k edge near =
     let h = joins_edge m sound v k edge in
-    none h.0 h.1 h.2 (subst (λ x. gap (whole p) (place points x) <ℤ gap (whole p) (place points v)) (sym h.3) (unscaled (gap (whole p) (place points k)) (gap (whole p) (place points v)) near.nearer))
+    none h.0 h.1 h.2 (subst (λ x. gap (whole p) (place points x) <ℤ gap (whole p) (place points v)) (sym h.3) (less_without_ones (gap (whole p) (place points k)) (gap (whole p) (place points v)) near.nearer))
 
 counts : (moves was k here n : ℕ) → moves ≡ was → k < here → here < n → moves + 1 + k < was + n
 counts moves was k here n e a b = omega (arith, e, a, b)

@@ -12,7 +12,7 @@ use Rattle.half_edge_mesh.specs.Left.{each_in}
 use Rattle.half_edge_mesh.specs.Rounds.{GivesRound}
 use Rattle.plane_tiling.proofs.Totals.{Contains-head, Contains-later, Contains-none, Contains-cases}
 use Rattle.mesh_embedding.proofs.WorkLists.{contains_map, contains_map_from}
-use Rattle.delaunay_legalization.proofs.Stars.{first_left}
+use Rattle.delaunay_legalization.proofs.Stars.{first_left, none_left, not_some}
 
 -- each edge of vertex v is among those that are left, or was seen
 pub record IsGoingRound {V D U F : Type 0} (c : Contents V D U F) (v : ℕ) (Seen : ℕ → Type 0) (given : List (Bor (Contents V D U F) × ℕ)) : Type 0 where
@@ -22,14 +22,6 @@ pub record IsGoingRound {V D U F : Type 0} (c : Contents V D U F) (v : ℕ) (See
   pub left : each_in mesh rest ≡ given
   pub within : (h : ℕ) → Contains rest h → h < length c.mesh.half_edges
   pub each : (h : ℕ) → h < length c.mesh.half_edges → origin c.mesh h ≡ v → Contains rest h ⊎ Seen h
-
-none_left : {C : Type 0} (m : Bor C) (rest : List ℕ) → each_in m rest ≡ [] → rest ≡ []
-none_left m [] e = refl
-none_left m (i ∷ rest) e = cc
-
-not_some : (o : Option ℕ) → o ≡ None → ¬ IsSome o
-not_some None e had = cc
-not_some (Some k) e had = cc
 
 module _ {V D U F : Type 0} (c : Contents V D U F) (v : ℕ) (Seen : ℕ → Type 0) where
   -- the round of the vertex, or nothing

@@ -9,7 +9,7 @@ use Rattle.plane.specs.Fraction.{Point}
 use Rattle.plane.specs.Pairs.{Joins, IsSamePair, IsIndex}
 use Rattle.plane_segments.specs.Constraints.{AreNextOn, ArePlacedApart}
 use Rattle.plane_segments.proofs.Adding.{IsAddingPath, adding_goes_on, adding_ends}
-use Rattle.mesh_embedding.proofs.MeshLegal.{joins_edge}
+use Rattle.mesh_embedding.proofs.MeshLegal.{joins_edge, same_joined}
 use Rattle.delaunay_legalization.specs.Constraints.{marked_edges, constraint_pairs}
 use Rattle.delaunay_legalization.specs.Shape.{IsTriangulated}
 use Rattle.delaunay_legalization.specs.State.{state_of}
@@ -18,12 +18,6 @@ use Rattle.delaunay_legalization.proofs.MarkedPairs.{JoinsByMark, mark_joins}
 use Rattle.delaunay_paths.specs.PathEdges.{AreJoinedAlong}
 use Rattle.delaunay_paths.proofs.AddingPieces.{half_ends}
 use Rattle.delaunay_paths.proofs.Releasing.{one_edge}
-
--- a pair with the ends of another is listed where this is
-joins_same : (pairs : List (ℕ × ℕ)) (a b u v : ℕ) → IsSamePair a b u v → Joins pairs u v → Joins pairs a b
-joins_same pairs a b u v (inl s) h = subst (λ (x : ℕ × ℕ). Joins pairs x.0 x.1) (λ o. (sym s.0 o, sym s.1 o)) h
-joins_same pairs a b u v (inr s) (inl h) = subst (λ (x : ℕ × ℕ). Joins pairs x.0 x.1) (λ o. (sym s.0 o, sym s.1 o)) (inr h)
-joins_same pairs a b u v (inr s) (inr h) = subst (λ (x : ℕ × ℕ). Joins pairs x.0 x.1) (λ o. (sym s.0 o, sym s.1 o)) (inl h)
 
 -- two pairs with the ends of a third have the same ends
 same_as_third : (a b u v x y : ℕ) → IsSamePair a b u v → IsSamePair a b x y → IsSamePair u v x y
@@ -42,7 +36,7 @@ module _ {V D U F : Type 0} (at : V → Point) (marks : U → Bool) (constraints
   -- the edge from a to b is a constraint exactly if one joins these
   pub edge_joins : (a b h : ℕ) → h < length c.mesh.half_edges → origin c.mesh h ≡ a → origin c.mesh (rev h) ≡ b → Contains (constraints c.undirected) (h / 2) ↔ Joins pairs a b
   edge_joins a b h within starts ends = (
-    (λ there. joins_same pairs a b (origin c.mesh (2 * (h / 2))) (origin c.mesh (rev (2 * (h / 2)))) here (joins_edge c.mesh (constraints c.undirected) (h / 2) there)),
+    (λ there. same_joined pairs a b (origin c.mesh (2 * (h / 2))) (origin c.mesh (rev (2 * (h / 2)))) here (joins_edge c.mesh (constraints c.undirected) (h / 2) there)),
     (λ joined. found (mark_joins marks constraints marked c.mesh c.undirected a b joined)),
   )
     where
@@ -76,7 +70,7 @@ module _ (points : List Point) (distinct : ArePlacedApart points) (pairs : List 
 
   module _ (v : ℕ) (on_way : w ≢ j) (next : AreNextOn points w j w v) where
     pub joined_further : Joins pairs w v → IsAddingPath points pairs pairs i j v
-    joined_further here = adding_goes_on points distinct pairs pairs i j w hi hj p v on_way next pairs (λ a b. ((λ x. inl x), (λ x. elim x [ inl y ↦ y | inr s ↦ joins_same pairs a b w v s here ])))
+    joined_further here = adding_goes_on points distinct pairs pairs i j w hi hj p v on_way next pairs (λ a b. ((λ x. inl x), (λ x. elim x [ inl y ↦ y | inr s ↦ same_joined pairs a b w v s here ])))
 
     pub one_not_joined : ¬ Joins pairs w v → ¬ AreJoinedAlong points pairs i j
     one_not_joined not all = not (all w v (p.rest w v next))

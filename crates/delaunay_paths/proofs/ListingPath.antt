@@ -8,7 +8,6 @@ use Rattle.plane.specs.Circle.{gap, IsNearer}
 use Rattle.plane.specs.Fraction.{Point, whole}
 use Rattle.plane.specs.Laws.{squared_way}
 use Rattle.plane.specs.Pairs.{IsIndex, place}
-use Rattle.plane.proofs.IntegerOrder.{square-nonneg_ℤ}
 use Rattle.plane_delaunay.specs.Nearer.{nearer_count}
 use Rattle.plane_delaunay.proofs.NearerCount.{nearer_count_falls}
 use Rattle.plane_edits.specs.Legal.{point_of}
@@ -18,18 +17,13 @@ use Rattle.plane_segments.proofs.Shorter.{path_shortens}
 use Rattle.mesh_embedding.specs.Drawn.{drawn}
 use Rattle.delaunay_paths.specs.PathEdges.{LeadAlong}
 use Rattle.delaunay_paths.proofs.Places.{gap_is_way_back}
+use Rattle.plane_edits.proofs.Legal.{squared_way_nonneg}
 
 -- ---- the next vertex is nearer to the end
 less_of_abs : (x y : ℤ) → pos 0 ≤ℤ x → pos 0 ≤ℤ y → nat_abs x < nat_abs y → x <ℤ y
 less_of_abs (pos a) (pos b) h k l = omega (arith, ints, l)
 less_of_abs (pos a) (negsuc b) h k l = absurd (omega (arith, ints, k))
 less_of_abs (negsuc a) y h k l = absurd (omega (arith, ints, h))
-
-plus : (a b : ℤ) → pos 0 ≤ℤ a → pos 0 ≤ℤ b → pos 0 ≤ℤ (a +ℤ b)
-plus a b h k = omega (arith, ints)
-
-way_nonneg : (q p : Point) → pos 0 ≤ℤ squared_way q p
-way_nonneg q p = plus ((p.x -ℤ q.x) *ℤ (p.x -ℤ q.x)) ((p.y -ℤ q.y) *ℤ (p.y -ℤ q.y)) (square-nonneg_ℤ (p.x -ℤ q.x)) (square-nonneg_ℤ (p.y -ℤ q.y))
 
 by_one : (x : ℤ) → x *ℤ (pos 1 *ℤ pos 1) ≡ x
 by_one x = omega (arith, ints)
@@ -51,7 +45,7 @@ module _ (points : List Point) (m : Mesh) where
     falls : (w v : ℕ) → IsIndex points w → w ≢ j → AreNextOn points w j w v → (nearer_count (drawn points m) (place points j) v < nearer_count (drawn points m) (place points j) w) × (nearer_count (drawn points m) (place points j) w < length points)
     falls w v hw on_way next = nearer_count_falls (drawn points m) (place points j) w v hw next.second_index
         (nearer_by_way (point_of points j) (point_of points v) (point_of points w)
-        (less_of_abs (squared_way (point_of points v) (point_of points j)) (squared_way (point_of points w) (point_of points j)) (way_nonneg (point_of points v) (point_of points j)) (way_nonneg (point_of points w) (point_of points j))
+        (less_of_abs (squared_way (point_of points v) (point_of points j)) (squared_way (point_of points w) (point_of points j)) (squared_way_nonneg (point_of points v) (point_of points j)) (squared_way_nonneg (point_of points w) (point_of points j))
         (path_shortens points w j v distinct hw hj on_way next)))
 
     pub listing_begins : (listed : List ℕ) (room_was room : ℕ) → listed ≡ [] → room ≡ room_was → IsListing i j i listed room_was room

@@ -7,6 +7,7 @@ use Rattle.delaunay_legalization.specs.Constraints.{not_both}
 use Rattle.half_edge_mesh.specs.Contents.{Contents}
 use Rattle.delaunay_legalization.specs.Marking.{HasEdgeData}
 use Rattle.delaunay_paths.specs.Adding.{MarksEdge, MarksSome}
+use Rattle.delaunay_legalization.proofs.MarkedPairs.{set_entry}
 
 one_value : {X : Type 0} (x y : X) → Some x ≡ Some y → x ≡ y
 one_value x y e = cc
@@ -15,11 +16,6 @@ pub set_same : {X : Type 0} (xs : List X) (k : ℕ) (d : X) → slice_get xs k �
 set_same [] k d e = refl
 set_same (x ∷ xs) zero d e = ap (λ y. y ∷ xs) (sym (one_value x d e))
 set_same (x ∷ xs) (suc k) d e = ap (λ ys. x ∷ ys) (set_same xs k d e)
-
-set_here : {X : Type 0} (xs : List X) (k : ℕ) (d x : X) → slice_get xs k ≡ Some d → slice_get (set xs k x) k ≡ Some x
-set_here [] k d x e = cc
-set_here (y ∷ ys) zero d x e = refl
-set_here (y ∷ ys) (suc k) d x e = set_here ys k d x e
 
 module _ {V D U F : Type 0} (marks : U → Bool) (marked : U → U) (old new : Contents V D U F) (k : ℕ) (d : U) (was : slice_get old.undirected k ≡ Some d) where
   -- an edge that has the mark
@@ -52,7 +48,7 @@ module _ {U : Type 0} (marks : U → Bool) (marked : U → U) where
   marks_one ds k value after was same l d e = elim (cases_eq l k) [
     | inr n ↦ inl (slice_get-set_other ds k l after n ∙ e)
     | inl is ↦ (
-        let here : slice_get (set ds k after) l ≡ Some after = ap (slice_get (set ds k after)) is ∙ set_here ds k value after was in
+        let here : slice_get (set ds k after) l ≡ Some after = ap (slice_get (set ds k after)) is ∙ set_entry ds k value after was in
         let one : value ≡ d = one_value value d (sym was ∙ ap (slice_get ds) (sym is) ∙ e) in
         elim same [
           | inl s ↦ inl (here ∙ ap (λ (x : U). Some x) (s ∙ one))

@@ -2,7 +2,6 @@
 use Rattle.std.proofs.Common.{◌≡◌, ◌≢◌, ◌⊎◌, ◌↔◌, ℕ, ◌+◌, ◌*◌, ◌<◌, ◌≤◌, List, [], ◌∷◌, length, map, set, sym, ap, ◌∙◌, subst, inl, inr, arith}
 use Rattle.std.specs.Prelude.{Bool, false, All, Contains}
 use Rattle.std.proofs.lemmas.Bool.{cases_eq}
-use Rattle.std.proofs.lemmas.Grind.{common_steps}
 use Rattle.std.proofs.lemmas.List.{length-set}
 use Rattle.half_edge_mesh.specs.Mesh.{Mesh, origin, rev}
 use Rattle.half_edge_links.proofs.Rev.{rev-rev, rev_within}
@@ -27,9 +26,7 @@ use Rattle.delaunay_legalization.proofs.Constraints.{fixed_within}
 use Rattle.delaunay_legalization.proofs.MarkedPairs.{unmarking_leaves}
 use Rattle.delaunay_paths.specs.Adding.{AddsPath, MarksSome}
 use Rattle.delaunay_paths.specs.Releasing.{AddsConstraints, ReleasesEdge}
-
-rev_of_even : (k : ℕ) → rev (2 * k) ≡ 2 * k + 1
-rev_of_even k = grind (arith, common_steps)
+use Rattle.mesh_embedding.proofs.EdgePairs.{rev_of_even}
 
 same_pair_or_not : (a b u v : ℕ) → IsSamePair a b u v ⊎ (¬ IsSamePair a b u v)
 same_pair_or_not a b u v = go (cases_eq a u) (cases_eq b v) (cases_eq a v) (cases_eq b u)

@@ -19,6 +19,7 @@ use Rattle.plane_segments.proofs.Pieces.{on_of_mean}
 use Rattle.plane_segments.specs.Constraints.{AreNextOn, ArePlacedApart}
 use Rattle.delaunay_legalization.specs.Known.{point_at}
 use Rattle.mesh_embedding.proofs.EdgePairs.{Contains-map}
+use Rattle.plane.proofs.Signs.{less_through}
 
 -- ---- points strictly within a segment
 module _ (a b : Point) (apart : ¬ (a ≡ b)) where
@@ -59,11 +60,8 @@ module _ (a b : Point) (apart : ¬ (a ≡ b)) where
       same : (x y z : ℤ) → x ≡ z → z ≡ y → x <ℤ y → ⊥
       same x y z e h k = omega (arith, ints)
 
-      through : (x y z : ℤ) → x <ℤ y → y <ℤ z → x <ℤ z
-      through x y z e h = omega (arith, ints)
-
       go : IsBetween (F a) (F k) (F x) ⊎ ((F a ≡ F x) × (F x ≡ F k)) → IsBetween (F a) (F b) (F x)
-      go (inl (inl o)) = inl (o.0, through (F x) (F k) (F b) o.1 (ordered k h).1)
+      go (inl (inl o)) = inl (o.0, less_through (F x) (F k) (F b) o.1 (ordered k h).1)
       go (inl (inr o)) = absurd (far (F a) (F k) (F x) o.0 o.1 (ordered k h).0)
       go (inr o) = absurd (same (F a) (F k) (F x) o.0 o.1 (ordered k h).0)
 

@@ -17,6 +17,7 @@ use Rattle.half_edge_dcel.proofs.TakenOut.{length-full_edges, get_or-full_edges,
 use Rattle.half_edge_dcel.proofs.TwoEdges.{item_at}
 use Rattle.delaunay_legalization.specs.State.{state_of}
 use Rattle.delaunay_removal.specs.Data.{HasDataOfEdge, HasDataOfFace}
+use Rattle.mesh_embedding.proofs.EdgePairs.{rev_of_odd}
 
 -- undirected edge k, with all its data
 pub record IsEdgeAt {V D U F : Type 0} (c : Contents V D U F) (k : ℕ) (e : FullEdge D U) : Type 0 where
@@ -111,9 +112,6 @@ even_or_odd g = elim (cases_eq (g % 2) 0) [
 
 pub rev_of_even : (j : ℕ) → rev (2 * j) ≡ 2 * j + 1
 rev_of_even j = grind (arith, common_steps)
-
-rev_of_odd : (j : ℕ) → rev (2 * j + 1) ≡ 2 * j
-rev_of_odd j = grind (arith, common_steps)
 
 pub half_of_odd : (j : ℕ) → (2 * j + 1) / 2 ≡ j
 half_of_odd j = omega arith

@@ -1,5 +1,5 @@
 -- The round of a vertex from any of its edges, and the count of its edges.
-use Rattle.std.proofs.Common.{◌≡◌, ◌≢◌, ℕ, ◌+◌, ◌<◌, length, Option, Some, None, IsSome, refl, sym, ap, ◌∙◌, subst, arith, inl, inr}
+use Rattle.std.proofs.Common.{◌≡◌, ◌≢◌, ℕ, ◌+◌, ◌<◌, length, IsSome, refl, sym, ap, ◌∙◌, subst, arith, inl, inr}
 use Rattle.std.proofs.lemmas.Bool.{cases_eq, cases_lt}
 use Rattle.std.proofs.Math.Numerals.{add-one}
 use Rattle.half_edge_mesh.specs.Mesh.{Mesh, IsValidMesh, origin, out_edge}
@@ -8,10 +8,7 @@ use Rattle.half_edge_mesh.specs.Round.{IsRound}
 use Rattle.half_edge_links.proofs.OneOrbit.{edges_go_round}
 use Rattle.half_edge_views.proofs.Loops.{round_fits}
 use Rattle.mesh_embedding.proofs.RoundShift.{round_from}
-
-some_of : (o : Option ℕ) → IsSome o → (k : ℕ) × (o ≡ Some k)
-some_of None had = absurd (cc)
-some_of (Some k) had = (k, refl)
+use Rattle.half_edge_links.proofs.CollapseLemmas.{some_of}
 
 -- the round of a vertex starts at any of its edges
 pub round_of : (m : Mesh) (v first count h : ℕ) → IsRound m v first count → h < length m.half_edges → origin m h ≡ v → IsRound m v h count

@@ -28,7 +28,8 @@ filter_begins Inside found e = subst (IsFilteredTo Inside 0) (sym e) (record { o
 below_more : (j i : ℕ) → j < i → j < i + 1
 below_more j i h = omega (arith, h)
 
-below_other : (j i : ℕ) → j < i + 1 → j ≢ i → j < i
+-- below the next number and another than this, so below this
+pub below_other : (j i : ℕ) → j < i + 1 → j ≢ i → j < i
 below_other j i h n = omega (arith, h, n)
 
 at_last : (j i : ℕ) → j ≡ i → j < i + 1

@@ -15,6 +15,7 @@ use Rattle.delaunay_shapes.specs.Tests.{IsReversed, is_reversed}
 use Rattle.delaunay_shapes.specs.Distance.{clamped, rectangle_distance, IsLeastDistance, farthest}
 use Rattle.delaunay_shapes.proofs.Decided.{decides_lt}
 use Rattle.delaunay_shapes.proofs.Rectangles.{sorted_x, sorted_y, decides_reversed}
+use Rattle.plane.proofs.Signs.{positive_is_not_negative}
 
 -- n is the number from low to high that is nearest to a
 data Nearest (low high a n : ℤ) : Type 0 where
@@ -60,13 +61,10 @@ square_grows u v h i =
 axis_least : {low high a n : ℤ} → Nearest low high a n → (x w : ℤ) → pos 0 <ℤ w → (low *ℤ w) ≤ℤ x → x ≤ℤ (high *ℤ w) →
     ((n *ℤ pos 1 -ℤ a *ℤ pos 1) *ℤ (n *ℤ pos 1 -ℤ a *ℤ pos 1) *ℤ (w *ℤ w)) ≤ℤ ((x *ℤ pos 1 -ℤ a *ℤ w) *ℤ (x *ℤ pos 1 -ℤ a *ℤ w))
 axis_least {low} {high} {a} {n} (raised h e) x w p i j = subst (λ z. z ≤ℤ ((x *ℤ pos 1 -ℤ a *ℤ w) *ℤ (x *ℤ pos 1 -ℤ a *ℤ w))) (scaled n a w)
-    (square_grows ((n -ℤ a) *ℤ w) (x *ℤ pos 1 -ℤ a *ℤ w) (mul-nonneg_ℤ (above h e) (weak w p)) (way n a x w (subst (λ z. (z *ℤ w) ≤ℤ x) (sym e) i)))
+    (square_grows ((n -ℤ a) *ℤ w) (x *ℤ pos 1 -ℤ a *ℤ w) (mul-nonneg_ℤ (above h e) (positive_is_not_negative w p)) (way n a x w (subst (λ z. (z *ℤ w) ≤ℤ x) (sym e) i)))
   where
     above : a <ℤ low → n ≡ low → pos 0 ≤ℤ (n -ℤ a)
     above h e = omega (arith, ints)
-
-    weak : (w : ℤ) → pos 0 <ℤ w → pos 0 ≤ℤ w
-    weak w p = omega (arith, ints)
 
     less : (b c x : ℤ) → b ≤ℤ x → (b -ℤ c) ≤ℤ (x *ℤ pos 1 -ℤ c)
     less b c x h = omega (arith, ints)
@@ -78,13 +76,10 @@ axis_least {low} {high} {a} {n} (raised h e) x w p i j = subst (λ z. z ≤ℤ (
     scaled n a w = ring_in (n ∷ a ∷ w ∷ []) (λ n a w. ((n ⊖ a) ⊗ w) ⊗ ((n ⊖ a) ⊗ w)) (λ n a w. (n ⊗ num 1 ⊖ a ⊗ num 1) ⊗ (n ⊗ num 1 ⊖ a ⊗ num 1) ⊗ (w ⊗ w)) tt
 axis_least {low} {high} {a} {n} (lowered h e) x w p i j = subst (λ z. z ≤ℤ ((x *ℤ pos 1 -ℤ a *ℤ w) *ℤ (x *ℤ pos 1 -ℤ a *ℤ w))) (scaled n a w)
     (subst (λ z. (((a -ℤ n) *ℤ w) *ℤ ((a -ℤ n) *ℤ w)) ≤ℤ z) (turned x a w)
-    (square_grows ((a -ℤ n) *ℤ w) (a *ℤ w -ℤ x) (mul-nonneg_ℤ (above h e) (weak w p)) (way n a x w (subst (λ z. x ≤ℤ (z *ℤ w)) (sym e) j))))
+    (square_grows ((a -ℤ n) *ℤ w) (a *ℤ w -ℤ x) (mul-nonneg_ℤ (above h e) (positive_is_not_negative w p)) (way n a x w (subst (λ z. x ≤ℤ (z *ℤ w)) (sym e) j))))
   where
     above : high <ℤ a → n ≡ high → pos 0 ≤ℤ (a -ℤ n)
     above h e = omega (arith, ints)
-
-    weak : (w : ℤ) → pos 0 <ℤ w → pos 0 ≤ℤ w
-    weak w p = omega (arith, ints)
 
     less : (b c x : ℤ) → x ≤ℤ b → (c -ℤ b) ≤ℤ (c -ℤ x)
     less b c x h = omega (arith, ints)

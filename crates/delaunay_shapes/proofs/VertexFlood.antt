@@ -19,7 +19,7 @@ use Rattle.mesh_embedding.proofs.MeshStays.{halved}
 use Rattle.delaunay_shapes.specs.Known.{point_at}
 use Rattle.delaunay_shapes.specs.InShape.{AreEdgesInShape, AreVerticesInShape}
 use Rattle.delaunay_shapes.specs.Flood.{IsAsked, IsFlooding, GoesOn, Asks, HasAskedEnds, IsRegion}
-use Rattle.delaunay_shapes.proofs.Asking.{goes_on_twice}
+use Rattle.delaunay_shapes.proofs.Asking.{goes_on_twice, below_other}
 use Rattle.delaunay_shapes.proofs.Flooding.{tiles, half_by_ends}
 
 -- ---- both ends, one after the other
@@ -31,9 +31,6 @@ pub record AreEndsAskedTo (Inside : ℕ → Type 0) (m : Mesh) (count : ℕ) (wa
 
 never : (j : ℕ) → j < 0 → ⊥
 never j h = omega (arith, h)
-
-below_other : (j i : ℕ) → j < i + 1 → j ≢ i → j < i
-below_other j i h n = omega (arith, h, n)
 
 pub ends_first : (Inside : ℕ → Type 0) (m : Mesh) (count : ℕ) (asked : List Bool) (found edges : List ℕ) → IsFlooding Inside count asked found → AreEndsAskedTo Inside m count asked asked found found edges 0
 ends_first Inside m count asked found edges f = record {

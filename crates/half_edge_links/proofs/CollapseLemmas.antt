@@ -11,7 +11,8 @@ use Rattle.half_edge_links.proofs.UnlinkSound.{some_same}
 use Rattle.half_edge_links.proofs.PeelLemmas.{removable_opened}
 use Rattle.half_edge_links.proofs.Track.{IsLeft, name, name_in, name_same, origin_at, face_at, next_at, next_before, next_twin_before, old_at, rev_at, outer_at}
 
-some_of : (o : Option ℕ) → IsSome o → (k : ℕ) × (o ≡ Some k)
+-- the value that is there
+pub some_of : (o : Option ℕ) → IsSome o → (k : ℕ) × (o ≡ Some k)
 some_of None had = absurd (cc)
 some_of (Some k) had = (k, refl)
 

@@ -79,7 +79,7 @@ pub record IsFullStrip (m : Mesh) (h k : ℕ) : Type 0 where
   pub only : (g : ℕ) → g < length m.half_edges → origin m g ≡ origin m h → (i : ℕ) × (i ≤ k) × (g ≡ spoke m h i)
 
 -- an edge that is alone at its start, where the walk round it comes back at once
-alone_at : (m : Mesh) (e : ℕ) → IsValidMesh m → e < length m.half_edges → next m (rev e) ≡ e → (h : ℕ) → h < length m.half_edges → origin m h ≡ origin m e → h ≡ e
+pub alone_at : (m : Mesh) (e : ℕ) → IsValidMesh m → e < length m.half_edges → next m (rev e) ≡ e → (h : ℕ) → h < length m.half_edges → origin m h ≡ origin m e → h ≡ e
 alone_at m e v within back h h_in same =
     let turned : rev (prev m e) ≡ e = ap (λ k. rev (prev m k)) (sym back) ∙ ap rev (v.sound.edges (rev e) (rev_within _ _ v.sound.even within)).prev_next ∙ rev-rev e in
     let closed : IsClosed m (λ k. k == e) = λ k k_in is. eq-eqb (rev (prev m k)) e (ap (λ j. rev (prev m j)) (eqb-true k e is) ∙ turned) in

@@ -23,7 +23,8 @@ map_same : {X Y : Type 0} (f g : X → Y) (xs : List X) → ((x : X) → f x ≡
 map_same f g [] same = refl
 map_same f g (x ∷ xs) same = let a = same x in let b = map_same f g xs same in cc
 
-get_map : {X Y : Type 0} (f : X → Y) (xs : List X) (n : ℕ) (d : X) → get_or (map f xs) n (f d) ≡ f (get_or xs n d)
+-- an entry of a mapped list
+pub get_map : {X Y : Type 0} (f : X → Y) (xs : List X) (n : ℕ) (d : X) → get_or (map f xs) n (f d) ≡ f (get_or xs n d)
 get_map f [] n d = refl
 get_map f (x ∷ xs) zero d = refl
 get_map f (x ∷ xs) (suc n) d = get_map f xs n d

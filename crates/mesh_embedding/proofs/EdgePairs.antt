@@ -21,10 +21,12 @@ Contains-map_from f xs d y h =
     let within : h.0 < length xs = let l = h.1 in omega (arith, length-map xs f) in
     (h.0, within, sym (get_or-map f xs h.0 d y within) ∙ h.2)
 
-rev_of_even : (k : ℕ) → rev (2 * k) ≡ 2 * k + 1
+-- the other direction of an even edge
+pub rev_of_even : (k : ℕ) → rev (2 * k) ≡ 2 * k + 1
 rev_of_even k = let even : 2 * k % 2 ≡ 0 = omega arith in rw even refl
 
-rev_of_odd : (k : ℕ) → rev (2 * k + 1) ≡ 2 * k
+-- the other direction of an odd edge
+pub rev_of_odd : (k : ℕ) → rev (2 * k + 1) ≡ 2 * k
 rev_of_odd k = let odd : (2 * k + 1) % 2 ≡ 1 = omega arith in rw odd (omega arith)
 
 module _ (m : Mesh) (s : AreSoundLinks m) where

@@ -13,9 +13,7 @@ use Rattle.plane_edits.specs.Change.{IsFaceOf, IsTurnFree}
 use Rattle.plane_edits.proofs.Changes.{total_append}
 use Rattle.mesh_embedding.specs.Drawn.{corners_of, faces_of}
 use Rattle.mesh_embedding.proofs.OwnEdges.{total-map}
-
-both : (a b c d : ℤ) → a ≡ b → c ≡ d → a +ℤ c ≡ b +ℤ d
-both a b c d e f = λ i. e i +ℤ f i
+use Rattle.half_edge_links.proofs.Sums.{same_sum}
 
 -- ---- lists in which one or two entries are written, and some added
 module _ {X : Type 0} (f : X → ℤ) where

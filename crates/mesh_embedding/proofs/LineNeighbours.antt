@@ -16,6 +16,7 @@ use Rattle.plane_tiling.proofs.Line.{SignLine, IsNext, next_turned}
 use Rattle.plane_tiling.proofs.LineMeshes.{line_by_signs}
 use Rattle.plane_tiling.proofs.LinePlaces as O
 use Rattle.plane_edits.specs.Removal.{LineMeshWithout}
+use Rattle.plane.proofs.Signs.{at_most_both_ways, less_twice_is_not_same}
 
 -- ---- places along the line from vertex a to another vertex b
 module _ (n : ℕ) (p : ℕ → Point) (outer : List (ℕ × ℕ)) (m : SignLine n p outer) (a b : ℕ) (a_in : a < n) (b_in : b < n) (apart : a ≢ b) where
@@ -77,10 +78,7 @@ module _ (n : ℕ) (p : ℕ → Point) (outer : List (ℕ × ℕ)) (m : SignLine
   over x y c d e h = omega (arith, ints)
 
   differ : (i j : ℕ) → i < n → j < n → i ≢ j → (spot i <ℤ spot j) ⊎ (spot j <ℤ spot i)
-  differ i j hi hj d = elim (lt_or_ge_ℤ (spot i) (spot j)) [ inl l ↦ inl l | inr l ↦ elim (lt_or_ge_ℤ (spot j) (spot i)) [ inl h ↦ inr h | inr h ↦ absurd (d (same i j hi hj (equal (spot i) (spot j) h l))) ] ]
-    where
-      equal : (x y : ℤ) → x ≤ℤ y → y ≤ℤ x → x ≡ y
-      equal x y h k = omega (arith, ints)
+  differ i j hi hj d = elim (lt_or_ge_ℤ (spot i) (spot j)) [ inl l ↦ inl l | inr l ↦ elim (lt_or_ge_ℤ (spot j) (spot i)) [ inl h ↦ inr h | inr h ↦ absurd (d (same i j hi hj (at_most_both_ways (spot i) (spot j) h l))) ] ]
 
   -- with a vertex below it, w has a neighbour below it
   below_edge : (w x : ℕ) → w < n → x < n → spot x <ℤ spot w → (j : ℕ) × Contains outer (w, j) × (spot j <ℤ spot w)
@@ -140,13 +138,10 @@ module _ (n : ℕ) (p : ℕ → Point) (outer : List (ℕ × ℕ)) (m : SignLine
   no_further : (low high x : ℕ) → IsNext n p low high → ((j : ℕ) → Contains outer (low, j) → j ≡ high) → ((j : ℕ) → Contains outer (high, j) → j ≡ low) → x < n → x ≢ low → x ≢ high → spot low <ℤ spot high → ⊥
   no_further low high x s from_low from_high hx not_low not_high rise = go (differ x low hx s.first not_low) (differ x high hx s.second not_high)
     where
-      falls : (u v w : ℤ) → u <ℤ v → v <ℤ w → u ≡ w → ⊥
-      falls u v w h k e = omega (arith, ints)
-
       go : (spot x <ℤ spot low) ⊎ (spot low <ℤ spot x) → (spot x <ℤ spot high) ⊎ (spot high <ℤ spot x) → ⊥
-      go (inl h) k = let r = below_edge low x s.first hx h in falls (spot r.0) (spot low) (spot high) r.2 rise (ap spot (from_low r.0 r.1))
+      go (inl h) k = let r = below_edge low x s.first hx h in less_twice_is_not_same (spot r.0) (spot low) (spot high) r.2 rise (ap spot (from_low r.0 r.1))
       go (inr h) (inl k) = rising low high x s hx h k
-      go (inr h) (inr k) = let r = above_edge high x s.second hx k in falls (spot low) (spot high) (spot r.0) rise r.2 (ap spot (sym (from_high r.0 r.1)))
+      go (inr h) (inr k) = let r = above_edge high x s.second hx k in less_twice_is_not_same (spot low) (spot high) (spot r.0) rise r.2 (ap spot (sym (from_high r.0 r.1)))
 
 -- ---- in a mesh of a line
 module _ (points : List Point) (outer : List (ℕ × ℕ)) (m : LineMesh points outer) where

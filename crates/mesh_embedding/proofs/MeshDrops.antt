@@ -23,6 +23,7 @@ use Rattle.plane_edits.proofs.Renumbering.{last_takes_freed_index, last_takes_fr
 use Rattle.mesh_embedding.specs.Drawn.{corners_of, pair_of, faces_of, outer_of}
 use Rattle.mesh_embedding.proofs.OuterEdges.{real}
 use Rattle.mesh_embedding.proofs.FaceChanges.{length_map}
+use Rattle.half_edge_links.proofs.ShrinkTriangles.{get_map}
 
 -- no outer edge starts at a vertex without edges
 pub alone_has_none : (m : Mesh) (v j : ℕ) → AreSoundLinks m → IsAlone m v → ¬ Contains (outer_of m) (v, j)
@@ -40,15 +41,10 @@ mapped_set f [] k x = refl
 mapped_set f (y ∷ ys) zero x = refl
 mapped_set f (y ∷ ys) (suc k) x = ap (λ zs. f y ∷ zs) (mapped_set f ys k x)
 
-mapped_get : {X Y : Type 0} (f : X → Y) (xs : List X) (k : ℕ) (d : X) → get_or (map f xs) k (f d) ≡ f (get_or xs k d)
-mapped_get f [] k d = refl
-mapped_get f (y ∷ ys) zero d = refl
-mapped_get f (y ∷ ys) (suc k) d = mapped_get f ys k d
-
 pub mapped_swap_remove : {X Y : Type 0} (f : X → Y) (xs : List X) (k : ℕ) (d : X) → map f (swap_remove xs k d) ≡ swap_remove (map f xs) k (f d)
 mapped_swap_remove f xs k d =
     sym (take-map f (length xs - 1) (set xs k (get_or xs (length xs - 1) d)))
-    ∙ ap (take (length xs - 1)) (mapped_set f xs k (get_or xs (length xs - 1) d) ∙ ap (set (map f xs) k) (sym (mapped_get f xs (length xs - 1) d)))
+    ∙ ap (take (length xs - 1)) (mapped_set f xs k (get_or xs (length xs - 1) d) ∙ ap (set (map f xs) k) (sym (get_map f xs (length xs - 1) d)))
     ∙ ap (λ n. take (n - 1) (set (map f xs) k (get_or (map f xs) (n - 1) (f d)))) (sym (length_map f xs))
 
 pub mapped_twice : {X Y Z : Type 0} (f : X → Y) (g : Y → Z) (h : X → Z) (xs : List X) → ((x : X) → g (f x) ≡ h x) → map g (map f xs) ≡ map h xs

@@ -43,20 +43,17 @@ use Rattle.mesh_embedding.proofs.FaceChanges.{turned_faces}
 use Rattle.mesh_embedding.proofs.MeshEdits.{start_of_twin, end_of_twin, face_before, face_behind, flipped_faces, flip_kept_by}
 use Rattle.mesh_embedding.proofs.MeshStays.{halved, keeps_indexes, stays_none, stays_turned}
 use Rattle.mesh_embedding.proofs.WorkLists.{contains_last, contains_before, last_or_before, once_before, last_not_before, once_after, contains_map, contains_map_from, same_map, at_most_so_many}
+use Rattle.plane.proofs.SmallCases.{turned_join}
 
 -- ---- the edges of a work list
 pub joins_edge : (m : Mesh) (ks : List ℕ) (k : ℕ) → Contains ks k → Joins (pairs_at m ks) (origin m (2 * k)) (origin m (rev (2 * k)))
 joins_edge m ks k h = inl (contains_map (pair_at m) ks k h)
 
-joins_back : (pairs : List (ℕ × ℕ)) (i j : ℕ) → Joins pairs i j → Joins pairs j i
-joins_back pairs i j (inl h) = inr h
-joins_back pairs i j (inr h) = inl h
-
 -- by either of its directions
 pub joins_directed : (m : Mesh) (ks : List ℕ) (h : ℕ) → Contains ks (h / 2) → Joins (pairs_at m ks) (origin m h) (origin m (rev h))
 joins_directed m ks h c = elim (halved h) [
   | inl e ↦ subst (λ (x : ℕ). Joins (pairs_at m ks) (origin m x) (origin m (rev x))) e (joins_edge m ks (h / 2) c)
-  | inr e ↦ joins_back (pairs_at m ks) (origin m (rev h)) (origin m h)
+  | inr e ↦ turned_join (pairs_at m ks) (origin m (rev h)) (origin m h)
       (subst (λ (x : ℕ). Joins (pairs_at m ks) (origin m (rev h)) (origin m x)) (rev-rev h) (subst (λ (x : ℕ). Joins (pairs_at m ks) (origin m x) (origin m (rev x))) e (joins_edge m ks (h / 2) c)))
 ]
 
@@ -77,9 +74,10 @@ last_or_joined m ks k i j (inr h) = go (contains_map_from (pair_at m) (ks ++ k �
       | inr c ↦ inr (r.0, c, inr (sym (ap (λ (x : ℕ × ℕ). x.1) r.2), sym (ap (λ (x : ℕ × ℕ). x.0) r.2)))
     ]
 
-same_joined : (pairs : List (ℕ × ℕ)) (i j u v : ℕ) → IsSamePair i j u v → Joins pairs u v → Joins pairs i j
+-- joined as the same pair
+pub same_joined : (pairs : List (ℕ × ℕ)) (i j u v : ℕ) → IsSamePair i j u v → Joins pairs u v → Joins pairs i j
 same_joined pairs i j u v (inl e) h = subst (λ (x : ℕ × ℕ). Joins pairs x.0 x.1) (λ o. (sym e.0 o, sym e.1 o)) h
-same_joined pairs i j u v (inr e) h = joins_back pairs j i (subst (λ (x : ℕ × ℕ). Joins pairs x.0 x.1) (λ o. (sym e.1 o, sym e.0 o)) h)
+same_joined pairs i j u v (inr e) h = turned_join pairs j i (subst (λ (x : ℕ × ℕ). Joins pairs x.0 x.1) (λ o. (sym e.1 o, sym e.0 o)) h)
 
 -- ---- an edge between two inner faces
 module _ (points : List Point) (m : Mesh) (s : IsValidMesh m) (local : LocalMesh points (faces_of m) (outer_of m)) (e : ℕ) (within : e < length m.half_edges) where
@@ -160,7 +158,8 @@ module _ (points : List Point) (m : Mesh) (s : IsValidMesh m) (local : LocalMesh
       questions : InsideCircle (place points source) (place points target) (place points left_corner) (place points right_corner) ↔ InsideCircle (place points target) (place points source) (place points right_corner) (place points left_corner)
       questions = one_question (point_at points source) (point_at points target) (point_at points left_corner) (point_at points right_corner) (turning_of points (faces_of m) (outer_of m) local source target left_corner on_left) (turning_of points (faces_of m) (outer_of m) local target source right_corner on_right)
 
-none_or_some : (n : ℕ) → (n ≡ 0) ⊎ (0 < n)
+-- 0 or more
+pub none_or_some : (n : ℕ) → (n ≡ 0) ⊎ (0 < n)
 none_or_some n = elim (cases_eq n 0) [ inl e ↦ inl e | inr d ↦ inr (grind arith) ]
 
 -- ---- an edge that is a constraint or does not fail is dropped

@@ -20,10 +20,12 @@ use Rattle.mesh_embedding.proofs.LineNeighbours.{lone_vertex_goes, apart_neighbo
 use Rattle.mesh_embedding.proofs.MeshDrops.{alone_has_none, dropped_on_line, index_within}
 use Rattle.mesh_embedding.proofs.FaceChanges.{length_map}
 
-first_of : (x y : ℕ × ℕ) → x ≡ y → x.0 ≡ y.0
+-- the same pairs have the same first
+pub first_of : (x y : ℕ × ℕ) → x ≡ y → x.0 ≡ y.0
 first_of x y e = ap (λ (p : ℕ × ℕ). p.0) e
 
-second_of : (x y : ℕ × ℕ) → x ≡ y → x.1 ≡ y.1
+-- the same pairs have the same second
+pub second_of : (x y : ℕ × ℕ) → x ≡ y → x.1 ≡ y.1
 second_of x y e = ap (λ (p : ℕ × ℕ). p.1) e
 
 -- ---- the outer edges of a line, as v leaves it

@@ -16,6 +16,7 @@ use Rattle.plane_edits.proofs.OnLine.{past_end, between}
 use Rattle.mesh_embedding.specs.Drawn.{outer_of}
 use Rattle.mesh_embedding.proofs.OuterEdges.{listed, changed_pairs}
 use Rattle.mesh_embedding.proofs.OuterChanges.{two_pairs}
+use Rattle.mesh_embedding.proofs.MeshLineRemoval.{first_of, second_of}
 
 -- ---- one of a few pairs
 four_pairs : (x a b c d : ℕ × ℕ) → Contains (a ∷ b ∷ c ∷ d ∷ []) x → ((a ≡ x) ⊎ (b ≡ x)) ⊎ ((c ≡ x) ⊎ (d ≡ x))
@@ -23,12 +24,6 @@ four_pairs x a b c d k = elim (Contains-cases a (b ∷ c ∷ d ∷ []) x k) as (
   | inl p ↦ inl (inl p)
   | inr l ↦ elim (Contains-cases b (c ∷ d ∷ []) x l) as (λ _. ((a ≡ x) ⊎ (b ≡ x)) ⊎ ((c ≡ x) ⊎ (d ≡ x))) [ inl p ↦ inl (inr p) | inr n ↦ inr (two_pairs x c d n) ]
 ]
-
-start_is : (x y : ℕ × ℕ) → x ≡ y → x.0 ≡ y.0
-start_is x y e = ap (λ (p : ℕ × ℕ). p.0) e
-
-end_is : (x y : ℕ × ℕ) → x ≡ y → x.1 ≡ y.1
-end_is x y e = ap (λ (p : ℕ × ℕ). p.1) e
 
 listed_as : (xs : List (ℕ × ℕ)) (a b i j : ℕ) → i ≡ a → j ≡ b → Contains xs (a, b) → Contains xs (i, j)
 listed_as xs a b i j p q c = subst (Contains xs) (λ t. (sym p t, sym q t)) c
@@ -42,8 +37,8 @@ outer_joined old new u v k l once apart fresh c = changed_pairs old new (λ h. �
       gone_real = λ i j n. absurd (Contains-none (i, j) n);
       made_listed = made_listed;
       made_real = λ i j n. elim (two_pairs (i, j) (u, v) (v, u) n) as (λ _. (h : ℕ) × (IsEdge k u v h i j ⊎ IsEdge l v u h i j)) [
-        | inl p ↦ (k, inl (refl, sym (start_is (u, v) (i, j) p), sym (end_is (u, v) (i, j) p)))
-        | inr p ↦ (l, inr (refl, sym (start_is (v, u) (i, j) p), sym (end_is (v, u) (i, j) p)))
+        | inl p ↦ (k, inl (refl, sym (first_of (u, v) (i, j) p), sym (second_of (u, v) (i, j) p)))
+        | inr p ↦ (l, inr (refl, sym (first_of (v, u) (i, j) p), sym (second_of (v, u) (i, j) p)))
       ];
       made_once = made_once;
       made_fresh = made_fresh;
@@ -112,8 +107,8 @@ module _ (old new : Mesh) (e v n : ℕ) (s : AreSoundLinks old) (apart : HasApar
 
   gone_real : (i j : ℕ) → Contains gone (i, j) → (h : ℕ) × Gone h × IsOuterEdge old h i j
   gone_real i j c = elim (two_pairs (i, j) (origin old e, origin old (rev e)) (origin old (rev e), origin old e) c) as (λ _. (h : ℕ) × Gone h × IsOuterEdge old h i j) [
-    | inl p ↦ (e, inl refl, record { within = own.within; outer = own.outer; source = start_is (origin old e, origin old (rev e)) (i, j) p; target = end_is (origin old e, origin old (rev e)) (i, j) p })
-    | inr p ↦ (rev e, inr refl, record { within = back.within; outer = back.outer; source = start_is (origin old (rev e), origin old e) (i, j) p; target = back.target ∙ end_is (origin old (rev e), origin old e) (i, j) p })
+    | inl p ↦ (e, inl refl, record { within = own.within; outer = own.outer; source = first_of (origin old e, origin old (rev e)) (i, j) p; target = second_of (origin old e, origin old (rev e)) (i, j) p })
+    | inr p ↦ (rev e, inr refl, record { within = back.within; outer = back.outer; source = first_of (origin old (rev e), origin old e) (i, j) p; target = back.target ∙ second_of (origin old (rev e), origin old e) (i, j) p })
   ]
 
   made_listed : (h i j : ℕ) → Made h i j → Contains made (i, j)
@@ -125,12 +120,12 @@ module _ (old new : Mesh) (e v n : ℕ) (s : AreSoundLinks old) (apart : HasApar
   made_real : (i j : ℕ) → Contains made (i, j) → (h : ℕ) × Made h i j
   made_real i j c = elim (four_pairs (i, j) (origin old e, v) (v, origin old (rev e)) (origin old (rev e), v) (v, origin old e) c) as (λ _. (h : ℕ) × Made h i j) [
     | inl q ↦ elim q as (λ _. (h : ℕ) × Made h i j) [
-      | inl p ↦ (e, inl (inl (refl, sym (start_is (origin old e, v) (i, j) p), sym (end_is (origin old e, v) (i, j) p))))
-      | inr p ↦ (n + 1, inl (inr (refl, sym (start_is (v, origin old (rev e)) (i, j) p), sym (end_is (v, origin old (rev e)) (i, j) p))))
+      | inl p ↦ (e, inl (inl (refl, sym (first_of (origin old e, v) (i, j) p), sym (second_of (origin old e, v) (i, j) p))))
+      | inr p ↦ (n + 1, inl (inr (refl, sym (first_of (v, origin old (rev e)) (i, j) p), sym (second_of (v, origin old (rev e)) (i, j) p))))
     ]
     | inr q ↦ elim q as (λ _. (h : ℕ) × Made h i j) [
-      | inl p ↦ (n, inr (inl (refl, sym (start_is (origin old (rev e), v) (i, j) p), sym (end_is (origin old (rev e), v) (i, j) p))))
-      | inr p ↦ (rev e, inr (inr (refl, sym (start_is (v, origin old e) (i, j) p), sym (end_is (v, origin old e) (i, j) p))))
+      | inl p ↦ (n, inr (inl (refl, sym (first_of (origin old (rev e), v) (i, j) p), sym (second_of (origin old (rev e), v) (i, j) p))))
+      | inr p ↦ (rev e, inr (inr (refl, sym (first_of (v, origin old e) (i, j) p), sym (second_of (v, origin old e) (i, j) p))))
     ]
   ]
 

@@ -25,6 +25,7 @@ use Rattle.mesh_embedding.specs.Drawn.{drawn, corners_of, pair_of, faces_of, edg
 use Rattle.mesh_embedding.specs.Stays.{GoSameWay, HaveSameCorners, KeepsIndexes, HasSideIn, StaysBut}
 use Rattle.mesh_embedding.proofs.OwnEdges.{own_edges}
 use Rattle.mesh_embedding.proofs.FaceChanges.{turned_faces, contains_map}
+use Rattle.plane.proofs.SmallCases.{turned_join}
 
 pub slice_get-set_other : {X : Type 0} (xs : List X) (i j : ℕ) (x : X) → j ≢ i → slice_get (set xs i x) j ≡ slice_get xs j
 slice_get-set_other xs i j x n = grind (arith, common_steps, gets)
@@ -45,13 +46,15 @@ no_ends = record { source = 0; target = 0 }
 abbrev no_triangle : Triangle
 no_triangle = record { first = 0; second = 0; third = 0 }
 
-same_pair_on : (a b c d e f : ℕ) → IsSamePair a b c d → IsSamePair c d e f → IsSamePair a b e f
+-- the same pair through a third
+pub same_pair_on : (a b c d e f : ℕ) → IsSamePair a b c d → IsSamePair c d e f → IsSamePair a b e f
 same_pair_on a b c d e f (inl x) (inl y) = inl (x.0 ∙ y.0, x.1 ∙ y.1)
 same_pair_on a b c d e f (inl x) (inr y) = inr (x.0 ∙ y.0, x.1 ∙ y.1)
 same_pair_on a b c d e f (inr x) (inl y) = inr (x.0 ∙ y.1, x.1 ∙ y.0)
 same_pair_on a b c d e f (inr x) (inr y) = inl (x.0 ∙ y.1, x.1 ∙ y.0)
 
-same_pair_back : (a b c d : ℕ) → IsSamePair a b c d → IsSamePair c d a b
+-- the same pair, read from the other
+pub same_pair_back : (a b c d : ℕ) → IsSamePair a b c d → IsSamePair c d a b
 same_pair_back a b c d (inl x) = inl (sym x.0, sym x.1)
 same_pair_back a b c d (inr x) = inr (sym x.1, sym x.0)
 
@@ -141,11 +144,6 @@ module _ (m : Mesh) (s : IsValidMesh m) (once : EachPairOnce (edges_of m)) where
           (ap (λ (z : Triangle). z.first) y.corners ∙ r.0 ∙ sym (ap (λ (z : Triangle). z.third) x.corners))
           (ap (λ (z : Triangle). z.second) y.corners ∙ r.1 ∙ sym (ap (λ (z : Triangle). z.first) x.corners) ∙ sym (ap (origin m) x.round.next_prev))) ∙ x.round.face_prev ∙ x.here)
 
--- ---- what was flipped away does not stand
-joined_back : (pairs : List (ℕ × ℕ)) (i j : ℕ) → Joins pairs i j → Joins pairs j i
-joined_back pairs i j (inl h) = inr h
-joined_back pairs i j (inr h) = inl h
-
 module _ (m : Mesh) where
   -- the listed triangles are the faces, each also turned
   pub face_there : (f : ℕ) (t : Triangle) → slice_get (triangles m) f ≡ Some t → IsFaceOf (faces_of m) t.first t.second t.third
@@ -189,7 +187,7 @@ module _ (points : List Point) (m : Mesh) (away : List (ℕ × ℕ)) (s : IsVali
   edge_joined : (h : ℕ) → h < length m.half_edges → Joins (edges_of m) (origin m h) (origin m (rev h))
   edge_joined h w = elim (halved h) [
     | inl e ↦ subst (λ (x : ℕ). Joins (edges_of m) (origin m x) (origin m (rev x))) e here
-    | inr e ↦ joined_back (edges_of m) (origin m (rev h)) (origin m h)
+    | inr e ↦ turned_join (edges_of m) (origin m (rev h)) (origin m h)
         (subst (λ (x : ℕ). Joins (edges_of m) (origin m (rev h)) (origin m x)) (rev-rev h) (subst (λ (x : ℕ). Joins (edges_of m) (origin m x) (origin m (rev x))) e here))
   ]
     where
@@ -203,7 +201,7 @@ module _ (points : List Point) (m : Mesh) (away : List (ℕ × ℕ)) (s : IsVali
   away_no_edge h w j = elim tiled as (λ _. ⊥) [
     | inl t ↦ elim ((t.sides (origin m h) (origin m (rev h))).0 (edge_joined h w)) as (λ _. ⊥) [
       | inl f ↦ away_no_face (origin m h) (origin m (rev h)) f.0 j f.1
-      | inr f ↦ away_no_face (origin m (rev h)) (origin m h) f.0 (joined_back away (origin m h) (origin m (rev h)) j) f.1
+      | inr f ↦ away_no_face (origin m (rev h)) (origin m h) f.0 (turned_join away (origin m h) (origin m (rev h)) j) f.1
     ]
     | inr t ↦ let x = is_away (origin m h) (origin m (rev h)) j in no_faces x.a x.b x.c t.no_face x.here
   ]
@@ -260,7 +258,7 @@ stays_turned was m new pairs more e s w inner twin_inner count others flips here
     | inl x ↦ elim (cases_eq h e) [
       | inl r ↦ inr (subst (λ (y : ℕ × ℕ). Joins more y.0 y.1) (λ i. ((ap (origin m) (sym r) ∙ x.0) i, (meet ∙ ap (λ (z : ℕ). origin m (rev z)) (sym r) ∙ x.1) i)) here)
       | inr n ↦ elim (cases_eq h (rev e)) [
-        | inl r ↦ inr (subst (λ (y : ℕ × ℕ). Joins more y.0 y.1) (λ i. ((meet ∙ ap (origin m) (sym r) ∙ x.0) i, (ap (origin m) (sym (ap rev r ∙ rev-rev e)) ∙ x.1) i)) (joined_back more (origin m e) (origin m (next m e)) here))
+        | inl r ↦ inr (subst (λ (y : ℕ × ℕ). Joins more y.0 y.1) (λ i. ((meet ∙ ap (origin m) (sym r) ∙ x.0) i, (ap (origin m) (sym (ap rev r ∙ rev-rev e)) ∙ x.1) i)) (turned_join more (origin m e) (origin m (next m e)) here))
         | inr k ↦ let y = others h n k in inl (y.0 ∙ x.0, y.1 ∙ x.1)
       ]
     ]
@@ -284,7 +282,7 @@ stays_turned was m new pairs more e s w inner twin_inner count others flips here
     twin_within = rev_within e (length m.half_edges) s.even w
 
     behind : Joins more (origin m (rev e)) (origin m (next m (rev e)))
-    behind = subst (λ (y : ℕ × ℕ). Joins more y.0 y.1) (λ i. (meet i, (ap (origin m) (sym (rev-rev e)) ∙ sym (s.edges (rev e) twin_within).starts) i)) (joined_back more (origin m e) (origin m (next m e)) here)
+    behind = subst (λ (y : ℕ × ℕ). Joins more y.0 y.1) (λ i. (meet i, (ap (origin m) (sym (rev-rev e)) ∙ sym (s.edges (rev e) twin_within).starts) i)) (turned_join more (origin m e) (origin m (next m e)) here)
 
     left : Triangle
     left = record { first = origin m (prev m e); second = origin m (prev m (rev e)); third = origin m (next m e) }

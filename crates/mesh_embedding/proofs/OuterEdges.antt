@@ -11,6 +11,7 @@ use Rattle.plane_tiling.proofs.Totals.{Contains-head, Contains-later, Contains-n
 use Rattle.plane_edits.specs.Change.{OuterChange}
 use Rattle.plane_edits.proofs.Changes.{IsOnce, once_none, once_head, once_tail, once_cons}
 use Rattle.mesh_embedding.specs.Drawn.{pair_of, outer_of}
+use Rattle.plane_edits.proofs.Away.{less_or_more}
 
 -- the ends of a directed edge
 abbrev pub ends_at : Mesh → ℕ → ℕ × ℕ
@@ -99,16 +100,6 @@ below_unique m (suc n) h g o l k p q e = go (last_or_below g n k) (λ r. below_u
     go (inl r) f = not_later (face m n) (ends_at m n) (outer_below m n) (ap (face m) (sym r) ∙ q) (subst IsOnce (one_more m n) o) (subst (Contains (outer_below m n)) (e ∙ ap (ends_at m) r) (listed_below m n h (omega arith) p))
     go (inr r) f = f r
 
-order_of : (h g : ℕ) → h ≢ g → (h < g) ⊎ (g < h)
-order_of zero zero d = absurd (d refl)
-order_of zero (suc g) d = inl (omega arith)
-order_of (suc h) zero d = inr (omega arith)
-order_of (suc h) (suc g) d = next (order_of h g (λ e. d (ap suc e)))
-  where
-    next : (h < g) ⊎ (g < h) → (suc h < suc g) ⊎ (suc g < suc h)
-    next (inl k) = inl (omega arith)
-    next (inr k) = inr (omega arith)
-
 -- where each pair is listed once, it is of one directed edge
 pub one_edge : (m : Mesh) → IsOnce (outer_of m) → (h g i j : ℕ) → IsOuterEdge m h i j → IsOuterEdge m g i j → h ≡ g
 one_edge m o h g i j p q = go (cases_eq h g)
@@ -118,7 +109,7 @@ one_edge m o h g i j p q = go (cases_eq h g)
 
     go : (h ≡ g) ⊎ (h ≢ g) → h ≡ g
     go (inl e) = e
-    go (inr d) = absurd (elim (order_of h g d) as (λ _. ⊥) [
+    go (inr d) = absurd (elim (less_or_more h g d) as (λ _. ⊥) [
       | inl l ↦ below_unique m (length m.half_edges) h g o l q.within p.outer q.outer same
       | inr l ↦ below_unique m (length m.half_edges) g h o l p.within q.outer p.outer (sym same)
     ])

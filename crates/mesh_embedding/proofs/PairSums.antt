@@ -16,6 +16,7 @@ use Rattle.plane_edits.specs.Change.{OuterChange}
 use Rattle.plane_edits.proofs.Changes.{IsOnce, has_pair_or_not}
 use Rattle.mesh_embedding.specs.Drawn.{pair_of, outer_of}
 use Rattle.mesh_embedding.proofs.OwnEdges.{total-read}
+use Rattle.plane.proofs.Signs.{neither_sign_is_zero}
 
 -- how often a pair is listed
 pub times : List (ℕ × ℕ) → ℕ → ℕ → ℤ
@@ -40,11 +41,8 @@ listed_times xs i j h =
 not_listed : (xs : List (ℕ × ℕ)) (i j : ℕ) → ¬ Contains xs (i, j) → times xs i j ≡ pos 0
 not_listed xs i j n = elim (lt_or_ge_ℤ (pos 0) (times xs i j)) [
   | inl h ↦ absurd (n (listed_times xs i j h))
-  | inr h ↦ level (times xs i j) h (times_nonneg xs i j)
+  | inr h ↦ neither_sign_is_zero (times xs i j) h (times_nonneg xs i j)
 ]
-  where
-    level : (a : ℤ) → a ≤ℤ pos 0 → pos 0 ≤ℤ a → a ≡ pos 0
-    level a h k = omega (arith, ints)
 
 at_most_once : (xs : List (ℕ × ℕ)) (i j : ℕ) → IsOnce xs → times xs i j ≤ℤ pos 1
 unfolding times

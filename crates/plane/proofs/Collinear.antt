@@ -11,6 +11,7 @@ use Rattle.plane.proofs.Bracket.{Vec3, bracket, bracketᵖ, lift, vec, points}
 use Rattle.plane.proofs.BracketIdentities.{form, four_terms}
 use Rattle.plane.proofs.Means.{TwoWeights, mean_of_two}
 use Rattle.plane.proofs.Nudges.{moved}
+use Rattle.plane.proofs.Signs.{difference_is_positive, difference_not_negative, less_through, negative_is_not_zero, positive_is_not_zero, same_after_shift}
 
 -- the place of z on the way from u to v
 unfoldable pub place_on : Point → Point → Vec3 → ℤ
@@ -67,12 +68,6 @@ place_of_end u v n = go (trichotomy_ℤ (v.x -ℤ u.x)) (trichotomy_ℤ (v.y -�
     second : (s a b : ℤ) → s ≡ a +ℤ b → pos 0 ≤ℤ a → pos 0 <ℤ b → pos 0 <ℤ s
     second s a b e h k = omega (arith, ints)
 
-    not_zero_left : (z : ℤ) → z <ℤ pos 0 → ¬ (z ≡ pos 0)
-    not_zero_left z h e = omega (arith, ints)
-
-    not_zero_right : (z : ℤ) → pos 0 <ℤ z → ¬ (z ≡ pos 0)
-    not_zero_right z h e = omega (arith, ints)
-
     equal : (a b : ℤ) → a -ℤ b ≡ pos 0 → b ≡ a
     equal a b e = omega (arith, ints)
 
@@ -83,10 +78,10 @@ place_of_end u v n = go (trichotomy_ℤ (v.x -ℤ u.x)) (trichotomy_ℤ (v.y -�
     by_y k = second ((v.x -ℤ u.x) *ℤ (v.x -ℤ pos 1 *ℤ u.x) +ℤ (v.y -ℤ u.y) *ℤ (v.y -ℤ pos 1 *ℤ u.y)) ((v.x -ℤ u.x) *ℤ (v.x -ℤ u.x)) ((v.y -ℤ u.y) *ℤ (v.y -ℤ u.y)) (is_square v.x u.x v.y u.y) (square-nonneg_ℤ (v.x -ℤ u.x)) (square-pos_ℤ k)
 
     go : ((v.x -ℤ u.x) <ℤ pos 0) ⊎ ((v.x -ℤ u.x ≡ pos 0) ⊎ (pos 0 <ℤ (v.x -ℤ u.x))) → ((v.y -ℤ u.y) <ℤ pos 0) ⊎ ((v.y -ℤ u.y ≡ pos 0) ⊎ (pos 0 <ℤ (v.y -ℤ u.y))) → pos 0 <ℤ ((v.x -ℤ u.x) *ℤ (v.x -ℤ pos 1 *ℤ u.x) +ℤ (v.y -ℤ u.y) *ℤ (v.y -ℤ pos 1 *ℤ u.y))
-    go (inl h) k = by_x (not_zero_left (v.x -ℤ u.x) h)
-    go (inr (inr h)) k = by_x (not_zero_right (v.x -ℤ u.x) h)
-    go (inr (inl h)) (inl k) = by_y (not_zero_left (v.y -ℤ u.y) k)
-    go (inr (inl h)) (inr (inr k)) = by_y (not_zero_right (v.y -ℤ u.y) k)
+    go (inl h) k = by_x (negative_is_not_zero (v.x -ℤ u.x) h)
+    go (inr (inr h)) k = by_x (positive_is_not_zero (v.x -ℤ u.x) h)
+    go (inr (inl h)) (inl k) = by_y (negative_is_not_zero (v.y -ℤ u.y) k)
+    go (inr (inl h)) (inr (inr k)) = by_y (positive_is_not_zero (v.y -ℤ u.y) k)
     go (inr (inl h)) (inr (inl k)) = absurd (n (λ i. record { x = equal v.x u.x h i; y = equal v.y u.y k i }))
 
 on_line_part : (s t a d : ℤ) → s ≡ t -ℤ a *ℤ d → d ≡ pos 0 → s ≡ t
@@ -109,12 +104,6 @@ between_part l g u zp pp qp z p q h e d c = mul_cancel_ℤ (pos-ne-zero_ℤ h)
 
 between_whole : (a b c : ℤ) → (c -ℤ a) *ℤ pos 1 ≡ (c -ℤ b) *ℤ pos 1 +ℤ (b -ℤ a) *ℤ pos 1
 between_whole a b c = omega (arith, ints)
-
-difference_positive : (a b : ℤ) → a <ℤ b → pos 0 <ℤ (b -ℤ a)
-difference_positive a b h = omega (arith, ints)
-
-below_below : (a b c : ℤ) → a <ℤ b → b <ℤ c → a <ℤ c
-below_below a b c h k = omega (arith, ints)
 
 -- the same where the bracket is 0
 pub line_x : (u v : Point) (z : Vec3) → bracket (lift u) (lift v) z ≡ pos 0 → place_on u v (lift v) *ℤ (z.x -ℤ z.w *ℤ u.x) ≡ place_on u v z *ℤ (v.x -ℤ u.x)
@@ -149,9 +138,9 @@ module _ (u v : Point) (apart : ¬ (u ≡ v)) where
         k = qp -ℤ zp;
         l = zp -ℤ pp;
         n = qp -ℤ pp;
-        k_allowed = difference_positive zp qp k;
-        l_allowed = difference_positive pp zp h;
-        positive = difference_positive pp qp (below_below pp zp qp h k);
+        k_allowed = difference_is_positive zp qp k;
+        l_allowed = difference_is_positive pp zp h;
+        positive = difference_is_positive pp qp (less_through pp zp qp h k);
         x = between_part l (v.x -ℤ u.x) u.x zp pp qp z.x p.x q.x (place_of_end u v apart) (is_along_x z on_z) (is_along_x p on_p) (is_along_x q on_q);
         y = between_part l (v.y -ℤ u.y) u.y zp pp qp z.y p.y q.y (place_of_end u v apart) (is_along_y z on_z) (is_along_y p on_p) (is_along_y q on_q);
         w = between_whole pp zp qp;
@@ -164,11 +153,8 @@ module _ (u v : Point) (apart : ¬ (u ≡ v)) where
       let y = part (place_on u v (lift v)) p.y q.y u.y (place_of_end u v apart) (is_along_y p on_p ∙ ap (λ t. t *ℤ (v.y -ℤ u.y)) e ∙ sym (is_along_y q on_q)) in
       λ i. record { x = x i; y = y i }
     where
-      shifted : (a b c : ℤ) → a -ℤ c ≡ b -ℤ c → a ≡ b
-      shifted a b c e = omega (arith, ints)
-
       part : (l a b c : ℤ) → pos 0 <ℤ l → l *ℤ (a -ℤ c) ≡ l *ℤ (b -ℤ c) → a ≡ b
-      part l a b c h e = shifted a b c (mul_cancel_ℤ (pos-ne-zero_ℤ h) e)
+      part l a b c h e = same_after_shift a b c (mul_cancel_ℤ (pos-ne-zero_ℤ h) e)
 
 -- ---- two segments of one line, each without an end strictly within the other, with a point strictly within both: an average of the places s and t under weights b and a, and of 0 and l, where l has the weight w
 module _ (a b w l s t : ℤ) (a_positive : pos 0 <ℤ a) (b_positive : pos 0 <ℤ b) (w_positive : pos 0 <ℤ w) (l_positive : pos 0 <ℤ l)
@@ -180,11 +166,8 @@ module _ (a b w l s t : ℤ) (a_positive : pos 0 <ℤ a) (b_positive : pos 0 <�
       clash x y z e h k n = omega (arith, ints)
 
   not_high : l ≤ℤ s → l ≤ℤ t → ⊥
-  not_high h k = clash (a *ℤ (t -ℤ l)) (b *ℤ (s -ℤ l)) ((a +ℤ b -ℤ w) *ℤ l) sum (mul-nonneg_ℤ {a = a} {b = t -ℤ l} (weak a_positive) (over l t k)) (mul-nonneg_ℤ {a = b} {b = s -ℤ l} (weak b_positive) (over l s h)) (mul-pos_ℤ (difference_positive w (a +ℤ b) weights) l_positive)
+  not_high h k = clash (a *ℤ (t -ℤ l)) (b *ℤ (s -ℤ l)) ((a +ℤ b -ℤ w) *ℤ l) sum (mul-nonneg_ℤ {a = a} {b = t -ℤ l} (weak a_positive) (difference_not_negative l t k)) (mul-nonneg_ℤ {a = b} {b = s -ℤ l} (weak b_positive) (difference_not_negative l s h)) (mul-pos_ℤ (difference_is_positive w (a +ℤ b) weights) l_positive)
     where
-      over : (x y : ℤ) → x ≤ℤ y → pos 0 ≤ℤ (y -ℤ x)
-      over x y h = omega (arith, ints)
-
       sum : a *ℤ (t -ℤ l) +ℤ b *ℤ (s -ℤ l) ≡ pos 0 -ℤ (a +ℤ b -ℤ w) *ℤ l
       sum = ring_in_from (a ∷ b ∷ w ∷ l ∷ s ∷ t ∷ []) (λ a b w l s t. a ⊗ (t ⊖ l) ⊕ b ⊗ (s ⊖ l)) (λ a b w l s t. num 0 ⊖ (a ⊕ b ⊖ w) ⊗ l)
           (λ a b w l s t. (num 1, a ⊗ t ⊕ b ⊗ s, w ⊗ l) ∷ []) (average, tt) tt

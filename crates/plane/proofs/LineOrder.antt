@@ -11,6 +11,8 @@ use Rattle.plane.proofs.Means.{TwoWeights, two_weights, mean_of_two, turned_mean
 use Rattle.plane.proofs.Bracket.{bracket, lift, vec}
 use Rattle.plane.proofs.BracketIdentities.{bracket-outer, bracket-last}
 use Rattle.plane.proofs.Collinear.{place_on, place_of_start, place_of_end, within_by_places, same_by_places, same_ends, mean_place, line_x, line_y}
+use Rattle.plane.proofs.Signs.{less_by_difference, sum_is_positive}
+use Rattle.plane.proofs.Steps.{one_number}
 
 -- z is strictly between x and y
 abbrev pub IsBetween : ℤ → ℤ → ℤ → Type 0
@@ -24,14 +26,8 @@ to_second : (k l n x y z : ℤ) → n *ℤ z ≡ k *ℤ x +ℤ l *ℤ y → n *�
 to_second k l n x y z e h = ring_in_from (k ∷ l ∷ n ∷ x ∷ y ∷ z ∷ []) (λ k l n x y z. n ⊗ (y ⊖ z)) (λ k l n x y z. k ⊗ (y ⊖ x))
     (λ k l n x y z. (num 0 ⊖ num 1, n ⊗ z, k ⊗ x ⊕ l ⊗ y) ∷ (y, n ⊗ num 1, k ⊗ num 1 ⊕ l ⊗ num 1) ∷ []) (e, (h, tt)) tt
 
-above_zero : (a b : ℤ) → pos 0 <ℤ (b -ℤ a) → a <ℤ b
-above_zero a b h = omega (arith, ints)
-
 below_zero : (a b : ℤ) → (b -ℤ a) <ℤ pos 0 → b <ℤ a
 below_zero a b h = omega (arith, ints)
-
-no_way : (a b : ℤ) → b -ℤ a ≡ pos 0 → a ≡ b
-no_way a b h = omega (arith, ints)
 
 -- a weighted average of two numbers is strictly between them, or all three are one
 average_between : (k l n x y z : ℤ) → pos 0 <ℤ k → pos 0 <ℤ l → pos 0 <ℤ n → n *ℤ z ≡ k *ℤ x +ℤ l *ℤ y → n *ℤ pos 1 ≡ k *ℤ pos 1 +ℤ l *ℤ pos 1 → IsBetween x y z ⊎ ((x ≡ z) × (z ≡ y))
@@ -49,12 +45,12 @@ average_between k l n x y z hk hl hn e h = go (trichotomy_ℤ (y -ℤ x))
       below_zero x z (neg_of_mul-neg_ℤ hn (subst (λ t. t <ℤ pos 0) (sym first) (mul-neg_of_pos_neg_ℤ hl b))),
     ))
     go (inr (inl b)) = inr (
-      no_way x z (zero_of_mul-zero_ℤ (pos-ne-zero_ℤ hn) (first ∙ zero-mul_ℤ l b)),
-      no_way z y (zero_of_mul-zero_ℤ (pos-ne-zero_ℤ hn) (second ∙ zero-mul_ℤ k b)),
+      one_number x z (zero_of_mul-zero_ℤ (pos-ne-zero_ℤ hn) (first ∙ zero-mul_ℤ l b)),
+      one_number z y (zero_of_mul-zero_ℤ (pos-ne-zero_ℤ hn) (second ∙ zero-mul_ℤ k b)),
     )
     go (inr (inr b)) = inl (inl (
-      above_zero x z (pos_of_mul-pos_ℤ hn (subst (λ t. pos 0 <ℤ t) (sym first) (mul-pos_ℤ hl b))),
-      above_zero z y (pos_of_mul-pos_ℤ hn (subst (λ t. pos 0 <ℤ t) (sym second) (mul-pos_ℤ hk b))),
+      less_by_difference x z (pos_of_mul-pos_ℤ hn (subst (λ t. pos 0 <ℤ t) (sym first) (mul-pos_ℤ hl b))),
+      less_by_difference z y (pos_of_mul-pos_ℤ hn (subst (λ t. pos 0 <ℤ t) (sym second) (mul-pos_ℤ hk b))),
     ))
 
 -- a point strictly within a segment has its place between those of the ends
@@ -85,10 +81,7 @@ mean_weight : (aw f bw h zw i : ℤ) → (aw *ℤ h -ℤ bw *ℤ f) *ℤ zw ≡ 
 mean_weight aw f bw h zw i = ring_in_from (aw ∷ f ∷ bw ∷ h ∷ zw ∷ i ∷ []) (λ aw f bw h zw i. (aw ⊗ h ⊖ bw ⊗ f) ⊗ zw) (λ aw f bw h zw i. (zw ⊗ h ⊖ bw ⊗ i) ⊗ aw ⊕ (aw ⊗ i ⊖ zw ⊗ f) ⊗ bw) (λ aw f bw h zw i. []) tt tt
 
 part_of_sum : (n w k a l b : ℤ) → n *ℤ w ≡ k *ℤ a +ℤ l *ℤ b → pos 0 <ℤ w → pos 0 <ℤ k → pos 0 <ℤ a → pos 0 <ℤ l → pos 0 <ℤ b → pos 0 <ℤ n
-part_of_sum n w k a l b e hw hk ha hl hb = pos_of_mul-pos_ℤ hw (subst (λ t. pos 0 <ℤ t) (sym e ∙ *ℤ_comm n w) (both (k *ℤ a) (l *ℤ b) (mul-pos_ℤ hk ha) (mul-pos_ℤ hl hb)))
-  where
-    both : (x y : ℤ) → pos 0 <ℤ x → pos 0 <ℤ y → pos 0 <ℤ (x +ℤ y)
-    both x y h k = omega (arith, ints)
+part_of_sum n w k a l b e hw hk ha hl hb = pos_of_mul-pos_ℤ hw (subst (λ t. pos 0 <ℤ t) (sym e ∙ *ℤ_comm n w) (sum_is_positive (k *ℤ a) (l *ℤ b) (mul-pos_ℤ hk ha) (mul-pos_ℤ hl hb)))
 
 -- z ahead of a, and b ahead of z: z is strictly within the segment of a and b
 pub within_if_ahead : (u v : Point) → ¬ (u ≡ v) → (a b z : Fraction) → bracket (lift u) (lift v) (vec a) ≡ pos 0 → bracket (lift u) (lift v) (vec b) ≡ pos 0 → bracket (lift u) (lift v) (vec z) ≡ pos 0

@@ -16,6 +16,7 @@ use Rattle.plane.proofs.Sides.{left_if, right_if, if_left, if_right}
 use Rattle.plane.proofs.Lines.{bracket_of_line, left_of_two, right_of_two}
 use Rattle.plane.proofs.Segments.{line_weights, IsWhole, same-refl, same-sym, same-trans, on_of_within, on_segment-same, within_segment-same, start_on_segment, only_point, within_itself}
 use Rattle.plane.proofs.Nudges.{nudge_each}
+use Rattle.plane.proofs.Signs.{negation_is_positive, negation_not_negative, negative_is_not_positive, opposite_of_zero, sum_is_positive, sum_not_negative, zero_is_not_negative, zero_is_not_positive}
 
 -- one is left and the other right
 abbrev pub AreOpposite : ℤ → ℤ → Type 0
@@ -84,13 +85,6 @@ common_is_same A B s t u v p q n f g on_p on_q =
       y = one_number (p.y *ℤ q.w) (q.y *ℤ p.w) (zero_of_mul-zero_ℤ (pos-ne-zero_ℤ positive) (same_weights f.k f.l g.k g.l f.n g.n u.y u.w v.y v.w p.y p.w q.y q.w z f.y f.w g.y g.w));
     }
 
--- ---- from the signs to the meeting: here u is left of s t, and v right
-positive_sum : (a b : ℤ) → pos 0 <ℤ a → pos 0 <ℤ b → pos 0 <ℤ (a +ℤ b)
-positive_sum a b h k = omega (arith, ints)
-
-negated : (z : ℤ) → z <ℤ pos 0 → pos 0 <ℤ neg_ℤ z
-negated z h = omega (arith, ints)
-
 one_times : (z : ℤ) → pos 1 *ℤ z ≡ z
 one_times z = omega (arith, ints)
 
@@ -100,7 +94,7 @@ module _ (s t u v : Fraction) (left_u : pos 0 <ℤ bracket (vec s) (vec t) (vec 
     x = neg_ℤ (bracket (vec s) (vec t) (vec v)) *ℤ u.x +ℤ bracket (vec s) (vec t) (vec u) *ℤ v.x;
     y = neg_ℤ (bracket (vec s) (vec t) (vec v)) *ℤ u.y +ℤ bracket (vec s) (vec t) (vec u) *ℤ v.y;
     w = neg_ℤ (bracket (vec s) (vec t) (vec v)) *ℤ u.w +ℤ bracket (vec s) (vec t) (vec u) *ℤ v.w;
-    positive = positive_sum (neg_ℤ (bracket (vec s) (vec t) (vec v)) *ℤ u.w) (bracket (vec s) (vec t) (vec u) *ℤ v.w) (mul-pos_ℤ (negated (bracket (vec s) (vec t) (vec v)) right_v) u.positive) (mul-pos_ℤ left_u v.positive);
+    positive = sum_is_positive (neg_ℤ (bracket (vec s) (vec t) (vec v)) *ℤ u.w) (bracket (vec s) (vec t) (vec u) *ℤ v.w) (mul-pos_ℤ (negation_is_positive (bracket (vec s) (vec t) (vec v)) right_v) u.positive) (mul-pos_ℤ left_u v.positive);
   }
 
   weights_on_second : TwoWeights IsPositive u v meeting_point
@@ -108,7 +102,7 @@ module _ (s t u v : Fraction) (left_u : pos 0 <ℤ bracket (vec s) (vec t) (vec 
     k = neg_ℤ (bracket (vec s) (vec t) (vec v));
     l = bracket (vec s) (vec t) (vec u);
     n = pos 1;
-    k_allowed = negated (bracket (vec s) (vec t) (vec v)) right_v;
+    k_allowed = negation_is_positive (bracket (vec s) (vec t) (vec v)) right_v;
     l_allowed = left_u;
     positive = record { lt = tt };
     x = one_times meeting_point.x;
@@ -153,17 +147,11 @@ module _ (s t u v : Fraction) (left_u : pos 0 <ℤ bracket (vec s) (vec t) (vec 
           both x y m o z e h k r f g = omega (arith, ints)
 
   strict_signs : AreOpposite (bracket (vec u) (vec v) (vec s)) (bracket (vec u) (vec v) (vec t)) → (pos 0 <ℤ bracket (vec u) (vec v) (vec t)) × (pos 0 <ℤ neg_ℤ (bracket (vec u) (vec v) (vec s)))
-  strict_signs (inl h) = (h.1, negated (bracket (vec u) (vec v) (vec s)) h.0)
-  strict_signs (inr h) = absurd (no_weight (below_most (bracket (vec u) (vec v) (vec t)) h.1) (weak h.0))
-    where
-      below_most : (z : ℤ) → z <ℤ pos 0 → z ≤ℤ pos 0
-      below_most z h = omega (arith, ints)
+  strict_signs (inl h) = (h.1, negation_is_positive (bracket (vec u) (vec v) (vec s)) h.0)
+  strict_signs (inr h) = absurd (no_weight (negative_is_not_positive (bracket (vec u) (vec v) (vec t)) h.1) (weak h.0))
 
   weak_signs : AreParted (bracket (vec u) (vec v) (vec s)) (bracket (vec u) (vec v) (vec t)) → (pos 0 ≤ℤ bracket (vec u) (vec v) (vec t)) × (pos 0 ≤ℤ neg_ℤ (bracket (vec u) (vec v) (vec s)))
-  weak_signs (inl h) = (h.1, negated_weak (bracket (vec u) (vec v) (vec s)) h.0)
-    where
-      negated_weak : (z : ℤ) → z ≤ℤ pos 0 → pos 0 ≤ℤ neg_ℤ z
-      negated_weak z h = omega (arith, ints)
+  weak_signs (inl h) = (h.1, negation_not_negative (bracket (vec u) (vec v) (vec s)) h.0)
   weak_signs (inr h) = absurd (no_weight h.1 h.0)
 
   cross_there : AreOpposite (bracket (vec u) (vec v) (vec s)) (bracket (vec u) (vec v) (vec t)) → Cross s t u v
@@ -259,9 +247,6 @@ abbrev either : ℤ → ℤ → ℕ → ℤ
 either a b zero = a
 either a b (suc i) = b
 
-nonneg_sum : (a b : ℤ) → pos 0 ≤ℤ a → pos 0 ≤ℤ b → pos 0 ≤ℤ (a +ℤ b)
-nonneg_sum a b h k = omega (arith, ints)
-
 -- so the first end of the first segment is their only common point, if there is one only
 only_start : (s t u v at : Fraction) → ¬ IsSame u v → bracket (vec u) (vec v) (vec s) ≡ pos 0 → WithinSegment u v at → MeetAt s t u v at → IsSame s at
 only_start s t u v at apart on_s within m =
@@ -276,7 +261,7 @@ only_start s t u v at apart on_s within m =
       x = (N.0 *ℤ f.n) *ℤ at.x +ℤ g.n *ℤ s.x;
       y = (N.0 *ℤ f.n) *ℤ at.y +ℤ g.n *ℤ s.y;
       w = (N.0 *ℤ f.n) *ℤ at.w +ℤ g.n *ℤ s.w;
-      positive = positive_sum ((N.0 *ℤ f.n) *ℤ at.w) (g.n *ℤ s.w) (mul-pos_ℤ factor at.positive) (mul-pos_ℤ g.positive s.positive);
+      positive = sum_is_positive ((N.0 *ℤ f.n) *ℤ at.w) (g.n *ℤ s.w) (mul-pos_ℤ factor at.positive) (mul-pos_ℤ g.positive s.positive);
     } in
     let on_second : OnSegment u v z = mean_of_two IsNotNegative u v z (record {
       k = N.0 *ℤ f.k +ℤ g.k;
@@ -293,7 +278,7 @@ only_start s t u v at apart on_s within m =
       k = (N.0 *ℤ f.n) *ℤ o.k +ℤ o.n *ℤ g.n;
       l = (N.0 *ℤ f.n) *ℤ o.l;
       n = o.n;
-      k_allowed = nonneg_sum ((N.0 *ℤ f.n) *ℤ o.k) (o.n *ℤ g.n) (mul-nonneg_ℤ (weak factor) o.k_allowed) (weak (mul-pos_ℤ o.positive g.positive));
+      k_allowed = sum_not_negative ((N.0 *ℤ f.n) *ℤ o.k) (o.n *ℤ g.n) (mul-nonneg_ℤ (weak factor) o.k_allowed) (weak (mul-pos_ℤ o.positive g.positive));
       l_allowed = mul-nonneg_ℤ (weak factor) o.l_allowed;
       positive = o.positive;
       x = blend_on_first N.0 f.n g.n o.k o.l o.n s.x t.x at.x o.x;
@@ -313,11 +298,8 @@ turned_first s t u v at m = record { first = turned_mean_of_two IsNotNegative s 
 not_on_one_line : (s t u v at : Fraction) → ¬ IsSame s t → ¬ IsSame u v → WithinSegment u v at → MeetAt s t u v at → bracket (vec s) (vec t) (vec u) ≡ pos 0 → bracket (vec s) (vec t) (vec v) ≡ pos 0 → ⊥
 not_on_one_line s t u v at apart apart' within m on_u on_v =
     let start = only_start s t u v at apart' (first_on_second s t u v apart on_u on_v) within m in
-    let end = only_start t s u v at apart' (first_on_second t s u v (λ e. apart (same-sym t s e)) (swapped_zero (bracket (vec t) (vec s) (vec u)) (bracket (vec s) (vec t) (vec u)) (bracket-swap (vec t) (vec s) (vec u)) on_u) (swapped_zero (bracket (vec t) (vec s) (vec v)) (bracket (vec s) (vec t) (vec v)) (bracket-swap (vec t) (vec s) (vec v)) on_v)) within (turned_first s t u v at m) in
+    let end = only_start t s u v at apart' (first_on_second t s u v (λ e. apart (same-sym t s e)) (opposite_of_zero (bracket (vec t) (vec s) (vec u)) (bracket (vec s) (vec t) (vec u)) (bracket-swap (vec t) (vec s) (vec u)) on_u) (opposite_of_zero (bracket (vec t) (vec s) (vec v)) (bracket (vec s) (vec t) (vec v)) (bracket-swap (vec t) (vec s) (vec v)) on_v)) within (turned_first s t u v at m) in
     apart (same-trans s at t start (same-sym t at end))
-  where
-    swapped_zero : (z y : ℤ) → z ≡ neg_ℤ y → y ≡ pos 0 → z ≡ pos 0
-    swapped_zero z y e h = omega (arith, ints)
 
 -- ---- from the meeting to the signs
 opposite_if : (k l a b : ℤ) → pos 0 <ℤ k → pos 0 <ℤ l → k *ℤ a +ℤ l *ℤ b ≡ pos 0 → ((a ≡ pos 0) → (b ≡ pos 0) → ⊥) → AreOpposite a b
@@ -332,25 +314,16 @@ opposite_if k l a b h i e n = go (sign a) (sign b)
     turned : (x y : ℤ) → x +ℤ y ≡ pos 0 → y +ℤ x ≡ pos 0
     turned x y e = omega (arith, ints)
 
-    zero_least : (x : ℤ) → x ≡ pos 0 → pos 0 ≤ℤ x
-    zero_least x e = omega (arith, ints)
-
-    zero_most : (x : ℤ) → x ≡ pos 0 → x ≤ℤ pos 0
-    zero_most x e = omega (arith, ints)
-
-    below_most : (x : ℤ) → x <ℤ pos 0 → x ≤ℤ pos 0
-    below_most x h = omega (arith, ints)
-
     go : Sign a → Sign b → AreOpposite a b
     go (below p) (above q) = inl (p, q)
     go (above p) (below q) = inr (p, q)
     go (none p) (none q) = absurd (n p q)
-    go (below p) (below q) = absurd (balanced_below (k *ℤ a) (l *ℤ b) e (mul-neg_of_pos_neg_ℤ h p) (below_most (l *ℤ b) (mul-neg_of_pos_neg_ℤ i q)))
-    go (below p) (none q) = absurd (balanced_below (k *ℤ a) (l *ℤ b) e (mul-neg_of_pos_neg_ℤ h p) (zero_most (l *ℤ b) (zero-mul_ℤ l q)))
-    go (none p) (below q) = absurd (balanced_below (l *ℤ b) (k *ℤ a) (turned (k *ℤ a) (l *ℤ b) e) (mul-neg_of_pos_neg_ℤ i q) (zero_most (k *ℤ a) (zero-mul_ℤ k p)))
+    go (below p) (below q) = absurd (balanced_below (k *ℤ a) (l *ℤ b) e (mul-neg_of_pos_neg_ℤ h p) (negative_is_not_positive (l *ℤ b) (mul-neg_of_pos_neg_ℤ i q)))
+    go (below p) (none q) = absurd (balanced_below (k *ℤ a) (l *ℤ b) e (mul-neg_of_pos_neg_ℤ h p) (zero_is_not_positive (l *ℤ b) (zero-mul_ℤ l q)))
+    go (none p) (below q) = absurd (balanced_below (l *ℤ b) (k *ℤ a) (turned (k *ℤ a) (l *ℤ b) e) (mul-neg_of_pos_neg_ℤ i q) (zero_is_not_positive (k *ℤ a) (zero-mul_ℤ k p)))
     go (above p) (above q) = absurd (balanced (k *ℤ a) (l *ℤ b) e (mul-pos_ℤ h p) (weak (mul-pos_ℤ i q)))
-    go (above p) (none q) = absurd (balanced (k *ℤ a) (l *ℤ b) e (mul-pos_ℤ h p) (zero_least (l *ℤ b) (zero-mul_ℤ l q)))
-    go (none p) (above q) = absurd (balanced (l *ℤ b) (k *ℤ a) (turned (k *ℤ a) (l *ℤ b) e) (mul-pos_ℤ i q) (zero_least (k *ℤ a) (zero-mul_ℤ k p)))
+    go (above p) (none q) = absurd (balanced (k *ℤ a) (l *ℤ b) e (mul-pos_ℤ h p) (zero_is_not_negative (l *ℤ b) (zero-mul_ℤ l q)))
+    go (none p) (above q) = absurd (balanced (l *ℤ b) (k *ℤ a) (turned (k *ℤ a) (l *ℤ b) e) (mul-pos_ℤ i q) (zero_is_not_negative (k *ℤ a) (zero-mul_ℤ k p)))
 
 parted_if : (a b : ℤ) → (pos 0 <ℤ a → pos 0 <ℤ b → ⊥) → (a <ℤ pos 0 → b <ℤ pos 0 → ⊥) → AreParted a b
 parted_if a b n m = go (sign a) (sign b)

@@ -11,6 +11,7 @@ use Rattle.plane.proofs.Solver.{Poly, num, ◌⊕◌, ◌⊖◌, ◌⊗◌, ring
 use Rattle.plane.proofs.Bracket.{vec, bracket, Vec3ᵖ, bracketᵖ, vec3}
 use Rattle.plane.proofs.Means.{TwoWeights, two_weights, mean_of_two, weak_two}
 use Rattle.plane.proofs.Lines.{bracket_of_line}
+use Rattle.plane.proofs.Signs.{negative_is_not_zero, not_negative_plus_positive, positive_plus_not_negative}
 
 -- ---- one and the same point
 difference_zero : (a b : ℤ) → a ≡ b → b -ℤ a ≡ pos 0
@@ -82,7 +83,7 @@ pub on_of_within : (u v p : Fraction) → WithinSegment u v p → OnSegment u v 
 on_of_within u v p h = mean_of_two IsNotNegative u v p (weak_two u v p (two_weights IsPositive u v p h))
 
 -- ---- the ends
-start_part : (a b : ℤ) → pos 1 *ℤ a ≡ pos 1 *ℤ a +ℤ pos 0 *ℤ b
+pub start_part : (a b : ℤ) → pos 1 *ℤ a ≡ pos 1 *ℤ a +ℤ pos 0 *ℤ b
 start_part a b = ring_in (a ∷ b ∷ []) (λ a b. num 1 ⊗ a) (λ a b. num 1 ⊗ a ⊕ num 0 ⊗ b) tt
 
 end_part : (a b : ℤ) → pos 1 *ℤ b ≡ pos 0 *ℤ a +ℤ pos 1 *ℤ b
@@ -167,30 +168,21 @@ pub reach-start : (u v : Fraction) → reach u v u ≡ pos 0
 unfolding reach
 reach-start u v = ring_over vec3 [] (vec u ∷ vec v ∷ []) (λ u v. reachᵖ u v u) (λ u v. num 0) tt
 
-sum_first : (a b : ℤ) → pos 0 <ℤ a → pos 0 ≤ℤ b → pos 0 <ℤ (a +ℤ b)
-sum_first a b h k = omega (arith, ints)
-
-sum_second : (a b : ℤ) → pos 0 ≤ℤ a → pos 0 <ℤ b → pos 0 <ℤ (a +ℤ b)
-sum_second a b h k = omega (arith, ints)
-
-not_zero_below : (z : ℤ) → z <ℤ pos 0 → ¬ (z ≡ pos 0)
-not_zero_below z h e = omega (arith, ints)
-
 -- the way between different points has a length
 pub reach-end : (u v : Fraction) → ¬ IsSame u v → pos 0 <ℤ reach u v v
 unfolding reach
 reach-end u v n = go (sign (run u v)) (sign (rise u v))
   where
     by_run : ¬ (run u v ≡ pos 0) → pos 0 <ℤ (run u v *ℤ run u v +ℤ rise u v *ℤ rise u v)
-    by_run k = sum_first (run u v *ℤ run u v) (rise u v *ℤ rise u v) (square-pos_ℤ k) (square-nonneg_ℤ (rise u v))
+    by_run k = positive_plus_not_negative (run u v *ℤ run u v) (rise u v *ℤ rise u v) (square-pos_ℤ k) (square-nonneg_ℤ (rise u v))
 
     by_rise : ¬ (rise u v ≡ pos 0) → pos 0 <ℤ (run u v *ℤ run u v +ℤ rise u v *ℤ rise u v)
-    by_rise k = sum_second (run u v *ℤ run u v) (rise u v *ℤ rise u v) (square-nonneg_ℤ (run u v)) (square-pos_ℤ k)
+    by_rise k = not_negative_plus_positive (run u v *ℤ run u v) (rise u v *ℤ rise u v) (square-nonneg_ℤ (run u v)) (square-pos_ℤ k)
 
     go : Sign (run u v) → Sign (rise u v) → pos 0 <ℤ (run u v *ℤ run u v +ℤ rise u v *ℤ rise u v)
-    go (below h) s = by_run (not_zero_below (run u v) h)
+    go (below h) s = by_run (negative_is_not_zero (run u v) h)
     go (above h) s = by_run (pos-ne-zero_ℤ h)
-    go (none h) (below k) = by_rise (not_zero_below (rise u v) k)
+    go (none h) (below k) = by_rise (negative_is_not_zero (rise u v) k)
     go (none h) (above k) = by_rise (pos-ne-zero_ℤ k)
     go (none h) (none k) = absurd (n ((same_is_no_way u v).1 (h, k)))
 

@@ -11,6 +11,7 @@ use Rattle.plane.specs.Laws.{turn_at, lifted_determinant}
 use Rattle.plane.proofs.BracketIdentities.{bracket-affine}
 use Rattle.plane.proofs.Sides.{left_if, on_if}
 use Rattle.plane.proofs.Circles.{inside_is_determinant, on_is_determinant}
+use Rattle.plane.proofs.Solver.{and_l, and_r}
 
 -- ---- a table, and what it says
 -- left-turning triples of sites with one circle, by index, and the sites inside it
@@ -84,14 +85,6 @@ abbrev are_on : List Point → List (ℕ × ℕ × ℕ) → Bool
 are_on points [] = true
 are_on points (t ∷ ts) = is_zero (turn_at (site points t.0) (site points t.1) (site points t.2)) && are_on points ts
 
-both_l : (a b : Bool) → T (a && b) → T a
-both_l true b t = tt
-both_l false b t = t
-
-both_r : (a b : Bool) → T (a && b) → T b
-both_r true b t = t
-both_r false b t = absurd t
-
 not_both : (b : Bool) → T (not b) → T b → ⊥
 not_both true n t = n
 not_both false n t = t
@@ -119,10 +112,10 @@ sites_by : (l : Line) (u v p : Point) (k : ℕ) (qs : List Point) → TurnsLeft 
 sites_by l u v p k [] turns t = tt
 sites_by l u v p k (q ∷ qs) turns t =
     let d = lifted_determinant u v p q in
-    let rest = both_r (same (member k l.1) (lt_z (pos 0) d)) (same (is_corner k l.0) (is_zero d) && sites_hold l u v p (suc k) qs) t in (
-      above_answer (member k l.1) d (inside_is_determinant u v p q turns) (both_l (same (member k l.1) (lt_z (pos 0) d)) (same (is_corner k l.0) (is_zero d) && sites_hold l u v p (suc k) qs) t),
-      zero_answer (is_corner k l.0) d (on_is_determinant u v p q turns) (both_l (same (is_corner k l.0) (is_zero d)) (sites_hold l u v p (suc k) qs) rest),
-      sites_by l u v p (suc k) qs turns (both_r (same (is_corner k l.0) (is_zero d)) (sites_hold l u v p (suc k) qs) rest),
+    let rest = and_r (same (member k l.1) (lt_z (pos 0) d)) (same (is_corner k l.0) (is_zero d) && sites_hold l u v p (suc k) qs) t in (
+      above_answer (member k l.1) d (inside_is_determinant u v p q turns) (and_l (same (member k l.1) (lt_z (pos 0) d)) (same (is_corner k l.0) (is_zero d) && sites_hold l u v p (suc k) qs) t),
+      zero_answer (is_corner k l.0) d (on_is_determinant u v p q turns) (and_l (same (is_corner k l.0) (is_zero d)) (sites_hold l u v p (suc k) qs) rest),
+      sites_by l u v p (suc k) qs turns (and_r (same (is_corner k l.0) (is_zero d)) (sites_hold l u v p (suc k) qs) rest),
     )
 
 triples_by : (sites : List Point) (l : Line) (ts : List (ℕ × ℕ × ℕ)) → T (triples_hold sites l ts) → TriplesHold sites l ts
@@ -131,25 +124,25 @@ triples_by sites l (c ∷ ts) t =
     let u = site sites c.0 in
     let v = site sites c.1 in
     let p = site sites c.2 in
-    let turns = left_by u v p (both_l (lt_z (pos 0) (turn_at u v p)) (sites_hold l u v p 0 sites && triples_hold sites l ts) t) in
-    let rest = both_r (lt_z (pos 0) (turn_at u v p)) (sites_hold l u v p 0 sites && triples_hold sites l ts) t in
-    (turns, sites_by l u v p 0 sites turns (both_l (sites_hold l u v p 0 sites) (triples_hold sites l ts) rest), triples_by sites l ts (both_r (sites_hold l u v p 0 sites) (triples_hold sites l ts) rest))
+    let turns = left_by u v p (and_l (lt_z (pos 0) (turn_at u v p)) (sites_hold l u v p 0 sites && triples_hold sites l ts) t) in
+    let rest = and_r (lt_z (pos 0) (turn_at u v p)) (sites_hold l u v p 0 sites && triples_hold sites l ts) t in
+    (turns, sites_by l u v p 0 sites turns (and_l (sites_hold l u v p 0 sites) (triples_hold sites l ts) rest), triples_by sites l ts (and_r (sites_hold l u v p 0 sites) (triples_hold sites l ts) rest))
 
 table_by : (sites : List Point) (ls : List Line) → T (table_holds sites ls) → TableHolds sites ls
 table_by sites [] t = tt
-table_by sites (l ∷ ls) t = (triples_by sites l l.0 (both_l (triples_hold sites l l.0) (table_holds sites ls) t), table_by sites ls (both_r (triples_hold sites l l.0) (table_holds sites ls) t))
+table_by sites (l ∷ ls) t = (triples_by sites l l.0 (and_l (triples_hold sites l l.0) (table_holds sites ls) t), table_by sites ls (and_r (triples_hold sites l l.0) (table_holds sites ls) t))
 
 turn_left_by : (points : List Point) (ts : List (ℕ × ℕ × ℕ)) → T (turn_left points ts) → TurnLeft points ts
 turn_left_by points [] t = tt
 turn_left_by points (c ∷ ts) t =
     let first = lt_z (pos 0) (turn_at (site points c.0) (site points c.1) (site points c.2)) in
-    (left_by (site points c.0) (site points c.1) (site points c.2) (both_l first (turn_left points ts) t), turn_left_by points ts (both_r first (turn_left points ts) t))
+    (left_by (site points c.0) (site points c.1) (site points c.2) (and_l first (turn_left points ts) t), turn_left_by points ts (and_r first (turn_left points ts) t))
 
 are_on_by : (points : List Point) (ts : List (ℕ × ℕ × ℕ)) → T (are_on points ts) → AreOn points ts
 are_on_by points [] t = tt
 are_on_by points (c ∷ ts) t =
     let first = is_zero (turn_at (site points c.0) (site points c.1) (site points c.2)) in
-    (on_by (site points c.0) (site points c.1) (site points c.2) (both_l first (are_on points ts) t), are_on_by points ts (both_r first (are_on points ts) t))
+    (on_by (site points c.0) (site points c.1) (site points c.2) (and_l first (are_on points ts) t), are_on_by points ts (and_r first (are_on points ts) t))
 
 -- ---- sheet G and sheet B: nine points of a grid of the given unit, row by row from below, named a to i
 abbrev point : ℤ → ℤ → Point

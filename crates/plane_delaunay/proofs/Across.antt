@@ -7,7 +7,7 @@ use mathlib.Core.Logic.{◌⊎◌, inl, inr}
 use native.Mathlib.Omega.{arith}
 use borrow.Author.Differences.{ints}
 use Rattle.plane_delaunay.proofs.Numbers.{swapped_sum}
-use Rattle.plane.proofs.Steps.{weak, zero_weak_left, left_not_zero, negated_left, negated_right, product_zero_left}
+use Rattle.plane.proofs.Steps.{weak, zero_weak_left, left_not_zero, negated_left, negated_right, product_zero_left, sum_first_two}
 use Rattle.plane.proofs.IntegerLaws.{neg-mul_ℤ}
 use Rattle.plane.proofs.IntegerOrder.{mul-pos_ℤ, mul-nonneg_ℤ, pos_of_mul-pos_ℤ, zero_of_mul-zero_ℤ, pos-ne-zero_ℤ, mul-neg_of_pos_neg_ℤ, mul-nonpos_of_nonneg_nonpos_ℤ, lt_or_ge_ℤ, sign, below, none, above, neg-pos_ℤ, zero-mul_ℤ}
 use Rattle.plane_delaunay.proofs.Bracket.{bracket, bracket-turned, bracket-swapped, bracket-first, bracket-second, meeting, meeting-w, cramer}
@@ -49,9 +49,6 @@ outer_between a b v w on right h k = record {
   along = λ s t. outer_sum (bracket a b v) (bracket s t w) (bracket a b w) (bracket s t v) (bracket v w b) (bracket s t a) (bracket v w a) (bracket s t b) on (meeting a b w v s t);
 }
 
-inner_sum : (d a b c : ℤ) → d ≡ a +ℤ b +ℤ c → c ≡ pos 0 → d ≡ a +ℤ b
-inner_sum d a b c e h = omega (arith, ints)
-
 pub inner_between : (u v w a : Fraction) → pos 0 <ℤ bracket u v w → bracket u v a ≡ pos 0 → pos 0 <ℤ bracket v w a → pos 0 <ℤ bracket w u a → Between u v a
 inner_between u v w a t on h k = record {
   n = bracket u v w;
@@ -60,7 +57,7 @@ inner_between u v w a t on h k = record {
   n_above = t;
   k_above = h;
   l_above = k;
-  along = λ r s. inner_sum (bracket u v w *ℤ bracket r s a) (bracket v w a *ℤ bracket r s u) (bracket w u a *ℤ bracket r s v) (bracket u v a *ℤ bracket r s w) (cramer u v w a r s) (product_zero_left (bracket r s w) on);
+  along = λ r s. sum_first_two (bracket u v w *ℤ bracket r s a) (bracket v w a *ℤ bracket r s u) (bracket w u a *ℤ bracket r s v) (bracket u v a *ℤ bracket r s w) (cramer u v w a r s) (product_zero_left (bracket r s w) on);
 }
 
 -- the weights of whole points

@@ -11,11 +11,12 @@ use Rattle.plane.proofs.Means.{TwoWeights, two_weights, mean_of_two, bracket_of_
 use Rattle.plane.proofs.Nearer.{same_not_nearer}
 use Rattle.plane.proofs.Bracket.{vec, vec3, bracket, bracketᵖ}
 use Rattle.plane.proofs.Solver.{num, ◌⊕◌, ◌⊖◌, ◌⊗◌, ring_in, ring_over_from, ring_in_from}
-use Rattle.plane.proofs.Steps.{weak, weak_right, zero_weak, zero_weak_left, product_zero_left}
+use Rattle.plane.proofs.Steps.{weak, weak_right, zero_weak, zero_weak_left, product_zero_left, no_difference}
 use Rattle.plane.proofs.IntegerOrder.{mul-pos_ℤ, mul-nonneg_ℤ, mul_cancel_ℤ, pos-ne-zero_ℤ, lt_of_mul-lt-mul_ℤ, trichotomy_ℤ, pos_of_mul-pos_ℤ, nonneg_of_mul-nonneg_ℤ, zero_of_mul-zero_ℤ, mul-nonpos_of_nonneg_nonpos_ℤ, le_of_mul-le-mul_ℤ, zero-mul_ℤ}
 use Rattle.plane.proofs.Segments.{reach, reach-end, on_segment_is, same-sym, same-trans, only_point, on_segment-same, start_on_segment, reach-start, reach_of_two, runᵖ, riseᵖ, reachᵖ, weights_x, weights_y}
 use Rattle.plane.specs.Fraction.{Fraction, IsSame, OnSegment, IsNotNegative, IsPositive, WithinSegment}
 use Rattle.plane.specs.Circle.{gap, IsNearer}
+use Rattle.plane.proofs.Signs.{at_most_by_difference_to, difference_not_negative, less_both_ways, less_by_difference, less_by_negative_difference, more_by_difference, negated_not_negative, one_times_sum, sum_not_negative_of, sum_of_zeros, zero_below_positive}
 
 -- the squared distance from the start, by how far the point is on the way
 gap-reach : (p q x : Fraction) → bracket (vec p) (vec q) (vec x) ≡ pos 0 → reach p q q *ℤ gap p x ≡ reach p q x *ℤ reach p q x
@@ -80,43 +81,24 @@ module _ (p q : Fraction) (apart : ¬ IsSame p q) where
   pub placed : (x y : Fraction) → OnSegment p q x → OnSegment p q y → Placed p x y
   placed x y hx hy = go (trichotomy_ℤ (reach p q x *ℤ y.w -ℤ reach p q y *ℤ x.w))
     where
-      less : (a b : ℤ) → (a -ℤ b) <ℤ pos 0 → a <ℤ b
-      less a b h = omega (arith, ints)
-
-      equal : (a b : ℤ) → a -ℤ b ≡ pos 0 → a ≡ b
-      equal a b h = omega (arith, ints)
-
-      more : (a b : ℤ) → pos 0 <ℤ (a -ℤ b) → b <ℤ a
-      more a b h = omega (arith, ints)
 
       go : ((reach p q x *ℤ y.w -ℤ reach p q y *ℤ x.w) <ℤ pos 0) ⊎ ((reach p q x *ℤ y.w -ℤ reach p q y *ℤ x.w ≡ pos 0) ⊎ (pos 0 <ℤ (reach p q x *ℤ y.w -ℤ reach p q y *ℤ x.w))) → Placed p x y
-      go (inl h) = sooner (nearer_if x y hx hy (less _ _ h))
-      go (inr (inl e)) = as_soon (same_if x y hx hy (equal _ _ e))
-      go (inr (inr h)) = later (nearer_if y x hy hx (more _ _ h))
+      go (inl h) = sooner (nearer_if x y hx hy (less_by_negative_difference _ _ h))
+      go (inr (inl e)) = as_soon (same_if x y hx hy (no_difference _ _ e))
+      go (inr (inr h)) = later (nearer_if y x hy hx (more_by_difference _ _ h))
 
   pub not_both_nearer : (x y : Fraction) → IsNearer p x y → ¬ IsNearer p y x
-  not_both_nearer x y h k = both _ _ h.nearer k.nearer
-    where
-      both : (a b : ℤ) → a <ℤ b → b <ℤ a → ⊥
-      both a b h k = omega (arith, ints)
+  not_both_nearer x y h k = less_both_ways _ _ h.nearer k.nearer
 
   -- what is nearer is less far on the way
   pub reach_less : (x y : Fraction) → OnSegment p q x → OnSegment p q y → IsNearer p x y → (reach p q x *ℤ y.w) <ℤ (reach p q y *ℤ x.w)
   reach_less x y hx hy near = go (trichotomy_ℤ (reach p q x *ℤ y.w -ℤ reach p q y *ℤ x.w))
     where
-      less : (a b : ℤ) → (a -ℤ b) <ℤ pos 0 → a <ℤ b
-      less a b h = omega (arith, ints)
-
-      equal : (a b : ℤ) → a -ℤ b ≡ pos 0 → a ≡ b
-      equal a b h = omega (arith, ints)
-
-      more : (a b : ℤ) → pos 0 <ℤ (a -ℤ b) → b <ℤ a
-      more a b h = omega (arith, ints)
 
       go : ((reach p q x *ℤ y.w -ℤ reach p q y *ℤ x.w) <ℤ pos 0) ⊎ ((reach p q x *ℤ y.w -ℤ reach p q y *ℤ x.w ≡ pos 0) ⊎ (pos 0 <ℤ (reach p q x *ℤ y.w -ℤ reach p q y *ℤ x.w))) → (reach p q x *ℤ y.w) <ℤ (reach p q y *ℤ x.w)
-      go (inl h) = less _ _ h
-      go (inr (inl e)) = absurd (same_not_nearer p x y (same_if x y hx hy (equal _ _ e)) near)
-      go (inr (inr h)) = absurd (not_both_nearer x y near (nearer_if y x hy hx (more _ _ h)))
+      go (inl h) = less_by_negative_difference _ _ h
+      go (inr (inl e)) = absurd (same_not_nearer p x y (same_if x y hx hy (no_difference _ _ e)) near)
+      go (inr (inr h)) = absurd (not_both_nearer x y near (nearer_if y x hy hx (more_by_difference _ _ h)))
 
 -- ---- numbers of two points near and far, n₁ near = a₁ u + b₁ v and n₂ far = a₂ u + b₂ v
 -- nearer to u: less of v
@@ -162,12 +144,6 @@ before_last n a b f fu fv w uw vw e d = ring_in_from (n ∷ a ∷ b ∷ f ∷ fu
 pub above_difference : (a b : ℤ) → a <ℤ b → pos 0 <ℤ (b -ℤ a)
 above_difference a b h = omega (arith, ints)
 
-below_of_difference : (a b : ℤ) → pos 0 <ℤ (b -ℤ a) → a <ℤ b
-below_of_difference a b h = omega (arith, ints)
-
-at_most_of_difference : (a b : ℤ) → pos 0 ≤ℤ (b -ℤ a) → a ≤ℤ b
-at_most_of_difference a b h = omega (arith, ints)
-
 -- one point is as far on the way as itself
 reach-same : (p q x y : Fraction) → IsSame x y → reach p q x *ℤ y.w ≡ reach p q y *ℤ x.w
 unfolding reach
@@ -178,12 +154,9 @@ reach-same p q x y e = ring_over_from vec3 [] (vec p ∷ vec q ∷ vec x ∷ vec
 less_past : (rn rf rv rx wn wf wv wx : ℤ) → (rn *ℤ wf) <ℤ (rf *ℤ wn) → (rf *ℤ wv) ≤ℤ (rv *ℤ wf) → rx *ℤ wv ≡ rv *ℤ wx → pos 0 <ℤ wn → pos 0 <ℤ wf → pos 0 <ℤ wv → pos 0 <ℤ wx → (rn *ℤ wx) <ℤ (rx *ℤ wn)
 less_past rn rf rv rx wn wf wv wx h i e hn hf hv hx = lt_of_mul-lt-mul_ℤ {k = wf *ℤ wv} (mul-pos_ℤ {a = wf} {b = wv} hf hv)
     (let p = mul-pos_ℤ {a = wv *ℤ wx} {b = rf *ℤ wn -ℤ rn *ℤ wf} (mul-pos_ℤ {a = wv} {b = wx} hv hx) (above_difference _ _ h) in
-    let s = mul-nonneg_ℤ {a = wn *ℤ wx} {b = rv *ℤ wf -ℤ rf *ℤ wv} (weak (mul-pos_ℤ {a = wn} {b = wx} hn hx)) (least _ _ i) in
-    below_of_difference _ _ (subst (λ z. pos 0 <ℤ z) (sums rn rf rv rx wn wf wv wx e) (both p s)))
+    let s = mul-nonneg_ℤ {a = wn *ℤ wx} {b = rv *ℤ wf -ℤ rf *ℤ wv} (weak (mul-pos_ℤ {a = wn} {b = wx} hn hx)) (difference_not_negative _ _ i) in
+    less_by_difference _ _ (subst (λ z. pos 0 <ℤ z) (sums rn rf rv rx wn wf wv wx e) (both p s)))
   where
-    least : (a b : ℤ) → a ≤ℤ b → pos 0 ≤ℤ (b -ℤ a)
-    least a b h = omega (arith, ints)
-
     both : {a b : ℤ} → pos 0 <ℤ a → pos 0 ≤ℤ b → pos 0 <ℤ (a +ℤ b)
     both h k = omega (arith, ints)
 
@@ -208,13 +181,8 @@ not_less a b h k = omega (arith, ints)
 -- from near, that u is before, to u
 still_before : (ru rn uw nw qw l : ℤ) → (ru *ℤ nw) ≤ℤ (rn *ℤ uw) → (rn *ℤ qw) ≤ℤ (l *ℤ nw) → pos 0 <ℤ nw → pos 0 <ℤ uw → pos 0 <ℤ qw → (ru *ℤ qw) ≤ℤ (l *ℤ uw)
 still_before ru rn uw nw qw l h i hn hu hq = le_of_mul-le-mul_ℤ {k = nw} hn
-    (let p = mul-nonneg_ℤ {a = qw} {b = rn *ℤ uw -ℤ ru *ℤ nw} (weak hq) (least _ _ h) in let r = mul-nonneg_ℤ {a = uw} {b = l *ℤ nw -ℤ rn *ℤ qw} (weak hu) (least _ _ i) in let e = sums ru rn uw nw qw l in at_most_of_difference _ _ (subst (λ z. pos 0 ≤ℤ z) e (both p r)))
+    (let p = mul-nonneg_ℤ {a = qw} {b = rn *ℤ uw -ℤ ru *ℤ nw} (weak hq) (difference_not_negative _ _ h) in let r = mul-nonneg_ℤ {a = uw} {b = l *ℤ nw -ℤ rn *ℤ qw} (weak hu) (difference_not_negative _ _ i) in let e = sums ru rn uw nw qw l in at_most_by_difference_to _ _ (subst (λ z. pos 0 ≤ℤ z) e (sum_not_negative_of p r)))
   where
-    least : (a b : ℤ) → a ≤ℤ b → pos 0 ≤ℤ (b -ℤ a)
-    least a b h = omega (arith, ints)
-
-    both : {a b : ℤ} → pos 0 ≤ℤ a → pos 0 ≤ℤ b → pos 0 ≤ℤ (a +ℤ b)
-    both h k = omega (arith, ints)
 
     sums : (ru rn uw nw qw l : ℤ) → qw *ℤ (rn *ℤ uw -ℤ ru *ℤ nw) +ℤ uw *ℤ (l *ℤ nw -ℤ rn *ℤ qw) ≡ nw *ℤ (l *ℤ uw) -ℤ nw *ℤ (ru *ℤ qw)
     sums ru rn uw nw qw l = ring_in (ru ∷ rn ∷ uw ∷ nw ∷ qw ∷ l ∷ []) (λ ru rn uw nw qw l. qw ⊗ (rn ⊗ uw ⊖ ru ⊗ nw) ⊕ uw ⊗ (l ⊗ nw ⊖ rn ⊗ qw)) (λ ru rn uw nw qw l. nw ⊗ (l ⊗ uw) ⊖ nw ⊗ (ru ⊗ qw)) tt
@@ -262,12 +230,12 @@ module _ (p q u v : Fraction) (o : OverlapAlong p q u v) where
 
   -- no point of the segment from u to v is before u
   pub not_before : (r : Fraction) → OnSegment u v r → (reach p q u *ℤ r.w) ≤ℤ (reach p q r *ℤ u.w)
-  not_before r h = let t = two_weights IsNotNegative u v r h in at_most_of_difference _ _ (nonneg_of_mul-nonneg_ℤ {k = t.n} t.positive
+  not_before r h = let t = two_weights IsNotNegative u v r h in at_most_by_difference_to _ _ (nonneg_of_mul-nonneg_ℤ {k = t.n} t.positive
       (subst (λ z. pos 0 ≤ℤ z) (sym (after_first t.n t.k t.l (reach p q r) (reach p q u) (reach p q v) r.w u.w v.w (reach_of_two IsNotNegative p q u v r t) t.w)) (mul-nonneg_ℤ t.l_allowed (weak before))))
 
   -- and none is past v
   pub not_past : (r : Fraction) → OnSegment u v r → (reach p q r *ℤ v.w) ≤ℤ (reach p q v *ℤ r.w)
-  not_past r h = let t = two_weights IsNotNegative u v r h in at_most_of_difference _ _ (nonneg_of_mul-nonneg_ℤ {k = t.n} t.positive
+  not_past r h = let t = two_weights IsNotNegative u v r h in at_most_by_difference_to _ _ (nonneg_of_mul-nonneg_ℤ {k = t.n} t.positive
       (subst (λ z. pos 0 ≤ℤ z) (sym (before_last t.n t.k t.l (reach p q r) (reach p q u) (reach p q v) r.w u.w v.w (reach_of_two IsNotNegative p q u v r t) t.w)) (mul-nonneg_ℤ t.k_allowed (weak before))))
 
   -- so an overlap does not begin at v
@@ -292,17 +260,11 @@ module _ (p q u v : Fraction) (o : OverlapAlong p q u v) where
             high : pos 0 <ℤ reach p q v
             high = above_last t₂.n (reach p q o.far) t₂.k (reach p q u) t₂.l (reach p q v) (reach_of_two IsNotNegative p q u v o.far t₂) t₂.positive far_reach t₂.k_allowed h t₂.l_allowed
 
-            weak_neg : {a : ℤ} → a ≤ℤ pos 0 → pos 0 ≤ℤ neg_ℤ a
-            weak_neg h = omega (arith, ints)
-
             positive : pos 0 <ℤ (reach p q v *ℤ u.w +ℤ neg_ℤ (reach p q u) *ℤ v.w)
-            positive = mix_positive (reach p q v) (neg_ℤ (reach p q u)) u.w v.w high (weak_neg h) u.positive v.positive
+            positive = mix_positive (reach p q v) (neg_ℤ (reach p q u)) u.w v.w high (negated_not_negative h) u.positive v.positive
 
             z : Fraction
             z = mixed (reach p q v) u (neg_ℤ (reach p q u)) v positive
-
-            once : (x y : ℤ) → pos 1 *ℤ (x +ℤ y) ≡ x +ℤ y
-            once x y = omega (arith, ints)
 
             one_time : (x : ℤ) → pos 1 *ℤ x ≡ pos 0 → x ≡ pos 0
             one_time x e = omega (arith, ints)
@@ -313,27 +275,21 @@ module _ (p q u v : Fraction) (o : OverlapAlong p q u v) where
               l = neg_ℤ (reach p q u);
               n = pos 1;
               k_allowed = weak high;
-              l_allowed = weak_neg h;
+              l_allowed = negated_not_negative h;
               positive = record { lt = tt };
-              x = once (reach p q v *ℤ u.x) (neg_ℤ (reach p q u) *ℤ v.x);
-              y = once (reach p q v *ℤ u.y) (neg_ℤ (reach p q u) *ℤ v.y);
-              w = once (reach p q v *ℤ u.w) (neg_ℤ (reach p q u) *ℤ v.w);
+              x = one_times_sum (reach p q v *ℤ u.x) (neg_ℤ (reach p q u) *ℤ v.x);
+              y = one_times_sum (reach p q v *ℤ u.y) (neg_ℤ (reach p q u) *ℤ v.y);
+              w = one_times_sum (reach p q v *ℤ u.w) (neg_ℤ (reach p q u) *ℤ v.w);
             }
 
             no_reach : reach p q z ≡ pos 0
             no_reach = one_time (reach p q z) (reach_of_two IsNotNegative p q u v z t ∙ lib.IntN.+ℤ_comm (reach p q v *ℤ reach p q u) (neg_ℤ (reach p q u) *ℤ reach p q v) ∙ own_line (reach p q v) (reach p q u))
 
             no_turn : bracket (vec p) (vec q) (vec z) ≡ pos 0
-            no_turn = one_time (bracket (vec p) (vec q) (vec z)) (bracket_of_two IsNotNegative (vec p) (vec q) u v z t ∙ nones _ _ (zero-mul_ℤ (reach p q v) on_line) (zero-mul_ℤ (neg_ℤ (reach p q u)) on_line_last))
-              where
-                nones : (a b : ℤ) → a ≡ pos 0 → b ≡ pos 0 → a +ℤ b ≡ pos 0
-                nones a b e d = omega (arith, ints)
+            no_turn = one_time (bracket (vec p) (vec q) (vec z)) (bracket_of_two IsNotNegative (vec p) (vec q) u v z t ∙ sum_of_zeros _ _ (zero-mul_ℤ (reach p q v) on_line) (zero-mul_ℤ (neg_ℤ (reach p q u)) on_line_last))
 
             z_on : OnSegment p q z
-            z_on = (on_segment_is p q z far_apart).1 (no_turn, zero_weak_left no_reach, at_most (reach p q z *ℤ q.w) (reach p q q *ℤ z.w) (product_zero_left q.w no_reach) (mul-pos_ℤ (reach-end p q far_apart) z.positive))
-              where
-                at_most : (a b : ℤ) → a ≡ pos 0 → pos 0 <ℤ b → a ≤ℤ b
-                at_most a b e h = omega (arith, ints)
+            z_on = (on_segment_is p q z far_apart).1 (no_turn, zero_weak_left no_reach, zero_below_positive (reach p q z *ℤ q.w) (reach p q q *ℤ z.w) (product_zero_left q.w no_reach) (mul-pos_ℤ (reach-end p q far_apart) z.positive))
 
             keys : reach p q z *ℤ p.w ≡ reach p q p *ℤ z.w
             keys = product_zero_left p.w no_reach ∙ sym (product_zero_left z.w (reach-start p q))

@@ -14,6 +14,7 @@ use Rattle.plane.specs.Fraction.{Point, Fraction, whole, IsNotNegative, OnSegmen
 use Rattle.plane.specs.Circle.{gap}
 use Rattle.plane.specs.Shape.{InClosedCircle}
 use Rattle.plane_delaunay.specs.EdgeTests.{distance_2, factor, MeetsCircle, HasPointIn}
+use Rattle.plane.proofs.Signs.{one_times_sum}
 
 -- ---- from the numbers to a point
 -- an end
@@ -43,11 +44,8 @@ module _ (c : Point) (r : ℤ) (p q : Point) where
 
   foot_on : (h : pos 0 <ℤ len) → pos 0 ≤ℤ f → f ≤ℤ len → OnSegment (whole p) (whole q) (foot h)
   unfolding foot
-  foot_on h i j = mean_of_two IsNotNegative (whole p) (whole q) (foot h) (record { k = len -ℤ f; l = f; n = pos 1; k_allowed = difference_least len f j; l_allowed = i; positive = record { lt = tt }; x = once ((len -ℤ f) *ℤ p.x) (f *ℤ q.x); y = once ((len -ℤ f) *ℤ p.y) (f *ℤ q.y); w = all len f })
+  foot_on h i j = mean_of_two IsNotNegative (whole p) (whole q) (foot h) (record { k = len -ℤ f; l = f; n = pos 1; k_allowed = difference_least len f j; l_allowed = i; positive = record { lt = tt }; x = one_times_sum ((len -ℤ f) *ℤ p.x) (f *ℤ q.x); y = one_times_sum ((len -ℤ f) *ℤ p.y) (f *ℤ q.y); w = all len f })
     where
-      once : (x y : ℤ) → pos 1 *ℤ (x +ℤ y) ≡ x +ℤ y
-      once x y = omega (arith, ints)
-
       all : (l f : ℤ) → pos 1 *ℤ l ≡ (l -ℤ f) *ℤ pos 1 +ℤ f *ℤ pos 1
       all l f = omega (arith, ints)
 

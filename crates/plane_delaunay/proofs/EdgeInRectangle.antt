@@ -8,7 +8,7 @@ use Rattle.plane.proofs.Segments.{start_on_segment, end_on_segment}
 use Rattle.plane.proofs.Bracket as B
 use Rattle.plane.proofs.Solver.{num, ◌⊕◌, ◌⊖◌, ◌⊗◌, ⊝, ring_in, ring_in_from, ring_over}
 use Rattle.plane.proofs.Steps.{weak, weak_right, right_not_above, left_not_zero, zero_weak_left}
-use Rattle.plane.proofs.IntegerOrder.{mul-pos_ℤ, mul-nonneg_ℤ, mul-nonpos_of_nonneg_nonpos_ℤ, mul-neg_of_pos_neg_ℤ, neg-pos_ℤ, lt_or_ge_ℤ}
+use Rattle.plane.proofs.IntegerOrder.{mul-pos_ℤ, mul-nonneg_ℤ, neg-pos_ℤ, lt_or_ge_ℤ}
 use Rattle.plane.proofs.Sides.{left_if, right_if, if_left, if_right}
 use Rattle.plane.proofs.Means.{TwoWeights, mean_of_two, two_weights}
 use Rattle.plane_delaunay.proofs.Numbers.{sum_weak, own_line, mix_positive}
@@ -19,6 +19,7 @@ use Rattle.plane.specs.Fraction.{Point, Fraction, whole, IsNotNegative}
 use Rattle.plane.specs.Side.{side, left, right}
 use Rattle.plane.specs.Shape.{InClosedRectangle}
 use Rattle.plane_delaunay.specs.EdgeTests.{AreCornersOn, MeetsRectangle, HasPointIn}
+use Rattle.plane.proofs.Signs.{difference_not_positive, negative_of_opposite}
 
 -- ---- how far a point is past a line across, or along
 abbrev past_x : ℤ → ℤ → Fraction → ℤ
@@ -197,10 +198,7 @@ least_end a x w low high h i = go (lt_or_ge_ℤ a (pos 0))
   where
     go : (a <ℤ pos 0) ⊎ (pos 0 ≤ℤ a) → (pos 0 ≤ℤ (a *ℤ (x -ℤ low *ℤ w))) ⊎ (pos 0 ≤ℤ (a *ℤ (x -ℤ high *ℤ w)))
     go (inr s) = inl (mul-nonneg_ℤ {a = a} {b = x -ℤ low *ℤ w} s (difference_least x (low *ℤ w) h))
-    go (inl s) = inr (Rattle.plane.proofs.IntegerOrder.mul-nonneg_of_nonpos_ℤ {a = a} {b = x -ℤ high *ℤ w} (weak_right s) (below_none x (high *ℤ w) i))
-      where
-        below_none : (x y : ℤ) → x ≤ℤ y → (x -ℤ y) ≤ℤ pos 0
-        below_none x y h = omega (arith, ints)
+    go (inl s) = inr (Rattle.plane.proofs.IntegerOrder.mul-nonneg_of_nonpos_ℤ {a = a} {b = x -ℤ high *ℤ w} (weak_right s) (difference_not_positive x (high *ℤ w) i))
 
 strictly : (n z k a l b w : ℤ) → n *ℤ z ≡ k *ℤ a +ℤ l *ℤ b → n *ℤ w ≡ k *ℤ pos 1 +ℤ l *ℤ pos 1 → pos 0 <ℤ n → pos 0 <ℤ w → pos 0 ≤ℤ k → pos 0 ≤ℤ l → a <ℤ pos 0 → b <ℤ pos 0 → z <ℤ pos 0
 strictly n z k a l b w e d hn hw hk hl ha hb = Rattle.plane.proofs.IntegerOrder.neg_of_mul-neg_ℤ {k = n} {x = z} hn
@@ -355,15 +353,12 @@ module _ (lower upper : Point) (wide : lower.x ≤ℤ upper.x) (high : lower.y �
         left_of : (z t : ℤ) → t ≡ neg_ℤ z → t <ℤ pos 0 → pos 0 <ℤ z
         left_of z t e h = omega (arith, ints)
 
-        right_of : (z t : ℤ) → t ≡ neg_ℤ z → pos 0 <ℤ t → z <ℤ pos 0
-        right_of z t e h = omega (arith, ints)
-
         go : (OneSide (whole p) (whole q)) ⊎ (OneSide (whole q) (whole p)) → ⊥
         go (inl o) = unit o.unit
           where
             unit : (o.sign ≡ pos 1) ⊎ (o.sign ≡ negsuc 0) → ⊥
             unit (inl e) = seen_left (λ k s. left_of _ _ (last_two (whole k)) (plus o.sign _ e (o.all k s)))
-            unit (inr e) = seen_right (λ k s. right_of _ _ (last_two (whole k)) (minus o.sign _ e (o.all k s)))
+            unit (inr e) = seen_right (λ k s. negative_of_opposite _ _ (last_two (whole k)) (minus o.sign _ e (o.all k s)))
         go (inr o) = unit o.unit
           where
             unit : (o.sign ≡ pos 1) ⊎ (o.sign ≡ negsuc 0) → ⊥

@@ -8,7 +8,7 @@ use Rattle.std.specs.Prelude.{◌≢◌, ℤ, pos, ◌<ℤ◌, ◌≤ℤ◌, ◌
 use Rattle.std.proofs.lemmas.Int.{ints}
 use Rattle.plane.proofs.Bracket.{vec}
 use Rattle.plane_delaunay.proofs.Numbers.{sum_above, sum_least, sum_none}
-use Rattle.plane.proofs.Steps.{weak, zero_weak_left, left_not_zero, right_not_above, left_not_below}
+use Rattle.plane.proofs.Steps.{weak, zero_weak_left, left_not_zero, right_not_above, left_not_below, zero_weak}
 use Rattle.plane.proofs.Solver.{num, ◌⊕◌, ◌⊖◌, ◌⊗◌, ⊝, ring_over, ring_in_from}
 use Rattle.plane.proofs.IntegerOrder.{mul-nonpos_of_nonneg_nonpos_ℤ, zero_of_mul-zero_ℤ, mul_cancel_ℤ, pos-ne-zero_ℤ, Sign, sign, below, none, above}
 use Rattle.plane_delaunay.proofs.Bracket.{fraction, bracket, bracketᵖ, bracket-turned, bracket-swapped, bracket-first, bracket-second, above_if_left, left_if_above}
@@ -308,10 +308,7 @@ module _ (t : Triangulation) (constraints : List (ℕ × ℕ)) (a b c : ℕ) (s 
   }
     where
       low : (n : ℕ) → IsVertex t n → IsSeen t constraints (vertex t a) (vertex t b) (vertex t c) (vertex t n) → IsOneOf a b c n ⊎ ((n ≢ a) × (n ≢ b) × (n ≢ c)) → lift (vertex t a) (vertex t b) (vertex t c) (vertex t n) ≤ℤ pos 0
-      low n v seen (inl o) = zero_most (corner_lift n o)
-        where
-          zero_most : {z : ℤ} → z ≡ pos 0 → z ≤ℤ pos 0
-          zero_most e = omega (arith, ints)
+      low n v seen (inl o) = zero_weak (corner_lift n o)
       low n v seen (inr d) = circle_lift t a b c n s.turns (s.clear n v d.0 d.1 d.2 seen).0
 
   -- a seen vertex that the circle carries is a corner

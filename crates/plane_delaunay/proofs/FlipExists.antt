@@ -10,7 +10,7 @@ use borrow.Author.Differences.{ints}
 use Rattle.plane_delaunay.proofs.Numbers.{sum_weak}
 use Rattle.plane.proofs.Steps.{weak, weak_right, zero_weak_left, zero_weak, product_zero_left, not_right_strict, not_left_strict, right_not_zero, left_not_zero, no_difference}
 use Rattle.plane.proofs.IntegerLaws.{neg-mul_ℤ, mul-neg_ℤ}
-use Rattle.plane.proofs.Solver.{Poly, num, ◌⊕◌, ◌⊖◌, ◌⊗◌, ⊝, ring_in_from, ring_over_from}
+use Rattle.plane.proofs.Solver.{num, ◌⊕◌, ◌⊖◌, ◌⊗◌, ⊝, ring_in_from, ring_over_from}
 use Rattle.plane.proofs.IntegerOrder.{mul-pos_ℤ, mul-nonneg_ℤ, mul-neg_of_pos_neg_ℤ, mul-pos_of_neg_ℤ, square-nonneg_ℤ, lt_or_ge_ℤ, mul-eq-zero_ℤ, zero-mul_ℤ}
 use Rattle.plane_delaunay.proofs.Bracket.{fraction, bracketᵖ, bracket, bracket-turned, bracket-swapped, bracket-first, bracket-second, meeting, meeting-x, meeting-y, meeting-w, cramer}
 use Rattle.plane_delaunay.proofs.Faces.{Tiling, Between, between-swapped, turned-above}
@@ -18,12 +18,7 @@ use Rattle.plane_delaunay.proofs.Across.{one_right}
 use Rattle.plane_delaunay.proofs.Meets.{edge-swapped}
 use Rattle.plane_delaunay.proofs.Joining.{Crosses, Before, by_right, by_left, from_start, before_crossing}
 use Rattle.plane.specs.Fraction.{Fraction}
-
-swapped_above : (u v q : Fraction) → bracket u v q <ℤ pos 0 → pos 0 <ℤ bracket v u q
-swapped_above u v q h = let e = bracket-swapped u v q in omega (arith, ints)
-
-swapped_below : (u v q : Fraction) → pos 0 <ℤ bracket u v q → bracket v u q <ℤ pos 0
-swapped_below u v q h = let e = bracket-swapped u v q in omega (arith, ints)
+use Rattle.plane_delaunay.proofs.Flood.{swapped_above, swapped_below}
 
 turned_first : (a b s : Fraction) → pos 0 <ℤ bracket a b s → pos 0 <ℤ bracket s a b
 turned_first a b s h = turned-above b s a (turned-above a b s h)
@@ -136,7 +131,8 @@ mirror_below a b s h = let e = bracket-turned s b a in let d = bracket-swapped a
 mirror_above : (s a b : Fraction) → bracket s a b <ℤ pos 0 → pos 0 <ℤ bracket s b a
 mirror_above s a b h = let e = bracket-turned s b a in let d = bracket-swapped a b s in let f = bracket-turned s a b in omega (arith, ints)
 
-swap_below : (s a b : Fraction) → pos 0 <ℤ bracket s a b → bracket s b a <ℤ pos 0
+-- left, so right with the last two exchanged
+pub swap_below : (s a b : Fraction) → pos 0 <ℤ bracket s a b → bracket s b a <ℤ pos 0
 swap_below s a b h = let e = bracket-turned s b a in let d = bracket-swapped a b s in let f = bracket-turned s a b in omega (arith, ints)
 
 mirror_none : (s v x : Fraction) → bracket s v x ≡ pos 0 → bracket x v s ≡ pos 0

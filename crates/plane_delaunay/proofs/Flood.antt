@@ -17,13 +17,11 @@ use Rattle.plane_delaunay.proofs.Faces.{Tiling, StartsFrom, Germ, germ, germ-clo
 use Rattle.plane_delaunay.proofs.Walk.{OnWay, Step, reached, leaves_first, leaves_second, leaves_third, step, separation, leave}
 use Rattle.plane_delaunay.proofs.Meets.{OnSide, IsAt, on_side-swapped, on_side_of_closed, at_here, IsEdge, edge-swapped, Shared, same, reversed, at_vertex, edges_meet, edge_outside}
 use Rattle.plane.specs.Fraction.{Fraction}
-
-once_a : (a b : ℤ) → pos 1 *ℤ a ≡ pos 1 *ℤ a +ℤ pos 0 *ℤ b
-once_a a b = omega (arith, ints)
+use Rattle.plane.proofs.Segments.{start_part}
 
 -- an end is on the side
 pub on_side-first : (a b : Fraction) → OnSide a b a
-on_side-first a b = record { n = pos 1; k = pos 1; l = pos 0; n_above = record { lt = tt }; k_least = record { le = tt }; l_least = record { le = tt }; along = λ u v. once_a (bracket u v a) (bracket u v b); weight = once_a a.w b.w }
+on_side-first a b = record { n = pos 1; k = pos 1; l = pos 0; n_above = record { lt = tt }; k_least = record { le = tt }; l_least = record { le = tt }; along = λ u v. start_part (bracket u v a) (bracket u v b); weight = start_part a.w b.w }
 
 nudged_sum : (n : ℕ) (s x m : ℤ) → s ≡ pos n *ℤ x +ℤ m → pos 1 *ℤ s ≡ pos n *ℤ x +ℤ pos 1 *ℤ m
 nudged_sum n s x m e = omega (arith, ints)
@@ -39,10 +37,12 @@ on_side-nudge : (n : ℕ) (a b : Fraction) → OnSide a b (nudge n a b)
 unfolding nudge
 on_side-nudge n a b = record { n = pos 1; k = pos n; l = pos 1; n_above = record { lt = tt }; k_least = whole_least n; l_least = record { le = tt }; along = λ u v. nudged_sum n _ (bracket u v a) (bracket u v b) (bracket-nudge u v n a b); weight = same_weight n a.w b.w }
 
-swapped_above : (u v q : Fraction) → bracket u v q <ℤ pos 0 → pos 0 <ℤ bracket v u q
+-- right of a line, so left of it turned round
+pub swapped_above : (u v q : Fraction) → bracket u v q <ℤ pos 0 → pos 0 <ℤ bracket v u q
 swapped_above u v q h = let e = bracket-swapped u v q in omega (arith, ints)
 
-swapped_below : (u v q : Fraction) → pos 0 <ℤ bracket u v q → bracket v u q <ℤ pos 0
+-- left of a line, so right of it turned round
+pub swapped_below : (u v q : Fraction) → pos 0 <ℤ bracket u v q → bracket v u q <ℤ pos 0
 swapped_below u v q h = let e = bracket-swapped u v q in omega (arith, ints)
 
 module _ (T : Tiling) where

@@ -24,6 +24,7 @@ use Rattle.plane.specs.Tiling.{Triangulation, IsVertex, vertex, IsEdge, AreNeigh
 use Rattle.plane.specs.Location.{Location, on_vertex, on_edge, on_face, outside_hull, no_triangulation, IsLocation}
 use Rattle.plane.specs.Shape.{IsEdgeIn}
 use Rattle.plane_delaunay.specs.Flood.{Region, InRegion, HasStart, IsFloodedByVertices}
+use Rattle.plane.proofs.Signs.{at_most_through, at_most_times_one, less_is_not_same, same_is_at_most}
 
 -- ---- either way round
 pub turned_join : (pairs : List (ℕ × ℕ)) (i j : ℕ) → Joins pairs i j → Joins pairs j i
@@ -45,20 +46,8 @@ not_behind p w s h k = let e = *ℤ_comm w s in omega (arith, ints)
 not_past : (p w s : ℤ) → (s *ℤ w) ≤ℤ p → (pos 1 *ℤ p -ℤ w *ℤ s) <ℤ pos 0 → ⊥
 not_past p w s h k = let e = *ℤ_comm w s in omega (arith, ints)
 
-one_low : (c s : ℤ) → c ≤ℤ s → (c *ℤ pos 1) ≤ℤ s
-one_low c s h = omega (arith, ints)
-
 one_high : (c s : ℤ) → s ≤ℤ c → s ≤ℤ (c *ℤ pos 1)
 one_high c s h = omega (arith, ints)
-
-not_itself : (a b : ℤ) → a <ℤ b → a ≡ b → ⊥
-not_itself a b h e = omega (arith, ints)
-
-le_same : (a b : ℤ) → a ≡ b → a ≤ℤ b
-le_same a b e = omega (arith, ints)
-
-then_le : (a b c : ℤ) → a ≤ℤ b → b ≤ℤ c → a ≤ℤ c
-then_le a b c h k = omega (arith, ints)
 
 between_up : (x y z : ℤ) → x <ℤ y → IsBetween x y z ⊎ ((x ≡ z) × (z ≡ y)) → (x <ℤ z) × (z <ℤ y)
 between_up x y z l (inl (inl b)) = b
@@ -145,7 +134,7 @@ module _ (t : Triangulation) (h : JoinsLine t) where
 
     -- two vertices with none between are an edge
     edge_if : (a b : ℕ) → IsVertex t a → IsVertex t b → far a <ℤ far b → ((k : ℕ) → IsVertex t k → ¬ WithinSegment (vertex t a) (vertex t b) (vertex t k)) → IsEdge t a b
-    edge_if a b ha hb l none = (h.neighbours a b).1 (record { apart = λ e. not_itself (far a) (far b) l (ap far e); first = ha; second = hb; none_between = none })
+    edge_if a b ha hb l none = (h.neighbours a b).1 (record { apart = λ e. less_is_not_same (far a) (far b) l (ap far e); first = ha; second = hb; none_between = none })
 
     -- a vertex with one ahead of it has an edge
     edge_ahead : (m a b : ℕ) → IsVertex t a → IsVertex t b → far a <ℤ far b → nat_abs (far b -ℤ far a) < m → (c : ℕ) × IsEdge t a c
@@ -173,7 +162,7 @@ module _ (t : Triangulation) (h : JoinsLine t) where
       at_least : (a b : ℕ) (x : Fraction) → OnSegment (vertex t a) (vertex t b) x → (c : ℤ) → c ≤ℤ far a → c ≤ℤ far b → (c *ℤ x.w) ≤ℤ spot x
       unfolding spot
       at_least a b x m c p q = let s = two_weights IsNotNegative (vertex t a) (vertex t b) x m in
-          above_line s.n s.k s.l (spot x) (far a) (far b) x.w (pos 1) (pos 1) c s.positive s.k_allowed s.l_allowed (mean_place IsNotNegative (at i) (at j) (vertex t a) (vertex t b) x s) s.w (one_low c (far a) p) (one_low c (far b) q)
+          above_line s.n s.k s.l (spot x) (far a) (far b) x.w (pos 1) (pos 1) c s.positive s.k_allowed s.l_allowed (mean_place IsNotNegative (at i) (at j) (vertex t a) (vertex t b) x s) s.w (at_most_times_one c (far a) p) (at_most_times_one c (far b) q)
 
       at_most : (a b : ℕ) (x : Fraction) → OnSegment (vertex t a) (vertex t b) x → (c : ℤ) → far a ≤ℤ c → far b ≤ℤ c → spot x ≤ℤ (c *ℤ x.w)
       unfolding spot
@@ -243,7 +232,7 @@ module _ (t : Triangulation) (h : JoinsLine t) where
           here_line = on_line i j hi hj x e.1.1
 
           end_above : far i ≤ℤ far j
-          end_above = then_le (far i) (pos 0) (far j) (le_same (far i) (pos 0) start_far) (weak end_far)
+          end_above = at_most_through (far i) (pos 0) (far j) (same_is_at_most (far i) (pos 0) start_far) (weak end_far)
 
           self_le : (z : ℤ) → z ≤ℤ z
           self_le z = omega (arith, ints)
@@ -251,8 +240,8 @@ module _ (t : Triangulation) (h : JoinsLine t) where
           -- an edge with both ends after j
           after : (k n : ℕ) → IsVertex t k → IsVertex t n → IsEdgeIn K t k n → far j ≤ℤ far k → far k ≤ℤ far n → Joins found k n
           after k n hk hn d p q = found_from j k n hj hk
-              (between x y j hj e.1.2 d.1.2 here_line ly (at_most i j x e.1.1 (far j) end_above (self_le (far j))) (at_least k n y d.1.1 (far j) p (then_le (far j) (far k) (far n) p q)))
-              (between x y k hk e.1.2 d.1.2 here_line ly (at_most i j x e.1.1 (far k) (then_le (far i) (far j) (far k) end_above p) p) (at_least k n y d.1.1 (far k) (self_le (far k)) q))
+              (between x y j hj e.1.2 d.1.2 here_line ly (at_most i j x e.1.1 (far j) end_above (self_le (far j))) (at_least k n y d.1.1 (far j) p (at_most_through (far j) (far k) (far n) p q)))
+              (between x y k hk e.1.2 d.1.2 here_line ly (at_most i j x e.1.1 (far k) (at_most_through (far i) (far j) (far k) end_above p) p) (at_least k n y d.1.1 (far k) (self_le (far k)) q))
               d (i, turned_join found i j s)
             where
               y : Fraction
@@ -264,8 +253,8 @@ module _ (t : Triangulation) (h : JoinsLine t) where
           -- an edge with both ends before i
           before : (k n : ℕ) → IsVertex t k → IsVertex t n → IsEdgeIn K t k n → far k ≤ℤ far i → far n ≤ℤ far k → Joins found k n
           before k n hk hn d p q = found_from i k n hi hk
-              (between y x i hi d.1.2 e.1.2 ly here_line (at_most k n y d.1.1 (far i) p (then_le (far n) (far k) (far i) q p)) (at_least i j x e.1.1 (far i) (self_le (far i)) end_above))
-              (between y x k hk d.1.2 e.1.2 ly here_line (at_most k n y d.1.1 (far k) (self_le (far k)) q) (at_least i j x e.1.1 (far k) p (then_le (far k) (far i) (far j) p end_above)))
+              (between y x i hi d.1.2 e.1.2 ly here_line (at_most k n y d.1.1 (far i) p (at_most_through (far n) (far k) (far i) q p)) (at_least i j x e.1.1 (far i) (self_le (far i)) end_above))
+              (between y x k hk d.1.2 e.1.2 ly here_line (at_most k n y d.1.1 (far k) (self_le (far k)) q) (at_least i j x e.1.1 (far k) p (at_most_through (far k) (far i) (far j) p end_above)))
               d (j, s)
             where
               y : Fraction

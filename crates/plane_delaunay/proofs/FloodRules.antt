@@ -5,9 +5,9 @@ use mathlib.Core.Logic.{◌⊎◌, inl, inr, ◌≢◌}
 use Rattle.std.specs.Prelude.{ℤ, pos, ◌<ℤ◌, ◌≤ℤ◌, ◌*ℤ◌, slice_index_or, slice_set, count_by, Bool, true, false, not, cond}
 use Rattle.std.proofs.lemmas.Int.{ints}
 use Rattle.std.proofs.lemmas.List.Sums.{sum_by-set}
-use Rattle.plane.proofs.IntegerOrder.{mul-pos_ℤ, nonneg_of_mul-nonneg_ℤ, le_of_mul-le-mul_ℤ, zero-mul_ℤ}
-use Rattle.plane.proofs.Nearer.{gap_not_negative}
-use Rattle.plane.proofs.Segments.{same_is_no_way, same-refl, within_itself}
+use Rattle.plane.proofs.IntegerOrder.{mul-pos_ℤ, nonneg_of_mul-nonneg_ℤ, le_of_mul-le-mul_ℤ}
+use Rattle.plane.proofs.Nearer.{gap_not_negative, gap_of_none}
+use Rattle.plane.proofs.Segments.{same-refl, within_itself}
 use Rattle.plane.proofs.Decisions.{decide_point}
 use Rattle.plane_delaunay.proofs.Members.{Member, member, contained}
 use Rattle.plane_delaunay.proofs.Ground.{tiling}
@@ -16,18 +16,13 @@ use Rattle.plane_delaunay.proofs.LineItems.{edge_last}
 use Rattle.plane_delaunay.proofs.Flooded.{flood_starts, flood_finds_region, not_few}
 use Rattle.plane_delaunay.proofs.FloodOnLine.{turned_join, turned_edge, edge_at, edge_beside, flood_finds_on_line, flood_starts_on_line}
 use Rattle.plane.specs.Fraction.{Point, Fraction, whole, IsSame}
-use Rattle.plane.specs.Side.{run, rise}
 use Rattle.plane.specs.Circle.{gap}
 use Rattle.plane.specs.Pairs.{Joins, IsSamePair, AreDifferent, EachPairOnce}
 use Rattle.plane.specs.Tiling.{Triangulation, IsVertex, vertex, IsEdge, AreNeighbours, TilesHull, IsTiling}
 use Rattle.plane.specs.Location.{Location, on_vertex, on_edge, on_face, outside_hull, no_triangulation, IsLocation}
 use Rattle.plane.specs.Shape.{IsVertexIn, IsEdgeIn}
 use Rattle.plane_delaunay.specs.Flood.{Region, circle, rectangle, InRegion, IsFlooded, IsFloodedByVertices, IsFloodedAround, HasStart, start_point, IsTried}
-
--- ---- a region with a point has its start point
-no_gap : (p : Fraction) → gap p p ≡ pos 0
-no_gap p = let z = (same_is_no_way p p).0 (same-refl p) in
-    let a = zero-mul_ℤ (run p p) z.0 in let b = zero-mul_ℤ (rise p p) z.1 in omega (arith, ints)
+use Rattle.plane.proofs.Signs.{at_most_times_one}
 
 radius_least : (g r w : ℤ) → pos 0 ≤ℤ g → g ≤ℤ (r *ℤ (w *ℤ w)) → pos 0 <ℤ w → pos 0 ≤ℤ r
 radius_least g r w h k p = nonneg_of_mul-nonneg_ℤ {k = w *ℤ w} {x = r} (mul-pos_ℤ p p) (let e = *ℤ_comm (w *ℤ w) r in omega (arith, ints))
@@ -38,9 +33,6 @@ at_centre g r e h = omega (arith, ints)
 corners_in_order : (a b x w : ℤ) → (a *ℤ w) ≤ℤ x → x ≤ℤ (b *ℤ w) → pos 0 <ℤ w → a ≤ℤ b
 corners_in_order a b x w h k p = le_of_mul-le-mul_ℤ {k = w} {x = a} {y = b} p (let e = *ℤ_comm w a in let d = *ℤ_comm w b in omega (arith, ints))
 
-whole_low : (a b : ℤ) → a ≤ℤ b → (a *ℤ pos 1) ≤ℤ b
-whole_low a b h = omega (arith, ints)
-
 whole_high : (a b : ℤ) → a ≤ℤ b → a ≤ℤ (b *ℤ pos 1)
 whole_high a b h = omega (arith, ints)
 
@@ -48,11 +40,11 @@ self_most : (a : ℤ) → a ≤ℤ a
 self_most a = omega (arith, ints)
 
 pub region_has_start : (region : Region) (p : Fraction) → InRegion region p → InRegion region (whole (start_point region))
-region_has_start (circle c r) p h = record { near = at_centre (gap (whole c) (whole c)) r (no_gap (whole c)) (radius_least (gap (whole c) p) r p.w (gap_not_negative (whole c) p) h.near p.positive) }
+region_has_start (circle c r) p h = record { near = at_centre (gap (whole c) (whole c)) r (gap_of_none (whole c)) (radius_least (gap (whole c) p) r p.w (gap_not_negative (whole c) p) h.near p.positive) }
 region_has_start (rectangle lower upper) p h = record {
-  left = whole_low lower.x lower.x (self_most lower.x);
+  left = at_most_times_one lower.x lower.x (self_most lower.x);
   right = whole_high lower.x upper.x (corners_in_order lower.x upper.x p.x p.w h.left h.right p.positive);
-  below = whole_low lower.y lower.y (self_most lower.y);
+  below = at_most_times_one lower.y lower.y (self_most lower.y);
   above = whole_high lower.y upper.y (corners_in_order lower.y upper.y p.y p.w h.below h.above p.positive);
 }
 

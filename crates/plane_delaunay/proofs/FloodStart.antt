@@ -8,8 +8,8 @@ use mathlib.Core.List.{[], ◌∷◌}
 use native.Mathlib.Omega.{arith}
 use borrow.Author.Differences.{ints}
 use Rattle.plane.proofs.Solver.{◌⊕◌, ◌⊗◌, ring_in_from}
-use Rattle.plane.proofs.Steps.{weak, left_not_zero, zero_or_left, zero_weak_left, product_zero_left}
-use Rattle.plane.proofs.IntegerOrder.{mul-pos_ℤ, mul-nonneg_ℤ, zero_of_mul-zero_ℤ, pos-ne-zero_ℤ, lt_or_ge_ℤ, neg-pos_ℤ, zero-mul_ℤ, Sign, sign, below, none, above}
+use Rattle.plane.proofs.Steps.{weak, left_not_zero, zero_or_left, zero_weak_left, product_zero_left, sum_first}
+use Rattle.plane.proofs.IntegerOrder.{mul-pos_ℤ, mul-nonneg_ℤ, zero_of_mul-zero_ℤ, pos-ne-zero_ℤ, lt_or_ge_ℤ, neg-pos_ℤ, zero-mul_ℤ, below, above}
 use Rattle.plane_delaunay.proofs.Numbers.{less_again, own_line, mix_positive}
 use Rattle.plane_delaunay.proofs.Bracket.{bracket, bracket-swapped, bracket-mixed, mixed, cramer, cramer-w}
 use Rattle.plane_delaunay.proofs.Nudges.{Closed, Inside, closed_of_inside, closed-turned}
@@ -20,6 +20,7 @@ use Rattle.plane_delaunay.proofs.Cones.{Cone, cone}
 use Rattle.plane_delaunay.proofs.Where.{IsBeyond, IsCovered, covered_or_beyond, vertex_not_beyond, not_covered_and_beyond, vertices_apart}
 use Rattle.plane_delaunay.proofs.Flood.{on_side-first}
 use Rattle.plane.specs.Fraction.{Fraction}
+use Rattle.plane.proofs.Signs.{last_of_three}
 
 -- ---- numbers
 -- three numbers that are not below 0 and sum to 0
@@ -31,12 +32,6 @@ none_second a b e h = zero_of_mul-zero_ℤ {k = a} {x = b} (pos-ne-zero_ℤ h) e
 
 none_first : (a b : ℤ) → a *ℤ b ≡ pos 0 → pos 0 <ℤ b → a ≡ pos 0
 none_first a b e h = zero_of_mul-zero_ℤ {k = b} {x = a} (pos-ne-zero_ℤ h) (lib.IntN.*ℤ_comm b a ∙ e)
-
-third_of : (s a b c : ℤ) → s ≡ a +ℤ b +ℤ c → a ≡ pos 0 → b ≡ pos 0 → s ≡ c
-third_of s a b c e p q = omega (arith, ints)
-
-first_of_three : (s a b c : ℤ) → s ≡ a +ℤ b +ℤ c → b ≡ pos 0 → c ≡ pos 0 → s ≡ a
-first_of_three s a b c e p q = omega (arith, ints)
 
 -- d x = m y with x and y not below 0, d above and m below 0
 none_of_opposite : (d x m n y : ℤ) → d *ℤ x ≡ m *ℤ y → m ≡ neg_ℤ n → pos 0 <ℤ d → pos 0 ≤ℤ x → pos 0 <ℤ n → pos 0 ≤ℤ y → y ≡ pos 0
@@ -104,7 +99,7 @@ module _ (T : Tiling) where
     side_alone : (p q r : ℕ) → IsFace p q r → height (at p) ≡ pos 0 → height (at q) ≡ pos 0 → (s : ℕ) → ¬ IsFace q p s
     side_alone p q r g ep eq s h = not_flat p q r g ep eq
         (none_of_opposite (bracket (at p) (at q) (at r)) (height (at s)) (bracket (at p) (at q) (at s)) (bracket (at q) (at p) (at s)) (height (at r))
-        (third_of _ _ _ _ (cramer (at p) (at q) (at r) (at s) (at a) (at b)) (zero-mul_ℤ _ ep) (zero-mul_ℤ _ eq)) (bracket-swapped (at q) (at p) (at s))
+        (last_of_three _ _ _ _ (cramer (at p) (at q) (at r) (at s) (at a) (at b)) (zero-mul_ℤ _ ep) (zero-mul_ℤ _ eq)) (bracket-swapped (at q) (at p) (at s))
         (T.turns p q r g) (high s (T.corner s q p (T.turned p s q (T.turned q p s h)))) (T.turns q p s h) (high r (T.corner r p q (T.turned q r p (T.turned p q r g)))))
 
     -- the side at a vertex on the line
@@ -135,7 +130,7 @@ module _ (T : Tiling) where
                 weights = equal_weights _ (at a).w _ (at u).w _ _ (cramer-w (at u) (at o.b) (at o.c) (at a)) (product_zero_left (at o.b).w p) (product_zero_left (at o.c).w q) (T.whole a) (T.whole u)
 
                 same : (s z : Fraction) → bracket s z (at a) ≡ bracket s z (at u)
-                same s z = same_value _ _ _ _ (first_of_three _ _ _ _ (cramer (at u) (at o.b) (at o.c) (at a) s z) (product_zero_left (bracket s z (at o.b)) p) (product_zero_left (bracket s z (at o.c)) q)) weights (T.turns u o.b o.c o.is_face)
+                same s z = same_value _ _ _ _ (sum_first _ _ _ _ (cramer (at u) (at o.b) (at o.c) (at a) s z) (product_zero_left (bracket s z (at o.b)) p) (product_zero_left (bracket s z (at o.c)) q)) weights (T.turns u o.b o.c o.is_face)
 
     -- a point of a closed face on the line is on a side with no face across it
     on_line : (y : Fraction) → IsCovered T y → height y ≡ pos 0 → Border y
@@ -152,7 +147,7 @@ module _ (T : Tiling) where
         two p q r g k ep eq hr = record { a = p; b = q; c = r; is_face = g; alone = side_alone p q r g ep eq; on_side = on_side_of_closed (at p) (at q) (at r) y (T.turns p q r g) k off }
           where
             off : bracket (at p) (at q) y ≡ pos 0
-            off = none_first _ _ (sym (third_of _ _ _ _ (cramer (at p) (at q) (at r) y (at a) (at b)) (zero-mul_ℤ _ ep) (zero-mul_ℤ _ eq)) ∙ zero-mul_ℤ _ e) hr
+            off = none_first _ _ (sym (last_of_three _ _ _ _ (cramer (at p) (at q) (at r) y (at a) (at b)) (zero-mul_ℤ _ ep) (zero-mul_ℤ _ eq)) ∙ zero-mul_ℤ _ e) hr
 
         nones : (p q r : ℕ) → IsFace p q r → Closed (at p) (at q) (at r) y → (bracket (at q) (at r) y *ℤ height (at p) ≡ pos 0) × (bracket (at r) (at p) y *ℤ height (at q) ≡ pos 0) × (bracket (at p) (at q) y *ℤ height (at r) ≡ pos 0)
         nones p q r g k = all_none (bracket (at p) (at q) (at r)) (height y) _ _ _ (cramer (at p) (at q) (at r) y (at a) (at b)) e
@@ -169,8 +164,8 @@ module _ (T : Tiling) where
           is_face = s.is_face;
           alone = s.alone;
           on_side = on_side_at (at s.a) (at s.b) (at p) y (bracket (at p) (at q) (at r)) (bracket (at q) (at r) y) (T.turns p q r g) k.second
-              (λ u v. first_of_three _ _ _ _ (cramer (at p) (at q) (at r) y u v) (product_zero_left (bracket u v (at q)) zq) (product_zero_left (bracket u v (at r)) zr))
-              (first_of_three _ _ _ _ (cramer-w (at p) (at q) (at r) y) (product_zero_left (at q).w zq) (product_zero_left (at r).w zr)) s.on_side;
+              (λ u v. sum_first _ _ _ _ (cramer (at p) (at q) (at r) y u v) (product_zero_left (bracket u v (at q)) zq) (product_zero_left (bracket u v (at r)) zr))
+              (sum_first _ _ _ _ (cramer-w (at p) (at q) (at r) y) (product_zero_left (at q).w zq) (product_zero_left (at r).w zr)) s.on_side;
         }
           where
             s : Border (at p)

@@ -21,6 +21,9 @@ use Rattle.plane_delaunay.proofs.Across.{none_of_sum}
 use Rattle.plane_delaunay.proofs.Walk.{IsOff}
 use Rattle.plane.proofs.Means.{TwoWeights}
 use Rattle.plane.specs.Fraction.{Fraction, IsSame, IsNotNegative}
+use Rattle.plane.proofs.Signs.{negated_not_negative, one_times_sum}
+use Rattle.plane_delaunay.proofs.Flood.{swapped_above, swapped_below}
+use Rattle.plane_delaunay.proofs.Faces.{turned-above}
 
 abbrev pub AllLeft : List (Fraction × Fraction) → Fraction → Type 0
 AllLeft [] q = Unit {0}
@@ -41,9 +44,6 @@ data Found (ls : List (Fraction × Fraction)) (a b c u v : Fraction) : Type 0 wh
   to_left : (q : Fraction) → Inside a b c q → AllLeft ls q → pos 0 <ℤ bracket u v q → Found ls a b c u v
   to_right : (q : Fraction) → Inside a b c q → AllLeft ls q → pos 0 <ℤ bracket v u q → Found ls a b c u v
   nowhere : (q : Fraction) → Inside a b c q → AllLeft ls q → ((s : Fraction) → bracket u v s ≡ pos 0) → Found ls a b c u v
-
-swapped_above : (u v q : Fraction) → bracket u v q <ℤ pos 0 → pos 0 <ℤ bracket v u q
-swapped_above u v q h = let e = bracket-swapped u v q in omega (arith, ints)
 
 find : (ls : List (Fraction × Fraction)) (a b c u v q : Fraction) → pos 0 <ℤ bracket a b c → Inside a b c q → AllLeft ls q → Found ls a b c u v
 find ls a b c u v q t inside left = go (sign (bracket u v q))
@@ -92,9 +92,6 @@ pub data IsOpen (a b p q : Fraction) : Type 0 where
   past_left : pos 0 <ℤ bracket q p a → pos 0 <ℤ bracket q p b → IsOpen a b p q
   past_right : bracket q p a <ℤ pos 0 → bracket q p b <ℤ pos 0 → IsOpen a b p q
 
-swapped_below : (u v q : Fraction) → pos 0 <ℤ bracket u v q → bracket v u q <ℤ pos 0
-swapped_below u v q h = let e = bracket-swapped u v q in omega (arith, ints)
-
 pub open-swapped : (a b p q : Fraction) → IsOpen a b p q → IsOpen b a p q
 open-swapped a b p q (on_line h) = on_line (swapped_none a b p h)
 open-swapped a b p q (both_left h k) = both_right (swapped_below a b p h) (swapped_below a b q k)
@@ -107,9 +104,6 @@ unfolding bracket
 same_bracket u v y p e = ring_over_from fraction [] (u ∷ v ∷ y ∷ p ∷ []) (λ u v y p. p.w ⊗ bracketᵖ u v y) (λ u v y p. y.w ⊗ bracketᵖ u v p)
     (λ u v y p. (u.y ⊗ v.w ⊖ u.w ⊗ v.y, y.x ⊗ p.w, p.x ⊗ y.w) ∷ (u.w ⊗ v.x ⊖ u.x ⊗ v.w, y.y ⊗ p.w, p.y ⊗ y.w) ∷ []) (e.x, (e.y, tt)) tt
 
-once : (x y : ℤ) → pos 1 *ℤ (x +ℤ y) ≡ x +ℤ y
-once x y = omega (arith, ints)
-
 met_sum : (s t x y k a l b : ℤ) → s *ℤ x -ℤ t *ℤ y ≡ k *ℤ a -ℤ l *ℤ b → pos 1 *ℤ (neg_ℤ t *ℤ y +ℤ s *ℤ x) ≡ k *ℤ a +ℤ neg_ℤ l *ℤ b
 met_sum s t x y k a l b e = omega (arith, ints, neg-mul_ℤ t y, neg-mul_ℤ l b)
 
@@ -118,9 +112,6 @@ not_positive s t x y k a l b e h ha hb hk hl =
     let p = mul-nonneg_ℤ {a = neg_ℤ k} {b = a} (omega (arith, ints)) (weak ha) in
     let q = mul-nonneg_ℤ {a = l} {b = b} hl (weak hb) in
     omega (arith, ints, neg-mul_ℤ t y, neg-mul_ℤ k a)
-
-weakly_negated : {z : ℤ} → z ≤ℤ pos 0 → pos 0 ≤ℤ neg_ℤ z
-weakly_negated h = omega (arith, ints)
 
 open_from_right : (a b p q : Fraction) → bracket a b p <ℤ pos 0 → ((y : Fraction) → TwoWeights IsNotNegative q p y → TwoWeights IsNotNegative a b y → IsSame y p) → IsOpen a b p q
 open_from_right a b p q right free = go (lt_or_ge_ℤ (bracket a b q) (pos 0))
@@ -142,16 +133,16 @@ open_from_right a b p q right free = go (lt_or_ge_ℤ (bracket a b q) (pos 0))
               k_allowed = weak (neg-pos_ℤ right);
               l_allowed = left;
               positive = record { lt = tt };
-              x = once (neg_ℤ (bracket a b p) *ℤ q.x) (bracket a b q *ℤ p.x);
-              y = once (neg_ℤ (bracket a b p) *ℤ q.y) (bracket a b q *ℤ p.y);
-              w = once (neg_ℤ (bracket a b p) *ℤ q.w) (bracket a b q *ℤ p.w);
+              x = one_times_sum (neg_ℤ (bracket a b p) *ℤ q.x) (bracket a b q *ℤ p.x);
+              y = one_times_sum (neg_ℤ (bracket a b p) *ℤ q.y) (bracket a b q *ℤ p.y);
+              w = one_times_sum (neg_ℤ (bracket a b p) *ℤ q.w) (bracket a b q *ℤ p.w);
             })
             (record {
               k = bracket q p b;
               l = neg_ℤ (bracket q p a);
               n = pos 1;
               k_allowed = hb;
-              l_allowed = weakly_negated ha;
+              l_allowed = negated_not_negative ha;
               positive = record { lt = tt };
               x = met_sum (bracket a b q) (bracket a b p) p.x q.x (bracket q p b) a.x (bracket q p a) b.x (meeting-x a b p q);
               y = met_sum (bracket a b q) (bracket a b p) p.y q.y (bracket q p b) a.y (bracket q p a) b.y (meeting-y a b p q);
@@ -204,9 +195,6 @@ open_if_free a b p q free = go (sign (bracket a b p))
 abbrev pub AllOpen : (ℕ → Fraction) → List (ℕ × ℕ) → Fraction → Fraction → Type 0
 AllOpen at cs p q = (i j : ℕ) → Member (i, j) cs → IsOpen (at i) (at j) p q
 
-turned_to_front : (q p a : Fraction) → pos 0 <ℤ bracket q p a → pos 0 <ℤ bracket p a q
-turned_to_front q p a h = subst (λ t. pos 0 <ℤ t) (sym (bracket-turned q p a)) h
-
 turned_to_back : (q p a : Fraction) → pos 0 <ℤ bracket p a q → pos 0 <ℤ bracket q p a
 turned_to_back q p a h = subst (λ t. pos 0 <ℤ t) (bracket-turned q p a) h
 
@@ -233,5 +221,5 @@ keeps at (s ∷ cs) p q h = go (keeps at cs p q (λ i j m. h i j (inr m))) (h s.
     go k (on_line e) = record { lines = k.lines; left = k.left; keep = λ q' l. both q' (on_line e) (k.keep q' l) }
     go k (both_left e f) = record { lines = (at s.0, at s.1) ∷ k.lines; left = (f, k.left); keep = λ q' l. both q' (both_left e l.0) (k.keep q' l.1) }
     go k (both_right e f) = record { lines = (at s.1, at s.0) ∷ k.lines; left = (swapped_above (at s.0) (at s.1) q f, k.left); keep = λ q' l. both q' (both_right e (swapped_below (at s.1) (at s.0) q' l.0)) (k.keep q' l.1) }
-    go k (past_left e f) = record { lines = (p, at s.0) ∷ (p, at s.1) ∷ k.lines; left = (turned_to_front q p (at s.0) e, (turned_to_front q p (at s.1) f, k.left)); keep = λ q' l. both q' (past_left (turned_to_back q' p (at s.0) l.0) (turned_to_back q' p (at s.1) l.1.0)) (k.keep q' l.1.1) }
+    go k (past_left e f) = record { lines = (p, at s.0) ∷ (p, at s.1) ∷ k.lines; left = (turned-above q p (at s.0) e, (turned-above q p (at s.1) f, k.left)); keep = λ q' l. both q' (past_left (turned_to_back q' p (at s.0) l.0) (turned_to_back q' p (at s.1) l.1.0)) (k.keep q' l.1.1) }
     go k (past_right e f) = record { lines = (at s.0, p) ∷ (at s.1, p) ∷ k.lines; left = (front_right q p (at s.0) e, (front_right q p (at s.1) f, k.left)); keep = λ q' l. both q' (past_right (back_right q' p (at s.0) l.0) (back_right q' p (at s.1) l.1.0)) (k.keep q' l.1.1) }

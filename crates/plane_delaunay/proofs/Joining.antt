@@ -11,16 +11,10 @@ use Rattle.plane.proofs.Steps.{weak, left_not_zero, right_not_zero}
 use Rattle.plane.proofs.IntegerLaws.{neg-mul_ℤ}
 use Rattle.plane.proofs.Solver.{num, ◌⊕◌, ◌⊖◌, ◌⊗◌, ⊝, ring_in_from}
 use Rattle.plane.proofs.IntegerOrder.{mul-pos_ℤ, mul-nonneg_ℤ, mul-neg_of_pos_neg_ℤ, mul-pos_of_neg_ℤ, neg_of_mul-neg_ℤ, lt_or_ge_ℤ, Sign, sign, below, none, above, neg-pos_ℤ, zero-mul_ℤ}
-use Rattle.plane_delaunay.proofs.Bracket.{bracket, bracket-turned, bracket-swapped, bracket-first, bracket-second, meeting, cramer}
+use Rattle.plane_delaunay.proofs.Bracket.{bracket, bracket-turned, bracket-first, bracket-second, meeting, cramer}
 use Rattle.plane_delaunay.proofs.Faces.{Tiling, Between}
 use Rattle.plane_delaunay.proofs.Meets.{IsEdge}
-use Rattle.plane.specs.Fraction.{Fraction}
-
-swapped_above : (u v q : Fraction) → bracket u v q <ℤ pos 0 → pos 0 <ℤ bracket v u q
-swapped_above u v q h = let e = bracket-swapped u v q in omega (arith, ints)
-
-swapped_below : (u v q : Fraction) → pos 0 <ℤ bracket u v q → bracket v u q <ℤ pos 0
-swapped_below u v q h = let e = bracket-swapped u v q in omega (arith, ints)
+use Rattle.plane_delaunay.proofs.Flood.{swapped_above, swapped_below}
 
 first_above : (d o a f b g c h : ℤ) → d *ℤ o ≡ a *ℤ f +ℤ b *ℤ g +ℤ c *ℤ h → o ≡ pos 0 → f <ℤ pos 0 → pos 0 ≤ℤ b → pos 0 <ℤ g → pos 0 <ℤ c → pos 0 <ℤ h → pos 0 <ℤ a
 first_above d o a f b g c h e z hf hb hg hc hh = go (lt_or_ge_ℤ (pos 0) a)

@@ -6,7 +6,7 @@ use Rattle.std.proofs.lemmas.Int.{ints}
 use Rattle.plane.proofs.IntegerOrder.{trichotomy_ℤ}
 use Rattle.plane.proofs.Lines.{side_line}
 use Rattle.plane.proofs.Sides.{side_swapped}
-use Rattle.plane.proofs.Steps.{weak}
+use Rattle.plane.proofs.Steps.{weak, no_difference}
 use Rattle.plane.proofs.Means.{two_weights, mean_of_two}
 use Rattle.plane.proofs.Segments.{same-refl, same-sym, same-trans, start_on_segment, on_segment-same, within_segment-same, on_of_within, only_point, reach}
 use Rattle.plane.proofs.Nearer.{nothing_nearer, same_not_nearer}
@@ -26,6 +26,7 @@ use Rattle.plane.specs.Tiling.{Triangulation, IsVertex, vertex, TilesHull}
 use Rattle.plane.specs.Tiling as D
 use Rattle.plane.specs.Line.{Item, Meets, BeginsAt, IsBefore, OverlapAlong}
 use Rattle.plane.specs.Line as L
+use Rattle.plane.proofs.Signs.{differences_both_positive, same_plus_no_part}
 
 pub between_of : (a b x : Fraction) → WithinSegment a b x → Between a b x
 between_of a b x m = let t = two_weights IsPositive a b x m in record { n = t.n; k = t.k; l = t.l; n_above = t.positive; k_above = t.k_allowed; l_above = t.l_allowed; along = weights_along IsPositive a b x t }
@@ -80,10 +81,7 @@ edge_last t h i j e = go ((h.sides i j).0 e)
 
 -- x is at the place of v
 pub same_place : (v x : Fraction) → IsAt v x → IsSame v x
-same_place v x i = only_point x x v (same-refl x) (segment_from i.k i.n (pos 0) x x v i.k_above (weak i.n_above) (record { le = tt }) (λ s u. with_none _ _ (bracket s u x) (i.along s u)))
-  where
-    with_none : (a b x : ℤ) → a ≡ b → b ≡ a +ℤ pos 0 *ℤ x
-    with_none a b x e = omega (arith, ints)
+same_place v x i = only_point x x v (same-refl x) (segment_from i.k i.n (pos 0) x x v i.k_above (weak i.n_above) (record { le = tt }) (λ s u. same_plus_no_part _ _ (bracket s u x) (i.along s u)))
 
 -- an edge is met in one of its two directions alone
 never_both : (t : Triangulation) (p q : Fraction) (i j : ℕ) → Meets t p q (L.across i j) → ¬ Meets t p q (L.across j i)
@@ -186,22 +184,16 @@ module _ (t : Triangulation) (c₀ : Meeting t) (p q : Fraction) (apart : ¬ IsS
       swapped : (x y : ℤ) → (x -ℤ y) <ℤ pos 0 → pos 0 <ℤ (y -ℤ x)
       swapped x y k = omega (arith, ints)
 
-      equal : (x y : ℤ) → x -ℤ y ≡ pos 0 → x ≡ y
-      equal x y k = omega (arith, ints)
-
       go : ((reach p q B *ℤ D.w -ℤ reach p q D *ℤ B.w) <ℤ pos 0) ⊎ ((reach p q B *ℤ D.w -ℤ reach p q D *ℤ B.w ≡ pos 0) ⊎ (pos 0 <ℤ (reach p q B *ℤ D.w -ℤ reach p q D *ℤ B.w))) → b ≡ d
       go (inl k) = absurd (c₀.none_within a d b n.0 hb (within_on_line p q apart A B D (on_line p q A B m.1) (on_line_last p q A B m.1) (on_line_last p q A D n.1) (before p q A B m.1) (swapped (reach p q B *ℤ D.w) (reach p q D *ℤ B.w) k)))
-      go (inr (inl k)) = c₀.one_vertex b d hb hd (same_on_line p q apart B D (on_line_last p q A B m.1) (on_line_last p q A D n.1) (equal (reach p q B *ℤ D.w) (reach p q D *ℤ B.w) k))
+      go (inr (inl k)) = c₀.one_vertex b d hb hd (same_on_line p q apart B D (on_line_last p q A B m.1) (on_line_last p q A D n.1) (no_difference (reach p q B *ℤ D.w) (reach p q D *ℤ B.w) k))
       go (inr (inr k)) = absurd (c₀.none_within a b d m.0 hd (within_on_line p q apart A D B (on_line p q A D n.1) (on_line_last p q A D n.1) (on_line_last p q A B m.1) (before p q A D n.1) k))
 
   overlap_and_overlap : (a b c d : ℕ) → Meets t p q (L.along a b) → Meets t p q (L.along c d) → (x y : Fraction) → BeginsAt t p q (L.along a b) x → BeginsAt t p q (L.along c d) y → IsSame x y → L.along a b ≡ L.along c d
   overlap_and_overlap a b c d m n x y bx by e = go (c₀.shared a b c d x m.0 n.0 bx.of_item (on_segment-same (vertex t c) (vertex t d) y x (same-sym x y e) by.of_item))
     where
       both_ways : OverlapAlong p q (vertex t a) (vertex t b) → OverlapAlong p q (vertex t b) (vertex t a) → ⊥
-      both_ways o r = both (reach p q (vertex t b) *ℤ (vertex t a).w) (reach p q (vertex t a) *ℤ (vertex t b).w) (before p q (vertex t a) (vertex t b) o) (before p q (vertex t b) (vertex t a) r)
-        where
-          both : (u v : ℤ) → pos 0 <ℤ (u -ℤ v) → pos 0 <ℤ (v -ℤ u) → ⊥
-          both u v h k = omega (arith, ints)
+      both_ways o r = differences_both_positive (reach p q (vertex t b) *ℤ (vertex t a).w) (reach p q (vertex t a) *ℤ (vertex t b).w) (before p q (vertex t a) (vertex t b) o) (before p q (vertex t b) (vertex t a) r)
 
       at_start : (i j k : ℕ) → Meets t p q (L.along i j) → (z : Fraction) → BeginsAt t p q (L.along i j) z → IsSame z (vertex t k) → (k ≡ i) ⊎ (k ≡ j) → k ≡ i
       at_start i j k o z bz s (inl r) = r

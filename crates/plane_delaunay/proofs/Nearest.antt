@@ -19,6 +19,7 @@ use Rattle.plane.specs.Pairs.{Joins}
 use Rattle.plane.specs.Tiling.{Triangulation, IsVertex, vertex, IsEdge, IsFace, TilesHull, IsTiling}
 use Rattle.plane.specs.Delaunay.{IsConstrainedDelaunay}
 use Rattle.plane.specs.Shape.{IsNearest}
+use Rattle.plane.proofs.Signs.{difference_not_negative_from}
 
 -- ---- squared distances from p
 abbrev gapᵖ : Syntax → Syntax → Poly
@@ -40,12 +41,9 @@ not_below t s r a b c l d ht e hs ha hr hb hc hl = nonneg_of_mul-nonneg_ℤ {k =
 farther : (p : Fraction) (u v : Point) → ¬ IsNearer p (whole u) (whole v) → pos 0 ≤ℤ (gap p (whole u) -ℤ gap p (whole v))
 farther p u v n = go (lt_or_ge_ℤ (gap p (whole u)) (gap p (whole v)))
   where
-    least : (a b : ℤ) → b ≤ℤ a → pos 0 ≤ℤ (a -ℤ b)
-    least a b h = omega (arith, ints)
-
     go : (gap p (whole u) <ℤ gap p (whole v)) ⊎ (gap p (whole v) ≤ℤ gap p (whole u)) → pos 0 ≤ℤ (gap p (whole u) -ℤ gap p (whole v))
     go (inl h) = absurd (n (record { nearer = with_ones (gap p (whole u)) (gap p (whole v)) h }))
-    go (inr h) = least (gap p (whole u)) (gap p (whole v)) h
+    go (inr h) = difference_not_negative_from (gap p (whole u)) (gap p (whole v)) h
 
 nearer_below : (p : Fraction) (u v : Point) → IsNearer p (whole u) (whole v) → ¬ (pos 0 ≤ℤ (gap p (whole u) -ℤ gap p (whole v)))
 nearer_below p u v h k = less (gap p (whole u)) (gap p (whole v)) h.nearer k

@@ -17,6 +17,7 @@ use Rattle.plane.specs.Side.{run, rise}
 use Rattle.plane.specs.Circle.{gap, IsNearer}
 use Rattle.plane.specs.Tiling.{Triangulation, IsVertex, vertex, IsEdge, JoinsLine}
 use Rattle.plane.specs.Shape.{IsNearest}
+use Rattle.plane.proofs.Signs.{not_negative_plus_positive, positive_plus_not_negative, less_without_ones}
 
 -- ---- one coordinate
 -- where k is the mean of v and w under the weights a and b, of the sum n
@@ -83,9 +84,6 @@ plain_sum n a b e = omega (arith, ints)
 pub with_ones : (a b : ℤ) → a <ℤ b → (a *ℤ (pos 1 *ℤ pos 1)) <ℤ (b *ℤ (pos 1 *ℤ pos 1))
 with_ones a b h = omega (arith, ints)
 
-pub without_ones : (a b : ℤ) → (a *ℤ (pos 1 *ℤ pos 1)) <ℤ (b *ℤ (pos 1 *ℤ pos 1)) → a <ℤ b
-without_ones a b h = omega (arith, ints)
-
 abbrev square : ℤ → ℤ
 square z = z *ℤ z
 
@@ -105,7 +103,7 @@ module _ (p : Fraction) (v w k : Point) (m : TwoWeights IsPositive (whole v) (wh
         (mean_square m.n m.k m.l (rise p (whole k)) (rise p (whole v)) (rise p (whole w)) (mean_way m.n m.k m.l k.y v.y w.y p.y p.w m.y m.w) total_weight))
         (mul-pos_ℤ m.positive m.positive) (mul-pos_ℤ m.positive m.l_allowed) (weak (mul-pos_ℤ m.k_allowed m.l_allowed))
         (sum_weak (square-nonneg_ℤ (run p (whole w) -ℤ run p (whole v))) (square-nonneg_ℤ (rise p (whole w) -ℤ rise p (whole v))))
-        (without_ones (gap p (whole w)) (gap p (whole v)) near.nearer));
+        (less_without_ones (gap p (whole w)) (gap p (whole v)) near.nearer));
   }
 
   -- and nearer to v than w is
@@ -113,12 +111,6 @@ module _ (p : Fraction) (v w k : Point) (m : TwoWeights IsPositive (whole v) (wh
   closer_within h = smaller_from m.n m.k m.l (gap (whole v) (whole k)) (gap (whole v) (whole w)) total_weight
       (two_parts (m.n *ℤ m.n) (m.l *ℤ m.l) (square (run (whole v) (whole k))) (square (rise (whole v) (whole k))) (square (run (whole v) (whole w))) (square (rise (whole v) (whole w))) (part_way m.n m.k m.l k.x v.x w.x m.x m.w) (part_way m.n m.k m.l k.y v.y w.y m.y m.w))
       m.positive m.k_allowed m.l_allowed h
-
-first_square : (a b : ℤ) → pos 0 <ℤ a → pos 0 ≤ℤ b → pos 0 <ℤ (a +ℤ b)
-first_square a b h k = omega (arith, ints)
-
-second_square : (a b : ℤ) → pos 0 ≤ℤ a → pos 0 <ℤ b → pos 0 <ℤ (a +ℤ b)
-second_square a b h k = omega (arith, ints)
 
 not_zero : {z : ℤ} → (z <ℤ pos 0) ⊎ (pos 0 <ℤ z) → ¬ (z ≡ pos 0)
 not_zero (inl h) e = omega (arith, ints)
@@ -134,10 +126,10 @@ apart p v w near = go (sign (run (whole v) (whole w))) (sign (rise (whole v) (wh
     dy = rise (whole v) (whole w)
 
     wide : ¬ (dx ≡ pos 0) → pos 0 <ℤ gap (whole v) (whole w)
-    wide n = first_square (dx *ℤ dx) (dy *ℤ dy) (square-pos_ℤ {a = dx} n) (square-nonneg_ℤ dy)
+    wide n = positive_plus_not_negative (dx *ℤ dx) (dy *ℤ dy) (square-pos_ℤ {a = dx} n) (square-nonneg_ℤ dy)
 
     high : ¬ (dy ≡ pos 0) → pos 0 <ℤ gap (whole v) (whole w)
-    high n = second_square (dx *ℤ dx) (dy *ℤ dy) (square-nonneg_ℤ dx) (square-pos_ℤ {a = dy} n)
+    high n = not_negative_plus_positive (dx *ℤ dx) (dy *ℤ dy) (square-nonneg_ℤ dx) (square-pos_ℤ {a = dy} n)
 
     go : Sign dx → Sign dy → pos 0 <ℤ gap (whole v) (whole w)
     go (below h) s = wide (not_zero (inl h))

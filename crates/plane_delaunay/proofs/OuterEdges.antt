@@ -1,9 +1,7 @@
 -- The outer edges of a tiling, in the definitions' words: what is in no face is left of one, and the hull is left of none.
-use Rattle.std.proofs.Common.{◌≡◌, ℕ, arith}
+use Rattle.std.proofs.Common.{◌≡◌, ℕ}
 use mathlib.Core.Logic.{◌⊎◌, inl, inr}
-use lib.IntN.{neg_ℤ}
-use Rattle.std.specs.Prelude.{ℤ, pos, ◌<ℤ◌, map}
-use Rattle.std.proofs.lemmas.Int.{ints}
+use Rattle.std.specs.Prelude.{ℤ, ◌<ℤ◌, map}
 use Rattle.plane.proofs.Steps.{negated_left}
 use Rattle.plane_delaunay.proofs.Bracket.{bracket-swapped, above_if_left, left_if_above}
 use Rattle.plane_delaunay.proofs.Ground.{tiling, closed_of, triangle_of_closed}
@@ -12,9 +10,7 @@ use Rattle.plane.specs.Fraction.{Fraction, whole, InHull}
 use Rattle.plane.specs.Side.{TurnsLeft}
 use Rattle.plane.specs.Tiling.{Triangulation, vertex, IsFace, HasFace, InCorners, TilesHull}
 use Rattle.plane.specs.Location.{IsOuter}
-
-swapped_back : (x y : ℤ) → y ≡ neg_ℤ x → pos 0 <ℤ y → x <ℤ pos 0
-swapped_back x y e h = omega (arith, ints)
+use Rattle.plane.proofs.Signs.{negative_of_opposite}
 
 module _ (t : Triangulation) (h : TilesHull t) where
   some_face : (i j k : ℕ) × IsFace t i j k
@@ -47,7 +43,7 @@ module _ (t : Triangulation) (h : TilesHull t) where
   pub beyond_outer : (i j : ℕ) (p : Fraction) → IsOuter t i j → TurnsLeft (vertex t i) (vertex t j) p → IsBeyond (tiling t h) p
   unfolding tiling
   beyond_outer i j p o turns = let g = face_of_outer i j o in
-      record { a = j; b = i; c = g.0; is_face = g.1; alone = λ d k. o.1 (d, k); right = swapped_back _ _ (bracket-swapped (vertex t j) (vertex t i) p) (above_if_left _ _ p turns) }
+      record { a = j; b = i; c = g.0; is_face = g.1; alone = λ d k. o.1 (d, k); right = negative_of_opposite _ _ (bracket-swapped (vertex t j) (vertex t i) p) (above_if_left _ _ p turns) }
 
   -- no point of a closed face, and so none of the hull, is left of an outer edge
   pub face_not_left_of_outer : (i j l m n : ℕ) (p : Fraction) → IsOuter t i j → IsFace t l m n → InCorners t l m n p → ¬ TurnsLeft (vertex t i) (vertex t j) p

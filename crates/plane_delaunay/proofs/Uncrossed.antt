@@ -9,16 +9,13 @@ use borrow.Author.Differences.{ints}
 use Rattle.plane.proofs.Steps.{weak, zero_weak_left, left_not_zero, right_not_above, product_zero_left}
 use Rattle.plane.proofs.IntegerLaws.{neg-mul_ℤ}
 use Rattle.plane.proofs.IntegerOrder.{mul-pos_ℤ, Sign, sign, below, none, above, neg-pos_ℤ}
-use Rattle.plane_delaunay.proofs.Bracket.{bracket, bracket-turned, bracket-swapped, cramer, cramer-w}
+use Rattle.plane_delaunay.proofs.Bracket.{bracket, bracket-turned, cramer, cramer-w}
 use Rattle.plane_delaunay.proofs.Faces.{Tiling, Between, none_within, turned-above, corner_2}
 use Rattle.plane_delaunay.proofs.Across.{one_right, inner_between}
 use Rattle.plane_delaunay.proofs.Meets.{IsEdge}
 use Rattle.plane_delaunay.proofs.Cones.{cone}
 use Rattle.plane_delaunay.proofs.Joining.{Crosses}
-use Rattle.plane.specs.Fraction.{Fraction}
-
-last_swapped : (s b t : Fraction) → pos 0 <ℤ bracket s b t → bracket s t b <ℤ pos 0
-last_swapped s b t h = let p = bracket-turned s t b in let q = bracket-swapped b t s in let r = bracket-turned s b t in omega (arith, ints)
+use Rattle.plane_delaunay.proofs.FlipExists.{swap_below}
 
 -- d x = p u + r w + m q, where m is 0
 solved_without_third : (d x p u r w m q : ℤ) → d *ℤ x ≡ p *ℤ u +ℤ r *ℤ w +ℤ m *ℤ q → m ≡ pos 0 → r *ℤ w ≡ neg_ℤ p *ℤ u +ℤ d *ℤ x
@@ -74,7 +71,7 @@ module _ (T : Tiling) (s t : ℕ) (hs : T.IsVertex s) (ht : T.IsVertex t) (two :
       go : Sign (bracket (at s) (at b) (at t)) → Sign (bracket (at c) (at s) (at t)) → Sign (bracket (at b) (at c) (at t)) → IsEdge T s t
       go (below p) q r = absurd (right_not_above p h₁)
       go p (below q) r = absurd (right_not_above q h₂)
-      go (above p) (above q) (below r) = absurd (free b c (record { edge = inl (s, f₂); right = last_swapped (at s) (at b) (at t) p; left = subst (λ z. pos 0 <ℤ z) (sym (bracket-turned (at c) (at s) (at t))) q; start = turned-above _ _ _ sbc; end = r }))
+      go (above p) (above q) (below r) = absurd (free b c (record { edge = inl (s, f₂); right = swap_below (at s) (at b) (at t) p; left = subst (λ z. pos 0 <ℤ z) (sym (bracket-turned (at c) (at s) (at t))) q; start = turned-above _ _ _ sbc; end = r }))
       go (above p) (above q) (none r) = either (corner (zero_weak_left r))
       go (above p) (above q) (above r) = either (corner (weak r))
       go (none p) (none q) (below r) = absurd (no_weight (bracket (at s) (at b) (at c)) (at t).w (bracket (at b) (at c) (at t)) (at s).w (bracket (at c) (at s) (at t)) (at b).w (bracket (at s) (at b) (at t)) (at c).w (cramer-w (at s) (at b) (at c) (at t)) q p (T.whole s) r sbc (at t).positive)

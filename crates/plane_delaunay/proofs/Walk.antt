@@ -18,6 +18,7 @@ use Rattle.plane_delaunay.proofs.Nudges.{size, nudged, Closed, Inside}
 use Rattle.plane_delaunay.proofs.Faces.{Tiling}
 use Rattle.plane_delaunay.proofs.Beyond.{Exit, stays, by_first, by_second, by_third, exit}
 use Rattle.plane.specs.Fraction.{Fraction}
+use Rattle.plane.proofs.Signs.{negative_and_not}
 
 -- the way from y, a point of a triangle, to z leaves it through the side a b
 pub record Leaves (y z a b c : Fraction) : Type 0 where
@@ -111,10 +112,7 @@ passes_between x p a b c t off_a off_b h = (first (sign (bracket x p a)), second
         crossed z h k = omega (arith, ints)
 
     second : Rattle.plane.proofs.IntegerOrder.Sign (bracket x p b) → pos 0 <ℤ bracket x p b
-    second (below s) = absurd (crossed (bracket x p b) s least_b)
-      where
-        crossed : (z : ℤ) → z <ℤ pos 0 → pos 0 ≤ℤ z → ⊥
-        crossed z h k = omega (arith, ints)
+    second (below s) = absurd (negative_and_not (bracket x p b) s least_b)
     second (none s) = absurd (clash_b (bracket-turned x p b ∙ s))
     second (above s) = s
 

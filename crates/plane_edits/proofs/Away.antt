@@ -32,6 +32,7 @@ use Rattle.plane_edits.proofs.Changes.{face_kept, each, each_none, turn_of_all, 
 use Rattle.plane_edits.proofs.Heights.{carried, carriedᵖ, carried-turn, lower_abd_abc, lower_abd_acd, lower_bcd_abc, lower_bcd_acd}
 use Rattle.plane_edits.proofs.Legal.{halved, convex_at_first, convex_at_third}
 use Rattle.plane_edits.proofs.Flipping as F
+use Rattle.plane.proofs.Signs.{difference_is_positive, difference_not_negative, less_by_named_difference, same_is_not_less}
 
 carried-mix : (a b c : Vec3) (k : ℤ) (u : Vec3) (l : ℤ) (v : Vec3) → carried a b c (mix k u l v) ≡ k *ℤ carried a b c u +ℤ l *ℤ carried a b c v
 unfolding carried bracket
@@ -81,14 +82,8 @@ third_of_sum r s t a b c = ring_over vec3 (r ∷ s ∷ t ∷ []) (a ∷ b ∷ c 
 times_minus : (d x y : ℤ) → d *ℤ (y -ℤ x) ≡ d *ℤ y -ℤ d *ℤ x
 times_minus d x y = ring_in (d ∷ x ∷ y ∷ []) (λ d x y. d ⊗ (y ⊖ x)) (λ d x y. d ⊗ y ⊖ d ⊗ x) tt
 
-above_none : (a b : ℤ) → a <ℤ b → pos 0 <ℤ (b -ℤ a)
-above_none a b h = omega (arith, ints)
-
-from_above_none : (a b c : ℤ) → c ≡ b -ℤ a → pos 0 <ℤ c → a <ℤ b
-from_above_none a b c e h = omega (arith, ints)
-
 scaled_below : (d x y : ℤ) → pos 0 <ℤ d → x <ℤ y → (d *ℤ x) <ℤ (d *ℤ y)
-scaled_below d x y h k = from_above_none (d *ℤ x) (d *ℤ y) (d *ℤ (y -ℤ x)) (times_minus d x y) (mul-pos_ℤ h (above_none x y k))
+scaled_below d x y h k = less_by_named_difference (d *ℤ x) (d *ℤ y) (d *ℤ (y -ℤ x)) (times_minus d x y) (mul-pos_ℤ h (difference_is_positive x y k))
 
 lower_still : (x y d e top : ℤ) → (x *ℤ d) ≤ℤ (y *ℤ e) → y <ℤ (d *ℤ top) → pos 0 <ℤ d → pos 0 <ℤ e → x <ℤ (e *ℤ top)
 lower_still x y d e top h k hd he = go (lt_or_ge_ℤ x (e *ℤ top))
@@ -99,15 +94,12 @@ lower_still x y d e top h k hd he = go (lt_or_ge_ℤ x (e *ℤ top))
     second : (x d z : ℤ) → d *ℤ (x -ℤ z) ≡ x *ℤ d -ℤ d *ℤ z
     second x d z = ring_in (x ∷ d ∷ z ∷ []) (λ x d z. d ⊗ (x ⊖ z)) (λ x d z. x ⊗ d ⊖ d ⊗ z) tt
 
-    weak_difference : (a b : ℤ) → a ≤ℤ b → pos 0 ≤ℤ (b -ℤ a)
-    weak_difference a b h = omega (arith, ints)
-
     clash : (xd ye z a b : ℤ) → xd ≤ℤ ye → a ≡ z -ℤ ye → pos 0 <ℤ a → b ≡ xd -ℤ z → pos 0 ≤ℤ b → ⊥
     clash xd ye z a b h e ha f hb = omega (arith, ints)
 
     go : (x <ℤ (e *ℤ top)) ⊎ ((e *ℤ top) ≤ℤ x) → x <ℤ (e *ℤ top)
     go (inl o) = o
-    go (inr o) = absurd (clash (x *ℤ d) (y *ℤ e) (d *ℤ (e *ℤ top)) (e *ℤ (d *ℤ top -ℤ y)) (d *ℤ (x -ℤ e *ℤ top)) h (first x y d e top) (mul-pos_ℤ he (above_none y (d *ℤ top) k)) (second x d (e *ℤ top)) (mul-nonneg_ℤ (weak hd) (weak_difference (e *ℤ top) x o)))
+    go (inr o) = absurd (clash (x *ℤ d) (y *ℤ e) (d *ℤ (e *ℤ top)) (e *ℤ (d *ℤ top -ℤ y)) (d *ℤ (x -ℤ e *ℤ top)) h (first x y d e top) (mul-pos_ℤ he (difference_is_positive y (d *ℤ top) k)) (second x d (e *ℤ top)) (mul-nonneg_ℤ (weak hd) (difference_not_negative (e *ℤ top) x o)))
 
 -- ---- below the chord
 -- y is in the closed face i j k, which carries less than top there
@@ -241,12 +233,9 @@ module _ (points : List Point) (u v : ℕ) where
       let turns = C.turn_left_of (length points) p faces outer signs h.a h.b h.c h.here in
       let low = low_of_away faces h turns in
       let corners = P.face_at_side (length points) p faces outer signs (between h.k h.l h.k_positive h.l_positive) (record { u = u; v = v; side = s; within = within h.k h.l h.k_positive h.l_positive }) h.a h.b h.c h.here low.first low.second low.third in
-      level (carried A B Z (mix h.k (at p u) h.l (at p v))) (bracket A B Z *ℤ (h.k *ℤ height (at p u) +ℤ h.l *ℤ height (at p v)))
+      same_is_not_less (carried A B Z (mix h.k (at p u) h.l (at p v))) (bracket A B Z *ℤ (h.k *ℤ height (at p u) +ℤ h.l *ℤ height (at p v)))
       (carried-mix A B Z h.k (at p u) h.l (at p v) ∙ (λ i. h.k *ℤ at_corner h.a h.b h.c u corners.0 i +ℤ h.l *ℤ at_corner h.a h.b h.c v corners.1 i) ∙ together h.k h.l (bracket A B Z) (height (at p u)) (height (at p v))) low.lower
     where
-      level : (x y : ℤ) → x ≡ y → x <ℤ y → ⊥
-      level x y e h = omega (arith, ints)
-
       together : (k l d x y : ℤ) → k *ℤ (d *ℤ x) +ℤ l *ℤ (d *ℤ y) ≡ d *ℤ (k *ℤ x +ℤ l *ℤ y)
       together k l d x y = ring_in (k ∷ l ∷ d ∷ x ∷ y ∷ []) (λ k l d x y. k ⊗ (d ⊗ x) ⊕ l ⊗ (d ⊗ y)) (λ k l d x y. d ⊗ (k ⊗ x ⊕ l ⊗ y)) tt
 
@@ -324,7 +313,7 @@ module _ (points : List Point) (faces new : List Face) (outer : List (ℕ × ℕ
     x = balance_x (P' a) (P' b) (P' c) (P' d);
     y = balance_y (P' a) (P' b) (P' c) (P' d);
     w = balance_w (P' a) (P' b) (P' c) (P' d);
-    lower = from_above_none (pos 0 *ℤ height (at P' a) +ℤ bracket (at P' a) (at P' c) (at P' d) *ℤ height (at P' b) +ℤ bracket (at P' a) (at P' b) (at P' c) *ℤ height (at P' d)) (bracket (at P' b) (at P' c) (at P' d) *ℤ height (at P' a) +ℤ bracket (at P' a) (at P' b) (at P' d) *ℤ height (at P' c)) (incircle (at P' a) (at P' b) (at P' c) (at P' d))
+    lower = less_by_named_difference (pos 0 *ℤ height (at P' a) +ℤ bracket (at P' a) (at P' c) (at P' d) *ℤ height (at P' b) +ℤ bracket (at P' a) (at P' b) (at P' c) *ℤ height (at P' d)) (bracket (at P' b) (at P' c) (at P' d) *ℤ height (at P' a) +ℤ bracket (at P' a) (at P' b) (at P' d) *ℤ height (at P' c)) (incircle (at P' a) (at P' b) (at P' c) (at P' d))
         (chord_above (at P' a) (at P' b) (at P' c) (at P' d)) excess;
   }
 
@@ -410,7 +399,8 @@ another points faces new outer away i j m stays g h k s n = record {
   once = once_cons (i, j) away (λ x. no_edge points i j faces outer m (g.above i j x) s) g.once;
 }
 
-less_or_more : (a c : ℕ) → a ≢ c → (a < c) ⊎ (c < a)
+-- different numbers: one is less
+pub less_or_more : (a c : ℕ) → a ≢ c → (a < c) ⊎ (c < a)
 less_or_more a c n = grind arith
 
 in_more : (e : ℕ × ℕ) (away : List (ℕ × ℕ)) (i j : ℕ) → Joins away i j → Joins (e ∷ away) i j

@@ -16,6 +16,7 @@ use Rattle.plane.proofs.IntegerOrder.{lt_or_ge_ℤ}
 use Rattle.plane_tiling.proofs.Totals.{Contains-head, Contains-later, Contains-cases, Contains-none, get_or_any, total_nonneg, total_at_least, total_positive}
 use Rattle.plane_tiling.proofs.Flows.{IsTurnOf, one_of_three}
 use Rattle.plane_edits.specs.Change.{IsTurnFree, FacesChange}
+use Rattle.plane.proofs.Signs.{at_least_one_through, first_of_three_counts, sum_of_three_not_negative}
 
 -- ---- a face of a list, counted
 abbrev bit : Bool → ℤ
@@ -78,27 +79,18 @@ unfolding turns
 turns_turn_free i j k a b c = three_turned (is_triple i j k (face a b c)) (is_triple j k i (face a b c)) (is_triple k i j (face a b c)) (is_triple i j k (face b c a)) (is_triple j k i (face b c a)) (is_triple k i j (face b c a))
     (is_triple_turned i j k a b c) (is_triple_turned j k i a b c) (is_triple_turned k i j a b c)
 
-three_nonneg : (a b c : ℤ) → pos 0 ≤ℤ a → pos 0 ≤ℤ b → pos 0 ≤ℤ c → pos 0 ≤ℤ (a +ℤ b +ℤ c)
-three_nonneg a b c h k l = omega (arith, ints)
-
 turns_nonneg : (i j k : ℕ) (f : Face) → pos 0 ≤ℤ turns i j k f
 unfolding turns
-turns_nonneg i j k f = three_nonneg (is_triple i j k f) (is_triple j k i f) (is_triple k i j f) (is_triple_nonneg i j k f) (is_triple_nonneg j k i f) (is_triple_nonneg k i j f)
-
-first_counts : (a b c : ℤ) → a ≡ pos 1 → pos 0 ≤ℤ b → pos 0 ≤ℤ c → pos 1 ≤ℤ (a +ℤ b +ℤ c)
-first_counts a b c e h k = omega (arith, ints)
+turns_nonneg i j k f = sum_of_three_not_negative (is_triple i j k f) (is_triple j k i f) (is_triple k i j f) (is_triple_nonneg i j k f) (is_triple_nonneg j k i f) (is_triple_nonneg k i j f)
 
 turns_own : (i j k : ℕ) → pos 1 ≤ℤ turns i j k (face i j k)
 unfolding turns
-turns_own i j k = first_counts (is_triple i j k (face i j k)) (is_triple j k i (face i j k)) (is_triple k i j (face i j k)) (is_triple_own i j k) (is_triple_nonneg j k i (face i j k)) (is_triple_nonneg k i j (face i j k))
-
-at_least : (a b : ℤ) → pos 1 ≤ℤ a → a ≤ℤ b → pos 1 ≤ℤ b
-at_least a b h k = omega (arith, ints)
+turns_own i j k = first_of_three_counts (is_triple i j k (face i j k)) (is_triple j k i (face i j k)) (is_triple k i j (face i j k)) (is_triple_own i j k) (is_triple_nonneg j k i (face i j k)) (is_triple_nonneg k i j (face i j k))
 
 turn_counts : (faces : List Face) (i j k : ℕ) → IsTurnOf faces i j k → pos 1 ≤ℤ total (turns i j k) faces
-turn_counts faces i j k (inl h) = at_least (turns i j k (face i j k)) (total (turns i j k) faces) (turns_own i j k) (total_at_least (turns i j k) faces (λ f _. turns_nonneg i j k f) (face i j k) h)
-turn_counts faces i j k (inr (inl h)) = at_least (turns i j k (face j k i)) (total (turns i j k) faces) (subst (λ z. pos 1 ≤ℤ z) (turns_turn_free i j k i j k) (turns_own i j k)) (total_at_least (turns i j k) faces (λ f _. turns_nonneg i j k f) (face j k i) h)
-turn_counts faces i j k (inr (inr h)) = at_least (turns i j k (face k i j)) (total (turns i j k) faces) (subst (λ z. pos 1 ≤ℤ z) (turns_turn_free i j k i j k ∙ turns_turn_free i j k j k i) (turns_own i j k)) (total_at_least (turns i j k) faces (λ f _. turns_nonneg i j k f) (face k i j) h)
+turn_counts faces i j k (inl h) = at_least_one_through (turns i j k (face i j k)) (total (turns i j k) faces) (turns_own i j k) (total_at_least (turns i j k) faces (λ f _. turns_nonneg i j k f) (face i j k) h)
+turn_counts faces i j k (inr (inl h)) = at_least_one_through (turns i j k (face j k i)) (total (turns i j k) faces) (subst (λ z. pos 1 ≤ℤ z) (turns_turn_free i j k i j k) (turns_own i j k)) (total_at_least (turns i j k) faces (λ f _. turns_nonneg i j k f) (face j k i) h)
+turn_counts faces i j k (inr (inr h)) = at_least_one_through (turns i j k (face k i j)) (total (turns i j k) faces) (subst (λ z. pos 1 ≤ℤ z) (turns_turn_free i j k i j k ∙ turns_turn_free i j k j k i) (turns_own i j k)) (total_at_least (turns i j k) faces (λ f _. turns_nonneg i j k f) (face k i j) h)
 
 turn_found : (faces : List Face) (i j k : ℕ) → pos 0 <ℤ total (turns i j k) faces → IsTurnOf faces i j k
 unfolding turns

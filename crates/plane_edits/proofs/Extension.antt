@@ -19,6 +19,7 @@ use Rattle.plane_edits.specs.Extension.{fan, steps, last_of}
 use Rattle.plane_edits.proofs.Changes.{each, each_none, IsOnce, once_none, once_cons}
 use Rattle.plane_edits.proofs.Additions.{AreTurning, IsAddition, added_kept}
 use Rattle.plane_edits.proofs.Hull as H
+use Rattle.plane.proofs.Signs.{sum_not_positive}
 
 fan_step : (a b c s t r e : ℤ) → s ≡ t +ℤ r +ℤ e → (a +ℤ b +ℤ c) +ℤ s ≡ ((a +ℤ t) +ℤ r) +ℤ (b +ℤ e +ℤ c)
 fan_step a b c s t r e h = omega (arith, ints)
@@ -44,9 +45,6 @@ only_last s a b e h = omega (arith, ints)
 
 pub only_first : (s a b : ℤ) → s ≡ a +ℤ b → b ≡ pos 0 → s ≡ a
 only_first s a b e h = omega (arith, ints)
-
-below_sum : (s a b : ℤ) → s ≡ a +ℤ b → a ≤ℤ pos 0 → b ≤ℤ pos 0 → s ≤ℤ pos 0
-below_sum s a b e h k = omega (arith, ints)
 
 -- ---- paths
 pub steps_snoc : (u : ℕ) (vs : List ℕ) (w : ℕ) → steps u (vs ++ w ∷ []) ≡ steps u vs ++ (last_of u vs, w) ∷ []
@@ -194,7 +192,7 @@ module _ (n : ℕ) (p : ℕ → Point) (faces : List Face) (outer : List (ℕ ×
     n_outside e h s =
         let t' = two_weights IsPositive (whole (p e.0)) (whole (p e.1)) (whole (p n)) s in
         let c = m.ends e h in
-        left_not_below run.1 (not_left_of_product t'.positive (below_sum (t'.n *ℤ bracket (at p u) (at p v) (at p n)) (t'.k *ℤ bracket (at p u) (at p v) (at p e.0)) (t'.l *ℤ bracket (at p u) (at p v) (at p e.1)) (E.mean_bracket IsPositive (p u) (p v) (p e.0) (p e.1) (whole (p n)) t')
+        left_not_below run.1 (not_left_of_product t'.positive (sum_not_positive (t'.n *ℤ bracket (at p u) (at p v) (at p n)) (t'.k *ℤ bracket (at p u) (at p v) (at p e.0)) (t'.l *ℤ bracket (at p u) (at p v) (at p e.1)) (E.mean_bracket IsPositive (p u) (p v) (p e.0) (p e.1) (whole (p n)) t')
         (mul-nonpos_of_nonneg_nonpos_ℤ (weak t'.k_allowed) (m.supporting (u, v) run.0 e.0 c.0)) (mul-nonpos_of_nonneg_nonpos_ℤ (weak t'.l_allowed) (m.supporting (u, v) run.0 e.1 c.1))))
 
     abbrev come : List (ℕ × ℕ)

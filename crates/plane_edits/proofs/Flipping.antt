@@ -32,6 +32,7 @@ use Rattle.plane_edits.proofs.Changes.{face_from, each, each_none, turn_of_all, 
 use Rattle.plane_edits.proofs.Legal.{convex_at_first, convex_at_third}
 use Rattle.plane_edits.proofs.Kept.{turning_of, same_outer, flip_kept}
 use Rattle.plane_edits.proofs.Additions.{around_turn_free}
+use Rattle.plane.proofs.Signs.{sum_not_negative, sum_of_three_not_negative}
 
 -- ---- the test
 pub one_question : OneQuestionForBoth
@@ -98,16 +99,11 @@ area_turn_free points i j k = area-turn (point_at points i) (point_at points j) 
 
 area_nonneg : (a b c : Point) → pos 0 <ℤ bracket (lift a) (lift b) (lift c) → pos 0 ≤ℤ area a b c
 unfolding area
-area_nonneg a b c h = mul-nonneg_ℤ (subst (λ z. pos 0 ≤ℤ z) (bracket-affine a b c) (weak h)) (three (squared_length a) (squared_length b) (squared_length c) (length_nonneg a) (length_nonneg b) (length_nonneg c))
+area_nonneg a b c h = mul-nonneg_ℤ (subst (λ z. pos 0 ≤ℤ z) (bracket-affine a b c) (weak h)) (sum_of_three_not_negative (squared_length a) (squared_length b) (squared_length c) (length_nonneg a) (length_nonneg b) (length_nonneg c))
   where
-    two : (a b : ℤ) → pos 0 ≤ℤ a → pos 0 ≤ℤ b → pos 0 ≤ℤ (a +ℤ b)
-    two a b h k = omega (arith, ints)
-
-    three : (a b c : ℤ) → pos 0 ≤ℤ a → pos 0 ≤ℤ b → pos 0 ≤ℤ c → pos 0 ≤ℤ (a +ℤ b +ℤ c)
-    three a b c h k l = omega (arith, ints)
 
     length_nonneg : (p : Point) → pos 0 ≤ℤ squared_length p
-    length_nonneg p = two (p.x *ℤ p.x) (p.y *ℤ p.y) (square-nonneg_ℤ p.x) (square-nonneg_ℤ p.y)
+    length_nonneg p = sum_not_negative (p.x *ℤ p.x) (p.y *ℤ p.y) (square-nonneg_ℤ p.x) (square-nonneg_ℤ p.y)
 
 smaller : (x y : ℤ) → pos 0 ≤ℤ x → x <ℤ y → nat_abs x < nat_abs y
 smaller (pos a) (pos b) h k = omega (arith, ints)
@@ -154,7 +150,8 @@ one_pair i j a c x y (inl e) (inr f) = inr (sym e.0 ∙ f.0, sym e.1 ∙ f.1)
 one_pair i j a c x y (inr e) (inl f) = inr (sym e.1 ∙ f.1, sym e.0 ∙ f.0)
 one_pair i j a c x y (inr e) (inr f) = inl (sym e.1 ∙ f.1, sym e.0 ∙ f.0)
 
-joins_or_not : (pairs : List (ℕ × ℕ)) (i j : ℕ) → Joins pairs i j ⊎ (¬ Joins pairs i j)
+-- joined or not
+pub joins_or_not : (pairs : List (ℕ × ℕ)) (i j : ℕ) → Joins pairs i j ⊎ (¬ Joins pairs i j)
 joins_or_not pairs i j = go (has_pair_or_not pairs i j) (has_pair_or_not pairs j i)
   where
     go : Contains pairs (i, j) ⊎ (¬ Contains pairs (i, j)) → Contains pairs (j, i) ⊎ (¬ Contains pairs (j, i)) → Joins pairs i j ⊎ (¬ Joins pairs i j)

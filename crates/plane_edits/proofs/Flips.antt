@@ -14,9 +14,7 @@ use Rattle.plane_tiling.proofs.Covering as C
 use Rattle.plane_edits.specs.Change.{FacesChange, OuterChange}
 use Rattle.plane_edits.proofs.Changes.{face_from, face_kept, each, each_none, turn_of_all, once_none}
 use Rattle.plane_edits.proofs.Additions.{IsUsed, corner_of_used, AreTurning, turning_turned, around_turn_free, outer_totals}
-
-balance_kept : (new gone old made outer outer' : ℤ) → new +ℤ gone ≡ old +ℤ made → outer' +ℤ pos 0 ≡ outer +ℤ pos 0 → old +ℤ outer ≡ pos 0 → gone ≡ made → new +ℤ outer' ≡ pos 0
-balance_kept new gone old made outer outer' e o b s = omega (arith, ints)
+use Rattle.plane.proofs.Signs.{balance_stays}
 
 flip_sums : (ab ac ad bc bd cd ca da cb db dc ba : ℤ) → ca ≡ neg_ℤ ac → db ≡ neg_ℤ bd → (ab +ℤ bc +ℤ ca) +ℤ ((ac +ℤ cd +ℤ da) +ℤ pos 0) ≡ (ab +ℤ bd +ℤ da) +ℤ ((bc +ℤ cd +ℤ db) +ℤ pos 0)
 flip_sums ab ac ad bc bd cd ca da cb db dc ba e f = omega (arith, ints)
@@ -38,7 +36,7 @@ module _ (n : ℕ) (p : ℕ → Point) (old new : List Face) (outer outer' : Lis
     supporting = λ e h. m.supporting e (outer_from e h);
     bare = λ e h. m.bare e (outer_from e h);
     once = outer_change.once;
-    balanced = λ flow anti. balance_kept (total (around flow) new) (total (around flow) gone) (total (around flow) old) (total (around flow) made) (total (along flow) outer) (total (along flow) outer')
+    balanced = λ flow anti. balance_stays (total (around flow) new) (total (around flow) gone) (total (around flow) old) (total (around flow) made) (total (along flow) outer) (total (along flow) outer')
         (change.totals (around flow) (around_turn_free flow)) (outer_totals outer outer' [] [] outer_change m.once once_none once_none (λ e h. absurd (Contains-none e h)) (λ e h. absurd (Contains-none e h)) (along flow)) (m.balanced flow anti) (same flow anti);
   }
     where

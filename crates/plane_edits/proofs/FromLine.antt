@@ -25,6 +25,8 @@ use Rattle.plane_edits.specs.Extension.{fan, steps, last_of}
 use Rattle.plane_edits.proofs.Changes.{face_from, turn_of_all, IsOnce, once_none, once_cons, once_tail, once_head, same_total}
 use Rattle.plane_edits.proofs.Additions.{IsUsed, corner_of_used, AreTurning, turning_turned, around_turn_free, outer_totals}
 use Rattle.plane_edits.proofs.Extension.{IsRun, run_up_to, fan_from, fan_total, fans_balance, last_step, only_first, only_last, not_own_end, not_own_start}
+use Rattle.plane.proofs.Signs.{difference_is_positive, difference_not_negative, less_by_difference, same_is_at_most_of, sum_of_zeros}
+use Rattle.plane_edits.proofs.Hull.{factor_left}
 
 -- ---- turns towards q, by places on the line of a and b
 abbrev placeᵖ : Pointᵖ → Pointᵖ → Pointᵖ → Poly
@@ -40,9 +42,6 @@ turn_by_places a b i j q = ring_over points [] (a ∷ b ∷ i ∷ j ∷ q ∷ []
 two_none : (s d e g : ℤ) → s ≡ d -ℤ e +ℤ g → e ≡ pos 0 → g ≡ pos 0 → s ≡ d
 two_none s d e g h k l = omega (arith, ints)
 
-factor_left : {a b : ℤ} → pos 0 <ℤ b → pos 0 <ℤ (a *ℤ b) → pos 0 <ℤ a
-factor_left {a} {b} h e = pos_of_mul-pos_ℤ h (subst (λ z. pos 0 <ℤ z) (*ℤ_comm a b) e)
-
 -- ---- the greatest of the numbers below b
 greatest_below : (f : ℕ → ℤ) (b : ℤ) (n : ℕ) → ((k : ℕ) → k < n → b ≤ℤ f k) ⊎ ((i : ℕ) × (i < n) × (f i <ℤ b) × ((k : ℕ) → k < n → f k <ℤ b → f k ≤ℤ f i))
 greatest_below f b zero = inl (λ k h. absurd (omega arith))
@@ -50,9 +49,6 @@ greatest_below f b (suc n) = go (greatest_below f b n) (lt_or_ge_ℤ (f n) b)
   where
     below_or_last : (k : ℕ) → k < suc n → (k < n) ⊎ (k ≡ n)
     below_or_last k h = grind arith
-
-    same : {x y : ℤ} → x ≡ y → x ≤ℤ y
-    same e = omega (arith, ints)
 
     after : {x y z : ℤ} → x ≤ℤ y → y <ℤ z → x ≤ℤ z
     after h k = omega (arith, ints)
@@ -63,12 +59,12 @@ greatest_below f b (suc n) = go (greatest_below f b n) (lt_or_ge_ℤ (f n) b)
     go : ((k : ℕ) → k < n → b ≤ℤ f k) ⊎ ((i : ℕ) × (i < n) × (f i <ℤ b) × ((k : ℕ) → k < n → f k <ℤ b → f k ≤ℤ f i)) → (f n <ℤ b) ⊎ (b ≤ℤ f n)
         → ((k : ℕ) → k < suc n → b ≤ℤ f k) ⊎ ((i : ℕ) × (i < suc n) × (f i <ℤ b) × ((k : ℕ) → k < suc n → f k <ℤ b → f k ≤ℤ f i))
     go (inl all) (inr h) = inl (λ k l. elim (below_or_last k l) [ inl x ↦ all k x | inr e ↦ subst (λ (i : ℕ). b ≤ℤ f i) (sym e) h ])
-    go (inl all) (inl h) = inr (n, omega arith, h, (λ k l s. elim (below_or_last k l) [ inl x ↦ absurd (clash s (all k x)) | inr e ↦ same (ap f e) ]))
+    go (inl all) (inl h) = inr (n, omega arith, h, (λ k l s. elim (below_or_last k l) [ inl x ↦ absurd (clash s (all k x)) | inr e ↦ same_is_at_most_of (ap f e) ]))
     go (inr (i, x, y, z)) (inr h) = inr (i, omega arith, y, (λ k l s. elim (below_or_last k l) [ inl r ↦ z k r s | inr e ↦ absurd (clash s (subst (λ (i : ℕ). b ≤ℤ f i) (sym e) h)) ]))
     go (inr (i, x, y, z)) (inl h) = by (lt_or_ge_ℤ (f i) (f n))
       where
         by : (f i <ℤ f n) ⊎ (f n ≤ℤ f i) → ((k : ℕ) → k < suc n → b ≤ℤ f k) ⊎ ((i : ℕ) × (i < suc n) × (f i <ℤ b) × ((k : ℕ) → k < suc n → f k <ℤ b → f k ≤ℤ f i))
-        by (inl o) = inr (n, omega arith, h, (λ k l s. elim (below_or_last k l) [ inl r ↦ after (z k r s) o | inr e ↦ same (ap f e) ]))
+        by (inl o) = inr (n, omega arith, h, (λ k l s. elim (below_or_last k l) [ inl r ↦ after (z k r s) o | inr e ↦ same_is_at_most_of (ap f e) ]))
         by (inr o) = inr (i, omega arith, y, (λ k l s. elim (below_or_last k l) [ inl r ↦ z k r s | inr e ↦ subst (λ (j : ℕ). f j ≤ℤ f i) (sym e) o ]))
 
 -- ---- the two ways of each pair cancel out
@@ -119,12 +115,6 @@ both_ways_cancel flow anti es once back = own_negative (total (along flow) es) (
 balanced_from_line : (f o f' o' fans steps come : ℤ) → f' +ℤ pos 0 ≡ pos 0 +ℤ fans → o' +ℤ steps ≡ o +ℤ come → fans +ℤ come ≡ pos 0 +ℤ steps → o ≡ pos 0 → f' +ℤ o' ≡ pos 0
 balanced_from_line f o f' o' fans steps come a b c d = omega (arith, ints)
 
-difference_left : (a b : ℤ) → pos 0 <ℤ (b -ℤ a) → a <ℤ b
-difference_left a b h = omega (arith, ints)
-
-difference_weak : (a b : ℤ) → a ≤ℤ b → pos 0 ≤ℤ (b -ℤ a)
-difference_weak a b h = omega (arith, ints)
-
 module _ (n : ℕ) (p : ℕ → Point) (outer now : List (ℕ × ℕ)) (new : List Face) (m : SignLine n p outer) (u v : ℕ) (vs : List ℕ) (run : IsRun n p outer u (v ∷ vs)) where
   first : IsNext n p u v
   first = (m.neighbours u v).0 run.0
@@ -156,16 +146,13 @@ module _ (n : ℕ) (p : ℕ → Point) (outer now : List (ℕ × ℕ)) (new : Li
       (turn_by_places (p u) (p v) (p i) (p j) (p n)) (product_zero_left (spot n -ℤ spot i) (on j hj)) (product_zero_left (spot n -ℤ spot j) (on i hi))
 
   seen_rises : (i j : ℕ) → i < n → j < n → pos 0 <ℤ bracket (at p i) (at p j) (at p n) → spot i <ℤ spot j
-  seen_rises i j hi hj h = difference_left (spot i) (spot j) (factor_left {a = spot j -ℤ spot i} run.1 (subst (λ z. pos 0 <ℤ z) (by_places i j hi hj) (mul-pos_ℤ long h)))
+  seen_rises i j hi hj h = less_by_difference (spot i) (spot j) (factor_left {a = spot j -ℤ spot i} run.1 (subst (λ z. pos 0 <ℤ z) (by_places i j hi hj) (mul-pos_ℤ long h)))
 
   rising_seen : (i j : ℕ) → i < n → j < n → spot i <ℤ spot j → pos 0 <ℤ bracket (at p i) (at p j) (at p n)
-  rising_seen i j hi hj h = pos_of_mul-pos_ℤ long (subst (λ z. pos 0 <ℤ z) (sym (by_places i j hi hj)) (mul-pos_ℤ (left_difference (spot i) (spot j) h) run.1))
-    where
-      left_difference : (a b : ℤ) → a <ℤ b → pos 0 <ℤ (b -ℤ a)
-      left_difference a b h = omega (arith, ints)
+  rising_seen i j hi hj h = pos_of_mul-pos_ℤ long (subst (λ z. pos 0 <ℤ z) (sym (by_places i j hi hj)) (mul-pos_ℤ (difference_is_positive (spot i) (spot j) h) run.1))
 
   level_or_rising : (i j : ℕ) → i < n → j < n → spot i ≤ℤ spot j → pos 0 ≤ℤ bracket (at p i) (at p j) (at p n)
-  level_or_rising i j hi hj h = nonneg_of_mul-nonneg_ℤ long (subst (λ z. pos 0 ≤ℤ z) (sym (by_places i j hi hj)) (mul-nonneg_ℤ (difference_weak (spot i) (spot j) h) (weak run.1)))
+  level_or_rising i j hi hj h = nonneg_of_mul-nonneg_ℤ long (subst (λ z. pos 0 ≤ℤ z) (sym (by_places i j hi hj)) (mul-nonneg_ℤ (difference_not_negative (spot i) (spot j) h) (weak run.1)))
 
   -- the vertices lie from u to the last one
   next_if_none_between : (i j : ℕ) → i < n → j < n → spot i <ℤ spot j → ((k : ℕ) → k < n → spot i <ℤ spot k → spot k <ℤ spot j → ⊥) → IsNext n p i j
@@ -222,14 +209,11 @@ module _ (n : ℕ) (p : ℕ → Point) (outer now : List (ℕ × ℕ)) (new : Li
   starts_after x [] run s r h = absurd (Contains-none (s, r) h)
   starts_after x (y ∷ ys) run s r h = go (Contains-cases (x, y) (steps y ys) (s, r) h) (starts_after y ys run.2 s r)
     where
-      own : {a b : ℤ} → a ≡ b → a ≤ℤ b
-      own e = omega (arith, ints)
-
       on_from : {a b c : ℤ} → a <ℤ b → b ≤ℤ c → a ≤ℤ c
       on_from a b = omega (arith, ints)
 
       go : (◌≡◌ {A = ℕ × ℕ} (x, y) (s, r)) ⊎ Contains (steps y ys) (s, r) → (Contains (steps y ys) (s, r) → spot y ≤ℤ spot s) → spot x ≤ℤ spot s
-      go (inl e) rest = own (ap (λ (z : ℕ × ℕ). spot z.0) e)
+      go (inl e) rest = same_is_at_most_of (ap (λ (z : ℕ × ℕ). spot z.0) e)
       go (inr k) rest = on_from (rises x y run.0 run.1) (rest k)
 
   steps_once : (x : ℕ) (ys : List ℕ) → IsRun n p outer x ys → IsOnce (steps x ys)
@@ -411,10 +395,7 @@ module _ (n : ℕ) (p : ℕ → Point) (outer now : List (ℕ × ℕ)) (new : Li
       bare e (inl h) k (inr l) w =
           let c = (m.neighbours e.0 e.1).0 h.0 in
           let t = two_weights IsPositive (whole (p e.0)) (whole (p e.1)) (whole (p n)) (subst (λ i. WithinSegment (whole (p e.0)) (whole (p e.1)) (whole (p i))) l w) in
-          left_not_zero (mul-pos_ℤ t.positive run.1) (E.mean_bracket IsPositive (p u) (p v) (p e.0) (p e.1) (whole (p n)) t ∙ sum_none (t.k *ℤ bracket (at p u) (at p v) (at p e.0)) (t.l *ℤ bracket (at p u) (at p v) (at p e.1)) (zero-mul_ℤ t.k (on e.0 c.first)) (zero-mul_ℤ t.l (on e.1 c.second)))
-        where
-          sum_none : (a b : ℤ) → a ≡ pos 0 → b ≡ pos 0 → a +ℤ b ≡ pos 0
-          sum_none a b h k = omega (arith, ints)
+          left_not_zero (mul-pos_ℤ t.positive run.1) (E.mean_bracket IsPositive (p u) (p v) (p e.0) (p e.1) (whole (p n)) t ∙ sum_of_zeros (t.k *ℤ bracket (at p u) (at p v) (at p e.0)) (t.l *ℤ bracket (at p u) (at p v) (at p e.1)) (zero-mul_ℤ t.k (on e.0 c.first)) (zero-mul_ℤ t.l (on e.1 c.second)))
       bare e (inr (inl s)) k l w = subst Bare s first_bare k l w
       bare e (inr (inr s)) k l w = subst Bare s last_bare k l w
 

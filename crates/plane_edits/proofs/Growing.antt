@@ -1,5 +1,5 @@
 -- A new vertex outside the hull, joined to one outer edge after another: each step, and the end.
-use Rattle.std.proofs.Common.{◌≡◌, ◌⊎◌, ℕ, suc, ◌<◌, List, [], ◌∷◌, ◌++◌, length, refl, sym, ap, ◌∙◌, subst, arith}
+use Rattle.std.proofs.Common.{◌≡◌, ◌⊎◌, ℕ, ◌<◌, List, [], ◌∷◌, ◌++◌, length, refl, sym, ap, ◌∙◌, subst, arith}
 use mathlib.Core.Logic.{inl, inr, ◌≢◌}
 use Rattle.std.specs.Prelude.{ℤ, pos, ◌+ℤ◌, ◌≤ℤ◌, ◌<ℤ◌, Contains}
 use Rattle.std.proofs.lemmas.Int.{ints}
@@ -24,14 +24,7 @@ use Rattle.plane_edits.proofs.Changes.{face_kept, each, each_none, IsOnce, once_
 use Rattle.plane_edits.proofs.Additions.{outer_totals}
 use Rattle.plane_edits.proofs.Extension.{steps_snoc, fan_snoc, last_of_snoc, IsRun, run_open, extended}
 use Rattle.plane_edits.proofs.Kept.{with_last, from_last}
-
--- ---- lengths
-total_ones : {X : Type 0} (xs : List X) → total (λ _. pos 1) xs ≡ pos (length xs)
-total_ones [] = refl
-total_ones (x ∷ xs) = next (length xs) (total (λ _. pos 1) xs) (total_ones xs)
-  where
-    next : (k : ℕ) (t : ℤ) → t ≡ pos k → pos 1 +ℤ t ≡ pos (suc k)
-    next k t e = omega (arith, ints)
+use Rattle.plane_tiling.proofs.Rising.{total_ones}
 
 -- two outer edges go and one comes
 pub one_less : (old new : List (ℕ × ℕ)) (d e f : ℕ × ℕ) → OuterChange old new (d ∷ e ∷ []) (f ∷ []) → IsOnce old → Contains old d → Contains old e → d ≢ e → ¬ Contains old f → length new < length old

@@ -7,8 +7,8 @@ use lib.IntN.{*ℤ_comm}
 use Rattle.std.proofs.lemmas.Bool.{cases_eq}
 use Rattle.plane.specs.Fraction.{Point, whole, IsPositive, WithinSegment}
 use Rattle.plane.specs.Tiling.{Face}
-use Rattle.plane.proofs.IntegerOrder.{mul-pos_ℤ, mul-nonpos_of_nonneg_nonpos_ℤ, mul-nonneg_ℤ, zero_of_mul-zero_ℤ, pos-ne-zero_ℤ, zero-mul_ℤ, trichotomy_ℤ, lt_or_ge_ℤ, pos_of_mul-pos_ℤ, nonneg_of_mul-nonneg_ℤ, mul_cancel_ℤ}
-use Rattle.plane.proofs.Steps.{left_not_zero, weak, left_not_below, between_zero, not_left_of_product, negated_below, zero_or_left, product_zero_left, times_one}
+use Rattle.plane.proofs.IntegerOrder.{mul-pos_ℤ, mul-nonpos_of_nonneg_nonpos_ℤ, mul-nonneg_ℤ, zero_of_mul-zero_ℤ, pos-ne-zero_ℤ, zero-mul_ℤ, trichotomy_ℤ, lt_or_ge_ℤ, pos_of_mul-pos_ℤ, nonneg_of_mul-nonneg_ℤ, mul_cancel_ℤ, neg-pos_ℤ}
+use Rattle.plane.proofs.Steps.{left_not_zero, weak, left_not_below, between_zero, not_left_of_product, negated_below, zero_or_left, product_zero_left, times_one, drop_zero, drop_zero_last}
 use Rattle.plane.proofs.Solver.{num, ◌⊕◌, ◌⊖◌, ◌⊗◌, ring_over}
 use Rattle.plane.proofs.Bracket.{Vec3, bracket, bracketᵖ, vec3, lift}
 use Rattle.plane.proofs.BracketIdentities.{bracket-turn, bracket-swap, pluecker, bracket-outer, bracket-last, cramer, cramer_x, cramer_y, cramer_w}
@@ -18,9 +18,7 @@ use Rattle.plane.proofs.Generic.{not_on_line}
 use Rattle.plane_tiling.proofs.Counting.{at, SignMesh, same_index, within_turned}
 use Rattle.plane_tiling.proofs.Covering as C
 use Rattle.plane_tiling.proofs.Edges as E
-
-negated_weak : {z y : ℤ} → z ≡ neg_ℤ y → pos 0 ≤ℤ y → z ≤ℤ pos 0
-negated_weak e h = omega (arith, ints)
+use Rattle.plane.proofs.Signs.{last_of_three, negated_not_negative, opposite_not_positive, sum_without_first}
 
 -- Plücker's relation, by signs
 first_not_left : (a b c d e f : ℤ) → a *ℤ b -ℤ c *ℤ d +ℤ e *ℤ f ≡ pos 0 → (c *ℤ d) ≤ℤ pos 0 → pos 0 ≤ℤ (e *ℤ f) → (a *ℤ b) ≤ℤ pos 0
@@ -34,15 +32,6 @@ nonpos_product {a} {b} h k = subst (λ z. z ≤ℤ pos 0) (*ℤ_comm b a) (mul-n
 
 three_none : (s a b c : ℤ) → s ≡ pos 0 → s ≡ a +ℤ b +ℤ c → a ≤ℤ pos 0 → b ≤ℤ pos 0 → c ≤ℤ pos 0 → a ≡ pos 0
 three_none s a b c z e h k l = omega (arith, ints)
-
-without_first : (s a b c : ℤ) → s ≡ a +ℤ b +ℤ c → a ≡ pos 0 → s ≡ b +ℤ c
-without_first s a b c e h = omega (arith, ints)
-
-only_last : (s a b : ℤ) → s ≡ a +ℤ b → a ≡ pos 0 → s ≡ b
-only_last s a b e h = omega (arith, ints)
-
-only_first : (s a b : ℤ) → s ≡ a +ℤ b → b ≡ pos 0 → s ≡ a
-only_first s a b e h = omega (arith, ints)
 
 -- the weight of the last end, where the other two leave less than all
 last_weight : (d s k l : ℤ) → d *ℤ pos 1 ≡ s *ℤ pos 1 +ℤ l *ℤ pos 1 +ℤ k *ℤ pos 1 → s ≤ℤ pos 0 → l ≡ pos 0 → pos 0 <ℤ d → pos 0 <ℤ k
@@ -154,9 +143,9 @@ module _ (n : ℕ) (p : ℕ → Point) (faces : List Face) (outer : List (ℕ ×
         between h =
             let w = two_weights IsPositive (whole (p v)) (whole (p t)) (whole (p u)) h in
             let left : pos 0 <ℤ bracket (lift q) (at p t) (at p v) = subst (λ z. pos 0 <ℤ z) (bracket-turn (at p v) (lift q) (at p t))
-            (pos_of_mul-pos_ℤ w.l_allowed (subst (λ z. pos 0 <ℤ z) (only_last (w.n *ℤ bracket (at p v) (lift q) (at p u)) (w.k *ℤ bracket (at p v) (lift q) (at p v)) (w.l *ℤ bracket (at p v) (lift q) (at p t)) (E.mean_bracket IsPositive (p v) q (p v) (p t) (whole (p u)) w) (zero-mul_ℤ w.k (bracket-outer (at p v) (lift q))))
+            (pos_of_mul-pos_ℤ w.l_allowed (subst (λ z. pos 0 <ℤ z) (drop_zero (w.n *ℤ bracket (at p v) (lift q) (at p u)) (w.k *ℤ bracket (at p v) (lift q) (at p v)) (w.l *ℤ bracket (at p v) (lift q) (at p t)) (E.mean_bracket IsPositive (p v) q (p v) (p t) (whole (p u)) w) (zero-mul_ℤ w.k (bracket-outer (at p v) (lift q))))
             (mul-pos_ℤ w.positive (subst (λ z. pos 0 <ℤ z) (bracket-turn (at p u) (at p v) (lift q)) sees)))) in
-            let also : pos 0 <ℤ bracket (lift q) (at p t) (at p u) = pos_of_mul-pos_ℤ w.positive (subst (λ z. pos 0 <ℤ z) (sym (only_first (w.n *ℤ bracket (lift q) (at p t) (at p u)) (w.k *ℤ bracket (lift q) (at p t) (at p v)) (w.l *ℤ bracket (lift q) (at p t) (at p t)) (E.mean_bracket IsPositive q (p t) (p v) (p t) (whole (p u)) w) (zero-mul_ℤ w.l (bracket-last (lift q) (at p t)))))
+            let also : pos 0 <ℤ bracket (lift q) (at p t) (at p u) = pos_of_mul-pos_ℤ w.positive (subst (λ z. pos 0 <ℤ z) (sym (drop_zero_last (w.n *ℤ bracket (lift q) (at p t) (at p u)) (w.k *ℤ bracket (lift q) (at p t) (at p v)) (w.l *ℤ bracket (lift q) (at p t) (at p t)) (E.mean_bracket IsPositive q (p t) (p v) (p t) (whole (p u)) w) (zero-mul_ℤ w.l (bracket-last (lift q) (at p t)))))
             (mul-pos_ℤ w.k_allowed left)) in
             left_not_below (subst (λ z. pos 0 <ℤ z) (bracket-turn (lift q) (at p t) (at p u)) also) blind
 
@@ -196,9 +185,9 @@ module _ (n : ℕ) (p : ℕ → Point) (faces : List Face) (outer : List (ℕ ×
         between : WithinSegment (whole (p w)) (whole (p u)) (whole (p v)) → ⊥
         between h =
             let t = two_weights IsPositive (whole (p w)) (whole (p u)) (whole (p v)) h in
-            let left : pos 0 <ℤ bracket (lift q) (at p u) (at p w) = pos_of_mul-pos_ℤ t.k_allowed (subst (λ z. pos 0 <ℤ z) (only_first (t.n *ℤ bracket (lift q) (at p u) (at p v)) (t.k *ℤ bracket (lift q) (at p u) (at p w)) (t.l *ℤ bracket (lift q) (at p u) (at p u)) (E.mean_bracket IsPositive q (p u) (p w) (p u) (whole (p v)) t) (zero-mul_ℤ t.l (bracket-last (lift q) (at p u))))
+            let left : pos 0 <ℤ bracket (lift q) (at p u) (at p w) = pos_of_mul-pos_ℤ t.k_allowed (subst (λ z. pos 0 <ℤ z) (drop_zero_last (t.n *ℤ bracket (lift q) (at p u) (at p v)) (t.k *ℤ bracket (lift q) (at p u) (at p w)) (t.l *ℤ bracket (lift q) (at p u) (at p u)) (E.mean_bracket IsPositive q (p u) (p w) (p u) (whole (p v)) t) (zero-mul_ℤ t.l (bracket-last (lift q) (at p u))))
             (mul-pos_ℤ t.positive (subst (λ z. pos 0 <ℤ z) (bracket-turn (at p u) (at p v) (lift q) ∙ bracket-turn (at p v) (lift q) (at p u)) sees))) in
-            let also : pos 0 <ℤ bracket (at p w) (lift q) (at p v) = pos_of_mul-pos_ℤ t.positive (subst (λ z. pos 0 <ℤ z) (sym (only_last (t.n *ℤ bracket (at p w) (lift q) (at p v)) (t.k *ℤ bracket (at p w) (lift q) (at p w)) (t.l *ℤ bracket (at p w) (lift q) (at p u)) (E.mean_bracket IsPositive (p w) q (p w) (p u) (whole (p v)) t) (zero-mul_ℤ t.k (bracket-outer (at p w) (lift q)))))
+            let also : pos 0 <ℤ bracket (at p w) (lift q) (at p v) = pos_of_mul-pos_ℤ t.positive (subst (λ z. pos 0 <ℤ z) (sym (drop_zero (t.n *ℤ bracket (at p w) (lift q) (at p v)) (t.k *ℤ bracket (at p w) (lift q) (at p w)) (t.l *ℤ bracket (at p w) (lift q) (at p u)) (E.mean_bracket IsPositive (p w) q (p w) (p u) (whole (p v)) t) (zero-mul_ℤ t.k (bracket-outer (at p w) (lift q)))))
             (mul-pos_ℤ t.l_allowed (subst (λ z. pos 0 <ℤ z) (bracket-turn (lift q) (at p u) (at p w) ∙ bracket-turn (at p u) (at p w) (lift q)) left))) in
             left_not_below (subst (λ z. pos 0 <ℤ z) (sym (bracket-turn (at p v) (at p w) (lift q))) also) blind
 
@@ -220,7 +209,7 @@ module _ (n : ℕ) (p : ℕ → Point) (faces : List Face) (outer : List (ℕ ×
 
         go : (bracket (at p v) (at p u) (at p w) ≡ pos 0) ⊎ (pos 0 <ℤ bracket (at p v) (at p u) (at p w)) → bracket (lift q) (at p v) (at p z) ≤ℤ pos 0
         go (inl e) = absurd (not_bent_back u v w a b sees blind e)
-        go (inr l) = negated_weak (bracket-swap (lift q) (at p v) (at p z)) (nonneg_of_mul-nonneg_ℤ l (subst (λ y. pos 0 ≤ℤ y) (*ℤ_comm (bracket (at p v) (lift q) (at p z)) (bracket (at p v) (at p u) (at p w)))
+        go (inr l) = opposite_not_positive (bracket-swap (lift q) (at p v) (at p z)) (nonneg_of_mul-nonneg_ℤ l (subst (λ y. pos 0 ≤ℤ y) (*ℤ_comm (bracket (at p v) (lift q) (at p z)) (bracket (at p v) (at p u) (at p w)))
             (first_not_right (bracket (at p v) (lift q) (at p z)) (bracket (at p v) (at p u) (at p w)) (bracket (at p v) (lift q) (at p u)) (bracket (at p v) (at p z) (at p w)) (bracket (at p v) (lift q) (at p w)) (bracket (at p v) (at p z) (at p u))
             (pluecker (at p v) (lift q) (at p z) (at p u) (at p w))
             (mul-nonneg_ℤ (weak to_q) (swapped_weak (at p v) (at p w) (at p z) (m.supporting (v, w) b z h)))
@@ -254,7 +243,7 @@ module _ (n : ℕ) (p : ℕ → Point) (faces : List Face) (outer : List (ℕ ×
           D = bracket (lift q) (at p u) (at p v)
 
           coordinate : (a b c e : ℤ) → bracket (lift q) (at p u) (at p v) *ℤ a ≡ bracket (at p u) (at p v) (at p s) *ℤ b +ℤ bracket (at p v) (lift q) (at p s) *ℤ c +ℤ bracket (lift q) (at p u) (at p s) *ℤ e → bracket (lift q) (at p u) (at p v) *ℤ a ≡ bracket (at p v) (lift q) (at p s) *ℤ c +ℤ bracket (lift q) (at p u) (at p s) *ℤ e
-          coordinate a b c e h = without_first (bracket (lift q) (at p u) (at p v) *ℤ a) (bracket (at p u) (at p v) (at p s) *ℤ b) (bracket (at p v) (lift q) (at p s) *ℤ c) (bracket (lift q) (at p u) (at p s) *ℤ e) h (product_zero_left b flat)
+          coordinate a b c e h = sum_without_first (bracket (lift q) (at p u) (at p v) *ℤ a) (bracket (at p u) (at p v) (at p s) *ℤ b) (bracket (at p v) (lift q) (at p s) *ℤ c) (bracket (lift q) (at p u) (at p s) *ℤ e) h (product_zero_left b flat)
 
           x : bracket (lift q) (at p u) (at p v) *ℤ (p s).x ≡ bracket (at p v) (lift q) (at p s) *ℤ (p u).x +ℤ bracket (lift q) (at p u) (at p s) *ℤ (p v).x
           x = coordinate (p s).x q.x (p u).x (p v).x (cramer_x (lift q) (at p u) (at p v) (at p s))
@@ -281,9 +270,9 @@ module _ (n : ℕ) (p : ℕ → Point) (faces : List Face) (outer : List (ℕ ×
             w = w;
           })))
           go (inl e) =
-              let k = times_one (bracket (lift q) (at p u) (at p v)) (bracket (at p v) (lift q) (at p s)) (only_first (bracket (lift q) (at p u) (at p v) *ℤ pos 1) (bracket (at p v) (lift q) (at p s) *ℤ pos 1) (bracket (lift q) (at p u) (at p s) *ℤ pos 1) w (product_zero_left (pos 1) e)) in
-              let x' = mul_cancel_ℤ (pos-ne-zero_ℤ seen) (only_first (bracket (lift q) (at p u) (at p v) *ℤ (p s).x) (bracket (at p v) (lift q) (at p s) *ℤ (p u).x) (bracket (lift q) (at p u) (at p s) *ℤ (p v).x) x (product_zero_left (p v).x e) ∙ ap (λ z. z *ℤ (p u).x) (sym k)) in
-              let y' = mul_cancel_ℤ (pos-ne-zero_ℤ seen) (only_first (bracket (lift q) (at p u) (at p v) *ℤ (p s).y) (bracket (at p v) (lift q) (at p s) *ℤ (p u).y) (bracket (lift q) (at p u) (at p s) *ℤ (p v).y) y (product_zero_left (p v).y e) ∙ ap (λ z. z *ℤ (p u).y) (sym k)) in
+              let k = times_one (bracket (lift q) (at p u) (at p v)) (bracket (at p v) (lift q) (at p s)) (drop_zero_last (bracket (lift q) (at p u) (at p v) *ℤ pos 1) (bracket (at p v) (lift q) (at p s) *ℤ pos 1) (bracket (lift q) (at p u) (at p s) *ℤ pos 1) w (product_zero_left (pos 1) e)) in
+              let x' = mul_cancel_ℤ (pos-ne-zero_ℤ seen) (drop_zero_last (bracket (lift q) (at p u) (at p v) *ℤ (p s).x) (bracket (at p v) (lift q) (at p s) *ℤ (p u).x) (bracket (lift q) (at p u) (at p s) *ℤ (p v).x) x (product_zero_left (p v).x e) ∙ ap (λ z. z *ℤ (p u).x) (sym k)) in
+              let y' = mul_cancel_ℤ (pos-ne-zero_ℤ seen) (drop_zero_last (bracket (lift q) (at p u) (at p v) *ℤ (p s).y) (bracket (at p v) (lift q) (at p s) *ℤ (p u).y) (bracket (lift q) (at p u) (at p s) *ℤ (p v).y) y (product_zero_left (p v).y e) ∙ ap (λ z. z *ℤ (p u).y) (sym k)) in
               same (same_index n p m.distinct s u index_other.0 index.0 (λ i. record { x = x' i; y = y' i }))
 
       -- s is not on the line from q to the run's end
@@ -291,12 +280,9 @@ module _ (n : ℕ) (p : ℕ → Point) (faces : List Face) (outer : List (ℕ ×
       not_at_end from_u level ends =
           let K = last_weight (bracket (lift q) (at p u) (at p v)) (bracket (at p u) (at p v) (at p s)) (bracket (lift q) (at p u) (at p s)) (bracket (at p v) (lift q) (at p s)) (cramer_w (lift q) (at p u) (at p v) (at p s)) (m.supporting (u, v) own s index_other.0) level seen in
           left_not_below (mul-pos_ℤ seen (subst (λ z. pos 0 <ℤ z) (bracket-turn (at p s) (at p r) (lift q)) sees_other))
-          (subst (λ z. z ≤ℤ pos 0) (sym (last_only (bracket (lift q) (at p u) (at p v) *ℤ bracket (at p r) (lift q) (at p s)) (bracket (at p u) (at p v) (at p s) *ℤ bracket (at p r) (lift q) (lift q)) (bracket (at p v) (lift q) (at p s) *ℤ bracket (at p r) (lift q) (at p u)) (bracket (lift q) (at p u) (at p s) *ℤ bracket (at p r) (lift q) (at p v))
+          (subst (λ z. z ≤ℤ pos 0) (sym (last_of_three (bracket (lift q) (at p u) (at p v) *ℤ bracket (at p r) (lift q) (at p s)) (bracket (at p u) (at p v) (at p s) *ℤ bracket (at p r) (lift q) (lift q)) (bracket (at p v) (lift q) (at p s) *ℤ bracket (at p r) (lift q) (at p u)) (bracket (lift q) (at p u) (at p s) *ℤ bracket (at p r) (lift q) (at p v))
           (cramer (lift q) (at p u) (at p v) (at p s) (at p r) (lift q)) (zero-mul_ℤ (bracket (at p u) (at p v) (at p s)) (bracket-last (at p r) (lift q))) (product_zero_left (bracket (at p r) (lift q) (at p u)) level)))
           (mul-nonpos_of_nonneg_nonpos_ℤ (weak K) (subst (λ z. z ≤ℤ pos 0) (sym (bracket-turn (at p r) (lift q) (at p v))) (ends r index_other.1))))
-        where
-          last_only : (s a b c : ℤ) → s ≡ a +ℤ b +ℤ c → a ≡ pos 0 → b ≡ pos 0 → s ≡ c
-          last_only s a b c e h k = omega (arith, ints)
 
     -- ---- a run of seen outer edges, from u through the indexes of a list
     abbrev pub IsRun : ℕ → List ℕ → Type 0
@@ -313,21 +299,15 @@ module _ (n : ℕ) (p : ℕ → Point) (faces : List Face) (outer : List (ℕ ×
 
     -- each outer edge that q sees is of the run, if the lines from q to the run's ends support all vertices
     pub seen_in_run : (s r : ℕ) → Contains outer (s, r) → Sees s r → (u v : ℕ) (vs : List ℕ) → IsRun u (v ∷ vs) → pos 0 ≤ℤ bracket (lift q) (at p u) (at p s) → ((z : ℕ) → z < n → bracket (lift q) (at p (end_of v vs)) (at p z) ≤ℤ pos 0) → IsOfRun u (v ∷ vs) s r
-    seen_in_run s r other sees_other u v [] run from_u ends = inl (go (zero_or_left (subst (λ z. pos 0 ≤ℤ z) (sym (bracket-swap (at p v) (lift q) (at p s))) (negated_nonneg (ends s (m.ends (s, r) other).0)))))
+    seen_in_run s r other sees_other u v [] run from_u ends = inl (go (zero_or_left (subst (λ z. pos 0 ≤ℤ z) (sym (bracket-swap (at p v) (lift q) (at p s))) (negated_not_negative (ends s (m.ends (s, r) other).0)))))
       where
-        negated_nonneg : {z : ℤ} → z ≤ℤ pos 0 → pos 0 ≤ℤ neg_ℤ z
-        negated_nonneg h = omega (arith, ints)
-
         go : (bracket (at p v) (lift q) (at p s) ≡ pos 0) ⊎ (pos 0 <ℤ bracket (at p v) (lift q) (at p s)) → (s ≡ u) × (r ≡ v)
         go (inl e) = absurd (not_at_end u v s r run.0 other run.1 sees_other from_u e ends)
         go (inr l) = in_angle u v s r run.0 other run.1 sees_other from_u l
     seen_in_run s r other sees_other u v (w ∷ vs) run from_u ends = go (lt_or_ge_ℤ (bracket (lift q) (at p v) (at p s)) (pos 0)) (seen_in_run s r other sees_other v w vs run.2)
       where
-        negated_left : {z : ℤ} → z <ℤ pos 0 → pos 0 <ℤ neg_ℤ z
-        negated_left h = omega (arith, ints)
-
         go : (bracket (lift q) (at p v) (at p s) <ℤ pos 0) ⊎ (pos 0 ≤ℤ bracket (lift q) (at p v) (at p s)) → (pos 0 ≤ℤ bracket (lift q) (at p v) (at p s) → ((z : ℕ) → z < n → bracket (lift q) (at p (end_of w vs)) (at p z) ≤ℤ pos 0) → IsOfRun v (w ∷ vs) s r) → IsOfRun u (v ∷ w ∷ vs) s r
-        go (inl l) rest = inl (in_angle u v s r run.0 other run.1 sees_other from_u (subst (λ z. pos 0 <ℤ z) (sym (bracket-swap (at p v) (lift q) (at p s))) (negated_left l)))
+        go (inl l) rest = inl (in_angle u v s r run.0 other run.1 sees_other from_u (subst (λ z. pos 0 <ℤ z) (sym (bracket-swap (at p v) (lift q) (at p s))) (neg-pos_ℤ l)))
         go (inr l) rest = inr (rest l ends)
 
 -- ---- not all of an outer loop sees q
@@ -346,7 +326,8 @@ no_farther k = omega (arith, ints)
 middle_left : (a b c d s : ℤ) → a -ℤ b +ℤ c -ℤ d ≡ pos 0 → pos 0 <ℤ a → pos 0 <ℤ c → d ≡ pos 0 → pos 0 <ℤ b
 middle_left a b c d s e h k z = omega (arith, ints)
 
-factor_left : {a b : ℤ} → pos 0 <ℤ b → pos 0 <ℤ (a *ℤ b) → pos 0 <ℤ a
+-- a positive product with a positive second factor
+pub factor_left : {a b : ℤ} → pos 0 <ℤ b → pos 0 <ℤ (a *ℤ b) → pos 0 <ℤ a
 factor_left {a} {b} h e = pos_of_mul-pos_ℤ h (subst (λ z. pos 0 <ℤ z) (*ℤ_comm a b) e)
 
 module _ (n : ℕ) (p : ℕ → Point) (faces : List Face) (outer : List (ℕ × ℕ)) (m : SignMesh n p faces outer) (q : Point) where

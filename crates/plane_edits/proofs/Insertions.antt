@@ -6,7 +6,7 @@ use Rattle.std.proofs.lemmas.Int.{ints}
 use Rattle.plane.specs.Fraction.{Point, whole, IsPositive, WithinSegment}
 use Rattle.plane.specs.Tiling.{Face, face}
 use Rattle.plane.proofs.IntegerOrder.{mul-pos_ℤ, mul-nonpos_of_nonneg_nonpos_ℤ, zero_of_mul-zero_ℤ, pos-ne-zero_ℤ, zero-mul_ℤ}
-use Rattle.plane.proofs.Steps.{weak, left_not_zero, zero_weak, not_left_of_product}
+use Rattle.plane.proofs.Steps.{weak, left_not_zero, zero_weak, not_left_of_product, drop_zero, drop_zero_last}
 use Rattle.plane_tiling.proofs.Totals.{Contains-head, Contains-later, Contains-cases, Contains-none}
 use Rattle.plane.proofs.Solver.{◌⊕◌, ◌⊗◌, ring_in_from}
 use Rattle.plane.proofs.Bracket.{bracket, lift}
@@ -21,18 +21,10 @@ use Rattle.plane_tiling.proofs.Loops as L
 use Rattle.plane_edits.specs.Change.{FacesChange, OuterChange}
 use Rattle.plane_edits.proofs.Changes.{each, each_none, turn_of_all, once_none, once_cons}
 use Rattle.plane_edits.proofs.Additions.{IsUsed, AreTurning, IsAddition, added_kept}
+use Rattle.plane.proofs.Signs.{sum_is_positive, sum_not_positive}
 
 all_below : (s a b c : ℤ) → s ≡ pos 0 → s ≡ a +ℤ b +ℤ c → a ≤ℤ pos 0 → b ≤ℤ pos 0 → c ≤ℤ pos 0 → (a ≡ pos 0) × (b ≡ pos 0) × (c ≡ pos 0)
 all_below s a b c z e h k l = omega (arith, ints)
-
-sum_not_left : (s a b : ℤ) → s ≡ a +ℤ b → a ≤ℤ pos 0 → b ≤ℤ pos 0 → s ≤ℤ pos 0
-sum_not_left s a b e h k = omega (arith, ints)
-
-only_first : (s a b : ℤ) → s ≡ a +ℤ b → b ≡ pos 0 → s ≡ a
-only_first s a b e h = omega (arith, ints)
-
-only_last : (s a b : ℤ) → s ≡ a +ℤ b → a ≡ pos 0 → s ≡ b
-only_last s a b e h = omega (arith, ints)
 
 scaled : (s w k b : ℤ) → w *ℤ s ≡ k *ℤ b → pos 0 <ℤ w → pos 0 <ℤ k → b ≤ℤ pos 0 → s ≤ℤ pos 0
 scaled s w k b e hw hk hb = not_left_of_product hw (subst (λ z. z ≤ℤ pos 0) (sym e) (mul-nonpos_of_nonneg_nonpos_ℤ (weak hk) hb))
@@ -46,7 +38,7 @@ part_within a b c d x y =
       k = t.k *ℤ s.n +ℤ t.l *ℤ s.k;
       l = t.l *ℤ s.l;
       n = t.n *ℤ s.n;
-      k_allowed = positive_sum (t.k *ℤ s.n) (t.l *ℤ s.k) (mul-pos_ℤ t.k_allowed s.positive) (mul-pos_ℤ t.l_allowed s.k_allowed);
+      k_allowed = sum_is_positive (t.k *ℤ s.n) (t.l *ℤ s.k) (mul-pos_ℤ t.k_allowed s.positive) (mul-pos_ℤ t.l_allowed s.k_allowed);
       l_allowed = mul-pos_ℤ t.l_allowed s.l_allowed;
       positive = mul-pos_ℤ t.positive s.positive;
       x = part t.n t.k t.l s.n s.k s.l a.x b.x c.x d.x s.x t.x;
@@ -54,9 +46,6 @@ part_within a b c d x y =
       w = part t.n t.k t.l s.n s.k s.l (pos 1) (pos 1) (pos 1) (pos 1) s.w t.w;
     })
   where
-    positive_sum : (a b : ℤ) → pos 0 <ℤ a → pos 0 <ℤ b → pos 0 <ℤ (a +ℤ b)
-    positive_sum a b h k = omega (arith, ints)
-
     part : (n k l m g h a b c d : ℤ) → m *ℤ c ≡ g *ℤ a +ℤ h *ℤ b → n *ℤ d ≡ k *ℤ a +ℤ l *ℤ c → (n *ℤ m) *ℤ d ≡ (k *ℤ m +ℤ l *ℤ g) *ℤ a +ℤ (l *ℤ h) *ℤ b
     part n k l m g h a b c d e f = ring_in_from (n ∷ k ∷ l ∷ m ∷ g ∷ h ∷ a ∷ b ∷ c ∷ d ∷ []) (λ n k l m g h a b c d. (n ⊗ m) ⊗ d) (λ n k l m g h a b c d. (k ⊗ m ⊕ l ⊗ g) ⊗ a ⊕ (l ⊗ h) ⊗ b)
         (λ n k l m g h a b c d. (l, m ⊗ c, g ⊗ a ⊕ h ⊗ b) ∷ (m, n ⊗ d, k ⊗ a ⊕ l ⊗ c) ∷ []) (e, (f, tt)) tt
@@ -83,7 +72,7 @@ module _ (n : ℕ) (p : ℕ → Point) (old new : List Face) (outer outer' : Lis
   mean_right : (a b : ℕ) → a < n → b < n → WithinSegment (whole (p a)) (whole (p b)) (whole (p n)) → (e : ℕ × ℕ) → Contains outer e → bracket (at p e.0) (at p e.1) (at p n) ≤ℤ pos 0
   mean_right a b ha hb within e h =
       let w = two_weights IsPositive (whole (p a)) (whole (p b)) (whole (p n)) within in
-      not_left_of_product w.positive (sum_not_left (w.n *ℤ bracket (at p e.0) (at p e.1) (at p n)) (w.k *ℤ bracket (at p e.0) (at p e.1) (at p a)) (w.l *ℤ bracket (at p e.0) (at p e.1) (at p b)) (E.mean_bracket IsPositive (p e.0) (p e.1) (p a) (p b) (whole (p n)) w)
+      not_left_of_product w.positive (sum_not_positive (w.n *ℤ bracket (at p e.0) (at p e.1) (at p n)) (w.k *ℤ bracket (at p e.0) (at p e.1) (at p a)) (w.l *ℤ bracket (at p e.0) (at p e.1) (at p b)) (E.mean_bracket IsPositive (p e.0) (p e.1) (p a) (p b) (whole (p n)) w)
       (mul-nonpos_of_nonneg_nonpos_ℤ (weak w.k_allowed) (m.supporting e h a ha)) (mul-nonpos_of_nonneg_nonpos_ℤ (weak w.l_allowed) (m.supporting e h b hb)))
 
   -- ---- inside the face a b c
@@ -273,14 +262,14 @@ module _ (n : ℕ) (p : ℕ → Point) (old new : List Face) (outer outer' : Lis
     first_supports : (k : ℕ) → (k < n) ⊎ (k ≡ n) → bracket (at p u) (at p n) (at p k) ≤ℤ pos 0
     first_supports k (inl l) =
         let r = two_weights IsPositive (whole (p u)) (whole (p v)) (whole (p n)) within in
-        subst (λ z. z ≤ℤ pos 0) (bracket-turn (at p k) (at p u) (at p n)) (scaled (bracket (at p k) (at p u) (at p n)) r.n r.l (bracket (at p k) (at p u) (at p v)) (only_last (r.n *ℤ bracket (at p k) (at p u) (at p n)) (r.k *ℤ bracket (at p k) (at p u) (at p u)) (r.l *ℤ bracket (at p k) (at p u) (at p v)) (E.mean_bracket IsPositive (p k) (p u) (p u) (p v) (whole (p n)) r) (zero-mul_ℤ r.k (bracket-last (at p k) (at p u)))) r.positive r.l_allowed
+        subst (λ z. z ≤ℤ pos 0) (bracket-turn (at p k) (at p u) (at p n)) (scaled (bracket (at p k) (at p u) (at p n)) r.n r.l (bracket (at p k) (at p u) (at p v)) (drop_zero (r.n *ℤ bracket (at p k) (at p u) (at p n)) (r.k *ℤ bracket (at p k) (at p u) (at p u)) (r.l *ℤ bracket (at p k) (at p u) (at p v)) (E.mean_bracket IsPositive (p k) (p u) (p u) (p v) (whole (p n)) r) (zero-mul_ℤ r.k (bracket-last (at p k) (at p u)))) r.positive r.l_allowed
         (subst (λ z. z ≤ℤ pos 0) (sym (bracket-turn (at p k) (at p u) (at p v))) (m.supporting (u, v) own k l)))
     first_supports k (inr l) = zero_weak (ap (λ i. bracket (at p u) (at p n) (at p i)) l ∙ bracket-last (at p u) (at p n))
 
     second_supports : (k : ℕ) → (k < n) ⊎ (k ≡ n) → bracket (at p n) (at p v) (at p k) ≤ℤ pos 0
     second_supports k (inl l) =
         let r = two_weights IsPositive (whole (p u)) (whole (p v)) (whole (p n)) within in
-        subst (λ z. z ≤ℤ pos 0) (sym (bracket-turn (at p n) (at p v) (at p k))) (scaled (bracket (at p v) (at p k) (at p n)) r.n r.k (bracket (at p v) (at p k) (at p u)) (only_first (r.n *ℤ bracket (at p v) (at p k) (at p n)) (r.k *ℤ bracket (at p v) (at p k) (at p u)) (r.l *ℤ bracket (at p v) (at p k) (at p v)) (E.mean_bracket IsPositive (p v) (p k) (p u) (p v) (whole (p n)) r) (zero-mul_ℤ r.l (bracket-outer (at p v) (at p k)))) r.positive r.k_allowed
+        subst (λ z. z ≤ℤ pos 0) (sym (bracket-turn (at p n) (at p v) (at p k))) (scaled (bracket (at p v) (at p k) (at p n)) r.n r.k (bracket (at p v) (at p k) (at p u)) (drop_zero_last (r.n *ℤ bracket (at p v) (at p k) (at p n)) (r.k *ℤ bracket (at p v) (at p k) (at p u)) (r.l *ℤ bracket (at p v) (at p k) (at p v)) (E.mean_bracket IsPositive (p v) (p k) (p u) (p v) (whole (p n)) r) (zero-mul_ℤ r.l (bracket-outer (at p v) (at p k)))) r.positive r.k_allowed
         (subst (λ z. z ≤ℤ pos 0) (bracket-turn (at p u) (at p v) (at p k)) (m.supporting (u, v) own k l)))
     second_supports k (inr l) = zero_weak (ap (λ i. bracket (at p n) (at p v) (at p i)) l ∙ bracket-outer (at p n) (at p v))
 

@@ -6,11 +6,12 @@ use Rattle.std.proofs.lemmas.Int.{ints}
 use Rattle.plane.specs.Fraction.{Point}
 use Rattle.plane.specs.Laws.{squared_way}
 use Rattle.plane.proofs.IntegerOrder.{mul-nonneg_ℤ, mul-nonpos_of_nonneg_nonpos_ℤ, nonneg_of_mul-nonneg_ℤ, square-nonneg_ℤ, lt_or_ge_ℤ, zero-mul_ℤ}
-use Rattle.plane.proofs.Steps.{weak}
+use Rattle.plane.proofs.Steps.{weak, negated_below, weak_right, zero_weak_left}
 use Rattle.plane.proofs.Solver.{num, ◌⊕◌, ◌⊖◌, ◌⊗◌, ⊝, ring_in_from}
 use Rattle.plane.proofs.Bracket.{Vec3, bracket, lift}
 use Rattle.plane.proofs.BracketIdentities.{bracket-turn, bracket-swap, cramer, bracket-outer, bracket-last}
 use Rattle.plane.proofs.Circles.{incircle, incircle-opposite, incircle-from_first}
+use Rattle.plane.proofs.Signs.{sum_not_negative}
 
 -- the failing test, from a
 incircle_from_first : (a b c d : Point) → squared_way a c *ℤ bracket (lift a) (lift b) (lift d) ≡ incircle (lift a) (lift b) (lift c) (lift d) +ℤ (squared_way a b *ℤ bracket (lift a) (lift c) (lift d) +ℤ squared_way a d *ℤ bracket (lift a) (lift b) (lift c))
@@ -24,9 +25,6 @@ incircle_from_first a b c d =
 sum_positive : (s e a b : ℤ) → s ≡ e +ℤ (a +ℤ b) → pos 0 <ℤ e → pos 0 ≤ℤ a → pos 0 ≤ℤ b → pos 0 <ℤ s
 sum_positive s e a b h k l m = omega (arith, ints)
 
-sum_nonneg : (a b : ℤ) → pos 0 ≤ℤ a → pos 0 ≤ℤ b → pos 0 ≤ℤ (a +ℤ b)
-sum_nonneg a b h k = omega (arith, ints)
-
 -- a positive product with a factor that is not negative
 other_positive : (k x : ℤ) → pos 0 ≤ℤ k → pos 0 <ℤ (k *ℤ x) → pos 0 <ℤ x
 other_positive k x h p = go (lt_or_ge_ℤ (pos 0) x)
@@ -38,8 +36,9 @@ other_positive k x h p = go (lt_or_ge_ℤ (pos 0) x)
     go (inl l) = l
     go (inr l) = clash (k *ℤ x) (mul-nonpos_of_nonneg_nonpos_ℤ h l) p
 
-squared_way_nonneg : (q p : Point) → pos 0 ≤ℤ squared_way q p
-squared_way_nonneg q p = sum_nonneg ((p.x -ℤ q.x) *ℤ (p.x -ℤ q.x)) ((p.y -ℤ q.y) *ℤ (p.y -ℤ q.y)) (square-nonneg_ℤ (p.x -ℤ q.x)) (square-nonneg_ℤ (p.y -ℤ q.y))
+-- a squared distance is not negative
+pub squared_way_nonneg : (q p : Point) → pos 0 ≤ℤ squared_way q p
+squared_way_nonneg q p = sum_not_negative ((p.x -ℤ q.x) *ℤ (p.x -ℤ q.x)) ((p.y -ℤ q.y) *ℤ (p.y -ℤ q.y)) (square-nonneg_ℤ (p.x -ℤ q.x)) (square-nonneg_ℤ (p.y -ℤ q.y))
 
 pub convex_at_first : (a b c d : Point) → pos 0 <ℤ bracket (lift a) (lift b) (lift c) → pos 0 <ℤ bracket (lift a) (lift c) (lift d) → pos 0 <ℤ incircle (lift a) (lift b) (lift c) (lift d) → pos 0 <ℤ bracket (lift a) (lift b) (lift d)
 convex_at_first a b c d abc acd e = other_positive (squared_way a c) (bracket (lift a) (lift b) (lift d)) (squared_way_nonneg a c)
@@ -61,27 +60,18 @@ pub record InClosed (a b c z : Vec3) : Type 0 where
 three_nonneg : (s a b c : ℤ) → s ≡ a +ℤ b +ℤ c → pos 0 ≤ℤ a → pos 0 ≤ℤ b → pos 0 ≤ℤ c → pos 0 ≤ℤ s
 three_nonneg s a b c e h k l = omega (arith, ints)
 
-zero_weak : {z : ℤ} → z ≡ pos 0 → pos 0 ≤ℤ z
-zero_weak e = omega (arith, ints)
-
-turned_weak : {z y : ℤ} → z ≡ neg_ℤ y → y ≤ℤ pos 0 → pos 0 ≤ℤ z
-turned_weak e h = omega (arith, ints)
-
-below_weak : {z : ℤ} → z <ℤ pos 0 → z ≤ℤ pos 0
-below_weak h = omega (arith, ints)
-
 -- a point of a b d is in a b c or in a c d
 pub halved : (a b c d z : Vec3) → pos 0 <ℤ bracket a b c → pos 0 <ℤ bracket a c d → pos 0 <ℤ bracket a b d → pos 0 <ℤ bracket b c d → InClosed a b d z → InClosed a b c z ⊎ InClosed a c d z
 halved a b c d z abc acd abd bcd i = go (lt_or_ge_ℤ (bracket a c z) (pos 0))
   where
     left_of_bc : pos 0 ≤ℤ bracket b c z
     left_of_bc = nonneg_of_mul-nonneg_ℤ abd (three_nonneg (bracket a b d *ℤ bracket b c z) (bracket b d z *ℤ bracket b c a) (bracket d a z *ℤ bracket b c b) (bracket a b z *ℤ bracket b c d) (cramer a b d z b c)
-        (mul-nonneg_ℤ i.second (subst (λ y. pos 0 ≤ℤ y) (bracket-turn a b c) (weak abc))) (zero_weak (zero-mul_ℤ (bracket d a z) (bracket-outer b c))) (mul-nonneg_ℤ i.first (weak bcd)))
+        (mul-nonneg_ℤ i.second (subst (λ y. pos 0 ≤ℤ y) (bracket-turn a b c) (weak abc))) (zero_weak_left (zero-mul_ℤ (bracket d a z) (bracket-outer b c))) (mul-nonneg_ℤ i.first (weak bcd)))
 
     left_of_cd : pos 0 ≤ℤ bracket c d z
     left_of_cd = nonneg_of_mul-nonneg_ℤ abd (three_nonneg (bracket a b d *ℤ bracket c d z) (bracket b d z *ℤ bracket c d a) (bracket d a z *ℤ bracket c d b) (bracket a b z *ℤ bracket c d d) (cramer a b d z c d)
-        (mul-nonneg_ℤ i.second (subst (λ y. pos 0 ≤ℤ y) (bracket-turn a c d) (weak acd))) (mul-nonneg_ℤ i.third (subst (λ y. pos 0 ≤ℤ y) (bracket-turn b c d) (weak bcd))) (zero_weak (zero-mul_ℤ (bracket a b z) (bracket-last c d))))
+        (mul-nonneg_ℤ i.second (subst (λ y. pos 0 ≤ℤ y) (bracket-turn a c d) (weak acd))) (mul-nonneg_ℤ i.third (subst (λ y. pos 0 ≤ℤ y) (bracket-turn b c d) (weak bcd))) (zero_weak_left (zero-mul_ℤ (bracket a b z) (bracket-last c d))))
 
     go : (bracket a c z <ℤ pos 0) ⊎ (pos 0 ≤ℤ bracket a c z) → InClosed a b c z ⊎ InClosed a c d z
-    go (inl l) = inl (record { first = i.first; second = left_of_bc; third = turned_weak (bracket-swap c a z) (below_weak l) })
+    go (inl l) = inl (record { first = i.first; second = left_of_bc; third = negated_below (bracket-swap c a z) (weak_right l) })
     go (inr l) = inr (record { first = l; second = left_of_cd; third = i.third })

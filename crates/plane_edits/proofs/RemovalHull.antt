@@ -21,6 +21,7 @@ use Rattle.plane_edits.specs.RemovalHull.{IsHullStar}
 use Rattle.plane_edits.proofs.Star.{IsInAngle, same_angle}
 use Rattle.plane_edits.proofs.RemovalOpposite as O
 use Rattle.plane_edits.proofs.RemovalInner as I
+use Rattle.plane.proofs.Signs.{difference_of_zeros, zero_below_positive}
 
 abbrev before : ℕ → ℕ
 before zero = zero
@@ -58,10 +59,7 @@ crossing g first (suc k) last = elim (lt_or_ge_ℤ (pos 0) (g (suc k))) [ inl l 
 module _ (k i : ℕ) (g l s : ℕ → ℤ) (inside : i < k) (g_left : (j : ℕ) → 0 < j → j ≤ k → pos 0 <ℤ g j) (g_weak : (j : ℕ) → j ≤ k → pos 0 ≤ℤ g j) (s_left : (j : ℕ) → j < k → pos 0 <ℤ s j)
     (falls : (j : ℕ) → suc j < k → (s j *ℤ slope g l (suc j)) ≤ℤ (s (suc j) *ℤ slope g l j)) (at_i : l i ≡ pos 0) (at_next : l (suc i) ≡ pos 0) where
   level : slope g l i ≡ pos 0
-  level = no_difference' (g i *ℤ l (suc i)) (g (suc i) *ℤ l i) (zero-mul_ℤ (g i) at_next) (zero-mul_ℤ (g (suc i)) at_i)
-    where
-      no_difference' : (a b : ℤ) → a ≡ pos 0 → b ≡ pos 0 → a -ℤ b ≡ pos 0
-      no_difference' a b e h = omega (arith, ints)
+  level = difference_of_zeros (g i *ℤ l (suc i)) (g (suc i) *ℤ l i) (zero-mul_ℤ (g i) at_next) (zero-mul_ℤ (g (suc i)) at_i)
 
   below_below : (a b : ℤ) → a ≤ℤ b → b ≤ℤ pos 0 → a ≤ℤ pos 0
   below_below a b h k = omega (arith, ints)
@@ -293,10 +291,7 @@ module _ (n : ℕ) (p : ℕ → Point) (faces : List Face) (outer : List (ℕ ×
         last = subst (λ o. pos 0 <ℤ bracket (at p (nb o)) (at p v) (at p (nb (suc (suc t))))) count (rotated (suc (suc t)) (suc (suc (suc t))) (step (suc (suc t)) (omega arith)))
 
         ended : height (suc (suc (suc (suc t)))) ≤ℤ height (suc (suc (suc t)))
-        ended = below (height (suc (suc (suc (suc t))))) (height (suc (suc (suc t)))) (ap (λ o. bracket (at p (nb k)) (at p v) (at p (nb o))) count ∙ bracket-outer (at p (nb k)) (at p v)) last
-          where
-            below : (a b : ℤ) → a ≡ pos 0 → pos 0 <ℤ b → a ≤ℤ b
-            below a b e h = omega (arith, ints)
+        ended = zero_below_positive (height (suc (suc (suc (suc t))))) (height (suc (suc (suc t)))) (ap (λ o. bracket (at p (nb k)) (at p v) (at p (nb o))) count ∙ bracket-outer (at p (nb k)) (at p v)) last
 
         within : (s : ℕ) → s ≤ suc t → suc s < k
         within s h = omega arith

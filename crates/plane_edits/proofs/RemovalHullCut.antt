@@ -28,6 +28,7 @@ use Rattle.plane_edits.proofs.Additions.{IsUsed, corner_of_used, AreTurning, aro
 use Rattle.plane_edits.proofs.Flipping.{side_gone}
 use Rattle.plane_edits.proofs.Hull.{next_unique}
 use Rattle.plane_edits.proofs.RemovalHull as H
+use Rattle.plane.proofs.Signs.{sum_with_zero_is_positive}
 
 -- k is an end of one of the pairs
 abbrev IsEnd : List (ℕ × ℕ) → ℕ → Type 0
@@ -231,11 +232,8 @@ module _ (points : List Point) (old new : List Face) (outer outer' : List (ℕ �
     seen i h = subst (λ z. pos 0 <ℤ z) (bracket-turn (at p v) (at p (nb i)) (at p (nb (suc i)))) (H.step n p old outer signs v 2 nb star i h)
 
     closed : pos 0 <ℤ bracket (at p (nb 0)) (at p (nb 1)) (at p (nb 2))
-    closed = sum (bracket (at p (nb 0)) (at p (nb 1)) (at p (nb 2))) (bracket (at p (nb 1)) (at p (nb 2)) (at p v)) (bracket (at p (nb 2)) (at p (nb 0)) (at p v)) (bracket (at p (nb 0)) (at p (nb 1)) (at p v)) (bracket-sum (p (nb 0)) (p (nb 1)) (p (nb 2)) (p v))
+    closed = sum_with_zero_is_positive (bracket (at p (nb 0)) (at p (nb 1)) (at p (nb 2))) (bracket (at p (nb 1)) (at p (nb 2)) (at p v)) (bracket (at p (nb 2)) (at p (nb 0)) (at p v)) (bracket (at p (nb 0)) (at p (nb 1)) (at p v)) (bracket-sum (p (nb 0)) (p (nb 1)) (p (nb 2)) (p v))
         (seen 1 (omega arith)) (sym (bracket-turn (at p (nb 0)) (at p v) (at p (nb 2)) ∙ bracket-turn (at p v) (at p (nb 2)) (at p (nb 0))) ∙ flat) (seen 0 (omega arith))
-      where
-        sum : (s a b c : ℤ) → s ≡ a +ℤ b +ℤ c → pos 0 <ℤ a → b ≡ pos 0 → pos 0 <ℤ c → pos 0 <ℤ s
-        sum s a b c e h k l = omega (arith, ints)
 
     -- the closing edge supports all vertices
     behind : (z : ℕ) → z < n → bracket (at p (nb 0)) (at p (nb 2)) (at p z) ≤ℤ pos 0

@@ -2,7 +2,6 @@
 use Rattle.std.proofs.Common.{◌≡◌, ◌⊎◌, ℕ, suc, ◌<◌, ◌≤◌, List, [], ◌∷◌, length, refl, sym, ap, ◌∙◌, subst, arith}
 use mathlib.Core.Logic.{inl, inr, ◌≢◌}
 use Rattle.std.specs.Prelude.{ℤ, pos, ◌+ℤ◌, ◌*ℤ◌, ◌<ℤ◌, ◌≤ℤ◌, Contains}
-use Rattle.std.proofs.lemmas.Int.{ints}
 use Rattle.std.proofs.lemmas.Bool.{cases_eq, cases_lt}
 use Rattle.plane.specs.Fraction.{Point, whole, IsPositive, WithinSegment}
 use Rattle.plane.specs.Pairs.{place}
@@ -26,9 +25,7 @@ use Rattle.plane_edits.proofs.Changes.{face_kept, each, each_none, turn_of_all}
 use Rattle.plane_edits.proofs.RemovalOpposite as O
 use Rattle.plane_edits.proofs.RemovalHull as H
 use Rattle.plane_edits.proofs.RemovalHullCut as T
-
-without_first : (s a b c : ℤ) → s ≡ a +ℤ b +ℤ c → a ≡ pos 0 → s ≡ b +ℤ c
-without_first s a b c e h = omega (arith, ints)
+use Rattle.plane.proofs.Signs.{sum_without_first}
 
 module _ (points : List Point) (old new : List Face) (outer outer' : List (ℕ × ℕ)) (m : LocalMesh points old outer) (v k : ℕ) (nb : ℕ → ℕ) (star : IsHullStar old outer v k nb)
     (corner : pos 0 <ℤ bracket (at (point_at points) v) (at (point_at points) (nb 0)) (at (point_at points) (nb k)))
@@ -125,7 +122,7 @@ module _ (points : List Point) (old new : List Face) (outer outer' : List (ℕ �
   })
     where
       mean : (s x a b : ℤ) → s ≡ bracket (at p (nb i)) (at p (nb j)) (at p (nb (suc i))) *ℤ x +ℤ a +ℤ b → s ≡ a +ℤ b
-      mean s x a b e = without_first s (bracket (at p (nb i)) (at p (nb j)) (at p (nb (suc i))) *ℤ x) a b e (product_zero_left x (level (nb i) (nb j) (nb (suc i)) (other i (omega arith)) (other j l) (other (suc i) (omega arith))))
+      mean s x a b e = sum_without_first s (bracket (at p (nb i)) (at p (nb j)) (at p (nb (suc i))) *ℤ x) a b e (product_zero_left x (level (nb i) (nb j) (nb (suc i)) (other i (omega arith)) (other j l) (other (suc i) (omega arith))))
 
   joined : (i j : ℕ) → i < j → j ≤ k → ((z : ℕ) → IsOther points v z → ¬ WithinSegment (place points (nb i)) (place points (nb j)) (place points z)) → suc i ≡ j
   joined i j h l none = elim (cases_eq (suc i) j) [ inl e ↦ e | inr ne ↦ absurd (none (nb (suc i)) (other (suc i) (omega arith)) (between i j (short ne) l)) ]

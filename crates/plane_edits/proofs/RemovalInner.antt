@@ -16,6 +16,7 @@ use Rattle.plane_tiling.proofs.Counting.{at, SignMesh}
 use Rattle.plane_tiling.proofs.Covering as C
 use Rattle.plane_edits.proofs.Star.{first_maximum}
 use Rattle.plane_edits.proofs.RemovalOpposite as O
+use Rattle.plane.proofs.Signs.{zero_below_positive}
 
 -- ---- a search among some numbers in a row
 pub search : (P Q : ℕ → Type 0) → ((i : ℕ) → P i ⊎ Q i) → (low count : ℕ) → ((i : ℕ) × (low ≤ i) × (i < low + count) × P i) ⊎ ((i : ℕ) → low ≤ i → i < low + count → Q i)
@@ -98,10 +99,7 @@ module _ (n : ℕ) (p : ℕ → Point) (faces : List Face) (outer : List (ℕ ×
       last = subst (λ z. pos 0 <ℤ z) ((λ i. turn (nb (suc (suc t))) (again i)) ∙ bracket-turn (at p v) (at p (nb (suc (suc t)))) (at p (nb 0)) ∙ bracket-turn (at p (nb (suc (suc t)))) (at p (nb 0)) (at p v)) (step (suc (suc t)))
 
       ended : bracket (at p (nb 0)) (at p v) (at p (nb (suc (suc (suc t))))) ≤ℤ bracket (at p (nb 0)) (at p v) (at p (nb (suc (suc t))))
-      ended = below (bracket (at p (nb 0)) (at p v) (at p (nb (suc (suc (suc t)))))) (bracket (at p (nb 0)) (at p v) (at p (nb (suc (suc t))))) (ap (λ o. bracket (at p (nb 0)) (at p v) (at p o)) again ∙ bracket-outer (at p (nb 0)) (at p v)) last
-        where
-          below : (a b : ℤ) → a ≡ pos 0 → pos 0 <ℤ b → a ≤ℤ b
-          below a b e h = omega (arith, ints)
+      ended = zero_below_positive (bracket (at p (nb 0)) (at p v) (at p (nb (suc (suc (suc t)))))) (bracket (at p (nb 0)) (at p v) (at p (nb (suc (suc t))))) (ap (λ o. bracket (at p (nb 0)) (at p v) (at p o)) again ∙ bracket-outer (at p (nb 0)) (at p v)) last
 
       go : (s : ℕ) × (s ≤ t) × (pos 0 <ℤ bracket (at p (nb 0)) (at p v) (at p (nb (suc (suc s))))) × (bracket (at p (nb 0)) (at p v) (at p (nb (suc s))) <ℤ bracket (at p (nb 0)) (at p v) (at p (nb (suc (suc s))))) × (bracket (at p (nb 0)) (at p v) (at p (nb (suc (suc (suc s))))) ≤ℤ bracket (at p (nb 0)) (at p v) (at p (nb (suc (suc s)))))
           → (i : ℕ) × CanFlip nb i

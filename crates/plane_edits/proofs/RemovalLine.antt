@@ -18,6 +18,7 @@ use Rattle.plane_tiling.proofs.LinePlaces as O
 use Rattle.plane_edits.specs.Change.{OuterChange}
 use Rattle.plane_edits.specs.Removal.{AreNeighboursBut, LineMeshWithout}
 use Rattle.plane_edits.specs.RemovalLaws.{EndOfLineGoes, MiddleOfLineGoes}
+use Rattle.plane.proofs.Signs.{at_most_both_ways, less_through, less_twice_is_not_same}
 
 -- i and j have no vertex strictly between them but perhaps v
 record IsNextBut (v n : ℕ) (p : ℕ → Point) (i j : ℕ) : Type 0 where
@@ -67,10 +68,7 @@ module _ (n : ℕ) (p : ℕ → Point) (outer : List (ℕ × ℕ)) (m : SignLine
       (λ l. f.none_between b g.second (within v a b f.first f.second g.second y l)))
 
   side_of : (a : ℕ) → IsNext n p v a → (spot a <ℤ spot v) ⊎ (spot v <ℤ spot a)
-  side_of a f = elim (lt_or_ge_ℤ (spot a) (spot v)) [ inl l ↦ inl l | inr l ↦ elim (lt_or_ge_ℤ (spot v) (spot a)) [ inl k ↦ inr k | inr k ↦ absurd (f.apart (same v a f.first f.second (level (spot v) (spot a) l k))) ] ]
-    where
-      level : (a b : ℤ) → a ≤ℤ b → b ≤ℤ a → a ≡ b
-      level a b h k = omega (arith, ints)
+  side_of a f = elim (lt_or_ge_ℤ (spot a) (spot v)) [ inl l ↦ inl l | inr l ↦ elim (lt_or_ge_ℤ (spot v) (spot a)) [ inl k ↦ inr k | inr k ↦ absurd (f.apart (same v a f.first f.second (at_most_both_ways (spot v) (spot a) l k))) ] ]
 
   -- what is next to one another but for v, with v not between, was so before
   was_next : (a b : ℕ) → IsNextBut v n p a b → ¬ WithinSegment (whole (p a)) (whole (p b)) (whole (p v)) → IsNext n p a b
@@ -88,15 +86,12 @@ module _ (n : ℕ) (p : ℕ → Point) (outer : List (ℕ × ℕ)) (m : SignLine
     module _ (low high : ℕ) (low_next : IsNext n p v low) (high_next : IsNext n p v high) (below : spot low <ℤ spot v) (above : spot v <ℤ spot high) where
       joined : IsNextBut v n p low high
       joined = record {
-        apart = λ e. level (spot low) (spot v) (spot high) below above (ap spot e);
+        apart = λ e. less_twice_is_not_same (spot low) (spot v) (spot high) below above (ap spot e);
         first = (low_next.second, λ e. low_next.apart (sym e));
         second = (high_next.second, λ e. high_next.apart (sym e));
         none_between = λ k h q w. none k h q (order low high k w);
       }
         where
-          level : (a b c : ℤ) → a <ℤ b → b <ℤ c → a ≡ c → ⊥
-          level a b c h k e = omega (arith, ints)
-
           chain : (a b c k : ℤ) → a <ℤ b → b <ℤ c → c <ℤ k → k <ℤ a → ⊥
           chain a b c k x y z w = omega (arith, ints)
 
@@ -105,21 +100,18 @@ module _ (n : ℕ) (p : ℕ → Point) (outer : List (ℕ × ℕ)) (m : SignLine
               (λ l. low_next.none_between k h (within_turned (p low) (p v) (p k) (within low v k low_next.second low_next.first h o.0 l)))
               (λ l. high_next.none_between k h (within v high k high_next.first high_next.second h l o.1))))
           none k h q (inr (inl o)) = chain (spot low) (spot v) (spot high) (spot k) below above o.0 o.1
-          none k h q (inr (inr o)) = level (spot low) (spot v) (spot high) below above (o.0 ∙ o.1)
+          none k h q (inr (inr o)) = less_twice_is_not_same (spot low) (spot v) (spot high) below above (o.0 ∙ o.1)
 
       -- with v between a and b, they are these two
       ends_are : (a b : ℕ) → IsNextBut v n p a b → spot a <ℤ spot v → spot v <ℤ spot b → (a ≡ low) × (b ≡ high)
       ends_are a b s x y = (
         same a low s.first.0 low_next.second (equal_if (spot a) (spot low)
-            (λ l. s.none_between low low_next.second (λ e. low_next.apart (sym e)) (within a b low s.first.0 s.second.0 low_next.second l (through (spot low) (spot v) (spot b) below y)))
+            (λ l. s.none_between low low_next.second (λ e. low_next.apart (sym e)) (within a b low s.first.0 s.second.0 low_next.second l (less_through (spot low) (spot v) (spot b) below y)))
             (λ l. low_next.none_between a s.first.0 (within_turned (p low) (p v) (p a) (within low v a low_next.second low_next.first s.first.0 l x)))),
         same b high s.second.0 high_next.second (equal_if (spot b) (spot high)
             (λ l. high_next.none_between b s.second.0 (within v high b high_next.first high_next.second s.second.0 y l))
-            (λ l. s.none_between high high_next.second (λ e. high_next.apart (sym e)) (within a b high s.first.0 s.second.0 high_next.second (through (spot a) (spot v) (spot high) x above) l))),
+            (λ l. s.none_between high high_next.second (λ e. high_next.apart (sym e)) (within a b high s.first.0 s.second.0 high_next.second (less_through (spot a) (spot v) (spot high) x above) l))),
       )
-        where
-          through : (a b c : ℤ) → a <ℤ b → b <ℤ c → a <ℤ c
-          through a b c h k = omega (arith, ints)
 
       found : (a b : ℕ) → IsNextBut v n p a b → Contains outer (a, b) ⊎ (((a ≡ low) × (b ≡ high)) ⊎ ((a ≡ high) × (b ≡ low)))
       found a b s = elim (lt_or_ge_ℤ (spot a) (spot v)) [
@@ -131,10 +123,7 @@ module _ (n : ℕ) (p : ℕ → Point) (outer : List (ℕ × ℕ)) (m : SignLine
           beside away = (m.neighbours a b).1 (was_next a b s away)
 
           strict : spot v ≤ℤ spot a → spot v <ℤ spot a
-          strict h = elim (lt_or_ge_ℤ (spot v) (spot a)) [ inl l ↦ l | inr l ↦ absurd (s.first.1 (same a v s.first.0 low_next.first (level (spot a) (spot v) l h))) ]
-            where
-              level : (a b : ℤ) → a ≤ℤ b → b ≤ℤ a → a ≡ b
-              level a b h k = omega (arith, ints)
+          strict h = elim (lt_or_ge_ℤ (spot v) (spot a)) [ inl l ↦ l | inr l ↦ absurd (s.first.1 (same a v s.first.0 low_next.first (at_most_both_ways (spot a) (spot v) l h))) ]
 
           turned_ends : spot v <ℤ spot a → spot b <ℤ spot v → Contains outer (a, b) ⊎ (((a ≡ low) × (b ≡ high)) ⊎ ((a ≡ high) × (b ≡ low)))
           turned_ends x y = let e = ends_are b a (record { apart = λ e. s.apart (sym e); first = s.second; second = s.first; none_between = λ k h q w. s.none_between k h q (within_turned (p b) (p a) (p k) w) }) y x in inr (inr (e.1, e.0))

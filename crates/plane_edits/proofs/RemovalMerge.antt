@@ -20,6 +20,7 @@ use Rattle.plane_edits.specs.Removal.{IsStar}
 use Rattle.plane_edits.proofs.Changes.{face_from, face_kept, each, each_none, turn_of_all, once_none}
 use Rattle.plane_edits.proofs.Additions.{IsUsed, AreTurning, turning_turned, around_turn_free, outer_totals}
 use Rattle.plane_edits.proofs.Flipping.{side_gone}
+use Rattle.plane.proofs.Signs.{balance_stays, sum_with_zero_is_positive}
 
 -- the mesh of all vertices but v, by signs
 pub record SignMeshWithout (v n : ℕ) (p : ℕ → Point) (faces : List Face) (outer : List (ℕ × ℕ)) : Type 0 where
@@ -34,9 +35,6 @@ pub record SignMeshWithout (v n : ℕ) (p : ℕ → Point) (faces : List Face) (
   pub bare : (e : ℕ × ℕ) → Contains outer e → (k : ℕ) → k < n → k ≢ v → ¬ WithinSegment (whole (p e.0)) (whole (p e.1)) (whole (p k))
   pub once : AllPairs (λ d e. d ≢ e) outer
   pub balanced : AreBalanced faces outer
-
-balance_kept : (new gone old made outer outer' : ℤ) → new +ℤ gone ≡ old +ℤ made → outer' +ℤ pos 0 ≡ outer +ℤ pos 0 → old +ℤ outer ≡ pos 0 → gone ≡ made → new +ℤ outer' ≡ pos 0
-balance_kept new gone old made outer outer' e o b s = omega (arith, ints)
 
 module _ (n : ℕ) (p : ℕ → Point) (old new : List Face) (outer outer' : List (ℕ × ℕ)) (m : SignMesh n p old outer) (outer_change : OuterChange outer outer' [] []) where
   outer_from : (e : ℕ × ℕ) → Contains outer' e → Contains outer e
@@ -71,7 +69,7 @@ module _ (n : ℕ) (p : ℕ → Point) (old new : List Face) (outer outer' : Lis
     supporting = λ e h k l a. m.supporting e (outer_from e h) k l;
     bare = λ e h k l a. m.bare e (outer_from e h) k l;
     once = outer_change.once;
-    balanced = λ flow anti. balance_kept (total (around flow) new) (total (around flow) gone) (total (around flow) old) (total (around flow) made) (total (along flow) outer) (total (along flow) outer')
+    balanced = λ flow anti. balance_stays (total (around flow) new) (total (around flow) gone) (total (around flow) old) (total (around flow) made) (total (along flow) outer) (total (along flow) outer')
         (s.change.totals (around flow) (around_turn_free flow)) (outer_totals outer outer' [] [] outer_change m.once once_none once_none (λ e h. absurd (Contains-none e h)) (λ e h. absurd (Contains-none e h)) (along flow)) (m.balanced flow anti) (s.same flow anti);
   }
     where
@@ -219,11 +217,8 @@ module _ (n : ℕ) (p : ℕ → Point) (old new : List Face) (outer outer' : Lis
     seen_four i j h = subst (λ z. pos 0 <ℤ z) (bracket-turn (at p v) (at p i) (at p j)) (C.turn_left_of n p old outer m v i j h)
 
     first_turns : pos 0 <ℤ bracket (at p (nb 0)) (at p (nb 1)) (at p (nb 2))
-    first_turns = sum (bracket (at p (nb 0)) (at p (nb 1)) (at p (nb 2))) (bracket (at p (nb 1)) (at p (nb 2)) (at p v)) (bracket (at p (nb 2)) (at p (nb 0)) (at p v)) (bracket (at p (nb 0)) (at p (nb 1)) (at p v)) (bracket-sum (p (nb 0)) (p (nb 1)) (p (nb 2)) (p v))
+    first_turns = sum_with_zero_is_positive (bracket (at p (nb 0)) (at p (nb 1)) (at p (nb 2))) (bracket (at p (nb 1)) (at p (nb 2)) (at p v)) (bracket (at p (nb 2)) (at p (nb 0)) (at p v)) (bracket (at p (nb 0)) (at p (nb 1)) (at p v)) (bracket-sum (p (nb 0)) (p (nb 1)) (p (nb 2)) (p v))
         (seen_four (nb 1) (nb 2) (star.around 1)) flat_back (seen_four (nb 0) (nb 1) (star.around 0))
-      where
-        sum : (s a b c : ℤ) → s ≡ a +ℤ b +ℤ c → pos 0 <ℤ a → b ≡ pos 0 → pos 0 <ℤ c → pos 0 <ℤ s
-        sum s a b c e h k l = omega (arith, ints)
 
     second_turns : pos 0 <ℤ bracket (at p (nb 0)) (at p (nb 2)) (at p (nb 3))
     second_turns = sum (bracket (at p (nb 0)) (at p (nb 2)) (at p (nb 3))) (bracket (at p (nb 2)) (at p (nb 3)) (at p v)) (bracket (at p (nb 3)) (at p (nb 0)) (at p v)) (bracket (at p (nb 0)) (at p (nb 2)) (at p v)) (bracket-sum (p (nb 0)) (p (nb 2)) (p (nb 3)) (p v))

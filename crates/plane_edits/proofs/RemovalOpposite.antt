@@ -16,6 +16,7 @@ use Rattle.plane_tiling.proofs.Flows.{IsTurnOf}
 use Rattle.plane_tiling.proofs.Counting.{at, SignMesh}
 use Rattle.plane_tiling.proofs.Covering as C
 use Rattle.plane_edits.proofs.Star.{IsInAngle, same_angle}
+use Rattle.plane.proofs.Signs.{neither_sign_is_zero, opposite_of_not_positive, positive_plus_not_negative}
 
 module _ (n : ℕ) (p : ℕ → Point) (faces : List Face) (outer : List (ℕ × ℕ)) (m : SignMesh n p faces outer) (v : ℕ) where
   -- the turn from the way to i to the way to j
@@ -51,19 +52,13 @@ module _ (n : ℕ) (p : ℕ → Point) (faces : List Face) (outer : List (ℕ ×
     left_in : (w : ℕ) → pos 0 <ℤ turn a w → IsInAngle n p faces outer m v a b (at p w) ⊎ IsInAngle n p faces outer m v b c (at p w)
     left_in w h = elim (lt_or_ge_ℤ (pos 0) (turn w b)) [
       | inl k ↦ inl (in_angle a b w (weak h) k)
-      | inr k ↦ inr (in_angle b c w (not_right (turn b w) (turn w b) (turn_back b w) k) (pos_of_mul-pos_ℤ ab (subst (λ z. pos 0 <ℤ z) (sym (relation (turn a b) (turn w c) (turn a w) (turn b c) (turn a c) (turn b w) (turn w b) (turns_of_four a b w c) (turn_back b w)))
-          (plus (turn a w *ℤ turn b c) (turn a c *ℤ turn w b) (mul-pos_ℤ h bc) (mul-nonneg_of_nonpos_ℤ bad k)))))
+      | inr k ↦ inr (in_angle b c w (opposite_of_not_positive (turn b w) (turn w b) (turn_back b w) k) (pos_of_mul-pos_ℤ ab (subst (λ z. pos 0 <ℤ z) (sym (relation (turn a b) (turn w c) (turn a w) (turn b c) (turn a c) (turn b w) (turn w b) (turns_of_four a b w c) (turn_back b w)))
+          (positive_plus_not_negative (turn a w *ℤ turn b c) (turn a c *ℤ turn w b) (mul-pos_ℤ h bc) (mul-nonneg_of_nonpos_ℤ bad k)))))
     ]
       where
-        not_right : (x y : ℤ) → x ≡ neg_ℤ y → y ≤ℤ pos 0 → pos 0 ≤ℤ x
-        not_right x y e h = omega (arith, ints)
-
         relation : (ab wc aw bc ac bw wb : ℤ) → ab *ℤ wc -ℤ aw *ℤ bc +ℤ ac *ℤ bw ≡ pos 0 → bw ≡ neg_ℤ wb → ab *ℤ wc ≡ aw *ℤ bc +ℤ ac *ℤ wb
         relation ab wc aw bc ac bw wb e d = ring_in_from (ab ∷ wc ∷ aw ∷ bc ∷ ac ∷ bw ∷ wb ∷ []) (λ ab wc aw bc ac bw wb. ab ⊗ wc) (λ ab wc aw bc ac bw wb. aw ⊗ bc ⊕ ac ⊗ wb)
             (λ ab wc aw bc ac bw wb. (num 1, ab ⊗ wc ⊖ aw ⊗ bc ⊕ ac ⊗ bw, num 0) ∷ (num 0 ⊖ ac, bw, ⊝ wb) ∷ []) (e, (d, tt)) tt
-
-        plus : (x y : ℤ) → pos 0 <ℤ x → pos 0 ≤ℤ y → pos 0 <ℤ (x +ℤ y)
-        plus x y h k = omega (arith, ints)
 
     -- on the way to a, short of b: in the first
     on_in : (w : ℕ) → turn a w ≡ pos 0 → pos 0 <ℤ turn w b → IsInAngle n p faces outer m v a b (at p w)
@@ -130,11 +125,8 @@ module _ (n : ℕ) (p : ℕ → Point) (faces : List Face) (outer : List (ℕ ×
         of_product x y i j = nonneg_of_mul-nonneg_ℤ i j
 
     dc_zero : turn d c ≡ pos 0
-    dc_zero = elim (lt_or_ge_ℤ (pos 0) (turn d c)) [ inl l ↦ absurd (left_not_below l (not_right l)) | inr l ↦ zero (turn d c) l dc_weak ]
+    dc_zero = elim (lt_or_ge_ℤ (pos 0) (turn d c)) [ inl l ↦ absurd (left_not_below l (not_right l)) | inr l ↦ neither_sign_is_zero (turn d c) l dc_weak ]
       where
-        zero : (z : ℤ) → z ≤ℤ pos 0 → pos 0 ≤ℤ z → z ≡ pos 0
-        zero z i j = omega (arith, ints)
-
         -- c left of d begins an angle of its own
         not_right : pos 0 <ℤ turn d c → turn d c ≤ℤ pos 0
         not_right l = elim (cases_eq c d) [ inl s ↦ zero_weak (ap (λ o. turn d o) s ∙ turn_own d) | inr s ↦ not_left d e f de_face ef_face bad' c g cg_face s c_not_e ]

@@ -15,20 +15,12 @@ use Rattle.plane.proofs.Generic.{Inside, near}
 use Rattle.plane_tiling.proofs.Flows.{IsTurnOf, turned}
 use Rattle.plane_tiling.proofs.Counting.{at, SignMesh, corners_differ}
 use Rattle.plane_tiling.proofs.Covering as C
+use Rattle.plane.proofs.Signs.{difference_is_positive, difference_not_negative, positive_plus_not_negative}
 
 -- x, y, z and t are the turns of v a c, v b c, v a b and a b c
 turn_is : (x y z t la lb lc lv : ℤ) → lv ≡ pos 0 → z *ℤ lc -ℤ x *ℤ lb +ℤ y *ℤ la -ℤ t *ℤ lv ≡ pos 0 → z -ℤ x +ℤ y -ℤ t ≡ pos 0 → lb *ℤ t ≡ y *ℤ (lb -ℤ la) +ℤ z *ℤ (lb -ℤ lc)
 turn_is x y z t la lb lc lv e h k = ring_in_from (x ∷ y ∷ z ∷ t ∷ la ∷ lb ∷ lc ∷ lv ∷ []) (λ x y z t la lb lc lv. lb ⊗ t) (λ x y z t la lb lc lv. y ⊗ (lb ⊖ la) ⊕ z ⊗ (lb ⊖ lc))
     (λ x y z t la lb lc lv. (t, lv, num 0) ∷ (num 1, z ⊗ lc ⊖ x ⊗ lb ⊕ y ⊗ la ⊖ t ⊗ lv, num 0) ∷ (num 0 ⊖ lb, z ⊖ x ⊕ y ⊖ t, num 0) ∷ []) (e, (h, (k, tt))) tt
-
-difference_left : (a b : ℤ) → a <ℤ b → pos 0 <ℤ (b -ℤ a)
-difference_left a b h = omega (arith, ints)
-
-difference_weak : (a b : ℤ) → a ≤ℤ b → pos 0 ≤ℤ (b -ℤ a)
-difference_weak a b h = omega (arith, ints)
-
-sum_left : (a b : ℤ) → pos 0 <ℤ a → pos 0 ≤ℤ b → pos 0 <ℤ (a +ℤ b)
-sum_left a b h k = omega (arith, ints)
 
 -- a linear form, 0 at v, that is greatest at b, less at a and at most as great at c
 pub first_maximum : (k l m : ℤ) (v a b c : Point) → pos 0 <ℤ bracket (lift v) (lift a) (lift b) → pos 0 <ℤ bracket (lift v) (lift b) (lift c)
@@ -37,8 +29,8 @@ first_maximum k l m v a b c vab vbc at_v at_b low not_high =
     pos_from_ℤ (turn_is (bracket (lift v) (lift a) (lift c)) (bracket (lift v) (lift b) (lift c)) (bracket (lift v) (lift a) (lift b)) (bracket (lift a) (lift b) (lift c)) (form k l m (lift a)) (form k l m (lift b)) (form k l m (lift c)) (form k l m (lift v))
     at_v (four_terms k l m (lift v) (lift a) (lift b) (lift c)) (units (bracket (lift v) (lift a) (lift b)) (bracket (lift v) (lift a) (lift c)) (bracket (lift v) (lift b) (lift c)) (bracket (lift a) (lift b) (lift c)) (four_terms (pos 0) (pos 0) (pos 1) (lift v) (lift a) (lift b) (lift c))))
     at_b
-    (sum_left (bracket (lift v) (lift b) (lift c) *ℤ (form k l m (lift b) -ℤ form k l m (lift a))) (bracket (lift v) (lift a) (lift b) *ℤ (form k l m (lift b) -ℤ form k l m (lift c)))
-    (mul-pos_ℤ vbc (difference_left (form k l m (lift a)) (form k l m (lift b)) low)) (mul-nonneg_ℤ (weak vab) (difference_weak (form k l m (lift c)) (form k l m (lift b)) not_high)))
+    (positive_plus_not_negative (bracket (lift v) (lift b) (lift c) *ℤ (form k l m (lift b) -ℤ form k l m (lift a))) (bracket (lift v) (lift a) (lift b) *ℤ (form k l m (lift b) -ℤ form k l m (lift c)))
+    (mul-pos_ℤ vbc (difference_is_positive (form k l m (lift a)) (form k l m (lift b)) low)) (mul-nonneg_ℤ (weak vab) (difference_not_negative (form k l m (lift c)) (form k l m (lift b)) not_high)))
   where
     weight : (p : Point) → pos 0 *ℤ p.x +ℤ pos 0 *ℤ p.y +ℤ pos 1 *ℤ pos 1 ≡ pos 1
     weight p = omega (arith, ints)

@@ -28,6 +28,7 @@ use Rattle.plane_delaunay.proofs.Flooded.{side_of_segment}
 use Rattle.plane_delaunay.proofs.LineItems.{edge_of}
 use Rattle.plane_delaunay.proofs.AlongSegment.{Placed, sooner, as_soon, later, placed}
 use Rattle.plane_segments.proofs.Slopes.{slope, later_is_higher}
+use Rattle.plane.proofs.Signs.{opposite_of_negative}
 
 -- ---- a number and its negative
 pub turned_negative : (x y : ℤ) → x ≡ neg_ℤ y → pos 0 <ℤ y → x <ℤ pos 0
@@ -172,11 +173,8 @@ module _ (t : Triangulation) (p q : Fraction) (apart : ¬ IsSame p q) where
           not_high : ¬ (pos 0 ≤ℤ bracket (vertex t a) (vertex t b) o.first)
           not_high h = left_not_zero (later_is_higher p q apart (vertex t a) (vertex t b) o.first o.second o.first_begins.shared o.second_begins.shared n (rising p q (vertex t a) (vertex t b) s.left s.right) h) on
 
-          turn : (x y : ℤ) → x ≡ neg_ℤ y → y <ℤ pos 0 → pos 0 <ℤ x
-          turn x y e h = omega (arith, ints)
-
           pick : (bracket (vertex t a) (vertex t b) o.first <ℤ pos 0) ⊎ ((bracket (vertex t a) (vertex t b) o.first ≡ pos 0) ⊎ (pos 0 <ℤ bracket (vertex t a) (vertex t b) o.first)) → pos 0 <ℤ bracket (vertex t b) (vertex t a) o.first
-          pick (inl h) = turn _ _ (bracket-swapped (vertex t a) (vertex t b) o.first) h
+          pick (inl h) = opposite_of_negative _ _ (bracket-swapped (vertex t a) (vertex t b) o.first) h
           pick (inr (inl h)) = absurd (not_high (zero_weak_left h))
           pick (inr (inr h)) = absurd (not_high (weak h))
 

@@ -3,7 +3,6 @@ use Rattle.std.proofs.Common.{◌≡◌, ℕ, zero, suc, ◌<◌, ◌≤◌, ◌
 use mathlib.Core.Logic.{◌⊎◌, inl, inr}
 use native.Mathlib.Decide.{dec_lt}
 use Rattle.std.specs.Prelude.{ℤ, pos, ◌<ℤ◌, ◌-ℤ◌, ◌*ℤ◌, ⊤}
-use Rattle.std.proofs.lemmas.Int.{ints}
 use Rattle.plane.proofs.Decisions.{Decision, decided_by, decide_both, decide_either, decide_on_segment, decide_meets_within, decide_turns_left, decide_below}
 use Rattle.plane.proofs.Segments.{reach, within_itself, same-refl}
 use Rattle.plane.proofs.Sides.{if_right, right_if}
@@ -22,6 +21,8 @@ use Rattle.plane_segments.specs.Steps.{GoesOn, IsWalk}
 use Rattle.plane_segments.proofs.Begins.{signs_of}
 use Rattle.plane_segments.proofs.Orders.{not_both_before, before_through}
 use Rattle.plane_segments.proofs.OverlapDecided.{decide_overlap}
+use Rattle.plane.proofs.Signs.{differences_both_positive}
+use Rattle.plane.proofs.Steps.{both_signs}
 
 -- on the right of a line, or not
 decide_right : (u v x : Fraction) → Decision (side u v x ≡ right)
@@ -63,16 +64,10 @@ module _ (t : Triangulation) (c₀ : Meeting t) (p q : Fraction) (apart : ¬ IsS
 
   -- ---- an edge is at most one item
   not_across_both : (i j : ℕ) → Meets t p q (L.across i j) → ¬ Meets t p q (L.across j i)
-  not_across_both i j m n = both (signs_of t p q apart i j (ends_differ i j m.0) m).left (signs_of t p q apart j i (ends_differ j i n.0) n).right
-    where
-      both : {x : ℤ} → pos 0 <ℤ x → x <ℤ pos 0 → ⊥
-      both h k = omega (arith, ints)
+  not_across_both i j m n = both_signs (signs_of t p q apart i j (ends_differ i j m.0) m).left (signs_of t p q apart j i (ends_differ j i n.0) n).right
 
   not_along_both : (i j : ℕ) → Meets t p q (L.along i j) → ¬ Meets t p q (L.along j i)
-  not_along_both i j m n = both (reach p q (vertex t j) *ℤ (vertex t i).w) (reach p q (vertex t i) *ℤ (vertex t j).w) (before p q (vertex t i) (vertex t j) m.1) (before p q (vertex t j) (vertex t i) n.1)
-    where
-      both : (u v : ℤ) → pos 0 <ℤ (u -ℤ v) → pos 0 <ℤ (v -ℤ u) → ⊥
-      both u v h k = omega (arith, ints)
+  not_along_both i j m n = differences_both_positive (reach p q (vertex t j) *ℤ (vertex t i).w) (reach p q (vertex t i) *ℤ (vertex t j).w) (before p q (vertex t i) (vertex t j) m.1) (before p q (vertex t j) (vertex t i) n.1)
 
   not_across_and_along : (a b c d i j : ℕ) → IsSamePair a b i j → IsSamePair c d i j → Meets t p q (L.across a b) → Meets t p q (L.along c d) → ⊥
   not_across_and_along a b c d i j (inl r) (inl s) m n = not_met_once t c₀ p q apart a b c d m n (λ x h. subst₂ (λ k l. OnSegment (vertex t k) (vertex t l) x) (s.0 ∙ sym r.0) (s.1 ∙ sym r.1) h)

@@ -9,13 +9,12 @@ use Rattle.plane.proofs.IntegerLaws.{neg-mul_ℤ, mul-neg_ℤ}
 use Rattle.plane.proofs.IntegerOrder.{Sign, sign, below, none, above, lt_or_ge_ℤ, mul-pos_ℤ, mul-nonneg_ℤ, pos_of_mul-pos_ℤ, mul-nonpos_of_nonneg_nonpos_ℤ, zero-mul_ℤ, zero_of_mul-zero_ℤ, pos-ne-zero_ℤ}
 use Rattle.plane.proofs.Steps.{weak, weak_right, zero_weak, right_not_above, product_zero_left}
 use Rattle.plane.proofs.Solver.{◌⊕◌, ◌⊗◌, ring_in_from}
-use Rattle.plane.proofs.Means.{TwoWeights, two_weights, mean_of_two, turned_mean_of_two}
+use Rattle.plane.proofs.Means.{TwoWeights, two_weights, mean_of_two}
 use Rattle.plane.proofs.Segments.{reach, reach-start, reach-end, reach_of_two, on_segment_is, on_segment-same, within_segment-same, on_of_within, only_point, same-sym, same-trans, start_on_segment, end_on_segment}
 use Rattle.plane.specs.Fraction.{Fraction, IsSame, OnSegment, WithinSegment, IsNotNegative, IsPositive}
 use Rattle.plane.specs.Side.{TurnsLeft}
 use Rattle.plane.specs.Tiling.{Triangulation, IsVertex, IsEdge, vertex, JoinsLine}
 use Rattle.plane.specs.Location.{IsPast}
-use Rattle.plane.specs.Line.{Item, Meets}
 use Rattle.plane.specs.Line as L
 use Rattle.plane_delaunay.proofs.Bracket.{bracket, bracket-turned, bracket-swapped, bracket-first, bracket-second, above_if_left}
 use Rattle.plane_delaunay.proofs.EmptyCircles.{same_at_end}
@@ -32,6 +31,8 @@ use Rattle.plane_segments.proofs.OverlapDecided.{overlaps_if}
 use Rattle.plane_segments.proofs.EachWalk.{ends_differ}
 use Rattle.plane_segments.proofs.Steps.{crossing_sides}
 use Rattle.plane_segments.proofs.WalkSteps.{meeting_of}
+use Rattle.plane.proofs.Signs.{opposite_of_zero_of}
+use Rattle.plane_tiling.proofs.Edges.{turned_within}
 
 -- ---- numbers: n x = k a + l b
 last_only : (n k l x a b : ℤ) → n *ℤ x ≡ k *ℤ a +ℤ l *ℤ b → a ≡ pos 0 → n *ℤ x ≡ l *ℤ b
@@ -158,10 +159,7 @@ module _ (t : Triangulation) (c₀ : Meeting t) (p q : Fraction) (apart : ¬ IsS
     on_a z = sym (bracket-turned p q A) ∙ none_by m.n (bracket q A p) m.l (bracket q A B) by_first m.n_above (sym (bracket-turned q A B) ∙ z)
 
     on_b : bracket A B q ≡ pos 0 → bracket p q B ≡ pos 0
-    on_b z = sym (bracket-turned p q B) ∙ none_by m.n (bracket q B p) m.k (bracket q B A) by_second m.n_above (none_turned (bracket-swapped B q A) (bracket-turned A B q ∙ z))
-      where
-        none_turned : {x y : ℤ} → x ≡ neg_ℤ y → y ≡ pos 0 → x ≡ pos 0
-        none_turned e d = omega (arith, ints)
+    on_b z = sym (bracket-turned p q B) ∙ none_by m.n (bracket q B p) m.k (bracket q B A) by_second m.n_above (opposite_of_zero_of (bracket-swapped B q A) (bracket-turned A B q ∙ z))
 
     not_at_last : ¬ IsSame p B
     not_at_last s = c₀.none_within a b b e (c₀.ends a b e).1 (within_segment-same A B p B s here)
@@ -214,9 +212,6 @@ module _ (t : Triangulation) (c₀ : Meeting t) (p q : Fraction) (apart : ¬ IsS
           where
             both : (a b : ℤ) → a ≡ pos 0 → b ≡ pos 0 → a ≡ b
             both a b e d = omega (arith, ints)
-
-turned_within : (a b x : Fraction) → WithinSegment a b x → WithinSegment b a x
-turned_within a b x h = turned_mean_of_two IsPositive a b x h
 
 pub first_from_an_edge : FirstFromEdge
 first_from_an_edge t h p q apart a b e here = (

@@ -1,5 +1,5 @@
 -- An edge crosses a segment exactly if one of its two ways does so from right to left.
-use Rattle.std.proofs.Common.{◌≡◌, ◌⊎◌, ℕ, sym, ap, ◌∙◌, arith}
+use Rattle.std.proofs.Common.{◌≡◌, ◌⊎◌, ℕ, ap, ◌∙◌, arith}
 use mathlib.Core.Logic.{inl, inr}
 use Rattle.std.specs.Prelude.{ℤ, pos, ◌-ℤ◌, ◌*ℤ◌, ◌<ℤ◌, List}
 use Rattle.std.proofs.lemmas.Int.{ints}
@@ -7,9 +7,9 @@ use Rattle.plane.specs.Fraction.{Point, whole, IsSame}
 use Rattle.plane.specs.Side.{opposite}
 use Rattle.plane.specs.Pairs.{Joins}
 use Rattle.plane.specs.Laws.{Parts, turn_at}
-use Rattle.plane.specs.Tiling.{Triangulation, IsVertex, IsEdge, HasFace, TilesHull, vertex}
+use Rattle.plane.specs.Tiling.{Triangulation, IsVertex, IsEdge, TilesHull, vertex}
 use Rattle.plane.proofs.Sides.{side_swapped}
-use Rattle.plane.proofs.Steps.{left_not_zero}
+use Rattle.plane.proofs.Steps.{times_one}
 use Rattle.plane.proofs.Meetings.{crossing_is_sides}
 use Rattle.plane_delaunay.proofs.Bracket.{bracket}
 use Rattle.plane_delaunay.proofs.Ground.{tiling}
@@ -17,29 +17,16 @@ use Rattle.plane_delaunay.proofs.Where.{vertices_apart}
 use Rattle.plane_edits.specs.Legal.{point_of}
 use Rattle.plane_segments.specs.Path.{IsCrossing}
 use Rattle.plane_segments.specs.PathLaws.{CrossingIsEitherWay}
-use Rattle.plane_segments.proofs.Turns.{left_turn, right_turn, turns-differ, turn-start}
+use Rattle.plane_segments.proofs.Turns.{left_turn, right_turn, turns-differ}
+use Rattle.plane_segments.proofs.Steps.{edge_apart}
 
 -- two points of the code at one place are one
 pub one_point : (p q : Point) → IsSame (whole p) (whole q) → p ≡ q
-one_point p q e = λ i. record { x = part p.x q.x e.x i; y = part p.y q.y e.y i }
-  where
-    part : (a b : ℤ) → a *ℤ pos 1 ≡ b *ℤ pos 1 → a ≡ b
-    part a b e = omega (arith, ints)
+one_point p q e = λ i. record { x = times_one p.x q.x e.x i; y = times_one p.y q.y e.y i }
 
 pub one_vertex : (t : Triangulation) → TilesHull t → (i j : ℕ) → IsVertex t i → IsVertex t j → IsSame (vertex t i) (vertex t j) → i ≡ j
 unfolding tiling
 one_vertex t h i j hi hj e = vertices_apart (tiling t h) i j hi hj (λ s u. ap (λ (q : Point). bracket s u (whole q)) (one_point (point_of t.points i) (point_of t.points j) e))
-
--- the ends of an edge are at two places
-pub ends_apart : (t : Triangulation) → TilesHull t → (v y : ℕ) → IsEdge t v y → ¬ IsSame (vertex t v) (vertex t y)
-ends_apart t h v y e s = go ((h.sides v y).0 e)
-  where
-    level : (a b c : Point) → a ≡ b → turn_at a b c ≡ pos 0
-    level a b c o = sym (ap (λ z. turn_at a z c) o) ∙ turn-start a c
-
-    go : HasFace t v y ⊎ HasFace t y v → ⊥
-    go (inl f) = left_not_zero (left_turn (point_of t.points v) (point_of t.points y) (point_of t.points f.0) (h.turning v y f.0 f.1)) (level (point_of t.points v) (point_of t.points y) (point_of t.points f.0) (one_point (point_of t.points v) (point_of t.points y) s))
-    go (inr f) = left_not_zero (left_turn (point_of t.points y) (point_of t.points v) (point_of t.points f.0) (h.turning y v f.0 f.1)) (level (point_of t.points y) (point_of t.points v) (point_of t.points f.0) (sym (one_point (point_of t.points v) (point_of t.points y) s)))
 
 pub edge_back : (pairs : List (ℕ × ℕ)) (v y : ℕ) → Joins pairs v y → Joins pairs y v
 edge_back pairs v y (inl c) = inr c
@@ -79,7 +66,7 @@ module _ (t : Triangulation) (i j v y : ℕ) where
 
 pub crossing_is_either_way : CrossingIsEitherWay
 crossing_is_either_way t i j v y h free e =
-    let sides = crossing_is_sides (vertex t i) (vertex t j) (vertex t v) (vertex t y) (λ s. free.apart (one_vertex t h i j free.first free.second s)) (ends_apart t h v y e) in (
+    let sides = crossing_is_sides (vertex t i) (vertex t j) (vertex t v) (vertex t y) (λ s. free.apart (one_vertex t h i j free.first free.second s)) (edge_apart t h v y e) in (
       (λ c. let both = sides.0 c in ways t i j v y e both.0 both.1),
       (λ c. sides.1 (back t i j v y c)),
     )

@@ -6,7 +6,7 @@ use Rattle.std.specs.Prelude.{◌≢◌, ℤ, pos, ◌<ℤ◌, ◌≤ℤ◌, ◌
 use Rattle.std.proofs.lemmas.Int.{ints}
 use Rattle.plane.proofs.IntegerLaws.{neg-mul_ℤ}
 use Rattle.plane.proofs.IntegerOrder.{lt_or_ge_ℤ, trichotomy_ℤ, mul-pos_ℤ, mul-nonneg_ℤ, pos_of_mul-pos_ℤ, mul-nonpos_of_nonneg_nonpos_ℤ, mul-neg_of_pos_neg_ℤ, mul_cancel_ℤ, pos-ne-zero_ℤ, zero-mul_ℤ}
-use Rattle.plane.proofs.Steps.{weak, weak_right, zero_weak_left, left_not_below, product_zero_left}
+use Rattle.plane.proofs.Steps.{weak, weak_right, zero_weak_left, left_not_below, product_zero_left, right_not_above}
 use Rattle.plane.proofs.Solver.{num, ◌⊖◌, ◌⊗◌, ring_in_from}
 use Rattle.plane.specs.Fraction.{Fraction, IsSame, OnSegment}
 use Rattle.plane.specs.Circle.{IsNearer}
@@ -27,6 +27,7 @@ use Rattle.plane_segments.proofs.SideSigns.{not_left, below_if_right, none_if_on
 use Rattle.plane_segments.proofs.Begins.{turned_negative, turned_least, bare_inside}
 use Rattle.plane_segments.proofs.Orders.{nearer-same_second}
 use Rattle.plane_segments.proofs.Firsts.{first_from_face}
+use Rattle.plane.proofs.Signs.{negation_not_negative, opposite_of_zero_of}
 
 -- ---- left at the start, and not right at a point: left at each point between
 pub still_left : (p q : Fraction) (apart : ¬ IsSame p q) (u v z x : Fraction) → OnSegment p q z → OnSegment p q x → IsNearer p z x → pos 0 <ℤ bracket u v p → pos 0 ≤ℤ bracket u v x → pos 0 <ℤ bracket u v z
@@ -41,10 +42,7 @@ still_left p q apart u v z x hz hx near hp least = go (lt_or_ge_ℤ (slope u v p
 
     falls : slope u v p q <ℤ pos 0 → (bracket u v z ≤ℤ pos 0) ⊎ (pos 0 <ℤ bracket u v z) → pos 0 <ℤ bracket u v z
     falls s (inr h) = h
-    falls s (inl h) = absurd (both (turned_negative _ _ (bracket-swapped v u x) (later_is_higher p q apart v u z x hz hx near (swapped (bracket u v q) (bracket u v p) (bracket v u q) (bracket v u p) p.w q.w (bracket-swapped u v q) (bracket-swapped u v p) s) (turned_least _ _ (bracket-swapped u v z) h))) least)
-      where
-        both : {y : ℤ} → y <ℤ pos 0 → pos 0 ≤ℤ y → ⊥
-        both h k = omega (arith, ints)
+    falls s (inl h) = absurd (right_not_above (turned_negative _ _ (bracket-swapped v u x) (later_is_higher p q apart v u z x hz hx near (swapped (bracket u v q) (bracket u v p) (bracket v u q) (bracket v u p) p.w q.w (bracket-swapped u v q) (bracket-swapped u v p) s) (turned_least _ _ (bracket-swapped u v z) h))) least)
 
     weakly : (y : ℤ) → (y ≤ℤ pos 0) ⊎ (pos 0 <ℤ y)
     weakly y = pick (lt_or_ge_ℤ (pos 0) y)
@@ -83,14 +81,9 @@ module _ (p q : Fraction) (apart : ¬ IsSame p q) (A B C : Fraction) (turning : 
 
   -- or it reaches the corner A
   pub reaches_corner : bracket p q A ≡ pos 0 → pos 0 <ℤ bracket p q B → bracket A B q ≤ℤ pos 0 → OnSegment p q A
-  reaches_corner level high past = segment_from (bracket p q B) (neg_ℤ (bracket A B q)) (bracket A B p) p q A high (opposite_least (bracket A B q) past) (weak inside.first)
-      (λ u v. parts (bracket A B q) (bracket A B p) (bracket u v p) (bracket u v q) (bracket q p B) (bracket u v A) (bracket q p A) (bracket u v B) (bracket p q B) (meeting A B p q u v) (none_turned (bracket-swapped p q A) level) (bracket-swapped p q B))
+  reaches_corner level high past = segment_from (bracket p q B) (neg_ℤ (bracket A B q)) (bracket A B p) p q A high (negation_not_negative (bracket A B q) past) (weak inside.first)
+      (λ u v. parts (bracket A B q) (bracket A B p) (bracket u v p) (bracket u v q) (bracket q p B) (bracket u v A) (bracket q p A) (bracket u v B) (bracket p q B) (meeting A B p q u v) (opposite_of_zero_of (bracket-swapped p q A) level) (bracket-swapped p q B))
     where
-      opposite_least : (x : ℤ) → x ≤ℤ pos 0 → pos 0 ≤ℤ neg_ℤ x
-      opposite_least x h = omega (arith, ints)
-
-      none_turned : {x y : ℤ} → x ≡ neg_ℤ y → y ≡ pos 0 → x ≡ pos 0
-      none_turned e d = omega (arith, ints)
 
       parts : (f g x y k z l w n : ℤ) → f *ℤ x -ℤ g *ℤ y ≡ k *ℤ z -ℤ l *ℤ w → l ≡ pos 0 → k ≡ neg_ℤ n → n *ℤ z ≡ neg_ℤ f *ℤ x +ℤ g *ℤ y
       parts f g x y k z l w n e d c = let a = product_zero_left {a = l} w d in let b : k *ℤ z ≡ neg_ℤ n *ℤ z = ap (λ m. m *ℤ z) c in omega (arith, ints, neg-mul_ℤ n z, neg-mul_ℤ f x)
@@ -98,13 +91,10 @@ module _ (p q : Fraction) (apart : ¬ IsSame p q) (A B C : Fraction) (turning : 
   -- the line of the segment does not have two corners
   not_both : bracket p q A ≡ pos 0 → bracket p q B ≡ pos 0 → ⊥
   not_both ea eb = apart (record {
-    x = one (bracket A B q) (bracket A B p) p.x p.w q.x q.w (bracket q p B) A.x (bracket q p A) B.x A.w B.w (none (bracket-swapped p q B) eb) (none (bracket-swapped p q A) ea) (meeting-x A B p q) (meeting-w A B p q) inside.first;
-    y = one (bracket A B q) (bracket A B p) p.y p.w q.y q.w (bracket q p B) A.y (bracket q p A) B.y A.w B.w (none (bracket-swapped p q B) eb) (none (bracket-swapped p q A) ea) (meeting-y A B p q) (meeting-w A B p q) inside.first;
+    x = one (bracket A B q) (bracket A B p) p.x p.w q.x q.w (bracket q p B) A.x (bracket q p A) B.x A.w B.w (opposite_of_zero_of (bracket-swapped p q B) eb) (opposite_of_zero_of (bracket-swapped p q A) ea) (meeting-x A B p q) (meeting-w A B p q) inside.first;
+    y = one (bracket A B q) (bracket A B p) p.y p.w q.y q.w (bracket q p B) A.y (bracket q p A) B.y A.w B.w (opposite_of_zero_of (bracket-swapped p q B) eb) (opposite_of_zero_of (bracket-swapped p q A) ea) (meeting-y A B p q) (meeting-w A B p q) inside.first;
   })
     where
-      none : {x y : ℤ} → x ≡ neg_ℤ y → y ≡ pos 0 → x ≡ pos 0
-      none e d = omega (arith, ints)
-
       one : (f g px pw qx qw k ax l bx aw bw : ℤ) → k ≡ pos 0 → l ≡ pos 0 → f *ℤ px -ℤ g *ℤ qx ≡ k *ℤ ax -ℤ l *ℤ bx → f *ℤ pw -ℤ g *ℤ qw ≡ k *ℤ aw -ℤ l *ℤ bw → pos 0 <ℤ g → px *ℤ qw ≡ qx *ℤ pw
       one f g px pw qx qw k ax l bx aw bw ek el e d hg = mul_cancel_ℤ {k = g} (pos-ne-zero_ℤ hg) (times f g px pw qx qw (level (k *ℤ ax) (l *ℤ bx) (product_zero_left ax ek) (product_zero_left bx el) e) (level (k *ℤ aw) (l *ℤ bw) (product_zero_left aw ek) (product_zero_left bw el) d))
         where

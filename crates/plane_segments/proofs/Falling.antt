@@ -7,12 +7,14 @@ use Rattle.std.proofs.lemmas.Bool.{cases_eq}
 use Rattle.plane.specs.Fraction.{Point}
 use Rattle.plane.specs.Laws.{turn_at, squared_way}
 use Rattle.plane.proofs.IntegerOrder.{mul-nonneg_ℤ, mul-neg_of_pos_neg_ℤ, lt_or_ge_ℤ, trichotomy_ℤ, square-nonneg_ℤ, mul-nonpos_of_nonneg_nonpos_ℤ, zero_of_mul-zero_ℤ, zero-mul_ℤ, mul_cancel_ℤ, mul-eq-zero_ℤ}
-use Rattle.plane.proofs.Steps.{weak, zero_or_left, right_not_zero, product_zero_left}
-use Rattle.plane.proofs.Solver.{Poly, num, ◌⊕◌, ◌⊖◌, ◌⊗◌, ⊝, ring_in, ring_in_from, ring_over}
+use Rattle.plane.proofs.Steps.{weak, zero_or_left, right_not_zero, product_zero_left, left_not_zero, no_difference, right_not_above, weak_right, zero_weak, zero_weak_left}
+use Rattle.plane.proofs.Solver.{Poly, ◌⊕◌, ◌⊖◌, ◌⊗◌, ⊝, ring_in, ring_in_from, ring_over}
 use Rattle.plane.proofs.Bracket.{Pointᵖ, points as points_shape}
 use Rattle.plane_edits.specs.Legal.{point_of}
-use Rattle.plane_segments.proofs.Turns.{turnᵖ}
+use Rattle.plane_segments.proofs.Turns.{turnᵖ, turn-same}
 use Rattle.plane_segments.specs.Measure.{comes_before, is_right, one_if, rank_below}
+use Rattle.plane.proofs.Signs.{at_most_both_ways, difference_of_zeros, negated_negative, negated_not_negative, same_after_shift, same_have_no_difference, sum_not_negative_of, sum_of_zeros_from}
+use Rattle.plane.proofs.Sides.{test_false}
 
 -- ---- tests
 only_false : Bool → Type 0
@@ -26,9 +28,6 @@ off e = subst only_false e tt
 pub says : (a b : ℤ) → a <ℤ b → int_lt a b ≡ true
 says a b h = grind (arith, ints)
 
-denies : (a b : ℤ) → b ≤ℤ a → int_lt a b ≡ false
-denies a b h = grind (arith, ints)
-
 pub said : (a b : ℤ) → int_lt a b ≡ true → a <ℤ b
 said a b h = grind (arith, ints)
 
@@ -39,13 +38,7 @@ IsBefore i u v = (pos 0 <ℤ turn_at i v u) ⊎ ((turn_at i v u ≡ pos 0) × (s
 
 before_test : (i u v : Point) → IsBefore i u v → comes_before i u v ≡ true
 before_test i u v (inl h) = rw (says (pos 0) (turn_at i v u) h)
-before_test i u v (inr h) = rw (denies (pos 0) (turn_at i v u) (level h.0), denies (turn_at i v u) (pos 0) (level' h.0)) (says (squared_way i u) (squared_way i v) h.1)
-  where
-    level : {z : ℤ} → z ≡ pos 0 → z ≤ℤ pos 0
-    level e = omega (arith, ints)
-
-    level' : {z : ℤ} → z ≡ pos 0 → pos 0 ≤ℤ z
-    level' e = omega (arith, ints)
+before_test i u v (inr h) = rw (test_false (pos 0) (turn_at i v u) (zero_weak h.0), test_false (turn_at i v u) (pos 0) (zero_weak_left h.0)) (says (squared_way i u) (squared_way i v) h.1)
 
 by_tests : (t a b : ℤ) → (if int_lt (pos 0) t then true else (if int_lt t (pos 0) then false else int_lt a b)) ≡ true → (pos 0 <ℤ t) ⊎ ((t ≡ pos 0) × (a <ℤ b))
 by_tests t a b h = go (trichotomy_ℤ t)
@@ -53,19 +46,10 @@ by_tests t a b h = go (trichotomy_ℤ t)
     wrong : false ≡ true → (pos 0 <ℤ t) ⊎ ((t ≡ pos 0) × (a <ℤ b))
     wrong e = absurd (off e)
 
-    low : {z : ℤ} → z <ℤ pos 0 → z ≤ℤ pos 0
-    low e = omega (arith, ints)
-
-    level : {z : ℤ} → z ≡ pos 0 → z ≤ℤ pos 0
-    level e = omega (arith, ints)
-
-    level' : {z : ℤ} → z ≡ pos 0 → pos 0 ≤ℤ z
-    level' e = omega (arith, ints)
-
     go : (t <ℤ pos 0) ⊎ ((t ≡ pos 0) ⊎ (pos 0 <ℤ t)) → (pos 0 <ℤ t) ⊎ ((t ≡ pos 0) × (a <ℤ b))
     go (inr (inr k)) = inl k
-    go (inr (inl e)) = inr (e, said a b (rw (denies (pos 0) t (level e), denies t (pos 0) (level' e)) at h))
-    go (inl k) = wrong (rw (denies (pos 0) t (low k), says t (pos 0) k) at h)
+    go (inr (inl e)) = inr (e, said a b (rw (test_false (pos 0) t (zero_weak e), test_false t (pos 0) (zero_weak_left e)) at h))
+    go (inl k) = wrong (rw (test_false (pos 0) t (weak_right k), says t (pos 0) k) at h)
 
 test_before : (i u v : Point) → comes_before i u v ≡ true → IsBefore i u v
 test_before i u v h = by_tests (turn_at i v u) (squared_way i u) (squared_way i v) h
@@ -84,10 +68,7 @@ both_weak fv tw fw tu fu tk e hv hw hu a b = go (zero_or_left a) (zero_or_left b
     negatives a b = ring_in (a ∷ b ∷ []) (λ a b. (⊝ a) ⊗ (⊝ b)) (λ a b. a ⊗ b) tt
 
     weak_product : (a b : ℤ) → a <ℤ pos 0 → pos 0 ≤ℤ b → (a *ℤ b) ≤ℤ pos 0
-    weak_product a b h k = subst (λ z. z ≤ℤ pos 0) (commuted b a) (mul-nonpos_of_nonneg_nonpos_ℤ k (low h))
-      where
-        low : {z : ℤ} → z <ℤ pos 0 → z ≤ℤ pos 0
-        low h = omega (arith, ints)
+    weak_product a b h k = subst (λ z. z ≤ℤ pos 0) (commuted b a) (mul-nonpos_of_nonneg_nonpos_ℤ k (weak_right h))
 
     strict_product : (a b : ℤ) → a <ℤ pos 0 → pos 0 <ℤ b → (a *ℤ b) <ℤ pos 0
     strict_product a b h k = subst (λ z. z <ℤ pos 0) (commuted b a) (mul-neg_of_pos_neg_ℤ k h)
@@ -95,18 +76,10 @@ both_weak fv tw fw tu fu tk e hv hw hu a b = go (zero_or_left a) (zero_or_left b
     positive : (fv *ℤ tw) <ℤ pos 0 → pos 0 <ℤ tw
     positive h = by (lt_or_ge_ℤ (pos 0) tw)
       where
-        flipped : {z : ℤ} → z ≤ℤ pos 0 → pos 0 ≤ℤ neg_ℤ z
-        flipped h = omega (arith, ints)
-
-        low : {z : ℤ} → z <ℤ pos 0 → pos 0 ≤ℤ neg_ℤ z
-        low h = omega (arith, ints)
-
-        clash : {z : ℤ} → z <ℤ pos 0 → pos 0 ≤ℤ z → ⊥
-        clash h k = omega (arith, ints)
 
         by : (pos 0 <ℤ tw) ⊎ (tw ≤ℤ pos 0) → pos 0 <ℤ tw
         by (inl k) = k
-        by (inr k) = absurd (clash h (subst (λ z. pos 0 ≤ℤ z) (negatives fv tw) (mul-nonneg_ℤ (low hv) (flipped k))))
+        by (inr k) = absurd (right_not_above h (subst (λ z. pos 0 ≤ℤ z) (negatives fv tw) (mul-nonneg_ℤ (negated_negative hv) (negated_not_negative k))))
 
     sum_low : (p q r : ℤ) → p ≡ q +ℤ r → q <ℤ pos 0 → r ≤ℤ pos 0 → p <ℤ pos 0
     sum_low p q r e h k = omega (arith, ints)
@@ -114,13 +87,10 @@ both_weak fv tw fw tu fu tk e hv hw hu a b = go (zero_or_left a) (zero_or_left b
     sum_low' : (p q r : ℤ) → p ≡ q +ℤ r → q ≤ℤ pos 0 → r <ℤ pos 0 → p <ℤ pos 0
     sum_low' p q r e h k = omega (arith, ints)
 
-    sum_none : (p q r : ℤ) → p ≡ q +ℤ r → q ≡ pos 0 → r ≡ pos 0 → p ≡ pos 0
-    sum_none p q r e h k = omega (arith, ints)
-
     go : (tu ≡ pos 0) ⊎ (pos 0 <ℤ tu) → (tk ≡ pos 0) ⊎ (pos 0 <ℤ tk) → (pos 0 <ℤ tw) ⊎ ((tw ≡ pos 0) × (tu ≡ pos 0) × (tk ≡ pos 0))
     go (inr x) y = inl (positive (sum_low (fv *ℤ tw) (fw *ℤ tu) (fu *ℤ tk) e (strict_product fw tu hw x) (weak_product fu tk hu b)))
     go (inl x) (inr y) = inl (positive (sum_low' (fv *ℤ tw) (fw *ℤ tu) (fu *ℤ tk) e (weak_product fw tu hw a) (strict_product fu tk hu y)))
-    go (inl x) (inl y) = inr (zero_of_mul-zero_ℤ (λ z. right_not_zero hv z) (sum_none (fv *ℤ tw) (fw *ℤ tu) (fu *ℤ tk) e (zero-mul_ℤ fw x) (zero-mul_ℤ fu y)), x, y)
+    go (inl x) (inl y) = inr (zero_of_mul-zero_ℤ (λ z. right_not_zero hv z) (sum_of_zeros_from (fv *ℤ tw) (fw *ℤ tu) (fu *ℤ tk) e (zero-mul_ℤ fw x) (zero-mul_ℤ fu y)), x, y)
 
 pub IsBefore-trans : (i j u v w : Point) → turn_at i j u <ℤ pos 0 → turn_at i j v <ℤ pos 0 → turn_at i j w <ℤ pos 0 → IsBefore i u v → IsBefore i v w → IsBefore i u w
 IsBefore-trans i j u v w hu hv hw a b = go (both_weak (turn_at i j v) (turn_at i w u) (turn_at i j w) (turn_at i v u) (turn_at i j u) (turn_at i w v) (three_turns i j u v w) hv hw hu (at_least a) (at_least b)) a b
@@ -129,17 +99,14 @@ IsBefore-trans i j u v w hu hv hw a b = go (both_weak (turn_at i j v) (turn_at i
     at_least (inl h) = weak h
     at_least (inr h) = let e = h.0 in omega (arith, ints)
 
-    clash : {t : ℤ} → pos 0 <ℤ t → t ≡ pos 0 → ⊥
-    clash h e = omega (arith, ints)
-
     below : {x y z : ℤ} → x <ℤ y → y <ℤ z → x <ℤ z
     below h k = omega (arith, ints)
 
     go : (pos 0 <ℤ turn_at i w u) ⊎ ((turn_at i w u ≡ pos 0) × (turn_at i v u ≡ pos 0) × (turn_at i w v ≡ pos 0)) → (pos 0 <ℤ turn_at i v u) ⊎ ((turn_at i v u ≡ pos 0) × (squared_way i u <ℤ squared_way i v)) → (pos 0 <ℤ turn_at i w v) ⊎ ((turn_at i w v ≡ pos 0) × (squared_way i v <ℤ squared_way i w))
         → (pos 0 <ℤ turn_at i w u) ⊎ ((turn_at i w u ≡ pos 0) × (squared_way i u <ℤ squared_way i w))
     go (inl h) x y = inl h
-    go (inr e) (inl x) y = absurd (clash x e.1)
-    go (inr e) (inr x) (inl y) = absurd (clash y e.2)
+    go (inr e) (inl x) y = absurd (left_not_zero x e.1)
+    go (inr e) (inr x) (inl y) = absurd (left_not_zero y e.2)
     go (inr e) (inr x) (inr y) = inr (e.0, below x.1 y.1)
 
 -- ---- ranks
@@ -200,17 +167,9 @@ and_off : (a b : Bool) → b ≡ false → (a && b) ≡ false
 and_off true b h = h
 and_off false b h = refl
 
-turn_none : (i p : Point) → turn_at i p p ≡ pos 0
-turn_none i p = ring_over points_shape [] (i ∷ p ∷ []) (λ i p. turnᵖ i p p) (λ i p. num 0) tt
-
 not_before_itself : (i p : Point) → comes_before i p p ≡ false
-not_before_itself i p = rw (denies (pos 0) (turn_at i p p) (level (turn_none i p)), denies (turn_at i p p) (pos 0) (level' (turn_none i p))) (denies (squared_way i p) (squared_way i p) (own (squared_way i p)))
+not_before_itself i p = rw (test_false (pos 0) (turn_at i p p) (zero_weak (turn-same i p)), test_false (turn_at i p p) (pos 0) (zero_weak_left (turn-same i p))) (test_false (squared_way i p) (squared_way i p) (own (squared_way i p)))
   where
-    level : {z : ℤ} → z ≡ pos 0 → z ≤ℤ pos 0
-    level e = omega (arith, ints)
-
-    level' : {z : ℤ} → z ≡ pos 0 → pos 0 ≤ℤ z
-    level' e = omega (arith, ints)
 
     own : (z : ℤ) → z ≤ℤ z
     own z = omega (arith, ints)
@@ -249,9 +208,6 @@ equal_squares f g s hf hg hs e = go (trichotomy_ℤ (f -ℤ g))
     product : (f g s : ℤ) → (f -ℤ g) *ℤ ((f +ℤ g) *ℤ s) ≡ (f *ℤ f) *ℤ s -ℤ (g *ℤ g) *ℤ s
     product f g s = ring_in (f ∷ g ∷ s ∷ []) (λ f g s. (f ⊖ g) ⊗ ((f ⊕ g) ⊗ s)) (λ f g s. (f ⊗ f) ⊗ s ⊖ (g ⊗ g) ⊗ s) tt
 
-    none : (a b : ℤ) → a ≡ b → a -ℤ b ≡ pos 0
-    none a b e = omega (arith, ints)
-
     low : (f g : ℤ) → f <ℤ pos 0 → g <ℤ pos 0 → (f +ℤ g) <ℤ pos 0
     low f g h k = omega (arith, ints)
 
@@ -261,11 +217,8 @@ equal_squares f g s hf hg hs e = go (trichotomy_ℤ (f -ℤ g))
     factor : ((f +ℤ g) *ℤ s) <ℤ pos 0
     factor = subst (λ z. z <ℤ pos 0) (commuted s (f +ℤ g)) (mul-neg_of_pos_neg_ℤ hs (low f g hf hg))
 
-    level : (f g : ℤ) → f -ℤ g ≡ pos 0 → f ≡ g
-    level f g e = omega (arith, ints)
-
     go : ((f -ℤ g) <ℤ pos 0) ⊎ ((f -ℤ g ≡ pos 0) ⊎ (pos 0 <ℤ (f -ℤ g))) → f ≡ g
-    go d = level f g (zero_of_mul-zero_ℤ (λ z. right_not_zero factor z) (commuted ((f +ℤ g) *ℤ s) (f -ℤ g) ∙ product f g s ∙ none ((f *ℤ f) *ℤ s) ((g *ℤ g) *ℤ s) e))
+    go d = no_difference f g (zero_of_mul-zero_ℤ (λ z. right_not_zero factor z) (commuted ((f +ℤ g) *ℤ s) (f -ℤ g) ∙ product f g s ∙ same_have_no_difference ((f *ℤ f) *ℤ s) ((g *ℤ g) *ℤ s) e))
 
 pub not_both : (a b : ℤ) → a *ℤ a +ℤ b *ℤ b ≡ pos 0 → (a ≡ pos 0) × (b ≡ pos 0)
 not_both a b e = (root a (first (a *ℤ a) (b *ℤ b) e (square-nonneg_ℤ a) (square-nonneg_ℤ b)), root b (second (a *ℤ a) (b *ℤ b) e (square-nonneg_ℤ a) (square-nonneg_ℤ b)))
@@ -286,10 +239,7 @@ strictly_nearer i j v z tie hz hv near apart = go (lt_or_ge_ℤ (squared_way i z
     a = v.x -ℤ i.x
 
     way_nonneg : pos 0 ≤ℤ squared_way i v
-    way_nonneg = plus (square-nonneg_ℤ (v.x -ℤ i.x)) (square-nonneg_ℤ (v.y -ℤ i.y))
-      where
-        plus : {p q : ℤ} → pos 0 ≤ℤ p → pos 0 ≤ℤ q → pos 0 ≤ℤ (p +ℤ q)
-        plus h k = omega (arith, ints)
+    way_nonneg = sum_not_negative_of (square-nonneg_ℤ (v.x -ℤ i.x)) (square-nonneg_ℤ (v.y -ℤ i.y))
 
     same : (f g r t : ℤ) → f -ℤ g ≡ r → r ≡ pos 0 → f ≡ g
     same f g r t e h = omega (arith, ints)
@@ -303,18 +253,12 @@ strictly_nearer i j v z tie hz hv near apart = go (lt_or_ge_ℤ (squared_way i z
     on_y : turn_at i j z *ℤ (v.y -ℤ i.y) ≡ turn_at i j v *ℤ (z.y -ℤ i.y)
     on_y = same (turn_at i j z *ℤ (v.y -ℤ i.y)) (turn_at i j v *ℤ (z.y -ℤ i.y)) (turn_at i v z *ℤ (j.y -ℤ i.y)) (pos 0) (ray_y i j v z) (product_none (j.y -ℤ i.y))
 
-    level : (p q : ℤ) → p ≤ℤ q → q ≤ℤ p → p ≡ q
-    level p q h k = omega (arith, ints)
-
-    shifted : (p q r : ℤ) → p -ℤ r ≡ q -ℤ r → p ≡ q
-    shifted p q r e = omega (arith, ints)
-
     clash : squared_way i v ≤ℤ squared_way i z → pos 0 <ℤ squared_way i v → ⊥
     clash far positive =
         let d = same_values (turn_at i j z) (turn_at i j v) (v.x -ℤ i.x) (v.y -ℤ i.y) (z.x -ℤ i.x) (z.y -ℤ i.y) on_x on_y in
-        let f : turn_at i j z ≡ turn_at i j v = equal_squares (turn_at i j z) (turn_at i j v) (squared_way i v) hz hv positive (d ∙ ap (λ s. (turn_at i j v *ℤ turn_at i j v) *ℤ s) (level (squared_way i z) (squared_way i v) near far)) in
-        let x = shifted v.x z.x i.x (mul_cancel_ℤ (λ e. right_not_zero hv e) (ap (λ s. s *ℤ (v.x -ℤ i.x)) (sym f) ∙ on_x)) in
-        let y = shifted v.y z.y i.y (mul_cancel_ℤ (λ e. right_not_zero hv e) (ap (λ s. s *ℤ (v.y -ℤ i.y)) (sym f) ∙ on_y)) in
+        let f : turn_at i j z ≡ turn_at i j v = equal_squares (turn_at i j z) (turn_at i j v) (squared_way i v) hz hv positive (d ∙ ap (λ s. (turn_at i j v *ℤ turn_at i j v) *ℤ s) (at_most_both_ways (squared_way i z) (squared_way i v) near far)) in
+        let x = same_after_shift v.x z.x i.x (mul_cancel_ℤ (λ e. right_not_zero hv e) (ap (λ s. s *ℤ (v.x -ℤ i.x)) (sym f) ∙ on_x)) in
+        let y = same_after_shift v.y z.y i.y (mul_cancel_ℤ (λ e. right_not_zero hv e) (ap (λ s. s *ℤ (v.y -ℤ i.y)) (sym f) ∙ on_y)) in
         apart (λ o. record { x = sym x o; y = sym y o })
 
     go : (squared_way i z <ℤ squared_way i v) ⊎ (squared_way i v ≤ℤ squared_way i z) → (squared_way i v ≡ pos 0) ⊎ (pos 0 <ℤ squared_way i v) → squared_way i z <ℤ squared_way i v
@@ -323,10 +267,7 @@ strictly_nearer i j v z tie hz hv near apart = go (lt_or_ge_ℤ (squared_way i z
     go (inr h) (inl e) = absurd (let b = not_both (v.x -ℤ i.x) (v.y -ℤ i.y) e in right_not_zero hv (no_turn (j.x -ℤ i.x) (v.y -ℤ i.y) (j.y -ℤ i.y) (v.x -ℤ i.x) b.1 b.0))
       where
         no_turn : (p b q a : ℤ) → b ≡ pos 0 → a ≡ pos 0 → p *ℤ b -ℤ q *ℤ a ≡ pos 0
-        no_turn p b q a e h = none (p *ℤ b) (q *ℤ a) (zero-mul_ℤ p e) (zero-mul_ℤ q h)
-          where
-            none : (s t : ℤ) → s ≡ pos 0 → t ≡ pos 0 → s -ℤ t ≡ pos 0
-            none s t e h = omega (arith, ints)
+        no_turn p b q a e h = difference_of_zeros (p *ℤ b) (q *ℤ a) (zero-mul_ℤ p e) (zero-mul_ℤ q h)
 
 -- ---- the sum
 abbrev pub ranked : Bool → ℕ → ℤ

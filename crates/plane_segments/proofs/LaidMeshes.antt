@@ -1,22 +1,16 @@
 -- Each mesh is a tiling, or has its vertices on one line with edges that meet at their ends alone.
-use Rattle.std.proofs.Common.{◌≡◌, ◌≢◌, ℕ, arith, ap}
+use Rattle.std.proofs.Common.{◌≡◌, ◌≢◌, ℕ, ap}
 use mathlib.Core.Logic.{inl, inr}
 use native.Mathlib.Decide.{ℕ_discrete}
 use Rattle.std.specs.Prelude.{ℤ, pos, ◌*ℤ◌, slice_index_or}
-use Rattle.std.proofs.lemmas.Int.{ints}
-use Rattle.plane.specs.Fraction.{Point, whole, IsSame}
+use Rattle.plane.specs.Fraction.{whole, IsSame}
 use Rattle.plane.specs.Pairs.{place, IsIndex}
 use Rattle.plane.specs.Tiling.{IsTiling}
 use Rattle.plane_tiling.specs.Local.{IsMesh}
 use Rattle.plane_tiling.proofs.Meshes.{meshes_tile}
 use Rattle.plane_tiling.proofs.Locations.{no_edges_cross}
 use Rattle.plane_segments.specs.WalkLaws.{IsLaid, MeshesAreLaid}
-
-same_point : (p q : Point) → IsSame (whole p) (whole q) → p ≡ q
-same_point p q e = λ k. record { x = one p.x q.x e.x k; y = one p.y q.y e.y k }
-  where
-    one : (a b : ℤ) → a *ℤ pos 1 ≡ b *ℤ pos 1 → a ≡ b
-    one a b e = omega (arith, ints)
+use Rattle.plane_segments.proofs.EitherWay.{one_point}
 
 pub meshes_are_laid : MeshesAreLaid
 meshes_are_laid points faces outer edges mesh own = go (meshes_tile points faces outer edges mesh own)
@@ -30,7 +24,7 @@ meshes_are_laid points faces outer edges mesh own = go (meshes_tile points faces
       where
         pick : Dec (i ≡ j) → i ≡ j
         pick (yes r) = r
-        pick (no n) = absurd (distinct mesh i j hi hj n (ap whole (same_point (slice_index_or points i (record { x = pos 0; y = pos 0 })) (slice_index_or points j (record { x = pos 0; y = pos 0 })) e)))
+        pick (no n) = absurd (distinct mesh i j hi hj n (ap whole (one_point (slice_index_or points i (record { x = pos 0; y = pos 0 })) (slice_index_or points j (record { x = pos 0; y = pos 0 })) e)))
 
     go : IsTiling (record { points = points; faces = faces; edges = edges }) → IsLaid (record { points = points; faces = faces; edges = edges })
     go (inl h) = inl h

@@ -34,6 +34,7 @@ use Rattle.plane_segments.proofs.Vertices.{IsPast, is_past, last_at_end, next_ov
 use Rattle.plane_segments.proofs.VertexEnds.{ahead_met}
 use Rattle.plane_segments.proofs.EachWalk.{ends_differ}
 use Rattle.plane_segments.proofs.OutsideStarts.{overlap_not_first, nearest_first, none_without}
+use Rattle.plane.proofs.Signs.{less_by_difference}
 
 -- ---- numbers of a vertex strictly between two
 first_part : (n k l x a b : ℤ) → n *ℤ x ≡ k *ℤ a +ℤ l *ℤ b → n *ℤ pos 1 ≡ k *ℤ pos 1 +ℤ l *ℤ pos 1 → n *ℤ (x -ℤ a) ≡ l *ℤ (b -ℤ a)
@@ -49,9 +50,6 @@ with_one a b h = omega (arith, ints)
 
 without_one : (a b : ℤ) → (a *ℤ pos 1) <ℤ (b *ℤ pos 1) → a <ℤ b
 without_one a b h = omega (arith, ints)
-
-below_of : (a b : ℤ) → pos 0 <ℤ (b -ℤ a) → a <ℤ b
-below_of a b h = omega (arith, ints)
 
 difference_less : (m : ℕ) (x y a : ℤ) → a <ℤ x → x <ℤ y → nat_abs (y -ℤ a) < suc m → nat_abs (x -ℤ a) < m
 difference_less m x y a h k l = less m (x -ℤ a) (y -ℤ a) (omega (arith, ints)) (omega (arith, ints)) l
@@ -125,10 +123,10 @@ module _ (t : Triangulation) (h : JoinsLine t) (c₀ : Meeting t) (p q : Fractio
         between again k hk w = again k hk (sum_none w.n w.k w.l _ _ _ w.positive (weights_along IsPositive V (vertex t j) (vertex t k) w p q) on_v on) past (difference_less n (reach p q (vertex t k)) (reach p q (vertex t j)) (reach p q V) past before less)
           where
             past : reach p q V <ℤ reach p q (vertex t k)
-            past = below_of _ _ (pos_of_mul-pos_ℤ {k = w.n} w.positive (subst (λ z. pos 0 <ℤ z) (sym (first_part w.n w.k w.l (reach p q (vertex t k)) (reach p q V) (reach p q (vertex t j)) (reach_of_two IsPositive p q V (vertex t j) (vertex t k) w) w.w)) (mul-pos_ℤ w.l_allowed (above_difference _ _ after))))
+            past = less_by_difference _ _ (pos_of_mul-pos_ℤ {k = w.n} w.positive (subst (λ z. pos 0 <ℤ z) (sym (first_part w.n w.k w.l (reach p q (vertex t k)) (reach p q V) (reach p q (vertex t j)) (reach_of_two IsPositive p q V (vertex t j) (vertex t k) w) w.w)) (mul-pos_ℤ w.l_allowed (above_difference _ _ after))))
 
             before : reach p q (vertex t k) <ℤ reach p q (vertex t j)
-            before = below_of _ _ (pos_of_mul-pos_ℤ {k = w.n} w.positive (subst (λ z. pos 0 <ℤ z) (sym (second_part w.n w.k w.l (reach p q (vertex t k)) (reach p q V) (reach p q (vertex t j)) (reach_of_two IsPositive p q V (vertex t j) (vertex t k) w) w.w)) (mul-pos_ℤ w.k_allowed (above_difference _ _ after))))
+            before = less_by_difference _ _ (pos_of_mul-pos_ℤ {k = w.n} w.positive (subst (λ z. pos 0 <ℤ z) (sym (second_part w.n w.k w.l (reach p q (vertex t k)) (reach p q V) (reach p q (vertex t j)) (reach_of_two IsPositive p q V (vertex t j) (vertex t k) w) w.w)) (mul-pos_ℤ w.k_allowed (above_difference _ _ after))))
 
     -- without an edge ahead the vertex is the last
     pub last_without_edge : ((b : ℕ) → IsEdge t v b → ¬ IsAhead V (vertex t b) q) → IsLast t p q (L.at_vertex v)

@@ -8,7 +8,7 @@ use Rattle.plane.specs.Laws.{turn_at, squared_way}
 use Rattle.plane.specs.Tiling.{Face, face, Triangulation, IsFace, TilesHull}
 use Rattle.plane_tiling.specs.Local.{total, around}
 use Rattle.plane.proofs.Sides.{on_if}
-use Rattle.plane.proofs.Steps.{zero_or_left, left_not_zero, right_not_zero}
+use Rattle.plane.proofs.Steps.{zero_or_left, left_not_zero, right_not_zero, both_signs}
 use Rattle.plane.proofs.Bracket.{lift}
 use Rattle.plane.proofs.BracketIdentities.{bracket-affine, bracket-outer}
 use Rattle.plane_tiling.proofs.Totals.{total_nonneg}
@@ -25,6 +25,7 @@ use Rattle.plane_segments.specs.PathLaws.{ChosenFlipLowers}
 use Rattle.plane_segments.proofs.Paths as P
 use Rattle.plane_segments.proofs.Turns.{left_turn, right_turn}
 use Rattle.plane_segments.proofs.Falling.{says, said, and_true, and_first, and_second, IsBefore, rank_falls, rank_positive, strictly_nearer, ranked, ranked_nonneg, ranked_two, sum_falls}
+use Rattle.plane.proofs.Signs.{sum_of_three_not_negative}
 
 turn_of : (a b c : Point) → bracket (whole a) (whole b) (whole c) ≡ turn_at a b c
 unfolding bracket
@@ -34,12 +35,6 @@ pub smaller : (x y : ℤ) → pos 0 ≤ℤ x → x <ℤ y → nat_abs x < nat_ab
 smaller (pos a) (pos b) h k = omega (arith, ints)
 smaller (pos a) (negsuc b) h k = absurd (omega (arith, ints))
 smaller (negsuc a) y h k = absurd (omega (arith, ints))
-
-three : (a b c : ℤ) → pos 0 ≤ℤ a → pos 0 ≤ℤ b → pos 0 ≤ℤ c → pos 0 ≤ℤ (a +ℤ b +ℤ c)
-three a b c h k l = omega (arith, ints)
-
-clash : {z : ℤ} → pos 0 <ℤ z → z <ℤ pos 0 → ⊥
-clash h k = omega (arith, ints)
 
 module _ (t : Triangulation) (new : List Face) (i j v x y z : ℕ) (h : TilesHull t) (free : IsFreeOfVertices t i j) (c : IsCrossing t i j v y) (f : IsFace t v x y) (g : IsFace t v y z) (last_v : IsLastRight t i j v) (last_y : IsLastLeft t i j v y)
     (change : FacesChange t.faces new (face v x y ∷ face v y z ∷ []) (face v x z ∷ face x y z ∷ [])) where
@@ -56,7 +51,7 @@ module _ (t : Triangulation) (new : List Face) (i j v x y z : ℕ) (h : TilesHul
   w_nonneg a b = ranked_nonneg (crosses (p i) (p j) (p a) (p b)) (rank a)
 
   around_nonneg : (faces : List Face) → pos 0 ≤ℤ total (around (crossing_rank t.points i j)) faces
-  around_nonneg faces = total_nonneg (around (crossing_rank t.points i j)) faces (λ g _. three (w g.a g.b) (w g.b g.c) (w g.c g.a) (w_nonneg g.a g.b) (w_nonneg g.b g.c) (w_nonneg g.c g.a))
+  around_nonneg faces = total_nonneg (around (crossing_rank t.points i j)) faces (λ g _. sum_of_three_not_negative (w g.a g.b) (w g.b g.c) (w g.c g.a) (w_nonneg g.a g.b) (w_nonneg g.b g.c) (w_nonneg g.c g.a))
 
   v_right : turn_at (p i) (p j) (p v) <ℤ pos 0
   v_right = right_turn (p i) (p j) (p v) c.from_right
@@ -87,7 +82,7 @@ module _ (t : Triangulation) (new : List Face) (i j v x y z : ℕ) (h : TilesHul
     where
       go : Before (tiling t h) i j (P.at_first t h i j free) (P.at_second t h i j free) (P.clear t h i j free) v y z → squared_way (p i) (p z) ≤ℤ squared_way (p i) (p v)
       go (by_left k) = last_v.nearer z y (P.crossing t h i j free z y k) (on_if (whole (p i)) (whole (p v)) (whole (p z)) (bracket-affine (p i) (p v) (p z) ∙ tie))
-      go (by_right k) = let q = P.crossing t h i j free v z k in absurd (clash (left_turn (p i) (p j) (p z) q.to_left) z_right)
+      go (by_right k) = let q = P.crossing t h i j free v z k in absurd (both_signs (left_turn (p i) (p j) (p z) q.to_left) z_right)
       go (from_start e) = absurd (right_not_zero z_right (ap (λ (q : ℕ). turn_at (p i) (p j) (p q)) e ∙ sym (bracket-affine (p i) (p j) (p i)) ∙ bracket-outer (lift (p i)) (lift (p j))))
 
   z_before : turn_at (p i) (p j) (p z) <ℤ pos 0 → IsBefore (p i) (p z) (p v)
@@ -97,7 +92,7 @@ module _ (t : Triangulation) (new : List Face) (i j v x y z : ℕ) (h : TilesHul
   new_less = ranked_two (crosses (p i) (p j) (p x) (p z)) (crosses (p i) (p j) (p z) (p x)) (rank x) (rank z) (rank v) (rank_positive t.points (p i) (p j) (p v) (length t.points))
       (λ e. rank_falls t.points (p i) (p j) (p v) x (h.corners v x y f).1 (right_of x z e) v_right x_before)
       (λ e. rank_falls t.points (p i) (p j) (p v) z (h.corners v y z g).2 (right_of z x e) v_right (z_before (right_of z x e)))
-      (λ e d. clash (left_of x z e) (right_of z x d))
+      (λ e d. both_signs (left_of x z e) (right_of z x d))
     where
       right_of : (a b : ℕ) → crosses (p i) (p j) (p a) (p b) ≡ true → turn_at (p i) (p j) (p a) <ℤ pos 0
       right_of a b e = said (turn_at (p i) (p j) (p a)) (pos 0) (and_first (is_right (p i) (p j) (p a)) (int_lt (pos 0) (turn_at (p i) (p j) (p b)) && (int_lt (pos 0) (turn_at (p a) (p b) (p i)) && int_lt (turn_at (p a) (p b) (p j)) (pos 0))) e)

@@ -12,7 +12,7 @@ use Rattle.plane.proofs.Segments.{same-refl}
 use Rattle.plane.specs.Fraction.{Fraction, IsSame, OnSegment}
 use Rattle.plane.specs.Circle.{IsNearer}
 use Rattle.plane.specs.Tiling.{Triangulation, IsEdge, IsFace, vertex, TilesHull}
-use Rattle.plane.specs.Line.{Item, IsPointOf, Meets, BeginsAt, IsBefore, IsVertexThenOverlap}
+use Rattle.plane.specs.Line.{Item, Meets, BeginsAt, IsBefore, IsVertexThenOverlap}
 use Rattle.plane.specs.Line as L
 use Rattle.plane_delaunay.proofs.Bracket.{bracket, bracket-swapped, bracket-first, cramer, meeting, above_if_left}
 use Rattle.plane_delaunay.proofs.Nudges.{Inside}
@@ -23,6 +23,7 @@ use Rattle.plane_delaunay.proofs.LineItems.{Begins, begins, between_of, met_with
 use Rattle.plane_segments.specs.Steps.{ComesNext, IsLast}
 use Rattle.plane_segments.proofs.Slopes.{slope, slope_above, later_is_higher, higher_is_later, left_before, left_from}
 use Rattle.plane_segments.proofs.Begins.{edge_flipped, turned_negative, turned_positive, turned_least, Signs, met_if, rising, above-same, begins_once, on_line, after_crossing, before_crossing, bare_inside}
+use Rattle.plane.proofs.Signs.{negated_not_negative}
 
 -- ends on two sides of a line differ
 pub ends_apart : (p q a b : Fraction) → pos 0 <ℤ bracket p q a → bracket p q b <ℤ pos 0 → ¬ IsSame a b
@@ -176,12 +177,9 @@ module _ (t : Triangulation) (h : TilesHull t) (p q : Fraction) (apart : ¬ IsSa
   -- d on the line: the vertex
   module _ (level : bracket p q D ≡ pos 0) (past : bracket B D q ≤ℤ pos 0) where
     corner_on : OnSegment p q D
-    corner_on = segment_from (neg_ℤ (bracket p q B)) (neg_ℤ (bracket B D q)) (bracket B D p) p q D (neg-pos_ℤ s.right) (low past) (weak (left_before p q apart B D crossed on_way second_there past))
+    corner_on = segment_from (neg_ℤ (bracket p q B)) (neg_ℤ (bracket B D q)) (bracket B D p) p q D (neg-pos_ℤ s.right) (negated_not_negative past) (weak (left_before p q apart B D crossed on_way second_there past))
         (λ u v. weights (bracket B D q) (bracket B D p) (bracket u v p) (bracket u v q) (bracket q p D) (bracket u v B) (bracket q p B) (bracket u v D) (bracket p q B) (meeting B D p q u v) (bracket-swapped p q D ∙ ap neg_ℤ level) (bracket-swapped p q B))
       where
-        low : {x : ℤ} → x ≤ℤ pos 0 → pos 0 ≤ℤ neg_ℤ x
-        low h = omega (arith, ints)
-
         weights : (x y up uq d ub b ud r : ℤ) → x *ℤ up -ℤ y *ℤ uq ≡ d *ℤ ub -ℤ b *ℤ ud → d ≡ pos 0 → b ≡ neg_ℤ r → neg_ℤ r *ℤ ud ≡ neg_ℤ x *ℤ up +ℤ y *ℤ uq
         weights x y up uq d ub b ud r e c i = ring_in_from (x ∷ y ∷ up ∷ uq ∷ d ∷ ub ∷ b ∷ ud ∷ r ∷ [])
             (λ x y up uq d ub b ud r. ⊝ r ⊗ ud) (λ x y up uq d ub b ud r. ⊝ x ⊗ up ⊕ y ⊗ uq)

@@ -12,6 +12,7 @@ use Rattle.plane_segments.specs.Path.{ComesAfterOnRight, ComesAfterOnLeft}
 use Rattle.plane_segments.specs.PathLaws.{EndsAreOrdered, LastHasNoneAfter}
 use Rattle.plane_segments.proofs.Falling.{IsBefore, IsBefore-trans}
 use Rattle.plane_segments.proofs.Turns.{left_turn, right_turn, no_turn, turn_left, turn_right, turn_on, turn-swapped, turn-same, mirrored, turn-mirrored, way-mirrored}
+use Rattle.plane.proofs.Signs.{opposite_of_negative, opposite_of_positive, opposite_of_zero, positive_of_opposite, zero_is_not_above, zero_is_not_below}
 
 -- ---- by turns
 below_back : (a b : ℤ) → a ≡ neg_ℤ b → pos 0 <ℤ a → b <ℤ pos 0
@@ -19,24 +20,6 @@ below_back a b e h = omega (arith, ints)
 
 level_back : (a b : ℤ) → a ≡ neg_ℤ b → a ≡ pos 0 → b ≡ pos 0
 level_back a b e h = omega (arith, ints)
-
-above : (a b : ℤ) → a ≡ neg_ℤ b → b <ℤ pos 0 → pos 0 <ℤ a
-above a b e h = omega (arith, ints)
-
-below : (a b : ℤ) → a ≡ neg_ℤ b → pos 0 <ℤ b → a <ℤ pos 0
-below a b e h = omega (arith, ints)
-
-level : (a b : ℤ) → a ≡ neg_ℤ b → b ≡ pos 0 → a ≡ pos 0
-level a b e h = omega (arith, ints)
-
-above_back : (a b : ℤ) → a ≡ neg_ℤ b → a <ℤ pos 0 → pos 0 <ℤ b
-above_back a b e h = omega (arith, ints)
-
-none : (z : ℤ) → z ≡ pos 0 → z <ℤ pos 0 → ⊥
-none z e h = omega (arith, ints)
-
-none' : (z : ℤ) → z ≡ pos 0 → pos 0 <ℤ z → ⊥
-none' z e h = omega (arith, ints)
 
 itself : (z : ℤ) → z <ℤ z → ⊥
 itself z h = omega (arith, ints)
@@ -46,19 +29,19 @@ right_of i v u (inl h) = inl (turn_right i v u (below_back (turn_at i u v) (turn
 right_of i v u (inr h) = inr (turn_on i v u (level_back (turn_at i u v) (turn_at i v u) (turn-swapped i v u) h.0), h.1)
 
 of_right : (i v u : Point) → ComesAfterOnRight i v u → IsBefore i v u
-of_right i v u (inl h) = inl (above (turn_at i u v) (turn_at i v u) (turn-swapped i v u) (right_turn i v u h))
-of_right i v u (inr h) = inr (level (turn_at i u v) (turn_at i v u) (turn-swapped i v u) (no_turn i v u h.0), h.1)
+of_right i v u (inl h) = inl (opposite_of_negative (turn_at i u v) (turn_at i v u) (turn-swapped i v u) (right_turn i v u h))
+of_right i v u (inr h) = inr (opposite_of_zero (turn_at i u v) (turn_at i v u) (turn-swapped i v u) (no_turn i v u h.0), h.1)
 
 -- what is left is right in the plane turned over
 over : (i y w : Point) → ComesAfterOnLeft i y w → ComesAfterOnRight (mirrored i) (mirrored y) (mirrored w)
-over i y w (inl h) = inl (turn_right (mirrored i) (mirrored y) (mirrored w) (below (turn_at (mirrored i) (mirrored y) (mirrored w)) (turn_at i y w) (turn-mirrored i y w) (left_turn i y w h)))
+over i y w (inl h) = inl (turn_right (mirrored i) (mirrored y) (mirrored w) (opposite_of_positive (turn_at (mirrored i) (mirrored y) (mirrored w)) (turn_at i y w) (turn-mirrored i y w) (left_turn i y w h)))
 over i y w (inr h) = inr (
-  turn_on (mirrored i) (mirrored y) (mirrored w) (level (turn_at (mirrored i) (mirrored y) (mirrored w)) (turn_at i y w) (turn-mirrored i y w) (no_turn i y w h.0)),
+  turn_on (mirrored i) (mirrored y) (mirrored w) (opposite_of_zero (turn_at (mirrored i) (mirrored y) (mirrored w)) (turn_at i y w) (turn-mirrored i y w) (no_turn i y w h.0)),
   subst₂ (λ a b. a <ℤ b) (sym (way-mirrored i y)) (sym (way-mirrored i w)) h.1,
 )
 
 over_back : (i y w : Point) → ComesAfterOnRight (mirrored i) (mirrored y) (mirrored w) → ComesAfterOnLeft i y w
-over_back i y w (inl h) = inl (turn_left i y w (above_back (turn_at (mirrored i) (mirrored y) (mirrored w)) (turn_at i y w) (turn-mirrored i y w) (right_turn (mirrored i) (mirrored y) (mirrored w) h)))
+over_back i y w (inl h) = inl (turn_left i y w (positive_of_opposite (turn_at (mirrored i) (mirrored y) (mirrored w)) (turn_at i y w) (turn-mirrored i y w) (right_turn (mirrored i) (mirrored y) (mirrored w) h)))
 over_back i y w (inr h) = inr (
   turn_on i y w (level_back (turn_at (mirrored i) (mirrored y) (mirrored w)) (turn_at i y w) (turn-mirrored i y w) (no_turn (mirrored i) (mirrored y) (mirrored w) h.0)),
   subst₂ (λ a b. a <ℤ b) (way-mirrored i y) (way-mirrored i w) h.1,
@@ -72,14 +55,14 @@ pub left-trans : (i j u v w : Point) → TurnsLeft (whole i) (whole j) (whole u)
 left-trans i j u v w hu hv hw a b = over_back i u w (right-trans (mirrored i) (mirrored j) (mirrored u) (mirrored v) (mirrored w) (turned u hu) (turned v hv) (turned w hw) (over i u v a) (over i v w b))
   where
     turned : (z : Point) → TurnsLeft (whole i) (whole j) (whole z) → side (whole (mirrored i)) (whole (mirrored j)) (whole (mirrored z)) ≡ right
-    turned z h = turn_right (mirrored i) (mirrored j) (mirrored z) (below (turn_at (mirrored i) (mirrored j) (mirrored z)) (turn_at i j z) (turn-mirrored i j z) (left_turn i j z h))
+    turned z h = turn_right (mirrored i) (mirrored j) (mirrored z) (opposite_of_positive (turn_at (mirrored i) (mirrored j) (mirrored z)) (turn_at i j z) (turn-mirrored i j z) (left_turn i j z h))
 
 pub right-irrefl : (i u : Point) → ¬ ComesAfterOnRight i u u
-right-irrefl i u (inl h) = none (turn_at i u u) (turn-same i u) (right_turn i u u h)
+right-irrefl i u (inl h) = zero_is_not_below (turn_at i u u) (turn-same i u) (right_turn i u u h)
 right-irrefl i u (inr h) = itself (squared_way i u) h.1
 
 pub left-irrefl : (i u : Point) → ¬ ComesAfterOnLeft i u u
-left-irrefl i u (inl h) = none' (turn_at i u u) (turn-same i u) (left_turn i u u h)
+left-irrefl i u (inl h) = zero_is_not_above (turn_at i u u) (turn-same i u) (left_turn i u u h)
 left-irrefl i u (inr h) = itself (squared_way i u) h.1
 
 pub ends_are_ordered : EndsAreOrdered

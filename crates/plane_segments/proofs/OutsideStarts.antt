@@ -32,6 +32,7 @@ use Rattle.plane_segments.proofs.Begins.{edge_flipped, turned_positive, turned_l
 use Rattle.plane_segments.proofs.Orders.{nearer-same_first, nearer-same_second}
 use Rattle.plane_segments.proofs.Steps.{edge_apart}
 use Rattle.plane_segments.proofs.EachWalk.{each_walk}
+use Rattle.plane.proofs.Signs.{negated_negative, opposite_of_zero_of}
 
 -- ---- any triangulation whose items have their order
 module _ (t : Triangulation) (c₀ : Meeting t) (p q : Fraction) (apart : ¬ IsSame p q) where
@@ -187,18 +188,12 @@ module _ (t : Triangulation) (h : TilesHull t) (p q : Fraction) (apart : ¬ IsSa
     earlier_vertex : bracket p q K ≡ pos 0 → bracket K J p <ℤ pos 0 → pos 0 <ℤ bracket K J y.at → ⊥
     earlier_vertex level low high = first.none_before (L.at_vertex k) met (record { first = K; second = y.at; first_begins = vertex_begins t (meeting_of_hull t h) p q apart k met; second_begins = y.begins; order = inl (sooner K J K there (bracket-first K J) low high) })
       where
-        negative : {x : ℤ} → x <ℤ pos 0 → pos 0 ≤ℤ neg_ℤ x
-        negative h = omega (arith, ints)
-
         parts : (f g x y k z l w : ℤ) → f *ℤ x -ℤ g *ℤ y ≡ k *ℤ z -ℤ l *ℤ w → l ≡ pos 0 → k *ℤ z ≡ f *ℤ x +ℤ neg_ℤ g *ℤ y
         parts f g x y k z l w e d = let a = product_zero_left {a = l} w d in omega (arith, ints, neg-mul_ℤ g y)
 
-        none_turned : {x y : ℤ} → x ≡ neg_ℤ y → y ≡ pos 0 → x ≡ pos 0
-        none_turned e d = omega (arith, ints)
-
         there : OnSegment p q K
-        there = segment_from (bracket q p J) (bracket K J q) (neg_ℤ (bracket K J p)) p q K (turned_positive _ _ (bracket-swapped p q J) s.right) (end_left K J low high) (negative low)
-            (λ u v. parts (bracket K J q) (bracket K J p) (bracket u v p) (bracket u v q) (bracket q p J) (bracket u v K) (bracket q p K) (bracket u v J) (meeting K J p q u v) (none_turned (bracket-swapped p q K) level))
+        there = segment_from (bracket q p J) (bracket K J q) (neg_ℤ (bracket K J p)) p q K (turned_positive _ _ (bracket-swapped p q J) s.right) (end_left K J low high) (negated_negative low)
+            (λ u v. parts (bracket K J q) (bracket K J p) (bracket u v p) (bracket u v q) (bracket q p J) (bracket u v K) (bracket q p K) (bracket u v J) (meeting K J p q u v) (opposite_of_zero_of (bracket-swapped p q K) level))
 
         met : Meets t p q (L.at_vertex k)
         met = ((h.corners j i k f).2, there)

@@ -16,6 +16,7 @@ use Rattle.plane.specs.Line.{OverlapAlong}
 use Rattle.plane_delaunay.proofs.AlongSegment.{above_difference, nearer_if, reach_less, on_line, on_line_last, before, not_before, not_past, within_on_line}
 use Rattle.plane_segments.proofs.Slopes.{even}
 use Rattle.plane_segments.proofs.Orders.{through_weak}
+use Rattle.plane.proofs.Signs.{less_by_difference, less_is_at_most}
 
 -- a / u rises to b / v, and does not fall from there to c / w
 pub through_last : (a u b v c w : ℤ) → (a *ℤ v) <ℤ (b *ℤ u) → (b *ℤ w) ≤ℤ (c *ℤ v) → pos 0 <ℤ u → pos 0 <ℤ v → pos 0 <ℤ w → (a *ℤ w) <ℤ (c *ℤ u)
@@ -29,9 +30,6 @@ through_last a u b v c w h k hu hv hw = lt_of_mul-lt-mul_ℤ {k = v} hv (chain (
 
     chain : {x y z x' y' z' : ℤ} → x <ℤ y → y' ≤ℤ z → x' ≡ x → y ≡ y' → z' ≡ z → x' <ℤ z'
     chain h k e d c = omega (arith, ints)
-
-below_of : (a b : ℤ) → pos 0 <ℤ (b -ℤ a) → a <ℤ b
-below_of a b h = omega (arith, ints)
 
 from_none : (a b w x : ℤ) → a ≡ pos 0 → pos 0 <ℤ b → pos 0 <ℤ w → (a *ℤ x) <ℤ (b *ℤ w)
 from_none a b w x e h k = let z = product_zero_left {a = a} x e in let m = mul-pos_ℤ {a = b} {b = w} h k in omega (arith, ints)
@@ -96,10 +94,7 @@ module _ (p q u v : Fraction) (apart : ¬ IsSame p q) (o : Overlaps p q u v) whe
         before_q = from_none (reach p q p) (reach p q q) p.w q.w (reach-start p q) (reach-end p q apart) p.positive;
         before_v = from_none (reach p q p) (reach p q v) p.w v.w (reach-start p q) o.ends p.positive;
       }
-      go (inr h) = record { at = u; first = (on_segment_is p q u apart).1 (o.on_u, h, weak_less o.starts); second = start_on_segment u v; before_q = o.starts; before_v = below_of _ _ o.along }
-        where
-          weak_less : {a b : ℤ} → a <ℤ b → a ≤ℤ b
-          weak_less h = omega (arith, ints)
+      go (inr h) = record { at = u; first = (on_segment_is p q u apart).1 (o.on_u, h, less_is_at_most o.starts); second = start_on_segment u v; before_q = o.starts; before_v = less_by_difference _ _ o.along }
 
   -- where one ends
   record Far : Type 0 where
@@ -123,7 +118,7 @@ module _ (p q u v : Fraction) (apart : ¬ IsSame p q) (o : Overlaps p q u v) whe
 
   -- u and v have the order of p and q
   from_start : IsNearer u near.at far.at
-  from_start = nearer_if u v two_ends near.at far.at near.second far.second (below_of _ _ (pos_of_mul-pos_ℤ {k = reach p q v *ℤ u.w -ℤ reach p q u *ℤ v.w} o.along
+  from_start = nearer_if u v two_ends near.at far.at near.second far.second (less_by_difference _ _ (pos_of_mul-pos_ℤ {k = reach p q v *ℤ u.w -ℤ reach p q u *ℤ v.w} o.along
       (subst (λ z. pos 0 <ℤ z) (even (reach u v v) u.w v.w near.at.w far.at.w (reach u v near.at) (reach u v far.at) (reach p q u) (reach p q v) (reach p q near.at) (reach p q far.at) (spread near.at near.second) (spread far.at far.second) ∙ lib.IntN.*ℤ_comm (reach u v far.at *ℤ near.at.w -ℤ reach u v near.at *ℤ far.at.w) (reach p q v *ℤ u.w -ℤ reach p q u *ℤ v.w))
       (mul-pos_ℤ {a = reach u v v *ℤ u.w} (mul-pos_ℤ (reach-end u v two_ends) u.positive) (above_difference _ _ (far.after near))))))
     where

@@ -17,6 +17,7 @@ use Rattle.plane_delaunay.proofs.LineItems.{Begins, begins, Meeting, SharedAt, o
 use Rattle.plane_segments.specs.Steps.{ComesNext, IsLast}
 use Rattle.plane_segments.proofs.Begins.{begins_once}
 use Rattle.plane_segments.proofs.Orders.{through_weak, nearer_through, nearer-same_second, not_both_before}
+use Rattle.plane.proofs.Signs.{at_most_both_ways, differences_both_positive}
 
 module _ (t : Triangulation) (c₀ : Meeting t) (p q : Fraction) (apart : ¬ IsSame p q) (a b : ℕ) (m : Meets t p q (L.along a b)) where
   abbrev pub A : Fraction
@@ -37,12 +38,9 @@ module _ (t : Triangulation) (c₀ : Meeting t) (p q : Fraction) (apart : ¬ IsS
   only_overlap (L.across c d) met z hz s w = absurd (crossing_and_overlap t c₀ p q apart c d a b met m z (met_within t c₀ p q apart c d met z hz s) (on_of_within A B z w))
   only_overlap (L.along c d) met z hz s w = go (c₀.shared a b c d z m.0 met.0 (on_of_within A B z w) s)
     where
-      both : (u v : ℤ) → pos 0 <ℤ (u -ℤ v) → pos 0 <ℤ (v -ℤ u) → ⊥
-      both u v h k = omega (arith, ints)
-
       go : SharedAt t a b c d z → L.along c d ≡ L.along a b
       go (one_way r s) = λ i. L.along (r i) (s i)
-      go (other_way r s) = absurd (both (reach p q B *ℤ A.w) (reach p q A *ℤ B.w) (before p q A B m.1) (before p q B A (subst₂ (λ i j. L.OverlapAlong p q (vertex t i) (vertex t j)) r s met.1)))
+      go (other_way r s) = absurd (differences_both_positive (reach p q B *ℤ A.w) (reach p q A *ℤ B.w) (before p q A B m.1) (before p q B A (subst₂ (λ i j. L.OverlapAlong p q (vertex t i) (vertex t j)) r s met.1)))
       go (at_end e he i r s) = absurd (c₀.none_within a b e m.0 he (within_segment-same A B z (vertex t e) i w))
 
   -- nothing comes after the overlap and begins before the end of the edge
@@ -119,10 +117,7 @@ module _ (t : Triangulation) (c₀ : Meeting t) (p q : Fraction) (apart : ¬ IsS
   pub last_within : WithinSegment A B q → IsLast t p q (L.along a b)
   last_within w = go reaches_end
     where
-      one : (x y : ℤ) → x ≤ℤ y → y ≤ℤ x → x ≡ y
-      one x y h k = omega (arith, ints)
-
       go : (OnSegment p q B) ⊎ ((reach p q q *ℤ B.w) <ℤ (reach p q B *ℤ q.w)) → IsLast t p q (L.along a b)
       go (inl on) = absurd (c₀.none_within a b b m.0 (c₀.ends a b m.0).1 (within_segment-same A B q B (same_on_line p q apart q B ((on_segment_is p q q apart).0 (end_on_segment p q)).0 (on_line_last p q A B m.1)
-          (one _ _ (not_past p q A B m.1 q (on_of_within A B q w)) ((on_segment_is p q B apart).0 on).2)) w))
+          (at_most_both_ways _ _ (not_past p q A B m.1 q (on_of_within A B q w)) ((on_segment_is p q B apart).0 on).2)) w))
       go (inr less) = last_before_end less

@@ -13,6 +13,8 @@ use Rattle.plane.proofs.Decisions.{Decision, decide_point}
 use Rattle.plane.proofs.Collinear.{place_on, place_of_start, place_of_end}
 use Rattle.plane.proofs.LineOrder.{ahead, AreOneSign, within_if_ahead, ahead_if_within, same_if_level}
 use Rattle.plane_tiling.proofs.Edges.{within_on}
+use Rattle.plane.proofs.Signs.{opposite_of_negative}
+use Rattle.plane.proofs.Steps.{weak_right, zero_weak}
 
 ahead-swapped : (u v : Point) (a b : Fraction) → ahead u v b a ≡ neg_ℤ (ahead u v a b)
 unfolding ahead
@@ -37,27 +39,18 @@ between_ahead a b n z h = go (ahead_if_within a b (whole a) (whole b) z h)
     ahead_of : (s t d : ℤ) → d ≡ pos 1 *ℤ s +ℤ pos 1 *ℤ t → pos 0 <ℤ d → s ≤ℤ pos 0 → t ≤ℤ pos 0 → ⊥
     ahead_of s t d e h k l = omega (arith, ints)
 
-    low : {y : ℤ} → y <ℤ pos 0 → y ≤ℤ pos 0
-    low h = omega (arith, ints)
-
-    level : {y : ℤ} → y ≡ pos 0 → y ≤ℤ pos 0
-    level h = omega (arith, ints)
-
     clash : ahead a b z (whole b) ≤ℤ pos 0 → ahead a b (whole a) z ≤ℤ pos 0 → ⊥
     clash k l = ahead_of (ahead a b z (whole b)) (ahead a b (whole a) z) (z.w *ℤ ahead a b (whole a) (whole b)) (ahead_by_way a b (whole a) (whole b) z) (mul-pos_ℤ z.positive (ends_ahead a b n)) k l
 
     go : AreOneSign (ahead a b (whole a) z) (ahead a b z (whole b)) → (pos 0 <ℤ ahead a b (whole a) z) × (pos 0 <ℤ ahead a b z (whole b))
     go (inl k) = k
-    go (inr (inl k)) = absurd (clash (low k.1) (low k.0))
-    go (inr (inr k)) = absurd (clash (level k.1) (level k.0))
+    go (inr (inl k)) = absurd (clash (weak_right k.1) (weak_right k.0))
+    go (inr (inr k)) = absurd (clash (zero_weak k.1) (zero_weak k.0))
 
 -- another point strictly within is there, or strictly within one of the two parts
 pub within_parts : (a b v : Point) (x : Fraction) → WithinSegment (whole a) (whole b) (whole v) → WithinSegment (whole a) (whole b) x → IsSame x (whole v) ⊎ (WithinSegment (whole a) (whole v) x ⊎ WithinSegment (whole v) (whole b) x)
 within_parts a b v x hv hx = split (decide_point a b)
   where
-    above : (y z : ℤ) → y ≡ neg_ℤ z → z <ℤ pos 0 → pos 0 <ℤ y
-    above y z e h = omega (arith, ints)
-
     split : Decision (a ≡ b) → IsSame x (whole v) ⊎ (WithinSegment (whole a) (whole v) x ⊎ WithinSegment (whole v) (whole b) x)
     split (inl e) = inl (same-trans x (whole a) (whole v) (only_point (whole a) (whole b) x one (on_of_within (whole a) (whole b) x hx)) (same-sym (whole v) (whole a) (only_point (whole a) (whole b) (whole v) one (on_of_within (whole a) (whole b) (whole v) hv))))
       where
@@ -78,6 +71,6 @@ within_parts a b v x hv hx = split (decide_point a b)
         of_x = between_ahead a b n x hx
 
         go : (ahead a b (whole v) x <ℤ pos 0) ⊎ ((ahead a b (whole v) x ≡ pos 0) ⊎ (pos 0 <ℤ ahead a b (whole v) x)) → IsSame x (whole v) ⊎ (WithinSegment (whole a) (whole v) x ⊎ WithinSegment (whole v) (whole b) x)
-        go (inl h) = inr (inl (within_if_ahead a b n (whole a) (whole v) x (bracket-outer (lift a) (lift b)) on_v on_x of_x.0 (above (ahead a b x (whole v)) (ahead a b (whole v) x) (ahead-swapped a b (whole v) x) h)))
+        go (inl h) = inr (inl (within_if_ahead a b n (whole a) (whole v) x (bracket-outer (lift a) (lift b)) on_v on_x of_x.0 (opposite_of_negative (ahead a b x (whole v)) (ahead a b (whole v) x) (ahead-swapped a b (whole v) x) h)))
         go (inr (inl e)) = inl (same-sym (whole v) x (same_if_level a b n (whole v) x on_v on_x e))
         go (inr (inr h)) = inr (inr (within_if_ahead a b n (whole v) (whole b) x on_v (bracket-last (lift a) (lift b)) on_x h of_x.1))

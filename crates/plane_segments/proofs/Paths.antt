@@ -5,7 +5,7 @@ use Rattle.std.specs.Prelude.{ℤ, pos, ◌+ℤ◌, ◌-ℤ◌, ◌*ℤ◌, ◌�
 use Rattle.plane.specs.Fraction.{Point, Fraction, whole, IsPositive, WithinSegment}
 use Rattle.plane.specs.Side.{side, right, on, TurnsLeft}
 use Rattle.plane.specs.Tiling.{Triangulation, TilesHull, vertex}
-use Rattle.plane.proofs.Sides.{if_right, right_if, on_if, if_not_right}
+use Rattle.plane.proofs.Sides.{on_if, if_not_right}
 use Rattle.plane.proofs.Means.{mean_of_two}
 use Rattle.plane.proofs.IntegerOrder.{lt_or_ge_ℤ}
 use Rattle.plane.proofs.Solver.{num, ◌⊕◌, ◌⊖◌, ◌⊗◌, ring_over, ring_in_from}
@@ -18,6 +18,8 @@ use Rattle.plane_delaunay.proofs.FlipExists as F
 use Rattle.plane_edits.specs.Legal.{point_of}
 use Rattle.plane_segments.specs.Path.{IsFreeOfVertices, IsCrossing, IsLastRight, IsLastLeft}
 use Rattle.plane_segments.specs.PathLaws.{UncrossedIsEdge, ChosenFlipIsConvex}
+use Rattle.plane_segments.proofs.Steps.{right_if_below}
+use Rattle.plane_segments.proofs.SideSigns.{below_if_right}
 
 -- ---- coordinates as brackets
 spot : ℤ → ℤ → Fraction
@@ -66,14 +68,6 @@ within_of_between a b c h = mean_of_two IsPositive (whole a) (whole b) (whole c)
 above_if_not : (a b c : Fraction) → ¬ (side a b c ≡ right) → pos 0 ≤ℤ bracket a b c
 unfolding bracket
 above_if_not a b c h = if_not_right a b c h
-
-below_if_right : (a b c : Fraction) → side a b c ≡ right → bracket a b c <ℤ pos 0
-unfolding bracket
-below_if_right a b c h = if_right a b c h
-
-right_if_below : (a b c : Fraction) → bracket a b c <ℤ pos 0 → side a b c ≡ right
-unfolding bracket
-right_if_below a b c h = right_if a b c h
 
 on_if_none : (a b c : Fraction) → bracket a b c ≡ pos 0 → side a b c ≡ on
 unfolding bracket

@@ -22,6 +22,7 @@ use Rattle.plane_edits.specs.Legal.{point_of}
 use Rattle.plane_segments.specs.Constraints.{AreNextOn, ArePlacedApart, PathBegins, PathGoesOn, PathEnds}
 use Rattle.plane_segments.proofs.Chosen.{IsLastBelow, last_below}
 use Rattle.plane_segments.proofs.EitherWay.{one_point}
+use Rattle.plane.proofs.Signs.{at_most_and_more, at_most_through, less_by_negative_difference, less_is_at_most, less_through, more_by_difference, same_is_at_most_of, same_is_not_less, sum_of_zeros, zero_below_positive}
 
 -- ---- the points of a closed segment
 second_part : (k l n a aw b bw p pw : ℤ) → n *ℤ p ≡ k *ℤ a +ℤ l *ℤ b → n *ℤ pw ≡ k *ℤ aw +ℤ l *ℤ bw → k ≡ pos 0 → n *ℤ (p *ℤ bw -ℤ b *ℤ pw) ≡ pos 0
@@ -53,21 +54,8 @@ on_parts u v p h = go (zero_or_left t.k_allowed) (zero_or_left t.l_allowed)
     })
     go (inr k) (inr l) = inr (inr (mean_of_two IsPositive u v p (record { k = t.k; l = t.l; n = t.n; k_allowed = k; l_allowed = l; positive = t.positive; x = t.x; y = t.y; w = t.w })))
 
--- ---- places on the line of two points
-at_most : {a b : ℤ} → a <ℤ b → a ≤ℤ b
-at_most h = omega (arith, ints)
-
-level : {a b : ℤ} → a ≡ b → a ≤ℤ b
-level h = omega (arith, ints)
-
 compare : (a b : ℤ) → (a <ℤ b) ⊎ ((b <ℤ a) ⊎ (a ≡ b))
-compare a b = elim (trichotomy_ℤ (a -ℤ b)) [ inl h ↦ inl (less a b h) | inr o ↦ elim o [ inl e ↦ inr (inr (no_difference a b e)) | inr h ↦ inr (inl (more a b h)) ] ]
-  where
-    less : (a b : ℤ) → (a -ℤ b) <ℤ pos 0 → a <ℤ b
-    less a b h = omega (arith, ints)
-
-    more : (a b : ℤ) → pos 0 <ℤ (a -ℤ b) → b <ℤ a
-    more a b h = omega (arith, ints)
+compare a b = elim (trichotomy_ℤ (a -ℤ b)) [ inl h ↦ inl (less_by_negative_difference a b h) | inr o ↦ elim o [ inl e ↦ inr (inr (no_difference a b e)) | inr h ↦ inr (inl (more_by_difference a b h)) ] ]
 
 module _ (u v : Point) (apart : ¬ (u ≡ v)) where
   abbrev F : Point → ℤ
@@ -78,10 +66,7 @@ module _ (u v : Point) (apart : ¬ (u ≡ v)) where
 
   pub on_of_mean : (a b z : Point) → On a → On b → WithinSegment (whole a) (whole b) (whole z) → On z
   on_of_mean a b z on_a on_b h = let t = two_weights IsPositive (whole a) (whole b) (whole z) h in
-      zero_of_mul-zero_ℤ (pos-ne-zero_ℤ t.positive) (bracket_of_two IsPositive (lift u) (lift v) (whole a) (whole b) (whole z) t ∙ none (t.k *ℤ bracket (lift u) (lift v) (lift a)) (t.l *ℤ bracket (lift u) (lift v) (lift b)) (zero-mul_ℤ t.k on_a) (zero-mul_ℤ t.l on_b))
-    where
-      none : (x y : ℤ) → x ≡ pos 0 → y ≡ pos 0 → x +ℤ y ≡ pos 0
-      none x y e d = omega (arith, ints)
+      zero_of_mul-zero_ℤ (pos-ne-zero_ℤ t.positive) (bracket_of_two IsPositive (lift u) (lift v) (whole a) (whole b) (whole z) t ∙ sum_of_zeros (t.k *ℤ bracket (lift u) (lift v) (lift a)) (t.l *ℤ bracket (lift u) (lift v) (lift b)) (zero-mul_ℤ t.k on_a) (zero-mul_ℤ t.l on_b))
 
   abbrev InRange : Point → Point → Point → Type 0
   InRange a b z = On z × (F a ≤ℤ F z) × (F z ≤ℤ F b)
@@ -94,25 +79,22 @@ module _ (u v : Point) (apart : ¬ (u ≡ v)) where
       back x y z h k l = omega (arith, ints)
 
       within : On z → IsBetween (F a) (F b) (F z) ⊎ ((F a ≡ F z) × (F z ≡ F b)) → InRange a b z
-      within on_z (inl (inl k)) = (on_z, at_most k.0, at_most k.1)
+      within on_z (inl (inl k)) = (on_z, less_is_at_most k.0, less_is_at_most k.1)
       within on_z (inl (inr k)) = absurd (back (F a) (F b) (F z) h k.0 k.1)
-      within on_z (inr k) = (on_z, level k.0, level k.1)
+      within on_z (inr k) = (on_z, same_is_at_most_of k.0, same_is_at_most_of k.1)
 
       go : IsSame (whole z) (whole a) ⊎ (IsSame (whole z) (whole b) ⊎ WithinSegment (whole a) (whole b) (whole z)) → InRange a b z
-      go (inl s) = subst (λ q. InRange a b q) (sym (one_point z a s)) (on_a, level refl, h)
-      go (inr (inl s)) = subst (λ q. InRange a b q) (sym (one_point z b s)) (on_b, h, level refl)
+      go (inl s) = subst (λ q. InRange a b q) (sym (one_point z a s)) (on_a, same_is_at_most_of refl, h)
+      go (inr (inl s)) = subst (λ q. InRange a b q) (sym (one_point z b s)) (on_b, h, same_is_at_most_of refl)
       go (inr (inr w)) = within (on_of_mean a b z on_a on_b w) (place_within u v a b z w)
 
   segment : (a b z : Point) → On a → On b → InRange a b z → OnSegment (whole a) (whole b) (whole z)
   segment a b z on_a on_b r = go (compare (F a) (F z)) (compare (F z) (F b))
     where
-      back : (x y : ℤ) → x ≤ℤ y → y <ℤ x → ⊥
-      back x y h k = omega (arith, ints)
-
       go : (F a <ℤ F z) ⊎ ((F z <ℤ F a) ⊎ (F a ≡ F z)) → (F z <ℤ F b) ⊎ ((F b <ℤ F z) ⊎ (F z ≡ F b)) → OnSegment (whole a) (whole b) (whole z)
       go (inr (inr e)) d = subst (λ q. OnSegment (whole a) (whole b) (whole q)) (same_by_places u v apart a z on_a r.0 e) (start_on_segment (whole a) (whole b))
-      go (inr (inl k)) d = absurd (back (F a) (F z) r.1 k)
-      go (inl k) (inr (inl l)) = absurd (back (F z) (F b) r.2 l)
+      go (inr (inl k)) d = absurd (at_most_and_more (F a) (F z) r.1 k)
+      go (inl k) (inr (inl l)) = absurd (at_most_and_more (F z) (F b) r.2 l)
       go (inl k) (inr (inr e)) = subst (λ q. OnSegment (whole a) (whole b) (whole q)) (sym (same_by_places u v apart z b r.0 on_b e)) (end_on_segment (whole a) (whole b))
       go (inl k) (inl l) = on_of_within (whole a) (whole b) (whole z) (within_places u v apart a b z on_a on_b r.0 (inl (k, l)))
 
@@ -137,10 +119,7 @@ module _ (points : List Point) (distinct : ArePlacedApart points) (i j : ℕ) (h
   on_j = bracket-last (lift (p i)) (lift (p j))
 
   forward : f i ≤ℤ f j
-  forward = ahead (f i) (f j) (place_of_start (p i) (p j)) (place_of_end (p i) (p j) apart)
-    where
-      ahead : (x y : ℤ) → x ≡ pos 0 → pos 0 <ℤ y → x ≤ℤ y
-      ahead x y e h = omega (arith, ints)
+  forward = zero_below_positive (f i) (f j) (place_of_start (p i) (p j)) (place_of_end (p i) (p j) apart)
 
   in_range : (k : ℕ) → OnSegment (place points i) (place points j) (place points k) → InRange (p i) (p j) apart (p i) (p j) (p k)
   in_range k o = range (p i) (p j) apart (p i) (p j) (p k) on_i on_j forward o
@@ -150,10 +129,7 @@ module _ (points : List Point) (distinct : ArePlacedApart points) (i j : ℕ) (h
 
   -- past i
   past : (k : ℕ) → IsIndex points k → ¬ (k ≡ i) → OnLine k → f i ≤ℤ f k → f i <ℤ f k
-  past k hk n on_k h = elim (compare (f i) (f k)) [ inl l ↦ l | inr o ↦ elim o [ inl l ↦ absurd (back (f i) (f k) h l) | inr e ↦ absurd (n (sym (one_index i k hi hk on_i on_k e))) ] ]
-    where
-      back : (x y : ℤ) → x ≤ℤ y → y <ℤ x → ⊥
-      back x y h k = omega (arith, ints)
+  past k hk n on_k h = elim (compare (f i) (f k)) [ inl l ↦ l | inr o ↦ elim o [ inl l ↦ absurd (at_most_and_more (f i) (f k) h l) | inr e ↦ absurd (n (sym (one_index i k hi hk on_i on_k e))) ] ]
 
   abbrev Candidate : ℕ → Type 0
   Candidate k = OnSegment (place points i) (place points j) (place points k) × ¬ (k ≡ i)
@@ -162,16 +138,10 @@ module _ (points : List Point) (distinct : ArePlacedApart points) (i j : ℕ) (h
   decide_not k = elim (cases_eq k i) [ inl e ↦ inr (λ n. n e) | inr n ↦ inl n ]
 
   begins : (w : ℕ) × AreNextOn points i j i w
-  begins = go (last_below Candidate (λ a b. f b <ℤ f a) (λ k. decide_both (decide_on_segment (place points i) (place points j) (place points k)) (decide_not k)) (λ a b. decide_below (f b) (f a)) (λ a b c _ _ _ h k. through (f c) (f b) (f a) k h) (λ a h. itself (f a) h) (length points))
+  begins = go (last_below Candidate (λ a b. f b <ℤ f a) (λ k. decide_both (decide_on_segment (place points i) (place points j) (place points k)) (decide_not k)) (λ a b. decide_below (f b) (f a)) (λ a b c _ _ _ h k. less_through (f c) (f b) (f a) k h) (λ a h. itself (f a) h) (length points))
     where
-      through : (x y z : ℤ) → x <ℤ y → y <ℤ z → x <ℤ z
-      through x y z h k = omega (arith, ints)
-
       itself : (x : ℤ) → x <ℤ x → ⊥
       itself x h = omega (arith, ints)
-
-      level_less : (x y : ℤ) → x ≡ y → x <ℤ y → ⊥
-      level_less x y e h = omega (arith, ints)
 
       back : (x y z : ℤ) → x ≤ℤ y → y <ℤ z → z <ℤ x → ⊥
       back x y z h k l = omega (arith, ints)
@@ -196,10 +166,10 @@ module _ (points : List Point) (distinct : ArePlacedApart points) (i j : ℕ) (h
               on_k = on_of_mean (p i) (p j) apart (p i) (p w) (p k) on_i r.0 h
 
               not_first : f i <ℤ f k → ¬ (k ≡ i)
-              not_first l e = level_less (f i) (f k) (ap f (sym e)) l
+              not_first l e = same_is_not_less (f i) (f k) (ap f (sym e)) l
 
               by : IsBetween (f i) (f w) (f k) ⊎ ((f i ≡ f k) × (f k ≡ f w)) → ⊥
-              by (inl (inl m)) = l.last k hk (segment (p i) (p j) apart (p i) (p j) (p k) on_i on_j (on_k, at_most m.0, at_most (before (f k) (f w) (f j) m.1 r.2)), not_first m.0) m.1
+              by (inl (inl m)) = l.last k hk (segment (p i) (p j) apart (p i) (p j) (p k) on_i on_j (on_k, less_is_at_most m.0, less_is_at_most (before (f k) (f w) (f j) m.1 r.2)), not_first m.0) m.1
                 where
                   before : (x y z : ℤ) → x <ℤ y → y ≤ℤ z → x <ℤ z
                   before x y z h k = omega (arith, ints)
@@ -240,10 +210,7 @@ module _ (points : List Point) (distinct : ArePlacedApart points) (i j : ℕ) (h
         beyond (inr l) = l
 
     whole_of_rest : (k : ℕ) → OnSegment (place points w) (place points j) (place points k) → OnSegment (place points i) (place points j) (place points k)
-    whole_of_rest k o = let r = range (p i) (p j) apart (p w) (p j) (p k) w_range.0 on_j w_range.2 o in segment (p i) (p j) apart (p i) (p j) (p k) on_i on_j (r.0, chain (f i) (f w) (f k) w_range.1 r.1, r.2)
-      where
-        chain : (x y z : ℤ) → x ≤ℤ y → y ≤ℤ z → x ≤ℤ z
-        chain x y z h k = omega (arith, ints)
+    whole_of_rest k o = let r = range (p i) (p j) apart (p w) (p j) (p k) w_range.0 on_j w_range.2 o in segment (p i) (p j) apart (p i) (p j) (p k) on_i on_j (r.0, at_most_through (f i) (f w) (f k) w_range.1 r.1, r.2)
 
     swapped : (a b c d : ℕ) → AreNextOn points c d a b → AreNextOn points c d b a
     swapped a b c d n = record { apart = λ e. n.apart (sym e); first_index = n.second_index; second_index = n.first_index; first = n.second; second = n.first; none_between = λ k hk h. n.none_between k hk (turned_within (place points b) (place points a) (place points k) h) }

@@ -1,8 +1,7 @@
 -- Where the faces at a vertex go, each edge that does not end there has a face or the outer face on its other side.
-use Rattle.std.proofs.Common.{◌≡◌, ◌⊎◌, ℕ, List, length, sym, subst, arith}
+use Rattle.std.proofs.Common.{◌≡◌, ◌⊎◌, ℕ, List, length, sym, subst}
 use mathlib.Core.Logic.{inl, inr, ◌≢◌}
-use Rattle.std.specs.Prelude.{ℤ, pos, ◌<ℤ◌, neg_ℤ, Contains}
-use Rattle.std.proofs.lemmas.Int.{ints}
+use Rattle.std.specs.Prelude.{ℤ, pos, ◌<ℤ◌, Contains}
 use Rattle.plane.specs.Fraction.{Point}
 use Rattle.plane.specs.Pairs.{Joins}
 use Rattle.plane.specs.Tiling.{Face}
@@ -17,16 +16,14 @@ use Rattle.plane_edits.specs.Change.{IsFaceOf, FacesChange, OuterChange}
 use Rattle.plane_edits.specs.Legal.{IsSideOfOne}
 use Rattle.plane_edits.proofs.Changes.{face_kept, turn_of_all}
 use Rattle.plane_segments.specs.PathSteps.{RemovalKeepsConstraints}
+use Rattle.plane.proofs.Signs.{opposites_not_both_positive}
 
 -- not both ways of an edge have v on their left
 one_way : (points : List Point) (faces : List Face) (outer : List (ℕ × ℕ)) → LocalMesh points faces outer → (a b v : ℕ) → IsFaceOf faces a b v → ¬ IsFaceOf faces b a v
-one_way points faces outer m a b v f g = clash (bracket (at (point_at points) a) (at (point_at points) b) (at (point_at points) v)) (bracket (at (point_at points) b) (at (point_at points) a) (at (point_at points) v)) (bracket-swap (at (point_at points) a) (at (point_at points) b) (at (point_at points) v)) (left a b f) (left b a g)
+one_way points faces outer m a b v f g = opposites_not_both_positive (bracket (at (point_at points) a) (at (point_at points) b) (at (point_at points) v)) (bracket (at (point_at points) b) (at (point_at points) a) (at (point_at points) v)) (bracket-swap (at (point_at points) a) (at (point_at points) b) (at (point_at points) v)) (left a b f) (left b a g)
   where
     left : (i j : ℕ) → IsFaceOf faces i j v → pos 0 <ℤ bracket (at (point_at points) i) (at (point_at points) j) (at (point_at points) v)
     left i j h = C.turn_left_of (length points) (point_at points) faces outer (by_signs points faces outer m) i j v h
-
-    clash : (x y : ℤ) → x ≡ neg_ℤ y → pos 0 <ℤ x → pos 0 <ℤ y → ⊥
-    clash x y e h k = omega (arith, ints)
 
 module _ (points : List Point) (faces new gone made : List Face) (outer outer' left come : List (ℕ × ℕ)) (v : ℕ) (m : LocalMesh points faces outer) (change : FacesChange faces new gone made) (outer_change : OuterChange outer outer' left come)
     (at_v : (f : Face) → Contains gone f → IsCorner f v) (ends_at_v : (i j : ℕ) → Contains left (i, j) → (i ≡ v) ⊎ (j ≡ v)) where

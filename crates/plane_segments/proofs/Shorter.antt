@@ -6,7 +6,7 @@ use Rattle.std.proofs.lemmas.Int.{ints}
 use Rattle.plane.specs.Fraction.{Point, whole, IsSame, IsPositive, WithinSegment}
 use Rattle.plane.specs.Laws.{squared_way}
 use Rattle.plane.specs.Pairs.{place}
-use Rattle.plane.proofs.IntegerOrder.{mul-pos_ℤ, pos_of_mul-pos_ℤ, square-nonneg_ℤ}
+use Rattle.plane.proofs.IntegerOrder.{mul-pos_ℤ, pos_of_mul-pos_ℤ}
 use Rattle.plane.proofs.Steps.{zero_or_left, one_number}
 use Rattle.plane.proofs.Solver.{num, ◌⊕◌, ◌⊖◌, ◌⊗◌, ring_in_from, ring_over}
 use Rattle.plane.proofs.Bracket.{points as points_shape}
@@ -17,6 +17,8 @@ use Rattle.plane_segments.proofs.EitherWay.{one_point}
 use Rattle.plane_segments.proofs.Falling.{same_values, not_both}
 use Rattle.plane_segments.proofs.Lowering.{smaller}
 use Rattle.plane_segments.proofs.Pieces.{on_parts}
+use Rattle.plane.proofs.Signs.{less_by_difference, sum_is_positive}
+use Rattle.plane_edits.proofs.Legal.{squared_way_nonneg}
 
 scaled : (n k l i j w : ℤ) → n *ℤ w ≡ k *ℤ i +ℤ l *ℤ j → n *ℤ pos 1 ≡ k *ℤ pos 1 +ℤ l *ℤ pos 1 → n *ℤ (j -ℤ w) ≡ k *ℤ (j -ℤ i)
 scaled n k l i j w e d = ring_in_from (n ∷ k ∷ l ∷ i ∷ j ∷ w ∷ []) (λ n k l i j w. n ⊗ (j ⊖ w)) (λ n k l i j w. k ⊗ (j ⊖ i))
@@ -25,14 +27,8 @@ scaled n k l i j w e d = ring_in_from (n ∷ k ∷ l ∷ i ∷ j ∷ w ∷ []) (
 difference : (n k s t : ℤ) → (n *ℤ n) *ℤ s ≡ (k *ℤ k) *ℤ t → (n *ℤ n) *ℤ (t -ℤ s) ≡ ((n -ℤ k) *ℤ (n +ℤ k)) *ℤ t
 difference n k s t e = ring_in_from (n ∷ k ∷ s ∷ t ∷ []) (λ n k s t. (n ⊗ n) ⊗ (t ⊖ s)) (λ n k s t. ((n ⊖ k) ⊗ (n ⊕ k)) ⊗ t) (λ n k s t. (num 0 ⊖ num 1, (n ⊗ n) ⊗ s, (k ⊗ k) ⊗ t) ∷ []) (e, tt) tt
 
-way_nonneg : (q p : Point) → pos 0 ≤ℤ squared_way q p
-way_nonneg q p = plus ((p.x -ℤ q.x) *ℤ (p.x -ℤ q.x)) ((p.y -ℤ q.y) *ℤ (p.y -ℤ q.y)) (square-nonneg_ℤ (p.x -ℤ q.x)) (square-nonneg_ℤ (p.y -ℤ q.y))
-  where
-    plus : (a b : ℤ) → pos 0 ≤ℤ a → pos 0 ≤ℤ b → pos 0 ≤ℤ (a +ℤ b)
-    plus a b h k = omega (arith, ints)
-
 way_above : (q p : Point) → ¬ (q ≡ p) → pos 0 <ℤ squared_way q p
-way_above q p n = elim (zero_or_left (way_nonneg q p)) [ inl e ↦ absurd (n (let b = not_both (p.x -ℤ q.x) (p.y -ℤ q.y) e in λ i. record { x = one_number q.x p.x b.0 i; y = one_number q.y p.y b.1 i })) | inr h ↦ h ]
+way_above q p n = elim (zero_or_left (squared_way_nonneg q p)) [ inl e ↦ absurd (n (let b = not_both (p.x -ℤ q.x) (p.y -ℤ q.y) e in λ i. record { x = one_number q.x p.x b.0 i; y = one_number q.y p.y b.1 i })) | inr h ↦ h ]
 
 way_none : (p : Point) → squared_way p p ≡ pos 0
 way_none p = ring_over points_shape [] (p ∷ []) (λ p. (p.x ⊖ p.x) ⊗ (p.x ⊖ p.x) ⊕ (p.y ⊖ p.y) ⊗ (p.y ⊖ p.y)) (λ p. num 0) tt
@@ -42,20 +38,14 @@ within_nearer : (i j w : Point) → ¬ (i ≡ j) → WithinSegment (whole i) (wh
 within_nearer i j w apart h =
     let t = two_weights IsPositive (whole i) (whole j) (whole w) h in
     let e = same_values t.n t.k (j.x -ℤ w.x) (j.y -ℤ w.y) (j.x -ℤ i.x) (j.y -ℤ i.y) (scaled t.n t.k t.l i.x j.x w.x t.x t.w) (scaled t.n t.k t.l i.y j.y w.y t.y t.w) in
-    less (squared_way w j) (squared_way i j) (pos_of_mul-pos_ℤ (mul-pos_ℤ t.positive t.positive) (subst (λ z. pos 0 <ℤ z) (sym (difference t.n t.k (squared_way w j) (squared_way i j) e))
-    (mul-pos_ℤ (mul-pos_ℤ (falls t.n t.k t.l t.w t.l_allowed) (sum t.n t.k t.positive t.k_allowed)) (way_above i j apart))))
+    less_by_difference (squared_way w j) (squared_way i j) (pos_of_mul-pos_ℤ (mul-pos_ℤ t.positive t.positive) (subst (λ z. pos 0 <ℤ z) (sym (difference t.n t.k (squared_way w j) (squared_way i j) e))
+    (mul-pos_ℤ (mul-pos_ℤ (falls t.n t.k t.l t.w t.l_allowed) (sum_is_positive t.n t.k t.positive t.k_allowed)) (way_above i j apart))))
   where
-    less : (s t : ℤ) → pos 0 <ℤ (t -ℤ s) → s <ℤ t
-    less s t h = omega (arith, ints)
-
     falls : (n k l : ℤ) → n *ℤ pos 1 ≡ k *ℤ pos 1 +ℤ l *ℤ pos 1 → pos 0 <ℤ l → pos 0 <ℤ (n -ℤ k)
     falls n k l e h = omega (arith, ints)
 
-    sum : (n k : ℤ) → pos 0 <ℤ n → pos 0 <ℤ k → pos 0 <ℤ (n +ℤ k)
-    sum n k h l = omega (arith, ints)
-
 pub path_shortens : PathShortens
-path_shortens points i j w distinct hi hj ij n = smaller (squared_way (point_of points w) (point_of points j)) (squared_way (point_of points i) (point_of points j)) (way_nonneg (point_of points w) (point_of points j)) (go (on_parts (place points i) (place points j) (place points w) n.second))
+path_shortens points i j w distinct hi hj ij n = smaller (squared_way (point_of points w) (point_of points j)) (squared_way (point_of points i) (point_of points j)) (squared_way_nonneg (point_of points w) (point_of points j)) (go (on_parts (place points i) (place points j) (place points w) n.second))
   where
     apart : ¬ (point_of points i ≡ point_of points j)
     apart e = distinct i j hi hj ij (ap whole e)

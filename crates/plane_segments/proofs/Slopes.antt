@@ -15,6 +15,7 @@ use Rattle.plane.specs.Circle.{IsNearer}
 use Rattle.plane_delaunay.proofs.Bracket.{bracket}
 use Rattle.plane_delaunay.proofs.EmptyCircles.{weights_along}
 use Rattle.plane_delaunay.proofs.AlongSegment.{above_difference, reach_less, nearer_if}
+use Rattle.plane.proofs.Signs.{less_by_difference}
 
 -- how much the side of the line u v rises from p to q
 unfoldable pub slope : Fraction → Fraction → Fraction → Fraction → ℤ
@@ -32,9 +33,6 @@ pub even : (l pw qw xw zw rx rz fp fq fx fz : ℤ) → (l *ℤ pw) *ℤ fx ≡ (
 even l pw qw xw zw rx rz fp fq fx fz e d = ring_in_from (l ∷ pw ∷ qw ∷ xw ∷ zw ∷ rx ∷ rz ∷ fp ∷ fq ∷ fx ∷ fz ∷ [])
     (λ l pw qw xw zw rx rz fp fq fx fz. (l ⊗ pw) ⊗ (fz ⊗ xw ⊖ fx ⊗ zw)) (λ l pw qw xw zw rx rz fp fq fx fz. (rz ⊗ xw ⊖ rx ⊗ zw) ⊗ (fq ⊗ pw ⊖ fp ⊗ qw))
     (λ l pw qw xw zw rx rz fp fq fx fz. (num 0 ⊖ zw, (l ⊗ pw) ⊗ fx, (l ⊗ xw ⊖ rx ⊗ qw) ⊗ fp ⊕ (rx ⊗ pw) ⊗ fq) ∷ (xw, (l ⊗ pw) ⊗ fz, (l ⊗ zw ⊖ rz ⊗ qw) ⊗ fp ⊕ (rz ⊗ pw) ⊗ fq) ∷ []) (e, (d, tt)) tt
-
-below_difference : (a b : ℤ) → pos 0 <ℤ (b -ℤ a) → a <ℤ b
-below_difference a b h = omega (arith, ints)
 
 module _ (p q : Fraction) (apart : ¬ IsSame p q) where
   unit : (l r u v z : ℤ) → (l *ℤ u) *ℤ z ≡ (l *ℤ z -ℤ r *ℤ v) *ℤ u +ℤ (r *ℤ u) *ℤ v
@@ -72,7 +70,7 @@ module _ (p q : Fraction) (apart : ¬ IsSame p q) where
 
   -- and a higher point is later
   pub higher_is_later : (u v x z : Fraction) → OnSegment p q x → OnSegment p q z → pos 0 <ℤ slope u v p q → bracket u v x ≤ℤ pos 0 → pos 0 <ℤ bracket u v z → IsNearer p x z
-  higher_is_later u v x z hx hz rising low high = nearer_if p q apart x z hx hz (below_difference _ _ (pos_of_mul-pos_ℤ {k = slope u v p q} rising
+  higher_is_later u v x z hx hz rising low high = nearer_if p q apart x z hx hz (less_by_difference _ _ (pos_of_mul-pos_ℤ {k = slope u v p q} rising
       (subst (λ n. pos 0 <ℤ n) (evenly u v x z hx hz ∙ lib.IntN.*ℤ_comm _ (slope u v p q)) (mul-pos_ℤ length_above (rises (bracket u v z *ℤ x.w) (bracket u v x) z.w (mul-pos_ℤ high x.positive) low z.positive)))))
     where
       rises : (a b w : ℤ) → pos 0 <ℤ a → b ≤ℤ pos 0 → pos 0 <ℤ w → pos 0 <ℤ (a -ℤ b *ℤ w)

@@ -94,7 +94,8 @@ overlap_ahead t h p q apart v b m two e ahead = ahead_met t p q apart v m two b 
 not_left_if : (u v x : Fraction) → bracket u v x ≤ℤ pos 0 → side u v x ≢ left
 not_left_if u v x h e = left_not_below (above_if_left u v x e) h
 
-right_if_below : (u v x : Fraction) → bracket u v x <ℤ pos 0 → side u v x ≡ right
+-- a negative bracket, so on the right
+pub right_if_below : (u v x : Fraction) → bracket u v x <ℤ pos 0 → side u v x ≡ right
 unfolding bracket
 right_if_below u v x h = right_if u v x h
 

@@ -14,7 +14,7 @@ use Rattle.plane.specs.Fraction.{Fraction, whole, IsSame, OnSegment, IsNotNegati
 use Rattle.plane.specs.Circle.{IsNearer}
 use Rattle.plane.specs.Side.{side, right}
 use Rattle.plane.specs.Tiling.{Triangulation, IsEdge, IsFace, HasFace, vertex, TilesHull}
-use Rattle.plane.specs.Line.{Item, IsPointOf, Meets, IsBefore, OverlapAlong}
+use Rattle.plane.specs.Line.{Item, IsPointOf, Meets}
 use Rattle.plane.specs.Line as L
 use Rattle.plane_delaunay.proofs.Bracket.{bracket, bracket-swapped, bracket-first, bracket-second, cramer, cramer-w, above_if_left}
 use Rattle.plane_delaunay.proofs.Ground.{face_in_hull, turned_face}
@@ -29,6 +29,7 @@ use Rattle.plane_segments.proofs.Begins.{turned_positive, turned_negative}
 use Rattle.plane_segments.proofs.SideSigns.{not_right}
 use Rattle.plane_segments.proofs.Ends.{vertex_edge}
 use Rattle.plane_segments.proofs.Vertices.{IsPast, is_past, past_left, before_end}
+use Rattle.plane.proofs.Signs.{at_most_by_difference_to, sum_not_negative_of}
 
 -- the start is nearer to itself than any other point
 start_nearer : (u x : Fraction) → ¬ IsSame u x → IsNearer u u x
@@ -46,11 +47,8 @@ inner_segment p q v x hv hx = go (two_weights IsNotNegative p q v hv) (two_weigh
         (λ n k l b n' k' l' f g d. (n ⊗ n') ⊗ d) (λ n k l b n' k' l' f g d. (k' ⊗ k) ⊗ b ⊕ (k' ⊗ l ⊕ n ⊗ l') ⊗ g)
         (λ n k l b n' k' l' f g d. (k', n ⊗ f, k ⊗ b ⊕ l ⊗ g) ∷ (n, n' ⊗ d, k' ⊗ f ⊕ l' ⊗ g) ∷ []) (e, (c, tt)) tt
 
-    sum : {a b : ℤ} → pos 0 ≤ℤ a → pos 0 ≤ℤ b → pos 0 ≤ℤ (a +ℤ b)
-    sum h k = omega (arith, ints)
-
     go : TwoWeights IsNotNegative p q v → TwoWeights IsNotNegative v q x → OnSegment p q x
-    go s t = segment_from (s.n *ℤ t.n) (t.k *ℤ s.k) (t.k *ℤ s.l +ℤ s.n *ℤ t.l) p q x (mul-pos_ℤ s.positive t.positive) (mul-nonneg_ℤ t.k_allowed s.k_allowed) (sum (mul-nonneg_ℤ t.k_allowed s.l_allowed) (mul-nonneg_ℤ (weak s.positive) t.l_allowed))
+    go s t = segment_from (s.n *ℤ t.n) (t.k *ℤ s.k) (t.k *ℤ s.l +ℤ s.n *ℤ t.l) p q x (mul-pos_ℤ s.positive t.positive) (mul-nonneg_ℤ t.k_allowed s.k_allowed) (sum_not_negative_of (mul-nonneg_ℤ t.k_allowed s.l_allowed) (mul-nonneg_ℤ (weak s.positive) t.l_allowed))
         (λ a b. mixed s.n s.k s.l (bracket a b p) t.n t.k t.l (bracket a b v) (bracket a b q) (bracket a b x) (weights_along IsNotNegative p q v s a b) (weights_along IsNotNegative v q x t a b))
 
 -- q on the ray from v through b, by weights
@@ -106,14 +104,11 @@ module _ (t : Triangulation) (p q : Fraction) (apart : ¬ IsSame p q) (v : ℕ) 
       there : OnSegment p q (vertex t b)
       there = inner_segment p q V (vertex t b) m.1 on
 
-      least : (a c : ℤ) → pos 0 ≤ℤ (c -ℤ a) → a ≤ℤ c
-      least a c h = omega (arith, ints)
-
       least_difference : (a c : ℤ) → a <ℤ c → pos 0 ≤ℤ (c -ℤ a)
       least_difference a c h = omega (arith, ints)
 
       not_earlier : (reach p q V *ℤ (vertex t b).w) ≤ℤ (reach p q (vertex t b) *ℤ V.w)
-      not_earlier = let w = two_weights IsNotNegative V q (vertex t b) on in least _ _ (nonneg_of_mul-nonneg_ℤ {k = w.n} w.positive
+      not_earlier = let w = two_weights IsNotNegative V q (vertex t b) on in at_most_by_difference_to _ _ (nonneg_of_mul-nonneg_ℤ {k = w.n} w.positive
           (subst (λ z. pos 0 ≤ℤ z) (sym (after_first w.n w.k w.l (reach p q (vertex t b)) (reach p q V) (reach p q q) (vertex t b).w V.w q.w (reach_of_two IsNotNegative p q V q (vertex t b) w) w.w))
           (mul-nonneg_ℤ w.l_allowed (least_difference _ _ (reach_less p q apart V q m.1 (end_on_segment p q) past_end)))))
 

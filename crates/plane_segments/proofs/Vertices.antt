@@ -4,7 +4,7 @@ use mathlib.Core.Logic.{◌⊎◌, inl, inr}
 use lib.IntN.{neg_ℤ}
 use Rattle.std.specs.Prelude.{ℤ, pos, ◌<ℤ◌, ◌≤ℤ◌}
 use Rattle.std.proofs.lemmas.Int.{ints}
-use Rattle.plane.proofs.Steps.{weak_right, zero_weak, zero_weak_left, left_not_zero}
+use Rattle.plane.proofs.Steps.{weak_right, zero_weak, zero_weak_left, left_not_zero, both_signs}
 use Rattle.plane.proofs.Nearer.{same_not_nearer}
 use Rattle.plane.proofs.Segments.{start_on_segment, same-refl, same-sym, same-trans, on_segment_is, end_on_segment, on_segment-same}
 use Rattle.plane.specs.Fraction.{Fraction, IsSame, OnSegment}
@@ -213,7 +213,4 @@ module _ (t : Triangulation) (p q : Fraction) (apart : ¬ IsSame p q) (v : ℕ) 
               pick : Placed p V y.at → IsNearer p V y.at
               pick (sooner n) = n
               pick (as_soon e) = absurd (left_not_zero (subst (λ x. pos 0 <ℤ x) (bracket-swapped C B y.at) (above-same B C V y.at e opposite)) (ap neg_ℤ on))
-              pick (later n) = absurd (both (later_is_higher p q apart C B y.at V y.begins.shared m.1 n (rising p q C B left_end right_end) (zero_weak_left on)) (turned_negative _ _ (bracket-swapped B C V) opposite))
-                where
-                  both : {x : ℤ} → pos 0 <ℤ x → x <ℤ pos 0 → ⊥
-                  both h k = omega (arith, ints)
+              pick (later n) = absurd (both_signs (later_is_higher p q apart C B y.at V y.begins.shared m.1 n (rising p q C B left_end right_end) (zero_weak_left on)) (turned_negative _ _ (bracket-swapped B C V) opposite))

@@ -16,6 +16,8 @@ use Rattle.plane_tiling.proofs.Line.{flat}
 use Rattle.plane_edits.specs.Legal.{point_of}
 use Rattle.plane_segments.specs.Constraints.{PieceCrossesWhole}
 use Rattle.plane_segments.proofs.EitherWay.{one_point}
+use Rattle.plane.proofs.Signs.{sum_of_zeros, zero_is_not_above, zero_is_not_below}
+use Rattle.plane.proofs.Steps.{weak, weak_right, zero_weak, zero_weak_left}
 
 -- ---- signs of means
 sum_least : (k l n x y z : ℤ) → n *ℤ z ≡ k *ℤ x +ℤ l *ℤ y → pos 0 <ℤ n → pos 0 ≤ℤ k → pos 0 ≤ℤ l → pos 0 ≤ℤ x → pos 0 ≤ℤ y → z <ℤ pos 0 → ⊥
@@ -34,28 +36,17 @@ sum_most k l n x y z e hn hk hl hx hy hz = clash (n *ℤ z) (k *ℤ x) (l *ℤ y
 opposite_by_means : (x y : ℤ) → (pos 0 ≤ℤ x → pos 0 ≤ℤ y → ⊥) → (x ≤ℤ pos 0 → y ≤ℤ pos 0 → ⊥) → AreOpposite x y
 opposite_by_means x y some_below some_above = go (trichotomy_ℤ x) (trichotomy_ℤ y)
   where
-    low : {z : ℤ} → z <ℤ pos 0 → z ≤ℤ pos 0
-    low h = omega (arith, ints)
-
-    high : {z : ℤ} → pos 0 <ℤ z → pos 0 ≤ℤ z
-    high h = omega (arith, ints)
-
-    none_low : {z : ℤ} → z ≡ pos 0 → z ≤ℤ pos 0
-    none_low h = omega (arith, ints)
-
-    none_high : {z : ℤ} → z ≡ pos 0 → pos 0 ≤ℤ z
-    none_high h = omega (arith, ints)
 
     go : (x <ℤ pos 0) ⊎ ((x ≡ pos 0) ⊎ (pos 0 <ℤ x)) → (y <ℤ pos 0) ⊎ ((y ≡ pos 0) ⊎ (pos 0 <ℤ y)) → AreOpposite x y
-    go (inl h) (inl k) = absurd (some_above (low h) (low k))
-    go (inl h) (inr (inl k)) = absurd (some_above (low h) (none_low k))
+    go (inl h) (inl k) = absurd (some_above (weak_right h) (weak_right k))
+    go (inl h) (inr (inl k)) = absurd (some_above (weak_right h) (zero_weak k))
     go (inl h) (inr (inr k)) = inl (h, k)
-    go (inr (inl h)) (inl k) = absurd (some_above (none_low h) (low k))
-    go (inr (inl h)) (inr (inl k)) = absurd (some_above (none_low h) (none_low k))
-    go (inr (inl h)) (inr (inr k)) = absurd (some_below (none_high h) (high k))
+    go (inr (inl h)) (inl k) = absurd (some_above (zero_weak h) (weak_right k))
+    go (inr (inl h)) (inr (inl k)) = absurd (some_above (zero_weak h) (zero_weak k))
+    go (inr (inl h)) (inr (inr k)) = absurd (some_below (zero_weak_left h) (weak k))
     go (inr (inr h)) (inl k) = inr (h, k)
-    go (inr (inr h)) (inr (inl k)) = absurd (some_below (high h) (none_high k))
-    go (inr (inr h)) (inr (inr k)) = absurd (some_below (high h) (high k))
+    go (inr (inr h)) (inr (inl k)) = absurd (some_below (weak h) (zero_weak_left k))
+    go (inr (inr h)) (inr (inr k)) = absurd (some_below (weak h) (weak k))
 
 -- with a mean of 0 they are opposite, or both 0
 opposite_if_none : (k l x y : ℤ) → pos 0 <ℤ k → pos 0 <ℤ l → k *ℤ x +ℤ l *ℤ y ≡ pos 0 → (x ≡ pos 0 → y ≡ pos 0 → ⊥) → AreOpposite x y
@@ -106,24 +97,16 @@ module _ (i j a b c d : Point) (ij : ¬ (i ≡ j)) (ab : ¬ IsSame (whole a) (wh
   -- the common point is on the line of i and j
   on_line : bracket (lift i) (lift j) (vec cross.at) ≡ pos 0
   on_line = let t = two_weights IsPositive (whole a) (whole b) cross.at cross.within_first in
-      zero_of_mul-zero_ℤ (pos-ne-zero_ℤ t.positive) (bracket_of_two IsPositive (lift i) (lift j) (whole a) (whole b) cross.at t ∙ none (t.k *ℤ from_ij a) (t.l *ℤ from_ij b) (zero-mul_ℤ t.k (bracket_of_line (whole i) (whole j) (whole a) (inl on_a))) (zero-mul_ℤ t.l (bracket_of_line (whole i) (whole j) (whole b) (inl on_b))))
-    where
-      none : (x y : ℤ) → x ≡ pos 0 → y ≡ pos 0 → x +ℤ y ≡ pos 0
-      none x y e d = omega (arith, ints)
+      zero_of_mul-zero_ℤ (pos-ne-zero_ℤ t.positive) (bracket_of_two IsPositive (lift i) (lift j) (whole a) (whole b) cross.at t ∙ sum_of_zeros (t.k *ℤ from_ij a) (t.l *ℤ from_ij b) (zero-mul_ℤ t.k (bracket_of_line (whole i) (whole j) (whole a) (inl on_a))) (zero-mul_ℤ t.l (bracket_of_line (whole i) (whole j) (whole b) (inl on_b))))
 
   others_parted : AreOpposite (bracket (lift i) (lift j) (lift c)) (bracket (lift i) (lift j) (lift d))
   others_parted = let t = two_weights IsPositive (whole c) (whole d) cross.at cross.within_second in
       opposite_if_none t.k t.l (from_ij c) (from_ij d) t.k_allowed t.l_allowed (sym (bracket_of_two IsPositive (lift i) (lift j) (whole c) (whole d) cross.at t) ∙ zero-mul_ℤ t.n on_line) (λ e f. not_flat ends_parted (flat i j (lift c) (lift d) (lift i) ij e f (bracket-outer (lift i) (lift j))))
     where
-      clash : (z : ℤ) → z ≡ pos 0 → z <ℤ pos 0 → ⊥
-      clash z e h = omega (arith, ints)
-
-      clash' : (z : ℤ) → z ≡ pos 0 → pos 0 <ℤ z → ⊥
-      clash' z e h = omega (arith, ints)
 
       not_flat : AreOpposite (from_cd i) (from_cd j) → from_cd i ≡ pos 0 → ⊥
-      not_flat (inl o) e = clash (from_cd i) e o.0
-      not_flat (inr o) e = clash' (from_cd i) e o.0
+      not_flat (inl o) e = zero_is_not_below (from_cd i) e o.0
+      not_flat (inr o) e = zero_is_not_above (from_cd i) e o.0
 
   crosses_whole : Cross (whole i) (whole j) (whole c) (whole d)
   crosses_whole = cross_if (whole i) (whole j) (whole c) (whole d) others_parted ends_parted

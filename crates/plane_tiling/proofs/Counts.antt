@@ -22,6 +22,7 @@ use Rattle.plane_tiling.proofs.Sweep.{IsSweep, sweep, count_one, count_none}
 use Rattle.plane_tiling.proofs.Line.{SignLine, IsNext}
 use Rattle.plane_tiling.proofs.LineMeshes.{line_by_signs}
 use Rattle.plane_tiling.proofs.LinePlaces as O
+use Rattle.plane.proofs.Signs.{below_and_not_below, less_if_not_same}
 
 module _ (n : ℕ) (p : ℕ → Point) (faces : List Face) (outer edges : List (ℕ × ℕ)) (m : SignMesh n p faces outer) (own : AreEdgesOf faces outer edges) where
   some_vertex : 0 < n
@@ -47,12 +48,9 @@ module _ (n : ℕ) (p : ℕ → Point) (faces : List Face) (outer edges : List (
           (edges_counted height n s.distinct faces outer edges own (λ f h. let c = m.corners f h in (c.0, c.1, c.2, (corners_differ p f.a f.b f.c (m.turning f h)).0)) (λ e h. (m.ends e h).0) ends_of_edge)
           (below_top (count_at height faces outer) n t.0 t.1 (λ v h. each v h t (cases_eq v t.0)))
         where
-          below : (a b : ℤ) → a ≤ℤ b → ¬ (a ≡ b) → a <ℤ b
-          below a b h n = elim (lt_or_ge_ℤ a b) [ inl l ↦ l | inr l ↦ absurd (n (omega (arith, ints))) ]
-
           each : (v : ℕ) → v < n → (t : (k : ℕ) × (k < n) × ((j : ℕ) → j < n → height j ≤ℤ height k)) → (v ≡ t.0) ⊎ (v ≡ t.0 → ⊥) → ((v ≡ t.0) × (count_at height faces outer v ≡ pos 0)) ⊎ ((v ≢ t.0) × (count_at height faces outer v ≡ pos 1))
           each v h t (inl e) = inl (e, count_none n p faces outer m way height s v h (λ k i. subst (λ o. height k ≤ℤ height o) (sym e) (t.2 k i)))
-          each v h t (inr e) = inr (e, count_one n p faces outer m way height s v h t.0 t.1 (below (height v) (height t.0) (t.2 v h) (s.distinct v t.0 h t.1 e)))
+          each v h t (inr e) = inr (e, count_one n p faces outer m way height s v h t.0 t.1 (less_if_not_same (height v) (height t.0) (t.2 v h) (s.distinct v t.0 h t.1 e)))
 
   -- each edge has two ways, each face three sides
   ways_counted : total (λ e. pos 1) edges +ℤ total (λ e. pos 1) edges ≡ total (λ f. pos 1) faces +ℤ total (λ f. pos 1) faces +ℤ total (λ f. pos 1) faces +ℤ total (λ e. pos 1) outer
@@ -168,12 +166,9 @@ module _ (n : ℕ) (p : ℕ → Point) (outer edges : List (ℕ × ℕ)) (m : Si
         all_zero : (a : ℤ) → a ≡ pos 0 → pos 0 +ℤ a ≡ pos 0
         all_zero a e = omega (arith, ints)
 
-        clash : (a b : ℤ) → a <ℤ b → b ≤ℤ a → ⊥
-        clash a b h k = omega (arith, ints)
-
         none : (e : ℕ × ℕ) → Contains outer e → (leaves height v e ≡ pos 0) ⊎ (leaves height v e ≡ pos 1) → leaves height v e ≡ pos 0
         none e h (inl x) = x
-        none e h (inr x) = absurd (let r = leaves_found height v e (one_above x) in clash (height v) (height e.1) (subst (λ o. height o <ℤ height e.1) (sym r.0) r.1) (top e.1 ((m.neighbours e.0 e.1).0 h).second))
+        none e h (inr x) = absurd (let r = leaves_found height v e (one_above x) in below_and_not_below (height v) (height e.1) (subst (λ o. height o <ℤ height e.1) (sym r.0) r.1) (top e.1 ((m.neighbours e.0 e.1).0 h).second))
 
     line_edges : length edges + 1 ≡ n
     line_edges =
@@ -185,12 +180,9 @@ module _ (n : ℕ) (p : ℕ → Point) (outer edges : List (ℕ × ℕ)) (m : Si
         numbers : (e n : ℕ) (a c : ℤ) → a ≡ pos e → a ≡ pos 0 +ℤ c → c +ℤ pos 1 ≡ pos n → e + 1 ≡ n
         numbers e n a c i j k = omega (arith, ints)
 
-        below : (a b : ℤ) → a ≤ℤ b → ¬ (a ≡ b) → a <ℤ b
-        below a b h n = elim (lt_or_ge_ℤ a b) [ inl l ↦ l | inr l ↦ absurd (n (omega (arith, ints))) ]
-
         each : (v : ℕ) → v < n → (t : (k : ℕ) × (k < n) × ((j : ℕ) → j < n → height j ≤ℤ height k)) → (v ≡ t.0) ⊎ (v ≡ t.0 → ⊥) → ((v ≡ t.0) × (count_at height [] outer v ≡ pos 0)) ⊎ ((v ≢ t.0) × (count_at height [] outer v ≡ pos 1))
         each v h t (inl e) = inl (e, count_last v h (λ k i. subst (λ o. height k ≤ℤ height o) (sym e) (t.2 k i)))
-        each v h t (inr e) = inr (e, count_on v t.0 h t.1 (below (height v) (height t.0) (t.2 v h) (distinct v t.0 h t.1 e)))
+        each v h t (inr e) = inr (e, count_on v t.0 h t.1 (less_if_not_same (height v) (height t.0) (t.2 v h) (distinct v t.0 h t.1 e)))
 
   no_edge : n ≤ 1 → length edges ≡ 0
   no_edge few = go edges line_ends

@@ -49,7 +49,8 @@ one_positive z e = omega (arith, ints)
 two_not_one : (z : ℤ) → z ≡ pos 1 → pos 2 ≤ℤ z → ⊥
 two_not_one z e h = omega (arith, ints)
 
-next_corner : {A B C : Type 0} → A ⊎ (B ⊎ C) → C ⊎ (A ⊎ B)
+-- one of three, counted from the next
+pub next_corner : {A B C : Type 0} → A ⊎ (B ⊎ C) → C ⊎ (A ⊎ B)
 next_corner (inl a) = inr (inl a)
 next_corner (inr (inl b)) = inr (inr b)
 next_corner (inr (inr c)) = inl c

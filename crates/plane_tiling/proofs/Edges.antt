@@ -7,7 +7,7 @@ use Rattle.plane.specs.Fraction.{Point, Fraction, whole, IsPositive, WithinSegme
 use Rattle.plane.specs.Tiling.{Face}
 use Rattle.plane.proofs.Means.{TwoWeights, two_weights, turned_mean_of_two, bracket_of_two}
 use Rattle.plane.proofs.IntegerOrder.{neg_of_mul-neg_ℤ, zero-mul_ℤ, zero_of_mul-zero_ℤ, pos_of_mul-pos_ℤ, mul-pos_ℤ, mul-neg_of_pos_neg_ℤ, trichotomy_ℤ, pos-ne-zero_ℤ}
-use Rattle.plane.proofs.Steps.{weak, right_not_zero, left_not_zero, both_signs, negated_left, negated_right, zero_weak_left}
+use Rattle.plane.proofs.Steps.{weak, right_not_zero, left_not_zero, both_signs, negated_left, negated_right, zero_weak_left, drop_zero, drop_zero_last}
 use Rattle.plane.proofs.Bracket.{Vec3, bracket, lift, vec}
 use Rattle.plane.proofs.BracketIdentities.{bracket-turn, bracket-swap, bracket-outer, bracket-last}
 use Rattle.plane.proofs.LineOrder.{overlap_ends}
@@ -15,6 +15,7 @@ use Rattle.plane.proofs.Generic.{Inside, IsNudged, near}
 use Rattle.plane_tiling.proofs.Flows.{IsTurnOf, HasSide, turned}
 use Rattle.plane_tiling.proofs.Counting.{at, SignMesh, same_index, corners_differ, within_turned}
 use Rattle.plane_tiling.proofs.Covering as C
+use Rattle.plane.proofs.Signs.{sum_of_zeros_from}
 
 -- ---- a point strictly within a segment, seen from a line
 pub mean_bracket : (A : ℤ → Type 0) (s t u v : Point) (y : Fraction) (w : TwoWeights A (whole u) (whole v) y) → w.n *ℤ bracket (lift s) (lift t) (vec y) ≡ w.k *ℤ bracket (lift s) (lift t) (lift u) +ℤ w.l *ℤ bracket (lift s) (lift t) (lift v)
@@ -22,15 +23,6 @@ mean_bracket A s t u v y w = bracket_of_two A (lift s) (lift t) (whole u) (whole
 
 pub turned_within : (a b y : Fraction) → WithinSegment a b y → WithinSegment b a y
 turned_within a b y h = turned_mean_of_two IsPositive a b y h
-
-only_first : (s a b : ℤ) → s ≡ a +ℤ b → b ≡ pos 0 → s ≡ a
-only_first s a b e h = omega (arith, ints)
-
-only_second : (s a b : ℤ) → s ≡ a +ℤ b → a ≡ pos 0 → s ≡ b
-only_second s a b e h = omega (arith, ints)
-
-no_part : (s a b : ℤ) → s ≡ a +ℤ b → a ≡ pos 0 → b ≡ pos 0 → s ≡ pos 0
-no_part s a b e h k = omega (arith, ints)
 
 other_right : (s a b : ℤ) → s ≡ a +ℤ b → s ≡ pos 0 → pos 0 <ℤ a → b <ℤ pos 0
 other_right s a b e h k = omega (arith, ints)
@@ -48,18 +40,18 @@ right_of_product h e = neg_of_mul-neg_ℤ h e
 pub within_on : (u v : Point) (y : Fraction) → WithinSegment (whole u) (whole v) y → bracket (lift u) (lift v) (vec y) ≡ pos 0
 within_on u v y h =
     let w = two_weights IsPositive (whole u) (whole v) y h in
-    zero_of_mul-zero_ℤ (pos-ne-zero_ℤ w.positive) (no_part (w.n *ℤ bracket (lift u) (lift v) (vec y)) (w.k *ℤ bracket (lift u) (lift v) (lift u)) (w.l *ℤ bracket (lift u) (lift v) (lift v)) (mean_bracket IsPositive u v u v y w) (zero-mul_ℤ w.k (bracket-outer (lift u) (lift v))) (zero-mul_ℤ w.l (bracket-last (lift u) (lift v))))
+    zero_of_mul-zero_ℤ (pos-ne-zero_ℤ w.positive) (sum_of_zeros_from (w.n *ℤ bracket (lift u) (lift v) (vec y)) (w.k *ℤ bracket (lift u) (lift v) (lift u)) (w.l *ℤ bracket (lift u) (lift v) (lift v)) (mean_bracket IsPositive u v u v y w) (zero-mul_ℤ w.k (bracket-outer (lift u) (lift v))) (zero-mul_ℤ w.l (bracket-last (lift u) (lift v))))
 
 pub within_second : (u v k : Point) (y : Fraction) → WithinSegment (whole u) (whole v) y → pos 0 <ℤ bracket (lift u) (lift v) (lift k) → pos 0 <ℤ bracket (lift v) (lift k) (vec y)
 within_second u v k y h turns =
     let w = two_weights IsPositive (whole u) (whole v) y h in
-    pos_of_mul-pos_ℤ w.positive (subst (λ z. pos 0 <ℤ z) (sym (only_first (w.n *ℤ bracket (lift v) (lift k) (vec y)) (w.k *ℤ bracket (lift v) (lift k) (lift u)) (w.l *ℤ bracket (lift v) (lift k) (lift v)) (mean_bracket IsPositive v k u v y w) (zero-mul_ℤ w.l (bracket-outer (lift v) (lift k)))))
+    pos_of_mul-pos_ℤ w.positive (subst (λ z. pos 0 <ℤ z) (sym (drop_zero_last (w.n *ℤ bracket (lift v) (lift k) (vec y)) (w.k *ℤ bracket (lift v) (lift k) (lift u)) (w.l *ℤ bracket (lift v) (lift k) (lift v)) (mean_bracket IsPositive v k u v y w) (zero-mul_ℤ w.l (bracket-outer (lift v) (lift k)))))
     (mul-pos_ℤ w.k_allowed (subst (λ z. pos 0 <ℤ z) (bracket-turn (lift u) (lift v) (lift k)) turns)))
 
 pub within_third : (u v k : Point) (y : Fraction) → WithinSegment (whole u) (whole v) y → pos 0 <ℤ bracket (lift u) (lift v) (lift k) → pos 0 <ℤ bracket (lift k) (lift u) (vec y)
 within_third u v k y h turns =
     let w = two_weights IsPositive (whole u) (whole v) y h in
-    pos_of_mul-pos_ℤ w.positive (subst (λ z. pos 0 <ℤ z) (sym (only_second (w.n *ℤ bracket (lift k) (lift u) (vec y)) (w.k *ℤ bracket (lift k) (lift u) (lift u)) (w.l *ℤ bracket (lift k) (lift u) (lift v)) (mean_bracket IsPositive k u u v y w) (zero-mul_ℤ w.k (bracket-last (lift k) (lift u)))))
+    pos_of_mul-pos_ℤ w.positive (subst (λ z. pos 0 <ℤ z) (sym (drop_zero (w.n *ℤ bracket (lift k) (lift u) (vec y)) (w.k *ℤ bracket (lift k) (lift u) (lift u)) (w.l *ℤ bracket (lift k) (lift u) (lift v)) (mean_bracket IsPositive k u u v y w) (zero-mul_ℤ w.k (bracket-last (lift k) (lift u)))))
     (mul-pos_ℤ w.l_allowed (subst (λ z. pos 0 <ℤ z) (bracket-turn (lift u) (lift v) (lift k) ∙ bracket-turn (lift v) (lift k) (lift u)) turns)))
 
 module _ (n : ℕ) (p : ℕ → Point) (faces : List Face) (outer : List (ℕ × ℕ)) (m : SignMesh n p faces outer) where

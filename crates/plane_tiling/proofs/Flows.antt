@@ -12,6 +12,7 @@ use Rattle.plane_tiling.specs.Local.{total, around, along, IsAntisymmetric, AreB
 use Rattle.plane.proofs.IntegerOrder.{lt_or_ge_ℤ}
 use Rattle.plane.proofs.Steps.{product_zero_left}
 use Rattle.plane_tiling.proofs.Totals.{Contains-none, total_agree, total-difference, total_at_least, total_nonneg, total_positive, total_single, total_exchanged}
+use Rattle.plane.proofs.Signs.{at_least_one_through, first_of_three_counts, one_is_above_zero, second_of_three_counts, sum_of_three_not_negative, third_of_three_counts}
 
 abbrev pub bit : Bool → ℤ
 bit true = pos 1
@@ -94,11 +95,8 @@ as_many_back faces outer balanced u v =
     (total_agree (around (one_way u v)) (λ f. around (is_pair u v) f -ℤ around (is_pair v u) f) faces (λ f _. around_one_way u v f) ∙ total-difference (around (is_pair u v)) (around (is_pair v u)) faces)
     (total-difference (along (is_pair u v)) (along (is_pair v u)) outer)
 
-three_nonneg : (a b c : ℤ) → pos 0 ≤ℤ a → pos 0 ≤ℤ b → pos 0 ≤ℤ c → pos 0 ≤ℤ (a +ℤ b +ℤ c)
-three_nonneg a b c h k l = omega (arith, ints)
-
 pub around_nonneg : (u v : ℕ) (f : Face) → pos 0 ≤ℤ around (is_pair u v) f
-around_nonneg u v f = three_nonneg (is_pair u v f.a f.b) (is_pair u v f.b f.c) (is_pair u v f.c f.a) (is_pair_nonneg u v f.a f.b) (is_pair_nonneg u v f.b f.c) (is_pair_nonneg u v f.c f.a)
+around_nonneg u v f = sum_of_three_not_negative (is_pair u v f.a f.b) (is_pair u v f.b f.c) (is_pair u v f.c f.a) (is_pair_nonneg u v f.a f.b) (is_pair_nonneg u v f.b f.c) (is_pair_nonneg u v f.c f.a)
 
 -- i j k is a face, in this rotation or another
 abbrev pub IsTurnOf : List Face → ℕ → ℕ → ℕ → Type 0
@@ -135,29 +133,17 @@ side_found faces u v f here h = go (one_of_three (is_pair u v f.a f.b) (is_pair 
     go (inr (inl k)) = let e = pair_found u v f.b f.c k in (f.a, inr (inr (subst (Contains faces) (λ i. face f.a (e.0 i) (e.1 i)) here)))
     go (inr (inr k)) = let e = pair_found u v f.c f.a k in (f.b, inr (inl (subst (Contains faces) (λ i. face (e.1 i) f.b (e.0 i)) here)))
 
-first_counts : (a b c : ℤ) → a ≡ pos 1 → pos 0 ≤ℤ b → pos 0 ≤ℤ c → pos 1 ≤ℤ (a +ℤ b +ℤ c)
-first_counts a b c e h k = omega (arith, ints)
-
-second_counts : (a b c : ℤ) → b ≡ pos 1 → pos 0 ≤ℤ a → pos 0 ≤ℤ c → pos 1 ≤ℤ (a +ℤ b +ℤ c)
-second_counts a b c e h k = omega (arith, ints)
-
-third_counts : (a b c : ℤ) → c ≡ pos 1 → pos 0 ≤ℤ a → pos 0 ≤ℤ b → pos 1 ≤ℤ (a +ℤ b +ℤ c)
-third_counts a b c e h k = omega (arith, ints)
-
-at_most : (a b : ℤ) → pos 1 ≤ℤ a → a ≤ℤ b → pos 1 ≤ℤ b
-at_most a b h k = omega (arith, ints)
-
 -- and a side counts
 pub side_counts : (faces : List Face) (u v : ℕ) → HasSide faces u v → pos 1 ≤ℤ total (around (is_pair u v)) faces
 side_counts faces u v s = go s.1
   where
     by : (f : Face) → Contains faces f → pos 1 ≤ℤ around (is_pair u v) f → pos 1 ≤ℤ total (around (is_pair u v)) faces
-    by f here h = at_most (around (is_pair u v) f) (total (around (is_pair u v)) faces) h (total_at_least (around (is_pair u v)) faces (λ g _. around_nonneg u v g) f here)
+    by f here h = at_least_one_through (around (is_pair u v) f) (total (around (is_pair u v)) faces) h (total_at_least (around (is_pair u v)) faces (λ g _. around_nonneg u v g) f here)
 
     go : IsTurnOf faces u v s.0 → pos 1 ≤ℤ total (around (is_pair u v)) faces
-    go (inl h) = by (face u v s.0) h (first_counts (is_pair u v u v) (is_pair u v v s.0) (is_pair u v s.0 u) (is_pair_own u v) (is_pair_nonneg u v v s.0) (is_pair_nonneg u v s.0 u))
-    go (inr (inl h)) = by (face v s.0 u) h (third_counts (is_pair u v v s.0) (is_pair u v s.0 u) (is_pair u v u v) (is_pair_own u v) (is_pair_nonneg u v v s.0) (is_pair_nonneg u v s.0 u))
-    go (inr (inr h)) = by (face s.0 u v) h (second_counts (is_pair u v s.0 u) (is_pair u v u v) (is_pair u v v s.0) (is_pair_own u v) (is_pair_nonneg u v s.0 u) (is_pair_nonneg u v v s.0))
+    go (inl h) = by (face u v s.0) h (first_of_three_counts (is_pair u v u v) (is_pair u v v s.0) (is_pair u v s.0 u) (is_pair_own u v) (is_pair_nonneg u v v s.0) (is_pair_nonneg u v s.0 u))
+    go (inr (inl h)) = by (face v s.0 u) h (third_of_three_counts (is_pair u v v s.0) (is_pair u v s.0 u) (is_pair u v u v) (is_pair_own u v) (is_pair_nonneg u v v s.0) (is_pair_nonneg u v s.0 u))
+    go (inr (inr h)) = by (face s.0 u v) h (second_of_three_counts (is_pair u v s.0 u) (is_pair u v u v) (is_pair u v v s.0) (is_pair_own u v) (is_pair_nonneg u v s.0 u) (is_pair_nonneg u v v s.0))
 
 pub outer_nonneg : (u v : ℕ) (outer : List (ℕ × ℕ)) (e : ℕ × ℕ) → pos 0 ≤ℤ along (is_pair u v) e
 outer_nonneg u v outer e = is_pair_nonneg u v e.0 e.1
@@ -196,10 +182,7 @@ back_of_outer faces outer balanced u v s = back_from_count faces outer v u (eith
 
 -- ---- two lists of pairs with the same entries, each once
 is_pair_other : (u v s t : ℕ) → (s ≡ u → t ≡ v → ⊥) → is_pair u v s t ≡ pos 0
-is_pair_other u v s t n = elim (is_pair_is u v s t) [ inl e ↦ e | inr e ↦ absurd (let f = pair_found u v s t (one_is_above e) in n f.0 f.1) ]
-  where
-    one_is_above : {z : ℤ} → z ≡ pos 1 → pos 0 <ℤ z
-    one_is_above e = omega (arith, ints)
+is_pair_other u v s t n = elim (is_pair_is u v s t) [ inl e ↦ e | inr e ↦ absurd (let f = pair_found u v s t (one_is_above_zero e) in n f.0 f.1) ]
 
 one_times : (b z : ℤ) → b ≡ pos 1 → b *ℤ z ≡ z
 one_times b z e = ap (λ t. t *ℤ z) e ∙ unit z

@@ -15,6 +15,7 @@ use Rattle.plane.proofs.Generic.{AreDistinct, not_on_line}
 use Rattle.plane_tiling.proofs.Counting.{at, within_turned, same_place}
 use Rattle.plane_tiling.proofs.Edges as E
 use Rattle.plane.proofs.LineOrder.{IsBetween, place_within, within_places}
+use Rattle.plane.proofs.Signs.{zero_is_not_positive}
 
 -- i and j have no other of the first n points strictly between them
 pub record IsNext (n : ℕ) (p : ℕ → Point) (i j : ℕ) : Type 0 where
@@ -160,16 +161,13 @@ module _ (n : ℕ) (p : ℕ → Point) (outer new : List (ℕ × ℕ)) (m : Sign
     low : (k : ℕ) → k < n → spot' k ≤ℤ pos 0
     low k h = go (cases_eq k i)
       where
-        zero : (z : ℤ) → z ≡ pos 0 → z ≤ℤ pos 0
-        zero z e = omega (arith, ints)
-
         under : (a b c : ℤ) → a ≡ pos 0 → pos 0 <ℤ b → IsBetween b c a ⊎ ((b ≡ a) × (a ≡ c)) → c ≤ℤ pos 0
         under a b c e l (inl (inl o)) = absurd (let q = o.0 in omega (arith, ints))
         under a b c e l (inl (inr o)) = let q = o.0 in omega (arith, ints)
         under a b c e l (inr o) = absurd (let q = o.0 in omega (arith, ints))
 
         go : (k ≡ i) ⊎ (k ≡ i → ⊥) → spot' k ≤ℤ pos 0
-        go (inl e) = zero (spot' k) (ap spot' e ∙ from_zero)
+        go (inl e) = zero_is_not_positive (spot' k) (ap spot' e ∙ from_zero)
         go (inr e) = under (spot' i) (spot' n) (spot' k) from_zero high (in_order' n k i (past k h e))
 
     new_next : IsNext (suc n) p i n

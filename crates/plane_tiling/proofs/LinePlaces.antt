@@ -14,9 +14,10 @@ use Rattle.plane.proofs.Collinear.{place_on}
 use Rattle.plane_tiling.proofs.Counting.{at, same_place}
 use Rattle.plane_tiling.proofs.Edges.{turned_within, within_on}
 use Rattle.plane_tiling.proofs.Places.{same_within, bracket_at, one_vertex_at}
-use Rattle.plane.proofs.Steps.{left_not_zero, negated_left}
+use Rattle.plane.proofs.Steps.{left_not_zero, negated_left, no_difference}
 use Rattle.plane.proofs.LineOrder.{ahead, AreOneSign, within_if_ahead, ahead_if_within, same_if_level, level_if_same}
 use Rattle.plane_tiling.proofs.Line.{SignLine, IsNext, next_turned, flat}
+use Rattle.plane.proofs.Signs.{at_most_both_ways, at_most_then_less, below_and_not_below, less_by_negations, less_by_negative_difference, less_if_not_same, less_in_a_ring, less_is_not_same, less_twice_is_not_same, more_by_difference, same_have_no_difference, same_is_at_most, same_is_not_less}
 
 -- ---- the greatest number below a bound
 -- k has the greatest number below t
@@ -32,31 +33,22 @@ nearest_below f (suc n) t = go (nearest_below f n t) (lt_or_ge_ℤ (f n) t)
     last_or : (j : ℕ) → j < suc n → (j < n) ⊎ (j ≡ n)
     last_or j h = grind arith
 
-    same_le : (a b : ℤ) → a ≡ b → a ≤ℤ b
-    same_le a b e = omega (arith, ints)
-
-    then_le : (a b c : ℤ) → a ≤ℤ b → b <ℤ c → a ≤ℤ c
-    then_le a b c h k = omega (arith, ints)
-
-    clash : (a b : ℤ) → a <ℤ b → b ≤ℤ a → ⊥
-    clash a b h k = omega (arith, ints)
-
     at_last : (f n <ℤ t) → ((j : ℕ) → j < n → f j <ℤ t → f j ≤ℤ f n) → (k : ℕ) × IsBelow f (suc n) t k
-    at_last l top = (n, record { index = omega arith; below = l; top = λ j i b. elim (last_or j i) [ inl h ↦ top j h b | inr e ↦ same_le (f j) (f n) (ap f e) ] })
+    at_last l top = (n, record { index = omega arith; below = l; top = λ j i b. elim (last_or j i) [ inl h ↦ top j h b | inr e ↦ same_is_at_most (f j) (f n) (ap f e) ] })
 
     go : ((k : ℕ) × IsBelow f n t k) ⊎ ((j : ℕ) → j < n → t ≤ℤ f j) → (f n <ℤ t) ⊎ (t ≤ℤ f n) → ((k : ℕ) × IsBelow f (suc n) t k) ⊎ ((j : ℕ) → j < suc n → t ≤ℤ f j)
     go (inl (k, s)) (inl l) = inl (elim (lt_or_ge_ℤ (f k) (f n)) [
-      | inl h ↦ at_last l (λ j i b. then_le (f j) (f k) (f n) (s.top j i b) h)
+      | inl h ↦ at_last l (λ j i b. at_most_then_less (f j) (f k) (f n) (s.top j i b) h)
       | inr h ↦ (k, record { index = wide s.index; below = s.below; top = λ j i b. elim (last_or j i) [ inl x ↦ s.top j x b | inr e ↦ subst (λ o. f o ≤ℤ f k) (sym e) h ] })
     ])
       where
         wide : k < n → k < suc n
         wide h = omega arith
-    go (inl (k, s)) (inr l) = inl (k, record { index = wide s.index; below = s.below; top = λ j i b. elim (last_or j i) [ inl x ↦ s.top j x b | inr e ↦ absurd (clash (f n) t (subst (λ o. f o <ℤ t) e b) l) ] })
+    go (inl (k, s)) (inr l) = inl (k, record { index = wide s.index; below = s.below; top = λ j i b. elim (last_or j i) [ inl x ↦ s.top j x b | inr e ↦ absurd (below_and_not_below (f n) t (subst (λ o. f o <ℤ t) e b) l) ] })
       where
         wide : k < n → k < suc n
         wide h = omega arith
-    go (inr none) (inl l) = inl (at_last l (λ j i b. absurd (clash (f j) t b (none j i))))
+    go (inr none) (inl l) = inl (at_last l (λ j i b. absurd (below_and_not_below (f j) t b (none j i))))
     go (inr none) (inr l) = inr (λ j i. elim (last_or j i) [ inl x ↦ none j x | inr e ↦ subst (λ o. t ≤ℤ f o) (sym e) l ])
 
 -- ---- steps on numbers
@@ -138,10 +130,7 @@ module _ (n : ℕ) (p : ℕ → Point) (outer : List (ℕ × ℕ)) (m : SignLine
         mul_same a b e = mul_cancel_ℤ (pos-ne-zero_ℤ y.positive) e
 
     at_spot : (k : ℕ) → k < n → spot k ≡ mark → IsAtPoint
-    at_spot k h e = record { v = k; index = h; same = same_if_level (p c) (p d) apart y (whole (p k)) level (levels k h) (to_vertex k ∙ none (spot k) mark e) }
-      where
-        none : (a b : ℤ) → a ≡ b → a -ℤ b ≡ pos 0
-        none a b e = omega (arith, ints)
+    at_spot k h e = record { v = k; index = h; same = same_if_level (p c) (p d) apart y (whole (p k)) level (levels k h) (to_vertex k ∙ same_have_no_difference (spot k) mark e) }
 
     pub spot_at : (k : ℕ) → IsSame y (whole (p k)) → spot k ≡ mark
     spot_at k s = equal (ahead (p c) (p d) y (whole (p k))) (spot k) mark (to_vertex k) (level_if_same (p c) (p d) y (whole (p k)) s)
@@ -184,35 +173,24 @@ module _ (n : ℕ) (p : ℕ → Point) (outer : List (ℕ × ℕ)) (m : SignLine
     -- next below a vertex that has one below it
     pub lower_edge : (k : ℕ) → k < n → (j : ℕ) → IsBelow spot n (spot k) j → Contains outer (k, j)
     lower_edge k h j s = (m.neighbours k j).1 (record {
-      apart = λ e. level_clash (spot j) (spot k) s.below (ap spot (sym e));
+      apart = λ e. less_is_not_same (spot j) (spot k) s.below (ap spot (sym e));
       first = h;
       second = s.index;
       none_between = λ i hi w. none i hi (order_k k j i w);
     })
       where
-        level_clash : (a b : ℤ) → a <ℤ b → a ≡ b → ⊥
-        level_clash a b h e = omega (arith, ints)
-
-        clash : (a b : ℤ) → a <ℤ b → b ≤ℤ a → ⊥
-        clash a b h k = omega (arith, ints)
-
-        chain : (a b c : ℤ) → a <ℤ b → b <ℤ c → c <ℤ a → ⊥
-        chain a b c h k l = omega (arith, ints)
 
         none : (i : ℕ) → i < n → ((spot k <ℤ spot i) × (spot i <ℤ spot j)) ⊎ (((spot j <ℤ spot i) × (spot i <ℤ spot k)) ⊎ ((spot k ≡ spot i) × (spot i ≡ spot j))) → ⊥
-        none i hi (inl o) = chain (spot k) (spot i) (spot j) o.0 o.1 s.below
-        none i hi (inr (inl o)) = clash (spot j) (spot i) o.0 (s.top i hi o.1)
-        none i hi (inr (inr o)) = level_clash (spot j) (spot k) s.below (sym (o.0 ∙ o.1))
+        none i hi (inl o) = less_in_a_ring (spot k) (spot i) (spot j) o.0 o.1 s.below
+        none i hi (inr (inl o)) = below_and_not_below (spot j) (spot i) o.0 (s.top i hi o.1)
+        none i hi (inr (inr o)) = less_is_not_same (spot j) (spot k) s.below (sym (o.0 ∙ o.1))
 
     -- some vertex has an edge
     some_edge : (i j : ℕ) × Contains outer (i, j)
     some_edge = go (lt_or_ge_ℤ (spot c) (spot d))
       where
         below : (a b : ℕ) → a < n → b < n → spot a <ℤ spot b → (i j : ℕ) × Contains outer (i, j)
-        below a b ha hb l = elim (nearest_below spot n (spot b)) [ inl s ↦ (b, s.0, lower_edge b hb s.0 s.1) | inr none ↦ absurd (clash (spot a) (spot b) l (none a ha)) ]
-          where
-            clash : (a b : ℤ) → a <ℤ b → b ≤ℤ a → ⊥
-            clash a b h k = omega (arith, ints)
+        below a b ha hb l = elim (nearest_below spot n (spot b)) [ inl s ↦ (b, s.0, lower_edge b hb s.0 s.1) | inr none ↦ absurd (below_and_not_below (spot a) (spot b) l (none a ha)) ]
 
         strict : (a b : ℤ) → b ≤ℤ a → (b <ℤ a) ⊎ (a ≡ b)
         strict a b h = elim (lt_or_ge_ℤ b a) [ inl l ↦ inl l | inr l ↦ inr (omega (arith, ints)) ]
@@ -230,12 +208,9 @@ module _ (n : ℕ) (p : ℕ → Point) (outer : List (ℕ × ℕ)) (m : SignLine
           j = e.0;
           edge = e.1;
           out = inr (λ j hj other. turned_within (whole (p j)) y (whole (p k)) (within_if_ahead (p c) (p d) apart (whole (p j)) y (whole (p k)) (levels j hj) level (levels k h)
-              (vertices_ahead j k (strict (spot j) (spot k) (top j hj) (λ e. other (same_spot j k hj h e)))) (from_difference (ahead (p c) (p d) (whole (p k)) y) mark (spot k) (from_vertex k) l)));
+              (vertices_ahead j k (less_if_not_same (spot j) (spot k) (top j hj) (λ e. other (same_spot j k hj h e)))) (from_difference (ahead (p c) (p d) (whole (p k)) y) mark (spot k) (from_vertex k) l)));
         }
       where
-        strict : (a b : ℤ) → a ≤ℤ b → ¬ (a ≡ b) → a <ℤ b
-        strict a b h n = elim (lt_or_ge_ℤ a b) [ inl l ↦ l | inr l ↦ absurd (n (omega (arith, ints))) ]
-
         level_with : (a b t : ℤ) → a ≤ℤ t → t ≤ℤ a → b ≤ℤ t → t ≤ℤ b → a ≡ b
         level_with a b t h k i j = omega (arith, ints)
 
@@ -258,19 +233,14 @@ module _ (n : ℕ) (p : ℕ → Point) (outer : List (ℕ × ℕ)) (m : SignLine
           i = k;
           j = j;
           edge = (m.neighbours k j).1 (record {
-            apart = λ e. level_clash (spot k) mark (spot j) l (back (spot j) mark t.below) (ap spot e);
+            apart = λ e. less_twice_is_not_same (spot k) mark (spot j) l (less_by_negations (spot j) mark t.below) (ap spot e);
             first = s.index;
             second = t.index;
             none_between = λ i hi w. none i hi (order_k k j i w);
           });
-          within = within_y k j s.index t.index l (back (spot j) mark t.below);
+          within = within_y k j s.index t.index l (less_by_negations (spot j) mark t.below);
         })
           where
-            back : (a b : ℤ) → (pos 0 -ℤ a) <ℤ (pos 0 -ℤ b) → b <ℤ a
-            back a b h = omega (arith, ints)
-
-            level_clash : (a b c : ℤ) → a <ℤ b → b <ℤ c → a ≡ c → ⊥
-            level_clash a b c h k e = omega (arith, ints)
 
             chain : (a b c t : ℤ) → a <ℤ t → t <ℤ b → c <ℤ a → b <ℤ c → ⊥
             chain a b c t h k l n = omega (arith, ints)
@@ -280,8 +250,8 @@ module _ (n : ℕ) (p : ℕ → Point) (outer : List (ℕ × ℕ)) (m : SignLine
 
             none : (i : ℕ) → i < n → ((spot k <ℤ spot i) × (spot i <ℤ spot j)) ⊎ (((spot j <ℤ spot i) × (spot i <ℤ spot k)) ⊎ ((spot k ≡ spot i) × (spot i ≡ spot j))) → ⊥
             none i hi (inl o) = middle (spot k) (spot j) mark (spot i) o.0 o.1 (s.top i hi) (t.top i hi)
-            none i hi (inr (inl o)) = chain (spot k) (spot j) (spot i) mark l (back (spot j) mark t.below) o.1 o.0
-            none i hi (inr (inr o)) = level_clash (spot k) mark (spot j) l (back (spot j) mark t.below) (o.0 ∙ o.1)
+            none i hi (inr (inl o)) = chain (spot k) (spot j) (spot i) mark l (less_by_negations (spot j) mark t.below) o.1 o.0
+            none i hi (inr (inr o)) = less_twice_is_not_same (spot k) mark (spot j) l (less_by_negations (spot j) mark t.below) (o.0 ∙ o.1)
         within k s l (inr none) = inr (past_last k s.index l (λ j hj. s.top j hj (low (spot j) mark (none j hj))))
           where
             low : (a b : ℤ) → (pos 0 -ℤ b) ≤ℤ (pos 0 -ℤ a) → a <ℤ (b +ℤ pos 1)
@@ -298,27 +268,18 @@ module _ (n : ℕ) (p : ℕ → Point) (outer : List (ℕ × ℕ)) (m : SignLine
         through : (a b s t k : ℤ) → (a <ℤ k) × (k <ℤ b) → (s <ℤ k) × (k <ℤ t) → (a <ℤ t) × (s <ℤ b)
         through a b s t k x z = (omega (arith, ints), omega (arith, ints))
 
-        less : (a b : ℤ) → (a -ℤ b) <ℤ pos 0 → a <ℤ b
-        less a b h = omega (arith, ints)
-
-        more : (a b : ℤ) → pos 0 <ℤ (a -ℤ b) → b <ℤ a
-        more a b h = omega (arith, ints)
-
-        equal : (a b : ℤ) → a -ℤ b ≡ pos 0 → a ≡ b
-        equal a b h = omega (arith, ints)
-
         across : (spot a <ℤ spot t) × (spot s <ℤ spot b)
         across = through (spot a) (spot b) (spot s) (spot t) mark x z
 
         first : ((spot a -ℤ spot s) <ℤ pos 0) ⊎ ((spot a -ℤ spot s ≡ pos 0) ⊎ (pos 0 <ℤ (spot a -ℤ spot s))) → a ≡ s
-        first (inl h) = absurd (f.none_between s g.first (within_k a b s f.first f.second g.first (less (spot a) (spot s) h) across.1))
-        first (inr (inl h)) = same_spot a s f.first g.first (equal (spot a) (spot s) h)
-        first (inr (inr h)) = absurd (g.none_between a f.first (within_k s t a g.first g.second f.first (more (spot a) (spot s) h) across.0))
+        first (inl h) = absurd (f.none_between s g.first (within_k a b s f.first f.second g.first (less_by_negative_difference (spot a) (spot s) h) across.1))
+        first (inr (inl h)) = same_spot a s f.first g.first (no_difference (spot a) (spot s) h)
+        first (inr (inr h)) = absurd (g.none_between a f.first (within_k s t a g.first g.second f.first (more_by_difference (spot a) (spot s) h) across.0))
 
         second : ((spot b -ℤ spot t) <ℤ pos 0) ⊎ ((spot b -ℤ spot t ≡ pos 0) ⊎ (pos 0 <ℤ (spot b -ℤ spot t))) → b ≡ t
-        second (inl h) = absurd (g.none_between b f.second (within_k s t b g.first g.second f.second across.1 (less (spot b) (spot t) h)))
-        second (inr (inl h)) = same_spot b t f.second g.second (equal (spot b) (spot t) h)
-        second (inr (inr h)) = absurd (f.none_between t g.second (within_k a b t f.first f.second g.second across.0 (more (spot b) (spot t) h)))
+        second (inl h) = absurd (g.none_between b f.second (within_k s t b g.first g.second f.second across.1 (less_by_negative_difference (spot b) (spot t) h)))
+        second (inr (inl h)) = same_spot b t f.second g.second (no_difference (spot b) (spot t) h)
+        second (inr (inr h)) = absurd (f.none_between t g.second (within_k a b t f.first f.second g.second across.0 (more_by_difference (spot b) (spot t) h)))
 
     -- on two edges: they are one
     one_edge : (a b s t : ℕ) → IsNext n p a b → IsNext n p s t → WithinSegment (whole (p a)) (whole (p b)) y → WithinSegment (whole (p s)) (whole (p t)) y → IsSamePair s t a b
@@ -363,19 +324,13 @@ module _ (n : ℕ) (p : ℕ → Point) (outer : List (ℕ × ℕ)) (m : SignLine
           low t a b l (inr (inr o)) = absurd (let q = o.0 in omega (arith, ints))
 
       one_sided : ((k : ℕ) → k < n → mark <ℤ spot k) ⊎ ((k : ℕ) → k < n → spot k <ℤ mark)
-      one_sided = elim (lt_or_ge_ℤ mark (spot i)) [ inl l ↦ inl (others_high l) | inr l ↦ elim (lt_or_ge_ℤ (spot i) mark) [ inl k ↦ inr (others_low k) | inr k ↦ absurd (past_apart i j e beyond (level_with (spot i) mark l k)) ] ]
-        where
-          level_with : (a b : ℤ) → a ≤ℤ b → b ≤ℤ a → a ≡ b
-          level_with a b h k = omega (arith, ints)
+      one_sided = elim (lt_or_ge_ℤ mark (spot i)) [ inl l ↦ inl (others_high l) | inr l ↦ elim (lt_or_ge_ℤ (spot i) mark) [ inl k ↦ inr (others_low k) | inr k ↦ absurd (past_apart i j e beyond (at_most_both_ways (spot i) mark l k)) ] ]
 
       vertex_not_past : (v : ℕ) → v < n → IsSame y (whole (p v)) → ⊥
-      vertex_not_past v h s = elim one_sided [ inl o ↦ above (spot v) mark (spot_at v s) (o v h) | inr o ↦ under (spot v) mark (spot_at v s) (o v h) ]
+      vertex_not_past v h s = elim one_sided [ inl o ↦ above (spot v) mark (spot_at v s) (o v h) | inr o ↦ same_is_not_less (spot v) mark (spot_at v s) (o v h) ]
         where
           above : (a b : ℤ) → a ≡ b → b <ℤ a → ⊥
           above a b h k = omega (arith, ints)
-
-          under : (a b : ℤ) → a ≡ b → a <ℤ b → ⊥
-          under a b h k = omega (arith, ints)
 
       edge_not_past : (a b : ℕ) → a < n → b < n → WithinSegment (whole (p a)) (whole (p b)) y → ⊥
       edge_not_past a b ha hb w = elim one_sided [ inl o ↦ above (spot a) (spot b) mark (o a ha) (o b hb) (order_y a b w) | inr o ↦ under (spot a) (spot b) mark (o a ha) (o b hb) (order_y a b w) ]

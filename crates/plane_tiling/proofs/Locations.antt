@@ -2,7 +2,6 @@
 use Rattle.std.proofs.Common.{◌≡◌, ◌⊎◌, ℕ, ◌<◌, ◌≤◌, List, [], length, sym, subst, arith}
 use mathlib.Core.Logic.{inl, inr, ◌≢◌}
 use Rattle.std.specs.Prelude.{ℤ, ◌*ℤ◌, ◌<ℤ◌, ◌≤ℤ◌, Contains}
-use Rattle.std.proofs.lemmas.Int.{ints}
 use Rattle.std.proofs.lemmas.Bool.{cases_lt}
 use Rattle.plane.proofs.IntegerOrder.{lt_or_ge_ℤ}
 use Rattle.plane.specs.Fraction.{Point, Fraction, IsSame}
@@ -22,6 +21,7 @@ use Rattle.plane_tiling.proofs.Places as P
 use Rattle.plane_tiling.proofs.Line.{SignLine, IsNext}
 use Rattle.plane_tiling.proofs.LineMeshes.{line_by_signs}
 use Rattle.plane_tiling.proofs.LinePlaces as O
+use Rattle.plane.proofs.Signs.{at_most_both_ways, less_is_not_same}
 
 -- ---- in the plane
 module _ (points : List Point) (faces : List Face) (outer edges : List (ℕ × ℕ)) (m : LocalMesh points faces outer) (own : AreEdgesOf faces outer edges) where
@@ -116,13 +116,7 @@ same_or_not : (a b : Fraction) → IsSame a b ⊎ (¬ IsSame a b)
 same_or_not a b = go (decide (a.x *ℤ b.w) (b.x *ℤ a.w)) (decide (a.y *ℤ b.w) (b.y *ℤ a.w))
   where
     decide : (x z : ℤ) → (x ≡ z) ⊎ (¬ (x ≡ z))
-    decide x z = elim (lt_or_ge_ℤ x z) [ inl l ↦ inr (λ e. below x z l e) | inr l ↦ elim (lt_or_ge_ℤ z x) [ inl k ↦ inr (λ e. below z x k (sym e)) | inr k ↦ inl (level x z k l) ] ]
-      where
-        below : (x z : ℤ) → x <ℤ z → x ≡ z → ⊥
-        below x z l e = omega (arith, ints)
-
-        level : (x z : ℤ) → x ≤ℤ z → z ≤ℤ x → x ≡ z
-        level x z h k = omega (arith, ints)
+    decide x z = elim (lt_or_ge_ℤ x z) [ inl l ↦ inr (λ e. less_is_not_same x z l e) | inr l ↦ elim (lt_or_ge_ℤ z x) [ inl k ↦ inr (λ e. less_is_not_same z x k (sym e)) | inr k ↦ inl (at_most_both_ways x z k l) ] ]
 
     go : (a.x *ℤ b.w ≡ b.x *ℤ a.w) ⊎ (¬ (a.x *ℤ b.w ≡ b.x *ℤ a.w)) → (a.y *ℤ b.w ≡ b.y *ℤ a.w) ⊎ (¬ (a.y *ℤ b.w ≡ b.y *ℤ a.w)) → IsSame a b ⊎ (¬ IsSame a b)
     go (inl e) (inl f) = inl (record { x = e; y = f })

@@ -18,9 +18,7 @@ use Rattle.plane_tiling.proofs.Flows.{is_pair, is_pair_nonneg, is_pair_is, is_pa
 use Rattle.plane_tiling.proofs.Counting.{at, SignMesh, corners_differ}
 use Rattle.plane_tiling.proofs.Covering as C
 use Rattle.plane_tiling.proofs.Tiles.{by_signs, point_at, tiles}
-
-one_is_positive : {z : ℤ} → z ≡ pos 1 → pos 0 <ℤ z
-one_is_positive e = omega (arith, ints)
+use Rattle.plane.proofs.Signs.{one_is_above_zero, sum_not_negative, sum_of_zeros}
 
 pub sum_of_bits : (a b c : ℤ) → (a ≡ pos 0) ⊎ (a ≡ pos 1) → (b ≡ pos 0) ⊎ (b ≡ pos 1) → (c ≡ pos 0) ⊎ (c ≡ pos 1) → (pos 0 <ℤ a → pos 0 <ℤ b → ⊥) → (pos 0 <ℤ a → pos 0 <ℤ c → ⊥) → (pos 0 <ℤ b → pos 0 <ℤ c → ⊥)
     → (a +ℤ b +ℤ c ≡ pos 0) ⊎ (a +ℤ b +ℤ c ≡ pos 1)
@@ -37,9 +35,9 @@ sum_of_bits a b c (inl x) (inl y) (inr z) n l m = inr (by x y z)
   where
     by : a ≡ pos 0 → b ≡ pos 0 → c ≡ pos 1 → a +ℤ b +ℤ c ≡ pos 1
     by x y z = omega (arith, ints)
-sum_of_bits a b c (inr x) (inr y) z n l m = absurd (n (one_is_positive x) (one_is_positive y))
-sum_of_bits a b c (inr x) (inl y) (inr z) n l m = absurd (l (one_is_positive x) (one_is_positive z))
-sum_of_bits a b c (inl x) (inr y) (inr z) n l m = absurd (m (one_is_positive y) (one_is_positive z))
+sum_of_bits a b c (inr x) (inr y) z n l m = absurd (n (one_is_above_zero x) (one_is_above_zero y))
+sum_of_bits a b c (inr x) (inl y) (inr z) n l m = absurd (l (one_is_above_zero x) (one_is_above_zero z))
+sum_of_bits a b c (inl x) (inr y) (inr z) n l m = absurd (m (one_is_above_zero y) (one_is_above_zero z))
 
 -- f has the side from u to v, and c as its third corner
 abbrev pub IsFaceOn : ℕ → ℕ → ℕ → Face → Type 0
@@ -58,9 +56,6 @@ sums_at_most a b h k = omega (arith, ints)
 
 sums_at_most' : (a b : ℤ) → a ≤ℤ pos 0 → b ≤ℤ pos 1 → (a +ℤ b) ≤ℤ pos 1
 sums_at_most' a b h k = omega (arith, ints)
-
-both_nonneg : (a b : ℤ) → pos 0 ≤ℤ a → pos 0 ≤ℤ b → pos 0 ≤ℤ (a +ℤ b)
-both_nonneg a b h k = omega (arith, ints)
 
 first_at_least : (a b : ℤ) → a ≡ pos 1 → pos 0 ≤ℤ b → pos 1 ≤ℤ (a +ℤ b)
 first_at_least a b h k = omega (arith, ints)
@@ -89,7 +84,7 @@ abbrev ways : ℕ → ℕ → ℕ × ℕ → ℤ
 ways u v e = is_pair u v e.0 e.1 +ℤ is_pair u v e.1 e.0
 
 ways_nonneg : (u v : ℕ) (e : ℕ × ℕ) → pos 0 ≤ℤ ways u v e
-ways_nonneg u v e = both_nonneg (is_pair u v e.0 e.1) (is_pair u v e.1 e.0) (is_pair_nonneg u v e.0 e.1) (is_pair_nonneg u v e.1 e.0)
+ways_nonneg u v e = sum_not_negative (is_pair u v e.0 e.1) (is_pair u v e.1 e.0) (is_pair_nonneg u v e.0 e.1) (is_pair_nonneg u v e.1 e.0)
 
 -- ---- edges whose ways are the sides of faces and the outer edges
 module _ (faces : List Face) (outer edges : List (ℕ × ℕ)) (own : AreEdgesOf faces outer edges) where
@@ -144,24 +139,21 @@ listed_once outer once u v = total_at_most_one (along (is_pair u v)) outer (λ e
   where
     twice : (k l : ℕ) (d : ℕ × ℕ) → k < l → l < length outer → along (is_pair u v) (get_or outer k d) ≡ pos 1 → along (is_pair u v) (get_or outer l d) ≡ pos 1 → ⊥
     twice k l d low high e e' =
-        let a = pair_found u v (get_or outer k d).0 (get_or outer k d).1 (one_is_positive e) in
-        let b = pair_found u v (get_or outer l d).0 (get_or outer l d).1 (one_is_positive e') in
+        let a = pair_found u v (get_or outer k d).0 (get_or outer k d).1 (one_is_above_zero e) in
+        let b = pair_found u v (get_or outer l d).0 (get_or outer l d).1 (one_is_above_zero e') in
         once k l d low high (λ i. ((a.0 ∙ sym b.0) i, (a.1 ∙ sym b.1) i))
 
 module _ (n : ℕ) (p : ℕ → Point) (faces : List Face) (outer : List (ℕ × ℕ)) (m : SignMesh n p faces outer) where
   -- a face on u v, near u v, holds a point near the middle of u v, towards a left point
   pub beside : (u v c : ℕ) → u < n → v < n → c < n → pos 0 <ℤ bracket (at p u) (at p v) (at p c) → (d z : Vec3) → pos 0 <ℤ bracket (at p u) (at p v) d → IsNudged n p (moved (pos 1) (at p u) (at p v)) d z → Inside (at p u) (at p v) (at p c) z
   beside u v c hu hv hc turns d z left s = record {
-    first = subst (λ y. pos 0 <ℤ y) (sym ((s.sides u v hu hv).on (bracket-moved (at p u) (at p v) (pos 1) (at p u) (at p v) ∙ none (pos 1 *ℤ bracket (at p u) (at p v) (at p u)) (bracket (at p u) (at p v) (at p v)) (zero-mul_ℤ (pos 1) (bracket-outer (at p u) (at p v))) (bracket-last (at p u) (at p v))))) left;
+    first = subst (λ y. pos 0 <ℤ y) (sym ((s.sides u v hu hv).on (bracket-moved (at p u) (at p v) (pos 1) (at p u) (at p v) ∙ sum_of_zeros (pos 1 *ℤ bracket (at p u) (at p v) (at p u)) (bracket (at p u) (at p v) (at p v)) (zero-mul_ℤ (pos 1) (bracket-outer (at p u) (at p v))) (bracket-last (at p u) (at p v))))) left;
     second = (s.sides v c hv hc).left (subst (λ y. pos 0 <ℤ y) (sym (drop_zero_last (bracket (at p v) (at p c) (moved (pos 1) (at p u) (at p v))) (pos 1 *ℤ bracket (at p v) (at p c) (at p u)) (bracket (at p v) (at p c) (at p v)) (bracket-moved (at p v) (at p c) (pos 1) (at p u) (at p v)) (bracket-outer (at p v) (at p c))))
         (once (bracket (at p v) (at p c) (at p u)) (subst (λ y. pos 0 <ℤ y) (bracket-turn (at p u) (at p v) (at p c)) turns)));
     third = (s.sides c u hc hu).left (subst (λ y. pos 0 <ℤ y) (sym (drop_zero (bracket (at p c) (at p u) (moved (pos 1) (at p u) (at p v))) (pos 1 *ℤ bracket (at p c) (at p u) (at p u)) (bracket (at p c) (at p u) (at p v)) (bracket-moved (at p c) (at p u) (pos 1) (at p u) (at p v)) (zero-mul_ℤ (pos 1) (bracket-last (at p c) (at p u)))))
         (subst (λ y. pos 0 <ℤ y) (bracket-turn (at p u) (at p v) (at p c) ∙ bracket-turn (at p v) (at p c) (at p u)) turns));
   }
     where
-      none : (a b : ℤ) → a ≡ pos 0 → b ≡ pos 0 → a +ℤ b ≡ pos 0
-      none a b e d = omega (arith, ints)
-
       once : (a : ℤ) → pos 0 <ℤ a → pos 0 <ℤ (pos 1 *ℤ a)
       once a h = omega (arith, ints)
 
@@ -190,8 +182,8 @@ module _ (n : ℕ) (p : ℕ → Point) (faces : List Face) (outer : List (ℕ ×
       twice k l d low high e e' =
           let f = get_or faces k d in
           let g = get_or faces l d in
-          let a = face_on u v f (one_is_positive e) in
-          let b = face_on u v g (one_is_positive e') in
+          let a = face_on u v f (one_is_above_zero e) in
+          let b = face_on u v g (one_is_above_zero e') in
           let s = turn_on u v a.0 f a.1 (k, omega arith, get_or_any faces k f d (omega arith)) in
           let t = turn_on u v b.0 g b.1 (l, high, get_or_any faces l g d high) in
           let i = C.turn_corners n p faces outer m u v a.0 s in

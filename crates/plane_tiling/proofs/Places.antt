@@ -20,6 +20,7 @@ use Rattle.plane_tiling.proofs.Flows.{IsTurnOf, HasSide, turned}
 use Rattle.plane_tiling.proofs.Counting.{at, SignMesh, corners_differ, same_index}
 use Rattle.plane_tiling.proofs.Covering as C
 use Rattle.plane_tiling.proofs.Edges as E
+use Rattle.plane_tiling.proofs.Covering.{next_corner}
 
 -- y is on two sides of a triangle: at their corner
 record IsAtCorner (j : Point) (q : Fraction) : Type 0 where
@@ -88,11 +89,6 @@ within_of i j k y turns a b c = mean_of_two IsPositive (whole i) (whole j) y (re
   y = sum_first_two (bracket (lift i) (lift j) (lift k) *ℤ y.y) (bracket (lift j) (lift k) (vec y) *ℤ i.y) (bracket (lift k) (lift i) (vec y) *ℤ j.y) (bracket (lift i) (lift j) (vec y) *ℤ k.y) (cramer_y (lift i) (lift j) (lift k) (vec y)) (product_zero_left k.y a);
   w = sum_first_two (bracket (lift i) (lift j) (lift k) *ℤ y.w) (bracket (lift j) (lift k) (vec y) *ℤ pos 1) (bracket (lift k) (lift i) (vec y) *ℤ pos 1) (bracket (lift i) (lift j) (vec y) *ℤ pos 1) (cramer_w (lift i) (lift j) (lift k) (vec y)) (product_zero_left (pos 1) a);
 })
-
-rotate : {A B C : Type 0} → A ⊎ (B ⊎ C) → C ⊎ (A ⊎ B)
-rotate (inl a) = inr (inl a)
-rotate (inr (inl b)) = inr (inr b)
-rotate (inr (inr c)) = inl c
 
 module _ (n : ℕ) (p : ℕ → Point) (faces : List Face) (outer : List (ℕ × ℕ)) (m : SignMesh n p faces outer) where
   abbrev IsCornerOf : ℕ → ℕ → ℕ → ℕ → Type 0
@@ -252,8 +248,8 @@ module _ (n : ℕ) (p : ℕ → Point) (faces : List Face) (outer : List (ℕ ×
         go (inl x) (inr y) (inl z) = absurd (corner k i j h z x)
         go (inl x) (inr y) (inr z) = side i j k f x y z
         go (inr x) (inl y) (inl z) = absurd (corner j k i g y z)
-        go (inr x) (inl y) (inr z) = let s = side j k i g y z x in (rotate s.0, rotate s.1)
-        go (inr x) (inr y) (inl z) = let s = side k i j h z x y in (rotate (rotate s.0), rotate (rotate s.1))
+        go (inr x) (inl y) (inr z) = let s = side j k i g y z x in (next_corner s.0, next_corner s.1)
+        go (inr x) (inr y) (inl z) = let s = side k i j h z x y in (next_corner (next_corner s.0), next_corner (next_corner s.1))
         go (inr x) (inr y) (inr z) = absurd (side_not_inside o (record { i = i; j = j; k = k; here = f; inside = record { first = x; second = y; third = z } }))
 
 -- ---- in one way alone

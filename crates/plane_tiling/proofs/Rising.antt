@@ -12,6 +12,8 @@ use Rattle.plane_tiling.specs.Local.{total, around, along, AreEdgesOf}
 use Rattle.plane.proofs.IntegerOrder.{lt_or_ge_ℤ}
 use Rattle.plane_tiling.proofs.Flows.{bit, bit_is, bit_nonneg, is_true}
 use Rattle.plane_tiling.proofs.Totals.{total_at_least, total_agree, total-sum, total_exchanged}
+use Rattle.plane.proofs.Signs.{at_most_both_ways, at_most_then_less, less_both_ways, less_in_a_ring, same_is_at_most, same_plus_zero, zero_plus_same}
+use Rattle.plane.proofs.Sides.{test_false}
 
 -- ---- the greatest of some numbers
 pub greatest : (f : ℕ → ℤ) (n : ℕ) → 0 < n → (k : ℕ) × (k < n) × ((j : ℕ) → j < n → f j ≤ℤ f k)
@@ -21,12 +23,6 @@ greatest f (suc n) h = go (cases_lt 0 n) (greatest f n)
     last_or : (j : ℕ) → j < suc n → (j < n) ⊎ (j ≡ n)
     last_or j h = grind arith
 
-    same_le : (a b : ℤ) → a ≡ b → a ≤ℤ b
-    same_le a b e = omega (arith, ints)
-
-    then_le : (a b c : ℤ) → a ≤ℤ b → b <ℤ c → a ≤ℤ c
-    then_le a b c h k = omega (arith, ints)
-
     wide : {k : ℕ} → k < n → k < suc n
     wide h = omega arith
 
@@ -35,23 +31,20 @@ greatest f (suc n) h = go (cases_lt 0 n) (greatest f n)
 
     longer : (k : ℕ) × (k < n) × ((j : ℕ) → j < n → f j ≤ℤ f k) → (k : ℕ) × (k < suc n) × ((j : ℕ) → j < suc n → f j ≤ℤ f k)
     longer (k, h, top) = elim (lt_or_ge_ℤ (f k) (f n)) [
-      | inl l ↦ (n, omega arith, λ j i. elim (last_or j i) [ inl b ↦ then_le (f j) (f k) (f n) (top j b) l | inr e ↦ same_le (f j) (f n) (ap f e) ])
+      | inl l ↦ (n, omega arith, λ j i. elim (last_or j i) [ inl b ↦ at_most_then_less (f j) (f k) (f n) (top j b) l | inr e ↦ same_is_at_most (f j) (f n) (ap f e) ])
       | inr l ↦ (k, wide h, λ j i. elim (last_or j i) [ inl b ↦ top j b | inr e ↦ subst (λ o. f o ≤ℤ f k) (sym e) l ])
     ]
 
     go : (0 < n) ⊎ (n ≤ 0) → (0 < n → (k : ℕ) × (k < n) × ((j : ℕ) → j < n → f j ≤ℤ f k)) → (k : ℕ) × (k < suc n) × ((j : ℕ) → j < suc n → f j ≤ℤ f k)
     go (inl l) rest = longer (rest l)
-    go (inr l) rest = (n, omega arith, λ j i. elim (last_or j i) [ inl b ↦ absurd (none b l) | inr e ↦ same_le (f j) (f n) (ap f e) ])
+    go (inr l) rest = (n, omega arith, λ j i. elim (last_or j i) [ inl b ↦ absurd (none b l) | inr e ↦ same_is_at_most (f j) (f n) (ap f e) ])
 
 -- ---- tests
 pub rises_if : (a b : ℤ) → a <ℤ b → int_lt a b ≡ true
 rises_if a b h = grind (arith, ints)
 
-pub falls_if : (a b : ℤ) → b ≤ℤ a → int_lt a b ≡ false
-falls_if a b h = grind (arith, ints)
-
 pub if_rises : (a b : ℤ) → int_lt a b ≡ true → a <ℤ b
-if_rises a b e = elim (lt_or_ge_ℤ a b) [ inl l ↦ l | inr l ↦ absurd (let f = falls_if a b l in cc) ]
+if_rises a b e = elim (lt_or_ge_ℤ a b) [ inl l ↦ l | inr l ↦ absurd (let f = test_false a b l in cc) ]
 
 pub if_falls : (a b : ℤ) → int_lt a b ≡ false → b ≤ℤ a
 if_falls a b e = elim (lt_or_ge_ℤ a b) [ inl l ↦ absurd (let f = rises_if a b l in cc) | inr l ↦ l ]
@@ -88,16 +81,10 @@ at_other b v s n = λ i. bit (not_equal v s n i && b)
 at_own : (b : Bool) (v s : ℕ) → v ≡ s → bit (eqb v s && b) ≡ bit b
 at_own b v s e = (λ i. bit (eqb (e i) s && b)) ∙ (λ i. bit (equal s i && b))
 
-none_and_one : (a b c : ℤ) → a ≡ pos 0 → b ≡ c → a +ℤ b ≡ c
-none_and_one a b c e d = omega (arith, ints)
-
-one_and_none : (a b c : ℤ) → a ≡ c → b ≡ pos 0 → a +ℤ b ≡ c
-one_and_none a b c e d = omega (arith, ints)
-
 none_of_first : (b : Bool) (n s : ℕ) → n < suc s → total (λ v. bit (eqb v s && b)) (first n) ≡ pos 0
 unfolding first
 none_of_first b zero s h = refl
-none_of_first b (suc n) s h = none_and_one (bit (eqb n s && b)) (total (λ v. bit (eqb v s && b)) (first n)) (pos 0) (at_other b n s (omega arith)) (none_of_first b n s (omega arith))
+none_of_first b (suc n) s h = zero_plus_same (bit (eqb n s && b)) (total (λ v. bit (eqb v s && b)) (first n)) (pos 0) (at_other b n s (omega arith)) (none_of_first b n s (omega arith))
 
 -- one of the first n numbers, counted where a test holds
 one_of_first : (b : Bool) (n s : ℕ) → s < n → total (λ v. bit (eqb v s && b)) (first n) ≡ bit b
@@ -109,8 +96,8 @@ one_of_first b (suc n) s h = go (one_of_first b n s) (cases_eq n s)
     below h e = omega arith
 
     go : (s < n → total (λ v. bit (eqb v s && b)) (first n) ≡ bit b) → (n ≡ s) ⊎ (n ≡ s → ⊥) → bit (eqb n s && b) +ℤ total (λ v. bit (eqb v s && b)) (first n) ≡ bit b
-    go rest (inl e) = one_and_none (bit (eqb n s && b)) (total (λ v. bit (eqb v s && b)) (first n)) (bit b) (at_own b n s e) (none_of_first b n s (omega arith))
-    go rest (inr e) = none_and_one (bit (eqb n s && b)) (total (λ v. bit (eqb v s && b)) (first n)) (bit b) (at_other b n s e) (rest (below h e))
+    go rest (inl e) = same_plus_zero (bit (eqb n s && b)) (total (λ v. bit (eqb v s && b)) (first n)) (bit b) (at_own b n s e) (none_of_first b n s (omega arith))
+    go rest (inr e) = zero_plus_same (bit (eqb n s && b)) (total (λ v. bit (eqb v s && b)) (first n)) (bit b) (at_other b n s e) (rest (below h e))
 
 pub total_ones : {X : Type 0} (xs : List X) → total (λ x. pos 1) xs ≡ pos (length xs)
 total_ones [] = refl
@@ -205,27 +192,19 @@ module _ (height : ℕ → ℤ) where
     one_way_rises : (s t : ℕ) → s < n → t < n → s ≢ t → rise s t +ℤ rise t s ≡ pos 1
     one_way_rises s t hs ht a = go (up s t) (up t s) refl refl
       where
-        both_rise : (a b : ℤ) → a <ℤ b → b <ℤ a → ⊥
-        both_rise a b h k = omega (arith, ints)
-
-        both_fall : (a b : ℤ) → a ≤ℤ b → b ≤ℤ a → a ≡ b
-        both_fall a b h k = omega (arith, ints)
 
         go : (x y : Bool) → up s t ≡ x → up t s ≡ y → bit (up s t) +ℤ bit (up t s) ≡ pos 1
-        go true true e d = absurd (both_rise (height s) (height t) (if_rises (height s) (height t) e) (if_rises (height t) (height s) d))
+        go true true e d = absurd (less_both_ways (height s) (height t) (if_rises (height s) (height t) e) (if_rises (height t) (height s) d))
         go true false e d = λ i. bit (e i) +ℤ bit (d i)
         go false true e d = λ i. bit (e i) +ℤ bit (d i)
-        go false false e d = absurd (distinct s t hs ht a (both_fall (height s) (height t) (if_falls (height t) (height s) d) (if_falls (height s) (height t) e)))
+        go false false e d = absurd (distinct s t hs ht a (at_most_both_ways (height s) (height t) (if_falls (height t) (height s) d) (if_falls (height s) (height t) e)))
 
     around_rise : (f : Face) → f.a < n → f.b < n → f.a ≢ f.b → around rise f ≡ pos 1 +ℤ second_rise f
     unfolding second_rise
     around_rise f ha hb a = rising_sides (up f.a f.b) (up f.b f.c) (up f.c f.a)
-        (λ x y z. round (height f.a) (height f.b) (height f.c) (if_rises (height f.a) (height f.b) x) (if_rises (height f.b) (height f.c) y) (if_rises (height f.c) (height f.a) z))
+        (λ x y z. less_in_a_ring (height f.a) (height f.b) (height f.c) (if_rises (height f.a) (height f.b) x) (if_rises (height f.b) (height f.c) y) (if_rises (height f.c) (height f.a) z))
         (λ x y z. distinct f.a f.b ha hb a (level (height f.a) (height f.b) (height f.c) (if_falls (height f.a) (height f.b) x) (if_falls (height f.b) (height f.c) y) (if_falls (height f.c) (height f.a) z)))
       where
-        round : (a b c : ℤ) → a <ℤ b → b <ℤ c → c <ℤ a → ⊥
-        round a b c h k l = omega (arith, ints)
-
         level : (a b c : ℤ) → b ≤ℤ a → c ≤ℤ b → a ≤ℤ c → a ≡ b
         level a b c h k l = omega (arith, ints)
 
@@ -252,5 +231,5 @@ below_top f n top h each =
     ∙ total_ones (first n) ∙ ap pos (length_first n)
   where
     with_top : (v : ℕ) → ((v ≡ top) × (f v ≡ pos 0)) ⊎ ((v ≢ top) × (f v ≡ pos 1)) → f v +ℤ bit (eqb v top && true) ≡ pos 1
-    with_top v (inl e) = none_and_one (f v) (bit (eqb v top && true)) (pos 1) e.1 (at_own true v top e.0)
-    with_top v (inr e) = one_and_none (f v) (bit (eqb v top && true)) (pos 1) e.1 (at_other true v top e.0)
+    with_top v (inl e) = zero_plus_same (f v) (bit (eqb v top && true)) (pos 1) e.1 (at_own true v top e.0)
+    with_top v (inr e) = same_plus_zero (f v) (bit (eqb v top && true)) (pos 1) e.1 (at_other true v top e.0)

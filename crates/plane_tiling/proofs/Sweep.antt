@@ -25,6 +25,7 @@ use Rattle.plane_tiling.proofs.Covering as C
 use Rattle.plane_tiling.proofs.Loops as L
 use Rattle.plane_tiling.proofs.Loops.{sum_of_bits, IsFaceOn}
 use Rattle.plane_tiling.proofs.Rising.{up, begins_at, leaves, count_at, leaves_found, leaves_bits, leaves_nonneg, leaves_counted, rises_if, if_rises, equal}
+use Rattle.plane.proofs.Signs.{at_least_one_through, below_and_not_below, first_of_three_counts, less_if_not_same, second_of_three_counts, sum_not_positive, sum_of_three_not_negative, sum_of_zeros, third_of_three_counts}
 
 -- a way that no two vertices share, far to the left of the way up
 pub record IsSweep (n : ℕ) (p : ℕ → Point) (way : Vec3) (height : ℕ → ℤ) : Type 0 where
@@ -59,9 +60,6 @@ sweep n p distinct =
 -- ---- steps
 rising : (a b d : ℤ) → d ≡ b -ℤ a → a <ℤ b → pos 0 <ℤ d
 rising a b d e h = omega (arith, ints)
-
-not_falling : (a b d : ℤ) → d ≡ b -ℤ a → pos 0 <ℤ d → a <ℤ b
-not_falling a b d e h = omega (arith, ints)
 
 module _ (n : ℕ) (p : ℕ → Point) (faces : List Face) (outer : List (ℕ × ℕ)) (m : SignMesh n p faces outer) (way : Vec3) (height : ℕ → ℤ) (s : IsSweep n p way height) (v : ℕ) (v_index : v < n) where
   -- the face v a c begins to rise again at v
@@ -102,11 +100,8 @@ module _ (n : ℕ) (p : ℕ → Point) (faces : List Face) (outer : List (ℕ ×
 
   begins_nonneg : (f : Face) → pos 0 ≤ℤ begins_at height v f
   unfolding begins_at
-  begins_nonneg f = three (bit (eqb v f.a && (up height f.a f.b && up height f.c f.a))) (bit (eqb v f.b && (up height f.b f.c && up height f.a f.b))) (bit (eqb v f.c && (up height f.c f.a && up height f.b f.c)))
+  begins_nonneg f = sum_of_three_not_negative (bit (eqb v f.a && (up height f.a f.b && up height f.c f.a))) (bit (eqb v f.b && (up height f.b f.c && up height f.a f.b))) (bit (eqb v f.c && (up height f.c f.a && up height f.b f.c)))
       (bit_nonneg (eqb v f.a && (up height f.a f.b && up height f.c f.a))) (bit_nonneg (eqb v f.b && (up height f.b f.c && up height f.a f.b))) (bit_nonneg (eqb v f.c && (up height f.c f.a && up height f.b f.c)))
-    where
-      three : (a b c : ℤ) → pos 0 ≤ℤ a → pos 0 ≤ℤ b → pos 0 ≤ℤ c → pos 0 ≤ℤ (a +ℤ b +ℤ c)
-      three a b c h k l = omega (arith, ints)
 
   -- the face v a c counts
   begins_here : (a c : ℕ) → height v <ℤ height a → height c <ℤ height v → bit (eqb v v && (up height v a && up height c v)) ≡ pos 1
@@ -117,27 +112,15 @@ module _ (n : ℕ) (p : ℕ → Point) (faces : List Face) (outer : List (ℕ ×
   begins_counted a c t h k = go t
     where
       by : (f : Face) → Contains faces f → pos 1 ≤ℤ begins_at height v f → pos 1 ≤ℤ total (begins_at height v) faces
-      by f here one = at_most (begins_at height v f) (total (begins_at height v) faces) one (total_at_least (begins_at height v) faces (λ g _. begins_nonneg g) f here)
-        where
-          at_most : (a b : ℤ) → pos 1 ≤ℤ a → a ≤ℤ b → pos 1 ≤ℤ b
-          at_most a b h k = omega (arith, ints)
-
-      first : (a b c : ℤ) → a ≡ pos 1 → pos 0 ≤ℤ b → pos 0 ≤ℤ c → pos 1 ≤ℤ (a +ℤ b +ℤ c)
-      first a b c e h k = omega (arith, ints)
-
-      second : (a b c : ℤ) → b ≡ pos 1 → pos 0 ≤ℤ a → pos 0 ≤ℤ c → pos 1 ≤ℤ (a +ℤ b +ℤ c)
-      second a b c e h k = omega (arith, ints)
-
-      third : (a b c : ℤ) → c ≡ pos 1 → pos 0 ≤ℤ a → pos 0 ≤ℤ b → pos 1 ≤ℤ (a +ℤ b +ℤ c)
-      third a b c e h k = omega (arith, ints)
+      by f here one = at_least_one_through (begins_at height v f) (total (begins_at height v) faces) one (total_at_least (begins_at height v) faces (λ g _. begins_nonneg g) f here)
 
       one : bit (eqb v v && (up height v a && up height c v)) ≡ pos 1
       one = begins_here a c h k
 
       go : IsTurnOf faces v a c → pos 1 ≤ℤ total (begins_at height v) faces
-      go (inl x) = by (face v a c) x (first (bit (eqb v v && (up height v a && up height c v))) (bit (eqb v a && (up height a c && up height v a))) (bit (eqb v c && (up height c v && up height a c))) one (bit_nonneg (eqb v a && (up height a c && up height v a))) (bit_nonneg (eqb v c && (up height c v && up height a c))))
-      go (inr (inl x)) = by (face a c v) x (third (bit (eqb v a && (up height a c && up height v a))) (bit (eqb v c && (up height c v && up height a c))) (bit (eqb v v && (up height v a && up height c v))) one (bit_nonneg (eqb v a && (up height a c && up height v a))) (bit_nonneg (eqb v c && (up height c v && up height a c))))
-      go (inr (inr x)) = by (face c v a) x (second (bit (eqb v c && (up height c v && up height a c))) (bit (eqb v v && (up height v a && up height c v))) (bit (eqb v a && (up height a c && up height v a))) one (bit_nonneg (eqb v c && (up height c v && up height a c))) (bit_nonneg (eqb v a && (up height a c && up height v a))))
+      go (inl x) = by (face v a c) x (first_of_three_counts (bit (eqb v v && (up height v a && up height c v))) (bit (eqb v a && (up height a c && up height v a))) (bit (eqb v c && (up height c v && up height a c))) one (bit_nonneg (eqb v a && (up height a c && up height v a))) (bit_nonneg (eqb v c && (up height c v && up height a c))))
+      go (inr (inl x)) = by (face a c v) x (third_of_three_counts (bit (eqb v a && (up height a c && up height v a))) (bit (eqb v c && (up height c v && up height a c))) (bit (eqb v v && (up height v a && up height c v))) one (bit_nonneg (eqb v a && (up height a c && up height v a))) (bit_nonneg (eqb v c && (up height c v && up height a c))))
+      go (inr (inr x)) = by (face c v a) x (second_of_three_counts (bit (eqb v c && (up height c v && up height a c))) (bit (eqb v v && (up height v a && up height c v))) (bit (eqb v a && (up height a c && up height v a))) one (bit_nonneg (eqb v c && (up height c v && up height a c))) (bit_nonneg (eqb v a && (up height a c && up height v a))))
 
   one_above : {z : ℤ} → z ≡ pos 1 → pos 0 <ℤ z
   one_above e = omega (arith, ints)
@@ -252,14 +235,11 @@ module _ (n : ℕ) (p : ℕ → Point) (faces : List Face) (outer : List (ℕ ×
       last_or : (k : ℕ) → k < suc j → (k < j) ⊎ (k ≡ j)
       last_or k h = grind arith
 
-      clash : (a b : ℤ) → a <ℤ b → b ≤ℤ a → ⊥
-      clash a b h k = omega (arith, ints)
-
       kept : (z : ℕ) → IsLeftmost j z → (height v <ℤ height j → bracket (at p v) (at p z) (at p j) ≤ℤ pos 0) → (z : ℕ) × IsLeftmost (suc j) z
       kept z l last = (z, record { index = l.index; rises = l.rises; none = λ k h i. elim (last_or k h) [ inl x ↦ l.none k x i | inr e ↦ subst (λ o. bracket (at p v) (at p z) (at p o) ≤ℤ pos 0) (sym e) (last (subst (λ o. height v <ℤ height o) e i)) ] })
 
       further : (z k : ℕ) → height v <ℤ height z → height v <ℤ height j → height v <ℤ height k → pos 0 <ℤ bracket (at p v) (at p z) (at p j) → bracket (at p v) (at p z) (at p k) ≤ℤ pos 0 → bracket (at p v) (at p j) (at p k) ≤ℤ pos 0
-      further z k hz hj hk left right = not_left_of_product (rise_of z hz) (below (bracket (at p v) (at p z) way *ℤ bracket (at p v) (at p j) (at p k)) (bracket (at p v) (at p k) way *ℤ bracket (at p v) (at p j) (at p z)) (bracket (at p v) (at p j) way *ℤ bracket (at p v) (at p z) (at p k))
+      further z k hz hj hk left right = not_left_of_product (rise_of z hz) (sum_not_positive (bracket (at p v) (at p z) way *ℤ bracket (at p v) (at p j) (at p k)) (bracket (at p v) (at p k) way *ℤ bracket (at p v) (at p j) (at p z)) (bracket (at p v) (at p j) way *ℤ bracket (at p v) (at p z) (at p k))
           (relation (bracket (at p v) (at p j) (at p k)) (bracket (at p v) (at p z) way) (bracket (at p v) (at p j) (at p z)) (bracket (at p v) (at p k) way) (bracket (at p v) (at p j) way) (bracket (at p v) (at p k) (at p z)) (bracket (at p v) (at p z) (at p k)) (pluecker (at p v) (at p j) (at p k) (at p z) way) (exchanged k z))
           (mul-nonpos_of_nonneg_nonpos_ℤ (weak (rise_of k hk)) (weak_right (negated_right (exchanged j z) left))) (mul-nonpos_of_nonneg_nonpos_ℤ (weak (rise_of j hj)) right))
         where
@@ -267,13 +247,10 @@ module _ (n : ℕ) (p : ℕ → Point) (faces : List Face) (outer : List (ℕ ×
           relation jk ze jz ke je kz zk e d = ring_in_from (jk ∷ ze ∷ jz ∷ ke ∷ je ∷ kz ∷ zk ∷ []) (λ jk ze jz ke je kz zk. ze ⊗ jk) (λ jk ze jz ke je kz zk. ke ⊗ jz ⊕ je ⊗ zk)
               (λ jk ze jz ke je kz zk. (num 1, jk ⊗ ze ⊖ jz ⊗ ke ⊕ je ⊗ kz, num 0) ∷ (num 0 ⊖ je, kz, ⊝ zk) ∷ []) (e, (d, tt)) tt
 
-          below : (s a b : ℤ) → s ≡ a +ℤ b → a ≤ℤ pos 0 → b ≤ℤ pos 0 → s ≤ℤ pos 0
-          below s a b e h k = omega (arith, ints)
-
       go : ((z : ℕ) × IsLeftmost j z) ⊎ ((k : ℕ) → k < j → height k ≤ℤ height v) → (height v <ℤ height j) ⊎ (height j ≤ℤ height v) → ((z : ℕ) × IsLeftmost (suc j) z) ⊎ ((k : ℕ) → k < suc j → height k ≤ℤ height v)
-      go (inl (z, l)) (inr down) = inl (kept z l (λ h. absurd (clash (height v) (height j) h down)))
+      go (inl (z, l)) (inr down) = inl (kept z l (λ h. absurd (below_and_not_below (height v) (height j) h down)))
       go (inr none) (inr down) = inr (λ k h. elim (last_or k h) [ inl x ↦ none k x | inr e ↦ subst (λ o. height o ≤ℤ height v) (sym e) down ])
-      go (inr none) (inl h) = inl (j, record { index = own j (omega arith); rises = h; none = λ k i l. elim (last_or k i) [ inl x ↦ absurd (clash (height v) (height k) l (none k x)) | inr e ↦ zero_weak (ap (λ o. bracket (at p v) (at p j) (at p o)) e ∙ bracket-last (at p v) (at p j)) ] })
+      go (inr none) (inl h) = inl (j, record { index = own j (omega arith); rises = h; none = λ k i l. elim (last_or k i) [ inl x ↦ absurd (below_and_not_below (height v) (height k) l (none k x)) | inr e ↦ zero_weak (ap (λ o. bracket (at p v) (at p j) (at p o)) e ∙ bracket-last (at p v) (at p j)) ] })
       go (inl (z, l)) (inl h) = inl (elim (lt_or_ge_ℤ (pos 0) (bracket (at p v) (at p z) (at p j))) [
         | inl left ↦ (j, record { index = own j (omega arith); rises = h; none = λ k i r. elim (last_or k i) [ inl x ↦ further z k l.rises h r left (l.none k x r) | inr e ↦ zero_weak (ap (λ o. bracket (at p v) (at p j) (at p o)) e ∙ bracket-last (at p v) (at p j)) ] })
         | inr right ↦ kept z l (λ _. right)
@@ -281,10 +258,7 @@ module _ (n : ℕ) (p : ℕ → Point) (faces : List Face) (outer : List (ℕ ×
 
   -- v is not level with another vertex
   up_or_down : (k : ℕ) → k < n → k ≢ v → (height v <ℤ height k) ⊎ (height k <ℤ height v)
-  up_or_down k h a = elim (lt_or_ge_ℤ (height v) (height k)) [ inl l ↦ inl l | inr l ↦ inr (strict (height k) (height v) l (s.distinct k v h v_index a)) ]
-    where
-      strict : (a b : ℤ) → a ≤ℤ b → ¬ (a ≡ b) → a <ℤ b
-      strict a b h n = elim (lt_or_ge_ℤ a b) [ inl l ↦ l | inr l ↦ absurd (n (omega (arith, ints))) ]
+  up_or_down k h a = elim (lt_or_ge_ℤ (height v) (height k)) [ inl l ↦ inl l | inr l ↦ inr (less_if_not_same (height k) (height v) l (s.distinct k v h v_index a)) ]
 
   Found : Type 0
   Found = (pos 1 ≤ℤ total (begins_at height v) faces) ⊎ (pos 1 ≤ℤ total (leaves height v) outer)
@@ -330,7 +304,7 @@ module _ (n : ℕ) (p : ℕ → Point) (faces : List Face) (outer : List (ℕ ×
 
         -- not both a and c are below v
         not_below : height a <ℤ height v → height c <ℤ height v → ⊥
-        not_below ha hc = left_not_below (mul-pos_ℤ turns (rise_of z l.rises)) (below (bracket (at p v) (at p a) (at p c) *ℤ bracket (at p v) (at p z) way) (bracket (at p c) (at p v) (at p z) *ℤ bracket (at p v) (at p a) way) (bracket (at p v) (at p a) (at p z) *ℤ bracket (at p v) (at p c) way)
+        not_below ha hc = left_not_below (mul-pos_ℤ turns (rise_of z l.rises)) (sum_not_positive (bracket (at p v) (at p a) (at p c) *ℤ bracket (at p v) (at p z) way) (bracket (at p c) (at p v) (at p z) *ℤ bracket (at p v) (at p a) way) (bracket (at p v) (at p a) (at p z) *ℤ bracket (at p v) (at p c) way)
             (relation (bracket (at p v) (at p a) (at p c)) (bracket (at p v) (at p z) way) (bracket (at p v) (at p a) (at p z)) (bracket (at p v) (at p c) way) (bracket (at p v) (at p a) way) (bracket (at p v) (at p c) (at p z)) (bracket (at p c) (at p v) (at p z)) (pluecker (at p v) (at p a) (at p c) (at p z) way) (bracket-swap (at p v) (at p c) (at p z)))
             (mul-nonpos_of_nonneg_nonpos_ℤ to (falling a ha)) (mul-nonpos_of_nonneg_nonpos_ℤ from (falling c hc)))
           where
@@ -343,9 +317,6 @@ module _ (n : ℕ) (p : ℕ → Point) (faces : List Face) (outer : List (ℕ ×
             relation : (ac ze az ce ae cz vz : ℤ) → ac *ℤ ze -ℤ az *ℤ ce +ℤ ae *ℤ cz ≡ pos 0 → cz ≡ neg_ℤ vz → ac *ℤ ze ≡ vz *ℤ ae +ℤ az *ℤ ce
             relation ac ze az ce ae cz vz e d = ring_in_from (ac ∷ ze ∷ az ∷ ce ∷ ae ∷ cz ∷ vz ∷ []) (λ ac ze az ce ae cz vz. ac ⊗ ze) (λ ac ze az ce ae cz vz. vz ⊗ ae ⊕ az ⊗ ce)
                 (λ ac ze az ce ae cz vz. (num 1, ac ⊗ ze ⊖ az ⊗ ce ⊕ ae ⊗ cz, num 0) ∷ (num 0 ⊖ ae, cz, ⊝ vz) ∷ []) (e, (d, tt)) tt
-
-            below : (s a b : ℤ) → s ≡ a +ℤ b → a ≤ℤ pos 0 → b ≤ℤ pos 0 → s ≤ℤ pos 0
-            below s a b e h k = omega (arith, ints)
 
         go : (height v <ℤ height c) ⊎ (height c <ℤ height v) → (height v <ℤ height a) ⊎ (height a <ℤ height v) → (pos 1 ≤ℤ total (begins_at height v) faces) ⊎ (pos 1 ≤ℤ total (leaves height v) outer)
         go (inl h) x = behind h (C.behind_side n p faces outer m c v (a, turned faces a c v (turned faces v a c t)))
@@ -388,9 +359,6 @@ module _ (n : ℕ) (p : ℕ → Point) (faces : List Face) (outer : List (ℕ ×
   unfolding count_at Found
   count_one k h up_k = go (leftmost n (λ _ i. i))
     where
-      clash : (a b : ℤ) → a <ℤ b → b ≤ℤ a → ⊥
-      clash a b h k = omega (arith, ints)
-
       exactly : (a b : ℤ) → a ≤ℤ pos 1 → b ≤ℤ pos 1 → pos 0 ≤ℤ a → pos 0 ≤ℤ b → (pos 0 <ℤ a → pos 0 <ℤ b → ⊥) → (pos 1 ≤ℤ a) ⊎ (pos 1 ≤ℤ b) → a +ℤ b ≡ pos 1
       exactly a b h k i j n (inl l) = elim (lt_or_ge_ℤ (pos 0) b) [ inl x ↦ absurd (n (omega (arith, ints)) x) | inr x ↦ omega (arith, ints) ]
       exactly a b h k i j n (inr l) = elim (lt_or_ge_ℤ (pos 0) a) [ inl x ↦ absurd (n x (omega (arith, ints))) | inr x ↦ omega (arith, ints) ]
@@ -405,23 +373,18 @@ module _ (n : ℕ) (p : ℕ → Point) (faces : List Face) (outer : List (ℕ ×
 
       go : ((z : ℕ) × IsLeftmost n z) ⊎ ((k : ℕ) → k < n → height k ≤ℤ height v) → total (begins_at height v) faces +ℤ total (leaves height v) outer ≡ pos 1
       go (inl (z, l)) = exactly (total (begins_at height v) faces) (total (leaves height v) outer) faces_once outer_once (total_nonneg (begins_at height v) faces (λ f _. begins_nonneg f)) (total_nonneg (leaves height v) outer (λ e _. leaves_nonneg height v e)) apart (found z l)
-      go (inr none) = absurd (clash (height v) (height k) up_k (none k h))
+      go (inr none) = absurd (below_and_not_below (height v) (height k) up_k (none k h))
 
   -- at the top: none
   pub count_none : ((k : ℕ) → k < n → height k ≤ℤ height v) → count_at height faces outer v ≡ pos 0
   unfolding count_at
-  count_none top = both (total (begins_at height v) faces) (total (leaves height v) outer) (all_none (begins_at height v) faces (λ f h. begins_none f h (begins_bits f h))) (all_none (leaves height v) outer (λ e h. leaves_none e h (leaves_bits height v e)))
+  count_none top = sum_of_zeros (total (begins_at height v) faces) (total (leaves height v) outer) (all_none (begins_at height v) faces (λ f h. begins_none f h (begins_bits f h))) (all_none (leaves height v) outer (λ e h. leaves_none e h (leaves_bits height v e)))
     where
-      both : (a b : ℤ) → a ≡ pos 0 → b ≡ pos 0 → a +ℤ b ≡ pos 0
-      both a b e d = omega (arith, ints)
-
-      clash : (a b : ℤ) → a <ℤ b → b ≤ℤ a → ⊥
-      clash a b h k = omega (arith, ints)
 
       begins_none : (f : Face) → Contains faces f → (begins_at height v f ≡ pos 0) ⊎ (begins_at height v f ≡ pos 1) → begins_at height v f ≡ pos 0
       begins_none f h (inl e) = e
-      begins_none f h (inr e) = absurd (let b = begins_found f (one_above e) in clash (height v) (height b.a) b.rises (top b.a (C.turn_corners n p faces outer m v b.a b.c (L.turn_on n p faces outer m v b.a b.c f b.on h)).1))
+      begins_none f h (inr e) = absurd (let b = begins_found f (one_above e) in below_and_not_below (height v) (height b.a) b.rises (top b.a (C.turn_corners n p faces outer m v b.a b.c (L.turn_on n p faces outer m v b.a b.c f b.on h)).1))
 
       leaves_none : (e : ℕ × ℕ) → Contains outer e → (leaves height v e ≡ pos 0) ⊎ (leaves height v e ≡ pos 1) → leaves height v e ≡ pos 0
       leaves_none e h (inl x) = x
-      leaves_none e h (inr x) = absurd (let r = leaves_found height v e (one_above x) in clash (height v) (height e.1) (subst (λ o. height o <ℤ height e.1) (sym r.0) r.1) (top e.1 (m.ends e h).1))
+      leaves_none e h (inr x) = absurd (let r = leaves_found height v e (one_above x) in below_and_not_below (height v) (height e.1) (subst (λ o. height o <ℤ height e.1) (sym r.0) r.1) (top e.1 (m.ends e h).1))

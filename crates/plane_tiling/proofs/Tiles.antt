@@ -2,7 +2,6 @@
 use Rattle.std.proofs.Common.{◌≡◌, ◌⊎◌, ◌↔◌, ℕ, ◌<◌, List, [], ◌∷◌, length, map, get_or, refl, sym, ◌∙◌, subst, arith}
 use mathlib.Core.Logic.{inl, inr, ◌≢◌}
 use Rattle.std.specs.Prelude.{ℤ, pos, ◌+ℤ◌, ◌*ℤ◌, ◌≤ℤ◌, ◌<ℤ◌, Contains, All}
-use Rattle.std.proofs.lemmas.Int.{ints}
 use Rattle.std.proofs.lemmas.List.Elements.{All-head, All-tail}
 use Rattle.plane.specs.Fraction.{Point, Fraction, whole, IsNotNegative, InHull, InTriangle, InsideTriangle, weighted_sum}
 use Rattle.plane.specs.Side.{TurnsLeft}
@@ -19,6 +18,7 @@ use Rattle.plane.proofs.Bracket.{Vec3, bracket, bracketᵖ, lift, vec}
 use Rattle.plane.proofs.Generic.{Inside}
 use Rattle.plane_tiling.proofs.Counting.{at, SignMesh}
 use Rattle.plane_tiling.proofs.Covering as C
+use Rattle.plane.proofs.Signs.{sum_not_positive, zero_is_not_positive}
 
 -- the point of an index
 abbrev pub point_at : List Point → ℕ → Point
@@ -68,22 +68,16 @@ bracket_of_none : (u v : Vec3) → bracket u v (record { x = pos 0; y = pos 0; w
 unfolding bracket
 bracket_of_none u v = ring_in (u.x ∷ u.y ∷ u.w ∷ v.x ∷ v.y ∷ v.w ∷ []) (λ ux uy uw vx vy vw. bracketᵖ (record { x = ux; y = uy; w = uw }) (record { x = vx; y = vy; w = vw }) (record { x = num 0; y = num 0; w = num 0 })) (λ ux uy uw vx vy vw. num 0) tt
 
-sum_below : (s a b : ℤ) → s ≡ a +ℤ b → a ≤ℤ pos 0 → b ≤ℤ pos 0 → s ≤ℤ pos 0
-sum_below s a b e h k = omega (arith, ints)
-
-zero_below : (s : ℤ) → s ≡ pos 0 → s ≤ℤ pos 0
-zero_below s e = omega (arith, ints)
-
 abbrev sum_vec : List ℤ → List Fraction → Vec3
 sum_vec ks cs = record { x = weighted_sum (λ c. c.x) ks cs; y = weighted_sum (λ c. c.y) ks cs; w = weighted_sum (λ c. c.w) ks cs }
 
 -- a sum of points that are not left of u v, under weights that are not negative, is not left of it
 sum_not_left : (u v : Vec3) (ks : List ℤ) (points : List Point) → All IsNotNegative ks → ((p : Point) → Contains points p → bracket u v (lift p) ≤ℤ pos 0) → bracket u v (sum_vec ks (map whole points)) ≤ℤ pos 0
-sum_not_left u v [] points allowed below = zero_below (bracket u v (record { x = pos 0; y = pos 0; w = pos 0 })) (bracket_of_none u v)
-sum_not_left u v (k ∷ ks) [] allowed below = zero_below (bracket u v (record { x = pos 0; y = pos 0; w = pos 0 })) (bracket_of_none u v)
+sum_not_left u v [] points allowed below = zero_is_not_positive (bracket u v (record { x = pos 0; y = pos 0; w = pos 0 })) (bracket_of_none u v)
+sum_not_left u v (k ∷ ks) [] allowed below = zero_is_not_positive (bracket u v (record { x = pos 0; y = pos 0; w = pos 0 })) (bracket_of_none u v)
 sum_not_left u v (k ∷ ks) (p ∷ ps) allowed below =
     let rest = sum_vec ks (map whole ps) in
-    sum_below (bracket u v (sum_vec (k ∷ ks) (whole p ∷ map whole ps))) (k *ℤ bracket u v (lift p)) (bracket u v rest)
+    sum_not_positive (bracket u v (sum_vec (k ∷ ks) (whole p ∷ map whole ps))) (k *ℤ bracket u v (lift p)) (bracket u v rest)
     (bracket_of_sum u v k p.x p.y (pos 1) rest.x rest.y rest.w)
     (mul-nonpos_of_nonneg_nonpos_ℤ (All-head IsNotNegative k ks allowed) (below p (Contains-head p ps)))
     (sum_not_left u v ks ps (All-tail IsNotNegative k ks allowed) (λ q h. below q (Contains-later p ps q h)))

@@ -5,12 +5,10 @@ use Rattle.std.specs.Prelude.{ℤ, pos, ◌+ℤ◌, ◌-ℤ◌, ◌≤ℤ◌, �
 use Rattle.std.proofs.lemmas.Int.{ints}
 use Rattle.plane_tiling.specs.Local.{total}
 use Rattle.plane.proofs.IntegerOrder.{lt_or_ge_ℤ}
+use Rattle.plane.proofs.Signs.{same_plus_zero, sum_not_negative, zero_plus_same}
 
 sums_apart : (a b c d s t u : ℤ) → s ≡ t -ℤ u → (a -ℤ b) +ℤ s ≡ (a +ℤ t) -ℤ (b +ℤ u)
 sums_apart a b c d s t u e = omega (arith, ints)
-
-both_nonneg : (a b : ℤ) → pos 0 ≤ℤ a → pos 0 ≤ℤ b → pos 0 ≤ℤ (a +ℤ b)
-both_nonneg a b h k = omega (arith, ints)
 
 grown : (a b c : ℤ) → c ≤ℤ b → pos 0 ≤ℤ a → c ≤ℤ (a +ℤ b)
 grown a b c h k = omega (arith, ints)
@@ -38,12 +36,6 @@ none_above a b h k = omega (arith, ints)
 
 two : (a b : ℤ) → a ≡ pos 1 → pos 1 ≤ℤ b → pos 2 ≤ℤ (a +ℤ b)
 two a b h k = omega (arith, ints)
-
-first_alone : (a b c : ℤ) → a ≡ c → b ≡ pos 0 → a +ℤ b ≡ c
-first_alone a b c h k = omega (arith, ints)
-
-rest_alone : (a b c : ℤ) → a ≡ pos 0 → b ≡ c → a +ℤ b ≡ c
-rest_alone a b c h k = omega (arith, ints)
 
 sums_beside : (a b s t u : ℤ) → s ≡ t +ℤ u → (a +ℤ b) +ℤ s ≡ (a +ℤ t) +ℤ (b +ℤ u)
 sums_beside a b s t u e = omega (arith, ints)
@@ -90,7 +82,7 @@ module _ {X : Type 0} where
 
   pub total_nonneg : (f : X → ℤ) (xs : List X) → ((x : X) → Contains xs x → pos 0 ≤ℤ f x) → pos 0 ≤ℤ total f xs
   total_nonneg f [] h = record { le = tt }
-  total_nonneg f (x ∷ xs) h = both_nonneg (f x) (total f xs) (h x (Contains-head x xs)) (total_nonneg f xs (λ y k. h y (Contains-later x xs y k)))
+  total_nonneg f (x ∷ xs) h = sum_not_negative (f x) (total f xs) (h x (Contains-head x xs)) (total_nonneg f xs (λ y k. h y (Contains-later x xs y k)))
 
   -- one of the terms is at most the sum
   pub total_at_least : (f : X → ℤ) (xs : List X) → ((x : X) → Contains xs x → pos 0 ≤ℤ f x) → (x : X) → Contains xs x → f x ≤ℤ total f xs
@@ -179,9 +171,9 @@ module _ {X : Type 0} where
       left_none s z n (inr t) = t.1
 
       go : (y ≡ x) ⊎ ((y ≢ x) × (f y ≡ pos 0)) → (y ≡ x) ⊎ Contains xs x → (Contains xs x → total f xs ≡ c) → f y +ℤ total f xs ≡ c
-      go (inl s) k r = first_alone (f y) (total f xs) c (ap f s ∙ e) (all_none f xs (λ z n. left_none s z n (h z (Contains-later y xs z n))))
+      go (inl s) k r = same_plus_zero (f y) (total f xs) c (ap f s ∙ e) (all_none f xs (λ z n. left_none s z n (h z (Contains-later y xs z n))))
       go (inr s) (inl t) r = absurd (s.0 t)
-      go (inr s) (inr k) r = rest_alone (f y) (total f xs) c s.1 (r k)
+      go (inr s) (inr k) r = zero_plus_same (f y) (total f xs) c s.1 (r k)
 
 -- a sum over two lists, either first
 pub total_exchanged : {X Y : Type 0} (f : X → Y → ℤ) (xs : List X) (ys : List Y) → total (λ x. total (f x) ys) xs ≡ total (λ y. total (λ x. f x y) xs) ys
