@@ -117,12 +117,14 @@ module _ {V D U F : Type 0} (old new : Contents V D U F) (v : ℕ) (n : ℕ → 
   next_face = was_there second (Contains-later third (second ∷ first ∷ []) second (Contains-head second (first ∷ [])))
 
   pub made_hole : MakesFacesNear v (faces_of old.mesh) (faces_of new.mesh)
-  made_hole = made_by v (faces_of old.mesh) (faces_of new.mesh) (map corners_of (faces_between v n 3)) (corners (n 0) (n 1) (n 2) ∷ []) (hole_filled old new v n before after hole)
-      ((
-        inr (n 1, inl one_face),
-        inr (n 2, inl next_face),
-        inr (n 1, inr (turned_faces (faces_of old.mesh) (n 1) (n 2) v (turned_faces (faces_of old.mesh) v (n 1) (n 2) next_face))),
-      ), tt)
+  made_hole = made_by v (faces_of old.mesh) (faces_of new.mesh) (map corners_of (faces_between v n 3)) (corners (n 0) (n 1) (n 2) ∷ []) (hole_filled old new v n before after hole) (
+    (
+      inr (n 1, inl one_face),
+      inr (n 2, inl next_face),
+      inr (n 1, inr (turned_faces (faces_of old.mesh) (n 1) (n 2) v (turned_faces (faces_of old.mesh) v (n 1) (n 2) next_face))),
+    ),
+    tt,
+  )
 
 -- ---- an edge of the vertex is turned
 module _ (m new : Mesh) (e : ℕ) (s : AreSoundLinks m) (flips : IsFlippable m e) (change : FlipsTriangles m new e) where
