@@ -91,6 +91,7 @@ pub fn remove_some(
         digest: 0,
     };
     for _ in 0..removals {
+        triangulation.recall_invariant();
         let vertices = triangulation.num_vertices();
         if vertices == 0 {
             break;

@@ -78,11 +78,7 @@ fn insert(rt: &HostRuntime, points: &[Point2<i64>]) -> anyhow::Result<Points> {
     Ok(triangulation)
 }
 
-fn ask(
-    rt: &HostRuntime,
-    triangulation: &Points,
-    queries: &[Point2<i64>],
-) -> anyhow::Result<()> {
+fn ask(rt: &HostRuntime, triangulation: &Points, queries: &[Point2<i64>]) -> anyhow::Result<()> {
     let start = rt.thread_cpu_time()?;
     let located = locate_all(triangulation, queries);
     let nanoseconds = nanoseconds_a_call(rt, start, queries.len())?;

@@ -92,9 +92,7 @@ impl Session {
 }
 
 // The corners of an inner face by their indexes, the least first.
-fn corners_of(
-    face: FaceHandle<'_, Point2<i64>, (), CdtEdge<()>, ()>,
-) -> [u32; 3]
+fn corners_of(face: FaceHandle<'_, Point2<i64>, (), CdtEdge<()>, ()>) -> [u32; 3]
     requires { 0 < face.index }
 {
     let [a, b, c] = face.vertices();

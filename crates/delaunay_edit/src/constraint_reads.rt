@@ -54,9 +54,7 @@ impl<V: HasPosition, DE, UE, F> ConstrainedMesh<V, DE, UE, F> {
     /// The vertices, edges and faces of a triangulation without constraints, under the same
     /// handles, and no constraint. Where memory was refused, it gives the triangulation back as it
     /// was.
-    pub fn from_delaunay(
-        plain: PlainMesh<V, DE, UE, F>,
-    ) -> Result<Self, PlainMesh<V, DE, UE, F>>
+    pub fn from_delaunay(plain: PlainMesh<V, DE, UE, F>) -> Result<Self, PlainMesh<V, DE, UE, F>>
     where
         UE: Drop,
         ensures ok { IfOk result (HasOtherEdgeData IsFree plain) }

@@ -22,13 +22,7 @@ use std::marker::{Model, PhantomData};
 /// the edges that the marker `M` finds by their data, and no face has a vertex strictly inside its
 /// circle that is seen from inside the face past the constraints.
 #[derive(Drop)]
-pub struct EditedMesh<
-    V: HasPosition,
-    DE,
-    UE,
-    F,
-    M: ConstraintMarker<UE>,
-> {
+pub struct EditedMesh<V: HasPosition, DE, UE, F, M: ConstraintMarker<UE>> {
     pub(crate) dcel: Dcel<V, DE, UE, F>,
     // The edges that a legalization has still to test: none between edits, but the room for them stays.
     pub(crate) work: Vec<FixedUndirectedEdgeHandle>,
@@ -43,8 +37,7 @@ pub(crate) type PlainMesh<V, DE, UE, F> = EditedMesh<V, DE, UE, F, NoConstraints
 /// One whose edges may be constraints.
 pub(crate) type ConstrainedMesh<V, DE, UE, F> = EditedMesh<V, DE, CdtEdge<UE>, F, EdgeConstraints>;
 
-impl<V: HasPosition, DE, UE, F, M: ConstraintMarker<UE>> Model
-    for EditedMesh<V, DE, UE, F, M> {
+impl<V: HasPosition, DE, UE, F, M: ConstraintMarker<UE>> Model for EditedMesh<V, DE, UE, F, M> {
     ghost use Rattle.delaunay_legalization.specs.State.{State, state_of};
     ghost use Rattle.delaunay_legalization.specs.Shape.{IsDelaunayTriangulation};
 
@@ -55,13 +48,7 @@ impl<V: HasPosition, DE, UE, F, M: ConstraintMarker<UE>> Model
     ghost invariant = { λ c. IsDelaunayTriangulation V.place M.constraints (state_of c.dcel) };
 }
 
-impl<
-    V: HasPosition,
-    DE,
-    UE,
-    F,
-    M: ConstraintMarker<UE>,
-> EditedMesh<V, DE, UE, F, M> {
+impl<V: HasPosition, DE, UE, F, M: ConstraintMarker<UE>> EditedMesh<V, DE, UE, F, M> {
     /// No vertex, no edge, and the outer face with default data.
     pub fn new(alloc: Global) -> Self
     where

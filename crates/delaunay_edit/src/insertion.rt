@@ -10,8 +10,8 @@ ghost use Rattle.delaunay_edit.specs.Entry.{IsEntry, IsVacant};
 ghost use Rattle.delaunay_edit.specs.Headline.{AreSites, IsDelaunay};
 ghost use Rattle.delaunay_edit.specs.Location.{HasHandle, IsLeftOfPlace};
 
-use crate::insertion_cases::insert_at;
 use crate::edited_mesh::EditedMesh;
+use crate::insertion_cases::insert_at;
 use delaunay_core::math::{InsertionError, PlaneTests, validate_vertex};
 use delaunay_core::point::HasPosition;
 use delaunay_insertion::{FreeByDefault, reserve_for_vertex};
@@ -28,13 +28,13 @@ pub(crate) enum Entry {
     Vacant(PositionInTriangulation, bool),
 }
 
-impl<
-    V: HasPosition + Drop,
-    DE: Default,
-    UE: Default,
-    F: Default,
-    M: FreeByDefault<UE>,
-> EditedMesh<V, DE, UE, F, M> {
+impl<V: HasPosition + Drop, DE: Default, UE: Default, F: Default, M: FreeByDefault<UE>> EditedMesh<
+    V,
+    DE,
+    UE,
+    F,
+    M,
+> {
     // The new last vertex, with the edges of the faces at it tested, or a refusal that changes nothing.
     fn append<P: PlaneTests<V::Scalar>>(
         &mut self,

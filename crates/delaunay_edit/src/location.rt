@@ -10,13 +10,7 @@ use delaunay_legalization::ConstraintMarker;
 use delaunay_location::{PositionInTriangulation, locate_with_hint};
 use half_edge_mesh::FixedVertexHandle;
 
-impl<
-    V: HasPosition,
-    DE,
-    UE,
-    F,
-    M: ConstraintMarker<UE>,
-> EditedMesh<V, DE, UE, F, M> {
+impl<V: HasPosition, DE, UE, F, M: ConstraintMarker<UE>> EditedMesh<V, DE, UE, F, M> {
     // Where a position is, by a search from a vertex.
     pub(crate) fn find_location<P: PlaneTests<V::Scalar>>(
         &self,

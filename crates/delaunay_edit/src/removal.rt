@@ -16,13 +16,7 @@ use delaunay_removal::remove_vertex;
 use half_edge_mesh::FixedVertexHandle;
 use std::alloc::AllocError;
 
-impl<
-    V: HasPosition,
-    DE,
-    UE,
-    F,
-    M: ConstraintMarker<UE>,
-> EditedMesh<V, DE, UE, F, M> {
+impl<V: HasPosition, DE, UE, F, M: ConstraintMarker<UE>> EditedMesh<V, DE, UE, F, M> {
     /// Exchanges a vertex for one of the same position, and gives the old one back.
     pub fn replace_vertex(&mut self, vertex: FixedVertexHandle, value: V) -> V
         requires within { vertex < length self.old.vertices }
@@ -40,13 +34,13 @@ impl<
     }
 }
 
-impl<
-    V: HasPosition,
-    DE: Drop,
-    UE: Drop,
-    F: Drop,
-    M: ConstraintMarker<UE>,
-> EditedMesh<V, DE, UE, F, M> {
+impl<V: HasPosition, DE: Drop, UE: Drop, F: Drop, M: ConstraintMarker<UE>> EditedMesh<
+    V,
+    DE,
+    UE,
+    F,
+    M,
+> {
     // Takes a vertex out and tests each edge of what is left, or a refusal that changes nothing.
     fn take_out<P: PlaneTests<V::Scalar>>(
         &mut self,
@@ -98,13 +92,13 @@ impl<
     }
 }
 
-impl<
-    V: HasPosition + Drop,
-    DE: Drop,
-    UE: Drop,
-    F: Drop,
-    M: ConstraintMarker<UE>,
-> EditedMesh<V, DE, UE, F, M> {
+impl<V: HasPosition + Drop, DE: Drop, UE: Drop, F: Drop, M: ConstraintMarker<UE>> EditedMesh<
+    V,
+    DE,
+    UE,
+    F,
+    M,
+> {
     /// Forgets each vertex, each edge with its constraint, and each inner face. The outer face
     /// keeps its data, and memory that was taken is kept for later insertions. It is never refused.
     pub fn clear(&mut self)

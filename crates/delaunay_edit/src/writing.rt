@@ -49,8 +49,7 @@ pub trait WriteData {
         ensures value { slice_get ((written self.old).outer ∷ (written self.old).faces) face ≡ Some result.now };
 }
 
-impl<V: HasPosition, DE, UE, F, M: EdgeData<UE>> WriteData
-    for EditedMesh<V, DE, UE, F, M> {
+impl<V: HasPosition, DE, UE, F, M: EdgeData<UE>> WriteData for EditedMesh<V, DE, UE, F, M> {
     type Vertex = V;
 
     type DirectedEdge = DE;

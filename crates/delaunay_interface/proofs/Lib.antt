@@ -1,4 +1,5 @@
 pub mod Held
 pub mod Locating
+pub mod Stepping
 pub mod Kept
 pub mod Faces

@@ -1,2 +1,3 @@
+pub mod ConstraintEdges
 pub mod Views
 pub mod InnerFaces

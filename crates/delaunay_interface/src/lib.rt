@@ -2,6 +2,8 @@
 //! trait of their calls.
 #![tactic(auto)]
 
+mod constraint_edges;
+mod constraint_error;
 mod constraint_paths;
 mod constraints;
 mod copies;
@@ -15,6 +17,7 @@ mod telling;
 mod triangulation;
 mod triangulation_core;
 
+pub use constraint_error::ConstraintError;
 pub use delaunay_lines::{
     ConflictingEdgesIterator, HasMesh, Intersection, LineIntersectionIterator,
 };

@@ -17,12 +17,8 @@ use delaunay_legalization::{CdtEdge, EdgeConstraints};
 use delaunay_lines::{ConflictingEdgesIterator, HasMesh, intersects_constraint};
 use half_edge_mesh::{Dcel, FixedVertexHandle};
 
-impl<V: HasPosition, DE, UE, F, L: HintGenerator<V::Scalar>, M: EdgeData<UE>> HasMesh<
-    V,
-    DE,
-    UE,
-    F,
-> for TriangulationCore<V, DE, UE, F, L, M> {
+impl<V: HasPosition, DE, UE, F, L: HintGenerator<V::Scalar>, M: EdgeData<UE>> HasMesh<V, DE, UE, F>
+    for TriangulationCore<V, DE, UE, F, L, M> {
     ghost state = { λ s. s };
 
     fn mesh(&self) -> &Dcel<V, DE, UE, F> {

@@ -28,7 +28,6 @@ longer px py kx ky ix iy = ring_in (px ∷ py ∷ kx ∷ ky ∷ ix ∷ iy ∷ []
 sum_of_squares : (a b c d : ℤ) → ¬ ((a ≡ c) × (b ≡ d)) → pos 0 <ℤ ((a -ℤ c) *ℤ (a -ℤ c) +ℤ (b -ℤ d) *ℤ (b -ℤ d))
 sum_of_squares a b c d n = go (trichotomy_ℤ (a -ℤ c)) (trichotomy_ℤ (b -ℤ d))
   where
-
     by_first : ¬ (a -ℤ c ≡ pos 0) → pos 0 <ℤ ((a -ℤ c) *ℤ (a -ℤ c) +ℤ (b -ℤ d) *ℤ (b -ℤ d))
     by_first h = positive_plus_not_negative ((a -ℤ c) *ℤ (a -ℤ c)) ((b -ℤ d) *ℤ (b -ℤ d)) (square-pos_ℤ h) (square-nonneg_ℤ (b -ℤ d))
 

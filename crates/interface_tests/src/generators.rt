@@ -29,11 +29,7 @@ impl<S: SpadeNum> HintGenerator<S> for EachInTurn {
         }
     }
 
-    fn get_hint<P: PlaneTests<S>>(
-        &self,
-        _position: Point2<S>,
-        _tests: &P,
-    ) -> FixedVertexHandle
+    fn get_hint<P: PlaneTests<S>>(&self, _position: Point2<S>, _tests: &P) -> FixedVertexHandle
         requires covered { P.covered _tests.now (place_of S.whole _position) }
     {
         let next = self.next.get();
@@ -91,11 +87,7 @@ impl<S: SpadeNum> HintGenerator<S> for Always1000 {
         Always1000
     }
 
-    fn get_hint<P: PlaneTests<S>>(
-        &self,
-        _position: Point2<S>,
-        _tests: &P,
-    ) -> FixedVertexHandle
+    fn get_hint<P: PlaneTests<S>>(&self, _position: Point2<S>, _tests: &P) -> FixedVertexHandle
         requires covered { P.covered _tests.now (place_of S.whole _position) }
     {
         FixedVertexHandle::from_index(1000)
@@ -172,11 +164,7 @@ impl<S: SpadeNum> HintGenerator<S> for Listing {
         }
     }
 
-    fn get_hint<P: PlaneTests<S>>(
-        &self,
-        _position: Point2<S>,
-        _tests: &P,
-    ) -> FixedVertexHandle
+    fn get_hint<P: PlaneTests<S>>(&self, _position: Point2<S>, _tests: &P) -> FixedVertexHandle
         requires covered { P.covered _tests.now (place_of S.whole _position) }
     {
         self.asked.set(self.asked.get().saturating_add(1));

@@ -1,4 +1,5 @@
 //! Each call that reads, of both types, in a square with its centre.
+ghost use Rattle.std.specs.Iterator.{IsFinite};
 
 use crate::searches::Hinted;
 use exact_tests::ExactTests;
@@ -23,27 +24,41 @@ fn print_counts<T: Triangulation>(rt: &HostRuntime, points: &T) -> anyhow::Resul
     Ok(())
 }
 
+// How many items an iterator gives.
+fn count<I: Iterator + Drop>(items: I) -> u64
+where
+    I::Item: Drop,
+    requires can_next { I.can_next items }
+    requires finite { IsFinite (I.remaining items) }
+{
+    let mut count: u64 = 0;
+    for _ in items {
+        count = count.saturating_add(1);
+    }
+    count
+}
+
 // How many items the iterators give: of handles, of names, and of the Voronoi diagram.
 fn print_lists<T: Triangulation>(rt: &HostRuntime, points: &T) -> anyhow::Result<()> {
     let elements = [
-        points.vertices().count(),
-        points.directed_edges().count(),
-        points.undirected_edges().count(),
-        points.all_faces().count(),
-        points.inner_faces().count(),
-        points.convex_hull().count(),
+        count(points.vertices()),
+        count(points.directed_edges()),
+        count(points.undirected_edges()),
+        count(points.all_faces()),
+        count(points.inner_faces()),
+        count(points.convex_hull()),
     ];
     let names = [
-        points.fixed_vertices().count(),
-        points.fixed_directed_edges().count(),
-        points.fixed_undirected_edges().count(),
-        points.fixed_all_faces().count(),
-        points.fixed_inner_faces().count(),
+        count(points.fixed_vertices()),
+        count(points.fixed_directed_edges()),
+        count(points.fixed_undirected_edges()),
+        count(points.fixed_all_faces()),
+        count(points.fixed_inner_faces()),
     ];
     let voronoi = [
-        points.voronoi_faces().count(),
-        points.directed_voronoi_edges().count(),
-        points.undirected_voronoi_edges().count(),
+        count(points.voronoi_faces()),
+        count(points.directed_voronoi_edges()),
+        count(points.undirected_voronoi_edges()),
     ];
     println!(rt; "{elements:?} {names:?} {voronoi:?}")?;
     Ok(())

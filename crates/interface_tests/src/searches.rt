@@ -1,7 +1,8 @@
 //! Where points of three rows of three are, and which vertex is nearest, as a triangulation grows.
 use exact_tests::ExactTests;
 use spade_delaunay::{
-    DelaunayTriangulation, HintGenerator, Point2, PositionInTriangulation, Triangulation, validate_vertex,
+    DelaunayTriangulation, HintGenerator, Point2, PositionInTriangulation, Triangulation,
+    validate_vertex,
 };
 
 /// A triangulation with data, and with hints of this type.
@@ -30,14 +31,20 @@ fn kind_of(answer: PositionInTriangulation) -> &'static str {
     }
 }
 
+// The square of a difference, which is small here.
+fn squared(a: i64, b: i64) -> i64 {
+    let difference = a.wrapping_sub(b);
+    difference.wrapping_mul(difference)
+}
+
 // The squared distance to the nearest vertex.
 fn distance<L: HintGenerator<i64>>(points: &Hinted<L>, point: Point2<i64>) -> Option<i64> {
     if validate_vertex(&point).is_err() {
         return None;
     }
-    let nearest = points.nearest_neighbor(point, &ExactTests)?;
-    points.recall_invariant();
-    Some(nearest.data().distance_2(point))
+    let nearest = points.nearest_neighbor(point, &ExactTests)?.data();
+    let (x, y) = (squared(nearest.x, point.x), squared(nearest.y, point.y));
+    Some(x.wrapping_add(y))
 }
 
 fn print_answers<L: HintGenerator<i64>>(

@@ -3,8 +3,8 @@
 use crate::generators::{Listing, Told};
 use crate::searches::Hinted;
 use exact_tests::ExactTests;
-use spade_delaunay::{Point2, Triangulation};
 use spade_delaunay::handles::FixedVertexHandle;
+use spade_delaunay::{Point2, Triangulation};
 
 fn print_told(rt: &HostRuntime, points: &Hinted<Listing>) -> anyhow::Result<()> {
     for told in &points.hint_generator().told {

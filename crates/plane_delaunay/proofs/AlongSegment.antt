@@ -81,7 +81,6 @@ module _ (p q : Fraction) (apart : ¬ IsSame p q) where
   pub placed : (x y : Fraction) → OnSegment p q x → OnSegment p q y → Placed p x y
   placed x y hx hy = go (trichotomy_ℤ (reach p q x *ℤ y.w -ℤ reach p q y *ℤ x.w))
     where
-
       go : ((reach p q x *ℤ y.w -ℤ reach p q y *ℤ x.w) <ℤ pos 0) ⊎ ((reach p q x *ℤ y.w -ℤ reach p q y *ℤ x.w ≡ pos 0) ⊎ (pos 0 <ℤ (reach p q x *ℤ y.w -ℤ reach p q y *ℤ x.w))) → Placed p x y
       go (inl h) = sooner (nearer_if x y hx hy (less_by_negative_difference _ _ h))
       go (inr (inl e)) = as_soon (same_if x y hx hy (no_difference _ _ e))
@@ -94,7 +93,6 @@ module _ (p q : Fraction) (apart : ¬ IsSame p q) where
   pub reach_less : (x y : Fraction) → OnSegment p q x → OnSegment p q y → IsNearer p x y → (reach p q x *ℤ y.w) <ℤ (reach p q y *ℤ x.w)
   reach_less x y hx hy near = go (trichotomy_ℤ (reach p q x *ℤ y.w -ℤ reach p q y *ℤ x.w))
     where
-
       go : ((reach p q x *ℤ y.w -ℤ reach p q y *ℤ x.w) <ℤ pos 0) ⊎ ((reach p q x *ℤ y.w -ℤ reach p q y *ℤ x.w ≡ pos 0) ⊎ (pos 0 <ℤ (reach p q x *ℤ y.w -ℤ reach p q y *ℤ x.w))) → (reach p q x *ℤ y.w) <ℤ (reach p q y *ℤ x.w)
       go (inl h) = less_by_negative_difference _ _ h
       go (inr (inl e)) = absurd (same_not_nearer p x y (same_if x y hx hy (no_difference _ _ e)) near)
@@ -183,7 +181,6 @@ still_before : (ru rn uw nw qw l : ℤ) → (ru *ℤ nw) ≤ℤ (rn *ℤ uw) →
 still_before ru rn uw nw qw l h i hn hu hq = le_of_mul-le-mul_ℤ {k = nw} hn
     (let p = mul-nonneg_ℤ {a = qw} {b = rn *ℤ uw -ℤ ru *ℤ nw} (weak hq) (difference_not_negative _ _ h) in let r = mul-nonneg_ℤ {a = uw} {b = l *ℤ nw -ℤ rn *ℤ qw} (weak hu) (difference_not_negative _ _ i) in let e = sums ru rn uw nw qw l in at_most_by_difference_to _ _ (subst (λ z. pos 0 ≤ℤ z) e (sum_not_negative_of p r)))
   where
-
     sums : (ru rn uw nw qw l : ℤ) → qw *ℤ (rn *ℤ uw -ℤ ru *ℤ nw) +ℤ uw *ℤ (l *ℤ nw -ℤ rn *ℤ qw) ≡ nw *ℤ (l *ℤ uw) -ℤ nw *ℤ (ru *ℤ qw)
     sums ru rn uw nw qw l = ring_in (ru ∷ rn ∷ uw ∷ nw ∷ qw ∷ l ∷ []) (λ ru rn uw nw qw l. qw ⊗ (rn ⊗ uw ⊖ ru ⊗ nw) ⊕ uw ⊗ (l ⊗ nw ⊖ rn ⊗ qw)) (λ ru rn uw nw qw l. nw ⊗ (l ⊗ uw) ⊖ nw ⊗ (ru ⊗ qw)) tt
 

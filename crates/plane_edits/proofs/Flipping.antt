@@ -101,7 +101,6 @@ area_nonneg : (a b c : Point) → pos 0 <ℤ bracket (lift a) (lift b) (lift c) 
 unfolding area
 area_nonneg a b c h = mul-nonneg_ℤ (subst (λ z. pos 0 ≤ℤ z) (bracket-affine a b c) (weak h)) (sum_of_three_not_negative (squared_length a) (squared_length b) (squared_length c) (length_nonneg a) (length_nonneg b) (length_nonneg c))
   where
-
     length_nonneg : (p : Point) → pos 0 ≤ℤ squared_length p
     length_nonneg p = sum_not_negative (p.x *ℤ p.x) (p.y *ℤ p.y) (square-nonneg_ℤ p.x) (square-nonneg_ℤ p.y)
 

@@ -84,7 +84,6 @@ module _ (p q : Fraction) (apart : ¬ IsSame p q) (A B C : Fraction) (turning : 
   reaches_corner level high past = segment_from (bracket p q B) (neg_ℤ (bracket A B q)) (bracket A B p) p q A high (negation_not_negative (bracket A B q) past) (weak inside.first)
       (λ u v. parts (bracket A B q) (bracket A B p) (bracket u v p) (bracket u v q) (bracket q p B) (bracket u v A) (bracket q p A) (bracket u v B) (bracket p q B) (meeting A B p q u v) (opposite_of_zero_of (bracket-swapped p q A) level) (bracket-swapped p q B))
     where
-
       parts : (f g x y k z l w n : ℤ) → f *ℤ x -ℤ g *ℤ y ≡ k *ℤ z -ℤ l *ℤ w → l ≡ pos 0 → k ≡ neg_ℤ n → n *ℤ z ≡ neg_ℤ f *ℤ x +ℤ g *ℤ y
       parts f g x y k z l w n e d c = let a = product_zero_left {a = l} w d in let b : k *ℤ z ≡ neg_ℤ n *ℤ z = ap (λ m. m *ℤ z) c in omega (arith, ints, neg-mul_ℤ n z, neg-mul_ℤ f x)
 

@@ -76,7 +76,6 @@ both_weak fv tw fw tu fu tk e hv hw hu a b = go (zero_or_left a) (zero_or_left b
     positive : (fv *ℤ tw) <ℤ pos 0 → pos 0 <ℤ tw
     positive h = by (lt_or_ge_ℤ (pos 0) tw)
       where
-
         by : (pos 0 <ℤ tw) ⊎ (tw ≤ℤ pos 0) → pos 0 <ℤ tw
         by (inl k) = k
         by (inr k) = absurd (right_not_above h (subst (λ z. pos 0 ≤ℤ z) (negatives fv tw) (mul-nonneg_ℤ (negated_negative hv) (negated_not_negative k))))
@@ -170,7 +169,6 @@ and_off false b h = refl
 not_before_itself : (i p : Point) → comes_before i p p ≡ false
 not_before_itself i p = rw (test_false (pos 0) (turn_at i p p) (zero_weak (turn-same i p)), test_false (turn_at i p p) (pos 0) (zero_weak_left (turn-same i p))) (test_false (squared_way i p) (squared_way i p) (own (squared_way i p)))
   where
-
     own : (z : ℤ) → z ≤ℤ z
     own z = omega (arith, ints)
 

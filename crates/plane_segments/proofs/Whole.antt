@@ -36,7 +36,6 @@ sum_most k l n x y z e hn hk hl hx hy hz = clash (n *ℤ z) (k *ℤ x) (l *ℤ y
 opposite_by_means : (x y : ℤ) → (pos 0 ≤ℤ x → pos 0 ≤ℤ y → ⊥) → (x ≤ℤ pos 0 → y ≤ℤ pos 0 → ⊥) → AreOpposite x y
 opposite_by_means x y some_below some_above = go (trichotomy_ℤ x) (trichotomy_ℤ y)
   where
-
     go : (x <ℤ pos 0) ⊎ ((x ≡ pos 0) ⊎ (pos 0 <ℤ x)) → (y <ℤ pos 0) ⊎ ((y ≡ pos 0) ⊎ (pos 0 <ℤ y)) → AreOpposite x y
     go (inl h) (inl k) = absurd (some_above (weak_right h) (weak_right k))
     go (inl h) (inr (inl k)) = absurd (some_above (weak_right h) (zero_weak k))
@@ -103,7 +102,6 @@ module _ (i j a b c d : Point) (ij : ¬ (i ≡ j)) (ab : ¬ IsSame (whole a) (wh
   others_parted = let t = two_weights IsPositive (whole c) (whole d) cross.at cross.within_second in
       opposite_if_none t.k t.l (from_ij c) (from_ij d) t.k_allowed t.l_allowed (sym (bracket_of_two IsPositive (lift i) (lift j) (whole c) (whole d) cross.at t) ∙ zero-mul_ℤ t.n on_line) (λ e f. not_flat ends_parted (flat i j (lift c) (lift d) (lift i) ij e f (bracket-outer (lift i) (lift j))))
     where
-
       not_flat : AreOpposite (from_cd i) (from_cd j) → from_cd i ≡ pos 0 → ⊥
       not_flat (inl o) e = zero_is_not_below (from_cd i) e o.0
       not_flat (inr o) e = zero_is_not_above (from_cd i) e o.0

@@ -179,7 +179,6 @@ module _ (n : ℕ) (p : ℕ → Point) (outer : List (ℕ × ℕ)) (m : SignLine
       none_between = λ i hi w. none i hi (order_k k j i w);
     })
       where
-
         none : (i : ℕ) → i < n → ((spot k <ℤ spot i) × (spot i <ℤ spot j)) ⊎ (((spot j <ℤ spot i) × (spot i <ℤ spot k)) ⊎ ((spot k ≡ spot i) × (spot i ≡ spot j))) → ⊥
         none i hi (inl o) = less_in_a_ring (spot k) (spot i) (spot j) o.0 o.1 s.below
         none i hi (inr (inl o)) = below_and_not_below (spot j) (spot i) o.0 (s.top i hi o.1)
@@ -241,7 +240,6 @@ module _ (n : ℕ) (p : ℕ → Point) (outer : List (ℕ × ℕ)) (m : SignLine
           within = within_y k j s.index t.index l (less_by_negations (spot j) mark t.below);
         })
           where
-
             chain : (a b c t : ℤ) → a <ℤ t → t <ℤ b → c <ℤ a → b <ℤ c → ⊥
             chain a b c t h k l n = omega (arith, ints)
 

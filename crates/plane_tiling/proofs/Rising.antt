@@ -192,7 +192,6 @@ module _ (height : ℕ → ℤ) where
     one_way_rises : (s t : ℕ) → s < n → t < n → s ≢ t → rise s t +ℤ rise t s ≡ pos 1
     one_way_rises s t hs ht a = go (up s t) (up t s) refl refl
       where
-
         go : (x y : Bool) → up s t ≡ x → up t s ≡ y → bit (up s t) +ℤ bit (up t s) ≡ pos 1
         go true true e d = absurd (less_both_ways (height s) (height t) (if_rises (height s) (height t) e) (if_rises (height t) (height s) d))
         go true false e d = λ i. bit (e i) +ℤ bit (d i)

@@ -380,7 +380,6 @@ module _ (n : ℕ) (p : ℕ → Point) (faces : List Face) (outer : List (ℕ ×
   unfolding count_at
   count_none top = sum_of_zeros (total (begins_at height v) faces) (total (leaves height v) outer) (all_none (begins_at height v) faces (λ f h. begins_none f h (begins_bits f h))) (all_none (leaves height v) outer (λ e h. leaves_none e h (leaves_bits height v e)))
     where
-
       begins_none : (f : Face) → Contains faces f → (begins_at height v f ≡ pos 0) ⊎ (begins_at height v f ≡ pos 1) → begins_at height v f ≡ pos 0
       begins_none f h (inl e) = e
       begins_none f h (inr e) = absurd (let b = begins_found f (one_above e) in below_and_not_below (height v) (height b.a) b.rises (top b.a (C.turn_corners n p faces outer m v b.a b.c (L.turn_on n p faces outer m v b.a b.c f b.on h)).1))

@@ -39,6 +39,7 @@ pub use Rattle.delaunay_edit.specs.Location
 pub use Rattle.delaunay_edit.specs.Removal
 pub use Rattle.delaunay_edit.specs.Storage
 pub use Rattle.delaunay_edit.specs.Writing
+pub use Rattle.delaunay_interface.specs.ConstraintEdges
 pub use Rattle.delaunay_interface.specs.InnerFaces
 pub use Rattle.delaunay_interface.specs.Views
 pub use Rattle.delaunay_shape_queries.specs.Found

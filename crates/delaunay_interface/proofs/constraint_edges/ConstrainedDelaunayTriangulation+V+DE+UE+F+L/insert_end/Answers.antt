@@ -1,0 +1,15 @@
+use Rattle.delaunay_edit.specs.Constrained.{constraint_edges}
+use Rattle.delaunay_interface.proofs.Stepping.{inserted_grows, inserted_here, inserted_sites}
+use Rattle.delaunay_interface.proofs.constraint_edges.ConstrainedDelaunayTriangulation+V+DE+UE+F+L.insert_end.Goals as goal
+
+pub returns-in-Ok-clause-inserts : goal.returns-in-Ok-clause-inserts
+returns-in-Ok-clause-inserts g c = c.in-Ok.ensures.inserts
+
+pub returns-in-Ok-clause-within : goal.returns-in-Ok-clause-within
+returns-in-Ok-clause-within g c = inserted_here g.V.HasPosition.place constraint_edges c.args.self.now c.insert.new.self c.args.value c.in-Ok.vertex c.in-Ok.ensures.inserts
+
+pub returns-in-Ok-clause-grows : goal.returns-in-Ok-clause-grows
+returns-in-Ok-clause-grows g c = inserted_grows g.V.HasPosition.place constraint_edges c.args.self.now c.insert.new.self c.args.value c.in-Ok.vertex c.in-Ok.ensures.inserts
+
+pub returns-in-Ok-clause-sites : goal.returns-in-Ok-clause-sites
+returns-in-Ok-clause-sites g c = inserted_sites g.V.HasPosition.place constraint_edges c.args.self.now c.insert.new.self c.args.value c.in-Ok.vertex c.in-Ok.ensures.inserts (g.P.PlaneTests.sites c.args.tests.now) (c.requires.sites c.recall_invariant.ensures.in_range) c.requires.new_site
