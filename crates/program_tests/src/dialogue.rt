@@ -1,5 +1,6 @@
 //! Dialogues with the program.
 
+use spade_delaunay::LastUsedVertexHintGenerator;
 use std::alloc::{AllocError, Global};
 use triangulate_run::session::run;
 use triangulate_run::sheet::{Sheet, letter_named};
@@ -10,7 +11,13 @@ use watched::Watched;
 pub(crate) fn written(alloc: Global, sheet: Sheet, input: &[u8]) -> Option<Vec<u8>> {
     let mut reader = Watched::new(input);
     let mut writer = Watched::new(Vec::new(alloc));
-    run(alloc, &sheet, sheet.points(), &mut reader, &mut writer).ok()?;
+    run::<LastUsedVertexHintGenerator, _, _, _>(
+        alloc,
+        &sheet,
+        sheet.points(),
+        &mut reader,
+        &mut writer,
+    ).ok()?;
     Some(writer.into_inner())
 }
 

@@ -1,5 +1,6 @@
 //! Runs with readers and writers that fail at a call.
 
+use spade_delaunay::LastUsedVertexHintGenerator;
 use std::alloc::Global;
 use std::cell::Cell;
 use std::io;
@@ -146,7 +147,13 @@ fn run_to_fault(alloc: Global, faults: Faults) -> Left {
         flushed: &flushed,
     });
     let sheet = Sheet::G;
-    let outcome = run(alloc, &sheet, sheet.points(), &mut reader, &mut writer);
+    let outcome = run::<LastUsedVertexHintGenerator, _, _, _>(
+        alloc,
+        &sheet,
+        sheet.points(),
+        &mut reader,
+        &mut writer,
+    );
     let failed = (reader.failed(), writer.failed());
     let Narrow { taken, calls, .. } = writer.into_inner();
     Left {

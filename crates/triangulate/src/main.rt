@@ -1,6 +1,7 @@
 //! The program over standard input and output.
 #![tactic(auto)]
 
+use spade_delaunay::LastUsedVertexHintGenerator;
 use std::env::FillError;
 use std::io;
 use std::io::{BufReader, Input, Read};
@@ -49,7 +50,13 @@ fn answer_all<R: Read + Drop>(
 ) -> Result<(), RunError> {
     let mut reader = Watched::new(reader);
     let mut writer = Watched::new(io::writer(rt));
-    run(rt.alloc(), &sheet, sheet.points(), &mut reader, &mut writer)
+    run::<LastUsedVertexHintGenerator, _, _, _>(
+        rt.alloc(),
+        &sheet,
+        sheet.points(),
+        &mut reader,
+        &mut writer,
+    )
 }
 
 /// Answers standard input on standard output. Where there is no memory for a buffer, each byte is read

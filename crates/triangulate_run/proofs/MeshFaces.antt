@@ -1,12 +1,10 @@
 -- The faces of a mesh, one after another, as rows of corners.
-use Rattle.std.proofs.Common.{◌≡◌, ℕ, ◌+◌, ◌-◌, ◌<◌, List, [], ◌∷◌, ◌++◌, length, map, get_or, refl, sym, ◌∙◌, ap, arith, append_assoc, append-nil, subst}
-use Rattle.std.specs.Prelude.{All}
+use Rattle.std.proofs.Common.{◌≡◌, ℕ, ◌+◌, ◌-◌, ◌<◌, List, [], ◌∷◌, ◌++◌, length, map, get_or, refl, sym, ◌∙◌, ap, arith, append_assoc, append-nil}
 use Rattle.std.specs.Borrow.{Bor}
 use Rattle.std.specs.List.{range_with_len}
 use Rattle.std.proofs.lemmas.List.{get_or-map, length-map, same_lists}
 use Rattle.std.proofs.Math.ListN.{get_or-map as get_or-map-default}
-use Rattle.std.proofs.lemmas.List.Elements.{All-head, All-tail}
-use Rattle.std.proofs.lemmas.List.FromFn.{get_or-map-range_with_len, length-map-range_with_len, get_or-range_with_len, length-range_with_len}
+use Rattle.std.proofs.lemmas.List.FromFn.{get_or-map-range_with_len, length-map-range_with_len}
 use Rattle.plane.specs.Fraction.{Point}
 use Rattle.half_edge_mesh.specs.Mesh.{Mesh, face_edge}
 use Rattle.half_edge_mesh.specs.Triangles.{Triangle, triangle_at, triangles}
@@ -25,9 +23,6 @@ first_left m (i ∷ rest) x left e = (i, rest, refl, cc, cc)
 pub none_left : {C : Type 0} (m : Bor C) (rest : List ℕ) → each_in m rest ≡ [] → rest ≡ []
 none_left m [] e = refl
 none_left m (i ∷ rest) e = cc
-
-pub positive_from_one : (n : ℕ) → All (λ i. 0 < i) (range_with_len 1 n)
-positive_from_one n = λ k d h. let at = get_or-range_with_len 1 n k d (omega (arith, h, length-range_with_len 1 n)) in omega (arith, at)
 
 module _ (m : Mesh) (points : List Point) where
   row_same : (k : ℕ) (d : Corners) → k < length m.face_edges → get_or (map row_of (triangles m)) k d ≡ row_at m (k + 1)
@@ -60,12 +55,6 @@ row_more row done r rest others k all split e so_far =
 
 pub rows_end : (row : ℕ → Corners) (done : List Corners) (rest : List ℕ) (all : List Corners) → rest ≡ [] → done ++ map row rest ≡ all → done ≡ all
 rows_end row done rest all e so_far = sym (append-nil done) ∙ ap (λ ys. done ++ map row ys) (sym e) ∙ so_far
-
-pub positive_first : (rest others : List ℕ) (k : ℕ) → rest ≡ k ∷ others → All (λ i. 0 < i) rest → 0 < k
-positive_first rest others k e h = All-head (λ (i : ℕ). 0 < i) k others (subst (λ (ys : List ℕ). All (λ i. 0 < i) ys) e h)
-
-pub positive_rest : (rest others : List ℕ) (k : ℕ) → rest ≡ k ∷ others → All (λ i. 0 < i) rest → All (λ i. 0 < i) others
-positive_rest rest others k e h = All-tail (λ (i : ℕ). 0 < i) k others (subst (λ (ys : List ℕ). All (λ i. 0 < i) ys) e h)
 
 -- the row of a face whose corners are these
 pub row_if : (m : Mesh) (f a b c : ℕ) → (let t = triangle_at m (face_edge m f) in (a ≡ t.first) × (b ≡ t.second) × (c ≡ t.third)) → least_first a b c ≡ row_at m f

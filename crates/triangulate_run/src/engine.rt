@@ -20,21 +20,21 @@ use crate::session::Engine;
 use command_grammar::command::{Command, Coordinates};
 use spade_delaunay::handles::{FaceHandle, FixedVertexHandle};
 use spade_delaunay::{
-    DelaunayTriangulation, InsertionError, PlaneTests, Point2, PositionInTriangulation,
-    Triangulation, validate_vertex,
+    DelaunayTriangulation, HintGenerator, InsertionError, PlaneTests, Point2,
+    PositionInTriangulation, Triangulation, validate_vertex,
 };
 use std::alloc::{AllocError, Global};
 
 /// A triangulation that answers commands, with the tests and the points that it may be asked about.
 #[derive(Drop)]
-pub(crate) struct PointEngine<'a, P> {
-    pub(crate) triangulation: PointTriangulation,
+pub(crate) struct PointEngine<'a, P, L: HintGenerator<i64>> {
+    pub(crate) triangulation: PlainTriangulation<L>,
     pub(crate) tests: &'a P,
     pub(crate) points: &'a [SheetPoint],
     pub(crate) alloc: Global,
 }
 
-impl<P: PlaneTests<i64>> Engine for PointEngine<'_, P> {
+impl<P: PlaneTests<i64>, L: HintGenerator<i64>> Engine for PointEngine<'_, P, L> {
     ghost listed = { λ e. e.points.now };
 
     ghost stage = { λ e. stage_of e.triangulation };
@@ -58,7 +58,7 @@ impl<P: PlaneTests<i64>> Engine for PointEngine<'_, P> {
     }
 }
 
-impl<'a, P: PlaneTests<i64>> PointEngine<'a, P> {
+impl<'a, P: PlaneTests<i64>, L: HintGenerator<i64>> PointEngine<'a, P, L> {
     /// An engine without vertices.
     pub(crate) fn new(alloc: Global, tests: &'a P, points: &'a [SheetPoint]) -> Self
         requires covered { All (λ s. P.covered tests.now (place s)) points.now }
@@ -68,7 +68,7 @@ impl<'a, P: PlaneTests<i64>> PointEngine<'a, P> {
         ensures stage { stage_of result.triangulation ≡ first_stage }
         ensures fits { Fits (stage_of result.triangulation) }
     {
-        let triangulation = PointTriangulation::new(alloc);
+        let triangulation = PlainTriangulation::new(alloc);
         triangulation.recall_invariant();
         PointEngine {
             triangulation,
@@ -157,7 +157,7 @@ fn point_of(place: Coordinates) -> Point2<i64>
 }
 
 /// How many vertices, edges, inner faces and constraints there are.
-fn counts_of(triangulation: &PointTriangulation) -> Reply
+fn counts_of<L: HintGenerator<i64>>(triangulation: &PlainTriangulation<L>) -> Reply
     ensures { MayCount (stage_of triangulation.now) result }
 {
     triangulation.recall_invariant();
@@ -170,10 +170,13 @@ fn counts_of(triangulation: &PointTriangulation) -> Reply
 }
 
 /// Vertices that are points and carry no further data.
-type PointTriangulation = DelaunayTriangulation<Point2<i64>>;
+type PlainTriangulation<L> = DelaunayTriangulation<Point2<i64>, (), (), (), L>;
 
 /// All faces, sorted.
-fn faces_of(triangulation: &PointTriangulation, alloc: Global) -> Result<Vec<Corners>, AllocError>
+fn faces_of<L: HintGenerator<i64>>(
+    triangulation: &PlainTriangulation<L>,
+    alloc: Global,
+) -> Result<Vec<Corners>, AllocError>
     ensures { IfOk result (λ list. ListsFaces (triangulation_of position triangulation.now) list.items) }
 {
     triangulation.recall_invariant();
@@ -210,7 +213,10 @@ fn edge_reply(i: u64, j: u64) -> Reply
 }
 
 /// The reply to a query of a point that is there.
-fn location_reply(triangulation: &PointTriangulation, answer: PositionInTriangulation) -> Reply
+fn location_reply<L: HintGenerator<i64>>(
+    triangulation: &PlainTriangulation<L>,
+    answer: PositionInTriangulation,
+) -> Reply
     requires handle { HasElement triangulation.now answer }
     requires tiling { IsTiling (triangulation_of position triangulation.now) }
     ensures { (p : Point) → IsLocation (triangulation_of position triangulation.now) (whole p) (location_of triangulation.now.mesh answer)

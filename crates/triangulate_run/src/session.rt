@@ -18,7 +18,7 @@ use crate::output::write_all;
 use crate::points::SheetPoint;
 use crate::reply::{Reply, write_reply};
 use command_grammar::command::Command;
-use delaunay_core::math::PlaneTests;
+use spade_delaunay::{HintGenerator, PlaneTests};
 use std::alloc::Global;
 use std::io::{Read, Write};
 use watched::{Failed, Watched};
@@ -147,7 +147,7 @@ pub(crate) fn converse<E: Engine, R: Read, W: Write>(
 ///
 /// `Read` where the reader failed: all complete lines that it gave are answered. `Write` where the
 /// writer failed: what it took is a beginning of the answers.
-pub fn run<P: PlaneTests<i64>, R: Read, W: Write>(
+pub fn run<L: HintGenerator<i64>, P: PlaneTests<i64>, R: Read, W: Write>(
     alloc: Global,
     tests: &P,
     points: &[SheetPoint],
@@ -160,6 +160,6 @@ pub fn run<P: PlaneTests<i64>, R: Read, W: Write>(
     requires writer_works { has_failed writer.old ≡ false }
     ensures { Ran points.now R.remaining W.contents reader.old reader.new writer.old writer.new result }
 {
-    let mut engine = PointEngine::new(alloc, tests, points);
+    let mut engine: PointEngine<'_, P, L> = PointEngine::new(alloc, tests, points);
     converse(&mut engine, reader, writer)
 }

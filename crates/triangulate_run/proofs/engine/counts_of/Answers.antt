@@ -4,7 +4,7 @@ use Rattle.triangulate_run.proofs.Locations.{edges_counted, none_counted}
 use Rattle.triangulate_run.proofs.engine.counts_of.Goals as goal
 
 pub returns : goal.returns
-returns c = record {
+returns g c = record {
   vertices_are = c.num_vertices.ensures;
   edges_are = edges_counted (triangulation_of position c.args.triangulation.now) c.recall_invariant.ensures.headline.tiling c.num_undirected_edges.result c.num_undirected_edges.ensures.value;
   faces_are = c.num_inner_faces.ensures.value;

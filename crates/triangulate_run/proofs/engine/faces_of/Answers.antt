@@ -1,6 +1,6 @@
 use Rattle.std.specs.Prelude.{AllPairs, IsPermutation}
 use Rattle.triangulate_run.specs.declared.corners.Corners.{Corners}
-use Rattle.std.proofs.Common.{◌<◌, List, ◌≢◌, ◌≡◌, ◌++◌, length, map, sym, ◌∙◌, ap, subst}
+use Rattle.std.proofs.Common.{List, ◌≢◌, ◌≡◌, ◌++◌, length, map, sym, ◌∙◌, ap, subst}
 use Rattle.std.specs.List.{range_with_len}
 use Rattle.std.proofs.Common.{arith}
 use Rattle.std.proofs.lemmas.List.{length-map}
@@ -15,7 +15,7 @@ use Rattle.triangulate_run.proofs.FaceList.{lists_faces, rows_differ}
 use Rattle.triangulate_run.proofs.engine.faces_of.Goals as goal
 
 pub loop-face-init : goal.loop-face-init
-loop-face-init c =
+loop-face-init g c =
     let it = c.inner_faces-face-items.ensures in
     record {
       mesh = it.mesh;
@@ -25,11 +25,8 @@ loop-face-init c =
       so_far = ap (λ ys. ys ++ map (row_at it.mesh.now.mesh) (range_with_len 1 (length c.args.triangulation.now.faces))) c.in_ok-faces.ensures.items;
     }
 
-pub corners_of-requires : goal.corners_of-requires
-corners_of-requires c = c.in-Some.ensures.steps.1
-
 pub loop-face-preserved : goal.loop-face-preserved
-loop-face-preserved c =
+loop-face-preserved g c =
     let i = c.loop-face.invariant in
     let face = c.in-Some.face in
     let step = first_left i.mesh i.rest (face.dcel, face.index) (inner_faces_left c.next.new.self) (i.left ∙ c.in-Some.ensures.steps.0) in
@@ -46,7 +43,7 @@ loop-face-preserved c =
     }
 
 pub returns : goal.returns
-returns c =
+returns g c =
     let i = c.loop-face.invariant in
     let t = triangulation_of position c.args.triangulation.now in
     let mesh_is = ap (λ s. s.mesh) i.same in

@@ -3,13 +3,13 @@ use Rattle.std.specs.Borrow.{Bor}
 use Rattle.std.specs.List.{range_with_len}
 use Rattle.half_edge_mesh.specs.Contents.{Contents}
 use Rattle.half_edge_mesh.specs.Left.{each_in}
-use Rattle.delaunay_legalization.specs.State.{state_of}
 use Rattle.delaunay_interface.specs.InnerFaces.{inner_faces_left}
+use Rattle.delaunay_legalization.specs.State.{state_of}
 use Rattle.triangulate_run.specs.MeshFaces.{row_at}
 use Rattle.triangulate_run.proofs.engine.faces_of.Given as goal
 
 abbrev pub invariant-loop-face : goal.invariant-loop-face
-invariant-loop-face l = record {
+invariant-loop-face g l = record {
   mesh : Bor (Contents _ _ _ _);
   same : state_of mesh.now ≡ l.triangulation;
   rest : List ℕ;

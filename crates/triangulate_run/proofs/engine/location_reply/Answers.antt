@@ -11,7 +11,7 @@ use Rattle.triangulate_run.proofs.Locations.{edge_there, face_there}
 use Rattle.triangulate_run.proofs.engine.location_reply.Goals as goal
 
 pub returns-in-OnEdge : goal.returns-in-OnEdge
-returns-in-OnEdge c = λ p h.
+returns-in-OnEdge g c = λ p h.
     let t = triangulation_of position c.args.triangulation.now in
     let m = c.args.triangulation.now.mesh in
     let e = c.in-OnEdge.edge in
@@ -23,7 +23,7 @@ returns-in-OnEdge c = λ p h.
     edge_there t c.requires.tiling p (origin m e) (origin m (rev e)) _ _ c.edge_reply.result from to c.edge_reply.ensures located
 
 pub returns-in-OnFace : goal.returns-in-OnFace
-returns-in-OnFace c = λ p h.
+returns-in-OnFace g c = λ p h.
     let t = triangulation_of position c.args.triangulation.now in
     let m = c.args.triangulation.now.mesh in
     let mesh_is = ap (λ s. s.mesh) c.face.ensures.state in
