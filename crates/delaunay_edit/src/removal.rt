@@ -11,8 +11,8 @@ ghost use Rattle.delaunay_edit.specs.Headline.{AreSites, IsDelaunay};
 use crate::edited_mesh::EditedMesh;
 use delaunay_core::math::PlaneTests;
 use delaunay_core::point::HasPosition;
-use delaunay_legalization::{ConstraintMarker, legalize_all};
-use delaunay_removal::remove_vertex;
+use delaunay_legalization::{ConstraintMarker, legalize_among};
+use delaunay_removal::{neighbours_left, remove_vertex};
 use half_edge_mesh::FixedVertexHandle;
 use std::alloc::AllocError;
 
@@ -41,7 +41,7 @@ impl<V: HasPosition, DE: Drop, UE: Drop, F: Drop, M: ConstraintMarker<UE>> Edite
     F,
     M,
 > {
-    // Takes a vertex out and tests each edge of what is left, or a refusal that changes nothing.
+    // Takes a vertex out and tests the edges between its neighbours, or a refusal that changes nothing.
     fn take_out<P: PlaneTests<V::Scalar>>(
         &mut self,
         vertex: FixedVertexHandle,
@@ -59,6 +59,7 @@ impl<V: HasPosition, DE: Drop, UE: Drop, F: Drop, M: ConstraintMarker<UE>> Edite
         self.work.reserve(3 * self.dcel.num_vertices())?;
         self.sides.clear();
         self.sides.reserve(self.dcel.num_directed_edges())?;
+        let neighbours = neighbours_left(&self.dcel, vertex, *self.work.allocator())?;
         let value = remove_vertex::<M, _, _, _, _, _>(
             &mut self.dcel,
             vertex,
@@ -66,7 +67,13 @@ impl<V: HasPosition, DE: Drop, UE: Drop, F: Drop, M: ConstraintMarker<UE>> Edite
             &mut self.sides,
         );
         let mut flips = 0;
-        legalize_all::<M, _, _, _, _, _>(&mut self.dcel, tests, &mut self.work, &mut flips);
+        legalize_among::<M, _, _, _, _, _>(
+            &mut self.dcel,
+            neighbours.as_slice(),
+            tests,
+            &mut self.work,
+            &mut flips,
+        );
         Ok(value)
     }
 

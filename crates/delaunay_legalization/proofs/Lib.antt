@@ -7,6 +7,8 @@ pub mod Legalizing
 pub mod WorkList
 pub mod ConstraintEdges
 pub mod Flips
+pub mod Pushing
 pub mod Stars
+pub mod AmongVertices
 pub mod MeshParts
 pub mod MarkedPairs

@@ -37,7 +37,8 @@ no_face i j k (inl c) = Contains-none (corners i j k) c
 no_face i j k (inr (inl c)) = Contains-none (corners j k i) c
 no_face i j k (inr (inr c)) = Contains-none (corners k i j) c
 
-face_corners : (points : List Point) (faces : List Face) (outer : List (ℕ × ℕ)) → IsMesh points faces outer → (i j k : ℕ) → IsFaceOf faces i j k → (i < length points) × (j < length points) × (k < length points)
+-- the corners of a face are points
+pub face_corners : (points : List Point) (faces : List Face) (outer : List (ℕ × ℕ)) → IsMesh points faces outer → (i j k : ℕ) → IsFaceOf faces i j k → (i < length points) × (j < length points) × (k < length points)
 face_corners points faces outer (inl m) i j k f = index_of points faces outer m i j k f
 face_corners points faces outer (inr m) i j k f = absurd (no_face i j k (subst (λ fs. IsFaceOf fs i j k) m.0 f))
 
@@ -116,114 +117,6 @@ module _ (m : Mesh) (s : AreSoundLinks m) (v : ℕ) (ks : List ℕ) (star : HasS
       go (inr x) (inl y) = absurd (untested (back (star_joins j i l g y)))
       go (inr x) (inr y) = passing i j k l f g free x y
 
--- ---- the list as the edges of a vertex are put in, one after another
--- what is left of the edges of vertex v, and the list so far
-pub record IsPushing {V D U F : Type 0} (c : Contents V D U F) (v : ℕ) (given : List (Bor (Contents V D U F) × ℕ)) (ks : List ℕ) (room_was room : ℕ) : Type 0 where
-  pub mesh : Bor (Contents V D U F)
-  pub same : mesh.now ≡ c
-  pub rest : List ℕ
-  pub left : each_in mesh rest ≡ given
-  pub within : (h : ℕ) → Contains rest h → h < length c.mesh.half_edges
-  pub each : (h : ℕ) → h < length c.mesh.half_edges → origin c.mesh h ≡ v → Contains rest h ⊎ HasSidesAt c.mesh h ks
-  pub edges : AreEdges c.mesh ks
-  pub room_stays : room ≡ room_was
-
--- the first of what is left
-pub first_left : {C : Type 0} (m : Bor C) (rest : List ℕ) (x : Bor C × ℕ) (left : List (Bor C × ℕ)) → each_in m rest ≡ x ∷ left → (i : ℕ) × (others : List ℕ) × (rest ≡ i ∷ others) × ((m, i) ≡ x) × (each_in m others ≡ left)
-first_left m [] x left e = cc
-first_left m (i ∷ rest) x left e = (i, rest, refl, cc, cc)
-
--- nothing is given, so nothing was left
-pub none_left : {C : Type 0} (m : Bor C) (rest : List ℕ) → each_in m rest ≡ [] → rest ≡ []
-none_left m [] e = refl
-none_left m (i ∷ rest) e = cc
-
-sides_kept : (m : Mesh) (h : ℕ) (ks more : List ℕ) → ((j : ℕ) → Contains ks j → Contains more j) → HasSidesAt m h ks → HasSidesAt m h more
+-- a longer list has them too
+pub sides_kept : (m : Mesh) (h : ℕ) (ks more : List ℕ) → ((j : ℕ) → Contains ks j → Contains more j) → HasSidesAt m h ks → HasSidesAt m h more
 sides_kept m h ks more kept x = record { here = kept (h / 2) x.here; after = kept (next m h / 2) x.after }
-
--- none, so not some
-pub not_some : (o : Option ℕ) → o ≡ None → ¬ IsSome o
-not_some None e had = cc
-not_some (Some k) e had = cc
-
-no_edges : (m : Mesh) → AreEdges m []
-no_edges m = record { within = λ k c. absurd (Contains-none k c); once = once_none }
-
-module _ {V D U F : Type 0} (c : Contents V D U F) (v : ℕ) where
-  -- the round of the vertex, or nothing
-  pub pushing_begins : (d : Bor (Contents V D U F)) (given : List (Bor (Contents V D U F) × ℕ)) (ks : List ℕ) (room_was room : ℕ) → d.now ≡ c → IsValidMesh c.mesh → GivesRound d v given → ks ≡ [] → room ≡ room_was → IsPushing c v given ks room_was room
-  pushing_begins d given ks room_was room same valid gives none stays = go (out_edge d.now.mesh v) refl
-    where
-      mesh_is : d.now.mesh ≡ c.mesh
-      mesh_is = ap (λ (x : Contents V D U F). x.mesh) same
-
-      empty_list : AreEdges c.mesh ks
-      empty_list = subst (AreEdges c.mesh) (sym none) (no_edges c.mesh)
-
-      go : (o : Option ℕ) → out_edge d.now.mesh v ≡ o → IsPushing c v given ks room_was room
-      go None is = record {
-        mesh = d;
-        same = same;
-        rest = [];
-        left = sym (gives.alone is);
-        within = λ h x. absurd (Contains-none h x);
-        each = λ h w e. absurd (no_out (subst (λ (x : ℕ). IsSome (out_edge c.mesh x)) e (valid.sound.edges h w).has_out));
-        edges = empty_list;
-        room_stays = stays;
-      }
-        where
-          no_out : ¬ IsSome (out_edge c.mesh v)
-          no_out x = not_some (out_edge c.mesh v) (ap (λ (m : Mesh). out_edge m v) (sym mesh_is) ∙ is) x
-      go (Some first) is = record {
-        mesh = d;
-        same = same;
-        rest = map (spoke d.now.mesh first) (range_with_len 0 r.0);
-        left = sym r.2;
-        within = λ h x. let y = contains_map_from (spoke d.now.mesh first) (range_with_len 0 r.0) h x in subst (λ (m : Mesh). h < length m.half_edges) mesh_is (subst (λ (k : ℕ). k < length d.now.mesh.half_edges) y.2 (r.1.within y.0));
-        each = λ h w e.
-            let i = r.1.all h (subst (λ (m : Mesh). h < length m.half_edges) (sym mesh_is) w) (ap (λ (m : Mesh). origin m h) mesh_is ∙ e) in
-            inl (subst (λ (k : ℕ). Contains (map (spoke d.now.mesh first) (range_with_len 0 r.0)) k) (sym i.2) (contains_map (spoke d.now.mesh first) (range_with_len 0 r.0) i.0 (from_zero r.0 i.0 i.1)));
-        edges = empty_list;
-        room_stays = stays;
-      }
-        where
-          r : (count : ℕ) × IsRound d.now.mesh v first count × (given ≡ each_in d (map (spoke d.now.mesh first) (range_with_len 0 count)))
-          r = gives.round first is
-
-          from_zero : (n k : ℕ) → k < n → Contains (range_with_len 0 n) k
-          from_zero n k h =
-              let at : 0 + k ≡ k = omega arith in
-              (k, omega (arith, h, length-range_with_len 0 n), get_or-range_with_len 0 n k k h ∙ at)
-
-  module _ (given : List (Bor (Contents V D U F) × ℕ)) (ks : List ℕ) (room_was room : ℕ) (p : IsPushing c v given ks room_was room) where
-    pub next_within : (x : Bor (Contents V D U F) × ℕ) (left : List (Bor (Contents V D U F) × ℕ)) → given ≡ x ∷ left → x.1 < length c.mesh.half_edges
-    next_within x left e =
-        let s = first_left p.mesh p.rest x left (p.left ∙ e) in
-        subst (λ (k : ℕ). k < length c.mesh.half_edges) (ap (λ y. y.1) s.3) (p.within s.0 (subst (λ (xs : List ℕ). Contains xs s.0) (sym s.2) (Contains-head s.0 s.1)))
-
-    pub pushing_goes_on : (x : Bor (Contents V D U F) × ℕ) (left : List (Bor (Contents V D U F) × ℕ)) (more : List ℕ) (room_now : ℕ) → given ≡ x ∷ left → ((j : ℕ) → Contains ks j → Contains more j) → HasSidesAt c.mesh x.1 more → AreEdges c.mesh more → room_now ≡ room → IsPushing c v left more room_was room_now
-    pushing_goes_on x left more room_now e kept sides edges stays = record {
-      mesh = p.mesh;
-      same = p.same;
-      rest = s.1;
-      left = s.4;
-      within = λ h y. p.within h (subst (λ (xs : List ℕ). Contains xs h) (sym s.2) (Contains-later s.0 s.1 h y));
-      each = λ h w is. elim (p.each h w is) [
-        | inl y ↦ elim (Contains-cases s.0 s.1 h (subst (λ (xs : List ℕ). Contains xs h) s.2 y)) [
-          | inl z ↦ inr (subst (λ (k : ℕ). HasSidesAt c.mesh k more) (sym (ap (λ y. y.1) s.3) ∙ z) sides)
-          | inr z ↦ inl z
-        ]
-        | inr y ↦ inr (sides_kept c.mesh h ks more kept y)
-      ];
-      edges = edges;
-      room_stays = stays ∙ p.room_stays;
-    }
-      where
-        s : (i : ℕ) × (others : List ℕ) × (p.rest ≡ i ∷ others) × ((p.mesh, i) ≡ x) × (each_in p.mesh others ≡ left)
-        s = first_left p.mesh p.rest x left (p.left ∙ e)
-
-    pub pushing_ends : given ≡ [] → HasStar c.mesh v ks
-    pushing_ends e h w is = elim (p.each h w is) [
-      | inl y ↦ absurd (Contains-none h (subst (λ (xs : List ℕ). Contains xs h) (none_left p.mesh p.rest (p.left ∙ e)) y))
-      | inr y ↦ y
-    ]

@@ -9,3 +9,4 @@ pub mod Lending
 pub mod Star
 pub mod Parts
 pub mod Marking
+pub mod Among

@@ -2,6 +2,7 @@
 //! until each other edge passes the circle test.
 #![tactic(auto)]
 
+mod among;
 mod cdt_edge;
 mod constraint_marker;
 mod legalization;
@@ -14,6 +15,7 @@ pub use cdt_edge::{CdtEdge, EdgeConstraints};
 pub use constraint_marker::{ConstraintMarker, NoConstraints};
 
 // For the crates of edits, and not for users.
+pub use among::legalize_among;
 pub use legalization::{is_constraint_edge, is_outer, legalize, start_of};
 pub use marking::{free_edge, make_constraint};
 pub use predicates::{is_same_point, is_strictly_inside, is_strictly_within, turns_left};

@@ -12,7 +12,7 @@ use Rattle.half_edge_mesh.specs.Left.{each_in}
 use Rattle.half_edge_mesh.specs.Rounds.{GivesRound}
 use Rattle.plane_tiling.proofs.Totals.{Contains-head, Contains-later, Contains-none, Contains-cases}
 use Rattle.mesh_embedding.proofs.WorkLists.{contains_map, contains_map_from}
-use Rattle.delaunay_legalization.proofs.Stars.{first_left, none_left, not_some}
+use Rattle.delaunay_legalization.proofs.Pushing.{first_left, none_left, not_some}
 
 -- each edge of vertex v is among those that are left, or was seen
 pub record IsGoingRound {V D U F : Type 0} (c : Contents V D U F) (v : ℕ) (Seen : ℕ → Type 0) (given : List (Bor (Contents V D U F) × ℕ)) : Type 0 where

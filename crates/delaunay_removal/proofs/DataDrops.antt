@@ -6,6 +6,7 @@ use Rattle.half_edge_mesh.specs.Triangles.{Triangle, triangles}
 use Rattle.half_edge_mesh.specs.Contents.{Contents, IsMeshWithData}
 use Rattle.half_edge_mesh.specs.Removal.{FullEdge, FullFace, full_edges, full_faces, renumbered_edge, renumbered_face, DropsVertex, LeavesMesh}
 use Rattle.half_edge_dcel.proofs.Hubs.{count_faces}
+use Rattle.mesh_embedding.specs.Drawn.{faces_of}
 use Rattle.mesh_embedding.proofs.FaceChanges.{contains_map}
 use Rattle.mesh_embedding.proofs.WorkLists.{contains_map_from}
 use Rattle.plane.specs.Fraction.{Point}
@@ -15,6 +16,7 @@ use Rattle.delaunay_removal.specs.Star.{IsolatesVertex}
 use Rattle.delaunay_removal.specs.Data.{HasValueAt, StandsBeside, RenumbersEdges, KeepsDataBeside, HasDataOfEdge, HasDataOfFace}
 use Rattle.delaunay_removal.proofs.Drops.{same_vertices, same_outer}
 use Rattle.delaunay_removal.proofs.DataReads.{edge_of, edge_read, face_of, face_read, ends_off, same_edge_data, same_face_data}
+use Rattle.delaunay_removal.proofs.MadeNear.{made_on_line}
 use Rattle.delaunay_removal.proofs.DataStays.{edges_come, edges_stand, joined_comes, joined_stand}
 
 -- ---- what stood while the vertex lost its edges has its data when the vertex has gone
@@ -95,6 +97,7 @@ module _ {V D U F : Type 0} (old new : Contents V D U F) (before : IsMeshWithDat
     edges = line_edges;
     faces = λ f h a b c. absurd (let l = h.1 in let n = count_faces old.mesh old.faces before.fits.faces_fit in let fit = before.fits.faces_fit in omega (arith, l, n, fit, none));
     comes = line_comes;
+    made = made_on_line mid v (faces_of old.mesh) leaves.whole (ap (λ (c : Contents V D U F). length c.faces) leaves.leaves.contents ∙ none);
   }
 
   pub line_data_kept : KeepsDataBeside (state_of old) (state_of new) v

@@ -7,15 +7,17 @@ use Rattle.std.proofs.lemmas.List.Elements.{Contains-append_cases}
 use Rattle.std.proofs.lemmas.List.Sorted.{Contains-permutation, IsPermutation-sym}
 use Rattle.half_edge_mesh.specs.Outline.{Ends}
 use Rattle.half_edge_mesh.specs.Triangles.{Triangle}
-use Rattle.half_edge_mesh.specs.Contents.{Contents}
+use Rattle.half_edge_mesh.specs.Contents.{Contents, IsMeshWithData}
 use Rattle.half_edge_mesh.specs.Growth.{joins}
 use Rattle.half_edge_mesh.specs.Removal.{FullEdge, FullFace, IsBetween, HasCorners, full_edges, full_faces, spokes_to, faces_between, LosesEdges, JoinsNeighbours, LosesStrip, FillsHole}
 use Rattle.plane_tiling.proofs.Totals.{Contains-none, Contains-head, Contains-later, Contains-cases}
+use Rattle.mesh_embedding.specs.Drawn.{faces_of}
 use Rattle.delaunay_removal.specs.Data.{HasValueAt, StandsBeside}
+use Rattle.delaunay_removal.proofs.MadeNear.{made_none, made_on, made_strip, made_hole}
 
 -- nothing changes
 pub all_stands : {V D U F : Type 0} (c : Contents V D U F) (v : ℕ) → StandsBeside c c v
-all_stands c v = record { edges = λ e h a b. h; faces = λ f h p q r. h; comes = λ e h. inl h }
+all_stands c v = record { edges = λ e h a b. h; faces = λ f h p q r. h; comes = λ e h. inl h; made = made_none v (faces_of c.mesh) }
 
 -- data that an edge at the vertex has after a change are those of one before
 value_before : {V D U F : Type 0} (old mid : Contents V D U F) (v : ℕ) (u : U) → StandsBeside old mid v → HasValueAt mid v u → HasValueAt old v u
@@ -30,6 +32,7 @@ stands_on old mid new v one two = record {
   edges = λ e h a b. two.edges e (one.edges e h a b) a b;
   faces = λ f h p q r. two.faces f (one.faces f h p q r) p q r;
   comes = λ e h. elim (two.comes e h) [ inl m ↦ one.comes e m | inr w ↦ inr (value_before old mid v e.value one w) ];
+  made = made_on v (faces_of old.mesh) (faces_of mid.mesh) one.made (faces_of new.mesh) two.made;
 }
 
 -- ---- what is not at the vertex
@@ -80,20 +83,22 @@ module _ {V D U F : Type 0} (old new : Contents V D U F) (v : ℕ) where
   edges_come n k (lost, are, same) e h = inl (Contains-permutation (lost ++ full_edges new) (full_edges old) e (IsPermutation-sym (full_edges old) (lost ++ full_edges new) same) (contains_after lost (full_edges new) e h))
 
   -- the edges and the faces of a vertex on the hull go
-  pub strip_stands : (n : ℕ → ℕ) (k : ℕ) → LosesStrip old new v n k → StandsBeside old new v
-  strip_stands n k loses = record {
+  pub strip_stands : (n : ℕ → ℕ) (k : ℕ) → IsMeshWithData old → IsMeshWithData new → LosesStrip old new v n k → StandsBeside old new v
+  strip_stands n k before after loses = record {
     edges = edges_stand n (suc k) loses.edges;
     faces = λ f h a b c. left_over (full_faces old) loses.faces.0 (full_faces new) f loses.faces.2 h (λ l. face_stands v n loses.faces.0 k loses.faces.1 f l a b c);
     comes = edges_come n (suc k) loses.edges;
+    made = made_strip old new v n k before after loses;
   }
 
   -- three faces give way to one
-  pub hole_stands : (n : ℕ → ℕ) → FillsHole old new v n → StandsBeside old new v
-  hole_stands n hole = record {
+  pub hole_stands : (n : ℕ → ℕ) → IsMeshWithData old → IsMeshWithData new → FillsHole old new v n → StandsBeside old new v
+  hole_stands n before after hole = record {
     edges = edges_stand n 3 hole.edges;
     faces = λ f h a b c. Contains-permutation (hole.made ∷ hole.rest) (full_faces new) f (IsPermutation-sym (full_faces new) (hole.made ∷ hole.rest) hole.is)
         (Contains-later hole.made hole.rest f (left_over (full_faces old) hole.lost hole.rest f hole.was h (λ l. face_stands v n hole.lost 3 hole.lost_are f l a b c)));
     comes = edges_come n 3 hole.edges;
+    made = made_hole old new v n before after hole;
   }
 
   -- two edges of a line give way to one

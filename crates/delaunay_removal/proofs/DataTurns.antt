@@ -25,6 +25,7 @@ use Rattle.mesh_embedding.specs.Drawn.{faces_of, outer_of}
 use Rattle.mesh_embedding.proofs.MeshStays.{halved}
 use Rattle.delaunay_removal.specs.Data.{HasValueAt, StandsBeside}
 use Rattle.delaunay_removal.proofs.DataStays.{no_end, no_corner}
+use Rattle.delaunay_removal.proofs.MadeNear.{made_turn}
 use Rattle.delaunay_removal.proofs.Rounds.{round_at}
 use Rattle.delaunay_removal.proofs.Turns.{may_turn}
 
@@ -158,7 +159,7 @@ module _ {V D U F : Type 0} (c new : Contents V D U F) (whole : IsMeshWithData c
         subst (λ (xs : List (FullFace F)). Contains xs x) (sym (faces_are x)) (j, two.0, two.1)
 
     pub turn_stands : StandsBeside c new v
-    turn_stands = record { edges = edges_beside; faces = faces_beside; comes = edges_come }
+    turn_stands = record { edges = edges_beside; faces = faces_beside; comes = edges_come; made = made_turn m new.mesh e s flips triangles_are v at_v }
 
 -- one of the two directions starts at the vertex
 pub starts_or_ends : (m : Mesh) (h v : ℕ) → origin m h ≡ v → (origin m (2 * (h / 2)) ≡ v) ⊎ (origin m (rev (2 * (h / 2))) ≡ v)

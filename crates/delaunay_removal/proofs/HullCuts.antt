@@ -50,7 +50,7 @@ module _ {V D U F : Type 0} (points : List Point) (old new : Contents V D U F) (
       | inl none ↦ inr (none, leaves_to_line points old before star.shape v first star.outer new after count star.round corner turns loses none)
       | inr some ↦ inl (leaves_corner points old before star.shape v first star.outer new after count star.round corner turns loses some)
     ];
-    beside = strip_stands old new v (neighbour old.mesh first) (count - 1) loses;
+    beside = strip_stands old new v (neighbour old.mesh first) (count - 1) before after loses;
   }
     where
       turns : NoneTurnsLeft points (count - 1) (neighbour old.mesh first)
@@ -76,5 +76,5 @@ module _ {V D U F : Type 0} (points : List Point) (old mid : Contents V D U F) (
       contents = loses.contents ∙ ap (λ (c : Contents V D U F). record c { mesh = new.mesh; directed = new.directed; undirected = new.undirected; faces = new.faces }) same;
       alone = loses.alone;
       shape = inl (leaves_flat points old before star.shape v first star.outer mid new middle after star.round turned triangles kept flat loses);
-      beside = stands_on old mid new v stands (strip_stands mid new v (neighbour mid.mesh first) 1 loses);
+      beside = stands_on old mid new v stands (strip_stands mid new v (neighbour mid.mesh first) 1 middle after loses);
     }

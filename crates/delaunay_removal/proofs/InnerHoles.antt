@@ -48,7 +48,7 @@ module _ {V D U F : Type 0} (points : List Point) (old new : Contents V D U F) (
     contents = hole.contents;
     alone = hole.alone;
     shape = inl (leaves_three points old before star.shape v first (spokes_inner points old.mesh before.valid v first 3 star) new after star.round hole);
-    beside = hole_stands old new v (neighbour old.mesh first) hole;
+    beside = hole_stands old new v (neighbour old.mesh first) before after hole;
   }
 
 -- ---- four faces
@@ -82,7 +82,7 @@ module _ {V D U F : Type 0} (points : List Point) (old mid : Contents V D U F) (
     alone = hole.alone;
     shape = inl (leaves_four points old before star.shape v first (spokes_inner points old.mesh before.valid v first 4 star) mid new middle after star.round turned triangles outer
         (subst (λ (x : ℕ). WithinSegment (place points (neighbour old.mesh first 0)) (place points (neighbour old.mesh first 2)) (place points x)) (star.round.starts 0) between) hole);
-    beside = stands_on old mid new v stands (hole_stands mid new v (neighbour mid.mesh first) hole);
+    beside = stands_on old mid new v stands (hole_stands mid new v (neighbour mid.mesh first) middle after hole);
   }
 
 -- ---- after turns

@@ -20,14 +20,14 @@ use Rattle.delaunay_removal.proofs.DataReads.{IsEdgeAt, edge_of, edge_read, rev_
 abbrev old_index : ℕ → ℕ → ℕ → ℕ
 old_index v last k = if nat_eq k v then last else k
 
-old_of_freed : (v last j : ℕ) → j ≡ v → old_index v last j ≡ last
+pub old_of_freed : (v last j : ℕ) → j ≡ v → old_index v last j ≡ last
 old_of_freed v last j e = grind (arith, nat_tests)
 
-old_of_other : (v last j : ℕ) → j ≢ v → old_index v last j ≡ j
+pub old_of_other : (v last j : ℕ) → j ≢ v → old_index v last j ≡ j
 old_of_other v last j n = grind (arith, nat_tests)
 
 -- the new index of a vertex is below the last, and the vertex has its old one
-there_and_back : (v last s : ℕ) → v < suc last → s < suc last → s ≢ v → (moved last v s < last) × (old_index v last (moved last v s) ≡ s)
+pub there_and_back : (v last s : ℕ) → v < suc last → s < suc last → s ≢ v → (moved last v s < last) × (old_index v last (moved last v s) ≡ s)
 there_and_back v last s hv hs off = elim (cases_eq s last) [
   | inl e ↦ (
     subst (λ (k : ℕ). k < last) (sym (moved_hit last v s e)) (omega (arith, hv, off, e)),

@@ -1,4 +1,5 @@
 pub mod DataReads
+pub mod MadeNear
 pub mod DataStays
 pub mod DataTurns
 pub mod DataDrops
@@ -22,3 +23,6 @@ pub mod HullEdges
 pub mod LeavingConstraints
 pub mod FreedEdges
 pub mod RemovingConstraints
+pub mod LeftFaces
+pub mod Passing
+pub mod Gathering

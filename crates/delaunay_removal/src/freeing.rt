@@ -9,7 +9,7 @@ use delaunay_legalization::{ConstraintMarker, free_edge};
 use half_edge_mesh::{Dcel, FixedDirectedEdgeHandle, FixedVertexHandle, MeshViews};
 
 // An edge that starts at a vertex, if there is one.
-fn some_edge<V, DE, UE, F>(
+pub(crate) fn some_edge<V, DE, UE, F>(
     dcel: &Dcel<V, DE, UE, F>,
     vertex: FixedVertexHandle,
 ) -> Option<FixedDirectedEdgeHandle>

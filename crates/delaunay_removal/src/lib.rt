@@ -2,10 +2,12 @@
 #![tactic(auto)]
 
 mod freeing;
+mod neighbours;
 mod removal;
 mod removal_hull;
 mod removal_inner;
 mod removal_line;
 mod star;
 
+pub use neighbours::neighbours_left;
 pub use removal::remove_vertex;

@@ -1,5 +1,6 @@
 //! Vertices that go, with their edges.
 ghost use Rattle.std.specs.Prelude.{◌≡◌, ◌<◌, ◌≤◌, length, map, All, Some, IsSome, slice_get, vec_capacity};
+ghost use Rattle.half_edge_mesh.specs.Contents.{IsMeshWithData};
 ghost use Rattle.half_edge_mesh.specs.Mesh.{origin, out_edge, IsAlone};
 ghost use Rattle.half_edge_mesh.specs.Removal.{DropsVertex};
 ghost use Rattle.plane.specs.Plain.{Removes};
@@ -9,6 +10,7 @@ ghost use Rattle.delaunay_legalization.specs.Constraints.{points_and_constraints
 ghost use Rattle.delaunay_legalization.specs.Shape.{IsTriangulated};
 ghost use Rattle.delaunay_legalization.specs.State.{points_and_constraints, state_of};
 ghost use Rattle.delaunay_removal.specs.Data.{KeepsDataBeside, RenumbersEdges};
+ghost use Rattle.delaunay_removal.specs.Neighbours.{LeavesFaces};
 ghost use Rattle.delaunay_removal.specs.Star.{IsMeshWithout, IsolatesVertex};
 
 use crate::freeing::free_edges_at;
@@ -49,6 +51,7 @@ fn drop_vertex<V: HasPosition, DE, UE, F>(
     ensures plain { Removes V.place (points_and_constraints (state_of dcel.old)) (points_and_constraints (state_of dcel.new)) vertex }
     ensures kept { IsTriangulated V.place (state_of dcel.new) }
     ensures drops { DropsVertex dcel.old dcel.new vertex result }
+    ensures before { IsMeshWithData dcel.old }
 {
     dcel.recall_invariant();
     let value = dcel.swap_remove_vertex(vertex);
@@ -95,6 +98,7 @@ fn take_vertex<V: HasPosition, DE: Drop, UE: Drop, F: Drop, P: PlaneTests<V::Sca
     ensures plain { Removes V.place (points_and_constraints (state_of dcel.old)) (points_and_constraints (state_of dcel.new)) vertex }
     ensures kept { IsTriangulated V.place (state_of dcel.new) }
     ensures data { KeepsDataBeside (state_of dcel.old) (state_of dcel.new) vertex }
+    ensures faces { LeavesFaces (state_of dcel.old) (state_of dcel.new) vertex }
     ensures edges { RenumbersEdges dcel.old dcel.new vertex }
     ensures capacity { vec_capacity sides.new ≡ vec_capacity sides.old }
 {
@@ -131,6 +135,7 @@ pub fn remove_vertex<
         (points_and_constraints_by M.constraints (state_of dcel.new)) vertex }
     ensures kept { IsTriangulated V.place (state_of dcel.new) }
     ensures data { KeepsDataBeside (state_of dcel.old) (state_of dcel.new) vertex }
+    ensures faces { LeavesFaces (state_of dcel.old) (state_of dcel.new) vertex }
     ensures capacity { vec_capacity sides.new ≡ vec_capacity sides.old }
 {
     free_edges_at::<M, _, _, _, _>(dcel, vertex);

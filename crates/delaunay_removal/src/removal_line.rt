@@ -4,6 +4,7 @@ ghost use Rattle.plane.specs.Plain.{Removes};
 ghost use Rattle.delaunay_legalization.specs.Shape.{IsTriangulated};
 ghost use Rattle.delaunay_legalization.specs.State.{points_and_constraints, state_of};
 ghost use Rattle.delaunay_removal.specs.Data.{KeepsDataBeside, RenumbersEdges};
+ghost use Rattle.delaunay_removal.specs.Neighbours.{LeavesFaces};
 
 use delaunay_core::point::HasPosition;
 use half_edge_mesh::{Dcel, FixedVertexHandle};
@@ -21,6 +22,7 @@ pub(crate) fn remove_on_line<V: HasPosition, DE: Drop, UE: Drop, F>(
     ensures plain { Removes V.place (points_and_constraints (state_of dcel.old)) (points_and_constraints (state_of dcel.new)) vertex }
     ensures kept { IsTriangulated V.place (state_of dcel.new) }
     ensures data { KeepsDataBeside (state_of dcel.old) (state_of dcel.new) vertex }
+    ensures faces { LeavesFaces (state_of dcel.old) (state_of dcel.new) vertex }
     ensures edges { RenumbersEdges dcel.old dcel.new vertex }
 {
     let value = dcel.remove_when_degenerate(vertex);

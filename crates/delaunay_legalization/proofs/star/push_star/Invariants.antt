@@ -1,7 +1,8 @@
-use Rattle.std.proofs.Common.{vec_capacity}
-use Rattle.delaunay_legalization.proofs.Stars.{IsPushing}
+use Rattle.std.proofs.Common.{[], vec_capacity}
 use Rattle.half_edge_mesh.specs.Rounds.{out_edges_left}
+use Rattle.delaunay_legalization.specs.Star.{HasSidesAt}
+use Rattle.delaunay_legalization.proofs.Pushing.{IsPushing}
 use Rattle.delaunay_legalization.proofs.star.push_star.Given as goal
 
 abbrev pub invariant-loop-edge : goal.invariant-loop-edge
-invariant-loop-edge g l = IsPushing l.dcel l.fn.vertex (out_edges_left l.edge-iterator) l.work.items (vec_capacity l.fn.work) (vec_capacity l.work)
+invariant-loop-edge g l = IsPushing l.dcel l.fn.vertex (HasSidesAt l.dcel.mesh) [] (out_edges_left l.edge-iterator) l.work.items (vec_capacity l.fn.work) (vec_capacity l.work)

@@ -1,6 +1,7 @@
 use Rattle.std.proofs.Common.{◌≡◌, ◌<◌, ◌≤◌, length, map, Some, sym, subst, vec_capacity}
 use Rattle.std.specs.Prelude.{All, slice_get}
 use Rattle.delaunay_removal.proofs.RemovingConstraints.{freed_vertices, freed_directed, freed_kept, plain_left, data_left}
+use Rattle.delaunay_removal.proofs.LeftFaces.{freed_faces_leave}
 use Rattle.delaunay_removal.proofs.removal.remove_vertex.Goals as goal
 
 pub take_vertex-requires-clause-kept : goal.take_vertex-requires-clause-kept
@@ -45,3 +46,6 @@ returns-clause-data g c =
     let kept = c.take_vertex.ensures.kept in
     data_left g.V.HasPosition.place m.marks m.constraints g.met.M.ConstraintMarker.constraints_are_marked c.args.dcel.now c.free_edges_at.new.dcel c.args.vertex c.free_edges_at.ensures.frees c.free_edges_at.ensures.whole c.requires.kept
     c.take_vertex.new.dcel (record { valid = kept.valid; fits = kept.fits }) c.take_vertex.ensures.data
+
+pub returns-clause-faces : goal.returns-clause-faces
+returns-clause-faces g c = freed_faces_leave g.M.ConstraintMarker.marks c.args.dcel.now c.free_edges_at.new.dcel c.take_vertex.new.dcel c.args.vertex c.free_edges_at.ensures.frees c.take_vertex.ensures.faces

@@ -1,6 +1,7 @@
 use Rattle.mesh_embedding.proofs.MeshRemovals.{line_plain_removes}
 use Rattle.delaunay_removal.proofs.Removing.{few_edges_of, value_was, line_kept}
 use Rattle.delaunay_removal.proofs.DataDrops.{line_data_kept, line_renumbers}
+use Rattle.delaunay_removal.proofs.LeftFaces.{line_faces_leave}
 use Rattle.delaunay_removal.proofs.removal_line.remove_on_line.Goals as goal
 
 pub remove_when_degenerate-value-requires-clause-few : goal.remove_when_degenerate-value-requires-clause-few
@@ -22,3 +23,6 @@ returns-clause-data g c =
 pub returns-clause-edges : goal.returns-clause-edges
 returns-clause-edges g c =
     line_renumbers c.args.dcel.now c.remove_when_degenerate-value.new.self (record { valid = c.requires.kept.valid; fits = c.requires.kept.fits }) c.recall_invariant.ensures.whole c.requires.one_face c.args.vertex c.remove_when_degenerate-value.result c.remove_when_degenerate-value.ensures.leaves
+
+pub returns-clause-faces : goal.returns-clause-faces
+returns-clause-faces g c = line_faces_leave c.args.dcel.now c.remove_when_degenerate-value.new.self c.args.vertex c.remove_when_degenerate-value.result c.recall_invariant.ensures.whole c.requires.one_face c.remove_when_degenerate-value.ensures.leaves

@@ -1,34 +1,56 @@
-use Rattle.std.proofs.Common.{subst}
+use Rattle.std.proofs.Common.{ℕ, ◌<◌, List, length, map, sym, subst}
+use Rattle.std.specs.Prelude.{Contains}
 use Rattle.plane.specs.Plain.{Removes}
-use Rattle.delaunay_legalization.specs.Constraints.{points_and_constraints_by}
+use Rattle.mesh_embedding.specs.Drawn.{faces_of}
+use Rattle.delaunay_legalization.specs.Among.{AllPassBeyond}
+use Rattle.delaunay_legalization.specs.Constraints.{constraints_by, points_and_constraints_by}
 use Rattle.delaunay_legalization.specs.State.{state_of}
 use Rattle.delaunay_removal.specs.Data.{KeepsDataBeside}
 use Rattle.delaunay_removal.proofs.DataLegalized.{legalized_keeps_others}
+use Rattle.delaunay_removal.proofs.Passing.{neighbours_within, passes_beyond}
 use Rattle.delaunay_edit.proofs.Removing.{sites_left, room_left, removed_on}
 use Rattle.delaunay_edit.proofs.edited_mesh.EditedMesh.take_out.Goals as goal
 
-pub legalize_all-requires-clause-sites : goal.legalize_all-requires-clause-sites
-legalize_all-requires-clause-sites g c =
+pub legalize_among-requires-clause-sites : goal.legalize_among-requires-clause-sites
+legalize_among-requires-clause-sites g c =
     let at = g.V.HasPosition.place in
     let constraints = g.M.ConstraintMarker.constraints in
     sites_left at constraints c.args.self.now (state_of c.remove_vertex-value.new.dcel) c.args.vertex c.remove_vertex-value.result
     (subst (λ s. Removes at (points_and_constraints_by constraints s) (points_and_constraints_by constraints (state_of c.remove_vertex-value.new.dcel)) c.args.vertex) c.self.view_is c.remove_vertex-value.ensures.plain)
     (g.P.PlaneTests.sites c.args.tests.now) c.requires.sites
 
-pub legalize_all-requires-clause-room : goal.legalize_all-requires-clause-room
-legalize_all-requires-clause-room g c =
+pub legalize_among-requires-clause-room : goal.legalize_among-requires-clause-room
+legalize_among-requires-clause-room g c =
     room_left g.V.HasPosition.place g.M.ConstraintMarker.constraints (state_of c.self.inside.dcel) (state_of c.remove_vertex-value.new.dcel) c.args.vertex c.remove_vertex-value.result c.remove_vertex-value.ensures.plain _ _ _ c.num_vertices.ensures.value c.in_ok-reserve.ensures.ok
 
 pub returns-clause-plain : goal.returns-clause-plain
 returns-clause-plain g c =
     let at = g.V.HasPosition.place in
     let constraints = g.M.ConstraintMarker.constraints in
-    removed_on at constraints c.args.self.now c.remove_vertex-value.new.dcel c.legalize_all.new.dcel c.args.vertex
+    removed_on at constraints c.args.self.now c.remove_vertex-value.new.dcel c.legalize_among.new.dcel c.args.vertex
     (subst (λ s. Removes at (points_and_constraints_by constraints s) (points_and_constraints_by constraints (state_of c.remove_vertex-value.new.dcel)) c.args.vertex) c.self.view_is c.remove_vertex-value.ensures.plain)
-    c.legalize_all.ensures.contents c.legalize_all.ensures.constraints
+    c.legalize_among.ensures.contents c.legalize_among.ensures.constraints
 
 pub returns-clause-data : goal.returns-clause-data
 returns-clause-data g c =
-    legalized_keeps_others g.V.HasPosition.place c.args.self.now c.remove_vertex-value.new.dcel c.legalize_all.new.dcel c.args.vertex
+    legalized_keeps_others g.V.HasPosition.place c.args.self.now c.remove_vertex-value.new.dcel c.legalize_among.new.dcel c.args.vertex
     (subst (λ s. KeepsDataBeside s (state_of c.remove_vertex-value.new.dcel) c.args.vertex) c.self.view_is c.remove_vertex-value.ensures.data)
-    c.remove_vertex-value.ensures.kept c.legalize_all.ensures.legal.kept c.legalize_all.ensures.contents c.legalize_all.ensures.indexes
+    c.remove_vertex-value.ensures.kept c.legalize_among.ensures.legal.kept c.legalize_among.ensures.contents c.legalize_among.ensures.indexes
+
+pub legalize_among-requires-clause-within : goal.legalize_among-requires-clause-within
+legalize_among-requires-clause-within g c =
+    let at = g.V.HasPosition.place in
+    let constraints = g.M.ConstraintMarker.constraints in
+    let ds = c.remove_vertex-value.new.dcel in
+    subst (λ (vs : List ℕ). (k : ℕ) → Contains vs k → k < length ds.vertices) (sym {A = List ℕ} c.as_slice.ensures.value)
+    (neighbours_within at constraints (state_of c.self.inside.dcel) (state_of ds) c.args.vertex c.remove_vertex-value.result c.self.invariant c.remove_vertex-value.ensures.kept
+    c.remove_vertex-value.ensures.plain c.remove_vertex-value.ensures.faces c.in_ok-neighbours.neighbours.items c.in_ok-neighbours.ensures)
+
+pub legalize_among-requires-clause-passing : goal.legalize_among-requires-clause-passing
+legalize_among-requires-clause-passing g c =
+    let at = g.V.HasPosition.place in
+    let constraints = g.M.ConstraintMarker.constraints in
+    let ds = c.remove_vertex-value.new.dcel in
+    subst (λ (vs : List ℕ). AllPassBeyond (map at ds.vertices) (faces_of ds.mesh) (constraints_by constraints (state_of ds)) vs) (sym {A = List ℕ} c.as_slice.ensures.value)
+    (passes_beyond at constraints (state_of c.self.inside.dcel) (state_of ds) c.args.vertex c.remove_vertex-value.result c.self.invariant c.remove_vertex-value.ensures.kept
+    c.remove_vertex-value.ensures.plain c.remove_vertex-value.ensures.faces c.in_ok-neighbours.neighbours.items c.in_ok-neighbours.ensures)
