@@ -5,6 +5,8 @@
 
 mod facilities;
 mod hill;
+mod navigation;
+mod parcels;
 mod terrain;
 
 fn main(rt: HostRuntime) -> anyhow::Result<()> {
@@ -15,6 +17,8 @@ fn main(rt: HostRuntime) -> anyhow::Result<()> {
             "hill" => hill::run(&rt)?,
             "terrain" => terrain::run(&rt)?,
             "facilities" => facilities::run(&rt)?,
+            "navigation" => navigation::run(&rt)?,
+            "parcels" => parcels::run(&rt)?,
             _ => println!(rt; "no such example")?,
         }
     }

@@ -1,0 +1,85 @@
+//! A map of parcels between boundary stones. Each face is a parcel, whose data name its owner. When
+//! a stone goes, the parcels at it are no longer there, and all others keep their owner.
+
+use exact_tests::ExactTests;
+use spade_delaunay::{
+    DelaunayTriangulation, Point2, PositionInTriangulation, Triangulation, validate_vertex,
+};
+
+/// What is known of a parcel.
+#[derive(Default, Drop)]
+struct Parcel {
+    owner: Option<&'static str>,
+}
+
+type Map = DelaunayTriangulation<Point2<i64>, (), (), Parcel>;
+
+/// Metres east and north of the village church.
+const STONES: [(i64, i64); 7] = [
+    (0, 0),
+    (90, -10),
+    (180, 20),
+    (170, 120),
+    (80, 140),
+    (-10, 110),
+    (85, 55),
+];
+
+/// The stone that a flood takes.
+const LOST: (i64, i64) = (-10, 110);
+
+/// Names, and a place inside the parcel of each.
+const OWNERS: [(&str, i64, i64); 4] = [
+    ("Aune", 60, 10),
+    ("Berg", 140, 30),
+    ("Chen", 150, 90),
+    ("Diaz", 30, 50),
+];
+
+/// Gives the parcel at a place to an owner. A place outside of all parcels changes nothing.
+fn sell(map: &mut Map, place: Point2<i64>, owner: &'static str) {
+    if validate_vertex(&place).is_err() {
+        return;
+    }
+    if let PositionInTriangulation::OnFace(face) = map.locate(place, &ExactTests) {
+        map.face_data_mut(face).owner = Some(owner);
+    }
+}
+
+fn owner_at(map: &Map, place: Point2<i64>) -> Option<&'static str> {
+    if validate_vertex(&place).is_err() {
+        return None;
+    }
+    match map.locate(place, &ExactTests) {
+        PositionInTriangulation::OnFace(face) => map.face(face).data().owner,
+        _ => None,
+    }
+}
+
+fn report(rt: &HostRuntime, map: &Map) -> anyhow::Result<()> {
+    println!(rt; "{} parcels", map.num_inner_faces())?;
+    for (_, x, y) in OWNERS {
+        match owner_at(map, Point2::new(x, y)) {
+            Some(owner) => println!(rt; "parcel at {x} {y}: {owner}")?,
+            None => println!(rt; "parcel at {x} {y}: nobody's")?,
+        }
+    }
+    Ok(())
+}
+
+pub fn run(rt: &HostRuntime) -> anyhow::Result<()> {
+    let mut map = Map::new(rt.alloc());
+    for (x, y) in STONES {
+        map.insert(Point2::new(x, y), &ExactTests)?;
+    }
+    for (owner, x, y) in OWNERS {
+        sell(&mut map, Point2::new(x, y), owner);
+    }
+    report(rt, &map)?;
+    let (x, y) = LOST;
+    if validate_vertex(&Point2::new(x, y)).is_ok() {
+        map.locate_and_remove(Point2::new(x, y), &ExactTests)?;
+    }
+    println!(rt; "the stone at {x} {y} is lost")?;
+    report(rt, &map)
+}
