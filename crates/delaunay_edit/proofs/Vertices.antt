@@ -19,10 +19,6 @@ module _ {V D U F : Type 0} (at : V → Point) (s : State V D U F) (p : Point) w
   pub here_if_on_vertex : (v : ℕ) → IsLocation (triangulation_of at s) (whole p) (on_vertex v) → (v < length s.vertices) × (point_at (map at s.vertices) v ≡ p)
   here_if_on_vertex v h = let below = h.0 in (omega (arith, below, length-map s.vertices at), same_point p (point_at (map at s.vertices) v) h.1)
 
--- of what a type holds, seen from outside
-pub kept_outside : {V D U F : Type 0} (at : V → Point) (s t : State V D U F) → s ≡ t → IsTriangulated at s → IsTriangulated at t
-kept_outside at s t e kept = subst (IsTriangulated at) e kept
-
 module _ {V D U F : Type 0} (at : V → Point) (s : State V D U F) (kept : IsTriangulated at s) (p : Point) where
   one_location : (l m : Location) → IsLocation (triangulation_of at s) (whole p) l → IsLocation (triangulation_of at s) (whole p) m → IsSameLocation l m
   one_location = (each_point_has_one_location (map at s.vertices) (faces_of s.mesh) (outer_of s.mesh) (edges_of s.mesh) kept.shape (own_edges s.mesh kept.valid) (whole p)).1

@@ -66,9 +66,6 @@ module _ (points : List Point) (m : Mesh) (s : IsValidMesh m) (shape : IsMesh po
 pub positive : (n : ℕ) → ¬ (n ≡ 0) → 0 < n
 positive n h = grind arith
 
-pub not_none : (n : ℕ) → 0 < n → ¬ (n ≡ 0)
-not_none n h e = omega arith
-
 -- ---- one step
 pub turned_by : (points : List Point) (constraints : List (ℕ × ℕ)) (was m new : Mesh) (ks more : List ℕ) (k start before after : ℕ) → IsValidMesh m → new ≡ flipped m (2 * k) → after ≡ before + 1 → IsFailing points m (2 * k) → GainsRound m (2 * k) ks more → AreEdges m more → IsPartlyLegal points constraints was m (ks ++ k ∷ []) start before → IsPartlyLegal points constraints was new more start after
 turned_by points constraints was m new ks more k start before after s e f x g o p = subst (λ (y : Mesh × ℕ). IsPartlyLegal points constraints was y.0 more start y.1) (λ i. (sym e i, sym (f ∙ one_more before) i)) (M.turned points constraints was m ks k start before s p x more g o)

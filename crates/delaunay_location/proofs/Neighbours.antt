@@ -16,9 +16,6 @@ use Rattle.plane.proofs.Signs.{less_with_ones, less_without_ones}
 pub nearer_by_gaps : (p a b : Point) → gap (whole p) (whole a) <ℤ gap (whole p) (whole b) → IsNearer (whole p) (whole a) (whole b)
 nearer_by_gaps p a b h = record { nearer = less_with_ones (gap (whole p) (whole a)) (gap (whole p) (whole b)) h }
 
-pub gaps_of_nearer : (p a b : Point) → IsNearer (whole p) (whole a) (whole b) → gap (whole p) (whole a) <ℤ gap (whole p) (whole b)
-gaps_of_nearer p a b h = less_without_ones (gap (whole p) (whole a)) (gap (whole p) (whole b)) h.nearer
-
 -- no neighbour is nearer where no edge of the vertex ends nearer
 pub no_nearer_neighbour : (points : List Point) (m : Mesh) (p : Point) (v : ℕ) → AreSoundLinks m
     → ((h : ℕ) → h < length m.half_edges → origin m h ≡ v → ¬ (gap (whole p) (place points (origin m (rev h))) <ℤ gap (whole p) (place points v)))

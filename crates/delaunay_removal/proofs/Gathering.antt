@@ -76,9 +76,4 @@ not_some : (o : Option ℕ) → o ≡ None → ¬ IsSome o
 not_some None none some = cc
 not_some (Some k) none some = cc
 
--- a vertex without edges has no neighbours
-pub none_gathered : (m : Mesh) → IsValidMesh m → (v last : ℕ) (vs : List ℕ) → out_edge m v ≡ None → vs ≡ [] → HasNeighbours m v last vs
-none_gathered m valid v last vs alone empty = record {
-  within = λ k c. absurd (Contains-none k (subst (λ (xs : List ℕ). Contains xs k) empty c));
-  each = λ h within starts. absurd (not_some (out_edge m v) alone (subst (λ (x : ℕ). IsSome (out_edge m x)) starts (valid.sound.edges h within).has_out));
 }

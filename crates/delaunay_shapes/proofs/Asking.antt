@@ -19,12 +19,6 @@ pub record IsFilteredTo (Inside : ℕ → Type 0) (i : ℕ) (found : List ℕ) :
   pub once : IsOnce found
   pub exact : (k : ℕ) → Contains found k ↔ ((k < i) × Inside k)
 
-pub filter_begins : (Inside : ℕ → Type 0) (found : List ℕ) → found ≡ [] → IsFilteredTo Inside 0 found
-filter_begins Inside found e = subst (IsFilteredTo Inside 0) (sym e) (record { once = once_none; exact = λ k. ((λ c. absurd (Contains-none k c)), (λ p. absurd (none k p.0))) })
-  where
-    none : (k : ℕ) → k < 0 → ⊥
-    none k h = omega (arith, h)
-
 below_more : (j i : ℕ) → j < i → j < i + 1
 below_more j i h = omega (arith, h)
 
@@ -66,11 +60,6 @@ filter_passes Inside i k found f is out = record { once = f.once; exact = λ j. 
     ]
 
 -- ---- a step of an iterator
-pub drop_step : {X : Type 0} (f : ℕ → X) (xs : List ℕ) (i : ℕ) (d : ℕ) → i < length xs → map f (drop i xs) ≡ f (get_or xs i d) ∷ map f (drop (i + 1) xs)
-drop_step f xs i d h =
-    let more : suc i ≡ i + 1 = omega arith in
-    ap (map f) (drop-cons xs i d h) ∙ ap (λ k. f (get_or xs i d) ∷ map f (drop k xs)) more
-
 -- ---- a question of a flood
 module _ (Inside : ℕ → Type 0) (count : ℕ) where
   goes_nowhere : (asked : List Bool) (found : List ℕ) → GoesOn asked asked found found
@@ -153,9 +142,6 @@ pub record IsSpreadTo (m : Mesh) (asked : List Bool) (found : List ℕ) (i : ℕ
   pub left : (j : ℕ) → j < i → AreAskedBeside m asked (2 * get_or found j 0)
   pub right : (j : ℕ) → j < i → AreAskedBeside m asked (rev (2 * get_or found j 0))
 
-pub spread_begins : (m : Mesh) (asked : List Bool) (found : List ℕ) → IsSpreadTo m asked found 0
-spread_begins m asked found = record { bound = omega arith; left = λ j h. absurd (omega (arith, h)); right = λ j h. absurd (omega (arith, h)) }
-
 kept_place : (asked asked' : List Bool) (found found' : List ℕ) (j : ℕ) → GoesOn asked asked' found found' → j < length found → get_or found' j 0 ≡ get_or found j 0
 kept_place asked asked' found found' j on h = ap (λ xs. get_or xs j 0) on.grown ∙ get_or_append_left found on.more 0 j h
 
@@ -200,14 +186,6 @@ none_marked zero k = refl
 none_marked (suc n) zero = refl
 none_marked (suc n) (suc k) = none_marked n k
 
-pub flood_begins : (Inside : ℕ → Type 0) (count : ℕ) (asked : List Bool) (found : List ℕ) → asked ≡ replicate count false → found ≡ [] → IsFlooding Inside count asked found
-flood_begins Inside count asked found e f = subst (λ a. IsFlooding Inside count a found) (sym e) (subst (IsFlooding Inside count (replicate count false)) (sym f) (record {
-  marks = length-replicate count false;
-  once = once_none;
-  within = λ k c. absurd (Contains-none k c);
-  inside = λ k c. absurd (Contains-none k c);
-  marked = λ k c. absurd (Contains-none k c);
-  complete = λ k w yes_asked p. absurd (never k yes_asked);
 }))
   where
     never : (k : ℕ) → get_or (replicate count false) k false ≡ true → ⊥

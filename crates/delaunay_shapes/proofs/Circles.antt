@@ -36,16 +36,6 @@ gap_is p q = ring_in (p.x ∷ p.y ∷ q.x ∷ q.y ∷ [])
     (λ px py qx qy. (qx ⊖ px) ⊗ (qx ⊖ px) ⊕ (qy ⊖ py) ⊗ (qy ⊖ py))
     tt
 
--- a point that is not far from the rim is in the circle
-pub rim_inside : (c : Point) (r : ℤ) (p : Point) → (circle_distance c r p ≤ℤ pos 0) ↔ InClosedCircle c r (whole p)
-rim_inside c r p = ((λ h. record { near = within (gap (whole c) (whole p)) h }), (λ s. out_of (gap (whole c) (whole p)) s.near))
-  where
-    within : (d : ℤ) → (d -ℤ r) ≤ℤ pos 0 → d ≤ℤ (r *ℤ (pos 1 *ℤ pos 1))
-    within d h = omega (arith, ints)
-
-    out_of : (d : ℤ) → d ≤ℤ (r *ℤ (pos 1 *ℤ pos 1)) → (d -ℤ r) ≤ℤ pos 0
-    out_of d h = omega (arith, ints)
-
 pub rim_near : (c : Point) (r : ℤ) (p : Point) → (circle_distance c r p ≤ℤ pos 0) ↔ (distance_2 c p ≤ℤ r)
 rim_near c r p = rw (gap_is c p) (side (distance_2 c p))
   where

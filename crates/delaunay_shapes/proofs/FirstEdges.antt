@@ -5,14 +5,8 @@ use Rattle.std.proofs.lemmas.List.Elements.{All-cons, All-nil}
 use Rattle.half_edge_mesh.specs.Mesh.{Mesh, next, prev}
 use Rattle.delaunay_shapes.specs.Start.{HasSides}
 
-pub one_contained : (x y : ℕ) → x ≡ y → Contains (x ∷ []) y
-one_contained x y e = (0, omega arith, e)
-
 pub one_within : (P : ℕ → Type 0) (x : ℕ) → P x → All P (x ∷ [])
 one_within P x p = All-cons P x [] p (All-nil P)
-
-pub three_within : (P : ℕ → Type 0) (x y z : ℕ) → P x → P y → P z → All P (x ∷ y ∷ z ∷ [])
-three_within P x y z p q r = All-cons P x (y ∷ z ∷ []) p (All-cons P y (z ∷ []) q (one_within P z r))
 
 -- the three sides of a face, each by its index
 pub three_sides : (m : Mesh) (h x y z : ℕ) → x ≡ h / 2 → y ≡ next m h / 2 → z ≡ prev m h / 2 → HasSides m (x ∷ y ∷ z ∷ []) h

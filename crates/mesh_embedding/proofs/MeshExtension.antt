@@ -49,16 +49,6 @@ face_turned old new i j k c = record {
     back a b d (inr (inl h)) = turned_faces (corners i j k ∷ []) d a b (turned_faces (corners i j k ∷ []) b d a (own b d a (one (corners j k i) (corners b d a) h)))
     back a b d (inr (inr h)) = turned_faces (corners i j k ∷ []) d a b (own d a b (one (corners j k i) (corners d a b) h))
 
--- the first face, on the outer edge e that sees q
-pub mesh_extension_begins : (points : List Point) (q : Point) (old new : Mesh) (e first last : ℕ) → AreSoundLinks old → length points ≡ length old.out_edges → LocalMesh points (faces_of old) (outer_of old)
-    → e < length old.half_edges → face old e ≡ 0 → TurnsLeft (place (points ++ q ∷ []) (origin old e)) (place (points ++ q ∷ []) (origin old (rev e))) (place (points ++ q ∷ []) (length points))
-    → AddsTriangle old new (origin old e) (origin old (rev e)) (length points) → ReplacesOuter old new e (length points) first last
-    → IsExtending points q (faces_of old) (faces_of new) (outer_of old) (outer_of new) (origin old e) (origin old (rev e))
-mesh_extension_begins points q old new e first last s count m l o left change outer =
-    extension_begins points (faces_of old) (faces_of new) (outer_of old) (outer_of new) q (origin old e) (origin old (rev e)) (ends_below old (length points) s count)
-    (listed old e (origin old e) (origin old (rev e)) (record { within = l; outer = o; source = refl; target = refl })) left
-    (added_faces old new (origin old e) (origin old (rev e)) (length points) change) (outer_replaced old new e (length points) first last s m.once l o count outer)
-
 last_below : (points : List Point) (n len : ℕ) (outer : List (ℕ × ℕ)) → ((i j : ℕ) → Contains outer (i, j) → (i < len) × (j < len)) → (u v : ℕ) (rest : List ℕ) → IsSeenRun points n outer u (v ∷ rest) → last_of v rest < len
 last_below points n len outer ends u v [] r = (ends u v r.0).1
 last_below points n len outer ends u v (y ∷ ys) r = last_below points n len outer ends v y ys r.2

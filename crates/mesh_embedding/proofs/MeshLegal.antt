@@ -399,12 +399,6 @@ fewer_after_flip points m new ks more h e o =
     half : (j : ℕ) → (2 * j) < length m.half_edges → j < length m.half_edges
     half j h = omega (arith, h)
 
-pub fewer_after_drop : (points : List Point) (m : Mesh) (ks : List ℕ) (k : ℕ) → steps_left points m ks < steps_left points m (ks ++ k ∷ [])
-fewer_after_drop points m ks k = longer (lifted_volume points (faces_of m) * (length m.half_edges + 1)) (length ks) (length (ks ++ k ∷ [])) (length-append ks (k ∷ []))
-  where
-    longer : (v a b : ℕ) → b ≡ a + 1 → v + a < v + b
-    longer v a b e = omega arith
-
 -- ---- the four edges round an edge are put into a work list
 pub gains_edges : (m : Mesh) (old new : List ℕ) (k : ℕ) → AreEdges m old → (2 * k) < length m.half_edges → Gains old new k → AreEdges m new
 gains_edges m old new k o h g = record { within = λ j c. elim (g.only j c) [ inl r ↦ subst (λ (z : ℕ). (2 * z) < length m.half_edges) (sym r) h | inr r ↦ o.within j r ]; once = g.once o.once }

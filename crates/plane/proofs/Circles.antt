@@ -169,12 +169,3 @@ unfolding incircle bracket
 incircle-from_first a b c d = ring_over points [] (a ∷ b ∷ c ∷ d ∷ [])
     (λ a b c d. incircleᵖ (wholeᵖ a) (wholeᵖ b) (wholeᵖ c) (wholeᵖ d))
     (λ a b c d. bracketᵖ (wholeᵖ a) (wholeᵖ d) (wholeᵖ c) ⊗ squaredᵖ a b ⊕ bracketᵖ (wholeᵖ a) (wholeᵖ b) (wholeᵖ d) ⊗ squaredᵖ a c ⊖ bracketᵖ (wholeᵖ a) (wholeᵖ b) (wholeᵖ c) ⊗ squaredᵖ a d) tt
-
--- and from the second
-pub incircle-from_second : (a b c d : Point) → incircle (lift a) (lift b) (lift c) (lift d) ≡ bracket (lift d) (lift b) (lift c) *ℤ squared_way b a +ℤ bracket (lift a) (lift b) (lift d) *ℤ squared_way b c -ℤ bracket (lift a) (lift b) (lift c) *ℤ squared_way b d
-incircle-from_second a b c d = sym (incircle-turn (lift a) (lift b) (lift c) (lift d)) ∙ incircle-from_first b c a d
-    ∙ exchanged (bracket (lift b) (lift d) (lift a) *ℤ squared_way b c) (bracket (lift b) (lift c) (lift d) *ℤ squared_way b a) (bracket (lift b) (lift c) (lift a) *ℤ squared_way b d)
-    (ap (λ z. z *ℤ squared_way b c) (sym (bracket-turn (lift a) (lift b) (lift d)))) (ap (λ z. z *ℤ squared_way b a) (sym (bracket-turn (lift d) (lift b) (lift c)))) (ap (λ z. z *ℤ squared_way b d) (sym (bracket-turn (lift a) (lift b) (lift c))))
-  where
-    exchanged : (x y z : ℤ) {x' y' z' : ℤ} → x ≡ x' → y ≡ y' → z ≡ z' → x +ℤ y -ℤ z ≡ y' +ℤ x' -ℤ z'
-    exchanged x y z e d c = omega (arith, ints)

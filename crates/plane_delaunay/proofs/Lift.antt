@@ -27,11 +27,6 @@ pub lift-turned : (a b c d : Fraction) → lift b c a d ≡ lift a b c d
 unfolding lift
 lift-turned a b c d = C.incircle-turn (vec a) (vec b) (vec c) (vec d)
 
--- one question for both faces at an edge
-pub lift-exchanged : (a b c d : Fraction) → lift b a d c ≡ lift a b c d
-unfolding lift
-lift-exchanged a b c d = C.incircle-exchange (vec a) (vec b) (vec c) (vec d)
-
 pub lift-first : (a b c : Fraction) → lift a b c a ≡ pos 0
 unfolding lift
 lift-first a b c = C.incircle-first (vec a) (vec b) (vec c)

@@ -65,14 +65,6 @@ split_is_append t old new n q meet kept (inr (none, s)) a b = (
   (λ k. elim k [ inl o ↦ (s a b).1 o.0 | inr o ↦ absurd (elim o [ inl c ↦ no_half t old n q meet kept none a b c | inr c ↦ no_half t old n q meet kept none b a c ]) ]),
 )
 
--- of plain states
-pub appends : {V : Type 0} (position : V → Point) (old new : Plain V) (v : V) (faces : List Face) (edges : List (ℕ × ℕ))
-    → EdgesMeetAtVertices (record { points = points_of position old; faces = faces; edges = edges }) → ((a b : ℕ) → Joins old.constraints a b → Joins edges a b)
-    → All (DifferInPosition position v) old.vertices → new.vertices ≡ old.vertices ++ v ∷ [] → SplitsOneOrNone (points_of position old) old.constraints new.constraints (length old.vertices) (position v) → Appends position old new v
-appends position old new v faces edges meet kept fresh vertices s = record {
-  fresh = fresh;
-  vertices = vertices;
-  constraints = split_is_append (record { points = points_of position old; faces = faces; edges = edges }) old.constraints new.constraints (length old.vertices) (position v) meet kept s;
 }
 
 module _ (t : Triangulation) (a b v : ℕ) (meet : EdgesMeetAtVertices t) (hv : IsVertex t v) (e : IsEdge t a v) (f : IsEdge t v b) (w : WithinSegment (vertex t a) (vertex t b) (vertex t v)) where

@@ -34,10 +34,6 @@ turn_on a b c h = on_if (whole a) (whole b) (whole c) (bracket-affine a b c ∙ 
 pub turn-swapped : (q u v : Point) → turn_at q v u ≡ neg_ℤ (turn_at q u v)
 turn-swapped q u v = ring_over points_shape [] (q ∷ u ∷ v ∷ []) (λ q u v. turnᵖ q v u) (λ q u v. ⊝ (turnᵖ q u v)) tt
 
--- no turn from a point to itself
-pub turn-start : (q u : Point) → turn_at q q u ≡ pos 0
-turn-start q u = ring_over points_shape [] (q ∷ u ∷ []) (λ q u. turnᵖ q q u) (λ q u. num 0) tt
-
 pub turn-same : (q u : Point) → turn_at q u u ≡ pos 0
 turn-same q u = ring_over points_shape [] (q ∷ u ∷ []) (λ q u. turnᵖ q u u) (λ q u. num 0) tt
 

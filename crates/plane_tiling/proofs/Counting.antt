@@ -71,9 +71,6 @@ flow_is_antisymmetric p q x s t =
 pub hits : (ℕ → Point) → Vec3 → Face → ℤ
 hits p q f = hit (turn (bracket (at p f.a) (at p f.b) q)) (turn (bracket (at p f.b) (at p f.c) q)) (turn (bracket (at p f.c) (at p f.a) q))
 
-pub InsideFace : (ℕ → Point) → Face → Vec3 → Type 0
-InsideFace p f q = Inside (at p f.a) (at p f.b) (at p f.c) q
-
 pub hits_is : (p : ℕ → Point) (q : Vec3) (f : Face) → (hits p q f ≡ pos 0) ⊎ (hits p q f ≡ pos 1)
 unfolding hits
 hits_is p q f = hit_is (turn (bracket (at p f.a) (at p f.b) q)) (turn (bracket (at p f.b) (at p f.c) q)) (turn (bracket (at p f.c) (at p f.a) q))

@@ -145,9 +145,6 @@ side_counts faces u v s = go s.1
     go (inr (inl h)) = by (face v s.0 u) h (third_of_three_counts (is_pair u v v s.0) (is_pair u v s.0 u) (is_pair u v u v) (is_pair_own u v) (is_pair_nonneg u v v s.0) (is_pair_nonneg u v s.0 u))
     go (inr (inr h)) = by (face s.0 u v) h (second_of_three_counts (is_pair u v s.0 u) (is_pair u v u v) (is_pair u v v s.0) (is_pair_own u v) (is_pair_nonneg u v s.0 u) (is_pair_nonneg u v v s.0))
 
-pub outer_nonneg : (u v : ℕ) (outer : List (ℕ × ℕ)) (e : ℕ × ℕ) → pos 0 ≤ℤ along (is_pair u v) e
-outer_nonneg u v outer e = is_pair_nonneg u v e.0 e.1
-
 pub outer_counts : (outer : List (ℕ × ℕ)) (u v : ℕ) → Contains outer (u, v) → pos 1 ≤ℤ total (along (is_pair u v)) outer
 outer_counts outer u v h = from (total (along (is_pair u v)) outer) (is_pair u v u v) (is_pair_own u v) (total_at_least (along (is_pair u v)) outer (λ e _. is_pair_nonneg u v e.0 e.1) (u, v) h)
   where

@@ -216,15 +216,3 @@ no_edges_cross points faces outer edges (inr m) own = no_faces points faces oute
 pub each_point_has_one_location : (points : List Point) (faces : List Face) (outer edges : List (ℕ × ℕ)) → IsMesh points faces outer → AreEdgesOf faces outer edges → (p : Fraction) → HasOneLocation (record { points = points; faces = faces; edges = edges }) p
 each_point_has_one_location points faces outer edges (inl m) own y = (plane_exists points faces outer edges m own y, plane_same points faces outer edges m own y)
 each_point_has_one_location points faces outer edges (inr m) own y = no_faces points faces outer edges (λ t. HasOneLocation t y) m.0 own (λ o. (line_exists points outer edges m.1 o y, line_same points outer edges m.1 o y))
-
--- for a scan: a point at no vertex, within no edge and inside no face is beside an outer edge (left of it, or past the end of the line), or there are not two vertices
-pub else_outside : (t : Triangulation) (p : Fraction) → HasOneLocation t p → ((i : ℕ) → ¬ IsLocation t p (on_vertex i)) → ((i j : ℕ) → ¬ IsLocation t p (on_edge i j)) → ((i j k : ℕ) → ¬ IsLocation t p (on_face i j k))
-    → ((i j : ℕ) × IsLocation t p (outside_hull i j)) ⊎ IsLocation t p no_triangulation
-else_outside t p h vertices edges faces = go h.0.0 h.0.1
-  where
-    go : (l : Location) → IsLocation t p l → ((i j : ℕ) × IsLocation t p (outside_hull i j)) ⊎ IsLocation t p no_triangulation
-    go (on_vertex i) a = absurd (vertices i a)
-    go (on_edge i j) a = absurd (edges i j a)
-    go (on_face i j k) a = absurd (faces i j k a)
-    go (outside_hull i j) a = inl (i, j, a)
-    go no_triangulation a = inr a

@@ -99,10 +99,6 @@ pub puts_behind : {W T E : Type 0} (contents : W → Option (List ℕ)) (w0 w1 w
 puts_behind contents w0 w1 w2 (Ok x) held mid kept s t p (q, works) = (passes_more _ _ _ held mid kept s t p q, works)
 puts_behind contents w0 w1 w2 (Err x) held mid kept s t p (q, failed) = (passes_part _ _ _ held mid s t p q, failed)
 
--- there was room for the bytes
-pub puts_room : (a : Option (List ℕ)) (held kept bytes : List ℕ) → kept ≡ held ++ bytes → Passes a a held kept bytes
-puts_room a held kept bytes e = record { part = []; whole = sym e; written = appends_nil a }
-
 -- what was held was written, and then the bytes
 pub puts_direct : {W T E : Type 0} (contents : W → Option (List ℕ)) (w0 w1 w2 : Watched W) (r : Result T E) (held kept bytes : List ℕ) → kept ≡ []
     → Appends (contents (inner_of w0)) (contents (inner_of w1)) held → Writes contents w1 w2 r bytes → Puts contents w0 w2 held kept r bytes
