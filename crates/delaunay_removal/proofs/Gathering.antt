@@ -75,5 +75,3 @@ module _ (m : Mesh) (valid : IsValidMesh m) (v last first count : ℕ) (round : 
 not_some : (o : Option ℕ) → o ≡ None → ¬ IsSome o
 not_some None none some = cc
 not_some (Some k) none some = cc
-
-}

@@ -59,7 +59,6 @@ filter_passes Inside i k found f is out = record { once = f.once; exact = λ j. 
       | inr n ↦ (f.exact j).1 (below_other j i p.0 (λ e. n (e ∙ sym is)), p.1)
     ]
 
--- ---- a step of an iterator
 -- ---- a question of a flood
 module _ (Inside : ℕ → Type 0) (count : ℕ) where
   goes_nowhere : (asked : List Bool) (found : List ℕ) → GoesOn asked asked found found
@@ -179,17 +178,6 @@ spread_ends m asked found i s last = record {
   left = λ k c. let w = c.1 in subst (λ x. AreAskedBeside m asked (2 * x)) (get_or_any found c.0 0 k c.1 ∙ c.2) (s.left c.0 (omega (arith, w, last)));
   right = λ k c. let w = c.1 in subst (λ x. AreAskedBeside m asked (rev (2 * x))) (get_or_any found c.0 0 k c.1 ∙ c.2) (s.right c.0 (omega (arith, w, last)));
 }
-
--- ---- before the first question
-none_marked : (n k : ℕ) → get_or (replicate n false) k false ≡ false
-none_marked zero k = refl
-none_marked (suc n) zero = refl
-none_marked (suc n) (suc k) = none_marked n k
-
-}))
-  where
-    never : (k : ℕ) → get_or (replicate count false) k false ≡ true → ⊥
-    never k h = let same : false ≡ true = sym (none_marked count k) ∙ h in absurd (cc)
 
 -- ---- one after the other, of a list
 pub record AreAskedTo (Inside : ℕ → Type 0) (count : ℕ) (asked : List Bool) (found starts : List ℕ) (i : ℕ) : Type 0 where

@@ -65,8 +65,6 @@ split_is_append t old new n q meet kept (inr (none, s)) a b = (
   (λ k. elim k [ inl o ↦ (s a b).1 o.0 | inr o ↦ absurd (elim o [ inl c ↦ no_half t old n q meet kept none a b c | inr c ↦ no_half t old n q meet kept none b a c ]) ]),
 )
 
-}
-
 module _ (t : Triangulation) (a b v : ℕ) (meet : EdgesMeetAtVertices t) (hv : IsVertex t v) (e : IsEdge t a v) (f : IsEdge t v b) (w : WithinSegment (vertex t a) (vertex t b) (vertex t v)) where
   parts : (x : Fraction) → WithinSegment (vertex t a) (vertex t b) x → IsSame x (vertex t v) ⊎ (WithinSegment (vertex t a) (vertex t v) x ⊎ WithinSegment (vertex t v) (vertex t b) x)
   parts x h = within_parts (point_of t.points a) (point_of t.points b) (point_of t.points v) x w h
