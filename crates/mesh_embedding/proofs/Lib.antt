@@ -24,3 +24,7 @@ pub mod MeshLineEnds
 pub mod WorkLists
 pub mod MeshStays
 pub mod MeshLegal
+pub mod LowestVertex
+pub mod OutlineRounds
+pub mod OutlineOnLine
+pub mod OneOutline

@@ -29,7 +29,7 @@ module _ (n : ℕ) (p : ℕ → Point) (outer : List (ℕ × ℕ)) (m : SignLine
   level' : bracket (at p b) (at p a) (lift (p a)) ≡ pos 0
   level' = O.turned_level n p outer m (whole (p a)) a b a_in b_in apart level
 
-  spot : ℕ → ℤ
+  pub spot : ℕ → ℤ
   spot = O.spot n p outer m (whole (p a)) a b a_in b_in apart level
 
   -- the other way along
@@ -52,7 +52,7 @@ module _ (n : ℕ) (p : ℕ → Point) (outer : List (ℕ × ℕ)) (m : SignLine
       shifted : (x y c s t d : ℤ) → x -ℤ c ≡ d -ℤ s → y -ℤ c ≡ d -ℤ t → y -ℤ x ≡ s -ℤ t
       shifted x y c s t d h k = omega (arith, ints)
 
-  same : (i j : ℕ) → i < n → j < n → spot i ≡ spot j → i ≡ j
+  pub same : (i j : ℕ) → i < n → j < n → spot i ≡ spot j → i ≡ j
   unfolding spot
   same = O.same_spot n p outer m (whole (p a)) a b a_in b_in apart level
 
@@ -81,7 +81,7 @@ module _ (n : ℕ) (p : ℕ → Point) (outer : List (ℕ × ℕ)) (m : SignLine
   differ i j hi hj d = elim (lt_or_ge_ℤ (spot i) (spot j)) [ inl l ↦ inl l | inr l ↦ elim (lt_or_ge_ℤ (spot j) (spot i)) [ inl h ↦ inr h | inr h ↦ absurd (d (same i j hi hj (at_most_both_ways (spot i) (spot j) h l))) ] ]
 
   -- with a vertex below it, w has a neighbour below it
-  below_edge : (w x : ℕ) → w < n → x < n → spot x <ℤ spot w → (j : ℕ) × Contains outer (w, j) × (spot j <ℤ spot w)
+  pub below_edge : (w x : ℕ) → w < n → x < n → spot x <ℤ spot w → (j : ℕ) × Contains outer (w, j) × (spot j <ℤ spot w)
   below_edge w x hw hx l = elim (O.nearest_below spot n (spot w)) [ inl s ↦ (s.0, lower w hw s.0 s.1, s.1.below) | inr none ↦ absurd (clash (spot x) (spot w) l (none x hx)) ]
 
   -- and likewise above
@@ -120,7 +120,7 @@ module _ (n : ℕ) (p : ℕ → Point) (outer : List (ℕ × ℕ)) (m : SignLine
   one_below : (v x y : ℕ) → IsNext n p v x → IsNext n p v y → spot x <ℤ spot v → spot y <ℤ spot v → x ≢ y → ⊥
   one_below v x y f g h k d = elim (differ x y f.second g.second d) as (λ _. ⊥) [ inl l ↦ rising x v y (turned v x f) g.second l k | inr l ↦ rising y v x (turned v y g) f.second l h ]
 
-  one_above : (v x y : ℕ) → IsNext n p v x → IsNext n p v y → spot v <ℤ spot x → spot v <ℤ spot y → x ≢ y → ⊥
+  pub one_above : (v x y : ℕ) → IsNext n p v x → IsNext n p v y → spot v <ℤ spot x → spot v <ℤ spot y → x ≢ y → ⊥
   one_above v x y f g h k d = elim (differ x y f.second g.second d) as (λ _. ⊥) [ inl l ↦ rising v y x g f.second h l | inr l ↦ rising v x y f g.second k l ]
 
   no_third : (c d : ℕ) → IsNext n p a b → IsNext n p a c → IsNext n p a d → b ≢ c → c ≢ d → b ≢ d → ⊥

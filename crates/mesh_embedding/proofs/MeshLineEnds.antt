@@ -25,7 +25,7 @@ use Rattle.mesh_embedding.proofs.MeshStays.{one_way}
 use Rattle.mesh_embedding.proofs.LineNeighbours.{two_neighbours, only_pair}
 
 -- an edge that comes after itself round a vertex is the vertex's only one
-only_edge : (m : Mesh) → IsValidMesh m → (g w : ℕ) → origin m g ≡ w → g < length m.half_edges → turn m g ≡ g → (h : ℕ) → h < length m.half_edges → origin m h ≡ w → h ≡ g
+pub only_edge : (m : Mesh) → IsValidMesh m → (g w : ℕ) → origin m g ≡ w → g < length m.half_edges → turn m g ≡ g → (h : ℕ) → h < length m.half_edges → origin m h ≡ w → h ≡ g
 only_edge m valid g w o k one h l e = eqb-true h g (valid.stars (λ x. eqb x g) (λ x _ q. ap (λ y. eqb y g) (ap (turn m) (eqb-true x g q) ∙ one) ∙ own) g h k l (o ∙ sym e) own)
   where
     own : eqb g g ≡ true
@@ -36,7 +36,7 @@ module _ (points : List Point) (m : Mesh) (valid : IsValidMesh m) (bare : faces_
   line_once = (joins_line points (outer_of m) (edges_of m) line (subst (λ fs. AreEdgesOf fs (outer_of m) (edges_of m)) bare (own_edges m valid))).once
 
   -- each directed edge is an outer one
-  is_outer : (h : ℕ) → h < length m.half_edges → face m h ≡ 0
+  pub is_outer : (h : ℕ) → h < length m.half_edges → face m h ≡ 0
   is_outer h k = let f = (valid.sound.edges h k).face_in in omega (arith, f, no_inner)
 
   way_listed : (h : ℕ) → h < length m.half_edges → Contains (outer_of m) (origin m h, origin m (rev h))
