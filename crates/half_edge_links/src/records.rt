@@ -26,7 +26,7 @@ pub(crate) fn read(half_edges: &[HalfEdge], h: u32) -> HalfEdge
 pub fn reversed(h: u32) -> u32
     ensures { result ≡ rev h }
 {
-    if h % 2 == 0 { h + 1 } else { h - 1 }
+    h ^ 1
 }
 
 // Lets the edge after `h` be `next`.

@@ -28,3 +28,4 @@ pub mod LowestVertex
 pub mod OutlineRounds
 pub mod OutlineOnLine
 pub mod OneOutline
+pub mod OutlineGiven
