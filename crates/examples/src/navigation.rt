@@ -86,7 +86,8 @@ fn take_down(hall: &mut Hall, place: Point2<i64>) -> anyhow::Result<bool> {
     }
     match hall.locate(place, &ExactTests) {
         PositionInTriangulation::OnEdge(edge) => {
-            Ok(hall.remove_constraint_edge(edge.as_undirected(), &ExactTests)?)
+            let wall = hall.directed_edge(edge).as_undirected().fix();
+            Ok(hall.remove_constraint_edge(wall, &ExactTests)?)
         }
         _ => Ok(false),
     }
