@@ -35,19 +35,13 @@ pub(crate) fn insert_at<
     value: V,
     tests: &P,
 ) -> FixedVertexHandle
-    requires kept { IsTriangulated V.place (state_of dcel.old) }
-    requires in_range { InRange (V.place value) }
-    requires sites { All (P.sites tests.now) (map V.place dcel.old.vertices) }
-    requires new_site { P.sites tests.now (V.place value) }
+    requires can { CanTake V.place value (state_of dcel.old) }
+    requires sites { All (P.sites tests.now) (map V.place dcel.old.vertices) × P.sites tests.now (V.place value) }
     requires apart { IsApart (map V.place dcel.old.vertices) (V.place value) }
     requires location { Locates (map V.place dcel.old.vertices) dcel.old.mesh (V.place value) location }
     requires turns { IsTrue turns ↔ IsLeftOfPlace (map V.place dcel.old.vertices) dcel.old.mesh (V.place value) location }
     requires room { HasRoomFor dcel.old.room (length dcel.old.vertices + 1) (3 * (length dcel.old.vertices + 1)) (2 * (length dcel.old.vertices + 1)) }
-    ensures vertex { result ≡ length dcel.old.vertices }
-    ensures vertices { dcel.new.vertices ≡ dcel.old.vertices ++ value ∷ [] }
-    ensures kept { IsTriangulated V.place (state_of dcel.new) }
-    ensures grows { GrowsAround (map V.place dcel.old.vertices) (V.place value) (state_of dcel.old) (state_of dcel.new) }
-    ensures made { MakesFacesAt (length dcel.old.vertices) (faces_of dcel.old.mesh) (faces_of dcel.new.mesh) }
+    ensures takes { TakesVertex V.place value (state_of dcel.old) (state_of dcel.new) result }
     ensures constraints { SplitsConstraints V.place M.constraints (state_of dcel.old) (state_of dcel.new) value }
 {
     match location {

@@ -6,7 +6,7 @@ use Rattle.half_edge_mesh.specs.Flip.{IsFlippable}
 use Rattle.half_edge_mesh.specs.Triangles.{triangles, InsertsTriangles, SplitsTriangles}
 use Rattle.half_edge_mesh.specs.Outline.{HalfSplitsTriangles}
 use Rattle.plane.specs.Fraction.{Point}
-use Rattle.plane.specs.Tiling.{Face, face as corners}
+use Rattle.plane.specs.Tiling.{Face}
 use Rattle.plane_tiling.proofs.Totals.{Contains-none, Contains-cases}
 use Rattle.plane_edits.specs.Change.{IsFaceOf, FacesChange}
 use Rattle.plane_edits.specs.Extension.{IsExtending, fan}

@@ -1,4 +1,5 @@
 pub mod Data
+pub mod Growth
 pub mod Edges
 pub mod Constraints
 pub mod Joining

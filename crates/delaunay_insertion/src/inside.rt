@@ -1,17 +1,13 @@
 //! A new vertex inside a face or within an edge.
-ghost use Rattle.std.specs.Prelude.{◌≡◌, ◌+◌, ◌*◌, ◌/◌, ◌<◌, ◌≤◌, ◌++◌, ◌∷◌, [], length, map};
+ghost use Rattle.std.specs.Prelude.{◌≡◌, ◌+◌, ◌*◌, ◌/◌, ◌<◌, ◌≤◌, length, map};
 ghost use Rattle.half_edge_mesh.specs.Mesh.{rev, face, face_edge};
 ghost use Rattle.half_edge_mesh.specs.Room.{HasRoomFor};
 ghost use Rattle.half_edge_mesh.specs.Contents.{HasRoom, edges};
-ghost use Rattle.plane.specs.Tests.{InRange};
 ghost use Rattle.delaunay_insertion.specs.Constraints.{SplitsConstraints};
-ghost use Rattle.delaunay_insertion.specs.Data.{GrowsAround};
 ghost use Rattle.delaunay_insertion.specs.Edges.{AddsOnly, SplitsAt};
+ghost use Rattle.delaunay_insertion.specs.Growth.{CanTake, TakesVertex};
 ghost use Rattle.delaunay_legalization.specs.Parts.{IsInsideFaceOf, IsWithinEdge};
-ghost use Rattle.delaunay_legalization.specs.Shape.{IsTriangulated};
-ghost use Rattle.delaunay_legalization.specs.Star.{MakesFacesAt};
 ghost use Rattle.delaunay_legalization.specs.State.{state_of};
-ghost use Rattle.mesh_embedding.specs.Drawn.{faces_of};
 
 use crate::free_by_default::FreeByDefault;
 use crate::on_line::split_line_edge;
@@ -27,17 +23,12 @@ pub fn insert_inside_face<V: HasPosition, DE: Default, UE: Default, F: Default>(
     face: FixedFaceHandle,
     value: V,
 ) -> FixedVertexHandle
-    requires kept { IsTriangulated V.place (state_of dcel.old) }
-    requires in_range { InRange (V.place value) }
+    requires can { CanTake V.place value (state_of dcel.old) }
     requires positive { 0 < face }
     requires within { face ≤ length dcel.old.faces }
     requires inside { IsInsideFaceOf (map V.place dcel.old.vertices) dcel.old.mesh (V.place value) (face_edge dcel.old.mesh face) }
     requires room { HasRoom dcel.old 1 3 2 }
-    ensures vertex { result ≡ length dcel.old.vertices }
-    ensures vertices { dcel.new.vertices ≡ dcel.old.vertices ++ value ∷ [] }
-    ensures kept { IsTriangulated V.place (state_of dcel.new) }
-    ensures grows { GrowsAround (map V.place dcel.old.vertices) (V.place value) (state_of dcel.old) (state_of dcel.new) }
-    ensures made { MakesFacesAt (length dcel.old.vertices) (faces_of dcel.old.mesh) (faces_of dcel.new.mesh) }
+    ensures takes { TakesVertex V.place value (state_of dcel.old) (state_of dcel.new) result }
     ensures edges { AddsOnly UE.is_default (edges dcel.old) (edges dcel.new) }
 {
     let vertex = dcel.insert_into_triangle(value, face);
@@ -51,18 +42,13 @@ fn split_inner_edge<V: HasPosition, DE: Default, UE: Default, F: Default>(
     edge: FixedDirectedEdgeHandle,
     value: V,
 ) -> (FixedVertexHandle, FixedUndirectedEdgeHandle)
-    requires kept { IsTriangulated V.place (state_of dcel.old) }
-    requires in_range { InRange (V.place value) }
+    requires can { CanTake V.place value (state_of dcel.old) }
     requires within { edge < length dcel.old.directed }
     requires inner { 0 < face dcel.old.mesh edge }
     requires twin_inner { 0 < face dcel.old.mesh (rev edge) }
     requires on_edge { IsWithinEdge (map V.place dcel.old.vertices) dcel.old.mesh (V.place value) edge }
     requires room { HasRoom dcel.old 1 3 2 }
-    ensures vertex { result.0 ≡ length dcel.old.vertices }
-    ensures vertices { dcel.new.vertices ≡ dcel.old.vertices ++ value ∷ [] }
-    ensures kept { IsTriangulated V.place (state_of dcel.new) }
-    ensures grows { GrowsAround (map V.place dcel.old.vertices) (V.place value) (state_of dcel.old) (state_of dcel.new) }
-    ensures made { MakesFacesAt (length dcel.old.vertices) (faces_of dcel.old.mesh) (faces_of dcel.new.mesh) }
+    ensures takes { TakesVertex V.place value (state_of dcel.old) (state_of dcel.new) result.0 }
     ensures edges { SplitsAt UE.is_default (edges dcel.old) (edges dcel.new) (edge / 2) result.0 result.1 }
 {
     let (vertex, parts) = dcel.split_edge(edge, value);
@@ -76,18 +62,13 @@ fn split_hull_edge<V: HasPosition, DE: Default, UE: Default, F: Default>(
     edge: FixedDirectedEdgeHandle,
     value: V,
 ) -> (FixedVertexHandle, FixedUndirectedEdgeHandle)
-    requires kept { IsTriangulated V.place (state_of dcel.old) }
-    requires in_range { InRange (V.place value) }
+    requires can { CanTake V.place value (state_of dcel.old) }
     requires within { edge < length dcel.old.directed }
     requires inner { 0 < face dcel.old.mesh edge }
     requires outer { face dcel.old.mesh (rev edge) ≡ 0 }
     requires on_edge { IsWithinEdge (map V.place dcel.old.vertices) dcel.old.mesh (V.place value) edge }
     requires room { HasRoom dcel.old 1 2 1 }
-    ensures vertex { result.0 ≡ length dcel.old.vertices }
-    ensures vertices { dcel.new.vertices ≡ dcel.old.vertices ++ value ∷ [] }
-    ensures kept { IsTriangulated V.place (state_of dcel.new) }
-    ensures grows { GrowsAround (map V.place dcel.old.vertices) (V.place value) (state_of dcel.old) (state_of dcel.new) }
-    ensures made { MakesFacesAt (length dcel.old.vertices) (faces_of dcel.old.mesh) (faces_of dcel.new.mesh) }
+    ensures takes { TakesVertex V.place value (state_of dcel.old) (state_of dcel.new) result.0 }
     ensures edges { SplitsAt UE.is_default (edges dcel.old) (edges dcel.new) (edge / 2) result.0 result.1 }
 {
     let (vertex, parts) = dcel.split_half_edge(edge, value);
@@ -102,16 +83,11 @@ fn split_at<V: HasPosition, DE: Default, UE: Default, F: Default>(
     edge: FixedDirectedEdgeHandle,
     value: V,
 ) -> (FixedVertexHandle, FixedUndirectedEdgeHandle)
-    requires kept { IsTriangulated V.place (state_of dcel.old) }
-    requires in_range { InRange (V.place value) }
+    requires can { CanTake V.place value (state_of dcel.old) }
     requires within { edge < length dcel.old.directed }
     requires on_edge { IsWithinEdge (map V.place dcel.old.vertices) dcel.old.mesh (V.place value) edge }
     requires room { HasRoomFor dcel.old.room (length dcel.old.vertices + 1) (3 * (length dcel.old.vertices + 1)) (2 * (length dcel.old.vertices + 1)) }
-    ensures vertex { result.0 ≡ length dcel.old.vertices }
-    ensures vertices { dcel.new.vertices ≡ dcel.old.vertices ++ value ∷ [] }
-    ensures kept { IsTriangulated V.place (state_of dcel.new) }
-    ensures grows { GrowsAround (map V.place dcel.old.vertices) (V.place value) (state_of dcel.old) (state_of dcel.new) }
-    ensures made { MakesFacesAt (length dcel.old.vertices) (faces_of dcel.old.mesh) (faces_of dcel.new.mesh) }
+    ensures takes { TakesVertex V.place value (state_of dcel.old) (state_of dcel.new) result.0 }
     ensures edges { SplitsAt UE.is_default (edges dcel.old) (edges dcel.new) (edge / 2) result.0 result.1 }
 {
     if dcel.num_inner_faces() == 0 {
@@ -133,16 +109,11 @@ pub fn insert_within_edge<
     UE: Default,
     F: Default,
 >(dcel: &mut Dcel<V, DE, UE, F>, edge: FixedDirectedEdgeHandle, value: V) -> FixedVertexHandle
-    requires kept { IsTriangulated V.place (state_of dcel.old) }
-    requires in_range { InRange (V.place value) }
+    requires can { CanTake V.place value (state_of dcel.old) }
     requires within { edge < length dcel.old.directed }
     requires on_edge { IsWithinEdge (map V.place dcel.old.vertices) dcel.old.mesh (V.place value) edge }
     requires room { HasRoomFor dcel.old.room (length dcel.old.vertices + 1) (3 * (length dcel.old.vertices + 1)) (2 * (length dcel.old.vertices + 1)) }
-    ensures vertex { result ≡ length dcel.old.vertices }
-    ensures vertices { dcel.new.vertices ≡ dcel.old.vertices ++ value ∷ [] }
-    ensures kept { IsTriangulated V.place (state_of dcel.new) }
-    ensures grows { GrowsAround (map V.place dcel.old.vertices) (V.place value) (state_of dcel.old) (state_of dcel.new) }
-    ensures made { MakesFacesAt (length dcel.old.vertices) (faces_of dcel.old.mesh) (faces_of dcel.new.mesh) }
+    ensures takes { TakesVertex V.place value (state_of dcel.old) (state_of dcel.new) result }
     ensures constraints { SplitsConstraints V.place M.constraints (state_of dcel.old) (state_of dcel.new) value }
 {
     let was_constraint = is_constraint_edge::<M, _, _, _, _>(dcel, edge.as_undirected());

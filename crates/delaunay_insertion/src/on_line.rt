@@ -1,18 +1,14 @@
 //! New vertices on the line of all vertices.
-ghost use Rattle.std.specs.Prelude.{◌≡◌, ◌/◌, ◌<◌, ◌++◌, ◌∷◌, [], length, map};
+ghost use Rattle.std.specs.Prelude.{◌≡◌, ◌/◌, ◌<◌, length, map};
 ghost use Rattle.half_edge_mesh.specs.Mesh.{origin};
 ghost use Rattle.half_edge_mesh.specs.Contents.{HasRoom, edges};
 ghost use Rattle.plane.specs.Fraction.{whole as fraction};
 ghost use Rattle.plane.specs.Location.{IsPast};
-ghost use Rattle.plane.specs.Tests.{InRange};
 ghost use Rattle.plane_tiling.specs.Local.{alone};
-ghost use Rattle.delaunay_insertion.specs.Data.{GrowsAround};
 ghost use Rattle.delaunay_insertion.specs.Edges.{AddsOnly, SplitsAt};
+ghost use Rattle.delaunay_insertion.specs.Growth.{CanTake, TakesVertex};
 ghost use Rattle.delaunay_legalization.specs.Parts.{IsApart, IsWithinEdge};
-ghost use Rattle.delaunay_legalization.specs.Shape.{IsTriangulated};
-ghost use Rattle.delaunay_legalization.specs.Star.{MakesFacesAt};
 ghost use Rattle.delaunay_legalization.specs.State.{state_of};
-ghost use Rattle.mesh_embedding.specs.Drawn.{faces_of};
 
 use delaunay_core::point::HasPosition;
 use half_edge_mesh::{
@@ -24,15 +20,10 @@ pub fn insert_first<V: HasPosition, DE, UE: Default, F>(
     dcel: &mut Dcel<V, DE, UE, F>,
     value: V,
 ) -> FixedVertexHandle
-    requires kept { IsTriangulated V.place (state_of dcel.old) }
-    requires in_range { InRange (V.place value) }
+    requires can { CanTake V.place value (state_of dcel.old) }
     requires none { length dcel.old.vertices ≡ 0 }
     requires room { HasRoom dcel.old 1 0 0 }
-    ensures vertex { result ≡ length dcel.old.vertices }
-    ensures vertices { dcel.new.vertices ≡ dcel.old.vertices ++ value ∷ [] }
-    ensures kept { IsTriangulated V.place (state_of dcel.new) }
-    ensures grows { GrowsAround (map V.place dcel.old.vertices) (V.place value) (state_of dcel.old) (state_of dcel.new) }
-    ensures made { MakesFacesAt (length dcel.old.vertices) (faces_of dcel.old.mesh) (faces_of dcel.new.mesh) }
+    ensures takes { TakesVertex V.place value (state_of dcel.old) (state_of dcel.new) result }
     ensures edges { AddsOnly UE.is_default (edges dcel.old) (edges dcel.new) }
 {
     let vertex = dcel.append_unconnected_vertex(value);
@@ -45,16 +36,11 @@ pub fn insert_second<V: HasPosition, DE: Default, UE: Default, F>(
     dcel: &mut Dcel<V, DE, UE, F>,
     value: V,
 ) -> FixedVertexHandle
-    requires kept { IsTriangulated V.place (state_of dcel.old) }
-    requires in_range { InRange (V.place value) }
+    requires can { CanTake V.place value (state_of dcel.old) }
     requires apart { IsApart (map V.place dcel.old.vertices) (V.place value) }
     requires one { length dcel.old.vertices ≡ 1 }
     requires room { HasRoom dcel.old 1 1 0 }
-    ensures vertex { result ≡ length dcel.old.vertices }
-    ensures vertices { dcel.new.vertices ≡ dcel.old.vertices ++ value ∷ [] }
-    ensures kept { IsTriangulated V.place (state_of dcel.new) }
-    ensures grows { GrowsAround (map V.place dcel.old.vertices) (V.place value) (state_of dcel.old) (state_of dcel.new) }
-    ensures made { MakesFacesAt (length dcel.old.vertices) (faces_of dcel.old.mesh) (faces_of dcel.new.mesh) }
+    ensures takes { TakesVertex V.place value (state_of dcel.old) (state_of dcel.new) result }
     ensures edges { AddsOnly UE.is_default (edges dcel.old) (edges dcel.new) }
 {
     dcel.recall_invariant();
@@ -70,18 +56,13 @@ pub fn insert_past_end<V: HasPosition, DE: Default, UE: Default, F>(
     edge: FixedDirectedEdgeHandle,
     value: V,
 ) -> FixedVertexHandle
-    requires kept { IsTriangulated V.place (state_of dcel.old) }
-    requires in_range { InRange (V.place value) }
+    requires can { CanTake V.place value (state_of dcel.old) }
     requires apart { IsApart (map V.place dcel.old.vertices) (V.place value) }
     requires one_face { length dcel.old.faces ≡ 0 }
     requires within { edge < length dcel.old.directed }
     requires past { IsPast (alone (map V.place dcel.old.vertices)) (origin dcel.old.mesh edge) (fraction (V.place value)) }
     requires room { HasRoom dcel.old 1 1 0 }
-    ensures vertex { result ≡ length dcel.old.vertices }
-    ensures vertices { dcel.new.vertices ≡ dcel.old.vertices ++ value ∷ [] }
-    ensures kept { IsTriangulated V.place (state_of dcel.new) }
-    ensures grows { GrowsAround (map V.place dcel.old.vertices) (V.place value) (state_of dcel.old) (state_of dcel.new) }
-    ensures made { MakesFacesAt (length dcel.old.vertices) (faces_of dcel.old.mesh) (faces_of dcel.new.mesh) }
+    ensures takes { TakesVertex V.place value (state_of dcel.old) (state_of dcel.new) result }
     ensures edges { AddsOnly UE.is_default (edges dcel.old) (edges dcel.new) }
 {
     let end = dcel.directed_edge(edge).from().fix();
@@ -96,17 +77,12 @@ pub(crate) fn split_line_edge<V: HasPosition, DE: Default, UE: Default, F>(
     edge: FixedDirectedEdgeHandle,
     value: V,
 ) -> (FixedVertexHandle, FixedUndirectedEdgeHandle)
-    requires kept { IsTriangulated V.place (state_of dcel.old) }
-    requires in_range { InRange (V.place value) }
+    requires can { CanTake V.place value (state_of dcel.old) }
     requires one_face { length dcel.old.faces ≡ 0 }
     requires within { edge < length dcel.old.directed }
     requires on_edge { IsWithinEdge (map V.place dcel.old.vertices) dcel.old.mesh (V.place value) edge }
     requires room { HasRoom dcel.old 1 1 0 }
-    ensures vertex { result.0 ≡ length dcel.old.vertices }
-    ensures vertices { dcel.new.vertices ≡ dcel.old.vertices ++ value ∷ [] }
-    ensures kept { IsTriangulated V.place (state_of dcel.new) }
-    ensures grows { GrowsAround (map V.place dcel.old.vertices) (V.place value) (state_of dcel.old) (state_of dcel.new) }
-    ensures made { MakesFacesAt (length dcel.old.vertices) (faces_of dcel.old.mesh) (faces_of dcel.new.mesh) }
+    ensures takes { TakesVertex V.place value (state_of dcel.old) (state_of dcel.new) result.0 }
     ensures edges { SplitsAt UE.is_default (edges dcel.old) (edges dcel.new) (edge / 2) result.0 result.1 }
 {
     let (vertex, parts) = dcel.split_edge_when_all_vertices_on_line(edge, value);

@@ -1,21 +1,17 @@
 //! A new vertex outside the hull, or off the line of all vertices.
-ghost use Rattle.std.specs.Prelude.{◌≡◌, ◌↔◌, ◌+◌, ◌*◌, ◌<◌, ◌++◌, ◌∷◌, [], length, map, All, IsTrue, IfSome, IfNone};
+ghost use Rattle.std.specs.Prelude.{◌≡◌, ◌↔◌, ◌+◌, ◌*◌, ◌<◌, length, map, All, IsTrue, IfSome, IfNone};
 ghost use Rattle.half_edge_mesh.specs.Mesh.{origin, next, prev, rev, face};
 ghost use Rattle.half_edge_mesh.specs.Room.{HasRoomFor};
 ghost use Rattle.half_edge_mesh.specs.Contents.{IsMeshWithData, edges};
 ghost use Rattle.plane.specs.Fraction.{whole as fraction};
 ghost use Rattle.plane.specs.Side.{TurnsLeft};
 ghost use Rattle.plane.specs.Pairs.{place};
-ghost use Rattle.plane.specs.Tests.{InRange};
 ghost use Rattle.delaunay_core.specs.Place.{place_of};
-ghost use Rattle.delaunay_insertion.specs.Data.{GrowsAround};
 ghost use Rattle.delaunay_insertion.specs.Edges.{AddsOnly};
+ghost use Rattle.delaunay_insertion.specs.Growth.{CanTake, TakesVertex};
 ghost use Rattle.delaunay_insertion.specs.Joining.{Sees};
 ghost use Rattle.delaunay_legalization.specs.Known.{point_at};
-ghost use Rattle.delaunay_legalization.specs.Shape.{IsTriangulated};
-ghost use Rattle.delaunay_legalization.specs.Star.{MakesFacesAt};
 ghost use Rattle.delaunay_legalization.specs.State.{state_of};
-ghost use Rattle.mesh_embedding.specs.Drawn.{faces_of};
 
 use delaunay_core::math::PlaneTests;
 use delaunay_core::point::{HasPosition, Point2};
@@ -106,19 +102,13 @@ pub fn join_outside<V: HasPosition, DE: Default, UE: Default, F: Default, P: Pla
     value: V,
     tests: &P,
 ) -> FixedVertexHandle
-    requires kept { IsTriangulated V.place (state_of dcel.old) }
-    requires in_range { InRange (V.place value) }
-    requires sites { All (P.sites tests.now) (map V.place dcel.old.vertices) }
-    requires new_site { P.sites tests.now (V.place value) }
+    requires can { CanTake V.place value (state_of dcel.old) }
+    requires sites { All (P.sites tests.now) (map V.place dcel.old.vertices) × P.sites tests.now (V.place value) }
     requires within { edge < length dcel.old.directed }
     requires outer { face dcel.old.mesh edge ≡ 0 }
     requires turns { TurnsLeft (place (map V.place dcel.old.vertices) (origin dcel.old.mesh edge)) (place (map V.place dcel.old.vertices) (origin dcel.old.mesh (rev edge))) (fraction (V.place value)) }
     requires room { HasRoomFor dcel.old.room (length dcel.old.vertices + 1) (3 * (length dcel.old.vertices + 1)) (2 * (length dcel.old.vertices + 1)) }
-    ensures vertex { result ≡ length dcel.old.vertices }
-    ensures vertices { dcel.new.vertices ≡ dcel.old.vertices ++ value ∷ [] }
-    ensures kept { IsTriangulated V.place (state_of dcel.new) }
-    ensures grows { GrowsAround (map V.place dcel.old.vertices) (V.place value) (state_of dcel.old) (state_of dcel.new) }
-    ensures made { MakesFacesAt (length dcel.old.vertices) (faces_of dcel.old.mesh) (faces_of dcel.new.mesh) }
+    ensures takes { TakesVertex V.place value (state_of dcel.old) (state_of dcel.new) result }
     ensures edges { AddsOnly UE.is_default (edges dcel.old) (edges dcel.new) }
 {
     let vertex = dcel.create_new_face_adjacent_to_edge(edge, value);

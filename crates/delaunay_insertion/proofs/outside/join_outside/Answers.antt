@@ -17,21 +17,21 @@ loop-after-init g c =
     let new = c.create_new_face_adjacent_to_edge-vertex.new.self in
     let done = c.create_new_face_adjacent_to_edge-vertex.ensures in
     let w = c.requires.within in
-    let f = c.requires.kept.fits.directed_fit in
+    let f = c.requires.can.kept.fits.directed_fit in
     let count = length-grown _ old.directed new.directed 4 done.directed in
     let counted = c.num_directed_edges-edges.ensures.value in
     let one : c.from_index-ahead.result ≡ length old.directed + 1 = let i = c.from_index-ahead.ensures in omega (arith, i, count, counted) in
     let three : c.from_index-behind.result ≡ length old.directed + 3 = let i = c.from_index-behind.ensures in omega (arith, i, count, counted) in (
       subst (λ (x : ℕ × ℕ). IsJoining g.V.HasPosition.place old new c.args.value x.0 x.1) (λ o. (sym one o, sym three o))
-          (joining_begins g.V.HasPosition.place old c.args.value new c.args.edge c.create_new_face_adjacent_to_edge-vertex.result c.requires.kept (has_vertex g.V.HasPosition.place old c.args.edge c.requires.kept c.requires.within) (omega (arith, w, f)) c.requires.outer c.requires.turns done.vertex
+          (joining_begins g.V.HasPosition.place old c.args.value new c.args.edge c.create_new_face_adjacent_to_edge-vertex.result c.requires.can.kept (has_vertex g.V.HasPosition.place old c.args.edge c.requires.can.kept c.requires.within) (omega (arith, w, f)) c.requires.outer c.requires.turns done.vertex
           (ap (λ d. d.vertices) done.contents) (ap (λ d. d.room) done.contents) count (length-grown _ old.undirected new.undirected 2 done.undirected) (length-grown _ old.faces new.faces 1 done.faces) done.triangles done.outer),
-      grows_by_face old new c.requires.kept.valid c.requires.kept.fits c.num_directed_edges-edges.ensures.whole (map g.V.HasPosition.place old.vertices) (g.V.HasPosition.place c.args.value) _ _ _ _ _ _ _ _ _ done.directed done.faces done.edges done.triangles (ap (λ d. d.outer) done.contents),
+      grows_by_face old new c.requires.can.kept.valid c.requires.can.kept.fits c.num_directed_edges-edges.ensures.whole (map g.V.HasPosition.place old.vertices) (g.V.HasPosition.place c.args.value) _ _ _ _ _ _ _ _ _ done.directed done.faces done.edges done.triangles (ap (λ d. d.outer) done.contents),
       adds_only _ (edges old) (edges new) _ done.edges,
     )
 
 pub seen_after-requires-clause-sites : goal.seen_after-requires-clause-sites
 seen_after-requires-clause-sites g c =
-    sites_grown g.V.HasPosition.place c.args.dcel.now c.args.value (g.P.PlaneTests.sites c.args.tests.now) c.loop-after.dcel c.loop-after.invariant.0.vertices c.requires.sites c.requires.new_site
+    sites_grown g.V.HasPosition.place c.args.dcel.now c.args.value (g.P.PlaneTests.sites c.args.tests.now) c.loop-after.dcel c.loop-after.invariant.0.vertices c.requires.sites.0 c.requires.sites.1
 
 pub create_single_face_between_edge_and_next-ahead-requires-clause-apart : goal.create_single_face_between_edge_and_next-ahead-requires-clause-apart
 create_single_face_between_edge_and_next-ahead-requires-clause-apart g c =
@@ -84,7 +84,7 @@ seen_before-requires-clause-vertex g c =
 
 pub seen_before-requires-clause-sites : goal.seen_before-requires-clause-sites
 seen_before-requires-clause-sites g c =
-    sites_grown g.V.HasPosition.place c.args.dcel.now c.args.value (g.P.PlaneTests.sites c.args.tests.now) c.loop-before.dcel c.loop-before.invariant.0.joining.vertices c.requires.sites c.requires.new_site
+    sites_grown g.V.HasPosition.place c.args.dcel.now c.args.value (g.P.PlaneTests.sites c.args.tests.now) c.loop-before.dcel c.loop-before.invariant.0.joining.vertices c.requires.sites.0 c.requires.sites.1
 
 pub create_single_face_between_edge_and_next-behind-requires-clause-outer : goal.create_single_face_between_edge_and_next-behind-requires-clause-outer
 create_single_face_between_edge_and_next-behind-requires-clause-outer g c =
@@ -118,19 +118,6 @@ loop-before-preserved g c =
       adds_on _ (edges c.args.dcel.now) (edges now) (edges new) c.loop-before.invariant.2 (adds_only _ (edges now) (edges new) _ done.edges),
     )
 
-pub returns-clause-vertices : goal.returns-clause-vertices
-returns-clause-vertices g c =
-    c.loop-before.invariant.0.joining.vertices
-
-pub returns-clause-kept : goal.returns-clause-kept
-returns-clause-kept g c =
-    let j = c.loop-before.invariant.0 in
-    joining_ends g.V.HasPosition.place c.args.dcel.now c.args.value c.loop-before.dcel j.ahead c.loop-before.behind c.requires.kept j.joining c.in_default-seen_before.ensures.whole c.requires.in_range j.unseen
-    (unseen_as g.V.HasPosition.place c.args.dcel.now c.args.value c.loop-before.dcel c.create_new_face_adjacent_to_edge-vertex.result _ j.joining.vertices c.create_new_face_adjacent_to_edge-vertex.ensures.vertex c.in_default-seen_before.ensures.none)
-
-pub returns-clause-grows : goal.returns-clause-grows
-returns-clause-grows g c = c.loop-before.invariant.1
-
 pub seen_after-requires-clause-within : goal.seen_after-requires-clause-within
 seen_after-requires-clause-within g c = c.loop-after.invariant.0.ahead_in
 
@@ -149,10 +136,20 @@ create_single_face_between_edge_and_next-ahead-requires-clause-outer g c = c.loo
 pub create_new_face_adjacent_to_edge-vertex-requires-clause-outer : goal.create_new_face_adjacent_to_edge-vertex-requires-clause-outer
 create_new_face_adjacent_to_edge-vertex-requires-clause-outer g c = c.requires.outer
 
-pub returns-clause-made : goal.returns-clause-made
-returns-clause-made g c =
-    let old = c.args.dcel.now in
-    made_outside (map g.V.HasPosition.place old.vertices) (g.V.HasPosition.place c.args.value) (faces_of old.mesh) (faces_of c.loop-before.dcel.mesh) (outer_of old.mesh) (outer_of c.loop-before.dcel.mesh) _ _ (length old.vertices) (sym (length-map old.vertices g.V.HasPosition.place)) c.loop-before.invariant.0.joining.extending
-
 pub returns-clause-edges : goal.returns-clause-edges
 returns-clause-edges g c = c.loop-before.invariant.2
+
+pub returns-clause-takes : goal.returns-clause-takes
+returns-clause-takes g c =
+    record {
+      is = c.create_new_face_adjacent_to_edge-vertex.ensures.vertex;
+      vertices = c.loop-before.invariant.0.joining.vertices;
+      kept =
+          let j = c.loop-before.invariant.0 in
+          joining_ends g.V.HasPosition.place c.args.dcel.now c.args.value c.loop-before.dcel j.ahead c.loop-before.behind c.requires.can.kept j.joining c.in_default-seen_before.ensures.whole c.requires.can.in_range j.unseen
+          (unseen_as g.V.HasPosition.place c.args.dcel.now c.args.value c.loop-before.dcel c.create_new_face_adjacent_to_edge-vertex.result _ j.joining.vertices c.create_new_face_adjacent_to_edge-vertex.ensures.vertex c.in_default-seen_before.ensures.none);
+      grows = c.loop-before.invariant.1;
+      made =
+          let old = c.args.dcel.now in
+          made_outside (map g.V.HasPosition.place old.vertices) (g.V.HasPosition.place c.args.value) (faces_of old.mesh) (faces_of c.loop-before.dcel.mesh) (outer_of old.mesh) (outer_of c.loop-before.dcel.mesh) _ _ (length old.vertices) (sym (length-map old.vertices g.V.HasPosition.place)) c.loop-before.invariant.0.joining.extending;
+    }
