@@ -6,12 +6,8 @@ use Rattle.std.proofs.lemmas.List.{length-map, get_or-map}
 use Rattle.std.proofs.lemmas.List.Elements.{All-map}
 use Rattle.plane.specs.Fraction.{Point}
 use Rattle.plane.specs.Tests.{InRange}
-use Rattle.plane.specs.Delaunay.{IsLocallyDelaunay}
-use Rattle.plane_tiling.specs.Local.{IsMesh}
-use Rattle.mesh_embedding.specs.Drawn.{drawn, faces_of, outer_of}
-use Rattle.mesh_embedding.specs.Legal.{pairs_at}
 use Rattle.delaunay_legalization.specs.Constraints.{marked_edges, marked_from}
-use Rattle.delaunay_legalization.specs.Shape.{IsTriangulated, IsDelaunayTriangulation}
+use Rattle.delaunay_legalization.specs.Shape.{IsDelaunayTriangulation}
 use Rattle.delaunay_legalization.specs.State.{State}
 use Rattle.delaunay_edit.specs.Storage.{IsCopy}
 

@@ -1,5 +1,5 @@
 -- The edges of the hull, by the outer edges of a mesh.
-use Rattle.std.proofs.Common.{◌≡◌, ◌⊎◌, ℕ, ◌+◌, ◌-◌, ◌*◌, ◌<◌, List, [], ◌∷◌, length, map, refl, sym, ◌∙◌, subst, inl, inr, arith}
+use Rattle.std.proofs.Common.{◌≡◌, ◌⊎◌, ℕ, ◌+◌, ◌-◌, ◌*◌, ◌<◌, List, [], length, map, refl, sym, ◌∙◌, subst, inl, inr, arith}
 use mathlib.Core.Logic.{◌≢◌}
 use Rattle.std.specs.Prelude.{ℤ, pos, ◌+ℤ◌, Contains, AllPairs}
 use Rattle.std.proofs.lemmas.Int.{ints}

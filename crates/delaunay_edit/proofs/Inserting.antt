@@ -1,8 +1,6 @@
 -- Each way in which an insertion ends.
-use Rattle.std.proofs.Common.{◌≡◌, ℕ, ◌+◌, ◌*◌, ◌<◌, List, ◌++◌, ◌∷◌, [], length, map, refl, sym, ap, subst, inl, slice_set, Result, Ok, Err}
-use Rattle.std.specs.Prelude.{◌↔◌, IfOk, OnOk, OnErr, IsErrOf}
+use Rattle.std.proofs.Common.{◌≡◌, ℕ, ◌<◌, List, length, map, refl, sym, ap, subst, inl, slice_set, Result, Ok, Err}
 use Rattle.std.proofs.lemmas.List.{length-map}
-use Rattle.half_edge_links.specs.declared.room.TheConstants.{MAX_ELEMENTS}
 use Rattle.plane.specs.Fraction.{Point}
 use Rattle.plane.specs.Pairs.{Joins}
 use Rattle.plane.specs.Plain.{Replaces}
@@ -13,8 +11,7 @@ use Rattle.delaunay_legalization.specs.Constraints.{constraints_by, points_and_c
 use Rattle.delaunay_legalization.specs.Known.{IsKnown, point_at}
 use Rattle.delaunay_legalization.specs.Shape.{IsTriangulated}
 use Rattle.delaunay_legalization.specs.State.{State}
-use Rattle.delaunay_edit.specs.Data.{KeepsData}
-use Rattle.delaunay_edit.specs.Edits.{InsertsVertex}
+use Rattle.delaunay_edit.specs.Edits.{AppendsVertex, InsertsVertex}
 use Rattle.delaunay_edit.specs.Location.{IsApart}
 use Rattle.delaunay_insertion.specs.Constraints.{SplitsConstraints}
 use Rattle.delaunay_insertion.proofs.Appending.{inserted}
@@ -41,20 +38,19 @@ module _ {V D U F : Type 0} (place : V → Point) (constraints : List U → List
       }
 
   -- a vertex is appended, or there is no room for it
-  pub appended_or_refused : (new : State V D U F) (result : Result ℕ InsertionError) → InRange (place value) → IsApart (map place old.vertices) (place value) → ¬ IsErrOf result TooLarge
-      → (IsErrOf result OutOfIndexes ↔ (MAX_ELEMENTS < 6 * (length old.vertices + 1))) → IfOk result (λ i. i ≡ length old.vertices) → OnOk result (new.vertices ≡ old.vertices ++ value ∷ []) → new.outer ≡ old.outer → OnOk result (KeepsData old new) → OnOk result (SplitsConstraints place constraints old new value) → OnErr result (new ≡ old)
+  pub appended_or_refused : (new : State V D U F) (result : Result ℕ InsertionError) → InRange (place value) → IsApart (map place old.vertices) (place value) → AppendsVertex place constraints value result old new
       → InsertsVertex place constraints value result old new
-  appended_or_refused new result near apart not_large full last vertices outer kept splits err =
+  appended_or_refused new result near apart appends =
       let unknown : ¬ IsKnown (map place old.vertices) (place value) = λ known. apart.apart known.index known.below known.here in
       record {
-        too_large = ((λ e. absurd (not_large e)), (λ far. absurd (far near)));
+        too_large = ((λ e. absurd (appends.not_too_large e)), (λ far. absurd (far near)));
         known = λ _ known. absurd (unknown known);
-        full = ((λ e. (near, unknown, full.0 e)), (λ h. full.1 h.2));
-        ok = inserted place constraints old new value apart result last vertices splits;
+        full = ((λ e. (near, unknown, appends.full.0 e)), (λ h. appends.full.1 h.2));
+        ok = inserted place constraints old new value apart result appends.vertex appends.vertices appends.splits;
         replaced = λ known. absurd (unknown known);
-        outer = outer;
-        «data» = kept;
-        err = err;
+        outer = appends.outer;
+        «data» = appends.«data»;
+        err = appends.err;
       }
 
 -- room was made, a vertex was put in, and edges were turned

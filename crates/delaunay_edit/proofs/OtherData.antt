@@ -1,12 +1,12 @@
 -- A triangulation stays one where data of its edges and faces change.
-use Rattle.std.proofs.Common.{◌≡◌, ◌∙◌, ℕ, zero, suc, List, length, refl, sym, ap, subst, map, length-set, slice_set}
+use Rattle.std.proofs.Common.{◌≡◌, ℕ, zero, suc, List, length, refl, sym, subst, map, length-set, slice_set}
 use Rattle.half_edge_mesh.specs.Contents.{Contents}
 use Rattle.half_edge_mesh.specs.Writing.{with_face}
 use Rattle.plane.specs.Fraction.{Point}
 use Rattle.plane.specs.Delaunay.{IsLocallyDelaunay}
 use Rattle.mesh_embedding.specs.Drawn.{drawn}
 use Rattle.mesh_embedding.specs.Legal.{pairs_at}
-use Rattle.delaunay_legalization.specs.Shape.{IsTriangulated, IsDelaunayTriangulation}
+use Rattle.delaunay_legalization.specs.Shape.{IsDelaunayTriangulation}
 use Rattle.delaunay_legalization.specs.State.{State, state_of}
 use Rattle.delaunay_edit.specs.Writing.{with_face_data}
 

@@ -1,5 +1,5 @@
 -- A position in another place than on a vertex is at none.
-use Rattle.std.proofs.Common.{◌≡◌, ℕ, ◌<◌, length, map, refl, subst, arith}
+use Rattle.std.proofs.Common.{◌≡◌, ℕ, ◌<◌, length, map, refl, arith}
 use Rattle.std.proofs.lemmas.List.{length-map}
 use Rattle.plane.specs.Fraction.{Point, whole}
 use Rattle.plane.specs.Location.{Location, on_vertex, no_triangulation, IsLocation}

@@ -1,5 +1,5 @@
 -- What becomes of the data of edges and faces.
-use Rattle.std.specs.Prelude.{◌≡◌, List}
+use Rattle.std.specs.Prelude.{◌≡◌}
 use Rattle.std.specs.List.{AllZip}
 use Rattle.delaunay_legalization.specs.State.{State}
 pub use Rattle.delaunay_insertion.specs.Data.{KeepsData}

@@ -1,11 +1,12 @@
 -- What each edit makes of a triangulation.
-use Rattle.std.specs.Prelude.{◌≡◌, ◌↔◌, ℕ, ◌+◌, ◌*◌, ◌<◌, List, length, map, Option, None, Some, Result, Ok, IsOk, IsErrOf, IfOk, OnOk, OnErr, MatchOption, slice_get, slice_set}
+use Rattle.std.specs.Prelude.{◌≡◌, ◌↔◌, ℕ, ◌+◌, ◌*◌, ◌<◌, ◌++◌, ◌∷◌, [], List, length, map, Option, None, Some, Result, Ok, IsOk, IsErrOf, IfOk, OnOk, OnErr, MatchOption, slice_get, slice_set}
 use Rattle.half_edge_links.specs.declared.room.TheConstants.{MAX_ELEMENTS}
 use Rattle.plane.specs.Fraction.{Point}
 use Rattle.plane.specs.Plain.{Inserts, Removes}
 use Rattle.plane.specs.Tests.{InRange}
 use Rattle.delaunay_core.specs.declared.math.InsertionError.{InsertionError}
 use Rattle.delaunay_core.specs.declared.math.InsertionError.TheVariants.{TooLarge, OutOfIndexes}
+use Rattle.delaunay_insertion.specs.Constraints.{SplitsConstraints}
 use Rattle.delaunay_legalization.specs.Constraints.{points_and_constraints_by}
 use Rattle.delaunay_legalization.specs.Known.{IsKnown}
 use Rattle.delaunay_legalization.specs.State.{State}
@@ -14,6 +15,17 @@ use Rattle.delaunay_edit.specs.Data.{KeepsData}
 use Rattle.delaunay_edit.specs.Removal.{RemovesAt}
 
 module _ {V D U F : Type 0} (place : V → Point) (constraints : List U → List ℕ) where
+  -- an insertion of a value whose position no vertex has gave this result: the index of the new last vertex, or a refusal
+  pub record AppendsVertex (value : V) (result : Result ℕ InsertionError) (old new : State V D U F) : Type 0 where
+    pub full : IsErrOf result OutOfIndexes ↔ (MAX_ELEMENTS < 6 * (length old.vertices + 1))
+    pub not_too_large : ¬ IsErrOf result TooLarge
+    pub vertex : IfOk result (λ i. i ≡ length old.vertices)
+    pub vertices : OnOk result (new.vertices ≡ old.vertices ++ value ∷ [])
+    pub outer : new.outer ≡ old.outer
+    pub «data» : OnOk result (KeepsData old new)
+    pub splits : OnOk result (SplitsConstraints place constraints old new value)
+    pub err : OnErr result (new ≡ old)
+
   -- an insertion of a value gave this result. A vertex of its position is overwritten, and all else stays; other edits of the
   -- plain state are as in `Inserts`. What is there before and after keeps its data
   pub record InsertsVertex (value : V) (result : Result ℕ InsertionError) (old new : State V D U F) : Type 0 where

@@ -1,5 +1,5 @@
 -- What is at the position of a value that is to be inserted.
-use Rattle.std.specs.Prelude.{◌≡◌, ◌↔◌, ℕ, ◌<◌, Bool, List, length, map, IsTrue}
+use Rattle.std.specs.Prelude.{◌≡◌, ◌↔◌, ◌<◌, Bool, List, length, map, IsTrue}
 use Rattle.half_edge_mesh.specs.Mesh.{Mesh}
 use Rattle.plane.specs.Fraction.{Point}
 use Rattle.delaunay_edit.specs.declared.insertion.Entry.{Entry}

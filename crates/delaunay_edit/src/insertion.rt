@@ -5,7 +5,7 @@ ghost use Rattle.delaunay_core.specs.declared.math.InsertionError.TheVariants.{T
 ghost use Rattle.delaunay_insertion.specs.Constraints.{SplitsConstraints};
 ghost use Rattle.delaunay_legalization.specs.Flips.{CountsFlips, FlipsFit};
 ghost use Rattle.delaunay_edit.specs.Data.{KeepsData};
-ghost use Rattle.delaunay_edit.specs.Edits.{InsertsVertex};
+ghost use Rattle.delaunay_edit.specs.Edits.{AppendsVertex, InsertsVertex};
 ghost use Rattle.delaunay_edit.specs.Entry.{IsEntry, IsVacant};
 ghost use Rattle.delaunay_edit.specs.Headline.{AreSites, IsDelaunay};
 ghost use Rattle.delaunay_edit.specs.Location.{HasHandle, IsLeftOfPlace};
@@ -49,14 +49,7 @@ impl<V: HasPosition + Drop, DE: Default, UE: Default, F: Default, M: FreeByDefau
         requires sites { All (P.sites tests.now) (map V.place self.old.vertices) }
         requires new_site { P.sites tests.now (V.place value) }
         requires fits { FlipsFit (length self.old.vertices + 1) flips.old }
-        ensures full { IsErrOf result OutOfIndexes ↔ (MAX_ELEMENTS < 6 * (length self.old.vertices + 1)) }
-        ensures not_too_large { ¬ IsErrOf result TooLarge }
-        ensures vertex { IfOk result (λ i. i ≡ length self.old.vertices) }
-        ensures vertices { OnOk result (self.new.vertices ≡ self.old.vertices ++ value ∷ []) }
-        ensures outer { self.new.outer ≡ self.old.outer }
-        ensures data { OnOk result (KeepsData self.old self.new) }
-        ensures constraints { OnOk result (SplitsConstraints V.place M.constraints self.old self.new value) }
-        ensures err { OnErr result (self.new ≡ self.old) }
+        ensures appends { AppendsVertex V.place M.constraints value result self.old self.new }
         ensures counted { CountsFlips (length self.new.vertices) flips.old flips.new }
     {
         reserve_for_vertex(&mut self.dcel)?;

@@ -1,14 +1,10 @@
 //! A new vertex at any position that no vertex has.
-ghost use Rattle.std.specs.Prelude.{◌≡◌, ◌↔◌, ◌+◌, ◌*◌, ◌++◌, ◌∷◌, [], length, map, All, IsTrue};
+ghost use Rattle.std.specs.Prelude.{◌+◌, ◌*◌, length, map, All};
 ghost use Rattle.half_edge_mesh.specs.Room.{HasRoomFor};
-ghost use Rattle.plane.specs.Tests.{InRange};
 ghost use Rattle.delaunay_insertion.specs.Constraints.{SplitsConstraints};
-ghost use Rattle.delaunay_insertion.specs.Data.{GrowsAround};
-ghost use Rattle.delaunay_edit.specs.Location.{IsApart, IsLeftOfPlace, Locates};
-ghost use Rattle.delaunay_legalization.specs.Shape.{IsTriangulated};
-ghost use Rattle.delaunay_legalization.specs.Star.{MakesFacesAt};
+ghost use Rattle.delaunay_insertion.specs.Growth.{CanTake, TakesVertex};
+ghost use Rattle.delaunay_edit.specs.Entry.{IsVacant};
 ghost use Rattle.delaunay_legalization.specs.State.{state_of};
-ghost use Rattle.mesh_embedding.specs.Drawn.{faces_of};
 
 use delaunay_core::math::PlaneTests;
 use delaunay_core::point::HasPosition;
@@ -19,8 +15,7 @@ use delaunay_insertion::{
 use delaunay_location::PositionInTriangulation;
 use half_edge_mesh::{Dcel, FixedVertexHandle};
 
-// The new last vertex at a position that no vertex has. `turns` says whether the position is strictly on the left of the
-// edge that the location names. A constraint that the position is strictly within becomes two.
+// The new last vertex at a position that no vertex has. A constraint that the position is strictly within becomes two.
 pub(crate) fn insert_at<
     M: FreeByDefault<UE>,
     V: HasPosition,
@@ -37,9 +32,7 @@ pub(crate) fn insert_at<
 ) -> FixedVertexHandle
     requires can { CanTake V.place value (state_of dcel.old) }
     requires sites { All (P.sites tests.now) (map V.place dcel.old.vertices) × P.sites tests.now (V.place value) }
-    requires apart { IsApart (map V.place dcel.old.vertices) (V.place value) }
-    requires location { Locates (map V.place dcel.old.vertices) dcel.old.mesh (V.place value) location }
-    requires turns { IsTrue turns ↔ IsLeftOfPlace (map V.place dcel.old.vertices) dcel.old.mesh (V.place value) location }
+    requires vacant { IsVacant (map V.place dcel.old.vertices) dcel.old.mesh (V.place value) location turns }
     requires room { HasRoomFor dcel.old.room (length dcel.old.vertices + 1) (3 * (length dcel.old.vertices + 1)) (2 * (length dcel.old.vertices + 1)) }
     ensures takes { TakesVertex V.place value (state_of dcel.old) (state_of dcel.new) result }
     ensures constraints { SplitsConstraints V.place M.constraints (state_of dcel.old) (state_of dcel.new) value }

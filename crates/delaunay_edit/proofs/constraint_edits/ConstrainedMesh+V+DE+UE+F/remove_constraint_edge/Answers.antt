@@ -1,6 +1,6 @@
 use Rattle.std.proofs.Common.{refl}
 use Rattle.delaunay_legalization.proofs.Questions.{both_ways}
-use Rattle.delaunay_edit.proofs.EditingConstraints.{none_released, one_released}
+use Rattle.delaunay_edit.proofs.EditingConstraints.{none_released}
 use Rattle.delaunay_edit.proofs.constraint_edits.ConstrainedMesh+V+DE+UE+F.remove_constraint_edge.Goals as goal
 
 pub returns-then-not-is_constraint_edge-clause-releases : goal.returns-then-not-is_constraint_edge-clause-releases

@@ -1,6 +1,5 @@
-use Rattle.std.proofs.Common.{◌∙◌, ◌≡◌, [], ap, refl, rules, false}
+use Rattle.std.proofs.Common.{refl, rules}
 use Rattle.delaunay_legalization.specs.CdtEdge.{is_constraint}
-use Rattle.delaunay_legalization.specs.Constraints.{constraints_by}
 use Rattle.delaunay_legalization.specs.State.{state_of}
 use Rattle.delaunay_edit.specs.Constrained.{IsFree, constraint_edges, none}
 use Rattle.delaunay_edit.proofs.Constrained.{other_data_as, unconstrained}

@@ -1,4 +1,4 @@
-use Rattle.std.proofs.Common.{refl, sym, subst, inl}
+use Rattle.std.proofs.Common.{refl, subst, inl}
 use Rattle.delaunay_legalization.specs.Shape.{IsTriangulated}
 use Rattle.delaunay_edit.proofs.ConstraintEdges.{joined_by, fixed_if_joined}
 use Rattle.delaunay_legalization.specs.CdtEdge.{is_constraint}

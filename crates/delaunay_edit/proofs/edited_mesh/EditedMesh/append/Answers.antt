@@ -1,5 +1,5 @@
-use Rattle.std.proofs.Common.{◌∙◌, [], ◌∷◌, ◌++◌, ap, sym, subst, map}
-use Rattle.delaunay_edit.specs.Location.{Locates}
+use Rattle.std.proofs.Common.{◌∙◌, [], ◌∷◌, ◌++◌, ap, sym, subst, length, map, rules}
+use Rattle.delaunay_edit.specs.Entry.{IsVacant}
 use Rattle.delaunay_legalization.specs.Shape.{IsTriangulated, IsDelaunayTriangulation}
 use Rattle.delaunay_legalization.specs.State.{state_of}
 use Rattle.delaunay_insertion.proofs.Appending.{sites_after}
@@ -8,29 +8,33 @@ use Rattle.delaunay_insertion.proofs.LeftToTest.{passes_beside}
 use Rattle.delaunay_edit.proofs.Inserting.{splits_legalized}
 use Rattle.delaunay_edit.proofs.edited_mesh.EditedMesh.append.Goals as goal
 
-pub insert_at-vertex-requires-clause-location : goal.insert_at-vertex-requires-clause-location
-insert_at-vertex-requires-clause-location g c =
-    subst (λ s. Locates (map g.V.HasPosition.place s.vertices) s.mesh (g.V.HasPosition.place c.args.value) c.args.location) (sym (c.reserve_for_vertex.ensures.same ∙ c.self.view_is)) c.requires.vacant.location
+pub insert_at-vertex-requires-clause-vacant : goal.insert_at-vertex-requires-clause-vacant
+insert_at-vertex-requires-clause-vacant g c =
+    subst (λ s. IsVacant (map g.V.HasPosition.place s.vertices) s.mesh (g.V.HasPosition.place c.args.value) c.args.location c.args.turns) (sym (c.reserve_for_vertex.ensures.same ∙ c.self.view_is)) c.requires.vacant
 
 pub legalize_star-requires-clause-sites : goal.legalize_star-requires-clause-sites
 legalize_star-requires-clause-sites g c =
     sites_after g.V.HasPosition.place (g.P.PlaneTests.sites c.args.tests.now) c.args.self.now.vertices c.insert_at-vertex.new.dcel.vertices c.args.value
-    (c.insert_at-vertex.ensures.vertices ∙ ap (λ s. s.vertices ++ c.args.value ∷ []) (c.reserve_for_vertex.ensures.same ∙ c.self.view_is)) c.requires.sites c.requires.new_site
-
-pub returns-clause-outer : goal.returns-clause-outer
-returns-clause-outer g c = ap (λ d. d.outer) c.legalize_star.ensures.contents ∙ c.insert_at-vertex.ensures.grows.outer ∙ ap (λ s. s.outer) (c.reserve_for_vertex.ensures.same ∙ c.self.view_is)
-
-pub returns-clause-data : goal.returns-clause-data
-returns-clause-data g c =
-    appended_keeps g.V.HasPosition.place c.args.value c.args.self.now c.reserve_for_vertex.new.dcel c.insert_at-vertex.new.dcel c.legalize_star.new.dcel (subst (IsTriangulated g.V.HasPosition.place) c.self.view_is c.self.invariant.kept) (c.reserve_for_vertex.ensures.same ∙ c.self.view_is)
-    c.insert_at-vertex.ensures.vertices c.insert_at-vertex.ensures.kept c.insert_at-vertex.ensures.grows c.legalize_star.ensures.contents c.legalize_star.ensures.indexes c.legalize_star.ensures.legal.kept
+    (c.insert_at-vertex.ensures.takes.vertices ∙ ap (λ s. s.vertices ++ c.args.value ∷ []) (c.reserve_for_vertex.ensures.same ∙ c.self.view_is)) c.requires.sites c.requires.new_site
 
 pub legalize_star-requires-clause-passing : goal.legalize_star-requires-clause-passing
 legalize_star-requires-clause-passing g c =
     passes_beside g.V.HasPosition.place g.M.ConstraintMarker.marks g.M.ConstraintMarker.constraints g.met.M.ConstraintMarker.constraints_are_marked c.args.self.now c.reserve_for_vertex.new.dcel c.insert_at-vertex.new.dcel c.args.value c.insert_at-vertex.result _
     (subst (IsDelaunayTriangulation g.V.HasPosition.place g.M.ConstraintMarker.constraints) c.self.view_is c.self.invariant) (c.reserve_for_vertex.ensures.same ∙ c.self.view_is)
-    c.insert_at-vertex.ensures.vertices c.insert_at-vertex.ensures.vertex c.insert_at-vertex.ensures.made c.insert_at-vertex.ensures.kept c.insert_at-vertex.ensures.constraints
+    c.insert_at-vertex.ensures.takes.vertices c.insert_at-vertex.ensures.takes.is c.insert_at-vertex.ensures.takes.made c.insert_at-vertex.ensures.takes.kept c.insert_at-vertex.ensures.constraints
 
-pub returns-clause-constraints : goal.returns-clause-constraints
-returns-clause-constraints g c =
-    splits_legalized g.V.HasPosition.place g.M.ConstraintMarker.constraints c.args.value (state_of c.reserve_for_vertex.new.dcel) c.args.self.now (state_of c.insert_at-vertex.new.dcel) (state_of c.legalize_star.new.dcel) c.insert_at-vertex.ensures.constraints (c.reserve_for_vertex.ensures.same ∙ c.self.view_is) c.legalize_star.ensures.constraints
+pub returns-clause-appends : goal.returns-clause-appends
+returns-clause-appends g c =
+    record {
+      full = search rules;
+      not_too_large = search rules;
+      vertex = c.insert_at-vertex.ensures.takes.is ∙ ap (λ s. length s.vertices) (c.reserve_for_vertex.ensures.same ∙ c.self.view_is);
+      vertices = search rules;
+      outer = ap (λ d. d.outer) c.legalize_star.ensures.contents ∙ c.insert_at-vertex.ensures.takes.grows.outer ∙ ap (λ s. s.outer) (c.reserve_for_vertex.ensures.same ∙ c.self.view_is);
+      «data» =
+          appended_keeps g.V.HasPosition.place c.args.value c.args.self.now c.reserve_for_vertex.new.dcel c.insert_at-vertex.new.dcel c.legalize_star.new.dcel (subst (IsTriangulated g.V.HasPosition.place) c.self.view_is c.self.invariant.kept) (c.reserve_for_vertex.ensures.same ∙ c.self.view_is)
+          c.insert_at-vertex.ensures.takes.vertices c.insert_at-vertex.ensures.takes.kept c.insert_at-vertex.ensures.takes.grows c.legalize_star.ensures.contents c.legalize_star.ensures.indexes c.legalize_star.ensures.legal.kept;
+      splits =
+          splits_legalized g.V.HasPosition.place g.M.ConstraintMarker.constraints c.args.value (state_of c.reserve_for_vertex.new.dcel) c.args.self.now (state_of c.insert_at-vertex.new.dcel) (state_of c.legalize_star.new.dcel) c.insert_at-vertex.ensures.constraints (c.reserve_for_vertex.ensures.same ∙ c.self.view_is) c.legalize_star.ensures.constraints;
+      err = tt;
+    }

@@ -4,9 +4,8 @@ use Rattle.delaunay_edit.proofs.edited_mesh.EditedMesh.insert_from.Goals as goal
 
 pub returns-in-Vacant-clause-inserts : goal.returns-in-Vacant-clause-inserts
 returns-in-Vacant-clause-inserts g c =
-    let appended = c.append-appended.ensures in
     appended_or_refused g.V.HasPosition.place g.M.ConstraintMarker.constraints c.args.self.now c.args.value c.append-appended.new.self c.append-appended.result (c.in_ok-validate_vertex.ensures.exactly.0 refl) c.in-Vacant.ensures.apart
-    appended.not_too_large appended.full appended.vertex appended.vertices appended.outer appended.«data» appended.constraints appended.err
+    c.append-appended.ensures.appends
 
 pub returns-in-Occupied-clause-inserts : goal.returns-in-Occupied-clause-inserts
 returns-in-Occupied-clause-inserts g c =
