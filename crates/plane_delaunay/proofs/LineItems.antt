@@ -18,7 +18,7 @@ use Rattle.plane_delaunay.proofs.Generic.{same_bracket, swapped_weights}
 use Rattle.plane_delaunay.proofs.Ground.{tiling}
 use Rattle.plane_delaunay.proofs.Where.{vertices_apart}
 use Rattle.plane_delaunay.proofs.EmptyCircles.{weights_along}
-use Rattle.plane_delaunay.proofs.Flooded.{side_of_segment, segment_from}
+use Rattle.plane_delaunay.proofs.Flooded.{side_of_segment, segment_from, edge_of}
 use Rattle.plane_delaunay.proofs.AlongSegment.{Placed, sooner, as_soon, later, placed, first_on, none_sooner, before, on_line, on_line_last, within_on_line, same_on_line, not_from_end}
 use Rattle.plane.specs.Fraction.{Fraction, IsSame, IsNotNegative, IsPositive, OnSegment, WithinSegment}
 use Rattle.plane.specs.Side.{side, left, right, on, TurnsLeft, opposite}
@@ -52,9 +52,6 @@ begins t p q (L.across i j) h = let m = h.1 in record { at = m.at; begins = reco
 begins t p q (L.along i j) h = begin_along t p q i j h.1
 
 module _ (t : Triangulation) (h : TilesHull t) where
-  pub edge_of : (i j : ℕ) → D.IsEdge t i j → IsEdge (tiling t h) i j
-  unfolding tiling
-  edge_of i j e = (h.sides i j).0 e
 
   pub no_vertex_within : (i j n : ℕ) → D.IsEdge t i j → IsVertex t n → ¬ WithinSegment (vertex t i) (vertex t j) (vertex t n)
   unfolding tiling
