@@ -15,7 +15,6 @@ use Rattle.plane_delaunay.proofs.Hull.{corner_in_hull, nudge_in_hull, triangle_i
 use Rattle.plane.specs.Fraction.{Point, Fraction, whole, IsNotNegative, InTriangle, InsideTriangle, InHull}
 use Rattle.plane.specs.Side.{TurnsLeft}
 use Rattle.plane.specs.Tiling.{Triangulation, Face, face, IsVertex, vertex, IsFace, TilesHull, AreApart, InsideCorners}
-use Rattle.plane_tiling.proofs.Places.{turns_of_one}
 
 -- ---- triangles by brackets
 pub inside_of : (a b c p : Fraction) → TurnsLeft a b c → InsideTriangle a b c p → Inside a b c p
@@ -136,6 +135,17 @@ module _ (t : Triangulation) (h : TilesHull t) where
       moved : (i j a b : ℕ) → i ≡ a → j ≡ b → pos 0 <ℤ bracket (vertex t i) (vertex t j) p → pos 0 <ℤ bracket (vertex t a) (vertex t b) p
       moved i j a b e d s = mathlib.Core.Path.subst₂ (λ i j. pos 0 <ℤ bracket (vertex t i) (vertex t j) p) e d s
 
+  composed : (x y z a b c d e f : ℕ) → IsTurned x y z a b c → IsTurned x y z d e f → IsTurned a b c d e f
+  composed x y z a b c d e f (inl p) (inl q) = inl (q.0 ∙ sym p.0, q.1 ∙ sym p.1, q.2 ∙ sym p.2)
+  composed x y z a b c d e f (inl p) (inr (inl q)) = inr (inl (q.0 ∙ sym p.1, q.1 ∙ sym p.2, q.2 ∙ sym p.0))
+  composed x y z a b c d e f (inl p) (inr (inr q)) = inr (inr (q.0 ∙ sym p.2, q.1 ∙ sym p.0, q.2 ∙ sym p.1))
+  composed x y z a b c d e f (inr (inl p)) (inl q) = inr (inr (q.0 ∙ sym p.2, q.1 ∙ sym p.0, q.2 ∙ sym p.1))
+  composed x y z a b c d e f (inr (inl p)) (inr (inl q)) = inl (q.0 ∙ sym p.0, q.1 ∙ sym p.1, q.2 ∙ sym p.2)
+  composed x y z a b c d e f (inr (inl p)) (inr (inr q)) = inr (inl (q.0 ∙ sym p.1, q.1 ∙ sym p.2, q.2 ∙ sym p.0))
+  composed x y z a b c d e f (inr (inr p)) (inl q) = inr (inl (q.0 ∙ sym p.1, q.1 ∙ sym p.2, q.2 ∙ sym p.0))
+  composed x y z a b c d e f (inr (inr p)) (inr (inl q)) = inr (inr (q.0 ∙ sym p.2, q.1 ∙ sym p.0, q.2 ∙ sym p.1))
+  composed x y z a b c d e f (inr (inr p)) (inr (inr q)) = inl (q.0 ∙ sym p.0, q.1 ∙ sym p.1, q.2 ∙ sym p.2)
+
   turned_turns : (f : Face) → Contains t.faces f → TurnsLeft (vertex t f.a) (vertex t f.b) (vertex t f.c)
   turned_turns f c = h.turning f.a f.b f.c (inl c)
 
@@ -147,7 +157,7 @@ module _ (t : Triangulation) (h : TilesHull t) where
           let same : l.f ≡ m.f = listed_same l.f m.f l.is_listed m.is_listed p
           (triangle_of_inside _ _ _ p (turned_turns l.f l.is_listed) (untwisted l.f.a l.f.b l.f.c a b c p l.is_turned in_g))
           (triangle_of_inside _ _ _ p (turned_turns m.f m.is_listed) (untwisted m.f.a m.f.b m.f.c d e f p m.is_turned in_g')) in
-          turns_of_one l.f.a l.f.b l.f.c a b c d e f l.is_turned (subst (λ (g : Face). IsTurned g.a g.b g.c d e f) (sym same) m.is_turned)
+          composed l.f.a l.f.b l.f.c a b c d e f l.is_turned (subst (λ (g : Face). IsTurned g.a g.b g.c d e f) (sym same) m.is_turned)
 
   abbrev pub origin : Point
   origin = record { x = pos 0; y = pos 0 }

@@ -262,7 +262,7 @@ bracket_at a b v y e = ring_in_from (a.x ∷ a.y ∷ a.w ∷ b.x ∷ b.y ∷ b.w
     (λ ax ay aw bx by bw vx vy yx yy yw. (ay ⊗ bw ⊖ aw ⊗ by, yx ⊗ num 1, vx ⊗ yw) ∷ (aw ⊗ bx ⊖ ax ⊗ bw, yy ⊗ num 1, vy ⊗ yw) ∷ []) (e.x, (e.y, tt)) tt
 
 -- two turns of one triple are turns of one another
-pub turns_of_one : (a b c i j k r s t : ℕ) → IsTurned a b c i j k → IsTurned a b c r s t → IsTurned i j k r s t
+turns_of_one : (a b c i j k r s t : ℕ) → IsTurned a b c i j k → IsTurned a b c r s t → IsTurned i j k r s t
 turns_of_one a b c i j k r s t (inl e) (inl f) = inl (f.0 ∙ sym e.0, f.1 ∙ sym e.1, f.2 ∙ sym e.2)
 turns_of_one a b c i j k r s t (inl e) (inr (inl f)) = inr (inl (f.0 ∙ sym e.1, f.1 ∙ sym e.2, f.2 ∙ sym e.0))
 turns_of_one a b c i j k r s t (inl e) (inr (inr f)) = inr (inr (f.0 ∙ sym e.2, f.1 ∙ sym e.0, f.2 ∙ sym e.1))
