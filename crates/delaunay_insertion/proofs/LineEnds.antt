@@ -1,7 +1,6 @@
 -- A new vertex is joined to edges of a line: where the next outer edge at an end does not see it, no outer edge there does.
-use Rattle.std.proofs.Common.{◌≡◌, ◌≢◌, ◌⊎◌, ℕ, ◌<◌, List, [], ◌∷◌, ◌++◌, ◌==◌, length, refl, sym, ap, ◌∙◌, subst, inl, inr, arith}
+use Rattle.std.proofs.Common.{◌≡◌, ◌≢◌, ◌⊎◌, ℕ, ◌<◌, List, [], ◌∷◌, ◌++◌, length, refl, sym, ap, ◌∙◌, subst, inl, inr, arith}
 use Rattle.std.specs.Prelude.{ℤ, pos, ◌<ℤ◌, ◌≤ℤ◌, Contains}
-use Rattle.std.proofs.lemmas.Int.{ints}
 use Rattle.std.proofs.lemmas.Bool.{cases_eq}
 use Rattle.half_edge_mesh.specs.Mesh.{Mesh, IsValidMesh, IsSoundEdge, origin, next, prev, face, rev}
 use Rattle.half_edge_mesh.specs.Outline.{IsOuterEdge}

@@ -1,7 +1,7 @@
 -- Small facts of indexes, of pairs of indexes and of lists of them.
 use Rattle.std.proofs.Common.{◌≡◌, ◌≢◌, ◌⊎◌, ℕ, suc, ◌+◌, ◌-◌, ◌<◌, ◌≤◌, List, [], sym, subst, arith}
 use mathlib.Core.Logic.{inl, inr}
-use Rattle.std.specs.Prelude.{Contains, AllPairs}
+use Rattle.std.specs.Prelude.{AllPairs}
 use Rattle.plane.specs.Pairs.{Joins, IsSamePair}
 
 -- ---- indexes

@@ -8,7 +8,7 @@ use Rattle.plane.specs.Crossing.{MeetAt, MeetsWithin, Cross}
 use Rattle.plane.specs.Laws.{Parts}
 use Rattle.plane.proofs.IntegerOrder.{Sign, sign, below, none, above, mul-pos_ℤ, mul-nonneg_ℤ, mul-neg_of_pos_neg_ℤ, zero-mul_ℤ, zero_of_mul-zero_ℤ, pos-ne-zero_ℤ}
 use Rattle.plane.proofs.Steps.{weak, left_not_zero, right_not_zero, one_number}
-use Rattle.plane.proofs.Solver.{num, ◌⊕◌, ◌⊖◌, ◌⊗◌, ⊝, ring_in, ring_in_from, ring_over}
+use Rattle.plane.proofs.Solver.{num, ◌⊕◌, ◌⊖◌, ◌⊗◌, ⊝, ring_in_from, ring_over}
 use Rattle.plane.proofs.Bracket.{Vec3, vec, bracket, bracketᵖ, vec3}
 use Rattle.plane.proofs.BracketIdentities.{bracket-swap}
 use Rattle.plane.proofs.Means.{TwoWeights, two_weights, mean_of_two, turned_mean_of_two, bracket_of_two}

@@ -10,7 +10,7 @@ use borrow.Author.Differences.{ints}
 use Rattle.plane.proofs.Steps.{weak, weak_right, zero_weak_left, zero_weak, product_zero_left, not_right_strict, not_left_strict, right_not_zero, left_not_zero, no_difference}
 use Rattle.plane.proofs.IntegerLaws.{neg-mul_ℤ, mul-neg_ℤ}
 use Rattle.plane.proofs.Solver.{num, ◌⊕◌, ◌⊖◌, ◌⊗◌, ⊝, ring_in_from, ring_over_from}
-use Rattle.plane.proofs.IntegerOrder.{mul-pos_ℤ, mul-nonneg_ℤ, mul-neg_of_pos_neg_ℤ, mul-pos_of_neg_ℤ, square-nonneg_ℤ, lt_or_ge_ℤ, mul-eq-zero_ℤ, zero-mul_ℤ}
+use Rattle.plane.proofs.IntegerOrder.{mul-pos_ℤ, mul-nonneg_ℤ, mul-neg_of_pos_neg_ℤ, mul-pos_of_neg_ℤ, square-nonneg_ℤ, lt_or_ge_ℤ, zero-mul_ℤ}
 use Rattle.plane_delaunay.proofs.Bracket.{fraction, bracketᵖ, bracket, bracket-turned, bracket-swapped, bracket-first, bracket-second, meeting, meeting-x, meeting-y, meeting-w, cramer}
 use Rattle.plane_delaunay.proofs.Faces.{Tiling, Between, between-swapped, turned-above}
 use Rattle.plane_delaunay.proofs.Meets.{edge-swapped}

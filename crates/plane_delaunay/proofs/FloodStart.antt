@@ -1,6 +1,6 @@
 -- Where a flood starts: beside a point of a convex set, inside a face or beyond an outer edge, is an edge that meets the set, if any edge does.
 use Prim.Native.Nat.{ℕ, zero, suc, ◌<◌}
-use lib.IntN.{ℤ, pos, ◌+ℤ◌, ◌-ℤ◌, ◌*ℤ◌, neg_ℤ}
+use lib.IntN.{ℤ, pos, ◌+ℤ◌, ◌*ℤ◌, neg_ℤ}
 use lib.Signed.{◌<ℤ◌, ◌≤ℤ◌}
 use mathlib.Core.Path.{◌≡◌, sym, ◌∙◌, ap, subst}
 use mathlib.Core.Logic.{◌⊎◌, inl, inr}
@@ -9,7 +9,7 @@ use native.Mathlib.Omega.{arith}
 use borrow.Author.Differences.{ints}
 use Rattle.plane.proofs.Solver.{◌⊕◌, ◌⊗◌, ring_in_from}
 use Rattle.plane.proofs.Steps.{weak, left_not_zero, zero_or_left, zero_weak_left, product_zero_left, sum_first}
-use Rattle.plane.proofs.IntegerOrder.{mul-pos_ℤ, mul-nonneg_ℤ, zero_of_mul-zero_ℤ, pos-ne-zero_ℤ, lt_or_ge_ℤ, neg-pos_ℤ, zero-mul_ℤ, below, above}
+use Rattle.plane.proofs.IntegerOrder.{mul-pos_ℤ, mul-nonneg_ℤ, zero_of_mul-zero_ℤ, pos-ne-zero_ℤ, lt_or_ge_ℤ, neg-pos_ℤ, zero-mul_ℤ}
 use Rattle.plane_delaunay.proofs.Numbers.{less_again, mix_positive}
 use Rattle.plane_delaunay.proofs.Bracket.{bracket, bracket-swapped, bracket-mixed, mixed, cramer, cramer-w}
 use Rattle.plane_delaunay.proofs.Nudges.{Closed, Inside, closed_of_inside, closed-turned}

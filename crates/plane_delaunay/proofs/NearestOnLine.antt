@@ -1,6 +1,6 @@
 -- Of two vertices and a point within their segment: how far they are from a third point. On one line a vertex to which no neighbour is nearer than it is nearest of all.
 use Rattle.std.proofs.Common.{◌≡◌, ℕ, zero, suc, ◌<◌, [], ◌∷◌, arith, sym, subst}
-use lib.IntN.{negsuc, nat_abs}
+use lib.IntN.{nat_abs}
 use mathlib.Core.Logic.{◌⊎◌, inl, inr}
 use Rattle.std.specs.Prelude.{ℤ, pos, ◌<ℤ◌, ◌≤ℤ◌, ◌+ℤ◌, ◌-ℤ◌, ◌*ℤ◌}
 use Rattle.std.proofs.lemmas.Int.{ints}

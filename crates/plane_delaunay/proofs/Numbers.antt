@@ -3,15 +3,11 @@ use Prim.Native.Nat.{ℕ, suc, ◌<◌}
 use lib.IntN.{ℤ, pos, ◌+ℤ◌, ◌*ℤ◌, neg_ℤ}
 use lib.Signed.{◌<ℤ◌, ◌≤ℤ◌}
 use mathlib.Core.Path.{◌≡◌}
-use mathlib.Core.List.{[], ◌∷◌}
 use native.Mathlib.Omega.{arith}
 use borrow.Author.Differences.{ints}
 use Rattle.plane.proofs.IntegerLaws.{mul-neg_ℤ}
 use Rattle.plane.proofs.IntegerOrder.{mul-pos_ℤ, mul-nonneg_ℤ, mul-nonpos_of_nonneg_nonpos_ℤ, nonneg_of_mul-nonneg_ℤ, pos_of_mul-pos_ℤ, zero_of_mul-zero_ℤ, pos-ne-zero_ℤ, zero-mul_ℤ}
-use Rattle.plane.proofs.Solver.{num, ◌⊕◌, ◌⊗◌, ⊝, ring_in}
 use Rattle.plane.proofs.Steps.{weak}
-use Rattle.plane.proofs.Lines.{balanced}
-use Rattle.plane.proofs.Signs.{sum_not_negative_of}
 
 pub less_again : (i j m : ℕ) → i < j → j < suc m → i < m
 less_again i j m h k = omega arith

@@ -1,5 +1,5 @@
 -- The removal of an inner vertex, in the words of specs/.
-use Rattle.std.proofs.Common.{◌≡◌, ◌⊎◌, ℕ, suc, ◌≤◌, List, [], length, refl, sym, ◌∙◌, subst, arith}
+use Rattle.std.proofs.Common.{◌≡◌, ◌⊎◌, ℕ, suc, ◌≤◌, List, length, refl, sym, ◌∙◌, subst, arith}
 use Prim.Native.Nat.{◌-◌}
 use mathlib.Core.Logic.{inl, inr, ◌≢◌}
 use Rattle.std.specs.Prelude.{Contains}

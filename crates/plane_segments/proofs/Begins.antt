@@ -27,7 +27,7 @@ use Rattle.plane_delaunay.proofs.Ground.{tiling}
 use Rattle.plane_delaunay.proofs.Flooded.{side_of_segment, edge_of}
 use Rattle.plane_delaunay.proofs.AlongSegment.{Placed, sooner, as_soon, later, placed}
 use Rattle.plane_segments.proofs.Slopes.{slope, later_is_higher}
-use Rattle.plane.proofs.Signs.{opposite_of_negative, opposite_of_positive, opposite_of_not_positive}
+use Rattle.plane.proofs.Signs.{opposite_of_negative}
 
 -- ---- a number and its negative
 

@@ -6,7 +6,7 @@ use Rattle.std.proofs.lemmas.Int.{ints}
 use Rattle.std.proofs.lemmas.Bool.{cases_eq}
 use Rattle.plane.specs.Fraction.{Point}
 use Rattle.plane.specs.Laws.{turn_at, squared_way}
-use Rattle.plane.proofs.IntegerOrder.{mul-nonneg_ℤ, mul-neg_of_pos_neg_ℤ, lt_or_ge_ℤ, trichotomy_ℤ, square-nonneg_ℤ, mul-nonpos_of_nonneg_nonpos_ℤ, zero_of_mul-zero_ℤ, zero-mul_ℤ, mul_cancel_ℤ, mul-eq-zero_ℤ}
+use Rattle.plane.proofs.IntegerOrder.{mul-nonneg_ℤ, mul-neg_of_pos_neg_ℤ, lt_or_ge_ℤ, trichotomy_ℤ, square-nonneg_ℤ, mul-nonpos_of_nonneg_nonpos_ℤ, zero_of_mul-zero_ℤ, zero-mul_ℤ, mul_cancel_ℤ}
 use Rattle.plane.proofs.Steps.{weak, zero_or_left, right_not_zero, product_zero_left, left_not_zero, no_difference, right_not_above, weak_right, zero_weak, zero_weak_left}
 use Rattle.plane.proofs.Solver.{Poly, ◌⊕◌, ◌⊖◌, ◌⊗◌, ⊝, ring_in, ring_in_from, ring_over}
 use Rattle.plane.proofs.Bracket.{Pointᵖ, points as points_shape}

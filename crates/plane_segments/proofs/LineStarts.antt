@@ -1,7 +1,7 @@
 -- The walk where all vertices are on one line: after a vertex, and from the start. And from a point to itself.
 use Rattle.std.proofs.Common.{◌≡◌, ℕ, zero, suc, ◌<◌, List, [], ◌∷◌, arith, refl, sym, subst}
 use mathlib.Core.Logic.{◌⊎◌, inl, inr}
-use lib.IntN.{negsuc, nat_abs}
+use lib.IntN.{nat_abs}
 use Rattle.std.specs.Prelude.{ℤ, pos, ◌<ℤ◌, ◌≤ℤ◌, ◌+ℤ◌, ◌-ℤ◌, ◌*ℤ◌, ⊤}
 use Rattle.std.proofs.lemmas.Int.{ints}
 use Rattle.plane.proofs.IntegerOrder.{lt_or_ge_ℤ, mul-pos_ℤ, mul-nonneg_ℤ, pos_of_mul-pos_ℤ}

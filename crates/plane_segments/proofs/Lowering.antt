@@ -1,8 +1,7 @@
 -- The chosen flip lowers the sum of the ranks of the right ends of crossing edges.
-use Rattle.std.proofs.Common.{◌≡◌, ℕ, ◌<◌, List, [], ◌∷◌, length, sym, ap, ◌∙◌, subst, arith}
+use Rattle.std.proofs.Common.{◌≡◌, ℕ, ◌<◌, List, [], ◌∷◌, length, sym, ap, ◌∙◌, subst}
 use mathlib.Core.Logic.{inl, inr}
-use Rattle.std.specs.Prelude.{ℤ, pos, negsuc, ◌+ℤ◌, ◌≤ℤ◌, ◌<ℤ◌, true, ◌&&◌, int_lt, nat_abs}
-use Rattle.std.proofs.lemmas.Int.{ints}
+use Rattle.std.specs.Prelude.{ℤ, pos, ◌+ℤ◌, ◌≤ℤ◌, ◌<ℤ◌, true, ◌&&◌, int_lt}
 use Rattle.plane.specs.Fraction.{Point, whole}
 use Rattle.plane.specs.Laws.{turn_at, squared_way}
 use Rattle.plane.specs.Tiling.{Face, face, Triangulation, IsFace, TilesHull}

@@ -1,12 +1,11 @@
 -- The ends of crossing edges in their order as seen from the start, on the right and on the left.
 use Rattle.std.proofs.Common.{◌≡◌, sym, subst₂, arith}
 use mathlib.Core.Logic.{inl, inr}
-use Rattle.std.specs.Prelude.{ℤ, pos, ◌≤ℤ◌, ◌<ℤ◌, neg_ℤ}
+use Rattle.std.specs.Prelude.{ℤ, pos, ◌<ℤ◌, neg_ℤ}
 use Rattle.std.proofs.lemmas.Int.{ints}
 use Rattle.plane.specs.Fraction.{Point, whole}
 use Rattle.plane.specs.Side.{side, right, TurnsLeft}
 use Rattle.plane.specs.Laws.{turn_at, squared_way}
-use Rattle.plane.proofs.IntegerOrder.{lt_or_ge_ℤ}
 use Rattle.plane_edits.specs.Legal.{point_of}
 use Rattle.plane_segments.specs.Path.{ComesAfterOnRight, ComesAfterOnLeft}
 use Rattle.plane_segments.specs.PathLaws.{EndsAreOrdered, LastHasNoneAfter}

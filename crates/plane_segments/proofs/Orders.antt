@@ -1,17 +1,16 @@
 -- The order of the items that a segment meets: none is before itself, and what is before what is before is before.
-use Rattle.std.proofs.Common.{◌≡◌, [], ◌∷◌, arith}
+use Rattle.std.proofs.Common.{◌≡◌, arith}
 use mathlib.Core.Logic.{◌⊎◌, inl, inr}
 use Rattle.std.specs.Prelude.{ℤ, pos, ◌<ℤ◌, ◌≤ℤ◌, ◌*ℤ◌}
 use Rattle.std.proofs.lemmas.Int.{ints}
 use Rattle.plane.proofs.IntegerOrder.{lt_of_mul-lt-mul_ℤ, mul-lt-mul_ℤ, mul-le-mul_ℤ}
 use Rattle.plane.proofs.Steps.{weak}
-use Rattle.plane.proofs.Solver.{◌⊗◌, ring_in}
 use Rattle.plane.proofs.Nearer.{same_not_nearer}
 use Rattle.plane.proofs.Segments.{reach, same-sym, same-trans}
 use Rattle.plane.specs.Fraction.{Fraction, IsSame, OnSegment}
 use Rattle.plane.specs.Circle.{IsNearer}
 use Rattle.plane.specs.Tiling.{Triangulation}
-use Rattle.plane.specs.Line.{Item, BeginsAt, IsBefore, IsVertexThenOverlap}
+use Rattle.plane.specs.Line.{Item, IsBefore, IsVertexThenOverlap}
 use Rattle.plane.specs.Line as L
 use Rattle.plane_delaunay.proofs.AlongSegment.{Placed, sooner, as_soon, later, placed, reach_less, nearer_if, not_both_nearer}
 use Rattle.plane_segments.proofs.Begins.{begins_once}

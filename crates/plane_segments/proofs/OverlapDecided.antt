@@ -1,11 +1,10 @@
 -- Whether a segment overlaps another along its way is decided: by two brackets, and by how far the ends are on the way.
-use Rattle.std.proofs.Common.{◌≡◌, [], ◌∷◌, ◌∙◌, arith, subst}
+use Rattle.std.proofs.Common.{◌≡◌, ◌∙◌, arith, subst}
 use mathlib.Core.Logic.{◌⊎◌, inl, inr}
 use Rattle.std.specs.Prelude.{ℤ, pos, ◌<ℤ◌, ◌≤ℤ◌, ◌+ℤ◌, ◌-ℤ◌, ◌*ℤ◌}
 use Rattle.std.proofs.lemmas.Int.{ints}
-use Rattle.plane.proofs.IntegerOrder.{lt_or_ge_ℤ, lt_of_mul-lt-mul_ℤ, mul-lt-mul_ℤ, mul-le-mul_ℤ, mul-pos_ℤ, mul-nonneg_ℤ, pos_of_mul-pos_ℤ}
+use Rattle.plane.proofs.IntegerOrder.{lt_or_ge_ℤ, lt_of_mul-lt-mul_ℤ, mul-lt-mul_ℤ, mul-le-mul_ℤ, mul-pos_ℤ, pos_of_mul-pos_ℤ}
 use Rattle.plane.proofs.Steps.{weak, product_zero_left}
-use Rattle.plane.proofs.Solver.{◌⊕◌, ◌⊖◌, ◌⊗◌, ring_in}
 use Rattle.plane.proofs.Bracket.{vec, bracket}
 use Rattle.plane.proofs.Nearer.{same_not_nearer}
 use Rattle.plane.proofs.Decisions.{Decision, decide_zero, decide_below}

@@ -1,7 +1,7 @@
 -- What a segment meets next after an edge that it overlaps: the vertex at its end, or nothing.
 use Rattle.std.proofs.Common.{◌≡◌, ℕ, arith, subst, subst₂}
 use mathlib.Core.Logic.{◌⊎◌, inl, inr}
-use Rattle.std.specs.Prelude.{ℤ, pos, ◌<ℤ◌, ◌≤ℤ◌, ◌-ℤ◌, ◌*ℤ◌}
+use Rattle.std.specs.Prelude.{ℤ, pos, ◌<ℤ◌, ◌≤ℤ◌, ◌*ℤ◌}
 use Rattle.std.proofs.lemmas.Int.{ints}
 use Rattle.plane.proofs.IntegerOrder.{lt_or_ge_ℤ, mul-nonneg_ℤ, nonneg_of_mul-nonneg_ℤ}
 use Rattle.plane.proofs.Steps.{weak}

@@ -35,7 +35,6 @@ even l pw qw xw zw rx rz fp fq fx fz e d = ring_in_from (l ∷ pw ∷ qw ∷ xw 
     (λ l pw qw xw zw rx rz fp fq fx fz. (num 0 ⊖ zw, (l ⊗ pw) ⊗ fx, (l ⊗ xw ⊖ rx ⊗ qw) ⊗ fp ⊕ (rx ⊗ pw) ⊗ fq) ∷ (xw, (l ⊗ pw) ⊗ fz, (l ⊗ zw ⊖ rz ⊗ qw) ⊗ fp ⊕ (rz ⊗ pw) ⊗ fq) ∷ []) (e, (d, tt)) tt
 
 module _ (p q : Fraction) (apart : ¬ IsSame p q) where
-
   along : (u v z : Fraction) → OnSegment p q z → (reach p q q *ℤ p.w) *ℤ bracket u v z ≡ (reach p q q *ℤ z.w -ℤ reach p q z *ℤ q.w) *ℤ bracket u v p +ℤ (reach p q z *ℤ p.w) *ℤ bracket u v q
   along u v z h = let on = ((on_segment_is p q z apart).0 h).0 in weights_along IsWhole p q z (record {
     k = reach p q q *ℤ z.w -ℤ reach p q z *ℤ q.w;

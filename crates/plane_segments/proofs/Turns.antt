@@ -4,11 +4,10 @@ use Rattle.std.specs.Prelude.{pos, ◌-ℤ◌, ◌<ℤ◌, neg_ℤ}
 use Rattle.plane.specs.Fraction.{Point, whole}
 use Rattle.plane.specs.Side.{side, right, on, TurnsLeft}
 use Rattle.plane.specs.Laws.{turn_at, squared_way}
-use Rattle.plane.proofs.Sides.{if_left, if_right, if_on, left_if, right_if, on_if}
+use Rattle.plane.proofs.Sides.{if_left, if_right, if_on, left_if}
 use Rattle.plane.proofs.Solver.{Poly, num, ◌⊕◌, ◌⊖◌, ◌⊗◌, ⊝, ring_over}
 use Rattle.plane.proofs.Bracket.{Pointᵖ, points as points_shape}
 use Rattle.plane.proofs.BracketIdentities.{bracket-affine}
-use Rattle.plane.proofs.Areas.{right_if_negative, on_if_zero}
 
 abbrev pub turnᵖ : Pointᵖ → Pointᵖ → Pointᵖ → Poly
 turnᵖ q u v = (u.x ⊖ q.x) ⊗ (v.y ⊖ q.y) ⊖ (u.y ⊖ q.y) ⊗ (v.x ⊖ q.x)

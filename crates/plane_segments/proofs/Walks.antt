@@ -1,5 +1,5 @@
 -- A walk from the first item to the last is the line list.
-use Rattle.std.proofs.Common.{◌≡◌, List, [], ◌∷◌, subst, arith, refl}
+use Rattle.std.proofs.Common.{◌≡◌, List, [], ◌∷◌, subst, refl}
 use mathlib.Core.Logic.{◌⊎◌, inl, inr}
 use Rattle.std.specs.Prelude.{All, AllPairs}
 use Rattle.std.proofs.lemmas.List.Elements.{All-nil, All-cons}

@@ -8,7 +8,6 @@ use Rattle.std.proofs.lemmas.Bool.{cases_eq, cases_lt}
 use Rattle.plane.specs.Fraction.{Point, whole, WithinSegment}
 use Rattle.plane.specs.Tiling.{Face}
 use Rattle.plane_tiling.specs.Local.{total, LocalMesh, LineMesh, AreEdgesOf}
-use Rattle.plane.proofs.IntegerOrder.{lt_or_ge_ℤ}
 use Rattle.plane.proofs.Bracket.{Vec3}
 use Rattle.plane.proofs.BracketIdentities.{bracket-outer}
 use Rattle.plane_tiling.proofs.Flows.{HasSide, no_turn}

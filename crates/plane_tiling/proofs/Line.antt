@@ -70,7 +70,6 @@ not_below x y z a h k l (inl (inr b)) = let c = b.0 in omega (arith, ints)
 not_below x y z a h k l (inr b) = let c = b.0 in omega (arith, ints)
 
 module _ (n : ℕ) (p : ℕ → Point) (outer new : List (ℕ × ℕ)) (m : SignLine n p outer) where
-
   wider : {k : ℕ} → k < n → k < suc n
   wider h = omega arith
 

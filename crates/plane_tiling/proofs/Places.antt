@@ -281,7 +281,6 @@ one_vertex_at n p distinct y v w h k a b = same_index n p distinct v w h k (λ i
     part s t z w h e f = mul_cancel_ℤ (pos-ne-zero_ℤ h) (*ℤ_comm w s ∙ sym e ∙ f ∙ *ℤ_comm t w)
 
 module _ (n : ℕ) (p : ℕ → Point) (faces : List Face) (outer : List (ℕ × ℕ)) (m : SignMesh n p faces outer) (y : Fraction) where
-
   pub vertex_not_outside : IsAtVertex n p faces outer m y → IsLeftOfOuter n p faces outer m y → ⊥
   vertex_not_outside a o = left_not_below o.left (subst (λ z. z ≤ℤ pos 0) (sym (bracket_at (at p o.e.0) (at p o.e.1) (p a.v) y a.same)) (mul-nonpos_of_nonneg_nonpos_ℤ (weak y.positive) (m.supporting o.e o.here a.v a.index)))
 

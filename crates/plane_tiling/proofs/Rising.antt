@@ -13,7 +13,7 @@ use Rattle.plane.proofs.IntegerOrder.{lt_or_ge_ℤ}
 use Rattle.plane_tiling.proofs.Flows.{bit, bit_is, bit_nonneg, is_true}
 use Rattle.plane_tiling.proofs.Totals.{total_at_least, total_agree, total-sum, total_exchanged}
 use Rattle.plane.proofs.Signs.{at_most_both_ways, at_most_then_less, less_both_ways, less_in_a_ring, same_is_at_most, same_plus_zero, zero_plus_same}
-use Rattle.plane.proofs.Sides.{test_false, test_true, less_by_test}
+use Rattle.plane.proofs.Sides.{test_true, less_by_test}
 use Rattle.plane.proofs.Indexes.{below_or_last}
 
 -- ---- the greatest of some numbers

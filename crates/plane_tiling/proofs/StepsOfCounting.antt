@@ -4,8 +4,6 @@ use Rattle.std.specs.Prelude.{ℤ, pos, negsuc, ◌+ℤ◌, ◌-ℤ◌, ◌*ℤ�
 use Rattle.std.proofs.lemmas.Int.{ints}
 use Rattle.plane.proofs.IntegerLaws.{mul-add_ℤ}
 use Rattle.plane.proofs.Solver.{num, ◌⊕◌, ◌⊖◌, ◌⊗◌, ⊝, ring_in_from}
-use lib.IntN.{+ℤ_comm}
-use Rattle.plane.proofs.Signs.{sum_not_positive, sum_of_zeros}
 
 pub sum_is_positive : (s a b c : ℤ) → s ≡ a *ℤ pos 1 +ℤ b *ℤ pos 1 +ℤ c *ℤ pos 1 → pos 0 <ℤ s → pos 0 <ℤ (c +ℤ a +ℤ b)
 sum_is_positive s a b c e h = omega (arith, ints)
