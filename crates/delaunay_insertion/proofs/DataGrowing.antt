@@ -26,6 +26,7 @@ use Rattle.mesh_embedding.proofs.MeshStays.{halved, half_same, slice_get-set_oth
 use Rattle.delaunay_insertion.specs.Data.{KeepsEdge, KeepsFace, GrowsAround, IsInCorners}
 use Rattle.delaunay_legalization.specs.Parts.{IsWithinEdge, IsInsideFaceOf}
 use Rattle.delaunay_legalization.specs.State.{State, state_of}
+use Rattle.plane.proofs.Indexes.{one_below}
 
 -- ---- entries of lists
 get_before : {X : Type 0} (xs ys : List X) (k : ℕ) → k < length xs → slice_get (xs ++ ys) k ≡ slice_get xs k
@@ -322,11 +323,8 @@ grows_from_one old new valid fit points p few outer = record {
   outer = outer;
 }
   where
-    both_none : (a b n : ℕ) → a < n → b < n → n ≤ 1 → a ≡ b
-    both_none a b n x y z = omega arith
-
     no_edge : (h : ℕ) → ¬ (h < length old.mesh.half_edges)
-    no_edge h w = valid.apart h w (both_none (origin old.mesh h) (origin old.mesh (rev h)) (length old.vertices) (in_range h w) (in_range (rev h) (rev_within h (length old.mesh.half_edges) valid.sound.even w)) few)
+    no_edge h w = valid.apart h w (one_below (origin old.mesh h) (origin old.mesh (rev h)) (length old.vertices) (in_range h w) (in_range (rev h) (rev_within h (length old.mesh.half_edges) valid.sound.even w)) few)
       where
         in_range : (h : ℕ) → h < length old.mesh.half_edges → origin old.mesh h < length old.vertices
         in_range h w = let o = (valid.sound.edges h w).origin_in in let v = fit.vertices_fit in omega (arith, o, v)

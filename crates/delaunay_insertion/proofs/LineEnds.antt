@@ -1,7 +1,6 @@
 -- A new vertex is joined to edges of a line: where the next outer edge at an end does not see it, no outer edge there does.
 use Rattle.std.proofs.Common.{◌≡◌, ◌≢◌, ◌⊎◌, ℕ, ◌<◌, List, [], ◌∷◌, ◌++◌, length, refl, sym, ap, ◌∙◌, subst, inl, inr, arith}
 use Rattle.std.specs.Prelude.{ℤ, pos, ◌<ℤ◌, ◌≤ℤ◌, Contains}
-use Rattle.std.proofs.lemmas.Int.{ints}
 use Rattle.std.proofs.lemmas.Bool.{cases_eq}
 use Rattle.half_edge_mesh.specs.Mesh.{Mesh, IsValidMesh, IsSoundEdge, origin, next, prev, face, rev}
 use Rattle.half_edge_mesh.specs.Outline.{IsOuterEdge}
@@ -33,7 +32,7 @@ use Rattle.plane_edits.proofs.Growing.{run_signs, in_two}
 use Rattle.mesh_embedding.specs.Drawn.{faces_of, outer_of}
 use Rattle.mesh_embedding.proofs.OuterEdges.{listed, real, one_edge}
 use Rattle.mesh_embedding.proofs.MeshEdits.{face_before}
-use Rattle.plane.proofs.Signs.{opposites_not_both_positive}
+use Rattle.plane.proofs.Signs.{opposites_not_both_positive, at_most_both_ways}
 use Rattle.half_edge_links.proofs.Conditions.{alone_at}
 
 -- ---- a vertex of a line has at most two neighbours
@@ -50,11 +49,8 @@ module _ (n : ℕ) (p : ℕ → Point) (outer : List (ℕ × ℕ)) (m : SignLine
   none_between : (i k : ℕ) → IsNext n p w i → k < n → IsBetween (spot w) (spot i) (spot k) → ⊥
   none_between i k s h b = s.none_between k h (within_places (p w) (p a) apart (p w) (p i) (p k) (on w near.first) (on i s.second) (on k h) b)
 
-  level : {x y : ℤ} → x ≤ℤ y → y ≤ℤ x → x ≡ y
-  level h k = omega (arith, ints)
-
   same_spot : (i j : ℕ) → i < n → j < n → spot i ≤ℤ spot j → spot j ≤ℤ spot i → i ≡ j
-  same_spot i j hi hj h k = same_place n p m.distinct (p w) (p a) apart i j hi hj (on i hi) (on j hj) (level h k)
+  same_spot i j hi hj h k = same_place n p m.distinct (p w) (p a) apart i j hi hj (on i hi) (on j hj) (at_most_both_ways _ _ h k)
 
   both_above : (i j : ℕ) → IsNext n p w i → IsNext n p w j → spot w <ℤ spot i → spot w <ℤ spot j → i ≡ j
   both_above i j s t h k = go (lt_or_ge_ℤ (spot i) (spot j)) (lt_or_ge_ℤ (spot j) (spot i))

@@ -25,10 +25,7 @@ use Rattle.delaunay_insertion.proofs.MarkedEdges.{JoinsWithMark, own_ends, joins
 use Rattle.delaunay_insertion.proofs.NewVertex.{not_within, source_in, target_in}
 use Rattle.delaunay_insertion.proofs.EdgeLists.{one_value}
 use Rattle.mesh_embedding.proofs.MeshStays.{same_pair_back, same_pair_on}
-
-pair_turned : (a b i j : ℕ) → IsSamePair a b i j → IsSamePair b a i j
-pair_turned a b i j (inl s) = inr (s.1, s.0)
-pair_turned a b i j (inr s) = inl (s.1, s.0)
+use Rattle.plane.proofs.Indexes.{pair_turned}
 
 pub whole_mesh : {V D U F : Type 0} (at : V → Point) (c : Contents V D U F) → IsTriangulated at (state_of c) → IsMeshWithData c
 whole_mesh at c kept = record { valid = kept.valid; fits = kept.fits }

@@ -1,25 +1,18 @@
 -- A running search for the least of some numbers, and the vertex at the least distance.
-use Rattle.std.proofs.Common.{◌≡◌, ◌⊎◌, ℕ, ◌+◌, ◌<◌, arith, below_more, subst, inl, inr}
+use Rattle.std.proofs.Common.{◌≡◌, ℕ, ◌+◌, ◌<◌, arith, below_more, subst}
 use Rattle.std.specs.Prelude.{ℤ, pos, ◌*ℤ◌, ◌<ℤ◌, ◌≤ℤ◌, length}
 use Rattle.std.proofs.lemmas.Int.{ints}
 use Rattle.plane.specs.Fraction.{Point, whole}
 use Rattle.plane.specs.Circle.{gap}
 use Rattle.plane.specs.Shape.{IsNearest}
 use Rattle.plane.specs.Tiling.{Triangulation, vertex}
-use Rattle.plane.proofs.IntegerOrder.{lt_or_ge_ℤ}
+use Rattle.plane.proofs.Signs.{at_most_if_not_less}
 
 itself : (a : ℤ) → a ≤ℤ a
 itself a = omega (arith, ints)
 
 through : (a b c : ℤ) → a <ℤ b → b ≤ℤ c → a ≤ℤ c
 through a b c h k = omega (arith, ints)
-
-not_below : (a b : ℤ) → ¬ (a <ℤ b) → b ≤ℤ a
-not_below a b n = go (lt_or_ge_ℤ a b)
-  where
-    go : (a <ℤ b) ⊎ (b ≤ℤ a) → b ≤ℤ a
-    go (inl h) = absurd (n h)
-    go (inr h) = h
 
 module _ (at : ℕ → ℤ) where
   pub first_is_least : (e : ℕ) → e ≡ 0 → (h : ℕ) → h < 1 → at e ≤ℤ at h
@@ -29,7 +22,7 @@ module _ (at : ℕ → ℤ) where
   less_is_least i e least is less before = below_more (λ h. at e ≤ℤ at h) i (λ h k. through (at e) (at least) (at h) less (before h k)) (subst (λ k. at e ≤ℤ at k) is (itself (at e)))
 
   pub still_least : (i e least : ℕ) → e ≡ i → ¬ (at e <ℤ at least) → ((h : ℕ) → h < i → at least ≤ℤ at h) → (h : ℕ) → h < i + 1 → at least ≤ℤ at h
-  still_least i e least is not_less before = below_more (λ h. at least ≤ℤ at h) i before (subst (λ k. at least ≤ℤ at k) is (not_below (at e) (at least) not_less))
+  still_least i e least is not_less before = below_more (λ h. at least ≤ℤ at h) i before (subst (λ k. at least ≤ℤ at k) is (at_most_if_not_less (at e) (at least) not_less))
 
 not_nearer : (a b : ℤ) → a ≤ℤ b → ¬ ((b *ℤ (pos 1 *ℤ pos 1)) <ℤ (a *ℤ (pos 1 *ℤ pos 1)))
 not_nearer a b least nearer = omega (arith, ints)

@@ -1,7 +1,7 @@
 -- Neighbours on a line: a vertex with none is the only one, none has three, no three are neighbours of one another, and two with no further ones are all.
 use Rattle.std.proofs.Common.{◌≡◌, ◌⊎◌, ℕ, ◌<◌, List, length, sym, ap, subst, arith}
 use mathlib.Core.Logic.{inl, inr, ◌≢◌}
-use Rattle.std.specs.Prelude.{ℤ, pos, ◌-ℤ◌, ◌<ℤ◌, ◌≤ℤ◌, Contains}
+use Rattle.std.specs.Prelude.{ℤ, pos, ◌-ℤ◌, ◌<ℤ◌, Contains}
 use Rattle.std.proofs.lemmas.Int.{ints}
 use Rattle.std.proofs.lemmas.Bool.{cases_eq}
 use Rattle.plane.specs.Fraction.{Point, whole, WithinSegment}
@@ -16,7 +16,7 @@ use Rattle.plane_tiling.proofs.Line.{SignLine, IsNext, next_turned}
 use Rattle.plane_tiling.proofs.LineMeshes.{line_by_signs}
 use Rattle.plane_tiling.proofs.LinePlaces as O
 use Rattle.plane_edits.specs.Removal.{LineMeshWithout}
-use Rattle.plane.proofs.Signs.{at_most_both_ways, less_twice_is_not_same}
+use Rattle.plane.proofs.Signs.{at_most_both_ways, less_twice_is_not_same, below_and_not_below}
 
 -- ---- places along the line from vertex a to another vertex b
 module _ (n : ℕ) (p : ℕ → Point) (outer : List (ℕ × ℕ)) (m : SignLine n p outer) (a b : ℕ) (a_in : a < n) (b_in : b < n) (apart : a ≢ b) where
@@ -68,9 +68,6 @@ module _ (n : ℕ) (p : ℕ → Point) (outer : List (ℕ × ℕ)) (m : SignLine
   unfolding spot'
   upper = O.lower_edge n p outer m (whole (p a)) b a b_in a_in back level'
 
-  clash : (x y : ℤ) → x <ℤ y → y ≤ℤ x → ⊥
-  clash x y h k = omega (arith, ints)
-
   under : (x y c d : ℤ) → y -ℤ x ≡ c -ℤ d → d <ℤ c → x <ℤ y
   under x y c d e h = omega (arith, ints)
 
@@ -82,13 +79,13 @@ module _ (n : ℕ) (p : ℕ → Point) (outer : List (ℕ × ℕ)) (m : SignLine
 
   -- with a vertex below it, w has a neighbour below it
   pub below_edge : (w x : ℕ) → w < n → x < n → spot x <ℤ spot w → (j : ℕ) × Contains outer (w, j) × (spot j <ℤ spot w)
-  below_edge w x hw hx l = elim (O.nearest_below spot n (spot w)) [ inl s ↦ (s.0, lower w hw s.0 s.1, s.1.below) | inr none ↦ absurd (clash (spot x) (spot w) l (none x hx)) ]
+  below_edge w x hw hx l = elim (O.nearest_below spot n (spot w)) [ inl s ↦ (s.0, lower w hw s.0 s.1, s.1.below) | inr none ↦ absurd (below_and_not_below (spot x) (spot w) l (none x hx)) ]
 
   -- and likewise above
   above_edge : (w x : ℕ) → w < n → x < n → spot w <ℤ spot x → (j : ℕ) × Contains outer (w, j) × (spot w <ℤ spot j)
   above_edge w x hw hx l = elim (O.nearest_below spot' n (spot' w)) [
     | inl s ↦ (s.0, upper w hw s.0 s.1, over (spot' s.0) (spot' w) (spot s.0) (spot w) (turned_order s.0 w) s.1.below)
-    | inr none ↦ absurd (clash (spot' x) (spot' w) (under (spot' x) (spot' w) (spot x) (spot w) (turned_order x w) l) (none x hx))
+    | inr none ↦ absurd (below_and_not_below (spot' x) (spot' w) (under (spot' x) (spot' w) (spot x) (spot w) (turned_order x w) l) (none x hx))
   ]
 
   no_other : ((j : ℕ) → ¬ Contains outer (a, j)) → ⊥

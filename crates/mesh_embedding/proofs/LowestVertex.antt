@@ -12,10 +12,9 @@ use Rattle.plane.proofs.BracketIdentities.{bracket-swap, pluecker}
 use Rattle.plane.proofs.Generic.{not_on_line}
 use Rattle.plane_tiling.proofs.Counting.{at, SignMesh}
 use Rattle.plane_tiling.proofs.Sweep.{IsSweep}
+use Rattle.plane.proofs.Signs.{named_difference_is_positive}
 
 -- ---- steps
-rise_is_positive : (a b d : ℤ) → d ≡ b -ℤ a → a <ℤ b → pos 0 <ℤ d
-rise_is_positive a b d e h = omega (arith, ints)
 
 not_below_by_rise : (a b d : ℤ) → d ≡ b -ℤ a → pos 0 ≤ℤ d → a ≤ℤ b
 not_below_by_rise a b d e h = omega (arith, ints)
@@ -48,10 +47,10 @@ module _ (n : ℕ) (p : ℕ → Point) (faces : List Face) (outer : List (ℕ ×
     turns_at_lowest u v w a b down up k k_in = go (zero_or_left (back w (m.ends (v, w) b).1))
       where
         to_u : pos 0 <ℤ rise v u
-        to_u = rise_is_positive (height v) (height u) (rise v u) (s.seen v u) down
+        to_u = named_difference_is_positive (height v) (height u) (rise v u) (s.seen v u) down
 
         to_w : pos 0 <ℤ rise v w
-        to_w = rise_is_positive (height v) (height w) (rise v w) (s.seen v w) up
+        to_w = named_difference_is_positive (height v) (height w) (rise v w) (s.seen v w) up
 
         relation : (z : ℕ) → det v u w *ℤ rise v z -ℤ det v u z *ℤ rise v w +ℤ rise v u *ℤ det v w z ≡ pos 0
         relation z = pluecker (at p v) (at p u) (at p w) (at p z) way

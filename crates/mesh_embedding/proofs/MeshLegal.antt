@@ -43,7 +43,7 @@ use Rattle.mesh_embedding.proofs.FaceChanges.{turned_faces}
 use Rattle.mesh_embedding.proofs.MeshEdits.{start_of_twin, end_of_twin, face_before, face_behind, flipped_faces, flip_kept_by}
 use Rattle.mesh_embedding.proofs.MeshStays.{halved, keeps_indexes, stays_none, stays_turned}
 use Rattle.mesh_embedding.proofs.WorkLists.{contains_last, contains_before, last_or_before, once_before, last_not_before, once_after, contains_map, contains_map_from, same_map, at_most_so_many}
-use Rattle.plane.proofs.SmallCases.{turned_join}
+pub use Rattle.plane.proofs.Indexes.{same_joined, turned_join}
 
 -- ---- the edges of a work list
 pub joins_edge : (m : Mesh) (ks : List ℕ) (k : ℕ) → Contains ks k → Joins (pairs_at m ks) (origin m (2 * k)) (origin m (rev (2 * k)))
@@ -73,11 +73,6 @@ last_or_joined m ks k i j (inr h) = go (contains_map_from (pair_at m) (ks ++ k �
       | inl e ↦ inl (subst (λ (x : ℕ). IsSamePair i j (origin m (2 * x)) (origin m (rev (2 * x)))) e (inr (sym (ap (λ (x : ℕ × ℕ). x.1) r.2), sym (ap (λ (x : ℕ × ℕ). x.0) r.2))))
       | inr c ↦ inr (r.0, c, inr (sym (ap (λ (x : ℕ × ℕ). x.1) r.2), sym (ap (λ (x : ℕ × ℕ). x.0) r.2)))
     ]
-
--- joined as the same pair
-pub same_joined : (pairs : List (ℕ × ℕ)) (i j u v : ℕ) → IsSamePair i j u v → Joins pairs u v → Joins pairs i j
-same_joined pairs i j u v (inl e) h = subst (λ (x : ℕ × ℕ). Joins pairs x.0 x.1) (λ o. (sym e.0 o, sym e.1 o)) h
-same_joined pairs i j u v (inr e) h = turned_join pairs j i (subst (λ (x : ℕ × ℕ). Joins pairs x.0 x.1) (λ o. (sym e.1 o, sym e.0 o)) h)
 
 -- ---- an edge between two inner faces
 module _ (points : List Point) (m : Mesh) (s : IsValidMesh m) (local : LocalMesh points (faces_of m) (outer_of m)) (e : ℕ) (within : e < length m.half_edges) where

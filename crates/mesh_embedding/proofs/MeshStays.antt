@@ -25,7 +25,7 @@ use Rattle.mesh_embedding.specs.Drawn.{drawn, corners_of, pair_of, faces_of, edg
 use Rattle.mesh_embedding.specs.Stays.{GoSameWay, HaveSameCorners, KeepsIndexes, HasSideIn, StaysBut}
 use Rattle.mesh_embedding.proofs.OwnEdges.{own_edges}
 use Rattle.mesh_embedding.proofs.FaceChanges.{turned_faces, contains_map}
-use Rattle.plane.proofs.SmallCases.{turned_join}
+use Rattle.plane.proofs.Indexes.{turned_join}
 
 pub slice_get-set_other : {X : Type 0} (xs : List X) (i j : ℕ) (x : X) → j ≢ i → slice_get (set xs i x) j ≡ slice_get xs j
 slice_get-set_other xs i j x n = grind (arith, common_steps, gets)

@@ -11,7 +11,7 @@ use Rattle.plane_tiling.proofs.Totals.{Contains-head, Contains-later, Contains-n
 use Rattle.plane_edits.specs.Change.{OuterChange}
 use Rattle.plane_edits.proofs.Changes.{IsOnce, once_none, once_head, once_tail, once_cons}
 use Rattle.mesh_embedding.specs.Drawn.{pair_of, outer_of}
-use Rattle.plane_edits.proofs.Away.{less_or_more}
+use Rattle.plane.proofs.Indexes.{less_or_more}
 
 -- the ends of a directed edge
 abbrev pub ends_at : Mesh → ℕ → ℕ × ℕ

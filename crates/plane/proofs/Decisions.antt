@@ -18,6 +18,7 @@ use Rattle.plane.proofs.Meetings.{AreOpposite, AreParted, cross-sym, cross_is, m
 use Rattle.plane.proofs.Triangles.{inside_is_brackets, in_is_brackets}
 use Rattle.plane.proofs.Circles.{incircle, inside_is_incircle, on_is_incircle}
 use Rattle.plane.specs.Side.{run, rise}
+use Rattle.plane.proofs.Indexes.{below_or_last}
 
 -- a question with its answer
 abbrev pub Decision : Type 0 → Type 0
@@ -58,11 +59,8 @@ find_below {P} (suc n) d = last (find_below n d) (d n)
     last (inr f) (inl p) = inl (n, omega arith, p)
     last (inr f) (inr m) = inr each
       where
-        cases : (i : ℕ) → i < suc n → (i < n) ⊎ (i ≡ n)
-        cases i h = grind arith
-
         each : (i : ℕ) → i < suc n → ¬ P i
-        each i h p = elim (cases i h) [ inl l ↦ f i l p | inr e ↦ m (subst P e p) ]
+        each i h p = elim (below_or_last n i h) [ inl l ↦ f i l p | inr e ↦ m (subst P e p) ]
 
 -- whether some index below n has the property
 pub decide_some_below : {P : ℕ → Type 0} (n : ℕ) → ((i : ℕ) → Decision (P i)) → Decision ((i : ℕ) × (i < n) × P i)

@@ -8,7 +8,7 @@ use Rattle.plane.specs.Crossing.{MeetAt, MeetsWithin, Cross}
 use Rattle.plane.specs.Laws.{Parts}
 use Rattle.plane.proofs.IntegerOrder.{Sign, sign, below, none, above, mul-pos_ℤ, mul-nonneg_ℤ, mul-neg_of_pos_neg_ℤ, zero-mul_ℤ, zero_of_mul-zero_ℤ, pos-ne-zero_ℤ}
 use Rattle.plane.proofs.Steps.{weak, left_not_zero, right_not_zero, one_number}
-use Rattle.plane.proofs.Solver.{num, ◌⊕◌, ◌⊖◌, ◌⊗◌, ⊝, ring_in, ring_in_from, ring_over}
+use Rattle.plane.proofs.Solver.{num, ◌⊕◌, ◌⊖◌, ◌⊗◌, ⊝, ring_in_from, ring_over}
 use Rattle.plane.proofs.Bracket.{Vec3, vec, bracket, bracketᵖ, vec3}
 use Rattle.plane.proofs.BracketIdentities.{bracket-swap}
 use Rattle.plane.proofs.Means.{TwoWeights, two_weights, mean_of_two, turned_mean_of_two, bracket_of_two}
@@ -17,6 +17,7 @@ use Rattle.plane.proofs.Lines.{bracket_of_line, left_of_two, right_of_two}
 use Rattle.plane.proofs.Segments.{line_weights, IsWhole, same-refl, same-sym, same-trans, on_of_within, on_segment-same, within_segment-same, start_on_segment, only_point, within_itself}
 use Rattle.plane.proofs.Nudges.{nudge_each}
 use Rattle.plane.proofs.Signs.{negation_is_positive, negation_not_negative, negative_is_not_positive, opposite_of_zero, sum_is_positive, sum_not_negative, zero_is_not_negative, zero_is_not_positive}
+use Rattle.plane.proofs.IntegerLaws.{neg-mul_ℤ}
 
 -- one is left and the other right
 abbrev pub AreOpposite : ℤ → ℤ → Type 0
@@ -138,11 +139,8 @@ module _ (s t u v : Fraction) (left_u : pos 0 <ℤ bracket (vec s) (vec t) (vec 
       clash d c sw tw z e h k p q r =
           let first : pos 0 ≤ℤ (neg_ℤ d *ℤ sw) = mul-nonneg_ℤ {a = neg_ℤ d} {b = sw} (omega (arith, ints)) (weak p) in
           let second : pos 0 ≤ℤ (c *ℤ tw) = mul-nonneg_ℤ k (weak q) in
-          both (d *ℤ sw) (c *ℤ tw) (neg_ℤ d *ℤ sw) (neg_ℤ c *ℤ tw) z e first second r (negated_product d sw) (negated_product c tw)
+          both (d *ℤ sw) (c *ℤ tw) (neg_ℤ d *ℤ sw) (neg_ℤ c *ℤ tw) z e first second r (neg-mul_ℤ d sw) (neg-mul_ℤ c tw)
         where
-          negated_product : (x y : ℤ) → neg_ℤ x *ℤ y ≡ neg_ℤ (x *ℤ y)
-          negated_product x y = ring_in (x ∷ y ∷ []) (λ x y. ⊝ x ⊗ y) (λ x y. ⊝ (x ⊗ y)) tt
-
           both : (x y m o z : ℤ) → z ≡ x +ℤ o → pos 0 ≤ℤ m → pos 0 ≤ℤ y → pos 0 <ℤ z → m ≡ neg_ℤ x → o ≡ neg_ℤ y → ⊥
           both x y m o z e h k r f g = omega (arith, ints)
 

@@ -210,7 +210,8 @@ weights_y u v z e = ring_over_from vec3 [] (vec u ∷ vec v ∷ vec z ∷ [])
     (λ u v z. (reachᵖ u v v ⊗ z.w ⊖ reachᵖ u v z ⊗ v.w) ⊗ u.y ⊕ (reachᵖ u v z ⊗ u.w) ⊗ v.y)
     (λ u v z. (runᵖ u v ⊗ u.w, bracketᵖ u v z, num 0) ∷ []) (e, tt) tt
 
-weights_w : (l r u v z : ℤ) → (l *ℤ u) *ℤ z ≡ (l *ℤ z -ℤ r *ℤ v) *ℤ u +ℤ (r *ℤ u) *ℤ v
+-- what two ends weigh adds up
+pub weights_w : (l r u v z : ℤ) → (l *ℤ u) *ℤ z ≡ (l *ℤ z -ℤ r *ℤ v) *ℤ u +ℤ (r *ℤ u) *ℤ v
 weights_w l r u v z = ring_in (l ∷ r ∷ u ∷ v ∷ z ∷ []) (λ l r u v z. (l ⊗ u) ⊗ z) (λ l r u v z. (l ⊗ z ⊖ r ⊗ v) ⊗ u ⊕ (r ⊗ u) ⊗ v) tt
 
 -- any sign is allowed to a weight

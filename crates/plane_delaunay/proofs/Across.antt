@@ -14,13 +14,9 @@ use Rattle.plane_delaunay.proofs.Bracket.{bracket, bracket-turned, bracket-swapp
 use Rattle.plane_delaunay.proofs.Nudges.{size, nudge, bracket-nudge, nudge-above, nudge-on}
 use Rattle.plane_delaunay.proofs.Faces.{Tiling, Between, between-swapped, between-on, between-second, between-third, side_not_inside, none_within, turns_2, corner_2}
 use Rattle.plane.specs.Fraction.{Fraction}
+use Rattle.plane.proofs.Signs.{times_one}
 
 -- ---- numbers
-pub one_right : (z w : ℤ) → w ≡ pos 1 → z *ℤ w ≡ z
-one_right z w e = ap (λ t. z *ℤ t) e ∙ one z
-  where
-    one : (z : ℤ) → z *ℤ pos 1 ≡ z
-    one z = omega (arith, ints)
 
 pub none_of_sum : (d x a b c : ℤ) → pos 0 <ℤ d → d *ℤ x ≡ a +ℤ b +ℤ c → a ≡ pos 0 → b ≡ pos 0 → c ≡ pos 0 → x ≡ pos 0
 none_of_sum d x a b c h e p q r = zero_of_mul-zero_ℤ {k = d} {x = x} (pos-ne-zero_ℤ h) (omega (arith, ints))
@@ -64,10 +60,10 @@ inner_between u v w a t on h k = record {
 pub unit_weights : (a b p q : Fraction) → a.w ≡ pos 1 → b.w ≡ pos 1 → p.w ≡ pos 1 → q.w ≡ pos 1 → bracket a b q -ℤ bracket a b p ≡ bracket q p b -ℤ bracket q p a
 unit_weights a b p q ea eb ep eq =
     let m = meeting-w a b p q in
-    let i = one_right (bracket a b q) p.w ep in
-    let j = one_right (bracket a b p) q.w eq in
-    let k = one_right (bracket q p b) a.w ea in
-    let l = one_right (bracket q p a) b.w eb in
+    let i = times_one (bracket a b q) p.w ep in
+    let j = times_one (bracket a b p) q.w eq in
+    let k = times_one (bracket q p b) a.w ea in
+    let l = times_one (bracket q p a) b.w eb in
     omega (arith, ints)
 
 later_above : (n k l x α β : ℤ) → pos 0 <ℤ n → pos 0 <ℤ k → pos 0 <ℤ l → n *ℤ x ≡ k *ℤ α +ℤ l *ℤ β → pos 0 <ℤ x → α <ℤ β → pos 0 <ℤ β
@@ -102,9 +98,6 @@ module _ (T : Tiling) where
   pub clear-swapped : (a b : ℕ) → IsClear a b → IsClear b a
   clear-swapped a b c n v h = c n v (between-swapped (at b) (at a) (at n) h)
 
-  vertex_b : (u v w : ℕ) → IsFace u v w → IsVertex v
-  vertex_b u v w f = corner_2 T u v w f
-
   -- a b runs along the side u v of a face the other way
   opposite_same : (a b u v w : ℕ) → IsVertex a → IsVertex b → IsFace u v w → IsClear a b
       → bracket (at u) (at v) (at a) ≡ pos 0 → bracket (at u) (at v) (at b) ≡ pos 0 → bracket (at a) (at b) (at w) <ℤ pos 0
@@ -117,7 +110,7 @@ module _ (T : Tiling) where
       | above s ↦ absurd (none_within T u v w b f vb (inner_between (at u) (at v) (at w) (at b) t eb h s))
     ],
     elim (sign (bracket (at v) (at w) (at a))) [
-      | below s ↦ absurd (clear v (vertex_b u v w f) (outer_between (at a) (at b) (at v) (at w) (second_on (at u) (at v) (at w) (at a) (at b) t ea eb) right h s))
+      | below s ↦ absurd (clear v (corner_2 T u v w f) (outer_between (at a) (at b) (at v) (at w) (second_on (at u) (at v) (at w) (at a) (at b) t ea eb) right h s))
       | none s ↦ at_v s (T.empty u v w a f va (record { first = zero_weak_left ea; second = zero_weak_left s; third = weak k }))
       | above s ↦ absurd (none_within T u v w a f va (inner_between (at u) (at v) (at w) (at a) t ea s k))
     ],
@@ -189,7 +182,7 @@ module _ (T : Tiling) where
       va = T.corner a b c f
 
       vb : IsVertex b
-      vb = vertex_b a b c f
+      vb = corner_2 T a b c f
 
       clear : IsClear a b
       clear n = none_within T a b c n f

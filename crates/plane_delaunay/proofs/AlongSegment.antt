@@ -6,7 +6,7 @@ use Rattle.std.specs.Prelude.{ℤ, pos, ◌<ℤ◌, ◌≤ℤ◌, ◌+ℤ◌, �
 use Rattle.std.proofs.lemmas.Int.{ints}
 use Rattle.plane.specs.Line.{OverlapAlong}
 use Rattle.plane_delaunay.proofs.Bracket.{mixed}
-use Rattle.plane_delaunay.proofs.Numbers.{mix_positive, own_line}
+use Rattle.plane_delaunay.proofs.Numbers.{mix_positive}
 use Rattle.plane.proofs.Means.{TwoWeights, two_weights, mean_of_two, bracket_of_two}
 use Rattle.plane.proofs.Nearer.{same_not_nearer}
 use Rattle.plane.proofs.Bracket.{vec, vec3, bracket, bracketᵖ}
@@ -16,7 +16,8 @@ use Rattle.plane.proofs.IntegerOrder.{mul-pos_ℤ, mul-nonneg_ℤ, mul_cancel_�
 use Rattle.plane.proofs.Segments.{reach, reach-end, on_segment_is, same-sym, same-trans, only_point, on_segment-same, start_on_segment, reach-start, reach_of_two, runᵖ, riseᵖ, reachᵖ, weights_x, weights_y}
 use Rattle.plane.specs.Fraction.{Fraction, IsSame, OnSegment, IsNotNegative, IsPositive, WithinSegment}
 use Rattle.plane.specs.Circle.{gap, IsNearer}
-use Rattle.plane.proofs.Signs.{at_most_by_difference_to, difference_not_negative, less_both_ways, less_by_difference, less_by_negative_difference, more_by_difference, negated_not_negative, one_times_sum, sum_not_negative_of, sum_of_zeros, zero_below_positive}
+use Rattle.plane.proofs.Signs.{at_most_by_difference_to, difference_not_negative, less_both_ways, less_by_difference, less_by_negative_difference, more_by_difference, negated_not_negative, one_times_sum, sum_not_negative_of, sum_of_zeros, zero_below_positive, difference_is_positive, at_most_and_more, positive_above}
+use Rattle.plane.proofs.Lines.{balanced}
 
 -- the squared distance from the start, by how far the point is on the way
 gap-reach : (p q x : Fraction) → bracket (vec p) (vec q) (vec x) ≡ pos 0 → reach p q q *ℤ gap p x ≡ reach p q x *ℤ reach p q x
@@ -139,9 +140,6 @@ before_last : (n a b f fu fv w uw vw : ℤ) → n *ℤ f ≡ a *ℤ fu +ℤ b *�
 before_last n a b f fu fv w uw vw e d = ring_in_from (n ∷ a ∷ b ∷ f ∷ fu ∷ fv ∷ w ∷ uw ∷ vw ∷ []) (λ n a b f fu fv w uw vw. n ⊗ (fv ⊗ w ⊖ f ⊗ vw)) (λ n a b f fu fv w uw vw. a ⊗ (fv ⊗ uw ⊖ fu ⊗ vw))
     (λ n a b f fu fv w uw vw. (num 0 ⊖ vw, n ⊗ f, a ⊗ fu ⊕ b ⊗ fv) ∷ (fv, n ⊗ w, a ⊗ uw ⊕ b ⊗ vw) ∷ []) (e, (d, tt)) tt
 
-pub above_difference : (a b : ℤ) → a <ℤ b → pos 0 <ℤ (b -ℤ a)
-above_difference a b h = omega (arith, ints)
-
 -- one point is as far on the way as itself
 reach-same : (p q x y : Fraction) → IsSame x y → reach p q x *ℤ y.w ≡ reach p q y *ℤ x.w
 unfolding reach
@@ -151,7 +149,7 @@ reach-same p q x y e = ring_over_from vec3 [] (vec p ∷ vec q ∷ vec x ∷ vec
 -- from near over far to v, where x is
 less_past : (rn rf rv rx wn wf wv wx : ℤ) → (rn *ℤ wf) <ℤ (rf *ℤ wn) → (rf *ℤ wv) ≤ℤ (rv *ℤ wf) → rx *ℤ wv ≡ rv *ℤ wx → pos 0 <ℤ wn → pos 0 <ℤ wf → pos 0 <ℤ wv → pos 0 <ℤ wx → (rn *ℤ wx) <ℤ (rx *ℤ wn)
 less_past rn rf rv rx wn wf wv wx h i e hn hf hv hx = lt_of_mul-lt-mul_ℤ {k = wf *ℤ wv} (mul-pos_ℤ {a = wf} {b = wv} hf hv)
-    (let p = mul-pos_ℤ {a = wv *ℤ wx} {b = rf *ℤ wn -ℤ rn *ℤ wf} (mul-pos_ℤ {a = wv} {b = wx} hv hx) (above_difference _ _ h) in
+    (let p = mul-pos_ℤ {a = wv *ℤ wx} {b = rf *ℤ wn -ℤ rn *ℤ wf} (mul-pos_ℤ {a = wv} {b = wx} hv hx) (difference_is_positive _ _ h) in
     let s = mul-nonneg_ℤ {a = wn *ℤ wx} {b = rv *ℤ wf -ℤ rf *ℤ wv} (weak (mul-pos_ℤ {a = wn} {b = wx} hn hx)) (difference_not_negative _ _ i) in
     less_by_difference _ _ (subst (λ z. pos 0 <ℤ z) (sums rn rf rv rx wn wf wv wx e) (both p s)))
   where
@@ -172,9 +170,6 @@ above_last n f a fu b fv e hn hf ha hu hb = go (trichotomy_ℤ fv)
     go (inl h) = absurd (low (weak_right h))
     go (inr (inl h)) = absurd (low (zero_weak h))
     go (inr (inr h)) = h
-
-pub not_less : (a b : ℤ) → a ≤ℤ b → b <ℤ a → ⊥
-not_less a b h k = omega (arith, ints)
 
 -- from near, that u is before, to u
 still_before : (ru rn uw nw qw l : ℤ) → (ru *ℤ nw) ≤ℤ (rn *ℤ uw) → (rn *ℤ qw) ≤ℤ (l *ℤ nw) → pos 0 <ℤ nw → pos 0 <ℤ uw → pos 0 <ℤ qw → (ru *ℤ qw) ≤ℤ (l *ℤ uw)
@@ -202,7 +197,7 @@ module _ (p q u v : Fraction) (o : OverlapAlong p q u v) where
   turn : pos 0 <ℤ (t₁.k *ℤ t₂.l -ℤ t₂.k *ℤ t₁.l)
   turn = pos_of_mul-pos_ℤ {k = reach u v v *ℤ u.w} (mul-pos_ℤ (reach-end u v ends_apart) u.positive)
       (subst (λ z. pos 0 <ℤ z) (sym (turned_weights t₁.n t₁.k t₁.l t₂.n t₂.k t₂.l (reach u v o.near) (reach u v o.far) o.near.w o.far.w (reach u v v) u.w v.w (from_start t₁) (from_start t₂) t₁.w t₂.w))
-      (mul-pos_ℤ (mul-pos_ℤ t₁.positive t₂.positive) (above_difference _ _ (reach_less u v ends_apart o.near o.far o.near_second o.far_second o.from_u))))
+      (mul-pos_ℤ (mul-pos_ℤ t₁.positive t₂.positive) (difference_is_positive _ _ (reach_less u v ends_apart o.near o.far o.near_second o.far_second o.from_u))))
     where
       from_start : {x : Fraction} (t : TwoWeights IsNotNegative u v x) → t.n *ℤ reach u v x ≡ t.k *ℤ pos 0 +ℤ t.l *ℤ reach u v v
       from_start {x} t = reach_of_two IsNotNegative u v u v x t ∙ (λ i. t.k *ℤ reach-start u v i +ℤ t.l *ℤ reach u v v)
@@ -223,7 +218,7 @@ module _ (p q u v : Fraction) (o : OverlapAlong p q u v) where
   pub before : pos 0 <ℤ (reach p q v *ℤ u.w -ℤ reach p q u *ℤ v.w)
   before = pos_of_mul-pos_ℤ {k = t₁.k *ℤ t₂.l -ℤ t₂.k *ℤ t₁.l} turn
       (subst (λ z. pos 0 <ℤ z) (sym (form_order t₁.n t₁.k t₁.l t₂.n t₂.k t₂.l (reach p q o.near) (reach p q o.far) (reach p q u) (reach p q v) o.near.w o.far.w u.w v.w (reach_of_two IsNotNegative p q u v o.near t₁) (reach_of_two IsNotNegative p q u v o.far t₂) t₁.w t₂.w))
-      (mul-pos_ℤ (mul-pos_ℤ t₁.positive t₂.positive) (above_difference _ _ (reach_less p q far_apart o.near o.far o.near_first o.far_first o.from_s))))
+      (mul-pos_ℤ (mul-pos_ℤ t₁.positive t₂.positive) (difference_is_positive _ _ (reach_less p q far_apart o.near o.far o.near_first o.far_first o.from_s))))
 
   -- no point of the segment from u to v is before u
   pub not_before : (r : Fraction) → OnSegment u v r → (reach p q u *ℤ r.w) ≤ℤ (reach p q r *ℤ u.w)
@@ -249,10 +244,7 @@ module _ (p q u v : Fraction) (o : OverlapAlong p q u v) where
         behind h = off (on_segment-same u v z p (same_if p q far_apart z p z_on (start_on_segment p q) keys) (mean_of_two IsNotNegative u v z t))
           where
             far_reach : pos 0 <ℤ reach p q o.far
-            far_reach = pos_from _ _ _ _ (reach_less p q far_apart o.near o.far o.near_first o.far_first o.from_s) ((on_segment_is p q o.near far_apart).0 o.near_first).1 o.near.positive o.far.positive
-              where
-                pos_from : (a wb b wa : ℤ) → (a *ℤ wb) <ℤ (b *ℤ wa) → pos 0 ≤ℤ a → pos 0 <ℤ wa → pos 0 <ℤ wb → pos 0 <ℤ b
-                pos_from a wb b wa h ha hwa hwb = pos_of_mul-pos_ℤ {k = wa} {x = b} hwa (let p = mul-nonneg_ℤ {a = a} {b = wb} ha (weak hwb) in omega (arith, ints, lib.IntN.*ℤ_comm b wa))
+            far_reach = positive_above _ _ _ _ (reach_less p q far_apart o.near o.far o.near_first o.far_first o.from_s) ((on_segment_is p q o.near far_apart).0 o.near_first).1 o.near.positive o.far.positive
 
             high : pos 0 <ℤ reach p q v
             high = above_last t₂.n (reach p q o.far) t₂.k (reach p q u) t₂.l (reach p q v) (reach_of_two IsNotNegative p q u v o.far t₂) t₂.positive far_reach t₂.k_allowed h t₂.l_allowed
@@ -280,7 +272,7 @@ module _ (p q u v : Fraction) (o : OverlapAlong p q u v) where
             }
 
             no_reach : reach p q z ≡ pos 0
-            no_reach = one_time (reach p q z) (reach_of_two IsNotNegative p q u v z t ∙ lib.IntN.+ℤ_comm (reach p q v *ℤ reach p q u) (neg_ℤ (reach p q u) *ℤ reach p q v) ∙ own_line (reach p q v) (reach p q u))
+            no_reach = one_time (reach p q z) (reach_of_two IsNotNegative p q u v z t ∙ lib.IntN.+ℤ_comm (reach p q v *ℤ reach p q u) (neg_ℤ (reach p q u) *ℤ reach p q v) ∙ balanced (reach p q v) (reach p q u))
 
             no_turn : bracket (vec p) (vec q) (vec z) ≡ pos 0
             no_turn = one_time (bracket (vec p) (vec q) (vec z)) (bracket_of_two IsNotNegative (vec p) (vec q) u v z t ∙ sum_of_zeros _ _ (zero-mul_ℤ (reach p q v) on_line) (zero-mul_ℤ (neg_ℤ (reach p q u)) on_line_last))
@@ -300,7 +292,7 @@ module _ (p q u v : Fraction) (o : OverlapAlong p q u v) where
     first_on = (on_segment_is p q u far_apart).1 (on_line, weak past_start, still_before (reach p q u) (reach p q o.near) u.w o.near.w q.w (reach p q q) (not_before o.near o.near_second) ((on_segment_is p q o.near far_apart).0 o.near_first).2 o.near.positive u.positive q.positive)
 
     pub none_sooner : (r : Fraction) → OnSegment p q r → OnSegment u v r → ¬ IsNearer p r u
-    none_sooner r h i near = not_less _ _ (not_before r i) (reach_less p q far_apart r u h first_on near)
+    none_sooner r h i near = at_most_and_more _ _ (not_before r i) (reach_less p q far_apart r u h first_on near)
 
 -- ---- three points of a line in order: the one in the middle is within the segment of the others
 middle_part : (s uc vc rx ry rz xc yc zc xw yw zw l vw uw : ℤ) → s ≡ l *ℤ uw → s *ℤ xc ≡ (l *ℤ xw -ℤ rx *ℤ vw) *ℤ uc +ℤ (rx *ℤ uw) *ℤ vc → s *ℤ yc ≡ (l *ℤ yw -ℤ ry *ℤ vw) *ℤ uc +ℤ (ry *ℤ uw) *ℤ vc → s *ℤ zc ≡ (l *ℤ zw -ℤ rz *ℤ vw) *ℤ uc +ℤ (rz *ℤ uw) *ℤ vc

@@ -14,8 +14,9 @@ use Rattle.plane.proofs.IntegerOrder.{mul-pos_ℤ, mul-nonneg_ℤ, lt_or_ge_ℤ,
 use Rattle.plane_delaunay.proofs.Bracket.{bracket, cramer, cramer-w}
 use Rattle.plane_delaunay.proofs.Nudges.{nudge, bracket-nudge, Closed}
 use Rattle.plane_delaunay.proofs.Faces.{Tiling, Between, between-on, between-closed, side_not_inside, none_within, StartsFrom, Germ, germ, germ-turned, germ-closed, corner_2}
-use Rattle.plane_delaunay.proofs.Across.{one_right, IsClear, sides_same}
+use Rattle.plane_delaunay.proofs.Across.{IsClear, sides_same}
 use Rattle.plane.specs.Fraction.{Fraction}
+use Rattle.plane.proofs.Signs.{not_positive_or_positive, times_one}
 
 -- ---- numbers
 corner_sum : (d x p u r v q w n k a l b : ℤ) → d *ℤ x ≡ p *ℤ u +ℤ r *ℤ v +ℤ q *ℤ w → n *ℤ x ≡ k *ℤ a +ℤ l *ℤ b → p ≡ pos 0 → q ≡ pos 0 → n *ℤ r *ℤ v ≡ d *ℤ k *ℤ a +ℤ d *ℤ l *ℤ b
@@ -25,7 +26,7 @@ corner_sum d x p u r v q w n k a l b e₁ e₂ e₃ e₄ = ring_in_from (d ∷ x
     (e₁, (e₂, (e₃, (e₄, tt)))) tt
 
 above_weight : (d x p u r v q w : ℤ) → d *ℤ x ≡ p *ℤ u +ℤ r *ℤ v +ℤ q *ℤ w → p ≡ pos 0 → q ≡ pos 0 → v ≡ pos 1 → pos 0 <ℤ d → pos 0 <ℤ x → pos 0 <ℤ r
-above_weight d x p u r v q w e i j o h k = let a = product_zero_left u i in let b = product_zero_left w j in let c = one_right r v o in let f = mul-pos_ℤ {a = d} {b = x} h k in omega (arith, ints)
+above_weight d x p u r v q w e i j o h k = let a = product_zero_left u i in let b = product_zero_left w j in let c = times_one r v o in let f = mul-pos_ℤ {a = d} {b = x} h k in omega (arith, ints)
 
 one_each : (t x y : ℤ) → t ≡ pos 1 *ℤ x +ℤ y → pos 1 *ℤ t ≡ pos 1 *ℤ x +ℤ pos 1 *ℤ y
 one_each t x y e = omega (arith, ints)
@@ -86,9 +87,6 @@ exit s₁ t₁ s₂ t₂ s₃ t₃ h₁ h₂ h₃ = go (lt_or_ge_ℤ t₁ (pos 0
     three k₁ k₂ k₃ (inl a) b c (inl d) (inr e) = by_third k₃ e (turned_way s₂ t₂ s₃ t₃ (weak_right d))
     three k₁ k₂ k₃ (inl a) b c (inl d) (inl e) = absurd (no_round_right t₁ t₂ t₃ _ _ _ k₁ k₂ k₃ (round_way s₁ t₁ s₂ t₂ s₃ t₃) a d e)
 
-    weakly : (z : ℤ) → (z ≤ℤ pos 0) ⊎ (pos 0 <ℤ z)
-    weakly z = elim (sign z) [ below s ↦ inl (weak_right s) | none s ↦ inl (omega (arith, ints)) | above s ↦ inr s ]
-
     go : (t₁ <ℤ pos 0) ⊎ (pos 0 ≤ℤ t₁) → (t₂ <ℤ pos 0) ⊎ (pos 0 ≤ℤ t₂) → (t₃ <ℤ pos 0) ⊎ (pos 0 ≤ℤ t₃) → Exit s₁ t₁ s₂ t₂ s₃ t₃
     go (inr a) (inr b) (inr c) = stays a b c
     go (inl a) (inr b) (inr c) = by_first a (ahead s₁ t₁ s₂ t₂ h₁ a h₂ b) (ahead s₁ t₁ s₃ t₃ h₁ a h₃ c)
@@ -109,7 +107,7 @@ exit s₁ t₁ s₂ t₂ s₃ t₃ h₁ h₂ h₃ = go (lt_or_ge_ℤ t₁ (pos 0
         two : ((s₃ *ℤ t₁ -ℤ t₃ *ℤ s₁) <ℤ pos 0) ⊎ (pos 0 ≤ℤ (s₃ *ℤ t₁ -ℤ t₃ *ℤ s₁)) → Exit s₁ t₁ s₂ t₂ s₃ t₃
         two (inr d) = by_third c d (ahead s₃ t₃ s₂ t₂ h₃ c h₂ b)
         two (inl d) = by_first a (ahead s₁ t₁ s₂ t₂ h₁ a h₂ b) (turned_way s₃ t₃ s₁ t₁ (weak_right d))
-    go (inl a) (inl b) (inl c) = three a b c (lt_or_ge_ℤ (s₁ *ℤ t₂ -ℤ t₁ *ℤ s₂) (pos 0)) (weakly (s₂ *ℤ t₃ -ℤ t₂ *ℤ s₃)) (weakly (s₃ *ℤ t₁ -ℤ t₃ *ℤ s₁)) (lt_or_ge_ℤ (s₂ *ℤ t₃ -ℤ t₂ *ℤ s₃) (pos 0)) (lt_or_ge_ℤ (s₃ *ℤ t₁ -ℤ t₃ *ℤ s₁) (pos 0))
+    go (inl a) (inl b) (inl c) = three a b c (lt_or_ge_ℤ (s₁ *ℤ t₂ -ℤ t₁ *ℤ s₂) (pos 0)) (not_positive_or_positive (s₂ *ℤ t₃ -ℤ t₂ *ℤ s₃)) (not_positive_or_positive (s₃ *ℤ t₁ -ℤ t₃ *ℤ s₁)) (lt_or_ge_ℤ (s₂ *ℤ t₃ -ℤ t₂ *ℤ s₃) (pos 0)) (lt_or_ge_ℤ (s₃ *ℤ t₁ -ℤ t₃ *ℤ s₁) (pos 0))
 
 module _ (T : Tiling) where
   open T use {at, IsVertex, IsFace, InHull}

@@ -8,13 +8,11 @@ use Rattle.plane.proofs.Solver.{num, ◌⊕◌, ◌⊖◌, ◌⊗◌, ⊝, ring_
 use Rattle.plane.proofs.Steps.{weak, zero_or_left}
 use Rattle.plane.proofs.IntegerOrder.{mul-pos_ℤ, mul-nonneg_ℤ, nonneg_of_mul-nonneg_ℤ, square-nonneg_ℤ, lt_or_ge_ℤ}
 use Rattle.plane.proofs.Means.{TwoWeights, mean_of_two, two_weights}
-use Rattle.plane_delaunay.proofs.Numbers.{sum_weak}
-use Rattle.plane_delaunay.proofs.Regions.{difference_least, least_difference}
 use Rattle.plane.specs.Fraction.{Point, Fraction, whole, IsNotNegative, OnSegment}
 use Rattle.plane.specs.Circle.{gap}
 use Rattle.plane.specs.Shape.{InClosedCircle}
 use Rattle.plane_delaunay.specs.EdgeTests.{distance_2, factor, MeetsCircle, HasPointIn}
-use Rattle.plane.proofs.Signs.{one_times_sum}
+use Rattle.plane.proofs.Signs.{one_times_sum, at_most_by_difference, difference_not_negative_from, sum_not_negative_of}
 
 -- ---- from the numbers to a point
 -- an end
@@ -44,7 +42,7 @@ module _ (c : Point) (r : ℤ) (p q : Point) where
 
   foot_on : (h : pos 0 <ℤ len) → pos 0 ≤ℤ f → f ≤ℤ len → OnSegment (whole p) (whole q) (foot h)
   unfolding foot
-  foot_on h i j = mean_of_two IsNotNegative (whole p) (whole q) (foot h) (record { k = len -ℤ f; l = f; n = pos 1; k_allowed = difference_least len f j; l_allowed = i; positive = record { lt = tt }; x = one_times_sum ((len -ℤ f) *ℤ p.x) (f *ℤ q.x); y = one_times_sum ((len -ℤ f) *ℤ p.y) (f *ℤ q.y); w = all len f })
+  foot_on h i j = mean_of_two IsNotNegative (whole p) (whole q) (foot h) (record { k = len -ℤ f; l = f; n = pos 1; k_allowed = difference_not_negative_from len f j; l_allowed = i; positive = record { lt = tt }; x = one_times_sum ((len -ℤ f) *ℤ p.x) (f *ℤ q.x); y = one_times_sum ((len -ℤ f) *ℤ p.y) (f *ℤ q.y); w = all len f })
     where
       all : (l f : ℤ) → pos 1 *ℤ l ≡ (l -ℤ f) *ℤ pos 1 +ℤ f *ℤ pos 1
       all l f = omega (arith, ints)
@@ -67,7 +65,7 @@ module _ (c : Point) (r : ℤ) (p q : Point) where
 
   foot_in : (h : pos 0 <ℤ len) → (d *ℤ len -ℤ f *ℤ f) ≤ℤ (r *ℤ len) → InClosedCircle c r (foot h)
   unfolding foot
-  foot_in h i = record { near = subst (λ z. z ≤ℤ (r *ℤ (len *ℤ len))) (sym (foot_gap h)) (least_difference (r *ℤ (len *ℤ len)) (len *ℤ (d *ℤ len -ℤ f *ℤ f)) (subst (λ z. pos 0 ≤ℤ z) (spread len r (d *ℤ len -ℤ f *ℤ f)) (mul-nonneg_ℤ {a = len} {b = r *ℤ len -ℤ (d *ℤ len -ℤ f *ℤ f)} (weak h) (difference_least _ _ i)))) }
+  foot_in h i = record { near = subst (λ z. z ≤ℤ (r *ℤ (len *ℤ len))) (sym (foot_gap h)) (at_most_by_difference (r *ℤ (len *ℤ len)) (len *ℤ (d *ℤ len -ℤ f *ℤ f)) (subst (λ z. pos 0 ≤ℤ z) (spread len r (d *ℤ len -ℤ f *ℤ f)) (mul-nonneg_ℤ {a = len} {b = r *ℤ len -ℤ (d *ℤ len -ℤ f *ℤ f)} (weak h) (difference_not_negative_from _ _ i)))) }
     where
       spread : (l r s : ℤ) → l *ℤ (r *ℤ l -ℤ s) ≡ r *ℤ (l *ℤ l) -ℤ l *ℤ s
       spread l r s = ring_in (l ∷ r ∷ s ∷ []) (λ l r s. l ⊗ (r ⊗ l ⊖ s)) (λ l r s. r ⊗ (l ⊗ l) ⊖ l ⊗ s) tt
@@ -106,7 +104,7 @@ module _ (c : Point) (r : ℤ) (p q : Point) where
         (m.x, (m.y, (m.w, tt))) tt
 
     room_least : pos 0 ≤ℤ room
-    room_least = subst (λ z. pos 0 ≤ℤ z) room_is (mul-nonneg_ℤ {a = m.n *ℤ m.n} {b = r *ℤ (x.w *ℤ x.w) -ℤ gap (whole c) x} (weak (mul-pos_ℤ m.positive m.positive)) (difference_least _ _ near.near))
+    room_least = subst (λ z. pos 0 ≤ℤ z) room_is (mul-nonneg_ℤ {a = m.n *ℤ m.n} {b = r *ℤ (x.w *ℤ x.w) -ℤ gap (whole c) x} (weak (mul-pos_ℤ m.positive m.positive)) (difference_not_negative_from _ _ near.near))
 
     s_above : pos 0 <ℤ s
     unfolding s
@@ -120,13 +118,13 @@ module _ (c : Point) (r : ℤ) (p q : Point) where
 
     len_least : pos 0 ≤ℤ len
     unfolding len
-    len_least = sum_weak (square-nonneg_ℤ (q.x -ℤ p.x)) (square-nonneg_ℤ (q.y -ℤ p.y))
+    len_least = sum_not_negative_of (square-nonneg_ℤ (q.x -ℤ p.x)) (square-nonneg_ℤ (q.y -ℤ p.y))
 
     -- ss (r - d) = room - 2 s l f + l l len
     by_first : f ≤ℤ pos 0 → d ≤ℤ r
     unfolding room
-    by_first h = least_difference r d (nonneg_of_mul-nonneg_ℤ {k = s *ℤ s} {x = r -ℤ d} square_above (subst (λ z. pos 0 ≤ℤ z) (sum r s d m.l f len)
-        (sum_weak (sum_weak room_least (mul-nonneg_ℤ {a = pos 2 *ℤ s} {b = m.l *ℤ (pos 0 -ℤ f)} (mul-nonneg_ℤ {a = pos 2} {b = s} (record { le = tt }) (weak s_above)) (mul-nonneg_ℤ {a = m.l} {b = pos 0 -ℤ f} m.l_allowed (difference_least (pos 0) f h)))) (mul-nonneg_ℤ {a = m.l *ℤ m.l} {b = len} (square-nonneg_ℤ m.l) len_least))))
+    by_first h = at_most_by_difference r d (nonneg_of_mul-nonneg_ℤ {k = s *ℤ s} {x = r -ℤ d} square_above (subst (λ z. pos 0 ≤ℤ z) (sum r s d m.l f len)
+        (sum_not_negative_of (sum_not_negative_of room_least (mul-nonneg_ℤ {a = pos 2 *ℤ s} {b = m.l *ℤ (pos 0 -ℤ f)} (mul-nonneg_ℤ {a = pos 2} {b = s} (record { le = tt }) (weak s_above)) (mul-nonneg_ℤ {a = m.l} {b = pos 0 -ℤ f} m.l_allowed (difference_not_negative_from (pos 0) f h)))) (mul-nonneg_ℤ {a = m.l *ℤ m.l} {b = len} (square-nonneg_ℤ m.l) len_least))))
       where
         sum : (r s d l f e : ℤ) → (r *ℤ (s *ℤ s) -ℤ (s *ℤ s *ℤ d -ℤ pos 2 *ℤ (s *ℤ l *ℤ f) +ℤ l *ℤ l *ℤ e)) +ℤ pos 2 *ℤ s *ℤ (l *ℤ (pos 0 -ℤ f)) +ℤ l *ℤ l *ℤ e ≡ s *ℤ s *ℤ (r -ℤ d)
         sum r s d l f e = ring_in (r ∷ s ∷ d ∷ l ∷ f ∷ e ∷ []) (λ r s d l f e. (r ⊗ (s ⊗ s) ⊖ (s ⊗ s ⊗ d ⊖ num 2 ⊗ (s ⊗ l ⊗ f) ⊕ l ⊗ l ⊗ e)) ⊕ num 2 ⊗ s ⊗ (l ⊗ (num 0 ⊖ f)) ⊕ l ⊗ l ⊗ e) (λ r s d l f e. s ⊗ s ⊗ (r ⊖ d)) tt
@@ -134,9 +132,9 @@ module _ (c : Point) (r : ℤ) (p q : Point) where
     -- the squared distance of the second end is d - 2 f + len
     by_second : len ≤ℤ f → distance_2 c q ≤ℤ r
     unfolding room s
-    by_second h = least_difference r (distance_2 c q) (nonneg_of_mul-nonneg_ℤ {k = s *ℤ s} {x = r -ℤ distance_2 c q} square_above (subst (λ z. pos 0 ≤ℤ z) (sum r d m.k m.l f len (distance_2 c q) second_far)
-        (sum_weak room_least (mul-nonneg_ℤ {a = m.k} {b = pos 2 *ℤ (s *ℤ (f -ℤ len)) +ℤ len *ℤ m.k} m.k_allowed
-        (sum_weak (mul-nonneg_ℤ {a = pos 2} {b = s *ℤ (f -ℤ len)} (record { le = tt }) (mul-nonneg_ℤ {a = s} {b = f -ℤ len} (weak s_above) (difference_least f len h))) (mul-nonneg_ℤ {a = len} {b = m.k} len_least m.k_allowed))))))
+    by_second h = at_most_by_difference r (distance_2 c q) (nonneg_of_mul-nonneg_ℤ {k = s *ℤ s} {x = r -ℤ distance_2 c q} square_above (subst (λ z. pos 0 ≤ℤ z) (sum r d m.k m.l f len (distance_2 c q) second_far)
+        (sum_not_negative_of room_least (mul-nonneg_ℤ {a = m.k} {b = pos 2 *ℤ (s *ℤ (f -ℤ len)) +ℤ len *ℤ m.k} m.k_allowed
+        (sum_not_negative_of (mul-nonneg_ℤ {a = pos 2} {b = s *ℤ (f -ℤ len)} (record { le = tt }) (mul-nonneg_ℤ {a = s} {b = f -ℤ len} (weak s_above) (difference_not_negative_from f len h))) (mul-nonneg_ℤ {a = len} {b = m.k} len_least m.k_allowed))))))
       where
         sum : (r d k l f e g : ℤ) → g ≡ d -ℤ pos 2 *ℤ f +ℤ e → (r *ℤ ((k +ℤ l) *ℤ (k +ℤ l)) -ℤ ((k +ℤ l) *ℤ (k +ℤ l) *ℤ d -ℤ pos 2 *ℤ ((k +ℤ l) *ℤ l *ℤ f) +ℤ l *ℤ l *ℤ e)) +ℤ k *ℤ (pos 2 *ℤ ((k +ℤ l) *ℤ (f -ℤ e)) +ℤ e *ℤ k) ≡ (k +ℤ l) *ℤ (k +ℤ l) *ℤ (r -ℤ g)
         sum r d k l f e g o = ring_in_from (r ∷ d ∷ k ∷ l ∷ f ∷ e ∷ g ∷ [])
@@ -147,8 +145,8 @@ module _ (c : Point) (r : ℤ) (p q : Point) where
     -- ss (r len - (d len - f f)) = len room + the square of l len - s f
     by_line : pos 0 <ℤ len → (d *ℤ len -ℤ f *ℤ f) ≤ℤ (r *ℤ len)
     unfolding room
-    by_line h = least_difference (r *ℤ len) (d *ℤ len -ℤ f *ℤ f) (nonneg_of_mul-nonneg_ℤ {k = s *ℤ s} {x = r *ℤ len -ℤ (d *ℤ len -ℤ f *ℤ f)} square_above (subst (λ z. pos 0 ≤ℤ z) (sum r s d m.l f len)
-        (sum_weak (mul-nonneg_ℤ {a = len} {b = room} (weak h) room_least) (square-nonneg_ℤ (m.l *ℤ len -ℤ s *ℤ f)))))
+    by_line h = at_most_by_difference (r *ℤ len) (d *ℤ len -ℤ f *ℤ f) (nonneg_of_mul-nonneg_ℤ {k = s *ℤ s} {x = r *ℤ len -ℤ (d *ℤ len -ℤ f *ℤ f)} square_above (subst (λ z. pos 0 ≤ℤ z) (sum r s d m.l f len)
+        (sum_not_negative_of (mul-nonneg_ℤ {a = len} {b = room} (weak h) room_least) (square-nonneg_ℤ (m.l *ℤ len -ℤ s *ℤ f)))))
       where
         sum : (r s d l f e : ℤ) → e *ℤ (r *ℤ (s *ℤ s) -ℤ (s *ℤ s *ℤ d -ℤ pos 2 *ℤ (s *ℤ l *ℤ f) +ℤ l *ℤ l *ℤ e)) +ℤ (l *ℤ e -ℤ s *ℤ f) *ℤ (l *ℤ e -ℤ s *ℤ f) ≡ s *ℤ s *ℤ (r *ℤ e -ℤ (d *ℤ e -ℤ f *ℤ f))
         sum r s d l f e = ring_in (r ∷ s ∷ d ∷ l ∷ f ∷ e ∷ []) (λ r s d l f e. e ⊗ (r ⊗ (s ⊗ s) ⊖ (s ⊗ s ⊗ d ⊖ num 2 ⊗ (s ⊗ l ⊗ f) ⊕ l ⊗ l ⊗ e)) ⊕ (l ⊗ e ⊖ s ⊗ f) ⊗ (l ⊗ e ⊖ s ⊗ f)) (λ r s d l f e. s ⊗ s ⊗ (r ⊗ e ⊖ (d ⊗ e ⊖ f ⊗ f))) tt

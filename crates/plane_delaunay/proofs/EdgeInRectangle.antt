@@ -11,15 +11,16 @@ use Rattle.plane.proofs.Steps.{weak, weak_right, right_not_above, left_not_zero,
 use Rattle.plane.proofs.IntegerOrder.{mul-pos_ℤ, mul-nonneg_ℤ, neg-pos_ℤ, lt_or_ge_ℤ}
 use Rattle.plane.proofs.Sides.{left_if, right_if, if_left, if_right}
 use Rattle.plane.proofs.Means.{TwoWeights, mean_of_two, two_weights}
-use Rattle.plane_delaunay.proofs.Numbers.{sum_weak, own_line, mix_positive}
+use Rattle.plane_delaunay.proofs.Numbers.{mix_positive}
 use Rattle.plane_delaunay.proofs.Bracket.{fraction, bracket, bracketᵖ, mixed, bracket-mixed, bracket-first, bracket-turned, bracket-swapped}
-use Rattle.plane_delaunay.proofs.Regions.{difference_least}
 use Rattle.plane_delaunay.proofs.EmptyCircles.{weights_along}
 use Rattle.plane.specs.Fraction.{Point, Fraction, whole, IsNotNegative}
 use Rattle.plane.specs.Side.{side, left, right}
 use Rattle.plane.specs.Shape.{InClosedRectangle}
 use Rattle.plane_delaunay.specs.EdgeTests.{AreCornersOn, MeetsRectangle, HasPointIn}
-use Rattle.plane.proofs.Signs.{difference_not_positive, negative_of_opposite}
+use Rattle.plane.proofs.Signs.{difference_not_positive, negative_of_opposite, difference_not_negative_from, sum_not_negative_of}
+use Rattle.plane.proofs.IntegerLaws.{neg-mul_ℤ}
+use Rattle.plane.proofs.Lines.{balanced}
 
 -- ---- how far a point is past a line across, or along
 abbrev past_x : ℤ → ℤ → Fraction → ℤ
@@ -52,12 +53,9 @@ below_all t xg yk zw kw yz yg xk gw xz e hz hyz hxg hyg hxk hyk hzw hkw hgw =
     let c = mul-nonneg_ℤ {a = yg} {b = xk *ℤ zw} hyg (mul-nonneg_ℤ {a = xk} {b = zw} hxk (weak hzw)) in
     let d = mul-nonneg_ℤ {a = gw} {b = xk *ℤ neg_ℤ yz} (weak hgw) (mul-nonneg_ℤ {a = xk} {b = neg_ℤ yz} hxk (weak (neg-pos_ℤ hyz))) in
     let o = Rattle.plane.proofs.IntegerOrder.zero-mul_ℤ (yg *ℤ kw -ℤ gw *ℤ yk) hz in
-    let s = turned xg (yk *ℤ zw) in let r = signs xg kw yz in let q = last gw xk yz in
+    let s = neg-mul_ℤ xg (yk *ℤ zw) in let r = signs xg kw yz in let q = last gw xk yz in
     omega (arith, ints)
   where
-    turned : (x y : ℤ) → neg_ℤ x *ℤ y ≡ neg_ℤ (x *ℤ y)
-    turned = Rattle.plane.proofs.IntegerLaws.neg-mul_ℤ
-
     signs : (x k y : ℤ) → neg_ℤ x *ℤ (k *ℤ neg_ℤ y) ≡ x *ℤ (k *ℤ y)
     signs x k y = ring_in (x ∷ k ∷ y ∷ []) (λ x k y. ⊝ x ⊗ (k ⊗ ⊝ y)) (λ x k y. x ⊗ (k ⊗ y)) tt
 
@@ -86,8 +84,8 @@ module _ (p q : Fraction) where
     k = u *ℤ (t.n *ℤ s.k) +ℤ v *ℤ (s.n *ℤ t.k);
     l = u *ℤ (t.n *ℤ s.l) +ℤ v *ℤ (s.n *ℤ t.l);
     n = s.n *ℤ t.n;
-    k_allowed = sum_weak (mul-nonneg_ℤ {a = u} {b = t.n *ℤ s.k} hu (mul-nonneg_ℤ {a = t.n} {b = s.k} (weak t.positive) s.k_allowed)) (mul-nonneg_ℤ {a = v} {b = s.n *ℤ t.k} hv (mul-nonneg_ℤ {a = s.n} {b = t.k} (weak s.positive) t.k_allowed));
-    l_allowed = sum_weak (mul-nonneg_ℤ {a = u} {b = t.n *ℤ s.l} hu (mul-nonneg_ℤ {a = t.n} {b = s.l} (weak t.positive) s.l_allowed)) (mul-nonneg_ℤ {a = v} {b = s.n *ℤ t.l} hv (mul-nonneg_ℤ {a = s.n} {b = t.l} (weak s.positive) t.l_allowed));
+    k_allowed = sum_not_negative_of (mul-nonneg_ℤ {a = u} {b = t.n *ℤ s.k} hu (mul-nonneg_ℤ {a = t.n} {b = s.k} (weak t.positive) s.k_allowed)) (mul-nonneg_ℤ {a = v} {b = s.n *ℤ t.k} hv (mul-nonneg_ℤ {a = s.n} {b = t.k} (weak s.positive) t.k_allowed));
+    l_allowed = sum_not_negative_of (mul-nonneg_ℤ {a = u} {b = t.n *ℤ s.l} hu (mul-nonneg_ℤ {a = t.n} {b = s.l} (weak t.positive) s.l_allowed)) (mul-nonneg_ℤ {a = v} {b = s.n *ℤ t.l} hv (mul-nonneg_ℤ {a = s.n} {b = t.l} (weak s.positive) t.l_allowed));
     positive = mul-pos_ℤ s.positive t.positive;
     x = on_sum s.n t.n s.k t.k s.l t.l a.x b.x p.x q.x u v s.x t.x;
     y = on_sum s.n t.n s.k t.k s.l t.l a.y b.y p.y q.y u v s.y t.y;
@@ -135,7 +133,7 @@ drawn {f} {f'} {g} {o} (to_second h i) = cross f' g o h i
 
 cross_none : (f : Fraction → ℤ) (linear : (k : ℤ) (a : Fraction) (m : ℤ) (b : Fraction) (h : pos 0 <ℤ (k *ℤ a.w +ℤ m *ℤ b.w)) → f (mixed k a m b h) ≡ k *ℤ f a +ℤ m *ℤ f b) (g o : Fraction) (h : f g <ℤ pos 0) (i : pos 0 ≤ℤ f o) → f (cross f g o h i) ≡ pos 0
 unfolding cross
-cross_none f linear g o h i = linear (neg_ℤ (f g)) o (f o) g _ ∙ own_line (f o) (f g)
+cross_none f linear g o h i = linear (neg_ℤ (f g)) o (f o) g _ ∙ balanced (f o) (f g)
 
 drawn_first : (f f' : Fraction → ℤ) (s : AreOpposite f f') (g o : Fraction) (d : Drawn f f' g o) → pos 0 ≤ℤ f (drawn d)
 unfolding drawn
@@ -158,8 +156,8 @@ drawn_on p q f f' g o (to_second h i) a b = on_cross p q f' g o h i a b
 drawn_keeps : (f f' h : Fraction → ℤ) (linear : (k : ℤ) (a : Fraction) (m : ℤ) (b : Fraction) (r : pos 0 <ℤ (k *ℤ a.w +ℤ m *ℤ b.w)) → h (mixed k a m b r) ≡ k *ℤ h a +ℤ m *ℤ h b) (g o : Fraction) (d : Drawn f f' g o) → pos 0 ≤ℤ h g → pos 0 ≤ℤ h o → pos 0 ≤ℤ h (drawn d)
 unfolding drawn cross
 drawn_keeps f f' h linear g o (stays r s) hg ho = hg
-drawn_keeps f f' h linear g o (to_first r i) hg ho = subst (λ z. pos 0 ≤ℤ z) (sym (linear (neg_ℤ (f g)) o (f o) g _)) (sum_weak (mul-nonneg_ℤ {a = neg_ℤ (f g)} {b = h o} (weak (neg-pos_ℤ r)) ho) (mul-nonneg_ℤ {a = f o} {b = h g} i hg))
-drawn_keeps f f' h linear g o (to_second r i) hg ho = subst (λ z. pos 0 ≤ℤ z) (sym (linear (neg_ℤ (f' g)) o (f' o) g _)) (sum_weak (mul-nonneg_ℤ {a = neg_ℤ (f' g)} {b = h o} (weak (neg-pos_ℤ r)) ho) (mul-nonneg_ℤ {a = f' o} {b = h g} i hg))
+drawn_keeps f f' h linear g o (to_first r i) hg ho = subst (λ z. pos 0 ≤ℤ z) (sym (linear (neg_ℤ (f g)) o (f o) g _)) (sum_not_negative_of (mul-nonneg_ℤ {a = neg_ℤ (f g)} {b = h o} (weak (neg-pos_ℤ r)) ho) (mul-nonneg_ℤ {a = f o} {b = h g} i hg))
+drawn_keeps f f' h linear g o (to_second r i) hg ho = subst (λ z. pos 0 ≤ℤ z) (sym (linear (neg_ℤ (f' g)) o (f' o) g _)) (sum_not_negative_of (mul-nonneg_ℤ {a = neg_ℤ (f' g)} {b = h o} (weak (neg-pos_ℤ r)) ho) (mul-nonneg_ℤ {a = f' o} {b = h g} i hg))
 
 -- ---- one side of a line
 abbrev IsUnit : ℤ → Type 0
@@ -197,7 +195,7 @@ least_end : (a x w low high : ℤ) → (low *ℤ w) ≤ℤ x → x ≤ℤ (high 
 least_end a x w low high h i = go (lt_or_ge_ℤ a (pos 0))
   where
     go : (a <ℤ pos 0) ⊎ (pos 0 ≤ℤ a) → (pos 0 ≤ℤ (a *ℤ (x -ℤ low *ℤ w))) ⊎ (pos 0 ≤ℤ (a *ℤ (x -ℤ high *ℤ w)))
-    go (inr s) = inl (mul-nonneg_ℤ {a = a} {b = x -ℤ low *ℤ w} s (difference_least x (low *ℤ w) h))
+    go (inr s) = inl (mul-nonneg_ℤ {a = a} {b = x -ℤ low *ℤ w} s (difference_not_negative_from x (low *ℤ w) h))
     go (inl s) = inr (Rattle.plane.proofs.IntegerOrder.mul-nonneg_of_nonpos_ℤ {a = a} {b = x -ℤ high *ℤ w} (weak_right s) (difference_not_positive x (high *ℤ w) i))
 
 strictly : (n z k a l b w : ℤ) → n *ℤ z ≡ k *ℤ a +ℤ l *ℤ b → n *ℤ w ≡ k *ℤ pos 1 +ℤ l *ℤ pos 1 → pos 0 <ℤ n → pos 0 <ℤ w → pos 0 ≤ℤ k → pos 0 ≤ℤ l → a <ℤ pos 0 → b <ℤ pos 0 → z <ℤ pos 0
@@ -237,7 +235,7 @@ other_way (inl h) = inr h
 other_way (inr h) = inl h
 
 wide_range : (x w low high : ℤ) → low ≤ℤ high → pos 0 <ℤ w → pos 0 ≤ℤ (pos 1 *ℤ (x -ℤ low *ℤ w) +ℤ negsuc 0 *ℤ (x -ℤ high *ℤ w))
-wide_range x w low high h i = let p = mul-nonneg_ℤ {a = high -ℤ low} {b = w} (difference_least high low h) (weak i) in let e = spread high low w in omega (arith, ints)
+wide_range x w low high h i = let p = mul-nonneg_ℤ {a = high -ℤ low} {b = w} (difference_not_negative_from high low h) (weak i) in let e = spread high low w in omega (arith, ints)
   where
     spread : (a b w : ℤ) → (a -ℤ b) *ℤ w ≡ a *ℤ w -ℤ b *ℤ w
     spread a b w = ring_in (a ∷ b ∷ w ∷ []) (λ a b w. (a ⊖ b) ⊗ w) (λ a b w. a ⊗ w ⊖ b ⊗ w) tt

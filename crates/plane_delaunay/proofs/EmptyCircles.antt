@@ -10,7 +10,7 @@ use Rattle.plane.proofs.Bracket.{vec}
 use Rattle.plane_delaunay.proofs.Numbers.{sum_above, sum_least, sum_none}
 use Rattle.plane.proofs.Steps.{weak, zero_weak_left, left_not_zero, right_not_above, left_not_below, zero_weak}
 use Rattle.plane.proofs.Solver.{num, ◌⊕◌, ◌⊖◌, ◌⊗◌, ⊝, ring_over, ring_in_from}
-use Rattle.plane.proofs.IntegerOrder.{mul-nonpos_of_nonneg_nonpos_ℤ, zero_of_mul-zero_ℤ, mul_cancel_ℤ, pos-ne-zero_ℤ, Sign, sign, below, none, above}
+use Rattle.plane.proofs.IntegerOrder.{zero_of_mul-zero_ℤ, mul_cancel_ℤ, pos-ne-zero_ℤ, Sign, sign, below, none, above}
 use Rattle.plane_delaunay.proofs.Bracket.{fraction, bracket, bracketᵖ, bracket-turned, bracket-swapped, bracket-first, bracket-second, above_if_left, left_if_above}
 use Rattle.plane_delaunay.proofs.Lift.{lift, liftᵖ, lift-turned, lift-first, lift-second, lift-third, inside_is_lift, on_is_lift}
 use Rattle.plane.proofs.Means.{TwoWeights, mean_of_two, two_weights, bracket_of_two}
@@ -27,6 +27,7 @@ use Rattle.plane.specs.Pairs.{Joins}
 use Rattle.plane.specs.Tiling.{Triangulation, Face, IsVertex, vertex, IsEdge, IsFace, HasFace, TilesHull, JoinsLine, IsTiling}
 use Rattle.plane.specs.Delaunay.{IsSeen, IsConstrainedDelaunay, IsLocallyDelaunay, IsStrictlyEmpty}
 use Rattle.plane_delaunay.specs.History.{IsVisiblyEmpty}
+use Rattle.plane.proofs.Signs.{positive_times_not_positive}
 
 abbrev pub spot : Triangulation → ℕ → Point
 spot t i = slice_index_or t.points i (record { x = pos 0; y = pos 0 })
@@ -100,9 +101,6 @@ only_zeros : (x₁ x₂ x₃ x₄ x₅ x₆ : ℤ) → (x₁ +ℤ x₂ +ℤ x₃
     → (x₁ ≡ pos 0) × (x₂ ≡ pos 0) × (x₃ ≡ pos 0) × (x₄ ≡ pos 0) × (x₅ ≡ pos 0) × (x₆ ≡ pos 0)
 only_zeros x₁ x₂ x₃ x₄ x₅ x₆ e h₁ h₂ h₃ h₄ h₅ h₆ = (omega (arith, ints), omega (arith, ints), omega (arith, ints), omega (arith, ints), omega (arith, ints), omega (arith, ints))
 
-weighted : (k x : ℤ) → pos 0 <ℤ k → x ≤ℤ pos 0 → (k *ℤ x) ≤ℤ pos 0
-weighted k x h l = mul-nonpos_of_nonneg_nonpos_ℤ {a = k} {b = x} (weak h) l
-
 unweighted : (k x : ℤ) → pos 0 <ℤ k → k *ℤ x ≡ pos 0 → x ≡ pos 0
 unweighted k x h e = zero_of_mul-zero_ℤ {k = k} {x = x} (pos-ne-zero_ℤ h) e
 
@@ -116,7 +114,7 @@ pub record OneCircle (a b c d e f : Fraction) : Type 0 where
 
 one_circle : (a b c d e f q : Fraction) → Inside a b c q → Inside d e f q → lift d e f a ≤ℤ pos 0 → lift d e f b ≤ℤ pos 0 → lift d e f c ≤ℤ pos 0 → lift a b c d ≤ℤ pos 0 → lift a b c e ≤ℤ pos 0 → lift a b c f ≤ℤ pos 0 → OneCircle a b c d e f
 one_circle a b c d e f q i j h₁ h₂ h₃ h₄ h₅ h₆ =
-    let z = only_zeros _ _ _ _ _ _ (lift-balance a b c d e f q) (weighted _ _ i.second h₁) (weighted _ _ i.third h₂) (weighted _ _ i.first h₃) (weighted _ _ j.second h₄) (weighted _ _ j.third h₅) (weighted _ _ j.first h₆) in
+    let z = only_zeros _ _ _ _ _ _ (lift-balance a b c d e f q) (positive_times_not_positive _ _ i.second h₁) (positive_times_not_positive _ _ i.third h₂) (positive_times_not_positive _ _ i.first h₃) (positive_times_not_positive _ _ j.second h₄) (positive_times_not_positive _ _ j.third h₅) (positive_times_not_positive _ _ j.first h₆) in
     record { first = unweighted _ _ i.second z.0; second = unweighted _ _ i.third z.1; third = unweighted _ _ i.first z.2; fourth = unweighted _ _ j.second z.3; fifth = unweighted _ _ j.third z.4; sixth = unweighted _ _ j.first z.5 }
 
 -- ---- the points of a segment, by brackets

@@ -7,18 +7,17 @@ use mathlib.Core.Logic.{◌⊎◌, inl, inr}
 use mathlib.Core.List.{[], ◌∷◌}
 use native.Mathlib.Omega.{arith}
 use borrow.Author.Differences.{ints}
-use Rattle.plane_delaunay.proofs.Numbers.{sum_weak}
 use Rattle.plane.proofs.Steps.{weak, weak_right, zero_weak_left, zero_weak, product_zero_left, not_right_strict, not_left_strict, right_not_zero, left_not_zero, no_difference}
 use Rattle.plane.proofs.IntegerLaws.{neg-mul_ℤ, mul-neg_ℤ}
 use Rattle.plane.proofs.Solver.{num, ◌⊕◌, ◌⊖◌, ◌⊗◌, ⊝, ring_in_from, ring_over_from}
-use Rattle.plane.proofs.IntegerOrder.{mul-pos_ℤ, mul-nonneg_ℤ, mul-neg_of_pos_neg_ℤ, mul-pos_of_neg_ℤ, square-nonneg_ℤ, lt_or_ge_ℤ, mul-eq-zero_ℤ, zero-mul_ℤ}
+use Rattle.plane.proofs.IntegerOrder.{mul-pos_ℤ, mul-nonneg_ℤ, mul-neg_of_pos_neg_ℤ, mul-pos_of_neg_ℤ, square-nonneg_ℤ, lt_or_ge_ℤ, zero-mul_ℤ}
 use Rattle.plane_delaunay.proofs.Bracket.{fraction, bracketᵖ, bracket, bracket-turned, bracket-swapped, bracket-first, bracket-second, meeting, meeting-x, meeting-y, meeting-w, cramer}
 use Rattle.plane_delaunay.proofs.Faces.{Tiling, Between, between-swapped, turned-above}
-use Rattle.plane_delaunay.proofs.Across.{one_right}
 use Rattle.plane_delaunay.proofs.Meets.{edge-swapped}
 use Rattle.plane_delaunay.proofs.Joining.{Crosses, Before, by_right, by_left, from_start, before_crossing}
 use Rattle.plane.specs.Fraction.{Fraction}
 use Rattle.plane_delaunay.proofs.Flood.{swapped_above, swapped_below}
+use Rattle.plane.proofs.Signs.{zero_of_square, times_one, sum_not_negative_of}
 
 turned_first : (a b s : Fraction) → pos 0 <ℤ bracket a b s → pos 0 <ℤ bracket s a b
 turned_first a b s h = turned-above b s a (turned-above a b s h)
@@ -58,7 +57,7 @@ on_ray : (f g v x m s n t : ℤ) → f *ℤ v -ℤ g *ℤ x ≡ m *ℤ s -ℤ n 
 on_ray f g v x m s n t e z d = let p = product_zero_left t z in let q = ap (λ i. i *ℤ s) d in omega (arith, ints)
 
 ray_weight : (f g v x m s n t : ℤ) → f *ℤ v -ℤ g *ℤ x ≡ m *ℤ s -ℤ n *ℤ t → n ≡ pos 0 → v ≡ pos 1 → x ≡ pos 1 → s ≡ pos 1 → m ≡ f -ℤ g
-ray_weight f g v x m s n t e z hv hx hs = let p = product_zero_left t z in let a = one_right f v hv in let b = one_right g x hx in let c = one_right m s hs in omega (arith, ints)
+ray_weight f g v x m s n t e z hv hx hs = let p = product_zero_left t z in let a = times_one f v hv in let b = times_one g x hx in let c = times_one m s hs in omega (arith, ints)
 
 -- the sum of two terms, one above 0
 sum_above : (d o a f b g c h : ℤ) → d *ℤ o ≡ a *ℤ f +ℤ b *ℤ g +ℤ c *ℤ h → f ≡ pos 0 → pos 0 <ℤ b → pos 0 <ℤ g → pos 0 <ℤ c → pos 0 ≤ℤ h → pos 0 <ℤ (d *ℤ o)
@@ -108,15 +107,8 @@ unfolding bracket
 same_place s t p e d o = ring_over_from fraction [] (s ∷ t ∷ p ∷ []) bracketᵖ (λ s t p. num 0)
     (λ s t p. (s.y ⊗ t.w ⊖ s.w ⊗ t.y, p.x, s.x) ∷ (s.w ⊗ t.x ⊖ s.x ⊗ t.w, p.y, s.y) ∷ (s.x ⊗ t.y ⊖ s.y ⊗ t.x, p.w, s.w) ∷ []) (e, (d, (o, tt))) tt
 
-none_of_square : (z : ℤ) → z *ℤ z ≡ pos 0 → z ≡ pos 0
-none_of_square z e = go (mul-eq-zero_ℤ z z e)
-  where
-    go : (z ≡ pos 0) ⊎ (z ≡ pos 0) → z ≡ pos 0
-    go (inl h) = h
-    go (inr h) = h
-
 far_above : (s t p : Fraction) → ¬ (bracket s t p ≡ pos 0) → p.w ≡ s.w → pos 0 <ℤ far s p
-far_above s t p n o = not_right_strict (sum_weak (square-nonneg_ℤ (p.x -ℤ s.x)) (square-nonneg_ℤ (p.y -ℤ s.y))) (λ e. n (same_place s t p (no_difference p.x s.x (none_of_square (p.x -ℤ s.x) (first _ _ (square-nonneg_ℤ (p.x -ℤ s.x)) (square-nonneg_ℤ (p.y -ℤ s.y)) e))) (no_difference p.y s.y (none_of_square (p.y -ℤ s.y) (second _ _ (square-nonneg_ℤ (p.x -ℤ s.x)) (square-nonneg_ℤ (p.y -ℤ s.y)) e))) o))
+far_above s t p n o = not_right_strict (sum_not_negative_of (square-nonneg_ℤ (p.x -ℤ s.x)) (square-nonneg_ℤ (p.y -ℤ s.y))) (λ e. n (same_place s t p (no_difference p.x s.x (zero_of_square (p.x -ℤ s.x) (first _ _ (square-nonneg_ℤ (p.x -ℤ s.x)) (square-nonneg_ℤ (p.y -ℤ s.y)) e))) (no_difference p.y s.y (zero_of_square (p.y -ℤ s.y) (second _ _ (square-nonneg_ℤ (p.x -ℤ s.x)) (square-nonneg_ℤ (p.y -ℤ s.y)) e))) o))
   where
     first : (a b : ℤ) → pos 0 ≤ℤ a → pos 0 ≤ℤ b → a +ℤ b ≡ pos 0 → a ≡ pos 0
     first a b h k e = omega (arith, ints)

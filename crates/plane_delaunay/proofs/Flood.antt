@@ -12,7 +12,7 @@ use Rattle.plane.proofs.Steps.{weak, zero_weak_left, left_not_zero, right_not_ze
 use Rattle.plane.proofs.IntegerOrder.{zero_of_mul-zero_ℤ, Sign, sign, below, none, above, zero-mul_ℤ}
 use Rattle.plane_delaunay.proofs.Bracket.{bracket, bracket-first, bracket-second, bracket-swapped, bracket-turned, pluecker}
 use Rattle.plane_delaunay.proofs.Members.{Member, member-le-sum_by}
-use Rattle.plane_delaunay.proofs.Nudges.{size, nudge, bracket-nudge, nudge-above, nudge-on, Closed}
+use Rattle.plane_delaunay.proofs.Nudges.{size, nudge, bracket-nudge, nudge-above, nudge-on, Closed, closed-turned}
 use Rattle.plane_delaunay.proofs.Faces.{Tiling, StartsFrom, Germ, germ, germ-closed, germ-turned, corner_2}
 use Rattle.plane_delaunay.proofs.Walk.{OnWay, Step, reached, leaves_first, leaves_second, leaves_third, step, separation, leave}
 use Rattle.plane_delaunay.proofs.Meets.{OnSide, IsAt, on_side-swapped, on_side_of_closed, at_here, IsEdge, edge-swapped, Shared, same, reversed, at_vertex, edges_meet, edge_outside}
@@ -331,16 +331,13 @@ module _ (T : Tiling) where
                 from (inl p) = p
                 from (inr p) = absurd (right_not_above r p.1)
 
-            turned_closed : {a b c x : Fraction} → Closed a b c x → Closed b c a x
-            turned_closed c = record { first = c.second; second = c.third; third = c.first }
-
             arrived : Closed (at i) (at j) (at k) z → Sign (bracket (at i) (at j) z) → Sign (bracket (at j) (at k) z) → Sign (bracket (at k) (at i) z) → S u v
             arrived c (below p) q r = absurd (right_not_above p c.first)
             arrived c p (below q) r = absurd (right_not_above q c.second)
             arrived c p q (below r) = absurd (right_not_above r c.third)
             arrived c (none p) q r = through_point i j u v z (inl (k, f)) s hu kz (on_side_of_closed (at i) (at j) (at k) z (T.turns i j k f) c p) oz
-            arrived c (above p) (none q) r = let o = on_side_of_closed (at j) (at k) (at i) z (T.turns j k i f₂) (turned_closed c) q in through_point j k u v z (inl (i, f₂)) (F.next i j k f s (z, kz, o)) hu kz o oz
-            arrived c (above p) (above q) (none r) = let o = on_side_of_closed (at k) (at i) (at j) z (T.turns k i j f₃) (turned_closed (turned_closed c)) r in through_point k i u v z (inl (j, f₃)) (F.last i j k f s (z, kz, o)) hu kz o oz
+            arrived c (above p) (none q) r = let o = on_side_of_closed (at j) (at k) (at i) z (T.turns j k i f₂) (closed-turned c) q in through_point j k u v z (inl (i, f₂)) (F.next i j k f s (z, kz, o)) hu kz o oz
+            arrived c (above p) (above q) (none r) = let o = on_side_of_closed (at k) (at i) (at j) z (T.turns k i j f₃) (closed-turned (closed-turned c)) r in through_point k i u v z (inl (j, f₃)) (F.last i j k f s (z, kz, o)) hu kz o oz
             arrived c (above p) (above q) (above r) = absurd (edge_outside T u v i j k z hu f oz (record { first = p; second = q; third = r }))
 
             onto : (a b c : ℕ) → IsFace a b c → (InShape a b → S a b) → (y' : Fraction) × OnWay y z y' × (bracket (at a) (at b) y' ≡ pos 0) × Closed (at a) (at b) (at c) y' × (separation T y' z < separation T y z) → S u v

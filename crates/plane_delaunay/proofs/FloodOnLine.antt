@@ -14,7 +14,7 @@ use Rattle.plane.proofs.Collinear.{place_on, place_of_start, place_of_end, same_
 use Rattle.plane.proofs.LineOrder.{IsBetween, place_within, within_places, ahead, within_if_ahead, same_if_level}
 use Rattle.plane.proofs.Decisions.{find_below, decide_within_segment}
 use Rattle.plane_delaunay.proofs.Numbers.{sum_none}
-use Rattle.plane_delaunay.proofs.NearestOnLine.{abs_less}
+pub use Rattle.plane.proofs.Indexes.{turned_join}
 use Rattle.plane_delaunay.proofs.EmptyCircles.{no_face}
 use Rattle.plane_delaunay.proofs.LineItems.{turned_segment}
 use Rattle.plane_delaunay.proofs.Regions.{region_convex, above_line, below_line}
@@ -24,12 +24,10 @@ use Rattle.plane.specs.Tiling.{Triangulation, IsVertex, vertex, IsEdge, AreNeigh
 use Rattle.plane.specs.Location.{Location, on_vertex, on_edge, on_face, outside_hull, no_triangulation, IsLocation}
 use Rattle.plane.specs.Shape.{IsEdgeIn}
 use Rattle.plane_delaunay.specs.Flood.{Region, InRegion, HasStart, IsFloodedByVertices}
-use Rattle.plane.proofs.Signs.{at_most_through, at_most_times_one, less_is_not_same, same_is_at_most}
+use Rattle.plane.proofs.Signs.{at_most_through, at_most_times_one, less_is_not_same, same_is_at_most, magnitude_below}
+use Rattle.plane.proofs.Indexes.{one_below}
 
 -- ---- either way round
-pub turned_join : (pairs : List (ℕ × ℕ)) (i j : ℕ) → Joins pairs i j → Joins pairs j i
-turned_join pairs i j (inl s) = inr s
-turned_join pairs i j (inr s) = inl s
 
 -- an edge in a shape
 pub turned_edge : (t : Triangulation) (Shape : Fraction → Type 0) (k n : ℕ) → IsEdgeIn Shape t k n → IsEdgeIn Shape t n k
@@ -56,10 +54,10 @@ between_up x y z l (inr b) = absurd (omega (arith, ints, b.0, b.1))
 
 -- the way between two numbers, in two parts
 first_part : (m : ℕ) (x y z : ℤ) → x <ℤ z → z <ℤ y → nat_abs (y -ℤ x) < suc m → nat_abs (z -ℤ x) < m
-first_part m x y z h k n = abs_less m (z -ℤ x) (y -ℤ x) (omega (arith, ints)) (omega (arith, ints)) n
+first_part m x y z h k n = magnitude_below m (z -ℤ x) (y -ℤ x) (omega (arith, ints)) (omega (arith, ints)) n
 
 second_part : (m : ℕ) (x y z : ℤ) → x <ℤ z → z <ℤ y → nat_abs (y -ℤ x) < suc m → nat_abs (y -ℤ z) < m
-second_part m x y z h k n = abs_less m (y -ℤ z) (y -ℤ x) (omega (arith, ints)) (omega (arith, ints)) n
+second_part m x y z h k n = magnitude_below m (y -ℤ z) (y -ℤ x) (omega (arith, ints)) (omega (arith, ints)) n
 
 next_number : (m : ℕ) → m < suc m
 next_number m = omega arith
@@ -350,7 +348,4 @@ module _ (t : Triangulation) (h : JoinsLine t) where
   flood_starts_on_line region c kc k n e no_triangulation l = absurd (few ((h.neighbours k n).0 e.0))
     where
       few : AreNeighbours t k n → ⊥
-      few o = o.apart (one k n (length t.points) o.first o.second l.0)
-        where
-          one : (a b m : ℕ) → a < m → b < m → m ≤ 1 → a ≡ b
-          one a b m p q r = omega arith
+      few o = o.apart (one_below k n (length t.points) o.first o.second l.0)

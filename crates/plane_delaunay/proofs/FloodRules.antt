@@ -23,6 +23,7 @@ use Rattle.plane.specs.Location.{Location, on_vertex, on_edge, on_face, outside_
 use Rattle.plane.specs.Shape.{IsVertexIn, IsEdgeIn}
 use Rattle.plane_delaunay.specs.Flood.{Region, circle, rectangle, InRegion, IsFlooded, IsFloodedByVertices, IsFloodedAround, HasStart, start_point, IsTried}
 use Rattle.plane.proofs.Signs.{at_most_times_one}
+use Rattle.plane.proofs.Indexes.{one_below}
 
 radius_least : (g r w : ℤ) → pos 0 ≤ℤ g → g ≤ℤ (r *ℤ (w *ℤ w)) → pos 0 <ℤ w → pos 0 ≤ℤ r
 radius_least g r w h k p = nonneg_of_mul-nonneg_ℤ {k = w *ℤ w} {x = r} (mul-pos_ℤ p p) (let e = *ℤ_comm (w *ℤ w) r in omega (arith, ints))
@@ -103,12 +104,9 @@ one_vertex_is_alone t h few = (no_edge h, λ i hi. first i (length t.points) hi 
     first : (i n : ℕ) → i < n → n ≤ 1 → i ≡ 0
     first i n p q = omega arith
 
-    one : (i j n : ℕ) → i < n → j < n → n ≤ 1 → i ≡ j
-    one i j n p q r = omega arith
-
     no_edge : IsTiling t → (i j : ℕ) → ¬ IsEdge t i j
     no_edge (inl h) i j e = not_few t h (rectangle (point_at t 0) (point_at t 0)) few
-    no_edge (inr h) i j e = let o = (h.neighbours i j).0 e in o.apart (one i j (length t.points) o.first o.second few)
+    no_edge (inr h) i j e = let o = (h.neighbours i j).0 e in o.apart (one_below i j (length t.points) o.first o.second few)
 
 -- ---- the exact start
 pub start_is_exact : (t : Triangulation) → IsTiling t → (region : Region) (m : Location) → IsLocation t (whole (start_point region)) m

@@ -1,6 +1,6 @@
 -- Where a flood starts: beside a point of a convex set, inside a face or beyond an outer edge, is an edge that meets the set, if any edge does.
 use Prim.Native.Nat.{ℕ, zero, suc, ◌<◌}
-use lib.IntN.{ℤ, pos, ◌+ℤ◌, ◌-ℤ◌, ◌*ℤ◌, neg_ℤ}
+use lib.IntN.{ℤ, pos, ◌+ℤ◌, ◌*ℤ◌, neg_ℤ}
 use lib.Signed.{◌<ℤ◌, ◌≤ℤ◌}
 use mathlib.Core.Path.{◌≡◌, sym, ◌∙◌, ap, subst}
 use mathlib.Core.Logic.{◌⊎◌, inl, inr}
@@ -9,8 +9,8 @@ use native.Mathlib.Omega.{arith}
 use borrow.Author.Differences.{ints}
 use Rattle.plane.proofs.Solver.{◌⊕◌, ◌⊗◌, ring_in_from}
 use Rattle.plane.proofs.Steps.{weak, left_not_zero, zero_or_left, zero_weak_left, product_zero_left, sum_first}
-use Rattle.plane.proofs.IntegerOrder.{mul-pos_ℤ, mul-nonneg_ℤ, zero_of_mul-zero_ℤ, pos-ne-zero_ℤ, lt_or_ge_ℤ, neg-pos_ℤ, zero-mul_ℤ, below, above}
-use Rattle.plane_delaunay.proofs.Numbers.{less_again, own_line, mix_positive}
+use Rattle.plane.proofs.IntegerOrder.{mul-pos_ℤ, mul-nonneg_ℤ, zero_of_mul-zero_ℤ, pos-ne-zero_ℤ, lt_or_ge_ℤ, neg-pos_ℤ, zero-mul_ℤ}
+use Rattle.plane_delaunay.proofs.Numbers.{less_again, mix_positive}
 use Rattle.plane_delaunay.proofs.Bracket.{bracket, bracket-swapped, bracket-mixed, mixed, cramer, cramer-w}
 use Rattle.plane_delaunay.proofs.Nudges.{Closed, Inside, closed_of_inside, closed-turned}
 use Rattle.plane_delaunay.proofs.Faces.{Tiling, corner_2}
@@ -21,6 +21,7 @@ use Rattle.plane_delaunay.proofs.Where.{IsBeyond, IsCovered, covered_or_beyond, 
 use Rattle.plane_delaunay.proofs.Flood.{on_side-first}
 use Rattle.plane.specs.Fraction.{Fraction}
 use Rattle.plane.proofs.Signs.{last_of_three}
+use Rattle.plane.proofs.Lines.{balanced}
 
 -- ---- numbers
 -- three numbers that are not below 0 and sum to 0
@@ -233,7 +234,7 @@ module _ (T : Tiling) where
                 on = bracket-mixed (at o.a) (at o.b) s c r x positive ∙ turned_line s (bracket (at o.a) (at o.b) c)
                   where
                     turned_line : (s t : ℤ) → s *ℤ t +ℤ neg_ℤ t *ℤ s ≡ pos 0
-                    turned_line s t = lib.IntN.+ℤ_comm (s *ℤ t) (neg_ℤ t *ℤ s) ∙ own_line s t
+                    turned_line s t = lib.IntN.+ℤ_comm (s *ℤ t) (neg_ℤ t *ℤ s) ∙ balanced s t
 
                 ky : K y
                 ky = mean c x y way kc kx

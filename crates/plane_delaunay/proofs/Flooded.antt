@@ -102,16 +102,17 @@ module _ (K : Fraction → Type 0) (convex : IsConvex K) where
   at_place : (v x : Fraction) → IsAt v x → K x → K v
   at_place v x i kx = convex x x v kx kx (segment_from i.k i.n (pos 0) x x v i.k_above (weak i.n_above) (record { le = tt }) (λ s u. same_plus_no_part _ _ (bracket s u x) (i.along s u)))
 
+-- an edge of a triangulation is one of its tiling
+pub edge_of : (t : Triangulation) (h : TilesHull t) (i j : ℕ) → D.IsEdge t i j → IsEdge (tiling t h) i j
+unfolding tiling
+edge_of t h i j e = (h.sides i j).0 e
+
 module _ (t : Triangulation) (h : TilesHull t) (region : Region) where
   abbrev K : Fraction → Type 0
   K = InRegion region
 
   convex : IsConvex K
   convex = region_convex region
-
-  edge_of : (i j : ℕ) → D.IsEdge t i j → IsEdge (tiling t h) i j
-  unfolding tiling
-  edge_of i j e = (h.sides i j).0 e
 
   is_edge : (i j : ℕ) → IsEdge (tiling t h) i j → D.IsEdge t i j
   unfolding tiling
@@ -141,7 +142,7 @@ module _ (t : Triangulation) (h : TilesHull t) (region : Region) where
 
   pub flood_finds_region : (found : List (ℕ × ℕ)) → F.IsFlooded t region found → (i j k n : ℕ) → Joins found i j → IsEdgeIn K t i j → IsEdgeIn K t k n → Joins found k n
   unfolding tiling
-  flood_finds_region found g i j k n s e d = flood_finds (tiling t h) K (on_way K convex) (at_place K convex) (λ i j. Joins found i j) (flooded found g) i j k n (edge_of i j e.0) s (met i j e) (edge_of k n d.0) (met k n d)
+  flood_finds_region found g i j k n s e d = flood_finds (tiling t h) K (on_way K convex) (at_place K convex) (λ i j. Joins found i j) (flooded found g) i j k n (edge_of t h i j e.0) s (met i j e) (edge_of t h k n d.0) (met k n d)
 
   -- ---- where it starts
   outer_edge : (k n : ℕ) (c : Fraction) → K c → IsBeyond (tiling t h) c → IsEdgeIn K t k n → (i j : ℕ) × IsOuter t i j × IsEdgeIn K t i j
@@ -149,7 +150,7 @@ module _ (t : Triangulation) (h : TilesHull t) (region : Region) where
   outer_edge k n c kc o e = go (border_of_outside (tiling t h) K (on_way K convex) (met k n e).0 (met k n e).1 c covered kc o)
     where
       covered : IsCovered (tiling t h) (met k n e).0
-      covered = over (edge_of k n e.0)
+      covered = over (edge_of t h k n e.0)
         where
           x : Fraction
           x = (met k n e).0
@@ -169,7 +170,7 @@ module _ (t : Triangulation) (h : TilesHull t) (region : Region) where
 
   start_inside : (i j k u v : ℕ) (c : Fraction) → K c → IsEdgeIn K t u v → IsFace t i j k → InsideTriangle (vertex t i) (vertex t j) (vertex t k) c → HasStart t region (on_face i j k)
   unfolding tiling
-  start_inside i j k u v c kc e f inside = go (side_of_inside (tiling t h) K (on_way K convex) (met u v e).0 (met u v e).1 i j k u v c f (inside_of _ _ _ c (h.turning i j k f) inside) kc (edge_of u v e.0) (met u v e).2)
+  start_inside i j k u v c kc e f inside = go (side_of_inside (tiling t h) K (on_way K convex) (met u v e).0 (met u v e).1 i j k u v c f (inside_of _ _ _ c (h.turning i j k f) inside) kc (edge_of t h u v e.0) (met u v e).2)
     where
       Meets : ℕ → ℕ → Type 0
       Meets i j = (x : Fraction) × K x × OnSide (vertex t i) (vertex t j) x

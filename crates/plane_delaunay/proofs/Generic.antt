@@ -9,7 +9,7 @@ use native.Mathlib.Omega.{arith}
 use borrow.Author.Differences.{ints}
 use Rattle.std.specs.Prelude.{sum_by}
 use Rattle.std.proofs.lemmas.List.Sums.{sum_by-cons}
-use Rattle.plane_delaunay.proofs.Numbers.{swapped_sum, own_line, mix_positive}
+use Rattle.plane_delaunay.proofs.Numbers.{swapped_sum, mix_positive}
 use Rattle.plane.proofs.Steps.{weak, weak_right, zero_weak_left, zero_weak, left_not_zero, right_not_zero}
 use Rattle.plane.proofs.IntegerLaws.{neg-mul_ℤ}
 use Rattle.plane.proofs.Solver.{◌⊖◌, ◌⊗◌, ring_over_from}
@@ -24,6 +24,7 @@ use Rattle.plane.specs.Fraction.{Fraction, IsSame, IsNotNegative}
 use Rattle.plane.proofs.Signs.{negated_not_negative, one_times_sum}
 use Rattle.plane_delaunay.proofs.Flood.{swapped_above, swapped_below}
 use Rattle.plane_delaunay.proofs.Faces.{turned-above}
+use Rattle.plane.proofs.Lines.{balanced}
 
 abbrev pub AllLeft : List (Fraction × Fraction) → Fraction → Type 0
 AllLeft [] q = Unit {0}
@@ -148,7 +149,7 @@ open_from_right a b p q right free = go (lt_or_ge_ℤ (bracket a b q) (pos 0))
               y = met_sum (bracket a b q) (bracket a b p) p.y q.y (bracket q p b) a.y (bracket q p a) b.y (meeting-y a b p q);
               w = met_sum (bracket a b q) (bracket a b p) p.w q.w (bracket q p b) a.w (bracket q p a) b.w (meeting-w a b p q);
             }) in
-            let on : bracket a b y ≡ pos 0 = bracket-mixed a b (neg_ℤ (bracket a b p)) q (bracket a b q) p positive ∙ own_line (bracket a b q) (bracket a b p) in
+            let on : bracket a b y ≡ pos 0 = bracket-mixed a b (neg_ℤ (bracket a b p)) q (bracket a b q) p positive ∙ balanced (bracket a b q) (bracket a b p) in
             absurd (right_not_zero right (zero_of_mul-zero_ℤ {k = y.w} {x = bracket a b p} (pos-ne-zero_ℤ positive) (sym (same_bracket a b y p same) ∙ zero-mul_ℤ p.w on)))
 
         cannot : pos 0 ≤ℤ bracket q p a → bracket q p b ≤ℤ pos 0 → IsOpen a b p q

@@ -3,13 +3,13 @@ use Rattle.std.proofs.Common.{◌≡◌, ℕ, zero, suc, ◌<◌, List, [], ◌�
 use Rattle.std.specs.Prelude.{ℤ, pos, ◌≤ℤ◌, ◌*ℤ◌, ◌+ℤ◌, All}
 use Rattle.std.proofs.lemmas.List.Elements.{All-cons, All-nil, All-head, All-tail}
 use Rattle.std.proofs.lemmas.Int.{ints}
-use Rattle.plane_delaunay.proofs.Numbers.{sum_weak}
 use Rattle.plane.proofs.Steps.{weak}
 use Rattle.plane.proofs.Solver.{num, ◌⊕◌, ◌⊗◌, ring_in, ring_in_from}
 use Rattle.plane.proofs.IntegerOrder.{mul-pos_ℤ, mul-nonneg_ℤ}
 use Rattle.plane_delaunay.proofs.Nudges.{nudge}
 use Rattle.plane.proofs.Means.{ThreeWeights}
 use Rattle.plane.specs.Fraction.{Fraction, IsNotNegative, InHull, weighted_sum}
+use Rattle.plane.proofs.Signs.{sum_not_negative_of}
 
 abbrev zeros : List Fraction → List ℤ
 zeros [] = []
@@ -104,7 +104,7 @@ blend_allowed : (m n : ℤ) (ks ls : List ℤ) → pos 0 ≤ℤ m → pos 0 ≤�
 blend_allowed m n [] ls hm hn h k = All-nil IsNotNegative
 blend_allowed m n (a ∷ ks) [] hm hn h k = All-nil IsNotNegative
 blend_allowed m n (a ∷ ks) (b ∷ ls) hm hn h k = All-cons IsNotNegative (m *ℤ a +ℤ n *ℤ b) (blend m n ks ls)
-    (sum_weak (mul-nonneg_ℤ {a = m} {b = a} hm (All-head IsNotNegative a ks h)) (mul-nonneg_ℤ {a = n} {b = b} hn (All-head IsNotNegative b ls k)))
+    (sum_not_negative_of (mul-nonneg_ℤ {a = m} {b = a} hm (All-head IsNotNegative a ks h)) (mul-nonneg_ℤ {a = n} {b = b} hn (All-head IsNotNegative b ls k)))
     (blend_allowed m n ks ls hm hn (All-tail IsNotNegative a ks h) (All-tail IsNotNegative b ls k))
 
 scaled_sum : (s r n p q a b : ℤ) → s *ℤ p ≡ a → r *ℤ q ≡ b → s *ℤ r *ℤ (n *ℤ p +ℤ pos 1 *ℤ q) ≡ n *ℤ r *ℤ a +ℤ s *ℤ b

@@ -1,7 +1,7 @@
 -- What a segment meets of a tiling: each item begins somewhere on the segment, and of two different items one comes first.
 use Rattle.std.proofs.Common.{◌≡◌, ℕ, arith, ap, sym, ◌∙◌, subst, subst₂}
 use mathlib.Core.Logic.{◌⊎◌, inl, inr}
-use Rattle.std.specs.Prelude.{ℤ, pos, ◌<ℤ◌, ◌+ℤ◌, ◌-ℤ◌, ◌*ℤ◌}
+use Rattle.std.specs.Prelude.{ℤ, pos, ◌<ℤ◌, ◌-ℤ◌, ◌*ℤ◌}
 use Rattle.std.proofs.lemmas.Int.{ints}
 use Rattle.plane.proofs.IntegerOrder.{trichotomy_ℤ}
 use Rattle.plane.proofs.Lines.{side_line}
@@ -13,12 +13,12 @@ use Rattle.plane.proofs.Nearer.{nothing_nearer, same_not_nearer}
 use Rattle.plane.proofs.Decisions.{Decision, decide_on_segment}
 use Rattle.plane_delaunay.proofs.Bracket.{bracket}
 use Rattle.plane_delaunay.proofs.Faces.{Between, between-swapped, none_within}
-use Rattle.plane_delaunay.proofs.Meets.{IsAt, IsEdge, Shared, same, reversed, at_vertex, edges_meet}
+use Rattle.plane_delaunay.proofs.Meets.{IsAt, Shared, same, reversed, at_vertex, edges_meet}
 use Rattle.plane_delaunay.proofs.Generic.{same_bracket, swapped_weights}
 use Rattle.plane_delaunay.proofs.Ground.{tiling}
 use Rattle.plane_delaunay.proofs.Where.{vertices_apart}
 use Rattle.plane_delaunay.proofs.EmptyCircles.{weights_along}
-use Rattle.plane_delaunay.proofs.Flooded.{side_of_segment, segment_from}
+use Rattle.plane_delaunay.proofs.Flooded.{side_of_segment, segment_from, edge_of}
 use Rattle.plane_delaunay.proofs.AlongSegment.{Placed, sooner, as_soon, later, placed, first_on, none_sooner, before, on_line, on_line_last, within_on_line, same_on_line, not_from_end}
 use Rattle.plane.specs.Fraction.{Fraction, IsSame, IsNotNegative, IsPositive, OnSegment, WithinSegment}
 use Rattle.plane.specs.Side.{side, left, right, on, TurnsLeft, opposite}
@@ -52,10 +52,6 @@ begins t p q (L.across i j) h = let m = h.1 in record { at = m.at; begins = reco
 begins t p q (L.along i j) h = begin_along t p q i j h.1
 
 module _ (t : Triangulation) (h : TilesHull t) where
-  pub edge_of : (i j : ℕ) → D.IsEdge t i j → IsEdge (tiling t h) i j
-  unfolding tiling
-  edge_of i j e = (h.sides i j).0 e
-
   pub no_vertex_within : (i j n : ℕ) → D.IsEdge t i j → IsVertex t n → ¬ WithinSegment (vertex t i) (vertex t j) (vertex t n)
   unfolding tiling
   no_vertex_within i j n e hn w = go ((h.sides i j).0 e)

@@ -11,7 +11,7 @@ use Rattle.plane_delaunay.proofs.Bracket.{Syntax, bracket, bracketᵖ, above_if_
 use Rattle.plane_delaunay.proofs.Lift.{lift, liftᵖ, pointᵖ}
 use Rattle.plane_delaunay.proofs.Cones.{Cone, cone}
 use Rattle.plane_delaunay.proofs.Ground.{tiling, triangle_of_inside, turned_face}
-use Rattle.plane_delaunay.proofs.NearestOnLine.{nearest_on_line, with_ones}
+use Rattle.plane_delaunay.proofs.NearestOnLine.{nearest_on_line}
 use Rattle.plane_delaunay.proofs.EmptyCircles.{spot, circle_lift}
 use Rattle.plane.specs.Fraction.{Point, Fraction, whole}
 use Rattle.plane.specs.Circle.{gap, IsNearer}
@@ -19,7 +19,7 @@ use Rattle.plane.specs.Pairs.{Joins}
 use Rattle.plane.specs.Tiling.{Triangulation, IsVertex, vertex, IsEdge, IsFace, TilesHull, IsTiling}
 use Rattle.plane.specs.Delaunay.{IsConstrainedDelaunay}
 use Rattle.plane.specs.Shape.{IsNearest}
-use Rattle.plane.proofs.Signs.{difference_not_negative_from}
+use Rattle.plane.proofs.Signs.{difference_not_negative_from, less_with_ones}
 
 -- ---- squared distances from p
 abbrev gapᵖ : Syntax → Syntax → Poly
@@ -42,7 +42,7 @@ farther : (p : Fraction) (u v : Point) → ¬ IsNearer p (whole u) (whole v) →
 farther p u v n = go (lt_or_ge_ℤ (gap p (whole u)) (gap p (whole v)))
   where
     go : (gap p (whole u) <ℤ gap p (whole v)) ⊎ (gap p (whole v) ≤ℤ gap p (whole u)) → pos 0 ≤ℤ (gap p (whole u) -ℤ gap p (whole v))
-    go (inl h) = absurd (n (record { nearer = with_ones (gap p (whole u)) (gap p (whole v)) h }))
+    go (inl h) = absurd (n (record { nearer = less_with_ones (gap p (whole u)) (gap p (whole v)) h }))
     go (inr h) = difference_not_negative_from (gap p (whole u)) (gap p (whole v)) h
 
 nearer_below : (p : Fraction) (u v : Point) → IsNearer p (whole u) (whole v) → ¬ (pos 0 ≤ℤ (gap p (whole u) -ℤ gap p (whole v)))

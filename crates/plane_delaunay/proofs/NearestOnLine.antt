@@ -1,11 +1,10 @@
 -- Of two vertices and a point within their segment: how far they are from a third point. On one line a vertex to which no neighbour is nearer than it is nearest of all.
 use Rattle.std.proofs.Common.{◌≡◌, ℕ, zero, suc, ◌<◌, [], ◌∷◌, arith, sym, subst}
-use lib.IntN.{negsuc, nat_abs}
+use lib.IntN.{nat_abs}
 use mathlib.Core.Logic.{◌⊎◌, inl, inr}
 use Rattle.std.specs.Prelude.{ℤ, pos, ◌<ℤ◌, ◌≤ℤ◌, ◌+ℤ◌, ◌-ℤ◌, ◌*ℤ◌}
 use Rattle.std.proofs.lemmas.Int.{ints}
 use Rattle.plane.proofs.Segments.{same_is_no_way, same-sym}
-use Rattle.plane_delaunay.proofs.Numbers.{sum_weak}
 use Rattle.plane.proofs.Steps.{weak}
 use Rattle.plane.proofs.Solver.{num, ◌⊕◌, ◌⊖◌, ◌⊗◌, ⊝, ring_in_from}
 use Rattle.plane.proofs.IntegerOrder.{Sign, sign, below, none, above}
@@ -17,7 +16,7 @@ use Rattle.plane.specs.Side.{run, rise}
 use Rattle.plane.specs.Circle.{gap, IsNearer}
 use Rattle.plane.specs.Tiling.{Triangulation, IsVertex, vertex, IsEdge, JoinsLine}
 use Rattle.plane.specs.Shape.{IsNearest}
-use Rattle.plane.proofs.Signs.{not_negative_plus_positive, positive_plus_not_negative, less_without_ones}
+use Rattle.plane.proofs.Signs.{not_negative_plus_positive, positive_plus_not_negative, less_without_ones, magnitude_below, less_with_ones, sum_not_negative_of}
 
 -- ---- one coordinate
 -- where k is the mean of v and w under the weights a and b, of the sum n
@@ -81,9 +80,6 @@ smaller_from n a b g h d e hn ha hb hh = less (pos_of_mul-pos_ℤ {k = n *ℤ n}
 plain_sum : (n a b : ℤ) → n *ℤ pos 1 ≡ a *ℤ pos 1 +ℤ b *ℤ pos 1 → n ≡ a +ℤ b
 plain_sum n a b e = omega (arith, ints)
 
-pub with_ones : (a b : ℤ) → a <ℤ b → (a *ℤ (pos 1 *ℤ pos 1)) <ℤ (b *ℤ (pos 1 *ℤ pos 1))
-with_ones a b h = omega (arith, ints)
-
 abbrev square : ℤ → ℤ
 square z = z *ℤ z
 
@@ -94,7 +90,7 @@ module _ (p : Fraction) (v w k : Point) (m : TwoWeights IsPositive (whole v) (wh
   -- nearer to p than v, where w is
   nearer_within : IsNearer p (whole w) (whole v) → IsNearer p (whole k) (whole v)
   nearer_within near = let dx = square (run p (whole w) -ℤ run p (whole v)) in let dy = square (rise p (whole w) -ℤ rise p (whole v)) in record {
-    nearer = with_ones (gap p (whole k)) (gap p (whole v))
+    nearer = less_with_ones (gap p (whole k)) (gap p (whole v))
         (below_from (m.n *ℤ m.n) (m.n *ℤ m.l) (m.k *ℤ m.l) (gap p (whole v)) (gap p (whole k)) (gap p (whole w)) (dx +ℤ dy)
         (two_squares (m.n *ℤ m.n) (m.n *ℤ m.l) (m.k *ℤ m.l)
         (square (run p (whole v))) (square (run p (whole k))) (square (run p (whole w))) dx
@@ -102,7 +98,7 @@ module _ (p : Fraction) (v w k : Point) (m : TwoWeights IsPositive (whole v) (wh
         (mean_square m.n m.k m.l (run p (whole k)) (run p (whole v)) (run p (whole w)) (mean_way m.n m.k m.l k.x v.x w.x p.x p.w m.x m.w) total_weight)
         (mean_square m.n m.k m.l (rise p (whole k)) (rise p (whole v)) (rise p (whole w)) (mean_way m.n m.k m.l k.y v.y w.y p.y p.w m.y m.w) total_weight))
         (mul-pos_ℤ m.positive m.positive) (mul-pos_ℤ m.positive m.l_allowed) (weak (mul-pos_ℤ m.k_allowed m.l_allowed))
-        (sum_weak (square-nonneg_ℤ (run p (whole w) -ℤ run p (whole v))) (square-nonneg_ℤ (rise p (whole w) -ℤ rise p (whole v))))
+        (sum_not_negative_of (square-nonneg_ℤ (run p (whole w) -ℤ run p (whole v))) (square-nonneg_ℤ (rise p (whole w) -ℤ rise p (whole v))))
         (less_without_ones (gap p (whole w)) (gap p (whole v)) near.nearer));
   }
 
@@ -139,10 +135,6 @@ apart p v w near = go (sign (run (whole v) (whole w))) (sign (rise (whole v) (wh
     go (none h) (none k) = absurd (same_not_nearer p (whole w) (whole v) (same-sym (whole v) (whole w) ((same_is_no_way (whole v) (whole w)).1 (h, k))) near)
 
 -- ---- along the line
-pub abs_less : (m : ℕ) (x y : ℤ) → x <ℤ y → pos 0 ≤ℤ x → nat_abs y < suc m → nat_abs x < m
-abs_less m (pos x) (pos y) h k l = omega (arith, ints)
-abs_less m (pos x) (negsuc y) h k l = absurd (omega (arith, ints))
-abs_less m (negsuc x) y h k l = absurd (omega (arith, ints))
 
 module _ (t : Triangulation) (h : JoinsLine t) (p : Fraction) (v : ℕ) (hv : IsVertex t v) (neighbours : (u : ℕ) → IsEdge t v u → ¬ IsNearer p (vertex t u) (vertex t v)) where
   -- a nearer vertex next to v is a neighbour, and of any other one strictly between is nearer too
@@ -156,7 +148,7 @@ module _ (t : Triangulation) (h : JoinsLine t) (p : Fraction) (v : ℕ) (hv : Is
   })) near
     where
       closer : (k : ℕ) → TwoWeights IsPositive (vertex t v) (vertex t w) (vertex t k) → nat_abs (gap (vertex t v) (vertex t k)) < m
-      closer k s = abs_less m (gap (vertex t v) (vertex t k)) (gap (vertex t v) (vertex t w)) (closer_within p _ _ _ s (apart p _ _ near)) (gap_not_negative (vertex t v) (vertex t k)) l
+      closer k s = magnitude_below m (gap (vertex t v) (vertex t k)) (gap (vertex t v) (vertex t w)) (closer_within p _ _ _ s (apart p _ _ near)) (gap_not_negative (vertex t v) (vertex t k)) l
 
       nearer : (k : ℕ) → TwoWeights IsPositive (vertex t v) (vertex t w) (vertex t k) → IsNearer p (vertex t k) (vertex t v)
       nearer k s = nearer_within p _ _ _ s near

@@ -3,12 +3,10 @@ use Prim.Native.Nat.{ℕ, suc, ◌<◌}
 use lib.IntN.{ℤ, pos, ◌+ℤ◌, ◌*ℤ◌, neg_ℤ}
 use lib.Signed.{◌<ℤ◌, ◌≤ℤ◌}
 use mathlib.Core.Path.{◌≡◌}
-use mathlib.Core.List.{[], ◌∷◌}
 use native.Mathlib.Omega.{arith}
 use borrow.Author.Differences.{ints}
 use Rattle.plane.proofs.IntegerLaws.{mul-neg_ℤ}
 use Rattle.plane.proofs.IntegerOrder.{mul-pos_ℤ, mul-nonneg_ℤ, mul-nonpos_of_nonneg_nonpos_ℤ, nonneg_of_mul-nonneg_ℤ, pos_of_mul-pos_ℤ, zero_of_mul-zero_ℤ, pos-ne-zero_ℤ, zero-mul_ℤ}
-use Rattle.plane.proofs.Solver.{num, ◌⊕◌, ◌⊗◌, ⊝, ring_in}
 use Rattle.plane.proofs.Steps.{weak}
 
 pub less_again : (i j m : ℕ) → i < j → j < suc m → i < m
@@ -16,12 +14,6 @@ less_again i j m h k = omega arith
 
 pub swapped_sum : (t x y : ℤ) → t ≡ x +ℤ y → t ≡ y +ℤ x
 swapped_sum t x y e = omega (arith, ints)
-
-pub sum_weak : {x y : ℤ} → pos 0 ≤ℤ x → pos 0 ≤ℤ y → pos 0 ≤ℤ (x +ℤ y)
-sum_weak h k = omega (arith, ints)
-
-pub own_line : (s t : ℤ) → neg_ℤ t *ℤ s +ℤ s *ℤ t ≡ pos 0
-own_line s t = ring_in (s ∷ t ∷ []) (λ s t. ⊝ t ⊗ s ⊕ s ⊗ t) (λ s t. num 0) tt
 
 pub mix_positive : (k l v w : ℤ) → pos 0 <ℤ k → pos 0 ≤ℤ l → pos 0 <ℤ v → pos 0 <ℤ w → pos 0 <ℤ (k *ℤ v +ℤ l *ℤ w)
 mix_positive k l v w hk hl hv hw = let p = mul-pos_ℤ {a = k} {b = v} hk hv in let q = mul-nonneg_ℤ {a = l} {b = w} hl (weak hw) in omega (arith, ints)

@@ -5,12 +5,13 @@ use Rattle.std.proofs.lemmas.Int.{ints}
 use Rattle.plane.proofs.Solver.{num, ◌⊕◌, ◌⊖◌, ◌⊗◌, ⊝, ring_in, ring_in_from}
 use Rattle.plane.proofs.IntegerOrder.{mul-pos_ℤ, mul-nonneg_ℤ, nonneg_of_mul-nonneg_ℤ, square-nonneg_ℤ}
 use Rattle.plane.proofs.Means.{TwoWeights, two_weights}
-use Rattle.plane_delaunay.proofs.Numbers.{sum_weak, sum_least}
+use Rattle.plane_delaunay.proofs.Numbers.{sum_least}
 use Rattle.plane.specs.Fraction.{Point, Fraction, whole, IsNotNegative, OnSegment}
 use Rattle.plane.specs.Side.{run, rise}
 use Rattle.plane.specs.Circle.{gap}
 use Rattle.plane.specs.Shape.{InClosedCircle, InClosedRectangle}
 use Rattle.plane_delaunay.specs.Flood.{Region, circle, rectangle, InRegion}
+use Rattle.plane.proofs.Signs.{at_most_by_difference, difference_not_negative_from, sum_not_negative_of}
 
 abbrev pub IsConvex : (Fraction → Type 0) → Type 0
 IsConvex Shape = (p q r : Fraction) → Shape p → Shape q → OnSegment p q r → Shape r
@@ -21,15 +22,9 @@ from_weights n k l r a b w v u c e d = ring_in_from (n ∷ k ∷ l ∷ r ∷ a �
     (λ n k l r a b w v u c. n ⊗ (r ⊖ c ⊗ w)) (λ n k l r a b w v u c. k ⊗ (a ⊖ c ⊗ v) ⊕ l ⊗ (b ⊖ c ⊗ u))
     (λ n k l r a b w v u c. (num 1, n ⊗ r, k ⊗ a ⊕ l ⊗ b) ∷ (⊝ c, n ⊗ w, k ⊗ v ⊕ l ⊗ u) ∷ []) (e, (d, tt)) tt
 
-pub difference_least : (a b : ℤ) → b ≤ℤ a → pos 0 ≤ℤ (a -ℤ b)
-difference_least a b h = omega (arith, ints)
-
-pub least_difference : (a b : ℤ) → pos 0 ≤ℤ (a -ℤ b) → b ≤ℤ a
-least_difference a b h = omega (arith, ints)
-
 -- at least c times the weight
 pub above_line : (n k l r a b w v u c : ℤ) → pos 0 <ℤ n → pos 0 ≤ℤ k → pos 0 ≤ℤ l → n *ℤ r ≡ k *ℤ a +ℤ l *ℤ b → n *ℤ w ≡ k *ℤ v +ℤ l *ℤ u → (c *ℤ v) ≤ℤ a → (c *ℤ u) ≤ℤ b → (c *ℤ w) ≤ℤ r
-above_line n k l r a b w v u c hn hk hl e d h i = least_difference r (c *ℤ w) (sum_least n k l (r -ℤ c *ℤ w) (a -ℤ c *ℤ v) (b -ℤ c *ℤ u) hn (from_weights n k l r a b w v u c e d) hk (difference_least a (c *ℤ v) h) hl (difference_least b (c *ℤ u) i))
+above_line n k l r a b w v u c hn hk hl e d h i = at_most_by_difference r (c *ℤ w) (sum_least n k l (r -ℤ c *ℤ w) (a -ℤ c *ℤ v) (b -ℤ c *ℤ u) hn (from_weights n k l r a b w v u c e d) hk (difference_not_negative_from a (c *ℤ v) h) hl (difference_not_negative_from b (c *ℤ u) i))
 
 -- at most c times the weight
 from_weights_back : (n k l r a b w v u c : ℤ) → n *ℤ r ≡ k *ℤ a +ℤ l *ℤ b → n *ℤ w ≡ k *ℤ v +ℤ l *ℤ u → n *ℤ (c *ℤ w -ℤ r) ≡ k *ℤ (c *ℤ v -ℤ a) +ℤ l *ℤ (c *ℤ u -ℤ b)
@@ -38,7 +33,7 @@ from_weights_back n k l r a b w v u c e d = ring_in_from (n ∷ k ∷ l ∷ r �
     (λ n k l r a b w v u c. (num 0 ⊖ num 1, n ⊗ r, k ⊗ a ⊕ l ⊗ b) ∷ (c, n ⊗ w, k ⊗ v ⊕ l ⊗ u) ∷ []) (e, (d, tt)) tt
 
 pub below_line : (n k l r a b w v u c : ℤ) → pos 0 <ℤ n → pos 0 ≤ℤ k → pos 0 ≤ℤ l → n *ℤ r ≡ k *ℤ a +ℤ l *ℤ b → n *ℤ w ≡ k *ℤ v +ℤ l *ℤ u → a ≤ℤ (c *ℤ v) → b ≤ℤ (c *ℤ u) → r ≤ℤ (c *ℤ w)
-below_line n k l r a b w v u c hn hk hl e d h i = least_difference (c *ℤ w) r (sum_least n k l (c *ℤ w -ℤ r) (c *ℤ v -ℤ a) (c *ℤ u -ℤ b) hn (from_weights_back n k l r a b w v u c e d) hk (difference_least (c *ℤ v) a h) hl (difference_least (c *ℤ u) b i))
+below_line n k l r a b w v u c hn hk hl e d h i = at_most_by_difference (c *ℤ w) r (sum_least n k l (c *ℤ w -ℤ r) (c *ℤ v -ℤ a) (c *ℤ u -ℤ b) hn (from_weights_back n k l r a b w v u c e d) hk (difference_not_negative_from (c *ℤ v) a h) hl (difference_not_negative_from (c *ℤ u) b i))
 
 pub rectangle_convex : (lower upper : Point) → IsConvex (InClosedRectangle lower upper)
 rectangle_convex lower upper p q r hp hq m = go (two_weights IsNotNegative p q r m)
@@ -70,8 +65,8 @@ halved z h = omega (arith, ints)
 product_least : (v u r x y x' y' : ℤ) → pos 0 <ℤ v → pos 0 <ℤ u → (x *ℤ x +ℤ y *ℤ y) ≤ℤ (r *ℤ (v *ℤ v)) → (x' *ℤ x' +ℤ y' *ℤ y') ≤ℤ (r *ℤ (u *ℤ u)) → pos 0 ≤ℤ (r *ℤ (v *ℤ u) -ℤ (x *ℤ x' +ℤ y *ℤ y'))
 product_least v u r x y x' y' hv hu h i = nonneg_of_mul-nonneg_ℤ {k = v *ℤ u} {x = r *ℤ (v *ℤ u) -ℤ (x *ℤ x' +ℤ y *ℤ y')} (mul-pos_ℤ {a = v} {b = u} hv hu)
     (halved _ (subst (λ z. pos 0 ≤ℤ z) (sym (product_room v u r (x *ℤ x' +ℤ y *ℤ y') (x *ℤ x +ℤ y *ℤ y) (x' *ℤ x' +ℤ y' *ℤ y') across (product_sum v u x y x' y')))
-    (sum_weak (sum_weak (mul-nonneg_ℤ {a = u *ℤ u} {b = r *ℤ (v *ℤ v) -ℤ (x *ℤ x +ℤ y *ℤ y)} (square-nonneg_ℤ u) (difference_least _ _ h)) (mul-nonneg_ℤ {a = v *ℤ v} {b = r *ℤ (u *ℤ u) -ℤ (x' *ℤ x' +ℤ y' *ℤ y')} (square-nonneg_ℤ v) (difference_least _ _ i)))
-    (sum_weak (square-nonneg_ℤ (u *ℤ x -ℤ v *ℤ x')) (square-nonneg_ℤ (u *ℤ y -ℤ v *ℤ y'))))))
+    (sum_not_negative_of (sum_not_negative_of (mul-nonneg_ℤ {a = u *ℤ u} {b = r *ℤ (v *ℤ v) -ℤ (x *ℤ x +ℤ y *ℤ y)} (square-nonneg_ℤ u) (difference_not_negative_from _ _ h)) (mul-nonneg_ℤ {a = v *ℤ v} {b = r *ℤ (u *ℤ u) -ℤ (x' *ℤ x' +ℤ y' *ℤ y')} (square-nonneg_ℤ v) (difference_not_negative_from _ _ i)))
+    (sum_not_negative_of (square-nonneg_ℤ (u *ℤ x -ℤ v *ℤ x')) (square-nonneg_ℤ (u *ℤ y -ℤ v *ℤ y'))))))
   where
     across : ℤ
     across = (u *ℤ x -ℤ v *ℤ x') *ℤ (u *ℤ x -ℤ v *ℤ x') +ℤ (u *ℤ y -ℤ v *ℤ y') *ℤ (u *ℤ y -ℤ v *ℤ y')
@@ -99,12 +94,12 @@ circle_convex centre radius_2 p q r hp hq m = go (two_weights IsNotNegative p q 
 
     go : TwoWeights IsNotNegative p q r → InClosedCircle centre radius_2 r
     go s = record {
-      near = least_difference (radius_2 *ℤ (r.w *ℤ r.w)) (gap c r) (nonneg_of_mul-nonneg_ℤ {k = s.n *ℤ s.n} {x = radius_2 *ℤ (r.w *ℤ r.w) -ℤ gap c r} (mul-pos_ℤ s.positive s.positive)
+      near = at_most_by_difference (radius_2 *ℤ (r.w *ℤ r.w)) (gap c r) (nonneg_of_mul-nonneg_ℤ {k = s.n *ℤ s.n} {x = radius_2 *ℤ (r.w *ℤ r.w) -ℤ gap c r} (mul-pos_ℤ s.positive s.positive)
           (subst (λ z. pos 0 ≤ℤ z) (sym (mean_room s.n s.k s.l radius_2 r.w p.w q.w (run c r) (rise c r) (run c p) (rise c p) (run c q) (rise c q)
           (way_from s.n s.k s.l r.x p.x q.x r.w p.w q.w centre.x s.x s.w) (way_from s.n s.k s.l r.y p.y q.y r.w p.w q.w centre.y s.y s.w) s.w))
-          (sum_weak (sum_weak
-          (mul-nonneg_ℤ {a = s.k *ℤ s.k} {b = radius_2 *ℤ (p.w *ℤ p.w) -ℤ gap c p} (square-nonneg_ℤ s.k) (difference_least _ _ hp.near))
-          (mul-nonneg_ℤ {a = s.l *ℤ s.l} {b = radius_2 *ℤ (q.w *ℤ q.w) -ℤ gap c q} (square-nonneg_ℤ s.l) (difference_least _ _ hq.near)))
+          (sum_not_negative_of (sum_not_negative_of
+          (mul-nonneg_ℤ {a = s.k *ℤ s.k} {b = radius_2 *ℤ (p.w *ℤ p.w) -ℤ gap c p} (square-nonneg_ℤ s.k) (difference_not_negative_from _ _ hp.near))
+          (mul-nonneg_ℤ {a = s.l *ℤ s.l} {b = radius_2 *ℤ (q.w *ℤ q.w) -ℤ gap c q} (square-nonneg_ℤ s.l) (difference_not_negative_from _ _ hq.near)))
           (mul-nonneg_ℤ {a = pos 2} {b = s.k *ℤ s.l *ℤ (radius_2 *ℤ (p.w *ℤ q.w) -ℤ (run c p *ℤ run c q +ℤ rise c p *ℤ rise c q))} (record { le = tt })
           (mul-nonneg_ℤ {a = s.k *ℤ s.l} {b = radius_2 *ℤ (p.w *ℤ q.w) -ℤ (run c p *ℤ run c q +ℤ rise c p *ℤ rise c q)} (mul-nonneg_ℤ {a = s.k} {b = s.l} s.k_allowed s.l_allowed)
           (product_least p.w q.w radius_2 (run c p) (rise c p) (run c q) (rise c q) p.positive q.positive hp.near hq.near))))));

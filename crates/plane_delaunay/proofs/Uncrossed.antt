@@ -11,11 +11,12 @@ use Rattle.plane.proofs.IntegerLaws.{neg-mul_ℤ}
 use Rattle.plane.proofs.IntegerOrder.{mul-pos_ℤ, Sign, sign, below, none, above, neg-pos_ℤ}
 use Rattle.plane_delaunay.proofs.Bracket.{bracket, bracket-turned, cramer, cramer-w}
 use Rattle.plane_delaunay.proofs.Faces.{Tiling, Between, none_within, turned-above, corner_2}
-use Rattle.plane_delaunay.proofs.Across.{one_right, inner_between}
+use Rattle.plane_delaunay.proofs.Across.{inner_between}
 use Rattle.plane_delaunay.proofs.Meets.{IsEdge}
 use Rattle.plane_delaunay.proofs.Cones.{cone}
 use Rattle.plane_delaunay.proofs.Joining.{Crosses}
 use Rattle.plane_delaunay.proofs.FlipExists.{swap_below}
+use Rattle.plane.proofs.Signs.{times_one}
 
 -- d x = p u + r w + m q, where m is 0
 solved_without_third : (d x p u r w m q : ℤ) → d *ℤ x ≡ p *ℤ u +ℤ r *ℤ w +ℤ m *ℤ q → m ≡ pos 0 → r *ℤ w ≡ neg_ℤ p *ℤ u +ℤ d *ℤ x
@@ -25,7 +26,7 @@ solved_without_second : (d x p u m q r w : ℤ) → d *ℤ x ≡ p *ℤ u +ℤ m
 solved_without_second d x p u m q r w e z = let i = product_zero_left q z in omega (arith, ints, neg-mul_ℤ p u)
 
 no_weight : (d x p u m q r w : ℤ) → d *ℤ x ≡ p *ℤ u +ℤ m *ℤ q +ℤ r *ℤ w → m ≡ pos 0 → r ≡ pos 0 → u ≡ pos 1 → p <ℤ pos 0 → pos 0 <ℤ d → pos 0 <ℤ x → ⊥
-no_weight d x p u m q r w e z y o h k l = let i = product_zero_left q z in let j = product_zero_left w y in let f = one_right p u o in let g = mul-pos_ℤ {a = d} {b = x} k l in omega (arith, ints)
+no_weight d x p u m q r w e z y o h k l = let i = product_zero_left q z in let j = product_zero_left w y in let f = times_one p u o in let g = mul-pos_ℤ {a = d} {b = x} k l in omega (arith, ints)
 
 module _ (T : Tiling) (s t : ℕ) (hs : T.IsVertex s) (ht : T.IsVertex t) (two : ¬ (t ≡ s)) (clear : (n : ℕ) → T.IsVertex n → ¬ Between (T.at s) (T.at t) (T.at n)) (free : (v y : ℕ) → ¬ Crosses T s t hs ht clear v y) where
   open T use {at, IsVertex, IsFace}

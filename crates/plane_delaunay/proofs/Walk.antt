@@ -7,7 +7,7 @@ use mathlib.Core.List.{[], ◌∷◌}
 use native.Mathlib.Omega.{arith}
 use borrow.Author.Differences.{ints}
 use Rattle.std.specs.Prelude.{sum_by}
-use Rattle.plane_delaunay.proofs.Numbers.{own_line, mix_positive}
+use Rattle.plane_delaunay.proofs.Numbers.{mix_positive}
 use Rattle.plane.proofs.Steps.{weak, weak_right, zero_weak_left, zero_weak, right_not_zero, negated_left}
 use Rattle.plane.proofs.IntegerLaws.{neg-mul_ℤ}
 use Rattle.plane.proofs.Solver.{num, ◌⊕◌, ◌⊖◌, ◌⊗◌, ⊝, ring_in, ring_in_from}
@@ -19,6 +19,7 @@ use Rattle.plane_delaunay.proofs.Faces.{Tiling}
 use Rattle.plane_delaunay.proofs.Beyond.{Exit, stays, by_first, by_second, by_third, exit}
 use Rattle.plane.specs.Fraction.{Fraction}
 use Rattle.plane.proofs.Signs.{negative_and_not}
+use Rattle.plane.proofs.Lines.{balanced}
 
 -- the way from y, a point of a triangle, to z leaves it through the side a b
 pub record Leaves (y z a b c : Fraction) : Type 0 where
@@ -199,7 +200,7 @@ module _ (T : Tiling) where
       way = record { k = neg_ℤ (bracket (at a) (at b) z); l = bracket (at a) (at b) y; k_above = neg-pos_ℤ h.right; l_above = left; along = along }
 
       on : bracket (at a) (at b) y' ≡ pos 0
-      on = along (at a) (at b) ∙ own_line (bracket (at a) (at b) y) (bracket (at a) (at b) z)
+      on = along (at a) (at b) ∙ balanced (bracket (at a) (at b) y) (bracket (at a) (at b) z)
 
       least : (u v : Fraction) → pos 0 ≤ℤ (bracket (at a) (at b) y *ℤ bracket u v z -ℤ bracket (at a) (at b) z *ℤ bracket u v y) → pos 0 ≤ℤ bracket u v y'
       least u v s = subst (λ t. pos 0 ≤ℤ t) (sym (along u v ∙ off_side (bracket (at a) (at b) y) (bracket (at a) (at b) z) (bracket u v y) (bracket u v z))) s

@@ -13,6 +13,7 @@ use Rattle.plane_tiling.proofs.Flows.{IsTurnOf}
 use Rattle.plane_tiling.proofs.Covering as C
 use Rattle.plane_edits.specs.Change.{IsTurnFree, FacesChange, OuterChange}
 use Rattle.plane_edits.proofs.Changes.{face_from, face_kept, turn_of_all, IsOnce, changed_total, has_pair_or_not}
+use Rattle.plane.proofs.Indexes.{below_or_last}
 
 pub around_turn_free : (flow : ℕ → ℕ → ℤ) → IsTurnFree (around flow)
 around_turn_free flow i j k = by (flow i j) (flow j k) (flow k i)
@@ -68,9 +69,6 @@ module _ (n : ℕ) (p : ℕ → Point) (faces new : List Face) (outer outer' : L
     pub come_at : (e : ℕ × ℕ) → Contains come e → (e.0 ≡ n) ⊎ (e.1 ≡ n)
     pub same : (flow : ℕ → ℕ → ℤ) → IsAntisymmetric flow → total (around flow) made +ℤ total (along flow) come ≡ total (around flow) gone +ℤ total (along flow) left
 
-  below_or_last : (k : ℕ) → k < suc n → (k < n) ⊎ (k ≡ n)
-  below_or_last k h = grind arith
-
   wider : {k : ℕ} → k < n → k < suc n
   wider h = omega arith
 
@@ -79,14 +77,14 @@ module _ (n : ℕ) (p : ℕ → Point) (faces new : List Face) (outer outer' : L
 
   pub added_kept : (gone made : List Face) (left come : List (ℕ × ℕ)) → IsAddition gone made left come → SignMesh (suc n) p new outer'
   added_kept gone made left come s = record {
-    distinct = λ i j h k a. apart i j (below_or_last i h) (below_or_last j k) a;
+    distinct = λ i j h k a. apart i j (below_or_last n i h) (below_or_last n j k) a;
     some_face = let u = corner_of_used new n used_last in (u.0, u.1);
-    used = λ k h. inl (corner_of_used new k (used k (below_or_last k h)));
+    used = λ k h. inl (corner_of_used new k (used k (below_or_last n k h)));
     corners = λ g h. let t = turning g.a g.b g.c (inl h) in (t.0, t.1, t.2);
     turning = λ g h. (turning g.a g.b g.c (inl h)).3;
     ends = λ e h. elim (s.outer_change.only e.0 e.1 h) [ inl o ↦ (let c = m.ends e o.0 in (wider c.0, wider c.1, c.2)) | inr o ↦ s.ends e o ];
-    supporting = λ e h k l. supports e k (s.outer_change.only e.0 e.1 h) (below_or_last k l);
-    bare = λ e h k l. off e k (s.outer_change.only e.0 e.1 h) (below_or_last k l);
+    supporting = λ e h k l. supports e k (s.outer_change.only e.0 e.1 h) (below_or_last n k l);
+    bare = λ e h k l. off e k (s.outer_change.only e.0 e.1 h) (below_or_last n k l);
     once = s.outer_change.once;
     balanced = λ flow anti. balanced_after (total (around flow) faces) (total (along flow) outer) (total (around flow) new) (total (along flow) outer') (total (around flow) gone) (total (around flow) made) (total (along flow) left) (total (along flow) come)
         (s.faces_change.totals (around flow) (around_turn_free flow)) (outer_totals outer outer' left come s.outer_change m.once s.left_once s.come_once s.left_there none_yet (along flow)) (s.same flow anti) (m.balanced flow anti);

@@ -1,6 +1,6 @@
 -- Pairs that legalising flips away: above what a face carries they stay, and so they are no edges again.
 use Rattle.std.proofs.Common.{◌≡◌, ◌⊎◌, ℕ, zero, suc, ◌<◌, ◌≤◌, ◌+◌, ◌*◌, ◌-◌, List, [], ◌∷◌, ◌++◌, length, refl, sym, ap, ◌∙◌, subst, arith}
-use mathlib.Core.Logic.{inl, inr, ◌≢◌}
+use mathlib.Core.Logic.{inl, inr}
 use Rattle.std.specs.Prelude.{ℤ, pos, ◌+ℤ◌, ◌-ℤ◌, ◌*ℤ◌, ◌≤ℤ◌, ◌<ℤ◌, Contains}
 use Rattle.std.proofs.lemmas.Int.{ints}
 use Rattle.std.proofs.lemmas.Bool.{cases_eq}
@@ -33,6 +33,8 @@ use Rattle.plane_edits.proofs.Heights.{carried, carriedᵖ, carried-turn, lower_
 use Rattle.plane_edits.proofs.Legal.{halved, convex_at_first, convex_at_third}
 use Rattle.plane_edits.proofs.Flipping as F
 use Rattle.plane.proofs.Signs.{difference_is_positive, difference_not_negative, less_by_named_difference, same_is_not_less}
+use lib.IntN.{+ℤ_comm}
+use Rattle.plane.proofs.Indexes.{less_or_more}
 
 carried-mix : (a b c : Vec3) (k : ℤ) (u : Vec3) (l : ℤ) (v : Vec3) → carried a b c (mix k u l v) ≡ k *ℤ carried a b c u +ℤ l *ℤ carried a b c v
 unfolding carried bracket
@@ -143,14 +145,11 @@ module _ (points : List Point) (u v : ℕ) where
     r_allowed = h.r_allowed;
     s_allowed = h.s_allowed;
     t_allowed = h.t_allowed;
-    x = other (h.l *ℤ (p v).x) (h.k *ℤ (p u).x) ∙ h.x;
-    y = other (h.l *ℤ (p v).y) (h.k *ℤ (p u).y) ∙ h.y;
-    w = other h.l h.k ∙ h.w;
-    lower = subst (λ z. (h.r *ℤ height (at p h.a) +ℤ h.s *ℤ height (at p h.b) +ℤ h.t *ℤ height (at p h.c)) <ℤ z) (other (h.k *ℤ height (at p u)) (h.l *ℤ height (at p v))) h.lower;
+    x = +ℤ_comm (h.l *ℤ (p v).x) (h.k *ℤ (p u).x) ∙ h.x;
+    y = +ℤ_comm (h.l *ℤ (p v).y) (h.k *ℤ (p u).y) ∙ h.y;
+    w = +ℤ_comm h.l h.k ∙ h.w;
+    lower = subst (λ z. (h.r *ℤ height (at p h.a) +ℤ h.s *ℤ height (at p h.b) +ℤ h.t *ℤ height (at p h.c)) <ℤ z) (+ℤ_comm (h.k *ℤ height (at p u)) (h.l *ℤ height (at p v))) h.lower;
   }
-    where
-      other : (a b : ℤ) → a +ℤ b ≡ b +ℤ a
-      other a b = omega (arith, ints)
 
   low_of_away : (faces : List Face) (h : IsAway points faces u v) → pos 0 <ℤ bracket (at p h.a) (at p h.b) (at p h.c) → IsLow (point_at points) (middle h.k h.l) (chord h.k h.l) h.a h.b h.c
   unfolding middle chord
@@ -398,10 +397,6 @@ another points faces new outer away i j m stays g h k s n = record {
   above = λ u v x. elim (Contains-cases (i, j) away (u, v) x) [ inl e ↦ subst (λ (x : ℕ × ℕ). IsAway points new x.0 x.1) e n | inr y ↦ stays u v (g.above u v y) ];
   once = once_cons (i, j) away (λ x. no_edge points i j faces outer m (g.above i j x) s) g.once;
 }
-
--- different numbers: one is less
-pub less_or_more : (a c : ℕ) → a ≢ c → (a < c) ⊎ (c < a)
-less_or_more a c n = grind arith
 
 in_more : (e : ℕ × ℕ) (away : List (ℕ × ℕ)) (i j : ℕ) → Joins away i j → Joins (e ∷ away) i j
 in_more e away i j (inl h) = inl (Contains-later e away (i, j) h)

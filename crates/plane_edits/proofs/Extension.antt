@@ -7,7 +7,7 @@ use Rattle.plane.specs.Fraction.{Point, whole, IsPositive, WithinSegment}
 use Rattle.plane.specs.Tiling.{Face, face}
 use Rattle.plane_tiling.specs.Local.{total, around, along, IsAntisymmetric}
 use Rattle.plane.proofs.IntegerOrder.{mul-pos_ℤ, mul-nonpos_of_nonneg_nonpos_ℤ, zero-mul_ℤ, lt_or_ge_ℤ, pos_of_mul-pos_ℤ}
-use Rattle.plane.proofs.Steps.{weak, negated_below, left_not_zero, left_not_below, zero_weak, not_left_of_product}
+use Rattle.plane.proofs.Steps.{weak, negated_below, left_not_zero, left_not_below, zero_weak, not_left_of_product, drop_zero, drop_zero_last}
 use Rattle.plane_tiling.proofs.Totals.{Contains-head, Contains-later, Contains-cases, Contains-none}
 use Rattle.plane.proofs.Bracket.{bracket, lift}
 use Rattle.plane.proofs.BracketIdentities.{bracket-turn, bracket-swap, bracket-outer, bracket-last}
@@ -39,12 +39,6 @@ fan_total flow anti q u (v ∷ vs) =
 
 pub fans_balance : (fans steps last first last' first' : ℤ) → fans ≡ steps +ℤ last' +ℤ first' → last' ≡ neg_ℤ last → first' ≡ neg_ℤ first → fans +ℤ (first +ℤ (last +ℤ pos 0)) ≡ pos 0 +ℤ steps
 fans_balance fans steps last first last' first' a b c = omega (arith, ints)
-
-pub only_last : (s a b : ℤ) → s ≡ a +ℤ b → a ≡ pos 0 → s ≡ b
-only_last s a b e h = omega (arith, ints)
-
-pub only_first : (s a b : ℤ) → s ≡ a +ℤ b → b ≡ pos 0 → s ≡ a
-only_first s a b e h = omega (arith, ints)
 
 -- ---- paths
 pub steps_snoc : (u : ℕ) (vs : List ℕ) (w : ℕ) → steps u (vs ++ w ∷ []) ≡ steps u vs ++ (last_of u vs, w) ∷ []
@@ -92,13 +86,13 @@ pub not_own_end : (a b c : Point) → pos 0 <ℤ bracket (lift a) (lift b) (lift
 not_own_end a b c turns w =
     let t = two_weights IsPositive (whole a) (whole c) (whole c) w in
     left_not_zero (mul-pos_ℤ t.k_allowed (subst (λ z. pos 0 <ℤ z) (bracket-turn (lift a) (lift b) (lift c)) turns))
-    (sym (only_first (t.n *ℤ bracket (lift b) (lift c) (lift c)) (t.k *ℤ bracket (lift b) (lift c) (lift a)) (t.l *ℤ bracket (lift b) (lift c) (lift c)) (E.mean_bracket IsPositive b c a c (whole c) t) (zero-mul_ℤ t.l (bracket-last (lift b) (lift c)))) ∙ zero-mul_ℤ t.n (bracket-last (lift b) (lift c)))
+    (sym (drop_zero_last (t.n *ℤ bracket (lift b) (lift c) (lift c)) (t.k *ℤ bracket (lift b) (lift c) (lift a)) (t.l *ℤ bracket (lift b) (lift c) (lift c)) (E.mean_bracket IsPositive b c a c (whole c) t) (zero-mul_ℤ t.l (bracket-last (lift b) (lift c)))) ∙ zero-mul_ℤ t.n (bracket-last (lift b) (lift c)))
 
 pub not_own_start : (a b c : Point) → pos 0 <ℤ bracket (lift a) (lift b) (lift c) → ¬ WithinSegment (whole c) (whole b) (whole c)
 not_own_start a b c turns w =
     let t = two_weights IsPositive (whole c) (whole b) (whole c) w in
     left_not_zero (mul-pos_ℤ t.l_allowed (subst (λ z. pos 0 <ℤ z) (bracket-turn (lift a) (lift b) (lift c) ∙ bracket-turn (lift b) (lift c) (lift a)) turns))
-    (sym (only_last (t.n *ℤ bracket (lift c) (lift a) (lift c)) (t.k *ℤ bracket (lift c) (lift a) (lift c)) (t.l *ℤ bracket (lift c) (lift a) (lift b)) (E.mean_bracket IsPositive c a c b (whole c) t) (zero-mul_ℤ t.k (bracket-outer (lift c) (lift a)))) ∙ zero-mul_ℤ t.n (bracket-outer (lift c) (lift a)))
+    (sym (drop_zero (t.n *ℤ bracket (lift c) (lift a) (lift c)) (t.k *ℤ bracket (lift c) (lift a) (lift c)) (t.l *ℤ bracket (lift c) (lift a) (lift b)) (E.mean_bracket IsPositive c a c b (whole c) t) (zero-mul_ℤ t.k (bracket-outer (lift c) (lift a)))) ∙ zero-mul_ℤ t.n (bracket-outer (lift c) (lift a)))
 
 module _ (n : ℕ) (p : ℕ → Point) (faces : List Face) (outer : List (ℕ × ℕ)) (m : SignMesh n p faces outer) where
   abbrev Sees : ℕ → ℕ → Type 0
@@ -127,13 +121,13 @@ module _ (n : ℕ) (p : ℕ → Point) (faces : List Face) (outer : List (ℕ ×
   start_bare : (a b : ℕ) → Contains outer (a, b) → Sees a b → (k : ℕ) → k < n → ¬ WithinSegment (whole (p a)) (whole (p n)) (whole (p k))
   start_bare a b h sees k l w =
       let t = two_weights IsPositive (whole (p a)) (whole (p n)) (whole (p k)) w in
-      left_not_below (pos_of_mul-pos_ℤ t.positive (subst (λ z. pos 0 <ℤ z) (sym (only_last (t.n *ℤ bracket (at p a) (at p b) (at p k)) (t.k *ℤ bracket (at p a) (at p b) (at p a)) (t.l *ℤ bracket (at p a) (at p b) (at p n)) (E.mean_bracket IsPositive (p a) (p b) (p a) (p n) (whole (p k)) t) (zero-mul_ℤ t.k (bracket-outer (at p a) (at p b)))))
+      left_not_below (pos_of_mul-pos_ℤ t.positive (subst (λ z. pos 0 <ℤ z) (sym (drop_zero (t.n *ℤ bracket (at p a) (at p b) (at p k)) (t.k *ℤ bracket (at p a) (at p b) (at p a)) (t.l *ℤ bracket (at p a) (at p b) (at p n)) (E.mean_bracket IsPositive (p a) (p b) (p a) (p n) (whole (p k)) t) (zero-mul_ℤ t.k (bracket-outer (at p a) (at p b)))))
       (mul-pos_ℤ t.l_allowed sees))) (m.supporting (a, b) h k l)
 
   end_bare : (a b : ℕ) → Contains outer (a, b) → Sees a b → (k : ℕ) → k < n → ¬ WithinSegment (whole (p n)) (whole (p b)) (whole (p k))
   end_bare a b h sees k l w =
       let t = two_weights IsPositive (whole (p n)) (whole (p b)) (whole (p k)) w in
-      left_not_below (pos_of_mul-pos_ℤ t.positive (subst (λ z. pos 0 <ℤ z) (sym (only_first (t.n *ℤ bracket (at p a) (at p b) (at p k)) (t.k *ℤ bracket (at p a) (at p b) (at p n)) (t.l *ℤ bracket (at p a) (at p b) (at p b)) (E.mean_bracket IsPositive (p a) (p b) (p n) (p b) (whole (p k)) t) (zero-mul_ℤ t.l (bracket-last (at p a) (at p b)))))
+      left_not_below (pos_of_mul-pos_ℤ t.positive (subst (λ z. pos 0 <ℤ z) (sym (drop_zero_last (t.n *ℤ bracket (at p a) (at p b) (at p k)) (t.k *ℤ bracket (at p a) (at p b) (at p n)) (t.l *ℤ bracket (at p a) (at p b) (at p b)) (E.mean_bracket IsPositive (p a) (p b) (p n) (p b) (whole (p k)) t) (zero-mul_ℤ t.l (bracket-last (at p a) (at p b)))))
       (mul-pos_ℤ t.k_allowed sees))) (m.supporting (a, b) h k l)
 
   -- a run never comes back to its start, and so has no step twice

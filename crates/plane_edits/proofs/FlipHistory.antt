@@ -1,5 +1,5 @@
 -- What one legalising leaves alone: an edge that it flips away stays away.
-use Rattle.std.proofs.Common.{◌≡◌, ◌⊎◌, ℕ, suc, ◌≤◌, ◌+◌, ◌*◌, ◌-◌, List, [], ◌∷◌, length, refl, sym, ap, ◌∙◌, subst, arith}
+use Rattle.std.proofs.Common.{◌≡◌, ◌⊎◌, ℕ, suc, ◌≤◌, ◌+◌, ◌*◌, ◌-◌, List, [], ◌∷◌, length, refl, ap, ◌∙◌, subst, arith}
 use mathlib.Core.Logic.{inl, inr}
 use Rattle.std.specs.Prelude.{Contains}
 use Rattle.plane.specs.Fraction.{Point}
@@ -16,6 +16,7 @@ use Rattle.plane_edits.proofs.Changes.{face_from, face_kept, each, each_none, tu
 use Rattle.plane_edits.proofs.Kept.{turning_of, same_outer, flip_kept}
 use Rattle.plane_edits.proofs.Flipping.{failing_is_convex}
 use Rattle.plane_edits.proofs.Away.{away_back, away_is_no_edge, flip_goes_away, away_is_bounded}
+use Rattle.plane.proofs.Indexes.{same_joined, next_sum}
 
 -- ---- one flip
 -- each two corners of i j k are corners of a face, or are u and v
@@ -107,28 +108,19 @@ module _ (points : List Point) (outer : List (ℕ × ℕ)) where
   none_more : (n : ℕ) → n ≡ 0 + n
   none_more n = omega arith
 
-  added : (m n : ℕ) → suc (m + n) ≡ suc m + n
-  added m n = omega arith
-
   onward : {faces now : List Face} {count : ℕ} (away : List (ℕ × ℕ)) → IsOnItsWay faces away → ByFailingFlips points faces count now
       → (more : List (ℕ × ℕ)) × IsOnItsWay now more × (length more ≡ count + length away) × ((i j : ℕ) → Joins away i j → Joins more i j)
   onward away w no_flip = (away, w, none_more (length away), λ i j h. h)
   onward away w (one_more {before = before} {now = now} h a b c d s) =
       let r = onward away w h in
       let n = next before now r.0 a b c d r.1 s in
-      (n.0, n.1, n.2 ∙ ap suc r.2 ∙ added _ (length away), λ i j j'. n.4 i j (r.3 i j j'))
+      (n.0, n.1, n.2 ∙ ap suc r.2 ∙ next_sum _ (length away), λ i j j'. n.4 i j (r.3 i j j'))
 
   no_side : (faces : List Face) (away : List (ℕ × ℕ)) → IsOnItsWay faces away → (i j : ℕ) → Joins away i j → ¬ IsSideOfOne faces i j
   no_side faces away w i j (inl h) (k, inl f) = away_is_no_edge points faces outer i j k w.mesh (w.pairs.above i j h) f
   no_side faces away w i j (inl h) (k, inr f) = away_is_no_edge points faces outer j i k w.mesh (away_back points i j faces (w.pairs.above i j h)) f
   no_side faces away w i j (inr h) (k, inl f) = away_is_no_edge points faces outer i j k w.mesh (away_back points j i faces (w.pairs.above j i h)) f
   no_side faces away w i j (inr h) (k, inr f) = away_is_no_edge points faces outer j i k w.mesh (w.pairs.above j i h) f
-
-  same_joins : (pairs : List (ℕ × ℕ)) (i j a c : ℕ) → IsSamePair i j a c → Joins pairs a c → Joins pairs i j
-  same_joins pairs i j a c (inl e) (inl h) = inl (subst (Contains pairs) (λ o. (sym e.0 o, sym e.1 o)) h)
-  same_joins pairs i j a c (inl e) (inr h) = inr (subst (Contains pairs) (λ o. (sym e.1 o, sym e.0 o)) h)
-  same_joins pairs i j a c (inr e) (inl h) = inr (subst (Contains pairs) (λ o. (sym e.1 o, sym e.0 o)) h)
-  same_joins pairs i j a c (inr e) (inr h) = inl (subst (Contains pairs) (λ o. (sym e.0 o, sym e.1 o)) h)
 
   -- what stood at first still does, or a side of it is away
   record Parted (now : List Face) (Stands : List Face → Type 0) (Away : List (ℕ × ℕ) → Type 0) : Type 0 where
@@ -165,12 +157,12 @@ flipped_stays_away points faces new now outer a b c d count m s after =
 pub what_stands_was_not_touched : WhatStandsWasNotTouched
 what_stands_was_not_touched points start between now outer earlier later m before after = (
   λ i j. stood points outer start between now (λ faces. IsSideOfOne faces i j) (λ away. Joins away i j)
-      (λ faces new a b c d s h more o. elim (side_stays faces new a b c d s.change i j h) [ inl k ↦ inl k | inr e ↦ inr (same_joins points outer more i j a c e o) ])
+      (λ faces new a b c d s h more o. elim (side_stays faces new a b c d s.change i j h) [ inl k ↦ inl k | inr e ↦ inr (same_joined more i j a c e o) ])
       (λ away more kept h. kept i j h) (λ faces away w h. no_side points outer faces away w i j h) earlier later m before after,
   λ i j k. stood points outer start between now (λ faces. IsFaceOf faces i j k) (λ away. Joins away i j ⊎ (Joins away j k ⊎ Joins away k i))
       (λ faces new a b c d s h more o. elim (face_stays faces new a b c d s.change i j k h) [
         | inl f ↦ inl f
-        | inr e ↦ inr (elim e [ inl x ↦ inl (same_joins points outer more i j a c x o) | inr y ↦ elim y [ inl x ↦ inr (inl (same_joins points outer more j k a c x o)) | inr x ↦ inr (inr (same_joins points outer more k i a c x o)) ] ])
+        | inr e ↦ inr (elim e [ inl x ↦ inl (same_joined more i j a c x o) | inr y ↦ elim y [ inl x ↦ inr (inl (same_joined more j k a c x o)) | inr x ↦ inr (inr (same_joined more k i a c x o)) ] ])
       ])
       (λ away more kept h. elim h [ inl x ↦ inl (kept i j x) | inr y ↦ elim y [ inl x ↦ inr (inl (kept j k x)) | inr x ↦ inr (inr (kept k i x)) ] ])
       (λ faces away w h f. elim h [

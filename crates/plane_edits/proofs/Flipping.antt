@@ -1,7 +1,7 @@
 -- Flipping the edges that fail the circle test: what one flip does, and which edges are left to test.
 use Rattle.std.proofs.Common.{◌≡◌, ◌⊎◌, ℕ, ◌<◌, List, [], ◌∷◌, length, refl, sym, ◌∙◌, subst, arith}
 use mathlib.Core.Logic.{inl, inr, ◌≢◌}
-use Rattle.std.specs.Prelude.{ℤ, pos, negsuc, ◌+ℤ◌, ◌-ℤ◌, ◌*ℤ◌, ◌≤ℤ◌, ◌<ℤ◌, neg_ℤ, nat_abs, Contains}
+use Rattle.std.specs.Prelude.{ℤ, pos, ◌+ℤ◌, ◌-ℤ◌, ◌*ℤ◌, ◌≤ℤ◌, ◌<ℤ◌, neg_ℤ, Contains}
 use Rattle.std.proofs.lemmas.Int.{ints}
 use Rattle.plane.specs.Fraction.{Point, whole}
 use Rattle.plane.specs.Side.{TurnsLeft}
@@ -32,7 +32,7 @@ use Rattle.plane_edits.proofs.Changes.{face_from, each, each_none, turn_of_all, 
 use Rattle.plane_edits.proofs.Legal.{convex_at_first, convex_at_third}
 use Rattle.plane_edits.proofs.Kept.{turning_of, same_outer, flip_kept}
 use Rattle.plane_edits.proofs.Additions.{around_turn_free}
-use Rattle.plane.proofs.Signs.{sum_not_negative, sum_of_three_not_negative}
+use Rattle.plane.proofs.Signs.{sum_not_negative, sum_of_three_not_negative, lower_magnitude}
 
 -- ---- the test
 pub one_question : OneQuestionForBoth
@@ -103,11 +103,6 @@ area_nonneg a b c h = mul-nonneg_ℤ (subst (λ z. pos 0 ≤ℤ z) (bracket-affi
   where
     length_nonneg : (p : Point) → pos 0 ≤ℤ squared_length p
     length_nonneg p = sum_not_negative (p.x *ℤ p.x) (p.y *ℤ p.y) (square-nonneg_ℤ p.x) (square-nonneg_ℤ p.y)
-
-smaller : (x y : ℤ) → pos 0 ≤ℤ x → x <ℤ y → nat_abs x < nat_abs y
-smaller (pos a) (pos b) h k = omega (arith, ints)
-smaller (pos a) (negsuc b) h k = absurd (omega (arith, ints))
-smaller (negsuc a) y h k = absurd (omega (arith, ints))
 
 falls : (new old abc acd abd bcd e : ℤ) → new +ℤ (abc +ℤ (acd +ℤ pos 0)) ≡ old +ℤ (abd +ℤ (bcd +ℤ pos 0)) → (abc +ℤ acd) -ℤ (abd +ℤ bcd) ≡ e → pos 0 <ℤ e → new <ℤ old
 falls new old abc acd abd bcd e h k l = omega (arith, ints)
@@ -192,7 +187,7 @@ module _ (points : List Point) (faces new : List Face) (outer : List (ℕ × ℕ
   unfolding area
   flip_lowered =
       let P = point_at points in
-      smaller (total (lifted_area points) new) (total (lifted_area points) faces) (total_nonneg (lifted_area points) new (λ f h. area_nonneg (P f.a) (P f.b) (P f.c) (new_signs.turning f h)))
+      lower_magnitude (total (lifted_area points) new) (total (lifted_area points) faces) (total_nonneg (lifted_area points) new (λ f h. area_nonneg (P f.a) (P f.b) (P f.c) (new_signs.turning f h)))
       (falls (total (lifted_area points) new) (total (lifted_area points) faces) (area (P a) (P b) (P c)) (area (P a) (P c) (P d)) (area (P a) (P b) (P d)) (area (P b) (P c) (P d)) (incircle (lift (P a)) (lift (P b)) (lift (P c)) (lift (P d)))
       (change.totals (lifted_area points) (area_turn_free points)) (area_falls (P a) (P b) (P c) (P d)) excess)
 

@@ -3,12 +3,11 @@ use Rattle.std.proofs.Common.{◌≡◌, ◌⊎◌, ℕ, zero, suc, ◌<◌, Lis
 use mathlib.Core.Logic.{inl, inr, ◌≢◌}
 use Rattle.std.specs.Prelude.{ℤ, pos, ◌+ℤ◌, ◌-ℤ◌, ◌*ℤ◌, ◌≤ℤ◌, ◌<ℤ◌, neg_ℤ, Contains}
 use Rattle.std.proofs.lemmas.Int.{ints}
-use lib.IntN.{*ℤ_comm}
 use Rattle.plane.specs.Fraction.{Point, whole, IsPositive, WithinSegment}
 use Rattle.plane.specs.Tiling.{Face, face}
 use Rattle.plane_tiling.specs.Local.{total, around, along, IsAntisymmetric, AreBalanced}
 use Rattle.plane.proofs.IntegerOrder.{mul-pos_ℤ, zero-mul_ℤ, lt_or_ge_ℤ, pos_of_mul-pos_ℤ, nonneg_of_mul-nonneg_ℤ, mul-nonneg_ℤ}
-use Rattle.plane.proofs.Steps.{product_zero_left, weak, left_not_zero, left_not_below, zero_weak}
+use Rattle.plane.proofs.Steps.{product_zero_left, weak, left_not_zero, left_not_below, zero_weak, drop_zero, drop_zero_last}
 use Rattle.plane.proofs.Solver.{Poly, num, ◌⊕◌, ◌⊖◌, ◌⊗◌, ring_over}
 use Rattle.plane.proofs.Bracket.{bracket, bracketᵖ, lift, Pointᵖ, points, liftᵖ}
 use Rattle.plane.proofs.BracketIdentities.{bracket-turn, bracket-swap, bracket-outer, bracket-last}
@@ -24,9 +23,10 @@ use Rattle.plane_edits.specs.Change.{FacesChange, OuterChange}
 use Rattle.plane_edits.specs.Extension.{fan, steps, last_of}
 use Rattle.plane_edits.proofs.Changes.{face_from, turn_of_all, IsOnce, once_none, once_cons, once_tail, once_head, same_total}
 use Rattle.plane_edits.proofs.Additions.{IsUsed, corner_of_used, AreTurning, turning_turned, around_turn_free, outer_totals}
-use Rattle.plane_edits.proofs.Extension.{IsRun, run_up_to, fan_from, fan_total, fans_balance, last_step, only_first, only_last, not_own_end, not_own_start}
-use Rattle.plane.proofs.Signs.{difference_is_positive, difference_not_negative, less_by_difference, same_is_at_most_of, sum_of_zeros}
+use Rattle.plane_edits.proofs.Extension.{IsRun, run_up_to, fan_from, fan_total, fans_balance, last_step, not_own_end, not_own_start}
+use Rattle.plane.proofs.Signs.{difference_is_positive, difference_not_negative, less_by_difference, same_is_at_most_of, sum_of_zeros, opposite_not_positive, at_most_both_ways}
 use Rattle.plane_edits.proofs.Hull.{factor_left}
+use Rattle.plane.proofs.Indexes.{below_or_last}
 
 -- ---- turns towards q, by places on the line of a and b
 abbrev placeᵖ : Pointᵖ → Pointᵖ → Pointᵖ → Poly
@@ -47,9 +47,6 @@ greatest_below : (f : ℕ → ℤ) (b : ℤ) (n : ℕ) → ((k : ℕ) → k < n 
 greatest_below f b zero = inl (λ k h. absurd (omega arith))
 greatest_below f b (suc n) = go (greatest_below f b n) (lt_or_ge_ℤ (f n) b)
   where
-    below_or_last : (k : ℕ) → k < suc n → (k < n) ⊎ (k ≡ n)
-    below_or_last k h = grind arith
-
     after : {x y z : ℤ} → x ≤ℤ y → y <ℤ z → x ≤ℤ z
     after h k = omega (arith, ints)
 
@@ -58,14 +55,14 @@ greatest_below f b (suc n) = go (greatest_below f b n) (lt_or_ge_ℤ (f n) b)
 
     go : ((k : ℕ) → k < n → b ≤ℤ f k) ⊎ ((i : ℕ) × (i < n) × (f i <ℤ b) × ((k : ℕ) → k < n → f k <ℤ b → f k ≤ℤ f i)) → (f n <ℤ b) ⊎ (b ≤ℤ f n)
         → ((k : ℕ) → k < suc n → b ≤ℤ f k) ⊎ ((i : ℕ) × (i < suc n) × (f i <ℤ b) × ((k : ℕ) → k < suc n → f k <ℤ b → f k ≤ℤ f i))
-    go (inl all) (inr h) = inl (λ k l. elim (below_or_last k l) [ inl x ↦ all k x | inr e ↦ subst (λ (i : ℕ). b ≤ℤ f i) (sym e) h ])
-    go (inl all) (inl h) = inr (n, omega arith, h, (λ k l s. elim (below_or_last k l) [ inl x ↦ absurd (clash s (all k x)) | inr e ↦ same_is_at_most_of (ap f e) ]))
-    go (inr (i, x, y, z)) (inr h) = inr (i, omega arith, y, (λ k l s. elim (below_or_last k l) [ inl r ↦ z k r s | inr e ↦ absurd (clash s (subst (λ (i : ℕ). b ≤ℤ f i) (sym e) h)) ]))
+    go (inl all) (inr h) = inl (λ k l. elim (below_or_last n k l) [ inl x ↦ all k x | inr e ↦ subst (λ (i : ℕ). b ≤ℤ f i) (sym e) h ])
+    go (inl all) (inl h) = inr (n, omega arith, h, (λ k l s. elim (below_or_last n k l) [ inl x ↦ absurd (clash s (all k x)) | inr e ↦ same_is_at_most_of (ap f e) ]))
+    go (inr (i, x, y, z)) (inr h) = inr (i, omega arith, y, (λ k l s. elim (below_or_last n k l) [ inl r ↦ z k r s | inr e ↦ absurd (clash s (subst (λ (i : ℕ). b ≤ℤ f i) (sym e) h)) ]))
     go (inr (i, x, y, z)) (inl h) = by (lt_or_ge_ℤ (f i) (f n))
       where
         by : (f i <ℤ f n) ⊎ (f n ≤ℤ f i) → ((k : ℕ) → k < suc n → b ≤ℤ f k) ⊎ ((i : ℕ) × (i < suc n) × (f i <ℤ b) × ((k : ℕ) → k < suc n → f k <ℤ b → f k ≤ℤ f i))
-        by (inl o) = inr (n, omega arith, h, (λ k l s. elim (below_or_last k l) [ inl r ↦ after (z k r s) o | inr e ↦ same_is_at_most_of (ap f e) ]))
-        by (inr o) = inr (i, omega arith, y, (λ k l s. elim (below_or_last k l) [ inl r ↦ z k r s | inr e ↦ subst (λ (j : ℕ). f j ≤ℤ f i) (sym e) o ]))
+        by (inl o) = inr (n, omega arith, h, (λ k l s. elim (below_or_last n k l) [ inl r ↦ after (z k r s) o | inr e ↦ same_is_at_most_of (ap f e) ]))
+        by (inr o) = inr (i, omega arith, y, (λ k l s. elim (below_or_last n k l) [ inl r ↦ z k r s | inr e ↦ subst (λ (j : ℕ). f j ≤ℤ f i) (sym e) o ]))
 
 -- ---- the two ways of each pair cancel out
 swapped : ℕ × ℕ → ℕ × ℕ
@@ -175,9 +172,6 @@ module _ (n : ℕ) (p : ℕ → Point) (outer now : List (ℕ × ℕ)) (new : Li
   same_spot : (i j : ℕ) → i < n → j < n → spot i ≡ spot j → i ≡ j
   same_spot i j hi hj e = same_place n p m.distinct (p u) (p v) apart i j hi hj (on i hi) (on j hj) e
 
-  level : {x y : ℤ} → x ≤ℤ y → y ≤ℤ x → x ≡ y
-  level h k = omega (arith, ints)
-
   -- no vertex stands strictly between the ends of a rising edge
   not_between : (i j k : ℕ) → IsNext n p i j → k < n → spot i <ℤ spot k → spot k <ℤ spot j → ⊥
   not_between i j k s h a b = s.none_between k h (within_places (p u) (p v) apart (p i) (p j) (p k) (on i s.first) (on j s.second) (on k h) (inl (a, b)))
@@ -187,11 +181,11 @@ module _ (n : ℕ) (p : ℕ → Point) (outer now : List (ℕ × ℕ)) (new : Li
 
   -- each vertex from x on stands on the path
   stands : (x : ℕ) (ys : List ℕ) → x < n → IsRun n p outer x ys → (k : ℕ) → k < n → spot x ≤ℤ spot k → spot k ≤ℤ spot (last_of x ys) → (k ≡ x) ⊎ ((s : ℕ) × Contains (steps x ys) (s, k))
-  stands x [] hx r k h a b = inl (same_spot k x h hx (level b a))
+  stands x [] hx r k h a b = inl (same_spot k x h hx (at_most_both_ways _ _ b a))
   stands x (y ∷ ys) hx r k h a b = go (lt_or_ge_ℤ (spot k) (spot y)) (lt_or_ge_ℤ (spot x) (spot k)) (stands y ys ((m.neighbours x y).0 r.0).second r.2 k h)
     where
       go : (spot k <ℤ spot y) ⊎ (spot y ≤ℤ spot k) → (spot x <ℤ spot k) ⊎ (spot k ≤ℤ spot x) → (spot y ≤ℤ spot k → spot k ≤ℤ spot (last_of y ys) → (k ≡ y) ⊎ ((s : ℕ) × Contains (steps y ys) (s, k))) → (k ≡ x) ⊎ ((s : ℕ) × Contains (steps x (y ∷ ys)) (s, k))
-      go (inl o) (inr q) rest = inl (same_spot k x h hx (level q a))
+      go (inl o) (inr q) rest = inl (same_spot k x h hx (at_most_both_ways _ _ q a))
       go (inl o) (inl q) rest = absurd (not_between x y k ((m.neighbours x y).0 r.0) h q o)
       go (inr o) q rest = elim (rest o b) [ inl e ↦ inr (x, subst (λ i. Contains ((x, y) ∷ steps y ys) (x, i)) (sym e) (Contains-head (x, y) (steps y ys))) | inr t ↦ inr (t.0, Contains-later (x, y) (steps y ys) (t.0, k) t.1) ]
 
@@ -201,7 +195,7 @@ module _ (n : ℕ) (p : ℕ → Point) (outer now : List (ℕ × ℕ)) (new : Li
   goes_on x (y ∷ ys) hx r k h a b = go (lt_or_ge_ℤ (spot k) (spot y)) (lt_or_ge_ℤ (spot x) (spot k)) (goes_on y ys ((m.neighbours x y).0 r.0).second r.2 k h)
     where
       go : (spot k <ℤ spot y) ⊎ (spot y ≤ℤ spot k) → (spot x <ℤ spot k) ⊎ (spot k ≤ℤ spot x) → (spot y ≤ℤ spot k → spot k <ℤ spot (last_of y ys) → (z : ℕ) × Contains (steps y ys) (k, z)) → (z : ℕ) × Contains (steps x (y ∷ ys)) (k, z)
-      go (inl o) (inr q) rest = (y, subst (λ i. Contains ((x, y) ∷ steps y ys) (i, y)) (sym (same_spot k x h hx (level q a))) (Contains-head (x, y) (steps y ys)))
+      go (inl o) (inr q) rest = (y, subst (λ i. Contains ((x, y) ∷ steps y ys) (i, y)) (sym (same_spot k x h hx (at_most_both_ways _ _ q a))) (Contains-head (x, y) (steps y ys)))
       go (inl o) (inl q) rest = absurd (not_between x y k ((m.neighbours x y).0 r.0) h q o)
       go (inr o) q rest = let t = rest o b in (t.0, Contains-later (x, y) (steps y ys) (k, t.0) t.1)
 
@@ -285,12 +279,10 @@ module _ (n : ℕ) (p : ℕ → Point) (outer now : List (ℕ × ℕ)) (new : Li
         go : (y : ℕ) → IsNext n p i j → IsNext n p i y → spot i <ℤ spot y → (spot y <ℤ spot j) ⊎ (spot j ≤ℤ spot y) → (spot j <ℤ spot y) ⊎ (spot y ≤ℤ spot j) → y ≡ j
         go y a b r (inl o) q = absurd (not_between i j y a b.second r o)
         go y a b r (inr o) (inl q) = absurd (not_between i y j b a.second (rises i j h sees) q)
-        go y a b r (inr o) (inr q) = same_spot y j b.second a.second (level q o)
+        go y a b r (inr o) (inr q) = same_spot y j b.second a.second (at_most_both_ways _ _ q o)
 
     -- ---- the mesh
     module _ (faces_change : FacesChange [] new [] (fan n u (v ∷ vs))) (outer_change : OuterChange outer now (steps u (v ∷ vs)) ((u, n) ∷ (n, last_of v vs) ∷ [])) where
-      below_or_last : (k : ℕ) → k < suc n → (k < n) ⊎ (k ≡ n)
-      below_or_last k h = grind arith
 
       wider : {k : ℕ} → k < n → k < suc n
       wider h = omega arith
@@ -354,15 +346,12 @@ module _ (n : ℕ) (p : ℕ → Point) (outer now : List (ℕ × ℕ)) (new : Li
       abbrev Supports : ℕ × ℕ → Type 0
       Supports e = (k : ℕ) → (k < n) ⊎ (k ≡ n) → bracket (at p e.0) (at p e.1) (at p k) ≤ℤ pos 0
 
-      negated_weak : {z y : ℤ} → z ≡ neg_ℤ y → pos 0 ≤ℤ y → z ≤ℤ pos 0
-      negated_weak e h = omega (arith, ints)
-
       first_supports : Supports (u, n)
-      first_supports k (inl h) = negated_weak (bracket-turn (at p u) (at p n) (at p k) ∙ bracket-turn (at p n) (at p k) (at p u) ∙ bracket-swap (at p k) (at p u) (at p n)) (level_or_rising u k first.first h (from_start k h))
+      first_supports k (inl h) = opposite_not_positive (bracket-turn (at p u) (at p n) (at p k) ∙ bracket-turn (at p n) (at p k) (at p u) ∙ bracket-swap (at p k) (at p u) (at p n)) (level_or_rising u k first.first h (from_start k h))
       first_supports k (inr e) = zero_weak (ap (λ i. bracket (at p u) (at p n) (at p i)) e ∙ bracket-last (at p u) (at p n))
 
       last_supports : Supports (n, last_of v vs)
-      last_supports k (inl h) = negated_weak (bracket-turn (at p n) (at p (last_of v vs)) (at p k) ∙ bracket-swap (at p (last_of v vs)) (at p k) (at p n)) (level_or_rising k (last_of v vs) h final_index (to_end k h))
+      last_supports k (inl h) = opposite_not_positive (bracket-turn (at p n) (at p (last_of v vs)) (at p k) ∙ bracket-swap (at p (last_of v vs)) (at p k) (at p n)) (level_or_rising k (last_of v vs) h final_index (to_end k h))
       last_supports k (inr e) = zero_weak (ap (λ i. bracket (at p n) (at p (last_of v vs)) (at p i)) e ∙ bracket-outer (at p n) (at p (last_of v vs)))
 
       unseen : (e : ℕ × ℕ) → Contains outer e → ¬ Contains (steps u (v ∷ vs)) e → bracket (at p e.0) (at p e.1) (at p n) ≤ℤ pos 0
@@ -381,13 +370,13 @@ module _ (n : ℕ) (p : ℕ → Point) (outer now : List (ℕ × ℕ)) (new : Li
       first_bare : Bare (u, n)
       first_bare k (inl h) w =
           let t = two_weights IsPositive (whole (p u)) (whole (p n)) (whole (p k)) w in
-          left_not_zero (mul-pos_ℤ t.l_allowed run.1) (sym (only_last (t.n *ℤ bracket (at p u) (at p v) (at p k)) (t.k *ℤ bracket (at p u) (at p v) (at p u)) (t.l *ℤ bracket (at p u) (at p v) (at p n)) (E.mean_bracket IsPositive (p u) (p v) (p u) (p n) (whole (p k)) t) (zero-mul_ℤ t.k (bracket-outer (at p u) (at p v)))) ∙ zero-mul_ℤ t.n (on k h))
+          left_not_zero (mul-pos_ℤ t.l_allowed run.1) (sym (drop_zero (t.n *ℤ bracket (at p u) (at p v) (at p k)) (t.k *ℤ bracket (at p u) (at p v) (at p u)) (t.l *ℤ bracket (at p u) (at p v) (at p n)) (E.mean_bracket IsPositive (p u) (p v) (p u) (p n) (whole (p k)) t) (zero-mul_ℤ t.k (bracket-outer (at p u) (at p v)))) ∙ zero-mul_ℤ t.n (on k h))
       first_bare k (inr e) w = not_own_end (p u) (p v) (p n) run.1 (subst (λ i. WithinSegment (whole (p u)) (whole (p n)) (whole (p i))) e w)
 
       last_bare : Bare (n, last_of v vs)
       last_bare k (inl h) w =
           let t = two_weights IsPositive (whole (p n)) (whole (p (last_of v vs))) (whole (p k)) w in
-          left_not_zero (mul-pos_ℤ t.k_allowed run.1) (sym (only_first (t.n *ℤ bracket (at p u) (at p v) (at p k)) (t.k *ℤ bracket (at p u) (at p v) (at p n)) (t.l *ℤ bracket (at p u) (at p v) (at p (last_of v vs))) (E.mean_bracket IsPositive (p u) (p v) (p n) (p (last_of v vs)) (whole (p k)) t) (zero-mul_ℤ t.l (on (last_of v vs) final_index))) ∙ zero-mul_ℤ t.n (on k h))
+          left_not_zero (mul-pos_ℤ t.k_allowed run.1) (sym (drop_zero_last (t.n *ℤ bracket (at p u) (at p v) (at p k)) (t.k *ℤ bracket (at p u) (at p v) (at p n)) (t.l *ℤ bracket (at p u) (at p v) (at p (last_of v vs))) (E.mean_bracket IsPositive (p u) (p v) (p n) (p (last_of v vs)) (whole (p k)) t) (zero-mul_ℤ t.l (on (last_of v vs) final_index))) ∙ zero-mul_ℤ t.n (on k h))
       last_bare k (inr e) w = not_own_start (p final.0) (p (last_of v vs)) (p n) final.2 (subst (λ i. WithinSegment (whole (p n)) (whole (p (last_of v vs))) (whole (p i))) e w)
 
       bare : (e : ℕ × ℕ) → From e → Bare e
@@ -419,14 +408,14 @@ module _ (n : ℕ) (p : ℕ → Point) (outer now : List (ℕ × ℕ)) (new : Li
       -- the mesh over the line is local
       pub raised : SignMesh (suc n) p new now
       raised = record {
-        distinct = λ i j h k a. distinct i j (below_or_last i h) (below_or_last j k) a;
+        distinct = λ i j h k a. distinct i j (below_or_last n i h) (below_or_last n j k) a;
         some_face = let t = corner_of_used new n (used n (inr refl)) in (t.0, t.1);
-        used = λ k h. inl (corner_of_used new k (used k (below_or_last k h)));
+        used = λ k h. inl (corner_of_used new k (used k (below_or_last n k h)));
         corners = λ g h. let t = turning g.a g.b g.c (inl h) in (t.0, t.1, t.2);
         turning = λ g h. (turning g.a g.b g.c (inl h)).3;
         ends = λ e h. ends e (from e h);
-        supporting = λ e h k l. supporting e (from e h) k (below_or_last k l);
-        bare = λ e h k l. bare e (from e h) k (below_or_last k l);
+        supporting = λ e h k l. supporting e (from e h) k (below_or_last n k l);
+        bare = λ e h k l. bare e (from e h) k (below_or_last n k l);
         once = outer_change.once;
         balanced = balanced;
       }

@@ -15,7 +15,7 @@ use Rattle.plane.proofs.Bracket.{bracket}
 use Rattle.plane.proofs.BracketIdentities.{bracket-same, bracket-outer, bracket-last}
 use Rattle.plane_tiling.proofs.Totals.{Contains-head, Contains-later, Contains-cases, Contains-none}
 use Rattle.plane_tiling.proofs.Counting.{at, SignMesh}
-use Rattle.plane_tiling.proofs.Flows.{IsTurnOf}
+use Rattle.plane_tiling.proofs.Flows.{IsTurnOf, no_turn}
 use Rattle.plane_tiling.proofs.Tiles.{point_at, bracket_not_left}
 use Rattle.plane_edits.specs.Change.{FacesChange, OuterChange}
 use Rattle.plane_edits.specs.Extension.{fan, steps, last_of, IsSeenRun, IsExtending}
@@ -53,12 +53,7 @@ module _ (old new more : List Face) (gained again : List Face) (c : FacesChange 
   sums m o n g a b e h k = omega (arith, ints)
 
   still : (i j k : ℕ) → IsTurnOf new i j k → IsTurnOf more i j k
-  still i j k h = elim (face_kept new more [] again d i j k h) [ inl o ↦ o | inr o ↦ absurd (nothing i j k o) ]
-    where
-      nothing : (i j k : ℕ) → IsTurnOf [] i j k → ⊥
-      nothing i j k (inl x) = Contains-none (face i j k) x
-      nothing i j k (inr (inl x)) = Contains-none (face j k i) x
-      nothing i j k (inr (inr x)) = Contains-none (face k i j) x
+  still i j k h = elim (face_kept new more [] again d i j k h) [ inl o ↦ o | inr o ↦ absurd (no_turn i j k o) ]
 
   pub faces_gained : FacesChange old more [] all
   faces_gained = record {

@@ -12,13 +12,13 @@ use Rattle.plane_tiling.specs.Local.{LineMesh}
 use Rattle.plane_tiling.proofs.Totals.{Contains-head, Contains-later, Contains-cases, Contains-none}
 use Rattle.plane_tiling.proofs.Counting.{at, within_turned}
 use Rattle.plane_tiling.proofs.Tiles.{point_at}
-use Rattle.plane_tiling.proofs.Line.{SignLine, IsNext, next_turned}
+use Rattle.plane_tiling.proofs.Line.{SignLine, IsNext, next_turned, back_way}
 use Rattle.plane_tiling.proofs.LineMeshes.{line_by_signs}
 use Rattle.plane_tiling.proofs.LinePlaces as O
 use Rattle.plane_edits.specs.Change.{OuterChange}
 use Rattle.plane_edits.specs.Removal.{AreNeighboursBut, LineMeshWithout}
 use Rattle.plane_edits.specs.RemovalLaws.{EndOfLineGoes, MiddleOfLineGoes}
-use Rattle.plane.proofs.Signs.{at_most_both_ways, less_through, less_twice_is_not_same}
+use Rattle.plane.proofs.Signs.{at_most_both_ways, less_through, less_twice_is_not_same, less_both_ways, below_and_not_below, same_if_neither_less}
 
 -- i and j have no vertex strictly between them but perhaps v
 record IsNextBut (v n : ℕ) (p : ℕ → Point) (i j : ℕ) : Type 0 where
@@ -30,9 +30,6 @@ record IsNextBut (v n : ℕ) (p : ℕ → Point) (i j : ℕ) : Type 0 where
 module _ (n : ℕ) (p : ℕ → Point) (outer : List (ℕ × ℕ)) (m : SignLine n p outer) (v i : ℕ) (edge : Contains outer (v, i)) where
   next_of : (a b : ℕ) → Contains outer (a, b) → IsNext n p a b
   next_of a b h = (m.neighbours a b).0 h
-
-  back_of : (a b : ℕ) → Contains outer (a, b) → Contains outer (b, a)
-  back_of a b h = (m.neighbours b a).1 (next_turned n p a b (next_of a b h))
 
   own : IsNext n p v i
   own = next_of v i edge
@@ -53,17 +50,14 @@ module _ (n : ℕ) (p : ℕ → Point) (outer : List (ℕ × ℕ)) (m : SignLine
   unfolding spot
   same = O.same_spot n p outer m (whole (p v)) v i own.first own.second own.apart (bracket-outer (at p v) (at p i))
 
-  equal_if : (a b : ℤ) → ¬ (a <ℤ b) → ¬ (b <ℤ a) → a ≡ b
-  equal_if a b h k = elim (lt_or_ge_ℤ a b) [ inl l ↦ absurd (h l) | inr l ↦ elim (lt_or_ge_ℤ b a) [ inl q ↦ absurd (k q) | inr q ↦ omega (arith, ints) ] ]
-
   -- neighbours of v on one side of it are one
   both_below : (a b : ℕ) → IsNext n p v a → IsNext n p v b → spot a <ℤ spot v → spot b <ℤ spot v → a ≡ b
-  both_below a b f g x y = same a b f.second g.second (equal_if (spot a) (spot b)
+  both_below a b f g x y = same a b f.second g.second (same_if_neither_less (spot a) (spot b)
       (λ l. f.none_between b g.second (within_turned (p a) (p v) (p b) (within a v b f.second f.first g.second l y)))
       (λ l. g.none_between a f.second (within_turned (p b) (p v) (p a) (within b v a g.second g.first f.second l x))))
 
   both_above : (a b : ℕ) → IsNext n p v a → IsNext n p v b → spot v <ℤ spot a → spot v <ℤ spot b → a ≡ b
-  both_above a b f g x y = same a b f.second g.second (equal_if (spot a) (spot b)
+  both_above a b f g x y = same a b f.second g.second (same_if_neither_less (spot a) (spot b)
       (λ l. g.none_between a f.second (within v b a g.first g.second f.second x l))
       (λ l. f.none_between b g.second (within v a b f.first f.second g.second y l)))
 
@@ -96,7 +90,7 @@ module _ (n : ℕ) (p : ℕ → Point) (outer : List (ℕ × ℕ)) (m : SignLine
           chain a b c k x y z w = omega (arith, ints)
 
           none : (k : ℕ) → k < n → k ≢ v → ((spot low <ℤ spot k) × (spot k <ℤ spot high)) ⊎ (((spot high <ℤ spot k) × (spot k <ℤ spot low)) ⊎ ((spot low ≡ spot k) × (spot k ≡ spot high))) → ⊥
-          none k h q (inl o) = q (same k v h low_next.first (equal_if (spot k) (spot v)
+          none k h q (inl o) = q (same k v h low_next.first (same_if_neither_less (spot k) (spot v)
               (λ l. low_next.none_between k h (within_turned (p low) (p v) (p k) (within low v k low_next.second low_next.first h o.0 l)))
               (λ l. high_next.none_between k h (within v high k high_next.first high_next.second h l o.1))))
           none k h q (inr (inl o)) = chain (spot low) (spot v) (spot high) (spot k) below above o.0 o.1
@@ -105,10 +99,10 @@ module _ (n : ℕ) (p : ℕ → Point) (outer : List (ℕ × ℕ)) (m : SignLine
       -- with v between a and b, they are these two
       ends_are : (a b : ℕ) → IsNextBut v n p a b → spot a <ℤ spot v → spot v <ℤ spot b → (a ≡ low) × (b ≡ high)
       ends_are a b s x y = (
-        same a low s.first.0 low_next.second (equal_if (spot a) (spot low)
+        same a low s.first.0 low_next.second (same_if_neither_less (spot a) (spot low)
             (λ l. s.none_between low low_next.second (λ e. low_next.apart (sym e)) (within a b low s.first.0 s.second.0 low_next.second l (less_through (spot low) (spot v) (spot b) below y)))
             (λ l. low_next.none_between a s.first.0 (within_turned (p low) (p v) (p a) (within low v a low_next.second low_next.first s.first.0 l x)))),
-        same b high s.second.0 high_next.second (equal_if (spot b) (spot high)
+        same b high s.second.0 high_next.second (same_if_neither_less (spot b) (spot high)
             (λ l. high_next.none_between b s.second.0 (within v high b high_next.first high_next.second s.second.0 y l))
             (λ l. s.none_between high high_next.second (λ e. high_next.apart (sym e)) (within a b high s.first.0 s.second.0 high_next.second (less_through (spot a) (spot v) (spot high) x above) l))),
       )
@@ -256,21 +250,15 @@ module _ (n : ℕ) (p : ℕ → Point) (outer : List (ℕ × ℕ)) (m : SignLine
     unfolding spot'
     upper = O.lower_edge n p outer m (whole (p v)) i v own.second own.first (λ e. own.apart (sym e)) level' v own.first
 
-    clash : (a b : ℤ) → a <ℤ b → b ≤ℤ a → ⊥
-    clash a b h k = omega (arith, ints)
-
-    both_clash : (a b : ℤ) → a <ℤ b → b <ℤ a → ⊥
-    both_clash a b h k = omega (arith, ints)
-
     -- one below v: i is
     i_below : (k : ℕ) → k < n → spot k <ℤ spot v → spot i <ℤ spot v
-    i_below k h l = elim (O.nearest_below spot n (spot v)) [ inl s ↦ subst (λ o. spot o <ℤ spot v) (alone s.0 (lower s.0 s.1)) s.1.below | inr none ↦ absurd (clash (spot k) (spot v) l (none k h)) ]
+    i_below k h l = elim (O.nearest_below spot n (spot v)) [ inl s ↦ subst (λ o. spot o <ℤ spot v) (alone s.0 (lower s.0 s.1)) s.1.below | inr none ↦ absurd (below_and_not_below (spot k) (spot v) l (none k h)) ]
 
     -- one above v: i is
     i_above : (k : ℕ) → k < n → spot v <ℤ spot k → spot v <ℤ spot i
     i_above k h l = elim (O.nearest_below spot' n (spot' v)) [
       | inl s ↦ over (spot' i) (spot' v) (spot i) (spot v) (turned_order i) (subst (λ o. spot' o <ℤ spot' v) (alone s.0 (upper s.0 s.1)) s.1.below)
-      | inr none ↦ absurd (clash (spot' k) (spot' v) (under (spot' k) (spot' v) (spot k) (spot v) (turned_order k) l) (none k h))
+      | inr none ↦ absurd (below_and_not_below (spot' k) (spot' v) (under (spot' k) (spot' v) (spot k) (spot v) (turned_order k) l) (none k h))
     ]
       where
         under : (a b c d : ℤ) → a -ℤ b ≡ d -ℤ c → d <ℤ c → a <ℤ b
@@ -284,8 +272,8 @@ module _ (n : ℕ) (p : ℕ → Point) (outer : List (ℕ × ℕ)) (m : SignLine
     at_end a b ha hb na w = go (order a b v w)
       where
         go : ((spot a <ℤ spot v) × (spot v <ℤ spot b)) ⊎ (((spot b <ℤ spot v) × (spot v <ℤ spot a)) ⊎ ((spot a ≡ spot v) × (spot v ≡ spot b))) → ⊥
-        go (inl o) = both_clash (spot i) (spot v) (i_below a ha o.0) (i_above b hb o.1)
-        go (inr (inl o)) = both_clash (spot i) (spot v) (i_below b hb o.0) (i_above a ha o.1)
+        go (inl o) = less_both_ways (spot i) (spot v) (i_below a ha o.0) (i_above b hb o.1)
+        go (inr (inl o)) = less_both_ways (spot i) (spot v) (i_below b hb o.0) (i_above a ha o.1)
         go (inr (inr o)) = na (same a v ha own.first o.0)
 
     abbrev two_gone : List (ℕ × ℕ)
@@ -306,7 +294,7 @@ module _ (n : ℕ) (p : ℕ → Point) (outer : List (ℕ × ℕ)) (m : SignLine
         there : (Contains outer (a, b) × ¬ Contains two_gone (a, b)) ⊎ Contains none_made (a, b) → IsNextBut v n p a b
         there (inl h) = is_next a b (next_of a b h.0)
             (λ e. h.1 (subst (λ o. Contains two_gone (o, b)) (sym e) (gone_with b (alone b (subst (λ o. Contains outer (o, b)) e h.0))).0))
-            (λ e. h.1 (subst (λ o. Contains two_gone (a, o)) (sym e) (gone_with a (alone a (back_of a v (subst (λ o. Contains outer (a, o)) e h.0)))).1))
+            (λ e. h.1 (subst (λ o. Contains two_gone (a, o)) (sym e) (gone_with a (alone a (back_way n p outer m a v (subst (λ o. Contains outer (a, o)) e h.0)))).1))
         there (inr h) = absurd (Contains-none (a, b) h)
 
 -- ---- in the words of specs/

@@ -1,5 +1,5 @@
 -- The removal of an inner vertex, in the words of specs/.
-use Rattle.std.proofs.Common.{◌≡◌, ◌⊎◌, ℕ, suc, ◌≤◌, List, [], length, refl, sym, ◌∙◌, subst, arith}
+use Rattle.std.proofs.Common.{◌≡◌, ◌⊎◌, ℕ, suc, ◌≤◌, List, length, refl, sym, ◌∙◌, subst, arith}
 use Prim.Native.Nat.{◌-◌}
 use mathlib.Core.Logic.{inl, inr, ◌≢◌}
 use Rattle.std.specs.Prelude.{Contains}
@@ -23,7 +23,7 @@ use Rattle.plane_edits.proofs.RemovalMerge.{SignMeshWithout}
 pub without_in_words : (v : ℕ) (points : List Point) (faces : List Face) (outer : List (ℕ × ℕ)) → SignMeshWithout v (length points) (point_at points) faces outer → LocalMeshWithout v points faces outer
 without_in_words v points faces outer m = record {
   distinct = λ i j h k n e. m.distinct i j h.0 k.0 n (λ o. record { x = (e o).x; y = (e o).y });
-  some_face = λ e. none (m.some_face.0) (m.some_face.1) (m.some_face.2) (subst (λ l. IsTurnOf l m.some_face.0 m.some_face.1 m.some_face.2) e m.some_face.3);
+  some_face = λ e. no_turn (m.some_face.0) (m.some_face.1) (m.some_face.2) (subst (λ l. IsTurnOf l m.some_face.0 m.some_face.1 m.some_face.2) e m.some_face.3);
   used = λ k h. inl (corner_of_used faces k (m.used k h.0 h.1));
   corners = λ f h. let t = m.turning f.a f.b f.c (inl h) in ((t.0, apart f h f.a (inl refl)), (t.1, apart f h f.b (inr (inl refl))), (t.2, apart f h f.c (inr (inr refl))));
   turning = λ f h. left_if (place points f.a) (place points f.b) (place points f.c) (m.turning f.a f.b f.c (inl h)).3;
@@ -34,9 +34,6 @@ without_in_words v points faces outer m = record {
   balanced = m.balanced;
 }
   where
-    none : (i j k : ℕ) → IsTurnOf [] i j k → ⊥
-    none i j k h = no_turn i j k h
-
     apart : (f : Face) → Contains faces f → (k : ℕ) → IsCorner f k → k ≢ v
     apart f h k (inl e) q = m.free f.b f.c (inl (subst (λ o. Contains faces (face o f.b f.c)) (sym e ∙ q) h))
     apart f h k (inr (inl e)) q = m.free f.c f.a (inr (inr (subst (λ o. Contains faces (face f.a o f.c)) (sym e ∙ q) h)))

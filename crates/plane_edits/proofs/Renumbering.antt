@@ -14,6 +14,7 @@ use Rattle.plane_tiling.specs.Local.{total, around, along, IsCorner, LocalMesh, 
 use Rattle.plane_tiling.proofs.Totals.{Contains-head, Contains-later, Contains-cases, Contains-none, get_or_any}
 use Rattle.plane_edits.specs.RemovalLaws.{LastTakesFreedIndex, LastTakesFreedIndexOnLine}
 use Rattle.plane_edits.specs.Removal.{IsOther, LocalMeshWithout, LineMeshWithout, AreNeighboursBut, new_index, renumbered, renumbered_pair}
+use Rattle.plane.proofs.Indexes.{one_more_than_last, at_most_last}
 
 -- ---- lists, each element renamed
 module _ {X Y : Type 0} (f : X → Y) where
@@ -256,19 +257,7 @@ left_place points v d h j l = ap whole (go (cases_eq j v))
         ∙ ap (λ i. get_or points i (record { x = pos 0; y = pos 0 })) (sym (old_of_other v (length points - 1) j n))
 
 pub last_takes_freed_index : LastTakesFreedIndex
-last_takes_freed_index points faces outer v d h m = renumbering v (length points - 1) points (swap_remove points v d) faces outer (below (length points) h) (count (length points) h) (left_count points v d h) (left_place points v d h) m
-  where
-    below : (n : ℕ) → v < n → v < suc (n - 1)
-    below n h = omega arith
-
-    count : (n : ℕ) → v < n → n ≡ suc (n - 1)
-    count n h = omega arith
+last_takes_freed_index points faces outer v d h m = renumbering v (length points - 1) points (swap_remove points v d) faces outer (at_most_last v (length points) h) (one_more_than_last v (length points) h) (left_count points v d h) (left_place points v d h) m
 
 pub last_takes_freed_index_on_line : LastTakesFreedIndexOnLine
-last_takes_freed_index_on_line points outer v d h m = line_renumbering v (length points - 1) points (swap_remove points v d) outer (below (length points) h) (count (length points) h) (left_count points v d h) (left_place points v d h) m
-  where
-    below : (n : ℕ) → v < n → v < suc (n - 1)
-    below n h = omega arith
-
-    count : (n : ℕ) → v < n → n ≡ suc (n - 1)
-    count n h = omega arith
+last_takes_freed_index_on_line points outer v d h m = line_renumbering v (length points - 1) points (swap_remove points v d) outer (at_most_last v (length points) h) (one_more_than_last v (length points) h) (left_count points v d h) (left_place points v d h) m

@@ -15,7 +15,7 @@ use Rattle.plane.proofs.Generic.{Inside, near}
 use Rattle.plane_tiling.proofs.Flows.{IsTurnOf, turned}
 use Rattle.plane_tiling.proofs.Counting.{at, SignMesh, corners_differ}
 use Rattle.plane_tiling.proofs.Covering as C
-use Rattle.plane.proofs.Signs.{difference_is_positive, difference_not_negative, positive_plus_not_negative}
+use Rattle.plane.proofs.Signs.{difference_is_positive, difference_not_negative, positive_plus_not_negative, times_one}
 
 -- x, y, z and t are the turns of v a c, v b c, v a b and a b c
 turn_is : (x y z t la lb lc lv : ℤ) → lv ≡ pos 0 → z *ℤ lc -ℤ x *ℤ lb +ℤ y *ℤ la -ℤ t *ℤ lv ≡ pos 0 → z -ℤ x +ℤ y -ℤ t ≡ pos 0 → lb *ℤ t ≡ y *ℤ (lb -ℤ la) +ℤ z *ℤ (lb -ℤ lc)
@@ -35,14 +35,8 @@ first_maximum k l m v a b c vab vbc at_v at_b low not_high =
     weight : (p : Point) → pos 0 *ℤ p.x +ℤ pos 0 *ℤ p.y +ℤ pos 1 *ℤ pos 1 ≡ pos 1
     weight p = omega (arith, ints)
 
-    at_one : (z s : ℤ) → s ≡ pos 1 → z *ℤ s ≡ z
-    at_one z s e = ap (λ t. z *ℤ t) e ∙ one z
-      where
-        one : (z : ℤ) → z *ℤ pos 1 ≡ z
-        one z = omega (arith, ints)
-
     units : (z x y t : ℤ) → z *ℤ form (pos 0) (pos 0) (pos 1) (lift c) -ℤ x *ℤ form (pos 0) (pos 0) (pos 1) (lift b) +ℤ y *ℤ form (pos 0) (pos 0) (pos 1) (lift a) -ℤ t *ℤ form (pos 0) (pos 0) (pos 1) (lift v) ≡ pos 0 → z -ℤ x +ℤ y -ℤ t ≡ pos 0
-    units z x y t e = (λ i. sym (at_one z (form (pos 0) (pos 0) (pos 1) (lift c)) (weight c)) i -ℤ sym (at_one x (form (pos 0) (pos 0) (pos 1) (lift b)) (weight b)) i +ℤ sym (at_one y (form (pos 0) (pos 0) (pos 1) (lift a)) (weight a)) i -ℤ sym (at_one t (form (pos 0) (pos 0) (pos 1) (lift v)) (weight v)) i) ∙ e
+    units z x y t e = (λ i. sym (times_one z (form (pos 0) (pos 0) (pos 1) (lift c)) (weight c)) i -ℤ sym (times_one x (form (pos 0) (pos 0) (pos 1) (lift b)) (weight b)) i +ℤ sym (times_one y (form (pos 0) (pos 0) (pos 1) (lift a)) (weight a)) i -ℤ sym (times_one t (form (pos 0) (pos 0) (pos 1) (lift v)) (weight v)) i) ∙ e
 
 module _ (n : ℕ) (p : ℕ → Point) (faces : List Face) (outer : List (ℕ × ℕ)) (m : SignMesh n p faces outer) where
   -- q is in the half-open angle at v, from the way to a up to the way to b

@@ -23,6 +23,7 @@ use Rattle.plane_edits.specs.StarFlips.{IsStarFlip, InnerStarShrinks, without, H
 use Rattle.plane_edits.proofs.Changes.{face_from, face_kept, each, each_none, turn_of_all}
 use Rattle.plane_edits.proofs.Kept.{flip_kept}
 use Rattle.plane_edits.proofs.Star.{IsInAngle, same_angle}
+use Rattle.plane.proofs.Indexes.{less_or_more, next_sum}
 
 -- ---- one face on each side
 module _ (points : List Point) (faces : List Face) (outer : List (ℕ × ℕ)) (m : LocalMesh points faces outer) where
@@ -123,9 +124,6 @@ module _ (points : List Point) (faces : List Face) (outer : List (ℕ × ℕ)) (
 
   apart : (i j : ℕ) → i ≢ j → i ≤ k → j ≤ k → nb i ≢ nb j
   apart i j n hi hj e = elim (less_or_more i j n) [ inl l ↦ neighbours_differ i j l hj e | inr l ↦ neighbours_differ j i l hi (sym e) ]
-    where
-      less_or_more : (i j : ℕ) → i ≢ j → (i < j) ⊎ (j < i)
-      less_or_more i j n = grind arith
 
 without_before : (i : ℕ) (nb : ℕ → ℕ) (j : ℕ) → j < i → without i nb j ≡ nb j
 without_before i nb j h = grind (arith, nat_tests)
@@ -210,11 +208,8 @@ hull_star_shrinks points faces new outer outer' v k nb i m star inside s = (reco
 from_none : (n : ℕ) → n ≡ 0 + n
 from_none n = omega arith
 
-from_next : (m n : ℕ) → suc (m + n) ≡ suc m + n
-from_next m n = omega arith
-
 star_turned_once : (faces : List Face) (v k : ℕ) (nb : ℕ → ℕ) → IsStar faces v k nb → IsStar faces v k (λ j. nb (suc j))
-star_turned_once faces v k nb star = record { around = λ i. star.around (suc i); again = λ i. ap nb (from_next i k) ∙ star.again (suc i); apart = apart; only = only }
+star_turned_once faces v k nb star = record { around = λ i. star.around (suc i); again = λ i. ap nb (next_sum i k) ∙ star.again (suc i); apart = apart; only = only }
   where
     apart : (i j : ℕ) → i < k → j < k → nb (suc i) ≡ nb (suc j) → i ≡ j
     apart i j hi hj e = go (last_or i hi) (last_or j hj)
@@ -296,7 +291,7 @@ round_own t (suc j) h = ap (after_in t) (round_own t j (omega arith)) ∙ after_
 round_again : (t j : ℕ) → round t (j + suc t) ≡ round t j
 unfolding round
 round_again t zero = ap (round t) (sym (from_none (suc t))) ∙ ap (after_in t) (round_own t t (omega arith)) ∙ after_last t t refl
-round_again t (suc j) = ap (round t) (sym (from_next j (suc t))) ∙ ap (after_in t) (round_again t j)
+round_again t (suc j) = ap (round t) (sym (next_sum j (suc t))) ∙ ap (after_in t) (round_again t j)
 
 -- ---- at an inner vertex
 -- the star begins after the edge that is flipped
@@ -372,7 +367,7 @@ stars_agree points faces outer v k l nb other m star star' = (same (cases_lt k l
 
     along : (i : ℕ) → other i ≡ nb (i + begins.0)
     along zero = sym begins.2 ∙ ap nb (from_none begins.0)
-    along (suc i) = one_third points faces outer m v (other i) (other (suc i)) (nb (suc (i + begins.0))) (star'.around i) (subst (λ z. IsFaceOf faces v z (nb (suc (i + begins.0)))) (sym (along i)) (star.around (i + begins.0))) ∙ ap nb (from_next i begins.0)
+    along (suc i) = one_third points faces outer m v (other i) (other (suc i)) (nb (suc (i + begins.0))) (star'.around i) (subst (λ z. IsFaceOf faces v z (nb (suc (i + begins.0)))) (sym (along i)) (star.around (i + begins.0))) ∙ ap nb (next_sum i begins.0)
 
     own : (i : ℕ) × (i < l) × (other i ≡ other 0) × (other (suc i) ≡ other 1)
     own = star'.only (other 0) (other 1) (star'.around 0)

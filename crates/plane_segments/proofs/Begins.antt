@@ -24,21 +24,12 @@ use Rattle.plane_delaunay.proofs.Nudges.{Inside}
 use Rattle.plane_delaunay.proofs.Where.{vertex_not_inside}
 use Rattle.plane_delaunay.proofs.Meets.{edge_outside}
 use Rattle.plane_delaunay.proofs.Ground.{tiling}
-use Rattle.plane_delaunay.proofs.Flooded.{side_of_segment}
-use Rattle.plane_delaunay.proofs.LineItems.{edge_of}
+use Rattle.plane_delaunay.proofs.Flooded.{side_of_segment, edge_of}
 use Rattle.plane_delaunay.proofs.AlongSegment.{Placed, sooner, as_soon, later, placed}
 use Rattle.plane_segments.proofs.Slopes.{slope, later_is_higher}
 use Rattle.plane.proofs.Signs.{opposite_of_negative}
 
 -- ---- a number and its negative
-pub turned_negative : (x y : ℤ) → x ≡ neg_ℤ y → pos 0 <ℤ y → x <ℤ pos 0
-turned_negative x y e h = omega (arith, ints)
-
-pub turned_positive : (x y : ℤ) → x ≡ neg_ℤ y → y <ℤ pos 0 → pos 0 <ℤ x
-turned_positive x y e h = omega (arith, ints)
-
-pub turned_least : (x y : ℤ) → x ≡ neg_ℤ y → y ≤ℤ pos 0 → pos 0 ≤ℤ x
-turned_least x y e h = omega (arith, ints)
 
 -- one point is on one side
 pub above-same : (u v y x : Fraction) → IsSame y x → pos 0 <ℤ bracket u v y → pos 0 <ℤ bracket u v x

@@ -19,19 +19,19 @@ use Rattle.plane.specs.Line as L
 use Rattle.plane_delaunay.proofs.Bracket.{bracket, bracket-turned, bracket-swapped, bracket-first, bracket-second, above_if_left}
 use Rattle.plane_delaunay.proofs.EmptyCircles.{same_at_end}
 use Rattle.plane_delaunay.proofs.Faces.{Between, between-on}
-use Rattle.plane_delaunay.proofs.AlongSegment.{above_difference, within_on_line, same_on_line}
+use Rattle.plane_delaunay.proofs.AlongSegment.{within_on_line, same_on_line}
 use Rattle.plane_delaunay.proofs.LineItems.{Meeting, between_of, turned_segment}
 use Rattle.plane_segments.specs.Steps.{IsFirst, IsAhead}
 use Rattle.plane_segments.specs.WalkLaws.{FirstFromEdge, OutsideIsOffLine, CrossingOnLine}
 use Rattle.plane_segments.proofs.SideSigns.{below_if_right, none_if_on}
-use Rattle.plane_segments.proofs.Begins.{edge_flipped, turned_negative, turned_positive, met_if}
+use Rattle.plane_segments.proofs.Begins.{edge_flipped, met_if}
 use Rattle.plane_segments.proofs.Firsts.{first_crossing_here, first_overlap}
 use Rattle.plane_segments.proofs.OneLine.{line_ends, edge_level, item_level, meeting_if}
 use Rattle.plane_segments.proofs.OverlapDecided.{overlaps_if}
 use Rattle.plane_segments.proofs.EachWalk.{ends_differ}
 use Rattle.plane_segments.proofs.Steps.{crossing_sides}
 use Rattle.plane_segments.proofs.WalkSteps.{meeting_of}
-use Rattle.plane.proofs.Signs.{opposite_of_zero_of}
+use Rattle.plane.proofs.Signs.{opposite_of_zero_of, difference_is_positive, opposite_of_positive, opposite_of_negative}
 use Rattle.plane_tiling.proofs.Edges.{turned_within}
 
 -- ---- numbers: n x = k a + l b
@@ -92,7 +92,7 @@ module _ (p q : Fraction) (apart : ¬ IsSame p q) where
           sum a b h e = omega (arith, ints)
 
       go : ((reach p q q *ℤ x.w) <ℤ (reach p q x *ℤ q.w)) ⊎ ((reach p q x *ℤ q.w) ≤ℤ (reach p q q *ℤ x.w)) → IsAhead p x q
-      go (inl past) = inl (on_of_within p x q (within_on_line p q apart p q x on_p on_q on_x (after q (reach-end p q apart)) (above_difference _ _ past)))
+      go (inl past) = inl (on_of_within p x q (within_on_line p q apart p q x on_p on_q on_x (after q (reach-end p q apart)) (difference_is_positive _ _ past)))
       go (inr least) = inr ((on_segment_is p q x apart).1 (on_x, weak high, least))
 
   -- and one that is ahead and not at the start comes after it
@@ -147,7 +147,7 @@ module _ (t : Triangulation) (c₀ : Meeting t) (p q : Fraction) (apart : ¬ IsS
     pub first_to_left : pos 0 <ℤ bracket A B q → IsFirst t p q (L.across a b)
     first_to_left high = first_crossing_here t p q apart a b (met_if t p q apart a b e (record {
       left = subst (λ z. pos 0 <ℤ z) (bracket-turned p q A) (left_by m.n (bracket q A p) m.l (bracket q A B) by_first m.n_above m.l_above (subst (λ z. pos 0 <ℤ z) (bracket-turned q A B) high));
-      right = subst (λ z. z <ℤ pos 0) (bracket-turned p q B) (turned_negative _ _ (bracket-swapped B q p) (left_by m.n (bracket B q p) m.k (bracket B q A) swapped m.n_above m.k_above (subst (λ z. pos 0 <ℤ z) (sym (bracket-turned A B q)) high)));
+      right = subst (λ z. z <ℤ pos 0) (bracket-turned p q B) (opposite_of_positive _ _ (bracket-swapped B q p) (left_by m.n (bracket B q p) m.k (bracket B q A) swapped m.n_above m.k_above (subst (λ z. pos 0 <ℤ z) (sym (bracket-turned A B q)) high)));
       start = zero_weak (between-on A B p m);
       end = weak high;
     })) (on_of_within A B p here)
@@ -216,7 +216,7 @@ module _ (t : Triangulation) (c₀ : Meeting t) (p q : Fraction) (apart : ¬ IsS
 pub first_from_an_edge : FirstFromEdge
 first_from_an_edge t h p q apart a b e here = (
   (λ s. first_to_left t c p q apart a b e here (above_if_left (vertex t a) (vertex t b) q s)),
-  (λ s. first_to_left t c p q apart b a (edge_flipped t a b e) (turned_within (vertex t a) (vertex t b) p here) (turned_positive _ _ (bracket-swapped (vertex t a) (vertex t b) q) (below_if_right (vertex t a) (vertex t b) q s))),
+  (λ s. first_to_left t c p q apart b a (edge_flipped t a b e) (turned_within (vertex t a) (vertex t b) p here) (opposite_of_negative _ _ (bracket-swapped (vertex t a) (vertex t b) q) (below_if_right (vertex t a) (vertex t b) q s))),
   (λ s ahead. first_along t c p q apart a b e here (none_if_on (vertex t a) (vertex t b) q s) ahead),
   (λ s. one_ahead t c p q apart a b e here (none_if_on (vertex t a) (vertex t b) q s)),
 )

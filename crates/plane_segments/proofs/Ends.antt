@@ -16,10 +16,11 @@ use Rattle.plane_delaunay.proofs.Where.{corner_of_face}
 use Rattle.plane_delaunay.proofs.OuterEdges.{face_not_left_of_outer}
 use Rattle.plane_delaunay.proofs.Flooded.{side_of_segment}
 use Rattle.plane_delaunay.proofs.LineItems.{turned_segment}
-use Rattle.plane_delaunay.proofs.AlongSegment.{not_less, Placed, sooner, as_soon, later, placed, reach_less}
+use Rattle.plane_delaunay.proofs.AlongSegment.{Placed, sooner, as_soon, later, placed, reach_less}
 use Rattle.plane_segments.specs.Steps.{IsLast}
 use Rattle.plane_segments.proofs.Slopes.{slope, later_is_higher}
 use Rattle.plane_segments.proofs.Begins.{Signs, rising, above-same, after_crossing}
+use Rattle.plane.proofs.Signs.{at_most_and_more}
 
 -- the segment ends on the edge that it crosses
 pub last_on_edge : (t : Triangulation) (p q : Fraction) (apart : ¬ IsSame p q) (a b : ℕ) → Signs p q (vertex t a) (vertex t b) → bracket (vertex t a) (vertex t b) q ≡ pos 0 → IsLast t p q (L.across a b)
@@ -37,7 +38,7 @@ last_on_edge t p q apart a b s on = record { none_after = λ k _ o. none k o }
         go : Placed p o.second q → ⊥
         go (sooner n) = left_not_zero (later_is_higher p q apart (vertex t a) (vertex t b) o.second q o.second_begins.shared (end_on_segment p q) n up (weak high)) on
         go (as_soon e) = left_not_zero (above-same (vertex t a) (vertex t b) o.second q e high) on
-        go (later n) = not_less _ _ ((on_segment_is p q o.second apart).0 o.second_begins.shared).2 (reach_less p q apart q o.second (end_on_segment p q) o.second_begins.shared n)
+        go (later n) = at_most_and_more _ _ ((on_segment_is p q o.second apart).0 o.second_begins.shared).2 (reach_less p q apart q o.second (end_on_segment p q) o.second_begins.shared n)
 
 module _ (t : Triangulation) (h : TilesHull t) where
   pub edge_not_left : (a b i j : ℕ) (z : Fraction) → IsOuter t a b → IsEdge t i j → OnSegment (vertex t i) (vertex t j) z → ¬ (pos 0 <ℤ bracket (vertex t a) (vertex t b) z)

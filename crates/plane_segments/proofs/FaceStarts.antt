@@ -24,10 +24,10 @@ use Rattle.plane_segments.specs.Steps.{IsFirst}
 use Rattle.plane_segments.specs.WalkLaws.{FirstFromFace}
 use Rattle.plane_segments.proofs.Slopes.{slope, left_along, later_is_higher}
 use Rattle.plane_segments.proofs.SideSigns.{not_left, below_if_right, none_if_on}
-use Rattle.plane_segments.proofs.Begins.{turned_negative, turned_least, bare_inside}
+use Rattle.plane_segments.proofs.Begins.{bare_inside}
 use Rattle.plane_segments.proofs.Orders.{nearer-same_second}
 use Rattle.plane_segments.proofs.Firsts.{first_from_face}
-use Rattle.plane.proofs.Signs.{negation_not_negative, opposite_of_zero_of}
+use Rattle.plane.proofs.Signs.{negation_not_negative, opposite_of_zero_of, not_positive_or_positive, positive_times_not_positive, opposite_of_positive, opposite_of_not_positive}
 
 -- ---- left at the start, and not right at a point: left at each point between
 pub still_left : (p q : Fraction) (apart : ¬ IsSame p q) (u v z x : Fraction) → OnSegment p q z → OnSegment p q x → IsNearer p z x → pos 0 <ℤ bracket u v p → pos 0 ≤ℤ bracket u v x → pos 0 <ℤ bracket u v z
@@ -42,17 +42,10 @@ still_left p q apart u v z x hz hx near hp least = go (lt_or_ge_ℤ (slope u v p
 
     falls : slope u v p q <ℤ pos 0 → (bracket u v z ≤ℤ pos 0) ⊎ (pos 0 <ℤ bracket u v z) → pos 0 <ℤ bracket u v z
     falls s (inr h) = h
-    falls s (inl h) = absurd (right_not_above (turned_negative _ _ (bracket-swapped v u x) (later_is_higher p q apart v u z x hz hx near (swapped (bracket u v q) (bracket u v p) (bracket v u q) (bracket v u p) p.w q.w (bracket-swapped u v q) (bracket-swapped u v p) s) (turned_least _ _ (bracket-swapped u v z) h))) least)
-
-    weakly : (y : ℤ) → (y ≤ℤ pos 0) ⊎ (pos 0 <ℤ y)
-    weakly y = pick (lt_or_ge_ℤ (pos 0) y)
-      where
-        pick : (pos 0 <ℤ y) ⊎ (y ≤ℤ pos 0) → (y ≤ℤ pos 0) ⊎ (pos 0 <ℤ y)
-        pick (inl h) = inr h
-        pick (inr h) = inl h
+    falls s (inl h) = absurd (right_not_above (opposite_of_positive _ _ (bracket-swapped v u x) (later_is_higher p q apart v u z x hz hx near (swapped (bracket u v q) (bracket u v p) (bracket v u q) (bracket v u p) p.w q.w (bracket-swapped u v q) (bracket-swapped u v p) s) (opposite_of_not_positive _ _ (bracket-swapped u v z) h))) least)
 
     go : (slope u v p q <ℤ pos 0) ⊎ (pos 0 ≤ℤ slope u v p q) → pos 0 <ℤ bracket u v z
-    go (inl s) = falls s (weakly (bracket u v z))
+    go (inl s) = falls s (not_positive_or_positive (bracket u v z))
     go (inr s) = left_along p q apart u v z hz hp (risen (bracket u v q) (bracket u v p) p.w q.w s hp p.positive q.positive)
 
 -- ---- numbers
@@ -76,7 +69,7 @@ module _ (p q : Fraction) (apart : ¬ IsSame p q) (A B C : Fraction) (turning : 
     second = kept (bracket A B q) (bracket A B p) (bracket B C p) (bracket B C q) _ (meeting A B p q B C) side inside.first inside.second
         (falls_second (bracket q p B) (bracket B C A) (bracket q p A) (bracket B C B) (turned_most _ _ (bracket-swapped p q B) (weak high)) (weak (turned-above A B C turning)) (bracket-first B C));
     third = kept (bracket A B q) (bracket A B p) (bracket C A p) (bracket C A q) _ (meeting A B p q C A) side inside.first inside.third
-        (falls_third (bracket q p B) (bracket C A A) (bracket q p A) (bracket C A B) (bracket-second C A) (turned_least _ _ (bracket-swapped p q A) low) (weak (turned-above B C A (turned-above A B C turning))));
+        (falls_third (bracket q p B) (bracket C A A) (bracket q p A) (bracket C A B) (bracket-second C A) (opposite_of_not_positive _ _ (bracket-swapped p q A) low) (weak (turned-above B C A (turned-above A B C turning))));
   }
 
   -- or it reaches the corner A
@@ -111,15 +104,8 @@ data Turn (a b c : ℤ) : Type 0 where
 
 -- three numbers that have sum 0 under positive weights, not all 0
 turn : (x y z a b c : ℤ) → x *ℤ a +ℤ y *ℤ b +ℤ z *ℤ c ≡ pos 0 → pos 0 <ℤ x → pos 0 <ℤ y → pos 0 <ℤ z → ((a ≡ pos 0) → (b ≡ pos 0) → ⊥) → Turn a b c
-turn x y z a b c e hx hy hz some = go (weakly a) (weakly b) (weakly c)
+turn x y z a b c e hx hy hz some = go (not_positive_or_positive a) (not_positive_or_positive b) (not_positive_or_positive c)
   where
-    weakly : (y : ℤ) → (y ≤ℤ pos 0) ⊎ (pos 0 <ℤ y)
-    weakly y = pick (lt_or_ge_ℤ (pos 0) y)
-      where
-        pick : (pos 0 <ℤ y) ⊎ (y ≤ℤ pos 0) → (y ≤ℤ pos 0) ⊎ (pos 0 <ℤ y)
-        pick (inl h) = inr h
-        pick (inr h) = inl h
-
     zero_of : (x a b c : ℤ) → pos 0 <ℤ x → a ≤ℤ pos 0 → x *ℤ a +ℤ b +ℤ c ≡ pos 0 → b ≤ℤ pos 0 → c ≤ℤ pos 0 → a ≡ pos 0
     zero_of x a b c hx ha e hb hc = pick (trichotomy_ℤ a)
       where
@@ -134,14 +120,11 @@ turn x y z a b c e hx hy hz some = go (weakly a) (weakly b) (weakly c)
     swapped : (u v w : ℤ) → u +ℤ v +ℤ w ≡ pos 0 → v +ℤ u +ℤ w ≡ pos 0
     swapped u v w e = omega (arith, ints)
 
-    under : (x a : ℤ) → pos 0 <ℤ x → a ≤ℤ pos 0 → (x *ℤ a) ≤ℤ pos 0
-    under x a hx ha = mul-nonpos_of_nonneg_nonpos_ℤ {a = x} {b = a} (weak hx) ha
-
     go : (a ≤ℤ pos 0) ⊎ (pos 0 <ℤ a) → (b ≤ℤ pos 0) ⊎ (pos 0 <ℤ b) → (c ≤ℤ pos 0) ⊎ (pos 0 <ℤ c) → Turn a b c
     go (inl h) (inr k) m = first_turn h k
     go h (inl k) (inr m) = second_turn k m
     go (inr h) k (inl m) = third_turn m h
-    go (inl h) (inl k) (inl m) = absurd (some (zero_of x a (y *ℤ b) (z *ℤ c) hx h e (under y b hy k) (under z c hz m)) (zero_of y b (x *ℤ a) (z *ℤ c) hy k (swapped (x *ℤ a) (y *ℤ b) (z *ℤ c) e) (under x a hx h) (under z c hz m)))
+    go (inl h) (inl k) (inl m) = absurd (some (zero_of x a (y *ℤ b) (z *ℤ c) hx h e (positive_times_not_positive y b hy k) (positive_times_not_positive z c hz m)) (zero_of y b (x *ℤ a) (z *ℤ c) hy k (swapped (x *ℤ a) (y *ℤ b) (z *ℤ c) e) (positive_times_not_positive x a hx h) (positive_times_not_positive z c hz m)))
     go (inr h) (inr k) (inr m) = absurd (let i = mul-pos_ℤ hx h in let j = mul-pos_ℤ hy k in let l = mul-pos_ℤ hz m in omega (arith, ints))
 
 -- ---- the items
@@ -191,8 +174,8 @@ module _ (t : Triangulation) (h : TilesHull t) (p q : Fraction) (apart : ¬ IsSa
   first_side low high past = first_from_face t p q apart h a b ((h.sides a b).1 (inl (c, f))) (record {
     left = high;
     right = low;
-    start = weak_right (turned_negative _ _ (bracket-swapped A B p) inside.first);
-    end = turned_least _ _ (bracket-swapped A B q) past;
+    start = weak_right (opposite_of_positive _ _ (bracket-swapped A B p) inside.first);
+    end = opposite_of_not_positive _ _ (bracket-swapped A B q) past;
   }) c f inside
 
   a_turn : Turn (bracket p q A) (bracket p q B) (bracket p q C)

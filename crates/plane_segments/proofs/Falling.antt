@@ -6,15 +6,16 @@ use Rattle.std.proofs.lemmas.Int.{ints}
 use Rattle.std.proofs.lemmas.Bool.{cases_eq}
 use Rattle.plane.specs.Fraction.{Point}
 use Rattle.plane.specs.Laws.{turn_at, squared_way}
-use Rattle.plane.proofs.IntegerOrder.{mul-nonneg_ℤ, mul-neg_of_pos_neg_ℤ, lt_or_ge_ℤ, trichotomy_ℤ, square-nonneg_ℤ, mul-nonpos_of_nonneg_nonpos_ℤ, zero_of_mul-zero_ℤ, zero-mul_ℤ, mul_cancel_ℤ, mul-eq-zero_ℤ}
+use Rattle.plane.proofs.IntegerOrder.{mul-nonneg_ℤ, mul-neg_of_pos_neg_ℤ, lt_or_ge_ℤ, trichotomy_ℤ, square-nonneg_ℤ, mul-nonpos_of_nonneg_nonpos_ℤ, zero_of_mul-zero_ℤ, zero-mul_ℤ, mul_cancel_ℤ}
 use Rattle.plane.proofs.Steps.{weak, zero_or_left, right_not_zero, product_zero_left, left_not_zero, no_difference, right_not_above, weak_right, zero_weak, zero_weak_left}
 use Rattle.plane.proofs.Solver.{Poly, ◌⊕◌, ◌⊖◌, ◌⊗◌, ⊝, ring_in, ring_in_from, ring_over}
 use Rattle.plane.proofs.Bracket.{Pointᵖ, points as points_shape}
 use Rattle.plane_edits.specs.Legal.{point_of}
 use Rattle.plane_segments.proofs.Turns.{turnᵖ, turn-same}
 use Rattle.plane_segments.specs.Measure.{comes_before, is_right, one_if, rank_below}
-use Rattle.plane.proofs.Signs.{at_most_both_ways, difference_of_zeros, negated_negative, negated_not_negative, same_after_shift, same_have_no_difference, sum_not_negative_of, sum_of_zeros_from}
-use Rattle.plane.proofs.Sides.{test_false}
+use Rattle.plane.proofs.Signs.{at_most_both_ways, difference_of_zeros, negated_negative, negated_not_negative, same_after_shift, same_have_no_difference, sum_not_negative_of, sum_of_zeros_from, zero_of_square}
+use Rattle.plane.proofs.Sides.{test_false, test_true, less_by_test}
+use lib.IntN.{*ℤ_comm}
 
 -- ---- tests
 only_false : Bool → Type 0
@@ -25,20 +26,14 @@ pub off : false ≡ true → ⊥
 unfolding only_false
 off e = subst only_false e tt
 
-pub says : (a b : ℤ) → a <ℤ b → int_lt a b ≡ true
-says a b h = grind (arith, ints)
-
-pub said : (a b : ℤ) → int_lt a b ≡ true → a <ℤ b
-said a b h = grind (arith, ints)
-
 -- ---- the order
 -- u comes before v, seen from i
 abbrev pub IsBefore : Point → Point → Point → Type 0
 IsBefore i u v = (pos 0 <ℤ turn_at i v u) ⊎ ((turn_at i v u ≡ pos 0) × (squared_way i u <ℤ squared_way i v))
 
 before_test : (i u v : Point) → IsBefore i u v → comes_before i u v ≡ true
-before_test i u v (inl h) = rw (says (pos 0) (turn_at i v u) h)
-before_test i u v (inr h) = rw (test_false (pos 0) (turn_at i v u) (zero_weak h.0), test_false (turn_at i v u) (pos 0) (zero_weak_left h.0)) (says (squared_way i u) (squared_way i v) h.1)
+before_test i u v (inl h) = rw (test_true (pos 0) (turn_at i v u) h)
+before_test i u v (inr h) = rw (test_false (pos 0) (turn_at i v u) (zero_weak h.0), test_false (turn_at i v u) (pos 0) (zero_weak_left h.0)) (test_true (squared_way i u) (squared_way i v) h.1)
 
 by_tests : (t a b : ℤ) → (if int_lt (pos 0) t then true else (if int_lt t (pos 0) then false else int_lt a b)) ≡ true → (pos 0 <ℤ t) ⊎ ((t ≡ pos 0) × (a <ℤ b))
 by_tests t a b h = go (trichotomy_ℤ t)
@@ -48,8 +43,8 @@ by_tests t a b h = go (trichotomy_ℤ t)
 
     go : (t <ℤ pos 0) ⊎ ((t ≡ pos 0) ⊎ (pos 0 <ℤ t)) → (pos 0 <ℤ t) ⊎ ((t ≡ pos 0) × (a <ℤ b))
     go (inr (inr k)) = inl k
-    go (inr (inl e)) = inr (e, said a b (rw (test_false (pos 0) t (zero_weak e), test_false t (pos 0) (zero_weak_left e)) at h))
-    go (inl k) = wrong (rw (test_false (pos 0) t (weak_right k), says t (pos 0) k) at h)
+    go (inr (inl e)) = inr (e, less_by_test a b (rw (test_false (pos 0) t (zero_weak e), test_false t (pos 0) (zero_weak_left e)) at h))
+    go (inl k) = wrong (rw (test_false (pos 0) t (weak_right k), test_true t (pos 0) k) at h)
 
 test_before : (i u v : Point) → comes_before i u v ≡ true → IsBefore i u v
 test_before i u v h = by_tests (turn_at i v u) (squared_way i u) (squared_way i v) h
@@ -61,17 +56,14 @@ three_turns i j u v w = ring_over points_shape [] (i ∷ j ∷ u ∷ v ∷ w ∷
 both_weak : (fv tw fw tu fu tk : ℤ) → fv *ℤ tw ≡ fw *ℤ tu +ℤ fu *ℤ tk → fv <ℤ pos 0 → fw <ℤ pos 0 → fu <ℤ pos 0 → pos 0 ≤ℤ tu → pos 0 ≤ℤ tk → (pos 0 <ℤ tw) ⊎ ((tw ≡ pos 0) × (tu ≡ pos 0) × (tk ≡ pos 0))
 both_weak fv tw fw tu fu tk e hv hw hu a b = go (zero_or_left a) (zero_or_left b)
   where
-    commuted : (a b : ℤ) → a *ℤ b ≡ b *ℤ a
-    commuted a b = ring_in (a ∷ b ∷ []) (λ a b. a ⊗ b) (λ a b. b ⊗ a) tt
-
     negatives : (a b : ℤ) → (neg_ℤ a) *ℤ (neg_ℤ b) ≡ a *ℤ b
     negatives a b = ring_in (a ∷ b ∷ []) (λ a b. (⊝ a) ⊗ (⊝ b)) (λ a b. a ⊗ b) tt
 
     weak_product : (a b : ℤ) → a <ℤ pos 0 → pos 0 ≤ℤ b → (a *ℤ b) ≤ℤ pos 0
-    weak_product a b h k = subst (λ z. z ≤ℤ pos 0) (commuted b a) (mul-nonpos_of_nonneg_nonpos_ℤ k (weak_right h))
+    weak_product a b h k = subst (λ z. z ≤ℤ pos 0) (*ℤ_comm b a) (mul-nonpos_of_nonneg_nonpos_ℤ k (weak_right h))
 
     strict_product : (a b : ℤ) → a <ℤ pos 0 → pos 0 <ℤ b → (a *ℤ b) <ℤ pos 0
-    strict_product a b h k = subst (λ z. z <ℤ pos 0) (commuted b a) (mul-neg_of_pos_neg_ℤ k h)
+    strict_product a b h k = subst (λ z. z <ℤ pos 0) (*ℤ_comm b a) (mul-neg_of_pos_neg_ℤ k h)
 
     positive : (fv *ℤ tw) <ℤ pos 0 → pos 0 <ℤ tw
     positive h = by (lt_or_ge_ℤ (pos 0) tw)
@@ -176,13 +168,13 @@ not_before_itself i p = rw (test_false (pos 0) (turn_at i p p) (zero_weak (turn-
 pub rank_falls : (points : List Point) (i j w : Point) (k : ℕ) → k < length points → turn_at i j (point_of points k) <ℤ pos 0 → turn_at i j w <ℤ pos 0 → IsBefore i (point_of points k) w → rank_below points i j (point_of points k) (length points) < rank_below points i j w (length points)
 rank_falls points i j w k h hk hw b = rank_less points i j (point_of points k) w more (length points) k h
     (and_off (is_right i j (point_of points k)) (comes_before i (point_of points k) (point_of points k)) (not_before_itself i (point_of points k)))
-    (and_true (is_right i j (point_of points k)) (comes_before i (point_of points k) w) (says (turn_at i j (point_of points k)) (pos 0) hk) (before_test i (point_of points k) w b))
+    (and_true (is_right i j (point_of points k)) (comes_before i (point_of points k) w) (test_true (turn_at i j (point_of points k)) (pos 0) hk) (before_test i (point_of points k) w b))
   where
     more : (m : ℕ) → (is_right i j (point_of points m) && comes_before i (point_of points m) (point_of points k)) ≡ true → (is_right i j (point_of points m) && comes_before i (point_of points m) w) ≡ true
     more m e =
         let r = and_first (is_right i j (point_of points m)) (comes_before i (point_of points m) (point_of points k)) e in
         let c = test_before i (point_of points m) (point_of points k) (and_second (is_right i j (point_of points m)) (comes_before i (point_of points m) (point_of points k)) e) in
-        and_true (is_right i j (point_of points m)) (comes_before i (point_of points m) w) r (before_test i (point_of points m) w (IsBefore-trans i j (point_of points m) (point_of points k) w (said (turn_at i j (point_of points m)) (pos 0) r) hk hw c b))
+        and_true (is_right i j (point_of points m)) (comes_before i (point_of points m) w) r (before_test i (point_of points m) w (IsBefore-trans i j (point_of points m) (point_of points k) w (less_by_test (turn_at i j (point_of points m)) (pos 0) r) hk hw c b))
 
 -- ---- two points of one ray at one distance
 abbrev squaredᵖ : Pointᵖ → Pointᵖ → Poly
@@ -209,26 +201,20 @@ equal_squares f g s hf hg hs e = go (trichotomy_ℤ (f -ℤ g))
     low : (f g : ℤ) → f <ℤ pos 0 → g <ℤ pos 0 → (f +ℤ g) <ℤ pos 0
     low f g h k = omega (arith, ints)
 
-    commuted : (a b : ℤ) → a *ℤ b ≡ b *ℤ a
-    commuted a b = ring_in (a ∷ b ∷ []) (λ a b. a ⊗ b) (λ a b. b ⊗ a) tt
-
     factor : ((f +ℤ g) *ℤ s) <ℤ pos 0
-    factor = subst (λ z. z <ℤ pos 0) (commuted s (f +ℤ g)) (mul-neg_of_pos_neg_ℤ hs (low f g hf hg))
+    factor = subst (λ z. z <ℤ pos 0) (*ℤ_comm s (f +ℤ g)) (mul-neg_of_pos_neg_ℤ hs (low f g hf hg))
 
     go : ((f -ℤ g) <ℤ pos 0) ⊎ ((f -ℤ g ≡ pos 0) ⊎ (pos 0 <ℤ (f -ℤ g))) → f ≡ g
-    go d = no_difference f g (zero_of_mul-zero_ℤ (λ z. right_not_zero factor z) (commuted ((f +ℤ g) *ℤ s) (f -ℤ g) ∙ product f g s ∙ same_have_no_difference ((f *ℤ f) *ℤ s) ((g *ℤ g) *ℤ s) e))
+    go d = no_difference f g (zero_of_mul-zero_ℤ (λ z. right_not_zero factor z) (*ℤ_comm ((f +ℤ g) *ℤ s) (f -ℤ g) ∙ product f g s ∙ same_have_no_difference ((f *ℤ f) *ℤ s) ((g *ℤ g) *ℤ s) e))
 
 pub not_both : (a b : ℤ) → a *ℤ a +ℤ b *ℤ b ≡ pos 0 → (a ≡ pos 0) × (b ≡ pos 0)
-not_both a b e = (root a (first (a *ℤ a) (b *ℤ b) e (square-nonneg_ℤ a) (square-nonneg_ℤ b)), root b (second (a *ℤ a) (b *ℤ b) e (square-nonneg_ℤ a) (square-nonneg_ℤ b)))
+not_both a b e = (zero_of_square a (first (a *ℤ a) (b *ℤ b) e (square-nonneg_ℤ a) (square-nonneg_ℤ b)), zero_of_square b (second (a *ℤ a) (b *ℤ b) e (square-nonneg_ℤ a) (square-nonneg_ℤ b)))
   where
     first : (p q : ℤ) → p +ℤ q ≡ pos 0 → pos 0 ≤ℤ p → pos 0 ≤ℤ q → p ≡ pos 0
     first p q e h k = omega (arith, ints)
 
     second : (p q : ℤ) → p +ℤ q ≡ pos 0 → pos 0 ≤ℤ p → pos 0 ≤ℤ q → q ≡ pos 0
     second p q e h k = omega (arith, ints)
-
-    root : (z : ℤ) → z *ℤ z ≡ pos 0 → z ≡ pos 0
-    root z e = elim (mul-eq-zero_ℤ z z e) [ inl h ↦ h | inr h ↦ h ]
 
 pub strictly_nearer : (i j v z : Point) → turn_at i v z ≡ pos 0 → turn_at i j z <ℤ pos 0 → turn_at i j v <ℤ pos 0 → squared_way i z ≤ℤ squared_way i v → ¬ (z ≡ v) → squared_way i z <ℤ squared_way i v
 strictly_nearer i j v z tie hz hv near apart = go (lt_or_ge_ℤ (squared_way i z) (squared_way i v)) (zero_or_left way_nonneg)

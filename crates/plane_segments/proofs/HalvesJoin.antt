@@ -21,6 +21,7 @@ use Rattle.plane_segments.specs.PathSteps.{CanBeJoined, StraightHalvesJoinAfterR
 use Rattle.plane_segments.proofs.EitherWay.{one_point}
 use Rattle.plane_segments.proofs.Pieces.{path_goes_on, path_ends, next_is_neighbours}
 use Rattle.plane_segments.proofs.Splits.{straight_halves_join}
+use Rattle.plane.proofs.Indexes.{at_most_last, one_more_than_last, less_or_more}
 
 -- ---- the points without v, of which the last has taken its index
 module _ (points left : List Point) (v last : ℕ) (v_index : v < suc last) (count : length points ≡ suc last) (count_left : length left ≡ last) (same : (j : ℕ) → j < last → place left j ≡ place points (old_index v last j)) (apart : ArePlacedApart points) where
@@ -113,9 +114,6 @@ module _ {V : Type 0} where
       count : length (map position s.vertices) ≡ length s.vertices
       count = length-map s.vertices position
 
-      less_or_more : (i j : ℕ) → i ≢ j → (i < j) ⊎ (j < i)
-      less_or_more i j n = grind arith
-
       here : (k : ℕ) → k < length (map position s.vertices) → k < length s.vertices
       here k h = subst (λ z. k < z) count h
 
@@ -142,12 +140,6 @@ module _ {V : Type 0} where
     points_left : points_of position new ≡ swap_remove (points_of position old) v (position d)
     points_left = ap (map position) (r.vertices d) ∙ map_swap_remove position old.vertices v d r.here
 
-    one_more : (n : ℕ) → v < n → n ≡ suc (n - 1)
-    one_more n h = omega arith
-
-    fits : (n : ℕ) → v < n → v < suc (n - 1)
-    fits n h = omega arith
-
     count_left : length (points_of position new) ≡ length old.vertices - 1
     count_left = ap length points_left ∙ left_count (points_of position old) v (position d) here ∙ ap (λ n. n - 1) count
 
@@ -158,7 +150,7 @@ module _ {V : Type 0} where
     pair_then : (c e : ℕ) → Joins new.constraints c e → (c < length old.vertices - 1) × (e < length old.vertices - 1) × Joins old.constraints (old_index v (length old.vertices - 1) c) (old_index v (length old.vertices - 1) e)
     pair_then c e h =
         let o = (r.constraints c e).0 h in
-        let fit = fits (length old.vertices) r.here in
+        let fit = at_most_last v (length old.vertices) r.here in
         (o.0, o.1, subst₂ (Joins old.constraints) (index_before v (length old.vertices - 1) c fit o.0) (index_before v (length old.vertices - 1) e fit o.1) o.2)
 
 module _ {V : Type 0} (position : V → Point) (old new : Plain V) (faces : List Face) (edges : List (ℕ × ℕ)) (v a b : ℕ) (plain : IsPlain position old) (meet : EdgesMeetAtVertices (record { points = points_of position old; faces = faces; edges = edges })) (kept : (c d : ℕ) → Joins old.constraints c d → Joins edges c d)
@@ -179,10 +171,10 @@ module _ {V : Type 0} (position : V → Point) (old new : Plain V) (faces : List
   b' = new_index v (length old.vertices - 1) b
 
   fit : v < suc (length old.vertices - 1)
-  fit = fits position old new v r (length old.vertices) r.here
+  fit = at_most_last v (length old.vertices) r.here
 
   count_then : length (points_of position old) ≡ suc (length old.vertices - 1)
-  count_then = count position old new v r ∙ one_more position old new v r (length old.vertices) r.here
+  count_then = count position old new v r ∙ one_more_than_last v (length old.vertices) r.here
 
   apart : ArePlacedApart (points_of position old)
   apart = placed_apart position old plain

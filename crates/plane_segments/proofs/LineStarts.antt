@@ -1,7 +1,7 @@
 -- The walk where all vertices are on one line: after a vertex, and from the start. And from a point to itself.
 use Rattle.std.proofs.Common.{◌≡◌, ℕ, zero, suc, ◌<◌, List, [], ◌∷◌, arith, refl, sym, subst}
 use mathlib.Core.Logic.{◌⊎◌, inl, inr}
-use lib.IntN.{negsuc, nat_abs}
+use lib.IntN.{nat_abs}
 use Rattle.std.specs.Prelude.{ℤ, pos, ◌<ℤ◌, ◌≤ℤ◌, ◌+ℤ◌, ◌-ℤ◌, ◌*ℤ◌, ⊤}
 use Rattle.std.proofs.lemmas.Int.{ints}
 use Rattle.plane.proofs.IntegerOrder.{lt_or_ge_ℤ, mul-pos_ℤ, mul-nonneg_ℤ, pos_of_mul-pos_ℤ}
@@ -17,11 +17,11 @@ use Rattle.plane.specs.Line as L
 use Rattle.plane_delaunay.proofs.Bracket.{bracket, above_if_left}
 use Rattle.plane_delaunay.proofs.Numbers.{sum_none}
 use Rattle.plane_delaunay.proofs.EmptyCircles.{weights_along}
-use Rattle.plane_delaunay.proofs.Flooded.{side_of_segment}
+use Rattle.plane_delaunay.proofs.Flooded.{side_of_segment, edge_of}
 use Rattle.plane_delaunay.proofs.Ground.{tiling, inside_of}
 use Rattle.plane_delaunay.proofs.Meets.{edge_outside}
-use Rattle.plane_delaunay.proofs.AlongSegment.{above_difference, not_less, Placed, sooner, as_soon, later, placed, reach_less, on_line_last, not_past, within_on_line}
-use Rattle.plane_delaunay.proofs.LineItems.{Meeting, edge_of, line_items_are_ordered}
+use Rattle.plane_delaunay.proofs.AlongSegment.{Placed, sooner, as_soon, later, placed, reach_less, on_line_last, not_past, within_on_line}
+use Rattle.plane_delaunay.proofs.LineItems.{Meeting, line_items_are_ordered}
 use Rattle.plane_segments.specs.Steps.{IsFirst, IsLast, IsAhead, IsWalk}
 use Rattle.plane_segments.specs.WalkLaws.{NextOnLine, FirstOnLine, EqualEnds}
 use Rattle.plane_segments.proofs.Begins.{Signs, signs_of, before_crossing, bare_inside}
@@ -34,7 +34,7 @@ use Rattle.plane_segments.proofs.Vertices.{IsPast, is_past, last_at_end, next_ov
 use Rattle.plane_segments.proofs.VertexEnds.{ahead_met}
 use Rattle.plane_segments.proofs.EachWalk.{ends_differ}
 use Rattle.plane_segments.proofs.OutsideStarts.{overlap_not_first, nearest_first, none_without}
-use Rattle.plane.proofs.Signs.{less_by_difference}
+use Rattle.plane.proofs.Signs.{less_by_difference, magnitude_below, difference_is_positive, at_most_and_more}
 
 -- ---- numbers of a vertex strictly between two
 first_part : (n k l x a b : ℤ) → n *ℤ x ≡ k *ℤ a +ℤ l *ℤ b → n *ℤ pos 1 ≡ k *ℤ pos 1 +ℤ l *ℤ pos 1 → n *ℤ (x -ℤ a) ≡ l *ℤ (b -ℤ a)
@@ -52,12 +52,7 @@ without_one : (a b : ℤ) → (a *ℤ pos 1) <ℤ (b *ℤ pos 1) → a <ℤ b
 without_one a b h = omega (arith, ints)
 
 difference_less : (m : ℕ) (x y a : ℤ) → a <ℤ x → x <ℤ y → nat_abs (y -ℤ a) < suc m → nat_abs (x -ℤ a) < m
-difference_less m x y a h k l = less m (x -ℤ a) (y -ℤ a) (omega (arith, ints)) (omega (arith, ints)) l
-  where
-    less : (m : ℕ) (x y : ℤ) → x <ℤ y → pos 0 ≤ℤ x → nat_abs y < suc m → nat_abs x < m
-    less m (pos x) (pos y) h k l = omega (arith, ints)
-    less m (pos x) (negsuc y) h k l = absurd (omega (arith, ints))
-    less m (negsuc x) y h k l = absurd (omega (arith, ints))
+difference_less m x y a h k l = magnitude_below m (x -ℤ a) (y -ℤ a) (omega (arith, ints)) (omega (arith, ints)) l
 
 module _ (t : Triangulation) (h : JoinsLine t) (c₀ : Meeting t) (p q : Fraction) (apart : ¬ IsSame p q) where
   signs : (a b : ℕ) → Meets t p q (L.across a b) → Signs p q (vertex t a) (vertex t b)
@@ -95,16 +90,16 @@ module _ (t : Triangulation) (h : JoinsLine t) (c₀ : Meeting t) (p q : Fractio
         high a xw b vw h ha hx hv = weak (pos_of_mul-pos_ℤ {k = vw} {x = b} hv (let n = mul-nonneg_ℤ {a = a} {b = xw} ha (weak hx) in let c = lib.IntN.*ℤ_comm b vw in omega (arith, ints)))
 
         go : ((reach p q q *ℤ x.w) <ℤ (reach p q x *ℤ q.w)) ⊎ ((reach p q x *ℤ q.w) ≤ℤ (reach p q q *ℤ x.w)) → IsAhead V x q
-        go (inl past) = inl (on_of_within V x q (within_on_line p q apart V q x on_v on_q on_x (above_difference _ _ end_after) (above_difference _ _ past)))
+        go (inl past) = inl (on_of_within V x q (within_on_line p q apart V q x on_v on_q on_x (difference_is_positive _ _ end_after) (difference_is_positive _ _ past)))
         go (inr least) = inr (pick (placed p q apart x q there (end_on_segment p q)))
           where
             there : OnSegment p q x
             there = (on_segment_is p q x apart).1 (on_x, high (reach p q V) x.w (reach p q x) V.w after ((on_segment_is p q V apart).0 m.1).1 x.positive V.positive, least)
 
             pick : Placed p x q → OnSegment V q x
-            pick (sooner n) = on_of_within V q x (within_on_line p q apart V x q on_v on_x on_q (above_difference _ _ after) (above_difference _ _ (reach_less p q apart x q there (end_on_segment p q) n)))
+            pick (sooner n) = on_of_within V q x (within_on_line p q apart V x q on_v on_x on_q (difference_is_positive _ _ after) (difference_is_positive _ _ (reach_less p q apart x q there (end_on_segment p q) n)))
             pick (as_soon e) = on_segment-same V q q x (same-sym x q e) (end_on_segment V q)
-            pick (later n) = absurd (not_less _ _ least (reach_less p q apart q x (end_on_segment p q) there n))
+            pick (later n) = absurd (at_most_and_more _ _ least (reach_less p q apart q x (end_on_segment p q) there n))
 
     -- where a vertex of the line comes after, an edge leads on
     none_after_on_line : ((b : ℕ) → IsEdge t v b → ¬ IsAhead V (vertex t b) q) → (n : ℕ) (j : ℕ) → IsVertex t j → bracket p q (vertex t j) ≡ pos 0 → reach p q V <ℤ reach p q (vertex t j) → nat_abs (reach p q (vertex t j) -ℤ reach p q V) < n → ⊥
@@ -123,10 +118,10 @@ module _ (t : Triangulation) (h : JoinsLine t) (c₀ : Meeting t) (p q : Fractio
         between again k hk w = again k hk (sum_none w.n w.k w.l _ _ _ w.positive (weights_along IsPositive V (vertex t j) (vertex t k) w p q) on_v on) past (difference_less n (reach p q (vertex t k)) (reach p q (vertex t j)) (reach p q V) past before less)
           where
             past : reach p q V <ℤ reach p q (vertex t k)
-            past = less_by_difference _ _ (pos_of_mul-pos_ℤ {k = w.n} w.positive (subst (λ z. pos 0 <ℤ z) (sym (first_part w.n w.k w.l (reach p q (vertex t k)) (reach p q V) (reach p q (vertex t j)) (reach_of_two IsPositive p q V (vertex t j) (vertex t k) w) w.w)) (mul-pos_ℤ w.l_allowed (above_difference _ _ after))))
+            past = less_by_difference _ _ (pos_of_mul-pos_ℤ {k = w.n} w.positive (subst (λ z. pos 0 <ℤ z) (sym (first_part w.n w.k w.l (reach p q (vertex t k)) (reach p q V) (reach p q (vertex t j)) (reach_of_two IsPositive p q V (vertex t j) (vertex t k) w) w.w)) (mul-pos_ℤ w.l_allowed (difference_is_positive _ _ after))))
 
             before : reach p q (vertex t k) <ℤ reach p q (vertex t j)
-            before = less_by_difference _ _ (pos_of_mul-pos_ℤ {k = w.n} w.positive (subst (λ z. pos 0 <ℤ z) (sym (second_part w.n w.k w.l (reach p q (vertex t k)) (reach p q V) (reach p q (vertex t j)) (reach_of_two IsPositive p q V (vertex t j) (vertex t k) w) w.w)) (mul-pos_ℤ w.k_allowed (above_difference _ _ after))))
+            before = less_by_difference _ _ (pos_of_mul-pos_ℤ {k = w.n} w.positive (subst (λ z. pos 0 <ℤ z) (sym (second_part w.n w.k w.l (reach p q (vertex t k)) (reach p q V) (reach p q (vertex t j)) (reach_of_two IsPositive p q V (vertex t j) (vertex t k) w) w.w)) (mul-pos_ℤ w.k_allowed (difference_is_positive _ _ after))))
 
     -- without an edge ahead the vertex is the last
     pub last_without_edge : ((b : ℕ) → IsEdge t v b → ¬ IsAhead V (vertex t b) q) → IsLast t p q (L.at_vertex v)

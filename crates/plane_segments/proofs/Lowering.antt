@@ -1,13 +1,12 @@
 -- The chosen flip lowers the sum of the ranks of the right ends of crossing edges.
-use Rattle.std.proofs.Common.{◌≡◌, ℕ, ◌<◌, List, [], ◌∷◌, length, sym, ap, ◌∙◌, subst, arith}
+use Rattle.std.proofs.Common.{◌≡◌, ℕ, ◌<◌, List, [], ◌∷◌, length, sym, ap, ◌∙◌, subst}
 use mathlib.Core.Logic.{inl, inr}
-use Rattle.std.specs.Prelude.{ℤ, pos, negsuc, ◌+ℤ◌, ◌≤ℤ◌, ◌<ℤ◌, true, ◌&&◌, int_lt, nat_abs}
-use Rattle.std.proofs.lemmas.Int.{ints}
+use Rattle.std.specs.Prelude.{ℤ, pos, ◌+ℤ◌, ◌≤ℤ◌, ◌<ℤ◌, true, ◌&&◌, int_lt}
 use Rattle.plane.specs.Fraction.{Point, whole}
 use Rattle.plane.specs.Laws.{turn_at, squared_way}
 use Rattle.plane.specs.Tiling.{Face, face, Triangulation, IsFace, TilesHull}
 use Rattle.plane_tiling.specs.Local.{total, around}
-use Rattle.plane.proofs.Sides.{on_if}
+use Rattle.plane.proofs.Sides.{on_if, test_true, less_by_test}
 use Rattle.plane.proofs.Steps.{zero_or_left, left_not_zero, right_not_zero, both_signs}
 use Rattle.plane.proofs.Bracket.{lift}
 use Rattle.plane.proofs.BracketIdentities.{bracket-affine, bracket-outer}
@@ -24,17 +23,12 @@ use Rattle.plane_segments.specs.Measure.{is_right, rank_below, crosses, crossing
 use Rattle.plane_segments.specs.PathLaws.{ChosenFlipLowers}
 use Rattle.plane_segments.proofs.Paths as P
 use Rattle.plane_segments.proofs.Turns.{left_turn, right_turn}
-use Rattle.plane_segments.proofs.Falling.{says, said, and_true, and_first, and_second, IsBefore, rank_falls, rank_positive, strictly_nearer, ranked, ranked_nonneg, ranked_two, sum_falls}
-use Rattle.plane.proofs.Signs.{sum_of_three_not_negative}
+use Rattle.plane_segments.proofs.Falling.{and_true, and_first, and_second, IsBefore, rank_falls, rank_positive, strictly_nearer, ranked, ranked_nonneg, ranked_two, sum_falls}
+use Rattle.plane.proofs.Signs.{sum_of_three_not_negative, lower_magnitude}
 
 turn_of : (a b c : Point) → bracket (whole a) (whole b) (whole c) ≡ turn_at a b c
 unfolding bracket
 turn_of a b c = bracket-affine a b c
-
-pub smaller : (x y : ℤ) → pos 0 ≤ℤ x → x <ℤ y → nat_abs x < nat_abs y
-smaller (pos a) (pos b) h k = omega (arith, ints)
-smaller (pos a) (negsuc b) h k = absurd (omega (arith, ints))
-smaller (negsuc a) y h k = absurd (omega (arith, ints))
 
 module _ (t : Triangulation) (new : List Face) (i j v x y z : ℕ) (h : TilesHull t) (free : IsFreeOfVertices t i j) (c : IsCrossing t i j v y) (f : IsFace t v x y) (g : IsFace t v y z) (last_v : IsLastRight t i j v) (last_y : IsLastLeft t i j v y)
     (change : FacesChange t.faces new (face v x y ∷ face v y z ∷ []) (face v x z ∷ face x y z ∷ [])) where
@@ -57,9 +51,9 @@ module _ (t : Triangulation) (new : List Face) (i j v x y z : ℕ) (h : TilesHul
   v_right = right_turn (p i) (p j) (p v) c.from_right
 
   own : w v y ≡ pos (rank v)
-  own = ap (λ b. ranked b (rank v)) (and_true (is_right (p i) (p j) (p v)) (int_lt (pos 0) (turn_at (p i) (p j) (p y)) && (int_lt (pos 0) (turn_at (p v) (p y) (p i)) && int_lt (turn_at (p v) (p y) (p j)) (pos 0))) (says (turn_at (p i) (p j) (p v)) (pos 0) v_right)
-      (and_true (int_lt (pos 0) (turn_at (p i) (p j) (p y))) (int_lt (pos 0) (turn_at (p v) (p y) (p i)) && int_lt (turn_at (p v) (p y) (p j)) (pos 0)) (says (pos 0) (turn_at (p i) (p j) (p y)) (left_turn (p i) (p j) (p y) c.to_left))
-      (and_true (int_lt (pos 0) (turn_at (p v) (p y) (p i))) (int_lt (turn_at (p v) (p y) (p j)) (pos 0)) (says (pos 0) (turn_at (p v) (p y) (p i)) (left_turn (p v) (p y) (p i) c.start)) (says (turn_at (p v) (p y) (p j)) (pos 0) (right_turn (p v) (p y) (p j) c.end)))))
+  own = ap (λ b. ranked b (rank v)) (and_true (is_right (p i) (p j) (p v)) (int_lt (pos 0) (turn_at (p i) (p j) (p y)) && (int_lt (pos 0) (turn_at (p v) (p y) (p i)) && int_lt (turn_at (p v) (p y) (p j)) (pos 0))) (test_true (turn_at (p i) (p j) (p v)) (pos 0) v_right)
+      (and_true (int_lt (pos 0) (turn_at (p i) (p j) (p y))) (int_lt (pos 0) (turn_at (p v) (p y) (p i)) && int_lt (turn_at (p v) (p y) (p j)) (pos 0)) (test_true (pos 0) (turn_at (p i) (p j) (p y)) (left_turn (p i) (p j) (p y) c.to_left))
+      (and_true (int_lt (pos 0) (turn_at (p v) (p y) (p i))) (int_lt (turn_at (p v) (p y) (p j)) (pos 0)) (test_true (pos 0) (turn_at (p v) (p y) (p i)) (left_turn (p v) (p y) (p i) c.start)) (test_true (turn_at (p v) (p y) (p j)) (pos 0) (right_turn (p v) (p y) (p j) c.end)))))
 
   across : Crosses (tiling t h) i j (P.at_first t h i j free) (P.at_second t h i j free) (P.clear t h i j free) v y
   across = P.crosses t h i j free v y c
@@ -95,14 +89,14 @@ module _ (t : Triangulation) (new : List Face) (i j v x y z : ℕ) (h : TilesHul
       (λ e d. both_signs (left_of x z e) (right_of z x d))
     where
       right_of : (a b : ℕ) → crosses (p i) (p j) (p a) (p b) ≡ true → turn_at (p i) (p j) (p a) <ℤ pos 0
-      right_of a b e = said (turn_at (p i) (p j) (p a)) (pos 0) (and_first (is_right (p i) (p j) (p a)) (int_lt (pos 0) (turn_at (p i) (p j) (p b)) && (int_lt (pos 0) (turn_at (p a) (p b) (p i)) && int_lt (turn_at (p a) (p b) (p j)) (pos 0))) e)
+      right_of a b e = less_by_test (turn_at (p i) (p j) (p a)) (pos 0) (and_first (is_right (p i) (p j) (p a)) (int_lt (pos 0) (turn_at (p i) (p j) (p b)) && (int_lt (pos 0) (turn_at (p a) (p b) (p i)) && int_lt (turn_at (p a) (p b) (p j)) (pos 0))) e)
 
       left_of : (a b : ℕ) → crosses (p i) (p j) (p a) (p b) ≡ true → pos 0 <ℤ turn_at (p i) (p j) (p b)
-      left_of a b e = said (pos 0) (turn_at (p i) (p j) (p b)) (and_first (int_lt (pos 0) (turn_at (p i) (p j) (p b))) (int_lt (pos 0) (turn_at (p a) (p b) (p i)) && int_lt (turn_at (p a) (p b) (p j)) (pos 0))
+      left_of a b e = less_by_test (pos 0) (turn_at (p i) (p j) (p b)) (and_first (int_lt (pos 0) (turn_at (p i) (p j) (p b))) (int_lt (pos 0) (turn_at (p a) (p b) (p i)) && int_lt (turn_at (p a) (p b) (p j)) (pos 0))
           (and_second (is_right (p i) (p j) (p a)) (int_lt (pos 0) (turn_at (p i) (p j) (p b)) && (int_lt (pos 0) (turn_at (p a) (p b) (p i)) && int_lt (turn_at (p a) (p b) (p j)) (pos 0))) e))
 
   lowered : crossing_sum t.points new i j < crossing_sum t.points t.faces i j
-  lowered = smaller (total (around (crossing_rank t.points i j)) new) (total (around (crossing_rank t.points i j)) t.faces) (around_nonneg new)
+  lowered = lower_magnitude (total (around (crossing_rank t.points i j)) new) (total (around (crossing_rank t.points i j)) t.faces) (around_nonneg new)
       (sum_falls (total (around (crossing_rank t.points i j)) new) (total (around (crossing_rank t.points i j)) t.faces) (w v x) (w x y) (w y v) (w v y) (w y z) (w z v) (w x z) (w z x) (pos (rank v))
       (change.totals (around (crossing_rank t.points i j)) (around_turn_free (crossing_rank t.points i j))) (w_nonneg y v) own new_less)
 

@@ -22,8 +22,8 @@ use Rattle.plane_delaunay.proofs.Flooded.{segment_from}
 use Rattle.plane_delaunay.proofs.LineItems.{Begins, begins, between_of, met_within, meeting_of_hull}
 use Rattle.plane_segments.specs.Steps.{ComesNext, IsLast}
 use Rattle.plane_segments.proofs.Slopes.{slope, slope_above, later_is_higher, higher_is_later, left_before, left_from}
-use Rattle.plane_segments.proofs.Begins.{edge_flipped, turned_negative, turned_positive, turned_least, Signs, met_if, rising, above-same, begins_once, on_line, after_crossing, before_crossing, bare_inside}
-use Rattle.plane.proofs.Signs.{negated_not_negative}
+use Rattle.plane_segments.proofs.Begins.{edge_flipped, Signs, met_if, rising, above-same, begins_once, on_line, after_crossing, before_crossing, bare_inside}
+use Rattle.plane.proofs.Signs.{negated_not_negative, opposite_of_positive, opposite_of_negative, opposite_of_not_positive}
 
 -- ends on two sides of a line differ
 pub ends_apart : (p q a b : Fraction) → pos 0 <ℤ bracket p q a → bracket p q b <ℤ pos 0 → ¬ IsSame a b
@@ -132,8 +132,8 @@ module _ (t : Triangulation) (h : TilesHull t) (p q : Fraction) (apart : ¬ IsSa
     second_signs = record {
       left = left;
       right = s.right;
-      start = weak_right (turned_negative _ _ (bracket-swapped B D p) (left_before p q apart B D crossed on_way second_there past));
-      end = turned_least _ _ (bracket-swapped B D q) past;
+      start = weak_right (opposite_of_positive _ _ (bracket-swapped B D p) (left_before p q apart B D crossed on_way second_there past));
+      end = opposite_of_not_positive _ _ (bracket-swapped B D q) past;
     }
 
     second_met : Meets t p q (L.across d b)
@@ -156,8 +156,8 @@ module _ (t : Triangulation) (h : TilesHull t) (p q : Fraction) (apart : ¬ IsSa
     third_signs = record {
       left = s.left;
       right = right;
-      start = weak_right (turned_negative _ _ (bracket-swapped D A p) (left_before p q apart D A crossed on_way third_there past));
-      end = turned_least _ _ (bracket-swapped D A q) past;
+      start = weak_right (opposite_of_positive _ _ (bracket-swapped D A p) (left_before p q apart D A crossed on_way third_there past));
+      end = opposite_of_not_positive _ _ (bracket-swapped D A q) past;
     }
 
     third_met : Meets t p q (L.across a d)
@@ -198,7 +198,7 @@ module _ (t : Triangulation) (h : TilesHull t) (p q : Fraction) (apart : ¬ IsSa
         up = falls (left_before p q apart B D crossed on_way second_there past)
           where
             falls : pos 0 <ℤ bracket B D p → pos 0 <ℤ slope D B p q
-            falls h = slope_above D B p q (turned_negative _ _ (bracket-swapped B D p) h) (turned_least _ _ (bracket-swapped B D q) past)
+            falls h = slope_above D B p q (opposite_of_positive _ _ (bracket-swapped B D p) h) (opposite_of_not_positive _ _ (bracket-swapped B D q) past)
 
         right_before : (z y : Fraction) → OnSegment p q z → OnSegment p q y → IsNearer p z y → IsSame y D → pos 0 <ℤ bracket B D z
         right_before z y hz hy near e = go (trichotomy_ℤ (bracket D B z))
@@ -210,7 +210,7 @@ module _ (t : Triangulation) (h : TilesHull t) (p q : Fraction) (apart : ¬ IsSa
             not_high high = none_there (later_is_higher p q apart D B z y hz hy near up high)
 
             go : (bracket D B z <ℤ pos 0) ⊎ ((bracket D B z ≡ pos 0) ⊎ (pos 0 <ℤ bracket D B z)) → pos 0 <ℤ bracket B D z
-            go (inl x) = turned_positive _ _ (bracket-swapped D B z) x
+            go (inl x) = opposite_of_negative _ _ (bracket-swapped D B z) x
             go (inr (inl x)) = absurd (not_high (zero_weak_left x))
             go (inr (inr x)) = absurd (not_high (weak x))
 

@@ -1,43 +1,31 @@
 -- The order of the items that a segment meets: none is before itself, and what is before what is before is before.
-use Rattle.std.proofs.Common.{◌≡◌, [], ◌∷◌, arith}
+use Rattle.std.proofs.Common.{◌≡◌, arith}
 use mathlib.Core.Logic.{◌⊎◌, inl, inr}
 use Rattle.std.specs.Prelude.{ℤ, pos, ◌<ℤ◌, ◌≤ℤ◌, ◌*ℤ◌}
 use Rattle.std.proofs.lemmas.Int.{ints}
 use Rattle.plane.proofs.IntegerOrder.{lt_of_mul-lt-mul_ℤ, mul-lt-mul_ℤ, mul-le-mul_ℤ}
 use Rattle.plane.proofs.Steps.{weak}
-use Rattle.plane.proofs.Solver.{◌⊗◌, ring_in}
 use Rattle.plane.proofs.Nearer.{same_not_nearer}
 use Rattle.plane.proofs.Segments.{reach, same-sym, same-trans}
 use Rattle.plane.specs.Fraction.{Fraction, IsSame, OnSegment}
 use Rattle.plane.specs.Circle.{IsNearer}
 use Rattle.plane.specs.Tiling.{Triangulation}
-use Rattle.plane.specs.Line.{Item, BeginsAt, IsBefore, IsVertexThenOverlap}
+use Rattle.plane.specs.Line.{Item, IsBefore, IsVertexThenOverlap}
 use Rattle.plane.specs.Line as L
 use Rattle.plane_delaunay.proofs.AlongSegment.{Placed, sooner, as_soon, later, placed, reach_less, nearer_if, not_both_nearer}
 use Rattle.plane_segments.proofs.Begins.{begins_once}
+use Rattle.plane.proofs.Centre.{swap_first}
 
 -- a / u, b / v and c / w rise
 pub through : (a u b v c w : ℤ) → (a *ℤ v) <ℤ (b *ℤ u) → (b *ℤ w) <ℤ (c *ℤ v) → pos 0 <ℤ u → pos 0 <ℤ v → pos 0 <ℤ w → (a *ℤ w) <ℤ (c *ℤ u)
-through a u b v c w h k hu hv hw = lt_of_mul-lt-mul_ℤ {k = v} hv (chain (mul-lt-mul_ℤ {k = w} hw h) (mul-lt-mul_ℤ {k = u} hu k) (one a v w) (two w b u) (one c v u))
+through a u b v c w h k hu hv hw = lt_of_mul-lt-mul_ℤ {k = v} hv (chain (mul-lt-mul_ℤ {k = w} hw h) (mul-lt-mul_ℤ {k = u} hu k) (swap_first v a w) (swap_first w b u) (swap_first v c u))
   where
-    one : (a v w : ℤ) → v *ℤ (a *ℤ w) ≡ w *ℤ (a *ℤ v)
-    one a v w = ring_in (a ∷ v ∷ w ∷ []) (λ a v w. v ⊗ (a ⊗ w)) (λ a v w. w ⊗ (a ⊗ v)) tt
-
-    two : (w b u : ℤ) → w *ℤ (b *ℤ u) ≡ u *ℤ (b *ℤ w)
-    two w b u = ring_in (w ∷ b ∷ u ∷ []) (λ w b u. w ⊗ (b ⊗ u)) (λ w b u. u ⊗ (b ⊗ w)) tt
-
     chain : {x y z x' y' z' : ℤ} → x <ℤ y → y' <ℤ z → x' ≡ x → y ≡ y' → z' ≡ z → x' <ℤ z'
     chain h k e d c = omega (arith, ints)
 
 pub through_weak : (a u b v c w : ℤ) → (a *ℤ v) ≤ℤ (b *ℤ u) → (b *ℤ w) <ℤ (c *ℤ v) → pos 0 <ℤ u → pos 0 <ℤ v → pos 0 <ℤ w → (a *ℤ w) <ℤ (c *ℤ u)
-through_weak a u b v c w h k hu hv hw = lt_of_mul-lt-mul_ℤ {k = v} hv (chain (mul-le-mul_ℤ {k = w} (weak hw) h) (mul-lt-mul_ℤ {k = u} hu k) (one a v w) (two w b u) (one c v u))
+through_weak a u b v c w h k hu hv hw = lt_of_mul-lt-mul_ℤ {k = v} hv (chain (mul-le-mul_ℤ {k = w} (weak hw) h) (mul-lt-mul_ℤ {k = u} hu k) (swap_first v a w) (swap_first w b u) (swap_first v c u))
   where
-    one : (a v w : ℤ) → v *ℤ (a *ℤ w) ≡ w *ℤ (a *ℤ v)
-    one a v w = ring_in (a ∷ v ∷ w ∷ []) (λ a v w. v ⊗ (a ⊗ w)) (λ a v w. w ⊗ (a ⊗ v)) tt
-
-    two : (w b u : ℤ) → w *ℤ (b *ℤ u) ≡ u *ℤ (b *ℤ w)
-    two w b u = ring_in (w ∷ b ∷ u ∷ []) (λ w b u. w ⊗ (b ⊗ u)) (λ w b u. u ⊗ (b ⊗ w)) tt
-
     chain : {x y z x' y' z' : ℤ} → x ≤ℤ y → y' <ℤ z → x' ≡ x → y ≡ y' → z' ≡ z → x' <ℤ z'
     chain h k e d c = omega (arith, ints)
 

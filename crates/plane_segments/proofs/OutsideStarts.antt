@@ -28,11 +28,11 @@ use Rattle.plane_delaunay.proofs.LineItems.{Begins, begins, Meeting, meeting_of_
 use Rattle.plane_segments.specs.Steps.{IsFirst, IsWalk}
 use Rattle.plane_segments.specs.WalkLaws.{FirstFromOutside}
 use Rattle.plane_segments.proofs.Slopes.{slope_above, higher_is_later, left_before}
-use Rattle.plane_segments.proofs.Begins.{edge_flipped, turned_positive, turned_least, Signs, signs_of, met_if, on_line}
+use Rattle.plane_segments.proofs.Begins.{edge_flipped, Signs, signs_of, met_if, on_line}
 use Rattle.plane_segments.proofs.Orders.{nearer-same_first, nearer-same_second}
 use Rattle.plane_segments.proofs.Steps.{edge_apart}
 use Rattle.plane_segments.proofs.EachWalk.{each_walk}
-use Rattle.plane.proofs.Signs.{negated_negative, opposite_of_zero_of}
+use Rattle.plane.proofs.Signs.{negated_negative, opposite_of_zero_of, opposite_of_negative, opposite_of_not_positive}
 
 -- ---- any triangulation whose items have their order
 module _ (t : Triangulation) (c₀ : Meeting t) (p q : Fraction) (apart : ¬ IsSame p q) where
@@ -136,7 +136,7 @@ module _ (t : Triangulation) (h : TilesHull t) (p q : Fraction) (apart : ¬ IsSa
     sum = sym (cramer J I K p p q) ∙ zero-mul_ℤ (bracket J I K) (bracket-first p q)
 
     near_side : pos 0 ≤ℤ bracket J I p
-    near_side = turned_least _ _ (bracket-swapped I J p) s.start
+    near_side = opposite_of_not_positive _ _ (bracket-swapped I J p) s.start
 
     not_in : pos 0 ≤ℤ bracket I K p → pos 0 ≤ℤ bracket K J p → ⊥
     not_in a b = out j i k f (triangle_of_closed J I K p (h.turning j i k f) (record { first = near_side; second = a; third = b }))
@@ -192,7 +192,7 @@ module _ (t : Triangulation) (h : TilesHull t) (p q : Fraction) (apart : ¬ IsSa
         parts f g x y k z l w e d = let a = product_zero_left {a = l} w d in omega (arith, ints, neg-mul_ℤ g y)
 
         there : OnSegment p q K
-        there = segment_from (bracket q p J) (bracket K J q) (neg_ℤ (bracket K J p)) p q K (turned_positive _ _ (bracket-swapped p q J) s.right) (end_left K J low high) (negated_negative low)
+        there = segment_from (bracket q p J) (bracket K J q) (neg_ℤ (bracket K J p)) p q K (opposite_of_negative _ _ (bracket-swapped p q J) s.right) (end_left K J low high) (negated_negative low)
             (λ u v. parts (bracket K J q) (bracket K J p) (bracket u v p) (bracket u v q) (bracket q p J) (bracket u v K) (bracket q p K) (bracket u v J) (meeting K J p q u v) (opposite_of_zero_of (bracket-swapped p q K) level))
 
         met : Meets t p q (L.at_vertex k)

@@ -1,33 +1,27 @@
 -- Whether a segment overlaps another along its way is decided: by two brackets, and by how far the ends are on the way.
-use Rattle.std.proofs.Common.{◌≡◌, [], ◌∷◌, ◌∙◌, arith, subst}
+use Rattle.std.proofs.Common.{◌≡◌, ◌∙◌, arith, subst}
 use mathlib.Core.Logic.{◌⊎◌, inl, inr}
 use Rattle.std.specs.Prelude.{ℤ, pos, ◌<ℤ◌, ◌≤ℤ◌, ◌+ℤ◌, ◌-ℤ◌, ◌*ℤ◌}
 use Rattle.std.proofs.lemmas.Int.{ints}
-use Rattle.plane.proofs.IntegerOrder.{lt_or_ge_ℤ, lt_of_mul-lt-mul_ℤ, mul-lt-mul_ℤ, mul-le-mul_ℤ, mul-pos_ℤ, mul-nonneg_ℤ, pos_of_mul-pos_ℤ}
+use Rattle.plane.proofs.IntegerOrder.{lt_or_ge_ℤ, lt_of_mul-lt-mul_ℤ, mul-lt-mul_ℤ, mul-le-mul_ℤ, mul-pos_ℤ, pos_of_mul-pos_ℤ}
 use Rattle.plane.proofs.Steps.{weak, product_zero_left}
-use Rattle.plane.proofs.Solver.{◌⊕◌, ◌⊖◌, ◌⊗◌, ring_in}
 use Rattle.plane.proofs.Bracket.{vec, bracket}
 use Rattle.plane.proofs.Nearer.{same_not_nearer}
 use Rattle.plane.proofs.Decisions.{Decision, decide_zero, decide_below}
-use Rattle.plane.proofs.Segments.{reach, reach-start, reach-end, reach_of_two, on_segment_is, on_of_within, only_point, same-sym, same-trans, start_on_segment, end_on_segment, weights_x, weights_y, IsWhole}
+use Rattle.plane.proofs.Segments.{reach, reach-start, reach-end, reach_of_two, on_segment_is, on_of_within, only_point, same-sym, same-trans, start_on_segment, end_on_segment, weights_x, weights_y, IsWhole, weights_w}
 use Rattle.plane.specs.Fraction.{Fraction, IsSame, OnSegment}
 use Rattle.plane.specs.Circle.{IsNearer}
 use Rattle.plane.specs.Line.{OverlapAlong}
-use Rattle.plane_delaunay.proofs.AlongSegment.{above_difference, nearer_if, reach_less, on_line, on_line_last, before, not_before, not_past, within_on_line}
+use Rattle.plane_delaunay.proofs.AlongSegment.{nearer_if, reach_less, on_line, on_line_last, before, not_before, not_past, within_on_line}
 use Rattle.plane_segments.proofs.Slopes.{even}
 use Rattle.plane_segments.proofs.Orders.{through_weak}
-use Rattle.plane.proofs.Signs.{less_by_difference, less_is_at_most}
+use Rattle.plane.proofs.Signs.{less_by_difference, less_is_at_most, difference_is_positive, positive_above}
+use Rattle.plane.proofs.Centre.{swap_first}
 
 -- a / u rises to b / v, and does not fall from there to c / w
 pub through_last : (a u b v c w : ℤ) → (a *ℤ v) <ℤ (b *ℤ u) → (b *ℤ w) ≤ℤ (c *ℤ v) → pos 0 <ℤ u → pos 0 <ℤ v → pos 0 <ℤ w → (a *ℤ w) <ℤ (c *ℤ u)
-through_last a u b v c w h k hu hv hw = lt_of_mul-lt-mul_ℤ {k = v} hv (chain (mul-lt-mul_ℤ {k = w} hw h) (mul-le-mul_ℤ {k = u} (weak hu) k) (one a v w) (two w b u) (one c v u))
+through_last a u b v c w h k hu hv hw = lt_of_mul-lt-mul_ℤ {k = v} hv (chain (mul-lt-mul_ℤ {k = w} hw h) (mul-le-mul_ℤ {k = u} (weak hu) k) (swap_first v a w) (swap_first w b u) (swap_first v c u))
   where
-    one : (a v w : ℤ) → v *ℤ (a *ℤ w) ≡ w *ℤ (a *ℤ v)
-    one a v w = ring_in (a ∷ v ∷ w ∷ []) (λ a v w. v ⊗ (a ⊗ w)) (λ a v w. w ⊗ (a ⊗ v)) tt
-
-    two : (w b u : ℤ) → w *ℤ (b *ℤ u) ≡ u *ℤ (b *ℤ w)
-    two w b u = ring_in (w ∷ b ∷ u ∷ []) (λ w b u. w ⊗ (b ⊗ u)) (λ w b u. u ⊗ (b ⊗ w)) tt
-
     chain : {x y z x' y' z' : ℤ} → x <ℤ y → y' ≤ℤ z → x' ≡ x → y ≡ y' → z' ≡ z → x' <ℤ z'
     chain h k e d c = omega (arith, ints)
 
@@ -56,14 +50,11 @@ overlaps_is p q u v apart o = record {
     less : (reach p q o.near *ℤ o.far.w) <ℤ (reach p q o.far *ℤ o.near.w)
     less = reach_less p q apart o.near o.far o.near_first o.far_first o.from_s
 
-    above_from : (a wb b wa : ℤ) → (a *ℤ wb) <ℤ (b *ℤ wa) → pos 0 ≤ℤ a → pos 0 <ℤ wa → pos 0 <ℤ wb → pos 0 <ℤ b
-    above_from a wb b wa h ha hwa hwb = pos_of_mul-pos_ℤ {k = wa} {x = b} hwa (let p = mul-nonneg_ℤ {a = a} {b = wb} ha (weak hwb) in omega (arith, ints, lib.IntN.*ℤ_comm b wa))
-
     above_weak : (a wb b wa : ℤ) → (a *ℤ wb) ≤ℤ (b *ℤ wa) → pos 0 <ℤ a → pos 0 <ℤ wa → pos 0 <ℤ wb → pos 0 <ℤ b
     above_weak a wb b wa h ha hwa hwb = pos_of_mul-pos_ℤ {k = wa} {x = b} hwa (let p = mul-pos_ℤ {a = a} {b = wb} ha hwb in omega (arith, ints, lib.IntN.*ℤ_comm b wa))
 
     raised : (rn wf rf wn rv wv : ℤ) → (rn *ℤ wf) <ℤ (rf *ℤ wn) → pos 0 ≤ℤ rn → (rf *ℤ wv) ≤ℤ (rv *ℤ wf) → pos 0 <ℤ wn → pos 0 <ℤ wf → pos 0 <ℤ wv → pos 0 <ℤ rv
-    raised rn wf rf wn rv wv h hn k pn pf pv = above_weak rf wv rv wf k (above_from rn wf rf wn h hn pn pf) pf pv
+    raised rn wf rf wn rv wv h hn k pn pf pv = above_weak rf wv rv wf k (positive_above rn wf rf wn h hn pn pf) pf pv
 
 module _ (p q u v : Fraction) (apart : ¬ IsSame p q) (o : Overlaps p q u v) where
   on_p : bracket (vec p) (vec q) (vec p) ≡ pos 0
@@ -90,7 +81,7 @@ module _ (p q u v : Fraction) (apart : ¬ IsSame p q) (o : Overlaps p q u v) whe
       go (inl h) = record {
         at = p;
         first = start_on_segment p q;
-        second = on_of_within u v p (within_on_line p q apart u p v o.on_u on_p o.on_v (after (reach p q u) p.w (reach p q p) u.w h (reach-start p q) p.positive) (above_difference _ _ (from_none (reach p q p) (reach p q v) p.w v.w (reach-start p q) o.ends p.positive)));
+        second = on_of_within u v p (within_on_line p q apart u p v o.on_u on_p o.on_v (after (reach p q u) p.w (reach p q p) u.w h (reach-start p q) p.positive) (difference_is_positive _ _ (from_none (reach p q p) (reach p q v) p.w v.w (reach-start p q) o.ends p.positive)));
         before_q = from_none (reach p q p) (reach p q q) p.w q.w (reach-start p q) (reach-end p q apart) p.positive;
         before_v = from_none (reach p q p) (reach p q v) p.w v.w (reach-start p q) o.ends p.positive;
       }
@@ -107,7 +98,7 @@ module _ (p q u v : Fraction) (apart : ¬ IsSame p q) (o : Overlaps p q u v) whe
   far = go (lt_or_ge_ℤ (reach p q q *ℤ v.w) (reach p q v *ℤ q.w))
     where
       go : ((reach p q q *ℤ v.w) <ℤ (reach p q v *ℤ q.w)) ⊎ ((reach p q v *ℤ q.w) ≤ℤ (reach p q q *ℤ v.w)) → Far
-      go (inl h) = record { at = q; first = end_on_segment p q; second = on_of_within u v q (within_on_line p q apart u q v o.on_u on_q o.on_v (above_difference _ _ o.starts) (above_difference _ _ h)); after = λ n. n.before_q }
+      go (inl h) = record { at = q; first = end_on_segment p q; second = on_of_within u v q (within_on_line p q apart u q v o.on_u on_q o.on_v (difference_is_positive _ _ o.starts) (difference_is_positive _ _ h)); after = λ n. n.before_q }
       go (inr h) = record { at = v; first = (on_segment_is p q v apart).1 (o.on_v, weak o.ends, h); second = end_on_segment u v; after = λ n. n.before_v }
 
   from_p : IsNearer p near.at far.at
@@ -120,7 +111,7 @@ module _ (p q u v : Fraction) (apart : ¬ IsSame p q) (o : Overlaps p q u v) whe
   from_start : IsNearer u near.at far.at
   from_start = nearer_if u v two_ends near.at far.at near.second far.second (less_by_difference _ _ (pos_of_mul-pos_ℤ {k = reach p q v *ℤ u.w -ℤ reach p q u *ℤ v.w} o.along
       (subst (λ z. pos 0 <ℤ z) (even (reach u v v) u.w v.w near.at.w far.at.w (reach u v near.at) (reach u v far.at) (reach p q u) (reach p q v) (reach p q near.at) (reach p q far.at) (spread near.at near.second) (spread far.at far.second) ∙ lib.IntN.*ℤ_comm (reach u v far.at *ℤ near.at.w -ℤ reach u v near.at *ℤ far.at.w) (reach p q v *ℤ u.w -ℤ reach p q u *ℤ v.w))
-      (mul-pos_ℤ {a = reach u v v *ℤ u.w} (mul-pos_ℤ (reach-end u v two_ends) u.positive) (above_difference _ _ (far.after near))))))
+      (mul-pos_ℤ {a = reach u v v *ℤ u.w} (mul-pos_ℤ (reach-end u v two_ends) u.positive) (difference_is_positive _ _ (far.after near))))))
     where
       spread : (z : Fraction) → OnSegment u v z → (reach u v v *ℤ u.w) *ℤ reach p q z ≡ (reach u v v *ℤ z.w -ℤ reach u v z *ℤ v.w) *ℤ reach p q u +ℤ (reach u v z *ℤ u.w) *ℤ reach p q v
       spread z h = let on = ((on_segment_is u v z two_ends).0 h).0 in reach_of_two IsWhole p q u v z (record {
@@ -132,11 +123,8 @@ module _ (p q u v : Fraction) (apart : ¬ IsSame p q) (o : Overlaps p q u v) whe
         positive = mul-pos_ℤ (reach-end u v two_ends) u.positive;
         x = weights_x u v z on;
         y = weights_y u v z on;
-        w = weight (reach u v v) (reach u v z) u.w v.w z.w;
+        w = weights_w (reach u v v) (reach u v z) u.w v.w z.w;
       })
-        where
-          weight : (l r u v z : ℤ) → (l *ℤ u) *ℤ z ≡ (l *ℤ z -ℤ r *ℤ v) *ℤ u +ℤ (r *ℤ u) *ℤ v
-          weight l r u v z = ring_in (l ∷ r ∷ u ∷ v ∷ z ∷ []) (λ l r u v z. (l ⊗ u) ⊗ z) (λ l r u v z. (l ⊗ z ⊖ r ⊗ v) ⊗ u ⊕ (r ⊗ u) ⊗ v) tt
 
   pub overlaps_if : OverlapAlong p q u v
   overlaps_if = record { near = near.at; far = far.at; near_first = near.first; near_second = near.second; far_first = far.first; far_second = far.second; from_s = from_p; from_u = from_start }

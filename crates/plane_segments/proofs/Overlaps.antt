@@ -1,7 +1,7 @@
 -- What a segment meets next after an edge that it overlaps: the vertex at its end, or nothing.
 use Rattle.std.proofs.Common.{◌≡◌, ℕ, arith, subst, subst₂}
 use mathlib.Core.Logic.{◌⊎◌, inl, inr}
-use Rattle.std.specs.Prelude.{ℤ, pos, ◌<ℤ◌, ◌≤ℤ◌, ◌-ℤ◌, ◌*ℤ◌}
+use Rattle.std.specs.Prelude.{ℤ, pos, ◌<ℤ◌, ◌≤ℤ◌, ◌*ℤ◌}
 use Rattle.std.proofs.lemmas.Int.{ints}
 use Rattle.plane.proofs.IntegerOrder.{lt_or_ge_ℤ, mul-nonneg_ℤ, nonneg_of_mul-nonneg_ℤ}
 use Rattle.plane.proofs.Steps.{weak}
@@ -12,12 +12,12 @@ use Rattle.plane.specs.Circle.{IsNearer}
 use Rattle.plane.specs.Tiling.{Triangulation, vertex}
 use Rattle.plane.specs.Line.{Item, IsPointOf, Meets, BeginsAt, IsBefore, IsVertexThenOverlap}
 use Rattle.plane.specs.Line as L
-use Rattle.plane_delaunay.proofs.AlongSegment.{above_difference, not_less, Placed, sooner, as_soon, later, placed, reach_less, on_line, on_line_last, before, not_before, not_past, not_from_end, within_on_line, same_on_line}
+use Rattle.plane_delaunay.proofs.AlongSegment.{Placed, sooner, as_soon, later, placed, reach_less, on_line, on_line_last, before, not_before, not_past, not_from_end, within_on_line, same_on_line}
 use Rattle.plane_delaunay.proofs.LineItems.{Begins, begins, Meeting, SharedAt, one_way, other_way, at_end, met_within, crossing_and_overlap}
 use Rattle.plane_segments.specs.Steps.{ComesNext, IsLast}
 use Rattle.plane_segments.proofs.Begins.{begins_once}
 use Rattle.plane_segments.proofs.Orders.{through_weak, nearer_through, nearer-same_second, not_both_before}
-use Rattle.plane.proofs.Signs.{at_most_both_ways, differences_both_positive}
+use Rattle.plane.proofs.Signs.{at_most_both_ways, differences_both_positive, difference_is_positive, at_most_and_more}
 
 module _ (t : Triangulation) (c₀ : Meeting t) (p q : Fraction) (apart : ¬ IsSame p q) (a b : ℕ) (m : Meets t p q (L.along a b)) where
   abbrev pub A : Fraction
@@ -29,8 +29,8 @@ module _ (t : Triangulation) (c₀ : Meeting t) (p q : Fraction) (apart : ¬ IsS
   -- a point of the overlap and a later one on the segment, before the end of the edge: the later is strictly within the edge
   within_overlap : (x z : Fraction) → OnSegment p q x → OnSegment p q z → OnSegment A B x → IsNearer p x z → (reach p q z *ℤ B.w) <ℤ (reach p q B *ℤ z.w) → WithinSegment A B z
   within_overlap x z hx hz ox near less = within_on_line p q apart A z B (on_line p q A B m.1) ((on_segment_is p q z apart).0 hz).0 (on_line_last p q A B m.1)
-      (above_difference _ _ (through_weak (reach p q A) A.w (reach p q x) x.w (reach p q z) z.w (not_before p q A B m.1 x ox) (reach_less p q apart x z hx hz near) A.positive x.positive z.positive))
-      (above_difference _ _ less)
+      (difference_is_positive _ _ (through_weak (reach p q A) A.w (reach p q x) x.w (reach p q z) z.w (not_before p q A B m.1 x ox) (reach_less p q apart x z hx hz near) A.positive x.positive z.positive))
+      (difference_is_positive _ _ less)
 
   -- what has a point strictly within the edge is this overlap
   only_overlap : (k : Item) → Meets t p q k → (z : Fraction) → OnSegment p q z → IsPointOf t k z → WithinSegment A B z → k ≡ L.along a b
@@ -69,7 +69,7 @@ module _ (t : Triangulation) (c₀ : Meeting t) (p q : Fraction) (apart : ¬ IsS
           pick : Placed p x.at B → IsNearer p x.at B
           pick (sooner n) = n
           pick (as_soon e) = absurd (not_from_end p q A B m.1 x.at x.begins.shared (λ r h i. x.begins.first r h i) e)
-          pick (later n) = absurd (not_less _ _ (not_past p q A B m.1 x.at x.begins.of_item) (reach_less p q apart B x.at on x.begins.shared n))
+          pick (later n) = absurd (at_most_and_more _ _ (not_past p q A B m.1 x.at x.begins.of_item) (reach_less p q apart B x.at on x.begins.shared n))
 
       none : (k : Item) → Meets t p q k → IsBefore t p q (L.along a b) k → ¬ IsBefore t p q k (L.at_vertex b)
       none k met o r = pick k met o r r.order
@@ -105,7 +105,7 @@ module _ (t : Triangulation) (c₀ : Meeting t) (p q : Fraction) (apart : ¬ IsS
       go : Placed p m.1.far q → IsNearer p m.1.near q
       go (sooner n) = nearer_through p q apart m.1.near m.1.far q m.1.near_first m.1.far_first (end_on_segment p q) m.1.from_s n
       go (as_soon e) = nearer-same_second p q apart m.1.near m.1.far q m.1.near_first m.1.far_first (end_on_segment p q) e m.1.from_s
-      go (later n) = absurd (not_less _ _ ((on_segment_is p q m.1.far apart).0 m.1.far_first).2 (reach_less p q apart q m.1.far (end_on_segment p q) m.1.far_first n))
+      go (later n) = absurd (at_most_and_more _ _ ((on_segment_is p q m.1.far apart).0 m.1.far_first).2 (reach_less p q apart q m.1.far (end_on_segment p q) m.1.far_first n))
 
   pub next_unless_within : ¬ WithinSegment A B q → ComesNext t p q (L.along a b) (L.at_vertex b)
   next_unless_within n = go reaches_end

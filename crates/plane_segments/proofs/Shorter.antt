@@ -1,7 +1,7 @@
 -- The path from the end of the first piece is shorter.
 use Rattle.std.proofs.Common.{◌≡◌, ◌⊎◌, [], ◌∷◌, sym, ap, ◌∙◌, subst, arith}
 use mathlib.Core.Logic.{inl, inr}
-use Rattle.std.specs.Prelude.{ℤ, pos, ◌+ℤ◌, ◌-ℤ◌, ◌*ℤ◌, ◌≤ℤ◌, ◌<ℤ◌}
+use Rattle.std.specs.Prelude.{ℤ, pos, ◌+ℤ◌, ◌-ℤ◌, ◌*ℤ◌, ◌<ℤ◌}
 use Rattle.std.proofs.lemmas.Int.{ints}
 use Rattle.plane.specs.Fraction.{Point, whole, IsSame, IsPositive, WithinSegment}
 use Rattle.plane.specs.Laws.{squared_way}
@@ -15,9 +15,8 @@ use Rattle.plane_edits.specs.Legal.{point_of}
 use Rattle.plane_segments.specs.Constraints.{PathShortens}
 use Rattle.plane_segments.proofs.EitherWay.{one_point}
 use Rattle.plane_segments.proofs.Falling.{same_values, not_both}
-use Rattle.plane_segments.proofs.Lowering.{smaller}
 use Rattle.plane_segments.proofs.Pieces.{on_parts}
-use Rattle.plane.proofs.Signs.{less_by_difference, sum_is_positive}
+use Rattle.plane.proofs.Signs.{less_by_difference, sum_is_positive, lower_magnitude}
 use Rattle.plane_edits.proofs.Legal.{squared_way_nonneg}
 
 scaled : (n k l i j w : ℤ) → n *ℤ w ≡ k *ℤ i +ℤ l *ℤ j → n *ℤ pos 1 ≡ k *ℤ pos 1 +ℤ l *ℤ pos 1 → n *ℤ (j -ℤ w) ≡ k *ℤ (j -ℤ i)
@@ -45,7 +44,7 @@ within_nearer i j w apart h =
     falls n k l e h = omega (arith, ints)
 
 pub path_shortens : PathShortens
-path_shortens points i j w distinct hi hj ij n = smaller (squared_way (point_of points w) (point_of points j)) (squared_way (point_of points i) (point_of points j)) (squared_way_nonneg (point_of points w) (point_of points j)) (go (on_parts (place points i) (place points j) (place points w) n.second))
+path_shortens points i j w distinct hi hj ij n = lower_magnitude (squared_way (point_of points w) (point_of points j)) (squared_way (point_of points i) (point_of points j)) (squared_way_nonneg (point_of points w) (point_of points j)) (go (on_parts (place points i) (place points j) (place points w) n.second))
   where
     apart : ¬ (point_of points i ≡ point_of points j)
     apart e = distinct i j hi hj ij (ap whole e)

@@ -9,13 +9,13 @@ use Rattle.plane.proofs.Solver.{num, ◌⊕◌, ◌⊖◌, ◌⊗◌, ring_in, r
 use Rattle.plane.proofs.IntegerOrder.{mul-pos_ℤ, mul-nonneg_ℤ, pos_of_mul-pos_ℤ, mul-nonpos_of_nonneg_nonpos_ℤ, trichotomy_ℤ}
 use Rattle.plane.proofs.Steps.{weak, weak_right, zero_weak, product_zero_left}
 use Rattle.plane.proofs.Means.{two_weights}
-use Rattle.plane.proofs.Segments.{reach, reach-end, on_segment_is, weights_x, weights_y, IsWhole}
+use Rattle.plane.proofs.Segments.{reach, reach-end, on_segment_is, weights_x, weights_y, IsWhole, weights_w}
 use Rattle.plane.specs.Fraction.{Fraction, IsSame, OnSegment, IsNotNegative}
 use Rattle.plane.specs.Circle.{IsNearer}
 use Rattle.plane_delaunay.proofs.Bracket.{bracket}
 use Rattle.plane_delaunay.proofs.EmptyCircles.{weights_along}
-use Rattle.plane_delaunay.proofs.AlongSegment.{above_difference, reach_less, nearer_if}
-use Rattle.plane.proofs.Signs.{less_by_difference}
+use Rattle.plane_delaunay.proofs.AlongSegment.{reach_less, nearer_if}
+use Rattle.plane.proofs.Signs.{less_by_difference, difference_is_positive}
 
 -- how much the side of the line u v rises from p to q
 unfoldable pub slope : Fraction → Fraction → Fraction → Fraction → ℤ
@@ -35,9 +35,6 @@ even l pw qw xw zw rx rz fp fq fx fz e d = ring_in_from (l ∷ pw ∷ qw ∷ xw 
     (λ l pw qw xw zw rx rz fp fq fx fz. (num 0 ⊖ zw, (l ⊗ pw) ⊗ fx, (l ⊗ xw ⊖ rx ⊗ qw) ⊗ fp ⊕ (rx ⊗ pw) ⊗ fq) ∷ (xw, (l ⊗ pw) ⊗ fz, (l ⊗ zw ⊖ rz ⊗ qw) ⊗ fp ⊕ (rz ⊗ pw) ⊗ fq) ∷ []) (e, (d, tt)) tt
 
 module _ (p q : Fraction) (apart : ¬ IsSame p q) where
-  unit : (l r u v z : ℤ) → (l *ℤ u) *ℤ z ≡ (l *ℤ z -ℤ r *ℤ v) *ℤ u +ℤ (r *ℤ u) *ℤ v
-  unit l r u v z = ring_in (l ∷ r ∷ u ∷ v ∷ z ∷ []) (λ l r u v z. (l ⊗ u) ⊗ z) (λ l r u v z. (l ⊗ z ⊖ r ⊗ v) ⊗ u ⊕ (r ⊗ u) ⊗ v) tt
-
   along : (u v z : Fraction) → OnSegment p q z → (reach p q q *ℤ p.w) *ℤ bracket u v z ≡ (reach p q q *ℤ z.w -ℤ reach p q z *ℤ q.w) *ℤ bracket u v p +ℤ (reach p q z *ℤ p.w) *ℤ bracket u v q
   along u v z h = let on = ((on_segment_is p q z apart).0 h).0 in weights_along IsWhole p q z (record {
     k = reach p q q *ℤ z.w -ℤ reach p q z *ℤ q.w;
@@ -48,7 +45,7 @@ module _ (p q : Fraction) (apart : ¬ IsSame p q) where
     positive = mul-pos_ℤ (reach-end p q apart) p.positive;
     x = weights_x p q z on;
     y = weights_y p q z on;
-    w = unit (reach p q q) (reach p q z) p.w q.w z.w;
+    w = weights_w (reach p q q) (reach p q z) p.w q.w z.w;
   }) u v
 
   pub evenly : (u v x z : Fraction) → OnSegment p q x → OnSegment p q z → (reach p q q *ℤ p.w) *ℤ (bracket u v z *ℤ x.w -ℤ bracket u v x *ℤ z.w) ≡ (reach p q z *ℤ x.w -ℤ reach p q x *ℤ z.w) *ℤ slope u v p q
@@ -62,7 +59,7 @@ module _ (p q : Fraction) (apart : ¬ IsSame p q) where
   pub later_is_higher : (u v x z : Fraction) → OnSegment p q x → OnSegment p q z → IsNearer p x z → pos 0 <ℤ slope u v p q → pos 0 ≤ℤ bracket u v x → pos 0 <ℤ bracket u v z
   later_is_higher u v x z hx hz near rising high = pos_of_mul-pos_ℤ {k = x.w} {x = bracket u v z} x.positive
       (high_sum (bracket u v z *ℤ x.w) (bracket u v x *ℤ z.w) (x.w *ℤ bracket u v z) (lib.IntN.*ℤ_comm x.w (bracket u v z))
-      (pos_of_mul-pos_ℤ {k = reach p q q *ℤ p.w} length_above (subst (λ n. pos 0 <ℤ n) (sym (evenly u v x z hx hz)) (mul-pos_ℤ (above_difference _ _ (reach_less p q apart x z hx hz near)) rising)))
+      (pos_of_mul-pos_ℤ {k = reach p q q *ℤ p.w} length_above (subst (λ n. pos 0 <ℤ n) (sym (evenly u v x z hx hz)) (mul-pos_ℤ (difference_is_positive _ _ (reach_less p q apart x z hx hz near)) rising)))
       (mul-nonneg_ℤ {a = bracket u v x} {b = z.w} high (weak z.positive)))
     where
       high_sum : (a b c : ℤ) → c ≡ a → pos 0 <ℤ (a -ℤ b) → pos 0 ≤ℤ b → pos 0 <ℤ c
@@ -127,7 +124,7 @@ module _ (p q : Fraction) (apart : ¬ IsSame p q) where
 
   -- not left at a point and left at a later one: it rises
   pub slope_between : (u v x z : Fraction) → OnSegment p q x → OnSegment p q z → IsNearer p x z → bracket u v x ≤ℤ pos 0 → pos 0 <ℤ bracket u v z → pos 0 <ℤ slope u v p q
-  slope_between u v x z hx hz near low high = pos_of_mul-pos_ℤ {k = reach p q z *ℤ x.w -ℤ reach p q x *ℤ z.w} (above_difference _ _ (reach_less p q apart x z hx hz near))
+  slope_between u v x z hx hz near low high = pos_of_mul-pos_ℤ {k = reach p q z *ℤ x.w -ℤ reach p q x *ℤ z.w} (difference_is_positive _ _ (reach_less p q apart x z hx hz near))
       (subst (λ n. pos 0 <ℤ n) (evenly u v x z hx hz) (mul-pos_ℤ length_above (rises (bracket u v z *ℤ x.w) (bracket u v x) z.w (mul-pos_ℤ high x.positive) low z.positive)))
     where
       rises : (a b w : ℤ) → pos 0 <ℤ a → b ≤ℤ pos 0 → pos 0 <ℤ w → pos 0 <ℤ (a -ℤ b *ℤ w)

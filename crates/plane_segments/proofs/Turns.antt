@@ -4,7 +4,7 @@ use Rattle.std.specs.Prelude.{pos, ◌-ℤ◌, ◌<ℤ◌, neg_ℤ}
 use Rattle.plane.specs.Fraction.{Point, whole}
 use Rattle.plane.specs.Side.{side, right, on, TurnsLeft}
 use Rattle.plane.specs.Laws.{turn_at, squared_way}
-use Rattle.plane.proofs.Sides.{if_left, if_right, if_on, left_if, right_if, on_if}
+use Rattle.plane.proofs.Sides.{if_left, if_right, if_on, left_if}
 use Rattle.plane.proofs.Solver.{Poly, num, ◌⊕◌, ◌⊖◌, ◌⊗◌, ⊝, ring_over}
 use Rattle.plane.proofs.Bracket.{Pointᵖ, points as points_shape}
 use Rattle.plane.proofs.BracketIdentities.{bracket-affine}
@@ -23,12 +23,6 @@ no_turn a b c h = sym (bracket-affine a b c) ∙ if_on (whole a) (whole b) (whol
 
 pub turn_left : (a b c : Point) → pos 0 <ℤ turn_at a b c → TurnsLeft (whole a) (whole b) (whole c)
 turn_left a b c h = left_if (whole a) (whole b) (whole c) (subst (λ z. pos 0 <ℤ z) (sym (bracket-affine a b c)) h)
-
-pub turn_right : (a b c : Point) → turn_at a b c <ℤ pos 0 → side (whole a) (whole b) (whole c) ≡ right
-turn_right a b c h = right_if (whole a) (whole b) (whole c) (subst (λ z. z <ℤ pos 0) (sym (bracket-affine a b c)) h)
-
-pub turn_on : (a b c : Point) → turn_at a b c ≡ pos 0 → side (whole a) (whole b) (whole c) ≡ on
-turn_on a b c h = on_if (whole a) (whole b) (whole c) (bracket-affine a b c ∙ h)
 
 -- the turn the other way
 pub turn-swapped : (q u v : Point) → turn_at q v u ≡ neg_ℤ (turn_at q u v)

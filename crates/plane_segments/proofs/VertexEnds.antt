@@ -23,13 +23,12 @@ use Rattle.plane_delaunay.proofs.Cones.{cone_at_vertex}
 use Rattle.plane_delaunay.proofs.EmptyCircles.{weights_along}
 use Rattle.plane_delaunay.proofs.Flooded.{side_of_segment, segment_from}
 use Rattle.plane_delaunay.proofs.LineItems.{turned_segment}
-use Rattle.plane_delaunay.proofs.AlongSegment.{not_less, Placed, sooner, as_soon, later, placed, reach_less, nearer_if, after_first}
+use Rattle.plane_delaunay.proofs.AlongSegment.{Placed, sooner, as_soon, later, placed, reach_less, nearer_if, after_first}
 use Rattle.plane_segments.specs.Steps.{IsLast, IsAhead}
-use Rattle.plane_segments.proofs.Begins.{turned_positive, turned_negative}
 use Rattle.plane_segments.proofs.SideSigns.{not_right}
 use Rattle.plane_segments.proofs.Ends.{vertex_edge}
 use Rattle.plane_segments.proofs.Vertices.{IsPast, is_past, past_left, before_end}
-use Rattle.plane.proofs.Signs.{at_most_by_difference_to, sum_not_negative_of}
+use Rattle.plane.proofs.Signs.{at_most_by_difference_to, sum_not_negative_of, at_most_and_more, opposite_of_positive, opposite_of_negative}
 
 -- the start is nearer to itself than any other point
 start_nearer : (u x : Fraction) → ¬ IsSame u x → IsNearer u u x
@@ -115,14 +114,14 @@ module _ (t : Triangulation) (p q : Fraction) (apart : ¬ IsSame p q) (v : ℕ) 
       go : Placed p V (vertex t b) → IsNearer p V (vertex t b)
       go (sooner n) = n
       go (as_soon s) = absurd (apart_b s)
-      go (later n) = absurd (not_less _ _ not_earlier (reach_less p q apart (vertex t b) V there m.1 n))
+      go (later n) = absurd (at_most_and_more _ _ not_earlier (reach_less p q apart (vertex t b) V there m.1 n))
 
   -- the side of a line through the vertex is one for all later points of the segment
   same_zero : (u w : Fraction) → bracket u w V ≡ pos 0 → bracket w u V ≡ pos 0 → (z : Fraction) → OnSegment p q z → IsNearer p V z → bracket u w z ≡ pos 0 → bracket u w q ≡ pos 0
   same_zero u w on on' z hz near e = go (trichotomy_ℤ (bracket u w q))
     where
       go : (bracket u w q <ℤ pos 0) ⊎ ((bracket u w q ≡ pos 0) ⊎ (pos 0 <ℤ bracket u w q)) → bracket u w q ≡ pos 0
-      go (inl h) = absurd (left_not_zero (past_left t p q apart v m w u on' q (end_on_segment p q) past_end (turned_positive _ _ (bracket-swapped u w q) h) z hz near) (bracket-swapped u w z ∙ ap neg_ℤ e))
+      go (inl h) = absurd (left_not_zero (past_left t p q apart v m w u on' q (end_on_segment p q) past_end (opposite_of_negative _ _ (bracket-swapped u w q) h) z hz near) (bracket-swapped u w z ∙ ap neg_ℤ e))
       go (inr (inl h)) = h
       go (inr (inr h)) = absurd (left_not_zero (past_left t p q apart v m u w on q (end_on_segment p q) past_end h z hz near) e)
 
@@ -130,7 +129,7 @@ module _ (t : Triangulation) (p q : Fraction) (apart : ¬ IsSame p q) (v : ℕ) 
   same_least u w on' z hz near e = go (trichotomy_ℤ (bracket u w q))
     where
       go : (bracket u w q <ℤ pos 0) ⊎ ((bracket u w q ≡ pos 0) ⊎ (pos 0 <ℤ bracket u w q)) → pos 0 ≤ℤ bracket u w q
-      go (inl h) = absurd (right_not_above (turned_negative _ _ (bracket-swapped w u z) (past_left t p q apart v m w u on' q (end_on_segment p q) past_end (turned_positive _ _ (bracket-swapped u w q) h) z hz near)) e)
+      go (inl h) = absurd (right_not_above (opposite_of_positive _ _ (bracket-swapped w u z) (past_left t p q apart v m w u on' q (end_on_segment p q) past_end (opposite_of_negative _ _ (bracket-swapped u w q) h) z hz near)) e)
       go (inr (inl h)) = zero_weak_left h
       go (inr (inr h)) = weak h
 

@@ -17,12 +17,13 @@ use Rattle.plane_delaunay.proofs.Nudges.{Inside, size, nudge, nudge-above, nudge
 use Rattle.plane_delaunay.proofs.Faces.{turned-above}
 use Rattle.plane_delaunay.proofs.Ground.{turned_face}
 use Rattle.plane_delaunay.proofs.Hull.{nudge_in_hull}
-use Rattle.plane_delaunay.proofs.AlongSegment.{not_less, Placed, sooner, as_soon, later, placed, reach_less, not_both_nearer, not_before}
+use Rattle.plane_delaunay.proofs.AlongSegment.{Placed, sooner, as_soon, later, placed, reach_less, not_both_nearer, not_before}
 use Rattle.plane_delaunay.proofs.LineItems.{Begins, begins}
 use Rattle.plane_segments.specs.Steps.{ComesNext, IsLast}
 use Rattle.plane_segments.proofs.Slopes.{slope_between, later_is_higher, left_before, left_from}
-use Rattle.plane_segments.proofs.Begins.{turned_negative, turned_least, Signs, met_if, rising, above-same, begins_once, on_line, before_crossing, bare_inside}
+use Rattle.plane_segments.proofs.Begins.{Signs, met_if, rising, above-same, begins_once, on_line, before_crossing, bare_inside}
 use Rattle.plane_segments.proofs.Orders.{nearer_through, nearer-same_first, nearer-same_second}
+use Rattle.plane.proofs.Signs.{at_most_and_more, opposite_of_positive, opposite_of_not_positive}
 
 module _ (t : Triangulation) (p q : Fraction) (apart : ¬ IsSame p q) (v : ℕ) (m : Meets t p q (L.at_vertex v)) where
   abbrev pub V : Fraction
@@ -66,7 +67,7 @@ module _ (t : Triangulation) (p q : Fraction) (apart : ¬ IsSame p q) (v : ℕ) 
   last_at_end e = record { none_after = λ k met o. none (is_past k met o) }
     where
       none : {k : Item} → IsPast k → ⊥
-      none x = not_less _ _ ((on_segment_is p q x.there apart).0 x.shared).2 (reach_less p q apart q x.there (end_on_segment p q) x.shared (nearer-same_first p q apart V q x.there m.1 (end_on_segment p q) x.shared e x.past))
+      none x = at_most_and_more _ _ ((on_segment_is p q x.there apart).0 x.shared).2 (reach_less p q apart q x.there (end_on_segment p q) x.shared (nearer-same_first p q apart V q x.there m.1 (end_on_segment p q) x.shared e x.past))
 
   -- the edge that it overlaps from here on
   pub next_overlap : (b : ℕ) → Meets t p q (L.along v b) → ComesNext t p q (L.at_vertex v) (L.along v b)
@@ -78,7 +79,7 @@ module _ (t : Triangulation) (p q : Fraction) (apart : ¬ IsSame p q) (v : ℕ) 
           pick : Placed p V y → IsSame V y
           pick (sooner n) = absurd (by.first V m.1 (start_on_segment V (vertex t b)) n)
           pick (as_soon s) = s
-          pick (later n) = absurd (not_less _ _ (not_before p q V (vertex t b) met.1 y by.of_item) (reach_less p q apart y V by.shared m.1 n))
+          pick (later n) = absurd (at_most_and_more _ _ (not_before p q V (vertex t b) met.1 y by.of_item) (reach_less p q apart y V by.shared m.1 n))
 
       none : (y : Fraction) → BeginsAt t p q (L.along v b) y → (k : Item) → IsBefore t p q (L.at_vertex v) k → ¬ IsBefore t p q k (L.along v b)
       none y by k o r = pick k o r o.order r.order
@@ -106,7 +107,7 @@ module _ (t : Triangulation) (p q : Fraction) (apart : ¬ IsSame p q) (v : ℕ) 
       go : Placed p V q → IsNearer p V q
       go (sooner n) = n
       go (as_soon e) = absurd (two e)
-      go (later n) = absurd (not_less _ _ ((on_segment_is p q V apart).0 m.1).2 (reach_less p q apart q V (end_on_segment p q) m.1 n))
+      go (later n) = absurd (at_most_and_more _ _ ((on_segment_is p q V apart).0 m.1).2 (reach_less p q apart q V (end_on_segment p q) m.1 n))
 
   -- where the side of a line through the vertex is left at one later point, it is so at each
   pub past_left : (u w : Fraction) → bracket u w V ≡ pos 0 → (y : Fraction) → OnSegment p q y → IsNearer p V y → pos 0 <ℤ bracket u w y → (z : Fraction) → OnSegment p q z → IsNearer p V z → pos 0 <ℤ bracket u w z
@@ -194,8 +195,8 @@ module _ (t : Triangulation) (p q : Fraction) (apart : ¬ IsSame p q) (v : ℕ) 
       side_signs = record {
         left = left_end;
         right = right_end;
-        start = weak_right (turned_negative _ _ (bracket-swapped B C p) (left_before p q apart B C V m.1 opposite past));
-        end = turned_least _ _ (bracket-swapped B C q) past;
+        start = weak_right (opposite_of_positive _ _ (bracket-swapped B C p) (left_before p q apart B C V m.1 opposite past));
+        end = opposite_of_not_positive _ _ (bracket-swapped B C q) past;
       }
 
       side_met : Meets t p q (L.across c b)
@@ -213,4 +214,4 @@ module _ (t : Triangulation) (p q : Fraction) (apart : ¬ IsSame p q) (v : ℕ) 
               pick : Placed p V y.at → IsNearer p V y.at
               pick (sooner n) = n
               pick (as_soon e) = absurd (left_not_zero (subst (λ x. pos 0 <ℤ x) (bracket-swapped C B y.at) (above-same B C V y.at e opposite)) (ap neg_ℤ on))
-              pick (later n) = absurd (both_signs (later_is_higher p q apart C B y.at V y.begins.shared m.1 n (rising p q C B left_end right_end) (zero_weak_left on)) (turned_negative _ _ (bracket-swapped B C V) opposite))
+              pick (later n) = absurd (both_signs (later_is_higher p q apart C B y.at V y.begins.shared m.1 n (rising p q C B left_end right_end) (zero_weak_left on)) (opposite_of_positive _ _ (bracket-swapped B C V) opposite))

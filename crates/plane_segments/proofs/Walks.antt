@@ -1,5 +1,5 @@
 -- A walk from the first item to the last is the line list.
-use Rattle.std.proofs.Common.{◌≡◌, List, [], ◌∷◌, subst, arith, refl}
+use Rattle.std.proofs.Common.{◌≡◌, List, [], ◌∷◌, subst, refl}
 use mathlib.Core.Logic.{◌⊎◌, inl, inr}
 use Rattle.std.specs.Prelude.{All, AllPairs}
 use Rattle.std.proofs.lemmas.List.Elements.{All-nil, All-cons}
@@ -11,13 +11,11 @@ use Rattle.plane_delaunay.proofs.Members.{Member, member, contained}
 use Rattle.plane_delaunay.proofs.LineItems.{Meeting, line_items_are_ordered}
 use Rattle.plane_segments.specs.Steps.{GoesOn, IsWalk}
 use Rattle.plane_segments.proofs.Orders.{before_through}
+use Rattle.plane.proofs.Indexes.{no_pairs}
 
 all_of : {X : Type 0} (P : X → Type 0) (xs : List X) → ((x : X) → Member x xs → P x) → All P xs
 all_of P [] f = All-nil P
 all_of P (x ∷ xs) f = All-cons P x xs (f x (inl refl)) (all_of P xs (λ y m. f y (inr m)))
-
-no_pairs : {X : Type 0} (R : X → X → Type 0) → AllPairs R []
-no_pairs R i j d lt within = absurd (omega (arith, within))
 
 module _ (t : Triangulation) (c : Meeting t) (p q : Fraction) (apart : ¬ IsSame p q) where
   -- what comes after m is among the items after it

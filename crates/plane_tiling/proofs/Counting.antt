@@ -1,5 +1,5 @@
 -- A point off all lines, right of every outer edge, is strictly inside exactly one face: the crossings of a ray, counted over faces and outer edges.
-use Rattle.std.proofs.Common.{◌≡◌, ◌⊎◌, ℕ, ◌<◌, List, [], ◌∷◌, refl, sym, ap, ◌∙◌, subst}
+use Rattle.std.proofs.Common.{◌≡◌, ◌⊎◌, ℕ, ◌<◌, List, [], ◌∷◌, sym, ap, ◌∙◌, subst}
 use mathlib.Core.Logic.{inl, inr, ◌≢◌}
 use Rattle.std.specs.Prelude.{ℤ, pos, negsuc, ◌+ℤ◌, ◌*ℤ◌, ◌≤ℤ◌, ◌<ℤ◌, neg_ℤ, Contains, AllPairs}
 use Rattle.std.proofs.lemmas.Bool.{cases_eq}
@@ -8,7 +8,7 @@ use Rattle.plane.specs.Tiling.{Face}
 use Rattle.plane_tiling.specs.Local.{total, around, along, IsAntisymmetric, AreBalanced, IsCorner}
 use Rattle.plane.proofs.IntegerOrder.{zero-mul_ℤ, zero_of_mul-zero_ℤ, mul-nonneg_of_nonpos_ℤ, mul-nonpos_of_nonneg_nonpos_ℤ, trichotomy_ℤ, mul-pos_ℤ}
 use Rattle.plane.proofs.Steps.{weak, weak_right, both_signs, left_not_zero, right_not_zero, negated_left}
-use Rattle.plane_tiling.proofs.StepsOfCounting.{sum_is_positive, all_zero, minus_one_and, one_from, zero_plus, average_from, weights_from, weight_below, zero_plus', one_more}
+use Rattle.plane_tiling.proofs.StepsOfCounting.{sum_is_positive, all_zero, minus_one_and, average_from, weights_from, weight_below, zero_plus', one_more}
 use Rattle.plane_tiling.proofs.Totals.{Contains-head, total_agree, total_at_least, total_single}
 use Rattle.plane.proofs.Nudges.{Nudged, nudged_zero, nudge_each, moved, bracket-moved, bracket-moved_first}
 use Rattle.plane.proofs.Crossings.{turn, turn_left, turn_right, left_turn, turn-negated, crossing, crossing_back, crossing_not_from_left, hit, hit_is, hit_all, crossings_of_triangle}
@@ -18,6 +18,7 @@ use Rattle.plane.proofs.Collinear.{place_on, place_of_start, place-moved, passin
 use Rattle.plane.proofs.LineOrder.{overlap_by_average}
 use Rattle.plane.proofs.Means.{turned_mean_of_two}
 use Rattle.plane.proofs.Generic.{Inside, AreDistinct, IsGeneric, spot}
+use Rattle.plane.proofs.Signs.{sum_not_positive, sum_of_zeros, negation_is_positive}
 
 abbrev pub at : (ℕ → Point) → ℕ → Vec3
 at p i = lift (p i)
@@ -141,13 +142,13 @@ module _ (n : ℕ) (p : ℕ → Point) (q : Vec3) (g : IsGeneric n p q) where
       x = moved k (at p v) (at p u)
 
       on_own_line : bracket (at p u) (at p v) x ≡ pos 0
-      on_own_line = bracket-moved (at p u) (at p v) k (at p v) (at p u) ∙ zero_plus (k *ℤ bracket (at p u) (at p v) (at p v)) (bracket (at p u) (at p v) (at p u)) (zero-mul_ℤ k (bracket-last (at p u) (at p v))) (bracket-outer (at p u) (at p v))
+      on_own_line = bracket-moved (at p u) (at p v) k (at p v) (at p u) ∙ sum_of_zeros (k *ℤ bracket (at p u) (at p v) (at p v)) (bracket (at p u) (at p v) (at p u)) (zero-mul_ℤ k (bracket-last (at p u) (at p v))) (bracket-outer (at p u) (at p v))
 
       seen_below : bracket x (at p s) (at p t) ≤ℤ pos 0
       seen_below =
           let a = subst (λ z. z ≤ℤ pos 0) (sym (bracket-turn (at p v) (at p s) (at p t))) (m.supporting (s, t) second v (m.ends (u, v) first).1) in
           let b = subst (λ z. z ≤ℤ pos 0) (sym (bracket-turn (at p u) (at p s) (at p t))) (m.supporting (s, t) second u (m.ends (u, v) first).0) in
-          one_from (bracket x (at p s) (at p t)) (k *ℤ bracket (at p v) (at p s) (at p t)) (bracket (at p u) (at p s) (at p t)) (bracket-moved_first k (at p v) (at p u) (at p s) (at p t)) (mul-nonpos_of_nonneg_nonpos_ℤ (weak k_positive) a) b
+          sum_not_positive (bracket x (at p s) (at p t)) (k *ℤ bracket (at p v) (at p s) (at p t)) (bracket (at p u) (at p s) (at p t)) (bracket-moved_first k (at p v) (at p u) (at p s) (at p t)) (mul-nonpos_of_nonneg_nonpos_ℤ (weak k_positive) a) b
 
       zeros : (bracket x (at p s) q *ℤ bracket (at p u) (at p v) (at p t) ≡ pos 0) × (bracket x (at p t) q *ℤ bracket (at p u) (at p v) (at p s) ≡ pos 0) × (bracket x (at p s) (at p t) *ℤ bracket (at p u) (at p v) q ≡ pos 0)
       zeros = all_zero (bracket x (at p s) q *ℤ bracket (at p u) (at p v) (at p t)) (bracket x (at p t) q *ℤ bracket (at p u) (at p v) (at p s)) (bracket x (at p s) (at p t) *ℤ bracket (at p u) (at p v) q) (bracket (at p s) (at p t) q *ℤ bracket (at p u) (at p v) x)
@@ -193,12 +194,9 @@ module _ (n : ℕ) (p : ℕ → Point) (q : Vec3) (g : IsGeneric n p q) where
       ends_second : (s < n) × (t < n) × (s ≢ t)
       ends_second = m.ends (s, t) second
 
-      negated : (z : ℤ) → z <ℤ pos 0 → pos 0 <ℤ neg_ℤ z
-      negated z h = negated_left refl h
-
       pub crossed_is_first : (s ≡ u) × (t ≡ v)
       crossed_is_first = go (overlap_by_average (p u) (p v) (p s) (p t) apart on_s on_t (bracket x (at p s) q) (neg_ℤ (bracket x (at p t) q)) (neg_ℤ (bracket (at p s) (at p t) q) *ℤ k)
-          s_left (negated (bracket x (at p t) q) t_right) (mul-pos_ℤ (negated (bracket (at p s) (at p t) q) q_second) k_positive) average (weight_below (bracket x (at p s) q +ℤ neg_ℤ (bracket x (at p t) q)) (neg_ℤ (bracket (at p s) (at p t) q)) k weights (negated (bracket (at p s) (at p t) q) q_second))
+          s_left (negation_is_positive (bracket x (at p t) q) t_right) (mul-pos_ℤ (negation_is_positive (bracket (at p s) (at p t) q) q_second) k_positive) average (weight_below (bracket x (at p s) q +ℤ neg_ℤ (bracket x (at p t) q)) (neg_ℤ (bracket (at p s) (at p t) q)) k weights (negation_is_positive (bracket (at p s) (at p t) q) q_second))
           (m.bare (u, v) first s ends_second.0) (m.bare (u, v) first t ends_second.1) (m.bare (s, t) second u ends_first.0) (m.bare (s, t) second v ends_first.1))
         where
           go : ((p s ≡ p u) × (p t ≡ p v)) ⊎ ((p s ≡ p v) × (p t ≡ p u)) → (s ≡ u) × (t ≡ v)

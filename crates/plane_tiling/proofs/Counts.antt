@@ -8,7 +8,6 @@ use Rattle.std.proofs.lemmas.Bool.{cases_eq, cases_lt}
 use Rattle.plane.specs.Fraction.{Point, whole, WithinSegment}
 use Rattle.plane.specs.Tiling.{Face}
 use Rattle.plane_tiling.specs.Local.{total, LocalMesh, LineMesh, AreEdgesOf}
-use Rattle.plane.proofs.IntegerOrder.{lt_or_ge_ℤ}
 use Rattle.plane.proofs.Bracket.{Vec3}
 use Rattle.plane.proofs.BracketIdentities.{bracket-outer}
 use Rattle.plane_tiling.proofs.Flows.{HasSide, no_turn}
@@ -22,7 +21,7 @@ use Rattle.plane_tiling.proofs.Sweep.{IsSweep, sweep, count_one, count_none}
 use Rattle.plane_tiling.proofs.Line.{SignLine, IsNext}
 use Rattle.plane_tiling.proofs.LineMeshes.{line_by_signs}
 use Rattle.plane_tiling.proofs.LinePlaces as O
-use Rattle.plane.proofs.Signs.{below_and_not_below, less_if_not_same}
+use Rattle.plane.proofs.Signs.{below_and_not_below, less_if_not_same, same_if_neither_less, one_is_above_zero, less_by_negations}
 
 module _ (n : ℕ) (p : ℕ → Point) (faces : List Face) (outer edges : List (ℕ × ℕ)) (m : SignMesh n p faces outer) (own : AreEdgesOf faces outer edges) where
   some_vertex : 0 < n
@@ -109,9 +108,6 @@ module _ (n : ℕ) (p : ℕ → Point) (outer edges : List (ℕ × ℕ)) (m : Si
     unfolding spot
     lower = O.lower_edge n p outer m (whole (p 0)) 0 1 from_zero several zero_not_one (bracket-outer (at p 0) (at p 1))
 
-    flipped : (a b : ℤ) → (pos 0 -ℤ a) <ℤ (pos 0 -ℤ b) → b <ℤ a
-    flipped a b h = omega (arith, ints)
-
     flips : (a b : ℤ) → b <ℤ a → (pos 0 -ℤ a) <ℤ (pos 0 -ℤ b)
     flips a b h = omega (arith, ints)
 
@@ -121,16 +117,10 @@ module _ (n : ℕ) (p : ℕ → Point) (outer edges : List (ℕ × ℕ)) (m : Si
     not_further v a b x y h k l =
         let s = (m.neighbours v b).0 y in
         let r = (m.neighbours v a).0 x in
-        s.none_between a r.second (within_turned (p b) (p v) (p a) (between b v a s.second s.first r.second (flipped (spot a) (spot b) l) (flipped (spot v) (spot a) h)))
+        s.none_between a r.second (within_turned (p b) (p v) (p a) (between b v a s.second s.first r.second (less_by_negations (spot a) (spot b) l) (less_by_negations (spot v) (spot a) h)))
 
     one_on : (v a b : ℕ) → Contains outer (v, a) → Contains outer (v, b) → height v <ℤ height a → height v <ℤ height b → a ≡ b
-    one_on v a b x y h k = elim (cases_eq a b) [ inl e ↦ e | inr d ↦ absurd (distinct a b ((m.neighbours v a).0 x).second ((m.neighbours v b).0 y).second d (level (height a) (height b) (not_further v a b x y h k) (not_further v b a y x k h))) ]
-      where
-        level : (a b : ℤ) → ¬ (a <ℤ b) → ¬ (b <ℤ a) → a ≡ b
-        level a b h k = elim (lt_or_ge_ℤ a b) [ inl l ↦ absurd (h l) | inr l ↦ elim (lt_or_ge_ℤ b a) [ inl i ↦ absurd (k i) | inr i ↦ omega (arith, ints) ] ]
-
-    one_above : {z : ℤ} → z ≡ pos 1 → pos 0 <ℤ z
-    one_above e = omega (arith, ints)
+    one_on v a b x y h k = elim (cases_eq a b) [ inl e ↦ e | inr d ↦ absurd (distinct a b ((m.neighbours v a).0 x).second ((m.neighbours v b).0 y).second d (same_if_neither_less (height a) (height b) (not_further v a b x y h k) (not_further v b a y x k h))) ]
 
     outer_once : (v : ℕ) → total (leaves height v) outer ≤ℤ pos 1
     outer_once v = total_at_most_one (leaves height v) outer (λ e _. leaves_bits height v e) twice
@@ -139,8 +129,8 @@ module _ (n : ℕ) (p : ℕ → Point) (outer edges : List (ℕ × ℕ)) (m : Si
         twice k l d low high e e' =
             let f = get_or outer k d in
             let g = get_or outer l d in
-            let x = leaves_found height v f (one_above e) in
-            let y = leaves_found height v g (one_above e') in
+            let x = leaves_found height v f (one_is_above_zero e) in
+            let y = leaves_found height v g (one_is_above_zero e') in
             let here : Contains outer f = (k, omega arith, get_or_any outer k f d (omega arith)) in
             let there : Contains outer g = (l, high, get_or_any outer l g d high) in
             m.once k l d low high (λ i. ((sym x.0 ∙ y.0) i, one_on v f.1 g.1 (subst (λ o. Contains outer (o, f.1)) (sym x.0) here) (subst (λ o. Contains outer (o, g.1)) (sym y.0) there) (subst (λ o. height o <ℤ height f.1) (sym x.0) x.1) (subst (λ o. height o <ℤ height g.1) (sym y.0) y.1) i))
@@ -168,7 +158,7 @@ module _ (n : ℕ) (p : ℕ → Point) (outer edges : List (ℕ × ℕ)) (m : Si
 
         none : (e : ℕ × ℕ) → Contains outer e → (leaves height v e ≡ pos 0) ⊎ (leaves height v e ≡ pos 1) → leaves height v e ≡ pos 0
         none e h (inl x) = x
-        none e h (inr x) = absurd (let r = leaves_found height v e (one_above x) in below_and_not_below (height v) (height e.1) (subst (λ o. height o <ℤ height e.1) (sym r.0) r.1) (top e.1 ((m.neighbours e.0 e.1).0 h).second))
+        none e h (inr x) = absurd (let r = leaves_found height v e (one_is_above_zero x) in below_and_not_below (height v) (height e.1) (subst (λ o. height o <ℤ height e.1) (sym r.0) r.1) (top e.1 ((m.neighbours e.0 e.1).0 h).second))
 
     line_edges : length edges + 1 ≡ n
     line_edges =

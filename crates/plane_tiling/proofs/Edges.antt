@@ -33,9 +33,6 @@ other_left s a b e h k = omega (arith, ints)
 other_none : (s a b : ℤ) → s ≡ a +ℤ b → s ≡ pos 0 → a ≡ pos 0 → b ≡ pos 0
 other_none s a b e h k = omega (arith, ints)
 
-right_of_product : {k z : ℤ} → pos 0 <ℤ k → (k *ℤ z) <ℤ pos 0 → z <ℤ pos 0
-right_of_product h e = neg_of_mul-neg_ℤ h e
-
 -- on the line of u v; and on a third point's side of the lines through it and an end
 pub within_on : (u v : Point) (y : Fraction) → WithinSegment (whole u) (whole v) y → bracket (lift u) (lift v) (vec y) ≡ pos 0
 within_on u v y h =
@@ -166,7 +163,7 @@ module _ (n : ℕ) (p : ℕ → Point) (faces : List Face) (outer : List (ℕ ×
         parts = mean_bracket IsPositive (p a) (p b) (p c) (p d) y r
 
         d_right : pos 0 <ℤ bracket (at p a) (at p b) (at p c) → bracket (at p a) (at p b) (at p d) <ℤ pos 0
-        d_right h = right_of_product r.l_allowed (other_right (r.n *ℤ bracket (at p a) (at p b) (vec y)) (r.k *ℤ bracket (at p a) (at p b) (at p c)) (r.l *ℤ bracket (at p a) (at p b) (at p d)) parts level (mul-pos_ℤ r.k_allowed h))
+        d_right h = neg_of_mul-neg_ℤ r.l_allowed (other_right (r.n *ℤ bracket (at p a) (at p b) (vec y)) (r.k *ℤ bracket (at p a) (at p b) (at p c)) (r.l *ℤ bracket (at p a) (at p b) (at p d)) parts level (mul-pos_ℤ r.k_allowed h))
 
         d_left : bracket (at p a) (at p b) (at p c) <ℤ pos 0 → pos 0 <ℤ bracket (at p a) (at p b) (at p d)
         d_left h = pos_of_mul-pos_ℤ r.l_allowed (other_left (r.n *ℤ bracket (at p a) (at p b) (vec y)) (r.k *ℤ bracket (at p a) (at p b) (at p c)) (r.l *ℤ bracket (at p a) (at p b) (at p d)) parts level (mul-neg_of_pos_neg_ℤ r.k_allowed h))

@@ -16,6 +16,7 @@ use Rattle.plane_tiling.proofs.Counting.{at, within_turned, same_place}
 use Rattle.plane_tiling.proofs.Edges as E
 use Rattle.plane.proofs.LineOrder.{IsBetween, place_within, within_places}
 use Rattle.plane.proofs.Signs.{zero_is_not_positive}
+use Rattle.plane.proofs.Indexes.{below_or_last, pair_turned}
 
 -- i and j have no other of the first n points strictly between them
 pub record IsNext (n : ℕ) (p : ℕ → Point) (i j : ℕ) : Type 0 where
@@ -33,6 +34,10 @@ pub record SignLine (n : ℕ) (p : ℕ → Point) (outer : List (ℕ × ℕ)) : 
 
 pub next_turned : (n : ℕ) (p : ℕ → Point) (i j : ℕ) → IsNext n p i j → IsNext n p j i
 next_turned n p i j s = record { apart = λ e. s.apart (sym e); first = s.second; second = s.first; none_between = λ k h w. s.none_between k h (within_turned (p j) (p i) (p k) w) }
+
+-- each edge of a line is listed both ways
+pub back_way : (n : ℕ) (p : ℕ → Point) (outer : List (ℕ × ℕ)) → SignLine n p outer → (i j : ℕ) → Contains outer (i, j) → Contains outer (j, i)
+back_way n p outer m i j h = (m.neighbours j i).1 (next_turned n p i j ((m.neighbours i j).0 h))
 
 -- three points of the line through two different points are on one line
 pub flat : (u v : Point) (a b c : Vec3) → ¬ (u ≡ v) → bracket (lift u) (lift v) a ≡ pos 0 → bracket (lift u) (lift v) b ≡ pos 0 → bracket (lift u) (lift v) c ≡ pos 0 → bracket a b c ≡ pos 0
@@ -65,9 +70,6 @@ not_below x y z a h k l (inl (inr b)) = let c = b.0 in omega (arith, ints)
 not_below x y z a h k l (inr b) = let c = b.0 in omega (arith, ints)
 
 module _ (n : ℕ) (p : ℕ → Point) (outer new : List (ℕ × ℕ)) (m : SignLine n p outer) where
-  below_or_last : (k : ℕ) → k < suc n → (k < n) ⊎ (k ≡ n)
-  below_or_last k h = grind arith
-
   wider : {k : ℕ} → k < n → k < suc n
   wider h = omega arith
 
@@ -80,10 +82,10 @@ module _ (n : ℕ) (p : ℕ → Point) (outer new : List (ℕ × ℕ)) (m : Sign
   -- a new point that is on the line of two points on which all others are, apart from them
   module _ (u v : Point) (apart : ¬ (u ≡ v)) (level : (k : ℕ) → k < n → bracket (lift u) (lift v) (at p k) ≡ pos 0) (own_level : bracket (lift u) (lift v) (at p n) ≡ pos 0) (fresh : (k : ℕ) → k < n → ¬ (p k ≡ p n)) where
     all_level : (k : ℕ) → k < suc n → bracket (lift u) (lift v) (at p k) ≡ pos 0
-    all_level k h = elim (below_or_last k h) [ inl l ↦ level k l | inr e ↦ subst (λ i. bracket (lift u) (lift v) (at p i) ≡ pos 0) (sym e) own_level ]
+    all_level k h = elim (below_or_last n k h) [ inl l ↦ level k l | inr e ↦ subst (λ i. bracket (lift u) (lift v) (at p i) ≡ pos 0) (sym e) own_level ]
 
     all_distinct : AreDistinct (suc n) p
-    all_distinct i j h k a e = go (below_or_last i h) (below_or_last j k)
+    all_distinct i j h k a e = go (below_or_last n i h) (below_or_last n j k)
       where
         go : (i < n) ⊎ (i ≡ n) → (j < n) ⊎ (j ≡ n) → ⊥
         go (inl x) (inl y) = m.distinct i j x y a e
@@ -120,7 +122,7 @@ module _ (n : ℕ) (p : ℕ → Point) (outer new : List (ℕ × ℕ)) (m : Sign
       apart = s.apart;
       first = wider s.first;
       second = wider s.second;
-      none_between = λ k h w. elim (below_or_last k h) [ inl l ↦ s.none_between k l w | inr e ↦ away (subst (λ o. WithinSegment (whole (p i)) (whole (p j)) (whole (p o))) e w) ];
+      none_between = λ k h w. elim (below_or_last n k h) [ inl l ↦ s.none_between k l w | inr e ↦ away (subst (λ o. WithinSegment (whole (p i)) (whole (p j)) (whole (p o))) e w) ];
     }
 
     -- were next to one another before
@@ -171,7 +173,7 @@ module _ (n : ℕ) (p : ℕ → Point) (outer new : List (ℕ × ℕ)) (m : Sign
         go (inr e) = under (spot' i) (spot' n) (spot' k) from_zero high (in_order' n k i (past k h e))
 
     new_next : IsNext (suc n) p i n
-    new_next = record { apart = not_last i_index; first = wider i_index; second = last_index; none_between = λ k h w. none k (below_or_last k h) (in_order' i n k w) }
+    new_next = record { apart = not_last i_index; first = wider i_index; second = last_index; none_between = λ k h w. none k (below_or_last n k h) (in_order' i n k w) }
       where
         none : (k : ℕ) → (k < n) ⊎ (k ≡ n) → IsBetween (spot' i) (spot' n) (spot' k) ⊎ ((spot' i ≡ spot' k) × (spot' k ≡ spot' n)) → ⊥
         none k (inl h) o = under (spot' i) (spot' n) (spot' k) from_zero high (low k h) o
@@ -188,7 +190,7 @@ module _ (n : ℕ) (p : ℕ → Point) (outer new : List (ℕ × ℕ)) (m : Sign
             at_end a b c e l q (inr o) = let r = o.0 in omega (arith, ints)
 
     pub extended : SignLine (suc n) p new
-    extended = widened (p i) (p n) end_apart end_level own fresh (λ a b. ((λ c. there a b ((change a b).0 c)), (λ s. (change a b).1 (back a b s (below_or_last a s.first) (below_or_last b s.second))))) once
+    extended = widened (p i) (p n) end_apart end_level own fresh (λ a b. ((λ c. there a b ((change a b).0 c)), (λ s. (change a b).1 (back a b s (below_or_last n a s.first) (below_or_last n b s.second))))) once
       where
         there : (a b : ℕ) → Contains outer (a, b) ⊎ IsSamePair a b i n → IsNext (suc n) p a b
         there a b (inl h) =
@@ -264,7 +266,7 @@ module _ (n : ℕ) (p : ℕ → Point) (outer new : List (ℕ × ℕ)) (m : Sign
 
     -- between i or j and the new vertex there is none
     first_half : IsNext (suc n) p i n
-    first_half = record { apart = not_last own_next.first; first = wider own_next.first; second = last_index; none_between = λ k h w. none k (below_or_last k h) (marks i n k w) }
+    first_half = record { apart = not_last own_next.first; first = wider own_next.first; second = last_index; none_between = λ k h w. none k (below_or_last n k h) (marks i n k w) }
       where
         between : (a b c k : ℤ) → (a <ℤ b) × (b <ℤ c) → (k ≤ℤ a) ⊎ (c ≤ℤ k) → IsBetween a b k ⊎ ((a ≡ k) × (k ≡ b)) → ⊥
         between a b c k q (inl x) (inl (inl o)) = let r = o.0 in omega (arith, ints)
@@ -282,7 +284,7 @@ module _ (n : ℕ) (p : ℕ → Point) (outer new : List (ℕ × ℕ)) (m : Sign
         none k (inr h) o = own_end (mark i) (mark n) (mark k) middle.0 (ap mark h) o
 
     second_half : IsNext (suc n) p j n
-    second_half = record { apart = not_last own_next.second; first = wider own_next.second; second = last_index; none_between = λ k h w. none k (below_or_last k h) (marks j n k w) }
+    second_half = record { apart = not_last own_next.second; first = wider own_next.second; second = last_index; none_between = λ k h w. none k (below_or_last n k h) (marks j n k w) }
       where
         between : (a b c k : ℤ) → (a <ℤ b) × (b <ℤ c) → (k ≤ℤ a) ⊎ (c ≤ℤ k) → IsBetween c b k ⊎ ((c ≡ k) × (k ≡ b)) → ⊥
         between a b c k q (inl x) (inl (inr o)) = let r = o.0 in let s = q.0 in omega (arith, ints)
@@ -345,7 +347,7 @@ module _ (n : ℕ) (p : ℕ → Point) (outer new : List (ℕ × ℕ)) (m : Sign
         go (inr o) = not_last s.first (one_mark a n (wider s.first) last_index o.0)
 
     pub between : SignLine (suc n) p new
-    between = widened (p i) (p j) ends_apart line_level within_level between_fresh (λ a b. ((λ c. there a b ((change a b).0 c)), (λ s. (change a b).1 (back a b s (below_or_last a s.first) (below_or_last b s.second))))) once
+    between = widened (p i) (p j) ends_apart line_level within_level between_fresh (λ a b. ((λ c. there a b ((change a b).0 c)), (λ s. (change a b).1 (back a b s (below_or_last n a s.first) (below_or_last n b s.second))))) once
       where
         ends : (c d a b : ℕ) → IsNext (suc n) p c d → IsSamePair a b c d → IsNext (suc n) p a b
         ends c d a b s (inl e) = subst (λ (o : ℕ × ℕ). IsNext (suc n) p o.0 o.1) (λ j. (sym e.0 j, sym e.1 j)) s
@@ -361,10 +363,6 @@ module _ (n : ℕ) (p : ℕ → Point) (outer new : List (ℕ × ℕ)) (m : Sign
         to_new : (a b : ℕ) → a < n → b ≡ n → IsNext (suc n) p a b → IsSamePair a b i n ⊎ IsSamePair a b j n
         to_new a b x y s = elim (end_is a x (λ k h w. s.none_between k h (subst (λ o. WithinSegment (whole (p a)) (whole (p o)) (whole (p k))) (sym y) w))) [ inl e ↦ inl (inl (e, y)) | inr e ↦ inr (inl (e, y)) ]
 
-        exchanged : (a b c d : ℕ) → IsSamePair a b c d → IsSamePair b a c d
-        exchanged a b c d (inl e) = inr (e.1, e.0)
-        exchanged a b c d (inr e) = inl (e.1, e.0)
-
         back : (a b : ℕ) → IsNext (suc n) p a b → (a < n) ⊎ (a ≡ n) → (b < n) ⊎ (b ≡ n) → (Contains outer (a, b) × ¬ IsSamePair a b i j) ⊎ (IsSamePair a b i n ⊎ IsSamePair a b j n)
         back a b s (inl x) (inl y) = inl ((m.neighbours a b).1 (next_before (p i) (p j) ends_apart line_level within_level between_fresh a b x y s), other)
           where
@@ -372,5 +370,5 @@ module _ (n : ℕ) (p : ℕ → Point) (outer new : List (ℕ × ℕ)) (m : Sign
             other (inl e) = s.none_between n last_index (subst (λ (o : ℕ × ℕ). WithinSegment (whole (p o.0)) (whole (p o.1)) (whole (p n))) (λ j. (sym e.0 j, sym e.1 j)) within)
             other (inr e) = s.none_between n last_index (subst (λ (o : ℕ × ℕ). WithinSegment (whole (p o.0)) (whole (p o.1)) (whole (p n))) (λ j. (sym e.0 j, sym e.1 j)) (within_turned (p i) (p j) (p n) within))
         back a b s (inl x) (inr y) = inr (to_new a b x y s)
-        back a b s (inr x) (inl y) = inr (elim (to_new b a y x (next_turned (suc n) p a b s)) [ inl e ↦ inl (exchanged b a i n e) | inr e ↦ inr (exchanged b a j n e) ])
+        back a b s (inr x) (inl y) = inr (elim (to_new b a y x (next_turned (suc n) p a b s)) [ inl e ↦ inl (pair_turned b a i n e) | inr e ↦ inr (pair_turned b a j n e) ])
         back a b s (inr x) (inr y) = absurd (s.apart (x ∙ sym y))

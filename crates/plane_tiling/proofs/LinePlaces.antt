@@ -16,8 +16,9 @@ use Rattle.plane_tiling.proofs.Edges.{turned_within, within_on}
 use Rattle.plane_tiling.proofs.Places.{same_within, bracket_at, one_vertex_at}
 use Rattle.plane.proofs.Steps.{left_not_zero, negated_left, no_difference}
 use Rattle.plane.proofs.LineOrder.{ahead, AreOneSign, within_if_ahead, ahead_if_within, same_if_level, level_if_same}
-use Rattle.plane_tiling.proofs.Line.{SignLine, IsNext, next_turned, flat}
+use Rattle.plane_tiling.proofs.Line.{SignLine, IsNext, next_turned, flat, back_way}
 use Rattle.plane.proofs.Signs.{at_most_both_ways, at_most_then_less, below_and_not_below, less_by_negations, less_by_negative_difference, less_if_not_same, less_in_a_ring, less_is_not_same, less_twice_is_not_same, more_by_difference, same_have_no_difference, same_is_at_most, same_is_not_less}
+use Rattle.plane.proofs.Indexes.{below_or_last}
 
 -- ---- the greatest number below a bound
 -- k has the greatest number below t
@@ -30,26 +31,23 @@ pub nearest_below : (f : ℕ → ℤ) (n : ℕ) (t : ℤ) → ((k : ℕ) × IsBe
 nearest_below f zero t = inr (λ j h. absurd (omega arith))
 nearest_below f (suc n) t = go (nearest_below f n t) (lt_or_ge_ℤ (f n) t)
   where
-    last_or : (j : ℕ) → j < suc n → (j < n) ⊎ (j ≡ n)
-    last_or j h = grind arith
-
     at_last : (f n <ℤ t) → ((j : ℕ) → j < n → f j <ℤ t → f j ≤ℤ f n) → (k : ℕ) × IsBelow f (suc n) t k
-    at_last l top = (n, record { index = omega arith; below = l; top = λ j i b. elim (last_or j i) [ inl h ↦ top j h b | inr e ↦ same_is_at_most (f j) (f n) (ap f e) ] })
+    at_last l top = (n, record { index = omega arith; below = l; top = λ j i b. elim (below_or_last n j i) [ inl h ↦ top j h b | inr e ↦ same_is_at_most (f j) (f n) (ap f e) ] })
 
     go : ((k : ℕ) × IsBelow f n t k) ⊎ ((j : ℕ) → j < n → t ≤ℤ f j) → (f n <ℤ t) ⊎ (t ≤ℤ f n) → ((k : ℕ) × IsBelow f (suc n) t k) ⊎ ((j : ℕ) → j < suc n → t ≤ℤ f j)
     go (inl (k, s)) (inl l) = inl (elim (lt_or_ge_ℤ (f k) (f n)) [
       | inl h ↦ at_last l (λ j i b. at_most_then_less (f j) (f k) (f n) (s.top j i b) h)
-      | inr h ↦ (k, record { index = wide s.index; below = s.below; top = λ j i b. elim (last_or j i) [ inl x ↦ s.top j x b | inr e ↦ subst (λ o. f o ≤ℤ f k) (sym e) h ] })
+      | inr h ↦ (k, record { index = wide s.index; below = s.below; top = λ j i b. elim (below_or_last n j i) [ inl x ↦ s.top j x b | inr e ↦ subst (λ o. f o ≤ℤ f k) (sym e) h ] })
     ])
       where
         wide : k < n → k < suc n
         wide h = omega arith
-    go (inl (k, s)) (inr l) = inl (k, record { index = wide s.index; below = s.below; top = λ j i b. elim (last_or j i) [ inl x ↦ s.top j x b | inr e ↦ absurd (below_and_not_below (f n) t (subst (λ o. f o <ℤ t) e b) l) ] })
+    go (inl (k, s)) (inr l) = inl (k, record { index = wide s.index; below = s.below; top = λ j i b. elim (below_or_last n j i) [ inl x ↦ s.top j x b | inr e ↦ absurd (below_and_not_below (f n) t (subst (λ o. f o <ℤ t) e b) l) ] })
       where
         wide : k < n → k < suc n
         wide h = omega arith
     go (inr none) (inl l) = inl (at_last l (λ j i b. absurd (below_and_not_below (f j) t b (none j i))))
-    go (inr none) (inr l) = inr (λ j i. elim (last_or j i) [ inl x ↦ none j x | inr e ↦ subst (λ o. t ≤ℤ f o) (sym e) l ])
+    go (inr none) (inr l) = inr (λ j i. elim (below_or_last n j i) [ inl x ↦ none j x | inr e ↦ subst (λ o. t ≤ℤ f o) (sym e) l ])
 
 -- ---- steps on numbers
 from_difference : (d t f : ℤ) → d ≡ t -ℤ f → f <ℤ t → pos 0 <ℤ d
@@ -368,9 +366,6 @@ module _ (n : ℕ) (p : ℕ → Point) (outer : List (ℕ × ℕ)) (m : SignLine
 
 -- ---- the ways, for at least two points
 module _ (n : ℕ) (p : ℕ → Point) (outer : List (ℕ × ℕ)) (m : SignLine n p outer) (y : Fraction) where
-  back_way : (i j : ℕ) → Contains outer (i, j) → Contains outer (j, i)
-  back_way i j h = (m.neighbours j i).1 (next_turned n p i j ((m.neighbours i j).0 h))
-
   pub somewhere : 1 < n → IsAtPoint n p outer m y ⊎ (IsOnEdge n p outer m y ⊎ IsBesideEdge n p outer m y)
   somewhere several = go (trichotomy_ℤ (bracket (at p i) (at p j) (vec y)))
     where
@@ -390,7 +385,7 @@ module _ (n : ℕ) (p : ℕ → Point) (outer : List (ℕ × ℕ)) (m : SignLine
       next = (m.neighbours i j).0 edge.2
 
       go : (bracket (at p i) (at p j) (vec y) <ℤ pos 0) ⊎ ((bracket (at p i) (at p j) (vec y) ≡ pos 0) ⊎ (pos 0 <ℤ bracket (at p i) (at p j) (vec y))) → IsAtPoint n p outer m y ⊎ (IsOnEdge n p outer m y ⊎ IsBesideEdge n p outer m y)
-      go (inl h) = inr (inr (record { i = j; j = i; edge = back_way i j edge.2; out = inl (negated_left (bracket-swap (at p j) (at p i) (vec y)) h) }))
+      go (inl h) = inr (inr (record { i = j; j = i; edge = back_way n p outer m i j edge.2; out = inl (negated_left (bracket-swap (at p j) (at p i) (vec y)) h) }))
       go (inr (inl h)) = somewhere_on_line n p outer m y i j next.first next.second next.apart h
       go (inr (inr h)) = inr (inr (record { i = i; j = j; edge = edge.2; out = inl h }))
 

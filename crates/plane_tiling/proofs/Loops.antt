@@ -19,6 +19,7 @@ use Rattle.plane_tiling.proofs.Counting.{at, SignMesh, corners_differ}
 use Rattle.plane_tiling.proofs.Covering as C
 use Rattle.plane_tiling.proofs.Tiles.{by_signs, point_at, tiles}
 use Rattle.plane.proofs.Signs.{one_is_above_zero, sum_not_negative, sum_of_zeros}
+use lib.IntN.{+ℤ_comm}
 
 pub sum_of_bits : (a b c : ℤ) → (a ≡ pos 0) ⊎ (a ≡ pos 1) → (b ≡ pos 0) ⊎ (b ≡ pos 1) → (c ≡ pos 0) ⊎ (c ≡ pos 1) → (pos 0 <ℤ a → pos 0 <ℤ b → ⊥) → (pos 0 <ℤ a → pos 0 <ℤ c → ⊥) → (pos 0 <ℤ b → pos 0 <ℤ c → ⊥)
     → (a +ℤ b +ℤ c ≡ pos 0) ⊎ (a +ℤ b +ℤ c ≡ pos 1)
@@ -105,10 +106,7 @@ module _ (faces : List Face) (outer edges : List (ℕ × ℕ)) (own : AreEdgesOf
   edge_of_side u v s = edge_of_count u v (plus_then (total (around (is_pair u v)) faces) (total (along (is_pair u v)) outer) (total (ways u v) edges) (side_counts faces u v s) (outers_nonneg u v) (own (is_pair u v)))
 
   pub edge_of_outer : (u v : ℕ) → Contains outer (u, v) → Joins edges u v
-  edge_of_outer u v h = edge_of_count u v (plus_then (total (along (is_pair u v)) outer) (total (around (is_pair u v)) faces) (total (ways u v) edges) (outer_counts outer u v h) (sides_nonneg u v) (own (is_pair u v) ∙ swapped_sum (total (around (is_pair u v)) faces) (total (along (is_pair u v)) outer)))
-    where
-      swapped_sum : (a b : ℤ) → a +ℤ b ≡ b +ℤ a
-      swapped_sum a b = omega (arith, ints)
+  edge_of_outer u v h = edge_of_count u v (plus_then (total (along (is_pair u v)) outer) (total (around (is_pair u v)) faces) (total (ways u v) edges) (outer_counts outer u v h) (sides_nonneg u v) (own (is_pair u v) ∙ +ℤ_comm (total (around (is_pair u v)) faces) (total (along (is_pair u v)) outer)))
 
   pub way_of_edge : (u v : ℕ) → Joins edges u v → HasSide faces u v ⊎ Contains outer (u, v)
   way_of_edge u v j = back_from_count faces outer u v (one_of_two (total (around (is_pair u v)) faces) (total (along (is_pair u v)) outer) (go j))

@@ -21,6 +21,7 @@ use Rattle.plane_tiling.proofs.Counting.{at, SignMesh, corners_differ, same_inde
 use Rattle.plane_tiling.proofs.Covering as C
 use Rattle.plane_tiling.proofs.Edges as E
 use Rattle.plane_tiling.proofs.Covering.{next_corner}
+use Rattle.plane.proofs.Signs.{sum_not_positive}
 
 -- y is on two sides of a triangle: at their corner
 record IsAtCorner (j : Point) (q : Fraction) : Type 0 where
@@ -280,9 +281,6 @@ one_vertex_at n p distinct y v w h k a b = same_index n p distinct v w h k (λ i
     part s t z w h e f = mul_cancel_ℤ (pos-ne-zero_ℤ h) (*ℤ_comm w s ∙ sym e ∙ f ∙ *ℤ_comm t w)
 
 module _ (n : ℕ) (p : ℕ → Point) (faces : List Face) (outer : List (ℕ × ℕ)) (m : SignMesh n p faces outer) (y : Fraction) where
-  sum_below : (s a b : ℤ) → s ≡ a +ℤ b → a ≤ℤ pos 0 → b ≤ℤ pos 0 → s ≤ℤ pos 0
-  sum_below s a b e h k = omega (arith, ints)
-
   pub vertex_not_outside : IsAtVertex n p faces outer m y → IsLeftOfOuter n p faces outer m y → ⊥
   vertex_not_outside a o = left_not_below o.left (subst (λ z. z ≤ℤ pos 0) (sym (bracket_at (at p o.e.0) (at p o.e.1) (p a.v) y a.same)) (mul-nonpos_of_nonneg_nonpos_ℤ (weak y.positive) (m.supporting o.e o.here a.v a.index)))
 
@@ -290,7 +288,7 @@ module _ (n : ℕ) (p : ℕ → Point) (faces : List Face) (outer : List (ℕ ×
   side_not_outside s o =
       let w = two_weights IsPositive (whole (p s.u)) (whole (p s.v)) y s.within in
       let c = C.turn_corners n p faces outer m s.u s.v s.side.0 s.side.1 in
-      left_not_below o.left (not_left_of_product w.positive (sum_below (w.n *ℤ bracket (at p o.e.0) (at p o.e.1) (vec y)) (w.k *ℤ bracket (at p o.e.0) (at p o.e.1) (at p s.u)) (w.l *ℤ bracket (at p o.e.0) (at p o.e.1) (at p s.v)) (E.mean_bracket IsPositive (p o.e.0) (p o.e.1) (p s.u) (p s.v) y w)
+      left_not_below o.left (not_left_of_product w.positive (sum_not_positive (w.n *ℤ bracket (at p o.e.0) (at p o.e.1) (vec y)) (w.k *ℤ bracket (at p o.e.0) (at p o.e.1) (at p s.u)) (w.l *ℤ bracket (at p o.e.0) (at p o.e.1) (at p s.v)) (E.mean_bracket IsPositive (p o.e.0) (p o.e.1) (p s.u) (p s.v) y w)
       (mul-nonpos_of_nonneg_nonpos_ℤ (weak w.k_allowed) (m.supporting o.e o.here s.u c.0)) (mul-nonpos_of_nonneg_nonpos_ℤ (weak w.l_allowed) (m.supporting o.e o.here s.v c.1))))
 
   pub inside_not_outside : IsInsideFace n p faces outer m y → IsLeftOfOuter n p faces outer m y → ⊥

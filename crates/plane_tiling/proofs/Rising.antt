@@ -13,16 +13,14 @@ use Rattle.plane.proofs.IntegerOrder.{lt_or_ge_ℤ}
 use Rattle.plane_tiling.proofs.Flows.{bit, bit_is, bit_nonneg, is_true}
 use Rattle.plane_tiling.proofs.Totals.{total_at_least, total_agree, total-sum, total_exchanged}
 use Rattle.plane.proofs.Signs.{at_most_both_ways, at_most_then_less, less_both_ways, less_in_a_ring, same_is_at_most, same_plus_zero, zero_plus_same}
-use Rattle.plane.proofs.Sides.{test_false}
+use Rattle.plane.proofs.Sides.{test_true, less_by_test}
+use Rattle.plane.proofs.Indexes.{below_or_last}
 
 -- ---- the greatest of some numbers
 pub greatest : (f : ℕ → ℤ) (n : ℕ) → 0 < n → (k : ℕ) × (k < n) × ((j : ℕ) → j < n → f j ≤ℤ f k)
 greatest f zero h = absurd (omega arith)
 greatest f (suc n) h = go (cases_lt 0 n) (greatest f n)
   where
-    last_or : (j : ℕ) → j < suc n → (j < n) ⊎ (j ≡ n)
-    last_or j h = grind arith
-
     wide : {k : ℕ} → k < n → k < suc n
     wide h = omega arith
 
@@ -31,23 +29,18 @@ greatest f (suc n) h = go (cases_lt 0 n) (greatest f n)
 
     longer : (k : ℕ) × (k < n) × ((j : ℕ) → j < n → f j ≤ℤ f k) → (k : ℕ) × (k < suc n) × ((j : ℕ) → j < suc n → f j ≤ℤ f k)
     longer (k, h, top) = elim (lt_or_ge_ℤ (f k) (f n)) [
-      | inl l ↦ (n, omega arith, λ j i. elim (last_or j i) [ inl b ↦ at_most_then_less (f j) (f k) (f n) (top j b) l | inr e ↦ same_is_at_most (f j) (f n) (ap f e) ])
-      | inr l ↦ (k, wide h, λ j i. elim (last_or j i) [ inl b ↦ top j b | inr e ↦ subst (λ o. f o ≤ℤ f k) (sym e) l ])
+      | inl l ↦ (n, omega arith, λ j i. elim (below_or_last n j i) [ inl b ↦ at_most_then_less (f j) (f k) (f n) (top j b) l | inr e ↦ same_is_at_most (f j) (f n) (ap f e) ])
+      | inr l ↦ (k, wide h, λ j i. elim (below_or_last n j i) [ inl b ↦ top j b | inr e ↦ subst (λ o. f o ≤ℤ f k) (sym e) l ])
     ]
 
     go : (0 < n) ⊎ (n ≤ 0) → (0 < n → (k : ℕ) × (k < n) × ((j : ℕ) → j < n → f j ≤ℤ f k)) → (k : ℕ) × (k < suc n) × ((j : ℕ) → j < suc n → f j ≤ℤ f k)
     go (inl l) rest = longer (rest l)
-    go (inr l) rest = (n, omega arith, λ j i. elim (last_or j i) [ inl b ↦ absurd (none b l) | inr e ↦ same_is_at_most (f j) (f n) (ap f e) ])
+    go (inr l) rest = (n, omega arith, λ j i. elim (below_or_last n j i) [ inl b ↦ absurd (none b l) | inr e ↦ same_is_at_most (f j) (f n) (ap f e) ])
 
 -- ---- tests
-pub rises_if : (a b : ℤ) → a <ℤ b → int_lt a b ≡ true
-rises_if a b h = grind (arith, ints)
-
-pub if_rises : (a b : ℤ) → int_lt a b ≡ true → a <ℤ b
-if_rises a b e = elim (lt_or_ge_ℤ a b) [ inl l ↦ l | inr l ↦ absurd (let f = test_false a b l in cc) ]
 
 pub if_falls : (a b : ℤ) → int_lt a b ≡ false → b ≤ℤ a
-if_falls a b e = elim (lt_or_ge_ℤ a b) [ inl l ↦ absurd (let f = rises_if a b l in cc) | inr l ↦ l ]
+if_falls a b e = elim (lt_or_ge_ℤ a b) [ inl l ↦ absurd (let f = test_true a b l in cc) | inr l ↦ l ]
 
 pub not_equal : (a b : ℕ) → a ≢ b → eqb a b ≡ false
 not_equal a b n = go (eqb a b) refl
@@ -139,7 +132,7 @@ module _ (height : ℕ → ℤ) where
   leaves_found v e h = go (eqb v e.0) (up e.0 e.1) refl refl h
     where
       go : (x y : Bool) → eqb v e.0 ≡ x → up e.0 e.1 ≡ y → pos 0 <ℤ bit (x && y) → (v ≡ e.0) × (height e.0 <ℤ height e.1)
-      go true true a b k = (eqb-true v e.0 a, if_rises (height e.0) (height e.1) b)
+      go true true a b k = (eqb-true v e.0 a, less_by_test (height e.0) (height e.1) b)
       go true false a b k = absurd k.lt
       go false y a b k = absurd k.lt
 
@@ -153,7 +146,7 @@ module _ (height : ℕ → ℤ) where
 
   pub leaves_counted : (v : ℕ) (outer : List (ℕ × ℕ)) (a : ℕ) → Contains outer (v, a) → height v <ℤ height a → pos 1 ≤ℤ total (leaves v) outer
   unfolding leaves
-  leaves_counted v outer a here h = at_least (leaves v (v, a)) (total (leaves v) outer) (λ i. bit (equal v i && rises_if (height v) (height a) h i)) (total_at_least (leaves v) outer (λ e _. leaves_nonneg v e) (v, a) here)
+  leaves_counted v outer a here h = at_least (leaves v (v, a)) (total (leaves v) outer) (λ i. bit (equal v i && test_true (height v) (height a) h i)) (total_at_least (leaves v) outer (λ e _. leaves_nonneg v e) (v, a) here)
     where
       at_least : (a b : ℤ) → a ≡ pos 1 → a ≤ℤ b → pos 1 ≤ℤ b
       at_least a b e h = omega (arith, ints)
@@ -193,7 +186,7 @@ module _ (height : ℕ → ℤ) where
     one_way_rises s t hs ht a = go (up s t) (up t s) refl refl
       where
         go : (x y : Bool) → up s t ≡ x → up t s ≡ y → bit (up s t) +ℤ bit (up t s) ≡ pos 1
-        go true true e d = absurd (less_both_ways (height s) (height t) (if_rises (height s) (height t) e) (if_rises (height t) (height s) d))
+        go true true e d = absurd (less_both_ways (height s) (height t) (less_by_test (height s) (height t) e) (less_by_test (height t) (height s) d))
         go true false e d = λ i. bit (e i) +ℤ bit (d i)
         go false true e d = λ i. bit (e i) +ℤ bit (d i)
         go false false e d = absurd (distinct s t hs ht a (at_most_both_ways (height s) (height t) (if_falls (height t) (height s) d) (if_falls (height s) (height t) e)))
@@ -201,7 +194,7 @@ module _ (height : ℕ → ℤ) where
     around_rise : (f : Face) → f.a < n → f.b < n → f.a ≢ f.b → around rise f ≡ pos 1 +ℤ second_rise f
     unfolding second_rise
     around_rise f ha hb a = rising_sides (up f.a f.b) (up f.b f.c) (up f.c f.a)
-        (λ x y z. less_in_a_ring (height f.a) (height f.b) (height f.c) (if_rises (height f.a) (height f.b) x) (if_rises (height f.b) (height f.c) y) (if_rises (height f.c) (height f.a) z))
+        (λ x y z. less_in_a_ring (height f.a) (height f.b) (height f.c) (less_by_test (height f.a) (height f.b) x) (less_by_test (height f.b) (height f.c) y) (less_by_test (height f.c) (height f.a) z))
         (λ x y z. distinct f.a f.b ha hb a (level (height f.a) (height f.b) (height f.c) (if_falls (height f.a) (height f.b) x) (if_falls (height f.b) (height f.c) y) (if_falls (height f.c) (height f.a) z)))
       where
         level : (a b c : ℤ) → b ≤ℤ a → c ≤ℤ b → a ≤ℤ c → a ≡ b

@@ -17,17 +17,8 @@ minus_one_and h t l e z = omega (arith, ints)
 pub one_more : (a b : ℤ) → a +ℤ b ≡ pos 0 → b ≡ negsuc 0 → a ≡ pos 1
 one_more a b e h = omega (arith, ints)
 
-pub one_from : (s a b : ℤ) → s ≡ a +ℤ b → a ≤ℤ pos 0 → b ≤ℤ pos 0 → s ≤ℤ pos 0
-one_from s a b e h k = omega (arith, ints)
-
-pub zero_plus : (a b : ℤ) → a ≡ pos 0 → b ≡ pos 0 → a +ℤ b ≡ pos 0
-zero_plus a b h k = omega (arith, ints)
-
 pub zero_plus' : (z : ℤ) → z +ℤ pos 0 ≡ z
 zero_plus' z = omega (arith, ints)
-
-pub swapped_sum : (a b : ℤ) → a +ℤ b ≡ b +ℤ a
-swapped_sum a b = omega (arith, ints)
 
 pub average_from : (d pq a t b s c px k l : ℤ) → d ≡ pos 0 → px ≡ k *ℤ l → d *ℤ pq -ℤ a *ℤ t +ℤ b *ℤ s -ℤ c *ℤ px ≡ pos 0 → a *ℤ t +ℤ neg_ℤ b *ℤ s ≡ (neg_ℤ c *ℤ k) *ℤ l
 average_from d pq a t b s c px k l z e h = ring_in_from (d ∷ pq ∷ a ∷ t ∷ b ∷ s ∷ c ∷ px ∷ k ∷ l ∷ []) (λ d pq a t b s c px k l. a ⊗ t ⊕ ⊝ b ⊗ s) (λ d pq a t b s c px k l. (⊝ c ⊗ k) ⊗ l)

@@ -24,8 +24,9 @@ use Rattle.plane_tiling.proofs.Counting.{at, SignMesh, corners_differ}
 use Rattle.plane_tiling.proofs.Covering as C
 use Rattle.plane_tiling.proofs.Loops as L
 use Rattle.plane_tiling.proofs.Loops.{sum_of_bits, IsFaceOn}
-use Rattle.plane_tiling.proofs.Rising.{up, begins_at, leaves, count_at, leaves_found, leaves_bits, leaves_nonneg, leaves_counted, rises_if, if_rises, equal}
-use Rattle.plane.proofs.Signs.{at_least_one_through, below_and_not_below, first_of_three_counts, less_if_not_same, second_of_three_counts, sum_not_positive, sum_of_three_not_negative, sum_of_zeros, third_of_three_counts}
+use Rattle.plane_tiling.proofs.Rising.{up, begins_at, leaves, count_at, leaves_found, leaves_bits, leaves_nonneg, leaves_counted, equal}
+use Rattle.plane.proofs.Signs.{at_least_one_through, below_and_not_below, first_of_three_counts, less_if_not_same, second_of_three_counts, sum_not_positive, sum_of_three_not_negative, sum_of_zeros, third_of_three_counts, same_if_neither_less, one_is_above_zero, named_difference_is_positive}
+use Rattle.plane.proofs.Sides.{test_true, less_by_test}
 
 -- a way that no two vertices share, far to the left of the way up
 pub record IsSweep (n : ℕ) (p : ℕ → Point) (way : Vec3) (height : ℕ → ℤ) : Type 0 where
@@ -58,8 +59,6 @@ sweep n p distinct =
     level k a b c d e = ring_in_from (k ∷ a ∷ b ∷ c ∷ d ∷ []) (λ k a b c d. k ⊗ (a ⊖ b) ⊕ (c ⊖ d)) (λ k a b c d. num 0) (λ k a b c d. (num 1, k ⊗ a ⊕ c, k ⊗ b ⊕ d) ∷ []) (e, tt) tt
 
 -- ---- steps
-rising : (a b d : ℤ) → d ≡ b -ℤ a → a <ℤ b → pos 0 <ℤ d
-rising a b d e h = omega (arith, ints)
 
 module _ (n : ℕ) (p : ℕ → Point) (faces : List Face) (outer : List (ℕ × ℕ)) (m : SignMesh n p faces outer) (way : Vec3) (height : ℕ → ℤ) (s : IsSweep n p way height) (v : ℕ) (v_index : v < n) where
   -- the face v a c begins to rise again at v
@@ -77,7 +76,7 @@ module _ (n : ℕ) (p : ℕ → Point) (faces : List Face) (outer : List (ℕ ×
   begins_parts false y z h = absurd h.lt
 
   corner_begins : (i t r : ℕ) → pos 0 <ℤ bit (eqb v i && (up height i t && up height r i)) → (v ≡ i) × (height i <ℤ height t) × (height r <ℤ height i)
-  corner_begins i t r h = let b = begins_parts (eqb v i) (up height i t) (up height r i) h in (eqb-true v i b.0, if_rises (height i) (height t) b.1, if_rises (height r) (height i) b.2)
+  corner_begins i t r h = let b = begins_parts (eqb v i) (up height i t) (up height r i) h in (eqb-true v i b.0, less_by_test (height i) (height t) b.1, less_by_test (height r) (height i) b.2)
 
   begins_found : (f : Face) → pos 0 <ℤ begins_at height v f → Begins f
   unfolding begins_at
@@ -105,7 +104,7 @@ module _ (n : ℕ) (p : ℕ → Point) (faces : List Face) (outer : List (ℕ ×
 
   -- the face v a c counts
   begins_here : (a c : ℕ) → height v <ℤ height a → height c <ℤ height v → bit (eqb v v && (up height v a && up height c v)) ≡ pos 1
-  begins_here a c h k = λ i. bit (equal v i && (rises_if (height v) (height a) h i && rises_if (height c) (height v) k i))
+  begins_here a c h k = λ i. bit (equal v i && (test_true (height v) (height a) h i && test_true (height c) (height v) k i))
 
   begins_counted : (a c : ℕ) → IsTurnOf faces v a c → height v <ℤ height a → height c <ℤ height v → pos 1 ≤ℤ total (begins_at height v) faces
   unfolding begins_at
@@ -121,9 +120,6 @@ module _ (n : ℕ) (p : ℕ → Point) (faces : List Face) (outer : List (ℕ ×
       go (inl x) = by (face v a c) x (first_of_three_counts (bit (eqb v v && (up height v a && up height c v))) (bit (eqb v a && (up height a c && up height v a))) (bit (eqb v c && (up height c v && up height a c))) one (bit_nonneg (eqb v a && (up height a c && up height v a))) (bit_nonneg (eqb v c && (up height c v && up height a c))))
       go (inr (inl x)) = by (face a c v) x (third_of_three_counts (bit (eqb v a && (up height a c && up height v a))) (bit (eqb v c && (up height c v && up height a c))) (bit (eqb v v && (up height v a && up height c v))) one (bit_nonneg (eqb v a && (up height a c && up height v a))) (bit_nonneg (eqb v c && (up height c v && up height a c))))
       go (inr (inr x)) = by (face c v a) x (second_of_three_counts (bit (eqb v c && (up height c v && up height a c))) (bit (eqb v v && (up height v a && up height c v))) (bit (eqb v a && (up height a c && up height v a))) one (bit_nonneg (eqb v c && (up height c v && up height a c))) (bit_nonneg (eqb v a && (up height a c && up height v a))))
-
-  one_above : {z : ℤ} → z ≡ pos 1 → pos 0 <ℤ z
-  one_above e = omega (arith, ints)
 
   -- ---- at most one
   -- near v, to the left
@@ -145,9 +141,9 @@ module _ (n : ℕ) (p : ℕ → Point) (faces : List Face) (outer : List (ℕ ×
       let i = C.turn_corners n p faces outer m v a c t in
       let q = left_of_v.1 in
       record {
-        first = subst (λ z. pos 0 <ℤ z) (sym ((q.sides v a i.0 i.1).on (bracket-outer (at p v) (at p a)))) (rising (height v) (height a) (bracket (at p v) (at p a) way) (s.seen v a) h);
+        first = subst (λ z. pos 0 <ℤ z) (sym ((q.sides v a i.0 i.1).on (bracket-outer (at p v) (at p a)))) (named_difference_is_positive (height v) (height a) (bracket (at p v) (at p a) way) (s.seen v a) h);
         second = (q.sides a c i.1 i.2).left (subst (λ z. pos 0 <ℤ z) (bracket-turn (at p v) (at p a) (at p c)) (C.turn_left_of n p faces outer m v a c t));
-        third = subst (λ z. pos 0 <ℤ z) (sym ((q.sides c v i.2 i.0).on (bracket-last (at p c) (at p v)))) (rising (height c) (height v) (bracket (at p c) (at p v) way) (s.seen c v) k);
+        third = subst (λ z. pos 0 <ℤ z) (sym ((q.sides c v i.2 i.0).on (bracket-last (at p c) (at p v)))) (named_difference_is_positive (height c) (height v) (bracket (at p c) (at p v) way) (s.seen c v) k);
       }
 
   faces_once : total (begins_at height v) faces ≤ℤ pos 1
@@ -157,8 +153,8 @@ module _ (n : ℕ) (p : ℕ → Point) (faces : List Face) (outer : List (ℕ ×
       twice k l d low high e e' =
           let f = get_or faces k d in
           let g = get_or faces l d in
-          let x = begins_found f (one_above e) in
-          let y = begins_found g (one_above e') in
+          let x = begins_found f (one_is_above_zero e) in
+          let y = begins_found g (one_is_above_zero e') in
           C.entries_apart n p faces outer m k l d low high left_of_v.0 left_of_v.1.weight
           (L.inside_face_on n p faces outer m v x.a x.c f x.on left_of_v.0 (inside_begun x.a x.c (L.turn_on n p faces outer m v x.a x.c f x.on (k, omega arith, get_or_any faces k f d (omega arith))) x.rises x.falls))
           (L.inside_face_on n p faces outer m v y.a y.c g y.on left_of_v.0 (inside_begun y.a y.c (L.turn_on n p faces outer m v y.a y.c g y.on (l, high, get_or_any faces l g d high)) y.rises y.falls))
@@ -171,9 +167,9 @@ module _ (n : ℕ) (p : ℕ → Point) (faces : List Face) (outer : List (ℕ ×
         k = bracket (at p a) (at p b) way;
         l = bracket (at p v) (at p a) way;
         n = bracket (at p v) (at p b) way;
-        k_allowed = rising (height a) (height b) (bracket (at p a) (at p b) way) (s.seen a b) l;
-        l_allowed = rising (height v) (height a) (bracket (at p v) (at p a) way) (s.seen v a) h;
-        positive = rising (height v) (height b) (bracket (at p v) (at p b) way) (s.seen v b) k;
+        k_allowed = named_difference_is_positive (height a) (height b) (bracket (at p a) (at p b) way) (s.seen a b) l;
+        l_allowed = named_difference_is_positive (height v) (height a) (bracket (at p v) (at p a) way) (s.seen v a) h;
+        positive = named_difference_is_positive (height v) (height b) (bracket (at p v) (at p b) way) (s.seen v b) k;
         x = mean (bracket (at p v) (at p a) way) (p b).x (bracket (at p v) (at p b) way) (p a).x (bracket (at p v) (at p a) (at p b)) way.x (bracket (at p a) (at p b) way) (p v).x flat (passing_x (at p v) (at p a) (at p b) way);
         y = mean (bracket (at p v) (at p a) way) (p b).y (bracket (at p v) (at p b) way) (p a).y (bracket (at p v) (at p a) (at p b)) way.y (bracket (at p a) (at p b) way) (p v).y flat (passing_y (at p v) (at p a) (at p b) way);
         w = mean (bracket (at p v) (at p a) way) (pos 1) (bracket (at p v) (at p b) way) (pos 1) (bracket (at p v) (at p a) (at p b)) way.w (bracket (at p a) (at p b) way) (pos 1) flat (passing_w (at p v) (at p a) (at p b) way);
@@ -186,18 +182,15 @@ module _ (n : ℕ) (p : ℕ → Point) (faces : List Face) (outer : List (ℕ ×
   outer_once : total (leaves height v) outer ≤ℤ pos 1
   outer_once = total_at_most_one (leaves height v) outer (λ e _. leaves_bits height v e) twice
     where
-      level : (a b : ℤ) → ¬ (a <ℤ b) → ¬ (b <ℤ a) → a ≡ b
-      level a b h k = elim (lt_or_ge_ℤ a b) [ inl l ↦ absurd (h l) | inr l ↦ elim (lt_or_ge_ℤ b a) [ inl i ↦ absurd (k i) | inr i ↦ omega (arith, ints) ] ]
-
       same : (a b : ℕ) → Contains outer (v, a) → Contains outer (v, b) → height v <ℤ height a → height v <ℤ height b → a ≡ b
-      same a b x y h k = elim (cases_eq a b) [ inl e ↦ e | inr d ↦ absurd (s.distinct a b (m.ends (v, a) x).1 (m.ends (v, b) y).1 d (level (height a) (height b) (one_way_up a b x y h k) (one_way_up b a y x k h))) ]
+      same a b x y h k = elim (cases_eq a b) [ inl e ↦ e | inr d ↦ absurd (s.distinct a b (m.ends (v, a) x).1 (m.ends (v, b) y).1 d (same_if_neither_less (height a) (height b) (one_way_up a b x y h k) (one_way_up b a y x k h))) ]
 
       twice : (k l : ℕ) (d : ℕ × ℕ) → k < l → l < length outer → leaves height v (get_or outer k d) ≡ pos 1 → leaves height v (get_or outer l d) ≡ pos 1 → ⊥
       twice k l d low high e e' =
           let f = get_or outer k d in
           let g = get_or outer l d in
-          let x = leaves_found height v f (one_above e) in
-          let y = leaves_found height v g (one_above e') in
+          let x = leaves_found height v f (one_is_above_zero e) in
+          let y = leaves_found height v g (one_is_above_zero e') in
           let here : Contains outer f = (k, omega arith, get_or_any outer k f d (omega arith)) in
           let there : Contains outer g = (l, high, get_or_any outer l g d high) in
           m.once k l d low high (λ i. ((sym x.0 ∙ y.0) i, same f.1 g.1 (subst (λ o. Contains outer (o, f.1)) (sym x.0) here) (subst (λ o. Contains outer (o, g.1)) (sym y.0) there) (subst (λ o. height o <ℤ height f.1) (sym x.0) x.1) (subst (λ o. height o <ℤ height g.1) (sym y.0) y.1) i))
@@ -206,11 +199,11 @@ module _ (n : ℕ) (p : ℕ → Point) (faces : List Face) (outer : List (ℕ ×
   not_both : (a c b : ℕ) → IsTurnOf faces v a c → height v <ℤ height a → height c <ℤ height v → Contains outer (v, b) → height v <ℤ height b → ⊥
   not_both a c b t h k o l =
       let i = C.turn_corners n p faces outer m v a c t in
-      left_not_below (rising (height v) (height b) (bracket (at p v) (at p b) way) (s.seen v b) l) (not_left_of_product (C.turn_left_of n p faces outer m v a c t)
+      left_not_below (named_difference_is_positive (height v) (height b) (bracket (at p v) (at p b) way) (s.seen v b) l) (not_left_of_product (C.turn_left_of n p faces outer m v a c t)
       (below (bracket (at p v) (at p a) (at p c) *ℤ bracket (at p v) (at p b) way) (bracket (at p a) (at p c) way *ℤ bracket (at p v) (at p b) (at p v)) (bracket (at p c) (at p v) way *ℤ bracket (at p v) (at p b) (at p a)) (bracket (at p v) (at p a) way *ℤ bracket (at p v) (at p b) (at p c))
       (cramer (at p v) (at p a) (at p c) way (at p v) (at p b)) (zero-mul_ℤ (bracket (at p a) (at p c) way) (bracket-outer (at p v) (at p b)))
-      (mul-nonpos_of_nonneg_nonpos_ℤ (weak (rising (height c) (height v) (bracket (at p c) (at p v) way) (s.seen c v) k)) (m.supporting (v, b) o a i.1))
-      (mul-nonpos_of_nonneg_nonpos_ℤ (weak (rising (height v) (height a) (bracket (at p v) (at p a) way) (s.seen v a) h)) (m.supporting (v, b) o c i.2))))
+      (mul-nonpos_of_nonneg_nonpos_ℤ (weak (named_difference_is_positive (height c) (height v) (bracket (at p c) (at p v) way) (s.seen c v) k)) (m.supporting (v, b) o a i.1))
+      (mul-nonpos_of_nonneg_nonpos_ℤ (weak (named_difference_is_positive (height v) (height a) (bracket (at p v) (at p a) way) (s.seen v a) h)) (m.supporting (v, b) o c i.2))))
     where
       below : (s a b c : ℤ) → s ≡ a +ℤ b +ℤ c → a ≡ pos 0 → b ≤ℤ pos 0 → c ≤ℤ pos 0 → s ≤ℤ pos 0
       below s a b c e x y z = omega (arith, ints)
@@ -220,7 +213,7 @@ module _ (n : ℕ) (p : ℕ → Point) (faces : List Face) (outer : List (ℕ ×
   exchanged i j = bracket-turn (at p v) (at p i) (at p j) ∙ bracket-swap (at p i) (at p j) (at p v) ∙ ap neg_ℤ (sym (bracket-turn (at p v) (at p j) (at p i)))
 
   rise_of : (k : ℕ) → height v <ℤ height k → pos 0 <ℤ bracket (at p v) (at p k) way
-  rise_of k h = rising (height v) (height k) (bracket (at p v) (at p k) way) (s.seen v k) h
+  rise_of k h = named_difference_is_positive (height v) (height k) (bracket (at p v) (at p k) way) (s.seen v k) h
 
   -- of the first j vertices none above v is left of z
   record IsLeftmost (j z : ℕ) : Type 0 where
@@ -382,8 +375,8 @@ module _ (n : ℕ) (p : ℕ → Point) (faces : List Face) (outer : List (ℕ ×
     where
       begins_none : (f : Face) → Contains faces f → (begins_at height v f ≡ pos 0) ⊎ (begins_at height v f ≡ pos 1) → begins_at height v f ≡ pos 0
       begins_none f h (inl e) = e
-      begins_none f h (inr e) = absurd (let b = begins_found f (one_above e) in below_and_not_below (height v) (height b.a) b.rises (top b.a (C.turn_corners n p faces outer m v b.a b.c (L.turn_on n p faces outer m v b.a b.c f b.on h)).1))
+      begins_none f h (inr e) = absurd (let b = begins_found f (one_is_above_zero e) in below_and_not_below (height v) (height b.a) b.rises (top b.a (C.turn_corners n p faces outer m v b.a b.c (L.turn_on n p faces outer m v b.a b.c f b.on h)).1))
 
       leaves_none : (e : ℕ × ℕ) → Contains outer e → (leaves height v e ≡ pos 0) ⊎ (leaves height v e ≡ pos 1) → leaves height v e ≡ pos 0
       leaves_none e h (inl x) = x
-      leaves_none e h (inr x) = absurd (let r = leaves_found height v e (one_above x) in below_and_not_below (height v) (height e.1) (subst (λ o. height o <ℤ height e.1) (sym r.0) r.1) (top e.1 (m.ends e h).1))
+      leaves_none e h (inr x) = absurd (let r = leaves_found height v e (one_is_above_zero x) in below_and_not_below (height v) (height e.1) (subst (λ o. height o <ℤ height e.1) (sym r.0) r.1) (top e.1 (m.ends e h).1))
