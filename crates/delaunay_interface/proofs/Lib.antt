@@ -3,3 +3,4 @@ pub mod Locating
 pub mod Stepping
 pub mod Kept
 pub mod Faces
+pub mod Outlines

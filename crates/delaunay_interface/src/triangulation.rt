@@ -528,12 +528,14 @@ pub trait Triangulation: Drop + sealed::Sealed {
         self.s().fixed_inner_faces()
     }
 
-    /// The edges with the outer face on their left, clockwise round the hull.
+    /// All edges with the outer face on their left, clockwise round the hull. On one line each edge
+    /// comes in both directions.
     final fn convex_hull(
         &self,
     ) -> HullIterator<'_, Self::Vertex, Self::DirectedEdge, Self::UndirectedEdge, Self::Face>
-        ensures { GivesOutline (state self.now) (hull_left result) }
+        ensures { GivesOutline Self.Vertex.place (state self.now) (hull_left result) }
     {
+        self.recall_invariant();
         self.s().convex_hull()
     }
 

@@ -70,8 +70,8 @@ fn sides_of_face<V, DE, UE, F>(
     Ok(starts)
 }
 
-// Whether an edge has the outer face on its left and a point in the shape.
-fn is_outer_inside<
+// Whether an edge has a point in the shape.
+fn has_point_inside<
     V: HasPosition,
     DE,
     UE,
@@ -82,13 +82,13 @@ fn is_outer_inside<
     requires own_covered { All (P.covered tests.now) (M.own_points metric.now) }
     requires covered { All (P.covered tests.now) (map V.place dcel.now.vertices) }
     requires within { edge < length dcel.now.directed }
-    ensures { IsTrue result ↔ ((face dcel.now.mesh edge ≡ 0) × IsInside (M.shape metric.now) V.place dcel.now (edge / 2)) }
+    ensures { IsTrue result ↔ IsInside (M.shape metric.now) V.place dcel.now (edge / 2) }
 {
     let edge = dcel.directed_edge(edge);
-    edge.is_outer_edge() && metric.is_handle_inside(edge.as_undirected(), tests)
+    metric.is_handle_inside(edge.as_undirected(), tests)
 }
 
-// An outer edge with a point in the shape, by a look at all edges.
+// An outer edge with a point in the shape, by a look along the outline.
 fn outer_edge_inside<
     V: HasPosition,
     DE,
@@ -97,14 +97,15 @@ fn outer_edge_inside<
     M: DistanceMetric<V::Scalar>,
     P: PlaneTests<V::Scalar>,
 >(dcel: &Dcel<V, DE, UE, F>, metric: &M, tests: &P) -> Option<FixedDirectedEdgeHandle>
+    requires kept { IsTriangulated V.place (state_of dcel.now) }
     requires own_covered { All (P.covered tests.now) (M.own_points metric.now) }
     requires covered { All (P.covered tests.now) (map V.place dcel.now.vertices) }
     ensures some { IfSome result (λ e. (e < length dcel.now.directed) × IsInside (M.shape metric.now) V.place dcel.now (e / 2)) }
     ensures none { IfNone result ((h : ℕ) → h < length dcel.now.mesh.half_edges → face dcel.now.mesh h ≡ 0 → ¬ IsInside (M.shape metric.now) V.place dcel.now (h / 2)) }
 {
-    for index in 0..dcel.num_directed_edges() {
-        let edge = FixedDirectedEdgeHandle::from_index(index as u32);
-        if is_outer_inside(dcel, metric, edge, tests) {
+    for edge in dcel.convex_hull() {
+        let edge = edge.fix();
+        if has_point_inside(dcel, metric, edge, tests) {
             return Some(edge);
         }
     }
@@ -125,6 +126,7 @@ fn outer_edge_alone<
     tests: &P,
     alloc: Global,
 ) -> Result<Vec<FixedUndirectedEdgeHandle>, AllocError>
+    requires kept { IsTriangulated V.place (state_of dcel.now) }
     requires own_covered { All (P.covered tests.now) (M.own_points metric.now) }
     requires covered { All (P.covered tests.now) (map V.place dcel.now.vertices) }
     ensures starts { IfOk result (λ v. HasOuter (IsInside (M.shape metric.now) V.place dcel.now) dcel.now.mesh v.items) }
@@ -144,6 +146,7 @@ fn edges_at<V: HasPosition, DE, UE, F, M: DistanceMetric<V::Scalar>, P: PlaneTes
     tests: &P,
     alloc: Global,
 ) -> Result<Vec<FixedUndirectedEdgeHandle>, AllocError>
+    requires kept { IsTriangulated V.place (state_of dcel.now) }
     requires own_covered { All (P.covered tests.now) (M.own_points metric.now) }
     requires covered { All (P.covered tests.now) (map V.place dcel.now.vertices) }
     requires handle { HasHandle dcel.now.mesh location }

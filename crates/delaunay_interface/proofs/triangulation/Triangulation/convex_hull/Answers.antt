@@ -1,0 +1,7 @@
+use Rattle.delaunay_interface.proofs.Outlines.{gives_outline}
+use Rattle.delaunay_interface.proofs.triangulation.Triangulation.convex_hull.Goals as goal
+
+pub returns : goal.returns
+returns g c =
+    gives_outline g.Self.Vertex.HasPosition.place (g.Self.Triangulation.state c.args.self.now)
+    c.recall_invariant.ensures.kept c.recall_invariant.ensures.headline.tiling c.s.result c.s.ensures _ c.convex_hull.ensures
