@@ -1,6 +1,6 @@
 -- Which constraints are in the way of a path, by the first conflict of the walk along its segment.
-use Rattle.std.proofs.Common.{◌≡◌, ◌⊎◌, ◌↔◌, ℕ, ◌<◌, IsTrue, List, length, map, Option, Some, None, refl, subst, inl, inr}
-use Rattle.std.specs.Prelude.{ℤ, Bool, Contains}
+use Rattle.std.proofs.Common.{◌≡◌, ◌⊎◌, ◌↔◌, ℕ, ◌<◌, Bool, true, false, IsTrue, List, length, map, Option, Some, None, is_some, refl, subst, inl, inr}
+use Rattle.std.specs.Prelude.{ℤ, not}
 use Rattle.half_edge_views.specs.declared.edge.DirectedEdgeHandle.{DirectedEdgeHandle}
 use Rattle.half_edge_mesh.specs.Contents.{Contents}
 use Rattle.plane.specs.Crossing.{Cross, MeetsWithin}
@@ -24,6 +24,15 @@ use Rattle.delaunay_lines.specs.Walk.{IsReady, WalksLine}
 use Rattle.delaunay_lines.proofs.Intersecting.{crosses_one, crosses_none}
 use Rattle.delaunay_paths.specs.Adding.{CanAddPath}
 use Rattle.delaunay_paths.proofs.Walking.{in_map}
+
+-- a yes where nothing was found, and a no where something was
+yes_if_none : (b : Bool) → false ≡ not b → b ≡ true
+yes_if_none true e = refl
+yes_if_none false e = cc
+
+not_yes : (b : Bool) → true ≡ not b → b ≡ true → ⊥
+not_yes true e f = cc
+not_yes false e f = cc
 
 -- a segment that meets another within it, but not at its own ends, crosses it
 meets_is_cross : (s t u v : Fraction) → ¬ WithinSegment u v s → ¬ WithinSegment u v t → MeetsWithin s t u v → Cross s t u v
@@ -63,9 +72,13 @@ module _ {V D U F : Type 0} (at : V → Point) (marks : U → Bool) (constraints
   module _ {P S : Type 0} (number : S → ℤ) (IsSite IsCovered : P → Point → Type 0) (line after : LineIntersectionIterator V D U F P S) (ready : IsReady at number IsSite IsCovered line)
       (walks : WalksLine at number (state_of c) (point_at points i) (point_at points j) line) where
     -- the first conflict bars the way
-    pub one_in_way : (e : DirectedEdgeHandle V D U F) → GivesConflict at number constraints line (Some e) after → ¬ CanAddPath at constraints c i j
+    one_in_way : (e : DirectedEdgeHandle V D U F) → GivesConflict at number constraints line (Some e) after → ¬ CanAddPath at constraints c i j
     one_in_way e gives = way_is_barred (crosses_one at number IsSite IsCovered marks constraints marked line ready (state_of c) (point_at points i) (point_at points j) walks after e gives)
 
     -- without one it is free
-    pub none_in_way : GivesConflict at number constraints line None after → CanAddPath at constraints c i j
+    none_in_way : GivesConflict at number constraints line None after → CanAddPath at constraints c i j
     none_in_way gives = way_is_free (crosses_none at number IsSite IsCovered marks constraints marked line ready (state_of c) (point_at points i) (point_at points j) walks after gives)
+
+    pub first_decides : (r : Option (DirectedEdgeHandle V D U F)) (b : Bool) → is_some r ≡ not b → GivesConflict at number constraints line r after → IsTrue b ↔ CanAddPath at constraints c i j
+    first_decides None b is gives = ((λ _. none_in_way gives), (λ _. yes_if_none b is))
+    first_decides (Some e) b is gives = ((λ yes. absurd (not_yes b is yes)), (λ free. absurd (one_in_way e gives free)))

@@ -1,15 +1,9 @@
-use Rattle.std.proofs.Common.{rules, ◌≡◌, ◌≢◌, ◌↔◌, ◌<◌, true, length, map, All, IsTrue, IfNone, IfSome, ℕ, ◌+◌, ◌-◌, ◌*◌, ◌≤◌, ◌/◌, ◌%◌, Bool, false, nat_eq, nat_lt, List, [], ◌∷◌, ◌++◌, slice_index_or, slice_set, bit_and, bit_or, Fits, w8, w32, w64, Bor, MutBor}
-use Rattle.half_edge_mesh.specs.Contents.{IsMeshWithData}
-use Rattle.plane_tiling.specs.Local.{IsMesh}
-use Rattle.plane_segments.specs.Constraints.{AreNextOn}
-use Rattle.plane_segments.specs.Path.{IsFreeOfVertices}
-use Rattle.mesh_embedding.specs.Drawn.{drawn, faces_of, outer_of}
-use Rattle.delaunay_legalization.specs.Constraints.{constraints_by}
-use Rattle.delaunay_legalization.specs.Shape.{IsTriangulated}
-use Rattle.delaunay_legalization.specs.State.{state_of}
-use Rattle.delaunay_paths.specs.Adding.{AddsPath, AddsPiece, CanAddPath, HasFreeWay, MarksEdge, NoneCrosses}
+use Rattle.delaunay_paths.proofs.InTheWay.{first_decides}
 use Rattle.delaunay_paths.proofs.adding.can_add_path.Goals as goal
 
--- src/adding.rt:30:1
 pub returns : goal.returns
-returns g c = ?
+returns g c =
+    let m = g.M.ConstraintMarker in
+    let conflicts = c.between_vertices-conflicts in
+    first_decides g.V.HasPosition.place m.marks m.constraints g.met.M.ConstraintMarker.constraints_are_marked c.args.dcel.now c.requires.kept c.args.from c.args.to c.requires.from_in c.requires.to_in g.V.Scalar.SpadeNum.whole g.P.PlaneTests.sites g.P.PlaneTests.covered
+    conflicts.result.line c.next.new.self.line conflicts.ensures.ready conflicts.ensures.line c.next.result c.is_none.result c.is_none.ensures c.next.ensures.steps
