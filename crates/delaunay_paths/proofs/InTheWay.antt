@@ -1,60 +1,84 @@
--- Which constraints are in the way of a path.
-use Rattle.std.proofs.Common.{◌≡◌, ℕ, ◌*◌, ◌<◌, List, length, map, sym, subst, inl, inr}
-use Rattle.std.specs.Prelude.{Bool, Contains}
-use Rattle.std.proofs.lemmas.Option.{slice_get_within}
-use Rattle.half_edge_mesh.specs.Mesh.{origin, rev}
+-- Which constraints are in the way of a path, by the first conflict of the walk along its segment.
+use Rattle.std.proofs.Common.{◌≡◌, ◌⊎◌, ◌↔◌, ℕ, ◌<◌, Bool, true, false, IsTrue, List, length, map, Option, Some, None, is_some, refl, subst, inl, inr}
+use Rattle.std.specs.Prelude.{ℤ, not}
+use Rattle.half_edge_views.specs.declared.edge.DirectedEdgeHandle.{DirectedEdgeHandle}
 use Rattle.half_edge_mesh.specs.Contents.{Contents}
-use Rattle.plane.specs.Crossing.{Cross}
-use Rattle.plane.specs.Fraction.{Point, Fraction}
-use Rattle.plane.specs.Pairs.{IsSamePair, place}
+use Rattle.plane.specs.Crossing.{Cross, MeetsWithin}
+use Rattle.plane.specs.Fraction.{Point, Fraction, whole, IsSame, WithinSegment}
+use Rattle.plane.specs.Pairs.{place, Joins}
+use Rattle.plane.proofs.Decisions.{decide_point}
 use Rattle.plane.proofs.Meetings.{cross_at_point}
-use Rattle.plane.proofs.Segments.{same-refl}
-use Rattle.plane_tiling.proofs.Edges.{turned_within}
+use Rattle.plane.proofs.Segments.{same-refl, within_segment-same}
 use Rattle.plane_tiling.proofs.Locations.{no_edges_cross}
-use Rattle.plane_delaunay.proofs.LineItems.{turned_segment}
+use Rattle.plane_segments.proofs.Pieces.{on_parts}
 use Rattle.mesh_embedding.specs.Drawn.{edges_of, faces_of, outer_of}
-use Rattle.mesh_embedding.proofs.MeshLegal.{joins_edge}
 use Rattle.mesh_embedding.proofs.OwnEdges.{own_edges}
-use Rattle.delaunay_legalization.specs.Constraints.{marked_edges}
+use Rattle.delaunay_legalization.specs.Constraints.{marked_edges, constraints_by}
+use Rattle.delaunay_legalization.specs.Known.{point_at}
 use Rattle.delaunay_legalization.specs.Shape.{IsTriangulated}
-use Rattle.delaunay_legalization.specs.State.{state_of}
-use Rattle.delaunay_legalization.proofs.Constraints.{is_constraint_edge}
+use Rattle.delaunay_legalization.specs.State.{state_of, triangulation_of}
 use Rattle.delaunay_legalization.proofs.ConstraintEdges.{constraints_are_edges}
-use Rattle.delaunay_legalization.proofs.MarkedPairs.{JoinsByMark, mark_joins}
+use Rattle.delaunay_lines.specs.declared.iterator.LineIntersectionIterator.{LineIntersectionIterator}
+use Rattle.delaunay_lines.specs.Conflicts.{GivesConflict, IntersectsConstraint}
+use Rattle.delaunay_lines.specs.Walk.{IsReady, WalksLine}
+use Rattle.delaunay_lines.proofs.Intersecting.{crosses_one, crosses_none}
 use Rattle.delaunay_paths.specs.Adding.{CanAddPath}
-use Rattle.delaunay_paths.specs.Crossing.{CrossesSegment}
 use Rattle.delaunay_paths.proofs.Walking.{in_map}
 
-turned_cross : (s t u v : Fraction) → Cross s t u v → Cross s t v u
-turned_cross s t u v c = record {
-  at = c.at;
-  meet = record { first = c.meet.first; second = turned_segment u v c.at c.meet.second; only = λ p a b. c.meet.only p a (turned_segment v u p b) };
-  within_first = c.within_first;
-  within_second = turned_within u v c.at c.within_second;
-}
+-- a yes where nothing was found, and a no where something was
+yes_if_none : (b : Bool) → false ≡ not b → b ≡ true
+yes_if_none true e = refl
+yes_if_none false e = cc
 
-module _ {V D U F : Type 0} (at : V → Point) (marks : U → Bool) (constraints : List U → List ℕ) (marked : (ds : List U) → constraints ds ≡ marked_edges marks ds) (c : Contents V D U F) where
+not_yes : (b : Bool) → true ≡ not b → b ≡ true → ⊥
+not_yes true e f = cc
+not_yes false e f = cc
+
+-- a segment that meets another within it, but not at its own ends, crosses it
+meets_is_cross : (s t u v : Fraction) → ¬ WithinSegment u v s → ¬ WithinSegment u v t → MeetsWithin s t u v → Cross s t u v
+meets_is_cross s t u v no_start no_end m = record { at = m.at; meet = m.meet; within_first = go (on_parts s t m.at m.meet.first); within_second = m.within }
+  where
+    go : IsSame m.at s ⊎ (IsSame m.at t ⊎ WithinSegment s t m.at) → WithinSegment s t m.at
+    go (inl e) = absurd (no_start (within_segment-same u v m.at s e m.within))
+    go (inr (inl e)) = absurd (no_end (within_segment-same u v m.at t e m.within))
+    go (inr (inr w)) = w
+
+module _ {V D U F : Type 0} (at : V → Point) (marks : U → Bool) (constraints : List U → List ℕ) (marked : (ds : List U) → constraints ds ≡ marked_edges marks ds)
+    (c : Contents V D U F) (kept : IsTriangulated at (state_of c)) (i j : ℕ) (hi : i < length c.vertices) (hj : j < length c.vertices) where
   abbrev points : List Point
   points = map at c.vertices
 
-  -- a constraint that crosses is in the way
-  pub way_is_barred : (i j k : ℕ) → Contains (constraints c.undirected) k → CrossesSegment points c.mesh i j (2 * k) → ¬ CanAddPath at constraints c i j
-  way_is_barred i j k there cross free = free (origin c.mesh (2 * k)) (origin c.mesh (rev (2 * k))) (joins_edge c.mesh (constraints c.undirected) k there) cross
+  abbrev Barred : Type 0
+  Barred = IntersectsConstraint (triangulation_of at (state_of c)) (constraints_by constraints (state_of c)) (point_at points i) (point_at points j)
 
-  -- and where none does, none is
-  pub way_is_free : (i j : ℕ) → ((k : ℕ) → k < length c.undirected → ¬ (Contains (constraints c.undirected) k × CrossesSegment points c.mesh i j (2 * k))) → CanAddPath at constraints c i j
-  way_is_free i j none a b joined cross = none j'.edge (slice_get_within c.undirected j'.edge j'.is.value j'.is.has) (is_constraint_edge marks constraints marked c.undirected j'.edge j'.is.value j'.is.has j'.is.mark, go j'.ends)
-    where
-      j' : JoinsByMark marks constraints marked c.mesh c.undirected a b
-      j' = mark_joins marks constraints marked c.mesh c.undirected a b joined
+  -- no vertex is strictly within a constraint
+  none_within : (a b k : ℕ) → k < length c.vertices → Joins (constraints_by constraints (state_of c)) a b → ¬ WithinSegment (place points a) (place points b) (place points k)
+  none_within a b k within joined =
+      (no_edges_cross points (faces_of c.mesh) (outer_of c.mesh) (edges_of c.mesh) kept.shape (own_edges c.mesh kept.valid)).0 a b k
+      (constraints_are_edges marks constraints marked c.mesh c.undirected kept.fits.undirected_fit kept.valid a b joined) (in_map at c.vertices k within)
 
-      go : IsSamePair a b (origin c.mesh (2 * j'.edge)) (origin c.mesh (rev (2 * j'.edge))) → CrossesSegment points c.mesh i j (2 * j'.edge)
-      go (inl s) = subst (λ (x : ℕ × ℕ). Cross (place points i) (place points j) (place points x.0) (place points x.1)) (λ o. (s.0 o, s.1 o)) cross
-      go (inr s) = subst (λ (x : ℕ × ℕ). Cross (place points i) (place points j) (place points x.0) (place points x.1)) (λ o. (s.1 o, s.0 o)) (turned_cross (place points i) (place points j) (place points a) (place points b) cross)
+  -- a constraint that the segment meets within is in the way
+  way_is_barred : Barred → ¬ CanAddPath at constraints c i j
+  way_is_barred x free = free x.from x.to x.constraint
+      (meets_is_cross (place points i) (place points j) (place points x.from) (place points x.to) (none_within x.from x.to i hi x.constraint) (none_within x.from x.to j hj x.constraint) x.met)
 
-  -- nor is any where the path is a vertex
-  pub no_way_is_free : IsTriangulated at (state_of c) → (i j : ℕ) → i < length c.vertices → i ≡ j → CanAddPath at constraints c i j
-  no_way_is_free kept i j within is a b joined cross =
-      (no_edges_cross points (faces_of c.mesh) (outer_of c.mesh) (edges_of c.mesh) kept.shape (own_edges c.mesh kept.valid)).0 a b i
-      (constraints_are_edges marks constraints marked c.mesh c.undirected kept.fits.undirected_fit kept.valid a b joined) (in_map at c.vertices i within)
-      ((cross_at_point (place points i) (place points i) (place points a) (place points b) (same-refl (place points i))).0 (subst (λ (k : ℕ). Cross (place points i) (place points k) (place points a) (place points b)) (sym is) cross))
+  -- and where there is none, none is
+  way_is_free : ¬ Barred → CanAddPath at constraints c i j
+  way_is_free none a b joined cross = elim (decide_point (point_at points i) (point_at points j)) as (λ _. ⊥) [
+    | inl e ↦ none_within a b i hi joined ((cross_at_point (place points i) (place points j) (place points a) (place points b) (subst (λ (q : Point). IsSame (place points i) (whole q)) e (same-refl (place points i)))).0 cross)
+    | inr n ↦ none (record { apart = n; from = a; to = b; constraint = joined; met = record { at = cross.at; meet = cross.meet; within = cross.within_second } })
+  ]
+
+  module _ {P S : Type 0} (number : S → ℤ) (IsSite IsCovered : P → Point → Type 0) (line after : LineIntersectionIterator V D U F P S) (ready : IsReady at number IsSite IsCovered line)
+      (walks : WalksLine at number (state_of c) (point_at points i) (point_at points j) line) where
+    -- the first conflict bars the way
+    one_in_way : (e : DirectedEdgeHandle V D U F) → GivesConflict at number constraints line (Some e) after → ¬ CanAddPath at constraints c i j
+    one_in_way e gives = way_is_barred (crosses_one at number IsSite IsCovered marks constraints marked line ready (state_of c) (point_at points i) (point_at points j) walks after e gives)
+
+    -- without one it is free
+    none_in_way : GivesConflict at number constraints line None after → CanAddPath at constraints c i j
+    none_in_way gives = way_is_free (crosses_none at number IsSite IsCovered marks constraints marked line ready (state_of c) (point_at points i) (point_at points j) walks after gives)
+
+    pub first_decides : (r : Option (DirectedEdgeHandle V D U F)) (b : Bool) → is_some r ≡ not b → GivesConflict at number constraints line r after → IsTrue b ↔ CanAddPath at constraints c i j
+    first_decides None b is gives = ((λ _. none_in_way gives), (λ _. yes_if_none b is))
+    first_decides (Some e) b is gives = ((λ yes. absurd (not_yes b is yes)), (λ free. absurd (one_in_way e gives free)))

@@ -1,5 +1,5 @@
 //! Constraints along the path between two vertices.
-ghost use Rattle.std.specs.Prelude.{◌≡◌, ◌≢◌, ◌↔◌, ◌*◌, ◌<◌, true, length, map, All, Contains, IsTrue, IfNone, IfSome};
+ghost use Rattle.std.specs.Prelude.{◌≡◌, ◌≢◌, ◌↔◌, ◌<◌, true, length, map, All, IsTrue, IfNone, IfSome};
 ghost use Rattle.half_edge_mesh.specs.Contents.{IsMeshWithData};
 ghost use Rattle.plane_tiling.specs.Local.{IsMesh};
 ghost use Rattle.plane_segments.specs.Constraints.{AreNextOn};
@@ -9,15 +9,14 @@ ghost use Rattle.delaunay_legalization.specs.Constraints.{constraints_by};
 ghost use Rattle.delaunay_legalization.specs.Shape.{IsTriangulated};
 ghost use Rattle.delaunay_legalization.specs.State.{state_of};
 ghost use Rattle.delaunay_paths.specs.Adding.{AddsPath, AddsPiece, CanAddPath, HasFreeWay, MarksEdge, NoneCrosses};
-ghost use Rattle.delaunay_paths.specs.Crossing.{CrossesSegment};
 
-use crate::crossing::crosses_segment;
 use crate::flips::make_edge;
 use crate::joined::edge_between;
 use crate::path::next_on_path;
 use delaunay_core::math::PlaneTests;
 use delaunay_core::point::HasPosition;
-use delaunay_legalization::{ConstraintMarker, is_constraint_edge, make_constraint};
+use delaunay_legalization::{ConstraintMarker, make_constraint};
+use delaunay_lines::ConflictingEdgesIterator;
 use half_edge_mesh::{Dcel, FixedUndirectedEdgeHandle, FixedVertexHandle};
 
 // Whether two vertices are one.
@@ -25,26 +24,6 @@ fn is_same_vertex(one: FixedVertexHandle, other: FixedVertexHandle) -> bool
     ensures { IsTrue result ↔ (one ≡ other) }
 {
     one == other
-}
-
-// Whether an edge is a constraint that crosses the segment between two different vertices.
-fn is_in_the_way<M: ConstraintMarker<UE>, V: HasPosition, DE, UE, F, P: PlaneTests<V::Scalar>>(
-    dcel: &Dcel<V, DE, UE, F>,
-    edge: FixedUndirectedEdgeHandle,
-    from: FixedVertexHandle,
-    to: FixedVertexHandle,
-    tests: &P,
-) -> bool
-    requires within { edge < length dcel.now.undirected }
-    requires from_in { from < length dcel.now.vertices }
-    requires to_in { to < length dcel.now.vertices }
-    requires apart { from ≢ to }
-    requires kept { IsTriangulated V.place (state_of dcel.now) }
-    requires sites { All (P.sites tests.now) (map V.place dcel.now.vertices) }
-    ensures { IsTrue result ↔ (Contains (M.constraints dcel.now.undirected) edge × CrossesSegment (map V.place dcel.now.vertices) dcel.now.mesh from to (2 * edge)) }
-{
-    is_constraint_edge::<M, _, _, _, _>(dcel, edge)
-        && crosses_segment(dcel, edge.as_directed(), from, to, tests)
 }
 
 /// Whether no constraint crosses the segment between two vertices.
@@ -61,16 +40,10 @@ pub fn can_add_path<M: ConstraintMarker<UE>, V: HasPosition, DE, UE, F, P: Plane
 
     ensures { IsTrue result ↔ CanAddPath V.place M.constraints dcel.now from to }
 {
-    if is_same_vertex(from, to) {
-        return true;
-    }
-    for index in 0..dcel.num_undirected_edges() {
-        let edge = FixedUndirectedEdgeHandle::from_index(index as u32);
-        if is_in_the_way::<M, _, _, _, _, _>(dcel, edge, from, to, tests) {
-            return false;
-        }
-    }
-    true
+    let mut conflicts = ConflictingEdgesIterator::<M, _, _, _, _, _>::between_vertices(
+        dcel, from, to, tests,
+    );
+    conflicts.next().is_none()
 }
 
 // Makes an edge a constraint, unless it is one.
