@@ -3,6 +3,7 @@
 
 mod data;
 mod generators;
+mod hull;
 mod reads;
 mod searches;
 mod told;
@@ -20,6 +21,7 @@ fn main(rt: HostRuntime) -> anyhow::Result<()> {
             "searches, always 1000" => searches::run::<Always1000>(&rt)?,
             "told" => told::run(&rt)?,
             "data" => data::run(&rt)?,
+            "hull" => hull::run(&rt)?,
             "reads" => reads::run(&rt)?,
             _ => println!(rt; "no such test")?,
         }
