@@ -1,2 +1,2 @@
 pub mod Runs
-pub mod Steps
+pub mod SingleEdits

@@ -2,8 +2,8 @@
 #![tactic(auto)]
 
 mod edit;
-mod replay;
+mod replaying;
 mod steps;
 
 pub use edit::{Edit, Outcome, Refusal};
-pub use replay::replay;
+pub use replaying::replay;

@@ -1,6 +1,6 @@
 use Rattle.delaunay_edit.specs.Constrained.{constraint_edges}
 use Rattle.delaunay_interface.proofs.Stepping.{inserted_sites}
-use Rattle.delaunay_journal.proofs.Steps.{refused_insertion}
+use Rattle.delaunay_journal.proofs.SingleEdits.{refused_insertion}
 use Rattle.delaunay_journal.proofs.steps.insert.Goals as goal
 
 pub returns-in-Ok-clause-sites : goal.returns-in-Ok-clause-sites

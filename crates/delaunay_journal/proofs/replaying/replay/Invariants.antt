@@ -4,7 +4,7 @@ use Rattle.std.specs.Vec.Iter.{into_iter_items}
 use Rattle.delaunay_edit.specs.Headline.{AreSites}
 use Rattle.delaunay_journal.specs.Journal.{HasSites}
 use Rattle.delaunay_journal.proofs.Runs.{IsReplayed}
-use Rattle.delaunay_journal.proofs.replay.replay.Given as goal
+use Rattle.delaunay_journal.proofs.replaying.replay.Given as goal
 
 abbrev pub invariant-loop-edit : goal.invariant-loop-edit
 invariant-loop-edit g l =
