@@ -50,7 +50,6 @@ module _ {V D U F : Type 0} (place : V → Point) where
   IsRefusedFor (AddConstraint i j) NoVertex s = ¬ ((i < length s.vertices) × (j < length s.vertices))
   IsRefusedFor (AddConstraint i j) Conflict s = ¬ CanAdd place (constrained s) i j
   IsRefusedFor (AddConstraint i j) OutOfMemory s = CanAdd place (constrained s) i j
-  IsRefusedFor (ReleaseConstraint i j) NoVertex s = length s.vertices ≤ i
   IsRefusedFor (ReleaseConstraint i j) NotConstrained s = ¬ Joins (constraints_of s) i j
   IsRefusedFor (ReleaseConstraint i j) OutOfMemory s = Joins (constraints_of s) i j
   IsRefusedFor e r s = ⊥
@@ -76,10 +75,10 @@ module _ {V D U F : Type 0} (place : V → Point) where
   abbrev pub Gives : Edit V → Outcome V → State V D (CdtEdge U) F → State V D (CdtEdge U) F → Type 0
   Gives e (Refused r) old new = IsRefusedFor e r old × (new ≡ old)
   Gives (Insert v) (Inserted i) old new = InsertsVertex place constraint_edges v (Ok i) old new
-  Gives (Remove i) (Removed v) old new = RemovesVertex {E = Unit {0}} place constraint_edges i (Ok v) old new
+  Gives (Remove i) (Removed v) old new = RemovesVertex place constraint_edges {E = Unit {0}} i (Ok v) old new
   Gives (Replace i v) (Replaced w) old new = Exchanges i v w old new
   Gives Clear Cleared old new = Empties old new
-  Gives (AddConstraint i j) (Added made) old new = AddsConstraint {E = Unit {0}} place i j (Ok made) old new
+  Gives (AddConstraint i j) (Added made) old new = AddsConstraint place {E = Unit {0}} i j (Ok made) old new
   Gives (ReleaseConstraint i j) Released old new = ReleasesPair i j old new
   Gives e o old new = ⊥
 

@@ -1,5 +1,5 @@
 //! One edit.
-ghost use Rattle.std.specs.Prelude.{◌≡◌, ◌↔◌, ◌<◌, length, IsTrue};
+ghost use Rattle.std.specs.Prelude.{◌≡◌, ◌↔◌, ◌<◌, length, map, IsTrue};
 ghost use Rattle.plane.specs.Tests.{InRange};
 ghost use Rattle.delaunay_core.specs.Place.{place_of};
 ghost use Rattle.delaunay_edit.specs.Constrained.{constraint_edges};
@@ -85,6 +85,7 @@ fn replace<
     value: V,
 ) -> Outcome<V>
     ensures gives { Gives V.place (Replace vertex value) result points.old points.new }
+    ensures places { map V.place points.new.vertices ≡ map V.place points.old.vertices }
     ensures headline { IsDelaunay V.place constraint_edges points.new }
 {
     points.recall_invariant();
@@ -152,7 +153,7 @@ fn release_constraint<
 {
     points.recall_invariant();
     if from.index() as usize >= points.num_vertices() {
-        return Outcome::Refused(Refusal::NoVertex);
+        return Outcome::Refused(Refusal::NotConstrained);
     }
     let Some(edge) = points.get_edge_from_neighbors(from, to) else {
         return Outcome::Refused(Refusal::NotConstrained);
