@@ -1,6 +1,7 @@
 -- A list of edits that was replayed is a run of those that were made.
 use Rattle.std.proofs.Common.{◌≡◌, ℕ, List, [], ◌∷◌, ◌++◌, length, Result, Ok, refl, arith, sym, ap, subst, append_assoc, append-nil}
-use Rattle.std.specs.Prelude.{◌↔◌}
+use Rattle.std.specs.Prelude.{◌↔◌, Contains}
+use Rattle.std.proofs.lemmas.List.Elements.{Contains-append_left, Contains-append_right, Contains-push}
 use Rattle.plane.specs.Fraction.{Point}
 use Rattle.plane.specs.Pairs.{Joins}
 use Rattle.plane.specs.Plain.{Plain, Edit as PlainEdit, Step, Run}
@@ -12,6 +13,14 @@ use Rattle.delaunay_journal.specs.declared.edit.Edit.TheVariants.{Insert, Remove
 use Rattle.delaunay_journal.specs.declared.edit.Outcome.{Outcome}
 use Rattle.delaunay_journal.specs.declared.edit.Outcome.TheVariants.{Inserted, Removed, Replaced, Cleared, Added, Released, Refused}
 use Rattle.delaunay_journal.specs.Journal.{Gives, Replays, edit_made, edits_made}
+
+-- ---- an edit that comes now, and those after it
+module _ {A : Type 0} (left rest : List A) (first : A) (is : left ≡ first ∷ rest) where
+  pub comes_now : (x : A) → first ≡ x → Contains left x
+  comes_now x same = subst (λ (xs : List A). Contains xs x) (sym is) (subst (λ (y : A). Contains (y ∷ rest) x) (sym same) (Contains-append_left (x ∷ []) rest x (Contains-push [] x)))
+
+  pub comes_later : (x : A) → Contains rest x → Contains left x
+  comes_later x c = subst (λ (xs : List A). Contains xs x) (sym is) (Contains-append_right (first ∷ []) rest x c)
 
 module _ {V D U F : Type 0} (place : V → Point) where
   -- what an edit gave is a step of the definitions, or none

@@ -4,7 +4,6 @@ use Rattle.half_edge_mesh.specs.Mesh.{empty}
 use Rattle.plane.specs.Fraction.{Point}
 use Rattle.plane.specs.Pairs.{Joins}
 use Rattle.plane.specs.Plain.{Edit as PlainEdit, insert, replace, remove, add, release, clear, CanAdd, IsCleared, Releases, Replaces}
-use Rattle.plane.specs.Tests.{InRange}
 use Rattle.delaunay_legalization.specs.declared.cdt_edge.CdtEdge.{CdtEdge}
 use Rattle.delaunay_legalization.specs.Known.{point_at}
 use Rattle.delaunay_legalization.specs.State.{State}
@@ -17,11 +16,6 @@ use Rattle.delaunay_journal.specs.declared.edit.Outcome.{Outcome}
 use Rattle.delaunay_journal.specs.declared.edit.Outcome.TheVariants.{Inserted, Removed, Replaced, Cleared, Added, Released, Refused}
 use Rattle.delaunay_journal.specs.declared.edit.Refusal.{Refusal}
 use Rattle.delaunay_journal.specs.declared.edit.Refusal.TheVariants.{Insertion, NoVertex, OtherPosition, Conflict, NotConstrained, OutOfMemory}
-
--- where the edit inserts a vertex in range, that is a site
-abbrev pub HasSites : {V : Type 0} → (V → Point) → (Point → Type 0) → Edit V → Type 0
-HasSites place sites (Insert v) = InRange (place v) → sites (place v)
-HasSites place sites e = Unit {0}
 
 module _ {V : Type 0} where
   -- the edit that was made, if one was

@@ -1,9 +1,11 @@
 //! A list of edits.
-ghost use Rattle.std.specs.Prelude.{◌≡◌, All, IfOk, OnErr};
+ghost use Rattle.std.specs.Prelude.{◌≡◌, Contains, IfOk, OnErr};
 ghost use Rattle.plane.specs.Plain.{Run};
+ghost use Rattle.plane.specs.Tests.{InRange};
 ghost use Rattle.delaunay_edit.specs.Constrained.{constrained, constraint_edges};
 ghost use Rattle.delaunay_edit.specs.Headline.{AreSites, IsDelaunay};
-ghost use Rattle.delaunay_journal.specs.Journal.{HasSites, Replays, edits_made};
+ghost use Rattle.delaunay_journal.specs.declared.edit.Edit.TheVariants.{Insert};
+ghost use Rattle.delaunay_journal.specs.Journal.{Replays, edits_made};
 
 use crate::edit::{Edit, Outcome};
 use crate::steps::make;
@@ -30,7 +32,8 @@ pub fn replay<
     tests: &P,
 ) -> Result<Vec<Outcome<V>>, AllocError>
     requires sites { AreSites V.place (P.sites tests.now) points.old.vertices }
-    requires new_sites { All (HasSites V.place (P.sites tests.now)) edits.items }
+    requires new_sites { (v : V) → Contains edits.items (Insert v) → InRange (V.place v) →
+        P.sites tests.now (V.place v) }
     ensures answers { IfOk result
         (λ outcomes. Replays V.place edits.items outcomes.items points.old points.new) }
     ensures runs { IfOk result (λ outcomes. Run V.place (edits_made edits.items outcomes.items)

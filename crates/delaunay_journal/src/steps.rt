@@ -5,7 +5,7 @@ ghost use Rattle.delaunay_core.specs.Place.{place_of};
 ghost use Rattle.delaunay_edit.specs.Constrained.{constraint_edges};
 ghost use Rattle.delaunay_edit.specs.Headline.{AreSites, IsDelaunay};
 ghost use Rattle.delaunay_journal.specs.declared.edit.Edit.TheVariants.{Insert, Remove, Replace, AddConstraint, ReleaseConstraint};
-ghost use Rattle.delaunay_journal.specs.Journal.{Gives, HasSites};
+ghost use Rattle.delaunay_journal.specs.Journal.{Gives};
 
 use crate::edit::{Edit, Outcome, Refusal};
 use delaunay_core::HintGenerator;
@@ -182,7 +182,8 @@ pub(crate) fn make<
     tests: &P,
 ) -> Outcome<V>
     requires sites { AreSites V.place (P.sites tests.now) points.old.vertices }
-    requires new_site { HasSites V.place (P.sites tests.now) edit }
+    requires new_site { (v : V) → edit ≡ Insert v → InRange (V.place v) →
+        P.sites tests.now (V.place v) }
     ensures gives { Gives V.place edit result points.old points.new }
     ensures sites { AreSites V.place (P.sites tests.now) points.new.vertices }
     ensures headline { IsDelaunay V.place constraint_edges points.new }

@@ -1,9 +1,11 @@
 use Rattle.std.proofs.Common.{◌≡◌, length, ap, arith}
 use Rattle.std.proofs.lemmas.List.{length_push}
-use Rattle.std.proofs.lemmas.List.Elements.{All-rest}
-use Rattle.delaunay_journal.specs.Journal.{HasSites}
-use Rattle.delaunay_journal.proofs.Runs.{ends, one_more, runs}
+use Rattle.delaunay_journal.specs.declared.edit.Edit.TheVariants.{Insert}
+use Rattle.delaunay_journal.proofs.Runs.{comes_later, comes_now, ends, one_more, runs}
 use Rattle.delaunay_journal.proofs.replaying.replay.Goals as goal
+
+pub make-requires-clause-new_site : goal.make-requires-clause-new_site
+make-requires-clause-new_site g c = λ v is. c.loop-edit.invariant.5 v (comes_now _ _ c.in-Some.edit c.in-Some.ensures.steps.0 (Insert v) is)
 
 pub loop-edit-preserved : goal.loop-edit-preserved
 loop-edit-preserved g c =
@@ -16,7 +18,7 @@ loop-edit-preserved g c =
       rw c.push_reserved.ensures.items (one_more g.V.HasPosition.place _ _ _ _ _ _ _ c.in-Some.edit c.make.result c.loop-edit.invariant.2 c.in-Some.ensures.steps.0 c.make.ensures.gives),
       omega (arith, was, taken, given, longer),
       rw c.push_reserved.ensures.capacity c.loop-edit.invariant.4,
-      All-rest (HasSites g.V.HasPosition.place (g.P.PlaneTests.sites c.args.tests.now)) c.in-Some.edit _ _ c.in-Some.ensures.steps.0 c.loop-edit.invariant.5,
+      (λ v later. c.loop-edit.invariant.5 v (comes_later _ _ c.in-Some.edit c.in-Some.ensures.steps.0 (Insert v) later)),
       c.make.ensures.sites,
     )
 
