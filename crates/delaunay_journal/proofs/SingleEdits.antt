@@ -11,6 +11,7 @@ use Rattle.mesh_embedding.proofs.MeshStays.{same_pair_back}
 use Rattle.delaunay_core.specs.declared.math.InsertionError.{InsertionError}
 use Rattle.delaunay_legalization.specs.declared.cdt_edge.CdtEdge.{CdtEdge}
 use Rattle.delaunay_legalization.specs.CdtEdge.{is_constraint}
+use Rattle.delaunay_legalization.specs.Known.{point_at}
 use Rattle.delaunay_legalization.specs.Shape.{IsTriangulated}
 use Rattle.delaunay_legalization.specs.State.{State}
 use Rattle.delaunay_legalization.proofs.ConstraintEdges.{constraints_are_edges}
@@ -40,6 +41,14 @@ module _ {V : Type 0} (place : V → Point) (old new : Plain V) (i j : ℕ) wher
       (λ h. (r.constraints a b).1 (h.0, (λ s. h.1 (same_either a b i j s)))),
     );
   }
+
+-- ---- the position of the vertex j, which was read, and that of a value
+module _ {V : Type 0} (place : V → Point) (vs : List V) (i j : ℕ) (v : V) (here there : Point) (read : here ≡ point_at (map place vs) j) (is : j ≡ i) (wanted : there ≡ place v) where
+  pub same_position : here ≡ there → point_at (map place vs) i ≡ place v
+  same_position same = ap (point_at (map place vs)) (sym is) ∙ sym read ∙ same ∙ wanted
+
+  pub position_same : point_at (map place vs) i ≡ place v → here ≡ there
+  position_same same = read ∙ ap (point_at (map place vs)) is ∙ same ∙ sym wanted
 
 module _ {V D U F : Type 0} (place : V → Point) where
   -- a refused insertion, in the state that it leaves
