@@ -1,10 +1,10 @@
 -- A list of edits that was replayed is a run of those that were made.
-use Rattle.std.proofs.Common.{◌≡◌, ℕ, List, [], ◌∷◌, ◌++◌, length, Result, Ok, refl, arith, sym, ap, subst, append_assoc, append-nil}
+use Rattle.std.proofs.Common.{◌≡◌, List, [], ◌∷◌, ◌++◌, length, refl, arith, sym, ap, subst, append_assoc, append-nil}
 use Rattle.std.specs.Prelude.{◌↔◌, Contains}
 use Rattle.std.proofs.lemmas.List.Elements.{Contains-append_left, Contains-append_right, Contains-push}
 use Rattle.plane.specs.Fraction.{Point}
 use Rattle.plane.specs.Pairs.{Joins}
-use Rattle.plane.specs.Plain.{Plain, Edit as PlainEdit, Step, Run}
+use Rattle.plane.specs.Plain.{Plain, Edit as PlainEdit, Run}
 use Rattle.delaunay_legalization.specs.declared.cdt_edge.CdtEdge.{CdtEdge}
 use Rattle.delaunay_legalization.specs.State.{State}
 use Rattle.delaunay_edit.specs.Constrained.{constrained}

@@ -1,4 +1,4 @@
-use Rattle.std.proofs.Common.{◌≡◌, length, ap, arith}
+use Rattle.std.proofs.Common.{length, ap, arith}
 use Rattle.std.proofs.lemmas.List.{length_push}
 use Rattle.delaunay_journal.specs.declared.edit.Edit.TheVariants.{Insert}
 use Rattle.delaunay_journal.proofs.Runs.{comes_later, comes_now, ends, one_more, runs}
