@@ -4,8 +4,8 @@ use crate::random::Random;
 use exact_tests::ExactTests;
 use spade_delaunay::handles::FixedVertexHandle;
 use spade_delaunay::{
-    DelaunayTriangulation, InsertionError, Point2, PositionInTriangulation, Triangulation,
-    validate_vertex,
+    DelaunayTriangulation, FloatTriangulation, InsertionError, Point2, PositionInTriangulation,
+    Triangulation, validate_vertex,
 };
 use std::alloc::{AllocError, Global};
 
@@ -71,6 +71,30 @@ pub fn nearest_all(triangulation: &Points, queries: &[Point2<i64>]) -> i64 {
         }
     }
     sum
+}
+
+/// How many edges have a point in the circles round points, with this squared radius: none where it
+/// is negative.
+pub fn edges_in_circles(
+    triangulation: &Points,
+    alloc: Global,
+    centers: &[Point2<i64>],
+    radius_2: i64,
+) -> Result<u64, AllocError> {
+    let mut count: u64 = 0;
+    if radius_2 < 0 {
+        return Ok(0);
+    }
+    for center in centers {
+        if validate_vertex(center).is_err() {
+            continue;
+        }
+        let edges = triangulation.get_edges_in_circle(*center, radius_2, &ExactTests, alloc)?;
+        for _ in edges {
+            count = count.saturating_add(1);
+        }
+    }
+    Ok(count)
 }
 
 /// How many vertices were removed, and a number that depends on which, and in which order.

@@ -1,5 +1,5 @@
 //! `benchmark ORDER N [REMOVALS]` inserts N points in an order, asks for as many locations and
-//! nearest vertices, and removes vertices at random, all of them where no number says how many.
+//! nearest vertices and for the edges in circles, and removes vertices at random, all of them where no number says how many.
 //! Without words it runs each order with few points. Standard output has what was found, so that
 //! other programs can be compared, and standard error the figures: the thread's nanoseconds a call,
 //! and the peak of resident bytes a vertex. The stored output is that of `compare/cgal.cpp`, which
@@ -11,7 +11,9 @@ mod memory;
 mod orders;
 mod random;
 
-use crate::calls::{Points, insert_all, locate_all, nearest_all, remove_some};
+use crate::calls::{
+    Points, edges_in_circles, insert_all, locate_all, nearest_all, remove_some,
+};
 use crate::memory::{peak_bytes, resident_bytes};
 use crate::orders::Order;
 use crate::random::Random;
@@ -24,6 +26,9 @@ const FEW: u32 = 200;
 
 /// How many of them are left at the end.
 const LEFT: u32 = 50;
+
+/// How many circles are asked for at most, since each takes a mark an edge of the mesh.
+const CIRCLES: usize = 1000;
 
 /// What the first words ask for.
 #[derive(Drop)]
@@ -95,6 +100,21 @@ fn ask(rt: &HostRuntime, triangulation: &Points, queries: &[Point2<i64>]) -> any
     Ok(())
 }
 
+// Circles with a few edges each: standard error tells how many edges came, too, since CGAL is not
+// asked.
+fn ask_circles(
+    rt: &HostRuntime,
+    triangulation: &Points,
+    centers: &[Point2<i64>],
+    radius_2: i64,
+) -> anyhow::Result<()> {
+    let start = rt.thread_cpu_time()?;
+    let edges = edges_in_circles(triangulation, rt.alloc(), centers, radius_2)?;
+    let nanoseconds = nanoseconds_a_call(rt, start, centers.len())?;
+    eprintln!(rt; "circle {nanoseconds} ns, {edges} edges in all")?;
+    Ok(())
+}
+
 fn remove(
     rt: &HostRuntime,
     triangulation: &mut Points,
@@ -119,6 +139,8 @@ fn run(rt: &HostRuntime, task: &Task) -> anyhow::Result<()> {
     let queries = task.order.queries(rt.alloc(), task.count, &mut random)?;
     let mut triangulation = insert(rt, points.as_slice())?;
     ask(rt, &triangulation, queries.as_slice())?;
+    let circles = &queries.as_slice()[..queries.len().min(CIRCLES)];
+    ask_circles(rt, &triangulation, circles, task.order.radius_2(task.count))?;
     remove(rt, &mut triangulation, &mut random, task.removals)
 }
 

@@ -1,0 +1,90 @@
+-- What single edits give.
+use Rattle.std.proofs.Common.{◌≡◌, ◌∙◌, ℕ, ◌*◌, ◌/◌, ◌<◌, Bool, List, map, Ok, Err, refl, sym, ap, subst, inl, inr}
+use Rattle.half_edge_mesh.specs.Mesh.{origin, rev}
+use Rattle.plane.specs.Fraction.{Point}
+use Rattle.plane.specs.Pairs.{Joins, IsSamePair}
+use Rattle.plane.specs.Plain.{Plain, Releases}
+use Rattle.mesh_embedding.proofs.EdgePairs.{joins_edge}
+use Rattle.mesh_embedding.proofs.MeshLegal.{same_joined}
+use Rattle.mesh_embedding.proofs.MeshStays.{same_pair_back}
+use Rattle.delaunay_core.specs.declared.math.InsertionError.{InsertionError}
+use Rattle.delaunay_legalization.specs.declared.cdt_edge.CdtEdge.{CdtEdge}
+use Rattle.delaunay_legalization.specs.CdtEdge.{is_constraint}
+use Rattle.delaunay_legalization.specs.Known.{point_at}
+use Rattle.delaunay_legalization.specs.Shape.{IsTriangulated}
+use Rattle.delaunay_legalization.specs.State.{State}
+use Rattle.delaunay_legalization.proofs.ConstraintEdges.{constraints_are_edges}
+use Rattle.delaunay_paths.proofs.AddingPieces.{half_ends}
+use Rattle.delaunay_edit.specs.Constrained.{constrained, constraint_edges, constraints_of}
+use Rattle.delaunay_edit.specs.ConstraintEdits.{AddsConstraint, FreesEdge}
+use Rattle.delaunay_edit.specs.Edits.{InsertsVertex, RemovesVertex}
+use Rattle.delaunay_interface.specs.Views.{AreNotJoined}
+use Rattle.delaunay_journal.specs.Journal.{ReleasesPair}
+
+-- ---- a pair in either order
+joins_either : (pairs : List (ℕ × ℕ)) (i j : ℕ) → Joins pairs i j → Joins pairs j i
+joins_either pairs i j (inl a) = inr a
+joins_either pairs i j (inr a) = inl a
+
+same_either : (a b i j : ℕ) → IsSamePair a b i j → IsSamePair a b j i
+same_either a b i j (inl s) = inr s
+same_either a b i j (inr s) = inl s
+
+module _ {V : Type 0} (place : V → Point) (old new : Plain V) (i j : ℕ) where
+  releases_either : Releases place old new i j → Releases place old new j i
+  releases_either r = record {
+    there = joins_either old.constraints i j r.there;
+    vertices = r.vertices;
+    constraints = λ a b. (
+      (λ h. let was = (r.constraints a b).0 h in (was.0, (λ s. was.1 (same_either a b j i s)))),
+      (λ h. (r.constraints a b).1 (h.0, (λ s. h.1 (same_either a b i j s)))),
+    );
+  }
+
+-- ---- the position of the vertex j, which was read, and that of a value
+module _ {V : Type 0} (place : V → Point) (vs : List V) (i j : ℕ) (v : V) (here there : Point) (read : here ≡ point_at (map place vs) j) (is : j ≡ i) (wanted : there ≡ place v) where
+  pub same_position : here ≡ there → point_at (map place vs) i ≡ place v
+  same_position same = ap (point_at (map place vs)) (sym is) ∙ sym read ∙ same ∙ wanted
+
+  pub position_same : point_at (map place vs) i ≡ place v → here ≡ there
+  position_same same = read ∙ ap (point_at (map place vs)) is ∙ same ∙ sym wanted
+
+module _ {V D U F : Type 0} (place : V → Point) where
+  -- a refused insertion, in the state that it leaves
+  pub refused_insertion : (old new : State V D (CdtEdge U) F) (v : V) (e : InsertionError) → InsertsVertex place constraint_edges v (Err e) old new → InsertsVertex place constraint_edges v (Err e) old old × (new ≡ old)
+  refused_insertion old new v e done = (subst (λ (s : State V D (CdtEdge U) F). InsertsVertex place constraint_edges v (Err e) old s) done.err done, done.err)
+
+  -- a removal, whatever its error is
+  pub removed_so : {E G : Type 0} (old new : State V D (CdtEdge U) F) (i : ℕ) (v : V) → RemovesVertex place constraint_edges {E = E} i (Ok v) old new → RemovesVertex place constraint_edges {E = G} i (Ok v) old new
+  removed_so old new i v r = record { value = r.value; plain = r.plain; outer = r.outer; «data» = r.«data»; err = tt }
+
+  -- a constraint that was added, whatever its error is
+  pub added_so : {E G : Type 0} (old new : State V D (CdtEdge U) F) (i j : ℕ) (made : Bool) → AddsConstraint place {E = E} i j (Ok made) old new → AddsConstraint place {E = G} i j (Ok made) old new
+  added_so old new i j made a = record { plain = a.plain; told = a.told; «data» = a.«data»; err = tt }
+
+  module _ (old : State V D (CdtEdge U) F) (i j : ℕ) where
+    -- where no edge joins two vertices, no constraint does
+    pub unjoined_is_free : IsTriangulated place old → AreNotJoined old i j → ¬ Joins (constraints_of old) i j
+    unjoined_is_free kept apart joined =
+        let e = joins_edge old.mesh kept.valid.sound i j (constraints_are_edges is_constraint constraint_edges (λ ds. refl) old.mesh old.undirected kept.fits.undirected_fit kept.valid i j joined) in
+        apart e.0 (subst (λ (n : ℕ). e.0 < n) (sym kept.fits.directed_fit) e.1) e.2 e.3
+
+    module _ (h k : ℕ) (half : k ≡ h / 2) (from : origin old.mesh h ≡ i) (to : origin old.mesh (rev h) ≡ j) where
+      -- the ends of an edge, by its undirected edge
+      ends : IsSamePair i j (origin old.mesh (2 * k)) (origin old.mesh (rev (2 * k)))
+      ends = subst (λ (l : ℕ). IsSamePair i j (origin old.mesh (2 * l)) (origin old.mesh (rev (2 * l)))) (sym half) ((half_ends old.mesh h i j i j from to).1 (inl (refl, refl)))
+
+      -- the edge is a constraint where its ends are joined by one
+      pub joined_by_edge : Joins (constraints_of old) (origin old.mesh (2 * k)) (origin old.mesh (rev (2 * k))) → Joins (constraints_of old) i j
+      joined_by_edge joined = same_joined (constraints_of old) i j (origin old.mesh (2 * k)) (origin old.mesh (rev (2 * k))) ends joined
+
+      pub edge_joined_by : Joins (constraints_of old) i j → Joins (constraints_of old) (origin old.mesh (2 * k)) (origin old.mesh (rev (2 * k)))
+      edge_joined_by joined = same_joined (constraints_of old) (origin old.mesh (2 * k)) (origin old.mesh (rev (2 * k))) i j (same_pair_back i j (origin old.mesh (2 * k)) (origin old.mesh (rev (2 * k))) ends) joined
+
+      -- the constraint between two vertices is released, by its edge
+      pub pair_released : (new : State V D (CdtEdge U) F) → Releases place (constrained old) (constrained new) (origin old.mesh (2 * k)) (origin old.mesh (rev (2 * k))) → FreesEdge old new k → ReleasesPair place i j old new
+      pair_released new r f = record { plain = go ends; edge = k; «data» = f }
+        where
+          go : IsSamePair i j (origin old.mesh (2 * k)) (origin old.mesh (rev (2 * k))) → Releases place (constrained old) (constrained new) i j
+          go (inl s) = subst (λ (x : ℕ). Releases place (constrained old) (constrained new) x j) (sym s.0) (subst (λ (y : ℕ). Releases place (constrained old) (constrained new) (origin old.mesh (2 * k)) y) (sym s.1) r)
+          go (inr s) = releases_either place (constrained old) (constrained new) j i (subst (λ (x : ℕ). Releases place (constrained old) (constrained new) x i) (sym s.1) (subst (λ (y : ℕ). Releases place (constrained old) (constrained new) (origin old.mesh (2 * k)) y) (sym s.0) r))

@@ -1,0 +1,25 @@
+use Rattle.std.proofs.Common.{refl, arith}
+use Rattle.delaunay_edit.specs.Constrained.{constraint_edges}
+use Rattle.delaunay_edit.proofs.Removing.{sites_left}
+use Rattle.delaunay_journal.proofs.SingleEdits.{removed_so}
+use Rattle.delaunay_journal.proofs.steps.remove.Goals as goal
+
+pub returns-then-index-num_vertices-clause-gives : goal.returns-then-index-num_vertices-clause-gives
+returns-then-index-num_vertices-clause-gives g c =
+    let past = c.if-index-num_vertices.true in
+    let index = c.index.ensures in
+    let count = c.num_vertices.ensures in
+    (omega (arith, past, index, count), refl)
+
+pub returns-in-Ok-clause-gives : goal.returns-in-Ok-clause-gives
+returns-in-Ok-clause-gives g c = removed_so g.V.HasPosition.place c.args.points.now c.remove.new.self c.args.vertex c.in-Ok.value c.in-Ok.ensures.removes
+
+pub returns-in-Ok-clause-sites : goal.returns-in-Ok-clause-sites
+returns-in-Ok-clause-sites g c = λ _. sites_left g.V.HasPosition.place constraint_edges c.args.points.now c.remove.new.self c.args.vertex c.in-Ok.value c.in-Ok.ensures.removes.plain (g.P.PlaneTests.sites c.args.tests.now) (c.requires.sites c.recall_invariant.ensures.in_range)
+
+pub returns-in-Err-clause-gives : goal.returns-in-Err-clause-gives
+returns-in-Err-clause-gives g c =
+    let below = c.if-index-num_vertices.false in
+    let index = c.index.ensures in
+    let count = c.num_vertices.ensures in
+    (omega (arith, below, index, count), c.in-Err.ensures.removes.err)

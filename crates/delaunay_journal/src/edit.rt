@@ -1,0 +1,58 @@
+//! Edits as values, and what they give.
+
+use delaunay_core::math::InsertionError;
+use half_edge_mesh::FixedVertexHandle;
+
+/// An edit of a triangulation with constraints. Its handles are those of the state that it is made
+/// on.
+#[derive(Debug, Drop)]
+pub enum Edit<V> {
+    /// Inserts a vertex.
+    Insert(V),
+    /// Removes a vertex.
+    Remove(FixedVertexHandle),
+    /// Exchanges a vertex for one of the same position.
+    Replace(FixedVertexHandle, V),
+    /// Removes each vertex.
+    Clear,
+    /// Joins two vertices by constraints.
+    AddConstraint(FixedVertexHandle, FixedVertexHandle),
+    /// Takes from the edge between two vertices that it is a constraint.
+    ReleaseConstraint(FixedVertexHandle, FixedVertexHandle),
+}
+
+/// Why an edit was not made. It changed nothing then.
+#[derive(Clone, Copy, Debug, PartialEq, Eq, Drop)]
+pub enum Refusal {
+    /// The vertex was not inserted.
+    Insertion(InsertionError),
+    /// There is no vertex with that handle.
+    NoVertex,
+    /// The vertex that is to be replaced is elsewhere.
+    OtherPosition,
+    /// A constraint crosses the segment.
+    Conflict,
+    /// No constraint joins the two vertices.
+    NotConstrained,
+    /// Memory was refused.
+    OutOfMemory,
+}
+
+/// What an edit gave.
+#[derive(Debug, Drop)]
+pub enum Outcome<V> {
+    /// The handle of the vertex that was inserted.
+    Inserted(FixedVertexHandle),
+    /// The vertex that was removed.
+    Removed(V),
+    /// The vertex that was there before.
+    Replaced(V),
+    /// Nothing is left.
+    Cleared,
+    /// Whether an edge that was none became a constraint.
+    Added(bool),
+    /// The edge is no constraint now.
+    Released,
+    /// Nothing was changed.
+    Refused(Refusal),
+}
