@@ -13,7 +13,7 @@ loop-level-preserved g c =
     let below : level - 1 < length layers = grind (arith, common_steps) in
     record {
       within = grind (arith, common_steps);
-      vacant = vacant_from_one_more (positions number) (place_of number c.args.position) (level - 1) level layers c.index.result.now refl c.index.ensures below (c.is_vacant.ensures c.if-not-is_vacant.false) c.loop-level.invariant.vacant;
+      vacant = vacant_from_one_more (positions number) (place_of number c.args.position) (level - 1) level layers c.index-layer.result.now refl c.index-layer.ensures below (c.is_vacant.ensures c.if-not-is_vacant.false) c.loop-level.invariant.vacant;
     }
 
 pub returns : goal.returns
