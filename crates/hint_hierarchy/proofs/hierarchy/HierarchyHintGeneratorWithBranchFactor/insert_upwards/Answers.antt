@@ -1,3 +1,4 @@
+use Rattle.std.proofs.Common.{arith}
 use Rattle.plane.specs.Hint.{IsAtMostWith}
 use Rattle.delaunay_core.specs.Place.{place_of}
 use Rattle.hint_hierarchy.specs.Layers.{IsHeld}
@@ -7,7 +8,7 @@ use Rattle.hint_hierarchy.proofs.hierarchy.HierarchyHintGeneratorWithBranchFacto
 pub insert_at-requires : goal.insert_at-requires
 insert_at-requires g c =
     let number = g.S.SpadeNum.whole in
-    (sites_with (g.P.PlaneTests.sites c.args.tests.now) (IsHeld number c.args.self.now.layers.items) (IsHeld number c.loop-level.self.layers.items) (place_of number c.args.position) c.requires.held c.requires.site c.loop-level.invariant, c.requires.site)
+    (omega arith, (sites_with (g.P.PlaneTests.sites c.args.tests.now) (IsHeld number c.args.self.now.layers.items) (IsHeld number c.loop-level.self.layers.items) (place_of number c.args.position) c.requires.held c.requires.site c.loop-level.invariant, c.requires.site))
 
 pub loop-level-preserved : goal.loop-level-preserved
 loop-level-preserved g c =
@@ -17,7 +18,7 @@ loop-level-preserved g c =
 pub add_layer-requires : goal.add_layer-requires
 add_layer-requires g c =
     let number = g.S.SpadeNum.whole in
-    (sites_with (g.P.PlaneTests.sites c.args.tests.now) (IsHeld number c.args.self.now.layers.items) (IsHeld number c.loop-level.self.layers.items) (place_of number c.args.position) c.requires.held c.requires.site c.loop-level.invariant, c.requires.site)
+    (omega arith, (sites_with (g.P.PlaneTests.sites c.args.tests.now) (IsHeld number c.args.self.now.layers.items) (IsHeld number c.loop-level.self.layers.items) (place_of number c.args.position) c.requires.held c.requires.site c.loop-level.invariant, c.requires.site))
 
 pub returns : goal.returns
 returns g c =

@@ -1,3 +1,4 @@
+use Rattle.std.proofs.Common.{arith}
 use Rattle.delaunay_core.specs.Held.{place_if}
 use Rattle.hint_hierarchy.specs.Layers.{IsHeld}
 use Rattle.hint_hierarchy.proofs.Held.{or_then_or, sites_or}
@@ -6,7 +7,7 @@ use Rattle.hint_hierarchy.proofs.hierarchy.HierarchyHintGeneratorWithBranchFacto
 pub remove_at-requires : goal.remove_at-requires
 remove_at-requires g c =
     let number = g.S.SpadeNum.whole in
-    (sites_or (g.P.PlaneTests.sites c.args.tests.now) (IsHeld number c.args.self.now.layers.items) (IsHeld number c.loop-level.self.layers.items) (place_if number c.args.swapped_in) c.requires.held c.requires.swapped_site c.loop-level.invariant, c.requires.swapped_site)
+    (omega arith, (sites_or (g.P.PlaneTests.sites c.args.tests.now) (IsHeld number c.args.self.now.layers.items) (IsHeld number c.loop-level.self.layers.items) (place_if number c.args.swapped_in) c.requires.held c.requires.swapped_site c.loop-level.invariant, c.requires.swapped_site))
 
 pub loop-level-preserved : goal.loop-level-preserved
 loop-level-preserved g c =
