@@ -29,8 +29,11 @@ pub fn run(rt: &HostRuntime) -> anyhow::Result<()> {
         &ExactTests,
     );
     print_hints(rt, &told)?;
-    let made: Hierarchy<i64, 2> =
-        HintGenerator::<i64>::initialize_from_triangulation(rt.alloc(), &points, &ExactTests);
+    let made: Hierarchy<i64, 2> = HintGenerator::<i64>::initialize_from_triangulation(
+        rt.alloc(),
+        &points,
+        &ExactTests,
+    );
     print_hints(rt, &made)?;
     let copy = HintGenerator::<i64>::duplicate(&made);
     print_hints(rt, &copy)

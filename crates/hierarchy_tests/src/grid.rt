@@ -50,10 +50,7 @@ fn print_distance(rt: &HostRuntime, distance: Option<i64>) -> anyhow::Result<()>
     Ok(())
 }
 
-fn print_state<L: HintGenerator<i64>>(
-    rt: &HostRuntime,
-    points: &Hinted<L>,
-) -> anyhow::Result<()> {
+fn print_state<L: HintGenerator<i64>>(rt: &HostRuntime, points: &Hinted<L>) -> anyhow::Result<()> {
     println!(rt;
         "{} vertices, {} edges, {} faces",
         points.num_vertices(),

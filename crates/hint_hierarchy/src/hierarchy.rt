@@ -240,8 +240,7 @@ impl<S: SpadeNum, const BRANCH_FACTOR: u32> HintGenerator<S>
             (IsHeld S.whole self.new.layers.items) (place_of S.whole position)
             (place_if S.whole swapped_in_point) }
     {
-        let removed =
-            self.is_whole && self.remove_upwards(swapped_in_point, vertex.index(), tests);
+        let removed = self.is_whole && self.remove_upwards(swapped_in_point, vertex.index(), tests);
         if removed && self.is_vacant(position, tests) {
             self.drop_idle_layers();
         } else {

@@ -13,7 +13,9 @@ loop-level-preserved g c =
     let below : level - 1 < length layers = grind (arith, common_steps) in
     record {
       within = grind (arith, common_steps);
-      vacant = vacant_from_one_more (positions number) (place_of number c.args.position) (level - 1) level layers c.index-layer.result.now refl c.index-layer.ensures below (c.is_vacant.ensures c.if-not-is_vacant.false) c.loop-level.invariant.vacant;
+      vacant = vacant_from_one_more (positions number) (place_of number c.args.position) (level - 1) level layers
+          c.index-layer.result.now refl c.index-layer.ensures below (c.is_vacant.ensures c.if-not-is_vacant.false)
+          c.loop-level.invariant.vacant;
     }
 
 pub returns : goal.returns
@@ -22,4 +24,5 @@ returns g c = λ _.
     let layers = c.args.self.now.layers.items in
     let q = place_of number c.args.position in
     let none_left : c.loop-level.level ≡ 0 = grind (arith, common_steps) in
-    vacant_if_all (positions number) q layers (subst (λ n. IsVacantFrom (positions number) q n layers) none_left c.loop-level.invariant.vacant)
+    vacant_if_all (positions number) q layers (subst (λ n. IsVacantFrom (positions number) q n layers) none_left
+    c.loop-level.invariant.vacant)

@@ -7,7 +7,8 @@ use Rattle.hint_hierarchy.proofs.hierarchy.HierarchyHintGeneratorWithBranchFacto
 abbrev pub invariant-loop-level : goal.invariant-loop-level
 invariant-loop-level g l = record {
   within : l.level ≤ length l.self.layers.items;
-  vacant : IsVacantFrom (positions g.S.SpadeNum.whole) (place_of g.S.SpadeNum.whole l.position) l.level l.self.layers.items;
+  vacant : IsVacantFrom (positions g.S.SpadeNum.whole) (place_of g.S.SpadeNum.whole l.position) l.level
+      l.self.layers.items;
 }
 
 abbrev pub decreases-loop-level : goal.decreases-loop-level

@@ -18,10 +18,15 @@ append-requires g c =
     let points = c.args.positions.now in
     let below : c.loop-position.position-index < length points = grind (arith, common_steps) in
     let listed : Contains (places number points) (place_of number c.position-item.result) =
-      element_is_listed (place_of number) points c.loop-position.position-index c.position-item.result below c.position-item.is in
-    (omega arith,
-     (sites_of sites (IsHeld number c.loop-position.hierarchy.layers.items) (places number points) c.requires.sites c.loop-position.invariant,
-      All-contains sites (places number points) (place_of number c.position-item.result) c.requires.sites listed))
+    element_is_listed (place_of number) points c.loop-position.position-index c.position-item.result below
+    c.position-item.is in (
+      omega arith,
+      (
+        sites_of sites (IsHeld number c.loop-position.hierarchy.layers.items) (places number points) c.requires.sites
+            c.loop-position.invariant,
+        All-contains sites (places number points) (place_of number c.position-item.result) c.requires.sites listed,
+      ),
+    )
 
 pub loop-position-preserved : goal.loop-position-preserved
 loop-position-preserved g c =
@@ -29,5 +34,8 @@ loop-position-preserved g c =
     let points = c.args.positions.now in
     let below : c.loop-position.position-index < length points = grind (arith, common_steps) in
     let listed : Contains (places number points) (place_of number c.position-item.result) =
-      element_is_listed (place_of number) points c.loop-position.position-index c.position-item.result below c.position-item.is in
-    of_then_with (IsHeld number c.loop-position.hierarchy.layers.items) (IsHeld number c.append.new.self.layers.items) (places number points) (place_of number c.position-item.result) c.loop-position.invariant listed c.append.ensures
+    element_is_listed (place_of number) points c.loop-position.position-index c.position-item.result below
+    c.position-item.is in
+    of_then_with (IsHeld number c.loop-position.hierarchy.layers.items) (IsHeld number c.append.new.self.layers.items)
+    (places number points) (place_of number c.position-item.result) c.loop-position.invariant listed
+    c.append.ensures
