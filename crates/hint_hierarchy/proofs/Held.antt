@@ -1,0 +1,132 @@
+-- What layers hold after one of them changed, and after one was added or dropped.
+use Rattle.std.proofs.Common.{
+  ◌≡◌,
+  ◌∙◌,
+  ◌⊎◌,
+  ℕ,
+  ◌-◌,
+  ◌<◌,
+  ◌≤◌,
+  List,
+  [],
+  ◌∷◌,
+  ◌++◌,
+  length,
+  get_or,
+  sym,
+  ap,
+  subst,
+  inl,
+  inr,
+  arith,
+}
+use Rattle.std.proofs.lemmas.Bool.{cases_eq}
+use Rattle.std.proofs.lemmas.List.{get_or_default}
+use mathlib.Core.Logic.{⊎_elim}
+use Rattle.std.specs.Prelude.{All, Bool, true, false, Contains, Option, Some, if◌then◌else◌, slice_set}
+use Rattle.std.proofs.lemmas.List.Elements.{
+  All-contains,
+  All-contains_itself,
+  All-nil,
+  All-push,
+  All-set,
+  All-weaker,
+  Contains-get_or,
+}
+use Rattle.plane.specs.Fraction.{Point}
+use Rattle.plane.specs.Hint.{IsAtMost, IsAtMostWith}
+use Rattle.hint_hierarchy.specs.Layers.{IsAtMostOr, IsInSome}
+
+-- a fact of each position that is contained, as one of each position of the list
+pub all_from_each : (P : Point → Type 0) (points : List Point) → ((p : Point) → Contains points p → P p) → All P points
+all_from_each P points each = All-weaker (Contains points) P each points (All-contains_itself points)
+
+-- nothing is in no list
+pub nothing_contained : {X : Type 0} (x : X) → ¬ Contains [] x
+nothing_contained x h = All-contains (λ _. ⊥) [] x (All-nil _) h
+
+-- sites with one more
+pub sites_with : (sites old now : Point → Type 0) (q : Point) → IsAtMost sites old → sites q → IsAtMostWith old now q
+    → IsAtMost sites now
+sites_with sites old now q held site more = λ p h. ⊎_elim (λ o. held p o) (λ e. subst sites (sym e) site) (more p h)
+
+-- and with that of a vertex that is swapped in, if any
+pub sites_or : (sites old now : Point → Type 0) (swapped : Option Point) → IsAtMost sites old
+    → ((p : Point) → swapped ≡ Some p → sites p) → IsAtMostOr old now swapped → IsAtMost sites now
+sites_or sites old now swapped held site more = λ p h. ⊎_elim (λ o. held p o) (λ e. site p e) (more p h)
+
+-- one more, twice the same
+pub with_then_with : (old now later : Point → Type 0) (q : Point) → IsAtMostWith old now q → IsAtMostWith now later q
+    → IsAtMostWith old later q
+with_then_with old now later q first second = λ p h. ⊎_elim (λ o. first p o) (λ e. inr e) (second p h)
+
+pub or_then_or : (old now later : Point → Type 0) (swapped : Option Point) → IsAtMostOr old now swapped
+    → IsAtMostOr now later swapped → IsAtMostOr old later swapped
+or_then_or old now later swapped first second = λ p h. ⊎_elim (λ o. first p o) (λ e. inr e) (second p h)
+
+module _ {L : Type 0} (positions_of : L → List Point) where
+  -- what is held, as a fact of each layer
+  pub all_from_held : (P : Point → Type 0) (layers : List L) → IsAtMost P (IsInSome positions_of layers)
+      → All (λ l. All P (positions_of l)) layers
+  all_from_held P layers held = λ k d below.
+      all_from_each P (positions_of (get_or layers k d))
+      (λ p at. held p (record { layer = get_or layers k d; among = Contains-get_or layers k d below; vertex = at }))
+
+  -- and back
+  pub held_from_all : (P : Point → Type 0) (layers : List L) → All (λ l. All P (positions_of l)) layers
+      → IsAtMost P (IsInSome positions_of layers)
+  held_from_all P layers all = λ p h.
+      All-contains P (positions_of h.layer) p
+      (All-contains (λ l. All P (positions_of l)) layers h.layer all h.among) h.vertex
+
+  -- the layer at an index that is read
+  pub held_at : (layers : List L) (i : ℕ) (layer : L) → i < length layers → layer ≡ get_or layers i layer
+      → (p : Point) → Contains (positions_of layer) p → IsInSome positions_of layers p
+  held_at layers i layer below here p at = record { layer = layer; among = (i, below, sym here); vertex = at }
+
+  -- a layer takes the place of one
+  pub held_after_set : (X : Point → Type 0) (layers : List L) (i : ℕ) (old new : L) → i < length layers
+      → old ≡ get_or layers i old → ((p : Point) → Contains (positions_of new) p → Contains (positions_of old) p ⊎ X p)
+      → (p : Point) → IsInSome positions_of (slice_set layers i new) p → IsInSome positions_of layers p ⊎ X p
+  held_after_set X layers i old new below here more =
+      let P : Point → Type 0 = λ p. IsInSome positions_of layers p ⊎ X p in
+      held_from_all P (slice_set layers i new)
+      (All-set (λ l. All P (positions_of l)) layers i new
+      (all_from_each P (positions_of new)
+      (λ p at. ⊎_elim (λ o. inl (held_at layers i old below here p o)) (λ x. inr x) (more p at)))
+      (all_from_held P layers (λ p h. inl h)))
+
+  -- from a layer on, none has a vertex at q
+  abbrev pub IsVacantFrom : Point → ℕ → List L → Type 0
+  IsVacantFrom q level layers = (k : ℕ) (d : L) → level ≤ k → k < length layers
+      → ¬ Contains (positions_of (get_or layers k d)) q
+
+  -- no layer is left out
+  pub vacant_if_all : (q : Point) (layers : List L) → IsVacantFrom q 0 layers → ¬ IsInSome positions_of layers q
+  vacant_if_all q layers vacant h =
+      vacant h.among.0 h.layer (omega arith) h.among.1
+      (subst (λ (l : L). Contains (positions_of l) q) (sym h.among.2) h.vertex)
+
+  -- one layer more
+  pub vacant_from_one_more : (q : Point) (level below : ℕ) (layers : List L) (layer : L) → level ≡ below - 1
+      → layer ≡ get_or layers level layer → level < length layers → ¬ Contains (positions_of layer) q
+      → IsVacantFrom q below layers → IsVacantFrom q level layers
+  vacant_from_one_more q level below layers layer e here within apart vacant = λ k d from k-in h.
+      ⊎_elim
+      (λ same. apart
+      (subst (λ (l : L). Contains (positions_of l) q)
+      (ap (λ n. get_or layers n d) same ∙ get_or_default layers level d layer within ∙ sym here) h))
+      (λ other. vacant k d (omega (arith, e, from, other)) k-in h)
+      (cases_eq k level)
+
+  -- a layer is added, if it is, to such whose positions are all among those of H
+  pub pushed_within : (H : Point → Type 0) (layers later : List L) (b : Bool) (layer : L)
+      → later ≡ (if b then layers ++ layer ∷ [] else layers) → IsAtMost H (IsInSome positions_of layers)
+      → ((p : Point) → Contains (positions_of layer) p → H p) → IsAtMost H (IsInSome positions_of later)
+  pushed_within H layers later true layer e within more =
+      held_from_all H later
+      (subst (All (λ l. All H (positions_of l))) (sym e)
+      (All-push (λ l. All H (positions_of l)) layers layer
+      (all_from_held H layers within) (all_from_each H (positions_of layer) more)))
+  pushed_within H layers later false layer e within more =
+      subst (λ (ls : List L). IsAtMost H (IsInSome positions_of ls)) (sym e) within

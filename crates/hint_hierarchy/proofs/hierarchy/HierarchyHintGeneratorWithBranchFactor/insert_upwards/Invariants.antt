@@ -1,0 +1,8 @@
+use Rattle.plane.specs.Hint.{IsAtMostWith}
+use Rattle.delaunay_core.specs.Place.{place_of}
+use Rattle.hint_hierarchy.specs.Layers.{IsHeld}
+use Rattle.hint_hierarchy.proofs.hierarchy.HierarchyHintGeneratorWithBranchFactor.insert_upwards.Given as goal
+
+abbrev pub invariant-loop-level : goal.invariant-loop-level
+invariant-loop-level g l = IsAtMostWith (IsHeld g.S.SpadeNum.whole l.fn.self.layers.items)
+    (IsHeld g.S.SpadeNum.whole l.self.layers.items) (place_of g.S.SpadeNum.whole l.position)

@@ -1,0 +1,28 @@
+-- What the layers of a hierarchy hold.
+use Rattle.std.specs.Prelude.{◌≡◌, ◌⊎◌, ℤ, List, map, Contains, Option, Some}
+use Rattle.plane.specs.Fraction.{Point}
+use Rattle.delaunay_core.specs.declared.point.Point2.{Point2}
+use Rattle.delaunay_core.specs.Place.{place_of}
+use Rattle.delaunay_legalization.specs.State.{State}
+
+-- the positions of a layer's vertices
+abbrev pub positions : {S D U F : Type 0} → (S → ℤ) → State (Point2 S) D U F → List Point
+positions number layer = map (place_of number) layer.vertices
+
+-- p is the position of one of them
+abbrev pub IsAt : {S D U F : Type 0} → (S → ℤ) → State (Point2 S) D U F → Point → Type 0
+IsAt number layer p = Contains (positions number layer) p
+
+-- p is one of the positions of some layer
+pub record IsInSome {L : Type 0} (positions_of : L → List Point) (layers : List L) (p : Point) : Type 0 where
+  pub layer : L
+  pub among : Contains layers layer
+  pub vertex : Contains (positions_of layer) p
+
+-- p is the position of a vertex of some layer
+abbrev pub IsHeld : {S D U F : Type 0} → (S → ℤ) → List (State (Point2 S) D U F) → Point → Type 0
+IsHeld number layers p = IsInSome (positions number) layers p
+
+-- each position of the new set is one of the old, or that of the vertex that is swapped in, if any
+abbrev pub IsAtMostOr : (old new : Point → Type 0) → Option Point → Type 0
+IsAtMostOr old new swapped = (p : Point) → new p → old p ⊎ (swapped ≡ Some p)

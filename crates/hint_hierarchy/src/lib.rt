@@ -1,0 +1,10 @@
+//! Hints by a hierarchy of triangulations: each layer has every so-many-th vertex of the one below
+//! it, and a search goes down from the nearest vertex of one layer to the next.
+#![tactic(auto)]
+
+mod hierarchy;
+mod layer;
+mod positions;
+mod removal;
+
+pub use hierarchy::{HierarchyHintGenerator, HierarchyHintGeneratorWithBranchFactor};
