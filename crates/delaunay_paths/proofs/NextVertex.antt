@@ -30,16 +30,15 @@ use Rattle.delaunay_paths.proofs.Walking.{in_map, nested, not_start, not_end, of
 
 -- strictly within a segment is nearer than its end
 within_is_nearer : (p q x : Fraction) → ¬ IsSame p q → WithinSegment p q x → IsNearer p x q
-unfolding reach
 within_is_nearer p q x apart w = nearer_if p q apart x q (on_of_within p q x w) (end_on_segment p q) ((within_segment_is p q x apart).0 w).2
 
-vertex_of : Item → ℕ
+abbrev vertex_of : Item → ℕ
 vertex_of (at_vertex v) = v
 vertex_of (across a b) = a
 vertex_of (along a b) = a
 
 -- no other vertex than i is among the items
-pub abbrev HasNoOther : List Item → ℕ → Type 0
+abbrev pub HasNoOther : List Item → ℕ → Type 0
 HasNoOther items i = (v : ℕ) → Contains items (at_vertex v) → v ≡ i
 
 pub no_other_yet : (i : ℕ) → HasNoOther [] i

@@ -8,7 +8,7 @@ loop-item-init g c =
 pub loop-item-preserved : goal.loop-item-preserved
 loop-item-preserved g c =
     seeking_goes_on g.V.HasPosition.place g.V.Scalar.SpadeNum.whole g.P.PlaneTests.sites g.P.PlaneTests.covered c.args.dcel.now c.args.from c.args.to c.loop-item.line c.loop-item.invariant c.next.new.self c.in-Some.item c.in-Some.ensures.steps
-    (c.in-Some.ensures.goes.keeps (c.in-Some.ensures.goes.on tt).2) c.in_default-other_vertex.ensures
+    c.in-Some.ensures.goes.keeps c.in_default-other_vertex.ensures
 
 pub returns-in-Some-other_vertex-clause-within : goal.returns-in-Some-other_vertex-clause-within
 returns-in-Some-other_vertex-clause-within g c =
@@ -19,3 +19,8 @@ pub returns-in-Some-other_vertex-clause-next : goal.returns-in-Some-other_vertex
 returns-in-Some-other_vertex-clause-next g c =
     seeking_finds g.V.HasPosition.place g.V.Scalar.SpadeNum.whole g.P.PlaneTests.sites g.P.PlaneTests.covered c.args.dcel.now c.args.from c.args.to c.loop-item.line c.loop-item.invariant c.next.new.self c.requires.shape c.requires.from_in c.requires.to_in c.requires.apart
     c.in-Some.item c.in-Some.ensures.steps c.in-Some-other_vertex.vertex c.in-Some-other_vertex.ensures
+
+pub unreachable-requires : goal.unreachable-requires
+unreachable-requires g c =
+    seeking_never_ends g.V.HasPosition.place g.V.Scalar.SpadeNum.whole g.P.PlaneTests.sites g.P.PlaneTests.covered c.args.dcel.now c.args.from c.args.to c.loop-item.line c.loop-item.invariant c.next.new.self c.requires.shape c.requires.from_in c.requires.to_in c.requires.apart
+    c.in_default.ensures.steps
