@@ -104,7 +104,7 @@ module _ (points : List Point) (m : Mesh) (i j : ℕ) where
 
   -- an item that is no crossed edge changes nothing
   other_item : (n : ℕ) (passed : List Item) (k : Item) → ((a b : ℕ) → ¬ (k ≡ across a b)) → (last : Option ℕ) → IsLastAmong n passed last → IsLastAmong n (passed ++ k ∷ []) last
-  other_item n passed k none None among h less c x = elim (Contains-push_cases passed k (crossed_twin m h) x) [
+  other_item n passed k none None among = λ h less c x. elim (Contains-push_cases passed k (crossed_twin m h) x) [
     | inl y ↦ among h less c y
     | inr e ↦ none (origin m (rev h)) (origin m h) e
   ]
@@ -281,5 +281,5 @@ module _ {V D U F P S : Type 0} (at : V → Point) (number : S → ℤ) (IsSite 
                 (met_if_crosses points_of_mesh c.mesh whole_mesh.valid i j shape count free h (in_mesh h within) crosses)
 
             go : (l : Option ℕ) → IsLastAmong points_of_mesh c.mesh i j (length c.directed) seeks.passed l → IsLastCrossing points_of_mesh c.mesh i j (length c.directed) l
-            go None among h within crosses = among h within crosses (listed h within crosses)
+            go None among = λ h within crosses. among h within crosses (listed h within crosses)
             go (Some g) among = (among.0, record { crosses = among.1; none_after = λ h within crosses. among.2 h within crosses (listed h within crosses) })

@@ -8,7 +8,7 @@ loop-item-init g c =
 pub loop-item-preserved : goal.loop-item-preserved
 loop-item-preserved g c =
     seeking_goes_on g.V.HasPosition.place g.V.Scalar.SpadeNum.whole g.P.PlaneTests.sites g.P.PlaneTests.covered c.args.dcel.now c.args.from c.args.to c.loop-item.last c.loop-item.line c.loop-item.invariant c.next.new.self c.recall_invariant.ensures.whole c.requires.free c.requires.shape
-    c.in-Some.item c.in-Some.ensures.steps c.last_with.result c.in-Some.ensures.goes.keeps c.last_with.ensures.last
+    c.in-Some.item c.in-Some.ensures.steps c.last_with-last.result c.in-Some.ensures.goes.keeps c.last_with-last.ensures.last
 
 pub returns : goal.returns
 returns g c =
