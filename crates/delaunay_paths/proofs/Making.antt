@@ -128,9 +128,9 @@ module _ {V D U F : Type 0} (at : V → Point) (old now : Contents V D U F) (i j
 
 -- ---- whether an edge was turned
 pub was_turned : (T : Type 0) (r : Option ℕ) (b : Bool) → b ≡ is_some r → b ≡ true → IfSome r (λ _. T) → T
-was_turned T None b is yes x = absurd (true_not_false b is yes)
-was_turned T (Some k) b is yes x = x
+was_turned T None b is true_now x = absurd (true_not_false b is true_now)
+was_turned T (Some k) b is true_now x = x
 
 pub none_turned : (T : Type 0) (r : Option ℕ) (b : Bool) → b ≡ is_some r → b ≡ false → IfNone r T → T
-none_turned T None b is no x = x
-none_turned T (Some k) b is no x = absurd (false_not_true b is no)
+none_turned T None b is false_now x = x
+none_turned T (Some k) b is false_now x = absurd (false_not_true b is false_now)

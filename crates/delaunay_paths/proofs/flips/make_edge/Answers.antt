@@ -24,3 +24,18 @@ pub returns-clause-edge : goal.returns-clause-edge
 returns-clause-edge g c =
     making_ends g.V.HasPosition.place c.args.dcel.now c.loop-from.dcel c.args.from c.args.to c.loop-from.invariant c.requires.free c.turn_last.new.dcel
     (none_turned _ c.turn_last.result c.is_some.result c.is_some.ensures c.loop-from-test.false c.turn_last.ensures.none)
+
+pub returns-clause-kept : goal.returns-clause-kept
+returns-clause-kept g c =
+    (making_stays g.V.HasPosition.place c.args.dcel.now c.loop-from.dcel c.args.from c.args.to c.loop-from.invariant c.requires.free c.turn_last.new.dcel
+    (none_turned _ c.turn_last.result c.is_some.result c.is_some.ensures c.loop-from-test.false c.turn_last.ensures.none).0).kept
+
+pub returns-clause-shape : goal.returns-clause-shape
+returns-clause-shape g c =
+    (making_stays g.V.HasPosition.place c.args.dcel.now c.loop-from.dcel c.args.from c.args.to c.loop-from.invariant c.requires.free c.turn_last.new.dcel
+    (none_turned _ c.turn_last.result c.is_some.result c.is_some.ensures c.loop-from-test.false c.turn_last.ensures.none).0).shape
+
+pub returns-clause-contents : goal.returns-clause-contents
+returns-clause-contents g c =
+    (making_stays g.V.HasPosition.place c.args.dcel.now c.loop-from.dcel c.args.from c.args.to c.loop-from.invariant c.requires.free c.turn_last.new.dcel
+    (none_turned _ c.turn_last.result c.is_some.result c.is_some.ensures c.loop-from-test.false c.turn_last.ensures.none).0).contents
