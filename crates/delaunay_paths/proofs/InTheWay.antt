@@ -35,7 +35,7 @@ not_yes true e f = cc
 not_yes false e f = cc
 
 -- a segment that meets another within it, but not at its own ends, crosses it
-meets_is_cross : (s t u v : Fraction) → ¬ WithinSegment u v s → ¬ WithinSegment u v t → MeetsWithin s t u v → Cross s t u v
+pub meets_is_cross : (s t u v : Fraction) → ¬ WithinSegment u v s → ¬ WithinSegment u v t → MeetsWithin s t u v → Cross s t u v
 meets_is_cross s t u v no_start no_end m = record { at = m.at; meet = m.meet; within_first = go (on_parts s t m.at m.meet.first); within_second = m.within }
   where
     go : IsSame m.at s ⊎ (IsSame m.at t ⊎ WithinSegment s t m.at) → WithinSegment s t m.at

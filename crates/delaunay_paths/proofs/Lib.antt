@@ -2,6 +2,8 @@ pub mod Towards
 pub mod Making
 pub mod LastEdge
 pub mod Walking
+pub mod Passing
+pub mod NextVertex
 pub mod Places
 pub mod AddingPieces
 pub mod InTheWay

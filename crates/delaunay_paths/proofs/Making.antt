@@ -1,7 +1,7 @@
 -- The loop that turns edges until none crosses.
-use Rattle.std.proofs.Common.{◌≡◌, ℕ, ◌*◌, ◌/◌, ◌<◌, List, length, map, refl, sym, ap, ◌∙◌, subst}
+use Rattle.std.proofs.Common.{◌≡◌, ℕ, ◌*◌, ◌/◌, ◌<◌, Bool, true, false, List, length, map, Option, Some, None, is_some, refl, sym, ap, ◌∙◌, subst}
 use mathlib.Core.Logic.{inl}
-use Rattle.std.specs.Prelude.{All}
+use Rattle.std.specs.Prelude.{All, IfNone, IfSome}
 use Rattle.std.proofs.lemmas.List.{length-map}
 use Rattle.half_edge_mesh.specs.Mesh.{Mesh}
 use Rattle.half_edge_mesh.specs.Flip.{flipped}
@@ -17,7 +17,7 @@ use Rattle.plane_segments.specs.Measure.{crossing_sum}
 use Rattle.plane_segments.specs.Path.{IsFreeOfVertices}
 use Rattle.mesh_embedding.specs.Drawn.{drawn, faces_of, outer_of}
 use Rattle.delaunay_paths.specs.Crossing.{CrossesFromRight, IsLastBelow}
-use Rattle.delaunay_paths.specs.Kept.{KeepsUncrossed}
+use Rattle.delaunay_paths.specs.Kept.{KeepsUncrossed, TurnsTowards}
 use Rattle.delaunay_paths.proofs.Towards as T
 
 -- whether vertices are between others does not depend on the edges
@@ -66,6 +66,21 @@ module _ {V D U F : Type 0} (at : V → Point) (c : Contents V D U F) (whole : I
       pub turn_has_shape : KeepsOuter c.mesh new → IsMesh points (faces_of new) (outer_of new)
       turn_has_shape outer = inl (T.turned_local points c.mesh whole.valid i j local free e e_in last_of_all new turns outer)
 
+  module _ (k : ℕ) (is : k ≡ e / 2) (new : Contents V D U F) (contents : new ≡ record c { mesh = new.mesh }) (turned : new.mesh ≡ flipped c.mesh (2 * k)) (change : FlipsTriangles c.mesh new.mesh (2 * k)) (outer : KeepsOuter c.mesh new.mesh) where
+    pub turns_towards : TurnsTowards points c new i j
+    turns_towards = record { contents = contents; shape = turn_has_shape k is new.mesh change outer; kept = turn_keeps k is new.mesh turned; lower = turn_lowers k is new.mesh change }
+
+-- where none crosses, the segment is an edge
+pub edge_if_none_crosses : {V D U F : Type 0} (at : V → Point) (c : Contents V D U F) → IsMeshWithData c → (i j : ℕ) → IsFreeOfVertices (drawn (map at c.vertices) c.mesh) i j → IsMesh (map at c.vertices) (faces_of c.mesh) (outer_of c.mesh)
+    → ((h : ℕ) → h < length c.directed → ¬ CrossesFromRight (map at c.vertices) c.mesh i j h) → IsEdge (drawn (map at c.vertices) c.mesh) i j
+edge_if_none_crosses at c whole i j free shape none = T.edge_if_none (map at c.vertices) c.mesh whole.valid i j shape free (λ h h_in x. none h (subst (λ (n : ℕ). h < n) (sym whole.fits.directed_fit) h_in) x)
+
+true_not_false : (b : Bool) → b ≡ false → b ≡ true → ⊥
+true_not_false b e f = cc
+
+false_not_true : (b : Bool) → b ≡ true → b ≡ false → ⊥
+false_not_true b e f = cc
+
 -- ---- the loop
 -- after some turns
 pub record IsMaking {V D U F : Type 0} (at : V → Point) (old now : Contents V D U F) (i j : ℕ) : Type 0 where
@@ -93,18 +108,29 @@ module _ {V D U F : Type 0} (at : V → Point) (old now : Contents V D U F) (i j
     pub making_free : IsFreeOfVertices (drawn (map at now.vertices) now.mesh) i j
     making_free = subst (λ (vs : List V). IsFreeOfVertices (drawn (map at vs) now.mesh) i j) (sym same) (free_on (map at old.vertices) old.mesh now.mesh i j free)
 
-    pub making_ends : IsMeshWithData now → ((h : ℕ) → h < length now.directed → ¬ CrossesFromRight (map at now.vertices) now.mesh i j h) → IsEdge (drawn (map at old.vertices) now.mesh) i j
-    making_ends whole none = T.edge_if_none (map at old.vertices) now.mesh whole.valid i j making.shape (free_on (map at old.vertices) old.mesh now.mesh i j free)
-        (λ h h_in c. none h (subst (λ (n : ℕ). h < n) (sym whole.fits.directed_fit) h_in) (subst (λ (vs : List V). CrossesFromRight (map at vs) now.mesh i j h) (sym same) c))
+    -- where it is an edge, nothing more is turned
+    pub making_ends : (after : Contents V D U F) → (after ≡ now) × IsEdge (drawn (map at now.vertices) now.mesh) i j → IsEdge (drawn (map at old.vertices) after.mesh) i j
+    making_ends after x = subst (λ (c : Contents V D U F). IsEdge (drawn (map at old.vertices) c.mesh) i j) (sym x.0) x.1
 
-  pub making_goes_on : (new : Contents V D U F) → new ≡ record now { mesh = new.mesh } → IsMesh (map at now.vertices) (faces_of new.mesh) (outer_of new.mesh) → KeepsUncrossed (map at now.vertices) now.mesh new.mesh i j → IsMaking at old new i j
-  making_goes_on new contents shape kept = record {
-    contents = contents ∙ ap (λ (c : Contents V D U F). record c { mesh = new.mesh }) making.contents;
-    shape = subst (λ (vs : List V). IsMesh (map at vs) (faces_of new.mesh) (outer_of new.mesh)) same shape;
-    kept = kept_on (map at old.vertices) old.mesh now.mesh new.mesh i j making.kept (subst (λ (vs : List V). KeepsUncrossed (map at vs) now.mesh new.mesh i j) same kept);
+    pub making_stays : (after : Contents V D U F) → after ≡ now → IsMaking at old after i j
+    making_stays after is = subst (λ (c : Contents V D U F). IsMaking at old c i j) (sym is) making
+
+  pub making_goes_on : (new : Contents V D U F) → TurnsTowards (map at now.vertices) now new i j → IsMaking at old new i j
+  making_goes_on new turns = record {
+    contents = turns.contents ∙ ap (λ (c : Contents V D U F). record c { mesh = new.mesh }) making.contents;
+    shape = subst (λ (vs : List V). IsMesh (map at vs) (faces_of new.mesh) (outer_of new.mesh)) same turns.shape;
+    kept = kept_on (map at old.vertices) old.mesh now.mesh new.mesh i j making.kept (subst (λ (vs : List V). KeepsUncrossed (map at vs) now.mesh new.mesh i j) same turns.kept);
   }
 
   -- the number that falls
-  pub making_falls : (new : Contents V D U F) → new ≡ record now { mesh = new.mesh } → crossing_sum (map at now.vertices) (faces_of new.mesh) i j < crossing_sum (map at now.vertices) (faces_of now.mesh) i j
-      → crossing_sum (map at new.vertices) (faces_of new.mesh) i j < crossing_sum (map at now.vertices) (faces_of now.mesh) i j
-  making_falls new contents less = subst (λ (vs : List V). crossing_sum (map at vs) (faces_of new.mesh) i j < crossing_sum (map at now.vertices) (faces_of now.mesh) i j) (sym (ap (λ (c : Contents V D U F). c.vertices) contents)) less
+  pub making_falls : (new : Contents V D U F) → TurnsTowards (map at now.vertices) now new i j → crossing_sum (map at new.vertices) (faces_of new.mesh) i j < crossing_sum (map at now.vertices) (faces_of now.mesh) i j
+  making_falls new turns = subst (λ (vs : List V). crossing_sum (map at vs) (faces_of new.mesh) i j < crossing_sum (map at now.vertices) (faces_of now.mesh) i j) (sym (ap (λ (c : Contents V D U F). c.vertices) turns.contents)) turns.lower
+
+-- ---- whether an edge was turned
+pub was_turned : (T : Type 0) (r : Option ℕ) (b : Bool) → b ≡ is_some r → b ≡ true → IfSome r (λ _. T) → T
+was_turned T None b is true_now x = absurd (true_not_false b is true_now)
+was_turned T (Some k) b is true_now x = x
+
+pub none_turned : (T : Type 0) (r : Option ℕ) (b : Bool) → b ≡ is_some r → b ≡ false → IfNone r T → T
+none_turned T None b is false_now x = x
+none_turned T (Some k) b is false_now x = absurd (false_not_true b is false_now)

@@ -1,4 +1,4 @@
--- The scan for the next vertex of a path.
+-- Points strictly within segments, and the points of vertices.
 use Rattle.std.proofs.Common.{◌≡◌, ◌≢◌, ◌⊎◌, ◌↔◌, ℕ, ◌+◌, ◌<◌, List, length, map, refl, sym, ap, ◌∙◌, subst, arith}
 use mathlib.Core.Logic.{inl, inr}
 use Rattle.std.specs.Prelude.{ℤ, pos, ◌<ℤ◌, Contains, Some, slice_get}
@@ -76,73 +76,6 @@ module _ {V : Type 0} (at : V → Point) (vs : List V) where
   pub listed_data : (k : ℕ) (v : V) (q : Point) → slice_get vs k ≡ Some v → q ≡ at v → Contains (map at vs) q
   listed_data k v q e is = Contains-map at vs k v q (slice_get_within vs k v e) (ap at (get_or_from_slice_get vs k v v e) ∙ sym is)
 
-pub same_within : (a b k a' b' k' : Point) (T : Type 0) → a ≡ a' → b ≡ b' → k ≡ k' → T ↔ WithinSegment (whole a) (whole b) (whole k) → T ↔ WithinSegment (whole a') (whole b') (whole k')
-same_within a b k a' b' k' T e f h w = subst (λ (x : Point × Point × Point). T ↔ WithinSegment (whole x.0) (whole x.1) (whole x.2)) (λ i. (e i, f i, h i)) w
-
--- ---- the scan
--- of the vertices below n none is strictly within the segment from i to w, which is j or strictly within the segment of i and j
-pub record IsNextBelow (points : List Point) (i j n w : ℕ) : Type 0 where
-  pub within : w < length points
-  pub apart : i ≢ w
-  pub place_of : (w ≡ j) ⊎ WithinSegment (place points i) (place points j) (place points w)
-  pub none : (k : ℕ) → k < n → ¬ WithinSegment (place points i) (place points w) (place points k)
-
 pub placed_apart : (points : List Point) (faces : List Face) (outer : List (ℕ × ℕ)) → IsMesh points faces outer → ArePlacedApart points
 placed_apart points faces outer (inl m) = m.distinct
 placed_apart points faces outer (inr m) = m.1.distinct
-
-module _ (points : List Point) (distinct : ArePlacedApart points) (i : ℕ) (hi : i < length points) where
-  pub points_apart : (k : ℕ) → k < length points → i ≢ k → ¬ (point_at points i ≡ point_at points k)
-  points_apart k hk n e = distinct i k hi hk n (ap whole e)
-
-  module _ (j : ℕ) (hj : j < length points) (i_not_j : i ≢ j) where
-    pub walk_begins : IsNextBelow points i j 0 j
-    walk_begins = record { within = hj; apart = i_not_j; place_of = inl refl; none = λ k less. absurd (omega (arith, less)) }
-
-    cases : (h n : ℕ) → h < n + 1 → (h < n) ⊎ (h ≡ n)
-    cases h n less = grind arith
-
-    module _ (n w e : ℕ) (is : e ≡ n) (walk : IsNextBelow points i j n w) (e_in : e < length points) where
-      pub nearer_is_next : WithinSegment (place points i) (place points w) (place points e) → IsNextBelow points i j (n + 1) e
-      nearer_is_next h = record {
-        within = e_in;
-        apart = λ o. not_start (point_at points i) (point_at points w) (points_apart w walk.within walk.apart) (subst (λ (k : ℕ). WithinSegment (place points i) (place points w) (place points k)) (sym o) h);
-        place_of = inr (elim walk.place_of [
-          | inl o ↦ subst (λ (k : ℕ). WithinSegment (place points i) (place points k) (place points e)) o h
-          | inr o ↦ nested (point_at points i) (point_at points j) (points_apart j hj i_not_j) (point_at points w) (point_at points e) o h
-        ]);
-        none = λ k less o. elim (cases k n less) [
-          | inl l ↦ walk.none k l (nested (point_at points i) (point_at points w) (points_apart w walk.within walk.apart) (point_at points e) (point_at points k) h o)
-          | inr same ↦ not_end (point_at points i) (point_at points e)
-              (λ o'. not_start (point_at points i) (point_at points w) (points_apart w walk.within walk.apart) (subst (λ (x : Point). WithinSegment (place points i) (place points w) (whole x)) (sym o') h))
-              (subst (λ (x : ℕ). WithinSegment (place points i) (place points e) (place points x)) (same ∙ sym is) o)
-        ];
-      }
-
-      pub still_next : ¬ WithinSegment (place points i) (place points w) (place points e) → IsNextBelow points i j (n + 1) w
-      still_next off = record {
-        within = walk.within;
-        apart = walk.apart;
-        place_of = walk.place_of;
-        none = λ k less o. elim (cases k n less) [
-          | inl l ↦ walk.none k l o
-          | inr same ↦ off (subst (λ (x : ℕ). WithinSegment (place points i) (place points w) (place points x)) (same ∙ sym is) o)
-        ];
-      }
-
-    pub walk_ends : (n : ℕ) → length points < n + 1 → (w : ℕ) → IsNextBelow points i j n w → AreNextOn points i j i w
-    walk_ends n all w walk = record {
-      apart = walk.apart;
-      first_index = hi;
-      second_index = walk.within;
-      first = start_on_segment (place points i) (place points j);
-      second = elim walk.place_of [
-        | inl o ↦ subst (λ (k : ℕ). OnSegment (place points i) (place points j) (place points k)) (sym o) (end_on_segment (place points i) (place points j))
-        | inr o ↦ on_of_within (place points i) (place points j) (place points w) o
-      ];
-      none_between = λ k less. walk.none k (omega (arith, all, less));
-    }
-
--- two vertices of a mesh are at two places
-pub ends_differ : {V : Type 0} (at : V → Point) (vs : List V) (faces : List Face) (outer : List (ℕ × ℕ)) → IsMesh (map at vs) faces outer → (i j : ℕ) → i < length vs → j < length vs → i ≢ j → (p q : Point) → p ≡ point_at (map at vs) i → q ≡ point_at (map at vs) j → p ≡ q → ⊥
-ends_differ at vs faces outer shape i j hi hj n p q e f o = points_apart (map at vs) (placed_apart (map at vs) faces outer shape) i (in_map at vs i hi) j (in_map at vs j hj) n (sym e ∙ o ∙ f)

@@ -1,5 +1,5 @@
 -- The edges of a mesh that cross the segment between two of its vertices, and an order of them.
-use Rattle.std.specs.Prelude.{◌≡◌, ◌⊎◌, ℕ, ◌<◌, List}
+use Rattle.std.specs.Prelude.{◌≡◌, ◌⊎◌, ℕ, ◌<◌, List, Option, MatchOption}
 use Rattle.half_edge_mesh.specs.Mesh.{Mesh, origin, rev}
 use Rattle.plane.specs.Fraction.{Point}
 use Rattle.plane.specs.Crossing.{Cross}
@@ -29,3 +29,7 @@ ComesAfter points m i g h =
 pub record IsLastBelow (points : List Point) (m : Mesh) (i j n g : ℕ) : Type 0 where
   pub crosses : CrossesFromRight points m i j g
   pub none_after : (h : ℕ) → h < n → CrossesFromRight points m i j h → ¬ ComesAfter points m i g h
+
+-- the last of the directed edges below n that cross, if one does
+abbrev pub IsLastCrossing : List Point → Mesh → ℕ → ℕ → ℕ → Option ℕ → Type 0
+IsLastCrossing points m i j n r = MatchOption r ((h : ℕ) → h < n → ¬ CrossesFromRight points m i j h) (λ g. (g < n) × IsLastBelow points m i j n g)

@@ -3,3 +3,4 @@ pub mod Kept
 pub mod Adding
 pub mod Releasing
 pub mod PathEdges
+pub mod Items

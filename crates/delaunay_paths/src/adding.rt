@@ -12,19 +12,12 @@ ghost use Rattle.delaunay_paths.specs.Adding.{AddsPath, AddsPiece, CanAddPath, H
 
 use crate::flips::make_edge;
 use crate::joined::edge_between;
-use crate::path::next_on_path;
+use crate::path::{is_same_vertex, next_on_path};
 use delaunay_core::math::PlaneTests;
 use delaunay_core::point::HasPosition;
 use delaunay_legalization::{ConstraintMarker, make_constraint};
 use delaunay_lines::ConflictingEdgesIterator;
 use half_edge_mesh::{Dcel, FixedUndirectedEdgeHandle, FixedVertexHandle};
-
-// Whether two vertices are one.
-fn is_same_vertex(one: FixedVertexHandle, other: FixedVertexHandle) -> bool
-    ensures { IsTrue result ↔ (one ≡ other) }
-{
-    one == other
-}
 
 /// Whether no constraint crosses the segment between two vertices.
 pub fn can_add_path<M: ConstraintMarker<UE>, V: HasPosition, DE, UE, F, P: PlaneTests<V::Scalar>>(

@@ -1,5 +1,5 @@
 //! Which edges cross the segment between two vertices.
-ghost use Rattle.std.specs.Prelude.{◌≡◌, ◌≢◌, ◌↔◌, ℕ, ◌<◌, length, map, All, Contains, IsTrue, MatchOption};
+ghost use Rattle.std.specs.Prelude.{◌≡◌, ◌≢◌, ◌↔◌, ◌<◌, length, map, All, Contains, IsTrue};
 ghost use Rattle.half_edge_mesh.specs.Mesh.{origin, rev};
 ghost use Rattle.plane.specs.Fraction.{whole as fraction};
 ghost use Rattle.plane.specs.Side.{side, right, TurnsLeft};
@@ -8,7 +8,7 @@ ghost use Rattle.plane_tiling.specs.Local.{IsMesh};
 ghost use Rattle.mesh_embedding.specs.Drawn.{faces_of, outer_of};
 ghost use Rattle.delaunay_core.specs.Place.{place_of};
 ghost use Rattle.delaunay_legalization.specs.Known.{point_at};
-ghost use Rattle.delaunay_paths.specs.Crossing.{CrossesFromRight, CrossesSegment};
+ghost use Rattle.delaunay_paths.specs.Crossing.{CrossesSegment};
 
 use delaunay_core::math::PlaneTests;
 use delaunay_core::point::{HasPosition, Point2, SpadeNum};
@@ -111,44 +111,4 @@ pub fn crosses_segment<V: HasPosition, DE, UE, F, P: PlaneTests<V::Scalar>>(
     let (from, to) = (position_of(dcel, from), position_of(dcel, to));
     let (start, end) = (start_of(dcel, edge), end_of(dcel, edge));
     part_each_other(from, to, start, end, tests)
-}
-
-// Whether an edge crosses the segment between two vertices from right to left.
-pub(crate) fn crosses_from_right<V: HasPosition, DE, UE, F, P: PlaneTests<V::Scalar>>(
-    dcel: &Dcel<V, DE, UE, F>,
-    edge: FixedDirectedEdgeHandle,
-    from: FixedVertexHandle,
-    to: FixedVertexHandle,
-    tests: &P,
-) -> bool
-    requires within { edge < length dcel.now.directed }
-    requires from_in { from < length dcel.now.vertices }
-    requires to_in { to < length dcel.now.vertices }
-    requires sites { All (P.sites tests.now) (map V.place dcel.now.vertices) }
-    ensures { IsTrue result ↔ CrossesFromRight (map V.place dcel.now.vertices) dcel.now.mesh from to edge }
-{
-    let (from, to) = (position_of(dcel, from), position_of(dcel, to));
-    let (start, end) = (start_of(dcel, edge), end_of(dcel, edge));
-    has_on_sides(from, to, start, end, tests) && has_on_sides(start, end, to, from, tests)
-}
-
-// An edge that crosses the segment between two vertices from right to left, if there is one.
-pub(crate) fn crossing_edge<V: HasPosition, DE, UE, F, P: PlaneTests<V::Scalar>>(
-    dcel: &Dcel<V, DE, UE, F>,
-    from: FixedVertexHandle,
-    to: FixedVertexHandle,
-    tests: &P,
-) -> Option<FixedDirectedEdgeHandle>
-    requires from_in { from < length dcel.now.vertices }
-    requires to_in { to < length dcel.now.vertices }
-    requires sites { All (P.sites tests.now) (map V.place dcel.now.vertices) }
-    ensures { let points = map V.place dcel.now.vertices in let m = dcel.now.mesh in MatchOption result ((h : ℕ) → h < length dcel.now.directed → ¬ CrossesFromRight points m from to h) (λ h. (h < length dcel.now.directed) × CrossesFromRight points m from to h) }
-{
-    for index in 0..dcel.num_directed_edges() {
-        let edge = FixedDirectedEdgeHandle::from_index(index as u32);
-        if crosses_from_right(dcel, edge, from, to, tests) {
-            return Some(edge);
-        }
-    }
-    None
 }

@@ -1,16 +1,22 @@
 //! The last of the edges that cross the segment between two vertices.
-ghost use Rattle.std.specs.Prelude.{◌≡◌, ◌↔◌, ◌<ℤ◌, ◌<◌, length, map, All, IsTrue};
+ghost use Rattle.std.specs.Prelude.{◌≡◌, ◌↔◌, ◌<ℤ◌, ◌<◌, length, map, All, IfSome, IsTrue};
 ghost use Rattle.plane.specs.Fraction.{whole as fraction};
 ghost use Rattle.plane.specs.Circle.{gap};
 ghost use Rattle.plane.specs.Laws.{squared_way};
-ghost use Rattle.plane_segments.specs.Path.{ComesAfterOnRight, ComesAfterOnLeft};
+ghost use Rattle.plane_tiling.specs.Local.{IsMesh};
+ghost use Rattle.plane_segments.specs.Path.{ComesAfterOnRight, ComesAfterOnLeft, IsFreeOfVertices};
+ghost use Rattle.mesh_embedding.specs.Drawn.{drawn, faces_of, outer_of};
 ghost use Rattle.delaunay_core.specs.Place.{place_of};
-ghost use Rattle.delaunay_paths.specs.Crossing.{CrossesFromRight, ComesAfter, IsLastBelow};
+ghost use Rattle.delaunay_legalization.specs.State.{state_of};
+ghost use Rattle.delaunay_lines.specs.Items.{item_in, mesh_of};
+ghost use Rattle.delaunay_paths.specs.Crossing.{ComesAfter, IsLastCrossing};
+ghost use Rattle.delaunay_paths.specs.Items.{IsCrossedTwin, IsLastWith, IsLater};
 
-use crate::crossing::{crosses_from_right, end_of, position_of};
+use crate::crossing::{end_of, position_of};
 use delaunay_core::math::PlaneTests;
 use delaunay_core::point::{HasPosition, Point2, SpadeNum};
 use delaunay_legalization::{is_same_point, start_of};
+use delaunay_lines::{Intersection, line_between_vertices};
 use half_edge_mesh::{Dcel, FixedDirectedEdgeHandle, FixedVertexHandle};
 
 // Whether a point is nearer to a position than another, in the words of `distance_2`.
@@ -96,47 +102,83 @@ fn comes_after<V: HasPosition, DE, UE, F, P: PlaneTests<V::Scalar>>(
         || (is_same_point(start, other_start) && comes_after_on_left(from, end, other_end, tests))
 }
 
-// Whether an edge crosses the segment between two vertices from right to left, and comes after another edge.
-fn is_later<V: HasPosition, DE, UE, F, P: PlaneTests<V::Scalar>>(
+// Of an edge and the last so far, if there is one, the one that comes later.
+fn later_edge<V: HasPosition, DE, UE, F, P: PlaneTests<V::Scalar>>(
     dcel: &Dcel<V, DE, UE, F>,
+    last: Option<FixedDirectedEdgeHandle>,
     edge: FixedDirectedEdgeHandle,
-    other: FixedDirectedEdgeHandle,
     from: FixedVertexHandle,
-    to: FixedVertexHandle,
-    tests: &P,
-) -> bool
-    requires within { edge < length dcel.now.directed }
-    requires other_within { other < length dcel.now.directed }
-    requires from_in { from < length dcel.now.vertices }
-    requires to_in { to < length dcel.now.vertices }
-    requires sites { All (P.sites tests.now) (map V.place dcel.now.vertices) }
-    ensures { IsTrue result ↔ (CrossesFromRight (map V.place dcel.now.vertices) dcel.now.mesh from to edge × ComesAfter (map V.place dcel.now.vertices) dcel.now.mesh from other edge) }
-{
-    crosses_from_right(dcel, edge, from, to, tests) && comes_after(dcel, other, edge, from, tests)
-}
-
-// Of the edges that cross the segment between two vertices from right to left, of which `first` is one, the last.
-pub(crate) fn last_crossing<V: HasPosition, DE, UE, F, P: PlaneTests<V::Scalar>>(
-    dcel: &Dcel<V, DE, UE, F>,
-    first: FixedDirectedEdgeHandle,
-    from: FixedVertexHandle,
-    to: FixedVertexHandle,
     tests: &P,
 ) -> FixedDirectedEdgeHandle
-    requires within { first < length dcel.now.directed }
+    requires within { edge < length dcel.now.directed }
+    requires last_within { IfSome last (λ g. g < length dcel.now.directed) }
     requires from_in { from < length dcel.now.vertices }
-    requires to_in { to < length dcel.now.vertices }
     requires sites { All (P.sites tests.now) (map V.place dcel.now.vertices) }
-    requires crosses { CrossesFromRight (map V.place dcel.now.vertices) dcel.now.mesh from to first }
     ensures within { result < length dcel.now.directed }
-    ensures last { IsLastBelow (map V.place dcel.now.vertices) dcel.now.mesh from to (length dcel.now.directed) result }
+    ensures later { IsLater (map V.place dcel.now.vertices) dcel.now.mesh from last edge result }
 {
-    let mut last = first;
-    for index in 0..dcel.num_directed_edges() {
-        let edge = FixedDirectedEdgeHandle::from_index(index as u32);
-        if is_later(dcel, edge, last, from, to, tests) {
-            last = edge;
+    match last {
+        Some(last) => {
+            if comes_after(dcel, last, edge, from, tests) {
+                edge
+            } else {
+                last
+            }
         }
+        None => edge,
+    }
+}
+
+// The twin of the edge of an item, if the segment crosses an edge there.
+fn crossed_twin<V, DE, UE, F>(
+    item: &Intersection<'_, V, DE, UE, F>,
+) -> Option<FixedDirectedEdgeHandle>
+    ensures { IsCrossedTwin (mesh_of item.now).now (item_in item.now) result }
+{
+    match item {
+        Intersection::EdgeIntersection(edge) => Some(edge.rev().fix()),
+        _ => None,
+    }
+}
+
+// The last so far, if there is one, with an item more.
+fn last_with<V: HasPosition, DE, UE, F, P: PlaneTests<V::Scalar>>(
+    dcel: &Dcel<V, DE, UE, F>,
+    last: Option<FixedDirectedEdgeHandle>,
+    item: &Intersection<'_, V, DE, UE, F>,
+    from: FixedVertexHandle,
+    tests: &P,
+) -> Option<FixedDirectedEdgeHandle>
+    requires last_within { IfSome last (λ g. g < length dcel.now.directed) }
+    requires same_mesh { state_of (mesh_of item.now).now ≡ state_of dcel.now }
+    requires from_in { from < length dcel.now.vertices }
+    requires sites { All (P.sites tests.now) (map V.place dcel.now.vertices) }
+    ensures within { IfSome result (λ e. e < length dcel.now.directed) }
+    ensures last { IsLastWith (map V.place dcel.now.vertices) dcel.now.mesh from (length dcel.now.directed) last (item_in item.now) result }
+{
+    match crossed_twin(item) {
+        Some(edge) => Some(later_edge(dcel, last, edge, from, tests)),
+        None => last,
+    }
+}
+
+// Of the edges that cross the segment between two vertices with none strictly between, from right to left, the last.
+pub(crate) fn last_crossing<V: HasPosition, DE, UE, F, P: PlaneTests<V::Scalar>>(
+    dcel: &Dcel<V, DE, UE, F>,
+    from: FixedVertexHandle,
+    to: FixedVertexHandle,
+    tests: &P,
+) -> Option<FixedDirectedEdgeHandle>
+    requires free { IsFreeOfVertices (drawn (map V.place dcel.now.vertices) dcel.now.mesh) from to }
+    requires shape { IsMesh (map V.place dcel.now.vertices) (faces_of dcel.now.mesh) (outer_of dcel.now.mesh) }
+    requires sites { All (P.sites tests.now) (map V.place dcel.now.vertices) }
+    ensures { IsLastCrossing (map V.place dcel.now.vertices) dcel.now.mesh from to (length dcel.now.directed) result }
+{
+    dcel.recall_invariant();
+    let mut last = None;
+    let mut line = line_between_vertices(dcel, from, to, tests);
+    while let Some(item) = line.next() {
+        last = last_with(dcel, last, &item, from, tests);
     }
     last
 }

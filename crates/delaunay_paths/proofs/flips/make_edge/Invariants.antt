@@ -4,8 +4,8 @@ use Rattle.mesh_embedding.specs.Drawn.{faces_of}
 use Rattle.delaunay_paths.proofs.Making.{IsMaking}
 use Rattle.delaunay_paths.proofs.flips.make_edge.Given as goal
 
-abbrev pub invariant-loop-first : goal.invariant-loop-first
-invariant-loop-first g l = IsMaking g.V.HasPosition.place l.fn.dcel l.dcel l.from l.to
+abbrev pub invariant-loop-from : goal.invariant-loop-from
+invariant-loop-from g l = IsMaking g.V.HasPosition.place l.fn.dcel l.dcel l.from l.to
 
-abbrev pub decreases-loop-first : goal.decreases-loop-first
-decreases-loop-first g l = crossing_sum (map g.V.HasPosition.place l.dcel.vertices) (faces_of l.dcel.mesh) l.from l.to
+abbrev pub decreases-loop-from : goal.decreases-loop-from
+decreases-loop-from g l = crossing_sum (map g.V.HasPosition.place l.dcel.vertices) (faces_of l.dcel.mesh) l.from l.to

@@ -1,27 +1,29 @@
-use Rattle.delaunay_paths.proofs.Making.{can_turn, turn_keeps, turn_lowers, turn_has_shape}
+use Rattle.std.proofs.Common.{◌≡◌, ℕ, map, Option, refl, sym, subst}
+use Rattle.std.specs.Prelude.{IfNone}
+use Rattle.plane.specs.Tiling.{IsEdge}
+use Rattle.mesh_embedding.specs.Drawn.{drawn}
+use Rattle.delaunay_paths.proofs.Making.{can_turn, edge_if_none_crosses, turns_towards}
 use Rattle.delaunay_paths.proofs.flips.turn_last.Goals as goal
+
+pub returns-in_err-last_crossing-clause-none : goal.returns-in_err-last_crossing-clause-none
+returns-in_err-last_crossing-clause-none g c =
+    subst (λ (r : Option ℕ). IfNone r ((c.args.dcel.now ≡ c.args.dcel.now) × IsEdge (drawn (map g.V.HasPosition.place c.args.dcel.now.vertices) c.args.dcel.now.mesh) c.args.from c.args.to)) (sym c.from_residual.ensures)
+    (refl, edge_if_none_crosses g.V.HasPosition.place c.args.dcel.now c.recall_invariant.ensures.whole c.args.from c.args.to c.requires.free c.requires.shape c.in_err-last_crossing.ensures)
 
 pub flip_cw-requires-clause-flippable : goal.flip_cw-requires-clause-flippable
 flip_cw-requires-clause-flippable g c =
-    (can_turn g.V.HasPosition.place c.args.dcel.now c.recall_invariant.ensures.whole c.args.from c.args.to c.requires.free c.requires.shape c.last_crossing-edge.result c.last_crossing-edge.ensures.within c.last_crossing-edge.ensures.last
-    c.as_undirected.result c.as_undirected.ensures).0
+    let last = c.in_ok-last_crossing.ensures in
+    (can_turn g.V.HasPosition.place c.args.dcel.now c.recall_invariant.ensures.whole c.args.from c.args.to c.requires.free c.requires.shape c.in_ok-last_crossing.field-0 last.0 last.1
+    c.as_undirected-edge.result c.as_undirected-edge.ensures).0
 
 pub flip_cw-requires-clause-corners : goal.flip_cw-requires-clause-corners
 flip_cw-requires-clause-corners g c =
-    (can_turn g.V.HasPosition.place c.args.dcel.now c.recall_invariant.ensures.whole c.args.from c.args.to c.requires.free c.requires.shape c.last_crossing-edge.result c.last_crossing-edge.ensures.within c.last_crossing-edge.ensures.last
-    c.as_undirected.result c.as_undirected.ensures).1
+    let last = c.in_ok-last_crossing.ensures in
+    (can_turn g.V.HasPosition.place c.args.dcel.now c.recall_invariant.ensures.whole c.args.from c.args.to c.requires.free c.requires.shape c.in_ok-last_crossing.field-0 last.0 last.1
+    c.as_undirected-edge.result c.as_undirected-edge.ensures).1
 
-pub returns-clause-shape : goal.returns-clause-shape
-returns-clause-shape g c =
-    turn_has_shape g.V.HasPosition.place c.args.dcel.now c.recall_invariant.ensures.whole c.args.from c.args.to c.requires.free c.requires.shape c.last_crossing-edge.result c.last_crossing-edge.ensures.within c.last_crossing-edge.ensures.last
-    c.as_undirected.result c.as_undirected.ensures c.flip_cw.new.self.mesh c.flip_cw.ensures.triangles c.flip_cw.ensures.outer
-
-pub returns-clause-kept : goal.returns-clause-kept
-returns-clause-kept g c =
-    turn_keeps g.V.HasPosition.place c.args.dcel.now c.recall_invariant.ensures.whole c.args.from c.args.to c.requires.free c.requires.shape c.last_crossing-edge.result c.last_crossing-edge.ensures.within c.last_crossing-edge.ensures.last
-    c.as_undirected.result c.as_undirected.ensures c.flip_cw.new.self.mesh c.flip_cw.ensures.mesh
-
-pub returns-clause-lower : goal.returns-clause-lower
-returns-clause-lower g c =
-    turn_lowers g.V.HasPosition.place c.args.dcel.now c.recall_invariant.ensures.whole c.args.from c.args.to c.requires.free c.requires.shape c.last_crossing-edge.result c.last_crossing-edge.ensures.within c.last_crossing-edge.ensures.last
-    c.as_undirected.result c.as_undirected.ensures c.flip_cw.new.self.mesh c.flip_cw.ensures.triangles
+pub returns-clause-turns : goal.returns-clause-turns
+returns-clause-turns g c =
+    let last = c.in_ok-last_crossing.ensures in
+    turns_towards g.V.HasPosition.place c.args.dcel.now c.recall_invariant.ensures.whole c.args.from c.args.to c.requires.free c.requires.shape c.in_ok-last_crossing.field-0 last.0 last.1
+    c.as_undirected-edge.result c.as_undirected-edge.ensures c.flip_cw.new.self c.flip_cw.ensures.contents c.flip_cw.ensures.mesh c.flip_cw.ensures.triangles c.flip_cw.ensures.outer

@@ -1,6 +1,8 @@
-use Rattle.std.proofs.Common.{◌<◌, length, map}
-use Rattle.delaunay_paths.specs.Crossing.{IsLastBelow}
+use Rattle.delaunay_paths.proofs.LastEdge.{SeeksLast}
 use Rattle.delaunay_paths.proofs.order.last_crossing.Given as goal
 
-abbrev pub invariant-loop-index : goal.invariant-loop-index
-invariant-loop-index g l = (l.last < length l.dcel.directed) × IsLastBelow (map g.V.HasPosition.place l.dcel.vertices) l.dcel.mesh l.from l.to l.index l.last
+abbrev pub invariant-loop-item : goal.invariant-loop-item
+invariant-loop-item g l = SeeksLast g.V.HasPosition.place g.V.Scalar.SpadeNum.whole g.P.PlaneTests.sites g.P.PlaneTests.covered l.dcel l.from l.fn.to l.last l.line
+
+abbrev pub decreases-loop-item : goal.decreases-loop-item
+decreases-loop-item g l = l.line.left
