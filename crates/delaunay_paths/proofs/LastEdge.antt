@@ -7,15 +7,15 @@ use Rattle.half_edge_mesh.specs.Contents.{Contents, IsMeshWithData}
 use Rattle.half_edge_mesh.specs.Mesh.{Mesh, IsValidMesh, origin, rev}
 use Rattle.half_edge_links.proofs.Rev.{rev_within}
 use Rattle.plane.specs.Crossing.{Cross}
-use Rattle.plane.specs.Fraction.{Point, whole, IsSame, OnSegment, WithinSegment}
+use Rattle.plane.specs.Fraction.{Point, whole, IsSame, WithinSegment}
 use Rattle.plane.specs.Laws.{Parts}
 use Rattle.plane.specs.Line.{Item, IsLineList, Meets, at_vertex, across, along}
 use Rattle.plane.specs.Pairs.{place}
-use Rattle.plane.specs.Side.{side, left, right, on, TurnsLeft}
+use Rattle.plane.specs.Side.{side, left, right, on}
 use Rattle.plane.specs.Tiling.{Triangulation, IsEdge}
 use Rattle.plane.proofs.Meetings.{crossing_is_sides}
 use Rattle.plane.proofs.Segments.{same-sym}
-use Rattle.plane_tiling.specs.Local.{LocalMesh, IsMesh}
+use Rattle.plane_tiling.specs.Local.{IsMesh}
 use Rattle.plane_tiling.proofs.Locations.{no_edges_cross}
 use Rattle.plane_tiling.proofs.Loops.{mesh_tiles}
 use Rattle.plane_tiling.proofs.Totals.{Contains-head, Contains-none}
@@ -26,7 +26,7 @@ use Rattle.mesh_embedding.specs.Drawn.{drawn, edges_of, faces_of, outer_of}
 use Rattle.mesh_embedding.proofs.EdgePairs.{edge_joins}
 use Rattle.mesh_embedding.proofs.OwnEdges.{own_edges}
 use Rattle.delaunay_legalization.specs.Known.{point_at}
-use Rattle.delaunay_legalization.specs.State.{State, state_of}
+use Rattle.delaunay_legalization.specs.State.{state_of}
 use Rattle.delaunay_lines.specs.declared.intersection.Intersection.{Intersection}
 use Rattle.delaunay_lines.specs.declared.iterator.LineIntersectionIterator.{LineIntersectionIterator}
 use Rattle.delaunay_lines.specs.Items.{item_in, mesh_of}
@@ -256,6 +256,7 @@ module _ {V D U F P S : Type 0} (at : V → Point) (number : S → ℤ) (IsSite 
               let l = list_with at number IsSite IsCovered (state_of c) (point_at points_of_mesh i) (point_at points_of_mesh j) seeks.passed now after seeks.so_far x gives in
               l.1.met (two points_of_mesh c.mesh whole_mesh.valid i j shape count free) (item_in x)
               (Contains-append_left (seeks.passed ++ item_in x ∷ []) l.0 (item_in x) (Contains-append_right seeks.passed (item_in x ∷ []) (item_in x) (Contains-head (item_in x) [])))
+
           pub seeking_goes_on : (r : Option ℕ) → IsReady at number IsSite IsCovered after → IsLastWith points_of_mesh c.mesh i (length c.directed) last (item_in x) r → SeeksLast r after
           seeking_goes_on r ready o = record {
             passed = seeks.passed ++ item_in x ∷ [];

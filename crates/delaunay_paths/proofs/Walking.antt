@@ -1,23 +1,20 @@
 -- Points strictly within segments, and the points of vertices.
-use Rattle.std.proofs.Common.{◌≡◌, ◌≢◌, ◌⊎◌, ◌↔◌, ℕ, ◌+◌, ◌<◌, List, length, map, refl, sym, ap, ◌∙◌, subst, arith}
+use Rattle.std.proofs.Common.{◌≡◌, ◌⊎◌, ℕ, ◌<◌, List, length, map, sym, ap, ◌∙◌, subst, arith}
 use mathlib.Core.Logic.{inl, inr}
 use Rattle.std.specs.Prelude.{ℤ, pos, ◌<ℤ◌, Contains, Some, slice_get}
 use Rattle.std.proofs.lemmas.Int.{ints}
 use Rattle.std.proofs.lemmas.List.{length-map}
 use Rattle.std.proofs.lemmas.Option.{slice_get_within, get_or_from_slice_get}
-use Rattle.plane.specs.Fraction.{Point, whole, OnSegment, WithinSegment}
-use Rattle.plane.specs.Pairs.{place}
+use Rattle.plane.specs.Fraction.{Point, whole, WithinSegment}
 use Rattle.plane.specs.Tiling.{Face}
 use Rattle.plane.proofs.Bracket.{lift}
 use Rattle.plane.proofs.BracketIdentities.{bracket-outer, bracket-last}
 use Rattle.plane.proofs.Collinear.{place_on, place_of_start, place_of_end}
 use Rattle.plane.proofs.LineOrder.{IsBetween, place_within, within_places}
-use Rattle.plane.proofs.Segments.{start_on_segment, end_on_segment, on_of_within}
 use Rattle.plane_tiling.specs.Local.{IsMesh}
 use Rattle.plane_tiling.proofs.Edges.{within_on}
 use Rattle.plane_segments.proofs.Pieces.{on_of_mean}
-use Rattle.plane_segments.specs.Constraints.{AreNextOn, ArePlacedApart}
-use Rattle.delaunay_legalization.specs.Known.{point_at}
+use Rattle.plane_segments.specs.Constraints.{ArePlacedApart}
 use Rattle.mesh_embedding.proofs.EdgePairs.{Contains-map}
 use Rattle.plane.proofs.Signs.{less_through}
 

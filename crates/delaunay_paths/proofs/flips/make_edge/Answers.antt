@@ -1,4 +1,4 @@
-use Rattle.delaunay_paths.proofs.Making.{making_begins, making_shape, making_sites, making_free, making_ends, making_goes_on, making_falls, making_stays, was_turned, none_turned}
+use Rattle.delaunay_paths.proofs.Making.{making_begins, making_shape, making_free, making_ends, making_goes_on, making_falls, making_stays, was_turned, none_turned}
 use Rattle.delaunay_paths.proofs.flips.make_edge.Goals as goal
 
 pub loop-from-init : goal.loop-from-init

@@ -1,4 +1,4 @@
-use Rattle.delaunay_paths.proofs.LastEdge.{seeking_begins, seeking_goes_on, seeking_ends, seeking_state, last_in}
+use Rattle.delaunay_paths.proofs.LastEdge.{seeking_begins, seeking_goes_on, seeking_ends}
 use Rattle.delaunay_paths.proofs.order.last_crossing.Goals as goal
 
 pub loop-item-init : goal.loop-item-init
