@@ -2,7 +2,10 @@
 ghost use Rattle.std.specs.Prelude.{◌<◌};
 
 use crate::chains::{add_edge, add_edges, insert, insert_from};
-use crate::edits::{Constrained, add, can_add, counts, exists, release, remove, try_add};
+use crate::edits::{
+    Constrained, add, can_add, counts, exists, is_constraint, print_constraints, release, remove,
+    try_add,
+};
 use exact_tests::ExactTests;
 use spade_delaunay::handles::FaceHandle;
 use spade_delaunay::{
@@ -11,7 +14,7 @@ use spade_delaunay::{
 use std::alloc::{AllocError, Global};
 use std::fmt::Debug;
 use std::io;
-use std::mem::replace;
+use std::mem::{replace, swap};
 
 /// A call by its name, with the line that asks for it.
 #[derive(Drop)]
@@ -54,6 +57,11 @@ impl<'a> Call<'a> {
         })
     }
 
+    fn indexes(&self) -> [u32; 3] {
+        let [first, second, third] = self.numbers;
+        [index(first), index(second), index(third)]
+    }
+
     // All numbers of the line, two by two.
     fn positions(&self, alloc: Global) -> Result<Vec<Point2<i64>>, AllocError> {
         let mut positions = Vec::new(alloc);
@@ -74,11 +82,12 @@ impl<'a> Call<'a> {
     }
 }
 
-/// A triangulation without constraints, and one that may have some.
+/// A triangulation without constraints, and one that may have some, with its last copy.
 #[derive(Drop)]
 pub struct Session {
     plain: DelaunayTriangulation<Point2<i64>>,
     constrained: Constrained,
+    copy: Constrained,
 }
 
 impl Session {
@@ -86,7 +95,26 @@ impl Session {
         Session {
             plain: DelaunayTriangulation::new(alloc),
             constrained: ConstrainedDelaunayTriangulation::new(alloc),
+            copy: ConstrainedDelaunayTriangulation::new(alloc),
         }
+    }
+
+    /// Tells whether memory was there.
+    fn copy(&mut self) -> bool {
+        match self.constrained.try_clone() {
+            Ok(copy) => {
+                self.copy = copy;
+                true
+            }
+            Err(_) => false,
+        }
+    }
+
+    /// The triangulation with constraints and its copy change places. Tells how many vertices the one has to which calls
+    /// go from then on.
+    fn turn_to_copy(&mut self) -> usize {
+        swap(&mut self.constrained, &mut self.copy);
+        self.constrained.num_vertices()
     }
 
     /// Takes the triangulation for the one with constraints, and leaves one without vertices. Tells whether memory was
@@ -111,9 +139,7 @@ impl Session {
 }
 
 // The corners of an inner face by their indexes, the least first.
-fn corners_of(
-    face: FaceHandle<'_, Point2<i64>, (), CdtEdge<()>, ()>,
-) -> [u32; 3]
+fn corners_of(face: FaceHandle<'_, Point2<i64>, (), CdtEdge<()>, ()>) -> [u32; 3]
     requires { 0 < face.index }
 {
     let [a, b, c] = face.vertices();
@@ -136,20 +162,32 @@ fn print_faces(rt: &impl Print, points: &Constrained) -> io::Result<()> {
     Ok(())
 }
 
-/// Makes the call that a line asks for, and prints what it gives.
-pub fn answer(
+// Reads what a line asks for, and prints it.
+fn read(rt: &impl Print, points: &Constrained, call: &Call<'_>) -> io::Result<()> {
+    let [from, to, _] = call.indexes();
+    match call.name {
+        "can_add_constraint" => call.tell(rt, &can_add(points, from, to)),
+        "exists_constraint" => call.tell(rt, &exists(points, from, to)),
+        "is_constraint_edge" => call.tell(rt, &is_constraint(points, from, to)),
+        "counts" => call.tell(rt, &counts(points)),
+        "constraints" => print_constraints(rt, points),
+        "faces" => print_faces(rt, points),
+        _ => call.tell(rt, &"no such call"),
+    }
+}
+
+// Makes the edit that a line asks for, and prints what it gives.
+fn edit(
     rt: &(impl Print + AllocGlobal),
-    session: &mut Session,
+    points: &mut Constrained,
     call: &Call<'_>,
 ) -> io::Result<()> {
-    let [x, y, hint] = call.numbers;
-    let (from, to) = (index(x), index(y));
-    let points = &mut session.constrained;
+    let ([x, y, _], [from, to, hint]) = (call.numbers, call.indexes());
     match call.name {
-        "insert" => call.tell(rt, &session.insert(x, y)),
-        "from_delaunay" => call.tell(rt, &session.from_delaunay(rt.alloc())),
         "insert_beside" => call.tell(rt, &insert(points, x, y)),
-        "insert_with_hint" => call.tell(rt, &insert_from(points, [x, y], index(hint))),
+        "insert_with_hint" => call.tell(rt, &insert_from(points, [x, y], hint)),
+        "add_constraint" => call.tell(rt, &add(points, from, to)),
+        "try_add_constraint" => call.tell(rt, &try_add(points, from, to, rt.alloc())),
         "add_constraint_edge" => {
             let ends = call.positions(rt.alloc())?;
             call.tell(rt, &add_edge(points, ends.as_slice()))
@@ -162,14 +200,24 @@ pub fn answer(
             let path = call.positions(rt.alloc())?;
             call.tell(rt, &add_edges(points, path, true))
         }
-        "can_add_constraint" => call.tell(rt, &can_add(points, from, to)),
-        "add_constraint" => call.tell(rt, &add(points, from, to)),
-        "try_add_constraint" => call.tell(rt, &try_add(points, from, to)),
-        "exists_constraint" => call.tell(rt, &exists(points, from, to)),
         "remove_constraint_edge" => call.tell(rt, &release(points, from, to)),
         "remove" => call.tell(rt, &remove(points, from)),
-        "counts" => call.tell(rt, &counts(points)),
-        "faces" => print_faces(rt, points),
-        _ => call.tell(rt, &"no such call"),
+        _ => read(rt, points, call),
+    }
+}
+
+/// Makes the call that a line asks for, and prints what it gives.
+pub fn answer(
+    rt: &(impl Print + AllocGlobal),
+    session: &mut Session,
+    call: &Call<'_>,
+) -> io::Result<()> {
+    let [x, y, _] = call.numbers;
+    match call.name {
+        "insert" => call.tell(rt, &session.insert(x, y)),
+        "from_delaunay" => call.tell(rt, &session.from_delaunay(rt.alloc())),
+        "try_clone" => call.tell(rt, &session.copy()),
+        "swap" => call.tell(rt, &session.turn_to_copy()),
+        _ => edit(rt, &mut session.constrained, call),
     }
 }
