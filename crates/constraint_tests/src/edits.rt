@@ -116,7 +116,10 @@ pub fn is_constraint(points: &Constrained, from: u32, to: u32) -> Option<bool> {
 /// Prints the ends of each constraint, the least first.
 pub fn print_constraints(rt: &impl Print, points: &Constrained) -> io::Result<()> {
     for index in 0..points.num_undirected_edges() {
-        let edge = FixedUndirectedEdgeHandle::from_index(index as u32);
+        let Ok(index) = u16::try_from(index) else {
+            break;
+        };
+        let edge = FixedUndirectedEdgeHandle::from_index(u32::from(index));
         points.recall_invariant();
         if points.is_constraint_edge(edge) {
             let directed = points.directed_edge(edge.as_directed());
