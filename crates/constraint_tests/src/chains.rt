@@ -1,9 +1,10 @@
-//! Vertices that are inserted beside constraints, and constraints between vertices that are inserted for them.
+//! Vertices that are inserted and removed beside constraints, by their positions, and constraints
+//! between vertices that are inserted for them.
 
 use crate::edits::Constrained;
 use exact_tests::ExactTests;
 use spade_delaunay::handles::FixedVertexHandle;
-use spade_delaunay::{ConstraintError, Point2, Triangulation};
+use spade_delaunay::{ConstraintError, Point2, Triangulation, validate_vertex};
 
 /// The index of a vertex, or nothing where it was refused.
 pub fn insert(points: &mut Constrained, x: i64, y: i64) -> Option<u32> {
@@ -20,6 +21,18 @@ pub fn insert_from(points: &mut Constrained, position: [i64; 2], hint: u32) -> O
     match points.insert_with_hint(Point2::new(x, y), hint, &ExactTests) {
         Ok(vertex) => Some(vertex.index()),
         Err(_) => None,
+    }
+}
+
+/// The position of the vertex that was removed there, or nothing where none is.
+pub fn remove_at(points: &mut Constrained, x: i64, y: i64) -> Option<(i64, i64)> {
+    let position = Point2::new(x, y);
+    if validate_vertex(&position).is_err() {
+        return None;
+    }
+    match points.locate_and_remove(position, &ExactTests) {
+        Ok(Some(point)) => Some((point.x, point.y)),
+        _ => None,
     }
 }
 

@@ -1,5 +1,5 @@
-//! Edits of constraints, and of vertices beside them, by indexes: nothing where an index names no element or memory was
-//! refused.
+//! Edits of constraints, and of vertices beside them, by indexes: nothing where an index names no
+//! element or memory was refused.
 ghost use Rattle.std.specs.Prelude.{◌<◌, length, IfSome};
 
 use exact_tests::ExactTests;

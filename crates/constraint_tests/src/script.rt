@@ -1,7 +1,7 @@
 //! A line of the script: the name of a call and some numbers, and what the call gives.
 ghost use Rattle.std.specs.Prelude.{◌<◌};
 
-use crate::chains::{add_edge, add_edges, insert, insert_from};
+use crate::chains::{add_edge, add_edges, insert, insert_from, remove_at};
 use crate::edits::{
     Constrained, add, can_add, counts, exists, is_constraint, print_constraints, release, remove,
     try_add,
@@ -110,15 +110,15 @@ impl Session {
         }
     }
 
-    /// The triangulation with constraints and its copy change places. Tells how many vertices the one has to which calls
-    /// go from then on.
+    /// The triangulation with constraints and its copy change places. Tells how many vertices the
+    /// one has to which calls go from then on.
     fn turn_to_copy(&mut self) -> usize {
         swap(&mut self.constrained, &mut self.copy);
         self.constrained.num_vertices()
     }
 
-    /// Takes the triangulation for the one with constraints, and leaves one without vertices. Tells whether memory was
-    /// there.
+    /// Takes the triangulation for the one with constraints, and leaves one without vertices. Tells
+    /// whether memory was there.
     fn from_delaunay(&mut self, alloc: Global) -> bool {
         let plain = replace(&mut self.plain, DelaunayTriangulation::new(alloc));
         match ConstrainedDelaunayTriangulation::from_delaunay(plain) {
@@ -202,6 +202,11 @@ fn edit(
         }
         "remove_constraint_edge" => call.tell(rt, &release(points, from, to)),
         "remove" => call.tell(rt, &remove(points, from)),
+        "locate_and_remove" => call.tell(rt, &remove_at(points, x, y)),
+        "clear" => {
+            points.clear();
+            call.tell(rt, &counts(points))
+        }
         _ => read(rt, points, call),
     }
 }
