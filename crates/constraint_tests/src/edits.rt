@@ -1,10 +1,14 @@
-//! Edits of constraints, and of vertices beside them, by indexes: nothing where an index names no element or memory was
-//! refused.
+//! Edits of constraints, and of vertices beside them, by indexes: nothing where an index names no
+//! element or memory was refused.
 ghost use Rattle.std.specs.Prelude.{◌<◌, length, IfSome};
 
 use exact_tests::ExactTests;
-use spade_delaunay::handles::{FixedUndirectedEdgeHandle, FixedVertexHandle};
+use spade_delaunay::handles::{
+    FixedDirectedEdgeHandle, FixedUndirectedEdgeHandle, FixedVertexHandle,
+};
 use spade_delaunay::{ConstrainedDelaunayTriangulation, Point2, Triangulation};
+use std::alloc::{AllocError, Global};
+use std::io;
 
 /// A triangulation of points with constraints.
 pub type Constrained = ConstrainedDelaunayTriangulation<Point2<i64>>;
@@ -48,11 +52,33 @@ pub fn add(points: &mut Constrained, from: u32, to: u32) -> Option<bool> {
     }
 }
 
-/// How many edges the path between two vertices has that became constraints.
-pub fn try_add(points: &mut Constrained, from: u32, to: u32) -> Option<usize> {
+// The vertices that edges start and end at, in their order.
+fn ends_of(
+    points: &Constrained,
+    edges: &[FixedDirectedEdgeHandle],
+    alloc: Global,
+) -> Result<Vec<[u32; 2]>, AllocError> {
+    let mut ends = Vec::new(alloc);
+    for edge in edges {
+        if (edge.index() as usize) < points.num_directed_edges() {
+            points.recall_invariant();
+            let edge = points.directed_edge(*edge);
+            ends.push([edge.from().fix().index(), edge.to().fix().index()])?;
+        }
+    }
+    Ok(ends)
+}
+
+/// From where to where the edges of the path between two vertices go that became constraints.
+pub fn try_add(
+    points: &mut Constrained,
+    from: u32,
+    to: u32,
+    alloc: Global,
+) -> Option<Vec<[u32; 2]>> {
     let (from, to) = (vertex(points, from)?, vertex(points, to)?);
     match points.try_add_constraint(from, to, &ExactTests) {
-        Ok(edges) => Some(edges.len()),
+        Ok(edges) => ends_of(points, edges.as_slice(), alloc).ok(),
         Err(_) => None,
     }
 }
@@ -79,6 +105,29 @@ fn edge(points: &Constrained, from: u32, to: u32) -> Option<FixedUndirectedEdgeH
         }
     }
     None
+}
+
+/// Whether the edge that joins two vertices is a constraint.
+pub fn is_constraint(points: &Constrained, from: u32, to: u32) -> Option<bool> {
+    let edge = edge(points, from, to)?;
+    Some(points.is_constraint_edge(edge))
+}
+
+/// Prints the ends of each constraint, the least first.
+pub fn print_constraints(rt: &impl Print, points: &Constrained) -> io::Result<()> {
+    for index in 0..points.num_undirected_edges() {
+        let Ok(index) = u16::try_from(index) else {
+            break;
+        };
+        let edge = FixedUndirectedEdgeHandle::from_index(u32::from(index));
+        points.recall_invariant();
+        if points.is_constraint_edge(edge) {
+            let directed = points.directed_edge(edge.as_directed());
+            let (start, end) = (directed.from().fix().index(), directed.to().fix().index());
+            println!(rt; "constraint {:?}", [start.min(end), start.max(end)])?;
+        }
+    }
+    Ok(())
 }
 
 /// Whether the edge that joins two vertices was a constraint, which is released.

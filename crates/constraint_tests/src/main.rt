@@ -1,7 +1,8 @@
-//! Runs a script of insertions, and of edits of constraints, and prints each line with what its call gives. Lines that start
-//! with `#` are printed as they are.
+//! Runs a script of insertions, and of edits of constraints, and prints each line with what its
+//! call gives. Lines that start with `#` are printed as they are.
 #![tactic(auto)]
 
+mod chains;
 mod edits;
 mod script;
 

@@ -1,16 +1,20 @@
-//! A line of the script: the name of a call and up to two numbers, and what the call gives.
+//! A line of the script: the name of a call and some numbers, and what the call gives.
 ghost use Rattle.std.specs.Prelude.{◌<◌};
 
-use crate::edits::{Constrained, add, can_add, counts, exists, release, remove, try_add};
+use crate::chains::{add_edge, add_edges, insert, insert_from, remove_at};
+use crate::edits::{
+    Constrained, add, can_add, counts, exists, is_constraint, print_constraints, release, remove,
+    try_add,
+};
 use exact_tests::ExactTests;
 use spade_delaunay::handles::FaceHandle;
 use spade_delaunay::{
     CdtEdge, ConstrainedDelaunayTriangulation, DelaunayTriangulation, Point2, Triangulation,
 };
-use std::alloc::Global;
+use std::alloc::{AllocError, Global};
 use std::fmt::Debug;
 use std::io;
-use std::mem::replace;
+use std::mem::{replace, swap};
 
 /// A call by its name, with the line that asks for it.
 #[derive(Drop)]
@@ -18,7 +22,7 @@ pub struct Call<'a> {
     line: &'a str,
     name: &'a str,
     /// What is not given is 0.
-    numbers: [i64; 2],
+    numbers: [i64; 3],
 }
 
 fn number(word: Option<&str>) -> i64 {
@@ -41,12 +45,35 @@ impl<'a> Call<'a> {
         if name == "#" {
             return None;
         }
-        let numbers = [number(words.next()), number(words.next())];
+        let numbers = [
+            number(words.next()),
+            number(words.next()),
+            number(words.next()),
+        ];
         Some(Call {
             line,
             name,
             numbers,
         })
+    }
+
+    fn indexes(&self) -> [u32; 3] {
+        let [first, second, third] = self.numbers;
+        [index(first), index(second), index(third)]
+    }
+
+    // All numbers of the line, two by two.
+    fn positions(&self, alloc: Global) -> Result<Vec<Point2<i64>>, AllocError> {
+        let mut positions = Vec::new(alloc);
+        let mut x = None;
+        for word in self.line.split_whitespace().skip(1) {
+            let next = number(Some(word));
+            match x.take() {
+                Some(x) => positions.push(Point2::new(x, next))?,
+                None => x = Some(next),
+            }
+        }
+        Ok(positions)
     }
 
     fn tell<T: Debug>(&self, rt: &impl Print, answer: &T) -> io::Result<()> {
@@ -55,11 +82,12 @@ impl<'a> Call<'a> {
     }
 }
 
-/// A triangulation without constraints, and one that may have some.
+/// A triangulation without constraints, and one that may have some, with its last copy.
 #[derive(Drop)]
 pub struct Session {
     plain: DelaunayTriangulation<Point2<i64>>,
     constrained: Constrained,
+    copy: Constrained,
 }
 
 impl Session {
@@ -67,11 +95,30 @@ impl Session {
         Session {
             plain: DelaunayTriangulation::new(alloc),
             constrained: ConstrainedDelaunayTriangulation::new(alloc),
+            copy: ConstrainedDelaunayTriangulation::new(alloc),
         }
     }
 
-    /// Takes the triangulation for the one with constraints, and leaves one without vertices. Tells whether memory was
-    /// there.
+    /// Tells whether memory was there.
+    fn copy(&mut self) -> bool {
+        match self.constrained.try_clone() {
+            Ok(copy) => {
+                self.copy = copy;
+                true
+            }
+            Err(_) => false,
+        }
+    }
+
+    /// The triangulation with constraints and its copy change places. Tells how many vertices the
+    /// one has to which calls go from then on.
+    fn turn_to_copy(&mut self) -> usize {
+        swap(&mut self.constrained, &mut self.copy);
+        self.constrained.num_vertices()
+    }
+
+    /// Takes the triangulation for the one with constraints, and leaves one without vertices. Tells
+    /// whether memory was there.
     fn from_delaunay(&mut self, alloc: Global) -> bool {
         let plain = replace(&mut self.plain, DelaunayTriangulation::new(alloc));
         match ConstrainedDelaunayTriangulation::from_delaunay(plain) {
@@ -115,26 +162,67 @@ fn print_faces(rt: &impl Print, points: &Constrained) -> io::Result<()> {
     Ok(())
 }
 
+// Reads what a line asks for, and prints it.
+fn read(rt: &impl Print, points: &Constrained, call: &Call<'_>) -> io::Result<()> {
+    let [from, to, _] = call.indexes();
+    match call.name {
+        "can_add_constraint" => call.tell(rt, &can_add(points, from, to)),
+        "exists_constraint" => call.tell(rt, &exists(points, from, to)),
+        "is_constraint_edge" => call.tell(rt, &is_constraint(points, from, to)),
+        "counts" => call.tell(rt, &counts(points)),
+        "constraints" => print_constraints(rt, points),
+        "faces" => print_faces(rt, points),
+        _ => call.tell(rt, &"no such call"),
+    }
+}
+
+// Makes the edit that a line asks for, and prints what it gives.
+fn edit(
+    rt: &(impl Print + AllocGlobal),
+    points: &mut Constrained,
+    call: &Call<'_>,
+) -> io::Result<()> {
+    let ([x, y, _], [from, to, hint]) = (call.numbers, call.indexes());
+    match call.name {
+        "insert_beside" => call.tell(rt, &insert(points, x, y)),
+        "insert_with_hint" => call.tell(rt, &insert_from(points, [x, y], hint)),
+        "add_constraint" => call.tell(rt, &add(points, from, to)),
+        "try_add_constraint" => call.tell(rt, &try_add(points, from, to, rt.alloc())),
+        "add_constraint_edge" => {
+            let ends = call.positions(rt.alloc())?;
+            call.tell(rt, &add_edge(points, ends.as_slice()))
+        }
+        "add_constraint_edges" => {
+            let path = call.positions(rt.alloc())?;
+            call.tell(rt, &add_edges(points, path, false))
+        }
+        "add_closed_edges" => {
+            let path = call.positions(rt.alloc())?;
+            call.tell(rt, &add_edges(points, path, true))
+        }
+        "remove_constraint_edge" => call.tell(rt, &release(points, from, to)),
+        "remove" => call.tell(rt, &remove(points, from)),
+        "locate_and_remove" => call.tell(rt, &remove_at(points, x, y)),
+        "clear" => {
+            points.clear();
+            call.tell(rt, &counts(points))
+        }
+        _ => read(rt, points, call),
+    }
+}
+
 /// Makes the call that a line asks for, and prints what it gives.
 pub fn answer(
     rt: &(impl Print + AllocGlobal),
     session: &mut Session,
     call: &Call<'_>,
 ) -> io::Result<()> {
-    let [x, y] = call.numbers;
-    let (from, to) = (index(x), index(y));
-    let points = &mut session.constrained;
+    let [x, y, _] = call.numbers;
     match call.name {
         "insert" => call.tell(rt, &session.insert(x, y)),
         "from_delaunay" => call.tell(rt, &session.from_delaunay(rt.alloc())),
-        "can_add_constraint" => call.tell(rt, &can_add(points, from, to)),
-        "add_constraint" => call.tell(rt, &add(points, from, to)),
-        "try_add_constraint" => call.tell(rt, &try_add(points, from, to)),
-        "exists_constraint" => call.tell(rt, &exists(points, from, to)),
-        "remove_constraint_edge" => call.tell(rt, &release(points, from, to)),
-        "remove" => call.tell(rt, &remove(points, from)),
-        "counts" => call.tell(rt, &counts(points)),
-        "faces" => print_faces(rt, points),
-        _ => call.tell(rt, &"no such call"),
+        "try_clone" => call.tell(rt, &session.copy()),
+        "swap" => call.tell(rt, &session.turn_to_copy()),
+        _ => edit(rt, &mut session.constrained, call),
     }
 }
