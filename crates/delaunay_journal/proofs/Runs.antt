@@ -1,6 +1,7 @@
 -- A list of edits that was replayed is a run of those that were made.
-use Rattle.std.proofs.Common.{◌≡◌, List, [], ◌∷◌, ◌++◌, length, refl, arith, sym, ap, subst, append_assoc, append-nil}
+use Rattle.std.proofs.Common.{◌≡◌, ℕ, ◌+◌, List, [], ◌∷◌, ◌++◌, length, refl, arith, sym, ap, subst, append_assoc, append-nil}
 use Rattle.std.specs.Prelude.{◌↔◌, Contains}
+use Rattle.std.proofs.lemmas.List.{length_push}
 use Rattle.std.proofs.lemmas.List.Elements.{Contains-append_left, Contains-append_right, Contains-push}
 use Rattle.plane.specs.Fraction.{Point}
 use Rattle.plane.specs.Pairs.{Joins}
@@ -21,6 +22,13 @@ module _ {A : Type 0} (left rest : List A) (first : A) (is : left ≡ first ∷ 
 
   pub comes_later : (x : A) → Contains rest x → Contains left x
   comes_later x c = subst (λ (xs : List A). Contains xs x) (sym is) (Contains-append_right (first ∷ []) rest x c)
+
+  -- with one more outcome there are as many as there were edits
+  pub counts_on : {B : Type 0} (given more : List B) (next : B) (n : ℕ) → more ≡ given ++ next ∷ [] → length given + length left ≡ n → length more + length rest ≡ n
+  counts_on given more next n grown was =
+      let taken = ap length is in
+      let longer = ap length grown in
+      omega (arith, was, taken, longer, length_push given next)
 
 module _ {V D U F : Type 0} (place : V → Point) where
   -- what an edit gave is a step of the definitions, or none
@@ -53,7 +61,7 @@ module _ {V D U F : Type 0} (place : V → Point) where
   pub one_more : (es left rest : List (Edit V)) (os : List (Outcome V)) (old now next : State V D (CdtEdge U) F) (e : Edit V) (o : Outcome V) → IsReplayed es left os old now → left ≡ e ∷ rest → Gives place e o now next → IsReplayed es rest (os ++ o ∷ []) old next
   one_more es left rest os old now next e o so is done = record {
     goes = λ more new r. subst (λ (xs : List (Outcome V)). Replays place es xs old new) (sym (append_assoc os (o ∷ []) more))
-      (so.goes (o ∷ more) new (subst (λ (xs : List (Edit V)). Replays place xs (o ∷ more) now new) (sym is) (next, done, r)));
+        (so.goes (o ∷ more) new (subst (λ (xs : List (Edit V)). Replays place xs (o ∷ more) now new) (sym is) (next, done, r)));
   }
 
   pub ends : (es left : List (Edit V)) (os : List (Outcome V)) (old now : State V D (CdtEdge U) F) → IsReplayed es left os old now → length left ≡ 0 → Replays place es os old now

@@ -28,11 +28,7 @@ fn insert<
     F: Default + Drop,
     L: HintGenerator<V::Scalar>,
     P: PlaneTests<V::Scalar>,
->(
-    points: &mut ConstrainedDelaunayTriangulation<V, DE, UE, F, L>,
-    value: V,
-    tests: &P,
-) -> Outcome<V>
+>(points: &mut ConstrainedDelaunayTriangulation<V, DE, UE, F, L>, value: V, tests: &P) -> Outcome<V>
     requires sites { AreSites V.place (P.sites tests.now) points.old.vertices }
     requires new_site { InRange (V.place value) → P.sites tests.now (V.place value) }
     ensures gives { Gives V.place (Insert value) result points.old points.new }

@@ -1,26 +1,21 @@
-use Rattle.std.proofs.Common.{length, ap, arith}
-use Rattle.std.proofs.lemmas.List.{length_push}
+use Rattle.std.proofs.Common.{arith}
 use Rattle.delaunay_journal.specs.declared.edit.Edit.TheVariants.{Insert}
-use Rattle.delaunay_journal.proofs.Runs.{comes_later, comes_now, ends, one_more, runs}
+use Rattle.delaunay_journal.proofs.Runs.{comes_later, comes_now, counts_on, ends, one_more, runs}
 use Rattle.delaunay_journal.proofs.replaying.replay.Goals as goal
 
 pub make-requires-clause-new_site : goal.make-requires-clause-new_site
 make-requires-clause-new_site g c = λ v is. c.loop-edit.invariant.5 v (comes_now _ _ c.in-Some.edit c.in-Some.ensures.steps.0 (Insert v) is)
 
 pub loop-edit-preserved : goal.loop-edit-preserved
-loop-edit-preserved g c =
-    let was = c.loop-edit.invariant.3 in
-    let taken = ap length c.in-Some.ensures.steps.0 in
-    let given = ap length c.push_reserved.ensures.items in
-    let longer = length_push c.loop-edit.outcomes.items c.make.result in (
-      tt,
-      tt,
-      rw c.push_reserved.ensures.items (one_more g.V.HasPosition.place _ _ _ _ _ _ _ c.in-Some.edit c.make.result c.loop-edit.invariant.2 c.in-Some.ensures.steps.0 c.make.ensures.gives),
-      omega (arith, was, taken, given, longer),
-      rw c.push_reserved.ensures.capacity c.loop-edit.invariant.4,
-      (λ v later. c.loop-edit.invariant.5 v (comes_later _ _ c.in-Some.edit c.in-Some.ensures.steps.0 (Insert v) later)),
-      c.make.ensures.sites,
-    )
+loop-edit-preserved g c = (
+  tt,
+  tt,
+  rw c.push_reserved.ensures.items (one_more g.V.HasPosition.place _ _ _ _ _ _ _ c.in-Some.edit c.make.result c.loop-edit.invariant.2 c.in-Some.ensures.steps.0 c.make.ensures.gives),
+  counts_on _ _ c.in-Some.edit c.in-Some.ensures.steps.0 _ _ c.make.result _ c.push_reserved.ensures.items c.loop-edit.invariant.3,
+  rw c.push_reserved.ensures.capacity c.loop-edit.invariant.4,
+  (λ v later. c.loop-edit.invariant.5 v (comes_later _ _ c.in-Some.edit c.in-Some.ensures.steps.0 (Insert v) later)),
+  c.make.ensures.sites,
+)
 
 pub returns-clause-answers : goal.returns-clause-answers
 returns-clause-answers g c = ends g.V.HasPosition.place _ _ _ _ _ c.loop-edit.invariant.2 (omega (arith, c.in-None.ensures.steps, c.loop-edit.edit-iterator.rest.ok))

@@ -27,6 +27,6 @@ returns-in-Ok-clause-gives g c =
 pub returns-in-Err-clause-gives : goal.returns-in-Err-clause-gives
 returns-in-Err-clause-gives g c = (
   joined_by_edge g.V.HasPosition.place c.args.points.now c.args.from c.args.to c.in-Some.edge.index c.fix-edge.result (c.fix-edge.ensures.value ∙ c.as_undirected.ensures.index) c.in-Some.ensures.1 c.in-Some.ensures.2
-  (c.is_constraint_edge.ensures.joined.0 c.if-not-is_constraint_edge.false),
+      (c.is_constraint_edge.ensures.joined.0 c.if-not-is_constraint_edge.false),
   c.in-Err.ensures.releases.err,
 )
