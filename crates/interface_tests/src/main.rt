@@ -9,7 +9,7 @@ mod searches;
 mod told;
 
 use generators::{Always1000, EachInTurn};
-use spade_delaunay::LastUsedVertexHintGenerator;
+use spade_delaunay::{HierarchyHintGenerator, LastUsedVertexHintGenerator};
 
 fn main(rt: HostRuntime) -> anyhow::Result<()> {
     for line in rt.lines(rt.alloc()) {
@@ -19,6 +19,7 @@ fn main(rt: HostRuntime) -> anyhow::Result<()> {
             "searches, last used" => searches::run::<LastUsedVertexHintGenerator>(&rt)?,
             "searches, each in turn" => searches::run::<EachInTurn>(&rt)?,
             "searches, always 1000" => searches::run::<Always1000>(&rt)?,
+            "searches, hierarchy" => searches::run::<HierarchyHintGenerator<i64>>(&rt)?,
             "told" => told::run(&rt)?,
             "data" => data::run(&rt)?,
             "hull" => hull::run(&rt)?,
