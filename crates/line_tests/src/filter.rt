@@ -3,7 +3,7 @@
 use crate::items::{Item, ends_of, item_of};
 use crate::points::{Points, Walk, walk};
 use crate::segment::{Progress, Segment};
-use spade_delaunay::Point2;
+use spade_delaunay::{Point2, Triangulation};
 use spade_delaunay::handles::{FixedDirectedEdgeHandle, FixedVertexHandle};
 
 // The position of a vertex.

@@ -6,7 +6,8 @@ ghost use Rattle.delaunay_core.specs.Place.{place_of};
 use exact_tests::ExactTests;
 use spade_delaunay::handles::FixedVertexHandle;
 use spade_delaunay::{
-    DelaunayTriangulation, InsertionError, LineIntersectionIterator, Point2, validate_vertex,
+    DelaunayTriangulation, InsertionError, LineIntersectionIterator, Point2, Triangulation,
+    validate_vertex,
 };
 
 /// Vertices that are points and carry no further data.

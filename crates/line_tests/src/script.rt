@@ -3,19 +3,16 @@
 use crate::filter::agrees;
 use crate::items::item_of;
 use crate::points::{Points, Walk, insert, walk, walk_between};
-use spade_delaunay::{DelaunayTriangulation, Point2};
-use std::alloc::Global;
+use spade_delaunay::{DelaunayTriangulation, Point2, Triangulation};
+use std::alloc::{AllocError, Global};
 use std::fmt::Debug;
 use std::io;
-use triangulate_run::sheet::{Sheet, letter_named};
 
 /// A call by its name, with the line that asks for it.
 #[derive(Drop)]
 pub struct Call<'a> {
     line: &'a str,
     name: &'a str,
-    /// The word after the name.
-    word: &'a str,
     /// What is not given is 0.
     numbers: [i64; 4],
 }
@@ -40,9 +37,8 @@ impl<'a> Call<'a> {
         if name == "#" {
             return None;
         }
-        let first = words.next();
         let numbers = [
-            number(first),
+            number(words.next()),
             number(words.next()),
             number(words.next()),
             number(words.next()),
@@ -50,9 +46,22 @@ impl<'a> Call<'a> {
         Some(Call {
             line,
             name,
-            word: first.unwrap_or(""),
             numbers,
         })
+    }
+
+    // All numbers of the line, two by two.
+    fn positions(&self, alloc: Global) -> Result<Vec<Point2<i64>>, AllocError> {
+        let mut positions = Vec::new(alloc);
+        let mut x = None;
+        for word in self.line.split_whitespace().skip(1) {
+            let next = number(Some(word));
+            match x.take() {
+                Some(x) => positions.push(Point2::new(x, next))?,
+                None => x = Some(next),
+            }
+        }
+        Ok(positions)
     }
 
     fn tell<T: Debug>(&self, rt: &impl Print, answer: &T) -> io::Result<()> {
@@ -78,23 +87,27 @@ impl<'a> Call<'a> {
 #[derive(Drop)]
 pub struct Session {
     points: Points,
+    /// The points between which all walks are compared.
+    sheet: Vec<Point2<i64>>,
 }
 
 impl Session {
     pub fn new(alloc: Global) -> Self {
         Session {
             points: DelaunayTriangulation::new(alloc),
+            sheet: Vec::new(alloc),
         }
     }
 }
 
-// How many pairs of a sheet's points there are, and between how many the walk gives what the filter does.
-fn pairs_that_agree(points: &Points, sheet: Sheet) -> (u64, u64) {
+// How many pairs of a sheet's points there are, and between how many the walk gives what the filter
+// does.
+fn pairs_that_agree(points: &Points, sheet: &[Point2<i64>]) -> (u64, u64) {
     let (mut pairs, mut agreeing) = (0u64, 0u64);
-    for from in sheet.points() {
-        for to in sheet.points() {
+    for from in sheet {
+        for to in sheet {
             pairs = pairs.wrapping_add(1);
-            if agrees(points, from.position, to.position) {
+            if agrees(points, *from, *to) {
                 agreeing = agreeing.wrapping_add(1);
             }
         }
@@ -129,10 +142,11 @@ pub fn answer(
         "insert_row" => call.tell(rt, &insert_row(points, x, y)),
         "line" => call.tell_items(rt, walk(points, Point2::new(x, y), Point2::new(u, v))),
         "line_of_handles" => call.tell_items(rt, walk_between(points, index(x), index(y))),
-        "agree" => call.tell(
-            rt,
-            &letter_named(call.word).map(|sheet| pairs_that_agree(points, sheet)),
-        ),
+        "sheet" => {
+            session.sheet = call.positions(rt.alloc())?;
+            call.tell(rt, &session.sheet.len())
+        }
+        "agree" => call.tell(rt, &pairs_that_agree(points, session.sheet.as_slice())),
         _ => call.tell(rt, &"no such call"),
     }
 }

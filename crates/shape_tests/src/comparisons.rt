@@ -10,12 +10,12 @@ use crate::shapes::{Coordinates, Found, Shape, ends_of, found, indexes_of, point
 use delaunay_shapes::{edges_by_filter, edges_in_shape, vertices_by_filter};
 use exact_tests::ExactTests;
 use spade_delaunay::{
-    CircleMetric, Dcel, DistanceMetric, FloatTriangulation, Point2, RectangleMetric,
+    CircleMetric, Dcel, DistanceMetric, FloatTriangulation, Point2, RectangleMetric, Triangulation,
 };
 use std::alloc::{AllocError, Global};
 
-/// How many shapes there were, in how many of them something else was given than by the look at each element, and how many
-/// edges and vertices were given.
+/// How many shapes there were, in how many of them something else was given than by the look at each
+/// element, and how many edges and vertices were given.
 #[derive(Clone, Copy, Debug, Default)]
 pub struct Compared {
     shapes: u32,
@@ -35,7 +35,8 @@ impl Compared {
     }
 }
 
-/// Which shapes are asked for: 81 of either kind, of nine points, those with coordinates -1, 0 and 1.
+/// Which shapes are asked for: 81 of either kind, of nine points, those with coordinates -1, 0 and
+/// 1.
 #[derive(Clone, Copy)]
 pub enum Kind {
     /// Those with two of the points as corners, in either order.
@@ -80,7 +81,8 @@ fn mesh_of<T: FloatTriangulation<Vertex = Point2<i64>>>(
     ensures kept { IsTriangulated (place_of (λ z. z)) (state_of result.now) }
     ensures in_range { All (λ v. InRange (place_of (λ z. z) v)) result.now.vertices }
 {
-    triangulation.mesh()
+    triangulation.recall_invariant();
+    triangulation.s()
 }
 
 fn expected_in_rectangle<T: FloatTriangulation<Vertex = Point2<i64>>>(
@@ -157,7 +159,8 @@ fn asked_in_rectangle<T: FloatTriangulation<Vertex = Point2<i64>>>(
     Ok((ends_of(edges, alloc)?, metric.asked()))
 }
 
-/// The edges in a rectangle, and whether the search for them asks the shape of fewer edges than there are.
+/// The edges in a rectangle, and whether the search for them asks the shape of fewer edges than
+/// there are.
 pub fn asks_fewer<T: FloatTriangulation<Vertex = Point2<i64>>>(
     triangulation: &T,
     lower: Coordinates,
@@ -166,6 +169,6 @@ pub fn asks_fewer<T: FloatTriangulation<Vertex = Point2<i64>>>(
 ) -> Option<(Vec<(u32, u32)>, bool)> {
     let asked = asked_in_rectangle(triangulation, point(lower)?, point(upper)?, alloc);
     let (edges, times) = asked.ok()?;
-    let count = triangulation.mesh().num_undirected_edges();
+    let count = triangulation.num_undirected_edges();
     Some((edges, (times as usize) < count))
 }

@@ -46,8 +46,10 @@ impl<S: SpadeNum, M: DistanceMetric<S>> DistanceMetric<S> for Counting<M> {
         requires own_covered { All (P.covered tests.now) (M.own_points self.now.metric) }
         requires start_covered { P.covered tests.now (place_of S.whole points.0) }
         requires end_covered { P.covered tests.now (place_of S.whole points.1) }
-        ensures answer { result ≡ M.meets self.now.metric (place_of S.whole points.0) (place_of S.whole points.1) }
-        ensures inside { IsTrue result ↔ HasPointIn (M.shape self.now.metric) (place_of S.whole points.0) (place_of S.whole points.1) }
+        ensures answer { result ≡ M.meets self.now.metric (place_of S.whole points.0)
+            (place_of S.whole points.1) }
+        ensures inside { IsTrue result ↔ HasPointIn (M.shape self.now.metric)
+            (place_of S.whole points.0) (place_of S.whole points.1) }
     {
         self.asked.set(self.asked.get().wrapping_add(1));
         self.metric.is_edge_inside(points, tests)
@@ -56,7 +58,8 @@ impl<S: SpadeNum, M: DistanceMetric<S>> DistanceMetric<S> for Counting<M> {
     fn distance_to_point(&self, point: Point2<S>) -> i64
         requires { InRange (place_of S.whole point) }
         ensures value { result ≡ M.distance self.now.metric (place_of S.whole point) }
-        ensures inside { (result ≤ℤ pos 0) ↔ M.shape self.now.metric (fraction (place_of S.whole point)) }
+        ensures inside { (result ≤ℤ pos 0) ↔ M.shape self.now.metric
+            (fraction (place_of S.whole point)) }
     {
         self.metric.distance_to_point(point)
     }

@@ -1,5 +1,6 @@
-//! Runs a script of shape queries of triangulations, and prints each line with what its call gives: `None` where a point is
-//! out of range, a squared radius is negative, or memory was refused. Lines that start with `#` are printed as they are.
+//! Runs a script of shape queries of triangulations, and prints each line with what its call gives:
+//! `None` where a point is out of range, a squared radius is negative, or memory was refused. Lines
+//! that start with `#` are printed as they are.
 #![tactic(auto)]
 
 mod comparisons;

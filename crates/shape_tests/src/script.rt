@@ -3,7 +3,7 @@
 use crate::comparisons::{Kind, asks_fewer, compare};
 use crate::session::Session;
 use crate::shapes::{Shape, found};
-use spade_delaunay::{FloatTriangulation, Point2};
+use spade_delaunay::{FloatTriangulation, Point2, Triangulation};
 use std::fmt::Debug;
 use std::io;
 

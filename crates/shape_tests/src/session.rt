@@ -4,7 +4,7 @@ ghost use Rattle.std.specs.Prelude.{◌<◌, length, IfSome};
 use exact_tests::ExactTests;
 use spade_delaunay::handles::{FixedUndirectedEdgeHandle, FixedVertexHandle};
 use spade_delaunay::{
-    ConstrainedDelaunayTriangulation, DelaunayTriangulation, InsertionError, Point2,
+    ConstrainedDelaunayTriangulation, DelaunayTriangulation, InsertionError, Point2, Triangulation,
 };
 use std::alloc::Global;
 use std::mem::replace;
@@ -71,8 +71,8 @@ impl Session {
         Some((position.x, position.y))
     }
 
-    /// Takes the plain triangulation for the one with constraints, and leaves one without vertices. Tells whether memory
-    /// was there.
+    /// Takes the plain triangulation for the one with constraints, and leaves one without vertices.
+    /// Tells whether memory was there.
     pub fn add_constraints(&mut self, alloc: Global) -> bool {
         let plain = replace(&mut self.plain, Plain::new(alloc));
         match Constrained::from_delaunay(plain) {
