@@ -3,8 +3,8 @@
 use crate::items::{Item, ends_of, item_of};
 use crate::points::{Points, Walk, walk};
 use crate::segment::{Progress, Segment};
-use spade_delaunay::{Point2, Triangulation};
 use spade_delaunay::handles::{FixedDirectedEdgeHandle, FixedVertexHandle};
+use spade_delaunay::{Point2, Triangulation};
 
 // The position of a vertex.
 fn position_of(points: &Points, index: u32) -> Option<Point2<i64>> {

@@ -82,8 +82,8 @@ impl Segment {
         self.reach(point).is_some() && point != self.from && point != self.to
     }
 
-    /// Where the segment meets an edge, if that is one point strictly within the edge, and the segment's end is on the left
-    /// of the edge, or on it with the start on the right.
+    /// Where the segment meets an edge, if that is one point strictly within the edge, and the
+    /// segment's end is on the left of the edge, or on it with the start on the right.
     pub fn crossing(self, edge: Segment) -> Option<Progress> {
         let (from, to) = (self.cross(edge.from), self.cross(edge.to));
         if !((from > 0 && to < 0) || (from < 0 && to > 0)) {
@@ -99,7 +99,8 @@ impl Segment {
         })
     }
 
-    /// Where the segment begins to overlap an edge that goes its way, if they have more than one point in common.
+    /// Where the segment begins to overlap an edge that goes its way, if they have more than one
+    /// point in common.
     pub fn overlap(self, edge: Segment) -> Option<Progress> {
         if self.cross(edge.from) != 0 || self.cross(edge.to) != 0 {
             return None;
