@@ -2,6 +2,7 @@
 //! with `#` are printed as they are.
 #![tactic(auto)]
 
+mod chains;
 mod edits;
 mod script;
 
