@@ -1,6 +1,6 @@
 //! Runs a script of segments over triangulations, and prints each line with what the segment meets.
-//! `agree` compares the walks between all points of the last `sheet` with a filter over all vertices
-//! and edges. Lines that start with `#` are printed as they are.
+//! `agree` compares the walks between all points of the last `sheet` with a filter over all
+//! vertices and edges. Lines that start with `#` are printed as they are.
 #![tactic(auto)]
 
 mod filter;
