@@ -14,8 +14,8 @@ use spade_delaunay::{
 };
 use std::alloc::{AllocError, Global};
 
-/// How many shapes there were, in how many of them something else was given than by the look at each
-/// element, and how many edges and vertices were given.
+/// How many shapes there were, in how many of them something else was given than by the look at
+/// each element, and how many edges and vertices were given.
 #[derive(Clone, Copy, Debug, Default)]
 pub struct Compared {
     shapes: u32,

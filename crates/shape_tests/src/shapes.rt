@@ -91,8 +91,8 @@ fn found_in_circle<T: FloatTriangulation<Vertex = Point2<i64>>>(
     Ok((ends_of(edges, alloc)?, indexes_of(vertices, alloc)?))
 }
 
-/// What a triangulation gives in a shape: nothing where a point is out of range, a squared radius is
-/// negative, or memory was refused.
+/// What a triangulation gives in a shape: nothing where a point is out of range, a squared radius
+/// is negative, or memory was refused.
 pub fn found<T: FloatTriangulation<Vertex = Point2<i64>>>(
     triangulation: &T,
     shape: Shape,
