@@ -2,7 +2,6 @@
 //! with `#` are printed as they are.
 #![tactic(auto)]
 
-mod chains;
 mod edits;
 mod script;
 

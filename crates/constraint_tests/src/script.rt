@@ -1,14 +1,13 @@
-//! A line of the script: the name of a call and some numbers, and what the call gives.
+//! A line of the script: the name of a call and up to two numbers, and what the call gives.
 ghost use Rattle.std.specs.Prelude.{◌<◌};
 
-use crate::chains::{add_edge, add_edges, insert, insert_from};
 use crate::edits::{Constrained, add, can_add, counts, exists, release, remove, try_add};
 use exact_tests::ExactTests;
 use spade_delaunay::handles::FaceHandle;
 use spade_delaunay::{
     CdtEdge, ConstrainedDelaunayTriangulation, DelaunayTriangulation, Point2, Triangulation,
 };
-use std::alloc::{AllocError, Global};
+use std::alloc::Global;
 use std::fmt::Debug;
 use std::io;
 use std::mem::replace;
@@ -19,7 +18,7 @@ pub struct Call<'a> {
     line: &'a str,
     name: &'a str,
     /// What is not given is 0.
-    numbers: [i64; 3],
+    numbers: [i64; 2],
 }
 
 fn number(word: Option<&str>) -> i64 {
@@ -42,30 +41,12 @@ impl<'a> Call<'a> {
         if name == "#" {
             return None;
         }
-        let numbers = [
-            number(words.next()),
-            number(words.next()),
-            number(words.next()),
-        ];
+        let numbers = [number(words.next()), number(words.next())];
         Some(Call {
             line,
             name,
             numbers,
         })
-    }
-
-    // All numbers of the line, two by two.
-    fn positions(&self, alloc: Global) -> Result<Vec<Point2<i64>>, AllocError> {
-        let mut positions = Vec::new(alloc);
-        let mut x = None;
-        for word in self.line.split_whitespace().skip(1) {
-            let next = number(Some(word));
-            match x.take() {
-                Some(x) => positions.push(Point2::new(x, next))?,
-                None => x = Some(next),
-            }
-        }
-        Ok(positions)
     }
 
     fn tell<T: Debug>(&self, rt: &impl Print, answer: &T) -> io::Result<()> {
@@ -111,9 +92,7 @@ impl Session {
 }
 
 // The corners of an inner face by their indexes, the least first.
-fn corners_of(
-    face: FaceHandle<'_, Point2<i64>, (), CdtEdge<()>, ()>,
-) -> [u32; 3]
+fn corners_of(face: FaceHandle<'_, Point2<i64>, (), CdtEdge<()>, ()>) -> [u32; 3]
     requires { 0 < face.index }
 {
     let [a, b, c] = face.vertices();
@@ -142,26 +121,12 @@ pub fn answer(
     session: &mut Session,
     call: &Call<'_>,
 ) -> io::Result<()> {
-    let [x, y, hint] = call.numbers;
+    let [x, y] = call.numbers;
     let (from, to) = (index(x), index(y));
     let points = &mut session.constrained;
     match call.name {
         "insert" => call.tell(rt, &session.insert(x, y)),
         "from_delaunay" => call.tell(rt, &session.from_delaunay(rt.alloc())),
-        "insert_beside" => call.tell(rt, &insert(points, x, y)),
-        "insert_with_hint" => call.tell(rt, &insert_from(points, [x, y], index(hint))),
-        "add_constraint_edge" => {
-            let ends = call.positions(rt.alloc())?;
-            call.tell(rt, &add_edge(points, ends.as_slice()))
-        }
-        "add_constraint_edges" => {
-            let path = call.positions(rt.alloc())?;
-            call.tell(rt, &add_edges(points, path, false))
-        }
-        "add_closed_edges" => {
-            let path = call.positions(rt.alloc())?;
-            call.tell(rt, &add_edges(points, path, true))
-        }
         "can_add_constraint" => call.tell(rt, &can_add(points, from, to)),
         "add_constraint" => call.tell(rt, &add(points, from, to)),
         "try_add_constraint" => call.tell(rt, &try_add(points, from, to)),
