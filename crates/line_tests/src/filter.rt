@@ -1,78 +1,37 @@
 //! What a segment meets, by a look at all vertices and edges, against a walk.
 
-use crate::items::{Item, ends_of, item_of};
-use crate::points::{Points, Walk, walk};
+use crate::drawing::Drawing;
+use crate::items::Item;
 use crate::segment::{Progress, Segment};
-use spade_delaunay::handles::{FixedDirectedEdgeHandle, FixedVertexHandle};
-use spade_delaunay::{Point2, Triangulation};
-
-// The position of a vertex.
-fn position_of(points: &Points, index: u32) -> Option<Point2<i64>> {
-    if (index as usize) < points.num_vertices() {
-        Some(*points.vertex(FixedVertexHandle::from_index(index)).data())
-    } else {
-        None
-    }
-}
-
-fn edge_of(points: &Points, from: u32, to: u32) -> Option<Segment> {
-    Some(Segment {
-        from: position_of(points, from)?,
-        to: position_of(points, to)?,
-    })
-}
+use spade_delaunay::Point2;
 
 // Where a segment begins to meet an item that it meets.
-fn beginning(points: &Points, segment: Segment, item: Item) -> Option<Progress> {
+fn beginning(drawing: &Drawing, segment: Segment, item: Item) -> Option<Progress> {
     match item {
-        Item::Vertex(v) => segment.reach(position_of(points, v)?),
-        Item::Edge(from, to) => segment.crossing(edge_of(points, from, to)?),
-        Item::Overlap(from, to) => segment.overlap(edge_of(points, from, to)?),
+        Item::Vertex(v) => segment.reach(drawing.position(v)?),
+        Item::Edge(from, to) => segment.crossing(drawing.segment(from, to)?),
+        Item::Overlap(from, to) => segment.overlap(drawing.segment(from, to)?),
     }
 }
 
-// How many vertices are at a point, and how many directed edges carry it strictly within.
-fn count_at(points: &Points, point: Point2<i64>) -> (u64, u64) {
-    let (mut vertices, mut edges) = (0u64, 0u64);
-    for vertex in points.vertices() {
-        if *vertex.data() == point {
-            vertices = vertices.wrapping_add(1);
-        }
-    }
-    for index in 0..points.num_directed_edges() {
-        let (from, to) = ends_at(points, index);
-        if let Some(edge) = edge_of(points, from, to)
-            && edge.carries(point)
-        {
-            edges = edges.wrapping_add(1);
-        }
-    }
-    (vertices, edges)
-}
-
-// The ends of a directed edge.
-fn ends_at(points: &Points, index: usize) -> (u32, u32) {
-    match u32::try_from(index) {
-        Ok(edge) if index < points.num_directed_edges() => {
-            ends_of(&points.directed_edge(FixedDirectedEdgeHandle::from_index(edge)))
-        }
-        _ => (u32::MAX, u32::MAX),
+// Whether a segment meets an edge that it does not only touch at one of the edge's ends.
+fn meets_edge(drawing: &Drawing, segment: Segment, (from, to): (u32, u32)) -> bool {
+    match drawing.segment(from, to) {
+        Some(edge) => segment.crossing(edge).is_some() || segment.overlap(edge).is_some(),
+        None => false,
     }
 }
 
 // How many items a segment meets whose ends differ.
-fn count_met(points: &Points, segment: Segment) -> u64 {
+fn count_met(drawing: &Drawing, segment: Segment) -> u64 {
     let mut count = 0u64;
-    for vertex in points.vertices() {
-        if segment.reach(*vertex.data()).is_some() {
+    for vertex in &drawing.vertices {
+        if segment.reach(*vertex).is_some() {
             count = count.wrapping_add(1);
         }
     }
-    for index in 0..points.num_directed_edges() {
-        let (from, to) = ends_at(points, index);
-        if let Some(edge) = edge_of(points, from, to)
-            && (segment.crossing(edge).is_some() || segment.overlap(edge).is_some())
-        {
+    for ends in &drawing.edges {
+        if meets_edge(drawing, segment, *ends) {
             count = count.wrapping_add(1);
         }
     }
@@ -90,51 +49,65 @@ fn may_follow(last: Option<(Item, Progress)>, item: Item, next: Progress) -> boo
     }
 }
 
-// Whether a walk gives just what a segment whose ends differ meets, in order.
-fn is_in_order(points: &Points, segment: Segment, line: Walk<'_>) -> bool {
+/// Whether a segment meets these items one after another.
+pub fn is_in_order(drawing: &Drawing, segment: Segment, items: &[Item]) -> bool {
     let mut last = None;
-    let mut count = 0u64;
-    for found in line {
-        let item = item_of(&found);
-        match beginning(points, segment, item) {
-            Some(next) if may_follow(last, item, next) => last = Some((item, next)),
+    for item in items {
+        match beginning(drawing, segment, *item) {
+            Some(next) if may_follow(last, *item, next) => last = Some((*item, next)),
             _ => return false,
         }
-        count = count.wrapping_add(1);
     }
-    count == count_met(points, segment)
+    true
 }
 
-// Whether a walk gives just what is at a point: its vertex, or else an edge that carries it.
-fn is_at_point(points: &Points, point: Point2<i64>, line: Walk<'_>) -> bool {
-    let (vertices, edges) = count_at(points, point);
-    let mut count = 0u64;
-    for found in line {
-        let is_there = match item_of(&found) {
-            Item::Vertex(v) => position_of(points, v) == Some(point),
-            Item::Overlap(from, to) => match edge_of(points, from, to) {
-                Some(edge) => vertices == 0 && edge.carries(point),
-                None => false,
-            },
-            Item::Edge(_, _) => false,
-        };
-        if !is_there {
+// Whether an edge carries a point strictly within.
+fn is_within(drawing: &Drawing, point: Point2<i64>, (from, to): (u32, u32)) -> bool {
+    match drawing.segment(from, to) {
+        Some(edge) => edge.carries(point),
+        None => false,
+    }
+}
+
+// Whether an item is the vertex at a point, or an edge that carries it.
+fn is_there(drawing: &Drawing, point: Point2<i64>, item: Item) -> bool {
+    match item {
+        Item::Vertex(v) => drawing.position(v) == Some(point),
+        Item::Overlap(from, to) => is_within(drawing, point, (from, to)),
+        Item::Edge(_, _) => false,
+    }
+}
+
+// How many of a triangulation's vertices and undirected edges are at a point.
+fn count_at(drawing: &Drawing, point: Point2<i64>) -> u64 {
+    let (mut vertices, mut edges) = (0u64, 0u64);
+    for vertex in &drawing.vertices {
+        if *vertex == point {
+            vertices = vertices.wrapping_add(1);
+        }
+    }
+    for ends in &drawing.edges {
+        if is_within(drawing, point, *ends) {
+            edges = edges.wrapping_add(1);
+        }
+    }
+    vertices.wrapping_add(edges / 2)
+}
+
+// Whether these items are just what is at a point: its vertex, or else an edge that carries it.
+fn is_at_point(drawing: &Drawing, point: Point2<i64>, items: &[Item]) -> bool {
+    for item in items {
+        if !is_there(drawing, point, *item) {
             return false;
         }
-        count = count.wrapping_add(1);
     }
-    count == if vertices == 0 { edges / 2 } else { vertices }
+    items.len() as u64 == count_at(drawing, point)
 }
 
-/// Whether the walk between two points gives just what the filter does.
-pub fn agrees(points: &Points, from: Point2<i64>, to: Point2<i64>) -> bool {
-    let Some(line) = walk(points, from, to) else {
-        return false;
-    };
-    let segment = Segment { from, to };
+/// Whether these items are just what a segment meets, in order.
+pub fn is_met(drawing: &Drawing, segment: Segment, items: &[Item]) -> bool {
     if segment.is_point() {
-        is_at_point(points, from, line)
-    } else {
-        is_in_order(points, segment, line)
+        return is_at_point(drawing, segment.from, items);
     }
+    is_in_order(drawing, segment, items) && items.len() as u64 == count_met(drawing, segment)
 }

@@ -1,15 +1,22 @@
 //! Runs a script of segments over triangulations, and prints each line with what the segment meets.
 //! `agree` compares the walks between all points of the last `sheet` with a filter over all
-//! vertices and edges. Lines that start with `#` are printed as they are.
+//! vertices and edges, and `conflicts_agree` the constraints that they cross. Lines that start with
+//! `#` are printed as they are.
 #![tactic(auto)]
 
+mod conflicts;
+mod drawing;
+mod elements;
 mod filter;
 mod items;
 mod points;
 mod script;
 mod segment;
+mod session;
+mod sheets;
 
-use script::{Call, Session, answer};
+use script::Call;
+use session::{Session, answer};
 use std::io;
 
 fn main(rt: HostRuntime) -> io::Result<()> {

@@ -1,43 +1,82 @@
-//! A triangulation with exact tests.
+//! Triangulations of points with exact tests, and what segments meet in them.
 ghost use Rattle.std.specs.Prelude.{IfSome, ◌<◌, length};
 ghost use Rattle.plane.specs.Tests.{InRange};
 ghost use Rattle.delaunay_core.specs.Place.{place_of};
 
+use crate::items::{Item, item_of};
 use exact_tests::ExactTests;
 use spade_delaunay::handles::FixedVertexHandle;
 use spade_delaunay::{
-    DelaunayTriangulation, InsertionError, LineIntersectionIterator, Point2, Triangulation,
-    validate_vertex,
+    ConstrainedDelaunayTriangulation, DelaunayTriangulation, EdgeData, LastUsedVertexHintGenerator,
+    LineIntersectionIterator, Point2, Triangulation, TriangulationCore, validate_vertex,
 };
+use std::alloc::{AllocError, Global};
 
-/// Vertices that are points and carry no further data.
-pub type Points = DelaunayTriangulation<Point2<i64>>;
+/// Vertices that are points and carry no further data, with or without constraints.
+pub type Points<UE, M> = TriangulationCore<Point2<i64>, (), UE, (), LastUsedVertexHintGenerator, M>;
 
-/// The walk along a segment.
-pub type Walk<'a> = LineIntersectionIterator<'a, Point2<i64>, (), (), (), ExactTests>;
+/// Those without constraints.
+pub type Plain = DelaunayTriangulation<Point2<i64>>;
 
-/// What the segment between two points meets, unless one of them is out of range.
-pub fn walk(points: &Points, from: Point2<i64>, to: Point2<i64>) -> Option<Walk<'_>> {
-    if validate_vertex(&from).is_err() || validate_vertex(&to).is_err() {
+/// Those with constraints.
+pub type Constrained = ConstrainedDelaunayTriangulation<Point2<i64>>;
+
+/// A point in range.
+pub fn point(x: i64, y: i64) -> Option<Point2<i64>>
+    ensures { IfSome result (λ p. InRange (place_of (λ z. z) p)) }
+{
+    let point = Point2::new(x, y);
+    if validate_vertex(&point).is_err() {
         return None;
     }
-    Some(LineIntersectionIterator::new(points, from, to, &ExactTests))
+    Some(point)
 }
 
-/// The same between two vertices, if they are there.
-pub fn walk_between(points: &Points, from: u32, to: u32) -> Option<Walk<'_>> {
-    let count = points.num_vertices();
-    if from as usize >= count || to as usize >= count {
-        return None;
+/// A vertex by its index.
+pub fn vertex<T: Triangulation<Vertex = Point2<i64>>>(
+    points: &T,
+    index: i64,
+) -> Option<FixedVertexHandle>
+    ensures { IfSome result (λ v. v < length (T.state points.now).vertices) }
+{
+    let index = u32::try_from(index).ok()?;
+    if (index as usize) < points.num_vertices() {
+        Some(FixedVertexHandle::from_index(index))
+    } else {
+        None
     }
-    let (from, to) = (
-        FixedVertexHandle::from_index(from),
-        FixedVertexHandle::from_index(to),
-    );
-    Some(LineIntersectionIterator::new_from_handles(points, from, to, &ExactTests))
 }
 
-/// Inserts a point, and gives its index.
-pub fn insert(points: &mut Points, point: Point2<i64>) -> Result<u32, InsertionError> {
-    Ok(points.insert(point, &ExactTests)?.index())
+/// What the segment between two points in range meets.
+pub fn walk<UE, M: EdgeData<UE>>(
+    points: &Points<UE, M>,
+    from: Point2<i64>,
+    to: Point2<i64>,
+    alloc: Global,
+) -> Result<Vec<Item>, AllocError>
+    requires from { InRange (place_of (λ z. z) from) }
+    requires to { InRange (place_of (λ z. z) to) }
+{
+    let mut items = Vec::new(alloc);
+    for item in LineIntersectionIterator::new(points, from, to, &ExactTests) {
+        items.push(item_of(&item))?;
+    }
+    Ok(items)
+}
+
+/// The same between two vertices.
+pub fn walk_between<UE, M: EdgeData<UE>>(
+    points: &Points<UE, M>,
+    from: FixedVertexHandle,
+    to: FixedVertexHandle,
+    alloc: Global,
+) -> Result<Vec<Item>, AllocError>
+    requires from { from < length points.now.vertices }
+    requires to { to < length points.now.vertices }
+{
+    let mut items = Vec::new(alloc);
+    for item in LineIntersectionIterator::new_from_handles(points, from, to, &ExactTests) {
+        items.push(item_of(&item))?;
+    }
+    Ok(items)
 }

@@ -1,9 +1,7 @@
-//! A line of the script: the name of a call and up to four numbers, and what the call gives.
+//! A line of the script: the name of a call and up to four numbers.
 
-use crate::filter::agrees;
-use crate::items::item_of;
-use crate::points::{Points, Walk, insert, walk, walk_between};
-use spade_delaunay::{DelaunayTriangulation, Point2, Triangulation};
+use crate::items::Item;
+use spade_delaunay::Point2;
 use std::alloc::{AllocError, Global};
 use std::fmt::Debug;
 use std::io;
@@ -12,9 +10,9 @@ use std::io;
 #[derive(Drop)]
 pub struct Call<'a> {
     line: &'a str,
-    name: &'a str,
+    pub name: &'a str,
     /// What is not given is 0.
-    numbers: [i64; 4],
+    pub numbers: [i64; 4],
 }
 
 fn number(word: Option<&str>) -> i64 {
@@ -22,11 +20,6 @@ fn number(word: Option<&str>) -> i64 {
         Some(word) => word.parse().unwrap_or(0),
         None => 0,
     }
-}
-
-// An index that is given, or one that no element has.
-fn index(number: i64) -> u32 {
-    u32::try_from(number).unwrap_or(u32::MAX)
 }
 
 impl<'a> Call<'a> {
@@ -37,12 +30,10 @@ impl<'a> Call<'a> {
         if name == "#" {
             return None;
         }
-        let numbers = [
-            number(words.next()),
-            number(words.next()),
-            number(words.next()),
-            number(words.next()),
-        ];
+        let mut numbers = [0; 4];
+        for place in &mut numbers {
+            *place = number(words.next());
+        }
         Some(Call {
             line,
             name,
@@ -50,8 +41,8 @@ impl<'a> Call<'a> {
         })
     }
 
-    // All numbers of the line, two by two.
-    fn positions(&self, alloc: Global) -> Result<Vec<Point2<i64>>, AllocError> {
+    /// All numbers of the line, two by two.
+    pub fn positions(&self, alloc: Global) -> Result<Vec<Point2<i64>>, AllocError> {
         let mut positions = Vec::new(alloc);
         let mut x = None;
         for word in self.line.split_whitespace().skip(1) {
@@ -64,89 +55,22 @@ impl<'a> Call<'a> {
         Ok(positions)
     }
 
-    fn tell<T: Debug>(&self, rt: &impl Print, answer: &T) -> io::Result<()> {
+    /// Prints the line and what its call gave.
+    pub fn tell<T: Debug>(&self, rt: &impl Print, answer: &T) -> io::Result<()> {
         let line = self.line;
         println!(rt; "{line} > {answer:?}")
     }
 
-    // Prints the items of a walk, or that there is none.
-    fn tell_items(&self, rt: &impl Print, walk: Option<Walk<'_>>) -> io::Result<()> {
+    /// Prints the line and the items that its call gave.
+    pub fn tell_items(&self, rt: &impl Print, items: Option<Vec<Item>>) -> io::Result<()> {
         let line = self.line;
-        let Some(items) = walk else {
+        let Some(items) = items else {
             return println!(rt; "{line} > no walk");
         };
         print!(rt; "{line} >")?;
-        for item in items {
-            print!(rt; " {}", item_of(&item))?;
+        for item in &items {
+            print!(rt; " {item}")?;
         }
         println!(rt)
-    }
-}
-
-/// The triangulation that the calls of a script work on.
-#[derive(Drop)]
-pub struct Session {
-    points: Points,
-    /// The points between which all walks are compared.
-    sheet: Vec<Point2<i64>>,
-}
-
-impl Session {
-    pub fn new(alloc: Global) -> Self {
-        Session {
-            points: DelaunayTriangulation::new(alloc),
-            sheet: Vec::new(alloc),
-        }
-    }
-}
-
-// How many pairs of a sheet's points there are, and between how many the walk gives what the filter
-// does.
-fn pairs_that_agree(points: &Points, sheet: &[Point2<i64>]) -> (u64, u64) {
-    let (mut pairs, mut agreeing) = (0u64, 0u64);
-    for from in sheet {
-        for to in sheet {
-            pairs = pairs.wrapping_add(1);
-            if agrees(points, *from, *to) {
-                agreeing = agreeing.wrapping_add(1);
-            }
-        }
-    }
-    (pairs, agreeing)
-}
-
-// Inserts the points of the line y = 0 from one x to another.
-fn insert_row(points: &mut Points, from: i64, to: i64) -> bool {
-    for x in from..to {
-        if insert(points, Point2::new(x, 0)).is_err() {
-            return false;
-        }
-    }
-    true
-}
-
-/// Makes the call that a line asks for, and prints what it gives.
-pub fn answer(
-    rt: &(impl Print + AllocGlobal),
-    session: &mut Session,
-    call: &Call<'_>,
-) -> io::Result<()> {
-    let [x, y, u, v] = call.numbers;
-    let points = &mut session.points;
-    match call.name {
-        "clear" => {
-            *points = DelaunayTriangulation::new(rt.alloc());
-            call.tell(rt, &points.num_vertices())
-        }
-        "insert" => call.tell(rt, &insert(points, Point2::new(x, y))),
-        "insert_row" => call.tell(rt, &insert_row(points, x, y)),
-        "line" => call.tell_items(rt, walk(points, Point2::new(x, y), Point2::new(u, v))),
-        "line_of_handles" => call.tell_items(rt, walk_between(points, index(x), index(y))),
-        "sheet" => {
-            session.sheet = call.positions(rt.alloc())?;
-            call.tell(rt, &session.sheet.len())
-        }
-        "agree" => call.tell(rt, &pairs_that_agree(points, session.sheet.as_slice())),
-        _ => call.tell(rt, &"no such call"),
     }
 }
