@@ -126,11 +126,7 @@ pub fn answer(
     }
 }
 
-fn edit(
-    rt: &(impl Print + AllocGlobal),
-    session: &mut Session,
-    call: &Call<'_>,
-) -> io::Result<()> {
+fn edit(rt: &(impl Print + AllocGlobal), session: &mut Session, call: &Call<'_>) -> io::Result<()> {
     let [x, y, ..] = call.numbers;
     let points = &mut session.plain;
     match call.name {
