@@ -2,7 +2,6 @@
 ghost use Rattle.std.specs.Prelude.{◌<◌, length};
 ghost use Rattle.plane.specs.Tests.{InRange};
 ghost use Rattle.delaunay_core.specs.Place.{place_of};
-ghost use Rattle.delaunay_lines.specs.Walk.{IsReady};
 
 use crate::drawing::Drawing;
 use crate::filter::is_in_order;
@@ -11,25 +10,8 @@ use crate::points::Constrained;
 use crate::segment::Segment;
 use exact_tests::ExactTests;
 use spade_delaunay::handles::FixedVertexHandle;
-use spade_delaunay::{
-    ConflictingEdgesIterator, ConstraintMarker, HasPosition, PlaneTests, Point2,
-};
+use spade_delaunay::{ConflictingEdgesIterator, Point2};
 use std::alloc::{AllocError, Global};
-
-// The edges that are given.
-fn items_of<M: ConstraintMarker<UE>, V: HasPosition, DE, UE, F, P: PlaneTests<V::Scalar>>(
-    conflicts: ConflictingEdgesIterator<'_, M, V, DE, UE, F, P>,
-    alloc: Global,
-) -> Result<Vec<Item>, AllocError>
-    requires { IsReady V.place V.Scalar.whole P.sites P.covered conflicts.line }
-{
-    let mut items = Vec::new(alloc);
-    for edge in conflicts {
-        let (from, to) = ends_of(&edge);
-        items.push(Item::Edge(from, to))?;
-    }
-    Ok(items)
-}
 
 /// The constraints that the segment between two points in range crosses.
 pub fn conflicts(
@@ -41,7 +23,15 @@ pub fn conflicts(
     requires from { InRange (place_of (λ z. z) from) }
     requires to { InRange (place_of (λ z. z) to) }
 {
-    items_of(points.get_conflicting_edges_between_points(from, to, &ExactTests), alloc)
+    let mut items = Vec::new(alloc);
+    // Taken apart and put together again: Rattle's borrow checker does not know the walk's type else.
+    let ConflictingEdgesIterator { line, marks } =
+        points.get_conflicting_edges_between_points(from, to, &ExactTests);
+    for edge in (ConflictingEdgesIterator { line, marks }) {
+        let (from, to) = ends_of(&edge);
+        items.push(Item::Edge(from, to))?;
+    }
+    Ok(items)
 }
 
 /// The same between two vertices.
@@ -54,7 +44,12 @@ pub fn conflicts_between(
     requires from { from < length points.now.vertices }
     requires to { to < length points.now.vertices }
 {
-    items_of(points.get_conflicting_edges_between_vertices(from, to, &ExactTests), alloc)
+    let mut items = Vec::new(alloc);
+    for edge in points.get_conflicting_edges_between_vertices(from, to, &ExactTests) {
+        let (from, to) = ends_of(&edge);
+        items.push(Item::Edge(from, to))?;
+    }
+    Ok(items)
 }
 
 /// Whether the segment between two points in range crosses a constraint.
