@@ -25,8 +25,11 @@ pub fn conflicts(
 {
     let mut items = Vec::new(alloc);
     // Taken apart and put together again: Rattle's borrow checker does not know the walk's type else.
-    let ConflictingEdgesIterator { line, marks } =
-        points.get_conflicting_edges_between_points(from, to, &ExactTests);
+    let ConflictingEdgesIterator { line, marks } = points.get_conflicting_edges_between_points(
+        from,
+        to,
+        &ExactTests,
+    );
     for edge in (ConflictingEdgesIterator { line, marks }) {
         let (from, to) = ends_of(&edge);
         items.push(Item::Edge(from, to))?;
