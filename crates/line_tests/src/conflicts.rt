@@ -24,7 +24,7 @@ pub fn conflicts(
     requires to { InRange (place_of (λ z. z) to) }
 {
     let mut items = Vec::new(alloc);
-    // Taken apart and put together again: Rattle's borrow checker does not know the walk's type else.
+    // Taken apart and put together again: the borrow checker does not know the walk's type else.
     let ConflictingEdgesIterator { line, marks } = points.get_conflicting_edges_between_points(
         from,
         to,
