@@ -1,0 +1,109 @@
+//! The constraints that a segment crosses, and a look at each constraint.
+ghost use Rattle.std.specs.Prelude.{◌<◌, length};
+ghost use Rattle.plane.specs.Tests.{InRange};
+ghost use Rattle.delaunay_core.specs.Place.{place_of};
+
+use crate::drawing::Drawing;
+use crate::filter::is_in_order;
+use crate::items::{Item, ends_of};
+use crate::points::Constrained;
+use crate::segment::Segment;
+use exact_tests::ExactTests;
+use spade_delaunay::handles::FixedVertexHandle;
+use spade_delaunay::{ConflictingEdgesIterator, Point2};
+use std::alloc::{AllocError, Global};
+
+/// The constraints that the segment between two points in range crosses.
+pub fn conflicts(
+    points: &Constrained,
+    from: Point2<i64>,
+    to: Point2<i64>,
+    alloc: Global,
+) -> Result<Vec<Item>, AllocError>
+    requires from { InRange (place_of (λ z. z) from) }
+    requires to { InRange (place_of (λ z. z) to) }
+{
+    let mut items = Vec::new(alloc);
+    // Taken apart and put together again: the borrow checker does not know the walk's type else.
+    let ConflictingEdgesIterator { line, marks } = points.get_conflicting_edges_between_points(
+        from,
+        to,
+        &ExactTests,
+    );
+    for edge in (ConflictingEdgesIterator { line, marks }) {
+        let (from, to) = ends_of(&edge);
+        items.push(Item::Edge(from, to))?;
+    }
+    Ok(items)
+}
+
+/// The same between two vertices.
+pub fn conflicts_between(
+    points: &Constrained,
+    from: FixedVertexHandle,
+    to: FixedVertexHandle,
+    alloc: Global,
+) -> Result<Vec<Item>, AllocError>
+    requires from { from < length points.now.vertices }
+    requires to { to < length points.now.vertices }
+{
+    let mut items = Vec::new(alloc);
+    for edge in points.get_conflicting_edges_between_vertices(from, to, &ExactTests) {
+        let (from, to) = ends_of(&edge);
+        items.push(Item::Edge(from, to))?;
+    }
+    Ok(items)
+}
+
+/// Whether the segment between two points in range crosses a constraint.
+pub fn intersects(points: &Constrained, from: Point2<i64>, to: Point2<i64>) -> bool
+    requires from { InRange (place_of (λ z. z) from) }
+    requires to { InRange (place_of (λ z. z) to) }
+{
+    points.intersects_constraint(from, to, &ExactTests)
+}
+
+fn is_crossed(drawing: &Drawing, segment: Segment, (from, to): (u32, u32)) -> bool {
+    match drawing.segment(from, to) {
+        Some(edge) => segment.crossing(edge).is_some(),
+        None => false,
+    }
+}
+
+// How many constraints a segment crosses.
+fn count_crossed(drawing: &Drawing, constraints: &[(u32, u32)], segment: Segment) -> u64 {
+    let mut count = 0u64;
+    for (from, to) in constraints {
+        let there = is_crossed(drawing, segment, (*from, *to));
+        if there || is_crossed(drawing, segment, (*to, *from)) {
+            count = count.wrapping_add(1);
+        }
+    }
+    count
+}
+
+// Whether an item is an edge that is crossed, and a constraint.
+fn is_conflict(constraints: &[(u32, u32)], item: Item) -> bool {
+    match item {
+        Item::Edge(from, to) => {
+            constraints.contains(&(from, to)) || constraints.contains(&(to, from))
+        }
+        _ => false,
+    }
+}
+
+/// Whether these items are just the constraints that a segment crosses, in order.
+pub fn are_crossed(
+    drawing: &Drawing,
+    constraints: &[(u32, u32)],
+    segment: Segment,
+    items: &[Item],
+) -> bool {
+    for item in items {
+        if !is_conflict(constraints, *item) {
+            return false;
+        }
+    }
+    let count = count_crossed(drawing, constraints, segment);
+    is_in_order(drawing, segment, items) && items.len() as u64 == count
+}

@@ -1,0 +1,83 @@
+//! Counts, faces and locations, by the indexes of vertices.
+ghost use Rattle.std.specs.Prelude.{◌<◌};
+ghost use Rattle.plane.specs.Tests.{InRange};
+ghost use Rattle.delaunay_core.specs.Place.{place_of};
+ghost use Rattle.delaunay_edit.specs.Elements.{HasElement};
+
+use crate::items::ends_of;
+use crate::points::Plain;
+use exact_tests::ExactTests;
+use spade_delaunay::handles::FaceHandle;
+use spade_delaunay::{Point2, PositionInTriangulation, Triangulation};
+use std::alloc::{AllocError, Global};
+
+/// The corners of a face, the least first.
+pub type Corners = (u32, u32, u32);
+
+/// How many vertices, undirected edges and inner faces there are.
+pub fn counts(points: &Plain) -> [usize; 3] {
+    [
+        points.num_vertices(),
+        points.num_undirected_edges(),
+        points.num_inner_faces(),
+    ]
+}
+
+fn corners_of(face: FaceHandle<'_, Point2<i64>, (), (), ()>) -> Corners
+    requires { 0 < face.index }
+{
+    let [a, b, c] = face.vertices();
+    let (a, b, c) = (a.fix().index(), b.fix().index(), c.fix().index());
+    if a < b && a < c {
+        (a, b, c)
+    } else if b < c {
+        (b, c, a)
+    } else {
+        (c, a, b)
+    }
+}
+
+/// The inner faces, in rising order.
+pub fn faces_of(points: &Plain, alloc: Global) -> Result<Vec<Corners>, AllocError> {
+    let mut faces = Vec::new(alloc);
+    for face in points.inner_faces() {
+        if !face.is_outer() {
+            faces.push(corners_of(face))?;
+        }
+    }
+    faces.sort()?;
+    Ok(faces)
+}
+
+/// Where a point is.
+#[derive(Clone, Copy, Debug)]
+pub enum Place {
+    Vertex(u32),
+    /// Its lesser end first.
+    Edge(u32, u32),
+    Face(Corners),
+    Outside,
+    Nowhere,
+}
+
+fn named(points: &Plain, answer: PositionInTriangulation) -> Place
+    requires { HasElement points.now answer }
+{
+    match answer {
+        PositionInTriangulation::OnVertex(vertex) => Place::Vertex(vertex.index()),
+        PositionInTriangulation::OnEdge(edge) => {
+            let (a, b) = ends_of(&points.directed_edge(edge));
+            Place::Edge(a.min(b), a.max(b))
+        }
+        PositionInTriangulation::OnFace(face) => Place::Face(corners_of(points.face(face))),
+        PositionInTriangulation::OutsideOfConvexHull(_) => Place::Outside,
+        PositionInTriangulation::NoTriangulation => Place::Nowhere,
+    }
+}
+
+/// The location of a point in range.
+pub fn locate(points: &Plain, point: Point2<i64>) -> Place
+    requires { InRange (place_of (λ z. z) point) }
+{
+    named(points, points.locate(point, &ExactTests))
+}

@@ -1,0 +1,44 @@
+//! What a segment meets, by the indexes of vertices.
+
+use spade_delaunay::Intersection;
+use spade_delaunay::handles::DirectedEdgeHandle;
+use std::fmt;
+use std::fmt::{Display, Formatter, Write};
+
+/// A vertex, or an edge from one vertex to another.
+#[derive(Clone, Copy, Debug, PartialEq, Eq)]
+pub enum Item {
+    Vertex(u32),
+    Edge(u32, u32),
+    Overlap(u32, u32),
+}
+
+impl Display for Item {
+    fn fmt<W: Write>(&self, f: &mut Formatter<W>) -> Result<(), fmt::Error> {
+        match self {
+            Item::Vertex(v) => write!(f, "v {v}"),
+            Item::Edge(from, to) => write!(f, "e {from}>{to}"),
+            Item::Overlap(from, to) => write!(f, "o {from}>{to}"),
+        }
+    }
+}
+
+/// The ends of an edge by their indexes, in its direction.
+pub fn ends_of<V, DE, UE, F>(edge: &DirectedEdgeHandle<'_, V, DE, UE, F>) -> (u32, u32) {
+    (edge.from().fix().index(), edge.to().fix().index())
+}
+
+/// An item of a walk by its indexes.
+pub fn item_of<V, DE, UE, F>(item: &Intersection<'_, V, DE, UE, F>) -> Item {
+    match item {
+        Intersection::VertexIntersection(vertex) => Item::Vertex(vertex.fix().index()),
+        Intersection::EdgeIntersection(edge) => {
+            let (from, to) = ends_of(edge);
+            Item::Edge(from, to)
+        }
+        Intersection::EdgeOverlap(edge) => {
+            let (from, to) = ends_of(edge);
+            Item::Overlap(from, to)
+        }
+    }
+}

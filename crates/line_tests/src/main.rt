@@ -1,0 +1,32 @@
+//! Runs a script of segments over triangulations, and prints each line with what the segment meets.
+//! `agree` compares the walks between all points of the last `sheet` with a filter over all
+//! vertices and edges, and `conflicts_agree` the constraints that they cross. Lines that start with
+//! `#` are printed as they are.
+#![tactic(auto)]
+
+mod conflicts;
+mod drawing;
+mod elements;
+mod filter;
+mod items;
+mod points;
+mod script;
+mod segment;
+mod session;
+mod sheets;
+
+use script::Call;
+use session::{Session, answer};
+use std::io;
+
+fn main(rt: HostRuntime) -> io::Result<()> {
+    let mut session = Session::new(rt.alloc());
+    for line in rt.lines(rt.alloc()) {
+        let line = line?;
+        match Call::parse(line.as_str()) {
+            Some(call) => answer(&rt, &mut session, &call)?,
+            None => println!(rt; "{line}")?,
+        }
+    }
+    Ok(())
+}

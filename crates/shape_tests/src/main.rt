@@ -1,0 +1,26 @@
+//! Runs a script of shape queries of triangulations, and prints each line with what its call gives:
+//! `None` where a point is out of range, a squared radius is negative, or memory was refused. Lines
+//! that start with `#` are printed as they are.
+#![tactic(auto)]
+
+mod comparisons;
+mod counting;
+mod script;
+mod session;
+mod shapes;
+
+use script::{Call, answer};
+use session::Session;
+use std::io;
+
+fn main(rt: HostRuntime) -> io::Result<()> {
+    let mut session = Session::new(rt.alloc());
+    for line in rt.lines(rt.alloc()) {
+        let line = line?;
+        match Call::parse(line.as_str()) {
+            Some(call) => answer(&rt, &mut session, &call)?,
+            None => println!(rt; "{line}")?,
+        }
+    }
+    Ok(())
+}
