@@ -48,7 +48,12 @@ pub fn conflicts_between(
     requires to { to < length points.now.vertices }
 {
     let mut items = Vec::new(alloc);
-    for edge in points.get_conflicting_edges_between_vertices(from, to, &ExactTests) {
+    let ConflictingEdgesIterator { line, marks } = points.get_conflicting_edges_between_vertices(
+        from,
+        to,
+        &ExactTests,
+    );
+    for edge in (ConflictingEdgesIterator { line, marks }) {
         let (from, to) = ends_of(&edge);
         items.push(Item::Edge(from, to))?;
     }
