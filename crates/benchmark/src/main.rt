@@ -11,9 +11,7 @@ mod memory;
 mod orders;
 mod random;
 
-use crate::calls::{
-    Points, edges_in_circles, insert_all, locate_all, nearest_all, remove_some,
-};
+use crate::calls::{Points, edges_in_circles, insert_all, locate_all, nearest_all, remove_some};
 use crate::memory::{peak_bytes, resident_bytes};
 use crate::orders::Order;
 use crate::random::Random;

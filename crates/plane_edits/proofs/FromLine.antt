@@ -283,7 +283,6 @@ module _ (n : ℕ) (p : ℕ → Point) (outer now : List (ℕ × ℕ)) (new : Li
 
     -- ---- the mesh
     module _ (faces_change : FacesChange [] new [] (fan n u (v ∷ vs))) (outer_change : OuterChange outer now (steps u (v ∷ vs)) ((u, n) ∷ (n, last_of v vs) ∷ [])) where
-
       wider : {k : ℕ} → k < n → k < suc n
       wider h = omega arith
 
