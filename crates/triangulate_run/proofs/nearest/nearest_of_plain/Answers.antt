@@ -6,7 +6,7 @@ use Rattle.triangulate_run.specs.Answer.{IsLeastDistance}
 use Rattle.triangulate_run.specs.Stage.{position}
 use Rattle.triangulate_run.proofs.Distances.{vertex_in_range, covered_if_listed, least_distance}
 use Rattle.triangulate_run.proofs.Insertions.{listed_if_known}
-use Rattle.triangulate_run.proofs.engine.PointEngine.nearest.Goals as goal
+use Rattle.triangulate_run.proofs.nearest.nearest_of_plain.Goals as goal
 
 pub distance_2-requires-clause-in_range : goal.distance_2-requires-clause-in_range
 distance_2-requires-clause-in_range g c =

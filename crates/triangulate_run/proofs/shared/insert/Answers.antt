@@ -4,7 +4,7 @@ use Rattle.triangulate_run.specs.Stage.{position}
 use Rattle.delaunay_legalization.specs.State.{points_and_constraints}
 use Rattle.mesh_embedding.specs.Drawn.{drawn}
 use Rattle.triangulate_run.proofs.Insertions.{unknown_if_fresh, known_if_there, may_refuse, site_if_listed, listed_if_found, mesh_kept, places_kept, sites_kept, sites_more}
-use Rattle.triangulate_run.proofs.engine.PointEngine.insert.Goals as goal
+use Rattle.triangulate_run.proofs.shared.insert.Goals as goal
 
 pub returns-in-Ok-clause-ready : goal.returns-in-Ok-clause-ready
 returns-in-Ok-clause-ready g c =

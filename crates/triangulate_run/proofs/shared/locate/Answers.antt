@@ -2,7 +2,7 @@ use Rattle.delaunay_legalization.specs.State.{triangulation_of}
 use Rattle.triangulate_run.specs.Stage.{position}
 use Rattle.triangulate_run.proofs.Insertions.{listed_if_known}
 use Rattle.triangulate_run.proofs.Locations.{located}
-use Rattle.triangulate_run.proofs.engine.PointEngine.locate.Goals as goal
+use Rattle.triangulate_run.proofs.shared.locate.Goals as goal
 
 pub returns : goal.returns
 returns g c =

@@ -6,7 +6,7 @@ use Rattle.triangulate_run.specs.Stage.{position}
 use Rattle.delaunay_legalization.specs.State.{points_and_constraints}
 use Rattle.delaunay_edit.specs.Constrained.{none}
 use Rattle.delaunay_edit.proofs.Removing.{sites_left}
-use Rattle.triangulate_run.proofs.engine.PointEngine.remove.Goals as goal
+use Rattle.triangulate_run.proofs.shared.remove.Goals as goal
 
 abbrev point_with : ℤ → ℤ → Point2 ℤ
 point_with x y = record { x = x; y = y }

@@ -8,7 +8,7 @@ use Rattle.triangulate_run.specs.MeshFaces.{row_at}
 use Rattle.triangulate_run.specs.Stage.{position}
 use Rattle.delaunay_legalization.specs.State.{triangulation_of}
 use Rattle.triangulate_run.proofs.Locations.{edge_there, face_there}
-use Rattle.triangulate_run.proofs.engine.location_reply.Goals as goal
+use Rattle.triangulate_run.proofs.shared.location_reply.Goals as goal
 
 pub returns-in-OnEdge : goal.returns-in-OnEdge
 returns-in-OnEdge g c = λ p h.

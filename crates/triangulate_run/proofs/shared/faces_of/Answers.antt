@@ -12,7 +12,7 @@ use Rattle.mesh_embedding.specs.Drawn.{corners_of}
 use Rattle.triangulate_run.specs.MeshFaces.{row_at}
 use Rattle.triangulate_run.proofs.MeshFaces.{first_left, none_left, row_more, rows_end, rows_by_index, row_same_mesh, twice}
 use Rattle.triangulate_run.proofs.FaceList.{lists_faces, rows_differ}
-use Rattle.triangulate_run.proofs.engine.faces_of.Goals as goal
+use Rattle.triangulate_run.proofs.shared.faces_of.Goals as goal
 
 pub loop-face-init : goal.loop-face-init
 loop-face-init g c =
