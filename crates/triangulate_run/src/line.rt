@@ -52,20 +52,22 @@ pub(crate) fn write_line<
         return write_reply(writer, &Reply::UnknownPoint);
     }
     let mut held = Held::new();
-    let line = LineIntersectionIterator::new(triangulation, from, to, tests);
-    put_line(writer, &mut held, line)?;
-    write_all(writer, held.as_slice())
+    let mut line = LineIntersectionIterator::new(triangulation, from, to, tests);
+    match put_line(writer, &mut held, &mut line) {
+        Ok(()) => write_all(writer, held.as_slice()),
+        Err(Failed) => Err(Failed),
+    }
 }
 
 /// Puts the items of a line, one space between two of them.
 fn put_line<DE, UE, F, P: PlaneTests<i64>, W: Write>(
     writer: &mut Watched<W>,
     held: &mut Held,
-    mut line: LineIntersectionIterator<'_, Point2<i64>, DE, UE, F, P>,
+    line: &mut LineIntersectionIterator<'_, Point2<i64>, DE, UE, F, P>,
 ) -> Result<(), Failed>
-    requires ready { IsReadyLine position (λ z. z) P.sites P.covered line.entry }
+    requires ready { IsReadyLine position (λ z. z) P.sites P.covered line.old }
     requires works { has_failed writer.old ≡ false }
-    ensures { (items : List Item) → AreLeft position (λ z. z) line.entry items
+    ensures { (items : List Item) → AreLeft position (λ z. z) line.old items
         → Puts W.contents writer.old writer.new held.old.items held.new.items result
         (line_text items) }
 {
@@ -81,15 +83,15 @@ fn put_line<DE, UE, F, P: PlaneTests<i64>, W: Write>(
 fn put_items<DE, UE, F, P: PlaneTests<i64>, W: Write>(
     writer: &mut Watched<W>,
     held: &mut Held,
-    line: LineIntersectionIterator<'_, Point2<i64>, DE, UE, F, P>,
+    line: &mut LineIntersectionIterator<'_, Point2<i64>, DE, UE, F, P>,
 ) -> Result<(), Failed>
-    requires ready { IsReadyLine position (λ z. z) P.sites P.covered line.entry }
+    requires ready { IsReadyLine position (λ z. z) P.sites P.covered line.old }
     requires works { has_failed writer.old ≡ false }
-    ensures { (items : List Item) → AreLeft position (λ z. z) line.entry items
+    ensures { (items : List Item) → AreLeft position (λ z. z) line.old items
         → Puts W.contents writer.old writer.new held.old.items held.new.items result
         (flat_map next_text items) }
 {
-    for item in line {
+    while let Some(item) = line.next() {
         put_item(writer, held, " ", &item)?;
     }
     Ok(())

@@ -12,8 +12,8 @@ use Rattle.triangulate_run.proofs.shared.location_reply.Goals as goal
 
 pub returns-in-OnEdge : goal.returns-in-OnEdge
 returns-in-OnEdge g c = λ p h.
-    let t = triangulation_of position c.args.triangulation.now in
-    let m = c.args.triangulation.now.mesh in
+    let t = triangulation_of position (g.T.Triangulation.state c.args.triangulation.now) in
+    let m = (g.T.Triangulation.state c.args.triangulation.now).mesh in
     let e = c.in-OnEdge.edge in
     let d = c.directed_edge-edge.result in
     let mesh_is = ap (λ s. s.mesh) c.directed_edge-edge.ensures.state in
@@ -24,8 +24,8 @@ returns-in-OnEdge g c = λ p h.
 
 pub returns-in-OnFace : goal.returns-in-OnFace
 returns-in-OnFace g c = λ p h.
-    let t = triangulation_of position c.args.triangulation.now in
-    let m = c.args.triangulation.now.mesh in
+    let t = triangulation_of position (g.T.Triangulation.state c.args.triangulation.now) in
+    let m = (g.T.Triangulation.state c.args.triangulation.now).mesh in
     let mesh_is = ap (λ s. s.mesh) c.face.ensures.state in
     let located = subst (λ (a : PositionInTriangulation). IsLocation t (whole p) (location_of m a)) c.in-OnFace.is h in
     face_there t c.requires.tiling p _ _ _ c.corners_of.result (c.corners_of.ensures ∙ ap (λ n. row_at n c.face.result.index) mesh_is ∙ ap (row_at m) c.face.ensures.index) located
