@@ -12,3 +12,5 @@ pub mod Locations
 pub mod Distances
 pub mod MeshFaces
 pub mod Insertions
+pub mod Paths
+pub mod Walks
