@@ -124,11 +124,11 @@ fn put_item<DE, UE, F, W: Write>(
 }
 
 /// Puts two texts, and behind them the ends of an edge in its direction.
-fn put_edge<DE, UE, F, W: Write>(
+fn put_edge<'x, DE, UE, F, W: Write>(
     writer: &mut Watched<W>,
     held: &mut Held,
-    before: &str,
-    name: &str,
+    before: &'x str,
+    name: &'x str,
     edge: DirectedEdgeHandle<'_, Point2<i64>, DE, UE, F>,
 ) -> Result<(), Failed>
     requires works { has_failed writer.old ≡ false }
