@@ -33,7 +33,7 @@ pub(crate) fn constrain<L: HintGenerator<i64>, P: PlaneTests<i64>, W: Write>(
     ensures sites { HasSites (P.sites tests.now) (stage_by constraint_edges triangulation.new) }
     ensures answered { (text : List ℕ)
         × MayJoin (stage_by constraint_edges triangulation.old) from to text
-            (stage_by constraint_edges triangulation.new)
+        (stage_by constraint_edges triangulation.new)
         × Writes W.contents writer.old writer.new result text }
 {
     match triangulation.try_add_constraint(from, to, tests) {

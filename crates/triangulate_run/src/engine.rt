@@ -232,7 +232,7 @@ impl<'a, P: PlaneTests<i64>, L: HintGenerator<i64>> PointEngine<'a, P, L> {
         ensures fits { Fits (stage_of self.new.triangulation) }
         ensures answered { (text : List ℕ)
             × MayJoin (stage_of self.old.triangulation) from to text
-                (stage_of self.new.triangulation)
+            (stage_of self.new.triangulation)
             × Writes W.contents writer.old writer.new result text }
     {
         let Some((from, to)) = self.vertices_at(from, to) else {
@@ -260,7 +260,7 @@ impl<'a, P: PlaneTests<i64>, L: HintGenerator<i64>> PointEngine<'a, P, L> {
         requires works { has_failed writer.old ≡ false }
         ensures answered { (text : List ℕ)
             × MayWalk self.now.points.now (stage_of self.now.triangulation).triangulation
-                (position from) (position to) text
+            (position from) (position to) text
             × Writes W.contents writer.old writer.new result text }
     {
         match &self.triangulation {

@@ -26,13 +26,7 @@ use std::io::Write;
 use watched::{Failed, Watched};
 
 /// Writes what the way from one point of the list to another meets, in order.
-pub(crate) fn write_line<
-    L: HintGenerator<i64>,
-    UE,
-    M: EdgeData<UE>,
-    P: PlaneTests<i64>,
-    W: Write,
->(
+pub(crate) fn write_line<L: HintGenerator<i64>, UE, M: EdgeData<UE>, P: PlaneTests<i64>, W: Write>(
     triangulation: &TriangulationCore<Point2<i64>, (), UE, (), L, M>,
     tests: &P,
     points: &[SheetPoint],
@@ -45,7 +39,7 @@ pub(crate) fn write_line<
     requires works { has_failed writer.old ≡ false }
     ensures { (text : List ℕ)
         × MayWalk points.now (triangulation_of position triangulation.now) (position from)
-            (position to) text
+        (position to) text
         × Writes W.contents writer.old writer.new result text }
 {
     if index_of(points, from).is_none() || index_of(points, to).is_none() {
@@ -135,7 +129,7 @@ fn put_edge<'x, DE, UE, F, W: Write>(
     ensures { let m = edge.entry.dcel.now.mesh in
         Puts W.contents writer.old writer.new held.old.items held.new.items result
         (before.now ++ edge_text name.now (origin m edge.entry.index)
-            (origin m (rev edge.entry.index))) }
+        (origin m (rev edge.entry.index))) }
 {
     put_pieces(
         writer,

@@ -32,11 +32,7 @@ pub(crate) trait Engine {
     ghost is_ready: { Self → Type 0 };
 
     /// Does what the command asks for, and writes what there is to tell.
-    fn answer<W: Write>(
-        &mut self,
-        command: Command,
-        writer: &mut Watched<W>,
-    ) -> Result<(), Failed>
+    fn answer<W: Write>(&mut self, command: Command, writer: &mut Watched<W>) -> Result<(), Failed>
         requires ready { is_ready self.old }
         requires works { has_failed writer.old ≡ false }
         ensures ready { is_ready self.new }
