@@ -1,13 +1,17 @@
 -- How far the nearest vertex is.
-use Rattle.std.proofs.Common.{◌≡◌, ◌∙◌, ℕ, ◌<◌, List, length, map, ap, sym, subst, arith}
-use Rattle.std.specs.Prelude.{ℤ, pos, Some, slice_get, All}
+use Rattle.std.proofs.Common.{◌≡◌, ◌∙◌, ℕ, ◌<◌, List, length, map, refl, inl, inr, ap, sym, subst, arith}
+use Rattle.std.specs.Prelude.{◌⊎◌, ◌+◌, ◌≤◌, ℤ, ◌≤ℤ◌, pos, Option, None, Some, slice_get, All, MatchOption}
+use Rattle.std.proofs.lemmas.Bool.{cases_lt}
+use Rattle.std.proofs.lemmas.Int.{ints}
 use Rattle.std.proofs.lemmas.List.{length-map}
 use Rattle.std.proofs.lemmas.List.Elements.{All-get_or}
 use Rattle.plane.specs.Fraction.{Point, whole}
 use Rattle.plane.specs.Circle.{gap}
 use Rattle.plane.specs.Shape.{IsNearest}
 use Rattle.plane.specs.Tests.{InRange}
+use Rattle.plane.specs.Pairs.{place as at}
 use Rattle.plane.specs.Tiling.{Triangulation}
+use Rattle.plane.proofs.Signs.{less_without_ones}
 use Rattle.delaunay_core.specs.declared.point.Point2.{Point2}
 use Rattle.delaunay_legalization.specs.Known.{point_at}
 use Rattle.delaunay_edit.proofs.Removing.{read_place}
@@ -29,3 +33,64 @@ no_vertex vs none i h = omega (arith, none, h, length-map vs position)
 -- a listed point is covered
 pub covered_if_listed : (covered : Point → Type 0) (points : List SheetPoint) (p : Point) → All (λ s. covered (place s)) points → IsListed points p → covered p
 covered_if_listed covered points p all (i, (h, at)) = subst covered at (all i nowhere h)
+
+-- ---- by a look at all vertices
+-- of the points before n one is so far from p, and none is nearer
+pub record IsLeastBefore (points : List Point) (p : Point) (n : ℕ) (d : ℤ) : Type 0 where
+  pub index : ℕ
+  pub before : index < n
+  pub distance : d ≡ gap (whole p) (at points index)
+  pub least : (k : ℕ) → k < n → d ≤ℤ gap (whole p) (at points k)
+
+-- without a number there are no points so far
+abbrev pub IsLeastSoFar : List Point → Point → ℕ → Option ℤ → Type 0
+IsLeastSoFar points p n least = MatchOption least (n ≡ 0) (IsLeastBefore points p n)
+
+-- the lesser of two numbers, the first of which may be missing
+abbrev pub IsLesser : Option ℤ → ℤ → ℤ → Type 0
+IsLesser first second d = MatchOption first (d ≡ second) (λ x. ((d ≡ x) × (x ≤ℤ second)) ⊎ ((d ≡ second) × (second ≤ℤ x)))
+
+module _ (points : List Point) (p : Point) (n : ℕ) where
+  -- it stays the least where the next point is no nearer
+  kept_least : (d : ℤ) → IsLeastBefore points p n d → d ≤ℤ gap (whole p) (at points n) → IsLeastBefore points p (n + 1) d
+  kept_least d so_far next = record {
+    index = so_far.index;
+    before = (let b = so_far.before in omega (arith, b));
+    distance = so_far.distance;
+    least = λ k h. elim (cases_lt k n) [
+      | inl below ↦ so_far.least k below
+      | inr beyond ↦ (let same : n ≡ k = omega (arith, h, beyond) in subst (λ (i : ℕ). d ≤ℤ gap (whole p) (at points i)) same next)
+    ];
+  }
+
+  -- the next point is the nearest
+  new_least : (d : ℤ) → d ≡ gap (whole p) (at points n) → ((k : ℕ) → k < n → d ≤ℤ gap (whole p) (at points k)) → IsLeastBefore points p (n + 1) d
+  new_least d is others = record {
+    index = n;
+    before = omega arith;
+    distance = is;
+    least = λ k h. elim (cases_lt k n) [
+      | inl below ↦ others k below
+      | inr beyond ↦ (let same : n ≡ k = omega (arith, h, beyond) in subst (λ (i : ℕ). d ≤ℤ gap (whole p) (at points i)) same (omega (arith, ints, is)))
+    ];
+  }
+
+  pub least_goes_on : (least : Option ℤ) (here d : ℤ) → IsLeastSoFar points p n least → here ≡ gap (whole p) (at points n) → IsLesser least here d → IsLeastSoFar points p (n + 1) (Some d)
+  least_goes_on None here d none is lesser = new_least d (lesser ∙ is) (λ k h. absurd (omega (arith, h, none)))
+  least_goes_on (Some x) here d so_far is (inl (e, le)) = subst (IsLeastBefore points p (n + 1)) (sym e) (kept_least x so_far (subst (λ (g : ℤ). x ≤ℤ g) is le))
+  least_goes_on (Some x) here d so_far is (inr (e, le)) = new_least d (e ∙ is) (λ k h. let l = so_far.least k h in omega (arith, ints, l, e, le))
+
+-- the least of all is the distance of a nearest vertex
+pub least_of_all : (t : Triangulation) (p : Point) (d : ℤ) → IsLeastBefore t.points p (length t.points) d → IsLeastDistance t p d
+least_of_all t p d all = record {
+  nearest = all.index;
+  is_nearest = record {
+    is_vertex = all.before;
+    none_nearer = λ k within nearer.
+        let less = less_without_ones (gap (whole p) (at t.points k)) (gap (whole p) (at t.points all.index)) nearer.nearer in
+        let least = all.least k within in
+        let is = all.distance in
+        absurd (omega (arith, ints, less, least, is));
+  };
+  distance = all.distance;
+}

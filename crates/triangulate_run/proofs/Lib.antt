@@ -14,3 +14,5 @@ pub mod MeshFaces
 pub mod Insertions
 pub mod Paths
 pub mod Walks
+pub mod Releases
+pub mod Stages

@@ -1,6 +1,6 @@
 -- The items of a line, as they are put one after another.
 use Rattle.std.proofs.Common.{◌≡◌, ℕ, List, [], ◌∷◌, ◌++◌, Option, Some, None, refl, sym, ◌∙◌, ap, subst, append_assoc, append-nil}
-use Rattle.std.specs.Prelude.{ℤ}
+use Rattle.std.specs.Prelude.{ℤ, codes, Result}
 use Rattle.std.specs.List.{flat_map}
 use Rattle.std.proofs.lemmas.Grind.{flat_map-append}
 use Rattle.plane.specs.Fraction.{Point}
@@ -9,9 +9,11 @@ use Rattle.delaunay_lines.specs.declared.intersection.Intersection.{Intersection
 use Rattle.delaunay_lines.specs.declared.iterator.LineIntersectionIterator.{LineIntersectionIterator}
 use Rattle.delaunay_lines.specs.Items.{item_in}
 use Rattle.delaunay_lines.specs.Walk.{AreLeft, GivesNext}
-use Rattle.triangulate_run.specs.Output.{AppendsPart, Passes}
-use Rattle.triangulate_run.specs.Reply.{next_text}
-use Rattle.triangulate_run.proofs.OutputLemmas.{passes_nil, passes_more, passes_part, part_longer}
+use Rattle.watched.specs.declared.Watched.{Watched}
+use Rattle.watched.specs.Watched.{inner_of}
+use Rattle.triangulate_run.specs.Output.{AppendsPart, Passes, Puts}
+use Rattle.triangulate_run.specs.Reply.{item_text, line_text, next_text}
+use Rattle.triangulate_run.proofs.OutputLemmas.{passes_nil, passes_more, passes_part, part_longer, first_fails, second_fails, third_behind}
 
 -- of the items that were left, these were put, and those are left
 pub record PutsSome {V D U F P S : Type 0} (at : V → Point) (number : S → ℤ) (before now : Option (List ℕ)) (held kept : List ℕ) (it : LineIntersectionIterator V D U F P S) (items : List Item) : Type 0 where
@@ -62,3 +64,30 @@ module _ {V D U F P S : Type 0} (at : V → Point) (number : S → ℤ) (a b c :
       let whole : (held ++ (before ++ here)) ++ behind ≡ held ++ flat_map next_text items =
       append_assoc held (before ++ here) behind ∙ ap (λ ys. held ++ ys) (append_assoc before here behind ∙ sym all) in
       subst (λ (t : List ℕ). AppendsPart a c t) whole (part_longer a c (held ++ (before ++ here)) behind (passes_part a b c held mid before here p.passes part))
+
+-- ---- a whole line
+module _ {V D U F P S : Type 0} (at : V → Point) (number : S → ℤ) (it after : LineIntersectionIterator V D U F P S) where
+  -- what holds of the text of no items holds of what is left where there is none
+  pub line_none : (X : List ℕ → Type 0) → GivesNext at number it None after → X (codes "nothing\n") → (items : List Item) → AreLeft at number it items → X (line_text items)
+  line_none X step x items left = subst (λ (ys : List Item). X (line_text ys)) (sym (step.gives items left).0) x
+
+  module _ (x : Intersection V D U F) (step : GivesNext at number it (Some x) after) where
+    -- the text of a line by its first item and the others
+    by_first : (X : List ℕ → Type 0) → ((others : List Item) → AreLeft at number after others → X (item_text (item_in x) ++ (flat_map next_text others ++ codes "\n")))
+        → (items : List Item) → AreLeft at number it items → X (line_text items)
+    by_first X all items left = let s = (step.gives items left).1 in subst (λ (ys : List Item). X (line_text ys)) (sym s.1) (all s.0 s.2)
+
+    module _ (a b c : Option (List ℕ)) (held mid : List ℕ) where
+      pub line_first_fails : AppendsPart a b (held ++ item_text (item_in x)) → (items : List Item) → AreLeft at number it items → AppendsPart a b (held ++ line_text items)
+      line_first_fails part = by_first (λ t. AppendsPart a b (held ++ t)) (λ others left. first_fails a b c held mid (item_text (item_in x)) (flat_map next_text others) (codes "\n") part)
+
+      pub line_others_fail : Passes a b held mid (item_text (item_in x)) → ((others : List Item) → AreLeft at number after others → AppendsPart b c (mid ++ flat_map next_text others))
+          → (items : List Item) → AreLeft at number it items → AppendsPart a c (held ++ line_text items)
+      line_others_fail first part = by_first (λ t. AppendsPart a c (held ++ t)) (λ others left. second_fails a b c held mid (item_text (item_in x)) (flat_map next_text others) (codes "\n") first (part others left))
+
+    pub line_ends : {W T E : Type 0} (contents : W → Option (List ℕ)) (w0 w1 w2 w3 : Watched W) (r : Result T E) (held mid then kept : List ℕ)
+        → Passes (contents (inner_of w0)) (contents (inner_of w1)) held mid (item_text (item_in x))
+        → ((others : List Item) → AreLeft at number after others → Passes (contents (inner_of w1)) (contents (inner_of w2)) mid then (flat_map next_text others))
+        → Puts contents w2 w3 then kept r (codes "\n") → (items : List Item) → AreLeft at number it items → Puts contents w0 w3 held kept r (line_text items)
+    line_ends contents w0 w1 w2 w3 r held mid then kept first rest put =
+        by_first (λ t. Puts contents w0 w3 held kept r t) (λ others left. third_behind contents w0 w1 w2 w3 r held mid then kept (item_text (item_in x)) (flat_map next_text others) (codes "\n") first (rest others left) put)
