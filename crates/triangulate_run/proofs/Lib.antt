@@ -14,5 +14,6 @@ pub mod MeshFaces
 pub mod Insertions
 pub mod Paths
 pub mod Walks
+pub mod Marks
 pub mod Releases
 pub mod Stages

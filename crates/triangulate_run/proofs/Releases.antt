@@ -2,8 +2,6 @@
 use Rattle.std.proofs.Common.{◌≡◌, ◌≢◌, ℕ, ◌*◌, ◌/◌, ◌<◌, Bool, true, false, List, [], length, map, refl, inl, inr, ap, sym, ◌∙◌, subst}
 use Rattle.std.specs.Prelude.{◌⊎◌, ◌↔◌, ℤ, Contains, Result, Ok, Err}
 use Rattle.half_edge_mesh.specs.Mesh.{origin, rev}
-use Rattle.half_edge_mesh.specs.Contents.{Contents}
-use Rattle.half_edge_mesh.specs.Room.{Room}
 use Rattle.plane.specs.Pairs.{Joins, IsSamePair}
 use Rattle.plane.specs.Plain.{Plain, Releases}
 use Rattle.plane.specs.Tiling.{IsEdge}
@@ -25,6 +23,7 @@ use Rattle.triangulate_run.specs.declared.reply.Reply.TheVariants.{NotConstraine
 use Rattle.triangulate_run.specs.Answer.{MayRelease}
 use Rattle.triangulate_run.specs.Engine.{stage_by}
 use Rattle.triangulate_run.specs.Stage.{position}
+use Rattle.triangulate_run.proofs.Marks.{contents_of}
 
 -- ---- edges between two vertices
 module _ {D U F : Type 0} (s : State (Point2 ℤ) D U F) (kept : IsTriangulated position s) (i j : ℕ) where
@@ -53,14 +52,11 @@ releases_same at old new x y i j same r = record {
 }
 
 -- ---- what became of the constraint from i to j, whose edge is h
-module _ {D U F E : Type 0} (old new : State (Point2 ℤ) D (CdtEdge U) F) (room : Room) (kept : IsTriangulated position old) (i j h : ℕ) (within : h < length old.directed) (from : origin old.mesh h ≡ i) (to : origin old.mesh (rev h) ≡ j) (k : ℕ) (half : k ≡ h / 2) (r : Result Bool E)
+module _ {D U F E : Type 0} (old new : State (Point2 ℤ) D (CdtEdge U) F) (kept : IsTriangulated position old) (i j h : ℕ) (within : h < length old.directed) (from : origin old.mesh h ≡ i) (to : origin old.mesh (rev h) ≡ j) (k : ℕ) (half : k ≡ h / 2) (r : Result Bool E)
     (done : ReleasesConstraint position k r old new) where
-  contents : Contents (Point2 ℤ) D (CdtEdge U) F
-  contents = record { mesh = old.mesh; vertices = old.vertices; directed = old.directed; undirected = old.undirected; outer = old.outer; faces = old.faces; room = room }
-
   there : Contains (constraint_edges old.undirected) k ↔ Joins (constraints_of old) i j
   there = subst (λ (n : ℕ). Contains (constraint_edges old.undirected) n ↔ Joins (constraints_of old) i j) (sym half)
-      (joined.edge_joins position is_constraint constraint_edges (λ ds. refl) contents kept i j h (subst (λ (n : ℕ). h < n) kept.fits.directed_fit within) from to)
+      (joined.edge_joins position is_constraint constraint_edges (λ ds. refl) (contents_of old) kept i j h (subst (λ (n : ℕ). h < n) kept.fits.directed_fit within) from to)
 
   ends : (a b : ℕ) → IsSamePair a b (origin old.mesh (2 * k)) (origin old.mesh (rev (2 * k))) ↔ IsSamePair a b i j
   ends a b = subst (λ (n : ℕ). IsSamePair a b (origin old.mesh (2 * n)) (origin old.mesh (rev (2 * n))) ↔ IsSamePair a b i j) (sym half) (half_ends old.mesh h i j a b from to)

@@ -41,6 +41,7 @@ pub(crate) fn constrain<L: HintGenerator<i64>, P: PlaneTests<i64>, W: Write>(
             if edges.is_empty() {
                 return write_reply(writer, &Reply::NoPath);
             }
+            triangulation.recall_invariant();
             write_path(triangulation, edges.as_slice(), writer)
         }
         Err(_) => write_reply(writer, &Reply::Refused(InsertionError::OutOfMemory)),

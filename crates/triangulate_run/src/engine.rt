@@ -60,14 +60,16 @@ impl<P: PlaneTests<i64>, L: HintGenerator<i64>> Engine for PointEngine<'_, P, L>
         command: Command,
         writer: &mut Watched<W>,
     ) -> Result<(), Failed> {
-        match command {
+        let answered = match command {
             Command::Constrain(from, to) => self.constrain(from, to, writer),
             Command::Line(from, to) => self.line(point_of(from), point_of(to), writer),
             _ => {
                 let reply = self.reply_to(command);
                 write_reply(writer, &reply)
             }
-        }
+        };
+        self.recall_invariant();
+        answered
     }
 }
 
@@ -92,6 +94,16 @@ impl<'a, P: PlaneTests<i64>, L: HintGenerator<i64>> PointEngine<'a, P, L> {
         }
     }
 
+    /// What holds of each triangulation between commands.
+    fn recall_invariant(&self)
+        ensures { Fits (stage_of self.now.triangulation) }
+    {
+        match &self.triangulation {
+            Either::Plain(plain) => plain.recall_invariant(),
+            Either::Constrained(constrained) => constrained.recall_invariant(),
+        }
+    }
+
     /// Does what a command asks for whose reply is one line or the list of faces.
     fn reply_to(&mut self, command: Command) -> Reply
         requires ready { IsReady (P.covered self.old.tests.now) (P.sites self.old.tests.now)
@@ -100,7 +112,6 @@ impl<'a, P: PlaneTests<i64>, L: HintGenerator<i64>> PointEngine<'a, P, L> {
         ensures ready { IsReady (P.covered self.new.tests.now) (P.sites self.new.tests.now)
             self.new.points.now (stage_of self.new.triangulation) }
         ensures points { self.new.points ≡ self.old.points }
-        ensures fits { Fits (stage_of self.new.triangulation) }
         ensures reply { MayReply self.old.points.now (stage_of self.old.triangulation) command
             result (stage_of self.new.triangulation) }
     {
@@ -122,7 +133,6 @@ impl<'a, P: PlaneTests<i64>, L: HintGenerator<i64>> PointEngine<'a, P, L> {
         ensures ready { IsReady (P.covered self.new.tests.now) (P.sites self.new.tests.now)
             self.new.points.now (stage_of self.new.triangulation) }
         ensures points { self.new.points ≡ self.old.points }
-        ensures fits { Fits (stage_of self.new.triangulation) }
         ensures reply { MayInsert self.old.points.now (stage_of self.old.triangulation) point result
             (stage_of self.new.triangulation) }
     {
@@ -140,7 +150,6 @@ impl<'a, P: PlaneTests<i64>, L: HintGenerator<i64>> PointEngine<'a, P, L> {
         ensures ready { IsReady (P.covered self.new.tests.now) (P.sites self.new.tests.now)
             self.new.points.now (stage_of self.new.triangulation) }
         ensures points { self.new.points ≡ self.old.points }
-        ensures fits { Fits (stage_of self.new.triangulation) }
         ensures reply { MayRemove (stage_of self.old.triangulation) index result
             (stage_of self.new.triangulation) }
     {
@@ -204,7 +213,6 @@ impl<'a, P: PlaneTests<i64>, L: HintGenerator<i64>> PointEngine<'a, P, L> {
         ensures ready { IsReady (P.covered self.new.tests.now) (P.sites self.new.tests.now)
             self.new.points.now (stage_of self.new.triangulation) }
         ensures points { self.new.points ≡ self.old.points }
-        ensures fits { Fits (stage_of self.new.triangulation) }
         ensures reply { MayRelease (stage_of self.old.triangulation) from to result
             (stage_of self.new.triangulation) }
     {
@@ -229,7 +237,6 @@ impl<'a, P: PlaneTests<i64>, L: HintGenerator<i64>> PointEngine<'a, P, L> {
         ensures ready { IsReady (P.covered self.new.tests.now) (P.sites self.new.tests.now)
             self.new.points.now (stage_of self.new.triangulation) }
         ensures points { self.new.points ≡ self.old.points }
-        ensures fits { Fits (stage_of self.new.triangulation) }
         ensures answered { (text : List ℕ)
             × MayJoin (stage_of self.old.triangulation) from to text
             (stage_of self.new.triangulation)

@@ -1,5 +1,5 @@
 //! How far the nearest vertex is.
-ghost use Rattle.std.specs.Prelude.{◌≡◌, length, All, MatchOption};
+ghost use Rattle.std.specs.Prelude.{◌≡◌, ◌⊎◌, ◌≤ℤ◌, length, All, MatchOption};
 ghost use Rattle.plane.specs.Tests.{InRange};
 ghost use Rattle.delaunay_edit.specs.Constrained.{none};
 ghost use Rattle.delaunay_legalization.specs.State.{triangulation_of};
@@ -75,7 +75,10 @@ fn least_distance<T: Triangulation<Vertex = Point2<i64>>>(
 }
 
 /// The lesser of two numbers, the first of which may be missing.
-fn lesser(first: Option<i64>, second: i64) -> i64 {
+fn lesser(first: Option<i64>, second: i64) -> i64
+    ensures { MatchOption first (result ≡ second)
+        (λ x. ((result ≡ x) × (x ≤ℤ second)) ⊎ ((result ≡ second) × (second ≤ℤ x))) }
+{
     match first {
         Some(first) if first < second => first,
         _ => second,

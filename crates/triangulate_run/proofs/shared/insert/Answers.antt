@@ -33,7 +33,7 @@ returns-in-Ok-clause-reply g c =
       | inl kept ↦ inl (record {
         in_range = in_range;
         site = listed;
-        replaced = subst (λ (i : ℕ). Replaces position (points_and_constraints_by g.T.Triangulation.Constraints.constraints old) (points_and_constraints_by g.T.Triangulation.Constraints.constraints new) i p) (sym index) kept;
+        replaced = subst (λ (i : ℕ). Replaces position (points_and_constraints_by g.T.Constraints.ConstraintMarker.constraints old) (points_and_constraints_by g.T.Constraints.ConstraintMarker.constraints new) i p) (sym index) kept;
         same = ap (λ ps. drawn ps new.mesh) (ap (map position) kept.vertices ∙ places_kept old.vertices _ p kept.same)
             ∙ ap (drawn (map position old.vertices)) (mesh_kept old new _ (c.in-Ok.ensures.inserts.replaced (known_if_there old.vertices p _ kept.here kept.same)));
       })
@@ -50,5 +50,5 @@ returns-in-Err-insert-clause-reply g c =
     let p = c.args.point in
     let in_range = c.in_default.ensures.exactly.0 refl in
     let listed = listed_if_found c.args.points.now (position p) c.site_index_of.result c.if-is_none.ensures c.site_index_of.ensures in
-    may_refuse g.T.Triangulation.Constraints.constraints c.args.points.now (g.T.Triangulation.state c.args.triangulation.now) (g.T.Triangulation.state c.insert.new.self) p c.insert.result c.in-Err-insert.error c.in-Err-insert.is in_range listed
+    may_refuse g.T.Constraints.ConstraintMarker.constraints c.args.points.now (g.T.Triangulation.state c.args.triangulation.now) (g.T.Triangulation.state c.insert.new.self) p c.insert.result c.in-Err-insert.error c.in-Err-insert.is in_range listed
     c.insert.ensures.inserts.too_large c.insert.ensures.inserts.known c.insert.ensures.inserts.full c.in-Err-insert.ensures.inserts.err
