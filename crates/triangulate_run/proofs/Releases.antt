@@ -1,5 +1,5 @@
 -- A constraint that is released, by the edge between its ends.
-use Rattle.std.proofs.Common.{◌≡◌, ◌≢◌, ℕ, ◌*◌, ◌/◌, ◌<◌, Bool, true, false, List, [], length, map, refl, inl, inr, ap, sym, ◌∙◌, subst}
+use Rattle.std.proofs.Common.{◌≡◌, ◌≢◌, ℕ, ◌*◌, ◌/◌, ◌<◌, Bool, true, false, List, [], length, map, refl, inl, inr, ap, sym, ◌∙◌, subst, arith}
 use Rattle.std.specs.Prelude.{◌⊎◌, ◌↔◌, ℤ, Contains, Result, Ok, Err}
 use Rattle.half_edge_mesh.specs.Mesh.{origin, rev}
 use Rattle.plane.specs.Pairs.{Joins, IsSamePair}
@@ -34,6 +34,11 @@ module _ {D U F : Type 0} (s : State (Point2 ℤ) D U F) (kept : IsTriangulated 
   is_edge h within from to =
       let here = edge_joins s.mesh kept.valid.sound h (subst (λ (n : ℕ). h < n) kept.fits.directed_fit within) in
       subst (λ (b : ℕ). IsEdge (triangulation_of position s) i b) to (subst (λ (a : ℕ). IsEdge (triangulation_of position s) a (origin s.mesh (rev h))) from here)
+
+-- no list has a pair of an empty one
+pub none_joined : (i j : ℕ) → ¬ Joins [] i j
+none_joined i j (inl h) = let within = h.1 in absurd (omega (arith, within))
+none_joined i j (inr h) = let within = h.1 in absurd (omega (arith, within))
 
 -- ---- a pair by its ends in the other order
 joins_same : (pairs : List (ℕ × ℕ)) (x y i j : ℕ) → IsSamePair i j x y → Joins pairs x y → Joins pairs i j

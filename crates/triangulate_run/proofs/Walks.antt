@@ -75,7 +75,8 @@ module _ {V D U F P S : Type 0} (at : V → Point) (number : S → ℤ) (it afte
     -- the text of a line by its first item and the others
     by_first : (X : List ℕ → Type 0) → ((others : List Item) → AreLeft at number after others → X (item_text (item_in x) ++ (flat_map next_text others ++ codes "\n")))
         → (items : List Item) → AreLeft at number it items → X (line_text items)
-    by_first X all items left = let s = (step.gives items left).1 in subst (λ (ys : List Item). X (line_text ys)) (sym s.1) (all s.0 s.2)
+    by_first X all items left = let s = (step.gives items left).1 in subst (λ (ys : List Item). X (line_text ys)) (sym s.1)
+        (subst X (sym (append_assoc (item_text (item_in x)) (flat_map next_text s.0) (codes "\n"))) (all s.0 s.2))
 
     module _ (a b c : Option (List ℕ)) (held mid : List ℕ) where
       pub line_first_fails : AppendsPart a b (held ++ item_text (item_in x)) → (items : List Item) → AreLeft at number it items → AppendsPart a b (held ++ line_text items)

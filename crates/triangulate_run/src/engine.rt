@@ -13,7 +13,7 @@ use crate::nearest::{nearest_of_all, nearest_of_plain};
 use crate::points::SheetPoint;
 use crate::reply::{Reply, write_reply};
 use crate::session::Engine;
-use crate::shared::{counts_of, faces, insert, locate, remove};
+use crate::shared::{counts_of, faces, insert, locate, remove, vertices_at};
 use command_grammar::command::{Command, Coordinates};
 use spade_delaunay::handles::FixedVertexHandle;
 use spade_delaunay::{
@@ -193,6 +193,7 @@ impl<'a, P: PlaneTests<i64>, L: HintGenerator<i64>> PointEngine<'a, P, L> {
         match &self.triangulation {
             Either::Plain(plain) => counts_of(plain, 0),
             Either::Constrained(constrained) => {
+                constrained.recall_invariant();
                 counts_of(constrained, constrained.num_constraints() as u64)
             }
         }
@@ -284,17 +285,10 @@ impl<'a, P: PlaneTests<i64>, L: HintGenerator<i64>> PointEngine<'a, P, L> {
             (λ p. (p.0 ≡ from) × (p.1 ≡ to)
             × AreVertices (stage_of self.now.triangulation) from to) }
     {
-        let count = match &self.triangulation {
-            Either::Plain(plain) => plain.num_vertices(),
-            Either::Constrained(constrained) => constrained.num_vertices(),
-        } as u64;
-        if from >= count || to >= count {
-            return None;
+        match &self.triangulation {
+            Either::Plain(plain) => vertices_at(plain, from, to),
+            Either::Constrained(constrained) => vertices_at(constrained, from, to),
         }
-        Some((
-            FixedVertexHandle::from_index(from as u32),
-            FixedVertexHandle::from_index(to as u32),
-        ))
     }
 
     /// Makes the triangulation one with constraints, where it is none and memory is not refused.

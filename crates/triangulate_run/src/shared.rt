@@ -1,5 +1,5 @@
 //! Replies that a plain and a constrained triangulation give alike.
-ghost use Rattle.std.specs.Prelude.{◌≡◌, ◌<◌, IfOk, nat_lt, if◌then◌else◌};
+ghost use Rattle.std.specs.Prelude.{◌≡◌, ◌<◌, IfOk, MatchOption, nat_lt, if◌then◌else◌};
 ghost use Rattle.plane.specs.Fraction.{Point, whole};
 ghost use Rattle.plane.specs.Location.{IsLocation};
 ghost use Rattle.plane.specs.Tiling.{IsTiling};
@@ -10,7 +10,7 @@ ghost use Rattle.delaunay_legalization.specs.State.{triangulation_of};
 ghost use Rattle.triangulate_run.specs.MeshFaces.{row_at};
 ghost use Rattle.triangulate_run.specs.Stage.{position};
 ghost use Rattle.triangulate_run.specs.Engine.{stage_by, HasSites, IsReady};
-ghost use Rattle.triangulate_run.specs.Answer.{AreSoMany, ListsFaces, IsThere, MayCount, MayInsert, MayList, MayLocate, MayRemove};
+ghost use Rattle.triangulate_run.specs.Answer.{AreSoMany, AreVertices, ListsFaces, IsThere, MayCount, MayInsert, MayList, MayLocate, MayRemove};
 ghost use Rattle.triangulate_run.specs.declared.reply.Reply.TheVariants.{Edge};
 
 use crate::corners::{Corners, from_least, sort_faces};
@@ -62,6 +62,7 @@ pub(crate) fn remove<T: Triangulation<Vertex = Point2<i64>>, P: PlaneTests<i64>>
     ensures reply { MayRemove (stage_by T.Constraints.constraints (T.state triangulation.old))
         index result (stage_by T.Constraints.constraints (T.state triangulation.new)) }
 {
+    triangulation.recall_invariant();
     if index >= triangulation.num_vertices() as u64 {
         return Reply::NoVertex;
     }
@@ -70,6 +71,27 @@ pub(crate) fn remove<T: Triangulation<Vertex = Point2<i64>>, P: PlaneTests<i64>>
         Ok(point) => Reply::Removed(point.x, point.y),
         Err(_) => Reply::Refused(InsertionError::OutOfMemory),
     }
+}
+
+/// The vertices of two indexes, if both are there.
+pub(crate) fn vertices_at<T: Triangulation<Vertex = Point2<i64>>>(
+    triangulation: &T,
+    from: u64,
+    to: u64,
+) -> Option<(FixedVertexHandle, FixedVertexHandle)>
+    ensures { let s = stage_by T.Constraints.constraints (T.state triangulation.now) in
+        MatchOption result (¬ AreVertices s from to)
+        (λ p. (p.0 ≡ from) × (p.1 ≡ to) × AreVertices s from to) }
+{
+    triangulation.recall_invariant();
+    let count = triangulation.num_vertices() as u64;
+    if from >= count || to >= count {
+        return None;
+    }
+    Some((
+        FixedVertexHandle::from_index(from as u32),
+        FixedVertexHandle::from_index(to as u32),
+    ))
 }
 
 /// Where a point of the list is.
