@@ -21,24 +21,23 @@ use Rattle.triangulate_run.specs.Stage.{position}
 
 -- the indexes of marked data rise
 module _ {U : Type 0} (marks : U → Bool) where
+  marked_more : (P : List ℕ → Type 0) (b : Bool) (first : ℕ) (rest : List ℕ) → P (first ∷ rest) → P rest → P (cond b (first ∷ rest) rest)
+  marked_more P true first rest with_it without = with_it
+  marked_more P false first rest with_it without = without
+
   from_first : (low first : ℕ) (ds : List U) → low ≤ first → All (λ k. low ≤ k) (marked_from marks first ds)
   from_first low first [] le = All-nil (λ k. low ≤ k)
-  from_first low first (d ∷ ds) le = go (marks d)
-    where
-      rest : All (λ k. low ≤ k) (marked_from marks (suc first) ds)
-      rest = from_first low (suc first) ds (omega (arith, le))
-
-      go : (b : Bool) → All (λ k. low ≤ k) (cond b (first ∷ marked_from marks (suc first) ds) (marked_from marks (suc first) ds))
-      go true = All-cons (λ k. low ≤ k) first (marked_from marks (suc first) ds) le rest
-      go false = rest
+  from_first low first (d ∷ ds) le =
+      let later = marked_from marks (suc first) ds in
+      let rest = from_first low (suc first) ds (omega (arith, le)) in
+      marked_more (All (λ k. low ≤ k)) (marks d) first later (All-cons (λ k. low ≤ k) first later le rest) rest
 
   rising : (first : ℕ) (ds : List U) → AllPairs (λ k l. k < l) (marked_from marks first ds)
   rising first [] = λ i j d before within. absurd (omega (arith, within))
-  rising first (d ∷ ds) = go (marks d)
-    where
-      go : (b : Bool) → AllPairs (λ k l. k < l) (cond b (first ∷ marked_from marks (suc first) ds) (marked_from marks (suc first) ds))
-      go true = AllPairs-cons (λ k l. k < l) first (marked_from marks (suc first) ds) (from_first (suc first) (suc first) ds (omega arith)) (rising (suc first) ds)
-      go false = rising (suc first) ds
+  rising first (d ∷ ds) =
+      let later = marked_from marks (suc first) ds in
+      let rest = rising (suc first) ds in
+      marked_more (AllPairs (λ k l. k < l)) (marks d) first later (AllPairs-cons (λ k l. k < l) first later (from_first (suc first) (suc first) ds (omega arith)) rest) rest
 
 -- a mesh with the data of a state, and no room
 abbrev pub contents_of : {D U F : Type 0} → State (Point2 ℤ) D U F → Contents (Point2 ℤ) D U F

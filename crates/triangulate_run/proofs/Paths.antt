@@ -82,4 +82,4 @@ module _ {D U F : Type 0} (old new : State (Point2 ℤ) D (CdtEdge U) F) (i j : 
   -- memory was refused
   pub joins_refused : {X E : Type 0} (r : Result X E) (e : E) → r ≡ Err e → ((i ≡ j) ⊎ (¬ CanAdd position (constrained old) i j) → IsOk r) → i < length old.vertices → j < length old.vertices → new ≡ old
       → MayRefuse (stage_by constraint_edges old) i j (Refused OutOfMemory) (stage_by constraint_edges new)
-  joins_refused {X} {E} r e is none i_in j_in same = ((i_in, j_in), inr (λ barred. subst (λ (q : Result X E). IsOk q) is (none barred)), ap (stage_by constraint_edges) same)
+  joins_refused {X} {E} r e is none i_in j_in same = ((i_in, j_in), inr (λ barred. (let no = subst (λ (q : Result X E). IsOk q) is (none barred) in cc)), ap (stage_by constraint_edges) same)
