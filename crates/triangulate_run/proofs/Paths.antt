@@ -1,8 +1,10 @@
 -- The edges of a path, as a reply names them, and what becomes of the stage.
-use Rattle.std.proofs.Common.{◌≡◌, ◌≢◌, ℕ, ◌<◌, List, [], ◌∷◌, ◌++◌, length, map, refl, inl, inr, ap, sym, subst}
+use Rattle.std.proofs.Common.{◌≡◌, ◌≢◌, ℕ, ◌<◌, Bool, true, false, List, [], ◌∷◌, ◌++◌, length, map, refl, inl, inr, ap, sym, ◌∙◌, subst}
 use Rattle.std.specs.Prelude.{◌⊎◌, ℤ, All, Result, Err, IsOk}
 use Rattle.std.specs.List.{flat_map}
-use Rattle.std.proofs.lemmas.Bool.{cases_eq}
+use Rattle.std.specs.Bool.{◌==◌}
+use Rattle.std.proofs.lemmas.Bool.{cases_eq, eqb-true, eqb-false}
+use Rattle.std.proofs.lemmas.List.{nil_from_length}
 use Rattle.std.proofs.lemmas.List.Elements.{All-nil, All-cons}
 use Rattle.plane.specs.Fraction.{Point}
 use Rattle.plane.specs.Plain.{Plain, CanAdd, AreNeighboursOn}
@@ -38,6 +40,13 @@ leads_within points m i j (e ∷ es) (within, from, next, rest) = All-cons (λ h
 -- what is not denied of all crossings holds of all
 pub can_add : {V : Type 0} (at : V → Point) (s : Plain V) (i j : ℕ) → ¬ ¬ CanAdd at s i j → CanAdd at s i j
 can_add at s i j h = λ a b joined crossing. h (λ can. can a b joined crossing)
+
+-- whether there are edges, by their number
+pub no_edges : (edges : List ℕ) (n : ℕ) (b : Bool) → length edges ≡ n → b ≡ (n == 0) → b ≡ true → edges ≡ []
+no_edges edges n b is e t = nil_from_length edges (is ∙ eqb-true n 0 (sym e ∙ t))
+
+pub some_edges : (edges : List ℕ) (n : ℕ) (b : Bool) → length edges ≡ n → b ≡ (n == 0) → b ≡ false → edges ≢ []
+some_edges edges n b is e f none = eqb-false n 0 (sym e ∙ f) (sym is ∙ ap length none)
 
 -- the text of the ends of an edge
 abbrev pub edge_piece : Mesh → ℕ → List ℕ
