@@ -27,4 +27,4 @@ returns-in-Err g c =
     let from = listed_if_known c.args.points.now (position c.args.from) c.index_of.result c.if-is_none.ensures c.index_of.ensures in
     let to = listed_if_known c.args.points.now (position c.args.to) c.index_of-else-is_none.result c.if-is_none-2.ensures c.index_of-else-is_none.ensures in
     let part = subst (λ (ys : List ℕ). AppendsPart (g.W.Write.contents (inner_of c.args.writer.now)) (g.W.Write.contents (inner_of c.put_line.new.writer)) (ys ++ line_text line.items)) c.new-held.ensures put.0 in
-    (line_text line.items, inl (line.items, from, to, line.line_list, refl), part, put.1)
+    (line_text line.items, inl (line.items, from, to, line.line_list, refl), (part, put.1))
