@@ -1,4 +1,4 @@
-use Rattle.std.proofs.Common.{◌≡◌, ◌∙◌, ℕ, ◌<◌, List, length, map, ap, sym, subst, arith, rules, SFits, w64, to_z-of_z}
+use Rattle.std.proofs.Common.{◌≡◌, ◌∙◌, ℕ, ◌+◌, ◌<◌, List, length, map, ap, sym, subst, arith, rules, SFits, w64, to_z-of_z}
 use Rattle.std.specs.Prelude.{ℤ, slice_get, Some}
 use Rattle.std.proofs.lemmas.List.{length-map}
 use Rattle.plane.specs.Fraction.{whole}
@@ -6,7 +6,7 @@ use Rattle.plane.specs.Circle.{gap}
 use Rattle.delaunay_legalization.specs.State.{triangulation_of}
 use Rattle.delaunay_edit.proofs.Removing.{read_place}
 use Rattle.triangulate_run.specs.Stage.{position}
-use Rattle.triangulate_run.proofs.Distances.{IsLesser, vertex_in_range, least_goes_on, least_found}
+use Rattle.triangulate_run.proofs.Distances.{IsLeastBefore, IsLesser, vertex_in_range, least_goes_on, least_found}
 use Rattle.triangulate_run.proofs.nearest.least_distance.Goals as goal
 
 pub distance_2-requires-clause-other_in_range : goal.distance_2-requires-clause-other_in_range
@@ -28,8 +28,9 @@ loop-index-preserved g c =
     let is = c.distance_2.ensures ∙ ap (λ q. gap (whole p) (whole q)) (sym (read_place position vs i v here)) in
     let fits : SFits w64 c.distance_2.result = search rules in
     let lesser = subst (λ (d : ℤ). IsLesser c.loop-index.least d c.lesser.result) (to_z-of_z {w = w64} {z = c.distance_2.result} fits) c.lesser.ensures in
-    least_goes_on (map position vs) p i c.loop-index.least c.distance_2.result c.lesser.result c.loop-index.invariant
-    (omega (arith, length-map vs position, c.loop-index-test.true, c.num_vertices-index-end.ensures)) is lesser
+    let stays : SFits w64 c.lesser.result = search rules in
+    subst (λ (d : ℤ). IsLeastBefore (map position vs) p (i + 1) d) (sym (to_z-of_z {w = w64} {z = c.lesser.result} stays)) (least_goes_on (map position vs) p i c.loop-index.least c.distance_2.result c.lesser.result c.loop-index.invariant
+    (omega (arith, length-map vs position, c.loop-index-test.true, c.num_vertices-index-end.ensures)) is lesser)
 
 pub returns : goal.returns
 returns g c =
