@@ -1,5 +1,5 @@
 //! Iterators over the names of the parts of a mesh.
-#![tactic(auto, using(crate::proofs::Steps::range_below, crate::proofs::Steps::rest_below))]
+#![tactic(auto, using(crate::proofs::Steps::range_below))]
 
 ghost use Rattle.std.specs.Prelude.{◌≡◌, ◌-◌, ◌^◌, ◌≤◌, ⊤};
 ghost use Rattle.std.specs.List.{range_with_len};
