@@ -1,10 +1,10 @@
 -- Names taken from either end of a list.
-use Rattle.std.proofs.Common.{◌≡◌, ℕ, ◌+◌, ◌<◌, ◌≤◌, List, [], ◌∷◌, ◌++◌, length, map, Option, None, Some, All, refl, sym, subst, arith}
+use Rattle.std.proofs.Common.{◌≡◌, ℕ, ◌+◌, ◌<◌, ◌≤◌, List, [], ◌∷◌, length, Option, None, Some, All, sym, subst, arith}
 use Rattle.std.specs.List.{range_with_len}
 use Rattle.std.specs.Iterator.{YieldsFirst, YieldsLast}
 use Rattle.std.specs.Borrow.{Bor}
-use Rattle.std.proofs.lemmas.List.{map-append, length-map}
-use Rattle.std.proofs.lemmas.List.Elements.{All-nil, All-head, All-tail, All-pop}
+use Rattle.std.proofs.lemmas.List.{length-map}
+use Rattle.std.proofs.lemmas.List.Elements.{All-nil, All-tail, All-pop}
 use Rattle.std.proofs.lemmas.List.FromFn.{length-range_with_len, get_or-range_with_len}
 use Rattle.half_edge_views.specs.Left.{each_in}
 
@@ -13,15 +13,7 @@ pub row_below : (a n b : ℕ) (xs : List ℕ) → xs ≡ range_with_len a n → 
 row_below a n b xs is bound = rw is (λ k d lt. omega (arith, length-range_with_len a n, get_or-range_with_len a n k d (omega (arith, length-range_with_len a n))))
 
 module _ (P : ℕ → Type 0) (xs ys : List ℕ) where
-  -- what holds of each holds of the first
-  pub first_holds : (i : ℕ) → ys ≡ i ∷ xs → All P ys → P i
-  first_holds i is all = All-head P i xs (subst (All P) is all)
-
-  -- and of the last
-  pub last_holds : (i : ℕ) → ys ≡ xs ++ i ∷ [] → All P ys → P i
-  last_holds i is all = (All-pop P ys xs (Some i) is all).1
-
-  -- and of those that are left after the first is taken
+  -- what holds of each holds of those that are left after the first is taken
   pub rest_holds : (taken : Option ℕ) → YieldsFirst (λ s. s) ys taken xs → All P ys → All P xs
   rest_holds None gives all = subst (All P) (sym gives.1) (All-nil P)
   rest_holds (Some i) gives all = All-tail P i xs (subst (All P) gives all)
@@ -35,7 +27,3 @@ module _ {C : Type 0} (mesh : Bor C) where
   -- there are as many parts as names
   pub length_each : (xs : List ℕ) → length (each_in mesh xs) ≡ length xs
   length_each xs = length-map xs (λ i. (mesh, i))
-
-  -- the last of the parts
-  pub each_last : (i : ℕ) (xs ys : List ℕ) → ys ≡ xs ++ i ∷ [] → each_in mesh ys ≡ each_in mesh xs ++ (mesh, i) ∷ []
-  each_last i xs ys is = rw is (map-append (λ k. (mesh, k)) xs (i ∷ []))

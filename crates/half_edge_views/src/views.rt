@@ -1,5 +1,5 @@
 //! Handles of the parts of a mesh, and iterators over them.
-#![tactic(auto, using(crate::proofs::Taken::row_below))]
+#![tactic(auto)]
 
 ghost use Rattle.std.specs.Prelude.{◌≡◌, ◌≢◌, ◌<◌, ◌≤◌, ◌+◌, ◌↔◌, ℕ, length, IsSome, IfNone, IfSome};
 ghost use Rattle.std.specs.List.{range_with_len};
