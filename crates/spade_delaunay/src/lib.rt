@@ -24,3 +24,4 @@ pub use delaunay_shape_queries::{
     VerticesInShapeIterator,
 };
 pub use half_edge_mesh::{Dcel, MAX_ELEMENTS};
+pub use hint_hierarchy::{HierarchyHintGenerator, HierarchyHintGeneratorWithBranchFactor};
