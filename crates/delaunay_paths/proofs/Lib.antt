@@ -1,5 +1,5 @@
 pub mod Towards
-pub mod Leaving
+pub mod LeftToTest
 pub mod Making
 pub mod LastEdge
 pub mod Walking

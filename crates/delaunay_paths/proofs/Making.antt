@@ -24,7 +24,7 @@ use Rattle.delaunay_legalization.specs.Known.{point_at}
 use Rattle.delaunay_paths.specs.Crossing.{CrossesFromRight, IsLastBelow}
 use Rattle.delaunay_paths.specs.Kept.{KeepsUncrossed}
 use Rattle.delaunay_paths.specs.Leaving.{AllPassBeyond, IsWorkList, MakesEdge, TurnsTowards}
-use Rattle.delaunay_paths.proofs.Leaving.{flip_leaves, passing_ends}
+use Rattle.delaunay_paths.proofs.LeftToTest.{flip_leaves, passing_ends}
 use Rattle.delaunay_paths.proofs.Walking.{placed_apart}
 use Rattle.delaunay_paths.proofs.Towards as T
 
