@@ -19,9 +19,9 @@ abbrev pub AllPassBeyond : List Point → List Face → List (ℕ × ℕ) → Li
 AllPassBeyond points faces constraints left i j = (a b k l : ℕ) → IsFaceOf faces a b k → IsFaceOf faces b a l → ¬ Cross (place points i) (place points j) (place points a) (place points b) → ¬ Joins constraints a b → ¬ Joins left a b → Pass points a b k l
 
 -- the work list is one of edges of the mesh, each once, and has room for all
-pub record IsWorkList {V D U F : Type 0} (c : Contents V D U F) (items : List ℕ) (room : ℕ) : Type 0 where
+pub record IsWorkList {V D U F : Type 0} (c : Contents V D U F) (items : List ℕ) (capacity : ℕ) : Type 0 where
   pub edges : AreEdges c.mesh items
-  pub room : length c.undirected ≤ room
+  pub room : length c.undirected ≤ capacity
 
 -- a flip towards the segment from i to j: the sum over the edges that cross it falls, and each edge that does not cross it and may
 -- fail is left to test, whatever the constraints are
