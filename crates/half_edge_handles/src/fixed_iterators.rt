@@ -1,29 +1,30 @@
 //! Iterators over the names of the parts of a mesh.
-#![tactic(auto, using(crate::proofs::Steps::range_step, crate::proofs::Steps::length_range_step))]
+#![tactic(auto, using(crate::proofs::Steps::range_below))]
 
-ghost use Rattle.std.specs.Prelude.{◌≡◌, ◌-◌, ◌^◌, ◌≤◌};
+ghost use Rattle.std.specs.Prelude.{◌≡◌, ◌-◌, ◌^◌, ◌≤◌, ⊤};
 ghost use Rattle.std.specs.List.{range_with_len};
-ghost use Rattle.std.specs.Iterator.{YieldsFirst, item_count};
+ghost use Rattle.std.specs.Iterator.{YieldsFirst, YieldsLast, item_count};
 
 use crate::handles::{
     FixedDirectedEdgeHandle, FixedFaceHandle, FixedUndirectedEdgeHandle, FixedVertexHandle,
 };
+use crate::index_range::IndexRange;
+use std::alloc::AllocError;
+use std::iter::FusedIterator;
 use std::marker::Model;
 
 /// Names of vertices that are left, by rising index.
-#[derive(Drop)]
+#[derive(Drop, Debug)]
 pub struct FixedVertexIterator {
-    next: u32,
-    end: u32,
+    indexes: IndexRange,
 }
 
 impl Model for FixedVertexIterator {
-    ghost use Rattle.std.specs.Prelude.{ℕ, List, ◌-◌, ◌≤◌, ◌^◌};
-    ghost use Rattle.std.specs.List.{range_with_len};
+    ghost use Rattle.std.specs.Prelude.{ℕ, List};
 
     ghost Value = { List ℕ };
 
-    ghost view = { λ s. range_with_len s.next (s.end - s.next) };
+    ghost view = { λ s. s.indexes };
 }
 
 impl FixedVertexIterator {
@@ -31,7 +32,21 @@ impl FixedVertexIterator {
     pub fn new(next: u32, end: u32) -> Self
         ensures { result ≡ range_with_len next (end - next) }
     {
-        FixedVertexIterator { next, end }
+        FixedVertexIterator {
+            indexes: IndexRange::new(next, end),
+        }
+    }
+}
+
+impl Clone for FixedVertexIterator {
+    ghost is_clone = { λ it copy. copy ≡ it };
+
+    ghost is_infallible = { λ _. ⊤ };
+
+    fn clone(&self) -> Result<Self, AllocError> {
+        Ok(FixedVertexIterator {
+            indexes: self.indexes.clone()?,
+        })
     }
 }
 
@@ -43,29 +58,44 @@ impl Iterator for FixedVertexIterator {
     ghost remaining = { item_count (λ s. s) };
 
     fn next(&mut self) -> Option<FixedVertexHandle> {
-        if self.next >= self.end {
-            return None;
-        }
-        let index = self.next;
-        self.next += 1;
+        let index = self.indexes.next()?;
+        Some(FixedVertexHandle::from_index(index))
+    }
+
+    fn size_hint(&self) -> (usize, Option<usize>) {
+        (self.len(), Some(self.len()))
+    }
+}
+
+impl DoubleEndedIterator for FixedVertexIterator {
+    ghost next_back_gives = { YieldsLast (λ s. s) };
+
+    fn next_back(&mut self) -> Option<FixedVertexHandle> {
+        let index = self.indexes.next_back()?;
         Some(FixedVertexHandle::from_index(index))
     }
 }
 
+impl ExactSizeIterator for FixedVertexIterator {
+    fn len(&self) -> usize {
+        self.indexes.len()
+    }
+}
+
+impl FusedIterator for FixedVertexIterator {}
+
 /// Names of directed edges that are left, by rising index.
-#[derive(Drop)]
+#[derive(Drop, Debug)]
 pub struct FixedDirectedEdgeIterator {
-    next: u32,
-    end: u32,
+    indexes: IndexRange,
 }
 
 impl Model for FixedDirectedEdgeIterator {
-    ghost use Rattle.std.specs.Prelude.{ℕ, List, ◌-◌, ◌≤◌, ◌^◌};
-    ghost use Rattle.std.specs.List.{range_with_len};
+    ghost use Rattle.std.specs.Prelude.{ℕ, List};
 
     ghost Value = { List ℕ };
 
-    ghost view = { λ s. range_with_len s.next (s.end - s.next) };
+    ghost view = { λ s. s.indexes };
 }
 
 impl FixedDirectedEdgeIterator {
@@ -73,7 +103,21 @@ impl FixedDirectedEdgeIterator {
     pub fn new(next: u32, end: u32) -> Self
         ensures { result ≡ range_with_len next (end - next) }
     {
-        FixedDirectedEdgeIterator { next, end }
+        FixedDirectedEdgeIterator {
+            indexes: IndexRange::new(next, end),
+        }
+    }
+}
+
+impl Clone for FixedDirectedEdgeIterator {
+    ghost is_clone = { λ it copy. copy ≡ it };
+
+    ghost is_infallible = { λ _. ⊤ };
+
+    fn clone(&self) -> Result<Self, AllocError> {
+        Ok(FixedDirectedEdgeIterator {
+            indexes: self.indexes.clone()?,
+        })
     }
 }
 
@@ -85,31 +129,46 @@ impl Iterator for FixedDirectedEdgeIterator {
     ghost remaining = { item_count (λ s. s) };
 
     fn next(&mut self) -> Option<FixedDirectedEdgeHandle> {
-        if self.next >= self.end {
-            return None;
-        }
-        let index = self.next;
-        self.next += 1;
+        let index = self.indexes.next()?;
+        Some(FixedDirectedEdgeHandle::from_index(index))
+    }
+
+    fn size_hint(&self) -> (usize, Option<usize>) {
+        (self.len(), Some(self.len()))
+    }
+}
+
+impl DoubleEndedIterator for FixedDirectedEdgeIterator {
+    ghost next_back_gives = { YieldsLast (λ s. s) };
+
+    fn next_back(&mut self) -> Option<FixedDirectedEdgeHandle> {
+        let index = self.indexes.next_back()?;
         Some(FixedDirectedEdgeHandle::from_index(index))
     }
 }
 
+impl ExactSizeIterator for FixedDirectedEdgeIterator {
+    fn len(&self) -> usize {
+        self.indexes.len()
+    }
+}
+
+impl FusedIterator for FixedDirectedEdgeIterator {}
+
 /// Names of undirected edges that are left, by rising index.
-#[derive(Drop)]
+#[derive(Drop, Debug)]
 pub struct FixedUndirectedEdgeIterator {
-    next: u32,
-    end: u32,
+    indexes: IndexRange,
 }
 
 impl Model for FixedUndirectedEdgeIterator {
-    ghost use Rattle.std.specs.Prelude.{ℕ, List, ◌-◌, ◌≤◌, ◌^◌};
-    ghost use Rattle.std.specs.List.{range_with_len};
+    ghost use Rattle.std.specs.Prelude.{ℕ, List, All, ◌<◌, ◌^◌};
 
     ghost Value = { List ℕ };
 
-    ghost view = { λ s. range_with_len s.next (s.end - s.next) };
+    ghost view = { λ s. s.indexes };
 
-    ghost invariant = { λ s. s.end ≤ 2 ^ 31 };
+    ghost invariant = { λ s. All (λ i. i < 2 ^ 31) s.indexes };
 }
 
 impl FixedUndirectedEdgeIterator {
@@ -118,7 +177,21 @@ impl FixedUndirectedEdgeIterator {
         requires { end ≤ 2 ^ 31 }
         ensures { result ≡ range_with_len next (end - next) }
     {
-        FixedUndirectedEdgeIterator { next, end }
+        FixedUndirectedEdgeIterator {
+            indexes: IndexRange::new(next, end),
+        }
+    }
+}
+
+impl Clone for FixedUndirectedEdgeIterator {
+    ghost is_clone = { λ it copy. copy ≡ it };
+
+    ghost is_infallible = { λ _. ⊤ };
+
+    fn clone(&self) -> Result<Self, AllocError> {
+        Ok(FixedUndirectedEdgeIterator {
+            indexes: self.indexes.clone()?,
+        })
     }
 }
 
@@ -130,29 +203,44 @@ impl Iterator for FixedUndirectedEdgeIterator {
     ghost remaining = { item_count (λ s. s) };
 
     fn next(&mut self) -> Option<FixedUndirectedEdgeHandle> {
-        if self.next >= self.end {
-            return None;
-        }
-        let index = self.next;
-        self.next += 1;
+        let index = self.indexes.next()?;
+        Some(FixedUndirectedEdgeHandle::from_index(index))
+    }
+
+    fn size_hint(&self) -> (usize, Option<usize>) {
+        (self.len(), Some(self.len()))
+    }
+}
+
+impl DoubleEndedIterator for FixedUndirectedEdgeIterator {
+    ghost next_back_gives = { YieldsLast (λ s. s) };
+
+    fn next_back(&mut self) -> Option<FixedUndirectedEdgeHandle> {
+        let index = self.indexes.next_back()?;
         Some(FixedUndirectedEdgeHandle::from_index(index))
     }
 }
 
+impl ExactSizeIterator for FixedUndirectedEdgeIterator {
+    fn len(&self) -> usize {
+        self.indexes.len()
+    }
+}
+
+impl FusedIterator for FixedUndirectedEdgeIterator {}
+
 /// Names of faces that are left, by rising index.
-#[derive(Drop)]
+#[derive(Drop, Debug)]
 pub struct FixedFaceIterator {
-    next: u32,
-    end: u32,
+    indexes: IndexRange,
 }
 
 impl Model for FixedFaceIterator {
-    ghost use Rattle.std.specs.Prelude.{ℕ, List, ◌-◌, ◌≤◌, ◌^◌};
-    ghost use Rattle.std.specs.List.{range_with_len};
+    ghost use Rattle.std.specs.Prelude.{ℕ, List};
 
     ghost Value = { List ℕ };
 
-    ghost view = { λ s. range_with_len s.next (s.end - s.next) };
+    ghost view = { λ s. s.indexes };
 }
 
 impl FixedFaceIterator {
@@ -160,7 +248,21 @@ impl FixedFaceIterator {
     pub fn new(next: u32, end: u32) -> Self
         ensures { result ≡ range_with_len next (end - next) }
     {
-        FixedFaceIterator { next, end }
+        FixedFaceIterator {
+            indexes: IndexRange::new(next, end),
+        }
+    }
+}
+
+impl Clone for FixedFaceIterator {
+    ghost is_clone = { λ it copy. copy ≡ it };
+
+    ghost is_infallible = { λ _. ⊤ };
+
+    fn clone(&self) -> Result<Self, AllocError> {
+        Ok(FixedFaceIterator {
+            indexes: self.indexes.clone()?,
+        })
     }
 }
 
@@ -172,11 +274,28 @@ impl Iterator for FixedFaceIterator {
     ghost remaining = { item_count (λ s. s) };
 
     fn next(&mut self) -> Option<FixedFaceHandle> {
-        if self.next >= self.end {
-            return None;
-        }
-        let index = self.next;
-        self.next += 1;
+        let index = self.indexes.next()?;
+        Some(FixedFaceHandle::from_index(index))
+    }
+
+    fn size_hint(&self) -> (usize, Option<usize>) {
+        (self.len(), Some(self.len()))
+    }
+}
+
+impl DoubleEndedIterator for FixedFaceIterator {
+    ghost next_back_gives = { YieldsLast (λ s. s) };
+
+    fn next_back(&mut self) -> Option<FixedFaceHandle> {
+        let index = self.indexes.next_back()?;
         Some(FixedFaceHandle::from_index(index))
     }
 }
+
+impl ExactSizeIterator for FixedFaceIterator {
+    fn len(&self) -> usize {
+        self.indexes.len()
+    }
+}
+
+impl FusedIterator for FixedFaceIterator {}

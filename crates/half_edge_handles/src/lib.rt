@@ -3,6 +3,7 @@
 
 mod fixed_iterators;
 mod handles;
+mod index_range;
 
 pub use fixed_iterators::{
     FixedDirectedEdgeIterator, FixedFaceIterator, FixedUndirectedEdgeIterator, FixedVertexIterator,

@@ -2,3 +2,4 @@ pub mod Ranges
 pub mod Walks
 pub mod Loops
 pub mod Joined
+pub mod Taken

@@ -1,6 +1,5 @@
 -- What is left of iterators over the parts of a mesh.
-use Rattle.std.specs.Prelude.{ℕ, ◌+◌, ◌-◌, List, length, map}
-use Rattle.std.specs.List.{range_with_len}
+use Rattle.std.specs.Prelude.{ℕ, List, map}
 use Rattle.std.specs.Borrow.{Bor}
 use Rattle.half_edge_dcel.specs.Contents.{Contents}
 use Rattle.half_edge_views.specs.declared.iterators.VertexIterator.{VertexIterator}
@@ -13,13 +12,13 @@ abbrev pub each_in : {C : Type 0} → Bor C → List ℕ → List (Bor C × ℕ)
 each_in mesh indexes = map (λ i. (mesh, i)) indexes
 
 abbrev pub vertices_left : {V D U F : Type 0} → VertexIterator V D U F → List (Bor (Contents V D U F) × ℕ)
-vertices_left it = each_in it.dcel (range_with_len it.next (length it.dcel.now.vertices - it.next))
+vertices_left it = each_in it.dcel it.rest
 
 abbrev pub directed_edges_left : {V D U F : Type 0} → DirectedEdgeIterator V D U F → List (Bor (Contents V D U F) × ℕ)
-directed_edges_left it = each_in it.dcel (range_with_len it.next (length it.dcel.now.directed - it.next))
+directed_edges_left it = each_in it.dcel it.rest
 
 abbrev pub undirected_edges_left : {V D U F : Type 0} → UndirectedEdgeIterator V D U F → List (Bor (Contents V D U F) × ℕ)
-undirected_edges_left it = each_in it.dcel (range_with_len it.next (length it.dcel.now.undirected - it.next))
+undirected_edges_left it = each_in it.dcel it.rest
 
 abbrev pub faces_left : {V D U F : Type 0} → FaceIterator V D U F → List (Bor (Contents V D U F) × ℕ)
-faces_left it = each_in it.dcel (range_with_len it.next (length it.dcel.now.faces + 1 - it.next))
+faces_left it = each_in it.dcel it.rest

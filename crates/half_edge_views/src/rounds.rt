@@ -1,11 +1,12 @@
 //! Iterators round a vertex and along the hull.
 #![tactic(auto)]
 
-ghost use Rattle.std.specs.Prelude.{◌≡◌, ◌≢◌, ◌-◌, ◌<◌, ◌==◌, if◌then◌else◌, ℕ, length, IfNone, IfSome};
+ghost use Rattle.std.specs.Prelude.{◌≡◌, ◌≢◌, ◌-◌, ◌<◌, ◌==◌, if◌then◌else◌, ℕ, length, ⊤, IfNone, IfSome};
 ghost use Rattle.std.specs.Iterator.{YieldsFirstBy, item_count};
 
 use crate::edge::DirectedEdgeHandle;
 use half_edge_dcel::Dcel;
+use std::alloc::AllocError;
 
 // How many edges may come after one that `after` follows.
 fn left_after(after: u32, first: u32, left: u32) -> u32
@@ -17,13 +18,30 @@ fn left_after(after: u32, first: u32, left: u32) -> u32
 
 /// The edges that start at a vertex, counterclockwise.
 #[derive(Drop)]
+#[derive_where(Debug)]
 pub struct CircularIterator<'a, V, DE, UE, F> {
+    #[derive_where(skip)]
     pub dcel: &'a Dcel<V, DE, UE, F>,
     pub first: u32,
     pub next: u32,
     // No more edges come than these.
     pub left: u32,
     ghost in_range: { 0 < left → next < length dcel.now.directed },
+}
+
+impl<'a, V, DE, UE, F> Clone for CircularIterator<'a, V, DE, UE, F> {
+    ghost is_clone = { λ it copy. (copy.dcel ≡ it.dcel) × (copy.first ≡ it.first) × (copy.next ≡ it.next) × (copy.left ≡ it.left) };
+
+    ghost is_infallible = { λ _. ⊤ };
+
+    fn clone(&self) -> Result<Self, AllocError> {
+        Ok(CircularIterator {
+            dcel: self.dcel,
+            first: self.first,
+            next: self.next,
+            left: self.left,
+        })
+    }
 }
 
 impl<'a, V, DE, UE, F> Iterator for CircularIterator<'a, V, DE, UE, F> {
@@ -52,13 +70,30 @@ impl<'a, V, DE, UE, F> Iterator for CircularIterator<'a, V, DE, UE, F> {
 
 /// The edges with the outer face on their left, clockwise round the hull.
 #[derive(Drop)]
+#[derive_where(Debug)]
 pub struct HullIterator<'a, V, DE, UE, F> {
+    #[derive_where(skip)]
     pub dcel: &'a Dcel<V, DE, UE, F>,
     pub first: u32,
     pub next: u32,
     // No more edges come than these.
     pub left: u32,
     ghost in_range: { 0 < left → next < length dcel.now.directed },
+}
+
+impl<'a, V, DE, UE, F> Clone for HullIterator<'a, V, DE, UE, F> {
+    ghost is_clone = { λ it copy. (copy.dcel ≡ it.dcel) × (copy.first ≡ it.first) × (copy.next ≡ it.next) × (copy.left ≡ it.left) };
+
+    ghost is_infallible = { λ _. ⊤ };
+
+    fn clone(&self) -> Result<Self, AllocError> {
+        Ok(HullIterator {
+            dcel: self.dcel,
+            first: self.first,
+            next: self.next,
+            left: self.left,
+        })
+    }
 }
 
 impl<'a, V, DE, UE, F> Iterator for HullIterator<'a, V, DE, UE, F> {

@@ -164,7 +164,7 @@ impl<V, DE, UE, F> MeshViews<V, DE, UE, F> for Dcel<V, DE, UE, F> {
     {
         VertexIterator {
             dcel: self,
-            next: 0,
+            rest: self.fixed_vertices(),
         }
     }
 
@@ -173,7 +173,7 @@ impl<V, DE, UE, F> MeshViews<V, DE, UE, F> for Dcel<V, DE, UE, F> {
     {
         DirectedEdgeIterator {
             dcel: self,
-            next: 0,
+            rest: self.fixed_directed_edges(),
         }
     }
 
@@ -182,7 +182,7 @@ impl<V, DE, UE, F> MeshViews<V, DE, UE, F> for Dcel<V, DE, UE, F> {
     {
         UndirectedEdgeIterator {
             dcel: self,
-            next: 0,
+            rest: self.fixed_undirected_edges(),
         }
     }
 
@@ -191,7 +191,7 @@ impl<V, DE, UE, F> MeshViews<V, DE, UE, F> for Dcel<V, DE, UE, F> {
     {
         FaceIterator {
             dcel: self,
-            next: 0,
+            rest: self.fixed_faces(),
         }
     }
 
@@ -200,7 +200,7 @@ impl<V, DE, UE, F> MeshViews<V, DE, UE, F> for Dcel<V, DE, UE, F> {
     {
         FaceIterator {
             dcel: self,
-            next: 1,
+            rest: self.fixed_inner_faces(),
         }
     }
 

@@ -1,7 +1,7 @@
 //! Iterators over the faces and edges of the Voronoi diagram.
 ghost use Rattle.std.specs.Prelude.{◌≡◌, length};
 ghost use Rattle.std.specs.List.{range_with_len};
-ghost use Rattle.std.specs.Iterator.{YieldsFirstBy, item_count};
+ghost use Rattle.std.specs.Iterator.{YieldsFirstBy, YieldsLastBy, item_count};
 ghost use Rattle.half_edge_views.specs.Left.{each_in, vertices_left, directed_edges_left, undirected_edges_left};
 
 use crate::voronoi::{
@@ -11,9 +11,11 @@ use half_edge_dcel::Dcel;
 use half_edge_views::{
     CircularIterator, DirectedEdgeIterator, MeshViews, UndirectedEdgeIterator, VertexIterator,
 };
+use std::iter::FusedIterator;
 
 /// The faces of the Voronoi diagram that are left, by rising index of their vertices.
 #[derive(Drop)]
+#[derive_where(Clone, Debug)]
 pub struct VoronoiFaceIterator<'a, V, DE, UE, F> {
     pub vertices: VertexIterator<'a, V, DE, UE, F>,
 }
@@ -29,10 +31,32 @@ impl<'a, V, DE, UE, F> Iterator for VoronoiFaceIterator<'a, V, DE, UE, F> {
         let vertex = self.vertices.next()?;
         Some(vertex.as_voronoi_face())
     }
+
+    fn size_hint(&self) -> (usize, Option<usize>) {
+        self.vertices.size_hint()
+    }
 }
+
+impl<'a, V, DE, UE, F> DoubleEndedIterator for VoronoiFaceIterator<'a, V, DE, UE, F> {
+    ghost next_back_gives = { YieldsLastBy (λ x. (x.vertex.dcel, x.vertex.index)) (λ it. vertices_left it.vertices) };
+
+    fn next_back(&mut self) -> Option<VoronoiFace<'a, V, DE, UE, F>> {
+        let vertex = self.vertices.next_back()?;
+        Some(vertex.as_voronoi_face())
+    }
+}
+
+impl<'a, V, DE, UE, F> ExactSizeIterator for VoronoiFaceIterator<'a, V, DE, UE, F> {
+    fn len(&self) -> usize {
+        self.vertices.len()
+    }
+}
+
+impl<'a, V, DE, UE, F> FusedIterator for VoronoiFaceIterator<'a, V, DE, UE, F> {}
 
 /// The directed edges of the Voronoi diagram that are left, by rising index of the edges that they lie across.
 #[derive(Drop)]
+#[derive_where(Clone, Debug)]
 pub struct DirectedVoronoiEdgeIterator<'a, V, DE, UE, F> {
     pub edges: DirectedEdgeIterator<'a, V, DE, UE, F>,
 }
@@ -48,10 +72,32 @@ impl<'a, V, DE, UE, F> Iterator for DirectedVoronoiEdgeIterator<'a, V, DE, UE, F
         let edge = self.edges.next()?;
         Some(edge.as_voronoi_edge())
     }
+
+    fn size_hint(&self) -> (usize, Option<usize>) {
+        self.edges.size_hint()
+    }
 }
+
+impl<'a, V, DE, UE, F> DoubleEndedIterator for DirectedVoronoiEdgeIterator<'a, V, DE, UE, F> {
+    ghost next_back_gives = { YieldsLastBy (λ x. (x.edge.dcel, x.edge.index)) (λ it. directed_edges_left it.edges) };
+
+    fn next_back(&mut self) -> Option<DirectedVoronoiEdge<'a, V, DE, UE, F>> {
+        let edge = self.edges.next_back()?;
+        Some(edge.as_voronoi_edge())
+    }
+}
+
+impl<'a, V, DE, UE, F> ExactSizeIterator for DirectedVoronoiEdgeIterator<'a, V, DE, UE, F> {
+    fn len(&self) -> usize {
+        self.edges.len()
+    }
+}
+
+impl<'a, V, DE, UE, F> FusedIterator for DirectedVoronoiEdgeIterator<'a, V, DE, UE, F> {}
 
 /// The undirected edges of the Voronoi diagram that are left, by rising index of the edges that they lie across.
 #[derive(Drop)]
+#[derive_where(Clone, Debug)]
 pub struct UndirectedVoronoiEdgeIterator<'a, V, DE, UE, F> {
     pub edges: UndirectedEdgeIterator<'a, V, DE, UE, F>,
 }
@@ -67,10 +113,32 @@ impl<'a, V, DE, UE, F> Iterator for UndirectedVoronoiEdgeIterator<'a, V, DE, UE,
         let edge = self.edges.next()?;
         Some(edge.as_voronoi_edge())
     }
+
+    fn size_hint(&self) -> (usize, Option<usize>) {
+        self.edges.size_hint()
+    }
 }
+
+impl<'a, V, DE, UE, F> DoubleEndedIterator for UndirectedVoronoiEdgeIterator<'a, V, DE, UE, F> {
+    ghost next_back_gives = { YieldsLastBy (λ x. (x.edge.dcel, x.edge.index)) (λ it. undirected_edges_left it.edges) };
+
+    fn next_back(&mut self) -> Option<UndirectedVoronoiEdge<'a, V, DE, UE, F>> {
+        let edge = self.edges.next_back()?;
+        Some(edge.as_voronoi_edge())
+    }
+}
+
+impl<'a, V, DE, UE, F> ExactSizeIterator for UndirectedVoronoiEdgeIterator<'a, V, DE, UE, F> {
+    fn len(&self) -> usize {
+        self.edges.len()
+    }
+}
+
+impl<'a, V, DE, UE, F> FusedIterator for UndirectedVoronoiEdgeIterator<'a, V, DE, UE, F> {}
 
 /// The edges of the Voronoi diagram with one face on their left that are left, counterclockwise.
 #[derive(Drop)]
+#[derive_where(Clone, Debug)]
 pub struct VoronoiCircularIterator<'a, V, DE, UE, F> {
     pub edges: CircularIterator<'a, V, DE, UE, F>,
 }

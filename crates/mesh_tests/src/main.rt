@@ -5,6 +5,7 @@
 mod comparisons;
 mod data;
 mod elements;
+mod ends;
 mod growth;
 mod indexes;
 mod iterators;

@@ -6,6 +6,7 @@ use crate::elements::{
     counts, directed_edge, edge_data, edge_kind, edges_between, face, links, undirected_edge,
     vertex,
 };
+use crate::ends::{copies, lasts, lengths};
 use crate::growth::{
     append_unconnected_vertex, create_new_face_adjacent_to_edge,
     create_single_face_between_edge_and_next, extend_line, flip_cw, insert_into_triangle,
@@ -22,6 +23,7 @@ use crate::room::{
     few_enough, full, large_data, links_of_a_line, past_the_limit, reserve, with_capacity,
 };
 use crate::voronoi::{undirected_voronoi_edge, voronoi_edge, voronoi_face, voronoi_vertex};
+use half_edge_mesh::MeshViews;
 use std::fmt::Debug;
 use std::io;
 
@@ -144,6 +146,10 @@ fn read(
         "out_edges" => call.tell(rt, &round(mesh, a)),
         "lists" => call.tell(rt, &lists(mesh)),
         "names" => call.tell(rt, &names(mesh)),
+        "lengths" => call.tell(rt, &lengths(mesh)),
+        "lasts" => call.tell(rt, &lasts(mesh)),
+        "copies" => call.tell(rt, &copies(mesh)),
+        "show" => call.tell(rt, &mesh.vertices()),
         _ => compare(rt, mesh, call, [a, b, c]),
     }
 }

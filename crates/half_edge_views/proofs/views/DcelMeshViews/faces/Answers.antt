@@ -1,5 +1,8 @@
-use Rattle.std.proofs.Common.{◌≡◌, ◌+◌, ◌-◌, length, refl, arith}
+use Rattle.std.proofs.Common.{◌+◌, length, arith}
+use Rattle.half_edge_views.proofs.Taken.{row_below}
 use Rattle.half_edge_views.proofs.views.DcelMeshViews.faces.Goals as goal
 
-pub returns : goal.returns
-returns g c = rw (let same : length c.args.self.now.faces + 1 - 0 ≡ length c.args.self.now.faces + 1 = omega arith in same) refl
+pub invariant_of-result : goal.invariant_of-result
+invariant_of-result g c =
+    let all = row_below 0 _ (length c.args.self.now.faces + 1) _ c.fixed_faces.ensures (omega arith) in
+    record { in_range = λ k d lt. omega (arith, all k d lt) }

@@ -1,0 +1,55 @@
+//! What the iterators of a mesh give from their far end, and how many items they have.
+
+use crate::iterators::count_of;
+use crate::lookups::Mesh;
+use half_edge_mesh::{MeshViews, VoronoiViews};
+use std::alloc::AllocError;
+
+/// How many vertices, directed edges, undirected edges, faces, inner faces, Voronoi faces, directed and undirected
+/// Voronoi edges are left.
+pub fn lengths(mesh: &Mesh) -> [usize; 8] {
+    [
+        mesh.vertices().len(),
+        mesh.directed_edges().len(),
+        mesh.undirected_edges().len(),
+        mesh.faces().len(),
+        mesh.inner_faces().len(),
+        mesh.voronoi_faces().len(),
+        mesh.directed_voronoi_edges().len(),
+        mesh.undirected_voronoi_edges().len(),
+    ]
+}
+
+/// The index of the last vertex, directed edge, undirected edge, face, inner face and Voronoi face, and the last name of
+/// a vertex and of an undirected edge.
+pub fn lasts(mesh: &Mesh) -> [Option<u32>; 8] {
+    [
+        mesh.vertices().rev().next().map(|vertex| vertex.index),
+        mesh.directed_edges().rev().next().map(|edge| edge.index),
+        mesh.undirected_edges().rev().next().map(|edge| edge.index),
+        mesh.faces().rev().next().map(|face| face.index),
+        mesh.inner_faces().rev().next().map(|face| face.index),
+        mesh.voronoi_faces()
+            .next_back()
+            .map(|face| face.vertex.index),
+        mesh.fixed_vertices()
+            .rev()
+            .next()
+            .map(|vertex| vertex.index()),
+        mesh.fixed_undirected_edges()
+            .rev()
+            .next()
+            .map(|edge| edge.index()),
+    ]
+}
+
+/// How many directed edges are left after the first and the last, how many a copy made after the first has, and how
+/// many it gives; and how many a copy of the hull gives.
+pub fn copies(mesh: &Mesh) -> Result<[usize; 4], AllocError> {
+    let mut edges = mesh.directed_edges();
+    let _first = edges.next();
+    let copy = edges.clone()?;
+    let _last = edges.next_back();
+    let hull = mesh.convex_hull().clone()?;
+    Ok([edges.len(), copy.len(), count_of(copy), count_of(hull)])
+}
