@@ -1,10 +1,9 @@
 -- What is left of an iterator over inner faces.
-use Rattle.std.specs.Prelude.{ℕ, ◌+◌, ◌-◌, List, length}
-use Rattle.std.specs.List.{range_with_len}
+use Rattle.std.specs.Prelude.{ℕ, List}
 use Rattle.std.specs.Borrow.{Bor}
 use Rattle.half_edge_mesh.specs.Contents.{Contents}
 use Rattle.half_edge_mesh.specs.Left.{each_in}
 use Rattle.delaunay_interface.specs.declared.inner_faces.InnerFaceIterator.{InnerFaceIterator}
 
 abbrev pub inner_faces_left : {V D U F : Type 0} → InnerFaceIterator V D U F → List (Bor (Contents V D U F) × ℕ)
-inner_faces_left it = each_in it.dcel (range_with_len it.next (length it.dcel.now.faces + 1 - it.next))
+inner_faces_left it = each_in it.dcel it.rest

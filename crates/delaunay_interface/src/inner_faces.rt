@@ -1,27 +1,48 @@
 //! An iterator over the faces but the outer one.
-#![tactic(auto, using(half_edge_handles::proofs::Steps::map_range_step))]
+#![tactic(auto, using(half_edge_views::proofs::Taken::length_each))]
 
-ghost use Rattle.std.specs.Prelude.{◌≡◌, ◌<◌, IfSome};
-ghost use Rattle.std.specs.Iterator.{YieldsFirstBy, item_count};
+ghost use Rattle.std.specs.Prelude.{◌≡◌, ◌<◌, ◌≤◌, ⊤, All, IfSome, length};
+ghost use Rattle.std.specs.List.{range_with_len};
+ghost use Rattle.std.specs.Iterator.{YieldsFirstBy, YieldsLastBy, item_count};
 
-use half_edge_mesh::{Dcel, FaceHandle};
+use half_edge_mesh::{Dcel, FaceHandle, FixedFaceIterator};
+use std::alloc::AllocError;
+use std::iter::FusedIterator;
 
 /// The inner faces that are left, by rising index. Each item is known to be an inner face, so that
 /// its corners can be asked for.
 #[derive(Drop)]
+#[derive_where(Debug)]
 pub struct InnerFaceIterator<'a, V, DE, UE, F> {
+    #[derive_where(skip)]
     dcel: &'a Dcel<V, DE, UE, F>,
-    next: u32,
-    ghost inner: { 0 < next },
+    rest: FixedFaceIterator,
+    ghost inner: { All (λ i. (0 < i) × (i ≤ length dcel.now.faces)) rest },
 }
 
 impl<'a, V, DE, UE, F> InnerFaceIterator<'a, V, DE, UE, F> {
     // All inner faces of a mesh.
     pub(crate) fn new(dcel: &'a Dcel<V, DE, UE, F>) -> Self
         ensures dcel { result.dcel ≡ dcel.entry }
-        ensures next { result.next ≡ 1 }
+        ensures rest { result.rest ≡ range_with_len 1 (length dcel.now.faces) }
     {
-        InnerFaceIterator { dcel, next: 1 }
+        InnerFaceIterator {
+            dcel,
+            rest: dcel.fixed_inner_faces(),
+        }
+    }
+}
+
+impl<'a, V, DE, UE, F> Clone for InnerFaceIterator<'a, V, DE, UE, F> {
+    ghost is_clone = { λ it copy. (copy.dcel ≡ it.dcel) × (copy.rest ≡ it.rest) };
+
+    ghost is_infallible = { λ _. ⊤ };
+
+    fn clone(&self) -> Result<Self, AllocError> {
+        Ok(InnerFaceIterator {
+            dcel: self.dcel,
+            rest: self.rest.clone()?,
+        })
     }
 }
 
@@ -36,14 +57,37 @@ impl<'a, V, DE, UE, F> Iterator for InnerFaceIterator<'a, V, DE, UE, F> {
     ghost remaining = { item_count inner_faces_left };
 
     fn next(&mut self) -> Option<FaceHandle<'a, V, DE, UE, F>> {
-        let index = self.next;
-        if index as usize >= self.dcel.num_faces() {
-            return None;
-        }
-        self.next += 1;
+        let face = self.rest.next()?;
         Some(FaceHandle {
             dcel: self.dcel,
-            index,
+            index: face.index(),
+        })
+    }
+
+    fn size_hint(&self) -> (usize, Option<usize>) {
+        (self.len(), Some(self.len()))
+    }
+}
+
+impl<'a, V, DE, UE, F> DoubleEndedIterator for InnerFaceIterator<'a, V, DE, UE, F> {
+    ghost use Rattle.delaunay_interface.specs.InnerFaces.{inner_faces_left};
+
+    ghost next_back_gives = { λ it r after. YieldsLastBy (λ x. (x.dcel, x.index)) inner_faces_left
+        it r after × IfSome r (λ f. 0 < f.index) };
+
+    fn next_back(&mut self) -> Option<FaceHandle<'a, V, DE, UE, F>> {
+        let face = self.rest.next_back()?;
+        Some(FaceHandle {
+            dcel: self.dcel,
+            index: face.index(),
         })
     }
 }
+
+impl<'a, V, DE, UE, F> ExactSizeIterator for InnerFaceIterator<'a, V, DE, UE, F> {
+    fn len(&self) -> usize {
+        self.rest.len()
+    }
+}
+
+impl<'a, V, DE, UE, F> FusedIterator for InnerFaceIterator<'a, V, DE, UE, F> {}

@@ -1,6 +1,7 @@
 //! The calls of both triangulation types.
 ghost use Rattle.std.specs.Prelude.{◌≡◌, ℕ, ◌+◌, ◌*◌, ◌<◌, ◌≤◌, ◌↔◌, [], ◌∷◌, length, map, Some, IsTrue, IsOk, IsErrOf, IfOk, MatchOption, slice_get, slice_set};
 ghost use Rattle.std.specs.Borrow.{Lends, sem};
+ghost use Rattle.half_edge_links.specs.declared.room.TheConstants.{MAX_ELEMENTS};
 ghost use Rattle.half_edge_mesh.specs.Mesh.{empty};
 ghost use Rattle.half_edge_mesh.specs.Room.{AreFewEnough};
 ghost use Rattle.plane.specs.Plain.{IsCleared, Replaces};
@@ -225,7 +226,8 @@ pub trait Triangulation: Drop + sealed::Sealed {
             result.now };
 
     final fn num_vertices(&self) -> usize
-        ensures { result ≡ length (state self.now).vertices }
+        ensures value { result ≡ length (state self.now).vertices }
+        ensures small { result ≤ MAX_ELEMENTS }
     {
         self.s().num_vertices()
     }
@@ -234,6 +236,7 @@ pub trait Triangulation: Drop + sealed::Sealed {
         ensures value { result ≡ length
             (triangulation_of Self.Vertex.place (state self.now)).edges }
         ensures values { result ≡ length (state self.now).undirected }
+        ensures small { 2 * result ≤ MAX_ELEMENTS }
     {
         self.recall_invariant();
         self.s().num_undirected_edges()
@@ -244,6 +247,7 @@ pub trait Triangulation: Drop + sealed::Sealed {
         ensures value { result ≡ 2 * length
             (triangulation_of Self.Vertex.place (state self.now)).edges }
         ensures values { result ≡ length (state self.now).directed }
+        ensures small { result ≤ MAX_ELEMENTS }
     {
         self.recall_invariant();
         self.s().num_directed_edges()
@@ -254,6 +258,7 @@ pub trait Triangulation: Drop + sealed::Sealed {
         ensures value { result ≡ length
             (triangulation_of Self.Vertex.place (state self.now)).faces }
         ensures values { result ≡ length (state self.now).faces }
+        ensures small { result < MAX_ELEMENTS }
     {
         self.recall_invariant();
         self.s().num_inner_faces()
@@ -264,6 +269,7 @@ pub trait Triangulation: Drop + sealed::Sealed {
         ensures value { result ≡ length
             (triangulation_of Self.Vertex.place (state self.now)).faces + 1 }
         ensures values { result ≡ length (state self.now).faces + 1 }
+        ensures small { result ≤ MAX_ELEMENTS }
     {
         self.recall_invariant();
         self.s().num_faces()

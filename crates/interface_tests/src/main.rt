@@ -2,13 +2,14 @@
 #![tactic(auto)]
 
 mod data;
+mod ends;
 mod generators;
 mod hull;
 mod reads;
 mod searches;
 mod told;
 
-use generators::{Always1000, EachInTurn};
+use odd_hints::{Always1000, EachInTurn};
 use spade_delaunay::{HierarchyHintGenerator, LastUsedVertexHintGenerator};
 
 fn main(rt: HostRuntime) -> anyhow::Result<()> {
@@ -24,6 +25,7 @@ fn main(rt: HostRuntime) -> anyhow::Result<()> {
             "data" => data::run(&rt)?,
             "hull" => hull::run(&rt)?,
             "reads" => reads::run(&rt)?,
+            "ends" => ends::run(&rt)?,
             _ => println!(rt; "no such test")?,
         }
     }

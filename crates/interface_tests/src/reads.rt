@@ -105,9 +105,11 @@ pub fn run(rt: &HostRuntime) -> anyhow::Result<()> {
         return Ok(());
     };
     print_all(rt, &constrained)?;
+    println!(rt; "{} constraints", constrained.num_constraints())?;
     match Points::with_capacity(rt.alloc(), 0, 2147483648, 0) {
         Ok(_) => println!(rt; "room")?,
         Err(error) => println!(rt; "refused: {error}")?,
     }
-    Ok(())
+    let empty = Points::with_capacity(rt.alloc(), 0, 0, 0)?;
+    print_counts(rt, &empty)
 }

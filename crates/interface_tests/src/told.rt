@@ -4,7 +4,7 @@ use crate::generators::{Listing, Told};
 use crate::searches::Hinted;
 use exact_tests::ExactTests;
 use spade_delaunay::handles::FixedVertexHandle;
-use spade_delaunay::{Point2, Triangulation};
+use spade_delaunay::{ConstrainedDelaunayTriangulation, Point2, Triangulation};
 
 fn print_told(rt: &HostRuntime, points: &Hinted<Listing>) -> anyhow::Result<()> {
     for told in &points.hint_generator().told {
@@ -33,6 +33,16 @@ pub fn run(rt: &HostRuntime) -> anyhow::Result<()> {
         points.remove(FixedVertexHandle::from_index(0), &ExactTests)?;
     }
     print_told(rt, &points)?;
+    let copy = points.try_clone()?;
+    print_told(rt, &copy)?;
     points.clear();
-    print_told(rt, &points)
+    print_told(rt, &points)?;
+    let Ok(constrained) = ConstrainedDelaunayTriangulation::from_delaunay(copy) else {
+        return Ok(());
+    };
+    println!(rt;
+        "asked {} times before constraints",
+        constrained.hint_generator().asked.get()
+    )?;
+    Ok(())
 }

@@ -1,17 +1,22 @@
 //! Dialogues with the program.
 
-use spade_delaunay::LastUsedVertexHintGenerator;
+use odd_hints::{Always1000, EachInTurn};
+use spade_delaunay::{HintGenerator, LastUsedVertexHintGenerator};
 use std::alloc::{AllocError, Global};
 use triangulate_run::session::run;
 use triangulate_run::sheet::{Sheet, letter_named};
 use watched::Watched;
 
-/// What the program writes for the input, with the points and answers of a sheet, if it comes to its
-/// end.
-pub(crate) fn written(alloc: Global, sheet: Sheet, input: &[u8]) -> Option<Vec<u8>> {
+/// What the program writes for the input, with the points and answers of a sheet and hints of this
+/// type, if it comes to its end.
+pub(crate) fn written<L: HintGenerator<i64>>(
+    alloc: Global,
+    sheet: Sheet,
+    input: &[u8],
+) -> Option<Vec<u8>> {
     let mut reader = Watched::new(input);
     let mut writer = Watched::new(Vec::new(alloc));
-    run::<LastUsedVertexHintGenerator, _, _, _>(
+    run::<L, _, _, _>(
         alloc,
         &sheet,
         sheet.points(),
@@ -55,7 +60,19 @@ fn dialogue_of(alloc: Global, lines: &str) -> Result<Dialogue, AllocError> {
     Ok(Dialogue { input, outputs })
 }
 
-/// Whether the program answers as the dialogue says, whose first line begins with the sheet's letter.
+/// Whether what the program writes with hints of this type is an output of the dialogue.
+fn is_allowed<L: HintGenerator<i64>>(alloc: Global, sheet: Sheet, dialogue: &Dialogue) -> bool {
+    match written::<L>(alloc, sheet, dialogue.input.as_bytes()) {
+        Some(output) => dialogue
+            .outputs
+            .iter()
+            .any(|allowed| allowed.as_bytes() == output.as_slice()),
+        None => false,
+    }
+}
+
+/// Whether the program answers as the dialogue says, whose first line begins with the sheet's letter:
+/// with its own hints, with those from 0 to 20 in turn, and with one that names no vertex.
 pub(crate) fn is_answered(alloc: Global, text: &str) -> Result<bool, AllocError> {
     let (heading, lines) = text.split_once('\n').unwrap_or((text, ""));
     let letter = heading
@@ -65,11 +82,9 @@ pub(crate) fn is_answered(alloc: Global, text: &str) -> Result<bool, AllocError>
         return Ok(false);
     };
     let dialogue = dialogue_of(alloc, lines)?;
-    Ok(match written(alloc, sheet, dialogue.input.as_bytes()) {
-        Some(output) => dialogue
-            .outputs
-            .iter()
-            .any(|allowed| allowed.as_bytes() == output.as_slice()),
-        None => false,
-    })
+    Ok(
+        is_allowed::<LastUsedVertexHintGenerator>(alloc, sheet, &dialogue)
+            && is_allowed::<EachInTurn>(alloc, sheet, &dialogue)
+            && is_allowed::<Always1000>(alloc, sheet, &dialogue),
+    )
 }

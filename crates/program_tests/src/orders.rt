@@ -1,6 +1,7 @@
 //! The points of a sheet in many orders.
 
 use crate::dialogue::written;
+use spade_delaunay::LastUsedVertexHintGenerator;
 use std::alloc::{AllocError, Global};
 use triangulate_run::points::SheetPoint;
 use triangulate_run::sheet::Sheet;
@@ -66,7 +67,7 @@ fn is_answered(
     let points = ordered(alloc, sheet.points(), start, step)?;
     let input = commands(alloc, points.as_slice())?;
     let output = replies(alloc, points, counts)?;
-    Ok(match written(alloc, sheet, input.as_bytes()) {
+    Ok(match written::<LastUsedVertexHintGenerator>(alloc, sheet, input.as_bytes()) {
         Some(found) => found.as_slice() == output.as_bytes(),
         None => false,
     })

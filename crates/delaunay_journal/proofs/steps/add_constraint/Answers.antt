@@ -7,14 +7,14 @@ pub returns-then-index-num_vertices-clause-gives : goal.returns-then-index-num_v
 returns-then-index-num_vertices-clause-gives g c =
     let past = c.if-index-num_vertices.true in
     let index = c.index.ensures in
-    let count = c.num_vertices.ensures in
+    let count = c.num_vertices.ensures.value in
     ((λ h. let below = h.0 in omega (arith, below, past, index, count)), refl)
 
 pub returns-then-index-num_vertices-2-clause-gives : goal.returns-then-index-num_vertices-2-clause-gives
 returns-then-index-num_vertices-2-clause-gives g c =
     let past = c.if-index-num_vertices-2.true in
     let index = c.index-2.ensures in
-    let count = c.num_vertices-2.ensures in
+    let count = c.num_vertices-2.ensures.value in
     ((λ h. let below = h.1 in omega (arith, below, past, index, count)), refl)
 
 pub returns-then-not-can_add_constraint-clause-gives : goal.returns-then-not-can_add_constraint-clause-gives

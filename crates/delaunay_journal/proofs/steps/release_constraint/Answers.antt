@@ -7,7 +7,7 @@ pub returns-then-index-num_vertices-clause-gives : goal.returns-then-index-num_v
 returns-then-index-num_vertices-clause-gives g c =
     let past = c.if-index-num_vertices.true in
     let index = c.index.ensures in
-    let count = c.num_vertices.ensures in
+    let count = c.num_vertices.ensures.value in
     ((λ j. let below = (c.recall_invariant.ensures.plain.pairs c.args.from c.args.to j).0 in omega (arith, below, past, index, count)), refl)
 
 pub returns-in_default-clause-gives : goal.returns-in_default-clause-gives

@@ -8,7 +8,7 @@ pub returns-then-index-num_vertices-clause-gives : goal.returns-then-index-num_v
 returns-then-index-num_vertices-clause-gives g c =
     let past = c.if-index-num_vertices.true in
     let index = c.index.ensures in
-    let count = c.num_vertices.ensures in
+    let count = c.num_vertices.ensures.value in
     (omega (arith, past, index, count), refl)
 
 pub returns-in-Ok-clause-gives : goal.returns-in-Ok-clause-gives
@@ -21,5 +21,5 @@ pub returns-in-Err-clause-gives : goal.returns-in-Err-clause-gives
 returns-in-Err-clause-gives g c =
     let below = c.if-index-num_vertices.false in
     let index = c.index.ensures in
-    let count = c.num_vertices.ensures in
+    let count = c.num_vertices.ensures.value in
     (omega (arith, below, index, count), c.in-Err.ensures.removes.err)

@@ -8,14 +8,14 @@ pub returns-then-index-num_vertices-clause-gives : goal.returns-then-index-num_v
 returns-then-index-num_vertices-clause-gives g c =
     let past = c.if-index-num_vertices.true in
     let index = c.index.ensures in
-    let count = c.num_vertices.ensures in
+    let count = c.num_vertices.ensures.value in
     (omega (arith, past, index, count), refl)
 
 pub returns-then-not-is_same-clause-gives : goal.returns-then-not-is_same-clause-gives
 returns-then-not-is_same-clause-gives g c =
     let below = c.if-index-num_vertices.false in
     let index = c.index.ensures in
-    let count = c.num_vertices.ensures in
+    let count = c.num_vertices.ensures.value in
     let same = position_same g.V.HasPosition.place c.args.points.now.vertices c.args.vertex c.vertex.result.index c.args.value _ _ c.vertex_position-here.ensures c.vertex.ensures.index c.position.ensures in
     ((omega (arith, below, index, count), (λ e. both_ways _ (c.is_same.ensures.1 (same e)) c.if-not-is_same.true)), refl)
 

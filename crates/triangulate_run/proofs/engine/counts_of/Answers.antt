@@ -5,7 +5,7 @@ use Rattle.triangulate_run.proofs.engine.counts_of.Goals as goal
 
 pub returns : goal.returns
 returns g c = record {
-  vertices_are = c.num_vertices.ensures;
+  vertices_are = c.num_vertices.ensures.value;
   edges_are = edges_counted (triangulation_of position c.args.triangulation.now) c.recall_invariant.ensures.headline.tiling c.num_undirected_edges.result c.num_undirected_edges.ensures.value;
   faces_are = c.num_inner_faces.ensures.value;
   constraints_are = none_counted;
