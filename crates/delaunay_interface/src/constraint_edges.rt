@@ -70,6 +70,13 @@ impl<
     /// does. It tells whether that made a constraint of an edge that was none. It gives `Insertion`
     /// where a vertex was refused, or where memory was refused when both were there, and `Conflict`
     /// exactly where a constraint crosses the segment. What was inserted before a refusal stays.
+    ///
+    /// ```
+    /// let (from, to) = (Point2::new(0, 0), Point2::new(4, 2));
+    /// if site.add_constraint_edge(from, to, &ExactTests)? {
+    ///     println!(rt; "{} walls", site.num_constraints())?;
+    /// }
+    /// ```
     pub fn add_constraint_edge<P: PlaneTests<V::Scalar>>(
         &mut self,
         from: V,
@@ -147,6 +154,12 @@ impl<
     /// they are one. It gives `Insertion` where a vertex was refused, or where memory was refused
     /// when two were to be joined, and `Conflict` exactly where a constraint crosses their segment.
     /// What was inserted and joined before a refusal stays.
+    ///
+    /// ```
+    /// let corners = [Point2::new(0, 0), Point2::new(4, 0), Point2::new(0, 4)];
+    /// site.add_constraint_edges(corners.into_iter(), true, &ExactTests)?;
+    /// println!(rt; "{} walls", site.num_constraints())?; // 3 walls
+    /// ```
     pub fn add_constraint_edges<I: Iterator<Item = V>, P: PlaneTests<V::Scalar>>(
         &mut self,
         mut vertices: I,

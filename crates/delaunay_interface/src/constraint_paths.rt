@@ -59,6 +59,12 @@ impl<V: HasPosition, DE, UE, F, L: HintGenerator<V::Scalar>> ConstrainedDelaunay
     /// the last flip. Where a constraint crosses the segment, or where the two vertices are one, it
     /// gives no edge and changes nothing, and takes no memory. It gives `AllocError` where memory
     /// was refused, and then nothing changes either.
+    ///
+    /// ```
+    /// for edge in site.try_add_constraint(from, to, &ExactTests)? {
+    ///     println!(rt; "wall along edge {}", edge.index())?;
+    /// }
+    /// ```
     pub fn try_add_constraint<P: PlaneTests<V::Scalar>>(
         &mut self,
         from: FixedVertexHandle,
@@ -82,6 +88,12 @@ impl<V: HasPosition, DE, UE, F, L: HintGenerator<V::Scalar>> ConstrainedDelaunay
     /// nothing changes, and no memory is taken. An edge or face that is there before and after keeps
     /// its handle and its data. It gives `AllocError` where memory was refused, and then nothing
     /// changes.
+    ///
+    /// ```
+    /// if site.remove_constraint_edge(edge, &ExactTests)? {
+    ///     println!(rt; "{} walls are left", site.num_constraints())?;
+    /// }
+    /// ```
     pub fn remove_constraint_edge<P: PlaneTests<V::Scalar>>(
         &mut self,
         edge: FixedUndirectedEdgeHandle,

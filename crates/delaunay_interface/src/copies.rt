@@ -20,6 +20,11 @@ impl<
     /// of all data, and a duplicate of the hint generator. A clone of a vertex has its position,
     /// and one of an edge's data is a constraint where that is one. It gives `AllocError` where
     /// memory was refused.
+    ///
+    /// ```
+    /// let mut copy = points.try_clone()?;
+    /// copy.insert(Point2::new(9, 9), &ExactTests)?; // `points` stays
+    /// ```
     pub fn try_clone(&self) -> Result<Self, AllocError>
         requires places { (v w : V) → V.is_clone v w → V.place w ≡ V.place v }
         requires marks { (d e : UE) → UE.is_clone d e → M.marks e ≡ M.marks d }

@@ -11,6 +11,13 @@ use std::iter::FusedIterator;
 
 /// The inner faces that are left, by rising index. Each item is known to be an inner face, so that
 /// its corners can be asked for.
+///
+/// ```
+/// let mut faces = points.inner_faces();
+/// println!(rt; "{} faces", faces.len())?;
+/// let first = faces.next();
+/// let last = faces.next_back();
+/// ```
 #[derive(Drop)]
 #[derive_where(Debug)]
 pub struct InnerFaceIterator<'a, V, DE, UE, F> {

@@ -32,6 +32,12 @@ impl<V: HasPosition, DE, UE, F, L: HintGenerator<V::Scalar>> DelaunayTriangulati
 > {
     /// A vertex that none is strictly nearer than to a position that the tests cover, unless there
     /// is no vertex. The hint generator says where the search begins. It takes no memory.
+    ///
+    /// ```
+    /// if let Some(vertex) = stations.nearest_neighbor(Point2::new(3, 1), &ExactTests) {
+    ///     println!(rt; "{}", vertex.data().name)?;
+    /// }
+    /// ```
     pub fn nearest_neighbor<P: PlaneTests<V::Scalar>>(
         &self,
         point: Point2<V::Scalar>,

@@ -56,6 +56,12 @@ impl<V: HasPosition, DE, UE, F, L: HintGenerator<V::Scalar>> ConstrainedDelaunay
 
     /// The constraints that the segment from one position to another meets in one point strictly
     /// within them, in the order along the segment. The tests cover both positions.
+    ///
+    /// ```
+    /// for wall in site.get_conflicting_edges_between_points(from, to, &ExactTests) {
+    ///     println!(rt; "wall {}", wall.as_undirected().fix().index())?;
+    /// }
+    /// ```
     pub fn get_conflicting_edges_between_points<'a, P: PlaneTests<V::Scalar>>(
         &'a self,
         from: Point2<V::Scalar>,

@@ -109,6 +109,11 @@ pub trait Triangulation: Drop + sealed::Sealed {
     /// No vertex and no edge, with room for these totals, the outer face among them. It gives
     /// `OutOfIndexes` where a total passes `MAX_ELEMENTS`, with edges counted twice, and else
     /// `OutOfMemory` where memory was refused.
+    ///
+    /// ```
+    /// let points: DelaunayTriangulation<Point2<i64>> =
+    ///     DelaunayTriangulation::with_capacity(rt.alloc(), 100, 294, 196)?;
+    /// ```
     fn with_capacity(
         alloc: Global,
         vertices: usize,
@@ -127,6 +132,12 @@ pub trait Triangulation: Drop + sealed::Sealed {
     /// else the handle of the new last vertex, of which the hint generator is told. A constraint
     /// that the new vertex is strictly within becomes two, and no other edge becomes one. A refused
     /// vertex is dropped, and nothing else changes.
+    ///
+    /// ```
+    /// let first = points.insert(Point2::new(0, 0), &ExactTests)?; // vertex 0
+    /// let second = points.insert(Point2::new(4, 0), &ExactTests)?; // vertex 1
+    /// let again = points.insert(Point2::new(0, 0), &ExactTests)?; // vertex 0, replaced
+    /// ```
     fn insert<P: PlaneTests<<Self::Vertex as HasPosition>::Scalar>>(
         &mut self,
         value: Self::Vertex,
@@ -161,6 +172,13 @@ pub trait Triangulation: Drop + sealed::Sealed {
     /// other constraint stays. An edge that did not end at the vertex, or a face without that
     /// corner, that is there before and after keeps its data, and so does the outer face. It gives
     /// `AllocError` where memory was refused, and then nothing changes.
+    ///
+    /// ```
+    /// if (vertex.index() as usize) < points.num_vertices() {
+    ///     let position = points.remove(vertex, &ExactTests)?;
+    ///     println!(rt; "{} {} is gone", position.x, position.y)?;
+    /// }
+    /// ```
     fn remove<P: PlaneTests<<Self::Vertex as HasPosition>::Scalar>>(
         &mut self,
         vertex: FixedVertexHandle,
@@ -208,6 +226,12 @@ pub trait Triangulation: Drop + sealed::Sealed {
 
     /// The user's part of the data of an edge, for writing. Whether the edge is a constraint cannot
     /// be written.
+    ///
+    /// ```
+    /// if (edge.index() as usize) < points.num_undirected_edges() {
+    ///     *points.undirected_edge_data_mut(edge) = 7;
+    /// }
+    /// ```
     fn undirected_edge_data_mut(
         &mut self,
         edge: FixedUndirectedEdgeHandle,
@@ -345,6 +369,12 @@ pub trait Triangulation: Drop + sealed::Sealed {
     }
 
     /// The edge from one vertex to another, if they are joined.
+    ///
+    /// ```
+    /// if let Some(edge) = points.get_edge_from_neighbors(first, second) {
+    ///     let [from, to] = points.edge_positions(edge);
+    /// }
+    /// ```
     final fn get_edge_from_neighbors(
         &self,
         from: FixedVertexHandle,
@@ -490,6 +520,12 @@ pub trait Triangulation: Drop + sealed::Sealed {
 
     /// The faces but the outer one, by rising index. Each is known to be an inner one, so that its
     /// corners can be asked for.
+    ///
+    /// ```
+    /// for face in points.inner_faces() {
+    ///     let [first, second, third] = face.vertices();
+    /// }
+    /// ```
     final fn inner_faces(
         &self,
     ) -> InnerFaceIterator<'_, Self::Vertex, Self::DirectedEdge, Self::UndirectedEdge, Self::Face>
@@ -536,6 +572,12 @@ pub trait Triangulation: Drop + sealed::Sealed {
 
     /// All edges with the outer face on their left, clockwise round the hull. On one line each edge
     /// comes in both directions.
+    ///
+    /// ```
+    /// for edge in points.convex_hull() {
+    ///     println!(rt; "{} to {}", edge.from().fix().index(), edge.to().fix().index())?;
+    /// }
+    /// ```
     final fn convex_hull(
         &self,
     ) -> HullIterator<'_, Self::Vertex, Self::DirectedEdge, Self::UndirectedEdge, Self::Face>
@@ -546,6 +588,12 @@ pub trait Triangulation: Drop + sealed::Sealed {
     }
 
     /// The faces of the Voronoi diagram, by rising index of their vertices.
+    ///
+    /// ```
+    /// for face in points.voronoi_faces() {
+    ///     let sides = face.adjacent_edges().count();
+    /// }
+    /// ```
     final fn voronoi_faces(
         &self,
     ) -> VoronoiFaceIterator<'_, Self::Vertex, Self::DirectedEdge, Self::UndirectedEdge, Self::Face>
@@ -613,6 +661,16 @@ pub trait Triangulation: Drop + sealed::Sealed {
 
     /// Where a position is that the tests cover, as `locate_with_hint` says. The hint generator
     /// says where the search begins.
+    ///
+    /// ```
+    /// match points.locate(Point2::new(1, 1), &ExactTests) {
+    ///     PositionInTriangulation::OnVertex(vertex) => println!(rt; "vertex {}", vertex.index())?,
+    ///     PositionInTriangulation::OnEdge(edge) => println!(rt; "edge {}", edge.index())?,
+    ///     PositionInTriangulation::OnFace(face) => println!(rt; "face {}", face.index())?,
+    ///     PositionInTriangulation::OutsideOfConvexHull(_) => println!(rt; "outside")?,
+    ///     PositionInTriangulation::NoTriangulation => println!(rt; "nowhere")?,
+    /// }
+    /// ```
     final fn locate<P: PlaneTests<<Self::Vertex as HasPosition>::Scalar>>(
         &self,
         point: Point2<<Self::Vertex as HasPosition>::Scalar>,

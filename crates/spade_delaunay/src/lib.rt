@@ -1,5 +1,17 @@
 //! Delaunay triangulations of points with whole-number coordinates, whose side and circle tests the
 //! caller hands in. All that a user names is here.
+//!
+//! With tests that answer by determinants, four points have two faces:
+//!
+//! ```
+//! let mut points: DelaunayTriangulation<Point2<i64>> = DelaunayTriangulation::new(rt.alloc());
+//! for (x, y) in [(0, 0), (4, 0), (4, 3), (0, 3)] {
+//!     points.insert(Point2::new(x, y), &ExactTests)?;
+//! }
+//! for face in points.inner_faces() {
+//!     let [first, second, third] = face.vertices();
+//! }
+//! ```
 #![tactic(auto)]
 
 pub mod handles;
