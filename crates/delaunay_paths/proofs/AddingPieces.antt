@@ -222,8 +222,8 @@ piece_leaves points marks marked_as constraints old mid new i j was left makes s
   leaves = λ pairs passing. subst (λ (m : Mesh). AllPassBut points (faces_of m) pairs (pairs_at m left)) (sym same) (makes.leaves pairs passing);
 }
 
-pub none_is_left : {V D U F : Type 0} (points : List Point) (old : Contents V D U F) → LeavesToTest points old old []
-none_is_left points old = record { edges = no_edges old.mesh; leaves = λ pairs passing. passing }
+pub none_is_left : {V D U F : Type 0} (all : List Point) (old : Contents V D U F) → LeavesToTest all old old []
+none_is_left all old = record { edges = no_edges old.mesh; leaves = λ pairs passing. passing }
   where
     no_edges : (m : Mesh) → AreEdges m []
     no_edges m = record { within = λ k c. absurd (Contains-none k c); once = once_none }

@@ -13,7 +13,7 @@ use Rattle.plane.specs.Fraction.{Point, IsSame, OnSegment}
 use Rattle.plane.specs.Pairs.{place, Joins, IsSamePair}
 use Rattle.plane.specs.Tiling.{Face, face as corners, IsEdge}
 use Rattle.plane.proofs.Segments.{end_on_segment, same-sym, start_on_segment, within_segment-same}
-use Rattle.plane.proofs.SmallCases.{turned_join}
+use Rattle.plane.proofs.Indexes.{turned_join}
 use Rattle.plane_tiling.specs.Local.{IsMesh}
 use Rattle.plane_tiling.proofs.Locations.{no_edges_cross}
 use Rattle.plane_edits.specs.Change.{FacesChange, IsFaceOf}
