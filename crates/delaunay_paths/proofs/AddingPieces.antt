@@ -1,5 +1,5 @@
 -- Pieces of a path that become edges and constraints, one after another.
-use Rattle.std.proofs.Common.{◌≡◌, ◌≢◌, ◌⊎◌, ◌↔◌, ℕ, ◌*◌, ◌/◌, ◌<◌, List, length, map, set, refl, sym, ap, ◌∙◌, subst, inl, inr}
+use Rattle.std.proofs.Common.{◌≡◌, ◌≢◌, ◌⊎◌, ◌↔◌, ℕ, ◌*◌, ◌/◌, ◌<◌, ◌≤◌, List, [], length, map, set, refl, sym, ap, ◌∙◌, subst, inl, inr, arith}
 use Rattle.std.specs.Prelude.{Bool, true, false, All, nat_abs}
 use Rattle.std.proofs.lemmas.List.{length-set}
 use Rattle.half_edge_mesh.specs.Mesh.{Mesh, IsSoundEdge, origin, rev}
@@ -9,7 +9,9 @@ use Rattle.plane.specs.Fraction.{Point}
 use Rattle.plane.specs.Laws.{squared_way}
 use Rattle.plane.specs.Pairs.{Joins, IsSamePair, IsIndex}
 use Rattle.plane.specs.Tests.{InRange}
-use Rattle.plane_edits.specs.Legal.{point_of}
+use Rattle.plane_edits.specs.Legal.{AllPassBut, point_of}
+use Rattle.plane_edits.proofs.Changes.{once_none}
+use Rattle.plane_tiling.proofs.Totals.{Contains-none}
 use Rattle.plane_tiling.specs.Local.{IsMesh}
 use Rattle.plane_segments.specs.Constraints.{AreNextOn, ArePlacedApart}
 use Rattle.plane_segments.specs.Path.{IsFreeOfVertices}
@@ -17,6 +19,7 @@ use Rattle.plane_segments.proofs.Adding.{IsAddingPath, adding_begins, adding_goe
 use Rattle.plane_segments.proofs.PathFlips.{piece_is_free}
 use Rattle.plane_segments.proofs.Shorter.{path_shortens}
 use Rattle.mesh_embedding.specs.Drawn.{drawn, faces_of, outer_of}
+use Rattle.mesh_embedding.specs.Legal.{AreEdges, pairs_at}
 use Rattle.mesh_embedding.proofs.EdgePairs as E
 use Rattle.mesh_embedding.proofs.MeshLegal.{joins_edge}
 use Rattle.mesh_embedding.proofs.MeshStays.{halved}
@@ -28,6 +31,7 @@ use Rattle.delaunay_legalization.proofs.ConstraintEdges.{constraints_are_edges}
 use Rattle.delaunay_legalization.proofs.MarkedPairs.{pairs_stay, marking_joins}
 use Rattle.delaunay_paths.specs.Adding.{NoneCrosses, CanAddPath, MarksSome, AddsPiece, AddsPath}
 use Rattle.delaunay_paths.specs.Kept.{KeepsUncrossed}
+use Rattle.delaunay_paths.specs.Leaving.{IsWorkList, LeavesPiece, LeavesToTest, MakesEdge}
 use Rattle.delaunay_paths.proofs.Marks.{marks_none, marks_one, marks_more}
 use Rattle.delaunay_paths.proofs.Walking.{in_map, of_map, placed_apart}
 
@@ -131,7 +135,7 @@ module _ {U : Type 0} (marks : U → Bool) (constraints : List U → List ℕ) (
     abbrev points : List Point
     points = map at old.vertices
 
-    same : now.vertices ≡ old.vertices
+    pub same : now.vertices ≡ old.vertices
     same = ap (λ (c : Contents V D U F). c.vertices) p.contents
 
     pub adding_sites : (IsSite : Point → Type 0) → All IsSite (map at old.vertices) → All IsSite (map at now.vertices)
@@ -205,3 +209,33 @@ module _ {U : Type 0} (marks : U → Bool) (constraints : List U → List ℕ) (
         shape = adding_shape;
       };
     }
+
+-- ---- what is left to test
+-- marking changes no face
+pub piece_leaves : {V D U F : Type 0} (points : List Point) (marks : U → Bool) (marked_as : U → U) (constraints : List U → List ℕ) (old mid new : Contents V D U F) (i j : ℕ) (was left : List ℕ) → MakesEdge points old mid i j was left → new.mesh ≡ mid.mesh
+    → AddsPiece marks marked_as constraints old new i j → IsMeshWithData new → LeavesPiece points marks marked_as constraints old new i j was left
+piece_leaves points marks marked_as constraints old mid new i j was left makes same adds mesh = record {
+  adds = adds;
+  mesh = mesh;
+  shape = subst (λ (m : Mesh). IsMesh points (faces_of m) (outer_of m)) (sym same) makes.shape;
+  edges = subst (λ (m : Mesh). AreEdges m left) (sym same) makes.edges;
+  leaves = λ pairs passing. subst (λ (m : Mesh). AllPassBut points (faces_of m) pairs (pairs_at m left)) (sym same) (makes.leaves pairs passing);
+}
+
+pub none_is_left : {V D U F : Type 0} (all : List Point) (old : Contents V D U F) → LeavesToTest all old old []
+none_is_left all old = record { edges = no_edges old.mesh; leaves = λ pairs passing. passing }
+  where
+    no_edges : (m : Mesh) → AreEdges m []
+    no_edges m = record { within = λ k c. absurd (Contains-none k c); once = once_none }
+
+pub more_is_left : {V D U F : Type 0} (at : V → Point) (marks : U → Bool) (marked_as : U → U) (constraints : List U → List ℕ) (old now new : Contents V D U F) (i j : ℕ) (was left : List ℕ) → now.vertices ≡ old.vertices
+    → LeavesToTest (map at old.vertices) old now was → LeavesPiece (map at now.vertices) marks marked_as constraints now new i j was left → LeavesToTest (map at old.vertices) old new left
+more_is_left {V = V} at marks marked_as constraints old now new i j was left same first piece = record {
+  edges = piece.edges;
+  leaves = λ pairs passing. subst (λ (vs : List V). AllPassBut (map at vs) (faces_of new.mesh) pairs (pairs_at new.mesh left)) same
+      (piece.leaves pairs (subst (λ (vs : List V). AllPassBut (map at vs) (faces_of now.mesh) pairs (pairs_at now.mesh was)) (sym same) (first.leaves pairs passing)));
+}
+
+-- the work list keeps its room for each edge
+pub work_fits : {V D U F : Type 0} (old now : Contents V D U F) (left : List ℕ) (room_was room : ℕ) → length now.undirected ≡ length old.undirected → length old.undirected ≤ 3 * length old.vertices → 3 * length old.vertices ≤ room_was → room ≡ room_was → AreEdges now.mesh left → IsWorkList now left room
+work_fits old now left room_was room count few fits same edges = record { edges = edges; room = omega (arith, count, few, fits, same) }

@@ -1,4 +1,5 @@
 pub mod Towards
+pub mod LeftToTest
 pub mod Making
 pub mod LastEdge
 pub mod Walking

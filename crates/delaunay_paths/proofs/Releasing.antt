@@ -1,5 +1,5 @@
 -- A constraint that is released, and what is left to test then.
-use Rattle.std.proofs.Common.{◌≡◌, ◌≢◌, ◌⊎◌, ◌↔◌, ℕ, ◌*◌, ◌<◌, ◌≤◌, List, [], ◌∷◌, length, map, set, sym, ap, ◌∙◌, subst, inl, inr, arith}
+use Rattle.std.proofs.Common.{◌≡◌, ◌≢◌, ◌⊎◌, ◌↔◌, ℕ, ◌+◌, ◌*◌, ◌<◌, ◌≤◌, List, [], ◌∷◌, length, map, set, sym, ap, ◌∙◌, subst, inl, inr, arith}
 use Rattle.std.specs.Prelude.{Bool, false, All, Contains}
 use Rattle.std.proofs.lemmas.Bool.{cases_eq}
 use Rattle.std.proofs.lemmas.List.{length-set}
@@ -24,6 +24,7 @@ use Rattle.delaunay_legalization.specs.Shape.{IsTriangulated, IsDelaunayTriangul
 use Rattle.delaunay_legalization.specs.State.{state_of}
 use Rattle.delaunay_legalization.proofs.Constraints.{fixed_within}
 use Rattle.delaunay_legalization.proofs.MarkedPairs.{unmarking_leaves}
+use Rattle.delaunay_paths.specs.Leaving.{LeavesToTest}
 use Rattle.delaunay_paths.specs.Adding.{AddsPath, MarksSome}
 use Rattle.delaunay_paths.specs.Releasing.{AddsConstraints, ReleasesEdge}
 use Rattle.mesh_embedding.proofs.EdgePairs.{rev_of_even}
@@ -163,3 +164,13 @@ constraints_added {V = V} {D = D} {U = U} {F = F} at marks marked constraints ol
   };
   legal = legal;
 }
+
+-- ---- after a path was added
+module _ {V D U F : Type 0} (at : V → Point) (marks : U → Bool) (marked : U → U) (constraints : List U → List ℕ) (old mid : Contents V D U F) (i j : ℕ) (adds : AddsPath at marks marked constraints old mid i j) (left : List ℕ) (leaves : LeavesToTest (map at old.vertices) old mid left) where
+  -- all passed but the constraints, and these are constraints still
+  pub added_passing : IsDelaunayTriangulation at constraints (state_of old) → AllPassBut (map at mid.vertices) (faces_of mid.mesh) (constraint_pairs constraints mid.mesh mid.undirected) (pairs_at mid.mesh left)
+  added_passing legal = subst (λ (vs : List V). AllPassBut (map at vs) (faces_of mid.mesh) (constraint_pairs constraints mid.mesh mid.undirected) (pairs_at mid.mesh left)) (sym adds.plain.vertices)
+      (λ a b k l f g free untested. leaves.leaves (constraint_pairs constraints old.mesh old.undirected) (λ a b k l f g unmarked _. legal.passing a b k l f g unmarked) a b k l f g (λ x. free ((adds.plain.constraints a b).1 (inl x))) untested)
+
+  pub added_room : (room : ℕ) → 3 * length old.vertices ≤ room → length mid.undirected ≤ room
+  added_room room fits = let few = adds.kept.few_edges in let same = ap length adds.plain.vertices in omega (arith, few, same, fits)

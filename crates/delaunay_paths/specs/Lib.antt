@@ -4,3 +4,4 @@ pub mod Adding
 pub mod Releasing
 pub mod PathEdges
 pub mod Items
+pub mod Leaving

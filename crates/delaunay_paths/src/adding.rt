@@ -1,6 +1,5 @@
 //! Constraints along the path between two vertices.
-ghost use Rattle.std.specs.Prelude.{◌≡◌, ◌≢◌, ◌↔◌, ◌<◌, true, length, map, All, IsTrue, IfNone, IfSome};
-ghost use Rattle.half_edge_mesh.specs.Contents.{IsMeshWithData};
+ghost use Rattle.std.specs.Prelude.{◌≡◌, ◌≢◌, ◌↔◌, ◌*◌, ◌<◌, ◌≤◌, true, length, map, All, IsTrue, IfNone, IfSome, vec_capacity};
 ghost use Rattle.plane_tiling.specs.Local.{IsMesh};
 ghost use Rattle.plane_segments.specs.Constraints.{AreNextOn};
 ghost use Rattle.plane_segments.specs.Path.{IsFreeOfVertices};
@@ -8,7 +7,8 @@ ghost use Rattle.mesh_embedding.specs.Drawn.{drawn, faces_of, outer_of};
 ghost use Rattle.delaunay_legalization.specs.Constraints.{constraints_by};
 ghost use Rattle.delaunay_legalization.specs.Shape.{IsTriangulated};
 ghost use Rattle.delaunay_legalization.specs.State.{state_of};
-ghost use Rattle.delaunay_paths.specs.Adding.{AddsPath, AddsPiece, CanAddPath, HasFreeWay, MarksEdge, NoneCrosses};
+ghost use Rattle.delaunay_paths.specs.Adding.{AddsPath, CanAddPath, HasFreeWay, MarksEdge, NoneCrosses};
+ghost use Rattle.delaunay_paths.specs.Leaving.{IsWorkList, LeavesPiece, LeavesToTest};
 
 use crate::flips::make_edge;
 use crate::joined::edge_between;
@@ -55,23 +55,24 @@ fn mark<M: ConstraintMarker<UE>, V, DE, UE, F>(
 }
 
 // Makes an edge of the segment between two vertices with none strictly between, which no constraint crosses, and a
-// constraint of this edge.
+// constraint of this edge. Each edge that may fail the circle test is put into `work`.
 fn add_piece<M: ConstraintMarker<UE>, V: HasPosition, DE, UE, F, P: PlaneTests<V::Scalar>>(
     dcel: &mut Dcel<V, DE, UE, F>,
     from: FixedVertexHandle,
     to: FixedVertexHandle,
     tests: &P,
+    work: &mut Vec<FixedUndirectedEdgeHandle>,
 )
     requires can_mark { M.can_mark ≡ true }
     requires free { IsFreeOfVertices (drawn (map V.place dcel.old.vertices) dcel.old.mesh) from to }
     requires shape { IsMesh (map V.place dcel.old.vertices) (faces_of dcel.old.mesh) (outer_of dcel.old.mesh) }
     requires clear { NoneCrosses (map V.place dcel.old.vertices) (constraints_by M.constraints (state_of dcel.old)) from to }
     requires sites { All (P.sites tests.now) (map V.place dcel.old.vertices) }
-    ensures adds { AddsPiece M.marks M.marked M.constraints dcel.old dcel.new from to }
-    ensures whole { IsMeshWithData dcel.new }
-    ensures shape { IsMesh (map V.place dcel.old.vertices) (faces_of dcel.new.mesh) (outer_of dcel.new.mesh) }
+    requires work { IsWorkList dcel.old work.old.items (vec_capacity work.old) }
+    ensures leaves { LeavesPiece (map V.place dcel.old.vertices) M.marks M.marked M.constraints dcel.old dcel.new from to work.old.items work.new.items }
+    ensures capacity { vec_capacity work.new ≡ vec_capacity work.old }
 {
-    make_edge(dcel, from, to, tests);
+    make_edge(dcel, from, to, tests, work);
     let edge = edge_between(dcel, from, to);
     mark::<M, _, _, _, _>(dcel, edge.as_undirected());
 }
@@ -99,23 +100,29 @@ pub(crate) fn next_piece<V: HasPosition, DE, UE, F, P: PlaneTests<V::Scalar>>(
 }
 
 /// Makes constraints of the pieces of the path between two vertices, whose segment no constraint crosses: each of its
-/// vertices is joined to the next. Edges that cross a piece are flipped, and no circle test is made.
+/// vertices is joined to the next. Edges that cross a piece are flipped, and no circle test is made: where each edge
+/// passed before, only those that are then in `work`, which has room for each edge, may fail.
 pub fn add_path<M: ConstraintMarker<UE>, V: HasPosition, DE, UE, F, P: PlaneTests<V::Scalar>>(
     dcel: &mut Dcel<V, DE, UE, F>,
     from: FixedVertexHandle,
     to: FixedVertexHandle,
     tests: &P,
+    work: &mut Vec<FixedUndirectedEdgeHandle>,
 )
     requires can_mark { M.can_mark ≡ true }
     requires way { HasFreeWay V.place M.constraints dcel.old from to }
     requires kept { IsTriangulated V.place (state_of dcel.old) }
     requires sites { All (P.sites tests.now) (map V.place dcel.old.vertices) }
+    requires room { 3 * length dcel.old.vertices ≤ vec_capacity work.old }
 
-    ensures { AddsPath V.place M.marks M.marked M.constraints dcel.old dcel.new from to }
+    ensures adds { AddsPath V.place M.marks M.marked M.constraints dcel.old dcel.new from to }
+    ensures leaves { LeavesToTest (map V.place dcel.old.vertices) dcel.old dcel.new work.new.items }
+    ensures capacity { vec_capacity work.new ≡ vec_capacity work.old }
 {
+    work.clear();
     let mut at = from;
     while let Some(next) = next_piece(dcel, at, to, tests) {
-        add_piece::<M, _, _, _, _, _>(dcel, at, next, tests);
+        add_piece::<M, _, _, _, _, _>(dcel, at, next, tests, work);
         at = next;
     }
 }

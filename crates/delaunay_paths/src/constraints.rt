@@ -9,7 +9,7 @@ ghost use Rattle.delaunay_paths.specs.Releasing.{AddsConstraints, ReleasesEdge};
 use crate::adding::add_path;
 use delaunay_core::math::PlaneTests;
 use delaunay_core::point::HasPosition;
-use delaunay_legalization::{ConstraintMarker, free_edge, legalize, legalize_all};
+use delaunay_legalization::{ConstraintMarker, free_edge, legalize};
 use half_edge_mesh::{Dcel, FixedUndirectedEdgeHandle, FixedVertexHandle};
 
 /// Adds the pieces of the path between two vertices, whose segment no constraint crosses, to the constraints, and flips
@@ -39,8 +39,9 @@ pub fn add_constraints<
     ensures adds { AddsConstraints V.place M.marks M.marked M.constraints dcel.old dcel.new from to }
     ensures counted { CountsFlips (length dcel.old.vertices) flips.old flips.new }
 {
-    add_path::<M, _, _, _, _, _>(dcel, from, to, tests);
-    legalize_all::<M, _, _, _, _, _>(dcel, tests, work, flips);
+    add_path::<M, _, _, _, _, _>(dcel, from, to, tests, work);
+    legalize::<M, _, _, _, _, _>(dcel, tests, work, flips);
+    dcel.recall_invariant();
 }
 
 // Puts an edge into a work list, in place of what was there.

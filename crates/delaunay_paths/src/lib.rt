@@ -7,6 +7,7 @@ mod constraints;
 mod crossing;
 mod flips;
 mod joined;
+mod leaving;
 mod order;
 mod path;
 mod path_edges;

@@ -2,6 +2,7 @@
 
 use crate::sheet_paths::{SheetMesh, SheetPaths};
 use half_edge_mesh::{FixedDirectedEdgeHandle, MeshViews};
+use std::alloc::Global;
 
 /// Whether two vertices are joined.
 fn are_joined(mesh: &SheetMesh, from: u32, to: u32) -> bool {
@@ -15,8 +16,13 @@ fn are_joined(mesh: &SheetMesh, from: u32, to: u32) -> bool {
 }
 
 /// Whether a segment, and another, are edges once the first has become one.
-pub fn joined(points: &SheetPaths, first: (u32, u32), second: (u32, u32)) -> Option<[bool; 2]> {
-    let mesh = points.joined(first.0, first.1)?;
+pub fn joined(
+    points: &SheetPaths,
+    alloc: Global,
+    first: (u32, u32),
+    second: (u32, u32),
+) -> Option<[bool; 2]> {
+    let mesh = points.joined(alloc, first.0, first.1)?;
     Some([
         are_joined(&mesh, first.0, first.1),
         are_joined(&mesh, second.0, second.1),

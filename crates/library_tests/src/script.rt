@@ -209,7 +209,10 @@ fn answer_beside(
         "path_insert" => call.tell(rt, &paths.insert(Point2::new(x, y))),
         "next_on_path" => call.tell(rt, &paths.next(from, to)),
         "crosses_segment" => call.tell(rt, &paths.crossings(from, to)),
-        "make_edge" => call.tell(rt, &joined(paths, (from, to), (index(c), index(d)))),
+        "make_edge" => {
+            let second = (index(c), index(d));
+            call.tell(rt, &joined(paths, rt.alloc(), (from, to), second))
+        }
         "edges_made_constraints" => call.tell(rt, &made_and_unmade()),
         "edges_written" => call.tell(rt, &written()),
         "markers" => call.tell(rt, &markers()),

@@ -1,13 +1,16 @@
 //! Segments between vertices at sites of a sheet: the path of pieces, what crosses one, and flips that make it an edge.
-ghost use Rattle.std.specs.Prelude.{◌≡◌, ◌≢◌, ◌<◌, length, map, IfSome};
+ghost use Rattle.std.specs.Prelude.{◌≡◌, ◌≢◌, ◌<◌, length, map, IfSome, vec_capacity};
 ghost use Rattle.plane_tiling.specs.Local.{IsMesh};
 ghost use Rattle.mesh_embedding.specs.Drawn.{faces_of, outer_of};
+ghost use Rattle.delaunay_paths.specs.Leaving.{IsWorkList};
 ghost use Rattle.triangulate_run.specs.Sheet.{IsSite};
 ghost use Rattle.library_tests.specs.Vertices.{position_of, AreSites};
 
 use crate::tagged_vertex::TaggedVertex;
 use delaunay_paths::{crosses_segment, make_edge, next_on_path};
-use half_edge_mesh::{Dcel, FixedDirectedEdgeHandle, FixedVertexHandle};
+use half_edge_mesh::{
+    Dcel, FixedDirectedEdgeHandle, FixedUndirectedEdgeHandle, FixedVertexHandle,
+};
 use spade_delaunay::{DelaunayTriangulation, Point2, Triangulation};
 use std::alloc::Global;
 use std::marker::Model;
@@ -108,14 +111,15 @@ impl SheetPaths {
 
     /// A copy of the mesh in which the segment between two different vertices has become an edge, or nothing where a
     /// vertex is between them or memory was refused.
-    pub fn joined(&self, from: u32, to: u32) -> Option<SheetMesh> {
+    pub fn joined(&self, alloc: Global, from: u32, to: u32) -> Option<SheetMesh> {
         let (start, end) = self.ends(from, to)?;
         let mesh = self.mesh_at(start);
         if next_on_path(mesh, start, end, &self.sheet) != end {
             return None;
         }
         let mut copy = copy_of(mesh)?;
-        make_edge(&mut copy, start, end, &self.sheet);
+        let mut work = room_for_edges(alloc, &copy)?;
+        make_edge(&mut copy, start, end, &self.sheet, &mut work);
         Some(copy)
     }
 }
@@ -126,6 +130,17 @@ fn copy_of(mesh: &SheetMesh) -> Option<SheetMesh>
 {
     match mesh.clone() {
         Ok(copy) => Some(copy),
+        Err(_) => None,
+    }
+}
+
+/// A work list with no edge and room for each edge of a mesh, or nothing where memory was refused.
+fn room_for_edges(alloc: Global, mesh: &SheetMesh) -> Option<Vec<FixedUndirectedEdgeHandle>>
+    ensures { IfSome result (λ w. IsWorkList mesh.now w.items (vec_capacity w)) }
+{
+    let mut work = Vec::new(alloc);
+    match work.reserve(mesh.num_undirected_edges()) {
+        Ok(()) => Some(work),
         Err(_) => None,
     }
 }

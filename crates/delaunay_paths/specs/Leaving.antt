@@ -1,0 +1,56 @@
+-- What a path leaves to the circle test.
+use Rattle.std.specs.Prelude.{◌≡◌, ℕ, ◌<◌, ◌≤◌, Bool, List, [], length}
+use Rattle.half_edge_mesh.specs.Contents.{Contents, IsMeshWithData}
+use Rattle.plane.specs.Crossing.{Cross}
+use Rattle.plane.specs.Fraction.{Point}
+use Rattle.plane.specs.Pairs.{place, Joins}
+use Rattle.plane.specs.Tiling.{Face, IsEdge}
+use Rattle.plane_edits.specs.Change.{IsFaceOf}
+use Rattle.plane_edits.specs.Legal.{AllPassBut, Pass}
+use Rattle.plane_tiling.specs.Local.{IsMesh}
+use Rattle.plane_segments.specs.Measure.{crossing_sum}
+use Rattle.mesh_embedding.specs.Drawn.{drawn, faces_of, outer_of}
+use Rattle.mesh_embedding.specs.Legal.{AreEdges, pairs_at}
+use Rattle.delaunay_paths.specs.Adding.{AddsPiece}
+use Rattle.delaunay_paths.specs.Kept.{KeepsUncrossed}
+
+-- each edge between two faces passes, but perhaps constraints, those that are left to test, and those that cross the segment from i to j
+abbrev pub AllPassBeyond : List Point → List Face → List (ℕ × ℕ) → List (ℕ × ℕ) → ℕ → ℕ → Type 0
+AllPassBeyond points faces constraints left i j = (a b k l : ℕ) → IsFaceOf faces a b k → IsFaceOf faces b a l → ¬ Cross (place points i) (place points j) (place points a) (place points b) → ¬ Joins constraints a b → ¬ Joins left a b → Pass points a b k l
+
+-- the work list is one of edges of the mesh, each once, and has room for all
+pub record IsWorkList {V D U F : Type 0} (c : Contents V D U F) (items : List ℕ) (capacity : ℕ) : Type 0 where
+  pub edges : AreEdges c.mesh items
+  pub room : length c.undirected ≤ capacity
+
+-- a flip towards the segment from i to j: the sum over the edges that cross it falls, and each edge that does not cross it and may
+-- fail is left to test, whatever the constraints are
+pub record TurnsTowards {V D U F : Type 0} (points : List Point) (old new : Contents V D U F) (i j : ℕ) (was left : List ℕ) : Type 0 where
+  pub contents : new ≡ record old { mesh = new.mesh }
+  pub shape : IsMesh points (faces_of new.mesh) (outer_of new.mesh)
+  pub kept : KeepsUncrossed points old.mesh new.mesh i j
+  pub lower : crossing_sum points (faces_of new.mesh) i j < crossing_sum points (faces_of old.mesh) i j
+  pub edges : AreEdges new.mesh left
+  pub leaves : (constraints : List (ℕ × ℕ)) → AllPassBeyond points (faces_of old.mesh) constraints (pairs_at old.mesh was) i j → AllPassBeyond points (faces_of new.mesh) constraints (pairs_at new.mesh left) i j
+
+-- the segment from i to j is made an edge, and each edge that may fail is left to test, whatever the constraints are
+pub record MakesEdge {V D U F : Type 0} (points : List Point) (old new : Contents V D U F) (i j : ℕ) (was left : List ℕ) : Type 0 where
+  pub contents : new ≡ record old { mesh = new.mesh }
+  pub shape : IsMesh points (faces_of new.mesh) (outer_of new.mesh)
+  pub edge : IsEdge (drawn points new.mesh) i j
+  pub kept : KeepsUncrossed points old.mesh new.mesh i j
+  pub edges : AreEdges new.mesh left
+  pub leaves : (constraints : List (ℕ × ℕ)) → AllPassBut points (faces_of old.mesh) constraints (pairs_at old.mesh was) → AllPassBut points (faces_of new.mesh) constraints (pairs_at new.mesh left)
+
+-- a piece became a constraint, and each edge that may fail is left to test
+pub record LeavesPiece {V D U F : Type 0} (points : List Point) (marks : U → Bool) (marked : U → U) (constraints : List U → List ℕ) (old new : Contents V D U F) (i j : ℕ) (was left : List ℕ) : Type 0 where
+  pub adds : AddsPiece marks marked constraints old new i j
+  pub mesh : IsMeshWithData new
+  pub shape : IsMesh points (faces_of new.mesh) (outer_of new.mesh)
+  pub edges : AreEdges new.mesh left
+  pub leaves : (pairs : List (ℕ × ℕ)) → AllPassBut points (faces_of old.mesh) pairs (pairs_at old.mesh was) → AllPassBut points (faces_of new.mesh) pairs (pairs_at new.mesh left)
+
+-- where all passed before, only these edges are left to test
+pub record LeavesToTest {V D U F : Type 0} (points : List Point) (old new : Contents V D U F) (left : List ℕ) : Type 0 where
+  pub edges : AreEdges new.mesh left
+  pub leaves : (pairs : List (ℕ × ℕ)) → AllPassBut points (faces_of old.mesh) pairs [] → AllPassBut points (faces_of new.mesh) pairs (pairs_at new.mesh left)
