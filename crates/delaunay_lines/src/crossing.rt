@@ -17,7 +17,8 @@ use delaunay_legalization::{is_outer, start_of};
 use half_edge_mesh::FixedDirectedEdgeHandle;
 
 impl<'a, V: HasPosition, DE, UE, F, P: PlaneTests<V::Scalar>> Segment<'a, V, DE, UE, F, P> {
-    // The way out of a face by one of its sides: nothing where the segment ends on the left of the side, inside the face.
+    // The way out of a face by one of its sides: nothing where the segment ends on the left of the
+    // side, inside the face.
     pub(crate) fn leave_by(&self, side: FixedDirectedEdgeHandle) -> Option<FixedIntersection>
         requires within { side < length self.now.dcel.now.directed }
         requires over { IsOver V.place V.Scalar.whole P.sites P.covered self.now }
@@ -29,8 +30,8 @@ impl<'a, V: HasPosition, DE, UE, F, P: PlaneTests<V::Scalar>> Segment<'a, V, DE,
         Some(FixedIntersection::Edge(twin_of(self.dcel, side)))
     }
 
-    // What comes after an edge that is crossed into an inner face: nothing where the segment ends inside, else another side of
-    // the face, or the corner between the two.
+    // What comes after an edge that is crossed into an inner face: nothing where the segment ends
+    // inside, else another side of the face, or the corner between the two.
     fn through_face(&self, edge: FixedDirectedEdgeHandle) -> Option<FixedIntersection>
         requires within { edge < length self.now.dcel.now.directed }
         requires inner { 0 < face self.now.dcel.now.mesh edge }

@@ -45,7 +45,8 @@ impl<'a, V: HasPosition, DE, UE, F, P: PlaneTests<V::Scalar>> Segment<'a, V, DE,
         start.is_on_left_side() && end.is_on_right_side()
     }
 
-    // Whether a segment begins on the right of an edge's line, or on it, and ends on the left, or on it.
+    // Whether a segment begins on the right of an edge's line, or on it, and ends on the left, or
+    // on it.
     fn has_ends_on_sides(&self, edge: FixedDirectedEdgeHandle) -> bool
         requires within { edge < length self.now.dcel.now.directed }
         requires over { IsOver V.place V.Scalar.whole P.sites P.covered self.now }
@@ -107,7 +108,8 @@ impl<'a, V: HasPosition, DE, UE, F, P: PlaneTests<V::Scalar>> Segment<'a, V, DE,
         }
     }
 
-    // Whether a vertex is on a segment, and nearer to its start than another vertex, if there is one.
+    // Whether a vertex is on a segment, and nearer to its start than another vertex, if there is
+    // one.
     fn is_better(&self, vertex: FixedVertexHandle, than: &Option<FixedVertexHandle>) -> bool
         requires within { vertex < length self.now.dcel.now.vertices }
         requires other_within { IfSome than.now (λ o. o < length self.now.dcel.now.vertices) }
@@ -165,8 +167,8 @@ impl<'a, V: HasPosition, DE, UE, F, P: PlaneTests<V::Scalar>> Segment<'a, V, DE,
         }
     }
 
-    /// What it meets, from outside the triangulation: of a point to itself, nothing. It looks at all outer edges, and, where
-    /// the segment crosses none, at all vertices.
+    /// What it meets, from outside the triangulation: of a point to itself, nothing. It looks at
+    /// all outer edges, and, where the segment crosses none, at all vertices.
     pub(crate) fn walk_from_outside(&self) -> LineIntersectionIterator<'a, V, DE, UE, F, P>
         requires over { IsOver V.place V.Scalar.whole P.sites P.covered self.now }
         requires start { StartsOutside (drawn (map V.place self.now.dcel.now.vertices) self.now.dcel.now.mesh) (place_of V.Scalar.whole self.now.from) }

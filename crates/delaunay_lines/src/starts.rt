@@ -52,7 +52,8 @@ impl<'a, V: HasPosition, DE, UE, F, P: PlaneTests<V::Scalar>> Segment<'a, V, DE,
         start.is_on_right_side_or_on_line() && end.is_on_left_side()
     }
 
-    // Of the edges of the face that a segment starts in, the one that goes over the segment from its right.
+    // Of the edges of the face that a segment starts in, the one that goes over the segment from
+    // its right.
     fn edge_over(&self, edge: FixedDirectedEdgeHandle) -> FixedDirectedEdgeHandle
         requires within { edge < length self.now.dcel.now.directed }
         requires over { IsOver V.place V.Scalar.whole P.sites P.covered self.now }
@@ -106,7 +107,8 @@ impl<'a, V: HasPosition, DE, UE, F, P: PlaneTests<V::Scalar>> Segment<'a, V, DE,
         self.starting(Some(self.first_on_edge(edge)))
     }
 
-    /// What it meets, from strictly inside the face on the left of an edge: of a point to itself, nothing.
+    /// What it meets, from strictly inside the face on the left of an edge: of a point to itself,
+    /// nothing.
     pub(crate) fn walk_from_left(
         &self,
         edge: FixedDirectedEdgeHandle,

@@ -32,7 +32,8 @@ impl<'a, V: HasPosition, DE, UE, F, P: PlaneTests<V::Scalar>> Segment<'a, V, DE,
         is_ahead(start, end, self.to, self.tests)
     }
 
-    // Whether a position is strictly between the two sides, from the start of an edge on, of the inner face on its left.
+    // Whether a position is strictly between the two sides, from the start of an edge on, of the
+    // inner face on its left.
     fn is_in_cone(&self, edge: FixedDirectedEdgeHandle) -> bool
         requires within { edge < length self.now.dcel.now.directed }
         requires over { IsOver V.place V.Scalar.whole P.sites P.covered self.now }
@@ -54,7 +55,8 @@ impl<'a, V: HasPosition, DE, UE, F, P: PlaneTests<V::Scalar>> Segment<'a, V, DE,
         self.is_edge_ahead(edge) || self.is_in_cone(edge)
     }
 
-    // Of the edges that start at a vertex, one that leads towards a position, or whose left face does.
+    // Of the edges that start at a vertex, one that leads towards a position, or whose left face
+    // does.
     fn edge_towards(&self, vertex: FixedVertexHandle) -> Option<FixedDirectedEdgeHandle>
         requires within { vertex < length self.now.dcel.now.vertices }
         requires over { IsOver V.place V.Scalar.whole P.sites P.covered self.now }
@@ -70,8 +72,9 @@ impl<'a, V: HasPosition, DE, UE, F, P: PlaneTests<V::Scalar>> Segment<'a, V, DE,
         None
     }
 
-    // What a segment meets after the vertex where an edge starts that leads towards the segment's end, or whose left face does:
-    // the edge, nothing where the segment ends inside the face, or else the far side of the face.
+    // What a segment meets after the vertex where an edge starts that leads towards the segment's
+    // end, or whose left face does: the edge, nothing where the segment ends inside the face, or
+    // else the far side of the face.
     fn along_or_into(&self, edge: FixedDirectedEdgeHandle) -> Option<FixedIntersection>
         requires within { edge < length self.now.dcel.now.directed }
         requires over { IsOver V.place V.Scalar.whole P.sites P.covered self.now }
