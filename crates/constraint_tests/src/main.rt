@@ -6,8 +6,9 @@ mod chains;
 mod edits;
 mod script;
 
-use script::{Call, Session, answer};
+use script::{Session, answer};
 use std::io;
+use test_script::Call;
 
 fn main(rt: HostRuntime) -> io::Result<()> {
     let mut session = Session::new(rt.alloc());

@@ -11,76 +11,10 @@ use spade_delaunay::handles::FaceHandle;
 use spade_delaunay::{
     CdtEdge, ConstrainedDelaunayTriangulation, DelaunayTriangulation, Point2, Triangulation,
 };
-use std::alloc::{AllocError, Global};
-use std::fmt::Debug;
+use std::alloc::Global;
 use std::io;
 use std::mem::{replace, swap};
-
-/// A call by its name, with the line that asks for it.
-#[derive(Drop)]
-pub struct Call<'a> {
-    line: &'a str,
-    name: &'a str,
-    /// What is not given is 0.
-    numbers: [i64; 3],
-}
-
-fn number(word: Option<&str>) -> i64 {
-    match word {
-        Some(word) => word.parse().unwrap_or(0),
-        None => 0,
-    }
-}
-
-// An index that is given, or one that no element has.
-fn index(number: i64) -> u32 {
-    u32::try_from(number).unwrap_or(u32::MAX)
-}
-
-impl<'a> Call<'a> {
-    /// Nothing where the line is empty or a remark.
-    pub fn parse(line: &'a str) -> Option<Self> {
-        let mut words = line.split_whitespace();
-        let name = words.next()?;
-        if name == "#" {
-            return None;
-        }
-        let numbers = [
-            number(words.next()),
-            number(words.next()),
-            number(words.next()),
-        ];
-        Some(Call {
-            line,
-            name,
-            numbers,
-        })
-    }
-
-    fn indexes(&self) -> [u32; 3] {
-        let [first, second, third] = self.numbers;
-        [index(first), index(second), index(third)]
-    }
-
-    // All numbers of the line, two by two.
-    fn positions(&self, alloc: Global) -> Result<Vec<Point2<i64>>, AllocError> {
-        let mut positions = Vec::new(alloc);
-        let mut x = None;
-        for word in self.line.split_whitespace().skip(1) {
-            let next = number(Some(word));
-            match x.take() {
-                Some(x) => positions.push(Point2::new(x, next))?,
-                None => x = Some(next),
-            }
-        }
-        Ok(positions)
-    }
-
-    fn tell<T: Debug>(&self, rt: &impl Print, answer: &T) -> io::Result<()> {
-        let line = self.line;
-        println!(rt; "{line} > {answer:?}")
-    }
-}
+use test_script::Call;
 
 /// A triangulation without constraints, and one that may have some, with its last copy.
 #[derive(Drop)]
@@ -182,7 +116,7 @@ fn edit(
     points: &mut Constrained,
     call: &Call<'_>,
 ) -> io::Result<()> {
-    let ([x, y, _], [from, to, hint]) = (call.numbers, call.indexes());
+    let ([x, y, ..], [from, to, hint]) = (call.numbers, call.indexes());
     match call.name {
         "insert_beside" => call.tell(rt, &insert(points, x, y)),
         "insert_with_hint" => call.tell(rt, &insert_from(points, [x, y], hint)),
@@ -217,7 +151,7 @@ pub fn answer(
     session: &mut Session,
     call: &Call<'_>,
 ) -> io::Result<()> {
-    let [x, y, _] = call.numbers;
+    let [x, y, ..] = call.numbers;
     match call.name {
         "insert" => call.tell(rt, &session.insert(x, y)),
         "from_delaunay" => call.tell(rt, &session.from_delaunay(rt.alloc())),

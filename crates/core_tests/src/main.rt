@@ -8,8 +8,9 @@ mod script;
 mod shapes;
 mod sides;
 
-use script::{Call, answer};
+use script::answer;
 use std::io;
+use test_script::Call;
 
 fn main(rt: HostRuntime) -> io::Result<()> {
     for line in rt.lines(rt.alloc()) {

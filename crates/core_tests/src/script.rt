@@ -6,49 +6,8 @@ use crate::shapes::{circle, circle_edge, rectangle, rectangle_edge};
 use crate::sides::{is_ordered_ccw, side_infos};
 use delaunay_core::math::{validate_coordinate, validate_vertex};
 use delaunay_core::point::Point2;
-use std::fmt::Debug;
 use std::io;
-
-/// A call by its name, with the line that asks for it.
-#[derive(Drop)]
-pub struct Call<'a> {
-    line: &'a str,
-    name: &'a str,
-    /// What is not given is 0.
-    numbers: [i64; 8],
-}
-
-fn number(word: Option<&str>) -> i64 {
-    match word {
-        Some(word) => word.parse().unwrap_or(0),
-        None => 0,
-    }
-}
-
-impl<'a> Call<'a> {
-    /// Nothing where the line is empty or a remark.
-    pub fn parse(line: &'a str) -> Option<Self> {
-        let mut words = line.split_whitespace();
-        let name = words.next()?;
-        if name == "#" {
-            return None;
-        }
-        let mut numbers = [0; 8];
-        for place in &mut numbers {
-            *place = number(words.next());
-        }
-        Some(Call {
-            line,
-            name,
-            numbers,
-        })
-    }
-
-    fn tell<T: Debug>(&self, rt: &impl Print, answer: &T) -> io::Result<()> {
-        let line = self.line;
-        println!(rt; "{line} > {answer:?}")
-    }
-}
+use test_script::Call;
 
 /// Makes the call that a line asks for, and prints what it gives.
 pub fn answer(rt: &impl Print, call: &Call<'_>) -> io::Result<()> {

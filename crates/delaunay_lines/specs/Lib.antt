@@ -1,5 +1,6 @@
 pub mod Conflicts
 pub mod Items
 pub mod Steps
+pub mod Over
 pub mod Starts
 pub mod Walk

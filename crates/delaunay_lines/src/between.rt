@@ -9,9 +9,11 @@ ghost use Rattle.delaunay_legalization.specs.Shape.{IsTriangulated};
 ghost use Rattle.delaunay_legalization.specs.State.{state_of};
 ghost use Rattle.delaunay_location.specs.Location.{Locates};
 ghost use Rattle.delaunay_location.specs.declared.position_in_triangulation.PositionInTriangulation.TheVariants.{OnFace};
+ghost use Rattle.delaunay_lines.specs.Over.{IsOver};
 ghost use Rattle.delaunay_lines.specs.Walk.{IsReady, WalksLine};
 
 use crate::iterator::LineIntersectionIterator;
+use crate::segment::Segment;
 use crate::sides::position_of;
 use delaunay_core::math::PlaneTests;
 use delaunay_core::point::{HasPosition, Point2};
@@ -33,55 +35,33 @@ fn edge_of<V, DE, UE, F>(
     dcel.face(face).adjacent_edge().fix()
 }
 
-// From strictly inside a face.
-fn from_face<'a, V: HasPosition, DE, UE, F, P: PlaneTests<V::Scalar>>(
-    dcel: &'a Dcel<V, DE, UE, F>,
-    face: FixedFaceHandle,
-    from: Point2<V::Scalar>,
-    to: Point2<V::Scalar>,
-    tests: &'a P,
-) -> LineIntersectionIterator<'a, V, DE, UE, F, P>
-    requires start { Locates (map V.place dcel.now.vertices) dcel.now.mesh (place_of V.Scalar.whole from) (OnFace face) }
-    requires shape { IsMesh (map V.place dcel.now.vertices) (faces_of dcel.now.mesh) (outer_of dcel.now.mesh) }
-    requires sites { All (P.sites tests.now) (map V.place dcel.now.vertices) }
-    requires from_covered { P.covered tests.now (place_of V.Scalar.whole from) }
-    requires to_covered { P.covered tests.now (place_of V.Scalar.whole to) }
-    ensures line { WalksLine V.place V.Scalar.whole (state_of dcel.now) (place_of V.Scalar.whole from) (place_of V.Scalar.whole to) result }
-    ensures ready { IsReady V.place V.Scalar.whole P.sites P.covered result }
-{
-    dcel.recall_invariant();
-    let edge = edge_of(dcel, face);
-    LineIntersectionIterator::new_from_face(dcel, edge, from, to, tests)
-}
+impl<'a, V: HasPosition, DE, UE, F, P: PlaneTests<V::Scalar>> Segment<'a, V, DE, UE, F, P> {
+    // From strictly inside a face.
+    fn walk_from_face(&self, face: FixedFaceHandle) -> LineIntersectionIterator<'a, V, DE, UE, F, P>
+        requires over { IsOver V.place V.Scalar.whole P.sites P.covered self.now }
+        requires start { Locates (map V.place self.now.dcel.now.vertices) self.now.dcel.now.mesh (place_of V.Scalar.whole self.now.from) (OnFace face) }
+        ensures line { WalksLine V.place V.Scalar.whole (state_of self.now.dcel.now) (place_of V.Scalar.whole self.now.from) (place_of V.Scalar.whole self.now.to) result }
+        ensures ready { IsReady V.place V.Scalar.whole P.sites P.covered result }
+    {
+        self.walk_from_left(edge_of(self.dcel, face))
+    }
 
-// From the location of the start.
-fn from_location<'a, V: HasPosition, DE, UE, F, P: PlaneTests<V::Scalar>>(
-    dcel: &'a Dcel<V, DE, UE, F>,
-    start: PositionInTriangulation,
-    from: Point2<V::Scalar>,
-    to: Point2<V::Scalar>,
-    tests: &'a P,
-) -> LineIntersectionIterator<'a, V, DE, UE, F, P>
-    requires start { Locates (map V.place dcel.now.vertices) dcel.now.mesh (place_of V.Scalar.whole from) start }
-    requires shape { IsMesh (map V.place dcel.now.vertices) (faces_of dcel.now.mesh) (outer_of dcel.now.mesh) }
-    requires sites { All (P.sites tests.now) (map V.place dcel.now.vertices) }
-    requires from_covered { P.covered tests.now (place_of V.Scalar.whole from) }
-    requires to_covered { P.covered tests.now (place_of V.Scalar.whole to) }
-    ensures line { WalksLine V.place V.Scalar.whole (state_of dcel.now) (place_of V.Scalar.whole from) (place_of V.Scalar.whole to) result }
-    ensures ready { IsReady V.place V.Scalar.whole P.sites P.covered result }
-{
-    dcel.recall_invariant();
-    match start {
-        PositionInTriangulation::OnVertex(vertex) => {
-            LineIntersectionIterator::new_from_vertex(dcel, vertex, to, tests)
-        }
-        PositionInTriangulation::OnEdge(edge) => {
-            LineIntersectionIterator::new_from_edge(dcel, edge, from, to, tests)
-        }
-        PositionInTriangulation::OnFace(face) => from_face(dcel, face, from, to, tests),
-        PositionInTriangulation::OutsideOfConvexHull(_)
-        | PositionInTriangulation::NoTriangulation => {
-            LineIntersectionIterator::new_from_outside(dcel, from, to, tests)
+    // From the location of the start.
+    fn walk_from_location(
+        &self,
+        start: PositionInTriangulation,
+    ) -> LineIntersectionIterator<'a, V, DE, UE, F, P>
+        requires over { IsOver V.place V.Scalar.whole P.sites P.covered self.now }
+        requires start { Locates (map V.place self.now.dcel.now.vertices) self.now.dcel.now.mesh (place_of V.Scalar.whole self.now.from) start }
+        ensures line { WalksLine V.place V.Scalar.whole (state_of self.now.dcel.now) (place_of V.Scalar.whole self.now.from) (place_of V.Scalar.whole self.now.to) result }
+        ensures ready { IsReady V.place V.Scalar.whole P.sites P.covered result }
+    {
+        match start {
+            PositionInTriangulation::OnVertex(vertex) => self.walk_from_vertex(vertex),
+            PositionInTriangulation::OnEdge(edge) => self.walk_from_edge(edge),
+            PositionInTriangulation::OnFace(face) => self.walk_from_face(face),
+            PositionInTriangulation::OutsideOfConvexHull(_)
+            | PositionInTriangulation::NoTriangulation => self.walk_from_outside(),
         }
     }
 }
@@ -100,7 +80,14 @@ pub fn line_between<'a, V: HasPosition, DE, UE, F, P: PlaneTests<V::Scalar>>(
     ensures line { WalksLine V.place V.Scalar.whole (state_of dcel.now) (place_of V.Scalar.whole from) (place_of V.Scalar.whole to) result }
     ensures ready { IsReady V.place V.Scalar.whole P.sites P.covered result }
 {
-    from_location(dcel, locate(dcel, from, tests), from, to, tests)
+    dcel.recall_invariant();
+    let segment = Segment {
+        dcel,
+        tests,
+        from,
+        to,
+    };
+    segment.walk_from_location(locate(dcel, from, tests))
 }
 
 /// What the segment from one vertex to another meets, from the vertex on: of a vertex to itself, that vertex alone.
@@ -117,6 +104,13 @@ pub fn line_between_vertices<'a, V: HasPosition, DE, UE, F, P: PlaneTests<V::Sca
     ensures line { let points = map V.place dcel.now.vertices in WalksLine V.place V.Scalar.whole (state_of dcel.now) (point_at points from) (point_at points to) result }
     ensures ready { IsReady V.place V.Scalar.whole P.sites P.covered result }
 {
-    let end = position_of(dcel, to);
-    LineIntersectionIterator::new_from_vertex(dcel, from, end, tests)
+    dcel.recall_invariant();
+    let (start, end) = (position_of(dcel, from), position_of(dcel, to));
+    let segment = Segment {
+        dcel,
+        tests,
+        from: start,
+        to: end,
+    };
+    segment.walk_from_vertex(from)
 }

@@ -1,21 +1,19 @@
 //! The items that a segment meets, one after another.
-ghost use Rattle.std.specs.Prelude.{◌≡◌, ◌≢◌, ◌+◌, ◌<◌, ◌≤◌, length, map, All};
+ghost use Rattle.std.specs.Prelude.{◌≡◌, ◌≢◌, ◌<◌, length, map};
 ghost use Rattle.std.specs.Iterator.{at_most};
 ghost use Rattle.plane.specs.Fraction.{whole as fraction};
 ghost use Rattle.plane.specs.Line.{Meets};
-ghost use Rattle.plane_tiling.specs.Local.{IsMesh};
-ghost use Rattle.mesh_embedding.specs.Drawn.{drawn, faces_of, outer_of};
+ghost use Rattle.mesh_embedding.specs.Drawn.{drawn};
 ghost use Rattle.delaunay_core.specs.Place.{place_of};
 ghost use Rattle.delaunay_legalization.specs.Known.{point_at};
 ghost use Rattle.delaunay_legalization.specs.State.{state_of};
 ghost use Rattle.delaunay_lines.specs.Items.{item_of, IsHandleOf};
-ghost use Rattle.delaunay_lines.specs.Steps.{IsOverMesh, IsNext};
+ghost use Rattle.delaunay_lines.specs.Over.{IsOver};
+ghost use Rattle.delaunay_lines.specs.Steps.{IsNext};
 ghost use Rattle.delaunay_lines.specs.Walk.{GivesNext, IsReady, Starts, WalksLine};
 
-use crate::crossing::{after_crossing, after_overlap};
 use crate::intersection::{FixedIntersection, Intersection, intersection_in};
-use crate::sides::position_of;
-use crate::vertex::after_vertex;
+use crate::segment::Segment;
 use delaunay_core::math::PlaneTests;
 use delaunay_core::point::{HasPosition, Point2};
 use delaunay_legalization::is_same_point;
@@ -34,81 +32,57 @@ pub struct LineIntersectionIterator<'a, V: HasPosition, DE, UE, F, P: PlaneTests
     pub left: usize,
 }
 
-// What a segment meets after an item: nothing where its ends are one point.
-fn after<V: HasPosition, DE, UE, F, P: PlaneTests<V::Scalar>>(
-    dcel: &Dcel<V, DE, UE, F>,
-    item: FixedIntersection,
-    from: Point2<V::Scalar>,
-    to: Point2<V::Scalar>,
-    tests: &P,
-) -> Option<FixedIntersection>
-    requires within { IsHandleOf dcel.now item }
-    requires over { IsOverMesh V.place (P.sites tests.now) (P.covered tests.now) dcel.now (place_of V.Scalar.whole from) (place_of V.Scalar.whole to) }
-    requires met { place_of V.Scalar.whole from ≢ place_of V.Scalar.whole to → Meets (drawn (map V.place dcel.now.vertices) dcel.now.mesh) (fraction (place_of V.Scalar.whole from)) (fraction (place_of V.Scalar.whole to)) (item_of dcel.now.mesh item) }
-    ensures alone { place_of V.Scalar.whole from ≡ place_of V.Scalar.whole to → result ≡ None }
-    ensures next { place_of V.Scalar.whole from ≢ place_of V.Scalar.whole to → IsNext V.place dcel.now (place_of V.Scalar.whole from) (place_of V.Scalar.whole to) (item_of dcel.now.mesh item) result }
-{
-    if is_same_point(from, to) {
-        return None;
+impl<'a, V: HasPosition, DE, UE, F, P: PlaneTests<V::Scalar>> Segment<'a, V, DE, UE, F, P> {
+    // What it meets after an item: nothing where its ends are one point.
+    fn after(&self, item: FixedIntersection) -> Option<FixedIntersection>
+        requires within { IsHandleOf self.now.dcel.now item }
+        requires over { IsOver V.place V.Scalar.whole P.sites P.covered self.now }
+        requires met { place_of V.Scalar.whole self.now.from ≢ place_of V.Scalar.whole self.now.to → Meets (drawn (map V.place self.now.dcel.now.vertices) self.now.dcel.now.mesh) (fraction (place_of V.Scalar.whole self.now.from)) (fraction (place_of V.Scalar.whole self.now.to)) (item_of self.now.dcel.now.mesh item) }
+        ensures alone { place_of V.Scalar.whole self.now.from ≡ place_of V.Scalar.whole self.now.to → result ≡ None }
+        ensures next { place_of V.Scalar.whole self.now.from ≢ place_of V.Scalar.whole self.now.to → IsNext V.place self.now.dcel.now (place_of V.Scalar.whole self.now.from) (place_of V.Scalar.whole self.now.to) (item_of self.now.dcel.now.mesh item) result }
+    {
+        if is_same_point(self.from, self.to) {
+            return None;
+        }
+        match item {
+            FixedIntersection::Edge(edge) => self.after_crossing(edge),
+            FixedIntersection::Vertex(vertex) => self.after_vertex(vertex),
+            FixedIntersection::Overlap(edge) => self.after_overlap(edge),
+        }
     }
-    match item {
-        FixedIntersection::Edge(edge) => after_crossing(dcel, edge, from, to, tests),
-        FixedIntersection::Vertex(vertex) => after_vertex(dcel, vertex, from, to, tests),
-        FixedIntersection::Overlap(edge) => after_overlap(dcel, edge, from, to, tests),
-    }
-}
 
-// The walk from a first item on, which has no more items than `most`.
-pub(crate) fn starting<'a, V: HasPosition, DE, UE, F, P: PlaneTests<V::Scalar>>(
-    dcel: &'a Dcel<V, DE, UE, F>,
-    first: Option<FixedIntersection>,
-    from: Point2<V::Scalar>,
-    to: Point2<V::Scalar>,
-    most: usize,
-    tests: &'a P,
-) -> LineIntersectionIterator<'a, V, DE, UE, F, P>
-    requires over { IsOverMesh V.place (P.sites tests.now) (P.covered tests.now) dcel.now (place_of V.Scalar.whole from) (place_of V.Scalar.whole to) }
-    requires starts { Starts V.place dcel.now (place_of V.Scalar.whole from) (place_of V.Scalar.whole to) first }
-    requires few { length dcel.now.vertices + length dcel.now.undirected ≤ most }
-    ensures line { WalksLine V.place V.Scalar.whole (state_of dcel.now) (place_of V.Scalar.whole from) (place_of V.Scalar.whole to) result }
-    ensures ready { IsReady V.place V.Scalar.whole P.sites P.covered result }
-{
-    LineIntersectionIterator {
-        dcel,
-        tests,
-        from,
-        to,
-        current: first,
-        left: most,
-    }
-}
-
-impl<'a, V: HasPosition, DE, UE, F, P: PlaneTests<V::Scalar>> LineIntersectionIterator<
-    'a,
-    V,
-    DE,
-    UE,
-    F,
-    P,
-> {
-    /// What the segment from a vertex to a position meets, from the vertex on: of a vertex to its own position, that vertex alone.
-    pub(crate) fn new_from_vertex(
-        dcel: &'a Dcel<V, DE, UE, F>,
-        from: FixedVertexHandle,
-        to: Point2<V::Scalar>,
-        tests: &'a P,
-    ) -> Self
-        requires from_in { from < length dcel.now.vertices }
-        requires shape { IsMesh (map V.place dcel.now.vertices) (faces_of dcel.now.mesh) (outer_of dcel.now.mesh) }
-        requires sites { All (P.sites tests.now) (map V.place dcel.now.vertices) }
-        requires to_covered { P.covered tests.now (place_of V.Scalar.whole to) }
-        ensures line { WalksLine V.place V.Scalar.whole (state_of dcel.now) (point_at (map V.place dcel.now.vertices) from) (place_of V.Scalar.whole to) result }
+    // What it meets, from a first item on.
+    pub(crate) fn starting(
+        &self,
+        first: Option<FixedIntersection>,
+    ) -> LineIntersectionIterator<'a, V, DE, UE, F, P>
+        requires over { IsOver V.place V.Scalar.whole P.sites P.covered self.now }
+        requires starts { Starts V.place self.now.dcel.now (place_of V.Scalar.whole self.now.from) (place_of V.Scalar.whole self.now.to) first }
+        ensures line { WalksLine V.place V.Scalar.whole (state_of self.now.dcel.now) (place_of V.Scalar.whole self.now.from) (place_of V.Scalar.whole self.now.to) result }
         ensures ready { IsReady V.place V.Scalar.whole P.sites P.covered result }
     {
-        let (vertices, edges) = (dcel.num_vertices(), dcel.num_undirected_edges());
-        let start = position_of(dcel, from);
-        let first = FixedIntersection::Vertex(from);
-        starting(dcel, Some(first), start, to, vertices + edges, tests)
+        LineIntersectionIterator {
+            dcel: self.dcel,
+            tests: self.tests,
+            from: self.from,
+            to: self.to,
+            current: first,
+            left: self.dcel.num_vertices() + self.dcel.num_undirected_edges(),
+        }
+    }
+
+    /// What it meets, from a vertex on: of a vertex to its own position, that vertex alone.
+    pub(crate) fn walk_from_vertex(
+        &self,
+        vertex: FixedVertexHandle,
+    ) -> LineIntersectionIterator<'a, V, DE, UE, F, P>
+        requires within { vertex < length self.now.dcel.now.vertices }
+        requires over { IsOver V.place V.Scalar.whole P.sites P.covered self.now }
+        requires start { place_of V.Scalar.whole self.now.from ≡ point_at (map V.place self.now.dcel.now.vertices) vertex }
+        ensures line { WalksLine V.place V.Scalar.whole (state_of self.now.dcel.now) (place_of V.Scalar.whole self.now.from) (place_of V.Scalar.whole self.now.to) result }
+        ensures ready { IsReady V.place V.Scalar.whole P.sites P.covered result }
+    {
+        self.starting(Some(FixedIntersection::Vertex(vertex)))
     }
 }
 
@@ -125,7 +99,13 @@ impl<'a, V: HasPosition, DE, UE, F, P: PlaneTests<V::Scalar> + 'a> Iterator
     fn next(&mut self) -> Option<Intersection<'a, V, DE, UE, F>> {
         let item = self.current?;
         let found = intersection_in(self.dcel, &item);
-        self.current = after(self.dcel, item, self.from, self.to, self.tests);
+        let segment = Segment {
+            dcel: self.dcel,
+            tests: self.tests,
+            from: self.from,
+            to: self.to,
+        };
+        self.current = segment.after(item);
         self.left -= 1;
         Some(found)
     }

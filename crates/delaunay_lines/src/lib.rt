@@ -8,6 +8,7 @@ mod intersection;
 mod iterator;
 mod lines;
 mod outside;
+mod segment;
 mod sides;
 mod starts;
 mod vertex;

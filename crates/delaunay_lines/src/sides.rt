@@ -7,7 +7,6 @@ ghost use Rattle.plane.specs.Pairs.{place};
 ghost use Rattle.plane_segments.specs.Steps.{IsAhead};
 ghost use Rattle.delaunay_core.specs.Place.{place_of};
 ghost use Rattle.delaunay_legalization.specs.Known.{point_at};
-ghost use Rattle.delaunay_lines.specs.Steps.{IsLeftOf};
 
 use delaunay_core::line_side_info::LineSideInfo;
 use delaunay_core::math::PlaneTests;
@@ -149,36 +148,4 @@ pub(crate) fn side_of_edge<V: HasPosition, DE, UE, F, P: PlaneTests<V::Scalar>>(
 {
     let (start, end) = (start_of(dcel, edge), start_of(dcel, twin_of(dcel, edge)));
     tests.side(start, end, point)
-}
-
-// Whether a point is on the left of an edge.
-pub(crate) fn is_left_of<V: HasPosition, DE, UE, F, P: PlaneTests<V::Scalar>>(
-    dcel: &Dcel<V, DE, UE, F>,
-    edge: FixedDirectedEdgeHandle,
-    point: Point2<V::Scalar>,
-    tests: &P,
-) -> bool
-    requires within { edge < length dcel.now.directed }
-    requires sites { All (P.sites tests.now) (map V.place dcel.now.vertices) }
-    requires covered { P.covered tests.now (place_of V.Scalar.whole point) }
-    ensures { IsTrue result ↔ IsLeftOf (map V.place dcel.now.vertices) dcel.now.mesh (place_of V.Scalar.whole point) edge }
-{
-    side_of_edge(dcel, edge, point, tests).is_on_left_side()
-}
-
-// The side of the vertex where an edge starts, as seen from a point to another.
-pub(crate) fn side_of_start<V: HasPosition, DE, UE, F, P: PlaneTests<V::Scalar>>(
-    dcel: &Dcel<V, DE, UE, F>,
-    edge: FixedDirectedEdgeHandle,
-    from: Point2<V::Scalar>,
-    to: Point2<V::Scalar>,
-    tests: &P,
-) -> LineSideInfo
-    requires within { edge < length dcel.now.directed }
-    requires sites { All (P.sites tests.now) (map V.place dcel.now.vertices) }
-    requires from_covered { P.covered tests.now (place_of V.Scalar.whole from) }
-    requires to_covered { P.covered tests.now (place_of V.Scalar.whole to) }
-    ensures { let points = map V.place dcel.now.vertices in let m = dcel.now.mesh in result ≡ side (fraction (place_of V.Scalar.whole from)) (fraction (place_of V.Scalar.whole to)) (place points (origin m edge)) }
-{
-    tests.side(from, to, start_of(dcel, edge))
 }

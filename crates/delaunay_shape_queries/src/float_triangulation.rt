@@ -16,6 +16,30 @@ use delaunay_shapes::{
 };
 use std::alloc::{AllocError, Global};
 
+/// The scalars of a triangulation's positions.
+pub type ScalarOf<T> = <<T as Triangulation>::Vertex as HasPosition>::Scalar;
+
+/// Positions in a triangulation.
+pub type PointOf<T> = Point2<ScalarOf<T>>;
+
+/// The edges of a triangulation in a shape.
+pub type EdgesIn<'a, T> = EdgesInShapeIterator<
+    'a,
+    <T as Triangulation>::Vertex,
+    <T as Triangulation>::DirectedEdge,
+    <T as Triangulation>::UndirectedEdge,
+    <T as Triangulation>::Face,
+>;
+
+/// The vertices of a triangulation in a shape.
+pub type VerticesIn<'a, T> = VerticesInShapeIterator<
+    'a,
+    <T as Triangulation>::Vertex,
+    <T as Triangulation>::DirectedEdge,
+    <T as Triangulation>::UndirectedEdge,
+    <T as Triangulation>::Face,
+>;
+
 /// Edges and vertices in closed rectangles and circles: of both triangulations.
 ///
 /// All vertices are sites of the tests, which also cover the four corners of a rectangle or the
@@ -33,22 +57,13 @@ use std::alloc::{AllocError, Global};
 pub trait FloatTriangulation: Triangulation {
     /// The edges with a point in a closed rectangle, each once: none where `upper` is left of
     /// `lower` or below it.
-    final fn get_edges_in_rectangle<P: PlaneTests<<Self::Vertex as HasPosition>::Scalar>>(
+    final fn get_edges_in_rectangle<P: PlaneTests<ScalarOf<Self>>>(
         &self,
-        lower: Point2<<Self::Vertex as HasPosition>::Scalar>,
-        upper: Point2<<Self::Vertex as HasPosition>::Scalar>,
+        lower: PointOf<Self>,
+        upper: PointOf<Self>,
         tests: &P,
         alloc: Global,
-    ) -> Result<
-        EdgesInShapeIterator<
-            '_,
-            Self::Vertex,
-            Self::DirectedEdge,
-            Self::UndirectedEdge,
-            Self::Face,
-        >,
-        AllocError,
-    >
+    ) -> Result<EdgesIn<'_, Self>, AllocError>
         requires sites { AreSites Self.Vertex.place (P.sites tests.now)
             (Self.state self.now).vertices }
         requires covered { All (P.covered tests.now) (corners
@@ -64,22 +79,13 @@ pub trait FloatTriangulation: Triangulation {
 
     /// The vertices in a closed rectangle, each once: none where `upper` is left of `lower` or
     /// below it.
-    final fn get_vertices_in_rectangle<P: PlaneTests<<Self::Vertex as HasPosition>::Scalar>>(
+    final fn get_vertices_in_rectangle<P: PlaneTests<ScalarOf<Self>>>(
         &self,
-        lower: Point2<<Self::Vertex as HasPosition>::Scalar>,
-        upper: Point2<<Self::Vertex as HasPosition>::Scalar>,
+        lower: PointOf<Self>,
+        upper: PointOf<Self>,
         tests: &P,
         alloc: Global,
-    ) -> Result<
-        VerticesInShapeIterator<
-            '_,
-            Self::Vertex,
-            Self::DirectedEdge,
-            Self::UndirectedEdge,
-            Self::Face,
-        >,
-        AllocError,
-    >
+    ) -> Result<VerticesIn<'_, Self>, AllocError>
         requires sites { AreSites Self.Vertex.place (P.sites tests.now)
             (Self.state self.now).vertices }
         requires covered { All (P.covered tests.now) (corners
@@ -94,22 +100,13 @@ pub trait FloatTriangulation: Triangulation {
     }
 
     /// The edges with a point in a closed circle, each once. The squared radius is not negative.
-    final fn get_edges_in_circle<P: PlaneTests<<Self::Vertex as HasPosition>::Scalar>>(
+    final fn get_edges_in_circle<P: PlaneTests<ScalarOf<Self>>>(
         &self,
-        center: Point2<<Self::Vertex as HasPosition>::Scalar>,
+        center: PointOf<Self>,
         radius_2: i64,
         tests: &P,
         alloc: Global,
-    ) -> Result<
-        EdgesInShapeIterator<
-            '_,
-            Self::Vertex,
-            Self::DirectedEdge,
-            Self::UndirectedEdge,
-            Self::Face,
-        >,
-        AllocError,
-    >
+    ) -> Result<EdgesIn<'_, Self>, AllocError>
         requires sites { AreSites Self.Vertex.place (P.sites tests.now)
             (Self.state self.now).vertices }
         requires covered { P.covered tests.now (place_of Self.Vertex.Scalar.whole center) }
@@ -123,22 +120,13 @@ pub trait FloatTriangulation: Triangulation {
     }
 
     /// The vertices in a closed circle, each once. The squared radius is not negative.
-    final fn get_vertices_in_circle<P: PlaneTests<<Self::Vertex as HasPosition>::Scalar>>(
+    final fn get_vertices_in_circle<P: PlaneTests<ScalarOf<Self>>>(
         &self,
-        center: Point2<<Self::Vertex as HasPosition>::Scalar>,
+        center: PointOf<Self>,
         radius_2: i64,
         tests: &P,
         alloc: Global,
-    ) -> Result<
-        VerticesInShapeIterator<
-            '_,
-            Self::Vertex,
-            Self::DirectedEdge,
-            Self::UndirectedEdge,
-            Self::Face,
-        >,
-        AllocError,
-    >
+    ) -> Result<VerticesIn<'_, Self>, AllocError>
         requires sites { AreSites Self.Vertex.place (P.sites tests.now)
             (Self.state self.now).vertices }
         requires covered { P.covered tests.now (place_of Self.Vertex.Scalar.whole center) }

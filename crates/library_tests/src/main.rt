@@ -16,8 +16,9 @@ mod sheet_triangulation;
 mod tagged_vertex;
 mod triples;
 
-use script::{Call, Session, answer};
+use script::{Session, answer};
 use std::io;
+use test_script::Call;
 
 fn main(rt: HostRuntime) -> io::Result<()> {
     let mut session = Session::new(rt.alloc());

@@ -15,26 +15,10 @@ use delaunay_core::LastUsedVertexHintGenerator;
 use spade_delaunay::handles::FixedVertexHandle;
 use spade_delaunay::{DelaunayTriangulation, InsertionError, Point2, Triangulation};
 use std::alloc::Global;
-use std::fmt::Debug;
 use std::io;
 use std::mem::replace;
+use test_script::{Call, index};
 use triangulate_run::sheet::Sheet;
-
-/// A call by its name, with the line that asks for it.
-#[derive(Drop)]
-pub struct Call<'a> {
-    line: &'a str,
-    name: &'a str,
-    /// What is not given is 0.
-    numbers: [i64; 4],
-}
-
-fn number(word: Option<&str>) -> i64 {
-    match word {
-        Some(word) => word.parse().unwrap_or(0),
-        None => 0,
-    }
-}
 
 // An index that is given, or one that no element has.
 fn index(number: i64) -> u32 {
@@ -43,33 +27,6 @@ fn index(number: i64) -> u32 {
 
 fn tag(number: i64) -> u64 {
     u64::try_from(number).unwrap_or(0)
-}
-
-impl<'a> Call<'a> {
-    /// Nothing where the line is empty or a remark.
-    pub fn parse(line: &'a str) -> Option<Self> {
-        let mut words = line.split_whitespace();
-        let name = words.next()?;
-        if name == "#" {
-            return None;
-        }
-        let numbers = [
-            number(words.next()),
-            number(words.next()),
-            number(words.next()),
-            number(words.next()),
-        ];
-        Some(Call {
-            line,
-            name,
-            numbers,
-        })
-    }
-
-    fn tell<T: Debug>(&self, rt: &impl Print, answer: &T) -> io::Result<()> {
-        let line = self.line;
-        println!(rt; "{line} > {answer:?}")
-    }
 }
 
 /// What the calls of a script work on: a triangulation, one with constraints, one for paths, and a hint generator.
@@ -128,7 +85,7 @@ pub fn answer(
     session: &mut Session,
     call: &Call<'_>,
 ) -> io::Result<()> {
-    let [x, y, c, _] = call.numbers;
+    let [x, y, c, ..] = call.numbers;
     let vertex = FixedVertexHandle::from_index(index(x));
     let points = &mut session.points;
     match call.name {
@@ -148,7 +105,7 @@ pub fn answer(
 
 // Reads of the triangulation.
 fn read(rt: &(impl Print + AllocGlobal), session: &mut Session, call: &Call<'_>) -> io::Result<()> {
-    let [x, y, _, _] = call.numbers;
+    let [x, y, ..] = call.numbers;
     let points = &session.points;
     match call.name {
         "counts" => call.tell(rt, &counts(points)),
@@ -171,7 +128,7 @@ fn answer_constrained(
     points: &mut SheetConstraints,
     call: &Call<'_>,
 ) -> io::Result<()> {
-    let [x, y, _, _] = call.numbers;
+    let [x, y, ..] = call.numbers;
     let vertex = FixedVertexHandle::from_index(index(x));
     match call.name {
         "constrained_counts" => call.tell(rt, &all_counts(points)),
@@ -198,7 +155,7 @@ fn answer_beside(
     session: &mut Session,
     call: &Call<'_>,
 ) -> io::Result<()> {
-    let [x, y, c, d] = call.numbers;
+    let [x, y, c, d, ..] = call.numbers;
     let (from, to) = (index(x), index(y));
     let paths = &mut session.paths;
     match call.name {
@@ -229,7 +186,7 @@ fn answer_hints(
     generator: &mut LastUsedVertexHintGenerator,
     call: &Call<'_>,
 ) -> io::Result<()> {
-    let [x, y, c, _] = call.numbers;
+    let [x, y, c, ..] = call.numbers;
     match call.name {
         "get_hint" => call.tell(rt, &hints::hint(generator, (x, y))),
         "notify_vertex_inserted" => call.tell(rt, &hints::insert(generator, index(c), (x, y))),

@@ -2,8 +2,9 @@
 
 use spade_delaunay::Intersection;
 use spade_delaunay::handles::DirectedEdgeHandle;
-use std::fmt;
 use std::fmt::{Display, Formatter, Write};
+use std::{fmt, io};
+use test_script::Call;
 
 /// A vertex, or an edge from one vertex to another.
 #[derive(Clone, Copy, Debug, PartialEq, Eq)]
@@ -41,4 +42,17 @@ pub fn item_of<V, DE, UE, F>(item: &Intersection<'_, V, DE, UE, F>) -> Item {
             Item::Overlap(from, to)
         }
     }
+}
+
+/// Prints the line of a call and the items that it gave.
+pub fn tell_items(rt: &impl Print, call: &Call<'_>, items: Option<Vec<Item>>) -> io::Result<()> {
+    let line = call.line;
+    let Some(items) = items else {
+        return println!(rt; "{line} > no walk");
+    };
+    print!(rt; "{line} >")?;
+    for item in &items {
+        print!(rt; " {item}")?;
+    }
+    println!(rt)
 }

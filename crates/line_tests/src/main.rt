@@ -10,14 +10,13 @@ mod elements;
 mod filter;
 mod items;
 mod points;
-mod script;
 mod segment;
 mod session;
 mod sheets;
 
-use script::Call;
 use session::{Session, answer};
 use std::io;
+use test_script::Call;
 
 fn main(rt: HostRuntime) -> io::Result<()> {
     let mut session = Session::new(rt.alloc());

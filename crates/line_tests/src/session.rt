@@ -3,15 +3,15 @@
 use crate::conflicts::{conflicts, conflicts_between, intersects};
 use crate::drawing::Drawing;
 use crate::elements::{Place, counts, faces_of, locate};
-use crate::items::Item;
+use crate::items::{Item, tell_items};
 use crate::points::{Constrained, Plain, Points, point, vertex, walk, walk_between};
-use crate::script::Call;
 use crate::sheets::{compare_conflicts, compare_walks};
 use exact_tests::ExactTests;
 use spade_delaunay::{EdgeData, InsertionError, Point2, Triangulation};
 use std::alloc::Global;
 use std::io;
 use std::mem::replace;
+use test_script::Call;
 
 /// A triangulation of either type.
 #[derive(Drop)]
@@ -54,7 +54,7 @@ fn constrain(points: &mut Constrained, from: i64, to: i64) -> Option<usize> {
 
 fn line<UE, M: EdgeData<UE>>(
     points: &Points<UE, M>,
-    [x, y, u, v]: [i64; 4],
+    [x, y, u, v, ..]: [i64; 8],
     alloc: Global,
 ) -> Option<Vec<Item>> {
     walk(points, point(x, y)?, point(u, v)?, alloc).ok()
@@ -64,7 +64,7 @@ fn line_of_handles(points: &Plain, from: i64, to: i64, alloc: Global) -> Option<
     walk_between(points, vertex(points, from)?, vertex(points, to)?, alloc).ok()
 }
 
-fn crossed(points: &Constrained, [x, y, u, v]: [i64; 4], alloc: Global) -> Option<Vec<Item>> {
+fn crossed(points: &Constrained, [x, y, u, v, ..]: [i64; 8], alloc: Global) -> Option<Vec<Item>> {
     conflicts(points, point(x, y)?, point(u, v)?, alloc).ok()
 }
 
@@ -77,7 +77,7 @@ fn crossed_of_handles(
     conflicts_between(points, vertex(points, from)?, vertex(points, to)?, alloc).ok()
 }
 
-fn is_crossing(points: &Constrained, [x, y, u, v]: [i64; 4]) -> Option<bool> {
+fn is_crossing(points: &Constrained, [x, y, u, v, ..]: [i64; 8]) -> Option<bool> {
     Some(intersects(points, point(x, y)?, point(u, v)?))
 }
 
@@ -159,8 +159,8 @@ fn walk_along(
     let ([x, y, ..], points, alloc) = (call.numbers, &session.plain, rt.alloc());
     let sheet = session.sheet.as_slice();
     match call.name {
-        "line" => call.tell_items(rt, line(points, call.numbers, alloc)),
-        "line_of_handles" => call.tell_items(rt, line_of_handles(points, x, y, alloc)),
+        "line" => tell_items(rt, call, line(points, call.numbers, alloc)),
+        "line_of_handles" => tell_items(rt, call, line_of_handles(points, x, y, alloc)),
         "agree" => {
             let drawing = Drawing::of(points, alloc)?;
             call.tell(rt, &compare_walks(points, &drawing, sheet, alloc))
@@ -176,7 +176,7 @@ fn walk_past_constraints(
 ) -> io::Result<()> {
     let (points, alloc) = (&session.constrained, rt.alloc());
     match call.name {
-        "constrained_line" => call.tell_items(rt, line(points, call.numbers, alloc)),
+        "constrained_line" => tell_items(rt, call, line(points, call.numbers, alloc)),
         "constrained_agree" => {
             let (drawing, sheet) = (Drawing::of(points, alloc)?, session.sheet.as_slice());
             call.tell(rt, &compare_walks(points, &drawing, sheet, alloc))
@@ -193,8 +193,8 @@ fn find_conflicts(
     let ([x, y, ..], points, alloc) = (call.numbers, &session.constrained, rt.alloc());
     let sheet = session.sheet.as_slice();
     match call.name {
-        "conflicts" => call.tell_items(rt, crossed(points, call.numbers, alloc)),
-        "conflicts_of_handles" => call.tell_items(rt, crossed_of_handles(points, x, y, alloc)),
+        "conflicts" => tell_items(rt, call, crossed(points, call.numbers, alloc)),
+        "conflicts_of_handles" => tell_items(rt, call, crossed_of_handles(points, x, y, alloc)),
         "conflicts_agree" => call.tell(rt, &compare_conflicts(points, sheet, alloc)?),
         "intersects_constraint" => call.tell(rt, &is_crossing(points, call.numbers)),
         _ => call.tell(rt, &"no such call"),

@@ -16,8 +16,9 @@ mod script;
 mod voronoi;
 
 use lookups::Mesh;
-use script::{Call, answer};
+use script::answer;
 use std::io;
+use test_script::Call;
 
 fn main(rt: HostRuntime) -> io::Result<()> {
     let mut mesh = Mesh::new(rt.alloc());

@@ -24,50 +24,8 @@ use crate::room::{
 };
 use crate::voronoi::{undirected_voronoi_edge, voronoi_edge, voronoi_face, voronoi_vertex};
 use half_edge_mesh::MeshViews;
-use std::fmt::Debug;
 use std::io;
-
-/// A call by its name, with the line that asks for it.
-#[derive(Drop)]
-pub struct Call<'a> {
-    line: &'a str,
-    name: &'a str,
-    /// What is not given is 0.
-    numbers: [u32; 3],
-}
-
-fn number(word: Option<&str>) -> u32 {
-    match word {
-        Some(word) => word.parse().unwrap_or(u32::MAX),
-        None => 0,
-    }
-}
-
-impl<'a> Call<'a> {
-    /// Nothing where the line is empty or a remark.
-    pub fn parse(line: &'a str) -> Option<Self> {
-        let mut words = line.split_whitespace();
-        let name = words.next()?;
-        if name == "#" {
-            return None;
-        }
-        let numbers = [
-            number(words.next()),
-            number(words.next()),
-            number(words.next()),
-        ];
-        Some(Call {
-            line,
-            name,
-            numbers,
-        })
-    }
-
-    fn tell<T: Debug>(&self, rt: &impl Print, answer: &T) -> io::Result<()> {
-        let line = self.line;
-        println!(rt; "{line} > {answer:?}")
-    }
-}
+use test_script::Call;
 
 // As many as a test makes fit a byte.
 fn byte(number: u32) -> u8 {
@@ -76,7 +34,7 @@ fn byte(number: u32) -> u8 {
 
 /// Makes the call that a line asks for, and prints what it gives.
 pub fn answer(rt: &(impl Print + AllocGlobal), mesh: &mut Mesh, call: &Call<'_>) -> io::Result<()> {
-    let [a, b, c] = call.numbers;
+    let [a, b, c] = call.indexes();
     match call.name {
         "clear" => {
             mesh.clear();

@@ -9,9 +9,10 @@ mod script;
 mod session;
 mod shapes;
 
-use script::{Call, answer};
+use script::answer;
 use session::Session;
 use std::io;
+use test_script::Call;
 
 fn main(rt: HostRuntime) -> io::Result<()> {
     let mut session = Session::new(rt.alloc());

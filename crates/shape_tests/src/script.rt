@@ -4,49 +4,8 @@ use crate::comparisons::{Kind, asks_fewer, compare};
 use crate::session::Session;
 use crate::shapes::{Shape, found};
 use spade_delaunay::{FloatTriangulation, Point2, Triangulation};
-use std::fmt::Debug;
 use std::io;
-
-/// A call by its name, with the line that asks for it.
-#[derive(Drop)]
-pub struct Call<'a> {
-    line: &'a str,
-    name: &'a str,
-    /// What is not given is 0.
-    numbers: [i64; 4],
-}
-
-fn number(word: Option<&str>) -> i64 {
-    match word {
-        Some(word) => word.parse().unwrap_or(0),
-        None => 0,
-    }
-}
-
-impl<'a> Call<'a> {
-    /// Nothing where the line is empty or a remark.
-    pub fn parse(line: &'a str) -> Option<Self> {
-        let mut words = line.split_whitespace();
-        let name = words.next()?;
-        if name == "#" {
-            return None;
-        }
-        let mut numbers = [0; 4];
-        for place in &mut numbers {
-            *place = number(words.next());
-        }
-        Some(Call {
-            line,
-            name,
-            numbers,
-        })
-    }
-
-    fn tell<T: Debug>(&self, rt: &impl Print, answer: &T) -> io::Result<()> {
-        let line = self.line;
-        println!(rt; "{line} > {answer:?}")
-    }
-}
+use test_script::Call;
 
 /// Makes the call that a line asks for, and prints what it gives.
 pub fn answer(
@@ -71,7 +30,7 @@ pub fn answer(
 }
 
 fn query(rt: &(impl Print + AllocGlobal), session: &Session, call: &Call<'_>) -> io::Result<()> {
-    let [a, b, c, d] = call.numbers;
+    let [a, b, c, d, ..] = call.numbers;
     let (points, alloc) = (&session.plain, rt.alloc());
     match call.name {
         "in_rectangle" => call.tell(rt, &found(points, Shape::Rectangle((a, b), (c, d)), alloc)),

@@ -1,0 +1,66 @@
+use Rattle.std.proofs.Common.{◌<◌, ℕ, length, map, sym, ap, subst, ◌∙◌}
+use Rattle.std.specs.Prelude.{Some}
+use Rattle.half_edge_mesh.specs.Mesh.{origin, rev}
+use Rattle.plane.specs.Fraction.{Point, whole}
+use Rattle.plane_segments.specs.Steps.{IsAhead}
+use Rattle.delaunay_core.specs.Place.{place_of}
+use Rattle.delaunay_legalization.specs.Known.{point_at}
+use Rattle.delaunay_legalization.proofs.Questions.{both_ways, covered_in}
+use Rattle.delaunay_lines.specs.declared.intersection.FixedIntersection.TheVariants.{Edge, Overlap}
+use Rattle.delaunay_lines.specs.Walk.{Starts}
+use Rattle.delaunay_lines.proofs.SegmentTests.{differs_if_within}
+use Rattle.delaunay_lines.proofs.MeshSteps.{ends_apart}
+use Rattle.delaunay_lines.proofs.FirstItems.{on_if_neither, alone_on_edge, over_edge, over_twin, along_edge, along_twin}
+use Rattle.delaunay_lines.proofs.segment.Segment.first_on_edge.Goals as goal
+
+pub returns-then-is_same_point : goal.returns-then-is_same_point
+returns-then-is_same_point g c = alone_on_edge _ _ _ _ _ _ c.requires.over c.args.edge c.requires.within c.requires.start (c.is_same_point.ensures.0 c.if-is_same_point.true)
+
+pub returns-then-is_on_left_side : goal.returns-then-is_on_left_side
+returns-then-is_on_left_side g c =
+    over_edge _ _ _ _ _ _ c.requires.over c.args.edge c.requires.within c.requires.start (λ e. both_ways _ (c.is_same_point.ensures.1 e) c.if-is_same_point.false) (sym c.side_of_edge-side.ensures ∙ c.is_on_left_side.ensures.0 c.if-is_on_left_side.true)
+
+pub returns-then-is_on_right_side : goal.returns-then-is_on_right_side
+returns-then-is_on_right_side g c =
+    let at = place_of g.V.Scalar.SpadeNum.whole in
+    subst (λ (k : ℕ). Starts g.V.HasPosition.place c.args.self.now.dcel.now (at c.args.self.now.from) (at c.args.self.now.to) (Some (Edge k))) (sym c.twin_of-twin.ensures.value)
+    (over_twin _ _ _ _ _ _ c.requires.over c.args.edge c.requires.within c.requires.start (λ e. both_ways _ (c.is_same_point.ensures.1 e) c.if-is_same_point.false)
+    (subst (λ (k : ℕ). k < length c.args.self.now.dcel.now.directed) c.twin_of-twin.ensures.value c.twin_of-twin.ensures.within) (sym c.side_of_edge-side.ensures ∙ c.is_on_right_side.ensures.0 c.if-is_on_right_side.true))
+
+-- where the edge ends
+pub is_ahead-requires-clause-to_covered : goal.is_ahead-requires-clause-to_covered
+is_ahead-requires-clause-to_covered g c =
+    covered_in (g.P.PlaneTests.covered c.args.self.now.tests.now) (g.P.PlaneTests.sites c.args.self.now.tests.now) (g.met.P.PlaneTests.sites_are_covered c.args.self.now.tests.now) (map g.V.HasPosition.place c.args.self.now.dcel.now.vertices) (place_of g.V.Scalar.SpadeNum.whole c.start_of.result) c.requires.over.sites c.start_of.ensures.listed
+
+pub is_ahead-requires-clause-to_apart : goal.is_ahead-requires-clause-to_apart
+is_ahead-requires-clause-to_apart g c =
+    let points = map g.V.HasPosition.place c.args.self.now.dcel.now.vertices in
+    let m = c.args.self.now.dcel.now.mesh in
+    let ends = ends_apart _ _ _ _ _ _ c.requires.over c.args.edge c.requires.within (point_at points (origin m c.args.edge)) (point_at points (origin m (rev c.args.edge))) (λ _. point_at points (origin m c.args.edge)) (λ _. point_at points (origin m (rev c.args.edge))) in
+    let is = c.start_of.ensures.place ∙ ap (λ (h : ℕ). point_at points (origin m h)) c.twin_of-twin.ensures.value in
+    λ e. (differs_if_within (point_at points (origin m c.args.edge)) (point_at points (origin m (rev c.args.edge))) ends (place_of g.V.Scalar.SpadeNum.whole c.args.self.now.from) c.requires.start).1 (e ∙ is)
+
+pub is_ahead-requires-clause-point_apart : goal.is_ahead-requires-clause-point_apart
+is_ahead-requires-clause-point_apart g c = λ e. both_ways _ (c.is_same_point.ensures.1 e) c.if-is_same_point.false
+
+pub returns-then-is_ahead : goal.returns-then-is_ahead
+returns-then-is_ahead g c =
+    let points = map g.V.HasPosition.place c.args.self.now.dcel.now.vertices in
+    let m = c.args.self.now.dcel.now.mesh in
+    let at = place_of g.V.Scalar.SpadeNum.whole in
+    let is = c.start_of.ensures.place ∙ ap (λ (h : ℕ). point_at points (origin m h)) c.twin_of-twin.ensures.value in
+    along_edge _ _ _ _ _ _ c.requires.over c.args.edge c.requires.within c.requires.start (λ e. both_ways _ (c.is_same_point.ensures.1 e) c.if-is_same_point.false)
+    (on_if_neither _ (λ e. both_ways _ (c.is_on_left_side.ensures.1 (c.side_of_edge-side.ensures ∙ e)) c.if-is_on_left_side.false) (λ e. both_ways _ (c.is_on_right_side.ensures.1 (c.side_of_edge-side.ensures ∙ e)) c.if-is_on_right_side.false))
+    (subst (λ (z : Point). IsAhead (whole (at c.args.self.now.from)) (whole z) (whole (at c.args.self.now.to))) is (c.is_ahead.ensures.0 c.if-is_ahead.true))
+
+pub returns-else-is_ahead : goal.returns-else-is_ahead
+returns-else-is_ahead g c =
+    let points = map g.V.HasPosition.place c.args.self.now.dcel.now.vertices in
+    let m = c.args.self.now.dcel.now.mesh in
+    let at = place_of g.V.Scalar.SpadeNum.whole in
+    let is = c.start_of.ensures.place ∙ ap (λ (h : ℕ). point_at points (origin m h)) c.twin_of-twin.ensures.value in
+    subst (λ (k : ℕ). Starts g.V.HasPosition.place c.args.self.now.dcel.now (at c.args.self.now.from) (at c.args.self.now.to) (Some (Overlap k))) (sym c.twin_of-twin.ensures.value)
+    (along_twin _ _ _ _ _ _ c.requires.over c.args.edge c.requires.within c.requires.start (λ e. both_ways _ (c.is_same_point.ensures.1 e) c.if-is_same_point.false)
+    (subst (λ (k : ℕ). k < length c.args.self.now.dcel.now.directed) c.twin_of-twin.ensures.value c.twin_of-twin.ensures.within)
+    (on_if_neither _ (λ e. both_ways _ (c.is_on_left_side.ensures.1 (c.side_of_edge-side.ensures ∙ e)) c.if-is_on_left_side.false) (λ e. both_ways _ (c.is_on_right_side.ensures.1 (c.side_of_edge-side.ensures ∙ e)) c.if-is_on_right_side.false))
+    (λ a. both_ways _ (c.is_ahead.ensures.1 (subst (λ (z : Point). IsAhead (whole (at c.args.self.now.from)) (whole z) (whole (at c.args.self.now.to))) (sym is) a)) c.if-is_ahead.false))

@@ -1,5 +1,0 @@
-use Rattle.delaunay_legalization.proofs.Questions.{both_ways}
-use Rattle.delaunay_lines.proofs.vertex.is_in_cone.Goals as goal
-
-pub returns-else-is_left_of : goal.returns-else-is_left_of
-returns-else-is_left_of g c = ((λ t. absurd (both_ways _ t c.if-is_left_of.false)), (λ x. c.is_left_of.ensures.1 x.left))
