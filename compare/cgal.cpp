@@ -1,4 +1,4 @@
-// cgal KIND ORDER N [REMOVALS]: what crates/benchmark does, with CGAL's triangulations, over the
+// cgal KIND ORDER N [REMOVALS [HINTS]]: what crates/benchmark does, with CGAL's triangulations, over the
 // same points. KIND is plain (each search begins at the face where the last one ended) or hierarchy
 // (of triangulations).
 #include <CGAL/Delaunay_triangulation_2.h>

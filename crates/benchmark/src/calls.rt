@@ -4,15 +4,19 @@ use crate::random::Random;
 use exact_tests::ExactTests;
 use spade_delaunay::handles::FixedVertexHandle;
 use spade_delaunay::{
-    DelaunayTriangulation, FloatTriangulation, InsertionError, Point2, PositionInTriangulation,
-    Triangulation, validate_vertex,
+    DelaunayTriangulation, FloatTriangulation, HintGenerator, InsertionError, Point2,
+    PositionInTriangulation, Triangulation, validate_vertex,
 };
 use std::alloc::{AllocError, Global};
 
-pub type Points = DelaunayTriangulation<Point2<i64>>;
+/// A triangulation whose searches begin where this generator says.
+pub type Points<L> = DelaunayTriangulation<Point2<i64>, (), (), (), L>;
 
-pub fn insert_all(alloc: Global, points: &[Point2<i64>]) -> Result<Points, InsertionError> {
-    let mut triangulation = Points::new(alloc);
+pub fn insert_all<L: HintGenerator<i64>>(
+    alloc: Global,
+    points: &[Point2<i64>],
+) -> Result<Points<L>, InsertionError> {
+    let mut triangulation: Points<L> = Points::new(alloc);
     for point in points {
         triangulation.insert(*point, &ExactTests)?;
     }
@@ -28,7 +32,10 @@ pub struct Located {
     pub outside: u32,
 }
 
-pub fn locate_all(triangulation: &Points, queries: &[Point2<i64>]) -> Located {
+pub fn locate_all<L: HintGenerator<i64>>(
+    triangulation: &Points<L>,
+    queries: &[Point2<i64>],
+) -> Located {
     let mut located = Located {
         vertices: 0,
         inside: 0,
@@ -58,7 +65,10 @@ fn squared(a: i64, b: i64) -> i64 {
 
 /// The sum of the squared distances from points to their nearest vertices, without what 64 bits do
 /// not hold.
-pub fn nearest_all(triangulation: &Points, queries: &[Point2<i64>]) -> i64 {
+pub fn nearest_all<L: HintGenerator<i64>>(
+    triangulation: &Points<L>,
+    queries: &[Point2<i64>],
+) -> i64 {
     let mut sum = 0i64;
     for point in queries {
         if validate_vertex(point).is_err() {
@@ -75,8 +85,8 @@ pub fn nearest_all(triangulation: &Points, queries: &[Point2<i64>]) -> i64 {
 
 /// How many edges have a point in the circles round points, with this squared radius: none where it
 /// is negative.
-pub fn edges_in_circles(
-    triangulation: &Points,
+pub fn edges_in_circles<L: HintGenerator<i64>>(
+    triangulation: &Points<L>,
     alloc: Global,
     centers: &[Point2<i64>],
     radius_2: i64,
@@ -97,6 +107,29 @@ pub fn edges_in_circles(
     Ok(count)
 }
 
+/// How many edges have a point in the squares round points, with sides of twice this length: none
+/// where it is negative, or a corner is out of range.
+pub fn edges_in_squares<L: HintGenerator<i64>>(
+    triangulation: &Points<L>,
+    alloc: Global,
+    centers: &[Point2<i64>],
+    reach: i64,
+) -> Result<u64, AllocError> {
+    let mut count: u64 = 0;
+    for center in centers {
+        let lower = Point2::new(center.x.wrapping_sub(reach), center.y.wrapping_sub(reach));
+        let upper = Point2::new(center.x.wrapping_add(reach), center.y.wrapping_add(reach));
+        if validate_vertex(&lower).is_err() || validate_vertex(&upper).is_err() {
+            continue;
+        }
+        let edges = triangulation.get_edges_in_rectangle(lower, upper, &ExactTests, alloc)?;
+        for _ in edges {
+            count = count.saturating_add(1);
+        }
+    }
+    Ok(count)
+}
+
 /// How many vertices were removed, and a number that depends on which, and in which order.
 #[derive(Drop)]
 pub struct Removed {
@@ -105,8 +138,8 @@ pub struct Removed {
 }
 
 /// Removes random vertices until there is none, or so many are gone.
-pub fn remove_some(
-    triangulation: &mut Points,
+pub fn remove_some<L: HintGenerator<i64>>(
+    triangulation: &mut Points<L>,
     random: &mut Random,
     removals: u32,
 ) -> Result<Removed, AllocError> {

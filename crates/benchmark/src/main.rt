@@ -1,21 +1,29 @@
-//! `benchmark ORDER N [REMOVALS]` inserts N points in an order, asks for as many locations and
-//! nearest vertices and for the edges in circles, and removes vertices at random, all of them where no number says how many.
-//! Without words it runs each order with few points. Standard output has what was found, so that
-//! other programs can be compared, and standard error the figures: the thread's nanoseconds a call,
-//! and the peak of resident bytes a vertex. The stored output is that of `compare/cgal.cpp`, which
-//! does the same with another library.
+//! `benchmark ORDER N [REMOVALS [HINTS]]` inserts N points in an order, asks for as many locations
+//! and nearest vertices and for the edges in circles and squares, and removes vertices at random,
+//! all of them where no number says how many. HINTS is `last`, or the branch factor of a hierarchy.
+//! Without words it runs each order with few points, with each of the two kinds of hints. Standard
+//! output has what was found, so that other programs can be compared, and standard error the
+//! figures: the thread's nanoseconds a call, and the peak of resident bytes a vertex. The stored
+//! output is that of `compare/cgal.cpp`, which does the same with another library.
 #![tactic(auto)]
 
 mod calls;
+mod hints;
 mod memory;
 mod orders;
 mod random;
 
-use crate::calls::{Points, edges_in_circles, insert_all, locate_all, nearest_all, remove_some};
+use crate::calls::{
+    Points, edges_in_circles, edges_in_squares, insert_all, locate_all, nearest_all, remove_some,
+};
+use crate::hints::Hints;
 use crate::memory::{peak_bytes, resident_bytes};
 use crate::orders::Order;
 use crate::random::Random;
-use spade_delaunay::{Point2, Triangulation};
+use spade_delaunay::{
+    HierarchyHintGeneratorWithBranchFactor, HintGenerator, LastUsedVertexHintGenerator, Point2,
+    Triangulation,
+};
 use std::io;
 use std::time::{CpuClock, Duration};
 
@@ -25,8 +33,8 @@ const FEW: u32 = 200;
 /// How many of them are left at the end.
 const LEFT: u32 = 50;
 
-/// How many circles are asked for at most, since each takes a mark an edge of the mesh.
-const CIRCLES: usize = 1000;
+/// How many circles and squares are asked for at most, since each takes a mark an edge of the mesh.
+const SHAPES: usize = 1000;
 
 /// What the first words ask for.
 #[derive(Drop)]
@@ -34,6 +42,7 @@ struct Task {
     order: Order,
     count: u32,
     removals: u32,
+    hints: Hints,
 }
 
 impl Task {
@@ -46,10 +55,15 @@ impl Task {
             Some(word) => word.parse().ok()?,
             None => count,
         };
+        let hints = match words.next() {
+            Some(word) => Hints::named(word.as_str())?,
+            None => Hints::LastUsed,
+        };
         Some(Task {
             order,
             count,
             removals,
+            hints,
         })
     }
 }
@@ -60,7 +74,11 @@ fn nanoseconds_a_call(rt: &HostRuntime, start: Duration, calls: usize) -> io::Re
     Ok(taken.as_nanos() / (calls as u128).max(1))
 }
 
-fn tell_counts(rt: &HostRuntime, word: &str, triangulation: &Points) -> io::Result<()> {
+fn tell_counts<L: HintGenerator<i64>>(
+    rt: &HostRuntime,
+    word: &str,
+    triangulation: &Points<L>,
+) -> io::Result<()> {
     println!(rt;
         "{word}: {} vertices, {} edges, {} faces",
         triangulation.num_vertices(),
@@ -69,10 +87,13 @@ fn tell_counts(rt: &HostRuntime, word: &str, triangulation: &Points) -> io::Resu
     )
 }
 
-fn insert(rt: &HostRuntime, points: &[Point2<i64>]) -> anyhow::Result<Points> {
+fn insert<L: HintGenerator<i64>>(
+    rt: &HostRuntime,
+    points: &[Point2<i64>],
+) -> anyhow::Result<Points<L>> {
     let before = resident_bytes(rt);
     let start = rt.thread_cpu_time()?;
-    let triangulation = insert_all(rt.alloc(), points)?;
+    let triangulation = insert_all::<L>(rt.alloc(), points)?;
     let nanoseconds = nanoseconds_a_call(rt, start, points.len())?;
     let bytes = peak_bytes(rt).saturating_sub(before) / (points.len() as u64).max(1);
     eprintln!(rt; "insert {nanoseconds} ns")?;
@@ -81,7 +102,11 @@ fn insert(rt: &HostRuntime, points: &[Point2<i64>]) -> anyhow::Result<Points> {
     Ok(triangulation)
 }
 
-fn ask(rt: &HostRuntime, triangulation: &Points, queries: &[Point2<i64>]) -> anyhow::Result<()> {
+fn ask<L: HintGenerator<i64>>(
+    rt: &HostRuntime,
+    triangulation: &Points<L>,
+    queries: &[Point2<i64>],
+) -> anyhow::Result<()> {
     let start = rt.thread_cpu_time()?;
     let located = locate_all(triangulation, queries);
     let nanoseconds = nanoseconds_a_call(rt, start, queries.len())?;
@@ -98,24 +123,29 @@ fn ask(rt: &HostRuntime, triangulation: &Points, queries: &[Point2<i64>]) -> any
     Ok(())
 }
 
-// Circles with a few edges each: standard error tells how many edges came, too, since CGAL is not
-// asked.
-fn ask_circles(
+// Circles and squares with a few edges each: standard error tells how many edges came, too, since
+// CGAL is not asked.
+fn ask_shapes<L: HintGenerator<i64>>(
     rt: &HostRuntime,
-    triangulation: &Points,
+    triangulation: &Points<L>,
     centers: &[Point2<i64>],
-    radius_2: i64,
+    radius: i64,
 ) -> anyhow::Result<()> {
+    let radius_2 = radius.wrapping_mul(radius);
     let start = rt.thread_cpu_time()?;
     let edges = edges_in_circles(triangulation, rt.alloc(), centers, radius_2)?;
     let nanoseconds = nanoseconds_a_call(rt, start, centers.len())?;
     eprintln!(rt; "circle {nanoseconds} ns, {edges} edges in all")?;
+    let start = rt.thread_cpu_time()?;
+    let edges = edges_in_squares(triangulation, rt.alloc(), centers, radius)?;
+    let nanoseconds = nanoseconds_a_call(rt, start, centers.len())?;
+    eprintln!(rt; "square {nanoseconds} ns, {edges} edges in all")?;
     Ok(())
 }
 
-fn remove(
+fn remove<L: HintGenerator<i64>>(
     rt: &HostRuntime,
-    triangulation: &mut Points,
+    triangulation: &mut Points<L>,
     random: &mut Random,
     removals: u32,
 ) -> anyhow::Result<()> {
@@ -131,29 +161,42 @@ fn remove(
     Ok(())
 }
 
-fn run(rt: &HostRuntime, task: &Task) -> anyhow::Result<()> {
+fn measure<L: HintGenerator<i64>>(rt: &HostRuntime, task: &Task) -> anyhow::Result<()> {
     let mut random = Random::new();
     let points = task.order.points(rt.alloc(), task.count, &mut random)?;
     let queries = task.order.queries(rt.alloc(), task.count, &mut random)?;
-    let mut triangulation = insert(rt, points.as_slice())?;
+    let mut triangulation = insert::<L>(rt, points.as_slice())?;
     ask(rt, &triangulation, queries.as_slice())?;
-    let circles = &queries.as_slice()[..queries.len().min(CIRCLES)];
-    ask_circles(rt, &triangulation, circles, task.order.radius_2(task.count))?;
+    let centers = &queries.as_slice()[..queries.len().min(SHAPES)];
+    ask_shapes(rt, &triangulation, centers, task.order.radius(task.count))?;
     remove(rt, &mut triangulation, &mut random, task.removals)
+}
+
+fn run(rt: &HostRuntime, task: &Task) -> anyhow::Result<()> {
+    match task.hints {
+        Hints::LastUsed => measure::<LastUsedVertexHintGenerator>(rt, task),
+        Hints::By8 => measure::<HierarchyHintGeneratorWithBranchFactor<i64, 8>>(rt, task),
+        Hints::By16 => measure::<HierarchyHintGeneratorWithBranchFactor<i64, 16>>(rt, task),
+        Hints::By32 => measure::<HierarchyHintGeneratorWithBranchFactor<i64, 32>>(rt, task),
+        Hints::By64 => measure::<HierarchyHintGeneratorWithBranchFactor<i64, 64>>(rt, task),
+    }
 }
 
 fn main(rt: HostRuntime) -> anyhow::Result<()> {
     if let Some(task) = Task::asked_for(&rt) {
         return run(&rt, &task);
     }
-    for order in Order::ALL {
-        println!(rt; "{}", order.name())?;
-        let task = Task {
-            order,
-            count: FEW,
-            removals: FEW - LEFT,
-        };
-        run(&rt, &task)?;
+    for hints in [Hints::LastUsed, Hints::By16] {
+        for order in Order::ALL {
+            println!(rt; "{}", order.name())?;
+            let task = Task {
+                order,
+                count: FEW,
+                removals: FEW - LEFT,
+                hints,
+            };
+            run(&rt, &task)?;
+        }
     }
     Ok(())
 }

@@ -97,13 +97,12 @@ impl Order {
         in_order(alloc, keyed)
     }
 
-    /// The squared radius of a circle with about three points.
-    pub fn radius_2(self, count: u32) -> i64 {
-        let radius = match self {
+    /// The radius of a circle with about three points.
+    pub fn radius(self, count: u32) -> i64 {
+        match self {
             Order::Random | Order::Hilbert => (WIDTH / u64::from(side_of(count).max(1))) as i64,
             Order::Rows | Order::Scattered => STEP,
-        };
-        radius.wrapping_mul(radius)
+        }
     }
 }
 
