@@ -8,9 +8,7 @@ ghost use Rattle.library_tests.specs.Vertices.{position_of, AreSites};
 
 use crate::tagged_vertex::TaggedVertex;
 use delaunay_paths::{crosses_segment, make_edge, next_on_path};
-use half_edge_mesh::{
-    Dcel, FixedDirectedEdgeHandle, FixedUndirectedEdgeHandle, FixedVertexHandle,
-};
+use half_edge_mesh::{Dcel, FixedDirectedEdgeHandle, FixedUndirectedEdgeHandle, FixedVertexHandle};
 use spade_delaunay::{DelaunayTriangulation, Point2, Triangulation};
 use std::alloc::Global;
 use std::marker::Model;

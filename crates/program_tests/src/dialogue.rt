@@ -16,13 +16,7 @@ pub(crate) fn written<L: HintGenerator<i64>>(
 ) -> Option<Vec<u8>> {
     let mut reader = Watched::new(input);
     let mut writer = Watched::new(Vec::new(alloc));
-    run::<L, _, _, _>(
-        alloc,
-        &sheet,
-        sheet.points(),
-        &mut reader,
-        &mut writer,
-    ).ok()?;
+    run::<L, _, _, _>(alloc, &sheet, sheet.points(), &mut reader, &mut writer).ok()?;
     Some(writer.into_inner())
 }
 

@@ -67,10 +67,12 @@ fn is_answered(
     let points = ordered(alloc, sheet.points(), start, step)?;
     let input = commands(alloc, points.as_slice())?;
     let output = replies(alloc, points, counts)?;
-    Ok(match written::<LastUsedVertexHintGenerator>(alloc, sheet, input.as_bytes()) {
-        Some(found) => found.as_slice() == output.as_bytes(),
-        None => false,
-    })
+    Ok(
+        match written::<LastUsedVertexHintGenerator>(alloc, sheet, input.as_bytes()) {
+            Some(found) => found.as_slice() == output.as_bytes(),
+            None => false,
+        },
+    )
 }
 
 #[test]

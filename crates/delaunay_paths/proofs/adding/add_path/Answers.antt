@@ -69,9 +69,9 @@ loop-next-preserved g c =
     let m = g.M.ConstraintMarker in
     let marked = g.met.M.ConstraintMarker.constraints_are_marked in (
       adding_to_goes_on m.marks m.constraints marked g.V.HasPosition.place m.marked c.args.dcel.now c.loop-next.dcel c.args.from c.args.to c.loop-next.at c.requires.way.from c.requires.way.to c.loop-next.invariant.0 c.in-Some.next c.in-Some.ensures.apart c.in-Some.ensures.next
-    (λ x. g.met.M.ConstraintMarker.marked_has_mark x c.requires.can_mark) c.add_piece.new.dcel c.add_piece.ensures.leaves.adds c.add_piece.ensures.leaves.mesh c.add_piece.ensures.leaves.shape,
+          (λ x. g.met.M.ConstraintMarker.marked_has_mark x c.requires.can_mark) c.add_piece.new.dcel c.add_piece.ensures.leaves.adds c.add_piece.ensures.leaves.mesh c.add_piece.ensures.leaves.shape,
       more_is_left g.V.HasPosition.place m.marks m.marked m.constraints c.args.dcel.now c.loop-next.dcel c.add_piece.new.dcel c.loop-next.at c.in-Some.next c.loop-next.work.items c.add_piece.new.work.items
-      (same m.marks m.constraints marked g.V.HasPosition.place m.marked c.args.dcel.now c.loop-next.dcel c.args.from c.args.to c.loop-next.at c.requires.way.from c.requires.way.to c.loop-next.invariant.0) c.loop-next.invariant.1 c.add_piece.ensures.leaves,
+          (same m.marks m.constraints marked g.V.HasPosition.place m.marked c.args.dcel.now c.loop-next.dcel c.args.from c.args.to c.loop-next.at c.requires.way.from c.requires.way.to c.loop-next.invariant.0) c.loop-next.invariant.1 c.add_piece.ensures.leaves,
       c.add_piece.ensures.capacity ∙ c.loop-next.invariant.2,
     )
 
