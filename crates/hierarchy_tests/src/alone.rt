@@ -69,8 +69,11 @@ pub fn run<L: HintGenerator<i64>>(rt: &(impl Print + AllocGlobal)) -> io::Result
         Point2::new(-1, 0),
         Point2::new(0, 0),
     ];
-    let made: L =
-        HintGenerator::<i64>::initialize_from_triangulation(rt.alloc(), &points, &ExactTests);
+    let made: L = HintGenerator::<i64>::initialize_from_triangulation(
+        rt.alloc(),
+        &points,
+        &ExactTests,
+    );
     println!(rt; "# made for the five")?;
     print_hints(rt, &made)?;
     let copy = HintGenerator::<i64>::duplicate(&made);

@@ -1,5 +1,7 @@
 //! What the calls of one triangulation give.
 
+ghost use Rattle.std.specs.Prelude.{◌<◌};
+
 use crate::hints::{Hinted, distance_2, hint, right_and_wrong};
 use crate::script::{Call, index};
 use exact_tests::ExactTests;
@@ -8,11 +10,9 @@ use spade_delaunay::{
     HintGenerator, InsertionError, Point2, PositionInTriangulation, Triangulation, validate_vertex,
 };
 
-ghost use Rattle.std.specs.Prelude.{◌<◌};
+const SIDE: u32 = 18;
 
-const SIDE: i64 = 18;
-
-const STRIDE: i64 = 85;
+const STRIDE: u32 = 85;
 
 /// What a call gives.
 #[derive(Clone, Copy, Debug, PartialEq)]
@@ -54,7 +54,7 @@ fn remove<L: HintGenerator<i64>>(points: &mut Hinted<L>, index: u32) -> Reply {
 fn fill<L: HintGenerator<i64>>(points: &mut Hinted<L>) -> Reply {
     for i in 0..SIDE * SIDE {
         let k = i * STRIDE % (SIDE * SIDE);
-        insert(points, k % SIDE, k / SIDE);
+        insert(points, i64::from(k % SIDE), i64::from(k / SIDE));
     }
     counts(points)
 }
@@ -126,11 +126,7 @@ fn has_corner(face: FaceHandle<'_, Point2<i64>, (), (), ()>, corner: u32) -> boo
 // Whether these three vertices are the corners of a face.
 fn is_face<L: HintGenerator<i64>>(points: &Hinted<L>, [a, b, c]: [u32; 3]) -> bool {
     for face in points.inner_faces() {
-        if !face.is_outer()
-            && has_corner(face, a)
-            && has_corner(face, b)
-            && has_corner(face, c)
-        {
+        if !face.is_outer() && has_corner(face, a) && has_corner(face, b) && has_corner(face, c) {
             return true;
         }
     }

@@ -48,11 +48,7 @@ fn distance_to_layer<L: HintGenerator<i64>>(
 
 // Whether the hint is a vertex of the first layer that none of it is nearer than, or 0 where there
 // is no layer.
-fn is_right<L: HintGenerator<i64>>(
-    points: &Hinted<L>,
-    factor: u32,
-    position: Point2<i64>,
-) -> bool {
+fn is_right<L: HintGenerator<i64>>(points: &Hinted<L>, factor: u32, position: Point2<i64>) -> bool {
     let Some(hint) = hint(points, position) else {
         return false;
     };
