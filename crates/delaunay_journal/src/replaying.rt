@@ -43,10 +43,10 @@ pub fn replay<T: Replayable, P: PlaneTests<<T::Vertex as HasPosition>::Scalar>>(
     ensures answers { IfOk result
         (λ outcomes. Replays T.Vertex.place T.Constraints.constraints T.marking edits.items
         outcomes.items (T.state points.old) (T.state points.new)) }
-    ensures runs { let plain_of = λ t. points_and_constraints_by T.Constraints.constraints
-        (T.state t) in
-        IfOk result (λ outcomes. Run T.Vertex.place (edits_made edits.items outcomes.items)
-        (plain_of points.old) (plain_of points.new)) }
+    ensures runs { IfOk result (λ outcomes. Run T.Vertex.place
+        (edits_made edits.items outcomes.items)
+        (points_and_constraints_by T.Constraints.constraints (T.state points.old))
+        (points_and_constraints_by T.Constraints.constraints (T.state points.new))) }
     ensures headline { IsDelaunay T.Vertex.place T.Constraints.constraints (T.state points.new) }
     ensures err { OnErr result (points.new ≡ points.old) }
 {

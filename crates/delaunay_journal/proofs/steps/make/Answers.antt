@@ -13,5 +13,6 @@ returns-in-Replace-clause-sites g c = subst (λ ps. All InRange ps → All (g.P.
 
 pub returns-in-Clear-clause-gives : goal.returns-in-Clear-clause-gives
 returns-in-Clear-clause-gives g c =
-    subst (λ e. Gives g.V.HasPosition.place e Cleared c.args.points.now c.clear.new.self) (sym c.in-Clear.is)
-    (record { plain = c.clear.ensures.plain; rest = c.clear.ensures.new })
+    let state = g.T.Triangulation.state in
+    subst (λ e. Gives g.T.Vertex.HasPosition.place g.T.Constraints.ConstraintMarker.constraints g.T.Replayable.marking e Cleared (state c.args.points.now) (state c.clear.new.self))
+    (sym c.in-Clear.is) (record { plain = c.clear.ensures.plain; rest = c.clear.ensures.new })
