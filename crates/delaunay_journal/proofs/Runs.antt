@@ -58,9 +58,6 @@ module _ {V D U F : Type 0} (place : V → Point) (constraints : List U → List
   pub record IsReplayed (es left : List (Edit V)) (os : List (Outcome V)) (old now : State V D U F) : Type 0 where
     pub goes : (more : List (Outcome V)) (new : State V D U F) → Replays place constraints marking left more now new → Replays place constraints marking es (os ++ more) old new
 
-  pub begins : (es left : List (Edit V)) (os : List (Outcome V)) (old : State V D U F) → left ≡ es → os ≡ [] → IsReplayed es left os old old
-  begins es left os old all none = record { goes = λ more new r. subst (λ (xs : List (Outcome V)). Replays place constraints marking es (xs ++ more) old new) (sym none) (subst (λ (xs : List (Edit V)). Replays place constraints marking xs more old new) all r) }
-
   pub one_more : (es left rest : List (Edit V)) (os : List (Outcome V)) (old now next : State V D U F) (e : Edit V) (o : Outcome V) → IsReplayed es left os old now → left ≡ e ∷ rest → Gives place constraints marking e o now next → IsReplayed es rest (os ++ o ∷ []) old next
   one_more es left rest os old now next e o so is done = record {
     goes = λ more new r. subst (λ (xs : List (Outcome V)). Replays place constraints marking es xs old new) (sym (append_assoc os (o ∷ []) more))

@@ -45,14 +45,18 @@ module _ {V D U F : Type 0} (place : V → Point) (constraints : List U → List
   IsRefusedFor (Remove i) NoVertex s = length s.vertices ≤ i
   IsRefusedFor (Remove i) OutOfMemory s = i < length s.vertices
   IsRefusedFor (Replace i v) NoVertex s = length s.vertices ≤ i
-  IsRefusedFor (Replace i v) OtherPosition s = (i < length s.vertices) × (point_at (map place s.vertices) i ≢ place v)
+  IsRefusedFor (Replace i v) OtherPosition s =
+      (i < length s.vertices) × (point_at (map place s.vertices) i ≢ place v)
   IsRefusedFor (AddConstraint i j) NoConstraints s = marking.possible ≡ false
-  IsRefusedFor (AddConstraint i j) NoVertex s = (marking.possible ≡ true) × ¬ ((i < length s.vertices) × (j < length s.vertices))
+  IsRefusedFor (AddConstraint i j) NoVertex s =
+      (marking.possible ≡ true) × ¬ ((i < length s.vertices) × (j < length s.vertices))
   IsRefusedFor (AddConstraint i j) Conflict s = (marking.possible ≡ true) × ¬ CanAdd place (plain_of s) i j
   IsRefusedFor (AddConstraint i j) OutOfMemory s = (marking.possible ≡ true) × CanAdd place (plain_of s) i j
   IsRefusedFor (ReleaseConstraint i j) NoConstraints s = marking.possible ≡ false
-  IsRefusedFor (ReleaseConstraint i j) NotConstrained s = (marking.possible ≡ true) × ¬ Joins (constraints_by constraints s) i j
-  IsRefusedFor (ReleaseConstraint i j) OutOfMemory s = (marking.possible ≡ true) × Joins (constraints_by constraints s) i j
+  IsRefusedFor (ReleaseConstraint i j) NotConstrained s =
+      (marking.possible ≡ true) × ¬ Joins (constraints_by constraints s) i j
+  IsRefusedFor (ReleaseConstraint i j) OutOfMemory s =
+      (marking.possible ≡ true) × Joins (constraints_by constraints s) i j
   IsRefusedFor e r s = ⊥
 
   -- a vertex was exchanged for another of its position
@@ -66,8 +70,8 @@ module _ {V D U F : Type 0} (place : V → Point) (constraints : List U → List
     pub plain : IsCleared place (plain_of new)
     pub rest : new ≡ record old { vertices = []; mesh = empty; directed = []; undirected = []; faces = [] }
 
-  -- two vertices are joined by constraints, and it is told whether that made one. Edges may have been flipped, and some that
-  -- were none have the mark; all other data stay, each at its index
+  -- two vertices are joined by constraints, and it is told whether that made one. Edges may have been flipped, and some
+  -- that were none have the mark; all other data stay, each at its index
   pub record JoinsPair (i j : ℕ) (made : Bool) (old new : State V D U F) : Type 0 where
     pub possible : marking.possible ≡ true
     pub plain : Adds place (plain_of old) (plain_of new) i j
@@ -75,8 +79,8 @@ module _ {V D U F : Type 0} (place : V → Point) (constraints : List U → List
     pub rest : new ≡ record old { mesh = new.mesh; undirected = new.undirected }
     pub each : MarksSome marking.marks marking.marked old.undirected new.undirected
 
-  -- two vertices are joined by a constraint no more. Edges may have been flipped, and one has lost the mark; all other data stay,
-  -- each at its index, and an edge or an inner face that is there before and after keeps its index
+  -- two vertices are joined by a constraint no more. Edges may have been flipped, and one has lost the mark; all other
+  -- data stay, each at its index, and an edge or an inner face that is there before and after keeps its index
   pub record ReleasesPair (i j : ℕ) (old new : State V D U F) : Type 0 where
     pub possible : marking.possible ≡ true
     pub plain : Releases place (plain_of old) (plain_of new) i j

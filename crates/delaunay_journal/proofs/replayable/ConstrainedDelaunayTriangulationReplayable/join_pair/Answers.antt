@@ -18,13 +18,18 @@ returns-then-index-num_vertices-2-clause-gives g c =
     ((refl, (λ h. let below = h.1 in omega (arith, below, past, index, count))), refl)
 
 pub returns-then-not-can_add_constraint-clause-gives : goal.returns-then-not-can_add_constraint-clause-gives
-returns-then-not-can_add_constraint-clause-gives g c = ((refl, (λ can. both_ways _ (c.can_add_constraint.ensures.1 can) c.if-not-can_add_constraint.true)), refl)
+returns-then-not-can_add_constraint-clause-gives g c =
+    let can = c.can_add_constraint.ensures in
+    ((refl, (λ is_free. both_ways _ (can.1 is_free) c.if-not-can_add_constraint.true)), refl)
 
 pub add_constraint-requires-clause-free : goal.add_constraint-requires-clause-free
 add_constraint-requires-clause-free g c = c.can_add_constraint.ensures.0 c.if-not-can_add_constraint.false
 
 pub returns-in-Ok-clause-gives : goal.returns-in-Ok-clause-gives
-returns-in-Ok-clause-gives g c = pair_joined g.V.HasPosition.place c.args.self.now c.add_constraint.new.self c.args.from c.args.to c.in-Ok.made c.in-Ok.ensures.adds
+returns-in-Ok-clause-gives g c =
+    pair_joined g.V.HasPosition.place c.args.self.now c.add_constraint.new.self c.args.from c.args.to c.in-Ok.made
+    c.in-Ok.ensures.adds
 
 pub returns-in-Err-clause-gives : goal.returns-in-Err-clause-gives
-returns-in-Err-clause-gives g c = ((refl, c.can_add_constraint.ensures.0 c.if-not-can_add_constraint.false), c.in-Err.ensures.adds.err)
+returns-in-Err-clause-gives g c =
+    ((refl, c.can_add_constraint.ensures.0 c.if-not-can_add_constraint.false), c.in-Err.ensures.adds.err)
