@@ -6,14 +6,14 @@ use Rattle.std.proofs.lemmas.List.Elements.{Contains-append_left, Contains-appen
 use Rattle.plane.specs.Fraction.{Point}
 use Rattle.plane.specs.Pairs.{Joins}
 use Rattle.plane.specs.Plain.{Plain, Edit as PlainEdit, Run}
-use Rattle.delaunay_legalization.specs.declared.cdt_edge.CdtEdge.{CdtEdge}
+use Rattle.delaunay_legalization.specs.Constraints.{points_and_constraints_by}
 use Rattle.delaunay_legalization.specs.State.{State}
-use Rattle.delaunay_edit.specs.Constrained.{constrained}
 use Rattle.delaunay_journal.specs.declared.edit.Edit.{Edit}
 use Rattle.delaunay_journal.specs.declared.edit.Edit.TheVariants.{Insert, Remove, Replace, Clear, AddConstraint, ReleaseConstraint}
 use Rattle.delaunay_journal.specs.declared.edit.Outcome.{Outcome}
 use Rattle.delaunay_journal.specs.declared.edit.Outcome.TheVariants.{Inserted, Removed, Replaced, Cleared, Added, Released, Refused}
 use Rattle.delaunay_journal.specs.Journal.{Gives, Replays, edit_made, edits_made}
+use Rattle.delaunay_journal.specs.Marking.{Marking}
 
 -- ---- an edit that comes now, and those after it
 module _ {A : Type 0} (left rest : List A) (first : A) (is : left ≡ first ∷ rest) where
@@ -30,40 +30,40 @@ module _ {A : Type 0} (left rest : List A) (first : A) (is : left ≡ first ∷ 
       let longer = ap length grown in
       omega (arith, was, taken, longer, length_push given next)
 
-module _ {V D U F : Type 0} (place : V → Point) where
+module _ {V D U F : Type 0} (place : V → Point) (constraints : List U → List ℕ) (marking : Marking U) where
+  abbrev plain_of : State V D U F → Plain V
+  plain_of s = points_and_constraints_by constraints s
+
   -- what an edit gave is a step of the definitions, or none
-  goes_on : (e : Edit V) (o : Outcome V) (old middle : State V D (CdtEdge U) F) (new : Plain V) (steps : List (PlainEdit V)) → Gives place e o old middle → Run place steps (constrained middle) new → Run place (edit_made e o ++ steps) (constrained old) new
-  goes_on e (Refused r) old middle new steps (why, same) rest = subst (λ (s : State V D (CdtEdge U) F). Run place steps (constrained s) new) same rest
-  goes_on (Insert v) (Inserted i) old middle new steps done rest = (constrained middle, (i, done.ok), rest)
-  goes_on (Remove i) (Removed v) old middle new steps done rest = (constrained middle, done.plain, rest)
-  goes_on (Replace i v) (Replaced w) old middle new steps done rest = (constrained middle, done.plain, rest)
-  goes_on Clear Cleared old middle new steps done rest = (constrained middle, done.plain, rest)
-  goes_on (AddConstraint i j) (Added made) old middle new steps done rest = (constrained middle, done.plain, rest)
-  goes_on (ReleaseConstraint i j) Released old middle new steps done rest = (constrained middle, done.plain, rest)
+  goes_on : (e : Edit V) (o : Outcome V) (old middle : State V D U F) (new : Plain V) (steps : List (PlainEdit V)) → Gives place constraints marking e o old middle → Run place steps (plain_of middle) new → Run place (edit_made e o ++ steps) (plain_of old) new
+  goes_on e (Refused r) old middle new steps (why, same) rest = subst (λ (s : State V D U F). Run place steps (plain_of s) new) same rest
+  goes_on (Insert v) (Inserted i) old middle new steps done rest = (plain_of middle, (i, done.ok), rest)
+  goes_on (Remove i) (Removed v) old middle new steps done rest = (plain_of middle, done.plain, rest)
+  goes_on (Replace i v) (Replaced w) old middle new steps done rest = (plain_of middle, done.plain, rest)
+  goes_on Clear Cleared old middle new steps done rest = (plain_of middle, done.plain, rest)
+  goes_on (AddConstraint i j) (Added made) old middle new steps done rest = (plain_of middle, done.plain, rest)
+  goes_on (ReleaseConstraint i j) Released old middle new steps done rest = (plain_of middle, done.plain, rest)
   goes_on e o old middle new steps done rest = absurd done
 
   -- edits and their outcomes are a run
-  pub runs : (es : List (Edit V)) (os : List (Outcome V)) (old new : State V D (CdtEdge U) F) → Replays place es os old new → Run place (edits_made es os) (constrained old) (constrained new)
+  pub runs : (es : List (Edit V)) (os : List (Outcome V)) (old new : State V D U F) → Replays place constraints marking es os old new → Run place (edits_made es os) (plain_of old) (plain_of new)
   runs [] [] old new same = record {
-    vertices = ap (λ (s : State V D (CdtEdge U) F). s.vertices) same;
-    constraints = λ i j. subst (λ (s : State V D (CdtEdge U) F). Joins (constrained s).constraints i j ↔ Joins (constrained old).constraints i j) (sym same) ((λ x. x), (λ x. x));
+    vertices = ap (λ (s : State V D U F). s.vertices) same;
+    constraints = λ i j. subst (λ (s : State V D U F). Joins (plain_of s).constraints i j ↔ Joins (plain_of old).constraints i j) (sym same) ((λ x. x), (λ x. x));
   }
-  runs (e ∷ es) (o ∷ os) old new (middle, done, rest) = goes_on e o old middle (constrained new) (edits_made es os) done (runs es os middle new rest)
+  runs (e ∷ es) (o ∷ os) old new (middle, done, rest) = goes_on e o old middle (plain_of new) (edits_made es os) done (runs es os middle new rest)
   runs es os old new r = absurd r
 
   -- ---- what is left to replay, from what was replayed so far
-  pub record IsReplayed (es left : List (Edit V)) (os : List (Outcome V)) (old now : State V D (CdtEdge U) F) : Type 0 where
-    pub goes : (more : List (Outcome V)) (new : State V D (CdtEdge U) F) → Replays place left more now new → Replays place es (os ++ more) old new
+  pub record IsReplayed (es left : List (Edit V)) (os : List (Outcome V)) (old now : State V D U F) : Type 0 where
+    pub goes : (more : List (Outcome V)) (new : State V D U F) → Replays place constraints marking left more now new → Replays place constraints marking es (os ++ more) old new
 
-  pub begins : (es left : List (Edit V)) (os : List (Outcome V)) (old : State V D (CdtEdge U) F) → left ≡ es → os ≡ [] → IsReplayed es left os old old
-  begins es left os old all none = record { goes = λ more new r. subst (λ (xs : List (Outcome V)). Replays place es (xs ++ more) old new) (sym none) (subst (λ (xs : List (Edit V)). Replays place xs more old new) all r) }
-
-  pub one_more : (es left rest : List (Edit V)) (os : List (Outcome V)) (old now next : State V D (CdtEdge U) F) (e : Edit V) (o : Outcome V) → IsReplayed es left os old now → left ≡ e ∷ rest → Gives place e o now next → IsReplayed es rest (os ++ o ∷ []) old next
+  pub one_more : (es left rest : List (Edit V)) (os : List (Outcome V)) (old now next : State V D U F) (e : Edit V) (o : Outcome V) → IsReplayed es left os old now → left ≡ e ∷ rest → Gives place constraints marking e o now next → IsReplayed es rest (os ++ o ∷ []) old next
   one_more es left rest os old now next e o so is done = record {
-    goes = λ more new r. subst (λ (xs : List (Outcome V)). Replays place es xs old new) (sym (append_assoc os (o ∷ []) more))
-        (so.goes (o ∷ more) new (subst (λ (xs : List (Edit V)). Replays place xs (o ∷ more) now new) (sym is) (next, done, r)));
+    goes = λ more new r. subst (λ (xs : List (Outcome V)). Replays place constraints marking es xs old new) (sym (append_assoc os (o ∷ []) more))
+        (so.goes (o ∷ more) new (subst (λ (xs : List (Edit V)). Replays place constraints marking xs (o ∷ more) now new) (sym is) (next, done, r)));
   }
 
-  pub ends : (es left : List (Edit V)) (os : List (Outcome V)) (old now : State V D (CdtEdge U) F) → IsReplayed es left os old now → length left ≡ 0 → Replays place es os old now
-  ends es [] os old now so none = subst (λ (xs : List (Outcome V)). Replays place es xs old now) (append-nil os) (so.goes [] now refl)
+  pub ends : (es left : List (Edit V)) (os : List (Outcome V)) (old now : State V D U F) → IsReplayed es left os old now → length left ≡ 0 → Replays place constraints marking es os old now
+  ends es [] os old now so none = subst (λ (xs : List (Outcome V)). Replays place constraints marking es xs old now) (append-nil os) (so.goes [] now refl)
   ends es (e ∷ left) os old now so none = absurd (omega (arith, none))

@@ -19,7 +19,8 @@ use Rattle.delaunay_edit.specs.Constrained.{constrained, constraint_edges, const
 use Rattle.delaunay_edit.specs.ConstraintEdits.{AddsConstraint, FreesEdge}
 use Rattle.delaunay_edit.specs.Edits.{InsertsVertex, RemovesVertex}
 use Rattle.delaunay_interface.specs.Views.{AreNotJoined}
-use Rattle.delaunay_journal.specs.Journal.{ReleasesPair}
+use Rattle.delaunay_journal.specs.Journal.{JoinsPair, ReleasesPair}
+use Rattle.delaunay_journal.specs.Marking.{flag_marking}
 
 -- ---- a pair in either order
 joins_either : (pairs : List (ℕ × ℕ)) (i j : ℕ) → Joins pairs i j → Joins pairs j i
@@ -49,18 +50,19 @@ module _ {V : Type 0} (place : V → Point) (vs : List V) (i j : ℕ) (v : V) (h
   pub position_same : point_at (map place vs) i ≡ place v → here ≡ there
   position_same same = read ∙ ap (point_at (map place vs)) is ∙ same ∙ sym wanted
 
-module _ {V D U F : Type 0} (place : V → Point) where
+module _ {V D U F : Type 0} (place : V → Point) (constraints : List U → List ℕ) where
   -- a refused insertion, in the state that it leaves
-  pub refused_insertion : (old new : State V D (CdtEdge U) F) (v : V) (e : InsertionError) → InsertsVertex place constraint_edges v (Err e) old new → InsertsVertex place constraint_edges v (Err e) old old × (new ≡ old)
-  refused_insertion old new v e done = (subst (λ (s : State V D (CdtEdge U) F). InsertsVertex place constraint_edges v (Err e) old s) done.err done, done.err)
+  pub refused_insertion : (old new : State V D U F) (v : V) (e : InsertionError) → InsertsVertex place constraints v (Err e) old new → InsertsVertex place constraints v (Err e) old old × (new ≡ old)
+  refused_insertion old new v e done = (subst (λ (s : State V D U F). InsertsVertex place constraints v (Err e) old s) done.err done, done.err)
 
   -- a removal, whatever its error is
-  pub removed_so : {E G : Type 0} (old new : State V D (CdtEdge U) F) (i : ℕ) (v : V) → RemovesVertex place constraint_edges {E = E} i (Ok v) old new → RemovesVertex place constraint_edges {E = G} i (Ok v) old new
+  pub removed_so : {E G : Type 0} (old new : State V D U F) (i : ℕ) (v : V) → RemovesVertex place constraints {E = E} i (Ok v) old new → RemovesVertex place constraints {E = G} i (Ok v) old new
   removed_so old new i v r = record { value = r.value; plain = r.plain; outer = r.outer; «data» = r.«data»; err = tt }
 
-  -- a constraint that was added, whatever its error is
-  pub added_so : {E G : Type 0} (old new : State V D (CdtEdge U) F) (i j : ℕ) (made : Bool) → AddsConstraint place {E = E} i j (Ok made) old new → AddsConstraint place {E = G} i j (Ok made) old new
-  added_so old new i j made a = record { plain = a.plain; told = a.told; «data» = a.«data»; err = tt }
+module _ {V D U F : Type 0} (place : V → Point) where
+  -- a constraint that was added
+  pub pair_joined : {E : Type 0} (old new : State V D (CdtEdge U) F) (i j : ℕ) (made : Bool) → AddsConstraint place {E = E} i j (Ok made) old new → JoinsPair place constraint_edges flag_marking i j made old new
+  pair_joined old new i j made a = record { possible = refl; plain = a.plain; told = a.told; rest = a.«data».rest; each = a.«data».each }
 
   module _ (old : State V D (CdtEdge U) F) (i j : ℕ) where
     -- where no edge joins two vertices, no constraint does
@@ -82,8 +84,8 @@ module _ {V D U F : Type 0} (place : V → Point) where
       edge_joined_by joined = same_joined (constraints_of old) (origin old.mesh (2 * k)) (origin old.mesh (rev (2 * k))) i j (same_pair_back i j (origin old.mesh (2 * k)) (origin old.mesh (rev (2 * k))) ends) joined
 
       -- the constraint between two vertices is released, by its edge
-      pub pair_released : (new : State V D (CdtEdge U) F) → Releases place (constrained old) (constrained new) (origin old.mesh (2 * k)) (origin old.mesh (rev (2 * k))) → FreesEdge old new k → ReleasesPair place i j old new
-      pair_released new r f = record { plain = go ends; edge = k; «data» = f }
+      pub pair_released : (new : State V D (CdtEdge U) F) → Releases place (constrained old) (constrained new) (origin old.mesh (2 * k)) (origin old.mesh (rev (2 * k))) → FreesEdge old new k → ReleasesPair place constraint_edges flag_marking i j old new
+      pair_released new r f = record { possible = refl; plain = go ends; edge = k; value = f.value; was = f.was; rest = f.rest; indexes = f.indexes }
         where
           go : IsSamePair i j (origin old.mesh (2 * k)) (origin old.mesh (rev (2 * k))) → Releases place (constrained old) (constrained new) i j
           go (inl s) = subst (λ (x : ℕ). Releases place (constrained old) (constrained new) x j) (sym s.0) (subst (λ (y : ℕ). Releases place (constrained old) (constrained new) (origin old.mesh (2 * k)) y) (sym s.1) r)

@@ -1,21 +1,22 @@
--- What lists of edits make of a triangulation with constraints.
-use Rattle.std.specs.Prelude.{◌≡◌, ◌≢◌, ◌<◌, ◌≤◌, ℕ, List, [], ◌∷◌, ◌++◌, length, map, Some, Ok, Err, slice_get, slice_set}
+-- What lists of edits make of a triangulation.
+use Rattle.std.specs.Prelude.{◌≡◌, ◌≢◌, ◌↔◌, ◌<◌, ◌≤◌, ℕ, Bool, true, false, List, [], ◌∷◌, ◌++◌, length, map, Some, Ok, Err, IsTrue, slice_get, slice_set}
 use Rattle.half_edge_mesh.specs.Mesh.{empty}
 use Rattle.plane.specs.Fraction.{Point}
-use Rattle.plane.specs.Pairs.{Joins}
-use Rattle.plane.specs.Plain.{Edit as PlainEdit, insert, replace, remove, add, release, clear, CanAdd, IsCleared, Releases, Replaces}
-use Rattle.delaunay_legalization.specs.declared.cdt_edge.CdtEdge.{CdtEdge}
+use Rattle.plane.specs.Pairs.{Joins, SamePairs}
+use Rattle.plane.specs.Plain.{Plain, Edit as PlainEdit, insert, replace, remove, add, release, clear, Adds, CanAdd, IsCleared, Releases, Replaces}
+use Rattle.mesh_embedding.specs.Stays.{KeepsIndexes}
+use Rattle.delaunay_legalization.specs.Constraints.{constraints_by, points_and_constraints_by}
 use Rattle.delaunay_legalization.specs.Known.{point_at}
 use Rattle.delaunay_legalization.specs.State.{State}
-use Rattle.delaunay_edit.specs.Constrained.{constrained, constraint_edges, constraints_of}
-use Rattle.delaunay_edit.specs.ConstraintEdits.{AddsConstraint, FreesEdge}
+use Rattle.delaunay_paths.specs.Adding.{MarksSome}
 use Rattle.delaunay_edit.specs.Edits.{InsertsVertex, RemovesVertex}
 use Rattle.delaunay_journal.specs.declared.edit.Edit.{Edit}
 use Rattle.delaunay_journal.specs.declared.edit.Edit.TheVariants.{Insert, Remove, Replace, Clear, AddConstraint, ReleaseConstraint}
 use Rattle.delaunay_journal.specs.declared.edit.Outcome.{Outcome}
 use Rattle.delaunay_journal.specs.declared.edit.Outcome.TheVariants.{Inserted, Removed, Replaced, Cleared, Added, Released, Refused}
 use Rattle.delaunay_journal.specs.declared.edit.Refusal.{Refusal}
-use Rattle.delaunay_journal.specs.declared.edit.Refusal.TheVariants.{Insertion, NoVertex, OtherPosition, Conflict, NotConstrained, OutOfMemory}
+use Rattle.delaunay_journal.specs.declared.edit.Refusal.TheVariants.{Insertion, NoVertex, OtherPosition, NoConstraints, Conflict, NotConstrained, OutOfMemory}
+use Rattle.delaunay_journal.specs.Marking.{Marking}
 
 module _ {V : Type 0} where
   -- the edit that was made, if one was
@@ -33,51 +34,75 @@ module _ {V : Type 0} where
   edits_made (e ∷ es) (o ∷ os) = edit_made e o ++ edits_made es os
   edits_made es os = []
 
-module _ {V D U F : Type 0} (place : V → Point) where
+-- of a triangulation whose constraints these are, by the data of all edges
+module _ {V D U F : Type 0} (place : V → Point) (constraints : List U → List ℕ) (marking : Marking U) where
+  abbrev plain_of : State V D U F → Plain V
+  plain_of s = points_and_constraints_by constraints s
+
   -- the reason holds of the edit in this state
-  abbrev pub IsRefusedFor : Edit V → Refusal → State V D (CdtEdge U) F → Type 0
-  IsRefusedFor (Insert v) (Insertion e) s = InsertsVertex place constraint_edges v (Err e) s s
+  abbrev pub IsRefusedFor : Edit V → Refusal → State V D U F → Type 0
+  IsRefusedFor (Insert v) (Insertion e) s = InsertsVertex place constraints v (Err e) s s
   IsRefusedFor (Remove i) NoVertex s = length s.vertices ≤ i
   IsRefusedFor (Remove i) OutOfMemory s = i < length s.vertices
   IsRefusedFor (Replace i v) NoVertex s = length s.vertices ≤ i
-  IsRefusedFor (Replace i v) OtherPosition s = (i < length s.vertices) × (point_at (map place s.vertices) i ≢ place v)
-  IsRefusedFor (AddConstraint i j) NoVertex s = ¬ ((i < length s.vertices) × (j < length s.vertices))
-  IsRefusedFor (AddConstraint i j) Conflict s = ¬ CanAdd place (constrained s) i j
-  IsRefusedFor (AddConstraint i j) OutOfMemory s = CanAdd place (constrained s) i j
-  IsRefusedFor (ReleaseConstraint i j) NotConstrained s = ¬ Joins (constraints_of s) i j
-  IsRefusedFor (ReleaseConstraint i j) OutOfMemory s = Joins (constraints_of s) i j
+  IsRefusedFor (Replace i v) OtherPosition s =
+      (i < length s.vertices) × (point_at (map place s.vertices) i ≢ place v)
+  IsRefusedFor (AddConstraint i j) NoConstraints s = marking.possible ≡ false
+  IsRefusedFor (AddConstraint i j) NoVertex s =
+      (marking.possible ≡ true) × ¬ ((i < length s.vertices) × (j < length s.vertices))
+  IsRefusedFor (AddConstraint i j) Conflict s = (marking.possible ≡ true) × ¬ CanAdd place (plain_of s) i j
+  IsRefusedFor (AddConstraint i j) OutOfMemory s = (marking.possible ≡ true) × CanAdd place (plain_of s) i j
+  IsRefusedFor (ReleaseConstraint i j) NoConstraints s = marking.possible ≡ false
+  IsRefusedFor (ReleaseConstraint i j) NotConstrained s =
+      (marking.possible ≡ true) × ¬ Joins (constraints_by constraints s) i j
+  IsRefusedFor (ReleaseConstraint i j) OutOfMemory s =
+      (marking.possible ≡ true) × Joins (constraints_by constraints s) i j
   IsRefusedFor e r s = ⊥
 
   -- a vertex was exchanged for another of its position
-  pub record Exchanges (i : ℕ) (v w : V) (old new : State V D (CdtEdge U) F) : Type 0 where
+  pub record Exchanges (i : ℕ) (v w : V) (old new : State V D U F) : Type 0 where
     pub had : slice_get old.vertices i ≡ Some w
-    pub plain : Replaces place (constrained old) (constrained new) i v
+    pub plain : Replaces place (plain_of old) (plain_of new) i v
     pub rest : new ≡ record old { vertices = slice_set old.vertices i v }
 
   -- no vertex is left
-  pub record Empties (old new : State V D (CdtEdge U) F) : Type 0 where
-    pub plain : IsCleared place (constrained new)
+  pub record Empties (old new : State V D U F) : Type 0 where
+    pub plain : IsCleared place (plain_of new)
     pub rest : new ≡ record old { vertices = []; mesh = empty; directed = []; undirected = []; faces = [] }
 
-  -- two vertices are joined by a constraint no more
-  pub record ReleasesPair (i j : ℕ) (old new : State V D (CdtEdge U) F) : Type 0 where
-    pub plain : Releases place (constrained old) (constrained new) i j
+  -- two vertices are joined by constraints, and it is told whether that made one. Edges may have been flipped, and some
+  -- that were none have the mark; all other data stay, each at its index
+  pub record JoinsPair (i j : ℕ) (made : Bool) (old new : State V D U F) : Type 0 where
+    pub possible : marking.possible ≡ true
+    pub plain : Adds place (plain_of old) (plain_of new) i j
+    pub told : IsTrue made ↔ (¬ SamePairs (constraints_by constraints old) (constraints_by constraints new))
+    pub rest : new ≡ record old { mesh = new.mesh; undirected = new.undirected }
+    pub each : MarksSome marking.marks marking.marked old.undirected new.undirected
+
+  -- two vertices are joined by a constraint no more. Edges may have been flipped, and one has lost the mark; all other
+  -- data stay, each at its index, and an edge or an inner face that is there before and after keeps its index
+  pub record ReleasesPair (i j : ℕ) (old new : State V D U F) : Type 0 where
+    pub possible : marking.possible ≡ true
+    pub plain : Releases place (plain_of old) (plain_of new) i j
     pub edge : ℕ
-    pub «data» : FreesEdge old new edge
+    pub value : U
+    pub was : slice_get old.undirected edge ≡ Some value
+    pub rest : new ≡ record old { mesh = new.mesh; undirected = slice_set old.undirected edge (marking.unmarked value) }
+    pub indexes : KeepsIndexes old.mesh new.mesh
 
   -- an edit gave this outcome
-  abbrev pub Gives : Edit V → Outcome V → State V D (CdtEdge U) F → State V D (CdtEdge U) F → Type 0
+  abbrev pub Gives : Edit V → Outcome V → State V D U F → State V D U F → Type 0
   Gives e (Refused r) old new = IsRefusedFor e r old × (new ≡ old)
-  Gives (Insert v) (Inserted i) old new = InsertsVertex place constraint_edges v (Ok i) old new
-  Gives (Remove i) (Removed v) old new = RemovesVertex place constraint_edges {E = Unit {0}} i (Ok v) old new
+  Gives (Insert v) (Inserted i) old new = InsertsVertex place constraints v (Ok i) old new
+  Gives (Remove i) (Removed v) old new = RemovesVertex place constraints {E = Unit {0}} i (Ok v) old new
   Gives (Replace i v) (Replaced w) old new = Exchanges i v w old new
   Gives Clear Cleared old new = Empties old new
-  Gives (AddConstraint i j) (Added made) old new = AddsConstraint place {E = Unit {0}} i j (Ok made) old new
+  Gives (AddConstraint i j) (Added made) old new = JoinsPair i j made old new
   Gives (ReleaseConstraint i j) Released old new = ReleasesPair i j old new
   Gives e o old new = ⊥
 
   -- edits gave these outcomes, one after another
-  abbrev pub Replays : List (Edit V) → List (Outcome V) → State V D (CdtEdge U) F → State V D (CdtEdge U) F → Type 0
+  abbrev pub Replays : List (Edit V) → List (Outcome V) → State V D U F → State V D U F → Type 0
   Replays [] [] old new = new ≡ old
-  Replays (e ∷ es) (o ∷ os) old new = (middle : State V D (CdtEdge U) F) × Gives e o old middle × Replays es os middle new
+  Replays (e ∷ es) (o ∷ os) old new = (middle : State V D U F) × Gives e o old middle × Replays es os middle new
   Replays es os old new = ⊥

@@ -3,8 +3,8 @@
 use delaunay_core::math::InsertionError;
 use half_edge_mesh::FixedVertexHandle;
 
-/// An edit of a triangulation with constraints. Its handles are those of the state that it is made
-/// on.
+/// An edit of a triangulation. Its handles are those of the state that it is made on. A
+/// triangulation without constraints refuses the last two.
 #[derive(Debug, Drop)]
 pub enum Edit<V> {
     /// Inserts a vertex.
@@ -30,6 +30,8 @@ pub enum Refusal {
     NoVertex,
     /// The vertex that is to be replaced is elsewhere.
     OtherPosition,
+    /// The triangulation is of the type without constraints.
+    NoConstraints,
     /// A constraint crosses the segment.
     Conflict,
     /// No constraint joins the two vertices.

@@ -1,9 +1,11 @@
-//! Lists of edits, which are made on a triangulation with constraints one after another.
+//! Lists of edits, which are made on a triangulation of either type one after another.
 #![tactic(auto)]
 
 mod edit;
+mod replayable;
 mod replaying;
 mod steps;
 
 pub use edit::{Edit, Outcome, Refusal};
+pub use replayable::Replayable;
 pub use replaying::replay;

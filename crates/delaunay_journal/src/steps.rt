@@ -1,17 +1,16 @@
 //! One edit.
-ghost use Rattle.std.specs.Prelude.{◌≡◌, ◌↔◌, ◌<◌, length, map, IsTrue};
+ghost use Rattle.std.specs.Prelude.{◌≡◌, ◌↔◌, map, IsTrue};
 ghost use Rattle.plane.specs.Tests.{InRange};
 ghost use Rattle.delaunay_core.specs.Place.{place_of};
-ghost use Rattle.delaunay_edit.specs.Constrained.{constraint_edges};
 ghost use Rattle.delaunay_edit.specs.Headline.{AreSites, IsDelaunay};
-ghost use Rattle.delaunay_journal.specs.declared.edit.Edit.TheVariants.{Insert, Remove, Replace, AddConstraint, ReleaseConstraint};
+ghost use Rattle.delaunay_journal.specs.declared.edit.Edit.TheVariants.{Insert, Remove, Replace};
 ghost use Rattle.delaunay_journal.specs.Journal.{Gives};
 
 use crate::edit::{Edit, Outcome, Refusal};
-use delaunay_core::HintGenerator;
+use crate::replayable::Replayable;
 use delaunay_core::math::PlaneTests;
 use delaunay_core::point::{HasPosition, Point2, SpadeNum};
-use delaunay_interface::{ConstrainedDelaunayTriangulation, Triangulation};
+use delaunay_interface::Triangulation;
 use half_edge_mesh::FixedVertexHandle;
 
 // Whether two points are one.
@@ -21,19 +20,17 @@ fn is_same<S: SpadeNum>(first: Point2<S>, second: Point2<S>) -> bool
     first.x.to_i64() == second.x.to_i64() && first.y.to_i64() == second.y.to_i64()
 }
 
-fn insert<
-    V: HasPosition + Drop,
-    DE: Default + Drop,
-    UE: Default + Drop,
-    F: Default + Drop,
-    L: HintGenerator<V::Scalar>,
-    P: PlaneTests<V::Scalar>,
->(points: &mut ConstrainedDelaunayTriangulation<V, DE, UE, F, L>, value: V, tests: &P) -> Outcome<V>
-    requires sites { AreSites V.place (P.sites tests.now) points.old.vertices }
-    requires new_site { InRange (V.place value) → P.sites tests.now (V.place value) }
-    ensures gives { Gives V.place (Insert value) result points.old points.new }
-    ensures sites { AreSites V.place (P.sites tests.now) points.new.vertices }
-    ensures headline { IsDelaunay V.place constraint_edges points.new }
+fn insert<T: Replayable, P: PlaneTests<<T::Vertex as HasPosition>::Scalar>>(
+    points: &mut T,
+    value: T::Vertex,
+    tests: &P,
+) -> Outcome<T::Vertex>
+    requires sites { AreSites T.Vertex.place (P.sites tests.now) (T.state points.old).vertices }
+    requires new_site { InRange (T.Vertex.place value) → P.sites tests.now (T.Vertex.place value) }
+    ensures gives { Gives T.Vertex.place T.Constraints.constraints T.marking (Insert value) result
+        (T.state points.old) (T.state points.new) }
+    ensures sites { AreSites T.Vertex.place (P.sites tests.now) (T.state points.new).vertices }
+    ensures headline { IsDelaunay T.Vertex.place T.Constraints.constraints (T.state points.new) }
 {
     points.recall_invariant();
     match points.insert(value, tests) {
@@ -42,22 +39,16 @@ fn insert<
     }
 }
 
-fn remove<
-    V: HasPosition + Drop,
-    DE: Default + Drop,
-    UE: Default + Drop,
-    F: Default + Drop,
-    L: HintGenerator<V::Scalar>,
-    P: PlaneTests<V::Scalar>,
->(
-    points: &mut ConstrainedDelaunayTriangulation<V, DE, UE, F, L>,
+fn remove<T: Replayable, P: PlaneTests<<T::Vertex as HasPosition>::Scalar>>(
+    points: &mut T,
     vertex: FixedVertexHandle,
     tests: &P,
-) -> Outcome<V>
-    requires sites { AreSites V.place (P.sites tests.now) points.old.vertices }
-    ensures gives { Gives V.place (Remove vertex) result points.old points.new }
-    ensures sites { AreSites V.place (P.sites tests.now) points.new.vertices }
-    ensures headline { IsDelaunay V.place constraint_edges points.new }
+) -> Outcome<T::Vertex>
+    requires sites { AreSites T.Vertex.place (P.sites tests.now) (T.state points.old).vertices }
+    ensures gives { Gives T.Vertex.place T.Constraints.constraints T.marking (Remove vertex) result
+        (T.state points.old) (T.state points.new) }
+    ensures sites { AreSites T.Vertex.place (P.sites tests.now) (T.state points.new).vertices }
+    ensures headline { IsDelaunay T.Vertex.place T.Constraints.constraints (T.state points.new) }
 {
     points.recall_invariant();
     if vertex.index() as usize >= points.num_vertices() {
@@ -69,20 +60,16 @@ fn remove<
     }
 }
 
-fn replace<
-    V: HasPosition + Drop,
-    DE: Default + Drop,
-    UE: Default + Drop,
-    F: Default + Drop,
-    L: HintGenerator<V::Scalar>,
->(
-    points: &mut ConstrainedDelaunayTriangulation<V, DE, UE, F, L>,
+fn replace<T: Replayable>(
+    points: &mut T,
     vertex: FixedVertexHandle,
-    value: V,
-) -> Outcome<V>
-    ensures gives { Gives V.place (Replace vertex value) result points.old points.new }
-    ensures places { map V.place points.new.vertices ≡ map V.place points.old.vertices }
-    ensures headline { IsDelaunay V.place constraint_edges points.new }
+    value: T::Vertex,
+) -> Outcome<T::Vertex>
+    ensures gives { Gives T.Vertex.place T.Constraints.constraints T.marking (Replace vertex value)
+        result (T.state points.old) (T.state points.new) }
+    ensures places { map T.Vertex.place (T.state points.new).vertices ≡
+        map T.Vertex.place (T.state points.old).vertices }
+    ensures headline { IsDelaunay T.Vertex.place T.Constraints.constraints (T.state points.new) }
 {
     points.recall_invariant();
     if vertex.index() as usize >= points.num_vertices() {
@@ -95,94 +82,19 @@ fn replace<
     Outcome::Replaced(points.replace_vertex(vertex, value))
 }
 
-fn add_constraint<
-    V: HasPosition + Drop,
-    DE: Default + Drop,
-    UE: Default + Drop,
-    F: Default + Drop,
-    L: HintGenerator<V::Scalar>,
-    P: PlaneTests<V::Scalar>,
->(
-    points: &mut ConstrainedDelaunayTriangulation<V, DE, UE, F, L>,
-    from: FixedVertexHandle,
-    to: FixedVertexHandle,
-    tests: &P,
-) -> Outcome<V>
-    requires sites { AreSites V.place (P.sites tests.now) points.old.vertices }
-    ensures gives { Gives V.place (AddConstraint from to) result points.old points.new }
-    ensures vertices { points.new.vertices ≡ points.old.vertices }
-    ensures headline { IsDelaunay V.place constraint_edges points.new }
-{
-    points.recall_invariant();
-    if from.index() as usize >= points.num_vertices() {
-        return Outcome::Refused(Refusal::NoVertex);
-    }
-    if to.index() as usize >= points.num_vertices() {
-        return Outcome::Refused(Refusal::NoVertex);
-    }
-    if !points.can_add_constraint(from, to, tests) {
-        return Outcome::Refused(Refusal::Conflict);
-    }
-    match points.add_constraint(from, to, tests) {
-        Ok(made) => Outcome::Added(made),
-        Err(_) => Outcome::Refused(Refusal::OutOfMemory),
-    }
-}
-
-fn release_constraint<
-    V: HasPosition + Drop,
-    DE: Default + Drop,
-    UE: Default + Drop,
-    F: Default + Drop,
-    L: HintGenerator<V::Scalar>,
-    P: PlaneTests<V::Scalar>,
->(
-    points: &mut ConstrainedDelaunayTriangulation<V, DE, UE, F, L>,
-    from: FixedVertexHandle,
-    to: FixedVertexHandle,
-    tests: &P,
-) -> Outcome<V>
-    requires sites { AreSites V.place (P.sites tests.now) points.old.vertices }
-    ensures gives { Gives V.place (ReleaseConstraint from to) result points.old points.new }
-    ensures vertices { points.new.vertices ≡ points.old.vertices }
-    ensures headline { IsDelaunay V.place constraint_edges points.new }
-{
-    points.recall_invariant();
-    if from.index() as usize >= points.num_vertices() {
-        return Outcome::Refused(Refusal::NotConstrained);
-    }
-    let Some(edge) = points.get_edge_from_neighbors(from, to) else {
-        return Outcome::Refused(Refusal::NotConstrained);
-    };
-    let edge = edge.as_undirected().fix();
-    if !points.is_constraint_edge(edge) {
-        return Outcome::Refused(Refusal::NotConstrained);
-    }
-    match points.remove_constraint_edge(edge, tests) {
-        Ok(_) => Outcome::Released,
-        Err(_) => Outcome::Refused(Refusal::OutOfMemory),
-    }
-}
-
 // Makes an edit, or changes nothing.
-pub(crate) fn make<
-    V: HasPosition + Drop,
-    DE: Default + Drop,
-    UE: Default + Drop,
-    F: Default + Drop,
-    L: HintGenerator<V::Scalar>,
-    P: PlaneTests<V::Scalar>,
->(
-    points: &mut ConstrainedDelaunayTriangulation<V, DE, UE, F, L>,
-    edit: Edit<V>,
+pub(crate) fn make<T: Replayable, P: PlaneTests<<T::Vertex as HasPosition>::Scalar>>(
+    points: &mut T,
+    edit: Edit<T::Vertex>,
     tests: &P,
-) -> Outcome<V>
-    requires sites { AreSites V.place (P.sites tests.now) points.old.vertices }
-    requires new_site { (v : V) → edit ≡ Insert v → InRange (V.place v) →
-        P.sites tests.now (V.place v) }
-    ensures gives { Gives V.place edit result points.old points.new }
-    ensures sites { AreSites V.place (P.sites tests.now) points.new.vertices }
-    ensures headline { IsDelaunay V.place constraint_edges points.new }
+) -> Outcome<T::Vertex>
+    requires sites { AreSites T.Vertex.place (P.sites tests.now) (T.state points.old).vertices }
+    requires new_site { (v : T.Vertex) → edit ≡ Insert v → InRange (T.Vertex.place v) →
+        P.sites tests.now (T.Vertex.place v) }
+    ensures gives { Gives T.Vertex.place T.Constraints.constraints T.marking edit result
+        (T.state points.old) (T.state points.new) }
+    ensures sites { AreSites T.Vertex.place (P.sites tests.now) (T.state points.new).vertices }
+    ensures headline { IsDelaunay T.Vertex.place T.Constraints.constraints (T.state points.new) }
 {
     match edit {
         Edit::Insert(value) => insert(points, value, tests),
@@ -192,7 +104,7 @@ pub(crate) fn make<
             points.clear();
             Outcome::Cleared
         }
-        Edit::AddConstraint(from, to) => add_constraint(points, from, to, tests),
-        Edit::ReleaseConstraint(from, to) => release_constraint(points, from, to, tests),
+        Edit::AddConstraint(from, to) => points.join_pair(from, to, tests),
+        Edit::ReleaseConstraint(from, to) => points.release_pair(from, to, tests),
     }
 }

@@ -10,7 +10,7 @@ pub loop-edit-preserved : goal.loop-edit-preserved
 loop-edit-preserved g c = (
   tt,
   tt,
-  rw c.push_reserved.ensures.items (one_more g.V.HasPosition.place _ _ _ _ _ _ _ c.in-Some.edit c.make.result c.loop-edit.invariant.2 c.in-Some.ensures.steps.0 c.make.ensures.gives),
+  rw c.push_reserved.ensures.items (one_more _ _ _ _ _ _ _ _ _ _ c.in-Some.edit c.make.result c.loop-edit.invariant.2 c.in-Some.ensures.steps.0 c.make.ensures.gives),
   counts_on _ _ c.in-Some.edit c.in-Some.ensures.steps.0 _ _ c.make.result _ c.push_reserved.ensures.items c.loop-edit.invariant.3,
   rw c.push_reserved.ensures.capacity c.loop-edit.invariant.4,
   (λ v later. c.loop-edit.invariant.5 v (comes_later _ _ c.in-Some.edit c.in-Some.ensures.steps.0 (Insert v) later)),
@@ -18,7 +18,7 @@ loop-edit-preserved g c = (
 )
 
 pub returns-clause-answers : goal.returns-clause-answers
-returns-clause-answers g c = ends g.V.HasPosition.place _ _ _ _ _ c.loop-edit.invariant.2 (omega (arith, c.in-None.ensures.steps, c.loop-edit.edit-iterator.rest.ok))
+returns-clause-answers g c = ends _ _ _ _ _ _ _ _ c.loop-edit.invariant.2 (omega (arith, c.in-None.ensures.steps, c.loop-edit.edit-iterator.rest.ok))
 
 pub returns-clause-runs : goal.returns-clause-runs
-returns-clause-runs g c = runs g.V.HasPosition.place _ _ _ _ (ends g.V.HasPosition.place _ _ _ _ _ c.loop-edit.invariant.2 (omega (arith, c.in-None.ensures.steps, c.loop-edit.edit-iterator.rest.ok)))
+returns-clause-runs g c = runs _ _ _ _ _ _ _ (ends _ _ _ _ _ _ _ _ c.loop-edit.invariant.2 (omega (arith, c.in-None.ensures.steps, c.loop-edit.edit-iterator.rest.ok)))

@@ -1,4 +1,3 @@
-use Rattle.delaunay_edit.specs.Constrained.{constraint_edges}
 use Rattle.delaunay_interface.proofs.Stepping.{inserted_sites}
 use Rattle.delaunay_journal.proofs.SingleEdits.{refused_insertion}
 use Rattle.delaunay_journal.proofs.steps.insert.Goals as goal
@@ -7,7 +6,9 @@ pub returns-in-Ok-clause-gives : goal.returns-in-Ok-clause-gives
 returns-in-Ok-clause-gives g c = c.in-Ok.ensures.inserts
 
 pub returns-in-Ok-clause-sites : goal.returns-in-Ok-clause-sites
-returns-in-Ok-clause-sites g c = inserted_sites g.V.HasPosition.place constraint_edges c.args.points.now c.insert.new.self c.args.value c.in-Ok.vertex c.in-Ok.ensures.inserts (g.P.PlaneTests.sites c.args.tests.now) (c.requires.sites c.recall_invariant.ensures.in_range) c.requires.new_site
+returns-in-Ok-clause-sites g c =
+    inserted_sites _ _ _ _ _ _ c.in-Ok.ensures.inserts (g.P.PlaneTests.sites c.args.tests.now)
+    (c.requires.sites c.recall_invariant.ensures.in_range) c.requires.new_site
 
 pub returns-in-Err-clause-gives : goal.returns-in-Err-clause-gives
-returns-in-Err-clause-gives g c = refused_insertion g.V.HasPosition.place c.args.points.now c.insert.new.self c.args.value c.in-Err.error c.in-Err.ensures.inserts
+returns-in-Err-clause-gives g c = refused_insertion _ _ _ _ _ _ c.in-Err.ensures.inserts

@@ -1,5 +1,4 @@
 use Rattle.std.proofs.Common.{refl, arith}
-use Rattle.delaunay_edit.specs.Constrained.{constraint_edges}
 use Rattle.delaunay_edit.proofs.Removing.{sites_left}
 use Rattle.delaunay_journal.proofs.SingleEdits.{removed_so}
 use Rattle.delaunay_journal.proofs.steps.remove.Goals as goal
@@ -12,10 +11,13 @@ returns-then-index-num_vertices-clause-gives g c =
     (omega (arith, past, index, count), refl)
 
 pub returns-in-Ok-clause-gives : goal.returns-in-Ok-clause-gives
-returns-in-Ok-clause-gives g c = removed_so g.V.HasPosition.place c.args.points.now c.remove.new.self c.args.vertex c.in-Ok.value c.in-Ok.ensures.removes
+returns-in-Ok-clause-gives g c = removed_so _ _ _ _ _ _ c.in-Ok.ensures.removes
 
 pub returns-in-Ok-clause-sites : goal.returns-in-Ok-clause-sites
-returns-in-Ok-clause-sites g c = λ _. sites_left g.V.HasPosition.place constraint_edges c.args.points.now c.remove.new.self c.args.vertex c.in-Ok.value c.in-Ok.ensures.removes.plain (g.P.PlaneTests.sites c.args.tests.now) (c.requires.sites c.recall_invariant.ensures.in_range)
+returns-in-Ok-clause-sites g c = λ _.
+    sites_left g.T.Vertex.HasPosition.place g.T.Constraints.ConstraintMarker.constraints
+    (g.T.Triangulation.state c.args.points.now) (g.T.Triangulation.state c.remove.new.self) c.args.vertex c.in-Ok.value c.in-Ok.ensures.removes.plain
+    (g.P.PlaneTests.sites c.args.tests.now) (c.requires.sites c.recall_invariant.ensures.in_range)
 
 pub returns-in-Err-clause-gives : goal.returns-in-Err-clause-gives
 returns-in-Err-clause-gives g c =

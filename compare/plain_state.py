@@ -1,0 +1,76 @@
+"""Points and constraints as lists, what edits make of them, and which edges and faces they have, found by trying all."""
+from itertools import combinations
+
+from geometry import carries, cross, edges_of, side
+
+LIMIT = 536870912
+
+
+class PlainState:
+    def __init__(self, points):
+        self.points, self.walls = points, set()
+
+    def insert(self, p):
+        if max(map(abs, p)) > LIMIT:
+            return None
+        if p not in self.points:
+            self.points.append(p)
+            new = len(self.points) - 1
+            for i, j in sorted(self.walls):
+                if carries(self.points[i], self.points[j], p):
+                    self.walls = self.walls - {(i, j)} | {(i, new), (j, new)}
+        return self.points.index(p)
+
+    def remove(self, i):
+        last, gone = len(self.points) - 1, self.points[i]
+        kept = [wall for wall in self.walls if i not in wall]
+        self.walls = {tuple(sorted(i if k == last else k for k in wall)) for wall in kept}
+        self.points[i] = self.points[last]
+        self.points.pop()
+        return gone
+
+    def is_free(self, i, j):
+        ends = [(self.points[k], self.points[m]) for k, m in self.walls]
+        return not any(cross(self.points[i], self.points[j], *wall) for wall in ends)
+
+    def path(self, i, j):
+        a, b = self.points[i], self.points[j]
+        within = [k for k, p in enumerate(self.points) if carries(a, b, p)]
+        within.sort(key=lambda k: sum((self.points[k][n] - a[n]) ** 2 for n in (0, 1)))
+        order = [i] + within + [j]
+        return list(zip(order, order[1:]))
+
+    def join(self, i, j):
+        """The edges of the path, and whether one of them was no constraint."""
+        if i == j or not self.is_free(i, j):
+            return [], False
+        path = self.path(i, j)
+        pairs = {tuple(sorted(pair)) for pair in path}
+        made = not self.walls.issuperset(pairs)
+        self.walls |= pairs
+        return [list(pair) for pair in path], made
+
+    def edges(self, listed=()):
+        return edges_of(self.points, sorted(self.walls), listed) if len(self.points) > 1 else []
+
+    def faces(self, listed):
+        edges, found = set(self.edges(listed)), set()
+        for i, j, k in combinations(range(len(self.points)), 3):
+            a, b, c = (self.points[n] for n in (i, j, k))
+            turn = side(a, b, c)
+            if turn == 0 or not edges.issuperset([(i, j), (j, k), (i, k)]):
+                continue
+            b, c = (b, c) if turn > 0 else (c, b)
+            within = [p for p in self.points if min(side(a, b, p), side(b, c, p), side(c, a, p)) >= 0]
+            if len(within) == 3:
+                found.add((i, j, k) if turn > 0 else (i, k, j))
+        return found
+
+    def counts(self):
+        v, e = len(self.points), len(self.edges())
+        is_line = all(side(*it) == 0 for it in combinations(self.points, 3))
+        return [v, e, 0 if is_line else 1 - v + e, len(self.walls)]
+
+
+def pairs_of(triples):
+    return {tuple(sorted(pair)) for triple in triples for pair in combinations(triple, 2)}
