@@ -118,7 +118,7 @@ fn flip<V: HasPosition, DE, UE, F>(
 }
 
 // Puts an edge into a work list, unless it is there.
-pub(crate) fn push_side<V, DE, UE, F>(
+pub fn push_side<V, DE, UE, F>(
     dcel: &Dcel<V, DE, UE, F>,
     edge: FixedDirectedEdgeHandle,
     work: &mut Vec<FixedUndirectedEdgeHandle>,
@@ -137,8 +137,8 @@ pub(crate) fn push_side<V, DE, UE, F>(
     }
 }
 
-// Puts the four edges round an edge into a work list.
-fn push_sides<V, DE, UE, F>(
+// Puts the four edges round an edge into a work list, unless they are there.
+pub fn push_sides<V, DE, UE, F>(
     dcel: &Dcel<V, DE, UE, F>,
     edge: FixedDirectedEdgeHandle,
     work: &mut Vec<FixedUndirectedEdgeHandle>,

@@ -16,8 +16,8 @@ pub use constraint_marker::{ConstraintMarker, NoConstraints};
 
 // For the crates of edits, and not for users.
 pub use among::legalize_among;
-pub use legalization::{is_constraint_edge, is_outer, legalize, start_of};
+pub use legalization::{is_constraint_edge, is_outer, legalize, push_side, push_sides, start_of};
 pub use marking::{free_edge, make_constraint};
 pub use predicates::{is_same_point, is_strictly_inside, is_strictly_within, turns_left};
 pub use star::legalize_star;
-pub use work_list::{legalize_all, reserve_for_edges};
+pub use work_list::reserve_for_edges;
