@@ -6,6 +6,13 @@ ghost use Rattle.delaunay_legalization.specs.Constraints.{marked_edges};
 use crate::constraint_marker::ConstraintMarker;
 
 /// The data of an undirected edge of a constrained triangulation: whether the edge is a constraint, and the user's data.
+///
+/// ```
+/// let data = site.undirected_edge(edge).data();
+/// if data.is_constraint_edge() {
+///     println!(rt; "a wall of height {}", *data.data())?;
+/// }
+/// ```
 #[derive(Clone, Copy, Debug, PartialEq, Eq, PartialOrd, Ord, Hash, Drop)]
 pub struct CdtEdge<UE> {
     is_constraint_edge: bool,
