@@ -12,6 +12,12 @@ use std::alloc::Global;
 
 /// Tells a search at which vertex to begin. A triangulation tells its generator once of each appended and of each removed
 /// vertex. Any handle may be answered, and no call is refused: a generator that finds no memory holds less.
+///
+/// ```
+/// // Searches begin where the generator says, here a hierarchy:
+/// let mut points: DelaunayTriangulation<Point2<i64>, (), (), (), HierarchyHintGenerator<i64>> =
+///     DelaunayTriangulation::new(rt.alloc());
+/// ```
 pub trait HintGenerator<S: SpadeNum>: Drop {
     // The positions that it keeps. Calls with `&self` leave them, since they are read off the value.
     ghost holds: { Self → Point → Type 0 };

@@ -14,6 +14,10 @@ use std::cell::Cell;
 
 /// Gives the last vertex that was inserted or looked up, and after a removal the one before the removed. It holds no
 /// position, and takes no memory.
+///
+/// ```
+/// type Points = DelaunayTriangulation<Point2<i64>, (), (), (), LastUsedVertexHintGenerator>;
+/// ```
 #[derive(Drop)]
 pub struct LastUsedVertexHintGenerator {
     vertex: Cell<FixedVertexHandle>,

@@ -11,6 +11,12 @@ enum Turn {
 }
 
 /// The side of a directed line on which a point lies: left, right, or on the line.
+///
+/// ```
+/// let side = LineSideInfo::left();
+/// let other = side.reversed().is_on_right_side(); // true
+/// let both = side.is_on_left_side_or_on_line(); // true
+/// ```
 #[derive(Clone, Copy, Debug, PartialEq, Eq)]
 pub struct LineSideInfo {
     turn: Turn,

@@ -15,6 +15,13 @@ use thiserror::Error;
 pub const MAX_ALLOWED_VALUE: i64 = 536870912;
 
 /// Why a vertex was not inserted. Each prints its own name.
+///
+/// ```
+/// match points.insert(Point2::new(x, y), &ExactTests) {
+///     Ok(vertex) => println!(rt; "vertex {}", vertex.index())?,
+///     Err(error) => println!(rt; "refused: {error}")?, // as in "refused: TooLarge"
+/// }
+/// ```
 #[derive(Clone, Copy, Debug, PartialEq, Eq, PartialOrd, Ord, Hash, Error)]
 pub enum InsertionError {
     /// A coordinate is out of range.
@@ -42,6 +49,11 @@ pub fn validate_coordinate<S: SpadeNum>(value: S) -> Result<(), InsertionError>
 }
 
 /// `TooLarge` exactly where a coordinate of the position is out of range.
+///
+/// ```
+/// let inside = validate_vertex(&Point2::new(536870912i64, 0)).is_ok(); // true
+/// let outside = validate_vertex(&Point2::new(536870913i64, 0)).is_ok(); // false
+/// ```
 pub fn validate_vertex<V: HasPosition>(vertex: &V) -> Result<(), InsertionError>
     ensures only { OnErr result (IsErrOf result TooLarge) }
     ensures exactly { IsOk result ↔ InRange (V.place vertex.now) }
@@ -53,6 +65,12 @@ pub fn validate_vertex<V: HasPosition>(vertex: &V) -> Result<(), InsertionError>
 
 /// True answers to side and circle tests, which the caller hands in: of sides at its covered points, of circles at its
 /// sites. The crate has no implementation of its own.
+///
+/// ```
+/// let (from, to) = (Point2::new(0, 0), Point2::new(1, 0));
+/// let side = tests.side(from, to, Point2::new(0, 1)); // left
+/// let square = tests.is_in_circle(from, to, Point2::new(0, 1), Point2::new(1, 1)); // false
+/// ```
 pub trait PlaneTests<S: SpadeNum> {
     ghost covered: { Self → Point → Type 0 };
 

@@ -88,6 +88,12 @@ impl SpadeNum for i64 {
 }
 
 /// A point of the plane. Points are ordered by `x`, then by `y`.
+///
+/// ```
+/// let corner = Point2::new(3, 4);
+/// let distance = corner.distance_2(Point2::new(0, 0)); // 25, the square of 5
+/// let (x, y) = <(i64, i64)>::from(corner);
+/// ```
 #[derive(Clone, Copy, Debug, PartialEq, Eq, PartialOrd, Ord, Hash, Default)]
 pub struct Point2<S> {
     pub x: S,
@@ -165,6 +171,18 @@ impl<S: SpadeNum> From<Point2<S>> for (S, S) {
 }
 
 /// A value with a position, which is a function of the value.
+///
+/// ```
+/// impl HasPosition for Station {
+///     type Scalar = i64;
+///
+///     ghost place = { λ s. ⟦<Point2<i64> as HasPosition>⟧.place s.place };
+///
+///     fn position(&self) -> Point2<i64> {
+///         self.place
+///     }
+/// }
+/// ```
 pub trait HasPosition {
     type Scalar: SpadeNum;
 

@@ -12,6 +12,12 @@ use std::fmt;
 use std::marker::PhantomData;
 
 /// Where a point falls on the line of an edge. `S` names the scalar of the points; both numbers are whole.
+///
+/// ```
+/// let falls = project_point(Point2::new(1, 1), Point2::new(4, 5), Point2::new(0, 0));
+/// let before = falls.is_before_edge(); // true
+/// let (factor, length_2) = falls.relative_position(); // -7 and 25
+/// ```
 #[derive_where(Copy, PartialEq, Eq, PartialOrd, Ord, Hash)]
 pub struct PointProjection<S> {
     factor: i64,

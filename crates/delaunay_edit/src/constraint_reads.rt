@@ -10,7 +10,7 @@ ghost use Rattle.delaunay_edit.specs.Headline.{IsDelaunay};
 
 use crate::edited_mesh::{ConstrainedMesh, EditedMesh, PlainMesh};
 use delaunay_core::point::HasPosition;
-use delaunay_legalization::{CdtEdge, EdgeConstraints, is_constraint_edge};
+use delaunay_legalization::{EdgeConstraints, free_edge_data, is_constraint_edge};
 use delaunay_paths::is_constraint_between;
 use half_edge_mesh::{FixedUndirectedEdgeHandle, FixedVertexHandle};
 use std::marker::PhantomData;
@@ -68,7 +68,7 @@ impl<V: HasPosition, DE, UE, F> ConstrainedMesh<V, DE, UE, F> {
             sides,
             marks,
         } = plain;
-        match dcel.map_undirected_edges(CdtEdge::new) {
+        match dcel.map_undirected_edges(free_edge_data) {
             Ok(dcel) => {
                 let constrained = EditedMesh {
                     dcel,

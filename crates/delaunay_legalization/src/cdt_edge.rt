@@ -6,10 +6,28 @@ ghost use Rattle.delaunay_legalization.specs.Constraints.{marked_edges};
 use crate::constraint_marker::ConstraintMarker;
 
 /// The data of an undirected edge of a constrained triangulation: whether the edge is a constraint, and the user's data.
+///
+/// ```
+/// let data = site.undirected_edge(edge).data();
+/// if data.is_constraint_edge() {
+///     println!(rt; "a wall of height {}", *data.data())?;
+/// }
+/// ```
 #[derive(Clone, Copy, Debug, PartialEq, Eq, PartialOrd, Ord, Hash, Drop)]
 pub struct CdtEdge<UE> {
     is_constraint_edge: bool,
     data: UE,
+}
+
+/// No constraint, with these data.
+pub fn free_edge_data<UE>(value: UE) -> CdtEdge<UE>
+    ensures free { result.is_constraint_edge ≡ false }
+    ensures value { result.«data» ≡ value }
+{
+    CdtEdge {
+        is_constraint_edge: false,
+        data: value,
+    }
 }
 
 /// No constraint, with default data.
@@ -17,7 +35,7 @@ impl<UE: Default> Default for CdtEdge<UE> {
     ghost is_default = { λ e. (e.is_constraint_edge ≡ false) × UE.is_default e.«data» };
 
     fn default() -> Self {
-        CdtEdge::new(UE::default())
+        free_edge_data(UE::default())
     }
 }
 
@@ -25,38 +43,11 @@ impl<UE> CdtEdge<UE> {
     ghost use Rattle.std.specs.Borrow.{sem};
     ghost use Rattle.delaunay_legalization.specs.Lending.{LendsData};
 
-    /// No constraint, with these data.
-    pub fn new(value: UE) -> Self
-        ensures free { result.is_constraint_edge ≡ false }
-        ensures value { result.«data» ≡ value }
-    {
-        CdtEdge {
-            is_constraint_edge: false,
-            data: value,
-        }
-    }
-
     /// Whether the edge is a constraint.
     pub fn is_constraint_edge(&self) -> bool
         ensures { result ≡ self.now.is_constraint_edge }
     {
         self.is_constraint_edge
-    }
-
-    /// Makes an edge that is none a constraint.
-    pub fn make_constraint_edge(&mut self)
-        requires { self.old.is_constraint_edge ≡ false }
-        ensures { self.new ≡ record self.old { is_constraint_edge = true } }
-    {
-        self.is_constraint_edge = true;
-    }
-
-    /// Makes a constraint an edge that is none.
-    pub fn unmake_constraint_edge(&mut self)
-        requires { self.old.is_constraint_edge ≡ true }
-        ensures { self.new ≡ record self.old { is_constraint_edge = false } }
-    {
-        self.is_constraint_edge = false;
     }
 
     /// The user's data.

@@ -11,7 +11,7 @@ mod predicates;
 mod star;
 mod work_list;
 
-pub use cdt_edge::{CdtEdge, EdgeConstraints};
+pub use cdt_edge::{CdtEdge, EdgeConstraints, free_edge_data};
 pub use constraint_marker::{ConstraintMarker, NoConstraints};
 
 // For the crates of edits, and not for users.

@@ -62,6 +62,11 @@ fn next_conflict<'a, M: ConstraintMarker<UE>, V: HasPosition, DE, UE, F, P: Plan
 
 /// The constraints that a segment meets in one point strictly within them, in the order along the segment. No call takes
 /// memory.
+///
+/// ```
+/// let walls = site.get_conflicting_edges_between_points(from, to, &ExactTests);
+/// println!(rt; "{} walls in the way", walls.count())?;
+/// ```
 #[derive(Drop)]
 pub struct ConflictingEdgesIterator<
     'a,

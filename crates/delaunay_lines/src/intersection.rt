@@ -7,6 +7,14 @@ use half_edge_mesh::{
 };
 
 /// A vertex or an edge that a segment meets.
+///
+/// ```
+/// match item {
+///     Intersection::EdgeIntersection(edge) => println!(rt; "across {}", edge.fix().index())?,
+///     Intersection::VertexIntersection(vertex) => println!(rt; "at {}", vertex.fix().index())?,
+///     Intersection::EdgeOverlap(edge) => println!(rt; "along {}", edge.fix().index())?,
+/// }
+/// ```
 #[derive_where(Clone, Copy, PartialEq, Debug)]
 pub enum Intersection<'a, V, DE, UE, F> {
     /// An edge that the segment meets in one point strictly within the edge. The segment's end is on its left, or, where it

@@ -21,6 +21,14 @@ use half_edge_mesh::{Dcel, FixedVertexHandle};
 
 /// The vertices and edges that a segment meets, in the order along the segment. No call takes memory, and the cost of a
 /// call of `next` does not grow with the mesh, but with the edges of one vertex.
+///
+/// ```
+/// for item in LineIntersectionIterator::new(&points, from, to, &ExactTests) {
+///     if let Some(edge) = item.as_edge_intersection() {
+///         println!(rt; "across edge {}", edge.fix().index())?;
+///     }
+/// }
+/// ```
 #[derive(Drop)]
 pub struct LineIntersectionIterator<'a, V: HasPosition, DE, UE, F, P: PlaneTests<V::Scalar>> {
     pub dcel: &'a Dcel<V, DE, UE, F>,

@@ -1,6 +1,12 @@
 use half_edge_mesh::{FixedDirectedEdgeHandle, FixedFaceHandle, FixedVertexHandle};
 
 /// Where a position is in a triangulation.
+///
+/// ```
+/// if let PositionInTriangulation::OnFace(face) = points.locate(Point2::new(1, 1), &ExactTests) {
+///     println!(rt; "in face {}", face.index())?;
+/// }
+/// ```
 #[derive(Clone, Copy, Debug, PartialEq, Eq, PartialOrd, Ord, Hash)]
 pub enum PositionInTriangulation {
     /// It is the position of this vertex.

@@ -14,6 +14,12 @@ use delaunay_core::point::{Point2, SpadeNum};
 use std::alloc::AllocError;
 
 /// A closed circle: the points whose squared distance from the centre is at most `radius_2`.
+///
+/// ```
+/// let circle = CircleMetric::new(Point2::new(0, 0), 25);
+/// let rim = circle.is_point_inside(Point2::new(3, 4)); // true
+/// let outside = circle.distance_to_point(Point2::new(0, 6)); // 36 - 25
+/// ```
 #[derive(Copy, Debug, PartialEq, Eq, PartialOrd, Hash)]
 pub struct CircleMetric<S: SpadeNum> {
     center: Point2<S>,

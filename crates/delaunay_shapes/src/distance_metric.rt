@@ -12,6 +12,12 @@ use delaunay_core::point::{HasPosition, Point2, SpadeNum};
 use half_edge_mesh::UndirectedEdgeHandle;
 
 /// A closed shape. It tells how far a point is from it, and whether an edge has a point in it.
+///
+/// ```
+/// let circle = CircleMetric::new(Point2::new(0, 0), 25);
+/// let ends = (Point2::new(-9, 3), Point2::new(9, 3));
+/// let crosses = circle.is_edge_inside(ends, &ExactTests); // true
+/// ```
 pub trait DistanceMetric<S: SpadeNum>: Drop {
     ghost shape: { Self → Fraction → Type 0 };
 

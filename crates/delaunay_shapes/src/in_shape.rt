@@ -8,6 +8,12 @@ use half_edge_mesh::{
 };
 
 /// The edges with a point in a shape, of which some are left.
+///
+/// ```
+/// for edge in points.get_edges_in_rectangle(lower, upper, &ExactTests, rt.alloc())? {
+///     println!(rt; "edge {}", edge.fix().index())?;
+/// }
+/// ```
 #[derive(Drop)]
 pub struct EdgesInShapeIterator<'a, V, DE, UE, F> {
     pub(crate) dcel: &'a Dcel<V, DE, UE, F>,
@@ -36,6 +42,12 @@ impl<'a, V, DE, UE, F> Iterator for EdgesInShapeIterator<'a, V, DE, UE, F> {
 }
 
 /// The vertices in a shape, of which some are left.
+///
+/// ```
+/// for vertex in points.get_vertices_in_circle(center, 25, &ExactTests, rt.alloc())? {
+///     println!(rt; "vertex {}", vertex.fix().index())?;
+/// }
+/// ```
 #[derive(Drop)]
 pub struct VerticesInShapeIterator<'a, V, DE, UE, F> {
     pub(crate) dcel: &'a Dcel<V, DE, UE, F>,

@@ -17,6 +17,11 @@ use std::alloc::AllocError;
 
 /// A closed rectangle: the points from `lower` to `upper` in both coordinates. One whose corners are reversed in an axis
 /// has no point.
+///
+/// ```
+/// let rectangle = RectangleMetric::new(Point2::new(0, 0), Point2::new(4, 2));
+/// let beside = rectangle.distance_to_point(Point2::new(7, 6)); // 9 + 16
+/// ```
 #[derive(Copy, Debug, PartialEq, Eq, PartialOrd, Hash)]
 pub struct RectangleMetric<S: SpadeNum> {
     lower: Point2<S>,

@@ -7,6 +7,12 @@ use crate::voronoi_iterators::VoronoiCircularIterator;
 use half_edge_views::{DirectedEdgeHandle, FaceHandle, UndirectedEdgeHandle, VertexHandle};
 
 /// The face of the Voronoi diagram that belongs to a vertex. Two of them are equal where their vertices are.
+///
+/// ```
+/// for face in points.voronoi_faces() {
+///     println!(rt; "{} sides", face.adjacent_edges().count())?;
+/// }
+/// ```
 #[derive_where(Clone, Copy, PartialEq, Eq, PartialOrd, Ord, Hash, Debug)]
 pub struct VoronoiFace<'a, V, DE, UE, F> {
     pub vertex: VertexHandle<'a, V, DE, UE, F>,

@@ -31,6 +31,12 @@ pub struct HierarchyHintGeneratorWithBranchFactor<S: SpadeNum, const BRANCH_FACT
 }
 
 /// A hierarchy in which each layer has every sixteenth vertex of the one below it.
+///
+/// ```
+/// type Hints = HierarchyHintGenerator<i64>;
+/// let mut points: DelaunayTriangulation<Point2<i64>, (), (), (), Hints> =
+///     DelaunayTriangulation::new(rt.alloc());
+/// ```
 pub type HierarchyHintGenerator<S> = HierarchyHintGeneratorWithBranchFactor<S, 16>;
 
 impl<S: SpadeNum, const BRANCH_FACTOR: u32> HierarchyHintGeneratorWithBranchFactor<

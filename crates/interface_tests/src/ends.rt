@@ -79,6 +79,14 @@ fn print_lasts<T: Triangulation>(rt: &HostRuntime, points: &T) -> anyhow::Result
     Ok(())
 }
 
+// How many of these indexes are this one.
+fn count_of(indexes: [u32; 3], index: u32) -> u8 {
+    let [first, second, third] = indexes;
+    u8::from(first == index)
+        .wrapping_add(u8::from(second == index))
+        .wrapping_add(u8::from(third == index))
+}
+
 // The first and the last inner face, each with how many of its corners are the vertex of this
 // index, and how many faces are left between them and in a copy that was made after the first.
 fn print_inner_faces<T: Triangulation>(
@@ -87,18 +95,16 @@ fn print_inner_faces<T: Triangulation>(
     index: u32,
 ) -> anyhow::Result<()> {
     let mut faces = points.inner_faces();
-    let first = faces.next();
+    if let Some(face) = faces.next() {
+        let [first, second, third] = face.vertices();
+        let count = count_of([first.index, second.index, third.index], index);
+        println!(rt; "face {}, vertex {index} is {count} corner", face.index)?;
+    }
     let copy = faces.clone()?;
-    let last = faces.next_back();
-    for face in [first, last] {
-        if let Some(face) = face {
-            let corners = face.vertices();
-            let count = corners
-                .iter()
-                .filter(|corner| corner.index == index)
-                .count();
-            println!(rt; "face {}, vertex {index} is {count} corner", face.index)?;
-        }
+    if let Some(face) = faces.next_back() {
+        let [first, second, third] = face.vertices();
+        let count = count_of([first.index, second.index, third.index], index);
+        println!(rt; "face {}, vertex {index} is {count} corner", face.index)?;
     }
     println!(rt;
         "between: {:?}, copy: {:?}",

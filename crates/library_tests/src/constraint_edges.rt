@@ -1,28 +1,30 @@
 //! The data of edges that may be constraints, and which edges they fix.
 
-use delaunay_legalization::{CdtEdge, ConstraintMarker, EdgeConstraints, NoConstraints};
+use delaunay_legalization::{
+    CdtEdge, ConstraintMarker, EdgeConstraints, NoConstraints, free_edge_data,
+};
 
 /// An edge's data, as a constraint or as none.
 fn edge(is_constraint: bool, data: u32) -> CdtEdge<u32> {
-    let mut edge = CdtEdge::new(data);
+    let mut edge = free_edge_data(data);
     if is_constraint {
-        edge.make_constraint_edge();
+        EdgeConstraints::make_constraint(&mut edge);
     }
     edge
 }
 
 /// Whether an edge is a constraint when it is new, made one and unmade; and whether the default edge is a new one of 0.
 pub fn made_and_unmade() -> [bool; 4] {
-    let mut edge = CdtEdge::new(7u32);
+    let mut edge = free_edge_data(7u32);
     let is_new = edge.is_constraint_edge();
-    edge.make_constraint_edge();
+    EdgeConstraints::make_constraint(&mut edge);
     let is_made = edge.is_constraint_edge();
-    edge.unmake_constraint_edge();
+    EdgeConstraints::free(&mut edge);
     [
         is_new,
         is_made,
         edge.is_constraint_edge(),
-        CdtEdge::<u32>::default() == CdtEdge::new(0),
+        CdtEdge::<u32>::default() == free_edge_data(0),
     ]
 }
 
