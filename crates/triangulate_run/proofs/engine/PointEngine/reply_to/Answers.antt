@@ -1,0 +1,4 @@
+use Rattle.triangulate_run.proofs.engine.PointEngine.reply_to.Goals as goal
+
+pub returns-in-Insert-clause-reply : goal.returns-in-Insert-clause-reply
+returns-in-Insert-clause-reply g c = ?

@@ -1,0 +1,4 @@
+use Rattle.triangulate_run.proofs.engine.PointEngineEngine.answer.Goals as goal
+
+pub returns-clause-answered : goal.returns-clause-answered
+returns-clause-answered g c = ?
