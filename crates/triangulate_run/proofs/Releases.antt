@@ -79,8 +79,10 @@ module _ {D U F E : Type 0} (old new : State (Point2 ℤ) D (CdtEdge U) F) (kept
 
   pub not_released : (e : E) → r ≡ Err e → MayRelease (stage_by constraint_edges old) i j (Refused OutOfMemory) (stage_by constraint_edges new)
   not_released e is =
-      let told = subst (λ (q : Result Bool E). ReleasesConstraint position k q old new) is done in
-      (elim (joins_or_not (constraints_of old) i j) [
-        | inl joins ↦ joins
-        | inr none ↦ (let no = (told.none (λ had. none (there.0 had))).0 in cc)
-      ], ap (stage_by constraint_edges) told.err)
+      let told = subst (λ (q : Result Bool E). ReleasesConstraint position k q old new) is done in (
+        elim (joins_or_not (constraints_of old) i j) [
+          | inl joins ↦ joins
+          | inr none ↦ (let no = (told.none (λ had. none (there.0 had))).0 in cc)
+        ],
+        ap (stage_by constraint_edges) told.err,
+      )

@@ -15,12 +15,11 @@ returns-then-is_empty-clause-answered g c =
     (reply_text NoPath, inr (NoPath, joins_none c.args.triangulation.now c.try_add_constraint.new.self c.args.from c.args.to edges.items c.in-Ok.ensures.path none c.requires.from_in c.requires.to_in, refl), c.write_reply.ensures)
 
 pub returns-in-Err-clause-answered : goal.returns-in-Err-clause-answered
-returns-in-Err-clause-answered g c =
-    (
-      reply_text (Refused OutOfMemory),
-      inr (Refused OutOfMemory, joins_refused c.args.triangulation.now c.try_add_constraint.new.self c.args.from c.args.to c.try_add_constraint.result c.in-Err.field-0 c.in-Err.is c.try_add_constraint.ensures.none c.requires.from_in c.requires.to_in c.in-Err.ensures.err, refl),
-      c.write_reply-in-Err.ensures,
-    )
+returns-in-Err-clause-answered g c = (
+  reply_text (Refused OutOfMemory),
+  inr (Refused OutOfMemory, joins_refused c.args.triangulation.now c.try_add_constraint.new.self c.args.from c.args.to c.try_add_constraint.result c.in-Err.field-0 c.in-Err.is c.try_add_constraint.ensures.none c.requires.from_in c.requires.to_in c.in-Err.ensures.err, refl),
+  c.write_reply-in-Err.ensures,
+)
 
 pub write_path-requires-clause-within : goal.write_path-requires-clause-within
 write_path-requires-clause-within g c =

@@ -20,8 +20,11 @@ returns-in_err-put_edges g c =
     let p = err_from_is_err_and c.from_residual-in_err-put_edges.result c.from_residual-in_err-put_edges.ensures.1 in
     let put = c.in_err-put_edges.ensures in
     let texts = flat_map piece_text (ends_in c.args.triangulation.now.mesh c.args.path.now) in
-    rw p.1 (second_fails (g.W.Write.contents (inner_of c.args.writer.now)) (g.W.Write.contents (inner_of c.put_pieces.new.writer)) (g.W.Write.contents (inner_of c.put_edges.new.writer))
-        c.args.held.now.items c.put_pieces.new.held.items (codes "edges") texts (codes "\n") c.in_ok-put_pieces.ensures.0 put.0, put.1)
+    rw p.1 (
+      second_fails (g.W.Write.contents (inner_of c.args.writer.now)) (g.W.Write.contents (inner_of c.put_pieces.new.writer)) (g.W.Write.contents (inner_of c.put_edges.new.writer))
+          c.args.held.now.items c.put_pieces.new.held.items (codes "edges") texts (codes "\n") c.in_ok-put_pieces.ensures.0 put.0,
+      put.1,
+    )
 
 pub returns : goal.returns
 returns g c =

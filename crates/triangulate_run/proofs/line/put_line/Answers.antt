@@ -23,9 +23,12 @@ returns-in_err-put_items g c =
     let p = err_from_is_err_and c.from_residual-in_err-put_items.result c.from_residual-in_err-put_items.ensures.1 in
     let put = c.in_err-put_items.ensures in
     let ready = c.in-Some.ensures.goes.keeps in
-    rw p.1 (λ items left. (line_others_fail position (λ z. z) c.args.line.now c.next.new.self c.in-Some.first c.in-Some.ensures.steps
-        (g.W.Write.contents (inner_of c.args.writer.now)) (g.W.Write.contents (inner_of c.put_item.new.writer)) (g.W.Write.contents (inner_of c.put_items.new.writer))
-        c.args.held.now.items c.put_item.new.held.items c.in_ok-put_item.ensures.0 (λ others rest. (put others rest).0) items left, (put ready.items ready.are_left).1))
+    rw p.1 (λ items left. (
+      line_others_fail position (λ z. z) c.args.line.now c.next.new.self c.in-Some.first c.in-Some.ensures.steps
+          (g.W.Write.contents (inner_of c.args.writer.now)) (g.W.Write.contents (inner_of c.put_item.new.writer)) (g.W.Write.contents (inner_of c.put_items.new.writer))
+          c.args.held.now.items c.put_item.new.held.items c.in_ok-put_item.ensures.0 (λ others rest. (put others rest).0) items left,
+      (put ready.items ready.are_left).1,
+    ))
 
 pub put_pieces-requires-2 : goal.put_pieces-requires-2
 put_pieces-requires-2 g c = let ready = c.in-Some.ensures.goes.keeps in record { works = (c.in_ok-put_items.ensures ready.items ready.are_left).1 }
