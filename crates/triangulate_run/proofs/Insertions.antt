@@ -62,7 +62,8 @@ listed_if_known points p None e found = cc
 listed_if_known points p (Some i) e found = (i, found)
 
 -- ---- a refusal
-module _ {D U F : Type 0} (constraints : List U → List ℕ) (points : List SheetPoint) (old new : State (Point2 ℤ) D U F) (p : Point2 ℤ) (r : Result ℕ InsertionError) where
+module _ {D U F : Type 0} (constraints : List U → List ℕ) (points : List SheetPoint)
+    (old new : State (Point2 ℤ) D U F) (p : Point2 ℤ) (r : Result ℕ InsertionError) where
   pub may_refuse : (e : InsertionError) → r ≡ Err e → InRange (position p) → IsListedSite points (position p)
       → IsErrOf r TooLarge ↔ ¬ InRange (position p)
       → (InRange (position p) → IsKnown (map position old.vertices) (position p) → IsOk r)
@@ -70,11 +71,17 @@ module _ {D U F : Type 0} (constraints : List U → List ℕ) (points : List She
       → new ≡ old → MayInsert points (stage_by constraints old) p (Refused e) (stage_by constraints new)
   may_refuse TooLarge is in_range site too_large known full same = absurd (too_large.0 (rw is refl) in_range)
   may_refuse OutOfIndexes is in_range site too_large known full same =
-      let f = full.0 (rw is refl) in
-      (record { in_range = in_range; site = site; fresh = fresh_if_unknown old.vertices p f.1 }, f.2, ap (stage_by constraints) same)
+      let f = full.0 (rw is refl) in (
+        record { in_range = in_range; site = site; fresh = fresh_if_unknown old.vertices p f.1 },
+        f.2,
+        ap (stage_by constraints) same,
+      )
   may_refuse OutOfMemory is in_range site too_large known full same =
-      let unknown : ¬ IsKnown (map position old.vertices) (position p) = λ k. (let ok = known in_range k in cc) in
-      (record { in_range = in_range; site = site; fresh = fresh_if_unknown old.vertices p unknown }, (λ f. (let no = full.1 (in_range, unknown, f) in cc)), ap (stage_by constraints) same)
+      let unknown : ¬ IsKnown (map position old.vertices) (position p) = λ k. (let ok = known in_range k in cc) in (
+        record { in_range = in_range; site = site; fresh = fresh_if_unknown old.vertices p unknown },
+        (λ f. (let no = full.1 (in_range, unknown, f) in cc)),
+        ap (stage_by constraints) same,
+      )
 
 -- where a vertex gave way, the mesh is as it was
 pub mesh_kept : {V D U F : Type 0} (old new : State V D U F) (vertices : List V) → new ≡ record old { vertices = vertices } → new.mesh ≡ old.mesh

@@ -25,17 +25,29 @@ use Rattle.triangulate_run.specs.Stage.{position}
 
 -- neighbours on a segment, in the words of plain states
 neighbours : (points : List Point) (i j a b : ℕ) → AreNextOn points i j a b → AreNeighboursOn position points i j a b
-neighbours points i j a b h = record { apart = h.apart; first_index = h.first_index; second_index = h.second_index; first = h.first; second = h.second; none_between = h.none_between }
+neighbours points i j a b h =
+    record {
+      apart = h.apart;
+      first_index = h.first_index;
+      second_index = h.second_index;
+      first = h.first;
+      second = h.second;
+      none_between = h.none_between;
+    }
 
 -- edges that lead along a segment have ends that lead along it
-pub leads : (points : List Point) (m : Mesh) (i j : ℕ) (edges : List ℕ) → LeadAlong points m i j edges → LeadsTo points i j (ends_in m edges)
+pub leads : (points : List Point) (m : Mesh) (i j : ℕ) (edges : List ℕ) → LeadAlong points m i j edges
+    → LeadsTo points i j (ends_in m edges)
 leads points m i j [] h = h
-leads points m i j (e ∷ es) (within, from, next, rest) = (from, neighbours points i j i (origin m (rev e)) next, leads points m (origin m (rev e)) j es rest)
+leads points m i j (e ∷ es) (within, from, next, rest) =
+    (from, neighbours points i j i (origin m (rev e)) next, leads points m (origin m (rev e)) j es rest)
 
 -- they are edges of the mesh
-pub leads_within : (points : List Point) (m : Mesh) (i j : ℕ) (edges : List ℕ) → LeadAlong points m i j edges → All (λ h. h < length m.half_edges) edges
+pub leads_within : (points : List Point) (m : Mesh) (i j : ℕ) (edges : List ℕ) → LeadAlong points m i j edges
+    → All (λ h. h < length m.half_edges) edges
 leads_within points m i j [] h = All-nil (λ h. h < length m.half_edges)
-leads_within points m i j (e ∷ es) (within, from, next, rest) = All-cons (λ h. h < length m.half_edges) e es within (leads_within points m (origin m (rev e)) j es rest)
+leads_within points m i j (e ∷ es) (within, from, next, rest) =
+    All-cons (λ h. h < length m.half_edges) e es within (leads_within points m (origin m (rev e)) j es rest)
 
 -- what is not denied of all crossings holds of all
 pub can_add : {V : Type 0} (at : V → Point) (s : Plain V) (i j : ℕ) → ¬ ¬ CanAdd at s i j → CanAdd at s i j
@@ -60,13 +72,16 @@ pieces_text m (e ∷ es) = ap (λ ys. edge_piece m e ++ ys) (pieces_text m es)
 module _ {D U F : Type 0} (old new : State (Point2 ℤ) D (CdtEdge U) F) (i j : ℕ) where
   module _ (edges : List ℕ) (adds : AddsPathIfFree position i j edges old new) where
     -- without edges there was nothing to join
-    pub joins_none : edges ≡ [] → i < length old.vertices → j < length old.vertices → MayRefuse (stage_by constraint_edges old) i j NoPath (stage_by constraint_edges new)
+    pub joins_none : edges ≡ [] → i < length old.vertices → j < length old.vertices
+        → MayRefuse (stage_by constraint_edges old) i j NoPath (stage_by constraint_edges new)
     joins_none none i_in j_in = ((i_in, j_in), barred, ap (stage_by constraint_edges) (adds.refused barred).1)
       where
         barred : (i ≡ j) ⊎ (¬ CanAdd position (constrained old) i j)
         barred = elim (cases_eq i j) [
           | inl same ↦ inl same
-          | inr other ↦ inr (λ free. other (subst (λ (hs : List ℕ). LeadAlong (map position new.vertices) new.mesh i j hs) none (adds.along other free)))
+          | inr other ↦ inr (λ free. other
+              (subst (λ (hs : List ℕ). LeadAlong (map position new.vertices) new.mesh i j hs) none
+              (adds.along other free)))
         ]
 
     module _ (some : edges ≢ []) where
@@ -79,16 +94,24 @@ module _ {D U F : Type 0} (old new : State (Point2 ℤ) D (CdtEdge U) F) (i j : 
       pub edges_within : All (λ h. h < length new.mesh.half_edges) edges
       edges_within = leads_within (map position new.vertices) new.mesh i j edges (adds.along apart free)
 
-      pub joins_some : AddsPath (stage_by constraint_edges old) i j (ends_in new.mesh edges) (stage_by constraint_edges new)
+      pub joins_some : AddsPath (stage_by constraint_edges old) i j (ends_in new.mesh edges)
+          (stage_by constraint_edges new)
       joins_some =
           let plain = adds.plain apart free in
           record {
             apart = apart;
             adds = plain;
-            leads = subst (λ (vs : List (Point2 ℤ)). LeadsTo (map position vs) i j (ends_in new.mesh edges)) plain.vertices (leads (map position new.vertices) new.mesh i j edges (adds.along apart free));
+            leads = subst (λ (vs : List (Point2 ℤ)). LeadsTo (map position vs) i j (ends_in new.mesh edges))
+                plain.vertices (leads (map position new.vertices) new.mesh i j edges (adds.along apart free));
           }
 
   -- memory was refused
-  pub joins_refused : {X E : Type 0} (r : Result X E) (e : E) → r ≡ Err e → ((i ≡ j) ⊎ (¬ CanAdd position (constrained old) i j) → IsOk r) → i < length old.vertices → j < length old.vertices → new ≡ old
+  pub joins_refused : {X E : Type 0} (r : Result X E) (e : E) → r ≡ Err e
+      → ((i ≡ j) ⊎ (¬ CanAdd position (constrained old) i j) → IsOk r) → i < length old.vertices
+      → j < length old.vertices → new ≡ old
       → MayRefuse (stage_by constraint_edges old) i j (Refused OutOfMemory) (stage_by constraint_edges new)
-  joins_refused {X} {E} r e is none i_in j_in same = ((i_in, j_in), inr (λ barred. (let no = subst (λ (q : Result X E). IsOk q) is (none barred) in cc)), ap (stage_by constraint_edges) same)
+  joins_refused {X} {E} r e is none i_in j_in same = (
+    (i_in, j_in),
+    inr (λ barred. (let no = subst (λ (q : Result X E). IsOk q) is (none barred) in cc)),
+    ap (stage_by constraint_edges) same,
+  )

@@ -148,7 +148,8 @@ HasNoPath s i j = (i ≡ j) ⊎ (¬ CanAdd position s.plain i j)
 abbrev pub MayRefuse : Stage → ℕ → ℕ → Reply → Stage → Type 0
 MayRefuse old i j reply.NoVertex new = (¬ AreVertices old i j) × (new ≡ old)
 MayRefuse old i j reply.NoPath new = AreVertices old i j × HasNoPath old i j × (new ≡ old)
-MayRefuse old i j (reply.Refused OutOfMemory) new = AreVertices old i j × ((old.plain.constraints ≡ []) ⊎ (¬ HasNoPath old i j)) × (new ≡ old)
+MayRefuse old i j (reply.Refused OutOfMemory) new =
+    AreVertices old i j × ((old.plain.constraints ≡ []) ⊎ (¬ HasNoPath old i j)) × (new ≡ old)
 MayRefuse old i j _ new = ⊥
 
 -- from i to j by these pairs, each of two vertices next to one another on what is left of the segment
@@ -170,7 +171,8 @@ MayJoin old i j text new =
 abbrev pub MayRelease : Stage → ℕ → ℕ → Reply → Stage → Type 0
 MayRelease old i j reply.NoVertex new = (¬ AreVertices old i j) × (new ≡ old)
 MayRelease old i j reply.NoEdge new = AreVertices old i j × (¬ IsEdge old.triangulation i j) × (new ≡ old)
-MayRelease old i j reply.NotConstrained new = IsEdge old.triangulation i j × (¬ Joins old.plain.constraints i j) × (new ≡ old)
+MayRelease old i j reply.NotConstrained new = IsEdge old.triangulation i j × (¬ Joins old.plain.constraints i j)
+    × (new ≡ old)
 MayRelease old i j reply.Released new = Releases position old.plain new.plain i j
 MayRelease old i j (reply.Refused OutOfMemory) new = Joins old.plain.constraints i j × (new ≡ old)
 MayRelease old i j _ new = ⊥
@@ -178,7 +180,8 @@ MayRelease old i j _ new = ⊥
 -- what the way from p to q meets, if both are in the list
 abbrev pub MayWalk : List SheetPoint → Triangulation → Point → Point → List ℕ → Type 0
 MayWalk points t p q text =
-    ((items : List Item) × IsListed points p × IsListed points q × IsLineList t (whole p) (whole q) items × (text ≡ line_text items))
+    ((items : List Item) × IsListed points p × IsListed points q × IsLineList t (whole p) (whole q) items
+    × (text ≡ line_text items))
     ⊎ ((¬ (IsListed points p × IsListed points q)) × (text ≡ reply_text reply.UnknownPoint))
 
 -- the command may get the reply where old stood, and leave new. The others don't get their answers so
@@ -202,5 +205,7 @@ IsReplied command = ⊤
 -- the command may get the text where old stood, and leave new
 abbrev pub MayAnswer : List SheetPoint → Stage → Command → List ℕ → Stage → Type 0
 MayAnswer points old (Constrain i j) text new = MayJoin old i j text new
-MayAnswer points old (Line c d) text new = MayWalk points old.triangulation (position (point_at c)) (position (point_at d)) text × (new ≡ old)
-MayAnswer points old command text new = (reply : Reply) × MayReply points old command reply new × (text ≡ reply_text reply)
+MayAnswer points old (Line c d) text new =
+    MayWalk points old.triangulation (position (point_at c)) (position (point_at d)) text × (new ≡ old)
+MayAnswer points old command text new =
+    (reply : Reply) × MayReply points old command reply new × (text ≡ reply_text reply)

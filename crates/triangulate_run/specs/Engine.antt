@@ -13,7 +13,10 @@ use Rattle.triangulate_run.specs.Points.{place}
 use Rattle.triangulate_run.specs.Stage.{Stage, position}
 
 abbrev pub stage_by : {D U F : Type 0} → (List U → List ℕ) → State (Point2 ℤ) D U F → Stage
-stage_by constraints s = record { plain = points_and_constraints_by constraints s; triangulation = triangulation_of position s }
+stage_by constraints s = record {
+  plain = points_and_constraints_by constraints s;
+  triangulation = triangulation_of position s;
+}
 
 abbrev pub stage_of : {L : Type 0} → Either L → Stage
 stage_of (Plain s) = stage_by none s

@@ -162,7 +162,7 @@ impl<'a, P: PlaneTests<i64>, L: HintGenerator<i64>> PointEngine<'a, P, L> {
     fn locate(&self, point: Point2<i64>) -> Reply
         requires ready { IsReady (P.covered self.now.tests.now) (P.sites self.now.tests.now)
             self.now.points.now (stage_of self.now.triangulation) }
-        ensures reply { MayLocate self.now.points.now (stage_of self.now.triangulation).triangulation
+        ensures { MayLocate self.now.points.now (stage_of self.now.triangulation).triangulation
             (position point) result }
     {
         match &self.triangulation {
@@ -176,7 +176,7 @@ impl<'a, P: PlaneTests<i64>, L: HintGenerator<i64>> PointEngine<'a, P, L> {
     fn nearest(&self, point: Point2<i64>) -> Reply
         requires ready { IsReady (P.covered self.now.tests.now) (P.sites self.now.tests.now)
             self.now.points.now (stage_of self.now.triangulation) }
-        ensures reply { MayMeasure self.now.points.now (stage_of self.now.triangulation).triangulation
+        ensures { MayMeasure self.now.points.now (stage_of self.now.triangulation).triangulation
             (position point) result }
     {
         match &self.triangulation {

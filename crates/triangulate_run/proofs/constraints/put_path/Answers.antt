@@ -13,7 +13,11 @@ returns-in_err-put_pieces g c =
     let put = c.in_err-put_pieces.ensures in
     let texts = flat_map piece_text (ends_in c.args.triangulation.now.mesh c.args.path.now) in
     let start = g.W.Write.contents (inner_of c.args.writer.now) in
-    rw p.1 (first_fails start (g.W.Write.contents (inner_of c.put_pieces.new.writer)) start c.args.held.now.items c.args.held.now.items (codes "edges") texts (codes "\n") put.0, put.1)
+    rw p.1 (
+      first_fails start (g.W.Write.contents (inner_of c.put_pieces.new.writer)) start c.args.held.now.items
+          c.args.held.now.items (codes "edges") texts (codes "\n") put.0,
+      put.1,
+    )
 
 pub returns-in_err-put_edges : goal.returns-in_err-put_edges
 returns-in_err-put_edges g c =
@@ -21,13 +25,18 @@ returns-in_err-put_edges g c =
     let put = c.in_err-put_edges.ensures in
     let texts = flat_map piece_text (ends_in c.args.triangulation.now.mesh c.args.path.now) in
     rw p.1 (
-      second_fails (g.W.Write.contents (inner_of c.args.writer.now)) (g.W.Write.contents (inner_of c.put_pieces.new.writer)) (g.W.Write.contents (inner_of c.put_edges.new.writer))
-          c.args.held.now.items c.put_pieces.new.held.items (codes "edges") texts (codes "\n") c.in_ok-put_pieces.ensures.0 put.0,
+      second_fails (g.W.Write.contents (inner_of c.args.writer.now))
+          (g.W.Write.contents (inner_of c.put_pieces.new.writer)) (g.W.Write.contents (inner_of c.put_edges.new.writer))
+          c.args.held.now.items c.put_pieces.new.held.items (codes "edges") texts (codes "\n")
+          c.in_ok-put_pieces.ensures.0 put.0,
       put.1,
     )
 
 pub returns : goal.returns
 returns g c =
     let texts = flat_map piece_text (ends_in c.args.triangulation.now.mesh c.args.path.now) in
-    third_behind {W = g.row.W.Denot} g.W.Write.contents c.args.writer.now c.put_pieces.new.writer c.put_edges.new.writer c.put_pieces-2.new.writer c.put_pieces-2.result
-    c.args.held.now.items c.put_pieces.new.held.items c.put_edges.new.held.items c.put_pieces-2.new.held.items (codes "edges") texts (codes "\n") c.in_ok-put_pieces.ensures.0 c.in_ok-put_edges.ensures.0 c.put_pieces-2.ensures
+    third_behind {W = g.row.W.Denot} g.W.Write.contents c.args.writer.now c.put_pieces.new.writer
+    c.put_edges.new.writer c.put_pieces-2.new.writer c.put_pieces-2.result
+    c.args.held.now.items c.put_pieces.new.held.items c.put_edges.new.held.items c.put_pieces-2.new.held.items
+    (codes "edges") texts (codes "\n") c.in_ok-put_pieces.ensures.0 c.in_ok-put_edges.ensures.0
+    c.put_pieces-2.ensures

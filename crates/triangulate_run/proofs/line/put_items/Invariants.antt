@@ -8,7 +8,8 @@ use Rattle.triangulate_run.proofs.line.put_items.Given as goal
 abbrev pub invariant-loop-item : goal.invariant-loop-item
 invariant-loop-item g l = record {
   ready : IsReady position (λ z. z) g.P.PlaneTests.sites g.P.PlaneTests.covered l.line;
-  so_far : PutsEach position (λ z. z) (g.W.Write.contents (inner_of l.fn.writer)) (g.W.Write.contents (inner_of l.writer)) l.fn.held.items l.held.items l.fn.line l.line;
+  so_far : PutsEach position (λ z. z) (g.W.Write.contents (inner_of l.fn.writer))
+      (g.W.Write.contents (inner_of l.writer)) l.fn.held.items l.held.items l.fn.line l.line;
   works : has_failed l.writer ≡ false;
 }
 

@@ -12,7 +12,9 @@ pub distance_2-requires-clause-in_range : goal.distance_2-requires-clause-in_ran
 distance_2-requires-clause-in_range g c =
     let p = position c.args.point in
     let listed = listed_if_known c.args.points.now p c.index_of.result c.if-is_none.ensures c.index_of.ensures in
-    g.met.P.PlaneTests.covered_are_in_range c.args.tests.now p (covered_if_listed (g.P.PlaneTests.covered c.args.tests.now) c.args.points.now p c.requires.ready.points_covered listed)
+    g.met.P.PlaneTests.covered_are_in_range c.args.tests.now p
+    (covered_if_listed (g.P.PlaneTests.covered c.args.tests.now) c.args.points.now p
+    c.requires.ready.points_covered listed)
 
 pub distance_2-requires-clause-other_in_range : goal.distance_2-requires-clause-other_in_range
 distance_2-requires-clause-other_in_range g c =
@@ -29,11 +31,16 @@ returns-in-Some g c =
     let d = c.distance_2.result in
     let t = triangulation_of position c.args.triangulation.now in
     let listed = listed_if_known c.args.points.now p c.index_of.result c.if-is_none.ensures c.index_of.ensures in
-    let at = read_place position c.args.triangulation.now.vertices i v (subst (λ vs. slice_get vs i ≡ Some v) (ap (λ s. s.vertices) c.in-Some.ensures.0) c.data.ensures) in
-    let fits : SFits w64 d = search rules in
-    (listed, subst (IsLeastDistance t p) (sym (to_z-of_z {w = w64} {z = d} fits)) (least_distance t p (position v) i d c.in-Some.ensures.1 at c.distance_2.ensures))
+    let at = read_place position c.args.triangulation.now.vertices i v
+    (subst (λ vs. slice_get vs i ≡ Some v) (ap (λ s. s.vertices) c.in-Some.ensures.0) c.data.ensures) in
+    let fits : SFits w64 d = search rules in (
+      listed,
+      subst (IsLeastDistance t p) (sym (to_z-of_z {w = w64} {z = d} fits))
+          (least_distance t p (position v) i d c.in-Some.ensures.1 at c.distance_2.ensures),
+    )
 
 pub nearest_neighbor-requires-clause-covered : goal.nearest_neighbor-requires-clause-covered
 nearest_neighbor-requires-clause-covered g c =
     let p = position c.args.point in
-    covered_if_listed (g.P.PlaneTests.covered c.args.tests.now) c.args.points.now p c.requires.ready.points_covered (listed_if_known c.args.points.now p c.index_of.result c.if-is_none.ensures c.index_of.ensures)
+    covered_if_listed (g.P.PlaneTests.covered c.args.tests.now) c.args.points.now p c.requires.ready.points_covered
+    (listed_if_known c.args.points.now p c.index_of.result c.if-is_none.ensures c.index_of.ensures)

@@ -8,4 +8,6 @@ returns-clause-answered g c = λ whole held.
     (told.0, inl (c.in-Some.command, c.in-Some.ensures.found whole held, told.1), told.2)
 
 pub returns-clause-works : goal.returns-clause-works
-returns-clause-works g c = let told = c.answer.ensures.answered in works_if_ok {W = g.row.W.Denot} g.W.Write.contents c.args.writer.now c.answer.new.writer c.answer.result told.0 told.2
+returns-clause-works g c = let told = c.answer.ensures.answered in
+    works_if_ok {W = g.row.W.Denot} g.W.Write.contents c.args.writer.now c.answer.new.writer c.answer.result told.0
+    told.2

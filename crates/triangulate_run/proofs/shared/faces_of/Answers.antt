@@ -22,7 +22,9 @@ loop-face-init g c =
       same = it.state;
       rest = range_with_len 1 (length (g.T.Triangulation.state c.args.triangulation.now).faces);
       left = sym it.elements ∙ ap inner_faces_left (sym c.into_iter-face-iterator.ensures.into_iter_gives);
-      so_far = ap (λ ys. ys ++ map (row_at it.mesh.now.mesh) (range_with_len 1 (length (g.T.Triangulation.state c.args.triangulation.now).faces))) c.in_ok-faces.ensures.items;
+      so_far = ap (λ ys. ys ++ map (row_at it.mesh.now.mesh)
+          (range_with_len 1 (length (g.T.Triangulation.state c.args.triangulation.now).faces)))
+          c.in_ok-faces.ensures.items;
     }
 
 pub loop-face-preserved : goal.loop-face-preserved
@@ -47,10 +49,25 @@ returns g c =
     let i = c.loop-face.invariant in
     let t = triangulation_of position (g.T.Triangulation.state c.args.triangulation.now) in
     let mesh_is = ap (λ s. s.mesh) i.same in
-    let many : length (g.T.Triangulation.state c.args.triangulation.now).faces ≡ length (g.T.Triangulation.state c.args.triangulation.now).mesh.face_edges = omega (arith, c.num_inner_faces.ensures.values, c.num_inner_faces.ensures.value, length-map (triangles (g.T.Triangulation.state c.args.triangulation.now).mesh) corners_of, length-map (g.T.Triangulation.state c.args.triangulation.now).mesh.face_edges (triangle_at (g.T.Triangulation.state c.args.triangulation.now).mesh)) in
+    let many : length (g.T.Triangulation.state c.args.triangulation.now).faces
+    ≡ length (g.T.Triangulation.state c.args.triangulation.now).mesh.face_edges =
+    omega (
+      arith,
+      c.num_inner_faces.ensures.values,
+      c.num_inner_faces.ensures.value,
+      length-map (triangles (g.T.Triangulation.state c.args.triangulation.now).mesh) corners_of,
+      length-map (g.T.Triangulation.state c.args.triangulation.now).mesh.face_edges
+          (triangle_at (g.T.Triangulation.state c.args.triangulation.now).mesh),
+    ) in
     let done = rows_end (row_at i.mesh.now.mesh) c.loop-face.faces.items i.rest _ (none_left i.mesh i.rest (i.left ∙ c.in-None.ensures.steps.0.0)) i.so_far in
-    let all = done ∙ ap (λ m. map (row_at m) (range_with_len 1 (length (g.T.Triangulation.state c.args.triangulation.now).faces))) mesh_is ∙ rows_by_index (g.T.Triangulation.state c.args.triangulation.now).mesh (map position (g.T.Triangulation.state c.args.triangulation.now).vertices) (length (g.T.Triangulation.state c.args.triangulation.now).faces) many
-    ∙ sym (twice (g.T.Triangulation.state c.args.triangulation.now).mesh (map position (g.T.Triangulation.state c.args.triangulation.now).vertices) (triangles (g.T.Triangulation.state c.args.triangulation.now).mesh)) in
+    let all = done ∙ ap (λ m. map (row_at m)
+    (range_with_len 1 (length (g.T.Triangulation.state c.args.triangulation.now).faces))) mesh_is
+    ∙ rows_by_index (g.T.Triangulation.state c.args.triangulation.now).mesh
+    (map position (g.T.Triangulation.state c.args.triangulation.now).vertices)
+    (length (g.T.Triangulation.state c.args.triangulation.now).faces) many
+    ∙ sym (twice (g.T.Triangulation.state c.args.triangulation.now).mesh
+    (map position (g.T.Triangulation.state c.args.triangulation.now).vertices)
+    (triangles (g.T.Triangulation.state c.args.triangulation.now).mesh)) in
     let tiles = c.recall_invariant.ensures.headline.tiling in
     let list = c.sort_faces.new.faces.items in
     let apart = subst (λ (ys : List Corners). AllPairs (λ c d. c ≢ d) ys) (sym all) (rows_differ t tiles) in

@@ -10,7 +10,8 @@ pub returns-in-Ok-clause-ready : goal.returns-in-Ok-clause-ready
 returns-in-Ok-clause-ready g c =
     let ready = c.requires.ready in
     let sites = g.P.PlaneTests.sites c.args.tests.now in
-    let listed = listed_if_found c.args.points.now (position c.args.point) c.site_index_of.result (c.if-is_none.ensures) c.site_index_of.ensures in
+    let listed = listed_if_found c.args.points.now (position c.args.point) c.site_index_of.result
+    (c.if-is_none.ensures) c.site_index_of.ensures in
     let site = site_if_listed sites c.args.points.now (position c.args.point) ready.points_sites listed in
     record {
       points_covered = ready.points_covered;
@@ -27,13 +28,16 @@ returns-in-Ok-clause-reply g c =
     let new = (g.T.Triangulation.state c.insert.new.self) in
     let p = c.args.point in
     let in_range = c.in_default.ensures.exactly.0 refl in
-    let listed = listed_if_found c.args.points.now (position p) c.site_index_of.result c.if-is_none.ensures c.site_index_of.ensures in
+    let listed = listed_if_found c.args.points.now (position p) c.site_index_of.result c.if-is_none.ensures
+    c.site_index_of.ensures in
     let index = c.from.ensures ∙ c.index.ensures in
     elim c.in-Ok.ensures.inserts.ok [
       | inl kept ↦ inl (record {
         in_range = in_range;
         site = listed;
-        replaced = subst (λ (i : ℕ). Replaces position (points_and_constraints_by g.T.Constraints.ConstraintMarker.constraints old) (points_and_constraints_by g.T.Constraints.ConstraintMarker.constraints new) i p) (sym index) kept;
+        replaced = subst (λ (i : ℕ). Replaces position
+            (points_and_constraints_by g.T.Constraints.ConstraintMarker.constraints old)
+            (points_and_constraints_by g.T.Constraints.ConstraintMarker.constraints new) i p) (sym index) kept;
         same = ap (λ ps. drawn ps new.mesh) (ap (map position) kept.vertices ∙ places_kept old.vertices _ p kept.same)
             ∙ ap (drawn (map position old.vertices)) (mesh_kept old new _ (c.in-Ok.ensures.inserts.replaced (known_if_there old.vertices p _ kept.here kept.same)));
       })
@@ -49,6 +53,9 @@ pub returns-in-Err-insert-clause-reply : goal.returns-in-Err-insert-clause-reply
 returns-in-Err-insert-clause-reply g c =
     let p = c.args.point in
     let in_range = c.in_default.ensures.exactly.0 refl in
-    let listed = listed_if_found c.args.points.now (position p) c.site_index_of.result c.if-is_none.ensures c.site_index_of.ensures in
-    may_refuse g.T.Constraints.ConstraintMarker.constraints c.args.points.now (g.T.Triangulation.state c.args.triangulation.now) (g.T.Triangulation.state c.insert.new.self) p c.insert.result c.in-Err-insert.error c.in-Err-insert.is in_range listed
+    let listed = listed_if_found c.args.points.now (position p) c.site_index_of.result c.if-is_none.ensures
+    c.site_index_of.ensures in
+    may_refuse g.T.Constraints.ConstraintMarker.constraints c.args.points.now
+    (g.T.Triangulation.state c.args.triangulation.now) (g.T.Triangulation.state c.insert.new.self) p
+    c.insert.result c.in-Err-insert.error c.in-Err-insert.is in_range listed
     c.insert.ensures.inserts.too_large c.insert.ensures.inserts.known c.insert.ensures.inserts.full c.in-Err-insert.ensures.inserts.err

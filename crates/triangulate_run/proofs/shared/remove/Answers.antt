@@ -17,7 +17,9 @@ read_point vs i p x_fits y_fits e = e ∙ ap (λ (x : ℤ). Some (point_with x p
 
 pub returns-in-Ok-clause-sites : goal.returns-in-Ok-clause-sites
 returns-in-Ok-clause-sites g c =
-    sites_left position g.T.Constraints.ConstraintMarker.constraints (g.T.Triangulation.state c.args.triangulation.now) (g.T.Triangulation.state c.remove.new.self) _ c.in-Ok.point c.in-Ok.ensures.removes.plain (g.P.PlaneTests.sites c.args.tests.now) c.requires.sites
+    sites_left position g.T.Constraints.ConstraintMarker.constraints
+    (g.T.Triangulation.state c.args.triangulation.now) (g.T.Triangulation.state c.remove.new.self) _
+    c.in-Ok.point c.in-Ok.ensures.removes.plain (g.P.PlaneTests.sites c.args.tests.now) c.requires.sites
 
 pub returns-in-Ok-clause-reply : goal.returns-in-Ok-clause-reply
 returns-in-Ok-clause-reply g c =
@@ -27,5 +29,8 @@ returns-in-Ok-clause-reply g c =
     let y_fits : SFits w64 c.in-Ok.point.y = search rules in
     record {
       was = read_point old.vertices c.args.index c.in-Ok.point x_fits y_fits (subst (λ (i : ℕ). slice_get old.vertices i ≡ Some c.in-Ok.point) c.from_index-vertex.ensures c.in-Ok.ensures.removes.value);
-      removed = subst (λ (i : ℕ). Removes position (points_and_constraints_by g.T.Constraints.ConstraintMarker.constraints old) (points_and_constraints_by g.T.Constraints.ConstraintMarker.constraints new) i) c.from_index-vertex.ensures c.in-Ok.ensures.removes.plain;
+      removed = subst (λ (i : ℕ). Removes position
+          (points_and_constraints_by g.T.Constraints.ConstraintMarker.constraints old)
+          (points_and_constraints_by g.T.Constraints.ConstraintMarker.constraints new) i)
+          c.from_index-vertex.ensures c.in-Ok.ensures.removes.plain;
     }
