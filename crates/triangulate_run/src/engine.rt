@@ -298,13 +298,21 @@ impl<'a, P: PlaneTests<i64>, L: HintGenerator<i64>> PointEngine<'a, P, L> {
         ensures stage { stage_of self.new.triangulation ≡ stage_of self.old.triangulation }
     {
         let empty = Either::Plain(Plain::new(self.alloc));
-        self.triangulation = match replace(&mut self.triangulation, empty) {
-            Either::Plain(plain) => match Constrained::from_delaunay(plain) {
-                Ok(constrained) => Either::Constrained(constrained),
-                Err(plain) => Either::Plain(plain),
-            },
-            constrained => constrained,
-        };
+        let former = replace(&mut self.triangulation, empty);
+        self.triangulation = with_constraints(former);
+    }
+}
+
+/// The same with constraints, where memory is not refused.
+fn with_constraints<L: HintGenerator<i64>>(triangulation: Either<L>) -> Either<L>
+    ensures { stage_of result ≡ stage_of triangulation }
+{
+    match triangulation {
+        Either::Plain(plain) => match Constrained::from_delaunay(plain) {
+            Ok(constrained) => Either::Constrained(constrained),
+            Err(plain) => Either::Plain(plain),
+        },
+        constrained => constrained,
     }
 }
 
