@@ -1,5 +1,6 @@
 use Rattle.std.proofs.Common.{◌∙◌, ap, sym}
-use Rattle.triangulate_run.specs.Engine.{stage_of}
+use Rattle.delaunay_edit.specs.Constrained.{none}
+use Rattle.triangulate_run.specs.Engine.{stage_by, stage_of}
 use Rattle.triangulate_run.proofs.Stages.{stage_taken}
 use Rattle.triangulate_run.proofs.engine.with_constraints.Goals as goal
 
@@ -9,4 +10,4 @@ returns-in-Ok g c =
     ∙ ap stage_of (sym c.in-Plain.is)
 
 pub returns-in-Err : goal.returns-in-Err
-returns-in-Err g c = ?
+returns-in-Err g c = ap (stage_by none) c.in-Err.ensures.err ∙ ap stage_of (sym c.in-Plain.is)

@@ -19,11 +19,11 @@ returns-in-Plain-clause-answered g c =
     let same = c.take_constraints.ensures.stage in
     let none : old.plain.constraints ≡ [] = ap (λ s. s.plain.constraints) (sym same ∙ ap stage_of c.in-Plain.is) in
     let refused = Refused OutOfMemory in
-    (reply_text refused, inr (refused, (c.in-Some.ensures.1.1, inl none, same), refl), c.write_reply-in-Plain.ensures)
+    (reply_text refused, inr (refused, (c.in-Some.ensures.2, inl none, same), refl), c.write_reply-in-Plain.ensures)
 
 pub returns-in-Constrained-clause-answered : goal.returns-in-Constrained-clause-answered
 returns-in-Constrained-clause-answered g c =
     let told = c.constrain.ensures.answered in
     let is = c.in-Some.ensures in
     let same = ap stage_of (sym c.in-Constrained.is) ∙ c.take_constraints.ensures.stage in
-    (told.0, joins_there _ _ same _ _ _ _ is.0 is.1.0 _ _ told.1, told.2)
+    (told.0, joins_there _ _ same _ _ _ _ is.0 is.1 _ _ told.1, told.2)
