@@ -1,5 +1,5 @@
 -- How far the nearest vertex is.
-use Rattle.std.proofs.Common.{◌≡◌, ◌∙◌, ℕ, ◌<◌, List, length, map, refl, inl, inr, ap, sym, subst, arith}
+use Rattle.std.proofs.Common.{◌≡◌, ◌∙◌, ℕ, ◌<◌, List, length, map, inl, inr, ap, sym, subst, arith}
 use Rattle.std.specs.Prelude.{◌⊎◌, ◌+◌, ◌≤◌, ℤ, ◌≤ℤ◌, pos, Option, None, Some, slice_get, All, MatchOption}
 use Rattle.std.proofs.lemmas.Bool.{cases_lt}
 use Rattle.std.proofs.lemmas.Int.{ints}

@@ -18,7 +18,7 @@ use Rattle.delaunay_paths.specs.PathEdges.{LeadAlong}
 use Rattle.delaunay_edit.specs.Constrained.{constrained, constraint_edges}
 use Rattle.delaunay_edit.specs.ConstraintEdits.{AddsPathIfFree}
 use Rattle.triangulate_run.specs.declared.reply.Reply.TheVariants.{NoPath, Refused}
-use Rattle.triangulate_run.specs.Answer.{AddsPath, HasNoPath, LeadsTo, MayRefuse}
+use Rattle.triangulate_run.specs.Answer.{AddsPath, LeadsTo, MayRefuse}
 use Rattle.triangulate_run.specs.Engine.{ends_in, stage_by}
 use Rattle.triangulate_run.specs.Reply.{piece_text}
 use Rattle.triangulate_run.specs.Stage.{position}

@@ -1,6 +1,6 @@
 -- A constraint that is released, by the edge between its ends.
-use Rattle.std.proofs.Common.{◌≡◌, ◌≢◌, ℕ, ◌*◌, ◌/◌, ◌<◌, Bool, true, false, List, [], length, map, refl, inl, inr, ap, sym, ◌∙◌, subst, arith}
-use Rattle.std.specs.Prelude.{◌⊎◌, ◌↔◌, ℤ, Contains, Result, Ok, Err}
+use Rattle.std.proofs.Common.{◌≡◌, ℕ, ◌*◌, ◌/◌, ◌<◌, Bool, true, false, List, [], length, refl, inl, inr, ap, sym, subst, arith}
+use Rattle.std.specs.Prelude.{◌↔◌, ℤ, Contains, Result, Ok, Err}
 use Rattle.half_edge_mesh.specs.Mesh.{origin, rev}
 use Rattle.plane.specs.Pairs.{Joins, IsSamePair}
 use Rattle.plane.specs.Plain.{Plain, Releases}
@@ -12,7 +12,7 @@ use Rattle.delaunay_core.specs.declared.math.InsertionError.TheVariants.{OutOfMe
 use Rattle.delaunay_legalization.specs.CdtEdge.{is_constraint}
 use Rattle.delaunay_legalization.specs.declared.cdt_edge.CdtEdge.{CdtEdge}
 use Rattle.delaunay_legalization.specs.Shape.{IsTriangulated}
-use Rattle.delaunay_legalization.specs.State.{State, state_of, triangulation_of}
+use Rattle.delaunay_legalization.specs.State.{State, triangulation_of}
 use Rattle.delaunay_legalization.proofs.Questions.{both_ways}
 use Rattle.delaunay_paths.proofs.AddingPieces.{half_ends}
 use Rattle.delaunay_paths.proofs.JoinedPairs as joined

@@ -1,5 +1,5 @@
 -- The stages of the two types of triangulations.
-use Rattle.std.proofs.Common.{◌≡◌, List, [], map, refl, ap, subst}
+use Rattle.std.proofs.Common.{◌≡◌, List, map, refl, ap, subst}
 use Rattle.std.specs.Prelude.{ℕ, ℤ}
 use Rattle.plane.specs.Plain.{Unconstrains}
 use Rattle.plane.specs.Tiling.{Triangulation}

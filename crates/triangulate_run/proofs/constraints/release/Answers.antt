@@ -1,5 +1,5 @@
-use Rattle.std.proofs.Common.{◌≡◌, ℕ, ◌/◌, ◌<◌, Bool, true, false, length, refl, sym, ap, ◌∙◌, subst}
-use Rattle.std.specs.Prelude.{Ok, Err}
+use Rattle.std.proofs.Common.{ℕ, ◌/◌, ◌<◌, length, refl, ap, ◌∙◌, subst}
+use Rattle.std.specs.Prelude.{Ok}
 use Rattle.triangulate_run.proofs.Releases.{no_edge, is_released, is_none, not_released}
 use Rattle.triangulate_run.proofs.constraints.release.Goals as goal
 

@@ -1,4 +1,4 @@
-use Rattle.std.proofs.Common.{◌≡◌, ◌∙◌, ℕ, ◌+◌, ◌<◌, List, length, map, ap, sym, subst, arith, rules, SFits, w64, to_z-of_z}
+use Rattle.std.proofs.Common.{◌≡◌, ◌∙◌, ◌+◌, length, map, ap, sym, subst, arith, rules, SFits, w64, to_z-of_z}
 use Rattle.std.specs.Prelude.{ℤ, slice_get, Some}
 use Rattle.std.proofs.lemmas.List.{length-map}
 use Rattle.plane.specs.Fraction.{whole}

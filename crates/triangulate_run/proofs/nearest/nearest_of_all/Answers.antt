@@ -1,4 +1,4 @@
-use Rattle.std.proofs.Common.{◌≡◌, sym, subst, rules, SFits, w64, to_z-of_z}
+use Rattle.std.proofs.Common.{sym, subst, rules, SFits, w64, to_z-of_z}
 use Rattle.delaunay_legalization.specs.State.{triangulation_of}
 use Rattle.triangulate_run.specs.Answer.{IsLeastDistance}
 use Rattle.triangulate_run.specs.Stage.{position}

@@ -1,11 +1,8 @@
-use Rattle.std.proofs.Common.{◌≡◌, List, [], refl, sym, ◌∙◌, ap, inl, inr, subst}
-use Rattle.std.specs.Prelude.{ℕ}
+use Rattle.std.proofs.Common.{◌≡◌, [], refl, sym, ◌∙◌, ap, inl, inr}
 use Rattle.delaunay_core.specs.declared.math.InsertionError.TheVariants.{OutOfMemory}
 use Rattle.triangulate_run.specs.declared.reply.Reply.TheVariants.{NoVertex, Refused}
-use Rattle.triangulate_run.specs.Answer.{MayJoin}
 use Rattle.triangulate_run.specs.Engine.{stage_of}
 use Rattle.triangulate_run.specs.Reply.{reply_text}
-use Rattle.triangulate_run.specs.Stage.{Stage}
 use Rattle.triangulate_run.proofs.Stages.{joins_there}
 use Rattle.triangulate_run.proofs.engine.PointEngine.constrain.Goals as goal
 
