@@ -1,13 +1,17 @@
 -- How far the nearest vertex is.
-use Rattle.std.proofs.Common.{◌≡◌, ◌∙◌, ℕ, ◌<◌, List, length, map, ap, sym, subst, arith}
-use Rattle.std.specs.Prelude.{ℤ, pos, Some, slice_get, All}
+use Rattle.std.proofs.Common.{◌≡◌, ◌∙◌, ℕ, ◌<◌, List, length, map, inl, inr, ap, sym, subst, arith}
+use Rattle.std.specs.Prelude.{◌⊎◌, ◌+◌, ◌≤◌, ℤ, ◌≤ℤ◌, pos, Option, None, Some, slice_get, All, MatchOption}
+use Rattle.std.proofs.lemmas.Bool.{cases_lt}
+use Rattle.std.proofs.lemmas.Int.{ints}
 use Rattle.std.proofs.lemmas.List.{length-map}
 use Rattle.std.proofs.lemmas.List.Elements.{All-get_or}
 use Rattle.plane.specs.Fraction.{Point, whole}
 use Rattle.plane.specs.Circle.{gap}
 use Rattle.plane.specs.Shape.{IsNearest}
 use Rattle.plane.specs.Tests.{InRange}
+use Rattle.plane.specs.Pairs.{place as at}
 use Rattle.plane.specs.Tiling.{Triangulation}
+use Rattle.plane.proofs.Signs.{less_without_ones}
 use Rattle.delaunay_core.specs.declared.point.Point2.{Point2}
 use Rattle.delaunay_legalization.specs.Known.{point_at}
 use Rattle.delaunay_edit.proofs.Removing.{read_place}
@@ -29,3 +33,77 @@ no_vertex vs none i h = omega (arith, none, h, length-map vs position)
 -- a listed point is covered
 pub covered_if_listed : (covered : Point → Type 0) (points : List SheetPoint) (p : Point) → All (λ s. covered (place s)) points → IsListed points p → covered p
 covered_if_listed covered points p all (i, (h, at)) = subst covered at (all i nowhere h)
+
+-- ---- by a look at all vertices
+-- one of the points is so far from p, and none before n is nearer
+pub record IsLeastBefore (points : List Point) (p : Point) (n : ℕ) (d : ℤ) : Type 0 where
+  pub index : ℕ
+  pub within : index < length points
+  pub distance : d ≡ gap (whole p) (at points index)
+  pub least : (k : ℕ) → k < n → d ≤ℤ gap (whole p) (at points k)
+
+-- without a number there are no points so far
+abbrev pub IsLeastSoFar : List Point → Point → ℕ → Option ℤ → Type 0
+IsLeastSoFar points p n least = MatchOption least (n ≡ 0) (IsLeastBefore points p n)
+
+-- the lesser of two numbers, the first of which may be missing
+abbrev pub IsLesser : Option ℤ → ℤ → ℤ → Type 0
+IsLesser first second d =
+    MatchOption first (d ≡ second) (λ x. ((d ≡ x) × (x ≤ℤ second)) ⊎ ((d ≡ second) × (second ≤ℤ x)))
+
+module _ (points : List Point) (p : Point) (n : ℕ) where
+  -- with one more point
+  one_more : (d : ℤ) → ((k : ℕ) → k < n → d ≤ℤ gap (whole p) (at points k)) → d ≤ℤ gap (whole p) (at points n)
+      → (k : ℕ) → k < n + 1 → d ≤ℤ gap (whole p) (at points k)
+  one_more d others next k h = elim (cases_lt k n) [
+    | inl below ↦ others k below
+    | inr beyond ↦ (let same : n ≡ k = omega (arith, h, beyond) in
+        subst (λ (i : ℕ). d ≤ℤ gap (whole p) (at points i)) same next)
+  ]
+
+  -- it stays the least where the next point is no nearer
+  kept_least : (d : ℤ) → IsLeastBefore points p n d → d ≤ℤ gap (whole p) (at points n)
+      → IsLeastBefore points p (n + 1) d
+  kept_least d so_far next = record {
+    index = so_far.index;
+    within = so_far.within;
+    distance = so_far.distance;
+    least = one_more d so_far.least next;
+  }
+
+  -- the next point is the nearest
+  new_least : (d : ℤ) → n < length points → d ≡ gap (whole p) (at points n)
+      → ((k : ℕ) → k < n → d ≤ℤ gap (whole p) (at points k)) → IsLeastBefore points p (n + 1) d
+  new_least d within is others =
+      record { index = n; within = within; distance = is; least = one_more d others (omega (arith, ints, is)) }
+
+  pub least_goes_on : (least : Option ℤ) (here d : ℤ) → IsLeastSoFar points p n least → n < length points
+      → here ≡ gap (whole p) (at points n) → IsLesser least here d → IsLeastSoFar points p (n + 1) (Some d)
+  least_goes_on None here d none within is lesser =
+      new_least d within (lesser ∙ is) (λ k h. absurd (omega (arith, h, none)))
+  least_goes_on (Some x) here d so_far within is (inl (e, le)) =
+      subst (IsLeastBefore points p (n + 1)) (sym e) (kept_least x so_far (subst (λ (g : ℤ). x ≤ℤ g) is le))
+  least_goes_on (Some x) here d so_far within is (inr (e, le)) =
+      new_least d within (e ∙ is) (λ k h. let l = so_far.least k h in omega (arith, ints, l, e, le))
+
+-- the least of all is the distance of a nearest vertex
+least_of_all : (t : Triangulation) (p : Point) (n : ℕ) (d : ℤ) → length t.points ≤ n → IsLeastBefore t.points p n d
+    → IsLeastDistance t p d
+least_of_all t p n d all least = record {
+  nearest = least.index;
+  is_nearest = record {
+    is_vertex = least.within;
+    none_nearer = λ k within nearer.
+        let less = less_without_ones (gap (whole p) (at t.points k)) (gap (whole p) (at t.points least.index))
+        nearer.nearer in
+        let bound = least.least k (omega (arith, within, all)) in
+        let is = least.distance in
+        absurd (omega (arith, ints, less, bound, is));
+  };
+  distance = least.distance;
+}
+
+pub least_found : (t : Triangulation) (p : Point) (n count : ℕ) (least : Option ℤ) → count ≡ length t.points
+    → count ≤ n → IsLeastSoFar t.points p n least → MatchOption least (count ≡ 0) (IsLeastDistance t p)
+least_found t p n count None is all none = omega (arith, none, all)
+least_found t p n count (Some d) is all least = least_of_all t p n d (omega (arith, is, all)) least

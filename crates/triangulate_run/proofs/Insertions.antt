@@ -14,7 +14,7 @@ use Rattle.delaunay_core.specs.declared.math.InsertionError.{InsertionError}
 use Rattle.delaunay_core.specs.declared.math.InsertionError.TheVariants.{TooLarge, OutOfMemory, OutOfIndexes}
 use Rattle.triangulate_run.specs.declared.reply.Reply.TheVariants.{Refused}
 use Rattle.triangulate_run.specs.Answer.{MayInsert, most_elements}
-use Rattle.triangulate_run.specs.Engine.{stage_of}
+use Rattle.triangulate_run.specs.Engine.{stage_by}
 use Rattle.delaunay_legalization.specs.State.{State}
 use Rattle.triangulate_run.specs.Points.{place, nowhere, IsAt, IsSiteAt, IsListed, IsListedSite}
 use Rattle.triangulate_run.specs.Stage.{position}
@@ -62,19 +62,26 @@ listed_if_known points p None e found = cc
 listed_if_known points p (Some i) e found = (i, found)
 
 -- ---- a refusal
-module _ {D U F : Type 0} (points : List SheetPoint) (old new : State (Point2 ℤ) D U F) (p : Point2 ℤ) (r : Result ℕ InsertionError) where
+module _ {D U F : Type 0} (constraints : List U → List ℕ) (points : List SheetPoint)
+    (old new : State (Point2 ℤ) D U F) (p : Point2 ℤ) (r : Result ℕ InsertionError) where
   pub may_refuse : (e : InsertionError) → r ≡ Err e → InRange (position p) → IsListedSite points (position p)
       → IsErrOf r TooLarge ↔ ¬ InRange (position p)
       → (InRange (position p) → IsKnown (map position old.vertices) (position p) → IsOk r)
       → IsErrOf r OutOfIndexes ↔ (InRange (position p) × (¬ IsKnown (map position old.vertices) (position p)) × (most_elements < 6 * (length old.vertices + 1)))
-      → new ≡ old → MayInsert points (stage_of old) p (Refused e) (stage_of new)
+      → new ≡ old → MayInsert points (stage_by constraints old) p (Refused e) (stage_by constraints new)
   may_refuse TooLarge is in_range site too_large known full same = absurd (too_large.0 (rw is refl) in_range)
   may_refuse OutOfIndexes is in_range site too_large known full same =
-      let f = full.0 (rw is refl) in
-      (record { in_range = in_range; site = site; fresh = fresh_if_unknown old.vertices p f.1 }, f.2, ap stage_of same)
+      let f = full.0 (rw is refl) in (
+        record { in_range = in_range; site = site; fresh = fresh_if_unknown old.vertices p f.1 },
+        f.2,
+        ap (stage_by constraints) same,
+      )
   may_refuse OutOfMemory is in_range site too_large known full same =
-      let unknown : ¬ IsKnown (map position old.vertices) (position p) = λ k. (let ok = known in_range k in cc) in
-      (record { in_range = in_range; site = site; fresh = fresh_if_unknown old.vertices p unknown }, (λ f. (let no = full.1 (in_range, unknown, f) in cc)), ap stage_of same)
+      let unknown : ¬ IsKnown (map position old.vertices) (position p) = λ k. (let ok = known in_range k in cc) in (
+        record { in_range = in_range; site = site; fresh = fresh_if_unknown old.vertices p unknown },
+        (λ f. (let no = full.1 (in_range, unknown, f) in cc)),
+        ap (stage_by constraints) same,
+      )
 
 -- where a vertex gave way, the mesh is as it was
 pub mesh_kept : {V D U F : Type 0} (old new : State V D U F) (vertices : List V) → new ≡ record old { vertices = vertices } → new.mesh ≡ old.mesh

@@ -12,3 +12,8 @@ pub mod Locations
 pub mod Distances
 pub mod MeshFaces
 pub mod Insertions
+pub mod Paths
+pub mod Walks
+pub mod Marks
+pub mod Releases
+pub mod Stages

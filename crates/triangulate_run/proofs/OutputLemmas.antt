@@ -130,3 +130,21 @@ writes_flushed contents w0 w1 w2 (Err x) text wrote kept ok err =
 pub works_if_ok : {W T E : Type 0} (contents : W → Option (List ℕ)) (w0 w1 : Watched W) (r : Result T E) (text : List ℕ) → Writes contents w0 w1 r text → OnOk r (has_failed w1 ≡ false)
 works_if_ok contents w0 w1 (Ok x) text (wrote, works) = works
 works_if_ok contents w0 w1 (Err x) text (wrote, failed) = tt
+
+-- ---- three texts, one behind another
+module _ (a b c : Option (List ℕ)) (held mid s t u : List ℕ) where
+  pub first_fails : AppendsPart a b (held ++ s) → AppendsPart a b (held ++ (s ++ (t ++ u)))
+  first_fails x = subst (λ (ys : List ℕ). AppendsPart a b ys) (append_assoc held s (t ++ u))
+      (part_longer a b (held ++ s) (t ++ u) x)
+
+  pub second_fails : Passes a b held mid s → AppendsPart b c (mid ++ t) → AppendsPart a c (held ++ (s ++ (t ++ u)))
+  second_fails x y = passes_part a b c held mid s (t ++ u) x
+      (subst (λ (ys : List ℕ). AppendsPart b c ys) (append_assoc mid t u) (part_longer b c (mid ++ t) u y))
+
+pub third_behind : {W T E : Type 0} (contents : W → Option (List ℕ)) (w0 w1 w2 w3 : Watched W) (r : Result T E)
+    (held mid then kept s t u : List ℕ)
+    → Passes (contents (inner_of w0)) (contents (inner_of w1)) held mid s
+    → Passes (contents (inner_of w1)) (contents (inner_of w2)) mid then t
+    → Puts contents w2 w3 then kept r u → Puts contents w0 w3 held kept r (s ++ (t ++ u))
+third_behind contents w0 w1 w2 w3 r held mid then kept s t u x y z =
+    puts_behind contents w0 w1 w3 r held mid kept s (t ++ u) x (puts_behind contents w1 w2 w3 r mid then kept t u y z)

@@ -1,12 +1,13 @@
 -- Which reply a command may get, and what it makes of the stage.
-use Rattle.std.specs.Prelude.{◌≡◌, ◌⊎◌, ◌↔◌, ℕ, ◌<◌, ◌+◌, ◌*◌, ℤ, List, Some, length, slice_get, All, AllPairs, Contains, ⊤}
+use Rattle.std.specs.Prelude.{◌≡◌, ◌≢◌, ◌⊎◌, ◌↔◌, ℕ, ◌<◌, ◌+◌, ◌*◌, ℤ, List, [], ◌∷◌, Some, length, slice_get, All, AllPairs, Contains, ⊤}
 use Rattle.plane.specs.Fraction.{Point, whole}
-use Rattle.plane.specs.Pairs.{SamePairs, EachPairOnce}
-use Rattle.plane.specs.Plain.{Replaces, Appends, Removes, DifferInPosition}
+use Rattle.plane.specs.Line.{Item, IsLineList}
+use Rattle.plane.specs.Pairs.{Joins, SamePairs, EachPairOnce}
+use Rattle.plane.specs.Plain.{Replaces, Appends, Removes, Adds, CanAdd, Releases, AreNeighboursOn, DifferInPosition, points_of}
 use Rattle.plane.specs.Tests.{InRange}
 use Rattle.plane.specs.Circle.{gap}
 use Rattle.plane.specs.Shape.{IsNearest}
-use Rattle.plane.specs.Tiling.{Triangulation, IsFace, IsVertex, vertex}
+use Rattle.plane.specs.Tiling.{Triangulation, IsEdge, IsFace, IsVertex, vertex}
 use Rattle.plane.specs.Location.{IsLocation, on_vertex, on_edge, on_face, outside_hull, no_triangulation}
 use Rattle.delaunay_core.specs.declared.point.Point2.{Point2}
 use Rattle.delaunay_core.specs.declared.math.InsertionError.TheVariants.{TooLarge, OutOfMemory, OutOfIndexes}
@@ -19,6 +20,7 @@ use Rattle.triangulate_run.specs.declared.reply.Reply.{Reply}
 use Rattle.triangulate_run.specs.declared.reply.Reply.TheVariants as reply
 use Rattle.triangulate_run.specs.Points.{IsListed, IsListedSite}
 use Rattle.triangulate_run.specs.Corners.{IsBefore}
+use Rattle.triangulate_run.specs.Reply.{reply_text, path_text, line_text}
 use Rattle.triangulate_run.specs.Stage.{Stage, position}
 
 abbrev pub point_at : Coordinates → Point2 ℤ
@@ -134,14 +136,76 @@ MayList t (reply.Faces list) = ListsFaces t list.items
 MayList t (reply.Refused OutOfMemory) = ⊤
 MayList t _ = ⊥
 
--- the command may get the reply where old stood, and leave new. What is not there yet is no command
+-- both are vertices
+abbrev pub AreVertices : Stage → ℕ → ℕ → Type 0
+AreVertices s i j = HasVertex s i × HasVertex s j
+
+-- nothing is to be joined: the two are one, or a constraint is in the way
+abbrev pub HasNoPath : Stage → ℕ → ℕ → Type 0
+HasNoPath s i j = (i ≡ j) ⊎ (¬ CanAdd position s.plain i j)
+
+-- why two vertices are not joined. Where there is nothing to join, memory may be refused for the first constraint alone
+abbrev pub MayRefuse : Stage → ℕ → ℕ → Reply → Stage → Type 0
+MayRefuse old i j reply.NoVertex new = (¬ AreVertices old i j) × (new ≡ old)
+MayRefuse old i j reply.NoPath new = AreVertices old i j × HasNoPath old i j × (new ≡ old)
+MayRefuse old i j (reply.Refused OutOfMemory) new =
+    AreVertices old i j × ((old.plain.constraints ≡ []) ⊎ (¬ HasNoPath old i j)) × (new ≡ old)
+MayRefuse old i j _ new = ⊥
+
+-- from i to j by these pairs, each of two vertices next to one another on what is left of the segment
+abbrev pub LeadsTo : List Point → ℕ → ℕ → List (ℕ × ℕ) → Type 0
+LeadsTo points i j [] = i ≡ j
+LeadsTo points i j (p ∷ path) = (p.0 ≡ i) × AreNeighboursOn position points i j i p.1 × LeadsTo points p.1 j path
+
+-- the vertices on the segment of i and j are joined, each to the next, and these pairs lead from i to j
+pub record AddsPath (old : Stage) (i j : ℕ) (path : List (ℕ × ℕ)) (new : Stage) : Type 0 where
+  pub apart : i ≢ j
+  pub adds : Adds position old.plain new.plain i j
+  pub leads : LeadsTo (points_of position old.plain) i j path
+
+abbrev pub MayJoin : Stage → ℕ → ℕ → List ℕ → Stage → Type 0
+MayJoin old i j text new =
+    ((path : List (ℕ × ℕ)) × AddsPath old i j path new × (text ≡ path_text path))
+    ⊎ ((reply : Reply) × MayRefuse old i j reply new × (text ≡ reply_text reply))
+
+abbrev pub MayRelease : Stage → ℕ → ℕ → Reply → Stage → Type 0
+MayRelease old i j reply.NoVertex new = (¬ AreVertices old i j) × (new ≡ old)
+MayRelease old i j reply.NoEdge new = AreVertices old i j × (¬ IsEdge old.triangulation i j) × (new ≡ old)
+MayRelease old i j reply.NotConstrained new = IsEdge old.triangulation i j × (¬ Joins old.plain.constraints i j)
+    × (new ≡ old)
+MayRelease old i j reply.Released new = Releases position old.plain new.plain i j
+MayRelease old i j (reply.Refused OutOfMemory) new = Joins old.plain.constraints i j × (new ≡ old)
+MayRelease old i j _ new = ⊥
+
+-- what the way from p to q meets, if both are in the list
+abbrev pub MayWalk : List SheetPoint → Triangulation → Point → Point → List ℕ → Type 0
+MayWalk points t p q text =
+    ((items : List Item) × IsListed points p × IsListed points q × IsLineList t (whole p) (whole q) items
+    × (text ≡ line_text items))
+    ⊎ ((¬ (IsListed points p × IsListed points q)) × (text ≡ reply_text reply.UnknownPoint))
+
+-- the command may get the reply where old stood, and leave new. The others don't get their answers so
 abbrev pub MayReply : List SheetPoint → Stage → Command → Reply → Stage → Type 0
 MayReply points old (Insert c) r new = MayInsert points old (point_at c) r new
+MayReply points old (Remove i) r new = MayRemove old i r new
+MayReply points old (Release i j) r new = MayRelease old i j r new
 MayReply points old (Locate c) r new = MayLocate points old.triangulation (position (point_at c)) r × (new ≡ old)
+MayReply points old (Nearest c) r new = MayMeasure points old.triangulation (position (point_at c)) r × (new ≡ old)
 MayReply points old Counts r new = MayCount old r × (new ≡ old)
 MayReply points old Faces r new = MayList old.triangulation r × (new ≡ old)
-MayReply points old (Remove i) r new = MayRemove old i r new
-MayReply points old (Constrain i j) r new = (r ≡ reply.BadLine) × (new ≡ old)
-MayReply points old (Release i j) r new = (r ≡ reply.BadLine) × (new ≡ old)
-MayReply points old (Nearest c) r new = MayMeasure points old.triangulation (position (point_at c)) r × (new ≡ old)
-MayReply points old (Line c d) r new = (r ≡ reply.BadLine) × (new ≡ old)
+MayReply points old (Constrain i j) r new = ⊥
+MayReply points old (Line c d) r new = ⊥
+
+-- the command is one of those
+abbrev pub IsReplied : Command → Type 0
+IsReplied (Constrain i j) = ⊥
+IsReplied (Line c d) = ⊥
+IsReplied command = ⊤
+
+-- the command may get the text where old stood, and leave new
+abbrev pub MayAnswer : List SheetPoint → Stage → Command → List ℕ → Stage → Type 0
+MayAnswer points old (Constrain i j) text new = MayJoin old i j text new
+MayAnswer points old (Line c d) text new =
+    MayWalk points old.triangulation (position (point_at c)) (position (point_at d)) text × (new ≡ old)
+MayAnswer points old command text new =
+    (reply : Reply) × MayReply points old command reply new × (text ≡ reply_text reply)

@@ -1,17 +1,37 @@
 -- The stage of a triangulation of points, and what it needs to answer commands.
-use Rattle.std.specs.Prelude.{◌≡◌, ℤ, true, List, All, map}
+use Rattle.std.specs.Prelude.{◌≡◌, ℕ, ℤ, true, List, All, map}
 use Rattle.plane.specs.Fraction.{Point}
+use Rattle.half_edge_mesh.specs.Mesh.{Mesh, origin, rev}
 use Rattle.delaunay_core.specs.declared.point.Point2.{Point2}
+use Rattle.delaunay_legalization.specs.Constraints.{points_and_constraints_by}
+use Rattle.delaunay_legalization.specs.State.{State, triangulation_of}
+use Rattle.delaunay_edit.specs.Constrained.{none, constraint_edges}
+use Rattle.triangulate_run.specs.declared.engine.Either.{Either}
+use Rattle.triangulate_run.specs.declared.engine.Either.TheVariants.{Plain, Constrained}
 use Rattle.triangulate_run.specs.declared.points.SheetPoint.{SheetPoint}
 use Rattle.triangulate_run.specs.Points.{place}
-use Rattle.delaunay_legalization.specs.State.{State, points_and_constraints, triangulation_of}
 use Rattle.triangulate_run.specs.Stage.{Stage, position}
 
-abbrev pub stage_of : {D U F : Type 0} → State (Point2 ℤ) D U F → Stage
-stage_of s = record { plain = points_and_constraints s; triangulation = triangulation_of position s }
+abbrev pub stage_by : {D U F : Type 0} → (List U → List ℕ) → State (Point2 ℤ) D U F → Stage
+stage_by constraints s = record {
+  plain = points_and_constraints_by constraints s;
+  triangulation = triangulation_of position s;
+}
+
+abbrev pub stage_of : {L : Type 0} → Either L → Stage
+stage_of (Plain s) = stage_by none s
+stage_of (Constrained s) = stage_by constraint_edges s
+
+-- each vertex is a site
+abbrev pub HasSites : (Point → Type 0) → Stage → Type 0
+HasSites sites s = All sites (map position s.plain.vertices)
 
 -- the list's points are covered, its sites are sites, and each vertex is a site
-pub record IsReady (covered sites : Point → Type 0) (points : List SheetPoint) (vertices : List (Point2 ℤ)) : Type 0 where
+pub record IsReady (covered sites : Point → Type 0) (points : List SheetPoint) (s : Stage) : Type 0 where
   pub points_covered : All (λ s. covered (place s)) points
   pub points_sites : All (λ s. s.site ≡ true → sites (place s)) points
-  pub vertices_sites : All sites (map position vertices)
+  pub vertices_sites : HasSites sites s
+
+-- the ends of directed edges, in their directions
+abbrev pub ends_in : Mesh → List ℕ → List (ℕ × ℕ)
+ends_in m edges = map (λ h. (origin m h, origin m (rev h))) edges

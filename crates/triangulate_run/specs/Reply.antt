@@ -1,7 +1,8 @@
 -- The texts of replies.
-use Rattle.std.specs.Prelude.{ℕ, List, ◌++◌, codes, decimal}
+use Rattle.std.specs.Prelude.{ℕ, List, [], ◌∷◌, ◌++◌, codes, decimal}
 use Rattle.std.specs.Fmt.{signed_decimal}
 use Rattle.std.specs.List.{flat_map}
+use Rattle.plane.specs.Line.{Item, at_vertex, across, along}
 use Rattle.delaunay_core.specs.declared.math.InsertionError.{InsertionError}
 use Rattle.delaunay_core.specs.declared.math.InsertionError.TheVariants.{TooLarge, OutOfMemory, OutOfIndexes}
 use Rattle.triangulate_run.specs.declared.corners.Corners.{Corners}
@@ -29,5 +30,33 @@ reply_text (reply.Distance d) = codes "distance " ++ signed_decimal d ++ codes "
 reply_text reply.NoNeighbor = codes "none\n"
 reply_text (reply.Removed x y) = codes "removed " ++ signed_decimal x ++ codes " " ++ signed_decimal y ++ codes "\n"
 reply_text reply.NoVertex = codes "no vertex\n"
+reply_text reply.Released = codes "released\n"
+reply_text reply.NotConstrained = codes "not constrained\n"
+reply_text reply.NoEdge = codes "no edge\n"
+reply_text reply.NoPath = codes "none\n"
 reply_text (reply.Counts v e f c) = decimal v ++ codes " " ++ decimal e ++ codes " " ++ decimal f ++ codes " " ++ decimal c ++ codes "\n"
 reply_text (reply.Faces faces) = flat_map corners_text faces.items ++ codes "end\n"
+
+-- the edges of a path, by the ends of each
+abbrev pub piece_text : ℕ × ℕ → List ℕ
+piece_text p = codes " " ++ decimal p.0 ++ codes "-" ++ decimal p.1
+
+abbrev pub path_text : List (ℕ × ℕ) → List ℕ
+path_text path = codes "edges" ++ flat_map piece_text path ++ codes "\n"
+
+-- an edge that a line meets, in its direction
+abbrev pub edge_text : List ℕ → ℕ → ℕ → List ℕ
+edge_text name i j = name ++ decimal i ++ codes ">" ++ decimal j
+
+-- what a line meets
+abbrev pub item_text : Item → List ℕ
+item_text (at_vertex i) = codes "v " ++ decimal i
+item_text (across i j) = edge_text (codes "e ") i j
+item_text (along i j) = edge_text (codes "o ") i j
+
+abbrev pub next_text : Item → List ℕ
+next_text m = codes " " ++ item_text m
+
+abbrev pub line_text : List Item → List ℕ
+line_text [] = codes "nothing\n"
+line_text (m ∷ items) = item_text m ++ flat_map next_text items ++ codes "\n"

@@ -7,12 +7,10 @@ use Rattle.watched.specs.Watched.{inner_of, has_failed}
 use Rattle.command_grammar.specs.Grammar.{Spells, SpellsNone}
 use Rattle.command_grammar.specs.declared.command.Command.{Command}
 use Rattle.triangulate_run.specs.declared.points.SheetPoint.{SheetPoint}
-use Rattle.triangulate_run.specs.declared.reply.Reply.{Reply}
 use Rattle.triangulate_run.specs.declared.fault.RunError.{RunError}
 use Rattle.triangulate_run.specs.declared.fault.RunError.TheVariants.{Read, Write}
 use Rattle.triangulate_run.specs.Stage.{Stage, first_stage, Fits}
-use Rattle.triangulate_run.specs.Answer.{MayReply}
-use Rattle.triangulate_run.specs.Reply.{reply_text}
+use Rattle.triangulate_run.specs.Answer.{MayAnswer}
 use Rattle.triangulate_run.specs.Output.{AppendsPart}
 
 abbrev pub bad_line : List ℕ
@@ -40,7 +38,7 @@ module _ (points : List SheetPoint) where
   -- the line, which spells a command or none, may be answered so
   abbrev pub Answers : Stage → List ℕ → List ℕ → Stage → Type 0
   Answers old line text new =
-      ((command : Command) × (reply : Reply) × Spells line command × MayReply points old command reply new × (text ≡ reply_text reply))
+      ((command : Command) × Spells line command × MayAnswer points old command text new)
       ⊎ (SpellsNone line × (text ≡ bad_line) × (new ≡ old))
 
   -- the lines may be answered so, one after another

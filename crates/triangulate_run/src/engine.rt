@@ -1,34 +1,47 @@
 //! The answers of a triangulation to commands.
-ghost use Rattle.std.specs.Prelude.{◌≡◌, ◌<◌, nat_lt, if◌then◌else◌, true, All, IfOk};
-ghost use Rattle.plane.specs.Fraction.{Point, whole};
-ghost use Rattle.plane.specs.Location.{IsLocation};
-ghost use Rattle.plane.specs.Tiling.{IsTiling};
-ghost use Rattle.delaunay_edit.specs.Location.{location_of};
-ghost use Rattle.delaunay_edit.specs.Elements.{HasElement};
-ghost use Rattle.triangulate_run.specs.MeshFaces.{row_at};
-ghost use Rattle.triangulate_run.specs.declared.reply.Reply.TheVariants.{Edge};
-ghost use Rattle.delaunay_legalization.specs.State.{triangulation_of};
+ghost use Rattle.std.specs.Prelude.{◌≡◌, ℕ, true, false, All, List, [], MatchOption};
+ghost use Rattle.watched.specs.Watched.{has_failed};
 ghost use Rattle.triangulate_run.specs.Stage.{position, first_stage, Fits};
 ghost use Rattle.triangulate_run.specs.Points.{place};
+ghost use Rattle.triangulate_run.specs.Output.{Writes};
 ghost use Rattle.triangulate_run.specs.Engine.{stage_of, IsReady};
-ghost use Rattle.triangulate_run.specs.Answer.{ListsFaces, IsThere, MayInsert, MayRemove, MayLocate, MayMeasure, MayCount, MayList, point_at};
+ghost use Rattle.triangulate_run.specs.Answer.{AreVertices, IsReplied, MayCount, MayInsert, MayJoin, MayList, MayLocate, MayMeasure, MayRelease, MayRemove, MayReply, MayWalk, point_at};
 
-use crate::corners::{Corners, from_least, sort_faces};
-use crate::points::{SheetPoint, index_of, site_index_of};
-use crate::reply::Reply;
+use crate::constraints::{constrain, release, release_free};
+use crate::line::write_line;
+use crate::nearest::{nearest_of_all, nearest_of_plain};
+use crate::points::SheetPoint;
+use crate::reply::{Reply, write_reply};
 use crate::session::Engine;
+use crate::shared::{counts_of, faces, insert, locate, remove, vertices_at};
 use command_grammar::command::{Command, Coordinates};
-use spade_delaunay::handles::{FaceHandle, FixedVertexHandle};
+use spade_delaunay::handles::FixedVertexHandle;
 use spade_delaunay::{
-    DelaunayTriangulation, HintGenerator, InsertionError, PlaneTests, Point2,
-    PositionInTriangulation, Triangulation, validate_vertex,
+    ConstrainedDelaunayTriangulation, DelaunayTriangulation, HintGenerator, InsertionError,
+    PlaneTests, Point2, Triangulation,
 };
-use std::alloc::{AllocError, Global};
+use std::alloc::Global;
+use std::io::Write;
+use std::mem::replace;
+use watched::{Failed, Watched};
+
+/// Vertices that are points and carry no further data.
+pub(crate) type Plain<L> = DelaunayTriangulation<Point2<i64>, (), (), (), L>;
+
+/// The same with constraints.
+pub(crate) type Constrained<L> = ConstrainedDelaunayTriangulation<Point2<i64>, (), (), (), L>;
+
+/// A plain triangulation up to the first constraint, and then one with constraints.
+#[derive(Drop)]
+pub(crate) enum Either<L: HintGenerator<i64>> {
+    Plain(Plain<L>),
+    Constrained(Constrained<L>),
+}
 
 /// A triangulation that answers commands, with the tests and the points that it may be asked about.
 #[derive(Drop)]
 pub(crate) struct PointEngine<'a, P, L: HintGenerator<i64>> {
-    pub(crate) triangulation: PlainTriangulation<L>,
+    pub(crate) triangulation: Either<L>,
     pub(crate) tests: &'a P,
     pub(crate) points: &'a [SheetPoint],
     pub(crate) alloc: Global,
@@ -39,22 +52,24 @@ impl<P: PlaneTests<i64>, L: HintGenerator<i64>> Engine for PointEngine<'_, P, L>
 
     ghost stage = { λ e. stage_of e.triangulation };
 
-    ghost is_ready = { λ e. IsReady (P.covered e.tests.now) (P.sites e.tests.now) e.points.now e.triangulation.vertices };
+    ghost is_ready = { λ e. IsReady (P.covered e.tests.now) (P.sites e.tests.now) e.points.now
+        (stage_of e.triangulation) };
 
-    fn reply_to(&mut self, command: Command) -> Reply {
-        let reply = match command {
-            Command::Insert(place) => self.insert(point_of(place)),
-            Command::Locate(place) => self.locate(point_of(place)),
-            Command::Counts => counts_of(&self.triangulation),
-            Command::Faces => self.faces(),
-            Command::Remove(index) => self.remove(index),
-            Command::Nearest(place) => self.nearest(point_of(place)),
-            Command::Constrain(_, _) | Command::Release(_, _) | Command::Line(_, _) => {
-                Reply::BadLine
+    fn answer<W: Write>(
+        &mut self,
+        command: Command,
+        writer: &mut Watched<W>,
+    ) -> Result<(), Failed> {
+        let answered = match command {
+            Command::Constrain(from, to) => self.constrain(from, to, writer),
+            Command::Line(from, to) => self.line(point_of(from), point_of(to), writer),
+            _ => {
+                let reply = self.reply_to(command);
+                write_reply(writer, &reply)
             }
         };
-        self.triangulation.recall_invariant();
-        reply
+        self.recall_invariant();
+        answered
     }
 }
 
@@ -63,89 +78,241 @@ impl<'a, P: PlaneTests<i64>, L: HintGenerator<i64>> PointEngine<'a, P, L> {
     pub(crate) fn new(alloc: Global, tests: &'a P, points: &'a [SheetPoint]) -> Self
         requires covered { All (λ s. P.covered tests.now (place s)) points.now }
         requires sites { All (λ s. s.site ≡ true → P.sites tests.now (place s)) points.now }
-        ensures ready { IsReady (P.covered result.tests.now) (P.sites result.tests.now) result.points.now result.triangulation.vertices }
+        ensures ready { IsReady (P.covered result.tests.now) (P.sites result.tests.now)
+            result.points.now (stage_of result.triangulation) }
         ensures points { result.points.now ≡ points.now }
         ensures stage { stage_of result.triangulation ≡ first_stage }
         ensures fits { Fits (stage_of result.triangulation) }
     {
-        let triangulation = PlainTriangulation::new(alloc);
+        let triangulation = Plain::new(alloc);
         triangulation.recall_invariant();
         PointEngine {
-            triangulation,
+            triangulation: Either::Plain(triangulation),
             tests,
             points,
             alloc,
         }
     }
 
-    fn insert(&mut self, point: Point2<i64>) -> Reply
-        requires ready { IsReady (P.covered self.old.tests.now) (P.sites self.old.tests.now) self.old.points.now self.old.triangulation.vertices }
-        ensures ready { IsReady (P.covered self.new.tests.now) (P.sites self.new.tests.now) self.new.points.now self.new.triangulation.vertices }
-        ensures points { self.new.points ≡ self.old.points }
-        ensures reply { MayInsert self.old.points.now (stage_of self.old.triangulation) point result (stage_of self.new.triangulation) }
+    /// What holds of each triangulation between commands.
+    fn recall_invariant(&self)
+        ensures { Fits (stage_of self.now.triangulation) }
     {
-        if let Err(error) = validate_vertex(&point) {
-            return Reply::Refused(error);
+        match &self.triangulation {
+            Either::Plain(plain) => plain.recall_invariant(),
+            Either::Constrained(constrained) => constrained.recall_invariant(),
         }
-        if site_index_of(self.points, point).is_none() {
-            return Reply::UnknownPoint;
+    }
+
+    /// Does what a command asks for whose reply is one line or the list of faces.
+    fn reply_to(&mut self, command: Command) -> Reply
+        requires ready { IsReady (P.covered self.old.tests.now) (P.sites self.old.tests.now)
+            self.old.points.now (stage_of self.old.triangulation) }
+        requires other { IsReplied command }
+        ensures ready { IsReady (P.covered self.new.tests.now) (P.sites self.new.tests.now)
+            self.new.points.now (stage_of self.new.triangulation) }
+        ensures points { self.new.points ≡ self.old.points }
+        ensures reply { MayReply self.old.points.now (stage_of self.old.triangulation) command
+            result (stage_of self.new.triangulation) }
+    {
+        match command {
+            Command::Insert(place) => self.insert(point_of(place)),
+            Command::Remove(index) => self.remove(index),
+            Command::Release(from, to) => self.release(from, to),
+            Command::Locate(place) => self.locate(point_of(place)),
+            Command::Nearest(place) => self.nearest(point_of(place)),
+            Command::Counts => self.counts(),
+            Command::Faces => self.faces(),
+            Command::Constrain(_, _) | Command::Line(_, _) => Reply::BadLine,
         }
-        match self.triangulation.insert(point, self.tests) {
-            Ok(vertex) => Reply::Vertex(u64::from(vertex.index())),
-            Err(error) => Reply::Refused(error),
+    }
+
+    fn insert(&mut self, point: Point2<i64>) -> Reply
+        requires ready { IsReady (P.covered self.old.tests.now) (P.sites self.old.tests.now)
+            self.old.points.now (stage_of self.old.triangulation) }
+        ensures ready { IsReady (P.covered self.new.tests.now) (P.sites self.new.tests.now)
+            self.new.points.now (stage_of self.new.triangulation) }
+        ensures points { self.new.points ≡ self.old.points }
+        ensures reply { MayInsert self.old.points.now (stage_of self.old.triangulation) point result
+            (stage_of self.new.triangulation) }
+    {
+        match &mut self.triangulation {
+            Either::Plain(plain) => insert(plain, self.tests, self.points, point),
+            Either::Constrained(constrained) => {
+                insert(constrained, self.tests, self.points, point)
+            }
         }
     }
 
     fn remove(&mut self, index: u64) -> Reply
-        requires ready { IsReady (P.covered self.old.tests.now) (P.sites self.old.tests.now) self.old.points.now self.old.triangulation.vertices }
-        ensures ready { IsReady (P.covered self.new.tests.now) (P.sites self.new.tests.now) self.new.points.now self.new.triangulation.vertices }
+        requires ready { IsReady (P.covered self.old.tests.now) (P.sites self.old.tests.now)
+            self.old.points.now (stage_of self.old.triangulation) }
+        ensures ready { IsReady (P.covered self.new.tests.now) (P.sites self.new.tests.now)
+            self.new.points.now (stage_of self.new.triangulation) }
         ensures points { self.new.points ≡ self.old.points }
-        ensures reply { MayRemove (stage_of self.old.triangulation) index result (stage_of self.new.triangulation) }
+        ensures reply { MayRemove (stage_of self.old.triangulation) index result
+            (stage_of self.new.triangulation) }
     {
-        self.triangulation.recall_invariant();
-        if index >= self.triangulation.num_vertices() as u64 {
-            return Reply::NoVertex;
-        }
-        let vertex = FixedVertexHandle::from_index(index as u32);
-        match self.triangulation.remove(vertex, self.tests) {
-            Ok(point) => Reply::Removed(point.x, point.y),
-            Err(_) => Reply::Refused(InsertionError::OutOfMemory),
+        match &mut self.triangulation {
+            Either::Plain(plain) => remove(plain, self.tests, index),
+            Either::Constrained(constrained) => remove(constrained, self.tests, index),
         }
     }
 
     fn locate(&self, point: Point2<i64>) -> Reply
-        requires ready { IsReady (P.covered self.now.tests.now) (P.sites self.now.tests.now) self.now.points.now self.now.triangulation.vertices }
-        ensures reply { MayLocate self.now.points.now (triangulation_of position self.now.triangulation) (position point) result }
+        requires ready { IsReady (P.covered self.now.tests.now) (P.sites self.now.tests.now)
+            self.now.points.now (stage_of self.now.triangulation) }
+        ensures { MayLocate self.now.points.now (stage_of self.now.triangulation).triangulation
+            (position point) result }
     {
-        if index_of(self.points, point).is_none() {
-            return Reply::UnknownPoint;
+        match &self.triangulation {
+            Either::Plain(plain) => locate(plain, self.tests, self.points, point),
+            Either::Constrained(constrained) => {
+                locate(constrained, self.tests, self.points, point)
+            }
         }
-        let answer = self.triangulation.locate(point, self.tests);
-        self.triangulation.recall_invariant();
-        location_reply(&self.triangulation, answer)
     }
 
     fn nearest(&self, point: Point2<i64>) -> Reply
-        requires ready { IsReady (P.covered self.now.tests.now) (P.sites self.now.tests.now) self.now.points.now self.now.triangulation.vertices }
-        ensures reply { MayMeasure self.now.points.now (triangulation_of position self.now.triangulation) (position point) result }
+        requires ready { IsReady (P.covered self.now.tests.now) (P.sites self.now.tests.now)
+            self.now.points.now (stage_of self.now.triangulation) }
+        ensures { MayMeasure self.now.points.now (stage_of self.now.triangulation).triangulation
+            (position point) result }
     {
-        if index_of(self.points, point).is_none() {
-            return Reply::UnknownPoint;
+        match &self.triangulation {
+            Either::Plain(plain) => nearest_of_plain(plain, self.tests, self.points, point),
+            Either::Constrained(constrained) => {
+                nearest_of_all(constrained, self.tests, self.points, point)
+            }
         }
-        self.triangulation.recall_invariant();
-        match self.triangulation.nearest_neighbor(point, self.tests) {
-            Some(vertex) => Reply::Distance(point.distance_2(*vertex.data())),
-            None => Reply::NoNeighbor,
+    }
+
+    fn counts(&self) -> Reply
+        ensures reply { MayCount (stage_of self.now.triangulation) result }
+    {
+        match &self.triangulation {
+            Either::Plain(plain) => counts_of(plain, 0),
+            Either::Constrained(constrained) => {
+                constrained.recall_invariant();
+                counts_of(constrained, constrained.num_constraints() as u64)
+            }
         }
     }
 
     fn faces(&self) -> Reply
-        ensures reply { MayList (triangulation_of position self.now.triangulation) result }
+        ensures reply { MayList (stage_of self.now.triangulation).triangulation result }
     {
-        match faces_of(&self.triangulation, self.alloc) {
-            Ok(faces) => Reply::Faces(faces),
-            Err(_) => Reply::Refused(InsertionError::OutOfMemory),
+        match &self.triangulation {
+            Either::Plain(plain) => faces(plain, self.alloc),
+            Either::Constrained(constrained) => faces(constrained, self.alloc),
         }
+    }
+
+    fn release(&mut self, from: u64, to: u64) -> Reply
+        requires ready { IsReady (P.covered self.old.tests.now) (P.sites self.old.tests.now)
+            self.old.points.now (stage_of self.old.triangulation) }
+        ensures ready { IsReady (P.covered self.new.tests.now) (P.sites self.new.tests.now)
+            self.new.points.now (stage_of self.new.triangulation) }
+        ensures points { self.new.points ≡ self.old.points }
+        ensures reply { MayRelease (stage_of self.old.triangulation) from to result
+            (stage_of self.new.triangulation) }
+    {
+        let Some((from, to)) = self.vertices_at(from, to) else {
+            return Reply::NoVertex;
+        };
+        match &mut self.triangulation {
+            Either::Plain(plain) => release_free(plain, from, to),
+            Either::Constrained(constrained) => release(constrained, self.tests, from, to),
+        }
+    }
+
+    fn constrain<W: Write>(
+        &mut self,
+        from: u64,
+        to: u64,
+        writer: &mut Watched<W>,
+    ) -> Result<(), Failed>
+        requires ready { IsReady (P.covered self.old.tests.now) (P.sites self.old.tests.now)
+            self.old.points.now (stage_of self.old.triangulation) }
+        requires works { has_failed writer.old ≡ false }
+        ensures ready { IsReady (P.covered self.new.tests.now) (P.sites self.new.tests.now)
+            self.new.points.now (stage_of self.new.triangulation) }
+        ensures points { self.new.points ≡ self.old.points }
+        ensures answered { (text : List ℕ)
+            × MayJoin (stage_of self.old.triangulation) from to text
+            (stage_of self.new.triangulation)
+            × Writes W.contents writer.old writer.new result text }
+    {
+        let Some((from, to)) = self.vertices_at(from, to) else {
+            return write_reply(writer, &Reply::NoVertex);
+        };
+        self.take_constraints();
+        match &mut self.triangulation {
+            Either::Plain(_) => {
+                write_reply(writer, &Reply::Refused(InsertionError::OutOfMemory))
+            }
+            Either::Constrained(constrained) => {
+                constrain(constrained, self.tests, from, to, writer)
+            }
+        }
+    }
+
+    fn line<W: Write>(
+        &self,
+        from: Point2<i64>,
+        to: Point2<i64>,
+        writer: &mut Watched<W>,
+    ) -> Result<(), Failed>
+        requires ready { IsReady (P.covered self.now.tests.now) (P.sites self.now.tests.now)
+            self.now.points.now (stage_of self.now.triangulation) }
+        requires works { has_failed writer.old ≡ false }
+        ensures answered { (text : List ℕ)
+            × MayWalk self.now.points.now (stage_of self.now.triangulation).triangulation
+            (position from) (position to) text
+            × Writes W.contents writer.old writer.new result text }
+    {
+        match &self.triangulation {
+            Either::Plain(plain) => write_line(plain, self.tests, self.points, from, to, writer),
+            Either::Constrained(constrained) => {
+                write_line(constrained, self.tests, self.points, from, to, writer)
+            }
+        }
+    }
+
+    /// The vertices of two indexes, if both are there.
+    fn vertices_at(&self, from: u64, to: u64) -> Option<(FixedVertexHandle, FixedVertexHandle)>
+        ensures { MatchOption result (¬ AreVertices (stage_of self.now.triangulation) from to)
+            (λ p. (p.0 ≡ from) × (p.1 ≡ to)
+            × AreVertices (stage_of self.now.triangulation) from to) }
+    {
+        match &self.triangulation {
+            Either::Plain(plain) => vertices_at(plain, from, to),
+            Either::Constrained(constrained) => vertices_at(constrained, from, to),
+        }
+    }
+
+    /// Makes the triangulation one with constraints, where it is none and memory is not refused.
+    fn take_constraints(&mut self)
+        ensures rest { self.new.points ≡ self.old.points }
+        ensures tests { self.new.tests ≡ self.old.tests }
+        ensures stage { stage_of self.new.triangulation ≡ stage_of self.old.triangulation }
+    {
+        let empty = Either::Plain(Plain::new(self.alloc));
+        let former = replace(&mut self.triangulation, empty);
+        self.triangulation = with_constraints(former);
+    }
+}
+
+/// The same with constraints, where memory is not refused.
+fn with_constraints<L: HintGenerator<i64>>(triangulation: Either<L>) -> Either<L>
+    ensures { stage_of result ≡ stage_of triangulation }
+{
+    match triangulation {
+        Either::Plain(plain) => match Constrained::from_delaunay(plain) {
+            Ok(constrained) => Either::Constrained(constrained),
+            Err(plain) => Either::Plain(plain),
+        },
+        constrained => constrained,
     }
 }
 
@@ -154,85 +321,4 @@ fn point_of(place: Coordinates) -> Point2<i64>
     ensures { result ≡ point_at place }
 {
     Point2::new(place.x, place.y)
-}
-
-/// How many vertices, edges, inner faces and constraints there are.
-fn counts_of<L: HintGenerator<i64>>(triangulation: &PlainTriangulation<L>) -> Reply
-    ensures { MayCount (stage_of triangulation.now) result }
-{
-    triangulation.recall_invariant();
-    Reply::Counts(
-        triangulation.num_vertices() as u64,
-        triangulation.num_undirected_edges() as u64,
-        triangulation.num_inner_faces() as u64,
-        0,
-    )
-}
-
-/// Vertices that are points and carry no further data.
-type PlainTriangulation<L> = DelaunayTriangulation<Point2<i64>, (), (), (), L>;
-
-/// All faces, sorted.
-fn faces_of<L: HintGenerator<i64>>(
-    triangulation: &PlainTriangulation<L>,
-    alloc: Global,
-) -> Result<Vec<Corners>, AllocError>
-    ensures { IfOk result (λ list. ListsFaces (triangulation_of position triangulation.now) list.items) }
-{
-    triangulation.recall_invariant();
-    let mut faces = Vec::with_capacity(alloc, triangulation.num_inner_faces())?;
-    for face in triangulation.inner_faces() {
-        faces.push(corners_of(face))?;
-    }
-    sort_faces(&mut faces)?;
-    Ok(faces)
-}
-
-/// The corners of an inner face, the least index first.
-fn corners_of(face: FaceHandle<'_, Point2<i64>, (), (), ()>) -> Corners
-    requires { 0 < face.index }
-    ensures { result ≡ row_at face.entry.dcel.now.mesh face.entry.index }
-{
-    let [a, b, c] = face.vertices();
-    from_least(
-        u64::from(a.fix().index()),
-        u64::from(b.fix().index()),
-        u64::from(c.fix().index()),
-    )
-}
-
-/// The ends of an edge, the lesser index first.
-fn edge_reply(i: u64, j: u64) -> Reply
-    ensures { result ≡ (if nat_lt i j then Edge i j else Edge j i) }
-{
-    if i < j {
-        Reply::Edge(i, j)
-    } else {
-        Reply::Edge(j, i)
-    }
-}
-
-/// The reply to a query of a point that is there.
-fn location_reply<L: HintGenerator<i64>>(
-    triangulation: &PlainTriangulation<L>,
-    answer: PositionInTriangulation,
-) -> Reply
-    requires handle { HasElement triangulation.now answer }
-    requires tiling { IsTiling (triangulation_of position triangulation.now) }
-    ensures { (p : Point) → IsLocation (triangulation_of position triangulation.now) (whole p) (location_of triangulation.now.mesh answer)
-        → IsThere (triangulation_of position triangulation.now) p result }
-{
-    match answer {
-        PositionInTriangulation::OnVertex(vertex) => Reply::Vertex(u64::from(vertex.index())),
-        PositionInTriangulation::OnEdge(edge) => {
-            let edge = triangulation.directed_edge(edge);
-            edge_reply(
-                u64::from(edge.from().fix().index()),
-                u64::from(edge.to().fix().index()),
-            )
-        }
-        PositionInTriangulation::OnFace(face) => Reply::Face(corners_of(triangulation.face(face))),
-        PositionInTriangulation::OutsideOfConvexHull(_) => Reply::Outside,
-        PositionInTriangulation::NoTriangulation => Reply::NoTriangulation,
-    }
 }

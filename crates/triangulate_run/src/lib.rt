@@ -2,16 +2,20 @@
 #![tactic(auto)]
 
 mod circles;
+mod constraints;
 pub mod corners;
 mod engine;
 pub mod fault;
 mod input;
 pub mod law;
+mod line;
 mod line_buffer;
+mod nearest;
 mod output;
 mod piece;
 pub mod points;
 pub mod reply;
 pub mod session;
+mod shared;
 pub mod sheet;
 mod table;

@@ -40,6 +40,14 @@ pub enum Reply {
     Removed(i64, i64),
     /// No vertex has the index.
     NoVertex,
+    /// The constraint is an edge like any other now.
+    Released,
+    /// The edge is no constraint.
+    NotConstrained,
+    /// No edge joins the vertices.
+    NoEdge,
+    /// Nothing is joined: a constraint is in the way, or the two vertices are one.
+    NoPath,
     /// How many vertices, undirected edges, inner faces and constraints there are.
     Counts(u64, u64, u64, u64),
     /// All faces, sorted.
@@ -95,6 +103,10 @@ fn put_reply<W: Write>(
         Reply::NoNeighbor => put_pieces(writer, held, &[Piece::Text("none\n")]),
         Reply::Removed(x, y) => put_removed(writer, held, *x, *y),
         Reply::NoVertex => put_pieces(writer, held, &[Piece::Text("no vertex\n")]),
+        Reply::Released => put_pieces(writer, held, &[Piece::Text("released\n")]),
+        Reply::NotConstrained => put_pieces(writer, held, &[Piece::Text("not constrained\n")]),
+        Reply::NoEdge => put_pieces(writer, held, &[Piece::Text("no edge\n")]),
+        Reply::NoPath => put_pieces(writer, held, &[Piece::Text("none\n")]),
         Reply::Counts(vertices, edges, faces, constraints) => {
             put_counts(writer, held, *vertices, *edges, *faces, *constraints)
         }

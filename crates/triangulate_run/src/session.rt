@@ -6,7 +6,7 @@ ghost use Rattle.triangulate_run.specs.Line.{kept};
 ghost use Rattle.triangulate_run.specs.Points.{place};
 ghost use Rattle.triangulate_run.specs.Output.{Writes};
 ghost use Rattle.triangulate_run.specs.Stage.{Stage, first_stage, Fits};
-ghost use Rattle.triangulate_run.specs.Answer.{MayReply};
+ghost use Rattle.triangulate_run.specs.Answer.{MayAnswer};
 ghost use Rattle.triangulate_run.specs.Run.{Answers, Ran, end_text};
 ghost use Rattle.triangulate_run.specs.declared.points.SheetPoint.{SheetPoint};
 
@@ -16,7 +16,6 @@ use crate::input::next_byte;
 use crate::line_buffer::LineBuffer;
 use crate::output::write_all;
 use crate::points::SheetPoint;
-use crate::reply::{Reply, write_reply};
 use command_grammar::command::Command;
 use spade_delaunay::{HintGenerator, PlaneTests};
 use std::alloc::Global;
@@ -32,13 +31,16 @@ pub(crate) trait Engine {
     // what it needs to be able to answer
     ghost is_ready: { Self → Type 0 };
 
-    /// Does what the command asks for.
-    fn reply_to(&mut self, command: Command) -> Reply
+    /// Does what the command asks for, and writes what there is to tell.
+    fn answer<W: Write>(&mut self, command: Command, writer: &mut Watched<W>) -> Result<(), Failed>
         requires ready { is_ready self.old }
+        requires works { has_failed writer.old ≡ false }
         ensures ready { is_ready self.new }
         ensures listed { listed self.new ≡ listed self.old }
-        ensures reply { MayReply (listed self.old) (stage self.old) command result (stage self.new) }
-        ensures fits { Fits (stage self.new) };
+        ensures fits { Fits (stage self.new) }
+        ensures answered { (text : List ℕ)
+            × MayAnswer (listed self.old) (stage self.old) command text (stage self.new)
+            × Writes W.contents writer.old writer.new result text };
 }
 
 /// The command of a line.
@@ -69,8 +71,7 @@ fn answer_line<E: Engine, W: Write>(
     let Some(command) = command_of(line) else {
         return write_all(writer, b"bad line\n");
     };
-    let reply = engine.reply_to(command);
-    write_reply(writer, &reply)
+    engine.answer(command, writer)
 }
 
 /// Answers a line, and has the writer pass the answer on.

@@ -9,3 +9,6 @@ returns-in-NoTriangulation g c = rw c.in-NoTriangulation.is c.put_pieces-in-NoTr
 
 pub returns-in-Vertex : goal.returns-in-Vertex
 returns-in-Vertex g c = search rules
+
+pub returns-in-NotConstrained : goal.returns-in-NotConstrained
+returns-in-NotConstrained g c = rw c.in-NotConstrained.is c.put_pieces-in-NotConstrained.ensures

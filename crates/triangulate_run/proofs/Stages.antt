@@ -1,0 +1,68 @@
+-- The stages of the two types of triangulations.
+use Rattle.std.proofs.Common.{◌≡◌, List, map, refl, ap, subst}
+use Rattle.std.specs.Prelude.{ℕ, ℤ}
+use Rattle.plane.specs.Plain.{Unconstrains}
+use Rattle.plane.specs.Tiling.{Triangulation}
+use Rattle.mesh_embedding.specs.Drawn.{drawn}
+use Rattle.delaunay_core.specs.declared.point.Point2.{Point2}
+use Rattle.delaunay_legalization.specs.declared.cdt_edge.CdtEdge.{CdtEdge}
+use Rattle.delaunay_legalization.specs.State.{State, points_and_constraints}
+use Rattle.delaunay_edit.specs.Constrained.{none, constrained, constraint_edges}
+use Rattle.delaunay_edit.specs.Data.{HasOtherEdgeData}
+use Rattle.delaunay_edit.specs.Headline.{IsWellFormed}
+use Rattle.command_grammar.specs.declared.command.Command.{Command}
+use Rattle.command_grammar.specs.declared.command.Command.TheVariants.{Insert, Remove, Constrain, Release, Locate, Nearest, Line, Counts, Faces}
+use Rattle.triangulate_run.specs.declared.points.SheetPoint.{SheetPoint}
+use Rattle.triangulate_run.specs.declared.reply.Reply.{Reply}
+use Rattle.triangulate_run.specs.Answer.{MayAnswer, MayJoin, MayReply, MayWalk}
+use Rattle.triangulate_run.specs.Engine.{stage_by}
+use Rattle.triangulate_run.specs.Reply.{reply_text}
+use Rattle.triangulate_run.specs.Stage.{Fits, Stage, position}
+
+-- a triangulation that takes on constraints has none at first
+pub stage_taken : {D U F : Type 0} {R : U → CdtEdge U → Type 0} (old : State (Point2 ℤ) D U F)
+    (new : State (Point2 ℤ) D (CdtEdge U) F) → HasOtherEdgeData R old new
+    → Unconstrains position (points_and_constraints old) (constrained new)
+    → stage_by constraint_edges new ≡ stage_by none old
+stage_taken old new other plain = λ i. record {
+  plain = record { vertices = plain.vertices i; constraints = plain.constraints i };
+  triangulation = drawn (map position (plain.vertices i)) (ap (λ s. s.mesh) other.rest i);
+}
+
+-- the stage of a sound triangulation fits
+pub fits : {D U F : Type 0} (constraints : List U → List ℕ) (s : State (Point2 ℤ) D U F)
+    → IsWellFormed position constraints s → Fits (stage_by constraints s)
+fits constraints s formed = record {
+  is_plain = formed.plain;
+  points = refl;
+  delaunay = formed.headline.delaunay;
+  empty_triples = formed.headline.empty_triples;
+}
+
+-- the path is the same where the stage and the ends are
+pub joins_there : (old before : Stage) → old ≡ before → (i j k l : ℕ) → i ≡ k → j ≡ l → (text : List ℕ) (new : Stage)
+    → MayJoin old i j text new → MayJoin before k l text new
+joins_there old before e i j k l f h text new joins =
+    subst (λ (s : Stage). MayJoin s k l text new) e
+    (subst (λ (b : ℕ). MayJoin old k b text new) h (subst (λ (a : ℕ). MayJoin old a j text new) f joins))
+
+-- a command that gets a reply is answered by its text
+pub answered_so : (points : List SheetPoint) (old : Stage) (command : Command) (r : Reply) (new : Stage)
+    → MayReply points old command r new → MayAnswer points old command (reply_text r) new
+answered_so points old (Insert p) r new h = (r, h, refl)
+answered_so points old (Remove i) r new h = (r, h, refl)
+answered_so points old (Constrain i j) r new h = absurd h
+answered_so points old (Release i j) r new h = (r, h, refl)
+answered_so points old (Locate p) r new h = (r, h, refl)
+answered_so points old (Nearest p) r new h = (r, h, refl)
+answered_so points old (Line p q) r new h = absurd h
+answered_so points old Counts r new h = (r, h, refl)
+answered_so points old Faces r new h = (r, h, refl)
+
+-- what a line meets is the same where its ends are
+pub walks_there : (points : List SheetPoint) (t : Triangulation) (p q u v : Point2 ℤ) → p ≡ u → q ≡ v
+    → (text : List ℕ) → MayWalk points t (position p) (position q) text
+    → MayWalk points t (position u) (position v) text
+walks_there points t p q u v e f text walks =
+    subst (λ (z : Point2 ℤ). MayWalk points t (position u) (position z) text) f
+    (subst (λ (y : Point2 ℤ). MayWalk points t (position y) (position q) text) e walks)

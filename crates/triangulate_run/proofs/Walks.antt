@@ -1,0 +1,126 @@
+-- The items of a line, as they are put one after another.
+use Rattle.std.proofs.Common.{◌≡◌, ℕ, List, [], ◌∷◌, ◌++◌, Option, Some, None, refl, sym, ◌∙◌, ap, subst, append_assoc, append-nil}
+use Rattle.std.specs.Prelude.{ℤ, codes, Result}
+use Rattle.std.specs.List.{flat_map}
+use Rattle.std.proofs.lemmas.Grind.{flat_map-append}
+use Rattle.plane.specs.Fraction.{Point}
+use Rattle.plane.specs.Line.{Item}
+use Rattle.delaunay_lines.specs.declared.intersection.Intersection.{Intersection}
+use Rattle.delaunay_lines.specs.declared.iterator.LineIntersectionIterator.{LineIntersectionIterator}
+use Rattle.delaunay_lines.specs.Items.{item_in}
+use Rattle.delaunay_lines.specs.Walk.{AreLeft, GivesNext}
+use Rattle.watched.specs.declared.Watched.{Watched}
+use Rattle.watched.specs.Watched.{inner_of}
+use Rattle.triangulate_run.specs.Output.{AppendsPart, Passes, Puts}
+use Rattle.triangulate_run.specs.Reply.{item_text, line_text, next_text}
+use Rattle.triangulate_run.proofs.OutputLemmas.{passes_nil, passes_more, passes_part, part_longer, first_fails, second_fails, third_behind}
+
+-- of the items that were left, these were put, and those are left
+pub record PutsSome {V D U F P S : Type 0} (at : V → Point) (number : S → ℤ) (before now : Option (List ℕ))
+    (held kept : List ℕ) (it : LineIntersectionIterator V D U F P S) (items : List Item) : Type 0 where
+  pub done : List Item
+  pub rest : List Item
+  pub all : items ≡ done ++ rest
+  pub are_left : AreLeft at number it rest
+  pub passes : Passes before now held kept (flat_map next_text done)
+
+abbrev pub PutsEach : {V D U F P S : Type 0} → (V → Point) → (S → ℤ) → Option (List ℕ) → Option (List ℕ) → List ℕ
+    → List ℕ → LineIntersectionIterator V D U F P S → LineIntersectionIterator V D U F P S → Type 0
+PutsEach at number before now held kept old it = (items : List Item) → AreLeft at number old items
+    → PutsSome at number before now held kept it items
+
+module _ {V D U F P S : Type 0} (at : V → Point) (number : S → ℤ) (a b c : Option (List ℕ)) (held mid kept : List ℕ)
+    (old it after : LineIntersectionIterator V D U F P S) where
+  pub puts_begin : PutsEach at number a a held held old old
+  puts_begin = λ items left. record { done = []; rest = items; all = refl; are_left = left; passes = passes_nil a held }
+
+  text_more : (done : List Item) (m : Item)
+      → flat_map next_text (done ++ m ∷ []) ≡ flat_map next_text done ++ next_text m
+  text_more done m = flat_map-append next_text done (m ∷ [])
+      ∙ ap (λ ys. flat_map next_text done ++ ys) (append-nil (next_text m))
+
+  pub puts_one : PutsEach at number a b held mid old it → (x : Intersection V D U F)
+      → GivesNext at number it (Some x) after
+      → Passes b c mid kept (next_text (item_in x)) → PutsEach at number a c held kept old after
+  puts_one so_far x step put = λ items left.
+      let p = so_far items left in
+      let s = (step.gives p.rest p.are_left).1 in
+      record {
+        done = p.done ++ item_in x ∷ [];
+        rest = s.0;
+        all = p.all ∙ ap (λ ys. p.done ++ ys) s.1 ∙ sym (append_assoc p.done (item_in x ∷ []) s.0);
+        are_left = s.2;
+        passes = subst (λ (t : List ℕ). Passes a c held kept t) (sym (text_more p.done (item_in x)))
+            (passes_more a b c held mid kept (flat_map next_text p.done) (next_text (item_in x)) p.passes put);
+      }
+
+  pub puts_end : PutsEach at number a b held mid old it → GivesNext at number it None after → (items : List Item)
+      → AreLeft at number old items → Passes a b held mid (flat_map next_text items)
+  puts_end so_far step items left =
+      let p = so_far items left in
+      let none = (step.gives p.rest p.are_left).0 in
+      subst (λ (ys : List Item). Passes a b held mid (flat_map next_text ys))
+      (sym (p.all ∙ ap (λ ys. p.done ++ ys) none ∙ append-nil p.done)) p.passes
+
+  pub puts_part : PutsEach at number a b held mid old it → (x : Intersection V D U F)
+      → GivesNext at number it (Some x) after
+      → AppendsPart b c (mid ++ next_text (item_in x)) → (items : List Item) → AreLeft at number old items
+      → AppendsPart a c (held ++ flat_map next_text items)
+  puts_part so_far x step part items left =
+      let p = so_far items left in
+      let s = (step.gives p.rest p.are_left).1 in
+      let before = flat_map next_text p.done in
+      let here = next_text (item_in x) in
+      let behind = flat_map next_text s.0 in
+      let all : flat_map next_text items ≡ before ++ (here ++ behind) =
+      ap (flat_map next_text) (p.all ∙ ap (λ ys. p.done ++ ys) s.1)
+      ∙ flat_map-append next_text p.done (item_in x ∷ s.0) in
+      let whole : (held ++ (before ++ here)) ++ behind ≡ held ++ flat_map next_text items =
+      append_assoc held (before ++ here) behind ∙ ap (λ ys. held ++ ys) (append_assoc before here behind ∙ sym all) in
+      subst (λ (t : List ℕ). AppendsPart a c t) whole
+      (part_longer a c (held ++ (before ++ here)) behind (passes_part a b c held mid before here p.passes part))
+
+-- ---- a whole line
+module _ {V D U F P S : Type 0} (at : V → Point) (number : S → ℤ) (it after : LineIntersectionIterator V D U F P S)
+  where
+    -- what holds of the text of no items holds of what is left where there is none
+    pub line_none : (X : List ℕ → Type 0) → GivesNext at number it None after → X (codes "nothing\n")
+        → (items : List Item) → AreLeft at number it items → X (line_text items)
+    line_none X step x items left = subst (λ (ys : List Item). X (line_text ys)) (sym (step.gives items left).0) x
+
+    module _ (x : Intersection V D U F) (step : GivesNext at number it (Some x) after) where
+      -- the text of a line by its first item and the others
+      by_first : (X : List ℕ → Type 0)
+          → ((others : List Item) → AreLeft at number after others
+          → X (item_text (item_in x) ++ (flat_map next_text others ++ codes "\n")))
+          → (items : List Item) → AreLeft at number it items → X (line_text items)
+      by_first X all items left = let s = (step.gives items left).1 in
+          subst (λ (ys : List Item). X (line_text ys)) (sym s.1)
+          (subst X (sym (append_assoc (item_text (item_in x)) (flat_map next_text s.0) (codes "\n"))) (all s.0 s.2))
+
+      module _ (a b c : Option (List ℕ)) (held mid : List ℕ) where
+        pub line_first_fails : AppendsPart a b (held ++ item_text (item_in x)) → (items : List Item)
+            → AreLeft at number it items → AppendsPart a b (held ++ line_text items)
+        line_first_fails part = by_first (λ t. AppendsPart a b (held ++ t))
+            (λ others left. first_fails a b c held mid (item_text (item_in x)) (flat_map next_text others)
+            (codes "\n") part)
+
+        pub line_others_fail : Passes a b held mid (item_text (item_in x))
+            → ((others : List Item) → AreLeft at number after others → AppendsPart b c (mid ++ flat_map next_text others))
+            → (items : List Item) → AreLeft at number it items → AppendsPart a c (held ++ line_text items)
+        line_others_fail first part =
+            by_first (λ t. AppendsPart a c (held ++ t))
+            (λ others left. second_fails a b c held mid (item_text (item_in x)) (flat_map next_text others)
+            (codes "\n") first (part others left))
+
+      pub line_ends : {W T E : Type 0} (contents : W → Option (List ℕ)) (w0 w1 w2 w3 : Watched W) (r : Result T E)
+          (held mid then kept : List ℕ)
+          → Passes (contents (inner_of w0)) (contents (inner_of w1)) held mid (item_text (item_in x))
+          → ((others : List Item) → AreLeft at number after others
+          → Passes (contents (inner_of w1)) (contents (inner_of w2)) mid then (flat_map next_text others))
+          → Puts contents w2 w3 then kept r (codes "\n") → (items : List Item) → AreLeft at number it items
+          → Puts contents w0 w3 held kept r (line_text items)
+      line_ends contents w0 w1 w2 w3 r held mid then kept first rest put =
+          by_first (λ t. Puts contents w0 w3 held kept r t)
+          (λ others left. third_behind contents w0 w1 w2 w3 r held mid then kept (item_text (item_in x))
+          (flat_map next_text others) (codes "\n") first (rest others left) put)

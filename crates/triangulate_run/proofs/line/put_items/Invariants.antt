@@ -1,0 +1,17 @@
+use Rattle.std.proofs.Common.{◌≡◌, false}
+use Rattle.watched.specs.Watched.{inner_of, has_failed}
+use Rattle.delaunay_lines.specs.Walk.{IsReady}
+use Rattle.triangulate_run.specs.Stage.{position}
+use Rattle.triangulate_run.proofs.Walks.{PutsEach}
+use Rattle.triangulate_run.proofs.line.put_items.Given as goal
+
+abbrev pub invariant-loop-item : goal.invariant-loop-item
+invariant-loop-item g l = record {
+  ready : IsReady position (λ z. z) g.P.PlaneTests.sites g.P.PlaneTests.covered l.line;
+  so_far : PutsEach position (λ z. z) (g.W.Write.contents (inner_of l.fn.writer))
+      (g.W.Write.contents (inner_of l.writer)) l.fn.held.items l.held.items l.fn.line l.line;
+  works : has_failed l.writer ≡ false;
+}
+
+abbrev pub decreases-loop-item : goal.decreases-loop-item
+decreases-loop-item g l = l.line.left

@@ -1,0 +1,8 @@
+use Rattle.std.proofs.Common.{map}
+use Rattle.triangulate_run.specs.Stage.{position}
+use Rattle.triangulate_run.proofs.Distances.{IsLeastSoFar}
+use Rattle.triangulate_run.proofs.nearest.least_distance.Given as goal
+
+abbrev pub invariant-loop-index : goal.invariant-loop-index
+invariant-loop-index g l =
+    IsLeastSoFar (map position (g.T.Triangulation.state l.triangulation).vertices) (position l.point) l.index l.least

@@ -1,0 +1,169 @@
+//! Constraints that are added and released.
+ghost use Rattle.std.specs.Prelude.{◌≡◌, ◌<◌, ℕ, List, false, length, All};
+ghost use Rattle.std.specs.List.{flat_map};
+ghost use Rattle.half_edge_mesh.specs.Mesh.{origin, rev};
+ghost use Rattle.watched.specs.Watched.{has_failed};
+ghost use Rattle.delaunay_edit.specs.Constrained.{none, constraint_edges};
+ghost use Rattle.triangulate_run.specs.Answer.{MayJoin, MayRelease};
+ghost use Rattle.triangulate_run.specs.Engine.{stage_by, ends_in, HasSites};
+ghost use Rattle.triangulate_run.specs.Output.{Writes, Puts};
+ghost use Rattle.triangulate_run.specs.Reply.{path_text, piece_text};
+
+use crate::engine::{Constrained, Plain};
+use crate::output::{Held, put_pieces, write_all};
+use crate::piece::Piece;
+use crate::reply::{Reply, write_reply};
+use spade_delaunay::handles::{FixedDirectedEdgeHandle, FixedVertexHandle};
+use spade_delaunay::{HintGenerator, InsertionError, PlaneTests, Triangulation};
+use std::io::Write;
+use watched::{Failed, Watched};
+
+/// Adds the path between two vertices, and writes its edges.
+pub(crate) fn constrain<L: HintGenerator<i64>, P: PlaneTests<i64>, W: Write>(
+    triangulation: &mut Constrained<L>,
+    tests: &P,
+    from: FixedVertexHandle,
+    to: FixedVertexHandle,
+    writer: &mut Watched<W>,
+) -> Result<(), Failed>
+    requires from_in { from < length triangulation.old.vertices }
+    requires to_in { to < length triangulation.old.vertices }
+    requires sites { HasSites (P.sites tests.now) (stage_by constraint_edges triangulation.old) }
+    requires works { has_failed writer.old ≡ false }
+    ensures sites { HasSites (P.sites tests.now) (stage_by constraint_edges triangulation.new) }
+    ensures answered { (text : List ℕ)
+        × MayJoin (stage_by constraint_edges triangulation.old) from to text
+        (stage_by constraint_edges triangulation.new)
+        × Writes W.contents writer.old writer.new result text }
+{
+    match triangulation.try_add_constraint(from, to, tests) {
+        Ok(edges) => {
+            if edges.is_empty() {
+                return write_reply(writer, &Reply::NoPath);
+            }
+            triangulation.recall_invariant();
+            write_path(triangulation, edges.as_slice(), writer)
+        }
+        Err(_) => write_reply(writer, &Reply::Refused(InsertionError::OutOfMemory)),
+    }
+}
+
+/// Writes the edges of a path.
+fn write_path<L: HintGenerator<i64>, W: Write>(
+    triangulation: &Constrained<L>,
+    path: &[FixedDirectedEdgeHandle],
+    writer: &mut Watched<W>,
+) -> Result<(), Failed>
+    requires within { All (λ h. h < length triangulation.now.directed) path.now }
+    requires works { has_failed writer.old ≡ false }
+    ensures { Writes W.contents writer.old writer.new result
+        (path_text (ends_in triangulation.now.mesh path.now)) }
+{
+    let mut held = Held::new();
+    put_path(triangulation, path, writer, &mut held)?;
+    write_all(writer, held.as_slice())
+}
+
+/// Puts the edges of a path.
+fn put_path<L: HintGenerator<i64>, W: Write>(
+    triangulation: &Constrained<L>,
+    path: &[FixedDirectedEdgeHandle],
+    writer: &mut Watched<W>,
+    held: &mut Held,
+) -> Result<(), Failed>
+    requires within { All (λ h. h < length triangulation.now.directed) path.now }
+    requires works { has_failed writer.old ≡ false }
+    ensures { Puts W.contents writer.old writer.new held.old.items held.new.items result
+        (path_text (ends_in triangulation.now.mesh path.now)) }
+{
+    put_pieces(writer, held, &[Piece::Text("edges")])?;
+    put_edges(triangulation, path, writer, held)?;
+    put_pieces(writer, held, &[Piece::Text("\n")])
+}
+
+/// Puts the ends of each edge, with a space before each.
+fn put_edges<L: HintGenerator<i64>, W: Write>(
+    triangulation: &Constrained<L>,
+    path: &[FixedDirectedEdgeHandle],
+    writer: &mut Watched<W>,
+    held: &mut Held,
+) -> Result<(), Failed>
+    requires within { All (λ h. h < length triangulation.now.directed) path.now }
+    requires works { has_failed writer.old ≡ false }
+    ensures { Puts W.contents writer.old writer.new held.old.items held.new.items result
+        (flat_map piece_text (ends_in triangulation.now.mesh path.now)) }
+{
+    for edge in path {
+        put_edge(triangulation, *edge, writer, held)?;
+    }
+    Ok(())
+}
+
+/// Puts the ends of an edge, in its direction.
+fn put_edge<L: HintGenerator<i64>, W: Write>(
+    triangulation: &Constrained<L>,
+    edge: FixedDirectedEdgeHandle,
+    writer: &mut Watched<W>,
+    held: &mut Held,
+) -> Result<(), Failed>
+    requires within { edge < length triangulation.now.directed }
+    requires works { has_failed writer.old ≡ false }
+    ensures { let m = triangulation.now.mesh in
+        Puts W.contents writer.old writer.new held.old.items held.new.items result
+        (piece_text (origin m edge, origin m (rev edge))) }
+{
+    let edge = triangulation.directed_edge(edge);
+    put_pieces(
+        writer,
+        held,
+        &[
+            Piece::Text(" "),
+            Piece::Index(u64::from(edge.from().fix().index())),
+            Piece::Text("-"),
+            Piece::Index(u64::from(edge.to().fix().index())),
+        ],
+    )
+}
+
+/// Releases the constraint between two vertices.
+pub(crate) fn release<L: HintGenerator<i64>, P: PlaneTests<i64>>(
+    triangulation: &mut Constrained<L>,
+    tests: &P,
+    from: FixedVertexHandle,
+    to: FixedVertexHandle,
+) -> Reply
+    requires from_in { from < length triangulation.old.vertices }
+    requires to_in { to < length triangulation.old.vertices }
+    requires sites { HasSites (P.sites tests.now) (stage_by constraint_edges triangulation.old) }
+    ensures sites { HasSites (P.sites tests.now) (stage_by constraint_edges triangulation.new) }
+    ensures reply { MayRelease (stage_by constraint_edges triangulation.old) from to result
+        (stage_by constraint_edges triangulation.new) }
+{
+    triangulation.recall_invariant();
+    let Some(edge) = triangulation.get_edge_from_neighbors(from, to) else {
+        return Reply::NoEdge;
+    };
+    let edge = edge.fix().as_undirected();
+    match triangulation.remove_constraint_edge(edge, tests) {
+        Ok(true) => Reply::Released,
+        Ok(false) => Reply::NotConstrained,
+        Err(_) => Reply::Refused(InsertionError::OutOfMemory),
+    }
+}
+
+/// The same without constraints.
+pub(crate) fn release_free<L: HintGenerator<i64>>(
+    triangulation: &Plain<L>,
+    from: FixedVertexHandle,
+    to: FixedVertexHandle,
+) -> Reply
+    requires from_in { from < length triangulation.now.vertices }
+    requires to_in { to < length triangulation.now.vertices }
+    ensures { let s = stage_by none triangulation.now in MayRelease s from to result s }
+{
+    triangulation.recall_invariant();
+    match triangulation.get_edge_from_neighbors(from, to) {
+        Some(_) => Reply::NotConstrained,
+        None => Reply::NoEdge,
+    }
+}

@@ -1,0 +1,145 @@
+//! What the way from one point to another meets.
+ghost use Rattle.std.specs.Prelude.{◌≡◌, ◌++◌, ℕ, List, false};
+ghost use Rattle.std.specs.List.{flat_map};
+ghost use Rattle.half_edge_mesh.specs.Mesh.{origin, rev};
+ghost use Rattle.watched.specs.Watched.{has_failed};
+ghost use Rattle.plane.specs.Line.{Item};
+ghost use Rattle.delaunay_legalization.specs.State.{triangulation_of};
+ghost use Rattle.delaunay_lines.specs.Items.{item_in};
+ghost use Rattle.delaunay_lines.specs.Walk.{AreLeft, IsReady as IsReadyLine};
+ghost use Rattle.triangulate_run.specs.Answer.{MayWalk};
+ghost use Rattle.triangulate_run.specs.Engine.{stage_by, IsReady};
+ghost use Rattle.triangulate_run.specs.Output.{Writes, Puts};
+ghost use Rattle.triangulate_run.specs.Reply.{edge_text, item_text, line_text, next_text};
+ghost use Rattle.triangulate_run.specs.Stage.{position};
+
+use crate::output::{Held, put_pieces, write_all};
+use crate::piece::Piece;
+use crate::points::{SheetPoint, index_of};
+use crate::reply::{Reply, write_reply};
+use spade_delaunay::handles::DirectedEdgeHandle;
+use spade_delaunay::{
+    EdgeData, HintGenerator, Intersection, LineIntersectionIterator, PlaneTests, Point2,
+    TriangulationCore,
+};
+use std::io::Write;
+use watched::{Failed, Watched};
+
+/// Writes what the way from one point of the list to another meets, in order.
+pub(crate) fn write_line<L: HintGenerator<i64>, UE, M: EdgeData<UE>, P: PlaneTests<i64>, W: Write>(
+    triangulation: &TriangulationCore<Point2<i64>, (), UE, (), L, M>,
+    tests: &P,
+    points: &[SheetPoint],
+    from: Point2<i64>,
+    to: Point2<i64>,
+    writer: &mut Watched<W>,
+) -> Result<(), Failed>
+    requires ready { IsReady (P.covered tests.now) (P.sites tests.now) points.now
+        (stage_by M.constraints triangulation.now) }
+    requires works { has_failed writer.old ≡ false }
+    ensures { (text : List ℕ)
+        × MayWalk points.now (triangulation_of position triangulation.now) (position from)
+        (position to) text
+        × Writes W.contents writer.old writer.new result text }
+{
+    if index_of(points, from).is_none() || index_of(points, to).is_none() {
+        return write_reply(writer, &Reply::UnknownPoint);
+    }
+    let mut held = Held::new();
+    let mut line = LineIntersectionIterator::new(triangulation, from, to, tests);
+    match put_line(writer, &mut held, &mut line) {
+        Ok(()) => write_all(writer, held.as_slice()),
+        Err(Failed) => Err(Failed),
+    }
+}
+
+/// Puts the items of a line, one space between two of them.
+fn put_line<DE, UE, F, P: PlaneTests<i64>, W: Write>(
+    writer: &mut Watched<W>,
+    held: &mut Held,
+    line: &mut LineIntersectionIterator<'_, Point2<i64>, DE, UE, F, P>,
+) -> Result<(), Failed>
+    requires ready { IsReadyLine position (λ z. z) P.sites P.covered line.old }
+    requires works { has_failed writer.old ≡ false }
+    ensures { (items : List Item) → AreLeft position (λ z. z) line.old items
+        → Puts W.contents writer.old writer.new held.old.items held.new.items result
+        (line_text items) }
+{
+    let Some(first) = line.next() else {
+        return put_pieces(writer, held, &[Piece::Text("nothing\n")]);
+    };
+    put_item(writer, held, "", &first)?;
+    put_items(writer, held, line)?;
+    put_pieces(writer, held, &[Piece::Text("\n")])
+}
+
+/// Puts the items of a line, with a space before each.
+fn put_items<DE, UE, F, P: PlaneTests<i64>, W: Write>(
+    writer: &mut Watched<W>,
+    held: &mut Held,
+    line: &mut LineIntersectionIterator<'_, Point2<i64>, DE, UE, F, P>,
+) -> Result<(), Failed>
+    requires ready { IsReadyLine position (λ z. z) P.sites P.covered line.old }
+    requires works { has_failed writer.old ≡ false }
+    ensures { (items : List Item) → AreLeft position (λ z. z) line.old items
+        → Puts W.contents writer.old writer.new held.old.items held.new.items result
+        (flat_map next_text items) }
+{
+    while let Some(item) = line.next() {
+        put_item(writer, held, " ", &item)?;
+    }
+    Ok(())
+}
+
+/// Puts a text, and behind it an item.
+fn put_item<DE, UE, F, W: Write>(
+    writer: &mut Watched<W>,
+    held: &mut Held,
+    before: &str,
+    item: &Intersection<'_, Point2<i64>, DE, UE, F>,
+) -> Result<(), Failed>
+    requires works { has_failed writer.old ≡ false }
+    ensures { Puts W.contents writer.old writer.new held.old.items held.new.items result
+        (before.now ++ item_text (item_in item.now)) }
+{
+    match item {
+        Intersection::VertexIntersection(vertex) => put_pieces(
+            writer,
+            held,
+            &[
+                Piece::Text(before),
+                Piece::Text("v "),
+                Piece::Index(u64::from(vertex.fix().index())),
+            ],
+        ),
+        Intersection::EdgeIntersection(edge) => put_edge(writer, held, before, "e ", *edge),
+        Intersection::EdgeOverlap(edge) => put_edge(writer, held, before, "o ", *edge),
+    }
+}
+
+/// Puts two texts, and behind them the ends of an edge in its direction.
+fn put_edge<'x, DE, UE, F, W: Write>(
+    writer: &mut Watched<W>,
+    held: &mut Held,
+    before: &'x str,
+    name: &'x str,
+    edge: DirectedEdgeHandle<'_, Point2<i64>, DE, UE, F>,
+) -> Result<(), Failed>
+    requires works { has_failed writer.old ≡ false }
+    ensures { let m = edge.entry.dcel.now.mesh in
+        Puts W.contents writer.old writer.new held.old.items held.new.items result
+        (before.now ++ edge_text name.now (origin m edge.entry.index)
+        (origin m (rev edge.entry.index))) }
+{
+    put_pieces(
+        writer,
+        held,
+        &[
+            Piece::Text(before),
+            Piece::Text(name),
+            Piece::Index(u64::from(edge.from().fix().index())),
+            Piece::Text(">"),
+            Piece::Index(u64::from(edge.to().fix().index())),
+        ],
+    )
+}
