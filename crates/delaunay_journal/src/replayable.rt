@@ -9,9 +9,7 @@ use crate::edit::{Outcome, Refusal};
 use delaunay_core::HintGenerator;
 use delaunay_core::math::PlaneTests;
 use delaunay_core::point::HasPosition;
-use delaunay_interface::{
-    ConstrainedDelaunayTriangulation, DelaunayTriangulation, Triangulation,
-};
+use delaunay_interface::{ConstrainedDelaunayTriangulation, DelaunayTriangulation, Triangulation};
 use half_edge_mesh::FixedVertexHandle;
 
 /// A triangulation on which lists of edits are replayed: a `DelaunayTriangulation`, which refuses

@@ -19,7 +19,7 @@ returns-in_default-clause-gives g c =
 pub returns-then-not-is_constraint_edge-clause-gives : goal.returns-then-not-is_constraint_edge-clause-gives
 returns-then-not-is_constraint_edge-clause-gives g c =
     let joined = edge_joined_by g.V.HasPosition.place c.args.self.now c.args.from c.args.to c.in-Some.edge.index
-        c.fix-edge.result (c.fix-edge.ensures.value ∙ c.as_undirected.ensures.index) c.in-Some.ensures.1 c.in-Some.ensures.2 in
+    c.fix-edge.result (c.fix-edge.ensures.value ∙ c.as_undirected.ensures.index) c.in-Some.ensures.1 c.in-Some.ensures.2 in
     ((refl, (λ j. both_ways _ (c.is_constraint_edge.ensures.joined.1 (joined j)) c.if-not-is_constraint_edge.true)), refl)
 
 pub returns-in-Ok-clause-gives : goal.returns-in-Ok-clause-gives
@@ -32,5 +32,5 @@ returns-in-Ok-clause-gives g c =
 pub returns-in-Err-clause-gives : goal.returns-in-Err-clause-gives
 returns-in-Err-clause-gives g c =
     let joined = joined_by_edge g.V.HasPosition.place c.args.self.now c.args.from c.args.to c.in-Some.edge.index
-        c.fix-edge.result (c.fix-edge.ensures.value ∙ c.as_undirected.ensures.index) c.in-Some.ensures.1 c.in-Some.ensures.2 in
+    c.fix-edge.result (c.fix-edge.ensures.value ∙ c.as_undirected.ensures.index) c.in-Some.ensures.1 c.in-Some.ensures.2 in
     ((refl, joined (c.is_constraint_edge.ensures.joined.0 c.if-not-is_constraint_edge.false)), c.in-Err.ensures.releases.err)
