@@ -10,6 +10,7 @@ ghost use Rattle.delaunay_edit.specs.Entry.{IsEntry, IsVacant};
 ghost use Rattle.delaunay_edit.specs.Headline.{AreSites, IsDelaunay};
 ghost use Rattle.delaunay_edit.specs.Location.{HasHandle, IsLeftOfPlace};
 
+use crate::counting::is_on_constraint;
 use crate::edited_mesh::EditedMesh;
 use crate::insertion_cases::insert_at;
 use delaunay_core::math::{InsertionError, PlaneTests, validate_vertex};
@@ -54,8 +55,12 @@ impl<V: HasPosition + Drop, DE: Default, UE: Default, F: Default, M: FreeByDefau
     {
         reserve_for_vertex(&mut self.dcel)?;
         reserve_for_edges(&mut self.work, 3 * (self.dcel.num_vertices() + 1))?;
+        let splits = is_on_constraint::<M, _, _, _, _>(&self.dcel, &location);
         let vertex = insert_at::<M, _, _, _, _, _>(&mut self.dcel, location, turns, value, tests);
         legalize_star::<M, _, _, _, _, _>(&mut self.dcel, vertex, tests, &mut self.work, flips);
+        if splits {
+            self.num_constraints += 1;
+        }
         Ok(vertex)
     }
 

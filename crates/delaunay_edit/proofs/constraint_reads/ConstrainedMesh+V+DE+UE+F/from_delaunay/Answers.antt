@@ -9,7 +9,7 @@ use Rattle.delaunay_edit.proofs.constraint_reads.ConstrainedMesh+V+DE+UE+F.from_
 pub invariant_of-constrained : goal.invariant_of-constrained
 invariant_of-constrained g c =
     legal_after g.V.HasPosition.place _ none is_constraint constraint_edges (λ ds. refl) (λ u e made. search rules) c.plain.inside.dcel c.in-Ok.dcel c.in-Ok.ensures.mapped
-    refl c.plain.invariant
+    refl c.plain.invariant.legal
 
 pub returns-in-Ok-clause-ok : goal.returns-in-Ok-clause-ok
 returns-in-Ok-clause-ok g c = rw (← c.plain.view_is) (other_data_as _ IsFree (λ u e made. search rules) (state_of c.plain.inside.dcel) (state_of c.in-Ok.dcel) (other_data g.V.HasPosition.place _ none is_constraint constraint_edges (λ ds. refl) (λ u e made. search rules) c.plain.inside.dcel c.in-Ok.dcel c.in-Ok.ensures.mapped))

@@ -20,7 +20,7 @@ legalize_star-requires-clause-sites g c =
 pub legalize_star-requires-clause-passing : goal.legalize_star-requires-clause-passing
 legalize_star-requires-clause-passing g c =
     passes_beside g.V.HasPosition.place g.M.ConstraintMarker.marks g.M.ConstraintMarker.constraints g.met.M.ConstraintMarker.constraints_are_marked c.args.self.now c.reserve_for_vertex.new.dcel c.insert_at-vertex.new.dcel c.args.value c.insert_at-vertex.result _
-    (subst (IsDelaunayTriangulation g.V.HasPosition.place g.M.ConstraintMarker.constraints) c.self.view_is c.self.invariant) (c.reserve_for_vertex.ensures.same ∙ c.self.view_is)
+    (subst (IsDelaunayTriangulation g.V.HasPosition.place g.M.ConstraintMarker.constraints) c.self.view_is c.self.invariant.legal) (c.reserve_for_vertex.ensures.same ∙ c.self.view_is)
     c.insert_at-vertex.ensures.takes.vertices c.insert_at-vertex.ensures.takes.is c.insert_at-vertex.ensures.takes.made c.insert_at-vertex.ensures.takes.kept c.insert_at-vertex.ensures.constraints
 
 pub returns-clause-appends : goal.returns-clause-appends
@@ -32,7 +32,7 @@ returns-clause-appends g c =
       vertices = search rules;
       outer = ap (λ d. d.outer) c.legalize_star.ensures.contents ∙ c.insert_at-vertex.ensures.takes.grows.outer ∙ ap (λ s. s.outer) (c.reserve_for_vertex.ensures.same ∙ c.self.view_is);
       «data» =
-          appended_keeps g.V.HasPosition.place c.args.value c.args.self.now c.reserve_for_vertex.new.dcel c.insert_at-vertex.new.dcel c.legalize_star.new.dcel (subst (IsTriangulated g.V.HasPosition.place) c.self.view_is c.self.invariant.kept) (c.reserve_for_vertex.ensures.same ∙ c.self.view_is)
+          appended_keeps g.V.HasPosition.place c.args.value c.args.self.now c.reserve_for_vertex.new.dcel c.insert_at-vertex.new.dcel c.legalize_star.new.dcel (subst (IsTriangulated g.V.HasPosition.place) c.self.view_is c.self.invariant.legal.kept) (c.reserve_for_vertex.ensures.same ∙ c.self.view_is)
           c.insert_at-vertex.ensures.takes.vertices c.insert_at-vertex.ensures.takes.kept c.insert_at-vertex.ensures.takes.grows c.legalize_star.ensures.contents c.legalize_star.ensures.indexes c.legalize_star.ensures.legal.kept;
       splits =
           splits_legalized g.V.HasPosition.place g.M.ConstraintMarker.constraints c.args.value (state_of c.reserve_for_vertex.new.dcel) c.args.self.now (state_of c.insert_at-vertex.new.dcel) (state_of c.legalize_star.new.dcel) c.insert_at-vertex.ensures.constraints (c.reserve_for_vertex.ensures.same ∙ c.self.view_is) c.legalize_star.ensures.constraints;

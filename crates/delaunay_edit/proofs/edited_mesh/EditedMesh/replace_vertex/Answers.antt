@@ -8,7 +8,7 @@ use Rattle.delaunay_edit.proofs.edited_mesh.EditedMesh.replace_vertex.Goals as g
 pub invariant_of-self : goal.invariant_of-self
 invariant_of-self g c =
     subst (λ d. IsDelaunayTriangulation g.V.HasPosition.place g.M.ConstraintMarker.constraints (state_of d)) (sym c.update_vertex-former.ensures.contents)
-    (legal_overwritten g.V.HasPosition.place g.M.ConstraintMarker.constraints c.self.inside.dcel c.args.vertex c.args.value c.self.invariant (rw (← c.self.view_is) at c.requires.within) (rw (← c.self.view_is) at c.requires.same))
+    (legal_overwritten g.V.HasPosition.place g.M.ConstraintMarker.constraints c.self.inside.dcel c.args.vertex c.args.value c.self.invariant.legal (rw (← c.self.view_is) at c.requires.within) (rw (← c.self.view_is) at c.requires.same))
 
 pub returns-clause-value : goal.returns-clause-value
 returns-clause-value g c = rw (← c.self.view_is) c.update_vertex-former.ensures.former

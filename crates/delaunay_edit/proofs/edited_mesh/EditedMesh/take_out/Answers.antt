@@ -43,7 +43,7 @@ legalize_among-requires-clause-within g c =
     let constraints = g.M.ConstraintMarker.constraints in
     let ds = c.remove_vertex-value.new.dcel in
     subst (λ (vs : List ℕ). (k : ℕ) → Contains vs k → k < length ds.vertices) (sym {A = List ℕ} c.as_slice.ensures.value)
-    (neighbours_within at constraints (state_of c.self.inside.dcel) (state_of ds) c.args.vertex c.remove_vertex-value.result c.self.invariant c.remove_vertex-value.ensures.kept
+    (neighbours_within at constraints (state_of c.self.inside.dcel) (state_of ds) c.args.vertex c.remove_vertex-value.result c.self.invariant.legal c.remove_vertex-value.ensures.kept
     c.remove_vertex-value.ensures.plain c.remove_vertex-value.ensures.faces c.in_ok-neighbours.neighbours.items c.in_ok-neighbours.ensures)
 
 pub legalize_among-requires-clause-passing : goal.legalize_among-requires-clause-passing
@@ -52,5 +52,5 @@ legalize_among-requires-clause-passing g c =
     let constraints = g.M.ConstraintMarker.constraints in
     let ds = c.remove_vertex-value.new.dcel in
     subst (λ (vs : List ℕ). AllPassBeyond (map at ds.vertices) (faces_of ds.mesh) (constraints_by constraints (state_of ds)) vs) (sym {A = List ℕ} c.as_slice.ensures.value)
-    (passes_beyond at constraints (state_of c.self.inside.dcel) (state_of ds) c.args.vertex c.remove_vertex-value.result c.self.invariant c.remove_vertex-value.ensures.kept
+    (passes_beyond at constraints (state_of c.self.inside.dcel) (state_of ds) c.args.vertex c.remove_vertex-value.result c.self.invariant.legal c.remove_vertex-value.ensures.kept
     c.remove_vertex-value.ensures.plain c.remove_vertex-value.ensures.faces c.in_ok-neighbours.neighbours.items c.in_ok-neighbours.ensures)
