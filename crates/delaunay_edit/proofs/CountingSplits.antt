@@ -1,5 +1,5 @@
 -- One constraint becomes two where a vertex is strictly within it, and else there are as many as before.
-use Rattle.std.proofs.Common.{◌≡◌, ℕ, suc, ◌/◌, Bool, List, length, map, refl, sym, subst}
+use Rattle.std.proofs.Common.{◌≡◌, ℕ, suc, ◌/◌, Bool, List, length, map, refl, sym, ap, subst, inl, inr, arith, ◌+◌}
 use Rattle.std.specs.Prelude.{Contains}
 use Rattle.half_edge_mesh.specs.Contents.{Contents}
 use Rattle.half_edge_mesh.specs.Mesh.{origin, rev}
@@ -13,13 +13,13 @@ use Rattle.mesh_embedding.specs.Drawn.{edges_of, faces_of, outer_of}
 use Rattle.mesh_embedding.proofs.OwnEdges.{own_edges}
 use Rattle.delaunay_insertion.specs.Constraints.{SplitsConstraints}
 use Rattle.delaunay_legalization.specs.Constraints.{constraints_by, marked_edges, points_and_constraints_by}
-use Rattle.delaunay_legalization.specs.Shape.{IsTriangulated}
+use Rattle.delaunay_legalization.specs.Shape.{IsDelaunayTriangulation, IsTriangulated}
 use Rattle.delaunay_legalization.specs.State.{State, state_of, triangulation_of}
 use Rattle.delaunay_legalization.proofs.ConstraintEdges.{constraints_are_edges}
 use Rattle.delaunay_location.specs.declared.position_in_triangulation.PositionInTriangulation.{PositionInTriangulation}
 use Rattle.delaunay_location.specs.declared.position_in_triangulation.PositionInTriangulation.TheVariants.{OnVertex, OnEdge, OnFace, OutsideOfConvexHull, NoTriangulation}
 use Rattle.delaunay_paths.proofs.JoinedPairs.{edge_joins}
-use Rattle.delaunay_edit.specs.Counting.{IsOnConstraint}
+use Rattle.delaunay_edit.specs.Counting.{IsCounted, IsOnConstraint, IsSplitCount}
 use Rattle.delaunay_edit.specs.Location.{Locates, location_of}
 use Rattle.delaunay_edit.proofs.Constrained.{plain_with_edges}
 use Rattle.delaunay_edit.proofs.DifferentConstraints.{constraints_once}
@@ -74,3 +74,10 @@ module _ {V D U F : Type 0} (place : V → Point) (marks : U → Bool) (constrai
 
   pub one_more_constraint : IsOnConstraint constraints old.undirected answer → length (constraints_by constraints new) ≡ suc (length pairs)
   one_more_constraint on = split_at answer located on
+
+  -- the kept number afterwards, once edges are flipped
+  pub counted_split : (number n : ℕ) (last : State V D U F) → IsCounted place constraints (state_of old) number → IsSplitCount constraints old.undirected answer n → IsDelaunayTriangulation place constraints last → constraints_by constraints last ≡ constraints_by constraints new → IsCounted place constraints last (number + n)
+  counted_split number n last before split legal same = record { legal = legal; counted = elim split [
+    | inl x ↦ (let more = one_more_constraint x.0 in let one = x.1 in let counted = before.counted in let flips = ap (λ (ps : List (ℕ × ℕ)). length ps) same in omega (arith, more, one, counted, flips))
+    | inr x ↦ (let still = as_many x.0 in let none = x.1 in let counted = before.counted in let flips = ap (λ (ps : List (ℕ × ℕ)). length ps) same in omega (arith, still, none, counted, flips))
+  ] }

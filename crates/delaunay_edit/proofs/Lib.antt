@@ -19,3 +19,4 @@ pub mod DifferentConstraints
 pub mod CountingAt
 pub mod CountingPath
 pub mod CountingSplits
+pub mod Recounted

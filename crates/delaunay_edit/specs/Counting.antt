@@ -24,6 +24,10 @@ IsOnConstraint constraints ds (OnFace f) = ⊥
 IsOnConstraint constraints ds (OutsideOfConvexHull e) = ⊥
 IsOnConstraint constraints ds NoTriangulation = ⊥
 
+-- one where the location is on a constraint, and else none
+abbrev pub IsSplitCount : {U : Type 0} → (List U → List ℕ) → List U → PositionInTriangulation → ℕ → Type 0
+IsSplitCount constraints ds answer n = (IsOnConstraint constraints ds answer × (n ≡ 1)) ⊎ ((¬ IsOnConstraint constraints ds answer) × (n ≡ 0))
+
 -- a constraint joins a and b, of which one is vertex v
 abbrev pub EndsAt : List (ℕ × ℕ) → ℕ → ℕ → ℕ → Type 0
 EndsAt pairs v a b = Joins pairs a b × ((a ≡ v) ⊎ (b ≡ v))

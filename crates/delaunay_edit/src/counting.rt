@@ -1,9 +1,9 @@
 //! How many constraints an edit makes or takes, by a look at what it changes.
-ghost use Rattle.std.specs.Prelude.{◌≡◌, ◌≢◌, ◌↔◌, ◌<◌, length, map, All, IsTrue};
+ghost use Rattle.std.specs.Prelude.{◌≡◌, ◌<◌, length, map, All};
 ghost use Rattle.delaunay_legalization.specs.Constraints.{constraints_by};
 ghost use Rattle.delaunay_legalization.specs.Shape.{IsTriangulated};
 ghost use Rattle.delaunay_legalization.specs.State.{state_of};
-ghost use Rattle.delaunay_edit.specs.Counting.{EndsAt, HasPairs, IsMissing, IsOnConstraint};
+ghost use Rattle.delaunay_edit.specs.Counting.{EndsAt, HasPairs, IsMissing, IsSplitCount};
 ghost use Rattle.delaunay_edit.specs.Location.{HasHandle};
 
 use delaunay_core::math::PlaneTests;
@@ -13,20 +13,24 @@ use delaunay_location::PositionInTriangulation;
 use delaunay_paths::{is_constraint_between, next_on_path};
 use half_edge_mesh::{Dcel, FixedVertexHandle, MeshViews};
 
-// Whether a location is on an edge that is a constraint.
-pub(crate) fn is_on_constraint<M: ConstraintMarker<UE>, V: HasPosition, DE, UE, F>(
+// How many constraints a new vertex at a location makes of one: one more where it is on a constraint.
+pub(crate) fn count_split<M: ConstraintMarker<UE>, V: HasPosition, DE, UE, F>(
     dcel: &Dcel<V, DE, UE, F>,
     location: &PositionInTriangulation,
-) -> bool
+) -> usize
     requires handle { HasHandle dcel.now.mesh location.now }
     requires kept { IsTriangulated V.place (state_of dcel.now) }
-    ensures { IsTrue result ↔ IsOnConstraint M.constraints dcel.now.undirected location.now }
+    ensures { IsSplitCount M.constraints dcel.now.undirected location.now result }
 {
     match *location {
         PositionInTriangulation::OnEdge(edge) => {
-            is_constraint_edge::<M, _, _, _, _>(dcel, edge.as_undirected())
+            if is_constraint_edge::<M, _, _, _, _>(dcel, edge.as_undirected()) {
+                1
+            } else {
+                0
+            }
         }
-        _ => false,
+        _ => 0,
     }
 }
 

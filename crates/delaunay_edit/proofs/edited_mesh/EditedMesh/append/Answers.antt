@@ -1,5 +1,8 @@
 use Rattle.std.proofs.Common.{◌∙◌, [], ◌∷◌, ◌++◌, ap, sym, subst, length, map, rules}
+use Rattle.delaunay_edit.specs.Counting.{IsCounted}
 use Rattle.delaunay_edit.specs.Entry.{IsVacant}
+use Rattle.delaunay_edit.specs.Location.{Locates}
+use Rattle.delaunay_edit.proofs.CountingSplits.{counted_split}
 use Rattle.delaunay_legalization.specs.Shape.{IsTriangulated, IsDelaunayTriangulation}
 use Rattle.delaunay_legalization.specs.State.{state_of}
 use Rattle.delaunay_insertion.proofs.Appending.{sites_after}
@@ -38,3 +41,18 @@ returns-clause-appends g c =
           splits_legalized g.V.HasPosition.place g.M.ConstraintMarker.constraints c.args.value (state_of c.reserve_for_vertex.new.dcel) c.args.self.now (state_of c.insert_at-vertex.new.dcel) (state_of c.legalize_star.new.dcel) c.insert_at-vertex.ensures.constraints (c.reserve_for_vertex.ensures.same ∙ c.self.view_is) c.legalize_star.ensures.constraints;
       err = tt;
     }
+
+pub invariant_of-self-2 : goal.invariant_of-self-2
+invariant_of-self-2 g c =
+    let at = g.V.HasPosition.place in
+    let marker = g.M.ConstraintMarker in
+    let old = c.reserve_for_vertex.new.dcel in
+    let same = c.reserve_for_vertex.ensures.same ∙ c.self.view_is in
+    counted_split at marker.marks marker.constraints g.met.M.ConstraintMarker.constraints_are_marked old
+    (state_of c.insert_at-vertex.new.dcel) (subst (IsTriangulated at) (sym c.reserve_for_vertex.ensures.same) c.self.invariant.legal.kept)
+    c.insert_at-vertex.ensures.takes.kept c.args.value c.args.location
+    (subst (λ s. Locates (map at s.vertices) s.mesh (at c.args.value) c.args.location) (sym same) c.requires.vacant.location)
+    c.insert_at-vertex.ensures.constraints c.self.inside.num_constraints c.count_split-split.result
+    (state_of c.legalize_star.new.dcel)
+    (subst (λ s. IsCounted at marker.constraints s c.self.inside.num_constraints) (sym c.reserve_for_vertex.ensures.same) c.self.invariant)
+    c.count_split-split.ensures c.legalize_star.ensures.legal c.legalize_star.ensures.constraints
