@@ -1,5 +1,5 @@
 -- One constraint becomes two where a vertex is strictly within it, and else there are as many as before.
-use Rattle.std.proofs.Common.{◌≡◌, ℕ, suc, ◌/◌, Bool, List, length, map, refl, sym, ap, subst, inl, inr, arith, ◌+◌}
+use Rattle.std.proofs.Common.{◌≡◌, ℕ, suc, ◌/◌, Bool, List, length, map, refl, sym, ap, subst, inl, inr, arith, ◌+◌, ◌≤◌}
 use Rattle.std.specs.Prelude.{Contains}
 use Rattle.half_edge_mesh.specs.Contents.{Contents}
 use Rattle.half_edge_mesh.specs.Mesh.{origin, rev}
@@ -24,6 +24,14 @@ use Rattle.delaunay_edit.specs.Location.{Locates, location_of}
 use Rattle.delaunay_edit.proofs.Constrained.{plain_with_edges}
 use Rattle.delaunay_edit.proofs.DifferentConstraints.{constraints_once}
 use Rattle.delaunay_edit.proofs.EditCounts.{free_number, joined_as, split_number}
+
+-- a new vertex makes at most one constraint more
+pub few_split : {U : Type 0} (constraints : List U → List ℕ) (ds : List U) (answer : PositionInTriangulation) (n : ℕ)
+    → IsSplitCount constraints ds answer n → n ≤ 1
+few_split constraints ds answer n split = elim split [
+  | inl x ↦ (let one = x.1 in omega (arith, one))
+  | inr x ↦ (let none = x.1 in omega (arith, none))
+]
 
 module _ {V D U F : Type 0} (place : V → Point) (marks : U → Bool) (constraints : List U → List ℕ) (marked : (ds : List U) → constraints ds ≡ marked_edges marks ds)
     (old : Contents V D U F) (new : State V D U F) (was : IsTriangulated place (state_of old)) (now : IsTriangulated place new) (value : V) (answer : PositionInTriangulation)

@@ -1,8 +1,9 @@
-use Rattle.std.proofs.Common.{◌∙◌, [], ◌∷◌, ◌++◌, ap, sym, subst, length, map, rules}
+use Rattle.std.proofs.Common.{◌∙◌, [], ◌∷◌, ◌++◌, ap, sym, subst, length, map, arith, rules}
 use Rattle.delaunay_edit.specs.Counting.{IsCounted}
 use Rattle.delaunay_edit.specs.Entry.{IsVacant}
 use Rattle.delaunay_edit.specs.Location.{Locates}
-use Rattle.delaunay_edit.proofs.CountingSplits.{counted_split}
+use Rattle.delaunay_edit.proofs.CountingSplits.{counted_split, few_split}
+use Rattle.delaunay_edit.proofs.DifferentConstraints.{few_constraints}
 use Rattle.delaunay_legalization.specs.Shape.{IsTriangulated, IsDelaunayTriangulation}
 use Rattle.delaunay_legalization.specs.State.{state_of}
 use Rattle.delaunay_insertion.proofs.Appending.{sites_after}
@@ -56,3 +57,18 @@ invariant_of-self-2 g c =
     (state_of c.legalize_star.new.dcel)
     (subst (λ s. IsCounted at marker.constraints s c.self.inside.num_constraints) (sym c.reserve_for_vertex.ensures.same) c.self.invariant)
     c.count_split-split.ensures c.legalize_star.ensures.legal c.legalize_star.ensures.constraints
+
+pub overflow_add-self : goal.overflow_add-self
+overflow_add-self g c =
+    let marker = g.M.ConstraintMarker in
+    let kept = c.self.invariant.legal.kept in
+    let few = few_constraints g.V.HasPosition.place marker.marks marker.constraints
+        g.met.M.ConstraintMarker.constraints_are_marked (state_of c.self.inside.dcel) kept in
+    let counted = c.self.invariant.counted in
+    let edges = kept.few_edges in
+    let size = ap (λ s. length s.vertices) c.reserve_for_vertex.ensures.same in
+    let value = c.num_vertices.ensures.value in
+    let small = c.num_vertices.ensures.small in
+    let split = few_split marker.constraints c.reserve_for_vertex.new.dcel.undirected c.args.location _
+        c.count_split-split.ensures in
+    omega (arith, few, counted, edges, size, value, small, split)
