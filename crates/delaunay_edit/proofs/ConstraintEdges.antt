@@ -99,7 +99,7 @@ module _ {U : Type 0} (marks : U → Bool) where
 
 -- an edge whose ends a constraint joins is that one
 module _ {V D U F : Type 0} (place : V → Point) (marks : U → Bool) (constraints : List U → List ℕ) (marked : (ds : List U) → constraints ds ≡ marked_edges marks ds) (s : State V D U F) (kept : IsTriangulated place s) where
-  same_edge : (k l : ℕ) → k < length s.undirected → l < length s.undirected → IsSamePair (origin s.mesh (2 * k)) (origin s.mesh (rev (2 * k))) (origin s.mesh (2 * l)) (origin s.mesh (rev (2 * l))) → l ≡ k
+  pub same_edge : (k l : ℕ) → k < length s.undirected → l < length s.undirected → IsSamePair (origin s.mesh (2 * k)) (origin s.mesh (rev (2 * k))) (origin s.mesh (2 * l)) (origin s.mesh (rev (2 * l))) → l ≡ k
   same_edge k l v w (inl e) =
       let r = indexes (2 * k) (2 * l) (double k v) (double l w) (sym e.0, sym e.1) in omega (arith, r)
     where

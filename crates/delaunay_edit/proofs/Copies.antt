@@ -9,6 +9,7 @@ use Rattle.plane.specs.Tests.{InRange}
 use Rattle.delaunay_legalization.specs.Constraints.{marked_edges, marked_from}
 use Rattle.delaunay_legalization.specs.Shape.{IsDelaunayTriangulation}
 use Rattle.delaunay_legalization.specs.State.{State}
+use Rattle.delaunay_edit.specs.Counting.{IsCounted}
 use Rattle.delaunay_edit.specs.Storage.{IsCopy}
 
 same_length : {X : Type 0} (R : X → X → Type 0) (xs ys : List X) → AllZip R xs ys → length ys ≡ length xs
@@ -56,3 +57,10 @@ module _ {V D U F : Type 0} (place : V → Point) (marks : U → Bool) (constrai
         };
         passing = rw (at, copy.mesh, cs) whole.passing;
       }
+
+  -- and has as many constraints
+  pub copy_is_counted : (RV : V → V → Type 0) (RD : D → D → Type 0) (RU : U → U → Type 0) (RF : F → F → Type 0) → ((v w : V) → RV v w → place w ≡ place v) → ((d e : U) → RU d e → marks e ≡ marks d) → (old new : State V D U F) → IsCopy RV RD RU RF old new
+      → (number : ℕ) → IsCounted place constraints old number → IsCounted place constraints new number
+  copy_is_counted RV RD RU RF places same old new copy number was =
+      let cs : constraints new.undirected ≡ constraints old.undirected = marked new.undirected ∙ same_marks RU marks same 0 old.undirected new.undirected copy.undirected ∙ sym (marked old.undirected) in
+      record { legal = copy_is_one RV RD RU RF places same old new copy was.legal; counted = rw (copy.mesh, cs) was.counted }

@@ -19,10 +19,10 @@ use Rattle.delaunay_edit.specs.Headline.{IsDelaunay}
 
 -- ---- pieces of a path are neighbours on its segment
 module _ {V : Type 0} (place : V → Point) (points : List Point) (i j a b : ℕ) where
-  next_of : AreNeighboursOn place points i j a b → AreNextOn points i j a b
+  pub next_of : AreNeighboursOn place points i j a b → AreNextOn points i j a b
   next_of n = record { apart = n.apart; first_index = n.first_index; second_index = n.second_index; first = n.first; second = n.second; none_between = n.none_between }
 
-  neighbours_of : AreNextOn points i j a b → AreNeighboursOn place points i j a b
+  pub neighbours_of : AreNextOn points i j a b → AreNeighboursOn place points i j a b
   neighbours_of n = record { apart = n.apart; first_index = n.first_index; second_index = n.second_index; first = n.first; second = n.second; none_between = n.none_between }
 
 module _ {V D U F : Type 0} (place : V → Point) where

@@ -13,3 +13,10 @@ pub mod Inserting
 pub mod OtherData
 pub mod Copies
 pub mod EditingConstraints
+pub mod PairCounts
+pub mod EditCounts
+pub mod DifferentConstraints
+pub mod CountingAt
+pub mod CountingPath
+pub mod CountingSplits
+pub mod Recounted

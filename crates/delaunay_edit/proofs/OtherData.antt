@@ -8,6 +8,7 @@ use Rattle.mesh_embedding.specs.Drawn.{drawn}
 use Rattle.mesh_embedding.specs.Legal.{pairs_at}
 use Rattle.delaunay_legalization.specs.Shape.{IsDelaunayTriangulation}
 use Rattle.delaunay_legalization.specs.State.{State, state_of}
+use Rattle.delaunay_edit.specs.Counting.{IsCounted}
 use Rattle.delaunay_edit.specs.Writing.{with_face_data}
 
 module _ {V D U F : Type 0} (place : V → Point) (constraints : List U → List ℕ) (s : State V D U F) where
@@ -37,3 +38,11 @@ stays_with_face place constraints c (suc f) w whole = stays_with_data place cons
 pub face_written : {V D U F : Type 0} (c : Contents V D U F) (f : ℕ) (w : F) → state_of (with_face c f w) ≡ with_face_data (state_of c) f w
 face_written c zero w = refl
 face_written c (suc f) w = refl
+
+-- with as many constraints
+pub counted_with_face : {V D U F : Type 0} (place : V → Point) (constraints : List U → List ℕ) (c : Contents V D U F) (f : ℕ) (w : F) (number : ℕ) → IsCounted place constraints (state_of c) number → IsCounted place constraints (state_of (with_face c f w)) number
+counted_with_face place constraints c zero w number was = record { legal = stays_with_face place constraints c zero w was.legal; counted = was.counted }
+counted_with_face place constraints c (suc f) w number was = record { legal = stays_with_face place constraints c (suc f) w was.legal; counted = was.counted }
+
+pub counted_with_users : {V D U F : Type 0} (place : V → Point) (constraints : List U → List ℕ) (s : State V D U F) (us : List U) (number : ℕ) → length us ≡ length s.undirected → constraints us ≡ constraints s.undirected → IsCounted place constraints s number → IsCounted place constraints (record s { undirected = us }) number
+counted_with_users place constraints s us number fit same was = record { legal = stays_with_users place constraints s us fit same was.legal; counted = rw same was.counted }

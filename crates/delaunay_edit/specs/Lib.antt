@@ -11,3 +11,4 @@ pub mod EdgeData
 pub mod Writing
 pub mod Storage
 pub mod ConstraintEdits
+pub mod Counting

@@ -7,6 +7,7 @@ ghost use Rattle.delaunay_edit.specs.Constrained.{constrained, constraint_edges}
 ghost use Rattle.delaunay_edit.specs.ConstraintEdits.{AddsConstraint, AddsPathIfFree, FreesEdge, MarksEdges, ReleasesConstraint};
 ghost use Rattle.delaunay_edit.specs.Headline.{AreSites, IsDelaunay};
 
+use crate::counting::count_missing;
 use crate::edited_mesh::ConstrainedMesh;
 use delaunay_core::math::PlaneTests;
 use delaunay_core::point::HasPosition;
@@ -52,6 +53,7 @@ impl<V: HasPosition, DE, UE, F> ConstrainedMesh<V, DE, UE, F> {
         ensures err { OnErr result (self.new ≡ self.old) }
     {
         self.work.reserve(3 * self.dcel.num_vertices())?;
+        let missing = count_missing::<EdgeConstraints, _, _, _, _, _>(&self.dcel, from, to, tests);
         let mut flips = 0;
         add_constraints::<EdgeConstraints, _, _, _, _, _>(
             &mut self.dcel,
@@ -61,6 +63,7 @@ impl<V: HasPosition, DE, UE, F> ConstrainedMesh<V, DE, UE, F> {
             &mut self.work,
             &mut flips,
         );
+        self.num_constraints += missing;
         Ok(())
     }
 
@@ -165,6 +168,7 @@ impl<V: HasPosition, DE, UE, F> ConstrainedMesh<V, DE, UE, F> {
             &mut self.work,
             &mut flips,
         );
+        self.num_constraints -= 1;
         Ok(())
     }
 

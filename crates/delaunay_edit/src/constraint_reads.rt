@@ -26,18 +26,11 @@ impl<V: HasPosition, DE, UE, F> ConstrainedMesh<V, DE, UE, F> {
         is_constraint_edge::<EdgeConstraints, _, _, _, _>(&self.dcel, edge)
     }
 
-    /// How many edges are constraints, by a look at all edges.
+    /// How many edges are constraints. The number is kept, so this takes constant time.
     pub fn num_constraints(&self) -> usize
         ensures { result ≡ length (constraints_of self.now) }
     {
-        let mut count = 0;
-        for index in 0..self.dcel.num_undirected_edges() {
-            let edge = FixedUndirectedEdgeHandle::from_index(index as u32);
-            if self.dcel.undirected_edge_data(edge).is_constraint_edge() {
-                count += 1;
-            }
-        }
-        count
+        self.num_constraints
     }
 
     /// Whether a constraint joins two vertices, in either order, by a look round the first.
@@ -66,6 +59,7 @@ impl<V: HasPosition, DE, UE, F> ConstrainedMesh<V, DE, UE, F> {
             dcel,
             work,
             sides,
+            num_constraints,
             marks,
         } = plain;
         match dcel.map_undirected_edges(free_edge_data) {
@@ -74,6 +68,7 @@ impl<V: HasPosition, DE, UE, F> ConstrainedMesh<V, DE, UE, F> {
                     dcel,
                     work,
                     sides,
+                    num_constraints: 0,
                     marks: PhantomData,
                 };
                 constrained.recall_invariant();
@@ -83,6 +78,7 @@ impl<V: HasPosition, DE, UE, F> ConstrainedMesh<V, DE, UE, F> {
                 dcel,
                 work,
                 sides,
+                num_constraints,
                 marks,
             }),
         }

@@ -28,6 +28,8 @@ pub struct EditedMesh<V: HasPosition, DE, UE, F, M: ConstraintMarker<UE>> {
     pub(crate) work: Vec<FixedUndirectedEdgeHandle>,
     // Room for the sides opposite a vertex that a removal takes from the hull; what stands in it has no meaning.
     pub(crate) sides: Vec<FixedDirectedEdgeHandle>,
+    // How many edges are constraints.
+    pub(crate) num_constraints: usize,
     pub(crate) marks: PhantomData<M>,
 }
 
@@ -39,13 +41,13 @@ pub(crate) type ConstrainedMesh<V, DE, UE, F> = EditedMesh<V, DE, CdtEdge<UE>, F
 
 impl<V: HasPosition, DE, UE, F, M: ConstraintMarker<UE>> Model for EditedMesh<V, DE, UE, F, M> {
     ghost use Rattle.delaunay_legalization.specs.State.{State, state_of};
-    ghost use Rattle.delaunay_legalization.specs.Shape.{IsDelaunayTriangulation};
+    ghost use Rattle.delaunay_edit.specs.Counting.{IsCounted};
 
     ghost Value = { State V DE UE F };
 
     ghost view = { λ c. state_of c.dcel };
 
-    ghost invariant = { λ c. IsDelaunayTriangulation V.place M.constraints (state_of c.dcel) };
+    ghost invariant = { λ c. IsCounted V.place M.constraints (state_of c.dcel) c.num_constraints };
 }
 
 impl<V: HasPosition, DE, UE, F, M: ConstraintMarker<UE>> EditedMesh<V, DE, UE, F, M> {
@@ -68,6 +70,7 @@ impl<V: HasPosition, DE, UE, F, M: ConstraintMarker<UE>> EditedMesh<V, DE, UE, F
             dcel,
             work: Vec::new(alloc),
             sides: Vec::new(alloc),
+            num_constraints: 0,
             marks: PhantomData,
         }
     }

@@ -10,6 +10,7 @@ ghost use Rattle.delaunay_edit.specs.Entry.{IsEntry, IsVacant};
 ghost use Rattle.delaunay_edit.specs.Headline.{AreSites, IsDelaunay};
 ghost use Rattle.delaunay_edit.specs.Location.{HasHandle, IsLeftOfPlace};
 
+use crate::counting::count_split;
 use crate::edited_mesh::EditedMesh;
 use crate::insertion_cases::insert_at;
 use delaunay_core::math::{InsertionError, PlaneTests, validate_vertex};
@@ -54,8 +55,10 @@ impl<V: HasPosition + Drop, DE: Default, UE: Default, F: Default, M: FreeByDefau
     {
         reserve_for_vertex(&mut self.dcel)?;
         reserve_for_edges(&mut self.work, 3 * (self.dcel.num_vertices() + 1))?;
+        let split = count_split::<M, _, _, _, _>(&self.dcel, &location);
         let vertex = insert_at::<M, _, _, _, _, _>(&mut self.dcel, location, turns, value, tests);
         legalize_star::<M, _, _, _, _, _>(&mut self.dcel, vertex, tests, &mut self.work, flips);
+        self.num_constraints += split;
         Ok(vertex)
     }
 

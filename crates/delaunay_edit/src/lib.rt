@@ -3,6 +3,7 @@
 
 mod constraint_edits;
 mod constraint_reads;
+mod counting;
 mod edge_data;
 mod edited_mesh;
 mod insertion;

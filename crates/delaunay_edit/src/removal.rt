@@ -8,6 +8,7 @@ ghost use Rattle.delaunay_removal.specs.Data.{KeepsDataOfOthers};
 ghost use Rattle.delaunay_edit.specs.Edits.{RemovesVertex};
 ghost use Rattle.delaunay_edit.specs.Headline.{AreSites, IsDelaunay};
 
+use crate::counting::count_constraints_at;
 use crate::edited_mesh::EditedMesh;
 use delaunay_core::math::PlaneTests;
 use delaunay_core::point::HasPosition;
@@ -60,6 +61,7 @@ impl<V: HasPosition, DE: Drop, UE: Drop, F: Drop, M: ConstraintMarker<UE>> Edite
         self.sides.clear();
         self.sides.reserve(self.dcel.num_directed_edges())?;
         let neighbours = neighbours_left(&self.dcel, vertex, *self.work.allocator())?;
+        let ending = count_constraints_at::<M, _, _, _, _>(&self.dcel, vertex);
         let value = remove_vertex::<M, _, _, _, _, _>(
             &mut self.dcel,
             vertex,
@@ -74,6 +76,7 @@ impl<V: HasPosition, DE: Drop, UE: Drop, F: Drop, M: ConstraintMarker<UE>> Edite
             &mut self.work,
             &mut flips,
         );
+        self.num_constraints -= ending;
         Ok(value)
     }
 
@@ -114,6 +117,7 @@ impl<V: HasPosition + Drop, DE: Drop, UE: Drop, F: Drop, M: ConstraintMarker<UE>
         ensures headline { IsDelaunay V.place M.constraints self.new }
     {
         self.dcel.clear();
+        self.num_constraints = 0;
         self.dcel.recall_invariant();
         self.recall_invariant();
     }

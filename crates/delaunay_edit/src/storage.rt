@@ -60,6 +60,7 @@ impl<
             dcel,
             work: Vec::new(alloc),
             sides: Vec::new(alloc),
+            num_constraints: 0,
             marks: PhantomData,
         })
     }
@@ -85,6 +86,7 @@ impl<
             dcel,
             work: Vec::new(alloc),
             sides: Vec::new(alloc),
+            num_constraints: self.num_constraints,
             marks: PhantomData,
         })
     }

@@ -1,9 +1,12 @@
-use Rattle.std.proofs.Common.{◌<◌, length, sym, subst}
+use Rattle.std.proofs.Common.{◌<◌, ◌≤◌, length, refl, sym, ap, subst, arith}
+use Rattle.half_edge_links.specs.declared.room.TheConstants.{MAX_ELEMENTS}
+use Rattle.delaunay_legalization.specs.CdtEdge.{is_constraint}
 use Rattle.plane.specs.Plain.{CanAdd}
 use Rattle.delaunay_legalization.specs.State.{state_of}
-use Rattle.delaunay_edit.specs.Constrained.{constrained}
+use Rattle.delaunay_edit.specs.Constrained.{constrained, constraint_edges}
 use Rattle.delaunay_edit.specs.ConstraintEdits.{MarksEdges}
 use Rattle.delaunay_edit.proofs.EditingConstraints.{edges_marked}
+use Rattle.delaunay_edit.proofs.Recounted.{counted_added, room_for_added}
 use Rattle.delaunay_edit.proofs.constraint_edits.ConstrainedMesh+V+DE+UE+F.add_path.Goals as goal
 
 pub add_constraints-requires-clause-way : goal.add_constraints-requires-clause-way
@@ -17,3 +20,20 @@ pub returns-clause-data : goal.returns-clause-data
 returns-clause-data g c =
     subst (λ s. MarksEdges s (state_of c.add_constraints.new.dcel)) c.self.view_is
     (edges_marked g.V.HasPosition.place c.self.inside.dcel c.add_constraints.new.dcel c.args.from c.args.to c.add_constraints.ensures.adds)
+
+pub overflow_add-self : goal.overflow_add-self
+overflow_add-self g c =
+    let room = room_for_added g.V.HasPosition.place is_constraint constraint_edges (λ ds. refl) (state_of c.self.inside.dcel)
+        (state_of c.add_constraints.new.dcel) c.self.inside.num_constraints c.self.invariant
+        c.add_constraints.ensures.adds.legal c.args.from c.args.to c.count_missing-missing.result
+        c.add_constraints.ensures.adds.plain c.count_missing-missing.ensures in
+    let same = ap length c.add_constraints.ensures.adds.plain.vertices in
+    let few = subst (λ s. length s.vertices ≤ MAX_ELEMENTS) (sym c.self.view_is) c.requires.few in
+    omega (arith, room, same, few)
+
+pub invariant_of-self-2 : goal.invariant_of-self-2
+invariant_of-self-2 g c =
+    counted_added g.V.HasPosition.place is_constraint constraint_edges (λ ds. refl) (state_of c.self.inside.dcel)
+    (state_of c.add_constraints.new.dcel) c.self.inside.num_constraints c.self.invariant
+    c.add_constraints.ensures.adds.legal c.args.from c.args.to c.count_missing-missing.result
+    c.add_constraints.ensures.adds.plain c.count_missing-missing.ensures

@@ -15,5 +15,5 @@ returns-clause-joined g c =
     let constraints = constraint_edges in
     let s = c.args.self.now in (
       (λ t. joined_by marks constraints (λ ds. refl) s.mesh s.undirected _ _ c.args.edge ((returns-clause-marked g c).0 t) (inl (refl, refl))),
-      (λ j. (returns-clause-marked g c).1 (fixed_if_joined at marks constraints (λ ds. refl) s (subst (IsTriangulated at) c.self.view_is c.self.invariant.kept) c.args.edge c.requires j)),
+      (λ j. (returns-clause-marked g c).1 (fixed_if_joined at marks constraints (λ ds. refl) s (subst (IsTriangulated at) c.self.view_is c.self.invariant.legal.kept) c.args.edge c.requires j)),
     )

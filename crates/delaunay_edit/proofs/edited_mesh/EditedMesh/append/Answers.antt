@@ -1,5 +1,9 @@
-use Rattle.std.proofs.Common.{◌∙◌, [], ◌∷◌, ◌++◌, ap, sym, subst, length, map, rules}
+use Rattle.std.proofs.Common.{◌∙◌, [], ◌∷◌, ◌++◌, ap, sym, subst, length, map, arith, rules}
+use Rattle.delaunay_edit.specs.Counting.{IsCounted}
 use Rattle.delaunay_edit.specs.Entry.{IsVacant}
+use Rattle.delaunay_edit.specs.Location.{Locates}
+use Rattle.delaunay_edit.proofs.CountingSplits.{counted_split, few_split}
+use Rattle.delaunay_edit.proofs.DifferentConstraints.{few_constraints}
 use Rattle.delaunay_legalization.specs.Shape.{IsTriangulated, IsDelaunayTriangulation}
 use Rattle.delaunay_legalization.specs.State.{state_of}
 use Rattle.delaunay_insertion.proofs.Appending.{sites_after}
@@ -20,7 +24,7 @@ legalize_star-requires-clause-sites g c =
 pub legalize_star-requires-clause-passing : goal.legalize_star-requires-clause-passing
 legalize_star-requires-clause-passing g c =
     passes_beside g.V.HasPosition.place g.M.ConstraintMarker.marks g.M.ConstraintMarker.constraints g.met.M.ConstraintMarker.constraints_are_marked c.args.self.now c.reserve_for_vertex.new.dcel c.insert_at-vertex.new.dcel c.args.value c.insert_at-vertex.result _
-    (subst (IsDelaunayTriangulation g.V.HasPosition.place g.M.ConstraintMarker.constraints) c.self.view_is c.self.invariant) (c.reserve_for_vertex.ensures.same ∙ c.self.view_is)
+    (subst (IsDelaunayTriangulation g.V.HasPosition.place g.M.ConstraintMarker.constraints) c.self.view_is c.self.invariant.legal) (c.reserve_for_vertex.ensures.same ∙ c.self.view_is)
     c.insert_at-vertex.ensures.takes.vertices c.insert_at-vertex.ensures.takes.is c.insert_at-vertex.ensures.takes.made c.insert_at-vertex.ensures.takes.kept c.insert_at-vertex.ensures.constraints
 
 pub returns-clause-appends : goal.returns-clause-appends
@@ -32,9 +36,39 @@ returns-clause-appends g c =
       vertices = search rules;
       outer = ap (λ d. d.outer) c.legalize_star.ensures.contents ∙ c.insert_at-vertex.ensures.takes.grows.outer ∙ ap (λ s. s.outer) (c.reserve_for_vertex.ensures.same ∙ c.self.view_is);
       «data» =
-          appended_keeps g.V.HasPosition.place c.args.value c.args.self.now c.reserve_for_vertex.new.dcel c.insert_at-vertex.new.dcel c.legalize_star.new.dcel (subst (IsTriangulated g.V.HasPosition.place) c.self.view_is c.self.invariant.kept) (c.reserve_for_vertex.ensures.same ∙ c.self.view_is)
+          appended_keeps g.V.HasPosition.place c.args.value c.args.self.now c.reserve_for_vertex.new.dcel c.insert_at-vertex.new.dcel c.legalize_star.new.dcel (subst (IsTriangulated g.V.HasPosition.place) c.self.view_is c.self.invariant.legal.kept) (c.reserve_for_vertex.ensures.same ∙ c.self.view_is)
           c.insert_at-vertex.ensures.takes.vertices c.insert_at-vertex.ensures.takes.kept c.insert_at-vertex.ensures.takes.grows c.legalize_star.ensures.contents c.legalize_star.ensures.indexes c.legalize_star.ensures.legal.kept;
       splits =
           splits_legalized g.V.HasPosition.place g.M.ConstraintMarker.constraints c.args.value (state_of c.reserve_for_vertex.new.dcel) c.args.self.now (state_of c.insert_at-vertex.new.dcel) (state_of c.legalize_star.new.dcel) c.insert_at-vertex.ensures.constraints (c.reserve_for_vertex.ensures.same ∙ c.self.view_is) c.legalize_star.ensures.constraints;
       err = tt;
     }
+
+pub invariant_of-self-2 : goal.invariant_of-self-2
+invariant_of-self-2 g c =
+    let at = g.V.HasPosition.place in
+    let marker = g.M.ConstraintMarker in
+    let old = c.reserve_for_vertex.new.dcel in
+    let same = c.reserve_for_vertex.ensures.same ∙ c.self.view_is in
+    counted_split at marker.marks marker.constraints g.met.M.ConstraintMarker.constraints_are_marked old
+    (state_of c.insert_at-vertex.new.dcel) (subst (IsTriangulated at) (sym c.reserve_for_vertex.ensures.same) c.self.invariant.legal.kept)
+    c.insert_at-vertex.ensures.takes.kept c.args.value c.args.location
+    (subst (λ s. Locates (map at s.vertices) s.mesh (at c.args.value) c.args.location) (sym same) c.requires.vacant.location)
+    c.insert_at-vertex.ensures.constraints c.self.inside.num_constraints c.count_split-split.result
+    (state_of c.legalize_star.new.dcel)
+    (subst (λ s. IsCounted at marker.constraints s c.self.inside.num_constraints) (sym c.reserve_for_vertex.ensures.same) c.self.invariant)
+    c.count_split-split.ensures c.legalize_star.ensures.legal c.legalize_star.ensures.constraints
+
+pub overflow_add-self : goal.overflow_add-self
+overflow_add-self g c =
+    let marker = g.M.ConstraintMarker in
+    let kept = c.self.invariant.legal.kept in
+    let few = few_constraints g.V.HasPosition.place marker.marks marker.constraints
+        g.met.M.ConstraintMarker.constraints_are_marked (state_of c.self.inside.dcel) kept in
+    let counted = c.self.invariant.counted in
+    let edges = kept.few_edges in
+    let size = ap (λ s. length s.vertices) c.reserve_for_vertex.ensures.same in
+    let value = c.num_vertices.ensures.value in
+    let small = c.num_vertices.ensures.small in
+    let split = few_split marker.constraints c.reserve_for_vertex.new.dcel.undirected c.args.location _
+        c.count_split-split.ensures in
+    omega (arith, few, counted, edges, size, value, small, split)

@@ -5,7 +5,7 @@ use Rattle.delaunay_location.specs.Location.{Locates}
 use Rattle.delaunay_edit.proofs.edited_mesh.EditedMesh.find_location.Goals as goal
 
 pub locate_with_hint-requires-clause-kept : goal.locate_with_hint-requires-clause-kept
-locate_with_hint-requires-clause-kept g c = c.self.invariant.kept
+locate_with_hint-requires-clause-kept g c = c.self.invariant.legal.kept
 
 pub locate_with_hint-requires-clause-sites : goal.locate_with_hint-requires-clause-sites
 locate_with_hint-requires-clause-sites g c = subst (λ s. All (g.P.PlaneTests.sites c.args.tests.now) (map g.V.HasPosition.place s.vertices)) (sym c.self.view_is) c.requires.sites

@@ -9,6 +9,7 @@ use Rattle.delaunay_removal.specs.Data.{KeepsDataBeside}
 use Rattle.delaunay_removal.proofs.DataLegalized.{legalized_keeps_others}
 use Rattle.delaunay_removal.proofs.Passing.{neighbours_within, passes_beyond}
 use Rattle.delaunay_edit.proofs.Removing.{sites_left, room_left, removed_on}
+use Rattle.delaunay_edit.proofs.Recounted.{counted_removed, some_removed}
 use Rattle.delaunay_edit.proofs.edited_mesh.EditedMesh.take_out.Goals as goal
 
 pub legalize_among-requires-clause-sites : goal.legalize_among-requires-clause-sites
@@ -43,7 +44,7 @@ legalize_among-requires-clause-within g c =
     let constraints = g.M.ConstraintMarker.constraints in
     let ds = c.remove_vertex-value.new.dcel in
     subst (λ (vs : List ℕ). (k : ℕ) → Contains vs k → k < length ds.vertices) (sym {A = List ℕ} c.as_slice.ensures.value)
-    (neighbours_within at constraints (state_of c.self.inside.dcel) (state_of ds) c.args.vertex c.remove_vertex-value.result c.self.invariant c.remove_vertex-value.ensures.kept
+    (neighbours_within at constraints (state_of c.self.inside.dcel) (state_of ds) c.args.vertex c.remove_vertex-value.result c.self.invariant.legal c.remove_vertex-value.ensures.kept
     c.remove_vertex-value.ensures.plain c.remove_vertex-value.ensures.faces c.in_ok-neighbours.neighbours.items c.in_ok-neighbours.ensures)
 
 pub legalize_among-requires-clause-passing : goal.legalize_among-requires-clause-passing
@@ -52,5 +53,27 @@ legalize_among-requires-clause-passing g c =
     let constraints = g.M.ConstraintMarker.constraints in
     let ds = c.remove_vertex-value.new.dcel in
     subst (λ (vs : List ℕ). AllPassBeyond (map at ds.vertices) (faces_of ds.mesh) (constraints_by constraints (state_of ds)) vs) (sym {A = List ℕ} c.as_slice.ensures.value)
-    (passes_beyond at constraints (state_of c.self.inside.dcel) (state_of ds) c.args.vertex c.remove_vertex-value.result c.self.invariant c.remove_vertex-value.ensures.kept
+    (passes_beyond at constraints (state_of c.self.inside.dcel) (state_of ds) c.args.vertex c.remove_vertex-value.result c.self.invariant.legal c.remove_vertex-value.ensures.kept
     c.remove_vertex-value.ensures.plain c.remove_vertex-value.ensures.faces c.in_ok-neighbours.neighbours.items c.in_ok-neighbours.ensures)
+
+pub overflow_sub-self : goal.overflow_sub-self
+overflow_sub-self g c =
+    let at = g.V.HasPosition.place in
+    let marker = g.M.ConstraintMarker in
+    some_removed at marker.marks marker.constraints g.met.M.ConstraintMarker.constraints_are_marked
+    (state_of c.self.inside.dcel) (state_of c.legalize_among.new.dcel) c.self.inside.num_constraints c.self.invariant
+    c.legalize_among.ensures.legal c.args.vertex c.count_constraints_at-ending.result
+    (removed_on at marker.constraints (state_of c.self.inside.dcel) c.remove_vertex-value.new.dcel c.legalize_among.new.dcel
+    c.args.vertex c.remove_vertex-value.ensures.plain c.legalize_among.ensures.contents c.legalize_among.ensures.constraints)
+    c.count_constraints_at-ending.ensures
+
+pub invariant_of-self-2 : goal.invariant_of-self-2
+invariant_of-self-2 g c =
+    let at = g.V.HasPosition.place in
+    let marker = g.M.ConstraintMarker in
+    counted_removed at marker.marks marker.constraints g.met.M.ConstraintMarker.constraints_are_marked
+    (state_of c.self.inside.dcel) (state_of c.legalize_among.new.dcel) c.self.inside.num_constraints c.self.invariant
+    c.legalize_among.ensures.legal c.args.vertex c.count_constraints_at-ending.result
+    (removed_on at marker.constraints (state_of c.self.inside.dcel) c.remove_vertex-value.new.dcel c.legalize_among.new.dcel
+    c.args.vertex c.remove_vertex-value.ensures.plain c.legalize_among.ensures.contents c.legalize_among.ensures.constraints)
+    c.count_constraints_at-ending.ensures

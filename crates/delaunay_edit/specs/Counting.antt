@@ -1,0 +1,42 @@
+-- How many constraints there are.
+use Rattle.std.specs.Prelude.{◌≡◌, ◌⊎◌, ◌↔◌, ℕ, ◌/◌, List, length, Contains}
+use Rattle.plane.specs.Fraction.{Point}
+use Rattle.plane.specs.Pairs.{Joins, EachPairOnce}
+use Rattle.plane_segments.specs.Constraints.{AreNextOn}
+use Rattle.delaunay_location.specs.declared.position_in_triangulation.PositionInTriangulation.{PositionInTriangulation}
+use Rattle.delaunay_location.specs.declared.position_in_triangulation.PositionInTriangulation.TheVariants.{OnVertex, OnEdge, OnFace, OutsideOfConvexHull, NoTriangulation}
+use Rattle.delaunay_legalization.specs.Constraints.{constraints_by}
+use Rattle.delaunay_legalization.specs.Shape.{IsDelaunayTriangulation}
+use Rattle.delaunay_legalization.specs.State.{State}
+
+-- so many pairs are in this relation: a list has each of them, once
+pub record HasPairs (J : ℕ → ℕ → Type 0) (n : ℕ) : Type 0 where
+  pub pairs : List (ℕ × ℕ)
+  pub count : length pairs ≡ n
+  pub once : EachPairOnce pairs
+  pub exact : (a b : ℕ) → Joins pairs a b ↔ J a b
+
+-- the location is on an edge that is a constraint
+abbrev pub IsOnConstraint : {U : Type 0} → (List U → List ℕ) → List U → PositionInTriangulation → Type 0
+IsOnConstraint constraints ds (OnEdge e) = Contains (constraints ds) (e / 2)
+IsOnConstraint constraints ds (OnVertex v) = ⊥
+IsOnConstraint constraints ds (OnFace f) = ⊥
+IsOnConstraint constraints ds (OutsideOfConvexHull e) = ⊥
+IsOnConstraint constraints ds NoTriangulation = ⊥
+
+-- one where the location is on a constraint, and else none
+abbrev pub IsSplitCount : {U : Type 0} → (List U → List ℕ) → List U → PositionInTriangulation → ℕ → Type 0
+IsSplitCount constraints ds answer n = (IsOnConstraint constraints ds answer × (n ≡ 1)) ⊎ ((¬ IsOnConstraint constraints ds answer) × (n ≡ 0))
+
+-- a constraint joins a and b, of which one is vertex v
+abbrev pub EndsAt : List (ℕ × ℕ) → ℕ → ℕ → ℕ → Type 0
+EndsAt pairs v a b = Joins pairs a b × ((a ≡ v) ⊎ (b ≡ v))
+
+-- a and b are a piece of the path from i to j that is no pair of the list
+abbrev pub IsMissing : List Point → List (ℕ × ℕ) → ℕ → ℕ → ℕ → ℕ → Type 0
+IsMissing points pairs i j a b = AreNextOn points i j a b × ¬ Joins pairs a b
+
+-- a triangulation with the number of its constraints
+pub record IsCounted {V D U F : Type 0} (place : V → Point) (constraints : List U → List ℕ) (s : State V D U F) (number : ℕ) : Type 0 where
+  pub legal : IsDelaunayTriangulation place constraints s
+  pub counted : number ≡ length (constraints_by constraints s)

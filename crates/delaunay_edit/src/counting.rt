@@ -1,0 +1,82 @@
+//! How many constraints an edit makes or takes, by a look at what it changes.
+ghost use Rattle.std.specs.Prelude.{◌≡◌, ◌<◌, length, map, All};
+ghost use Rattle.delaunay_legalization.specs.Constraints.{constraints_by};
+ghost use Rattle.delaunay_legalization.specs.Shape.{IsTriangulated};
+ghost use Rattle.delaunay_legalization.specs.State.{state_of};
+ghost use Rattle.delaunay_edit.specs.Counting.{EndsAt, HasPairs, IsMissing, IsSplitCount};
+ghost use Rattle.delaunay_edit.specs.Location.{HasHandle};
+
+use delaunay_core::math::PlaneTests;
+use delaunay_core::point::HasPosition;
+use delaunay_legalization::{ConstraintMarker, is_constraint_edge};
+use delaunay_location::PositionInTriangulation;
+use delaunay_paths::{is_constraint_between, next_on_path};
+use half_edge_mesh::{Dcel, FixedVertexHandle, MeshViews};
+
+// How many constraints a new vertex at a location makes of one: one more where it is on a constraint.
+pub(crate) fn count_split<M: ConstraintMarker<UE>, V: HasPosition, DE, UE, F>(
+    dcel: &Dcel<V, DE, UE, F>,
+    location: &PositionInTriangulation,
+) -> usize
+    requires handle { HasHandle dcel.now.mesh location.now }
+    requires kept { IsTriangulated V.place (state_of dcel.now) }
+    ensures { IsSplitCount M.constraints dcel.now.undirected location.now result }
+{
+    match *location {
+        PositionInTriangulation::OnEdge(edge) => {
+            if is_constraint_edge::<M, _, _, _, _>(dcel, edge.as_undirected()) {
+                1
+            } else {
+                0
+            }
+        }
+        _ => 0,
+    }
+}
+
+// How many constraints end at a vertex.
+pub(crate) fn count_constraints_at<M: ConstraintMarker<UE>, V: HasPosition, DE, UE, F>(
+    dcel: &Dcel<V, DE, UE, F>,
+    vertex: FixedVertexHandle,
+) -> usize
+    requires within { vertex < length dcel.now.vertices }
+    requires kept { IsTriangulated V.place (state_of dcel.now) }
+    ensures { HasPairs (EndsAt (constraints_by M.constraints (state_of dcel.now)) vertex) result }
+{
+    dcel.recall_invariant();
+    let mut count = 0;
+    for edge in dcel.vertex(vertex).out_edges() {
+        if is_constraint_edge::<M, _, _, _, _>(dcel, edge.fix().as_undirected()) {
+            count += 1;
+        }
+    }
+    count
+}
+
+// How many pieces of the path between two vertices are no constraints.
+pub(crate) fn count_missing<
+    M: ConstraintMarker<UE>,
+    V: HasPosition,
+    DE,
+    UE,
+    F,
+    P: PlaneTests<V::Scalar>,
+>(dcel: &Dcel<V, DE, UE, F>, from: FixedVertexHandle, to: FixedVertexHandle, tests: &P) -> usize
+    requires from_in { from < length dcel.now.vertices }
+    requires to_in { to < length dcel.now.vertices }
+    requires kept { IsTriangulated V.place (state_of dcel.now) }
+    requires sites { All (P.sites tests.now) (map V.place dcel.now.vertices) }
+    ensures { let pairs = constraints_by M.constraints (state_of dcel.now) in
+        HasPairs (IsMissing (map V.place dcel.now.vertices) pairs from to) result }
+{
+    let mut count = 0;
+    let mut at = from;
+    while at != to {
+        let next = next_on_path(dcel, at, to, tests);
+        if !is_constraint_between::<M, _, _, _, _>(dcel, at, next) {
+            count += 1;
+        }
+        at = next;
+    }
+    count
+}
