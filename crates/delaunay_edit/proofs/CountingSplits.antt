@@ -85,7 +85,10 @@ module _ {V D U F : Type 0} (place : V → Point) (marks : U → Bool) (constrai
 
   -- the kept number afterwards, once edges are flipped
   pub counted_split : (number n : ℕ) (last : State V D U F) → IsCounted place constraints (state_of old) number → IsSplitCount constraints old.undirected answer n → IsDelaunayTriangulation place constraints last → constraints_by constraints last ≡ constraints_by constraints new → IsCounted place constraints last (number + n)
-  counted_split number n last before split legal same = record { legal = legal; counted = elim split [
-    | inl x ↦ (let more = one_more_constraint x.0 in let one = x.1 in let counted = before.counted in let flips = ap (λ (ps : List (ℕ × ℕ)). length ps) same in omega (arith, more, one, counted, flips))
-    | inr x ↦ (let still = as_many x.0 in let none = x.1 in let counted = before.counted in let flips = ap (λ (ps : List (ℕ × ℕ)). length ps) same in omega (arith, still, none, counted, flips))
-  ] }
+  counted_split number n last before split legal same = record {
+    legal = legal;
+    counted = elim split [
+      | inl x ↦ (let more = one_more_constraint x.0 in let one = x.1 in let counted = before.counted in let flips = ap (λ (ps : List (ℕ × ℕ)). length ps) same in omega (arith, more, one, counted, flips))
+      | inr x ↦ (let still = as_many x.0 in let none = x.1 in let counted = before.counted in let flips = ap (λ (ps : List (ℕ × ℕ)). length ps) same in omega (arith, still, none, counted, flips))
+    ];
+  }

@@ -18,9 +18,9 @@ loop-edge-init g c =
 pub is_constraint_edge-requires : goal.is_constraint_edge-requires
 is_constraint_edge-requires g c =
     let w = next_at g.V.HasPosition.place g.M.ConstraintMarker.marks g.M.ConstraintMarker.constraints
-        g.met.M.ConstraintMarker.constraints_are_marked c.args.dcel.now c.requires.kept c.args.vertex
-        (out_edges_left c.loop-edge.edge-iterator) c.loop-edge.count c.loop-edge.invariant
-        (c.in-Some.edge.dcel, c.in-Some.edge.index) (out_edges_left c.next.new.self) c.in-Some.ensures.steps in
+    g.met.M.ConstraintMarker.constraints_are_marked c.args.dcel.now c.requires.kept c.args.vertex
+    (out_edges_left c.loop-edge.edge-iterator) c.loop-edge.count c.loop-edge.invariant
+    (c.in-Some.edge.dcel, c.in-Some.edge.index) (out_edges_left c.next.new.self) c.in-Some.ensures.steps in
     let fit = c.requires.kept.fits.undirected_fit in
     let is = c.fix.ensures.value in
     let half = c.as_undirected.ensures in

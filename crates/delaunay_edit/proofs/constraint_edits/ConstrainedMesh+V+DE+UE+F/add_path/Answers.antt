@@ -24,9 +24,9 @@ returns-clause-data g c =
 pub overflow_add-self : goal.overflow_add-self
 overflow_add-self g c =
     let room = room_for_added g.V.HasPosition.place is_constraint constraint_edges (λ ds. refl) (state_of c.self.inside.dcel)
-        (state_of c.add_constraints.new.dcel) c.self.inside.num_constraints c.self.invariant
-        c.add_constraints.ensures.adds.legal c.args.from c.args.to c.count_missing-missing.result
-        c.add_constraints.ensures.adds.plain c.count_missing-missing.ensures in
+    (state_of c.add_constraints.new.dcel) c.self.inside.num_constraints c.self.invariant
+    c.add_constraints.ensures.adds.legal c.args.from c.args.to c.count_missing-missing.result
+    c.add_constraints.ensures.adds.plain c.count_missing-missing.ensures in
     let same = ap length c.add_constraints.ensures.adds.plain.vertices in
     let few = subst (λ s. length s.vertices ≤ MAX_ELEMENTS) (sym c.self.view_is) c.requires.few in
     omega (arith, room, same, few)

@@ -63,12 +63,12 @@ overflow_add-self g c =
     let marker = g.M.ConstraintMarker in
     let kept = c.self.invariant.legal.kept in
     let few = few_constraints g.V.HasPosition.place marker.marks marker.constraints
-        g.met.M.ConstraintMarker.constraints_are_marked (state_of c.self.inside.dcel) kept in
+    g.met.M.ConstraintMarker.constraints_are_marked (state_of c.self.inside.dcel) kept in
     let counted = c.self.invariant.counted in
     let edges = kept.few_edges in
     let size = ap (λ s. length s.vertices) c.reserve_for_vertex.ensures.same in
     let value = c.num_vertices.ensures.value in
     let small = c.num_vertices.ensures.small in
     let split = few_split marker.constraints c.reserve_for_vertex.new.dcel.undirected c.args.location _
-        c.count_split-split.ensures in
+    c.count_split-split.ensures in
     omega (arith, few, counted, edges, size, value, small, split)
