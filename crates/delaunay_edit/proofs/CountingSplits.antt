@@ -1,6 +1,5 @@
 -- One constraint becomes two where a vertex is strictly within it, and else there are as many as before.
-use Rattle.std.proofs.Common.{◌≡◌, ℕ, suc, ◌/◌, Bool, List, length, map, refl, sym, ap, subst, inl, inr, arith, ◌+◌, ◌≤◌}
-use Rattle.std.specs.Prelude.{Contains}
+use Rattle.std.proofs.Common.{◌≡◌, ℕ, suc, Bool, List, length, map, refl, ap, inl, inr, arith, ◌+◌, ◌≤◌}
 use Rattle.half_edge_mesh.specs.Contents.{Contents}
 use Rattle.half_edge_mesh.specs.Mesh.{origin, rev}
 use Rattle.plane.specs.Fraction.{Point, whole}

@@ -1,15 +1,14 @@
 -- The kept number of constraints after an edit.
-use Rattle.std.proofs.Common.{◌≡◌, ◌∙◌, ℕ, suc, ◌+◌, ◌-◌, ◌*◌, ◌≤◌, Bool, List, [], length, map, refl, sym, ap, arith}
+use Rattle.std.proofs.Common.{◌≡◌, ◌∙◌, ℕ, ◌+◌, ◌-◌, ◌*◌, ◌≤◌, Bool, List, [], length, map, sym, ap, arith}
 use Rattle.plane.specs.Fraction.{Point}
 use Rattle.plane.specs.Pairs.{EachPairOnce}
 use Rattle.plane.specs.Plain.{Adds, IsPlain, Releases, Removes}
 use Rattle.delaunay_legalization.specs.Constraints.{constraints_by, marked_edges, points_and_constraints_by}
-use Rattle.delaunay_legalization.specs.Shape.{IsDelaunayTriangulation, IsTriangulated}
+use Rattle.delaunay_legalization.specs.Shape.{IsDelaunayTriangulation}
 use Rattle.delaunay_legalization.specs.State.{State}
 use Rattle.delaunay_legalization.proofs.ConstraintEdges.{constraints_are_edges}
 use Rattle.delaunay_edit.specs.Counting.{EndsAt, HasPairs, IsCounted, IsMissing}
 use Rattle.delaunay_edit.proofs.Constrained.{plain_with_edges}
-use Rattle.delaunay_edit.proofs.Delaunay.{none_without_edges}
 use Rattle.delaunay_edit.proofs.DifferentConstraints.{constraints_once, few_constraints}
 use Rattle.delaunay_edit.proofs.EditCounts.{added_number, released_number, removed_number}
 use Rattle.delaunay_edit.proofs.EditingConstraints.{neighbours_of, next_of}

@@ -1,5 +1,4 @@
 use Rattle.std.proofs.Common.{◌≡◌, ◌≢◌, map, rules}
-use Rattle.std.specs.Prelude.{All}
 use Rattle.std.proofs.lemmas.List.Elements.{All-map}
 use Rattle.plane.specs.Tests.{InRange}
 use Rattle.mesh_embedding.specs.Drawn.{faces_of, outer_of}

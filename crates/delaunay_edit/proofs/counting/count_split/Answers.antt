@@ -1,6 +1,5 @@
-use Rattle.std.proofs.Common.{◌∙◌, refl, sym, subst, inl, inr, arith, ◌/◌, ◌≡◌, ℕ}
+use Rattle.std.proofs.Common.{refl, sym, subst, inl, inr, arith, ℕ}
 use Rattle.std.specs.Prelude.{Contains}
-use Rattle.half_edge_mesh.specs.Mesh.{Mesh}
 use Rattle.delaunay_edit.specs.Location.{HasHandle}
 use Rattle.delaunay_legalization.proofs.Questions.{both_ways}
 use Rattle.delaunay_edit.specs.Counting.{IsSplitCount}
