@@ -20,11 +20,6 @@ use std::mem::replace;
 use test_script::{Call, index};
 use triangulate_run::sheet::Sheet;
 
-// An index that is given, or one that no element has.
-fn index(number: i64) -> u32 {
-    u32::try_from(number).unwrap_or(u32::MAX)
-}
-
 fn tag(number: i64) -> u64 {
     u64::try_from(number).unwrap_or(0)
 }
