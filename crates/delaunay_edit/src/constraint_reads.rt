@@ -62,7 +62,7 @@ impl<V: HasPosition, DE, UE, F> ConstrainedMesh<V, DE, UE, F> {
             num_constraints,
             marks,
         } = plain;
-        match dcel.map_undirected_edges(free_edge_data) {
+        match dcel.map_undirected_edges(|data| free_edge_data(data)) {
             Ok(dcel) => {
                 let constrained = EditedMesh {
                     dcel,
