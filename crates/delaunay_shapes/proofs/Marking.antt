@@ -1,10 +1,9 @@
 -- Lists of what a test says of the numbers below a count: at a number, of a test that none passes, and with one more.
-use Rattle.std.proofs.Common.{◌≡◌, ◌⊎◌, ℕ, ◌<◌, List, length, map, get_or, set, replicate, refl, sym, ◌∙◌, subst, eq-eqb, arith}
+use Rattle.std.proofs.Common.{◌≡◌, ◌⊎◌, ℕ, ◌<◌, length, get_or, set, replicate, refl, sym, ◌∙◌, subst, eq-eqb, arith}
 use mathlib.Core.Logic.{inl, inr, ◌≢◌}
 use mathlib.Core.Bool.{Bool, true, false}
 use Rattle.std.specs.Prelude.{cond, nat_eq}
-use Rattle.std.specs.List.{range_with_len}
-use Rattle.std.proofs.lemmas.Bool.{cases_eq, eqb-true}
+use Rattle.std.proofs.lemmas.Bool.{eqb-true}
 use Rattle.std.proofs.lemmas.List.{ext_get_or, get_or-set_same, get_or-set_other, length-set, length-replicate, get_or-replicate}
 use Rattle.std.proofs.lemmas.List.FromFn.{length-map-range_with_len, get_or-map-range_with_len}
 use Rattle.delaunay_shapes.specs.Marks.{tests_below}
@@ -39,7 +38,7 @@ one_more n f f' k more = ext_get_or false (tests_below n f') (set (tests_below n
         let is : k ≡ i = eqb-true k i e in
         let now : f' i ≡ true = subst (λ b. f' i ≡ cond b true (f i)) e (more i) in
         let there : get_or (set (tests_below n f) i true) i false ≡ true =
-            get_or-set_same (tests_below n f) i true false (below_count (length (tests_below n f)) n i (sym (tests_count n f)) h) in
+        get_or-set_same (tests_below n f) i true false (below_count (length (tests_below n f)) n i (sym (tests_count n f)) h) in
         test_at n f' i h ∙ now ∙ sym (subst (λ x. get_or (set (tests_below n f) x true) i false ≡ true) (sym is) there)
     was i h (inr e) =
         let now : f' i ≡ f i = subst (λ b. f' i ≡ cond b true (f i)) e (more i) in
