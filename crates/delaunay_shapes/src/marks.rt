@@ -1,5 +1,6 @@
 //! Marks on the numbers below a count: memory and time go by those marked, and not by the count.
-ghost use Rattle.std.specs.Prelude.{◌≡◌, ◌<◌, length, replicate, slice_index_or, slice_set, false, true, OnOk};
+ghost use Rattle.std.specs.Prelude.{◌≡◌, ◌<◌, false, true, length, replicate, OnOk};
+ghost use Rattle.std.specs.Prelude.{slice_index_or, slice_set};
 
 use std::alloc::{AllocError, Global};
 use std::collections::HashSet;

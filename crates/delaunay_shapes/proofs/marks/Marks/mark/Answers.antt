@@ -8,5 +8,7 @@ use Rattle.delaunay_shapes.proofs.marks.Marks.mark.Goals as goal
 
 pub returns : goal.returns
 returns c =
-    subst (λ xs. tests_below c.self.inside.count (contains nat_eq c.insert.new.self) ≡ set xs c.args.index true) c.self.view_is
-    (one_more c.self.inside.count (contains nat_eq c.self.inside.marked) (contains nat_eq c.insert.new.self) c.args.index c.in_ok-insert.ensures.updates.0)
+    let test = contains nat_eq c.self.inside.marked in
+    let test' = contains nat_eq c.insert.new.self in
+    subst (λ xs. tests_below c.self.inside.count test' ≡ set xs c.args.index true) c.self.view_is
+    (one_more c.self.inside.count test test' c.args.index c.in_ok-insert.ensures.updates.0)
