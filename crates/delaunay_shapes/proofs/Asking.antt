@@ -1,15 +1,13 @@
 -- Lists of what has a point in a shape, as they grow.
-use Rattle.std.proofs.Common.{◌≡◌, ◌↔◌, ℕ, zero, suc, ◌+◌, ◌<◌, ◌≤◌, List, [], ◌∷◌, ◌++◌, length, map, get_or, set, drop, refl, sym, ap, ◌∙◌, subst, arith, drop-cons, append_assoc, length-append, ◌*◌, ◌/◌}
+use Rattle.std.proofs.Common.{◌≡◌, ◌↔◌, ℕ, ◌+◌, ◌<◌, ◌≤◌, List, [], ◌∷◌, ◌++◌, length, get_or, set, refl, sym, ap, ◌∙◌, subst, arith, append_assoc, length-append, ◌*◌, ◌/◌}
 use mathlib.Core.Logic.{inl, inr, ◌≢◌}
 use mathlib.Core.Bool.{Bool, true, false}
 use Rattle.std.specs.Prelude.{Contains}
 use Rattle.std.proofs.lemmas.Bool.{cases_eq}
 use Rattle.std.proofs.lemmas.List.{get_or-set_same, get_or-set_other, get_or_append_left, length-set, append-nil}
-use Rattle.std.proofs.lemmas.List.{length-replicate}
-use Rattle.std.specs.Prelude.{replicate}
 use Rattle.half_edge_mesh.specs.Mesh.{Mesh, next, prev, rev}
-use Rattle.plane_tiling.proofs.Totals.{Contains-none, get_or_any}
-use Rattle.plane_edits.proofs.Changes.{IsOnce, once_none}
+use Rattle.plane_tiling.proofs.Totals.{get_or_any}
+use Rattle.plane_edits.proofs.Changes.{IsOnce}
 use Rattle.mesh_embedding.proofs.WorkLists.{contains_last, contains_before, last_or_before, once_after}
 use Rattle.delaunay_shapes.specs.Flood.{IsAsked, IsFlooding, GoesOn, Asks, AsksBeside, AreAskedBeside, IsSpread}
 

@@ -1,6 +1,6 @@
 -- Lists of the edges that a flood begins with.
 use Rattle.std.proofs.Common.{◌≡◌, ℕ, ◌/◌, [], ◌∷◌, arith}
-use Rattle.std.specs.Prelude.{All, Contains, Result, Ok, Err, IfOk}
+use Rattle.std.specs.Prelude.{All, Result, Ok, Err, IfOk}
 use Rattle.std.proofs.lemmas.List.Elements.{All-cons, All-nil}
 use Rattle.half_edge_mesh.specs.Mesh.{Mesh, next, prev}
 use Rattle.delaunay_shapes.specs.Start.{HasSides}

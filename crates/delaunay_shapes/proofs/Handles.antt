@@ -1,5 +1,5 @@
 -- What a handle tells, of the mesh and the index that it has.
-use Rattle.std.proofs.Common.{◌≡◌, ◌↔◌, ℕ, ◌*◌, ◌/◌, ◌<◌, ◌≤◌, List, length, map, get_or, sym, ap, ◌∙◌, subst, arith}
+use Rattle.std.proofs.Common.{◌≡◌, ◌↔◌, ℕ, ◌*◌, ◌/◌, ◌<◌, ◌≤◌, List, length, map, get_or, set, sym, ap, ◌∙◌, subst, arith}
 use mathlib.Core.Bool.{Bool, true, false}
 use Rattle.std.specs.Prelude.{pos, All, IsTrue}
 use Rattle.std.specs.Borrow.{Bor}
@@ -89,11 +89,12 @@ filtered_vertices Shape points i n found f last all = record {
 }
 
 -- ---- what a flood found
-pub not_asked : (asked : List Bool) (k i : ℕ) (b : Bool) → i ≡ k → k < length asked → b ≡ false → b ≡ get_or asked i b → IsAsked asked k → ⊥
-not_asked asked k i b e w off is there =
-    let at : b ≡ get_or asked k b = is ∙ ap (λ (x : ℕ). get_or asked x b) e in
-    let any : get_or asked k b ≡ get_or asked k false = get_or_any asked k b false w in
-    let same : false ≡ true = sym off ∙ at ∙ any ∙ there in absurd (cc)
+pub not_asked : (asked : List Bool) (k i : ℕ) (b : Bool) → i ≡ k → b ≡ false → b ≡ get_or asked i false → IsAsked asked k → ⊥
+not_asked asked k i b e off is there = let same : false ≡ true = sym off ∙ is ∙ ap (λ (x : ℕ). get_or asked x false) e ∙ there in absurd (cc)
+
+-- the marks with one more, by the index of its handle
+pub marked_by : (asked asked' : List Bool) (k i : ℕ) → i ≡ k → asked' ≡ set asked i true → asked' ≡ set asked k true
+marked_by asked asked' k i e is = is ∙ ap (λ (x : ℕ). set asked x true) e
 
 pub found_below : (Inside : ℕ → Type 0) (count : ℕ) (asked : List Bool) (found : List ℕ) (i d : ℕ) → IsFlooding Inside count asked found → i < length found → get_or found i d < count
 found_below Inside count asked found i d f h = f.within (get_or found i d) (i, h, get_or_any found i (get_or found i d) d h)

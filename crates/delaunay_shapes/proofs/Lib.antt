@@ -10,3 +10,4 @@ pub mod Starting
 pub mod FirstEdges
 pub mod VertexFlood
 pub mod Shapes
+pub mod Marking

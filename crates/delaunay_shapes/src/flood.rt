@@ -1,5 +1,5 @@
 //! A flood over the edges of a mesh that have a point in a shape: from those found, to those beside them in their faces.
-ghost use Rattle.std.specs.Prelude.{◌≡◌, ◌<◌, ℕ, false, length, map, replicate, All, Contains, IfOk, OnOk};
+ghost use Rattle.std.specs.Prelude.{◌<◌, ℕ, length, map, All, Contains, IfOk, OnOk};
 ghost use Rattle.mesh_embedding.specs.Drawn.{faces_of, outer_of};
 ghost use Rattle.plane_tiling.specs.Local.{IsMesh};
 ghost use Rattle.delaunay_shapes.specs.Flood.{Asks, AsksBeside, GoesOn, IsAsked, IsBegunBy, IsFlooding, IsRegion, IsSpread};
@@ -8,6 +8,7 @@ ghost use Rattle.delaunay_shapes.specs.Left.{GivesEdgesIn, edges_left};
 
 use crate::distance_metric::DistanceMetric;
 use crate::in_shape::EdgesInShapeIterator;
+use crate::marks::Marks;
 use delaunay_core::math::PlaneTests;
 use delaunay_core::point::HasPosition;
 use half_edge_mesh::{Dcel, FixedDirectedEdgeHandle, FixedUndirectedEdgeHandle, MeshViews};
@@ -19,20 +20,20 @@ fn ask<V: HasPosition, DE, UE, F, M: DistanceMetric<V::Scalar>, P: PlaneTests<V:
     metric: &M,
     tests: &P,
     edge: FixedUndirectedEdgeHandle,
-    asked: &mut Vec<bool>,
+    asked: &mut Marks,
     found: &mut Vec<FixedUndirectedEdgeHandle>,
 ) -> Result<(), AllocError>
     requires own_covered { All (P.covered tests.now) (M.own_points metric.now) }
     requires covered { All (P.covered tests.now) (map V.place dcel.now.vertices) }
     requires within { edge < length dcel.now.undirected }
-    requires flooding { IsFlooding (IsInside (M.shape metric.now) V.place dcel.now) (length dcel.now.undirected) asked.old.items found.old.items }
-    ensures { OnOk result (Asks (IsInside (M.shape metric.now) V.place dcel.now) (length dcel.now.undirected) asked.old.items asked.new.items found.old.items found.new.items edge) }
+    requires flooding { IsFlooding (IsInside (M.shape metric.now) V.place dcel.now) (length dcel.now.undirected) asked.old found.old.items }
+    ensures { OnOk result (Asks (IsInside (M.shape metric.now) V.place dcel.now) (length dcel.now.undirected) asked.old asked.new found.old.items found.new.items edge) }
 {
-    let index = edge.index() as usize;
-    if asked[index] {
+    let index = edge.index();
+    if asked.is_marked(index) {
         return Ok(());
     }
-    asked[index] = true;
+    asked.mark(index)?;
     if metric.is_handle_inside(dcel.undirected_edge(edge), tests) {
         found.push(edge)?;
     }
@@ -45,14 +46,14 @@ fn ask_beside<V: HasPosition, DE, UE, F, M: DistanceMetric<V::Scalar>, P: PlaneT
     metric: &M,
     tests: &P,
     edge: FixedDirectedEdgeHandle,
-    asked: &mut Vec<bool>,
+    asked: &mut Marks,
     found: &mut Vec<FixedUndirectedEdgeHandle>,
 ) -> Result<(), AllocError>
     requires own_covered { All (P.covered tests.now) (M.own_points metric.now) }
     requires covered { All (P.covered tests.now) (map V.place dcel.now.vertices) }
     requires within { edge < length dcel.now.directed }
-    requires flooding { IsFlooding (IsInside (M.shape metric.now) V.place dcel.now) (length dcel.now.undirected) asked.old.items found.old.items }
-    ensures { OnOk result (AsksBeside (IsInside (M.shape metric.now) V.place dcel.now) dcel.now.mesh (length dcel.now.undirected) asked.old.items asked.new.items found.old.items found.new.items edge) }
+    requires flooding { IsFlooding (IsInside (M.shape metric.now) V.place dcel.now) (length dcel.now.undirected) asked.old found.old.items }
+    ensures { OnOk result (AsksBeside (IsInside (M.shape metric.now) V.place dcel.now) dcel.now.mesh (length dcel.now.undirected) asked.old asked.new found.old.items found.new.items edge) }
 {
     let edge = dcel.directed_edge(edge);
     let after = edge.next().as_undirected().fix();
@@ -66,15 +67,15 @@ fn spread<V: HasPosition, DE, UE, F, M: DistanceMetric<V::Scalar>, P: PlaneTests
     dcel: &Dcel<V, DE, UE, F>,
     metric: &M,
     tests: &P,
-    asked: &mut Vec<bool>,
+    asked: &mut Marks,
     found: &mut Vec<FixedUndirectedEdgeHandle>,
 ) -> Result<(), AllocError>
     requires own_covered { All (P.covered tests.now) (M.own_points metric.now) }
     requires covered { All (P.covered tests.now) (map V.place dcel.now.vertices) }
-    requires flooding { IsFlooding (IsInside (M.shape metric.now) V.place dcel.now) (length dcel.now.undirected) asked.old.items found.old.items }
-    ensures flooding { OnOk result (IsFlooding (IsInside (M.shape metric.now) V.place dcel.now) (length dcel.now.undirected) asked.new.items found.new.items) }
-    ensures on { OnOk result (GoesOn asked.old.items asked.new.items found.old.items found.new.items) }
-    ensures spread { OnOk result (IsSpread dcel.now.mesh asked.new.items found.new.items) }
+    requires flooding { IsFlooding (IsInside (M.shape metric.now) V.place dcel.now) (length dcel.now.undirected) asked.old found.old.items }
+    ensures flooding { OnOk result (IsFlooding (IsInside (M.shape metric.now) V.place dcel.now) (length dcel.now.undirected) asked.new found.new.items) }
+    ensures on { OnOk result (GoesOn asked.old asked.new found.old.items found.new.items) }
+    ensures spread { OnOk result (IsSpread dcel.now.mesh asked.new found.new.items) }
 {
     let mut index = 0;
     'edges: while index < found.len() {
@@ -86,28 +87,21 @@ fn spread<V: HasPosition, DE, UE, F, M: DistanceMetric<V::Scalar>, P: PlaneTests
     Ok(())
 }
 
-// Marks for so many edges, none of them set.
-pub(crate) fn unmarked(count: usize, alloc: Global) -> Result<Vec<bool>, AllocError>
-    ensures { IfOk result (λ v. v.items ≡ replicate count false) }
-{
-    vec![in alloc; false; count]
-}
-
 // Asks of each edge of a list.
 fn ask_each<V: HasPosition, DE, UE, F, M: DistanceMetric<V::Scalar>, P: PlaneTests<V::Scalar>>(
     dcel: &Dcel<V, DE, UE, F>,
     metric: &M,
     tests: &P,
     edges: &[FixedUndirectedEdgeHandle],
-    asked: &mut Vec<bool>,
+    asked: &mut Marks,
     found: &mut Vec<FixedUndirectedEdgeHandle>,
 ) -> Result<(), AllocError>
     requires own_covered { All (P.covered tests.now) (M.own_points metric.now) }
     requires covered { All (P.covered tests.now) (map V.place dcel.now.vertices) }
     requires within { All (λ e. e < length dcel.now.undirected) edges.now }
-    requires flooding { IsFlooding (IsInside (M.shape metric.now) V.place dcel.now) (length dcel.now.undirected) asked.old.items found.old.items }
-    ensures flooding { OnOk result (IsFlooding (IsInside (M.shape metric.now) V.place dcel.now) (length dcel.now.undirected) asked.new.items found.new.items) }
-    ensures each { OnOk result ((k : ℕ) → Contains edges.now k → IsAsked asked.new.items k) }
+    requires flooding { IsFlooding (IsInside (M.shape metric.now) V.place dcel.now) (length dcel.now.undirected) asked.old found.old.items }
+    ensures flooding { OnOk result (IsFlooding (IsInside (M.shape metric.now) V.place dcel.now) (length dcel.now.undirected) asked.new found.new.items) }
+    ensures each { OnOk result ((k : ℕ) → Contains edges.now k → IsAsked asked.new k) }
 {
     for edge in edges {
         ask(dcel, metric, tests, *edge, asked, found)?;
@@ -139,7 +133,7 @@ pub(crate) fn flood<
     ensures exact { IfOk result (λ v. AreEdgesInShape (M.shape metric.now) (map V.place dcel.now.vertices) dcel.now.mesh v.items) }
     ensures within { IfOk result (λ v. All (λ e. e < length dcel.now.undirected) v.items) }
 {
-    let mut asked = unmarked(dcel.num_undirected_edges(), alloc)?;
+    let mut asked = Marks::new(dcel.num_undirected_edges(), alloc);
     let mut edges = Vec::new(alloc);
     ask_each(dcel, metric, tests, starts, &mut asked, &mut edges)?;
     spread(dcel, metric, tests, &mut asked, &mut edges)?;

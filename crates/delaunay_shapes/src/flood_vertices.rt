@@ -8,8 +8,9 @@ ghost use Rattle.delaunay_shapes.specs.InShape.{IsInside, IsVertexInside};
 ghost use Rattle.delaunay_shapes.specs.Left.{GivesVerticesIn, vertices_left};
 
 use crate::distance_metric::DistanceMetric;
-use crate::flood::{flood, unmarked};
+use crate::flood::flood;
 use crate::in_shape::VerticesInShapeIterator;
+use crate::marks::Marks;
 use crate::positions::position_of;
 use delaunay_core::math::PlaneTests;
 use delaunay_core::point::HasPosition;
@@ -21,19 +22,19 @@ fn ask_vertex<V: HasPosition, DE, UE, F, M: DistanceMetric<V::Scalar>>(
     dcel: &Dcel<V, DE, UE, F>,
     metric: &M,
     vertex: FixedVertexHandle,
-    asked: &mut Vec<bool>,
+    asked: &mut Marks,
     found: &mut Vec<FixedVertexHandle>,
 ) -> Result<(), AllocError>
     requires in_range { All InRange (map V.place dcel.now.vertices) }
     requires within { vertex < length dcel.now.vertices }
-    requires flooding { IsFlooding (IsVertexInside (M.shape metric.now) V.place dcel.now) (length dcel.now.vertices) asked.old.items found.old.items }
-    ensures { OnOk result (Asks (IsVertexInside (M.shape metric.now) V.place dcel.now) (length dcel.now.vertices) asked.old.items asked.new.items found.old.items found.new.items vertex) }
+    requires flooding { IsFlooding (IsVertexInside (M.shape metric.now) V.place dcel.now) (length dcel.now.vertices) asked.old found.old.items }
+    ensures { OnOk result (Asks (IsVertexInside (M.shape metric.now) V.place dcel.now) (length dcel.now.vertices) asked.old asked.new found.old.items found.new.items vertex) }
 {
-    let index = vertex.index() as usize;
-    if asked[index] {
+    let index = vertex.index();
+    if asked.is_marked(index) {
         return Ok(());
     }
-    asked[index] = true;
+    asked.mark(index)?;
     if metric.is_point_inside(position_of(dcel.vertex(vertex))) {
         found.push(vertex)?;
     }
@@ -44,13 +45,13 @@ fn ask_vertex<V: HasPosition, DE, UE, F, M: DistanceMetric<V::Scalar>>(
 fn ask_alone<V: HasPosition, DE, UE, F, M: DistanceMetric<V::Scalar>>(
     dcel: &Dcel<V, DE, UE, F>,
     metric: &M,
-    asked: &mut Vec<bool>,
+    asked: &mut Marks,
     found: &mut Vec<FixedVertexHandle>,
 ) -> Result<(), AllocError>
     requires in_range { All InRange (map V.place dcel.now.vertices) }
-    requires flooding { IsFlooding (IsVertexInside (M.shape metric.now) V.place dcel.now) (length dcel.now.vertices) asked.old.items found.old.items }
-    ensures flooding { OnOk result (IsFlooding (IsVertexInside (M.shape metric.now) V.place dcel.now) (length dcel.now.vertices) asked.new.items found.new.items) }
-    ensures alone { OnOk result (length dcel.now.vertices ≡ 1 → IsAsked asked.new.items 0) }
+    requires flooding { IsFlooding (IsVertexInside (M.shape metric.now) V.place dcel.now) (length dcel.now.vertices) asked.old found.old.items }
+    ensures flooding { OnOk result (IsFlooding (IsVertexInside (M.shape metric.now) V.place dcel.now) (length dcel.now.vertices) asked.new found.new.items) }
+    ensures alone { OnOk result (length dcel.now.vertices ≡ 1 → IsAsked asked.new 0) }
 {
     if dcel.num_vertices() == 1 {
         ask_vertex(dcel, metric, FixedVertexHandle::from_index(0), asked, found)?;
@@ -63,15 +64,15 @@ fn ask_ends<V: HasPosition, DE, UE, F, M: DistanceMetric<V::Scalar>>(
     dcel: &Dcel<V, DE, UE, F>,
     metric: &M,
     edges: &[FixedUndirectedEdgeHandle],
-    asked: &mut Vec<bool>,
+    asked: &mut Marks,
     found: &mut Vec<FixedVertexHandle>,
 ) -> Result<(), AllocError>
     requires in_range { All InRange (map V.place dcel.now.vertices) }
     requires within { All (λ e. e < length dcel.now.undirected) edges.now }
-    requires flooding { IsFlooding (IsVertexInside (M.shape metric.now) V.place dcel.now) (length dcel.now.vertices) asked.old.items found.old.items }
-    ensures flooding { OnOk result (IsFlooding (IsVertexInside (M.shape metric.now) V.place dcel.now) (length dcel.now.vertices) asked.new.items found.new.items) }
-    ensures on { OnOk result (GoesOn asked.old.items asked.new.items found.old.items found.new.items) }
-    ensures ends { OnOk result (HasAskedEnds dcel.now.mesh asked.new.items edges.now) }
+    requires flooding { IsFlooding (IsVertexInside (M.shape metric.now) V.place dcel.now) (length dcel.now.vertices) asked.old found.old.items }
+    ensures flooding { OnOk result (IsFlooding (IsVertexInside (M.shape metric.now) V.place dcel.now) (length dcel.now.vertices) asked.new found.new.items) }
+    ensures on { OnOk result (GoesOn asked.old asked.new found.old.items found.new.items) }
+    ensures ends { OnOk result (HasAskedEnds dcel.now.mesh asked.new edges.now) }
 {
     for edge in edges {
         let edge = dcel.undirected_edge(*edge).as_directed();
@@ -106,7 +107,7 @@ pub fn vertices_by_flood<
     ensures { IfOk result (λ it. GivesVerticesIn (M.shape metric.now) V.place dcel.entry (vertices_left it)) }
 {
     let edges = flood(dcel, metric, tests, starts, alloc)?;
-    let mut asked = unmarked(dcel.num_vertices(), alloc)?;
+    let mut asked = Marks::new(dcel.num_vertices(), alloc);
     let mut vertices = Vec::new(alloc);
     ask_alone(dcel, metric, &mut asked, &mut vertices)?;
     ask_ends(dcel, metric, edges.as_slice(), &mut asked, &mut vertices)?;

@@ -8,6 +8,7 @@ mod flood;
 mod flood_start;
 mod flood_vertices;
 mod in_shape;
+mod marks;
 mod positions;
 mod rectangle;
 mod shape_queries;

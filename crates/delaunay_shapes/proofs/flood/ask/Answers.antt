@@ -1,19 +1,17 @@
-use Rattle.std.proofs.Common.{ℕ, ◌<◌, ap, length, set, arith}
-use mathlib.Core.Bool.{true}
+use Rattle.std.proofs.Common.{length}
 use Rattle.delaunay_shapes.specs.InShape.{IsInside}
 use Rattle.delaunay_shapes.proofs.Asking.{asked_inside, asked_outside}
-use Rattle.delaunay_shapes.proofs.Handles.{edge_told, not_asked}
+use Rattle.delaunay_shapes.proofs.Handles.{edge_told, marked_by, not_asked}
 use Rattle.delaunay_shapes.proofs.flood.ask.Goals as goal
 
 pub returns-in_ok-push : goal.returns-in_ok-push
 returns-in_ok-push g c =
     let told = edge_told g.V.HasPosition.place c.args.dcel c.is_handle_inside.result (g.M.DistanceMetric.shape c.args.metric.now) c.undirected_edge.result.dcel c.undirected_edge.result.index c.args.edge c.undirected_edge.ensures.dcel c.undirected_edge.ensures.index c.is_handle_inside.ensures.inside in
-    let within : c.args.edge < length c.args.asked.now.items = let m = c.requires.flooding.marks in let w = c.requires.within in omega (arith, m, w) in
-    asked_inside (IsInside (g.M.DistanceMetric.shape c.args.metric.now) g.V.HasPosition.place c.args.dcel.now) (length c.args.dcel.now.undirected) c.args.asked.now.items _ c.args.found.now.items c.push.new.self.items c.args.edge c.requires.flooding c.requires.within
-    (not_asked c.args.asked.now.items c.args.edge c.index-index.result c.index.result.now c.index-index.ensures.value within c.if-index.false c.index.ensures) (told.0 c.if-is_handle_inside.true) (ap (λ (k : ℕ). set c.args.asked.now.items k true) c.index-index.ensures.value) c.in_ok-push.ensures.items
+    asked_inside (IsInside (g.M.DistanceMetric.shape c.args.metric.now) g.V.HasPosition.place c.args.dcel.now) (length c.args.dcel.now.undirected) c.args.asked.now _ c.args.found.now.items c.push.new.self.items c.args.edge c.requires.flooding c.requires.within
+    (not_asked c.args.asked.now c.args.edge c.index-index.result c.is_marked.result c.index-index.ensures.value c.if-is_marked.false c.is_marked.ensures) (told.0 c.if-is_handle_inside.true) (marked_by c.args.asked.now c.mark.new.self c.args.edge c.index-index.result c.index-index.ensures.value c.in_ok-mark.ensures) c.in_ok-push.ensures.items
 
 pub returns-else-is_handle_inside : goal.returns-else-is_handle_inside
 returns-else-is_handle_inside g c =
     let told = edge_told g.V.HasPosition.place c.args.dcel c.is_handle_inside.result (g.M.DistanceMetric.shape c.args.metric.now) c.undirected_edge.result.dcel c.undirected_edge.result.index c.args.edge c.undirected_edge.ensures.dcel c.undirected_edge.ensures.index c.is_handle_inside.ensures.inside in
-    asked_outside (IsInside (g.M.DistanceMetric.shape c.args.metric.now) g.V.HasPosition.place c.args.dcel.now) (length c.args.dcel.now.undirected) c.args.asked.now.items _ c.args.found.now.items c.args.edge c.requires.flooding c.requires.within
-    (λ p. let on = told.1 p in let off = c.if-is_handle_inside.false in absurd (cc)) (ap (λ (k : ℕ). set c.args.asked.now.items k true) c.index-index.ensures.value)
+    asked_outside (IsInside (g.M.DistanceMetric.shape c.args.metric.now) g.V.HasPosition.place c.args.dcel.now) (length c.args.dcel.now.undirected) c.args.asked.now _ c.args.found.now.items c.args.edge c.requires.flooding c.requires.within
+    (λ p. let on = told.1 p in let off = c.if-is_handle_inside.false in absurd (cc)) (marked_by c.args.asked.now c.mark.new.self c.args.edge c.index-index.result c.index-index.ensures.value c.in_ok-mark.ensures)

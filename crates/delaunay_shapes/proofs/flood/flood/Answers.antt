@@ -9,7 +9,7 @@ returns g c =
     let whole = c.num_undirected_edges.ensures.whole in
     record {
       exact = spread_finds_all (map g.V.HasPosition.place c.args.dcel.now.vertices) c.args.dcel.now.mesh whole.valid c.requires.shape (g.M.DistanceMetric.shape c.args.metric.now) c.requires.region (length c.args.dcel.now.undirected) whole.fits.undirected_fit
-          c.args.starts.now c.spread.new.asked.items c.spread.new.found.items c.in_ok-spread.ensures.flooding c.in_ok-spread.ensures.spread c.requires.begun
+          c.args.starts.now c.spread.new.asked c.spread.new.found.items c.in_ok-spread.ensures.flooding c.in_ok-spread.ensures.spread c.requires.begun
           (λ k h. (subst (λ (x : ℕ). x < length c.args.dcel.now.undirected) h.2 (c.requires.within h.0 k h.1), c.in_ok-spread.ensures.on.kept k (c.in_ok-ask_each.ensures.each k h)));
-      within = λ k d h. found_below (IsInside (g.M.DistanceMetric.shape c.args.metric.now) g.V.HasPosition.place c.args.dcel.now) (length c.args.dcel.now.undirected) c.spread.new.asked.items c.spread.new.found.items k d c.in_ok-spread.ensures.flooding h;
+      within = λ k d h. found_below (IsInside (g.M.DistanceMetric.shape c.args.metric.now) g.V.HasPosition.place c.args.dcel.now) (length c.args.dcel.now.undirected) c.spread.new.asked c.spread.new.found.items k d c.in_ok-spread.ensures.flooding h;
     }

@@ -6,9 +6,9 @@ use Rattle.delaunay_shapes.proofs.flood.spread.Given as goal
 
 abbrev pub invariant-edges : goal.invariant-edges
 invariant-edges g l = record {
-  flooding : IsFlooding (IsInside (g.M.DistanceMetric.shape l.metric) g.V.HasPosition.place l.dcel) (length l.dcel.undirected) l.asked.items l.found.items;
-  on : GoesOn l.fn.asked.items l.asked.items l.fn.found.items l.found.items;
-  spread : IsSpreadTo l.dcel.mesh l.asked.items l.found.items l.index;
+  flooding : IsFlooding (IsInside (g.M.DistanceMetric.shape l.metric) g.V.HasPosition.place l.dcel) (length l.dcel.undirected) l.asked l.found.items;
+  on : GoesOn l.fn.asked l.asked l.fn.found.items l.found.items;
+  spread : IsSpreadTo l.dcel.mesh l.asked l.found.items l.index;
 }
 
 abbrev pub decreases-edges : goal.decreases-edges

@@ -8,7 +8,7 @@ use Rattle.delaunay_shapes.proofs.flood_vertices.vertices_by_flood.Goals as goal
 
 pub invariant_of-result : goal.invariant_of-result
 invariant_of-result g c = record {
-  in_range = λ k d h. found_below (IsVertexInside (g.M.DistanceMetric.shape c.args.metric.now) g.V.HasPosition.place c.args.dcel.now) (length c.args.dcel.now.vertices) c.ask_ends.new.asked.items c.ask_ends.new.found.items k d c.in_ok-ask_ends.ensures.flooding h;
+  in_range = λ k d h. found_below (IsVertexInside (g.M.DistanceMetric.shape c.args.metric.now) g.V.HasPosition.place c.args.dcel.now) (length c.args.dcel.now.vertices) c.ask_ends.new.asked c.ask_ends.new.found.items k d c.in_ok-ask_ends.ensures.flooding h;
 }
 
 pub returns : goal.returns
@@ -17,8 +17,8 @@ returns g c =
     record {
       vertices = c.ask_ends.new.found.items;
       listed = refl;
-      exact = ends_are_all (map g.V.HasPosition.place c.args.dcel.now.vertices) c.args.dcel.now.mesh c.num_vertices.ensures.whole.valid c.requires.shape (g.M.DistanceMetric.shape c.args.metric.now) c.requires.region c.in_ok-edges.edges.items c.in_ok-edges.ensures.exact c.ask_ends.new.asked.items c.ask_ends.new.found.items
-          (subst (λ (n : ℕ). IsFlooding (IsVertexInside (g.M.DistanceMetric.shape c.args.metric.now) g.V.HasPosition.place c.args.dcel.now) n c.ask_ends.new.asked.items c.ask_ends.new.found.items) (sym many) c.in_ok-ask_ends.ensures.flooding)
-          (subst (HasAskedEnds c.args.dcel.now.mesh c.ask_ends.new.asked.items) c.as_slice.ensures.value c.in_ok-ask_ends.ensures.ends)
+      exact = ends_are_all (map g.V.HasPosition.place c.args.dcel.now.vertices) c.args.dcel.now.mesh c.num_vertices.ensures.whole.valid c.requires.shape (g.M.DistanceMetric.shape c.args.metric.now) c.requires.region c.in_ok-edges.edges.items c.in_ok-edges.ensures.exact c.ask_ends.new.asked c.ask_ends.new.found.items
+          (subst (λ (n : ℕ). IsFlooding (IsVertexInside (g.M.DistanceMetric.shape c.args.metric.now) g.V.HasPosition.place c.args.dcel.now) n c.ask_ends.new.asked c.ask_ends.new.found.items) (sym many) c.in_ok-ask_ends.ensures.flooding)
+          (subst (HasAskedEnds c.args.dcel.now.mesh c.ask_ends.new.asked) c.as_slice.ensures.value c.in_ok-ask_ends.ensures.ends)
           (λ e. c.in_ok-ask_ends.ensures.on.kept 0 (c.in_ok-ask_alone.ensures.alone (sym many ∙ e)));
     }
