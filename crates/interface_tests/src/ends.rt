@@ -114,18 +114,16 @@ fn print_inner_faces<T: Triangulation>(
     Ok(())
 }
 
-// How many vertices come after the first and the last, and from a copy of the list and of the hull.
+// How many vertices come between the first and the last, and from a copy that has the last too.
 fn print_copies<T: Triangulation>(rt: &HostRuntime, points: &T) -> anyhow::Result<()> {
     let mut vertices = points.vertices();
     let _ = vertices.next();
     let copy = vertices.clone()?;
     let _ = vertices.next_back();
-    let hull = points.convex_hull().clone()?;
     println!(rt;
-        "vertices left: {}, in the copy: {}, hull edges in a copy: {}",
+        "vertices left: {}, in the copy: {}",
         vertices.len(),
-        copy.len(),
-        hull.count()
+        copy.len()
     )?;
     Ok(())
 }
