@@ -10,7 +10,7 @@ next_on_path-requires-clause-sites c = rw (← c.self.view_is) at c.mesh_at-mesh
 
 pub make_edge-requires-clause-free : goal.make_edge-requires-clause-free
 make_edge-requires-clause-free c =
-    let same : c.next_on_path.result ≡ c.in_ok-start.end = search rules in
+    let same : c.next_on_path.result ≡ c.in_ok-start.end = search (rules, c.ne.ensures, c.if-ne.false) in
     free_in_copy c.mesh_at-mesh.result.now c.in_ok-copy.copy c.in_ok-start.start c.in_ok-start.end c.next_on_path.result c.in_ok-copy.ensures c.next_on_path.ensures.next same
 
 pub make_edge-requires-clause-sites : goal.make_edge-requires-clause-sites
