@@ -1,1 +1,2 @@
 pub mod Location
+pub mod Stop

@@ -6,6 +6,7 @@ mod nearest_vertex;
 mod nearest_walk;
 mod parts;
 mod position_in_triangulation;
+mod steps;
 mod walk;
 
 pub use position_in_triangulation::PositionInTriangulation;

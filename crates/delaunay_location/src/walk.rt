@@ -1,9 +1,6 @@
 //! Where a position is, by a walk from face to face.
-ghost use Rattle.std.specs.Prelude.{◌≡◌, ◌↔◌, ◌<◌, length, map, All, IsTrue, IfSome, MatchOption};
-ghost use Rattle.half_edge_mesh.specs.Mesh.{origin, rev, face};
-ghost use Rattle.plane.specs.Fraction.{whole as fraction};
-ghost use Rattle.plane.specs.Side.{side, right};
-ghost use Rattle.plane.specs.Pairs.{place};
+ghost use Rattle.std.specs.Prelude.{◌≡◌, ◌<◌, length, map, All, IfSome, MatchOption};
+ghost use Rattle.half_edge_mesh.specs.Mesh.{face};
 ghost use Rattle.delaunay_core.specs.Place.{place_of};
 ghost use Rattle.delaunay_legalization.specs.Known.{point_at};
 ghost use Rattle.delaunay_legalization.specs.Parts.{IsApart};
@@ -14,27 +11,11 @@ ghost use Rattle.delaunay_location.specs.Location.{Locates};
 use crate::location::{is_inside_face, locate_by_scan};
 use crate::parts::{ends_of, left_face, start_vertex};
 use crate::position_in_triangulation::PositionInTriangulation;
+use crate::steps::{stop_at, way_out};
 use delaunay_core::math::PlaneTests;
 use delaunay_core::point::{HasPosition, Point2};
 use delaunay_legalization::{is_outer, is_same_point, is_strictly_within, turns_left};
 use half_edge_mesh::{Dcel, FixedDirectedEdgeHandle, FixedVertexHandle, MeshViews};
-
-// Whether an edge has a position strictly on its right.
-fn is_right_of<V: HasPosition, DE, UE, F, P: PlaneTests<V::Scalar>>(
-    dcel: &Dcel<V, DE, UE, F>,
-    edge: FixedDirectedEdgeHandle,
-    point: Point2<V::Scalar>,
-    tests: &P,
-) -> bool
-    requires kept { IsTriangulated V.place (state_of dcel.now) }
-    requires within { edge < length dcel.now.directed }
-    requires sites { All (P.sites tests.now) (map V.place dcel.now.vertices) }
-    requires covered { P.covered tests.now (place_of V.Scalar.whole point) }
-    ensures { let points = map V.place dcel.now.vertices in let m = dcel.now.mesh in IsTrue result ↔ (side (place points (origin m edge)) (place points (origin m (rev edge))) (fraction (place_of V.Scalar.whole point)) ≡ right) }
-{
-    let (from, to) = ends_of(dcel, edge);
-    tests.side(from, to, point).is_on_right_side()
-}
 
 // The location of a position on an edge: at its start, or within it.
 fn place_on_edge<V: HasPosition, DE, UE, F, P: PlaneTests<V::Scalar>>(
@@ -133,60 +114,6 @@ fn place_at<V: HasPosition, DE, UE, F, P: PlaneTests<V::Scalar>>(
     }
 }
 
-// The way from an edge that has the outer face on its left to a position: the other direction of the edge, unless the
-// position is strictly on its left.
-fn way_in<V: HasPosition, DE, UE, F, P: PlaneTests<V::Scalar>>(
-    dcel: &Dcel<V, DE, UE, F>,
-    edge: FixedDirectedEdgeHandle,
-    point: Point2<V::Scalar>,
-    tests: &P,
-) -> Option<FixedDirectedEdgeHandle>
-    requires kept { IsTriangulated V.place (state_of dcel.now) }
-    requires within { edge < length dcel.now.directed }
-    requires sites { All (P.sites tests.now) (map V.place dcel.now.vertices) }
-    requires covered { P.covered tests.now (place_of V.Scalar.whole point) }
-    ensures { IfSome result (λ e. e < length dcel.now.directed) }
-{
-    let (from, to) = ends_of(dcel, edge);
-    if turns_left(from, to, point, tests) {
-        None
-    } else {
-        Some(edge.rev())
-    }
-}
-
-// The way from the face on the left of an edge to a position outside it: a side that has the position strictly on its
-// right, in the other direction. From the outer face it leads inside, unless the position is on the left of the edge.
-fn way_out<V: HasPosition, DE, UE, F, P: PlaneTests<V::Scalar>>(
-    dcel: &Dcel<V, DE, UE, F>,
-    edge: FixedDirectedEdgeHandle,
-    point: Point2<V::Scalar>,
-    tests: &P,
-) -> Option<FixedDirectedEdgeHandle>
-    requires kept { IsTriangulated V.place (state_of dcel.now) }
-    requires within { edge < length dcel.now.directed }
-    requires sites { All (P.sites tests.now) (map V.place dcel.now.vertices) }
-    requires covered { P.covered tests.now (place_of V.Scalar.whole point) }
-    ensures { IfSome result (λ e. e < length dcel.now.directed) }
-{
-    let here = dcel.directed_edge(edge);
-    if here.is_outer_edge() {
-        return way_in(dcel, edge, point, tests);
-    }
-    let next = here.next().fix();
-    if is_right_of(dcel, next, point, tests) {
-        return Some(next.rev());
-    }
-    let prev = here.prev().fix();
-    if is_right_of(dcel, prev, point, tests) {
-        return Some(prev.rev());
-    }
-    if is_right_of(dcel, edge, point, tests) {
-        return Some(edge.rev());
-    }
-    None
-}
-
 // The location that a walk from an edge ends at, unless it has not ended after as many steps as there are directed edges.
 // Among faces that pass the circle test it ends earlier.
 fn walk<V: HasPosition, DE, UE, F, P: PlaneTests<V::Scalar>>(
@@ -201,10 +128,11 @@ fn walk<V: HasPosition, DE, UE, F, P: PlaneTests<V::Scalar>>(
     requires covered { P.covered tests.now (place_of V.Scalar.whole point) }
     ensures { IfSome result (Locates (map V.place dcel.now.vertices) dcel.now.mesh (place_of V.Scalar.whole point)) }
 {
-    let mut edge = start;
+    let mut stop = stop_at(dcel, start, tests);
     for _ in 0..dcel.num_directed_edges() {
-        match way_out(dcel, edge, point, tests) {
-            Some(beyond) => edge = beyond,
+        let edge = stop.edge;
+        match way_out(dcel, stop, point, tests) {
+            Some(beyond) => stop = beyond,
             None => return place_at(dcel, edge, point, tests),
         }
     }
