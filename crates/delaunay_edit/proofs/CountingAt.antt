@@ -14,7 +14,7 @@ use Rattle.half_edge_mesh.specs.Rounds.{GivesRound}
 use Rattle.plane.specs.Fraction.{Point}
 use Rattle.plane.specs.Pairs.{IsSamePair, Joins}
 use Rattle.plane_tiling.proofs.Totals.{Contains-head, Contains-later, Contains-none, Contains-cases}
-use Rattle.plane_edits.proofs.Changes.{IsOnce, once_none, once_head, once_tail}
+use Rattle.plane_edits.proofs.LocalMesh.Changes.{IsOnce, once_none, once_head, once_tail}
 use Rattle.mesh_embedding.proofs.MeshLegal.{own_indexes}
 use Rattle.mesh_embedding.proofs.WorkLists.{at_most_so_many, contains_map, contains_map_from}
 use Rattle.mesh_embedding.specs.Stays.{GoSameWay}

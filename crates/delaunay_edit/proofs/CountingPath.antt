@@ -9,8 +9,8 @@ use Rattle.plane.specs.Pairs.{IsIndex, IsSamePair, Joins, place}
 use Rattle.plane.specs.Tests.{InRange}
 use Rattle.plane_edits.specs.Legal.{point_of}
 use Rattle.plane_segments.specs.Constraints.{AreNextOn, ArePlacedApart}
-use Rattle.plane_segments.proofs.Pieces.{path_ends, path_goes_on}
-use Rattle.plane_segments.proofs.Shorter.{path_shortens}
+use Rattle.plane_segments.proofs.Constraints.Pieces.{path_ends, path_goes_on}
+use Rattle.plane_segments.proofs.Constraints.Shorter.{path_shortens}
 use Rattle.plane_tiling.proofs.Edges.{turned_within}
 use Rattle.delaunay_core.proofs.Projections.{along_bound}
 use Rattle.delaunay_edit.specs.Counting.{HasPairs, IsMissing}

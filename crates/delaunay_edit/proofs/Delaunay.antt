@@ -5,7 +5,7 @@ use Rattle.half_edge_mesh.specs.Contents.{Contents, IsMeshWithData}
 use Rattle.plane.specs.Fraction.{Point}
 use Rattle.plane.specs.Tiling.{IsFace}
 use Rattle.plane.specs.Delaunay.{IsConstrainedDelaunay, IsLocallyDelaunay, IsStrictlyEmpty}
-use Rattle.plane_delaunay.proofs.EmptyCircles.{local_gives_constrained_delaunay, strictly_empty_is_face}
+use Rattle.plane_delaunay.proofs.Circles.EmptyCircles.{local_gives_constrained_delaunay, strictly_empty_is_face}
 use Rattle.mesh_embedding.specs.Drawn.{drawn, faces_of}
 use Rattle.mesh_embedding.specs.Legal.{pairs_at}
 use Rattle.mesh_embedding.proofs.MeshLegal.{line_has_none}

@@ -7,7 +7,7 @@ use Rattle.plane.specs.Fraction.{Point, whole}
 use Rattle.plane.specs.Pairs.{Joins, IsSamePair, EachPairOnce, place}
 use Rattle.plane.specs.Plain.{Plain, Adds, AreNeighboursOn, Carries, IsHalf, IsPlain, Releases, Removes, points_of}
 use Rattle.plane_tiling.proofs.Edges.{turned_within}
-use Rattle.plane_edits.proofs.Flipping.{joins_or_not}
+use Rattle.plane_edits.proofs.Legalization.Flipping.{joins_or_not}
 use Rattle.delaunay_edit.specs.Counting.{EndsAt, HasPairs}
 use Rattle.delaunay_edit.proofs.PairCounts.{same_number, listed_pairs, one_more, both, renamed}
 

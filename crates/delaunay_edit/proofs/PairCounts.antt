@@ -4,8 +4,8 @@ use Rattle.std.specs.Prelude.{Contains, All}
 use Rattle.std.proofs.lemmas.List.Elements.{All-contains_itself}
 use Rattle.std.proofs.lemmas.List.Kept.{AllPairs-cons}
 use Rattle.plane.specs.Pairs.{Joins, IsSamePair, AreDifferent, EachPairOnce}
-use Rattle.plane_delaunay.proofs.Members.{Member, member, contained}
-use Rattle.plane_delaunay.proofs.FloodRules.{flood_is_bounded}
+use Rattle.plane_delaunay.proofs.Points.Members.{Member, member, contained}
+use Rattle.plane_delaunay.proofs.Floods.FloodRules.{flood_is_bounded}
 use Rattle.delaunay_edit.specs.Counting.{HasPairs}
 
 -- ---- the number is one

@@ -26,9 +26,9 @@ use Rattle.plane_tiling.proofs.Totals.{total-sum}
 use Rattle.plane_tiling.proofs.Tiles.{point_at}
 use Rattle.plane_tiling.proofs.Appended.{kept_point, last_point}
 use Rattle.plane_edits.specs.Extension.{IsExtending}
-use Rattle.plane_edits.proofs.Changes.{IsOnce}
-use Rattle.plane_edits.proofs.Growing.{extension_begins}
-use Rattle.plane_edits.proofs.OnLine.{over_line_ends}
+use Rattle.plane_edits.proofs.LocalMesh.Changes.{IsOnce}
+use Rattle.plane_edits.proofs.Insertion.Growing.{extension_begins}
+use Rattle.plane_edits.proofs.Insertion.OnLine.{over_line_ends}
 use Rattle.mesh_embedding.specs.Drawn.{faces_of, edges_of, outer_of}
 use Rattle.mesh_embedding.proofs.OuterEdges.{listed}
 use Rattle.mesh_embedding.proofs.OuterChanges.{outer_replaced}

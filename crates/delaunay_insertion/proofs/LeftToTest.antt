@@ -21,7 +21,7 @@ use Rattle.delaunay_insertion.specs.Constraints.{SplitsConstraints}
 use Rattle.delaunay_insertion.proofs.MarkedEdges.{JoinsWithMark, own_ends, joins_with_mark}
 use Rattle.delaunay_insertion.proofs.NewVertex.{not_within, source_in, target_in}
 use Rattle.delaunay_insertion.proofs.SplitConstraints.{whole_mesh}
-use Rattle.plane_edits.proofs.Flipping.{joins_or_not}
+use Rattle.plane_edits.proofs.Legalization.Flipping.{joins_or_not}
 
 module _ {V D U F : Type 0} (at : V → Point) (marks : U → Bool) (constraints : List U → List ℕ) (marked : (ds : List U) → constraints ds ≡ marked_edges marks ds) where
   module _ (v : V) (old new : Contents V D U F) (was : IsTriangulated at (state_of old)) (now : IsTriangulated at (state_of new)) (vertices : new.vertices ≡ old.vertices ++ v ∷ []) where

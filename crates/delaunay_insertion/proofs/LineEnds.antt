@@ -26,9 +26,9 @@ use Rattle.plane_tiling.proofs.Appended.{kept_point}
 use Rattle.plane_tiling.proofs.Totals.{Contains-head, Contains-later}
 use Rattle.plane_edits.specs.Change.{IsFaceOf}
 use Rattle.plane_edits.specs.Extension.{fan, steps, last_of, IsSeenRun, IsExtending}
-use Rattle.plane_edits.proofs.Changes.{face_from}
-use Rattle.plane_edits.proofs.Extension.{fan_from}
-use Rattle.plane_edits.proofs.Growing.{run_signs, in_two}
+use Rattle.plane_edits.proofs.LocalMesh.Changes.{face_from}
+use Rattle.plane_edits.proofs.Insertion.Extension.{fan_from}
+use Rattle.plane_edits.proofs.Insertion.Growing.{run_signs, in_two}
 use Rattle.mesh_embedding.specs.Drawn.{faces_of, outer_of}
 use Rattle.mesh_embedding.proofs.OuterEdges.{listed, real, one_edge}
 use Rattle.mesh_embedding.proofs.MeshEdits.{face_before}

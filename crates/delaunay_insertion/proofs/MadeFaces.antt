@@ -10,7 +10,7 @@ use Rattle.plane.specs.Tiling.{Face}
 use Rattle.plane_tiling.proofs.Totals.{Contains-none, Contains-cases}
 use Rattle.plane_edits.specs.Change.{IsFaceOf, FacesChange}
 use Rattle.plane_edits.specs.Extension.{IsExtending, fan}
-use Rattle.plane_edits.proofs.Changes.{face_from, turn_of_all}
+use Rattle.plane_edits.proofs.LocalMesh.Changes.{face_from, turn_of_all}
 use Rattle.mesh_embedding.specs.Drawn.{corners_of, faces_of}
 use Rattle.mesh_embedding.proofs.MeshEdits.{inserted_faces, split_faces, half_split_faces}
 use Rattle.delaunay_legalization.specs.Star.{IsOneOf, MakesFacesAt}

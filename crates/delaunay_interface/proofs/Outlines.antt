@@ -10,8 +10,8 @@ use Rattle.plane.specs.Fraction.{Point}
 use Rattle.plane.specs.Side.{left, on, TurnsLeft}
 use Rattle.plane.specs.Tiling.{Triangulation, IsVertex, IsTiling, vertex}
 use Rattle.plane.specs.Location.{IsOuter}
-use Rattle.plane_delaunay.proofs.Ground.{tiling}
-use Rattle.plane_delaunay.proofs.OuterEdges.{hull_not_left_of_outer}
+use Rattle.plane_delaunay.proofs.Tilings.Ground.{tiling}
+use Rattle.plane_delaunay.proofs.Tilings.OuterEdges.{hull_not_left_of_outer}
 use Rattle.mesh_embedding.proofs.EdgePairs.{edge_joins}
 use Rattle.mesh_embedding.proofs.OneOutline.{one_outline}
 use Rattle.mesh_embedding.proofs.OuterEdges.{listed}

@@ -15,10 +15,10 @@ use Rattle.plane.specs.Fraction.{Point, whole}
 use Rattle.plane.specs.Side.{TurnsLeft}
 use Rattle.plane.specs.Circle.{InsideCircle}
 use Rattle.plane_tiling.specs.Local.{LocalMesh, IsMesh}
-use Rattle.plane_edits.proofs.Kept.{turning_of}
+use Rattle.plane_edits.proofs.LocalMesh.Kept.{turning_of}
 use Rattle.plane.specs.Delaunay.{IsLocallyDelaunay}
 use Rattle.plane_edits.specs.Legal.{AllPassBut}
-use Rattle.plane_edits.proofs.Flipping.{none_left}
+use Rattle.plane_edits.proofs.Legalization.Flipping.{none_left}
 use Rattle.std.proofs.lemmas.List.{length-map}
 use Rattle.mesh_embedding.specs.Drawn.{drawn, faces_of, edges_of, outer_of}
 use Rattle.mesh_embedding.specs.Legal.{AreEdges, IsFailing, IsPartlyLegal, Gains, GainsRound, pairs_at, steps_left}

@@ -11,7 +11,7 @@ use Rattle.half_edge_mesh.specs.Contents.{Contents}
 use Rattle.half_edge_mesh.specs.Left.{each_in}
 use Rattle.half_edge_mesh.specs.Rounds.{GivesRound}
 use Rattle.plane_tiling.proofs.Totals.{Contains-head, Contains-later, Contains-none, Contains-cases}
-use Rattle.plane_edits.proofs.Changes.{once_none}
+use Rattle.plane_edits.proofs.LocalMesh.Changes.{once_none}
 use Rattle.mesh_embedding.specs.Legal.{AreEdges}
 use Rattle.mesh_embedding.proofs.WorkLists.{contains_map, contains_map_from}
 

@@ -22,14 +22,14 @@ use Rattle.plane_tiling.proofs.Appended.{kept_point}
 use Rattle.plane_tiling.proofs.Totals.{Contains-head, Contains-later, Contains-none, Contains-cases}
 use Rattle.plane_edits.specs.Change.{IsFaceOf}
 use Rattle.plane_edits.specs.Legal.{Pass, AllPassBut}
-use Rattle.plane_edits.proofs.Changes.{once_none}
+use Rattle.plane_edits.proofs.LocalMesh.Changes.{once_none}
 use Rattle.mesh_embedding.specs.Drawn.{faces_of}
 use Rattle.mesh_embedding.specs.Legal.{AreEdges, pairs_at}
 use Rattle.mesh_embedding.proofs.MeshLegal.{joins_directed}
 use Rattle.mesh_embedding.proofs.MeshStars.{IsEdgeOfFace, edge_of_face}
 use Rattle.mesh_embedding.proofs.WorkLists.{contains_map, contains_map_from}
 use Rattle.delaunay_legalization.specs.Star.{IsOneOf, MakesFacesAt, AllPassBeside, HasSidesAt, HasStar}
-use Rattle.plane_edits.proofs.Kept.{index_of}
+use Rattle.plane_edits.proofs.LocalMesh.Kept.{index_of}
 
 -- no face is in the empty list
 pub no_face : (i j k : ℕ) → ¬ IsFaceOf [] i j k

@@ -5,14 +5,14 @@ use Rattle.half_edge_mesh.specs.Contents.{Contents}
 use Rattle.plane.specs.Fraction.{Point, whole, IsSame}
 use Rattle.plane.specs.Line.{Item, IsLineList, at_vertex}
 use Rattle.plane_segments.specs.Steps.{IsWalk, IsFirst}
-use Rattle.plane_segments.proofs.Steps.{first_item}
-use Rattle.plane_segments.proofs.LineStarts.{first_on_line, equal_ends}
-use Rattle.plane_segments.proofs.WalkSteps.{each_segment_has_walk, rest_falls, line_list_is_the_walk}
+use Rattle.plane_segments.proofs.Walking.Steps.{first_item}
+use Rattle.plane_segments.proofs.First.LineStarts.{first_on_line, equal_ends}
+use Rattle.plane_segments.proofs.Walking.WalkSteps.{each_segment_has_walk, rest_falls, line_list_is_the_walk}
 use Rattle.plane_segments.specs.WalkLaws.{IsLaid}
 use Rattle.plane.specs.Tiling.{Triangulation, IsVertex, vertex}
 use Rattle.plane.proofs.Decisions.{decide_point}
 use Rattle.plane.proofs.Segments.{same-refl}
-use Rattle.plane_segments.proofs.EitherWay.{one_point}
+use Rattle.plane_segments.proofs.Crossing.EitherWay.{one_point}
 use Rattle.mesh_embedding.specs.Drawn.{drawn, edges_of}
 use Rattle.delaunay_legalization.proofs.ElementCounts.{edges_counted}
 use Rattle.delaunay_legalization.specs.Known.{point_at}

@@ -10,9 +10,9 @@ use Rattle.plane.specs.Line.{Meets, across}
 use Rattle.plane.proofs.IntegerOrder.{mul-nonneg_ℤ, mul-nonpos_of_nonneg_nonpos_ℤ}
 use Rattle.plane.proofs.Meetings.{AreOpposite, AreParted, meets_within_is}
 use Rattle.plane.proofs.Steps.{weak}
-use Rattle.plane_delaunay.proofs.Bracket.{bracket, bracket-swapped}
-use Rattle.plane_segments.proofs.Begins.{Signs, edge_flipped, met_if, rising}
-use Rattle.plane_segments.proofs.Slopes.{slope}
+use Rattle.plane_delaunay.proofs.Points.Bracket.{bracket, bracket-swapped}
+use Rattle.plane_segments.proofs.Items.Begins.{Signs, edge_flipped, met_if, rising}
+use Rattle.plane_segments.proofs.Items.Slopes.{slope}
 
 not_rising : (f g pw qw : ℤ) → f ≤ℤ pos 0 → pos 0 ≤ℤ g → pos 0 <ℤ pw → pos 0 <ℤ qw → pos 0 <ℤ (f *ℤ pw -ℤ g *ℤ qw) → ⊥
 not_rising f g pw qw hf hg hp hq h =

@@ -15,11 +15,11 @@ use Rattle.plane.proofs.Sides.{side_swapped}
 use Rattle.plane.proofs.Triangles.{turned_inside}
 use Rattle.plane_tiling.proofs.Edges.{turned_within}
 use Rattle.plane_segments.specs.Steps.{IsFirst, IsWalk, IsAhead}
-use Rattle.plane_segments.proofs.Begins.{edge_flipped}
-use Rattle.plane_segments.proofs.EdgeStarts.{first_from_an_edge}
-use Rattle.plane_segments.proofs.FaceStarts.{first_from_a_face}
-use Rattle.plane_segments.proofs.LineStarts.{equal_ends}
-use Rattle.plane_segments.proofs.WalkSteps.{line_list_is_the_walk}
+use Rattle.plane_segments.proofs.Items.Begins.{edge_flipped}
+use Rattle.plane_segments.proofs.First.EdgeStarts.{first_from_an_edge}
+use Rattle.plane_segments.proofs.First.FaceStarts.{first_from_a_face}
+use Rattle.plane_segments.proofs.First.LineStarts.{equal_ends}
+use Rattle.plane_segments.proofs.Walking.WalkSteps.{line_list_is_the_walk}
 use Rattle.mesh_embedding.specs.Drawn.{drawn}
 use Rattle.delaunay_lines.specs.declared.intersection.FixedIntersection.{FixedIntersection}
 use Rattle.delaunay_lines.specs.declared.intersection.FixedIntersection.TheVariants.{Edge, Vertex, Overlap}

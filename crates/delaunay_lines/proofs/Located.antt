@@ -17,9 +17,9 @@ use Rattle.plane_tiling.specs.Local.{IsMesh}
 use Rattle.plane_tiling.proofs.Tiles.{by_signs}
 use Rattle.plane_tiling.proofs.Places as P
 use Rattle.plane_tiling.proofs.Locations.{each_point_has_one_location}
-use Rattle.plane_segments.proofs.Begins.{edge_flipped}
-use Rattle.plane_segments.proofs.EitherWay.{one_point}
-use Rattle.plane_segments.proofs.Pieces.{on_parts}
+use Rattle.plane_segments.proofs.Items.Begins.{edge_flipped}
+use Rattle.plane_segments.proofs.Crossing.EitherWay.{one_point}
+use Rattle.plane_segments.proofs.Constraints.Pieces.{on_parts}
 use Rattle.mesh_embedding.specs.Drawn.{drawn, faces_of, outer_of, edges_of}
 use Rattle.mesh_embedding.proofs.EdgePairs.{joins_edge}
 use Rattle.mesh_embedding.proofs.OwnEdges.{own_edges}

@@ -12,11 +12,11 @@ use Rattle.plane.specs.Tiling.{Triangulation, IsEdge, IsFace, HasFace, TilesHull
 use Rattle.plane.specs.Line.{Item, Meets, at_vertex, across, along}
 use Rattle.plane_segments.specs.Steps.{ComesNext, IsLast, IsAhead}
 use Rattle.plane_segments.specs.WalkLaws.{IsLaid}
-use Rattle.plane_segments.proofs.LaidMeshes.{meshes_are_laid}
-use Rattle.plane_segments.proofs.Steps.{next_after_crossing, last_crossing, next_after_overlap, next_after_vertex, last_vertex, overlap_ahead}
-use Rattle.plane_segments.proofs.OneLine.{steps_on_one_line}
-use Rattle.plane_segments.proofs.LineStarts.{next_on_line}
-use Rattle.plane_segments.proofs.EitherWay.{one_point}
+use Rattle.plane_segments.proofs.Walking.LaidMeshes.{meshes_are_laid}
+use Rattle.plane_segments.proofs.Walking.Steps.{next_after_crossing, last_crossing, next_after_overlap, next_after_vertex, last_vertex, overlap_ahead}
+use Rattle.plane_segments.proofs.Walking.OneLine.{steps_on_one_line}
+use Rattle.plane_segments.proofs.First.LineStarts.{next_on_line}
+use Rattle.plane_segments.proofs.Crossing.EitherWay.{one_point}
 use Rattle.mesh_embedding.specs.Drawn.{drawn, faces_of, edges_of, outer_of}
 use Rattle.mesh_embedding.proofs.EdgePairs.{edge_joins, joins_edge}
 use Rattle.mesh_embedding.proofs.MeshEdits.{face_before}

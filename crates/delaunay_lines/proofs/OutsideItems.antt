@@ -15,11 +15,11 @@ use Rattle.plane.specs.Location.{IsOuter}
 use Rattle.plane.specs.Line.{Meets, at_vertex, across}
 use Rattle.plane.proofs.Segments.{on_of_within}
 use Rattle.plane_segments.specs.WalkLaws.{IsLaid}
-use Rattle.plane_segments.proofs.Steps.{crossing_by_sides, first_item}
-use Rattle.plane_segments.proofs.EdgeStarts.{crossing_on_line}
-use Rattle.plane_segments.proofs.OutsideStarts.{first_from_the_outside}
-use Rattle.plane_segments.proofs.LineStarts.{equal_ends, first_on_line}
-use Rattle.plane_segments.proofs.Begins.{edge_flipped}
+use Rattle.plane_segments.proofs.Walking.Steps.{crossing_by_sides, first_item}
+use Rattle.plane_segments.proofs.First.EdgeStarts.{crossing_on_line}
+use Rattle.plane_segments.proofs.First.OutsideStarts.{first_from_the_outside}
+use Rattle.plane_segments.proofs.First.LineStarts.{equal_ends, first_on_line}
+use Rattle.plane_segments.proofs.Items.Begins.{edge_flipped}
 use Rattle.mesh_embedding.specs.Drawn.{drawn}
 use Rattle.mesh_embedding.proofs.EdgePairs.{joins_edge}
 use Rattle.mesh_embedding.proofs.MeshLegal.{line_has_none, none_or_some}

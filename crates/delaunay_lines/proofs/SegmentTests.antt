@@ -6,8 +6,8 @@ use Rattle.std.proofs.lemmas.Option.{slice_get_within, get_or_from_slice_get}
 use Rattle.plane.specs.Fraction.{Point, whole, IsSame, OnSegment, WithinSegment}
 use Rattle.plane.proofs.Decisions.{Decision, decide_point}
 use Rattle.plane.proofs.Segments.{reach, reach-start, within_segment_is, start_on_segment, end_on_segment}
-use Rattle.plane_segments.proofs.EitherWay.{one_point}
-use Rattle.plane_segments.proofs.Pieces.{on_parts}
+use Rattle.plane_segments.proofs.Crossing.EitherWay.{one_point}
+use Rattle.plane_segments.proofs.Constraints.Pieces.{on_parts}
 use Rattle.mesh_embedding.proofs.EdgePairs.{Contains-map}
 
 none_below : (a b : ℤ) → a ≡ pos 0 → pos 0 <ℤ a → ⊥

@@ -7,7 +7,7 @@ use Rattle.plane.specs.Circle.{gap, IsNearer}
 use Rattle.plane.specs.Pairs.{place}
 use Rattle.plane.specs.Tiling.{Triangulation, IsEdge, vertex}
 use Rattle.plane_delaunay.specs.Nearer.{nearer_count}
-use Rattle.plane_delaunay.proofs.NearerCount.{nearer_count_falls}
+use Rattle.plane_delaunay.proofs.Circles.NearerCount.{nearer_count_falls}
 use Rattle.mesh_embedding.specs.Drawn.{drawn}
 use Rattle.mesh_embedding.proofs.EdgePairs.{joins_edge}
 use Rattle.plane.proofs.Signs.{less_with_ones, less_without_ones}

@@ -10,14 +10,14 @@ use Rattle.plane.specs.Laws.{squared_way}
 use Rattle.plane.specs.Pairs.{Joins, IsSamePair, IsIndex}
 use Rattle.plane.specs.Tests.{InRange}
 use Rattle.plane_edits.specs.Legal.{AllPassBut, point_of}
-use Rattle.plane_edits.proofs.Changes.{once_none}
+use Rattle.plane_edits.proofs.LocalMesh.Changes.{once_none}
 use Rattle.plane_tiling.proofs.Totals.{Contains-none}
 use Rattle.plane_tiling.specs.Local.{IsMesh}
 use Rattle.plane_segments.specs.Constraints.{AreNextOn, ArePlacedApart}
 use Rattle.plane_segments.specs.Path.{IsFreeOfVertices}
-use Rattle.plane_segments.proofs.Adding.{IsAddingPath, adding_begins, adding_goes_on, adding_ends, adding_adds, piece_is_clear}
-use Rattle.plane_segments.proofs.PathFlips.{piece_is_free}
-use Rattle.plane_segments.proofs.Shorter.{path_shortens}
+use Rattle.plane_segments.proofs.Constraints.Adding.{IsAddingPath, adding_begins, adding_goes_on, adding_ends, adding_adds, piece_is_clear}
+use Rattle.plane_segments.proofs.Crossing.PathFlips.{piece_is_free}
+use Rattle.plane_segments.proofs.Constraints.Shorter.{path_shortens}
 use Rattle.mesh_embedding.specs.Drawn.{drawn, faces_of, outer_of}
 use Rattle.mesh_embedding.specs.Legal.{AreEdges, pairs_at}
 use Rattle.mesh_embedding.proofs.EdgePairs as E

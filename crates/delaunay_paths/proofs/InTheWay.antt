@@ -10,7 +10,7 @@ use Rattle.plane.proofs.Decisions.{decide_point}
 use Rattle.plane.proofs.Meetings.{cross_at_point}
 use Rattle.plane.proofs.Segments.{same-refl, within_segment-same}
 use Rattle.plane_tiling.proofs.Locations.{no_edges_cross}
-use Rattle.plane_segments.proofs.Pieces.{on_parts}
+use Rattle.plane_segments.proofs.Constraints.Pieces.{on_parts}
 use Rattle.mesh_embedding.specs.Drawn.{edges_of, faces_of, outer_of}
 use Rattle.mesh_embedding.proofs.OwnEdges.{own_edges}
 use Rattle.delaunay_legalization.specs.Constraints.{marked_edges, constraints_by}

@@ -8,7 +8,7 @@ use Rattle.half_edge_mesh.specs.Contents.{Contents}
 use Rattle.plane.specs.Fraction.{Point}
 use Rattle.plane.specs.Pairs.{Joins, IsSamePair, IsIndex}
 use Rattle.plane_segments.specs.Constraints.{AreNextOn, ArePlacedApart}
-use Rattle.plane_segments.proofs.Adding.{IsAddingPath, adding_goes_on, adding_ends}
+use Rattle.plane_segments.proofs.Constraints.Adding.{IsAddingPath, adding_goes_on, adding_ends}
 use Rattle.mesh_embedding.proofs.MeshLegal.{joins_edge, same_joined}
 use Rattle.delaunay_legalization.specs.Constraints.{marked_edges, constraint_pairs}
 use Rattle.delaunay_legalization.specs.Shape.{IsTriangulated}

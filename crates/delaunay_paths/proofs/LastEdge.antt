@@ -20,8 +20,8 @@ use Rattle.plane_tiling.proofs.Locations.{no_edges_cross}
 use Rattle.plane_tiling.proofs.Loops.{mesh_tiles}
 use Rattle.plane_tiling.proofs.Totals.{Contains-head, Contains-none}
 use Rattle.plane_segments.specs.Path.{ComesAfterOnLeft, ComesAfterOnRight, IsCrossing, IsFreeOfVertices}
-use Rattle.plane_segments.proofs.EitherWay.{crossing_is_either_way, edge_back, one_point}
-use Rattle.plane_segments.proofs.Order.{right-trans, left-trans, right-irrefl, left-irrefl}
+use Rattle.plane_segments.proofs.Crossing.EitherWay.{crossing_is_either_way, edge_back, one_point}
+use Rattle.plane_segments.proofs.Crossing.Order.{right-trans, left-trans, right-irrefl, left-irrefl}
 use Rattle.mesh_embedding.specs.Drawn.{drawn, edges_of, faces_of, outer_of}
 use Rattle.mesh_embedding.proofs.EdgePairs.{edge_joins}
 use Rattle.mesh_embedding.proofs.OwnEdges.{own_edges}

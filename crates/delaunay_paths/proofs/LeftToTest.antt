@@ -18,7 +18,7 @@ use Rattle.plane_tiling.specs.Local.{IsMesh}
 use Rattle.plane_tiling.proofs.Locations.{no_edges_cross}
 use Rattle.plane_edits.specs.Change.{FacesChange, IsFaceOf}
 use Rattle.plane_edits.specs.Legal.{AllPassBut, Pass}
-use Rattle.plane_edits.proofs.Changes.{each, each_none, face_from, turn_of_all}
+use Rattle.plane_edits.proofs.LocalMesh.Changes.{each, each_none, face_from, turn_of_all}
 use Rattle.mesh_embedding.specs.Drawn.{drawn, edges_of, faces_of, outer_of}
 use Rattle.mesh_embedding.specs.Legal.{GainsRound, pair_at, pairs_at}
 use Rattle.mesh_embedding.proofs.EdgePairs.{edge_joins}

@@ -9,15 +9,15 @@ use Rattle.plane.specs.Fraction.{Point, whole}
 use Rattle.plane.specs.Laws.{squared_way}
 use Rattle.plane.specs.Pairs.{IsIndex, place}
 use Rattle.plane_delaunay.specs.Nearer.{nearer_count}
-use Rattle.plane_delaunay.proofs.NearerCount.{nearer_count_falls}
+use Rattle.plane_delaunay.proofs.Circles.NearerCount.{nearer_count_falls}
 use Rattle.plane_edits.specs.Legal.{point_of}
 use Rattle.plane_segments.specs.Constraints.{AreNextOn, ArePlacedApart}
-use Rattle.plane_segments.proofs.Pieces.{path_begins, path_goes_on}
-use Rattle.plane_segments.proofs.Shorter.{path_shortens}
+use Rattle.plane_segments.proofs.Constraints.Pieces.{path_begins, path_goes_on}
+use Rattle.plane_segments.proofs.Constraints.Shorter.{path_shortens}
 use Rattle.mesh_embedding.specs.Drawn.{drawn}
 use Rattle.delaunay_paths.specs.PathEdges.{LeadAlong}
 use Rattle.delaunay_paths.proofs.Places.{gap_is_way_back}
-use Rattle.plane_edits.proofs.Legal.{squared_way_nonneg}
+use Rattle.plane_edits.proofs.Legalization.Legal.{squared_way_nonneg}
 
 -- ---- the next vertex is nearer to the end
 less_of_abs : (x y : ℤ) → pos 0 ≤ℤ x → pos 0 ≤ℤ y → nat_abs x < nat_abs y → x <ℤ y

@@ -10,13 +10,13 @@ use Rattle.plane.specs.Line.{Item, IsLineList, IsBefore, IsVertexThenOverlap, at
 use Rattle.plane.specs.Pairs.{place}
 use Rattle.plane.specs.Tiling.{Triangulation}
 use Rattle.plane.proofs.Segments.{on_of_within, start_on_segment, end_on_segment, within_segment_is}
-use Rattle.plane_delaunay.proofs.AlongSegment.{nearer_if, not_both_nearer}
+use Rattle.plane_delaunay.proofs.Points.AlongSegment.{nearer_if, not_both_nearer}
 use Rattle.plane_tiling.specs.Local.{IsMesh}
 use Rattle.plane_tiling.proofs.Totals.{Contains-head, Contains-none}
 use Rattle.plane_segments.specs.Constraints.{AreNextOn, ArePlacedApart}
-use Rattle.plane_segments.proofs.EitherWay.{one_point}
-use Rattle.plane_segments.proofs.Orders.{nearer-same_first, nearer-same_second}
-use Rattle.plane_segments.proofs.Pieces.{on_parts}
+use Rattle.plane_segments.proofs.Crossing.EitherWay.{one_point}
+use Rattle.plane_segments.proofs.Items.Orders.{nearer-same_first, nearer-same_second}
+use Rattle.plane_segments.proofs.Constraints.Pieces.{on_parts}
 use Rattle.mesh_embedding.specs.Drawn.{drawn, faces_of, outer_of}
 use Rattle.delaunay_legalization.specs.Known.{point_at}
 use Rattle.delaunay_legalization.specs.State.{state_of}

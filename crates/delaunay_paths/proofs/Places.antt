@@ -11,7 +11,7 @@ use Rattle.plane.specs.Pairs.{place}
 use Rattle.plane.proofs.Meetings.{crossing_is_sides}
 use Rattle.plane.proofs.Solver.{◌⊖◌, ◌⊗◌, ring_in}
 use Rattle.plane_segments.specs.Constraints.{ArePlacedApart}
-use Rattle.plane_segments.proofs.EitherWay.{one_point}
+use Rattle.plane_segments.proofs.Crossing.EitherWay.{one_point}
 use Rattle.delaunay_legalization.specs.Known.{point_at}
 use Rattle.delaunay_paths.specs.Crossing.{CrossesSegment}
 

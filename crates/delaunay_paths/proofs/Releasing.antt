@@ -10,7 +10,7 @@ use Rattle.plane.specs.Fraction.{Point}
 use Rattle.plane.specs.Pairs.{Joins, IsSamePair}
 use Rattle.plane.specs.Plain.{points_of, AreNeighboursOn}
 use Rattle.plane_edits.specs.Legal.{AllPassBut}
-use Rattle.plane_edits.proofs.Changes.{once_none}
+use Rattle.plane_edits.proofs.LocalMesh.Changes.{once_none}
 use Rattle.plane_tiling.proofs.Totals.{Contains-head, Contains-none, Contains-cases}
 use Rattle.mesh_embedding.specs.Drawn.{faces_of}
 use Rattle.mesh_embedding.specs.Legal.{AreEdges, pairs_at}

@@ -22,15 +22,15 @@ use Rattle.plane_tiling.proofs.Loops.{mesh_tiles}
 use Rattle.plane_tiling.proofs.Meshes.{meshes_tile}
 use Rattle.plane_edits.specs.Change.{FacesChange}
 use Rattle.plane_edits.specs.Legal.{point_of}
-use Rattle.plane_edits.proofs.Kept.{flip_kept}
+use Rattle.plane_edits.proofs.LocalMesh.Kept.{flip_kept}
 use Rattle.plane_segments.specs.Measure.{crossing_sum}
 use Rattle.plane_segments.specs.Path.{IsFreeOfVertices, IsCrossing, IsLastRight, IsLastLeft, ComesAfterOnRight, ComesAfterOnLeft}
-use Rattle.plane_segments.proofs.EitherWay.{crossing_is_either_way, edge_back}
-use Rattle.plane_segments.proofs.Lowering.{chosen_flip_lowers}
-use Rattle.plane_segments.proofs.Order.{last_has_none_after}
-use Rattle.plane_segments.proofs.PathFlips.{piece_on_line_is_edge}
-use Rattle.plane_segments.proofs.Paths.{chosen_flip_is_convex, uncrossed_is_edge}
-use Rattle.plane_segments.proofs.Turns.{left_turn, turn-same}
+use Rattle.plane_segments.proofs.Crossing.EitherWay.{crossing_is_either_way, edge_back}
+use Rattle.plane_segments.proofs.Crossing.Lowering.{chosen_flip_lowers}
+use Rattle.plane_segments.proofs.Crossing.Order.{last_has_none_after}
+use Rattle.plane_segments.proofs.Crossing.PathFlips.{piece_on_line_is_edge}
+use Rattle.plane_segments.proofs.Crossing.Paths.{chosen_flip_is_convex, uncrossed_is_edge}
+use Rattle.plane_segments.proofs.Crossing.Turns.{left_turn, turn-same}
 use Rattle.mesh_embedding.specs.Drawn.{drawn, faces_of, edges_of, outer_of}
 use Rattle.mesh_embedding.specs.Stays.{GoSameWay}
 use Rattle.mesh_embedding.proofs.FaceChanges.{turned_faces}

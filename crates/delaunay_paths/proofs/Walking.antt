@@ -13,7 +13,7 @@ use Rattle.plane.proofs.Collinear.{place_on, place_of_start, place_of_end}
 use Rattle.plane.proofs.LineOrder.{IsBetween, place_within, within_places}
 use Rattle.plane_tiling.specs.Local.{IsMesh}
 use Rattle.plane_tiling.proofs.Edges.{within_on}
-use Rattle.plane_segments.proofs.Pieces.{on_of_mean}
+use Rattle.plane_segments.proofs.Constraints.Pieces.{on_of_mean}
 use Rattle.plane_segments.specs.Constraints.{ArePlacedApart}
 use Rattle.mesh_embedding.proofs.EdgePairs.{Contains-map}
 use Rattle.plane.proofs.Signs.{less_through}

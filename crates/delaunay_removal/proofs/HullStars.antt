@@ -16,7 +16,7 @@ use Rattle.plane_tiling.proofs.Covering.{no_outer_back}
 use Rattle.plane_tiling.proofs.Tiles.{point_at, by_signs}
 use Rattle.plane_edits.specs.RemovalHull as P
 use Rattle.plane_edits.specs.StarFlips.{IsStarFlip}
-use Rattle.plane_edits.proofs.RemovalHulls.{corner_or_flat, corner_star_flips, flat_star_flips}
+use Rattle.plane_edits.proofs.Removal.HullVertex.{corner_or_flat, corner_star_flips, flat_star_flips}
 use Rattle.mesh_embedding.specs.Drawn.{faces_of, outer_of}
 use Rattle.mesh_embedding.proofs.MeshStars.{hull_star, hull_strip, neighbours_apart}
 use Rattle.mesh_embedding.proofs.MeshStarFlips.{star_flip, star_flip_local, one_hull_neighbour_less}

@@ -14,7 +14,7 @@ use Rattle.plane.proofs.Sides.{side_turned, side_swapped}
 use Rattle.plane_tiling.specs.Local.{LocalMesh}
 use Rattle.plane_edits.specs.Removal.{IsStar}
 use Rattle.plane_edits.specs.StarFlips.{IsStarFlip}
-use Rattle.plane_edits.proofs.Kept.{turning_of}
+use Rattle.plane_edits.proofs.LocalMesh.Kept.{turning_of}
 use Rattle.mesh_embedding.specs.Drawn.{faces_of, outer_of}
 use Rattle.mesh_embedding.proofs.MeshStars.{inner_star}
 use Rattle.mesh_embedding.proofs.MeshStarFlips.{spoke_flippable, twin_flippable, star_flip, star_flip_local, one_neighbour_less}

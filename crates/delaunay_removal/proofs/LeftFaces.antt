@@ -13,7 +13,7 @@ use Rattle.plane.specs.Fraction.{Point}
 use Rattle.plane.specs.Tiling.{Face}
 use Rattle.plane_tiling.proofs.Totals.{Contains-none}
 use Rattle.plane_edits.specs.Change.{IsFaceOf}
-use Rattle.plane_edits.proofs.Changes.{turn_of_all}
+use Rattle.plane_edits.proofs.LocalMesh.Changes.{turn_of_all}
 use Rattle.mesh_embedding.specs.Drawn.{corners_of, faces_of, outer_of}
 use Rattle.mesh_embedding.proofs.FaceChanges.{turned_faces}
 use Rattle.mesh_embedding.proofs.MeshDrops.{whole_faces}

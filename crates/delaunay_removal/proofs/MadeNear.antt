@@ -13,7 +13,7 @@ use Rattle.half_edge_mesh.specs.Removal.{FullFace, HasCorners, full_faces, faces
 use Rattle.plane.specs.Tiling.{Face, face as corners}
 use Rattle.plane_tiling.proofs.Totals.{Contains-none, Contains-head, Contains-later, Contains-cases}
 use Rattle.plane_edits.specs.Change.{IsFaceOf, FacesChange}
-use Rattle.plane_edits.proofs.Changes.{face_from, turn_of_all}
+use Rattle.plane_edits.proofs.LocalMesh.Changes.{face_from, turn_of_all}
 use Rattle.mesh_embedding.specs.Drawn.{corners_of, faces_of}
 use Rattle.mesh_embedding.proofs.FaceChanges.{contains_map, turned_faces}
 use Rattle.mesh_embedding.proofs.FaceSums.{faces_lost, hole_filled}

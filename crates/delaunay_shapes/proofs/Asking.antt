@@ -7,7 +7,7 @@ use Rattle.std.proofs.lemmas.Bool.{cases_eq}
 use Rattle.std.proofs.lemmas.List.{get_or-set_same, get_or-set_other, get_or_append_left, length-set, append-nil}
 use Rattle.half_edge_mesh.specs.Mesh.{Mesh, next, prev, rev}
 use Rattle.plane_tiling.proofs.Totals.{get_or_any}
-use Rattle.plane_edits.proofs.Changes.{IsOnce}
+use Rattle.plane_edits.proofs.LocalMesh.Changes.{IsOnce}
 use Rattle.mesh_embedding.proofs.WorkLists.{contains_last, contains_before, last_or_before, once_after}
 use Rattle.delaunay_shapes.specs.Flood.{IsAsked, IsFlooding, GoesOn, Asks, AsksBeside, AreAskedBeside, IsSpread}
 

@@ -10,7 +10,7 @@ use Rattle.plane.specs.Circle.{gap}
 use Rattle.plane.specs.Shape.{InClosedCircle}
 use Rattle.plane.proofs.Solver.{num, ◌⊕◌, ◌⊖◌, ◌⊗◌, ring_in}
 use Rattle.plane_delaunay.specs.EdgeTests.{distance_2, factor, MeetsCircle, HasPointIn}
-use Rattle.plane_delaunay.proofs.EdgeInCircle.{edge_meets_circle}
+use Rattle.plane_delaunay.proofs.Floods.EdgeInCircle.{edge_meets_circle}
 use Rattle.delaunay_shapes.specs.Tests.{circle_distance, meets_circle, IsEdgeNear}
 use Rattle.delaunay_core.specs.Projection.{along}
 use Rattle.delaunay_shapes.proofs.Decided.{decides_le, decides_lt, decides_or, decides_and_4}

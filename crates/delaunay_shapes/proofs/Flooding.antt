@@ -14,8 +14,8 @@ use Rattle.plane.specs.Tiling.{Triangulation, IsEdge, IsFace, IsTiling, JoinsLin
 use Rattle.plane_tiling.specs.Local.{IsMesh, LineMesh}
 use Rattle.plane_delaunay.specs.EdgeTests.{HasPointIn}
 use Rattle.plane_delaunay.specs.Flood.{Region, InRegion, IsFloodedAround}
-use Rattle.plane_delaunay.proofs.FloodOnLine.{turned_join, turned_edge, flood_finds_on_line}
-use Rattle.plane_delaunay.proofs.Flooded.{flood_finds_region}
+use Rattle.plane_delaunay.proofs.Floods.FloodOnLine.{turned_join, turned_edge, flood_finds_on_line}
+use Rattle.plane_delaunay.proofs.Floods.Flooded.{flood_finds_region}
 use Rattle.mesh_embedding.specs.Drawn.{drawn, faces_of, edges_of, outer_of}
 use Rattle.mesh_embedding.specs.Legal.{pair_at, pairs_at}
 use Rattle.mesh_embedding.proofs.OwnEdges.{own_edges}

@@ -11,7 +11,7 @@ use Rattle.plane.specs.Shape.{InClosedRectangle}
 use Rattle.plane.proofs.IntegerOrder.{lt_or_ge_ℤ, mul-lt-mul_ℤ}
 use Rattle.plane.proofs.Solver.{◌⊗◌, ring_in}
 use Rattle.plane_delaunay.specs.EdgeTests.{RangeMeets, AreCornersOn, MeetsRectangle, HasPointIn}
-use Rattle.plane_delaunay.proofs.EdgeInRectangle.{edge_meets_rectangle}
+use Rattle.plane_delaunay.proofs.Floods.EdgeInRectangle.{edge_meets_rectangle}
 use Rattle.delaunay_shapes.specs.Tests.{IsReversed, is_reversed, range_meets, is_left, is_right, are_corners, meets_rectangle}
 use Rattle.delaunay_shapes.proofs.Decided.{decides_le, decides_lt, decides_not, decides_or, decides_and, decides_and_4}
 

@@ -13,9 +13,9 @@ use Rattle.plane.specs.Tiling.{IsEdge, vertex}
 use Rattle.plane.proofs.Segments.{start_on_segment, on_segment-same}
 use Rattle.plane_tiling.specs.Local.{IsMesh}
 use Rattle.plane_delaunay.specs.Flood.{Region, InRegion, IsTried, start_point}
-use Rattle.plane_delaunay.proofs.Regions.{region_convex}
-use Rattle.plane_delaunay.proofs.FloodOnLine.{turned_edge, edge_at}
-use Rattle.plane_delaunay.proofs.FloodRules.{region_has_start, start_is_exact}
+use Rattle.plane_delaunay.proofs.Floods.Regions.{region_convex}
+use Rattle.plane_delaunay.proofs.Floods.FloodOnLine.{turned_edge, edge_at}
+use Rattle.plane_delaunay.proofs.Floods.FloodRules.{region_has_start, start_is_exact}
 use Rattle.mesh_embedding.specs.Drawn.{drawn, faces_of, outer_of}
 use Rattle.mesh_embedding.proofs.EdgePairs.{edge_joins, joins_edge}
 use Rattle.mesh_embedding.proofs.MeshEdits.{face_before}

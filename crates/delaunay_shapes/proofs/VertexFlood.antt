@@ -12,7 +12,7 @@ use Rattle.plane.specs.Fraction.{Point, Fraction, whole, IsSame}
 use Rattle.plane.specs.Pairs.{place}
 use Rattle.plane_tiling.specs.Local.{IsMesh}
 use Rattle.plane_tiling.proofs.Totals.{get_or_any}
-use Rattle.plane_delaunay.proofs.FloodRules.{vertices_are_ends}
+use Rattle.plane_delaunay.proofs.Floods.FloodRules.{vertices_are_ends}
 use Rattle.mesh_embedding.specs.Drawn.{drawn, faces_of, outer_of}
 use Rattle.mesh_embedding.proofs.EdgePairs.{joins_edge}
 use Rattle.mesh_embedding.proofs.MeshStays.{halved}

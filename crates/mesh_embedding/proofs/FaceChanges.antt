@@ -10,7 +10,7 @@ use Rattle.plane.specs.Tiling.{Face, face as corners}
 use Rattle.plane_tiling.specs.Local.{total}
 use Rattle.plane_tiling.proofs.Totals.{Contains-head, Contains-later, Contains-none, Contains-cases, get_or_any}
 use Rattle.plane_edits.specs.Change.{IsFaceOf, IsTurnFree}
-use Rattle.plane_edits.proofs.Changes.{total_append}
+use Rattle.plane_edits.proofs.LocalMesh.Changes.{total_append}
 use Rattle.mesh_embedding.specs.Drawn.{corners_of, faces_of}
 use Rattle.mesh_embedding.proofs.OwnEdges.{total-map}
 use Rattle.half_edge_links.proofs.Sums.{same_sum}

@@ -14,7 +14,7 @@ use Rattle.plane.specs.Tiling.{Face, face as corners}
 use Rattle.plane_tiling.specs.Local.{total}
 use Rattle.plane_tiling.proofs.Totals.{Contains-head, Contains-none, Contains-cases}
 use Rattle.plane_edits.specs.Change.{IsFaceOf, IsTurnFree, FacesChange}
-use Rattle.plane_edits.proofs.Changes.{face_kept, turn_of_all}
+use Rattle.plane_edits.proofs.LocalMesh.Changes.{face_kept, turn_of_all}
 use Rattle.mesh_embedding.specs.Drawn.{corners_of, faces_of}
 use Rattle.mesh_embedding.proofs.OwnEdges.{total-read}
 use Rattle.mesh_embedding.proofs.FaceChanges.{contains_map, turned_faces, come_of, face_listed}

@@ -19,7 +19,7 @@ use Rattle.plane.specs.Tiling.{Face}
 use Rattle.plane_tiling.specs.Local.{LocalMesh, LineMesh}
 use Rattle.plane_tiling.proofs.Totals.{Contains-none}
 use Rattle.plane_edits.specs.Removal.{LocalMeshWithout, LineMeshWithout, renumbered, renumbered_pair}
-use Rattle.plane_edits.proofs.Renumbering.{last_takes_freed_index, last_takes_freed_index_on_line}
+use Rattle.plane_edits.proofs.Removal.Renumbering.{last_takes_freed_index, last_takes_freed_index_on_line}
 use Rattle.mesh_embedding.specs.Drawn.{corners_of, pair_of, faces_of, outer_of}
 use Rattle.mesh_embedding.proofs.OuterEdges.{real}
 use Rattle.mesh_embedding.proofs.FaceChanges.{length_map}

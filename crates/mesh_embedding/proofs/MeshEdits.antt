@@ -18,8 +18,8 @@ use Rattle.plane.specs.Tiling.{Face, face as corners}
 use Rattle.plane_tiling.specs.Local.{total, LocalMesh}
 use Rattle.plane_tiling.proofs.Totals.{Contains-head, Contains-later}
 use Rattle.plane_edits.specs.Change.{IsFaceOf, FacesChange, OuterChange}
-use Rattle.plane_edits.proofs.Changes.{total_append}
-use Rattle.plane_edits.proofs.Kept.{inside_face_kept, within_side_kept, within_outer_kept, flip_kept}
+use Rattle.plane_edits.proofs.LocalMesh.Changes.{total_append}
+use Rattle.plane_edits.proofs.LocalMesh.Kept.{inside_face_kept, within_side_kept, within_outer_kept, flip_kept}
 use Rattle.mesh_embedding.specs.Drawn.{corners_of, faces_of, outer_of}
 use Rattle.mesh_embedding.proofs.OuterEdges.{listed}
 use Rattle.mesh_embedding.proofs.OuterChanges.{outer_kept, outer_replaced, own_ends}

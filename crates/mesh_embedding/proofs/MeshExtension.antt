@@ -13,7 +13,7 @@ use Rattle.plane_tiling.specs.Local.{total, LocalMesh}
 use Rattle.plane_tiling.proofs.Totals.{Contains-head, Contains-none, Contains-cases}
 use Rattle.plane_edits.specs.Change.{FacesChange, OuterChange, IsFaceOf}
 use Rattle.plane_edits.specs.Extension.{steps, last_of, IsSeenRun, IsExtending}
-use Rattle.plane_edits.proofs.Growing.{extension_begins, extension_goes_on, extension_goes_back, extension_ends}
+use Rattle.plane_edits.proofs.Insertion.Growing.{extension_begins, extension_goes_on, extension_goes_back, extension_ends}
 use Rattle.mesh_embedding.specs.Drawn.{faces_of, outer_of}
 use Rattle.mesh_embedding.proofs.OuterEdges.{listed, real}
 use Rattle.mesh_embedding.proofs.OuterChanges.{two_pairs, outer_replaced, outer_closed}

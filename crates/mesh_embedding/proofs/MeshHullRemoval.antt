@@ -18,9 +18,9 @@ use Rattle.plane_tiling.proofs.Totals.{Contains-none, Contains-cases}
 use Rattle.plane_edits.specs.Change.{IsFaceOf, FacesChange, OuterChange}
 use Rattle.plane_edits.specs.Removal.{LocalMeshWithout, LineMeshWithout}
 use Rattle.plane_edits.specs.RemovalHull.{IsHullStar, NoneTurnsLeft, strip, chain}
-use Rattle.plane_edits.proofs.Changes.{IsOnce, once_none, once_cons}
-use Rattle.plane_edits.proofs.Hull.{next_unique}
-use Rattle.plane_edits.proofs.RemovalHulls.{corner_goes, corner_leaves_line, flat_side_closes}
+use Rattle.plane_edits.proofs.LocalMesh.Changes.{IsOnce, once_none, once_cons}
+use Rattle.plane_edits.proofs.Insertion.Hull.{next_unique}
+use Rattle.plane_edits.proofs.Removal.HullVertex.{corner_goes, corner_leaves_line, flat_side_closes}
 use Rattle.mesh_embedding.specs.Drawn.{corners_of, pair_of, faces_of, outer_of}
 use Rattle.mesh_embedding.proofs.FaceSums.{faces_lost, both_changes}
 use Rattle.mesh_embedding.proofs.MeshInnerRemoval.{outer_then}

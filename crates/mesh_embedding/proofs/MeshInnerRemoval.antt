@@ -12,8 +12,8 @@ use Rattle.plane_tiling.specs.Local.{LocalMesh}
 use Rattle.plane_tiling.proofs.Totals.{Contains-none, Contains-cases}
 use Rattle.plane_edits.specs.Change.{FacesChange, OuterChange}
 use Rattle.plane_edits.specs.Removal.{IsStar, LocalMeshWithout}
-use Rattle.plane_edits.proofs.Changes.{IsOnce, once_none}
-use Rattle.plane_edits.proofs.Removals.{three_faces_merge, four_faces_merge}
+use Rattle.plane_edits.proofs.LocalMesh.Changes.{IsOnce, once_none}
+use Rattle.plane_edits.proofs.Removal.InnerVertex.{three_faces_merge, four_faces_merge}
 use Rattle.mesh_embedding.specs.Drawn.{faces_of, outer_of}
 use Rattle.mesh_embedding.proofs.FaceSums.{hole_filled, change_as, both_changes}
 use Rattle.mesh_embedding.proofs.PairSums.{sums_change, outer_sums}

@@ -30,10 +30,10 @@ use Rattle.plane_tiling.proofs.Tiles.{point_at, by_signs}
 use Rattle.plane_edits.specs.Change.{IsFaceOf, FacesChange}
 use Rattle.plane_edits.specs.Legal.{Pass, AllPassBut, IsRoundSide, lifted_volume}
 use Rattle.plane_edits.specs.Away.{AreAway}
-use Rattle.plane_edits.proofs.Changes.{once_none}
-use Rattle.plane_edits.proofs.Kept.{turning_of}
-use Rattle.plane_edits.proofs.Away.{flip_goes_away, away_is_bounded}
-use Rattle.plane_edits.proofs.Flipping.{one_question, failing_is_convex, third_unique, flip_lowers, flip_leaves_sides, passing_is_dropped}
+use Rattle.plane_edits.proofs.LocalMesh.Changes.{once_none}
+use Rattle.plane_edits.proofs.LocalMesh.Kept.{turning_of}
+use Rattle.plane_edits.proofs.Legalization.Away.{flip_goes_away, away_is_bounded}
+use Rattle.plane_edits.proofs.Legalization.Flipping.{one_question, failing_is_convex, third_unique, flip_lowers, flip_leaves_sides, passing_is_dropped}
 use Rattle.mesh_embedding.specs.Drawn.{faces_of, outer_of}
 use Rattle.mesh_embedding.specs.Legal.{pair_at, pairs_at, IsFailing, AreEdges, IsPartlyLegal, Gains, GainsRound, steps_left}
 use Rattle.mesh_embedding.specs.Stays.{KeepsIndexes}

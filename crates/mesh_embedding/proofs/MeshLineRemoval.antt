@@ -11,8 +11,8 @@ use Rattle.plane.specs.Pairs.{IsIndex}
 use Rattle.plane_tiling.specs.Local.{LineMesh}
 use Rattle.plane_tiling.proofs.Totals.{Contains-head, Contains-none, Contains-cases}
 use Rattle.plane_edits.specs.Removal.{LineMeshWithout}
-use Rattle.plane_edits.proofs.Changes.{IsOnce, once_none, once_cons}
-use Rattle.plane_edits.proofs.RemovalLine.{end_of_line_goes, middle_of_line_goes}
+use Rattle.plane_edits.proofs.LocalMesh.Changes.{IsOnce, once_none, once_cons}
+use Rattle.plane_edits.proofs.Removal.OnLine.{end_of_line_goes, middle_of_line_goes}
 use Rattle.mesh_embedding.specs.Drawn.{outer_of}
 use Rattle.mesh_embedding.proofs.OuterChanges.{two_pairs}
 use Rattle.mesh_embedding.proofs.PairSums.{SumsChange, gone_there, must_go, sums_change, outer_sums}

@@ -11,8 +11,8 @@ use Rattle.plane.specs.Location.{IsPast}
 use Rattle.plane_tiling.specs.Local.{LineMesh, alone}
 use Rattle.plane_tiling.proofs.Totals.{Contains-head, Contains-later, Contains-none, Contains-cases}
 use Rattle.plane_edits.specs.Change.{OuterChange}
-use Rattle.plane_edits.proofs.Changes.{IsOnce}
-use Rattle.plane_edits.proofs.OnLine.{past_end, between}
+use Rattle.plane_edits.proofs.LocalMesh.Changes.{IsOnce}
+use Rattle.plane_edits.proofs.Insertion.OnLine.{past_end, between}
 use Rattle.mesh_embedding.specs.Drawn.{outer_of}
 use Rattle.mesh_embedding.proofs.OuterEdges.{listed, changed_pairs}
 use Rattle.mesh_embedding.proofs.OuterChanges.{two_pairs}

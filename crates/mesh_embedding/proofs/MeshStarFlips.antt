@@ -21,8 +21,8 @@ use Rattle.plane_edits.specs.Change.{IsFaceOf, IsTurnFree, FacesChange}
 use Rattle.plane_edits.specs.Removal.{IsStar}
 use Rattle.plane_edits.specs.RemovalHull.{IsHullStar}
 use Rattle.plane_edits.specs.StarFlips.{IsStarFlip, without}
-use Rattle.plane_edits.proofs.Kept.{flip_kept}
-use Rattle.plane_edits.proofs.StarFlips.{inner_star_shrinks, stars_agree, hull_star_shrinks, hull_stars_agree}
+use Rattle.plane_edits.proofs.LocalMesh.Kept.{flip_kept}
+use Rattle.plane_edits.proofs.Removal.StarFlips.{inner_star_shrinks, stars_agree, hull_star_shrinks, hull_stars_agree}
 use Rattle.mesh_embedding.specs.Drawn.{faces_of, outer_of}
 use Rattle.mesh_embedding.proofs.OuterChanges.{outer_kept}
 use Rattle.mesh_embedding.proofs.FaceChanges.{come_of}

@@ -22,8 +22,8 @@ use Rattle.plane_tiling.proofs.Totals.{get_or_any}
 use Rattle.plane_edits.specs.Change.{IsFaceOf}
 use Rattle.plane_edits.specs.Removal.{IsStar}
 use Rattle.plane_edits.specs.RemovalHull.{IsHullStar}
-use Rattle.plane_edits.proofs.Hull.{next_unique}
-use Rattle.plane_edits.proofs.Renumbering.{from_map}
+use Rattle.plane_edits.proofs.Insertion.Hull.{next_unique}
+use Rattle.plane_edits.proofs.Removal.Renumbering.{from_map}
 use Rattle.mesh_embedding.specs.Drawn.{corners_of, faces_of, edges_of, outer_of}
 use Rattle.mesh_embedding.proofs.OwnEdges.{own_edges}
 use Rattle.mesh_embedding.proofs.OuterEdges.{listed, real}

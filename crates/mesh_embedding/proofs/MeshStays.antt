@@ -20,7 +20,7 @@ use Rattle.plane_tiling.proofs.Meshes.{meshes_tile}
 use Rattle.plane_tiling.proofs.Totals.{Contains-none}
 use Rattle.plane_edits.specs.Change.{IsFaceOf}
 use Rattle.plane_edits.specs.Away.{IsAway, AreAway}
-use Rattle.plane_edits.proofs.Away.{away_is_no_edge, away_back}
+use Rattle.plane_edits.proofs.Legalization.Away.{away_is_no_edge, away_back}
 use Rattle.mesh_embedding.specs.Drawn.{drawn, corners_of, pair_of, faces_of, edges_of, outer_of}
 use Rattle.mesh_embedding.specs.Stays.{GoSameWay, HaveSameCorners, KeepsIndexes, HasSideIn, StaysBut}
 use Rattle.mesh_embedding.proofs.OwnEdges.{own_edges}

@@ -14,7 +14,7 @@ use Rattle.plane.specs.Pairs.{place}
 use Rattle.plane.specs.Side.{side, on, TurnsLeft}
 use Rattle.plane_tiling.specs.Local.{LocalMesh}
 use Rattle.plane_edits.specs.Removal.{IsStar, LocalMeshWithout, LineMeshWithout}
-use Rattle.plane_edits.proofs.Removals.{inner_star_flips}
+use Rattle.plane_edits.proofs.Removal.InnerVertex.{inner_star_flips}
 use Rattle.plane_edits.specs.RemovalHull.{NoneTurnsLeft}
 use Rattle.mesh_embedding.specs.Drawn.{faces_of, outer_of}
 use Rattle.mesh_embedding.proofs.OuterChanges.{outer_kept}

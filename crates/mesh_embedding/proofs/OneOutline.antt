@@ -10,7 +10,7 @@ use Rattle.plane_tiling.specs.Local.{IsMesh, LocalMesh}
 use Rattle.plane_tiling.proofs.Counting.{SignMesh}
 use Rattle.plane_tiling.proofs.Tiles.{point_at, by_signs}
 use Rattle.plane_tiling.proofs.Sweep.{IsSweep, sweep}
-use Rattle.plane_edits.proofs.Hull.{next_unique}
+use Rattle.plane_edits.proofs.Insertion.Hull.{next_unique}
 use Rattle.mesh_embedding.specs.Drawn.{faces_of, outer_of}
 use Rattle.mesh_embedding.proofs.LowestVertex.{turns_at_lowest}
 use Rattle.mesh_embedding.proofs.OutlineRounds.{IsOut, next_out, end, TurnsUp, outline_by_low, out_pair, same_ends, IsLowest, same_low}

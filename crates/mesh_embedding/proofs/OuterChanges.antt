@@ -7,7 +7,7 @@ use Rattle.half_edge_mesh.specs.Outline.{IsOuterEdge, KeepsOuter, ReplacesOuter,
 use Rattle.half_edge_links.proofs.Rev.{rev_within}
 use Rattle.plane_tiling.proofs.Totals.{Contains-head, Contains-later, Contains-none, Contains-cases}
 use Rattle.plane_edits.specs.Change.{OuterChange}
-use Rattle.plane_edits.proofs.Changes.{IsOnce}
+use Rattle.plane_edits.proofs.LocalMesh.Changes.{IsOnce}
 use Rattle.mesh_embedding.specs.Drawn.{outer_of}
 use Rattle.mesh_embedding.proofs.OuterEdges.{ends_at, listed, changed_pairs}
 

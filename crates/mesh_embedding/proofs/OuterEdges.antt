@@ -9,7 +9,7 @@ use Rattle.half_edge_mesh.specs.Outline.{Ends, IsOuterEdge, OuterChanges}
 use Rattle.half_edge_mesh.specs.Flow.{outer_among}
 use Rattle.plane_tiling.proofs.Totals.{Contains-head, Contains-later, Contains-none, Contains-cases}
 use Rattle.plane_edits.specs.Change.{OuterChange}
-use Rattle.plane_edits.proofs.Changes.{IsOnce, once_none, once_head, once_tail, once_cons}
+use Rattle.plane_edits.proofs.LocalMesh.Changes.{IsOnce, once_none, once_head, once_tail, once_cons}
 use Rattle.mesh_embedding.specs.Drawn.{pair_of, outer_of}
 use Rattle.plane.proofs.Indexes.{less_or_more}
 

@@ -10,7 +10,7 @@ use Rattle.half_edge_mesh.specs.Hull.{IsClosedAlong, HasOneOutline}
 use Rattle.half_edge_links.proofs.Orbits.{step_add, comes_back}
 use Rattle.plane.proofs.Signs.{less_if_not_same, at_most_both_ways}
 use Rattle.plane_tiling.proofs.Rising.{greatest}
-use Rattle.plane_edits.proofs.Changes.{IsOnce}
+use Rattle.plane_edits.proofs.LocalMesh.Changes.{IsOnce}
 use Rattle.mesh_embedding.specs.Drawn.{outer_of}
 use Rattle.mesh_embedding.proofs.OuterEdges.{listed, one_edge}
 

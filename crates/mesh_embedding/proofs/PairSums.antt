@@ -13,7 +13,7 @@ use Rattle.plane_tiling.proofs.Flows.{is_pair, is_pair_nonneg, is_pair_own, pair
 use Rattle.plane_tiling.proofs.Loops.{listed_once}
 use Rattle.plane_tiling.proofs.Totals.{total_nonneg, total_positive, total_twice}
 use Rattle.plane_edits.specs.Change.{OuterChange}
-use Rattle.plane_edits.proofs.Changes.{IsOnce, has_pair_or_not}
+use Rattle.plane_edits.proofs.LocalMesh.Changes.{IsOnce, has_pair_or_not}
 use Rattle.mesh_embedding.specs.Drawn.{pair_of, outer_of}
 use Rattle.mesh_embedding.proofs.OwnEdges.{total-read}
 use Rattle.plane.proofs.Signs.{neither_sign_is_zero}

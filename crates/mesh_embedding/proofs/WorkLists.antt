@@ -5,7 +5,7 @@ use Rattle.std.specs.Prelude.{Contains}
 use Rattle.std.proofs.lemmas.Bool.{cases_eq}
 use Rattle.std.proofs.lemmas.List.Elements.{Contains-append_left, Contains-append_right, Contains-append_cases}
 use Rattle.plane_tiling.proofs.Totals.{Contains-head, Contains-later, Contains-none, Contains-cases}
-use Rattle.plane_edits.proofs.Changes.{IsOnce, once_none, once_head, once_tail, once_cons, once_length}
+use Rattle.plane_edits.proofs.LocalMesh.Changes.{IsOnce, once_none, once_head, once_tail, once_cons, once_length}
 
 pub contains_last : {X : Type 0} (xs : List X) (x : X) → Contains (xs ++ x ∷ []) x
 contains_last xs x = Contains-append_right xs (x ∷ []) x (Contains-head x [])

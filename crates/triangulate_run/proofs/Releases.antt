@@ -5,7 +5,7 @@ use Rattle.half_edge_mesh.specs.Mesh.{origin, rev}
 use Rattle.plane.specs.Pairs.{Joins, IsSamePair}
 use Rattle.plane.specs.Plain.{Plain, Releases}
 use Rattle.plane.specs.Tiling.{IsEdge}
-use Rattle.plane_edits.proofs.Flipping.{joins_or_not}
+use Rattle.plane_edits.proofs.Legalization.Flipping.{joins_or_not}
 use Rattle.mesh_embedding.proofs.EdgePairs.{edge_joins, joins_edge}
 use Rattle.delaunay_core.specs.declared.point.Point2.{Point2}
 use Rattle.delaunay_core.specs.declared.math.InsertionError.TheVariants.{OutOfMemory}

@@ -1,4 +1,4 @@
-use Rattle.plane_delaunay.proofs.EdgeInRectangle.{edge_meets_rectangle}
+use Rattle.plane_delaunay.proofs.Floods.EdgeInRectangle.{edge_meets_rectangle}
 use Rattle.plane_delaunay.proofs.edge_meets_rectangle.Goals as goal
 
 pub returns : goal.returns

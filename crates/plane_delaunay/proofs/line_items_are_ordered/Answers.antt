@@ -1,4 +1,4 @@
-use Rattle.plane_delaunay.proofs.LineItems.{meeting_of_hull, line_items_are_ordered}
+use Rattle.plane_delaunay.proofs.Segments.LineItems.{meeting_of_hull, line_items_are_ordered}
 use Rattle.plane_delaunay.proofs.line_items_are_ordered.Goals as goal
 
 pub returns : goal.returns

@@ -1,4 +1,4 @@
-use Rattle.plane_delaunay.proofs.FloodRules.{marks_fill_up}
+use Rattle.plane_delaunay.proofs.Floods.FloodRules.{marks_fill_up}
 use Rattle.plane_delaunay.proofs.marks_fill_up.Goals as goal
 
 pub returns : goal.returns

@@ -1,4 +1,4 @@
-use Rattle.plane_delaunay.proofs.Nearest.{nearest_by_neighbours}
+use Rattle.plane_delaunay.proofs.Circles.Nearest.{nearest_by_neighbours}
 use Rattle.plane_delaunay.proofs.nearest_by_neighbours.Goals as goal
 
 pub returns : goal.returns

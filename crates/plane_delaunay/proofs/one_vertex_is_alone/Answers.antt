@@ -1,4 +1,4 @@
-use Rattle.plane_delaunay.proofs.FloodRules.{one_vertex_is_alone}
+use Rattle.plane_delaunay.proofs.Floods.FloodRules.{one_vertex_is_alone}
 use Rattle.plane_delaunay.proofs.one_vertex_is_alone.Goals as goal
 
 pub returns : goal.returns

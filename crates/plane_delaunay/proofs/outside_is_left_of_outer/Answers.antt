@@ -1,4 +1,4 @@
-use Rattle.plane_delaunay.proofs.OuterEdges.{outside_is_left_of_outer}
+use Rattle.plane_delaunay.proofs.Tilings.OuterEdges.{outside_is_left_of_outer}
 use Rattle.plane_delaunay.proofs.outside_is_left_of_outer.Goals as goal
 
 pub returns : goal.returns

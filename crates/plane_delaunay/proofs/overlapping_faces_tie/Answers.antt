@@ -1,4 +1,4 @@
-use Rattle.plane_delaunay.proofs.History.{overlapping_faces_tie}
+use Rattle.plane_delaunay.proofs.Circles.History.{overlapping_faces_tie}
 use Rattle.plane_delaunay.proofs.overlapping_faces_tie.Goals as goal
 
 pub returns : goal.returns

@@ -1,4 +1,4 @@
-use Rattle.plane_delaunay.proofs.FloodRules.{vertices_are_ends}
+use Rattle.plane_delaunay.proofs.Floods.FloodRules.{vertices_are_ends}
 use Rattle.plane_delaunay.proofs.vertices_are_ends.Goals as goal
 
 pub returns : goal.returns

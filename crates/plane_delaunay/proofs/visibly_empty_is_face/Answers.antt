@@ -1,4 +1,4 @@
-use Rattle.plane_delaunay.proofs.EmptyCircles.{visibly_empty_is_face}
+use Rattle.plane_delaunay.proofs.Circles.EmptyCircles.{visibly_empty_is_face}
 use Rattle.plane_delaunay.proofs.visibly_empty_is_face.Goals as goal
 
 pub returns : goal.returns

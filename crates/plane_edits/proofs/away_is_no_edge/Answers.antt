@@ -1,4 +1,4 @@
-use Rattle.plane_edits.proofs.Away as Away
+use Rattle.plane_edits.proofs.Legalization.Away as Away
 use Rattle.plane_edits.proofs.away_is_no_edge.Goals as goal
 
 pub returns : goal.returns

@@ -1,4 +1,4 @@
-use Rattle.plane_edits.proofs.RemovalHulls.{corner_goes}
+use Rattle.plane_edits.proofs.Removal.HullVertex.{corner_goes}
 use Rattle.plane_edits.proofs.corner_goes.Goals as goal
 
 pub returns : goal.returns

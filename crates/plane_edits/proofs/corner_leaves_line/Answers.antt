@@ -1,4 +1,4 @@
-use Rattle.plane_edits.proofs.RemovalHulls.{corner_leaves_line}
+use Rattle.plane_edits.proofs.Removal.HullVertex.{corner_leaves_line}
 use Rattle.plane_edits.proofs.corner_leaves_line.Goals as goal
 
 pub returns : goal.returns

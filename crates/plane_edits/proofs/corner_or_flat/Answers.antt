@@ -1,4 +1,4 @@
-use Rattle.plane_edits.proofs.RemovalHulls.{corner_or_flat}
+use Rattle.plane_edits.proofs.Removal.HullVertex.{corner_or_flat}
 use Rattle.plane_edits.proofs.corner_or_flat.Goals as goal
 
 pub returns : goal.returns

@@ -1,4 +1,4 @@
-use Rattle.plane_edits.proofs.RemovalHulls.{corner_star_flips}
+use Rattle.plane_edits.proofs.Removal.HullVertex.{corner_star_flips}
 use Rattle.plane_edits.proofs.corner_star_flips.Goals as goal
 
 pub returns : goal.returns

@@ -1,4 +1,4 @@
-use Rattle.plane_edits.proofs.RemovalLine.{end_of_line_goes}
+use Rattle.plane_edits.proofs.Removal.OnLine.{end_of_line_goes}
 use Rattle.plane_edits.proofs.end_of_line_goes.Goals as goal
 
 pub returns : goal.returns

@@ -1,4 +1,4 @@
-use Rattle.plane_edits.proofs.Growing as Growing
+use Rattle.plane_edits.proofs.Insertion.Growing as Growing
 use Rattle.plane_edits.proofs.extension_ends.Goals as goal
 
 pub returns : goal.returns

@@ -1,4 +1,4 @@
-use Rattle.plane_edits.proofs.RemovalHulls.{flat_side_closes}
+use Rattle.plane_edits.proofs.Removal.HullVertex.{flat_side_closes}
 use Rattle.plane_edits.proofs.flat_side_closes.Goals as goal
 
 pub returns : goal.returns

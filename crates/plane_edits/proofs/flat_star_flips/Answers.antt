@@ -1,4 +1,4 @@
-use Rattle.plane_edits.proofs.RemovalHulls.{flat_star_flips}
+use Rattle.plane_edits.proofs.Removal.HullVertex.{flat_star_flips}
 use Rattle.plane_edits.proofs.flat_star_flips.Goals as goal
 
 pub returns : goal.returns

@@ -1,4 +1,4 @@
-use Rattle.plane_edits.proofs.Away as Away
+use Rattle.plane_edits.proofs.Legalization.Away as Away
 use Rattle.plane_edits.proofs.flip_goes_away.Goals as goal
 
 pub returns : goal.returns

@@ -1,4 +1,4 @@
-use Rattle.plane_edits.proofs.Kept.{flip_kept}
+use Rattle.plane_edits.proofs.LocalMesh.Kept.{flip_kept}
 use Rattle.plane_edits.proofs.flip_keeps.Goals as goal
 
 pub returns : goal.returns

@@ -1,4 +1,4 @@
-use Rattle.plane_edits.proofs.FlipHistory.{flip_touches_one_edge}
+use Rattle.plane_edits.proofs.Legalization.FlipHistory.{flip_touches_one_edge}
 use Rattle.plane_edits.proofs.flip_touches_one_edge.Goals as goal
 
 pub returns : goal.returns

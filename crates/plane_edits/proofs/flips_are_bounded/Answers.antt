@@ -1,4 +1,4 @@
-use Rattle.plane_edits.proofs.FlipHistory.{flips_are_bounded}
+use Rattle.plane_edits.proofs.Legalization.FlipHistory.{flips_are_bounded}
 use Rattle.plane_edits.proofs.flips_are_bounded.Goals as goal
 
 pub returns : goal.returns

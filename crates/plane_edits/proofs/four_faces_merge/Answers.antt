@@ -1,4 +1,4 @@
-use Rattle.plane_edits.proofs.Removals.{four_faces_merge}
+use Rattle.plane_edits.proofs.Removal.InnerVertex.{four_faces_merge}
 use Rattle.plane_edits.proofs.four_faces_merge.Goals as goal
 
 pub returns : goal.returns

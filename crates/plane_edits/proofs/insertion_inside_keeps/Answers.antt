@@ -1,4 +1,4 @@
-use Rattle.plane_edits.proofs.Kept.{inside_face_kept}
+use Rattle.plane_edits.proofs.LocalMesh.Kept.{inside_face_kept}
 use Rattle.plane_edits.proofs.insertion_inside_keeps.Goals as goal
 
 pub returns : goal.returns

@@ -1,4 +1,4 @@
-use Rattle.plane_edits.proofs.Kept.{within_outer_kept}
+use Rattle.plane_edits.proofs.LocalMesh.Kept.{within_outer_kept}
 use Rattle.plane_edits.proofs.insertion_within_outer_keeps.Goals as goal
 
 pub returns : goal.returns

@@ -1,4 +1,4 @@
-use Rattle.plane_edits.proofs.Renumbering.{last_takes_freed_index_on_line}
+use Rattle.plane_edits.proofs.Removal.Renumbering.{last_takes_freed_index_on_line}
 use Rattle.plane_edits.proofs.last_takes_freed_index_on_line.Goals as goal
 
 pub returns : goal.returns

@@ -1,4 +1,4 @@
-use Rattle.plane_edits.proofs.RemovalLine.{middle_of_line_goes}
+use Rattle.plane_edits.proofs.Removal.OnLine.{middle_of_line_goes}
 use Rattle.plane_edits.proofs.middle_of_line_goes.Goals as goal
 
 pub returns : goal.returns

@@ -1,4 +1,4 @@
-use Rattle.plane_edits.proofs.Flipping as Flipping
+use Rattle.plane_edits.proofs.Legalization.Flipping as Flipping
 use Rattle.plane_edits.proofs.one_question_for_both.Goals as goal
 
 pub returns : goal.returns

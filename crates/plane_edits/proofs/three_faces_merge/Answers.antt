@@ -1,4 +1,4 @@
-use Rattle.plane_edits.proofs.Removals.{three_faces_merge}
+use Rattle.plane_edits.proofs.Removal.InnerVertex.{three_faces_merge}
 use Rattle.plane_edits.proofs.three_faces_merge.Goals as goal
 
 pub returns : goal.returns

@@ -1,4 +1,4 @@
-use Rattle.plane_edits.proofs.FlipHistory.{what_stands_was_not_touched}
+use Rattle.plane_edits.proofs.Legalization.FlipHistory.{what_stands_was_not_touched}
 use Rattle.plane_edits.proofs.what_stands_was_not_touched.Goals as goal
 
 pub returns : goal.returns

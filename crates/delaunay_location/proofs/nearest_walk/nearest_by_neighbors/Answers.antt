@@ -1,7 +1,7 @@
 use Rattle.std.proofs.Common.{refl, subst, sym, length, map, ℕ, ◌<◌, ◌≤◌, ◌+◌, ◌^◌, arith}
 use Rattle.std.proofs.lemmas.List.{length-map}
 use Rattle.plane.specs.Fraction.{whole}
-use Rattle.plane_delaunay.proofs.Nearest.{nearest_by_neighbours}
+use Rattle.plane_delaunay.proofs.Circles.Nearest.{nearest_by_neighbours}
 use Rattle.delaunay_core.specs.Place.{place_of}
 use Rattle.delaunay_legalization.specs.State.{state_of, triangulation_of}
 use Rattle.delaunay_location.proofs.Neighbours.{walking_begins, walking_goes_on, walking_ends, nearer_falls, move_fits}

@@ -1,6 +1,6 @@
 use Rattle.std.proofs.Common.{map, refl}
-use Rattle.plane_segments.proofs.Adding.{adding_begins}
-use Rattle.plane_segments.proofs.Shorter.{path_shortens}
+use Rattle.plane_segments.proofs.Constraints.Adding.{adding_begins}
+use Rattle.plane_segments.proofs.Constraints.Shorter.{path_shortens}
 use Rattle.mesh_embedding.specs.Drawn.{faces_of, outer_of}
 use Rattle.delaunay_legalization.specs.Constraints.{constraints_by}
 use Rattle.delaunay_legalization.specs.State.{state_of}

@@ -2,7 +2,7 @@ use Rattle.std.proofs.Common.{map}
 use Rattle.std.specs.Prelude.{nat_abs}
 use Rattle.plane.specs.Laws.{squared_way}
 use Rattle.plane_edits.specs.Legal.{point_of}
-use Rattle.plane_segments.proofs.Adding.{IsAddingPath}
+use Rattle.plane_segments.proofs.Constraints.Adding.{IsAddingPath}
 use Rattle.delaunay_legalization.specs.Constraints.{constraints_by}
 use Rattle.delaunay_legalization.specs.State.{state_of}
 use Rattle.delaunay_paths.proofs.joined.is_path_constrained.Given as goal

@@ -1,6 +1,6 @@
 use Rattle.std.proofs.Common.{ℕ, ◌<◌, [], ◌∷◌, length, map, sym, ap, ◌∙◌, subst, arith, length-append, vec_capacity}
 use Rattle.std.proofs.lemmas.List.{length-map}
-use Rattle.plane_segments.proofs.Shorter.{path_shortens}
+use Rattle.plane_segments.proofs.Constraints.Shorter.{path_shortens}
 use Rattle.mesh_embedding.specs.Drawn.{faces_of, outer_of}
 use Rattle.delaunay_paths.proofs.ListingPath.{listing_begins, listing_has_room, listing_goes_on, listing_ends}
 use Rattle.delaunay_paths.proofs.Walking.{in_map, of_map, placed_apart}

@@ -1,4 +1,4 @@
-use Rattle.plane_segments.proofs.FaceStarts as FaceStarts
+use Rattle.plane_segments.proofs.First.FaceStarts as FaceStarts
 use Rattle.plane_segments.proofs.line_laws.first_from_face.Goals as goal
 
 pub returns : goal.returns

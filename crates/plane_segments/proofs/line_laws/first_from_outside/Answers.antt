@@ -1,4 +1,4 @@
-use Rattle.plane_segments.proofs.OutsideStarts as OutsideStarts
+use Rattle.plane_segments.proofs.First.OutsideStarts as OutsideStarts
 use Rattle.plane_segments.proofs.line_laws.first_from_outside.Goals as goal
 
 pub returns : goal.returns

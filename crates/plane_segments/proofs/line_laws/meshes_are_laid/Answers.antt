@@ -1,4 +1,4 @@
-use Rattle.plane_segments.proofs.LaidMeshes as LaidMeshes
+use Rattle.plane_segments.proofs.Walking.LaidMeshes as LaidMeshes
 use Rattle.plane_segments.proofs.line_laws.meshes_are_laid.Goals as goal
 
 pub returns : goal.returns

@@ -1,4 +1,4 @@
-use Rattle.plane_segments.proofs.EdgeStarts as EdgeStarts
+use Rattle.plane_segments.proofs.First.EdgeStarts as EdgeStarts
 use Rattle.plane_segments.proofs.line_laws.outside_is_off_line.Goals as goal
 
 pub returns : goal.returns

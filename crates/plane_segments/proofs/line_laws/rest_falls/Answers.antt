@@ -1,4 +1,4 @@
-use Rattle.plane_segments.proofs.WalkSteps as WalkSteps
+use Rattle.plane_segments.proofs.Walking.WalkSteps as WalkSteps
 use Rattle.plane_segments.proofs.line_laws.rest_falls.Goals as goal
 
 pub returns : goal.returns

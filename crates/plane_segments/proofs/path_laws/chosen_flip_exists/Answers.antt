@@ -1,4 +1,4 @@
-use Rattle.plane_segments.proofs.Chosen as Chosen
+use Rattle.plane_segments.proofs.Crossing.Chosen as Chosen
 use Rattle.plane_segments.proofs.path_laws.chosen_flip_exists.Goals as goal
 
 pub returns : goal.returns

@@ -1,4 +1,4 @@
-use Rattle.plane_segments.proofs.Lowering as Lowering
+use Rattle.plane_segments.proofs.Crossing.Lowering as Lowering
 use Rattle.plane_segments.proofs.path_laws.chosen_flip_lowers.Goals as goal
 
 pub returns : goal.returns

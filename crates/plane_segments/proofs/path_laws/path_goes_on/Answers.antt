@@ -1,4 +1,4 @@
-use Rattle.plane_segments.proofs.Pieces as Pieces
+use Rattle.plane_segments.proofs.Constraints.Pieces as Pieces
 use Rattle.plane_segments.proofs.path_laws.path_goes_on.Goals as goal
 
 pub returns : goal.returns

@@ -1,4 +1,4 @@
-use Rattle.plane_segments.proofs.Shorter as Shorter
+use Rattle.plane_segments.proofs.Constraints.Shorter as Shorter
 use Rattle.plane_segments.proofs.path_laws.path_shortens.Goals as goal
 
 pub returns : goal.returns

@@ -1,4 +1,4 @@
-use Rattle.plane_segments.proofs.Whole as Whole
+use Rattle.plane_segments.proofs.Constraints.Whole as Whole
 use Rattle.plane_segments.proofs.path_laws.piece_crosses_whole.Goals as goal
 
 pub returns : goal.returns

@@ -1,4 +1,4 @@
-use Rattle.plane_segments.proofs.PathFlips.{piece_is_free}
+use Rattle.plane_segments.proofs.Crossing.PathFlips.{piece_is_free}
 use Rattle.plane_segments.proofs.path_laws.piece_is_free.Goals as goal
 
 pub returns : goal.returns

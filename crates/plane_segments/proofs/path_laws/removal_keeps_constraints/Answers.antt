@@ -1,4 +1,4 @@
-use Rattle.plane_segments.proofs.RemovalKeeps.{removal_keeps_constraints}
+use Rattle.plane_segments.proofs.Constraints.RemovalKeeps.{removal_keeps_constraints}
 use Rattle.plane_segments.proofs.path_laws.removal_keeps_constraints.Goals as goal
 
 pub returns : goal.returns

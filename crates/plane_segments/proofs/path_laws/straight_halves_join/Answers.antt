@@ -1,4 +1,4 @@
-use Rattle.plane_segments.proofs.Splits as Splits
+use Rattle.plane_segments.proofs.Constraints.Splits as Splits
 use Rattle.plane_segments.proofs.path_laws.straight_halves_join.Goals as goal
 
 pub returns : goal.returns

@@ -1,0 +1,4 @@
+-- What an edit that changes faces and outer edges leaves of a local mesh.
+pub mod Changes
+pub mod Additions
+pub mod Kept
