@@ -1,13 +1,13 @@
 -- Lists of what has a point in a shape, as they grow.
-use Rattle.std.proofs.Common.{◌≡◌, ◌↔◌, ℕ, ◌+◌, ◌<◌, ◌≤◌, List, [], ◌∷◌, ◌++◌, length, get_or, set, refl, sym, ap, ◌∙◌, subst, arith, append_assoc, length-append, ◌*◌, ◌/◌}
+use Rattle.std.proofs.Common.{◌≡◌, ◌↔◌, ℕ, ◌+◌, ◌<◌, ◌≤◌, List, [], ◌∷◌, ◌++◌, length, get_or, replicate, set, refl, sym, ap, ◌∙◌, subst, arith, append_assoc, length-append, ◌*◌, ◌/◌}
 use mathlib.Core.Logic.{inl, inr, ◌≢◌}
 use mathlib.Core.Bool.{Bool, true, false}
 use Rattle.std.specs.Prelude.{Contains}
 use Rattle.std.proofs.lemmas.Bool.{cases_eq}
-use Rattle.std.proofs.lemmas.List.{get_or-set_same, get_or-set_other, get_or_append_left, length-set, append-nil}
+use Rattle.std.proofs.lemmas.List.{get_or-set_same, get_or-set_other, get_or_append_left, length-set, length-replicate, get_or-replicate, append-nil}
 use Rattle.half_edge_mesh.specs.Mesh.{Mesh, next, prev, rev}
-use Rattle.plane_tiling.proofs.Totals.{get_or_any}
-use Rattle.plane_edits.proofs.LocalMesh.Changes.{IsOnce}
+use Rattle.plane_tiling.proofs.Totals.{Contains-none, get_or_any}
+use Rattle.plane_edits.proofs.LocalMesh.Changes.{IsOnce, once_none}
 use Rattle.mesh_embedding.proofs.WorkLists.{contains_last, contains_before, last_or_before, once_after}
 use Rattle.delaunay_shapes.specs.Flood.{IsAsked, IsFlooding, GoesOn, Asks, AsksBeside, AreAskedBeside, IsSpread}
 
@@ -56,6 +56,21 @@ filter_passes Inside i k found f is out = record { once = f.once; exact = λ j. 
       | inl e ↦ absurd (out (subst Inside e p.1))
       | inr n ↦ (f.exact j).1 (below_other j i p.0 (λ e. n (e ∙ sym is)), p.1)
     ]
+
+-- ---- a flood before its first question
+pub none_asked : (Inside : ℕ → Type 0) (count n : ℕ) (asked : List Bool) (found : List ℕ) → asked ≡ replicate n false → n ≡ count
+    → found ≡ [] → IsFlooding Inside count asked found
+none_asked Inside count n asked found a e f =
+    subst (λ (c : ℕ). IsFlooding Inside c asked found) e
+    (subst (λ xs. IsFlooding Inside n xs found) (sym a)
+    (subst (IsFlooding Inside n (replicate n false)) (sym f) (record {
+      marks = length-replicate n false;
+      once = once_none;
+      within = λ k c. absurd (Contains-none k c);
+      inside = λ k c. absurd (Contains-none k c);
+      marked = λ k c. absurd (Contains-none k c);
+      complete = λ k h m p. let same : false ≡ true = sym (get_or-replicate n k false false h) ∙ m in absurd (cc);
+    })))
 
 -- ---- a question of a flood
 module _ (Inside : ℕ → Type 0) (count : ℕ) where

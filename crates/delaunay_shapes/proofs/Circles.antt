@@ -42,6 +42,17 @@ rim_near c r p = rw (gap_is c p) (side (distance_2 c p))
     side : (d : ℤ) → ((d -ℤ r) ≤ℤ pos 0) ↔ (d ≤ℤ r)
     side d = ((λ h. omega (arith, ints)), (λ h. omega (arith, ints)))
 
+-- a point by its distance from the rim
+pub rim_inside : (c : Point) (r : ℤ) (p : Point) (d : ℤ) → d ≡ circle_distance c r p → (d ≤ℤ pos 0) ↔ InClosedCircle c r (whole p)
+rim_inside c r p d e =
+    ((λ h. record { near = there (gap (whole c) (whole p)) d r e h }), (λ h. back (gap (whole c) (whole p)) d r e h.near))
+  where
+    there : (g d r : ℤ) → d ≡ g -ℤ r → d ≤ℤ pos 0 → g ≤ℤ (r *ℤ (pos 1 *ℤ pos 1))
+    there g d r e h = omega (arith, ints)
+
+    back : (g d r : ℤ) → d ≡ g -ℤ r → g ≤ℤ (r *ℤ (pos 1 *ℤ pos 1)) → d ≤ℤ pos 0
+    back g d r e h = omega (arith, ints)
+
 -- near enough to the line, by the distance of an end from the rim
 pub near_by_rim : (d l f r : ℤ) → (((d -ℤ r) *ℤ l) ≤ℤ (f *ℤ f)) ↔ ((d *ℤ l -ℤ f *ℤ f) ≤ℤ (r *ℤ l))
 near_by_rim d l f r = rw (spread d l r) (side (d *ℤ l) (r *ℤ l) (f *ℤ f))

@@ -3,6 +3,7 @@ pub mod Circles
 pub mod Rectangles
 pub mod Distances
 pub mod FallsOn
+pub mod Rims
 pub mod Asking
 pub mod Handles
 pub mod Flooding

@@ -4,7 +4,7 @@ use Rattle.plane.specs.Fraction.{whole}
 use Rattle.delaunay_core.specs.Place.{place_of}
 use Rattle.delaunay_shapes.specs.Known.{point_at}
 use Rattle.delaunay_shapes.proofs.Asking.{IsFilteredTo, filter_finds, filter_passes}
-use Rattle.delaunay_shapes.proofs.Handles.{vertex_told, filtered_within, filtered_vertices}
+use Rattle.delaunay_shapes.proofs.Handles.{end_covered, vertex_told, filtered_within, filtered_vertices}
 use Rattle.delaunay_shapes.proofs.filter.vertices_by_filter.Goals.{then-is_point_inside+in_ok-push, else-is_point_inside}
 use Rattle.delaunay_shapes.proofs.filter.vertices_by_filter.Goals as goal
 
@@ -35,3 +35,10 @@ returns g c =
       listed = refl;
       exact = filtered_vertices (g.M.DistanceMetric.shape c.args.metric.now) (map g.V.HasPosition.place c.args.dcel.now.vertices) c.loop-index.index (length c.args.dcel.now.vertices) c.loop-index.vertices.items c.loop-index.invariant (omega (arith, fits, last, over)) (sym (length-map c.args.dcel.now.vertices g.V.HasPosition.place));
     }
+
+pub is_point_inside-requires : goal.is_point_inside-requires
+is_point_inside-requires g c =
+    let at = place_of g.V.Scalar.SpadeNum.whole c.position_of.result in
+    g.met.P.PlaneTests.covered_are_in_range c.args.tests.now at
+    (end_covered g.V.HasPosition.place c.args.dcel (g.P.PlaneTests.covered c.args.tests.now) c.args.dcel c.vertex.result.dcel c.vertex.result.index at
+    c.requires refl c.vertex.ensures.dcel c.vertex.result.in_range c.position_of.ensures)

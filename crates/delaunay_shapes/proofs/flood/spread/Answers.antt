@@ -43,3 +43,27 @@ returns-clause-spread g c =
     let count = c.len.ensures in
     let same = c.edges.found.ok in
     spread_ends c.args.dcel.now.mesh c.edges.asked c.edges.found.items c.edges.index c.edges.invariant.spread (omega (arith, over, count, same))
+
+pub ask_beside-requires-clause-own_covered : goal.ask_beside-requires-clause-own_covered
+ask_beside-requires-clause-own_covered g c = c.requires.own_covered
+
+pub ask_beside-requires-clause-covered : goal.ask_beside-requires-clause-covered
+ask_beside-requires-clause-covered g c = c.requires.covered
+
+pub ask_beside-requires-clause-flooding : goal.ask_beside-requires-clause-flooding
+ask_beside-requires-clause-flooding g c = c.edges.invariant.flooding
+
+pub ask_beside-requires-in-edges-clause-own_covered : goal.ask_beside-requires-in-edges-clause-own_covered
+ask_beside-requires-in-edges-clause-own_covered g c = c.requires.own_covered
+
+pub ask_beside-requires-in-edges-clause-covered : goal.ask_beside-requires-in-edges-clause-covered
+ask_beside-requires-in-edges-clause-covered g c = c.requires.covered
+
+pub ask_beside-requires-in-edges-clause-flooding : goal.ask_beside-requires-in-edges-clause-flooding
+ask_beside-requires-in-edges-clause-flooding g c = c.in_ok-ask_beside.ensures.flooding
+
+pub returns-clause-flooding : goal.returns-clause-flooding
+returns-clause-flooding g c = c.edges.invariant.flooding
+
+pub returns-clause-on : goal.returns-clause-on
+returns-clause-on g c = c.edges.invariant.on

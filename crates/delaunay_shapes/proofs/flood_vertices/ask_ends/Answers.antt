@@ -17,3 +17,15 @@ loop-edge-preserved g c =
 
 pub returns-clause-ends : goal.returns-clause-ends
 returns-clause-ends g c = ends_last (IsVertexInside (g.M.DistanceMetric.shape c.args.metric.now) g.V.HasPosition.place c.args.dcel.now) c.args.dcel.now.mesh (length c.args.dcel.now.vertices) c.args.asked.now c.loop-edge.asked c.args.found.now.items c.loop-edge.found.items c.args.edges.now c.loop-edge.edge-index c.loop-edge.invariant c.loop-edge-test.false
+
+pub ask_vertex-requires-clause-in_range : goal.ask_vertex-requires-clause-in_range
+ask_vertex-requires-clause-in_range g c = c.requires.in_range
+
+pub ask_vertex-requires-clause-flooding : goal.ask_vertex-requires-clause-flooding
+ask_vertex-requires-clause-flooding g c = c.loop-edge.invariant.flooding
+
+pub ask_vertex-requires-in-loop-edge-clause-in_range : goal.ask_vertex-requires-in-loop-edge-clause-in_range
+ask_vertex-requires-in-loop-edge-clause-in_range g c = c.requires.in_range
+
+pub ask_vertex-requires-in-loop-edge-clause-flooding : goal.ask_vertex-requires-in-loop-edge-clause-flooding
+ask_vertex-requires-in-loop-edge-clause-flooding g c = c.in_ok-ask_vertex.ensures.flooding

@@ -1,0 +1,26 @@
+use Rattle.std.proofs.Common.{rules, w64, SFits}
+use Rattle.plane.specs.Fraction.{whole}
+use Rattle.plane.proofs.Nearer.{gap_not_negative}
+use Rattle.delaunay_core.specs.Place.{place_of}
+use Rattle.delaunay_shapes.proofs.Rims.{rim_fits, rim_is}
+use Rattle.delaunay_shapes.proofs.circle.CircleMetric.distance_to_rim.Goals as goal
+
+pub distance_2-requires-clause-in_range : goal.distance_2-requires-clause-in_range
+distance_2-requires-clause-in_range g c = c.args.self.now.center_in_range
+
+pub distance_2-requires-clause-other_in_range : goal.distance_2-requires-clause-other_in_range
+distance_2-requires-clause-other_in_range g c = c.requires
+
+pub overflow_sub-result : goal.overflow_sub-result
+overflow_sub-result g c =
+    let centre = whole (place_of g.S.SpadeNum.whole c.args.self.now.center) in
+    let point = whole (place_of g.S.SpadeNum.whole c.args.point) in
+    rim_fits c.distance_2.result c.args.self.now.radius_2 _ (gap_not_negative centre point) c.distance_2.ensures
+    (record { sfits = c.distance_2.type_inv }) c.args.self.now.not_negative (search rules)
+
+pub returns : goal.returns
+returns g c =
+    let centre = whole (place_of g.S.SpadeNum.whole c.args.self.now.center) in
+    let point = whole (place_of g.S.SpadeNum.whole c.args.point) in
+    rim_is c.distance_2.result c.args.self.now.radius_2 _ (gap_not_negative centre point) c.distance_2.ensures
+    (record { sfits = c.distance_2.type_inv }) c.args.self.now.not_negative (search rules)

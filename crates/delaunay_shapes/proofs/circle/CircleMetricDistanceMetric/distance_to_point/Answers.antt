@@ -1,0 +1,14 @@
+use Rattle.std.proofs.Common.{◌∙◌, w64}
+use Rattle.std.proofs.lemmas.Int.{to_z-of_z}
+use Rattle.delaunay_core.specs.Place.{place_of}
+use Rattle.delaunay_shapes.proofs.Circles.{rim_inside}
+use Rattle.delaunay_shapes.proofs.circle.CircleMetricDistanceMetric.distance_to_point.Goals as goal
+
+pub returns-clause-value : goal.returns-clause-value
+returns-clause-value g c =
+    to_z-of_z w64 c.distance_to_rim.result (record { sfits = c.distance_to_rim.type_inv }) ∙ c.distance_to_rim.ensures
+
+pub returns-clause-inside : goal.returns-clause-inside
+returns-clause-inside g c =
+    rim_inside (place_of g.S.SpadeNum.whole c.args.self.now.center) c.args.self.now.radius_2 (place_of g.S.SpadeNum.whole c.args.point) _
+    (to_z-of_z w64 c.distance_to_rim.result (record { sfits = c.distance_to_rim.type_inv }) ∙ c.distance_to_rim.ensures)
