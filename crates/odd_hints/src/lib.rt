@@ -13,21 +13,33 @@ use spade_delaunay::{HintGenerator, PlaneTests, Point2, SpadeNum};
 use std::alloc::Global;
 use std::cell::Cell;
 
-/// Answers every index from 0 to 20 in turn.
+/// Answers every index from the first to the last in turn.
 #[derive(Drop)]
-pub struct EachInTurn {
+pub struct InTurn<const FIRST: u32, const LAST: u32> {
     next: Cell<u32>,
 }
 
-impl<S: SpadeNum> HintGenerator<S> for EachInTurn {
+/// Answers every index from 0 to 20 in turn.
+pub type EachInTurn = InTurn<0, 20>;
+
+/// Always answers 1000.
+pub type Always1000 = InTurn<1000, 1000>;
+
+fn starting<const FIRST: u32, const LAST: u32>() -> InTurn<FIRST, LAST> {
+    InTurn {
+        next: Cell::new(FIRST),
+    }
+}
+
+impl<S: SpadeNum, const FIRST: u32, const LAST: u32> HintGenerator<S> for InTurn<FIRST, LAST> {
     ghost holds = { λ _ _. ⊥ };
 
     fn new(_alloc: Global) -> Self {
-        EachInTurn { next: Cell::new(0) }
+        starting()
     }
 
     fn duplicate(&self) -> Self {
-        EachInTurn {
+        InTurn {
             next: Cell::new(self.next.get()),
         }
     }
@@ -36,7 +48,7 @@ impl<S: SpadeNum> HintGenerator<S> for EachInTurn {
         requires covered { P.covered _tests.now (place_of S.whole _position) }
     {
         let next = self.next.get();
-        self.next.set(if next < 20 { next + 1 } else { 0 });
+        self.next.set(if next < LAST { next + 1 } else { FIRST });
         FixedVertexHandle::from_index(next)
     }
 
@@ -71,62 +83,6 @@ impl<S: SpadeNum> HintGenerator<S> for EachInTurn {
         _positions: &[Point2<S>],
         _tests: &P,
     ) -> Self {
-        EachInTurn { next: Cell::new(0) }
-    }
-}
-
-/// Always answers 1000.
-#[derive(Drop)]
-pub struct Always1000;
-
-impl<S: SpadeNum> HintGenerator<S> for Always1000 {
-    ghost holds = { λ _ _. ⊥ };
-
-    fn new(_alloc: Global) -> Self {
-        Always1000
-    }
-
-    fn duplicate(&self) -> Self {
-        Always1000
-    }
-
-    fn get_hint<P: PlaneTests<S>>(&self, _position: Point2<S>, _tests: &P) -> FixedVertexHandle
-        requires covered { P.covered _tests.now (place_of S.whole _position) }
-    {
-        FixedVertexHandle::from_index(1000)
-    }
-
-    fn notify_vertex_lookup(&self, _vertex: FixedVertexHandle) {}
-
-    fn notify_vertex_inserted<P: PlaneTests<S>>(
-        &mut self,
-        _vertex: FixedVertexHandle,
-        _position: Point2<S>,
-        _tests: &P,
-    )
-        requires site { P.sites _tests.now (place_of S.whole _position) }
-        ensures { IsAtMostWith (λ _. ⊥) (λ _. ⊥) (place_of S.whole _position) }
-    {}
-
-    fn notify_vertex_removed<P: PlaneTests<S>>(
-        &mut self,
-        _swapped_in_point: Option<Point2<S>>,
-        _vertex: FixedVertexHandle,
-        _position: Point2<S>,
-        _tests: &P,
-    )
-        requires site { P.sites _tests.now (place_of S.whole _position) }
-        requires swapped_site { (p : Point) → place_if S.whole _swapped_in_point ≡ Some p → P.sites
-            _tests.now p }
-        ensures { IsAtMostWithout (λ _. ⊥) (λ _. ⊥) (place_of S.whole _position)
-            (place_if S.whole _swapped_in_point) }
-    {}
-
-    fn initialize_from_triangulation<P: PlaneTests<S>>(
-        _alloc: Global,
-        _positions: &[Point2<S>],
-        _tests: &P,
-    ) -> Self {
-        Always1000
+        starting()
     }
 }
