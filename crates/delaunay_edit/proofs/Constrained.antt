@@ -2,7 +2,7 @@
 use Rattle.std.proofs.Common.{◌≡◌, ◌≢◌, ℕ, ◌<◌, List, [], ◌∷◌, length, sym, ap, ◌∙◌, subst, arith}
 use Rattle.std.specs.List.{AllZip}
 use Rattle.half_edge_mesh.specs.Mesh.{origin, rev}
-use Rattle.half_edge_links.proofs.Rev.{rev_within}
+use Rattle.half_edge_links.proofs.Lists.Rev.{rev_within}
 use Rattle.plane.specs.Fraction.{Point}
 use Rattle.plane.specs.Pairs.{Joins}
 use Rattle.plane.specs.Plain.{IsPlain, Unconstrains}

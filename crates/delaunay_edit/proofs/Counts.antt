@@ -6,7 +6,7 @@ use Rattle.std.specs.List.{range_with_len}
 use Rattle.std.proofs.lemmas.List.{length-map, get_or-map}
 use Rattle.half_edge_mesh.specs.Triangles.{triangle_at, triangles}
 use Rattle.half_edge_mesh.specs.Outline.{ends}
-use Rattle.half_edge_links.proofs.Ends.{length-ends_twice}
+use Rattle.half_edge_links.proofs.Sound.Ends.{length-ends_twice}
 use Rattle.half_edge_mesh.specs.Contents.{Contents}
 use Rattle.half_edge_mesh.specs.Left.{each_in}
 use Rattle.plane.specs.Fraction.{Point}

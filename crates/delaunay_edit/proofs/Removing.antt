@@ -3,7 +3,7 @@ use Rattle.std.proofs.Common.{◌≡◌, ◌∙◌, ℕ, ◌+◌, ◌*◌, ◌-�
 use Rattle.std.specs.Prelude.{All, pos, slice_get}
 use Rattle.std.proofs.lemmas.List.{length-map, get_or-map}
 use Rattle.std.proofs.lemmas.Option.{get_or_from_slice_get, slice_get_within}
-use Rattle.half_edge_links.proofs.OpenSound.{length-swap_remove}
+use Rattle.half_edge_links.proofs.Removing.OpenSound.{length-swap_remove}
 use Rattle.mesh_embedding.proofs.MeshDrops.{mapped_swap_remove}
 use Rattle.half_edge_mesh.specs.Contents.{Contents}
 use Rattle.plane.specs.Fraction.{Point}

@@ -9,9 +9,9 @@ use Rattle.std.proofs.lemmas.Option.{slice_get_within, slice_get-get_or, get_or_
 use Rattle.half_edge_mesh.specs.Mesh.{Mesh, origin, next, prev, face, face_edge, rev, AreSoundLinks, IsValidMesh}
 use Rattle.half_edge_mesh.specs.Outline.{Ends, ends, AddsTriangle, HalfSplitsTriangles}
 use Rattle.half_edge_mesh.specs.Triangles.{Triangle, triangle_at, triangles, InsertsTriangles, SplitsTriangles}
-use Rattle.half_edge_links.proofs.Ends.{length-ends_twice, get_or-ends}
-use Rattle.half_edge_links.proofs.Rev.{rev-rev, rev_within}
-use Rattle.half_edge_links.proofs.Triangles as T
+use Rattle.half_edge_links.proofs.Sound.Ends.{length-ends_twice, get_or-ends}
+use Rattle.half_edge_links.proofs.Lists.Rev.{rev-rev, rev_within}
+use Rattle.half_edge_links.proofs.Sound.Triangles as T
 use Rattle.half_edge_mesh.specs.Contents.{Contents, FitsMesh, IsMeshWithData, Edge, edges, edges_of, edge_with}
 use Rattle.half_edge_mesh.specs.Growth.{Grows, MovesTwoItems, AddsEdges, SplitsEdge, with_ends}
 use Rattle.plane.specs.Fraction.{Point, Fraction, whole, IsPositive, IsNotNegative, WithinSegment, InTriangle, InsideTriangle}

@@ -4,7 +4,7 @@ use Rattle.std.proofs.lemmas.List.{length-map}
 use Rattle.half_edge_mesh.specs.Mesh.{origin, rev, face}
 use Rattle.half_edge_mesh.specs.Room.{HasRoomFor}
 use Rattle.half_edge_mesh.specs.Triangles.{triangle_at, triangles}
-use Rattle.half_edge_links.proofs.Rev.{rev-rev, rev_within}
+use Rattle.half_edge_links.proofs.Lists.Rev.{rev-rev, rev_within}
 use Rattle.half_edge_mesh.specs.Contents.{Contents, HasRoom}
 use Rattle.plane.specs.Fraction.{Point, whole, WithinSegment}
 use Rattle.plane.specs.Pairs.{place}

@@ -5,8 +5,8 @@ use Rattle.std.proofs.lemmas.List.{length-set}
 use Rattle.std.proofs.lemmas.Option.{slice_get_within}
 use Rattle.half_edge_mesh.specs.Mesh.{origin, next, rev}
 use Rattle.half_edge_mesh.specs.Outline.{Ends, along, ends}
-use Rattle.half_edge_links.proofs.Ends.{length-ends_twice}
-use Rattle.half_edge_links.proofs.Rev.{rev-rev}
+use Rattle.half_edge_links.proofs.Sound.Ends.{length-ends_twice}
+use Rattle.half_edge_links.proofs.Lists.Rev.{rev-rev}
 use Rattle.half_edge_mesh.specs.Contents.{Contents, Edge, edges, edges_of, FitsMesh, IsMeshWithData}
 use Rattle.half_edge_mesh.specs.Growth.{AddsEdges, SplitsEdge, with_ends, joins}
 use Rattle.plane.specs.Fraction.{Point}

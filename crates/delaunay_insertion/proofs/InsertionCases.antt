@@ -6,7 +6,7 @@ use Rattle.half_edge_mesh.specs.Flip.{IsFlippable}
 use Rattle.half_edge_mesh.specs.Grow.{IsHalfSplittable}
 use Rattle.half_edge_mesh.specs.Triangles.{triangle_at, triangles, InsertsTriangles, SplitsTriangles}
 use Rattle.half_edge_mesh.specs.Outline.{KeepsOuter, ReplacesOuter, HalfSplitsTriangles}
-use Rattle.half_edge_links.proofs.Conditions.{turned_apart}
+use Rattle.half_edge_links.proofs.Removing.Conditions.{turned_apart}
 use Rattle.half_edge_mesh.specs.Growth.{MovesItem}
 use Rattle.plane.specs.Fraction.{Point, whole, WithinSegment}
 use Rattle.plane.specs.Pairs.{place}

@@ -8,8 +8,8 @@ use Rattle.half_edge_mesh.specs.Mesh.{Mesh, AreSoundLinks, IsSoundEdge, origin, 
 use Rattle.half_edge_mesh.specs.Outline.{IsOuterEdge, AddsTriangle, ReplacesOuter, ClosesOuter}
 use Rattle.half_edge_mesh.specs.Grow.{IsClosable, Closes, closed}
 use Rattle.half_edge_mesh.specs.Room.{HasRoomFor}
-use Rattle.half_edge_links.proofs.Close.{closes}
-use Rattle.half_edge_links.proofs.Rev.{rev_within}
+use Rattle.half_edge_links.proofs.Growing.Close.{closes}
+use Rattle.half_edge_links.proofs.Lists.Rev.{rev_within}
 use Rattle.half_edge_mesh.specs.Contents.{Contents, HasRoom, IsMeshWithData}
 use Rattle.plane.specs.Fraction.{Point, whole}
 use Rattle.plane.specs.Pairs.{place}

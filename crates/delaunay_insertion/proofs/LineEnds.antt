@@ -4,7 +4,7 @@ use Rattle.std.specs.Prelude.{ℤ, pos, ◌<ℤ◌, ◌≤ℤ◌, Contains}
 use Rattle.std.proofs.lemmas.Bool.{cases_eq}
 use Rattle.half_edge_mesh.specs.Mesh.{Mesh, IsValidMesh, IsSoundEdge, origin, next, prev, face, rev}
 use Rattle.half_edge_mesh.specs.Outline.{IsOuterEdge}
-use Rattle.half_edge_links.proofs.Rev.{rev-rev, rev_within}
+use Rattle.half_edge_links.proofs.Lists.Rev.{rev-rev, rev_within}
 use Rattle.plane.specs.Fraction.{Point}
 use Rattle.plane.specs.Pairs.{place}
 use Rattle.plane.specs.Side.{TurnsLeft}
@@ -33,7 +33,7 @@ use Rattle.mesh_embedding.specs.Drawn.{faces_of, outer_of}
 use Rattle.mesh_embedding.proofs.OuterEdges.{listed, real, one_edge}
 use Rattle.mesh_embedding.proofs.MeshEdits.{face_before}
 use Rattle.plane.proofs.Signs.{opposites_not_both_positive, at_most_both_ways}
-use Rattle.half_edge_links.proofs.Conditions.{alone_at}
+use Rattle.half_edge_links.proofs.Removing.Conditions.{alone_at}
 
 -- ---- a vertex of a line has at most two neighbours
 module _ (n : ℕ) (p : ℕ → Point) (outer : List (ℕ × ℕ)) (m : SignLine n p outer) (w a : ℕ) (near : IsNext n p w a) where

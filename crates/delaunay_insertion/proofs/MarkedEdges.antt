@@ -4,7 +4,7 @@ use Rattle.std.specs.Prelude.{slice_get}
 use Rattle.std.proofs.lemmas.Option.{slice_get_within}
 use Rattle.half_edge_mesh.specs.Mesh.{origin, rev}
 use Rattle.half_edge_mesh.specs.Outline.{ends}
-use Rattle.half_edge_links.proofs.Ends.{length-ends_twice}
+use Rattle.half_edge_links.proofs.Sound.Ends.{length-ends_twice}
 use Rattle.half_edge_mesh.specs.Contents.{Contents, Edge, edges, IsMeshWithData}
 use Rattle.plane.specs.Pairs.{Joins, IsSamePair}
 use Rattle.delaunay_legalization.specs.Constraints.{marked_edges, constraint_pairs}

@@ -7,7 +7,7 @@ use Rattle.std.proofs.lemmas.List.{length-map, map-append, get_or-map, get_or_de
 use Rattle.std.proofs.lemmas.List.Elements.{All-contains, All-map, Contains-append_left, Contains-push}
 use Rattle.std.proofs.lemmas.Option.{get_or_from_slice_get, slice_get_within}
 use Rattle.std.proofs.Math.Seq.{map-set_same}
-use Rattle.half_edge_links.proofs.OpenSound.{length-swap_remove, get_or-swap_remove_same, get_or-swap_remove_other}
+use Rattle.half_edge_links.proofs.Removing.OpenSound.{length-swap_remove, get_or-swap_remove_same, get_or-swap_remove_other}
 use Rattle.mesh_embedding.proofs.MeshDrops.{mapped_swap_remove}
 use Rattle.plane.specs.Fraction.{Point}
 use Rattle.plane.specs.Hint.{IsAtMost, IsAtMostOf, IsAtMostWithout}

@@ -3,7 +3,7 @@ use Rattle.std.proofs.Common.{◌≡◌, ◌∙◌, length, sym, arith}
 use Rattle.std.proofs.lemmas.List.{length-map}
 use Rattle.half_edge_mesh.specs.Outline.{ends}
 use Rattle.half_edge_mesh.specs.Triangles.{triangle_at, triangles}
-use Rattle.half_edge_links.proofs.Ends.{length-ends_twice}
+use Rattle.half_edge_links.proofs.Sound.Ends.{length-ends_twice}
 use Rattle.half_edge_mesh.specs.Contents.{Contents, IsMeshWithData}
 use Rattle.mesh_embedding.specs.Drawn.{corners_of, pair_of, edges_of, faces_of}
 

@@ -10,7 +10,7 @@ use Rattle.std.proofs.lemmas.List.Elements.{contains_decides, Decides-contains}
 use Rattle.half_edge_mesh.specs.Contents.{Contents}
 use Rattle.half_edge_mesh.specs.Mesh.{Mesh, origin, next, prev, face, rev, IsValidMesh}
 use Rattle.half_edge_mesh.specs.Flip.{IsFlippable, flipped}
-use Rattle.half_edge_links.proofs.FlipLemmas.{flips}
+use Rattle.half_edge_links.proofs.Faces.FlipLemmas.{flips}
 use Rattle.plane.specs.Fraction.{Point, whole}
 use Rattle.plane.specs.Side.{TurnsLeft}
 use Rattle.plane.specs.Circle.{InsideCircle}

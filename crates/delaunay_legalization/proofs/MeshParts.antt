@@ -5,7 +5,7 @@ use Rattle.std.proofs.lemmas.List.Elements.{All-get_or, All-map}
 use Rattle.std.proofs.lemmas.List.{length-map, get_or-map}
 use Rattle.half_edge_mesh.specs.Mesh.{Mesh, origin, next, prev, face_edge, rev}
 use Rattle.half_edge_mesh.specs.Triangles.{triangle_at, triangles}
-use Rattle.half_edge_links.proofs.Rev.{rev_within}
+use Rattle.half_edge_links.proofs.Lists.Rev.{rev_within}
 use Rattle.plane.specs.Fraction.{Point}
 use Rattle.plane.specs.Tests.{InRange}
 use Rattle.plane.specs.Pairs.{place}

@@ -11,8 +11,8 @@ use Rattle.half_edge_mesh.specs.Round.{IsRound}
 use Rattle.half_edge_mesh.specs.Contents.{Contents}
 use Rattle.half_edge_mesh.specs.Left.{each_in}
 use Rattle.half_edge_mesh.specs.Rounds.{GivesRound}
-use Rattle.half_edge_links.proofs.Rev.{rev_within}
-use Rattle.half_edge_links.proofs.Triangles as T
+use Rattle.half_edge_links.proofs.Lists.Rev.{rev_within}
+use Rattle.half_edge_links.proofs.Sound.Triangles as T
 use Rattle.plane.specs.Fraction.{Point, Fraction, whole}
 use Rattle.plane.specs.Circle.{InsideCircle}
 use Rattle.plane.specs.Pairs.{place, Joins}

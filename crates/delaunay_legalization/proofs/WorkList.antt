@@ -6,7 +6,7 @@ use Rattle.std.proofs.lemmas.List.{same_lists, length-map, get_or-map}
 use Rattle.std.proofs.lemmas.List.FromFn.{length-range_with_len, get_or-range_with_len, length-map-range_with_len, get_or-map-range_with_len}
 use Rattle.half_edge_mesh.specs.Mesh.{Mesh, origin, rev, IsValidMesh}
 use Rattle.half_edge_mesh.specs.Outline.{Ends, ends}
-use Rattle.half_edge_links.proofs.Ends.{length-ends_twice, get_or-ends}
+use Rattle.half_edge_links.proofs.Sound.Ends.{length-ends_twice, get_or-ends}
 use Rattle.half_edge_mesh.specs.Contents.{Contents, FitsMesh, IsMeshWithData}
 use Rattle.plane.specs.Fraction.{Point}
 use Rattle.plane.specs.Delaunay.{IsLocallyDelaunay}

@@ -4,7 +4,7 @@ use Rattle.std.specs.Prelude.{IfSome, ℤ, ◌<ℤ◌, ◌*ℤ◌}
 use Rattle.std.proofs.lemmas.Int.{ints}
 use Rattle.std.proofs.lemmas.List.{length-map}
 use Rattle.half_edge_mesh.specs.Mesh.{Mesh, origin, prev, face, rev}
-use Rattle.half_edge_links.proofs.Rev.{rev-rev, rev_within}
+use Rattle.half_edge_links.proofs.Lists.Rev.{rev-rev, rev_within}
 use Rattle.half_edge_mesh.specs.Contents.{Contents}
 use Rattle.plane.specs.Fraction.{Point, whole, IsSame, OnSegment}
 use Rattle.plane.specs.Side.{side, left, right}

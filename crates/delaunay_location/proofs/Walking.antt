@@ -2,7 +2,7 @@
 use Rattle.std.proofs.Common.{◌≡◌, ℕ, ◌<◌, ◌≤◌, List, length, map, refl, sym, ap, ◌∙◌, subst, arith}
 use Rattle.std.specs.Prelude.{pos, ◌*ℤ◌}
 use Rattle.half_edge_mesh.specs.Mesh.{Mesh, origin, face, rev}
-use Rattle.half_edge_links.proofs.Rev.{rev_within}
+use Rattle.half_edge_links.proofs.Lists.Rev.{rev_within}
 use Rattle.plane.specs.Fraction.{Point, IsSame, whole}
 use Rattle.plane.specs.Location.{Location, IsLocation, on_vertex}
 use Rattle.plane_tiling.specs.Laws.{IsSameLocation}

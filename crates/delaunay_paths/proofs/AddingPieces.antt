@@ -3,7 +3,7 @@ use Rattle.std.proofs.Common.{◌≡◌, ◌≢◌, ◌⊎◌, ◌↔◌, ℕ, �
 use Rattle.std.specs.Prelude.{Bool, true, false, All, nat_abs}
 use Rattle.std.proofs.lemmas.List.{length-set}
 use Rattle.half_edge_mesh.specs.Mesh.{Mesh, IsSoundEdge, origin, rev}
-use Rattle.half_edge_links.proofs.Rev.{rev-rev, rev_within}
+use Rattle.half_edge_links.proofs.Lists.Rev.{rev-rev, rev_within}
 use Rattle.half_edge_mesh.specs.Contents.{Contents, IsMeshWithData}
 use Rattle.plane.specs.Fraction.{Point}
 use Rattle.plane.specs.Laws.{squared_way}

@@ -3,11 +3,11 @@ use Rattle.std.proofs.Common.{◌≡◌, ◌≢◌, ◌⊎◌, ℕ, ◌+◌, ◌
 use Rattle.std.specs.Prelude.{Contains}
 use Rattle.half_edge_mesh.specs.Mesh.{Mesh, IsValidMesh, origin, next, prev, rev}
 use Rattle.half_edge_mesh.specs.Flip.{IsFlippable, Flips}
-use Rattle.half_edge_links.proofs.FlipSound.{origin_kept}
-use Rattle.half_edge_links.proofs.Parts.{rev_of_even}
-use Rattle.half_edge_links.proofs.Rev.{rev-rev}
-use Rattle.half_edge_links.proofs.Triangles as T
-use Rattle.half_edge_links.proofs.Writes.{AreSixPlaces}
+use Rattle.half_edge_links.proofs.Faces.FlipSound.{origin_kept}
+use Rattle.half_edge_links.proofs.Sound.Parts.{rev_of_even}
+use Rattle.half_edge_links.proofs.Lists.Rev.{rev-rev}
+use Rattle.half_edge_links.proofs.Sound.Triangles as T
+use Rattle.half_edge_links.proofs.Lists.Writes.{AreSixPlaces}
 use Rattle.plane.specs.Crossing.{Cross}
 use Rattle.plane.specs.Fraction.{Point, IsSame, OnSegment}
 use Rattle.plane.specs.Pairs.{place, Joins, IsSamePair}

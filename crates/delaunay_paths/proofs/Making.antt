@@ -9,7 +9,7 @@ use Rattle.half_edge_mesh.specs.Outline.{KeepsOuter}
 use Rattle.half_edge_mesh.specs.Triangles.{FlipsTriangles}
 use Rattle.half_edge_mesh.specs.Contents.{Contents, IsMeshWithData}
 use Rattle.plane.specs.Crossing.{Cross}
-use Rattle.half_edge_links.proofs.FlipLemmas.{flips_is}
+use Rattle.half_edge_links.proofs.Faces.FlipLemmas.{flips_is}
 use Rattle.plane.specs.Fraction.{Point, whole}
 use Rattle.plane.specs.Pairs.{place}
 use Rattle.plane.specs.Tiling.{IsEdge}

@@ -6,9 +6,9 @@ use Rattle.half_edge_mesh.specs.Mesh.{Mesh, AreSoundLinks, IsValidMesh, origin, 
 use Rattle.half_edge_mesh.specs.Flip.{IsFlippable, Flips, flipped}
 use Rattle.half_edge_mesh.specs.Outline.{KeepsOuter}
 use Rattle.half_edge_mesh.specs.Triangles.{FlipsTriangles}
-use Rattle.half_edge_links.proofs.FlipLemmas.{flips_is}
-use Rattle.half_edge_links.proofs.FlipSound.{origin_kept}
-use Rattle.half_edge_links.proofs.Rev.{rev-rev, rev_within}
+use Rattle.half_edge_links.proofs.Faces.FlipLemmas.{flips_is}
+use Rattle.half_edge_links.proofs.Faces.FlipSound.{origin_kept}
+use Rattle.half_edge_links.proofs.Lists.Rev.{rev-rev, rev_within}
 use Rattle.plane.specs.Fraction.{Point}
 use Rattle.plane.specs.Pairs.{place}
 use Rattle.plane.specs.Side.{side, right, on, opposite, TurnsLeft}

@@ -9,7 +9,7 @@ use Rattle.half_edge_mesh.specs.Mesh.{AreSoundLinks, origin, rev}
 use Rattle.half_edge_mesh.specs.Outline.{Ends, ends}
 use Rattle.half_edge_mesh.specs.Renames.{moved}
 use Rattle.half_edge_mesh.specs.Triangles.{Triangle, triangles, triangle_at}
-use Rattle.half_edge_links.proofs.TakenLists.{ends_at, count_ends}
+use Rattle.half_edge_links.proofs.Removing.TakenLists.{ends_at, count_ends}
 use Rattle.half_edge_mesh.specs.Contents.{Contents, IsMeshWithData}
 use Rattle.half_edge_mesh.specs.Removal.{FullEdge, FullFace, full_edges, full_faces, renumbered_edge, renumbered_face}
 use Rattle.half_edge_dcel.proofs.Hubs.{count_faces}

@@ -9,9 +9,9 @@ use Rattle.half_edge_mesh.specs.Outline.{Ends, ends, along}
 use Rattle.half_edge_mesh.specs.Peel.{turn}
 use Rattle.half_edge_mesh.specs.Round.{neighbour}
 use Rattle.half_edge_mesh.specs.Triangles.{Triangle, triangles, triangle_at, FlipsTriangles}
-use Rattle.half_edge_links.proofs.EndsKept.{ends_flipped_is}
-use Rattle.half_edge_links.proofs.Rev.{rev-rev, rev_within}
-use Rattle.half_edge_links.proofs.TakenLists.{count_ends}
+use Rattle.half_edge_links.proofs.Sound.EndsKept.{ends_flipped_is}
+use Rattle.half_edge_links.proofs.Lists.Rev.{rev-rev, rev_within}
+use Rattle.half_edge_links.proofs.Removing.TakenLists.{count_ends}
 use Rattle.half_edge_mesh.specs.Contents.{Contents, IsMeshWithData}
 use Rattle.half_edge_mesh.specs.Growth.{joins}
 use Rattle.half_edge_mesh.specs.Removal.{FullEdge, FullFace, IsBetween, full_edges, full_edges_of, full_faces, full_faces_of}

@@ -9,7 +9,7 @@ use Rattle.half_edge_mesh.specs.Contents.{Contents, IsMeshWithData}
 use Rattle.half_edge_mesh.specs.Mesh.{Mesh, origin, out_edge, rev}
 use Rattle.half_edge_mesh.specs.Peel.{turn, spoke}
 use Rattle.half_edge_mesh.specs.Round.{IsRound}
-use Rattle.half_edge_links.proofs.Rev.{rev_within}
+use Rattle.half_edge_links.proofs.Lists.Rev.{rev_within}
 use Rattle.mesh_embedding.proofs.MeshStays.{slice_get-set_other}
 use Rattle.delaunay_legalization.specs.Marking.{HasEdgeData}
 use Rattle.delaunay_removal.specs.Freeing.{IsUnmarked, FreesEdgesAt}

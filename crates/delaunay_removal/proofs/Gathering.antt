@@ -8,7 +8,7 @@ use Rattle.half_edge_mesh.specs.Mesh.{Mesh, AreSoundLinks, IsValidMesh, origin, 
 use Rattle.half_edge_mesh.specs.Peel.{turn, spoke}
 use Rattle.half_edge_mesh.specs.Renames.{moved}
 use Rattle.half_edge_mesh.specs.Round.{IsRound, neighbour}
-use Rattle.half_edge_links.proofs.Rev.{rev_within}
+use Rattle.half_edge_links.proofs.Lists.Rev.{rev_within}
 use Rattle.plane_tiling.proofs.Totals.{Contains-none, Contains-head, Contains-cases}
 use Rattle.delaunay_removal.specs.Neighbours.{HasNeighbours}
 use Rattle.delaunay_removal.proofs.LeavingConstraints.{there_and_back}

@@ -4,7 +4,7 @@ use Rattle.std.proofs.lemmas.Bool.{cases_lt}
 use Rattle.half_edge_mesh.specs.Mesh.{Mesh, AreSoundLinks, prev, face, rev}
 use Rattle.half_edge_mesh.specs.Peel.{spoke}
 use Rattle.half_edge_mesh.specs.Round.{IsRound}
-use Rattle.half_edge_links.proofs.Rev.{rev-rev}
+use Rattle.half_edge_links.proofs.Lists.Rev.{rev-rev}
 use Rattle.delaunay_removal.specs.Star.{HasInnerFaces}
 
 -- where none has it, the faces round the vertex are inner ones

@@ -7,7 +7,7 @@ use Rattle.half_edge_mesh.specs.Outline.{KeepsOuter, IsOuterEdge}
 use Rattle.half_edge_mesh.specs.Peel.{spoke, IsStrip}
 use Rattle.half_edge_mesh.specs.Round.{IsRound, neighbour}
 use Rattle.half_edge_mesh.specs.Triangles.{FlipsTriangles}
-use Rattle.half_edge_links.proofs.Rev.{rev-rev, rev_within}
+use Rattle.half_edge_links.proofs.Lists.Rev.{rev-rev, rev_within}
 use Rattle.plane.specs.Fraction.{Point}
 use Rattle.plane.specs.Pairs.{place}
 use Rattle.plane.specs.Side.{side, on, TurnsLeft}

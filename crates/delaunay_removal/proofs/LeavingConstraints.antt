@@ -8,7 +8,7 @@ use Rattle.half_edge_mesh.specs.Contents.{Contents, IsMeshWithData}
 use Rattle.half_edge_mesh.specs.Mesh.{origin}
 use Rattle.half_edge_mesh.specs.Removal.{FullEdge, full_edges, renumbered_edge}
 use Rattle.half_edge_mesh.specs.Renames.{moved}
-use Rattle.half_edge_links.proofs.OpenSound.{moved_hit, moved_miss}
+use Rattle.half_edge_links.proofs.Removing.OpenSound.{moved_hit, moved_miss}
 use Rattle.plane.specs.Pairs.{Joins, IsSamePair}
 use Rattle.delaunay_legalization.specs.Constraints.{marked_edges, constraint_pairs}
 use Rattle.delaunay_legalization.proofs.MarkedPairs.{JoinsByMark, mark_joins, joined_by_mark}

@@ -5,7 +5,7 @@ use Rattle.std.proofs.lemmas.Bool.{cases_eq}
 use Rattle.std.proofs.lemmas.List.{length-map}
 use Rattle.half_edge_mesh.specs.Mesh.{origin, rev}
 use Rattle.half_edge_mesh.specs.Renames.{moved}
-use Rattle.half_edge_links.proofs.OpenSound.{length-swap_remove, get_or-swap_remove_same, get_or-swap_remove_other, swap_remove_default}
+use Rattle.half_edge_links.proofs.Removing.OpenSound.{length-swap_remove, get_or-swap_remove_same, get_or-swap_remove_other, swap_remove_default}
 use Rattle.plane.specs.Circle.{InsideCircle}
 use Rattle.plane.specs.Fraction.{Point, Fraction, whole}
 use Rattle.plane.specs.Pairs.{Joins}

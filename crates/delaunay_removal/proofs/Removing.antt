@@ -5,7 +5,7 @@ use Rattle.std.proofs.lemmas.Bool.{cases_eq}
 use Rattle.std.proofs.lemmas.List.{length-map, get_or-take, get_or-set_same, get_or-set_other}
 use Rattle.std.proofs.lemmas.Option.{slice_get_within}
 use Rattle.half_edge_mesh.specs.Triangles.{triangle_at}
-use Rattle.half_edge_links.proofs.OpenSound.{length-swap_remove}
+use Rattle.half_edge_links.proofs.Removing.OpenSound.{length-swap_remove}
 use Rattle.half_edge_mesh.specs.Contents.{Contents, IsMeshWithData}
 use Rattle.half_edge_mesh.specs.Removal.{HasFewEdges, LeavesMesh}
 use Rattle.half_edge_dcel.proofs.Outlines.{empty_list}

@@ -5,10 +5,10 @@ use Rattle.std.proofs.Math.Numerals.{add-one}
 use Rattle.half_edge_mesh.specs.Mesh.{Mesh, IsValidMesh, origin, out_edge}
 use Rattle.half_edge_mesh.specs.Peel.{turn, spoke}
 use Rattle.half_edge_mesh.specs.Round.{IsRound}
-use Rattle.half_edge_links.proofs.OneOrbit.{edges_go_round}
+use Rattle.half_edge_links.proofs.Lists.OneOrbit.{edges_go_round}
 use Rattle.half_edge_views.proofs.Loops.{round_fits}
 use Rattle.mesh_embedding.proofs.RoundShift.{round_from}
-use Rattle.half_edge_links.proofs.CollapseLemmas.{some_of}
+use Rattle.half_edge_links.proofs.Removing.CollapseLemmas.{some_of}
 
 -- the round of a vertex starts at any of its edges
 pub round_of : (m : Mesh) (v first count h : ℕ) → IsRound m v first count → h < length m.half_edges → origin m h ≡ v → IsRound m v h count

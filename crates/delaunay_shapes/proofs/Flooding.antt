@@ -6,7 +6,7 @@ use Rattle.std.specs.Prelude.{Contains, ◌==◌}
 use Rattle.std.proofs.lemmas.Bool.{cases_eq, eqb-true}
 use Rattle.std.proofs.lemmas.Grind.{common_steps}
 use Rattle.half_edge_mesh.specs.Mesh.{Mesh, origin, next, prev, rev, IsValidMesh, IsClosed}
-use Rattle.half_edge_links.proofs.Rev.{rev-rev, rev_within}
+use Rattle.half_edge_links.proofs.Lists.Rev.{rev-rev, rev_within}
 use Rattle.plane.specs.Fraction.{Point, Fraction}
 use Rattle.plane.specs.Pairs.{Joins}
 use Rattle.plane.specs.Shape.{IsEdgeIn}

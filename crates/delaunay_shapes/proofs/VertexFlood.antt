@@ -7,7 +7,7 @@ use Rattle.std.proofs.lemmas.Int.{ints}
 use Rattle.std.proofs.lemmas.Bool.{cases_eq, cases_lt}
 use Rattle.std.proofs.lemmas.List.{append-nil}
 use Rattle.half_edge_mesh.specs.Mesh.{Mesh, origin, rev, IsValidMesh}
-use Rattle.half_edge_links.proofs.Rev.{rev-rev}
+use Rattle.half_edge_links.proofs.Lists.Rev.{rev-rev}
 use Rattle.plane.specs.Fraction.{Point, Fraction, whole, IsSame}
 use Rattle.plane.specs.Pairs.{place}
 use Rattle.plane_tiling.specs.Local.{IsMesh}

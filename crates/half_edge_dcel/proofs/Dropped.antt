@@ -11,7 +11,7 @@ use Rattle.std.specs.Prelude.{slice_get}
 use Rattle.half_edge_links.specs.Outline.{Ends, ends}
 use Rattle.half_edge_links.specs.Taken.{MovesEnds, MovesTriangles}
 use Rattle.half_edge_links.specs.Triangles.{Triangle, triangles}
-use Rattle.half_edge_links.proofs.Rev.{rev_within}
+use Rattle.half_edge_links.proofs.Lists.Rev.{rev_within}
 use Rattle.half_edge_dcel.proofs.Outlines.{listed, passed_over}
 use Rattle.half_edge_dcel.specs.Removal.{full_edges_of, full_faces_of, renumbered_edge, renumbered_face, renumbered_ends}
 

@@ -6,7 +6,7 @@ use Rattle.std.proofs.lemmas.Grind.{common_steps}
 use Rattle.std.proofs.lemmas.Option.{gets}
 use Rattle.half_edge_links.specs.Mesh.{Mesh}
 use Rattle.half_edge_links.specs.Outline.{Ends, origins, ends, along}
-use Rattle.half_edge_links.proofs.Ends.{length-paired}
+use Rattle.half_edge_links.proofs.Sound.Ends.{length-paired}
 use Rattle.half_edge_dcel.specs.Contents.{FitsMesh, edge_with, edges_of}
 use Rattle.half_edge_dcel.specs.Growth.{Grows, MovesItem, AddsEdges, SplitsEdge, with_ends, LeavesItem, MovesTwoItems}
 

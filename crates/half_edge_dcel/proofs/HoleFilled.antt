@@ -12,7 +12,7 @@ use Rattle.half_edge_links.specs.Mesh.{Mesh, origin, next, prev, face_edge, out_
 use Rattle.half_edge_links.specs.Outline.{Ends, ends}
 use Rattle.half_edge_links.specs.Round.{neighbour}
 use Rattle.half_edge_links.specs.Triangles.{Triangle, triangle_at}
-use Rattle.half_edge_links.proofs.TakenLists.{ends_at, count_ends}
+use Rattle.half_edge_links.proofs.Removing.TakenLists.{ends_at, count_ends}
 use Rattle.half_edge_dcel.specs.Contents.{Contents, IsMeshWithData}
 use Rattle.half_edge_dcel.specs.Growth.{joins}
 use Rattle.half_edge_dcel.specs.Removal.{FullEdge, FullFace, IsBetween, HasCorners, FillsHole, full_edges, full_faces, spokes_to, faces_between}

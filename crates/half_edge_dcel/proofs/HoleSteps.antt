@@ -13,13 +13,13 @@ use Rattle.half_edge_links.specs.Peel.{IsPeelable, IsWheel, Peels, turn}
 use Rattle.half_edge_links.specs.Remove.{ClosesLoop, IsOpenTriangle, IsRemovable, Opens, Removes, after_removal}
 use Rattle.half_edge_links.specs.Round.{neighbour}
 use Rattle.half_edge_links.specs.Triangles.{triangles, triangle_at}
-use Rattle.half_edge_links.proofs.CollapseLemmas.{open_triangle, removable_last}
-use Rattle.half_edge_links.proofs.PeelLemmas.{peels_faces}
-use Rattle.half_edge_links.proofs.Conditions.{IsFullWheel, full_wheel, peelable, removable}
-use Rattle.half_edge_links.proofs.OutlineFilled.{outline_filled}
-use Rattle.half_edge_links.proofs.Rev.{rev-rev}
-use Rattle.half_edge_links.proofs.WheelEnds.{IsHoleOfFour, IsHoleOfThree, hole_of_four, hole_of_three, closed_corners}
-use Rattle.half_edge_links.proofs.WheelLemmas as wheel
+use Rattle.half_edge_links.proofs.Removing.CollapseLemmas.{open_triangle, removable_last}
+use Rattle.half_edge_links.proofs.Removing.PeelLemmas.{peels_faces}
+use Rattle.half_edge_links.proofs.Removing.Conditions.{IsFullWheel, full_wheel, peelable, removable}
+use Rattle.half_edge_links.proofs.OuterLoop.OutlineFilled.{outline_filled}
+use Rattle.half_edge_links.proofs.Lists.Rev.{rev-rev}
+use Rattle.half_edge_links.proofs.Removing.WheelEnds.{IsHoleOfFour, IsHoleOfThree, hole_of_four, hole_of_three, closed_corners}
+use Rattle.half_edge_links.proofs.Removing.WheelLemmas as wheel
 use Rattle.half_edge_dcel.specs.Contents.{Contents, IsMeshWithData}
 use Rattle.half_edge_dcel.specs.Growth.{joins}
 use Rattle.half_edge_dcel.specs.Removal.{FullFace, IsBetween, HasCorners, LosesEdges, LosesFaces, GivesFace, OuterChanges, FillsHole, full_edges, full_edges_of, full_faces, full_faces_of, spokes_to, faces_between}

@@ -11,11 +11,11 @@ use Rattle.half_edge_links.specs.Mesh.{Mesh, edge_at, origin, next, prev, face, 
 use Rattle.half_edge_links.specs.Peel.{turn, spoke}
 use Rattle.half_edge_links.specs.Round.{neighbour}
 use Rattle.half_edge_links.specs.Triangles.{Triangle, triangles, triangle_at}
-use Rattle.half_edge_links.proofs.Conditions.{flippable, spoke_at, turn_in, turn_one, turned_apart, same_spoke}
-use Rattle.half_edge_links.proofs.FlipSound.{origin_kept}
-use Rattle.half_edge_links.proofs.Rev.{rev-rev}
-use Rattle.half_edge_links.proofs.Triangles.{IsTriangle, triangle_at as loop_at}
-use Rattle.half_edge_links.proofs.Walks.{among_steps, to_steps, from_steps, steps_closed}
+use Rattle.half_edge_links.proofs.Removing.Conditions.{flippable, spoke_at, turn_in, turn_one, turned_apart, same_spoke}
+use Rattle.half_edge_links.proofs.Faces.FlipSound.{origin_kept}
+use Rattle.half_edge_links.proofs.Lists.Rev.{rev-rev}
+use Rattle.half_edge_links.proofs.Sound.Triangles.{IsTriangle, triangle_at as loop_at}
+use Rattle.half_edge_links.proofs.Lists.Walks.{among_steps, to_steps, from_steps, steps_closed}
 use Rattle.half_edge_dcel.specs.Contents.{Contents, IsMeshWithData}
 use Rattle.half_edge_dcel.specs.Removal.{FullFace, HasCorners, full_faces, full_faces_of, faces_between}
 use Rattle.half_edge_dcel.specs.Hole.{IsHub, HasFreeTip}

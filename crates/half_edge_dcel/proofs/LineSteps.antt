@@ -12,10 +12,10 @@ use Rattle.half_edge_links.specs.Peel.{turn}
 use Rattle.half_edge_links.specs.Remove.{Removes, IsRemovable, out_after}
 use Rattle.half_edge_links.specs.Renames.{renamed}
 use Rattle.half_edge_links.specs.Triangles.{triangles, triangle_at}
-use Rattle.half_edge_links.proofs.Parts.{rev_of_even, rev_of_odd}
-use Rattle.half_edge_links.proofs.Rev.{rev-rev, rev_within, rev_differs}
-use Rattle.half_edge_links.proofs.Passing.{IsBeside, beside}
-use Rattle.half_edge_links.proofs.TakenLists.{count_ends}
+use Rattle.half_edge_links.proofs.Sound.Parts.{rev_of_even, rev_of_odd}
+use Rattle.half_edge_links.proofs.Lists.Rev.{rev-rev, rev_within, rev_differs}
+use Rattle.half_edge_links.proofs.Growing.Passing.{IsBeside, beside}
+use Rattle.half_edge_links.proofs.Removing.TakenLists.{count_ends}
 use Rattle.half_edge_dcel.specs.Contents.{Contents, IsMeshWithData}
 use Rattle.half_edge_dcel.specs.Growth.{joins}
 use Rattle.half_edge_dcel.specs.Removal.{TakesOut, FullEdge, full_edges, full_edges_of, IsBetween, JoinsNeighbours, OuterChanges, LosesEdges, LeavesLine}

@@ -11,8 +11,8 @@ use Rattle.half_edge_links.specs.Mesh.{Mesh, IsValidMesh}
 use Rattle.half_edge_links.specs.Flow.{total, around, along, both_ways, outline}
 use Rattle.half_edge_links.specs.Outline.{Ends, ends}
 use Rattle.half_edge_links.specs.Triangles.{Triangle, triangles, triangle_at}
-use Rattle.half_edge_links.proofs.Flow.{sides_add_up}
-use Rattle.half_edge_links.proofs.TakenLists.{count_ends}
+use Rattle.half_edge_links.proofs.Sound.Flow.{sides_add_up}
+use Rattle.half_edge_links.proofs.Removing.TakenLists.{count_ends}
 use Rattle.half_edge_dcel.specs.Contents.{Contents, IsMeshWithData}
 use Rattle.half_edge_dcel.specs.Removal.{FullEdge, full_edges, full_edges_of, FullFace, full_faces, full_faces_of, IsBetween, HasCorners, LosesEdges, LosesFaces}
 

@@ -12,9 +12,9 @@ use Rattle.half_edge_links.specs.Peel.{IsStrip, IsPeelable, Peels, turn}
 use Rattle.half_edge_links.specs.Remove.{Removes, IsRemovable, after_removal}
 use Rattle.half_edge_links.specs.Round.{neighbour}
 use Rattle.half_edge_links.specs.Triangles.{triangles, triangle_at}
-use Rattle.half_edge_links.proofs.Conditions.{IsFullStrip, full_strip}
-use Rattle.half_edge_links.proofs.Rev.{rev-rev}
-use Rattle.half_edge_links.proofs.StripLemmas.{strip_from, strip_ends, one_more, removable_strip}
+use Rattle.half_edge_links.proofs.Removing.Conditions.{IsFullStrip, full_strip}
+use Rattle.half_edge_links.proofs.Lists.Rev.{rev-rev}
+use Rattle.half_edge_links.proofs.Removing.StripLemmas.{strip_from, strip_ends, one_more, removable_strip}
 use Rattle.half_edge_dcel.specs.Contents.{Contents, IsMeshWithData}
 use Rattle.half_edge_dcel.specs.Growth.{joins}
 use Rattle.half_edge_dcel.specs.Removal.{IsBetween, HasCorners, LosesEdges, LosesFaces, LosesStrip, OuterChanges, full_edges, full_faces, full_faces_of, spokes_to, faces_between, chain}

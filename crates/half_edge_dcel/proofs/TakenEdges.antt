@@ -8,9 +8,9 @@ use Rattle.half_edge_links.specs.Mesh.{Mesh, origin, next, prev, face, face_edge
 use Rattle.half_edge_links.specs.Outline.{Ends, ends}
 use Rattle.half_edge_links.specs.Taken.{RemovesEnds, RemovesTriangle, no_ends, no_triangle}
 use Rattle.half_edge_links.specs.Triangles.{triangles, triangle_at}
-use Rattle.half_edge_links.proofs.Parts.{rev_of_even, rev_of_odd}
-use Rattle.half_edge_links.proofs.TakenLists.{ends_at, count_ends}
-use Rattle.half_edge_links.proofs.Triangles.{IsTriangle, triangle_at as loop_at}
+use Rattle.half_edge_links.proofs.Sound.Parts.{rev_of_even, rev_of_odd}
+use Rattle.half_edge_links.proofs.Removing.TakenLists.{ends_at, count_ends}
+use Rattle.half_edge_links.proofs.Sound.Triangles.{IsTriangle, triangle_at as loop_at}
 use Rattle.half_edge_dcel.specs.Growth.{joins}
 use Rattle.half_edge_dcel.specs.Removal.{TakesOut, TakesOutPair, FullEdge, full_edges_of, FullFace, full_faces_of, IsBetween, HasCorners}
 use Rattle.half_edge_dcel.proofs.TakenOut.{takes_out, permuted, taken_item, full_edges_taken, get_or-full_edges, full_faces_taken, get_or-full_faces}

@@ -7,7 +7,7 @@ use Rattle.std.specs.List.{swap_remove}
 use Rattle.std.specs.List.Sorted.{IsPermutation}
 use Rattle.half_edge_links.specs.Outline.{Ends}
 use Rattle.half_edge_links.specs.Triangles.{Triangle}
-use Rattle.half_edge_links.proofs.OpenSound.{swap_remove_default, get_or-swap_remove_same, get_or-swap_remove_other, length-swap_remove}
+use Rattle.half_edge_links.proofs.Removing.OpenSound.{swap_remove_default, get_or-swap_remove_same, get_or-swap_remove_other, length-swap_remove}
 use Rattle.half_edge_dcel.specs.Removal.{TakesOut, TakesOutPair, FullEdge, full_edges_of, FullFace, full_faces_of}
 
 pub takes_out : {X : Type 0} (xs : List X) (k : ℕ) (d : X) → k < length xs → TakesOut xs (swap_remove xs k d) k

@@ -12,10 +12,10 @@ use Rattle.half_edge_links.specs.Outline.{Ends, ends, along, KeepsOuter, MovesEd
 use Rattle.half_edge_links.specs.Peel.{turn, spoke, IsWheel}
 use Rattle.half_edge_links.specs.Round.{neighbour}
 use Rattle.half_edge_links.specs.Triangles.{Triangle, triangles, triangle_at, FlipsTriangles}
-use Rattle.half_edge_links.proofs.Conditions.{spoke_at, faces_apart}
-use Rattle.half_edge_links.proofs.Rev.{rev-rev}
-use Rattle.half_edge_links.proofs.TakenLists.{count_ends}
-use Rattle.half_edge_links.proofs.Triangles.{IsTriangle, triangle_at as loop_at}
+use Rattle.half_edge_links.proofs.Removing.Conditions.{spoke_at, faces_apart}
+use Rattle.half_edge_links.proofs.Lists.Rev.{rev-rev}
+use Rattle.half_edge_links.proofs.Removing.TakenLists.{count_ends}
+use Rattle.half_edge_links.proofs.Sound.Triangles.{IsTriangle, triangle_at as loop_at}
 use Rattle.half_edge_links.specs.Flip.{Flips}
 use Rattle.half_edge_links.specs.Hull.{KeepsOneOutline}
 use Rattle.half_edge_dcel.specs.Contents.{Contents, IsMeshWithData}

@@ -4,8 +4,8 @@ use Rattle.std.proofs.lemmas.Bool.{cases_lt}
 use Rattle.half_edge_links.specs.declared.records.HalfEdge.{HalfEdge}
 use Rattle.half_edge_links.specs.Mesh.{Mesh, edge_at, origin, rev, out_edge}
 use Rattle.half_edge_links.specs.Peel.{turn, spoke}
-use Rattle.half_edge_links.proofs.Conditions.{spoke_at}
-use Rattle.half_edge_links.proofs.OneOrbit.{edges_go_round}
+use Rattle.half_edge_links.proofs.Removing.Conditions.{spoke_at}
+use Rattle.half_edge_links.proofs.Lists.OneOrbit.{edges_go_round}
 use Rattle.half_edge_dcel.specs.Contents.{Contents, IsMeshWithData}
 use Rattle.half_edge_views.proofs.Loops.{round_fits}
 

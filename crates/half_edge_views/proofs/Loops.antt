@@ -6,10 +6,10 @@ use Rattle.half_edge_links.specs.Mesh.{Mesh, AreSoundLinks, IsValidMesh, next, p
 use Rattle.half_edge_links.specs.Hull.{HasOneOutline, IsClosedAlong}
 use Rattle.half_edge_links.specs.Peel.{turn}
 use Rattle.half_edge_links.specs.Round.{IsRound}
-use Rattle.half_edge_links.proofs.Walks.{among_steps, to_steps, from_steps, steps_closed}
-use Rattle.half_edge_links.proofs.Orbits.{comes_back}
-use Rattle.half_edge_links.proofs.OneOrbit.{edges_go_round}
-use Rattle.half_edge_links.proofs.Conditions.{turn_in, turn_one}
+use Rattle.half_edge_links.proofs.Lists.Walks.{among_steps, to_steps, from_steps, steps_closed}
+use Rattle.half_edge_links.proofs.Lists.Orbits.{comes_back}
+use Rattle.half_edge_links.proofs.Lists.OneOrbit.{edges_go_round}
+use Rattle.half_edge_links.proofs.Removing.Conditions.{turn_in, turn_one}
 use Rattle.half_edge_dcel.specs.Contents.{Contents, IsMeshWithData}
 use Rattle.half_edge_views.specs.Left.{each_in}
 use Rattle.half_edge_views.specs.Rounds.{walk, GivesRound, IsOuterLoop, GivesOuterLoop}

@@ -5,7 +5,7 @@ use Rattle.std.specs.Prelude.{ℤ, ◌+ℤ◌, Contains}
 use Rattle.std.proofs.lemmas.Int.{ints}
 use Rattle.half_edge_mesh.specs.Mesh.{Mesh, origin, next, prev, face, face_edge, AreSoundLinks}
 use Rattle.half_edge_mesh.specs.Triangles.{Triangle, triangles, triangle_at}
-use Rattle.half_edge_links.proofs.Triangles as T
+use Rattle.half_edge_links.proofs.Sound.Triangles as T
 use Rattle.plane.specs.Tiling.{Face, face as corners}
 use Rattle.plane_tiling.specs.Local.{total}
 use Rattle.plane_tiling.proofs.Totals.{Contains-head, Contains-later, Contains-none, Contains-cases, get_or_any}
@@ -13,7 +13,7 @@ use Rattle.plane_edits.specs.Change.{IsFaceOf, IsTurnFree}
 use Rattle.plane_edits.proofs.LocalMesh.Changes.{total_append}
 use Rattle.mesh_embedding.specs.Drawn.{corners_of, faces_of}
 use Rattle.mesh_embedding.proofs.OwnEdges.{total-map}
-use Rattle.half_edge_links.proofs.Sums.{same_sum}
+use Rattle.half_edge_links.proofs.Lists.Sums.{same_sum}
 
 -- ---- lists in which one or two entries are written, and some added
 module _ {X : Type 0} (f : X → ℤ) where

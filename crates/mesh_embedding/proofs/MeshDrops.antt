@@ -8,7 +8,7 @@ use Rattle.half_edge_mesh.specs.Mesh.{Mesh, AreSoundLinks, IsAlone, origin, out_
 use Rattle.half_edge_mesh.specs.Outline.{Ends}
 use Rattle.half_edge_mesh.specs.Flow.{outline}
 use Rattle.half_edge_mesh.specs.Triangles.{Triangle, triangles, triangle_at}
-use Rattle.half_edge_links.proofs.OpenSound.{swap_remove_default}
+use Rattle.half_edge_links.proofs.Removing.OpenSound.{swap_remove_default}
 use Rattle.half_edge_mesh.specs.Contents.{Contents, IsMeshWithData}
 use Rattle.half_edge_mesh.specs.Removal.{FullFace, full_faces, full_faces_of, renumbered_ends, renumbered_face, DropsVertex}
 use Rattle.half_edge_dcel.proofs.Dropped.{renumbered_triangle}
@@ -23,7 +23,7 @@ use Rattle.plane_edits.proofs.Removal.Renumbering.{last_takes_freed_index, last_
 use Rattle.mesh_embedding.specs.Drawn.{corners_of, pair_of, faces_of, outer_of}
 use Rattle.mesh_embedding.proofs.OuterEdges.{real}
 use Rattle.mesh_embedding.proofs.FaceChanges.{length_map}
-use Rattle.half_edge_links.proofs.ShrinkTriangles.{get_map}
+use Rattle.half_edge_links.proofs.Removing.ShrinkTriangles.{get_map}
 
 -- no outer edge starts at a vertex without edges
 pub alone_has_none : (m : Mesh) (v j : ℕ) → AreSoundLinks m → IsAlone m v → ¬ Contains (outer_of m) (v, j)

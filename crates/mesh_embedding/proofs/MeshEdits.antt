@@ -9,8 +9,8 @@ use Rattle.half_edge_mesh.specs.Flip.{IsFlippable}
 use Rattle.half_edge_mesh.specs.Grow.{IsHalfSplittable}
 use Rattle.half_edge_mesh.specs.Triangles.{Triangle, triangles, FlipsTriangles, InsertsTriangles, SplitsTriangles}
 use Rattle.half_edge_mesh.specs.Outline.{KeepsOuter, ReplacesOuter, AddsTriangle, HalfSplitsTriangles}
-use Rattle.half_edge_links.proofs.Rev.{rev-rev, rev_within}
-use Rattle.half_edge_links.proofs.Triangles as T
+use Rattle.half_edge_links.proofs.Lists.Rev.{rev-rev, rev_within}
+use Rattle.half_edge_links.proofs.Sound.Triangles as T
 use Rattle.plane.specs.Fraction.{Point, whole, WithinSegment, InsideTriangle}
 use Rattle.plane.specs.Side.{TurnsLeft}
 use Rattle.plane.specs.Pairs.{place}

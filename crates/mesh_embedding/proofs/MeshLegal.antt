@@ -9,13 +9,13 @@ use Rattle.half_edge_mesh.specs.Mesh.{Mesh, origin, next, prev, face, rev, AreSo
 use Rattle.half_edge_mesh.specs.Flip.{IsFlippable, Flips, flipped}
 use Rattle.half_edge_mesh.specs.Triangles.{FlipsTriangles}
 use Rattle.half_edge_mesh.specs.Outline.{KeepsOuter}
-use Rattle.half_edge_links.proofs.Rev.{rev-rev, rev_differs, rev_within}
-use Rattle.half_edge_links.proofs.Triangles as T
-use Rattle.half_edge_links.proofs.Writes.{AreSixPlaces}
-use Rattle.half_edge_links.proofs.FlipLemmas.{flips}
-use Rattle.half_edge_links.proofs.FlipSound.{origin_kept}
-use Rattle.half_edge_links.proofs.FlipTriangles.{triangles_flipped}
-use Rattle.half_edge_links.proofs.KeepsOuter.{outer_flipped_is}
+use Rattle.half_edge_links.proofs.Lists.Rev.{rev-rev, rev_differs, rev_within}
+use Rattle.half_edge_links.proofs.Sound.Triangles as T
+use Rattle.half_edge_links.proofs.Lists.Writes.{AreSixPlaces}
+use Rattle.half_edge_links.proofs.Faces.FlipLemmas.{flips}
+use Rattle.half_edge_links.proofs.Faces.FlipSound.{origin_kept}
+use Rattle.half_edge_links.proofs.Faces.FlipTriangles.{triangles_flipped}
+use Rattle.half_edge_links.proofs.Faces.KeepsOuter.{outer_flipped_is}
 use Rattle.plane.specs.Fraction.{Point}
 use Rattle.plane.specs.Side.{TurnsLeft}
 use Rattle.plane.specs.Circle.{InsideCircle}

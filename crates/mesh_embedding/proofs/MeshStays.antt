@@ -9,9 +9,9 @@ use Rattle.std.proofs.lemmas.Option.{slice_get_within, get_or_from_slice_get, ge
 use Rattle.half_edge_mesh.specs.Mesh.{Mesh, origin, next, prev, face, face_edge, rev, AreSoundLinks, IsValidMesh}
 use Rattle.half_edge_mesh.specs.Outline.{Ends, ends}
 use Rattle.half_edge_mesh.specs.Triangles.{Triangle, triangle_at, triangles, FlipsTriangles}
-use Rattle.half_edge_links.proofs.Ends.{length-ends_twice, get_or-ends}
-use Rattle.half_edge_links.proofs.Rev.{rev-rev, rev_within}
-use Rattle.half_edge_links.proofs.Triangles as T
+use Rattle.half_edge_links.proofs.Sound.Ends.{length-ends_twice, get_or-ends}
+use Rattle.half_edge_links.proofs.Lists.Rev.{rev-rev, rev_within}
+use Rattle.half_edge_links.proofs.Sound.Triangles as T
 use Rattle.plane.specs.Fraction.{Point}
 use Rattle.plane.specs.Pairs.{Joins, IsSamePair, EachPairOnce}
 use Rattle.plane.specs.Tiling.{Face, IsTiling, face as corners}

@@ -4,7 +4,7 @@ use mathlib.Core.Logic.{inl, inr, ◌≢◌}
 use Rattle.std.specs.Prelude.{Contains}
 use Rattle.half_edge_mesh.specs.Mesh.{Mesh, origin, next, face, rev, AreSoundLinks, IsSoundEdge}
 use Rattle.half_edge_mesh.specs.Outline.{IsOuterEdge, KeepsOuter, ReplacesOuter, ClosesOuter, IsEdge}
-use Rattle.half_edge_links.proofs.Rev.{rev_within}
+use Rattle.half_edge_links.proofs.Lists.Rev.{rev_within}
 use Rattle.plane_tiling.proofs.Totals.{Contains-head, Contains-later, Contains-none, Contains-cases}
 use Rattle.plane_edits.specs.Change.{OuterChange}
 use Rattle.plane_edits.proofs.LocalMesh.Changes.{IsOnce}

@@ -7,9 +7,9 @@ use Rattle.half_edge_mesh.specs.Mesh.{Mesh, edge_at, origin, next, prev, face, r
 use Rattle.half_edge_mesh.specs.Flip.{IsFlippable, Flips, flipped}
 use Rattle.half_edge_mesh.specs.Peel.{turn, spoke, IsWheel, IsStrip}
 use Rattle.half_edge_mesh.specs.Round.{IsRound, neighbour}
-use Rattle.half_edge_links.proofs.FlipLemmas.{flips_is}
-use Rattle.half_edge_links.proofs.Rev.{rev-rev}
-use Rattle.half_edge_links.proofs.Triangles as T
+use Rattle.half_edge_links.proofs.Faces.FlipLemmas.{flips_is}
+use Rattle.half_edge_links.proofs.Lists.Rev.{rev-rev}
+use Rattle.half_edge_links.proofs.Sound.Triangles as T
 use Rattle.mesh_embedding.proofs.MeshStays.{halved}
 
 -- not one of the six edges round edge e

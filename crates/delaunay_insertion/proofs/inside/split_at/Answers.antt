@@ -1,6 +1,6 @@
 use Rattle.std.proofs.Common.{◌/◌, ◌∙◌, ◌<◌, length, map, ap, subst, sym}
 use Rattle.half_edge_mesh.specs.Mesh.{face, rev}
-use Rattle.half_edge_links.proofs.Rev.{rev-rev}
+use Rattle.half_edge_links.proofs.Lists.Rev.{rev-rev}
 use Rattle.delaunay_legalization.specs.Parts.{IsWithinEdge}
 use Rattle.delaunay_insertion.proofs.EdgeSides.{inner_twin, twin_within, within_twin, room_inside, vertex_of_edge}
 use Rattle.delaunay_insertion.proofs.inside.split_at.Goals as goal

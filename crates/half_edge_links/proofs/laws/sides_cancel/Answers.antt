@@ -1,4 +1,4 @@
-use Rattle.half_edge_links.proofs.Flow.{sides_cancel}
+use Rattle.half_edge_links.proofs.Sound.Flow.{sides_cancel}
 use Rattle.half_edge_links.proofs.laws.sides_cancel.Goals as goal
 
 pub returns : goal.returns

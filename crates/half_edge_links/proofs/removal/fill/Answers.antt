@@ -1,7 +1,7 @@
 use Rattle.std.proofs.Common.{◌+◌, arith, ◌∙◌}
 use Rattle.half_edge_links.specs.Mesh.{no_edge}
 use Rattle.half_edge_links.specs.Remove.{with_filled}
-use Rattle.half_edge_links.proofs.OpenSound.{swap_remove_default}
+use Rattle.half_edge_links.proofs.Removing.OpenSound.{swap_remove_default}
 use Rattle.half_edge_links.proofs.removal.fill.Goals as goal
 
 pub returns-clause-items : goal.returns-clause-items

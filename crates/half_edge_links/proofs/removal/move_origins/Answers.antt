@@ -1,7 +1,7 @@
 use Rattle.std.proofs.Common.{◌≡◌, ◌∙◌, arith}
 use Rattle.half_edge_links.specs.Grow.{with_origin}
 use Rattle.half_edge_links.specs.Move.{turn_of}
-use Rattle.half_edge_links.proofs.VertexSound.{walk_more, walk_ends, no_end}
+use Rattle.half_edge_links.proofs.Removing.VertexSound.{walk_more, walk_ends, no_end}
 use Rattle.half_edge_links.proofs.removal.move_origins.Goals as goal
 
 pub returns-then-h-first-clause-moves : goal.returns-then-h-first-clause-moves

@@ -1,5 +1,5 @@
 use Rattle.std.proofs.Common.{◌≡◌, length, vec_capacity}
-use Rattle.half_edge_links.proofs.VertexSound.{HasWalked}
+use Rattle.half_edge_links.proofs.Removing.VertexSound.{HasWalked}
 use Rattle.half_edge_links.proofs.removal.move_origins.Given as goal
 
 abbrev pub invariant-loop-i : goal.invariant-loop-i

@@ -1,6 +1,6 @@
 use Rattle.half_edge_dcel.proofs.HoleSteps.{first_peelable, second_peelable, pendant_within, pendant_removable, border_open, has_room, collapsed}
-use Rattle.half_edge_links.proofs.Conditions.{full_wheel}
-use Rattle.half_edge_links.proofs.WheelLemmas.{inner_z}
+use Rattle.half_edge_links.proofs.Removing.Conditions.{full_wheel}
+use Rattle.half_edge_links.proofs.Removing.WheelLemmas.{inner_z}
 use Rattle.half_edge_dcel.proofs.dcel.Dcel.collapse.Goals as goal
 
 pub open_face-value-requires : goal.open_face-value-requires

@@ -2,7 +2,7 @@ use Rattle.std.proofs.Common.{◌≡◌, ap, inr}
 use Rattle.half_edge_links.specs.declared.records.HalfEdge.{HalfEdge}
 use Rattle.half_edge_links.specs.Hull.{IsPendant}
 use Rattle.half_edge_links.specs.Mesh.{Mesh, next, rev}
-use Rattle.half_edge_links.proofs.Rev.{rev_within}
+use Rattle.half_edge_links.proofs.Lists.Rev.{rev_within}
 use Rattle.half_edge_dcel.proofs.LineSteps.{passable, removable_hanging, no_inner_face, middle_left}
 use Rattle.half_edge_dcel.proofs.dcel.Dcel.join_neighbours.Goals as goal
 

@@ -1,5 +1,5 @@
-use Rattle.half_edge_links.proofs.FaceBeside.{adds_face, replaces_outer}
-use Rattle.half_edge_links.proofs.EndsKept.{ends_beside}
+use Rattle.half_edge_links.proofs.Growing.FaceBeside.{adds_face, replaces_outer}
+use Rattle.half_edge_links.proofs.Sound.EndsKept.{ends_beside}
 use Rattle.half_edge_links.proofs.links.Links.add_face_beside.Goals as goal
 
 pub returns-clause-links : goal.returns-clause-links

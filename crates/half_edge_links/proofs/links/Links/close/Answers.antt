@@ -2,12 +2,12 @@ use Rattle.std.proofs.Common.{◌≡◌, refl, length, ap, ◌∙◌, arith}
 use Rattle.half_edge_links.specs.contracts.links.Links.{the_view}
 use Rattle.half_edge_links.specs.Mesh.{Mesh, edge_at}
 use Rattle.half_edge_links.specs.Grow.{closed}
-use Rattle.half_edge_links.proofs.Valid.{valid_as, valid_closed}
-use Rattle.half_edge_links.proofs.Close.{closes}
-use Rattle.half_edge_links.proofs.Corners.{triangles_closed}
-use Rattle.half_edge_links.proofs.Outer.{outer_closed}
-use Rattle.half_edge_links.proofs.EndsKept.{ends_closed}
-use Rattle.half_edge_links.proofs.Outline.{outline_closed}
+use Rattle.half_edge_links.proofs.Sound.Valid.{valid_as, valid_closed}
+use Rattle.half_edge_links.proofs.Growing.Close.{closes}
+use Rattle.half_edge_links.proofs.Sound.Corners.{triangles_closed}
+use Rattle.half_edge_links.proofs.OuterLoop.Outer.{outer_closed}
+use Rattle.half_edge_links.proofs.Sound.EndsKept.{ends_closed}
+use Rattle.half_edge_links.proofs.OuterLoop.Outline.{outline_closed}
 use Rattle.half_edge_links.proofs.links.Links.close.Goals as goal
 
 pub returns-clause-mesh : goal.returns-clause-mesh

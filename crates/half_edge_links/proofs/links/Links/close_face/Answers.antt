@@ -2,10 +2,10 @@ use Rattle.std.proofs.Common.{◌≡◌, length, arith}
 use Rattle.half_edge_links.specs.contracts.links.Links.{the_view}
 use Rattle.half_edge_links.specs.Mesh.{Mesh}
 use Rattle.half_edge_links.specs.Remove.{IsOpenTriangle, loop_closed}
-use Rattle.half_edge_links.proofs.CloseSound.{round, closes}
-use Rattle.half_edge_links.proofs.Valid.{valid_loop_closed}
-use Rattle.half_edge_links.proofs.ShrinkTriangles.{triangles_closed}
-use Rattle.half_edge_links.proofs.TakenLists.{ends_loop_closed, closes_outer}
+use Rattle.half_edge_links.proofs.Removing.CloseSound.{round, closes}
+use Rattle.half_edge_links.proofs.Sound.Valid.{valid_loop_closed}
+use Rattle.half_edge_links.proofs.Removing.ShrinkTriangles.{triangles_closed}
+use Rattle.half_edge_links.proofs.Removing.TakenLists.{ends_loop_closed, closes_outer}
 use Rattle.half_edge_links.proofs.links.Links.close_face.Goals as goal
 
 pub set_loop_face-requires-clause-next : goal.set_loop_face-requires-clause-next

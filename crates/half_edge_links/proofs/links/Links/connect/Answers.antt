@@ -1,7 +1,7 @@
 use Rattle.half_edge_links.specs.contracts.links.Links.{the_view}
 use Rattle.half_edge_links.specs.Mesh.{Mesh}
-use Rattle.half_edge_links.proofs.Valid.{valid_connected}
-use Rattle.half_edge_links.proofs.Outline.{outline_connected}
+use Rattle.half_edge_links.proofs.Sound.Valid.{valid_connected}
+use Rattle.half_edge_links.proofs.OuterLoop.Outline.{outline_connected}
 use Rattle.half_edge_links.proofs.links.Links.connect.Goals as goal
 
 pub invariant_of-self : goal.invariant_of-self

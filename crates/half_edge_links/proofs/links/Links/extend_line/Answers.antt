@@ -1,5 +1,5 @@
 use Rattle.std.proofs.Common.{◌∙◌, sym}
-use Rattle.half_edge_links.proofs.SplitLine.{into_outer, into_ends}
+use Rattle.half_edge_links.proofs.Growing.SplitLine.{into_outer, into_ends}
 use Rattle.half_edge_links.proofs.links.Links.extend_line.Goals as goal
 
 pub hang-requires-clause-outer : goal.hang-requires-clause-outer

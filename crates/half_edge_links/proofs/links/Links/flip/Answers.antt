@@ -2,13 +2,13 @@ use Rattle.std.proofs.Common.{◌≡◌, ap, ◌∙◌, arith, rules}
 use Rattle.half_edge_links.specs.contracts.links.Links.{the_view}
 use Rattle.half_edge_links.specs.Mesh.{Mesh, edge_at, next, prev, rev}
 use Rattle.half_edge_links.specs.Flip.{flip_by, IsFlippable}
-use Rattle.half_edge_links.proofs.Triangles.{six_round}
-use Rattle.half_edge_links.proofs.FlipLemmas.{flip_by-is, flips_is}
-use Rattle.half_edge_links.proofs.Valid.{valid_as, valid_flipped}
-use Rattle.half_edge_links.proofs.FlipTriangles.{triangles_flipped}
-use Rattle.half_edge_links.proofs.KeepsOuter.{outer_flipped_is}
-use Rattle.half_edge_links.proofs.EndsKept.{ends_flipped_is}
-use Rattle.half_edge_links.proofs.Outline.{outline_flipped}
+use Rattle.half_edge_links.proofs.Sound.Triangles.{six_round}
+use Rattle.half_edge_links.proofs.Faces.FlipLemmas.{flip_by-is, flips_is}
+use Rattle.half_edge_links.proofs.Sound.Valid.{valid_as, valid_flipped}
+use Rattle.half_edge_links.proofs.Faces.FlipTriangles.{triangles_flipped}
+use Rattle.half_edge_links.proofs.Faces.KeepsOuter.{outer_flipped_is}
+use Rattle.half_edge_links.proofs.Sound.EndsKept.{ends_flipped_is}
+use Rattle.half_edge_links.proofs.OuterLoop.Outline.{outline_flipped}
 use Rattle.half_edge_links.proofs.links.Links.flip.Goals as goal
 
 pub index_mut-requires-4 : goal.index_mut-requires-4

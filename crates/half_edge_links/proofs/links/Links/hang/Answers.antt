@@ -1,12 +1,12 @@
 use Rattle.std.proofs.Common.{◌≡◌, refl, length, arith}
 use Rattle.half_edge_links.specs.contracts.links.Links.{the_view}
 use Rattle.half_edge_links.specs.Grow.{hung}
-use Rattle.half_edge_links.proofs.Valid.{valid_as, valid_hung}
-use Rattle.half_edge_links.proofs.Hang.{hangs}
-use Rattle.half_edge_links.proofs.Corners.{triangles_hung}
-use Rattle.half_edge_links.proofs.Outer.{outer_hung}
-use Rattle.half_edge_links.proofs.EndsKept.{ends_hung}
-use Rattle.half_edge_links.proofs.Outline.{outline_hung}
+use Rattle.half_edge_links.proofs.Sound.Valid.{valid_as, valid_hung}
+use Rattle.half_edge_links.proofs.Growing.Hang.{hangs}
+use Rattle.half_edge_links.proofs.Sound.Corners.{triangles_hung}
+use Rattle.half_edge_links.proofs.OuterLoop.Outer.{outer_hung}
+use Rattle.half_edge_links.proofs.Sound.EndsKept.{ends_hung}
+use Rattle.half_edge_links.proofs.OuterLoop.Outline.{outline_hung}
 use Rattle.half_edge_links.proofs.links.Links.hang.Goals as goal
 
 pub returns-clause-mesh : goal.returns-clause-mesh

@@ -2,12 +2,12 @@ use Rattle.std.proofs.Common.{refl, ap, ◌∙◌, arith}
 use Rattle.half_edge_links.specs.contracts.links.Links.{the_view}
 use Rattle.half_edge_links.specs.Mesh.{Mesh, IsInnerEdge, edge_at}
 use Rattle.half_edge_links.specs.Insert.{insert_by}
-use Rattle.half_edge_links.proofs.InsertLemmas.{insert_by-is, inserts_is}
-use Rattle.half_edge_links.proofs.Valid.{valid_as, valid_inserted}
-use Rattle.half_edge_links.proofs.InsertTriangles.{triangles_inserted}
-use Rattle.half_edge_links.proofs.KeepsOuter.{outer_inserted}
-use Rattle.half_edge_links.proofs.EndsKept.{ends_inserted_is}
-use Rattle.half_edge_links.proofs.Outline.{outline_inserted}
+use Rattle.half_edge_links.proofs.Faces.InsertLemmas.{insert_by-is, inserts_is}
+use Rattle.half_edge_links.proofs.Sound.Valid.{valid_as, valid_inserted}
+use Rattle.half_edge_links.proofs.Faces.InsertTriangles.{triangles_inserted}
+use Rattle.half_edge_links.proofs.Faces.KeepsOuter.{outer_inserted}
+use Rattle.half_edge_links.proofs.Sound.EndsKept.{ends_inserted_is}
+use Rattle.half_edge_links.proofs.OuterLoop.Outline.{outline_inserted}
 use Rattle.half_edge_links.proofs.links.Links.insert_beside.Goals as goal
 
 pub returns-clause-mesh : goal.returns-clause-mesh

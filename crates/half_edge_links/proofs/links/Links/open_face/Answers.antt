@@ -1,9 +1,9 @@
 use Rattle.std.proofs.Common.{◌≡◌, ◌-◌, length, get_or, ap, ◌∙◌, arith, rules}
 use Rattle.half_edge_links.specs.contracts.links.Links.{the_view}
 use Rattle.half_edge_links.specs.Mesh.{Mesh, IsInner}
-use Rattle.half_edge_links.proofs.OpenSound.{opens, opened-is, in_loop}
-use Rattle.half_edge_links.proofs.Valid.{valid_opened}
-use Rattle.half_edge_links.proofs.TakenLists.{removes_triangle, ends_opened, opens_outer}
+use Rattle.half_edge_links.proofs.Removing.OpenSound.{opens, opened-is, in_loop}
+use Rattle.half_edge_links.proofs.Sound.Valid.{valid_opened}
+use Rattle.half_edge_links.proofs.Removing.TakenLists.{removes_triangle, ends_opened, opens_outer}
 use Rattle.half_edge_links.proofs.links.Links.open_face.Goals as goal
 
 pub set_loop_face-requires-2 : goal.set_loop_face-requires-2

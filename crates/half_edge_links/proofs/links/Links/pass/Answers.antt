@@ -2,9 +2,9 @@ use Rattle.std.proofs.Common.{◌≡◌, refl, ap, ◌∙◌}
 use Rattle.half_edge_links.specs.contracts.links.Links.{the_view}
 use Rattle.half_edge_links.specs.Mesh.{Mesh, edge_at}
 use Rattle.half_edge_links.specs.Pass.{passed}
-use Rattle.half_edge_links.proofs.Passing.{passes}
-use Rattle.half_edge_links.proofs.Valid.{valid_as}
-use Rattle.half_edge_links.proofs.PassKept.{valid_passed, ends_passed_is, outline_passed}
+use Rattle.half_edge_links.proofs.Growing.Passing.{passes}
+use Rattle.half_edge_links.proofs.Sound.Valid.{valid_as}
+use Rattle.half_edge_links.proofs.Growing.PassKept.{valid_passed, ends_passed_is, outline_passed}
 use Rattle.half_edge_links.proofs.links.Links.pass.Goals as goal
 
 pub returns-clause-mesh : goal.returns-clause-mesh

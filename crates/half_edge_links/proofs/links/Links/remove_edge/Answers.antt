@@ -2,12 +2,12 @@ use Rattle.std.proofs.Common.{◌≡◌, length, arith, rules}
 use Rattle.std.proofs.lemmas.List.{length-set}
 use Rattle.half_edge_links.specs.contracts.links.Links.{the_view}
 use Rattle.half_edge_links.specs.Remove.{unlinked, filled}
-use Rattle.half_edge_links.proofs.Conditions.{unlinkable}
-use Rattle.half_edge_links.proofs.RemoveSound.{last_in_range, removes, sound_removed}
-use Rattle.half_edge_links.proofs.Valid.{valid_removed}
-use Rattle.half_edge_links.proofs.ShrinkTriangles.{triangles_removed}
-use Rattle.half_edge_links.proofs.TakenLists.{removes_ends, removes_outer}
-use Rattle.half_edge_links.proofs.OutlineTaken.{outline_removed}
+use Rattle.half_edge_links.proofs.Removing.Conditions.{unlinkable}
+use Rattle.half_edge_links.proofs.Removing.RemoveSound.{last_in_range, removes, sound_removed}
+use Rattle.half_edge_links.proofs.Sound.Valid.{valid_removed}
+use Rattle.half_edge_links.proofs.Removing.ShrinkTriangles.{triangles_removed}
+use Rattle.half_edge_links.proofs.Removing.TakenLists.{removes_ends, removes_outer}
+use Rattle.half_edge_links.proofs.OuterLoop.OutlineTaken.{outline_removed}
 use Rattle.half_edge_links.proofs.links.Links.remove_edge.Goals as goal
 
 pub rename_out-requires-clause-vertex : goal.rename_out-requires-clause-vertex

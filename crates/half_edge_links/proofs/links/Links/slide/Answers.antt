@@ -2,10 +2,10 @@ use Rattle.std.proofs.Common.{◌≡◌, refl, ap, ◌∙◌}
 use Rattle.half_edge_links.specs.contracts.links.Links.{the_view}
 use Rattle.half_edge_links.specs.Mesh.{Mesh, edge_at}
 use Rattle.half_edge_links.specs.Grow.{slid}
-use Rattle.half_edge_links.proofs.Valid.{valid_as, valid_slid}
-use Rattle.half_edge_links.proofs.Slide.{slides}
-use Rattle.half_edge_links.proofs.EndsKept.{ends_slid}
-use Rattle.half_edge_links.proofs.Outline.{outline_slid}
+use Rattle.half_edge_links.proofs.Sound.Valid.{valid_as, valid_slid}
+use Rattle.half_edge_links.proofs.Growing.Slide.{slides}
+use Rattle.half_edge_links.proofs.Sound.EndsKept.{ends_slid}
+use Rattle.half_edge_links.proofs.OuterLoop.Outline.{outline_slid}
 use Rattle.half_edge_links.proofs.links.Links.slide.Goals as goal
 
 pub returns-clause-mesh : goal.returns-clause-mesh

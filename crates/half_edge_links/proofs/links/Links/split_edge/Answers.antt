@@ -1,4 +1,4 @@
-use Rattle.half_edge_links.proofs.SplitLemmas.{flippable_inserted, corners_inserted, splits_triangles_is, kept_twice, ends_split}
+use Rattle.half_edge_links.proofs.Faces.SplitLemmas.{flippable_inserted, corners_inserted, splits_triangles_is, kept_twice, ends_split}
 use Rattle.half_edge_links.proofs.links.Links.split_edge.Goals as goal
 
 pub flip-requires : goal.flip-requires

@@ -1,7 +1,7 @@
 use Rattle.std.proofs.Common.{rules}
 use Rattle.half_edge_links.specs.Mesh.{Mesh}
-use Rattle.half_edge_links.proofs.HalfSplit.{twin_outer, flippable_beside, corners_beside, half_splits_triangles, replaced_kept, half_splits}
-use Rattle.half_edge_links.proofs.EndsKept.{ends_half}
+use Rattle.half_edge_links.proofs.Growing.HalfSplit.{twin_outer, flippable_beside, corners_beside, half_splits_triangles, replaced_kept, half_splits}
+use Rattle.half_edge_links.proofs.Sound.EndsKept.{ends_half}
 use Rattle.half_edge_links.proofs.links.Links.split_half_edge.Goals as goal
 
 pub add_face_beside-requires-clause-outer : goal.add_face_beside-requires-clause-outer

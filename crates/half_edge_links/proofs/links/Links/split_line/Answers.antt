@@ -1,6 +1,6 @@
 use Rattle.std.proofs.Common.{ℕ, ◌+◌, [], ◌∷◌, ap, rules}
-use Rattle.half_edge_links.proofs.SplitLine.{line_outer, splits_line, splits_outer}
-use Rattle.half_edge_links.proofs.EndsKept.{ends_line}
+use Rattle.half_edge_links.proofs.Growing.SplitLine.{line_outer, splits_line, splits_outer}
+use Rattle.half_edge_links.proofs.Sound.EndsKept.{ends_line}
 use Rattle.half_edge_links.proofs.links.Links.split_line.Goals as goal
 
 pub hang-requires-clause-outer : goal.hang-requires-clause-outer

@@ -3,12 +3,12 @@ use Rattle.std.proofs.lemmas.List.{get_or_read}
 use Rattle.half_edge_links.specs.contracts.links.Links.{the_view}
 use Rattle.half_edge_links.specs.Mesh.{Mesh, IsAlone, out_edge}
 use Rattle.half_edge_links.specs.Move.{IsOneOrbit}
-use Rattle.half_edge_links.proofs.OpenSound.{swap_remove_default}
-use Rattle.half_edge_links.proofs.VertexSound.{can_walk, moves_vertex}
-use Rattle.half_edge_links.proofs.Valid.{valid_moved}
-use Rattle.half_edge_links.proofs.OneOrbit.{one_orbit}
-use Rattle.half_edge_links.proofs.TakenLists.{moves_triangles, moves_ends, moves_outer}
-use Rattle.half_edge_links.proofs.OutlineTaken.{outline_moved}
+use Rattle.half_edge_links.proofs.Removing.OpenSound.{swap_remove_default}
+use Rattle.half_edge_links.proofs.Removing.VertexSound.{can_walk, moves_vertex}
+use Rattle.half_edge_links.proofs.Sound.Valid.{valid_moved}
+use Rattle.half_edge_links.proofs.Lists.OneOrbit.{one_orbit}
+use Rattle.half_edge_links.proofs.Removing.TakenLists.{moves_triangles, moves_ends, moves_outer}
+use Rattle.half_edge_links.proofs.OuterLoop.OutlineTaken.{outline_moved}
 use Rattle.half_edge_links.proofs.links.Links.swap_remove_vertex.Goals as goal
 
 pub move_named-requires-clause-walk : goal.move_named-requires-clause-walk

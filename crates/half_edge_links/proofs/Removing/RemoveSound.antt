@@ -1,0 +1,68 @@
+-- Removing an edge keeps a mesh sound.
+use Rattle.std.proofs.Common.{◌≡◌, ℕ, ◌+◌, ◌-◌, ◌%◌, ◌<◌, ◌≤◌, List, length, ap, ◌∙◌, arith}
+use Rattle.half_edge_links.specs.declared.records.HalfEdge.{HalfEdge}
+use Rattle.half_edge_links.specs.Mesh.{Mesh, IsSmall, edge_at, rev, AreSoundLinks, IsValidMesh}
+use Rattle.half_edge_links.specs.Remove.{with_unlinked, unlinked, removed, edge_naming, IsRemovable, IsSoundBut, Removes}
+use Rattle.half_edge_links.proofs.Removing.Conditions.{IsUnlinkable, unlinkable}
+use Rattle.half_edge_links.proofs.Sound.RenameSound.{sound_renamed}
+use Rattle.half_edge_links.proofs.Removing.UnlinkSound.{unlinks, sound_but}
+use Rattle.half_edge_links.proofs.Removing.FillSound.{renames_filled, counts, in_range}
+
+-- edge k of a list names elements of mesh m
+pub record IsInRange (m : Mesh) (hs : List HalfEdge) (k : ℕ) : Type 0 where
+  pub next_in : (edge_at hs k).next < length hs
+  pub prev_in : (edge_at hs k).prev < length hs
+  pub origin_in : (edge_at hs k).origin < length m.out_edges
+  pub face_in : (edge_at hs k).face ≤ length m.face_edges
+
+module _ (m : Mesh) (e : ℕ) (s : AreSoundLinks m) (can : IsUnlinkable m e) where
+  but : IsSoundBut (unlinked m e) (e - e % 2)
+  but = sound_but m (unlinked m e) e s can (unlinks m e s can)
+
+  at_last : length (unlinked m e).half_edges ≡ length m.half_edges - 2 + 2
+  at_last = let even = s.even in omega (arith, (unlinks m e s can).edge_count, can.within)
+
+  in_range_unlinked : (k : ℕ) → k < length m.half_edges → IsInRange m (with_unlinked m.half_edges e (rev e)) k
+  unfolding unlinked
+  in_range_unlinked k within =
+      let u = unlinks m e s can in
+      let b = but in
+      let k_in : k < length (unlinked m e).half_edges = rw u.edge_count within in
+      let r = in_range (unlinked m e) (length m.half_edges - 2) (e - e % 2) b at_last k k_in in
+      record {
+        next_in = r.0;
+        prev_in = r.1;
+        origin_in = rw u.vertex_count at (b.origins k k_in);
+        face_in = rw (ap length u.face_edges) at (b.faces_in k k_in);
+      }
+
+  pub removes : Removes m (removed m e) e
+  removes =
+      let u = unlinks m e s can in
+      let n = counts (unlinked m e) (length m.half_edges - 2) (e - e % 2) but at_last in
+      record {
+        between = unlinked m e;
+        unlinks = u;
+        renames = renames_filled (unlinked m e) (length m.half_edges - 2) (e - e % 2) but at_last;
+        edge_count = omega (arith, n.0, at_last, u.edge_count);
+        vertex_count = n.1 ∙ u.vertex_count;
+        face_count = n.2 ∙ ap length u.face_edges;
+      }
+
+-- in the list whose edge e was taken out, the last edge and its other side name what there is
+pub last_in_range : (m : Mesh) (e t n : ℕ) (hs : List HalfEdge) → IsValidMesh m → IsRemovable m e → t ≡ rev e → n ≡ length m.half_edges → hs ≡ with_unlinked m.half_edges e t → IsInRange m hs (n - 2) × IsInRange m hs (n - 2 + 1)
+last_in_range m e t n hs v can at_t at_n is =
+    let full = unlinkable m e v can in
+    let within = full.within in
+    let even = v.sound.even in
+    rw (is, at_t) (in_range_unlinked m e v.sound full (n - 2) (omega arith), in_range_unlinked m e v.sound full (n - 2 + 1) (omega arith))
+
+pub sound_removed : (m new : Mesh) (e : ℕ) → Removes m new e → AreSoundLinks new
+sound_removed m new e r = sound_renamed r.between new (edge_naming (length m.half_edges - 2) (e - e % 2)) r.renames
+
+pub small_removed : (m new : Mesh) (e : ℕ) → Removes m new e → IsSmall m → IsSmall new
+small_removed m new e r small = record {
+  vertices = rw r.vertex_count small.vertices;
+  edges = omega (arith, r.edge_count, small.edges);
+  faces = rw r.face_count small.faces;
+}

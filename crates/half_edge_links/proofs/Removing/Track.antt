@@ -1,0 +1,95 @@
+-- The edges that are left once one was removed, under their new indexes.
+use Rattle.std.proofs.Common.{◌≡◌, ◌≢◌, ℕ, ◌-◌, ◌%◌, ◌<◌, ◌≤◌, length, Some, sym, ap, ◌∙◌, inl, inr, arith}
+use Rattle.half_edge_links.specs.Mesh.{Mesh, origin, next, prev, face, rev, AreSoundLinks}
+use Rattle.half_edge_links.specs.Renames.{IsKeptEdge, IsRenamedEdge, pair_moved, renamed}
+use Rattle.half_edge_links.specs.Remove.{Removes, edge_naming, outer_after}
+use Rattle.half_edge_links.proofs.Removing.Conditions.{IsUnlinkable}
+use Rattle.half_edge_links.proofs.Lists.Rev.{rev-rev, rev_within}
+use Rattle.half_edge_links.proofs.Sound.RenameSound.{kept_edge}
+use Rattle.half_edge_links.proofs.Removing.UnlinkSound.{sides, sides_back, after_cases}
+use Rattle.half_edge_links.proofs.Removing.FillSound.{new_left, old_left, old_rev}
+
+-- an edge that is left
+pub record IsLeft (m : Mesh) (e k : ℕ) : Type 0 where
+  pub within : k < length m.half_edges
+  pub other : k ≢ e
+  pub other_side : k ≢ rev e
+
+-- and its other side
+pub side_left : (m : Mesh) (e k : ℕ) → AreSoundLinks m → IsLeft m e k → IsLeft m e (rev k)
+side_left m e k s l = record {
+  within = rev_within _ _ s.even l.within;
+  other = λ z. l.other_side (sym (rev-rev k) ∙ ap rev z);
+  other_side = λ z. l.other (sym (rev-rev k) ∙ ap rev z ∙ rev-rev e);
+}
+
+-- the last two directed edges take the place of e and its other side: the first of each two
+abbrev pub last_pair : Mesh → ℕ
+last_pair m = length m.half_edges - 2
+
+abbrev pub pair_at : ℕ → ℕ
+pair_at e = e - e % 2
+
+module _ (m new : Mesh) (e : ℕ) (s : AreSoundLinks m) (can : IsUnlinkable m e) (r : Removes m new e) where
+  -- the new index
+  abbrev pub name : ℕ → ℕ
+  name k = pair_moved (last_pair m) (pair_at e) k
+
+  last_even : last_pair m % 2 ≡ 0
+  last_even = let even = s.even in let w = can.within in omega arith
+
+  hole_even : pair_at e % 2 ≡ 0
+  hole_even = omega arith
+
+  below : pair_at e ≤ last_pair m
+  below = let even = s.even in let w = can.within in omega arith
+
+  pub kept_left : (k : ℕ) → IsLeft m e k → IsKeptEdge new (edge_naming (last_pair m) (pair_at e)) k
+  kept_left k l =
+      let off = sides_back m r.between e s can r.unlinks k l.other l.other_side in
+      let n = new_left (last_pair m) (pair_at e) last_even hole_even below k (omega (arith, l.within)) off.0 off.1 in
+      record { within = omega (arith, n.0, r.edge_count); back = n.1 }
+
+  pub name_in : (k : ℕ) → IsLeft m e k → name k < length new.half_edges
+  name_in k l = (kept_left k l).within
+
+  pub name_same : (a b : ℕ) → IsLeft m e a → IsLeft m e b → name a ≡ name b → a ≡ b
+  name_same a b p q same = sym (kept_left a p).back ∙ ap (pair_moved (pair_at e) (last_pair m)) same ∙ (kept_left b q).back
+
+  links : (k : ℕ) → IsLeft m e k → IsRenamedEdge r.between new (edge_naming (last_pair m) (pair_at e)) (name k) k
+  links k l = kept_edge r.between new (edge_naming (last_pair m) (pair_at e)) r.renames k (kept_left k l)
+
+  pub origin_at : (k : ℕ) → IsLeft m e k → origin new (name k) ≡ origin m k
+  origin_at k l = (links k l).links.origin ∙ r.unlinks.origins k
+
+  pub face_at : (k : ℕ) → IsLeft m e k → face new (name k) ≡ face m k
+  face_at k l = (links k l).links.face ∙ r.unlinks.faces k
+
+  pub next_at : (k : ℕ) → IsLeft m e k → k ≢ prev m e → k ≢ prev m (rev e) → next new (name k) ≡ name (next m k)
+  next_at k l a b = (links k l).links.next ∙ ap (pair_moved (last_pair m) (pair_at e)) (r.unlinks.other_next k l.other l.other_side a b)
+
+  pub next_before : (k : ℕ) → IsLeft m e k → k ≡ prev m e → next new (name k) ≡ name (next m (rev e))
+  next_before k l is = (links k l).links.next ∙ ap (pair_moved (last_pair m) (pair_at e)) (ap (next r.between) is ∙ r.unlinks.before (λ z. l.other_side (is ∙ z)))
+
+  pub next_twin_before : (k : ℕ) → IsLeft m e k → k ≡ prev m (rev e) → next new (name k) ≡ name (next m e)
+  next_twin_before k l is = (links k l).links.next ∙ ap (pair_moved (last_pair m) (pair_at e)) (ap (next r.between) is ∙ r.unlinks.twin_before (λ z. l.other (is ∙ z)))
+
+  -- each edge of the new mesh is one that is left
+  pub old_at : (h : ℕ) → h < length new.half_edges → IsLeft m e (pair_moved (pair_at e) (last_pair m) h) × (name (pair_moved (pair_at e) (last_pair m) h) ≡ h)
+  old_at h within =
+      let o = old_left (last_pair m) (pair_at e) last_even hole_even below h (omega (arith, r.edge_count)) in
+      let off = sides m r.between e s can r.unlinks (pair_moved (pair_at e) (last_pair m) h) o.1 o.2 in
+      (record { within = omega (arith, o.0); other = off.0; other_side = off.1 }, o.3)
+
+  pub rev_at : (k : ℕ) → IsLeft m e k → rev (name k) ≡ name (rev k)
+  rev_at k l =
+      let o = old_at (rev (name k)) (rev_within (name k) (length new.half_edges) r.renames.even (name_in k l)) in
+      sym o.1 ∙ ap (pair_moved (last_pair m) (pair_at e)) (old_rev (last_pair m) (pair_at e) last_even hole_even below (name k) ∙ ap rev (kept_left k l).back)
+
+  pub outer_at : (k : ℕ) → IsLeft m e k → m.outer_edge ≡ Some k → new.outer_edge ≡ Some (name k)
+  outer_at k l is =
+      let after = r.unlinks.outer_edge ∙ ap (λ o. outer_after o e (rev e) (next m e) (prev m e)) is in
+      elim (after_cases k e (rev e) (next m e) (prev m e)) [
+        | inl i ↦ absurd (elim i.0 [ inl z ↦ l.other z | inr z ↦ l.other_side z ])
+        | inr i ↦ r.renames.outer ∙ ap (renamed (pair_moved (last_pair m) (pair_at e))) (after ∙ i.2)
+      ]
