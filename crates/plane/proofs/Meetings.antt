@@ -17,7 +17,7 @@ use Rattle.plane.proofs.Lines.{bracket_of_line, left_of_two, right_of_two}
 use Rattle.plane.proofs.Segments.{line_weights, IsWhole, same-refl, same-sym, same-trans, on_of_within, on_segment-same, within_segment-same, start_on_segment, only_point, within_itself}
 use Rattle.plane.proofs.Nudges.{nudge_each}
 use Rattle.plane.proofs.Signs.{negation_is_positive, negation_not_negative, negative_is_not_positive, opposite_of_zero, sum_is_positive, sum_not_negative, zero_is_not_negative, zero_is_not_positive}
-use Rattle.plane.proofs.IntegerLaws.{neg-mul_ℤ}
+use Rattle.plane.proofs.IntegerLaws.{neg-mul_ℤ, one-*ℤ}
 
 -- one is left and the other right
 abbrev pub AreOpposite : ℤ → ℤ → Type 0
@@ -86,9 +86,6 @@ common_is_same A B s t u v p q n f g on_p on_q =
       y = one_number (p.y *ℤ q.w) (q.y *ℤ p.w) (zero_of_mul-zero_ℤ (pos-ne-zero_ℤ positive) (same_weights f.k f.l g.k g.l f.n g.n u.y u.w v.y v.w p.y p.w q.y q.w z f.y f.w g.y g.w));
     }
 
-one_times : (z : ℤ) → pos 1 *ℤ z ≡ z
-one_times z = omega (arith, ints)
-
 module _ (s t u v : Fraction) (left_u : pos 0 <ℤ bracket (vec s) (vec t) (vec u)) (right_v : bracket (vec s) (vec t) (vec v) <ℤ pos 0) where
   abbrev meeting_point : Fraction
   meeting_point = record {
@@ -106,9 +103,9 @@ module _ (s t u v : Fraction) (left_u : pos 0 <ℤ bracket (vec s) (vec t) (vec 
     k_allowed = negation_is_positive (bracket (vec s) (vec t) (vec v)) right_v;
     l_allowed = left_u;
     positive = record { lt = tt };
-    x = one_times meeting_point.x;
-    y = one_times meeting_point.y;
-    w = one_times meeting_point.w;
+    x = one-*ℤ meeting_point.x;
+    y = one-*ℤ meeting_point.y;
+    w = one-*ℤ meeting_point.w;
   }
 
   weights_on_first : (A : ℤ → Type 0) → A (bracket (vec u) (vec v) (vec t)) → A (neg_ℤ (bracket (vec u) (vec v) (vec s))) → TwoWeights A s t meeting_point
@@ -119,9 +116,9 @@ module _ (s t u v : Fraction) (left_u : pos 0 <ℤ bracket (vec s) (vec t) (vec 
     k_allowed = h;
     l_allowed = k;
     positive = record { lt = tt };
-    x = one_times meeting_point.x ∙ meeting_x (vec s) (vec t) (vec u) (vec v);
-    y = one_times meeting_point.y ∙ meeting_y (vec s) (vec t) (vec u) (vec v);
-    w = one_times meeting_point.w ∙ meeting_w (vec s) (vec t) (vec u) (vec v);
+    x = one-*ℤ meeting_point.x ∙ meeting_x (vec s) (vec t) (vec u) (vec v);
+    y = one-*ℤ meeting_point.y ∙ meeting_y (vec s) (vec t) (vec u) (vec v);
+    w = one-*ℤ meeting_point.w ∙ meeting_w (vec s) (vec t) (vec u) (vec v);
   }
 
   meet_there : OnSegment s t meeting_point → MeetAt s t u v meeting_point

@@ -13,6 +13,8 @@ use Rattle.plane.proofs.IntegerOrder.{lt_or_ge_ℤ}
 use Rattle.plane.proofs.Steps.{product_zero_left}
 use Rattle.plane_tiling.proofs.Totals.{Contains-none, total_agree, total-difference, total_at_least, total_nonneg, total_positive, total_single, total_exchanged}
 use Rattle.plane.proofs.Signs.{at_least_one_through, first_of_three_counts, one_is_above_zero, second_of_three_counts, sum_of_three_not_negative, third_of_three_counts}
+use Rattle.plane.proofs.IntegerLaws.{one-*ℤ}
+pub use Rattle.plane.proofs.Crossings.{is_true}
 
 abbrev pub bit : Bool → ℤ
 bit true = pos 1
@@ -37,10 +39,6 @@ bit_nonneg false = record { le = tt }
 pub is_pair_nonneg : (u v s t : ℕ) → pos 0 ≤ℤ is_pair u v s t
 unfolding is_pair
 is_pair_nonneg u v s t = bit_nonneg (eqb s u && eqb t v)
-
-pub is_true : (t : Bool) → T t → t ≡ true
-is_true true h = refl
-is_true false h = absurd h
 
 pub is_pair_own : (u v : ℕ) → is_pair u v u v ≡ pos 1
 unfolding is_pair
@@ -182,10 +180,7 @@ is_pair_other : (u v s t : ℕ) → (s ≡ u → t ≡ v → ⊥) → is_pair u 
 is_pair_other u v s t n = elim (is_pair_is u v s t) [ inl e ↦ e | inr e ↦ absurd (let f = pair_found u v s t (one_is_above_zero e) in n f.0 f.1) ]
 
 one_times : (b z : ℤ) → b ≡ pos 1 → b *ℤ z ≡ z
-one_times b z e = ap (λ t. t *ℤ z) e ∙ unit z
-  where
-    unit : (z : ℤ) → pos 1 *ℤ z ≡ z
-    unit z = omega (arith, ints)
+one_times b z e = ap (λ t. t *ℤ z) e ∙ one-*ℤ z
 
 -- f of y, where x is y
 abbrev only : (ℕ × ℕ → ℤ) → ℕ × ℕ → ℕ × ℕ → ℤ

@@ -10,11 +10,12 @@ use Rattle.std.proofs.lemmas.Bool.{cases_eq, cases_lt}
 use Rattle.plane.specs.Tiling.{Face}
 use Rattle.plane_tiling.specs.Local.{total, around, along, AreEdgesOf}
 use Rattle.plane.proofs.IntegerOrder.{lt_or_ge_ℤ}
-use Rattle.plane_tiling.proofs.Flows.{bit, bit_is, bit_nonneg, is_true}
+use Rattle.plane_tiling.proofs.Flows.{bit, bit_is, bit_nonneg}
 use Rattle.plane_tiling.proofs.Totals.{total_at_least, total_agree, total-sum, total_exchanged}
 use Rattle.plane.proofs.Signs.{at_most_both_ways, at_most_then_less, less_both_ways, less_in_a_ring, same_is_at_most, same_plus_zero, zero_plus_same}
 use Rattle.plane.proofs.Sides.{test_true, less_by_test}
 use Rattle.plane.proofs.Indexes.{below_or_last}
+use Rattle.plane.proofs.Crossings.{is_true}
 
 -- ---- the greatest of some numbers
 pub greatest : (f : ℕ → ℤ) (n : ℕ) → 0 < n → (k : ℕ) × (k < n) × ((j : ℕ) → j < n → f j ≤ℤ f k)

@@ -19,6 +19,7 @@ use Rattle.plane_delaunay.proofs.Tilings.Beyond.{face_across}
 use Rattle.plane_delaunay.proofs.Tilings.Walk.{IsOff, OnWay, Leaves, Step, reached, leaves_first, leaves_second, leaves_third, step, passes_between, separation, beyond}
 use Rattle.plane_delaunay.proofs.Tilings.Generic.{AllOff, IsOpen, on_line, both_left, both_right, past_left, past_right, open-swapped, AllOpen, keeps, generic_point}
 use Rattle.plane.specs.Fraction.{Fraction}
+use Rattle.std.proofs.Math.Nat.{lt-suc_self}
 
 -- ---- numbers
 turned_sum : (k l x p r x' p' r' : ℤ) → r ≡ k *ℤ x +ℤ l *ℤ p → x' ≡ x → r' ≡ r → p ≡ pos 0 → r' ≡ k *ℤ x' +ℤ l *ℤ pos 0
@@ -124,7 +125,4 @@ module _ (T : Tiling) (cs : List (ℕ × ℕ)) where
     not_above_face a b c q f inside is_open =
         let k = keeps at cs (at n) q is_open in
         let g = generic_point (rays at (at n) T.sides) k.lines (at a) (at b) (at c) q (T.turns a b c f) inside k.left in
-        walk (suc (separation T g.0 (at n))) a b c g.0 f g.1 (k.keep g.0 g.2) (rays-off at (at n) g.0 T.sides g.3) (last (separation T g.0 (at n)))
-      where
-        last : (m : ℕ) → m < suc m
-        last m = omega arith
+        walk (suc (separation T g.0 (at n))) a b c g.0 f g.1 (k.keep g.0 g.2) (rays-off at (at n) g.0 T.sides g.3) (lt-suc_self (separation T g.0 (at n)))

@@ -17,6 +17,7 @@ use Rattle.plane.specs.Circle.{gap, IsNearer}
 use Rattle.plane.specs.Tiling.{Triangulation, IsVertex, vertex, IsEdge, JoinsLine}
 use Rattle.plane.specs.Shape.{IsNearest}
 use Rattle.plane.proofs.Signs.{not_negative_plus_positive, positive_plus_not_negative, less_without_ones, magnitude_below, less_with_ones, sum_not_negative_of}
+use Rattle.std.proofs.Math.Nat.{lt-suc_self}
 
 -- ---- one coordinate
 -- where k is the mean of v and w under the weights a and b, of the sum n
@@ -154,7 +155,4 @@ module _ (t : Triangulation) (h : JoinsLine t) (p : Fraction) (v : ℕ) (hv : Is
       nearer k s = nearer_within p _ _ _ s near
 
   pub nearest_on_line : IsNearest t p v
-  nearest_on_line = record { is_vertex = hv; none_nearer = λ w hw. none_nearer (suc (nat_abs (gap (vertex t v) (vertex t w)))) w hw (next (nat_abs (gap (vertex t v) (vertex t w)))) }
-    where
-      next : (m : ℕ) → m < suc m
-      next m = omega arith
+  nearest_on_line = record { is_vertex = hv; none_nearer = λ w hw. none_nearer (suc (nat_abs (gap (vertex t v) (vertex t w)))) w hw (lt-suc_self (nat_abs (gap (vertex t v) (vertex t w)))) }

@@ -18,7 +18,7 @@ use Rattle.plane.specs.Fraction.{Point, Fraction, whole, IsNotNegative}
 use Rattle.plane.specs.Side.{side, left, right}
 use Rattle.plane.specs.Shape.{InClosedRectangle}
 use Rattle.plane_delaunay.specs.EdgeTests.{AreCornersOn, MeetsRectangle, HasPointIn}
-use Rattle.plane.proofs.Signs.{difference_not_positive, negative_of_opposite, difference_not_negative_from, sum_not_negative_of}
+use Rattle.plane.proofs.Signs.{difference_not_positive, negative_of_opposite, difference_not_negative_from, sum_not_negative_of, at_most_itself}
 use Rattle.plane.proofs.IntegerLaws.{neg-mul_ℤ}
 use Rattle.plane.proofs.Lines.{balanced}
 
@@ -302,14 +302,11 @@ module _ (lower upper : Point) (wide : lower.x ≤ℤ upper.x) (high : lower.y �
 
   corners : (P : Point → Type 0) → ((k : Point) → InBox k → P k) → P (record { x = lower.x; y = lower.y }) × P (record { x = upper.x; y = lower.y }) × P (record { x = upper.x; y = upper.y }) × P (record { x = lower.x; y = upper.y })
   corners P h = (
-    h (record { x = lower.x; y = lower.y }) (record { left = same lower.x; right = wide; below = same lower.y; above = high }),
-    h (record { x = upper.x; y = lower.y }) (record { left = wide; right = same upper.x; below = same lower.y; above = high }),
-    h (record { x = upper.x; y = upper.y }) (record { left = wide; right = same upper.x; below = high; above = same upper.y }),
-    h (record { x = lower.x; y = upper.y }) (record { left = same lower.x; right = wide; below = high; above = same upper.y }),
+    h (record { x = lower.x; y = lower.y }) (record { left = at_most_itself lower.x; right = wide; below = at_most_itself lower.y; above = high }),
+    h (record { x = upper.x; y = lower.y }) (record { left = wide; right = at_most_itself upper.x; below = at_most_itself lower.y; above = high }),
+    h (record { x = upper.x; y = upper.y }) (record { left = wide; right = at_most_itself upper.x; below = high; above = at_most_itself upper.y }),
+    h (record { x = lower.x; y = upper.y }) (record { left = at_most_itself lower.x; right = wide; below = high; above = at_most_itself upper.y }),
   )
-    where
-      same : (z : ℤ) → z ≤ℤ z
-      same z = omega (arith, ints)
 
   module _ (p q : Point) where
     P : Fraction

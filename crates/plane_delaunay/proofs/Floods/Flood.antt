@@ -18,6 +18,8 @@ use Rattle.plane_delaunay.proofs.Tilings.Walk.{OnWay, Step, reached, leaves_firs
 use Rattle.plane_delaunay.proofs.Tilings.Meets.{OnSide, IsAt, on_side-swapped, on_side_of_closed, at_here, IsEdge, edge-swapped, Shared, same, reversed, at_vertex, edges_meet, edge_outside}
 use Rattle.plane.specs.Fraction.{Fraction}
 use Rattle.plane.proofs.Segments.{start_part}
+use Rattle.plane.proofs.Signs.{index_not_negative}
+use Rattle.std.proofs.Math.Nat.{lt-suc_self}
 
 -- an end is on the side
 pub on_side-first : (a b : Fraction) → OnSide a b a
@@ -26,16 +28,13 @@ on_side-first a b = record { n = pos 1; k = pos 1; l = pos 0; n_above = record {
 nudged_sum : (n : ℕ) (s x m : ℤ) → s ≡ pos n *ℤ x +ℤ m → pos 1 *ℤ s ≡ pos n *ℤ x +ℤ pos 1 *ℤ m
 nudged_sum n s x m e = omega (arith, ints)
 
-whole_least : (n : ℕ) → pos 0 ≤ℤ pos n
-whole_least n = omega (arith, ints)
-
 same_weight : (n : ℕ) (v d : ℤ) → pos 1 *ℤ (pos n *ℤ v +ℤ pos 1 *ℤ d) ≡ pos n *ℤ v +ℤ pos 1 *ℤ d
 same_weight n v d = omega (arith, ints)
 
 -- a nudged end is on the side
 on_side-nudge : (n : ℕ) (a b : Fraction) → OnSide a b (nudge n a b)
 unfolding nudge
-on_side-nudge n a b = record { n = pos 1; k = pos n; l = pos 1; n_above = record { lt = tt }; k_least = whole_least n; l_least = record { le = tt }; along = λ u v. nudged_sum n _ (bracket u v a) (bracket u v b) (bracket-nudge u v n a b); weight = same_weight n a.w b.w }
+on_side-nudge n a b = record { n = pos 1; k = pos n; l = pos 1; n_above = record { lt = tt }; k_least = index_not_negative n; l_least = record { le = tt }; along = λ u v. nudged_sum n _ (bracket u v a) (bracket u v b) (bracket-nudge u v n a b); weight = same_weight n a.w b.w }
 
 -- right of a line, so left of it turned round
 pub swapped_above : (u v q : Fraction) → bracket u v q <ℤ pos 0 → pos 0 <ℤ bracket v u q
@@ -233,9 +232,6 @@ module _ (T : Tiling) where
       edge_vertices a b (inl s) = (T.corner a b s.0 s.1, corner_2 T a b s.0 s.1)
       edge_vertices a b (inr s) = (corner_2 T b a s.0 s.1, T.corner b a s.0 s.1)
 
-      last_of : (m : ℕ) → m < suc m
-      last_of m = omega arith
-
       -- from one edge at a vertex of the set to another, off its line
       star_off : (v b d : ℕ) → K (at v) → IsEdge T v b → S v b → IsEdge T v d → ¬ (bracket (at v) (at b) (at d) ≡ pos 0) → S v d
       star_off v b d kv hb sb hd off =
@@ -253,7 +249,7 @@ module _ (T : Tiling) where
             hull = T.nudge_in_hull n (at v) (at b) (T.vertex_in_hull v hv) (T.vertex_in_hull b (edge_vertices v b hb).1);
             off = λ e. off (other_side (sym (nudge-on (at v) (at d) n (at v) (at b) (bracket-first (at v) (at d))) ∙ e));
           })
-          (last_of (separation T y z))
+          (lt-suc_self (separation T y z))
         where
           n : ℕ
           n = suc (sum_by (both_sizes (at b)) T.sides + sum_by (both_sizes (at d)) T.sides)
@@ -381,4 +377,4 @@ module _ (T : Tiling) where
       -- a flood from one edge that meets the set finds each other
       pub flood_finds : (a b u v : ℕ) → IsEdge T a b → S a b → InShape a b → IsEdge T u v → InShape u v → S u v
       flood_finds a b u v ha sa (y, ky, oy) hu (z, kz, oz) =
-          finds u v hu z kz oz (edge_in_hull u v z hu oz) (suc (separation T y z)) y (record { a = a; b = b; edge = ha; found = sa; on_edge = oy; is_in = ky; hull = edge_in_hull a b y ha oy }) (last_of (separation T y z))
+          finds u v hu z kz oz (edge_in_hull u v z hu oz) (suc (separation T y z)) y (record { a = a; b = b; edge = ha; found = sa; on_edge = oy; is_in = ky; hull = edge_in_hull a b y ha oy }) (lt-suc_self (separation T y z))

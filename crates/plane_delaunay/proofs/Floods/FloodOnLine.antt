@@ -24,8 +24,9 @@ use Rattle.plane.specs.Tiling.{Triangulation, IsVertex, vertex, IsEdge, AreNeigh
 use Rattle.plane.specs.Location.{Location, on_vertex, on_edge, on_face, outside_hull, no_triangulation, IsLocation}
 use Rattle.plane.specs.Shape.{IsEdgeIn}
 use Rattle.plane_delaunay.specs.Flood.{Region, InRegion, HasStart, IsFloodedByVertices}
-use Rattle.plane.proofs.Signs.{at_most_through, at_most_times_one, less_is_not_same, same_is_at_most, magnitude_below}
+use Rattle.plane.proofs.Signs.{at_most_through, at_most_times_one, less_is_not_same, same_is_at_most, magnitude_below, at_most_itself}
 use Rattle.plane.proofs.Indexes.{one_below}
+use Rattle.std.proofs.Math.Nat.{lt-suc_self}
 
 -- ---- either way round
 
@@ -58,9 +59,6 @@ first_part m x y z h k n = magnitude_below m (z -ℤ x) (y -ℤ x) (omega (arith
 
 second_part : (m : ℕ) (x y z : ℤ) → x <ℤ z → z <ℤ y → nat_abs (y -ℤ x) < suc m → nat_abs (y -ℤ z) < m
 second_part m x y z h k n = magnitude_below m (y -ℤ z) (y -ℤ x) (omega (arith, ints)) (omega (arith, ints)) n
-
-next_number : (m : ℕ) → m < suc m
-next_number m = omega arith
 
 data Compared (a b : ℤ) : Type 0 where
   less : a <ℤ b → Compared a b
@@ -143,7 +141,7 @@ module _ (t : Triangulation) (h : JoinsLine t) where
     ]
 
     pub first_edge : (c : ℕ) × IsEdge t i c
-    first_edge = edge_ahead (suc (nat_abs (far j -ℤ far i))) i j hi hj (subst (λ z. z <ℤ far j) (sym start_far) end_far) (next_number _)
+    first_edge = edge_ahead (suc (nat_abs (far j -ℤ far i))) i j hi hj (subst (λ z. z <ℤ far j) (sym start_far) end_far) (lt-suc_self _)
 
     module _ (region : Region) where
       abbrev K : Fraction → Type 0
@@ -218,9 +216,9 @@ module _ (t : Triangulation) (h : JoinsLine t) where
                 turned_join found n k (flooded.next a n k first (turned_edge t K k n d))
 
             go : Compared (far a) (far k) → Joins found k n
-            go (less l) = here ((chain (suc (nat_abs (far k -ℤ far a))) a k ha hk l (next_number _) ka kk).0 s)
+            go (less l) = here ((chain (suc (nat_abs (far k -ℤ far a))) a k ha hk l (lt-suc_self _) ka kk).0 s)
             go (equal e) = beside (one_place a k ha hk e) s
-            go (more l) = here ((chain (suc (nat_abs (far a -ℤ far k))) k a hk ha l (next_number _) kk ka).1 s)
+            go (more l) = here ((chain (suc (nat_abs (far a -ℤ far k))) k a hk ha l (lt-suc_self _) kk ka).1 s)
 
         module _ (s : Joins found i j) (e : IsEdgeIn K t i j) where
           abbrev x : Fraction
@@ -232,14 +230,11 @@ module _ (t : Triangulation) (h : JoinsLine t) where
           end_above : far i ≤ℤ far j
           end_above = at_most_through (far i) (pos 0) (far j) (same_is_at_most (far i) (pos 0) start_far) (weak end_far)
 
-          self_le : (z : ℤ) → z ≤ℤ z
-          self_le z = omega (arith, ints)
-
           -- an edge with both ends after j
           after : (k n : ℕ) → IsVertex t k → IsVertex t n → IsEdgeIn K t k n → far j ≤ℤ far k → far k ≤ℤ far n → Joins found k n
           after k n hk hn d p q = found_from j k n hj hk
-              (between x y j hj e.1.2 d.1.2 here_line ly (at_most i j x e.1.1 (far j) end_above (self_le (far j))) (at_least k n y d.1.1 (far j) p (at_most_through (far j) (far k) (far n) p q)))
-              (between x y k hk e.1.2 d.1.2 here_line ly (at_most i j x e.1.1 (far k) (at_most_through (far i) (far j) (far k) end_above p) p) (at_least k n y d.1.1 (far k) (self_le (far k)) q))
+              (between x y j hj e.1.2 d.1.2 here_line ly (at_most i j x e.1.1 (far j) end_above (at_most_itself (far j))) (at_least k n y d.1.1 (far j) p (at_most_through (far j) (far k) (far n) p q)))
+              (between x y k hk e.1.2 d.1.2 here_line ly (at_most i j x e.1.1 (far k) (at_most_through (far i) (far j) (far k) end_above p) p) (at_least k n y d.1.1 (far k) (at_most_itself (far k)) q))
               d (i, turned_join found i j s)
             where
               y : Fraction
@@ -251,8 +246,8 @@ module _ (t : Triangulation) (h : JoinsLine t) where
           -- an edge with both ends before i
           before : (k n : ℕ) → IsVertex t k → IsVertex t n → IsEdgeIn K t k n → far k ≤ℤ far i → far n ≤ℤ far k → Joins found k n
           before k n hk hn d p q = found_from i k n hi hk
-              (between y x i hi d.1.2 e.1.2 ly here_line (at_most k n y d.1.1 (far i) p (at_most_through (far n) (far k) (far i) q p)) (at_least i j x e.1.1 (far i) (self_le (far i)) end_above))
-              (between y x k hk d.1.2 e.1.2 ly here_line (at_most k n y d.1.1 (far k) (self_le (far k)) q) (at_least i j x e.1.1 (far k) p (at_most_through (far k) (far i) (far j) p end_above)))
+              (between y x i hi d.1.2 e.1.2 ly here_line (at_most k n y d.1.1 (far i) p (at_most_through (far n) (far k) (far i) q p)) (at_least i j x e.1.1 (far i) (at_most_itself (far i)) end_above))
+              (between y x k hk d.1.2 e.1.2 ly here_line (at_most k n y d.1.1 (far k) (at_most_itself (far k)) q) (at_least i j x e.1.1 (far k) p (at_most_through (far k) (far i) (far j) p end_above)))
               d (j, s)
             where
               y : Fraction

@@ -22,7 +22,7 @@ use Rattle.plane.specs.Tiling.{Triangulation, IsVertex, vertex, IsEdge, AreNeigh
 use Rattle.plane.specs.Location.{Location, on_vertex, on_edge, on_face, outside_hull, no_triangulation, IsLocation}
 use Rattle.plane.specs.Shape.{IsVertexIn, IsEdgeIn}
 use Rattle.plane_delaunay.specs.Flood.{Region, circle, rectangle, InRegion, IsFlooded, IsFloodedByVertices, IsFloodedAround, HasStart, start_point, IsTried}
-use Rattle.plane.proofs.Signs.{at_most_times_one}
+use Rattle.plane.proofs.Signs.{at_most_times_one, at_most_itself}
 use Rattle.plane.proofs.Indexes.{one_below}
 
 radius_least : (g r w : ℤ) → pos 0 ≤ℤ g → g ≤ℤ (r *ℤ (w *ℤ w)) → pos 0 <ℤ w → pos 0 ≤ℤ r
@@ -37,15 +37,12 @@ corners_in_order a b x w h k p = le_of_mul-le-mul_ℤ {k = w} {x = a} {y = b} p 
 whole_high : (a b : ℤ) → a ≤ℤ b → a ≤ℤ (b *ℤ pos 1)
 whole_high a b h = omega (arith, ints)
 
-self_most : (a : ℤ) → a ≤ℤ a
-self_most a = omega (arith, ints)
-
 pub region_has_start : (region : Region) (p : Fraction) → InRegion region p → InRegion region (whole (start_point region))
 region_has_start (circle c r) p h = record { near = at_centre (gap (whole c) (whole c)) r (gap_of_none (whole c)) (radius_least (gap (whole c) p) r p.w (gap_not_negative (whole c) p) h.near p.positive) }
 region_has_start (rectangle lower upper) p h = record {
-  left = at_most_times_one lower.x lower.x (self_most lower.x);
+  left = at_most_times_one lower.x lower.x (at_most_itself lower.x);
   right = whole_high lower.x upper.x (corners_in_order lower.x upper.x p.x p.w h.left h.right p.positive);
-  below = at_most_times_one lower.y lower.y (self_most lower.y);
+  below = at_most_times_one lower.y lower.y (at_most_itself lower.y);
   above = whole_high lower.y upper.y (corners_in_order lower.y upper.y p.y p.w h.below h.above p.positive);
 }
 

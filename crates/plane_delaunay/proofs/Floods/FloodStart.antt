@@ -22,6 +22,7 @@ use Rattle.plane_delaunay.proofs.Floods.Flood.{on_side-first}
 use Rattle.plane.specs.Fraction.{Fraction}
 use Rattle.plane.proofs.Signs.{last_of_three}
 use Rattle.plane.proofs.Lines.{balanced}
+use Rattle.std.proofs.Math.Nat.{lt-suc_self}
 
 -- ---- numbers
 -- three numbers that are not below 0 and sum to 0
@@ -244,10 +245,7 @@ module _ (T : Tiling) where
                 found (inr b) = finds y covered ky b (less_again (separation T x y) (separation T x c) m (far_end_nearer T o.a o.b o.c x c y o.is_face way (zero_weak_left on) l o.right) less)
 
     pub border_of_outside : (c : Fraction) → IsCovered T x → K c → IsBeyond T c → BorderIn
-    border_of_outside c covered kc o = from_outside (suc (separation T x c)) c covered kc o (last (separation T x c))
-      where
-        last : (m : ℕ) → m < suc m
-        last m = omega arith
+    border_of_outside c covered kc o = from_outside (suc (separation T x c)) c covered kc o (lt-suc_self (separation T x c))
 
     -- from a point strictly inside a face
     abbrev pub MeetsSide : ℕ → ℕ → Type 0

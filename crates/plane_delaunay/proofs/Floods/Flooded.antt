@@ -29,6 +29,7 @@ use Rattle.plane.specs.Shape.{IsEdgeIn}
 use Rattle.plane_delaunay.specs.Flood as F
 use Rattle.plane_delaunay.specs.Flood.{Region, InRegion, HasStart}
 use Rattle.plane.proofs.Signs.{same_plus_no_part}
+use Rattle.plane.proofs.IntegerLaws.{one-*ℤ}
 
 -- ---- a point's coordinates as brackets
 probe : ℤ → ℤ → Fraction
@@ -82,9 +83,6 @@ pub side_of_segment : (a b x : Fraction) → OnSegment a b x → OnSide a b x
 side_of_segment a b x m = let t = two_weights IsNotNegative a b x m in
     record { n = t.n; k = t.k; l = t.l; n_above = t.positive; k_least = t.k_allowed; l_least = t.l_allowed; along = weights_along IsNotNegative a b x t; weight = t.w }
 
-one_time : (z : ℤ) → pos 1 *ℤ z ≡ z
-one_time z = omega (arith, ints)
-
 both_ways : (i c j m n k l n' k' l' : ℤ) → n *ℤ i ≡ k *ℤ c +ℤ l *ℤ j → n' *ℤ i ≡ k' *ℤ c +ℤ l' *ℤ m → i ≡ pos 0 → j ≡ pos 0 → pos 0 <ℤ k → pos 0 <ℤ k' → pos 0 <ℤ l' → pos 0 <ℤ m → ⊥
 both_ways i c j m n k l n' k' l' e e' hi hj hk hk' hl' hm = left_not_zero (mul-pos_ℤ {a = l'} {b = m} hl' hm) none_left
   where
@@ -97,7 +95,7 @@ both_ways i c j m n k l n' k' l' e e' hi hj hk hk' hl' hm = left_not_zero (mul-p
 -- ---- convex sets, in the words of the walk
 module _ (K : Fraction → Type 0) (convex : IsConvex K) where
   on_way : (x p x' : Fraction) → OnWay x p x' → K x → K p → K x'
-  on_way x p x' w kx kp = convex x p x' kx kp (segment_from (pos 1) w.k w.l x p x' (record { lt = tt }) (weak w.k_above) (weak w.l_above) (λ u v. one_time (bracket u v x') ∙ w.along u v))
+  on_way x p x' w kx kp = convex x p x' kx kp (segment_from (pos 1) w.k w.l x p x' (record { lt = tt }) (weak w.k_above) (weak w.l_above) (λ u v. one-*ℤ (bracket u v x') ∙ w.along u v))
 
   at_place : (v x : Fraction) → IsAt v x → K x → K v
   at_place v x i kx = convex x x v kx kx (segment_from i.k i.n (pos 0) x x v i.k_above (weak i.n_above) (record { le = tt }) (λ s u. same_plus_no_part _ _ (bracket s u x) (i.along s u)))

@@ -9,7 +9,7 @@ use Rattle.plane.proofs.IntegerOrder.{mul-pos_ℤ, mul-nonneg_ℤ}
 use Rattle.plane_delaunay.proofs.Points.Nudges.{nudge}
 use Rattle.plane.proofs.Means.{ThreeWeights}
 use Rattle.plane.specs.Fraction.{Fraction, IsNotNegative, InHull, weighted_sum}
-use Rattle.plane.proofs.Signs.{sum_not_negative_of}
+use Rattle.plane.proofs.Signs.{sum_not_negative_of, index_not_negative}
 
 abbrev zeros : List Fraction → List ℤ
 zeros [] = []
@@ -111,15 +111,12 @@ scaled_sum : (s r n p q a b : ℤ) → s *ℤ p ≡ a → r *ℤ q ≡ b → s *
 scaled_sum s r n p q a b e d = ring_in_from (s ∷ r ∷ n ∷ p ∷ q ∷ a ∷ b ∷ []) (λ s r n p q a b. s ⊗ r ⊗ (n ⊗ p ⊕ num 1 ⊗ q)) (λ s r n p q a b. n ⊗ r ⊗ a ⊕ s ⊗ b)
     (λ s r n p q a b. (n ⊗ r, s ⊗ p, a) ∷ (s, r ⊗ q, b) ∷ []) (e, (d, tt)) tt
 
-whole_least : (n : ℕ) → pos 0 ≤ℤ pos n
-whole_least n = omega (arith, ints)
-
 pub nudge_in_hull : (cs : List Fraction) (n : ℕ) (p q : Fraction) → InHull cs p → InHull cs q → InHull cs (nudge n p q)
 unfolding nudge
 nudge_in_hull cs n p q h k = record {
   weights = blend (pos n *ℤ k.scale) h.scale h.weights k.weights;
   one_each = length-blend (pos n *ℤ k.scale) h.scale h.weights k.weights (length cs) h.one_each k.one_each;
-  allowed = blend_allowed (pos n *ℤ k.scale) h.scale h.weights k.weights (mul-nonneg_ℤ {a = pos n} {b = k.scale} (whole_least n) (weak k.positive)) (weak h.positive) h.allowed k.allowed;
+  allowed = blend_allowed (pos n *ℤ k.scale) h.scale h.weights k.weights (mul-nonneg_ℤ {a = pos n} {b = k.scale} (index_not_negative n) (weak k.positive)) (weak h.positive) h.allowed k.allowed;
   scale = h.scale *ℤ k.scale;
   positive = mul-pos_ℤ h.positive k.positive;
   x = scaled_sum h.scale k.scale (pos n) p.x q.x _ _ h.x k.x ∙ sym (blend_sum (λ c. c.x) (pos n *ℤ k.scale) h.scale h.weights k.weights cs h.one_each k.one_each);

@@ -12,9 +12,6 @@ use Rattle.plane.proofs.Steps.{weak}
 pub less_again : (i j m : ℕ) → i < j → j < suc m → i < m
 less_again i j m h k = omega arith
 
-pub swapped_sum : (t x y : ℤ) → t ≡ x +ℤ y → t ≡ y +ℤ x
-swapped_sum t x y e = omega (arith, ints)
-
 pub mix_positive : (k l v w : ℤ) → pos 0 <ℤ k → pos 0 ≤ℤ l → pos 0 <ℤ v → pos 0 <ℤ w → pos 0 <ℤ (k *ℤ v +ℤ l *ℤ w)
 mix_positive k l v w hk hl hv hw = let p = mul-pos_ℤ {a = k} {b = v} hk hv in let q = mul-nonneg_ℤ {a = l} {b = w} hl (weak hw) in omega (arith, ints)
 

@@ -6,7 +6,6 @@ use mathlib.Core.Path.{◌≡◌, sym, ◌∙◌, ap, subst}
 use mathlib.Core.Logic.{◌⊎◌, inl, inr}
 use native.Mathlib.Omega.{arith}
 use borrow.Author.Differences.{ints}
-use Rattle.plane_delaunay.proofs.Points.Numbers.{swapped_sum}
 use Rattle.plane.proofs.Steps.{weak, zero_weak_left, left_not_zero, negated_left, negated_right, product_zero_left, sum_first_two}
 use Rattle.plane.proofs.IntegerLaws.{neg-mul_ℤ}
 use Rattle.plane.proofs.IntegerOrder.{mul-pos_ℤ, mul-nonneg_ℤ, pos_of_mul-pos_ℤ, zero_of_mul-zero_ℤ, pos-ne-zero_ℤ, mul-neg_of_pos_neg_ℤ, mul-nonpos_of_nonneg_nonpos_ℤ, lt_or_ge_ℤ, sign, below, none, above, neg-pos_ℤ, zero-mul_ℤ}
@@ -14,7 +13,7 @@ use Rattle.plane_delaunay.proofs.Points.Bracket.{bracket, bracket-turned, bracke
 use Rattle.plane_delaunay.proofs.Points.Nudges.{size, nudge, bracket-nudge, nudge-above, nudge-on}
 use Rattle.plane_delaunay.proofs.Tilings.Faces.{Tiling, Between, between-swapped, between-on, between-second, between-third, side_not_inside, none_within, turns_2, corner_2}
 use Rattle.plane.specs.Fraction.{Fraction}
-use Rattle.plane.proofs.Signs.{times_one}
+use Rattle.plane.proofs.Signs.{times_one, swapped_sum}
 
 -- ---- numbers
 

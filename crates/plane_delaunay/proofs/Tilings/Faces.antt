@@ -8,13 +8,14 @@ use mathlib.Core.List.{List}
 use native.Mathlib.Omega.{arith}
 use borrow.Author.Differences.{ints}
 use Rattle.std.specs.Prelude.{sum_by}
-use Rattle.plane_delaunay.proofs.Points.Numbers.{swapped_sum, sum_none}
+use Rattle.plane_delaunay.proofs.Points.Numbers.{sum_none}
 use Rattle.plane.proofs.Steps.{weak, left_not_zero}
 use Rattle.plane.proofs.IntegerOrder.{mul-pos_ℤ, pos_of_mul-pos_ℤ}
 use Rattle.plane_delaunay.proofs.Points.Bracket.{bracket, bracket-turned, bracket-first, bracket-second}
 use Rattle.plane_delaunay.proofs.Points.Members.{Member, member-le-sum_by}
 use Rattle.plane_delaunay.proofs.Points.Nudges.{size, nudge, bracket-nudge, nudge-least, germ_sign, Closed, Inside, room, inside-nudge}
 use Rattle.plane.specs.Fraction.{Fraction}
+use Rattle.plane.proofs.Signs.{swapped_sum}
 
 -- d e f is a b c, turned
 abbrev pub IsTurned : (a b c d e f : ℕ) → Type 0

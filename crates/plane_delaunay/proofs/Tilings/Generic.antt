@@ -9,7 +9,7 @@ use native.Mathlib.Omega.{arith}
 use borrow.Author.Differences.{ints}
 use Rattle.std.specs.Prelude.{sum_by}
 use Rattle.std.proofs.lemmas.List.Sums.{sum_by-cons}
-use Rattle.plane_delaunay.proofs.Points.Numbers.{swapped_sum, mix_positive}
+use Rattle.plane_delaunay.proofs.Points.Numbers.{mix_positive}
 use Rattle.plane.proofs.Steps.{weak, weak_right, zero_weak_left, zero_weak, left_not_zero, right_not_zero}
 use Rattle.plane.proofs.IntegerLaws.{neg-mul_ℤ}
 use Rattle.plane.proofs.Solver.{◌⊖◌, ◌⊗◌, ring_over_from}
@@ -21,7 +21,7 @@ use Rattle.plane_delaunay.proofs.Tilings.Across.{none_of_sum}
 use Rattle.plane_delaunay.proofs.Tilings.Walk.{IsOff}
 use Rattle.plane.proofs.Means.{TwoWeights}
 use Rattle.plane.specs.Fraction.{Fraction, IsSame, IsNotNegative}
-use Rattle.plane.proofs.Signs.{negated_not_negative, one_times_sum}
+use Rattle.plane.proofs.Signs.{negated_not_negative, one_times_sum, swapped_sum}
 use Rattle.plane_delaunay.proofs.Floods.Flood.{swapped_above, swapped_below}
 use Rattle.plane_delaunay.proofs.Tilings.Faces.{turned-above}
 use Rattle.plane.proofs.Lines.{balanced}

@@ -6,7 +6,7 @@ use mathlib.Core.Path.{◌≡◌, refl, sym, ◌∙◌, ap, subst}
 use mathlib.Core.Logic.{◌⊎◌, inl, inr}
 use native.Mathlib.Omega.{arith}
 use borrow.Author.Differences.{ints}
-use Rattle.plane_delaunay.proofs.Points.Numbers.{swapped_sum, sum_least, sum_none}
+use Rattle.plane_delaunay.proofs.Points.Numbers.{sum_least, sum_none}
 use Rattle.plane.proofs.Steps.{weak, zero_weak_left, left_not_zero, right_not_above, product_zero_left, not_right_strict}
 use Rattle.plane.proofs.IntegerOrder.{mul-pos_ℤ, mul-nonneg_ℤ, nonneg_of_mul-nonneg_ℤ, zero_of_mul-zero_ℤ, pos-ne-zero_ℤ, Sign, sign, below, none, above, zero-mul_ℤ}
 use Rattle.plane_delaunay.proofs.Points.Bracket.{bracket, bracket-first, bracket-second, cramer, cramer-w}
@@ -15,6 +15,7 @@ use Rattle.plane_delaunay.proofs.Tilings.Faces.{Tiling, Between, none_within, si
 use Rattle.plane_delaunay.proofs.Tilings.Across.{sides_same}
 use Rattle.plane_delaunay.proofs.Tilings.Beyond.{not_second}
 use Rattle.plane.specs.Fraction.{Fraction}
+use Rattle.plane.proofs.Signs.{swapped_sum}
 
 -- x is on the closed segment of a and b, for each linear form
 pub record OnSide (a b x : Fraction) : Type 0 where

@@ -16,6 +16,7 @@ use Rattle.plane_delaunay.proofs.Tilings.Walk.{IsOff, OnWay, Leaves, Step, reach
 use Rattle.plane_delaunay.proofs.Tilings.Generic.{generic_point}
 use Rattle.plane_delaunay.proofs.Circles.Global.{rays, rays-off, off-on_way}
 use Rattle.plane.specs.Fraction.{Fraction}
+use Rattle.std.proofs.Math.Nat.{lt-suc_self}
 
 -- a pair is in a list, or not
 pub listed_or_not : (i j : ℕ) (ss : List (ℕ × ℕ)) → Member (i, j) ss ⊎ (¬ Member (i, j) ss)
@@ -98,10 +99,7 @@ module _ (T : Tiling) where
   pub covered_or_beyond : (a b c : ℕ) → IsFace a b c → (p : Fraction) → IsCovered p ⊎ IsBeyond p
   covered_or_beyond a b c f p =
       let g = generic_point (rays at p T.sides) [] (at a) (at b) (at c) (middle (at a) (at b) (at c)) (T.turns a b c f) (middle-inside (at a) (at b) (at c) (T.turns a b c f)) tt in
-      find p (suc (separation T g.0 p)) a b c g.0 f g.1 (rays-off at p g.0 T.sides g.3) (last (separation T g.0 p))
-    where
-      last : (m : ℕ) → m < suc m
-      last m = omega arith
+      find p (suc (separation T g.0 p)) a b c g.0 f g.1 (rays-off at p g.0 T.sides g.3) (lt-suc_self (separation T g.0 p))
 
   -- all vertices are on the face's side of such a side, and so is each point of each closed face
   pub vertex_not_beyond : (a b c v : ℕ) → IsFace a b c → ((d : ℕ) → ¬ IsFace b a d) → IsVertex v → pos 0 ≤ℤ bracket (at a) (at b) (at v)

@@ -24,7 +24,7 @@ use Rattle.plane_edits.specs.Extension.{fan, steps, last_of}
 use Rattle.plane_edits.proofs.LocalMesh.Changes.{face_from, turn_of_all, IsOnce, once_none, once_cons, once_tail, once_head, same_total}
 use Rattle.plane_edits.proofs.LocalMesh.Additions.{IsUsed, corner_of_used, AreTurning, turning_turned, around_turn_free, outer_totals}
 use Rattle.plane_edits.proofs.Insertion.Extension.{IsRun, run_up_to, fan_from, fan_total, fans_balance, last_step, not_own_end, not_own_start}
-use Rattle.plane.proofs.Signs.{difference_is_positive, difference_not_negative, less_by_difference, same_is_at_most_of, sum_of_zeros, opposite_not_positive, at_most_both_ways}
+use Rattle.plane.proofs.Signs.{difference_is_positive, difference_not_negative, less_by_difference, same_is_at_most_of, sum_of_zeros, opposite_not_positive, at_most_both_ways, at_most_itself}
 use Rattle.plane_edits.proofs.Insertion.Hull.{factor_left}
 use Rattle.plane.proofs.Indexes.{below_or_last}
 
@@ -219,10 +219,7 @@ module _ (n : ℕ) (p : ℕ → Point) (outer now : List (ℕ × ℕ)) (new : Li
   fan_at x (y ∷ ys) s r h = elim (Contains-cases (x, y) (steps y ys) (s, r) h) [ inl e ↦ subst (λ (d : ℕ × ℕ). Contains (face x y n ∷ fan n y ys) (face d.0 d.1 n)) e (Contains-head (face x y n) (fan n y ys)) | inr k ↦ Contains-later (face x y n) (fan n y ys) (face s r n) (fan_at y ys s r k) ]
 
   ends_before : (x : ℕ) (ys : List ℕ) → x < n → IsRun n p outer x ys → (spot x ≤ℤ spot (last_of x ys)) × ((s r : ℕ) → Contains (steps x ys) (s, r) → spot r ≤ℤ spot (last_of x ys))
-  ends_before x [] hx run = (own (spot x), (λ s r h. absurd (Contains-none (s, r) h)))
-    where
-      own : (a : ℤ) → a ≤ℤ a
-      own a = omega (arith, ints)
+  ends_before x [] hx run = (at_most_itself (spot x), (λ s r h. absurd (Contains-none (s, r) h)))
   ends_before x (y ∷ ys) hx run = let rest = ends_before y ys ((m.neighbours x y).0 run.0).second run.2 in (
     on_from (rises x y run.0 run.1) rest.0,
     (λ s r h. elim (Contains-cases (x, y) (steps y ys) (s, r) h) [ inl e ↦ subst (λ (z : ℕ × ℕ). spot z.1 ≤ℤ spot (last_of y ys)) e rest.0 | inr k ↦ rest.1 s r k ]),

@@ -35,6 +35,7 @@ use Rattle.plane_edits.proofs.Legalization.Flipping as F
 use Rattle.plane.proofs.Signs.{difference_is_positive, difference_not_negative, less_by_named_difference, same_is_not_less}
 use lib.IntN.{+ℤ_comm}
 use Rattle.plane.proofs.Indexes.{less_or_more}
+use Rattle.plane.proofs.IntegerLaws.{one-*ℤ}
 
 carried-mix : (a b c : Vec3) (k : ℤ) (u : Vec3) (l : ℤ) (v : Vec3) → carried a b c (mix k u l v) ≡ k *ℤ carried a b c u +ℤ l *ℤ carried a b c v
 unfolding carried bracket
@@ -216,10 +217,7 @@ module _ (points : List Point) (u v : ℕ) where
   between k l hk hl = record { x = k *ℤ (p u).x +ℤ l *ℤ (p v).x; y = k *ℤ (p u).y +ℤ l *ℤ (p v).y; w = k *ℤ pos 1 +ℤ l *ℤ pos 1; positive = weights_positive k l hk hl }
 
   within : (k l : ℤ) (hk : pos 0 <ℤ k) (hl : pos 0 <ℤ l) → WithinSegment (whole (p u)) (whole (p v)) (between k l hk hl)
-  within k l hk hl = mean_of_two IsPositive (whole (p u)) (whole (p v)) (between k l hk hl) (record { k = k; l = l; n = pos 1; k_allowed = hk; l_allowed = hl; positive = record { lt = tt }; x = one (k *ℤ (p u).x +ℤ l *ℤ (p v).x); y = one (k *ℤ (p u).y +ℤ l *ℤ (p v).y); w = one (k *ℤ pos 1 +ℤ l *ℤ pos 1) })
-    where
-      one : (z : ℤ) → pos 1 *ℤ z ≡ z
-      one z = omega (arith, ints)
+  within k l hk hl = mean_of_two IsPositive (whole (p u)) (whole (p v)) (between k l hk hl) (record { k = k; l = l; n = pos 1; k_allowed = hk; l_allowed = hl; positive = record { lt = tt }; x = one-*ℤ (k *ℤ (p u).x +ℤ l *ℤ (p v).x); y = one-*ℤ (k *ℤ (p u).y +ℤ l *ℤ (p v).y); w = one-*ℤ (k *ℤ pos 1 +ℤ l *ℤ pos 1) })
 
   -- ---- no edge is away
   no_edge : (faces : List Face) (outer : List (ℕ × ℕ)) → LocalMesh points faces outer → IsAway points faces u v → ¬ HasSide faces u v

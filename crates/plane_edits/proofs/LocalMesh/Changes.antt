@@ -14,18 +14,15 @@ use Rattle.plane.specs.Tiling.{Face, face}
 use Rattle.plane_tiling.specs.Local.{total}
 use Rattle.plane.proofs.IntegerOrder.{lt_or_ge_ℤ}
 use Rattle.plane_tiling.proofs.Totals.{Contains-head, Contains-later, Contains-cases, Contains-none, get_or_any, total_nonneg, total_at_least, total_positive}
-use Rattle.plane_tiling.proofs.Flows.{IsTurnOf, one_of_three}
+use Rattle.plane_tiling.proofs.Flows.{IsTurnOf, one_of_three, bit_nonneg}
 use Rattle.plane_edits.specs.Change.{IsTurnFree, FacesChange}
 use Rattle.plane.proofs.Signs.{at_least_one_through, first_of_three_counts, sum_of_three_not_negative}
+use Rattle.plane.proofs.Crossings.{is_true}
 
 -- ---- a face of a list, counted
 abbrev bit : Bool → ℤ
 bit true = pos 1
 bit false = pos 0
-
-bit_nonneg : (b : Bool) → pos 0 ≤ℤ bit b
-bit_nonneg true = record { le = tt }
-bit_nonneg false = record { le = tt }
 
 turned_and : (x y z : Bool) → (x && (y && z)) ≡ (y && (z && x))
 turned_and true true true = refl
@@ -48,10 +45,6 @@ is_triple_turned i j k a b c = ap bit (turned_and (eqb a i) (eqb b j) (eqb c k))
 is_triple_nonneg : (i j k : ℕ) (f : Face) → pos 0 ≤ℤ is_triple i j k f
 unfolding is_triple
 is_triple_nonneg i j k f = bit_nonneg (eqb f.a i && (eqb f.b j && eqb f.c k))
-
-is_true : (t : Bool) → T t → t ≡ true
-is_true true h = refl
-is_true false h = absurd h
 
 is_triple_own : (i j k : ℕ) → is_triple i j k (face i j k) ≡ pos 1
 unfolding is_triple

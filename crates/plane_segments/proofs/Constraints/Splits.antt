@@ -12,8 +12,9 @@ use Rattle.plane_tiling.specs.Laws.{EdgesMeetAtVertices}
 use Rattle.plane_tiling.proofs.Edges.{turned_within}
 use Rattle.plane_edits.specs.Legal.{point_of}
 use Rattle.plane_segments.specs.Constraints.{IsHalfOf, SplitsOneOrNone, SplitIsAppend, StraightHalvesJoin}
-use Rattle.plane_segments.proofs.Crossing.EitherWay.{one_point, edge_back}
+use Rattle.plane_segments.proofs.Crossing.EitherWay.{one_point}
 use Rattle.plane_segments.proofs.Constraints.Parts.{within_parts}
+use Rattle.plane.proofs.Indexes.{turned_join}
 
 module _ (t : Triangulation) (old : List (ℕ × ℕ)) (n : ℕ) (q : Point) (meet : EdgesMeetAtVertices t) (kept : (a b : ℕ) → Joins old a b → IsEdge t a b) where
   abbrev Carry : ℕ → ℕ → Type 0
@@ -38,7 +39,7 @@ module _ (t : Triangulation) (old : List (ℕ × ℕ)) (n : ℕ) (q : Point) (me
     first_half a s = (refl, (j, subst (λ c. Joins old c j) (sym s) e, subst (λ c. Carry c j) (sym s) h))
 
     second_half : (a : ℕ) → a ≡ j → Half a n
-    second_half a s = (refl, (i, subst (λ c. Joins old c i) (sym s) (edge_back old i j e), subst (λ c. Carry c i) (sym s) (carry_back i j h)))
+    second_half a s = (refl, (i, subst (λ c. Joins old c i) (sym s) (turned_join old i j e), subst (λ c. Carry c i) (sym s) (carry_back i j h)))
 
     forth : (a b : ℕ) → (Joins old a b × ¬ IsSamePair a b i j) ⊎ (IsSamePair a b i n ⊎ IsSamePair a b n j) → (Joins old a b × ¬ Carry a b) ⊎ (Half a b ⊎ Half b a)
     forth a b (inl k) = inl (k.0, λ c. k.1 (one_pair i j a b e h k.0 c))

@@ -19,6 +19,8 @@ use Rattle.plane_segments.specs.Path.{IsCrossing}
 use Rattle.plane_segments.specs.PathLaws.{CrossingIsEitherWay}
 use Rattle.plane_segments.proofs.Crossing.Turns.{left_turn, right_turn, turns-differ}
 use Rattle.plane_segments.proofs.Walking.Steps.{edge_apart}
+use Rattle.plane.proofs.Indexes.{turned_join}
+pub use Rattle.plane.proofs.Indexes.{turned_join as edge_back}
 
 -- two points of the code at one place are one
 pub one_point : (p q : Point) → IsSame (whole p) (whole q) → p ≡ q
@@ -27,10 +29,6 @@ one_point p q e = λ i. record { x = times_one p.x q.x e.x i; y = times_one p.y 
 pub one_vertex : (t : Triangulation) → TilesHull t → (i j : ℕ) → IsVertex t i → IsVertex t j → IsSame (vertex t i) (vertex t j) → i ≡ j
 unfolding tiling
 one_vertex t h i j hi hj e = vertices_apart (tiling t h) i j hi hj (λ s u. ap (λ (q : Point). bracket s u (whole q)) (one_point (point_of t.points i) (point_of t.points j) e))
-
-pub edge_back : (pairs : List (ℕ × ℕ)) (v y : ℕ) → Joins pairs v y → Joins pairs y v
-edge_back pairs v y (inl c) = inr c
-edge_back pairs v y (inr c) = inl c
 
 module _ (t : Triangulation) (i j v y : ℕ) where
   abbrev p : ℕ → Point
@@ -45,7 +43,7 @@ module _ (t : Triangulation) (i j v y : ℕ) where
   ways : IsEdge t v y → Parts (vertex t i) (vertex t j) (vertex t v) (vertex t y) → Parts (vertex t v) (vertex t y) (vertex t i) (vertex t j) → IsCrossing t i j v y ⊎ IsCrossing t i j y v
   ways e (inr a) (inl b) = inl (record { edge = e; from_right = a.0; to_left = a.1; start = b.0; end = b.1 })
   ways e (inl a) (inr b) = inr (record {
-    edge = edge_back t.edges v y e;
+    edge = turned_join t.edges v y e;
     from_right = a.1;
     to_left = a.0;
     start = side_swapped (vertex t v) (vertex t y) (vertex t i) ∙ ap opposite b.0;

@@ -13,7 +13,7 @@ use Rattle.plane.proofs.Bracket.{Pointᵖ, points as points_shape}
 use Rattle.plane_edits.specs.Legal.{point_of}
 use Rattle.plane_segments.proofs.Crossing.Turns.{turnᵖ, turn-same}
 use Rattle.plane_segments.specs.Measure.{comes_before, is_right, one_if, rank_below}
-use Rattle.plane.proofs.Signs.{at_most_both_ways, difference_of_zeros, negated_negative, negated_not_negative, same_after_shift, same_have_no_difference, sum_not_negative_of, sum_of_zeros_from, zero_of_square}
+use Rattle.plane.proofs.Signs.{at_most_both_ways, difference_of_zeros, negated_negative, negated_not_negative, same_after_shift, same_have_no_difference, sum_not_negative_of, sum_of_zeros_from, zero_of_square, at_most_itself}
 use Rattle.plane.proofs.Sides.{test_false, test_true, less_by_test}
 use lib.IntN.{*ℤ_comm}
 
@@ -159,10 +159,7 @@ and_off true b h = h
 and_off false b h = refl
 
 not_before_itself : (i p : Point) → comes_before i p p ≡ false
-not_before_itself i p = rw (test_false (pos 0) (turn_at i p p) (zero_weak (turn-same i p)), test_false (turn_at i p p) (pos 0) (zero_weak_left (turn-same i p))) (test_false (squared_way i p) (squared_way i p) (own (squared_way i p)))
-  where
-    own : (z : ℤ) → z ≤ℤ z
-    own z = omega (arith, ints)
+not_before_itself i p = rw (test_false (pos 0) (turn_at i p p) (zero_weak (turn-same i p)), test_false (turn_at i p p) (pos 0) (zero_weak_left (turn-same i p))) (test_false (squared_way i p) (squared_way i p) (at_most_itself (squared_way i p)))
 
 -- what comes before has the lesser rank
 pub rank_falls : (points : List Point) (i j w : Point) (k : ℕ) → k < length points → turn_at i j (point_of points k) <ℤ pos 0 → turn_at i j w <ℤ pos 0 → IsBefore i (point_of points k) w → rank_below points i j (point_of points k) (length points) < rank_below points i j w (length points)

@@ -11,7 +11,7 @@ use Rattle.plane_segments.specs.Path.{ComesAfterOnRight, ComesAfterOnLeft}
 use Rattle.plane_segments.specs.PathLaws.{EndsAreOrdered, LastHasNoneAfter}
 use Rattle.plane_segments.proofs.Crossing.Falling.{IsBefore, IsBefore-trans}
 use Rattle.plane_segments.proofs.Crossing.Turns.{left_turn, right_turn, no_turn, turn_left, turn-swapped, turn-same, mirrored, turn-mirrored, way-mirrored}
-use Rattle.plane.proofs.Signs.{opposite_of_negative, opposite_of_positive, opposite_of_zero, positive_of_opposite, zero_is_not_above, zero_is_not_below, at_most_if_not_less}
+use Rattle.plane.proofs.Signs.{opposite_of_negative, opposite_of_positive, opposite_of_zero, positive_of_opposite, zero_is_not_above, zero_is_not_below, at_most_if_not_less, not_below_itself}
 use Rattle.plane.proofs.Areas.{right_if_negative, on_if_zero}
 
 -- ---- by turns
@@ -20,9 +20,6 @@ below_back a b e h = omega (arith, ints)
 
 level_back : (a b : ℤ) → a ≡ neg_ℤ b → a ≡ pos 0 → b ≡ pos 0
 level_back a b e h = omega (arith, ints)
-
-itself : (z : ℤ) → z <ℤ z → ⊥
-itself z h = omega (arith, ints)
 
 right_of : (i v u : Point) → IsBefore i v u → ComesAfterOnRight i v u
 right_of i v u (inl h) = inl (right_if_negative i v u (below_back (turn_at i u v) (turn_at i v u) (turn-swapped i v u) h))
@@ -59,11 +56,11 @@ left-trans i j u v w hu hv hw a b = over_back i u w (right-trans (mirrored i) (m
 
 pub right-irrefl : (i u : Point) → ¬ ComesAfterOnRight i u u
 right-irrefl i u (inl h) = zero_is_not_below (turn_at i u u) (turn-same i u) (right_turn i u u h)
-right-irrefl i u (inr h) = itself (squared_way i u) h.1
+right-irrefl i u (inr h) = not_below_itself (squared_way i u) h.1
 
 pub left-irrefl : (i u : Point) → ¬ ComesAfterOnLeft i u u
 left-irrefl i u (inl h) = zero_is_not_above (turn_at i u u) (turn-same i u) (left_turn i u u h)
-left-irrefl i u (inr h) = itself (squared_way i u) h.1
+left-irrefl i u (inr h) = not_below_itself (squared_way i u) h.1
 
 pub ends_are_ordered : EndsAreOrdered
 ends_are_ordered i j u v w = (right-trans i j u v w, left-trans i j u v w, right-irrefl i u, left-irrefl i u)

@@ -7,7 +7,8 @@ use Rattle.plane.specs.Tiling.{Triangulation, IsEdge, TilesHull, vertex}
 use Rattle.plane_edits.specs.Legal.{IsSideOfOne}
 use Rattle.plane_edits.proofs.Legalization.FlipHistory.{side_stays}
 use Rattle.plane_segments.specs.PathSteps.{PathFlipKeepsConstraints, PieceIsFree, PieceOnLineIsEdge}
-use Rattle.plane_segments.proofs.Crossing.EitherWay.{crossing_is_either_way, edge_back}
+use Rattle.plane_segments.proofs.Crossing.EitherWay.{crossing_is_either_way}
+use Rattle.plane.proofs.Indexes.{turned_join}
 
 side_of_edge : (t : Triangulation) → TilesHull t → (a b : ℕ) → IsEdge t a b → IsSideOfOne t.faces a b
 side_of_edge t h a b e = elim ((h.sides a b).0 e) [ inl f ↦ (f.0, inl f.1) | inr f ↦ (f.0, inr f.1) ]
@@ -21,7 +22,7 @@ path_flip_keeps_constraints t after constraints i j v x y z h h' free c change e
   where
     crossed : IsSamePair a b v y → Cross (vertex t i) (vertex t j) (vertex t a) (vertex t b)
     crossed (inl e) = subst₂ (λ c d. Cross (vertex t i) (vertex t j) (vertex t c) (vertex t d)) (sym e.0) (sym e.1) ((crossing_is_either_way t i j v y h free c.edge).1 (inl c))
-    crossed (inr e) = subst₂ (λ c d. Cross (vertex t i) (vertex t j) (vertex t c) (vertex t d)) (sym e.0) (sym e.1) ((crossing_is_either_way t i j y v h free (edge_back t.edges v y c.edge)).1 (inr c))
+    crossed (inr e) = subst₂ (λ c d. Cross (vertex t i) (vertex t j) (vertex t c) (vertex t d)) (sym e.0) (sym e.1) ((crossing_is_either_way t i j y v h free (turned_join t.edges v y c.edge)).1 (inr c))
 
 pub piece_is_free : PieceIsFree
 piece_is_free t i j a b n = record { apart = n.apart; first = n.first_index; second = n.second_index; none_between = n.none_between }
