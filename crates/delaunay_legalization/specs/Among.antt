@@ -1,5 +1,5 @@
 -- Some vertices, where only edges between two of them may fail the circle test.
-use Rattle.std.specs.Prelude.{◌≡◌, ℕ, ◌/◌, ◌<◌, List, length, Contains}
+use Rattle.std.specs.Prelude.{◌≡◌, ℕ, ◌*◌, ◌/◌, ◌<◌, List, length, Contains}
 use Rattle.half_edge_mesh.specs.Mesh.{Mesh, origin, rev}
 use Rattle.plane.specs.Fraction.{Point}
 use Rattle.plane.specs.Pairs.{Joins}
@@ -22,3 +22,11 @@ HasEdgesFrom m vs v ks = (h : ℕ) → h < length m.half_edges → origin m h �
 -- the edges between two of the vertices vs are among ks
 abbrev pub HasEdgesAmong : Mesh → List ℕ → List ℕ → Type 0
 HasEdgesAmong m vs ks = (v : ℕ) → Contains vs v → HasEdgesFrom m vs v ks
+
+-- the same of one of the two directions of an undirected edge alone: the even one
+abbrev pub HasIfForward : Mesh → List ℕ → ℕ → List ℕ → Type 0
+HasIfForward m vs h ks = h ≡ 2 * (h / 2) → HasIfAmong m vs h ks
+
+-- so for each edge that starts at vertex v
+abbrev pub HasForwardFrom : Mesh → List ℕ → ℕ → List ℕ → Type 0
+HasForwardFrom m vs v ks = (h : ℕ) → h < length m.half_edges → origin m h ≡ v → HasIfForward m vs h ks

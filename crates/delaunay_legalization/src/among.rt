@@ -1,9 +1,9 @@
 //! A legalization that begins with the edges between some vertices, where only these may fail.
-ghost use Rattle.std.specs.Prelude.{◌≡◌, ℕ, ◌*◌, ◌<◌, ◌≤◌, length, map, All, Contains, vec_capacity};
+ghost use Rattle.std.specs.Prelude.{◌≡◌, ◌↔◌, ℕ, ◌*◌, ◌/◌, ◌<◌, ◌≤◌, length, map, All, Contains, IsTrue, vec_capacity};
 ghost use Rattle.mesh_embedding.specs.Drawn.{faces_of};
 ghost use Rattle.mesh_embedding.specs.Legal.{AreEdges};
 ghost use Rattle.mesh_embedding.specs.Stays.{KeepsIndexes};
-ghost use Rattle.delaunay_legalization.specs.Among.{AllPassBeyond, HasEdgesAmong, HasEdgesFrom, HasIfAmong};
+ghost use Rattle.delaunay_legalization.specs.Among.{AllPassBeyond, HasEdgesAmong, HasForwardFrom, HasIfForward};
 ghost use Rattle.delaunay_legalization.specs.Constraints.{constraints_by};
 ghost use Rattle.delaunay_legalization.specs.Flips.{CountsFlips, FlipsFit};
 ghost use Rattle.delaunay_legalization.specs.Shape.{IsTriangulated, IsDelaunayTriangulation};
@@ -17,7 +17,15 @@ use half_edge_mesh::{
     Dcel, FixedDirectedEdgeHandle, FixedUndirectedEdgeHandle, FixedVertexHandle, MeshViews,
 };
 
-// Puts an edge that ends at one of some vertices into a work list, unless it is there.
+// Whether an edge is the first of its two directions.
+fn goes_forward(edge: FixedDirectedEdgeHandle) -> bool
+    ensures { IsTrue result ↔ (edge ≡ 2 * (edge / 2)) }
+{
+    edge.index() == edge.as_undirected().as_directed().index()
+}
+
+// Puts an edge that goes forward and ends at one of some vertices into a work list, unless it is
+// there.
 fn push_if_among<V, DE, UE, F>(
     dcel: &Dcel<V, DE, UE, F>,
     edge: FixedDirectedEdgeHandle,
@@ -28,17 +36,21 @@ fn push_if_among<V, DE, UE, F>(
     requires edges { AreEdges dcel.now.mesh work.old.items }
     requires room { length dcel.now.undirected ≤ vec_capacity work.old }
     ensures kept { (j : ℕ) → Contains work.old.items j → Contains work.new.items j }
-    ensures there { HasIfAmong dcel.now.mesh vertices.now edge work.new.items }
+    ensures there { HasIfForward dcel.now.mesh vertices.now edge work.new.items }
     ensures edges { AreEdges dcel.now.mesh work.new.items }
     ensures capacity { vec_capacity work.new ≡ vec_capacity work.old }
 {
+    if !goes_forward(edge) {
+        return;
+    }
     let end = dcel.directed_edge(edge).to().fix();
     if vertices.contains(&end) {
         push_side(dcel, edge, work);
     }
 }
 
-// Puts the edges from a vertex to one of some vertices into a work list, unless they are there.
+// Puts the edges that go forward from a vertex to one of some vertices into a work list, unless
+// they are there.
 fn push_from<V, DE, UE, F>(
     dcel: &Dcel<V, DE, UE, F>,
     vertex: FixedVertexHandle,
@@ -49,7 +61,7 @@ fn push_from<V, DE, UE, F>(
     requires edges { AreEdges dcel.now.mesh work.old.items }
     requires room { length dcel.now.undirected ≤ vec_capacity work.old }
     ensures kept { (j : ℕ) → Contains work.old.items j → Contains work.new.items j }
-    ensures from { HasEdgesFrom dcel.now.mesh vertices.now vertex work.new.items }
+    ensures from { HasForwardFrom dcel.now.mesh vertices.now vertex work.new.items }
     ensures edges { AreEdges dcel.now.mesh work.new.items }
     ensures capacity { vec_capacity work.new ≡ vec_capacity work.old }
 {
@@ -60,6 +72,7 @@ fn push_from<V, DE, UE, F>(
 }
 
 // Puts the edges between two of some vertices into a work list, in place of what was in the list.
+// Each is met at both ends, and put in from the one where it goes forward.
 fn push_among<V, DE, UE, F>(
     dcel: &Dcel<V, DE, UE, F>,
     vertices: &[FixedVertexHandle],
@@ -75,6 +88,7 @@ fn push_among<V, DE, UE, F>(
     for i in 0..vertices.len() {
         push_from(dcel, vertices[i], vertices, work);
     }
+    dcel.recall_invariant();
 }
 
 // Tests the edges between two of some vertices, where each other edge passes, and flips those that fail and are no constraints

@@ -18,4 +18,4 @@ loop-i-preserved g c =
     c.index-vertices-i.result c.push_from.new.work.items (vec_capacity c.push_from.new.work) c.loop-i-test.true c.index-vertices-i.is c.push_from.ensures.kept c.push_from.ensures.from c.push_from.ensures.edges c.push_from.ensures.capacity
 
 pub returns-clause-among : goal.returns-clause-among
-returns-clause-among g c = listing_ends c.args.dcel.now.mesh c.args.vertices.now c.loop-i.i c.loop-i.work.items (vec_capacity c.args.work.now) (vec_capacity c.loop-i.work) c.loop-i.invariant c.loop-i-test.false
+returns-clause-among g c = listing_ends c.args.dcel.now.mesh c.args.vertices.now c.loop-i.i c.loop-i.work.items (vec_capacity c.args.work.now) (vec_capacity c.loop-i.work) c.loop-i.invariant c.recall_invariant.ensures.whole.valid.sound c.loop-i-test.false
