@@ -1,6 +1,6 @@
 -- What the edits that insert vertices and join them by constraints make of a triangulation, step by step. Each finished
 -- step stays, and a refused step changes nothing.
-use Rattle.std.specs.Prelude.{◌≡◌, ◌≢◌, ◌⊎◌, ◌↔◌, ℕ, Bool, Option, None, Some, List, [], ◌∷◌, Result, Ok, Err, IsTrue, IsErrOf, IfErr, MatchResult}
+use Rattle.std.specs.Prelude.{◌≡◌, ◌≢◌, ◌⊎◌, ◌↔◌, ℕ, ◌≤◌, length, Bool, Option, None, Some, List, [], ◌∷◌, Result, Ok, Err, IsTrue, IsErrOf, IfErr, MatchResult}
 use Rattle.std.specs.Iterator.{Drains, Yields, YieldsThen}
 use Rattle.plane.specs.Fraction.{Point}
 use Rattle.plane.specs.Plain.{CanAdd}
@@ -11,6 +11,7 @@ use Rattle.delaunay_legalization.specs.State.{State}
 use Rattle.delaunay_edit.specs.Constrained.{constrained, constraint_edges}
 use Rattle.delaunay_edit.specs.ConstraintEdits.{AddsConstraint}
 use Rattle.delaunay_edit.specs.Edits.{InsertsVertex}
+use Rattle.delaunay_edit.specs.Headline.{AreSites, IsDelaunay}
 use Rattle.delaunay_interface.specs.declared.constraint_error.ConstraintError.{ConstraintError}
 use Rattle.delaunay_interface.specs.declared.constraint_error.ConstraintError.TheVariants.{Insertion, Conflict}
 
@@ -71,6 +72,12 @@ module _ {V D U F : Type 0} (place : V → Point) where
 
   abbrev pub JoinsThen : {R : Type 0} → ℕ → ℕ → (State V D (CdtEdge U) F → Type 0) → Result R ConstraintError → State V D (CdtEdge U) F → State V D (CdtEdge U) F → Type 0
   JoinsThen from to after result old new = RefusesToJoin from to result old new ⊎ JoinsAndThen from to after old
+
+  -- handles stay handles, all vertices are sites, and the triangulation is constrained Delaunay
+  pub record StaysReady (IsSite : Point → Type 0) (old new : State V D (CdtEdge U) F) : Type 0 where
+    pub grows : length old.vertices ≤ length new.vertices
+    pub sites : AreSites place IsSite new.vertices
+    pub headline : IsDelaunay place constraint_edges new
 
   -- two vertices were inserted and joined, up to the first refusal
   abbrev pub AddsConstraintEdge : V → V → Result Bool ConstraintError → State V D (CdtEdge U) F → State V D (CdtEdge U) F → Type 0

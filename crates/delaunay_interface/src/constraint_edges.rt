@@ -1,10 +1,10 @@
 //! Constraints between vertices that are inserted for them.
-ghost use Rattle.std.specs.Prelude.{◌≡◌, ◌<◌, ◌≤◌, List, length, IfOk};
+ghost use Rattle.std.specs.Prelude.{◌≡◌, ◌<◌, List, length, IfOk};
 ghost use Rattle.std.specs.Iterator.{IsFinite};
 ghost use Rattle.plane.specs.Tests.{InRange};
 ghost use Rattle.delaunay_edit.specs.Constrained.{constraint_edges};
 ghost use Rattle.delaunay_edit.specs.Headline.{AreSites, IsDelaunay};
-ghost use Rattle.delaunay_interface.specs.ConstraintEdges.{AddsConstraintEdge, AddsConstraintEdges, ClosesPath, ExtendsPath, InsertsEnd, JoinsVertices, MayGive, Takes};
+ghost use Rattle.delaunay_interface.specs.ConstraintEdges.{AddsConstraintEdge, AddsConstraintEdges, ClosesPath, ExtendsPath, InsertsEnd, JoinsVertices, MayGive, StaysReady, Takes};
 
 use crate::constraint_error::ConstraintError;
 use crate::triangulation::Triangulation;
@@ -31,9 +31,7 @@ impl<
         requires new_site { InRange (V.place value) → P.sites tests.now (V.place value) }
         ensures inserts { InsertsEnd V.place value result self.old self.new }
         ensures within { IfOk result (λ v. v < length self.new.vertices) }
-        ensures grows { length self.old.vertices ≤ length self.new.vertices }
-        ensures sites { AreSites V.place (P.sites tests.now) self.new.vertices }
-        ensures headline { IsDelaunay V.place constraint_edges self.new }
+        ensures ready { StaysReady V.place (P.sites tests.now) self.old self.new }
     {
         self.recall_invariant();
         match self.insert(value, tests) {
@@ -111,9 +109,7 @@ impl<
         ensures extends { (vs : List V) × Takes I.next_gives vertices vs result ×
             ExtendsPath V.place vs last result self.old self.new }
         ensures last_in { IfOk result (λ v. v < length self.new.vertices) }
-        ensures grows { length self.old.vertices ≤ length self.new.vertices }
-        ensures sites { AreSites V.place (P.sites tests.now) self.new.vertices }
-        ensures headline { IsDelaunay V.place constraint_edges self.new }
+        ensures ready { StaysReady V.place (P.sites tests.now) self.old self.new }
     {
         for vertex in vertices {
             let next = self.insert_end(vertex, tests)?;

@@ -14,7 +14,7 @@ returns-in_err-to-clause-adds g c =
     rw (p.1, p.2) (stops_at_to g.V.HasPosition.place c.args.from c.args.to c.args.self.now c.insert_end-2.new.self c.in_ok-from.from c.insert_end.new.self c.in_ok-from.ensures.inserts _ _ refl c.in_err-to.ensures.inserts)
 
 pub join_vertices-requires-clause-from_in : goal.join_vertices-requires-clause-from_in
-join_vertices-requires-clause-from_in g c = let below = c.in_ok-from.ensures.within in let more = c.in_ok-to.ensures.grows in omega (arith, below, more)
+join_vertices-requires-clause-from_in g c = let below = c.in_ok-from.ensures.within in let more = c.in_ok-to.ensures.ready.grows in omega (arith, below, more)
 
 pub returns-clause-adds : goal.returns-clause-adds
 returns-clause-adds g c =

@@ -33,19 +33,35 @@ returns-in_err-join_vertices-clause-extends g c =
       stops_at_join g.V.HasPosition.place c.loop-vertex.yielded c.args.last c.args.self.now c.loop-vertex.last c.loop-vertex.self c.loop-vertex.invariant.2 c.in-Some.vertex c.in_ok-next.next c.insert_end.new.self c.in_ok-next.ensures.inserts _ c.join_vertices.new.self c.in_err-join_vertices.ensures.joins,
     )
 
+pub returns-in_err-next-clause-ready : goal.returns-in_err-next-clause-ready
+returns-in_err-next-clause-ready g c =
+    let before = c.loop-vertex.invariant.4 in
+    let grown = c.in_err-next.ensures.ready.grows in
+    record { grows = omega (arith, before, grown); sites = c.in_err-next.ensures.ready.sites; headline = c.in_err-next.ensures.ready.headline }
+
+pub returns-in_err-join_vertices-clause-ready : goal.returns-in_err-join_vertices-clause-ready
+returns-in_err-join_vertices-clause-ready g c =
+    let before = c.loop-vertex.invariant.4 in
+    let grown = c.in_ok-next.ensures.ready.grows in
+    let same = c.join_vertices.ensures.vertices in
+    record { grows = rw same (omega (arith, before, grown)); sites = rw same c.in_ok-next.ensures.ready.sites; headline = c.join_vertices.ensures.headline }
+
 pub loop-vertex-preserved : goal.loop-vertex-preserved
 loop-vertex-preserved g c =
     let on = c.in-Some.ensures.goes.on c.loop-vertex.invariant.1 in
     let before = c.loop-vertex.invariant.4 in
-    let grown = c.in_ok-next.ensures.grows in
+    let grown = c.in_ok-next.ensures.ready.grows in
     let same = c.join_vertices.ensures.vertices in (
       on.0,
       on.1,
       one_more g.V.HasPosition.place c.loop-vertex.yielded c.args.last c.args.self.now c.loop-vertex.last c.loop-vertex.self c.loop-vertex.invariant.2 c.in-Some.vertex c.in_ok-next.next c.insert_end.new.self c.in_ok-next.ensures.inserts c.in_ok-join_vertices.field-0 c.join_vertices.new.self c.in_ok-join_vertices.ensures.joins,
       rw same c.in_ok-next.ensures.within,
       rw same (omega (arith, before, grown)),
-      rw same c.in_ok-next.ensures.sites,
+      rw same c.in_ok-next.ensures.ready.sites,
     )
+
+pub returns-clause-ready : goal.returns-clause-ready
+returns-clause-ready g c = record { grows = c.loop-vertex.invariant.4; sites = c.loop-vertex.invariant.5; headline = c.recall_invariant.ensures.headline }
 
 pub returns-clause-extends : goal.returns-clause-extends
 returns-clause-extends g c = (
