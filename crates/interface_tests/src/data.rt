@@ -1,15 +1,10 @@
 //! Data of an edge and of the outer face, written, and read after an insertion and its removal.
 
-use crate::searches::Hinted;
-use exact_tests::ExactTests;
+use crate::changes::{Constrained, Points, insert, insert_all, remove};
+use spade_delaunay::Triangulation;
 use spade_delaunay::handles::{
     FixedDirectedEdgeHandle, FixedFaceHandle, FixedUndirectedEdgeHandle, FixedVertexHandle,
 };
-use spade_delaunay::{
-    ConstrainedDelaunayTriangulation, LastUsedVertexHintGenerator, Point2, Triangulation,
-};
-
-type Points = Hinted<LastUsedVertexHintGenerator>;
 
 // The edge between the first two vertices, if there is one.
 fn first_edge<T: Triangulation>(points: &T) -> Option<FixedUndirectedEdgeHandle> {
@@ -46,36 +41,40 @@ fn write(points: &mut Points) {
     *points.face_data_mut(FixedFaceHandle::from_index(0)) = 8;
 }
 
-pub fn run(rt: &HostRuntime) -> anyhow::Result<()> {
-    let mut points = Points::new(rt.alloc());
-    for (x, y) in [(0, 1), (1, 1), (1, 0)] {
-        points.insert(Point2::new(x, y), &ExactTests)?;
-    }
-    write(&mut points);
-    print_data(rt, &points)?;
-    let added = points.insert(Point2::new(-1, -1), &ExactTests)?;
-    print_data(rt, &points)?;
-    if (added.index() as usize) < points.num_vertices() {
-        points.remove(added, &ExactTests)?;
-    }
-    print_data(rt, &points)?;
+// Writes 9 to directed edge 0, if it is there.
+fn print_directed(rt: &HostRuntime, points: &mut Points) -> anyhow::Result<()> {
     let edge = FixedDirectedEdgeHandle::from_index(0);
     if points.num_directed_edges() > 0 {
         *points.directed_edge_data_mut(edge) = 9;
         println!(rt; "directed edge {}", *points.directed_edge(edge).data())?;
     }
-    let Ok(mut constrained) = ConstrainedDelaunayTriangulation::from_delaunay(points) else {
-        return Ok(());
-    };
-    if let Some(edge) = first_edge(&constrained) {
-        if (edge.index() as usize) < constrained.num_undirected_edges() {
-            *constrained.undirected_edge_data_mut(edge) = 70;
-            let data = *constrained.undirected_edge(edge).data().data();
-            println!(rt;
-                "edge {data}, {} constraints",
-                constrained.num_constraints()
-            )?;
+    Ok(())
+}
+
+// Writes 70 to the edge between the first two vertices.
+fn print_constrained(rt: &HostRuntime, points: &mut Constrained) -> anyhow::Result<()> {
+    if let Some(edge) = first_edge(points) {
+        if (edge.index() as usize) < points.num_undirected_edges() {
+            *points.undirected_edge_data_mut(edge) = 70;
+            let data = *points.undirected_edge(edge).data().data();
+            println!(rt; "edge {data}, {} constraints", points.num_constraints())?;
         }
     }
     Ok(())
+}
+
+pub fn run(rt: &HostRuntime) -> anyhow::Result<()> {
+    let mut points = Points::new(rt.alloc());
+    insert_all(&mut points, &[(0, 1), (1, 1), (1, 0)])?;
+    write(&mut points);
+    print_data(rt, &points)?;
+    let added = insert(&mut points, (-1, -1))?;
+    print_data(rt, &points)?;
+    remove(&mut points, added)?;
+    print_data(rt, &points)?;
+    print_directed(rt, &mut points)?;
+    match Constrained::from_delaunay(points) {
+        Ok(mut constrained) => print_constrained(rt, &mut constrained),
+        Err(_) => Ok(()),
+    }
 }

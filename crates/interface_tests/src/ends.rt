@@ -1,81 +1,45 @@
 //! The iterators of both types from both ends, how many items they have, and copies of them.
+ghost use Rattle.std.specs.Prelude.{◌<◌};
 
-use crate::searches::Hinted;
-use exact_tests::ExactTests;
-use spade_delaunay::{
-    ConstrainedDelaunayTriangulation, LastUsedVertexHintGenerator, Point2, Triangulation,
-};
+use crate::changes::{Constrained, Points, insert_all};
+use crate::lasts::print_lasts;
+use spade_delaunay::Triangulation;
+use spade_delaunay::handles::FaceHandle;
 
-type Points = Hinted<LastUsedVertexHintGenerator>;
-
-// How many items are left of each list: of handles, of the Voronoi diagram, and of names.
-fn print_lengths<T: Triangulation>(rt: &HostRuntime, points: &T) -> anyhow::Result<()> {
-    let elements = [
+fn count_elements<T: Triangulation>(points: &T) -> [usize; 5] {
+    [
         points.vertices().len(),
         points.directed_edges().len(),
         points.undirected_edges().len(),
         points.all_faces().len(),
         points.inner_faces().len(),
-    ];
-    let voronoi = [
+    ]
+}
+
+fn count_voronoi<T: Triangulation>(points: &T) -> [usize; 3] {
+    [
         points.voronoi_faces().len(),
         points.directed_voronoi_edges().len(),
         points.undirected_voronoi_edges().len(),
-    ];
-    let names = [
+    ]
+}
+
+fn count_names<T: Triangulation>(points: &T) -> [usize; 5] {
+    [
         points.fixed_vertices().len(),
         points.fixed_directed_edges().len(),
         points.fixed_undirected_edges().len(),
         points.fixed_all_faces().len(),
         points.fixed_inner_faces().len(),
-    ];
-    println!(rt; "left: {elements:?} {voronoi:?} {names:?}")?;
-    Ok(())
+    ]
 }
 
-// The index of the last item of each list, in the same order.
-fn print_lasts<T: Triangulation>(rt: &HostRuntime, points: &T) -> anyhow::Result<()> {
-    let elements = [
-        points.vertices().next_back().map(|vertex| vertex.index),
-        points.directed_edges().next_back().map(|edge| edge.index),
-        points.undirected_edges().next_back().map(|edge| edge.index),
-        points.all_faces().next_back().map(|face| face.index),
-        points.inner_faces().next_back().map(|face| face.index),
-    ];
-    let voronoi = [
-        points
-            .voronoi_faces()
-            .next_back()
-            .map(|face| face.vertex.index),
-        points
-            .directed_voronoi_edges()
-            .next_back()
-            .map(|edge| edge.edge.index),
-        points
-            .undirected_voronoi_edges()
-            .next_back()
-            .map(|edge| edge.edge.index),
-    ];
-    let names = [
-        points.fixed_vertices().next_back().map(|name| name.index()),
-        points
-            .fixed_directed_edges()
-            .next_back()
-            .map(|name| name.index()),
-        points
-            .fixed_undirected_edges()
-            .next_back()
-            .map(|name| name.index()),
-        points
-            .fixed_all_faces()
-            .next_back()
-            .map(|name| name.index()),
-        points
-            .fixed_inner_faces()
-            .next_back()
-            .map(|name| name.index()),
-    ];
-    println!(rt; "last: {elements:?} {voronoi:?} {names:?}")?;
+// How many items are left of each list: of handles, of the Voronoi diagram, and of names.
+fn print_lengths<T: Triangulation>(rt: &HostRuntime, points: &T) -> anyhow::Result<()> {
+    let elements = count_elements(points);
+    let voronoi = count_voronoi(points);
+    let names = count_names(points);
+    println!(rt; "left: {elements:?} {voronoi:?} {names:?}")?;
     Ok(())
 }
 
@@ -87,8 +51,22 @@ fn count_of(indexes: [u32; 3], index: u32) -> u8 {
         .wrapping_add(u8::from(third == index))
 }
 
-// The first and the last inner face, each with how many of its corners are the vertex of this
-// index, and how many faces are left between them and in a copy that was made after the first.
+// A face with how many of its corners are the vertex of this index.
+fn print_face<V, DE, UE, F>(
+    rt: &HostRuntime,
+    face: FaceHandle<'_, V, DE, UE, F>,
+    index: u32,
+) -> anyhow::Result<()>
+    requires { 0 < face.index }
+{
+    let [first, second, third] = face.vertices();
+    let count = count_of([first.index, second.index, third.index], index);
+    println!(rt; "face {}, vertex {index} is {count} corner", face.index)?;
+    Ok(())
+}
+
+// The first and the last inner face, and how many faces are left between them and in a copy that
+// was made after the first.
 fn print_inner_faces<T: Triangulation>(
     rt: &HostRuntime,
     points: &T,
@@ -96,21 +74,14 @@ fn print_inner_faces<T: Triangulation>(
 ) -> anyhow::Result<()> {
     let mut faces = points.inner_faces();
     if let Some(face) = faces.next() {
-        let [first, second, third] = face.vertices();
-        let count = count_of([first.index, second.index, third.index], index);
-        println!(rt; "face {}, vertex {index} is {count} corner", face.index)?;
+        print_face(rt, face, index)?;
     }
     let copy = faces.clone()?;
     if let Some(face) = faces.next_back() {
-        let [first, second, third] = face.vertices();
-        let count = count_of([first.index, second.index, third.index], index);
-        println!(rt; "face {}, vertex {index} is {count} corner", face.index)?;
+        print_face(rt, face, index)?;
     }
-    println!(rt;
-        "between: {:?}, copy: {:?}",
-        faces.size_hint(),
-        copy.size_hint()
-    )?;
+    let (between, copied) = (faces.size_hint(), copy.size_hint());
+    println!(rt; "between: {between:?}, copy: {copied:?}")?;
     Ok(())
 }
 
@@ -120,11 +91,8 @@ fn print_copies<T: Triangulation>(rt: &HostRuntime, points: &T) -> anyhow::Resul
     let _ = vertices.next();
     let copy = vertices.clone()?;
     let _ = vertices.next_back();
-    println!(rt;
-        "vertices left: {}, in the copy: {}",
-        vertices.len(),
-        copy.len()
-    )?;
+    let (left, copied) = (vertices.len(), copy.len());
+    println!(rt; "vertices left: {left}, in the copy: {copied}")?;
     Ok(())
 }
 
@@ -138,11 +106,9 @@ fn print_ends<T: Triangulation>(rt: &HostRuntime, points: &T, index: u32) -> any
 pub fn run(rt: &HostRuntime) -> anyhow::Result<()> {
     let mut points = Points::new(rt.alloc());
     print_ends(rt, &points, 0)?;
-    for (x, y) in [(-1, -1), (1, -1), (1, 1), (-1, 1), (0, 0)] {
-        points.insert(Point2::new(x, y), &ExactTests)?;
-    }
+    insert_all(&mut points, &[(-1, -1), (1, -1), (1, 1), (-1, 1), (0, 0)])?;
     print_ends(rt, &points, 4)?;
-    let Ok(constrained) = ConstrainedDelaunayTriangulation::from_delaunay(points) else {
+    let Ok(constrained) = Constrained::from_delaunay(points) else {
         return Ok(());
     };
     print_ends(rt, &constrained, 4)

@@ -1,10 +1,12 @@
 //! Calls of the shared interface, with hint generators of every kind. Each line of standard input names a test.
 #![tactic(auto)]
 
+mod changes;
 mod data;
 mod ends;
 mod generators;
 mod hull;
+mod lasts;
 mod reads;
 mod searches;
 mod told;

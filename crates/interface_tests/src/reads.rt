@@ -1,14 +1,9 @@
 //! Each call that reads, of both types, in a square with its centre.
 ghost use Rattle.std.specs.Iterator.{IsFinite};
 
-use crate::searches::Hinted;
-use exact_tests::ExactTests;
+use crate::changes::{Constrained, Points, insert_all};
 use spade_delaunay::handles::FixedVertexHandle;
-use spade_delaunay::{
-    ConstrainedDelaunayTriangulation, LastUsedVertexHintGenerator, Point2, SpadeNum, Triangulation,
-};
-
-type Points = Hinted<LastUsedVertexHintGenerator>;
+use spade_delaunay::{Point2, SpadeNum, Triangulation};
 
 fn print_counts<T: Triangulation>(rt: &HostRuntime, points: &T) -> anyhow::Result<()> {
     println!(rt;
@@ -38,28 +33,40 @@ where
     count
 }
 
-// How many items the iterators give: of handles, of names, and of the Voronoi diagram.
-fn print_lists<T: Triangulation>(rt: &HostRuntime, points: &T) -> anyhow::Result<()> {
-    let elements = [
+fn count_elements<T: Triangulation>(points: &T) -> [u64; 6] {
+    [
         count(points.vertices()),
         count(points.directed_edges()),
         count(points.undirected_edges()),
         count(points.all_faces()),
         count(points.inner_faces()),
         count(points.convex_hull()),
-    ];
-    let names = [
+    ]
+}
+
+fn count_names<T: Triangulation>(points: &T) -> [u64; 5] {
+    [
         count(points.fixed_vertices()),
         count(points.fixed_directed_edges()),
         count(points.fixed_undirected_edges()),
         count(points.fixed_all_faces()),
         count(points.fixed_inner_faces()),
-    ];
-    let voronoi = [
+    ]
+}
+
+fn count_voronoi<T: Triangulation>(points: &T) -> [u64; 3] {
+    [
         count(points.voronoi_faces()),
         count(points.directed_voronoi_edges()),
         count(points.undirected_voronoi_edges()),
-    ];
+    ]
+}
+
+// How many items the iterators give: of handles, of names, and of the Voronoi diagram.
+fn print_lists<T: Triangulation>(rt: &HostRuntime, points: &T) -> anyhow::Result<()> {
+    let elements = count_elements(points);
+    let names = count_names(points);
+    let voronoi = count_voronoi(points);
     println!(rt; "{elements:?} {names:?} {voronoi:?}")?;
     Ok(())
 }
@@ -80,36 +87,46 @@ fn print_positions<T: Triangulation>(rt: &HostRuntime, points: &T) -> anyhow::Re
     Ok(())
 }
 
+// What is not there, and what is always.
+fn print_bounds<T: Triangulation>(rt: &HostRuntime, points: &T) -> anyhow::Result<()> {
+    let thousandth = FixedVertexHandle::from_index(1000);
+    let none = points.get_vertex(thousandth).is_none();
+    let outer = points.outer_face().is_outer();
+    println!(rt; "no vertex 1000: {none}, outer face: {outer}")?;
+    Ok(())
+}
+
 fn print_all<T: Triangulation>(rt: &HostRuntime, points: &T) -> anyhow::Result<()> {
     print_counts(rt, points)?;
     print_lists(rt, points)?;
     print_positions(rt, points)?;
-    let none = points
-        .get_vertex(FixedVertexHandle::from_index(1000))
-        .is_none();
-    println!(rt;
-        "no vertex 1000: {none}, outer face: {}",
-        points.outer_face().is_outer()
-    )?;
+    print_bounds(rt, points)
+}
+
+fn print_constrained(rt: &HostRuntime, points: &Constrained) -> anyhow::Result<()> {
+    print_all(rt, points)?;
+    println!(rt; "{} constraints", points.num_constraints())?;
     Ok(())
 }
 
-pub fn run(rt: &HostRuntime) -> anyhow::Result<()> {
-    let mut points = Points::new(rt.alloc());
-    print_all(rt, &points)?;
-    for (x, y) in [(-1, -1), (1, -1), (1, 1), (-1, 1), (0, 0)] {
-        points.insert(Point2::new(x, y), &ExactTests)?;
-    }
-    print_all(rt, &points)?;
-    let Ok(constrained) = ConstrainedDelaunayTriangulation::from_delaunay(points) else {
-        return Ok(());
-    };
-    print_all(rt, &constrained)?;
-    println!(rt; "{} constraints", constrained.num_constraints())?;
+// What a request for too much room tells, and a triangulation with none.
+fn print_room(rt: &HostRuntime) -> anyhow::Result<()> {
     match Points::with_capacity(rt.alloc(), 0, 2147483648, 0) {
         Ok(_) => println!(rt; "room")?,
         Err(error) => println!(rt; "refused: {error}")?,
     }
     let empty = Points::with_capacity(rt.alloc(), 0, 0, 0)?;
     print_counts(rt, &empty)
+}
+
+pub fn run(rt: &HostRuntime) -> anyhow::Result<()> {
+    let mut points = Points::new(rt.alloc());
+    print_all(rt, &points)?;
+    insert_all(&mut points, &[(-1, -1), (1, -1), (1, 1), (-1, 1), (0, 0)])?;
+    print_all(rt, &points)?;
+    let Ok(constrained) = Constrained::from_delaunay(points) else {
+        return Ok(());
+    };
+    print_constrained(rt, &constrained)?;
+    print_room(rt)
 }

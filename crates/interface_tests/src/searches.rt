@@ -1,4 +1,6 @@
 //! Where points of three rows of three are, and which vertex is nearest, as a triangulation grows.
+
+use crate::changes::insert;
 use exact_tests::ExactTests;
 use spade_delaunay::{
     DelaunayTriangulation, HintGenerator, Point2, PositionInTriangulation, Triangulation,
@@ -47,40 +49,52 @@ fn distance<L: HintGenerator<i64>>(points: &Hinted<L>, point: Point2<i64>) -> Op
     Some(x.wrapping_add(y))
 }
 
+// Where a point is.
+fn print_location<L: HintGenerator<i64>>(
+    rt: &HostRuntime,
+    points: &Hinted<L>,
+    point: Point2<i64>,
+) -> anyhow::Result<()> {
+    if validate_vertex(&point).is_err() {
+        return Ok(());
+    }
+    let kind = kind_of(points.locate(point, &ExactTests));
+    let (x, y) = (point.x, point.y);
+    match points.locate_vertex(point, &ExactTests) {
+        Some(vertex) => println!(rt; "{x} {y}: {kind} {}", vertex.fix().index())?,
+        None => println!(rt; "{x} {y}: {kind}")?,
+    }
+    Ok(())
+}
+
 fn print_answers<L: HintGenerator<i64>>(
     rt: &HostRuntime,
     points: &Hinted<L>,
 ) -> anyhow::Result<()> {
     for (x, y) in POINTS {
         let point = Point2::new(x, y);
-        if validate_vertex(&point).is_ok() {
-            let kind = kind_of(points.locate(point, &ExactTests));
-            match points.locate_vertex(point, &ExactTests) {
-                Some(vertex) => println!(rt; "{x} {y}: {kind} {}", vertex.fix().index())?,
-                None => println!(rt; "{x} {y}: {kind}")?,
-            }
-            match distance(points, point) {
-                Some(distance) => println!(rt; "distance {distance}")?,
-                None => println!(rt; "no distance")?,
-            }
+        print_location(rt, points, point)?;
+        match distance(points, point) {
+            Some(distance) => println!(rt; "distance {distance}")?,
+            None => println!(rt; "no distance")?,
         }
     }
+    Ok(())
+}
+
+fn print_counts<L: HintGenerator<i64>>(rt: &HostRuntime, points: &Hinted<L>) -> anyhow::Result<()> {
+    let (vertices, edges) = (points.num_vertices(), points.num_undirected_edges());
+    let (faces, hull) = (points.num_inner_faces(), points.convex_hull_size());
+    println!(rt; "{vertices} vertices, {edges} edges, {faces} faces, {hull} on the hull")?;
     Ok(())
 }
 
 pub fn run<L: HintGenerator<i64>>(rt: &HostRuntime) -> anyhow::Result<()> {
     let mut points: Hinted<L> = Hinted::new(rt.alloc());
     print_answers(rt, &points)?;
-    for (x, y) in POINTS {
-        points.insert(Point2::new(x, y), &ExactTests)?;
+    for place in POINTS {
+        insert(&mut points, place)?;
         print_answers(rt, &points)?;
     }
-    println!(rt;
-        "{} vertices, {} edges, {} faces, {} on the hull",
-        points.num_vertices(),
-        points.num_undirected_edges(),
-        points.num_inner_faces(),
-        points.convex_hull_size()
-    )?;
-    Ok(())
+    print_counts(rt, &points)
 }

@@ -1,9 +1,9 @@
 //! What a generator is told of insertions, an overwrite and a removal, and how often it is asked.
 
+use crate::changes::{insert_all, remove};
 use crate::generators::{Listing, Told};
 use crate::searches::Hinted;
 use exact_tests::ExactTests;
-use spade_delaunay::handles::FixedVertexHandle;
 use spade_delaunay::{ConstrainedDelaunayTriangulation, Point2, Triangulation};
 
 fn print_told(rt: &HostRuntime, points: &Hinted<Listing>) -> anyhow::Result<()> {
@@ -18,31 +18,33 @@ fn print_told(rt: &HostRuntime, points: &Hinted<Listing>) -> anyhow::Result<()> 
     Ok(())
 }
 
-pub fn run(rt: &HostRuntime) -> anyhow::Result<()> {
-    let mut points: Hinted<Listing> = Hinted::new(rt.alloc());
-    for (x, y) in [(0, 1), (1, 1), (1, 0)] {
-        points.insert(Point2::new(x, y), &ExactTests)?;
-    }
-    points.insert(Point2::new(1, 1), &ExactTests)?;
-    print_told(rt, &points)?;
+// Asks three times for the origin.
+fn ask(points: &Hinted<Listing>) {
     let center = Point2::new(0, 0);
     let _ = points.locate(center, &ExactTests);
     let _ = points.locate_vertex(center, &ExactTests);
     let _ = points.nearest_neighbor(center, &ExactTests);
-    if points.num_vertices() > 0 {
-        points.remove(FixedVertexHandle::from_index(0), &ExactTests)?;
-    }
+}
+
+fn print_constrained(rt: &HostRuntime, points: Hinted<Listing>) -> anyhow::Result<()> {
+    let Ok(constrained) = ConstrainedDelaunayTriangulation::from_delaunay(points) else {
+        return Ok(());
+    };
+    let asked = constrained.hint_generator().asked.get();
+    println!(rt; "asked {asked} times before constraints")?;
+    Ok(())
+}
+
+pub fn run(rt: &HostRuntime) -> anyhow::Result<()> {
+    let mut points: Hinted<Listing> = Hinted::new(rt.alloc());
+    insert_all(&mut points, &[(0, 1), (1, 1), (1, 0), (1, 1)])?;
+    print_told(rt, &points)?;
+    ask(&points);
+    remove(&mut points, 0)?;
     print_told(rt, &points)?;
     let copy = points.try_clone()?;
     print_told(rt, &copy)?;
     points.clear();
     print_told(rt, &points)?;
-    let Ok(constrained) = ConstrainedDelaunayTriangulation::from_delaunay(copy) else {
-        return Ok(());
-    };
-    println!(rt;
-        "asked {} times before constraints",
-        constrained.hint_generator().asked.get()
-    )?;
-    Ok(())
+    print_constrained(rt, copy)
 }
