@@ -7,6 +7,7 @@ ghost use Rattle.delaunay_shapes.specs.Tests.{corners};
 ghost use Rattle.delaunay_shape_queries.specs.Found.{FindsEdges, FindsVertices};
 ghost use Rattle.plane.specs.Shape.{InClosedCircle, InClosedRectangle};
 
+use delaunay_core::hint_generator::HintGenerator;
 use delaunay_core::math::PlaneTests;
 use delaunay_core::point::{HasPosition, Point2};
 use delaunay_interface::Triangulation;
@@ -43,8 +44,9 @@ pub type VerticesIn<'a, T> = VerticesInShapeIterator<
 /// Edges and vertices in closed rectangles and circles: of both triangulations.
 ///
 /// All vertices are sites of the tests, which also cover the four corners of a rectangle or the
-/// centre of a circle. Memory is taken as the iterator is made, and refused only there; what it
-/// gives comes in no promised order.
+/// centre of a circle. The hint generator says where the search for that corner or centre begins.
+/// Memory is taken as the iterator is made, and refused only there; what it gives comes in no
+/// promised order.
 ///
 /// The vertices of a triangulation `points` at most 5 from the origin:
 ///
@@ -74,7 +76,8 @@ pub trait FloatTriangulation: Triangulation {
     {
         self.recall_invariant();
         let rectangle = RectangleMetric::new(lower, upper);
-        edges_in_shape(self.s(), &rectangle, lower, tests, alloc)
+        let hint = self.hint_generator().get_hint(lower, tests);
+        edges_in_shape(self.s(), &rectangle, lower, hint, tests, alloc)
     }
 
     /// The vertices in a closed rectangle, each once: none where `upper` is left of `lower` or
@@ -96,7 +99,8 @@ pub trait FloatTriangulation: Triangulation {
     {
         self.recall_invariant();
         let rectangle = RectangleMetric::new(lower, upper);
-        vertices_in_shape(self.s(), &rectangle, lower, tests, alloc)
+        let hint = self.hint_generator().get_hint(lower, tests);
+        vertices_in_shape(self.s(), &rectangle, lower, hint, tests, alloc)
     }
 
     /// The edges with a point in a closed circle, each once. The squared radius is not negative.
@@ -116,7 +120,8 @@ pub trait FloatTriangulation: Triangulation {
     {
         self.recall_invariant();
         let circle = CircleMetric::new(center, radius_2);
-        edges_in_shape(self.s(), &circle, center, tests, alloc)
+        let hint = self.hint_generator().get_hint(center, tests);
+        edges_in_shape(self.s(), &circle, center, hint, tests, alloc)
     }
 
     /// The vertices in a closed circle, each once. The squared radius is not negative.
@@ -137,7 +142,8 @@ pub trait FloatTriangulation: Triangulation {
     {
         self.recall_invariant();
         let circle = CircleMetric::new(center, radius_2);
-        vertices_in_shape(self.s(), &circle, center, tests, alloc)
+        let hint = self.hint_generator().get_hint(center, tests);
+        vertices_in_shape(self.s(), &circle, center, hint, tests, alloc)
     }
 }
 

@@ -12,7 +12,7 @@ ghost use Rattle.delaunay_shapes.specs.Start.{BeginsAt, HasOuter, HasSides, HasS
 use crate::distance_metric::DistanceMetric;
 use delaunay_core::math::PlaneTests;
 use delaunay_core::point::{HasPosition, Point2};
-use delaunay_location::{PositionInTriangulation, locate};
+use delaunay_location::{PositionInTriangulation, locate_with_hint};
 use half_edge_mesh::{
     Dcel, FixedDirectedEdgeHandle, FixedFaceHandle, FixedUndirectedEdgeHandle, FixedVertexHandle,
     MeshViews,
@@ -166,7 +166,7 @@ fn edges_at<V: HasPosition, DE, UE, F, M: DistanceMetric<V::Scalar>, P: PlaneTes
 }
 
 // Edges of which one has a point in the shape, if any edge has: those at the centre of a circle or at the lower corner of a
-// rectangle, or, where that is outside, an outer edge.
+// rectangle, or, where that is outside, an outer edge. They are looked for from the vertex `hint` on.
 pub(crate) fn first_edges<
     V: HasPosition,
     DE,
@@ -178,6 +178,7 @@ pub(crate) fn first_edges<
     dcel: &Dcel<V, DE, UE, F>,
     metric: &M,
     start: Point2<V::Scalar>,
+    hint: FixedVertexHandle,
     tests: &P,
     alloc: Global,
 ) -> Result<Vec<FixedUndirectedEdgeHandle>, AllocError>
@@ -189,5 +190,11 @@ pub(crate) fn first_edges<
     ensures begun { IfOk result (λ v. IsBegunBy (IsInside (M.shape metric.now) V.place dcel.now) (length dcel.now.undirected) v.items) }
     ensures within { IfOk result (λ v. All (λ e. e < length dcel.now.undirected) v.items) }
 {
-    edges_at(dcel, metric, locate(dcel, start, tests), tests, alloc)
+    edges_at(
+        dcel,
+        metric,
+        locate_with_hint(dcel, start, hint, tests),
+        tests,
+        alloc,
+    )
 }

@@ -13,11 +13,12 @@ use crate::flood_vertices::vertices_by_flood;
 use crate::in_shape::{EdgesInShapeIterator, VerticesInShapeIterator};
 use delaunay_core::math::PlaneTests;
 use delaunay_core::point::{HasPosition, Point2};
-use half_edge_mesh::Dcel;
+use half_edge_mesh::{Dcel, FixedVertexHandle};
 use std::alloc::{AllocError, Global};
 
 /// The edges with a point in a shape, each once. The shape is a closed circle, and `start` its centre, or a closed
-/// rectangle, and `start` its lower corner. Memory is refused here alone: the iterator takes none.
+/// rectangle, and `start` its lower corner. The search begins at the vertex `hint`, or at vertex 0 where there is no such
+/// vertex. Memory is refused here alone: the iterator takes none.
 pub fn edges_in_shape<
     'a,
     V: HasPosition,
@@ -30,6 +31,7 @@ pub fn edges_in_shape<
     dcel: &'a Dcel<V, DE, UE, F>,
     metric: &M,
     start: Point2<V::Scalar>,
+    hint: FixedVertexHandle,
     tests: &P,
     alloc: Global,
 ) -> Result<EdgesInShapeIterator<'a, V, DE, UE, F>, AllocError>
@@ -40,12 +42,13 @@ pub fn edges_in_shape<
     requires begins { BeginsAt (M.shape metric.now) (place_of V.Scalar.whole start) }
     ensures { IfOk result (λ it. GivesEdgesIn (M.shape metric.now) V.place dcel.entry (edges_left it)) }
 {
-    let starts = first_edges(dcel, metric, start, tests, alloc)?;
+    let starts = first_edges(dcel, metric, start, hint, tests, alloc)?;
     edges_by_flood(dcel, metric, tests, starts.as_slice(), alloc)
 }
 
 /// The vertices in a shape, each once. The shape is a closed circle, and `start` its centre, or a closed rectangle, and
-/// `start` its lower corner. Memory is refused here alone: the iterator takes none.
+/// `start` its lower corner. The search begins at the vertex `hint`, or at vertex 0 where there is no such vertex. Memory is
+/// refused here alone: the iterator takes none.
 pub fn vertices_in_shape<
     'a,
     V: HasPosition,
@@ -58,6 +61,7 @@ pub fn vertices_in_shape<
     dcel: &'a Dcel<V, DE, UE, F>,
     metric: &M,
     start: Point2<V::Scalar>,
+    hint: FixedVertexHandle,
     tests: &P,
     alloc: Global,
 ) -> Result<VerticesInShapeIterator<'a, V, DE, UE, F>, AllocError>
@@ -68,6 +72,6 @@ pub fn vertices_in_shape<
     requires begins { BeginsAt (M.shape metric.now) (place_of V.Scalar.whole start) }
     ensures { IfOk result (λ it. GivesVerticesIn (M.shape metric.now) V.place dcel.entry (vertices_left it)) }
 {
-    let starts = first_edges(dcel, metric, start, tests, alloc)?;
+    let starts = first_edges(dcel, metric, start, hint, tests, alloc)?;
     vertices_by_flood(dcel, metric, tests, starts.as_slice(), alloc)
 }

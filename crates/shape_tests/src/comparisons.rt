@@ -9,6 +9,7 @@ use crate::counting::counting_rectangle;
 use crate::shapes::{Coordinates, Found, Shape, ends_of, found, indexes_of, point};
 use delaunay_shapes::{edges_by_filter, edges_in_shape, vertices_by_filter};
 use exact_tests::ExactTests;
+use spade_delaunay::handles::FixedVertexHandle;
 use spade_delaunay::{
     CircleMetric, Dcel, DistanceMetric, FloatTriangulation, Point2, RectangleMetric, Triangulation,
 };
@@ -155,7 +156,9 @@ fn asked_in_rectangle<T: FloatTriangulation<Vertex = Point2<i64>>>(
     requires upper { InRange (place_of (λ z. z) upper) }
 {
     let metric = counting_rectangle(lower, upper);
-    let edges = edges_in_shape(mesh_of(triangulation), &metric, lower, &ExactTests, alloc)?;
+    let first = FixedVertexHandle::from_index(0);
+    let mesh = mesh_of(triangulation);
+    let edges = edges_in_shape(mesh, &metric, lower, first, &ExactTests, alloc)?;
     Ok((ends_of(edges, alloc)?, metric.asked()))
 }
 

@@ -14,7 +14,7 @@ edges_at-requires-clause-covered g c = all_are (g.P.PlaneTests.sites c.args.test
 pub returns-clause-begun : goal.returns-clause-begun
 returns-clause-begun g c =
     let Inside : ℕ → Type 0 = IsInside (g.M.DistanceMetric.shape c.args.metric.now) g.V.HasPosition.place c.args.dcel.now in
-    if_ok (λ v. HasStarts Inside c.args.dcel.now.mesh v.items c.locate.result) (λ v. IsBegunBy Inside (length c.args.dcel.now.undirected) v.items) c.edges_at.result
+    if_ok (λ v. HasStarts Inside c.args.dcel.now.mesh v.items c.locate_with_hint.result) (λ v. IsBegunBy Inside (length c.args.dcel.now.undirected) v.items) c.edges_at.result
     (λ v s. begun_by_starts (map g.V.HasPosition.place c.args.dcel.now.vertices) c.args.dcel.now.mesh c.requires.kept.valid c.requires.kept.shape (g.M.DistanceMetric.shape c.args.metric.now) v.items
-    (place_of g.V.Scalar.SpadeNum.whole c.args.start) c.requires.begins c.locate.result c.locate.ensures s (length c.args.dcel.now.undirected) c.requires.kept.fits.undirected_fit)
+    (place_of g.V.Scalar.SpadeNum.whole c.args.start) c.requires.begins c.locate_with_hint.result c.locate_with_hint.ensures s (length c.args.dcel.now.undirected) c.requires.kept.fits.undirected_fit)
     c.edges_at.ensures.starts
