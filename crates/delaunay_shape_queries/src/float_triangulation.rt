@@ -7,7 +7,7 @@ ghost use Rattle.delaunay_shapes.specs.Tests.{corners};
 ghost use Rattle.delaunay_shape_queries.specs.Found.{FindsEdges, FindsVertices};
 ghost use Rattle.plane.specs.Shape.{InClosedCircle, InClosedRectangle};
 
-use delaunay_core::hint_generator::HintGenerator;
+use delaunay_core::HintGenerator;
 use delaunay_core::math::PlaneTests;
 use delaunay_core::point::{HasPosition, Point2};
 use delaunay_interface::Triangulation;

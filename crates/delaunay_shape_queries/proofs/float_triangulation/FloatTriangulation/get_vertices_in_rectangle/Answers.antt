@@ -35,3 +35,6 @@ vertices_in_shape-requires-clause-own_covered g c =
     let whole = g.Self.Vertex.Scalar.SpadeNum.whole in
     same_corners (g.P.PlaneTests.covered c.args.tests.now) (place_of whole c.new-rectangle.result.lower) (place_of whole c.args.lower) (place_of whole c.new-rectangle.result.upper) (place_of whole c.args.upper)
     (ap (λ p. place_of whole p) c.new-rectangle.ensures.lower) (ap (λ p. place_of whole p) c.new-rectangle.ensures.upper) c.requires.covered
+
+pub get_hint-hint-requires-clause-covered : goal.get_hint-hint-requires-clause-covered
+get_hint-hint-requires-clause-covered g c = lower_corner (g.P.PlaneTests.covered c.args.tests.now) (place_of g.Self.Vertex.Scalar.SpadeNum.whole c.args.lower) (place_of g.Self.Vertex.Scalar.SpadeNum.whole c.args.upper) c.requires.covered
