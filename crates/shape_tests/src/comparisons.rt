@@ -157,8 +157,14 @@ fn asked_in_rectangle<T: FloatTriangulation<Vertex = Point2<i64>>>(
 {
     let metric = counting_rectangle(lower, upper);
     let first = FixedVertexHandle::from_index(0);
-    let mesh = mesh_of(triangulation);
-    let edges = edges_in_shape(mesh, &metric, lower, first, &ExactTests, alloc)?;
+    let edges = edges_in_shape(
+        mesh_of(triangulation),
+        &metric,
+        lower,
+        first,
+        &ExactTests,
+        alloc,
+    )?;
     Ok((ends_of(edges, alloc)?, metric.asked()))
 }
 
