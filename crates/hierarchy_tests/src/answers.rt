@@ -3,12 +3,12 @@
 ghost use Rattle.std.specs.Prelude.{◌<◌};
 
 use crate::hints::{Hinted, distance_2, hint, right_and_wrong};
-use crate::script::{Call, index};
 use exact_tests::ExactTests;
 use spade_delaunay::handles::{FaceHandle, FixedVertexHandle};
 use spade_delaunay::{
     HintGenerator, InsertionError, Point2, PositionInTriangulation, Triangulation, validate_vertex,
 };
+use test_script::{Call, index};
 
 const SIDE: u32 = 18;
 
@@ -146,7 +146,7 @@ fn hints<L: HintGenerator<i64>>(points: &Hinted<L>, factor: u32) -> Reply {
 }
 
 fn read<L: HintGenerator<i64>>(points: &Hinted<L>, factor: u32, call: &Call<'_>) -> Reply {
-    let [x, y, z] = call.numbers;
+    let [x, y, z, ..] = call.numbers;
     let position = Point2::new(x, y);
     match call.name {
         "counts" => counts(points),
@@ -165,7 +165,7 @@ pub fn answer<L: HintGenerator<i64>>(
     factor: u32,
     call: &Call<'_>,
 ) -> Reply {
-    let [x, y, _] = call.numbers;
+    let [x, y, ..] = call.numbers;
     match call.name {
         "insert" => insert(points, x, y),
         "fill" => fill(points),

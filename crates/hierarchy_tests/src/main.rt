@@ -7,12 +7,11 @@
 mod alone;
 mod answers;
 mod hints;
-mod script;
 mod session;
 
-use script::Call;
 use session::{Session, answer};
 use std::io;
+use test_script::Call;
 
 fn main(rt: HostRuntime) -> io::Result<()> {
     let mut session = Session::new(rt.alloc());

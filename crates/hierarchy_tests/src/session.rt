@@ -3,10 +3,10 @@
 use crate::alone;
 use crate::answers::{Reply, answer as answer_of};
 use crate::hints::Hinted;
-use crate::script::Call;
 use spade_delaunay::{HierarchyHintGeneratorWithBranchFactor as Hierarchy, Triangulation};
 use std::alloc::Global;
 use std::io;
+use test_script::Call;
 
 /// One for each of the branch factors.
 #[derive(Drop)]
