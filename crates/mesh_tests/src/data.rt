@@ -46,13 +46,16 @@ pub fn map_undirected_edges(alloc: Global, mesh: &mut Mesh) -> Result<(), &'stat
     }
 }
 
+// The counts that clearing a mesh leaves.
+fn cleared(mut mesh: Mesh) -> [usize; 5] {
+    mesh.clear();
+    counts(&mesh)
+}
+
 /// A copy takes the mesh's place, which is cleared: the counts that this leaves.
 pub fn copy(mesh: &mut Mesh) -> Result<[usize; 5], &'static str> {
-    let Ok(copy) = mesh.clone() else {
-        return Err("OutOfMemory");
-    };
-    mesh.clear();
-    let left = counts(mesh);
-    *mesh = copy;
-    Ok(left)
+    match mesh.clone() {
+        Ok(copy) => Ok(cleared(replace(mesh, copy))),
+        Err(_) => Err("OutOfMemory"),
+    }
 }

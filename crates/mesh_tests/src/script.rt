@@ -52,15 +52,28 @@ pub fn answer(rt: &(impl Print + AllocGlobal), mesh: &mut Mesh, call: &Call<'_>)
         "create_single_face_between_edge_and_next" => {
             call.tell(rt, &create_single_face_between_edge_and_next(mesh, a))
         }
+        _ => grow(rt, mesh, call, [a, b, c]),
+    }
+}
+
+// The other calls that add a vertex, the flip, and new data of a vertex.
+fn grow(
+    rt: &(impl Print + AllocGlobal),
+    mesh: &mut Mesh,
+    call: &Call<'_>,
+    [a, b, c]: [u32; 3],
+) -> io::Result<()> {
+    match call.name {
         "insert_into_triangle" => call.tell(rt, &insert_into_triangle(mesh, byte(a), b)),
         "split_half_edge" => call.tell(rt, &split_half_edge(mesh, a, byte(b))),
         "split_edge" => call.tell(rt, &split_edge(mesh, a, byte(b))),
         "flip_cw" => call.tell(rt, &flip_cw(mesh, a)),
+        "update_vertex" => call.tell(rt, &update_vertex(mesh, a, byte(b))),
         _ => change(rt, mesh, call, [a, b, c]),
     }
 }
 
-// The calls that remove, and those that write data.
+// The calls that remove.
 fn change(
     rt: &(impl Print + AllocGlobal),
     mesh: &mut Mesh,
@@ -72,7 +85,18 @@ fn change(
         "remove_when_degenerate" => call.tell(rt, &remove_when_degenerate(mesh, a)),
         "disconnect_edge_strip" => call.tell(rt, &disconnect_edge_strip(mesh, a)),
         "isolate_vertex_and_fill_hole" => call.tell(rt, &isolate_vertex_and_fill_hole(mesh, a)),
-        "update_vertex" => call.tell(rt, &update_vertex(mesh, a, byte(b))),
+        _ => write(rt, mesh, call, [a, b, c]),
+    }
+}
+
+// The calls that write data, and those that ask for room.
+fn write(
+    rt: &(impl Print + AllocGlobal),
+    mesh: &mut Mesh,
+    call: &Call<'_>,
+    [a, b, c]: [u32; 3],
+) -> io::Result<()> {
+    match call.name {
         "directed_edge_data_mut" => call.tell(rt, &write_directed(mesh, a, b)),
         "undirected_edge_data_mut" => call.tell(rt, &write_undirected(mesh, a, b)),
         "face_data_mut" => call.tell(rt, &write_face(mesh, a, b)),
@@ -84,7 +108,7 @@ fn change(
     }
 }
 
-// The calls that read.
+// The calls that read an element.
 fn read(
     rt: &(impl Print + AllocGlobal),
     mesh: &Mesh,
@@ -100,6 +124,18 @@ fn read(
         "edge_data" => call.tell(rt, &edge_data(mesh, a)),
         "face" => call.tell(rt, &face(mesh, a)),
         "links" => call.tell(rt, &links(mesh, a)),
+        _ => list(rt, mesh, call, [a, b, c]),
+    }
+}
+
+// The calls that read several elements.
+fn list(
+    rt: &(impl Print + AllocGlobal),
+    mesh: &Mesh,
+    call: &Call<'_>,
+    [a, b, c]: [u32; 3],
+) -> io::Result<()> {
+    match call.name {
         "get_edge_from_neighbors" => call.tell(rt, &edges_between(mesh, a, b)),
         "out_edges" => call.tell(rt, &round(mesh, a)),
         "lists" => call.tell(rt, &lists(mesh)),
@@ -112,7 +148,7 @@ fn read(
     }
 }
 
-// The Voronoi forms, comparisons, names without a mesh, and room.
+// The Voronoi forms and comparisons.
 fn compare(
     rt: &(impl Print + AllocGlobal),
     mesh: &Mesh,
@@ -128,6 +164,13 @@ fn compare(
         "compare_voronoi" => call.tell(rt, &compare_voronoi(mesh, a, b)),
         "compare_names" => call.tell(rt, &compare_names(a, b)),
         "print_edge" => print_edge(rt, mesh, a),
+        _ => make(rt, call, [a, b, c]),
+    }
+}
+
+// Names and room without a mesh.
+fn make(rt: &(impl Print + AllocGlobal), call: &Call<'_>, [a, b, c]: [u32; 3]) -> io::Result<()> {
+    match call.name {
         "forms" => call.tell(rt, &forms(a)),
         "names_from_two" => call.tell(rt, &names_from_two()),
         "with_capacity" => call.tell(rt, &with_capacity(rt.alloc(), a, b, c)),
