@@ -21,3 +21,4 @@ pub use lines::HasMesh;
 // For the crate of the struct, and not for users.
 pub use between::{line_between, line_between_vertices};
 pub use conflicts::intersects_constraint;
+pub use outside::has_less_distance;

@@ -18,8 +18,8 @@ use delaunay_core::point::{HasPosition, Point2, SpadeNum};
 use delaunay_legalization::{is_outer, is_same_point};
 use half_edge_mesh::{FixedDirectedEdgeHandle, FixedVertexHandle};
 
-// Whether a point is nearer to a position than another.
-fn is_nearer<S: SpadeNum, P: PlaneTests<S>>(
+/// Whether a point is nearer to a position than another, in the words of `distance_2`.
+pub fn has_less_distance<S: SpadeNum, P: PlaneTests<S>>(
     from: Point2<S>,
     point: Point2<S>,
     other: Point2<S>,
@@ -102,7 +102,7 @@ impl<'a, V: HasPosition, DE, UE, F, P: PlaneTests<V::Scalar>> Segment<'a, V, DE,
                     position_of(self.dcel, vertex),
                     position_of(self.dcel, *other),
                 );
-                is_nearer(self.from, position, reached, self.tests)
+                has_less_distance(self.from, position, reached, self.tests)
             }
             None => true,
         }

@@ -1,7 +1,5 @@
 //! The last of the edges that cross the segment between two vertices.
 ghost use Rattle.std.specs.Prelude.{◌≡◌, ◌↔◌, ◌<ℤ◌, ◌<◌, length, map, All, IfSome, IsTrue};
-ghost use Rattle.plane.specs.Fraction.{whole as fraction};
-ghost use Rattle.plane.specs.Circle.{gap};
 ghost use Rattle.plane.specs.Laws.{squared_way};
 ghost use Rattle.plane_tiling.specs.Local.{IsMesh};
 ghost use Rattle.plane_segments.specs.Path.{ComesAfterOnRight, ComesAfterOnLeft, IsFreeOfVertices};
@@ -16,23 +14,8 @@ use crate::crossing::{end_of, position_of};
 use delaunay_core::math::PlaneTests;
 use delaunay_core::point::{HasPosition, Point2, SpadeNum};
 use delaunay_legalization::{is_same_point, start_of};
-use delaunay_lines::{Intersection, line_between_vertices};
+use delaunay_lines::{Intersection, has_less_distance, line_between_vertices};
 use half_edge_mesh::{Dcel, FixedDirectedEdgeHandle, FixedVertexHandle};
-
-// Whether a point is nearer to a position than another, in the words of `distance_2`.
-fn has_less_distance<S: SpadeNum, P: PlaneTests<S>>(
-    from: Point2<S>,
-    point: Point2<S>,
-    other: Point2<S>,
-    tests: &P,
-) -> bool
-    requires from_covered { P.covered tests.now (place_of S.whole from) }
-    requires point_covered { P.covered tests.now (place_of S.whole point) }
-    requires other_covered { P.covered tests.now (place_of S.whole other) }
-    ensures { IsTrue result ↔ (gap (fraction (place_of S.whole from)) (fraction (place_of S.whole point)) <ℤ gap (fraction (place_of S.whole from)) (fraction (place_of S.whole other))) }
-{
-    from.distance_2(point) < from.distance_2(other)
-}
 
 // Whether a point is nearer to a position than another, in the words of the order of edges.
 fn is_nearer<S: SpadeNum, P: PlaneTests<S>>(
