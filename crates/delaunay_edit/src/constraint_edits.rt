@@ -48,7 +48,8 @@ impl<V: HasPosition, DE, UE, F> ConstrainedMesh<V, DE, UE, F> {
         requires free { CanAdd V.place (constrained self.old) from to }
         requires sites { All (P.sites tests.now) (map V.place self.old.vertices) }
         requires few { length self.old.vertices ≤ MAX_ELEMENTS }
-        ensures plain { OnOk result (Adds V.place (constrained self.old) (constrained self.new) from to) }
+        ensures plain { OnOk result
+            (Adds V.place (constrained self.old) (constrained self.new) from to) }
         ensures data { OnOk result (MarksEdges self.old self.new) }
         ensures err { OnErr result (self.new ≡ self.old) }
     {
@@ -106,7 +107,8 @@ impl<V: HasPosition, DE, UE, F> ConstrainedMesh<V, DE, UE, F> {
         requires apart { from ≢ to }
         requires free { CanAdd V.place (constrained self.old) from to }
         requires sites { All (P.sites tests.now) (map V.place self.old.vertices) }
-        ensures path { IfOk result (λ edges. AddsPathIfFree V.place from to edges.items self.old self.new) }
+        ensures path { IfOk result
+            (λ edges. AddsPathIfFree V.place from to edges.items self.old self.new) }
         ensures err { OnErr result (self.new ≡ self.old) }
     {
         self.recall_invariant();
@@ -131,8 +133,10 @@ impl<V: HasPosition, DE, UE, F> ConstrainedMesh<V, DE, UE, F> {
         requires from_in { from < length self.old.vertices }
         requires to_in { to < length self.old.vertices }
         requires sites { AreSites V.place (P.sites tests.now) self.old.vertices }
-        ensures path { IfOk result (λ edges. AddsPathIfFree V.place from to edges.items self.old self.new) }
-        ensures none { (from ≡ to) ⊎ (¬ CanAdd V.place (constrained self.old) from to) → IsOk result }
+        ensures path { IfOk result
+            (λ edges. AddsPathIfFree V.place from to edges.items self.old self.new) }
+        ensures none { (from ≡ to) ⊎ (¬ CanAdd V.place (constrained self.old) from to) →
+            IsOk result }
         ensures err { OnErr result (self.new ≡ self.old) }
         ensures headline { IsDelaunay V.place constraint_edges self.new }
     {
@@ -155,7 +159,8 @@ impl<V: HasPosition, DE, UE, F> ConstrainedMesh<V, DE, UE, F> {
         requires sites { All (P.sites tests.now) (map V.place self.old.vertices) }
         requires few { length self.old.vertices ≤ MAX_ELEMENTS }
         ensures plain { let m = self.old.mesh in
-            OnOk result (Releases V.place (constrained self.old) (constrained self.new) (origin m (2 * edge)) (origin m (rev (2 * edge)))) }
+            OnOk result (Releases V.place (constrained self.old) (constrained self.new)
+            (origin m (2 * edge)) (origin m (rev (2 * edge)))) }
         ensures data { OnOk result (FreesEdge self.old self.new edge) }
         ensures err { OnErr result (self.new ≡ self.old) }
     {

@@ -21,7 +21,8 @@ impl<V: HasPosition, DE, UE, F> ConstrainedMesh<V, DE, UE, F> {
         requires { edge < length self.now.undirected }
         ensures marked { IsTrue result ↔ Contains (constraint_edges self.now.undirected) edge }
         ensures joined { let m = self.now.mesh in
-            IsTrue result ↔ Joins (constraints_of self.now) (origin m (2 * edge)) (origin m (rev (2 * edge))) }
+            IsTrue result ↔ Joins (constraints_of self.now) (origin m (2 * edge)) (origin m
+            (rev (2 * edge))) }
     {
         is_constraint_edge::<EdgeConstraints, _, _, _, _>(&self.dcel, edge)
     }
@@ -51,7 +52,8 @@ impl<V: HasPosition, DE, UE, F> ConstrainedMesh<V, DE, UE, F> {
     where
         UE: Drop,
         ensures ok { IfOk result (HasOtherEdgeData IsFree plain) }
-        ensures plain { IfOk result (λ c. Unconstrains V.place (points_and_constraints plain) (constrained c)) }
+        ensures plain { IfOk result
+            (λ c. Unconstrains V.place (points_and_constraints plain) (constrained c)) }
         ensures headline { IfOk result (IsDelaunay V.place constraint_edges) }
         ensures err { IfErr result (λ d. d ≡ plain) }
     {

@@ -36,7 +36,8 @@ impl<V: HasPosition + Drop, DE: Default, UE: Default, F: Default, M: FreeByDefau
     F,
     M,
 > {
-    // The new last vertex, with the edges of the faces at it tested, or a refusal that changes nothing.
+    // The new last vertex, with the edges of the faces at it tested, or a refusal that changes
+    // nothing.
     fn append<P: PlaneTests<V::Scalar>>(
         &mut self,
         location: PositionInTriangulation,
@@ -46,7 +47,8 @@ impl<V: HasPosition + Drop, DE: Default, UE: Default, F: Default, M: FreeByDefau
         flips: &mut u64,
     ) -> Result<FixedVertexHandle, InsertionError>
         requires in_range { InRange (V.place value) }
-        requires vacant { IsVacant (map V.place self.old.vertices) self.old.mesh (V.place value) location turns }
+        requires vacant { IsVacant (map V.place self.old.vertices) self.old.mesh (V.place value)
+            location turns }
         requires sites { All (P.sites tests.now) (map V.place self.old.vertices) }
         requires new_site { P.sites tests.now (V.place value) }
         requires fits { FlipsFit (length self.old.vertices + 1) flips.old }
@@ -72,7 +74,8 @@ impl<V: HasPosition + Drop, DE: Default, UE: Default, F: Default, M: FreeByDefau
         requires location { HasHandle self.now.mesh location.now }
         requires sites { All (P.sites tests.now) (map V.place self.now.vertices) }
         requires covered { P.covered tests.now (V.place value.now) }
-        ensures { IsTrue result ↔ IsLeftOfPlace (map V.place self.now.vertices) self.now.mesh (V.place value.now) location.now }
+        ensures { IsTrue result ↔ IsLeftOfPlace (map V.place self.now.vertices) self.now.mesh
+            (V.place value.now) location.now }
     {
         self.recall_invariant();
         match *location {
@@ -85,7 +88,8 @@ impl<V: HasPosition + Drop, DE: Default, UE: Default, F: Default, M: FreeByDefau
         }
     }
 
-    // What is at the position of a value. The search begins at a vertex, or at vertex 0 where there is no such vertex.
+    // What is at the position of a value. The search begins at a vertex, or at vertex 0 where there
+    // is no such vertex.
     fn entry<P: PlaneTests<V::Scalar>>(
         &self,
         value: &V,
