@@ -1,9 +1,11 @@
 -- Where a walk from face to face is.
-use Rattle.std.specs.Prelude.{ℕ, ◌<◌}
+use Rattle.std.specs.Prelude.{ℕ, ℤ, ◌<◌}
 use Rattle.plane.specs.Fraction.{Point}
+use Rattle.delaunay_core.specs.Place.{place_of}
+use Rattle.delaunay_location.specs.declared.steps.Stop.{Stop}
 
 -- one of n directed edges, with covered positions for its ends
-pub record IsStop (IsCovered : Point → Type 0) (n edge : ℕ) (from to : Point) : Type 0 where
-  pub within : edge < n
-  pub from_covered : IsCovered from
-  pub to_covered : IsCovered to
+pub record IsStop {S : Type 0} (number : S → ℤ) (IsCovered : Point → Type 0) (n : ℕ) (stop : Stop S) : Type 0 where
+  pub within : stop.edge < n
+  pub from_covered : IsCovered (place_of number stop.from)
+  pub to_covered : IsCovered (place_of number stop.to)

@@ -29,7 +29,7 @@ pub(crate) fn stop_at<V: HasPosition, DE, UE, F, P: PlaneTests<V::Scalar>>(
     requires kept { IsTriangulated V.place (state_of dcel.now) }
     requires within { edge < length dcel.now.directed }
     requires sites { All (P.sites tests.now) (map V.place dcel.now.vertices) }
-    ensures { IsStop (P.covered tests.now) (length dcel.now.directed) result.edge (place_of V.Scalar.whole result.from) (place_of V.Scalar.whole result.to) }
+    ensures { IsStop V.Scalar.whole (P.covered tests.now) (length dcel.now.directed) result }
 {
     let (from, to) = ends_of(dcel, edge);
     Stop { edge, from, to }
@@ -44,9 +44,9 @@ fn way_in<V: HasPosition, DE, UE, F, P: PlaneTests<V::Scalar>>(
     tests: &P,
 ) -> Option<Stop<V::Scalar>>
     requires kept { IsTriangulated V.place (state_of dcel.now) }
-    requires stop { IsStop (P.covered tests.now) (length dcel.now.directed) stop.edge (place_of V.Scalar.whole stop.from) (place_of V.Scalar.whole stop.to) }
+    requires stop { IsStop V.Scalar.whole (P.covered tests.now) (length dcel.now.directed) stop }
     requires covered { P.covered tests.now (place_of V.Scalar.whole point) }
-    ensures { IfSome result (λ s. IsStop (P.covered tests.now) (length dcel.now.directed) s.edge (place_of V.Scalar.whole s.from) (place_of V.Scalar.whole s.to)) }
+    ensures { IfSome result (IsStop V.Scalar.whole (P.covered tests.now) (length dcel.now.directed)) }
 {
     let Stop { edge, from, to } = stop;
     if turns_left(from, to, point, tests) {
@@ -68,10 +68,10 @@ pub(crate) fn way_out<V: HasPosition, DE, UE, F, P: PlaneTests<V::Scalar>>(
     tests: &P,
 ) -> Option<Stop<V::Scalar>>
     requires kept { IsTriangulated V.place (state_of dcel.now) }
-    requires stop { IsStop (P.covered tests.now) (length dcel.now.directed) stop.edge (place_of V.Scalar.whole stop.from) (place_of V.Scalar.whole stop.to) }
+    requires stop { IsStop V.Scalar.whole (P.covered tests.now) (length dcel.now.directed) stop }
     requires sites { All (P.sites tests.now) (map V.place dcel.now.vertices) }
     requires covered { P.covered tests.now (place_of V.Scalar.whole point) }
-    ensures { IfSome result (λ s. IsStop (P.covered tests.now) (length dcel.now.directed) s.edge (place_of V.Scalar.whole s.from) (place_of V.Scalar.whole s.to)) }
+    ensures { IfSome result (IsStop V.Scalar.whole (P.covered tests.now) (length dcel.now.directed)) }
 {
     let here = dcel.directed_edge(stop.edge);
     if here.is_outer_edge() {
