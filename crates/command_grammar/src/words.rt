@@ -1,7 +1,9 @@
-ghost use Rattle.std.specs.Prelude.{◌≡◌, ℕ, List, [], ◌∷◌, Option, None, Some, MatchOption, IfSome, IsTrue, ◌↔◌};
+ghost use Rattle.std.specs.Prelude.{◌≡◌, ℕ, [], ◌∷◌, ◌↔◌};
+ghost use Rattle.std.specs.Prelude.{List, Option, None, Some, MatchOption, IfSome, IsTrue};
 ghost use Rattle.command_grammar.specs.Grammar.{words_of};
 ghost use Rattle.std.specs.Prelude.{OnSome, drop};
-ghost use Rattle.command_grammar.specs.Reading.{first_index, first_number, coordinates_of, pair_of, command_of, command_named, arity};
+ghost use Rattle.command_grammar.specs.Reading.{first_index, first_number, coordinates_of, pair_of};
+ghost use Rattle.command_grammar.specs.Reading.{command_of, command_named, arity};
 
 use crate::command::{Command, Coordinates};
 use crate::number::{index_of, number_of};
@@ -38,7 +40,8 @@ impl<'a> Words<'a> {
 
     /// The next word, up to a space or the end.
     pub fn next_word(&mut self) -> Option<&'a [u8]>
-        ensures { MatchOption result ((self.old ≡ []) × (self.new ≡ [])) (λ word. self.old ≡ word.now ∷ self.new) }
+        ensures { MatchOption result ((self.old ≡ []) × (self.new ≡ []))
+            (λ word. self.old ≡ word.now ∷ self.new) }
     {
         let (word, rest) = first_word(self.rest?);
         self.rest = rest;

@@ -23,7 +23,8 @@ pub fn compare_points((a, b): Coordinates, (c, d): Coordinates) -> (Ordering, [b
     )
 }
 
-/// Prints each refusal as it is shown and as it is debugged, their order, and that a point of bytes is in range.
+/// Prints each refusal as it is shown and as it is debugged, their order, and that a point of bytes
+/// is in range.
 pub fn errors(rt: &impl Print) -> io::Result<()> {
     let (first, second, third) = (
         InsertionError::TooLarge,

@@ -1,5 +1,6 @@
-//! Runs a script of calls about points, sides, projections and shapes, and prints each line with what its call gives:
-//! `None` where a point is out of range. Lines that start with `#` are printed as they are.
+//! Runs a script of calls about points, sides, projections and shapes, and prints each line with
+//! what its call gives: `None` where a point is out of range. Lines that start with `#` are printed
+//! as they are.
 #![tactic(auto)]
 
 mod comparisons;

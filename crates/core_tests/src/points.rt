@@ -25,7 +25,8 @@ pub fn distance_2(from: Coordinates, to: Coordinates) -> Option<i64> {
     Some(point(from)?.distance_2(point(to)?))
 }
 
-/// Squared distances of points of bytes, of 16 bits and of 32 bits, and the least numbers of each as 64 bits.
+/// Squared distances of points of bytes, of 16 bits and of 32 bits, and the least numbers of each
+/// as 64 bits.
 pub fn small_scalars() -> ([i64; 3], [i64; 3]) {
     let (least, most) = (
         Point2::new(-536870912i32, -536870912),
@@ -42,7 +43,8 @@ pub fn small_scalars() -> ([i64; 3], [i64; 3]) {
     )
 }
 
-/// A point's coordinates as an array and as a pair, and the points that these become, with the position of the first.
+/// A point's coordinates as an array and as a pair, and the points that these become, with the
+/// position of the first.
 pub fn convert(coordinates: Coordinates) -> ([i64; 2], Coordinates, [Point2<i64>; 4]) {
     let point: Point2<i64> = coordinates.into();
     let array: [i64; 2] = point.into();
@@ -55,7 +57,8 @@ pub fn convert(coordinates: Coordinates) -> ([i64; 2], Coordinates, [Point2<i64>
     )
 }
 
-/// Whether a projection is before its edge, on it and behind it, and where it falls, for an edge with a length.
+/// Whether a projection is before its edge, on it and behind it, and where it falls, for an edge
+/// with a length.
 type Projected = (PointProjection<i64>, [bool; 3], Option<(i64, i64)>);
 
 fn projected(projection: PointProjection<i64>, position: Option<(i64, i64)>) -> Projected {

@@ -5,7 +5,8 @@ use delaunay_core::line_side_info::LineSideInfo;
 use delaunay_core::math;
 use exact_tests::ExactTests;
 
-/// What a side says of left, right, left or on, right or on, and on; and the side of the other direction.
+/// What a side says of left, right, left or on, right or on, and on; and the side of the other
+/// direction.
 fn answers(side: LineSideInfo) -> ([bool; 5], LineSideInfo) {
     let answers = [
         side.is_on_left_side(),

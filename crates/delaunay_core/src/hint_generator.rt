@@ -10,8 +10,9 @@ use crate::point::{Point2, SpadeNum};
 use half_edge_handles::FixedVertexHandle;
 use std::alloc::Global;
 
-/// Tells a search at which vertex to begin. A triangulation tells its generator once of each appended and of each removed
-/// vertex. Any handle may be answered, and no call is refused: a generator that finds no memory holds less.
+/// Tells a search at which vertex to begin. A triangulation tells its generator once of each
+/// appended and of each removed vertex. Any handle may be answered, and no call is refused: a
+/// generator that finds no memory holds less.
 ///
 /// ```
 /// // Searches begin where the generator says, here a hierarchy:
@@ -19,7 +20,8 @@ use std::alloc::Global;
 ///     DelaunayTriangulation::new(rt.alloc());
 /// ```
 pub trait HintGenerator<S: SpadeNum>: Drop {
-    // The positions that it keeps. Calls with `&self` leave them, since they are read off the value.
+    // The positions that it keeps. Calls with `&self` leave them, since they are read off the
+    // value.
     ghost holds: { Self → Point → Type 0 };
 
     /// One that holds no position. It takes no memory.
@@ -49,8 +51,9 @@ pub trait HintGenerator<S: SpadeNum>: Drop {
         requires site { P.sites tests.now (place_of S.whole position) }
         ensures { IsAtMostWith (holds self.old) (holds self.new) (place_of S.whole position) };
 
-    /// Tells of a vertex that was removed and of the position that it had. Where it was not the last, the last vertex has
-    /// taken its handle, and `swapped_in_point` is that vertex's position.
+    /// Tells of a vertex that was removed and of the position that it had. Where it was not the
+    /// last, the last vertex has taken its handle, and `swapped_in_point` is that vertex's
+    /// position.
     fn notify_vertex_removed<P: PlaneTests<S>>(
         &mut self,
         swapped_in_point: Option<Point2<S>>,
@@ -60,8 +63,10 @@ pub trait HintGenerator<S: SpadeNum>: Drop {
     )
         requires held { IsAtMost (P.sites tests.now) (holds self.old) }
         requires site { P.sites tests.now (place_of S.whole position) }
-        requires swapped_site { (p : Point) → place_if S.whole swapped_in_point ≡ Some p → P.sites tests.now p }
-        ensures { IsAtMostWithout (holds self.old) (holds self.new) (place_of S.whole position) (place_if S.whole swapped_in_point) };
+        requires swapped_site { (p : Point) → place_if S.whole swapped_in_point ≡ Some p →
+            P.sites tests.now p }
+        ensures { IsAtMostWithout (holds self.old) (holds self.new) (place_of S.whole position)
+            (place_if S.whole swapped_in_point) };
 
     /// One for the vertices at these positions, which all differ, in the order of their handles.
     fn initialize_from_triangulation<P: PlaneTests<S>>(

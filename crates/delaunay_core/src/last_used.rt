@@ -12,8 +12,8 @@ use half_edge_handles::FixedVertexHandle;
 use std::alloc::Global;
 use std::cell::Cell;
 
-/// Gives the last vertex that was inserted or looked up, and after a removal the one before the removed. It holds no
-/// position, and takes no memory.
+/// Gives the last vertex that was inserted or looked up, and after a removal the one before the
+/// removed. It holds no position, and takes no memory.
 ///
 /// ```
 /// type Points = DelaunayTriangulation<Point2<i64>, (), (), (), LastUsedVertexHintGenerator>;
@@ -70,8 +70,10 @@ impl<S: SpadeNum> HintGenerator<S> for LastUsedVertexHintGenerator {
         _tests: &P,
     )
         requires site { P.sites _tests.now (place_of S.whole _position) }
-        requires swapped_site { (p : Point) → place_if S.whole _swapped_in_point ≡ Some p → P.sites _tests.now p }
-        ensures { IsAtMostWithout (λ _. ⊥) (λ _. ⊥) (place_of S.whole _position) (place_if S.whole _swapped_in_point) }
+        requires swapped_site { (p : Point) → place_if S.whole _swapped_in_point ≡ Some p →
+            P.sites _tests.now p }
+        ensures { IsAtMostWithout (λ _. ⊥) (λ _. ⊥) (place_of S.whole _position)
+            (place_if S.whole _swapped_in_point) }
     {
         let before = vertex.index().saturating_sub(1);
         self.vertex.set(FixedVertexHandle::from_index(before));

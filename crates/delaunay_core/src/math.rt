@@ -63,8 +63,8 @@ pub fn validate_vertex<V: HasPosition>(vertex: &V) -> Result<(), InsertionError>
     validate_coordinate(position.y)
 }
 
-/// True answers to side and circle tests, which the caller hands in: of sides at its covered points, of circles at its
-/// sites. The crate has no implementation of its own.
+/// True answers to side and circle tests, which the caller hands in: of sides at its covered
+/// points, of circles at its sites. The crate has no implementation of its own.
 ///
 /// ```
 /// let (from, to) = (Point2::new(0, 0), Point2::new(1, 0));
@@ -76,12 +76,14 @@ pub trait PlaneTests<S: SpadeNum> {
 
     ghost sites: { Self → Point → Type 0 };
 
-    /// The side of `point`, as seen along the line from `from` to `to`. With two equal points among the three it is on.
+    /// The side of `point`, as seen along the line from `from` to `to`. With two equal points among
+    /// the three it is on.
     fn side(&self, from: Point2<S>, to: Point2<S>, point: Point2<S>) -> LineSideInfo
         requires from_covered { covered self.now (place_of S.whole from) }
         requires to_covered { covered self.now (place_of S.whole to) }
         requires point_covered { covered self.now (place_of S.whole point) }
-        ensures { result ≡ side (fraction (place_of S.whole from)) (fraction (place_of S.whole to)) (fraction (place_of S.whole point)) };
+        ensures { result ≡ side (fraction (place_of S.whole from)) (fraction (place_of S.whole to))
+            (fraction (place_of S.whole point)) };
 
     /// Whether `point` is strictly inside the circle of the left-turning triple `v1`, `v2`, `v3`.
     fn is_in_circle(&self, v1: Point2<S>, v2: Point2<S>, v3: Point2<S>, point: Point2<S>) -> bool
@@ -89,15 +91,19 @@ pub trait PlaneTests<S: SpadeNum> {
         requires v2_site { sites self.now (place_of S.whole v2) }
         requires v3_site { sites self.now (place_of S.whole v3) }
         requires point_site { sites self.now (place_of S.whole point) }
-        requires left_turn { TurnsLeft (fraction (place_of S.whole v1)) (fraction (place_of S.whole v2)) (fraction (place_of S.whole v3)) }
-        ensures { IsTrue result ↔ InsideCircle (fraction (place_of S.whole v1)) (fraction (place_of S.whole v2)) (fraction (place_of S.whole v3)) (fraction (place_of S.whole point)) };
+        requires left_turn { TurnsLeft (fraction (place_of S.whole v1))
+            (fraction (place_of S.whole v2)) (fraction (place_of S.whole v3)) }
+        ensures { IsTrue result ↔
+            InsideCircle (fraction (place_of S.whole v1)) (fraction (place_of S.whole v2))
+            (fraction (place_of S.whole v3)) (fraction (place_of S.whole point)) };
 
     ghost sites_are_covered: { (t : Self) (p : Point) → sites t p → covered t p };
 
     ghost covered_are_in_range: { (t : Self) (p : Point) → covered t p → InRange p };
 }
 
-/// Whether `query_point` lies on the left of the line from `p1` to `p2` or on it. All three are covered.
+/// Whether `query_point` lies on the left of the line from `p1` to `p2` or on it. All three are
+/// covered.
 pub fn is_ordered_ccw<S: SpadeNum, P: PlaneTests<S>>(
     p1: Point2<S>,
     p2: Point2<S>,
@@ -107,7 +113,9 @@ pub fn is_ordered_ccw<S: SpadeNum, P: PlaneTests<S>>(
     requires p1_covered { P.covered tests.now (place_of S.whole p1) }
     requires p2_covered { P.covered tests.now (place_of S.whole p2) }
     requires query_covered { P.covered tests.now (place_of S.whole query_point) }
-    ensures { IsTrue result ↔ (side (fraction (place_of S.whole p1)) (fraction (place_of S.whole p2)) (fraction (place_of S.whole query_point)) ≢ right) }
+    ensures { IsTrue result ↔
+        (side (fraction (place_of S.whole p1)) (fraction (place_of S.whole p2))
+        (fraction (place_of S.whole query_point)) ≢ right) }
 {
     tests.side(p1, p2, query_point).is_on_left_side_or_on_line()
 }

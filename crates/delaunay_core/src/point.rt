@@ -20,7 +20,8 @@ pub trait SpadeNum: Copy + PartialOrd + Drop {
 
     ghost same_equality: { (a b : Self) → Self.PartialEq.eq a b ≡ int_eq (whole a) (whole b) };
 
-    ghost same_order: { (a b : Self) → Self.PartialOrd.partial_cmp a b ≡ as_partial_cmp int_cmp (whole a) (whole b) };
+    ghost same_order: { (a b : Self) →
+        Self.PartialOrd.partial_cmp a b ≡ as_partial_cmp int_cmp (whole a) (whole b) };
 }
 
 impl SpadeNum for i8 {
@@ -114,7 +115,8 @@ impl<S: SpadeNum> Point2<S> {
     pub fn distance_2(&self, other: Self) -> i64
         requires in_range { InRange (place_of S.whole self.now) }
         requires other_in_range { InRange (place_of S.whole other) }
-        ensures { result ≡ gap (fraction (place_of S.whole self.now)) (fraction (place_of S.whole other)) }
+        ensures { result ≡ gap (fraction (place_of S.whole self.now))
+            (fraction (place_of S.whole other)) }
     {
         square(difference(self.x, other.x)) + square(difference(self.y, other.y))
     }

@@ -1,5 +1,6 @@
 //! Where a point falls on the line of an edge.
-ghost use Rattle.std.specs.Prelude.{◌≡◌, ◌≢◌, ◌↔◌, ◌≤◌, pos, ◌-ℤ◌, ◌*ℤ◌, ◌<ℤ◌, ◌≤ℤ◌, IsTrue, ⊤, unsigned_abs};
+ghost use Rattle.std.specs.Prelude.{◌≡◌, ◌≢◌, ◌↔◌, ◌≤◌, ◌-ℤ◌, ◌*ℤ◌, ◌<ℤ◌, ◌≤ℤ◌, ⊤};
+ghost use Rattle.std.specs.Prelude.{pos, IsTrue, unsigned_abs};
 ghost use Rattle.plane.specs.Fraction.{whole as fraction};
 ghost use Rattle.plane.specs.Circle.{gap};
 ghost use Rattle.plane.specs.Tests.{InRange};
@@ -11,7 +12,8 @@ use std::alloc::AllocError;
 use std::fmt;
 use std::marker::PhantomData;
 
-/// Where a point falls on the line of an edge. `S` names the scalar of the points; both numbers are whole.
+/// Where a point falls on the line of an edge. `S` names the scalar of the points; both numbers are
+/// whole.
 ///
 /// ```
 /// let falls = project_point(Point2::new(1, 1), Point2::new(4, 5), Point2::new(0, 0));
@@ -46,8 +48,9 @@ impl<S> fmt::Debug for PointProjection<S> {
     }
 }
 
-/// Where `query_point` falls on the line of the edge from `p1` to `p2`, all three in range. The factor is the dot product
-/// of the ways from `p1` to the two others, and `length_2` is the squared length of the edge.
+/// Where `query_point` falls on the line of the edge from `p1` to `p2`, all three in range. The
+/// factor is the dot product of the ways from `p1` to the two others, and `length_2` is the squared
+/// length of the edge.
 pub fn project_point<S: SpadeNum>(
     p1: Point2<S>,
     p2: Point2<S>,
@@ -56,8 +59,10 @@ pub fn project_point<S: SpadeNum>(
     requires p1_in_range { InRange (place_of S.whole p1) }
     requires p2_in_range { InRange (place_of S.whole p2) }
     requires query_in_range { InRange (place_of S.whole query_point) }
-    ensures factor { result.factor ≡ along (place_of S.whole p1) (place_of S.whole p2) (place_of S.whole query_point) }
-    ensures length_2 { result.length_2 ≡ gap (fraction (place_of S.whole p1)) (fraction (place_of S.whole p2)) }
+    ensures factor { result.factor ≡ along (place_of S.whole p1) (place_of S.whole p2)
+        (place_of S.whole query_point) }
+    ensures length_2 { result.length_2 ≡ gap (fraction (place_of S.whole p1))
+        (fraction (place_of S.whole p2)) }
 {
     let factor = product(difference(p1.x, p2.x), difference(p1.x, query_point.x))
         + product(difference(p1.y, p2.y), difference(p1.y, query_point.y));
@@ -94,7 +99,8 @@ impl<S> PointProjection<S> {
 
     /// Whether the point falls on the edge, its ends among it.
     pub fn is_on_edge(&self) -> bool
-        ensures { IsTrue result ↔ ((pos 0 ≤ℤ self.now.factor) × (self.now.factor ≤ℤ self.now.length_2)) }
+        ensures { IsTrue result ↔
+            ((pos 0 ≤ℤ self.now.factor) × (self.now.factor ≤ℤ self.now.length_2)) }
     {
         !self.is_before_edge() && !self.is_behind_edge()
     }
@@ -111,7 +117,8 @@ impl<S> PointProjection<S> {
         }
     }
 
-    /// The part of the edge that lies before the point, as a fraction: the factor over the squared length, which is not 0.
+    /// The part of the edge that lies before the point, as a fraction: the factor over the squared
+    /// length, which is not 0.
     pub fn relative_position(&self) -> (i64, i64)
         requires { self.now.length_2 ≢ pos 0 }
         ensures factor { result.0 ≡ self.now.factor }

@@ -1,10 +1,12 @@
 //! Constraints that are added and released.
-ghost use Rattle.std.specs.Prelude.{◌≡◌, ◌≢◌, ◌⊎◌, ◌↔◌, ◌*◌, ◌<◌, ◌≤◌, [], length, map, All, Contains, IsTrue, IsOk, IfOk, OnErr, OnOk};
+ghost use Rattle.std.specs.Prelude.{◌≡◌, ◌≢◌, ◌⊎◌, ◌↔◌, ◌*◌, ◌<◌, ◌≤◌, []};
+ghost use Rattle.std.specs.Prelude.{length, map, All, Contains, IsTrue, IsOk, IfOk, OnErr, OnOk};
 ghost use Rattle.half_edge_links.specs.declared.room.TheConstants.{MAX_ELEMENTS};
 ghost use Rattle.half_edge_mesh.specs.Mesh.{origin, rev};
 ghost use Rattle.plane.specs.Plain.{Adds, CanAdd, Releases};
 ghost use Rattle.delaunay_edit.specs.Constrained.{constrained, constraint_edges};
-ghost use Rattle.delaunay_edit.specs.ConstraintEdits.{AddsConstraint, AddsPathIfFree, FreesEdge, MarksEdges, ReleasesConstraint};
+ghost use Rattle.delaunay_edit.specs.ConstraintEdits.{AddsConstraint, AddsPathIfFree, FreesEdge};
+ghost use Rattle.delaunay_edit.specs.ConstraintEdits.{MarksEdges, ReleasesConstraint};
 ghost use Rattle.delaunay_edit.specs.Headline.{AreSites, IsDelaunay};
 
 use crate::counting::count_missing;
@@ -48,7 +50,8 @@ impl<V: HasPosition, DE, UE, F> ConstrainedMesh<V, DE, UE, F> {
         requires free { CanAdd V.place (constrained self.old) from to }
         requires sites { All (P.sites tests.now) (map V.place self.old.vertices) }
         requires few { length self.old.vertices ≤ MAX_ELEMENTS }
-        ensures plain { OnOk result (Adds V.place (constrained self.old) (constrained self.new) from to) }
+        ensures plain { OnOk result (Adds V.place (constrained self.old) (constrained self.new) from
+            to) }
         ensures data { OnOk result (MarksEdges self.old self.new) }
         ensures err { OnErr result (self.new ≡ self.old) }
     {
@@ -106,7 +109,8 @@ impl<V: HasPosition, DE, UE, F> ConstrainedMesh<V, DE, UE, F> {
         requires apart { from ≢ to }
         requires free { CanAdd V.place (constrained self.old) from to }
         requires sites { All (P.sites tests.now) (map V.place self.old.vertices) }
-        ensures path { IfOk result (λ edges. AddsPathIfFree V.place from to edges.items self.old self.new) }
+        ensures path { IfOk result (λ edges. AddsPathIfFree V.place from to edges.items self.old
+            self.new) }
         ensures err { OnErr result (self.new ≡ self.old) }
     {
         self.recall_invariant();
@@ -131,8 +135,10 @@ impl<V: HasPosition, DE, UE, F> ConstrainedMesh<V, DE, UE, F> {
         requires from_in { from < length self.old.vertices }
         requires to_in { to < length self.old.vertices }
         requires sites { AreSites V.place (P.sites tests.now) self.old.vertices }
-        ensures path { IfOk result (λ edges. AddsPathIfFree V.place from to edges.items self.old self.new) }
-        ensures none { (from ≡ to) ⊎ (¬ CanAdd V.place (constrained self.old) from to) → IsOk result }
+        ensures path { IfOk result (λ edges. AddsPathIfFree V.place from to edges.items self.old
+            self.new) }
+        ensures none { (from ≡ to) ⊎ (¬ CanAdd V.place (constrained self.old) from to) →
+            IsOk result }
         ensures err { OnErr result (self.new ≡ self.old) }
         ensures headline { IsDelaunay V.place constraint_edges self.new }
     {
@@ -155,7 +161,8 @@ impl<V: HasPosition, DE, UE, F> ConstrainedMesh<V, DE, UE, F> {
         requires sites { All (P.sites tests.now) (map V.place self.old.vertices) }
         requires few { length self.old.vertices ≤ MAX_ELEMENTS }
         ensures plain { let m = self.old.mesh in
-            OnOk result (Releases V.place (constrained self.old) (constrained self.new) (origin m (2 * edge)) (origin m (rev (2 * edge)))) }
+            OnOk result (Releases V.place (constrained self.old) (constrained self.new)
+            (origin m (2 * edge)) (origin m (rev (2 * edge)))) }
         ensures data { OnOk result (FreesEdge self.old self.new edge) }
         ensures err { OnErr result (self.new ≡ self.old) }
     {

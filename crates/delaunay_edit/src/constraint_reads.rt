@@ -4,7 +4,8 @@ ghost use Rattle.half_edge_mesh.specs.Mesh.{origin, rev};
 ghost use Rattle.plane.specs.Pairs.{Joins};
 ghost use Rattle.plane.specs.Plain.{Unconstrains};
 ghost use Rattle.delaunay_legalization.specs.State.{points_and_constraints};
-ghost use Rattle.delaunay_edit.specs.Constrained.{IsFree, constrained, constraint_edges, constraints_of};
+ghost use Rattle.delaunay_edit.specs.Constrained.{IsFree, constrained, constraint_edges};
+ghost use Rattle.delaunay_edit.specs.Constrained.{constraints_of};
 ghost use Rattle.delaunay_edit.specs.Data.{HasOtherEdgeData};
 ghost use Rattle.delaunay_edit.specs.Headline.{IsDelaunay};
 
@@ -21,7 +22,8 @@ impl<V: HasPosition, DE, UE, F> ConstrainedMesh<V, DE, UE, F> {
         requires { edge < length self.now.undirected }
         ensures marked { IsTrue result ↔ Contains (constraint_edges self.now.undirected) edge }
         ensures joined { let m = self.now.mesh in
-            IsTrue result ↔ Joins (constraints_of self.now) (origin m (2 * edge)) (origin m (rev (2 * edge))) }
+            IsTrue result ↔ Joins (constraints_of self.now) (origin m (2 * edge))
+            (origin m (rev (2 * edge))) }
     {
         is_constraint_edge::<EdgeConstraints, _, _, _, _>(&self.dcel, edge)
     }
@@ -51,7 +53,8 @@ impl<V: HasPosition, DE, UE, F> ConstrainedMesh<V, DE, UE, F> {
     where
         UE: Drop,
         ensures ok { IfOk result (HasOtherEdgeData IsFree plain) }
-        ensures plain { IfOk result (λ c. Unconstrains V.place (points_and_constraints plain) (constrained c)) }
+        ensures plain { IfOk result (λ c. Unconstrains V.place (points_and_constraints plain)
+            (constrained c)) }
         ensures headline { IfOk result (IsDelaunay V.place constraint_edges) }
         ensures err { IfErr result (λ d. d ≡ plain) }
     {

@@ -13,7 +13,8 @@ use delaunay_location::PositionInTriangulation;
 use delaunay_paths::{is_constraint_between, next_on_path};
 use half_edge_mesh::{Dcel, FixedVertexHandle, MeshViews};
 
-// How many constraints a new vertex at a location makes of one: one more where it is on a constraint.
+// How many constraints a new vertex at a location makes of one: one more where it is on a
+// constraint.
 pub(crate) fn count_split<M: ConstraintMarker<UE>, V: HasPosition, DE, UE, F>(
     dcel: &Dcel<V, DE, UE, F>,
     location: &PositionInTriangulation,

@@ -8,7 +8,8 @@ ghost use Rattle.delaunay_edit.specs.EdgeData.{with_data, with_data_marks};
 use delaunay_legalization::{CdtEdge, ConstraintMarker, EdgeConstraints, NoConstraints};
 use half_edge_mesh::{Dcel, FixedUndirectedEdgeHandle};
 
-/// Which edges are constraints, by a mark in their data, and the part of the data that is the user's.
+/// Which edges are constraints, by a mark in their data, and the part of the data that is the
+/// user's.
 pub trait EdgeData<UE>: ConstraintMarker<UE> {
     type User;
 
@@ -21,11 +22,15 @@ pub trait EdgeData<UE>: ConstraintMarker<UE> {
         edge: FixedUndirectedEdgeHandle,
     ) -> &mut Self::User
         requires { edge < length dcel.old.undirected }
-        ensures* writes_back { sem 𝓛 (Lends (the_row V.row DE.row UE.row F.row) Self.User.row dcel.entry result (λ w. record dcel.old { undirected = with_user dcel.old.undirected edge w })) };
+        ensures* writes_back { sem 𝓛 (Lends (the_row V.row DE.row UE.row F.row) Self.User.row
+            dcel.entry result (λ w. record dcel.old
+            { undirected = with_user dcel.old.undirected edge w })) };
 
-    ghost with_user_length: { (es : List UE) (i : ℕ) (w : Self.User) → length (with_user es i w) ≡ length es };
+    ghost with_user_length: { (es : List UE) (i : ℕ) (w : Self.User) →
+        length (with_user es i w) ≡ length es };
 
-    ghost with_user_constraints: { (es : List UE) (i : ℕ) (w : Self.User) → Self.constraints (with_user es i w) ≡ Self.constraints es };
+    ghost with_user_constraints: { (es : List UE) (i : ℕ) (w : Self.User) →
+        Self.constraints (with_user es i w) ≡ Self.constraints es };
 }
 
 impl<UE> EdgeData<UE> for NoConstraints {

@@ -24,9 +24,11 @@ use std::marker::{Model, PhantomData};
 #[derive(Drop)]
 pub struct EditedMesh<V: HasPosition, DE, UE, F, M: ConstraintMarker<UE>> {
     pub(crate) dcel: Dcel<V, DE, UE, F>,
-    // The edges that a legalization has still to test: none between edits, but the room for them stays.
+    // The edges that a legalization has still to test: none between edits, but the room for them
+    // stays.
     pub(crate) work: Vec<FixedUndirectedEdgeHandle>,
-    // Room for the sides opposite a vertex that a removal takes from the hull; what stands in it has no meaning.
+    // Room for the sides opposite a vertex that a removal takes from the hull; what stands in it
+    // has no meaning.
     pub(crate) sides: Vec<FixedDirectedEdgeHandle>,
     // How many edges are constraints.
     pub(crate) num_constraints: usize,
@@ -110,8 +112,10 @@ impl<V: HasPosition, DE, UE, F, M: ConstraintMarker<UE>> EditedMesh<V, DE, UE, F
         edge: FixedDirectedEdgeHandle,
     ) -> (Point2<V::Scalar>, Point2<V::Scalar>)
         requires { edge < length self.now.directed }
-        ensures from { place_of V.Scalar.whole result.0 ≡ point_at (map V.place self.now.vertices) (origin self.now.mesh edge) }
-        ensures to { place_of V.Scalar.whole result.1 ≡ point_at (map V.place self.now.vertices) (origin self.now.mesh (rev edge)) }
+        ensures from { place_of V.Scalar.whole result.0 ≡
+            point_at (map V.place self.now.vertices) (origin self.now.mesh edge) }
+        ensures to { place_of V.Scalar.whole result.1 ≡
+            point_at (map V.place self.now.vertices) (origin self.now.mesh (rev edge)) }
         ensures edge { IsMeshEdge (map V.place self.now.vertices) self.now.mesh edge }
     {
         let edge = self.dcel.directed_edge(edge);

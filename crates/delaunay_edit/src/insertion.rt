@@ -1,7 +1,10 @@
 //! New vertices, and new data at a known position.
-ghost use Rattle.std.specs.Prelude.{◌≡◌, ◌↔◌, ℕ, ◌+◌, ◌*◌, ◌<◌, ◌++◌, ◌∷◌, [], length, map, All, IsTrue, IsErrOf, IfOk, OnErr, OnOk};
+ghost use Rattle.std.specs.Prelude.{◌≡◌, ◌↔◌, ℕ, ◌+◌, ◌*◌, ◌<◌, ◌++◌, ◌∷◌, []};
+ghost use Rattle.std.specs.Prelude.{length, map, All, IsTrue, IsErrOf, IfOk, OnErr, OnOk};
 ghost use Rattle.plane.specs.Tests.{InRange};
-ghost use Rattle.delaunay_core.specs.declared.math.InsertionError.TheVariants.{TooLarge, OutOfMemory, OutOfIndexes};
+ghost use Rattle.delaunay_core.specs.declared.math.InsertionError.TheVariants.{TooLarge};
+ghost use Rattle.delaunay_core.specs.declared.math.InsertionError.TheVariants.{OutOfMemory};
+ghost use Rattle.delaunay_core.specs.declared.math.InsertionError.TheVariants.{OutOfIndexes};
 ghost use Rattle.delaunay_insertion.specs.Constraints.{SplitsConstraints};
 ghost use Rattle.delaunay_legalization.specs.Flips.{CountsFlips, FlipsFit};
 ghost use Rattle.delaunay_edit.specs.Data.{KeepsData};
@@ -36,7 +39,8 @@ impl<V: HasPosition + Drop, DE: Default, UE: Default, F: Default, M: FreeByDefau
     F,
     M,
 > {
-    // The new last vertex, with the edges of the faces at it tested, or a refusal that changes nothing.
+    // The new last vertex, with the edges of the faces at it tested, or a refusal that changes
+    // nothing.
     fn append<P: PlaneTests<V::Scalar>>(
         &mut self,
         location: PositionInTriangulation,
@@ -46,7 +50,8 @@ impl<V: HasPosition + Drop, DE: Default, UE: Default, F: Default, M: FreeByDefau
         flips: &mut u64,
     ) -> Result<FixedVertexHandle, InsertionError>
         requires in_range { InRange (V.place value) }
-        requires vacant { IsVacant (map V.place self.old.vertices) self.old.mesh (V.place value) location turns }
+        requires vacant { IsVacant (map V.place self.old.vertices) self.old.mesh (V.place value)
+            location turns }
         requires sites { All (P.sites tests.now) (map V.place self.old.vertices) }
         requires new_site { P.sites tests.now (V.place value) }
         requires fits { FlipsFit (length self.old.vertices + 1) flips.old }
@@ -72,7 +77,9 @@ impl<V: HasPosition + Drop, DE: Default, UE: Default, F: Default, M: FreeByDefau
         requires location { HasHandle self.now.mesh location.now }
         requires sites { All (P.sites tests.now) (map V.place self.now.vertices) }
         requires covered { P.covered tests.now (V.place value.now) }
-        ensures { IsTrue result ↔ IsLeftOfPlace (map V.place self.now.vertices) self.now.mesh (V.place value.now) location.now }
+        ensures { IsTrue result ↔
+            IsLeftOfPlace (map V.place self.now.vertices) self.now.mesh (V.place value.now)
+            location.now }
     {
         self.recall_invariant();
         match *location {
@@ -85,7 +92,8 @@ impl<V: HasPosition + Drop, DE: Default, UE: Default, F: Default, M: FreeByDefau
         }
     }
 
-    // What is at the position of a value. The search begins at a vertex, or at vertex 0 where there is no such vertex.
+    // What is at the position of a value. The search begins at a vertex, or at vertex 0 where there
+    // is no such vertex.
     fn entry<P: PlaneTests<V::Scalar>>(
         &self,
         value: &V,

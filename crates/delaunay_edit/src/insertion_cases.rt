@@ -15,7 +15,8 @@ use delaunay_insertion::{
 use delaunay_location::PositionInTriangulation;
 use half_edge_mesh::{Dcel, FixedVertexHandle};
 
-// The new last vertex at a position that no vertex has. A constraint that the position is strictly within becomes two.
+// The new last vertex at a position that no vertex has. A constraint that the position is strictly
+// within becomes two.
 pub(crate) fn insert_at<
     M: FreeByDefault<UE>,
     V: HasPosition,
@@ -31,11 +32,15 @@ pub(crate) fn insert_at<
     tests: &P,
 ) -> FixedVertexHandle
     requires can { CanTake V.place value (state_of dcel.old) }
-    requires sites { All (P.sites tests.now) (map V.place dcel.old.vertices) × P.sites tests.now (V.place value) }
-    requires vacant { IsVacant (map V.place dcel.old.vertices) dcel.old.mesh (V.place value) location turns }
-    requires room { HasRoomFor dcel.old.room (length dcel.old.vertices + 1) (3 * (length dcel.old.vertices + 1)) (2 * (length dcel.old.vertices + 1)) }
+    requires sites { All (P.sites tests.now) (map V.place dcel.old.vertices) ×
+        P.sites tests.now (V.place value) }
+    requires vacant { IsVacant (map V.place dcel.old.vertices) dcel.old.mesh (V.place value)
+        location turns }
+    requires room { HasRoomFor dcel.old.room (length dcel.old.vertices + 1)
+        (3 * (length dcel.old.vertices + 1)) (2 * (length dcel.old.vertices + 1)) }
     ensures takes { TakesVertex V.place value (state_of dcel.old) (state_of dcel.new) result }
-    ensures constraints { SplitsConstraints V.place M.constraints (state_of dcel.old) (state_of dcel.new) value }
+    ensures constraints { SplitsConstraints V.place M.constraints (state_of dcel.old)
+        (state_of dcel.new) value }
 {
     match location {
         PositionInTriangulation::OnFace(face) => insert_inside_face(dcel, face, value),

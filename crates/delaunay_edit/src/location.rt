@@ -20,7 +20,8 @@ impl<V: HasPosition, DE, UE, F, M: ConstraintMarker<UE>> EditedMesh<V, DE, UE, F
     ) -> PositionInTriangulation
         requires sites { All (P.sites tests.now) (map V.place self.now.vertices) }
         requires covered { P.covered tests.now (place_of V.Scalar.whole point) }
-        ensures { Locates (map V.place self.now.vertices) self.now.mesh (place_of V.Scalar.whole point) result }
+        ensures { Locates (map V.place self.now.vertices) self.now.mesh
+            (place_of V.Scalar.whole point) result }
     {
         locate_with_hint(&self.dcel, point, hint, tests)
     }

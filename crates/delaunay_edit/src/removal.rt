@@ -1,5 +1,6 @@
 //! Vertices that go, one or all of them, and a vertex that gives way to one of its position.
-ghost use Rattle.std.specs.Prelude.{◌≡◌, ◌<◌, [], length, map, All, Some, IfOk, OnErr, OnOk, slice_get, slice_set};
+ghost use Rattle.std.specs.Prelude.{◌≡◌, ◌<◌, [], length, map, All, Some, IfOk, OnErr, OnOk};
+ghost use Rattle.std.specs.Prelude.{slice_get, slice_set};
 ghost use Rattle.half_edge_mesh.specs.Mesh.{empty};
 ghost use Rattle.plane.specs.Plain.{IsCleared, Removes, Replaces};
 ghost use Rattle.delaunay_legalization.specs.Constraints.{points_and_constraints_by};
@@ -24,7 +25,8 @@ impl<V: HasPosition, DE, UE, F, M: ConstraintMarker<UE>> EditedMesh<V, DE, UE, F
         requires same { point_at (map V.place self.old.vertices) vertex ≡ V.place value }
 
         ensures value { slice_get self.old.vertices vertex ≡ Some result }
-        ensures new { self.new ≡ record self.old { vertices = slice_set self.old.vertices vertex value } }
+        ensures new { self.new ≡ record self.old
+            { vertices = slice_set self.old.vertices vertex value } }
         ensures plain { Replaces V.place (points_and_constraints_by M.constraints self.old)
             (points_and_constraints_by M.constraints self.new) vertex value }
         ensures headline { IsDelaunay V.place M.constraints self.new }
@@ -42,7 +44,8 @@ impl<V: HasPosition, DE: Drop, UE: Drop, F: Drop, M: ConstraintMarker<UE>> Edite
     F,
     M,
 > {
-    // Takes a vertex out and tests the edges between its neighbours, or a refusal that changes nothing.
+    // Takes a vertex out and tests the edges between its neighbours, or a refusal that changes
+    // nothing.
     fn take_out<P: PlaneTests<V::Scalar>>(
         &mut self,
         vertex: FixedVertexHandle,
@@ -51,7 +54,8 @@ impl<V: HasPosition, DE: Drop, UE: Drop, F: Drop, M: ConstraintMarker<UE>> Edite
         requires within { vertex < length self.old.vertices }
         requires sites { All (P.sites tests.now) (map V.place self.old.vertices) }
         ensures value { IfOk result (λ v. slice_get self.old.vertices vertex ≡ Some v) }
-        ensures plain { OnOk result (Removes V.place (points_and_constraints_by M.constraints self.old)
+        ensures plain { OnOk result
+            (Removes V.place (points_and_constraints_by M.constraints self.old)
             (points_and_constraints_by M.constraints self.new) vertex) }
         ensures outer { self.new.outer ≡ self.old.outer }
         ensures data { OnOk result (KeepsDataOfOthers self.old self.new vertex) }
@@ -112,7 +116,13 @@ impl<V: HasPosition + Drop, DE: Drop, UE: Drop, F: Drop, M: ConstraintMarker<UE>
     /// Forgets each vertex, each edge with its constraint, and each inner face. The outer face
     /// keeps its data, and memory that was taken is kept for later insertions. It is never refused.
     pub fn clear(&mut self)
-        ensures new { self.new ≡ record self.old { vertices = []; mesh = empty; directed = []; undirected = []; faces = [] } }
+        ensures new { self.new ≡ record self.old {
+          vertices = [];
+          mesh = empty;
+          directed = [];
+          undirected = [];
+          faces = [];
+        } }
         ensures plain { IsCleared V.place (points_and_constraints_by M.constraints self.new) }
         ensures headline { IsDelaunay V.place M.constraints self.new }
     {

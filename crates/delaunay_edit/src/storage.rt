@@ -1,7 +1,8 @@
 //! Triangulations with room for more, and copies.
 ghost use Rattle.std.specs.Prelude.{◌≡◌, ◌≤◌, ◌↔◌, IfOk, IsErrOf, IsOk};
 ghost use Rattle.half_edge_mesh.specs.Room.{AreFewEnough};
-ghost use Rattle.delaunay_core.specs.declared.math.InsertionError.TheVariants.{TooLarge, OutOfIndexes};
+ghost use Rattle.delaunay_core.specs.declared.math.InsertionError.TheVariants.{TooLarge};
+ghost use Rattle.delaunay_core.specs.declared.math.InsertionError.TheVariants.{OutOfIndexes};
 ghost use Rattle.delaunay_legalization.specs.State.{state_of};
 ghost use Rattle.delaunay_edit.specs.Headline.{IsDelaunay};
 ghost use Rattle.delaunay_edit.specs.Storage.{IsCopy, IsEmptyState};
@@ -41,8 +42,9 @@ impl<
     F: Default + Drop,
     M: ConstraintMarker<UE>,
 > EditedMesh<V, DE, UE, F, M> {
-    /// A triangulation without vertices that has room for these totals, the outer face among them. It gives `OutOfIndexes`
-    /// where a total passes `MAX_ELEMENTS`, with edges counted twice, and else `OutOfMemory` where memory was refused.
+    /// A triangulation without vertices that has room for these totals, the outer face among them.
+    /// It gives `OutOfIndexes` where a total passes `MAX_ELEMENTS`, with edges counted twice, and
+    /// else `OutOfMemory` where memory was refused.
     pub fn with_capacity(
         alloc: Global,
         vertices: usize,
@@ -50,7 +52,8 @@ impl<
         faces: usize,
     ) -> Result<Self, InsertionError>
         ensures ok { IfOk result (IsEmptyState F.is_default) }
-        ensures full { IsErrOf result OutOfIndexes ↔ ¬ AreFewEnough vertices undirected_edges faces }
+        ensures full { IsErrOf result OutOfIndexes ↔
+            ¬ AreFewEnough vertices undirected_edges faces }
         ensures not_too_large { ¬ IsErrOf result TooLarge }
         ensures nothing { vertices ≡ 0 → undirected_edges ≡ 0 → faces ≤ 1 → IsOk result }
     {
@@ -73,7 +76,8 @@ impl<
     F: Clone + Drop,
     M: EdgeData<UE>,
 > EditedMesh<V, DE, UE, F, M> {
-    /// A copy with clones of all data, where a clone of a vertex has its position and one of an edge's data its mark.
+    /// A copy with clones of all data, where a clone of a vertex has its position and one of an
+    /// edge's data its mark.
     pub fn try_clone(&self) -> Result<Self, AllocError>
         requires places { (v w : V) → V.is_clone v w → V.place w ≡ V.place v }
         requires marks { (d e : UE) → UE.is_clone d e → M.marks e ≡ M.marks d }

@@ -2,14 +2,16 @@
 ghost use Rattle.std.specs.Prelude.{◌≡◌, ◌<◌, ◌≤◌, ◌∷◌, ℕ, length, Some, slice_get};
 ghost use Rattle.std.specs.Borrow.{Lends, sem};
 ghost use Rattle.delaunay_legalization.specs.State.{State};
-ghost use Rattle.delaunay_edit.specs.Writing.{with_directed_data, with_undirected_data, with_face_data};
+ghost use Rattle.delaunay_edit.specs.Writing.{with_directed_data, with_undirected_data};
+ghost use Rattle.delaunay_edit.specs.Writing.{with_face_data};
 
 use crate::edge_data::EdgeData;
 use crate::edited_mesh::EditedMesh;
 use delaunay_core::point::HasPosition;
 use half_edge_mesh::{FixedDirectedEdgeHandle, FixedFaceHandle, FixedUndirectedEdgeHandle};
 
-/// Data of edges and faces that can be written. That of vertices cannot, since it has their positions.
+/// Data of edges and faces that can be written. That of vertices cannot, since it has their
+/// positions.
 pub trait WriteData {
     type Vertex;
 
@@ -34,19 +36,23 @@ pub trait WriteData {
     /// The data of a directed edge, for writing.
     fn directed_edge_data_mut(&mut self, edge: FixedDirectedEdgeHandle) -> &mut Self::DirectedEdge
         requires { edge < length (written self.old).directed }
-        ensures* writes_back { sem 𝓛 (Lends Self.row Self.DirectedEdge.row self.entry result (with_directed self.entry.now edge)) }
+        ensures* writes_back { sem 𝓛 (Lends Self.row Self.DirectedEdge.row self.entry result
+            (with_directed self.entry.now edge)) }
         ensures value { slice_get (written self.old).directed edge ≡ Some result.now };
 
     /// The user's part of the data of an edge, for writing.
     fn undirected_edge_data_mut(&mut self, edge: FixedUndirectedEdgeHandle) -> &mut Self::User
         requires { edge < length (written self.old).undirected }
-        ensures* writes_back { sem 𝓛 (Lends Self.row Self.User.row self.entry result (with_user self.entry.now edge)) };
+        ensures* writes_back { sem 𝓛 (Lends Self.row Self.User.row self.entry result
+            (with_user self.entry.now edge)) };
 
     /// The data of a face, the outer one among them, for writing.
     fn face_data_mut(&mut self, face: FixedFaceHandle) -> &mut Self::Face
         requires { face ≤ length (written self.old).faces }
-        ensures* writes_back { sem 𝓛 (Lends Self.row Self.Face.row self.entry result (with_face self.entry.now face)) }
-        ensures value { slice_get ((written self.old).outer ∷ (written self.old).faces) face ≡ Some result.now };
+        ensures* writes_back { sem 𝓛 (Lends Self.row Self.Face.row self.entry result
+            (with_face self.entry.now face)) }
+        ensures value { slice_get ((written self.old).outer ∷ (written self.old).faces) face ≡
+            Some result.now };
 }
 
 impl<V: HasPosition, DE, UE, F, M: EdgeData<UE>> WriteData for EditedMesh<V, DE, UE, F, M> {

@@ -26,7 +26,8 @@ pub fn insert_inside_face<V: HasPosition, DE: Default, UE: Default, F: Default>(
     requires can { CanTake V.place value (state_of dcel.old) }
     requires positive { 0 < face }
     requires within { face ≤ length dcel.old.faces }
-    requires inside { IsInsideFaceOf (map V.place dcel.old.vertices) dcel.old.mesh (V.place value) (face_edge dcel.old.mesh face) }
+    requires inside { IsInsideFaceOf (map V.place dcel.old.vertices) dcel.old.mesh (V.place value)
+        (face_edge dcel.old.mesh face) }
     requires room { HasRoom dcel.old 1 3 2 }
     ensures takes { TakesVertex V.place value (state_of dcel.old) (state_of dcel.new) result }
     ensures edges { AddsOnly UE.is_default (edges dcel.old) (edges dcel.new) }
@@ -46,17 +47,20 @@ fn split_inner_edge<V: HasPosition, DE: Default, UE: Default, F: Default>(
     requires within { edge < length dcel.old.directed }
     requires inner { 0 < face dcel.old.mesh edge }
     requires twin_inner { 0 < face dcel.old.mesh (rev edge) }
-    requires on_edge { IsWithinEdge (map V.place dcel.old.vertices) dcel.old.mesh (V.place value) edge }
+    requires on_edge { IsWithinEdge (map V.place dcel.old.vertices) dcel.old.mesh (V.place value)
+        edge }
     requires room { HasRoom dcel.old 1 3 2 }
     ensures takes { TakesVertex V.place value (state_of dcel.old) (state_of dcel.new) result.0 }
-    ensures edges { SplitsAt UE.is_default (edges dcel.old) (edges dcel.new) (edge / 2) result.0 result.1 }
+    ensures edges { SplitsAt UE.is_default (edges dcel.old) (edges dcel.new) (edge / 2) result.0
+        result.1 }
 {
     let (vertex, parts) = dcel.split_edge(edge, value);
     dcel.recall_invariant();
     (vertex, parts[1].as_undirected())
 }
 
-// A vertex strictly within an edge of the hull, which has an inner face on its left, joined to the corners of that face.
+// A vertex strictly within an edge of the hull, which has an inner face on its left, joined to the
+// corners of that face.
 fn split_hull_edge<V: HasPosition, DE: Default, UE: Default, F: Default>(
     dcel: &mut Dcel<V, DE, UE, F>,
     edge: FixedDirectedEdgeHandle,
@@ -66,18 +70,20 @@ fn split_hull_edge<V: HasPosition, DE: Default, UE: Default, F: Default>(
     requires within { edge < length dcel.old.directed }
     requires inner { 0 < face dcel.old.mesh edge }
     requires outer { face dcel.old.mesh (rev edge) ≡ 0 }
-    requires on_edge { IsWithinEdge (map V.place dcel.old.vertices) dcel.old.mesh (V.place value) edge }
+    requires on_edge { IsWithinEdge (map V.place dcel.old.vertices) dcel.old.mesh (V.place value)
+        edge }
     requires room { HasRoom dcel.old 1 2 1 }
     ensures takes { TakesVertex V.place value (state_of dcel.old) (state_of dcel.new) result.0 }
-    ensures edges { SplitsAt UE.is_default (edges dcel.old) (edges dcel.new) (edge / 2) result.0 result.1 }
+    ensures edges { SplitsAt UE.is_default (edges dcel.old) (edges dcel.new) (edge / 2) result.0
+        result.1 }
 {
     let (vertex, parts) = dcel.split_half_edge(edge, value);
     dcel.recall_invariant();
     (vertex, parts[1].as_undirected())
 }
 
-// A vertex strictly within an edge, and the second half of the edge, which has default data as all new edges do; the first half
-// has those of the edge.
+// A vertex strictly within an edge, and the second half of the edge, which has default data as all
+// new edges do; the first half has those of the edge.
 fn split_at<V: HasPosition, DE: Default, UE: Default, F: Default>(
     dcel: &mut Dcel<V, DE, UE, F>,
     edge: FixedDirectedEdgeHandle,
@@ -85,10 +91,13 @@ fn split_at<V: HasPosition, DE: Default, UE: Default, F: Default>(
 ) -> (FixedVertexHandle, FixedUndirectedEdgeHandle)
     requires can { CanTake V.place value (state_of dcel.old) }
     requires within { edge < length dcel.old.directed }
-    requires on_edge { IsWithinEdge (map V.place dcel.old.vertices) dcel.old.mesh (V.place value) edge }
-    requires room { HasRoomFor dcel.old.room (length dcel.old.vertices + 1) (3 * (length dcel.old.vertices + 1)) (2 * (length dcel.old.vertices + 1)) }
+    requires on_edge { IsWithinEdge (map V.place dcel.old.vertices) dcel.old.mesh (V.place value)
+        edge }
+    requires room { HasRoomFor dcel.old.room (length dcel.old.vertices + 1)
+        (3 * (length dcel.old.vertices + 1)) (2 * (length dcel.old.vertices + 1)) }
     ensures takes { TakesVertex V.place value (state_of dcel.old) (state_of dcel.new) result.0 }
-    ensures edges { SplitsAt UE.is_default (edges dcel.old) (edges dcel.new) (edge / 2) result.0 result.1 }
+    ensures edges { SplitsAt UE.is_default (edges dcel.old) (edges dcel.new) (edge / 2) result.0
+        result.1 }
 {
     if dcel.num_inner_faces() == 0 {
         split_line_edge(dcel, edge, value)
@@ -111,10 +120,13 @@ pub fn insert_within_edge<
 >(dcel: &mut Dcel<V, DE, UE, F>, edge: FixedDirectedEdgeHandle, value: V) -> FixedVertexHandle
     requires can { CanTake V.place value (state_of dcel.old) }
     requires within { edge < length dcel.old.directed }
-    requires on_edge { IsWithinEdge (map V.place dcel.old.vertices) dcel.old.mesh (V.place value) edge }
-    requires room { HasRoomFor dcel.old.room (length dcel.old.vertices + 1) (3 * (length dcel.old.vertices + 1)) (2 * (length dcel.old.vertices + 1)) }
+    requires on_edge { IsWithinEdge (map V.place dcel.old.vertices) dcel.old.mesh (V.place value)
+        edge }
+    requires room { HasRoomFor dcel.old.room (length dcel.old.vertices + 1)
+        (3 * (length dcel.old.vertices + 1)) (2 * (length dcel.old.vertices + 1)) }
     ensures takes { TakesVertex V.place value (state_of dcel.old) (state_of dcel.new) result }
-    ensures constraints { SplitsConstraints V.place M.constraints (state_of dcel.old) (state_of dcel.new) value }
+    ensures constraints { SplitsConstraints V.place M.constraints (state_of dcel.old)
+        (state_of dcel.new) value }
 {
     let was_constraint = is_constraint_edge::<M, _, _, _, _>(dcel, edge.as_undirected());
     let (vertex, second_half) = split_at(dcel, edge, value);

@@ -1,4 +1,5 @@
-//! Growth of a triangulated mesh by one vertex: inside a face, within an edge, outside the hull or on the line of all vertices.
+//! Growth of a triangulated mesh by one vertex: inside a face, within an edge, outside the hull or
+//! on the line of all vertices.
 #![tactic(auto)]
 
 mod free_by_default;

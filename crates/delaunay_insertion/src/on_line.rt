@@ -60,7 +60,8 @@ pub fn insert_past_end<V: HasPosition, DE: Default, UE: Default, F>(
     requires apart { IsApart (map V.place dcel.old.vertices) (V.place value) }
     requires one_face { length dcel.old.faces ≡ 0 }
     requires within { edge < length dcel.old.directed }
-    requires past { IsPast (alone (map V.place dcel.old.vertices)) (origin dcel.old.mesh edge) (fraction (V.place value)) }
+    requires past { IsPast (alone (map V.place dcel.old.vertices)) (origin dcel.old.mesh edge)
+        (fraction (V.place value)) }
     requires room { HasRoom dcel.old 1 1 0 }
     ensures takes { TakesVertex V.place value (state_of dcel.old) (state_of dcel.new) result }
     ensures edges { AddsOnly UE.is_default (edges dcel.old) (edges dcel.new) }
@@ -80,10 +81,12 @@ pub(crate) fn split_line_edge<V: HasPosition, DE: Default, UE: Default, F>(
     requires can { CanTake V.place value (state_of dcel.old) }
     requires one_face { length dcel.old.faces ≡ 0 }
     requires within { edge < length dcel.old.directed }
-    requires on_edge { IsWithinEdge (map V.place dcel.old.vertices) dcel.old.mesh (V.place value) edge }
+    requires on_edge { IsWithinEdge (map V.place dcel.old.vertices) dcel.old.mesh (V.place value)
+        edge }
     requires room { HasRoom dcel.old 1 1 0 }
     ensures takes { TakesVertex V.place value (state_of dcel.old) (state_of dcel.new) result.0 }
-    ensures edges { SplitsAt UE.is_default (edges dcel.old) (edges dcel.new) (edge / 2) result.0 result.1 }
+    ensures edges { SplitsAt UE.is_default (edges dcel.old) (edges dcel.new) (edge / 2) result.0
+        result.1 }
 {
     let (vertex, parts) = dcel.split_edge_when_all_vertices_on_line(edge, value);
     dcel.recall_invariant();

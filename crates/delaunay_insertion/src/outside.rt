@@ -1,5 +1,6 @@
 //! A new vertex outside the hull, or off the line of all vertices.
-ghost use Rattle.std.specs.Prelude.{◌≡◌, ◌↔◌, ◌+◌, ◌*◌, ◌<◌, length, map, All, IsTrue, IfSome, IfNone};
+ghost use Rattle.std.specs.Prelude.{◌≡◌, ◌↔◌, ◌+◌, ◌*◌, ◌<◌};
+ghost use Rattle.std.specs.Prelude.{length, map, All, IsTrue, IfSome, IfNone};
 ghost use Rattle.half_edge_mesh.specs.Mesh.{origin, next, prev, rev, face};
 ghost use Rattle.half_edge_mesh.specs.Room.{HasRoomFor};
 ghost use Rattle.half_edge_mesh.specs.Contents.{IsMeshWithData, edges};
@@ -59,8 +60,10 @@ fn seen_after<V: HasPosition, DE, UE, F, P: PlaneTests<V::Scalar>>(
     requires sites { All (P.sites tests.now) (map V.place dcel.now.vertices) }
     ensures whole { IsMeshWithData dcel.now }
     ensures is { IfSome result (λ e. e ≡ next dcel.now.mesh edge) }
-    ensures some { IfSome result (λ e. Sees (map V.place dcel.now.vertices) dcel.now.mesh vertex e) }
-    ensures none { IfNone result (¬ Sees (map V.place dcel.now.vertices) dcel.now.mesh vertex (next dcel.now.mesh edge)) }
+    ensures some { IfSome result (λ e. Sees (map V.place dcel.now.vertices) dcel.now.mesh vertex
+        e) }
+    ensures none { IfNone result (¬ Sees (map V.place dcel.now.vertices) dcel.now.mesh vertex
+        (next dcel.now.mesh edge)) }
 {
     dcel.recall_invariant();
     let after = dcel.directed_edge(edge).next().fix();
@@ -82,9 +85,12 @@ fn seen_before<V: HasPosition, DE, UE, F, P: PlaneTests<V::Scalar>>(
     requires vertex { vertex < length dcel.now.vertices }
     requires sites { All (P.sites tests.now) (map V.place dcel.now.vertices) }
     ensures whole { IsMeshWithData dcel.now }
-    ensures is { IfSome result (λ e. (e ≡ prev dcel.now.mesh edge) × (e < length dcel.now.directed)) }
-    ensures some { IfSome result (λ e. Sees (map V.place dcel.now.vertices) dcel.now.mesh vertex e) }
-    ensures none { IfNone result (¬ Sees (map V.place dcel.now.vertices) dcel.now.mesh vertex (prev dcel.now.mesh edge)) }
+    ensures is { IfSome result (λ e. (e ≡ prev dcel.now.mesh edge) ×
+        (e < length dcel.now.directed)) }
+    ensures some { IfSome result (λ e. Sees (map V.place dcel.now.vertices) dcel.now.mesh vertex
+        e) }
+    ensures none { IfNone result (¬ Sees (map V.place dcel.now.vertices) dcel.now.mesh vertex
+        (prev dcel.now.mesh edge)) }
 {
     dcel.recall_invariant();
     let before = dcel.directed_edge(edge).prev().fix();
@@ -95,7 +101,8 @@ fn seen_before<V: HasPosition, DE, UE, F, P: PlaneTests<V::Scalar>>(
     }
 }
 
-// A vertex strictly on the left of an outer edge, joined to each outer edge that has it on its left.
+// A vertex strictly on the left of an outer edge, joined to each outer edge that has it on its
+// left.
 pub fn join_outside<V: HasPosition, DE: Default, UE: Default, F: Default, P: PlaneTests<V::Scalar>>(
     dcel: &mut Dcel<V, DE, UE, F>,
     edge: FixedDirectedEdgeHandle,
@@ -103,11 +110,15 @@ pub fn join_outside<V: HasPosition, DE: Default, UE: Default, F: Default, P: Pla
     tests: &P,
 ) -> FixedVertexHandle
     requires can { CanTake V.place value (state_of dcel.old) }
-    requires sites { All (P.sites tests.now) (map V.place dcel.old.vertices) × P.sites tests.now (V.place value) }
+    requires sites { All (P.sites tests.now) (map V.place dcel.old.vertices) ×
+        P.sites tests.now (V.place value) }
     requires within { edge < length dcel.old.directed }
     requires outer { face dcel.old.mesh edge ≡ 0 }
-    requires turns { TurnsLeft (place (map V.place dcel.old.vertices) (origin dcel.old.mesh edge)) (place (map V.place dcel.old.vertices) (origin dcel.old.mesh (rev edge))) (fraction (V.place value)) }
-    requires room { HasRoomFor dcel.old.room (length dcel.old.vertices + 1) (3 * (length dcel.old.vertices + 1)) (2 * (length dcel.old.vertices + 1)) }
+    requires turns { TurnsLeft (place (map V.place dcel.old.vertices) (origin dcel.old.mesh edge))
+        (place (map V.place dcel.old.vertices) (origin dcel.old.mesh (rev edge)))
+        (fraction (V.place value)) }
+    requires room { HasRoomFor dcel.old.room (length dcel.old.vertices + 1)
+        (3 * (length dcel.old.vertices + 1)) (2 * (length dcel.old.vertices + 1)) }
     ensures takes { TakesVertex V.place value (state_of dcel.old) (state_of dcel.new) result }
     ensures edges { AddsOnly UE.is_default (edges dcel.old) (edges dcel.new) }
 {

@@ -1,7 +1,8 @@
 //! Room for what one more vertex can bring.
 ghost use Rattle.std.specs.Prelude.{◌≡◌, ◌↔◌, ◌+◌, ◌*◌, ◌<◌, length, IsErrOf, OnOk};
 ghost use Rattle.half_edge_mesh.specs.Room.{HasRoomFor};
-ghost use Rattle.delaunay_core.specs.declared.math.InsertionError.TheVariants.{TooLarge, OutOfIndexes};
+ghost use Rattle.delaunay_core.specs.declared.math.InsertionError.TheVariants.{TooLarge};
+ghost use Rattle.delaunay_core.specs.declared.math.InsertionError.TheVariants.{OutOfIndexes};
 ghost use Rattle.delaunay_legalization.specs.State.{state_of};
 
 use delaunay_core::math::InsertionError;
@@ -10,9 +11,11 @@ use half_edge_mesh::{Dcel, MAX_ELEMENTS, ReserveError};
 // Makes room for one more vertex, with the edges and faces that it can bring.
 pub fn reserve_for_vertex<V, DE, UE, F>(dcel: &mut Dcel<V, DE, UE, F>) -> Result<(), InsertionError>
     ensures same { state_of dcel.new ≡ state_of dcel.old }
-    ensures full { IsErrOf result OutOfIndexes ↔ (MAX_ELEMENTS < 6 * (length dcel.old.vertices + 1)) }
+    ensures full { IsErrOf result OutOfIndexes ↔
+        (MAX_ELEMENTS < 6 * (length dcel.old.vertices + 1)) }
     ensures not_too_large { ¬ IsErrOf result TooLarge }
-    ensures ok { OnOk result (HasRoomFor dcel.new.room (length dcel.old.vertices + 1) (3 * (length dcel.old.vertices + 1)) (2 * (length dcel.old.vertices + 1))) }
+    ensures ok { OnOk result (HasRoomFor dcel.new.room (length dcel.old.vertices + 1)
+        (3 * (length dcel.old.vertices + 1)) (2 * (length dcel.old.vertices + 1))) }
 {
     let vertices = dcel.num_vertices() + 1;
     match dcel.reserve_capacity(vertices, 3 * vertices, 2 * vertices) {

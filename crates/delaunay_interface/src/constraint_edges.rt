@@ -4,7 +4,10 @@ ghost use Rattle.std.specs.Iterator.{IsFinite};
 ghost use Rattle.plane.specs.Tests.{InRange};
 ghost use Rattle.delaunay_edit.specs.Constrained.{constraint_edges};
 ghost use Rattle.delaunay_edit.specs.Headline.{AreSites, IsDelaunay};
-ghost use Rattle.delaunay_interface.specs.ConstraintEdges.{AddsConstraintEdge, AddsConstraintEdges, ClosesPath, ExtendsPath, InsertsEnd, JoinsVertices, MayGive, StaysReady, Takes};
+ghost use Rattle.delaunay_interface.specs.ConstraintEdges.{AddsConstraintEdge, AddsConstraintEdges};
+ghost use Rattle.delaunay_interface.specs.ConstraintEdges.{ClosesPath, ExtendsPath, InsertsEnd};
+ghost use Rattle.delaunay_interface.specs.ConstraintEdges.{JoinsVertices, MayGive, StaysReady};
+ghost use Rattle.delaunay_interface.specs.ConstraintEdges.{Takes};
 
 use crate::constraint_error::ConstraintError;
 use crate::triangulation::Triangulation;

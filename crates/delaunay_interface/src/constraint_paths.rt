@@ -2,7 +2,8 @@
 ghost use Rattle.std.specs.Prelude.{◌≡◌, ◌⊎◌, ◌↔◌, ◌<◌, length, IsTrue, IsOk, IfOk, OnErr};
 ghost use Rattle.plane.specs.Plain.{CanAdd};
 ghost use Rattle.delaunay_edit.specs.Constrained.{constrained, constraint_edges};
-ghost use Rattle.delaunay_edit.specs.ConstraintEdits.{AddsConstraint, AddsPathIfFree, ReleasesConstraint};
+ghost use Rattle.delaunay_edit.specs.ConstraintEdits.{AddsConstraint, AddsPathIfFree};
+ghost use Rattle.delaunay_edit.specs.ConstraintEdits.{ReleasesConstraint};
 ghost use Rattle.delaunay_edit.specs.Headline.{AreSites, IsDelaunay};
 
 use crate::triangulation_core::ConstrainedDelaunayTriangulation;
@@ -36,9 +37,9 @@ impl<V: HasPosition, DE, UE, F, L: HintGenerator<V::Scalar>> ConstrainedDelaunay
     }
 
     /// Makes constraints of the edges between neighbours among the vertices on the segment between
-    /// two, which no constraint crosses. It tells whether that made a constraint of an edge that was
-    /// none, and gives `AllocError` where memory was refused; then nothing changes, and so where it
-    /// made none.
+    /// two, which no constraint crosses. It tells whether that made a constraint of an edge that
+    /// was none, and gives `AllocError` where memory was refused; then nothing changes, and so
+    /// where it made none.
     pub fn add_constraint<P: PlaneTests<V::Scalar>>(
         &mut self,
         from: FixedVertexHandle,
@@ -85,9 +86,9 @@ impl<V: HasPosition, DE, UE, F, L: HintGenerator<V::Scalar>> ConstrainedDelaunay
     }
 
     /// Takes from an edge that it is a constraint, and tells whether it was one: where it was none,
-    /// nothing changes, and no memory is taken. An edge or face that is there before and after keeps
-    /// its handle and its data. It gives `AllocError` where memory was refused, and then nothing
-    /// changes.
+    /// nothing changes, and no memory is taken. An edge or face that is there before and after
+    /// keeps its handle and its data. It gives `AllocError` where memory was refused, and then
+    /// nothing changes.
     ///
     /// ```
     /// if site.remove_constraint_edge(edge, &ExactTests)? {

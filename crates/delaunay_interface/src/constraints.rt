@@ -4,7 +4,8 @@ ghost use Rattle.half_edge_mesh.specs.Mesh.{origin, rev};
 ghost use Rattle.plane.specs.Pairs.{Joins};
 ghost use Rattle.plane.specs.Plain.{Unconstrains};
 ghost use Rattle.delaunay_legalization.specs.State.{points_and_constraints};
-ghost use Rattle.delaunay_edit.specs.Constrained.{IsFree, constrained, constraint_edges, constraints_of};
+ghost use Rattle.delaunay_edit.specs.Constrained.{IsFree, constrained, constraint_edges};
+ghost use Rattle.delaunay_edit.specs.Constrained.{constraints_of};
 ghost use Rattle.delaunay_edit.specs.Data.{HasOtherEdgeData};
 ghost use Rattle.delaunay_edit.specs.Headline.{IsDelaunay};
 

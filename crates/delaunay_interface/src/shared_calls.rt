@@ -1,5 +1,6 @@
 //! The calls of the trait, for the struct that both triangulation types are.
-ghost use Rattle.delaunay_edit.specs.Writing.{with_directed_data, with_undirected_data, with_face_data};
+ghost use Rattle.delaunay_edit.specs.Writing.{with_directed_data, with_undirected_data};
+ghost use Rattle.delaunay_edit.specs.Writing.{with_face_data};
 
 use crate::telling::position_if;
 use crate::triangulation::{Triangulation, sealed};

@@ -1,16 +1,19 @@
 //! The calls of both triangulation types.
-ghost use Rattle.std.specs.Prelude.{◌≡◌, ℕ, ◌+◌, ◌*◌, ◌<◌, ◌≤◌, ◌↔◌, [], ◌∷◌, length, map, Some, IsTrue, IsOk, IsErrOf, IfOk, MatchOption, slice_get, slice_set};
+ghost use Rattle.std.specs.Prelude.{◌≡◌, ℕ, ◌+◌, ◌*◌, ◌<◌, ◌≤◌, ◌↔◌, [], ◌∷◌, length, map, Some};
+ghost use Rattle.std.specs.Prelude.{IsTrue, IsOk, IsErrOf, IfOk, MatchOption, slice_get, slice_set};
 ghost use Rattle.std.specs.Borrow.{Lends, sem};
 ghost use Rattle.half_edge_links.specs.declared.room.TheConstants.{MAX_ELEMENTS};
 ghost use Rattle.half_edge_mesh.specs.Mesh.{empty};
 ghost use Rattle.half_edge_mesh.specs.Room.{AreFewEnough};
 ghost use Rattle.plane.specs.Plain.{IsCleared, Replaces};
 ghost use Rattle.plane.specs.Tests.{InRange};
-ghost use Rattle.delaunay_core.specs.declared.math.InsertionError.TheVariants.{TooLarge, OutOfIndexes};
+ghost use Rattle.delaunay_core.specs.declared.math.InsertionError.TheVariants.{TooLarge};
+ghost use Rattle.delaunay_core.specs.declared.math.InsertionError.TheVariants.{OutOfIndexes};
 ghost use Rattle.delaunay_legalization.specs.Constraints.{points_and_constraints_by};
 ghost use Rattle.delaunay_edit.specs.Storage.{IsEmptyState};
 ghost use Rattle.std.specs.List.{range_with_len};
-ghost use Rattle.half_edge_mesh.specs.Left.{vertices_left, directed_edges_left, undirected_edges_left, faces_left};
+ghost use Rattle.half_edge_mesh.specs.Left.{vertices_left, directed_edges_left};
+ghost use Rattle.half_edge_mesh.specs.Left.{undirected_edges_left, faces_left};
 ghost use Rattle.half_edge_mesh.specs.Rounds.{hull_left};
 ghost use Rattle.plane.specs.Hint.{IsAtMostOf};
 ghost use Rattle.delaunay_core.specs.Place.{place_of};
@@ -21,7 +24,8 @@ ghost use Rattle.delaunay_edit.specs.Elements.{FindsLocation, GivesElements, IsV
 ghost use Rattle.delaunay_edit.specs.Headline.{AreSites, IsDelaunay, IsWellFormed};
 ghost use Rattle.delaunay_edit.specs.Hull.{CountsHullEdges};
 ghost use Rattle.delaunay_interface.specs.InnerFaces.{inner_faces_left};
-ghost use Rattle.delaunay_interface.specs.Views.{AreNotJoined, AreOnLine, GivesOutline, IsEdgeBetween, IsElement, corners_at, ends_at};
+ghost use Rattle.delaunay_interface.specs.Views.{AreNotJoined, AreOnLine, GivesOutline};
+ghost use Rattle.delaunay_interface.specs.Views.{IsEdgeBetween, IsElement, corners_at, ends_at};
 
 use crate::inner_faces::InnerFaceIterator;
 use crate::lookups::vertex_near;
@@ -168,8 +172,8 @@ pub trait Triangulation: Drop + sealed::Sealed {
             (state self.new) };
 
     /// Removes a vertex, with the constraints that end at it, and gives it back; the last vertex
-    /// takes its handle, and the hint generator is told. Handles of edges and faces change too. Each
-    /// other constraint stays. An edge that did not end at the vertex, or a face without that
+    /// takes its handle, and the hint generator is told. Handles of edges and faces change too.
+    /// Each other constraint stays. An edge that did not end at the vertex, or a face without that
     /// corner, that is there before and after keeps its data, and so does the outer face. It gives
     /// `AllocError` where memory was refused, and then nothing changes.
     ///

@@ -36,7 +36,8 @@ impl<V: HasPosition, DE, UE, F, L: HintGenerator<V::Scalar>, M: EdgeData<UE>> Mo
     ghost view = { λ c. c.edited };
 
     // What the generator holds are positions of vertices.
-    ghost invariant = { λ c. IsAtMostOf (L.holds c.hint_generator) (map V.place c.edited.vertices) };
+    ghost invariant = { λ c.
+        IsAtMostOf (L.holds c.hint_generator) (map V.place c.edited.vertices) };
 }
 
 /// A triangulation of vertices with different positions. Its inner faces turn left and tile the

@@ -1,9 +1,11 @@
 //! A legalization that begins with the edges between some vertices, where only these may fail.
-ghost use Rattle.std.specs.Prelude.{◌≡◌, ◌↔◌, ℕ, ◌*◌, ◌/◌, ◌<◌, ◌≤◌, length, map, All, Contains, IsTrue, vec_capacity};
+ghost use Rattle.std.specs.Prelude.{◌≡◌, ◌↔◌, ℕ, ◌*◌, ◌/◌, ◌<◌, ◌≤◌};
+ghost use Rattle.std.specs.Prelude.{length, map, All, Contains, IsTrue, vec_capacity};
 ghost use Rattle.mesh_embedding.specs.Drawn.{faces_of};
 ghost use Rattle.mesh_embedding.specs.Legal.{AreEdges};
 ghost use Rattle.mesh_embedding.specs.Stays.{KeepsIndexes};
-ghost use Rattle.delaunay_legalization.specs.Among.{AllPassBeyond, HasEdgesAmong, HasForwardFrom, HasIfForward};
+ghost use Rattle.delaunay_legalization.specs.Among.{AllPassBeyond, HasEdgesAmong, HasForwardFrom};
+ghost use Rattle.delaunay_legalization.specs.Among.{HasIfForward};
 ghost use Rattle.delaunay_legalization.specs.Constraints.{constraints_by};
 ghost use Rattle.delaunay_legalization.specs.Flips.{CountsFlips, FlipsFit};
 ghost use Rattle.delaunay_legalization.specs.Shape.{IsTriangulated, IsDelaunayTriangulation};
@@ -91,8 +93,8 @@ fn push_among<V, DE, UE, F>(
     dcel.recall_invariant();
 }
 
-// Tests the edges between two of some vertices, where each other edge passes, and flips those that fail and are no constraints
-// until none does.
+// Tests the edges between two of some vertices, where each other edge passes, and flips those that
+// fail and are no constraints until none does.
 pub fn legalize_among<M: ConstraintMarker<UE>, V: HasPosition, DE, UE, F, P: PlaneTests<V::Scalar>>(
     dcel: &mut Dcel<V, DE, UE, F>,
     vertices: &[FixedVertexHandle],
@@ -103,12 +105,14 @@ pub fn legalize_among<M: ConstraintMarker<UE>, V: HasPosition, DE, UE, F, P: Pla
     requires within { (k : ℕ) → Contains vertices.now k → k < length dcel.old.vertices }
     requires sites { All (P.sites tests.now) (map V.place dcel.old.vertices) }
     requires kept { IsTriangulated V.place (state_of dcel.old) }
-    requires passing { AllPassBeyond (map V.place dcel.old.vertices) (faces_of dcel.old.mesh) (constraints_by M.constraints (state_of dcel.old)) vertices.now }
+    requires passing { AllPassBeyond (map V.place dcel.old.vertices) (faces_of dcel.old.mesh)
+        (constraints_by M.constraints (state_of dcel.old)) vertices.now }
     requires room { 3 * length dcel.old.vertices ≤ vec_capacity work.old }
     requires fits { FlipsFit (length dcel.old.vertices) flips.old }
     ensures contents { dcel.new ≡ record dcel.old { mesh = dcel.new.mesh } }
     ensures legal { IsDelaunayTriangulation V.place M.constraints (state_of dcel.new) }
-    ensures constraints { constraints_by M.constraints (state_of dcel.new) ≡ constraints_by M.constraints (state_of dcel.old) }
+    ensures constraints { constraints_by M.constraints (state_of dcel.new) ≡
+        constraints_by M.constraints (state_of dcel.old) }
     ensures counted { CountsFlips (length dcel.old.vertices) flips.old flips.new }
     ensures indexes { KeepsIndexes dcel.old.mesh dcel.new.mesh }
 {

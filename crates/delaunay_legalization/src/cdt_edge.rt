@@ -5,7 +5,8 @@ ghost use Rattle.delaunay_legalization.specs.Constraints.{marked_edges};
 
 use crate::constraint_marker::ConstraintMarker;
 
-/// The data of an undirected edge of a constrained triangulation: whether the edge is a constraint, and the user's data.
+/// The data of an undirected edge of a constrained triangulation: whether the edge is a constraint,
+/// and the user's data.
 ///
 /// ```
 /// let data = site.undirected_edge(edge).data();

@@ -2,7 +2,8 @@
 ghost use Rattle.std.specs.Prelude.{◌≡◌, ℕ, Bool, true, false, List, [], refl};
 ghost use Rattle.delaunay_legalization.specs.Constraints.{marked_edges, none_marked, not_both};
 
-/// Which undirected edges of a triangulation are constraints, so that no edit flips them, by a mark in their data.
+/// Which undirected edges of a triangulation are constraints, so that no edit flips them, by a mark
+/// in their data.
 pub trait ConstraintMarker<UE> {
     ghost marks: { UE → Bool };
 

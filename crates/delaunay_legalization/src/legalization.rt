@@ -1,12 +1,14 @@
 //! Flips of edges that fail the circle test, until each edge passes but the constraints.
-ghost use Rattle.std.specs.Prelude.{◌≡◌, ◌↔◌, ℕ, ◌+◌, ◌-◌, ◌*◌, ◌/◌, ◌<◌, ◌≤◌, ◌^◌, ◌++◌, ◌∷◌, [], length, map, All, Contains, IsTrue, vec_capacity};
+ghost use Rattle.std.specs.Prelude.{◌≡◌, ◌↔◌, ℕ, ◌+◌, ◌-◌, ◌*◌, ◌/◌, ◌<◌, ◌≤◌, ◌^◌, ◌++◌, ◌∷◌, []};
+ghost use Rattle.std.specs.Prelude.{length, map, All, Contains, IsTrue, vec_capacity};
 ghost use Rattle.half_edge_mesh.specs.Mesh.{Mesh, origin, next, prev, face, rev};
 ghost use Rattle.half_edge_mesh.specs.Flip.{flipped};
 ghost use Rattle.plane.specs.Delaunay.{IsLocallyDelaunay};
 ghost use Rattle.plane_tiling.specs.Local.{IsMesh};
 ghost use Rattle.plane_edits.specs.Legal.{AllPassBut};
 ghost use Rattle.mesh_embedding.specs.Drawn.{drawn, faces_of, outer_of};
-ghost use Rattle.mesh_embedding.specs.Legal.{AreEdges, Gains, GainsRound, IsFailing, IsPartlyLegal, pairs_at, steps_left};
+ghost use Rattle.mesh_embedding.specs.Legal.{AreEdges, Gains, GainsRound, IsFailing, IsPartlyLegal};
+ghost use Rattle.mesh_embedding.specs.Legal.{pairs_at, steps_left};
 ghost use Rattle.mesh_embedding.specs.Stays.{KeepsIndexes};
 ghost use Rattle.delaunay_core.specs.Place.{place_of};
 ghost use Rattle.delaunay_legalization.specs.Constraints.{constraint_pairs};
@@ -23,7 +25,8 @@ pub fn start_of<V: HasPosition, DE, UE, F>(
     edge: FixedDirectedEdgeHandle,
 ) -> Point2<V::Scalar>
     requires { edge < length dcel.now.directed }
-    ensures place { place_of V.Scalar.whole result ≡ point_at (map V.place dcel.now.vertices) (origin dcel.now.mesh edge) }
+    ensures place { place_of V.Scalar.whole result ≡
+        point_at (map V.place dcel.now.vertices) (origin dcel.now.mesh edge) }
     ensures listed { Contains (map V.place dcel.now.vertices) (place_of V.Scalar.whole result) }
 {
     let vertex = dcel.directed_edge(edge).from().fix();
@@ -51,8 +54,10 @@ fn sides_round<V, DE, UE, F>(
     requires { edge < length dcel.now.directed }
     ensures next { (result.0 ≡ next dcel.now.mesh edge) × (result.0 < length dcel.now.directed) }
     ensures prev { (result.1 ≡ prev dcel.now.mesh edge) × (result.1 < length dcel.now.directed) }
-    ensures twin_next { (result.2 ≡ next dcel.now.mesh (rev edge)) × (result.2 < length dcel.now.directed) }
-    ensures twin_prev { (result.3 ≡ prev dcel.now.mesh (rev edge)) × (result.3 < length dcel.now.directed) }
+    ensures twin_next { (result.2 ≡ next dcel.now.mesh (rev edge)) ×
+        (result.2 < length dcel.now.directed) }
+    ensures twin_prev { (result.3 ≡ prev dcel.now.mesh (rev edge)) ×
+        (result.3 < length dcel.now.directed) }
 {
     let edge = dcel.directed_edge(edge);
     let twin = edge.rev();
@@ -75,7 +80,8 @@ pub fn is_constraint_edge<M: ConstraintMarker<UE>, V, DE, UE, F>(
     M::is_constraint_edge(dcel.undirected_edge_data(edge))
 }
 
-// Whether an edge lies between two inner faces, of which one has its third corner inside the circle of the other.
+// Whether an edge lies between two inner faces, of which one has its third corner inside the circle
+// of the other.
 fn is_failing<V: HasPosition, DE, UE, F, P: PlaneTests<V::Scalar>>(
     dcel: &Dcel<V, DE, UE, F>,
     edge: FixedDirectedEdgeHandle,
@@ -83,7 +89,8 @@ fn is_failing<V: HasPosition, DE, UE, F, P: PlaneTests<V::Scalar>>(
 ) -> bool
     requires within { edge < length dcel.now.directed }
     requires sites { All (P.sites tests.now) (map V.place dcel.now.vertices) }
-    requires shape { IsMesh (map V.place dcel.now.vertices) (faces_of dcel.now.mesh) (outer_of dcel.now.mesh) }
+    requires shape { IsMesh (map V.place dcel.now.vertices) (faces_of dcel.now.mesh)
+        (outer_of dcel.now.mesh) }
     ensures { IsTrue result ↔ IsFailing (map V.place dcel.now.vertices) dcel.now.mesh edge }
 {
     dcel.recall_invariant();
@@ -105,7 +112,8 @@ fn flip<V: HasPosition, DE, UE, F>(
     flips: &mut u64,
 )
     requires within { 2 * edge < length dcel.old.directed }
-    requires shape { IsMesh (map V.place dcel.old.vertices) (faces_of dcel.old.mesh) (outer_of dcel.old.mesh) }
+    requires shape { IsMesh (map V.place dcel.old.vertices) (faces_of dcel.old.mesh)
+        (outer_of dcel.old.mesh) }
     requires failing { IsFailing (map V.place dcel.old.vertices) dcel.old.mesh (2 * edge) }
     requires fits { flips.old + 1 < 2 ^ 64 }
     ensures mesh { dcel.new.mesh ≡ flipped dcel.old.mesh (2 * edge) }
@@ -157,8 +165,8 @@ pub fn push_sides<V, DE, UE, F>(
     push_side(dcel, twin_prev, work);
 }
 
-// Tests an edge that was taken from the work list. One that is no constraint and fails is turned, and leaves the four edges
-// round it to test.
+// Tests an edge that was taken from the work list. One that is no constraint and fails is turned,
+// and leaves the four edges round it to test.
 fn legalize_edge<M: ConstraintMarker<UE>, V: HasPosition, DE, UE, F, P: PlaneTests<V::Scalar>>(
     dcel: &mut Dcel<V, DE, UE, F>,
     edge: FixedUndirectedEdgeHandle,
@@ -167,14 +175,24 @@ fn legalize_edge<M: ConstraintMarker<UE>, V: HasPosition, DE, UE, F, P: PlaneTes
     flips: &mut u64,
 )
     requires sites { All (P.sites tests.now) (map V.place dcel.old.vertices) }
-    requires shape { IsMesh (map V.place dcel.old.vertices) (faces_of dcel.old.mesh) (outer_of dcel.old.mesh) }
+    requires shape { IsMesh (map V.place dcel.old.vertices) (faces_of dcel.old.mesh)
+        (outer_of dcel.old.mesh) }
     requires edges { AreEdges dcel.old.mesh (work.old.items ++ edge ∷ []) }
     requires room { length dcel.old.undirected ≤ vec_capacity work.old }
-    requires fits { IsFailing (map V.place dcel.old.vertices) dcel.old.mesh (2 * edge) → flips.old + 1 < 2 ^ 64 }
+    requires fits { IsFailing (map V.place dcel.old.vertices) dcel.old.mesh (2 * edge) →
+        flips.old + 1 < 2 ^ 64 }
     ensures contents { dcel.new ≡ record dcel.old { mesh = dcel.new.mesh } }
-    ensures constraints { constraint_pairs M.constraints dcel.new.mesh dcel.new.undirected ≡ constraint_pairs M.constraints dcel.old.mesh dcel.old.undirected }
-    ensures legal { let points = map V.place dcel.old.vertices in let constraints = constraint_pairs M.constraints dcel.old.mesh dcel.old.undirected in (was : Mesh) (start : ℕ) → IsPartlyLegal points constraints was dcel.old.mesh (work.old.items ++ edge ∷ []) start flips.old → IsPartlyLegal points constraints was dcel.new.mesh work.new.items start flips.new }
-    ensures fewer { let points = map V.place dcel.old.vertices in steps_left points dcel.new.mesh work.new.items < steps_left points dcel.old.mesh (work.old.items ++ edge ∷ []) }
+    ensures constraints { constraint_pairs M.constraints dcel.new.mesh dcel.new.undirected ≡
+        constraint_pairs M.constraints dcel.old.mesh dcel.old.undirected }
+    ensures legal { let points = map V.place dcel.old.vertices in
+        let constraints = constraint_pairs M.constraints dcel.old.mesh dcel.old.undirected in
+        (was : Mesh) (start : ℕ) →
+        IsPartlyLegal points constraints was dcel.old.mesh (work.old.items ++ edge ∷ []) start
+        flips.old → IsPartlyLegal points constraints was dcel.new.mesh work.new.items start
+        flips.new }
+    ensures fewer { let points = map V.place dcel.old.vertices in
+        steps_left points dcel.new.mesh work.new.items <
+        steps_left points dcel.old.mesh (work.old.items ++ edge ∷ []) }
     ensures capacity { vec_capacity work.new ≡ vec_capacity work.old }
 {
     dcel.recall_invariant();
@@ -187,8 +205,9 @@ fn legalize_edge<M: ConstraintMarker<UE>, V: HasPosition, DE, UE, F, P: PlaneTes
     }
 }
 
-// Flips edges until each passes the circle test, but for the outer ones and the constraints, where before perhaps only those of
-// the work list fail. The work list has room for each edge of the mesh. A constraint keeps its ends and its index.
+// Flips edges until each passes the circle test, but for the outer ones and the constraints, where
+// before perhaps only those of the work list fail. The work list has room for each edge of the
+// mesh. A constraint keeps its ends and its index.
 pub fn legalize<M: ConstraintMarker<UE>, V: HasPosition, DE, UE, F, P: PlaneTests<V::Scalar>>(
     dcel: &mut Dcel<V, DE, UE, F>,
     tests: &P,
@@ -196,17 +215,25 @@ pub fn legalize<M: ConstraintMarker<UE>, V: HasPosition, DE, UE, F, P: PlaneTest
     flips: &mut u64,
 )
     requires sites { All (P.sites tests.now) (map V.place dcel.old.vertices) }
-    requires shape { IsMesh (map V.place dcel.old.vertices) (faces_of dcel.old.mesh) (outer_of dcel.old.mesh) }
+    requires shape { IsMesh (map V.place dcel.old.vertices) (faces_of dcel.old.mesh)
+        (outer_of dcel.old.mesh) }
     requires edges { AreEdges dcel.old.mesh work.old.items }
     requires room { length dcel.old.undirected ≤ vec_capacity work.old }
-    requires passing { AllPassBut (map V.place dcel.old.vertices) (faces_of dcel.old.mesh) (constraint_pairs M.constraints dcel.old.mesh dcel.old.undirected) (pairs_at dcel.old.mesh work.old.items) }
+    requires passing { AllPassBut (map V.place dcel.old.vertices) (faces_of dcel.old.mesh)
+        (constraint_pairs M.constraints dcel.old.mesh dcel.old.undirected)
+        (pairs_at dcel.old.mesh work.old.items) }
     requires fits { let n = length dcel.old.vertices in 2 * flips.old + n * (n - 1) < 2 ^ 65 }
     ensures contents { dcel.new ≡ record dcel.old { mesh = dcel.new.mesh } }
-    ensures shape { IsMesh (map V.place dcel.old.vertices) (faces_of dcel.new.mesh) (outer_of dcel.new.mesh) }
-    ensures constraints { constraint_pairs M.constraints dcel.new.mesh dcel.new.undirected ≡ constraint_pairs M.constraints dcel.old.mesh dcel.old.undirected }
-    ensures locally_delaunay { IsLocallyDelaunay (drawn (map V.place dcel.old.vertices) dcel.new.mesh) (constraint_pairs M.constraints dcel.old.mesh dcel.old.undirected) }
+    ensures shape { IsMesh (map V.place dcel.old.vertices) (faces_of dcel.new.mesh)
+        (outer_of dcel.new.mesh) }
+    ensures constraints { constraint_pairs M.constraints dcel.new.mesh dcel.new.undirected ≡
+        constraint_pairs M.constraints dcel.old.mesh dcel.old.undirected }
+    ensures locally_delaunay { IsLocallyDelaunay
+        (drawn (map V.place dcel.old.vertices) dcel.new.mesh)
+        (constraint_pairs M.constraints dcel.old.mesh dcel.old.undirected) }
     ensures counted { flips.old ≤ flips.new }
-    ensures few_flips { let n = length dcel.old.vertices in 2 * (flips.new - flips.old) ≤ n * (n - 1) }
+    ensures few_flips { let n = length dcel.old.vertices in
+        2 * (flips.new - flips.old) ≤ n * (n - 1) }
     ensures indexes { KeepsIndexes dcel.old.mesh dcel.new.mesh }
     ensures done { work.new.items ≡ [] }
     ensures capacity { vec_capacity work.new ≡ vec_capacity work.old }

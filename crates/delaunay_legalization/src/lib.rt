@@ -1,5 +1,5 @@
-//! What the edits of a triangulation share: questions about a few of its points, which of its edges are constraints, and flips
-//! until each other edge passes the circle test.
+//! What the edits of a triangulation share: questions about a few of its points, which of its edges
+//! are constraints, and flips until each other edge passes the circle test.
 #![tactic(auto)]
 
 mod among;

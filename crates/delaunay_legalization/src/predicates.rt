@@ -25,7 +25,8 @@ fn is_from<S: SpadeNum>(from: S, to: S, value: S) -> bool
 
 // Whether a point is in the rectangle whose opposite corners are `from` and `to`.
 fn is_in_box<S: SpadeNum>(from: Point2<S>, to: Point2<S>, point: Point2<S>) -> bool
-    ensures { IsTrue result ↔ IsInBox (place_of S.whole from) (place_of S.whole to) (place_of S.whole point) }
+    ensures { IsTrue result ↔
+        IsInBox (place_of S.whole from) (place_of S.whole to) (place_of S.whole point) }
 {
     is_from(from.x, to.x, point.x) && is_from(from.y, to.y, point.y)
 }
@@ -43,7 +44,9 @@ pub fn is_strictly_within<S: SpadeNum, P: PlaneTests<S>>(
     requires ends_apart { place_of S.whole from ≢ place_of S.whole to }
     requires not_from { place_of S.whole point ≢ place_of S.whole from }
     requires not_to { place_of S.whole point ≢ place_of S.whole to }
-    ensures { IsTrue result ↔ WithinSegment (fraction (place_of S.whole from)) (fraction (place_of S.whole to)) (fraction (place_of S.whole point)) }
+    ensures { IsTrue result ↔
+        WithinSegment (fraction (place_of S.whole from)) (fraction (place_of S.whole to))
+        (fraction (place_of S.whole point)) }
 {
     tests.side(from, to, point).is_on_line() && is_in_box(from, to, point)
 }
@@ -58,7 +61,9 @@ pub fn turns_left<S: SpadeNum, P: PlaneTests<S>>(
     requires a_covered { P.covered tests.now (place_of S.whole a) }
     requires b_covered { P.covered tests.now (place_of S.whole b) }
     requires c_covered { P.covered tests.now (place_of S.whole c) }
-    ensures { IsTrue result ↔ TurnsLeft (fraction (place_of S.whole a)) (fraction (place_of S.whole b)) (fraction (place_of S.whole c)) }
+    ensures { IsTrue result ↔
+        TurnsLeft (fraction (place_of S.whole a)) (fraction (place_of S.whole b))
+        (fraction (place_of S.whole c)) }
 {
     tests.side(a, b, c).is_on_left_side()
 }
@@ -75,8 +80,11 @@ pub fn is_strictly_inside<S: SpadeNum, P: PlaneTests<S>>(
     requires b_covered { P.covered tests.now (place_of S.whole b) }
     requires c_covered { P.covered tests.now (place_of S.whole c) }
     requires point_covered { P.covered tests.now (place_of S.whole point) }
-    requires turns { TurnsLeft (fraction (place_of S.whole a)) (fraction (place_of S.whole b)) (fraction (place_of S.whole c)) }
-    ensures { IsTrue result ↔ InsideTriangle (fraction (place_of S.whole a)) (fraction (place_of S.whole b)) (fraction (place_of S.whole c)) (fraction (place_of S.whole point)) }
+    requires turns { TurnsLeft (fraction (place_of S.whole a)) (fraction (place_of S.whole b))
+        (fraction (place_of S.whole c)) }
+    ensures { IsTrue result ↔
+        InsideTriangle (fraction (place_of S.whole a)) (fraction (place_of S.whole b))
+        (fraction (place_of S.whole c)) (fraction (place_of S.whole point)) }
 {
     turns_left(a, b, point, tests)
         && turns_left(b, c, point, tests)

@@ -1,5 +1,6 @@
 //! A legalization that begins at one vertex, where only edges of the faces there may fail.
-ghost use Rattle.std.specs.Prelude.{◌≡◌, ℕ, ◌*◌, ◌<◌, ◌≤◌, length, map, All, Contains, vec_capacity};
+ghost use Rattle.std.specs.Prelude.{◌≡◌, ℕ, ◌*◌, ◌<◌, ◌≤◌};
+ghost use Rattle.std.specs.Prelude.{length, map, All, Contains, vec_capacity};
 ghost use Rattle.mesh_embedding.specs.Drawn.{faces_of};
 ghost use Rattle.mesh_embedding.specs.Legal.{AreEdges};
 ghost use Rattle.mesh_embedding.specs.Stays.{KeepsIndexes};
@@ -35,8 +36,8 @@ fn push_with_next<V, DE, UE, F>(
     push_side(dcel, dcel.directed_edge(edge).next().fix(), work);
 }
 
-// Puts the edges of a vertex into a work list, and those of the faces there that lie opposite it, in place of what was in
-// the list.
+// Puts the edges of a vertex into a work list, and those of the faces there that lie opposite it,
+// in place of what was in the list.
 fn push_star<V, DE, UE, F>(
     dcel: &Dcel<V, DE, UE, F>,
     vertex: FixedVertexHandle,
@@ -55,8 +56,8 @@ fn push_star<V, DE, UE, F>(
     }
 }
 
-// Tests the edges of the faces at a vertex, where each other edge passes, and flips those that fail and are no constraints until
-// none does.
+// Tests the edges of the faces at a vertex, where each other edge passes, and flips those that fail
+// and are no constraints until none does.
 pub fn legalize_star<M: ConstraintMarker<UE>, V: HasPosition, DE, UE, F, P: PlaneTests<V::Scalar>>(
     dcel: &mut Dcel<V, DE, UE, F>,
     vertex: FixedVertexHandle,
@@ -67,12 +68,14 @@ pub fn legalize_star<M: ConstraintMarker<UE>, V: HasPosition, DE, UE, F, P: Plan
     requires within { vertex < length dcel.old.vertices }
     requires sites { All (P.sites tests.now) (map V.place dcel.old.vertices) }
     requires kept { IsTriangulated V.place (state_of dcel.old) }
-    requires passing { AllPassBeside (map V.place dcel.old.vertices) (faces_of dcel.old.mesh) (constraints_by M.constraints (state_of dcel.old)) vertex }
+    requires passing { AllPassBeside (map V.place dcel.old.vertices) (faces_of dcel.old.mesh)
+        (constraints_by M.constraints (state_of dcel.old)) vertex }
     requires room { 3 * length dcel.old.vertices ≤ vec_capacity work.old }
     requires fits { FlipsFit (length dcel.old.vertices) flips.old }
     ensures contents { dcel.new ≡ record dcel.old { mesh = dcel.new.mesh } }
     ensures legal { IsDelaunayTriangulation V.place M.constraints (state_of dcel.new) }
-    ensures constraints { constraints_by M.constraints (state_of dcel.new) ≡ constraints_by M.constraints (state_of dcel.old) }
+    ensures constraints { constraints_by M.constraints (state_of dcel.new) ≡
+        constraints_by M.constraints (state_of dcel.old) }
     ensures counted { CountsFlips (length dcel.old.vertices) flips.old flips.new }
     ensures indexes { KeepsIndexes dcel.old.mesh dcel.new.mesh }
 {

@@ -39,8 +39,10 @@ impl<'a, V: HasPosition, DE, UE, F, P: PlaneTests<V::Scalar>> Segment<'a, V, DE,
     // From strictly inside a face.
     fn walk_from_face(&self, face: FixedFaceHandle) -> LineIntersectionIterator<'a, V, DE, UE, F, P>
         requires over { IsOver V.place V.Scalar.whole P.sites P.covered self.now }
-        requires start { Locates (map V.place self.now.dcel.now.vertices) self.now.dcel.now.mesh (place_of V.Scalar.whole self.now.from) (OnFace face) }
-        ensures line { WalksLine V.place V.Scalar.whole (state_of self.now.dcel.now) (place_of V.Scalar.whole self.now.from) (place_of V.Scalar.whole self.now.to) result }
+        requires start { Locates (map V.place self.now.dcel.now.vertices) self.now.dcel.now.mesh
+            (place_of V.Scalar.whole self.now.from) (OnFace face) }
+        ensures line { WalksLine V.place V.Scalar.whole (state_of self.now.dcel.now)
+            (place_of V.Scalar.whole self.now.from) (place_of V.Scalar.whole self.now.to) result }
         ensures ready { IsReady V.place V.Scalar.whole P.sites P.covered result }
     {
         self.walk_from_left(edge_of(self.dcel, face))
@@ -52,8 +54,10 @@ impl<'a, V: HasPosition, DE, UE, F, P: PlaneTests<V::Scalar>> Segment<'a, V, DE,
         start: PositionInTriangulation,
     ) -> LineIntersectionIterator<'a, V, DE, UE, F, P>
         requires over { IsOver V.place V.Scalar.whole P.sites P.covered self.now }
-        requires start { Locates (map V.place self.now.dcel.now.vertices) self.now.dcel.now.mesh (place_of V.Scalar.whole self.now.from) start }
-        ensures line { WalksLine V.place V.Scalar.whole (state_of self.now.dcel.now) (place_of V.Scalar.whole self.now.from) (place_of V.Scalar.whole self.now.to) result }
+        requires start { Locates (map V.place self.now.dcel.now.vertices) self.now.dcel.now.mesh
+            (place_of V.Scalar.whole self.now.from) start }
+        ensures line { WalksLine V.place V.Scalar.whole (state_of self.now.dcel.now)
+            (place_of V.Scalar.whole self.now.from) (place_of V.Scalar.whole self.now.to) result }
         ensures ready { IsReady V.place V.Scalar.whole P.sites P.covered result }
     {
         match start {
@@ -66,7 +70,8 @@ impl<'a, V: HasPosition, DE, UE, F, P: PlaneTests<V::Scalar>> Segment<'a, V, DE,
     }
 }
 
-/// What the segment from one position to another meets. Where it starts is looked for from vertex 0 on.
+/// What the segment from one position to another meets. Where it starts is looked for from vertex 0
+/// on.
 pub fn line_between<'a, V: HasPosition, DE, UE, F, P: PlaneTests<V::Scalar>>(
     dcel: &'a Dcel<V, DE, UE, F>,
     from: Point2<V::Scalar>,
@@ -77,7 +82,8 @@ pub fn line_between<'a, V: HasPosition, DE, UE, F, P: PlaneTests<V::Scalar>>(
     requires sites { All (P.sites tests.now) (map V.place dcel.now.vertices) }
     requires from_covered { P.covered tests.now (place_of V.Scalar.whole from) }
     requires to_covered { P.covered tests.now (place_of V.Scalar.whole to) }
-    ensures line { WalksLine V.place V.Scalar.whole (state_of dcel.now) (place_of V.Scalar.whole from) (place_of V.Scalar.whole to) result }
+    ensures line { WalksLine V.place V.Scalar.whole (state_of dcel.now)
+        (place_of V.Scalar.whole from) (place_of V.Scalar.whole to) result }
     ensures ready { IsReady V.place V.Scalar.whole P.sites P.covered result }
 {
     dcel.recall_invariant();
@@ -90,7 +96,8 @@ pub fn line_between<'a, V: HasPosition, DE, UE, F, P: PlaneTests<V::Scalar>>(
     segment.walk_from_location(locate(dcel, from, tests))
 }
 
-/// What the segment from one vertex to another meets, from the vertex on: of a vertex to itself, that vertex alone.
+/// What the segment from one vertex to another meets, from the vertex on: of a vertex to itself,
+/// that vertex alone.
 pub fn line_between_vertices<'a, V: HasPosition, DE, UE, F, P: PlaneTests<V::Scalar>>(
     dcel: &'a Dcel<V, DE, UE, F>,
     from: FixedVertexHandle,
@@ -99,9 +106,12 @@ pub fn line_between_vertices<'a, V: HasPosition, DE, UE, F, P: PlaneTests<V::Sca
 ) -> LineIntersectionIterator<'a, V, DE, UE, F, P>
     requires from_in { from < length dcel.now.vertices }
     requires to_in { to < length dcel.now.vertices }
-    requires shape { IsMesh (map V.place dcel.now.vertices) (faces_of dcel.now.mesh) (outer_of dcel.now.mesh) }
+    requires shape { IsMesh (map V.place dcel.now.vertices) (faces_of dcel.now.mesh)
+        (outer_of dcel.now.mesh) }
     requires sites { All (P.sites tests.now) (map V.place dcel.now.vertices) }
-    ensures line { let points = map V.place dcel.now.vertices in WalksLine V.place V.Scalar.whole (state_of dcel.now) (point_at points from) (point_at points to) result }
+    ensures line { let points = map V.place dcel.now.vertices in
+        WalksLine V.place V.Scalar.whole (state_of dcel.now) (point_at points from)
+        (point_at points to) result }
     ensures ready { IsReady V.place V.Scalar.whole P.sites P.covered result }
 {
     dcel.recall_invariant();

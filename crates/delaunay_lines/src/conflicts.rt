@@ -24,7 +24,8 @@ use std::marker::PhantomData;
 fn is_constraint<M: ConstraintMarker<UE>, V, DE, UE, F>(
     edge: &DirectedEdgeHandle<'_, V, DE, UE, F>,
 ) -> bool
-    ensures { IsTrue result ↔ Contains (M.constraints edge.now.dcel.now.undirected) (edge.now.index / 2) }
+    ensures { IsTrue result ↔
+        Contains (M.constraints edge.now.dcel.now.undirected) (edge.now.index / 2) }
 {
     is_constraint_edge::<M, _, _, _, _>(edge.dcel, edge.as_undirected().fix())
 }
@@ -60,8 +61,8 @@ fn next_conflict<'a, M: ConstraintMarker<UE>, V: HasPosition, DE, UE, F, P: Plan
     None
 }
 
-/// The constraints that a segment meets in one point strictly within them, in the order along the segment. No call takes
-/// memory.
+/// The constraints that a segment meets in one point strictly within them, in the order along the
+/// segment. No call takes memory.
 ///
 /// ```
 /// let walls = site.get_conflicting_edges_between_points(from, to, &ExactTests);
@@ -99,9 +100,12 @@ impl<
     ) -> Self
         requires from_in { from < length dcel.now.vertices }
         requires to_in { to < length dcel.now.vertices }
-        requires shape { IsMesh (map V.place dcel.now.vertices) (faces_of dcel.now.mesh) (outer_of dcel.now.mesh) }
+        requires shape { IsMesh (map V.place dcel.now.vertices) (faces_of dcel.now.mesh)
+            (outer_of dcel.now.mesh) }
         requires sites { All (P.sites tests.now) (map V.place dcel.now.vertices) }
-        ensures line { let points = map V.place dcel.now.vertices in WalksLine V.place V.Scalar.whole (state_of dcel.now) (point_at points from) (point_at points to) result.line }
+        ensures line { let points = map V.place dcel.now.vertices in
+            WalksLine V.place V.Scalar.whole (state_of dcel.now) (point_at points from)
+            (point_at points to) result.line }
         ensures ready { IsReady V.place V.Scalar.whole P.sites P.covered result.line }
     {
         ConflictingEdgesIterator {
@@ -121,7 +125,8 @@ impl<
         requires sites { All (P.sites tests.now) (map V.place dcel.now.vertices) }
         requires from_covered { P.covered tests.now (place_of V.Scalar.whole from) }
         requires to_covered { P.covered tests.now (place_of V.Scalar.whole to) }
-        ensures line { WalksLine V.place V.Scalar.whole (state_of dcel.now) (place_of V.Scalar.whole from) (place_of V.Scalar.whole to) result.line }
+        ensures line { WalksLine V.place V.Scalar.whole (state_of dcel.now)
+            (place_of V.Scalar.whole from) (place_of V.Scalar.whole to) result.line }
         ensures ready { IsReady V.place V.Scalar.whole P.sites P.covered result.line }
     {
         ConflictingEdgesIterator {
@@ -131,7 +136,8 @@ impl<
     }
 }
 
-/// Whether two positions differ and the segment between them meets a constraint in one point, strictly within the constraint.
+/// Whether two positions differ and the segment between them meets a constraint in one point,
+/// strictly within the constraint.
 pub fn intersects_constraint<
     M: ConstraintMarker<UE>,
     V: HasPosition,
@@ -144,7 +150,10 @@ pub fn intersects_constraint<
     requires sites { All (P.sites tests.now) (map V.place dcel.now.vertices) }
     requires from_covered { P.covered tests.now (place_of V.Scalar.whole from) }
     requires to_covered { P.covered tests.now (place_of V.Scalar.whole to) }
-    ensures { let s = state_of dcel.now in IsTrue result ↔ IntersectsConstraint (triangulation_of V.place s) (constraints_by M.constraints s) (place_of V.Scalar.whole from) (place_of V.Scalar.whole to) }
+    ensures { let s = state_of dcel.now in
+        IsTrue result ↔ IntersectsConstraint (triangulation_of V.place s)
+        (constraints_by M.constraints s) (place_of V.Scalar.whole from)
+        (place_of V.Scalar.whole to) }
 {
     let mut line = line_between(dcel, from, to, tests);
     next_conflict::<M, _, _, _, _, _>(&mut line).is_some()
@@ -156,7 +165,8 @@ impl<'a, M: ConstraintMarker<UE>, V: HasPosition, DE, UE, F, P: PlaneTests<V::Sc
 
     ghost can_next = { λ it. IsReady V.place V.Scalar.whole P.sites P.covered it.line };
 
-    ghost next_gives = { λ it r after. GivesConflict V.place V.Scalar.whole M.constraints it.line r after.line };
+    ghost next_gives = { λ it r after. GivesConflict V.place V.Scalar.whole M.constraints it.line r
+        after.line };
 
     ghost remaining = { λ it. at_most it.line.left };
 

@@ -22,7 +22,8 @@ impl<'a, V: HasPosition, DE, UE, F, P: PlaneTests<V::Scalar>> Segment<'a, V, DE,
     pub(crate) fn leave_by(&self, side: FixedDirectedEdgeHandle) -> Option<FixedIntersection>
         requires within { side < length self.now.dcel.now.directed }
         requires over { IsOver V.place V.Scalar.whole P.sites P.covered self.now }
-        ensures { LeavesBy V.place self.now.dcel.now (place_of V.Scalar.whole self.now.to) side result }
+        ensures { LeavesBy V.place self.now.dcel.now (place_of V.Scalar.whole self.now.to) side
+            result }
     {
         if self.ends_left_of(side) {
             return None;
@@ -36,9 +37,17 @@ impl<'a, V: HasPosition, DE, UE, F, P: PlaneTests<V::Scalar>> Segment<'a, V, DE,
         requires within { edge < length self.now.dcel.now.directed }
         requires inner { 0 < face self.now.dcel.now.mesh edge }
         requires over { IsOver V.place V.Scalar.whole P.sites P.covered self.now }
-        requires apart { place_of V.Scalar.whole self.now.from ≢ place_of V.Scalar.whole self.now.to }
-        requires met { let m = self.now.dcel.now.mesh in Meets (drawn (map V.place self.now.dcel.now.vertices) m) (fraction (place_of V.Scalar.whole self.now.from)) (fraction (place_of V.Scalar.whole self.now.to)) (across (origin m edge) (origin m (rev edge))) }
-        ensures { let m = self.now.dcel.now.mesh in IsNext V.place self.now.dcel.now (place_of V.Scalar.whole self.now.from) (place_of V.Scalar.whole self.now.to) (across (origin m edge) (origin m (rev edge))) result }
+        requires apart { place_of V.Scalar.whole self.now.from ≢
+            place_of V.Scalar.whole self.now.to }
+        requires met { let m = self.now.dcel.now.mesh in
+            Meets (drawn (map V.place self.now.dcel.now.vertices) m)
+            (fraction (place_of V.Scalar.whole self.now.from))
+            (fraction (place_of V.Scalar.whole self.now.to))
+            (across (origin m edge) (origin m (rev edge))) }
+        ensures { let m = self.now.dcel.now.mesh in
+            IsNext V.place self.now.dcel.now (place_of V.Scalar.whole self.now.from)
+            (place_of V.Scalar.whole self.now.to) (across (origin m edge) (origin m (rev edge)))
+            result }
     {
         let (next, prev) = (edge_after(self.dcel, edge), edge_before(self.dcel, edge));
         let corner = self.side_of_start(prev);
@@ -58,9 +67,17 @@ impl<'a, V: HasPosition, DE, UE, F, P: PlaneTests<V::Scalar>> Segment<'a, V, DE,
     pub(crate) fn after_crossing(&self, edge: FixedDirectedEdgeHandle) -> Option<FixedIntersection>
         requires within { edge < length self.now.dcel.now.directed }
         requires over { IsOver V.place V.Scalar.whole P.sites P.covered self.now }
-        requires apart { place_of V.Scalar.whole self.now.from ≢ place_of V.Scalar.whole self.now.to }
-        requires met { let m = self.now.dcel.now.mesh in Meets (drawn (map V.place self.now.dcel.now.vertices) m) (fraction (place_of V.Scalar.whole self.now.from)) (fraction (place_of V.Scalar.whole self.now.to)) (across (origin m edge) (origin m (rev edge))) }
-        ensures { let m = self.now.dcel.now.mesh in IsNext V.place self.now.dcel.now (place_of V.Scalar.whole self.now.from) (place_of V.Scalar.whole self.now.to) (across (origin m edge) (origin m (rev edge))) result }
+        requires apart { place_of V.Scalar.whole self.now.from ≢
+            place_of V.Scalar.whole self.now.to }
+        requires met { let m = self.now.dcel.now.mesh in
+            Meets (drawn (map V.place self.now.dcel.now.vertices) m)
+            (fraction (place_of V.Scalar.whole self.now.from))
+            (fraction (place_of V.Scalar.whole self.now.to))
+            (across (origin m edge) (origin m (rev edge))) }
+        ensures { let m = self.now.dcel.now.mesh in
+            IsNext V.place self.now.dcel.now (place_of V.Scalar.whole self.now.from)
+            (place_of V.Scalar.whole self.now.to) (across (origin m edge) (origin m (rev edge)))
+            result }
     {
         if is_outer(self.dcel, edge) {
             return None;
@@ -75,9 +92,17 @@ impl<'a, V: HasPosition, DE, UE, F, P: PlaneTests<V::Scalar>> Segment<'a, V, DE,
     pub(crate) fn after_overlap(&self, edge: FixedDirectedEdgeHandle) -> Option<FixedIntersection>
         requires within { edge < length self.now.dcel.now.directed }
         requires over { IsOver V.place V.Scalar.whole P.sites P.covered self.now }
-        requires apart { place_of V.Scalar.whole self.now.from ≢ place_of V.Scalar.whole self.now.to }
-        requires met { let m = self.now.dcel.now.mesh in Meets (drawn (map V.place self.now.dcel.now.vertices) m) (fraction (place_of V.Scalar.whole self.now.from)) (fraction (place_of V.Scalar.whole self.now.to)) (along (origin m edge) (origin m (rev edge))) }
-        ensures { let m = self.now.dcel.now.mesh in IsNext V.place self.now.dcel.now (place_of V.Scalar.whole self.now.from) (place_of V.Scalar.whole self.now.to) (along (origin m edge) (origin m (rev edge))) result }
+        requires apart { place_of V.Scalar.whole self.now.from ≢
+            place_of V.Scalar.whole self.now.to }
+        requires met { let m = self.now.dcel.now.mesh in
+            Meets (drawn (map V.place self.now.dcel.now.vertices) m)
+            (fraction (place_of V.Scalar.whole self.now.from))
+            (fraction (place_of V.Scalar.whole self.now.to))
+            (along (origin m edge) (origin m (rev edge))) }
+        ensures { let m = self.now.dcel.now.mesh in
+            IsNext V.place self.now.dcel.now (place_of V.Scalar.whole self.now.from)
+            (place_of V.Scalar.whole self.now.to) (along (origin m edge) (origin m (rev edge)))
+            result }
     {
         let twin = twin_of(self.dcel, edge);
         let (start, end) = (start_of(self.dcel, edge), start_of(self.dcel, twin));

@@ -17,8 +17,8 @@ use half_edge_mesh::{
 /// ```
 #[derive_where(Clone, Copy, PartialEq, Debug)]
 pub enum Intersection<'a, V, DE, UE, F> {
-    /// An edge that the segment meets in one point strictly within the edge. The segment's end is on its left, or, where it
-    /// lies on the edge, the segment's start is on its right.
+    /// An edge that the segment meets in one point strictly within the edge. The segment's end is
+    /// on its left, or, where it lies on the edge, the segment's start is on its right.
     EdgeIntersection(DirectedEdgeHandle<'a, V, DE, UE, F>),
     /// A vertex on the segment.
     VertexIntersection(VertexHandle<'a, V, DE, UE, F>),

@@ -19,8 +19,9 @@ use delaunay_core::point::{HasPosition, Point2};
 use delaunay_legalization::is_same_point;
 use half_edge_mesh::{Dcel, FixedVertexHandle};
 
-/// The vertices and edges that a segment meets, in the order along the segment. No call takes memory, and the cost of a
-/// call of `next` does not grow with the mesh, but with the edges of one vertex.
+/// The vertices and edges that a segment meets, in the order along the segment. No call takes
+/// memory, and the cost of a call of `next` does not grow with the mesh, but with the edges of one
+/// vertex.
 ///
 /// ```
 /// for item in LineIntersectionIterator::new(&points, from, to, &ExactTests) {
@@ -45,9 +46,15 @@ impl<'a, V: HasPosition, DE, UE, F, P: PlaneTests<V::Scalar>> Segment<'a, V, DE,
     fn after(&self, item: FixedIntersection) -> Option<FixedIntersection>
         requires within { IsHandleOf self.now.dcel.now item }
         requires over { IsOver V.place V.Scalar.whole P.sites P.covered self.now }
-        requires met { place_of V.Scalar.whole self.now.from ≢ place_of V.Scalar.whole self.now.to → Meets (drawn (map V.place self.now.dcel.now.vertices) self.now.dcel.now.mesh) (fraction (place_of V.Scalar.whole self.now.from)) (fraction (place_of V.Scalar.whole self.now.to)) (item_of self.now.dcel.now.mesh item) }
-        ensures alone { place_of V.Scalar.whole self.now.from ≡ place_of V.Scalar.whole self.now.to → result ≡ None }
-        ensures next { place_of V.Scalar.whole self.now.from ≢ place_of V.Scalar.whole self.now.to → IsNext V.place self.now.dcel.now (place_of V.Scalar.whole self.now.from) (place_of V.Scalar.whole self.now.to) (item_of self.now.dcel.now.mesh item) result }
+        requires met { place_of V.Scalar.whole self.now.from ≢ place_of V.Scalar.whole self.now.to →
+            Meets (drawn (map V.place self.now.dcel.now.vertices) self.now.dcel.now.mesh)
+            (fraction (place_of V.Scalar.whole self.now.from))
+            (fraction (place_of V.Scalar.whole self.now.to)) (item_of self.now.dcel.now.mesh item) }
+        ensures alone { place_of V.Scalar.whole self.now.from ≡
+            place_of V.Scalar.whole self.now.to → result ≡ None }
+        ensures next { place_of V.Scalar.whole self.now.from ≢ place_of V.Scalar.whole self.now.to →
+            IsNext V.place self.now.dcel.now (place_of V.Scalar.whole self.now.from)
+            (place_of V.Scalar.whole self.now.to) (item_of self.now.dcel.now.mesh item) result }
     {
         if is_same_point(self.from, self.to) {
             return None;
@@ -65,8 +72,10 @@ impl<'a, V: HasPosition, DE, UE, F, P: PlaneTests<V::Scalar>> Segment<'a, V, DE,
         first: Option<FixedIntersection>,
     ) -> LineIntersectionIterator<'a, V, DE, UE, F, P>
         requires over { IsOver V.place V.Scalar.whole P.sites P.covered self.now }
-        requires starts { Starts V.place self.now.dcel.now (place_of V.Scalar.whole self.now.from) (place_of V.Scalar.whole self.now.to) first }
-        ensures line { WalksLine V.place V.Scalar.whole (state_of self.now.dcel.now) (place_of V.Scalar.whole self.now.from) (place_of V.Scalar.whole self.now.to) result }
+        requires starts { Starts V.place self.now.dcel.now (place_of V.Scalar.whole self.now.from)
+            (place_of V.Scalar.whole self.now.to) first }
+        ensures line { WalksLine V.place V.Scalar.whole (state_of self.now.dcel.now)
+            (place_of V.Scalar.whole self.now.from) (place_of V.Scalar.whole self.now.to) result }
         ensures ready { IsReady V.place V.Scalar.whole P.sites P.covered result }
     {
         LineIntersectionIterator {
@@ -86,8 +95,10 @@ impl<'a, V: HasPosition, DE, UE, F, P: PlaneTests<V::Scalar>> Segment<'a, V, DE,
     ) -> LineIntersectionIterator<'a, V, DE, UE, F, P>
         requires within { vertex < length self.now.dcel.now.vertices }
         requires over { IsOver V.place V.Scalar.whole P.sites P.covered self.now }
-        requires start { place_of V.Scalar.whole self.now.from ≡ point_at (map V.place self.now.dcel.now.vertices) vertex }
-        ensures line { WalksLine V.place V.Scalar.whole (state_of self.now.dcel.now) (place_of V.Scalar.whole self.now.from) (place_of V.Scalar.whole self.now.to) result }
+        requires start { place_of V.Scalar.whole self.now.from ≡
+            point_at (map V.place self.now.dcel.now.vertices) vertex }
+        ensures line { WalksLine V.place V.Scalar.whole (state_of self.now.dcel.now)
+            (place_of V.Scalar.whole self.now.from) (place_of V.Scalar.whole self.now.to) result }
         ensures ready { IsReady V.place V.Scalar.whole P.sites P.covered result }
     {
         self.starting(Some(FixedIntersection::Vertex(vertex)))

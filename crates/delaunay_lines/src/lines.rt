@@ -33,25 +33,29 @@ impl<'a, V: HasPosition, DE, UE, F, P: PlaneTests<V::Scalar>> LineIntersectionIt
     F,
     P,
 > {
-    /// What the segment from one position to another meets, both of which the tests cover. From a position to itself it meets
-    /// the vertex there, or else the edge that carries it, or else nothing. Where the segment starts is looked for by a walk
-    /// from vertex 0, or, where all vertices are on one line, by a look at all of them.
+    /// What the segment from one position to another meets, both of which the tests cover. From a
+    /// position to itself it meets the vertex there, or else the edge that carries it, or else
+    /// nothing. Where the segment starts is looked for by a walk from vertex 0, or, where all
+    /// vertices are on one line, by a look at all of them.
     pub fn new<T: HasMesh<V, DE, UE, F>>(
         triangulation: &'a T,
         from: Point2<V::Scalar>,
         to: Point2<V::Scalar>,
         tests: &'a P,
     ) -> Self
-        requires sites { let points = map V.place (T.state triangulation.now).vertices in All InRange points → All (P.sites tests.now) points }
+        requires sites { let points = map V.place (T.state triangulation.now).vertices in
+            All InRange points → All (P.sites tests.now) points }
         requires from_covered { P.covered tests.now (place_of V.Scalar.whole from) }
         requires to_covered { P.covered tests.now (place_of V.Scalar.whole to) }
-        ensures line { WalksLine V.place V.Scalar.whole (T.state triangulation.now) (place_of V.Scalar.whole from) (place_of V.Scalar.whole to) result }
+        ensures line { WalksLine V.place V.Scalar.whole (T.state triangulation.now)
+            (place_of V.Scalar.whole from) (place_of V.Scalar.whole to) result }
         ensures ready { IsReady V.place V.Scalar.whole P.sites P.covered result }
     {
         line_between(triangulation.mesh(), from, to, tests)
     }
 
-    /// What the segment from one vertex to another meets, from the first vertex on: of a vertex to itself, that vertex alone.
+    /// What the segment from one vertex to another meets, from the first vertex on: of a vertex to
+    /// itself, that vertex alone.
     pub fn new_from_handles<T: HasMesh<V, DE, UE, F>>(
         triangulation: &'a T,
         from: FixedVertexHandle,
@@ -60,8 +64,10 @@ impl<'a, V: HasPosition, DE, UE, F, P: PlaneTests<V::Scalar>> LineIntersectionIt
     ) -> Self
         requires from_in { from < length (T.state triangulation.now).vertices }
         requires to_in { to < length (T.state triangulation.now).vertices }
-        requires sites { let points = map V.place (T.state triangulation.now).vertices in All InRange points → All (P.sites tests.now) points }
-        ensures line { let s = T.state triangulation.now in let points = map V.place s.vertices in WalksLine V.place V.Scalar.whole s (point_at points from) (point_at points to) result }
+        requires sites { let points = map V.place (T.state triangulation.now).vertices in
+            All InRange points → All (P.sites tests.now) points }
+        ensures line { let s = T.state triangulation.now in let points = map V.place s.vertices in
+            WalksLine V.place V.Scalar.whole s (point_at points from) (point_at points to) result }
         ensures ready { IsReady V.place V.Scalar.whole P.sites P.covered result }
     {
         line_between_vertices(triangulation.mesh(), from, to, tests)

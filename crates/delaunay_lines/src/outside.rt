@@ -1,11 +1,14 @@
 //! The walk along a segment from outside the triangulation.
-ghost use Rattle.std.specs.Prelude.{◌≡◌, ◌≢◌, ◌↔◌, ◌<◌, ◌<ℤ◌, ℕ, length, map, IsTrue, IfSome, MatchOption};
+ghost use Rattle.std.specs.Prelude.{◌≡◌, ◌≢◌, ◌↔◌, ◌<◌, ◌<ℤ◌, ℕ};
+ghost use Rattle.std.specs.Prelude.{length, map, IsTrue, IfSome, MatchOption};
 ghost use Rattle.plane.specs.Fraction.{whole as fraction};
 ghost use Rattle.plane.specs.Circle.{gap};
 ghost use Rattle.mesh_embedding.specs.Drawn.{drawn};
 ghost use Rattle.delaunay_core.specs.Place.{place_of};
 ghost use Rattle.delaunay_legalization.specs.State.{state_of};
-ghost use Rattle.delaunay_lines.specs.Starts.{GoesRight, HasEndsOnSides, IsBetter, IsCrossed, IsEntered, IsNearerVertex, IsNearestOf, StartsOutside};
+ghost use Rattle.delaunay_lines.specs.Starts.{GoesRight, HasEndsOnSides, IsBetter, IsCrossed};
+ghost use Rattle.delaunay_lines.specs.Starts.{IsEntered, IsNearerVertex, IsNearestOf};
+ghost use Rattle.delaunay_lines.specs.Starts.{StartsOutside};
 ghost use Rattle.delaunay_lines.specs.Over.{IsOver};
 ghost use Rattle.delaunay_lines.specs.Walk.{IsReady, Starts, WalksLine};
 
@@ -28,7 +31,9 @@ fn is_nearer<S: SpadeNum, P: PlaneTests<S>>(
     requires from_covered { P.covered tests.now (place_of S.whole from) }
     requires point_covered { P.covered tests.now (place_of S.whole point) }
     requires other_covered { P.covered tests.now (place_of S.whole other) }
-    ensures { IsTrue result ↔ (gap (fraction (place_of S.whole from)) (fraction (place_of S.whole point)) <ℤ gap (fraction (place_of S.whole from)) (fraction (place_of S.whole other))) }
+    ensures { IsTrue result ↔
+        (gap (fraction (place_of S.whole from)) (fraction (place_of S.whole point)) <ℤ
+        gap (fraction (place_of S.whole from)) (fraction (place_of S.whole other))) }
 {
     from.distance_2(point) < from.distance_2(other)
 }
@@ -38,7 +43,9 @@ impl<'a, V: HasPosition, DE, UE, F, P: PlaneTests<V::Scalar>> Segment<'a, V, DE,
     fn goes_right(&self, edge: FixedDirectedEdgeHandle) -> bool
         requires within { edge < length self.now.dcel.now.directed }
         requires over { IsOver V.place V.Scalar.whole P.sites P.covered self.now }
-        ensures { IsTrue result ↔ GoesRight (map V.place self.now.dcel.now.vertices) self.now.dcel.now.mesh (place_of V.Scalar.whole self.now.from) (place_of V.Scalar.whole self.now.to) edge }
+        ensures { IsTrue result ↔
+            GoesRight (map V.place self.now.dcel.now.vertices) self.now.dcel.now.mesh
+            (place_of V.Scalar.whole self.now.from) (place_of V.Scalar.whole self.now.to) edge }
     {
         let start = self.side_of_start(edge);
         let end = self.side_of_start(twin_of(self.dcel, edge));
@@ -50,7 +57,9 @@ impl<'a, V: HasPosition, DE, UE, F, P: PlaneTests<V::Scalar>> Segment<'a, V, DE,
     fn has_ends_on_sides(&self, edge: FixedDirectedEdgeHandle) -> bool
         requires within { edge < length self.now.dcel.now.directed }
         requires over { IsOver V.place V.Scalar.whole P.sites P.covered self.now }
-        ensures { IsTrue result ↔ HasEndsOnSides (map V.place self.now.dcel.now.vertices) self.now.dcel.now.mesh (place_of V.Scalar.whole self.now.from) (place_of V.Scalar.whole self.now.to) edge }
+        ensures { IsTrue result ↔
+            HasEndsOnSides (map V.place self.now.dcel.now.vertices) self.now.dcel.now.mesh
+            (place_of V.Scalar.whole self.now.from) (place_of V.Scalar.whole self.now.to) edge }
     {
         let start = side_of_edge(self.dcel, edge, self.from, self.tests);
         let end = side_of_edge(self.dcel, edge, self.to, self.tests);
@@ -61,7 +70,9 @@ impl<'a, V: HasPosition, DE, UE, F, P: PlaneTests<V::Scalar>> Segment<'a, V, DE,
     fn is_crossed(&self, edge: FixedDirectedEdgeHandle) -> bool
         requires within { edge < length self.now.dcel.now.directed }
         requires over { IsOver V.place V.Scalar.whole P.sites P.covered self.now }
-        ensures { IsTrue result ↔ IsCrossed (map V.place self.now.dcel.now.vertices) self.now.dcel.now.mesh (place_of V.Scalar.whole self.now.from) (place_of V.Scalar.whole self.now.to) edge }
+        ensures { IsTrue result ↔
+            IsCrossed (map V.place self.now.dcel.now.vertices) self.now.dcel.now.mesh
+            (place_of V.Scalar.whole self.now.from) (place_of V.Scalar.whole self.now.to) edge }
     {
         self.goes_right(edge) && self.has_ends_on_sides(edge)
     }
@@ -70,7 +81,9 @@ impl<'a, V: HasPosition, DE, UE, F, P: PlaneTests<V::Scalar>> Segment<'a, V, DE,
     fn is_entered(&self, edge: FixedDirectedEdgeHandle) -> bool
         requires within { edge < length self.now.dcel.now.directed }
         requires over { IsOver V.place V.Scalar.whole P.sites P.covered self.now }
-        ensures { IsTrue result ↔ IsEntered (map V.place self.now.dcel.now.vertices) self.now.dcel.now.mesh (place_of V.Scalar.whole self.now.from) (place_of V.Scalar.whole self.now.to) edge }
+        ensures { IsTrue result ↔
+            IsEntered (map V.place self.now.dcel.now.vertices) self.now.dcel.now.mesh
+            (place_of V.Scalar.whole self.now.from) (place_of V.Scalar.whole self.now.to) edge }
     {
         is_outer(self.dcel, twin_of(self.dcel, edge)) && self.is_crossed(edge)
     }
@@ -78,7 +91,12 @@ impl<'a, V: HasPosition, DE, UE, F, P: PlaneTests<V::Scalar>> Segment<'a, V, DE,
     // An edge with the outer face on its right that a segment crosses into the triangulation.
     fn entered_edge(&self) -> Option<FixedDirectedEdgeHandle>
         requires over { IsOver V.place V.Scalar.whole P.sites P.covered self.now }
-        ensures { let points = map V.place self.now.dcel.now.vertices in let m = self.now.dcel.now.mesh in let p = place_of V.Scalar.whole self.now.from in let q = place_of V.Scalar.whole self.now.to in MatchOption result ((h : ℕ) → h < length self.now.dcel.now.directed → ¬ IsEntered points m p q h) (λ h. (h < length self.now.dcel.now.directed) × IsEntered points m p q h) }
+        ensures { let points = map V.place self.now.dcel.now.vertices in
+            let m = self.now.dcel.now.mesh in let p = place_of V.Scalar.whole self.now.from in
+            let q = place_of V.Scalar.whole self.now.to in
+            MatchOption result ((h : ℕ) → h < length self.now.dcel.now.directed →
+            ¬ IsEntered points m p q h) (λ h. (h < length self.now.dcel.now.directed) ×
+            IsEntered points m p q h) }
     {
         for index in 0..self.dcel.num_directed_edges() {
             let edge = FixedDirectedEdgeHandle::from_index(index as u32);
@@ -94,7 +112,9 @@ impl<'a, V: HasPosition, DE, UE, F, P: PlaneTests<V::Scalar>> Segment<'a, V, DE,
         requires within { vertex < length self.now.dcel.now.vertices }
         requires other_within { IfSome than.now (λ o. o < length self.now.dcel.now.vertices) }
         requires over { IsOver V.place V.Scalar.whole P.sites P.covered self.now }
-        ensures { IsTrue result ↔ IsNearerVertex (map V.place self.now.dcel.now.vertices) (place_of V.Scalar.whole self.now.from) vertex than.now }
+        ensures { IsTrue result ↔
+            IsNearerVertex (map V.place self.now.dcel.now.vertices)
+            (place_of V.Scalar.whole self.now.from) vertex than.now }
     {
         match than {
             Some(other) => {
@@ -114,8 +134,12 @@ impl<'a, V: HasPosition, DE, UE, F, P: PlaneTests<V::Scalar>> Segment<'a, V, DE,
         requires within { vertex < length self.now.dcel.now.vertices }
         requires other_within { IfSome than.now (λ o. o < length self.now.dcel.now.vertices) }
         requires over { IsOver V.place V.Scalar.whole P.sites P.covered self.now }
-        requires apart { place_of V.Scalar.whole self.now.from ≢ place_of V.Scalar.whole self.now.to }
-        ensures { IsTrue result ↔ IsBetter (map V.place self.now.dcel.now.vertices) (place_of V.Scalar.whole self.now.from) (place_of V.Scalar.whole self.now.to) vertex than.now }
+        requires apart { place_of V.Scalar.whole self.now.from ≢
+            place_of V.Scalar.whole self.now.to }
+        ensures { IsTrue result ↔
+            IsBetter (map V.place self.now.dcel.now.vertices)
+            (place_of V.Scalar.whole self.now.from) (place_of V.Scalar.whole self.now.to) vertex
+            than.now }
     {
         let position = position_of(self.dcel, vertex);
         is_on_segment(self.from, self.to, position, self.tests)
@@ -125,8 +149,11 @@ impl<'a, V: HasPosition, DE, UE, F, P: PlaneTests<V::Scalar>> Segment<'a, V, DE,
     // Of the vertices on a segment, one that is nearest to its start.
     fn nearest_vertex(&self) -> Option<FixedVertexHandle>
         requires over { IsOver V.place V.Scalar.whole P.sites P.covered self.now }
-        requires apart { place_of V.Scalar.whole self.now.from ≢ place_of V.Scalar.whole self.now.to }
-        ensures { IsNearestOf (map V.place self.now.dcel.now.vertices) (length self.now.dcel.now.vertices) (place_of V.Scalar.whole self.now.from) (place_of V.Scalar.whole self.now.to) result }
+        requires apart { place_of V.Scalar.whole self.now.from ≢
+            place_of V.Scalar.whole self.now.to }
+        ensures { IsNearestOf (map V.place self.now.dcel.now.vertices)
+            (length self.now.dcel.now.vertices) (place_of V.Scalar.whole self.now.from)
+            (place_of V.Scalar.whole self.now.to) result }
     {
         let mut nearest = None;
         for index in 0..self.dcel.num_vertices() {
@@ -141,10 +168,15 @@ impl<'a, V: HasPosition, DE, UE, F, P: PlaneTests<V::Scalar>> Segment<'a, V, DE,
     // From outside, where the segment enters by no edge: the nearest vertex on it.
     fn first_vertex(&self) -> Option<FixedIntersection>
         requires over { IsOver V.place V.Scalar.whole P.sites P.covered self.now }
-        requires start { StartsOutside (drawn (map V.place self.now.dcel.now.vertices) self.now.dcel.now.mesh) (place_of V.Scalar.whole self.now.from) }
-        requires apart { place_of V.Scalar.whole self.now.from ≢ place_of V.Scalar.whole self.now.to }
-        requires none { (h : ℕ) → h < length self.now.dcel.now.directed → ¬ IsEntered (map V.place self.now.dcel.now.vertices) self.now.dcel.now.mesh (place_of V.Scalar.whole self.now.from) (place_of V.Scalar.whole self.now.to) h }
-        ensures { Starts V.place self.now.dcel.now (place_of V.Scalar.whole self.now.from) (place_of V.Scalar.whole self.now.to) result }
+        requires start { StartsOutside (drawn (map V.place self.now.dcel.now.vertices)
+            self.now.dcel.now.mesh) (place_of V.Scalar.whole self.now.from) }
+        requires apart { place_of V.Scalar.whole self.now.from ≢
+            place_of V.Scalar.whole self.now.to }
+        requires none { (h : ℕ) → h < length self.now.dcel.now.directed →
+            ¬ IsEntered (map V.place self.now.dcel.now.vertices) self.now.dcel.now.mesh
+            (place_of V.Scalar.whole self.now.from) (place_of V.Scalar.whole self.now.to) h }
+        ensures { Starts V.place self.now.dcel.now (place_of V.Scalar.whole self.now.from)
+            (place_of V.Scalar.whole self.now.to) result }
     {
         match self.nearest_vertex() {
             Some(vertex) => Some(FixedIntersection::Vertex(vertex)),
@@ -155,8 +187,10 @@ impl<'a, V: HasPosition, DE, UE, F, P: PlaneTests<V::Scalar>> Segment<'a, V, DE,
     // From outside: the edge by which the segment enters, else the nearest vertex on it.
     fn first_outside(&self) -> Option<FixedIntersection>
         requires over { IsOver V.place V.Scalar.whole P.sites P.covered self.now }
-        requires start { StartsOutside (drawn (map V.place self.now.dcel.now.vertices) self.now.dcel.now.mesh) (place_of V.Scalar.whole self.now.from) }
-        ensures { Starts V.place self.now.dcel.now (place_of V.Scalar.whole self.now.from) (place_of V.Scalar.whole self.now.to) result }
+        requires start { StartsOutside (drawn (map V.place self.now.dcel.now.vertices)
+            self.now.dcel.now.mesh) (place_of V.Scalar.whole self.now.from) }
+        ensures { Starts V.place self.now.dcel.now (place_of V.Scalar.whole self.now.from)
+            (place_of V.Scalar.whole self.now.to) result }
     {
         if is_same_point(self.from, self.to) {
             return None;
@@ -171,8 +205,10 @@ impl<'a, V: HasPosition, DE, UE, F, P: PlaneTests<V::Scalar>> Segment<'a, V, DE,
     /// all outer edges, and, where the segment crosses none, at all vertices.
     pub(crate) fn walk_from_outside(&self) -> LineIntersectionIterator<'a, V, DE, UE, F, P>
         requires over { IsOver V.place V.Scalar.whole P.sites P.covered self.now }
-        requires start { StartsOutside (drawn (map V.place self.now.dcel.now.vertices) self.now.dcel.now.mesh) (place_of V.Scalar.whole self.now.from) }
-        ensures line { WalksLine V.place V.Scalar.whole (state_of self.now.dcel.now) (place_of V.Scalar.whole self.now.from) (place_of V.Scalar.whole self.now.to) result }
+        requires start { StartsOutside (drawn (map V.place self.now.dcel.now.vertices)
+            self.now.dcel.now.mesh) (place_of V.Scalar.whole self.now.from) }
+        ensures line { WalksLine V.place V.Scalar.whole (state_of self.now.dcel.now)
+            (place_of V.Scalar.whole self.now.from) (place_of V.Scalar.whole self.now.to) result }
         ensures ready { IsReady V.place V.Scalar.whole P.sites P.covered result }
     {
         self.starting(self.first_outside())

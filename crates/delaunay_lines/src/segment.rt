@@ -29,7 +29,9 @@ impl<'a, V: HasPosition, DE, UE, F, P: PlaneTests<V::Scalar>> Segment<'a, V, DE,
     pub(crate) fn ends_left_of(&self, edge: FixedDirectedEdgeHandle) -> bool
         requires within { edge < length self.now.dcel.now.directed }
         requires over { IsOver V.place V.Scalar.whole P.sites P.covered self.now }
-        ensures { IsTrue result ↔ IsLeftOf (map V.place self.now.dcel.now.vertices) self.now.dcel.now.mesh (place_of V.Scalar.whole self.now.to) edge }
+        ensures { IsTrue result ↔
+            IsLeftOf (map V.place self.now.dcel.now.vertices) self.now.dcel.now.mesh
+            (place_of V.Scalar.whole self.now.to) edge }
     {
         side_of_edge(self.dcel, edge, self.to, self.tests).is_on_left_side()
     }
@@ -38,7 +40,10 @@ impl<'a, V: HasPosition, DE, UE, F, P: PlaneTests<V::Scalar>> Segment<'a, V, DE,
     pub(crate) fn side_of_start(&self, edge: FixedDirectedEdgeHandle) -> LineSideInfo
         requires within { edge < length self.now.dcel.now.directed }
         requires over { IsOver V.place V.Scalar.whole P.sites P.covered self.now }
-        ensures { let points = map V.place self.now.dcel.now.vertices in result ≡ side (fraction (place_of V.Scalar.whole self.now.from)) (fraction (place_of V.Scalar.whole self.now.to)) (place points (origin self.now.dcel.now.mesh edge)) }
+        ensures { let points = map V.place self.now.dcel.now.vertices in
+            result ≡ side (fraction (place_of V.Scalar.whole self.now.from))
+            (fraction (place_of V.Scalar.whole self.now.to))
+            (place points (origin self.now.dcel.now.mesh edge)) }
     {
         self.tests
             .side(self.from, self.to, start_of(self.dcel, edge))

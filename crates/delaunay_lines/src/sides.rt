@@ -16,7 +16,9 @@ use half_edge_mesh::{Dcel, FixedDirectedEdgeHandle, FixedVertexHandle, MeshViews
 
 // Whether a point differs from two others.
 fn differs<S: SpadeNum>(point: Point2<S>, from: Point2<S>, to: Point2<S>) -> bool
-    ensures { IsTrue result ↔ ((place_of S.whole point ≢ place_of S.whole from) × (place_of S.whole point ≢ place_of S.whole to)) }
+    ensures { IsTrue result ↔
+        ((place_of S.whole point ≢ place_of S.whole from) ×
+        (place_of S.whole point ≢ place_of S.whole to)) }
 {
     !is_same_point(point, from) && !is_same_point(point, to)
 }
@@ -32,7 +34,9 @@ pub(crate) fn is_within<S: SpadeNum, P: PlaneTests<S>>(
     requires to_covered { P.covered tests.now (place_of S.whole to) }
     requires point_covered { P.covered tests.now (place_of S.whole point) }
     requires ends_apart { place_of S.whole from ≢ place_of S.whole to }
-    ensures { IsTrue result ↔ WithinSegment (fraction (place_of S.whole from)) (fraction (place_of S.whole to)) (fraction (place_of S.whole point)) }
+    ensures { IsTrue result ↔
+        WithinSegment (fraction (place_of S.whole from)) (fraction (place_of S.whole to))
+        (fraction (place_of S.whole point)) }
 {
     differs(point, from, to) && is_strictly_within(from, to, point, tests)
 }
@@ -48,7 +52,9 @@ pub(crate) fn is_on_segment<S: SpadeNum, P: PlaneTests<S>>(
     requires to_covered { P.covered tests.now (place_of S.whole to) }
     requires point_covered { P.covered tests.now (place_of S.whole point) }
     requires ends_apart { place_of S.whole from ≢ place_of S.whole to }
-    ensures { IsTrue result ↔ OnSegment (fraction (place_of S.whole from)) (fraction (place_of S.whole to)) (fraction (place_of S.whole point)) }
+    ensures { IsTrue result ↔
+        OnSegment (fraction (place_of S.whole from)) (fraction (place_of S.whole to))
+        (fraction (place_of S.whole point)) }
 {
     if differs(point, from, to) {
         is_strictly_within(from, to, point, tests)
@@ -69,7 +75,9 @@ pub(crate) fn is_ahead<S: SpadeNum, P: PlaneTests<S>>(
     requires point_covered { P.covered tests.now (place_of S.whole point) }
     requires to_apart { place_of S.whole from ≢ place_of S.whole to }
     requires point_apart { place_of S.whole from ≢ place_of S.whole point }
-    ensures { IsTrue result ↔ IsAhead (fraction (place_of S.whole from)) (fraction (place_of S.whole to)) (fraction (place_of S.whole point)) }
+    ensures { IsTrue result ↔
+        IsAhead (fraction (place_of S.whole from)) (fraction (place_of S.whole to))
+        (fraction (place_of S.whole point)) }
 {
     is_on_segment(from, to, point, tests) || is_on_segment(from, point, to, tests)
 }
@@ -80,7 +88,8 @@ pub(crate) fn position_of<V: HasPosition, DE, UE, F>(
     vertex: FixedVertexHandle,
 ) -> Point2<V::Scalar>
     requires { vertex < length dcel.now.vertices }
-    ensures position { place_of V.Scalar.whole result ≡ point_at (map V.place dcel.now.vertices) vertex }
+    ensures position { place_of V.Scalar.whole result ≡
+        point_at (map V.place dcel.now.vertices) vertex }
     ensures listed { Contains (map V.place dcel.now.vertices) (place_of V.Scalar.whole result) }
 {
     dcel.vertex_data(vertex).position()
@@ -144,7 +153,9 @@ pub(crate) fn side_of_edge<V: HasPosition, DE, UE, F, P: PlaneTests<V::Scalar>>(
     requires within { edge < length dcel.now.directed }
     requires sites { All (P.sites tests.now) (map V.place dcel.now.vertices) }
     requires covered { P.covered tests.now (place_of V.Scalar.whole point) }
-    ensures { let points = map V.place dcel.now.vertices in let m = dcel.now.mesh in result ≡ side (place points (origin m edge)) (place points (origin m (rev edge))) (fraction (place_of V.Scalar.whole point)) }
+    ensures { let points = map V.place dcel.now.vertices in let m = dcel.now.mesh in
+        result ≡ side (place points (origin m edge)) (place points (origin m (rev edge)))
+        (fraction (place_of V.Scalar.whole point)) }
 {
     let (start, end) = (start_of(dcel, edge), start_of(dcel, twin_of(dcel, edge)));
     tests.side(start, end, point)

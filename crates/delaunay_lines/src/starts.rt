@@ -20,8 +20,10 @@ impl<'a, V: HasPosition, DE, UE, F, P: PlaneTests<V::Scalar>> Segment<'a, V, DE,
     fn first_on_edge(&self, edge: FixedDirectedEdgeHandle) -> FixedIntersection
         requires within { edge < length self.now.dcel.now.directed }
         requires over { IsOver V.place V.Scalar.whole P.sites P.covered self.now }
-        requires start { StartsWithin (map V.place self.now.dcel.now.vertices) self.now.dcel.now.mesh (place_of V.Scalar.whole self.now.from) edge }
-        ensures { Starts V.place self.now.dcel.now (place_of V.Scalar.whole self.now.from) (place_of V.Scalar.whole self.now.to) (Some result) }
+        requires start { StartsWithin (map V.place self.now.dcel.now.vertices)
+            self.now.dcel.now.mesh (place_of V.Scalar.whole self.now.from) edge }
+        ensures { Starts V.place self.now.dcel.now (place_of V.Scalar.whole self.now.from)
+            (place_of V.Scalar.whole self.now.to) (Some result) }
     {
         if is_same_point(self.from, self.to) {
             return FixedIntersection::Overlap(edge);
@@ -45,7 +47,9 @@ impl<'a, V: HasPosition, DE, UE, F, P: PlaneTests<V::Scalar>> Segment<'a, V, DE,
     fn goes_over(&self, edge: FixedDirectedEdgeHandle) -> bool
         requires within { edge < length self.now.dcel.now.directed }
         requires over { IsOver V.place V.Scalar.whole P.sites P.covered self.now }
-        ensures { IsTrue result ↔ GoesOver (map V.place self.now.dcel.now.vertices) self.now.dcel.now.mesh (place_of V.Scalar.whole self.now.from) (place_of V.Scalar.whole self.now.to) edge }
+        ensures { IsTrue result ↔
+            GoesOver (map V.place self.now.dcel.now.vertices) self.now.dcel.now.mesh
+            (place_of V.Scalar.whole self.now.from) (place_of V.Scalar.whole self.now.to) edge }
     {
         let start = self.side_of_start(edge);
         let end = self.side_of_start(twin_of(self.dcel, edge));
@@ -57,11 +61,15 @@ impl<'a, V: HasPosition, DE, UE, F, P: PlaneTests<V::Scalar>> Segment<'a, V, DE,
     fn edge_over(&self, edge: FixedDirectedEdgeHandle) -> FixedDirectedEdgeHandle
         requires within { edge < length self.now.dcel.now.directed }
         requires over { IsOver V.place V.Scalar.whole P.sites P.covered self.now }
-        requires apart { place_of V.Scalar.whole self.now.from ≢ place_of V.Scalar.whole self.now.to }
-        requires start { StartsInside (map V.place self.now.dcel.now.vertices) self.now.dcel.now.mesh (place_of V.Scalar.whole self.now.from) edge }
+        requires apart { place_of V.Scalar.whole self.now.from ≢
+            place_of V.Scalar.whole self.now.to }
+        requires start { StartsInside (map V.place self.now.dcel.now.vertices)
+            self.now.dcel.now.mesh (place_of V.Scalar.whole self.now.from) edge }
         ensures within { result < length self.now.dcel.now.directed }
-        ensures start { StartsInside (map V.place self.now.dcel.now.vertices) self.now.dcel.now.mesh (place_of V.Scalar.whole self.now.from) result }
-        ensures over { GoesOver (map V.place self.now.dcel.now.vertices) self.now.dcel.now.mesh (place_of V.Scalar.whole self.now.from) (place_of V.Scalar.whole self.now.to) result }
+        ensures start { StartsInside (map V.place self.now.dcel.now.vertices) self.now.dcel.now.mesh
+            (place_of V.Scalar.whole self.now.from) result }
+        ensures over { GoesOver (map V.place self.now.dcel.now.vertices) self.now.dcel.now.mesh
+            (place_of V.Scalar.whole self.now.from) (place_of V.Scalar.whole self.now.to) result }
     {
         if self.goes_over(edge) {
             return edge;
@@ -77,8 +85,10 @@ impl<'a, V: HasPosition, DE, UE, F, P: PlaneTests<V::Scalar>> Segment<'a, V, DE,
     fn first_in_face(&self, edge: FixedDirectedEdgeHandle) -> Option<FixedIntersection>
         requires within { edge < length self.now.dcel.now.directed }
         requires over { IsOver V.place V.Scalar.whole P.sites P.covered self.now }
-        requires start { StartsInside (map V.place self.now.dcel.now.vertices) self.now.dcel.now.mesh (place_of V.Scalar.whole self.now.from) edge }
-        ensures { Starts V.place self.now.dcel.now (place_of V.Scalar.whole self.now.from) (place_of V.Scalar.whole self.now.to) result }
+        requires start { StartsInside (map V.place self.now.dcel.now.vertices)
+            self.now.dcel.now.mesh (place_of V.Scalar.whole self.now.from) edge }
+        ensures { Starts V.place self.now.dcel.now (place_of V.Scalar.whole self.now.from)
+            (place_of V.Scalar.whole self.now.to) result }
     {
         if is_same_point(self.from, self.to) {
             return None;
@@ -100,8 +110,10 @@ impl<'a, V: HasPosition, DE, UE, F, P: PlaneTests<V::Scalar>> Segment<'a, V, DE,
     ) -> LineIntersectionIterator<'a, V, DE, UE, F, P>
         requires within { edge < length self.now.dcel.now.directed }
         requires over { IsOver V.place V.Scalar.whole P.sites P.covered self.now }
-        requires start { StartsWithin (map V.place self.now.dcel.now.vertices) self.now.dcel.now.mesh (place_of V.Scalar.whole self.now.from) edge }
-        ensures line { WalksLine V.place V.Scalar.whole (state_of self.now.dcel.now) (place_of V.Scalar.whole self.now.from) (place_of V.Scalar.whole self.now.to) result }
+        requires start { StartsWithin (map V.place self.now.dcel.now.vertices)
+            self.now.dcel.now.mesh (place_of V.Scalar.whole self.now.from) edge }
+        ensures line { WalksLine V.place V.Scalar.whole (state_of self.now.dcel.now)
+            (place_of V.Scalar.whole self.now.from) (place_of V.Scalar.whole self.now.to) result }
         ensures ready { IsReady V.place V.Scalar.whole P.sites P.covered result }
     {
         self.starting(Some(self.first_on_edge(edge)))
@@ -115,8 +127,10 @@ impl<'a, V: HasPosition, DE, UE, F, P: PlaneTests<V::Scalar>> Segment<'a, V, DE,
     ) -> LineIntersectionIterator<'a, V, DE, UE, F, P>
         requires within { edge < length self.now.dcel.now.directed }
         requires over { IsOver V.place V.Scalar.whole P.sites P.covered self.now }
-        requires start { StartsInside (map V.place self.now.dcel.now.vertices) self.now.dcel.now.mesh (place_of V.Scalar.whole self.now.from) edge }
-        ensures line { WalksLine V.place V.Scalar.whole (state_of self.now.dcel.now) (place_of V.Scalar.whole self.now.from) (place_of V.Scalar.whole self.now.to) result }
+        requires start { StartsInside (map V.place self.now.dcel.now.vertices)
+            self.now.dcel.now.mesh (place_of V.Scalar.whole self.now.from) edge }
+        ensures line { WalksLine V.place V.Scalar.whole (state_of self.now.dcel.now)
+            (place_of V.Scalar.whole self.now.from) (place_of V.Scalar.whole self.now.to) result }
         ensures ready { IsReady V.place V.Scalar.whole P.sites P.covered result }
     {
         self.starting(self.first_in_face(edge))

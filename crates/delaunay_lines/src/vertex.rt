@@ -22,8 +22,11 @@ impl<'a, V: HasPosition, DE, UE, F, P: PlaneTests<V::Scalar>> Segment<'a, V, DE,
     fn is_edge_ahead(&self, edge: FixedDirectedEdgeHandle) -> bool
         requires within { edge < length self.now.dcel.now.directed }
         requires over { IsOver V.place V.Scalar.whole P.sites P.covered self.now }
-        requires starts_apart { point_at (map V.place self.now.dcel.now.vertices) (origin self.now.dcel.now.mesh edge) ≢ place_of V.Scalar.whole self.now.to }
-        ensures { IsTrue result ↔ IsEdgeAhead (map V.place self.now.dcel.now.vertices) self.now.dcel.now.mesh (place_of V.Scalar.whole self.now.to) edge }
+        requires starts_apart { point_at (map V.place self.now.dcel.now.vertices)
+            (origin self.now.dcel.now.mesh edge) ≢ place_of V.Scalar.whole self.now.to }
+        ensures { IsTrue result ↔
+            IsEdgeAhead (map V.place self.now.dcel.now.vertices) self.now.dcel.now.mesh
+            (place_of V.Scalar.whole self.now.to) edge }
     {
         let (start, end) = (
             start_of(self.dcel, edge),
@@ -37,7 +40,9 @@ impl<'a, V: HasPosition, DE, UE, F, P: PlaneTests<V::Scalar>> Segment<'a, V, DE,
     fn is_in_cone(&self, edge: FixedDirectedEdgeHandle) -> bool
         requires within { edge < length self.now.dcel.now.directed }
         requires over { IsOver V.place V.Scalar.whole P.sites P.covered self.now }
-        ensures { IsTrue result ↔ IsInCone (map V.place self.now.dcel.now.vertices) self.now.dcel.now.mesh (place_of V.Scalar.whole self.now.to) edge }
+        ensures { IsTrue result ↔
+            IsInCone (map V.place self.now.dcel.now.vertices) self.now.dcel.now.mesh
+            (place_of V.Scalar.whole self.now.to) edge }
     {
         if is_outer(self.dcel, edge) {
             return false;
@@ -49,8 +54,11 @@ impl<'a, V: HasPosition, DE, UE, F, P: PlaneTests<V::Scalar>> Segment<'a, V, DE,
     fn leads_to(&self, edge: FixedDirectedEdgeHandle) -> bool
         requires within { edge < length self.now.dcel.now.directed }
         requires over { IsOver V.place V.Scalar.whole P.sites P.covered self.now }
-        requires starts_apart { point_at (map V.place self.now.dcel.now.vertices) (origin self.now.dcel.now.mesh edge) ≢ place_of V.Scalar.whole self.now.to }
-        ensures { IsTrue result ↔ LeadsTo (map V.place self.now.dcel.now.vertices) self.now.dcel.now.mesh (place_of V.Scalar.whole self.now.to) edge }
+        requires starts_apart { point_at (map V.place self.now.dcel.now.vertices)
+            (origin self.now.dcel.now.mesh edge) ≢ place_of V.Scalar.whole self.now.to }
+        ensures { IsTrue result ↔
+            LeadsTo (map V.place self.now.dcel.now.vertices) self.now.dcel.now.mesh
+            (place_of V.Scalar.whole self.now.to) edge }
     {
         self.is_edge_ahead(edge) || self.is_in_cone(edge)
     }
@@ -60,8 +68,14 @@ impl<'a, V: HasPosition, DE, UE, F, P: PlaneTests<V::Scalar>> Segment<'a, V, DE,
     fn edge_towards(&self, vertex: FixedVertexHandle) -> Option<FixedDirectedEdgeHandle>
         requires within { vertex < length self.now.dcel.now.vertices }
         requires over { IsOver V.place V.Scalar.whole P.sites P.covered self.now }
-        requires apart { point_at (map V.place self.now.dcel.now.vertices) vertex ≢ place_of V.Scalar.whole self.now.to }
-        ensures { let points = map V.place self.now.dcel.now.vertices in let m = self.now.dcel.now.mesh in let q = place_of V.Scalar.whole self.now.to in MatchOption result ((h : ℕ) → h < length self.now.dcel.now.directed → origin m h ≡ vertex → ¬ LeadsTo points m q h) (λ h. (h < length self.now.dcel.now.directed) × (origin m h ≡ vertex) × LeadsTo points m q h) }
+        requires apart { point_at (map V.place self.now.dcel.now.vertices) vertex ≢
+            place_of V.Scalar.whole self.now.to }
+        ensures { let points = map V.place self.now.dcel.now.vertices in
+            let m = self.now.dcel.now.mesh in let q = place_of V.Scalar.whole self.now.to in
+            MatchOption result ((h : ℕ) → h < length self.now.dcel.now.directed →
+            origin m h ≡ vertex → ¬ LeadsTo points m q h)
+            (λ h. (h < length self.now.dcel.now.directed) × (origin m h ≡ vertex) ×
+            LeadsTo points m q h) }
     {
         for edge in self.dcel.vertex(vertex).out_edges() {
             let edge = edge.fix();
@@ -78,11 +92,19 @@ impl<'a, V: HasPosition, DE, UE, F, P: PlaneTests<V::Scalar>> Segment<'a, V, DE,
     fn along_or_into(&self, edge: FixedDirectedEdgeHandle) -> Option<FixedIntersection>
         requires within { edge < length self.now.dcel.now.directed }
         requires over { IsOver V.place V.Scalar.whole P.sites P.covered self.now }
-        requires apart { place_of V.Scalar.whole self.now.from ≢ place_of V.Scalar.whole self.now.to }
-        requires met { let m = self.now.dcel.now.mesh in Meets (drawn (map V.place self.now.dcel.now.vertices) m) (fraction (place_of V.Scalar.whole self.now.from)) (fraction (place_of V.Scalar.whole self.now.to)) (at_vertex (origin m edge)) }
-        requires starts_apart { point_at (map V.place self.now.dcel.now.vertices) (origin self.now.dcel.now.mesh edge) ≢ place_of V.Scalar.whole self.now.to }
-        requires leads { LeadsTo (map V.place self.now.dcel.now.vertices) self.now.dcel.now.mesh (place_of V.Scalar.whole self.now.to) edge }
-        ensures { IsNext V.place self.now.dcel.now (place_of V.Scalar.whole self.now.from) (place_of V.Scalar.whole self.now.to) (at_vertex (origin self.now.dcel.now.mesh edge)) result }
+        requires apart { place_of V.Scalar.whole self.now.from ≢
+            place_of V.Scalar.whole self.now.to }
+        requires met { let m = self.now.dcel.now.mesh in
+            Meets (drawn (map V.place self.now.dcel.now.vertices) m)
+            (fraction (place_of V.Scalar.whole self.now.from))
+            (fraction (place_of V.Scalar.whole self.now.to)) (at_vertex (origin m edge)) }
+        requires starts_apart { point_at (map V.place self.now.dcel.now.vertices)
+            (origin self.now.dcel.now.mesh edge) ≢ place_of V.Scalar.whole self.now.to }
+        requires leads { LeadsTo (map V.place self.now.dcel.now.vertices) self.now.dcel.now.mesh
+            (place_of V.Scalar.whole self.now.to) edge }
+        ensures { IsNext V.place self.now.dcel.now (place_of V.Scalar.whole self.now.from)
+            (place_of V.Scalar.whole self.now.to) (at_vertex (origin self.now.dcel.now.mesh edge))
+            result }
     {
         if self.is_edge_ahead(edge) {
             return Some(FixedIntersection::Overlap(edge));
@@ -94,9 +116,13 @@ impl<'a, V: HasPosition, DE, UE, F, P: PlaneTests<V::Scalar>> Segment<'a, V, DE,
     pub(crate) fn after_vertex(&self, vertex: FixedVertexHandle) -> Option<FixedIntersection>
         requires within { vertex < length self.now.dcel.now.vertices }
         requires over { IsOver V.place V.Scalar.whole P.sites P.covered self.now }
-        requires apart { place_of V.Scalar.whole self.now.from ≢ place_of V.Scalar.whole self.now.to }
-        requires met { Meets (drawn (map V.place self.now.dcel.now.vertices) self.now.dcel.now.mesh) (fraction (place_of V.Scalar.whole self.now.from)) (fraction (place_of V.Scalar.whole self.now.to)) (at_vertex vertex) }
-        ensures { IsNext V.place self.now.dcel.now (place_of V.Scalar.whole self.now.from) (place_of V.Scalar.whole self.now.to) (at_vertex vertex) result }
+        requires apart { place_of V.Scalar.whole self.now.from ≢
+            place_of V.Scalar.whole self.now.to }
+        requires met { Meets (drawn (map V.place self.now.dcel.now.vertices) self.now.dcel.now.mesh)
+            (fraction (place_of V.Scalar.whole self.now.from))
+            (fraction (place_of V.Scalar.whole self.now.to)) (at_vertex vertex) }
+        ensures { IsNext V.place self.now.dcel.now (place_of V.Scalar.whole self.now.from)
+            (place_of V.Scalar.whole self.now.to) (at_vertex vertex) result }
     {
         if is_same_point(position_of(self.dcel, vertex), self.to) {
             return None;

@@ -1,4 +1,5 @@
-//! Where a position is among the vertices, edges and faces of a triangulation, and which vertex is nearest to it.
+//! Where a position is among the vertices, edges and faces of a triangulation, and which vertex is
+//! nearest to it.
 #![tactic(auto)]
 
 mod location;

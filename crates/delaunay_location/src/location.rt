@@ -1,5 +1,6 @@
 //! Where a position is, by a look at all vertices, edges and faces.
-ghost use Rattle.std.specs.Prelude.{◌≡◌, ◌↔◌, ℕ, ◌<◌, ◌≤◌, ◌<ℤ◌, length, map, All, IsTrue, MatchOption};
+ghost use Rattle.std.specs.Prelude.{◌≡◌, ◌↔◌, ℕ, ◌<◌, ◌≤◌, ◌<ℤ◌};
+ghost use Rattle.std.specs.Prelude.{length, map, All, IsTrue, MatchOption};
 ghost use Rattle.half_edge_mesh.specs.Mesh.{face_edge, origin};
 ghost use Rattle.plane.specs.Fraction.{whole as fraction};
 ghost use Rattle.plane.specs.Circle.{gap};
@@ -26,7 +27,9 @@ pub fn vertex_at<V: HasPosition, DE, UE, F>(
     dcel: &Dcel<V, DE, UE, F>,
     point: Point2<V::Scalar>,
 ) -> Option<FixedVertexHandle>
-    ensures { let points = map V.place dcel.now.vertices in let p = place_of V.Scalar.whole point in MatchOption result (IsApart points p) (λ v. (v < length dcel.now.vertices) × (point_at points v ≡ p)) }
+    ensures { let points = map V.place dcel.now.vertices in let p = place_of V.Scalar.whole point in
+        MatchOption result (IsApart points p) (λ v. (v < length dcel.now.vertices) ×
+        (point_at points v ≡ p)) }
 {
     for index in 0..dcel.num_vertices() {
         let vertex = FixedVertexHandle::from_index(index as u32);
@@ -49,7 +52,9 @@ fn place_at_edge<V: HasPosition, DE, UE, F, P: PlaneTests<V::Scalar>>(
     requires sites { All (P.sites tests.now) (map V.place dcel.now.vertices) }
     requires covered { P.covered tests.now (place_of V.Scalar.whole point) }
     requires apart { IsApart (map V.place dcel.now.vertices) (place_of V.Scalar.whole point) }
-    ensures { let points = map V.place dcel.now.vertices in let p = place_of V.Scalar.whole point in MatchOption result (IsClearOfEdge points dcel.now.mesh p edge) (Locates points dcel.now.mesh p) }
+    ensures { let points = map V.place dcel.now.vertices in let p = place_of V.Scalar.whole point in
+        MatchOption result (IsClearOfEdge points dcel.now.mesh p edge)
+        (Locates points dcel.now.mesh p) }
 {
     let (from, to) = ends_of(dcel, edge);
     if is_strictly_within(from, to, point, tests) {
@@ -70,7 +75,9 @@ fn place_at_edges<V: HasPosition, DE, UE, F, P: PlaneTests<V::Scalar>>(
     requires sites { All (P.sites tests.now) (map V.place dcel.now.vertices) }
     requires covered { P.covered tests.now (place_of V.Scalar.whole point) }
     requires apart { IsApart (map V.place dcel.now.vertices) (place_of V.Scalar.whole point) }
-    ensures { let points = map V.place dcel.now.vertices in let p = place_of V.Scalar.whole point in MatchOption result ((h : ℕ) → h < length dcel.now.directed → IsClearOfEdge points dcel.now.mesh p h) (Locates points dcel.now.mesh p) }
+    ensures { let points = map V.place dcel.now.vertices in let p = place_of V.Scalar.whole point in
+        MatchOption result ((h : ℕ) → h < length dcel.now.directed →
+        IsClearOfEdge points dcel.now.mesh p h) (Locates points dcel.now.mesh p) }
 {
     for index in 0..dcel.num_directed_edges() {
         let edge = FixedDirectedEdgeHandle::from_index(index as u32);
@@ -94,7 +101,9 @@ pub(crate) fn is_inside_face<V: HasPosition, DE, UE, F, P: PlaneTests<V::Scalar>
     requires within { face ≤ length dcel.now.faces }
     requires sites { All (P.sites tests.now) (map V.place dcel.now.vertices) }
     requires covered { P.covered tests.now (place_of V.Scalar.whole point) }
-    ensures { IsTrue result ↔ IsInsideFaceOf (map V.place dcel.now.vertices) dcel.now.mesh (place_of V.Scalar.whole point) (face_edge dcel.now.mesh face) }
+    ensures { IsTrue result ↔
+        IsInsideFaceOf (map V.place dcel.now.vertices) dcel.now.mesh (place_of V.Scalar.whole point)
+        (face_edge dcel.now.mesh face) }
 {
     let (a, b, c) = corners_of(dcel, face);
     is_strictly_inside(a, b, c, point, tests)
@@ -108,7 +117,11 @@ fn face_around<V: HasPosition, DE, UE, F, P: PlaneTests<V::Scalar>>(
     requires kept { IsTriangulated V.place (state_of dcel.now) }
     requires sites { All (P.sites tests.now) (map V.place dcel.now.vertices) }
     requires covered { P.covered tests.now (place_of V.Scalar.whole point) }
-    ensures { let points = map V.place dcel.now.vertices in let p = place_of V.Scalar.whole point in let m = dcel.now.mesh in MatchOption result ((f : ℕ) → 0 < f → f ≤ length dcel.now.faces → ¬ IsInsideFaceOf points m p (face_edge m f)) (λ f. (0 < f) × (f ≤ length dcel.now.faces) × IsInsideFaceOf points m p (face_edge m f)) }
+    ensures { let points = map V.place dcel.now.vertices in let p = place_of V.Scalar.whole point in
+        let m = dcel.now.mesh in
+        MatchOption result ((f : ℕ) → 0 < f → f ≤ length dcel.now.faces →
+        ¬ IsInsideFaceOf points m p (face_edge m f)) (λ f. (0 < f) × (f ≤ length dcel.now.faces) ×
+        IsInsideFaceOf points m p (face_edge m f)) }
 {
     for index in 0..dcel.num_inner_faces() {
         let face = FixedFaceHandle::from_index(index as u32 + 1);
@@ -130,7 +143,9 @@ fn starts_nearer<V: HasPosition, DE, UE, F>(
     requires edge_in { edge < length dcel.now.directed }
     requires other_in { other < length dcel.now.directed }
     requires in_range { InRange (place_of V.Scalar.whole point) }
-    ensures { let at = λ (e : ℕ). gap (fraction (place_of V.Scalar.whole point)) (place (map V.place dcel.now.vertices) (origin dcel.now.mesh e)) in IsTrue result ↔ (at edge <ℤ at other) }
+    ensures { let at = λ (e : ℕ). gap (fraction (place_of V.Scalar.whole point))
+        (place (map V.place dcel.now.vertices) (origin dcel.now.mesh e)) in
+        IsTrue result ↔ (at edge <ℤ at other) }
 {
     point.distance_2(ends_of(dcel, edge).0) < point.distance_2(ends_of(dcel, other).0)
 }
@@ -143,7 +158,8 @@ fn edge_from_nearest<V: HasPosition, DE, UE, F>(
     requires kept { IsTriangulated V.place (state_of dcel.now) }
     requires some { 0 < length dcel.now.directed }
     requires in_range { InRange (place_of V.Scalar.whole point) }
-    ensures { StartsNearest (map V.place dcel.now.vertices) dcel.now.mesh (place_of V.Scalar.whole point) result }
+    ensures { StartsNearest (map V.place dcel.now.vertices) dcel.now.mesh
+        (place_of V.Scalar.whole point) result }
 {
     let mut nearest = FixedDirectedEdgeHandle::from_index(0);
     for index in 1..dcel.num_directed_edges() {
@@ -165,7 +181,8 @@ pub fn locate_apart<V: HasPosition, DE, UE, F, P: PlaneTests<V::Scalar>>(
     requires sites { All (P.sites tests.now) (map V.place dcel.now.vertices) }
     requires covered { P.covered tests.now (place_of V.Scalar.whole point) }
     requires apart { IsApart (map V.place dcel.now.vertices) (place_of V.Scalar.whole point) }
-    ensures { Locates (map V.place dcel.now.vertices) dcel.now.mesh (place_of V.Scalar.whole point) result }
+    ensures { Locates (map V.place dcel.now.vertices) dcel.now.mesh (place_of V.Scalar.whole point)
+        result }
 {
     if dcel.num_vertices() < 2 {
         return PositionInTriangulation::NoTriangulation;
@@ -188,7 +205,8 @@ pub(crate) fn locate_by_scan<V: HasPosition, DE, UE, F, P: PlaneTests<V::Scalar>
     requires kept { IsTriangulated V.place (state_of dcel.now) }
     requires sites { All (P.sites tests.now) (map V.place dcel.now.vertices) }
     requires covered { P.covered tests.now (place_of V.Scalar.whole point) }
-    ensures { Locates (map V.place dcel.now.vertices) dcel.now.mesh (place_of V.Scalar.whole point) result }
+    ensures { Locates (map V.place dcel.now.vertices) dcel.now.mesh (place_of V.Scalar.whole point)
+        result }
 {
     match vertex_at(dcel, point) {
         Some(vertex) => PositionInTriangulation::OnVertex(vertex),

@@ -22,7 +22,8 @@ fn distance_2_to<V: HasPosition, DE, UE, F>(
     requires kept { IsTriangulated V.place (state_of dcel.now) }
     requires within { vertex < length dcel.now.vertices }
     requires in_range { InRange (place_of V.Scalar.whole point) }
-    ensures { result ≡ gap (fraction (place_of V.Scalar.whole point)) (place (map V.place dcel.now.vertices) vertex) }
+    ensures { result ≡ gap (fraction (place_of V.Scalar.whole point))
+        (place (map V.place dcel.now.vertices) vertex) }
 {
     point.distance_2(position_of(dcel, vertex))
 }
@@ -38,7 +39,8 @@ pub(crate) fn is_nearer<V: HasPosition, DE, UE, F>(
     requires vertex_in { vertex < length dcel.now.vertices }
     requires other_in { other < length dcel.now.vertices }
     requires in_range { InRange (place_of V.Scalar.whole point) }
-    ensures { let at = λ (i : ℕ). gap (fraction (place_of V.Scalar.whole point)) (place (map V.place dcel.now.vertices) i) in IsTrue result ↔ (at vertex <ℤ at other) }
+    ensures { let at = λ (i : ℕ). gap (fraction (place_of V.Scalar.whole point))
+        (place (map V.place dcel.now.vertices) i) in IsTrue result ↔ (at vertex <ℤ at other) }
 {
     distance_2_to(dcel, vertex, point) < distance_2_to(dcel, other, point)
 }
@@ -51,7 +53,8 @@ fn nearest_vertex<V: HasPosition, DE, UE, F>(
     requires kept { IsTriangulated V.place (state_of dcel.now) }
     requires some { 0 < length dcel.now.vertices }
     requires in_range { InRange (place_of V.Scalar.whole point) }
-    ensures { IsNearest (triangulation_of V.place (state_of dcel.now)) (fraction (place_of V.Scalar.whole point)) result }
+    ensures { IsNearest (triangulation_of V.place (state_of dcel.now))
+        (fraction (place_of V.Scalar.whole point)) result }
 {
     let mut nearest = FixedVertexHandle::from_index(0);
     for index in 1..dcel.num_vertices() {
@@ -63,15 +66,17 @@ fn nearest_vertex<V: HasPosition, DE, UE, F>(
     nearest
 }
 
-/// A vertex that none is strictly nearer than to a position in range, unless there is no vertex. Of several it gives
-/// the one of the least index.
+/// A vertex that none is strictly nearer than to a position in range, unless there is no vertex. Of
+/// several it gives the one of the least index.
 pub fn nearest_neighbor<V: HasPosition, DE, UE, F>(
     dcel: &Dcel<V, DE, UE, F>,
     point: Point2<V::Scalar>,
 ) -> Option<FixedVertexHandle>
     requires kept { IsTriangulated V.place (state_of dcel.now) }
     requires in_range { InRange (place_of V.Scalar.whole point) }
-    ensures { MatchOption result (length dcel.now.vertices ≡ 0) (IsNearest (triangulation_of V.place (state_of dcel.now)) (fraction (place_of V.Scalar.whole point))) }
+    ensures { MatchOption result (length dcel.now.vertices ≡ 0)
+        (IsNearest (triangulation_of V.place (state_of dcel.now))
+        (fraction (place_of V.Scalar.whole point))) }
 {
     if dcel.num_vertices() == 0 {
         None

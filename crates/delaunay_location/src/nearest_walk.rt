@@ -24,7 +24,10 @@ fn nearer_neighbor<V: HasPosition, DE, UE, F>(
     requires kept { IsTriangulated V.place (state_of dcel.now) }
     requires within { from < length dcel.now.vertices }
     requires in_range { InRange (place_of V.Scalar.whole point) }
-    ensures { let t = triangulation_of V.place (state_of dcel.now) in let p = fraction (place_of V.Scalar.whole point) in MatchOption result ((k : ℕ) → IsEdge t from k → ¬ IsNearer p (vertex t k) (vertex t from)) (λ k. (k < length dcel.now.vertices) × IsNearer p (vertex t k) (vertex t from)) }
+    ensures { let t = triangulation_of V.place (state_of dcel.now) in
+        let p = fraction (place_of V.Scalar.whole point) in
+        MatchOption result ((k : ℕ) → IsEdge t from k → ¬ IsNearer p (vertex t k) (vertex t from))
+        (λ k. (k < length dcel.now.vertices) × IsNearer p (vertex t k) (vertex t from)) }
 {
     for edge in dcel.vertex(from).out_edges() {
         let neighbor = end_vertex(dcel, edge.fix());
@@ -35,8 +38,8 @@ fn nearer_neighbor<V: HasPosition, DE, UE, F>(
     None
 }
 
-// The vertex that is nearest to a position, by a walk from `start` to nearer neighbours until there is none. It adds the
-// number of its moves to `moves`: fewer than there are vertices.
+// The vertex that is nearest to a position, by a walk from `start` to nearer neighbours until there
+// is none. It adds the number of its moves to `moves`: fewer than there are vertices.
 pub fn nearest_by_neighbors<V: HasPosition, DE, UE, F>(
     dcel: &Dcel<V, DE, UE, F>,
     start: FixedVertexHandle,
@@ -48,7 +51,8 @@ pub fn nearest_by_neighbors<V: HasPosition, DE, UE, F>(
     requires within { start < length dcel.now.vertices }
     requires in_range { InRange (place_of V.Scalar.whole point) }
     requires fits { moves.old + length dcel.now.vertices ≤ 2 ^ 64 }
-    ensures nearest { IsNearest (triangulation_of V.place (state_of dcel.now)) (fraction (place_of V.Scalar.whole point)) result }
+    ensures nearest { IsNearest (triangulation_of V.place (state_of dcel.now))
+        (fraction (place_of V.Scalar.whole point)) result }
     ensures counted { (moves.old ≤ moves.new) × (moves.new < moves.old + length dcel.now.vertices) }
 {
     let mut nearest = start;

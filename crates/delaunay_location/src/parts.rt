@@ -67,8 +67,10 @@ pub fn ends_of<V: HasPosition, DE, UE, F>(
 ) -> (Point2<V::Scalar>, Point2<V::Scalar>)
     requires kept { IsTriangulated V.place (state_of dcel.now) }
     requires within { edge < length dcel.now.directed }
-    ensures from { place_of V.Scalar.whole result.0 ≡ point_at (map V.place dcel.now.vertices) (origin dcel.now.mesh edge) }
-    ensures to { place_of V.Scalar.whole result.1 ≡ point_at (map V.place dcel.now.vertices) (origin dcel.now.mesh (rev edge)) }
+    ensures from { place_of V.Scalar.whole result.0 ≡
+        point_at (map V.place dcel.now.vertices) (origin dcel.now.mesh edge) }
+    ensures to { place_of V.Scalar.whole result.1 ≡ point_at (map V.place dcel.now.vertices)
+        (origin dcel.now.mesh (rev edge)) }
     ensures edge { IsMeshEdge (map V.place dcel.now.vertices) dcel.now.mesh edge }
 {
     let edge = dcel.directed_edge(edge);
@@ -85,9 +87,15 @@ pub(crate) fn corners_of<V: HasPosition, DE, UE, F>(
     requires kept { IsTriangulated V.place (state_of dcel.now) }
     requires positive { 0 < face }
     requires within { face ≤ length dcel.now.faces }
-    ensures first { place_of V.Scalar.whole result.0 ≡ point_at (map V.place dcel.now.vertices) (triangle_at dcel.now.mesh (face_edge dcel.now.mesh face)).first }
-    ensures second { place_of V.Scalar.whole result.1 ≡ point_at (map V.place dcel.now.vertices) (triangle_at dcel.now.mesh (face_edge dcel.now.mesh face)).second }
-    ensures third { place_of V.Scalar.whole result.2 ≡ point_at (map V.place dcel.now.vertices) (triangle_at dcel.now.mesh (face_edge dcel.now.mesh face)).third }
+    ensures first { place_of V.Scalar.whole result.0 ≡
+        point_at (map V.place dcel.now.vertices)
+        (triangle_at dcel.now.mesh (face_edge dcel.now.mesh face)).first }
+    ensures second { place_of V.Scalar.whole result.1 ≡
+        point_at (map V.place dcel.now.vertices)
+        (triangle_at dcel.now.mesh (face_edge dcel.now.mesh face)).second }
+    ensures third { place_of V.Scalar.whole result.2 ≡
+        point_at (map V.place dcel.now.vertices)
+        (triangle_at dcel.now.mesh (face_edge dcel.now.mesh face)).third }
     ensures face { IsMeshFace (map V.place dcel.now.vertices) dcel.now.mesh face }
 {
     let edge = dcel.face(face).adjacent_edge();

@@ -15,8 +15,8 @@ pub enum PositionInTriangulation {
     OnEdge(FixedDirectedEdgeHandle),
     /// It is strictly inside this face.
     OnFace(FixedFaceHandle),
-    /// It is strictly on the left of this edge, which has the outer face on its left. Where it is on one line with all
-    /// vertices, the edge goes out of the end vertex on its side.
+    /// It is strictly on the left of this edge, which has the outer face on its left. Where it is
+    /// on one line with all vertices, the edge goes out of the end vertex on its side.
     OutsideOfConvexHull(FixedDirectedEdgeHandle),
     /// There is no vertex, or one elsewhere.
     NoTriangulation,

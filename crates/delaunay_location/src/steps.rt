@@ -11,8 +11,8 @@ use delaunay_core::point::{HasPosition, Point2};
 use delaunay_legalization::{start_of, turns_left};
 use half_edge_mesh::{Dcel, FixedDirectedEdgeHandle, MeshViews};
 
-// Where a walk is: in the face on the left of an edge. The positions of its ends are kept, so that a step reads that of
-// one vertex.
+// Where a walk is: in the face on the left of an edge. The positions of its ends are kept, so that
+// a step reads that of one vertex.
 #[derive(Clone, Copy)]
 pub(crate) struct Stop<S> {
     pub(crate) edge: FixedDirectedEdgeHandle,
@@ -35,8 +35,8 @@ pub(crate) fn stop_at<V: HasPosition, DE, UE, F, P: PlaneTests<V::Scalar>>(
     Stop { edge, from, to }
 }
 
-// The way from an edge that has the outer face on its left to a position: the other direction of the edge, unless the
-// position is strictly on its left.
+// The way from an edge that has the outer face on its left to a position: the other direction of
+// the edge, unless the position is strictly on its left.
 fn way_in<V: HasPosition, DE, UE, F, P: PlaneTests<V::Scalar>>(
     dcel: &Dcel<V, DE, UE, F>,
     stop: Stop<V::Scalar>,
@@ -46,7 +46,8 @@ fn way_in<V: HasPosition, DE, UE, F, P: PlaneTests<V::Scalar>>(
     requires kept { IsTriangulated V.place (state_of dcel.now) }
     requires stop { IsStop V.Scalar.whole (P.covered tests.now) (length dcel.now.directed) stop }
     requires covered { P.covered tests.now (place_of V.Scalar.whole point) }
-    ensures { IfSome result (IsStop V.Scalar.whole (P.covered tests.now) (length dcel.now.directed)) }
+    ensures { IfSome result (IsStop V.Scalar.whole (P.covered tests.now)
+        (length dcel.now.directed)) }
 {
     let Stop { edge, from, to } = stop;
     if turns_left(from, to, point, tests) {
@@ -59,8 +60,9 @@ fn way_in<V: HasPosition, DE, UE, F, P: PlaneTests<V::Scalar>>(
     })
 }
 
-// The way from the face on the left of an edge to a position outside it: a side that has the position strictly on its
-// right, in the other direction. From the outer face it leads inside, unless the position is on the left of the edge.
+// The way from the face on the left of an edge to a position outside it: a side that has the
+// position strictly on its right, in the other direction. From the outer face it leads inside,
+// unless the position is on the left of the edge.
 pub(crate) fn way_out<V: HasPosition, DE, UE, F, P: PlaneTests<V::Scalar>>(
     dcel: &Dcel<V, DE, UE, F>,
     stop: Stop<V::Scalar>,
@@ -71,7 +73,8 @@ pub(crate) fn way_out<V: HasPosition, DE, UE, F, P: PlaneTests<V::Scalar>>(
     requires stop { IsStop V.Scalar.whole (P.covered tests.now) (length dcel.now.directed) stop }
     requires sites { All (P.sites tests.now) (map V.place dcel.now.vertices) }
     requires covered { P.covered tests.now (place_of V.Scalar.whole point) }
-    ensures { IfSome result (IsStop V.Scalar.whole (P.covered tests.now) (length dcel.now.directed)) }
+    ensures { IfSome result (IsStop V.Scalar.whole (P.covered tests.now)
+        (length dcel.now.directed)) }
 {
     let here = dcel.directed_edge(stop.edge);
     if here.is_outer_edge() {

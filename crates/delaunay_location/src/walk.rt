@@ -28,7 +28,8 @@ fn place_on_edge<V: HasPosition, DE, UE, F, P: PlaneTests<V::Scalar>>(
     requires within { edge < length dcel.now.directed }
     requires sites { All (P.sites tests.now) (map V.place dcel.now.vertices) }
     requires covered { P.covered tests.now (place_of V.Scalar.whole point) }
-    ensures { IfSome result (Locates (map V.place dcel.now.vertices) dcel.now.mesh (place_of V.Scalar.whole point)) }
+    ensures { IfSome result (Locates (map V.place dcel.now.vertices) dcel.now.mesh
+        (place_of V.Scalar.whole point)) }
 {
     let (from, to) = ends_of(dcel, edge);
     if is_same_point(from, point) {
@@ -55,7 +56,8 @@ fn place_in_face<V: HasPosition, DE, UE, F, P: PlaneTests<V::Scalar>>(
     requires inner { 0 < face dcel.now.mesh edge }
     requires sites { All (P.sites tests.now) (map V.place dcel.now.vertices) }
     requires covered { P.covered tests.now (place_of V.Scalar.whole point) }
-    ensures { IfSome result (Locates (map V.place dcel.now.vertices) dcel.now.mesh (place_of V.Scalar.whole point)) }
+    ensures { IfSome result (Locates (map V.place dcel.now.vertices) dcel.now.mesh
+        (place_of V.Scalar.whole point)) }
 {
     let face = left_face(dcel, edge);
     if is_inside_face(dcel, face, point, tests) {
@@ -83,7 +85,8 @@ fn place_outside<V: HasPosition, DE, UE, F, P: PlaneTests<V::Scalar>>(
     requires outer { face dcel.now.mesh edge ≡ 0 }
     requires sites { All (P.sites tests.now) (map V.place dcel.now.vertices) }
     requires covered { P.covered tests.now (place_of V.Scalar.whole point) }
-    ensures { IfSome result (Locates (map V.place dcel.now.vertices) dcel.now.mesh (place_of V.Scalar.whole point)) }
+    ensures { IfSome result (Locates (map V.place dcel.now.vertices) dcel.now.mesh
+        (place_of V.Scalar.whole point)) }
 {
     let (from, to) = ends_of(dcel, edge);
     if turns_left(from, to, point, tests) {
@@ -93,8 +96,8 @@ fn place_outside<V: HasPosition, DE, UE, F, P: PlaneTests<V::Scalar>>(
     }
 }
 
-// The location of a position in the closed face on the left of an edge, or strictly on the left of an edge that has the
-// outer face there.
+// The location of a position in the closed face on the left of an edge, or strictly on the left of
+// an edge that has the outer face there.
 fn place_at<V: HasPosition, DE, UE, F, P: PlaneTests<V::Scalar>>(
     dcel: &Dcel<V, DE, UE, F>,
     edge: FixedDirectedEdgeHandle,
@@ -105,7 +108,8 @@ fn place_at<V: HasPosition, DE, UE, F, P: PlaneTests<V::Scalar>>(
     requires within { edge < length dcel.now.directed }
     requires sites { All (P.sites tests.now) (map V.place dcel.now.vertices) }
     requires covered { P.covered tests.now (place_of V.Scalar.whole point) }
-    ensures { IfSome result (Locates (map V.place dcel.now.vertices) dcel.now.mesh (place_of V.Scalar.whole point)) }
+    ensures { IfSome result (Locates (map V.place dcel.now.vertices) dcel.now.mesh
+        (place_of V.Scalar.whole point)) }
 {
     if is_outer(dcel, edge) {
         place_outside(dcel, edge, point, tests)
@@ -114,8 +118,8 @@ fn place_at<V: HasPosition, DE, UE, F, P: PlaneTests<V::Scalar>>(
     }
 }
 
-// The location that a walk from an edge ends at, unless it has not ended after as many steps as there are directed edges.
-// Among faces that pass the circle test it ends earlier.
+// The location that a walk from an edge ends at, unless it has not ended after as many steps as
+// there are directed edges. Among faces that pass the circle test it ends earlier.
 fn walk<V: HasPosition, DE, UE, F, P: PlaneTests<V::Scalar>>(
     dcel: &Dcel<V, DE, UE, F>,
     start: FixedDirectedEdgeHandle,
@@ -126,7 +130,8 @@ fn walk<V: HasPosition, DE, UE, F, P: PlaneTests<V::Scalar>>(
     requires within { start < length dcel.now.directed }
     requires sites { All (P.sites tests.now) (map V.place dcel.now.vertices) }
     requires covered { P.covered tests.now (place_of V.Scalar.whole point) }
-    ensures { IfSome result (Locates (map V.place dcel.now.vertices) dcel.now.mesh (place_of V.Scalar.whole point)) }
+    ensures { IfSome result (Locates (map V.place dcel.now.vertices) dcel.now.mesh
+        (place_of V.Scalar.whole point)) }
 {
     let mut stop = stop_at(dcel, start, tests);
     for _ in 0..dcel.num_directed_edges() {
@@ -139,7 +144,8 @@ fn walk<V: HasPosition, DE, UE, F, P: PlaneTests<V::Scalar>>(
     None
 }
 
-// An edge that a walk begins at: one of the vertex `hint`, or of vertex 0 where there is no such vertex.
+// An edge that a walk begins at: one of the vertex `hint`, or of vertex 0 where there is no such
+// vertex.
 fn first_edge<V, DE, UE, F>(
     dcel: &Dcel<V, DE, UE, F>,
     hint: FixedVertexHandle,
@@ -153,8 +159,8 @@ fn first_edge<V, DE, UE, F>(
     Some(vertex.out_edge()?.fix())
 }
 
-// Where a position is, by a walk from a vertex, or from vertex 0 where there is no such vertex. There is no answer where
-// there are no faces.
+// Where a position is, by a walk from a vertex, or from vertex 0 where there is no such vertex.
+// There is no answer where there are no faces.
 fn walk_from<V: HasPosition, DE, UE, F, P: PlaneTests<V::Scalar>>(
     dcel: &Dcel<V, DE, UE, F>,
     hint: FixedVertexHandle,
@@ -164,7 +170,8 @@ fn walk_from<V: HasPosition, DE, UE, F, P: PlaneTests<V::Scalar>>(
     requires kept { IsTriangulated V.place (state_of dcel.now) }
     requires sites { All (P.sites tests.now) (map V.place dcel.now.vertices) }
     requires covered { P.covered tests.now (place_of V.Scalar.whole point) }
-    ensures { IfSome result (Locates (map V.place dcel.now.vertices) dcel.now.mesh (place_of V.Scalar.whole point)) }
+    ensures { IfSome result (Locates (map V.place dcel.now.vertices) dcel.now.mesh
+        (place_of V.Scalar.whole point)) }
 {
     if dcel.num_inner_faces() == 0 {
         return None;
@@ -172,8 +179,8 @@ fn walk_from<V: HasPosition, DE, UE, F, P: PlaneTests<V::Scalar>>(
     walk(dcel, first_edge(dcel, hint)?, point, tests)
 }
 
-/// Where a position is. The search begins at the vertex `hint`, or at vertex 0 where there is no such vertex: the nearer it
-/// is, the shorter the way.
+/// Where a position is. The search begins at the vertex `hint`, or at vertex 0 where there is no
+/// such vertex: the nearer it is, the shorter the way.
 pub fn locate_with_hint<V: HasPosition, DE, UE, F, P: PlaneTests<V::Scalar>>(
     dcel: &Dcel<V, DE, UE, F>,
     point: Point2<V::Scalar>,
@@ -183,7 +190,8 @@ pub fn locate_with_hint<V: HasPosition, DE, UE, F, P: PlaneTests<V::Scalar>>(
     requires kept { IsTriangulated V.place (state_of dcel.now) }
     requires sites { All (P.sites tests.now) (map V.place dcel.now.vertices) }
     requires covered { P.covered tests.now (place_of V.Scalar.whole point) }
-    ensures { Locates (map V.place dcel.now.vertices) dcel.now.mesh (place_of V.Scalar.whole point) result }
+    ensures { Locates (map V.place dcel.now.vertices) dcel.now.mesh (place_of V.Scalar.whole point)
+        result }
 {
     match walk_from(dcel, hint, point, tests) {
         Some(place) => place,
@@ -200,12 +208,14 @@ pub fn locate<V: HasPosition, DE, UE, F, P: PlaneTests<V::Scalar>>(
     requires kept { IsTriangulated V.place (state_of dcel.now) }
     requires sites { All (P.sites tests.now) (map V.place dcel.now.vertices) }
     requires covered { P.covered tests.now (place_of V.Scalar.whole point) }
-    ensures { Locates (map V.place dcel.now.vertices) dcel.now.mesh (place_of V.Scalar.whole point) result }
+    ensures { Locates (map V.place dcel.now.vertices) dcel.now.mesh (place_of V.Scalar.whole point)
+        result }
 {
     locate_with_hint(dcel, point, FixedVertexHandle::from_index(0), tests)
 }
 
-/// The vertex at a position, if there is one. The search begins at the vertex `hint`, or at vertex 0.
+/// The vertex at a position, if there is one. The search begins at the vertex `hint`, or at vertex
+/// 0.
 pub fn locate_vertex<V: HasPosition, DE, UE, F, P: PlaneTests<V::Scalar>>(
     dcel: &Dcel<V, DE, UE, F>,
     point: Point2<V::Scalar>,
@@ -215,7 +225,9 @@ pub fn locate_vertex<V: HasPosition, DE, UE, F, P: PlaneTests<V::Scalar>>(
     requires kept { IsTriangulated V.place (state_of dcel.now) }
     requires sites { All (P.sites tests.now) (map V.place dcel.now.vertices) }
     requires covered { P.covered tests.now (place_of V.Scalar.whole point) }
-    ensures { let points = map V.place dcel.now.vertices in let p = place_of V.Scalar.whole point in MatchOption result (IsApart points p) (λ v. (v < length dcel.now.vertices) × (point_at points v ≡ p)) }
+    ensures { let points = map V.place dcel.now.vertices in let p = place_of V.Scalar.whole point in
+        MatchOption result (IsApart points p) (λ v. (v < length dcel.now.vertices) ×
+        (point_at points v ≡ p)) }
 {
     match locate_with_hint(dcel, point, hint, tests) {
         PositionInTriangulation::OnVertex(vertex) => Some(vertex),

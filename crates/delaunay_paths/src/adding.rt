@@ -1,5 +1,6 @@
 //! Constraints along the path between two vertices.
-ghost use Rattle.std.specs.Prelude.{◌≡◌, ◌≢◌, ◌↔◌, ◌*◌, ◌<◌, ◌≤◌, true, length, map, All, IsTrue, IfNone, IfSome, vec_capacity};
+ghost use Rattle.std.specs.Prelude.{◌≡◌, ◌≢◌, ◌↔◌, ◌*◌, ◌<◌, ◌≤◌};
+ghost use Rattle.std.specs.Prelude.{true, length, map, All, IsTrue, IfNone, IfSome, vec_capacity};
 ghost use Rattle.plane_tiling.specs.Local.{IsMesh};
 ghost use Rattle.plane_segments.specs.Constraints.{AreNextOn};
 ghost use Rattle.plane_segments.specs.Path.{IsFreeOfVertices};
@@ -7,7 +8,8 @@ ghost use Rattle.mesh_embedding.specs.Drawn.{drawn, faces_of, outer_of};
 ghost use Rattle.delaunay_legalization.specs.Constraints.{constraints_by};
 ghost use Rattle.delaunay_legalization.specs.Shape.{IsTriangulated};
 ghost use Rattle.delaunay_legalization.specs.State.{state_of};
-ghost use Rattle.delaunay_paths.specs.Adding.{AddsPath, CanAddPath, HasFreeWay, MarksEdge, NoneCrosses};
+ghost use Rattle.delaunay_paths.specs.Adding.{AddsPath, CanAddPath, HasFreeWay, MarksEdge};
+ghost use Rattle.delaunay_paths.specs.Adding.{NoneCrosses};
 ghost use Rattle.delaunay_paths.specs.Leaving.{IsWorkList, LeavesPiece, LeavesToTest};
 
 use crate::flips::make_edge;
@@ -54,8 +56,9 @@ fn mark<M: ConstraintMarker<UE>, V, DE, UE, F>(
     make_constraint::<M, _, _, _, _>(dcel, edge);
 }
 
-// Makes an edge of the segment between two vertices with none strictly between, which no constraint crosses, and a
-// constraint of this edge. Each edge that may fail the circle test is put into `work`.
+// Makes an edge of the segment between two vertices with none strictly between, which no constraint
+// crosses, and a constraint of this edge. Each edge that may fail the circle test is put into
+// `work`.
 fn add_piece<M: ConstraintMarker<UE>, V: HasPosition, DE, UE, F, P: PlaneTests<V::Scalar>>(
     dcel: &mut Dcel<V, DE, UE, F>,
     from: FixedVertexHandle,
@@ -65,11 +68,14 @@ fn add_piece<M: ConstraintMarker<UE>, V: HasPosition, DE, UE, F, P: PlaneTests<V
 )
     requires can_mark { M.can_mark ≡ true }
     requires free { IsFreeOfVertices (drawn (map V.place dcel.old.vertices) dcel.old.mesh) from to }
-    requires shape { IsMesh (map V.place dcel.old.vertices) (faces_of dcel.old.mesh) (outer_of dcel.old.mesh) }
-    requires clear { NoneCrosses (map V.place dcel.old.vertices) (constraints_by M.constraints (state_of dcel.old)) from to }
+    requires shape { IsMesh (map V.place dcel.old.vertices) (faces_of dcel.old.mesh)
+        (outer_of dcel.old.mesh) }
+    requires clear { NoneCrosses (map V.place dcel.old.vertices)
+        (constraints_by M.constraints (state_of dcel.old)) from to }
     requires sites { All (P.sites tests.now) (map V.place dcel.old.vertices) }
     requires work { IsWorkList dcel.old work.old.items (vec_capacity work.old) }
-    ensures leaves { LeavesPiece (map V.place dcel.old.vertices) M.marks M.marked M.constraints dcel.old dcel.new from to work.old.items work.new.items }
+    ensures leaves { LeavesPiece (map V.place dcel.old.vertices) M.marks M.marked M.constraints
+        dcel.old dcel.new from to work.old.items work.new.items }
     ensures capacity { vec_capacity work.new ≡ vec_capacity work.old }
 {
     make_edge(dcel, from, to, tests, work);
@@ -86,7 +92,8 @@ pub(crate) fn next_piece<V: HasPosition, DE, UE, F, P: PlaneTests<V::Scalar>>(
 ) -> Option<FixedVertexHandle>
     requires from_in { from < length dcel.now.vertices }
     requires to_in { to < length dcel.now.vertices }
-    requires shape { IsMesh (map V.place dcel.now.vertices) (faces_of dcel.now.mesh) (outer_of dcel.now.mesh) }
+    requires shape { IsMesh (map V.place dcel.now.vertices) (faces_of dcel.now.mesh)
+        (outer_of dcel.now.mesh) }
     requires sites { All (P.sites tests.now) (map V.place dcel.now.vertices) }
     ensures end { IfNone result (from ≡ to) }
     ensures apart { IfSome result (λ v. from ≢ to) }
@@ -99,9 +106,10 @@ pub(crate) fn next_piece<V: HasPosition, DE, UE, F, P: PlaneTests<V::Scalar>>(
     }
 }
 
-/// Makes constraints of the pieces of the path between two vertices, whose segment no constraint crosses: each of its
-/// vertices is joined to the next. Edges that cross a piece are flipped, and no circle test is made: where each edge
-/// passed before, only those that are then in `work`, which has room for each edge, may fail.
+/// Makes constraints of the pieces of the path between two vertices, whose segment no constraint
+/// crosses: each of its vertices is joined to the next. Edges that cross a piece are flipped, and
+/// no circle test is made: where each edge passed before, only those that are then in `work`, which
+/// has room for each edge, may fail.
 pub fn add_path<M: ConstraintMarker<UE>, V: HasPosition, DE, UE, F, P: PlaneTests<V::Scalar>>(
     dcel: &mut Dcel<V, DE, UE, F>,
     from: FixedVertexHandle,

@@ -1,5 +1,6 @@
 //! Constraints that are added and released, with each other edge legal afterwards.
-ghost use Rattle.std.specs.Prelude.{◌≡◌, ◌*◌, ◌<◌, ◌≤◌, ◌∷◌, [], true, length, map, All, Contains, vec_capacity};
+ghost use Rattle.std.specs.Prelude.{◌≡◌, ◌*◌, ◌<◌, ◌≤◌, ◌∷◌, []};
+ghost use Rattle.std.specs.Prelude.{true, length, map, All, Contains, vec_capacity};
 ghost use Rattle.delaunay_legalization.specs.Flips.{CountsFlips, FlipsFit};
 ghost use Rattle.delaunay_legalization.specs.Shape.{IsDelaunayTriangulation};
 ghost use Rattle.delaunay_legalization.specs.State.{state_of};
@@ -12,8 +13,9 @@ use delaunay_core::point::HasPosition;
 use delaunay_legalization::{ConstraintMarker, free_edge, legalize};
 use half_edge_mesh::{Dcel, FixedUndirectedEdgeHandle, FixedVertexHandle};
 
-/// Adds the pieces of the path between two vertices, whose segment no constraint crosses, to the constraints, and flips
-/// edges that fail the circle test until none does. `work` has room for each edge, and `flips` counts on.
+/// Adds the pieces of the path between two vertices, whose segment no constraint crosses, to the
+/// constraints, and flips edges that fail the circle test until none does. `work` has room for each
+/// edge, and `flips` counts on.
 pub fn add_constraints<
     M: ConstraintMarker<UE>,
     V: HasPosition,
@@ -36,7 +38,8 @@ pub fn add_constraints<
     requires room { 3 * length dcel.old.vertices ≤ vec_capacity work.old }
     requires fits { FlipsFit (length dcel.old.vertices) flips.old }
 
-    ensures adds { AddsConstraints V.place M.marks M.marked M.constraints dcel.old dcel.new from to }
+    ensures adds { AddsConstraints V.place M.marks M.marked M.constraints dcel.old dcel.new from
+        to }
     ensures counted { CountsFlips (length dcel.old.vertices) flips.old flips.new }
 {
     add_path::<M, _, _, _, _, _>(dcel, from, to, tests, work);
@@ -54,8 +57,8 @@ fn put_alone(edge: FixedUndirectedEdgeHandle, work: &mut Vec<FixedUndirectedEdge
     work.push_reserved(edge);
 }
 
-/// Makes a constraint an edge that is none, and flips edges from there on until each that is no constraint passes the
-/// circle test. `work` has room for each edge, and `flips` counts on.
+/// Makes a constraint an edge that is none, and flips edges from there on until each that is no
+/// constraint passes the circle test. `work` has room for each edge, and `flips` counts on.
 pub fn release_constraint<
     M: ConstraintMarker<UE>,
     V: HasPosition,

@@ -21,7 +21,8 @@ pub(crate) fn position_of<V: HasPosition, DE, UE, F>(
     vertex: FixedVertexHandle,
 ) -> Point2<V::Scalar>
     requires { vertex < length dcel.now.vertices }
-    ensures place { place_of V.Scalar.whole result ≡ point_at (map V.place dcel.now.vertices) vertex }
+    ensures place { place_of V.Scalar.whole result ≡
+        point_at (map V.place dcel.now.vertices) vertex }
     ensures listed { Contains (map V.place dcel.now.vertices) (place_of V.Scalar.whole result) }
 {
     dcel.vertex_data(vertex).position()
@@ -33,13 +34,15 @@ pub(crate) fn end_of<V: HasPosition, DE, UE, F>(
     edge: FixedDirectedEdgeHandle,
 ) -> Point2<V::Scalar>
     requires { edge < length dcel.now.directed }
-    ensures place { place_of V.Scalar.whole result ≡ point_at (map V.place dcel.now.vertices) (origin dcel.now.mesh (rev edge)) }
+    ensures place { place_of V.Scalar.whole result ≡
+        point_at (map V.place dcel.now.vertices) (origin dcel.now.mesh (rev edge)) }
     ensures listed { Contains (map V.place dcel.now.vertices) (place_of V.Scalar.whole result) }
 {
     start_of(dcel, dcel.directed_edge(edge).rev().fix())
 }
 
-// Whether the way from `from` to `to` has one point strictly on its right and another strictly on its left.
+// Whether the way from `from` to `to` has one point strictly on its right and another strictly on
+// its left.
 fn has_on_sides<S: SpadeNum, P: PlaneTests<S>>(
     from: Point2<S>,
     to: Point2<S>,
@@ -51,7 +54,11 @@ fn has_on_sides<S: SpadeNum, P: PlaneTests<S>>(
     requires to_covered { P.covered tests.now (place_of S.whole to) }
     requires right_covered { P.covered tests.now (place_of S.whole on_right) }
     requires left_covered { P.covered tests.now (place_of S.whole on_left) }
-    ensures { IsTrue result ↔ ((side (fraction (place_of S.whole from)) (fraction (place_of S.whole to)) (fraction (place_of S.whole on_right)) ≡ right) × TurnsLeft (fraction (place_of S.whole from)) (fraction (place_of S.whole to)) (fraction (place_of S.whole on_left))) }
+    ensures { IsTrue result ↔
+        ((side (fraction (place_of S.whole from)) (fraction (place_of S.whole to))
+        (fraction (place_of S.whole on_right)) ≡ right) ×
+        TurnsLeft (fraction (place_of S.whole from)) (fraction (place_of S.whole to))
+        (fraction (place_of S.whole on_left))) }
 {
     tests.side(from, to, on_right).is_on_right_side()
         && tests.side(from, to, on_left).is_on_left_side()
@@ -69,7 +76,9 @@ fn parts<S: SpadeNum, P: PlaneTests<S>>(
     requires to_covered { P.covered tests.now (place_of S.whole to) }
     requires one_covered { P.covered tests.now (place_of S.whole one) }
     requires other_covered { P.covered tests.now (place_of S.whole other) }
-    ensures { IsTrue result ↔ Parts (fraction (place_of S.whole from)) (fraction (place_of S.whole to)) (fraction (place_of S.whole one)) (fraction (place_of S.whole other)) }
+    ensures { IsTrue result ↔
+        Parts (fraction (place_of S.whole from)) (fraction (place_of S.whole to))
+        (fraction (place_of S.whole one)) (fraction (place_of S.whole other)) }
 {
     has_on_sides(from, to, other, one, tests) || has_on_sides(from, to, one, other, tests)
 }
@@ -86,12 +95,17 @@ fn part_each_other<S: SpadeNum, P: PlaneTests<S>>(
     requires to_covered { P.covered tests.now (place_of S.whole to) }
     requires start_covered { P.covered tests.now (place_of S.whole start) }
     requires end_covered { P.covered tests.now (place_of S.whole end) }
-    ensures { IsTrue result ↔ (Parts (fraction (place_of S.whole from)) (fraction (place_of S.whole to)) (fraction (place_of S.whole start)) (fraction (place_of S.whole end)) × Parts (fraction (place_of S.whole start)) (fraction (place_of S.whole end)) (fraction (place_of S.whole from)) (fraction (place_of S.whole to))) }
+    ensures { IsTrue result ↔
+        (Parts (fraction (place_of S.whole from)) (fraction (place_of S.whole to))
+        (fraction (place_of S.whole start)) (fraction (place_of S.whole end)) ×
+        Parts (fraction (place_of S.whole start)) (fraction (place_of S.whole end))
+        (fraction (place_of S.whole from)) (fraction (place_of S.whole to))) }
 {
     parts(from, to, start, end, tests) && parts(start, end, from, to, tests)
 }
 
-/// Whether an edge and the segment between two different vertices have a point strictly within both.
+/// Whether an edge and the segment between two different vertices have a point strictly within
+/// both.
 pub fn crosses_segment<V: HasPosition, DE, UE, F, P: PlaneTests<V::Scalar>>(
     dcel: &Dcel<V, DE, UE, F>,
     edge: FixedDirectedEdgeHandle,
@@ -103,9 +117,11 @@ pub fn crosses_segment<V: HasPosition, DE, UE, F, P: PlaneTests<V::Scalar>>(
     requires from_in { from < length dcel.now.vertices }
     requires to_in { to < length dcel.now.vertices }
     requires apart { from ≢ to }
-    requires shape { IsMesh (map V.place dcel.now.vertices) (faces_of dcel.now.mesh) (outer_of dcel.now.mesh) }
+    requires shape { IsMesh (map V.place dcel.now.vertices) (faces_of dcel.now.mesh)
+        (outer_of dcel.now.mesh) }
     requires sites { All (P.sites tests.now) (map V.place dcel.now.vertices) }
-    ensures { IsTrue result ↔ CrossesSegment (map V.place dcel.now.vertices) dcel.now.mesh from to edge }
+    ensures { IsTrue result ↔
+        CrossesSegment (map V.place dcel.now.vertices) dcel.now.mesh from to edge }
 {
     dcel.recall_invariant();
     let (from, to) = (position_of(dcel, from), position_of(dcel, to));

@@ -65,7 +65,9 @@ pub fn is_path_constrained<
     requires kept { IsTriangulated V.place (state_of dcel.now) }
     requires sites { All (P.sites tests.now) (map V.place dcel.now.vertices) }
 
-    ensures { IsTrue result ↔ AreJoinedAlong (map V.place dcel.now.vertices) (constraints_by M.constraints (state_of dcel.now)) from to }
+    ensures { IsTrue result ↔
+        AreJoinedAlong (map V.place dcel.now.vertices)
+        (constraints_by M.constraints (state_of dcel.now)) from to }
 {
     let mut at = from;
     while let Some(next) = next_piece(dcel, at, to, tests) {

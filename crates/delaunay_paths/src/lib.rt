@@ -1,5 +1,5 @@
-//! Segments between two vertices that become edges: the path of pieces between two vertices, the edges that cross a
-//! piece, and flips until the piece is an edge.
+//! Segments between two vertices that become edges: the path of pieces between two vertices, the
+//! edges that cross a piece, and flips until the piece is an edge.
 #![tactic(auto)]
 
 mod adding;

@@ -29,7 +29,9 @@ fn has_less_distance<S: SpadeNum, P: PlaneTests<S>>(
     requires from_covered { P.covered tests.now (place_of S.whole from) }
     requires point_covered { P.covered tests.now (place_of S.whole point) }
     requires other_covered { P.covered tests.now (place_of S.whole other) }
-    ensures { IsTrue result ↔ (gap (fraction (place_of S.whole from)) (fraction (place_of S.whole point)) <ℤ gap (fraction (place_of S.whole from)) (fraction (place_of S.whole other))) }
+    ensures { IsTrue result ↔
+        (gap (fraction (place_of S.whole from)) (fraction (place_of S.whole point)) <ℤ
+        gap (fraction (place_of S.whole from)) (fraction (place_of S.whole other))) }
 {
     from.distance_2(point) < from.distance_2(other)
 }
@@ -44,7 +46,9 @@ fn is_nearer<S: SpadeNum, P: PlaneTests<S>>(
     requires from_covered { P.covered tests.now (place_of S.whole from) }
     requires point_covered { P.covered tests.now (place_of S.whole point) }
     requires other_covered { P.covered tests.now (place_of S.whole other) }
-    ensures { IsTrue result ↔ (squared_way (place_of S.whole from) (place_of S.whole point) <ℤ squared_way (place_of S.whole from) (place_of S.whole other)) }
+    ensures { IsTrue result ↔
+        (squared_way (place_of S.whole from) (place_of S.whole point) <ℤ
+        squared_way (place_of S.whole from) (place_of S.whole other)) }
 {
     has_less_distance(from, point, other, tests)
 }
@@ -59,7 +63,9 @@ fn comes_after_on_right<S: SpadeNum, P: PlaneTests<S>>(
     requires from_covered { P.covered tests.now (place_of S.whole from) }
     requires point_covered { P.covered tests.now (place_of S.whole point) }
     requires other_covered { P.covered tests.now (place_of S.whole other) }
-    ensures { IsTrue result ↔ ComesAfterOnRight (place_of S.whole from) (place_of S.whole point) (place_of S.whole other) }
+    ensures { IsTrue result ↔
+        ComesAfterOnRight (place_of S.whole from) (place_of S.whole point)
+        (place_of S.whole other) }
 {
     let side = tests.side(from, point, other);
     side.is_on_right_side() || (side.is_on_line() && is_nearer(from, point, other, tests))
@@ -75,7 +81,8 @@ fn comes_after_on_left<S: SpadeNum, P: PlaneTests<S>>(
     requires from_covered { P.covered tests.now (place_of S.whole from) }
     requires point_covered { P.covered tests.now (place_of S.whole point) }
     requires other_covered { P.covered tests.now (place_of S.whole other) }
-    ensures { IsTrue result ↔ ComesAfterOnLeft (place_of S.whole from) (place_of S.whole point) (place_of S.whole other) }
+    ensures { IsTrue result ↔
+        ComesAfterOnLeft (place_of S.whole from) (place_of S.whole point) (place_of S.whole other) }
 {
     let side = tests.side(from, point, other);
     side.is_on_left_side() || (side.is_on_line() && is_nearer(from, point, other, tests))
@@ -93,7 +100,8 @@ fn comes_after<V: HasPosition, DE, UE, F, P: PlaneTests<V::Scalar>>(
     requires other_within { other < length dcel.now.directed }
     requires from_in { from < length dcel.now.vertices }
     requires sites { All (P.sites tests.now) (map V.place dcel.now.vertices) }
-    ensures { IsTrue result ↔ ComesAfter (map V.place dcel.now.vertices) dcel.now.mesh from edge other }
+    ensures { IsTrue result ↔
+        ComesAfter (map V.place dcel.now.vertices) dcel.now.mesh from edge other }
 {
     let from = position_of(dcel, from);
     let (start, other_start) = (start_of(dcel, edge), start_of(dcel, other));
@@ -154,7 +162,8 @@ fn last_with<V: HasPosition, DE, UE, F, P: PlaneTests<V::Scalar>>(
     requires from_in { from < length dcel.now.vertices }
     requires sites { All (P.sites tests.now) (map V.place dcel.now.vertices) }
     ensures within { IfSome result (λ e. e < length dcel.now.directed) }
-    ensures last { IsLastWith (map V.place dcel.now.vertices) dcel.now.mesh from (length dcel.now.directed) last (item_in item.now) result }
+    ensures last { IsLastWith (map V.place dcel.now.vertices) dcel.now.mesh from
+        (length dcel.now.directed) last (item_in item.now) result }
 {
     match crossed_twin(item) {
         Some(edge) => Some(later_edge(dcel, last, edge, from, tests)),
@@ -162,7 +171,8 @@ fn last_with<V: HasPosition, DE, UE, F, P: PlaneTests<V::Scalar>>(
     }
 }
 
-// Of the edges that cross the segment between two vertices with none strictly between, from right to left, the last.
+// Of the edges that cross the segment between two vertices with none strictly between, from right
+// to left, the last.
 pub(crate) fn last_crossing<V: HasPosition, DE, UE, F, P: PlaneTests<V::Scalar>>(
     dcel: &Dcel<V, DE, UE, F>,
     from: FixedVertexHandle,
@@ -170,9 +180,11 @@ pub(crate) fn last_crossing<V: HasPosition, DE, UE, F, P: PlaneTests<V::Scalar>>
     tests: &P,
 ) -> Option<FixedDirectedEdgeHandle>
     requires free { IsFreeOfVertices (drawn (map V.place dcel.now.vertices) dcel.now.mesh) from to }
-    requires shape { IsMesh (map V.place dcel.now.vertices) (faces_of dcel.now.mesh) (outer_of dcel.now.mesh) }
+    requires shape { IsMesh (map V.place dcel.now.vertices) (faces_of dcel.now.mesh)
+        (outer_of dcel.now.mesh) }
     requires sites { All (P.sites tests.now) (map V.place dcel.now.vertices) }
-    ensures { IsLastCrossing (map V.place dcel.now.vertices) dcel.now.mesh from to (length dcel.now.directed) result }
+    ensures { IsLastCrossing (map V.place dcel.now.vertices) dcel.now.mesh from to
+        (length dcel.now.directed) result }
 {
     dcel.recall_invariant();
     let mut last = None;

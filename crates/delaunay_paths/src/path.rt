@@ -37,8 +37,9 @@ fn other_vertex<V, DE, UE, F>(
     }
 }
 
-/// The first vertex on the segment from one vertex to another, after its start: the nearest strictly within, or the end.
-/// Its cost grows with what the segment meets up to there, and not with the mesh.
+/// The first vertex on the segment from one vertex to another, after its start: the nearest
+/// strictly within, or the end. Its cost grows with what the segment meets up to there, and not
+/// with the mesh.
 pub fn next_on_path<V: HasPosition, DE, UE, F, P: PlaneTests<V::Scalar>>(
     dcel: &Dcel<V, DE, UE, F>,
     from: FixedVertexHandle,
@@ -48,7 +49,8 @@ pub fn next_on_path<V: HasPosition, DE, UE, F, P: PlaneTests<V::Scalar>>(
     requires from_in { from < length dcel.now.vertices }
     requires to_in { to < length dcel.now.vertices }
     requires apart { from ≢ to }
-    requires shape { IsMesh (map V.place dcel.now.vertices) (faces_of dcel.now.mesh) (outer_of dcel.now.mesh) }
+    requires shape { IsMesh (map V.place dcel.now.vertices) (faces_of dcel.now.mesh)
+        (outer_of dcel.now.mesh) }
     requires sites { All (P.sites tests.now) (map V.place dcel.now.vertices) }
     ensures within { result < length dcel.now.vertices }
     ensures next { AreNextOn (map V.place dcel.now.vertices) from to from result }

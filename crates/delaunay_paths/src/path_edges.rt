@@ -10,8 +10,8 @@ use delaunay_core::math::PlaneTests;
 use delaunay_core::point::HasPosition;
 use half_edge_mesh::{Dcel, FixedDirectedEdgeHandle, FixedVertexHandle};
 
-/// The edges along the path between two vertices, in order, where each of its pieces is one. They replace what is in
-/// `edges`, which has room for as many as there are vertices.
+/// The edges along the path between two vertices, in order, where each of its pieces is one. They
+/// replace what is in `edges`, which has room for as many as there are vertices.
 pub fn edges_along<V: HasPosition, DE, UE, F, P: PlaneTests<V::Scalar>>(
     dcel: &Dcel<V, DE, UE, F>,
     from: FixedVertexHandle,

@@ -9,7 +9,8 @@ use crate::star::{count_edges, edge_after};
 use half_edge_mesh::{Dcel, FixedDirectedEdgeHandle, FixedVertexHandle, MeshViews};
 use std::alloc::{AllocError, Global};
 
-// The vertex where an edge ends, by its index once `vertex` has gone and the last vertex has taken this index.
+// The vertex where an edge ends, by its index once `vertex` has gone and the last vertex has taken
+// this index.
 fn end_left<V, DE, UE, F>(
     dcel: &Dcel<V, DE, UE, F>,
     edge: FixedDirectedEdgeHandle,
@@ -17,7 +18,8 @@ fn end_left<V, DE, UE, F>(
 ) -> FixedVertexHandle
     requires within { edge < length dcel.now.directed }
     requires some { 0 < length dcel.now.vertices }
-    ensures { result ≡ moved (length dcel.now.vertices - 1) vertex (origin dcel.now.mesh (rev edge)) }
+    ensures { result ≡ moved (length dcel.now.vertices - 1) vertex
+        (origin dcel.now.mesh (rev edge)) }
 {
     let end = dcel.directed_edge(edge).to().fix();
     if end.index() as usize == dcel.num_vertices() - 1 {
@@ -36,7 +38,8 @@ fn collect_ends<V, DE, UE, F>(
 ) -> Result<Vec<FixedVertexHandle>, AllocError>
     requires within { first < length dcel.now.directed }
     requires starts { origin dcel.now.mesh first ≡ vertex }
-    ensures { IfOk result (λ vs. HasNeighbours dcel.now.mesh vertex (length dcel.now.vertices - 1) vs.items) }
+    ensures { IfOk result (λ vs. HasNeighbours dcel.now.mesh vertex (length dcel.now.vertices - 1)
+        vs.items) }
 {
     dcel.recall_invariant();
     let count = count_edges(dcel, first);
@@ -49,15 +52,16 @@ fn collect_ends<V, DE, UE, F>(
     Ok(ends)
 }
 
-/// The neighbours of a vertex, by their indexes once the vertex has gone and the last vertex has taken its index. It gives
-/// `AllocError` where memory was refused.
+/// The neighbours of a vertex, by their indexes once the vertex has gone and the last vertex has
+/// taken its index. It gives `AllocError` where memory was refused.
 pub fn neighbours_left<V, DE, UE, F>(
     dcel: &Dcel<V, DE, UE, F>,
     vertex: FixedVertexHandle,
     alloc: Global,
 ) -> Result<Vec<FixedVertexHandle>, AllocError>
     requires { vertex < length dcel.now.vertices }
-    ensures { IfOk result (λ vs. HasNeighbours dcel.now.mesh vertex (length dcel.now.vertices - 1) vs.items) }
+    ensures { IfOk result (λ vs. HasNeighbours dcel.now.mesh vertex (length dcel.now.vertices - 1)
+        vs.items) }
 {
     dcel.recall_invariant();
     match some_edge(dcel, vertex) {

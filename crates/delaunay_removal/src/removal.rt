@@ -1,5 +1,6 @@
 //! Vertices that go, with their edges.
-ghost use Rattle.std.specs.Prelude.{◌≡◌, ◌<◌, ◌≤◌, length, map, All, Some, IsSome, slice_get, vec_capacity};
+ghost use Rattle.std.specs.Prelude.{◌≡◌, ◌<◌, ◌≤◌};
+ghost use Rattle.std.specs.Prelude.{length, map, All, Some, IsSome, slice_get, vec_capacity};
 ghost use Rattle.half_edge_mesh.specs.Contents.{IsMeshWithData};
 ghost use Rattle.half_edge_mesh.specs.Mesh.{origin, out_edge, IsAlone};
 ghost use Rattle.half_edge_mesh.specs.Removal.{DropsVertex};
@@ -39,16 +40,19 @@ fn first_edge<V, DE, UE, F>(
     }
 }
 
-// Removes a vertex that has lost its edges, and gives its data back. The last vertex takes its index.
+// Removes a vertex that has lost its edges, and gives its data back. The last vertex takes its
+// index.
 fn drop_vertex<V: HasPosition, DE, UE, F>(
     dcel: &mut Dcel<V, DE, UE, F>,
     vertex: FixedVertexHandle,
 ) -> V
     requires in_range { All (λ v. InRange (V.place v)) dcel.old.vertices }
     requires alone { IsAlone dcel.old.mesh vertex }
-    requires shape { IsMeshWithout vertex (map V.place dcel.old.vertices) (faces_of dcel.old.mesh) (outer_of dcel.old.mesh) }
+    requires shape { IsMeshWithout vertex (map V.place dcel.old.vertices) (faces_of dcel.old.mesh)
+        (outer_of dcel.old.mesh) }
     ensures value { slice_get dcel.old.vertices vertex ≡ Some result }
-    ensures plain { Removes V.place (points_and_constraints (state_of dcel.old)) (points_and_constraints (state_of dcel.new)) vertex }
+    ensures plain { Removes V.place (points_and_constraints (state_of dcel.old))
+        (points_and_constraints (state_of dcel.new)) vertex }
     ensures kept { IsTriangulated V.place (state_of dcel.new) }
     ensures drops { DropsVertex dcel.old dcel.new vertex result }
     ensures before { IsMeshWithData dcel.old }
@@ -82,8 +86,9 @@ fn isolate<V: HasPosition, DE: Drop, UE: Drop, F: Drop, P: PlaneTests<V::Scalar>
     }
 }
 
-// Takes a vertex out, and gives its data back. The hole or the gap that its faces leave is filled so that the others have
-// a mesh, and the last vertex takes its index. `sides` has room for each directed edge.
+// Takes a vertex out, and gives its data back. The hole or the gap that its faces leave is filled
+// so that the others have a mesh, and the last vertex takes its index. `sides` has room for each
+// directed edge.
 fn take_vertex<V: HasPosition, DE: Drop, UE: Drop, F: Drop, P: PlaneTests<V::Scalar>>(
     dcel: &mut Dcel<V, DE, UE, F>,
     vertex: FixedVertexHandle,
@@ -95,7 +100,8 @@ fn take_vertex<V: HasPosition, DE: Drop, UE: Drop, F: Drop, P: PlaneTests<V::Sca
     requires sites { All (P.sites tests.now) (map V.place dcel.old.vertices) }
     requires room { length dcel.old.directed ≤ vec_capacity sides.old }
     ensures value { slice_get dcel.old.vertices vertex ≡ Some result }
-    ensures plain { Removes V.place (points_and_constraints (state_of dcel.old)) (points_and_constraints (state_of dcel.new)) vertex }
+    ensures plain { Removes V.place (points_and_constraints (state_of dcel.old))
+        (points_and_constraints (state_of dcel.new)) vertex }
     ensures kept { IsTriangulated V.place (state_of dcel.new) }
     ensures data { KeepsDataBeside (state_of dcel.old) (state_of dcel.new) vertex }
     ensures faces { LeavesFaces (state_of dcel.old) (state_of dcel.new) vertex }
@@ -109,9 +115,9 @@ fn take_vertex<V: HasPosition, DE: Drop, UE: Drop, F: Drop, P: PlaneTests<V::Sca
     drop_vertex(dcel, vertex)
 }
 
-/// Removes a vertex with the constraints that end at it, and gives its data back. The hole or the gap that its faces leave
-/// is filled so that the others have a mesh, and the last vertex takes its index. Each other constraint stays. `sides` has
-/// room for each directed edge.
+/// Removes a vertex with the constraints that end at it, and gives its data back. The hole or the
+/// gap that its faces leave is filled so that the others have a mesh, and the last vertex takes its
+/// index. Each other constraint stays. `sides` has room for each directed edge.
 pub fn remove_vertex<
     M: ConstraintMarker<UE>,
     V: HasPosition,

@@ -1,5 +1,6 @@
 //! A vertex on the hull loses its edges.
-ghost use Rattle.std.specs.Prelude.{◌≡◌, ◌↔◌, ◌-◌, ◌<◌, ◌≤◌, length, map, All, IsTrue, IfSome, IfNone, vec_capacity};
+ghost use Rattle.std.specs.Prelude.{◌≡◌, ◌↔◌, ◌-◌, ◌<◌, ◌≤◌};
+ghost use Rattle.std.specs.Prelude.{length, map, All, IsTrue, IfSome, IfNone, vec_capacity};
 ghost use Rattle.half_edge_mesh.specs.Mesh.{face, next, origin, rev};
 ghost use Rattle.half_edge_mesh.specs.Round.{neighbour};
 ghost use Rattle.plane.specs.Pairs.{place};
@@ -16,19 +17,21 @@ use delaunay_core::point::HasPosition;
 use delaunay_legalization::{is_outer, start_of, turns_left};
 use half_edge_mesh::{Dcel, FixedDirectedEdgeHandle, FixedVertexHandle, MeshViews};
 
-// Turns edges of a vertex on the hull away while one of them lies across a strictly convex quadrilateral. `first` is the
-// one with the outer face on its right. Gives how many are left.
+// Turns edges of a vertex on the hull away while one of them lies across a strictly convex
+// quadrilateral. `first` is the one with the outer face on its right. Gives how many are left.
 fn shrink_hull_star<V: HasPosition, DE, UE, F, P: PlaneTests<V::Scalar>>(
     dcel: &mut Dcel<V, DE, UE, F>,
     first: FixedDirectedEdgeHandle,
     tests: &P,
 ) -> usize
     requires within { first < length dcel.old.directed }
-    requires shape { LocalMesh (map V.place dcel.old.vertices) (faces_of dcel.old.mesh) (outer_of dcel.old.mesh) }
+    requires shape { LocalMesh (map V.place dcel.old.vertices) (faces_of dcel.old.mesh)
+        (outer_of dcel.old.mesh) }
     requires outer { face dcel.old.mesh (rev first) ≡ 0 }
     requires sites { All (P.sites tests.now) (map V.place dcel.old.vertices) }
     ensures contents { dcel.new ≡ record dcel.old { mesh = dcel.new.mesh } }
-    ensures star { IsHullStar (map V.place dcel.new.vertices) dcel.new.mesh (origin dcel.old.mesh first) first result }
+    ensures star { IsHullStar (map V.place dcel.new.vertices) dcel.new.mesh
+        (origin dcel.old.mesh first) first result }
     ensures bent { HasNoFlippableEdge (map V.place dcel.new.vertices) dcel.new.mesh first result }
     ensures beside { StandsBeside dcel.old dcel.new (origin dcel.old.mesh first) }
 {
@@ -54,7 +57,8 @@ fn last_edge<V, DE, UE, F>(
     dcel.directed_edge(first).cw().fix()
 }
 
-// Whether the vertex where `first` starts, with the outer face on its right, is a corner of the hull.
+// Whether the vertex where `first` starts, with the outer face on its right, is a corner of the
+// hull.
 fn is_corner<V: HasPosition, DE, UE, F, P: PlaneTests<V::Scalar>>(
     dcel: &Dcel<V, DE, UE, F>,
     first: FixedDirectedEdgeHandle,
@@ -112,14 +116,17 @@ fn cut_corner<V: HasPosition, DE: Drop, UE: Drop, F: Drop>(
     dcel.recall_invariant();
 }
 
-// Removes the edges of a vertex on a flat side of the hull that has three of them. Its two faces become one.
+// Removes the edges of a vertex on a flat side of the hull that has three of them. Its two faces
+// become one.
 fn close_flat<V: HasPosition, DE: Drop, UE: Drop, F: Drop>(
     dcel: &mut Dcel<V, DE, UE, F>,
     first: FixedDirectedEdgeHandle,
     vertex: FixedVertexHandle,
 )
     requires star { IsHullStar (map V.place dcel.old.vertices) dcel.old.mesh vertex first 3 }
-    requires flat { side (place (map V.place dcel.old.vertices) (neighbour dcel.old.mesh first 0)) (place (map V.place dcel.old.vertices) vertex) (place (map V.place dcel.old.vertices) (neighbour dcel.old.mesh first 2)) ≡ on }
+    requires flat { side (place (map V.place dcel.old.vertices) (neighbour dcel.old.mesh first 0))
+        (place (map V.place dcel.old.vertices) vertex)
+        (place (map V.place dcel.old.vertices) (neighbour dcel.old.mesh first 2)) ≡ on }
     ensures { IsolatesVertex (map V.place dcel.old.vertices) dcel.old dcel.new vertex }
 {
     dcel.recall_invariant();
@@ -130,8 +137,8 @@ fn close_flat<V: HasPosition, DE: Drop, UE: Drop, F: Drop>(
     dcel.recall_invariant();
 }
 
-// Removes the edges of a vertex on the hull, from which `first` starts, with the outer face on its right. `sides` has
-// room for each edge.
+// Removes the edges of a vertex on the hull, from which `first` starts, with the outer face on its
+// right. `sides` has room for each edge.
 pub(crate) fn isolate_on_hull<
     V: HasPosition,
     DE: Drop,
@@ -147,7 +154,8 @@ pub(crate) fn isolate_on_hull<
 )
     requires within { first < length dcel.old.directed }
     requires starts { origin dcel.old.mesh first ≡ vertex }
-    requires shape { LocalMesh (map V.place dcel.old.vertices) (faces_of dcel.old.mesh) (outer_of dcel.old.mesh) }
+    requires shape { LocalMesh (map V.place dcel.old.vertices) (faces_of dcel.old.mesh)
+        (outer_of dcel.old.mesh) }
     requires outer { face dcel.old.mesh (rev first) ≡ 0 }
     requires sites { All (P.sites tests.now) (map V.place dcel.old.vertices) }
     requires room { length dcel.old.directed ≤ vec_capacity sides.old }
@@ -163,7 +171,8 @@ pub(crate) fn isolate_on_hull<
     }
 }
 
-// Of the edges that start where `first` starts, one with the outer face on its right, if there is one.
+// Of the edges that start where `first` starts, one with the outer face on its right, if there is
+// one.
 pub(crate) fn outer_edge_beside<V, DE, UE, F>(
     dcel: &Dcel<V, DE, UE, F>,
     first: FixedDirectedEdgeHandle,

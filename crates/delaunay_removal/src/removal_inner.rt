@@ -8,7 +8,8 @@ ghost use Rattle.half_edge_mesh.specs.Removal.{FillsHole};
 ghost use Rattle.plane_tiling.specs.Local.{LocalMesh};
 ghost use Rattle.mesh_embedding.specs.Drawn.{faces_of, outer_of};
 ghost use Rattle.delaunay_removal.specs.Data.{StandsBeside};
-ghost use Rattle.delaunay_removal.specs.Star.{HasInnerFaces, IsBetweenAt, IsInnerStar, IsReduced, IsolatesVertex, StandsBetween};
+ghost use Rattle.delaunay_removal.specs.Star.{HasInnerFaces, IsBetweenAt, IsInnerStar, IsReduced};
+ghost use Rattle.delaunay_removal.specs.Star.{IsolatesVertex, StandsBetween};
 
 use crate::star::{count_edges, edge_after, end_of, find_convex, opposite_side, turn_away};
 use delaunay_core::math::PlaneTests;
@@ -16,20 +17,24 @@ use delaunay_core::point::HasPosition;
 use delaunay_legalization::{is_strictly_within, start_of};
 use half_edge_mesh::{Dcel, FixedDirectedEdgeHandle, FixedVertexHandle};
 
-// Turns edges of an inner vertex away, from which `first` starts, until three are left, or four with the vertex strictly
-// between two ends. Gives one of those that are left, and how many they are.
+// Turns edges of an inner vertex away, from which `first` starts, until three are left, or four
+// with the vertex strictly between two ends. Gives one of those that are left, and how many they
+// are.
 fn shrink_star<V: HasPosition, DE, UE, F, P: PlaneTests<V::Scalar>>(
     dcel: &mut Dcel<V, DE, UE, F>,
     first: FixedDirectedEdgeHandle,
     tests: &P,
 ) -> (FixedDirectedEdgeHandle, usize)
     requires within { first < length dcel.old.directed }
-    requires shape { LocalMesh (map V.place dcel.old.vertices) (faces_of dcel.old.mesh) (outer_of dcel.old.mesh) }
+    requires shape { LocalMesh (map V.place dcel.old.vertices) (faces_of dcel.old.mesh)
+        (outer_of dcel.old.mesh) }
     requires inner { HasInnerFaces dcel.old.mesh (origin dcel.old.mesh first) }
     requires sites { All (P.sites tests.now) (map V.place dcel.old.vertices) }
     ensures contents { dcel.new ≡ record dcel.old { mesh = dcel.new.mesh } }
-    ensures star { IsInnerStar (map V.place dcel.old.vertices) dcel.new.mesh (origin dcel.old.mesh first) result.0 result.1 }
-    ensures reduced { IsReduced (map V.place dcel.old.vertices) dcel.new.mesh (origin dcel.old.mesh first) result.0 result.1 }
+    ensures star { IsInnerStar (map V.place dcel.old.vertices) dcel.new.mesh
+        (origin dcel.old.mesh first) result.0 result.1 }
+    ensures reduced { IsReduced (map V.place dcel.old.vertices) dcel.new.mesh
+        (origin dcel.old.mesh first) result.0 result.1 }
     ensures beside { StandsBeside dcel.old dcel.new (origin dcel.old.mesh first) }
 {
     let mut first = first;
@@ -50,7 +55,8 @@ fn shrink_star<V: HasPosition, DE, UE, F, P: PlaneTests<V::Scalar>>(
     (first, count)
 }
 
-// Puts one face in the place of the three faces round a vertex, the first of them on the left of `first`.
+// Puts one face in the place of the three faces round a vertex, the first of them on the left of
+// `first`.
 fn fill_three<V, DE: Drop, UE: Drop, F: Drop>(
     dcel: &mut Dcel<V, DE, UE, F>,
     first: FixedDirectedEdgeHandle,
@@ -74,13 +80,15 @@ fn fill_three<V, DE: Drop, UE: Drop, F: Drop>(
     dcel.recall_invariant();
 }
 
-// Whether a vertex is strictly between the end of an edge at it and the end of the edge after the next.
+// Whether a vertex is strictly between the end of an edge at it and the end of the edge after the
+// next.
 fn is_between<V: HasPosition, DE, UE, F, P: PlaneTests<V::Scalar>>(
     dcel: &Dcel<V, DE, UE, F>,
     edge: FixedDirectedEdgeHandle,
     tests: &P,
 ) -> bool
-    requires star { IsInnerStar (map V.place dcel.now.vertices) dcel.now.mesh (origin dcel.now.mesh edge) edge 4 }
+    requires star { IsInnerStar (map V.place dcel.now.vertices) dcel.now.mesh
+        (origin dcel.now.mesh edge) edge 4 }
     requires sites { All (P.sites tests.now) (map V.place dcel.now.vertices) }
     ensures { IsTrue result ↔ IsBetweenAt (map V.place dcel.now.vertices) dcel.now.mesh edge }
 {
@@ -93,17 +101,20 @@ fn is_between<V: HasPosition, DE, UE, F, P: PlaneTests<V::Scalar>>(
     is_strictly_within(from, to, centre, tests)
 }
 
-// Of an edge of a vertex with four neighbours, strictly between two of them, and of the edge after it, one whose end is one
-// of the two.
+// Of an edge of a vertex with four neighbours, strictly between two of them, and of the edge after
+// it, one whose end is one of the two.
 fn edge_beside_line<V: HasPosition, DE, UE, F, P: PlaneTests<V::Scalar>>(
     dcel: &Dcel<V, DE, UE, F>,
     first: FixedDirectedEdgeHandle,
     tests: &P,
 ) -> FixedDirectedEdgeHandle
-    requires star { IsInnerStar (map V.place dcel.now.vertices) dcel.now.mesh (origin dcel.now.mesh first) first 4 }
-    requires between { StandsBetween (map V.place dcel.now.vertices) dcel.now.mesh (origin dcel.now.mesh first) first 4 }
+    requires star { IsInnerStar (map V.place dcel.now.vertices) dcel.now.mesh
+        (origin dcel.now.mesh first) first 4 }
+    requires between { StandsBetween (map V.place dcel.now.vertices) dcel.now.mesh
+        (origin dcel.now.mesh first) first 4 }
     requires sites { All (P.sites tests.now) (map V.place dcel.now.vertices) }
-    ensures star { IsInnerStar (map V.place dcel.now.vertices) dcel.now.mesh (origin dcel.now.mesh first) result 4 }
+    ensures star { IsInnerStar (map V.place dcel.now.vertices) dcel.now.mesh
+        (origin dcel.now.mesh first) result 4 }
     ensures between { IsBetweenAt (map V.place dcel.now.vertices) dcel.now.mesh result }
 {
     dcel.recall_invariant();
@@ -114,7 +125,8 @@ fn edge_beside_line<V: HasPosition, DE, UE, F, P: PlaneTests<V::Scalar>>(
     }
 }
 
-// Removes the edges of a vertex with four neighbours, strictly between two of them, one of which is the end of `first`.
+// Removes the edges of a vertex with four neighbours, strictly between two of them, one of which is
+// the end of `first`.
 fn fill_four<V: HasPosition, DE: Drop, UE: Drop, F: Drop>(
     dcel: &mut Dcel<V, DE, UE, F>,
     first: FixedDirectedEdgeHandle,
@@ -129,7 +141,8 @@ fn fill_four<V: HasPosition, DE: Drop, UE: Drop, F: Drop>(
     fill_three(dcel, first, vertex);
 }
 
-// Removes the edges of a vertex inside the hull, from which `first` starts, and fills the hole that it leaves.
+// Removes the edges of a vertex inside the hull, from which `first` starts, and fills the hole that
+// it leaves.
 pub(crate) fn isolate_inner<V: HasPosition, DE: Drop, UE: Drop, F: Drop, P: PlaneTests<V::Scalar>>(
     dcel: &mut Dcel<V, DE, UE, F>,
     first: FixedDirectedEdgeHandle,
@@ -138,7 +151,8 @@ pub(crate) fn isolate_inner<V: HasPosition, DE: Drop, UE: Drop, F: Drop, P: Plan
 )
     requires within { first < length dcel.old.directed }
     requires starts { origin dcel.old.mesh first ≡ vertex }
-    requires shape { LocalMesh (map V.place dcel.old.vertices) (faces_of dcel.old.mesh) (outer_of dcel.old.mesh) }
+    requires shape { LocalMesh (map V.place dcel.old.vertices) (faces_of dcel.old.mesh)
+        (outer_of dcel.old.mesh) }
     requires inner { HasInnerFaces dcel.old.mesh vertex }
     requires sites { All (P.sites tests.now) (map V.place dcel.old.vertices) }
     ensures { IsolatesVertex (map V.place dcel.old.vertices) dcel.old dcel.new vertex }

@@ -9,8 +9,8 @@ ghost use Rattle.delaunay_removal.specs.Neighbours.{LeavesFaces};
 use delaunay_core::point::HasPosition;
 use half_edge_mesh::{Dcel, FixedVertexHandle};
 
-// Removes a vertex of a line, and gives its data back. Its neighbours, if it has two, are joined, and the last vertex
-// takes its index.
+// Removes a vertex of a line, and gives its data back. Its neighbours, if it has two, are joined,
+// and the last vertex takes its index.
 pub(crate) fn remove_on_line<V: HasPosition, DE: Drop, UE: Drop, F>(
     dcel: &mut Dcel<V, DE, UE, F>,
     vertex: FixedVertexHandle,
@@ -19,7 +19,8 @@ pub(crate) fn remove_on_line<V: HasPosition, DE: Drop, UE: Drop, F>(
     requires one_face { length dcel.old.faces ≡ 0 }
     requires within { vertex < length dcel.old.vertices }
     ensures value { slice_get dcel.old.vertices vertex ≡ Some result }
-    ensures plain { Removes V.place (points_and_constraints (state_of dcel.old)) (points_and_constraints (state_of dcel.new)) vertex }
+    ensures plain { Removes V.place (points_and_constraints (state_of dcel.old))
+        (points_and_constraints (state_of dcel.new)) vertex }
     ensures kept { IsTriangulated V.place (state_of dcel.new) }
     ensures data { KeepsDataBeside (state_of dcel.old) (state_of dcel.new) vertex }
     ensures faces { LeavesFaces (state_of dcel.old) (state_of dcel.new) vertex }

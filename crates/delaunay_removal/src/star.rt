@@ -1,5 +1,6 @@
 //! The edges round a vertex, and turns of them.
-ghost use Rattle.std.specs.Prelude.{◌≡◌, ◌≢◌, ◌↔◌, ℕ, ◌*◌, ◌/◌, ◌<◌, length, map, All, Contains, IsTrue, IfSome, IfNone};
+ghost use Rattle.std.specs.Prelude.{◌≡◌, ◌≢◌, ◌↔◌, ℕ, ◌*◌, ◌/◌, ◌<◌};
+ghost use Rattle.std.specs.Prelude.{length, map, All, Contains, IsTrue, IfSome, IfNone};
 ghost use Rattle.half_edge_mesh.specs.Flip.{flipped};
 ghost use Rattle.half_edge_mesh.specs.Mesh.{origin, next, face, rev};
 ghost use Rattle.half_edge_mesh.specs.Outline.{KeepsOuter};
@@ -31,7 +32,8 @@ pub(crate) fn edge_after<V, DE, UE, F>(
     dcel.directed_edge(edge).ccw().fix()
 }
 
-// The edge after an edge in its loop. In a face of the vertex where the edge starts it is opposite this vertex.
+// The edge after an edge in its loop. In a face of the vertex where the edge starts it is opposite
+// this vertex.
 pub(crate) fn opposite_side<V, DE, UE, F>(
     dcel: &Dcel<V, DE, UE, F>,
     edge: FixedDirectedEdgeHandle,
@@ -66,13 +68,15 @@ pub(crate) fn end_of<V: HasPosition, DE, UE, F>(
     edge: FixedDirectedEdgeHandle,
 ) -> Point2<V::Scalar>
     requires { edge < length dcel.now.directed }
-    ensures place { place_of V.Scalar.whole result ≡ point_at (map V.place dcel.now.vertices) (origin dcel.now.mesh (rev edge)) }
+    ensures place { place_of V.Scalar.whole result ≡
+        point_at (map V.place dcel.now.vertices) (origin dcel.now.mesh (rev edge)) }
     ensures listed { Contains (map V.place dcel.now.vertices) (place_of V.Scalar.whole result) }
 {
     start_of(dcel, dcel.directed_edge(edge).rev().fix())
 }
 
-// Whether the edge after an edge, round the vertex where they start, lies across a strictly convex quadrilateral.
+// Whether the edge after an edge, round the vertex where they start, lies across a strictly convex
+// quadrilateral.
 fn is_convex_at<V: HasPosition, DE, UE, F, P: PlaneTests<V::Scalar>>(
     dcel: &Dcel<V, DE, UE, F>,
     edge: FixedDirectedEdgeHandle,
@@ -91,8 +95,8 @@ fn is_convex_at<V: HasPosition, DE, UE, F, P: PlaneTests<V::Scalar>>(
     turns_left(before, corner, after, tests) && turns_left(centre, before, after, tests)
 }
 
-// Of the first `count` edges from `first` on, round the vertex where they start, one before an edge across a strictly
-// convex quadrilateral.
+// Of the first `count` edges from `first` on, round the vertex where they start, one before an edge
+// across a strictly convex quadrilateral.
 pub(crate) fn find_convex<V: HasPosition, DE, UE, F, P: PlaneTests<V::Scalar>>(
     dcel: &Dcel<V, DE, UE, F>,
     first: FixedDirectedEdgeHandle,
@@ -102,9 +106,11 @@ pub(crate) fn find_convex<V: HasPosition, DE, UE, F, P: PlaneTests<V::Scalar>>(
     requires within { first < length dcel.now.directed }
     requires sites { All (P.sites tests.now) (map V.place dcel.now.vertices) }
     ensures place { IfSome result (λ e. (i : ℕ) × (i < count) × (e ≡ spoke dcel.now.mesh first i)) }
-    ensures convex { IfSome result (λ e. IsConvexAt (map V.place dcel.now.vertices) dcel.now.mesh e) }
+    ensures convex { IfSome result (λ e. IsConvexAt (map V.place dcel.now.vertices) dcel.now.mesh
+        e) }
     ensures within { IfSome result (λ e. e < length dcel.now.directed) }
-    ensures none { IfNone result ((i : ℕ) → i < count → ¬ IsConvexAt (map V.place dcel.now.vertices) dcel.now.mesh (spoke dcel.now.mesh first i)) }
+    ensures none { IfNone result ((i : ℕ) → i < count →
+        ¬ IsConvexAt (map V.place dcel.now.vertices) dcel.now.mesh (spoke dcel.now.mesh first i)) }
 {
     let mut edge = first;
     for i in 0..count {
@@ -122,13 +128,15 @@ pub(crate) fn turn_away<V: HasPosition, DE, UE, F>(
     edge: FixedDirectedEdgeHandle,
 )
     requires within { edge < length dcel.old.directed }
-    requires shape { LocalMesh (map V.place dcel.old.vertices) (faces_of dcel.old.mesh) (outer_of dcel.old.mesh) }
+    requires shape { LocalMesh (map V.place dcel.old.vertices) (faces_of dcel.old.mesh)
+        (outer_of dcel.old.mesh) }
     requires left { 0 < face dcel.old.mesh edge }
     requires right { 0 < face dcel.old.mesh (turn dcel.old.mesh edge) }
     requires apart { neighbour dcel.old.mesh edge 0 ≢ neighbour dcel.old.mesh edge 2 }
     ensures mesh { dcel.new.mesh ≡ flipped dcel.old.mesh (2 * (turn dcel.old.mesh edge / 2)) }
     ensures contents { dcel.new ≡ record dcel.old { mesh = dcel.new.mesh } }
-    ensures triangles { FlipsTriangles dcel.old.mesh dcel.new.mesh (2 * (turn dcel.old.mesh edge / 2)) }
+    ensures triangles { FlipsTriangles dcel.old.mesh dcel.new.mesh
+        (2 * (turn dcel.old.mesh edge / 2)) }
     ensures outer { KeepsOuter dcel.old.mesh dcel.new.mesh }
     ensures beside { StandsBeside dcel.old dcel.new (origin dcel.old.mesh edge) }
     ensures whole { IsMeshWithData dcel.old }

@@ -52,14 +52,17 @@ impl<S: SpadeNum> CircleMetric<S> {
     // The squared distance from the centre, less the squared radius.
     fn distance_to_rim(&self, point: Point2<S>) -> i64
         requires { InRange (place_of S.whole point) }
-        ensures { result ≡ circle_distance (place_of S.whole self.now.center) self.now.radius_2 (place_of S.whole point) }
+        ensures { result ≡ circle_distance (place_of S.whole self.now.center) self.now.radius_2
+            (place_of S.whole point) }
     {
         self.center.distance_2(point) - self.radius_2
     }
 
     fn is_rim_near(&self, point: Point2<S>) -> bool
         requires { InRange (place_of S.whole point) }
-        ensures { IsTrue result ↔ (circle_distance (place_of S.whole self.now.center) self.now.radius_2 (place_of S.whole point) ≤ℤ pos 0) }
+        ensures { IsTrue result ↔
+            (circle_distance (place_of S.whole self.now.center) self.now.radius_2
+            (place_of S.whole point) ≤ℤ pos 0) }
     {
         self.distance_to_rim(point) <= 0
     }
@@ -68,8 +71,11 @@ impl<S: SpadeNum> CircleMetric<S> {
     fn falls_on(&self, from: Point2<S>, to: Point2<S>) -> bool
         requires from_in_range { InRange (place_of S.whole from) }
         requires to_in_range { InRange (place_of S.whole to) }
-        requires length { pos 0 <ℤ gap (fraction (place_of S.whole from)) (fraction (place_of S.whole to)) }
-        ensures { IsTrue result ↔ FallsOn (place_of S.whole self.now.center) self.now.radius_2 (place_of S.whole from) (place_of S.whole to) }
+        requires length { pos 0 <ℤ gap (fraction (place_of S.whole from))
+            (fraction (place_of S.whole to)) }
+        ensures { IsTrue result ↔
+            FallsOn (place_of S.whole self.now.center) self.now.radius_2 (place_of S.whole from)
+            (place_of S.whole to) }
     {
         let projection = project_point(from, to, self.center);
         let (factor, length_2) = projection.relative_position();
@@ -81,7 +87,9 @@ impl<S: SpadeNum> CircleMetric<S> {
     fn meets(&self, from: Point2<S>, to: Point2<S>) -> bool
         requires from_in_range { InRange (place_of S.whole from) }
         requires to_in_range { InRange (place_of S.whole to) }
-        ensures { IsTrue result ↔ IsEdgeNear (place_of S.whole self.now.center) self.now.radius_2 (place_of S.whole from) (place_of S.whole to) }
+        ensures { IsTrue result ↔
+            IsEdgeNear (place_of S.whole self.now.center) self.now.radius_2 (place_of S.whole from)
+            (place_of S.whole to) }
     {
         self.is_rim_near(from)
             || self.is_rim_near(to)
@@ -115,8 +123,11 @@ impl<S: SpadeNum> DistanceMetric<S> for CircleMetric<S> {
         requires own_covered { All (P.covered _tests.now) [] }
         requires start_covered { P.covered _tests.now (place_of S.whole points.0) }
         requires end_covered { P.covered _tests.now (place_of S.whole points.1) }
-        ensures answer { result ≡ meets_circle (place_of S.whole self.now.center) self.now.radius_2 (place_of S.whole points.0) (place_of S.whole points.1) }
-        ensures inside { IsTrue result ↔ HasPointIn (InClosedCircle (place_of S.whole self.now.center) self.now.radius_2) (place_of S.whole points.0) (place_of S.whole points.1) }
+        ensures answer { result ≡ meets_circle (place_of S.whole self.now.center) self.now.radius_2
+            (place_of S.whole points.0) (place_of S.whole points.1) }
+        ensures inside { IsTrue result ↔
+            HasPointIn (InClosedCircle (place_of S.whole self.now.center) self.now.radius_2)
+            (place_of S.whole points.0) (place_of S.whole points.1) }
     {
         let (from, to) = points;
         self.meets(from, to)
@@ -124,8 +135,11 @@ impl<S: SpadeNum> DistanceMetric<S> for CircleMetric<S> {
 
     fn distance_to_point(&self, point: Point2<S>) -> i64
         requires { InRange (place_of S.whole point) }
-        ensures value { result ≡ circle_distance (place_of S.whole self.now.center) self.now.radius_2 (place_of S.whole point) }
-        ensures inside { (result ≤ℤ pos 0) ↔ InClosedCircle (place_of S.whole self.now.center) self.now.radius_2 (fraction (place_of S.whole point)) }
+        ensures value { result ≡ circle_distance (place_of S.whole self.now.center)
+            self.now.radius_2 (place_of S.whole point) }
+        ensures inside { (result ≤ℤ pos 0) ↔
+            InClosedCircle (place_of S.whole self.now.center) self.now.radius_2
+            (fraction (place_of S.whole point)) }
     {
         self.distance_to_rim(point)
     }

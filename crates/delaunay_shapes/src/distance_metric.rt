@@ -34,8 +34,10 @@ pub trait DistanceMetric<S: SpadeNum>: Drop {
         requires own_covered { All (P.covered tests.now) (own_points self.now) }
         requires start_covered { P.covered tests.now (place_of S.whole points.0) }
         requires end_covered { P.covered tests.now (place_of S.whole points.1) }
-        ensures answer { result ≡ meets self.now (place_of S.whole points.0) (place_of S.whole points.1) }
-        ensures inside { IsTrue result ↔ HasPointIn (shape self.now) (place_of S.whole points.0) (place_of S.whole points.1) };
+        ensures answer { result ≡ meets self.now (place_of S.whole points.0)
+            (place_of S.whole points.1) }
+        ensures inside { IsTrue result ↔
+            HasPointIn (shape self.now) (place_of S.whole points.0) (place_of S.whole points.1) };
 
     /// How far a point in range is from the shape, at most 0 in it.
     fn distance_to_point(&self, point: Point2<S>) -> i64
@@ -60,7 +62,9 @@ pub trait DistanceMetric<S: SpadeNum>: Drop {
     ) -> bool
         requires own_covered { All (P.covered tests.now) (own_points self.now) }
         requires covered { All (P.covered tests.now) (map V.place handle.dcel.now.vertices) }
-        ensures inside { IsTrue result ↔ IsEdgeInShape (shape self.now) (map V.place handle.entry.dcel.now.vertices) handle.entry.dcel.now.mesh handle.entry.index }
+        ensures inside { IsTrue result ↔
+            IsEdgeInShape (shape self.now) (map V.place handle.entry.dcel.now.vertices)
+            handle.entry.dcel.now.mesh handle.entry.index }
     {
         let edge = handle.as_directed();
         self.is_edge_inside((position_of(edge.from()), position_of(edge.to())), tests)

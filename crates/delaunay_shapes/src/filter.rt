@@ -1,6 +1,7 @@
 //! A look at each edge or vertex of a mesh.
 ghost use Rattle.std.specs.Prelude.{All, IfOk, map};
-ghost use Rattle.delaunay_shapes.specs.Left.{GivesEdgesIn, GivesVerticesIn, edges_left, vertices_left};
+ghost use Rattle.delaunay_shapes.specs.Left.{GivesEdgesIn, GivesVerticesIn, edges_left};
+ghost use Rattle.delaunay_shapes.specs.Left.{vertices_left};
 
 use crate::distance_metric::DistanceMetric;
 use crate::in_shape::{EdgesInShapeIterator, VerticesInShapeIterator};
@@ -27,7 +28,8 @@ pub fn edges_by_filter<
 ) -> Result<EdgesInShapeIterator<'a, V, DE, UE, F>, AllocError>
     requires own_covered { All (P.covered tests.now) (M.own_points metric.now) }
     requires covered { All (P.covered tests.now) (map V.place dcel.now.vertices) }
-    ensures { IfOk result (λ it. GivesEdgesIn (M.shape metric.now) V.place dcel.entry (edges_left it)) }
+    ensures { IfOk result (λ it. GivesEdgesIn (M.shape metric.now) V.place dcel.entry
+        (edges_left it)) }
 {
     let mut edges = Vec::new(alloc);
     for index in 0..dcel.num_undirected_edges() {
@@ -59,7 +61,8 @@ pub fn vertices_by_filter<
     alloc: Global,
 ) -> Result<VerticesInShapeIterator<'a, V, DE, UE, F>, AllocError>
     requires { All (P.covered tests.now) (map V.place dcel.now.vertices) }
-    ensures { IfOk result (λ it. GivesVerticesIn (M.shape metric.now) V.place dcel.entry (vertices_left it)) }
+    ensures { IfOk result (λ it. GivesVerticesIn (M.shape metric.now) V.place dcel.entry
+        (vertices_left it)) }
 {
     let mut vertices = Vec::new(alloc);
     for index in 0..dcel.num_vertices() {

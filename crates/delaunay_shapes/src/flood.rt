@@ -1,8 +1,10 @@
-//! A flood over the edges of a mesh that have a point in a shape: from those found, to those beside them in their faces.
+//! A flood over the edges of a mesh that have a point in a shape: from those found, to those beside
+//! them in their faces.
 ghost use Rattle.std.specs.Prelude.{◌<◌, ℕ, length, map, All, Contains, IfOk, OnOk};
 ghost use Rattle.mesh_embedding.specs.Drawn.{faces_of, outer_of};
 ghost use Rattle.plane_tiling.specs.Local.{IsMesh};
-ghost use Rattle.delaunay_shapes.specs.Flood.{Asks, AsksBeside, GoesOn, IsAsked, IsBegunBy, IsFlooding, IsRegion, IsSpread};
+ghost use Rattle.delaunay_shapes.specs.Flood.{Asks, AsksBeside, GoesOn, IsAsked, IsBegunBy};
+ghost use Rattle.delaunay_shapes.specs.Flood.{IsFlooding, IsRegion, IsSpread};
 ghost use Rattle.delaunay_shapes.specs.InShape.{AreEdgesInShape, IsInside};
 ghost use Rattle.delaunay_shapes.specs.Left.{GivesEdgesIn, edges_left};
 
@@ -14,7 +16,8 @@ use delaunay_core::point::HasPosition;
 use half_edge_mesh::{Dcel, FixedDirectedEdgeHandle, FixedUndirectedEdgeHandle, MeshViews};
 use std::alloc::{AllocError, Global};
 
-// Asks the metric of an edge, unless it was asked before, and keeps the edge where it has a point in the shape.
+// Asks the metric of an edge, unless it was asked before, and keeps the edge where it has a point
+// in the shape.
 fn ask<V: HasPosition, DE, UE, F, M: DistanceMetric<V::Scalar>, P: PlaneTests<V::Scalar>>(
     dcel: &Dcel<V, DE, UE, F>,
     metric: &M,
@@ -26,8 +29,10 @@ fn ask<V: HasPosition, DE, UE, F, M: DistanceMetric<V::Scalar>, P: PlaneTests<V:
     requires own_covered { All (P.covered tests.now) (M.own_points metric.now) }
     requires covered { All (P.covered tests.now) (map V.place dcel.now.vertices) }
     requires within { edge < length dcel.now.undirected }
-    requires flooding { IsFlooding (IsInside (M.shape metric.now) V.place dcel.now) (length dcel.now.undirected) asked.old found.old.items }
-    ensures { OnOk result (Asks (IsInside (M.shape metric.now) V.place dcel.now) (length dcel.now.undirected) asked.old asked.new found.old.items found.new.items edge) }
+    requires flooding { IsFlooding (IsInside (M.shape metric.now) V.place dcel.now)
+        (length dcel.now.undirected) asked.old found.old.items }
+    ensures { OnOk result (Asks (IsInside (M.shape metric.now) V.place dcel.now)
+        (length dcel.now.undirected) asked.old asked.new found.old.items found.new.items edge) }
 {
     let index = edge.index();
     if asked.is_marked(index) {
@@ -52,8 +57,10 @@ fn ask_beside<V: HasPosition, DE, UE, F, M: DistanceMetric<V::Scalar>, P: PlaneT
     requires own_covered { All (P.covered tests.now) (M.own_points metric.now) }
     requires covered { All (P.covered tests.now) (map V.place dcel.now.vertices) }
     requires within { edge < length dcel.now.directed }
-    requires flooding { IsFlooding (IsInside (M.shape metric.now) V.place dcel.now) (length dcel.now.undirected) asked.old found.old.items }
-    ensures { OnOk result (AsksBeside (IsInside (M.shape metric.now) V.place dcel.now) dcel.now.mesh (length dcel.now.undirected) asked.old asked.new found.old.items found.new.items edge) }
+    requires flooding { IsFlooding (IsInside (M.shape metric.now) V.place dcel.now)
+        (length dcel.now.undirected) asked.old found.old.items }
+    ensures { OnOk result (AsksBeside (IsInside (M.shape metric.now) V.place dcel.now) dcel.now.mesh
+        (length dcel.now.undirected) asked.old asked.new found.old.items found.new.items edge) }
 {
     let edge = dcel.directed_edge(edge);
     let after = edge.next().as_undirected().fix();
@@ -72,8 +79,10 @@ fn spread<V: HasPosition, DE, UE, F, M: DistanceMetric<V::Scalar>, P: PlaneTests
 ) -> Result<(), AllocError>
     requires own_covered { All (P.covered tests.now) (M.own_points metric.now) }
     requires covered { All (P.covered tests.now) (map V.place dcel.now.vertices) }
-    requires flooding { IsFlooding (IsInside (M.shape metric.now) V.place dcel.now) (length dcel.now.undirected) asked.old found.old.items }
-    ensures flooding { OnOk result (IsFlooding (IsInside (M.shape metric.now) V.place dcel.now) (length dcel.now.undirected) asked.new found.new.items) }
+    requires flooding { IsFlooding (IsInside (M.shape metric.now) V.place dcel.now)
+        (length dcel.now.undirected) asked.old found.old.items }
+    ensures flooding { OnOk result (IsFlooding (IsInside (M.shape metric.now) V.place dcel.now)
+        (length dcel.now.undirected) asked.new found.new.items) }
     ensures on { OnOk result (GoesOn asked.old asked.new found.old.items found.new.items) }
     ensures spread { OnOk result (IsSpread dcel.now.mesh asked.new found.new.items) }
 {
@@ -99,8 +108,10 @@ fn ask_each<V: HasPosition, DE, UE, F, M: DistanceMetric<V::Scalar>, P: PlaneTes
     requires own_covered { All (P.covered tests.now) (M.own_points metric.now) }
     requires covered { All (P.covered tests.now) (map V.place dcel.now.vertices) }
     requires within { All (λ e. e < length dcel.now.undirected) edges.now }
-    requires flooding { IsFlooding (IsInside (M.shape metric.now) V.place dcel.now) (length dcel.now.undirected) asked.old found.old.items }
-    ensures flooding { OnOk result (IsFlooding (IsInside (M.shape metric.now) V.place dcel.now) (length dcel.now.undirected) asked.new found.new.items) }
+    requires flooding { IsFlooding (IsInside (M.shape metric.now) V.place dcel.now)
+        (length dcel.now.undirected) asked.old found.old.items }
+    ensures flooding { OnOk result (IsFlooding (IsInside (M.shape metric.now) V.place dcel.now)
+        (length dcel.now.undirected) asked.new found.new.items) }
     ensures each { OnOk result ((k : ℕ) → Contains edges.now k → IsAsked asked.new k) }
 {
     for edge in edges {
@@ -126,11 +137,14 @@ pub(crate) fn flood<
 ) -> Result<Vec<FixedUndirectedEdgeHandle>, AllocError>
     requires own_covered { All (P.covered tests.now) (M.own_points metric.now) }
     requires covered { All (P.covered tests.now) (map V.place dcel.now.vertices) }
-    requires shape { IsMesh (map V.place dcel.now.vertices) (faces_of dcel.now.mesh) (outer_of dcel.now.mesh) }
+    requires shape { IsMesh (map V.place dcel.now.vertices) (faces_of dcel.now.mesh)
+        (outer_of dcel.now.mesh) }
     requires region { IsRegion (M.shape metric.now) }
     requires within { All (λ e. e < length dcel.now.undirected) starts.now }
-    requires begun { IsBegunBy (IsInside (M.shape metric.now) V.place dcel.now) (length dcel.now.undirected) starts.now }
-    ensures exact { IfOk result (λ v. AreEdgesInShape (M.shape metric.now) (map V.place dcel.now.vertices) dcel.now.mesh v.items) }
+    requires begun { IsBegunBy (IsInside (M.shape metric.now) V.place dcel.now)
+        (length dcel.now.undirected) starts.now }
+    ensures exact { IfOk result (λ v. AreEdgesInShape (M.shape metric.now)
+        (map V.place dcel.now.vertices) dcel.now.mesh v.items) }
     ensures within { IfOk result (λ v. All (λ e. e < length dcel.now.undirected) v.items) }
 {
     let mut asked = Marks::new(dcel.num_undirected_edges(), alloc);
@@ -140,7 +154,8 @@ pub(crate) fn flood<
     Ok(edges)
 }
 
-/// The edges with a point in a closed circle or rectangle, found from a list of edges of which one has, if any has.
+/// The edges with a point in a closed circle or rectangle, found from a list of edges of which one
+/// has, if any has.
 pub fn edges_by_flood<
     'a,
     V: HasPosition,
@@ -158,11 +173,14 @@ pub fn edges_by_flood<
 ) -> Result<EdgesInShapeIterator<'a, V, DE, UE, F>, AllocError>
     requires own_covered { All (P.covered tests.now) (M.own_points metric.now) }
     requires covered { All (P.covered tests.now) (map V.place dcel.now.vertices) }
-    requires shape { IsMesh (map V.place dcel.now.vertices) (faces_of dcel.now.mesh) (outer_of dcel.now.mesh) }
+    requires shape { IsMesh (map V.place dcel.now.vertices) (faces_of dcel.now.mesh)
+        (outer_of dcel.now.mesh) }
     requires region { IsRegion (M.shape metric.now) }
     requires within { All (λ e. e < length dcel.now.undirected) starts.now }
-    requires begun { IsBegunBy (IsInside (M.shape metric.now) V.place dcel.now) (length dcel.now.undirected) starts.now }
-    ensures { IfOk result (λ it. GivesEdgesIn (M.shape metric.now) V.place dcel.entry (edges_left it)) }
+    requires begun { IsBegunBy (IsInside (M.shape metric.now) V.place dcel.now)
+        (length dcel.now.undirected) starts.now }
+    ensures { IfOk result (λ it. GivesEdgesIn (M.shape metric.now) V.place dcel.entry
+        (edges_left it)) }
 {
     let edges = flood(dcel, metric, tests, starts, alloc)?;
     Ok(EdgesInShapeIterator {

@@ -1,5 +1,6 @@
 //! The edges that a flood begins with, by the location of the shape's start.
-ghost use Rattle.std.specs.Prelude.{◌≡◌, ◌↔◌, ℕ, ◌/◌, ◌<◌, ◌≤◌, length, map, All, IfNone, IfOk, IfSome, IsTrue, Contains, Some};
+ghost use Rattle.std.specs.Prelude.{◌≡◌, ◌↔◌, ℕ, ◌/◌, ◌<◌, ◌≤◌};
+ghost use Rattle.std.specs.Prelude.{length, map, All, IfNone, IfOk, IfSome, IsTrue, Contains, Some};
 ghost use Rattle.half_edge_mesh.specs.Mesh.{face, face_edge, out_edge};
 ghost use Rattle.delaunay_core.specs.Place.{place_of};
 ghost use Rattle.delaunay_legalization.specs.Shape.{IsTriangulated};
@@ -26,7 +27,8 @@ fn edge_at_vertex<V, DE, UE, F>(
     alloc: Global,
 ) -> Result<Vec<FixedUndirectedEdgeHandle>, AllocError>
     requires { vertex < length dcel.now.vertices }
-    ensures starts { IfOk result (λ v. (h : ℕ) → out_edge dcel.now.mesh vertex ≡ Some h → Contains v.items (h / 2)) }
+    ensures starts { IfOk result (λ v. (h : ℕ) → out_edge dcel.now.mesh vertex ≡ Some h →
+        Contains v.items (h / 2)) }
     ensures within { IfOk result (λ v. All (λ e. e < length dcel.now.undirected) v.items) }
 {
     let mut starts = Vec::new(alloc);
@@ -59,7 +61,8 @@ fn sides_of_face<V, DE, UE, F>(
 ) -> Result<Vec<FixedUndirectedEdgeHandle>, AllocError>
     requires positive { 0 < face }
     requires within { face ≤ length dcel.now.faces }
-    ensures starts { IfOk result (λ v. HasSides dcel.now.mesh v.items (face_edge dcel.now.mesh face)) }
+    ensures starts { IfOk result (λ v. HasSides dcel.now.mesh v.items
+        (face_edge dcel.now.mesh face)) }
     ensures within { IfOk result (λ v. All (λ e. e < length dcel.now.undirected) v.items) }
 {
     let edge = dcel.face(face).adjacent_edge();
@@ -100,8 +103,10 @@ fn outer_edge_inside<
     requires kept { IsTriangulated V.place (state_of dcel.now) }
     requires own_covered { All (P.covered tests.now) (M.own_points metric.now) }
     requires covered { All (P.covered tests.now) (map V.place dcel.now.vertices) }
-    ensures some { IfSome result (λ e. (e < length dcel.now.directed) × IsInside (M.shape metric.now) V.place dcel.now (e / 2)) }
-    ensures none { IfNone result ((h : ℕ) → h < length dcel.now.mesh.half_edges → face dcel.now.mesh h ≡ 0 → ¬ IsInside (M.shape metric.now) V.place dcel.now (h / 2)) }
+    ensures some { IfSome result (λ e. (e < length dcel.now.directed) ×
+        IsInside (M.shape metric.now) V.place dcel.now (e / 2)) }
+    ensures none { IfNone result ((h : ℕ) → h < length dcel.now.mesh.half_edges →
+        face dcel.now.mesh h ≡ 0 → ¬ IsInside (M.shape metric.now) V.place dcel.now (h / 2)) }
 {
     for edge in dcel.convex_hull() {
         let edge = edge.fix();
@@ -129,7 +134,8 @@ fn outer_edge_alone<
     requires kept { IsTriangulated V.place (state_of dcel.now) }
     requires own_covered { All (P.covered tests.now) (M.own_points metric.now) }
     requires covered { All (P.covered tests.now) (map V.place dcel.now.vertices) }
-    ensures starts { IfOk result (λ v. HasOuter (IsInside (M.shape metric.now) V.place dcel.now) dcel.now.mesh v.items) }
+    ensures starts { IfOk result (λ v. HasOuter (IsInside (M.shape metric.now) V.place dcel.now)
+        dcel.now.mesh v.items) }
     ensures within { IfOk result (λ v. All (λ e. e < length dcel.now.undirected) v.items) }
 {
     match outer_edge_inside(dcel, metric, tests) {
@@ -150,7 +156,8 @@ fn edges_at<V: HasPosition, DE, UE, F, M: DistanceMetric<V::Scalar>, P: PlaneTes
     requires own_covered { All (P.covered tests.now) (M.own_points metric.now) }
     requires covered { All (P.covered tests.now) (map V.place dcel.now.vertices) }
     requires handle { HasHandle dcel.now.mesh location }
-    ensures starts { IfOk result (λ v. HasStarts (IsInside (M.shape metric.now) V.place dcel.now) dcel.now.mesh v.items location) }
+    ensures starts { IfOk result (λ v. HasStarts (IsInside (M.shape metric.now) V.place dcel.now)
+        dcel.now.mesh v.items location) }
     ensures within { IfOk result (λ v. All (λ e. e < length dcel.now.undirected) v.items) }
 {
     dcel.recall_invariant();
@@ -165,8 +172,9 @@ fn edges_at<V: HasPosition, DE, UE, F, M: DistanceMetric<V::Scalar>, P: PlaneTes
     }
 }
 
-// Edges of which one has a point in the shape, if any edge has: those at the centre of a circle or at the lower corner of a
-// rectangle, or, where that is outside, an outer edge. They are looked for from the vertex `hint` on.
+// Edges of which one has a point in the shape, if any edge has: those at the centre of a circle or
+// at the lower corner of a rectangle, or, where that is outside, an outer edge. They are looked for
+// from the vertex `hint` on.
 pub(crate) fn first_edges<
     V: HasPosition,
     DE,
@@ -187,7 +195,8 @@ pub(crate) fn first_edges<
     requires own_covered { All (P.covered tests.now) (M.own_points metric.now) }
     requires start_covered { P.covered tests.now (place_of V.Scalar.whole start) }
     requires begins { BeginsAt (M.shape metric.now) (place_of V.Scalar.whole start) }
-    ensures begun { IfOk result (λ v. IsBegunBy (IsInside (M.shape metric.now) V.place dcel.now) (length dcel.now.undirected) v.items) }
+    ensures begun { IfOk result (λ v. IsBegunBy (IsInside (M.shape metric.now) V.place dcel.now)
+        (length dcel.now.undirected) v.items) }
     ensures within { IfOk result (λ v. All (λ e. e < length dcel.now.undirected) v.items) }
 {
     edges_at(

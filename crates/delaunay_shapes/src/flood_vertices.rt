@@ -3,7 +3,8 @@ ghost use Rattle.std.specs.Prelude.{◌≡◌, ◌<◌, length, map, All, IfOk, 
 ghost use Rattle.mesh_embedding.specs.Drawn.{faces_of, outer_of};
 ghost use Rattle.plane.specs.Tests.{InRange};
 ghost use Rattle.plane_tiling.specs.Local.{IsMesh};
-ghost use Rattle.delaunay_shapes.specs.Flood.{Asks, GoesOn, HasAskedEnds, IsAsked, IsBegunBy, IsFlooding, IsRegion};
+ghost use Rattle.delaunay_shapes.specs.Flood.{Asks, GoesOn, HasAskedEnds, IsAsked, IsBegunBy};
+ghost use Rattle.delaunay_shapes.specs.Flood.{IsFlooding, IsRegion};
 ghost use Rattle.delaunay_shapes.specs.InShape.{IsInside, IsVertexInside};
 ghost use Rattle.delaunay_shapes.specs.Left.{GivesVerticesIn, vertices_left};
 
@@ -17,7 +18,8 @@ use delaunay_core::point::HasPosition;
 use half_edge_mesh::{Dcel, FixedUndirectedEdgeHandle, FixedVertexHandle, MeshViews};
 use std::alloc::{AllocError, Global};
 
-// Asks the metric of a vertex, unless it was asked before, and keeps the vertex where it is in the shape.
+// Asks the metric of a vertex, unless it was asked before, and keeps the vertex where it is in the
+// shape.
 fn ask_vertex<V: HasPosition, DE, UE, F, M: DistanceMetric<V::Scalar>>(
     dcel: &Dcel<V, DE, UE, F>,
     metric: &M,
@@ -27,8 +29,10 @@ fn ask_vertex<V: HasPosition, DE, UE, F, M: DistanceMetric<V::Scalar>>(
 ) -> Result<(), AllocError>
     requires in_range { All InRange (map V.place dcel.now.vertices) }
     requires within { vertex < length dcel.now.vertices }
-    requires flooding { IsFlooding (IsVertexInside (M.shape metric.now) V.place dcel.now) (length dcel.now.vertices) asked.old found.old.items }
-    ensures { OnOk result (Asks (IsVertexInside (M.shape metric.now) V.place dcel.now) (length dcel.now.vertices) asked.old asked.new found.old.items found.new.items vertex) }
+    requires flooding { IsFlooding (IsVertexInside (M.shape metric.now) V.place dcel.now)
+        (length dcel.now.vertices) asked.old found.old.items }
+    ensures { OnOk result (Asks (IsVertexInside (M.shape metric.now) V.place dcel.now)
+        (length dcel.now.vertices) asked.old asked.new found.old.items found.new.items vertex) }
 {
     let index = vertex.index();
     if asked.is_marked(index) {
@@ -49,8 +53,11 @@ fn ask_alone<V: HasPosition, DE, UE, F, M: DistanceMetric<V::Scalar>>(
     found: &mut Vec<FixedVertexHandle>,
 ) -> Result<(), AllocError>
     requires in_range { All InRange (map V.place dcel.now.vertices) }
-    requires flooding { IsFlooding (IsVertexInside (M.shape metric.now) V.place dcel.now) (length dcel.now.vertices) asked.old found.old.items }
-    ensures flooding { OnOk result (IsFlooding (IsVertexInside (M.shape metric.now) V.place dcel.now) (length dcel.now.vertices) asked.new found.new.items) }
+    requires flooding { IsFlooding (IsVertexInside (M.shape metric.now) V.place dcel.now)
+        (length dcel.now.vertices) asked.old found.old.items }
+    ensures flooding { OnOk result
+        (IsFlooding (IsVertexInside (M.shape metric.now) V.place dcel.now)
+        (length dcel.now.vertices) asked.new found.new.items) }
     ensures alone { OnOk result (length dcel.now.vertices ≡ 1 → IsAsked asked.new 0) }
 {
     if dcel.num_vertices() == 1 {
@@ -69,8 +76,11 @@ fn ask_ends<V: HasPosition, DE, UE, F, M: DistanceMetric<V::Scalar>>(
 ) -> Result<(), AllocError>
     requires in_range { All InRange (map V.place dcel.now.vertices) }
     requires within { All (λ e. e < length dcel.now.undirected) edges.now }
-    requires flooding { IsFlooding (IsVertexInside (M.shape metric.now) V.place dcel.now) (length dcel.now.vertices) asked.old found.old.items }
-    ensures flooding { OnOk result (IsFlooding (IsVertexInside (M.shape metric.now) V.place dcel.now) (length dcel.now.vertices) asked.new found.new.items) }
+    requires flooding { IsFlooding (IsVertexInside (M.shape metric.now) V.place dcel.now)
+        (length dcel.now.vertices) asked.old found.old.items }
+    ensures flooding { OnOk result
+        (IsFlooding (IsVertexInside (M.shape metric.now) V.place dcel.now)
+        (length dcel.now.vertices) asked.new found.new.items) }
     ensures on { OnOk result (GoesOn asked.old asked.new found.old.items found.new.items) }
     ensures ends { OnOk result (HasAskedEnds dcel.now.mesh asked.new edges.now) }
 {
@@ -82,7 +92,8 @@ fn ask_ends<V: HasPosition, DE, UE, F, M: DistanceMetric<V::Scalar>>(
     Ok(())
 }
 
-/// The vertices in a closed circle or rectangle, found from a list of edges of which one has a point in it, if any has.
+/// The vertices in a closed circle or rectangle, found from a list of edges of which one has a
+/// point in it, if any has.
 pub fn vertices_by_flood<
     'a,
     V: HasPosition,
@@ -100,11 +111,14 @@ pub fn vertices_by_flood<
 ) -> Result<VerticesInShapeIterator<'a, V, DE, UE, F>, AllocError>
     requires own_covered { All (P.covered tests.now) (M.own_points metric.now) }
     requires covered { All (P.covered tests.now) (map V.place dcel.now.vertices) }
-    requires shape { IsMesh (map V.place dcel.now.vertices) (faces_of dcel.now.mesh) (outer_of dcel.now.mesh) }
+    requires shape { IsMesh (map V.place dcel.now.vertices) (faces_of dcel.now.mesh)
+        (outer_of dcel.now.mesh) }
     requires region { IsRegion (M.shape metric.now) }
     requires within { All (λ e. e < length dcel.now.undirected) starts.now }
-    requires begun { IsBegunBy (IsInside (M.shape metric.now) V.place dcel.now) (length dcel.now.undirected) starts.now }
-    ensures { IfOk result (λ it. GivesVerticesIn (M.shape metric.now) V.place dcel.entry (vertices_left it)) }
+    requires begun { IsBegunBy (IsInside (M.shape metric.now) V.place dcel.now)
+        (length dcel.now.undirected) starts.now }
+    ensures { IfOk result (λ it. GivesVerticesIn (M.shape metric.now) V.place dcel.entry
+        (vertices_left it)) }
 {
     let edges = flood(dcel, metric, tests, starts, alloc)?;
     let mut asked = Marks::new(dcel.num_vertices(), alloc);

@@ -9,7 +9,8 @@ use half_edge_mesh::VertexHandle;
 pub(crate) fn position_of<V: HasPosition, DE, UE, F>(
     vertex: VertexHandle<'_, V, DE, UE, F>,
 ) -> Point2<V::Scalar>
-    ensures { place_of V.Scalar.whole result ≡ point_at (map V.place vertex.entry.dcel.now.vertices) vertex.entry.index }
+    ensures { place_of V.Scalar.whole result ≡ point_at (map V.place vertex.entry.dcel.now.vertices)
+        vertex.entry.index }
 {
     vertex.data().position()
 }

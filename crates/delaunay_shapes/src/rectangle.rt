@@ -4,9 +4,11 @@ ghost use Rattle.plane.specs.Fraction.{whole as fraction};
 ghost use Rattle.plane.specs.Shape.{InClosedRectangle};
 ghost use Rattle.plane.specs.Side.{left, right, side};
 ghost use Rattle.plane.specs.Tests.{InRange};
-ghost use Rattle.plane_delaunay.specs.EdgeTests.{AreCornersOn, HasPointIn, MeetsRectangle, RangeMeets};
+ghost use Rattle.plane_delaunay.specs.EdgeTests.{AreCornersOn, HasPointIn, MeetsRectangle};
+ghost use Rattle.plane_delaunay.specs.EdgeTests.{RangeMeets};
 ghost use Rattle.delaunay_core.specs.Place.{place_of};
-ghost use Rattle.delaunay_shapes.specs.Distance.{IsLeastDistance, clamped, farthest, rectangle_distance};
+ghost use Rattle.delaunay_shapes.specs.Distance.{IsLeastDistance, clamped, farthest};
+ghost use Rattle.delaunay_shapes.specs.Distance.{rectangle_distance};
 ghost use Rattle.delaunay_shapes.specs.Tests.{IsReversed, corners, meets_rectangle};
 
 use crate::distance_metric::DistanceMetric;
@@ -15,8 +17,8 @@ use delaunay_core::math::PlaneTests;
 use delaunay_core::point::{Point2, SpadeNum};
 use std::alloc::AllocError;
 
-/// A closed rectangle: the points from `lower` to `upper` in both coordinates. One whose corners are reversed in an axis
-/// has no point.
+/// A closed rectangle: the points from `lower` to `upper` in both coordinates. One whose corners
+/// are reversed in an axis has no point.
 ///
 /// ```
 /// let rectangle = RectangleMetric::new(Point2::new(0, 0), Point2::new(4, 2));
@@ -52,7 +54,8 @@ impl<S: SpadeNum> RectangleMetric<S> {
     }
 
     fn is_reversed(&self) -> bool
-        ensures { IsTrue result ↔ IsReversed (place_of S.whole self.now.lower) (place_of S.whole self.now.upper) }
+        ensures { IsTrue result ↔
+            IsReversed (place_of S.whole self.now.lower) (place_of S.whole self.now.upper) }
     {
         self.upper.x.to_i64() < self.lower.x.to_i64()
             || self.upper.y.to_i64() < self.lower.y.to_i64()
@@ -60,10 +63,14 @@ impl<S: SpadeNum> RectangleMetric<S> {
 
     // Whether the corners are not all strictly on one side of the line of an edge.
     fn touches_line<P: PlaneTests<S>>(&self, from: Point2<S>, to: Point2<S>, tests: &P) -> bool
-        requires own_covered { All (P.covered tests.now) (corners (place_of S.whole self.now.lower) (place_of S.whole self.now.upper)) }
+        requires own_covered { All (P.covered tests.now)
+            (corners (place_of S.whole self.now.lower) (place_of S.whole self.now.upper)) }
         requires start_covered { P.covered tests.now (place_of S.whole from) }
         requires end_covered { P.covered tests.now (place_of S.whole to) }
-        ensures { let l = place_of S.whole self.now.lower in let u = place_of S.whole self.now.upper in let p = place_of S.whole from in let q = place_of S.whole to in IsTrue result ↔ ((¬ AreCornersOn left l u p q) × (¬ AreCornersOn right l u p q)) }
+        ensures { let l = place_of S.whole self.now.lower in
+            let u = place_of S.whole self.now.upper in let p = place_of S.whole from in
+            let q = place_of S.whole to in
+            IsTrue result ↔ ((¬ AreCornersOn left l u p q) × (¬ AreCornersOn right l u p q)) }
     {
         let lower_left = side_of(from, to, self.lower.x, self.lower.y, tests);
         let lower_right = side_of(from, to, self.upper.x, self.lower.y, tests);
@@ -75,10 +82,14 @@ impl<S: SpadeNum> RectangleMetric<S> {
 
     // Whether the ranges meet, and the corners are not all strictly on one side.
     fn meets<P: PlaneTests<S>>(&self, from: Point2<S>, to: Point2<S>, tests: &P) -> bool
-        requires own_covered { All (P.covered tests.now) (corners (place_of S.whole self.now.lower) (place_of S.whole self.now.upper)) }
+        requires own_covered { All (P.covered tests.now)
+            (corners (place_of S.whole self.now.lower) (place_of S.whole self.now.upper)) }
         requires start_covered { P.covered tests.now (place_of S.whole from) }
         requires end_covered { P.covered tests.now (place_of S.whole to) }
-        ensures { let l = place_of S.whole self.now.lower in let u = place_of S.whole self.now.upper in IsTrue result ↔ ((¬ IsReversed l u) × MeetsRectangle l u (place_of S.whole from) (place_of S.whole to)) }
+        ensures { let l = place_of S.whole self.now.lower in
+            let u = place_of S.whole self.now.upper in
+            IsTrue result ↔ ((¬ IsReversed l u) × MeetsRectangle l u (place_of S.whole from)
+            (place_of S.whole to)) }
     {
         !self.is_reversed()
             && range_meets(self.lower.x, self.upper.x, from.x, to.x)
@@ -98,7 +109,8 @@ fn side_of<S: SpadeNum, P: PlaneTests<S>>(
     requires start_covered { P.covered tests.now (place_of S.whole from) }
     requires end_covered { P.covered tests.now (place_of S.whole to) }
     requires corner_covered { P.covered tests.now (record { x = S.whole x; y = S.whole y }) }
-    ensures { result ≡ side (fraction (place_of S.whole from)) (fraction (place_of S.whole to)) (fraction (record { x = S.whole x; y = S.whole y })) }
+    ensures { result ≡ side (fraction (place_of S.whole from)) (fraction (place_of S.whole to))
+        (fraction (record { x = S.whole x; y = S.whole y })) }
 {
     tests.side(from, to, Point2::new(x, y))
 }
@@ -154,14 +166,21 @@ impl<S: SpadeNum> DistanceMetric<S> for RectangleMetric<S> {
 
     ghost meets = { λ m. meets_rectangle (place_of S.whole m.lower) (place_of S.whole m.upper) };
 
-    ghost distance = { λ m. rectangle_distance (place_of S.whole m.lower) (place_of S.whole m.upper) };
+    ghost distance = { λ m.
+        rectangle_distance (place_of S.whole m.lower) (place_of S.whole m.upper) };
 
     fn is_edge_inside<P: PlaneTests<S>>(&self, points: (Point2<S>, Point2<S>), tests: &P) -> bool
-        requires own_covered { All (P.covered tests.now) (corners (place_of S.whole self.now.lower) (place_of S.whole self.now.upper)) }
+        requires own_covered { All (P.covered tests.now)
+            (corners (place_of S.whole self.now.lower) (place_of S.whole self.now.upper)) }
         requires start_covered { P.covered tests.now (place_of S.whole points.0) }
         requires end_covered { P.covered tests.now (place_of S.whole points.1) }
-        ensures answer { result ≡ meets_rectangle (place_of S.whole self.now.lower) (place_of S.whole self.now.upper) (place_of S.whole points.0) (place_of S.whole points.1) }
-        ensures inside { IsTrue result ↔ HasPointIn (InClosedRectangle (place_of S.whole self.now.lower) (place_of S.whole self.now.upper)) (place_of S.whole points.0) (place_of S.whole points.1) }
+        ensures answer { result ≡ meets_rectangle (place_of S.whole self.now.lower)
+            (place_of S.whole self.now.upper) (place_of S.whole points.0)
+            (place_of S.whole points.1) }
+        ensures inside { IsTrue result ↔
+            HasPointIn (InClosedRectangle (place_of S.whole self.now.lower)
+            (place_of S.whole self.now.upper)) (place_of S.whole points.0)
+            (place_of S.whole points.1) }
     {
         let (from, to) = points;
         self.meets(from, to, tests)
@@ -170,10 +189,17 @@ impl<S: SpadeNum> DistanceMetric<S> for RectangleMetric<S> {
     /// The squared distance to the nearest point of the rectangle; `i64::MAX` from a reversed one.
     fn distance_to_point(&self, point: Point2<S>) -> i64
         requires { InRange (place_of S.whole point) }
-        ensures value { result ≡ rectangle_distance (place_of S.whole self.now.lower) (place_of S.whole self.now.upper) (place_of S.whole point) }
-        ensures inside { (result ≤ℤ pos 0) ↔ InClosedRectangle (place_of S.whole self.now.lower) (place_of S.whole self.now.upper) (fraction (place_of S.whole point)) }
-        ensures reversed { IsReversed (place_of S.whole self.now.lower) (place_of S.whole self.now.upper) → result ≡ farthest }
-        ensures nearest { ¬ IsReversed (place_of S.whole self.now.lower) (place_of S.whole self.now.upper) → IsLeastDistance (InClosedRectangle (place_of S.whole self.now.lower) (place_of S.whole self.now.upper)) (place_of S.whole point) result }
+        ensures value { result ≡ rectangle_distance (place_of S.whole self.now.lower)
+            (place_of S.whole self.now.upper) (place_of S.whole point) }
+        ensures inside { (result ≤ℤ pos 0) ↔
+            InClosedRectangle (place_of S.whole self.now.lower) (place_of S.whole self.now.upper)
+            (fraction (place_of S.whole point)) }
+        ensures reversed { IsReversed (place_of S.whole self.now.lower)
+            (place_of S.whole self.now.upper) → result ≡ farthest }
+        ensures nearest { ¬ IsReversed (place_of S.whole self.now.lower)
+            (place_of S.whole self.now.upper) →
+            IsLeastDistance (InClosedRectangle (place_of S.whole self.now.lower)
+            (place_of S.whole self.now.upper)) (place_of S.whole point) result }
     {
         if self.is_reversed() {
             return i64::MAX;

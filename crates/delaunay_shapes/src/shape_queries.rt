@@ -3,7 +3,8 @@ ghost use Rattle.std.specs.Prelude.{map, All, IfOk};
 ghost use Rattle.delaunay_core.specs.Place.{place_of};
 ghost use Rattle.delaunay_legalization.specs.Shape.{IsTriangulated};
 ghost use Rattle.delaunay_legalization.specs.State.{state_of};
-ghost use Rattle.delaunay_shapes.specs.Left.{GivesEdgesIn, GivesVerticesIn, edges_left, vertices_left};
+ghost use Rattle.delaunay_shapes.specs.Left.{GivesEdgesIn, GivesVerticesIn, edges_left};
+ghost use Rattle.delaunay_shapes.specs.Left.{vertices_left};
 ghost use Rattle.delaunay_shapes.specs.Start.{BeginsAt};
 
 use crate::distance_metric::DistanceMetric;
@@ -16,9 +17,10 @@ use delaunay_core::point::{HasPosition, Point2};
 use half_edge_mesh::{Dcel, FixedVertexHandle};
 use std::alloc::{AllocError, Global};
 
-/// The edges with a point in a shape, each once. The shape is a closed circle, and `start` its centre, or a closed
-/// rectangle, and `start` its lower corner. The search begins at the vertex `hint`, or at vertex 0 where there is no such
-/// vertex. Memory is refused here alone: the iterator takes none.
+/// The edges with a point in a shape, each once. The shape is a closed circle, and `start` its
+/// centre, or a closed rectangle, and `start` its lower corner. The search begins at the vertex
+/// `hint`, or at vertex 0 where there is no such vertex. Memory is refused here alone: the iterator
+/// takes none.
 pub fn edges_in_shape<
     'a,
     V: HasPosition,
@@ -40,15 +42,16 @@ pub fn edges_in_shape<
     requires own_covered { All (P.covered tests.now) (M.own_points metric.now) }
     requires start_covered { P.covered tests.now (place_of V.Scalar.whole start) }
     requires begins { BeginsAt (M.shape metric.now) (place_of V.Scalar.whole start) }
-    ensures { IfOk result (λ it. GivesEdgesIn (M.shape metric.now) V.place dcel.entry (edges_left it)) }
+    ensures { IfOk result (λ it. GivesEdgesIn (M.shape metric.now) V.place dcel.entry
+        (edges_left it)) }
 {
     let starts = first_edges(dcel, metric, start, hint, tests, alloc)?;
     edges_by_flood(dcel, metric, tests, starts.as_slice(), alloc)
 }
 
-/// The vertices in a shape, each once. The shape is a closed circle, and `start` its centre, or a closed rectangle, and
-/// `start` its lower corner. The search begins at the vertex `hint`, or at vertex 0 where there is no such vertex. Memory is
-/// refused here alone: the iterator takes none.
+/// The vertices in a shape, each once. The shape is a closed circle, and `start` its centre, or a
+/// closed rectangle, and `start` its lower corner. The search begins at the vertex `hint`, or at
+/// vertex 0 where there is no such vertex. Memory is refused here alone: the iterator takes none.
 pub fn vertices_in_shape<
     'a,
     V: HasPosition,
@@ -70,7 +73,8 @@ pub fn vertices_in_shape<
     requires own_covered { All (P.covered tests.now) (M.own_points metric.now) }
     requires start_covered { P.covered tests.now (place_of V.Scalar.whole start) }
     requires begins { BeginsAt (M.shape metric.now) (place_of V.Scalar.whole start) }
-    ensures { IfOk result (λ it. GivesVerticesIn (M.shape metric.now) V.place dcel.entry (vertices_left it)) }
+    ensures { IfOk result (λ it. GivesVerticesIn (M.shape metric.now) V.place dcel.entry
+        (vertices_left it)) }
 {
     let starts = first_edges(dcel, metric, start, hint, tests, alloc)?;
     vertices_by_flood(dcel, metric, tests, starts.as_slice(), alloc)

@@ -1,4 +1,5 @@
-//! Side and circle tests by determinants, true at every point in range: what most callers hand to a triangulation.
+//! Side and circle tests by determinants, true at every point in range: what most callers hand to a
+//! triangulation.
 //!
 //! ```
 //! let mut t: DelaunayTriangulation<Point2<i64>> = DelaunayTriangulation::new(rt.alloc());
@@ -20,8 +21,8 @@ use delaunay_core::line_side_info::LineSideInfo;
 use delaunay_core::math::PlaneTests;
 use delaunay_core::point::{Point2, SpadeNum};
 
-/// Tests for every scalar of the library: each point in range is covered, and is a site. A side is the sign of one
-/// determinant in 64 bits, a circle that of one in 128 bits.
+/// Tests for every scalar of the library: each point in range is covered, and is a site. A side is
+/// the sign of one determinant in 64 bits, a circle that of one in 128 bits.
 #[derive(Clone, Copy, Debug, Default)]
 pub struct ExactTests;
 
@@ -62,7 +63,8 @@ fn turn_at<S: SpadeNum>(q: Point2<S>, u: Point2<S>, v: Point2<S>) -> i64
     requires q { InRange (place_of S.whole q) }
     requires u { InRange (place_of S.whole u) }
     requires v { InRange (place_of S.whole v) }
-    ensures value { result ≡ turn_at (place_of S.whole q) (place_of S.whole u) (place_of S.whole v) }
+    ensures value { result ≡ turn_at (place_of S.whole q) (place_of S.whole u)
+        (place_of S.whole v) }
     ensures bound { unsigned_abs result ≤ 2305843009213693952 }
 {
     product(difference(q.x, u.x), difference(q.y, v.y))
@@ -85,7 +87,8 @@ fn lifted_determinant<S: SpadeNum>(u: Point2<S>, v: Point2<S>, p: Point2<S>, q: 
     requires v { InRange (place_of S.whole v) }
     requires p { InRange (place_of S.whole p) }
     requires q { InRange (place_of S.whole q) }
-    ensures { result ≡ lifted_determinant (place_of S.whole u) (place_of S.whole v) (place_of S.whole p) (place_of S.whole q) }
+    ensures { result ≡ lifted_determinant (place_of S.whole u) (place_of S.whole v)
+        (place_of S.whole p) (place_of S.whole q) }
 {
     term(squared_way(q, u), turn_at(q, v, p))
         + term(squared_way(q, v), turn_at(q, p, u))
@@ -105,7 +108,8 @@ impl<S: SpadeNum> PlaneTests<S> for ExactTests {
         requires from_covered { InRange (place_of S.whole from) }
         requires to_covered { InRange (place_of S.whole to) }
         requires point_covered { InRange (place_of S.whole point) }
-        ensures { result ≡ side (fraction (place_of S.whole from)) (fraction (place_of S.whole to)) (fraction (place_of S.whole point)) }
+        ensures { result ≡ side (fraction (place_of S.whole from)) (fraction (place_of S.whole to))
+            (fraction (place_of S.whole point)) }
     {
         let turn = turn_at(from, to, point);
         if turn > 0 {
@@ -122,8 +126,11 @@ impl<S: SpadeNum> PlaneTests<S> for ExactTests {
         requires v2_site { InRange (place_of S.whole v2) }
         requires v3_site { InRange (place_of S.whole v3) }
         requires point_site { InRange (place_of S.whole point) }
-        requires left_turn { TurnsLeft (fraction (place_of S.whole v1)) (fraction (place_of S.whole v2)) (fraction (place_of S.whole v3)) }
-        ensures { IsTrue result ↔ InsideCircle (fraction (place_of S.whole v1)) (fraction (place_of S.whole v2)) (fraction (place_of S.whole v3)) (fraction (place_of S.whole point)) }
+        requires left_turn { TurnsLeft (fraction (place_of S.whole v1))
+            (fraction (place_of S.whole v2)) (fraction (place_of S.whole v3)) }
+        ensures { IsTrue result ↔
+            InsideCircle (fraction (place_of S.whole v1)) (fraction (place_of S.whole v2))
+            (fraction (place_of S.whole v3)) (fraction (place_of S.whole point)) }
     {
         lifted_determinant(v1, v2, v3, point) > 0
     }

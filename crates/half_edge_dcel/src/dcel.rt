@@ -1,5 +1,6 @@
 //! The mesh with its data, and reads of them.
-ghost use Rattle.std.specs.Prelude.{◌≡◌, ◌<◌, ◌≤◌, ◌+◌, ◌*◌, ◌∷◌, [], length, Some, slice_get, slice_set};
+ghost use Rattle.std.specs.Prelude.{◌≡◌, ◌<◌, ◌≤◌, ◌+◌, ◌*◌, ◌∷◌, []};
+ghost use Rattle.std.specs.Prelude.{length, Some, slice_get, slice_set};
 ghost use Rattle.half_edge_links.specs.Mesh.{empty, IsInner, edge_at, face_edge, out_edge};
 ghost use Rattle.half_edge_links.specs.declared.room.TheConstants.{MAX_ELEMENTS};
 ghost use Rattle.half_edge_dcel.specs.Contents.{IsMeshWithData};
@@ -39,12 +40,14 @@ impl<V, DE, UE, F> Model for Dcel<V, DE, UE, F> {
       faces = d.faces.items;
       room = record {
         vertices = min d.links.room.vertices (vec_capacity d.vertices);
-        edges = min d.links.room.edges (min (vec_capacity d.directed) (2 * vec_capacity d.undirected));
+        edges = min d.links.room.edges
+            (min (vec_capacity d.directed) (2 * vec_capacity d.undirected));
         faces = min d.links.room.faces (vec_capacity d.faces);
       };
     } };
 
-    ghost invariant = { λ d. FitsMesh d.links.mesh (length d.vertices.items) (length d.directed.items) (length d.undirected.items) (length d.faces.items) };
+    ghost invariant = { λ d. FitsMesh d.links.mesh (length d.vertices.items)
+        (length d.directed.items) (length d.undirected.items) (length d.faces.items) };
 }
 
 impl<V, DE, UE, F> Dcel<V, DE, UE, F> {
@@ -134,7 +137,9 @@ impl<V, DE, UE, F> Dcel<V, DE, UE, F> {
     pub fn update_vertex(&mut self, vertex: FixedVertexHandle, value: V) -> V
         requires { vertex < length self.old.vertices }
         ensures former { slice_get self.old.vertices vertex ≡ Some result }
-        ensures contents { self.new ≡ record self.old { vertices = slice_set self.old.vertices vertex value } }
+        ensures contents { self.new ≡ record self.old {
+          vertices = slice_set self.old.vertices vertex value;
+        } }
     {
         replace(&mut self.vertices[vertex.index() as usize], value)
     }

@@ -24,12 +24,15 @@ impl<V, DE, UE, F> Dcel<V, DE, UE, F> {
         self.vertices.swap_remove(v as usize)
     }
 
-    // Lets an edge of a line pass the vertex at its end, and end where the edge after it ends. All data stay.
+    // Lets an edge of a line pass the vertex at its end, and end where the edge after it ends. All
+    // data stay.
     fn pass(&mut self, edge: u32)
         requires { IsPassable self.old.mesh edge }
         ensures contents { self.new ≡ record self.old { mesh = self.new.mesh } }
-        ensures links { let m = self.old.mesh in Passes m self.new.mesh edge (rev (next m edge)) (next m edge) }
-        ensures ends { let m = self.old.mesh in MovesEdge m self.new.mesh edge (origin m edge) (origin m (rev (next m edge))) }
+        ensures links { let m = self.old.mesh in
+            Passes m self.new.mesh edge (rev (next m edge)) (next m edge) }
+        ensures ends { let m = self.old.mesh in
+            MovesEdge m self.new.mesh edge (origin m edge) (origin m (rev (next m edge))) }
         ensures outline { KeepsOneOutline self.old.mesh self.new.mesh }
         ensures whole { IsMeshWithData self.old }
     {
@@ -45,7 +48,8 @@ impl<V, DE, UE, F> Dcel<V, DE, UE, F> {
         requires within { out < length self.old.directed }
         requires one_face { length self.old.faces ≡ 0 }
         requires two { let m = self.old.mesh in turn m (turn m out) ≡ out }
-        requires corners { let m = self.old.mesh in origin m (rev out) ≢ origin m (rev (turn m out)) }
+        requires corners { let m = self.old.mesh in
+            origin m (rev out) ≢ origin m (rev (turn m out)) }
         ensures leaves { LeavesLine self.old self.new (origin self.old.mesh out) }
         ensures outline { KeepsOneOutline self.old.mesh self.new.mesh }
     {
@@ -65,7 +69,8 @@ impl<V, DE, UE, F> Dcel<V, DE, UE, F> {
         requires within { out < length self.old.directed }
         requires one_face { length self.old.faces ≡ 0 }
         requires one { turn self.old.mesh out ≡ out }
-        requires whole { let m = self.old.mesh in next m out ≡ rev out → prev m out ≡ rev out → length m.half_edges ≡ 2 }
+        requires whole { let m = self.old.mesh in
+            next m out ≡ rev out → prev m out ≡ rev out → length m.half_edges ≡ 2 }
         ensures leaves { LeavesLine self.old self.new (origin self.old.mesh out) }
         ensures outline { KeepsOneOutline self.old.mesh self.new.mesh }
     {
@@ -95,8 +100,9 @@ impl<V, DE, UE, F> Dcel<V, DE, UE, F> {
         }
     }
 
-    /// Removes a vertex of a mesh with one face, and gives its data back. If it has two neighbours, they are joined by
-    /// an edge with the data of one of its edges. The last vertex takes its index.
+    /// Removes a vertex of a mesh with one face, and gives its data back. If it has two neighbours,
+    /// they are joined by an edge with the data of one of its edges. The last vertex takes its
+    /// index.
     pub fn remove_when_degenerate(&mut self, vertex: FixedVertexHandle) -> V
     where
         DE: Drop,

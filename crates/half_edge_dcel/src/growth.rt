@@ -1,5 +1,6 @@
 //! Data for new edges and faces.
-ghost use Rattle.std.specs.Prelude.{◌≡◌, ◌≢◌, ◌+◌, ◌<◌, ◌≤◌, Some, slice_get, vec_len, vec_capacity};
+ghost use Rattle.std.specs.Prelude.{◌≡◌, ◌≢◌, ◌+◌, ◌<◌, ◌≤◌};
+ghost use Rattle.std.specs.Prelude.{Some, slice_get, vec_len, vec_capacity};
 ghost use Rattle.half_edge_dcel.specs.Growth.{Grows, LeavesItem, MovesItem, MovesTwoItems};
 
 use std::mem::replace;
@@ -26,7 +27,8 @@ fn take_item<T: Default>(items: &mut Vec<T>, index: usize) -> T
     replace(&mut items[index], T::default())
 }
 
-// Moves an item to the end, with a default value in its place, and pushes `count` default values after it.
+// Moves an item to the end, with a default value in its place, and pushes `count` default values
+// after it.
 pub(crate) fn move_item<T: Default>(items: &mut Vec<T>, index: usize, count: usize)
     requires within { index < vec_len items.old }
     requires room { vec_len items.old + 1 + count ≤ vec_capacity items.old }
@@ -38,8 +40,8 @@ pub(crate) fn move_item<T: Default>(items: &mut Vec<T>, index: usize, count: usi
     push_defaults(items, count);
 }
 
-// Moves two items to the end, with default values in their places, and pushes `count` default values after
-// them.
+// Moves two items to the end, with default values in their places, and pushes `count` default
+// values after them.
 pub(crate) fn move_two_items<T: Default>(
     items: &mut Vec<T>,
     first: usize,

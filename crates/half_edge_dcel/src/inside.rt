@@ -4,10 +4,12 @@ ghost use Rattle.half_edge_links.specs.Hull.{KeepsOneOutline};
 ghost use Rattle.half_edge_links.specs.Mesh.{with_vertex, origin, next, prev, rev, face, face_edge};
 ghost use Rattle.half_edge_links.specs.Flip.{IsFlippable, flipped};
 ghost use Rattle.half_edge_links.specs.Insert.{inserted};
-ghost use Rattle.half_edge_links.specs.Triangles.{FlipsTriangles, InsertsTriangles, SplitsTriangles};
+ghost use Rattle.half_edge_links.specs.Triangles.{FlipsTriangles, InsertsTriangles};
+ghost use Rattle.half_edge_links.specs.Triangles.{SplitsTriangles};
 ghost use Rattle.half_edge_links.specs.Outline.{KeepsOuter, along};
 ghost use Rattle.half_edge_dcel.specs.Contents.{HasRoom, edges};
-ghost use Rattle.half_edge_dcel.specs.Growth.{Grows, MovesItem, MovesTwoItems, AddsEdges, SplitsEdge, joins, with_ends};
+ghost use Rattle.half_edge_dcel.specs.Growth.{Grows, MovesItem, MovesTwoItems, AddsEdges};
+ghost use Rattle.half_edge_dcel.specs.Growth.{SplitsEdge, joins, with_ends};
 
 use crate::dcel::Dcel;
 use crate::growth::{move_item, move_two_items, push_defaults};
@@ -16,14 +18,18 @@ use half_edge_handles::{
 };
 
 impl<V, DE, UE, F> Dcel<V, DE, UE, F> {
-    /// Turns an edge between two inner faces clockwise, so that it joins the two opposite corners. All data stay.
+    /// Turns an edge between two inner faces clockwise, so that it joins the two opposite corners.
+    /// All data stay.
     pub fn flip_cw(&mut self, edge: FixedUndirectedEdgeHandle)
         requires flippable { IsFlippable self.old.mesh (2 * edge) }
-        requires corners { let m = self.old.mesh in origin m (prev m (2 * edge)) ≢ origin m (prev m (rev (2 * edge))) }
+        requires corners { let m = self.old.mesh in
+            origin m (prev m (2 * edge)) ≢ origin m (prev m (rev (2 * edge))) }
 
         ensures mesh { self.new.mesh ≡ flipped self.old.mesh (2 * edge) }
         ensures contents { self.new ≡ record self.old { mesh = self.new.mesh } }
-        ensures edges { let m = self.old.mesh in edges self.new ≡ with_ends (edges self.old) edge (joins (origin m (prev m (2 * edge))) (origin m (prev m (rev (2 * edge))))) }
+        ensures edges { let m = self.old.mesh in
+            edges self.new ≡ with_ends (edges self.old) edge
+            (joins (origin m (prev m (2 * edge))) (origin m (prev m (rev (2 * edge))))) }
         ensures triangles { FlipsTriangles self.old.mesh self.new.mesh (2 * edge) }
         ensures outer { KeepsOuter self.old.mesh self.new.mesh }
         ensures outline { KeepsOneOutline self.old.mesh self.new.mesh }
@@ -42,13 +48,24 @@ impl<V, DE, UE, F> Dcel<V, DE, UE, F> {
         requires room { HasRoom self.old 1 3 2 }
 
         ensures vertex { result ≡ length self.old.vertices }
-        ensures mesh { self.new.mesh ≡ inserted (with_vertex self.old.mesh) result (face_edge self.old.mesh triangle) }
-        ensures contents { self.new ≡ record self.old { mesh = self.new.mesh; vertices = self.old.vertices ++ value ∷ []; directed = self.new.directed; undirected = self.new.undirected; faces = self.new.faces } }
+        ensures mesh { self.new.mesh ≡ inserted (with_vertex self.old.mesh) result
+            (face_edge self.old.mesh triangle) }
+        ensures contents { self.new ≡ record self.old {
+          mesh = self.new.mesh;
+          vertices = self.old.vertices ++ value ∷ [];
+          directed = self.new.directed;
+          undirected = self.new.undirected;
+          faces = self.new.faces;
+        } }
         ensures directed { Grows DE.is_default self.old.directed self.new.directed 6 }
         ensures undirected { Grows UE.is_default self.old.undirected self.new.undirected 3 }
         ensures faces { Grows F.is_default self.old.faces self.new.faces 2 }
-        ensures edges { let m = self.old.mesh in let e = face_edge m triangle in AddsEdges UE.is_default (edges self.old) (edges self.new) (joins (origin m e) result ∷ joins (origin m (next m e)) result ∷ joins (origin m (prev m e)) result ∷ []) }
-        ensures triangles { InsertsTriangles self.old.mesh self.new.mesh result (face_edge self.old.mesh triangle) }
+        ensures edges { let m = self.old.mesh in let e = face_edge m triangle in
+            AddsEdges UE.is_default (edges self.old) (edges self.new)
+            (joins (origin m e) result ∷ joins (origin m (next m e)) result ∷ joins
+            (origin m (prev m e)) result ∷ []) }
+        ensures triangles { InsertsTriangles self.old.mesh self.new.mesh result
+            (face_edge self.old.mesh triangle) }
         ensures face { face self.old.mesh (face_edge self.old.mesh triangle) ≡ triangle }
         ensures outer { KeepsOuter self.old.mesh self.new.mesh }
         ensures outline { KeepsOneOutline self.old.mesh self.new.mesh }
@@ -63,8 +80,9 @@ impl<V, DE, UE, F> Dcel<V, DE, UE, F> {
         FixedVertexHandle::from_index(v)
     }
 
-    /// Splits an edge between two inner faces at a new last vertex, which is joined to the two opposite corners. Gives
-    /// the vertex and both parts, directed as `edge`, the first of which keeps the data of `edge`.
+    /// Splits an edge between two inner faces at a new last vertex, which is joined to the two
+    /// opposite corners. Gives the vertex and both parts, directed as `edge`, the first of which
+    /// keeps the data of `edge`.
     pub fn split_edge(
         &mut self,
         edge: FixedDirectedEdgeHandle,
@@ -79,12 +97,25 @@ impl<V, DE, UE, F> Dcel<V, DE, UE, F> {
 
         ensures vertex { result.0 ≡ length self.old.vertices }
         ensures parts { let n = length self.old.directed in result.1 ≡ n ∷ (n + 3) ∷ [] }
-        ensures mesh { self.new.mesh ≡ flipped (inserted (with_vertex self.old.mesh) result.0 edge) edge }
-        ensures contents { self.new ≡ record self.old { mesh = self.new.mesh; vertices = self.old.vertices ++ value ∷ []; directed = self.new.directed; undirected = self.new.undirected; faces = self.new.faces } }
-        ensures directed { MovesTwoItems DE.is_default self.old.directed self.new.directed edge (rev edge) 4 }
-        ensures undirected { MovesItem UE.is_default self.old.undirected self.new.undirected (edge / 2) 2 }
+        ensures mesh { self.new.mesh ≡ flipped (inserted (with_vertex self.old.mesh) result.0 edge)
+            edge }
+        ensures contents { self.new ≡ record self.old {
+          mesh = self.new.mesh;
+          vertices = self.old.vertices ++ value ∷ [];
+          directed = self.new.directed;
+          undirected = self.new.undirected;
+          faces = self.new.faces;
+        } }
+        ensures directed { MovesTwoItems DE.is_default self.old.directed self.new.directed edge
+            (rev edge) 4 }
+        ensures undirected { MovesItem UE.is_default self.old.undirected self.new.undirected
+            (edge / 2) 2 }
         ensures faces { Grows F.is_default self.old.faces self.new.faces 2 }
-        ensures edges { let m = self.old.mesh in SplitsEdge UE.is_default (edges self.old) (edges self.new) (edge / 2) (along edge result.0 (origin m (prev m (rev edge)))) (joins (origin m edge) result.0) (joins (origin m (next m edge)) result.0 ∷ joins (origin m (prev m edge)) result.0 ∷ []) }
+        ensures edges { let m = self.old.mesh in
+            SplitsEdge UE.is_default (edges self.old) (edges self.new) (edge / 2)
+            (along edge result.0 (origin m (prev m (rev edge)))) (joins (origin m edge) result.0)
+            (joins (origin m (next m edge)) result.0 ∷ joins (origin m (prev m edge)) result.0 ∷
+            []) }
         ensures triangles { SplitsTriangles self.old.mesh self.new.mesh result.0 edge }
         ensures outer { KeepsOuter self.old.mesh self.new.mesh }
         ensures outline { KeepsOneOutline self.old.mesh self.new.mesh }

@@ -32,15 +32,16 @@ impl<V, DE, UE, F> Dcel<V, DE, UE, F> {
         (edge, self.links.half_edge(edge).origin)
     }
 
-    // Removes the edges of a vertex with `count` inner faces, which follow each other from `first` on, and the outer
-    // face between its last edge and `first`.
+    // Removes the edges of a vertex with `count` inner faces, which follow each other from `first`
+    // on, and the outer face between its last edge and `first`.
     fn disconnect(&mut self, first: u32, count: usize)
     where
         DE: Drop,
         UE: Drop,
         F: Drop,
         requires { IsStrip self.old.mesh first count }
-        ensures { let m = self.old.mesh in LosesStrip self.old self.new (origin m first) (neighbour m first) count }
+        ensures { let m = self.old.mesh in
+            LosesStrip self.old self.new (origin m first) (neighbour m first) count }
     {
         let _old = self.num_vertices();
         let mut h = first;
@@ -51,9 +52,9 @@ impl<V, DE, UE, F> Dcel<V, DE, UE, F> {
         let _whole = self.num_vertices();
     }
 
-    /// Removes the edges of a vertex on the hull, and its faces. `edges` are the sides opposite it in these faces, at
-    /// least one, in their order round it; afterwards they have the outer face on their left. The last edges and faces
-    /// take the indexes that become free.
+    /// Removes the edges of a vertex on the hull, and its faces. `edges` are the sides opposite it
+    /// in these faces, at least one, in their order round it; afterwards they have the outer face
+    /// on their left. The last edges and faces take the indexes that become free.
     pub fn disconnect_edge_strip(
         &mut self,
         edges: &[FixedDirectedEdgeHandle],
@@ -64,8 +65,11 @@ impl<V, DE, UE, F> Dcel<V, DE, UE, F> {
         F: Drop,
         requires { AreOpposite self.old.mesh edges.now }
 
-        ensures vertex { result.vertex ≡ origin self.old.mesh (first_spoke self.old.mesh edges.now) }
-        ensures strip { let first = first_spoke self.old.mesh edges.now in LosesStrip self.old self.new (origin self.old.mesh first) (neighbour self.old.mesh first) (length edges.now) }
+        ensures vertex { result.vertex ≡ origin self.old.mesh
+            (first_spoke self.old.mesh edges.now) }
+        ensures strip { let first = first_spoke self.old.mesh edges.now in
+            LosesStrip self.old self.new (origin self.old.mesh first)
+            (neighbour self.old.mesh first) (length edges.now) }
     {
         let (first, vertex) = self.spoke_to(edges[0]);
         self.disconnect(first, edges.len());
@@ -86,15 +90,16 @@ impl<V, DE, UE, F> Dcel<V, DE, UE, F> {
         self.links.half_edge(third).face
     }
 
-    // Removes the edges of a vertex with three faces round it, one of them on the left of `first`. One face of its
-    // neighbours takes their place.
+    // Removes the edges of a vertex with three faces round it, one of them on the left of `first`.
+    // One face of its neighbours takes their place.
     fn collapse(&mut self, first: u32)
     where
         DE: Drop,
         UE: Drop,
         F: Drop,
         requires { IsWheel self.old.mesh first }
-        ensures { let m = self.old.mesh in FillsHole self.old self.new (origin m first) (neighbour m first) }
+        ensures { let m = self.old.mesh in
+            FillsHole self.old self.new (origin m first) (neighbour m first) }
     {
         let face = self.third_face(first);
         let value = self.open_face(face);
@@ -115,7 +120,9 @@ impl<V, DE, UE, F> Dcel<V, DE, UE, F> {
 
         ensures flips { let m = self.old.mesh in Flips m self.new.mesh (turn m first) }
         ensures contents { self.new ≡ record self.old { mesh = self.new.mesh } }
-        ensures ends { let m = self.old.mesh in MovesEdge m self.new.mesh (turn m first) (origin m (prev m (turn m first))) (origin m (prev m (rev (turn m first)))) }
+        ensures ends { let m = self.old.mesh in
+            MovesEdge m self.new.mesh (turn m first) (origin m (prev m (turn m first)))
+            (origin m (prev m (rev (turn m first)))) }
         ensures triangles { let m = self.old.mesh in FlipsTriangles m self.new.mesh (turn m first) }
         ensures outer { KeepsOuter self.old.mesh self.new.mesh }
         ensures outline { KeepsOneOutline self.old.mesh self.new.mesh }
@@ -126,8 +133,8 @@ impl<V, DE, UE, F> Dcel<V, DE, UE, F> {
         self.links.flip(spoke);
     }
 
-    // Removes the edges of a vertex with `count` faces round it, from `first` on. A fan of faces, whose tip is the end of
-    // `first`, takes their place.
+    // Removes the edges of a vertex with `count` faces round it, from `first` on. A fan of faces,
+    // whose tip is the end of `first`, takes their place.
     fn fill_hole(&mut self, first: u32, count: usize)
     where
         DE: Drop,
@@ -136,7 +143,8 @@ impl<V, DE, UE, F> Dcel<V, DE, UE, F> {
         requires many { 3 ≤ count }
         requires hub { IsHub self.old.mesh first count }
         requires tip { HasFreeTip (neighbour self.old.mesh first) count }
-        ensures { let m = self.old.mesh in FillsWithFan self.old self.new (origin m first) (neighbour m first) count }
+        ensures { let m = self.old.mesh in
+            FillsWithFan self.old self.new (origin m first) (neighbour m first) count }
     {
         let _old = self.num_vertices();
         for _ in 3..count {
@@ -147,10 +155,11 @@ impl<V, DE, UE, F> Dcel<V, DE, UE, F> {
         let _whole = self.num_vertices();
     }
 
-    /// Removes the edges of an inner vertex and fills the hole with a fan of faces. `border` is the loop round the vertex,
-    /// of three edges or more, and the fan's tip is where the first of them starts: this vertex gets an edge to each one
-    /// of the loop that is not beside it there, and none of these may be the tip itself. The new edges have the data of
-    /// edges of the vertex, and the new faces those of its faces. The last edges and faces take the indexes that become
+    /// Removes the edges of an inner vertex and fills the hole with a fan of faces. `border` is the
+    /// loop round the vertex, of three edges or more, and the fan's tip is where the first of them
+    /// starts: this vertex gets an edge to each one of the loop that is not beside it there, and
+    /// none of these may be the tip itself. The new edges have the data of edges of the vertex, and
+    /// the new faces those of its faces. The last edges and faces take the indexes that become
     /// free.
     pub fn isolate_vertex_and_fill_hole(
         &mut self,
@@ -164,7 +173,9 @@ impl<V, DE, UE, F> Dcel<V, DE, UE, F> {
         requires { IsBorder self.old.mesh border.now vertex }
 
         ensures vertex { result.vertex ≡ vertex }
-        ensures hole { let m = self.old.mesh in FillsWithFan self.old self.new vertex (neighbour m (first_spoke m border.now)) (length border.now) }
+        ensures hole { let m = self.old.mesh in
+            FillsWithFan self.old self.new vertex (neighbour m (first_spoke m border.now))
+            (length border.now) }
     {
         let (first, _) = self.spoke_to(border[0]);
         self.fill_hole(first, border.len());

@@ -4,7 +4,8 @@ ghost use Rattle.half_edge_links.specs.Hull.{HasOneOutline, KeepsOneOutline};
 ghost use Rattle.half_edge_links.specs.Mesh.{with_vertex, connected, origin, rev, out_edge};
 ghost use Rattle.half_edge_links.specs.Grow.{hung, edge_into, line_split};
 ghost use Rattle.half_edge_links.specs.Triangles.{triangles};
-ghost use Rattle.half_edge_links.specs.Outline.{OuterChanges, IsEdge, ExtendsOuter, SplitsOuter, along};
+ghost use Rattle.half_edge_links.specs.Outline.{OuterChanges, IsEdge, ExtendsOuter, SplitsOuter};
+ghost use Rattle.half_edge_links.specs.Outline.{along};
 ghost use Rattle.half_edge_dcel.specs.Contents.{HasRoom, edges};
 ghost use Rattle.half_edge_dcel.specs.Growth.{Grows, AddsEdges, joins, with_ends};
 
@@ -17,7 +18,10 @@ impl<V, DE, UE, F> Dcel<V, DE, UE, F> {
     pub fn append_unconnected_vertex(&mut self, value: V) -> FixedVertexHandle
         requires room { HasRoom self.old 1 0 0 }
         ensures vertex { result ≡ length self.old.vertices }
-        ensures contents { self.new ≡ record self.old { mesh = with_vertex self.old.mesh; vertices = self.old.vertices ++ value ∷ [] } }
+        ensures contents { self.new ≡ record self.old {
+          mesh = with_vertex self.old.mesh;
+          vertices = self.old.vertices ++ value ∷ [];
+        } }
         ensures outline { KeepsOneOutline self.old.mesh self.new.mesh }
     {
         self.vertices.push_reserved(value);
@@ -36,12 +40,17 @@ impl<V, DE, UE, F> Dcel<V, DE, UE, F> {
         requires room { HasRoom self.old 0 1 0 }
 
         ensures mesh { self.new.mesh ≡ connected self.old.mesh a b }
-        ensures contents { self.new ≡ record self.old { mesh = self.new.mesh; directed = self.new.directed; undirected = self.new.undirected } }
+        ensures contents { self.new ≡ record self.old {
+          mesh = self.new.mesh;
+          directed = self.new.directed;
+          undirected = self.new.undirected;
+        } }
         ensures directed { Grows DE.is_default self.old.directed self.new.directed 2 }
         ensures undirected { Grows UE.is_default self.old.undirected self.new.undirected 1 }
         ensures edges { AddsEdges UE.is_default (edges self.old) (edges self.new) (joins a b ∷ []) }
         ensures triangles { triangles self.new.mesh ≡ [] }
-        ensures outer { OuterChanges self.old.mesh self.new.mesh (λ h. ⊥) (λ h u w. IsEdge 0 a b h u w ⊎ IsEdge 1 b a h u w) }
+        ensures outer { OuterChanges self.old.mesh self.new.mesh (λ h. ⊥)
+            (λ h u w. IsEdge 0 a b h u w ⊎ IsEdge 1 b a h u w) }
         ensures outline { HasOneOutline self.new.mesh }
     {
         self.links.connect(a.index(), b.index());
@@ -60,13 +69,21 @@ impl<V, DE, UE, F> Dcel<V, DE, UE, F> {
         requires room { HasRoom self.old 1 1 0 }
 
         ensures vertex { result ≡ length self.old.vertices }
-        ensures mesh { self.new.mesh ≡ hung (with_vertex self.old.mesh) (edge_into self.old.mesh end) result }
-        ensures contents { self.new ≡ record self.old { mesh = self.new.mesh; vertices = self.old.vertices ++ value ∷ []; directed = self.new.directed; undirected = self.new.undirected } }
+        ensures mesh { self.new.mesh ≡ hung (with_vertex self.old.mesh)
+            (edge_into self.old.mesh end) result }
+        ensures contents { self.new ≡ record self.old {
+          mesh = self.new.mesh;
+          vertices = self.old.vertices ++ value ∷ [];
+          directed = self.new.directed;
+          undirected = self.new.undirected;
+        } }
         ensures directed { Grows DE.is_default self.old.directed self.new.directed 2 }
         ensures undirected { Grows UE.is_default self.old.undirected self.new.undirected 1 }
-        ensures edges { AddsEdges UE.is_default (edges self.old) (edges self.new) (joins end result ∷ []) }
+        ensures edges { AddsEdges UE.is_default (edges self.old) (edges self.new)
+            (joins end result ∷ []) }
         ensures triangles { triangles self.new.mesh ≡ [] }
-        ensures outer { ExtendsOuter self.old.mesh self.new.mesh end result (length self.old.directed) }
+        ensures outer { ExtendsOuter self.old.mesh self.new.mesh end result
+            (length self.old.directed) }
         ensures outline { KeepsOneOutline self.old.mesh self.new.mesh }
     {
         let v = self.links.push_vertex();
@@ -77,8 +94,8 @@ impl<V, DE, UE, F> Dcel<V, DE, UE, F> {
         FixedVertexHandle::from_index(v)
     }
 
-    /// Splits an edge of a line of vertices at a new last vertex. Gives the vertex and both parts, directed as
-    /// `edge`, the first of which keeps the data of `edge`.
+    /// Splits an edge of a line of vertices at a new last vertex. Gives the vertex and both parts,
+    /// directed as `edge`, the first of which keeps the data of `edge`.
     pub fn split_edge_when_all_vertices_on_line(
         &mut self,
         edge: FixedDirectedEdgeHandle,
@@ -94,12 +111,21 @@ impl<V, DE, UE, F> Dcel<V, DE, UE, F> {
         ensures vertex { result.0 ≡ length self.old.vertices }
         ensures parts { result.1 ≡ edge ∷ (length self.old.directed + 1) ∷ [] }
         ensures mesh { self.new.mesh ≡ line_split (with_vertex self.old.mesh) edge result.0 }
-        ensures contents { self.new ≡ record self.old { mesh = self.new.mesh; vertices = self.old.vertices ++ value ∷ []; directed = self.new.directed; undirected = self.new.undirected } }
+        ensures contents { self.new ≡ record self.old {
+          mesh = self.new.mesh;
+          vertices = self.old.vertices ++ value ∷ [];
+          directed = self.new.directed;
+          undirected = self.new.undirected;
+        } }
         ensures directed { Grows DE.is_default self.old.directed self.new.directed 2 }
         ensures undirected { Grows UE.is_default self.old.undirected self.new.undirected 1 }
-        ensures edges { let m = self.old.mesh in AddsEdges UE.is_default (with_ends (edges self.old) (edge / 2) (along edge (origin m edge) result.0)) (edges self.new) (joins (origin m (rev edge)) result.0 ∷ []) }
+        ensures edges { let m = self.old.mesh in
+            AddsEdges UE.is_default (with_ends (edges self.old) (edge / 2)
+            (along edge (origin m edge) result.0)) (edges self.new)
+            (joins (origin m (rev edge)) result.0 ∷ []) }
         ensures triangles { triangles self.new.mesh ≡ [] }
-        ensures outer { SplitsOuter self.old.mesh self.new.mesh edge result.0 (length self.old.directed) }
+        ensures outer { SplitsOuter self.old.mesh self.new.mesh edge result.0
+            (length self.old.directed) }
         ensures outline { KeepsOneOutline self.old.mesh self.new.mesh }
     {
         let v = self.links.push_vertex();

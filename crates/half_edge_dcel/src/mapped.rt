@@ -20,8 +20,8 @@ fn mapped<A: Drop, B, M: Fn(A) -> B>(items: Vec<A>, mut into: Vec<B>, change: &M
 }
 
 impl<V, DE, UE, F> Dcel<V, DE, UE, F> {
-    /// The mesh with the data of each undirected edge as `change` turns them, and all else as it is. Where memory is
-    /// refused, gives the mesh back as it was.
+    /// The mesh with the data of each undirected edge as `change` turns them, and all else as it
+    /// is. Where memory is refused, gives the mesh back as it was.
     pub fn map_undirected_edges<T, M: Fn(UE) -> T>(
         self,
         change: M,

@@ -2,10 +2,13 @@
 ghost use Rattle.std.specs.Prelude.{◌≡◌, ◌≢◌, ◌+◌, ◌/◌, ◌<◌, ◌++◌, ◌∷◌, [], length};
 ghost use Rattle.half_edge_links.specs.Hull.{KeepsOneOutline};
 ghost use Rattle.half_edge_links.specs.Mesh.{with_vertex, origin, next, prev, rev, face};
-ghost use Rattle.half_edge_links.specs.Grow.{with_face_beside, closed, half_split, IsHalfSplittable};
-ghost use Rattle.half_edge_links.specs.Outline.{AddsTriangle, ReplacesOuter, ClosesOuter, HalfSplitsTriangles, along};
+ghost use Rattle.half_edge_links.specs.Grow.{with_face_beside, closed, half_split};
+ghost use Rattle.half_edge_links.specs.Grow.{IsHalfSplittable};
+ghost use Rattle.half_edge_links.specs.Outline.{AddsTriangle, ReplacesOuter, ClosesOuter};
+ghost use Rattle.half_edge_links.specs.Outline.{HalfSplitsTriangles, along};
 ghost use Rattle.half_edge_dcel.specs.Contents.{HasRoom, edges};
-ghost use Rattle.half_edge_dcel.specs.Growth.{Grows, MovesItem, MovesTwoItems, AddsEdges, SplitsEdge, joins};
+ghost use Rattle.half_edge_dcel.specs.Growth.{Grows, MovesItem, MovesTwoItems, AddsEdges};
+ghost use Rattle.half_edge_dcel.specs.Growth.{SplitsEdge, joins};
 
 use crate::dcel::Dcel;
 use crate::growth::{move_item, move_two_items, push_defaults};
@@ -28,13 +31,23 @@ impl<V, DE, UE, F> Dcel<V, DE, UE, F> {
 
         ensures vertex { result ≡ length self.old.vertices }
         ensures mesh { self.new.mesh ≡ with_face_beside (with_vertex self.old.mesh) edge result }
-        ensures contents { self.new ≡ record self.old { mesh = self.new.mesh; vertices = self.old.vertices ++ value ∷ []; directed = self.new.directed; undirected = self.new.undirected; faces = self.new.faces } }
+        ensures contents { self.new ≡ record self.old {
+          mesh = self.new.mesh;
+          vertices = self.old.vertices ++ value ∷ [];
+          directed = self.new.directed;
+          undirected = self.new.undirected;
+          faces = self.new.faces;
+        } }
         ensures directed { Grows DE.is_default self.old.directed self.new.directed 4 }
         ensures undirected { Grows UE.is_default self.old.undirected self.new.undirected 2 }
         ensures faces { Grows F.is_default self.old.faces self.new.faces 1 }
-        ensures edges { let m = self.old.mesh in AddsEdges UE.is_default (edges self.old) (edges self.new) (joins (origin m (rev edge)) result ∷ joins result (origin m edge) ∷ []) }
-        ensures triangles { let m = self.old.mesh in AddsTriangle m self.new.mesh (origin m edge) (origin m (rev edge)) result }
-        ensures outer { let n = length self.old.directed in ReplacesOuter self.old.mesh self.new.mesh edge result (n + 3) (n + 1) }
+        ensures edges { let m = self.old.mesh in
+            AddsEdges UE.is_default (edges self.old) (edges self.new)
+            (joins (origin m (rev edge)) result ∷ joins result (origin m edge) ∷ []) }
+        ensures triangles { let m = self.old.mesh in
+            AddsTriangle m self.new.mesh (origin m edge) (origin m (rev edge)) result }
+        ensures outer { let n = length self.old.directed in
+            ReplacesOuter self.old.mesh self.new.mesh edge result (n + 3) (n + 1) }
         ensures outline { KeepsOneOutline self.old.mesh self.new.mesh }
     {
         let v = self.links.push_vertex();
@@ -46,8 +59,8 @@ impl<V, DE, UE, F> Dcel<V, DE, UE, F> {
         FixedVertexHandle::from_index(v)
     }
 
-    /// Makes a face of an outer edge, the one after it and a new edge. Gives the new outer edge, from the start of
-    /// `edge` to the end of the one after it.
+    /// Makes a face of an outer edge, the one after it and a new edge. Gives the new outer edge,
+    /// from the start of `edge` to the end of the one after it.
     pub fn create_single_face_between_edge_and_next(
         &mut self,
         edge: FixedDirectedEdgeHandle,
@@ -63,12 +76,21 @@ impl<V, DE, UE, F> Dcel<V, DE, UE, F> {
 
         ensures edge { result ≡ length self.old.directed + 1 }
         ensures mesh { self.new.mesh ≡ closed self.old.mesh edge }
-        ensures contents { self.new ≡ record self.old { mesh = self.new.mesh; directed = self.new.directed; undirected = self.new.undirected; faces = self.new.faces } }
+        ensures contents { self.new ≡ record self.old {
+          mesh = self.new.mesh;
+          directed = self.new.directed;
+          undirected = self.new.undirected;
+          faces = self.new.faces;
+        } }
         ensures directed { Grows DE.is_default self.old.directed self.new.directed 2 }
         ensures undirected { Grows UE.is_default self.old.undirected self.new.undirected 1 }
         ensures faces { Grows F.is_default self.old.faces self.new.faces 1 }
-        ensures edges { let m = self.old.mesh in AddsEdges UE.is_default (edges self.old) (edges self.new) (joins (origin m (rev (next m edge))) (origin m edge) ∷ []) }
-        ensures triangles { let m = self.old.mesh in AddsTriangle m self.new.mesh (origin m edge) (origin m (next m edge)) (origin m (rev (next m edge))) }
+        ensures edges { let m = self.old.mesh in
+            AddsEdges UE.is_default (edges self.old) (edges self.new)
+            (joins (origin m (rev (next m edge))) (origin m edge) ∷ []) }
+        ensures triangles { let m = self.old.mesh in
+            AddsTriangle m self.new.mesh (origin m edge) (origin m (next m edge))
+            (origin m (rev (next m edge))) }
         ensures outer { ClosesOuter self.old.mesh self.new.mesh edge (length self.old.directed) }
         ensures outline { KeepsOneOutline self.old.mesh self.new.mesh }
     {
@@ -80,9 +102,9 @@ impl<V, DE, UE, F> Dcel<V, DE, UE, F> {
         FixedDirectedEdgeHandle::from_index(n + 1)
     }
 
-    /// Splits an edge with an inner face on its left and the outer one on its right at a new last vertex, which is
-    /// joined to the opposite corner. Gives the vertex and both parts, directed as `edge`, the first of which keeps the
-    /// data of `edge`.
+    /// Splits an edge with an inner face on its left and the outer one on its right at a new last
+    /// vertex, which is joined to the opposite corner. Gives the vertex and both parts, directed as
+    /// `edge`, the first of which keeps the data of `edge`.
     pub fn split_half_edge(
         &mut self,
         edge: FixedDirectedEdgeHandle,
@@ -98,13 +120,25 @@ impl<V, DE, UE, F> Dcel<V, DE, UE, F> {
         ensures vertex { result.0 ≡ length self.old.vertices }
         ensures parts { let n = length self.old.directed in result.1 ≡ n ∷ (n + 2) ∷ [] }
         ensures mesh { self.new.mesh ≡ half_split (with_vertex self.old.mesh) edge result.0 }
-        ensures contents { self.new ≡ record self.old { mesh = self.new.mesh; vertices = self.old.vertices ++ value ∷ []; directed = self.new.directed; undirected = self.new.undirected; faces = self.new.faces } }
-        ensures directed { MovesTwoItems DE.is_default self.old.directed self.new.directed edge (rev edge) 2 }
-        ensures undirected { MovesItem UE.is_default self.old.undirected self.new.undirected (edge / 2) 1 }
+        ensures contents { self.new ≡ record self.old {
+          mesh = self.new.mesh;
+          vertices = self.old.vertices ++ value ∷ [];
+          directed = self.new.directed;
+          undirected = self.new.undirected;
+          faces = self.new.faces;
+        } }
+        ensures directed { MovesTwoItems DE.is_default self.old.directed self.new.directed edge
+            (rev edge) 2 }
+        ensures undirected { MovesItem UE.is_default self.old.undirected self.new.undirected
+            (edge / 2) 1 }
         ensures faces { Grows F.is_default self.old.faces self.new.faces 1 }
-        ensures edges { let m = self.old.mesh in SplitsEdge UE.is_default (edges self.old) (edges self.new) (edge / 2) (along edge (origin m (prev m edge)) result.0) (joins (origin m edge) result.0) (joins result.0 (origin m (rev edge)) ∷ []) }
+        ensures edges { let m = self.old.mesh in
+            SplitsEdge UE.is_default (edges self.old) (edges self.new) (edge / 2)
+            (along edge (origin m (prev m edge)) result.0) (joins (origin m edge) result.0)
+            (joins result.0 (origin m (rev edge)) ∷ []) }
         ensures triangles { HalfSplitsTriangles self.old.mesh self.new.mesh result.0 edge }
-        ensures outer { let n = length self.old.directed in ReplacesOuter self.old.mesh self.new.mesh (rev edge) result.0 (n + 3) (n + 1) }
+        ensures outer { let n = length self.old.directed in
+            ReplacesOuter self.old.mesh self.new.mesh (rev edge) result.0 (n + 3) (n + 1) }
         ensures outline { KeepsOneOutline self.old.mesh self.new.mesh }
     {
         let v = self.links.push_vertex();

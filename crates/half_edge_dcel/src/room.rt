@@ -9,8 +9,9 @@ use half_edge_links::ReserveError;
 use std::alloc::Global;
 
 impl<V, DE, UE, F> Dcel<V, DE, UE, F> {
-    /// Makes room for these totals, the outer face among them. After an error the mesh is as it was: `TooMany` comes
-    /// where a total passes `MAX_ELEMENTS`, and is looked at first, and `OutOfMemory` where memory was refused.
+    /// Makes room for these totals, the outer face among them. After an error the mesh is as it
+    /// was: `TooMany` comes where a total passes `MAX_ELEMENTS`, and is looked at first, and
+    /// `OutOfMemory` where memory was refused.
     pub fn reserve_capacity(
         &mut self,
         vertices: usize,
@@ -20,8 +21,10 @@ impl<V, DE, UE, F> Dcel<V, DE, UE, F> {
         ensures contents { self.new ≡ record self.old { room = self.new.room } }
         ensures ok { OnOk result (HasRoomFor self.new.room vertices undirected_edges faces) }
         ensures kept { KeepsRoom self.old.room self.new.room }
-        ensures too_many { result ≡ Err ReserveError.TooMany → ¬ AreFewEnough vertices undirected_edges faces }
-        ensures few_enough { ¬ AreFewEnough vertices undirected_edges faces → result ≡ Err ReserveError.TooMany }
+        ensures too_many { result ≡ Err ReserveError.TooMany →
+            ¬ AreFewEnough vertices undirected_edges faces }
+        ensures few_enough { ¬ AreFewEnough vertices undirected_edges faces →
+            result ≡ Err ReserveError.TooMany }
         ensures had_room { HasRoomFor self.old.room vertices undirected_edges faces → IsOk result }
     {
         self.links.reserve(vertices, undirected_edges, faces)?;
@@ -46,7 +49,13 @@ impl<V, DE, UE, F> Dcel<V, DE, UE, F> {
         DE: Drop,
         UE: Drop,
         F: Drop,
-        ensures contents { self.new ≡ record self.old { mesh = empty; vertices = []; directed = []; undirected = []; faces = [] } }
+        ensures contents { self.new ≡ record self.old {
+          mesh = empty;
+          vertices = [];
+          directed = [];
+          undirected = [];
+          faces = [];
+        } }
     {
         self.links.clear();
         self.vertices.clear();
@@ -55,8 +64,9 @@ impl<V, DE, UE, F> Dcel<V, DE, UE, F> {
         self.faces.clear();
     }
 
-    /// An empty mesh with room for these totals, the outer face among them, or a refusal as of `reserve_capacity`. Where
-    /// no vertex and no edge is asked for, and no face beside the outer one, it takes no memory and is never refused.
+    /// An empty mesh with room for these totals, the outer face among them, or a refusal as of
+    /// `reserve_capacity`. Where no vertex and no edge is asked for, and no face beside the outer
+    /// one, it takes no memory and is never refused.
     pub fn with_capacity(
         alloc: Global,
         vertices: usize,
@@ -70,8 +80,10 @@ impl<V, DE, UE, F> Dcel<V, DE, UE, F> {
         F: Default + Drop,
         ensures contents { IfOk result (IsEmptyMesh F.is_default) }
         ensures room { IfOk result (λ d. HasRoomFor d.room vertices undirected_edges faces) }
-        ensures too_many { result ≡ Err ReserveError.TooMany → ¬ AreFewEnough vertices undirected_edges faces }
-        ensures few_enough { ¬ AreFewEnough vertices undirected_edges faces → result ≡ Err ReserveError.TooMany }
+        ensures too_many { result ≡ Err ReserveError.TooMany →
+            ¬ AreFewEnough vertices undirected_edges faces }
+        ensures few_enough { ¬ AreFewEnough vertices undirected_edges faces →
+            result ≡ Err ReserveError.TooMany }
         ensures nothing { vertices ≡ 0 → undirected_edges ≡ 0 → faces ≤ 1 → IsOk result }
     {
         let mut mesh = Dcel::new(alloc);

@@ -1,14 +1,17 @@
 //! Taking single edges and faces out, with their data.
-ghost use Rattle.std.specs.Prelude.{◌≡◌, ◌+◌, ◌*◌, ◌/◌, ◌-◌, ◌<◌, ◌≤◌, ◌∷◌, ◌++◌, [], length, vec_len, vec_capacity};
+ghost use Rattle.std.specs.Prelude.{◌≡◌, ◌+◌, ◌*◌, ◌/◌, ◌-◌, ◌<◌, ◌≤◌, ◌∷◌, ◌++◌, []};
+ghost use Rattle.std.specs.Prelude.{length, vec_len, vec_capacity};
 ghost use Rattle.half_edge_links.specs.Mesh.{origin, next, prev, face, face_edge, rev, IsInner};
 ghost use Rattle.half_edge_links.specs.Hull.{IsPendant, KeepsOneOutline};
 ghost use Rattle.half_edge_links.specs.Outline.{ends};
 ghost use Rattle.half_edge_links.specs.Peel.{IsPeelable, Peels};
-ghost use Rattle.half_edge_links.specs.Remove.{Opens, Removes, IsRemovable, IsOpenTriangle, ClosesLoop, after_removal};
+ghost use Rattle.half_edge_links.specs.Remove.{Opens, Removes, IsRemovable, IsOpenTriangle};
+ghost use Rattle.half_edge_links.specs.Remove.{ClosesLoop, after_removal};
 ghost use Rattle.half_edge_links.specs.Triangles.{triangles, triangle_at};
 ghost use Rattle.half_edge_dcel.specs.Contents.{IsMeshWithData};
 ghost use Rattle.half_edge_dcel.specs.Growth.{joins};
-ghost use Rattle.half_edge_dcel.specs.Removal.{TakesOut, TakesOutPair, LosesEdges, LosesFaces, GivesFace, full_edges, full_faces};
+ghost use Rattle.half_edge_dcel.specs.Removal.{TakesOut, TakesOutPair, LosesEdges, LosesFaces};
+ghost use Rattle.half_edge_dcel.specs.Removal.{GivesFace, full_edges, full_faces};
 
 use crate::dcel::Dcel;
 use half_edge_links::reversed;
@@ -32,12 +35,18 @@ impl<V, DE, UE, F> Dcel<V, DE, UE, F> {
         requires { IsRemovable self.old.mesh edge }
 
         ensures removes { Removes self.old.mesh self.new.mesh edge }
-        ensures contents { self.new ≡ record self.old { mesh = self.new.mesh; directed = self.new.directed; undirected = self.new.undirected } }
-        ensures edges { let m = self.old.mesh in LosesEdges self.old self.new (joins (origin m edge) (origin m (rev edge)) ∷ []) }
+        ensures contents { self.new ≡ record self.old {
+          mesh = self.new.mesh;
+          directed = self.new.directed;
+          undirected = self.new.undirected;
+        } }
+        ensures edges { let m = self.old.mesh in
+            LosesEdges self.old self.new (joins (origin m edge) (origin m (rev edge)) ∷ []) }
         ensures taken { TakesOut (full_edges self.old) (full_edges self.new) (edge / 2) }
         ensures triangles { triangles self.new.mesh ≡ triangles self.old.mesh }
         ensures whole { IsMeshWithData self.old }
-        ensures outline { IsPendant self.old.mesh edge → KeepsOneOutline self.old.mesh self.new.mesh }
+        ensures outline { IsPendant self.old.mesh edge →
+            KeepsOneOutline self.old.mesh self.new.mesh }
     {
         let _whole = self.num_vertices();
         self.links.remove_edge(edge);
@@ -50,8 +59,12 @@ impl<V, DE, UE, F> Dcel<V, DE, UE, F> {
         requires { IsInner self.old.mesh face }
 
         ensures opens { Opens self.old.mesh self.new.mesh face }
-        ensures contents { self.new ≡ record self.old { mesh = self.new.mesh; faces = self.new.faces } }
-        ensures faces { GivesFace self.old self.new (triangle_at self.old.mesh (face_edge self.old.mesh face)) result }
+        ensures contents { self.new ≡ record self.old {
+          mesh = self.new.mesh;
+          faces = self.new.faces;
+        } }
+        ensures faces { GivesFace self.old self.new
+            (triangle_at self.old.mesh (face_edge self.old.mesh face)) result }
         ensures ends { ends self.new.mesh ≡ ends self.old.mesh }
         ensures spare { length self.new.faces + 1 ≤ self.new.room.faces }
         ensures whole { IsMeshWithData self.old }
@@ -62,8 +75,9 @@ impl<V, DE, UE, F> Dcel<V, DE, UE, F> {
         self.faces.swap_remove(face as usize - 1)
     }
 
-    // Removes an edge with an inner face on its left and the outer face on its right, and that face. The last edge
-    // and the last face take their indexes. Gives the next edge round the origin.
+    // Removes an edge with an inner face on its left and the outer face on its right, and that
+    // face. The last edge and the last face take their indexes. Gives the next edge round the
+    // origin.
     pub(crate) fn peel(&mut self, edge: u32) -> u32
     where
         DE: Drop,
@@ -72,8 +86,14 @@ impl<V, DE, UE, F> Dcel<V, DE, UE, F> {
         requires { IsPeelable self.old.mesh edge }
 
         ensures peels { Peels self.old.mesh self.new.mesh edge }
-        ensures contents { self.new ≡ record self.old { mesh = self.new.mesh; directed = self.new.directed; undirected = self.new.undirected; faces = self.new.faces } }
-        ensures edges { let m = self.old.mesh in LosesEdges self.old self.new (joins (origin m edge) (origin m (rev edge)) ∷ []) }
+        ensures contents { self.new ≡ record self.old {
+          mesh = self.new.mesh;
+          directed = self.new.directed;
+          undirected = self.new.undirected;
+          faces = self.new.faces;
+        } }
+        ensures edges { let m = self.old.mesh in
+            LosesEdges self.old self.new (joins (origin m edge) (origin m (rev edge)) ∷ []) }
         ensures faces { LosesFaces self.old self.new (triangle_at self.old.mesh edge ∷ []) }
         ensures spoke { result ≡ after_removal self.old.mesh edge (rev (prev self.old.mesh edge)) }
         ensures whole { IsMeshWithData self.old }
@@ -93,8 +113,15 @@ impl<V, DE, UE, F> Dcel<V, DE, UE, F> {
         requires room { length self.old.faces + 1 ≤ self.old.room.faces }
 
         ensures closes { ClosesLoop self.old.mesh self.new.mesh edge }
-        ensures contents { self.new ≡ record self.old { mesh = self.new.mesh; faces = self.new.faces } }
-        ensures faces { let m = self.old.mesh in full_faces self.new ≡ full_faces self.old ++ record { corners = triangle_at m edge; value = value } ∷ [] }
+        ensures contents { self.new ≡ record self.old {
+          mesh = self.new.mesh;
+          faces = self.new.faces;
+        } }
+        ensures faces { let m = self.old.mesh in
+            full_faces self.new ≡ full_faces self.old ++ record {
+              corners = triangle_at m edge;
+              value = value;
+            } ∷ [] }
         ensures ends { ends self.new.mesh ≡ ends self.old.mesh }
     {
         self.links.close_face(edge);

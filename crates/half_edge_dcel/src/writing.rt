@@ -12,7 +12,8 @@ impl<V, DE, UE, F> Dcel<V, DE, UE, F> {
     /// The data of a directed edge, for writing.
     pub fn directed_edge_data_mut(&mut self, edge: FixedDirectedEdgeHandle) -> &mut DE
         requires { edge < length self.old.directed }
-        ensures* writes_back { sem 𝓛 (Lends (the_row V.row DE.row UE.row F.row) DE.row self.entry result (with_directed self.old edge)) }
+        ensures* writes_back { sem 𝓛 (Lends (the_row V.row DE.row UE.row F.row) DE.row self.entry
+            result (with_directed self.old edge)) }
         ensures value { slice_get self.old.directed edge ≡ Some result.now }
     {
         &mut self.directed[edge.index() as usize]
@@ -21,7 +22,8 @@ impl<V, DE, UE, F> Dcel<V, DE, UE, F> {
     /// The data of an undirected edge, for writing.
     pub fn undirected_edge_data_mut(&mut self, edge: FixedUndirectedEdgeHandle) -> &mut UE
         requires { edge < length self.old.undirected }
-        ensures* writes_back { sem 𝓛 (Lends (the_row V.row DE.row UE.row F.row) UE.row self.entry result (with_undirected self.old edge)) }
+        ensures* writes_back { sem 𝓛 (Lends (the_row V.row DE.row UE.row F.row) UE.row self.entry
+            result (with_undirected self.old edge)) }
         ensures value { slice_get self.old.undirected edge ≡ Some result.now }
     {
         &mut self.undirected[edge.index() as usize]
@@ -30,7 +32,8 @@ impl<V, DE, UE, F> Dcel<V, DE, UE, F> {
     /// The data of a face, the outer one among them, for writing.
     pub fn face_data_mut(&mut self, face: FixedFaceHandle) -> &mut F
         requires { face ≤ length self.old.faces }
-        ensures* writes_back { sem 𝓛 (Lends (the_row V.row DE.row UE.row F.row) F.row self.entry result (with_face self.old face)) }
+        ensures* writes_back { sem 𝓛 (Lends (the_row V.row DE.row UE.row F.row) F.row self.entry
+            result (with_face self.old face)) }
         ensures value { slice_get (self.old.outer ∷ self.old.faces) face ≡ Some result.now }
     {
         if face.is_outer() {

@@ -33,8 +33,8 @@ impl FixedVertexHandle {
     }
 }
 
-/// A directed edge of a mesh, by its index. Edges `2 k` and `2 k + 1` are the two directions of undirected edge
-/// `k`.
+/// A directed edge of a mesh, by its index. Edges `2 k` and `2 k + 1` are the two directions of
+/// undirected edge `k`.
 #[derive(Clone, Copy, PartialEq, Eq, PartialOrd, Ord, Hash, Debug)]
 pub struct FixedDirectedEdgeHandle {
     index: u32,

@@ -1,11 +1,13 @@
 //! Changes inside the outer loop: an edge is turned, a vertex is put into a face or on an edge.
 ghost use Rattle.std.specs.Prelude.{◌≡◌, ◌≢◌, ◌+◌, ◌-◌, length, Some};
 ghost use Rattle.half_edge_links.specs.Hull.{KeepsOneOutline};
-ghost use Rattle.half_edge_links.specs.Mesh.{face, origin, next, prev, rev, IsInnerEdge, IsAlone, AreSoundLinks};
+ghost use Rattle.half_edge_links.specs.Mesh.{face, origin, next, prev, rev, IsInnerEdge, IsAlone};
+ghost use Rattle.half_edge_links.specs.Mesh.{AreSoundLinks};
 ghost use Rattle.half_edge_links.specs.Flip.{Flips, IsFlippable, flipped};
 ghost use Rattle.half_edge_links.specs.Insert.{Inserts, inserted};
 ghost use Rattle.half_edge_links.specs.Room.{HasEdgeRoom, HasFaceRoom};
-ghost use Rattle.half_edge_links.specs.Triangles.{triangles, FlipsTriangles, InsertsTriangles, SplitsTriangles};
+ghost use Rattle.half_edge_links.specs.Triangles.{triangles, FlipsTriangles, InsertsTriangles};
+ghost use Rattle.half_edge_links.specs.Triangles.{SplitsTriangles};
 ghost use Rattle.half_edge_links.specs.Outline.{KeepsOuter, MovesEdge, InsertsEnds, SplitsEnds};
 
 use crate::links::Links;
@@ -15,12 +17,15 @@ impl Links {
     /// Turns edge `e` between two inner faces so that it joins the two opposite corners.
     pub fn flip(&mut self, e: u32)
         requires flippable { IsFlippable self.old.mesh e }
-        requires corners { origin self.old.mesh (prev self.old.mesh e) ≢ origin self.old.mesh (prev self.old.mesh (rev e)) }
+        requires corners { origin self.old.mesh (prev self.old.mesh e) ≢
+            origin self.old.mesh (prev self.old.mesh (rev e)) }
         ensures mesh { self.new.mesh ≡ flipped self.old.mesh e }
         ensures room { self.new.room ≡ self.old.room }
         ensures sound { AreSoundLinks self.old.mesh }
         ensures links { Flips self.old.mesh self.new.mesh e }
-        ensures ends { MovesEdge self.old.mesh self.new.mesh e (origin self.old.mesh (prev self.old.mesh e)) (origin self.old.mesh (prev self.old.mesh (rev e))) }
+        ensures ends { MovesEdge self.old.mesh self.new.mesh e
+            (origin self.old.mesh (prev self.old.mesh e))
+            (origin self.old.mesh (prev self.old.mesh (rev e))) }
         ensures triangles { FlipsTriangles self.old.mesh self.new.mesh e }
         ensures outer { KeepsOuter self.old.mesh self.new.mesh }
         ensures outline { KeepsOneOutline self.old.mesh self.new.mesh }
@@ -83,7 +88,9 @@ impl Links {
         ensures mesh { self.new.mesh ≡ inserted self.old.mesh v edge }
         ensures room { self.new.room ≡ self.old.room }
         ensures sound { AreSoundLinks self.old.mesh }
-        ensures links { let m = self.old.mesh in Inserts m self.new.mesh v (face m edge) edge (length m.half_edges) (length m.face_edges) }
+        ensures links { let m = self.old.mesh in
+            Inserts m self.new.mesh v (face m edge) edge (length m.half_edges)
+            (length m.face_edges) }
         ensures ends { InsertsEnds self.old.mesh self.new.mesh v edge }
         ensures triangles { InsertsTriangles self.old.mesh self.new.mesh v edge }
         ensures outer { KeepsOuter self.old.mesh self.new.mesh }
@@ -155,8 +162,8 @@ impl Links {
         self.out_edges[v as usize] = Some(n + 1);
     }
 
-    /// Splits `edge`, between two inner faces, at vertex `v`: the first half of it is the next new edge, and
-    /// `edge` itself becomes the one from the corner on its right to `v`.
+    /// Splits `edge`, between two inner faces, at vertex `v`: the first half of it is the next new
+    /// edge, and `edge` itself becomes the one from the corner on its right to `v`.
     pub fn split_edge(&mut self, v: u32, edge: u32)
         requires flippable { IsFlippable self.old.mesh edge }
         requires alone { IsAlone self.old.mesh v }

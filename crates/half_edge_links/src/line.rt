@@ -1,10 +1,13 @@
 //! The first edge, and a mesh of one line.
 ghost use Rattle.std.specs.Prelude.{◌≡◌, ◌≢◌, ◌+◌, ◌-◌, ◌<◌, length, Some, [], ◌∷◌};
 ghost use Rattle.half_edge_links.specs.Hull.{HasOneOutline, KeepsOneOutline};
-ghost use Rattle.half_edge_links.specs.Mesh.{face, origin, next, prev, IsAlone, connected, AreSoundLinks};
+ghost use Rattle.half_edge_links.specs.Mesh.{face, origin, next, prev, IsAlone, connected};
+ghost use Rattle.half_edge_links.specs.Mesh.{AreSoundLinks};
 ghost use Rattle.half_edge_links.specs.Room.{HasEdgeRoom};
-ghost use Rattle.half_edge_links.specs.Outline.{SplitsOuter, AddsEdge, MovesEdge, SplitsLineEnds, ExtendsOuter};
-ghost use Rattle.half_edge_links.specs.Grow.{hung, slid, IsSlidable, Hangs, Slides, IsLineEdge, line_split, SplitsLine, IsOnLine, edge_into};
+ghost use Rattle.half_edge_links.specs.Outline.{SplitsOuter, AddsEdge, MovesEdge, SplitsLineEnds};
+ghost use Rattle.half_edge_links.specs.Outline.{ExtendsOuter};
+ghost use Rattle.half_edge_links.specs.Grow.{hung, slid, IsSlidable, Hangs, Slides, IsLineEdge};
+ghost use Rattle.half_edge_links.specs.Grow.{line_split, SplitsLine, IsOnLine, edge_into};
 
 use crate::links::Links;
 use crate::records::{HalfEdge, read, reversed, slide_edges};
@@ -47,9 +50,11 @@ impl Links {
         ensures mesh { self.new.mesh ≡ hung self.old.mesh (edge_into self.old.mesh u) v }
         ensures room { self.new.room ≡ self.old.room }
         ensures sound { AreSoundLinks self.old.mesh }
-        ensures links { Hangs self.old.mesh self.new.mesh (edge_into self.old.mesh u) v (length self.old.mesh.half_edges) }
+        ensures links { Hangs self.old.mesh self.new.mesh (edge_into self.old.mesh u) v
+            (length self.old.mesh.half_edges) }
         ensures ends { AddsEdge self.old.mesh self.new.mesh u v }
-        ensures outer { ExtendsOuter self.old.mesh self.new.mesh u v (length self.old.mesh.half_edges) }
+        ensures outer { ExtendsOuter self.old.mesh self.new.mesh u v
+            (length self.old.mesh.half_edges) }
         ensures outline { KeepsOneOutline self.old.mesh self.new.mesh }
     {
         let _count = self.half_edge_count();
@@ -64,8 +69,10 @@ impl Links {
         ensures mesh { self.new.mesh ≡ slid self.old.mesh e }
         ensures room { self.new.room ≡ self.old.room }
         ensures sound { AreSoundLinks self.old.mesh }
-        ensures ends { let m = self.old.mesh in MovesEdge m self.new.mesh e (origin m e) (origin m (next m (next m e))) }
-        ensures links { let m = self.old.mesh in Slides m self.new.mesh e (next m e) (next m (next m e)) }
+        ensures ends { let m = self.old.mesh in
+            MovesEdge m self.new.mesh e (origin m e) (origin m (next m (next m e))) }
+        ensures links { let m = self.old.mesh in
+            Slides m self.new.mesh e (next m e) (next m (next m e)) }
         ensures outline { KeepsOneOutline self.old.mesh self.new.mesh }
     {
         let t = reversed(e);
@@ -86,8 +93,10 @@ impl Links {
         ensures room { self.new.room ≡ self.old.room }
         ensures sound { AreSoundLinks self.old.mesh }
         ensures ends { SplitsLineEnds self.old.mesh self.new.mesh e v }
-        ensures links { SplitsLine self.old.mesh self.new.mesh e v (length self.old.mesh.half_edges) }
-        ensures outer { SplitsOuter self.old.mesh self.new.mesh e v (length self.old.mesh.half_edges) }
+        ensures links { SplitsLine self.old.mesh self.new.mesh e v
+            (length self.old.mesh.half_edges) }
+        ensures outer { SplitsOuter self.old.mesh self.new.mesh e v
+            (length self.old.mesh.half_edges) }
         ensures outline { KeepsOneOutline self.old.mesh self.new.mesh }
     {
         let n = self.half_edge_count() as u32;

@@ -1,14 +1,15 @@
 //! The vertices, edges and faces of a mesh, and reads of them.
 ghost use Rattle.std.specs.Prelude.{◌≡◌, ◌+◌, ◌-◌, ◌<◌, ◌≤◌, length, Option, None, vec_capacity};
-ghost use Rattle.half_edge_links.specs.Mesh.{edge_at, empty, IsInner, AreSoundLinks, IsValidMesh, face_edge, out_edge};
+ghost use Rattle.half_edge_links.specs.Mesh.{edge_at, empty, IsInner, AreSoundLinks, IsValidMesh};
+ghost use Rattle.half_edge_links.specs.Mesh.{face_edge, out_edge};
 
 use crate::records::HalfEdge;
 use crate::room::MAX_ELEMENTS;
 use std::alloc::Global;
 use std::marker::Model;
 
-/// The vertices, directed edges and faces of a mesh, with no data. Directed edges `2 k` and `2 k + 1` are the
-/// two sides of edge `k`, and face 0 is the outer face.
+/// The vertices, directed edges and faces of a mesh, with no data. Directed edges `2 k` and `2 k +
+/// 1` are the two sides of edge `k`, and face 0 is the outer face.
 #[derive(Drop)]
 pub struct Links {
     // For each vertex, an edge that starts there.

@@ -4,8 +4,12 @@ ghost use Rattle.half_edge_links.specs.Hull.{KeepsOneOutline};
 ghost use Rattle.half_edge_links.specs.Mesh.{origin, next, rev, IsAlone, AreSoundLinks};
 ghost use Rattle.half_edge_links.specs.Room.{HasEdgeRoom, HasFaceRoom};
 ghost use Rattle.half_edge_links.specs.Triangles.{triangles};
-ghost use Rattle.half_edge_links.specs.Outline.{HangsOuter, ClosesOuter, ReplacesOuter, AddsTriangle, HalfSplitsTriangles, AddsEdge, AddsTwoEdges, HalfSplitsEnds};
-ghost use Rattle.half_edge_links.specs.Grow.{HalfSplits, hung, closed, IsOuter, IsClosable, Hangs, Closes, with_face_beside, AddsFace, IsHalfSplittable, half_split};
+ghost use Rattle.half_edge_links.specs.Outline.{HangsOuter, ClosesOuter, ReplacesOuter};
+ghost use Rattle.half_edge_links.specs.Outline.{AddsTriangle, HalfSplitsTriangles, AddsEdge};
+ghost use Rattle.half_edge_links.specs.Outline.{AddsTwoEdges, HalfSplitsEnds};
+ghost use Rattle.half_edge_links.specs.Grow.{HalfSplits, hung, closed, IsOuter, IsClosable, Hangs};
+ghost use Rattle.half_edge_links.specs.Grow.{Closes, with_face_beside, AddsFace, IsHalfSplittable};
+ghost use Rattle.half_edge_links.specs.Grow.{half_split};
 
 use crate::links::Links;
 use crate::records::{close_edges, hang_edges, read, reversed};
@@ -22,7 +26,8 @@ impl Links {
         ensures ends { AddsEdge self.old.mesh self.new.mesh (origin self.old.mesh (rev x)) v }
         ensures links { Hangs self.old.mesh self.new.mesh x v (length self.old.mesh.half_edges) }
         ensures triangles { triangles self.new.mesh ≡ triangles self.old.mesh }
-        ensures outer { HangsOuter self.old.mesh self.new.mesh x v (length self.old.mesh.half_edges) }
+        ensures outer { HangsOuter self.old.mesh self.new.mesh x v
+            (length self.old.mesh.half_edges) }
         ensures outline { KeepsOneOutline self.old.mesh self.new.mesh }
     {
         let n = self.half_edges.len() as u32;
@@ -38,10 +43,15 @@ impl Links {
         ensures mesh { self.new.mesh ≡ closed self.old.mesh e }
         ensures room { self.new.room ≡ self.old.room }
         ensures sound { AreSoundLinks self.old.mesh }
-        ensures ends { AddsEdge self.old.mesh self.new.mesh (origin self.old.mesh (rev (next self.old.mesh e))) (origin self.old.mesh e) }
-        ensures links { Closes self.old.mesh self.new.mesh e (length self.old.mesh.half_edges) (length self.old.mesh.face_edges) }
-        ensures triangles { let m = self.old.mesh in AddsTriangle m self.new.mesh (origin m e) (origin m (next m e)) (origin m (rev (next m e))) }
-        ensures outer { ClosesOuter self.old.mesh self.new.mesh e (length self.old.mesh.half_edges) }
+        ensures ends { AddsEdge self.old.mesh self.new.mesh
+            (origin self.old.mesh (rev (next self.old.mesh e))) (origin self.old.mesh e) }
+        ensures links { Closes self.old.mesh self.new.mesh e (length self.old.mesh.half_edges)
+            (length self.old.mesh.face_edges) }
+        ensures triangles { let m = self.old.mesh in
+            AddsTriangle m self.new.mesh (origin m e) (origin m (next m e))
+            (origin m (rev (next m e))) }
+        ensures outer { ClosesOuter self.old.mesh self.new.mesh e
+            (length self.old.mesh.half_edges) }
         ensures outline { KeepsOneOutline self.old.mesh self.new.mesh }
     {
         let n = self.half_edges.len() as u32;
@@ -62,18 +72,22 @@ impl Links {
         ensures mesh { self.new.mesh ≡ with_face_beside self.old.mesh e v }
         ensures room { self.new.room ≡ self.old.room }
         ensures sound { AreSoundLinks self.old.mesh }
-        ensures ends { AddsTwoEdges self.old.mesh self.new.mesh (origin self.old.mesh (rev e)) v v (origin self.old.mesh e) }
-        ensures links { AddsFace self.old.mesh self.new.mesh e v (length self.old.mesh.half_edges) (length self.old.mesh.face_edges) }
-        ensures triangles { AddsTriangle self.old.mesh self.new.mesh (origin self.old.mesh e) (origin self.old.mesh (rev e)) v }
-        ensures outer { let n = length self.old.mesh.half_edges in ReplacesOuter self.old.mesh self.new.mesh e v (n + 3) (n + 1) }
+        ensures ends { AddsTwoEdges self.old.mesh self.new.mesh (origin self.old.mesh (rev e)) v v
+            (origin self.old.mesh e) }
+        ensures links { AddsFace self.old.mesh self.new.mesh e v (length self.old.mesh.half_edges)
+            (length self.old.mesh.face_edges) }
+        ensures triangles { AddsTriangle self.old.mesh self.new.mesh (origin self.old.mesh e)
+            (origin self.old.mesh (rev e)) v }
+        ensures outer { let n = length self.old.mesh.half_edges in
+            ReplacesOuter self.old.mesh self.new.mesh e v (n + 3) (n + 1) }
         ensures outline { KeepsOneOutline self.old.mesh self.new.mesh }
     {
         self.hang(e, v);
         self.close(e);
     }
 
-    /// Splits edge `e`, with an inner face on its left and the outer one on its right, at vertex `v`. Gives both
-    /// parts, directed as `e`.
+    /// Splits edge `e`, with an inner face on its left and the outer one on its right, at vertex
+    /// `v`. Gives both parts, directed as `e`.
     pub fn split_half_edge(&mut self, e: u32, v: u32) -> [u32; 2]
         requires half { IsHalfSplittable self.old.mesh e }
         requires alone { IsAlone self.old.mesh v }
@@ -83,10 +97,12 @@ impl Links {
         ensures mesh { self.new.mesh ≡ half_split self.old.mesh e v }
         ensures room { self.new.room ≡ self.old.room }
         ensures sound { AreSoundLinks self.old.mesh }
-        ensures links { HalfSplits self.old.mesh self.new.mesh e v (length self.old.mesh.half_edges) (length self.old.mesh.face_edges) }
+        ensures links { HalfSplits self.old.mesh self.new.mesh e v (length self.old.mesh.half_edges)
+            (length self.old.mesh.face_edges) }
         ensures ends { HalfSplitsEnds self.old.mesh self.new.mesh e v }
         ensures triangles { HalfSplitsTriangles self.old.mesh self.new.mesh v e }
-        ensures outer { let n = length self.old.mesh.half_edges in ReplacesOuter self.old.mesh self.new.mesh (rev e) v (n + 3) (n + 1) }
+        ensures outer { let n = length self.old.mesh.half_edges in
+            ReplacesOuter self.old.mesh self.new.mesh (rev e) v (n + 3) (n + 1) }
         ensures outline { KeepsOneOutline self.old.mesh self.new.mesh }
     {
         let n = self.half_edge_count() as u32;

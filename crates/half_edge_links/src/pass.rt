@@ -8,8 +8,8 @@ ghost use Rattle.half_edge_links.specs.Pass.{passed_edges, passed, IsPassable, P
 use crate::links::Links;
 use crate::records::{HalfEdge, read, reversed, set_next, set_origin, set_prev};
 
-// Lets edge `e`, with other side `t`, end at the far end of the edge `l` after it, whose other side is `k`; `z` is
-// the edge before `k`.
+// Lets edge `e`, with other side `t`, end at the far end of the edge `l` after it, whose other side
+// is `k`; `z` is the edge before `k`.
 #[tactic(auto, unfolding(crate::specs::Pass::passed_edges))]
 fn pass_edges(half_edges: &mut Vec<HalfEdge>, e: u32, t: u32, k: u32, l: u32, z: u32)
     requires e { e < length half_edges.old.items }
@@ -31,15 +31,17 @@ fn pass_edges(half_edges: &mut Vec<HalfEdge>, e: u32, t: u32, k: u32, l: u32, z:
 }
 
 impl Links {
-    /// Lets edge `e` of a line pass the vertex at its end, and end where the edge after it ends. The vertex is left
-    /// hanging there, by the edge after `e`.
+    /// Lets edge `e` of a line pass the vertex at its end, and end where the edge after it ends.
+    /// The vertex is left hanging there, by the edge after `e`.
     pub fn pass(&mut self, e: u32)
         requires { IsPassable self.old.mesh e }
         ensures mesh { self.new.mesh ≡ passed self.old.mesh e }
         ensures room { self.new.room ≡ self.old.room }
         ensures sound { AreSoundLinks self.old.mesh }
-        ensures ends { let m = self.old.mesh in MovesEdge m self.new.mesh e (origin m e) (origin m (rev (next m e))) }
-        ensures links { let m = self.old.mesh in Passes m self.new.mesh e (rev (next m e)) (next m e) }
+        ensures ends { let m = self.old.mesh in
+            MovesEdge m self.new.mesh e (origin m e) (origin m (rev (next m e))) }
+        ensures links { let m = self.old.mesh in
+            Passes m self.new.mesh e (rev (next m e)) (next m e) }
         ensures outline { KeepsOneOutline self.old.mesh self.new.mesh }
     {
         let t = reversed(e);

@@ -1,11 +1,13 @@
 //! One directed edge, and writes to single links of a list of them.
 ghost use Rattle.std.specs.Prelude.{◌≡◌, ◌+◌, ◌-◌, ◌<◌, ◌≤◌, length, vec_capacity};
 ghost use Rattle.half_edge_links.specs.Mesh.{face, edge_at, origin, next, prev, rev};
-ghost use Rattle.half_edge_links.specs.Grow.{with_next, with_prev, with_face, with_origin, hung_edges, closed_edges, slid_edges};
+ghost use Rattle.half_edge_links.specs.Grow.{with_next, with_prev, with_face, with_origin};
+ghost use Rattle.half_edge_links.specs.Grow.{hung_edges, closed_edges, slid_edges};
 
 use crate::room::MAX_ELEMENTS;
 
-/// A directed edge: where it starts, the edges after and before it in its loop, and the face on its left.
+/// A directed edge: where it starts, the edges after and before it in its loop, and the face on its
+/// left.
 #[derive(Clone, Copy, PartialEq, Eq, Debug)]
 pub struct HalfEdge {
     pub origin: u32,
@@ -80,7 +82,8 @@ pub(crate) fn hang_edges(half_edges: &mut Vec<HalfEdge>, x: u32, v: u32)
     requires next_within { (edge_at half_edges.old.items x).next < length half_edges.old.items }
     requires room { length half_edges.old.items + 2 ≤ vec_capacity half_edges.old }
     requires small { length half_edges.old.items + 2 ≤ MAX_ELEMENTS }
-    ensures items { half_edges.new.items ≡ hung_edges half_edges.old.items x (edge_at half_edges.old.items x).next v (length half_edges.old.items) }
+    ensures items { half_edges.new.items ≡ hung_edges half_edges.old.items x
+        (edge_at half_edges.old.items x).next v (length half_edges.old.items) }
     ensures capacity { vec_capacity half_edges.new ≡ vec_capacity half_edges.old }
 {
     let n = half_edges.len() as u32;
@@ -102,7 +105,8 @@ pub(crate) fn hang_edges(half_edges: &mut Vec<HalfEdge>, x: u32, v: u32)
     });
 }
 
-// Makes face `g` of edge `e`, the next one and a new edge, between the edges before and after the two.
+// Makes face `g` of edge `e`, the next one and a new edge, between the edges before and after the
+// two.
 #[tactic(auto, unfolding(crate::specs::Grow::closed_edges))]
 pub(crate) fn close_edges(half_edges: &mut Vec<HalfEdge>, e: u32, after: u32, g: u32)
     requires within { e < length half_edges.old.items }
@@ -111,7 +115,9 @@ pub(crate) fn close_edges(half_edges: &mut Vec<HalfEdge>, e: u32, after: u32, g:
     requires after_within { after < length half_edges.old.items }
     requires room { length half_edges.old.items + 2 ≤ vec_capacity half_edges.old }
     requires small { length half_edges.old.items + 2 ≤ MAX_ELEMENTS }
-    ensures items { half_edges.new.items ≡ closed_edges half_edges.old.items e (edge_at half_edges.old.items e).next (edge_at half_edges.old.items e).prev after (length half_edges.old.items) g }
+    ensures items { half_edges.new.items ≡ closed_edges half_edges.old.items e
+        (edge_at half_edges.old.items e).next (edge_at half_edges.old.items e).prev after
+        (length half_edges.old.items) g }
     ensures capacity { vec_capacity half_edges.new ≡ vec_capacity half_edges.old }
 {
     let n = half_edges.len() as u32;
@@ -137,8 +143,8 @@ pub(crate) fn close_edges(half_edges: &mut Vec<HalfEdge>, e: u32, after: u32, g:
     });
 }
 
-// Lets edge `e`, with other side `t`, end at the far end of the edge `k` after it, whose other side is `l`;
-// `z` is the edge before `t`.
+// Lets edge `e`, with other side `t`, end at the far end of the edge `k` after it, whose other side
+// is `l`; `z` is the edge before `t`.
 #[tactic(auto, unfolding(crate::specs::Grow::slid_edges))]
 pub(crate) fn slide_edges(half_edges: &mut Vec<HalfEdge>, e: u32, t: u32, k: u32, l: u32, z: u32)
     requires e { e < length half_edges.old.items }

@@ -1,7 +1,10 @@
 //! Writes to the lists of a mesh that take an edge, a face or a vertex out of it.
-ghost use Rattle.std.specs.Prelude.{◌≡◌, ◌≢◌, ℕ, ◌+◌, ◌-◌, ◌<◌, ◌≤◌, length, Option, Some, None, vec_capacity};
+ghost use Rattle.std.specs.Prelude.{◌≡◌, ◌≢◌, ℕ, ◌+◌, ◌-◌, ◌<◌, ◌≤◌};
+ghost use Rattle.std.specs.Prelude.{length, Option, Some, None, vec_capacity};
 ghost use Rattle.half_edge_links.specs.Mesh.{edge_at};
-ghost use Rattle.half_edge_links.specs.Remove.{with_loop_face, with_unlinked, with_filled, with_out_renamed, with_face_renamed, out_after, outer_beside, outer_after};
+ghost use Rattle.half_edge_links.specs.Remove.{with_loop_face, with_unlinked, with_filled};
+ghost use Rattle.half_edge_links.specs.Remove.{with_out_renamed, with_face_renamed, out_after};
+ghost use Rattle.half_edge_links.specs.Remove.{outer_beside, outer_after};
 ghost use Rattle.half_edge_links.specs.Move.{CanWalk, MovesOrigins, MovesNamed};
 ghost use Rattle.half_edge_links.specs.Renames.{renamed, pair_moved};
 ghost use Rattle.half_edge_links.specs.declared.room.TheConstants.{MAX_ELEMENTS};
@@ -54,8 +57,10 @@ pub(crate) fn fill(half_edges: &mut Vec<HalfEdge>, last: u32, hole: u32)
     requires small { length half_edges.old.items ≤ MAX_ELEMENTS }
     requires even_next { (edge_at half_edges.old.items last).next < length half_edges.old.items }
     requires even_prev { (edge_at half_edges.old.items last).prev < length half_edges.old.items }
-    requires odd_next { (edge_at half_edges.old.items (last + 1)).next < length half_edges.old.items }
-    requires odd_prev { (edge_at half_edges.old.items (last + 1)).prev < length half_edges.old.items }
+    requires odd_next { (edge_at half_edges.old.items (last + 1)).next <
+        length half_edges.old.items }
+    requires odd_prev { (edge_at half_edges.old.items (last + 1)).prev <
+        length half_edges.old.items }
     requires apart { hole ≢ last + 1 }
     ensures items { half_edges.new.items ≡ with_filled half_edges.old.items last hole }
     ensures capacity { vec_capacity half_edges.new ≡ vec_capacity half_edges.old }

@@ -23,8 +23,8 @@ pub fn are_few_enough(vertices: usize, undirected_edges: usize, faces: usize) ->
     vertices <= MAX_ELEMENTS && undirected_edges <= MAX_ELEMENTS / 2 && faces <= MAX_ELEMENTS
 }
 
-/// Whether a mesh with so many vertices may have no room for one more: each vertex goes with up to six directed
-/// edges.
+/// Whether a mesh with so many vertices may have no room for one more: each vertex goes with up to
+/// six directed edges.
 pub fn is_full(vertices: usize) -> bool
     ensures { IsTrue result ↔ MAX_ELEMENTS < 6 * (vertices + 1) }
 {
@@ -53,9 +53,11 @@ impl Links {
         ensures mesh { self.new.mesh ≡ self.old.mesh }
         ensures ok { OnOk result (HasRoomFor self.new.room vertices undirected_edges faces) }
         ensures kept { KeepsRoom self.old.room self.new.room }
-        ensures too_many { result ≡ Err ReserveError.TooMany → ¬ AreFewEnough vertices undirected_edges faces }
+        ensures too_many { result ≡ Err ReserveError.TooMany →
+            ¬ AreFewEnough vertices undirected_edges faces }
         ensures had_room { HasRoomFor self.old.room vertices undirected_edges faces → IsOk result }
-        ensures few_enough { ¬ AreFewEnough vertices undirected_edges faces → result ≡ Err ReserveError.TooMany }
+        ensures few_enough { ¬ AreFewEnough vertices undirected_edges faces →
+            result ≡ Err ReserveError.TooMany }
     {
         let more_vertices = vertices.saturating_sub(self.out_edges.len());
         if !are_few_enough(vertices, undirected_edges, faces) {

@@ -1,12 +1,17 @@
 //! Taking edges, faces and vertices out of a mesh.
 ghost use Rattle.std.specs.Prelude.{◌≡◌, ◌+◌, ◌-◌, ◌<◌, length};
 ghost use Rattle.half_edge_links.specs.Hull.{KeepsOneOutline, IsPendant};
-ghost use Rattle.half_edge_links.specs.Mesh.{origin, next, prev, face, rev, IsInner, IsAlone, AreSoundLinks};
+ghost use Rattle.half_edge_links.specs.Mesh.{origin, next, prev, face, rev, IsInner, IsAlone};
+ghost use Rattle.half_edge_links.specs.Mesh.{AreSoundLinks};
 ghost use Rattle.half_edge_links.specs.Triangles.{triangles};
 ghost use Rattle.half_edge_links.specs.Outline.{ends, AddsTriangle};
-ghost use Rattle.half_edge_links.specs.Taken.{RemovesTriangle, RemovesEnds, OpensOuter, ClosesLoopOuter, RemovesOuter, PeelsOuter, MovesTriangles, MovesEnds, MovesOuter};
+ghost use Rattle.half_edge_links.specs.Taken.{RemovesTriangle, RemovesEnds, OpensOuter};
+ghost use Rattle.half_edge_links.specs.Taken.{ClosesLoopOuter, RemovesOuter, PeelsOuter};
+ghost use Rattle.half_edge_links.specs.Taken.{MovesTriangles, MovesEnds, MovesOuter};
 ghost use Rattle.half_edge_links.specs.Room.{HasFaceRoom};
-ghost use Rattle.half_edge_links.specs.Remove.{opened, Opens, removed, Removes, IsRemovable, IsOpenTriangle, loop_closed, ClosesLoop, after_removal};
+ghost use Rattle.half_edge_links.specs.Remove.{opened, Opens, removed, Removes, IsRemovable};
+ghost use Rattle.half_edge_links.specs.Remove.{IsOpenTriangle, loop_closed, ClosesLoop};
+ghost use Rattle.half_edge_links.specs.Remove.{after_removal};
 ghost use Rattle.half_edge_links.specs.Peel.{IsPeelable, Peels};
 ghost use Rattle.half_edge_links.specs.Move.{MovesVertex};
 
@@ -43,7 +48,8 @@ impl Links {
         requires room { HasFaceRoom self.old.mesh self.old.room 1 }
         ensures mesh { self.new.mesh ≡ loop_closed self.old.mesh h }
         ensures closes { ClosesLoop self.old.mesh self.new.mesh h }
-        ensures triangles { let m = self.old.mesh in AddsTriangle m self.new.mesh (origin m h) (origin m (next m h)) (origin m (prev m h)) }
+        ensures triangles { let m = self.old.mesh in
+            AddsTriangle m self.new.mesh (origin m h) (origin m (next m h)) (origin m (prev m h)) }
         ensures ends { ends self.new.mesh ≡ ends self.old.mesh }
         ensures outer { ClosesLoopOuter self.old.mesh self.new.mesh h }
         ensures room { self.new.room ≡ self.old.room }
@@ -95,8 +101,9 @@ impl Links {
         pair_moved(last, e - e % 2, h)
     }
 
-    /// Removes edge `h`, with an inner face on its left and the outer face on its right, and that face. The
-    /// last face and the last edge take their indexes. Gives the next edge round the origin of `h`.
+    /// Removes edge `h`, with an inner face on its left and the outer face on its right, and that
+    /// face. The last face and the last edge take their indexes. Gives the next edge round the
+    /// origin of `h`.
     pub fn peel(&mut self, h: u32) -> u32
         requires { IsPeelable self.old.mesh h }
         ensures peels { Peels self.old.mesh self.new.mesh h }

@@ -1,5 +1,7 @@
 //! Edges together with the mesh that they lie in.
-ghost use Rattle.std.specs.Prelude.{◌≡◌, ◌≢◌, ℕ, ◌+◌, ◌*◌, ◌/◌, ◌<◌, ◌≤◌, ◌∷◌, [], length, slice_get, Some, ⊤, All, map, IsNone, IsSome, IfSome, IsTrue, ◌↔◌};
+ghost use Rattle.std.specs.Prelude.{◌≡◌, ◌≢◌, ℕ, ◌+◌, ◌*◌, ◌/◌, ◌<◌, ◌≤◌, ◌∷◌, [], length};
+ghost use Rattle.std.specs.Prelude.{slice_get, Some, ⊤, All, map, IsNone, IsSome, IfSome, IsTrue};
+ghost use Rattle.std.specs.Prelude.{◌↔◌};
 ghost use Rattle.half_edge_links.specs.Mesh.{origin, next, prev, face, rev, face_edge, out_edge};
 ghost use Rattle.half_edge_dcel.specs.Contents.{IsMeshWithData};
 
@@ -68,7 +70,9 @@ impl<'a, V, DE, UE, F> DirectedEdgeHandle<'a, V, DE, UE, F> {
     /// The vertices where the edge starts and ends.
     pub fn vertices(&self) -> [VertexHandle<'a, V, DE, UE, F>; 2]
         ensures dcel { All (λ v. v.dcel ≡ self.now.dcel) result }
-        ensures indexes { let m = self.now.dcel.now.mesh in map (λ v. v.index) result ≡ origin m self.now.index ∷ origin m (rev self.now.index) ∷ [] }
+        ensures indexes { let m = self.now.dcel.now.mesh in
+            map (λ v. v.index) result ≡ origin m self.now.index ∷ origin m (rev self.now.index) ∷
+            [] }
     {
         [self.from(), self.to()]
     }
@@ -150,7 +154,9 @@ impl<'a, V, DE, UE, F> DirectedEdgeHandle<'a, V, DE, UE, F> {
     /// The third vertex of the face on the left of the edge, if that face is an inner one.
     pub fn opposite_vertex(&self) -> Option<VertexHandle<'a, V, DE, UE, F>>
         ensures none { IsNone result ↔ (face self.now.dcel.now.mesh self.now.index ≡ 0) }
-        ensures vertex { let m = self.now.dcel.now.mesh in IfSome result (λ v. (v.dcel ≡ self.now.dcel) × (v.index ≡ origin m (prev m self.now.index))) }
+        ensures vertex { let m = self.now.dcel.now.mesh in
+            IfSome result (λ v. (v.dcel ≡ self.now.dcel) ×
+            (v.index ≡ origin m (prev m self.now.index))) }
     {
         if self.is_outer_edge() {
             None
@@ -222,7 +228,9 @@ impl<'a, V, DE, UE, F> UndirectedEdgeHandle<'a, V, DE, UE, F> {
     /// The vertices that the edge joins.
     pub fn vertices(&self) -> [VertexHandle<'a, V, DE, UE, F>; 2]
         ensures dcel { All (λ v. v.dcel ≡ self.now.dcel) result }
-        ensures indexes { let m = self.now.dcel.now.mesh in map (λ v. v.index) result ≡ origin m (2 * self.now.index) ∷ origin m (rev (2 * self.now.index)) ∷ [] }
+        ensures indexes { let m = self.now.dcel.now.mesh in
+            map (λ v. v.index) result ≡ origin m (2 * self.now.index) ∷ origin m
+            (rev (2 * self.now.index)) ∷ [] }
     {
         self.as_directed().vertices()
     }

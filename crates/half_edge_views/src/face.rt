@@ -1,5 +1,7 @@
 //! Faces together with the mesh that they lie in.
-ghost use Rattle.std.specs.Prelude.{◌≡◌, ◌≢◌, ℕ, ◌+◌, ◌*◌, ◌/◌, ◌<◌, ◌≤◌, ◌∷◌, [], length, slice_get, Some, ⊤, All, map, IsNone, IsSome, IfSome, IsTrue, ◌↔◌};
+ghost use Rattle.std.specs.Prelude.{◌≡◌, ◌≢◌, ℕ, ◌+◌, ◌*◌, ◌/◌, ◌<◌, ◌≤◌, ◌∷◌, [], length};
+ghost use Rattle.std.specs.Prelude.{slice_get, Some, ⊤, All, map, IsNone, IsSome, IfSome, IsTrue};
+ghost use Rattle.std.specs.Prelude.{◌↔◌};
 ghost use Rattle.half_edge_links.specs.Mesh.{origin, next, prev, face, rev, face_edge, out_edge};
 ghost use Rattle.half_edge_links.specs.Triangles.{triangle_at};
 ghost use Rattle.half_edge_dcel.specs.Contents.{IsMeshWithData};
@@ -10,7 +12,8 @@ use half_edge_dcel::Dcel;
 use half_edge_handles::FixedFaceHandle;
 use std::alloc::AllocError;
 
-/// A face of a mesh: the outer one where its index is 0. Two of them are equal where their indexes are.
+/// A face of a mesh: the outer one where its index is 0. Two of them are equal where their indexes
+/// are.
 #[derive_where(Copy, PartialEq, Eq, PartialOrd, Ord, Hash, Debug)]
 pub struct FaceHandle<'a, V, DE, UE, F> {
     #[derive_where(skip)]
@@ -39,7 +42,8 @@ impl<'a, V, DE, UE, F> FaceHandle<'a, V, DE, UE, F> {
     }
 
     pub fn data(&self) -> &'a F
-        ensures { slice_get (self.now.dcel.now.outer ∷ self.now.dcel.now.faces) self.now.index ≡ Some result.now }
+        ensures { slice_get (self.now.dcel.now.outer ∷ self.now.dcel.now.faces) self.now.index ≡
+            Some result.now }
     {
         self.dcel.face_data(self.fix())
     }
@@ -67,7 +71,8 @@ impl<'a, V, DE, UE, F> FaceHandle<'a, V, DE, UE, F> {
     pub fn adjacent_edges(&self) -> [DirectedEdgeHandle<'a, V, DE, UE, F>; 3]
         requires { 0 < self.now.index }
         ensures dcel { All (λ e. e.dcel ≡ self.now.dcel) result }
-        ensures indexes { let m = self.now.dcel.now.mesh in let e = face_edge m self.now.index in map (λ e. e.index) result ≡ e ∷ next m e ∷ prev m e ∷ [] }
+        ensures indexes { let m = self.now.dcel.now.mesh in let e = face_edge m self.now.index in
+            map (λ e. e.index) result ≡ e ∷ next m e ∷ prev m e ∷ [] }
     {
         let edge = self.adjacent_edge();
         [edge, edge.next(), edge.prev()]
@@ -77,7 +82,9 @@ impl<'a, V, DE, UE, F> FaceHandle<'a, V, DE, UE, F> {
     pub fn vertices(&self) -> [VertexHandle<'a, V, DE, UE, F>; 3]
         requires { 0 < self.now.index }
         ensures dcel { All (λ v. v.dcel ≡ self.now.dcel) result }
-        ensures indexes { let t = triangle_at self.now.dcel.now.mesh (face_edge self.now.dcel.now.mesh self.now.index) in map (λ v. v.index) result ≡ t.first ∷ t.second ∷ t.third ∷ [] }
+        ensures indexes { let t = triangle_at self.now.dcel.now.mesh
+            (face_edge self.now.dcel.now.mesh self.now.index) in
+            map (λ v. v.index) result ≡ t.first ∷ t.second ∷ t.third ∷ [] }
     {
         let edge = self.adjacent_edge();
         [edge.from(), edge.to(), edge.prev().from()]

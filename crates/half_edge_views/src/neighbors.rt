@@ -7,13 +7,16 @@ ghost use Rattle.half_edge_dcel.specs.Contents.{IsMeshWithData};
 use half_edge_dcel::Dcel;
 use half_edge_links::reversed;
 
-// Of the edges round the vertex where `first` starts, one that ends at vertex `to`, if there is one.
+// Of the edges round the vertex where `first` starts, one that ends at vertex `to`, if there is
+// one.
 pub(crate) fn edge_to<V, DE, UE, F>(mesh: &Dcel<V, DE, UE, F>, first: u32, to: u32) -> Option<u32>
     requires { first < length mesh.now.directed }
     ensures within { IfSome result (λ h. h < length mesh.now.directed) }
     ensures starts { let m = mesh.now.mesh in IfSome result (λ h. origin m h ≡ origin m first) }
     ensures ends { let m = mesh.now.mesh in IfSome result (λ h. origin m (rev h) ≡ to) }
-    ensures none { let m = mesh.now.mesh in IfNone result ((j : ℕ) → j < length mesh.now.directed → origin m (rev (spoke m first j)) ≢ to) }
+    ensures none { let m = mesh.now.mesh in
+        IfNone result ((j : ℕ) → j < length mesh.now.directed →
+        origin m (rev (spoke m first j)) ≢ to) }
     ensures whole { IsMeshWithData mesh.now }
 {
     let mut edge = first;

@@ -1,7 +1,8 @@
 //! Iterators round a vertex and along the hull.
 #![tactic(auto)]
 
-ghost use Rattle.std.specs.Prelude.{◌≡◌, ◌≢◌, ◌-◌, ◌<◌, ◌==◌, if◌then◌else◌, ℕ, length, ⊤, IfNone, IfSome};
+ghost use Rattle.std.specs.Prelude.{◌≡◌, ◌≢◌, ◌-◌, ◌<◌, ◌==◌, ℕ, ⊤};
+ghost use Rattle.std.specs.Prelude.{if◌then◌else◌, length, IfNone, IfSome};
 ghost use Rattle.std.specs.Iterator.{YieldsFirstBy, item_count};
 
 use crate::edge::DirectedEdgeHandle;
@@ -30,7 +31,8 @@ pub struct CircularIterator<'a, V, DE, UE, F> {
 }
 
 impl<'a, V, DE, UE, F> Clone for CircularIterator<'a, V, DE, UE, F> {
-    ghost is_clone = { λ it copy. (copy.dcel ≡ it.dcel) × (copy.first ≡ it.first) × (copy.next ≡ it.next) × (copy.left ≡ it.left) };
+    ghost is_clone = { λ it copy. (copy.dcel ≡ it.dcel) × (copy.first ≡ it.first) ×
+        (copy.next ≡ it.next) × (copy.left ≡ it.left) };
 
     ghost is_infallible = { λ _. ⊤ };
 
@@ -82,7 +84,8 @@ pub struct HullIterator<'a, V, DE, UE, F> {
 }
 
 impl<'a, V, DE, UE, F> Clone for HullIterator<'a, V, DE, UE, F> {
-    ghost is_clone = { λ it copy. (copy.dcel ≡ it.dcel) × (copy.first ≡ it.first) × (copy.next ≡ it.next) × (copy.left ≡ it.left) };
+    ghost is_clone = { λ it copy. (copy.dcel ≡ it.dcel) × (copy.first ≡ it.first) ×
+        (copy.next ≡ it.next) × (copy.left ≡ it.left) };
 
     ghost is_infallible = { λ _. ⊤ };
 

@@ -1,5 +1,7 @@
 //! Vertices together with the mesh that they lie in.
-ghost use Rattle.std.specs.Prelude.{◌≡◌, ◌≢◌, ℕ, ◌+◌, ◌*◌, ◌/◌, ◌<◌, ◌≤◌, ◌∷◌, [], length, slice_get, Some, ⊤, All, map, IsNone, IsSome, IfSome, IsTrue, ◌↔◌};
+ghost use Rattle.std.specs.Prelude.{◌≡◌, ◌≢◌, ℕ, ◌+◌, ◌*◌, ◌/◌, ◌<◌, ◌≤◌, ◌∷◌, [], length};
+ghost use Rattle.std.specs.Prelude.{slice_get, Some, ⊤, All, map, IsNone, IsSome, IfSome, IsTrue};
+ghost use Rattle.std.specs.Prelude.{◌↔◌};
 ghost use Rattle.half_edge_links.specs.Mesh.{origin, next, prev, face, rev, face_edge, out_edge};
 ghost use Rattle.half_edge_dcel.specs.Contents.{IsMeshWithData};
 
@@ -48,7 +50,8 @@ impl<'a, V, DE, UE, F> VertexHandle<'a, V, DE, UE, F> {
     /// An edge that starts here, if there is one.
     pub fn out_edge(&self) -> Option<DirectedEdgeHandle<'a, V, DE, UE, F>>
         ensures none { IsNone result ↔ IsNone (out_edge self.now.dcel.now.mesh self.now.index) }
-        ensures edge { IfSome result (λ e. (e.dcel ≡ self.now.dcel) × (out_edge self.now.dcel.now.mesh self.now.index ≡ Some e.index)) }
+        ensures edge { IfSome result (λ e. (e.dcel ≡ self.now.dcel) ×
+            (out_edge self.now.dcel.now.mesh self.now.index ≡ Some e.index)) }
         ensures whole { IsMeshWithData self.now.dcel.now }
     {
         let index = self.dcel.out_edge(self.index)?;

@@ -1,11 +1,13 @@
 //! Handles of the parts of a mesh, and iterators over them.
 #![tactic(auto)]
 
-ghost use Rattle.std.specs.Prelude.{◌≡◌, ◌≢◌, ◌<◌, ◌≤◌, ◌+◌, ◌↔◌, ℕ, length, IsSome, IfNone, IfSome};
+ghost use Rattle.std.specs.Prelude.{◌≡◌, ◌≢◌, ◌<◌, ◌≤◌, ◌+◌, ◌↔◌, ℕ};
+ghost use Rattle.std.specs.Prelude.{length, IsSome, IfNone, IfSome};
 ghost use Rattle.std.specs.List.{range_with_len};
 ghost use Rattle.half_edge_links.specs.Mesh.{origin, rev};
 ghost use Rattle.half_edge_dcel.specs.Contents.{Contents};
-ghost use Rattle.half_edge_views.specs.Left.{each_in, vertices_left, directed_edges_left, undirected_edges_left, faces_left};
+ghost use Rattle.half_edge_views.specs.Left.{each_in, vertices_left, directed_edges_left};
+ghost use Rattle.half_edge_views.specs.Left.{undirected_edges_left, faces_left};
 ghost use Rattle.half_edge_views.specs.Rounds.{GivesOuterLoop, hull_left};
 
 use crate::edge::{DirectedEdgeHandle, UndirectedEdgeHandle};
@@ -20,8 +22,8 @@ use half_edge_dcel::{
     Dcel, FixedDirectedEdgeHandle, FixedFaceHandle, FixedUndirectedEdgeHandle, FixedVertexHandle,
 };
 
-/// Handles of the vertices, edges and faces of a mesh, and iterators over them. What each call gives is said at
-/// `Dcel`.
+/// Handles of the vertices, edges and faces of a mesh, and iterators over them. What each call
+/// gives is said at `Dcel`.
 pub trait MeshViews<V, DE, UE, F> {
     ghost contents: { Self → Contents V DE UE F };
 
@@ -149,8 +151,12 @@ impl<V, DE, UE, F> MeshViews<V, DE, UE, F> for Dcel<V, DE, UE, F> {
         to: FixedVertexHandle,
     ) -> Option<DirectedEdgeHandle<'_, V, DE, UE, F>>
         requires { from < length self.now.vertices }
-        ensures some { let m = self.now.mesh in IfSome result (λ e. (e.dcel ≡ self.entry) × (origin m e.index ≡ from) × (origin m (rev e.index) ≡ to)) }
-        ensures none { let m = self.now.mesh in IfNone result ((h : ℕ) → h < length self.now.directed → origin m h ≡ from → origin m (rev h) ≢ to) }
+        ensures some { let m = self.now.mesh in
+            IfSome result (λ e. (e.dcel ≡ self.entry) × (origin m e.index ≡ from) ×
+            (origin m (rev e.index) ≡ to)) }
+        ensures none { let m = self.now.mesh in
+            IfNone result ((h : ℕ) → h < length self.now.directed → origin m h ≡ from →
+            origin m (rev h) ≢ to) }
     {
         let first = self.out_edge(from.index())?;
         if let Some(index) = edge_to(self, first, to.index()) {
@@ -160,7 +166,8 @@ impl<V, DE, UE, F> MeshViews<V, DE, UE, F> for Dcel<V, DE, UE, F> {
     }
 
     fn vertices(&self) -> VertexIterator<'_, V, DE, UE, F>
-        ensures { vertices_left result ≡ each_in self.entry (range_with_len 0 (length self.now.vertices)) }
+        ensures { vertices_left result ≡ each_in self.entry
+            (range_with_len 0 (length self.now.vertices)) }
     {
         VertexIterator {
             dcel: self,
@@ -169,7 +176,8 @@ impl<V, DE, UE, F> MeshViews<V, DE, UE, F> for Dcel<V, DE, UE, F> {
     }
 
     fn directed_edges(&self) -> DirectedEdgeIterator<'_, V, DE, UE, F>
-        ensures { directed_edges_left result ≡ each_in self.entry (range_with_len 0 (length self.now.directed)) }
+        ensures { directed_edges_left result ≡ each_in self.entry
+            (range_with_len 0 (length self.now.directed)) }
     {
         DirectedEdgeIterator {
             dcel: self,
@@ -178,7 +186,8 @@ impl<V, DE, UE, F> MeshViews<V, DE, UE, F> for Dcel<V, DE, UE, F> {
     }
 
     fn undirected_edges(&self) -> UndirectedEdgeIterator<'_, V, DE, UE, F>
-        ensures { undirected_edges_left result ≡ each_in self.entry (range_with_len 0 (length self.now.undirected)) }
+        ensures { undirected_edges_left result ≡ each_in self.entry
+            (range_with_len 0 (length self.now.undirected)) }
     {
         UndirectedEdgeIterator {
             dcel: self,
@@ -187,7 +196,8 @@ impl<V, DE, UE, F> MeshViews<V, DE, UE, F> for Dcel<V, DE, UE, F> {
     }
 
     fn faces(&self) -> FaceIterator<'_, V, DE, UE, F>
-        ensures { faces_left result ≡ each_in self.entry (range_with_len 0 (length self.now.faces + 1)) }
+        ensures { faces_left result ≡ each_in self.entry
+            (range_with_len 0 (length self.now.faces + 1)) }
     {
         FaceIterator {
             dcel: self,
@@ -196,7 +206,8 @@ impl<V, DE, UE, F> MeshViews<V, DE, UE, F> for Dcel<V, DE, UE, F> {
     }
 
     fn inner_faces(&self) -> FaceIterator<'_, V, DE, UE, F>
-        ensures { faces_left result ≡ each_in self.entry (range_with_len 1 (length self.now.faces)) }
+        ensures { faces_left result ≡ each_in self.entry
+            (range_with_len 1 (length self.now.faces)) }
     {
         FaceIterator {
             dcel: self,

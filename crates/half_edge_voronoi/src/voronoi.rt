@@ -1,12 +1,14 @@
-//! The Voronoi forms of vertices, edges and faces: a face for each vertex, an edge across each edge, a vertex for
-//! each inner face.
-ghost use Rattle.std.specs.Prelude.{◌≡◌, ◌+◌, ◌*◌, ◌/◌, ◌<◌, ◌∷◌, [], All, map, IsNone, IsSome, IfSome, ◌↔◌};
+//! The Voronoi forms of vertices, edges and faces: a face for each vertex, an edge across each
+//! edge, a vertex for each inner face.
+ghost use Rattle.std.specs.Prelude.{◌≡◌, ◌+◌, ◌*◌, ◌/◌, ◌<◌, ◌∷◌, [], ◌↔◌};
+ghost use Rattle.std.specs.Prelude.{All, map, IsNone, IsSome, IfSome};
 ghost use Rattle.half_edge_links.specs.Mesh.{next, prev, rev, origin, face_edge};
 
 use crate::voronoi_iterators::VoronoiCircularIterator;
 use half_edge_views::{DirectedEdgeHandle, FaceHandle, UndirectedEdgeHandle, VertexHandle};
 
-/// The face of the Voronoi diagram that belongs to a vertex. Two of them are equal where their vertices are.
+/// The face of the Voronoi diagram that belongs to a vertex. Two of them are equal where their
+/// vertices are.
 ///
 /// ```
 /// for face in points.voronoi_faces() {
@@ -18,20 +20,22 @@ pub struct VoronoiFace<'a, V, DE, UE, F> {
     pub vertex: VertexHandle<'a, V, DE, UE, F>,
 }
 
-/// The edge of the Voronoi diagram across a directed edge, from the face on its left to the one on its right. Two of
-/// them are equal where their edges are.
+/// The edge of the Voronoi diagram across a directed edge, from the face on its left to the one on
+/// its right. Two of them are equal where their edges are.
 #[derive_where(Clone, Copy, PartialEq, Eq, PartialOrd, Ord, Hash, Debug)]
 pub struct DirectedVoronoiEdge<'a, V, DE, UE, F> {
     pub edge: DirectedEdgeHandle<'a, V, DE, UE, F>,
 }
 
-/// The edge of the Voronoi diagram across an undirected edge. Two of them are equal where their edges are.
+/// The edge of the Voronoi diagram across an undirected edge. Two of them are equal where their
+/// edges are.
 #[derive_where(Clone, Copy, PartialEq, Eq, PartialOrd, Ord, Hash, Debug)]
 pub struct UndirectedVoronoiEdge<'a, V, DE, UE, F> {
     pub edge: UndirectedEdgeHandle<'a, V, DE, UE, F>,
 }
 
-/// A vertex of the Voronoi diagram: that of an inner face, or the far end of an edge that has no other end.
+/// A vertex of the Voronoi diagram: that of an inner face, or the far end of an edge that has no
+/// other end.
 #[derive_where(Clone, Copy, PartialEq, Eq, PartialOrd, Ord, Hash, Debug)]
 pub enum VoronoiVertex<'a, V, DE, UE, F> {
     Inner(FaceHandle<'a, V, DE, UE, F>),
@@ -51,8 +55,8 @@ pub trait AsVoronoiFace {
 pub trait AsVoronoiEdge {
     type Edge;
 
-    /// The edge of the Voronoi diagram between the two faces beside this edge, of a directed one from the face on its
-    /// left to the one on its right.
+    /// The edge of the Voronoi diagram between the two faces beside this edge, of a directed one
+    /// from the face on its left to the one on its right.
     fn as_voronoi_edge(&self) -> Self::Edge;
 }
 
@@ -89,7 +93,8 @@ impl<'a, V, DE, UE, F> VoronoiFace<'a, V, DE, UE, F> {
 
     /// The edges with this face on their left, counterclockwise.
     pub fn adjacent_edges(&self) -> VoronoiCircularIterator<'a, V, DE, UE, F>
-        ensures { GivesRound self.now.vertex.dcel self.now.vertex.index (out_edges_left result.edges) }
+        ensures { GivesRound self.now.vertex.dcel self.now.vertex.index
+            (out_edges_left result.edges) }
     {
         VoronoiCircularIterator {
             edges: self.vertex.out_edges(),
@@ -136,7 +141,8 @@ fn edges_out_of<'a, V, DE, UE, F>(
 ) -> [DirectedVoronoiEdge<'a, V, DE, UE, F>; 3]
     requires { 0 < face.now.index }
     ensures dcel { All (λ e. e.edge.dcel ≡ face.now.dcel) result }
-    ensures indexes { let m = face.now.dcel.now.mesh in let e = face_edge m face.now.index in map (λ e. e.edge.index) result ≡ e ∷ next m e ∷ prev m e ∷ [] }
+    ensures indexes { let m = face.now.dcel.now.mesh in let e = face_edge m face.now.index in
+        map (λ e. e.edge.index) result ≡ e ∷ next m e ∷ prev m e ∷ [] }
 {
     let edge = face.adjacent_edge();
     [
@@ -175,7 +181,8 @@ impl<'a, V, DE, UE, F> DirectedVoronoiEdge<'a, V, DE, UE, F> {
     /// The next edge counterclockwise round the face on the left.
     pub fn next(&self) -> Self
         ensures dcel { result.edge.dcel ≡ self.now.edge.dcel }
-        ensures index { result.edge.index ≡ rev (prev self.now.edge.dcel.now.mesh self.now.edge.index) }
+        ensures index { result.edge.index ≡
+            rev (prev self.now.edge.dcel.now.mesh self.now.edge.index) }
     {
         self.edge.ccw().as_voronoi_edge()
     }
@@ -183,7 +190,8 @@ impl<'a, V, DE, UE, F> DirectedVoronoiEdge<'a, V, DE, UE, F> {
     /// The edge before this one round the face on the left.
     pub fn prev(&self) -> Self
         ensures dcel { result.edge.dcel ≡ self.now.edge.dcel }
-        ensures index { result.edge.index ≡ next self.now.edge.dcel.now.mesh (rev self.now.edge.index) }
+        ensures index { result.edge.index ≡ next self.now.edge.dcel.now.mesh
+            (rev self.now.edge.index) }
     {
         self.edge.cw().as_voronoi_edge()
     }
@@ -191,7 +199,8 @@ impl<'a, V, DE, UE, F> DirectedVoronoiEdge<'a, V, DE, UE, F> {
     /// The face on the left.
     pub fn face(&self) -> VoronoiFace<'a, V, DE, UE, F>
         ensures dcel { result.vertex.dcel ≡ self.now.edge.dcel }
-        ensures index { result.vertex.index ≡ origin self.now.edge.dcel.now.mesh self.now.edge.index }
+        ensures index { result.vertex.index ≡ origin self.now.edge.dcel.now.mesh
+            self.now.edge.index }
     {
         self.edge.from().as_voronoi_face()
     }

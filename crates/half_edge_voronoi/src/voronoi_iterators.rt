@@ -2,7 +2,8 @@
 ghost use Rattle.std.specs.Prelude.{◌≡◌, length};
 ghost use Rattle.std.specs.List.{range_with_len};
 ghost use Rattle.std.specs.Iterator.{YieldsFirstBy, YieldsLastBy, item_count};
-ghost use Rattle.half_edge_views.specs.Left.{each_in, vertices_left, directed_edges_left, undirected_edges_left};
+ghost use Rattle.half_edge_views.specs.Left.{each_in, vertices_left, directed_edges_left};
+ghost use Rattle.half_edge_views.specs.Left.{undirected_edges_left};
 
 use crate::voronoi::{
     AsVoronoiEdge, AsVoronoiFace, DirectedVoronoiEdge, UndirectedVoronoiEdge, VoronoiFace,
@@ -23,7 +24,8 @@ pub struct VoronoiFaceIterator<'a, V, DE, UE, F> {
 impl<'a, V, DE, UE, F> Iterator for VoronoiFaceIterator<'a, V, DE, UE, F> {
     type Item = VoronoiFace<'a, V, DE, UE, F>;
 
-    ghost next_gives = { YieldsFirstBy (λ x. (x.vertex.dcel, x.vertex.index)) (λ it. vertices_left it.vertices) };
+    ghost next_gives = { YieldsFirstBy (λ x. (x.vertex.dcel, x.vertex.index))
+        (λ it. vertices_left it.vertices) };
 
     ghost remaining = { item_count (λ it. vertices_left it.vertices) };
 
@@ -38,7 +40,8 @@ impl<'a, V, DE, UE, F> Iterator for VoronoiFaceIterator<'a, V, DE, UE, F> {
 }
 
 impl<'a, V, DE, UE, F> DoubleEndedIterator for VoronoiFaceIterator<'a, V, DE, UE, F> {
-    ghost next_back_gives = { YieldsLastBy (λ x. (x.vertex.dcel, x.vertex.index)) (λ it. vertices_left it.vertices) };
+    ghost next_back_gives = { YieldsLastBy (λ x. (x.vertex.dcel, x.vertex.index))
+        (λ it. vertices_left it.vertices) };
 
     fn next_back(&mut self) -> Option<VoronoiFace<'a, V, DE, UE, F>> {
         let vertex = self.vertices.next_back()?;
@@ -54,7 +57,8 @@ impl<'a, V, DE, UE, F> ExactSizeIterator for VoronoiFaceIterator<'a, V, DE, UE, 
 
 impl<'a, V, DE, UE, F> FusedIterator for VoronoiFaceIterator<'a, V, DE, UE, F> {}
 
-/// The directed edges of the Voronoi diagram that are left, by rising index of the edges that they lie across.
+/// The directed edges of the Voronoi diagram that are left, by rising index of the edges that they
+/// lie across.
 #[derive(Drop)]
 #[derive_where(Clone, Debug)]
 pub struct DirectedVoronoiEdgeIterator<'a, V, DE, UE, F> {
@@ -64,7 +68,8 @@ pub struct DirectedVoronoiEdgeIterator<'a, V, DE, UE, F> {
 impl<'a, V, DE, UE, F> Iterator for DirectedVoronoiEdgeIterator<'a, V, DE, UE, F> {
     type Item = DirectedVoronoiEdge<'a, V, DE, UE, F>;
 
-    ghost next_gives = { YieldsFirstBy (λ x. (x.edge.dcel, x.edge.index)) (λ it. directed_edges_left it.edges) };
+    ghost next_gives = { YieldsFirstBy (λ x. (x.edge.dcel, x.edge.index))
+        (λ it. directed_edges_left it.edges) };
 
     ghost remaining = { item_count (λ it. directed_edges_left it.edges) };
 
@@ -79,7 +84,8 @@ impl<'a, V, DE, UE, F> Iterator for DirectedVoronoiEdgeIterator<'a, V, DE, UE, F
 }
 
 impl<'a, V, DE, UE, F> DoubleEndedIterator for DirectedVoronoiEdgeIterator<'a, V, DE, UE, F> {
-    ghost next_back_gives = { YieldsLastBy (λ x. (x.edge.dcel, x.edge.index)) (λ it. directed_edges_left it.edges) };
+    ghost next_back_gives = { YieldsLastBy (λ x. (x.edge.dcel, x.edge.index))
+        (λ it. directed_edges_left it.edges) };
 
     fn next_back(&mut self) -> Option<DirectedVoronoiEdge<'a, V, DE, UE, F>> {
         let edge = self.edges.next_back()?;
@@ -95,7 +101,8 @@ impl<'a, V, DE, UE, F> ExactSizeIterator for DirectedVoronoiEdgeIterator<'a, V, 
 
 impl<'a, V, DE, UE, F> FusedIterator for DirectedVoronoiEdgeIterator<'a, V, DE, UE, F> {}
 
-/// The undirected edges of the Voronoi diagram that are left, by rising index of the edges that they lie across.
+/// The undirected edges of the Voronoi diagram that are left, by rising index of the edges that
+/// they lie across.
 #[derive(Drop)]
 #[derive_where(Clone, Debug)]
 pub struct UndirectedVoronoiEdgeIterator<'a, V, DE, UE, F> {
@@ -105,7 +112,8 @@ pub struct UndirectedVoronoiEdgeIterator<'a, V, DE, UE, F> {
 impl<'a, V, DE, UE, F> Iterator for UndirectedVoronoiEdgeIterator<'a, V, DE, UE, F> {
     type Item = UndirectedVoronoiEdge<'a, V, DE, UE, F>;
 
-    ghost next_gives = { YieldsFirstBy (λ x. (x.edge.dcel, x.edge.index)) (λ it. undirected_edges_left it.edges) };
+    ghost next_gives = { YieldsFirstBy (λ x. (x.edge.dcel, x.edge.index))
+        (λ it. undirected_edges_left it.edges) };
 
     ghost remaining = { item_count (λ it. undirected_edges_left it.edges) };
 
@@ -120,7 +128,8 @@ impl<'a, V, DE, UE, F> Iterator for UndirectedVoronoiEdgeIterator<'a, V, DE, UE,
 }
 
 impl<'a, V, DE, UE, F> DoubleEndedIterator for UndirectedVoronoiEdgeIterator<'a, V, DE, UE, F> {
-    ghost next_back_gives = { YieldsLastBy (λ x. (x.edge.dcel, x.edge.index)) (λ it. undirected_edges_left it.edges) };
+    ghost next_back_gives = { YieldsLastBy (λ x. (x.edge.dcel, x.edge.index))
+        (λ it. undirected_edges_left it.edges) };
 
     fn next_back(&mut self) -> Option<UndirectedVoronoiEdge<'a, V, DE, UE, F>> {
         let edge = self.edges.next_back()?;
@@ -148,7 +157,8 @@ impl<'a, V, DE, UE, F> Iterator for VoronoiCircularIterator<'a, V, DE, UE, F> {
 
     type Item = DirectedVoronoiEdge<'a, V, DE, UE, F>;
 
-    ghost next_gives = { YieldsFirstBy (λ x. (x.edge.dcel, x.edge.index)) (λ it. out_edges_left it.edges) };
+    ghost next_gives = { YieldsFirstBy (λ x. (x.edge.dcel, x.edge.index))
+        (λ it. out_edges_left it.edges) };
 
     ghost remaining = { item_count (λ it. out_edges_left it.edges) };
 
@@ -158,21 +168,25 @@ impl<'a, V, DE, UE, F> Iterator for VoronoiCircularIterator<'a, V, DE, UE, F> {
     }
 }
 
-/// Iterators over the faces and edges of the Voronoi diagram of a mesh. What each call gives is said at `Dcel`.
+/// Iterators over the faces and edges of the Voronoi diagram of a mesh. What each call gives is
+/// said at `Dcel`.
 pub trait VoronoiViews<V, DE, UE, F> {
     /// The faces of the Voronoi diagram, by rising index of their vertices.
     fn voronoi_faces(&self) -> VoronoiFaceIterator<'_, V, DE, UE, F>;
 
-    /// The directed edges of the Voronoi diagram, by rising index of the edges that they lie across.
+    /// The directed edges of the Voronoi diagram, by rising index of the edges that they lie
+    /// across.
     fn directed_voronoi_edges(&self) -> DirectedVoronoiEdgeIterator<'_, V, DE, UE, F>;
 
-    /// The undirected edges of the Voronoi diagram, by rising index of the edges that they lie across.
+    /// The undirected edges of the Voronoi diagram, by rising index of the edges that they lie
+    /// across.
     fn undirected_voronoi_edges(&self) -> UndirectedVoronoiEdgeIterator<'_, V, DE, UE, F>;
 }
 
 impl<V, DE, UE, F> VoronoiViews<V, DE, UE, F> for Dcel<V, DE, UE, F> {
     fn voronoi_faces(&self) -> VoronoiFaceIterator<'_, V, DE, UE, F>
-        ensures { vertices_left result.vertices ≡ each_in self.entry (range_with_len 0 (length self.now.vertices)) }
+        ensures { vertices_left result.vertices ≡ each_in self.entry
+            (range_with_len 0 (length self.now.vertices)) }
     {
         VoronoiFaceIterator {
             vertices: self.vertices(),
@@ -180,7 +194,8 @@ impl<V, DE, UE, F> VoronoiViews<V, DE, UE, F> for Dcel<V, DE, UE, F> {
     }
 
     fn directed_voronoi_edges(&self) -> DirectedVoronoiEdgeIterator<'_, V, DE, UE, F>
-        ensures { directed_edges_left result.edges ≡ each_in self.entry (range_with_len 0 (length self.now.directed)) }
+        ensures { directed_edges_left result.edges ≡ each_in self.entry
+            (range_with_len 0 (length self.now.directed)) }
     {
         DirectedVoronoiEdgeIterator {
             edges: self.directed_edges(),
@@ -188,7 +203,8 @@ impl<V, DE, UE, F> VoronoiViews<V, DE, UE, F> for Dcel<V, DE, UE, F> {
     }
 
     fn undirected_voronoi_edges(&self) -> UndirectedVoronoiEdgeIterator<'_, V, DE, UE, F>
-        ensures { undirected_edges_left result.edges ≡ each_in self.entry (range_with_len 0 (length self.now.undirected)) }
+        ensures { undirected_edges_left result.edges ≡
+            each_in self.entry (range_with_len 0 (length self.now.undirected)) }
     {
         UndirectedVoronoiEdgeIterator {
             edges: self.undirected_edges(),

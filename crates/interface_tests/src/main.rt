@@ -1,4 +1,5 @@
-//! Calls of the shared interface, with hint generators of every kind. Each line of standard input names a test.
+//! Calls of the shared interface, with hint generators of every kind. Each line of standard input
+//! names a test.
 #![tactic(auto)]
 
 mod changes;

@@ -7,7 +7,8 @@ use spade_delaunay::{Point2, SpadeNum, Triangulation};
 
 fn print_counts<T: Triangulation>(rt: &HostRuntime, points: &T) -> anyhow::Result<()> {
     println!(rt;
-        "{} vertices, {} edges, {} directed, {} inner faces, {} faces, {} on the hull, on a line: {}",
+        "{} vertices, {} edges, {} directed, {} inner faces, {} faces, {} on the hull, \
+         on a line: {}",
         points.num_vertices(),
         points.num_undirected_edges(),
         points.num_directed_edges(),

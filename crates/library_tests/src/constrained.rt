@@ -4,8 +4,8 @@ use crate::sheet_constraints::SheetConstraints;
 use spade_delaunay::Triangulation;
 use spade_delaunay::handles::{FixedFaceHandle, FixedUndirectedEdgeHandle, FixedVertexHandle};
 
-/// How many vertices, undirected edges, directed edges, inner faces, faces, directed edges beside the outer face and
-/// constraints there are.
+/// How many vertices, undirected edges, directed edges, inner faces, faces, directed edges beside
+/// the outer face and constraints there are.
 pub fn all_counts(points: &SheetConstraints) -> [usize; 7] {
     let triangulation = points.triangulation();
     [
@@ -46,7 +46,8 @@ pub fn is_constraint(points: &SheetConstraints, index: u16) -> Option<(bool, boo
     Some((is_constraint, triangulation.exists_constraint(from, to)))
 }
 
-/// Whether the iterators give a vertex and an inner face, and whether the outer face is the outer one.
+/// Whether the iterators give a vertex and an inner face, and whether the outer face is the outer
+/// one.
 pub fn listed(points: &SheetConstraints) -> (bool, bool, bool) {
     let triangulation = points.triangulation();
     (

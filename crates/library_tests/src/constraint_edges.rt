@@ -13,7 +13,8 @@ fn edge(is_constraint: bool, data: u32) -> CdtEdge<u32> {
     edge
 }
 
-/// Whether an edge is a constraint when it is new, made one and unmade; and whether the default edge is a new one of 0.
+/// Whether an edge is a constraint when it is new, made one and unmade; and whether the default
+/// edge is a new one of 0.
 pub fn made_and_unmade() -> [bool; 4] {
     let mut edge = free_edge_data(7u32);
     let is_new = edge.is_constraint_edge();

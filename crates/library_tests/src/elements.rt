@@ -9,8 +9,8 @@ use spade_delaunay::handles::{
 };
 use std::io;
 
-/// How many vertices, undirected edges, directed edges, inner faces and faces there are, and how many directed edges
-/// have the outer face on their left.
+/// How many vertices, undirected edges, directed edges, inner faces and faces there are, and how
+/// many directed edges have the outer face on their left.
 pub fn counts(points: &SheetTriangulation) -> [usize; 6] {
     let triangulation = points.triangulation();
     [
@@ -65,8 +65,8 @@ fn print_vertex(
     )
 }
 
-/// Prints each directed edge with its ends, the next and the previous one, its face, its data and that of its
-/// undirected edge.
+/// Prints each directed edge with its ends, the next and the previous one, its face, its data and
+/// that of its undirected edge.
 pub fn print_edges(rt: &impl Print, points: &SheetTriangulation) -> io::Result<()> {
     let triangulation = points.triangulation();
     for index in 0..triangulation.num_directed_edges() {

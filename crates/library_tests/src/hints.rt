@@ -1,4 +1,5 @@
-//! Which vertex a hint generator gives after what it was told, with vertices at points of the sheet.
+//! Which vertex a hint generator gives after what it was told, with vertices at points of the
+//! sheet.
 
 use crate::sheet_hints;
 use delaunay_core::{HintGenerator, LastUsedVertexHintGenerator};

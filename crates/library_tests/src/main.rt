@@ -1,5 +1,5 @@
-//! Runs a script of library calls over the points of sheet G, three rows of three, and prints each line with what its
-//! call gives. Lines that start with `#` are printed as they are.
+//! Runs a script of library calls over the points of sheet G, three rows of three, and prints each
+//! line with what its call gives. Lines that start with `#` are printed as they are.
 #![tactic(auto)]
 
 mod constrained;

@@ -1,4 +1,5 @@
-//! Segments between vertices: the next vertex on the way, how many edges cross, and flips that make one an edge.
+//! Segments between vertices: the next vertex on the way, how many edges cross, and flips that make
+//! one an edge.
 
 use crate::sheet_paths::{SheetMesh, SheetPaths};
 use half_edge_mesh::{FixedDirectedEdgeHandle, MeshViews};

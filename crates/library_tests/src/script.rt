@@ -24,7 +24,8 @@ fn tag(number: i64) -> u64 {
     u64::try_from(number).unwrap_or(0)
 }
 
-/// What the calls of a script work on: a triangulation, one with constraints, one for paths, and a hint generator.
+/// What the calls of a script work on: a triangulation, one with constraints, one for paths, and a
+/// hint generator.
 #[derive(Drop)]
 pub struct Session {
     points: SheetTriangulation,
@@ -43,8 +44,8 @@ impl Session {
         }
     }
 
-    /// Takes the triangulation for the one with constraints, and leaves one without vertices. Tells whether memory was
-    /// there.
+    /// Takes the triangulation for the one with constraints, and leaves one without vertices. Tells
+    /// whether memory was there.
     fn add_constraints(&mut self, alloc: Global) -> bool {
         let plain = replace(&mut self.points, SheetTriangulation::new(alloc, Sheet::G));
         self.constrained = SheetConstraints::from_delaunay(plain);

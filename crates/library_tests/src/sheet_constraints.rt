@@ -19,7 +19,8 @@ use std::marker::Model;
 use triangulate_run::points::site_index_of;
 use triangulate_run::sheet::Sheet;
 
-/// A triangulation of points of a sheet that may have constraints, with a number on each edge and face.
+/// A triangulation of points of a sheet that may have constraints, with a number on each edge and
+/// face.
 #[derive(Drop)]
 pub struct SheetConstraints {
     sheet: Sheet,
@@ -65,7 +66,9 @@ impl SheetConstraints {
 
     /// Where a site of the sheet is.
     pub fn locate(&self, point: Point2<i64>) -> Result<PositionInTriangulation, SheetError>
-        ensures location { IfOk result (λ answer. IsLocation (triangulation_of position_of self.now.1) (whole (place_of (λ z. z) point)) (location_of self.now.1.mesh answer)) }
+        ensures location { IfOk result (λ answer. IsLocation
+            (triangulation_of position_of self.now.1) (whole (place_of (λ z. z) point))
+            (location_of self.now.1.mesh answer)) }
         ensures element { IfOk result (HasElement self.now.1) }
     {
         if site_index_of(self.sheet.points(), point).is_none() {
@@ -88,7 +91,8 @@ impl SheetConstraints {
         }
     }
 
-    /// Gives a vertex another number, and gives the vertex as it was, or nothing where there is no such vertex.
+    /// Gives a vertex another number, and gives the vertex as it was, or nothing where there is no
+    /// such vertex.
     pub fn replace(&mut self, vertex: FixedVertexHandle, tag: u64) -> Option<TaggedVertex>
         ensures sheet { self.new.0 ≡ self.old.0 }
     {

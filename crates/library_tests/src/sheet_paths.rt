@@ -1,4 +1,5 @@
-//! Segments between vertices at sites of a sheet: the path of pieces, what crosses one, and flips that make it an edge.
+//! Segments between vertices at sites of a sheet: the path of pieces, what crosses one, and flips
+//! that make it an edge.
 ghost use Rattle.std.specs.Prelude.{◌≡◌, ◌≢◌, ◌<◌, length, map, IfSome, vec_capacity};
 ghost use Rattle.plane_tiling.specs.Local.{IsMesh};
 ghost use Rattle.mesh_embedding.specs.Drawn.{faces_of, outer_of};
@@ -63,7 +64,8 @@ impl SheetPaths {
 
     /// Two different vertices, by their indexes.
     fn ends(&self, from: u32, to: u32) -> Option<(FixedVertexHandle, FixedVertexHandle)>
-        ensures { IfSome result (λ e. (e.0 ≢ e.1) × (e.0 < length self.now.1.vertices) × (e.1 < length self.now.1.vertices)) }
+        ensures { IfSome result (λ e. (e.0 ≢ e.1) × (e.0 < length self.now.1.vertices) ×
+            (e.1 < length self.now.1.vertices)) }
     {
         let count = self.triangulation.num_vertices();
         if from == to || from as usize >= count || to as usize >= count {
@@ -79,14 +81,16 @@ impl SheetPaths {
     fn mesh_at(&self, vertex: FixedVertexHandle) -> &SheetMesh
         requires { vertex < length self.now.1.vertices }
         ensures vertices { result.now.vertices ≡ self.now.1.vertices }
-        ensures shape { IsMesh (map position_of result.now.vertices) (faces_of result.now.mesh) (outer_of result.now.mesh) }
+        ensures shape { IsMesh (map position_of result.now.vertices) (faces_of result.now.mesh)
+            (outer_of result.now.mesh) }
         ensures sites { AreSites (IsSite self.now.0) result.now.vertices }
     {
         self.triangulation.recall_invariant();
         self.triangulation.vertex(vertex).dcel
     }
 
-    /// The first vertex after its start on the segment between two different vertices, by their indexes.
+    /// The first vertex after its start on the segment between two different vertices, by their
+    /// indexes.
     pub fn next(&self, from: u32, to: u32) -> Option<u32> {
         let (start, end) = self.ends(from, to)?;
         let mesh = self.mesh_at(start);
@@ -107,8 +111,8 @@ impl SheetPaths {
         Some(crossings)
     }
 
-    /// A copy of the mesh in which the segment between two different vertices has become an edge, or nothing where a
-    /// vertex is between them or memory was refused.
+    /// A copy of the mesh in which the segment between two different vertices has become an edge,
+    /// or nothing where a vertex is between them or memory was refused.
     pub fn joined(&self, alloc: Global, from: u32, to: u32) -> Option<SheetMesh> {
         let (start, end) = self.ends(from, to)?;
         let mesh = self.mesh_at(start);

@@ -30,7 +30,8 @@ pub enum SheetError {
     Refused(InsertionError),
 }
 
-/// A triangulation of points of a sheet, whose answers it uses, with a number on each edge and face.
+/// A triangulation of points of a sheet, whose answers it uses, with a number on each edge and
+/// face.
 #[derive(Drop)]
 pub struct SheetTriangulation {
     sheet: Sheet,
@@ -87,7 +88,9 @@ impl SheetTriangulation {
 
     /// Where a site of the sheet is.
     pub fn locate(&self, point: Point2<i64>) -> Result<PositionInTriangulation, SheetError>
-        ensures location { IfOk result (λ answer. IsLocation (triangulation_of position_of self.now.1) (whole (place_of (λ z. z) point)) (location_of self.now.1.mesh answer)) }
+        ensures location { IfOk result (λ answer. IsLocation
+            (triangulation_of position_of self.now.1) (whole (place_of (λ z. z) point))
+            (location_of self.now.1.mesh answer)) }
         ensures element { IfOk result (HasElement self.now.1) }
     {
         if site_index_of(self.sheet.points(), point).is_none() {
@@ -101,7 +104,9 @@ impl SheetTriangulation {
         &self,
         point: Point2<i64>,
     ) -> Result<Option<FixedVertexHandle>, SheetError>
-        ensures { IfOk result (λ answer. MatchOption answer (length self.now.1.vertices ≡ 0) (IsNearest (triangulation_of position_of self.now.1) (whole (place_of (λ z. z) point)))) }
+        ensures { IfOk result (λ answer. MatchOption answer (length self.now.1.vertices ≡ 0)
+            (IsNearest (triangulation_of position_of self.now.1)
+            (whole (place_of (λ z. z) point)))) }
     {
         if site_index_of(self.sheet.points(), point).is_none() {
             return Err(SheetError::NotListed);
@@ -119,7 +124,8 @@ impl SheetTriangulation {
         tag: u64,
     ) -> Result<FixedVertexHandle, SheetError>
         ensures sheet { self.new.0 ≡ self.old.0 }
-        ensures ok { IfOk result (λ i. Inserts position_of (points_and_constraints self.old.1) (points_and_constraints self.new.1) (tagged position tag) i) }
+        ensures ok { IfOk result (λ i. Inserts position_of (points_and_constraints self.old.1)
+            (points_and_constraints self.new.1) (tagged position tag) i) }
     {
         if site_index_of(self.sheet.points(), position).is_none() {
             return Err(SheetError::NotListed);
@@ -131,7 +137,8 @@ impl SheetTriangulation {
         }
     }
 
-    /// Gives a vertex another number, and gives the vertex as it was, or nothing where there is no such vertex.
+    /// Gives a vertex another number, and gives the vertex as it was, or nothing where there is no
+    /// such vertex.
     pub fn replace(&mut self, vertex: FixedVertexHandle, tag: u64) -> Option<TaggedVertex>
         ensures sheet { self.new.0 ≡ self.old.0 }
     {
@@ -156,7 +163,8 @@ impl SheetTriangulation {
         }
     }
 
-    /// Removes the vertex at a site of the sheet and gives it back, or nothing where there is none or no memory.
+    /// Removes the vertex at a site of the sheet and gives it back, or nothing where there is none
+    /// or no memory.
     pub fn remove_at(&mut self, position: Point2<i64>) -> Option<TaggedVertex>
         ensures sheet { self.new.0 ≡ self.old.0 }
     {

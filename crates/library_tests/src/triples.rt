@@ -1,5 +1,5 @@
-//! All triples of vertices against the faces: a face has no vertex inside its circle, and a triple whose circle neither
-//! contains nor carries a further vertex is a face.
+//! All triples of vertices against the faces: a face has no vertex inside its circle, and a triple
+//! whose circle neither contains nor carries a further vertex is a face.
 
 use crate::sheet_triangulation::SheetTriangulation;
 use spade_delaunay::{Point2, Triangulation};
@@ -68,7 +68,8 @@ fn carries(vertices: &[Point2<i64>], triple: Triple) -> bool {
     false
 }
 
-/// How many left-turning triples there are of a kind, each three times, from each of its vertices on.
+/// How many left-turning triples there are of a kind, each three times, from each of its vertices
+/// on.
 #[derive(Clone, Copy, Debug, PartialEq, Eq)]
 pub struct Counts {
     strictly_empty: u32,

@@ -1,2 +1,3 @@
-//! What the links of a mesh draw in the plane: faces, edges and outer edges by their vertices, and what each call of the mesh does to them.
+//! What the links of a mesh draw in the plane: faces, edges and outer edges by their vertices, and
+//! what each call of the mesh does to them.
 #![tactic(auto)]

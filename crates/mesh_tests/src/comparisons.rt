@@ -1,4 +1,5 @@
-//! What names and handles of the parts of a mesh derive: copies, equality, order, hashes and printed forms.
+//! What names and handles of the parts of a mesh derive: copies, equality, order, hashes and
+//! printed forms.
 
 use crate::lookups::{Edge, Mesh, directed, edge_at, vertex};
 use half_edge_mesh::{
@@ -14,7 +15,8 @@ fn hash_of<T: Hash>(value: &T) -> u64 {
     state.finish()
 }
 
-/// Whether a value equals its copy, hashes as that does, equals another, and hashes as that does; and the order of both.
+/// Whether a value equals its copy, hashes as that does, equals another, and hashes as that does;
+/// and the order of both.
 type Comparison = Option<([bool; 4], Option<Ordering>, Ordering)>;
 
 fn compare<T: Clone + Ord + Hash + Drop>(value: &T, other: &T) -> Comparison {
@@ -83,7 +85,8 @@ fn print_voronoi_forms(rt: &impl Print, edge: Edge<'_>) -> io::Result<()> {
     println!(rt; "{:?}", across.to())
 }
 
-/// Prints an edge with its parts and its Voronoi forms, if it is there, and records that no other call prints.
+/// Prints an edge with its parts and its Voronoi forms, if it is there, and records that no other
+/// call prints.
 pub fn print_edge(rt: &impl Print, mesh: &Mesh, index: u32) -> io::Result<()> {
     if let Some(edge) = edge_at(mesh, index) {
         print_handles(rt, edge)?;

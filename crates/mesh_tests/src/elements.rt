@@ -27,8 +27,8 @@ pub fn vertex(mesh: &Mesh, index: u32) -> Option<([u8; 2], Option<u32>)> {
     Some(([*handle.data(), *mesh.vertex_data(vertex)], start))
 }
 
-/// The start and the end of an edge, the next and the previous one, the other direction, the next ones round its start
-/// counterclockwise and clockwise, and the face on its left.
+/// The start and the end of an edge, the next and the previous one, the other direction, the next
+/// ones round its start counterclockwise and clockwise, and the face on its left.
 pub fn directed_edge(mesh: &Mesh, index: u32) -> Option<[u32; 8]> {
     let edge = edge_at(mesh, index)?;
     Some([
@@ -98,7 +98,8 @@ fn corners(face: FaceHandle<'_, u8, u16, u32, u64>) -> Option<([u32; 3], [u8; 3]
     ))
 }
 
-/// A face's data, by its handle and by its name, and for an inner one its edges and the data of its corners.
+/// A face's data, by its handle and by its name, and for an inner one its edges and the data of its
+/// corners.
 pub fn face(mesh: &Mesh, index: u32) -> Option<(u64, u64, Option<([u32; 3], [u8; 3])>)> {
     let name = FixedFaceHandle::from_index(index);
     if !has_face(mesh, name) {
@@ -119,8 +120,8 @@ pub fn edges_between(mesh: &Mesh, from: u32, to: u32) -> Option<[u32; 2]> {
     Some([there.fix().index(), back.fix().index()])
 }
 
-/// By indexes alone: start, next, previous and face of an edge, the start of the edge that its start names, and the
-/// face of the edge that its face names.
+/// By indexes alone: start, next, previous and face of an edge, the start of the edge that its
+/// start names, and the face of the edge that its face names.
 pub fn links(mesh: &Mesh, index: u32) -> Option<([u32; 4], [Option<u32>; 2])> {
     let edge = links_of(mesh, index)?;
     let parts = [

@@ -5,8 +5,8 @@ use crate::lookups::Mesh;
 use half_edge_mesh::{MeshViews, VoronoiViews};
 use std::alloc::AllocError;
 
-/// How many vertices, directed edges, undirected edges, faces, inner faces, Voronoi faces, directed and undirected
-/// Voronoi edges are left.
+/// How many vertices, directed edges, undirected edges, faces, inner faces, Voronoi faces, directed
+/// and undirected Voronoi edges are left.
 pub fn lengths(mesh: &Mesh) -> [usize; 8] {
     [
         mesh.vertices().len(),
@@ -20,8 +20,8 @@ pub fn lengths(mesh: &Mesh) -> [usize; 8] {
     ]
 }
 
-/// The index of the last vertex, directed edge, undirected edge, face, inner face and Voronoi face, and the last name of
-/// a vertex and of an undirected edge.
+/// The index of the last vertex, directed edge, undirected edge, face, inner face and Voronoi face,
+/// and the last name of a vertex and of an undirected edge.
 pub fn lasts(mesh: &Mesh) -> [Option<u32>; 8] {
     [
         mesh.vertices().rev().next().map(|vertex| vertex.index),
@@ -43,8 +43,8 @@ pub fn lasts(mesh: &Mesh) -> [Option<u32>; 8] {
     ]
 }
 
-/// How many directed edges are left after the first and the last, how many a copy made after the first has, and how
-/// many it gives; and how many a copy of the hull gives.
+/// How many directed edges are left after the first and the last, how many a copy made after the
+/// first has, and how many it gives; and how many a copy of the hull gives.
 pub fn copies(mesh: &Mesh) -> Result<[usize; 4], AllocError> {
     let mut edges = mesh.directed_edges();
     let _first = edges.next();

@@ -1,5 +1,5 @@
-//! Calls that let a mesh grow, and the flip. Each looks first whether it may be made, makes just the room that it takes,
-//! and gives indexes, or nothing where it was not made.
+//! Calls that let a mesh grow, and the flip. Each looks first whether it may be made, makes just
+//! the room that it takes, and gives indexes, or nothing where it was not made.
 ghost use Rattle.std.specs.Prelude.{◌≡◌, ◌≢◌, ◌<◌, length, IsTrue};
 ghost use Rattle.half_edge_mesh.specs.Flip.{IsFlippable};
 ghost use Rattle.half_edge_mesh.specs.Grow.{IsHalfSplittable};
@@ -96,7 +96,8 @@ pub fn create_new_face_adjacent_to_edge(mesh: &mut Mesh, edge: u32, value: u8) -
 fn leaves_corner(mesh: &Mesh, edge: FixedDirectedEdgeHandle) -> bool
     ensures within { IsTrue result → edge < length mesh.now.directed }
     ensures outer { IsTrue result → face mesh.now.mesh edge ≡ 0 }
-    ensures apart { let m = mesh.now.mesh in IsTrue result → origin m (rev (next m edge)) ≢ origin m edge }
+    ensures apart { let m = mesh.now.mesh in
+        IsTrue result → origin m (rev (next m edge)) ≢ origin m edge }
 {
     if !has_edge(mesh, edge) {
         return false;

@@ -7,8 +7,8 @@ use half_edge_mesh::{
     FixedVertexIterator,
 };
 
-/// The index of an edge in the other direction, without its direction, and of the first direction of that; then of the
-/// vertex and the face of this index, and whether this is the outer face.
+/// The index of an edge in the other direction, without its direction, and of the first direction
+/// of that; then of the vertex and the face of this index, and whether this is the outer face.
 pub fn forms(index: u32) -> ([u32; 5], bool) {
     let edge = directed(index);
     let undirected = edge.as_undirected();

@@ -24,8 +24,8 @@ fn hull(mesh: &Mesh) -> (usize, Option<u32>) {
     )
 }
 
-/// How many vertices, directed edges, undirected edges, faces, inner faces, Voronoi faces, directed and undirected
-/// Voronoi edges are given, and those of the hull.
+/// How many vertices, directed edges, undirected edges, faces, inner faces, Voronoi faces, directed
+/// and undirected Voronoi edges are given, and those of the hull.
 pub fn lists(mesh: &Mesh) -> ([usize; 8], (usize, Option<u32>)) {
     let counts = [
         count_of(mesh.vertices()),
@@ -40,8 +40,8 @@ pub fn lists(mesh: &Mesh) -> ([usize; 8], (usize, Option<u32>)) {
     (counts, hull(mesh))
 }
 
-/// How many names of vertices, directed edges, undirected edges, faces and inner faces are given, and the first name of
-/// a face and of an inner one.
+/// How many names of vertices, directed edges, undirected edges, faces and inner faces are given,
+/// and the first name of a face and of an inner one.
 pub fn names(mesh: &Mesh) -> ([usize; 5], [Option<u32>; 2]) {
     let counts = [
         count_of(mesh.fixed_vertices()),
@@ -57,8 +57,8 @@ pub fn names(mesh: &Mesh) -> ([usize; 5], [Option<u32>; 2]) {
     (counts, first)
 }
 
-/// How many edges start at a vertex, how many edges its face of the Voronoi diagram has, and the least and the
-/// greatest index of a vertex where the former end.
+/// How many edges start at a vertex, how many edges its face of the Voronoi diagram has, and the
+/// least and the greatest index of a vertex where the former end.
 pub fn round(mesh: &Mesh, index: u32) -> Option<([usize; 2], [Option<u32>; 2])> {
     let vertex = mesh.get_vertex(vertex(index))?;
     let counts = [

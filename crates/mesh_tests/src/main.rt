@@ -1,5 +1,6 @@
-//! Runs a script of calls of the half-edge mesh, and prints each line with what its call gives. A call that may not be
-//! made, or is refused, gives `None` or an error. Lines that start with `#` are printed as they are.
+//! Runs a script of calls of the half-edge mesh, and prints each line with what its call gives. A
+//! call that may not be made, or is refused, gives `None` or an error. Lines that start with `#`
+//! are printed as they are.
 #![tactic(auto)]
 
 mod comparisons;

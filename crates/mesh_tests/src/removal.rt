@@ -15,7 +15,8 @@ pub fn swap_remove_vertex(mesh: &mut Mesh, index: u32) -> Option<u8> {
     Some(mesh.swap_remove_vertex(vertex))
 }
 
-/// The data of a vertex of a line, which is gone: it was between two others, or at an end of two edges or more.
+/// The data of a vertex of a line, which is gone: it was between two others, or at an end of two
+/// edges or more.
 pub fn remove_when_degenerate(mesh: &mut Mesh, index: u32) -> Option<u8> {
     let vertex = vertex(index);
     match remove_from_line(mesh, vertex) {
@@ -72,10 +73,12 @@ fn has_lone_face(mesh: &Mesh, edge: FixedDirectedEdgeHandle) -> bool
     !edge.is_outer_edge() && edge.rev().is_outer_edge() && edge.ccw().is_outer_edge()
 }
 
-// Whether the outer face goes from an edge to the next one round its start, which is not the only one at its end.
+// Whether the outer face goes from an edge to the next one round its start, which is not the only
+// one at its end.
 fn leaves_more(mesh: &Mesh, edge: FixedDirectedEdgeHandle) -> bool
     ensures gap { let m = mesh.now.mesh in IsTrue result → next m (rev edge) ≡ turn m edge }
-    ensures far { let m = mesh.now.mesh in IsTrue result → next m (turn m edge) ≢ rev (turn m edge) }
+    ensures far { let m = mesh.now.mesh in
+        IsTrue result → next m (turn m edge) ≢ rev (turn m edge) }
 {
     if !has_edge(mesh, edge) {
         return false;
@@ -103,7 +106,8 @@ fn disconnect_corner(
     mesh.disconnect_edge_strip(&[side])
 }
 
-/// The index of a vertex with one face, of which this is the side opposite it: it has lost its edges.
+/// The index of a vertex with one face, of which this is the side opposite it: it has lost its
+/// edges.
 pub fn disconnect_edge_strip(mesh: &mut Mesh, side: u32) -> Option<u32> {
     let spoke = edge_at(mesh, side)?.prev().fix();
     let side = directed(side);
@@ -151,7 +155,8 @@ fn end_apart(mesh: &Mesh, edge: FixedDirectedEdgeHandle, other: FixedDirectedEdg
         && mesh.directed_edge(other).to().index != mesh.directed_edge(edge).to().index
 }
 
-// Whether an edge has an inner face, in which this side follows it, and is followed round its start by another edge.
+// Whether an edge has an inner face, in which this side follows it, and is followed round its start
+// by another edge.
 fn is_spoke(
     mesh: &Mesh,
     edge: FixedDirectedEdgeHandle,
@@ -184,7 +189,9 @@ fn isolate_between_three(
     requires at_second { slice_index spokes 1 ≡ turn mesh.old.mesh (slice_index spokes 0) }
     requires at_third { slice_index spokes 2 ≡ turn mesh.old.mesh (slice_index spokes 1) }
     requires round { slice_index spokes 0 ≡ turn mesh.old.mesh (slice_index spokes 2) }
-    requires sides { let m = mesh.old.mesh in sides ≡ next m (slice_index spokes 0) ∷ next m (slice_index spokes 1) ∷ next m (slice_index spokes 2) ∷ [] }
+    requires sides { let m = mesh.old.mesh in
+        sides ≡ next m (slice_index spokes 0) ∷ next m (slice_index spokes 1) ∷ next m
+        (slice_index spokes 2) ∷ [] }
 {
     let _whole = mesh.num_vertices();
     mesh.isolate_vertex_and_fill_hole(&sides, vertex)
@@ -222,8 +229,11 @@ fn isolate_between_four(
     requires at_third { slice_index spokes 2 ≡ turn mesh.old.mesh (slice_index spokes 1) }
     requires at_fourth { slice_index spokes 3 ≡ turn mesh.old.mesh (slice_index spokes 2) }
     requires round { slice_index spokes 0 ≡ turn mesh.old.mesh (slice_index spokes 3) }
-    requires corners { let m = mesh.old.mesh in origin m (rev (slice_index spokes 2)) ≢ origin m (rev (slice_index spokes 0)) }
-    requires sides { let m = mesh.old.mesh in sides ≡ next m (slice_index spokes 0) ∷ next m (slice_index spokes 1) ∷ next m (slice_index spokes 2) ∷ next m (slice_index spokes 3) ∷ [] }
+    requires corners { let m = mesh.old.mesh in
+        origin m (rev (slice_index spokes 2)) ≢ origin m (rev (slice_index spokes 0)) }
+    requires sides { let m = mesh.old.mesh in
+        sides ≡ next m (slice_index spokes 0) ∷ next m (slice_index spokes 1) ∷ next m
+        (slice_index spokes 2) ∷ next m (slice_index spokes 3) ∷ [] }
 {
     let _whole = mesh.num_vertices();
     mesh.isolate_vertex_and_fill_hole(&sides, vertex)
@@ -251,7 +261,8 @@ fn isolate_vertex_between_four(
     Some(isolate_between_four(mesh, [a, b, c, d], [ab, bc, cd, da], vertex))
 }
 
-/// The index of a vertex with three or four faces round it: it has lost its edges, and one or two faces fill the hole.
+/// The index of a vertex with three or four faces round it: it has lost its edges, and one or two
+/// faces fill the hole.
 pub fn isolate_vertex_and_fill_hole(mesh: &mut Mesh, index: u32) -> Option<u32> {
     let vertex = vertex(index);
     let done = match isolate_vertex(mesh, vertex) {

@@ -19,8 +19,8 @@ pub fn with_capacity(
     Ok(mesh.num_vertices())
 }
 
-/// Whether so many elements are few enough, by the counts alone and by a request for room, which may be refused for
-/// memory.
+/// Whether so many elements are few enough, by the counts alone and by a request for room, which
+/// may be refused for memory.
 pub fn few_enough(alloc: Global, vertices: u32, edges: u32, faces: u32) -> [bool; 2] {
     [
         are_few_enough(vertices as usize, edges as usize, faces as usize),

@@ -20,7 +20,8 @@ fn centre(vertex: VoronoiVertex<'_, u8, u16, u32, u64>) -> (Option<u32>, Option<
     )
 }
 
-/// The other direction, the next and the previous edge, the undirected one and the face of an edge's Voronoi form.
+/// The other direction, the next and the previous edge, the undirected one and the face of an
+/// edge's Voronoi form.
 fn beside(edge: VoronoiEdge<'_>) -> [u32; 5] {
     [
         index_of(edge.rev()),
@@ -62,7 +63,8 @@ pub fn voronoi_vertex(mesh: &Mesh, index: u32) -> Option<[u32; 3]> {
     Some([index_of(first), index_of(second), index_of(third)])
 }
 
-/// The vertex of a Voronoi face and the first edge round it; then the first of all faces and of all edges.
+/// The vertex of a Voronoi face and the first edge round it; then the first of all faces and of all
+/// edges.
 pub fn voronoi_face(mesh: &Mesh, index: u32) -> Option<[Option<u32>; 4]> {
     let face = mesh.get_vertex(vertex(index))?.as_voronoi_face();
     Some([

@@ -1,14 +1,23 @@
 //! From the local circle test to constrained Delaunay: laws over tilings, constraints and circles.
 #![tactic(auto)]
 
-ghost use Rattle.plane_delaunay.specs.Laws.{OutsideIsLeftOfOuter, LocalGivesConstrainedDelaunay, StrictlyEmptyIsFace, NearestByNeighbours, NearerCountFalls, VisiblyEmptyIsFace, FacesAreUnique, OverlappingFacesTie, FloodFindsRegion, FloodStarts, EdgeMeetsCircle, EdgeMeetsRectangle, LineItemsAreOrdered, FloodFindsOnLine, FloodStartsOnLine, RegionHasStart, StartIsExact, VerticesAreEnds, OneVertexIsAlone, FloodIsBounded, FloodByVerticesFinds, MarksFillUp, FloodIsExact};
+ghost use Rattle.plane_delaunay.specs.Laws.{OutsideIsLeftOfOuter, LocalGivesConstrainedDelaunay};
+ghost use Rattle.plane_delaunay.specs.Laws.{StrictlyEmptyIsFace, NearestByNeighbours};
+ghost use Rattle.plane_delaunay.specs.Laws.{NearerCountFalls, VisiblyEmptyIsFace, FacesAreUnique};
+ghost use Rattle.plane_delaunay.specs.Laws.{OverlappingFacesTie, FloodFindsRegion, FloodStarts};
+ghost use Rattle.plane_delaunay.specs.Laws.{EdgeMeetsCircle, EdgeMeetsRectangle};
+ghost use Rattle.plane_delaunay.specs.Laws.{LineItemsAreOrdered, FloodFindsOnLine};
+ghost use Rattle.plane_delaunay.specs.Laws.{FloodStartsOnLine, RegionHasStart, StartIsExact};
+ghost use Rattle.plane_delaunay.specs.Laws.{VerticesAreEnds, OneVertexIsAlone, FloodIsBounded};
+ghost use Rattle.plane_delaunay.specs.Laws.{FloodByVerticesFinds, MarksFillUp, FloodIsExact};
 
 /// A law: a point in no closed face is strictly left of an outer edge.
 pub fn outside_is_left_of_outer()
     ensures { OutsideIsLeftOfOuter }
 {}
 
-/// A law: a tiling that has each constraint as an edge and passes the local circle test is constrained Delaunay.
+/// A law: a tiling that has each constraint as an edge and passes the local circle test is
+/// constrained Delaunay.
 pub fn local_gives_constrained_delaunay()
     ensures { LocalGivesConstrainedDelaunay }
 {}
@@ -28,12 +37,14 @@ pub fn nearer_count_falls()
     ensures { NearerCountFalls }
 {}
 
-/// A law: a triple that no constraint enters, and whose circle neither contains nor carries another vertex that is seen from inside it, is a face.
+/// A law: a triple that no constraint enters, and whose circle neither contains nor carries another
+/// vertex that is seen from inside it, is a face.
 pub fn visibly_empty_is_face()
     ensures { VisiblyEmptyIsFace }
 {}
 
-/// A law: two triangulations of one plain state with no four points on one circle have the same faces.
+/// A law: two triangulations of one plain state with no four points on one circle have the same
+/// faces.
 pub fn faces_are_unique()
     ensures { FacesAreUnique }
 {}
@@ -53,12 +64,14 @@ pub fn flood_starts()
     ensures { FloodStarts }
 {}
 
-/// A law: a closed edge has a point of a closed circle exactly if an end is in it, or the centre falls between the ends and is near enough to the line.
+/// A law: a closed edge has a point of a closed circle exactly if an end is in it, or the centre
+/// falls between the ends and is near enough to the line.
 pub fn edge_meets_circle()
     ensures { EdgeMeetsCircle }
 {}
 
-/// A law: a closed edge has a point of a closed rectangle, not a reversed one, exactly if their ranges meet and the corners are not all strictly on one side of its line.
+/// A law: a closed edge has a point of a closed rectangle, not a reversed one, exactly if their
+/// ranges meet and the corners are not all strictly on one side of its line.
 pub fn edge_meets_rectangle()
     ensures { EdgeMeetsRectangle }
 {}
@@ -68,27 +81,32 @@ pub fn line_items_are_ordered()
     ensures { LineItemsAreOrdered }
 {}
 
-/// A law: where all vertices are on one line, a flood along shared vertices that has one edge in a closed circle or rectangle has each.
+/// A law: where all vertices are on one line, a flood along shared vertices that has one edge in a
+/// closed circle or rectangle has each.
 pub fn flood_finds_on_line()
     ensures { FloodFindsOnLine }
 {}
 
-/// A law: where all vertices are on one line and any edge is in a closed circle or rectangle, one is beside each of its points.
+/// A law: where all vertices are on one line and any edge is in a closed circle or rectangle, one
+/// is beside each of its points.
 pub fn flood_starts_on_line()
     ensures { FloodStartsOnLine }
 {}
 
-/// A law: a closed circle with a point has its centre, a closed rectangle with one its lower corner.
+/// A law: a closed circle with a point has its centre, a closed rectangle with one its lower
+/// corner.
 pub fn region_has_start()
     ensures { RegionHasStart }
 {}
 
-/// A law: an edge is in a closed circle or rectangle exactly if one of those beside its centre or lower corner is.
+/// A law: an edge is in a closed circle or rectangle exactly if one of those beside its centre or
+/// lower corner is.
 pub fn start_is_exact()
     ensures { StartIsExact }
 {}
 
-/// A law: of two or more vertices those in a closed circle or rectangle are those of its edges' ends that are in it.
+/// A law: of two or more vertices those in a closed circle or rectangle are those of its edges'
+/// ends that are in it.
 pub fn vertices_are_ends()
     ensures { VerticesAreEnds }
 {}
@@ -113,7 +131,8 @@ pub fn marks_fill_up()
     ensures { MarksFillUp }
 {}
 
-/// A law: edges in a closed circle or rectangle, flooded from what is beside its centre or lower corner, are all of its edges.
+/// A law: edges in a closed circle or rectangle, flooded from what is beside its centre or lower
+/// corner, are all of its edges.
 pub fn flood_is_exact()
     ensures { FloodIsExact }
 {}

@@ -1,24 +1,39 @@
-//! What each edit does to points, faces and outer edges keeps the local mesh invariant: laws over lists.
+//! What each edit does to points, faces and outer edges keeps the local mesh invariant: laws over
+//! lists.
 #![tactic(auto)]
 
-ghost use Rattle.plane_edits.specs.Laws.{InsertionInsideKeeps, InsertionWithinSideKeeps, InsertionWithinOuterKeeps, FlipKeeps, FlipCovers, ExtensionBegins, ExtensionGoesOn, ExtensionGoesBack, ExtensionEnds, ExtensionOverLineEnds, InsertionPastEndKeeps, InsertionBetweenKeeps};
-ghost use Rattle.plane_edits.specs.FlipHistory.{FlipTouchesOneEdge, FlippedStaysAway, WhatStandsWasNotTouched, FlipsAreBounded};
-ghost use Rattle.plane_edits.specs.LegalLaws.{OneQuestionForBoth, FailingIsConvex, FlipLowers, FlipLeavesSides, PassingIsDropped, ChangeLeavesSides, NoneLeftIsLocallyDelaunay, AwayIsNoEdge, FlipGoesAway, AwayIsBounded};
-ghost use Rattle.plane_edits.specs.RemovalHull.{CornerGoes, CornerLeavesLine, CornerOrFlat, CornerStarFlips, FlatSideCloses, FlatStarFlips};
-ghost use Rattle.plane_edits.specs.RemovalLaws.{EndOfLineGoes, FourFacesMerge, InnerStarFlips, LastTakesFreedIndex, LastTakesFreedIndexOnLine, MiddleOfLineGoes, ThreeFacesMerge};
-ghost use Rattle.plane_edits.specs.StarFlips.{InnerStarShrinks, HullStarShrinks, StarsAgree, HullStarsAgree};
+ghost use Rattle.plane_edits.specs.Laws.{InsertionInsideKeeps, InsertionWithinSideKeeps};
+ghost use Rattle.plane_edits.specs.Laws.{InsertionWithinOuterKeeps, FlipKeeps, FlipCovers};
+ghost use Rattle.plane_edits.specs.Laws.{ExtensionBegins, ExtensionGoesOn, ExtensionGoesBack};
+ghost use Rattle.plane_edits.specs.Laws.{ExtensionEnds, ExtensionOverLineEnds};
+ghost use Rattle.plane_edits.specs.Laws.{InsertionPastEndKeeps, InsertionBetweenKeeps};
+ghost use Rattle.plane_edits.specs.FlipHistory.{FlipTouchesOneEdge, FlippedStaysAway};
+ghost use Rattle.plane_edits.specs.FlipHistory.{WhatStandsWasNotTouched, FlipsAreBounded};
+ghost use Rattle.plane_edits.specs.LegalLaws.{OneQuestionForBoth, FailingIsConvex, FlipLowers};
+ghost use Rattle.plane_edits.specs.LegalLaws.{FlipLeavesSides, PassingIsDropped, ChangeLeavesSides};
+ghost use Rattle.plane_edits.specs.LegalLaws.{NoneLeftIsLocallyDelaunay, AwayIsNoEdge};
+ghost use Rattle.plane_edits.specs.LegalLaws.{FlipGoesAway, AwayIsBounded};
+ghost use Rattle.plane_edits.specs.RemovalHull.{CornerGoes, CornerLeavesLine, CornerOrFlat};
+ghost use Rattle.plane_edits.specs.RemovalHull.{CornerStarFlips, FlatSideCloses, FlatStarFlips};
+ghost use Rattle.plane_edits.specs.RemovalLaws.{EndOfLineGoes, FourFacesMerge, InnerStarFlips};
+ghost use Rattle.plane_edits.specs.RemovalLaws.{LastTakesFreedIndex, LastTakesFreedIndexOnLine};
+ghost use Rattle.plane_edits.specs.RemovalLaws.{MiddleOfLineGoes, ThreeFacesMerge};
+ghost use Rattle.plane_edits.specs.StarFlips.{InnerStarShrinks, HullStarShrinks, StarsAgree};
+ghost use Rattle.plane_edits.specs.StarFlips.{HullStarsAgree};
 
 /// A law: a vertex strictly inside a face, joined to its three corners, keeps a mesh local.
 pub fn insertion_inside_keeps()
     ensures { InsertionInsideKeeps }
 {}
 
-/// A law: a vertex strictly within the side of two faces, joined to their four corners, keeps a mesh local.
+/// A law: a vertex strictly within the side of two faces, joined to their four corners, keeps a
+/// mesh local.
 pub fn insertion_within_side_keeps()
     ensures { InsertionWithinSideKeeps }
 {}
 
-/// A law: a vertex strictly within an outer edge, joined to the corner behind it, keeps a mesh local.
+/// A law: a vertex strictly within an outer edge, joined to the corner behind it, keeps a mesh
+/// local.
 pub fn insertion_within_outer_keeps()
     ensures { InsertionWithinOuterKeeps }
 {}
@@ -98,7 +113,8 @@ pub fn insertion_past_end_keeps()
     ensures { InsertionPastEndKeeps }
 {}
 
-/// A law: a vertex between two neighbours on the line, joined to both in place of their edge, keeps the line.
+/// A law: a vertex between two neighbours on the line, joined to both in place of their edge, keeps
+/// the line.
 pub fn insertion_between_keeps()
     ensures { InsertionBetweenKeeps }
 {}
@@ -118,7 +134,8 @@ pub fn away_is_bounded()
     ensures { AwayIsBounded }
 {}
 
-/// A law: at an inner vertex with four neighbours or more an edge can be flipped, or there are four and the vertex is strictly between two of them.
+/// A law: at an inner vertex with four neighbours or more an edge can be flipped, or there are four
+/// and the vertex is strictly between two of them.
 pub fn inner_star_flips()
     ensures { InnerStarFlips }
 {}
@@ -128,12 +145,14 @@ pub fn three_faces_merge()
     ensures { ThreeFacesMerge }
 {}
 
-/// A law: where the four faces at a vertex between two opposite neighbours become two, a local mesh of the other vertices is left.
+/// A law: where the four faces at a vertex between two opposite neighbours become two, a local mesh
+/// of the other vertices is left.
 pub fn four_faces_merge()
     ensures { FourFacesMerge }
 {}
 
-/// A law: a local mesh of all vertices but one is, once the last one has taken its index, a local mesh of the points that are left.
+/// A law: a local mesh of all vertices but one is, once the last one has taken its index, a local
+/// mesh of the points that are left.
 pub fn last_takes_freed_index()
     ensures { LastTakesFreedIndex }
 {}
@@ -143,12 +162,14 @@ pub fn end_of_line_goes()
     ensures { EndOfLineGoes }
 {}
 
-/// A law: where a vertex goes from between two neighbours on a line, which are joined, a line of the other vertices is left.
+/// A law: where a vertex goes from between two neighbours on a line, which are joined, a line of
+/// the other vertices is left.
 pub fn middle_of_line_goes()
     ensures { MiddleOfLineGoes }
 {}
 
-/// A law: a line of all vertices but one is, once the last one has taken its index, a line of the points that are left.
+/// A law: a line of all vertices but one is, once the last one has taken its index, a line of the
+/// points that are left.
 pub fn last_takes_freed_index_on_line()
     ensures { LastTakesFreedIndexOnLine }
 {}
@@ -158,17 +179,20 @@ pub fn flat_star_flips()
     ensures { FlatStarFlips }
 {}
 
-/// A law: at a corner of the hull the edge to a neighbour can be flipped wherever the neighbours turn left there.
+/// A law: at a corner of the hull the edge to a neighbour can be flipped wherever the neighbours
+/// turn left there.
 pub fn corner_star_flips()
     ensures { CornerStarFlips }
 {}
 
-/// A law: at a corner of the hull where no neighbours turn left, a local mesh of the other vertices is left when its faces go.
+/// A law: at a corner of the hull where no neighbours turn left, a local mesh of the other vertices
+/// is left when its faces go.
 pub fn corner_goes()
     ensures { CornerGoes }
 {}
 
-/// A law: where the two faces at a vertex on a flat side of the hull become one, a local mesh of the other vertices is left.
+/// A law: where the two faces at a vertex on a flat side of the hull become one, a local mesh of
+/// the other vertices is left.
 pub fn flat_side_closes()
     ensures { FlatSideCloses }
 {}
@@ -208,7 +232,8 @@ pub fn inner_star_shrinks()
     ensures { InnerStarShrinks }
 {}
 
-/// A law: after the flip of an edge at a vertex of the hull its star is the one without that neighbour, with the same ends.
+/// A law: after the flip of an edge at a vertex of the hull its star is the one without that
+/// neighbour, with the same ends.
 pub fn hull_star_shrinks()
     ensures { HullStarShrinks }
 {}

@@ -1,4 +1,5 @@
-//! Laws of segments: what a segment meets, item by item, and the flips that make a segment between two vertices an edge.
+//! Laws of segments: what a segment meets, item by item, and the flips that make a segment between
+//! two vertices an edge.
 #![tactic(auto)]
 
 pub mod line_laws;

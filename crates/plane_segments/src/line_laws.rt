@@ -1,13 +1,21 @@
 //! What a segment meets, item by item: laws of the walk along a line.
-ghost use Rattle.plane_segments.specs.WalkLaws.{MeshesAreLaid, CrossingOnLine, FirstFromEdge, OutsideIsOffLine, EachSegmentHasWalk, RestFalls, LineListIsWalk, FirstFromFace, FirstFromOutside, NextOnLine, FirstOnLine, EqualEnds};
-ghost use Rattle.plane_segments.specs.LineLaws.{ItemsFollow, NextAfterCrossing, LastCrossing, NextAfterOverlap, NextAfterVertex, LastVertex, OverlapAhead, CrossingBySides, FirstItem, WalkIsLineList, StepsOnOneLine};
+ghost use Rattle.plane_segments.specs.WalkLaws.{MeshesAreLaid, CrossingOnLine, FirstFromEdge};
+ghost use Rattle.plane_segments.specs.WalkLaws.{OutsideIsOffLine, EachSegmentHasWalk, RestFalls};
+ghost use Rattle.plane_segments.specs.WalkLaws.{LineListIsWalk, FirstFromFace, FirstFromOutside};
+ghost use Rattle.plane_segments.specs.WalkLaws.{NextOnLine, FirstOnLine, EqualEnds};
+ghost use Rattle.plane_segments.specs.LineLaws.{ItemsFollow, NextAfterCrossing, LastCrossing};
+ghost use Rattle.plane_segments.specs.LineLaws.{NextAfterOverlap, NextAfterVertex, LastVertex};
+ghost use Rattle.plane_segments.specs.LineLaws.{OverlapAhead, CrossingBySides, FirstItem};
+ghost use Rattle.plane_segments.specs.LineLaws.{WalkIsLineList, StepsOnOneLine};
 
-/// A law: none of the items that a segment meets is before itself, and what is before what is before an item is before it.
+/// A law: none of the items that a segment meets is before itself, and what is before what is
+/// before an item is before it.
 pub fn items_follow()
     ensures { ItemsFollow }
 {}
 
-/// A law: what a segment meets after an edge that it crosses is on the face on the edge's left, and which it is two sides tell.
+/// A law: what a segment meets after an edge that it crosses is on the face on the edge's left, and
+/// which it is two sides tell.
 pub fn next_after_crossing()
     ensures { NextAfterCrossing }
 {}
@@ -17,17 +25,20 @@ pub fn last_crossing()
     ensures { LastCrossing }
 {}
 
-/// A law: after an edge that the segment overlaps comes the vertex at its end, unless the segment ends before.
+/// A law: after an edge that the segment overlaps comes the vertex at its end, unless the segment
+/// ends before.
 pub fn next_after_overlap()
     ensures { NextAfterOverlap }
 {}
 
-/// A law: after a vertex comes the overlap that starts there, or the far side of the face that the segment goes into.
+/// A law: after a vertex comes the overlap that starts there, or the far side of the face that the
+/// segment goes into.
 pub fn next_after_vertex()
     ensures { NextAfterVertex }
 {}
 
-/// A law: a vertex comes last where no edge there points to the segment's end and no open cone of a face there holds it.
+/// A law: a vertex comes last where no edge there points to the segment's end and no open cone of a
+/// face there holds it.
 pub fn last_vertex()
     ensures { LastVertex }
 {}
@@ -37,7 +48,8 @@ pub fn overlap_ahead()
     ensures { OverlapAhead }
 {}
 
-/// A law: whether the segment crosses an edge, in the direction that the line list gives it, is told by four sides.
+/// A law: whether the segment crosses an edge, in the direction that the line list gives it, is
+/// told by four sides.
 pub fn crossing_by_sides()
     ensures { CrossingBySides }
 {}
@@ -52,7 +64,8 @@ pub fn walk_is_line_list()
     ensures { WalkIsLineList }
 {}
 
-/// A law: where all vertices are on one line, the order of items, what comes after an edge, and that a walk gives the line list.
+/// A law: where all vertices are on one line, the order of items, what comes after an edge, and
+/// that a walk gives the line list.
 pub fn steps_on_one_line()
     ensures { StepsOnOneLine }
 {}
@@ -62,7 +75,8 @@ pub fn each_segment_has_walk()
     ensures { EachSegmentHasWalk }
 {}
 
-/// A law: from each item of a walk on there is a list of the rest, which each step makes shorter by its head.
+/// A law: from each item of a walk on there is a list of the rest, which each step makes shorter by
+/// its head.
 pub fn rest_falls()
     ensures { RestFalls }
 {}
@@ -77,12 +91,14 @@ pub fn first_from_face()
     ensures { FirstFromFace }
 {}
 
-/// A law: what a segment that crosses no outer edge from outside meets first there: a nearest vertex, or nothing.
+/// A law: what a segment that crosses no outer edge from outside meets first there: a nearest
+/// vertex, or nothing.
 pub fn first_from_outside()
     ensures { FirstFromOutside }
 {}
 
-/// A law: where all vertices are on one line, what comes after a vertex is the edge ahead, or nothing.
+/// A law: where all vertices are on one line, what comes after a vertex is the edge ahead, or
+/// nothing.
 pub fn next_on_line()
     ensures { NextOnLine }
 {}
@@ -97,12 +113,14 @@ pub fn equal_ends()
     ensures { EqualEnds }
 {}
 
-/// A law: what a segment meets first from strictly within an edge, by the side of its end, or by which end of the edge is ahead.
+/// A law: what a segment meets first from strictly within an edge, by the side of its end, or by
+/// which end of the edge is ahead.
 pub fn first_from_edge()
     ensures { FirstFromEdge }
 {}
 
-/// A law: where all vertices are on one line, no vertex is at a point outside and no edge carries it.
+/// A law: where all vertices are on one line, no vertex is at a point outside and no edge carries
+/// it.
 pub fn outside_is_off_line()
     ensures { OutsideIsOffLine }
 {}

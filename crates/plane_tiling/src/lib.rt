@@ -1,7 +1,9 @@
-//! From a local mesh invariant to the tiling of the hull: laws over lists of points, faces and edges.
+//! From a local mesh invariant to the tiling of the hull: laws over lists of points, faces and
+//! edges.
 #![tactic(auto)]
 
-ghost use Rattle.plane_tiling.specs.Laws.{EachPointHasOneLocation, HullEdgesCount, LineEdgesCount, LocalMeshesTile, MeshesTile, NoEdgesCross};
+ghost use Rattle.plane_tiling.specs.Laws.{EachPointHasOneLocation, HullEdgesCount, LineEdgesCount};
+ghost use Rattle.plane_tiling.specs.Laws.{LocalMeshesTile, MeshesTile, NoEdgesCross};
 
 /// A law: meshes that keep the local invariant tile the hull of their points.
 pub fn local_meshes_tile()
@@ -18,7 +20,8 @@ pub fn no_edges_cross()
     ensures { NoEdgesCross }
 {}
 
-/// A law: each point is at a vertex, on an edge, inside a face, beside an outer edge or past an end of the line, or there is no more than one vertex, elsewhere; and it is so in one way alone.
+/// A law: each point is at a vertex, on an edge, inside a face, beside an outer edge or past an end
+/// of the line, or there is no more than one vertex, elsewhere; and it is so in one way alone.
 pub fn each_point_has_one_location()
     ensures { EachPointHasOneLocation }
 {}

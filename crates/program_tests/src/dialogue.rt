@@ -32,8 +32,9 @@ fn push_line(text: &mut String, line: &str) -> Result<(), AllocError> {
     text.push('\n')
 }
 
-/// The dialogue of these lines: `> ` before a line for the program, `. ` before one without its end, `< `
-/// before a line of its replies. Below a line `or` are all lines of the replies that it may give in their place.
+/// The dialogue of these lines: `> ` before a line for the program, `. ` before one without its
+/// end, `< ` before a line of its replies. Below a line `or` are all lines of the replies that it
+/// may give in their place.
 fn dialogue_of(alloc: Global, lines: &str) -> Result<Dialogue, AllocError> {
     let mut input = String::new(alloc);
     let mut output = String::new(alloc);
@@ -65,8 +66,8 @@ fn is_allowed<L: HintGenerator<i64>>(alloc: Global, sheet: Sheet, dialogue: &Dia
     }
 }
 
-/// Whether the program answers as the dialogue says, whose first line begins with the sheet's letter:
-/// with its own hints, with those from 0 to 20 in turn, and with one that names no vertex.
+/// Whether the program answers as the dialogue says, whose first line begins with the sheet's
+/// letter: with its own hints, with those from 0 to 20 in turn, and with one that names no vertex.
 pub(crate) fn is_answered(alloc: Global, text: &str) -> Result<bool, AllocError> {
     let (heading, lines) = text.split_once('\n').unwrap_or((text, ""));
     let letter = heading

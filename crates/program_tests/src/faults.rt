@@ -189,8 +189,8 @@ fn lines_are_answered_before_more_is_read(rt: HostRuntime) {
     }
 }
 
-/// Runs with a writer that fails at each of its calls, up to the first that it isn't called for, and
-/// tells whether each run ended as it has to.
+/// Runs with a writer that fails at each of its calls, up to the first that it isn't called for,
+/// and tells whether each run ended as it has to.
 fn ends_at_each_fault(alloc: Global, width: usize, takes_none: bool) -> bool {
     for write in 0..80 {
         let faults = Faults {

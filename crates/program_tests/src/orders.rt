@@ -6,8 +6,8 @@ use std::alloc::{AllocError, Global};
 use triangulate_run::points::SheetPoint;
 use triangulate_run::sheet::Sheet;
 
-/// The points in the order `start`, `start + step`, `start + 2 * step` and so on, from the list's beginning
-/// again past its end.
+/// The points in the order `start`, `start + step`, `start + 2 * step` and so on, from the list's
+/// beginning again past its end.
 fn ordered(
     alloc: Global,
     points: &[SheetPoint],
@@ -38,7 +38,8 @@ fn commands(alloc: Global, points: &[SheetPoint]) -> Result<String, AllocError> 
     Ok(text)
 }
 
-/// The next index for each insertion, then the counts, then each point: of those that are left the last comes to index 0.
+/// The next index for each insertion, then the counts, then each point: of those that are left the
+/// last comes to index 0.
 fn replies(alloc: Global, mut points: Vec<SheetPoint>, counts: &str) -> Result<String, AllocError> {
     let mut text = String::new(alloc);
     for (j, _) in points.iter().enumerate() {
@@ -56,8 +57,8 @@ fn replies(alloc: Global, mut points: Vec<SheetPoint>, counts: &str) -> Result<S
     Ok(text)
 }
 
-/// Whether each insertion gets the next index, the counts are these, and each removal gives the point
-/// of index 0.
+/// Whether each insertion gets the next index, the counts are these, and each removal gives the
+/// point of index 0.
 fn is_answered(
     alloc: Global,
     sheet: Sheet,

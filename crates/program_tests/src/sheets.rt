@@ -9,7 +9,8 @@ use triangulate_run::fault::{RunError, USAGE, fault_text, status_of};
 use triangulate_run::points::{SheetPoint, index_of, site_index_of};
 use triangulate_run::sheet::{Sheet, sheet_named};
 
-/// The number of left-turning triples of the points, and, over these, of sites inside their circles.
+/// The number of left-turning triples of the points, and, over these, of sites inside their
+/// circles.
 fn counts<P: PlaneTests<i64>>(tests: &P, points: &[SheetPoint]) -> (u64, u64)
     requires covered { All (λ s. P.covered tests.now (place s)) points.now }
     requires sites { All (λ s. s.site ≡ true → P.sites tests.now (place s)) points.now }
@@ -42,8 +43,9 @@ fn counts<P: PlaneTests<i64>>(tests: &P, points: &[SheetPoint]) -> (u64, u64)
     (left, inside)
 }
 
-// 76 triples turn left. Four triples each have 2, 2, 2, 2, 5, 1, 4, 4, 4 and 4 points inside; of those whose circle
-// carries no further point, four have 1, four have 4, eight have 2 and four have 3. Each has three rotations.
+// 76 triples turn left. Four triples each have 2, 2, 2, 2, 5, 1, 4, 4, 4 and 4 points inside; of
+// those whose circle carries no further point, four have 1, four have 4, eight have 2 and four have
+// 3. Each has three rotations.
 #[test]
 fn each_rotation_of_a_listed_triple_turns_left(rt: HostRuntime) {
     let inside = 4 * (2 + 2 + 2 + 2 + 5 + 1 + 4 + 4 + 4 + 4) + 4 + 4 * 4 + 8 * 2 + 4 * 3;
@@ -52,8 +54,8 @@ fn each_rotation_of_a_listed_triple_turns_left(rt: HostRuntime) {
     }
 }
 
-// Of 35 triples of L, 4 are on a line, and of 84 triples of X, 20 are. The sites inside the circles of ten and nine
-// triples of sites are counted.
+// Of 35 triples of L, 4 are on a line, and of 84 triples of X, 20 are. The sites inside the circles
+// of ten and nine triples of sites are counted.
 #[test]
 fn sheets_with_points_that_are_no_sites_turn_as_listed(rt: HostRuntime) {
     let inside = (1 + 2 + 1 + 1 + 2 + 1, 2 + 2 + 1 + 1 + 1);

@@ -18,8 +18,8 @@ mod tests;
 /// The status where the arguments name no sheet.
 const WRONG_ARGUMENTS: u8 = 2;
 
-/// The argument at this index, if it is one byte. None is longer where it names a sheet, so that the
-/// arguments are read without memory of the heap.
+/// The argument at this index, if it is one byte. None is longer where it names a sheet, so that
+/// the arguments are read without memory of the heap.
 fn letter_at(rt: &impl Env, index: usize) -> Option<u8> {
     let mut letter = [0u8; 1];
     match rt.arg(index, &mut letter) {
@@ -33,7 +33,8 @@ fn ends_before(rt: &impl Env, index: usize) -> bool {
     matches!(rt.arg(index, &mut [0u8; 1]), Err(FillError::NotPresent))
 }
 
-/// The sheet that the arguments name: there is one behind the program's name, and it is a sheet's letter.
+/// The sheet that the arguments name: there is one behind the program's name, and it is a sheet's
+/// letter.
 fn sheet_of(rt: &impl Env) -> Option<Sheet> {
     let letter = [letter_at(rt, 1)?];
     if !ends_before(rt, 2) {
@@ -59,8 +60,8 @@ fn answer_all<R: Read + Drop>(
     )
 }
 
-/// Answers standard input on standard output. Where there is no memory for a buffer, each byte is read
-/// by a call of its own.
+/// Answers standard input on standard output. Where there is no memory for a buffer, each byte is
+/// read by a call of its own.
 fn answer(rt: &(impl Input + Print + AllocGlobal), sheet: Sheet) -> Result<(), RunError> {
     match BufReader::new(rt.alloc(), rt.reader()) {
         Ok(reader) => answer_all(rt, sheet, reader),

@@ -1,6 +1,7 @@
 //! A table of left-turning triples, read by the indexes of points.
 ghost use Rattle.std.specs.Prelude.{◌≡◌, false, get_or};
-ghost use Rattle.triangulate_run.specs.Table.{is_triple, is_turned, lists, is_left_in, side_in, is_inside_in};
+ghost use Rattle.triangulate_run.specs.Table.{is_triple, is_turned, lists, is_left_in, side_in};
+ghost use Rattle.triangulate_run.specs.Table.{is_inside_in};
 
 use delaunay_core::line_side_info::LineSideInfo;
 

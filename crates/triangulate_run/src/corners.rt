@@ -33,7 +33,8 @@ pub(crate) fn from_least(a: u64, b: u64, c: u64) -> Corners
 /// Sorts faces by their three numbers.
 pub(crate) fn sort_faces(faces: &mut Vec<Corners>) -> Result<(), AllocError>
     ensures permutation { IsPermutation faces.old.items faces.new.items }
-    ensures sorted { OnOk result (AllPairs (λ c d. c ≢ d) faces.old.items → AllPairs IsBefore faces.new.items) }
+    ensures sorted { OnOk result (AllPairs (λ c d. c ≢ d) faces.old.items →
+        AllPairs IsBefore faces.new.items) }
 {
     faces.sort()
 }

@@ -5,7 +5,9 @@ ghost use Rattle.triangulate_run.specs.Stage.{position, first_stage, Fits};
 ghost use Rattle.triangulate_run.specs.Points.{place};
 ghost use Rattle.triangulate_run.specs.Output.{Writes};
 ghost use Rattle.triangulate_run.specs.Engine.{stage_of, IsReady};
-ghost use Rattle.triangulate_run.specs.Answer.{AreVertices, IsReplied, MayCount, MayInsert, MayJoin, MayList, MayLocate, MayMeasure, MayRelease, MayRemove, MayReply, MayWalk, point_at};
+ghost use Rattle.triangulate_run.specs.Answer.{AreVertices, IsReplied, MayCount, MayInsert};
+ghost use Rattle.triangulate_run.specs.Answer.{MayJoin, MayList, MayLocate, MayMeasure, MayRelease};
+ghost use Rattle.triangulate_run.specs.Answer.{MayRemove, MayReply, MayWalk, point_at};
 
 use crate::constraints::{constrain, release, release_free};
 use crate::line::write_line;

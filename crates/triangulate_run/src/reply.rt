@@ -4,7 +4,8 @@ ghost use Rattle.std.specs.List.{flat_map};
 ghost use Rattle.watched.specs.Watched.{has_failed};
 ghost use Rattle.triangulate_run.specs.Output.{Writes, Puts};
 ghost use Rattle.triangulate_run.specs.Reply.{corners_text, reply_text};
-ghost use Rattle.triangulate_run.specs.declared.reply.Reply.TheVariants.{Refused, Edge, Removed, Counts};
+ghost use Rattle.triangulate_run.specs.declared.reply.Reply.TheVariants.{Refused, Edge, Removed};
+ghost use Rattle.triangulate_run.specs.declared.reply.Reply.TheVariants.{Counts};
 
 use crate::corners::Corners;
 use crate::output::{Held, put_pieces, write_all};
@@ -54,8 +55,8 @@ pub enum Reply {
     Faces(Vec<Corners>),
 }
 
-/// Writes the reply, each line of it with its byte 10, in one call where the writer takes it whole. A
-/// long list of faces takes more.
+/// Writes the reply, each line of it with its byte 10, in one call where the writer takes it whole.
+/// A long list of faces takes more.
 pub(crate) fn write_reply<W: Write>(writer: &mut Watched<W>, reply: &Reply) -> Result<(), Failed>
     requires works { has_failed writer.old ≡ false }
     ensures { Writes W.contents writer.old writer.new result (reply_text reply.now) }

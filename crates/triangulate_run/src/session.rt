@@ -118,7 +118,8 @@ pub(crate) fn converse<E: Engine, R: Read, W: Write>(
     requires fits { Fits (E.stage engine.old) }
     requires reader_works { has_failed reader.old ≡ false }
     requires writer_works { has_failed writer.old ≡ false }
-    ensures { Ran (E.listed engine.old) R.remaining W.contents reader.old reader.new writer.old writer.new result }
+    ensures { Ran (E.listed engine.old) R.remaining W.contents reader.old reader.new writer.old
+        writer.new result }
 {
     let mut line = LineBuffer::new();
     loop {
@@ -141,8 +142,8 @@ pub(crate) fn converse<E: Engine, R: Read, W: Write>(
 
 /// Answers each line of the reader to the writer, and passes the answer on before more is read.
 ///
-/// The tests cover each of `points`, and have it as a site where it says so; vertices are inserted at
-/// these sites alone.
+/// The tests cover each of `points`, and have it as a site where it says so; vertices are inserted
+/// at these sites alone.
 ///
 /// # Errors
 ///
@@ -159,7 +160,8 @@ pub fn run<L: HintGenerator<i64>, P: PlaneTests<i64>, R: Read, W: Write>(
     requires sites { All (λ s. s.site ≡ true → P.sites tests.now (place s)) points.now }
     requires reader_works { has_failed reader.old ≡ false }
     requires writer_works { has_failed writer.old ≡ false }
-    ensures { Ran points.now R.remaining W.contents reader.old reader.new writer.old writer.new result }
+    ensures { Ran points.now R.remaining W.contents reader.old reader.new writer.old writer.new
+        result }
 {
     let mut engine: PointEngine<'_, P, L> = PointEngine::new(alloc, tests, points);
     converse(&mut engine, reader, writer)

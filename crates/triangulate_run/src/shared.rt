@@ -10,7 +10,8 @@ ghost use Rattle.delaunay_legalization.specs.State.{triangulation_of};
 ghost use Rattle.triangulate_run.specs.MeshFaces.{row_at};
 ghost use Rattle.triangulate_run.specs.Stage.{position};
 ghost use Rattle.triangulate_run.specs.Engine.{stage_by, HasSites, IsReady};
-ghost use Rattle.triangulate_run.specs.Answer.{AreSoMany, AreVertices, ListsFaces, IsThere, MayCount, MayInsert, MayList, MayLocate, MayRemove};
+ghost use Rattle.triangulate_run.specs.Answer.{AreSoMany, AreVertices, ListsFaces, IsThere};
+ghost use Rattle.triangulate_run.specs.Answer.{MayCount, MayInsert, MayList, MayLocate, MayRemove};
 ghost use Rattle.triangulate_run.specs.declared.reply.Reply.TheVariants.{Edge};
 
 use crate::corners::{Corners, from_least, sort_faces};

@@ -1,5 +1,6 @@
 //! The sheets of points that the program knows, with their answers.
-ghost use Rattle.std.specs.Prelude.{◌≡◌, true, All, IfSome, IfNone, IsTrue, ◌↔◌, [], ◌∷◌, map, string_bytes};
+ghost use Rattle.std.specs.Prelude.{◌≡◌, ◌↔◌, [], ◌∷◌};
+ghost use Rattle.std.specs.Prelude.{true, All, IfSome, IfNone, IsTrue, map, string_bytes};
 ghost use Rattle.plane.specs.Fraction.{whole};
 ghost use Rattle.plane.specs.Side.{side, TurnsLeft};
 ghost use Rattle.plane.specs.Circle.{InsideCircle};
@@ -18,7 +19,8 @@ use delaunay_core::line_side_info::LineSideInfo;
 use delaunay_core::math::PlaneTests;
 use delaunay_core::point::Point2;
 
-/// A sheet of points, by its letter. As tests it covers its points, and its answers stand in tables.
+/// A sheet of points, by its letter. As tests it covers its points, and its answers stand in
+/// tables.
 #[derive(Clone, Copy, Debug, PartialEq, Eq)]
 pub enum Sheet {
     /// Three rows of three points, 1 apart, round (0, 0).
@@ -36,7 +38,8 @@ pub enum Sheet {
 /// The sheet that the words after the program's name ask for: one word, its letter.
 pub fn sheet_named(words: &[String]) -> Option<Sheet>
     ensures found { IfSome result (λ sheet. map string_bytes words.now ≡ letter_of sheet ∷ []) }
-    ensures none { IfNone result ((sheet : Sheet) → ¬ (map string_bytes words.now ≡ letter_of sheet ∷ [])) }
+    ensures none { IfNone result ((sheet : Sheet) →
+        ¬ (map string_bytes words.now ≡ letter_of sheet ∷ [])) }
 {
     let [word] = words else {
         return None;
@@ -122,7 +125,8 @@ impl PlaneTests<i64> for Sheet {
         requires from_covered { IsCovered self.now (place_of (λ z. z) from) }
         requires to_covered { IsCovered self.now (place_of (λ z. z) to) }
         requires point_covered { IsCovered self.now (place_of (λ z. z) point) }
-        ensures { result ≡ side (whole (place_of (λ z. z) from)) (whole (place_of (λ z. z) to)) (whole (place_of (λ z. z) point)) }
+        ensures { result ≡ side (whole (place_of (λ z. z) from)) (whole (place_of (λ z. z) to))
+            (whole (place_of (λ z. z) point)) }
     {
         side_at(
             self.circles(),
@@ -143,8 +147,11 @@ impl PlaneTests<i64> for Sheet {
         requires v2_site { IsSite self.now (place_of (λ z. z) v2) }
         requires v3_site { IsSite self.now (place_of (λ z. z) v3) }
         requires point_site { IsSite self.now (place_of (λ z. z) point) }
-        requires left_turn { TurnsLeft (whole (place_of (λ z. z) v1)) (whole (place_of (λ z. z) v2)) (whole (place_of (λ z. z) v3)) }
-        ensures { IsTrue result ↔ InsideCircle (whole (place_of (λ z. z) v1)) (whole (place_of (λ z. z) v2)) (whole (place_of (λ z. z) v3)) (whole (place_of (λ z. z) point)) }
+        requires left_turn { TurnsLeft (whole (place_of (λ z. z) v1)) (whole (place_of (λ z. z) v2))
+            (whole (place_of (λ z. z) v3)) }
+        ensures { IsTrue result ↔
+            InsideCircle (whole (place_of (λ z. z) v1)) (whole (place_of (λ z. z) v2))
+            (whole (place_of (λ z. z) v3)) (whole (place_of (λ z. z) point)) }
     {
         is_inside_at(
             self.circles(),

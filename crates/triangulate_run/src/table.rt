@@ -1,4 +1,5 @@
-//! The tables of the sheets: their points, and by circle the left-turning triples, with the points inside each.
+//! The tables of the sheets: their points, and by circle the left-turning triples, with the points
+//! inside each.
 
 use crate::circles::Circle;
 use crate::points::SheetPoint;

@@ -1,7 +1,8 @@
 //! A reader or a writer that remembers whether it has failed.
 #![tactic(auto)]
 
-ghost use Rattle.std.specs.Prelude.{◌≡◌, true, false, OnOk, OnErr, IfOk, length, ◌<◌, ◌+◌, ◌-◌, ◌^◌};
+ghost use Rattle.std.specs.Prelude.{◌≡◌, ◌<◌, ◌+◌, ◌-◌, ◌^◌};
+ghost use Rattle.std.specs.Prelude.{true, false, OnOk, OnErr, IfOk, length};
 ghost use Rattle.std.specs.Io.{ReadsAtMost, WritesAtMost};
 ghost use Rattle.std.specs.Io.KnownBytes.{ReadConsumes, WriteAppends, Keeps};
 ghost use Rattle.watched.specs.Watched.{inner_of, has_failed, reads_left_of};
@@ -12,7 +13,8 @@ use std::io::{Read, Write};
 #[derive(Clone, Copy, Debug, PartialEq, Eq)]
 pub struct Failed;
 
-/// A reader or a writer, and whether a call of it has failed. One that has failed isn't called again.
+/// A reader or a writer, and whether a call of it has failed. One that has failed isn't called
+/// again.
 #[derive(Drop)]
 pub struct Watched<T> {
     inner: T,
@@ -61,7 +63,8 @@ impl<T: Read> Watched<T> {
     pub fn read(&mut self, buf: &mut [u8]) -> Result<usize, Failed>
         requires { has_failed self.old ≡ false }
         ensures bound { ReadsAtMost result buf.new }
-        ensures bytes { ReadConsumes (T.remaining (inner_of self.old)) (T.remaining (inner_of self.new))
+        ensures bytes { ReadConsumes (T.remaining (inner_of self.old))
+            (T.remaining (inner_of self.new))
             result buf.new }
         ensures ok { OnOk result (has_failed self.new ≡ false) }
         ensures err { OnErr result (has_failed self.new ≡ true) }
@@ -92,7 +95,8 @@ impl<T: Write> Watched<T> {
         requires { has_failed self.old ≡ false }
         ensures bound { WritesAtMost result bytes.now }
         ensures progress { IfOk result (λ n. 0 < length bytes.now → 0 < n) }
-        ensures bytes { WriteAppends (T.contents (inner_of self.old)) (T.contents (inner_of self.new))
+        ensures bytes { WriteAppends (T.contents (inner_of self.old))
+            (T.contents (inner_of self.new))
             result bytes.now }
         ensures ok { OnOk result (has_failed self.new ≡ false) }
         ensures err { OnErr result (has_failed self.new ≡ true) }
