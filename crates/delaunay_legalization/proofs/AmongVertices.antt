@@ -13,7 +13,7 @@ use Rattle.mesh_embedding.specs.Drawn.{faces_of}
 use Rattle.mesh_embedding.specs.Legal.{AreEdges, pairs_at}
 use Rattle.mesh_embedding.proofs.MeshLegal.{joins_directed}
 use Rattle.mesh_embedding.proofs.MeshStars.{edge_of_face}
-use Rattle.delaunay_legalization.specs.Among.{AllPassBeyond, HasIfAmong, HasIfForward, HasForwardFrom, HasEdgesAmong}
+use Rattle.delaunay_legalization.specs.Among.{AllPassBeyond, HasIfForward, HasForwardFrom, HasEdgesAmong}
 
 -- a longer list has an edge too
 pub among_kept : (m : Mesh) (vs : List ℕ) (h : ℕ) (ks more : List ℕ) → ((j : ℕ) → Contains ks j → Contains more j)

@@ -1,12 +1,8 @@
 -- Lists of the edges that a flood begins with.
 use Rattle.std.proofs.Common.{◌≡◌, ℕ, ◌/◌, [], ◌∷◌, arith}
-use Rattle.std.specs.Prelude.{All, Result, Ok, Err, IfOk}
-use Rattle.std.proofs.lemmas.List.Elements.{All-cons, All-nil}
+use Rattle.std.specs.Prelude.{Result, Ok, Err, IfOk}
 use Rattle.half_edge_mesh.specs.Mesh.{Mesh, next, prev}
 use Rattle.delaunay_shapes.specs.Start.{HasSides}
-
-pub one_within : (P : ℕ → Type 0) (x : ℕ) → P x → All P (x ∷ [])
-one_within P x p = All-cons P x [] p (All-nil P)
 
 -- the three sides of a face, each by its index
 pub three_sides : (m : Mesh) (h x y z : ℕ) → x ≡ h / 2 → y ≡ next m h / 2 → z ≡ prev m h / 2 → HasSides m (x ∷ y ∷ z ∷ []) h

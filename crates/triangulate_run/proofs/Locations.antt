@@ -1,5 +1,5 @@
 -- Where a point is, as the replies write it: the lesser end first, the least corner first.
-use Rattle.std.proofs.Common.{◌≡◌, List, [], refl, ◌≢◌, ℕ, inl, inr, length, arith, sym, cond, ltb, lt-ltb, le-ltb, ◌≤◌, ◌<◌}
+use Rattle.std.proofs.Common.{◌≡◌, List, refl, ◌≢◌, ℕ, inl, inr, length, arith, sym, cond, ltb, lt-ltb, le-ltb, ◌≤◌, ◌<◌}
 use Rattle.std.specs.Prelude.{ℤ, ◌+ℤ◌, ◌*ℤ◌}
 use Rattle.std.proofs.lemmas.Int.{ints}
 use Rattle.plane.specs.Fraction.{Point, whole, Fraction, IsPositive, WithinSegment}
@@ -68,9 +68,6 @@ once_of t (inr line) = line.once
 
 pub edges_counted : (t : Triangulation) → IsTiling t → (n : ℕ) → n ≡ length t.edges → AreSoMany t.edges n
 edges_counted t tiles n e = record { different = t.edges; same = λ i j. (λ h. h, λ h. h); once = once_of t tiles; number = e }
-
-pub none_counted : AreSoMany [] 0
-none_counted = record { different = []; same = λ i j. (λ h. h, λ h. h); once = λ i j d before j_in. absurd (omega (arith, j_in)); number = refl }
 
 -- ---- as replies
 pub edge_there : (t : Triangulation) → IsTiling t → (p : Point) (i j x y : ℕ) (r : Reply) → x ≡ i → y ≡ j → r ≡ cond (ltb x y) (reply.Edge x y) (reply.Edge y x)

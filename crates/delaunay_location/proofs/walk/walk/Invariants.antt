@@ -1,7 +1,6 @@
 use Rattle.std.proofs.Common.{length}
-use Rattle.delaunay_core.specs.Place.{place_of}
 use Rattle.delaunay_location.specs.Stop.{IsStop}
 use Rattle.delaunay_location.proofs.walk.walk.Given as goal
 
 abbrev pub invariant-loop : goal.invariant-loop
-invariant-loop g l = IsStop (g.P.PlaneTests.covered l.tests) (length l.dcel.directed) l.stop.edge (place_of g.V.Scalar.SpadeNum.whole l.stop.from) (place_of g.V.Scalar.SpadeNum.whole l.stop.to)
+invariant-loop g l = IsStop g.V.Scalar.SpadeNum.whole (g.P.PlaneTests.covered l.tests) (length l.dcel.directed) l.stop
