@@ -1,4 +1,5 @@
 pub mod Held
+pub mod EditLemmas
 pub mod Locating
 pub mod Stepping
 pub mod Kept

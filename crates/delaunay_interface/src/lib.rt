@@ -18,6 +18,7 @@ mod triangulation;
 mod triangulation_core;
 
 pub use constraint_error::ConstraintError;
+pub use delaunay_edit::EdgeData;
 pub use delaunay_lines::{
     ConflictingEdgesIterator, HasMesh, Intersection, LineIntersectionIterator,
 };

@@ -15,9 +15,9 @@ use Rattle.delaunay_legalization.specs.Shape.{IsTriangulated}
 use Rattle.delaunay_legalization.specs.State.{State}
 use Rattle.delaunay_legalization.proofs.ConstraintEdges.{constraints_are_edges}
 use Rattle.delaunay_paths.proofs.AddingPieces.{half_ends}
-use Rattle.delaunay_edit.specs.Constrained.{constrained, constraint_edges, constraints_of}
-use Rattle.delaunay_edit.specs.ConstraintEdits.{AddsConstraint, FreesEdge}
-use Rattle.delaunay_edit.specs.Edits.{InsertsVertex, RemovesVertex}
+use Rattle.delaunay_interface.specs.Constrained.{constrained, constraint_edges, constraints_of}
+use Rattle.delaunay_interface.specs.ConstraintEdits.{AddsConstraint, FreesEdge}
+use Rattle.delaunay_interface.specs.Edits.{InsertsVertex, RemovesVertex}
 use Rattle.delaunay_interface.specs.Views.{AreNotJoined}
 use Rattle.delaunay_journal.specs.Journal.{JoinsPair, ReleasesPair}
 use Rattle.delaunay_journal.specs.Marking.{flag_marking}

@@ -9,7 +9,7 @@ use Rattle.delaunay_legalization.specs.Constraints.{constraints_by, points_and_c
 use Rattle.delaunay_legalization.specs.Known.{point_at}
 use Rattle.delaunay_legalization.specs.State.{State}
 use Rattle.delaunay_paths.specs.Adding.{MarksSome}
-use Rattle.delaunay_edit.specs.Edits.{InsertsVertex, RemovesVertex}
+use Rattle.delaunay_interface.specs.Edits.{InsertsVertex, RemovesVertex}
 use Rattle.delaunay_journal.specs.declared.edit.Edit.{Edit}
 use Rattle.delaunay_journal.specs.declared.edit.Edit.TheVariants.{Insert, Remove, Replace, Clear, AddConstraint, ReleaseConstraint}
 use Rattle.delaunay_journal.specs.declared.edit.Outcome.{Outcome}

@@ -1,6 +1,6 @@
 //! The types on which lists of edits are replayed, and the edits of their constraints.
 ghost use Rattle.std.specs.Prelude.{◌≡◌};
-ghost use Rattle.delaunay_edit.specs.Headline.{AreSites, IsDelaunay};
+ghost use Rattle.delaunay_interface.specs.Headline.{AreSites, IsDelaunay};
 ghost use Rattle.delaunay_journal.specs.declared.edit.Edit.TheVariants.{AddConstraint};
 ghost use Rattle.delaunay_journal.specs.declared.edit.Edit.TheVariants.{ReleaseConstraint};
 ghost use Rattle.delaunay_journal.specs.Journal.{Gives};

@@ -7,7 +7,7 @@ use Rattle.half_edge_mesh.specs.Contents.{Contents}
 use Rattle.plane.specs.Fraction.{Point, Fraction}
 use Rattle.plane.specs.Shape.{InClosedCircle, InClosedRectangle}
 use Rattle.plane.specs.Tests.{InRange}
-use Rattle.delaunay_edit.specs.Headline.{AreSites}
+use Rattle.delaunay_interface.specs.Headline.{AreSites}
 use Rattle.delaunay_legalization.specs.Shape.{IsTriangulated}
 use Rattle.delaunay_legalization.specs.State.{State, state_of}
 use Rattle.delaunay_shapes.specs.declared.in_shape.EdgesInShapeIterator.{EdgesInShapeIterator}

@@ -1,7 +1,7 @@
 //! The calls of both triangulations that ask for edges and vertices in a rectangle or a circle.
 ghost use Rattle.std.specs.Prelude.{◌≤ℤ◌, pos, All, IfOk};
 ghost use Rattle.delaunay_core.specs.Place.{place_of};
-ghost use Rattle.delaunay_edit.specs.Headline.{AreSites};
+ghost use Rattle.delaunay_interface.specs.Headline.{AreSites};
 ghost use Rattle.delaunay_shapes.specs.Left.{edges_left, vertices_left};
 ghost use Rattle.delaunay_shapes.specs.Tests.{corners};
 ghost use Rattle.delaunay_shape_queries.specs.Found.{FindsEdges, FindsVertices};

@@ -10,10 +10,9 @@ use Rattle.plane.specs.Plain.{Plain, Inserts}
 use Rattle.delaunay_core.specs.declared.math.InsertionError.{InsertionError}
 use Rattle.delaunay_legalization.specs.Constraints.{points_and_constraints_by}
 use Rattle.delaunay_legalization.specs.State.{State}
-use Rattle.delaunay_edit.specs.Storage.{IsCopy}
-use Rattle.delaunay_edit.proofs.Copies.{same_image}
-use Rattle.delaunay_edit.specs.Edits.{InsertsVertex, RemovesVertex}
-use Rattle.delaunay_edit.proofs.Removing.{sites_left}
+use Rattle.delaunay_interface.specs.Storage.{IsCopy}
+use Rattle.delaunay_interface.specs.Edits.{InsertsVertex, RemovesVertex}
+use Rattle.delaunay_interface.proofs.EditLemmas.{same_image, sites_left}
 use Rattle.hint_hierarchy.proofs.Held.{all_from_each}
 
 module _ {V : Type 0} (place : V → Point) (old new : Plain V) where

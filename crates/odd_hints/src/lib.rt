@@ -3,13 +3,15 @@
 #![tactic(auto)]
 
 ghost use Rattle.std.specs.Prelude.{◌≡◌, Some};
-ghost use Rattle.spade_delaunay.specs.Fraction.{Point};
-ghost use Rattle.spade_delaunay.specs.Hint.{IsAtMostWith, IsAtMostWithout};
-ghost use Rattle.spade_delaunay.specs.Held.{place_if};
-ghost use Rattle.spade_delaunay.specs.Place.{place_of};
+ghost use Rattle.plane.specs.Fraction.{Point};
+ghost use Rattle.plane.specs.Hint.{IsAtMostWith, IsAtMostWithout};
+ghost use Rattle.delaunay_core.specs.Held.{place_if};
+ghost use Rattle.delaunay_core.specs.Place.{place_of};
 
-use spade_delaunay::handles::FixedVertexHandle;
-use spade_delaunay::{HintGenerator, PlaneTests, Point2, SpadeNum};
+use delaunay_core::HintGenerator;
+use delaunay_core::math::PlaneTests;
+use delaunay_core::point::{Point2, SpadeNum};
+use half_edge_handles::FixedVertexHandle;
 use std::alloc::Global;
 use std::cell::Cell;
 

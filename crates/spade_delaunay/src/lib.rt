@@ -24,10 +24,9 @@ pub use delaunay_core::math::{
 };
 pub use delaunay_core::point::{HasPosition, Point2, SpadeNum};
 pub use delaunay_core::{HintGenerator, LastUsedVertexHintGenerator};
-pub use delaunay_edit::EdgeData;
 pub use delaunay_interface::{
     ConflictingEdgesIterator, ConstrainedDelaunayTriangulation, ConstraintError,
-    DelaunayTriangulation, HasMesh, Intersection, LineIntersectionIterator,
+    DelaunayTriangulation, EdgeData, HasMesh, Intersection, LineIntersectionIterator,
     PositionInTriangulation, Triangulation, TriangulationCore,
 };
 pub use delaunay_legalization::{CdtEdge, ConstraintMarker, EdgeConstraints, NoConstraints};

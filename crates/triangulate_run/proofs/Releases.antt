@@ -18,7 +18,7 @@ use Rattle.delaunay_paths.proofs.AddingPieces.{half_ends}
 use Rattle.delaunay_paths.proofs.JoinedPairs as joined
 use Rattle.delaunay_edit.specs.Constrained.{constrained, constraints_of, constraint_edges}
 use Rattle.delaunay_edit.specs.ConstraintEdits.{ReleasesConstraint}
-use Rattle.delaunay_interface.specs.Views.{AreNotJoined}
+use Rattle.spade_delaunay.specs.Views.{AreNotJoined}
 use Rattle.triangulate_run.specs.declared.reply.Reply.TheVariants.{NotConstrained, Refused, Released}
 use Rattle.triangulate_run.specs.Answer.{MayRelease}
 use Rattle.triangulate_run.specs.Engine.{stage_by}

@@ -5,7 +5,7 @@ use Rattle.std.specs.List.{range_with_len}
 use Rattle.std.proofs.Common.{arith}
 use Rattle.std.proofs.lemmas.List.{length-map}
 use Rattle.half_edge_mesh.specs.Triangles.{triangles, triangle_at}
-use Rattle.delaunay_interface.specs.InnerFaces.{inner_faces_left}
+use Rattle.spade_delaunay.specs.InnerFaces.{inner_faces_left}
 use Rattle.triangulate_run.specs.Stage.{position}
 use Rattle.delaunay_legalization.specs.State.{triangulation_of}
 use Rattle.mesh_embedding.specs.Drawn.{corners_of}

@@ -3,7 +3,7 @@ use Rattle.std.specs.Borrow.{Bor}
 use Rattle.std.specs.List.{range_with_len}
 use Rattle.half_edge_mesh.specs.Contents.{Contents}
 use Rattle.half_edge_mesh.specs.Left.{each_in}
-use Rattle.delaunay_interface.specs.InnerFaces.{inner_faces_left}
+use Rattle.spade_delaunay.specs.InnerFaces.{inner_faces_left}
 use Rattle.delaunay_legalization.specs.State.{state_of}
 use Rattle.triangulate_run.specs.MeshFaces.{row_at}
 use Rattle.triangulate_run.proofs.shared.faces_of.Given as goal
