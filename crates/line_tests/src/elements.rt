@@ -5,7 +5,6 @@ ghost use Rattle.delaunay_core.specs.Place.{place_of};
 ghost use Rattle.delaunay_edit.specs.Elements.{HasElement};
 
 use crate::items::ends_of;
-use crate::points::Plain;
 use exact_tests::ExactTests;
 use spade_delaunay::handles::FaceHandle;
 use spade_delaunay::{Point2, PositionInTriangulation, Triangulation};
@@ -15,7 +14,7 @@ use std::alloc::{AllocError, Global};
 pub type Corners = (u32, u32, u32);
 
 /// How many vertices, undirected edges and inner faces there are.
-pub fn counts(points: &Plain) -> [usize; 3] {
+pub fn counts<T: Triangulation<Vertex = Point2<i64>>>(points: &T) -> [usize; 3] {
     [
         points.num_vertices(),
         points.num_undirected_edges(),
@@ -23,7 +22,7 @@ pub fn counts(points: &Plain) -> [usize; 3] {
     ]
 }
 
-fn corners_of(face: FaceHandle<'_, Point2<i64>, (), (), ()>) -> Corners
+fn corners_of<V, DE, UE, F>(face: FaceHandle<'_, V, DE, UE, F>) -> Corners
     requires { 0 < face.index }
 {
     let [a, b, c] = face.vertices();
@@ -38,7 +37,10 @@ fn corners_of(face: FaceHandle<'_, Point2<i64>, (), (), ()>) -> Corners
 }
 
 /// The inner faces, in rising order.
-pub fn faces_of(points: &Plain, alloc: Global) -> Result<Vec<Corners>, AllocError> {
+pub fn faces_of<T: Triangulation<Vertex = Point2<i64>>>(
+    points: &T,
+    alloc: Global,
+) -> Result<Vec<Corners>, AllocError> {
     let mut faces = Vec::new(alloc);
     for face in points.inner_faces() {
         if !face.is_outer() {
@@ -60,8 +62,11 @@ pub enum Place {
     Nowhere,
 }
 
-fn named(points: &Plain, answer: PositionInTriangulation) -> Place
-    requires { HasElement points.now answer }
+fn named<T: Triangulation<Vertex = Point2<i64>>>(
+    points: &T,
+    answer: PositionInTriangulation,
+) -> Place
+    requires { HasElement (T.state points.now) answer }
 {
     match answer {
         PositionInTriangulation::OnVertex(vertex) => Place::Vertex(vertex.index()),
@@ -76,7 +81,7 @@ fn named(points: &Plain, answer: PositionInTriangulation) -> Place
 }
 
 /// The location of a point in range.
-pub fn locate(points: &Plain, point: Point2<i64>) -> Place
+pub fn locate<T: Triangulation<Vertex = Point2<i64>>>(points: &T, point: Point2<i64>) -> Place
     requires { InRange (place_of (λ z. z) point) }
 {
     named(points, points.locate(point, &ExactTests))

@@ -22,12 +22,22 @@ pub struct Session {
     sheet: Vec<Point2<i64>>,
 }
 
-fn insert(points: &mut Plain, x: i64, y: i64) -> Result<u32, InsertionError> {
+fn insert<T: Triangulation<Vertex = Point2<i64>>>(
+    points: &mut T,
+    x: i64,
+    y: i64,
+) -> Result<u32, InsertionError> {
     Ok(points.insert(Point2::new(x, y), &ExactTests)?.index())
 }
 
+// How many vertices are left.
+fn clear<T: Triangulation<Vertex = Point2<i64>>>(points: &mut T) -> usize {
+    points.clear();
+    points.num_vertices()
+}
+
 // Inserts the points of the line y = 0 from one x to another.
-fn insert_row(points: &mut Plain, from: i64, to: i64) -> bool {
+fn insert_row<T: Triangulation<Vertex = Point2<i64>>>(points: &mut T, from: i64, to: i64) -> bool {
     for x in from..to {
         if insert(points, x, 0).is_err() {
             return false;
@@ -37,7 +47,10 @@ fn insert_row(points: &mut Plain, from: i64, to: i64) -> bool {
 }
 
 // The position of the vertex that goes.
-fn remove(points: &mut Plain, index: i64) -> Option<(i64, i64)> {
+fn remove<T: Triangulation<Vertex = Point2<i64>>>(
+    points: &mut T,
+    index: i64,
+) -> Option<(i64, i64)> {
     let vertex = vertex(points, index)?;
     let position = points.remove(vertex, &ExactTests).ok()?;
     Some((position.x, position.y))
@@ -81,7 +94,7 @@ fn is_crossing(points: &Constrained, [x, y, u, v, ..]: [i64; 8]) -> Option<bool>
     Some(intersects(points, point(x, y)?, point(u, v)?))
 }
 
-fn located(points: &Plain, x: i64, y: i64) -> Option<Place> {
+fn located<T: Triangulation<Vertex = Point2<i64>>>(points: &T, x: i64, y: i64) -> Option<Place> {
     Some(locate(points, point(x, y)?))
 }
 
@@ -122,32 +135,36 @@ pub fn answer(
         }
         "from_delaunay" => call.tell(rt, &session.add_constraints(rt.alloc())),
         "constrain" => call.tell(rt, &constrain(&mut session.constrained, x, y)),
-        _ => edit(rt, session, call),
+        "clear" | "insert" | "insert_row" | "remove" => edit(rt, &mut session.plain, call),
+        "counts" | "faces" | "locate" => read(rt, &session.plain, call),
+        _ => walk_along(rt, session, call),
     }
 }
 
-fn edit(rt: &(impl Print + AllocGlobal), session: &mut Session, call: &Call<'_>) -> io::Result<()> {
+fn edit<T: Triangulation<Vertex = Point2<i64>>>(
+    rt: &(impl Print + AllocGlobal),
+    points: &mut T,
+    call: &Call<'_>,
+) -> io::Result<()> {
     let [x, y, ..] = call.numbers;
-    let points = &mut session.plain;
     match call.name {
-        "clear" => {
-            points.clear();
-            call.tell(rt, &points.num_vertices())
-        }
+        "clear" => call.tell(rt, &clear(points)),
         "insert" => call.tell(rt, &insert(points, x, y)),
         "insert_row" => call.tell(rt, &insert_row(points, x, y)),
-        "remove" => call.tell(rt, &remove(points, x)),
-        _ => read(rt, session, call),
+        _ => call.tell(rt, &remove(points, x)),
     }
 }
 
-fn read(rt: &(impl Print + AllocGlobal), session: &Session, call: &Call<'_>) -> io::Result<()> {
-    let ([x, y, ..], points) = (call.numbers, &session.plain);
+fn read<T: Triangulation<Vertex = Point2<i64>>>(
+    rt: &(impl Print + AllocGlobal),
+    points: &T,
+    call: &Call<'_>,
+) -> io::Result<()> {
+    let [x, y, ..] = call.numbers;
     match call.name {
         "counts" => call.tell(rt, &counts(points)),
         "faces" => call.tell(rt, &faces_of(points, rt.alloc())?),
-        "locate" => call.tell(rt, &located(points, x, y)),
-        _ => walk_along(rt, session, call),
+        _ => call.tell(rt, &located(points, x, y)),
     }
 }
 

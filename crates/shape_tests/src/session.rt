@@ -23,8 +23,11 @@ pub struct Session {
 }
 
 // A vertex, by its index.
-fn vertex(points: &Constrained, index: i64) -> Option<FixedVertexHandle>
-    ensures { IfSome result (λ v. v < length points.now.vertices) }
+fn vertex<T: Triangulation<Vertex = Point2<i64>>>(
+    points: &T,
+    index: i64,
+) -> Option<FixedVertexHandle>
+    ensures { IfSome result (λ v. v < length (T.state points.now).vertices) }
 {
     let index = u32::try_from(index).ok()?;
     if (index as usize) < points.num_vertices() {
@@ -32,6 +35,31 @@ fn vertex(points: &Constrained, index: i64) -> Option<FixedVertexHandle>
     } else {
         None
     }
+}
+
+/// Removes all vertices, and tells how many are left.
+pub fn clear<T: Triangulation<Vertex = Point2<i64>>>(points: &mut T) -> usize {
+    points.clear();
+    points.num_vertices()
+}
+
+pub fn insert<T: Triangulation<Vertex = Point2<i64>>>(
+    points: &mut T,
+    x: i64,
+    y: i64,
+) -> Result<u32, InsertionError> {
+    let vertex = points.insert(Point2::new(x, y), &ExactTests)?;
+    Ok(vertex.index())
+}
+
+/// The position of the vertex that goes, or nothing where there is none or no memory.
+pub fn remove<T: Triangulation<Vertex = Point2<i64>>>(
+    points: &mut T,
+    index: i64,
+) -> Option<(i64, i64)> {
+    let vertex = vertex(points, index)?;
+    let position = points.remove(vertex, &ExactTests).ok()?;
+    Some((position.x, position.y))
 }
 
 // The first edge that is a constraint.
@@ -53,22 +81,6 @@ impl Session {
             plain: Plain::new(alloc),
             constrained: Constrained::new(alloc),
         }
-    }
-
-    pub fn insert(&mut self, x: i64, y: i64) -> Result<u32, InsertionError> {
-        let vertex = self.plain.insert(Point2::new(x, y), &ExactTests)?;
-        Ok(vertex.index())
-    }
-
-    /// The position of the vertex that goes, or nothing where there is none or no memory.
-    pub fn remove(&mut self, index: i64) -> Option<(i64, i64)> {
-        let index = u32::try_from(index).ok()?;
-        if (index as usize) >= self.plain.num_vertices() {
-            return None;
-        }
-        let vertex = FixedVertexHandle::from_index(index);
-        let position = self.plain.remove(vertex, &ExactTests).ok()?;
-        Some((position.x, position.y))
     }
 
     /// Takes the plain triangulation for the one with constraints, and leaves one without vertices.
