@@ -1,5 +1,5 @@
-//! New triangulations, and insertions and removals at constant places. They promise nothing, so that
-//! no fact of one call is carried to the next.
+//! New triangulations, and insertions and removals at constant places. They promise nothing, so
+//! that no fact of one call is carried to the next.
 
 use crate::searches::Hinted;
 use exact_tests::ExactTests;
