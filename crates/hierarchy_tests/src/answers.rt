@@ -2,13 +2,18 @@
 
 ghost use Rattle.std.specs.Prelude.{◌<◌};
 
-use crate::hints::{Hinted, distance_2, hint, right_and_wrong};
+use crate::hints::{distance_2, hint, right_and_wrong};
 use crate::script::{Call, index};
 use exact_tests::ExactTests;
 use spade_delaunay::handles::{FaceHandle, FixedVertexHandle};
 use spade_delaunay::{
-    HintGenerator, InsertionError, Point2, PositionInTriangulation, Triangulation, validate_vertex,
+    DelaunayTriangulation, HintGenerator, InsertionError, Point2, PositionInTriangulation,
+    Triangulation, validate_vertex,
 };
+use std::alloc::Global;
+
+/// A triangulation with hints of this type.
+pub type Hinted<L> = DelaunayTriangulation<Point2<i64>, (), (), (), L>;
 
 const SIDE: u32 = 18;
 
@@ -32,7 +37,12 @@ pub enum Reply {
     Nothing,
 }
 
-fn insert<L: HintGenerator<i64>>(points: &mut Hinted<L>, x: i64, y: i64) -> Reply {
+/// No vertex and no edge.
+pub fn empty<T: Triangulation>(alloc: Global) -> T {
+    T::new(alloc)
+}
+
+fn insert<T: Triangulation<Vertex = Point2<i64>>>(points: &mut T, x: i64, y: i64) -> Reply {
     match points.insert(Point2::new(x, y), &ExactTests) {
         Ok(vertex) => Reply::Vertex(vertex.index()),
         Err(error) => Reply::Refused(error),
@@ -40,7 +50,7 @@ fn insert<L: HintGenerator<i64>>(points: &mut Hinted<L>, x: i64, y: i64) -> Repl
 }
 
 // The position of the vertex that goes.
-fn remove<L: HintGenerator<i64>>(points: &mut Hinted<L>, index: u32) -> Reply {
+fn remove<T: Triangulation<Vertex = Point2<i64>>>(points: &mut T, index: u32) -> Reply {
     if index as usize >= points.num_vertices() {
         return Reply::Nothing;
     }
@@ -51,7 +61,7 @@ fn remove<L: HintGenerator<i64>>(points: &mut Hinted<L>, index: u32) -> Reply {
 }
 
 // Inserts eighteen rows of eighteen points in a scattered order.
-fn fill<L: HintGenerator<i64>>(points: &mut Hinted<L>) -> Reply {
+fn fill<T: Triangulation<Vertex = Point2<i64>>>(points: &mut T) -> Reply {
     for i in 0..SIDE * SIDE {
         let k = i * STRIDE % (SIDE * SIDE);
         insert(points, i64::from(k % SIDE), i64::from(k / SIDE));
@@ -60,7 +70,7 @@ fn fill<L: HintGenerator<i64>>(points: &mut Hinted<L>) -> Reply {
 }
 
 // Removes this many vertices, of scattered indexes.
-fn thin<L: HintGenerator<i64>>(points: &mut Hinted<L>, removals: u32) -> Reply {
+fn thin<T: Triangulation<Vertex = Point2<i64>>>(points: &mut T, removals: u32) -> Reply {
     for i in 0..removals {
         let scattered = i.wrapping_mul(37) % 101;
         let count = u32::try_from(points.num_vertices()).unwrap_or(0);
@@ -69,7 +79,7 @@ fn thin<L: HintGenerator<i64>>(points: &mut Hinted<L>, removals: u32) -> Reply {
     counts(points)
 }
 
-fn clear<L: HintGenerator<i64>>(points: &mut Hinted<L>) -> Reply {
+fn clear<T: Triangulation>(points: &mut T) -> Reply {
     points.clear();
     counts(points)
 }
@@ -85,7 +95,7 @@ fn copy<L: HintGenerator<i64>>(points: &mut Hinted<L>) -> Reply {
     }
 }
 
-fn counts<L: HintGenerator<i64>>(points: &Hinted<L>) -> Reply {
+fn counts<T: Triangulation>(points: &T) -> Reply {
     Reply::Counts(
         points.num_vertices(),
         points.num_undirected_edges(),
@@ -93,7 +103,7 @@ fn counts<L: HintGenerator<i64>>(points: &Hinted<L>) -> Reply {
     )
 }
 
-fn locate<L: HintGenerator<i64>>(points: &Hinted<L>, position: Point2<i64>) -> Reply {
+fn locate<T: Triangulation<Vertex = Point2<i64>>>(points: &T, position: Point2<i64>) -> Reply {
     if validate_vertex(&position).is_err() {
         return Reply::Nothing;
     }
@@ -116,7 +126,7 @@ fn nearest<L: HintGenerator<i64>>(points: &Hinted<L>, position: Point2<i64>) -> 
     }
 }
 
-fn has_corner(face: FaceHandle<'_, Point2<i64>, (), (), ()>, corner: u32) -> bool
+fn has_corner<V, DE, UE, F>(face: FaceHandle<'_, V, DE, UE, F>, corner: u32) -> bool
     requires { 0 < face.index }
 {
     let [a, b, c] = face.vertices();
@@ -124,7 +134,7 @@ fn has_corner(face: FaceHandle<'_, Point2<i64>, (), (), ()>, corner: u32) -> boo
 }
 
 // Whether these three vertices are the corners of a face.
-fn is_face<L: HintGenerator<i64>>(points: &Hinted<L>, [a, b, c]: [u32; 3]) -> bool {
+fn is_face<T: Triangulation>(points: &T, [a, b, c]: [u32; 3]) -> bool {
     for face in points.inner_faces() {
         if !face.is_outer() && has_corner(face, a) && has_corner(face, b) && has_corner(face, c) {
             return true;
@@ -133,29 +143,43 @@ fn is_face<L: HintGenerator<i64>>(points: &Hinted<L>, [a, b, c]: [u32; 3]) -> bo
     false
 }
 
-fn hint_at<L: HintGenerator<i64>>(points: &Hinted<L>, position: Point2<i64>) -> Reply {
+fn hint_at<T: Triangulation<Vertex = Point2<i64>>>(points: &T, position: Point2<i64>) -> Reply {
     match hint(points, position) {
         Some(vertex) => Reply::Hint(vertex),
         None => Reply::Nothing,
     }
 }
 
-fn hints<L: HintGenerator<i64>>(points: &Hinted<L>, factor: u32) -> Reply {
+fn hints<T: Triangulation<Vertex = Point2<i64>>>(points: &T, factor: u32) -> Reply {
     let (right, wrong) = right_and_wrong(points, factor);
     Reply::Hints { right, wrong }
 }
 
-fn read<L: HintGenerator<i64>>(points: &Hinted<L>, factor: u32, call: &Call<'_>) -> Reply {
+fn read<T: Triangulation<Vertex = Point2<i64>>>(points: &T, factor: u32, call: &Call<'_>) -> Reply {
     let [x, y, z] = call.numbers;
-    let position = Point2::new(x, y);
     match call.name {
         "counts" => counts(points),
-        "locate" => locate(points, position),
-        "nearest" => nearest(points, position),
+        "locate" => locate(points, Point2::new(x, y)),
         "face" => Reply::Is(is_face(points, [index(x), index(y), index(z)])),
-        "hint" => hint_at(points, position),
+        "hint" => hint_at(points, Point2::new(x, y)),
         "hints" => hints(points, factor),
         _ => Reply::Nothing,
+    }
+}
+
+fn change<T: Triangulation<Vertex = Point2<i64>>>(
+    points: &mut T,
+    factor: u32,
+    call: &Call<'_>,
+) -> Reply {
+    let [x, y, _] = call.numbers;
+    match call.name {
+        "insert" => insert(points, x, y),
+        "fill" => fill(points),
+        "remove" => remove(points, index(x)),
+        "thin" => thin(points, index(x)),
+        "clear" => clear(points),
+        _ => read(points, factor, call),
     }
 }
 
@@ -167,12 +191,8 @@ pub fn answer<L: HintGenerator<i64>>(
 ) -> Reply {
     let [x, y, _] = call.numbers;
     match call.name {
-        "insert" => insert(points, x, y),
-        "fill" => fill(points),
-        "remove" => remove(points, index(x)),
-        "thin" => thin(points, index(x)),
-        "clear" => clear(points),
         "copy" => copy(points),
-        _ => read(points, factor, call),
+        "nearest" => nearest(points, Point2::new(x, y)),
+        _ => change(points, factor, call),
     }
 }

@@ -1,10 +1,10 @@
 //! Data of an edge and of the outer face, written, and read after an insertion and its removal.
 
-use crate::changes::{Constrained, Points, insert, insert_all, remove};
-use spade_delaunay::Triangulation;
+use crate::changes::{Constrained, Points, constrained, empty, insert, insert_all, remove};
 use spade_delaunay::handles::{
     FixedDirectedEdgeHandle, FixedFaceHandle, FixedUndirectedEdgeHandle, FixedVertexHandle,
 };
+use spade_delaunay::{CdtEdge, Point2, Triangulation};
 
 // The edge between the first two vertices, if there is one.
 fn first_edge<T: Triangulation>(points: &T) -> Option<FixedUndirectedEdgeHandle> {
@@ -19,7 +19,10 @@ fn first_edge<T: Triangulation>(points: &T) -> Option<FixedUndirectedEdgeHandle>
 }
 
 // The data of that edge and of the outer face.
-fn print_data(rt: &HostRuntime, points: &Points) -> anyhow::Result<()> {
+fn print_data<T: Triangulation<UndirectedEdge = u32, Face = u32>>(
+    rt: &HostRuntime,
+    points: &T,
+) -> anyhow::Result<()> {
     let outer = *points.outer_face().data();
     match first_edge(points) {
         Some(edge) if (edge.index() as usize) < points.num_undirected_edges() => {
@@ -31,50 +34,85 @@ fn print_data(rt: &HostRuntime, points: &Points) -> anyhow::Result<()> {
     Ok(())
 }
 
-// Writes 7 to that edge and 8 to the outer face.
-fn write(points: &mut Points) {
+// Writes this to that edge.
+fn write_edge<T: Triangulation<UndirectedUserData = u32>>(points: &mut T, value: u32) {
     if let Some(edge) = first_edge(points) {
         if (edge.index() as usize) < points.num_undirected_edges() {
-            *points.undirected_edge_data_mut(edge) = 7;
+            *points.undirected_edge_data_mut(edge) = value;
         }
     }
+}
+
+// Writes 8 to the outer face.
+fn write_face<T: Triangulation<Face = u32>>(points: &mut T) {
     *points.face_data_mut(FixedFaceHandle::from_index(0)) = 8;
 }
 
 // Writes 9 to directed edge 0, if it is there.
-fn print_directed(rt: &HostRuntime, points: &mut Points) -> anyhow::Result<()> {
+fn write_directed<T: Triangulation<DirectedEdge = u32>>(points: &mut T) {
+    if points.num_directed_edges() > 0 {
+        *points.directed_edge_data_mut(FixedDirectedEdgeHandle::from_index(0)) = 9;
+    }
+}
+
+// What is there then.
+fn print_directed<T: Triangulation<DirectedEdge = u32>>(
+    rt: &HostRuntime,
+    points: &T,
+) -> anyhow::Result<()> {
     let edge = FixedDirectedEdgeHandle::from_index(0);
     if points.num_directed_edges() > 0 {
-        *points.directed_edge_data_mut(edge) = 9;
         println!(rt; "directed edge {}", *points.directed_edge(edge).data())?;
     }
     Ok(())
 }
 
-// Writes 70 to the edge between the first two vertices.
+// The user's data of the edge between the first two vertices.
+fn user_data<T: Triangulation<UndirectedEdge = CdtEdge<u32>>>(points: &T) -> Option<u32> {
+    let edge = first_edge(points)?;
+    if (edge.index() as usize) < points.num_undirected_edges() {
+        Some(*points.undirected_edge(edge).data().data())
+    } else {
+        None
+    }
+}
+
+// Writes 70 to that edge, and prints what is there then.
 fn print_constrained(rt: &HostRuntime, points: &mut Constrained) -> anyhow::Result<()> {
-    if let Some(edge) = first_edge(points) {
-        if (edge.index() as usize) < points.num_undirected_edges() {
-            *points.undirected_edge_data_mut(edge) = 70;
-            let data = *points.undirected_edge(edge).data().data();
-            println!(rt; "edge {data}, {} constraints", points.num_constraints())?;
-        }
+    write_edge(points, 70);
+    if let Some(data) = user_data(points) {
+        println!(rt; "edge {data}, {} constraints", points.num_constraints())?;
     }
     Ok(())
 }
 
+// Data of a triangle, also after an insertion and after its removal.
+fn print_changes<
+    T: Triangulation<
+        Vertex = Point2<i64>,
+        DirectedEdge = u32,
+        UndirectedEdge = u32,
+        UndirectedUserData = u32,
+        Face = u32,
+    >,
+>(rt: &HostRuntime, points: &mut T) -> anyhow::Result<()> {
+    insert_all(points, &[(0, 1), (1, 1), (1, 0)])?;
+    write_edge(points, 7);
+    write_face(points);
+    print_data(rt, points)?;
+    let added = insert(points, (-1, -1))?;
+    print_data(rt, points)?;
+    remove(points, added)?;
+    print_data(rt, points)?;
+    write_directed(points);
+    print_directed(rt, points)
+}
+
 pub fn run(rt: &HostRuntime) -> anyhow::Result<()> {
-    let mut points = Points::new(rt.alloc());
-    insert_all(&mut points, &[(0, 1), (1, 1), (1, 0)])?;
-    write(&mut points);
-    print_data(rt, &points)?;
-    let added = insert(&mut points, (-1, -1))?;
-    print_data(rt, &points)?;
-    remove(&mut points, added)?;
-    print_data(rt, &points)?;
-    print_directed(rt, &mut points)?;
-    match Constrained::from_delaunay(points) {
-        Ok(mut constrained) => print_constrained(rt, &mut constrained),
-        Err(_) => Ok(()),
+    let mut points: Points = empty(rt.alloc());
+    print_changes(rt, &mut points)?;
+    match constrained(points) {
+        Some(mut points) => print_constrained(rt, &mut points),
+        None => Ok(()),
     }
 }

@@ -1,10 +1,10 @@
 //! The iterators of both types from both ends, how many items they have, and copies of them.
 ghost use Rattle.std.specs.Prelude.{◌<◌};
 
-use crate::changes::{Constrained, Points, insert_all};
+use crate::changes::{Points, constrained, empty, square};
 use crate::lasts::print_lasts;
-use spade_delaunay::Triangulation;
 use spade_delaunay::handles::FaceHandle;
+use spade_delaunay::{Point2, Triangulation};
 
 fn count_elements<T: Triangulation>(points: &T) -> [usize; 5] {
     [
@@ -103,13 +103,19 @@ fn print_ends<T: Triangulation>(rt: &HostRuntime, points: &T, index: u32) -> any
     print_copies(rt, points)
 }
 
-pub fn run(rt: &HostRuntime) -> anyhow::Result<()> {
-    let mut points = Points::new(rt.alloc());
-    print_ends(rt, &points, 0)?;
-    insert_all(&mut points, &[(-1, -1), (1, -1), (1, 1), (-1, 1), (0, 0)])?;
+// The ends where there is nothing, and those of a square with its centre, which is given back.
+fn print_square<T: Triangulation<Vertex = Point2<i64>>>(rt: &HostRuntime) -> anyhow::Result<T> {
+    let none: T = empty(rt.alloc());
+    print_ends(rt, &none, 0)?;
+    let points: T = square(rt.alloc())?;
     print_ends(rt, &points, 4)?;
-    let Ok(constrained) = Constrained::from_delaunay(points) else {
-        return Ok(());
-    };
-    print_ends(rt, &constrained, 4)
+    Ok(points)
+}
+
+pub fn run(rt: &HostRuntime) -> anyhow::Result<()> {
+    let points: Points = print_square(rt)?;
+    match constrained(points) {
+        Some(points) => print_ends(rt, &points, 4),
+        None => Ok(()),
+    }
 }

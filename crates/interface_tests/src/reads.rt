@@ -1,7 +1,7 @@
 //! Each call that reads, of both types, in a square with its centre.
 ghost use Rattle.std.specs.Iterator.{IsFinite};
 
-use crate::changes::{Constrained, Points, insert_all};
+use crate::changes::{Constrained, Points, constrained, empty, square};
 use spade_delaunay::handles::FixedVertexHandle;
 use spade_delaunay::{Point2, SpadeNum, Triangulation};
 
@@ -111,23 +111,29 @@ fn print_constrained(rt: &HostRuntime, points: &Constrained) -> anyhow::Result<(
 }
 
 // What a request for too much room tells, and a triangulation with none.
-fn print_room(rt: &HostRuntime) -> anyhow::Result<()> {
-    match Points::with_capacity(rt.alloc(), 0, 2147483648, 0) {
+fn print_room<T: Triangulation>(rt: &HostRuntime) -> anyhow::Result<()> {
+    match T::with_capacity(rt.alloc(), 0, 2147483648, 0) {
         Ok(_) => println!(rt; "room")?,
         Err(error) => println!(rt; "refused: {error}")?,
     }
-    let empty = Points::with_capacity(rt.alloc(), 0, 0, 0)?;
+    let empty = T::with_capacity(rt.alloc(), 0, 0, 0)?;
     print_counts(rt, &empty)
 }
 
+// What is read where there is nothing, and of a square with its centre, which is given back.
+fn print_square<T: Triangulation<Vertex = Point2<i64>>>(rt: &HostRuntime) -> anyhow::Result<T> {
+    let none: T = empty(rt.alloc());
+    print_all(rt, &none)?;
+    let points: T = square(rt.alloc())?;
+    print_all(rt, &points)?;
+    Ok(points)
+}
+
 pub fn run(rt: &HostRuntime) -> anyhow::Result<()> {
-    let mut points = Points::new(rt.alloc());
-    print_all(rt, &points)?;
-    insert_all(&mut points, &[(-1, -1), (1, -1), (1, 1), (-1, 1), (0, 0)])?;
-    print_all(rt, &points)?;
-    let Ok(constrained) = Constrained::from_delaunay(points) else {
+    let points: Points = print_square(rt)?;
+    let Some(points) = constrained(points) else {
         return Ok(());
     };
-    print_constrained(rt, &constrained)?;
-    print_room(rt)
+    print_constrained(rt, &points)?;
+    print_room::<Points>(rt)
 }

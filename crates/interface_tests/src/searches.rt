@@ -1,6 +1,6 @@
 //! Where points of three rows of three are, and which vertex is nearest, as a triangulation grows.
 
-use crate::changes::insert;
+use crate::changes::{empty, insert};
 use exact_tests::ExactTests;
 use spade_delaunay::{
     DelaunayTriangulation, HintGenerator, Point2, PositionInTriangulation, Triangulation,
@@ -50,9 +50,9 @@ fn distance<L: HintGenerator<i64>>(points: &Hinted<L>, point: Point2<i64>) -> Op
 }
 
 // Where a point is.
-fn print_location<L: HintGenerator<i64>>(
+fn print_location<T: Triangulation<Vertex = Point2<i64>>>(
     rt: &HostRuntime,
-    points: &Hinted<L>,
+    points: &T,
     point: Point2<i64>,
 ) -> anyhow::Result<()> {
     if validate_vertex(&point).is_err() {
@@ -82,7 +82,7 @@ fn print_answers<L: HintGenerator<i64>>(
     Ok(())
 }
 
-fn print_counts<L: HintGenerator<i64>>(rt: &HostRuntime, points: &Hinted<L>) -> anyhow::Result<()> {
+fn print_counts<T: Triangulation>(rt: &HostRuntime, points: &T) -> anyhow::Result<()> {
     let (vertices, edges) = (points.num_vertices(), points.num_undirected_edges());
     let (faces, hull) = (points.num_inner_faces(), points.convex_hull_size());
     println!(rt; "{vertices} vertices, {edges} edges, {faces} faces, {hull} on the hull")?;
@@ -90,7 +90,7 @@ fn print_counts<L: HintGenerator<i64>>(rt: &HostRuntime, points: &Hinted<L>) -> 
 }
 
 pub fn run<L: HintGenerator<i64>>(rt: &HostRuntime) -> anyhow::Result<()> {
-    let mut points: Hinted<L> = Hinted::new(rt.alloc());
+    let mut points: Hinted<L> = empty(rt.alloc());
     print_answers(rt, &points)?;
     for place in POINTS {
         insert(&mut points, place)?;

@@ -3,6 +3,7 @@ ghost use Rattle.std.specs.Prelude.{◌<◌};
 
 use spade_delaunay::Triangulation;
 use spade_delaunay::handles::FaceHandle;
+use std::alloc::{AllocError, Global};
 
 // The corners of an inner face by their indexes, the least first.
 fn corners_of<V, DE, UE, F>(face: FaceHandle<'_, V, DE, UE, F>) -> [u32; 3]
@@ -19,17 +20,27 @@ fn corners_of<V, DE, UE, F>(face: FaceHandle<'_, V, DE, UE, F>) -> [u32; 3]
     }
 }
 
-/// Prints the corners of each inner face in order.
-pub fn print_faces<T: Triangulation>(rt: &HostRuntime, points: &T) -> anyhow::Result<()> {
-    let mut faces = Vec::new(rt.alloc());
+// The corners of each inner face.
+fn faces_of<T: Triangulation>(points: &T, alloc: Global) -> Result<Vec<[u32; 3]>, AllocError> {
+    let mut faces = Vec::new(alloc);
     for face in points.inner_faces() {
         if !face.is_outer() {
             faces.push(corners_of(face))?;
         }
     }
-    faces.sort()?;
+    Ok(faces)
+}
+
+fn print_each(rt: &HostRuntime, faces: Vec<[u32; 3]>) -> anyhow::Result<()> {
     for corners in faces {
         println!(rt; "face {corners:?}")?;
     }
     Ok(())
+}
+
+/// Prints the corners of each inner face in order.
+pub fn print_faces<T: Triangulation>(rt: &HostRuntime, points: &T) -> anyhow::Result<()> {
+    let mut faces = faces_of(points, rt.alloc())?;
+    faces.sort()?;
+    print_each(rt, faces)
 }

@@ -7,55 +7,18 @@
 
 mod faces;
 mod script;
+mod session;
 
-use delaunay_journal::{Edit, Replayable, replay};
-use exact_tests::ExactTests;
-use faces::print_faces;
 use script::parse;
-use spade_delaunay::{
-    ConstrainedDelaunayTriangulation, DelaunayTriangulation, Point2, Triangulation,
-};
-use std::mem::replace;
-
-type Plain = DelaunayTriangulation<Point2<i64>>;
-
-type Constrained = ConstrainedDelaunayTriangulation<Point2<i64>>;
-
-fn print_replay<T: Replayable<Vertex = Point2<i64>>>(
-    rt: &HostRuntime,
-    points: &mut T,
-    edits: &mut Vec<Edit<Point2<i64>>>,
-) -> anyhow::Result<()> {
-    let list = replace(edits, Vec::new(rt.alloc()));
-    for outcome in replay(points, list, &ExactTests)? {
-        println!(rt; "{outcome:?}")?;
-    }
-    println!(rt;
-        "{} vertices, {} edges, {} faces",
-        points.num_vertices(),
-        points.num_undirected_edges(),
-        points.num_inner_faces()
-    )?;
-    Ok(())
-}
+use session::Session;
 
 fn main(rt: HostRuntime) -> anyhow::Result<()> {
-    let (mut plain, mut constrained) = (Plain::new(rt.alloc()), Constrained::new(rt.alloc()));
-    let mut edits = Vec::new(rt.alloc());
+    let mut session = Session::new(rt.alloc());
     for line in rt.lines(rt.alloc()) {
         let line = line?;
-        match line.as_str() {
-            "replay plain" => print_replay(&rt, &mut plain, &mut edits)?,
-            "replay constrained" => {
-                print_replay(&rt, &mut constrained, &mut edits)?;
-                println!(rt; "{} constraints", constrained.num_constraints())?;
-            }
-            "faces plain" => print_faces(&rt, &plain)?,
-            "faces constrained" => print_faces(&rt, &constrained)?,
-            line => match parse(line) {
-                Some(edit) => edits.push(edit)?,
-                None => println!(rt; "{line}")?,
-            },
+        match parse(line.as_str()) {
+            Some(request) => session.answer(&rt, request)?,
+            None => println!(rt; "{line}")?,
         }
     }
     Ok(())
