@@ -49,31 +49,19 @@ fn print_hints<L: HintGenerator<i64>>(rt: &impl Print, generator: &L) -> io::Res
     Ok(())
 }
 
-// Tells of five vertices.
-fn tell_five<L: HintGenerator<i64>>(generator: &mut L)
-    requires { IsAtMost InRange (L.holds generator.old) }
-    ensures { IsAtMost InRange (L.holds generator.new) }
-{
-    tell(generator, 0, Point2::new(-1, -1));
-    tell(generator, 1, Point2::new(0, -1));
-    tell(generator, 2, Point2::new(1, -1));
-    tell(generator, 3, Point2::new(-1, 0));
-    tell(generator, 4, Point2::new(0, 0));
-}
-
-// The hints of a generator that is told of five vertices and of the removal of one.
-fn print_told<L: HintGenerator<i64>>(rt: &(impl Print + AllocGlobal)) -> io::Result<()> {
+/// Tells of five vertices and of the removal of one, and begins anew with the five.
+pub fn run<L: HintGenerator<i64>>(rt: &(impl Print + AllocGlobal)) -> io::Result<()> {
     let mut told: L = HintGenerator::<i64>::new(rt.alloc());
-    tell_five(&mut told);
+    tell(&mut told, 0, Point2::new(-1, -1));
+    tell(&mut told, 1, Point2::new(0, -1));
+    tell(&mut told, 2, Point2::new(1, -1));
+    tell(&mut told, 3, Point2::new(-1, 0));
+    tell(&mut told, 4, Point2::new(0, 0));
     println!(rt; "# told of five vertices")?;
     print_hints(rt, &told)?;
     tell_removal(&mut told, 2, Point2::new(1, -1), Point2::new(0, 0));
     println!(rt; "# told that the one at 1 -1 went")?;
-    print_hints(rt, &told)
-}
-
-// Those of one that is made for the five, and of its copy.
-fn print_made<L: HintGenerator<i64>>(rt: &(impl Print + AllocGlobal)) -> io::Result<()> {
+    print_hints(rt, &told)?;
     let points = [
         Point2::new(-1, -1),
         Point2::new(0, -1),
@@ -91,10 +79,4 @@ fn print_made<L: HintGenerator<i64>>(rt: &(impl Print + AllocGlobal)) -> io::Res
     let copy = HintGenerator::<i64>::duplicate(&made);
     println!(rt; "# its copy")?;
     print_hints(rt, &copy)
-}
-
-/// Tells of five vertices and of the removal of one, and begins anew with the five.
-pub fn run<L: HintGenerator<i64>>(rt: &(impl Print + AllocGlobal)) -> io::Result<()> {
-    print_told::<L>(rt)?;
-    print_made::<L>(rt)
 }

@@ -2,18 +2,13 @@
 
 ghost use Rattle.std.specs.Prelude.{◌<◌};
 
-use crate::hints::{distance_2, hint, right_and_wrong};
+use crate::hints::{Hinted, distance_2, hint, right_and_wrong};
 use crate::script::{Call, index};
 use exact_tests::ExactTests;
 use spade_delaunay::handles::{FaceHandle, FixedVertexHandle};
 use spade_delaunay::{
-    DelaunayTriangulation, HintGenerator, InsertionError, Point2, PositionInTriangulation,
-    Triangulation, validate_vertex,
+    HintGenerator, InsertionError, Point2, PositionInTriangulation, Triangulation, validate_vertex,
 };
-use std::alloc::Global;
-
-/// A triangulation with hints of this type.
-pub type Hinted<L> = DelaunayTriangulation<Point2<i64>, (), (), (), L>;
 
 const SIDE: u32 = 18;
 
@@ -37,12 +32,7 @@ pub enum Reply {
     Nothing,
 }
 
-/// No vertex and no edge.
-pub fn empty<T: Triangulation>(alloc: Global) -> T {
-    T::new(alloc)
-}
-
-fn insert<T: Triangulation<Vertex = Point2<i64>>>(points: &mut T, x: i64, y: i64) -> Reply {
+fn insert<L: HintGenerator<i64>>(points: &mut Hinted<L>, x: i64, y: i64) -> Reply {
     match points.insert(Point2::new(x, y), &ExactTests) {
         Ok(vertex) => Reply::Vertex(vertex.index()),
         Err(error) => Reply::Refused(error),
@@ -50,7 +40,7 @@ fn insert<T: Triangulation<Vertex = Point2<i64>>>(points: &mut T, x: i64, y: i64
 }
 
 // The position of the vertex that goes.
-fn remove<T: Triangulation<Vertex = Point2<i64>>>(points: &mut T, index: u32) -> Reply {
+fn remove<L: HintGenerator<i64>>(points: &mut Hinted<L>, index: u32) -> Reply {
     if index as usize >= points.num_vertices() {
         return Reply::Nothing;
     }
@@ -61,7 +51,7 @@ fn remove<T: Triangulation<Vertex = Point2<i64>>>(points: &mut T, index: u32) ->
 }
 
 // Inserts eighteen rows of eighteen points in a scattered order.
-fn fill<T: Triangulation<Vertex = Point2<i64>>>(points: &mut T) -> Reply {
+fn fill<L: HintGenerator<i64>>(points: &mut Hinted<L>) -> Reply {
     for i in 0..SIDE * SIDE {
         let k = i * STRIDE % (SIDE * SIDE);
         insert(points, i64::from(k % SIDE), i64::from(k / SIDE));
@@ -70,7 +60,7 @@ fn fill<T: Triangulation<Vertex = Point2<i64>>>(points: &mut T) -> Reply {
 }
 
 // Removes this many vertices, of scattered indexes.
-fn thin<T: Triangulation<Vertex = Point2<i64>>>(points: &mut T, removals: u32) -> Reply {
+fn thin<L: HintGenerator<i64>>(points: &mut Hinted<L>, removals: u32) -> Reply {
     for i in 0..removals {
         let scattered = i.wrapping_mul(37) % 101;
         let count = u32::try_from(points.num_vertices()).unwrap_or(0);
@@ -79,7 +69,7 @@ fn thin<T: Triangulation<Vertex = Point2<i64>>>(points: &mut T, removals: u32) -
     counts(points)
 }
 
-fn clear<T: Triangulation>(points: &mut T) -> Reply {
+fn clear<L: HintGenerator<i64>>(points: &mut Hinted<L>) -> Reply {
     points.clear();
     counts(points)
 }
@@ -95,7 +85,7 @@ fn copy<L: HintGenerator<i64>>(points: &mut Hinted<L>) -> Reply {
     }
 }
 
-fn counts<T: Triangulation>(points: &T) -> Reply {
+fn counts<L: HintGenerator<i64>>(points: &Hinted<L>) -> Reply {
     Reply::Counts(
         points.num_vertices(),
         points.num_undirected_edges(),
@@ -103,7 +93,7 @@ fn counts<T: Triangulation>(points: &T) -> Reply {
     )
 }
 
-fn locate<T: Triangulation<Vertex = Point2<i64>>>(points: &T, position: Point2<i64>) -> Reply {
+fn locate<L: HintGenerator<i64>>(points: &Hinted<L>, position: Point2<i64>) -> Reply {
     if validate_vertex(&position).is_err() {
         return Reply::Nothing;
     }
@@ -126,7 +116,7 @@ fn nearest<L: HintGenerator<i64>>(points: &Hinted<L>, position: Point2<i64>) -> 
     }
 }
 
-fn has_corner<V, DE, UE, F>(face: FaceHandle<'_, V, DE, UE, F>, corner: u32) -> bool
+fn has_corner(face: FaceHandle<'_, Point2<i64>, (), (), ()>, corner: u32) -> bool
     requires { 0 < face.index }
 {
     let [a, b, c] = face.vertices();
@@ -134,7 +124,7 @@ fn has_corner<V, DE, UE, F>(face: FaceHandle<'_, V, DE, UE, F>, corner: u32) -> 
 }
 
 // Whether these three vertices are the corners of a face.
-fn is_face<T: Triangulation>(points: &T, [a, b, c]: [u32; 3]) -> bool {
+fn is_face<L: HintGenerator<i64>>(points: &Hinted<L>, [a, b, c]: [u32; 3]) -> bool {
     for face in points.inner_faces() {
         if !face.is_outer() && has_corner(face, a) && has_corner(face, b) && has_corner(face, c) {
             return true;
@@ -143,43 +133,29 @@ fn is_face<T: Triangulation>(points: &T, [a, b, c]: [u32; 3]) -> bool {
     false
 }
 
-fn hint_at<T: Triangulation<Vertex = Point2<i64>>>(points: &T, position: Point2<i64>) -> Reply {
+fn hint_at<L: HintGenerator<i64>>(points: &Hinted<L>, position: Point2<i64>) -> Reply {
     match hint(points, position) {
         Some(vertex) => Reply::Hint(vertex),
         None => Reply::Nothing,
     }
 }
 
-fn hints<T: Triangulation<Vertex = Point2<i64>>>(points: &T, factor: u32) -> Reply {
+fn hints<L: HintGenerator<i64>>(points: &Hinted<L>, factor: u32) -> Reply {
     let (right, wrong) = right_and_wrong(points, factor);
     Reply::Hints { right, wrong }
 }
 
-fn read<T: Triangulation<Vertex = Point2<i64>>>(points: &T, factor: u32, call: &Call<'_>) -> Reply {
+fn read<L: HintGenerator<i64>>(points: &Hinted<L>, factor: u32, call: &Call<'_>) -> Reply {
     let [x, y, z] = call.numbers;
+    let position = Point2::new(x, y);
     match call.name {
         "counts" => counts(points),
-        "locate" => locate(points, Point2::new(x, y)),
+        "locate" => locate(points, position),
+        "nearest" => nearest(points, position),
         "face" => Reply::Is(is_face(points, [index(x), index(y), index(z)])),
-        "hint" => hint_at(points, Point2::new(x, y)),
+        "hint" => hint_at(points, position),
         "hints" => hints(points, factor),
         _ => Reply::Nothing,
-    }
-}
-
-fn change<T: Triangulation<Vertex = Point2<i64>>>(
-    points: &mut T,
-    factor: u32,
-    call: &Call<'_>,
-) -> Reply {
-    let [x, y, _] = call.numbers;
-    match call.name {
-        "insert" => insert(points, x, y),
-        "fill" => fill(points),
-        "remove" => remove(points, index(x)),
-        "thin" => thin(points, index(x)),
-        "clear" => clear(points),
-        _ => read(points, factor, call),
     }
 }
 
@@ -191,8 +167,12 @@ pub fn answer<L: HintGenerator<i64>>(
 ) -> Reply {
     let [x, y, _] = call.numbers;
     match call.name {
+        "insert" => insert(points, x, y),
+        "fill" => fill(points),
+        "remove" => remove(points, index(x)),
+        "thin" => thin(points, index(x)),
+        "clear" => clear(points),
         "copy" => copy(points),
-        "nearest" => nearest(points, Point2::new(x, y)),
-        _ => change(points, factor, call),
+        _ => read(points, factor, call),
     }
 }

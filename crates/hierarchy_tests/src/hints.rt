@@ -2,13 +2,15 @@
 
 use exact_tests::ExactTests;
 use spade_delaunay::handles::FixedVertexHandle;
-use spade_delaunay::{HintGenerator, Point2, Triangulation, validate_vertex};
+use spade_delaunay::{
+    DelaunayTriangulation, HintGenerator, Point2, Triangulation, validate_vertex,
+};
+
+/// A triangulation with hints of this type.
+pub type Hinted<L> = DelaunayTriangulation<Point2<i64>, (), (), (), L>;
 
 /// The vertex that the generator gives for a position in range.
-pub fn hint<T: Triangulation<Vertex = Point2<i64>>>(
-    points: &T,
-    position: Point2<i64>,
-) -> Option<u32> {
+pub fn hint<L: HintGenerator<i64>>(points: &Hinted<L>, position: Point2<i64>) -> Option<u32> {
     if validate_vertex(&position).is_err() {
         return None;
     }
@@ -30,8 +32,8 @@ pub fn distance_2(a: Point2<i64>, b: Point2<i64>) -> i64 {
 
 // The squared distance to the nearest vertex that the first layer is to have: its index is a
 // multiple of the factor.
-fn distance_to_layer<T: Triangulation<Vertex = Point2<i64>>>(
-    points: &T,
+fn distance_to_layer<L: HintGenerator<i64>>(
+    points: &Hinted<L>,
     factor: u32,
     position: Point2<i64>,
 ) -> i64 {
@@ -46,11 +48,7 @@ fn distance_to_layer<T: Triangulation<Vertex = Point2<i64>>>(
 
 // Whether the hint is a vertex of the first layer that none of it is nearer than, or 0 where there
 // is no layer.
-fn is_right<T: Triangulation<Vertex = Point2<i64>>>(
-    points: &T,
-    factor: u32,
-    position: Point2<i64>,
-) -> bool {
+fn is_right<L: HintGenerator<i64>>(points: &Hinted<L>, factor: u32, position: Point2<i64>) -> bool {
     let Some(hint) = hint(points, position) else {
         return false;
     };
@@ -67,10 +65,7 @@ fn is_right<T: Triangulation<Vertex = Point2<i64>>>(
 }
 
 /// At how many vertices the hint is as it is to be, and at how many it is not.
-pub fn right_and_wrong<T: Triangulation<Vertex = Point2<i64>>>(
-    points: &T,
-    factor: u32,
-) -> (u64, u64) {
+pub fn right_and_wrong<L: HintGenerator<i64>>(points: &Hinted<L>, factor: u32) -> (u64, u64) {
     let (mut right, mut wrong): (u64, u64) = (0, 0);
     for vertex in points.vertices() {
         if is_right(points, factor, *vertex.data()) {

@@ -1,9 +1,10 @@
 //! Five triangulations of the same points.
 
 use crate::alone;
-use crate::answers::{Hinted, Reply, answer as answer_of, empty};
+use crate::answers::{Reply, answer as answer_of};
+use crate::hints::Hinted;
 use crate::script::Call;
-use spade_delaunay::HierarchyHintGeneratorWithBranchFactor as Hierarchy;
+use spade_delaunay::{HierarchyHintGeneratorWithBranchFactor as Hierarchy, Triangulation};
 use std::alloc::Global;
 use std::io;
 
@@ -20,11 +21,11 @@ pub struct Session {
 impl Session {
     pub fn new(alloc: Global) -> Self {
         Session {
-            zero: empty(alloc),
-            one: empty(alloc),
-            two: empty(alloc),
-            three: empty(alloc),
-            sixteen: empty(alloc),
+            zero: Hinted::new(alloc),
+            one: Hinted::new(alloc),
+            two: Hinted::new(alloc),
+            three: Hinted::new(alloc),
+            sixteen: Hinted::new(alloc),
         }
     }
 
