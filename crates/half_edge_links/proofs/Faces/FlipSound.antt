@@ -7,7 +7,7 @@ use Rattle.half_edge_links.specs.Mesh.{Mesh, edge_at, origin, next, prev, face, 
 use Rattle.half_edge_links.specs.Flip.{IsFlippable, Flips}
 use Rattle.half_edge_links.proofs.Lists.Rev.{rev-rev}
 use Rattle.half_edge_links.proofs.Lists.Writes.{AreSixPlaces}
-use Rattle.half_edge_links.proofs.Sound.Parts.{sound_kept, IsBusy, loop_sound}
+use Rattle.half_edge_links.proofs.Sound.Parts.{sound_kept, IsBusy, loop_sound, KeepsBusy, KeepsOutEdges, NamesFaces, NamesOutEdges, NamesOuterEdge}
 use Rattle.half_edge_links.proofs.Sound.Triangles.{IsTriangle, triangle_at, same_loop, six_round}
 
 -- an edge is none of the six round e
@@ -90,7 +90,7 @@ module _ (m new : Mesh) (e : ℕ) (s : AreSoundLinks m) (can : IsFlippable m e) 
         | inr (a, inr b) ↦ inl (b, a, f.other_outs v b a)
       ]
 
-  has_out : (v : ℕ) → IsSome (out_edge m v) → IsSome (out_edge new v)
+  has_out : KeepsOutEdges m new
   has_out v had =
       elim (outs v) [
         | inl a ↦ rw a.2 had
@@ -112,7 +112,7 @@ module _ (m new : Mesh) (e : ℕ) (s : AreSoundLinks m) (can : IsFlippable m e) 
         faces = omega (arith, f.face_count);
       })
 
-  busy : (h : ℕ) → h < length m.half_edges → IsBusy new (origin m h)
+  busy : KeepsBusy m new
   busy h within = let here = s.edges h within in record { within = rw f.vertex_count here.origin_in; has_out = has_out (origin m h) here.has_out }
 
   -- the far end of one of the four edges beside e
@@ -165,7 +165,7 @@ module _ (m new : Mesh) (e : ℕ) (s : AreSoundLinks m) (can : IsFlippable m e) 
         })
       ]
 
-  vertices_kept : (v h : ℕ) → out_edge new v ≡ Some h → (h < length new.half_edges) × (origin new h ≡ v)
+  vertices_kept : NamesOutEdges new
   vertices_kept v h named =
       elim (outs v) [
         | inl a ↦
@@ -183,7 +183,7 @@ module _ (m new : Mesh) (e : ℕ) (s : AreSoundLinks m) (can : IsFlippable m e) 
             (omega (arith, six.c_in, f.edge_count), cc (f.edge_next.origin))
       ]
 
-  faces_kept : (g : ℕ) → 0 < g → g ≤ length new.face_edges → (face_edge new g < length new.half_edges) × (face new (face_edge new g) ≡ g)
+  faces_kept : NamesFaces new
   faces_kept g some within =
       elim (cases_eq g (face m e) or_else cases_eq g (face m (rev e))) [
         | inl same ↦
@@ -199,7 +199,7 @@ module _ (m new : Mesh) (e : ℕ) (s : AreSoundLinks m) (can : IsFlippable m e) 
             (omega (arith, f.edge_count, had.0), cc)
       ]
 
-  outer_kept : (h : ℕ) → new.outer_edge ≡ Some h → (h < length new.half_edges) × (face new h ≡ 0)
+  outer_kept : NamesOuterEdge new
   outer_kept h named =
       let had = s.outer h (cc) in
       let at = kept h (away_by_face h (λ q. absurd (omega (arith, can.inner))) (λ q. absurd (omega (arith, can.twin_inner)))) in

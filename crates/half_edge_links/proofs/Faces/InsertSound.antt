@@ -6,7 +6,7 @@ use Rattle.half_edge_links.specs.declared.records.HalfEdge.{HalfEdge}
 use Rattle.half_edge_links.specs.Mesh.{Mesh, edge_at, origin, next, prev, face, face_edge, out_edge, rev, AreSoundLinks, IsSoundEdge, IsInnerEdge, IsAlone, HasLinks}
 use Rattle.half_edge_links.specs.Insert.{Inserts}
 use Rattle.half_edge_links.proofs.Lists.Rev.{rev_within}
-use Rattle.half_edge_links.proofs.Sound.Parts.{late_cases, rev_of_even, rev_of_odd, IsBusy, loop_sound, still_out, still_named, sound_kept}
+use Rattle.half_edge_links.proofs.Sound.Parts.{late_cases, rev_of_even, rev_of_odd, IsBusy, loop_sound, still_out, still_named, sound_kept, EachEdgeIsSound, KeepsBusy, KeepsOutEdges, NamesFaces, NamesOutEdges, NamesOuterEdge}
 use Rattle.half_edge_links.proofs.Sound.Triangles.{IsTriangle, triangle_at, same_loop}
 
 -- an edge is none of those round the face
@@ -77,7 +77,7 @@ module _ (m new : Mesh) (v f a n g : ℕ) (s : AreSoundLinks m) (inner : IsInner
         | inr (x, inr (y, inr z)) ↦ ap (λ (w : HalfEdge). w.origin) (i.other_edges h within x y z)
       ]
 
-  has_out : (u : ℕ) → IsSome (out_edge m u) → IsSome (out_edge new u)
+  has_out : KeepsOutEdges m new
   has_out = still_out m new v (n + 1) i.out i.other_outs
 
   rev_in : (h : ℕ) → h < n → rev h < n
@@ -99,7 +99,7 @@ module _ (m new : Mesh) (v f a n g : ℕ) (s : AreSoundLinks m) (inner : IsInner
         faces = omega (arith, i.face_count);
       })
 
-  busy_old : (h : ℕ) → h < length m.half_edges → IsBusy new (origin m h)
+  busy_old : KeepsBusy m new
   busy_old h within = let here = s.edges h within in record { within = rw i.vertex_count here.origin_in; has_out = has_out (origin m h) here.has_out }
 
   -- old edge h, edge b from its end to v and edge d from v to its start go round a face
@@ -127,7 +127,7 @@ module _ (m new : Mesh) (v f a n g : ℕ) (s : AreSoundLinks m) (inner : IsInner
   third_sound : IsSoundEdge new (prev m a) × IsSoundEdge new n × IsSoundEdge new (n + 5)
   third_sound = face_sound (prev m a) n (n + 5) _ (g + 2) (omega (arith, at_n, round.prev_in)) (omega arith, omega arith) (omega arith, omega arith) (λ q. absurd (omega arith)) (omega arith) (ap (origin m) round.next_prev) i.third i.from_first i.to_third (ap (origin new) rev0 ∙ i.to_first.origin) (ap (origin new) rev5 ∙ i.from_third.origin) i.third_face
 
-  sound_at : (h : ℕ) → h < length new.half_edges → IsSoundEdge new h
+  sound_at : EachEdgeIsSound new
   sound_at h within =
       elim (late_cases h n (omega (arith, i.edge_count))) [
         | inl old ↦ elim (cases_eq a h or_else cases_eq (next m a) h or_else cases_eq (prev m a) h) [
@@ -143,10 +143,10 @@ module _ (m new : Mesh) (v f a n g : ℕ) (s : AreSoundLinks m) (inner : IsInner
         | inr (inr (inr (inr (inr e)))) ↦ elim e [ inl is ↦ rw is second_sound.2 | inr is ↦ rw is third_sound.2 ]
       ]
 
-  vertices_kept : (u h : ℕ) → out_edge new u ≡ Some h → (h < length new.half_edges) × (origin new h ≡ u)
+  vertices_kept : NamesOutEdges new
   vertices_kept = still_named m new v (n + 1) i.out i.other_outs s (omega (arith, i.edge_count)) i.to_first.origin (λ h within off. (omega (arith, i.edge_count, at_n, within), origin_kept h (omega (arith, at_n, within))))
 
-  faces_kept : (k : ℕ) → 0 < k → k ≤ length new.face_edges → (face_edge new k < length new.half_edges) × (face new (face_edge new k) ≡ k)
+  faces_kept : NamesFaces new
   faces_kept k some within =
       elim (cases_eq k f or_else cases_eq k (g + 1) or_else cases_eq k (g + 2)) [
         | inl same ↦
@@ -165,7 +165,7 @@ module _ (m new : Mesh) (v f a n g : ℕ) (s : AreSoundLinks m) (inner : IsInner
             (omega (arith, i.edge_count, had.0), cc)
       ]
 
-  outer_kept : (h : ℕ) → new.outer_edge ≡ Some h → (h < length new.half_edges) × (face new h ≡ 0)
+  outer_kept : NamesOuterEdge new
   outer_kept h named =
       let had = s.outer h (sym i.outer_edge ∙ named) in
       let at = kept h (omega (arith, had.0)) (away_by_face h (λ q. absurd (omega (arith, at_f, inner.1)))) in

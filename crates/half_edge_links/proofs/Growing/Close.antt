@@ -8,7 +8,7 @@ use Rattle.half_edge_links.specs.Grow.{IsClosable, closed, Closes}
 use Rattle.half_edge_links.proofs.Lists.Rev.{rev_within}
 use Rattle.half_edge_links.proofs.Faces.FlipLemmas.{links_from}
 use Rattle.half_edge_links.proofs.Growing.CloseReads.{closes_edges}
-use Rattle.half_edge_links.proofs.Sound.Parts.{grown_cases, rev_of_even, rev_of_odd, IsNextSound, IsInnerSound, IsBusy, sound_from, next_of_sound, next_kept, inner_kept, next_at, prev_sound, loop_sound}
+use Rattle.half_edge_links.proofs.Sound.Parts.{grown_cases, rev_of_even, rev_of_odd, IsNextSound, IsInnerSound, IsBusy, sound_from, next_of_sound, next_kept, inner_kept, next_at, prev_sound, loop_sound, EachEdgeIsSound, EachNextIsSound, KeepsBusy, KeepsEnds, KeepsFaceEdges, NamesFaces}
 
 -- the edges round the place of a new face
 pub record IsCorner (m : Mesh) (e : ℕ) : Type 0 where
@@ -54,7 +54,7 @@ module _ (m new : Mesh) (e : ℕ) (s : AreSoundLinks m) (can : IsClosable m e) (
   c : IsCorner m e
   c = corner m e s can
 
-  rev_kept : (h : ℕ) → h < length m.half_edges → origin new (rev h) ≡ origin m (rev h)
+  rev_kept : KeepsEnds m new
   rev_kept h within = i.origins (rev h) (rev_within h _ s.even within)
 
   more : length m.half_edges ≤ length new.half_edges
@@ -66,10 +66,10 @@ module _ (m new : Mesh) (e : ℕ) (s : AreSoundLinks m) (can : IsClosable m e) (
   named_new : face_edge new (length m.face_edges + 1) ≡ e
   named_new = rw i.face_edges (get_or_at m.face_edges e [] 0 _ (omega arith))
 
-  named_old : (k : ℕ) → 0 < k → k ≤ length m.face_edges → face_edge new k ≡ face_edge m k
+  named_old : KeepsFaceEdges m new
   named_old k some within = rw i.face_edges (get_or_append_left m.face_edges (e ∷ []) 0 (k - 1) (omega (arith, some, within)))
 
-  busy : (h : ℕ) → h < length m.half_edges → IsBusy new (origin m h)
+  busy : KeepsBusy m new
   busy h within = let here = s.edges h within in record { within = rw i.out_edges here.origin_in; has_out = rw i.out_edges here.has_out }
 
   -- the edges of the new face
@@ -97,7 +97,7 @@ module _ (m new : Mesh) (e : ℕ) (s : AreSoundLinks m) (can : IsClosable m e) (
         | inr (a, inr (b, inr j)) ↦ elim j [ inl is ↦ inl (rw is round_sound.2) | inr is ↦ inr (inl is) ]
       ]
 
-  next_ok : (h : ℕ) → h < length new.half_edges → IsNextSound new h
+  next_ok : EachNextIsSound new
   next_ok h within =
       elim (place h within) [
         | inl done ↦ next_of_sound new h done
@@ -132,7 +132,7 @@ module _ (m new : Mesh) (e : ℕ) (s : AreSoundLinks m) (can : IsClosable m e) (
       (i.other_next (next m h) here.next_in (λ q. absurd (omega (arith, was, here.same_face, ap (face m) q, c.before_outer))) (λ q. absurd (omega (arith, was, here.same_face, ap (face m) q, c.second_outer))))
       (named_old (face m h) was here.face_in)
 
-  sound_at : (h : ℕ) → h < length new.half_edges → IsSoundEdge new h
+  sound_at : EachEdgeIsSound new
   sound_at h within =
       elim (place h within) [
         | inl done ↦ done
@@ -158,7 +158,7 @@ module _ (m new : Mesh) (e : ℕ) (s : AreSoundLinks m) (can : IsClosable m e) (
   inner_face_kept h within some =
       i.other_faces h within (λ q. absurd (omega (arith, some, ap (face m) q, can.outer))) (λ q. absurd (omega (arith, some, ap (face m) q, c.second_outer)))
 
-  faces_kept : (k : ℕ) → 0 < k → k ≤ length new.face_edges → (face_edge new k < length new.half_edges) × (face new (face_edge new k) ≡ k)
+  faces_kept : NamesFaces new
   faces_kept k some within =
       elim (cases_eq k (length m.face_edges + 1)) [
         | inl same ↦ rw (same, named_new) (omega (arith, i.edge_count, can.within), i.face_first)

@@ -10,7 +10,7 @@ use Rattle.half_edge_links.proofs.Lists.Rev.{rev_within}
 use Rattle.half_edge_links.proofs.Faces.FlipLemmas.{links_from}
 use Rattle.half_edge_links.proofs.Sound.FieldWrites.{writes_next, writes_prev, next_link, prev_link, face_link, origin_link}
 use Rattle.half_edge_links.proofs.Lists.Writes.{length-two, two_before, two_at_0, two_at_1}
-use Rattle.half_edge_links.proofs.Sound.Parts.{rev_of_even, rev_of_odd, IsInMesh, IsNextSound, IsInnerSound, sound_from, next_kept, inner_kept, next_at, prev_sound, grown_cases, still_out, still_named}
+use Rattle.half_edge_links.proofs.Sound.Parts.{rev_of_even, rev_of_odd, IsInMesh, IsNextSound, IsInnerSound, sound_from, next_kept, inner_kept, next_at, prev_sound, grown_cases, still_out, still_named, EachEdgeIsSound, EachNextIsSound, KeepsEnds, KeepsOutEdges, NamesOutEdges}
 
 module _ (hs : List HalfEdge) (x y v : ℕ) (x_in : x < length hs) (y_in : y < length hs) where
   abbrev first : List HalfEdge
@@ -84,10 +84,10 @@ module _ (m new : Mesh) (x v : ℕ) (s : AreSoundLinks m) (outer : IsOuter m x) 
   pub after_outer : face m (next m x) ≡ 0
   after_outer = at_x.same_face ∙ outer.1
 
-  rev_kept : (h : ℕ) → h < length m.half_edges → origin new (rev h) ≡ origin m (rev h)
+  rev_kept : KeepsEnds m new
   rev_kept h within = i.origins (rev h) (rev_within h _ s.even within)
 
-  has_out : (u : ℕ) → IsSome (out_edge m u) → IsSome (out_edge new u)
+  has_out : KeepsOutEdges m new
   has_out = still_out m new v (length m.half_edges + 1) i.out i.other_outs
 
   more : length m.half_edges ≤ length new.half_edges
@@ -99,7 +99,7 @@ module _ (m new : Mesh) (x v : ℕ) (s : AreSoundLinks m) (outer : IsOuter m x) 
   named : (k : ℕ) → face_edge new k ≡ face_edge m k
   named k = rw i.face_edges refl
 
-  next_ok : (h : ℕ) → h < length new.half_edges → IsNextSound new h
+  next_ok : EachNextIsSound new
   next_ok h within =
       elim (cases_eq (length m.half_edges) h or_else cases_eq (length m.half_edges + 1) h) [
         | inl same ↦ rw (← same) (
@@ -156,7 +156,7 @@ module _ (m new : Mesh) (x v : ℕ) (s : AreSoundLinks m) (outer : IsOuter m x) 
         }
       ]
 
-  sound_at : (h : ℕ) → h < length new.half_edges → IsSoundEdge new h
+  sound_at : EachEdgeIsSound new
   sound_at h within =
       sound_from new h (in_mesh h within) (next_ok h within) (prev_sound new next_ok h within) (λ some. elim (grown_cases h (length m.half_edges) (rw i.edge_count at within)) [
         | inl old ↦ inner_ok h old some
@@ -164,7 +164,7 @@ module _ (m new : Mesh) (x v : ℕ) (s : AreSoundLinks m) (outer : IsOuter m x) 
         | inr (inr back) ↦ absurd (omega (arith, some, ap (face new) back ∙ i.back.face ∙ outer.1))
       ])
 
-  vertices_kept : (u h : ℕ) → out_edge new u ≡ Some h → (h < length new.half_edges) × (origin new h ≡ u)
+  vertices_kept : NamesOutEdges new
   vertices_kept = still_named m new v (length m.half_edges + 1) i.out i.other_outs s (omega (arith, i.edge_count)) i.back.origin (λ h within off. (omega (arith, i.edge_count, within), i.origins h within))
 
   pub sound_after_hang : AreSoundLinks new

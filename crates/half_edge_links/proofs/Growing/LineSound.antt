@@ -3,7 +3,7 @@ use Rattle.std.proofs.Common.{◌≡◌, ◌≢◌, ℕ, ◌<◌, [], length, So
 use Rattle.std.proofs.lemmas.Bool.{cases_eq}
 use Rattle.half_edge_links.specs.Mesh.{Mesh, origin, next, face, out_edge, rev, AreSoundLinks}
 use Rattle.half_edge_links.proofs.Lists.Rev.{rev_same, rev_within}
-use Rattle.half_edge_links.proofs.Sound.Parts.{IsNextSound, IsInMesh, sound_from, prev_sound, still_out, still_named}
+use Rattle.half_edge_links.proofs.Sound.Parts.{IsNextSound, IsInMesh, sound_from, prev_sound, still_out, still_named, HasNoFace, KeepsOutEdges, NamesOutEdges}
 
 -- the other side of edge e starts where edge x does now, and the vertex where it started names the edge after e
 pub record MovesEnd (m new : Mesh) (e x : ℕ) : Type 0 where
@@ -23,7 +23,7 @@ pub record MovesEnd (m new : Mesh) (e x : ℕ) : Type 0 where
   pub outer_edge : new.outer_edge ≡ m.outer_edge
 
 module _ (m new : Mesh) (e x : ℕ) (s : AreSoundLinks m) (i : MovesEnd m new e x) where
-  pub face_zero : (h : ℕ) → h < length m.half_edges → face m h ≡ 0
+  pub face_zero : HasNoFace m
   face_zero h within = omega (arith, (s.edges h within).face_in, ap length i.one_face)
 
   pub zero_after : (h : ℕ) → h < length m.half_edges → face new h ≡ 0
@@ -43,7 +43,7 @@ module _ (m new : Mesh) (e x : ℕ) (s : AreSoundLinks m) (i : MovesEnd m new e 
         | inr differs ↦ (h, within, i.other_origins h within differs)
       ]
 
-  has_out : (u : ℕ) → IsSome (out_edge m u) → IsSome (out_edge new u)
+  has_out : KeepsOutEdges m new
   has_out = still_out m new (origin m (next m e)) (next m e) i.out i.other_outs
 
   in_mesh : (h : ℕ) → h < length m.half_edges → IsInMesh new h
@@ -56,7 +56,7 @@ module _ (m new : Mesh) (e x : ℕ) (s : AreSoundLinks m) (i : MovesEnd m new e 
         has_out = rw o.2 (has_out _ there.has_out);
       }
 
-  vertices_kept : (u h : ℕ) → out_edge new u ≡ Some h → (h < length new.half_edges) × (origin new h ≡ u)
+  vertices_kept : NamesOutEdges new
   vertices_kept =
       still_named m new (origin m (next m e)) (next m e) i.out i.other_outs s (omega (arith, i.edge_count, i.after_in)) (i.other_origins _ i.after_in i.after_off)
       (λ h within off. (omega (arith, i.edge_count, within), i.other_origins h within (λ q. off (ap (origin m) q ∙ sym i.start))))

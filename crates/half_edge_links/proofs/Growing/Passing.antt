@@ -7,7 +7,7 @@ use Rattle.half_edge_links.specs.Mesh.{Mesh, origin, next, prev, rev, AreSoundLi
 use Rattle.half_edge_links.specs.Pass.{IsPassable, passed_edges, passed, Passes}
 use Rattle.half_edge_links.proofs.Lists.Rev.{rev-rev, rev_within, rev_differs}
 use Rattle.half_edge_links.proofs.Sound.Relinks.{relinks}
-use Rattle.half_edge_links.proofs.Sound.Parts.{IsNextSound, next_kept, next_at}
+use Rattle.half_edge_links.proofs.Sound.Parts.{IsNextSound, next_kept, next_at, EachNextIsSound}
 use Rattle.half_edge_links.proofs.Growing.LineSound as line
 use Rattle.half_edge_links.proofs.Growing.LineSound.{MovesEnd}
 
@@ -67,7 +67,7 @@ module _ (m new : Mesh) (e : ℕ) (s : AreSoundLinks m) (can : IsPassable m e) (
   pub end_moves : MovesEnd m new e (far_edge m e)
   end_moves = assumption t
 
-  next_ok : (h : ℕ) → h < length new.half_edges → IsNextSound new h
+  next_ok : EachNextIsSound new
   next_ok h new_in =
       let no_face = line.no_face m new e _ s end_moves in
       let origin_rev = line.origin_rev m new e _ s end_moves in

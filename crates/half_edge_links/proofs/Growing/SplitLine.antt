@@ -6,7 +6,7 @@ use Rattle.half_edge_links.specs.Mesh.{Mesh, origin, next, prev, face, out_edge,
 use Rattle.half_edge_links.specs.Grow.{IsOuter, IsLineEdge, Hangs, Slides, SplitsLine, IsOnLine}
 use Rattle.half_edge_links.specs.Outline.{IsOuterEdge, SplitsOuter}
 use Rattle.half_edge_links.proofs.Lists.Rev.{rev-rev, rev_within, rev_differs}
-use Rattle.half_edge_links.proofs.Sound.Parts.{rev_of_even, rev_of_odd}
+use Rattle.half_edge_links.proofs.Sound.Parts.{rev_of_even, rev_of_odd, HasNoFace}
 use Rattle.half_edge_links.proofs.OuterLoop.Outer.{same_outer, at_edge, is_edge}
 use Rattle.half_edge_links.proofs.Growing.FaceBeside.{differs_alone}
 
@@ -14,7 +14,7 @@ pub line_outer : (m : Mesh) (e : ℕ) → AreSoundLinks m → IsLineEdge m e →
 line_outer m e s line = (line.0, omega (arith, (s.edges e line.0).face_in, ap length line.1))
 
 module _ (m mid new : Mesh) (e v : ℕ) (s : AreSoundLinks m) (line : IsLineEdge m e) (alone : IsAlone m v) (i : Hangs m mid e v (length m.half_edges)) where
-  face_zero : (h : ℕ) → h < length m.half_edges → face m h ≡ 0
+  face_zero : HasNoFace m
   face_zero h within = omega (arith, (s.edges h within).face_in, ap length line.1)
 
   twin_in : rev e < length m.half_edges

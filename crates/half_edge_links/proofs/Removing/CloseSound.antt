@@ -7,7 +7,7 @@ use Rattle.half_edge_links.specs.Mesh.{Mesh, IsSmall, origin, next, prev, face, 
 use Rattle.half_edge_links.specs.Remove.{loop_closed, IsOpenTriangle, ClosesLoop}
 use Rattle.half_edge_links.proofs.Sound.Triangles.{IsTriangle}
 use Rattle.half_edge_links.proofs.Sound.FieldWrites.{sets_loop_face}
-use Rattle.half_edge_links.proofs.Sound.Parts.{IsBusy, loop_sound, sound_from, next_kept, prev_kept, inner_kept}
+use Rattle.half_edge_links.proofs.Sound.Parts.{IsBusy, loop_sound, sound_from, next_kept, prev_kept, inner_kept, KeepsBusy, KeepsFaceEdges}
 
 abbrev pub IsRound : Mesh → ℕ → ℕ → Type 0
 IsRound m h k = (k ≡ h) ⊎ ((k ≡ next m h) ⊎ (k ≡ prev m h))
@@ -44,10 +44,10 @@ module _ (m : Mesh) (h : ℕ) (s : AreSoundLinks m) (can : IsOpenTriangle m h) w
     last_named : face_edge new (length m.face_edges + 1) ≡ h
     last_named = let k : length m.face_edges + 1 - 1 ≡ length m.face_edges = omega arith in rw (k, c.face_edges) (get_or_at m.face_edges h [] 0 (length m.face_edges) refl)
 
-    named : (f : ℕ) → 0 < f → f ≤ length m.face_edges → face_edge new f ≡ face_edge m f
+    named : KeepsFaceEdges m new
     named f some within = rw c.face_edges (get_or_append_left m.face_edges (h ∷ []) 0 (f - 1) (omega arith))
 
-    busy : (k : ℕ) → k < length m.half_edges → IsBusy new (origin m k)
+    busy : KeepsBusy m new
     busy k within = let was = s.edges k within in record { within = rw c.outs was.origin_in; has_out = rw c.outs was.has_out }
 
     loop : IsSoundEdge new h × IsSoundEdge new (next m h) × IsSoundEdge new (prev m h)

@@ -100,6 +100,43 @@ pub record IsBusy (m : Mesh) (v : ℕ) : Type 0 where
   pub within : v < length m.out_edges
   pub has_out : IsSome (out_edge m v)
 
+-- what a change of a mesh owes for every edge, vertex and face, each as one word
+abbrev pub EachNextIsSound : Mesh → Type 0
+EachNextIsSound m = (h : ℕ) → h < length m.half_edges → IsNextSound m h
+
+abbrev pub EachEdgeIsSound : Mesh → Type 0
+EachEdgeIsSound m = (h : ℕ) → h < length m.half_edges → IsSoundEdge m h
+
+-- the edge that a vertex names starts there
+abbrev pub NamesOutEdges : Mesh → Type 0
+NamesOutEdges m = (u h : ℕ) → out_edge m u ≡ Some h → (h < length m.half_edges) × (origin m h ≡ u)
+
+-- the edge that a face names is on its loop
+abbrev pub NamesFaces : Mesh → Type 0
+NamesFaces m = (k : ℕ) → 0 < k → k ≤ length m.face_edges → (face_edge m k < length m.half_edges) × (face m (face_edge m k) ≡ k)
+
+abbrev pub NamesOuterEdge : Mesh → Type 0
+NamesOuterEdge m = (h : ℕ) → m.outer_edge ≡ Some h → (h < length m.half_edges) × (face m h ≡ 0)
+
+-- each edge is beside the outer face on its left
+abbrev pub HasNoFace : Mesh → Type 0
+HasNoFace m = (h : ℕ) → h < length m.half_edges → face m h ≡ 0
+
+-- a vertex that named an edge names one still
+abbrev pub KeepsOutEdges : Mesh → Mesh → Type 0
+KeepsOutEdges m new = (u : ℕ) → IsSome (out_edge m u) → IsSome (out_edge new u)
+
+-- edges may still start where an edge did
+abbrev pub KeepsBusy : Mesh → Mesh → Type 0
+KeepsBusy m new = (h : ℕ) → h < length m.half_edges → IsBusy new (origin m h)
+
+abbrev pub KeepsFaceEdges : Mesh → Mesh → Type 0
+KeepsFaceEdges m new = (k : ℕ) → 0 < k → k ≤ length m.face_edges → face_edge new k ≡ face_edge m k
+
+-- each old edge ends where it did
+abbrev pub KeepsEnds : Mesh → Mesh → Type 0
+KeepsEnds m new = (h : ℕ) → h < length m.half_edges → origin new (rev h) ≡ origin m (rev h)
+
 -- edges a, b and c, which start at x, y and z, go round face f
 pub record IsLoop (m : Mesh) (a b c x y z f : ℕ) : Type 0 where
   pub first : HasLinks m a x b c f
@@ -144,7 +181,7 @@ loop_sound m a b c x y z f l named =
 
 -- what the vertices name, where vertex v names edge x now
 module _ (m new : Mesh) (v x : ℕ) (out : out_edge new v ≡ Some x) (others : (u : ℕ) → u ≢ v → out_edge new u ≡ out_edge m u) where
-  pub still_out : (u : ℕ) → IsSome (out_edge m u) → IsSome (out_edge new u)
+  pub still_out : KeepsOutEdges m new
   still_out u had =
       elim (cases_eq u v) [
         | inl same ↦ rw (same, out) refl

@@ -5,6 +5,7 @@ use Rattle.std.proofs.lemmas.List.{get_or_past}
 use Rattle.half_edge_links.specs.Mesh.{Mesh, origin, next, prev, face, out_edge, rev, AreSoundLinks, IsSoundEdge}
 use Rattle.half_edge_links.specs.Renames.{Naming, Renames, IsKeptEdge, IsRenamedEdge, renamed}
 use Rattle.half_edge_links.proofs.Lists.Rev.{rev_within}
+use Rattle.half_edge_links.proofs.Sound.Parts.{EachEdgeIsSound, NamesOutEdges}
 
 is_some : (f : ℕ → ℕ) (o : Option ℕ) → IsSome o → IsSome (renamed f o)
 is_some f None had = had
@@ -20,7 +21,7 @@ module _ (old new : Mesh) (r : Naming) (n : Renames old new r) where
   pub kept_edge : (g : ℕ) → IsKeptEdge new r g → IsRenamedEdge old new r (r.edge g) g
   kept_edge g k = rw k.back at (n.edges (r.edge g) k.within)
 
-  sound_edge : (h : ℕ) → h < length new.half_edges → IsSoundEdge new h
+  sound_edge : EachEdgeIsSound new
   sound_edge h within =
       let here = n.edges h within in
       let was = here.sound in
@@ -60,7 +61,7 @@ module _ (old new : Mesh) (r : Naming) (n : Renames old new r) where
             rw (at_h.origin, (n.vertices (r.vertex (origin old g)) here.origin_in).out, here.origin_back) (is_some r.edge _ was.has_out);
       }
 
-  sound_vertex : (v k : ℕ) → out_edge new v ≡ Some k → (k < length new.half_edges) × (origin new k ≡ v)
+  sound_vertex : NamesOutEdges new
   sound_vertex v k named =
       elim (cases_lt v (length new.out_edges)) [
         | inl within ↦
