@@ -40,7 +40,7 @@ greatest f (suc n) h = go (cases_lt 0 n) (greatest f n)
 
 -- ---- tests
 
-pub if_falls : (a b : ℤ) → int_lt a b ≡ false → b ≤ℤ a
+if_falls : (a b : ℤ) → int_lt a b ≡ false → b ≤ℤ a
 if_falls a b e = elim (lt_or_ge_ℤ a b) [ inl l ↦ absurd (let f = test_true a b l in cc) | inr l ↦ l ]
 
 pub not_equal : (a b : ℕ) → a ≢ b → eqb a b ≡ false
@@ -58,7 +58,7 @@ pub first : ℕ → List ℕ
 first zero = []
 first (suc n) = n ∷ first n
 
-pub length_first : (n : ℕ) → length (first n) ≡ n
+length_first : (n : ℕ) → length (first n) ≡ n
 unfolding first
 length_first zero = refl
 length_first (suc n) = ap suc (length_first n)

@@ -104,7 +104,7 @@ total_swapped flow anti (e ∷ es) = next (flow e.1 e.0) (flow e.0 e.1) (total (
 own_negative : (t : ℤ) → t ≡ neg_ℤ t → t ≡ pos 0
 own_negative t h = omega (arith, ints)
 
-pub both_ways_cancel : (flow : ℕ → ℕ → ℤ) → IsAntisymmetric flow → (es : List (ℕ × ℕ)) → IsOnce es → ((i j : ℕ) → Contains es (i, j) → Contains es (j, i)) → total (along flow) es ≡ pos 0
+both_ways_cancel : (flow : ℕ → ℕ → ℤ) → IsAntisymmetric flow → (es : List (ℕ × ℕ)) → IsOnce es → ((i j : ℕ) → Contains es (i, j) → Contains es (j, i)) → total (along flow) es ≡ pos 0
 both_ways_cancel flow anti es once back = own_negative (total (along flow) es) (
     same_total (along flow) es (all_swapped es) once (swapped_once es once) (λ e h. has_swapped es e.1 e.0 (back e.0 e.1 h)) (λ e h. back e.1 e.0 (was_swapped es e.0 e.1 h))
     ∙ total_swapped flow anti es)
