@@ -140,7 +140,7 @@ turned_faces faces i j k (inr (inl c)) = inl c
 turned_faces faces i j k (inr (inr c)) = inr (inl c)
 
 -- each of the made faces is one of the faces, each up to rotation
-abbrev pub AreAmong : List Face → List Face → Type 0
+abbrev AreAmong : List Face → List Face → Type 0
 AreAmong faces [] = Unit {0}
 AreAmong faces (f ∷ fs) = IsFaceOf faces f.a f.b f.c × AreAmong faces fs
 

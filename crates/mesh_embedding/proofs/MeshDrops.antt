@@ -61,7 +61,7 @@ renumbered_faces v last [] = refl
 renumbered_faces v last (t ∷ ts) = ap (λ xs. renumbered v last (corners_of t) ∷ xs) (renumbered_faces v last ts)
 
 -- the corners of faces with their data
-pub corners_listed : {F : Type 0} (ts : List Triangle) (fs : List F) → length fs ≡ length ts → map (λ (x : FullFace F). x.corners) (full_faces_of ts fs) ≡ ts
+corners_listed : {F : Type 0} (ts : List Triangle) (fs : List F) → length fs ≡ length ts → map (λ (x : FullFace F). x.corners) (full_faces_of ts fs) ≡ ts
 corners_listed [] fs e = refl
 corners_listed (t ∷ ts) [] e = absurd (omega (arith, e))
 corners_listed (t ∷ ts) (y ∷ fs) e = ap (λ xs. t ∷ xs) (corners_listed ts fs (omega (arith, e)))

@@ -19,7 +19,7 @@ use Rattle.mesh_embedding.proofs.FaceSums.{hole_filled, change_as, both_changes}
 use Rattle.mesh_embedding.proofs.PairSums.{sums_change, outer_sums}
 
 -- the outer edges stay
-pub outer_same : {V D U F : Type 0} (old new : Contents V D U F) → IsOnce (outer_of old.mesh) → OuterChanges old.mesh new.mesh [] [] → OuterChange (outer_of old.mesh) (outer_of new.mesh) [] []
+outer_same : {V D U F : Type 0} (old new : Contents V D U F) → IsOnce (outer_of old.mesh) → OuterChanges old.mesh new.mesh [] [] → OuterChange (outer_of old.mesh) (outer_of new.mesh) [] []
 outer_same old new once sums = sums_change (outer_of old.mesh) (outer_of new.mesh) [] [] (outer_sums old.mesh new.mesh [] [] sums) once once_none (λ i j c. absurd (Contains-none (i, j) c)) (λ i j c. absurd (Contains-none (i, j) c))
 
 -- changes of outer edges one after the other, the first of none

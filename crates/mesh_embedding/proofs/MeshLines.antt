@@ -59,7 +59,7 @@ outer_joined old new u v k l once apart fresh c = changed_pairs old new (λ h. �
     made_fresh h g i j (inr x) o = (fresh g i j o).0 x.1
 
 -- no outer edge has a vertex past the last one
-pub old_ends : (m : Mesh) (n : ℕ) → AreSoundLinks m → n ≡ length m.out_edges → (h i j : ℕ) → IsOuterEdge m h i j → (i ≢ n) × (j ≢ n)
+old_ends : (m : Mesh) (n : ℕ) → AreSoundLinks m → n ≡ length m.out_edges → (h i j : ℕ) → IsOuterEdge m h i j → (i ≢ n) × (j ≢ n)
 old_ends m n s count h i j o =
     let first = (s.edges h o.within).origin_in in
     let second = (s.edges (rev h) (rev_within h (length m.half_edges) s.even o.within)).origin_in in

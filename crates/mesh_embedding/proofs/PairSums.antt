@@ -22,7 +22,7 @@ use Rattle.plane.proofs.Signs.{neither_sign_is_zero}
 pub times : List (ℕ × ℕ) → ℕ → ℕ → ℤ
 times xs i j = total (along (is_pair i j)) xs
 
-pub times_listed : (xs : List (ℕ × ℕ)) (i j : ℕ) → Contains xs (i, j) → pos 1 ≤ℤ times xs i j
+times_listed : (xs : List (ℕ × ℕ)) (i j : ℕ) → Contains xs (i, j) → pos 1 ≤ℤ times xs i j
 unfolding times
 times_listed xs i j c = outer_counts xs i j c
 
@@ -30,7 +30,7 @@ times_nonneg : (xs : List (ℕ × ℕ)) (i j : ℕ) → pos 0 ≤ℤ times xs i 
 unfolding times
 times_nonneg xs i j = total_nonneg (along (is_pair i j)) xs (λ e _. is_pair_nonneg i j e.0 e.1)
 
-pub listed_times : (xs : List (ℕ × ℕ)) (i j : ℕ) → pos 0 <ℤ times xs i j → Contains xs (i, j)
+listed_times : (xs : List (ℕ × ℕ)) (i j : ℕ) → pos 0 <ℤ times xs i j → Contains xs (i, j)
 unfolding times
 listed_times xs i j h =
     let r = total_positive (along (is_pair i j)) xs h in
@@ -49,7 +49,7 @@ unfolding times
 at_most_once xs i j o = listed_once xs o i j
 
 -- where each pair is counted at most once, it is listed once
-pub once_times : (xs : List (ℕ × ℕ)) → ((i j : ℕ) → times xs i j ≤ℤ pos 1) → IsOnce xs
+once_times : (xs : List (ℕ × ℕ)) → ((i j : ℕ) → times xs i j ≤ℤ pos 1) → IsOnce xs
 unfolding times
 once_times xs few k l d below within same =
     let e = get_or xs k d in

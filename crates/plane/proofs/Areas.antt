@@ -1,6 +1,6 @@
 -- The side of a point by twice the signed area of a triangle.
 use Rattle.std.proofs.Common.{◌≡◌, subst, sym, ◌∙◌}
-use Rattle.std.specs.Prelude.{ℤ, pos, ◌<ℤ◌, ◌↔◌}
+use Rattle.std.specs.Prelude.{pos, ◌<ℤ◌}
 use Rattle.plane.specs.Fraction.{Point, whole}
 use Rattle.plane.specs.Side.{side, left, right, on}
 use Rattle.plane.specs.Laws.{turn_at, SideIsDeterminant}

@@ -14,7 +14,6 @@ use Rattle.plane.proofs.IntegerOrder.{mul-pos_ℤ, pos_of_mul-pos_ℤ, zero_from
 use Rattle.plane.proofs.Solver.{Poly, num, ◌⊕◌, ◌⊖◌, ◌⊗◌, ⊝, ring_in, ring_over}
 use Rattle.plane.proofs.Bracket.{Vec3, lift, bracket, Vec3ᵖ, bracketᵖ, vec3, Pointᵖ, points}
 use Rattle.plane.proofs.Bracket.{liftᵖ as wholeᵖ}
-use Rattle.plane.proofs.BracketIdentities.{bracket-turn}
 use Rattle.plane.proofs.Centre.{over, lifted, overᵖ, gaps, centre, centre_is_centre, centre_is_only, inside_is, scaled_gap}
 
 -- the squared length, of a point whose weight is 1
@@ -147,7 +146,7 @@ abbrev turnᵖ : Pointᵖ → Pointᵖ → Pointᵖ → Poly
 turnᵖ q u v = (u.x ⊖ q.x) ⊗ (v.y ⊖ q.y) ⊖ (u.y ⊖ q.y) ⊗ (v.x ⊖ q.x)
 
 -- both determinants are one
-pub determinant_is_incircle : (u v p q : Point) → lifted_determinant u v p q ≡ incircle (lift u) (lift v) (lift p) (lift q)
+determinant_is_incircle : (u v p q : Point) → lifted_determinant u v p q ≡ incircle (lift u) (lift v) (lift p) (lift q)
 unfolding incircle bracket
 determinant_is_incircle u v p q = ring_over points [] (u ∷ v ∷ p ∷ q ∷ [])
     (λ u v p q. squaredᵖ q u ⊗ turnᵖ q v p ⊕ squaredᵖ q v ⊗ turnᵖ q p u ⊕ squaredᵖ q p ⊗ turnᵖ q u v)

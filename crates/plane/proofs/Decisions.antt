@@ -1,22 +1,16 @@
 -- Questions of the plane are decided: each has an answer, by the signs of whole numbers and by search below a bound.
-use Rattle.std.proofs.Common.{◌≡◌, ◌⊎◌, ◌↔◌, ℕ, zero, suc, ◌<◌, List, [], ◌∷◌, length, refl, arith, sym, subst, ◌∙◌, ap}
+use Rattle.std.proofs.Common.{◌≡◌, ◌⊎◌, ◌↔◌, ℕ, zero, suc, ◌<◌, refl, arith, sym, subst, ◌∙◌, ap}
 use mathlib.Core.Logic.{inl, inr}
-use Rattle.std.specs.Prelude.{ℤ, pos, ◌<ℤ◌, ◌≤ℤ◌, ◌*ℤ◌, ◌-ℤ◌, Contains}
+use Rattle.std.specs.Prelude.{ℤ, pos, ◌<ℤ◌, ◌≤ℤ◌, ◌*ℤ◌, ◌-ℤ◌}
 use Rattle.std.proofs.lemmas.Int.{ints}
-use Rattle.plane.specs.Fraction.{Point, Fraction, whole, IsSame, OnSegment, WithinSegment, OnLine, InTriangle, InsideTriangle}
-use Rattle.plane.specs.Side.{Side, left, right, on, side, opposite, TurnsLeft}
-use Rattle.plane.specs.Circle.{InsideCircle, OnCircle}
-use Rattle.plane.specs.Crossing.{MeetsWithin, Cross}
-use Rattle.plane.specs.Pairs.{place, IsIndex}
+use Rattle.plane.specs.Fraction.{Point, Fraction, IsSame, OnSegment, WithinSegment}
+use Rattle.plane.specs.Side.{Side, left, right, on, side, TurnsLeft}
+use Rattle.plane.specs.Crossing.{MeetsWithin}
 use Rattle.plane.proofs.IntegerOrder.{sign, below, none, above, lt_or_ge_ℤ}
 use Rattle.plane.proofs.Steps.{left_not_zero, right_not_zero, one_number}
-use Rattle.plane.proofs.Bracket.{lift, vec, bracket}
-use Rattle.plane.proofs.Sides.{if_left, side_swapped}
-use Rattle.plane.proofs.Lines.{bracket_of_line, line_of_bracket}
+use Rattle.plane.proofs.Bracket.{vec, bracket}
 use Rattle.plane.proofs.Segments.{same_is_no_way, on_of_within, only_point, within_itself, reach, on_segment_is, within_segment_is}
-use Rattle.plane.proofs.Meetings.{AreOpposite, AreParted, cross-sym, cross_is, meets_within_is, cross_at_point, meets_at_point, meets_a_point}
-use Rattle.plane.proofs.Triangles.{inside_is_brackets, in_is_brackets}
-use Rattle.plane.proofs.Circles.{incircle, inside_is_incircle, on_is_incircle}
+use Rattle.plane.proofs.Meetings.{AreOpposite, AreParted, meets_within_is, meets_at_point, meets_a_point}
 use Rattle.plane.specs.Side.{run, rise}
 use Rattle.plane.proofs.Indexes.{below_or_last}
 
@@ -37,7 +31,7 @@ decide_both (inl x) (inr n) = inr (λ s. n s.1)
 decide_both (inr n) d = inr (λ s. n s.0)
 
 -- three at once
-pub decide_all_three : {X Y Z : Type 0} → Decision X → Decision Y → Decision Z → Decision (X × Y × Z)
+decide_all_three : {X Y Z : Type 0} → Decision X → Decision Y → Decision Z → Decision (X × Y × Z)
 decide_all_three (inl x) (inl y) (inl z) = inl (x, y, z)
 decide_all_three (inl x) (inl y) (inr n) = inr (λ s. n s.2)
 decide_all_three (inl x) (inr n) d = inr (λ s. n s.1)
@@ -80,20 +74,20 @@ pub decide_below : (a b : ℤ) → Decision (a <ℤ b)
 decide_below a b = elim (lt_or_ge_ℤ a b) [ inl h ↦ inl h | inr h ↦ inr (λ k. omega (arith, ints)) ]
 
 -- a is at most b, or not
-pub decide_at_most : (a b : ℤ) → Decision (a ≤ℤ b)
+decide_at_most : (a b : ℤ) → Decision (a ≤ℤ b)
 decide_at_most a b = elim (lt_or_ge_ℤ b a) [ inl h ↦ inr (λ k. omega (arith, ints)) | inr h ↦ inl h ]
 
 -- one of two signs is positive and the other negative, or not
-pub decide_opposite : (a b : ℤ) → Decision (AreOpposite a b)
+decide_opposite : (a b : ℤ) → Decision (AreOpposite a b)
 decide_opposite a b = decide_either (decide_both (decide_below a (pos 0)) (decide_below (pos 0) b)) (decide_both (decide_below (pos 0) a) (decide_below b (pos 0)))
 
 -- two numbers are not both positive, nor both negative, or they are
-pub decide_parted : (a b : ℤ) → Decision (AreParted a b)
+decide_parted : (a b : ℤ) → Decision (AreParted a b)
 decide_parted a b = decide_either (decide_both (decide_at_most a (pos 0)) (decide_at_most (pos 0) b)) (decide_both (decide_at_most (pos 0) a) (decide_at_most b (pos 0)))
 
 -- ---- points
 -- two fraction points are one, or not
-pub decide_same : (p q : Fraction) → Decision (IsSame p q)
+decide_same : (p q : Fraction) → Decision (IsSame p q)
 decide_same p q = decided_by (same_is_no_way p q) (decide_both (decide_zero (run p q)) (decide_zero (rise p q)))
 
 -- of the code
@@ -108,29 +102,7 @@ decide_point p q = go (decide_zero (q.x -ℤ p.x)) (decide_zero (q.y -ℤ p.y))
     go (inl x) (inr n) = inr (λ e. apart p.y q.y n (ap (λ (r : Point). r.y) e))
     go (inr n) d = inr (λ e. apart p.x q.x n (ap (λ (r : Point). r.x) e))
 
--- a position is known in a list, or not
-pub decide_known : (points : List Point) (p : Point) → Decision (Contains points p)
-decide_known [] p = inr (λ c. absurd (omega (arith, c.1)))
-decide_known (q ∷ points) p = go (decide_point q p) (decide_known points p)
-  where
-    go : Decision (q ≡ p) → Decision (Contains points p) → Decision (Contains (q ∷ points) p)
-    go (inl e) d = inl (0, omega arith, e)
-    go (inr n) (inl c) = inl (suc c.0, omega (arith, c.1), c.2)
-    go (inr n) (inr m) = inr neither
-      where
-        neither : ¬ Contains (q ∷ points) p
-        neither (zero, h, e) = n e
-        neither (suc k, h, e) = m (k, omega arith, e)
-
--- and a vertex is at a fraction point, or none is
-pub decide_at_vertex : (points : List Point) (p : Fraction) → ((i : ℕ) × IsIndex points i × IsSame p (place points i)) ⊎ ((i : ℕ) → IsIndex points i → ¬ IsSame p (place points i))
-decide_at_vertex points p = find_below (length points) (λ i. decide_same p (place points i))
-
 -- ---- segments
--- a point is on the line of two others, or not
-pub decide_on_line : (u v p : Fraction) → Decision (OnLine u v p)
-decide_on_line u v p = decided_by (bracket_of_line u v p, line_of_bracket u v p) (decide_zero (bracket (vec u) (vec v) (vec p)))
-
 -- on the closed segment, or not
 pub decide_on_segment : (u v p : Fraction) → Decision (OnSegment u v p)
 decide_on_segment u v p = go (decide_same u v)
@@ -147,16 +119,6 @@ decide_within_segment u v p = go (decide_same u v)
     go (inl e) = decided_by ((λ h. only_point u v p e (on_of_within u v p h)), within_itself u v p e) (decide_same p u)
     go (inr n) = decided_by (within_segment_is u v p n) (decide_all_three (decide_zero (bracket (vec u) (vec v) (vec p))) (decide_below (pos 0) (reach u v p)) (decide_below (reach u v p *ℤ v.w) (reach u v v *ℤ p.w)))
 
--- two segments cross, or not
-pub decide_cross : (s t u v : Fraction) → Decision (Cross s t u v)
-decide_cross s t u v = go (decide_same s t) (decide_same u v)
-  where
-    go : Decision (IsSame s t) → Decision (IsSame u v) → Decision (Cross s t u v)
-    go (inl e) d = decided_by (cross_at_point s t u v e) (decide_within_segment u v s)
-    go (inr n) (inl e) = decided_by ((λ c. (cross_at_point u v s t e).0 (cross-sym s t u v c)), (λ h. cross-sym u v s t ((cross_at_point u v s t e).1 h))) (decide_within_segment s t u)
-    go (inr n) (inr m) = decided_by (cross_is s t u v n m)
-        (decide_both (decide_opposite (bracket (vec s) (vec t) (vec u)) (bracket (vec s) (vec t) (vec v))) (decide_opposite (bracket (vec u) (vec v) (vec s)) (bracket (vec u) (vec v) (vec t))))
-
 -- the first meets the second in one point, within the second, or not
 pub decide_meets_within : (s t u v : Fraction) → Decision (MeetsWithin s t u v)
 decide_meets_within s t u v = go (decide_same s t) (decide_same u v)
@@ -167,7 +129,7 @@ decide_meets_within s t u v = go (decide_same s t) (decide_same u v)
     go (inr n) (inr m) = decided_by (meets_within_is s t u v n m)
         (decide_both (decide_opposite (bracket (vec s) (vec t) (vec u)) (bracket (vec s) (vec t) (vec v))) (decide_parted (bracket (vec u) (vec v) (vec s)) (bracket (vec u) (vec v) (vec t))))
 
--- ---- triangles and circles of left-turning triples
+-- ---- three points
 -- three points turn left, or not
 pub decide_turns_left : (u v p : Fraction) → Decision (TurnsLeft u v p)
 decide_turns_left u v p = by (side u v p) refl
@@ -176,48 +138,3 @@ decide_turns_left u v p = by (side u v p) refl
     by left e = inl e
     by right e = inr (λ h. absurd (let z = sym e ∙ h in cc))
     by on e = inr (λ h. absurd (let z = sym e ∙ h in cc))
-
--- a point is strictly inside the triangle, or not
-pub decide_inside_triangle : (a b c p : Fraction) → TurnsLeft a b c → Decision (InsideTriangle a b c p)
-decide_inside_triangle a b c p turns = decided_by (inside_is_brackets a b c p (if_left a b c turns))
-    (decide_all_three (decide_below (pos 0) (bracket (vec a) (vec b) (vec p))) (decide_below (pos 0) (bracket (vec b) (vec c) (vec p))) (decide_below (pos 0) (bracket (vec c) (vec a) (vec p))))
-
--- in the closed triangle, or not
-pub decide_in_triangle : (a b c p : Fraction) → TurnsLeft a b c → Decision (InTriangle a b c p)
-decide_in_triangle a b c p turns = decided_by (in_is_brackets a b c p (if_left a b c turns))
-    (decide_all_three (decide_at_most (pos 0) (bracket (vec a) (vec b) (vec p))) (decide_at_most (pos 0) (bracket (vec b) (vec c) (vec p))) (decide_at_most (pos 0) (bracket (vec c) (vec a) (vec p))))
-
--- inside the circle, or not
-pub decide_inside_circle : (u v p q : Point) → TurnsLeft (whole u) (whole v) (whole p) → Decision (InsideCircle (whole u) (whole v) (whole p) (whole q))
-decide_inside_circle u v p q turns = decided_by (inside_is_incircle u v p q turns) (decide_below (pos 0) (incircle (lift u) (lift v) (lift p) (lift q)))
-
--- carried by the circle, or not
-pub decide_on_circle : (u v p q : Point) → TurnsLeft (whole u) (whole v) (whole p) → Decision (OnCircle (whole u) (whole v) (whole p) (whole q))
-decide_on_circle u v p q turns = decided_by (on_is_incircle u v p q turns) (decide_zero (incircle (lift u) (lift v) (lift p) (lift q)))
-
--- ---- a left-turning triple among given points, or all of them on one line
-abbrev HasThird : List Point → ℕ → ℕ → Type 0
-HasThird points i j = (k : ℕ) × (k < length points) × TurnsLeft (place points i) (place points j) (place points k)
-
-abbrev HasSecond : List Point → ℕ → Type 0
-HasSecond points i = (j : ℕ) × (j < length points) × HasThird points i j
-
-decide_triple_from : (points : List Point) (i : ℕ) → Decision (HasSecond points i)
-decide_triple_from points i = decide_some_below (length points) (λ j. decide_some_below (length points) (λ k. decide_turns_left (place points i) (place points j) (place points k)))
-
--- the triple by indexes, or that each triple is on one line
-pub decide_spread : (points : List Point)
-    → ((i j k : ℕ) × IsIndex points i × IsIndex points j × IsIndex points k × TurnsLeft (place points i) (place points j) (place points k))
-    ⊎ ((i j k : ℕ) → IsIndex points i → IsIndex points j → IsIndex points k → side (place points i) (place points j) (place points k) ≡ on)
-decide_spread points = by (find_below (length points) (decide_triple_from points))
-  where
-    straight : ((i : ℕ) → i < length points → ¬ HasSecond points i) → (i j k : ℕ) → IsIndex points i → IsIndex points j → IsIndex points k → (s : Side) → side (place points i) (place points j) (place points k) ≡ s → s ≡ on
-    straight n i j k hi hj hk left e = absurd (n i hi (j, hj, (k, hk, e)))
-    straight n i j k hi hj hk right e = absurd (n j hj (i, hi, (k, hk, side_swapped (place points i) (place points j) (place points k) ∙ ap opposite e)))
-    straight n i j k hi hj hk on e = refl
-
-    by : ((i : ℕ) × (i < length points) × HasSecond points i) ⊎ ((i : ℕ) → i < length points → ¬ HasSecond points i)
-        → ((i j k : ℕ) × IsIndex points i × IsIndex points j × IsIndex points k × TurnsLeft (place points i) (place points j) (place points k))
-        ⊎ ((i j k : ℕ) → IsIndex points i → IsIndex points j → IsIndex points k → side (place points i) (place points j) (place points k) ≡ on)
-    by (inl (i, hi, (j, hj, (k, hk, turns)))) = inl (i, j, k, hi, hj, hk, turns)
-    by (inr n) = inr (λ i j k hi hj hk. straight n i j k hi hj hk (side (place points i) (place points j) (place points k)) refl)

@@ -1,16 +1,12 @@
 -- The order of a line list at work: a vertex, the overlap that begins there, the vertex at its end.
-use Rattle.std.proofs.Common.{[], ◌∷◌, refl}
+use Rattle.std.proofs.Common.{refl}
 use mathlib.Core.Logic.{inl, inr}
-use Rattle.std.specs.Prelude.{pos}
 use Rattle.plane.specs.Fraction.{OnSegment}
-use Rattle.plane.specs.Tiling.{Triangulation, vertex}
+use Rattle.plane.specs.Tiling.{vertex}
 use Rattle.plane.specs.Line.{at_vertex, along, BeginsAt, IsBefore}
+use Rattle.plane.specs.SmallCases.{two}
 use Rattle.plane.proofs.Segments.{start_on_segment, end_on_segment}
 use Rattle.plane.proofs.Nearer.{nothing_nearer, same_not_nearer}
-
--- two vertices (0,0) (4,0), and the segment from the one to the other
-abbrev two : Triangulation
-two = record { points = record { x = pos 0; y = pos 0 } ∷ record { x = pos 4; y = pos 0 } ∷ []; faces = []; edges = (0, 1) ∷ [] }
 
 start : OnSegment (vertex two 0) (vertex two 1) (vertex two 0)
 start = start_on_segment (vertex two 0) (vertex two 1)
@@ -27,8 +23,8 @@ begins_overlap = record { shared = start; of_item = start; first = λ r _ _. not
 begins_end : BeginsAt two (vertex two 0) (vertex two 1) (at_vertex 1) (vertex two 1)
 begins_end = record { shared = end; of_item = record { x = refl; y = refl }; first = λ r _ e. same_not_nearer (vertex two 0) r (vertex two 1) e }
 
-vertex_first : IsBefore two (vertex two 0) (vertex two 1) (at_vertex 0) (along 0 1)
+pub vertex_first : IsBefore two (vertex two 0) (vertex two 1) (at_vertex 0) (along 0 1)
 vertex_first = record { first = vertex two 0; second = vertex two 0; first_begins = begins_vertex; second_begins = begins_overlap; order = inr (record { x = refl; y = refl }, tt) }
 
-overlap_first : IsBefore two (vertex two 0) (vertex two 1) (along 0 1) (at_vertex 1)
+pub overlap_first : IsBefore two (vertex two 0) (vertex two 1) (along 0 1) (at_vertex 1)
 overlap_first = record { first = vertex two 0; second = vertex two 1; first_begins = begins_overlap; second_begins = begins_end; order = inl (record { nearer = record { lt = tt } }) }

@@ -75,7 +75,7 @@ one_ratio k l m o a b n e d = go (sign a) (sign b)
     go (none h) (none i) = absurd (n (h, i))
 
 -- so the two points are one
-pub common_is_same : (A B : ℤ → Type 0) (s t : Vec3) (u v p q : Fraction) → ¬ ((bracket s t (vec u) ≡ pos 0) × (bracket s t (vec v) ≡ pos 0)) → TwoWeights A u v p → TwoWeights B u v q → bracket s t (vec p) ≡ pos 0 → bracket s t (vec q) ≡ pos 0 → IsSame p q
+common_is_same : (A B : ℤ → Type 0) (s t : Vec3) (u v p q : Fraction) → ¬ ((bracket s t (vec u) ≡ pos 0) × (bracket s t (vec v) ≡ pos 0)) → TwoWeights A u v p → TwoWeights B u v q → bracket s t (vec p) ≡ pos 0 → bracket s t (vec q) ≡ pos 0 → IsSame p q
 common_is_same A B s t u v p q n f g on_p on_q =
     let z = one_ratio f.k f.l g.k g.l (bracket s t (vec u)) (bracket s t (vec v)) n
     (zero_combination f.k f.l (bracket s t (vec u)) (bracket s t (vec v)) f.n (bracket s t (vec p)) (bracket_of_two A s t u v p f) on_p)
@@ -211,7 +211,7 @@ zero_combined : (a b x y : ℤ) → a ≡ pos 0 → b ≡ pos 0 → neg_ℤ b *�
 zero_combined a b x y h k = ring_in_from (a ∷ b ∷ x ∷ y ∷ []) (λ a b x y. ⊝ b ⊗ x ⊕ a ⊗ y) (λ a b x y. num 0) (λ a b x y. (y, a, num 0) ∷ (num 0 ⊖ x, b, num 0) ∷ []) (h, (k, tt)) tt
 
 -- of four points whose first two differ: if u and v are on the line s t, then s is on the line u v
-pub first_on_second : (s t u v : Fraction) → ¬ IsSame s t → bracket (vec s) (vec t) (vec u) ≡ pos 0 → bracket (vec s) (vec t) (vec v) ≡ pos 0 → bracket (vec u) (vec v) (vec s) ≡ pos 0
+first_on_second : (s t u v : Fraction) → ¬ IsSame s t → bracket (vec s) (vec t) (vec u) ≡ pos 0 → bracket (vec s) (vec t) (vec v) ≡ pos 0 → bracket (vec u) (vec v) (vec s) ≡ pos 0
 first_on_second s t u v apart on_u on_v = go (sign (bracket (vec u) (vec v) (vec s)))
   where
     same : ¬ (bracket (vec u) (vec v) (vec s) ≡ pos 0) → IsSame s t

@@ -9,14 +9,14 @@ use Rattle.plane_tiling.specs.Laws.{EdgesMeetAtVertices}
 use Rattle.plane_edits.specs.Legal.{point_of}
 
 -- the pair of i and j goes, and its halves at n come
-abbrev pub SplitsPair : List (ℕ × ℕ) → List (ℕ × ℕ) → ℕ → ℕ → ℕ → Type 0
+abbrev SplitsPair : List (ℕ × ℕ) → List (ℕ × ℕ) → ℕ → ℕ → ℕ → Type 0
 SplitsPair old new n i j = (a b : ℕ) → Joins new a b ↔ ((Joins old a b × ¬ IsSamePair a b i j) ⊎ (IsSamePair a b i n ⊎ IsSamePair a b n j))
 
 -- what an insert of a vertex at q, with the index n, makes of the pairs, in the words of plain states: a pair that carries it becomes two halves
 abbrev pub IsHalfOf : List Point → List (ℕ × ℕ) → ℕ → Point → ℕ → ℕ → Type 0
 IsHalfOf points old n q i m = (m ≡ n) × ((j : ℕ) × Joins old i j × WithinSegment (place points i) (place points j) (whole q))
 
-abbrev pub AppendsPairs : List Point → List (ℕ × ℕ) → List (ℕ × ℕ) → ℕ → Point → Type 0
+abbrev AppendsPairs : List Point → List (ℕ × ℕ) → List (ℕ × ℕ) → ℕ → Point → Type 0
 AppendsPairs points old new n q = (i j : ℕ) → Joins new i j ↔ ((Joins old i j × ¬ WithinSegment (place points i) (place points j) (whole q)) ⊎ (IsHalfOf points old n q i j ⊎ IsHalfOf points old n q j i))
 
 -- one pair carries q and is split, or none does and all stay

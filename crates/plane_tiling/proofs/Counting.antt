@@ -59,7 +59,7 @@ pub within_turned : (a b c : Point) → WithinSegment (whole a) (whole b) (whole
 within_turned a b c h = turned_mean_of_two IsPositive (whole a) (whole b) (whole c) h
 
 -- ---- the crossings of the ray from q to x
-pub flow_of : (ℕ → Point) → Vec3 → Vec3 → ℕ → ℕ → ℤ
+flow_of : (ℕ → Point) → Vec3 → Vec3 → ℕ → ℕ → ℤ
 flow_of p q x s t = crossing (turn (bracket x (at p s) q)) (turn (bracket x (at p t) q)) (turn (bracket (at p s) (at p t) q))
 
 flow_is_antisymmetric : (p : ℕ → Point) (q x : Vec3) → IsAntisymmetric (flow_of p q x)

@@ -1,5 +1,5 @@
 -- How many edges and faces there are, by the number of vertices and outer edges.
-use Rattle.std.proofs.Common.{◌≡◌, ◌⊎◌, ℕ, ◌<◌, ◌≤◌, List, [], ◌∷◌, length, get_or, refl, sym, ◌∙◌, subst, arith}
+use Rattle.std.proofs.Common.{◌≡◌, ◌⊎◌, ℕ, ◌<◌, ◌≤◌, List, [], ◌∷◌, length, refl, sym, ◌∙◌, subst, arith}
 use Prim.Native.Nat.{◌+◌, ◌-◌, ◌*◌}
 use mathlib.Core.Logic.{inl, inr, ◌≢◌}
 use Rattle.std.specs.Prelude.{ℤ, pos, ◌+ℤ◌, ◌-ℤ◌, ◌<ℤ◌, ◌≤ℤ◌, Contains}
@@ -11,17 +11,17 @@ use Rattle.plane_tiling.specs.Local.{total, LocalMesh, LineMesh, AreEdgesOf}
 use Rattle.plane.proofs.Bracket.{Vec3}
 use Rattle.plane.proofs.BracketIdentities.{bracket-outer}
 use Rattle.plane_tiling.proofs.Flows.{HasSide, no_turn}
-use Rattle.plane_tiling.proofs.Totals.{Contains-head, Contains-none, total-sum, total_at_most_one, all_none, get_or_any}
+use Rattle.plane_tiling.proofs.Totals.{Contains-head, Contains-none, total-sum, all_none}
 use Rattle.plane_tiling.proofs.Counting.{at, SignMesh, corners_differ, within_turned}
 use Rattle.plane_tiling.proofs.Edges as E
 use Rattle.plane_tiling.proofs.Tiles.{point_at, by_signs}
 use Rattle.plane_tiling.proofs.Loops as L
-use Rattle.plane_tiling.proofs.Rising.{first, greatest, count_at, leaves, leaves_found, leaves_bits, leaves_counted, total_ones, edges_counted, below_top}
+use Rattle.plane_tiling.proofs.Rising.{first, greatest, count_at, leaves, leaves_counted, rises_once, rises_nowhere, total_ones, edges_counted, below_top}
 use Rattle.plane_tiling.proofs.Sweep.{IsSweep, sweep, count_one, count_none}
 use Rattle.plane_tiling.proofs.Line.{SignLine, IsNext}
 use Rattle.plane_tiling.proofs.LineMeshes.{line_by_signs}
 use Rattle.plane_tiling.proofs.LinePlaces as O
-use Rattle.plane.proofs.Signs.{below_and_not_below, less_if_not_same, same_if_neither_less, one_is_above_zero, less_by_negations}
+use Rattle.plane.proofs.Signs.{less_if_not_same, same_if_neither_less, less_by_negations}
 
 module _ (n : ℕ) (p : ℕ → Point) (faces : List Face) (outer edges : List (ℕ × ℕ)) (m : SignMesh n p faces outer) (own : AreEdgesOf faces outer edges) where
   some_vertex : 0 < n
@@ -123,17 +123,7 @@ module _ (n : ℕ) (p : ℕ → Point) (outer edges : List (ℕ × ℕ)) (m : Si
     one_on v a b x y h k = elim (cases_eq a b) [ inl e ↦ e | inr d ↦ absurd (distinct a b ((m.neighbours v a).0 x).second ((m.neighbours v b).0 y).second d (same_if_neither_less (height a) (height b) (not_further v a b x y h k) (not_further v b a y x k h))) ]
 
     outer_once : (v : ℕ) → total (leaves height v) outer ≤ℤ pos 1
-    outer_once v = total_at_most_one (leaves height v) outer (λ e _. leaves_bits height v e) twice
-      where
-        twice : (k l : ℕ) (d : ℕ × ℕ) → k < l → l < length outer → leaves height v (get_or outer k d) ≡ pos 1 → leaves height v (get_or outer l d) ≡ pos 1 → ⊥
-        twice k l d low high e e' =
-            let f = get_or outer k d in
-            let g = get_or outer l d in
-            let x = leaves_found height v f (one_is_above_zero e) in
-            let y = leaves_found height v g (one_is_above_zero e') in
-            let here : Contains outer f = (k, omega arith, get_or_any outer k f d (omega arith)) in
-            let there : Contains outer g = (l, high, get_or_any outer l g d high) in
-            m.once k l d low high (λ i. ((sym x.0 ∙ y.0) i, one_on v f.1 g.1 (subst (λ o. Contains outer (o, f.1)) (sym x.0) here) (subst (λ o. Contains outer (o, g.1)) (sym y.0) there) (subst (λ o. height o <ℤ height f.1) (sym x.0) x.1) (subst (λ o. height o <ℤ height g.1) (sym y.0) y.1) i))
+    outer_once v = rises_once height v outer m.once (one_on v)
 
     count_on : (v k : ℕ) → v < n → k < n → height v <ℤ height k → count_at height [] outer v ≡ pos 1
     unfolding count_at height
@@ -151,14 +141,10 @@ module _ (n : ℕ) (p : ℕ → Point) (outer edges : List (ℕ × ℕ)) (m : Si
 
     count_last : (v : ℕ) → v < n → ((k : ℕ) → k < n → height k ≤ℤ height v) → count_at height [] outer v ≡ pos 0
     unfolding count_at
-    count_last v hv top = all_zero (total (leaves height v) outer) (all_none (leaves height v) outer (λ e h. none e h (leaves_bits height v e)))
+    count_last v hv top = all_zero (total (leaves height v) outer) (all_none (leaves height v) outer (rises_nowhere height v outer (λ e h. top e.1 ((m.neighbours e.0 e.1).0 h).second)))
       where
         all_zero : (a : ℤ) → a ≡ pos 0 → pos 0 +ℤ a ≡ pos 0
         all_zero a e = omega (arith, ints)
-
-        none : (e : ℕ × ℕ) → Contains outer e → (leaves height v e ≡ pos 0) ⊎ (leaves height v e ≡ pos 1) → leaves height v e ≡ pos 0
-        none e h (inl x) = x
-        none e h (inr x) = absurd (let r = leaves_found height v e (one_is_above_zero x) in below_and_not_below (height v) (height e.1) (subst (λ o. height o <ℤ height e.1) (sym r.0) r.1) (top e.1 ((m.neighbours e.0 e.1).0 h).second))
 
     line_edges : length edges + 1 ≡ n
     line_edges =

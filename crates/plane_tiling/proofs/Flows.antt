@@ -2,7 +2,7 @@
 use Rattle.std.proofs.Common.{◌≡◌, ◌⊎◌, ◌↔◌, ℕ, List, [], refl, sym, ap, ◌∙◌, subst, arith}
 use mathlib.Core.Logic.{inl, inr, ◌≢◌}
 use mathlib.Core.Bool.{Bool, true, false, ◌&&◌}
-use lib.Dec.{T, eqb, eqb_refl}
+use lib.Dec.{eqb, eqb_refl}
 use borrow.Author.Tests.{eqb-true}
 use Rattle.std.specs.Prelude.{ℤ, pos, ◌+ℤ◌, ◌-ℤ◌, ◌*ℤ◌, ◌≤ℤ◌, ◌<ℤ◌, neg_ℤ, Contains, AllPairs}
 use Rattle.std.proofs.lemmas.Int.{ints}
@@ -84,7 +84,7 @@ moved_over : (s t a b c d : ℤ) → s +ℤ t ≡ pos 0 → s ≡ a -ℤ b → t
 moved_over s t a b c d e h k = omega (arith, ints)
 
 -- as many sides and outer edges go from u to v as from v to u
-pub as_many_back : (faces : List Face) (outer : List (ℕ × ℕ)) → AreBalanced faces outer → (u v : ℕ)
+as_many_back : (faces : List Face) (outer : List (ℕ × ℕ)) → AreBalanced faces outer → (u v : ℕ)
     → total (around (is_pair u v)) faces +ℤ total (along (is_pair u v)) outer ≡ total (around (is_pair v u)) faces +ℤ total (along (is_pair v u)) outer
 unfolding one_way
 as_many_back faces outer balanced u v =

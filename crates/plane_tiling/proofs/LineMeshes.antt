@@ -35,7 +35,7 @@ line_by_signs points outer m = record {
     back : (i j : ℕ) → IsNext (length points) (point_at points) i j → AreNeighbours (alone points) i j
     back i j s = record { apart = s.apart; first = s.first; second = s.second; none_between = s.none_between }
 
-pub line_by_words : (points : List Point) (outer : List (ℕ × ℕ)) → SignLine (length points) (point_at points) outer → LineMesh points outer
+line_by_words : (points : List Point) (outer : List (ℕ × ℕ)) → SignLine (length points) (point_at points) outer → LineMesh points outer
 line_by_words points outer m = record {
   distinct = λ i j h k n e. m.distinct i j h k n (λ o. record { x = (e o).x; y = (e o).y });
   straight = λ i j k a b c. on_if (place points i) (place points j) (place points k) (m.straight i j k a b c);

@@ -1,7 +1,7 @@
 -- The location of a point, in the definition's words, in a mesh of the plane and on a line; and where edges meet.
 use Rattle.std.proofs.Common.{◌≡◌, ◌⊎◌, ℕ, ◌<◌, ◌≤◌, List, [], length, sym, subst, arith}
 use mathlib.Core.Logic.{inl, inr, ◌≢◌}
-use Rattle.std.specs.Prelude.{ℤ, ◌*ℤ◌, ◌<ℤ◌, ◌≤ℤ◌, Contains}
+use Rattle.std.specs.Prelude.{ℤ, ◌*ℤ◌, Contains}
 use Rattle.std.proofs.lemmas.Bool.{cases_lt}
 use Rattle.plane.proofs.IntegerOrder.{lt_or_ge_ℤ}
 use Rattle.plane.specs.Fraction.{Point, Fraction, IsSame}

@@ -1,18 +1,18 @@
 -- Vertices in the order of a height: each way rises or falls. Faces and outer edges are counted by the vertex at which they begin to rise again, which gives the number of edges.
-use Rattle.std.proofs.Common.{◌≡◌, ◌⊎◌, ℕ, zero, suc, ◌<◌, ◌≤◌, List, [], ◌∷◌, length, refl, sym, ap, ◌∙◌, subst, arith}
+use Rattle.std.proofs.Common.{◌≡◌, ◌⊎◌, ℕ, zero, suc, ◌<◌, ◌≤◌, List, [], ◌∷◌, length, get_or, refl, sym, ap, ◌∙◌, subst, arith}
 use mathlib.Core.Logic.{inl, inr, ◌≢◌}
 use mathlib.Core.Bool.{Bool, true, false, ◌&&◌}
 use lib.Dec.{eqb, eqb_refl}
 use borrow.Author.Tests.{eqb-true}
-use Rattle.std.specs.Prelude.{ℤ, pos, ◌+ℤ◌, ◌<ℤ◌, ◌≤ℤ◌, int_lt, Contains}
+use Rattle.std.specs.Prelude.{ℤ, pos, ◌+ℤ◌, ◌<ℤ◌, ◌≤ℤ◌, int_lt, Contains, AllPairs}
 use Rattle.std.proofs.lemmas.Int.{ints}
 use Rattle.std.proofs.lemmas.Bool.{cases_eq, cases_lt}
 use Rattle.plane.specs.Tiling.{Face}
 use Rattle.plane_tiling.specs.Local.{total, around, along, AreEdgesOf}
 use Rattle.plane.proofs.IntegerOrder.{lt_or_ge_ℤ}
 use Rattle.plane_tiling.proofs.Flows.{bit, bit_is, bit_nonneg}
-use Rattle.plane_tiling.proofs.Totals.{total_at_least, total_agree, total-sum, total_exchanged}
-use Rattle.plane.proofs.Signs.{at_most_both_ways, at_most_then_less, less_both_ways, less_in_a_ring, same_is_at_most, same_plus_zero, zero_plus_same}
+use Rattle.plane_tiling.proofs.Totals.{total_at_least, total_at_most_one, get_or_any, total_agree, total-sum, total_exchanged}
+use Rattle.plane.proofs.Signs.{below_and_not_below, one_is_above_zero, at_most_both_ways, at_most_then_less, less_both_ways, less_in_a_ring, same_is_at_most, same_plus_zero, zero_plus_same}
 use Rattle.plane.proofs.Sides.{test_true, less_by_test}
 use Rattle.plane.proofs.Indexes.{below_or_last}
 use Rattle.plane.proofs.Crossings.{is_true}
@@ -40,7 +40,7 @@ greatest f (suc n) h = go (cases_lt 0 n) (greatest f n)
 
 -- ---- tests
 
-pub if_falls : (a b : ℤ) → int_lt a b ≡ false → b ≤ℤ a
+if_falls : (a b : ℤ) → int_lt a b ≡ false → b ≤ℤ a
 if_falls a b e = elim (lt_or_ge_ℤ a b) [ inl l ↦ absurd (let f = test_true a b l in cc) | inr l ↦ l ]
 
 pub not_equal : (a b : ℕ) → a ≢ b → eqb a b ≡ false
@@ -58,7 +58,7 @@ pub first : ℕ → List ℕ
 first zero = []
 first (suc n) = n ∷ first n
 
-pub length_first : (n : ℕ) → length (first n) ≡ n
+length_first : (n : ℕ) → length (first n) ≡ n
 unfolding first
 length_first zero = refl
 length_first (suc n) = ap suc (length_first n)
@@ -151,6 +151,32 @@ module _ (height : ℕ → ℤ) where
     where
       at_least : (a b : ℤ) → a ≡ pos 1 → a ≤ℤ b → pos 1 ≤ℤ b
       at_least a b e h = omega (arith, ints)
+
+  -- where nothing at the upper end of an edge lies above v, no edge rises from v
+  pub rises_nowhere : (v : ℕ) (outer : List (ℕ × ℕ)) → ((e : ℕ × ℕ) → Contains outer e → height e.1 ≤ℤ height v)
+      → (e : ℕ × ℕ) → Contains outer e → leaves v e ≡ pos 0
+  rises_nowhere v outer top e h = go (leaves_bits v e)
+    where
+      go : (leaves v e ≡ pos 0) ⊎ (leaves v e ≡ pos 1) → leaves v e ≡ pos 0
+      go (inl x) = x
+      go (inr x) = absurd (let r = leaves_found v e (one_is_above_zero x) in
+          below_and_not_below (height v) (height e.1) (subst (λ o. height o <ℤ height e.1) (sym r.0) r.1) (top e h))
+
+  -- where two edges that rise from v have one end, at most one of them rises from v
+  pub rises_once : (v : ℕ) (outer : List (ℕ × ℕ)) → AllPairs (λ d e. d ≢ e) outer
+      → ((a b : ℕ) → Contains outer (v, a) → Contains outer (v, b) → height v <ℤ height a → height v <ℤ height b → a ≡ b)
+      → total (leaves v) outer ≤ℤ pos 1
+  rises_once v outer once same = total_at_most_one (leaves v) outer (λ e _. leaves_bits v e) twice
+    where
+      twice : (k l : ℕ) (d : ℕ × ℕ) → k < l → l < length outer → leaves v (get_or outer k d) ≡ pos 1 → leaves v (get_or outer l d) ≡ pos 1 → ⊥
+      twice k l d low high e e' =
+          let f = get_or outer k d in
+          let g = get_or outer l d in
+          let x = leaves_found v f (one_is_above_zero e) in
+          let y = leaves_found v g (one_is_above_zero e') in
+          let here : Contains outer f = (k, omega arith, get_or_any outer k f d (omega arith)) in
+          let there : Contains outer g = (l, high, get_or_any outer l g d high) in
+          once k l d low high (λ i. ((sym x.0 ∙ y.0) i, same f.1 g.1 (subst (λ o. Contains outer (o, f.1)) (sym x.0) here) (subst (λ o. Contains outer (o, g.1)) (sym y.0) there) (subst (λ o. height o <ℤ height f.1) (sym x.0) x.1) (subst (λ o. height o <ℤ height g.1) (sym y.0) y.1) i))
 
   abbrev pub rise : ℕ → ℕ → ℤ
   rise s t = bit (up s t)

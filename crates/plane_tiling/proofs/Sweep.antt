@@ -24,7 +24,7 @@ use Rattle.plane_tiling.proofs.Counting.{at, SignMesh, corners_differ}
 use Rattle.plane_tiling.proofs.Covering as C
 use Rattle.plane_tiling.proofs.Loops as L
 use Rattle.plane_tiling.proofs.Loops.{sum_of_bits, IsFaceOn}
-use Rattle.plane_tiling.proofs.Rising.{up, begins_at, leaves, count_at, leaves_found, leaves_bits, leaves_nonneg, leaves_counted, equal}
+use Rattle.plane_tiling.proofs.Rising.{up, begins_at, leaves, count_at, leaves_found, leaves_nonneg, leaves_counted, rises_once, rises_nowhere, equal}
 use Rattle.plane.proofs.Signs.{at_least_one_through, below_and_not_below, first_of_three_counts, less_if_not_same, second_of_three_counts, sum_not_positive, sum_of_three_not_negative, sum_of_zeros, third_of_three_counts, same_if_neither_less, one_is_above_zero, named_difference_is_positive}
 use Rattle.plane.proofs.Sides.{test_true, less_by_test}
 
@@ -180,20 +180,10 @@ module _ (n : ℕ) (p : ℕ → Point) (faces : List Face) (outer : List (ℕ ×
           (λ l b n a d w k v. (num 0 ⊖ w, d, num 0) ∷ (num 0 ⊖ num 1, l ⊗ b ⊖ n ⊗ a, d ⊗ w ⊖ k ⊗ v) ∷ []) (z, (e, tt)) tt
 
   outer_once : total (leaves height v) outer ≤ℤ pos 1
-  outer_once = total_at_most_one (leaves height v) outer (λ e _. leaves_bits height v e) twice
+  outer_once = rises_once height v outer m.once same
     where
       same : (a b : ℕ) → Contains outer (v, a) → Contains outer (v, b) → height v <ℤ height a → height v <ℤ height b → a ≡ b
       same a b x y h k = elim (cases_eq a b) [ inl e ↦ e | inr d ↦ absurd (s.distinct a b (m.ends (v, a) x).1 (m.ends (v, b) y).1 d (same_if_neither_less (height a) (height b) (one_way_up a b x y h k) (one_way_up b a y x k h))) ]
-
-      twice : (k l : ℕ) (d : ℕ × ℕ) → k < l → l < length outer → leaves height v (get_or outer k d) ≡ pos 1 → leaves height v (get_or outer l d) ≡ pos 1 → ⊥
-      twice k l d low high e e' =
-          let f = get_or outer k d in
-          let g = get_or outer l d in
-          let x = leaves_found height v f (one_is_above_zero e) in
-          let y = leaves_found height v g (one_is_above_zero e') in
-          let here : Contains outer f = (k, omega arith, get_or_any outer k f d (omega arith)) in
-          let there : Contains outer g = (l, high, get_or_any outer l g d high) in
-          m.once k l d low high (λ i. ((sym x.0 ∙ y.0) i, same f.1 g.1 (subst (λ o. Contains outer (o, f.1)) (sym x.0) here) (subst (λ o. Contains outer (o, g.1)) (sym y.0) there) (subst (λ o. height o <ℤ height f.1) (sym x.0) x.1) (subst (λ o. height o <ℤ height g.1) (sym y.0) y.1) i))
 
   -- a face that begins to rise again at v, and an outer edge that rises from it
   not_both : (a c b : ℕ) → IsTurnOf faces v a c → height v <ℤ height a → height c <ℤ height v → Contains outer (v, b) → height v <ℤ height b → ⊥
@@ -371,12 +361,8 @@ module _ (n : ℕ) (p : ℕ → Point) (faces : List Face) (outer : List (ℕ ×
   -- at the top: none
   pub count_none : ((k : ℕ) → k < n → height k ≤ℤ height v) → count_at height faces outer v ≡ pos 0
   unfolding count_at
-  count_none top = sum_of_zeros (total (begins_at height v) faces) (total (leaves height v) outer) (all_none (begins_at height v) faces (λ f h. begins_none f h (begins_bits f h))) (all_none (leaves height v) outer (λ e h. leaves_none e h (leaves_bits height v e)))
+  count_none top = sum_of_zeros (total (begins_at height v) faces) (total (leaves height v) outer) (all_none (begins_at height v) faces (λ f h. begins_none f h (begins_bits f h))) (all_none (leaves height v) outer (rises_nowhere height v outer (λ e h. top e.1 (m.ends e h).1)))
     where
       begins_none : (f : Face) → Contains faces f → (begins_at height v f ≡ pos 0) ⊎ (begins_at height v f ≡ pos 1) → begins_at height v f ≡ pos 0
       begins_none f h (inl e) = e
       begins_none f h (inr e) = absurd (let b = begins_found f (one_is_above_zero e) in below_and_not_below (height v) (height b.a) b.rises (top b.a (C.turn_corners n p faces outer m v b.a b.c (L.turn_on n p faces outer m v b.a b.c f b.on h)).1))
-
-      leaves_none : (e : ℕ × ℕ) → Contains outer e → (leaves height v e ≡ pos 0) ⊎ (leaves height v e ≡ pos 1) → leaves height v e ≡ pos 0
-      leaves_none e h (inl x) = x
-      leaves_none e h (inr x) = absurd (let r = leaves_found height v e (one_is_above_zero x) in below_and_not_below (height v) (height e.1) (subst (λ o. height o <ℤ height e.1) (sym r.0) r.1) (top e.1 (m.ends e h).1))

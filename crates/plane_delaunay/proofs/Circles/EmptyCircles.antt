@@ -164,7 +164,7 @@ way_to_corner a b c q y t i out m = go (sign w.k)
     go (above h) = absurd (out (inside_on_way a b c q y w t i h))
 
 -- no point of an edge is strictly inside a face
-pub edge_not_inside : (t : Triangulation) (h : TilesHull t) (i j d e f : ℕ) (y : Fraction) → IsEdge t i j → IsFace t d e f → OnSegment (vertex t i) (vertex t j) y → ¬ Inside (vertex t d) (vertex t e) (vertex t f) y
+edge_not_inside : (t : Triangulation) (h : TilesHull t) (i j d e f : ℕ) (y : Fraction) → IsEdge t i j → IsFace t d e f → OnSegment (vertex t i) (vertex t j) y → ¬ Inside (vertex t d) (vertex t e) (vertex t f) y
 unfolding tiling
 edge_not_inside t h i j d e f y edge g m inside = go ((h.sides i j).0 edge)
   where

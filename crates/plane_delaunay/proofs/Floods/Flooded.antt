@@ -76,7 +76,7 @@ segment_from n k l a b x hn hk hl e = mean_of_two IsNotNegative a b x (record {
     ey : n *ℤ x.y ≡ k *ℤ a.y +ℤ l *ℤ b.y
     ey = coordinate (λ p. p.y) (λ p. bracket (probe (pos 0) (pos 0)) (probe (pos 1) (pos 0)) p) at_y n k l a b x (e (probe (pos 0) (pos 0)) (probe (pos 1) (pos 0)))
 
-pub segment_of_side : (a b x : Fraction) → OnSide a b x → OnSegment a b x
+segment_of_side : (a b x : Fraction) → OnSide a b x → OnSegment a b x
 segment_of_side a b x o = segment_from o.n o.k o.l a b x o.n_above o.k_least o.l_least o.along
 
 pub side_of_segment : (a b x : Fraction) → OnSegment a b x → OnSide a b x

@@ -35,7 +35,7 @@ from_weights_back n k l r a b w v u c e d = ring_in_from (n ∷ k ∷ l ∷ r �
 pub below_line : (n k l r a b w v u c : ℤ) → pos 0 <ℤ n → pos 0 ≤ℤ k → pos 0 ≤ℤ l → n *ℤ r ≡ k *ℤ a +ℤ l *ℤ b → n *ℤ w ≡ k *ℤ v +ℤ l *ℤ u → a ≤ℤ (c *ℤ v) → b ≤ℤ (c *ℤ u) → r ≤ℤ (c *ℤ w)
 below_line n k l r a b w v u c hn hk hl e d h i = at_most_by_difference (c *ℤ w) r (sum_least n k l (c *ℤ w -ℤ r) (c *ℤ v -ℤ a) (c *ℤ u -ℤ b) hn (from_weights_back n k l r a b w v u c e d) hk (difference_not_negative_from (c *ℤ v) a h) hl (difference_not_negative_from (c *ℤ u) b i))
 
-pub rectangle_convex : (lower upper : Point) → IsConvex (InClosedRectangle lower upper)
+rectangle_convex : (lower upper : Point) → IsConvex (InClosedRectangle lower upper)
 rectangle_convex lower upper p q r hp hq m = go (two_weights IsNotNegative p q r m)
   where
     go : TwoWeights IsNotNegative p q r → InClosedRectangle lower upper r
@@ -81,12 +81,12 @@ mean_room n k l r w v u X Y x y x' y' e d c = ring_in_from (n ∷ k ∷ l ∷ r 
     (e, (d, (c, tt))) tt
 
 -- the way from a whole point
-pub way_from : (n k l r a b w v u c : ℤ) → n *ℤ r ≡ k *ℤ a +ℤ l *ℤ b → n *ℤ w ≡ k *ℤ v +ℤ l *ℤ u → n *ℤ (r *ℤ pos 1 -ℤ c *ℤ w) ≡ k *ℤ (a *ℤ pos 1 -ℤ c *ℤ v) +ℤ l *ℤ (b *ℤ pos 1 -ℤ c *ℤ u)
+way_from : (n k l r a b w v u c : ℤ) → n *ℤ r ≡ k *ℤ a +ℤ l *ℤ b → n *ℤ w ≡ k *ℤ v +ℤ l *ℤ u → n *ℤ (r *ℤ pos 1 -ℤ c *ℤ w) ≡ k *ℤ (a *ℤ pos 1 -ℤ c *ℤ v) +ℤ l *ℤ (b *ℤ pos 1 -ℤ c *ℤ u)
 way_from n k l r a b w v u c e d = ring_in_from (n ∷ k ∷ l ∷ r ∷ a ∷ b ∷ w ∷ v ∷ u ∷ c ∷ [])
     (λ n k l r a b w v u c. n ⊗ (r ⊗ num 1 ⊖ c ⊗ w)) (λ n k l r a b w v u c. k ⊗ (a ⊗ num 1 ⊖ c ⊗ v) ⊕ l ⊗ (b ⊗ num 1 ⊖ c ⊗ u))
     (λ n k l r a b w v u c. (num 1, n ⊗ r, k ⊗ a ⊕ l ⊗ b) ∷ (⊝ c, n ⊗ w, k ⊗ v ⊕ l ⊗ u) ∷ []) (e, (d, tt)) tt
 
-pub circle_convex : (centre : Point) (radius_2 : ℤ) → IsConvex (InClosedCircle centre radius_2)
+circle_convex : (centre : Point) (radius_2 : ℤ) → IsConvex (InClosedCircle centre radius_2)
 circle_convex centre radius_2 p q r hp hq m = go (two_weights IsNotNegative p q r m)
   where
     c : Fraction

@@ -39,7 +39,7 @@ pub record Begins (t : Triangulation) (p q : Fraction) (m : Item) : Type 0 where
   pub at : Fraction
   pub begins : BeginsAt t p q m at
 
-pub begin_along : (t : Triangulation) (p q : Fraction) (i j : ℕ) → OverlapAlong p q (vertex t i) (vertex t j) → Begins t p q (L.along i j)
+begin_along : (t : Triangulation) (p q : Fraction) (i j : ℕ) → OverlapAlong p q (vertex t i) (vertex t j) → Begins t p q (L.along i j)
 begin_along t p q i j o = go (decide_on_segment (vertex t i) (vertex t j) p)
   where
     go : Decision (OnSegment (vertex t i) (vertex t j) p) → Begins t p q (L.along i j)

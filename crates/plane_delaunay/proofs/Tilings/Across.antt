@@ -33,7 +33,7 @@ second_on u v w a b h p q = sym (bracket-turned a b v) ∙ none_of_sum (bracket 
 outer_sum : (x X y Y k A l B : ℤ) → x ≡ pos 0 → x *ℤ X -ℤ y *ℤ Y ≡ k *ℤ A -ℤ l *ℤ B → neg_ℤ y *ℤ Y ≡ k *ℤ A +ℤ neg_ℤ l *ℤ B
 outer_sum x X y Y k A l B h e = let z = product_zero_left X h in omega (arith, ints, neg-mul_ℤ y Y, neg-mul_ℤ l B)
 
-pub outer_between : (a b v w : Fraction) → bracket a b v ≡ pos 0 → bracket a b w <ℤ pos 0 → pos 0 <ℤ bracket v w b → bracket v w a <ℤ pos 0 → Between a b v
+outer_between : (a b v w : Fraction) → bracket a b v ≡ pos 0 → bracket a b w <ℤ pos 0 → pos 0 <ℤ bracket v w b → bracket v w a <ℤ pos 0 → Between a b v
 outer_between a b v w on right h k = record {
   n = neg_ℤ (bracket a b w);
   k = bracket v w b;
@@ -56,7 +56,7 @@ inner_between u v w a t on h k = record {
 }
 
 -- the weights of whole points
-pub unit_weights : (a b p q : Fraction) → a.w ≡ pos 1 → b.w ≡ pos 1 → p.w ≡ pos 1 → q.w ≡ pos 1 → bracket a b q -ℤ bracket a b p ≡ bracket q p b -ℤ bracket q p a
+unit_weights : (a b p q : Fraction) → a.w ≡ pos 1 → b.w ≡ pos 1 → p.w ≡ pos 1 → q.w ≡ pos 1 → bracket a b q -ℤ bracket a b p ≡ bracket q p b -ℤ bracket q p a
 unit_weights a b p q ea eb ep eq =
     let m = meeting-w a b p q in
     let i = times_one (bracket a b q) p.w ep in
@@ -78,7 +78,7 @@ less_by x y p q e h s = omega (arith, ints)
 flipped_less : (x y x' y' : ℤ) → x' ≡ neg_ℤ x → y' ≡ neg_ℤ y → x' <ℤ y' → y <ℤ x
 flipped_less x y x' y' e d h = omega (arith, ints)
 
-pub opposite_signs : (n k l x a b : ℤ) → pos 0 <ℤ n → pos 0 <ℤ k → pos 0 <ℤ l → n *ℤ x ≡ k *ℤ a +ℤ l *ℤ b → x ≡ pos 0 → (pos 0 <ℤ a) ⊎ ((pos 0 <ℤ b) ⊎ ((a ≡ pos 0) × (b ≡ pos 0)))
+opposite_signs : (n k l x a b : ℤ) → pos 0 <ℤ n → pos 0 <ℤ k → pos 0 <ℤ l → n *ℤ x ≡ k *ℤ a +ℤ l *ℤ b → x ≡ pos 0 → (pos 0 <ℤ a) ⊎ ((pos 0 <ℤ b) ⊎ ((a ≡ pos 0) × (b ≡ pos 0)))
 opposite_signs n k l x a b hn hk hl e z = elim (sign a) [ above h ↦ inl h | none h ↦ inr (inr (h, second h)) | below h ↦ inr (inl (third h)) ]
   where
     second : a ≡ pos 0 → b ≡ pos 0

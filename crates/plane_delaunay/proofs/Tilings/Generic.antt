@@ -26,7 +26,7 @@ use Rattle.plane_delaunay.proofs.Floods.Flood.{swapped_above, swapped_below}
 use Rattle.plane_delaunay.proofs.Tilings.Faces.{turned-above}
 use Rattle.plane.proofs.Lines.{balanced}
 
-abbrev pub AllLeft : List (Fraction × Fraction) → Fraction → Type 0
+abbrev AllLeft : List (Fraction × Fraction) → Fraction → Type 0
 AllLeft [] q = Unit {0}
 AllLeft (l ∷ ls) q = (pos 0 <ℤ bracket l.0 l.1 q) × AllLeft ls q
 

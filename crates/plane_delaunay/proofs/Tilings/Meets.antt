@@ -64,7 +64,7 @@ place_of a b x h = go (sign h.k) (sign h.l)
     go (above p) (none q) = at_first (at_end b a x (on_side-swapped a b x h) q)
     go (above p) (above q) = within (record { n = h.n; k = h.k; l = h.l; n_above = h.n_above; k_above = p; l_above = q; along = h.along })
 
-pub on_side-none : (a b x : Fraction) → OnSide a b x → bracket a b x ≡ pos 0
+on_side-none : (a b x : Fraction) → OnSide a b x → bracket a b x ≡ pos 0
 on_side-none a b x h = sum_none h.n h.k h.l _ _ _ h.n_above (h.along a b) (bracket-first a b) (bracket-second a b)
 
 pub on_side-closed : (a b c x : Fraction) → OnSide a b x → pos 0 <ℤ bracket a b c → Closed a b c x

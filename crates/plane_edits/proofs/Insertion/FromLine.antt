@@ -22,7 +22,7 @@ use Rattle.plane.proofs.LineOrder.{IsBetween, place_within, within_places}
 use Rattle.plane_edits.specs.Change.{FacesChange, OuterChange}
 use Rattle.plane_edits.specs.Extension.{fan, steps, last_of}
 use Rattle.plane_edits.proofs.LocalMesh.Changes.{face_from, turn_of_all, IsOnce, once_none, once_cons, once_tail, once_head, same_total}
-use Rattle.plane_edits.proofs.LocalMesh.Additions.{IsUsed, corner_of_used, AreTurning, turning_turned, around_turn_free, outer_totals}
+use Rattle.plane_edits.proofs.LocalMesh.Additions.{distinct_with_last, IsUsed, corner_of_used, AreTurning, turning_turned, around_turn_free, outer_totals}
 use Rattle.plane_edits.proofs.Insertion.Extension.{IsRun, run_up_to, fan_from, fan_total, fans_balance, last_step, not_own_end, not_own_start}
 use Rattle.plane.proofs.Signs.{difference_is_positive, difference_not_negative, less_by_difference, same_is_at_most_of, sum_of_zeros, opposite_not_positive, at_most_both_ways, at_most_itself}
 use Rattle.plane_edits.proofs.Insertion.Hull.{factor_left}
@@ -104,7 +104,7 @@ total_swapped flow anti (e ∷ es) = next (flow e.1 e.0) (flow e.0 e.1) (total (
 own_negative : (t : ℤ) → t ≡ neg_ℤ t → t ≡ pos 0
 own_negative t h = omega (arith, ints)
 
-pub both_ways_cancel : (flow : ℕ → ℕ → ℤ) → IsAntisymmetric flow → (es : List (ℕ × ℕ)) → IsOnce es → ((i j : ℕ) → Contains es (i, j) → Contains es (j, i)) → total (along flow) es ≡ pos 0
+both_ways_cancel : (flow : ℕ → ℕ → ℤ) → IsAntisymmetric flow → (es : List (ℕ × ℕ)) → IsOnce es → ((i j : ℕ) → Contains es (i, j) → Contains es (j, i)) → total (along flow) es ≡ pos 0
 both_ways_cancel flow anti es once back = own_negative (total (along flow) es) (
     same_total (along flow) es (all_swapped es) once (swapped_once es once) (λ e h. has_swapped es e.1 e.0 (back e.0 e.1 h)) (λ e h. back e.1 e.0 (was_swapped es e.0 e.1 h))
     ∙ total_swapped flow anti es)
@@ -292,12 +292,6 @@ module _ (n : ℕ) (p : ℕ → Point) (outer now : List (ℕ × ℕ)) (new : Li
       fresh : (k : ℕ) → k < n → ¬ (p k ≡ p n)
       fresh k h e = left_not_zero run.1 (ap (λ q. bracket (at p u) (at p v) (lift q)) (sym e) ∙ on k h)
 
-      distinct : (i j : ℕ) → (i < n) ⊎ (i ≡ n) → (j < n) ⊎ (j ≡ n) → i ≢ j → ¬ (p i ≡ p j)
-      distinct i j (inl h) (inl k) a e = m.distinct i j h k a e
-      distinct i j (inl h) (inr k) a e = fresh i h (e ∙ ap p k)
-      distinct i j (inr h) (inl k) a e = fresh j k (sym e ∙ ap p h)
-      distinct i j (inr h) (inr k) a e = a (h ∙ sym k)
-
       of_fan : (i j k : ℕ) → IsTurnOf new i j k → IsTurnOf (fan n u (v ∷ vs)) i j k
       of_fan i j k h = elim (face_from [] new [] (fan n u (v ∷ vs)) faces_change i j k h) [ inl o ↦ absurd (nothing o) | inr o ↦ o ]
         where
@@ -404,7 +398,7 @@ module _ (n : ℕ) (p : ℕ → Point) (outer now : List (ℕ × ℕ)) (new : Li
       -- the mesh over the line is local
       pub raised : SignMesh (suc n) p new now
       raised = record {
-        distinct = λ i j h k a. distinct i j (below_or_last n i h) (below_or_last n j k) a;
+        distinct = λ i j h k a. distinct_with_last n p m.distinct fresh i j (below_or_last n i h) (below_or_last n j k) a;
         some_face = let t = corner_of_used new n (used n (inr refl)) in (t.0, t.1);
         used = λ k h. inl (corner_of_used new k (used k (below_or_last n k h)));
         corners = λ g h. let t = turning g.a g.b g.c (inl h) in (t.0, t.1, t.2);

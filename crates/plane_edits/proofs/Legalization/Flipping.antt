@@ -59,7 +59,7 @@ failing_is_convex a b c d abc acd h =
 negative : (e f : ℤ) → f ≡ neg_ℤ e → pos 0 <ℤ e → pos 0 <ℤ f → ⊥
 negative e f h k l = omega (arith, ints)
 
-pub new_diagonal_passes : (a b c d : Point) → TurnsLeft (whole a) (whole b) (whole d) → TurnsLeft (whole b) (whole c) (whole d) → pos 0 <ℤ incircle (lift a) (lift b) (lift c) (lift d)
+new_diagonal_passes : (a b c d : Point) → TurnsLeft (whole a) (whole b) (whole d) → TurnsLeft (whole b) (whole c) (whole d) → pos 0 <ℤ incircle (lift a) (lift b) (lift c) (lift d)
     → (¬ InsideCircle (whole b) (whole d) (whole a) (whole c)) × (¬ InsideCircle (whole d) (whole b) (whole c) (whole a))
 new_diagonal_passes a b c d abd bcd e = (
   (λ h. negative (incircle (lift a) (lift b) (lift c) (lift d)) (incircle (lift b) (lift d) (lift a) (lift c)) (first ∙ incircle-flipped (lift a) (lift b) (lift c) (lift d)) e ((inside_is_incircle b d a c (turned_left a b d abd)).0 h)),

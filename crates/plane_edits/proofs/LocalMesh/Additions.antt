@@ -3,6 +3,7 @@ use Rattle.std.proofs.Common.{◌≡◌, ◌⊎◌, ℕ, suc, ◌<◌, List, ref
 use mathlib.Core.Logic.{inl, inr, ◌≢◌}
 use Rattle.std.specs.Prelude.{ℤ, pos, ◌+ℤ◌, ◌≤ℤ◌, ◌<ℤ◌, Contains}
 use Rattle.std.proofs.lemmas.Int.{ints}
+use Rattle.plane.proofs.Generic.{AreDistinct}
 use Rattle.plane.specs.Fraction.{Point, whole, WithinSegment}
 use Rattle.plane.specs.Tiling.{Face, face}
 use Rattle.plane_tiling.specs.Local.{total, around, along, IsAntisymmetric, IsCorner}
@@ -49,6 +50,14 @@ outer_totals old new left come c o l m there apart f = changed_total f old new l
     kept e h (inl k) = inr k
     kept e h (inr k) = inl (c.kept e.0 e.1 h k)
 
+-- a further point, unlike each of some distinct points, makes one more
+pub distinct_with_last : (n : ℕ) (p : ℕ → Point) → AreDistinct n p → ((k : ℕ) → k < n → ¬ (p k ≡ p n))
+    → (i j : ℕ) → (i < n) ⊎ (i ≡ n) → (j < n) ⊎ (j ≡ n) → i ≢ j → ¬ (p i ≡ p j)
+distinct_with_last n p old fresh i j (inl h) (inl k) a e = old i j h k a e
+distinct_with_last n p old fresh i j (inl h) (inr k) a e = fresh i h (e ∙ ap p k)
+distinct_with_last n p old fresh i j (inr h) (inl k) a e = fresh j k (sym e ∙ ap p h)
+distinct_with_last n p old fresh i j (inr h) (inr k) a e = a (h ∙ sym k)
+
 module _ (n : ℕ) (p : ℕ → Point) (faces new : List Face) (outer outer' : List (ℕ × ℕ)) (m : SignMesh n p faces outer) where
   -- what an edit that puts the next index, n, owes
   pub record IsAddition (gone made : List Face) (left come : List (ℕ × ℕ)) : Type 0 where
@@ -77,7 +86,7 @@ module _ (n : ℕ) (p : ℕ → Point) (faces new : List Face) (outer outer' : L
 
   pub added_kept : (gone made : List Face) (left come : List (ℕ × ℕ)) → IsAddition gone made left come → SignMesh (suc n) p new outer'
   added_kept gone made left come s = record {
-    distinct = λ i j h k a. apart i j (below_or_last n i h) (below_or_last n j k) a;
+    distinct = λ i j h k a. distinct_with_last n p m.distinct s.fresh i j (below_or_last n i h) (below_or_last n j k) a;
     some_face = let u = corner_of_used new n used_last in (u.0, u.1);
     used = λ k h. inl (corner_of_used new k (used k (below_or_last n k h)));
     corners = λ g h. let t = turning g.a g.b g.c (inl h) in (t.0, t.1, t.2);
@@ -92,12 +101,6 @@ module _ (n : ℕ) (p : ℕ → Point) (faces new : List Face) (outer outer' : L
     where
       none_yet : (e : ℕ × ℕ) → Contains come e → ¬ Contains outer e
       none_yet e h k = let c = m.ends e k in elim (s.come_at e h) [ inl x ↦ not_last e.0 c.0 x | inr x ↦ not_last e.1 c.1 x ]
-
-      apart : (i j : ℕ) → (i < n) ⊎ (i ≡ n) → (j < n) ⊎ (j ≡ n) → i ≢ j → ¬ (p i ≡ p j)
-      apart i j (inl h) (inl k) a e = m.distinct i j h k a e
-      apart i j (inl h) (inr k) a e = s.fresh i h (e ∙ ap p k)
-      apart i j (inr h) (inl k) a e = s.fresh j k (sym e ∙ ap p h)
-      apart i j (inr h) (inr k) a e = a (h ∙ sym k)
 
       turning : (i j k : ℕ) → IsTurnOf new i j k → AreTurning (suc n) p i j k
       turning i j k h = elim (face_from faces new gone made s.faces_change i j k h) [

@@ -2,7 +2,7 @@
 use Rattle.std.proofs.Common.{◌≡◌, ◌⊎◌, ℕ, zero, suc, ◌<◌, ◌≤◌, List, [], ◌∷◌, ◌++◌, length, get_or, refl, sym, ap, ◌∙◌, subst, arith}
 use mathlib.Core.Logic.{inl, inr, ◌≢◌}
 use mathlib.Core.Bool.{Bool, true, false, ◌&&◌}
-use lib.Dec.{T, eqb, eqb_refl}
+use lib.Dec.{eqb, eqb_refl}
 use borrow.Author.Tests.{eqb-true}
 use Rattle.std.specs.Prelude.{ℤ, pos, ◌+ℤ◌, ◌≤ℤ◌, ◌<ℤ◌, Contains, AllPairs, remove}
 use Rattle.std.proofs.lemmas.Int.{ints}

@@ -38,7 +38,7 @@ pub index_of : (points : List Point) (faces : List Face) (outer : List (ℕ × �
 index_of points faces outer m a b c h = C.turn_corners (length points) (point_at points) faces outer (by_signs points faces outer m) a b c h
 
 -- a vertex of two, with a new point
-pub within_last : (points : List Point) (q : Point) (a b : ℕ) → a < length points → b < length points → WithinSegment (place points a) (place points b) (whole q)
+within_last : (points : List Point) (q : Point) (a b : ℕ) → a < length points → b < length points → WithinSegment (place points a) (place points b) (whole q)
     → WithinSegment (whole (point_at (points ++ q ∷ []) a)) (whole (point_at (points ++ q ∷ []) b)) (whole (point_at (points ++ q ∷ []) (length points)))
 within_last points q a b ha hb w = subst (λ (x : Point × Point × Point). WithinSegment (whole x.0) (whole x.1) (whole x.2)) (λ i. (kept_point points q a ha i, kept_point points q b hb i, sym (last_point points q) i)) w
 

@@ -35,7 +35,7 @@ search P Q d low (suc count) = go (search P Q d low count) (d (low + count))
     go (inr none) (inr y) = inr (λ i h k. elim (last_or i k) [ inl l ↦ none i h l | inr e ↦ subst Q (sym e) y ])
 
 -- a bracket as a linear form of its last point
-pub bracket_is_form : (a b z : Vec3) → bracket a b z ≡ form (a.y *ℤ b.w -ℤ a.w *ℤ b.y) (a.w *ℤ b.x -ℤ a.x *ℤ b.w) (a.x *ℤ b.y -ℤ a.y *ℤ b.x) z
+bracket_is_form : (a b z : Vec3) → bracket a b z ≡ form (a.y *ℤ b.w -ℤ a.w *ℤ b.y) (a.w *ℤ b.x -ℤ a.x *ℤ b.w) (a.x *ℤ b.y -ℤ a.y *ℤ b.x) z
 unfolding bracket
 bracket_is_form a b z = ring_over vec3 [] (a ∷ b ∷ z ∷ []) bracketᵖ (λ a b z. (a.y ⊗ b.w ⊖ a.w ⊗ b.y) ⊗ z.x ⊕ (a.w ⊗ b.x ⊖ a.x ⊗ b.w) ⊗ z.y ⊕ (a.x ⊗ b.y ⊖ a.y ⊗ b.x) ⊗ z.w) tt
 

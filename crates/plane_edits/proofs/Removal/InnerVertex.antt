@@ -20,7 +20,7 @@ use Rattle.plane_edits.proofs.Removal.Merge as M
 use Rattle.plane_edits.proofs.Removal.Merge.{SignMeshWithout}
 
 -- from signs back to the words of specs/
-pub without_in_words : (v : ℕ) (points : List Point) (faces : List Face) (outer : List (ℕ × ℕ)) → SignMeshWithout v (length points) (point_at points) faces outer → LocalMeshWithout v points faces outer
+without_in_words : (v : ℕ) (points : List Point) (faces : List Face) (outer : List (ℕ × ℕ)) → SignMeshWithout v (length points) (point_at points) faces outer → LocalMeshWithout v points faces outer
 without_in_words v points faces outer m = record {
   distinct = λ i j h k n e. m.distinct i j h.0 k.0 n (λ o. record { x = (e o).x; y = (e o).y });
   some_face = λ e. no_turn (m.some_face.0) (m.some_face.1) (m.some_face.2) (subst (λ l. IsTurnOf l m.some_face.0 m.some_face.1 m.some_face.2) e m.some_face.3);

@@ -30,6 +30,26 @@ module _ {X Y : Type 0} (f : X → Y) where
   total_map g [] = refl
   total_map g (x ∷ xs) = λ i. g (f x) +ℤ total_map g xs i
 
+-- under a map that tells listed pairs apart, a list without a pair twice stays one
+once_under_map : (f : ℕ × ℕ → ℕ × ℕ) (pairs : List (ℕ × ℕ)) → AllPairs (λ d e. d ≢ e) pairs
+    → ((a b : ℕ × ℕ) → Contains pairs a → Contains pairs b → f a ≡ f b → a ≡ b)
+    → AllPairs (λ d e. d ≢ e) (map f pairs)
+once_under_map f pairs once apart i j d low high e =
+    let o = get_or pairs i d in
+    once i j o low in_list (apart (get_or pairs i o) (get_or pairs j o) (entry i in_first) (entry j in_list) (sym (read i in_first) ∙ e ∙ read j in_list))
+  where
+    in_list : j < length pairs
+    in_list = omega (arith, length-map pairs f)
+
+    in_first : i < length pairs
+    in_first = omega (arith, length-map pairs f)
+
+    entry : (k : ℕ) → k < length pairs → Contains pairs (get_or pairs k (get_or pairs i d))
+    entry k h = (k, h, get_or_any pairs k (get_or pairs k (get_or pairs i d)) (get_or pairs i d) h)
+
+    read : (k : ℕ) → k < length pairs → get_or (map f pairs) k d ≡ f (get_or pairs k (get_or pairs i d))
+    read k h = get_or-map f pairs k (get_or pairs i d) d h
+
 -- ---- the indexes
 module _ (v last : ℕ) where
   pub old_index : ℕ → ℕ
@@ -129,20 +149,8 @@ module _ (v last : ℕ) where
     seen P i j k a b c = subst (λ (o : Fraction × Fraction × Fraction). P o.0 o.1 o.2) (λ s. (at_new i a s, at_new j b s, at_old k c s))
 
     once_renumbered : AllPairs (λ d e. d ≢ e) (map (renumbered_pair v last) outer)
-    once_renumbered i j d low high e = m.once i j (get_or outer i d) low in_list (ends_same (get_or outer i (get_or outer i d)) (get_or outer j (get_or outer i d)) (entry i in_first) (entry j in_list) (sym (read i in_first) ∙ e ∙ read j in_list))
+    once_renumbered = once_under_map (renumbered_pair v last) outer m.once ends_same
       where
-        in_list : j < length outer
-        in_list = omega (arith, length-map outer (renumbered_pair v last))
-
-        in_first : i < length outer
-        in_first = omega (arith, length-map outer (renumbered_pair v last))
-
-        entry : (k : ℕ) → k < length outer → Contains outer (get_or outer k (get_or outer i d))
-        entry k h = (k, h, get_or_any outer k (get_or outer k (get_or outer i d)) (get_or outer i d) h)
-
-        read : (k : ℕ) → k < length outer → get_or (map (renumbered_pair v last) outer) k d ≡ renumbered_pair v last (get_or outer k (get_or outer i d))
-        read k h = get_or-map (renumbered_pair v last) outer k (get_or outer i d) d h
-
         ends_same : (a b : ℕ × ℕ) → Contains outer a → Contains outer b → renumbered_pair v last a ≡ renumbered_pair v last b → a ≡ b
         ends_same a b x y q = let s = m.ends a x in let t = m.ends b y in λ o. (new_apart a.0 b.0 s.0.1 t.0.1 (ap (λ z. z.0) q) o, new_apart a.1 b.1 s.1.1 t.1.1 (ap (λ z. z.1) q) o)
 
@@ -198,20 +206,8 @@ module _ (v last : ℕ) where
     line_entry i j h = let s = (m.neighbours i j).0 h in (s.first, s.second)
 
     line_once : AllPairs (λ d e. d ≢ e) (map (renumbered_pair v last) outer)
-    line_once i j d low high e = m.once i j (get_or outer i d) low in_list (ends_same (get_or outer i (get_or outer i d)) (get_or outer j (get_or outer i d)) (entry i in_first) (entry j in_list) (sym (read i in_first) ∙ e ∙ read j in_list))
+    line_once = once_under_map (renumbered_pair v last) outer m.once ends_same
       where
-        in_list : j < length outer
-        in_list = omega (arith, length-map outer (renumbered_pair v last))
-
-        in_first : i < length outer
-        in_first = omega (arith, length-map outer (renumbered_pair v last))
-
-        entry : (k : ℕ) → k < length outer → Contains outer (get_or outer k (get_or outer i d))
-        entry k h = (k, h, get_or_any outer k (get_or outer k (get_or outer i d)) (get_or outer i d) h)
-
-        read : (k : ℕ) → k < length outer → get_or (map (renumbered_pair v last) outer) k d ≡ renumbered_pair v last (get_or outer k (get_or outer i d))
-        read k h = get_or-map (renumbered_pair v last) outer k (get_or outer i d) d h
-
         ends_same : (a b : ℕ × ℕ) → Contains outer a → Contains outer b → renumbered_pair v last a ≡ renumbered_pair v last b → a ≡ b
         ends_same a b x y q = let s = line_entry a.0 a.1 x in let t = line_entry b.0 b.1 y in λ o. (new_apart a.0 b.0 s.0.1 t.0.1 (ap (λ z. z.0) q) o, new_apart a.1 b.1 s.1.1 t.1.1 (ap (λ z. z.1) q) o)
 

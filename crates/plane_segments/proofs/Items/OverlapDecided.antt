@@ -36,7 +36,7 @@ pub record Overlaps (p q u v : Fraction) : Type 0 where
   pub starts : (reach p q u *ℤ q.w) <ℤ (reach p q q *ℤ u.w)
   pub ends : pos 0 <ℤ reach p q v
 
-pub overlaps_is : (p q u v : Fraction) → ¬ IsSame p q → OverlapAlong p q u v → Overlaps p q u v
+overlaps_is : (p q u v : Fraction) → ¬ IsSame p q → OverlapAlong p q u v → Overlaps p q u v
 overlaps_is p q u v apart o = record {
   on_u = on_line p q u v o;
   on_v = on_line_last p q u v o;

@@ -38,7 +38,7 @@ start_nearer u x n = nearer_if u x n u x (start_on_segment u x) (end_on_segment 
     less a b c d e h k = let m = mul-pos_ℤ {a = b} {b = d} h k in let z = product_zero_left {a = a} c e in omega (arith, ints)
 
 -- a point of a part of a segment
-pub inner_segment : (p q v x : Fraction) → OnSegment p q v → OnSegment v q x → OnSegment p q x
+inner_segment : (p q v x : Fraction) → OnSegment p q v → OnSegment v q x → OnSegment p q x
 inner_segment p q v x hv hx = go (two_weights IsNotNegative p q v hv) (two_weights IsNotNegative v q x hx)
   where
     mixed : (n k l b n' k' l' f g d : ℤ) → n *ℤ f ≡ k *ℤ b +ℤ l *ℤ g → n' *ℤ d ≡ k' *ℤ f +ℤ l' *ℤ g → (n *ℤ n') *ℤ d ≡ (k' *ℤ k) *ℤ b +ℤ (k' *ℤ l +ℤ n *ℤ l') *ℤ g

@@ -37,7 +37,7 @@ decide_vertex t i = go (dec_lt i (length t.points))
     go (no n) = inr n
 
 -- the two ends of a pair, in either order
-abbrev pub OfPair : ℕ → ℕ → Item → Type 0
+abbrev OfPair : ℕ → ℕ → Item → Type 0
 OfPair i j (L.at_vertex k) = ⊥
 OfPair i j (L.across a b) = IsSamePair a b i j
 OfPair i j (L.along a b) = IsSamePair a b i j
