@@ -8,7 +8,7 @@ use Rattle.half_edge_views.specs.Rounds.{walk}
 use Rattle.half_edge_handles.proofs.Steps.{map_range_step}
 
 -- one place of a walk, where so many are left afterwards
-pub walk_step : (f : ℕ → ℕ) (stop k h : ℕ) → 0 < k → walk f stop k h ≡ h ∷ walk f stop (if f h == stop then 0 else k - 1) (f h)
+walk_step : (f : ℕ → ℕ) (stop k h : ℕ) → 0 < k → walk f stop k h ≡ h ∷ walk f stop (if f h == stop then 0 else k - 1) (f h)
 walk_step f stop zero h some = absurd (omega (arith, some))
 walk_step f stop (suc k) h some =
     let down : suc k - 1 ≡ k = omega arith in

@@ -61,7 +61,7 @@ module _ (m new : Mesh) (e : ℕ) (s : AreSoundLinks m) (can : IsFlippable m e) 
             ]
       ]
 
-  pub flips_triangles : FlipsTriangles m new e
+  flips_triangles : FlipsTriangles m new e
   flips_triangles =
       let count : length (triangles new) ≡ length (triangles m) = length-map new.face_edges (triangle_at new) ∙ f.face_count ∙ sym (length-map m.face_edges (triangle_at m)) in
       rw (← left_triangle, ← right_triangle) (same_lists _ _ (simp length-set count) at_index)

@@ -73,7 +73,7 @@ module _ (m new : Mesh) (v a : ℕ) (s : AreSoundLinks m) (inner : IsInnerEdge m
             ]
       ]
 
-  pub inserts_triangles : InsertsTriangles m new v a
+  inserts_triangles : InsertsTriangles m new v a
   unfolding grown
   inserts_triangles =
       let count : length (triangles new) ≡ length m.face_edges + 2 = length-map new.face_edges (triangle_at new) ∙ i.face_count in

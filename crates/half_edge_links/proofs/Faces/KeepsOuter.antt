@@ -12,7 +12,7 @@ use Rattle.half_edge_links.specs.Insert.{Inserts}
 use Rattle.half_edge_links.proofs.Faces.InsertSound as inserting
 
 -- an outer edge is none with an inner face
-pub not_inner : (m : Mesh) (h k f : ℕ) → face m h ≡ 0 → face m k ≡ f → 0 < f → h ≢ k
+not_inner : (m : Mesh) (h k f : ℕ) → face m h ≡ 0 → face m k ≡ f → 0 < f → h ≢ k
 not_inner m h k f zero is some same = absurd (omega (arith, some, is, ap (face m) same, zero))
 
 pub outer_flipped : (m new : Mesh) (e : ℕ) → AreSoundLinks m → IsFlippable m e → Flips m new e → KeepsOuter m new

@@ -30,7 +30,7 @@ module _ (m : Mesh) (v e : ℕ) (s : AreSoundLinks m) (can : IsFlippable m e) (a
   twin_in : rev e < length m.half_edges
   twin_in = rev_within e (length m.half_edges) s.even can.within
 
-  pub twin_kept : edge_at (inserted m v e).half_edges (rev e) ≡ edge_at m.half_edges (rev e)
+  twin_kept : edge_at (inserted m v e).half_edges (rev e) ≡ edge_at m.half_edges (rev e)
   twin_kept =
       let away = away_by_face m (inserted m v e) v _ e _ _ s inner alone refl refl refl i (rev e) (λ same. can.apart (sym same)) in
       kept m (inserted m v e) v _ e _ _ s inner alone refl refl refl i (rev e) twin_in away
@@ -55,7 +55,7 @@ module _ (m : Mesh) (v e : ℕ) (s : AreSoundLinks m) (can : IsFlippable m e) (a
       let twin : prev mid (rev e) ≡ prev m (rev e) = ap (λ (w : HalfEdge). w.prev) twin_kept in
       differs_alone m (prev m (rev e)) v s opposite alone (sym kept_there ∙ ap (origin mid) (sym twin) ∙ sym same ∙ ap (origin mid) i.first.prev ∙ i.to_first.origin)
 
-  pub splits_triangles : SplitsTriangles m (flipped (inserted m v e) e) v e
+  splits_triangles : SplitsTriangles m (flipped (inserted m v e) e) v e
   splits_triangles =
       let mid : Mesh = inserted m v e in
       let a = i.first in

@@ -154,7 +154,7 @@ module _ (m new : Mesh) (e : ℕ) (s : AreSoundLinks m) (can : IsClosable m e) (
       ]
 
   -- an edge of an inner face keeps it
-  pub inner_face_kept : (h : ℕ) → h < length m.half_edges → 0 < face m h → face new h ≡ face m h
+  inner_face_kept : (h : ℕ) → h < length m.half_edges → 0 < face m h → face new h ≡ face m h
   inner_face_kept h within some =
       i.other_faces h within (λ q. absurd (omega (arith, some, ap (face m) q, can.outer))) (λ q. absurd (omega (arith, some, ap (face m) q, c.second_outer)))
 

@@ -38,7 +38,7 @@ module _ (m new : Mesh) (e : ℕ) (s : AreSoundLinks m) (can : IsPassable m e) (
     other = λ h within a b c. (ap rev (i.other_prev h within b c a), λ q. b (sym (s.edges h within).next_prev ∙ ap (next m) (rev_same (prev m h) e q)));
   }
 
-  pub stars_passed : HasStars m → HasStars new
+  stars_passed : HasStars m → HasStars new
   stars_passed =
       stars_in_walk m new (rev e) (next m e) (rev (far_edge m e)) (far_edge m e) (rev (prev m (far_edge m e))) i.edge_count (rev_within _ _ s.even t.before_in) i.origin_twin
       (i.origin_twin ∙ ap (origin m) (sym t.before_next) ∙ (s.edges (prev m (far_edge m e)) t.before_in).starts) i.other_origins turns
@@ -62,7 +62,7 @@ module _ (m new : Mesh) (e : ℕ) (s : AreSoundLinks m) (can : IsPassable m e) (
   moved : origin new e ≢ origin new (rev e)
   moved q = can.corners (sym start_kept ∙ q ∙ i.origin_twin ∙ ap (origin m) can.two)
 
-  pub apart_passed : HasApartEnds m → HasApartEnds new
+  apart_passed : HasApartEnds m → HasApartEnds new
   apart_passed apart h within =
       let h_in : h < length m.half_edges = omega (arith, within, i.edge_count) in
       elim (cases_eq h (rev e) or_else cases_eq h e) [
@@ -73,7 +73,7 @@ module _ (m new : Mesh) (e : ℕ) (s : AreSoundLinks m) (can : IsPassable m e) (
             λ q. apart h h_in (sym (i.other_origins h h_in a) ∙ q ∙ i.other_origins (rev h) (rev_within _ _ s.even h_in) off)
       ]
 
-  pub ends_passed : MovesEdge m new e (origin m e) (origin m (far_edge m e))
+  ends_passed : MovesEdge m new e (origin m e) (origin m (far_edge m e))
   ends_passed = ends_moved m new e (origin m e) (origin m (far_edge m e)) s can.within i.edge_count start_kept i.origin_twin (λ h within a b. i.other_origins h within b)
 
 pub valid_passed : (m : Mesh) (e : ℕ) → IsValidMesh m → IsPassable m e → IsValidMesh (passed m e)

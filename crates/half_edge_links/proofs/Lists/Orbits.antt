@@ -53,7 +53,7 @@ module _ (f : ℕ → ℕ) where
       ]
 
 module _ (f : ℕ → ℕ) (n : ℕ) (stays : (a : ℕ) → a < n → f a < n) (one_to_one : (a b : ℕ) → a < n → b < n → f a ≡ f b → a ≡ b) where
-  pub walk_in : (o i : ℕ) → o < n → iterate f i o < n
+  walk_in : (o i : ℕ) → o < n → iterate f i o < n
   walk_in o zero within = within
   walk_in o (suc i) within = stays _ (walk_in o i within)
 

@@ -61,7 +61,7 @@ first_apart : (a b c : ℤ) → (a +ℤ b) +ℤ c ≡ a +ℤ (b +ℤ c)
 first_apart a b c = omega (arith, ints)
 
 -- the first value apart
-pub sum_shifted : (g : ℕ → ℤ) (n : ℕ) → sum_to g (suc n) ≡ g 0 +ℤ sum_to (λ k. g (suc k)) n
+sum_shifted : (g : ℕ → ℤ) (n : ℕ) → sum_to g (suc n) ≡ g 0 +ℤ sum_to (λ k. g (suc k)) n
 sum_shifted g zero = zero_first (g 0) ∙ sym (zero_last (g 0))
 sum_shifted g (suc n) = same_sum _ _ _ _ (sum_shifted g n) refl ∙ first_apart (g 0) (sum_to (λ k. g (suc k)) n) (g (suc n))
 

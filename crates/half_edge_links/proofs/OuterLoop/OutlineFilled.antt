@@ -62,7 +62,7 @@ module _ (m one two : Mesh) (o : ℕ) (s : AreSoundLinks m) (w : IsFullWheel m o
       second
 
   -- the hole has four edges now
-  pub traced_four : TracesOuter m two nm (InFour two (nm (turn m o)) (nm (turn m (turn m o))))
+  traced_four : TracesOuter m two nm (InFour two (nm (turn m o)) (nm (turn m (turn m o))))
   traced_four =
       let nz = wheel.nz m o s w one op p.opened two p.opens p.removes in
       let n3 = ap (next two) nz ∙ wheel.n3 m o s w one op p.opened two p.opens p.removes in
@@ -115,7 +115,7 @@ module _ (m two three : Mesh) (to : ℕ → ℕ) (a z : ℕ) (s : AreSoundLinks 
       opened
 
   -- the hole has three edges now, and the last edge of the vertex hangs in it
-  pub traced_three : TracesOuter m three (λ h. nm' (to h)) (InThree three (nm' z))
+  traced_three : TracesOuter m three (λ h. nm' (to h)) (InThree three (nm' z))
   traced_three =
       let nz = fan.nz two p.opened three a z s f p.opens p.removes in
       let to1 = fan.to1 two p.opened three a z s f p.opens p.removes in
@@ -145,7 +145,7 @@ module _ (m two three : Mesh) (to : ℕ → ℕ) (a z : ℕ) (s : AreSoundLinks 
       traced_three_of
 
 -- the last edge goes
-pub traced_loop : (m three four : Mesh) (to : ℕ → ℕ) (z : ℕ) (s : AreSoundLinks three) (f : IsFanOfOne three z) (r : Removes three four z) → TracesOuter m three to (InThree three z)
+traced_loop : (m three four : Mesh) (to : ℕ → ℕ) (z : ℕ) (s : AreSoundLinks three) (f : IsFanOfOne three z) (r : Removes three four z) → TracesOuter m three to (InThree three z)
     → TracesOuter m four (renamed m three four to (InThree three z) z s (fan.can three four z s f r) r) (InLoop four (after_removal three z (next three z)))
 traced_loop m three four to z s f r t =
     let next_is = fan.next_border three four z s f r in

@@ -12,7 +12,7 @@ use Rattle.half_edge_links.proofs.Sound.Parts.{IsBusy, loop_sound, sound_from, n
 abbrev pub IsRound : Mesh → ℕ → ℕ → Type 0
 IsRound m h k = (k ≡ h) ⊎ ((k ≡ next m h) ⊎ (k ≡ prev m h))
 
-pub is_round : (m : Mesh) (h k : ℕ) → IsRound m h k ⊎ ((k ≢ h) × (k ≢ next m h) × (k ≢ prev m h))
+is_round : (m : Mesh) (h k : ℕ) → IsRound m h k ⊎ ((k ≢ h) × (k ≢ next m h) × (k ≢ prev m h))
 is_round m h k = grind arith
 
 module _ (m : Mesh) (h : ℕ) (s : AreSoundLinks m) (can : IsOpenTriangle m h) where

@@ -75,12 +75,12 @@ module _ (last hole : ℕ) (last_even : last % 2 ≡ 0) (hole_even : hole % 2 �
         | inr (inr c) ↦ rw (pair_other last hole h c.0 c.1, pair_other last hole h c.0 c.1) refl
       ]
 
-  pub twice_some : (o : Option ℕ) → renamed (pair_moved last hole) (renamed (pair_moved last hole) o) ≡ renamed (pair_moved last hole) o
+  twice_some : (o : Option ℕ) → renamed (pair_moved last hole) (renamed (pair_moved last hole) o) ≡ renamed (pair_moved last hole) o
   twice_some None = refl
   twice_some (Some h) = ap (λ (i : ℕ). let o : Option ℕ = Some i in o) (twice h)
 
   -- two removals of a list's last items into a pair's place
-  pub two_filled : {X : Type 0} (xs : List X) (d : X) (h : ℕ) → length xs ≡ last + 2 → h < last → get_or (swap_remove (swap_remove xs (hole + 1) d) hole d) h d ≡ get_or xs (pair_moved hole last h) d
+  two_filled : {X : Type 0} (xs : List X) (d : X) (h : ℕ) → length xs ≡ last + 2 → h < last → get_or (swap_remove (swap_remove xs (hole + 1) d) hole d) h d ≡ get_or xs (pair_moved hole last h) d
   two_filled xs d h count within =
       let one = length-swap_remove xs (hole + 1) d in
       let l : length (swap_remove xs (hole + 1) d) - 1 ≡ last = omega arith in
@@ -163,7 +163,7 @@ module _ (m : Mesh) (last hole : ℕ) (b : IsSoundBut m hole) (at_last : length 
   second_count : length second ≡ last + 2
   second_count = length_both first (prev m (last + 1)) (hole + 1) (next m (last + 1)) (hole + 1) ∙ length_both m.half_edges (prev m last) hole (next m last) hole ∙ at_last
 
-  pub filled_count : length (with_filled m.half_edges last hole) ≡ last
+  filled_count : length (with_filled m.half_edges last hole) ≡ last
   unfolding with_filled
   filled_count = omega (arith, length-swap_remove (swap_remove second (hole + 1) no_edge) hole no_edge, length-swap_remove second (hole + 1) no_edge, second_count)
 

@@ -131,7 +131,7 @@ module _ (m new : Mesh) (f : ℕ) (s : AreSoundLinks m) (inner : IsInner m f) (o
             rw (at, o.face_edges) (get_or-swap_remove_other m.face_edges (f - 1) (x - 1) 0 (omega arith) (λ q. differs (omega (arith, inner.0))))
       ]
 
-  pub renames_opened : Renames m new names
+  renames_opened : Renames m new names
   renames_opened = record {
     even = rw o.edge_count s.even;
     edges = λ h within.

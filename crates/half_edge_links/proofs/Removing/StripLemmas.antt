@@ -22,7 +22,7 @@ removable_strip m h f = record {
   whole = λ q. absurd (f.far q);
 }
 
-pub peelable_strip : (m : Mesh) (h k : ℕ) → IsFullStrip m h (suc k) → IsHullEdge m h
+peelable_strip : (m : Mesh) (h k : ℕ) → IsFullStrip m h (suc k) → IsHullEdge m h
 peelable_strip m h k f = record {
   within = f.strip.within;
   inner = f.strip.inner 0 (omega arith);
@@ -73,7 +73,7 @@ module _ (m mid new : Mesh) (h k : ℕ) (s : AreSoundLinks m) (f : IsFullStrip m
   pub spoke_left : (i : ℕ) → i < suc k → IsLeft mid h (spoke m h (suc i))
   spoke_left i less = left _ (at (suc i)).0 (λ q. other_face i less (ap (face m) q)) (λ q. f.ends 0 (omega arith) (sym (ap (origin m) q) ∙ (at (suc i)).1))
 
-  pub twin_left : (i : ℕ) → i < suc k → IsLeft mid h (rev (spoke m h (suc i)))
+  twin_left : (i : ℕ) → i < suc k → IsLeft mid h (rev (spoke m h (suc i)))
   twin_left i less = left _ (twin_in i) (λ q. f.ends (suc i) (omega arith) (ap (origin m) q)) (λ q. (spoke_left i less).other (sym (rev-rev (spoke m h (suc i))) ∙ ap rev q ∙ rev-rev h))
 
   before : prev mid h ≡ rev (spoke m h 1)
@@ -102,7 +102,7 @@ module _ (m mid new : Mesh) (h k : ℕ) (s : AreSoundLinks m) (f : IsFullStrip m
   pub origin_now : (g : ℕ) → IsLeft mid h g → origin new (nm g) ≡ origin m g
   origin_now g l = origin_at mid new h s1 can r g l ∙ o.origin g
 
-  pub rev_now : (i : ℕ) → i < suc k → rev (nm (spoke m h (suc i))) ≡ nm (rev (spoke m h (suc i)))
+  rev_now : (i : ℕ) → i < suc k → rev (nm (spoke m h (suc i))) ≡ nm (rev (spoke m h (suc i)))
   rev_now i less = rev_at mid new h s1 can r _ (spoke_left i less)
 
   zero_now : (g : ℕ) → g < length m.half_edges → IsLeft mid h g → face m g ≡ 0 → face new (nm g) ≡ 0
@@ -138,7 +138,7 @@ module _ (m mid new : Mesh) (h k : ℕ) (s : AreSoundLinks m) (f : IsFullStrip m
   only_at g zero was differs less is named = absurd (differs is)
   only_at g (suc i) was differs less is named = (i, omega arith, sym named ∙ ap nm is ∙ sym (spokes i (omega arith)))
 
-  pub strip_less : IsFullStrip new (nm (turn m h)) k
+  strip_less : IsFullStrip new (nm (turn m h)) k
   strip_less =
       let end = spokes k (omega arith) in
       let last_left = spoke_left k (omega arith) in

@@ -27,7 +27,7 @@ removes_triangle m new f inner o =
     let n = length-map m.face_edges (triangle_at m) in
     triangles_opened m new f o ∙ swap_remove_default (triangles m) (f - 1) (triangle_at m 0) no_triangle (omega (arith, n, inner.0, inner.1))
 
-pub same_origins_ends : (m new : Mesh) → length new.half_edges ≡ length m.half_edges → ((k : ℕ) → k < length m.half_edges → origin new k ≡ origin m k) → ends new ≡ ends m
+same_origins_ends : (m new : Mesh) → length new.half_edges ≡ length m.half_edges → ((k : ℕ) → k < length m.half_edges → origin new k ≡ origin m k) → ends new ≡ ends m
 same_origins_ends m new count same =
     ap paired (same_lists (origins new) (origins m) (length-origins new ∙ count ∙ sym (length-origins m)) (λ k d within.
     let k_in : k < length m.half_edges = omega (arith, within, length-origins new, count) in

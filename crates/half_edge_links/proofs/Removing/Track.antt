@@ -44,7 +44,7 @@ module _ (m new : Mesh) (e : ℕ) (s : AreSoundLinks m) (can : IsUnlinkable m e)
   below : pair_at e ≤ last_pair m
   below = let even = s.even in let w = can.within in omega arith
 
-  pub kept_left : (k : ℕ) → IsLeft m e k → IsKeptEdge new (edge_naming (last_pair m) (pair_at e)) k
+  kept_left : (k : ℕ) → IsLeft m e k → IsKeptEdge new (edge_naming (last_pair m) (pair_at e)) k
   kept_left k l =
       let off = sides_back m r.between e s can r.unlinks k l.other l.other_side in
       let n = new_left (last_pair m) (pair_at e) last_even hole_even below k (omega (arith, l.within)) off.0 off.1 in

@@ -55,7 +55,7 @@ module _ (old new : List HalfEdge) (first v i h : ℕ) (c : CanWalk old) (w : Ha
   other_more : (k : ℕ) → ((j : ℕ) → iterate (turn_of old) j first ≢ k) → (edge_at (with_origin new h v) k).origin ≡ (edge_at old k).origin
   other_more k off = origin_off k (λ q. off i (sym w.place ∙ sym q)) ∙ w.other k off
 
-  pub next_place : turn_of (with_origin new h v) h ≡ iterate (turn_of old) (suc i) first
+  next_place : turn_of (with_origin new h v) h ≡ iterate (turn_of old) (suc i) first
   next_place = ap rev ((writes_origin new h v).kept prev_link refl h ∙ w.prevs h) ∙ ap (turn_of old) w.place
 
   pub walk_more : (n : ℕ) → n ≡ turn_of (with_origin new h v) h → n ≢ first → HasWalked old (with_origin new h v) first v (i + 1) n
@@ -140,7 +140,7 @@ module _ (m new : Mesh) (v : ℕ) (s : AreSoundLinks m) (alone : IsAlone m v) (c
         | inr differs ↦ rw (moved_miss v last x differs, c.out_edges) (get_or-swap_remove_other m.out_edges v x None (omega arith) differs)
       ]
 
-  pub renames_moved : Renames m new names
+  renames_moved : Renames m new names
   renames_moved = record {
     even = rw c.edge_count s.even;
     edges = λ h within.
@@ -189,7 +189,7 @@ module _ (m new : Mesh) (v : ℕ) (s : AreSoundLinks m) (alone : IsAlone m v) (c
   }
 
 -- the last vertex has the edge first, and those round it were moved
-pub moves_some : (m new : Mesh) (v first : ℕ) → AreSoundLinks m → IsAlone m v → IsOneOrbit m (length m.out_edges - 1) → out_edge m (length m.out_edges - 1) ≡ Some first → MovesOrigins m.half_edges new.half_edges first v → new.out_edges ≡ swap_remove m.out_edges v None → new.face_edges ≡ m.face_edges → new.outer_edge ≡ m.outer_edge → MovesVertex m new v
+moves_some : (m new : Mesh) (v first : ℕ) → AreSoundLinks m → IsAlone m v → IsOneOrbit m (length m.out_edges - 1) → out_edge m (length m.out_edges - 1) ≡ Some first → MovesOrigins m.half_edges new.half_edges first v → new.out_edges ≡ swap_remove m.out_edges v None → new.face_edges ≡ m.face_edges → new.outer_edge ≡ m.outer_edge → MovesVertex m new v
 moves_some m new v first s alone orbit named w a b c =
     let walk = can_walk m s in
     let had = s.vertices (length m.out_edges - 1) first named in
@@ -203,7 +203,7 @@ moves_some m new v first s alone orbit named w a b c =
     assumption (w, a, b, c, origins)
 
 -- the last vertex has no edges either
-pub moves_none : (m new : Mesh) (v : ℕ) → AreSoundLinks m → IsAlone m v → out_edge m (length m.out_edges - 1) ≡ None → new.half_edges ≡ m.half_edges → new.out_edges ≡ swap_remove m.out_edges v None → new.face_edges ≡ m.face_edges → new.outer_edge ≡ m.outer_edge → MovesVertex m new v
+moves_none : (m new : Mesh) (v : ℕ) → AreSoundLinks m → IsAlone m v → out_edge m (length m.out_edges - 1) ≡ None → new.half_edges ≡ m.half_edges → new.out_edges ≡ swap_remove m.out_edges v None → new.face_edges ≡ m.face_edges → new.outer_edge ≡ m.outer_edge → MovesVertex m new v
 moves_none m new v s alone none same a b c = record {
   edge_count = ap length same;
   nexts = λ k. ap (λ hs. (edge_at hs k).next) same;

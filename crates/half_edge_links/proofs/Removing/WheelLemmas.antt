@@ -59,7 +59,7 @@ module _ (m : Mesh) (o : ℕ) (s : AreSoundLinks m) (w : IsFullWheel m o) where
   pub before_o : prev m o ≡ rev (turn m o)
   before_o = sym (rev-rev (prev m o))
 
-  pub before_a : prev m (turn m o) ≡ rev (turn m (turn m o))
+  before_a : prev m (turn m o) ≡ rev (turn m (turn m o))
   before_a = sym (rev-rev (prev m (turn m o)))
 
   pub before_z : prev m (turn m (turn m o)) ≡ rev o

@@ -17,10 +17,10 @@ module _ (m new : Mesh) (s : AreSoundLinks m) (same : (h : ℕ) → h < length m
       let had = rw step at (s.faces (k + 1) (omega arith) (omega arith)) in
       get_or-map (triangle_at new) m.face_edges k 0 d in_list ∙ same _ had.0 (omega (arith, had.1)) ∙ sym (get_or-map (triangle_at m) m.face_edges k 0 d in_list))
 
-  pub triangles_kept : new.face_edges ≡ m.face_edges → triangles new ≡ triangles m
+  triangles_kept : new.face_edges ≡ m.face_edges → triangles new ≡ triangles m
   triangles_kept is = ap (map (triangle_at new)) is ∙ mapped
 
-  pub triangles_added : (h : ℕ) → new.face_edges ≡ m.face_edges ++ h ∷ [] → triangles new ≡ triangles m ++ triangle_at new h ∷ []
+  triangles_added : (h : ℕ) → new.face_edges ≡ m.face_edges ++ h ∷ [] → triangles new ≡ triangles m ++ triangle_at new h ∷ []
   triangles_added h is = ap (map (triangle_at new)) is ∙ map-append (triangle_at new) m.face_edges (h ∷ []) ∙ ap (λ (q : List Triangle). q ++ triangle_at new h ∷ []) mapped
 
 pub triangles_hung : (m new : Mesh) (x v : ℕ) → AreSoundLinks m → IsOuter m x → IsAlone m v → Hangs m new x v (length m.half_edges) → triangles new ≡ triangles m

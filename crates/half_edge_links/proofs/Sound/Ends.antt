@@ -17,7 +17,7 @@ length-paired [] even = refl
 length-paired (a ∷ []) even = absurd (omega (arith, even))
 length-paired (a ∷ b ∷ rest) even = let e = length-paired rest (omega (arith, even)) in omega (arith, e)
 
-pub get_or-paired : (xs : List ℕ) (k : ℕ) (d : Ends) → 2 * k + 1 < length xs → get_or (paired xs) k d ≡ record { source = get_or xs (2 * k) 0; target = get_or xs (2 * k + 1) 0 }
+get_or-paired : (xs : List ℕ) (k : ℕ) (d : Ends) → 2 * k + 1 < length xs → get_or (paired xs) k d ≡ record { source = get_or xs (2 * k) 0; target = get_or xs (2 * k + 1) 0 }
 get_or-paired [] k d within = absurd (omega (arith, within))
 get_or-paired (a ∷ []) k d within = absurd (omega (arith, within))
 get_or-paired (a ∷ b ∷ rest) zero d within = refl

@@ -123,7 +123,7 @@ module _ (m : Mesh) (s : AreSoundLinks m) (f : ℕ → ℕ → ℤ) where
             sym (zero_first (side k)) ∙ same_sum _ _ _ _ (sym (off_place 0 (side k) (face m k) some)) (sym here)
       ]
 
-  pub add_up : total (both_ways f) (ends m) ≡ total (around f) (triangles m) +ℤ total (along f) (outline m)
+  add_up : total (both_ways f) (ends m) ≡ total (around f) (triangles m) +ℤ total (along f) (outline m)
   add_up =
       over_edges
       ∙ sums_agree _ _ n one_face

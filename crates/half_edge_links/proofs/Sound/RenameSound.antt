@@ -12,7 +12,7 @@ is_some f None had = had
 is_some f (Some x) had = refl
 
 -- what a renamed option was
-pub some_was : (f : ℕ → ℕ) (o : Option ℕ) (k : ℕ) → renamed f o ≡ Some k → (h : ℕ) × (o ≡ Some h) × (f h ≡ k)
+some_was : (f : ℕ → ℕ) (o : Option ℕ) (k : ℕ) → renamed f o ≡ Some k → (h : ℕ) × (o ≡ Some h) × (f h ≡ k)
 some_was f None k same = absurd (cc)
 some_was f (Some x) k same = (x, refl, cc)
 
