@@ -20,7 +20,7 @@ pub fn count_of<T: Drop, I: Iterator<Item = T> + Drop>(items: I) -> usize
 fn hull(mesh: &Mesh) -> (usize, Option<u32>) {
     (
         count_of(mesh.convex_hull()),
-        mesh.convex_hull().map(|edge| edge.fix().index()).max(),
+        mesh.convex_hull().map(|edge| edge.index).max(),
     )
 }
 
@@ -60,7 +60,9 @@ pub fn names(mesh: &Mesh) -> ([usize; 5], [Option<u32>; 2]) {
 /// How many edges start at a vertex, how many edges its face of the Voronoi diagram has, and the
 /// least and the greatest index of a vertex where the former end.
 pub fn round(mesh: &Mesh, index: u32) -> Option<([usize; 2], [Option<u32>; 2])> {
-    let vertex = mesh.get_vertex(vertex(index))?;
+    let Some(vertex) = mesh.get_vertex(vertex(index)) else {
+        return None;
+    };
     let counts = [
         count_of(vertex.out_edges()),
         count_of(vertex.as_voronoi_face().adjacent_edges()),

@@ -2,13 +2,15 @@
 ghost use Rattle.std.specs.Prelude.{◌<◌, ◌≤◌, ◌↔◌, length, IsTrue, IfSome};
 
 use half_edge_mesh::{
-    Dcel, DirectedEdgeHandle, FixedDirectedEdgeHandle, FixedFaceHandle, FixedUndirectedEdgeHandle,
-    FixedVertexHandle, MeshViews,
+    Dcel, DirectedEdgeHandle, DirectedVoronoiEdge, FixedDirectedEdgeHandle, FixedFaceHandle,
+    FixedUndirectedEdgeHandle, FixedVertexHandle, MeshViews,
 };
 
 pub type Mesh = Dcel<u8, u16, u32, u64>;
 
 pub type Edge<'a> = DirectedEdgeHandle<'a, u8, u16, u32, u64>;
+
+pub type VoronoiEdge<'a> = DirectedVoronoiEdge<'a, u8, u16, u32, u64>;
 
 pub fn vertex(index: u32) -> FixedVertexHandle {
     FixedVertexHandle::from_index(index)
