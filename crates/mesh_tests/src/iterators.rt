@@ -16,6 +16,20 @@ pub fn count_of<T: Drop, I: Iterator<Item = T> + Drop>(items: I) -> usize
     count
 }
 
+/// The least and the greatest index that is given.
+fn range<I: Iterator<Item = u32> + Drop>(indexes: I) -> [Option<u32>; 2]
+    requires can { I.can_next indexes }
+    requires ends { IsFinite (I.remaining indexes) }
+{
+    let mut least: Option<u32> = None;
+    let mut greatest: Option<u32> = None;
+    for index in indexes {
+        least = Some(least.map_or(index, |least| least.min(index)));
+        greatest = greatest.max(Some(index));
+    }
+    [least, greatest]
+}
+
 /// How many edges the hull gives, and the greatest index of them.
 fn hull(mesh: &Mesh) -> (usize, Option<u32>) {
     (
@@ -67,9 +81,6 @@ pub fn round(mesh: &Mesh, index: u32) -> Option<([usize; 2], [Option<u32>; 2])> 
         count_of(vertex.out_edges()),
         count_of(vertex.as_voronoi_face().adjacent_edges()),
     ];
-    let ends = [
-        vertex.out_edges().map(|edge| edge.to().index).min(),
-        vertex.out_edges().map(|edge| edge.to().index).max(),
-    ];
+    let ends = range(vertex.out_edges().map(|edge| edge.to().index));
     Some((counts, ends))
 }
