@@ -64,16 +64,16 @@ fn nearest_to(stations: &Stations, place: Point2<i64>) -> Option<&'static str> {
     if validate_vertex(&place).is_err() {
         return None;
     }
-    let nearest = stations.nearest_neighbor(place, &ExactTests)?;
-    Some(nearest.data().name)
+    match stations.nearest_neighbor(place, &ExactTests) {
+        Some(nearest) => Some(nearest.data().name),
+        None => None,
+    }
 }
 
 fn send_crews(rt: &HostRuntime, stations: &Stations) -> anyhow::Result<()> {
     for (x, y) in FIRES {
-        match nearest_to(stations, Point2::new(x, y)) {
-            Some(name) => println!(rt; "fire at {x} {y}: {name}")?,
-            None => println!(rt; "fire at {x} {y}: nobody comes")?,
-        }
+        let crew = nearest_to(stations, Point2::new(x, y)).unwrap_or("nobody comes");
+        println!(rt; "fire at {x} {y}: {crew}")?;
     }
     Ok(())
 }

@@ -59,10 +59,8 @@ fn owner_at(map: &Map, place: Point2<i64>) -> Option<&'static str> {
 fn report(rt: &HostRuntime, map: &Map) -> anyhow::Result<()> {
     println!(rt; "{} parcels", map.num_inner_faces())?;
     for (_, x, y) in OWNERS {
-        match owner_at(map, Point2::new(x, y)) {
-            Some(owner) => println!(rt; "parcel at {x} {y}: {owner}")?,
-            None => println!(rt; "parcel at {x} {y}: nobody's")?,
-        }
+        let owner = owner_at(map, Point2::new(x, y)).unwrap_or("nobody's");
+        println!(rt; "parcel at {x} {y}: {owner}")?;
     }
     Ok(())
 }
