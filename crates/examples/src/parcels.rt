@@ -3,7 +3,8 @@
 
 use exact_tests::ExactTests;
 use spade_delaunay::{
-    DelaunayTriangulation, Point2, PositionInTriangulation, Triangulation, validate_vertex,
+    DelaunayTriangulation, InsertionError, Point2, PositionInTriangulation, Triangulation,
+    validate_vertex,
 };
 
 /// What is known of a parcel.
@@ -65,19 +66,35 @@ fn report(rt: &HostRuntime, map: &Map) -> anyhow::Result<()> {
     Ok(())
 }
 
-pub fn run(rt: &HostRuntime) -> anyhow::Result<()> {
-    let mut map = Map::new(rt.alloc());
+fn set_stones(map: &mut Map) -> Result<(), InsertionError> {
     for (x, y) in STONES {
         map.insert(Point2::new(x, y), &ExactTests)?;
     }
+    Ok(())
+}
+
+fn sell_all(map: &mut Map) {
     for (owner, x, y) in OWNERS {
-        sell(&mut map, Point2::new(x, y), owner);
+        sell(map, Point2::new(x, y), owner);
     }
-    report(rt, &map)?;
+}
+
+/// The flood takes its stone.
+fn lose_stone(map: &mut Map) -> anyhow::Result<()> {
     let (x, y) = LOST;
     if validate_vertex(&Point2::new(x, y)).is_ok() {
         map.locate_and_remove(Point2::new(x, y), &ExactTests)?;
     }
+    Ok(())
+}
+
+pub fn run(rt: &HostRuntime) -> anyhow::Result<()> {
+    let mut map = Map::new(rt.alloc());
+    set_stones(&mut map)?;
+    sell_all(&mut map);
+    report(rt, &map)?;
+    lose_stone(&mut map)?;
+    let (x, y) = LOST;
     println!(rt; "the stone at {x} {y} is lost")?;
     report(rt, &map)
 }
