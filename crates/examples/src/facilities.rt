@@ -1,8 +1,9 @@
 //! Which fire station is nearest to a fire, before and after one of them closes.
 
 use exact_tests::ExactTests;
-use spade_delaunay::{DelaunayTriangulation, HasPosition, Point2, Triangulation, validate_vertex};
-use std::alloc::Global;
+use spade_delaunay::{
+    DelaunayTriangulation, HasPosition, InsertionError, Point2, Triangulation, validate_vertex,
+};
 
 /// A vertex is whatever has a position.
 #[derive(Drop)]
@@ -50,13 +51,12 @@ const FIRES: [(i64, i64); 6] = [
     (-1000, -1900),
 ];
 
-fn open_all(alloc: Global) -> anyhow::Result<Stations> {
-    let mut stations = Stations::new(alloc);
+fn open_all(stations: &mut Stations) -> Result<(), InsertionError> {
     for (name, x, y) in STATIONS {
         let place = Point2::new(x, y);
         stations.insert(Station { name, place }, &ExactTests)?;
     }
-    Ok(stations)
+    Ok(())
 }
 
 /// Nothing where the place is too far off, or no station is open.
@@ -64,26 +64,33 @@ fn nearest_to(stations: &Stations, place: Point2<i64>) -> Option<&'static str> {
     if validate_vertex(&place).is_err() {
         return None;
     }
-    let nearest = stations.nearest_neighbor(place, &ExactTests)?;
-    Some(nearest.data().name)
+    match stations.nearest_neighbor(place, &ExactTests) {
+        Some(nearest) => Some(nearest.data().name),
+        None => None,
+    }
 }
 
 fn send_crews(rt: &HostRuntime, stations: &Stations) -> anyhow::Result<()> {
     for (x, y) in FIRES {
-        match nearest_to(stations, Point2::new(x, y)) {
-            Some(name) => println!(rt; "fire at {x} {y}: {name}")?,
-            None => println!(rt; "fire at {x} {y}: nobody comes")?,
-        }
+        let crew = nearest_to(stations, Point2::new(x, y)).unwrap_or("nobody comes");
+        println!(rt; "fire at {x} {y}: {crew}")?;
+    }
+    Ok(())
+}
+
+/// Closes the station in the vineyard.
+fn close(rt: &HostRuntime, stations: &mut Stations) -> anyhow::Result<()> {
+    if let Some(closed) = stations.locate_and_remove(Point2::new(2600, 2200), &ExactTests)? {
+        println!(rt; "{} closes", closed.name)?;
     }
     Ok(())
 }
 
 pub fn run(rt: &HostRuntime) -> anyhow::Result<()> {
-    let mut stations = open_all(rt.alloc())?;
+    let mut stations = Stations::new(rt.alloc());
+    open_all(&mut stations)?;
     println!(rt; "{} stations", stations.num_vertices())?;
     send_crews(rt, &stations)?;
-    if let Some(closed) = stations.locate_and_remove(Point2::new(2600, 2200), &ExactTests)? {
-        println!(rt; "{} closes", closed.name)?;
-    }
+    close(rt, &mut stations)?;
     send_crews(rt, &stations)
 }

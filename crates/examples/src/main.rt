@@ -9,18 +9,22 @@ mod navigation;
 mod parcels;
 mod terrain;
 
+fn run(rt: &HostRuntime, name: &str) -> anyhow::Result<()> {
+    match name {
+        "hill" => Ok(hill::run(rt)?),
+        "terrain" => terrain::run(rt),
+        "facilities" => facilities::run(rt),
+        "navigation" => navigation::run(rt),
+        "parcels" => parcels::run(rt),
+        _ => Ok(println!(rt; "no such example")?),
+    }
+}
+
 fn main(rt: HostRuntime) -> anyhow::Result<()> {
     for line in rt.lines(rt.alloc()) {
         let name = line?;
         println!(rt; "# {name}")?;
-        match name.as_str() {
-            "hill" => hill::run(&rt)?,
-            "terrain" => terrain::run(&rt)?,
-            "facilities" => facilities::run(&rt)?,
-            "navigation" => navigation::run(&rt)?,
-            "parcels" => parcels::run(&rt)?,
-            _ => println!(rt; "no such example")?,
-        }
+        run(&rt, name.as_str())?;
     }
     Ok(())
 }

@@ -3,8 +3,8 @@
 
 use exact_tests::ExactTests;
 use spade_delaunay::{
-    ConstrainedDelaunayTriangulation, ConstraintError, Point2, PositionInTriangulation,
-    Triangulation, validate_vertex,
+    ConstrainedDelaunayTriangulation, ConstraintError, InsertionError, Point2,
+    PositionInTriangulation, Triangulation, validate_vertex,
 };
 
 type Hall = ConstrainedDelaunayTriangulation<Point2<i64>>;
@@ -93,11 +93,16 @@ fn take_down(hall: &mut Hall, place: Point2<i64>) -> anyhow::Result<bool> {
     }
 }
 
-pub fn run(rt: &HostRuntime) -> anyhow::Result<()> {
-    let mut hall = Hall::new(rt.alloc());
+fn mark_corners(hall: &mut Hall) -> Result<(), InsertionError> {
     for (x, y) in CORNERS {
         hall.insert(Point2::new(x, y), &ExactTests)?;
     }
+    Ok(())
+}
+
+pub fn run(rt: &HostRuntime) -> anyhow::Result<()> {
+    let mut hall = Hall::new(rt.alloc());
+    mark_corners(&mut hall)?;
     build_all(rt, &mut hall)?;
     look(rt, &hall)?;
     let (x, y) = TAKEN;

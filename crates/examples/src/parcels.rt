@@ -3,7 +3,8 @@
 
 use exact_tests::ExactTests;
 use spade_delaunay::{
-    DelaunayTriangulation, Point2, PositionInTriangulation, Triangulation, validate_vertex,
+    DelaunayTriangulation, InsertionError, Point2, PositionInTriangulation, Triangulation,
+    validate_vertex,
 };
 
 /// What is known of a parcel.
@@ -59,27 +60,41 @@ fn owner_at(map: &Map, place: Point2<i64>) -> Option<&'static str> {
 fn report(rt: &HostRuntime, map: &Map) -> anyhow::Result<()> {
     println!(rt; "{} parcels", map.num_inner_faces())?;
     for (_, x, y) in OWNERS {
-        match owner_at(map, Point2::new(x, y)) {
-            Some(owner) => println!(rt; "parcel at {x} {y}: {owner}")?,
-            None => println!(rt; "parcel at {x} {y}: nobody's")?,
-        }
+        let owner = owner_at(map, Point2::new(x, y)).unwrap_or("nobody's");
+        println!(rt; "parcel at {x} {y}: {owner}")?;
+    }
+    Ok(())
+}
+
+fn set_stones(map: &mut Map) -> Result<(), InsertionError> {
+    for (x, y) in STONES {
+        map.insert(Point2::new(x, y), &ExactTests)?;
+    }
+    Ok(())
+}
+
+fn sell_all(map: &mut Map) {
+    for (owner, x, y) in OWNERS {
+        sell(map, Point2::new(x, y), owner);
+    }
+}
+
+/// The flood takes its stone.
+fn lose_stone(map: &mut Map) -> anyhow::Result<()> {
+    let (x, y) = LOST;
+    if validate_vertex(&Point2::new(x, y)).is_ok() {
+        map.locate_and_remove(Point2::new(x, y), &ExactTests)?;
     }
     Ok(())
 }
 
 pub fn run(rt: &HostRuntime) -> anyhow::Result<()> {
     let mut map = Map::new(rt.alloc());
-    for (x, y) in STONES {
-        map.insert(Point2::new(x, y), &ExactTests)?;
-    }
-    for (owner, x, y) in OWNERS {
-        sell(&mut map, Point2::new(x, y), owner);
-    }
+    set_stones(&mut map)?;
+    sell_all(&mut map);
     report(rt, &map)?;
+    lose_stone(&mut map)?;
     let (x, y) = LOST;
-    if validate_vertex(&Point2::new(x, y)).is_ok() {
-        map.locate_and_remove(Point2::new(x, y), &ExactTests)?;
-    }
     println!(rt; "the stone at {x} {y} is lost")?;
     report(rt, &map)
 }

@@ -1,11 +1,12 @@
 //! What names and handles of the parts of a mesh derive: copies, equality, order, hashes and
 //! printed forms.
 
-use crate::lookups::{Edge, Mesh, directed, edge_at, vertex};
+use crate::lookups::{Edge, Mesh, VoronoiEdge, directed, edge_at, vertex};
 use half_edge_mesh::{
     AsVoronoiEdge, AsVoronoiFace, FixedFaceHandle, HalfEdge, IsolateVertexResult, ReserveError,
 };
 use std::cmp::Ordering;
+use std::fmt::Debug;
 use std::hash::{DefaultHasher, Hash, Hasher};
 use std::io;
 
@@ -20,7 +21,9 @@ fn hash_of<T: Hash>(value: &T) -> u64 {
 type Comparison = Option<([bool; 4], Option<Ordering>, Ordering)>;
 
 fn compare<T: Clone + Ord + Hash + Drop>(value: &T, other: &T) -> Comparison {
-    let copy = value.clone().ok()?;
+    let Ok(copy) = value.clone() else {
+        return None;
+    };
     let equal = [
         copy == *value,
         hash_of(&copy) == hash_of(value),
@@ -44,53 +47,76 @@ pub fn compare_names(a: u32, b: u32) -> [Comparison; 4] {
     ]
 }
 
-/// Of two edges, and of their undirected edges, starts and left faces.
-pub fn compare_edges(mesh: &Mesh, a: u32, b: u32) -> Option<[Comparison; 4]> {
-    let (first, second) = (edge_at(mesh, a)?, edge_at(mesh, b)?);
-    Some([
-        compare(&first, &second),
+fn compare_parts(first: &Edge<'_>, second: &Edge<'_>) -> [Comparison; 4] {
+    [
+        compare(first, second),
         compare(&first.as_undirected(), &second.as_undirected()),
         compare(&first.from(), &second.from()),
         compare(&first.face(), &second.face()),
-    ])
+    ]
+}
+
+/// Of two edges, and of their undirected edges, starts and left faces.
+pub fn compare_edges(mesh: &Mesh, a: u32, b: u32) -> Option<[Comparison; 4]> {
+    let Some(first) = edge_at(mesh, a) else {
+        return None;
+    };
+    let Some(second) = edge_at(mesh, b) else {
+        return None;
+    };
+    Some(compare_parts(&first, &second))
+}
+
+fn compare_forms(first: &VoronoiEdge<'_>, second: &VoronoiEdge<'_>) -> [Comparison; 4] {
+    [
+        compare(first, second),
+        compare(&first.as_undirected(), &second.as_undirected()),
+        compare(&first.face(), &second.face()),
+        compare(&first.from(), &second.from()),
+    ]
 }
 
 /// The same of their Voronoi forms, and of the vertices that these start at.
 pub fn compare_voronoi(mesh: &Mesh, a: u32, b: u32) -> Option<[Comparison; 4]> {
-    let (first, second) = (edge_at(mesh, a)?, edge_at(mesh, b)?);
-    let (first, second) = (first.as_voronoi_edge(), second.as_voronoi_edge());
-    Some([
-        compare(&first, &second),
-        compare(&first.as_undirected(), &second.as_undirected()),
-        compare(&first.face(), &second.face()),
-        compare(&first.from(), &second.from()),
-    ])
+    let Some(first) = edge_at(mesh, a) else {
+        return None;
+    };
+    let Some(second) = edge_at(mesh, b) else {
+        return None;
+    };
+    Some(compare_forms(&first.as_voronoi_edge(), &second.as_voronoi_edge()))
 }
 
-fn print_handles(rt: &impl Print, edge: Edge<'_>) -> io::Result<()> {
-    println!(rt; "{:?} {:?}", edge, edge.fix())?;
-    println!(rt;
-        "{:?} {:?}",
-        edge.as_undirected(),
-        edge.as_undirected().fix()
-    )?;
-    println!(rt; "{:?} {:?}", edge.from(), edge.from().fix())?;
-    println!(rt; "{:?} {:?}", edge.face(), edge.face().fix())
+fn print_part<T: Debug, N: Debug>(rt: &impl Print, part: &T, name: &N) -> io::Result<()> {
+    println!(rt; "{part:?} {name:?}")
 }
 
-fn print_voronoi_forms(rt: &impl Print, edge: Edge<'_>) -> io::Result<()> {
-    let across = edge.as_voronoi_edge();
-    println!(rt; "{:?}", across.as_undirected())?;
-    println!(rt; "{:?}", across.face())?;
-    println!(rt; "{:?}", across.to())
+fn print_handles(rt: &impl Print, edge: &Edge<'_>) -> io::Result<()> {
+    print_part(rt, edge, &edge.fix())?;
+    let undirected = edge.as_undirected();
+    print_part(rt, &undirected, &undirected.fix())?;
+    let start = edge.from();
+    print_part(rt, &start, &start.fix())?;
+    let face = edge.face();
+    print_part(rt, &face, &face.fix())
+}
+
+fn print_form<T: Debug>(rt: &impl Print, form: &T) -> io::Result<()> {
+    println!(rt; "{form:?}")
+}
+
+fn print_voronoi_forms(rt: &impl Print, across: &VoronoiEdge<'_>) -> io::Result<()> {
+    print_form(rt, &across.as_undirected())?;
+    print_form(rt, &across.face())?;
+    print_form(rt, &across.to())
 }
 
 /// Prints an edge with its parts and its Voronoi forms, if it is there, and records that no other
 /// call prints.
 pub fn print_edge(rt: &impl Print, mesh: &Mesh, index: u32) -> io::Result<()> {
     if let Some(edge) = edge_at(mesh, index) {
-        print_handles(rt, edge)?;
-        print_voronoi_forms(rt, edge)?;
+        print_handles(rt, &edge)?;
+        print_voronoi_forms(rt, &edge.as_voronoi_edge())?;
     }
     print_records(rt)
 }

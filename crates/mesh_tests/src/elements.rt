@@ -19,8 +19,10 @@ pub fn counts(mesh: &Mesh) -> [usize; 5] {
 /// The data of a vertex by its handle and by its name, and the start of the edge that it names.
 pub fn vertex(mesh: &Mesh, index: u32) -> Option<([u8; 2], Option<u32>)> {
     let vertex = name(index);
-    let handle = mesh.get_vertex(vertex)?;
-    let start = handle.out_edge().map(|edge| edge.from().fix().index());
+    let Some(handle) = mesh.get_vertex(vertex) else {
+        return None;
+    };
+    let start = handle.out_edge().map(|edge| edge.from().index);
     if !has_vertex(mesh, vertex) {
         return None;
     }
@@ -30,42 +32,51 @@ pub fn vertex(mesh: &Mesh, index: u32) -> Option<([u8; 2], Option<u32>)> {
 /// The start and the end of an edge, the next and the previous one, the other direction, the next
 /// ones round its start counterclockwise and clockwise, and the face on its left.
 pub fn directed_edge(mesh: &Mesh, index: u32) -> Option<[u32; 8]> {
-    let edge = edge_at(mesh, index)?;
+    let Some(edge) = edge_at(mesh, index) else {
+        return None;
+    };
     Some([
-        edge.from().fix().index(),
-        edge.to().fix().index(),
-        edge.next().fix().index(),
-        edge.prev().fix().index(),
-        edge.rev().fix().index(),
-        edge.ccw().fix().index(),
-        edge.cw().fix().index(),
-        edge.face().fix().index(),
+        edge.from().index,
+        edge.to().index,
+        edge.next().index,
+        edge.prev().index,
+        edge.rev().index,
+        edge.ccw().index,
+        edge.cw().index,
+        edge.face().index,
     ])
 }
 
-fn opposite(edge: Edge<'_>) -> Option<u32> {
-    Some(edge.opposite_vertex()?.fix().index())
+fn opposite(edge: &Edge<'_>) -> Option<u32> {
+    let Some(vertex) = edge.opposite_vertex() else {
+        return None;
+    };
+    Some(vertex.index)
 }
 
 /// Whether an edge is outer, the vertex opposite it, and both data of its ends.
 pub fn edge_kind(mesh: &Mesh, index: u32) -> Option<(bool, Option<u32>, [u8; 2])> {
-    let edge = edge_at(mesh, index)?;
+    let Some(edge) = edge_at(mesh, index) else {
+        return None;
+    };
     let [from, to] = edge.vertices();
     Some((
         edge.is_outer_edge(),
-        opposite(edge),
+        opposite(&edge),
         [*from.data(), *to.data()],
     ))
 }
 
 /// An undirected edge's directed edge, ends and data.
 pub fn undirected_edge(mesh: &Mesh, index: u32) -> Option<(u32, [u32; 2], u32)> {
-    let name = undirected_at(mesh, index)?;
+    let Some(name) = undirected_at(mesh, index) else {
+        return None;
+    };
     let edge = mesh.undirected_edge(name);
     let [from, to] = edge.vertices();
-    let ends = [from.fix().index(), to.fix().index()];
+    let ends = [from.index, to.index];
     Some((
-        edge.as_directed().fix().index(),
+        edge.as_directed().index,
         ends,
         *mesh.undirected_edge_data(name),
     ))
@@ -73,7 +84,9 @@ pub fn undirected_edge(mesh: &Mesh, index: u32) -> Option<(u32, [u32; 2], u32)> 
 
 /// The data of an undirected edge and of both its directions, first the asked one.
 pub fn edge_data(mesh: &Mesh, index: u32) -> Option<(u32, [u16; 2])> {
-    let edge = edge_at(mesh, index)?;
+    let Some(edge) = edge_at(mesh, index) else {
+        return None;
+    };
     let other = directed(index);
     if !has_edge(mesh, other) {
         return None;
@@ -86,14 +99,14 @@ pub fn edge_data(mesh: &Mesh, index: u32) -> Option<(u32, [u16; 2])> {
 }
 
 /// The edges of an inner face by their indexes, and the data of its corners.
-fn corners(face: FaceHandle<'_, u8, u16, u32, u64>) -> Option<([u32; 3], [u8; 3])> {
+fn corners(face: &FaceHandle<'_, u8, u16, u32, u64>) -> Option<([u32; 3], [u8; 3])> {
     if face.is_outer() {
         return None;
     }
     let [ab, bc, ca] = face.adjacent_edges();
     let [a, b, c] = face.vertices();
     Some((
-        [ab.fix().index(), bc.fix().index(), ca.fix().index()],
+        [ab.index, bc.index, ca.index],
         [*a.data(), *b.data(), *c.data()],
     ))
 }
@@ -106,7 +119,7 @@ pub fn face(mesh: &Mesh, index: u32) -> Option<(u64, u64, Option<([u32; 3], [u8;
         return None;
     }
     let face = mesh.face(name);
-    Some((*face.data(), *mesh.face_data(name), corners(face)))
+    Some((*face.data(), *mesh.face_data(name), corners(&face)))
 }
 
 /// The edge from one vertex to another, and the one back.
@@ -115,9 +128,13 @@ pub fn edges_between(mesh: &Mesh, from: u32, to: u32) -> Option<[u32; 2]> {
     if !has_vertex(mesh, from) || !has_vertex(mesh, to) {
         return None;
     }
-    let there = mesh.get_edge_from_neighbors(from, to)?;
-    let back = mesh.get_edge_from_neighbors(to, from)?;
-    Some([there.fix().index(), back.fix().index()])
+    let Some(there) = mesh.get_edge_from_neighbors(from, to) else {
+        return None;
+    };
+    let Some(back) = mesh.get_edge_from_neighbors(to, from) else {
+        return None;
+    };
+    Some([there.index, back.index])
 }
 
 /// By indexes alone: start, next, previous and face of an edge, the start of the edge that its

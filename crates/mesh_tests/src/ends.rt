@@ -24,21 +24,19 @@ pub fn lengths(mesh: &Mesh) -> [usize; 8] {
 /// and the last name of a vertex and of an undirected edge.
 pub fn lasts(mesh: &Mesh) -> [Option<u32>; 8] {
     [
-        mesh.vertices().rev().next().map(|vertex| vertex.index),
-        mesh.directed_edges().rev().next().map(|edge| edge.index),
-        mesh.undirected_edges().rev().next().map(|edge| edge.index),
-        mesh.faces().rev().next().map(|face| face.index),
-        mesh.inner_faces().rev().next().map(|face| face.index),
+        mesh.vertices().next_back().map(|vertex| vertex.index),
+        mesh.directed_edges().next_back().map(|edge| edge.index),
+        mesh.undirected_edges().next_back().map(|edge| edge.index),
+        mesh.faces().next_back().map(|face| face.index),
+        mesh.inner_faces().next_back().map(|face| face.index),
         mesh.voronoi_faces()
             .next_back()
             .map(|face| face.vertex.index),
         mesh.fixed_vertices()
-            .rev()
-            .next()
+            .next_back()
             .map(|vertex| vertex.index()),
         mesh.fixed_undirected_edges()
-            .rev()
-            .next()
+            .next_back()
             .map(|edge| edge.index()),
     ]
 }

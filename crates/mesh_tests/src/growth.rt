@@ -6,7 +6,9 @@ ghost use Rattle.half_edge_mesh.specs.Grow.{IsHalfSplittable};
 ghost use Rattle.half_edge_mesh.specs.Mesh.{face, next, origin, rev};
 ghost use Rattle.half_edge_mesh.specs.Contents.{HasRoom};
 
-use crate::lookups::{Mesh, directed, has_edge, has_face, has_vertex, undirected_at, vertex};
+use crate::lookups::{
+    Mesh, directed, has_edge, has_face, has_vertex, is_inner, is_outer, undirected_at, vertex,
+};
 use half_edge_mesh::{FixedDirectedEdgeHandle, FixedFaceHandle, FixedVertexHandle, MeshViews};
 
 /// A vertex and the two parts of the edge that it split.
@@ -83,10 +85,7 @@ pub fn split_edge_when_all_vertices_on_line(
 
 pub fn create_new_face_adjacent_to_edge(mesh: &mut Mesh, edge: u32, value: u8) -> Option<u32> {
     let edge = directed(edge);
-    if !make_room(mesh, 1, 2, 1)
-        || !has_edge(mesh, edge)
-        || !mesh.directed_edge(edge).is_outer_edge()
-    {
+    if !make_room(mesh, 1, 2, 1) || !is_outer(mesh, edge) {
         return None;
     }
     Some(mesh.create_new_face_adjacent_to_edge(edge, value).index())
@@ -99,11 +98,11 @@ fn leaves_corner(mesh: &Mesh, edge: FixedDirectedEdgeHandle) -> bool
     ensures apart { let m = mesh.now.mesh in
         IsTrue result → origin m (rev (next m edge)) ≢ origin m edge }
 {
-    if !has_edge(mesh, edge) {
+    if !is_outer(mesh, edge) {
         return false;
     }
     let side = mesh.directed_edge(edge);
-    side.is_outer_edge() && side.next().to().index != side.from().index
+    side.next().to().index != side.from().index
 }
 
 pub fn create_single_face_between_edge_and_next(mesh: &mut Mesh, edge: u32) -> Option<u32> {
@@ -127,11 +126,7 @@ fn is_of_hull(mesh: &Mesh, edge: FixedDirectedEdgeHandle) -> bool
     ensures within { IsTrue result → edge < length mesh.now.directed }
     ensures half { IsTrue result → IsHalfSplittable mesh.now.mesh edge }
 {
-    if !has_edge(mesh, edge) {
-        return false;
-    }
-    let side = mesh.directed_edge(edge);
-    !side.is_outer_edge() && side.rev().is_outer_edge()
+    is_inner(mesh, edge) && is_outer(mesh, edge.rev())
 }
 
 pub fn split_half_edge(mesh: &mut Mesh, edge: u32, value: u8) -> Option<Split> {
@@ -147,12 +142,11 @@ fn is_flippable(mesh: &Mesh, edge: FixedDirectedEdgeHandle) -> bool
     ensures within { IsTrue result → edge < length mesh.now.directed }
     ensures flippable { IsTrue result → IsFlippable mesh.now.mesh edge }
 {
-    if !has_edge(mesh, edge) {
+    if !is_inner(mesh, edge) || !is_inner(mesh, edge.rev()) {
         return false;
     }
     let side = mesh.directed_edge(edge);
-    let (left, right) = (side.face(), side.rev().face());
-    if left.is_outer() || right.is_outer() || left.index == right.index {
+    if side.face().index == side.rev().face().index {
         return false;
     }
     true

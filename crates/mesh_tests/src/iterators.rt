@@ -16,11 +16,25 @@ pub fn count_of<T: Drop, I: Iterator<Item = T> + Drop>(items: I) -> usize
     count
 }
 
+/// The least and the greatest index that is given.
+fn range<I: Iterator<Item = u32> + Drop>(indexes: I) -> [Option<u32>; 2]
+    requires can { I.can_next indexes }
+    requires ends { IsFinite (I.remaining indexes) }
+{
+    let mut least: Option<u32> = None;
+    let mut greatest: Option<u32> = None;
+    for index in indexes {
+        least = Some(least.map_or(index, |least| least.min(index)));
+        greatest = greatest.max(Some(index));
+    }
+    [least, greatest]
+}
+
 /// How many edges the hull gives, and the greatest index of them.
 fn hull(mesh: &Mesh) -> (usize, Option<u32>) {
     (
         count_of(mesh.convex_hull()),
-        mesh.convex_hull().map(|edge| edge.fix().index()).max(),
+        mesh.convex_hull().map(|edge| edge.index).max(),
     )
 }
 
@@ -60,14 +74,13 @@ pub fn names(mesh: &Mesh) -> ([usize; 5], [Option<u32>; 2]) {
 /// How many edges start at a vertex, how many edges its face of the Voronoi diagram has, and the
 /// least and the greatest index of a vertex where the former end.
 pub fn round(mesh: &Mesh, index: u32) -> Option<([usize; 2], [Option<u32>; 2])> {
-    let vertex = mesh.get_vertex(vertex(index))?;
+    let Some(vertex) = mesh.get_vertex(vertex(index)) else {
+        return None;
+    };
     let counts = [
         count_of(vertex.out_edges()),
         count_of(vertex.as_voronoi_face().adjacent_edges()),
     ];
-    let ends = [
-        vertex.out_edges().map(|edge| edge.to().index).min(),
-        vertex.out_edges().map(|edge| edge.to().index).max(),
-    ];
+    let ends = range(vertex.out_edges().map(|edge| edge.to().index));
     Some((counts, ends))
 }

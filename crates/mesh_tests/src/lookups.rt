@@ -1,14 +1,17 @@
 //! Whether a part of a mesh is there.
-ghost use Rattle.std.specs.Prelude.{◌<◌, ◌≤◌, ◌↔◌, length, IsTrue, IfSome};
+ghost use Rattle.std.specs.Prelude.{◌≡◌, ◌<◌, ◌≤◌, ◌↔◌, length, IsTrue, IfSome};
+ghost use Rattle.half_edge_mesh.specs.Mesh.{face};
 
 use half_edge_mesh::{
-    Dcel, DirectedEdgeHandle, FixedDirectedEdgeHandle, FixedFaceHandle, FixedUndirectedEdgeHandle,
-    FixedVertexHandle, MeshViews,
+    Dcel, DirectedEdgeHandle, DirectedVoronoiEdge, FixedDirectedEdgeHandle, FixedFaceHandle,
+    FixedUndirectedEdgeHandle, FixedVertexHandle, MeshViews,
 };
 
 pub type Mesh = Dcel<u8, u16, u32, u64>;
 
 pub type Edge<'a> = DirectedEdgeHandle<'a, u8, u16, u32, u64>;
+
+pub type VoronoiEdge<'a> = DirectedVoronoiEdge<'a, u8, u16, u32, u64>;
 
 pub fn vertex(index: u32) -> FixedVertexHandle {
     FixedVertexHandle::from_index(index)
@@ -42,6 +45,22 @@ pub fn edge_at(mesh: &Mesh, index: u32) -> Option<Edge<'_>> {
         return None;
     }
     Some(mesh.directed_edge(edge))
+}
+
+/// Whether an edge is there and has an inner face.
+pub fn is_inner(mesh: &Mesh, edge: FixedDirectedEdgeHandle) -> bool
+    ensures within { IsTrue result → edge < length mesh.now.directed }
+    ensures inner { IsTrue result → 0 < face mesh.now.mesh edge }
+{
+    has_edge(mesh, edge) && !mesh.directed_edge(edge).is_outer_edge()
+}
+
+/// Whether an edge is there and has the outer face.
+pub fn is_outer(mesh: &Mesh, edge: FixedDirectedEdgeHandle) -> bool
+    ensures within { IsTrue result → edge < length mesh.now.directed }
+    ensures outer { IsTrue result → face mesh.now.mesh edge ≡ 0 }
+{
+    has_edge(mesh, edge) && mesh.directed_edge(edge).is_outer_edge()
 }
 
 pub fn undirected_at(mesh: &Mesh, index: u32) -> Option<FixedUndirectedEdgeHandle>

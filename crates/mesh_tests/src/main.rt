@@ -21,14 +21,17 @@ use script::answer;
 use std::io;
 use test_script::Call;
 
+fn run_line(rt: &HostRuntime, mesh: &mut Mesh, line: &str) -> io::Result<()> {
+    match Call::parse(line) {
+        Some(call) => answer(rt, mesh, &call),
+        None => println!(rt; "{line}"),
+    }
+}
+
 fn main(rt: HostRuntime) -> io::Result<()> {
     let mut mesh = Mesh::new(rt.alloc());
     for line in rt.lines(rt.alloc()) {
-        let line = line?;
-        match Call::parse(line.as_str()) {
-            Some(call) => answer(&rt, &mut mesh, &call)?,
-            None => println!(rt; "{line}")?,
-        }
+        run_line(&rt, &mut mesh, line?.as_str())?;
     }
     Ok(())
 }

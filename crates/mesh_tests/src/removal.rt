@@ -1,9 +1,9 @@
 //! Calls that remove. Each looks first whether it may be made, and gives nothing where it may not.
-ghost use Rattle.std.specs.Prelude.{◌≡◌, ◌≢◌, ◌<◌, ◌∷◌, [], length, slice_index, IsTrue};
+ghost use Rattle.std.specs.Prelude.{◌≡◌, ◌≢◌, ◌<◌, ◌∷◌, [], length, slice_index, IsTrue, IfSome};
 ghost use Rattle.half_edge_mesh.specs.Mesh.{face, next, origin, prev, rev};
 ghost use Rattle.half_edge_mesh.specs.Peel.{turn};
 
-use crate::lookups::{Mesh, directed, edge_at, has_edge, has_vertex, vertex};
+use crate::lookups::{Mesh, directed, has_edge, has_vertex, is_inner, is_outer, vertex};
 use half_edge_mesh::{FixedDirectedEdgeHandle, FixedVertexHandle, IsolateVertexResult, MeshViews};
 
 /// The data of a vertex without edges, which is gone.
@@ -52,12 +52,15 @@ fn remove_from_end_of_line(mesh: &mut Mesh, vertex: FixedVertexHandle) -> Option
     Some(mesh.remove_when_degenerate(vertex))
 }
 
-// Whether an edge comes before a side that is there.
-fn is_before(mesh: &Mesh, edge: FixedDirectedEdgeHandle, side: FixedDirectedEdgeHandle) -> bool
-    ensures within { IsTrue result → side < length mesh.now.directed }
-    ensures before { IsTrue result → edge ≡ prev mesh.now.mesh side }
+// The edge before a side that is there.
+fn edge_before(mesh: &Mesh, side: FixedDirectedEdgeHandle) -> Option<FixedDirectedEdgeHandle>
+    ensures within { IfSome result (λ _. side < length mesh.now.directed) }
+    ensures before { IfSome result (λ edge. edge ≡ prev mesh.now.mesh side) }
 {
-    has_edge(mesh, side) && mesh.directed_edge(side).prev().index == edge.index()
+    if !has_edge(mesh, side) {
+        return None;
+    }
+    Some(mesh.directed_edge(side).prev().fix())
 }
 
 // Whether an edge has an inner face, as the only one between it and the next edge round its start.
@@ -66,11 +69,10 @@ fn has_lone_face(mesh: &Mesh, edge: FixedDirectedEdgeHandle) -> bool
     ensures outer { IsTrue result → face mesh.now.mesh (rev edge) ≡ 0 }
     ensures last { IsTrue result → face mesh.now.mesh (turn mesh.now.mesh edge) ≡ 0 }
 {
-    if !has_edge(mesh, edge) {
+    if !is_inner(mesh, edge) || !is_outer(mesh, edge.rev()) {
         return false;
     }
-    let edge = mesh.directed_edge(edge);
-    !edge.is_outer_edge() && edge.rev().is_outer_edge() && edge.ccw().is_outer_edge()
+    mesh.directed_edge(edge).ccw().is_outer_edge()
 }
 
 // Whether the outer face goes from an edge to the next one round its start, which is not the only
@@ -109,9 +111,11 @@ fn disconnect_corner(
 /// The index of a vertex with one face, of which this is the side opposite it: it has lost its
 /// edges.
 pub fn disconnect_edge_strip(mesh: &mut Mesh, side: u32) -> Option<u32> {
-    let spoke = edge_at(mesh, side)?.prev().fix();
     let side = directed(side);
-    if !is_before(mesh, spoke, side) || !has_lone_face(mesh, spoke) || !leaves_more(mesh, spoke) {
+    let Some(spoke) = edge_before(mesh, side) else {
+        return None;
+    };
+    if !has_lone_face(mesh, spoke) || !leaves_more(mesh, spoke) {
         return None;
     }
     let done = disconnect_corner(mesh, spoke, side);
@@ -120,30 +124,40 @@ pub fn disconnect_edge_strip(mesh: &mut Mesh, side: u32) -> Option<u32> {
     Some(index)
 }
 
-// The edges after an edge, round its start and in its face.
-fn after(
-    mesh: &Mesh,
-    edge: FixedDirectedEdgeHandle,
-) -> Option<(FixedDirectedEdgeHandle, FixedDirectedEdgeHandle)> {
-    let edge = edge_at(mesh, edge.index())?;
-    Some((edge.ccw().fix(), edge.next().fix()))
-}
-
 // An edge that starts at a vertex.
-fn out_edge(mesh: &Mesh, vertex: FixedVertexHandle) -> Option<FixedDirectedEdgeHandle> {
+fn out_edge(mesh: &Mesh, vertex: FixedVertexHandle) -> Option<FixedDirectedEdgeHandle>
+    ensures within { IfSome result (λ edge. edge < length mesh.now.directed) }
+    ensures starts { IfSome result (λ edge. origin mesh.now.mesh edge ≡ vertex) }
+{
     if !has_vertex(mesh, vertex) {
         return None;
     }
-    let edge = mesh.vertex(vertex).out_edge()?;
+    let Some(edge) = mesh.vertex(vertex).out_edge() else {
+        return None;
+    };
+    if edge.from().index != vertex.index() {
+        return None;
+    }
     Some(edge.fix())
 }
 
-// Whether an edge is there and starts at this vertex.
-fn starts_at(mesh: &Mesh, edge: FixedDirectedEdgeHandle, vertex: FixedVertexHandle) -> bool
-    ensures within { IsTrue result → edge < length mesh.now.directed }
-    ensures starts { IsTrue result → origin mesh.now.mesh edge ≡ vertex }
+// The edges after an edge with an inner face, round its start and in that face.
+fn after(
+    mesh: &Mesh,
+    edge: FixedDirectedEdgeHandle,
+) -> Option<(FixedDirectedEdgeHandle, FixedDirectedEdgeHandle)>
+    ensures inner { IfSome result (λ _. 0 < face mesh.now.mesh edge) }
+    ensures round { IfSome result (λ both. both.0 ≡ turn mesh.now.mesh edge) }
+    ensures side { IfSome result (λ both. both.1 ≡ next mesh.now.mesh edge) }
 {
-    has_edge(mesh, edge) && mesh.directed_edge(edge).from().index == vertex.index()
+    if !has_edge(mesh, edge) {
+        return None;
+    }
+    let edge = mesh.directed_edge(edge);
+    if edge.is_outer_edge() {
+        return None;
+    }
+    Some((edge.ccw().fix(), edge.next().fix()))
 }
 
 // Whether two edges end at different vertices.
@@ -153,25 +167,6 @@ fn end_apart(mesh: &Mesh, edge: FixedDirectedEdgeHandle, other: FixedDirectedEdg
     has_edge(mesh, edge)
         && has_edge(mesh, other)
         && mesh.directed_edge(other).to().index != mesh.directed_edge(edge).to().index
-}
-
-// Whether an edge has an inner face, in which this side follows it, and is followed round its start
-// by another edge.
-fn is_spoke(
-    mesh: &Mesh,
-    edge: FixedDirectedEdgeHandle,
-    side: FixedDirectedEdgeHandle,
-    after: FixedDirectedEdgeHandle,
-) -> bool
-    ensures inner { IsTrue result → 0 < face mesh.now.mesh edge }
-    ensures side { IsTrue result → side ≡ next mesh.now.mesh edge }
-    ensures after { IsTrue result → after ≡ turn mesh.now.mesh edge }
-{
-    if !has_edge(mesh, edge) {
-        return false;
-    }
-    let edge = mesh.directed_edge(edge);
-    !edge.is_outer_edge() && edge.next().index == side.index() && edge.ccw().index == after.index()
 }
 
 // Takes the edges of a vertex away that has these three, with these sides opposite it in its faces.
@@ -195,21 +190,6 @@ fn isolate_between_three(
 {
     let _whole = mesh.num_vertices();
     mesh.isolate_vertex_and_fill_hole(&sides, vertex)
-}
-
-// The same, where a vertex has three inner faces.
-fn isolate_vertex(mesh: &mut Mesh, vertex: FixedVertexHandle) -> Option<IsolateVertexResult> {
-    let a = out_edge(mesh, vertex)?;
-    let (b, ab) = after(mesh, a)?;
-    let (c, bc) = after(mesh, b)?;
-    let (_, ca) = after(mesh, c)?;
-    if !starts_at(mesh, a, vertex) {
-        return None;
-    }
-    if !is_spoke(mesh, a, ab, b) || !is_spoke(mesh, b, bc, c) || !is_spoke(mesh, c, ca, a) {
-        return None;
-    }
-    Some(isolate_between_three(mesh, [a, b, c], [ab, bc, ca], vertex))
 }
 
 // Takes the edges of a vertex away that has these four, with these sides opposite it in its faces.
@@ -239,23 +219,27 @@ fn isolate_between_four(
     mesh.isolate_vertex_and_fill_hole(&sides, vertex)
 }
 
-// The same, where a vertex has four inner faces.
-fn isolate_vertex_between_four(
-    mesh: &mut Mesh,
-    vertex: FixedVertexHandle,
-) -> Option<IsolateVertexResult> {
-    let a = out_edge(mesh, vertex)?;
-    let (b, ab) = after(mesh, a)?;
-    let (c, bc) = after(mesh, b)?;
-    let (d, cd) = after(mesh, c)?;
-    let (_, da) = after(mesh, d)?;
-    if !starts_at(mesh, a, vertex) || !end_apart(mesh, a, c) {
+// The same, where a vertex has three or four inner faces.
+fn isolate_vertex(mesh: &mut Mesh, vertex: FixedVertexHandle) -> Option<IsolateVertexResult> {
+    let Some(a) = out_edge(mesh, vertex) else {
         return None;
-    }
-    if !is_spoke(mesh, a, ab, b) || !is_spoke(mesh, b, bc, c) {
+    };
+    let Some((b, ab)) = after(mesh, a) else {
         return None;
+    };
+    let Some((c, bc)) = after(mesh, b) else {
+        return None;
+    };
+    let Some((d, cd)) = after(mesh, c) else {
+        return None;
+    };
+    if d.index() == a.index() {
+        return Some(isolate_between_three(mesh, [a, b, c], [ab, bc, cd], vertex));
     }
-    if !is_spoke(mesh, c, cd, d) || !is_spoke(mesh, d, da, a) {
+    let Some((end, da)) = after(mesh, d) else {
+        return None;
+    };
+    if end.index() != a.index() || !end_apart(mesh, a, c) {
         return None;
     }
     Some(isolate_between_four(mesh, [a, b, c, d], [ab, bc, cd, da], vertex))
@@ -264,10 +248,8 @@ fn isolate_vertex_between_four(
 /// The index of a vertex with three or four faces round it: it has lost its edges, and one or two
 /// faces fill the hole.
 pub fn isolate_vertex_and_fill_hole(mesh: &mut Mesh, index: u32) -> Option<u32> {
-    let vertex = vertex(index);
-    let done = match isolate_vertex(mesh, vertex) {
-        Some(done) => done,
-        None => isolate_vertex_between_four(mesh, vertex)?,
-    };
-    Some(done.vertex.index())
+    match isolate_vertex(mesh, vertex(index)) {
+        Some(done) => Some(done.vertex.index()),
+        None => None,
+    }
 }

@@ -32,20 +32,28 @@ fn byte(number: u32) -> u8 {
     u8::try_from(number).unwrap_or(u8::MAX)
 }
 
-/// Makes the call that a line asks for, and prints what it gives.
+/// Makes the call that a line asks for, and prints what it gives. Here are those that start a mesh,
+/// and below those that let it grow, that remove, that write, and that read.
 pub fn answer(rt: &(impl Print + AllocGlobal), mesh: &mut Mesh, call: &Call<'_>) -> io::Result<()> {
-    let [a, b, c] = call.indexes();
+    let [a, b, _] = call.indexes();
     match call.name {
         "clear" => {
             mesh.clear();
             call.tell(rt, &counts(mesh))
         }
-        "append_unconnected_vertex" => { call.tell(rt, &append_unconnected_vertex(mesh, byte(a))) }
+        "append_unconnected_vertex" => call.tell(rt, &append_unconnected_vertex(mesh, byte(a))),
         "setup_initial_two_vertices" => call.tell(rt, &setup_initial_two_vertices(mesh, a, b)),
         "extend_line" => call.tell(rt, &extend_line(mesh, a, byte(b))),
         "split_edge_when_all_vertices_on_line" => {
             call.tell(rt, &split_edge_when_all_vertices_on_line(mesh, a, byte(b)))
         }
+        _ => grow(rt, mesh, call),
+    }
+}
+
+fn grow(rt: &(impl Print + AllocGlobal), mesh: &mut Mesh, call: &Call<'_>) -> io::Result<()> {
+    let [a, b, _] = call.indexes();
+    match call.name {
         "create_new_face_adjacent_to_edge" => {
             call.tell(rt, &create_new_face_adjacent_to_edge(mesh, a, byte(b)))
         }
@@ -56,43 +64,50 @@ pub fn answer(rt: &(impl Print + AllocGlobal), mesh: &mut Mesh, call: &Call<'_>)
         "split_half_edge" => call.tell(rt, &split_half_edge(mesh, a, byte(b))),
         "split_edge" => call.tell(rt, &split_edge(mesh, a, byte(b))),
         "flip_cw" => call.tell(rt, &flip_cw(mesh, a)),
-        _ => change(rt, mesh, call, [a, b, c]),
+        _ => remove(rt, mesh, call),
     }
 }
 
-// The calls that remove, and those that write data.
-fn change(
-    rt: &(impl Print + AllocGlobal),
-    mesh: &mut Mesh,
-    call: &Call<'_>,
-    [a, b, c]: [u32; 3],
-) -> io::Result<()> {
+fn remove(rt: &(impl Print + AllocGlobal), mesh: &mut Mesh, call: &Call<'_>) -> io::Result<()> {
+    let [a, b, _] = call.indexes();
     match call.name {
         "swap_remove_vertex" => call.tell(rt, &swap_remove_vertex(mesh, a)),
         "remove_when_degenerate" => call.tell(rt, &remove_when_degenerate(mesh, a)),
         "disconnect_edge_strip" => call.tell(rt, &disconnect_edge_strip(mesh, a)),
         "isolate_vertex_and_fill_hole" => call.tell(rt, &isolate_vertex_and_fill_hole(mesh, a)),
         "update_vertex" => call.tell(rt, &update_vertex(mesh, a, byte(b))),
+        _ => write(rt, mesh, call),
+    }
+}
+
+fn write(rt: &(impl Print + AllocGlobal), mesh: &mut Mesh, call: &Call<'_>) -> io::Result<()> {
+    let [a, b, _] = call.indexes();
+    match call.name {
         "directed_edge_data_mut" => call.tell(rt, &write_directed(mesh, a, b)),
         "undirected_edge_data_mut" => call.tell(rt, &write_undirected(mesh, a, b)),
         "face_data_mut" => call.tell(rt, &write_face(mesh, a, b)),
         "map_undirected_edges" => call.tell(rt, &map_undirected_edges(rt.alloc(), mesh)),
         "clone" => call.tell(rt, &copy(mesh)),
-        "reserve_capacity" => call.tell(rt, &reserve(mesh, a, b, c)),
-        "past_the_limit" => call.tell(rt, &past_the_limit(mesh)),
-        _ => read(rt, mesh, call, [a, b, c]),
+        _ => make_room(rt, mesh, call),
     }
 }
 
-// The calls that read.
-fn read(
-    rt: &(impl Print + AllocGlobal),
-    mesh: &Mesh,
-    call: &Call<'_>,
-    [a, b, c]: [u32; 3],
-) -> io::Result<()> {
+fn make_room(rt: &(impl Print + AllocGlobal), mesh: &mut Mesh, call: &Call<'_>) -> io::Result<()> {
+    let [a, b, c] = call.indexes();
     match call.name {
-        "counts" => call.tell(rt, &counts(mesh)),
+        "reserve_capacity" => call.tell(rt, &reserve(mesh, a, b, c)),
+        "past_the_limit" => call.tell(rt, &past_the_limit(mesh)),
+        "with_capacity" => call.tell(rt, &with_capacity(rt.alloc(), a, b, c)),
+        "few_enough" => call.tell(rt, &few_enough(rt.alloc(), a, b, c)),
+        "large_data" => call.tell(rt, &large_data(rt.alloc())),
+        "links_of_a_line" => call.tell(rt, &links_of_a_line(rt.alloc())),
+        _ => read(rt, mesh, call),
+    }
+}
+
+fn read(rt: &impl Print, mesh: &Mesh, call: &Call<'_>) -> io::Result<()> {
+    let [a, b, _] = call.indexes();
+    match call.name {
         "vertex" => call.tell(rt, &vertex(mesh, a)),
         "directed_edge" => call.tell(rt, &directed_edge(mesh, a)),
         "edge_kind" => call.tell(rt, &edge_kind(mesh, a)),
@@ -101,6 +116,14 @@ fn read(
         "face" => call.tell(rt, &face(mesh, a)),
         "links" => call.tell(rt, &links(mesh, a)),
         "get_edge_from_neighbors" => call.tell(rt, &edges_between(mesh, a, b)),
+        _ => list(rt, mesh, call),
+    }
+}
+
+fn list(rt: &impl Print, mesh: &Mesh, call: &Call<'_>) -> io::Result<()> {
+    let [a, ..] = call.indexes();
+    match call.name {
+        "counts" => call.tell(rt, &counts(mesh)),
         "out_edges" => call.tell(rt, &round(mesh, a)),
         "lists" => call.tell(rt, &lists(mesh)),
         "names" => call.tell(rt, &names(mesh)),
@@ -108,17 +131,12 @@ fn read(
         "lasts" => call.tell(rt, &lasts(mesh)),
         "copies" => call.tell(rt, &copies(mesh)),
         "show" => call.tell(rt, &mesh.vertices()),
-        _ => compare(rt, mesh, call, [a, b, c]),
+        _ => compare(rt, mesh, call),
     }
 }
 
-// The Voronoi forms, comparisons, names without a mesh, and room.
-fn compare(
-    rt: &(impl Print + AllocGlobal),
-    mesh: &Mesh,
-    call: &Call<'_>,
-    [a, b, c]: [u32; 3],
-) -> io::Result<()> {
+fn compare(rt: &impl Print, mesh: &Mesh, call: &Call<'_>) -> io::Result<()> {
+    let [a, b, _] = call.indexes();
     match call.name {
         "voronoi_edge" => call.tell(rt, &voronoi_edge(mesh, a)),
         "undirected_voronoi_edge" => call.tell(rt, &undirected_voronoi_edge(mesh, a)),
@@ -126,15 +144,19 @@ fn compare(
         "voronoi_vertex" => call.tell(rt, &voronoi_vertex(mesh, a)),
         "compare_edges" => call.tell(rt, &compare_edges(mesh, a, b)),
         "compare_voronoi" => call.tell(rt, &compare_voronoi(mesh, a, b)),
-        "compare_names" => call.tell(rt, &compare_names(a, b)),
         "print_edge" => print_edge(rt, mesh, a),
+        _ => name(rt, call),
+    }
+}
+
+// The calls that need no mesh.
+fn name(rt: &impl Print, call: &Call<'_>) -> io::Result<()> {
+    let [a, b, _] = call.indexes();
+    match call.name {
         "forms" => call.tell(rt, &forms(a)),
         "names_from_two" => call.tell(rt, &names_from_two()),
-        "with_capacity" => call.tell(rt, &with_capacity(rt.alloc(), a, b, c)),
-        "few_enough" => call.tell(rt, &few_enough(rt.alloc(), a, b, c)),
+        "compare_names" => call.tell(rt, &compare_names(a, b)),
         "is_full" => call.tell(rt, &full(a)),
-        "large_data" => call.tell(rt, &large_data(rt.alloc())),
-        "links_of_a_line" => call.tell(rt, &links_of_a_line(rt.alloc())),
         _ => call.tell(rt, &"no such call"),
     }
 }

@@ -1,34 +1,32 @@
 //! The Voronoi forms of a mesh, by the indexes of what they are forms of.
 
-use crate::lookups::{Edge, Mesh, edge_at, has_face, undirected_at, vertex};
+use crate::lookups::{Mesh, VoronoiEdge, edge_at, has_face, undirected_at, vertex};
 use half_edge_mesh::{
-    AsVoronoiEdge, AsVoronoiFace, AsVoronoiVertex, DirectedVoronoiEdge, FixedFaceHandle, MeshViews,
-    VoronoiVertex, VoronoiViews,
+    AsVoronoiEdge, AsVoronoiFace, AsVoronoiVertex, FixedFaceHandle, MeshViews, VoronoiVertex,
+    VoronoiViews,
 };
 
-type VoronoiEdge<'a> = DirectedVoronoiEdge<'a, u8, u16, u32, u64>;
-
-fn index_of(edge: VoronoiEdge<'_>) -> u32 {
-    edge.as_delaunay_edge().fix().index()
+fn index_of(edge: &VoronoiEdge<'_>) -> u32 {
+    edge.as_delaunay_edge().index
 }
 
 /// The face that a vertex is the centre of, if it is of one, and an edge out of it.
-fn centre(vertex: VoronoiVertex<'_, u8, u16, u32, u64>) -> (Option<u32>, Option<u32>) {
+fn centre(vertex: &VoronoiVertex<'_, u8, u16, u32, u64>) -> (Option<u32>, Option<u32>) {
     (
-        vertex.as_delaunay_face().map(|face| face.fix().index()),
-        vertex.out_edge().map(|edge| index_of(edge)),
+        vertex.as_delaunay_face().map(|face| face.index),
+        vertex.out_edge().map(|edge| index_of(&edge)),
     )
 }
 
 /// The other direction, the next and the previous edge, the undirected one and the face of an
 /// edge's Voronoi form.
-fn beside(edge: VoronoiEdge<'_>) -> [u32; 5] {
+fn beside(edge: &VoronoiEdge<'_>) -> [u32; 5] {
     [
-        index_of(edge.rev()),
-        index_of(edge.next()),
-        index_of(edge.prev()),
-        edge.as_undirected().as_delaunay_edge().fix().index(),
-        edge.face().as_delaunay_vertex().fix().index(),
+        index_of(&edge.rev()),
+        index_of(&edge.next()),
+        index_of(&edge.prev()),
+        edge.as_undirected().as_delaunay_edge().index,
+        edge.face().as_delaunay_vertex().index,
     ]
 }
 
@@ -37,9 +35,14 @@ pub fn voronoi_edge(
     mesh: &Mesh,
     index: u32,
 ) -> Option<([u32; 5], [(Option<u32>, Option<u32>); 2])> {
-    let edge: Edge<'_> = edge_at(mesh, index)?;
+    let Some(edge) = edge_at(mesh, index) else {
+        return None;
+    };
     let across = edge.as_voronoi_edge();
-    Some((beside(across), [centre(across.from()), centre(across.to())]))
+    Some((
+        beside(&across),
+        [centre(&across.from()), centre(&across.to())],
+    ))
 }
 
 /// The first direction of the Voronoi form of an undirected edge, and its ends.
@@ -47,10 +50,15 @@ pub fn undirected_voronoi_edge(
     mesh: &Mesh,
     index: u32,
 ) -> Option<(u32, [(Option<u32>, Option<u32>); 2])> {
-    let edge = mesh.undirected_edge(undirected_at(mesh, index)?);
-    let across = edge.as_voronoi_edge();
+    let Some(name) = undirected_at(mesh, index) else {
+        return None;
+    };
+    let across = mesh.undirected_edge(name).as_voronoi_edge();
     let [from, to] = across.vertices();
-    Some((index_of(across.as_directed()), [centre(from), centre(to)]))
+    Some((
+        index_of(&across.as_directed()),
+        [centre(&from), centre(&to)],
+    ))
 }
 
 /// The edges out of the Voronoi vertex of an inner face.
@@ -60,21 +68,24 @@ pub fn voronoi_vertex(mesh: &Mesh, index: u32) -> Option<[u32; 3]> {
         return None;
     }
     let [first, second, third] = mesh.face(name).as_voronoi_vertex().out_edges();
-    Some([index_of(first), index_of(second), index_of(third)])
+    Some([index_of(&first), index_of(&second), index_of(&third)])
 }
 
 /// The vertex of a Voronoi face and the first edge round it; then the first of all faces and of all
 /// edges.
 pub fn voronoi_face(mesh: &Mesh, index: u32) -> Option<[Option<u32>; 4]> {
-    let face = mesh.get_vertex(vertex(index))?.as_voronoi_face();
+    let Some(vertex) = mesh.get_vertex(vertex(index)) else {
+        return None;
+    };
+    let face = vertex.as_voronoi_face();
     Some([
-        Some(face.as_delaunay_vertex().fix().index()),
-        face.adjacent_edges().next().map(|edge| index_of(edge)),
+        Some(face.as_delaunay_vertex().index),
+        face.adjacent_edges().next().map(|edge| index_of(&edge)),
         mesh.voronoi_faces()
             .next()
-            .map(|face| face.as_delaunay_vertex().fix().index()),
+            .map(|face| face.as_delaunay_vertex().index),
         mesh.directed_voronoi_edges()
             .next()
-            .map(|edge| index_of(edge)),
+            .map(|edge| index_of(&edge)),
     ])
 }
