@@ -50,25 +50,43 @@ fn print_constrained(rt: &HostRuntime, points: Hinted<Listing>) -> anyhow::Resul
     Ok(())
 }
 
-// What is told once there is nothing.
-fn print_cleared<T: Triangulation<HintGenerator = Listing>>(
+// What is told of three insertions and an overwrite. Then it is asked for the origin.
+fn print_insertions<T: Triangulation<Vertex = Point2<i64>, HintGenerator = Listing>>(
     rt: &HostRuntime,
     points: &mut T,
 ) -> anyhow::Result<()> {
+    insert_all(points, &[(0, 1), (1, 1), (1, 0), (1, 1)])?;
+    print_told(rt, points)?;
+    ask(points);
+    Ok(())
+}
+
+// What is told of a removal.
+fn print_removal<T: Triangulation<Vertex = Point2<i64>, HintGenerator = Listing>>(
+    rt: &HostRuntime,
+    points: &mut T,
+) -> anyhow::Result<()> {
+    remove(points, 0)?;
+    print_told(rt, points)
+}
+
+// What a copy was told, and what is told once there is nothing.
+fn print_copy<T: Triangulation<HintGenerator = Listing>>(
+    rt: &HostRuntime,
+    copy: &T,
+    points: &mut T,
+) -> anyhow::Result<()> {
+    print_told(rt, copy)?;
     clear(points);
     print_told(rt, points)
 }
 
 pub fn run(rt: &HostRuntime) -> anyhow::Result<()> {
     let mut points: Hinted<Listing> = empty(rt.alloc());
-    insert_all(&mut points, &[(0, 1), (1, 1), (1, 0), (1, 1)])?;
-    print_told(rt, &points)?;
-    ask(&points);
+    print_insertions(rt, &mut points)?;
     ask_nearest(&points);
-    remove(&mut points, 0)?;
-    print_told(rt, &points)?;
+    print_removal(rt, &mut points)?;
     let copy = points.try_clone()?;
-    print_told(rt, &copy)?;
-    print_cleared(rt, &mut points)?;
+    print_copy(rt, &copy, &mut points)?;
     print_constrained(rt, copy)
 }
