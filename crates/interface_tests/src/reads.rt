@@ -129,11 +129,16 @@ fn print_square<T: Triangulation<Vertex = Point2<i64>>>(rt: &HostRuntime) -> any
     Ok(points)
 }
 
-pub fn run(rt: &HostRuntime) -> anyhow::Result<()> {
+// What is read of a plain triangulation and of the same with constraints.
+fn print_both(rt: &HostRuntime) -> anyhow::Result<()> {
     let points: Points = print_square(rt)?;
-    let Some(points) = constrained(points) else {
-        return Ok(());
-    };
-    print_constrained(rt, &points)?;
+    match constrained(points) {
+        Some(points) => print_constrained(rt, &points),
+        None => Ok(()),
+    }
+}
+
+pub fn run(rt: &HostRuntime) -> anyhow::Result<()> {
+    print_both(rt)?;
     print_room::<Points>(rt)
 }

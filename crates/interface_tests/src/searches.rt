@@ -89,12 +89,20 @@ fn print_counts<T: Triangulation>(rt: &HostRuntime, points: &T) -> anyhow::Resul
     Ok(())
 }
 
+// What is answered before the first and after each insertion, and the counts at the end.
+fn print_growth<L: HintGenerator<i64>>(
+    rt: &HostRuntime,
+    points: &mut Hinted<L>,
+) -> anyhow::Result<()> {
+    print_answers(rt, points)?;
+    for place in POINTS {
+        insert(points, place)?;
+        print_answers(rt, points)?;
+    }
+    print_counts(rt, points)
+}
+
 pub fn run<L: HintGenerator<i64>>(rt: &HostRuntime) -> anyhow::Result<()> {
     let mut points: Hinted<L> = empty(rt.alloc());
-    print_answers(rt, &points)?;
-    for place in POINTS {
-        insert(&mut points, place)?;
-        print_answers(rt, &points)?;
-    }
-    print_counts(rt, &points)
+    print_growth(rt, &mut points)
 }

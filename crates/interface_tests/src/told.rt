@@ -81,11 +81,16 @@ fn print_copy<T: Triangulation<HintGenerator = Listing>>(
     print_told(rt, points)
 }
 
+// What is told of insertions, an overwrite and a removal, and how often it was asked.
+fn print_edits(rt: &HostRuntime, points: &mut Hinted<Listing>) -> anyhow::Result<()> {
+    print_insertions(rt, points)?;
+    ask_nearest(points);
+    print_removal(rt, points)
+}
+
 pub fn run(rt: &HostRuntime) -> anyhow::Result<()> {
     let mut points: Hinted<Listing> = empty(rt.alloc());
-    print_insertions(rt, &mut points)?;
-    ask_nearest(&points);
-    print_removal(rt, &mut points)?;
+    print_edits(rt, &mut points)?;
     let copy = points.try_clone()?;
     print_copy(rt, &copy, &mut points)?;
     print_constrained(rt, copy)
