@@ -13,10 +13,12 @@ pub fn answer(
     session: &mut Session,
     call: &Call<'_>,
 ) -> io::Result<()> {
-    let [x, y, ..] = call.numbers;
     match call.name {
         "from_delaunay" => call.tell(rt, &session.add_constraints(rt.alloc())),
-        "constrain" => call.tell(rt, &session.constrain(x, y)),
+        "constrain" => {
+            let [from, to, _] = call.indexes();
+            call.tell(rt, &session.constrain(from, to))
+        }
         "release" => call.tell(rt, &session.release()),
         "compare_constrained" => read(rt, &session.constrained, call),
         _ => edit(rt, &mut session.plain, call),
@@ -28,11 +30,11 @@ fn edit<T: Triangulation<Vertex = Point2<i64>>>(
     points: &mut T,
     call: &Call<'_>,
 ) -> io::Result<()> {
-    let [x, y, ..] = call.numbers;
+    let ([x, y, ..], [index, ..]) = (call.numbers, call.indexes());
     match call.name {
         "clear" => call.tell(rt, &clear(points)),
         "insert" => call.tell(rt, &insert(points, x, y)),
-        "remove" => call.tell(rt, &remove(points, x)),
+        "remove" => call.tell(rt, &remove(points, index)),
         _ => read(rt, points, call),
     }
 }

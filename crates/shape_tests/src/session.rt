@@ -1,8 +1,7 @@
 //! The triangulations that the calls of a script work on.
-ghost use Rattle.std.specs.Prelude.{◌<◌, length, IfSome};
 
 use exact_tests::ExactTests;
-use spade_delaunay::handles::{FixedUndirectedEdgeHandle, FixedVertexHandle};
+use spade_delaunay::handles::{FixedDirectedEdgeHandle, FixedVertexHandle};
 use spade_delaunay::{
     ConstrainedDelaunayTriangulation, DelaunayTriangulation, InsertionError, Point2, Triangulation,
 };
@@ -15,26 +14,12 @@ pub type Plain = DelaunayTriangulation<Point2<i64>>;
 /// Points of one with constraints.
 pub type Constrained = ConstrainedDelaunayTriangulation<Point2<i64>>;
 
-/// One triangulation of either type.
+/// One triangulation of either type, and the last path of constraints.
 #[derive(Drop)]
 pub struct Session {
     pub plain: Plain,
     pub constrained: Constrained,
-}
-
-// A vertex, by its index.
-fn vertex<T: Triangulation<Vertex = Point2<i64>>>(
-    points: &T,
-    index: i64,
-) -> Option<FixedVertexHandle>
-    ensures { IfSome result (λ v. v < length (T.state points.now).vertices) }
-{
-    let index = u32::try_from(index).ok()?;
-    if (index as usize) < points.num_vertices() {
-        Some(FixedVertexHandle::from_index(index))
-    } else {
-        None
-    }
+    path: Vec<FixedDirectedEdgeHandle>,
 }
 
 /// Removes all vertices, and tells how many are left.
@@ -55,24 +40,15 @@ pub fn insert<T: Triangulation<Vertex = Point2<i64>>>(
 /// The position of the vertex that goes, or nothing where there is none or no memory.
 pub fn remove<T: Triangulation<Vertex = Point2<i64>>>(
     points: &mut T,
-    index: i64,
+    index: u32,
 ) -> Option<(i64, i64)> {
-    let vertex = vertex(points, index)?;
-    let position = points.remove(vertex, &ExactTests).ok()?;
-    Some((position.x, position.y))
-}
-
-// The first edge that is a constraint.
-fn first_constraint(points: &Constrained) -> Option<FixedUndirectedEdgeHandle>
-    ensures { IfSome result (λ e. e < length points.now.undirected) }
-{
-    for index in 0..points.num_undirected_edges() {
-        let edge = FixedUndirectedEdgeHandle::from_index(u32::from(u16::try_from(index).ok()?));
-        if points.is_constraint_edge(edge) {
-            return Some(edge);
-        }
+    if index as usize >= points.num_vertices() {
+        return None;
     }
-    None
+    match points.remove(FixedVertexHandle::from_index(index), &ExactTests) {
+        Ok(position) => Some((position.x, position.y)),
+        Err(_) => None,
+    }
 }
 
 impl Session {
@@ -80,6 +56,7 @@ impl Session {
         Session {
             plain: Plain::new(alloc),
             constrained: Constrained::new(alloc),
+            path: Vec::new(alloc),
         }
     }
 
@@ -97,18 +74,29 @@ impl Session {
     }
 
     /// How many edges the path between two vertices has, which are constraints from now on.
-    pub fn constrain(&mut self, from: i64, to: i64) -> Option<usize> {
-        let points = &mut self.constrained;
-        let (from, to) = (vertex(points, from)?, vertex(points, to)?);
-        match points.try_add_constraint(from, to, &ExactTests) {
-            Ok(edges) => Some(edges.len()),
+    pub fn constrain(&mut self, from: u32, to: u32) -> Option<usize> {
+        let count = self.constrained.num_vertices();
+        if from as usize >= count || to as usize >= count {
+            return None;
+        }
+        let from = FixedVertexHandle::from_index(from);
+        let to = FixedVertexHandle::from_index(to);
+        match self.constrained.try_add_constraint(from, to, &ExactTests) {
+            Ok(path) => {
+                self.path = path;
+                Some(self.path.len())
+            }
             Err(_) => None,
         }
     }
 
-    /// Releases the first constraint, and tells whether there was one.
+    /// Releases the first edge of the path that was made last, and tells whether it was a
+    /// constraint.
     pub fn release(&mut self) -> Option<bool> {
-        let edge = first_constraint(&self.constrained)?;
+        let edge = self.path.first()?.as_undirected();
+        if edge.index() as usize >= self.constrained.num_undirected_edges() {
+            return None;
+        }
         match self.constrained.remove_constraint_edge(edge, &ExactTests) {
             Ok(released) => Some(released),
             Err(_) => None,
