@@ -18,14 +18,18 @@ use session::{Session, answer};
 use std::io;
 use test_script::Call;
 
-fn main(rt: HostRuntime) -> io::Result<()> {
-    let mut session = Session::new(rt.alloc());
+fn run(rt: &HostRuntime, session: &mut Session) -> io::Result<()> {
     for line in rt.lines(rt.alloc()) {
         let line = line?;
         match Call::parse(line.as_str()) {
-            Some(call) => answer(&rt, &mut session, &call)?,
+            Some(call) => answer(rt, session, &call)?,
             None => println!(rt; "{line}")?,
         }
     }
     Ok(())
+}
+
+fn main(rt: HostRuntime) -> io::Result<()> {
+    let mut session = Session::new(rt.alloc());
+    run(&rt, &mut session)
 }

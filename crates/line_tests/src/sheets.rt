@@ -1,12 +1,12 @@
 //! All segments between the points of a sheet.
 
 use crate::conflicts::{are_crossed, conflicts, intersects};
-use crate::drawing::{Drawing, constraints_of};
+use crate::drawing::Drawing;
 use crate::filter::is_met;
-use crate::points::{Constrained, Points, point, walk};
+use crate::points::{Constrained, walk};
 use crate::segment::Segment;
-use spade_delaunay::{EdgeData, Point2};
-use std::alloc::{AllocError, Global};
+use spade_delaunay::{HasMesh, Point2};
+use std::alloc::Global;
 
 /// How many pairs of points there were, and at how many the filter says the same.
 #[derive(Clone, Copy, Debug, Default)]
@@ -25,21 +25,19 @@ impl Agreement {
 }
 
 // Whether the walk between two points gives just what the filter does.
-fn walk_agrees<UE, M: EdgeData<UE>>(
-    points: &Points<UE, M>,
+fn walk_agrees<DE, UE, F, T: HasMesh<Point2<i64>, DE, UE, F>>(
+    points: &T,
     drawing: &Drawing,
     segment: Segment,
     alloc: Global,
 ) -> Option<bool> {
-    let from = point(segment.from.x, segment.from.y)?;
-    let to = point(segment.to.x, segment.to.y)?;
-    let items = walk(points, from, to, alloc).ok()?;
+    let items = walk(points, segment.from, segment.to, alloc)?;
     Some(is_met(drawing, segment, items.as_slice()))
 }
 
 /// Compares all walks over a triangulation that is drawn.
-pub fn compare_walks<UE, M: EdgeData<UE>>(
-    points: &Points<UE, M>,
+pub fn compare_walks<DE, UE, F, T: HasMesh<Point2<i64>, DE, UE, F>>(
+    points: &T,
     drawing: &Drawing,
     sheet: &[Point2<i64>],
     alloc: Global,
@@ -65,21 +63,18 @@ fn conflicts_agree(
     segment: Segment,
     alloc: Global,
 ) -> Option<bool> {
-    let from = point(segment.from.x, segment.from.y)?;
-    let to = point(segment.to.x, segment.to.y)?;
-    let items = conflicts(points, from, to, alloc).ok()?;
-    let is_told = intersects(points, from, to) != items.is_empty();
+    let items = conflicts(points, segment.from, segment.to, alloc)?;
+    let is_told = intersects(points, segment.from, segment.to)? != items.is_empty();
     Some(is_told && are_crossed(drawing, constraints, segment, items.as_slice()))
 }
 
-/// Compares all conflicts.
+/// Compares all conflicts over a triangulation that is drawn with its constraints.
 pub fn compare_conflicts(
     points: &Constrained,
+    drawn: (&Drawing, &[(u32, u32)]),
     sheet: &[Point2<i64>],
     alloc: Global,
-) -> Result<Agreement, AllocError> {
-    let (drawing, constraints) = (Drawing::of(points, alloc)?, constraints_of(points, alloc)?);
-    let drawn = (&drawing, constraints.as_slice());
+) -> Agreement {
     let mut agreement = Agreement::default();
     for from in sheet {
         for to in sheet {
@@ -90,5 +85,5 @@ pub fn compare_conflicts(
             agreement.add(conflicts_agree(points, drawn, segment, alloc));
         }
     }
-    Ok(agreement)
+    agreement
 }
