@@ -7,12 +7,14 @@ use crate::points::Constrained;
 use crate::segment::Segment;
 use exact_tests::ExactTests;
 use spade_delaunay::handles::FixedVertexHandle;
-use spade_delaunay::{ConflictingEdgesIterator, Point2, Triangulation, validate_vertex};
+use spade_delaunay::{
+    ConflictingEdgesIterator, HintGenerator, Point2, Triangulation, validate_vertex,
+};
 use std::alloc::Global;
 
 /// The constraints that the segment between two points crosses, if they are in range.
-pub fn conflicts(
-    points: &Constrained,
+pub fn conflicts<L: HintGenerator<i64>>(
+    points: &Constrained<L>,
     from: Point2<i64>,
     to: Point2<i64>,
     alloc: Global,
@@ -35,8 +37,8 @@ pub fn conflicts(
 }
 
 /// The same between two vertices, if they are there.
-pub fn conflicts_between(
-    points: &Constrained,
+pub fn conflicts_between<L: HintGenerator<i64>>(
+    points: &Constrained<L>,
     from: u32,
     to: u32,
     alloc: Global,
@@ -61,7 +63,11 @@ pub fn conflicts_between(
 }
 
 /// Whether the segment between two points crosses a constraint, if they are in range.
-pub fn intersects(points: &Constrained, from: Point2<i64>, to: Point2<i64>) -> Option<bool> {
+pub fn intersects<L: HintGenerator<i64>>(
+    points: &Constrained<L>,
+    from: Point2<i64>,
+    to: Point2<i64>,
+) -> Option<bool> {
     if validate_vertex(&from).is_err() || validate_vertex(&to).is_err() {
         return None;
     }

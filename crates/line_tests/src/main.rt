@@ -15,10 +15,11 @@ mod session;
 mod sheets;
 
 use session::{Session, answer};
+use spade_delaunay::{HintGenerator, LastUsedVertexHintGenerator};
 use std::io;
 use test_script::Call;
 
-fn run(rt: &HostRuntime, session: &mut Session) -> io::Result<()> {
+fn run<L: HintGenerator<i64>>(rt: &HostRuntime, session: &mut Session<L>) -> io::Result<()> {
     for line in rt.lines(rt.alloc()) {
         let line = line?;
         match Call::parse(line.as_str()) {
@@ -30,6 +31,6 @@ fn run(rt: &HostRuntime, session: &mut Session) -> io::Result<()> {
 }
 
 fn main(rt: HostRuntime) -> io::Result<()> {
-    let mut session = Session::new(rt.alloc());
+    let mut session: Session<LastUsedVertexHintGenerator> = Session::new(rt.alloc());
     run(&rt, &mut session)
 }

@@ -4,16 +4,16 @@ use crate::items::{Item, item_of};
 use exact_tests::ExactTests;
 use spade_delaunay::handles::FixedVertexHandle;
 use spade_delaunay::{
-    ConstrainedDelaunayTriangulation, DelaunayTriangulation, HasMesh, LineIntersectionIterator,
-    Point2, Triangulation, validate_vertex,
+    ConstrainedDelaunayTriangulation, DelaunayTriangulation, HasMesh, HintGenerator,
+    LineIntersectionIterator, Point2, Triangulation, validate_vertex,
 };
 use std::alloc::Global;
 
 /// Vertices that are points and carry no further data, without constraints.
-pub type Plain = DelaunayTriangulation<Point2<i64>>;
+pub type Plain<L> = DelaunayTriangulation<Point2<i64>, (), (), (), L>;
 
 /// Those with constraints.
-pub type Constrained = ConstrainedDelaunayTriangulation<Point2<i64>>;
+pub type Constrained<L> = ConstrainedDelaunayTriangulation<Point2<i64>, (), (), (), L>;
 
 /// What the segment between two points meets, if they are in range.
 pub fn walk<DE, UE, F, T: HasMesh<Point2<i64>, DE, UE, F>>(
@@ -33,7 +33,12 @@ pub fn walk<DE, UE, F, T: HasMesh<Point2<i64>, DE, UE, F>>(
 }
 
 /// The same between two vertices, if they are there.
-pub fn walk_between(points: &Plain, from: u32, to: u32, alloc: Global) -> Option<Vec<Item>> {
+pub fn walk_between<L: HintGenerator<i64>>(
+    points: &Plain<L>,
+    from: u32,
+    to: u32,
+    alloc: Global,
+) -> Option<Vec<Item>> {
     let count = points.num_vertices();
     if from as usize >= count || to as usize >= count {
         return None;

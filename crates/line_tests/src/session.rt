@@ -8,7 +8,7 @@ use crate::points::{Constrained, Plain, walk, walk_between};
 use crate::sheets::{compare_conflicts, compare_walks};
 use exact_tests::ExactTests;
 use spade_delaunay::handles::FixedVertexHandle;
-use spade_delaunay::{HasMesh, InsertionError, Point2, Triangulation};
+use spade_delaunay::{HasMesh, HintGenerator, InsertionError, Point2, Triangulation};
 use std::alloc::Global;
 use std::io;
 use std::mem::replace;
@@ -16,9 +16,9 @@ use test_script::Call;
 
 /// A triangulation of either type.
 #[derive(Drop)]
-pub struct Session {
-    plain: Plain,
-    constrained: Constrained,
+pub struct Session<L: HintGenerator<i64>> {
+    plain: Plain<L>,
+    constrained: Constrained<L>,
     /// The points between which all segments are compared.
     sheet: Vec<Point2<i64>>,
 }
@@ -62,7 +62,11 @@ fn remove<T: Triangulation<Vertex = Point2<i64>>>(
 }
 
 // How many edges the path between two vertices has, which are constraints from now on.
-fn constrain(points: &mut Constrained, from: u32, to: u32) -> Option<usize> {
+fn constrain<L: HintGenerator<i64>>(
+    points: &mut Constrained<L>,
+    from: u32,
+    to: u32,
+) -> Option<usize> {
     let count = points.num_vertices();
     if from as usize >= count || to as usize >= count {
         return None;
@@ -75,7 +79,7 @@ fn constrain(points: &mut Constrained, from: u32, to: u32) -> Option<usize> {
     }
 }
 
-impl Session {
+impl<L: HintGenerator<i64>> Session<L> {
     pub fn new(alloc: Global) -> Self {
         Session {
             plain: Plain::new(alloc),
@@ -99,9 +103,9 @@ impl Session {
 }
 
 /// Makes the call that a line asks for, and prints what it gives.
-pub fn answer(
+pub fn answer<L: HintGenerator<i64>>(
     rt: &(impl Print + AllocGlobal),
-    session: &mut Session,
+    session: &mut Session<L>,
     call: &Call<'_>,
 ) -> io::Result<()> {
     let ([from, to, _], alloc) = (call.indexes(), rt.alloc());
@@ -166,9 +170,9 @@ fn read<
     }
 }
 
-fn find_conflicts(
+fn find_conflicts<L: HintGenerator<i64>>(
     rt: &(impl Print + AllocGlobal),
-    points: &Constrained,
+    points: &Constrained<L>,
     sheet: &[Point2<i64>],
     call: &Call<'_>,
 ) -> io::Result<()> {

@@ -5,7 +5,7 @@ use crate::drawing::Drawing;
 use crate::filter::is_met;
 use crate::points::{Constrained, walk};
 use crate::segment::Segment;
-use spade_delaunay::{HasMesh, Point2};
+use spade_delaunay::{HasMesh, HintGenerator, Point2};
 use std::alloc::Global;
 
 /// How many pairs of points there were, and at how many the filter says the same.
@@ -57,8 +57,8 @@ pub fn compare_walks<DE, UE, F, T: HasMesh<Point2<i64>, DE, UE, F>>(
 
 // Whether the conflicts between two points are the constraints that the filter finds, and are told
 // where there are some.
-fn conflicts_agree(
-    points: &Constrained,
+fn conflicts_agree<L: HintGenerator<i64>>(
+    points: &Constrained<L>,
     (drawing, constraints): (&Drawing, &[(u32, u32)]),
     segment: Segment,
     alloc: Global,
@@ -69,8 +69,8 @@ fn conflicts_agree(
 }
 
 /// Compares all conflicts over a triangulation that is drawn with its constraints.
-pub fn compare_conflicts(
-    points: &Constrained,
+pub fn compare_conflicts<L: HintGenerator<i64>>(
+    points: &Constrained<L>,
     drawn: (&Drawing, &[(u32, u32)]),
     sheet: &[Point2<i64>],
     alloc: Global,
