@@ -11,10 +11,11 @@ mod shapes;
 
 use script::answer;
 use session::Session;
+use spade_delaunay::{HintGenerator, LastUsedVertexHintGenerator};
 use std::io;
 use test_script::Call;
 
-fn run(rt: &HostRuntime, session: &mut Session) -> io::Result<()> {
+fn run<L: HintGenerator<i64>>(rt: &HostRuntime, session: &mut Session<L>) -> io::Result<()> {
     for line in rt.lines(rt.alloc()) {
         let line = line?;
         match Call::parse(line.as_str()) {
@@ -26,6 +27,6 @@ fn run(rt: &HostRuntime, session: &mut Session) -> io::Result<()> {
 }
 
 fn main(rt: HostRuntime) -> io::Result<()> {
-    let mut session = Session::new(rt.alloc());
+    let mut session: Session<LastUsedVertexHintGenerator> = Session::new(rt.alloc());
     run(&rt, &mut session)
 }

@@ -1,16 +1,16 @@
 //! A line of the script: the name of a call and up to four numbers, and what the call gives.
 
-use crate::comparisons::{Kind, asks_fewer, compare};
+use crate::comparisons::{asks_fewer, compare_circles, compare_rectangles};
 use crate::session::{Session, clear, insert, remove};
-use crate::shapes::{Shape, found};
-use spade_delaunay::{FloatTriangulation, Point2, Triangulation};
+use crate::shapes::{found_in_circle, found_in_rectangle};
+use spade_delaunay::{FloatTriangulation, HintGenerator, Point2, Triangulation};
 use std::io;
 use test_script::Call;
 
 /// Makes the call that a line asks for, and prints what it gives.
-pub fn answer(
+pub fn answer<L: HintGenerator<i64>>(
     rt: &(impl Print + AllocGlobal),
-    session: &mut Session,
+    session: &mut Session<L>,
     call: &Call<'_>,
 ) -> io::Result<()> {
     match call.name {
@@ -53,40 +53,16 @@ fn query<T: FloatTriangulation<Vertex = Point2<i64>>>(
     points: &T,
     call: &Call<'_>,
 ) -> io::Result<()> {
-    let [a, b, c, d, ..] = call.numbers;
+    let ([x, y, u, v, ..], alloc) = (call.numbers, rt.alloc());
+    let (first, second) = (Point2::new(x, y), Point2::new(u, v));
     match call.name {
-        "in_rectangle" => tell_found(rt, points, call, Shape::Rectangle((a, b), (c, d))),
-        "in_circle" => tell_found(rt, points, call, Shape::Circle((a, b), c)),
-        "compare" | "compare_constrained" => tell_comparison(rt, points, call),
-        "asks_fewer" => tell_asked(rt, points, call),
+        "in_rectangle" => call.tell(rt, &found_in_rectangle(points, first, second, alloc)),
+        "in_circle" => call.tell(rt, &found_in_circle(points, first, u, alloc)),
+        "compare" | "compare_constrained" => {
+            let rectangles = compare_rectangles(points, alloc);
+            call.tell(rt, &(rectangles, compare_circles(points, alloc)))
+        }
+        "asks_fewer" => call.tell(rt, &asks_fewer(points, first, second, alloc)),
         _ => call.tell(rt, &"no such call"),
     }
-}
-
-fn tell_found<T: FloatTriangulation<Vertex = Point2<i64>>>(
-    rt: &(impl Print + AllocGlobal),
-    points: &T,
-    call: &Call<'_>,
-    shape: Shape,
-) -> io::Result<()> {
-    call.tell(rt, &found(points, shape, rt.alloc()))
-}
-
-fn tell_asked<T: FloatTriangulation<Vertex = Point2<i64>>>(
-    rt: &(impl Print + AllocGlobal),
-    points: &T,
-    call: &Call<'_>,
-) -> io::Result<()> {
-    let [a, b, c, d, ..] = call.numbers;
-    call.tell(rt, &asks_fewer(points, (a, b), (c, d), rt.alloc()))
-}
-
-fn tell_comparison<T: FloatTriangulation<Vertex = Point2<i64>>>(
-    rt: &(impl Print + AllocGlobal),
-    points: &T,
-    call: &Call<'_>,
-) -> io::Result<()> {
-    let alloc = rt.alloc();
-    let rectangles = compare(points, Kind::Rectangles, alloc);
-    call.tell(rt, &(rectangles, compare(points, Kind::Circles, alloc)))
 }

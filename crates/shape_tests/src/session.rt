@@ -1,24 +1,27 @@
 //! The triangulations that the calls of a script work on.
 
 use exact_tests::ExactTests;
-use spade_delaunay::handles::{FixedDirectedEdgeHandle, FixedVertexHandle};
+use spade_delaunay::handles::{
+    FixedDirectedEdgeHandle, FixedUndirectedEdgeHandle, FixedVertexHandle,
+};
 use spade_delaunay::{
-    ConstrainedDelaunayTriangulation, DelaunayTriangulation, InsertionError, Point2, Triangulation,
+    ConstrainedDelaunayTriangulation, DelaunayTriangulation, HintGenerator, InsertionError, Point2,
+    Triangulation,
 };
 use std::alloc::Global;
 use std::mem::replace;
 
 /// Points of a triangulation without constraints.
-pub type Plain = DelaunayTriangulation<Point2<i64>>;
+pub type Plain<L> = DelaunayTriangulation<Point2<i64>, (), (), (), L>;
 
 /// Points of one with constraints.
-pub type Constrained = ConstrainedDelaunayTriangulation<Point2<i64>>;
+pub type Constrained<L> = ConstrainedDelaunayTriangulation<Point2<i64>, (), (), (), L>;
 
 /// One triangulation of either type, and the last path of constraints.
 #[derive(Drop)]
-pub struct Session {
-    pub plain: Plain,
-    pub constrained: Constrained,
+pub struct Session<L: HintGenerator<i64>> {
+    pub plain: Plain<L>,
+    pub constrained: Constrained<L>,
     path: Vec<FixedDirectedEdgeHandle>,
 }
 
@@ -51,7 +54,31 @@ pub fn remove<T: Triangulation<Vertex = Point2<i64>>>(
     }
 }
 
-impl Session {
+fn constrain<L: HintGenerator<i64>>(
+    points: &mut Constrained<L>,
+    from: u32,
+    to: u32,
+) -> Option<Vec<FixedDirectedEdgeHandle>> {
+    let count = points.num_vertices();
+    if from as usize >= count || to as usize >= count {
+        return None;
+    }
+    let from = FixedVertexHandle::from_index(from);
+    let to = FixedVertexHandle::from_index(to);
+    points.try_add_constraint(from, to, &ExactTests).ok()
+}
+
+fn release<L: HintGenerator<i64>>(
+    points: &mut Constrained<L>,
+    edge: FixedUndirectedEdgeHandle,
+) -> Option<bool> {
+    if edge.index() as usize >= points.num_undirected_edges() {
+        return None;
+    }
+    points.remove_constraint_edge(edge, &ExactTests).ok()
+}
+
+impl<L: HintGenerator<i64>> Session<L> {
     pub fn new(alloc: Global) -> Self {
         Session {
             plain: Plain::new(alloc),
@@ -75,31 +102,14 @@ impl Session {
 
     /// How many edges the path between two vertices has, which are constraints from now on.
     pub fn constrain(&mut self, from: u32, to: u32) -> Option<usize> {
-        let count = self.constrained.num_vertices();
-        if from as usize >= count || to as usize >= count {
-            return None;
-        }
-        let from = FixedVertexHandle::from_index(from);
-        let to = FixedVertexHandle::from_index(to);
-        match self.constrained.try_add_constraint(from, to, &ExactTests) {
-            Ok(path) => {
-                self.path = path;
-                Some(self.path.len())
-            }
-            Err(_) => None,
-        }
+        self.path = constrain(&mut self.constrained, from, to)?;
+        Some(self.path.len())
     }
 
     /// Releases the first edge of the path that was made last, and tells whether it was a
     /// constraint.
     pub fn release(&mut self) -> Option<bool> {
         let edge = self.path.first()?.as_undirected();
-        if edge.index() as usize >= self.constrained.num_undirected_edges() {
-            return None;
-        }
-        match self.constrained.remove_constraint_edge(edge, &ExactTests) {
-            Ok(released) => Some(released),
-            Err(_) => None,
-        }
+        release(&mut self.constrained, edge)
     }
 }
