@@ -1,7 +1,6 @@
 //! What the calls of a script work on, and what they give.
 
 use crate::conflicts::{conflicts, conflicts_between, intersects};
-use crate::drawing::{Drawing, constraints_of};
 use crate::elements::{counts, faces_of, locate};
 use crate::items::tell_items;
 use crate::points::{Constrained, Plain, walk, walk_between};
@@ -162,10 +161,7 @@ fn read<
         "faces" => call.tell(rt, &faces_of(points, alloc)?),
         "locate" => call.tell(rt, &locate(points, from)),
         "line" | "constrained_line" => tell_items(rt, call, walk(points, from, to, alloc)),
-        "agree" | "constrained_agree" => {
-            let drawing = Drawing::of(points, alloc)?;
-            call.tell(rt, &compare_walks(points, &drawing, sheet, alloc))
-        }
+        "agree" | "constrained_agree" => call.tell(rt, &compare_walks(points, sheet, alloc)?),
         _ => call.tell(rt, &"no such call"),
     }
 }
@@ -184,14 +180,7 @@ fn find_conflicts<L: HintGenerator<i64>>(
             let [from, to, _] = call.indexes();
             tell_items(rt, call, conflicts_between(points, from, to, alloc))
         }
-        "conflicts_agree" => {
-            let (drawing, constraints) = (
-                Drawing::of(points, alloc)?,
-                constraints_of(points, alloc)?,
-            );
-            let drawn = (&drawing, constraints.as_slice());
-            call.tell(rt, &compare_conflicts(points, drawn, sheet, alloc))
-        }
+        "conflicts_agree" => call.tell(rt, &compare_conflicts(points, sheet, alloc)?),
         _ => call.tell(rt, &intersects(points, from, to)),
     }
 }

@@ -1,12 +1,12 @@
 //! All segments between the points of a sheet.
 
 use crate::conflicts::{are_crossed, conflicts, intersects};
-use crate::drawing::Drawing;
+use crate::drawing::{Drawing, constraints_of};
 use crate::filter::is_met;
 use crate::points::{Constrained, walk};
 use crate::segment::Segment;
-use spade_delaunay::{HasMesh, HintGenerator, Point2};
-use std::alloc::Global;
+use spade_delaunay::{HasMesh, HintGenerator, Point2, Triangulation};
+use std::alloc::{AllocError, Global};
 
 /// How many pairs of points there were, and at how many the filter says the same.
 #[derive(Clone, Copy, Debug, Default)]
@@ -35,8 +35,8 @@ fn walk_agrees<DE, UE, F, T: HasMesh<Point2<i64>, DE, UE, F>>(
     Some(is_met(drawing, segment, items.as_slice()))
 }
 
-/// Compares all walks over a triangulation that is drawn.
-pub fn compare_walks<DE, UE, F, T: HasMesh<Point2<i64>, DE, UE, F>>(
+// Compares all walks over a triangulation that is drawn.
+fn compare_drawn<DE, UE, F, T: HasMesh<Point2<i64>, DE, UE, F>>(
     points: &T,
     drawing: &Drawing,
     sheet: &[Point2<i64>],
@@ -55,6 +55,15 @@ pub fn compare_walks<DE, UE, F, T: HasMesh<Point2<i64>, DE, UE, F>>(
     agreement
 }
 
+/// Compares all walks.
+pub fn compare_walks<
+    T: Triangulation<Vertex = Point2<i64>>
+        + HasMesh<Point2<i64>, T::DirectedEdge, T::UndirectedEdge, T::Face>,
+>(points: &T, sheet: &[Point2<i64>], alloc: Global) -> Result<Agreement, AllocError> {
+    let drawing = Drawing::of(points, alloc)?;
+    Ok(compare_drawn(points, &drawing, sheet, alloc))
+}
+
 // Whether the conflicts between two points are the constraints that the filter finds, and are told
 // where there are some.
 fn conflicts_agree<L: HintGenerator<i64>>(
@@ -68,8 +77,8 @@ fn conflicts_agree<L: HintGenerator<i64>>(
     Some(is_told && are_crossed(drawing, constraints, segment, items.as_slice()))
 }
 
-/// Compares all conflicts over a triangulation that is drawn with its constraints.
-pub fn compare_conflicts<L: HintGenerator<i64>>(
+// Compares all conflicts over a triangulation that is drawn with its constraints.
+fn compare_drawn_conflicts<L: HintGenerator<i64>>(
     points: &Constrained<L>,
     drawn: (&Drawing, &[(u32, u32)]),
     sheet: &[Point2<i64>],
@@ -86,4 +95,15 @@ pub fn compare_conflicts<L: HintGenerator<i64>>(
         }
     }
     agreement
+}
+
+/// Compares all conflicts.
+pub fn compare_conflicts<L: HintGenerator<i64>>(
+    points: &Constrained<L>,
+    sheet: &[Point2<i64>],
+    alloc: Global,
+) -> Result<Agreement, AllocError> {
+    let (drawing, constraints) = (Drawing::of(points, alloc)?, constraints_of(points, alloc)?);
+    let drawn = (&drawing, constraints.as_slice());
+    Ok(compare_drawn_conflicts(points, drawn, sheet, alloc))
 }
