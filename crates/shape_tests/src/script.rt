@@ -53,16 +53,53 @@ fn query<T: FloatTriangulation<Vertex = Point2<i64>>>(
     points: &T,
     call: &Call<'_>,
 ) -> io::Result<()> {
-    let ([x, y, u, v, ..], alloc) = (call.numbers, rt.alloc());
-    let (first, second) = (Point2::new(x, y), Point2::new(u, v));
     match call.name {
-        "in_rectangle" => call.tell(rt, &found_in_rectangle(points, first, second, alloc)),
-        "in_circle" => call.tell(rt, &found_in_circle(points, first, u, alloc)),
-        "compare" | "compare_constrained" => {
-            let rectangles = compare_rectangles(points, alloc);
-            call.tell(rt, &(rectangles, compare_circles(points, alloc)))
-        }
-        "asks_fewer" => call.tell(rt, &asks_fewer(points, first, second, alloc)),
+        "in_rectangle" => tell_rectangle(rt, points, call),
+        "in_circle" => tell_circle(rt, points, call),
+        "compare" | "compare_constrained" => tell_comparison(rt, points, call),
+        "asks_fewer" => tell_asked(rt, points, call),
         _ => call.tell(rt, &"no such call"),
     }
+}
+
+fn tell_rectangle<T: FloatTriangulation<Vertex = Point2<i64>>>(
+    rt: &(impl Print + AllocGlobal),
+    points: &T,
+    call: &Call<'_>,
+) -> io::Result<()> {
+    let [x, y, u, v, ..] = call.numbers;
+    let (lower, upper) = (Point2::new(x, y), Point2::new(u, v));
+    call.tell(rt, &found_in_rectangle(points, lower, upper, rt.alloc()))
+}
+
+fn tell_circle<T: FloatTriangulation<Vertex = Point2<i64>>>(
+    rt: &(impl Print + AllocGlobal),
+    points: &T,
+    call: &Call<'_>,
+) -> io::Result<()> {
+    let [x, y, radius_2, ..] = call.numbers;
+    call.tell(
+        rt,
+        &found_in_circle(points, Point2::new(x, y), radius_2, rt.alloc()),
+    )
+}
+
+fn tell_comparison<T: FloatTriangulation<Vertex = Point2<i64>>>(
+    rt: &(impl Print + AllocGlobal),
+    points: &T,
+    call: &Call<'_>,
+) -> io::Result<()> {
+    let alloc = rt.alloc();
+    let rectangles = compare_rectangles(points, alloc);
+    call.tell(rt, &(rectangles, compare_circles(points, alloc)))
+}
+
+fn tell_asked<T: FloatTriangulation<Vertex = Point2<i64>>>(
+    rt: &(impl Print + AllocGlobal),
+    points: &T,
+    call: &Call<'_>,
+) -> io::Result<()> {
+    let [x, y, u, v, ..] = call.numbers;
+    let (lower, upper) = (Point2::new(x, y), Point2::new(u, v));
+    call.tell(rt, &asks_fewer(points, lower, upper, rt.alloc()))
 }
