@@ -1,32 +1,54 @@
-//! Vertices that are inserted and removed beside constraints, by their positions, and constraints
-//! between vertices that are inserted for them.
+//! Vertices that are inserted and removed beside constraints, and constraints between vertices that
+//! are inserted for them.
 
 use crate::edits::Constrained;
 use exact_tests::ExactTests;
 use spade_delaunay::handles::FixedVertexHandle;
-use spade_delaunay::{ConstraintError, Point2, Triangulation, validate_vertex};
+use spade_delaunay::{ConstraintError, HintGenerator, Point2, Triangulation, validate_vertex};
 
 /// The index of a vertex, or nothing where it was refused.
-pub fn insert(points: &mut Constrained, x: i64, y: i64) -> Option<u32> {
-    match points.insert(Point2::new(x, y), &ExactTests) {
+pub fn insert<T: Triangulation<Vertex = Point2<i64>>>(
+    points: &mut T,
+    position: Point2<i64>,
+) -> Option<u32> {
+    match points.insert(position, &ExactTests) {
         Ok(vertex) => Some(vertex.index()),
         Err(_) => None,
     }
 }
 
 /// The same by a search from a vertex, which need not be there.
-pub fn insert_from(points: &mut Constrained, position: [i64; 2], hint: u32) -> Option<u32> {
-    let [x, y] = position;
+pub fn insert_from<T: Triangulation<Vertex = Point2<i64>>>(
+    points: &mut T,
+    position: Point2<i64>,
+    hint: u32,
+) -> Option<u32> {
     let hint = FixedVertexHandle::from_index(hint);
-    match points.insert_with_hint(Point2::new(x, y), hint, &ExactTests) {
+    match points.insert_with_hint(position, hint, &ExactTests) {
         Ok(vertex) => Some(vertex.index()),
         Err(_) => None,
     }
 }
 
+/// The position of a vertex that was removed.
+pub fn remove<T: Triangulation<Vertex = Point2<i64>>>(
+    points: &mut T,
+    index: u32,
+) -> Option<(i64, i64)> {
+    if index as usize >= points.num_vertices() {
+        return None;
+    }
+    match points.remove(FixedVertexHandle::from_index(index), &ExactTests) {
+        Ok(point) => Some((point.x, point.y)),
+        Err(_) => None,
+    }
+}
+
 /// The position of the vertex that was removed there, or nothing where none is.
-pub fn remove_at(points: &mut Constrained, x: i64, y: i64) -> Option<(i64, i64)> {
-    let position = Point2::new(x, y);
+pub fn remove_at<T: Triangulation<Vertex = Point2<i64>>>(
+    points: &mut T,
+    position: Point2<i64>,
+) -> Option<(i64, i64)> {
     if validate_vertex(&position).is_err() {
         return None;
     }
@@ -37,8 +59,8 @@ pub fn remove_at(points: &mut Constrained, x: i64, y: i64) -> Option<(i64, i64)>
 }
 
 /// What the first two of these positions give as the ends of a constraint.
-pub fn add_edge(
-    points: &mut Constrained,
+pub fn add_edge<L: HintGenerator<i64>>(
+    points: &mut Constrained<L>,
     ends: &[Point2<i64>],
 ) -> Option<Result<bool, ConstraintError>> {
     let [from, to] = *ends.first_chunk::<2>()?;
@@ -46,8 +68,8 @@ pub fn add_edge(
 }
 
 /// What a list of positions gives as a path of constraints, which may be closed.
-pub fn add_edges(
-    points: &mut Constrained,
+pub fn add_edges<L: HintGenerator<i64>>(
+    points: &mut Constrained<L>,
     positions: Vec<Point2<i64>>,
     closed: bool,
 ) -> Result<(), ConstraintError> {

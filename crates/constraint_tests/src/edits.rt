@@ -1,31 +1,21 @@
-//! Edits of constraints, and of vertices beside them, by indexes: nothing where an index names no
-//! element or memory was refused.
-ghost use Rattle.std.specs.Prelude.{◌<◌, length, IfSome};
+//! Edits of constraints, by the indexes of vertices: nothing where an index names no element or
+//! memory was refused.
 
 use exact_tests::ExactTests;
 use spade_delaunay::handles::{
-    FixedDirectedEdgeHandle, FixedUndirectedEdgeHandle, FixedVertexHandle,
+    DirectedEdgeHandle, FixedDirectedEdgeHandle, FixedUndirectedEdgeHandle, FixedVertexHandle,
 };
-use spade_delaunay::{ConstrainedDelaunayTriangulation, Point2, Triangulation};
+use spade_delaunay::{
+    CdtEdge, ConstrainedDelaunayTriangulation, HintGenerator, Point2, Triangulation,
+};
 use std::alloc::{AllocError, Global};
 use std::io;
 
 /// A triangulation of points with constraints.
-pub type Constrained = ConstrainedDelaunayTriangulation<Point2<i64>>;
-
-// A vertex, by its index.
-fn vertex(points: &Constrained, index: u32) -> Option<FixedVertexHandle>
-    ensures { IfSome result (λ v. v < length points.now.vertices) }
-{
-    if (index as usize) < points.num_vertices() {
-        Some(FixedVertexHandle::from_index(index))
-    } else {
-        None
-    }
-}
+pub type Constrained<L> = ConstrainedDelaunayTriangulation<Point2<i64>, (), (), (), L>;
 
 /// How many vertices, undirected edges, inner faces and constraints there are.
-pub fn counts(points: &Constrained) -> [usize; 4] {
+pub fn counts<L: HintGenerator<i64>>(points: &Constrained<L>) -> [usize; 4] {
     [
         points.num_vertices(),
         points.num_undirected_edges(),
@@ -35,26 +25,37 @@ pub fn counts(points: &Constrained) -> [usize; 4] {
 }
 
 /// Whether the segment between two vertices can become a path of constraints.
-pub fn can_add(points: &Constrained, from: u32, to: u32) -> Option<bool> {
-    let (from, to) = (vertex(points, from)?, vertex(points, to)?);
+pub fn can_add<L: HintGenerator<i64>>(points: &Constrained<L>, from: u32, to: u32) -> Option<bool> {
+    let count = points.num_vertices();
+    if from as usize >= count || to as usize >= count {
+        return None;
+    }
+    let from = FixedVertexHandle::from_index(from);
+    let to = FixedVertexHandle::from_index(to);
     Some(points.can_add_constraint(from, to, &ExactTests))
 }
 
 /// Whether a constraint was made, where none crosses.
-pub fn add(points: &mut Constrained, from: u32, to: u32) -> Option<bool> {
-    let (from, to) = (vertex(points, from)?, vertex(points, to)?);
+pub fn add<L: HintGenerator<i64>>(points: &mut Constrained<L>, from: u32, to: u32) -> Option<bool> {
+    let count = points.num_vertices();
+    if from as usize >= count || to as usize >= count {
+        return None;
+    }
+    let from = FixedVertexHandle::from_index(from);
+    let to = FixedVertexHandle::from_index(to);
     if !points.can_add_constraint(from, to, &ExactTests) {
         return None;
     }
-    match points.add_constraint(from, to, &ExactTests) {
-        Ok(made) => Some(made),
-        Err(_) => None,
-    }
+    points.add_constraint(from, to, &ExactTests).ok()
+}
+
+fn ends_of<V, DE, UE, F>(edge: &DirectedEdgeHandle<'_, V, DE, UE, F>) -> [u32; 2] {
+    [edge.from().fix().index(), edge.to().fix().index()]
 }
 
 // The vertices that edges start and end at, in their order.
-fn ends_of(
-    points: &Constrained,
+fn ends_of_all<T: Triangulation<Vertex = Point2<i64>>>(
+    points: &T,
     edges: &[FixedDirectedEdgeHandle],
     alloc: Global,
 ) -> Result<Vec<[u32; 2]>, AllocError> {
@@ -62,88 +63,89 @@ fn ends_of(
     for edge in edges {
         if (edge.index() as usize) < points.num_directed_edges() {
             points.recall_invariant();
-            let edge = points.directed_edge(*edge);
-            ends.push([edge.from().fix().index(), edge.to().fix().index()])?;
+            ends.push(ends_of(&points.directed_edge(*edge)))?;
         }
     }
     Ok(ends)
 }
 
 /// From where to where the edges of the path between two vertices go that became constraints.
-pub fn try_add(
-    points: &mut Constrained,
+pub fn try_add<L: HintGenerator<i64>>(
+    points: &mut Constrained<L>,
     from: u32,
     to: u32,
     alloc: Global,
 ) -> Option<Vec<[u32; 2]>> {
-    let (from, to) = (vertex(points, from)?, vertex(points, to)?);
-    match points.try_add_constraint(from, to, &ExactTests) {
-        Ok(edges) => ends_of(points, edges.as_slice(), alloc).ok(),
-        Err(_) => None,
+    let count = points.num_vertices();
+    if from as usize >= count || to as usize >= count {
+        return None;
     }
+    let from = FixedVertexHandle::from_index(from);
+    let to = FixedVertexHandle::from_index(to);
+    let edges = points.try_add_constraint(from, to, &ExactTests).ok()?;
+    ends_of_all(points, edges.as_slice(), alloc).ok()
 }
 
 /// Whether a constraint joins two vertices.
-pub fn exists(points: &Constrained, from: u32, to: u32) -> bool {
+pub fn exists<L: HintGenerator<i64>>(points: &Constrained<L>, from: u32, to: u32) -> bool {
     points.exists_constraint(
         FixedVertexHandle::from_index(from),
         FixedVertexHandle::from_index(to),
     )
 }
 
-// The edge that joins two vertices, by its index.
-fn edge(points: &Constrained, from: u32, to: u32) -> Option<FixedUndirectedEdgeHandle>
-    ensures { IfSome result (λ e. e < length points.now.undirected) }
-{
-    for index in 0..points.num_undirected_edges() {
-        let edge = FixedUndirectedEdgeHandle::from_index(u32::from(u16::try_from(index).ok()?));
-        points.recall_invariant();
-        let directed = points.directed_edge(edge.as_directed());
-        let (start, end) = (directed.from().fix().index(), directed.to().fix().index());
-        if (start, end) == (from, to) || (end, start) == (from, to) {
-            return Some(edge);
-        }
+// The edge that joins two vertices.
+fn edge<T: Triangulation<Vertex = Point2<i64>>>(
+    points: &T,
+    from: u32,
+    to: u32,
+) -> Option<FixedUndirectedEdgeHandle> {
+    if from as usize >= points.num_vertices() {
+        return None;
     }
-    None
+    let from = FixedVertexHandle::from_index(from);
+    match points.get_edge_from_neighbors(from, FixedVertexHandle::from_index(to)) {
+        Some(edge) => Some(edge.fix().as_undirected()),
+        None => None,
+    }
 }
 
 /// Whether the edge that joins two vertices is a constraint.
-pub fn is_constraint(points: &Constrained, from: u32, to: u32) -> Option<bool> {
+pub fn is_constraint<L: HintGenerator<i64>>(
+    points: &Constrained<L>,
+    from: u32,
+    to: u32,
+) -> Option<bool> {
     let edge = edge(points, from, to)?;
+    if edge.index() as usize >= points.num_undirected_edges() {
+        return None;
+    }
     Some(points.is_constraint_edge(edge))
 }
 
+/// Whether the edge that joins two vertices was a constraint, which is released.
+pub fn release<L: HintGenerator<i64>>(
+    points: &mut Constrained<L>,
+    from: u32,
+    to: u32,
+) -> Option<bool> {
+    let edge = edge(points, from, to)?;
+    if edge.index() as usize >= points.num_undirected_edges() {
+        return None;
+    }
+    points.remove_constraint_edge(edge, &ExactTests).ok()
+}
+
 /// Prints the ends of each constraint, the least first.
-pub fn print_constraints(rt: &impl Print, points: &Constrained) -> io::Result<()> {
-    for index in 0..points.num_undirected_edges() {
-        let Ok(index) = u16::try_from(index) else {
-            break;
-        };
-        let edge = FixedUndirectedEdgeHandle::from_index(u32::from(index));
-        points.recall_invariant();
-        if points.is_constraint_edge(edge) {
-            let directed = points.directed_edge(edge.as_directed());
-            let (start, end) = (directed.from().fix().index(), directed.to().fix().index());
+pub fn print_constraints<T: Triangulation<Vertex = Point2<i64>, UndirectedEdge = CdtEdge<()>>>(
+    rt: &impl Print,
+    points: &T,
+) -> io::Result<()> {
+    for edge in points.undirected_edges() {
+        if edge.data().is_constraint_edge() {
+            let [start, end] = ends_of(&edge.as_directed());
             println!(rt; "constraint {:?}", [start.min(end), start.max(end)])?;
         }
     }
     Ok(())
-}
-
-/// Whether the edge that joins two vertices was a constraint, which is released.
-pub fn release(points: &mut Constrained, from: u32, to: u32) -> Option<bool> {
-    let edge = edge(points, from, to)?;
-    match points.remove_constraint_edge(edge, &ExactTests) {
-        Ok(released) => Some(released),
-        Err(_) => None,
-    }
-}
-
-/// The position of a vertex that was removed.
-pub fn remove(points: &mut Constrained, index: u32) -> Option<(i64, i64)> {
-    let vertex = vertex(points, index)?;
-    match points.remove(vertex, &ExactTests) {
-        Ok(point) => Some((point.x, point.y)),
-        Err(_) => None,
-    }
 }

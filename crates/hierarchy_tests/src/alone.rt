@@ -35,15 +35,20 @@ fn tell_removal<L: HintGenerator<i64>>(
     }
 }
 
-// Prints the hints at three of the points.
-fn print_hints<L: HintGenerator<i64>>(rt: &impl Print, generator: &L) -> io::Result<()>
+// Prints a remark, and the hints at three of the points.
+fn print_hints<L: HintGenerator<i64>>(
+    rt: &impl Print,
+    remark: &str,
+    generator: &L,
+) -> io::Result<()>
     requires { IsAtMost InRange (L.holds generator.now) }
 {
+    println!(rt; "# {remark}")?;
     for (x, y) in [(-1, -1), (1, -1), (0, 0)] {
         let position = Point2::new(x, y);
         if validate_vertex(&position).is_ok() {
-            let hint = generator.get_hint(position, &ExactTests);
-            println!(rt; "{x} {y} > {}", hint.index())?;
+            let hint = generator.get_hint(position, &ExactTests).index();
+            println!(rt; "{x} {y} > {hint}")?;
         }
     }
     Ok(())
@@ -57,11 +62,9 @@ pub fn run<L: HintGenerator<i64>>(rt: &(impl Print + AllocGlobal)) -> io::Result
     tell(&mut told, 2, Point2::new(1, -1));
     tell(&mut told, 3, Point2::new(-1, 0));
     tell(&mut told, 4, Point2::new(0, 0));
-    println!(rt; "# told of five vertices")?;
-    print_hints(rt, &told)?;
+    print_hints(rt, "told of five vertices", &told)?;
     tell_removal(&mut told, 2, Point2::new(1, -1), Point2::new(0, 0));
-    println!(rt; "# told that the one at 1 -1 went")?;
-    print_hints(rt, &told)?;
+    print_hints(rt, "told that the one at 1 -1 went", &told)?;
     let points = [
         Point2::new(-1, -1),
         Point2::new(0, -1),
@@ -74,9 +77,7 @@ pub fn run<L: HintGenerator<i64>>(rt: &(impl Print + AllocGlobal)) -> io::Result
         &points,
         &ExactTests,
     );
-    println!(rt; "# made for the five")?;
-    print_hints(rt, &made)?;
+    print_hints(rt, "made for the five", &made)?;
     let copy = HintGenerator::<i64>::duplicate(&made);
-    println!(rt; "# its copy")?;
-    print_hints(rt, &copy)
+    print_hints(rt, "its copy", &copy)
 }

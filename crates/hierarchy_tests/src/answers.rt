@@ -2,13 +2,14 @@
 
 ghost use Rattle.std.specs.Prelude.{◌<◌};
 
-use crate::hints::{Hinted, distance_2, hint, right_and_wrong};
-use crate::script::{Call, index};
+use crate::hints::{hint, right_and_wrong};
 use exact_tests::ExactTests;
 use spade_delaunay::handles::{FaceHandle, FixedVertexHandle};
 use spade_delaunay::{
-    HintGenerator, InsertionError, Point2, PositionInTriangulation, Triangulation, validate_vertex,
+    InsertionError, Point2, PositionInTriangulation, Triangulation, validate_vertex,
 };
+use std::alloc::{AllocError, Global};
+use test_script::Call;
 
 const SIDE: u32 = 18;
 
@@ -32,7 +33,7 @@ pub enum Reply {
     Nothing,
 }
 
-fn insert<L: HintGenerator<i64>>(points: &mut Hinted<L>, x: i64, y: i64) -> Reply {
+fn insert<T: Triangulation<Vertex = Point2<i64>>>(points: &mut T, x: i64, y: i64) -> Reply {
     match points.insert(Point2::new(x, y), &ExactTests) {
         Ok(vertex) => Reply::Vertex(vertex.index()),
         Err(error) => Reply::Refused(error),
@@ -40,7 +41,7 @@ fn insert<L: HintGenerator<i64>>(points: &mut Hinted<L>, x: i64, y: i64) -> Repl
 }
 
 // The position of the vertex that goes.
-fn remove<L: HintGenerator<i64>>(points: &mut Hinted<L>, index: u32) -> Reply {
+fn remove<T: Triangulation<Vertex = Point2<i64>>>(points: &mut T, index: u32) -> Reply {
     if index as usize >= points.num_vertices() {
         return Reply::Nothing;
     }
@@ -51,41 +52,24 @@ fn remove<L: HintGenerator<i64>>(points: &mut Hinted<L>, index: u32) -> Reply {
 }
 
 // Inserts eighteen rows of eighteen points in a scattered order.
-fn fill<L: HintGenerator<i64>>(points: &mut Hinted<L>) -> Reply {
+fn fill<T: Triangulation<Vertex = Point2<i64>>>(points: &mut T) {
     for i in 0..SIDE * SIDE {
         let k = i * STRIDE % (SIDE * SIDE);
         insert(points, i64::from(k % SIDE), i64::from(k / SIDE));
     }
-    counts(points)
 }
 
 // Removes this many vertices, of scattered indexes.
-fn thin<L: HintGenerator<i64>>(points: &mut Hinted<L>, removals: u32) -> Reply {
+fn thin<T: Triangulation<Vertex = Point2<i64>>>(points: &mut T, removals: u32) {
     for i in 0..removals {
         let scattered = i.wrapping_mul(37) % 101;
         let count = u32::try_from(points.num_vertices()).unwrap_or(0);
         remove(points, scattered.checked_rem(count).unwrap_or(0));
     }
-    counts(points)
 }
 
-fn clear<L: HintGenerator<i64>>(points: &mut Hinted<L>) -> Reply {
-    points.clear();
-    counts(points)
-}
-
-// Goes on with a copy.
-fn copy<L: HintGenerator<i64>>(points: &mut Hinted<L>) -> Reply {
-    match points.try_clone() {
-        Ok(copy) => {
-            *points = copy;
-            counts(points)
-        }
-        Err(_) => Reply::Refused(InsertionError::OutOfMemory),
-    }
-}
-
-fn counts<L: HintGenerator<i64>>(points: &Hinted<L>) -> Reply {
+/// How many vertices, undirected edges and inner faces there are.
+pub fn counts<T: Triangulation<Vertex = Point2<i64>>>(points: &T) -> Reply {
     Reply::Counts(
         points.num_vertices(),
         points.num_undirected_edges(),
@@ -93,7 +77,7 @@ fn counts<L: HintGenerator<i64>>(points: &Hinted<L>) -> Reply {
     )
 }
 
-fn locate<L: HintGenerator<i64>>(points: &Hinted<L>, position: Point2<i64>) -> Reply {
+fn locate<T: Triangulation<Vertex = Point2<i64>>>(points: &T, position: Point2<i64>) -> Reply {
     if validate_vertex(&position).is_err() {
         return Reply::Nothing;
     }
@@ -106,73 +90,69 @@ fn locate<L: HintGenerator<i64>>(points: &Hinted<L>, position: Point2<i64>) -> R
     }
 }
 
-fn nearest<L: HintGenerator<i64>>(points: &Hinted<L>, position: Point2<i64>) -> Reply {
-    if validate_vertex(&position).is_err() {
-        return Reply::Nothing;
-    }
-    match points.nearest_neighbor(position, &ExactTests) {
-        Some(vertex) => Reply::Distance(distance_2(*vertex.data(), position)),
-        None => Reply::Nothing,
-    }
-}
-
-fn has_corner(face: FaceHandle<'_, Point2<i64>, (), (), ()>, corner: u32) -> bool
+fn corners_of<V, DE, UE, F>(face: FaceHandle<'_, V, DE, UE, F>) -> [u32; 3]
     requires { 0 < face.index }
 {
     let [a, b, c] = face.vertices();
-    a.fix().index() == corner || b.fix().index() == corner || c.fix().index() == corner
+    [a.fix().index(), b.fix().index(), c.fix().index()]
 }
 
 // Whether these three vertices are the corners of a face.
-fn is_face<L: HintGenerator<i64>>(points: &Hinted<L>, [a, b, c]: [u32; 3]) -> bool {
+fn is_face<T: Triangulation<Vertex = Point2<i64>>>(points: &T, [a, b, c]: [u32; 3]) -> bool {
     for face in points.inner_faces() {
-        if !face.is_outer() && has_corner(face, a) && has_corner(face, b) && has_corner(face, c) {
-            return true;
+        if !face.is_outer() {
+            let corners = corners_of(face);
+            if corners.contains(&a) && corners.contains(&b) && corners.contains(&c) {
+                return true;
+            }
         }
     }
     false
 }
 
-fn hint_at<L: HintGenerator<i64>>(points: &Hinted<L>, position: Point2<i64>) -> Reply {
+fn hint_at<T: Triangulation<Vertex = Point2<i64>>>(points: &T, position: Point2<i64>) -> Reply {
     match hint(points, position) {
         Some(vertex) => Reply::Hint(vertex),
         None => Reply::Nothing,
     }
 }
 
-fn hints<L: HintGenerator<i64>>(points: &Hinted<L>, factor: u32) -> Reply {
-    let (right, wrong) = right_and_wrong(points, factor);
-    Reply::Hints { right, wrong }
-}
-
-fn read<L: HintGenerator<i64>>(points: &Hinted<L>, factor: u32, call: &Call<'_>) -> Reply {
-    let [x, y, z] = call.numbers;
+fn read<T: Triangulation<Vertex = Point2<i64>>>(
+    points: &T,
+    factor: u32,
+    call: &Call<'_>,
+    alloc: Global,
+) -> Result<Reply, AllocError> {
+    let [x, y, ..] = call.numbers;
     let position = Point2::new(x, y);
-    match call.name {
+    Ok(match call.name {
         "counts" => counts(points),
         "locate" => locate(points, position),
-        "nearest" => nearest(points, position),
-        "face" => Reply::Is(is_face(points, [index(x), index(y), index(z)])),
+        "face" => Reply::Is(is_face(points, call.indexes())),
         "hint" => hint_at(points, position),
-        "hints" => hints(points, factor),
+        "hints" => {
+            let (right, wrong) = right_and_wrong(points, factor, alloc)?;
+            Reply::Hints { right, wrong }
+        }
         _ => Reply::Nothing,
-    }
+    })
 }
 
 /// What a call gives.
-pub fn answer<L: HintGenerator<i64>>(
-    points: &mut Hinted<L>,
+pub fn answer<T: Triangulation<Vertex = Point2<i64>>>(
+    points: &mut T,
     factor: u32,
     call: &Call<'_>,
-) -> Reply {
-    let [x, y, _] = call.numbers;
+    alloc: Global,
+) -> Result<Reply, AllocError> {
+    let ([x, y, ..], [index, ..]) = (call.numbers, call.indexes());
     match call.name {
-        "insert" => insert(points, x, y),
+        "insert" => return Ok(insert(points, x, y)),
+        "remove" => return Ok(remove(points, index)),
         "fill" => fill(points),
-        "remove" => remove(points, index(x)),
-        "thin" => thin(points, index(x)),
-        "clear" => clear(points),
-        "copy" => copy(points),
-        _ => read(points, factor, call),
+        "thin" => thin(points, index),
+        "clear" => points.clear(),
+        _ => return read(points, factor, call, alloc),
     }
+    Ok(counts(points))
 }

@@ -1,16 +1,14 @@
 //! The vertices of hints, against a look at each vertex.
 
 use exact_tests::ExactTests;
-use spade_delaunay::handles::FixedVertexHandle;
-use spade_delaunay::{
-    DelaunayTriangulation, HintGenerator, Point2, Triangulation, validate_vertex,
-};
-
-/// A triangulation with hints of this type.
-pub type Hinted<L> = DelaunayTriangulation<Point2<i64>, (), (), (), L>;
+use spade_delaunay::{HintGenerator, Point2, Triangulation, validate_vertex};
+use std::alloc::{AllocError, Global};
 
 /// The vertex that the generator gives for a position in range.
-pub fn hint<L: HintGenerator<i64>>(points: &Hinted<L>, position: Point2<i64>) -> Option<u32> {
+pub fn hint<T: Triangulation<Vertex = Point2<i64>>>(
+    points: &T,
+    position: Point2<i64>,
+) -> Option<u32> {
     if validate_vertex(&position).is_err() {
         return None;
     }
@@ -32,47 +30,60 @@ pub fn distance_2(a: Point2<i64>, b: Point2<i64>) -> i64 {
 
 // The squared distance to the nearest vertex that the first layer is to have: its index is a
 // multiple of the factor.
-fn distance_to_layer<L: HintGenerator<i64>>(
-    points: &Hinted<L>,
-    factor: u32,
-    position: Point2<i64>,
-) -> i64 {
+fn distance_to_layer(vertices: &[Point2<i64>], factor: u32, position: Point2<i64>) -> i64 {
     let mut least = i64::MAX;
-    for vertex in points.vertices() {
-        if vertex.fix().index().checked_rem(factor) == Some(0) {
-            least = least.min(distance_2(*vertex.data(), position));
+    let mut index = 0u32;
+    for vertex in vertices {
+        if index.checked_rem(factor) == Some(0) {
+            least = least.min(distance_2(*vertex, position));
         }
+        index = index.wrapping_add(1);
     }
     least
 }
 
-// Whether the hint is a vertex of the first layer that none of it is nearer than, or 0 where there
-// is no layer.
-fn is_right<L: HintGenerator<i64>>(points: &Hinted<L>, factor: u32, position: Point2<i64>) -> bool {
-    let Some(hint) = hint(points, position) else {
-        return false;
-    };
-    if factor < 2 || points.num_vertices() == 0 {
+// Whether the hint for a position is a vertex of the first layer that none of it is nearer than,
+// or 0 where there is no layer.
+fn is_right(vertices: &[Point2<i64>], factor: u32, position: Point2<i64>, hint: u32) -> bool {
+    if factor < 2 {
         return hint == 0;
     }
-    match points.get_vertex(FixedVertexHandle::from_index(hint)) {
+    match vertices.get(hint as usize) {
         Some(vertex) => {
-            let distance = distance_2(*vertex.data(), position);
-            hint % factor == 0 && distance == distance_to_layer(points, factor, position)
+            let distance = distance_2(*vertex, position);
+            hint % factor == 0 && distance == distance_to_layer(vertices, factor, position)
         }
         None => false,
     }
 }
 
-/// At how many vertices the hint is as it is to be, and at how many it is not.
-pub fn right_and_wrong<L: HintGenerator<i64>>(points: &Hinted<L>, factor: u32) -> (u64, u64) {
-    let (mut right, mut wrong): (u64, u64) = (0, 0);
+// The positions of the vertices, by rising index.
+fn positions_of<T: Triangulation<Vertex = Point2<i64>>>(
+    points: &T,
+    alloc: Global,
+) -> Result<Vec<Point2<i64>>, AllocError> {
+    let mut positions = Vec::new(alloc);
     for vertex in points.vertices() {
-        if is_right(points, factor, *vertex.data()) {
-            right = right.saturating_add(1);
-        } else {
-            wrong = wrong.saturating_add(1);
+        positions.push(*vertex.data())?;
+    }
+    Ok(positions)
+}
+
+/// At how many vertices the hint is as it is to be, and at how many it is not.
+pub fn right_and_wrong<T: Triangulation<Vertex = Point2<i64>>>(
+    points: &T,
+    factor: u32,
+    alloc: Global,
+) -> Result<(u64, u64), AllocError> {
+    let vertices = positions_of(points, alloc)?;
+    let (mut right, mut wrong): (u64, u64) = (0, 0);
+    for position in &vertices {
+        match hint(points, *position) {
+            Some(hint) if is_right(vertices.as_slice(), factor, *position, hint) => {
+                right = right.saturating_add(1);
+            }
+            _ => wrong = wrong.saturating_add(1),
         }
     }
-    (right, wrong)
+    Ok((right, wrong))
 }

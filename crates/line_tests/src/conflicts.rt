@@ -1,7 +1,4 @@
 //! The constraints that a segment crosses, and a look at each constraint.
-ghost use Rattle.std.specs.Prelude.{◌<◌, length};
-ghost use Rattle.plane.specs.Tests.{InRange};
-ghost use Rattle.delaunay_core.specs.Place.{place_of};
 
 use crate::drawing::Drawing;
 use crate::filter::is_in_order;
@@ -10,19 +7,21 @@ use crate::points::Constrained;
 use crate::segment::Segment;
 use exact_tests::ExactTests;
 use spade_delaunay::handles::FixedVertexHandle;
-use spade_delaunay::{ConflictingEdgesIterator, Point2};
-use std::alloc::{AllocError, Global};
+use spade_delaunay::{
+    ConflictingEdgesIterator, HintGenerator, Point2, Triangulation, validate_vertex,
+};
+use std::alloc::Global;
 
-/// The constraints that the segment between two points in range crosses.
-pub fn conflicts(
-    points: &Constrained,
+/// The constraints that the segment between two points crosses, if they are in range.
+pub fn conflicts<L: HintGenerator<i64>>(
+    points: &Constrained<L>,
     from: Point2<i64>,
     to: Point2<i64>,
     alloc: Global,
-) -> Result<Vec<Item>, AllocError>
-    requires from { InRange (place_of (λ z. z) from) }
-    requires to { InRange (place_of (λ z. z) to) }
-{
+) -> Option<Vec<Item>> {
+    if validate_vertex(&from).is_err() || validate_vertex(&to).is_err() {
+        return None;
+    }
     let mut items = Vec::new(alloc);
     // Taken apart and put together again: the borrow checker does not know the walk's type else.
     let ConflictingEdgesIterator { line, marks } = points.get_conflicting_edges_between_points(
@@ -32,21 +31,24 @@ pub fn conflicts(
     );
     for edge in (ConflictingEdgesIterator { line, marks }) {
         let (from, to) = ends_of(&edge);
-        items.push(Item::Edge(from, to))?;
+        items.push(Item::Edge(from, to)).ok()?;
     }
-    Ok(items)
+    Some(items)
 }
 
-/// The same between two vertices.
-pub fn conflicts_between(
-    points: &Constrained,
-    from: FixedVertexHandle,
-    to: FixedVertexHandle,
+/// The same between two vertices, if they are there.
+pub fn conflicts_between<L: HintGenerator<i64>>(
+    points: &Constrained<L>,
+    from: u32,
+    to: u32,
     alloc: Global,
-) -> Result<Vec<Item>, AllocError>
-    requires from { from < length points.now.vertices }
-    requires to { to < length points.now.vertices }
-{
+) -> Option<Vec<Item>> {
+    let count = points.num_vertices();
+    if from as usize >= count || to as usize >= count {
+        return None;
+    }
+    let from = FixedVertexHandle::from_index(from);
+    let to = FixedVertexHandle::from_index(to);
     let mut items = Vec::new(alloc);
     let ConflictingEdgesIterator { line, marks } = points.get_conflicting_edges_between_vertices(
         from,
@@ -55,17 +57,21 @@ pub fn conflicts_between(
     );
     for edge in (ConflictingEdgesIterator { line, marks }) {
         let (from, to) = ends_of(&edge);
-        items.push(Item::Edge(from, to))?;
+        items.push(Item::Edge(from, to)).ok()?;
     }
-    Ok(items)
+    Some(items)
 }
 
-/// Whether the segment between two points in range crosses a constraint.
-pub fn intersects(points: &Constrained, from: Point2<i64>, to: Point2<i64>) -> bool
-    requires from { InRange (place_of (λ z. z) from) }
-    requires to { InRange (place_of (λ z. z) to) }
-{
-    points.intersects_constraint(from, to, &ExactTests)
+/// Whether the segment between two points crosses a constraint, if they are in range.
+pub fn intersects<L: HintGenerator<i64>>(
+    points: &Constrained<L>,
+    from: Point2<i64>,
+    to: Point2<i64>,
+) -> Option<bool> {
+    if validate_vertex(&from).is_err() || validate_vertex(&to).is_err() {
+        return None;
+    }
+    Some(points.intersects_constraint(from, to, &ExactTests))
 }
 
 fn is_crossed(drawing: &Drawing, segment: Segment, (from, to): (u32, u32)) -> bool {

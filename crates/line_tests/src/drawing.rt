@@ -1,10 +1,8 @@
 //! A triangulation drawn: where its vertices are, and which of them its edges join.
 
 use crate::items::ends_of;
-use crate::points::Constrained;
 use crate::segment::Segment;
-use spade_delaunay::handles::FixedUndirectedEdgeHandle;
-use spade_delaunay::{Point2, Triangulation};
+use spade_delaunay::{CdtEdge, Point2, Triangulation};
 use std::alloc::{AllocError, Global};
 
 /// The vertices by their positions, and the directed edges by their ends, each by rising index.
@@ -43,26 +41,15 @@ impl Drawing {
     }
 }
 
-// The ends of an edge, if it is a constraint.
-fn constraint_at(points: &Constrained, index: usize) -> Option<(u32, u32)> {
-    if index >= points.num_undirected_edges() {
-        return None;
-    }
-    let edge = FixedUndirectedEdgeHandle::from_index(u32::from(u16::try_from(index).ok()?));
-    points.recall_invariant();
-    if points.is_constraint_edge(edge) {
-        Some(ends_of(&points.directed_edge(edge.as_directed())))
-    } else {
-        None
-    }
-}
-
 /// The ends of each constraint.
-pub fn constraints_of(points: &Constrained, alloc: Global) -> Result<Vec<(u32, u32)>, AllocError> {
+pub fn constraints_of<T: Triangulation<Vertex = Point2<i64>, UndirectedEdge = CdtEdge<()>>>(
+    points: &T,
+    alloc: Global,
+) -> Result<Vec<(u32, u32)>, AllocError> {
     let mut constraints = Vec::new(alloc);
-    for index in 0..points.num_undirected_edges() {
-        if let Some(ends) = constraint_at(points, index) {
-            constraints.push(ends)?;
+    for edge in points.undirected_edges() {
+        if edge.data().is_constraint_edge() {
+            constraints.push(ends_of(&edge.as_directed()))?;
         }
     }
     Ok(constraints)

@@ -1,13 +1,11 @@
 //! Counts, faces and locations, by the indexes of vertices.
 ghost use Rattle.std.specs.Prelude.{◌<◌};
-ghost use Rattle.plane.specs.Tests.{InRange};
-ghost use Rattle.delaunay_core.specs.Place.{place_of};
 ghost use Rattle.delaunay_edit.specs.Elements.{HasElement};
 
 use crate::items::ends_of;
 use exact_tests::ExactTests;
 use spade_delaunay::handles::FaceHandle;
-use spade_delaunay::{Point2, PositionInTriangulation, Triangulation};
+use spade_delaunay::{Point2, PositionInTriangulation, Triangulation, validate_vertex};
 use std::alloc::{AllocError, Global};
 
 /// The corners of a face, the least first.
@@ -80,9 +78,13 @@ fn named<T: Triangulation<Vertex = Point2<i64>>>(
     }
 }
 
-/// The location of a point in range.
-pub fn locate<T: Triangulation<Vertex = Point2<i64>>>(points: &T, point: Point2<i64>) -> Place
-    requires { InRange (place_of (λ z. z) point) }
-{
-    named(points, points.locate(point, &ExactTests))
+/// The location of a point, if it is in range.
+pub fn locate<T: Triangulation<Vertex = Point2<i64>>>(
+    points: &T,
+    point: Point2<i64>,
+) -> Option<Place> {
+    if validate_vertex(&point).is_err() {
+        return None;
+    }
+    Some(named(points, points.locate(point, &ExactTests)))
 }

@@ -15,17 +15,22 @@ mod session;
 mod sheets;
 
 use session::{Session, answer};
+use spade_delaunay::{HintGenerator, LastUsedVertexHintGenerator};
 use std::io;
 use test_script::Call;
 
-fn main(rt: HostRuntime) -> io::Result<()> {
-    let mut session = Session::new(rt.alloc());
+fn run<L: HintGenerator<i64>>(rt: &HostRuntime, session: &mut Session<L>) -> io::Result<()> {
     for line in rt.lines(rt.alloc()) {
         let line = line?;
         match Call::parse(line.as_str()) {
-            Some(call) => answer(&rt, &mut session, &call)?,
+            Some(call) => answer(rt, session, &call)?,
             None => println!(rt; "{line}")?,
         }
     }
     Ok(())
+}
+
+fn main(rt: HostRuntime) -> io::Result<()> {
+    let mut session: Session<LastUsedVertexHintGenerator> = Session::new(rt.alloc());
+    run(&rt, &mut session)
 }

@@ -1,13 +1,13 @@
 //! What the calls of a script work on, and what they give.
 
 use crate::conflicts::{conflicts, conflicts_between, intersects};
-use crate::drawing::Drawing;
-use crate::elements::{Place, counts, faces_of, locate};
-use crate::items::{Item, tell_items};
-use crate::points::{Constrained, Plain, Points, point, vertex, walk, walk_between};
+use crate::elements::{counts, faces_of, locate};
+use crate::items::tell_items;
+use crate::points::{Constrained, Plain, walk, walk_between};
 use crate::sheets::{compare_conflicts, compare_walks};
 use exact_tests::ExactTests;
-use spade_delaunay::{EdgeData, InsertionError, Point2, Triangulation};
+use spade_delaunay::handles::FixedVertexHandle;
+use spade_delaunay::{HasMesh, HintGenerator, InsertionError, Point2, Triangulation};
 use std::alloc::Global;
 use std::io;
 use std::mem::replace;
@@ -15,9 +15,9 @@ use test_script::Call;
 
 /// A triangulation of either type.
 #[derive(Drop)]
-pub struct Session {
-    plain: Plain,
-    constrained: Constrained,
+pub struct Session<L: HintGenerator<i64>> {
+    plain: Plain<L>,
+    constrained: Constrained<L>,
     /// The points between which all segments are compared.
     sheet: Vec<Point2<i64>>,
 }
@@ -49,56 +49,36 @@ fn insert_row<T: Triangulation<Vertex = Point2<i64>>>(points: &mut T, from: i64,
 // The position of the vertex that goes.
 fn remove<T: Triangulation<Vertex = Point2<i64>>>(
     points: &mut T,
-    index: i64,
+    index: u32,
 ) -> Option<(i64, i64)> {
-    let vertex = vertex(points, index)?;
-    let position = points.remove(vertex, &ExactTests).ok()?;
-    Some((position.x, position.y))
+    if index as usize >= points.num_vertices() {
+        return None;
+    }
+    match points.remove(FixedVertexHandle::from_index(index), &ExactTests) {
+        Ok(position) => Some((position.x, position.y)),
+        Err(_) => None,
+    }
 }
 
 // How many edges the path between two vertices has, which are constraints from now on.
-fn constrain(points: &mut Constrained, from: i64, to: i64) -> Option<usize> {
-    let (from, to) = (vertex(points, from)?, vertex(points, to)?);
+fn constrain<L: HintGenerator<i64>>(
+    points: &mut Constrained<L>,
+    from: u32,
+    to: u32,
+) -> Option<usize> {
+    let count = points.num_vertices();
+    if from as usize >= count || to as usize >= count {
+        return None;
+    }
+    let from = FixedVertexHandle::from_index(from);
+    let to = FixedVertexHandle::from_index(to);
     match points.try_add_constraint(from, to, &ExactTests) {
         Ok(edges) => Some(edges.len()),
         Err(_) => None,
     }
 }
 
-fn line<UE, M: EdgeData<UE>>(
-    points: &Points<UE, M>,
-    [x, y, u, v, ..]: [i64; 8],
-    alloc: Global,
-) -> Option<Vec<Item>> {
-    walk(points, point(x, y)?, point(u, v)?, alloc).ok()
-}
-
-fn line_of_handles(points: &Plain, from: i64, to: i64, alloc: Global) -> Option<Vec<Item>> {
-    walk_between(points, vertex(points, from)?, vertex(points, to)?, alloc).ok()
-}
-
-fn crossed(points: &Constrained, [x, y, u, v, ..]: [i64; 8], alloc: Global) -> Option<Vec<Item>> {
-    conflicts(points, point(x, y)?, point(u, v)?, alloc).ok()
-}
-
-fn crossed_of_handles(
-    points: &Constrained,
-    from: i64,
-    to: i64,
-    alloc: Global,
-) -> Option<Vec<Item>> {
-    conflicts_between(points, vertex(points, from)?, vertex(points, to)?, alloc).ok()
-}
-
-fn is_crossing(points: &Constrained, [x, y, u, v, ..]: [i64; 8]) -> Option<bool> {
-    Some(intersects(points, point(x, y)?, point(u, v)?))
-}
-
-fn located<T: Triangulation<Vertex = Point2<i64>>>(points: &T, x: i64, y: i64) -> Option<Place> {
-    Some(locate(points, point(x, y)?))
-}
-
-impl Session {
+impl<L: HintGenerator<i64>> Session<L> {
     pub fn new(alloc: Global) -> Self {
         Session {
             plain: Plain::new(alloc),
@@ -122,98 +102,85 @@ impl Session {
 }
 
 /// Makes the call that a line asks for, and prints what it gives.
-pub fn answer(
+pub fn answer<L: HintGenerator<i64>>(
     rt: &(impl Print + AllocGlobal),
-    session: &mut Session,
+    session: &mut Session<L>,
     call: &Call<'_>,
 ) -> io::Result<()> {
-    let [x, y, ..] = call.numbers;
+    let ([from, to, _], alloc) = (call.indexes(), rt.alloc());
     match call.name {
         "sheet" => {
-            session.sheet = call.positions(rt.alloc())?;
+            session.sheet = call.positions(alloc)?;
             call.tell(rt, &session.sheet.len())
         }
-        "from_delaunay" => call.tell(rt, &session.add_constraints(rt.alloc())),
-        "constrain" => call.tell(rt, &constrain(&mut session.constrained, x, y)),
-        "clear" | "insert" | "insert_row" | "remove" => edit(rt, &mut session.plain, call),
-        "counts" | "faces" | "locate" => read(rt, &session.plain, call),
-        _ => walk_along(rt, session, call),
+        "from_delaunay" => call.tell(rt, &session.add_constraints(alloc)),
+        "constrain" => call.tell(rt, &constrain(&mut session.constrained, from, to)),
+        "constrained_line" | "constrained_agree" => {
+            read(rt, &session.constrained, session.sheet.as_slice(), call)
+        }
+        "conflicts" | "conflicts_of_handles" | "conflicts_agree" | "intersects_constraint" => {
+            find_conflicts(rt, &session.constrained, session.sheet.as_slice(), call)
+        }
+        "line_of_handles" => { tell_items(rt, call, walk_between(&session.plain, from, to, alloc)) }
+        _ => edit(rt, &mut session.plain, session.sheet.as_slice(), call),
     }
 }
 
-fn edit<T: Triangulation<Vertex = Point2<i64>>>(
+fn edit<
+    T: Triangulation<Vertex = Point2<i64>>
+        + HasMesh<Point2<i64>, T::DirectedEdge, T::UndirectedEdge, T::Face>,
+>(
     rt: &(impl Print + AllocGlobal),
     points: &mut T,
+    sheet: &[Point2<i64>],
     call: &Call<'_>,
 ) -> io::Result<()> {
-    let [x, y, ..] = call.numbers;
+    let ([x, y, ..], [index, ..]) = (call.numbers, call.indexes());
     match call.name {
         "clear" => call.tell(rt, &clear(points)),
         "insert" => call.tell(rt, &insert(points, x, y)),
         "insert_row" => call.tell(rt, &insert_row(points, x, y)),
-        _ => call.tell(rt, &remove(points, x)),
+        "remove" => call.tell(rt, &remove(points, index)),
+        _ => read(rt, points, sheet, call),
     }
 }
 
-fn read<T: Triangulation<Vertex = Point2<i64>>>(
+fn read<
+    T: Triangulation<Vertex = Point2<i64>>
+        + HasMesh<Point2<i64>, T::DirectedEdge, T::UndirectedEdge, T::Face>,
+>(
     rt: &(impl Print + AllocGlobal),
     points: &T,
+    sheet: &[Point2<i64>],
     call: &Call<'_>,
 ) -> io::Result<()> {
-    let [x, y, ..] = call.numbers;
+    let ([x, y, u, v, ..], alloc) = (call.numbers, rt.alloc());
+    let (from, to) = (Point2::new(x, y), Point2::new(u, v));
     match call.name {
         "counts" => call.tell(rt, &counts(points)),
-        "faces" => call.tell(rt, &faces_of(points, rt.alloc())?),
-        _ => call.tell(rt, &located(points, x, y)),
-    }
-}
-
-fn walk_along(
-    rt: &(impl Print + AllocGlobal),
-    session: &Session,
-    call: &Call<'_>,
-) -> io::Result<()> {
-    let ([x, y, ..], points, alloc) = (call.numbers, &session.plain, rt.alloc());
-    let sheet = session.sheet.as_slice();
-    match call.name {
-        "line" => tell_items(rt, call, line(points, call.numbers, alloc)),
-        "line_of_handles" => tell_items(rt, call, line_of_handles(points, x, y, alloc)),
-        "agree" => {
-            let drawing = Drawing::of(points, alloc)?;
-            call.tell(rt, &compare_walks(points, &drawing, sheet, alloc))
-        }
-        _ => walk_past_constraints(rt, session, call),
-    }
-}
-
-fn walk_past_constraints(
-    rt: &(impl Print + AllocGlobal),
-    session: &Session,
-    call: &Call<'_>,
-) -> io::Result<()> {
-    let (points, alloc) = (&session.constrained, rt.alloc());
-    match call.name {
-        "constrained_line" => tell_items(rt, call, line(points, call.numbers, alloc)),
-        "constrained_agree" => {
-            let (drawing, sheet) = (Drawing::of(points, alloc)?, session.sheet.as_slice());
-            call.tell(rt, &compare_walks(points, &drawing, sheet, alloc))
-        }
-        _ => find_conflicts(rt, session, call),
-    }
-}
-
-fn find_conflicts(
-    rt: &(impl Print + AllocGlobal),
-    session: &Session,
-    call: &Call<'_>,
-) -> io::Result<()> {
-    let ([x, y, ..], points, alloc) = (call.numbers, &session.constrained, rt.alloc());
-    let sheet = session.sheet.as_slice();
-    match call.name {
-        "conflicts" => tell_items(rt, call, crossed(points, call.numbers, alloc)),
-        "conflicts_of_handles" => tell_items(rt, call, crossed_of_handles(points, x, y, alloc)),
-        "conflicts_agree" => call.tell(rt, &compare_conflicts(points, sheet, alloc)?),
-        "intersects_constraint" => call.tell(rt, &is_crossing(points, call.numbers)),
+        "faces" => call.tell(rt, &faces_of(points, alloc)?),
+        "locate" => call.tell(rt, &locate(points, from)),
+        "line" | "constrained_line" => tell_items(rt, call, walk(points, from, to, alloc)),
+        "agree" | "constrained_agree" => call.tell(rt, &compare_walks(points, sheet, alloc)?),
         _ => call.tell(rt, &"no such call"),
+    }
+}
+
+fn find_conflicts<L: HintGenerator<i64>>(
+    rt: &(impl Print + AllocGlobal),
+    points: &Constrained<L>,
+    sheet: &[Point2<i64>],
+    call: &Call<'_>,
+) -> io::Result<()> {
+    let ([x, y, u, v, ..], alloc) = (call.numbers, rt.alloc());
+    let (from, to) = (Point2::new(x, y), Point2::new(u, v));
+    match call.name {
+        "conflicts" => tell_items(rt, call, conflicts(points, from, to, alloc)),
+        "conflicts_of_handles" => {
+            let [from, to, _] = call.indexes();
+            tell_items(rt, call, conflicts_between(points, from, to, alloc))
+        }
+        "conflicts_agree" => call.tell(rt, &compare_conflicts(points, sheet, alloc)?),
+        _ => call.tell(rt, &intersects(points, from, to)),
     }
 }

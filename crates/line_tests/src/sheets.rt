@@ -3,9 +3,9 @@
 use crate::conflicts::{are_crossed, conflicts, intersects};
 use crate::drawing::{Drawing, constraints_of};
 use crate::filter::is_met;
-use crate::points::{Constrained, Points, point, walk};
+use crate::points::{Constrained, walk};
 use crate::segment::Segment;
-use spade_delaunay::{EdgeData, Point2};
+use spade_delaunay::{HasMesh, HintGenerator, Point2, Triangulation};
 use std::alloc::{AllocError, Global};
 
 /// How many pairs of points there were, and at how many the filter says the same.
@@ -25,21 +25,19 @@ impl Agreement {
 }
 
 // Whether the walk between two points gives just what the filter does.
-fn walk_agrees<UE, M: EdgeData<UE>>(
-    points: &Points<UE, M>,
+fn walk_agrees<DE, UE, F, T: HasMesh<Point2<i64>, DE, UE, F>>(
+    points: &T,
     drawing: &Drawing,
     segment: Segment,
     alloc: Global,
 ) -> Option<bool> {
-    let from = point(segment.from.x, segment.from.y)?;
-    let to = point(segment.to.x, segment.to.y)?;
-    let items = walk(points, from, to, alloc).ok()?;
+    let items = walk(points, segment.from, segment.to, alloc)?;
     Some(is_met(drawing, segment, items.as_slice()))
 }
 
-/// Compares all walks over a triangulation that is drawn.
-pub fn compare_walks<UE, M: EdgeData<UE>>(
-    points: &Points<UE, M>,
+// Compares all walks over a triangulation that is drawn.
+fn compare_drawn<DE, UE, F, T: HasMesh<Point2<i64>, DE, UE, F>>(
+    points: &T,
     drawing: &Drawing,
     sheet: &[Point2<i64>],
     alloc: Global,
@@ -57,29 +55,35 @@ pub fn compare_walks<UE, M: EdgeData<UE>>(
     agreement
 }
 
+/// Compares all walks.
+pub fn compare_walks<
+    T: Triangulation<Vertex = Point2<i64>>
+        + HasMesh<Point2<i64>, T::DirectedEdge, T::UndirectedEdge, T::Face>,
+>(points: &T, sheet: &[Point2<i64>], alloc: Global) -> Result<Agreement, AllocError> {
+    let drawing = Drawing::of(points, alloc)?;
+    Ok(compare_drawn(points, &drawing, sheet, alloc))
+}
+
 // Whether the conflicts between two points are the constraints that the filter finds, and are told
 // where there are some.
-fn conflicts_agree(
-    points: &Constrained,
+fn conflicts_agree<L: HintGenerator<i64>>(
+    points: &Constrained<L>,
     (drawing, constraints): (&Drawing, &[(u32, u32)]),
     segment: Segment,
     alloc: Global,
 ) -> Option<bool> {
-    let from = point(segment.from.x, segment.from.y)?;
-    let to = point(segment.to.x, segment.to.y)?;
-    let items = conflicts(points, from, to, alloc).ok()?;
-    let is_told = intersects(points, from, to) != items.is_empty();
+    let items = conflicts(points, segment.from, segment.to, alloc)?;
+    let is_told = intersects(points, segment.from, segment.to)? != items.is_empty();
     Some(is_told && are_crossed(drawing, constraints, segment, items.as_slice()))
 }
 
-/// Compares all conflicts.
-pub fn compare_conflicts(
-    points: &Constrained,
+// Compares all conflicts over a triangulation that is drawn with its constraints.
+fn compare_drawn_conflicts<L: HintGenerator<i64>>(
+    points: &Constrained<L>,
+    drawn: (&Drawing, &[(u32, u32)]),
     sheet: &[Point2<i64>],
     alloc: Global,
-) -> Result<Agreement, AllocError> {
-    let (drawing, constraints) = (Drawing::of(points, alloc)?, constraints_of(points, alloc)?);
-    let drawn = (&drawing, constraints.as_slice());
+) -> Agreement {
     let mut agreement = Agreement::default();
     for from in sheet {
         for to in sheet {
@@ -90,5 +94,16 @@ pub fn compare_conflicts(
             agreement.add(conflicts_agree(points, drawn, segment, alloc));
         }
     }
-    Ok(agreement)
+    agreement
+}
+
+/// Compares all conflicts.
+pub fn compare_conflicts<L: HintGenerator<i64>>(
+    points: &Constrained<L>,
+    sheet: &[Point2<i64>],
+    alloc: Global,
+) -> Result<Agreement, AllocError> {
+    let (drawing, constraints) = (Drawing::of(points, alloc)?, constraints_of(points, alloc)?);
+    let drawn = (&drawing, constraints.as_slice());
+    Ok(compare_drawn_conflicts(points, drawn, sheet, alloc))
 }

@@ -1,40 +1,28 @@
 //! The triangulations that the calls of a script work on.
-ghost use Rattle.std.specs.Prelude.{◌<◌, length, IfSome};
 
 use exact_tests::ExactTests;
-use spade_delaunay::handles::{FixedUndirectedEdgeHandle, FixedVertexHandle};
+use spade_delaunay::handles::{
+    FixedDirectedEdgeHandle, FixedUndirectedEdgeHandle, FixedVertexHandle,
+};
 use spade_delaunay::{
-    ConstrainedDelaunayTriangulation, DelaunayTriangulation, InsertionError, Point2, Triangulation,
+    ConstrainedDelaunayTriangulation, DelaunayTriangulation, HintGenerator, InsertionError, Point2,
+    Triangulation,
 };
 use std::alloc::Global;
 use std::mem::replace;
 
 /// Points of a triangulation without constraints.
-pub type Plain = DelaunayTriangulation<Point2<i64>>;
+pub type Plain<L> = DelaunayTriangulation<Point2<i64>, (), (), (), L>;
 
 /// Points of one with constraints.
-pub type Constrained = ConstrainedDelaunayTriangulation<Point2<i64>>;
+pub type Constrained<L> = ConstrainedDelaunayTriangulation<Point2<i64>, (), (), (), L>;
 
-/// One triangulation of either type.
+/// One triangulation of either type, and the last path of constraints.
 #[derive(Drop)]
-pub struct Session {
-    pub plain: Plain,
-    pub constrained: Constrained,
-}
-
-// A vertex, by its index.
-fn vertex<T: Triangulation<Vertex = Point2<i64>>>(
-    points: &T,
-    index: i64,
-) -> Option<FixedVertexHandle>
-    ensures { IfSome result (λ v. v < length (T.state points.now).vertices) }
-{
-    let index = u32::try_from(index).ok()?;
-    if (index as usize) < points.num_vertices() {
-        Some(FixedVertexHandle::from_index(index))
-    } else {
-        None
-    }
+pub struct Session<L: HintGenerator<i64>> {
+    pub plain: Plain<L>,
+    pub constrained: Constrained<L>,
+    path: Vec<FixedDirectedEdgeHandle>,
 }
 
 /// Removes all vertices, and tells how many are left.
@@ -55,31 +43,47 @@ pub fn insert<T: Triangulation<Vertex = Point2<i64>>>(
 /// The position of the vertex that goes, or nothing where there is none or no memory.
 pub fn remove<T: Triangulation<Vertex = Point2<i64>>>(
     points: &mut T,
-    index: i64,
+    index: u32,
 ) -> Option<(i64, i64)> {
-    let vertex = vertex(points, index)?;
-    let position = points.remove(vertex, &ExactTests).ok()?;
-    Some((position.x, position.y))
-}
-
-// The first edge that is a constraint.
-fn first_constraint(points: &Constrained) -> Option<FixedUndirectedEdgeHandle>
-    ensures { IfSome result (λ e. e < length points.now.undirected) }
-{
-    for index in 0..points.num_undirected_edges() {
-        let edge = FixedUndirectedEdgeHandle::from_index(u32::from(u16::try_from(index).ok()?));
-        if points.is_constraint_edge(edge) {
-            return Some(edge);
-        }
+    if index as usize >= points.num_vertices() {
+        return None;
     }
-    None
+    match points.remove(FixedVertexHandle::from_index(index), &ExactTests) {
+        Ok(position) => Some((position.x, position.y)),
+        Err(_) => None,
+    }
 }
 
-impl Session {
+fn constrain<L: HintGenerator<i64>>(
+    points: &mut Constrained<L>,
+    from: u32,
+    to: u32,
+) -> Option<Vec<FixedDirectedEdgeHandle>> {
+    let count = points.num_vertices();
+    if from as usize >= count || to as usize >= count {
+        return None;
+    }
+    let from = FixedVertexHandle::from_index(from);
+    let to = FixedVertexHandle::from_index(to);
+    points.try_add_constraint(from, to, &ExactTests).ok()
+}
+
+fn release<L: HintGenerator<i64>>(
+    points: &mut Constrained<L>,
+    edge: FixedUndirectedEdgeHandle,
+) -> Option<bool> {
+    if edge.index() as usize >= points.num_undirected_edges() {
+        return None;
+    }
+    points.remove_constraint_edge(edge, &ExactTests).ok()
+}
+
+impl<L: HintGenerator<i64>> Session<L> {
     pub fn new(alloc: Global) -> Self {
         Session {
             plain: Plain::new(alloc),
             constrained: Constrained::new(alloc),
+            path: Vec::new(alloc),
         }
     }
 
@@ -97,21 +101,15 @@ impl Session {
     }
 
     /// How many edges the path between two vertices has, which are constraints from now on.
-    pub fn constrain(&mut self, from: i64, to: i64) -> Option<usize> {
-        let points = &mut self.constrained;
-        let (from, to) = (vertex(points, from)?, vertex(points, to)?);
-        match points.try_add_constraint(from, to, &ExactTests) {
-            Ok(edges) => Some(edges.len()),
-            Err(_) => None,
-        }
+    pub fn constrain(&mut self, from: u32, to: u32) -> Option<usize> {
+        self.path = constrain(&mut self.constrained, from, to)?;
+        Some(self.path.len())
     }
 
-    /// Releases the first constraint, and tells whether there was one.
+    /// Releases the first edge of the path that was made last, and tells whether it was a
+    /// constraint.
     pub fn release(&mut self) -> Option<bool> {
-        let edge = first_constraint(&self.constrained)?;
-        match self.constrained.remove_constraint_edge(edge, &ExactTests) {
-            Ok(released) => Some(released),
-            Err(_) => None,
-        }
+        let edge = self.path.first()?.as_undirected();
+        release(&mut self.constrained, edge)
     }
 }

@@ -1,6 +1,5 @@
 use Rattle.delaunay_core.specs.Place.{place_of}
-use Rattle.delaunay_shape_queries.proofs.Calls.{kept_in_mesh, sites_in_mesh}
-use Rattle.plane.specs.Tests.{InRange}
+use Rattle.delaunay_shape_queries.proofs.Calls.{kept_in_mesh}
 use Rattle.shape_tests.proofs.comparisons.mesh_of.Goals as goal
 
 pub returns-clause-kept : goal.returns-clause-kept
