@@ -1,2 +1,1 @@
-pub mod Sites
-mod Segments
+mod CopiedPieces

@@ -1,39 +1,35 @@
 //! What a triangulation holds, by indexes: counts, vertices, edges and faces, each with its data.
 ghost use Rattle.std.specs.Prelude.{◌<◌};
 
-use crate::sheet_triangulation::SheetTriangulation;
 use crate::tagged_vertex::TaggedVertex;
 use spade_delaunay::Triangulation;
-use spade_delaunay::handles::{
-    DirectedEdgeHandle, FaceHandle, FixedDirectedEdgeHandle, FixedFaceHandle, VertexHandle,
-};
+use spade_delaunay::handles::{DirectedEdgeHandle, FaceHandle, VertexHandle};
 use std::io;
 
 /// How many vertices, undirected edges, directed edges, inner faces and faces there are, and how
 /// many directed edges have the outer face on their left.
-pub fn counts(points: &SheetTriangulation) -> [usize; 6] {
-    let triangulation = points.triangulation();
+pub fn counts<T: Triangulation>(points: &T) -> [usize; 6] {
     [
-        triangulation.num_vertices(),
-        triangulation.num_undirected_edges(),
-        triangulation.num_directed_edges(),
-        triangulation.num_inner_faces(),
-        triangulation.num_all_faces(),
-        triangulation.convex_hull_size(),
+        points.num_vertices(),
+        points.num_undirected_edges(),
+        points.num_directed_edges(),
+        points.num_inner_faces(),
+        points.num_all_faces(),
+        points.convex_hull_size(),
     ]
 }
 
 /// The ends of an edge by their indexes, in its direction.
-pub fn ends_of(edge: DirectedEdgeHandle<'_, TaggedVertex, u32, u32, u32>) -> (u32, u32) {
-    (edge.from().fix().index(), edge.to().fix().index())
+pub fn ends_of<V, DE, UE, F>(edge: &DirectedEdgeHandle<'_, V, DE, UE, F>) -> (u32, u32) {
+    (edge.from().index, edge.to().index)
 }
 
 /// The corners of an inner face by their indexes, the least first.
-pub fn corners_of(face: FaceHandle<'_, TaggedVertex, u32, u32, u32>) -> [u32; 3]
-    requires { 0 < face.index }
+pub fn corners_of<V, DE, UE, F>(face: &FaceHandle<'_, V, DE, UE, F>) -> [u32; 3]
+    requires { 0 < face.now.index }
 {
     let [a, b, c] = face.vertices();
-    let (a, b, c) = (a.fix().index(), b.fix().index(), c.fix().index());
+    let (a, b, c) = (a.index, b.index, c.index);
     if a < b && a < c {
         [a, b, c]
     } else if b < c {
@@ -44,71 +40,67 @@ pub fn corners_of(face: FaceHandle<'_, TaggedVertex, u32, u32, u32>) -> [u32; 3]
 }
 
 /// Prints each vertex with its position, its number and the edge that it names.
-pub fn print_vertices(rt: &impl Print, points: &SheetTriangulation) -> io::Result<()> {
-    for vertex in points.triangulation().vertices() {
-        print_vertex(rt, vertex)?;
+pub fn print_vertices<T: Triangulation<Vertex = TaggedVertex>>(
+    rt: &impl Print,
+    points: &T,
+) -> io::Result<()> {
+    for vertex in points.vertices() {
+        print_vertex(rt, &vertex)?;
     }
     Ok(())
 }
 
-fn print_vertex(
+fn out_edge_of<V, DE, UE, F>(vertex: &VertexHandle<'_, V, DE, UE, F>) -> Option<u32> {
+    match vertex.out_edge() {
+        Some(edge) => Some(edge.index),
+        None => None,
+    }
+}
+
+fn print_vertex<DE, UE, F>(
     rt: &impl Print,
-    vertex: VertexHandle<'_, TaggedVertex, u32, u32, u32>,
+    vertex: &VertexHandle<'_, TaggedVertex, DE, UE, F>,
 ) -> io::Result<()> {
     let TaggedVertex { position, tag } = *vertex.data();
-    let out_edge = vertex.out_edge().map(|edge| edge.fix().index());
-    println!(rt;
-        "vertex {} ({}, {}) {tag} {out_edge:?}",
-        vertex.fix().index(),
-        position.x,
-        position.y
-    )
+    let (x, y) = (position.x, position.y);
+    let out_edge = out_edge_of(vertex);
+    println!(rt; "vertex {} ({x}, {y}) {tag} {out_edge:?}", vertex.index)
 }
 
 /// Prints each directed edge with its ends, the next and the previous one, its face, its data and
 /// that of its undirected edge.
-pub fn print_edges(rt: &impl Print, points: &SheetTriangulation) -> io::Result<()> {
-    let triangulation = points.triangulation();
-    for index in 0..triangulation.num_directed_edges() {
-        if let Ok(index) = u32::try_from(index) {
-            let edge = triangulation.directed_edge(FixedDirectedEdgeHandle::from_index(index));
-            print_edge(rt, edge)?;
-        }
+pub fn print_edges<T: Triangulation<DirectedEdge = u32, UndirectedEdge = u32>>(
+    rt: &impl Print,
+    points: &T,
+) -> io::Result<()> {
+    for edge in points.directed_edges() {
+        print_edge(rt, &edge)?;
     }
     Ok(())
 }
 
-fn print_edge(
+fn print_edge<V, F>(
     rt: &impl Print,
-    edge: DirectedEdgeHandle<'_, TaggedVertex, u32, u32, u32>,
+    edge: &DirectedEdgeHandle<'_, V, u32, u32, F>,
 ) -> io::Result<()> {
-    let links = [
-        edge.next().fix().index(),
-        edge.prev().fix().index(),
-        edge.face().fix().index(),
-    ];
+    let ends = ends_of(edge);
+    let links = [edge.next().index, edge.prev().index, edge.face().index];
     let data = [*edge.data(), *edge.as_undirected().data()];
-    println!(rt;
-        "edge {} {:?} {links:?} {data:?}",
-        edge.fix().index(),
-        ends_of(edge)
-    )
+    println!(rt; "edge {} {ends:?} {links:?} {data:?}", edge.index)
 }
 
 /// Prints the data of the outer face, and each inner face with its corners and its data.
-pub fn print_faces(rt: &impl Print, points: &SheetTriangulation) -> io::Result<()> {
-    let triangulation = points.triangulation();
-    let outer = triangulation.face(FixedFaceHandle::from_index(0));
-    println!(rt; "outer face {}", *outer.data())?;
-    for face in triangulation.inner_faces() {
-        if !face.is_outer() {
-            println!(rt;
-                "face {} {:?} {}",
-                face.fix().index(),
-                corners_of(face),
-                *face.data()
-            )?;
-        }
+pub fn print_faces<T: Triangulation<Face = u32>>(rt: &impl Print, points: &T) -> io::Result<()> {
+    println!(rt; "outer face {}", *points.outer_face().data())?;
+    for face in points.inner_faces() {
+        print_face(rt, &face)?;
     }
     Ok(())
+}
+
+fn print_face<V, DE, UE>(rt: &impl Print, face: &FaceHandle<'_, V, DE, UE, u32>) -> io::Result<()>
+    requires { 0 < face.now.index }
+{
+    let corners = corners_of(face);
+    println!(rt; "face {} {corners:?} {}", face.index, *face.data())
 }

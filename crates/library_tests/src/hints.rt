@@ -1,33 +1,41 @@
-//! Which vertex a hint generator gives after what it was told, with vertices at points of the
-//! sheet.
+//! Which vertex a hint generator gives after what it was told, with vertices at points of the rows.
 
-use crate::sheet_hints;
+use crate::points::is_elsewhere;
 use delaunay_core::{HintGenerator, LastUsedVertexHintGenerator};
-use half_edge_mesh::FixedVertexHandle;
-use spade_delaunay::Point2;
+use exact_tests::ExactTests;
+use spade_delaunay::handles::FixedVertexHandle;
+use spade_delaunay::{Point2, validate_vertex};
 use std::alloc::Global;
-use triangulate_run::sheet::Sheet;
 
 pub fn new_generator(alloc: Global) -> LastUsedVertexHintGenerator {
     HintGenerator::<i64>::new(alloc)
 }
 
-/// The index of the vertex that is given for a site.
-pub fn hint(generator: &LastUsedVertexHintGenerator, (x, y): (i64, i64)) -> Option<u32> {
-    match sheet_hints::hint(generator, Sheet::G, Point2::new(x, y)) {
-        Some(vertex) => Some(vertex.index()),
-        None => None,
+/// The index of the vertex that is given for a point of the rows.
+pub fn hint(generator: &LastUsedVertexHintGenerator, point: Point2<i64>) -> Option<u32> {
+    if is_elsewhere(point) || validate_vertex(&point).is_err() {
+        return None;
     }
+    Some(generator.get_hint(point, &ExactTests).index())
 }
 
-pub fn insert(generator: &mut LastUsedVertexHintGenerator, index: u32, (x, y): (i64, i64)) -> bool {
-    let vertex = FixedVertexHandle::from_index(index);
-    sheet_hints::tell_insertion(generator, Sheet::G, vertex, Point2::new(x, y))
+/// Tells of a vertex that was appended at a point of the rows, and whether it is one.
+pub fn insert(generator: &mut LastUsedVertexHintGenerator, index: u32, point: Point2<i64>) -> bool {
+    if is_elsewhere(point) || validate_vertex(&point).is_err() {
+        return false;
+    }
+    generator.notify_vertex_inserted(FixedVertexHandle::from_index(index), point, &ExactTests);
+    true
 }
 
-pub fn remove(generator: &mut LastUsedVertexHintGenerator, index: u32, (x, y): (i64, i64)) -> bool {
+/// Tells that the last vertex went, which was at a point of the rows, and whether it is one.
+pub fn remove(generator: &mut LastUsedVertexHintGenerator, index: u32, point: Point2<i64>) -> bool {
+    if is_elsewhere(point) || validate_vertex(&point).is_err() {
+        return false;
+    }
     let vertex = FixedVertexHandle::from_index(index);
-    sheet_hints::tell_removal(generator, Sheet::G, vertex, Point2::new(x, y))
+    generator.notify_vertex_removed(None, vertex, point, &ExactTests);
+    true
 }
 
 pub fn look_up(generator: &LastUsedVertexHintGenerator, index: u32) {
@@ -38,10 +46,14 @@ pub fn look_up(generator: &LastUsedVertexHintGenerator, index: u32) {
 pub fn duplicate(first: &LastUsedVertexHintGenerator, index: u32) -> [Option<u32>; 2] {
     let second = HintGenerator::<i64>::duplicate(first);
     look_up(first, index);
-    [hint(&second, (0, 0)), hint(first, (0, 0))]
+    let origin = Point2::new(0, 0);
+    [hint(&second, origin), hint(first, origin)]
 }
 
-/// One that is made for a triangulation without vertices.
-pub fn initialized(alloc: Global) -> LastUsedVertexHintGenerator {
-    HintGenerator::<i64>::initialize_from_triangulation(alloc, &[], &Sheet::G)
+/// What one gives that is made for a triangulation without vertices.
+pub fn initialized(alloc: Global) -> Option<u32> {
+    let generator: LastUsedVertexHintGenerator = HintGenerator::<
+        i64,
+    >::initialize_from_triangulation(alloc, &[], &ExactTests);
+    hint(&generator, Point2::new(0, 0))
 }

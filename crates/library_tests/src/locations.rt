@@ -1,10 +1,11 @@
-//! Where a point of the sheet is, at each kind of answer.
-
-ghost use Rattle.delaunay_edit.specs.Elements.{HasElement};
+//! Where a point of the rows is, at each kind of answer, and which vertex is nearest to it.
 
 use crate::elements::{corners_of, ends_of};
-use crate::sheet_triangulation::{SheetError, SheetTriangulation};
-use spade_delaunay::{Point2, PositionInTriangulation, Triangulation};
+use crate::points::{Points, Refusal, is_elsewhere};
+use crate::tagged_vertex::TaggedVertex;
+use exact_tests::ExactTests;
+use spade_delaunay::handles::FixedVertexHandle;
+use spade_delaunay::{Point2, PositionInTriangulation, Triangulation, validate_vertex};
 
 /// A location by the indexes of vertices, an edge and a face from their least index on.
 #[derive(Clone, Copy, Debug, PartialEq, Eq)]
@@ -17,38 +18,61 @@ pub enum Place {
     Nowhere,
 }
 
-fn place_of(points: &SheetTriangulation, answer: PositionInTriangulation) -> Place
-    requires { HasElement points.now.1 answer }
-{
-    let triangulation = points.triangulation();
-    match answer {
+/// Where a point of the rows is.
+pub fn place_at<T: Triangulation<Vertex = TaggedVertex>>(
+    points: &T,
+    point: Point2<i64>,
+) -> Result<Place, Refusal> {
+    if is_elsewhere(point) || validate_vertex(&point).is_err() {
+        return Err(Refusal::NotListed);
+    }
+    Ok(match points.locate(point, &ExactTests) {
         PositionInTriangulation::OnVertex(vertex) => Place::Vertex(vertex.index()),
         PositionInTriangulation::OnEdge(edge) => {
-            let (a, b) = ends_of(triangulation.directed_edge(edge));
+            let (a, b) = ends_of(&points.directed_edge(edge));
             Place::Edge(a.min(b), a.max(b))
         }
-        PositionInTriangulation::OnFace(face) => Place::Face(corners_of(triangulation.face(face))),
+        PositionInTriangulation::OnFace(face) => Place::Face(corners_of(&points.face(face))),
         PositionInTriangulation::OutsideOfConvexHull(edge) => {
-            let (a, b) = ends_of(triangulation.directed_edge(edge));
+            let (a, b) = ends_of(&points.directed_edge(edge));
             Place::Outside(a, b)
         }
         PositionInTriangulation::NoTriangulation => Place::Nowhere,
-    }
+    })
 }
 
-/// Where a point of the sheet is.
-pub fn place_at(points: &SheetTriangulation, x: i64, y: i64) -> Result<Place, SheetError> {
-    match points.locate(Point2::new(x, y)) {
-        Ok(answer) => Ok(place_of(points, answer)),
-        Err(error) => Err(error),
+/// Where a point of the rows is, as it is answered.
+pub fn locate<T: Triangulation<Vertex = TaggedVertex>>(
+    points: &T,
+    point: Point2<i64>,
+) -> Result<PositionInTriangulation, Refusal> {
+    if is_elsewhere(point) || validate_vertex(&point).is_err() {
+        return Err(Refusal::NotListed);
+    }
+    Ok(points.locate(point, &ExactTests))
+}
+
+/// The vertex at a point of the rows, if there is one.
+pub fn locate_vertex<T: Triangulation<Vertex = TaggedVertex>>(
+    points: &T,
+    point: Point2<i64>,
+) -> Result<Option<FixedVertexHandle>, Refusal> {
+    if is_elsewhere(point) || validate_vertex(&point).is_err() {
+        return Err(Refusal::NotListed);
+    }
+    match points.locate_vertex(point, &ExactTests) {
+        Some(vertex) => Ok(Some(vertex.fix())),
+        None => Ok(None),
     }
 }
 
 /// The index of the vertex that is given as nearest.
-pub fn nearest(points: &SheetTriangulation, x: i64, y: i64) -> Result<Option<u32>, SheetError> {
-    match points.nearest_neighbor(Point2::new(x, y)) {
-        Ok(Some(vertex)) => Ok(Some(vertex.index())),
-        Ok(None) => Ok(None),
-        Err(error) => Err(error),
+pub fn nearest(points: &Points, point: Point2<i64>) -> Result<Option<u32>, Refusal> {
+    if is_elsewhere(point) || validate_vertex(&point).is_err() {
+        return Err(Refusal::NotListed);
+    }
+    match points.nearest_neighbor(point, &ExactTests) {
+        Some(vertex) => Ok(Some(vertex.index)),
+        None => Ok(None),
     }
 }

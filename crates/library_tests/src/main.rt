@@ -1,5 +1,5 @@
-//! Runs a script of library calls over the points of sheet G, three rows of three, and prints each
-//! line with what its call gives. Lines that start with `#` are printed as they are.
+//! Runs a script of library calls over the points of three rows of three, and prints each line with
+//! what its call gives. Lines that start with `#` are printed as they are.
 #![tactic(auto)]
 
 mod constrained;
@@ -7,12 +7,9 @@ mod constraint_edges;
 mod elements;
 mod hints;
 mod locations;
-mod paths;
+mod points;
 mod script;
-mod sheet_constraints;
-mod sheet_hints;
-mod sheet_paths;
-mod sheet_triangulation;
+mod segments;
 mod tagged_vertex;
 mod triples;
 

@@ -1,11 +1,11 @@
 //! All triples of vertices against the faces: a face has no vertex inside its circle, and a triple
 //! whose circle neither contains nor carries a further vertex is a face.
 
-use crate::sheet_triangulation::SheetTriangulation;
+use crate::tagged_vertex::TaggedVertex;
 use spade_delaunay::{Point2, Triangulation};
 use std::alloc::{AllocError, Global};
 
-/// The way from one point to another. Coordinates of the sheet are at most 1, so nothing wraps.
+/// The way from one point to another. Coordinates of the rows are at most 1, so nothing wraps.
 #[derive(Clone, Copy)]
 struct Way {
     x: i64,
@@ -86,7 +86,10 @@ struct Drawing {
 }
 
 impl Drawing {
-    fn new(alloc: Global, points: &SheetTriangulation) -> Result<Self, AllocError> {
+    fn new<T: Triangulation<Vertex = TaggedVertex>>(
+        alloc: Global,
+        points: &T,
+    ) -> Result<Self, AllocError> {
         Ok(Drawing {
             vertices: positions_of(alloc, points)?,
             faces: triples_of(alloc, points)?,
@@ -135,30 +138,34 @@ impl Drawing {
     }
 }
 
-fn positions_of(
+fn positions_of<T: Triangulation<Vertex = TaggedVertex>>(
     alloc: Global,
-    points: &SheetTriangulation,
+    points: &T,
 ) -> Result<Vec<Point2<i64>>, AllocError> {
     let mut positions = Vec::new(alloc);
-    for vertex in points.triangulation().vertices() {
+    for vertex in points.vertices() {
         positions.push(vertex.data().position)?;
     }
     Ok(positions)
 }
 
 /// The corners of each inner face.
-fn triples_of(alloc: Global, points: &SheetTriangulation) -> Result<Vec<Triple>, AllocError> {
+fn triples_of<T: Triangulation<Vertex = TaggedVertex>>(
+    alloc: Global,
+    points: &T,
+) -> Result<Vec<Triple>, AllocError> {
     let mut triples = Vec::new(alloc);
-    for face in points.triangulation().inner_faces() {
-        if !face.is_outer() {
-            let [a, b, c] = face.vertices();
-            triples.push([a.data().position, b.data().position, c.data().position])?;
-        }
+    for face in points.inner_faces() {
+        let [a, b, c] = face.vertices();
+        triples.push([a.data().position, b.data().position, c.data().position])?;
     }
     Ok(triples)
 }
 
 /// The counts of a triangulation.
-pub fn counts_of_triples(alloc: Global, points: &SheetTriangulation) -> Result<Counts, AllocError> {
+pub fn counts_of_triples<T: Triangulation<Vertex = TaggedVertex>>(
+    alloc: Global,
+    points: &T,
+) -> Result<Counts, AllocError> {
     Ok(Drawing::new(alloc, points)?.counts())
 }

@@ -1,12 +1,10 @@
 use Rattle.std.proofs.Common.{◌≡◌, List, rules, sym, subst}
-use Rattle.triangulate_run.specs.Sheet.{IsSite}
+use Rattle.std.specs.Prelude.{All, map}
+use Rattle.plane.specs.Tests.{InRange}
 use Rattle.library_tests.specs.declared.tagged_vertex.TaggedVertex.{TaggedVertex}
-use Rattle.library_tests.specs.Vertices.{AreSites}
-use Rattle.library_tests.proofs.Segments.{free_in_copy}
-use Rattle.library_tests.proofs.sheet_paths.SheetPaths.joined.Goals as goal
-
-pub next_on_path-requires-clause-sites : goal.next_on_path-requires-clause-sites
-next_on_path-requires-clause-sites c = rw (← c.self.view_is) at c.mesh_at-mesh.ensures.sites
+use Rattle.library_tests.specs.Vertices.{position_of}
+use Rattle.library_tests.proofs.CopiedPieces.{free_in_copy}
+use Rattle.library_tests.proofs.segments.joined_mesh.Goals as goal
 
 pub make_edge-requires-clause-free : goal.make_edge-requires-clause-free
 make_edge-requires-clause-free c =
@@ -15,4 +13,4 @@ make_edge-requires-clause-free c =
 
 pub make_edge-requires-clause-sites : goal.make_edge-requires-clause-sites
 make_edge-requires-clause-sites c =
-    subst (λ (vs : List TaggedVertex). AreSites (IsSite c.self.inside.sheet) vs) (sym c.in_ok-copy.ensures.0) (rw (← c.self.view_is) at c.mesh_at-mesh.ensures.sites)
+    subst (λ (vs : List TaggedVertex). All InRange (map position_of vs)) (sym c.in_ok-copy.ensures.0) c.mesh_at-mesh.ensures.sites
