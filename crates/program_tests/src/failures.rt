@@ -70,36 +70,45 @@ fn first_flush(answer: Answer) -> (Result<(), Failed>, u64) {
     (told, writer.into_inner().calls)
 }
 
-#[test]
-fn a_reader_fails_at_an_error_alone(rt: HostRuntime) {
-    assert_eq!(rt;
-        (
-            first_read(Answer::Error),
-            first_read(Answer::Count(0)),
-            first_read(Answer::Count(3))
-        ),
-        ((Err(Failed), 1), (Ok(0), 1), (Ok(3), 1))
+fn a_reader_fails_at_an_error_alone() -> bool {
+    let found = (
+        first_read(Answer::Error),
+        first_read(Answer::Count(0)),
+        first_read(Answer::Count(3)),
     );
+    found == ((Err(Failed), 1), (Ok(0), 1), (Ok(3), 1))
 }
 
-#[test]
-fn a_writer_fails_at_an_error_and_where_it_takes_none(rt: HostRuntime) {
-    assert_eq!(rt;
-        (
-            first_write(Answer::Error, b"ab"),
-            first_write(Answer::Count(0), b"ab"),
-            first_write(Answer::Count(0), b""),
-            first_write(Answer::Count(1), b"ab"),
-            first_flush(Answer::Error),
-            first_flush(Answer::Count(0))
-        ),
-        (
+fn a_writer_fails_at_an_error_and_where_it_takes_none() -> bool {
+    let found = (
+        first_write(Answer::Error, b"ab"),
+        first_write(Answer::Count(0), b"ab"),
+        first_write(Answer::Count(0), b""),
+        first_write(Answer::Count(1), b"ab"),
+        first_flush(Answer::Error),
+        first_flush(Answer::Count(0)),
+    );
+    found
+        == (
             (Err(Failed), 1),
             (Err(Failed), 1),
             (Ok(0), 1),
             (Ok(1), 1),
             (Err(Failed), 1),
-            (Ok(()), 1)
+            (Ok(()), 1),
         )
-    );
+}
+
+/// What is to hold of them, and whether it does.
+pub(crate) fn checks() -> [(&'static str, bool); 2] {
+    [
+        (
+            "a reader fails at an error alone",
+            a_reader_fails_at_an_error_alone(),
+        ),
+        (
+            "a writer fails at an error and where it takes none",
+            a_writer_fails_at_an_error_and_where_it_takes_none(),
+        ),
+    ]
 }

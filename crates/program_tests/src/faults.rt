@@ -165,28 +165,31 @@ fn run_to_fault(alloc: Global, faults: Faults) -> Left {
     }
 }
 
-#[test]
-fn lines_are_answered_before_more_is_read(rt: HostRuntime) {
+/// Whether a run whose reader fails at a call has answered all lines that it was given by then.
+fn is_answered_before(alloc: Global, read: usize) -> bool {
+    let faults = Faults {
+        read,
+        write: 1000,
+        takes_none: false,
+        width: 3,
+    };
+    let left = run_to_fault(alloc, faults);
+    let found = (left.outcome, left.failed, left.is_late, left.taken.len());
+    let wanted = if read <= INPUT.len() {
+        (Err(RunError::Read), (true, false), false, due(read))
+    } else {
+        (Ok(()), (false, false), false, OUTPUT.len())
+    };
+    found == wanted && OUTPUT.starts_with(left.taken.as_slice())
+}
+
+fn lines_are_answered_before_more_is_read(alloc: Global) -> bool {
     for read in 0..60 {
-        let faults = Faults {
-            read,
-            write: 1000,
-            takes_none: false,
-            width: 3,
-        };
-        let left = run_to_fault(rt.alloc(), faults);
-        let found = (left.outcome, left.failed, left.is_late, left.taken.len());
-        let wanted = if read <= INPUT.len() {
-            (Err(RunError::Read), (true, false), false, due(read))
-        } else {
-            (Ok(()), (false, false), false, OUTPUT.len())
-        };
-        assert_eq!(rt;
-            (found, OUTPUT.starts_with(left.taken.as_slice())),
-            (wanted, true),
-            "at {read}"
-        );
+        if !is_answered_before(alloc, read) {
+            return false;
+        }
     }
+    true
 }
 
 /// Runs with a writer that fails at each of its calls, up to the first that it isn't called for,
@@ -217,17 +220,25 @@ fn ends_at_each_fault(alloc: Global, width: usize, takes_none: bool) -> bool {
 }
 
 // A flush has no bytes to take, so a fault that takes none is an error there too.
-#[test]
-fn a_fault_of_the_writer_ends_the_run(rt: HostRuntime) {
-    assert_eq!(rt;
+fn a_fault_of_the_writer_ends_the_run(alloc: Global) -> bool {
+    for width in [1, 3, 1000] {
+        if !ends_at_each_fault(alloc, width, false) || !ends_at_each_fault(alloc, width, true) {
+            return false;
+        }
+    }
+    true
+}
+
+/// What is to hold of such runs, and whether it does.
+pub(crate) fn checks(alloc: Global) -> [(&'static str, bool); 2] {
+    [
         (
-            ends_at_each_fault(rt.alloc(), 1, false),
-            ends_at_each_fault(rt.alloc(), 1, true),
-            ends_at_each_fault(rt.alloc(), 3, false),
-            ends_at_each_fault(rt.alloc(), 3, true),
-            ends_at_each_fault(rt.alloc(), 1000, false),
-            ends_at_each_fault(rt.alloc(), 1000, true)
+            "lines are answered before more is read",
+            lines_are_answered_before_more_is_read(alloc),
         ),
-        (true, true, true, true, true, true)
-    );
+        (
+            "a fault of the writer ends the run",
+            a_fault_of_the_writer_ends_the_run(alloc),
+        ),
+    ]
 }

@@ -1,26 +1,28 @@
-//! Whole runs of the program over memory: the dialogues of standard input, and, as tests, what a
-//! script can't say.
+//! Whole runs of the program over memory: the dialogues of standard input, and what no dialogue can
+//! say, each with whether it holds.
 #![tactic(auto)]
 
 mod dialogue;
-#[cfg(test)]
 mod failures;
-#[cfg(test)]
 mod faults;
-#[cfg(test)]
 mod grammar;
-#[cfg(test)]
 mod orders;
-#[cfg(test)]
 mod sheets;
 
 use crate::dialogue::is_answered;
 use std::io;
 use std::io::Input;
 
-/// Puts the dialogues of standard input to the program. An empty line is between two of them.
-fn main(rt: HostRuntime) -> io::Result<()> {
-    let script = io::read_to_string(rt.alloc(), rt.reader())?;
+// Prints what is to hold, and whether it does.
+fn print_checks(rt: &impl Print, checks: &[(&'static str, bool)]) -> io::Result<()> {
+    for (name, holds) in checks {
+        println!(rt; "{name}: {holds}")?;
+    }
+    Ok(())
+}
+
+// Puts the dialogues of a text to the program. An empty line is between two of them.
+fn print_dialogues(rt: &(impl Print + AllocGlobal), script: &str) -> io::Result<()> {
     let mut count = 0u64;
     let mut others = 0u64;
     for dialogue in script.trim_end().split("\n\n") {
@@ -31,4 +33,14 @@ fn main(rt: HostRuntime) -> io::Result<()> {
         }
     }
     println!(rt; "{count} dialogues, {others} answered otherwise")
+}
+
+fn main(rt: HostRuntime) -> io::Result<()> {
+    let script = io::read_to_string(rt.alloc(), rt.reader())?;
+    print_dialogues(&rt, script.as_str())?;
+    print_checks(&rt, &failures::checks())?;
+    print_checks(&rt, &faults::checks(rt.alloc()))?;
+    print_checks(&rt, &grammar::checks())?;
+    print_checks(&rt, &orders::checks(rt.alloc()))?;
+    print_checks(&rt, &sheets::checks(rt.alloc()))
 }

@@ -76,28 +76,41 @@ fn is_answered(
     )
 }
 
-#[test]
-fn nine_points_in_54_orders(rt: HostRuntime) {
-    for sheet in [Sheet::G, Sheet::B] {
-        for start in 0..9 {
-            for step in [1usize, 2, 4, 5, 7, 8] {
-                assert!(rt;
-                    is_answered(rt.alloc(), sheet, (start, step), "9 16 8 0") == Ok(true),
-                    "{sheet:?} from {start} by {step}"
-                );
+/// The same of the nine points of a sheet, from each point on and by each step that comes to all.
+fn nine_points_in_54_orders(alloc: Global, sheet: Sheet) -> bool {
+    for start in 0..9 {
+        for step in [1usize, 2, 4, 5, 7, 8] {
+            if is_answered(alloc, sheet, (start, step), "9 16 8 0") != Ok(true) {
+                return false;
             }
         }
     }
+    true
 }
 
-#[test]
-fn a_hundred_points_of_a_line_in_5_orders(rt: HostRuntime) {
+fn a_hundred_points_of_a_line_in_5_orders(alloc: Global) -> bool {
     for order in [(0usize, 37usize), (1, 37), (50, 37), (99, 37), (0, 1)] {
-        assert!(rt;
-            is_answered(rt.alloc(), Sheet::R, order, "100 99 0 0") == Ok(true),
-            "from {} by {}",
-            order.0,
-            order.1
-        );
+        if is_answered(alloc, Sheet::R, order, "100 99 0 0") != Ok(true) {
+            return false;
+        }
     }
+    true
+}
+
+/// What is to hold of each order, and whether it does.
+pub(crate) fn checks(alloc: Global) -> [(&'static str, bool); 3] {
+    [
+        (
+            "nine points of G in 54 orders",
+            nine_points_in_54_orders(alloc, Sheet::G),
+        ),
+        (
+            "nine points of B in 54 orders",
+            nine_points_in_54_orders(alloc, Sheet::B),
+        ),
+        (
+            "a hundred points of a line in 5 orders",
+            a_hundred_points_of_a_line_in_5_orders(alloc),
+        ),
+    ]
 }

@@ -46,77 +46,59 @@ fn counts<P: PlaneTests<i64>>(tests: &P, points: &[SheetPoint]) -> (u64, u64)
 // 76 triples turn left. Four triples each have 2, 2, 2, 2, 5, 1, 4, 4, 4 and 4 points inside; of
 // those whose circle carries no further point, four have 1, four have 4, eight have 2 and four have
 // 3. Each has three rotations.
-#[test]
-fn each_rotation_of_a_listed_triple_turns_left(rt: HostRuntime) {
+fn each_rotation_of_a_listed_triple_turns_left(sheet: Sheet) -> bool {
     let inside = 4 * (2 + 2 + 2 + 2 + 5 + 1 + 4 + 4 + 4 + 4) + 4 + 4 * 4 + 8 * 2 + 4 * 3;
-    for sheet in [Sheet::G, Sheet::B] {
-        assert_eq!(rt; counts(&sheet, sheet.points()), (76 * 3, inside * 3));
-    }
+    counts(&sheet, sheet.points()) == (76 * 3, inside * 3)
 }
 
 // Of 35 triples of L, 4 are on a line, and of 84 triples of X, 20 are. The sites inside the circles
 // of ten and nine triples of sites are counted.
-#[test]
-fn sheets_with_points_that_are_no_sites_turn_as_listed(rt: HostRuntime) {
+fn sheets_with_points_that_are_no_sites_turn_as_listed() -> bool {
     let inside = (1 + 2 + 1 + 1 + 2 + 1, 2 + 2 + 1 + 1 + 1);
-    assert_eq!(rt;
-        (
-            counts(&Sheet::L, Sheet::L.points()),
-            counts(&Sheet::X, Sheet::X.points())
-        ),
-        (((35 - 4) * 3, inside.0 * 3), ((84 - 20) * 3, inside.1 * 3))
-    );
+    counts(&Sheet::L, Sheet::L.points()) == ((35 - 4) * 3, inside.0 * 3)
+        && counts(&Sheet::X, Sheet::X.points()) == ((84 - 20) * 3, inside.1 * 3)
 }
 
-#[test]
-fn points_that_are_no_sites_are_found_as_such(rt: HostRuntime) {
+fn points_that_are_no_sites_are_found_as_such() -> bool {
     let (l, x) = (Sheet::L.points(), Sheet::X.points());
-    assert_eq!(rt;
+    let found = (
+        (l.len(), x.len()),
         (
-            (l.len(), x.len()),
-            (
-                index_of(l, Point2::new(40, 0)),
-                site_index_of(l, Point2::new(40, 0)),
-                site_index_of(l, Point2::new(30, 0))
-            ),
-            (
-                index_of(x, Point2::new(0, 0)),
-                site_index_of(x, Point2::new(0, 0)),
-                site_index_of(x, Point2::new(1, 1))
-            )
+            index_of(l, Point2::new(40, 0)),
+            site_index_of(l, Point2::new(40, 0)),
+            site_index_of(l, Point2::new(30, 0)),
         ),
-        ((7, 9), (Some(6), None, Some(4)), (Some(6), None, Some(4)))
+        (
+            index_of(x, Point2::new(0, 0)),
+            site_index_of(x, Point2::new(0, 0)),
+            site_index_of(x, Point2::new(1, 1)),
+        ),
     );
+    found == ((7, 9), (Some(6), None, Some(4)), (Some(6), None, Some(4)))
 }
 
-#[test]
-fn points_are_found(rt: HostRuntime) {
+fn points_are_found() -> bool {
     let points = Sheet::G.points();
-    assert_eq!(rt;
-        (
-            points.len(),
-            index_of(points, Point2::new(0, 0)),
-            site_index_of(points, Point2::new(1, 1)),
-            index_of(points, Point2::new(2, 0)),
-            site_index_of(points, Point2::new(5, 5))
-        ),
-        (9, Some(4), Some(8), None, None)
+    let found = (
+        points.len(),
+        index_of(points, Point2::new(0, 0)),
+        site_index_of(points, Point2::new(1, 1)),
+        index_of(points, Point2::new(2, 0)),
+        site_index_of(points, Point2::new(5, 5)),
     );
+    found == (9, Some(4), Some(8), None, None)
 }
 
-#[test]
-fn a_row_has_a_hundred_sites(rt: HostRuntime) {
+fn a_row_has_a_hundred_sites() -> bool {
     let points = Sheet::R.points();
-    assert_eq!(rt;
-        (
-            points.len(),
-            site_index_of(points, Point2::new(-50, 0)),
-            site_index_of(points, Point2::new(49, 0)),
-            index_of(points, Point2::new(50, 0)),
-            index_of(points, Point2::new(0, 1))
-        ),
-        (100, Some(0), Some(99), None, None)
+    let found = (
+        points.len(),
+        site_index_of(points, Point2::new(-50, 0)),
+        site_index_of(points, Point2::new(49, 0)),
+        index_of(points, Point2::new(50, 0)),
+        index_of(points, Point2::new(0, 1)),
     );
+    found == (100, Some(0), Some(99), None, None)
 }
 
 fn owned(alloc: Global, words: &[&str]) -> Result<Vec<String>, AllocError> {
@@ -135,8 +117,7 @@ fn is_named(alloc: Global, words: &[&str], sheet: Option<Sheet>) -> bool {
     }
 }
 
-#[test]
-fn a_sheet_is_named_by_one_letter(rt: HostRuntime) {
+fn a_sheet_is_named_by_one_letter(alloc: Global) -> bool {
     for (words, sheet) in [
         (["G"].as_slice(), Some(Sheet::G)),
         (["B"].as_slice(), Some(Sheet::B)),
@@ -148,30 +129,61 @@ fn a_sheet_is_named_by_one_letter(rt: HostRuntime) {
         (["Q"].as_slice(), None),
         (["G", "G"].as_slice(), None),
     ] {
-        assert!(rt; is_named(rt.alloc(), words, sheet), "at {words:?}");
+        if !is_named(alloc, words, sheet) {
+            return false;
+        }
     }
+    true
 }
 
-#[test]
-fn a_fault_has_a_status_and_a_text(rt: HostRuntime) {
-    assert_eq!(rt;
-        (
-            status_of(&Ok(())),
-            status_of(&Err(RunError::Read)),
-            status_of(&Err(RunError::Write))
-        ),
-        (0, 1, 1)
+fn a_fault_has_a_status_and_a_text() -> bool {
+    let statuses = (
+        status_of(&Ok(())),
+        status_of(&Err(RunError::Read)),
+        status_of(&Err(RunError::Write)),
     );
-    assert_eq!(rt;
+    let texts = (
+        fault_text(&RunError::Read),
+        fault_text(&RunError::Write),
+        USAGE,
+    );
+    statuses == (0, 1, 1)
+        && texts
+            == (
+                "triangulate: read failed",
+                "triangulate: write failed",
+                "usage: triangulate G|B|R|L|X",
+            )
+}
+
+/// What is to hold of the sheets, their names and the faults, and whether it does.
+pub(crate) fn checks(alloc: Global) -> [(&'static str, bool); 8] {
+    [
         (
-            fault_text(&RunError::Read),
-            fault_text(&RunError::Write),
-            USAGE
+            "each rotation of a listed triple of G turns left",
+            each_rotation_of_a_listed_triple_turns_left(Sheet::G),
         ),
         (
-            "triangulate: read failed",
-            "triangulate: write failed",
-            "usage: triangulate G|B|R|L|X"
-        )
-    );
+            "each rotation of a listed triple of B turns left",
+            each_rotation_of_a_listed_triple_turns_left(Sheet::B),
+        ),
+        (
+            "sheets with points that are no sites turn as listed",
+            sheets_with_points_that_are_no_sites_turn_as_listed(),
+        ),
+        (
+            "points that are no sites are found as such",
+            points_that_are_no_sites_are_found_as_such(),
+        ),
+        ("points are found", points_are_found()),
+        ("a row has a hundred sites", a_row_has_a_hundred_sites()),
+        (
+            "a sheet is named by one letter",
+            a_sheet_is_named_by_one_letter(alloc),
+        ),
+        (
+            "a fault has a status and a text",
+            a_fault_has_a_status_and_a_text(),
+        ),
+    ]
 }
