@@ -8,6 +8,7 @@ mod ends;
 mod generators;
 mod hull;
 mod lasts;
+mod positions;
 mod reads;
 mod searches;
 mod told;
@@ -23,6 +24,7 @@ fn run(rt: &HostRuntime, name: &str) -> anyhow::Result<()> {
         "hull" => hull::run(rt),
         "reads" => reads::run(rt),
         "ends" => ends::run(rt),
+        "positions" => positions::run(rt),
         _ => run_searches(rt, name),
     }
 }

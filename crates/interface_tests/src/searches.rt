@@ -10,7 +10,7 @@ use spade_delaunay::{
 /// A triangulation with data, and with hints of this type.
 pub type Hinted<L> = DelaunayTriangulation<Point2<i64>, u32, u32, u32, L>;
 
-const POINTS: [(i64, i64); 9] = [
+pub const POINTS: [(i64, i64); 9] = [
     (-1, -1),
     (1, -1),
     (0, 1),
