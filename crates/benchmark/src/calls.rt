@@ -12,15 +12,14 @@ use std::alloc::{AllocError, Global};
 /// A triangulation whose searches begin where this generator says.
 pub type Points<L> = DelaunayTriangulation<Point2<i64>, (), (), (), L>;
 
-pub fn insert_all<L: HintGenerator<i64>>(
-    alloc: Global,
+pub fn insert_all<T: Triangulation<Vertex = Point2<i64>>>(
+    triangulation: &mut T,
     points: &[Point2<i64>],
-) -> Result<Points<L>, InsertionError> {
-    let mut triangulation: Points<L> = Points::new(alloc);
+) -> Result<(), InsertionError> {
     for point in points {
         triangulation.insert(*point, &ExactTests)?;
     }
-    Ok(triangulation)
+    Ok(())
 }
 
 /// How many points are on vertices, on edges or in faces, and outside of the hull. Edges and faces
@@ -32,8 +31,8 @@ pub struct Located {
     pub outside: u32,
 }
 
-pub fn locate_all<L: HintGenerator<i64>>(
-    triangulation: &Points<L>,
+pub fn locate_all<T: Triangulation<Vertex = Point2<i64>>>(
+    triangulation: &T,
     queries: &[Point2<i64>],
 ) -> Located {
     let mut located = Located {
@@ -85,8 +84,8 @@ pub fn nearest_all<L: HintGenerator<i64>>(
 
 /// How many edges have a point in the circles round points, with this squared radius: none where it
 /// is negative.
-pub fn edges_in_circles<L: HintGenerator<i64>>(
-    triangulation: &Points<L>,
+pub fn edges_in_circles<T: FloatTriangulation<Vertex = Point2<i64>>>(
+    triangulation: &T,
     alloc: Global,
     centers: &[Point2<i64>],
     radius_2: i64,
@@ -109,8 +108,8 @@ pub fn edges_in_circles<L: HintGenerator<i64>>(
 
 /// How many edges have a point in the squares round points, with sides of twice this length: none
 /// where it is negative, or a corner is out of range.
-pub fn edges_in_squares<L: HintGenerator<i64>>(
-    triangulation: &Points<L>,
+pub fn edges_in_squares<T: FloatTriangulation<Vertex = Point2<i64>>>(
+    triangulation: &T,
     alloc: Global,
     centers: &[Point2<i64>],
     reach: i64,
@@ -138,8 +137,8 @@ pub struct Removed {
 }
 
 /// Removes random vertices until there is none, or so many are gone.
-pub fn remove_some<L: HintGenerator<i64>>(
-    triangulation: &mut Points<L>,
+pub fn remove_some<T: Triangulation<Vertex = Point2<i64>>>(
+    triangulation: &mut T,
     random: &mut Random,
     removals: u32,
 ) -> Result<Removed, AllocError> {

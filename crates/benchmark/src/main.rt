@@ -21,8 +21,8 @@ use crate::memory::{peak_bytes, resident_bytes};
 use crate::orders::Order;
 use crate::random::Random;
 use spade_delaunay::{
-    HierarchyHintGeneratorWithBranchFactor, HintGenerator, LastUsedVertexHintGenerator, Point2,
-    Triangulation,
+    FloatTriangulation, HierarchyHintGeneratorWithBranchFactor, HintGenerator,
+    LastUsedVertexHintGenerator, Point2, Triangulation,
 };
 use std::io;
 use std::time::{CpuClock, Duration};
@@ -74,10 +74,10 @@ fn nanoseconds_a_call(rt: &HostRuntime, start: Duration, calls: usize) -> io::Re
     Ok(taken.as_nanos() / (calls as u128).max(1))
 }
 
-fn tell_counts<L: HintGenerator<i64>>(
+fn tell_counts<T: Triangulation>(
     rt: &HostRuntime,
     word: &str,
-    triangulation: &Points<L>,
+    triangulation: &T,
 ) -> io::Result<()> {
     println!(rt;
         "{word}: {} vertices, {} edges, {} faces",
@@ -87,26 +87,27 @@ fn tell_counts<L: HintGenerator<i64>>(
     )
 }
 
-fn insert<L: HintGenerator<i64>>(
+fn insert<T: Triangulation<Vertex = Point2<i64>>>(
     rt: &HostRuntime,
+    triangulation: &mut T,
     points: &[Point2<i64>],
-) -> anyhow::Result<Points<L>> {
+) -> anyhow::Result<()> {
     let before = resident_bytes(rt);
     let start = rt.thread_cpu_time()?;
-    let triangulation = insert_all::<L>(rt.alloc(), points)?;
+    insert_all(triangulation, points)?;
     let nanoseconds = nanoseconds_a_call(rt, start, points.len())?;
     let bytes = peak_bytes(rt).saturating_sub(before) / (points.len() as u64).max(1);
     eprintln!(rt; "insert {nanoseconds} ns")?;
     eprintln!(rt; "peak {bytes} bytes a vertex")?;
-    tell_counts(rt, "inserted", &triangulation)?;
-    Ok(triangulation)
+    tell_counts(rt, "inserted", triangulation)?;
+    Ok(())
 }
 
-fn ask<L: HintGenerator<i64>>(
+fn locate<T: Triangulation<Vertex = Point2<i64>>>(
     rt: &HostRuntime,
-    triangulation: &Points<L>,
+    triangulation: &T,
     queries: &[Point2<i64>],
-) -> anyhow::Result<()> {
+) -> io::Result<()> {
     let start = rt.thread_cpu_time()?;
     let located = locate_all(triangulation, queries);
     let nanoseconds = nanoseconds_a_call(rt, start, queries.len())?;
@@ -114,20 +115,26 @@ fn ask<L: HintGenerator<i64>>(
     println!(rt;
         "located: {} on vertices, {} inside, {} outside",
         located.vertices, located.inside, located.outside
-    )?;
+    )
+}
+
+fn find_nearest<L: HintGenerator<i64>>(
+    rt: &HostRuntime,
+    triangulation: &Points<L>,
+    queries: &[Point2<i64>],
+) -> io::Result<()> {
     let start = rt.thread_cpu_time()?;
     let sum = nearest_all(triangulation, queries);
     let nanoseconds = nanoseconds_a_call(rt, start, queries.len())?;
     eprintln!(rt; "nearest {nanoseconds} ns")?;
-    println!(rt; "nearest: squared distances {sum}")?;
-    Ok(())
+    println!(rt; "nearest: squared distances {sum}")
 }
 
 // Circles and squares with a few edges each: standard error tells how many edges came, too, since
 // CGAL is not asked.
-fn ask_shapes<L: HintGenerator<i64>>(
+fn ask_shapes<T: FloatTriangulation<Vertex = Point2<i64>>>(
     rt: &HostRuntime,
-    triangulation: &Points<L>,
+    triangulation: &T,
     centers: &[Point2<i64>],
     radius: i64,
 ) -> anyhow::Result<()> {
@@ -143,9 +150,9 @@ fn ask_shapes<L: HintGenerator<i64>>(
     Ok(())
 }
 
-fn remove<L: HintGenerator<i64>>(
+fn remove<T: Triangulation<Vertex = Point2<i64>>>(
     rt: &HostRuntime,
-    triangulation: &mut Points<L>,
+    triangulation: &mut T,
     random: &mut Random,
     removals: u32,
 ) -> anyhow::Result<()> {
@@ -161,15 +168,25 @@ fn remove<L: HintGenerator<i64>>(
     Ok(())
 }
 
-fn measure<L: HintGenerator<i64>>(rt: &HostRuntime, task: &Task) -> anyhow::Result<()> {
+fn make_all_calls<L: HintGenerator<i64>>(
+    rt: &HostRuntime,
+    triangulation: &mut Points<L>,
+    task: &Task,
+) -> anyhow::Result<()> {
     let mut random = Random::new();
     let points = task.order.points(rt.alloc(), task.count, &mut random)?;
     let queries = task.order.queries(rt.alloc(), task.count, &mut random)?;
-    let mut triangulation = insert::<L>(rt, points.as_slice())?;
-    ask(rt, &triangulation, queries.as_slice())?;
+    insert(rt, triangulation, points.as_slice())?;
+    locate(rt, triangulation, queries.as_slice())?;
+    find_nearest(rt, triangulation, queries.as_slice())?;
     let centers = &queries.as_slice()[..queries.len().min(SHAPES)];
-    ask_shapes(rt, &triangulation, centers, task.order.radius(task.count))?;
-    remove(rt, &mut triangulation, &mut random, task.removals)
+    ask_shapes(rt, triangulation, centers, task.order.radius(task.count))?;
+    remove(rt, triangulation, &mut random, task.removals)
+}
+
+fn measure<L: HintGenerator<i64>>(rt: &HostRuntime, task: &Task) -> anyhow::Result<()> {
+    let mut triangulation: Points<L> = Points::new(rt.alloc());
+    make_all_calls(rt, &mut triangulation, task)
 }
 
 fn run(rt: &HostRuntime, task: &Task) -> anyhow::Result<()> {

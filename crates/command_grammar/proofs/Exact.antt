@@ -50,6 +50,7 @@ drop_four [] = refl
 drop_four (a ∷ []) = refl
 drop_four (a ∷ b ∷ args) = refl
 
+-- words that spell a command are read as this command
 pub complete : (c : Command) (words : List (List ℕ)) → AreWordsOf c words → command_of words ≡ Some c
 unfolding command_of command_named
 complete (Insert p) words (args, e, h) = let k = coordinates_ok args p [] h in rw (e, k.0, none_zip (drop 2 args) k.1) refl
@@ -176,6 +177,7 @@ ended_is : (rest : List (List ℕ)) (d c : Command) → ended rest d ≡ Some c 
 ended_is [] d c e = (refl, cc)
 ended_is (word ∷ rest) d c e = cc
 
+-- words that are read as a command spell it
 pub sound : (words : List (List ℕ)) (c : Command) → command_of words ≡ Some c → AreWordsOf c words
 unfolding command_of
 sound [] c e = cc
@@ -184,10 +186,12 @@ sound (name ∷ args) c e =
     let f = ended_is (drop (arity d.0) args) d.0 c d.2 in
     named name args c (d.1 ∙ ap Some f.1) (subst (λ (b : Command). drop (arity b) args ≡ []) f.1 f.0)
 
+-- a line of at most 120 bytes whose words are read as a command spells it
 pub spelled : (line : List ℕ) (r : Option Command) → length line ≤ 120 → r ≡ command_of (words_of line) → IfSome r (Spells line)
 spelled line None short e = tt
 spelled line (Some c) short e = (short, sound (words_of line) c (sym e))
 
+-- a line whose words are read as no command spells none
 pub unspelled : (line : List ℕ) (r : Option Command) → r ≡ command_of (words_of line) → IfNone r (SpellsNone line)
 unspelled line None e = λ c h. cc (complete c (words_of line) h.1)
 unspelled line (Some c) e = tt

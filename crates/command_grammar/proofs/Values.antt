@@ -18,6 +18,7 @@ and_parts : (a b : Bool) → (a && b) ≡ true → (a ≡ true) × (b ≡ true)
 and_parts true b e = (refl, e)
 and_parts false b e = cc
 
+-- a word that writes an index is read as this index
 pub index_value-ok : (word : List ℕ) (n : ℕ) → IsIndex word n → index_value word ≡ Some n
 unfolding index_value
 index_value-ok word n h =
@@ -26,6 +27,7 @@ index_value-ok word n h =
     let few : leb (length word) 18 ≡ true = grind (arith, nat_tests, h.few) in
     rw (some, few, digits) (ap Some (sym h.value))
 
+-- a word that is read as an index writes it
 pub index_value-is : (word : List ℕ) (n : ℕ) → index_value word ≡ Some n → IsIndex word n
 unfolding index_value
 index_value-is word n e =
@@ -39,6 +41,7 @@ same_option None None f g = refl
 same_option None (Some y) f g = g y refl
 same_option (Some x) o f g = sym (f x refl)
 
+-- an answer that is the index a word writes, or none where it writes none, is what is read
 pub index_from : (word : List ℕ) (r : Option ℕ) → IfSome r (IsIndex word) → IfNone r ((n : ℕ) → IsIndex word n → ⊥) → r ≡ index_value word
 index_from word None some none = same_option None (index_value word) (λ x e. cc) (λ x e. absurd (none x (index_value-is word x e)))
 index_from word (Some n) some none = sym (index_value-ok word n some)
@@ -50,6 +53,7 @@ map_some f (Some x) y e = (x, refl, cc)
 no_minus : (digits : List ℕ) (n : ℕ) → IsIndex (45 ∷ digits) n → ⊥
 no_minus digits n h = absurd (omega (arith, (digit_at (45 ∷ digits) 0 h.digits h.some).0))
 
+-- a word that writes a number is read as this number
 pub number_value-ok : (word : List ℕ) (z : ℤ) → IsNumber word z → number_value word ≡ Some z
 unfolding number_value
 number_value-ok [] z (inl (n, h, e)) = absurd (omega (arith, h.some))
@@ -63,6 +67,7 @@ number_value-ok (c ∷ cs) z (inr (digits, n, same, h, e)) =
     let tail : cs ≡ digits = cc in
     rw (head, tail, index_value-ok digits n h) (ap Some (sym e))
 
+-- a word that is read as a number writes it
 pub number_value-is : (word : List ℕ) (z : ℤ) → number_value word ≡ Some z → IsNumber word z
 unfolding number_value
 number_value-is [] z e = cc
@@ -71,6 +76,7 @@ number_value-is (c ∷ cs) z e = elim (eqb_tells c 45) [
   | inr plain ↦ (let m = map_some pos (index_value (c ∷ cs)) z (rw plain.0 at e) in inl (m.0, index_value-is (c ∷ cs) m.0 m.1, m.2))
 ]
 
+-- an answer that is the number a word writes, or none where it writes none, is what is read
 pub number_from : (word : List ℕ) (r : Option ℤ) → IfSome r (IsNumber word) → IfNone r ((z : ℤ) → IsNumber word z → ⊥) → r ≡ number_value word
 number_from word None some none = same_option None (number_value word) (λ x e. cc) (λ x e. absurd (none x (number_value-is word x e)))
 number_from word (Some z) some none = sym (number_value-ok word z some)

@@ -40,8 +40,10 @@ AreWordsOf Faces words = words ≡ codes "faces" ∷ []
 abbrev pub Spells : List ℕ → Command → Type 0
 Spells line command = (length line ≤ 120) × AreWordsOf command (words_of line)
 
+-- the line spells no command
 abbrev pub SpellsNone : List ℕ → Type 0
 SpellsNone line = (command : Command) → ¬ Spells line command
 
+-- no line spells two different commands
 abbrev pub SpellsAtMostOne : Type 0
 SpellsAtMostOne = (line : List ℕ) (one other : Command) → Spells line one → Spells line other → one ≡ other

@@ -8,12 +8,15 @@ use Rattle.command_grammar.specs.declared.command.Command.{Command}
 use Rattle.command_grammar.specs.declared.command.Command.TheVariants.{Insert, Remove, Constrain, Release, Locate, Nearest, Line, Counts, Faces}
 
 infixl 10 ◌>>=◌
+-- what f makes of a value, where there is one
 abbrev pub ◌>>=◌ : {A B : Type 0} → Option A → (A → Option B) → Option B
 o >>= f = option_and_then f o
 
+-- the number that a word writes, if the word is 1 to 18 digits
 unfoldable pub index_value : List ℕ → Option ℕ
 index_value word = if nat_lt 0 (length word) && nat_le (length word) 18 && all_ascii_digits word then Some (digits_value 10 word) else None
 
+-- the number that a word writes, if the word is an index, or byte 45, the minus, and an index
 unfoldable pub number_value : List ℕ → Option ℤ
 number_value [] = None
 number_value (c ∷ digits) = if c == 45 then option_map (λ n. neg_ℤ (pos n)) (index_value digits) else option_map pos (index_value (c ∷ digits))
@@ -23,16 +26,19 @@ abbrev pub first_index : List (List ℕ) → Option ℕ
 first_index [] = None
 first_index (word ∷ words) = index_value word
 
+-- the number that the first of the words writes
 abbrev pub first_number : List (List ℕ) → Option ℤ
 first_number [] = None
 first_number (word ∷ words) = number_value word
 
+-- the coordinates that the first two words write
 unfoldable pub coordinates_of : List (List ℕ) → Option Coordinates
 coordinates_of words = do
   x ← first_number words
   y ← first_number (drop 1 words)
   Some (record { x = x; y = y })
 
+-- the two indexes that the first two words write
 unfoldable pub pair_of : List (List ℕ) → Option (ℕ × ℕ)
 pair_of words = do
   i ← first_index words
@@ -69,6 +75,7 @@ abbrev pub ended : List (List ℕ) → Command → Option Command
 ended [] command = Some command
 ended (word ∷ words) command = None
 
+-- the command that the words spell: its name, its values, and no word more
 unfoldable pub command_of : List (List ℕ) → Option Command
 command_of [] = None
 command_of (name ∷ args) = do

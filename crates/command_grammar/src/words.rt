@@ -1,3 +1,4 @@
+//! The words of a line, and the command that they spell.
 ghost use Rattle.std.specs.Prelude.{◌≡◌, ℕ, [], ◌∷◌, ◌↔◌};
 ghost use Rattle.std.specs.Prelude.{List, Option, None, Some, MatchOption, IfSome, IsTrue};
 ghost use Rattle.command_grammar.specs.Grammar.{words_of};

@@ -17,7 +17,7 @@ pub stays : (a : ℤ) → unsigned_abs a ≤ 2305843009213693952 → to_z w64 (o
 stays a h = omega (arith, ints)
 
 -- a way that was passed on
-pub way_is : (a x y : ℤ) → unsigned_abs a ≤ 1073741824 → a ≡ y *ℤ pos 1 -ℤ x *ℤ pos 1 → to_z w64 (of_z w64 a) ≡ y -ℤ x
+way_is : (a x y : ℤ) → unsigned_abs a ≤ 1073741824 → a ≡ y *ℤ pos 1 -ℤ x *ℤ pos 1 → to_z w64 (of_z w64 a) ≡ y -ℤ x
 way_is a x y h e = omega (arith, ints)
 
 -- a product of two ways that were passed on
@@ -53,6 +53,7 @@ rest_is p q r = ring_in (p.x ∷ p.y ∷ q.x ∷ q.y ∷ r.x ∷ r.y ∷ [])
     (λ px py qx qy rx ry. (px ⊖ qx) ⊗ (rx ⊖ qx) ⊕ (py ⊖ qy) ⊗ (ry ⊖ qy))
     tt
 
+-- the squared length less the dot product is at most 2^61 in absolute value, for points in range
 pub rest_bound : (p q r : Point) → InRange p → InRange q → InRange r → unsigned_abs (gap (whole p) (whole q) -ℤ along p q r) ≤ 2305843009213693952
 rest_bound p q r h i j = rw (rest_is p q r) (along_bound q p r i h j)
 
@@ -66,5 +67,6 @@ gap_bound p q h i = rw (sym (same p q)) (along_bound p q q h i i)
         (λ px py qx qy. let o = num 1 in (qx ⊗ o ⊖ px ⊗ o) ⊗ (qx ⊗ o ⊖ px ⊗ o) ⊕ (qy ⊗ o ⊖ py ⊗ o) ⊗ (qy ⊗ o ⊖ py ⊗ o))
         tt
 
+-- the squared distance of points in range keeps its value in 64 bits
 pub gap_passes : (d : ℤ) (p q : Point) → InRange p → InRange q → d ≡ gap (whole p) (whole q) → to_z w64 (of_z w64 d) ≡ gap (whole p) (whole q)
 gap_passes d p q h i e = subst (λ n. to_z w64 (of_z w64 n) ≡ gap (whole p) (whole q)) (sym e) (stays (gap (whole p) (whole q)) (gap_bound p q h i))

@@ -8,6 +8,7 @@ use Rattle.delaunay_core.specs.Place.{place_of}
 abbrev pub place_if : {S : Type 0} → (S → ℤ) → Option (Point2 S) → Option Point
 place_if number swapped = option_map (place_of number) swapped
 
+-- points of the program as points of the plane
 abbrev pub places : {S : Type 0} → (S → ℤ) → List (Point2 S) → List Point
 places number points = map (place_of number) points
 

@@ -1,3 +1,4 @@
+//! The side of a directed line.
 ghost use Rattle.std.specs.Prelude.{◌≡◌, ◌≢◌, ◌↔◌, IsTrue};
 ghost use Rattle.plane.specs.Side.{left, right, on, opposite};
 

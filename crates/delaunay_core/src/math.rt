@@ -1,3 +1,4 @@
+//! Coordinates and their range, the errors of an insertion, and the tests that callers hand in.
 ghost use Rattle.std.specs.Prelude.{◌≡◌, ◌≢◌, ◌↔◌, IsTrue, IsOk, OnErr, IsErrOf};
 ghost use Rattle.plane.specs.Fraction.{Point, whole as fraction};
 ghost use Rattle.plane.specs.Side.{side, right, TurnsLeft};

@@ -1,3 +1,4 @@
+//! Points of whole numbers, and values that have a position.
 ghost use Rattle.std.specs.Prelude.{◌≡◌, ◌≤◌, ◌∷◌, [], ℤ, pos, ◌-ℤ◌, ◌*ℤ◌, refl, unsigned_abs};
 ghost use Rattle.std.specs.Ordering.{int_cmp, int_eq, as_partial_cmp};
 ghost use Rattle.plane.specs.Fraction.{Point, whole as fraction};

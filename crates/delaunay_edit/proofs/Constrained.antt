@@ -44,5 +44,6 @@ each_as R S f [] (y ∷ ys) h = absurd h
 each_as R S f (x ∷ xs) [] h = absurd h
 each_as R S f (x ∷ xs) (y ∷ ys) h = (f x y h.0, each_as R S f xs ys h.1)
 
+-- other edge data by a relation are so by each weaker one
 pub other_data_as : {V D U T F : Type 0} (R S : U → T → Type 0) → ((u : U) (t : T) → R u t → S u t) → (old : State V D U F) (new : State V D T F) → HasOtherEdgeData R old new → HasOtherEdgeData S old new
 other_data_as R S f old new h = record { each = each_as R S f old.undirected new.undirected h.each; rest = h.rest }

@@ -20,7 +20,8 @@ use Rattle.delaunay_legalization.proofs.Constraints.{fixed_within}
 use Rattle.delaunay_legalization.specs.Shape.{IsTriangulated, IsDelaunayTriangulation}
 use Rattle.delaunay_legalization.specs.State.{State, state_of}
 use Rattle.delaunay_edit.specs.Data.{HasOtherEdgeData}
-use Rattle.delaunay_insertion.proofs.DataGrowing.{rev_of_even}
+use Rattle.mesh_embedding.proofs.EdgePairs.{rev_of_even}
+use Rattle.mesh_embedding.proofs.Entries.{one_value}
 
 -- ---- how many there are
 abbrev add_mark : Bool → ℕ → ℕ
@@ -34,6 +35,7 @@ marks_before marks (d ∷ ds) zero = 0
 marks_before marks (d ∷ ds) (suc k) = add_mark (marks d) (marks_before marks ds k)
 
 module _ {U : Type 0} (marks : U → Bool) where
+  -- before the first edge none has the mark
   pub no_marks : (ds : List U) → marks_before marks ds 0 ≡ 0
   no_marks [] = refl
   no_marks (d ∷ ds) = refl
@@ -49,18 +51,17 @@ module _ {U : Type 0} (marks : U → Bool) where
 
   next_mark : (ds : List U) (k : ℕ) (d : U) → slice_get ds k ≡ Some d → marks_before marks ds (suc k) ≡ add_mark (marks d) (marks_before marks ds k)
   next_mark [] k d e = absurd (cc)
-  next_mark (x ∷ xs) zero d e = add_first xs (marks x) ∙ ap (λ (b : Bool). add_mark b 0) (ap marks (same x d e))
-    where
-      same : (x d : U) → Some x ≡ Some d → x ≡ d
-      same x d e = cc
+  next_mark (x ∷ xs) zero d e = add_first xs (marks x) ∙ ap (λ (b : Bool). add_mark b 0) (ap marks (one_value x d e))
   next_mark (x ∷ xs) (suc k) d e = ap (add_mark (marks x)) (next_mark xs k d e) ∙ swap_marks (marks x) (marks d) (marks_before marks xs k)
 
+  -- an edge with the mark is one more
   pub marked_next : (ds : List U) (k : ℕ) (d : U) (n : ℕ) → n ≡ marks_before marks ds k → slice_get ds k ≡ Some d → marks d ≡ true → n + 1 ≡ marks_before marks ds (k + 1)
   marked_next ds k d n is e t =
       let one : suc k ≡ k + 1 = omega arith in
       let two : n + 1 ≡ suc n = omega arith in
       two ∙ ap suc is ∙ sym (next_mark ds k d e ∙ ap (λ (b : Bool). add_mark b (marks_before marks ds k)) t) ∙ ap (marks_before marks ds) one
 
+  -- an edge without it is none
   pub free_next : (ds : List U) (k : ℕ) (d : U) (n : ℕ) → n ≡ marks_before marks ds k → slice_get ds k ≡ Some d → marks d ≡ false → n ≡ marks_before marks ds (k + 1)
   free_next ds k d n is e t =
       let one : suc k ≡ k + 1 = omega arith in
@@ -79,26 +80,31 @@ module _ {U : Type 0} (marks : U → Bool) where
   few true n k h = omega (arith, h)
   few false n k h = omega (arith, h)
 
+  -- among the first k edges at most k have the mark
   pub few_marks : (ds : List U) (k : ℕ) → marks_before marks ds k ≤ k
   few_marks [] k = omega arith
   few_marks (d ∷ ds) zero = omega arith
   few_marks (d ∷ ds) (suc k) = few (marks d) (marks_before marks ds k) k (few_marks ds k)
 
   module _ (constraints : List U → List ℕ) (marked : (ds : List U) → constraints ds ≡ marked_edges marks ds) (m : Mesh) (ds : List U) where
+    -- among all edges as many have the mark as there are pairs of constraints
     pub count_of_fixed : (k : ℕ) → length ds ≤ k → marks_before marks ds k ≡ length (constraint_pairs constraints m ds)
     count_of_fixed k h = all_marks 0 ds k h ∙ ap (λ (ks : List ℕ). length ks) (sym (marked ds)) ∙ sym (length-map (constraints ds) (pair_at m))
 
     -- ---- which vertices they join
+    -- the ends of an edge that is a constraint, in either order, are joined by one
     pub joined_by : (a b k : ℕ) → Contains (constraints ds) k → IsSamePair a b (origin m (2 * k)) (origin m (rev (2 * k))) → Joins (constraint_pairs constraints m ds) a b
     joined_by a b k c (inl s) = inl (subst (λ (p : ℕ × ℕ). Contains (constraint_pairs constraints m ds) p) (λ i. (sym s.0 i, sym s.1 i)) (contains_map (pair_at m) (constraints ds) k c))
     joined_by a b k c (inr s) = inr (subst (λ (p : ℕ × ℕ). Contains (constraint_pairs constraints m ds) p) (λ i. (sym s.1 i, sym s.0 i)) (contains_map (pair_at m) (constraints ds) k c))
 
+    -- two vertices that a constraint joins are the ends of an edge that is one
     pub joining_edge : (a b : ℕ) → Joins (constraint_pairs constraints m ds) a b → (k : ℕ) × Contains (constraints ds) k × (k < length ds) × IsSamePair a b (origin m (2 * k)) (origin m (rev (2 * k)))
     joining_edge a b (inl h) = let r = contains_map_from (pair_at m) (constraints ds) (a, b) h in (r.0, r.1, fixed_within marks constraints marked ds r.0 r.1, inl (ap (λ (p : ℕ × ℕ). p.0) (sym r.2), ap (λ (p : ℕ × ℕ). p.1) (sym r.2)))
     joining_edge a b (inr h) = let r = contains_map_from (pair_at m) (constraints ds) (b, a) h in (r.0, r.1, fixed_within marks constraints marked ds r.0 r.1, inr (ap (λ (p : ℕ × ℕ). p.1) (sym r.2), ap (λ (p : ℕ × ℕ). p.0) (sym r.2)))
 
 -- an edge whose ends a constraint joins is that one
 module _ {V D U F : Type 0} (place : V → Point) (marks : U → Bool) (constraints : List U → List ℕ) (marked : (ds : List U) → constraints ds ≡ marked_edges marks ds) (s : State V D U F) (kept : IsTriangulated place s) where
+  -- two undirected edges with the same ends are one
   pub same_edge : (k l : ℕ) → k < length s.undirected → l < length s.undirected → IsSamePair (origin s.mesh (2 * k)) (origin s.mesh (rev (2 * k))) (origin s.mesh (2 * l)) (origin s.mesh (rev (2 * l))) → l ≡ k
   same_edge k l v w (inl e) =
       let r = indexes (2 * k) (2 * l) (double k v) (double l w) (sym e.0, sym e.1) in omega (arith, r)
@@ -121,6 +127,7 @@ module _ {V D U F : Type 0} (place : V → Point) (marks : U → Bool) (constrai
       odd : (k l : ℕ) → rev (2 * l) ≡ 2 * k → l ≡ k
       odd k l e = let f = rev_of_even l in omega (arith, e, f)
 
+  -- an edge whose ends a constraint joins is a constraint
   pub fixed_if_joined : (k : ℕ) → k < length s.undirected → Joins (constraints_by constraints s) (origin s.mesh (2 * k)) (origin s.mesh (rev (2 * k))) → Contains (constraints s.undirected) k
   fixed_if_joined k w j =
       let r = joining_edge marks constraints marked s.mesh s.undirected (origin s.mesh (2 * k)) (origin s.mesh (rev (2 * k))) j in
@@ -128,6 +135,7 @@ module _ {V D U F : Type 0} (place : V → Point) (marks : U → Bool) (constrai
 
 -- ---- other data
 module _ {U T : Type 0} (R : U → T → Type 0) where
+  -- lists whose items are related one by one are equally long
   pub as_many : (us : List U) (ts : List T) → AllZip R us ts → length us ≡ length ts
   as_many [] [] h = refl
   as_many [] (t ∷ ts) h = absurd h
@@ -145,12 +153,15 @@ module _ {U T : Type 0} (R : U → T → Type 0) where
 -- without constraints before and after, the circle test holds as before
 module _ {V D U T F : Type 0} (place : V → Point) (R : U → T → Type 0) (constraints : List U → List ℕ) (marks : T → Bool) (new_fixed : List T → List ℕ) (marked : (ts : List T) → new_fixed ts ≡ marked_edges marks ts) (free : (u : U) (t : T) → R u t → marks t ≡ false)
     (old : Contents V D U F) (new : Contents V D T F) (mapped : IsMapped R old new) where
+  -- afterwards there are no constraints
   pub none_after : constraints_by new_fixed (state_of new) ≡ []
   none_after = ap (λ (ks : List ℕ). map (pair_at new.mesh) ks) (marked new.undirected ∙ none_from R marks free 0 old.undirected new.undirected mapped.each)
 
+  -- the data of the edges are as R says, and all else is as it was
   pub other_data : HasOtherEdgeData R (state_of old) (state_of new)
   other_data = record { each = mapped.each; rest = ap state_of mapped.rest }
 
+  -- a Delaunay triangulation without constraints is one afterwards
   pub legal_after : constraints_by constraints (state_of old) ≡ [] → IsDelaunayTriangulation place constraints (state_of old) → IsDelaunayTriangulation place new_fixed (state_of new)
   legal_after none legal = record {
     kept = kept_after;

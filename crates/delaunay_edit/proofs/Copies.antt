@@ -37,6 +37,7 @@ in_range_by_places place vs ws same all = λ k d k-in.
     subst InRange (get_or-map place ws k d (place d) k-in) there
 
 module _ {V D U F : Type 0} (place : V → Point) (marks : U → Bool) (constraints : List U → List ℕ) (marked : (ds : List U) → constraints ds ≡ marked_edges marks ds) where
+  -- where copied vertices keep their places, and edges their marks, a copy is Delaunay as the first is
   pub copy_is_one : (RV : V → V → Type 0) (RD : D → D → Type 0) (RU : U → U → Type 0) (RF : F → F → Type 0) → ((v w : V) → RV v w → place w ≡ place v) → ((d e : U) → RU d e → marks e ≡ marks d) → (old new : State V D U F) → IsCopy RV RD RU RF old new
       → IsDelaunayTriangulation place constraints old → IsDelaunayTriangulation place constraints new
   copy_is_one RV RD RU RF places same old new copy whole =

@@ -7,6 +7,7 @@ use Rattle.plane.specs.Fraction.{Point}
 use Rattle.plane.specs.Laws.{squared_way}
 use Rattle.plane.specs.Pairs.{IsIndex, IsSamePair, Joins, place}
 use Rattle.plane.specs.Tests.{InRange}
+use Rattle.plane.proofs.Indexes.{same_joined}
 use Rattle.plane_edits.specs.Legal.{point_of}
 use Rattle.plane_segments.specs.Constraints.{AreNextOn, ArePlacedApart}
 use Rattle.plane_segments.proofs.Constraints.Pieces.{path_ends, path_goes_on}
@@ -14,7 +15,6 @@ use Rattle.plane_segments.proofs.Constraints.Shorter.{path_shortens}
 use Rattle.plane_tiling.proofs.Edges.{turned_within}
 use Rattle.delaunay_core.proofs.Projections.{along_bound}
 use Rattle.delaunay_edit.specs.Counting.{HasPairs, IsMissing}
-use Rattle.delaunay_edit.proofs.EditCounts.{joined_as}
 use Rattle.delaunay_edit.proofs.PairCounts.{has_pairs_as, no_pairs, one_more}
 
 -- the vertices of the path, as far as the walk has come, and how many pieces that are missing it passed
@@ -44,6 +44,7 @@ module _ (points : List Point) (distinct : ArePlacedApart points) (pairs : List 
       next_or_end : (m n : ℕ) → (m ≡ n) ⊎ (m ≢ n)
       next_or_end m n = cases_eq m n
 
+  -- a walk begins at the start, before the first piece, with the count 0
   pub walk_begins : (from : ℕ) → IsIndex points from → All InRange points → IsWalking points pairs from to from 0
   walk_begins from within in_range = record {
     within = within;
@@ -55,29 +56,34 @@ module _ (points : List Point) (distinct : ArePlacedApart points) (pairs : List 
       at_index k inside = All-get_or InRange points k (record { x = pos 0; y = pos 0 }) inside in_range
 
   module _ (from at count : ℕ) (p : IsWalking points pairs from to at count) where
+    -- at the end so many pieces of the path are missing
     pub walk_ends : at ≡ to → HasPairs (IsMissing points pairs from to) count
     walk_ends e = subst (λ (n : ℕ). HasPairs (IsMissing points pairs from to) n) (omega arith) (p.total 0 (no_pairs (λ a b m. path_ends points to distinct a b (subst (λ (k : ℕ). AreNextOn points k to a b) e m.0))))
 
     module _ (next : ℕ) (apart : at ≢ to) (first : AreNextOn points at to at next) where
+      -- from the next vertex the way to the end is shorter
       pub walk_shortens : nat_abs (squared_way (point_of points next) (point_of points to)) < nat_abs (squared_way (point_of points at) (point_of points to))
       walk_shortens = path_shortens points at to next distinct p.within to_in apart first
 
+      -- the count has room for one more
       pub walk_has_room : count + 1 ≤ 2305843009213693952
       walk_has_room = let few = p.few in let falls = walk_shortens in omega (arith, few, falls)
 
       pieces : (a b : ℕ) → AreNextOn points at to a b ↔ (IsSamePair a b at next ⊎ AreNextOn points next to a b)
       pieces = path_goes_on points at to next distinct to_in apart first
 
+      -- where the next piece is a pair of the list, the count stays
       pub walk_goes_past : Joins pairs at next → IsWalking points pairs from to next count
       walk_goes_past joined = record {
         within = first.second_index;
         few = (let few = p.few in let falls = walk_shortens in omega (arith, few, falls));
         total = λ k has. p.total k (has_pairs_as has (λ a b. (
           (λ m. ((pieces a b).1 (inr m.0), m.1)),
-          (λ m. elim ((pieces a b).0 m.0) [ inl s ↦ absurd (m.1 (joined_as pairs at next a b s joined)) | inr n ↦ (n, m.1) ]),
+          (λ m. elim ((pieces a b).0 m.0) [ inl s ↦ absurd (m.1 (same_joined pairs a b at next s joined)) | inr n ↦ (n, m.1) ]),
         )));
       }
 
+      -- where it is none, the count is one more
       pub walk_goes_on : ¬ Joins pairs at next → IsWalking points pairs from to next (count + 1)
       walk_goes_on missing = record {
         within = first.second_index;
@@ -92,5 +98,5 @@ module _ (points : List Point) (distinct : ArePlacedApart points) (pairs : List 
       }
         where
           joined_back : (a b : ℕ) → IsSamePair a b at next → Joins pairs a b → Joins pairs at next
-          joined_back a b (inl s) j = joined_as pairs a b at next (inl (sym s.0, sym s.1)) j
-          joined_back a b (inr s) j = joined_as pairs a b at next (inr (sym s.1, sym s.0)) j
+          joined_back a b (inl s) j = same_joined pairs at next a b (inl (sym s.0, sym s.1)) j
+          joined_back a b (inr s) j = same_joined pairs at next a b (inr (sym s.1, sym s.0)) j

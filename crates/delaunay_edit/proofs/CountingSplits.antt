@@ -6,6 +6,7 @@ use Rattle.plane.specs.Fraction.{Point, whole}
 use Rattle.plane.specs.Location.{Location, on_edge, IsLocation}
 use Rattle.plane.specs.Pairs.{EachPairOnce, Joins}
 use Rattle.plane.specs.Plain.{Carries, IsPlain}
+use Rattle.plane.proofs.Indexes.{same_joined}
 use Rattle.plane_tiling.specs.Laws.{IsSameLocation}
 use Rattle.plane_tiling.proofs.Locations.{each_point_has_one_location}
 use Rattle.mesh_embedding.specs.Drawn.{edges_of, faces_of, outer_of}
@@ -22,7 +23,7 @@ use Rattle.delaunay_edit.specs.Counting.{IsCounted, IsOnConstraint, IsSplitCount
 use Rattle.delaunay_edit.specs.Location.{Locates, location_of}
 use Rattle.delaunay_edit.proofs.Constrained.{plain_with_edges}
 use Rattle.delaunay_edit.proofs.DifferentConstraints.{constraints_once}
-use Rattle.delaunay_edit.proofs.EditCounts.{free_number, joined_as, split_number}
+use Rattle.delaunay_edit.proofs.EditCounts.{free_number, split_number}
 
 -- a new vertex makes at most one constraint more
 pub few_split : {U : Type 0} (constraints : List U → List ℕ) (ds : List U) (answer : PositionInTriangulation) (n : ℕ)
@@ -61,11 +62,12 @@ module _ {V D U F : Type 0} (place : V → Point) (marks : U → Bool) (constrai
   none_carries (OnVertex v) l off a b j w = one_location (on_edge a b) (location_of old.mesh (OnVertex v)) (carrier a b j w) l.location
   none_carries (OnEdge e) l off a b j w =
       let same = one_location (on_edge a b) (location_of old.mesh (OnEdge e)) (carrier a b j w) l.location in
-      off ((edge_joins place marks constraints marked old was (origin old.mesh e) (origin old.mesh (rev e)) e l.handle refl refl).1 (joined_as pairs a b (origin old.mesh e) (origin old.mesh (rev e)) same j))
+      off ((edge_joins place marks constraints marked old was (origin old.mesh e) (origin old.mesh (rev e)) e l.handle refl refl).1 (same_joined pairs (origin old.mesh e) (origin old.mesh (rev e)) a b same j))
   none_carries (OnFace f) l off a b j w = one_location (on_edge a b) (location_of old.mesh (OnFace f)) (carrier a b j w) l.location
   none_carries (OutsideOfConvexHull e) l off a b j w = one_location (on_edge a b) (location_of old.mesh (OutsideOfConvexHull e)) (carrier a b j w) l.location
   none_carries NoTriangulation l off a b j w = one_location (on_edge a b) (location_of old.mesh NoTriangulation) (carrier a b j w) l.location
 
+  -- where the place is not on a constraint, there are as many constraints as before
   pub as_many : ¬ IsOnConstraint constraints old.undirected answer → length (constraints_by constraints new) ≡ length pairs
   as_many off = free_number place (points_and_constraints_by constraints (state_of old)) (points_and_constraints_by constraints new) once_before once_after value (length old.vertices) plain refl splits (none_carries answer located off)
 
@@ -79,6 +81,7 @@ module _ {V D U F : Type 0} (place : V → Point) (marks : U → Bool) (constrai
   split_at (OutsideOfConvexHull e) l on = absurd on
   split_at NoTriangulation l on = absurd on
 
+  -- where it is on one, there is one more
   pub one_more_constraint : IsOnConstraint constraints old.undirected answer → length (constraints_by constraints new) ≡ suc (length pairs)
   one_more_constraint on = split_at answer located on
 

@@ -1,5 +1,5 @@
 -- Counts of elements, and handles in the answers to a location.
-use Rattle.std.proofs.Common.{◌≡◌, ℕ, ◌<◌, [], length, map, sym, ◌∙◌, refl, inl, inr, arith}
+use Rattle.std.proofs.Common.{◌≡◌, ℕ, ◌<◌, length, map, sym, ◌∙◌, refl, arith}
 use Rattle.std.specs.Prelude.{pos, List}
 use Rattle.std.specs.Borrow.{Bor}
 use Rattle.std.specs.List.{range_with_len}
@@ -10,9 +10,9 @@ use Rattle.half_edge_links.proofs.Sound.Ends.{length-ends_twice}
 use Rattle.half_edge_mesh.specs.Contents.{Contents}
 use Rattle.half_edge_mesh.specs.Left.{each_in}
 use Rattle.plane.specs.Fraction.{Point}
-use Rattle.plane.specs.Pairs.{Joins}
 use Rattle.plane.specs.Plain.{IsPlain}
 use Rattle.mesh_embedding.specs.Drawn.{corners_of, pair_of, faces_of, edges_of, outer_of}
+use Rattle.mesh_embedding.proofs.EdgePairs.{no_joins}
 use Rattle.delaunay_location.specs.declared.position_in_triangulation.PositionInTriangulation.{PositionInTriangulation}
 use Rattle.delaunay_location.specs.declared.position_in_triangulation.PositionInTriangulation.TheVariants.{OnVertex, OnEdge, OnFace, OutsideOfConvexHull, NoTriangulation}
 use Rattle.delaunay_legalization.specs.State.{State, state_of, points_and_constraints}
@@ -20,10 +20,6 @@ use Rattle.delaunay_legalization.specs.Shape.{IsTriangulated}
 use Rattle.delaunay_edit.specs.Location.{HasHandle}
 use Rattle.delaunay_edit.specs.Elements.{GivesElements, HasElement}
 use Rattle.delaunay_legalization.proofs.Shapes.{laid_out_distinct}
-
-no_pairs : (i j : ℕ) → Joins [] i j → ⊥
-no_pairs i j (inl h) = absurd (omega (arith, h.1))
-no_pairs i j (inr h) = absurd (omega (arith, h.1))
 
 module _ {V D U F : Type 0} (place : V → Point) (s : State V D U F) (kept : IsTriangulated place s) where
   -- each undirected edge has its data
@@ -46,7 +42,7 @@ module _ {V D U F : Type 0} (place : V → Point) (s : State V D U F) (kept : Is
         let i_in : i < length s.vertices = omega (arith, before, j_in) in
         laid_out_distinct (map place s.vertices) (faces_of s.mesh) (outer_of s.mesh) kept.shape i j (omega (arith, i_in, count)) (omega (arith, j_in, count)) (λ same. absurd (omega (arith, before, same)))
         (get_or-map place s.vertices i d there i_in ∙ e ∙ sym (get_or-map place s.vertices j d there j_in));
-    pairs = λ i j h. absurd (no_pairs i j h);
+    pairs = λ i j h. absurd (no_joins i j h);
   }
 
   -- a handle of the mesh is one of the elements with data

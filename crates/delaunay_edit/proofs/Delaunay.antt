@@ -32,12 +32,14 @@ pub none_without_edges : {V D U F : Type 0} (marks : U → Bool) (constraints : 
 none_without_edges marks constraints marked s none = ap (λ ds. pairs_at s.mesh (constraints ds)) none ∙ ap (λ ks. pairs_at s.mesh ks) (marked [])
 
 -- ---- a mesh with nothing but the outer face, and a vertex that takes the place of one of its position
+-- a triangulation without vertices, edges and inner faces is Delaunay
 pub legal_empty : {V D U F : Type 0} (place : V → Point) (constraints : List U → List ℕ) (c : Contents V D U F) → c.mesh ≡ empty → c.vertices ≡ [] → c.undirected ≡ [] → c.faces ≡ [] → IsMeshWithData c → IsDelaunayTriangulation place constraints (state_of c)
 legal_empty place constraints c mesh vertices undirected faces w = record {
   kept = kept_empty place c mesh vertices undirected faces w;
   passing = λ i j k n f. absurd (line_has_none c.mesh i j k (ap faces_of mesh) f);
 }
 
+-- a vertex overwritten at its own position leaves a Delaunay triangulation as it is
 pub legal_overwritten : {V D U F : Type 0} (at : V → Point) (constraints : List U → List ℕ) (c : Contents V D U F) (i : ℕ) (v : V) → IsDelaunayTriangulation at constraints (state_of c) → i < length c.vertices → point_at (map at c.vertices) i ≡ at v → IsDelaunayTriangulation at constraints (state_of (record c { vertices = slice_set c.vertices i v }))
 legal_overwritten at constraints c i v legal h e = record {
   kept = kept_overwritten at c i v legal.kept h e;

@@ -1,43 +1,24 @@
 -- How many constraints there are after an edit of a plain state.
-use Rattle.std.proofs.Common.{◌≡◌, ◌≢◌, ◌⊎◌, ◌↔◌, ℕ, suc, ◌+◌, ◌-◌, ◌<◌, Bool, List, length, refl, sym, ap, ◌∙◌, subst, inl, inr, arith}
+use Rattle.std.proofs.Common.{◌≡◌, ◌≢◌, ◌⊎◌, ◌↔◌, ℕ, suc, ◌+◌, ◌-◌, ◌<◌, Bool, length, refl, sym, ap, ◌∙◌, subst, inl, inr, arith}
 use Rattle.std.specs.Prelude.{nat_eq, cond}
 use Rattle.std.proofs.lemmas.Bool.{cases_eq}
 use Rattle.std.proofs.lemmas.Bool.Decides.{eqb_tells}
 use Rattle.plane.specs.Fraction.{Point, whole}
 use Rattle.plane.specs.Pairs.{Joins, IsSamePair, EachPairOnce, place}
 use Rattle.plane.specs.Plain.{Plain, Adds, AreNeighboursOn, Carries, IsHalf, IsPlain, Releases, Removes, points_of}
+use Rattle.plane.proofs.Indexes.{pair_turned, same_joined}
 use Rattle.plane_tiling.proofs.Edges.{turned_within}
 use Rattle.plane_edits.proofs.Legalization.Flipping.{joins_or_not}
+use Rattle.delaunay_paths.proofs.Releasing.{same_pair_or_not}
 use Rattle.delaunay_edit.specs.Counting.{EndsAt, HasPairs}
 use Rattle.delaunay_edit.proofs.PairCounts.{same_number, listed_pairs, one_more, both, renamed}
-
--- ---- pairs in either order
-pub turned : (ps : List (ℕ × ℕ)) (a b : ℕ) → Joins ps a b → Joins ps b a
-turned ps a b (inl h) = inr h
-turned ps a b (inr h) = inl h
-
-pub joined_as : (ps : List (ℕ × ℕ)) (a b x y : ℕ) → IsSamePair x y a b → Joins ps a b → Joins ps x y
-joined_as ps a b x y (inl s) h = subst (λ (q : ℕ × ℕ). Joins ps q.0 q.1) (λ i. (sym s.0 i, sym s.1 i)) h
-joined_as ps a b x y (inr s) h = subst (λ (q : ℕ × ℕ). Joins ps q.0 q.1) (λ i. (sym s.0 i, sym s.1 i)) (turned ps a b h)
-
-same_or_not : (x y a b : ℕ) → IsSamePair x y a b ⊎ (¬ IsSamePair x y a b)
-same_or_not x y a b = go (cases_eq x a) (cases_eq y b) (cases_eq x b) (cases_eq y a)
-  where
-    go : (x ≡ a) ⊎ (x ≢ a) → (y ≡ b) ⊎ (y ≢ b) → (x ≡ b) ⊎ (x ≢ b) → (y ≡ a) ⊎ (y ≢ a) → IsSamePair x y a b ⊎ (¬ IsSamePair x y a b)
-    go (inl p) (inl q) r s = inl (inl (p, q))
-    go (inl p) (inr q) (inl r) (inl s) = inl (inr (r, s))
-    go (inl p) (inr q) (inl r) (inr s) = inr (λ h. elim h as (λ _. ⊥) [ inl t ↦ q t.1 | inr t ↦ s t.1 ])
-    go (inl p) (inr q) (inr r) s = inr (λ h. elim h as (λ _. ⊥) [ inl t ↦ q t.1 | inr t ↦ r t.0 ])
-    go (inr p) q (inl r) (inl s) = inl (inr (r, s))
-    go (inr p) q (inl r) (inr s) = inr (λ h. elim h as (λ _. ⊥) [ inl t ↦ p t.0 | inr t ↦ s t.1 ])
-    go (inr p) q (inr r) s = inr (λ h. elim h as (λ _. ⊥) [ inl t ↦ p t.0 | inr t ↦ r t.0 ])
 
 module _ {V : Type 0} (position : V → Point) (old new : Plain V) (was : EachPairOnce old.constraints) (now : EachPairOnce new.constraints) where
   -- a constraint that is released is one fewer
   pub released_number : (i j : ℕ) → Releases position old new i j → length old.constraints ≡ suc (length new.constraints)
   released_number i j r = same_number (listed_pairs old.constraints was) (one_more (listed_pairs new.constraints now) i j (λ h. ((r.constraints i j).0 h).1 (inl (refl, refl)))) (λ a b. (
-    (λ h. elim (same_or_not a b i j) [ inl s ↦ inr s | inr n ↦ inl ((r.constraints a b).1 (h, n)) ]),
-    (λ x. elim x [ inl h ↦ ((r.constraints a b).0 h).0 | inr s ↦ joined_as old.constraints i j a b s r.there ]),
+    (λ h. elim (same_pair_or_not a b i j) [ inl s ↦ inr s | inr n ↦ inl ((r.constraints a b).1 (h, n)) ]),
+    (λ x. elim x [ inl h ↦ ((r.constraints a b).0 h).0 | inr s ↦ same_joined old.constraints a b i j s r.there ]),
   ))
 
   -- each piece of a path that was none is one more
@@ -123,7 +104,7 @@ module _ {V : Type 0} (position : V → Point) (old new : Plain V) (was : EachPa
         go (inr p) (inr q) l = not_there s.0 l.0 (sym q.1 ∙ p)
 
     was_joined : (a b : ℕ) → Stays a b → Joins old.constraints a b
-    was_joined a b s = joined_as old.constraints (former s.0) (former s.1) a b s.3 ((removes.constraints s.0 s.1).0 s.2).2
+    was_joined a b s = same_joined old.constraints a b (former s.0) (former s.1) s.3 ((removes.constraints s.0 s.1).0 s.2).2
 
     stays_or_ends : (a b : ℕ) → Joins old.constraints a b → Stays a b ⊎ (Joins old.constraints a b × ((a ≡ v) ⊎ (b ≡ v)))
     stays_or_ends a b h = go (cases_eq a v) (cases_eq b v)
@@ -139,6 +120,7 @@ module _ {V : Type 0} (position : V → Point) (old new : Plain V) (was : EachPa
         go (inr p) (inl q) = inr (h, inr q)
         go (inr p) (inr q) = inl (found (index_now a ends.0 p) (index_now b ends.1 q))
 
+    -- the constraints of before are the k that ended at v and those of after
     pub removed_number : length old.constraints ≡ k + length new.constraints
     removed_number = same_number (listed_pairs old.constraints was) (both (renamed former new.constraints now keeps) ending stays_apart) (λ a b. (
       (λ h. stays_or_ends a b h),
@@ -193,33 +175,30 @@ module _ {V : Type 0} (position : V → Point) (old new : Plain V) (was : EachPa
       half : (x y : ℕ) → IsHalf position old value n x y → IsSamePair x y a n ⊎ IsSamePair x y b n
       half x y h = elim (only x h.1.0 h.1.1 h.1.2) [ inl s ↦ inl (inl (s.0, h.0)) | inr s ↦ inr (inl (s.0, h.0)) ]
 
-      swapped : (x y z w : ℕ) → IsSamePair x y z w → IsSamePair y x z w
-      swapped x y z w (inl s) = inr (s.1, s.0)
-      swapped x y z w (inr s) = inl (s.1, s.0)
-
       placed : (x y : ℕ) → IsSamePair x y a n ⊎ IsSamePair x y b n → Halves x y
       placed x y (inl s) = inl (inr s)
       placed x y (inr s) = inr s
 
       forth : (x y : ℕ) → Joins new.constraints x y ⊎ IsSamePair x y a b → Halves x y
-      forth x y (inr s) = inl (inl (joined_as old.constraints a b x y s joined))
+      forth x y (inr s) = inl (inl (same_joined old.constraints x y a b s joined))
       forth x y (inl h) = elim ((splits x y).0 h) [
         | inl o ↦ inl (inl o.0)
         | inr o ↦ elim o [
           | inl p ↦ placed x y (half x y p)
-          | inr p ↦ placed x y (elim (half y x p) [ inl s ↦ inl (swapped y x a n s) | inr s ↦ inr (swapped y x b n s) ])
+          | inr p ↦ placed x y (elim (half y x p) [ inl s ↦ inl (pair_turned y x a n s) | inr s ↦ inr (pair_turned y x b n s) ])
         ]
       ]
 
       made : (x y z w : ℕ) → IsSamePair z w a b → IsSamePair x y z n → Joins new.constraints x y
-      made x y z w s (inl t) = (splits x y).1 (inr (inl (t.1, subst (λ (q : ℕ). (j : ℕ) × Joins old.constraints q j × Carries position old value q j) (sym t.0) (w, joined_as old.constraints a b z w s joined, carries_as z w s))))
-      made x y z w s (inr t) = (splits x y).1 (inr (inr (t.0, subst (λ (q : ℕ). (j : ℕ) × Joins old.constraints q j × Carries position old value q j) (sym t.1) (w, joined_as old.constraints a b z w s joined, carries_as z w s))))
+      made x y z w s (inl t) = (splits x y).1 (inr (inl (t.1, subst (λ (q : ℕ). (j : ℕ) × Joins old.constraints q j × Carries position old value q j) (sym t.0) (w, same_joined old.constraints z w a b s joined, carries_as z w s))))
+      made x y z w s (inr t) = (splits x y).1 (inr (inr (t.0, subst (λ (q : ℕ). (j : ℕ) × Joins old.constraints q j × Carries position old value q j) (sym t.1) (w, same_joined old.constraints z w a b s joined, carries_as z w s))))
 
       back : (x y : ℕ) → Halves x y → Joins new.constraints x y ⊎ IsSamePair x y a b
-      back x y (inl (inl h)) = elim (same_or_not x y a b) [ inl s ↦ inr s | inr o ↦ inl ((splits x y).1 (inl (h, (λ c. o (only x y h c))))) ]
+      back x y (inl (inl h)) = elim (same_pair_or_not x y a b) [ inl s ↦ inr s | inr o ↦ inl ((splits x y).1 (inl (h, (λ c. o (only x y h c))))) ]
       back x y (inl (inr s)) = inl (made x y a b (inl (refl, refl)) s)
       back x y (inr s) = inl (made x y b a (inr (refl, refl)) s)
 
+      -- where one constraint alone carries the new vertex, there is one more
       pub split_number : length new.constraints ≡ suc (length old.constraints)
       split_number =
           let e = same_number (one_more (listed_pairs new.constraints now) a b gone) (one_more (one_more (listed_pairs old.constraints was) a n first_new) b n second_new) (λ x y. ((λ h. forth x y h), (λ h. back x y h))) in

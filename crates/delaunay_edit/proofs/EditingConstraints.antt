@@ -19,18 +19,22 @@ use Rattle.delaunay_edit.specs.Headline.{IsDelaunay}
 
 -- ---- pieces of a path are neighbours on its segment
 module _ {V : Type 0} (place : V → Point) (points : List Point) (i j a b : ℕ) where
+  -- neighbours on the segment in the words of plain states are so by the points
   pub next_of : AreNeighboursOn place points i j a b → AreNextOn points i j a b
   next_of n = record { apart = n.apart; first_index = n.first_index; second_index = n.second_index; first = n.first; second = n.second; none_between = n.none_between }
 
+  -- and the other way round
   pub neighbours_of : AreNextOn points i j a b → AreNeighboursOn place points i j a b
   neighbours_of n = record { apart = n.apart; first_index = n.first_index; second_index = n.second_index; first = n.first; second = n.second; none_between = n.none_between }
 
 module _ {V D U F : Type 0} (place : V → Point) where
   -- ---- nothing is left to add
   module _ (s : State V D (CdtEdge U) F) where
+    -- without a change no edge is marked
     pub unmarked : MarksEdges s s
     unmarked = record { rest = refl; each = λ k d is. inl is }
 
+    -- where each piece of the path is a constraint, nothing changes
     pub nothing_added : {E : Type 0} (from to : ℕ) (result : Result Bool E) → result ≡ Ok false → from < length s.vertices → to < length s.vertices → CanAdd place (constrained s) from to → AreJoinedAlong (map place s.vertices) (constraints_of s) from to → AddsConstraint place from to result s s
     nothing_added {E} from to result is hi hj free all = subst (λ (r : Result Bool E). AddsConstraint place from to r s s) (sym is) (record {
       plain = record {
@@ -46,9 +50,11 @@ module _ {V D U F : Type 0} (place : V → Point) where
 
   -- ---- a path is added
   module _ (old new : State V D (CdtEdge U) F) (from to : ℕ) (adds : Adds place (constrained old) (constrained new) from to) where
+    -- where a piece was no constraint, there are other constraints afterwards
     pub pairs_differ : ¬ AreJoinedAlong (map place old.vertices) (constraints_of old) from to → ¬ SamePairs (constraints_of old) (constraints_of new)
     pairs_differ some same = some (λ a b next. (same a b).0 ((adds.constraints a b).1 (inr (neighbours_of place (map place old.vertices) from to a b next))))
 
+    -- and the path is added, with a result that tells so
     pub path_added : {E : Type 0} (result : Result Bool E) → result ≡ Ok true → ¬ AreJoinedAlong (map place old.vertices) (constraints_of old) from to → MarksEdges old new → AddsConstraint place from to result old new
     path_added {E} result is some marks = subst (λ (r : Result Bool E). AddsConstraint place from to r old new) (sym is) (record {
       plain = adds;
@@ -61,6 +67,7 @@ module _ {V D U F : Type 0} (place : V → Point) where
     pub path_is_there : IsDelaunay place constraint_edges new → HasPath (map place new.vertices) new.mesh from to
     path_is_there headline a b next = headline.delaunay.kept a b ((adds.constraints a b).1 (inr (neighbours_of place (map place old.vertices) from to a b (subst (λ (vs : List V). AreNextOn (map place vs) from to a b) adds.vertices next))))
 
+    -- between two vertices whose segment no constraint crosses, the edges along it are given
     pub path_listed : from ≢ to → CanAdd place (constrained old) from to → (edges : List ℕ) → LeadAlong (map place new.vertices) new.mesh from to edges → MarksEdges old new → AddsPathIfFree place from to edges old new
     path_listed apart free edges along marks = record {
       refused = λ x. elim x as (λ _. (edges ≡ []) × (new ≡ old)) [ inl e ↦ absurd (apart e) | inr n ↦ absurd (n free) ];
@@ -70,6 +77,7 @@ module _ {V D U F : Type 0} (place : V → Point) where
     }
 
   -- ---- no path is to be added
+  -- where one crosses it, or the two are one, there are no edges, and nothing changes
   pub none_listed : (s : State V D (CdtEdge U) F) (from to : ℕ) (edges : List ℕ) → edges ≡ [] → (from ≡ to) ⊎ (¬ CanAdd place (constrained s) from to) → AddsPathIfFree place from to edges s s
   none_listed s from to edges none barred = record {
     refused = λ x. (none, refl);
@@ -80,14 +88,17 @@ module _ {V D U F : Type 0} (place : V → Point) where
 
 -- ---- by the mesh
 module _ {V D U F : Type 0} (place : V → Point) (old new : Contents V D (CdtEdge U) F) where
+  -- a path of constraints that is added marks edges
   pub edges_marked : (from to : ℕ) → AddsConstraints place is_constraint (with_mark true) constraint_edges old new from to → MarksEdges (state_of old) (state_of new)
   edges_marked from to adds = record { rest = ap state_of adds.contents; each = adds.marks_some }
 
+  -- an edge that is released is free
   pub edge_freed : (k : ℕ) → ReleasesEdge place (with_mark false) constraint_edges old new k → FreesEdge (state_of old) (state_of new) k
   edge_freed k releases = record { value = releases.value; was = releases.was; rest = ap state_of releases.contents; indexes = releases.indexes }
 
 -- ---- an edge is released
 module _ {V D U F : Type 0} (place : V → Point) {E : Type 0} (k : ℕ) (result : Result Bool E) where
+  -- an edge that is no constraint is not released
   pub none_released : (s : State V D (CdtEdge U) F) → result ≡ Ok false → ¬ Contains (constraint_edges s.undirected) k → ReleasesConstraint place k result s s
   none_released s is none = subst (λ (r : Result Bool E). ReleasesConstraint place k r s s) (sym is) (record {
     none = λ n. (refl, refl);
@@ -97,6 +108,7 @@ module _ {V D U F : Type 0} (place : V → Point) {E : Type 0} (k : ℕ) (result
     err = tt;
   })
 
+  -- an edge that is a constraint is released, and the result tells so
   pub one_released : (old new : State V D (CdtEdge U) F) → result ≡ Ok true → Contains (constraint_edges old.undirected) k → Releases place (constrained old) (constrained new) (origin old.mesh (2 * k)) (origin old.mesh (rev (2 * k))) → FreesEdge old new k → ReleasesConstraint place k result old new
   one_released old new is there plain frees = subst (λ (r : Result Bool E). ReleasesConstraint place k r old new) (sym is) (record {
     none = λ n. absurd (n there);

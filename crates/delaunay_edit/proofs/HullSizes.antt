@@ -72,6 +72,7 @@ module _ {V D U F : Type 0} (at : V → Point) (s : State V D U F) (kept : IsTri
       go (inl h) = absurd (o.1 h)
       go (inr c) = c
 
+  -- as many edges are of the hull as the mesh has outer edges
   pub hull_size : (size : ℕ) → size ≡ length (outer_of s.mesh) → HasHullSize (triangulation_of at s) size
   hull_size size e = record {
     hull = outer_of s.mesh;

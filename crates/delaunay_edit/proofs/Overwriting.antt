@@ -15,9 +15,11 @@ use Rattle.delaunay_legalization.specs.Known.{point_at}
 use Rattle.delaunay_legalization.specs.Shape.{IsTriangulated}
 use Rattle.delaunay_legalization.specs.State.{State, state_of}
 
+-- a vertex overwritten at its own position leaves all positions
 pub same_places : {V : Type 0} (at : V → Point) (vs : List V) (i : ℕ) (v : V) → point_at (map at vs) i ≡ at v → map at (slice_set vs i v) ≡ map at vs
 same_places at vs i v e = map-set at vs i v ∙ ap (λ q. set (map at vs) i q) (sym e) ∙ set-get_or (map at vs) i (record { x = pos 0; y = pos 0 })
 
+-- a vertex overwritten at its own position leaves a triangulation one
 pub kept_overwritten : {V D U F : Type 0} (at : V → Point) (c : Contents V D U F) (i : ℕ) (v : V) → IsTriangulated at (state_of c) → i < length c.vertices → point_at (map at c.vertices) i ≡ at v → IsTriangulated at (state_of (record c { vertices = slice_set c.vertices i v }))
 kept_overwritten at c i v kept h e =
     let count : length (slice_set c.vertices i v) ≡ length c.vertices = length-set c.vertices i v in

@@ -1,5 +1,5 @@
 -- The kept number of constraints after an edit.
-use Rattle.std.proofs.Common.{◌≡◌, ◌∙◌, ℕ, ◌+◌, ◌-◌, ◌*◌, ◌≤◌, Bool, List, [], length, map, sym, ap, arith}
+use Rattle.std.proofs.Common.{◌≡◌, ℕ, ◌+◌, ◌-◌, ◌*◌, ◌≤◌, Bool, List, [], length, map, sym, ap, arith}
 use Rattle.plane.specs.Fraction.{Point}
 use Rattle.plane.specs.Pairs.{EachPairOnce}
 use Rattle.plane.specs.Plain.{Adds, IsPlain, Releases, Removes}
@@ -17,10 +17,6 @@ use Rattle.delaunay_edit.proofs.PairCounts.{has_pairs_as}
 -- no constraint
 pub counted_none : {V D U F : Type 0} (place : V → Point) (constraints : List U → List ℕ) (s : State V D U F) → IsDelaunayTriangulation place constraints s → constraints_by constraints s ≡ [] → IsCounted place constraints s 0
 counted_none place constraints s legal none = record { legal = legal; counted = ap (λ (ps : List (ℕ × ℕ)). length ps) (sym none) }
-
--- as many as before
-pub counted_still : {V D U F : Type 0} (place : V → Point) (constraints : List U → List ℕ) (old new : State V D U F) (number : ℕ) → IsCounted place constraints old number → IsDelaunayTriangulation place constraints new → constraints_by constraints new ≡ constraints_by constraints old → IsCounted place constraints new number
-counted_still place constraints old new number was legal same = record { legal = legal; counted = was.counted ∙ ap (λ (ps : List (ℕ × ℕ)). length ps) (sym same) }
 
 module _ {V D U F : Type 0} (place : V → Point) (marks : U → Bool) (constraints : List U → List ℕ) (marked : (ds : List U) → constraints ds ≡ marked_edges marks ds)
     (old new : State V D U F) (number : ℕ) (was : IsCounted place constraints old number) (legal : IsDelaunayTriangulation place constraints new) where
@@ -45,9 +41,11 @@ module _ {V D U F : Type 0} (place : V → Point) (marks : U → Bool) (constrai
       (λ m. (next_of place (map place old.vertices) i j a b m.0, m.1)),
     )))
 
+    -- where a path is added whose k pieces were missing, the number is greater by k
     pub counted_added : IsCounted place constraints new (number + k)
     counted_added = let counted = was.counted in record { legal = legal; counted = omega (arith, more, counted) }
 
+    -- and it is at most three for each vertex
     pub room_for_added : number + k ≤ 3 * length new.vertices
     room_for_added =
         let counted = was.counted in
@@ -63,8 +61,10 @@ module _ {V D U F : Type 0} (place : V → Point) (marks : U → Bool) (constrai
     fewer : length (constraints_by constraints old) ≡ k + length (constraints_by constraints new)
     fewer = removed_number place (points_and_constraints_by constraints old) (points_and_constraints_by constraints new) once_before once_after v k plain removes ending
 
+    -- where a vertex goes at which k constraints end, the number is less by k
     pub counted_removed : IsCounted place constraints new (number - k)
     counted_removed = let counted = was.counted in record { legal = legal; counted = omega (arith, fewer, counted) }
 
+    -- and it was k or more
     pub some_removed : k ≤ number
     some_removed = let counted = was.counted in omega (arith, fewer, counted)

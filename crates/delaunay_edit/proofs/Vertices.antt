@@ -16,6 +16,7 @@ use Rattle.delaunay_legalization.specs.State.{State, triangulation_of}
 use Rattle.delaunay_location.proofs.Locating.{at_vertex, same_point}
 
 module _ {V D U F : Type 0} (at : V → Point) (s : State V D U F) (p : Point) where
+  -- a position that is located on a vertex is where this vertex is
   pub here_if_on_vertex : (v : ℕ) → IsLocation (triangulation_of at s) (whole p) (on_vertex v) → (v < length s.vertices) × (point_at (map at s.vertices) v ≡ p)
   here_if_on_vertex v h = let below = h.0 in (omega (arith, below, length-map s.vertices at), same_point p (point_at (map at s.vertices) v) h.1)
 
@@ -26,6 +27,7 @@ module _ {V D U F : Type 0} (at : V → Point) (s : State V D U F) (kept : IsTri
   at_known : (k : IsKnown (map at s.vertices) p) → IsLocation (triangulation_of at s) (whole p) (on_vertex k.index)
   at_known k = let below = k.below in (at_vertex at s kept p k.index (omega (arith, below, length-map s.vertices at)) k.here).location
 
+  -- a position that is located, but on no vertex, is where no vertex is
   pub unknown_elsewhere : (answer : PositionInTriangulation) → IsLocation (triangulation_of at s) (whole p) (location_of s.mesh answer) → ((v : ℕ) → ¬ (answer ≡ OnVertex v)) → ¬ IsKnown (map at s.vertices) p
   unknown_elsewhere (OnVertex v) there other k = other v refl
   unknown_elsewhere (OnEdge e) there other k = one_location (on_vertex k.index) (location_of s.mesh (OnEdge e)) (at_known k) there

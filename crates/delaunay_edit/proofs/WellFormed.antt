@@ -14,6 +14,7 @@ use Rattle.delaunay_edit.proofs.Constrained.{plain_with_edges}
 use Rattle.delaunay_edit.proofs.Delaunay.{marked_constrained_delaunay, empty_triple_is_face}
 
 module _ {V D U F : Type 0} (place : V → Point) (marks : U → Bool) (constraints : List U → List ℕ) (marked : (ds : List U) → constraints ds ≡ marked_edges marks ds) (s : State V D U F) (legal : IsDelaunayTriangulation place constraints s) where
+  -- it is Delaunay in the words of callers
   pub is_delaunay : IsDelaunay place constraints s
   is_delaunay =
       let all : IsConstrainedDelaunay (triangulation_of place s) (constraints_by constraints s) = marked_constrained_delaunay place marks constraints marked s legal in
@@ -23,6 +24,7 @@ module _ {V D U F : Type 0} (place : V → Point) (marks : U → Bool) (constrai
         empty_triples = λ none. empty_triple_is_face place constraints s all none;
       }
 
+  -- with no more vertices than there are indexes, it is well-formed, too
   pub well_formed : length s.vertices ≤ MAX_ELEMENTS → IsWellFormed place constraints s
   well_formed small = record {
     small = small;

@@ -15,6 +15,7 @@ pub record IsVacant (points : List Point) (m : Mesh) (p : Point) (answer : Posit
   pub location : Locates points m p answer
   pub left : IsTrue turns ↔ IsLeftOfPlace points m p answer
 
+-- the entry is the vertex at p, or p is at no vertex and has this location
 abbrev pub IsEntry : {V D U F : Type 0} → (V → Point) → State V D U F → Point → Entry → Type 0
 IsEntry place s p (Occupied v) = (v < length s.vertices) × (point_at (map place s.vertices) v ≡ p)
 IsEntry place s p (Vacant answer turns) = IsVacant (map place s.vertices) s.mesh p answer turns

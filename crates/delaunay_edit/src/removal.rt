@@ -13,8 +13,8 @@ use crate::counting::count_constraints_at;
 use crate::edited_mesh::EditedMesh;
 use delaunay_core::math::PlaneTests;
 use delaunay_core::point::HasPosition;
-use delaunay_legalization::{ConstraintMarker, legalize_among};
-use delaunay_removal::{neighbours_left, remove_vertex};
+use delaunay_legalization::ConstraintMarker;
+use delaunay_removal::{legalize_pairs, remove_vertex, room_for_turns, sides_of_hole};
 use half_edge_mesh::FixedVertexHandle;
 use std::alloc::AllocError;
 
@@ -44,8 +44,8 @@ impl<V: HasPosition, DE: Drop, UE: Drop, F: Drop, M: ConstraintMarker<UE>> Edite
     F,
     M,
 > {
-    // Takes a vertex out and tests the edges between its neighbours, or a refusal that changes
-    // nothing.
+    // Takes a vertex out and tests the sides of its hole and what its turned edges join, or a
+    // refusal that changes nothing.
     fn take_out<P: PlaneTests<V::Scalar>>(
         &mut self,
         vertex: FixedVertexHandle,
@@ -64,18 +64,22 @@ impl<V: HasPosition, DE: Drop, UE: Drop, F: Drop, M: ConstraintMarker<UE>> Edite
         self.work.reserve(3 * self.dcel.num_vertices())?;
         self.sides.clear();
         self.sides.reserve(self.dcel.num_directed_edges())?;
-        let neighbours = neighbours_left(&self.dcel, vertex, *self.work.allocator())?;
+        let border = sides_of_hole(&self.dcel, vertex, *self.work.allocator())?;
+        let mut turned = room_for_turns(&self.dcel, vertex, *self.work.allocator())?;
         let ending = count_constraints_at::<M, _, _, _, _>(&self.dcel, vertex);
         let value = remove_vertex::<M, _, _, _, _, _>(
             &mut self.dcel,
             vertex,
             tests,
             &mut self.sides,
+            &mut turned,
         );
         let mut flips = 0;
-        legalize_among::<M, _, _, _, _, _>(
+        legalize_pairs::<M, _, _, _, _, _>(
             &mut self.dcel,
-            neighbours.as_slice(),
+            vertex,
+            border.as_slice(),
+            turned.as_slice(),
             tests,
             &mut self.work,
             &mut flips,

@@ -18,6 +18,7 @@ module _ {V D U F : Type 0} (at : V → Point) (constraints : List U → List �
     constraints = splits;
   }
 
+  -- a result with v after the other vertices, and its constraints split there, inserts v at its index
   pub inserted : {E : Type 0} (result : Result ℕ E) → IfOk result (λ i. i ≡ length old.vertices) → OnOk result (new.vertices ≡ old.vertices ++ v ∷ []) → OnOk result (SplitsConstraints at constraints old new v)
       → IfOk result (λ i. Inserts at (points_and_constraints_by constraints old) (points_and_constraints_by constraints new) v i)
   inserted (Ok i) last is splits = inr (last, appended is splits)

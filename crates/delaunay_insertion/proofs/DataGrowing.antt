@@ -22,6 +22,7 @@ use Rattle.plane.proofs.Steps.{weak}
 use Rattle.plane.proofs.Triangles.{turned_in}
 use Rattle.plane_tiling.proofs.Edges.{turned_within}
 use Rattle.mesh_embedding.specs.Stays.{GoSameWay}
+use Rattle.mesh_embedding.proofs.EdgePairs.{rev_of_even}
 use Rattle.mesh_embedding.proofs.MeshStays.{halved, half_same, slice_get-set_other}
 use Rattle.delaunay_insertion.specs.Data.{KeepsEdge, KeepsFace, GrowsAround, IsInCorners}
 use Rattle.delaunay_legalization.specs.Parts.{IsWithinEdge, IsInsideFaceOf}
@@ -34,6 +35,7 @@ get_before [] ys k w = absurd (omega (arith, w))
 get_before (x ∷ xs) ys zero w = refl
 get_before (x ∷ xs) ys (suc k) w = get_before xs ys k (omega (arith, w))
 
+-- an entry of a list stays where others are appended
 pub some_before : {X : Type 0} (xs ys : List X) (k : ℕ) (x : X) → slice_get xs k ≡ Some x → slice_get (xs ++ ys) k ≡ Some x
 some_before xs ys k x e = get_before xs ys k (slice_get_within xs k x e) ∙ e
 
@@ -47,6 +49,7 @@ moved_entry P old new i j more k w n m g =
     ap (λ xs. slice_get xs k) g.whole ∙ get_before (set (set old i g.made) j g.also_made) (g.kept ∷ g.also_kept ∷ g.added) k (rw (length-set (set old i g.made) j g.also_made, length-set old i g.made) w)
     ∙ slice_get-set_other (set old i g.made) j k g.also_made m ∙ slice_get-set_other old i k g.made n
 
+-- where one edge gets other ends, each other one in the list stays
 pub with_ends_other : {U : Type 0} (xs : List (Edge U)) (i j : ℕ) (e : Ends) → j ≢ i → slice_get (with_ends xs i e) j ≡ slice_get xs j
 with_ends_other [] i j e n = refl
 with_ends_other (x ∷ xs) zero zero e n = absurd (n refl)
@@ -64,21 +67,21 @@ some_edge (x ∷ es) (u ∷ us) (suc k) v w = some_edge es us k (omega (arith, v
 abbrev ends_of : {U : Type 0} → Edge U → Ends
 ends_of e = record { source = e.source; target = e.target }
 
+-- an edge in the list of edges with their data has the ends and the data that are listed at its index
 pub parts_of_edge : {U : Type 0} (es : List Ends) (us : List U) (k : ℕ) (e : Edge U) → slice_get (edges_of es us) k ≡ Some e → (slice_get es k ≡ Some (ends_of e)) × (slice_get us k ≡ Some e.value)
 parts_of_edge [] us k e h = absurd (cc)
 parts_of_edge (x ∷ es) [] k e h = absurd (cc)
 parts_of_edge (x ∷ es) (u ∷ us) zero e h = let q : edge_with x u ≡ e = cc in (ap (λ z. Some (ends_of z)) q, ap (λ z. Some z.value) q)
 parts_of_edge (x ∷ es) (u ∷ us) (suc k) e h = parts_of_edge es us k e h
 
-pub rev_of_even : (k : ℕ) → rev (2 * k) ≡ 2 * k + 1
-rev_of_even k = grind (arith, common_steps)
-
+-- a directed edge and its reverse are one undirected edge
 pub rev_half : (e : ℕ) → rev e / 2 ≡ e / 2
 rev_half e = grind (arith, common_steps)
 
 no_ends : Ends
 no_ends = record { source = 0; target = 0 }
 
+-- the ends that are listed for undirected edge k are those of directed edge 2 k
 pub ends_are : (m : Mesh) → AreSoundLinks m → (k : ℕ) (e : Ends) → slice_get (ends m) k ≡ Some e → (origin m (2 * k) ≡ e.source) × (origin m (rev (2 * k)) ≡ e.target)
 ends_are m s k e h = (ap (λ (x : Ends). x.source) listed, ap (origin m) (rev_of_even k) ∙ ap (λ (x : Ends). x.target) listed)
   where

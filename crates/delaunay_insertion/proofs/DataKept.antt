@@ -19,12 +19,9 @@ use Rattle.delaunay_insertion.specs.Data.{KeepsData, KeepsEdge, GrowsAround, IsI
 use Rattle.delaunay_legalization.specs.Shape.{IsTriangulated}
 use Rattle.delaunay_legalization.specs.State.{State, state_of}
 use Rattle.mesh_embedding.proofs.EdgePairs.{edge_joins}
+use Rattle.mesh_embedding.proofs.Entries.{some_entry}
 use Rattle.delaunay_legalization.proofs.MeshParts.{no_side}
 use Rattle.delaunay_legalization.proofs.Shapes.{laid_out_tiles}
-
-first : {X : Type 0} (xs : List X) (k : ℕ) → k < length xs → X
-first [] k w = absurd (omega (arith, w))
-first (x ∷ xs) k w = x
 
 -- the mesh and all data stay
 data_same : {V D U F : Type 0} (at : V → Point) (old new : State V D U F) → IsTriangulated at old → new ≡ record old { vertices = new.vertices } → KeepsData old new
@@ -68,7 +65,7 @@ module _ {V D U F : Type 0} (at : V → Point) (v : V) (old mid new : State V D 
       there = subst (λ n. h < n) now.fits.directed_fit x
 
       still : KeepsEdge old mid g → g < length mid.mesh.half_edges
-      still k = let some = slice_get-get_or old.directed g (first old.directed g w) w in subst (λ n. g < n) fits (slice_get_within mid.directed g (get_or old.directed g (first old.directed g w)) (k.directed ∙ some))
+      still k = let some = slice_get-get_or old.directed g (some_entry old.directed g w) w in subst (λ n. g < n) fits (slice_get_within mid.directed g (get_or old.directed g (some_entry old.directed g w)) (k.directed ∙ some))
 
       stands : Joins (edges_of new.mesh) (origin new.mesh h) (origin new.mesh (rev h)) → IsEdge (drawn after new.mesh) (origin old.mesh g) (origin old.mesh (rev g))
       stands j = subst (λ (x : ℕ × ℕ). Joins (edges_of new.mesh) x.0 x.1) (λ o. (way.0 o, way.1 o)) j
@@ -104,17 +101,15 @@ module _ {V D U F : Type 0} (at : V → Point) (v : V) (old mid new : State V D 
       moved : InTriangle (place after t.first) (place after t.second) (place after t.third) (place after (length old.vertices))
       moved = subst (λ (x : Fraction × Fraction × Fraction × Fraction). InTriangle x.0 x.1 x.2 x.3) (λ o. (place_stays at v old new was now vertices t.first bounds.0 o, place_stays at v old new was now vertices t.second bounds.1 o, place_stays at v old new was now vertices t.third bounds.2 o, place_last at v old new was now vertices o)) inside
 
-  data_face : (f g : ℕ) (t u : Triangle) → slice_get (triangles old.mesh) f ≡ Some t → slice_get (triangles new.mesh) g ≡ Some u → HaveSameCorners t u → slice_get new.faces g ≡ slice_get old.faces f
-  data_face f g t u p q corners = elim (grows.faces f t p) [
-    | inl k ↦ ap (λ s. slice_get s.faces g) same ∙ ap (slice_get mid.faces) (indexes.faces f g t u (k.corners ∙ p) q corners) ∙ k.value
-    | inr inside ↦ absurd (not_in_face f t u g p q corners inside)
-  ]
-
+  -- all that stands before and after has the data that it had
   pub data_kept : KeepsData old new
   data_kept = record {
     directed = λ g h w x way. let d = data_edges g h w x way in ap (λ s. slice_get s.directed h) same ∙ ap (slice_get mid.directed) d.1 ∙ d.0.directed;
     undirected = λ g h w x way. let d = data_edges g h w x way in ap (λ s. slice_get s.undirected (h / 2)) same ∙ ap (λ (k : ℕ). slice_get mid.undirected (k / 2)) d.1 ∙ d.0.undirected;
-    faces = data_face;
+    faces = λ f g t u p q corners. elim (grows.faces f t p) [
+      | inl k ↦ ap (λ s. slice_get s.faces g) same ∙ ap (slice_get mid.faces) (indexes.faces f g t u (k.corners ∙ p) q corners) ∙ k.value
+      | inr inside ↦ absurd (not_in_face f t u g p q corners inside)
+    ];
     outer = ap (λ s. s.outer) same ∙ grows.outer;
   }
 

@@ -11,13 +11,11 @@ use Rattle.half_edge_mesh.specs.Growth.{AddsEdges, SplitsEdge, with_ends}
 use Rattle.plane.specs.Pairs.{IsSamePair}
 use Rattle.mesh_embedding.proofs.MeshStays.{slice_get-set_other}
 use Rattle.delaunay_insertion.specs.Edges.{AddsOnly, SplitsAt}
+use Rattle.mesh_embedding.proofs.Entries.{one_value}
 use Rattle.delaunay_insertion.proofs.DataGrowing.{some_before, with_ends_other, parts_of_edge}
 use Rattle.delaunay_legalization.proofs.MarkedPairs.{set_entry}
 
 -- two values that are the same where they are there
-pub one_value : {X : Type 0} (x y : X) → Some x ≡ Some y → x ≡ y
-one_value x y e = cc
-
 -- an entry of two lists joined is in one of them
 before_or_after : {X : Type 0} (xs ys : List X) (l : ℕ) (x : X) → slice_get (xs ++ ys) l ≡ Some x → (slice_get xs l ≡ Some x) ⊎ ((i : ℕ) × (slice_get ys i ≡ Some x) × (length xs + i ≡ l))
 before_or_after [] ys l x e = inr (l, e, (let z : 0 + l ≡ l = omega arith in z))
@@ -49,6 +47,7 @@ module _ {U : Type 0} (P : U → Type 0) where
       subst P (get_or_from_slice_get us i e.value e.value u) (All-get_or P us i e.value (slice_get_within us i e.value u) all)
 
   module _ (old new : List (Edge U)) where
+    -- where edges are added, each other one stays and the new data are as P says
     pub adds_only : (added : List Ends) → AddsEdges P old new added → AddsOnly P old new
     adds_only added a = record {
       kept = λ l e h. ap (λ xs. slice_get xs l) a.whole ∙ some_before old (edges_of added a.values) l e h;
@@ -58,12 +57,14 @@ module _ {U : Type 0} (P : U → Type 0) where
       ];
     }
 
+  -- two such changes one after the other are one
   pub adds_on : (old mid new : List (Edge U)) → AddsOnly P old mid → AddsOnly P mid new → AddsOnly P old new
   adds_on old mid new a b = record {
     kept = λ l e h. b.kept l e (a.kept l e h);
     added = λ l e h. elim (b.added l e h) [ inl x ↦ a.added l e x | inr x ↦ inr x ];
   }
 
+  -- a list that stays the same is such a change, too
   pub adds_nothing : (old new : List (Edge U)) → new ≡ old → AddsOnly P old new
   adds_nothing old new same = record { kept = λ l e h. ap (λ xs. slice_get xs l) same ∙ h; added = λ l e h. inl (ap (λ xs. slice_get xs l) (sym same) ∙ h) }
 

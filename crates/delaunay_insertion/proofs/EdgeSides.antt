@@ -18,12 +18,14 @@ use Rattle.delaunay_insertion.proofs.Joining.{sides_at_most, edges_and_faces}
 use Rattle.delaunay_legalization.proofs.MeshParts.{mesh_edge}
 use Rattle.delaunay_legalization.proofs.Shapes.{laid_out_tiles}
 
+-- a number that is not 0 is positive
 pub positive : (n : ℕ) → ¬ (n ≡ 0) → 0 < n
 positive n h = omega (arith, h)
 
 module _ {V D U F : Type 0} (at : V → Point) (c : Contents V D U F) (kept : IsTriangulated at (state_of c)) where
   -- ---- room for what a vertex brings, of the room that is reserved for it
   module _ (room : HasRoomFor c.room (length c.vertices + 1) (3 * (length c.vertices + 1)) (2 * (length c.vertices + 1))) where
+    -- with a vertex there already, there is room for one more, with three edges and two faces
     pub room_inside : 0 < length c.vertices → HasRoom c 1 3 2
     room_inside some =
         let v = room.vertices_fit in
@@ -33,13 +35,16 @@ module _ {V D U F : Type 0} (at : V → Point) (c : Contents V D U F) (kept : Is
         let sides = sides_at_most c (record { valid = kept.valid; fits = kept.fits }) in
         record { vertices_fit = omega (arith, v); edges_fit = omega (arith, e, counts, sides); faces_fit = omega (arith, f, counts, sides) }
 
+  -- with an inner face there is a vertex
   pub vertex_of_face : (f : ℕ) → 0 < f → f ≤ length c.faces → 0 < length c.vertices
   vertex_of_face f some within = let few = kept.few_faces in omega (arith, some, within, few)
 
+  -- with an edge there is a vertex
   pub vertex_of_edge : (e : ℕ) → e < length c.directed → 0 < length c.vertices
   vertex_of_edge e within = let d = kept.fits.directed_fit in let u = kept.fits.undirected_fit in let few = kept.few_edges in omega (arith, within, d, u, few)
 
   -- ---- the two sides of an edge
+  -- the twin of an edge is one of the edges
   pub twin_within : (e : ℕ) → e < length c.directed → rev e < length c.directed
   twin_within e within =
       let d = kept.fits.directed_fit in
@@ -47,9 +52,11 @@ module _ {V D U F : Type 0} (at : V → Point) (c : Contents V D U F) (kept : Is
       let r = rev_within e (length c.mesh.half_edges) kept.valid.sound.even h in
       omega (arith, r, d)
 
+  -- what is strictly within an edge is so within its twin
   pub within_twin : (p : Point) (e : ℕ) → IsWithinEdge (map at c.vertices) c.mesh p e → IsWithinEdge (map at c.vertices) c.mesh p (rev e)
   within_twin p e w = subst (λ k. WithinSegment (place (map at c.vertices) (origin c.mesh (rev e))) (place (map at c.vertices) (origin c.mesh k)) (whole p)) (sym (rev-rev e)) (turned_within (place (map at c.vertices) (origin c.mesh e)) (place (map at c.vertices) (origin c.mesh (rev e))) (whole p) w)
 
+  -- where the mesh lists no face, there is no inner one
   pub no_listed_face : faces_of c.mesh ≡ [] → length c.faces ≡ 0
   no_listed_face none = kept.fits.faces_fit ∙ sym (length-map c.mesh.face_edges (triangle_at c.mesh)) ∙ sym (length-map (triangles c.mesh) corners_of) ∙ ap length none
 

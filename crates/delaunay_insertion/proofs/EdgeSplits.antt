@@ -70,9 +70,11 @@ module _ {V D U F : Type 0} (old new : Contents V D U F) (w : IsMeshWithData old
 
 -- the second half is an edge that was not there
 module _ {V D U F : Type 0} (old mid : Contents V D U F) (w : IsMeshWithData old) (now : IsMeshWithData mid) (P : U → Type 0) (k v second : ℕ) (s : SplitsAt P (edges old) (edges mid) k v second) where
+  -- the second half is one of the undirected edges afterwards
   pub second_there : second < length mid.undirected
   second_there = slice_get_within mid.undirected second s.second_half.value (own_ends mid now second s.second_half s.second_is).0
 
+  -- and comes after those that were there
   pub second_late : length old.undirected ≤ second
   second_late =
       let l = s.late in
@@ -81,9 +83,11 @@ module _ {V D U F : Type 0} (old mid : Contents V D U F) (w : IsMeshWithData old
 
 -- ---- whether it had the mark
 module _ {U : Type 0} (marks : U → Bool) (constraints : List U → List ℕ) (marked : (ds : List U) → constraints ds ≡ marked_edges marks ds) (b : Bool) (ds : List U) (k : ℕ) (d : U) (here : slice_get ds k ≡ Some d) (is : IsTrue b ↔ Contains (constraints ds) k) where
+  -- where b is true, the data of the edge have the mark
   pub had_mark : IsTrue b → marks d ≡ true
   had_mark t = fixed_edge_is marks constraints marked ds k d here (is.0 t)
 
+  -- where b is false, they do not have it
   pub had_none : b ≡ false → marks d ≡ false
   had_none f = go (marks d) refl
     where
@@ -93,12 +97,15 @@ module _ {U : Type 0} (marks : U → Bool) (constraints : List U → List ℕ) (
 
 -- ---- other data of an edge that was not there
 module _ {V D U F : Type 0} (at : V → Point) (mid new : Contents V D U F) (change : U → U) (k : ℕ) (written : HasEdgeData change mid new k) where
+  -- the vertices stay
   pub written_vertices : new.vertices ≡ mid.vertices
   written_vertices = ap (λ (c : Contents V D U F). c.vertices) written.whole
 
+  -- the mesh stays
   pub written_mesh : new.mesh ≡ mid.mesh
   written_mesh = ap (λ (c : Contents V D U F). c.mesh) written.whole
 
+  -- a triangulation stays one
   pub written_kept : IsTriangulated at (state_of mid) → IsTriangulated at (state_of new)
   written_kept kept = subst (λ (c : Contents V D U F). IsTriangulated at (state_of c)) (sym written.whole) (record {
     in_range = kept.in_range;
@@ -109,6 +116,7 @@ module _ {V D U F : Type 0} (at : V → Point) (mid new : Contents V D U F) (cha
     shape = kept.shape;
   })
 
+  -- what stayed while the triangulation grew round p stays, where the edge was not there before
   pub written_grows : (old : Contents V D U F) → FitsMesh old.mesh (length old.vertices) (length old.directed) (length old.undirected) (length old.faces) → length old.undirected ≤ k → (points : List Point) (p : Point) → GrowsAround points p (state_of old) (state_of mid) → GrowsAround points p (state_of old) (state_of new)
   written_grows old fits late points p grows = subst (λ (c : Contents V D U F). GrowsAround points p (state_of old) (state_of c)) (sym written.whole) (record {
     edges = λ h w. elim (grows.edges h w) [

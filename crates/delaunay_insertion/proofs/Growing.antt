@@ -29,6 +29,7 @@ module _ {V D U F : Type 0} (at : V → Point) (old new : Contents V D U F) (v :
   count : length new.vertices ≡ length old.vertices + 1
   count = ap length vertices ∙ length-append old.vertices (v ∷ [])
 
+  -- the new vertex is in range, and the mesh is one of all points: the triangulation has grown by it
   pub grown : InRange (at v) → IsMeshWithData new → length new.undirected ≤ length old.undirected + 3 → length new.faces ≤ length old.faces + 2 → IsMesh (map at old.vertices ++ at v ∷ []) (faces_of new.mesh) (outer_of new.mesh) → IsTriangulated at (state_of new)
   grown ok w edges faces shape = record {
     in_range = subst (λ vs. All (λ u. InRange (at u)) vs) (sym vertices) (All-push (λ u. InRange (at u)) old.vertices v kept.in_range ok);
@@ -52,6 +53,7 @@ bare_empty points faces outer e (inr m) = (m.0, none outer m.1)
     none [] m = refl
     none (x ∷ xs) m = absurd (let c = ((m.neighbours x.0 x.1).0 (Contains-head x xs)).first in omega (arith, e, c))
 
+-- a mesh without vertices that gets its first vertex is still a mesh of its points
 pub first_shape : (points : List Point) (q : Point) (m : Mesh) → length points ≡ 0 → IsMesh points (faces_of m) (outer_of m) → IsMesh (points ++ q ∷ []) (faces_of (with_vertex m)) (outer_of (with_vertex m))
 first_shape [] q m e shape =
     let b = bare_empty [] (faces_of m) (outer_of m) refl shape in
@@ -59,7 +61,7 @@ first_shape [] q m e shape =
 first_shape (p ∷ ps) q m e shape = absurd (omega (arith, e))
 
 -- a mesh without faces is a line
-pub bare_line : (points : List Point) (m : Mesh) → length m.face_edges ≡ 0 → IsMesh points (faces_of m) (outer_of m) → (faces_of m ≡ []) × LineMesh points (outer_of m)
+bare_line : (points : List Point) (m : Mesh) → length m.face_edges ≡ 0 → IsMesh points (faces_of m) (outer_of m) → (faces_of m ≡ []) × LineMesh points (outer_of m)
 bare_line points m bare (inl l) = absurd (l.some_face (empty_list (faces_of m) (length-map (triangles m) corners_of ∙ length-map m.face_edges (triangle_at m) ∙ bare)))
 bare_line points m bare (inr l) = l
 
@@ -78,6 +80,7 @@ few_on_line points faces outer few (inr m) = m
 fresh_place : (points : List Point) (q : Point) → IsApart points q → (k : ℕ) → IsIndex points k → place points k ≢ whole q
 fresh_place points q apart k h e = apart.apart k h (ap (λ (f : Fraction). (let p : Point = record { x = f.x; y = f.y } in p)) e)
 
+-- a mesh of one vertex whose second vertex is joined to it is still a mesh of its points
 pub second_shape : (points : List Point) (q : Point) (m new : Mesh) (a b : ℕ) → length points ≡ 1 → AreSoundLinks m → length points ≡ length m.out_edges → IsMesh points (faces_of m) (outer_of m) → IsApart points q → a ≡ 0 → b ≡ length points
     → triangles new ≡ [] → OuterChanges (with_vertex m) new (λ h. ⊥) (λ h i j. IsEdge 0 a b h i j ⊎ IsEdge 1 b a h i j) → IsMesh (points ++ q ∷ []) (faces_of new) (outer_of new)
 second_shape points q m new a b one s fit shape apart first last none change =

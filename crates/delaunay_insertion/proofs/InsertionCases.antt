@@ -6,7 +6,6 @@ use Rattle.half_edge_mesh.specs.Flip.{IsFlippable}
 use Rattle.half_edge_mesh.specs.Grow.{IsHalfSplittable}
 use Rattle.half_edge_mesh.specs.Triangles.{triangle_at, triangles, InsertsTriangles, SplitsTriangles}
 use Rattle.half_edge_mesh.specs.Outline.{KeepsOuter, ReplacesOuter, HalfSplitsTriangles}
-use Rattle.half_edge_links.proofs.Removing.Conditions.{turned_apart}
 use Rattle.half_edge_mesh.specs.Growth.{MovesItem}
 use Rattle.plane.specs.Fraction.{Point, whole, WithinSegment}
 use Rattle.plane.specs.Pairs.{place}
@@ -21,24 +20,13 @@ pub length_moved : {X : Type 0} (P : X → Type 0) (old new : List X) (i more : 
 length_moved P old new i more g = rw g.whole (simp (length-set, length-append) (omega (arith, g.count)))
 
 -- a mesh with an edge of an inner face is not a line
-pub with_faces : (points : List Point) (m : Mesh) (e : ℕ) → AreSoundLinks m → IsInnerEdge m e → IsMesh points (faces_of m) (outer_of m) → LocalMesh points (faces_of m) (outer_of m)
+with_faces : (points : List Point) (m : Mesh) (e : ℕ) → AreSoundLinks m → IsInnerEdge m e → IsMesh points (faces_of m) (outer_of m) → LocalMesh points (faces_of m) (outer_of m)
 with_faces points m e s x (inl l) = l
 with_faces points m e s x (inr l) =
     let bare : length m.face_edges ≡ 0 = sym (length-map m.face_edges (triangle_at m)) ∙ sym (length-map (triangles m) corners_of) ∙ ap length l.0 in
     let f = (s.edges e x.0).face_in in
     let i = x.1 in
     absurd (omega (arith, bare, f, i))
-
--- the faces on both sides of an edge differ
-pub flippable_between : (m : Mesh) (e : ℕ) → IsValidMesh m → e < length m.half_edges → 0 < face m e → 0 < face m (rev e) → IsFlippable m e
-flippable_between m e w within inner twin =
-    let s = w.sound.edges e within in
-    record {
-      within = within;
-      inner = inner;
-      twin_inner = twin;
-      apart = λ same. turned_apart m w (next m e) s.next_in (subst (λ k. 0 < k) (sym s.same_face) inner) (ap (λ k. face m (rev k)) s.prev_next ∙ sym same ∙ sym s.same_face);
-    }
 
 module _ (points : List Point) (q : Point) (m new : Mesh) (v : ℕ) (w : IsValidMesh m) (shape : IsMesh points (faces_of m) (outer_of m)) (last : v ≡ length points) where
   -- strictly inside face f

@@ -85,16 +85,20 @@ has_vertex place c e kept within =
     omega (arith, o, f)
 
 -- ---- a vertex on the left of an edge is at neither end
+-- no triple whose third point is its second turns left
 pub not_to : (points : List Point) (i k : ℕ) → ¬ TurnsLeft (place points i) (place points k) (place points k)
 not_to points i k s = left_not_zero (if_left (place points i) (place points k) (place points k) s) (bracket-last (at (point_at points) i) (at (point_at points) k))
 
+-- no triple whose third point is its first turns left
 pub not_from : (points : List Point) (i k : ℕ) → ¬ TurnsLeft (place points k) (place points i) (place points k)
 not_from points i k s = left_not_zero (if_left (place points k) (place points i) (place points k) s) (bracket-outer (at (point_at points) k) (at (point_at points) i))
 
-pub seen_start : (points : List Point) (m : Mesh) (k e : ℕ) → Sees points m k e → origin m e ≢ k
+-- a vertex on the left of an edge is not where the edge starts
+seen_start : (points : List Point) (m : Mesh) (k e : ℕ) → Sees points m k e → origin m e ≢ k
 seen_start points m k e s same = not_from points (origin m (rev e)) k (subst (λ i. TurnsLeft (place points i) (place points (origin m (rev e))) (place points k)) same s)
 
-pub seen_end : (points : List Point) (m : Mesh) (k e : ℕ) → Sees points m k e → origin m (rev e) ≢ k
+-- a vertex on the left of an edge is not where the edge ends
+seen_end : (points : List Point) (m : Mesh) (k e : ℕ) → Sees points m k e → origin m (rev e) ≢ k
 seen_end points m k e s same = not_to points (origin m e) k (subst (λ i. TurnsLeft (place points (origin m e)) (place points i) (place points k)) same s)
 
 -- the new last vertex v of a mesh is joined to the outer edges between the edge ahead, which it starts, and the edge
@@ -125,6 +129,7 @@ module _ {V D U F : Type 0} (place_at : V → Point) (old : Contents V D U F) (v
   abbrev last : ℕ
   last = length (map place_at old.vertices)
 
+  -- the vertices now are one more
   pub grown_count : (now : Contents V D U F) → now.vertices ≡ old.vertices ++ v ∷ [] → length now.vertices ≡ length old.vertices + 1
   grown_count now is = ap length is ∙ length-append old.vertices (v ∷ [])
 
@@ -132,6 +137,7 @@ module _ {V D U F : Type 0} (place_at : V → Point) (old : Contents V D U F) (v
   pub seen_as : (now : Contents V D U F) (k e : ℕ) → now.vertices ≡ old.vertices ++ v ∷ [] → k ≡ length old.vertices → Sees (map place_at now.vertices) now.mesh k e → Sees grown_points now.mesh last e
   seen_as now k e vertices is h = subst (λ (x : List Point × ℕ). TurnsLeft (place x.0 (origin now.mesh e)) (place x.0 (origin now.mesh (rev e))) (place x.0 x.1)) (λ o. ((ap (map place_at) vertices ∙ map-append place_at old.vertices (v ∷ [])) o, (is ∙ sym (length-map old.vertices place_at)) o)) h
 
+  -- and what is not seen in it
   pub unseen_as : (now : Contents V D U F) (k e : ℕ) → now.vertices ≡ old.vertices ++ v ∷ [] → k ≡ length old.vertices → ¬ Sees (map place_at now.vertices) now.mesh k e → ¬ Sees grown_points now.mesh last e
   unseen_as now k e vertices is n h = n (subst (λ (x : List Point × ℕ). TurnsLeft (place x.0 (origin now.mesh e)) (place x.0 (origin now.mesh (rev e))) (place x.0 x.1)) (λ o. (sym (ap (map place_at) vertices ∙ map-append place_at old.vertices (v ∷ [])) o, sym (is ∙ sym (length-map old.vertices place_at)) o)) h)
 
@@ -185,6 +191,7 @@ module _ {V D U F : Type 0} (place_at : V → Point) (old : Contents V D U F) (v
         (added_faces old.mesh new.mesh a b last (subst (λ i. AddsTriangle old.mesh new.mesh a b i) k_is adds))
         (outer_replaced old.mesh new.mesh e last (length old.directed + 3) (length old.directed + 1) sound_before (once kept.shape) within outer fit (subst (λ i. ReplacesOuter old.mesh new.mesh e i (length old.directed + 3) (length old.directed + 1)) k_is replaces))
 
+    -- after the first face the new vertex has a new edge ahead, and one behind
     pub joining_begins : IsJoining place_at old new v (length old.directed + 1) (length old.directed + 3)
     joining_begins =
         record {
@@ -215,6 +222,7 @@ module _ {V D U F : Type 0} (place_at : V → Point) (old : Contents V D U F) (v
     counted : length new.undirected + 1 ≡ length new.faces + length new.vertices
     counted = let n = j.counts in let k = ap (λ (d : Contents V D U F). length d.vertices) same in omega (arith, n, k, undirected, faces)
 
+    -- a face with the edge after the edge ahead, which sees v, leaves one outer edge fewer
     pub joining_goes_on : Sees grown_points now.mesh last (next now.mesh ahead) → AddsTriangle now.mesh new.mesh (origin now.mesh ahead) (origin now.mesh (next now.mesh ahead)) (origin now.mesh (rev (next now.mesh ahead))) → ClosesOuter now.mesh new.mesh ahead (length now.directed)
         → IsJoining place_at old new v (length now.directed + 1) behind × (length (outer_of new.mesh) < length (outer_of now.mesh))
     joining_goes_on sees adds change = (
@@ -258,6 +266,7 @@ module _ {V D U F : Type 0} (place_at : V → Point) (old : Contents V D U F) (v
       finish : origin now.mesh (rev (next now.mesh e)) ≡ last
       finish = ap (λ k. origin now.mesh (rev k)) next_is ∙ j.behind_outer.target
 
+      -- a face with this edge, which sees v, leaves one outer edge fewer
       pub joining_goes_back : AddsTriangle now.mesh new.mesh (origin now.mesh e) (origin now.mesh (next now.mesh e)) (origin now.mesh (rev (next now.mesh e))) → ClosesOuter now.mesh new.mesh e (length now.directed)
           → IsJoining place_at old new v ahead (length now.directed + 1) × (length (outer_of new.mesh) < length (outer_of now.mesh))
       joining_goes_back adds change = (
@@ -367,6 +376,7 @@ module _ {V D U F : Type 0} (place_at : V → Point) (old : Contents V D U F) (v
         (none_seen_before points (place_at v) (outer_of old.mesh) now.mesh u far m.1 w.valid x behind j.behind_outer unseen_before)
         (none_seen_after points (place_at v) (outer_of old.mesh) now.mesh u far m.1 w.valid x ahead j.ahead_outer unseen_after)
 
+    -- where neither the edge after the one ahead nor that before the one behind sees v, all is joined
     pub joining_ends : IsTriangulated place_at (state_of now)
     joining_ends =
         record {
@@ -400,9 +410,11 @@ module _ {V D U F : Type 0} (place_at : V → Point) (old : Contents V D U F) (v
     seen_ahead : Sees grown_points now.mesh last (next now.mesh ahead)
     seen_ahead = seen_as now k (next now.mesh ahead) j.vertices k_is (subst (λ i. Sees (map place_at now.vertices) now.mesh k i) is sees)
 
+    -- the edge after the edge ahead does not lead back to where the edge ahead starts
     pub ahead_apart : origin now.mesh (rev (next now.mesh ahead)) ≢ origin now.mesh ahead
     ahead_apart p = seen_end grown_points now.mesh last (next now.mesh ahead) seen_ahead (p ∙ j.ahead_outer.source)
 
+    -- the step ahead, by the parts of the contents that change
     pub step_ahead : (new : Contents V D U F) → IsMeshWithData now → new ≡ record now { mesh = new.mesh; directed = new.directed; undirected = new.undirected; faces = new.faces } → length new.directed ≡ length now.directed + 2 → length new.undirected ≡ length now.undirected + 1 → length new.faces ≡ length now.faces + 1
         → AddsTriangle now.mesh new.mesh (origin now.mesh ahead) (origin now.mesh (next now.mesh ahead)) (origin now.mesh (rev (next now.mesh ahead))) → ClosesOuter now.mesh new.mesh ahead (length now.directed)
         → IsJoining place_at old new v (length now.directed + 1) behind × (length (outer_of new.mesh) < length (outer_of now.mesh))
@@ -421,12 +433,15 @@ module _ {V D U F : Type 0} (place_at : V → Point) (old : Contents V D U F) (v
     after_is : next now.mesh e ≡ behind
     after_is = ap (next now.mesh) is ∙ here.next_prev
 
+    -- the edge before the edge behind is an outer one
     pub before_outer : face now.mesh e ≡ 0
     before_outer = sym (w.valid.sound.edges e before_in).same_face ∙ ap (face now.mesh) after_is ∙ b.joining.behind_outer.outer
 
+    -- the edge after it does not lead back to where it starts
     pub before_apart : origin now.mesh (rev (next now.mesh e)) ≢ origin now.mesh e
     before_apart p = seen_start grown_points now.mesh last e seen_behind (sym p ∙ ap (λ i. origin now.mesh (rev i)) after_is ∙ b.joining.behind_outer.target)
 
+    -- the step behind, by the parts of the contents that change, while nothing ahead sees v
     pub step_behind : (new : Contents V D U F) → new ≡ record now { mesh = new.mesh; directed = new.directed; undirected = new.undirected; faces = new.faces } → length new.directed ≡ length now.directed + 2 → length new.undirected ≡ length now.undirected + 1 → length new.faces ≡ length now.faces + 1
         → AddsTriangle now.mesh new.mesh (origin now.mesh e) (origin now.mesh (next now.mesh e)) (origin now.mesh (rev (next now.mesh e))) → ClosesOuter now.mesh new.mesh e (length now.directed) → new.mesh ≡ closed now.mesh e
         → IsJoiningBack place_at old new v (length now.directed + 1) × (length (outer_of new.mesh) < length (outer_of now.mesh))

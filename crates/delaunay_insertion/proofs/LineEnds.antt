@@ -76,6 +76,7 @@ module _ (n : ℕ) (p : ℕ → Point) (outer : List (ℕ × ℕ)) (m : SignLine
       go (inr o) (inl q) = inr q
       go (inr o) (inr q) = absurd (s.apart (same_spot w i near.first s.second q o))
 
+  -- where w has two neighbours, each neighbour is one of them
   pub one_of_two_neighbours : (b c : ℕ) → IsNext n p w b → IsNext n p w c → a ≢ b → (c ≡ a) ⊎ (c ≡ b)
   one_of_two_neighbours b c s t other = go (off b s) (off c t)
     where

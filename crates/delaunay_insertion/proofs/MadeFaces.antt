@@ -48,15 +48,18 @@ fan_corner q u (v ∷ vs) = (inr (inr refl), fan_corner q v vs)
 
 -- ---- each case
 module _ (m new : Mesh) (v : ℕ) (w : IsValidMesh m) where
+  -- where v is put inside a face, each new face has the corner v
   pub made_inside : (f : ℕ) → 0 < f → f ≤ length m.face_edges → InsertsTriangles m new v (face_edge m f) → MakesFacesAt v (faces_of m) (faces_of new)
   made_inside f positive within change =
       let h = w.sound.faces f positive within in
       let x : IsInnerEdge m (face_edge m f) = (h.0, subst (λ k. 0 < k) (sym h.1) positive) in
       made_by (faces_of m) (faces_of new) _ _ v (inserted_faces m new v (face_edge m f) w.sound x change) (inr (inr refl), (inr (inr refl), (inr (inr refl), tt)))
 
+  -- so it has where v splits an edge between two inner faces
   pub made_within_side : (e : ℕ) → IsFlippable m e → SplitsTriangles m new v e → MakesFacesAt v (faces_of m) (faces_of new)
   made_within_side e x change = made_by (faces_of m) (faces_of new) _ _ v (split_faces m new v e w.sound x change) (inl refl, (inr (inl refl), (inr (inr refl), (inr (inr refl), tt))))
 
+  -- and where v splits an edge between an inner face and the outer one
   pub made_within_outer : (e : ℕ) → IsInnerEdge m e → HalfSplitsTriangles m new v e → MakesFacesAt v (faces_of m) (faces_of new)
   made_within_outer e x change = made_by (faces_of m) (faces_of new) _ _ v (half_split_faces m new v e w.sound x change) (inr (inl refl), (inl refl, tt))
 
@@ -68,6 +71,7 @@ made_at_count old new v n is made = subst (λ (k : ℕ). MakesFacesAt k old new)
 pub made_none : (m new : Mesh) (v : ℕ) → triangles new ≡ [] → MakesFacesAt v (faces_of m) (faces_of new)
 made_none m new v none = record { each = λ i j k f. absurd (no_face i j k (subst (λ fs. IsFaceOf fs i j k) (ap (map corners_of) none) f)) }
 
+-- a vertex that is added without edges makes no faces
 pub made_first : (m new : Mesh) (v : ℕ) → new ≡ with_vertex m → MakesFacesAt v (faces_of m) (faces_of new)
 made_first m new v is = subst (λ (x : Mesh). MakesFacesAt v (faces_of m) (faces_of x)) (sym is) (record { each = λ i j k f. inl f })
 

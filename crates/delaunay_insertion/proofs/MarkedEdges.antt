@@ -10,7 +10,7 @@ use Rattle.plane.specs.Pairs.{Joins, IsSamePair}
 use Rattle.delaunay_legalization.specs.Constraints.{marked_edges, constraint_pairs}
 use Rattle.delaunay_legalization.proofs.MarkedPairs.{JoinsByMark, joined_by_mark, mark_joins}
 use Rattle.delaunay_insertion.proofs.DataGrowing.{some_edge, parts_of_edge, ends_are}
-use Rattle.delaunay_insertion.proofs.EdgeLists.{one_value}
+use Rattle.mesh_embedding.proofs.Entries.{one_value}
 
 -- edge k of the list joins a and b, and has the mark
 pub record JoinsWithMark {U : Type 0} (marks : U → Bool) (es : List (Edge U)) (k a b : ℕ) : Type 0 where
@@ -23,11 +23,13 @@ pub record JoinsWithMark {U : Type 0} (marks : U → Bool) (es : List (Edge U)) 
 pub own_ends : {V D U F : Type 0} (c : Contents V D U F) → IsMeshWithData c → (k : ℕ) (e : Edge U) → slice_get (edges c) k ≡ Some e → (slice_get c.undirected k ≡ Some e.value) × ((origin c.mesh (2 * k) ≡ e.source) × (origin c.mesh (rev (2 * k)) ≡ e.target))
 own_ends c w k e h = let p = parts_of_edge (ends c.mesh) c.undirected k e h in (p.1, ends_are c.mesh w.valid.sound k (record { source = e.source; target = e.target }) p.0)
 
+-- each undirected edge of a mesh is in the list of edges with their data
 pub own_edge : {V D U F : Type 0} (c : Contents V D U F) → IsMeshWithData c → (k : ℕ) → k < length c.undirected → (e : Edge U) × (slice_get (edges c) k ≡ Some e)
 own_edge c w k h = some_edge (ends c.mesh) c.undirected k (let f = w.fits.undirected_fit in let n = length-ends_twice c.mesh w.valid.sound in omega (arith, f, n, h)) h
 
 module _ {U : Type 0} (marks : U → Bool) (constraints : List U → List ℕ) (marked : (ds : List U) → constraints ds ≡ marked_edges marks ds) where
   module _ {V D F : Type 0} (c : Contents V D U F) (w : IsMeshWithData c) (a b : ℕ) where
+    -- where a constraint joins a and b, an edge in the list does, with the mark
     pub joins_with_mark : Joins (constraint_pairs constraints c.mesh c.undirected) a b → (k : ℕ) × JoinsWithMark marks (edges c) k a b
     joins_with_mark h = go (mark_joins marks constraints marked c.mesh c.undirected a b h)
       where
@@ -44,6 +46,7 @@ module _ {U : Type 0} (marks : U → Bool) (constraints : List U → List ℕ) (
               },
             )
 
+    -- where an edge in the list joins a and b, with the mark, a constraint does
     pub joined_with_mark : (k : ℕ) → JoinsWithMark marks (edges c) k a b → Joins (constraint_pairs constraints c.mesh c.undirected) a b
     joined_with_mark k j =
         let o = own_ends c w k j.edge j.there in

@@ -23,10 +23,11 @@ use Rattle.delaunay_insertion.specs.Edges.{AddsOnly, SplitsAt}
 use Rattle.delaunay_insertion.proofs.DataGrowing.{parts_of_edge, within_both}
 use Rattle.delaunay_insertion.proofs.MarkedEdges.{JoinsWithMark, own_ends, joins_with_mark, joined_with_mark}
 use Rattle.delaunay_insertion.proofs.NewVertex.{not_within, source_in, target_in}
-use Rattle.delaunay_insertion.proofs.EdgeLists.{one_value}
+use Rattle.mesh_embedding.proofs.Entries.{one_value}
 use Rattle.mesh_embedding.proofs.MeshStays.{same_pair_back, same_pair_on}
 use Rattle.plane.proofs.Indexes.{pair_turned}
 
+-- what is triangulated is a mesh with its data
 pub whole_mesh : {V D U F : Type 0} (at : V → Point) (c : Contents V D U F) → IsTriangulated at (state_of c) → IsMeshWithData c
 whole_mesh at c kept = record { valid = kept.valid; fits = kept.fits }
 
@@ -207,5 +208,6 @@ module _ {V D U F : Type 0} (at : V → Point) (v : V) (old new : Contents V D U
         pub split_without_mark : new.undirected ≡ mid.undirected → marks s.edge.value ≡ false → SplitsConstraints at constraints (state_of old) (state_of new) v
         split_without_mark undirected none = halves_split (free_halves mesh undirected none)
 
+        -- the split edge was a constraint and its second half gets the mark: both halves are constraints
         pub split_with_mark : (change : U → U) → HasEdgeData change mid new second → marks s.edge.value ≡ true → ((d : U) → marks (change d) ≡ true) → SplitsConstraints at constraints (state_of old) (state_of new) v
         split_with_mark change written has gets = halves_split (marked_halves change written has gets)

@@ -93,9 +93,11 @@ module _ {V D U F : Type 0} (place : V → Point) (constraints : List U → List
   refused : OnErr r (new.vertices ≡ old.vertices)
   refused = vertices_if_refused old new r done.err
 
+  -- where there is a vertex more, and all are in range, the new one is
   pub inserted_in_range : All InRange (map place new.vertices) → length old.vertices < length new.vertices → InRange (place value)
   inserted_in_range = new_is_in_range place (points_and_constraints_by constraints old) (points_and_constraints_by constraints new) value r done.ok refused
 
+  -- a position of a vertex before, or that of the new vertex, is one of a vertex afterwards
   pub listed_then : (p : Point) → (Contains (map place old.vertices) p ⊎ ((length old.vertices < length new.vertices) × (p ≡ place value))) → Contains (map place new.vertices) p
   listed_then = listed_after_insertion place (points_and_constraints_by constraints old) (points_and_constraints_by constraints new) value r done.ok refused
 

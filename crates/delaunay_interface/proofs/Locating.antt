@@ -17,5 +17,6 @@ module _ {V D U F : Type 0} (place : V → Point) (s : State V D U F) (kept : Is
   pub finds_in : (c : Contents V D U F) → state_of c ≡ s → Locates (map place c.vertices) c.mesh p answer → FindsLocation place s p answer
   finds_in c same l = finds (subst (λ (t : State V D U F). Locates (map place t.vertices) t.mesh p answer) same l)
 
+  -- what the answer names in the mesh is an element of the triangulation
   pub element_in : (c : Contents V D U F) → state_of c ≡ s → Locates (map place c.vertices) c.mesh p answer → HasElement (state_of c) answer
   element_in c same l = subst (λ (t : State V D U F). HasElement t answer) (sym same) (finds_in c same l).element

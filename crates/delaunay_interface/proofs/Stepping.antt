@@ -88,24 +88,30 @@ module _ {V D U F : Type 0} (place : V → Point) (from to : ℕ) where
 
 -- ---- what calls of an iterator gave
 module _ {I V : Type 0} (steps : I → Option V → I → Type 0) where
+  -- an item that the next call gives is taken after the others
   pub one_taken : (s : I) (xs : List V) (t : I) (x : V) (u : I) → Yields steps s xs t → steps t (Some x) u → Yields steps s (xs ++ x ∷ []) u
   one_taken s [] t x u same step = (u, subst (λ (a : I). steps a (Some x) u) (sym same) step, refl)
   one_taken s (y ∷ ys) t x u (j, first, rest) step = (j, first, one_taken j ys t x u rest step)
 
+  -- an item that a call gives may come
   pub may_come : (s : I) (x : V) (u : I) → steps s (Some x) u → MayGive steps s x
   may_come s x u step = ([], u, (s, refl, step))
 
+  -- and so may one that later calls may give
   pub may_come_later : (s : I) (x : V) (t : I) (v : V) → steps s (Some x) t → MayGive steps t v → MayGive steps s v
   may_come_later s x t v step (xs, u, (j, ys, last)) = (x ∷ xs, u, (j, (t, step, ys), last))
 
   -- an item that comes now, where calls from the start gave the others
   module _ (s0 s : I) (same : s0 ≡ s) (xs : List V) (t : I) (taken : Yields steps s0 xs t) where
+    -- an item that the next call gives may come
     pub comes_now : (x : V) (u : I) → steps t (Some x) u → MayGive steps s x
     comes_now x u step = subst (λ (a : I). MayGive steps a x) same (xs, u, (t, taken, step))
 
+    -- and it is taken after the others
     pub taken_with : (x : V) (u : I) → steps t (Some x) u → Yields steps s (xs ++ x ∷ []) u
     taken_with x u step = subst (λ (a : I). Yields steps a (xs ++ x ∷ []) u) same (one_taken s0 xs t x u taken step)
 
+    -- where the next call gives none, the items that were taken are all
     pub all_taken : (u : I) → steps t None u → Drains steps s xs
     all_taken u step = subst (λ (a : I). Drains steps a xs) same (u, (t, taken, step))
 
@@ -119,22 +125,27 @@ module _ {V D U F : Type 0} (place : V → Point) where
   pub record IsSoFar (done : List V) (first : ℕ) (old : State V D (CdtEdge U) F) (last : ℕ) (now : State V D (CdtEdge U) F) : Type 0 where
     pub goes_on : (vs : List V) (result : Result ℕ ConstraintError) (new : State V D (CdtEdge U) F) → ExtendsPath place vs last result now new → ExtendsPath place (done ++ vs) first result old new
 
+  -- before the first vertex the path is at its start
   pub begins : (first : ℕ) (old : State V D (CdtEdge U) F) → IsSoFar [] first old first old
   begins first old = record { goes_on = λ vs result new e. e }
 
   module _ (done : List V) (first : ℕ) (old : State V D (CdtEdge U) F) (last : ℕ) (now : State V D (CdtEdge U) F) (so : IsSoFar done first old last now) where
+    -- without a further vertex the path ends where it is
     pub ends : ExtendsPath place done first (Ok last) old now
     ends = subst (λ (xs : List V). ExtendsPath place xs first (Ok last) old now) (append-nil done) (so.goes_on [] (Ok last) now (refl, refl))
 
     module _ (v : V) where
+      -- a vertex that is refused ends it, with this error
       pub stops_at_vertex : (error : ConstraintError) (new : State V D (CdtEdge U) F) → RefusesEnd place v error now new → ExtendsPath place (done ++ v ∷ []) first (Err error) old new
       stops_at_vertex error new i = so.goes_on (v ∷ []) (Err error) new (inl (record { error = error; refused = i; told = refl }))
 
       module _ (next : ℕ) (inserted : State V D (CdtEdge U) F) (i : InsertsVertex place constraint_edges v (Ok next) now inserted) where
+        -- so does a vertex that is inserted, but not joined to the one before it
         pub stops_at_join : (error : ConstraintError) (new : State V D (CdtEdge U) F) → JoinsVertices place last next (Err error) inserted new → ExtendsPath place (done ++ v ∷ []) first (Err error) old new
         stops_at_join error new j = so.goes_on (v ∷ []) (Err error) new
             (inr (record { index = next; middle = inserted; inserts = i; then = inl (record { error = error; refused = j; told = refl }) }))
 
+        -- a vertex that is inserted and joined to the one before it is where the path is then
         pub one_more : (made : Bool) (joined : State V D (CdtEdge U) F) → JoinsVertices place last next (Ok made) inserted joined → IsSoFar (done ++ v ∷ []) first old next joined
         one_more made joined j = record {
           goes_on = λ vs result new e. subst (λ (xs : List V). ExtendsPath place xs first result old new) (sym (append_assoc done (v ∷ []) vs))
@@ -143,12 +154,15 @@ module _ {V D U F : Type 0} (place : V → Point) where
 
   -- ---- the end of a path
   module _ (closed : Bool) (first last : ℕ) (s : State V D (CdtEdge U) F) where
+    -- a path that is not to be closed, or whose ends are one, stays as it is
     pub stays_open : (¬ (IsTrue closed × (last ≢ first))) → ClosesPath place closed first last (Ok tt) s s
     stays_open none = record { joins = λ c apart. absurd (none (c, apart)); stays = λ _. (refl, refl) }
 
+    -- a path to be closed is so where its ends are joined
     pub closes : (made : Bool) (new : State V D (CdtEdge U) F) → IsTrue closed → last ≢ first → JoinsVertices place last first (Ok made) s new → ClosesPath place closed first last (Ok tt) s new
     closes made new c apart j = record { joins = λ _ _. inr (record { made = made; middle = new; joins = j; then = (refl, refl) }); stays = λ none. absurd (none (c, apart)) }
 
+    -- where they are not joined, that is the result
     pub cannot_close : (error : ConstraintError) (new : State V D (CdtEdge U) F) → IsTrue closed → last ≢ first → JoinsVertices place last first (Err error) s new → ClosesPath place closed first last (Err error) s new
     cannot_close error new c apart j = record { joins = λ _ _. inl (record { error = error; refused = j; told = refl }); stays = λ none. absurd (none (c, apart)) }
 
@@ -168,12 +182,15 @@ module _ {V D U F : Type 0} (place : V → Point) where
 
   -- ---- two vertices
   module _ (from to : V) (old new : State V D (CdtEdge U) F) where
+    -- the first vertex is refused, and that is the result
     pub stops_at_from : (error : ConstraintError) (result : Result Bool ConstraintError) → result ≡ Err error → RefusesEnd place from error old new → AddsConstraintEdge place from to result old new
     stops_at_from error result told refused = inl (record { error = error; refused = refused; told = told })
 
     module _ (i : ℕ) (first : State V D (CdtEdge U) F) (one : InsertsVertex place constraint_edges from (Ok i) old first) where
+      -- the first is inserted, the second is refused, and that is the result
       pub stops_at_to : (error : ConstraintError) (result : Result Bool ConstraintError) → result ≡ Err error → RefusesEnd place to error first new → AddsConstraintEdge place from to result old new
       stops_at_to error result told refused = inr (record { index = i; middle = first; inserts = one; then = inl (record { error = error; refused = refused; told = told }) })
 
+      -- both are inserted, and the result is that of joining them
       pub both_inserted : (j : ℕ) (second : State V D (CdtEdge U) F) → InsertsVertex place constraint_edges to (Ok j) first second → (result : Result Bool ConstraintError) → JoinsVertices place i j result second new → AddsConstraintEdge place from to result old new
       both_inserted j second two result joins = inr (record { index = i; middle = first; inserts = one; then = inr (record { index = j; middle = second; inserts = two; then = joins }) })

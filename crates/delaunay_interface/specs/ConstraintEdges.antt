@@ -54,6 +54,7 @@ module _ {V D U F : Type 0} (place : V → Point) where
     pub inserts : InsertsVertex place constraint_edges v (Ok index) old middle
     pub then : after index middle
 
+  -- a vertex was refused, and that was the result, or it was inserted, and then this was done
   abbrev pub InsertsThen : {R : Type 0} → V → (ℕ → State V D (CdtEdge U) F → Type 0) → Result R ConstraintError → State V D (CdtEdge U) F → State V D (CdtEdge U) F → Type 0
   InsertsThen v after result old new = RefusesVertex v result old new ⊎ InsertsAndThen v after old
 
@@ -70,6 +71,7 @@ module _ {V D U F : Type 0} (place : V → Point) where
     pub joins : JoinsVertices from to (Ok made) old middle
     pub then : after middle
 
+  -- two vertices were not joined, and that was the result, or they were, and then this was done
   abbrev pub JoinsThen : {R : Type 0} → ℕ → ℕ → (State V D (CdtEdge U) F → Type 0) → Result R ConstraintError → State V D (CdtEdge U) F → State V D (CdtEdge U) F → Type 0
   JoinsThen from to after result old new = RefusesToJoin from to result old new ⊎ JoinsAndThen from to after old
 

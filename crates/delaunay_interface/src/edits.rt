@@ -40,7 +40,19 @@ impl<
         self.hint_generator.get_hint(position, tests)
     }
 
-    /// Does what `insert` does, and adds the number of flips to `flips`.
+    /// Does what `insert` does, and adds the number of flips to `flips`. A count below 2^63 has
+    /// room for them, as `flips_fit` says, a lemma of `spade_delaunay`; so has what one insertion
+    /// counted from 0, by `first_count_is_small`. `counted_flips` is both:
+    ///
+    /// ```
+    /// #[tactic(auto, using(spade_delaunay::proofs::Flips::counted_flips))]
+    /// fn insert_counted(points: &mut Points, flips: &mut u64) -> Result<(), InsertionError> {
+    ///     if points.num_vertices() < 100 && *flips < 1 << 63 {
+    ///         points.insert_counting(Point2::new(2, 1), &ExactTests, flips)?;
+    ///     }
+    ///     Ok(())
+    /// }
+    /// ```
     pub fn insert_counting<P: PlaneTests<V::Scalar>>(
         &mut self,
         value: V,

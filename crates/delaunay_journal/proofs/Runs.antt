@@ -17,9 +17,11 @@ use Rattle.delaunay_journal.specs.Marking.{Marking}
 
 -- ---- an edit that comes now, and those after it
 module _ {A : Type 0} (left rest : List A) (first : A) (is : left ≡ first ∷ rest) where
+  -- the first of what is left is in it
   pub comes_now : (x : A) → first ≡ x → Contains left x
   comes_now x same = subst (λ (xs : List A). Contains xs x) (sym is) (subst (λ (y : A). Contains (y ∷ rest) x) (sym same) (Contains-append_left (x ∷ []) rest x (Contains-push [] x)))
 
+  -- and so is each of the rest
   pub comes_later : (x : A) → Contains rest x → Contains left x
   comes_later x c = subst (λ (xs : List A). Contains xs x) (sym is) (Contains-append_right (first ∷ []) rest x c)
 
@@ -55,15 +57,18 @@ module _ {V D U F : Type 0} (place : V → Point) (constraints : List U → List
   runs es os old new r = absurd r
 
   -- ---- what is left to replay, from what was replayed so far
+  -- with outcomes of what is left, those so far are outcomes of all edits
   pub record IsReplayed (es left : List (Edit V)) (os : List (Outcome V)) (old now : State V D U F) : Type 0 where
     pub goes : (more : List (Outcome V)) (new : State V D U F) → Replays place constraints marking left more now new → Replays place constraints marking es (os ++ more) old new
 
+  -- the next edit with its outcome is one more
   pub one_more : (es left rest : List (Edit V)) (os : List (Outcome V)) (old now next : State V D U F) (e : Edit V) (o : Outcome V) → IsReplayed es left os old now → left ≡ e ∷ rest → Gives place constraints marking e o now next → IsReplayed es rest (os ++ o ∷ []) old next
   one_more es left rest os old now next e o so is done = record {
     goes = λ more new r. subst (λ (xs : List (Outcome V)). Replays place constraints marking es xs old new) (sym (append_assoc os (o ∷ []) more))
         (so.goes (o ∷ more) new (subst (λ (xs : List (Edit V)). Replays place constraints marking xs (o ∷ more) now new) (sym is) (next, done, r)));
   }
 
+  -- where no edit is left, all were replayed
   pub ends : (es left : List (Edit V)) (os : List (Outcome V)) (old now : State V D U F) → IsReplayed es left os old now → length left ≡ 0 → Replays place constraints marking es os old now
   ends es [] os old now so none = subst (λ (xs : List (Outcome V)). Replays place constraints marking es xs old now) (append-nil os) (so.goes [] now refl)
   ends es (e ∷ left) os old now so none = absurd (omega (arith, none))

@@ -5,7 +5,7 @@ use Rattle.plane.specs.Fraction.{Point}
 use Rattle.plane.specs.Pairs.{Joins, IsSamePair}
 use Rattle.plane.specs.Plain.{Plain, Releases}
 use Rattle.mesh_embedding.proofs.EdgePairs.{joins_edge}
-use Rattle.mesh_embedding.proofs.MeshLegal.{same_joined}
+use Rattle.mesh_embedding.proofs.MeshLegal.{same_joined, turned_join}
 use Rattle.mesh_embedding.proofs.MeshStays.{same_pair_back}
 use Rattle.delaunay_core.specs.declared.math.InsertionError.{InsertionError}
 use Rattle.delaunay_legalization.specs.declared.cdt_edge.CdtEdge.{CdtEdge}
@@ -23,10 +23,6 @@ use Rattle.delaunay_journal.specs.Journal.{JoinsPair, ReleasesPair}
 use Rattle.delaunay_journal.specs.Marking.{flag_marking}
 
 -- ---- a pair in either order
-joins_either : (pairs : List (ℕ × ℕ)) (i j : ℕ) → Joins pairs i j → Joins pairs j i
-joins_either pairs i j (inl a) = inr a
-joins_either pairs i j (inr a) = inl a
-
 same_either : (a b i j : ℕ) → IsSamePair a b i j → IsSamePair a b j i
 same_either a b i j (inl s) = inr s
 same_either a b i j (inr s) = inl s
@@ -34,7 +30,7 @@ same_either a b i j (inr s) = inl s
 module _ {V : Type 0} (place : V → Point) (old new : Plain V) (i j : ℕ) where
   releases_either : Releases place old new i j → Releases place old new j i
   releases_either r = record {
-    there = joins_either old.constraints i j r.there;
+    there = turned_join old.constraints i j r.there;
     vertices = r.vertices;
     constraints = λ a b. (
       (λ h. let was = (r.constraints a b).0 h in (was.0, (λ s. was.1 (same_either a b j i s)))),
@@ -44,9 +40,11 @@ module _ {V : Type 0} (place : V → Point) (old new : Plain V) (i j : ℕ) wher
 
 -- ---- the position of the vertex j, which was read, and that of a value
 module _ {V : Type 0} (place : V → Point) (vs : List V) (i j : ℕ) (v : V) (here there : Point) (read : here ≡ point_at (map place vs) j) (is : j ≡ i) (wanted : there ≡ place v) where
+  -- where the two points are equal, vertex i is at the position of v
   pub same_position : here ≡ there → point_at (map place vs) i ≡ place v
   same_position same = ap (point_at (map place vs)) (sym is) ∙ sym read ∙ same ∙ wanted
 
+  -- and where it is, they are equal
   pub position_same : point_at (map place vs) i ≡ place v → here ≡ there
   position_same same = read ∙ ap (point_at (map place vs)) is ∙ same ∙ sym wanted
 
@@ -80,6 +78,7 @@ module _ {V D U F : Type 0} (place : V → Point) where
       pub joined_by_edge : Joins (constraints_of old) (origin old.mesh (2 * k)) (origin old.mesh (rev (2 * k))) → Joins (constraints_of old) i j
       joined_by_edge joined = same_joined (constraints_of old) i j (origin old.mesh (2 * k)) (origin old.mesh (rev (2 * k))) ends joined
 
+      -- where a constraint joins i and j, it joins the ends of the undirected edge between them
       pub edge_joined_by : Joins (constraints_of old) i j → Joins (constraints_of old) (origin old.mesh (2 * k)) (origin old.mesh (rev (2 * k)))
       edge_joined_by joined = same_joined (constraints_of old) (origin old.mesh (2 * k)) (origin old.mesh (rev (2 * k))) i j (same_pair_back i j (origin old.mesh (2 * k)) (origin old.mesh (rev (2 * k))) ends) joined
 

@@ -25,7 +25,7 @@ two_ways : (h : ℕ) → (h ≡ 2 * (h / 2)) ⊎ ((rev h ≡ 2 * (rev h / 2)) ×
 two_ways h = grind (arith, common_steps)
 
 -- so each edge among the vertices is met
-pub forward_suffices : (m : Mesh) → AreSoundLinks m → (vs ks : List ℕ)
+forward_suffices : (m : Mesh) → AreSoundLinks m → (vs ks : List ℕ)
     → ((v : ℕ) → Contains vs v → HasForwardFrom m vs v ks) → HasEdgesAmong m vs ks
 forward_suffices m s vs ks forward v from h within starts end = elim (two_ways h) [
   | inl ahead ↦ forward v from h within starts ahead end
@@ -54,10 +54,12 @@ pub record IsListing (m : Mesh) (vs : List ℕ) (i : ℕ) (ks : List ℕ) (room_
   pub room_stays : room ≡ room_was
 
 module _ (m : Mesh) (vs : List ℕ) where
+  -- any list of edges of the mesh will do at the beginning, before the first vertex
   pub listing_begins : (ks : List ℕ) (room_was room : ℕ) → AreEdges m ks → room ≡ room_was → IsListing m vs 0 ks room_was room
   listing_begins ks room_was room edges stays = record { each = λ j d less. absurd (omega (arith, less)); edges = edges; room_stays = stays }
 
   module _ (i : ℕ) (ks : List ℕ) (room_was room : ℕ) (p : IsListing m vs i ks room_was room) where
+    -- a list that keeps all and has what goes forward from the next vertex is that of one vertex more
     pub listing_goes_on : (v : ℕ) (more : List ℕ) (room_now : ℕ) → i < length vs → v ≡ get_or vs i v → ((j : ℕ) → Contains ks j → Contains more j) → HasForwardFrom m vs v more → AreEdges m more → room_now ≡ room → IsListing m vs (i + 1) more room_was room_now
     listing_goes_on v more room_now inside here kept from edges stays = record {
       each = λ j d less. elim (cases_eq j i) [
@@ -68,6 +70,7 @@ module _ (m : Mesh) (vs : List ℕ) where
       room_stays = stays ∙ p.room_stays;
     }
 
+    -- after the last vertex the list has all edges among them
     pub listing_ends : AreSoundLinks m → length vs ≤ i → HasEdgesAmong m vs ks
     listing_ends s all = forward_suffices m s vs ks from
       where

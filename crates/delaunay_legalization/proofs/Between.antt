@@ -39,6 +39,7 @@ place_high : (u v p : Point) → IsInBox u v p → place_on u v (lift p) ≤ℤ 
 unfolding place_on
 place_high u v p b = below_by_rest (place_on u v (lift v)) (place_on u v (lift p)) ((v.x -ℤ u.x) *ℤ (v.x -ℤ p.x)) ((v.y -ℤ u.y) *ℤ (v.y -ℤ p.y)) (rest_of_place u.x u.y v.x v.y p.x p.y) (part_high u.x v.x p.x b.x) (part_high u.y v.y p.y b.y)
 
+-- a point on the line of two others, in their box and at neither, is strictly between them
 pub within_of_box : (u v p : Point) → ¬ (u ≡ v) → ¬ (p ≡ u) → ¬ (p ≡ v) → bracket (lift u) (lift v) (lift p) ≡ pos 0 → IsInBox u v p → WithinSegment (whole u) (whole v) (whole p)
 within_of_box u v p apart from_u from_v flat b =
     let on_u = bracket-outer (lift u) (lift v) in
@@ -78,6 +79,7 @@ average_from k l n a b c hk hl hn e w = go (lt_or_ge_ℤ a b)
       at_most_by_difference a c (nonneg_from_ℤ (back n c a (l *ℤ (b -ℤ a)) first) hn (negated (l *ℤ (b -ℤ a)) (mul-nonpos_of_nonneg_nonpos_ℤ (weak hl) (difference_not_positive b a h)))),
     )
 
+-- a point strictly between two others is in their box
 pub box_of_within : (u v p : Point) → WithinSegment (whole u) (whole v) (whole p) → IsInBox u v p
 box_of_within u v p h =
     let t = two_weights IsPositive (whole u) (whole v) (whole p) h in

@@ -1,9 +1,10 @@
 -- The edges whose data are marked.
 use Rattle.std.proofs.Common.{◌≡◌, ◌⊎◌, ℕ, zero, suc, ◌+◌, ◌<◌, Bool, true, false, List, [], ◌∷◌, length, refl, sym, ap, ◌∙◌, subst, arith}
 use mathlib.Core.Logic.{inl, inr}
-use Rattle.std.specs.Prelude.{Contains, Some, None, slice_get, if◌then◌else◌}
+use Rattle.std.specs.Prelude.{Contains, Some, slice_get, if◌then◌else◌}
 use Rattle.std.proofs.lemmas.Option.{slice_get_within}
 use Rattle.plane_tiling.proofs.Totals.{Contains-head, Contains-later, Contains-none, Contains-cases}
+use Rattle.mesh_embedding.proofs.Entries.{one_value}
 use Rattle.delaunay_legalization.specs.Constraints.{marked_from, marked_edges}
 
 later : (b : Bool) (k : ℕ) (ks : List ℕ) (j : ℕ) → Contains ks j → Contains (if b then k ∷ ks else ks) j
@@ -23,12 +24,9 @@ module _ {U : Type 0} (marks : U → Bool) where
   has_marked first [] i d e t = cc
   has_marked first (x ∷ xs) zero d e t =
       let at : first ≡ first + 0 = omega arith in
-      let marked : marks x ≡ true = ap marks (some_same x d e) ∙ t in
+      let marked : marks x ≡ true = ap marks (one_value x d e) ∙ t in
       subst (λ (b : Bool). Contains (if b then first ∷ marked_from marks (suc first) xs else marked_from marks (suc first) xs) (first + 0)) (sym marked)
       (subst (λ (k : ℕ). Contains (first ∷ marked_from marks (suc first) xs) k) at (Contains-head first (marked_from marks (suc first) xs)))
-    where
-      some_same : (x d : U) → Some x ≡ Some d → x ≡ d
-      some_same x d e = cc
   has_marked first (x ∷ xs) (suc i) d e t =
       let at : suc first + i ≡ first + suc i = omega arith in
       later (marks x) first (marked_from marks (suc first) xs) (first + suc i) (subst (λ (k : ℕ). Contains (marked_from marks (suc first) xs) k) at (has_marked (suc first) xs i d e t))
@@ -61,15 +59,14 @@ module _ {U : Type 0} (marks : U → Bool) where
   marked_edge_is ds k d e c =
       let r = from_marked 0 ds k c in
       let at : r.0 ≡ k = (let f : 0 + r.0 ≡ k = r.4 in omega (arith, f)) in
-      same r.1 d (sym r.2 ∙ ap (slice_get ds) at ∙ e) r.3
-    where
-      same : (x d : U) → Some x ≡ Some d → marks x ≡ true → marks d ≡ true
-      same x d e t = cc
+      ap marks (sym (one_value r.1 d (sym r.2 ∙ ap (slice_get ds) at ∙ e))) ∙ r.3
 
 module _ {U : Type 0} (marks : U → Bool) (constraints : List U → List ℕ) (marked : (ds : List U) → constraints ds ≡ marked_edges marks ds) where
+  -- an edge whose data have the mark is a constraint
   pub is_constraint_edge : (ds : List U) (k : ℕ) (d : U) → slice_get ds k ≡ Some d → marks d ≡ true → Contains (constraints ds) k
   is_constraint_edge ds k d e t = subst (λ (ks : List ℕ). Contains ks k) (sym (marked ds)) (is_marked_edge marks ds k d e t)
 
+  -- the data of an edge that is a constraint have the mark
   pub fixed_edge_is : (ds : List U) (k : ℕ) (d : U) → slice_get ds k ≡ Some d → Contains (constraints ds) k → marks d ≡ true
   fixed_edge_is ds k d e c = marked_edge_is marks ds k d e (subst (λ (ks : List ℕ). Contains ks k) (marked ds) c)
 

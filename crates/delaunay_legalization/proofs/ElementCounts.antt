@@ -8,11 +8,13 @@ use Rattle.half_edge_mesh.specs.Contents.{Contents, IsMeshWithData}
 use Rattle.mesh_embedding.specs.Drawn.{corners_of, pair_of, edges_of, faces_of}
 
 module _ {V D U F : Type 0} (c : Contents V D U F) (w : IsMeshWithData c) where
+  -- there are as many data of undirected edges as edges of the mesh
   pub edges_counted : length c.undirected ≡ length (edges_of c.mesh)
   edges_counted =
       let pairs = w.fits.undirected_fit in
       let twice = length-ends_twice c.mesh w.valid.sound in
       omega (arith, pairs, twice, length-map (ends c.mesh) pair_of)
 
+  -- there are as many data of inner faces as faces of the mesh
   pub faces_counted : length c.faces ≡ length (faces_of c.mesh)
   faces_counted = w.fits.faces_fit ∙ sym (length-map c.mesh.face_edges (triangle_at c.mesh)) ∙ sym (length-map (triangles c.mesh) corners_of)

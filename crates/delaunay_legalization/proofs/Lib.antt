@@ -7,6 +7,7 @@ pub mod Legalizing
 pub mod WorkList
 pub mod ConstraintEdges
 pub mod Flips
+pub mod Rounds
 pub mod Pushing
 pub mod Stars
 pub mod AmongVertices

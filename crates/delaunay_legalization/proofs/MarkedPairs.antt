@@ -1,5 +1,5 @@
 -- The pairs that constraints join, where edges stay, become constraints or cease to be.
-use Rattle.std.proofs.Common.{◌≡◌, ◌≢◌, ◌⊎◌, ◌↔◌, ℕ, zero, suc, ◌*◌, ◌<◌, Bool, true, false, List, [], ◌∷◌, length, get_or, set, refl, sym, ap, ◌∙◌, subst, inl, inr, arith}
+use Rattle.std.proofs.Common.{◌≡◌, ◌≢◌, ◌⊎◌, ◌↔◌, ℕ, zero, suc, ◌*◌, ◌<◌, Bool, true, false, List, [], ◌∷◌, length, get_or, set, refl, sym, ap, ◌∙◌, subst, inl, inr}
 use Rattle.std.specs.Prelude.{Contains, Some, slice_get}
 use Rattle.std.proofs.lemmas.Bool.{cases_eq}
 use Rattle.std.proofs.lemmas.Option.{slice_get_within, slice_get-get_or}
@@ -7,6 +7,7 @@ use Rattle.half_edge_mesh.specs.Mesh.{Mesh, origin, rev}
 use Rattle.plane.specs.Pairs.{Joins, IsSamePair}
 use Rattle.mesh_embedding.specs.Legal.{pair_at}
 use Rattle.mesh_embedding.specs.Stays.{GoSameWay}
+use Rattle.mesh_embedding.proofs.Entries.{one_value, some_entry}
 use Rattle.mesh_embedding.proofs.MeshStays.{slice_get-set_other}
 use Rattle.mesh_embedding.proofs.WorkLists.{contains_map, contains_map_from, same_map}
 use Rattle.delaunay_legalization.specs.Constraints.{marked_edges, constraint_pairs, not_both}
@@ -18,9 +19,12 @@ set_entry [] k d x e = cc
 set_entry (y ∷ ys) zero d x e = refl
 set_entry (y ∷ ys) (suc k) d x e = set_entry ys k d x e
 
-first : {X : Type 0} (xs : List X) (k : ℕ) → k < length xs → X
-first [] k w = absurd (omega (arith, w))
-first (x ∷ xs) k w = x
+-- two pairs with the ends of a third have the same ends
+pub same_as_third : (a b u v x y : ℕ) → IsSamePair a b u v → IsSamePair a b x y → IsSamePair u v x y
+same_as_third a b u v x y (inl s) (inl t) = inl (sym s.0 ∙ t.0, sym s.1 ∙ t.1)
+same_as_third a b u v x y (inl s) (inr t) = inr (sym s.0 ∙ t.0, sym s.1 ∙ t.1)
+same_as_third a b u v x y (inr s) (inl t) = inr (sym s.1 ∙ t.1, sym s.0 ∙ t.0)
+same_as_third a b u v x y (inr s) (inr t) = inl (sym s.1 ∙ t.1, sym s.0 ∙ t.0)
 
 module _ {U : Type 0} (marks : U → Bool) (constraints : List U → List ℕ) (marked : (ds : List U) → constraints ds ≡ marked_edges marks ds) where
   -- an edge with the mark
@@ -29,6 +33,7 @@ module _ {U : Type 0} (marks : U → Bool) (constraints : List U → List ℕ) (
     pub has : slice_get ds k ≡ Some value
     pub mark : marks value ≡ true
 
+  -- an edge with the mark joins a and b
   pub record JoinsByMark (m : Mesh) (ds : List U) (a b : ℕ) : Type 0 where
     pub edge : ℕ
     pub is : IsMarked ds edge
@@ -45,10 +50,11 @@ module _ {U : Type 0} (marks : U → Bool) (constraints : List U → List ℕ) (
   marked_at : (ds : List U) (k : ℕ) → Contains (constraints ds) k → IsMarked ds k
   marked_at ds k c =
       let within = fixed_within marks constraints marked ds k c in
-      let d = get_or ds k (first ds k within) in
-      let has = slice_get-get_or ds k (first ds k within) within in
+      let d = get_or ds k (some_entry ds k within) in
+      let has = slice_get-get_or ds k (some_entry ds k within) within in
       record { value = d; has = has; mark = fixed_edge_is marks constraints marked ds k d has c }
 
+  -- vertices that a constraint joins are the ends of an edge with the mark
   pub mark_joins : (m : Mesh) (ds : List U) (a b : ℕ) → Joins (constraint_pairs constraints m ds) a b → JoinsByMark m ds a b
   mark_joins m ds a b (inl h) = let r = contains_map_from (pair_at m) (constraints ds) (a, b) h in record { edge = r.0; is = marked_at ds r.0 r.1; ends = inl (ap (λ (p : ℕ × ℕ). p.0) (sym r.2), ap (λ (p : ℕ × ℕ). p.1) (sym r.2)) }
   mark_joins m ds a b (inr h) = let r = contains_map_from (pair_at m) (constraints ds) (b, a) h in record { edge = r.0; is = marked_at ds r.0 r.1; ends = inr (ap (λ (p : ℕ × ℕ). p.1) (sym r.2), ap (λ (p : ℕ × ℕ). p.0) (sym r.2)) }
@@ -91,20 +97,13 @@ module _ {U : Type 0} (marks : U → Bool) (constraints : List U → List ℕ) (
       (λ h. let j = mark_joins m (set ds k x) a b h in
           let n : j.edge ≢ k = λ e. not_here j.edge e j.is in
           let was_marked = other_was j.edge n j.is in
-          (joined_by_mark m ds a b (record { edge = j.edge; is = was_marked; ends = j.ends }), (λ same. n (only j.edge (slice_get_within ds j.edge was_marked.value was_marked.has) (both_ends (origin m (2 * j.edge)) (origin m (rev (2 * j.edge))) (origin m (2 * k)) (origin m (rev (2 * k))) j.ends same))))),
+          (joined_by_mark m ds a b (record { edge = j.edge; is = was_marked; ends = j.ends }), (λ same. n (only j.edge (slice_get_within ds j.edge was_marked.value was_marked.has) (same_as_third a b (origin m (2 * j.edge)) (origin m (rev (2 * j.edge))) (origin m (2 * k)) (origin m (rev (2 * k))) j.ends same))))),
       (λ h. let j = mark_joins m ds a b h.0 in
           let n : j.edge ≢ k = λ e. h.1 (subst (λ (l : ℕ). IsSamePair a b (origin m (2 * l)) (origin m (rev (2 * l)))) e j.ends) in
           joined_by_mark m (set ds k x) a b (record { edge = j.edge; is = other_stays j.edge n j.is; ends = j.ends })),
     )
       where
-        same_value : (y z : U) → Some y ≡ Some z → marks y ≡ true → marks z ≡ true
-        same_value y z e t = cc
-
         not_here : (l : ℕ) → l ≡ k → ¬ IsMarked (set ds k x) l
-        not_here l e is = not_both (sym free ∙ same_value is.value x (sym is.has ∙ ap (slice_get (set ds k x)) e ∙ set_entry ds k d x was) is.mark)
-
-        both_ends : (u v y z : ℕ) → IsSamePair a b u v → IsSamePair a b y z → IsSamePair u v y z
-        both_ends u v y z (inl s) (inl t) = inl (sym s.0 ∙ t.0, sym s.1 ∙ t.1)
-        both_ends u v y z (inl s) (inr t) = inr (sym s.0 ∙ t.0, sym s.1 ∙ t.1)
-        both_ends u v y z (inr s) (inl t) = inr (sym s.1 ∙ t.1, sym s.0 ∙ t.0)
-        both_ends u v y z (inr s) (inr t) = inl (sym s.1 ∙ t.1, sym s.0 ∙ t.0)
+        not_here l e is =
+            let read = sym is.has ∙ ap (slice_get (set ds k x)) e ∙ set_entry ds k d x was in
+            not_both (sym free ∙ ap marks (sym (one_value is.value x read)) ∙ is.mark)

@@ -52,6 +52,7 @@ module _ {V D U F : Type 0} (at : V → Point) (c : State V D U F) (kept : IsTri
       let f = kept.fits.vertices_fit in
       omega (arith, length-map c.vertices at, o, f)
 
+  -- a directed edge of the triangulation is an edge of the mesh
   pub mesh_edge : (e : ℕ) → e < length c.directed → IsMeshEdge points c.mesh e
   mesh_edge e h =
       let w : e < length c.mesh.half_edges = let f = kept.fits.directed_fit in omega (arith, f, h) in
@@ -68,6 +69,7 @@ module _ {V D U F : Type 0} (at : V → Point) (c : State V D U F) (kept : IsTri
         bare = λ z. outer_bare points c.mesh (origin c.mesh e) (origin c.mesh (rev e)) kept.shape (listed c.mesh e (origin c.mesh e) (origin c.mesh (rev e)) (record { within = w; outer = z; source = refl; target = refl }));
       }
 
+  -- an inner face of the triangulation is a face of the mesh
   pub mesh_face : (f : ℕ) → 0 < f → f ≤ length c.faces → IsMeshFace points c.mesh f
   mesh_face f positive h =
       let m = c.mesh in

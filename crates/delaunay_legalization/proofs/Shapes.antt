@@ -16,6 +16,7 @@ use Rattle.mesh_embedding.proofs.OwnEdges.{own_edges}
 use Rattle.delaunay_legalization.specs.State.{state_of}
 use Rattle.delaunay_legalization.specs.Shape.{IsTriangulated}
 
+-- what a valid mesh over its points draws is a tiling
 pub laid_out_tiles : (points : List Point) (m : Mesh) → IsValidMesh m → IsMesh points (faces_of m) (outer_of m) → IsTiling (drawn points m)
 laid_out_tiles points m v shape = meshes_tile points (faces_of m) (outer_of m) (edges_of m) shape (own_edges m v)
 

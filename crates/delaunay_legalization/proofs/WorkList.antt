@@ -1,10 +1,9 @@
 -- The list of all edges, and a mesh after the last flip.
-use Rattle.std.proofs.Common.{◌≡◌, ℕ, ◌+◌, ◌*◌, ◌<◌, List, length, map, sym, ap, ◌∙◌, subst, arith}
-use Rattle.std.specs.Prelude.{Contains}
+use Rattle.std.proofs.Common.{◌≡◌, ℕ, ◌*◌, ◌<◌, List, length, map, sym, ap, ◌∙◌, subst, arith}
 use Rattle.std.specs.List.{range_with_len}
 use Rattle.std.proofs.lemmas.List.{same_lists, length-map, get_or-map}
-use Rattle.std.proofs.lemmas.List.FromFn.{length-range_with_len, get_or-range_with_len, length-map-range_with_len, get_or-map-range_with_len}
-use Rattle.half_edge_mesh.specs.Mesh.{Mesh, origin, rev, IsValidMesh}
+use Rattle.std.proofs.lemmas.List.FromFn.{length-map-range_with_len, get_or-map-range_with_len}
+use Rattle.half_edge_mesh.specs.Mesh.{Mesh, origin, IsValidMesh}
 use Rattle.half_edge_mesh.specs.Outline.{Ends, ends}
 use Rattle.half_edge_links.proofs.Sound.Ends.{length-ends_twice, get_or-ends}
 use Rattle.half_edge_mesh.specs.Contents.{Contents, FitsMesh, IsMeshWithData}
@@ -13,20 +12,14 @@ use Rattle.plane.specs.Delaunay.{IsLocallyDelaunay}
 use Rattle.plane_tiling.specs.Local.{IsMesh}
 use Rattle.mesh_embedding.specs.Drawn.{drawn, pair_of, faces_of, edges_of, outer_of}
 use Rattle.mesh_embedding.specs.Legal.{pair_at, pairs_at}
+use Rattle.mesh_embedding.proofs.EdgePairs.{rev_of_even}
 use Rattle.delaunay_legalization.specs.Constraints.{constraint_pairs}
 use Rattle.delaunay_legalization.specs.Shape.{IsTriangulated, IsDelaunayTriangulation}
 use Rattle.delaunay_legalization.specs.State.{state_of}
 
 -- ---- all edges
 module _ (m : Mesh) (n : ℕ) (count : 2 * n ≡ length m.half_edges) where
-  pub from_range : (k : ℕ) → k < n → Contains (range_with_len 0 n) k
-  from_range k h =
-      let at : 0 + k ≡ k = omega arith in
-      (k, omega (arith, h, length-range_with_len 0 n), get_or-range_with_len 0 n k k h ∙ at)
-
-  twin : (k : ℕ) → rev (2 * k) ≡ 2 * k + 1
-  twin k = grind arith
-
+  -- the pairs of all indexes of edges are the edges
   pub pairs_are_edges : IsValidMesh m → pairs_at m (range_with_len 0 n) ≡ edges_of m
   pairs_are_edges v =
       let twice = length-ends_twice m v.sound in
@@ -35,10 +28,11 @@ module _ (m : Mesh) (n : ℕ) (count : 2 * n ≡ length m.half_edges) where
       same_lists (pairs_at m (range_with_len 0 n)) (edges_of m) (length-map-range_with_len (pair_at m) 0 n ∙ omega (arith, twice, places, count)) (λ k d here.
       let k_in : k < n = omega (arith, here, length-map-range_with_len (pair_at m) 0 n) in
       get_or-map-range_with_len (pair_at m) 0 n k k d k_in (omega arith)
-      ∙ (λ i. (let p : ℕ × ℕ = (origin m (2 * k), origin m (twin k i)) in p))
+      ∙ (λ i. (let p : ℕ × ℕ = (origin m (2 * k), origin m (rev_of_even k i)) in p))
       ∙ sym (get_or-map pair_of (ends m) k none d (omega (arith, k_in, twice, count)) ∙ ap pair_of (get_or-ends m k none (omega (arith, k_in, count)))))
 
 -- ---- after the last flip
+-- a new mesh, locally Delaunay, with the same constraints, makes a triangulation a Delaunay one
 pub legalized : {V D U F : Type 0} (place : V → Point) (fix : List U → List ℕ) (old new : Contents V D U F) → IsTriangulated place (state_of old) → new ≡ record old { mesh = new.mesh } → IsMeshWithData new → IsMesh (map place old.vertices) (faces_of new.mesh) (outer_of new.mesh)
     → constraint_pairs fix new.mesh new.undirected ≡ constraint_pairs fix old.mesh old.undirected → IsLocallyDelaunay (drawn (map place old.vertices) new.mesh) (constraint_pairs fix old.mesh old.undirected) → IsDelaunayTriangulation place fix (state_of new)
 legalized {V = V} {D = D} {U = U} {F = F} place fix old new kept e w shape constraints passing = record {

@@ -2,6 +2,7 @@
 use Rattle.std.specs.Prelude.{Bool}
 use Rattle.delaunay_legalization.specs.declared.cdt_edge.CdtEdge.{CdtEdge}
 
+-- the flag of an edge's data
 abbrev pub is_constraint : {T : Type 0} → CdtEdge T → Bool
 is_constraint e = e.is_constraint_edge
 

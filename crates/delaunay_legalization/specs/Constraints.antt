@@ -19,6 +19,7 @@ none_marked_from : {U : Type 0} (first : ℕ) (ds : List U) → [] ≡ marked_fr
 none_marked_from first [] = refl
 none_marked_from first (d ∷ ds) = none_marked_from (suc first) ds
 
+-- where nothing is marked, the list of marked edges is empty
 pub none_marked : {U : Type 0} (ds : List U) → [] ≡ marked_edges (λ _. false) ds
 none_marked ds = none_marked_from 0 ds
 

@@ -28,9 +28,11 @@ module _ {V D U F : Type 0} (at : V → Point) (IsSite IsCovered : Point → Typ
   abbrev pub Others : Option FixedIntersection → Type 0
   Others r = (others : List Item) × (items ≡ item_of c.mesh i ∷ others) × AreFrom at c p q r others
 
+  -- from a point to itself no item is left after the current one
   pub none_further : p ≡ q → Others None
   none_further same = (left.1.0, left.1.1, left.1.2.alone same)
 
+  -- from p to another point q those from the next item on are left
   pub one_further : (apart : p ≢ q) (r : Option FixedIntersection) → IsNext at c p q (item_of c.mesh i) r → Others r
   one_further apart None last =
       (left.1.0, left.1.1, (rest_falls (drawn (map at c.vertices) c.mesh) (laid at IsSite IsCovered c p q over) (whole p) (whole q) (λ e. apart (one_point p q e))).2 (item_of c.mesh i) left.1.0 (left.1.2.goes_on apart) last)
@@ -38,6 +40,7 @@ module _ {V D U F : Type 0} (at : V → Point) (IsSite IsCovered : Point → Typ
       let f = (rest_falls (drawn (map at c.vertices) c.mesh) (laid at IsSite IsCovered c p q over) (whole p) (whole q) (λ e. apart (one_point p q e))).1 (item_of c.mesh i) (item_of c.mesh n) left.1.0 (left.1.2.goes_on apart) next.1 in
       (left.1.0, left.1.1, (next.0, (f.0, f.1, record { met = λ _. next.1.met; goes_on = λ _. f.2; alone = λ e. absurd (apart e) })))
 
+  -- either way those from what was found next are left
   pub further : (r : Option FixedIntersection) → (p ≡ q → r ≡ None) → (p ≢ q → IsNext at c p q (item_of c.mesh i) r) → Others r
   further r alone next = elim (decide_point p q) [
     | inl same ↦ subst Others (sym (alone same)) (none_further same)
@@ -50,6 +53,7 @@ one_fewer items others k n is few =
     let e = ap (λ (xs : List Item). length xs) is in
     omega (arith, e, few)
 
+-- where items are left, a bound on their number is at least 1
 pub some_left : (items others : List Item) (k : Item) (n : ℕ) → items ≡ k ∷ others → length items ≤ n → 1 ≤ n
 some_left items others k n is few =
     let e = ap (λ (xs : List Item). length xs) is in
@@ -63,6 +67,7 @@ pub record Begins (t : Triangulation) (p q : Point) (k : Item) : Type 0 where
   pub after : ComeAfter t p q k others
   pub few : length (k ∷ others) ≤ length t.points + length t.edges
 
+-- an item that a segment meets first begins its line list
 pub first_of : (t : Triangulation) (p q : Point) → IsLaid t → p ≢ q → (k : Item) → IsFirst t (whole p) (whole q) k → Begins t p q k
 first_of t p q laid apart k first = go walks.0
   where
@@ -90,7 +95,7 @@ first_vertex t p q (inl h) apart v is at = (first_item t h (whole p) (whole q) (
 first_vertex t p q (inr l) apart v is at = (first_on_line t l.0 l.1 l.2 (whole p) (whole q) (λ e. apart (one_point p q e))).0 v is at
 
 -- at a vertex
-pub begins_at_vertex : (t : Triangulation) (p q : Point) → IsLaid t → (p ≡ q) ⊎ (p ≢ q) → (v : ℕ) → IsVertex t v → IsSame (whole p) (vertex t v) → Begins t p q (at_vertex v)
+begins_at_vertex : (t : Triangulation) (p q : Point) → IsLaid t → (p ≡ q) ⊎ (p ≢ q) → (v : ℕ) → IsVertex t v → IsSame (whole p) (vertex t v) → Begins t p q (at_vertex v)
 begins_at_vertex t p q laid (inr apart) v is at = first_of t p q laid apart (at_vertex v) (first_vertex t p q laid apart v is at)
 begins_at_vertex t p q laid (inl same) v is at = record {
   others = [];
@@ -107,9 +112,11 @@ module _ {V D U F : Type 0} (at : V → Point) (IsSite IsCovered : Point → Typ
       let f = edges_counted c over.mesh in
       omega (arith, h, e, f)
 
+  -- an item that begins the line list, by a handle of the mesh, is where the walk starts
   pub starts_with : (i : FixedIntersection) → IsHandleOf c i → Begins (drawn (map at c.vertices) c.mesh) p q (item_of c.mesh i) → Starts at c p q (Some i)
   starts_with i here b = record { items = item_of c.mesh i ∷ b.others; line_list = b.line_list; are_from = (here, (b.others, refl, b.after)); few = few_in (length (item_of c.mesh i ∷ b.others)) b.few }
 
+  -- where p is a vertex, the walk starts at it
   pub starts_at_vertex : (v : ℕ) → v < length c.vertices → p ≡ point_at (map at c.vertices) v → Starts at c p q (Some (Vertex v))
   starts_at_vertex v here is = starts_with (Vertex v) here
       (begins_at_vertex (drawn (map at c.vertices) c.mesh) p q (laid at IsSite IsCovered c p q over) (decide_point p q) v

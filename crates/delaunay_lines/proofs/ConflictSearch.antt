@@ -11,6 +11,7 @@ use Rattle.plane.specs.Pairs.{EachPairOnce}
 use Rattle.plane.specs.Line.{Item, at_vertex, across, along}
 use Rattle.plane_tiling.proofs.Totals.{Contains-none}
 use Rattle.mesh_embedding.specs.Drawn.{edges_of}
+use Rattle.mesh_embedding.proofs.Entries.{one_value}
 use Rattle.mesh_embedding.proofs.MeshStays.{one_way}
 use Rattle.delaunay_core.specs.Place.{place_of}
 use Rattle.delaunay_lines.specs.declared.intersection.Intersection.{Intersection}
@@ -74,6 +75,7 @@ module _ {V D U F P S : Type 0} (at : V → Point) (number : S → ℤ) (IsSite 
     pub passed : (items : List Item) → AreLeft at number start items → (passed : List Item) × (others : List Item) × (items ≡ passed ++ others)
         × HasNoConflict constraints start.dcel.now passed × AreLeft at number now others
 
+  -- a search begins before the first item
   pub searching_begins : (start : LineIntersectionIterator V D U F P S) → IsReady at number IsSite IsCovered start → IsSearching start start
   searching_begins start ready = record {
     ready = ready;
@@ -101,12 +103,9 @@ module _ {V D U F P S : Type 0} (at : V → Point) (number : S → ℤ) (IsSite 
     unmarked_item (EdgeIntersection y) e is mesh off k =
         unmarked at (IsSite now.tests.now) (IsCovered now.tests.now) now.dcel.now (place_of number now.from) (place_of number now.to) searching.ready.over constraints y.index
         (subst (λ (d : Bor (Contents V D U F)). y.index < length d.now.directed) mesh y.in_range)
-        (λ z. off (subst (λ (h : DirectedEdgeHandle V D U F). Contains (constraints h.dcel.now.undirected) (h.index / 2)) (some_same y e is) (subst (λ (d : Bor (Contents V D U F)). Contains (constraints d.now.undirected) (y.index / 2)) (sym mesh) z)))
+        (λ z. off (subst (λ (h : DirectedEdgeHandle V D U F). Contains (constraints h.dcel.now.undirected) (h.index / 2)) (one_value y e is) (subst (λ (d : Bor (Contents V D U F)). Contains (constraints d.now.undirected) (y.index / 2)) (sym mesh) z)))
         (subst (λ (d : Bor (Contents V D U F)). IsConflict constraints d.now (across (origin d.now.mesh y.index) (origin d.now.mesh (rev y.index)))) (sym searching.same_mesh)
         (subst (λ (d : Bor (Contents V D U F)). IsConflict constraints start.dcel.now (across (origin d.now.mesh y.index) (origin d.now.mesh (rev y.index)))) (mesh ∙ searching.same_mesh) k))
-      where
-        some_same : (y e : DirectedEdgeHandle V D U F) → Some y ≡ Some e → y ≡ e
-        some_same y e is = cc
     unmarked_item (VertexIntersection v) e is mesh off k = subst IsCrossing (sym k.2) tt
     unmarked_item (EdgeOverlap o) e is mesh off k = subst IsCrossing (sym k.2) tt
 
@@ -120,6 +119,7 @@ module _ {V D U F P S : Type 0} (at : V → Point) (number : S → ℤ) (IsSite 
       passes : IsConflictOf constraints x None → ¬ IsConflict constraints start.dcel.now (item_in x)
       passes none = missed x (gives.gives searching.ready.items searching.ready.are_left).0 none
 
+      -- an item that is no conflict is passed
       pub searching_goes_on : IsReady at number IsSite IsCovered after → after.left < now.left → IsConflictOf constraints x None → IsSearching start after
       searching_goes_on ready less none = record {
         ready = ready;
@@ -160,6 +160,7 @@ module _ {V D U F P S : Type 0} (at : V → Point) (number : S → ℤ) (IsSite 
           );
     }
 
+    -- an edge that is crossed and a constraint is the first conflict
     pub found : (x : Intersection V D U F) (e : DirectedEdgeHandle V D U F) (after : LineIntersectionIterator V D U F P S) → GivesNext at number now (Some x) after → crossed_edge x ≡ Some e
         → Contains (constraints e.dcel.now.undirected) (e.index / 2) → GivesConflict at number constraints start (Some e) after
     found (EdgeIntersection y) e after gives is marked = subst (λ (h : DirectedEdgeHandle V D U F). GivesConflict at number constraints start (Some h) after) same
@@ -170,6 +171,7 @@ module _ {V D U F P S : Type 0} (at : V → Point) (number : S → ℤ) (IsSite 
     found (VertexIntersection v) e after gives is marked = absurd (none_some e is)
     found (EdgeOverlap o) e after gives is marked = absurd (none_some e is)
 
+    -- where no item is left, there is no conflict
     pub searching_ends : (after : LineIntersectionIterator V D U F P S) → GivesNext at number now None after → GivesConflict at number constraints start None after
     searching_ends after gives = record {
       same_mesh = gives.same_mesh ∙ searching.same_mesh;

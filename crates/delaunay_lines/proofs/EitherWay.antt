@@ -46,6 +46,7 @@ module _ (t : Triangulation) (p q : Fraction) (apart : ¬ IsSame p q) (i j : ℕ
   parts (inl o, d) = inr (met_if t p q apart j i (edge_flipped t i j edge) (signs p q B A o.1 o.0
       (turned_parted (bracket A B p) (bracket A B q) (bracket B A p) (bracket B A q) (bracket-swapped A B p) (bracket-swapped A B q) d)))
 
+  -- an edge that the segment meets in one point within it is crossed along one of its directions
   pub crossed_either_way : ¬ IsSame A B → MeetsWithin p q A B → Meets t p q (across i j) ⊎ Meets t p q (across j i)
   unfolding bracket
   crossed_either_way two m = parts ((meets_within_is p q A B apart two).0 m)

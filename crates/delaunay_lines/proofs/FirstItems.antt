@@ -43,29 +43,31 @@ module _ {V D U F : Type 0} (at : V → Point) (IsSite IsCovered : Point → Typ
   abbrev start : ℕ → Fraction
   start h = place points (origin m h)
 
-  is_in : (h : ℕ) → h < length c.directed → h < length m.half_edges
-  is_in = in_mesh at IsSite IsCovered c p q over
-
+  -- from p to another point q the walk starts at the item that the segment meets first
   pub starts_first : p ≢ q → (i : FixedIntersection) → IsHandleOf c i → IsFirst t (whole p) (whole q) (item_of m i) → Starts at c p q (Some i)
   starts_first apart i here first = starts_with at IsSite IsCovered c p q over i here (first_of t p q (laid at IsSite IsCovered c p q over) apart (item_of m i) first)
 
+  -- without items on the line list it starts nowhere
   pub nothing : IsLineList t (whole p) (whole q) [] → Starts at c p q None
   nothing l = record { items = []; line_list = l; are_from = refl; few = omega arith }
 
+  -- without items that the segment from p to another point meets it starts nowhere
   pub nothing_met : p ≢ q → IsWalk t (whole p) (whole q) [] → Starts at c p q None
   nothing_met apart w = nothing ((line_list_is_the_walk t (laid at IsSite IsCovered c p q over) (whole p) (whole q) (not_same p q apart) []).1 w)
 
+  -- equal ends are at the same place
   pub same_ends : p ≡ q → IsSame (whole p) (whole q)
   same_ends e = subst (λ (z : Point). IsSame (whole p) (whole z)) e (same-refl (whole p))
 
   -- ---- strictly within an edge
   module _ (h : ℕ) (within : h < length c.directed) (here : StartsWithin points m p h) where
+    -- from p to itself the walk starts with an overlap of the edge
     pub alone_on_edge : p ≡ q → Starts at c p q (Some (Overlap h))
     alone_on_edge e = record {
       items = along (origin m h) (origin m (rev h)) ∷ [];
-      line_list = (equal_ends t (whole p) (whole q) (same_ends e)).1 (origin m h) (origin m (rev h)) (joined at IsSite IsCovered c p q over h (is_in h within)) here;
+      line_list = (equal_ends t (whole p) (whole q) (same_ends e)).1 (origin m h) (origin m (rev h)) (joined at IsSite IsCovered c p q over h (in_mesh at IsSite IsCovered c p q over h within)) here;
       are_from = (within, ([], refl, record { met = λ n. absurd (n e); goes_on = λ n. absurd (n e); alone = λ _. refl }));
-      few = let some = start_in at IsSite IsCovered c p q over h (is_in h within) in let count = length-map c.vertices at in omega (arith, some, count);
+      few = let some = start_in at IsSite IsCovered c p q over h (in_mesh at IsSite IsCovered c p q over h within) in let count = length-map c.vertices at in omega (arith, some, count);
     }
 
     module _ (apart : p ≢ q) where
@@ -73,23 +75,27 @@ module _ {V D U F : Type 0} (at : V → Point) (IsSite IsCovered : Point → Typ
           × (side (start h) (start (rev h)) (whole q) ≡ right → IsFirst t (whole p) (whole q) (across (origin m (rev h)) (origin m h)))
           × (side (start h) (start (rev h)) (whole q) ≡ on → IsAhead (whole p) (start (rev h)) (whole q) → IsFirst t (whole p) (whole q) (along (origin m h) (origin m (rev h))))
           × (side (start h) (start (rev h)) (whole q) ≡ on → IsAhead (whole p) (start (rev h)) (whole q) ⊎ IsAhead (whole p) (start h) (whole q))
-      law = first_from_an_edge t (laid at IsSite IsCovered c p q over) (whole p) (whole q) (not_same p q apart) (origin m h) (origin m (rev h)) (joined at IsSite IsCovered c p q over h (is_in h within)) here
+      law = first_from_an_edge t (laid at IsSite IsCovered c p q over) (whole p) (whole q) (not_same p q apart) (origin m h) (origin m (rev h)) (joined at IsSite IsCovered c p q over h (in_mesh at IsSite IsCovered c p q over h within)) here
 
       back : side (start (rev h)) (start h) (whole q) ≡ on → IsAhead (whole p) (start h) (whole q) → IsFirst t (whole p) (whole q) (along (origin m (rev h)) (origin m h))
-      back = (first_from_an_edge t (laid at IsSite IsCovered c p q over) (whole p) (whole q) (not_same p q apart) (origin m (rev h)) (origin m h) (edge_flipped t (origin m h) (origin m (rev h)) (joined at IsSite IsCovered c p q over h (is_in h within))) (turned_within (start h) (start (rev h)) (whole p) here)).2
+      back = (first_from_an_edge t (laid at IsSite IsCovered c p q over) (whole p) (whole q) (not_same p q apart) (origin m (rev h)) (origin m h) (edge_flipped t (origin m h) (origin m (rev h)) (joined at IsSite IsCovered c p q over h (in_mesh at IsSite IsCovered c p q over h within))) (turned_within (start h) (start (rev h)) (whole p) here)).2
 
       twice : origin m h ≡ origin m (rev (rev h))
       twice = ap (origin m) (sym (rev-rev h))
 
+      -- with q on the left of the edge it starts by crossing it
       pub over_edge : side (start h) (start (rev h)) (whole q) ≡ left → Starts at c p q (Some (Edge h))
       over_edge s = starts_first apart (Edge h) within (law.0 s)
 
+      -- with q on its right it starts by crossing its twin
       pub over_twin : rev h < length c.directed → side (start h) (start (rev h)) (whole q) ≡ right → Starts at c p q (Some (Edge (rev h)))
       over_twin r s = starts_first apart (Edge (rev h)) r (subst (λ (x : ℕ). IsFirst t (whole p) (whole q) (across (origin m (rev h)) x)) twice (law.1 s))
 
+      -- with q ahead on its line it starts along the edge
       pub along_edge : side (start h) (start (rev h)) (whole q) ≡ on → IsAhead (whole p) (start (rev h)) (whole q) → Starts at c p q (Some (Overlap h))
       along_edge s a = starts_first apart (Overlap h) within (law.2 s a)
 
+      -- with q behind on its line it starts along the twin
       pub along_twin : rev h < length c.directed → side (start h) (start (rev h)) (whole q) ≡ on → ¬ IsAhead (whole p) (start (rev h)) (whole q) → Starts at c p q (Some (Overlap (rev h)))
       along_twin r s n = starts_first apart (Overlap (rev h)) r (subst (λ (x : ℕ). IsFirst t (whole p) (whole q) (along (origin m (rev h)) x)) twice (back (side_swapped (start h) (start (rev h)) (whole q) ∙ ap opposite s) (go (law.3 s))))
         where
@@ -101,7 +107,7 @@ module _ {V D U F : Type 0} (at : V → Point) (IsSite IsCovered : Point → Typ
   -- the same face from its next edge on
   pub inside_after : (h : ℕ) → h < length c.directed → StartsInside points m p h → StartsInside points m p (next m h)
   inside_after h within i =
-      let w = is_in h within in
+      let w = in_mesh at IsSite IsCovered c p q over h within in
       let r = T.triangle_at m h over.mesh.valid.sound w i.inner in record {
         inner = subst (λ (x : ℕ). 0 < x) (sym r.face_next) i.inner;
         inside = subst (λ (x : ℕ × ℕ × ℕ). InsideTriangle (place points x.0) (place points x.1) (place points x.2) (whole p))
@@ -112,12 +118,12 @@ module _ {V D U F : Type 0} (at : V → Point) (IsSite IsCovered : Point → Typ
   -- and from the edge before it
   pub inside_before : (h : ℕ) → h < length c.directed → StartsInside points m p h → StartsInside points m p (prev m h)
   inside_before h within i =
-      let r = T.triangle_at m h over.mesh.valid.sound (is_in h within) i.inner in
+      let r = T.triangle_at m h over.mesh.valid.sound (in_mesh at IsSite IsCovered c p q over h within) i.inner in
       subst (StartsInside points m p) r.next_next (inside_after (next m h) (of_mesh at IsSite IsCovered c p q over (next m h) r.next_in) (inside_after h within i))
 
   module _ (h : ℕ) (within : h < length c.directed) (i : StartsInside points m p h) where
     w : h < length m.half_edges
-    w = is_in h within
+    w = in_mesh at IsSite IsCovered c p q over h within
 
     is_face : IsFace t (origin m h) (origin m (rev h)) (origin m (prev m h))
     is_face = face_at at IsSite IsCovered c p q over h w i.inner
@@ -125,6 +131,7 @@ module _ {V D U F : Type 0} (at : V → Point) (IsSite IsCovered : Point → Typ
     tiles : TilesHull t
     tiles = tiles_with at IsSite IsCovered c p q over (origin m h) (origin m (rev h)) (origin m (prev m h)) is_face
 
+    -- from p to itself the walk meets nothing
     pub alone_inside : p ≡ q → Starts at c p q None
     alone_inside e = nothing ((equal_ends t (whole p) (whole q) (same_ends e)).2 tiles (origin m h) (origin m (rev h)) (origin m (prev m h)) is_face i.inside)
 
@@ -161,12 +168,15 @@ module _ {V D U F : Type 0} (at : V → Point) (IsSite IsCovered : Point → Typ
           }
 
       module _ (o : GoesOver points m p q h) where
+        -- with q on the left of this side the walk meets nothing
         pub ends_in_face : IsLeftOf points m q h → Starts at c p q None
         ends_in_face l = nothing_met apart ((face_law.0 o.end).0 o.start l)
 
+        -- with q beyond it, and its start on the way, the walk starts at this vertex
         pub through_start : ¬ IsLeftOf points m q h → side (whole p) (whole q) A ≡ on → origin m h < length c.vertices → Starts at c p q (Some (Vertex (origin m h)))
         through_start n s v_in = starts_first apart (Vertex (origin m h)) v_in ((face_law.0 o.end).1 s n)
 
+        -- with q beyond it, and its start off the way, the walk starts by crossing its twin
         pub through_side : rev h < length c.directed → ¬ IsLeftOf points m q h → side (whole p) (whole q) A ≢ on → Starts at c p q (Some (Edge (rev h)))
         through_side r n s = starts_first apart (Edge (rev h)) r (subst (λ (x : ℕ). IsFirst t (whole p) (whole q) (across (origin m (rev h)) x)) (ap (origin m) (sym (rev-rev h))) ((face_law.0 o.end).2 (below (side (whole p) (whole q) A) o.start s) n))
           where
@@ -175,6 +185,7 @@ module _ {V D U F : Type 0} (at : V → Point) (IsSite IsCovered : Point → Typ
             below right a b = λ _. right
             below on a b = absurd (b (λ _. on))
 
+-- a side that is neither left nor right is on the line
 pub on_if_neither : (z : Side) → z ≢ left → z ≢ right → z ≡ on
 on_if_neither left a b = absurd (a (λ _. left))
 on_if_neither right a b = absurd (b (λ _. right))

@@ -1,36 +1,30 @@
 -- Whether a segment meets a constraint, by the first conflict of its walk.
-use Rattle.std.proofs.Common.{◌≡◌, ◌≢◌, ◌⊎◌, ℕ, ◌+◌, ◌*◌, ◌/◌, ◌%◌, ◌<◌, ◌↔◌, Bool, true, false, IsTrue, List, [], ◌∷◌, ◌++◌, length, map, Option, Some, None, is_some, refl, sym, ap, ◌∙◌, subst, inl, inr, arith}
+use Rattle.std.proofs.Common.{◌≡◌, ◌≢◌, ◌⊎◌, ℕ, ◌+◌, ◌*◌, ◌/◌, ◌<◌, ◌↔◌, Bool, IsTrue, List, [], ◌∷◌, ◌++◌, length, map, Option, Some, None, is_some, sym, ap, subst, inl, inr, arith}
 use Rattle.std.specs.Prelude.{ℤ, Contains}
 use Rattle.std.proofs.lemmas.List.Elements.{Contains-append_right}
 use Rattle.half_edge_mesh.specs.Mesh.{Mesh, origin, rev}
 use Rattle.half_edge_mesh.specs.Contents.{Contents}
 use Rattle.half_edge_views.specs.declared.edge.DirectedEdgeHandle.{DirectedEdgeHandle}
-use Rattle.half_edge_links.proofs.Sound.Parts.{rev_of_even}
-use Rattle.half_edge_links.proofs.Lists.Rev.{rev-rev, rev_within}
 use Rattle.plane.specs.Fraction.{Point, whole, IsSame}
-use Rattle.plane.specs.Pairs.{Joins, place}
-use Rattle.plane.specs.Tiling.{Triangulation, IsEdge, vertex}
+use Rattle.plane.specs.Pairs.{Joins}
+use Rattle.plane.specs.Tiling.{Triangulation, IsEdge}
 use Rattle.plane.specs.Line.{Item, IsLineList, IsListAt, Meets, at_vertex, across, along}
-use Rattle.plane.proofs.Decisions.{decide_point}
 use Rattle.plane.proofs.Segments.{same-refl}
 use Rattle.plane_tiling.proofs.Totals.{Contains-head}
 use Rattle.mesh_embedding.specs.Drawn.{drawn}
-use Rattle.mesh_embedding.specs.Legal.{pair_at, pairs_at}
-use Rattle.mesh_embedding.proofs.MeshLegal.{joins_directed}
-use Rattle.mesh_embedding.proofs.WorkLists.{contains_map_from}
+use Rattle.mesh_embedding.specs.Legal.{pairs_at}
+use Rattle.mesh_embedding.proofs.MeshLegal.{joins_directed, IsListedEdge, listed_edge}
 use Rattle.delaunay_core.specs.Place.{place_of}
-use Rattle.delaunay_legalization.specs.Constraints.{marked_edges, constraint_pairs, constraints_by}
+use Rattle.delaunay_legalization.specs.Constraints.{marked_edges, constraints_by}
 use Rattle.delaunay_legalization.specs.Known.{point_at}
-use Rattle.delaunay_legalization.specs.State.{State, state_of, triangulation_of}
+use Rattle.delaunay_legalization.specs.State.{State, triangulation_of}
 use Rattle.delaunay_legalization.proofs.Constraints.{fixed_within}
+use Rattle.delaunay_legalization.proofs.Questions.{both_ways}
 use Rattle.delaunay_lines.specs.declared.iterator.LineIntersectionIterator.{LineIntersectionIterator}
 use Rattle.delaunay_lines.specs.Conflicts.{GivesConflict, HasNoConflict, IntersectsConstraint, IsConflict}
 use Rattle.delaunay_lines.specs.Walk.{IsReady, WalksLine}
 use Rattle.delaunay_lines.proofs.EitherWay.{crossed_either_way}
-use Rattle.delaunay_lines.proofs.MeshSteps.{in_mesh, of_mesh, joined, ends_apart, not_same}
-
-not_true : (b : Bool) → b ≡ false → b ≡ true → ⊥
-not_true b e f = cc
+use Rattle.delaunay_lines.proofs.MeshSteps.{in_mesh, joined, ends_apart, not_same}
 
 -- at one point no edge is crossed
 none_across : (t : Triangulation) (p : Point) (passed others : List Item) (a b : ℕ) → IsListAt t (whole p) (passed ++ across a b ∷ others) → ⊥
@@ -42,35 +36,6 @@ none_across t p (along i j ∷ []) others a b x = x
 none_across t p (at_vertex v ∷ k ∷ passed) others a b x = x
 none_across t p (across i j ∷ k ∷ passed) others a b x = x
 none_across t p (along i j ∷ k ∷ passed) others a b x = x
-
-even : (k : ℕ) → (2 * k) % 2 ≡ 0
-even k = omega arith
-
-half : (k : ℕ) → (2 * k) / 2 ≡ k
-half k = omega arith
-
-half_more : (k h : ℕ) → h ≡ 2 * k + 1 → h / 2 ≡ k
-half_more k h e = omega (arith, e)
-
--- a directed edge of a pair that marked edges join
-pub record IsMarkedEdge (m : Mesh) (marked : List ℕ) (i j h : ℕ) : Type 0 where
-  pub start : origin m h ≡ i
-  pub end : origin m (rev h) ≡ j
-  pub listed : Contains marked (h / 2)
-
-marked_edge : (m : Mesh) (ks : List ℕ) (i j : ℕ) → Joins (pairs_at m ks) i j → (h : ℕ) × IsMarkedEdge m ks i j h
-marked_edge m ks i j (inl x) =
-    let r = contains_map_from (pair_at m) ks (i, j) x in
-    (2 * r.0, record { start = ap (λ (y : ℕ × ℕ). y.0) r.2; end = ap (λ (y : ℕ × ℕ). y.1) r.2; listed = subst (λ (k : ℕ). Contains ks k) (sym (half r.0)) r.1 })
-marked_edge m ks i j (inr x) =
-    let r = contains_map_from (pair_at m) ks (j, i) x in (
-      rev (2 * r.0),
-      record {
-        start = ap (λ (y : ℕ × ℕ). y.1) r.2;
-        end = ap (origin m) (rev-rev (2 * r.0)) ∙ ap (λ (y : ℕ × ℕ). y.0) r.2;
-        listed = subst (λ (k : ℕ). Contains ks k) (sym (half_more r.0 (rev (2 * r.0)) (rev_of_even (2 * r.0) (even r.0)))) r.1;
-      },
-    )
 
 below : (h n count : ℕ) → h / 2 < n → 2 * n ≡ count → h < count
 below h n count less e = omega (arith, less, e)
@@ -112,7 +77,7 @@ module _ {V D U F P S : Type 0} (at : V → Point) (number : S → ℤ) (IsSite 
     edge_in h listed = subst (λ (n : ℕ). h < n) (sym ready.over.mesh.fits.directed_fit)
         (below h (length c.undirected) (length m.half_edges) (fixed_within marks constraints marked c.undirected (h / 2) listed) ready.over.mesh.fits.undirected_fit)
 
-    is_conflict : (i j h : ℕ) → IsMarkedEdge m ks i j h → IsConflict constraints c (across i j)
+    is_conflict : (i j h : ℕ) → IsListedEdge m ks i j h → IsConflict constraints c (across i j)
     is_conflict i j h e = (h, edge_in h e.listed, (λ k. across (sym e.start k) (sym e.end k)), e.listed)
 
     none_is : HasNoConflict constraints c items → ¬ IntersectsConstraint t (pairs_at m ks) p q
@@ -121,15 +86,15 @@ module _ {V D U F P S : Type 0} (at : V → Point) (number : S → ℤ) (IsSite 
       | inr met ↦ none (across x.to x.from) (list.complete (not_same p q x.apart) (across x.to x.from) met) (is_conflict x.to x.from back.0 back.1)
     ]
       where
-        there : (h : ℕ) × IsMarkedEdge m ks x.from x.to h
-        there = marked_edge m ks x.from x.to x.constraint
+        there : (h : ℕ) × IsListedEdge m ks x.from x.to h
+        there = listed_edge m ks x.from x.to x.constraint
 
         flipped : Joins (pairs_at m ks) x.from x.to → Joins (pairs_at m ks) x.to x.from
         flipped (inl y) = inr y
         flipped (inr y) = inl y
 
-        back : (h : ℕ) × IsMarkedEdge m ks x.to x.from h
-        back = marked_edge m ks x.to x.from (flipped x.constraint)
+        back : (h : ℕ) × IsListedEdge m ks x.to x.from h
+        back = listed_edge m ks x.to x.from (flipped x.constraint)
 
         h_in : there.0 < length c.directed
         h_in = edge_in there.0 there.1.listed
@@ -156,14 +121,17 @@ module _ {V D U F P S : Type 0} (at : V → Point) (number : S → ℤ) (IsSite 
     abbrev Intersects : State V D U F → Type 0
     Intersects z = IntersectsConstraint (triangulation_of at z) (constraints_by constraints z) p q
 
+    -- where a conflict was found, the segment intersects a constraint
     pub crosses_one : (e : DirectedEdgeHandle V D U F) → GivesConflict at number constraints it (Some e) after → Intersects s
     crosses_one e gives =
         let f = (gives.gives line.items line.are_left).1 in
         subst Intersects line.state (conflict_is p q line.items list_here f.passed f.others e.index f.all f.constraint)
 
+    -- where none was found, it intersects none
     pub crosses_none : GivesConflict at number constraints it None after → ¬ Intersects s
     crosses_none gives x = none_is p q line.items list_here (gives.gives line.items line.are_left).0 (subst Intersects (sym line.state) x)
 
+    -- so whether one was found tells whether it does
     pub first_decides : (r : Option (DirectedEdgeHandle V D U F)) (b : Bool) → b ≡ is_some r → GivesConflict at number constraints it r after → IsTrue b ↔ Intersects s
-    first_decides None b is gives = ((λ yes. absurd (not_true b is yes)), (λ x. absurd (crosses_none gives x)))
+    first_decides None b is gives = ((λ yes. absurd (both_ways b yes is)), (λ x. absurd (crosses_none gives x)))
     first_decides (Some e) b is gives = ((λ _. crosses_one e gives), (λ _. is))

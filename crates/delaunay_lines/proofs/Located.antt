@@ -64,15 +64,18 @@ module _ {V D U F : Type 0} (at : V → Point) (IsSite IsCovered : Point → Typ
   one : (a b : Location) → IsLocation t (whole p) a → IsLocation t (whole p) b → IsSameLocation a b
   one = (each_point_has_one_location points (faces_of m) (outer_of m) (edges_of m) over.shape (own_edges m over.mesh.valid) (whole p)).1
 
+  -- located on a vertex, p is where this vertex is
   pub on_that_vertex : (v : ℕ) → Locates points m p (OnVertex v) → (v < length c.vertices) × (point_at points v ≡ p)
   on_that_vertex v l = (
     subst (λ (n : ℕ). v < n) (sym over.mesh.fits.vertices_fit) l.handle,
     sym (one_point p (point_at points v) l.location.1),
   )
 
+  -- located on an edge, p is strictly within it
   pub within_that_edge : (e : ℕ) → Locates points m p (OnEdge e) → (e < length c.directed) × StartsWithin points m p e
   within_that_edge e l = (of_mesh at IsSite IsCovered c p q over e l.handle, l.location.1)
 
+  -- located in a face, p is strictly inside it
   pub inside_that_face : (f : ℕ) → Locates points m p (OnFace f) → StartsInside points m p (face_edge m f)
   inside_that_face f l =
       let r = over.mesh.valid.sound.faces f l.handle.0 l.handle.1 in record {
@@ -129,8 +132,10 @@ module _ {V D U F : Type 0} (at : V → Point) (IsSite IsCovered : Point → Typ
   outside : (l : Location) → IsAway l → IsLocation t (whole p) l → StartsOutside t p
   outside l away is = record { no_vertex = no_vertex_there l away is; no_edge = no_edge_there l away is; left_of = left_of_outer l away is }
 
+  -- located outside the hull, p is where a segment starts outside
   pub outside_that_edge : (e : ℕ) → Locates points m p (OutsideOfConvexHull e) → StartsOutside t p
   outside_that_edge e l = outside (outside_hull (origin m e) (origin m (rev e))) tt l.location
 
+  -- so it is where there is no triangulation
   pub without_triangulation : Locates points m p NoTriangulation → StartsOutside t p
   without_triangulation l = outside no_triangulation tt l.location

@@ -18,7 +18,7 @@ use Rattle.plane_segments.proofs.Walking.OneLine.{steps_on_one_line}
 use Rattle.plane_segments.proofs.First.LineStarts.{next_on_line}
 use Rattle.plane_segments.proofs.Crossing.EitherWay.{one_point}
 use Rattle.mesh_embedding.specs.Drawn.{drawn, faces_of, edges_of, outer_of}
-use Rattle.mesh_embedding.proofs.EdgePairs.{edge_joins, joins_edge}
+use Rattle.mesh_embedding.proofs.EdgePairs.{edge_joins, joins_edge, starts_within}
 use Rattle.mesh_embedding.proofs.MeshEdits.{face_before}
 use Rattle.mesh_embedding.proofs.MeshLegal.{no_outer_face, line_has_none}
 use Rattle.mesh_embedding.proofs.MeshStars.{edge_of_face}
@@ -28,6 +28,7 @@ use Rattle.delaunay_lines.specs.declared.intersection.FixedIntersection.{FixedIn
 use Rattle.delaunay_lines.specs.Items.{item_of, IsHandleOf}
 use Rattle.delaunay_lines.specs.Steps.{IsOverMesh, IsNext, IsLeftOf, LeavesBy, IsEdgeAhead, IsInCone, LeadsTo}
 
+-- a number that is not 0 is positive
 pub positive : (n : ℕ) → (n ≡ 0 → ⊥) → 0 < n
 positive n h = omega (arith, h)
 
@@ -48,18 +49,23 @@ module _ {V D U F : Type 0} (at : V → Point) (IsSite IsCovered : Point → Typ
   abbrev start : ℕ → Fraction
   start h = place points (origin m h)
 
+  -- the faces tile the hull, or all vertices are on one line
   pub laid : IsLaid t
   laid = meshes_are_laid points (faces_of m) (outer_of m) (edges_of m) over.shape (own_edges m s)
 
+  -- each directed edge with data is one of the mesh
   pub in_mesh : (h : ℕ) → h < length c.directed → h < length m.half_edges
   in_mesh h w = subst (λ (n : ℕ). h < n) over.mesh.fits.directed_fit w
 
+  -- and each one of the mesh has data
   pub of_mesh : (h : ℕ) → h < length m.half_edges → h < length c.directed
   of_mesh h w = subst (λ (n : ℕ). h < n) (sym over.mesh.fits.directed_fit) w
 
+  -- the two ends of a directed edge are joined by an edge
   pub joined : (h : ℕ) → h < length m.half_edges → IsEdge t (origin m h) (origin m (rev h))
   joined h w = edge_joins m s.sound h w
 
+  -- with a face, the faces tile the hull
   pub tiles_with : (i j k : ℕ) → IsFace t i j k → TilesHull t
   tiles_with i j k f = elim laid [
     | inl h ↦ h
@@ -73,13 +79,15 @@ module _ {V D U F : Type 0} (at : V → Point) (IsSite IsCovered : Point → Typ
     | inr l ↦ line_has_none m (origin m h) (origin m (rev h)) f.0 l.0 f.1
   ]
 
+  -- the inner face on the left of a directed edge, from this edge on
   pub face_at : (h : ℕ) → h < length m.half_edges → 0 < face m h → IsFace t (origin m h) (origin m (rev h)) (origin m (prev m h))
   face_at h w inner = subst (λ (b : ℕ). IsFace t (origin m h) b (origin m (prev m h))) (s.sound.edges h w).starts (face_before m h s.sound (w, inner))
 
   -- the ends of an edge are at two positions
   pub start_in : (h : ℕ) → h < length m.half_edges → origin m h < length points
-  start_in h w = subst (λ (n : ℕ). origin m h < n) (sym (length-map c.vertices at ∙ over.mesh.fits.vertices_fit)) (s.sound.edges h w).origin_in
+  start_in h w = starts_within m s.sound (length points) (length-map c.vertices at ∙ over.mesh.fits.vertices_fit) h w
 
+  -- the two ends of a directed edge are different points
   pub ends_apart : (h : ℕ) → h < length c.directed → (u v : Point) → u ≡ point_at points (origin m h) → v ≡ point_at points (origin m (rev h)) → u ≢ v
   ends_apart h within u v e f o = distinct (ap whole (sym e ∙ o ∙ f))
     where
@@ -98,6 +106,7 @@ module _ {V D U F : Type 0} (at : V → Point) (IsSite IsCovered : Point → Typ
       let r = T.triangle_at m h s.sound w inner in
       sym (s.sound.edges (prev m h) r.prev_in).starts ∙ ap (origin m) r.next_prev
 
+  -- the side after a side of an inner face ends at the third corner
   pub twin_of_next : (h : ℕ) → h < length m.half_edges → 0 < face m h → origin m (rev (next m h)) ≡ origin m (prev m h)
   twin_of_next h w inner =
       let r = T.triangle_at m h s.sound w inner in
@@ -124,6 +133,7 @@ module _ {V D U F : Type 0} (at : V → Point) (IsSite IsCovered : Point → Typ
       w : h < length m.half_edges
       w = in_mesh h within
 
+      -- an edge whose line q is on, or with the outer face on its left, is the last item
       pub last_at_edge : (side (start h) (start (rev h)) (whole q) ≡ on) ⊎ (face m h ≡ 0) → Last (crossed h)
       last_at_edge x = go laid x
         where
@@ -174,12 +184,14 @@ module _ {V D U F : Type 0} (at : V → Point) (IsSite IsCovered : Point → Typ
         across_prev : crossed (rev (prev m h)) ≡ across a d
         across_prev = λ i. across (twin_of_prev h w inner i) (ap (origin m) (rev-rev (prev m h)) i)
 
+        -- the opposite corner is on the right: the side before h is next, or none if q is inside of it
         pub through_right : side (whole p) (whole q) (place points d) ≡ right → (r : Option FixedIntersection) → LeavesBy at c q (prev m h) r → IsNext at c p q (crossed h) r
         through_right x None l = law.4 x (side_before.0 l)
         through_right x (Some n) l =
             subst (λ (k : FixedIntersection). IsHandleOf c k × Next (across a b) (item_of m k)) (sym l.0)
             (l.1, subst (Next (across a b)) (sym across_prev) (law.1 x (λ y. l.2 (side_before.1 y))))
 
+        -- the opposite corner is on the left: the side after h is next, or none if q is inside of it
         pub through_left : side (whole p) (whole q) (place points d) ≡ left → (r : Option FixedIntersection) → LeavesBy at c q (next m h) r → IsNext at c p q (crossed h) r
         through_left x None l = law.3 (λ y. differ (sym x ∙ y)) (side_after.0 l)
           where
@@ -194,9 +206,11 @@ module _ {V D U F : Type 0} (at : V → Point) (IsSite IsCovered : Point → Typ
         flat right r l = absurd (r (λ _. right))
         flat on r l = λ _. on
 
+        -- that corner is not on the right, and q is inside the side after h: the edge is the last item
         pub ends_inside : side (whole p) (whole q) (place points d) ≢ right → IsLeftOf points m q (next m h) → Last (crossed h)
         ends_inside x l = law.3 x (side_after.0 l)
 
+        -- that corner is on the line, and q is not inside the side after h: the corner is next
         pub at_corner : side (whole p) (whole q) (place points d) ≢ right → side (whole p) (whole q) (place points d) ≢ left → ¬ IsLeftOf points m q (next m h) → Next (crossed h) (at_vertex d)
         at_corner x y l = law.2 (flat (side (whole p) (whole q) (place points d)) x y) (λ z. l (side_after.1 z))
 
@@ -211,14 +225,17 @@ module _ {V D U F : Type 0} (at : V → Point) (IsSite IsCovered : Point → Typ
         | inr l ↦ (steps_on_one_line t l.0 l.1 l.2 (whole p) (whole q) ways_apart).2 (origin m h) (origin m (rev h)) met
       ]
 
+      -- with q strictly within it, it is the last item
       pub last_within_overlap : WithinSegment (start h) (start (rev h)) (whole q) → Last (overlapped h)
       last_within_overlap x = overlap_law.0 x
 
+      -- else its end is next
       pub end_of_overlap : ¬ WithinSegment (start h) (start (rev h)) (whole q) → Next (overlapped h) (at_vertex (origin m (rev h)))
       end_of_overlap x = overlap_law.1 x
 
     -- ---- after a vertex
     module _ (v : ℕ) (met : Met (at_vertex v)) where
+      -- the vertex at q is the last item
       pub last_at_end : IsSame (place points v) (whole q) → Last (at_vertex v)
       last_at_end x = elim laid [
         | inl tiles ↦ (next_after_vertex t tiles (whole p) (whole q) ways_apart v met).0 x
@@ -226,6 +243,7 @@ module _ {V D U F : Type 0} (at : V → Point) (IsSite IsCovered : Point → Typ
       ]
 
       module _ (before_end : ¬ IsSame (place points v) (whole q)) where
+        -- before q, a vertex is the last item if no edge from it leads towards q
         pub last_if_none_leads : ((h : ℕ) → h < length c.directed → origin m h ≡ v → ¬ LeadsTo points m q h) → Last (at_vertex v)
         last_if_none_leads none = elim laid [
           | inl tiles ↦ last_vertex t tiles (whole p) (whole q) ways_apart v met before_end none_ahead none_into
@@ -253,6 +271,7 @@ module _ {V D U F : Type 0} (at : V → Point) (IsSite IsCovered : Point → Typ
       v_in : h < length m.half_edges
       v_in = in_mesh h within
 
+      -- where q is ahead along the edge, this is overlapped next
       pub along_ahead : IsEdgeAhead points m q h → Next (at_vertex (origin m h)) (overlapped h)
       along_ahead x = elim laid [
         | inl tiles ↦ (next_after_vertex t tiles (whole p) (whole q) ways_apart (origin m h) met).1 (origin m (rev h)) (overlap_ahead t tiles (whole p) (whole q) ways_apart (origin m h) (origin m (rev h)) met before_end (joined h v_in) x)
@@ -281,6 +300,7 @@ module _ {V D U F : Type 0} (at : V → Point) (IsSite IsCovered : Point → Typ
         across_far : crossed (rev (next m h)) ≡ across e f
         across_far = λ i. across (twin_of_next h v_in cone.inner i) ((ap (origin m) (rev-rev (next m h)) ∙ (s.sound.edges h v_in).starts) i)
 
+        -- where q is in the cone of the face, its third side is next, or none if q is inside of it
         pub into_face : (r : Option FixedIntersection) → LeavesBy at c q (next m h) r → IsNext at c p q (at_vertex (origin m h)) r
         into_face None l = cone_law.0 (far_side.0 l)
         into_face (Some n) l =
@@ -288,11 +308,14 @@ module _ {V D U F : Type 0} (at : V → Point) (IsSite IsCovered : Point → Typ
             (l.1, subst (Next (at_vertex (origin m h))) (sym across_far) (cone_law.1 (λ y. l.2 (far_side.1 y))))
 
 -- ---- questions about an edge, by where its ends are
+-- what tells whether q lies in the direction from a to b tells it by equal points, too
 pub same_ahead : (a b q a' b' : Point) (T : Type 0) → a ≡ a' → b ≡ b' → T ↔ IsAhead (whole a) (whole b) (whole q) → T ↔ IsAhead (whole a') (whole b') (whole q)
 same_ahead a b q a' b' T e f w = subst (λ (x : Point × Point). T ↔ IsAhead (whole x.0) (whole x.1) (whole q)) (λ i. (e i, f i)) w
 
+-- what tells whether q is strictly within a segment tells it by equal ends, too
 pub same_within : (a b q a' b' : Point) (T : Type 0) → a ≡ a' → b ≡ b' → T ↔ WithinSegment (whole a) (whole b) (whole q) → T ↔ WithinSegment (whole a') (whole b') (whole q)
 same_within a b q a' b' T e f w = subst (λ (x : Point × Point). T ↔ WithinSegment (whole x.0) (whole x.1) (whole q)) (λ i. (e i, f i)) w
 
+-- different points are not at the same place of the plane
 pub not_same : (p q : Point) → p ≢ q → ¬ IsSame (whole p) (whole q)
 not_same p q n e = n (one_point p q e)

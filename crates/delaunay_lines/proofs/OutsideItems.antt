@@ -51,10 +51,12 @@ module _ (points : List Point) (p q : Point) where
   nearer_of : (k v : ℕ) → Nearer k v → d k <ℤ d v
   nearer_of k v h = less_without_ones (d k) (d v) h.nearer
 
+  -- of no vertices none is the nearest
   pub none_of_none : IsNearestOf points 0 p q None
   none_of_none k less = absurd (omega (arith, less))
 
   module _ (n v : ℕ) (is : v ≡ n) where
+    -- a vertex that is better than the nearest before it is the nearest with it
     pub better_is_nearest : (r : Option ℕ) → IsNearestOf points n p q r → IsBetter points p q v r → IsNearestOf points (n + 1) p q (Some v)
     better_is_nearest None before better = (omega (arith, is), better.0, below_more (λ k. On k → ¬ Nearer k v) n (λ k less o. absurd (before k less o)) (subst (λ k. On k → ¬ Nearer k v) is (λ o h. itself (d v) (nearer_of v v h))))
     better_is_nearest (Some o) before better = (
@@ -63,6 +65,7 @@ module _ (points : List Point) (p q : Point) where
       below_more (λ k. On k → ¬ Nearer k v) n (λ k less on h. before.2 k less on (record { nearer = less_with_ones (d k) (d o) (through (d v) (d o) (d k) better.1 (nearer_of k v h)) })) (subst (λ k. On k → ¬ Nearer k v) is (λ on h. itself (d v) (nearer_of v v h))),
     )
 
+    -- else the nearest stays so
     pub still_nearest : (r : Option ℕ) → IsNearestOf points n p q r → ¬ IsBetter points p q v r → IsNearestOf points (n + 1) p q r
     still_nearest None before worse = below_more (λ k. ¬ On k) n before (subst (λ k. ¬ On k) is (λ on. worse (on, tt)))
     still_nearest (Some o) before worse = (
@@ -71,10 +74,12 @@ module _ (points : List Point) (p q : Point) where
       below_more (λ k. On k → ¬ Nearer k o) n before.2 (subst (λ k. On k → ¬ Nearer k o) is (λ on h. worse (on, nearer_of v o h))),
     )
 
+  -- the nearest of the first vertices is one of them all
   pub within_of : (n count : ℕ) → n ≤ count → (r : Option ℕ) → IsNearestOf points n p q r → IfSome r (λ o. o < count)
   within_of n count few None x = tt
   within_of n count few (Some o) x = let less = x.0 in omega (arith, few, less)
 
+-- two numbers of which each is at most the other are equal
 pub same_count : (n count : ℕ) → n ≤ count → count ≤ n → n ≡ count
 same_count n count h k = omega (arith, h, k)
 
@@ -92,6 +97,7 @@ module _ {V D U F : Type 0} (at : V → Point) (IsSite IsCovered : Point → Typ
   t_laid : IsLaid t
   t_laid = laid at IsSite IsCovered c p q over
 
+  -- from p to itself the walk meets nothing
   pub alone_outside : p ≡ q → Starts at c p q None
   alone_outside e = nothing at IsSite IsCovered c p q over (elim t_laid [
     | inl tiles ↦ (let l = outside.left_of tiles in (equal_ends t (whole p) (whole q) (same_ends at IsSite IsCovered c p q over e)).3 tiles l.0 l.1 l.2 l.3)
@@ -117,6 +123,7 @@ module _ {V D U F : Type 0} (at : V → Point) (IsSite IsCovered : Point → Typ
         of_four : (side (whole p) (whole q) (vertex t (origin m h)) ≡ left) × (side (whole p) (whole q) (vertex t (origin m (rev h))) ≡ right) × (side (vertex t (origin m h)) (vertex t (origin m (rev h))) (whole p) ≢ left) × (side (vertex t (origin m h)) (vertex t (origin m (rev h))) (whole q) ≢ right) → IsCrossed points m p q h
         of_four y = (record { start = y.0; end = y.1 }, record { from = y.2; to = y.3 })
 
+    -- an edge through which the segment enters is where the walk starts
     pub enters : (h : ℕ) → h < length c.directed → IsEntered points m p q h → Starts at c p q (Some (Edge h))
     enters h within x = starts_first at IsSite IsCovered c p q over apart (Edge h) within (elim t_laid [
       | inl tiles ↦ (first_item t tiles (whole p) (whole q) ways_apart).3 (origin m (rev h)) (origin m h) met outer
@@ -160,6 +167,7 @@ module _ {V D U F : Type 0} (at : V → Point) (IsSite IsCovered : Point → Typ
       vertex_in : (v : ℕ) → Meets t (whole p) (whole q) (at_vertex v) → v < length c.vertices
       vertex_in v x = subst (λ (n : ℕ). v < n) (length-map c.vertices at) x.0
 
+      -- where it enters through none, the walk starts at the nearest vertex on it
       pub nearest_is_first : (v : ℕ) → IsNearestOf points (length c.vertices) p q (Some v) → Starts at c p q (Some (Vertex v))
       nearest_is_first v x = starts_first at IsSite IsCovered c p q over apart (Vertex v) x.0 (elim t_laid [
         | inl tiles ↦ (let l = outside.left_of tiles in (first_from_the_outside t tiles (whole p) (whole q) ways_apart l.0 l.1 l.2 l.3 (no_outer_crossed tiles)).0 v met nearest)
@@ -172,6 +180,7 @@ module _ {V D U F : Type 0} (at : V → Point) (IsSite IsCovered : Point → Typ
           nearest : (k : ℕ) → Meets t (whole p) (whole q) (at_vertex k) → ¬ IsNearer (whole p) (vertex t k) (vertex t v)
           nearest k y = x.2 k (vertex_in k y) y.1
 
+      -- and with no vertex on it the segment meets nothing
       pub none_is_first : IsNearestOf points (length c.vertices) p q None → Starts at c p q None
       none_is_first x = nothing_met at IsSite IsCovered c p q over apart (elim t_laid [
         | inl tiles ↦ (let l = outside.left_of tiles in (first_from_the_outside t tiles (whole p) (whole q) ways_apart l.0 l.1 l.2 l.3 (no_outer_crossed tiles)).1 (λ v y. x v (vertex_in v y) y.1))

@@ -27,6 +27,7 @@ module _ (u v : Point) (apart : u ≢ v) where
   not_end : ¬ WithinSegment (whole u) (whole v) (whole v)
   not_end w = itself (reach (whole u) (whole v) (whole v) *ℤ (whole v).w) ((within_segment_is (whole u) (whole v) (whole v) ways_apart).0 w).2
 
+  -- a point strictly within the segment is neither of its ends
   pub differs_if_within : (p : Point) → WithinSegment (whole u) (whole v) (whole p) → (p ≢ u) × (p ≢ v)
   differs_if_within p w = (
     (λ e. not_start (subst (λ (x : Point). WithinSegment (whole u) (whole v) (whole x)) e w)),

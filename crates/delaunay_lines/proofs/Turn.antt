@@ -34,12 +34,15 @@ module _ {V D U F P S : Type 0} (at : V → Point) (number : S → ℤ) (IsSite 
     from_here : (items : List Item) → AreLeft at number it items → AreFrom at it.dcel.now p q (Some i) items
     from_here items left = subst (λ (o : Option FixedIntersection). AreFrom at it.dcel.now p q o items) is left
 
+    -- the current handle is one of the mesh
     pub handle_here : IsHandleOf it.dcel.now i
     handle_here = (from_here ready.items ready.are_left).0
 
+    -- the segment between different points meets the current item
     pub met_here : p ≢ q → Meets (drawn (map at it.dcel.now.vertices) it.dcel.now.mesh) (whole p) (whole q) (item_of it.dcel.now.mesh i)
     met_here apart = (from_here ready.items ready.are_left).1.2.met apart
 
+    -- the bound on the items that are left is at least 1
     pub counts_more : 1 ≤ it.left
     counts_more = some_left ready.items (from_here ready.items ready.are_left).1.0 (item_of it.dcel.now.mesh i) it.left (from_here ready.items ready.are_left).1.1 ready.few
 
@@ -50,12 +53,14 @@ module _ {V D U F P S : Type 0} (at : V → Point) (number : S → ℤ) (IsSite 
       others : (items : List Item) → AreLeft at number it items → (others : List Item) × (items ≡ item_of it.dcel.now.mesh i ∷ others) × AreLeft at number after others
       others items left = further at (IsSite it.tests.now) (IsCovered it.tests.now) it.dcel.now p q ready.over i items (from_here items left) r alone next
 
+      -- an answer with the current item of the same mesh gives what is next
       pub gives_some : (x : Intersection V D U F) → item_in x ≡ item_of it.dcel.now.mesh i → mesh_of x ≡ it.dcel → GivesNext at number it (Some x) after
       gives_some x item mesh = record {
         same_mesh = refl;
         gives = λ items left. let o = others items left in (mesh, (o.0, o.1 ∙ ap (λ (k : Item). k ∷ o.0) (sym item), o.2));
       }
 
+      -- the iterator is ready after that
       pub ready_after : IsReady at number IsSite IsCovered after
       ready_after = record {
         over = ready.over;

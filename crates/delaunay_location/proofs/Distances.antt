@@ -44,6 +44,7 @@ sum_of_squares a b c d n = go (trichotomy_ℤ (a -ℤ c)) (trichotomy_ℤ (b -�
 less_by : (a b s r q : ℤ) → a ≡ b +ℤ (s +ℤ (pos 2 *ℤ r +ℤ pos 2 *ℤ q)) → pos 0 <ℤ s → pos 0 ≤ℤ r → pos 0 ≤ℤ q → b <ℤ a
 less_by a b s r q e h k l = omega (arith, ints)
 
+-- a point strictly within the segment from p to k is nearer to p than k is
 pub nearer_of_within : (p k i : Point) → ¬ (k ≡ i) → WithinSegment (whole p) (whole k) (whole i) → gap (whole p) (whole i) <ℤ gap (whole p) (whole k)
 nearer_of_within p k i apart h =
     let b = box_of_within p k i h in

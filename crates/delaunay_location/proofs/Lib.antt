@@ -3,5 +3,4 @@ pub mod Questions
 pub mod Nearest
 pub mod Locating
 pub mod Walking
-pub mod Rounds
 pub mod Neighbours

@@ -36,6 +36,7 @@ use Rattle.plane.proofs.Signs.{below_and_not_below}
 same_number : (a b : ℤ) → a *ℤ pos 1 ≡ b *ℤ pos 1 → b ≡ a
 same_number a b e = omega (arith, ints)
 
+-- points that are at the same place of the plane are equal
 pub same_point : (p q : Point) → IsSame (whole p) (whole q) → q ≡ p
 same_point p q s =
     let x = same_number p.x q.x s.x in
@@ -52,9 +53,11 @@ module _ {V D U F : Type 0} (at : V → Point) (s : State V D U F) (kept : IsTri
   count : length points ≡ length s.vertices
   count = length-map s.vertices at
 
+  -- a position that a vertex has is located on this vertex
   pub at_vertex : (v : ℕ) → v < length s.vertices → point_at points v ≡ p → Locates points m p (OnVertex v)
   at_vertex v h e = record { handle = (let f = kept.fits.vertices_fit in omega (arith, f, h)); location = (omega (arith, h, count), (let same : p ≡ point_at points v = sym e in record { x = ap (λ q. q.x *ℤ pos 1) same; y = ap (λ q. q.y *ℤ pos 1) same })) }
 
+  -- a position strictly inside an inner face is located in this face
   pub in_face : (f : ℕ) → 0 < f → f ≤ length s.faces → IsInsideFaceOf points m p (face_edge m f) → Locates points m p (OnFace f)
   in_face f positive h i = record { handle = (positive, (let e = kept.fits.faces_fit in omega (arith, e, h))); location = ((mesh_face at s kept f positive h).listed, i) }
 
@@ -106,6 +109,7 @@ module _ {V D U F : Type 0} (at : V → Point) (s : State V D U F) (kept : IsTri
     starts_there : (i j : ℕ) → IsOuter (drawn points m) i j → (h : ℕ) × (h < length m.half_edges) × (origin m h ≡ i) × (origin m (rev h) ≡ j)
     starts_there i j o = joins_edge m kept.valid.sound i j o.0
 
+    -- with several vertices there is an edge
     pub some_edge : 0 < length s.directed
     some_edge =
         let b = beyond in
@@ -120,6 +124,7 @@ module _ {V D U F : Type 0} (at : V → Point) (s : State V D U F) (kept : IsTri
         go (inl l) = absurd (P.none_beyond (length points) (point_at points) (faces_of m) (outer_of m) (by_signs points (faces_of m) (outer_of m) l) (whole p) i h past)
         go (inr l) = l.0
 
+    -- the position is past the end of the line where the edge that starts nearest to it starts
     pub past_end : (e : ℕ) → StartsNearest points m p e → Locates points m p (OutsideOfConvexHull e)
     past_end e near =
         let b = beyond in

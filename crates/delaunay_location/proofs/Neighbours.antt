@@ -44,11 +44,13 @@ pub record IsWalking (t : Triangulation) (p : Point) (here was moves : ℕ) : Ty
   pub fewer : (moves ≡ was) ⊎ (moves + nearer_count t (whole p) here < was + length t.points)
 
 module _ (t : Triangulation) (p : Point) (was : ℕ) where
+  -- a walk begins at any vertex, before the first move
   pub walking_begins : (start moves : ℕ) → start < length t.points → moves ≡ was → IsWalking t p start was moves
   walking_begins start moves h same = record { within = h; grown = omega (arith, same); fewer = inl same }
 
   module _ (here moves : ℕ) (w : IsWalking t p here was moves) where
     module _ (k : ℕ) (h : k < length t.points) (near : IsNearer (whole p) (vertex t k) (vertex t here)) where
+      -- a nearer vertex has fewer vertices that are nearer than it
       pub nearer_falls : nearer_count t (whole p) k < nearer_count t (whole p) here
       nearer_falls = (nearer_count_falls t (whole p) here k w.within h near).0
 
@@ -62,12 +64,15 @@ module _ (t : Triangulation) (p : Point) (was : ℕ) where
           go (inl e) = let a = f.0 in let b = f.1 in counts moves was (nearer_count t (whole p) k) (nearer_count t (whole p) here) (length t.points) e a b
           go (inr l) = let a = f.0 in counts_on moves was (nearer_count t (whole p) k) (nearer_count t (whole p) here) (length t.points) l a
 
+      -- the count of the moves has room for a move to a nearer vertex
       pub move_fits : was + length t.points ≤ 2 ^ 64 → moves + 1 < 2 ^ 64
       move_fits fits = below_by (moves + 1) (nearer_count t (whole p) k) (was + length t.points) (2 ^ 64) still_fewer fits
 
+      -- after such a move the walk is at the nearer vertex
       pub walking_goes_on : IsWalking t p k was (moves + 1)
       walking_goes_on = record { within = h; grown = (let g = w.grown in omega (arith, g)); fewer = inr still_fewer }
 
+    -- there were fewer moves than there are vertices
     pub walking_ends : moves < was + length t.points
     walking_ends = go w.fewer
       where

@@ -12,6 +12,7 @@ use Rattle.delaunay_location.specs.declared.position_in_triangulation.PositionIn
 use Rattle.delaunay_legalization.specs.Parts.{IsWithinEdge}
 use Rattle.mesh_embedding.specs.Drawn.{drawn}
 
+-- the location that an answer says, by the vertices of the part that it names
 abbrev pub location_of : Mesh → PositionInTriangulation → Location
 location_of m (OnVertex v) = on_vertex v
 location_of m (OnEdge e) = on_edge (origin m e) (origin m (rev e))

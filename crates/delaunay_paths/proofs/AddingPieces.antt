@@ -48,6 +48,7 @@ turned_ends u v i j a b e f = (
   (λ x. elim x [ inl s ↦ inr (s.0 ∙ sym f, s.1 ∙ sym e) | inr s ↦ inl (s.0 ∙ sym e, s.1 ∙ sym f) ]),
 )
 
+-- a pair is the ends of an undirected edge if and only if it is those of one of its directions
 pub half_ends : (m : Mesh) (h i j a b : ℕ) → origin m h ≡ i → origin m (rev h) ≡ j → IsSamePair a b (origin m (2 * (h / 2))) (origin m (rev (2 * (h / 2)))) ↔ IsSamePair a b i j
 half_ends m h i j a b e f = elim (halved h) [
   | inl k ↦ same_ends (origin m (2 * (h / 2))) (origin m (rev (2 * (h / 2)))) i j a b (ap (origin m) k ∙ e) (ap (λ (x : ℕ). origin m (rev x)) k ∙ f)
@@ -77,6 +78,7 @@ module _ {U : Type 0} (marks : U → Bool) (constraints : List U → List ℕ) (
     count : length new.undirected ≡ length old.undirected
     count = ap length data_are ∙ length-set mid.undirected k entry ∙ ap length data_were
 
+    -- a mesh has all its data after that, too
     pub piece_whole : IsMeshWithData mid → IsMeshWithData new
     piece_whole w = subst (λ (c : Contents V D U F). IsMeshWithData c) (sym written.whole) (record { valid = w.valid; fits = rw (length-set mid.undirected k entry) w.fits })
 
@@ -88,6 +90,7 @@ module _ {U : Type 0} (marks : U → Bool) (constraints : List U → List ℕ) (
       now_is : constraint_pairs constraints new.mesh new.undirected ≡ constraint_pairs constraints mid.mesh (set mid.undirected k entry)
       now_is = ap (λ (y : Mesh × List U). constraint_pairs constraints y.0 y.1) (λ o. (mesh_is o, data_are o))
 
+      -- where edge e joins i and j and its data have the mark now, the piece between them is added
       pub piece_added : (marked_as : U → U) → marks entry ≡ true → (entry ≡ written.value) ⊎ ((marks written.value ≡ false) × (entry ≡ marked_as written.value)) → origin mid.mesh e ≡ i → origin mid.mesh (rev e) ≡ j → k ≡ e / 2 → AddsPiece marks marked_as constraints old new i j
       piece_added marked_as mark same_as source target half = record {
         contents = contents;
@@ -121,6 +124,7 @@ module _ {U : Type 0} (marks : U → Bool) (constraints : List U → List ℕ) (
     pub shape : IsMesh (map at old.vertices) (faces_of now.mesh) (outer_of now.mesh)
     pub path : IsAddingPath (map at old.vertices) (constraints_by constraints (state_of old)) (constraints_by constraints (state_of now)) i j w
 
+  -- at its start the path has no piece yet
   pub adding_to_begins : {V D F : Type 0} (at : V → Point) (marked_as : U → U) (old : Contents V D U F) (i j : ℕ) → IsTriangulated at (state_of old) → i < length old.vertices → IsAddingTo at marked_as old old i j i
   adding_to_begins at marked_as old i j kept within = record {
     contents = refl;
@@ -135,18 +139,23 @@ module _ {U : Type 0} (marks : U → Bool) (constraints : List U → List ℕ) (
     abbrev points : List Point
     points = map at old.vertices
 
+    -- the vertices are those of before
     pub same : now.vertices ≡ old.vertices
     same = ap (λ (c : Contents V D U F). c.vertices) p.contents
 
+    -- so they are sites if they were
     pub adding_sites : (IsSite : Point → Type 0) → All IsSite (map at old.vertices) → All IsSite (map at now.vertices)
     adding_sites IsSite sites = subst (λ (vs : List V). All IsSite (map at vs)) (sym same) sites
 
+    -- the mesh is one of all vertices
     pub adding_shape : IsMesh (map at now.vertices) (faces_of now.mesh) (outer_of now.mesh)
     adding_shape = subst (λ (vs : List V). IsMesh (map at vs) (faces_of now.mesh) (outer_of now.mesh)) (sym same) p.shape
 
+    -- a vertex of before is one now
     pub adding_index : (k : ℕ) → k < length old.vertices → k < length now.vertices
     adding_index k h = subst (λ (vs : List V). k < length vs) (sym same) h
 
+    -- the vertex that was reached is one of the vertices
     pub adding_at : w < length now.vertices
     adding_at = adding_index w (of_map at old.vertices w p.path.within)
 
@@ -173,14 +182,17 @@ module _ {U : Type 0} (marks : U → Bool) (constraints : List U → List ℕ) (
       next_here : AreNextOn points w j w v
       next_here = subst (λ (vs : List V). AreNextOn (map at vs) w j w v) same next
 
+      -- no vertex is strictly between it and the next one on the way
       pub adding_free : IsFreeOfVertices (drawn (map at now.vertices) now.mesh) w v
       adding_free = piece_is_free (drawn (map at now.vertices) now.mesh) w j w v next
 
+      -- no constraint crosses the next piece, where the path could be added
       pub adding_clear : CanAddPath at constraints old i j → NoneCrosses (map at now.vertices) (constraints_by constraints (state_of now)) w v
       adding_clear free = subst (λ (vs : List V). NoneCrosses (map at vs) (constraints_by constraints (state_of now)) w v) (sym same)
           (λ a b joined. let e = constraint_ends a b joined in
           piece_is_clear points distinct (constraints_by constraints (state_of old)) (constraints_by constraints (state_of now)) i j w (in_map at old.vertices i hi) (in_map at old.vertices j hj) p.path v on_way next_here free a b joined e.0 e.1.0 e.1.1)
 
+      -- with the next piece added the path reaches the next vertex
       pub adding_to_goes_on : ((x : U) → marks (marked_as x) ≡ true) → (new : Contents V D U F) → AddsPiece marks marked_as constraints now new w v → IsMeshWithData new → IsMesh (map at now.vertices) (faces_of new.mesh) (outer_of new.mesh) → IsAddingTo at marked_as old new i j v
       adding_to_goes_on has new adds whole shape = record {
         contents = adds.contents ∙ ap (λ (c : Contents V D U F). record c { mesh = new.mesh; undirected = new.undirected }) p.contents;
@@ -191,9 +203,11 @@ module _ {U : Type 0} (marks : U → Bool) (constraints : List U → List ℕ) (
         path = adding_goes_on points distinct (constraints_by constraints (state_of old)) (constraints_by constraints (state_of now)) i j w (in_map at old.vertices i hi) (in_map at old.vertices j hj) p.path v on_way next_here (constraints_by constraints (state_of new)) adds.pair;
       }
 
+      -- from the next vertex the way to j is shorter
       pub adding_shortens : nat_abs (squared_way (point_of points v) (point_of points j)) < nat_abs (squared_way (point_of points w) (point_of points j))
       adding_shortens = path_shortens points w j v distinct p.path.within (in_map at old.vertices j hj) on_way next_here
 
+    -- where j is reached, the path from i to j is added
     pub adding_to_ends : w ≡ j → IsTriangulated at (state_of old) → CanAddPath at constraints old i j → AddsPath at marks marked_as constraints old now i j
     adding_to_ends is kept free = record {
       contents = p.contents;
@@ -222,12 +236,14 @@ piece_leaves points marks marked_as constraints old mid new i j was left makes s
   leaves = λ pairs passing. subst (λ (m : Mesh). AllPassBut points (faces_of m) pairs (pairs_at m left)) (sym same) (makes.leaves pairs passing);
 }
 
+-- where nothing has changed, no edge is left to test
 pub none_is_left : {V D U F : Type 0} (all : List Point) (old : Contents V D U F) → LeavesToTest all old old []
 none_is_left all old = record { edges = no_edges old.mesh; leaves = λ pairs passing. passing }
   where
     no_edges : (m : Mesh) → AreEdges m []
     no_edges m = record { within = λ k c. absurd (Contains-none k c); once = once_none }
 
+-- the edges that the last piece of a path leaves to test are all that are left
 pub more_is_left : {V D U F : Type 0} (at : V → Point) (marks : U → Bool) (marked_as : U → U) (constraints : List U → List ℕ) (old now new : Contents V D U F) (i j : ℕ) (was left : List ℕ) → now.vertices ≡ old.vertices
     → LeavesToTest (map at old.vertices) old now was → LeavesPiece (map at now.vertices) marks marked_as constraints now new i j was left → LeavesToTest (map at old.vertices) old new left
 more_is_left {V = V} at marks marked_as constraints old now new i j was left same first piece = record {

@@ -79,6 +79,7 @@ module _ {V D U F : Type 0} (at : V → Point) (marks : U → Bool) (constraints
     none_in_way : GivesConflict at number constraints line None after → CanAddPath at constraints c i j
     none_in_way gives = way_is_free (crosses_none at number IsSite IsCovered marks constraints marked line ready (state_of c) (point_at points i) (point_at points j) walks after gives)
 
+    -- where b tells that no conflict was found, it tells whether the path can be added
     pub first_decides : (r : Option (DirectedEdgeHandle V D U F)) (b : Bool) → is_some r ≡ not b → GivesConflict at number constraints line r after → IsTrue b ↔ CanAddPath at constraints c i j
     first_decides None b is gives = ((λ _. none_in_way gives), (λ _. yes_if_none b is))
     first_decides (Some e) b is gives = ((λ yes. absurd (not_yes b is yes)), (λ free. absurd (one_in_way e gives free)))

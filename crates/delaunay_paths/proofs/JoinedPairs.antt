@@ -14,17 +14,10 @@ use Rattle.delaunay_legalization.specs.Constraints.{marked_edges, constraint_pai
 use Rattle.delaunay_legalization.specs.Shape.{IsTriangulated}
 use Rattle.delaunay_legalization.specs.State.{state_of}
 use Rattle.delaunay_legalization.proofs.Constraints.{is_constraint_edge}
-use Rattle.delaunay_legalization.proofs.MarkedPairs.{JoinsByMark, mark_joins}
+use Rattle.delaunay_legalization.proofs.MarkedPairs.{JoinsByMark, mark_joins, same_as_third}
 use Rattle.delaunay_paths.specs.PathEdges.{AreJoinedAlong}
 use Rattle.delaunay_paths.proofs.AddingPieces.{half_ends}
-use Rattle.delaunay_paths.proofs.Releasing.{one_edge}
-
--- two pairs with the ends of a third have the same ends
-same_as_third : (a b u v x y : ℕ) → IsSamePair a b u v → IsSamePair a b x y → IsSamePair u v x y
-same_as_third a b u v x y (inl s) (inl t) = inl (sym s.0 ∙ t.0, sym s.1 ∙ t.1)
-same_as_third a b u v x y (inl s) (inr t) = inr (sym s.0 ∙ t.0, sym s.1 ∙ t.1)
-same_as_third a b u v x y (inr s) (inl t) = inr (sym s.1 ∙ t.1, sym s.0 ∙ t.0)
-same_as_third a b u v x y (inr s) (inr t) = inl (sym s.1 ∙ t.1, sym s.0 ∙ t.0)
+use Rattle.delaunay_paths.proofs.Releasing.{one_edge, double}
 
 module _ {V D U F : Type 0} (at : V → Point) (marks : U → Bool) (constraints : List U → List ℕ) (marked : (ds : List U) → constraints ds ≡ marked_edges marks ds) (c : Contents V D U F) (kept : IsTriangulated at (state_of c)) where
   abbrev pairs : List (ℕ × ℕ)
@@ -53,24 +46,24 @@ module _ {V D U F : Type 0} (at : V → Point) (marks : U → Bool) (constraints
   pub no_edge_joins : (a b : ℕ) → ((h : ℕ) → h < length c.mesh.half_edges → origin c.mesh h ≡ a → origin c.mesh (rev h) ≢ b) → ¬ Joins pairs a b
   no_edge_joins a b none joined = go (mark_joins marks constraints marked c.mesh c.undirected a b joined)
     where
-      double : (j : ℕ) → j < length c.undirected → 2 * j < length c.mesh.half_edges
-      double j h = let f = kept.fits.undirected_fit in omega (arith, f, h)
-
       at_ends : (k : ℕ) → 2 * k < length c.mesh.half_edges → IsSamePair a b (origin c.mesh (2 * k)) (origin c.mesh (rev (2 * k))) → ⊥
       at_ends k within (inl s) = none (2 * k) within (sym s.0) (sym s.1)
       at_ends k within (inr s) = none (rev (2 * k)) (rev_within (2 * k) (length c.mesh.half_edges) kept.valid.sound.even within) (sym s.0) (ap (origin c.mesh) (rev-rev (2 * k)) ∙ sym s.1)
 
       go : JoinsByMark marks constraints marked c.mesh c.undirected a b → ⊥
-      go j = at_ends j.edge (double j.edge (slice_get_within c.undirected j.edge j.is.value j.is.has)) j.ends
+      go j = at_ends j.edge (double at c kept j.edge (slice_get_within c.undirected j.edge j.is.value j.is.has)) j.ends
 
 -- ---- a path whose pieces are pairs of a list
 module _ (points : List Point) (distinct : ArePlacedApart points) (pairs : List (ℕ × ℕ)) (i j w : ℕ) (hi : IsIndex points i) (hj : IsIndex points j) (p : IsAddingPath points pairs pairs i j w) where
+  -- where j is reached, each piece of the path is one of the pairs
   pub all_joined : w ≡ j → AreJoinedAlong points pairs i j
   all_joined is a b next = (adding_ends points distinct pairs pairs i j w hi hj p is a b).1 (inr next)
 
   module _ (v : ℕ) (on_way : w ≢ j) (next : AreNextOn points w j w v) where
+    -- where the next piece is one of the pairs, the path goes on from its end
     pub joined_further : Joins pairs w v → IsAddingPath points pairs pairs i j v
     joined_further here = adding_goes_on points distinct pairs pairs i j w hi hj p v on_way next pairs (λ a b. ((λ x. inl x), (λ x. elim x [ inl y ↦ y | inr s ↦ same_joined pairs a b w v s here ])))
 
+    -- where the next piece is none of them, not all pieces are
     pub one_not_joined : ¬ Joins pairs w v → ¬ AreJoinedAlong points pairs i j
     one_not_joined not all = not (all w v (p.rest w v next))

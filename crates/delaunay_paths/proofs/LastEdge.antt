@@ -1,5 +1,5 @@
 -- The last of the edges that cross a segment, by the walk along it.
-use Rattle.std.proofs.Common.{◌≡◌, ◌≢◌, ◌⊎◌, ℕ, ◌<◌, List, [], ◌∷◌, ◌++◌, length, map, Option, Some, None, sym, ap, ◌∙◌, subst, inl, inr}
+use Rattle.std.proofs.Common.{◌≡◌, ◌⊎◌, ℕ, ◌<◌, List, [], ◌∷◌, ◌++◌, length, map, Option, Some, None, sym, ap, ◌∙◌, subst, inl, inr}
 use Rattle.std.specs.Prelude.{ℤ, Contains, IfSome, MatchOption}
 use Rattle.std.proofs.lemmas.List.Elements.{Contains-append_left, Contains-append_right, Contains-push_cases}
 use Rattle.std.proofs.lemmas.List.{length-map}
@@ -7,7 +7,7 @@ use Rattle.half_edge_mesh.specs.Contents.{Contents, IsMeshWithData}
 use Rattle.half_edge_mesh.specs.Mesh.{Mesh, IsValidMesh, origin, rev}
 use Rattle.half_edge_links.proofs.Lists.Rev.{rev_within}
 use Rattle.plane.specs.Crossing.{Cross}
-use Rattle.plane.specs.Fraction.{Point, whole, IsSame, WithinSegment}
+use Rattle.plane.specs.Fraction.{Point, IsSame, WithinSegment}
 use Rattle.plane.specs.Laws.{Parts}
 use Rattle.plane.specs.Line.{Item, IsLineList, Meets, at_vertex, across, along}
 use Rattle.plane.specs.Pairs.{place}
@@ -19,8 +19,9 @@ use Rattle.plane_tiling.specs.Local.{IsMesh}
 use Rattle.plane_tiling.proofs.Locations.{no_edges_cross}
 use Rattle.plane_tiling.proofs.Loops.{mesh_tiles}
 use Rattle.plane_tiling.proofs.Totals.{Contains-head, Contains-none}
+use Rattle.plane_segments.specs.Constraints.{ArePlacedApart}
 use Rattle.plane_segments.specs.Path.{ComesAfterOnLeft, ComesAfterOnRight, IsCrossing, IsFreeOfVertices}
-use Rattle.plane_segments.proofs.Crossing.EitherWay.{crossing_is_either_way, edge_back, one_point}
+use Rattle.plane_segments.proofs.Crossing.EitherWay.{crossing_is_either_way, edge_back}
 use Rattle.plane_segments.proofs.Crossing.Order.{right-trans, left-trans, right-irrefl, left-irrefl}
 use Rattle.mesh_embedding.specs.Drawn.{drawn, edges_of, faces_of, outer_of}
 use Rattle.mesh_embedding.proofs.EdgePairs.{edge_joins}
@@ -36,6 +37,7 @@ use Rattle.delaunay_paths.specs.Crossing.{CrossesFromRight, ComesAfter, IsLastCr
 use Rattle.delaunay_paths.specs.Items.{crossed_twin, IsLastWith, IsLater}
 use Rattle.delaunay_paths.proofs.InTheWay.{meets_is_cross}
 use Rattle.delaunay_paths.proofs.Passing.{HasPassed, all_passed, item_state, list_with, none_passed, one_more_passed}
+use Rattle.delaunay_paths.proofs.Places.{no_same_place}
 use Rattle.delaunay_paths.proofs.Towards.{crossing, local_if_crossed}
 use Rattle.delaunay_paths.proofs.Walking.{placed_apart}
 
@@ -95,10 +97,12 @@ module _ (points : List Point) (m : Mesh) (i j : ℕ) where
   after-same g h k e a = subst (λ (x : ℕ × ℕ). EndsAfter g x.0 x.1) (λ z. (ap second_end (sym e) z, ap first_end (sym e) z)) a
 
   -- ---- the last of the items that were passed
+  -- of the directed edges below n that cross, the last whose twin these items cross, if one is
   abbrev pub IsLastAmong : ℕ → List Item → Option ℕ → Type 0
   IsLastAmong n passed last = MatchOption last ((h : ℕ) → h < n → Crosses h → ¬ Contains passed (crossed_twin m h))
       (λ g. (g < n) × Crosses g × ((h : ℕ) → h < n → Crosses h → Contains passed (crossed_twin m h) → ¬ After g h))
 
+  -- without items there is none
   pub none_among : (n : ℕ) → IsLastAmong n [] None
   none_among n h less c x = Contains-none (crossed_twin m h) x
 
@@ -147,11 +151,12 @@ module _ (points : List Point) (m : Mesh) (i j : ℕ) where
 
 -- ---- what the segment meets
 module _ (points : List Point) (m : Mesh) (s : IsValidMesh m) (i j : ℕ) (shape : IsMesh points (faces_of m) (outer_of m)) (count : length points ≡ length m.out_edges) (free : IsFreeOfVertices (drawn points m) i j) where
-  apart : (a b : ℕ) → a < length points → b < length points → a ≢ b → ¬ IsSame (place points a) (place points b)
-  apart a b ha hb n e = placed_apart points (faces_of m) (outer_of m) shape a b ha hb n (ap whole (one_point (point_at points a) (point_at points b) e))
+  distinct : ArePlacedApart points
+  distinct = placed_apart points (faces_of m) (outer_of m) shape
 
+  -- the ends of the segment are at two places
   pub two : ¬ IsSame (place points i) (place points j)
-  two = apart i j free.first free.second free.apart
+  two = no_same_place points distinct i j free.first free.second free.apart
 
   none_within : (a b k : ℕ) → k < length points → IsEdge (drawn points m) a b → ¬ WithinSegment (place points a) (place points b) (place points k)
   none_within a b k within edge = (no_edges_cross points (faces_of m) (outer_of m) (edges_of m) shape (own_edges m s)).0 a b k edge within
@@ -165,7 +170,7 @@ module _ (points : List Point) (m : Mesh) (s : IsValidMesh m) (i j : ℕ) (shape
     y_in = subst (λ (n : ℕ). origin m (rev h) < n) (sym count) (s.sound.edges (rev h) (rev_within h (length m.half_edges) s.sound.even within)).origin_in
 
     ends : ¬ IsSame (place points (origin m h)) (place points (origin m (rev h)))
-    ends = apart (origin m h) (origin m (rev h)) v_in y_in (s.apart h within)
+    ends = no_same_place points distinct (origin m h) (origin m (rev h)) v_in y_in (s.apart h within)
 
     edge : IsEdge (drawn points m) (origin m h) (origin m (rev h))
     edge = edge_joins m s.sound h within
@@ -184,6 +189,7 @@ module _ (points : List Point) (m : Mesh) (s : IsValidMesh m) (i j : ℕ) (shape
     on_line straight (inl x) = on_not_right (sym (straight i j (origin m h) free.first free.second v_in) ∙ x.1)
     on_line straight (inr x) = on_not_left (sym (straight i j (origin m h) free.first free.second v_in) ∙ x.1)
 
+    -- an edge whose twin the segment meets by crossing it crosses from the right
     pub crosses_if_met : Meets (drawn points m) (place points i) (place points j) (crossed_twin m h) → CrossesFromRight points m i j h
     crosses_if_met met = go shape
       where
@@ -223,6 +229,7 @@ module _ {V D U F P S : Type 0} (at : V → Point) (number : S → ℤ) (IsSite 
     pub ready : IsReady at number IsSite IsCovered now
     pub among : IsLastAmong points_of_mesh c.mesh i j (length c.directed) passed last
 
+  -- at the beginning there is none so far
   pub seeking_begins : (it : LineIntersectionIterator V D U F P S) → IsReady at number IsSite IsCovered it → WalksLine at number (state_of c) (point_at points_of_mesh i) (point_at points_of_mesh j) it → SeeksLast None it
   seeking_begins it ready walks = record {
     passed = [];
@@ -232,6 +239,7 @@ module _ {V D U F P S : Type 0} (at : V → Point) (number : S → ℤ) (IsSite 
   }
 
   module _ (last : Option ℕ) (now : LineIntersectionIterator V D U F P S) (seeks : SeeksLast last now) where
+    -- the last so far is one of the directed edges
     pub last_in : IfSome last (λ g. g < length c.directed)
     last_in = go last seeks.among
       where
@@ -240,6 +248,7 @@ module _ {V D U F P S : Type 0} (at : V → Point) (number : S → ℤ) (IsSite 
         go (Some g) among = among.0
 
     module _ (after : LineIntersectionIterator V D U F P S) where
+      -- what a call gives is of the same triangulation
       pub seeking_state : (x : Intersection V D U F) → GivesNext at number now (Some x) after → state_of (mesh_of x).now ≡ state_of c
       seeking_state x gives = item_state at number IsSite IsCovered (state_of c) (point_at points_of_mesh i) (point_at points_of_mesh j) seeks.passed now after seeks.so_far x gives
 
@@ -257,6 +266,7 @@ module _ {V D U F P S : Type 0} (at : V → Point) (number : S → ℤ) (IsSite 
               l.1.met (two points_of_mesh c.mesh whole_mesh.valid i j shape count free) (item_in x)
               (Contains-append_left (seeks.passed ++ item_in x ∷ []) l.0 (item_in x) (Contains-append_right seeks.passed (item_in x ∷ []) (item_in x) (Contains-head (item_in x) [])))
 
+          -- with the item that a call gives, the last so far is the last with it
           pub seeking_goes_on : (r : Option ℕ) → IsReady at number IsSite IsCovered after → IsLastWith points_of_mesh c.mesh i (length c.directed) last (item_in x) r → SeeksLast r after
           seeking_goes_on r ready o = record {
             passed = seeks.passed ++ item_in x ∷ [];
@@ -271,6 +281,7 @@ module _ {V D U F P S : Type 0} (at : V → Point) (number : S → ℤ) (IsSite 
                   (edge_more points_of_mesh c.mesh i j (length c.directed) seeks.passed y.0 y.2
                   (crosses_if_met points_of_mesh c.mesh whole_mesh.valid i j shape count free y.0 (in_mesh y.0 y.2) (subst (Meets (drawn points_of_mesh c.mesh) (place points_of_mesh i) (place points_of_mesh j)) y.3 met)) last y.1 seeks.among y.5)
 
+        -- where no item is left, the last so far is the last of all edges that cross
         pub seeking_ends : GivesNext at number now None after → IsLastCrossing points_of_mesh c.mesh i j (length c.directed) last
         seeking_ends gives = go last seeks.among
           where

@@ -1,11 +1,9 @@
 -- What flips towards a segment leave to the circle test.
-use Rattle.std.proofs.Common.{◌≡◌, ◌≢◌, ◌⊎◌, ℕ, ◌+◌, ◌*◌, ◌/◌, ◌%◌, ◌<◌, List, [], ◌∷◌, length, refl, sym, ap, ◌∙◌, subst, inl, inr, arith}
+use Rattle.std.proofs.Common.{◌≡◌, ◌≢◌, ◌⊎◌, ℕ, ◌/◌, List, [], ◌∷◌, length, refl, sym, ◌∙◌, subst, inl, inr}
 use Rattle.std.specs.Prelude.{Contains}
 use Rattle.half_edge_mesh.specs.Mesh.{Mesh, IsValidMesh, origin, next, prev, rev}
 use Rattle.half_edge_mesh.specs.Flip.{IsFlippable, Flips}
 use Rattle.half_edge_links.proofs.Faces.FlipSound.{origin_kept}
-use Rattle.half_edge_links.proofs.Sound.Parts.{rev_of_even}
-use Rattle.half_edge_links.proofs.Lists.Rev.{rev-rev}
 use Rattle.half_edge_links.proofs.Sound.Triangles as T
 use Rattle.half_edge_links.proofs.Lists.Writes.{AreSixPlaces}
 use Rattle.plane.specs.Crossing.{Cross}
@@ -20,46 +18,17 @@ use Rattle.plane_edits.specs.Change.{FacesChange, IsFaceOf}
 use Rattle.plane_edits.specs.Legal.{AllPassBut, Pass}
 use Rattle.plane_edits.proofs.LocalMesh.Changes.{each, each_none, face_from, turn_of_all}
 use Rattle.mesh_embedding.specs.Drawn.{drawn, edges_of, faces_of, outer_of}
-use Rattle.mesh_embedding.specs.Legal.{GainsRound, pair_at, pairs_at}
+use Rattle.mesh_embedding.specs.Legal.{GainsRound, pairs_at}
 use Rattle.mesh_embedding.proofs.EdgePairs.{edge_joins}
 use Rattle.mesh_embedding.proofs.MeshEdits.{start_of_twin, end_of_twin}
-use Rattle.mesh_embedding.proofs.MeshLegal.{joins_directed}
+use Rattle.mesh_embedding.proofs.MeshLegal.{joins_directed, listed_edge}
 use Rattle.mesh_embedding.proofs.MeshStars.{edge_of_face}
 use Rattle.mesh_embedding.proofs.OwnEdges.{own_edges}
-use Rattle.mesh_embedding.proofs.WorkLists.{contains_map_from}
+use Rattle.mesh_embedding.proofs.TurnedEnds.{KeepsOtherOrigins, other_ends_stay, ends_at_next}
 use Rattle.delaunay_legalization.specs.Known.{point_at}
 use Rattle.delaunay_paths.specs.Kept.{KeepsUncrossed}
 use Rattle.delaunay_paths.specs.Leaving.{AllPassBeyond}
 use Rattle.delaunay_paths.proofs.Walking.{not_start}
-
-even : (k : ℕ) → (2 * k) % 2 ≡ 0
-even k = omega arith
-
-half : (k : ℕ) → (2 * k) / 2 ≡ k
-half k = omega arith
-
-half_more : (k h : ℕ) → h ≡ 2 * k + 1 → h / 2 ≡ k
-half_more k h e = omega (arith, e)
-
--- a directed edge of a pair that listed edges join
-pub record IsListedEdge (m : Mesh) (ks : List ℕ) (u v h : ℕ) : Type 0 where
-  pub start : origin m h ≡ u
-  pub end : origin m (rev h) ≡ v
-  pub listed : Contains ks (h / 2)
-
-listed_edge : (m : Mesh) (ks : List ℕ) (u v : ℕ) → Joins (pairs_at m ks) u v → (h : ℕ) × IsListedEdge m ks u v h
-listed_edge m ks u v (inl x) =
-    let r = contains_map_from (pair_at m) ks (u, v) x in
-    (2 * r.0, record { start = ap (λ (y : ℕ × ℕ). y.0) r.2; end = ap (λ (y : ℕ × ℕ). y.1) r.2; listed = subst (λ (k : ℕ). Contains ks k) (sym (half r.0)) r.1 })
-listed_edge m ks u v (inr x) =
-    let r = contains_map_from (pair_at m) ks (v, u) x in (
-      rev (2 * r.0),
-      record {
-        start = ap (λ (y : ℕ × ℕ). y.1) r.2;
-        end = ap (origin m) (rev-rev (2 * r.0)) ∙ ap (λ (y : ℕ × ℕ). y.0) r.2;
-        listed = subst (λ (k : ℕ). Contains ks k) (sym (half_more r.0 (rev (2 * r.0)) (rev_of_even (2 * r.0) (even r.0)))) r.1;
-      },
-    )
 
 -- ---- one flip
 module _ (m : Mesh) (s : IsValidMesh m) (e : ℕ) (can : IsFlippable m e) (after : Mesh) (moves : Flips m after e) where
@@ -78,37 +47,31 @@ module _ (m : Mesh) (s : IsValidMesh m) (e : ℕ) (can : IsFlippable m e) (after
   abbrev made : List Face
   made = corners a b d ∷ corners b c d ∷ []
 
-  origin_stays : (h : ℕ) → h ≢ e → h ≢ rev e → origin after h ≡ origin m h
+  origin_stays : KeepsOtherOrigins m after e
   origin_stays = origin_kept m after e s.sound can moves
-
-  rev_stays : (h : ℕ) → h ≢ e → h ≢ rev e → origin after (rev h) ≡ origin m (rev h)
-  rev_stays h n t = origin_stays (rev h) (λ r. t (sym (rev-rev h) ∙ ap rev r)) (λ r. n (sym (rev-rev h) ∙ ap rev r ∙ rev-rev e))
 
   six : AreSixPlaces (length m.half_edges) e (rev e) (next m e) (next m (rev e)) (prev m e) (prev m (rev e))
   six = T.six_round m e s.sound can
-
-  reverse_of : (h i : ℕ) → h < length m.half_edges → next m h ≡ i → origin m (rev h) ≡ origin m i
-  reverse_of h i l r = sym (s.sound.edges h l).starts ∙ ap (origin m) r
 
   module _ (ks more : List ℕ) (round : GainsRound m e ks more) (own : Contains more (e / 2)) where
     abbrev Joined : ℕ → ℕ → Type 0
     Joined u v = Joins (pairs_at after more) u v
 
     side_joined : (h u v : ℕ) → h ≢ e → h ≢ rev e → Contains more (h / 2) → origin m h ≡ u → origin m (rev h) ≡ v → Joined u v
-    side_joined h u v n t l p q = subst (λ (y : ℕ × ℕ). Joins (pairs_at after more) y.0 y.1) (λ o. ((origin_stays h n t ∙ p) o, (rev_stays h n t ∙ q) o)) (joins_directed after more h l)
+    side_joined h u v n t l p q = subst (λ (y : ℕ × ℕ). Joins (pairs_at after more) y.0 y.1) (λ o. ((origin_stays h n t ∙ p) o, (other_ends_stay m after e origin_stays h n t ∙ q) o)) (joins_directed after more h l)
 
     ab_joined : Joined a b
     ab_joined = side_joined (next m (rev e)) a b (λ r. six.ad (sym r)) (λ r. six.bd (sym r)) round.twin_next_there (end_of_twin m e s.sound can)
-        (reverse_of (next m (rev e)) (prev m (rev e)) six.d_in (T.triangle_at m (rev e) s.sound six.b_in can.twin_inner).next_next)
+        (ends_at_next m s.sound (next m (rev e)) (prev m (rev e)) six.d_in (T.triangle_at m (rev e) s.sound six.b_in can.twin_inner).next_next)
 
     bc_joined : Joined b c
-    bc_joined = side_joined (prev m (rev e)) b c (λ r. six.af (sym r)) (λ r. six.bf (sym r)) round.twin_prev_there refl (reverse_of (prev m (rev e)) (rev e) six.f_in (s.sound.edges (rev e) six.b_in).next_prev ∙ start_of_twin m e s.sound can)
+    bc_joined = side_joined (prev m (rev e)) b c (λ r. six.af (sym r)) (λ r. six.bf (sym r)) round.twin_prev_there refl (ends_at_next m s.sound (prev m (rev e)) (rev e) six.f_in (s.sound.edges (rev e) six.b_in).next_prev ∙ start_of_twin m e s.sound can)
 
     cd_joined : Joined c d
-    cd_joined = side_joined (next m e) c d (λ r. six.ac (sym r)) (λ r. six.bc (sym r)) round.next_there refl (reverse_of (next m e) (prev m e) six.c_in (T.triangle_at m e s.sound can.within can.inner).next_next)
+    cd_joined = side_joined (next m e) c d (λ r. six.ac (sym r)) (λ r. six.bc (sym r)) round.next_there refl (ends_at_next m s.sound (next m e) (prev m e) six.c_in (T.triangle_at m e s.sound can.within can.inner).next_next)
 
     da_joined : Joined d a
-    da_joined = side_joined (prev m e) d a (λ r. six.ae (sym r)) (λ r. six.be (sym r)) round.prev_there refl (reverse_of (prev m e) e six.e_in (s.sound.edges e can.within).next_prev)
+    da_joined = side_joined (prev m e) d a (λ r. six.ae (sym r)) (λ r. six.be (sym r)) round.prev_there refl (ends_at_next m s.sound (prev m e) e six.e_in (s.sound.edges e can.within).next_prev)
 
     db_joined : Joined d b
     db_joined = subst (λ (y : ℕ × ℕ). Joins (pairs_at after more) y.0 y.1) (λ o. (moves.edge.origin o, moves.twin.origin o)) (joins_directed after more e own)
@@ -133,6 +96,7 @@ module _ (m : Mesh) (s : IsValidMesh m) (e : ℕ) (can : IsFlippable m e) (after
           let way = kept h.0 (λ x. clear (subst (λ (y : ℕ × ℕ). Cross (place points i) (place points j) (place points y.0) (place points y.1)) (λ o. (h.1.start o, h.1.end o)) x)) in
           subst (λ (y : ℕ × ℕ). Joins (pairs_at after more) y.0 y.1) (λ o. ((way.0 ∙ h.1.start) o, (way.1 ∙ h.1.end) o)) (joins_directed after more h.0 (round.kept (h.0 / 2) h.1.listed))
 
+      -- after a flip that keeps what does not cross, all that may fail crosses or is in the list
       pub flip_leaves : AllPassBeyond points (faces_of after) constraints (pairs_at after more) i j
       flip_leaves u v k l f g clear free untested = go (face_from (faces_of m) (faces_of after) (corners a b c ∷ corners a c d ∷ []) made change u v k f) (face_from (faces_of m) (faces_of after) (corners a b c ∷ corners a c d ∷ []) made change v u l g)
         where
@@ -166,5 +130,6 @@ module _ (points : List Point) (m : Mesh) (s : IsValidMesh m) (shape : IsMesh po
       let h = edge_of_face m s.sound u v k f in
       subst (λ (y : ℕ × ℕ). IsEdge (drawn points m) y.0 y.1) (λ o. (h.1.first o, (sym (s.sound.edges h.0 h.1.inner.0).starts ∙ h.1.second) o)) (edge_joins m s.sound h.0 h.1.inner.0)
 
+  -- where the segment is an edge, none crosses it, and all that may fail is in the list
   pub passing_ends : (constraints left : List (ℕ × ℕ)) → IsEdge (drawn points m) i j → AllPassBeyond points (faces_of m) constraints left i j → AllPassBut points (faces_of m) constraints left
   passing_ends constraints left edge passing u v k l f g free untested = passing u v k l f g (none_crosses edge u v (side_is_edge u v k f)) free untested

@@ -48,6 +48,7 @@ module _ (points : List Point) (m : Mesh) where
         (less_of_abs (squared_way (point_of points v) (point_of points j)) (squared_way (point_of points w) (point_of points j)) (squared_way_nonneg (point_of points v) (point_of points j)) (squared_way_nonneg (point_of points w) (point_of points j))
         (path_shortens points w j v distinct hw hj on_way next)))
 
+    -- at i no edge is listed
     pub listing_begins : (listed : List ℕ) (room_was room : ℕ) → listed ≡ [] → room ≡ room_was → IsListing i j i listed room_was room
     listing_begins listed room_was room none stays = subst (λ (hs : List ℕ). IsListing i j i hs room_was room) (sym none) (record {
       within = hi;
@@ -65,9 +66,11 @@ module _ (points : List Point) (m : Mesh) where
         few_now : length listed + nearer_count (drawn points m) (place points j) w < length points
         few_now = elim p.few [ inl e ↦ absurd (on_way e) | inr f ↦ f ]
 
+        -- before j there is room for one more edge
         pub listing_has_room : (n : ℕ) → length points ≡ n → n ≤ room_was → length listed < room
         listing_has_room n count enough = let f = few_now in let s = p.room_stays in omega (arith, f, count, enough, s)
 
+        -- an edge from w to the next vertex brings the list to this vertex
         pub listing_goes_on : (h : ℕ) (more : List ℕ) (room_now : ℕ) → h < length m.half_edges → origin m h ≡ w → origin m (rev h) ≡ v → more ≡ listed ++ h ∷ [] → room_now ≡ room → IsListing i j v more room_was room_now
         listing_goes_on h more room_now within source target is stays = subst (λ (hs : List ℕ). IsListing i j v hs room_was room_now) (sym is) (record {
           within = next.second_index;
@@ -78,5 +81,6 @@ module _ (points : List Point) (m : Mesh) where
           room_stays = stays ∙ p.room_stays;
         })
 
+      -- at j the edges of the list lead along the path
       pub listing_ends : w ≡ j → LeadAlong points m i j listed
       listing_ends is = subst (LeadAlong points m i j) (append-nil listed) (p.so_far [] is)

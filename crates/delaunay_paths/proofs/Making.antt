@@ -21,6 +21,7 @@ use Rattle.mesh_embedding.specs.Drawn.{drawn, faces_of, outer_of}
 use Rattle.mesh_embedding.specs.Legal.{AreEdges, GainsRound, pairs_at}
 use Rattle.mesh_embedding.proofs.MeshEdits.{flipped_faces}
 use Rattle.delaunay_legalization.specs.Known.{point_at}
+use Rattle.delaunay_legalization.proofs.Questions.{both_ways}
 use Rattle.delaunay_paths.specs.Crossing.{CrossesFromRight, IsLastBelow}
 use Rattle.delaunay_paths.specs.Kept.{KeepsUncrossed}
 use Rattle.delaunay_paths.specs.Leaving.{AllPassBeyond, IsWorkList, MakesEdge, TurnsTowards}
@@ -29,11 +30,11 @@ use Rattle.delaunay_paths.proofs.Walking.{placed_apart}
 use Rattle.delaunay_paths.proofs.Towards as T
 
 -- whether vertices are between others does not depend on the edges
-pub free_on : (points : List Point) (m n : Mesh) (i j : ℕ) → IsFreeOfVertices (drawn points m) i j → IsFreeOfVertices (drawn points n) i j
+free_on : (points : List Point) (m n : Mesh) (i j : ℕ) → IsFreeOfVertices (drawn points m) i j → IsFreeOfVertices (drawn points n) i j
 free_on points m n i j free = record { apart = free.apart; first = free.first; second = free.second; none_between = free.none_between }
 
 -- what stays twice stays
-pub kept_on : (points : List Point) (old now new : Mesh) (i j : ℕ) → KeepsUncrossed points old now i j → KeepsUncrossed points now new i j → KeepsUncrossed points old new i j
+kept_on : (points : List Point) (old now new : Mesh) (i j : ℕ) → KeepsUncrossed points old now i j → KeepsUncrossed points now new i j → KeepsUncrossed points old new i j
 kept_on points old now new i j first second h clear =
     let a = first h clear in
     let b = second h (λ c. clear (subst (λ (x : ℕ × ℕ). Crossed x.0 x.1) (λ k. (a.0 k, a.1 k)) c)) in
@@ -48,19 +49,24 @@ module _ {V D U F : Type 0} (at : V → Point) (c : Contents V D U F) (mesh : Is
   abbrev points : List Point
   points = map at c.vertices
 
+  -- edge e is one of the mesh
   pub e_in : e < length c.mesh.half_edges
   e_in = subst (λ (n : ℕ). e < n) mesh.fits.directed_fit within
 
+  -- none of the directed edges of the mesh that cross comes after it
   pub last_of_all : IsLastBelow points c.mesh i j (length c.mesh.half_edges) e
   last_of_all = subst (λ (n : ℕ). IsLastBelow points c.mesh i j n e) mesh.fits.directed_fit last
 
+  -- the mesh is a local one
   pub local : LocalMesh points (faces_of c.mesh) (outer_of c.mesh)
   local = T.local_if_crossed points c.mesh mesh.valid i j shape (length-map c.vertices at ∙ mesh.fits.vertices_fit) free e e_in last.crosses
 
+  -- the undirected edge of e may be turned
   pub can_turn : (k : ℕ) → k ≡ e / 2 → T.CanTurn points c.mesh mesh.valid i j local free e e_in last_of_all (2 * k)
   can_turn k is = subst (λ (l : ℕ). T.CanTurn points c.mesh mesh.valid i j local free e e_in last_of_all (2 * l)) (sym is) (T.can_turn_last points c.mesh mesh.valid i j local free e e_in last_of_all)
 
   module _ (k : ℕ) (is : k ≡ e / 2) (new : Mesh) where
+    -- each edge that does not cross the segment joins what it joined
     pub turn_keeps : new ≡ flipped c.mesh (2 * k) → KeepsUncrossed points c.mesh new i j
     turn_keeps turned = T.turned_keeps points c.mesh mesh.valid i j local free e e_in last_of_all new (turned ∙ ap (λ (l : ℕ). flipped c.mesh (2 * l)) is)
 
@@ -68,9 +74,11 @@ module _ {V D U F : Type 0} (at : V → Point) (c : Contents V D U F) (mesh : Is
       turns : FlipsTriangles c.mesh new (2 * (e / 2))
       turns = subst (λ (l : ℕ). FlipsTriangles c.mesh new (2 * l)) is change
 
+      -- the sum over the edges that cross falls
       pub turn_lowers : crossing_sum points (faces_of new) i j < crossing_sum points (faces_of c.mesh) i j
       turn_lowers = T.turned_lower points c.mesh mesh.valid i j local free e e_in last_of_all new turns
 
+      -- where the outer edges stay, too, the mesh is still one of the points
       pub turn_has_shape : KeepsOuter c.mesh new → IsMesh points (faces_of new) (outer_of new)
       turn_has_shape outer = inl (T.turned_local points c.mesh mesh.valid i j local free e e_in last_of_all new turns outer)
 
@@ -79,6 +87,7 @@ module _ {V D U F : Type 0} (at : V → Point) (c : Contents V D U F) (mesh : Is
     moves : Flips c.mesh new.mesh (2 * k)
     moves = flips_is c.mesh new.mesh (2 * k) mesh.valid.sound (can_turn k is).0 turned
 
+    -- with the edges round it and itself in the list, this is a flip towards the segment
     pub turns_towards : TurnsTowards points c new i j was left
     turns_towards = record {
       contents = contents;
@@ -95,12 +104,6 @@ pub edge_if_none_crosses : {V D U F : Type 0} (at : V → Point) (c : Contents V
     → ((h : ℕ) → h < length c.directed → ¬ CrossesFromRight (map at c.vertices) c.mesh i j h) → IsEdge (drawn (map at c.vertices) c.mesh) i j
 edge_if_none_crosses at c mesh i j free shape none = T.edge_if_none (map at c.vertices) c.mesh mesh.valid i j shape free (λ h h_in x. none h (subst (λ (n : ℕ). h < n) (sym mesh.fits.directed_fit) h_in) x)
 
-true_not_false : (b : Bool) → b ≡ false → b ≡ true → ⊥
-true_not_false b e f = cc
-
-false_not_true : (b : Bool) → b ≡ true → b ≡ false → ⊥
-false_not_true b e f = cc
-
 -- ---- the loop
 -- after some turns
 pub record IsMaking {V D U F : Type 0} (at : V → Point) (old now : Contents V D U F) (i j : ℕ) (was left : List ℕ) (room_was room : ℕ) : Type 0 where
@@ -111,6 +114,7 @@ pub record IsMaking {V D U F : Type 0} (at : V → Point) (old now : Contents V 
   pub leaves : (constraints : List (ℕ × ℕ)) → AllPassBut (map at old.vertices) (faces_of old.mesh) constraints (pairs_at old.mesh was) → AllPassBeyond (map at old.vertices) (faces_of now.mesh) constraints (pairs_at now.mesh left) i j
   pub same_room : room ≡ room_was
 
+-- before the first flip the mesh and the work list are as they were
 pub making_begins : {V D U F : Type 0} (at : V → Point) (old : Contents V D U F) (i j : ℕ) (was : List ℕ) (room : ℕ) → IsMesh (map at old.vertices) (faces_of old.mesh) (outer_of old.mesh) → IsWorkList old was room → IsMaking at old old i j was was room room
 making_begins at old i j was room shape work = record {
   contents = refl;
@@ -125,9 +129,11 @@ module _ {V D U F : Type 0} (at : V → Point) (old now : Contents V D U F) (i j
   same : now.vertices ≡ old.vertices
   same = ap (λ (c : Contents V D U F). c.vertices) making.contents
 
+  -- the mesh is one of all vertices
   pub making_shape : IsMesh (map at now.vertices) (faces_of now.mesh) (outer_of now.mesh)
   making_shape = subst (λ (vs : List V). IsMesh (map at vs) (faces_of now.mesh) (outer_of now.mesh)) (sym same) making.shape
 
+  -- the edges left are a work list if those before were
   pub making_work : IsWorkList old was room_was → IsWorkList now left room
   making_work work = record {
     edges = making.edges;
@@ -135,6 +141,7 @@ module _ {V D U F : Type 0} (at : V → Point) (old now : Contents V D U F) (i j
   }
 
   module _ (free : IsFreeOfVertices (drawn (map at old.vertices) old.mesh) i j) where
+    -- no vertex is strictly between i and j now, either
     pub making_free : IsFreeOfVertices (drawn (map at now.vertices) now.mesh) i j
     making_free = subst (λ (vs : List V). IsFreeOfVertices (drawn (map at vs) now.mesh) i j) (sym same) (free_on (map at old.vertices) old.mesh now.mesh i j free)
 
@@ -156,10 +163,12 @@ module _ {V D U F : Type 0} (at : V → Point) (old now : Contents V D U F) (i j
         leaves = λ constraints passing. passing_ends (map at old.vertices) now.mesh mesh.valid making.shape i j apart constraints (pairs_at now.mesh left) edge_is (making.leaves constraints passing);
       }
 
+      -- where the segment is an edge, it is made one
       pub making_ends : IsMeshWithData after → MakesEdge (map at old.vertices) old after i j was after_left
       making_ends mesh = subst (λ (x : Contents V D U F × List ℕ). MakesEdge (map at old.vertices) old x.0 i j was x.1) (λ o. (sym ended.0 o, sym ended.1 o)) (made_here (subst (λ (c : Contents V D U F). IsMeshWithData c) ended.0 mesh))
 
   module _ (new : Contents V D U F) (more : List ℕ) (turns : TurnsTowards (map at now.vertices) now new i j left more) where
+    -- a flip towards the segment is one more turn
     pub making_goes_on : (room_after : ℕ) → room_after ≡ room → IsMaking at old new i j was more room_was room_after
     making_goes_on room_after room_same = record {
       contents = turns.contents ∙ ap (λ (c : Contents V D U F). record c { mesh = new.mesh }) making.contents;
@@ -176,10 +185,12 @@ module _ {V D U F : Type 0} (at : V → Point) (old now : Contents V D U F) (i j
     making_falls = subst (λ (vs : List V). crossing_sum (map at vs) (faces_of new.mesh) i j < crossing_sum (map at now.vertices) (faces_of now.mesh) i j) (sym (ap (λ (c : Contents V D U F). c.vertices) turns.contents)) turns.lower
 
 -- ---- whether an edge was turned
+-- what holds if an edge was flipped holds where the answer has one
 pub was_turned : (T : Type 0) (r : Option ℕ) (b : Bool) → b ≡ is_some r → b ≡ true → IfSome r (λ _. T) → T
-was_turned T None b is true_now x = absurd (true_not_false b is true_now)
+was_turned T None b is true_now x = absurd (both_ways b true_now is)
 was_turned T (Some k) b is true_now x = x
 
+-- what holds if no edge was flipped holds where the answer has none
 pub none_turned : (T : Type 0) (r : Option ℕ) (b : Bool) → b ≡ is_some r → b ≡ false → IfNone r T → T
 none_turned T None b is false_now x = x
-none_turned T (Some k) b is false_now x = absurd (false_not_true b is false_now)
+none_turned T (Some k) b is false_now x = absurd (both_ways b is false_now)

@@ -2,6 +2,7 @@
 use Rattle.std.proofs.Common.{◌≡◌, ◌⊎◌, ℕ, zero, suc, Bool, true, false, List, [], ◌∷◌, set, refl, sym, ap, ◌∙◌, subst, inl, inr}
 use Rattle.std.specs.Prelude.{Some, slice_get}
 use Rattle.std.proofs.lemmas.Bool.{cases_eq}
+use Rattle.mesh_embedding.proofs.Entries.{one_value}
 use Rattle.mesh_embedding.proofs.MeshStays.{slice_get-set_other}
 use Rattle.delaunay_legalization.specs.Constraints.{not_both}
 use Rattle.half_edge_mesh.specs.Contents.{Contents}
@@ -9,10 +10,8 @@ use Rattle.delaunay_legalization.specs.Marking.{HasEdgeData}
 use Rattle.delaunay_paths.specs.Adding.{MarksEdge, MarksSome}
 use Rattle.delaunay_legalization.proofs.MarkedPairs.{set_entry}
 
-one_value : {X : Type 0} (x y : X) → Some x ≡ Some y → x ≡ y
-one_value x y e = cc
-
-pub set_same : {X : Type 0} (xs : List X) (k : ℕ) (d : X) → slice_get xs k ≡ Some d → set xs k d ≡ xs
+-- a list stays where an entry is written over by itself
+set_same : {X : Type 0} (xs : List X) (k : ℕ) (d : X) → slice_get xs k ≡ Some d → set xs k d ≡ xs
 set_same [] k d e = refl
 set_same (x ∷ xs) zero d e = ap (λ y. y ∷ xs) (sym (one_value x d e))
 set_same (x ∷ xs) (suc k) d e = ap (λ ys. x ∷ ys) (set_same xs k d e)
@@ -41,9 +40,11 @@ module _ {V D U F : Type 0} (marks : U → Bool) (marked : U → U) (old new : C
   }
 
 module _ {U : Type 0} (marks : U → Bool) (marked : U → U) where
+  -- data that stay the same
   pub marks_none : (ds : List U) → MarksSome marks marked ds ds
   marks_none ds k d e = inl e
 
+  -- one entry that stays, or gets the mark that it did not have
   pub marks_one : (ds : List U) (k : ℕ) (value after : U) → slice_get ds k ≡ Some value → (after ≡ value) ⊎ ((marks value ≡ false) × (after ≡ marked value)) → MarksSome marks marked ds (set ds k after)
   marks_one ds k value after was same l d e = elim (cases_eq l k) [
     | inr n ↦ inl (slice_get-set_other ds k l after n ∙ e)
@@ -56,6 +57,7 @@ module _ {U : Type 0} (marks : U → Bool) (marked : U → U) where
         ])
   ]
 
+  -- one such change after another
   pub marks_more : ((x : U) → marks (marked x) ≡ true) → (old now new : List U) → MarksSome marks marked old now → MarksSome marks marked now new → MarksSome marks marked old new
   marks_more has old now new a b k d e = elim (a k d e) [
     | inl x ↦ b k d x

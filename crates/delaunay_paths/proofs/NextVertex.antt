@@ -26,6 +26,7 @@ use Rattle.delaunay_lines.specs.Items.{item_in}
 use Rattle.delaunay_lines.specs.Walk.{GivesNext, IsReady, WalksLine}
 use Rattle.delaunay_paths.specs.Items.{IsOtherVertex}
 use Rattle.delaunay_paths.proofs.Passing.{HasPassed, all_passed, later_ones, list_with, none_passed, one_more_passed}
+use Rattle.delaunay_paths.proofs.Places.{no_same_place}
 use Rattle.delaunay_paths.proofs.Walking.{in_map, nested, not_start, not_end, of_map, placed_apart}
 
 -- strictly within a segment is nearer than its end
@@ -41,10 +42,12 @@ vertex_of (along a b) = a
 abbrev pub HasNoOther : List Item → ℕ → Type 0
 HasNoOther items i = (v : ℕ) → Contains items (at_vertex v) → v ≡ i
 
-pub no_other_yet : (i : ℕ) → HasNoOther [] i
+-- the empty list of items has no other vertex
+no_other_yet : (i : ℕ) → HasNoOther [] i
 no_other_yet i v c = absurd (Contains-none (at_vertex v) c)
 
-pub still_no_other : (passed : List Item) (k : Item) (i : ℕ) → HasNoOther passed i → ((v : ℕ) → k ≡ at_vertex v → v ≡ i) → HasNoOther (passed ++ k ∷ []) i
+-- items without another vertex than i get none with an item that is none
+still_no_other : (passed : List Item) (k : Item) (i : ℕ) → HasNoOther passed i → ((v : ℕ) → k ≡ at_vertex v → v ≡ i) → HasNoOther (passed ++ k ∷ []) i
 still_no_other passed k i none this v c = elim (Contains-push_cases passed k (at_vertex v) c) [
   | inl x ↦ none v x
   | inr e ↦ this v e
@@ -54,16 +57,15 @@ module _ (points : List Point) (m : Mesh) (distinct : ArePlacedApart points) (i 
   abbrev t : Triangulation
   t = drawn points m
 
-  one_place : (a b : ℕ) → a < length points → b < length points → a ≢ b → ¬ IsSame (place points a) (place points b)
-  one_place a b ha hb n s = distinct a b ha hb n (ap whole (one_point (point_at points a) (point_at points b) s))
-
   different : (a b : ℕ) → a < length points → b < length points → a ≢ b → ¬ (point_at points a ≡ point_at points b)
   different a b ha hb n e = distinct a b ha hb n (ap whole e)
 
+  -- the ends of the segment are at two places
   pub two : ¬ IsSame (place points i) (place points j)
-  two = one_place i j hi hj i_not_j
+  two = no_same_place points distinct i j hi hj i_not_j
 
   -- ---- no other vertex was passed, and none is left
+  -- the line list of the segment has another vertex than i
   pub none_is_left : (items : List Item) → IsLineList t (place points i) (place points j) items → HasNoOther items i → ⊥
   none_is_left items list none = i_not_j (sym (none j (list.complete two (at_vertex j) (hj, end_on_segment (place points i) (place points j)))))
 
@@ -78,7 +80,7 @@ module _ (points : List Point) (m : Mesh) (distinct : ArePlacedApart points) (i 
     on_whole k w = go (on_parts (place points i) (place points j) (place points v) met.1)
       where
         go : IsSame (place points v) (place points i) ⊎ (IsSame (place points v) (place points j) ⊎ WithinSegment (place points i) (place points j) (place points v)) → OnSegment (place points i) (place points j) (place points k)
-        go (inl e) = absurd (one_place v i met.0 hi other e)
+        go (inl e) = absurd (no_same_place points distinct v i met.0 hi other e)
         go (inr (inl e)) = on_of_within (place points i) (place points j) (place points k)
             (subst (λ (x : Point). WithinSegment (place points i) (whole x) (place points k)) (one_point (point_at points v) (point_at points j) e) w)
         go (inr (inr h)) = on_of_within (place points i) (place points j) (place points k)
@@ -89,7 +91,7 @@ module _ (points : List Point) (m : Mesh) (distinct : ArePlacedApart points) (i 
     not_after k hk w o = go o.order
       where
         go : IsNearer (place points i) o.first o.second ⊎ (IsSame o.first o.second × IsVertexThenOverlap (at_vertex v) (at_vertex k)) → ⊥
-        go (inl n) = not_both_nearer (place points i) (place points j) two (place points k) (place points v) (within_is_nearer (place points i) (place points v) (place points k) (one_place i v hi met.0 away) w)
+        go (inl n) = not_both_nearer (place points i) (place points j) two (place points k) (place points v) (within_is_nearer (place points i) (place points v) (place points k) (no_same_place points distinct i v hi met.0 away) w)
             (nearer-same_first (place points i) (place points j) two o.first (place points v) (place points k) o.first_begins.shared met.1 (on_whole k w) o.first_begins.of_item
             (nearer-same_second (place points i) (place points j) two o.first o.second (place points k) o.first_begins.shared o.second_begins.shared (on_whole k w) o.second_begins.of_item n))
         go (inr x) = x.1
@@ -105,6 +107,7 @@ module _ (points : List Point) (m : Mesh) (distinct : ArePlacedApart points) (i 
         go (inl c) = before (Contains-push_cases passed (at_vertex v) (at_vertex k) c)
         go (inr c) = not_after k hk w (later_ones (IsBefore t (place points i) (place points j)) passed (at_vertex v) others (list.ordered two) (at_vertex k) c)
 
+    -- the first other vertex on the line list is next to i on the segment
     pub comes_next : AreNextOn points i j i v
     comes_next = record {
       apart = away;
@@ -127,10 +130,12 @@ module _ {V D U F P S : Type 0} (at : V → Point) (number : S → ℤ) (IsSite 
     pub ready : IsReady at number IsSite IsCovered now
     pub none : HasNoOther passed i
 
+  -- at the beginning nothing was passed
   pub seeking_begins : (it : LineIntersectionIterator V D U F P S) → IsReady at number IsSite IsCovered it → WalksLine at number (state_of c) (point_at points i) (point_at points j) it → SeeksNext it
   seeking_begins it ready walks = record { passed = []; so_far = none_passed at number IsSite IsCovered (state_of c) (point_at points i) (point_at points j) it ready walks; ready = ready; none = no_other_yet i }
 
   module _ (now : LineIntersectionIterator V D U F P S) (seeks : SeeksNext now) (after : LineIntersectionIterator V D U F P S) where
+    -- an item that is no other vertex is passed
     pub seeking_goes_on : (x : Intersection V D U F) → GivesNext at number now (Some x) after → IsReady at number IsSite IsCovered after → IsOtherVertex (item_in x) i None → SeeksNext after
     seeking_goes_on x gives ready none = record {
       passed = seeks.passed ++ item_in x ∷ [];
@@ -140,6 +145,7 @@ module _ {V D U F P S : Type 0} (at : V → Point) (number : S → ℤ) (IsSite 
     }
 
     module _ (shape : IsMesh points (faces_of c.mesh) (outer_of c.mesh)) (hi : i < length c.vertices) (hj : j < length c.vertices) (i_not_j : i ≢ j) where
+      -- the other vertex that a call gives is next to i on the segment
       pub seeking_finds : (x : Intersection V D U F) → GivesNext at number now (Some x) after → (v : ℕ) → IsOtherVertex (item_in x) i (Some v) → AreNextOn points i j i v
       seeking_finds x gives v other =
           let l = list_with at number IsSite IsCovered (state_of c) (point_at points i) (point_at points j) seeks.passed now after seeks.so_far x gives in
@@ -148,9 +154,11 @@ module _ {V D U F P S : Type 0} (at : V → Point) (number : S → ℤ) (IsSite 
           (list.met (two points c.mesh (placed_apart points (faces_of c.mesh) (outer_of c.mesh) shape) i j (in_map at c.vertices i hi) (in_map at c.vertices j hj) i_not_j) (at_vertex v)
           (Contains-append_left (seeks.passed ++ at_vertex v ∷ []) l.0 (at_vertex v) (Contains-append_right seeks.passed (at_vertex v ∷ []) (at_vertex v) (Contains-head (at_vertex v) []))))
 
+      -- and it is one of the vertices
       pub seeking_finds_index : (x : Intersection V D U F) → GivesNext at number now (Some x) after → (v : ℕ) → IsOtherVertex (item_in x) i (Some v) → v < length c.vertices
       seeking_finds_index x gives v other = of_map at c.vertices v (seeking_finds x gives v other).second_index
 
+      -- the items do not end before another vertex
       pub seeking_never_ends : GivesNext at number now None after → ⊥
       seeking_never_ends gives =
           none_is_left points c.mesh (placed_apart points (faces_of c.mesh) (outer_of c.mesh) shape) i j (in_map at c.vertices i hi) (in_map at c.vertices j hj) i_not_j seeks.passed

@@ -25,15 +25,18 @@ module _ {V D U F P S : Type 0} (at : V → Point) (number : S → ℤ) (IsSite 
     pub line_list : IsLineList (triangulation_of at s) (whole p) (whole q) (passed ++ others)
     pub are_left : AreLeft at number now others
 
+  -- at the beginning no item has been passed
   pub none_passed : (it : LineIntersectionIterator V D U F P S) → IsReady at number IsSite IsCovered it → WalksLine at number s p q it → HasPassed [] it
   none_passed it ready walks = record { ready = ready; state = walks.state; others = walks.items; line_list = walks.line_list; are_left = walks.are_left }
 
   module _ (passed : List Item) (now after : LineIntersectionIterator V D U F P S) (so_far : HasPassed passed now) where
     -- one more
     module _ (x : Intersection V D U F) (gives : GivesNext at number now (Some x) after) where
+      -- the item that a call gives is of the same triangulation
       pub item_state : state_of (mesh_of x).now ≡ s
       item_state = ap (λ (d : Bor (Contents V D U F)). state_of d.now) (gives.gives so_far.others so_far.are_left).0 ∙ so_far.state
 
+      -- after the call it has been passed, too
       pub one_more_passed : IsReady at number IsSite IsCovered after → HasPassed (passed ++ item_in x ∷ []) after
       one_more_passed ready =
           let n = gives.gives so_far.others so_far.are_left in record {
@@ -44,6 +47,7 @@ module _ {V D U F P S : Type 0} (at : V → Point) (number : S → ℤ) (IsSite 
             are_left = n.1.2;
           }
 
+      -- the line list is what was passed, this item and the others
       pub list_with : (others : List Item) × IsLineList (triangulation_of at s) (whole p) (whole q) ((passed ++ item_in x ∷ []) ++ others)
       list_with =
           let n = gives.gives so_far.others so_far.are_left in

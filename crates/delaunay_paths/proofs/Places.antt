@@ -1,10 +1,10 @@
 -- What answers to a few tests say of points.
-use Rattle.std.proofs.Common.{◌≡◌, ◌≢◌, ◌↔◌, ℕ, ◌<◌, List, [], ◌∷◌, length, sym, ap, ◌∙◌, subst, arith}
+use Rattle.std.proofs.Common.{◌≡◌, ◌≢◌, ◌↔◌, ℕ, ◌<◌, List, [], ◌∷◌, length, ap, ◌∙◌, subst, arith}
 use Rattle.std.specs.Prelude.{ℤ, pos, ◌+ℤ◌, ◌-ℤ◌, ◌*ℤ◌, ◌<ℤ◌}
 use Rattle.std.proofs.lemmas.Int.{ints}
 use Rattle.half_edge_mesh.specs.Mesh.{Mesh, IsValidMesh, origin, rev}
 use Rattle.half_edge_links.proofs.Lists.Rev.{rev_within}
-use Rattle.plane.specs.Fraction.{Point, whole}
+use Rattle.plane.specs.Fraction.{Point, whole, IsSame}
 use Rattle.plane.specs.Circle.{gap}
 use Rattle.plane.specs.Laws.{Parts, squared_way}
 use Rattle.plane.specs.Pairs.{place}
@@ -12,6 +12,7 @@ use Rattle.plane.proofs.Meetings.{crossing_is_sides}
 use Rattle.plane.proofs.Solver.{◌⊖◌, ◌⊗◌, ring_in}
 use Rattle.plane_segments.specs.Constraints.{ArePlacedApart}
 use Rattle.plane_segments.proofs.Crossing.EitherWay.{one_point}
+use Rattle.mesh_embedding.proofs.EdgePairs.{starts_within}
 use Rattle.delaunay_legalization.specs.Known.{point_at}
 use Rattle.delaunay_paths.specs.Crossing.{CrossesSegment}
 
@@ -29,22 +30,29 @@ gap_is_way_back p q = gap_is_way p q ∙ (λ i. turned_square p.x q.x i +ℤ tur
     turned_square : (a b : ℤ) → (b -ℤ a) *ℤ (b -ℤ a) ≡ (a -ℤ b) *ℤ (a -ℤ b)
     turned_square a b = ring_in (a ∷ b ∷ []) (λ a b. (b ⊖ a) ⊗ (b ⊖ a)) (λ a b. (a ⊖ b) ⊗ (a ⊖ b)) tt
 
+-- what tells that q is nearer to p than r is tells it by squared distances in either form
 pub nearer_by : (p q r : Point) (T : Type 0) → T ↔ (gap (whole p) (whole q) <ℤ gap (whole p) (whole r)) → T ↔ (squared_way p q <ℤ squared_way p r)
 nearer_by p q r T w = subst (λ (x : ℤ × ℤ). T ↔ (x.0 <ℤ x.1)) (λ i. (gap_is_way p q i, gap_is_way p r i)) w
+
+-- different vertices are at different places
+pub no_same_place : (points : List Point) → ArePlacedApart points → (a b : ℕ) → a < length points → b < length points → a ≢ b
+    → ¬ IsSame (place points a) (place points b)
+no_same_place points distinct a b ha hb n e =
+    distinct a b ha hb n (ap whole (one_point (point_at points a) (point_at points b) e))
 
 -- crossing by sides, of an edge and the segment of two vertices
 module _ (points : List Point) (distinct : ArePlacedApart points) (m : Mesh) (s : IsValidMesh m) (count : length points ≡ length m.out_edges) (i j : ℕ) (hi : i < length points) (hj : j < length points) (i_not_j : i ≢ j) (e : ℕ) (within : e < length m.half_edges) where
   abbrev AreParted : Type 0
   AreParted = Parts (place points i) (place points j) (place points (origin m e)) (place points (origin m (rev e))) × Parts (place points (origin m e)) (place points (origin m (rev e))) (place points i) (place points j)
 
-  in_points : (h : ℕ) → h < length m.half_edges → origin m h < length points
-  in_points h h_in = subst (λ (n : ℕ). origin m h < n) (sym count) (s.sound.edges h h_in).origin_in
-
+  -- the edge crosses the segment exactly if each of the two parts the ends of the other
   pub crossing_sides : CrossesSegment points m i j e ↔ AreParted
   crossing_sides = crossing_is_sides (place points i) (place points j) (place points (origin m e)) (place points (origin m (rev e)))
-      (λ o. distinct i j hi hj i_not_j (ap whole (one_point (point_at points i) (point_at points j) o)))
-      (λ o. distinct (origin m e) (origin m (rev e)) (in_points e within) (in_points (rev e) (rev_within e (length m.half_edges) s.sound.even within)) (s.apart e within) (ap whole (one_point (point_at points (origin m e)) (point_at points (origin m (rev e))) o)))
+      (no_same_place points distinct i j hi hj i_not_j)
+      (no_same_place points distinct (origin m e) (origin m (rev e)) (starts_within m s.sound (length points) count e within)
+      (starts_within m s.sound (length points) count (rev e) (rev_within e (length m.half_edges) s.sound.even within)) (s.apart e within))
 
+  -- the same by points that are equal to their ends
   pub crossing_by : (p q u v : Point) (T : Type 0) → p ≡ point_at points i → q ≡ point_at points j → u ≡ point_at points (origin m e) → v ≡ point_at points (origin m (rev e))
       → T ↔ (Parts (whole p) (whole q) (whole u) (whole v) × Parts (whole u) (whole v) (whole p) (whole q)) → T ↔ CrossesSegment points m i j e
   crossing_by p q u v T a b c d w =

@@ -1,5 +1,5 @@
 -- A constraint that is released, and what is left to test then.
-use Rattle.std.proofs.Common.{◌≡◌, ◌≢◌, ◌⊎◌, ◌↔◌, ℕ, ◌+◌, ◌*◌, ◌<◌, ◌≤◌, List, [], ◌∷◌, length, map, set, sym, ap, ◌∙◌, subst, inl, inr, arith}
+use Rattle.std.proofs.Common.{◌≡◌, ◌≢◌, ◌⊎◌, ◌↔◌, ℕ, ◌*◌, ◌<◌, ◌≤◌, List, [], ◌∷◌, length, map, set, sym, ap, ◌∙◌, subst, inl, inr, arith}
 use Rattle.std.specs.Prelude.{Bool, false, All, Contains}
 use Rattle.std.proofs.lemmas.Bool.{cases_eq}
 use Rattle.std.proofs.lemmas.List.{length-set}
@@ -14,8 +14,8 @@ use Rattle.plane_edits.proofs.LocalMesh.Changes.{once_none}
 use Rattle.plane_tiling.proofs.Totals.{Contains-head, Contains-none, Contains-cases}
 use Rattle.mesh_embedding.specs.Drawn.{faces_of}
 use Rattle.mesh_embedding.specs.Legal.{AreEdges, pairs_at}
-use Rattle.mesh_embedding.specs.Stays.{GoSameWay, KeepsIndexes}
-use Rattle.mesh_embedding.proofs.MeshLegal.{joins_edge, own_indexes}
+use Rattle.mesh_embedding.specs.Stays.{KeepsIndexes}
+use Rattle.mesh_embedding.proofs.MeshLegal.{joins_edge, own_indexes, same_joined}
 use Rattle.mesh_embedding.proofs.WorkLists.{once_after}
 use Rattle.delaunay_legalization.specs.Constraints.{marked_edges, constraint_pairs, constraints_by, points_and_constraints_by}
 use Rattle.delaunay_legalization.specs.Flips.{CountsFlips, FlipsFit}
@@ -29,7 +29,8 @@ use Rattle.delaunay_paths.specs.Adding.{AddsPath, MarksSome}
 use Rattle.delaunay_paths.specs.Releasing.{AddsConstraints, ReleasesEdge}
 use Rattle.mesh_embedding.proofs.EdgePairs.{rev_of_even}
 
-same_pair_or_not : (a b u v : ℕ) → IsSamePair a b u v ⊎ (¬ IsSamePair a b u v)
+-- two pairs have the same ends, or not
+pub same_pair_or_not : (a b u v : ℕ) → IsSamePair a b u v ⊎ (¬ IsSamePair a b u v)
 same_pair_or_not a b u v = go (cases_eq a u) (cases_eq b v) (cases_eq a v) (cases_eq b u)
   where
     second : (a ≡ v) ⊎ (a ≢ v) → (b ≡ u) ⊎ (b ≢ u) → ¬ ((a ≡ u) × (b ≡ v)) → IsSamePair a b u v ⊎ (¬ IsSamePair a b u v)
@@ -44,20 +45,23 @@ same_pair_or_not a b u v = go (cases_eq a u) (cases_eq b v) (cases_eq a v) (case
 
 -- an edge has the ends of no other
 module _ {V D U F : Type 0} (at : V → Point) (c : Contents V D U F) (kept : IsTriangulated at (state_of c)) where
-  indexes : (g h : ℕ) → g < length c.mesh.half_edges → h < length c.mesh.half_edges → GoSameWay c.mesh g c.mesh h → h ≡ g
-  indexes = (own_indexes (map at c.vertices) c.mesh kept.valid kept.shape).edges
+  indexes : KeepsIndexes c.mesh c.mesh
+  indexes = own_indexes (map at c.vertices) c.mesh kept.valid kept.shape
 
-  double : (j : ℕ) → j < length c.undirected → 2 * j < length c.mesh.half_edges
+  -- the first directed edge of an undirected one is in the mesh
+  pub double : (j : ℕ) → j < length c.undirected → 2 * j < length c.mesh.half_edges
   double j h = let f = kept.fits.undirected_fit in omega (arith, f, h)
 
+  -- two undirected edges with the same ends are one
   pub one_edge : (k l : ℕ) → k < length c.undirected → l < length c.undirected → IsSamePair (origin c.mesh (2 * l)) (origin c.mesh (rev (2 * l))) (origin c.mesh (2 * k)) (origin c.mesh (rev (2 * k))) → l ≡ k
-  one_edge k l v w (inl e) = let r = indexes (2 * k) (2 * l) (double k v) (double l w) (e.0, e.1) in omega (arith, r)
+  one_edge k l v w (inl e) = let r = indexes.edges (2 * k) (2 * l) (double k v) (double l w) (e.0, e.1) in omega (arith, r)
   one_edge k l v w (inr e) =
-      let r = indexes (2 * k) (rev (2 * l)) (double k v) (rev_within (2 * l) (length c.mesh.half_edges) kept.valid.sound.even (double l w)) (e.1, ap (origin c.mesh) (rev-rev (2 * l)) ∙ e.0) in
+      let r = indexes.edges (2 * k) (rev (2 * l)) (double k v) (rev_within (2 * l) (length c.mesh.half_edges) kept.valid.sound.even (double l w)) (e.1, ap (origin c.mesh) (rev-rev (2 * l)) ∙ e.0) in
       let f = rev_of_even l in
       omega (arith, r, f)
 
 module _ {V D U F : Type 0} (at : V → Point) (marks : U → Bool) (constraints : List U → List ℕ) (marked : (ds : List U) → constraints ds ≡ marked_edges marks ds) (old : Contents V D U F) (k : ℕ) (there : Contains (constraints old.undirected) k) where
+  -- the constraint is one of the undirected edges
   pub edge_there : k < length old.undirected
   edge_there = fixed_within marks constraints marked old.undirected k there
 
@@ -65,9 +69,11 @@ module _ {V D U F : Type 0} (at : V → Point) (marks : U → Bool) (constraints
     same : mid.mesh ≡ old.mesh
     same = ap (λ (c : Contents V D U F). c.mesh) written.whole
 
+    -- the vertices stay
     pub same_vertices : mid.vertices ≡ old.vertices
     same_vertices = ap (λ (c : Contents V D U F). c.vertices) written.whole
 
+    -- a triangulation stays one
     pub released_kept : IsTriangulated at (state_of mid)
     released_kept = subst (λ (c : Contents V D U F). IsTriangulated at (state_of c)) (sym written.whole) (record {
       in_range = legal.kept.in_range;
@@ -94,14 +100,9 @@ module _ {V D U F : Type 0} (at : V → Point) (marks : U → Bool) (constraints
     here : Joins (pairs_at old.mesh (k ∷ [])) u v
     here = joins_edge old.mesh (k ∷ []) k (Contains-head k [])
 
-    at_pair : (a b : ℕ) → IsSamePair a b u v → Joins (pairs_at old.mesh (k ∷ [])) u v → Joins (pairs_at old.mesh (k ∷ [])) a b
-    at_pair a b (inl s) h = subst (λ (x : ℕ × ℕ). Joins (pairs_at old.mesh (k ∷ [])) x.0 x.1) (λ o. (sym s.0 o, sym s.1 o)) h
-    at_pair a b (inr s) (inl h) = subst (λ (x : ℕ × ℕ). Joins (pairs_at old.mesh (k ∷ [])) x.0 x.1) (λ o. (sym s.0 o, sym s.1 o)) (inr h)
-    at_pair a b (inr s) (inr h) = subst (λ (x : ℕ × ℕ). Joins (pairs_at old.mesh (k ∷ [])) x.0 x.1) (λ o. (sym s.0 o, sym s.1 o)) (inl h)
-
     was_passing : AllPassBut (map at old.vertices) (faces_of old.mesh) (constraint_pairs constraints mid.mesh mid.undirected) (pairs_at old.mesh (k ∷ []))
     was_passing i j x l f g unmarked untested = legal.passing i j x l f g (λ h. elim (same_pair_or_not i j u v) as (λ _. ⊥) [
-      | inl s ↦ untested (at_pair i j s here)
+      | inl s ↦ untested (same_joined (pairs_at old.mesh (k ∷ [])) i j u v s here)
       | inr n ↦ unmarked ((leaves i j).1 (h, n))
     ])
 
@@ -109,6 +110,7 @@ module _ {V D U F : Type 0} (at : V → Point) (marks : U → Bool) (constraints
     pub released_passing : AllPassBut (map at mid.vertices) (faces_of mid.mesh) (constraint_pairs constraints mid.mesh mid.undirected) (pairs_at mid.mesh (k ∷ []))
     released_passing = subst (λ (x : List V × Mesh). AllPassBut (map at x.0) (faces_of x.1) (constraint_pairs constraints mid.mesh mid.undirected) (pairs_at x.1 (k ∷ []))) (λ o. (sym same_vertices o, sym same o)) was_passing
 
+    -- and it is an edge of the mesh
     pub left_to_test : AreEdges mid.mesh (k ∷ [])
     left_to_test = subst (λ (m : Mesh). AreEdges m (k ∷ [])) (sym same) (record {
       within = λ l c. elim (Contains-cases k [] l c) [
@@ -118,6 +120,7 @@ module _ {V D U F : Type 0} (at : V → Point) (marks : U → Bool) (constraints
       once = once_after [] k once_none (λ c. Contains-none k c);
     })
 
+    -- after flips that make it Delaunay again, the constraint is released
     pub released : (new : Contents V D U F) → new ≡ record mid { mesh = new.mesh } → KeepsIndexes mid.mesh new.mesh → constraint_pairs constraints new.mesh new.undirected ≡ constraint_pairs constraints mid.mesh mid.undirected → IsDelaunayTriangulation at constraints (state_of new) → ReleasesEdge at change constraints old new k
     released new contents indexes constraints_stay now_legal = record {
       value = written.value;
@@ -137,16 +140,20 @@ module _ {V D U F : Type 0} (old mid : Contents V D U F) (stays : mid ≡ record
   stay : mid.vertices ≡ old.vertices
   stay = ap (λ (c : Contents V D U F). c.vertices) stays
 
+  -- what has room for three edges for each vertex has it afterwards
   pub room_on : (room : ℕ) → 3 * length old.vertices ≤ room → 3 * length mid.vertices ≤ room
   room_on room h = subst (λ (vs : List V). 3 * length vs ≤ room) (sym stay) h
 
+  -- flips that fit in the count fit in it afterwards
   pub fits_on : (flips : ℕ) → FlipsFit (length old.vertices) flips → FlipsFit (length mid.vertices) flips
   fits_on flips h = subst (λ (vs : List V). FlipsFit (length vs) flips) (sym stay) h
 
+  -- a count of the flips afterwards is one of before
   pub counts_on : (before after : ℕ) → CountsFlips (length mid.vertices) before after → CountsFlips (length old.vertices) before after
   counts_on before after h = subst (λ (vs : List V). CountsFlips (length vs) before after) stay h
 
 module _ {V D U F : Type 0} (at : V → Point) (old mid : Contents V D U F) (stays : mid ≡ record old { mesh = mid.mesh; undirected = mid.undirected }) where
+  -- vertices that are sites are sites afterwards
   pub sites_on : (IsSite : Point → Type 0) → All IsSite (map at old.vertices) → All IsSite (map at mid.vertices)
   sites_on IsSite sites = subst (λ (vs : List V). All IsSite (map at vs)) (sym (ap (λ (c : Contents V D U F). c.vertices) stays)) sites
 
@@ -172,5 +179,6 @@ module _ {V D U F : Type 0} (at : V → Point) (marks : U → Bool) (marked : U 
   added_passing legal = subst (λ (vs : List V). AllPassBut (map at vs) (faces_of mid.mesh) (constraint_pairs constraints mid.mesh mid.undirected) (pairs_at mid.mesh left)) (sym adds.plain.vertices)
       (λ a b k l f g free untested. leaves.leaves (constraint_pairs constraints old.mesh old.undirected) (λ a b k l f g unmarked _. legal.passing a b k l f g unmarked) a b k l f g (λ x. free ((adds.plain.constraints a b).1 (inl x))) untested)
 
+  -- what has room for three edges for each vertex has room for the edges afterwards
   pub added_room : (room : ℕ) → 3 * length old.vertices ≤ room → length mid.undirected ≤ room
   added_room room fits = let few = adds.kept.few_edges in let same = ap length adds.plain.vertices in omega (arith, few, same, fits)

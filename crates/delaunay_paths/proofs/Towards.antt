@@ -47,7 +47,8 @@ use Rattle.delaunay_paths.specs.Kept.{KeepsUncrossed}
 use Rattle.mesh_embedding.proofs.EdgePairs.{edge_joins, joins_edge}
 
 -- ---- the ends of edges that are not turned
-pub others_stay : (m new : Mesh) (e : ℕ) → AreSoundLinks m → IsFlippable m e → Flips m new e → (h : ℕ) → h ≢ e → h ≢ rev e → GoSameWay m h new h
+-- a directed edge keeps its ends where another one, not its reverse, is flipped
+others_stay : (m new : Mesh) (e : ℕ) → AreSoundLinks m → IsFlippable m e → Flips m new e → (h : ℕ) → h ≢ e → h ≢ rev e → GoSameWay m h new h
 others_stay m new e s can f h n t = (origin_kept m new e s can f h n t, origin_kept m new e s can f (rev h) (λ r. t (sym (rev-rev h) ∙ ap rev r)) (λ r. n (sym (rev-rev h) ∙ ap rev r ∙ rev-rev e)))
 
 -- ---- crossing edges, as the laws of the plane have them
@@ -55,9 +56,11 @@ module _ (points : List Point) (m : Mesh) (s : IsValidMesh m) (i j : ℕ) where
   abbrev t : Triangulation
   t = drawn points m
 
+  -- an edge of the mesh that crosses from the right is an edge that crosses
   pub crossing : (h : ℕ) → h < length m.half_edges → CrossesFromRight points m i j h → IsCrossing t i j (origin m h) (origin m (rev h))
   crossing h within c = record { edge = edge_joins m s.sound h within; from_right = c.from_right; to_left = c.to_left; start = c.start; end = c.end }
 
+  -- and each edge that crosses is one of the mesh that crosses from the right
   pub crossing_at : (v y : ℕ) → IsCrossing t i j v y → (h : ℕ) × (h < length m.half_edges) × (origin m h ≡ v) × (origin m (rev h) ≡ y) × CrossesFromRight points m i j h
   crossing_at v y c =
       let h = joins_edge m s.sound v y c.edge in
@@ -76,6 +79,7 @@ module _ (points : List Point) (m : Mesh) (s : IsValidMesh m) (i j : ℕ) where
       level e = cc
 
   -- ---- none crosses
+  -- where none crosses from the right, and no vertex is between, the segment is an edge
   pub edge_if_none : IsMesh points (faces_of m) (outer_of m) → IsFreeOfVertices t i j → ((h : ℕ) → h < length m.half_edges → ¬ CrossesFromRight points m i j h) → IsEdge t i j
   edge_if_none shape free none = elim (meshes_tile points (faces_of m) (outer_of m) (edges_of m) shape (own_edges m s)) [
     | inl hull ↦ uncrossed_is_edge t i j hull free (λ v y c. let h = crossing_at v y c in none h.0 h.1 h.4)
@@ -144,6 +148,7 @@ module _ (points : List Point) (m : Mesh) (s : IsValidMesh m) (i j : ℕ) where
     corners_apart : x ≢ z
     corners_apart same = left_not_zero (left_turn (point_of points v) (point_of points x) (point_of points z) convex.0) (ap (λ (k : ℕ). turn_at (point_of points v) (point_of points x) (point_of points k)) (sym same) ∙ turn-same (point_of points v) (point_of points x))
 
+    -- edge h may be turned, and the corners opposite it differ
     abbrev pub CanTurn : ℕ → Type 0
     CanTurn h = IsFlippable m h × (origin m (prev m h) ≢ origin m (prev m (rev h)))
 
@@ -190,6 +195,7 @@ module _ (points : List Point) (m : Mesh) (s : IsValidMesh m) (i j : ℕ) where
       | inr q ↦ elim o [ inl r ↦ inr (r ∙ q) | inr r ↦ inl (r ∙ ap rev q ∙ rev-rev e) ]
     ]
 
+    -- the turn of edge e keeps each edge that does not cross the segment
     pub turned_keeps : (new : Mesh) → new ≡ flipped m (2 * (e / 2)) → KeepsUncrossed points m new i j
     turned_keeps new is h clear =
         others_stay m new (2 * (e / 2)) s.sound can_turn_last.0 (flips_is m new (2 * (e / 2)) s.sound can_turn_last.0 is) h

@@ -44,6 +44,7 @@ module _ (a b : Point) (apart : ¬ (a ≡ b)) where
   pub not_start : ¬ WithinSegment (whole a) (whole b) (whole a)
   not_start w = itself (F a) (ordered a w).0
 
+  -- the end of a segment is not strictly within it
   pub not_end : ¬ WithinSegment (whole a) (whole b) (whole b)
   not_end w = itself (F b) (ordered b w).1
 
@@ -64,15 +65,19 @@ module _ (a b : Point) (apart : ¬ (a ≡ b)) where
 
 -- ---- vertices and their points
 module _ {V : Type 0} (at : V → Point) (vs : List V) where
+  -- an index of a vertex is one of its point
   pub in_map : (k : ℕ) → k < length vs → k < length (map at vs)
   in_map k h = subst (λ (n : ℕ). k < n) (sym (length-map vs at)) h
 
+  -- and an index of a point is one of its vertex
   pub of_map : (k : ℕ) → k < length (map at vs) → k < length vs
   of_map k h = subst (λ (n : ℕ). k < n) (length-map vs at) h
 
+  -- the point of a vertex that is read by its index is among the points
   pub listed_data : (k : ℕ) (v : V) (q : Point) → slice_get vs k ≡ Some v → q ≡ at v → Contains (map at vs) q
   listed_data k v q e is = Contains-map at vs k v q (slice_get_within vs k v e) (ap at (get_or_from_slice_get vs k v v e) ∙ sym is)
 
+-- no two points of a mesh are the same
 pub placed_apart : (points : List Point) (faces : List Face) (outer : List (ℕ × ℕ)) → IsMesh points faces outer → ArePlacedApart points
 placed_apart points faces outer (inl m) = m.distinct
 placed_apart points faces outer (inr m) = m.1.distinct

@@ -35,15 +35,19 @@ module _ (points : List Point) (m : Mesh) (valid : IsValidMesh m) (count : lengt
   far_in : rev (spoke m h 2) < length m.half_edges
   far_in = rev_within (spoke m h 2) (length m.half_edges) valid.sound.even (star.round.within 2)
 
+  -- the ends of the two edges that face one another are different points
   pub ends_apart : a ≢ b
   ends_apart = starts_apart points m valid.sound count star.shape (rev h) (rev (spoke m h 2)) back_in far_in (ends_differ points m valid v h 4 star (omega arith)) a b at_a at_end
 
+  -- the vertex is not where the one is
   pub not_from : p ≢ a
   not_from = starts_apart points m valid.sound count star.shape h (rev h) h_in back_in (valid.apart h h_in) p a at_p at_a
 
+  -- and not where the other is
   pub not_to : p ≢ b
   not_to = starts_apart points m valid.sound count star.shape h (rev (spoke m h 2)) h_in far_in (λ e. valid.apart (spoke m h 2) (star.round.within 2) (star.round.starts 2 ∙ sym (star.round.starts 0) ∙ e)) p b at_p at_end
 
+  -- the point of the vertex is strictly between them exactly if the vertex is so at edge h
   pub between_read : WithinSegment (whole a) (whole b) (whole p) ↔ IsBetweenAt points m h
   between_read = (
     (λ w. subst (λ (x : Point × Point × Point). WithinSegment (whole x.0) (whole x.1) (whole x.2)) (λ i. (at_a i, at_end i, at_p i)) w),

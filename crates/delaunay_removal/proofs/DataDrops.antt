@@ -1,5 +1,5 @@
 -- The data of what stands beside a vertex that goes.
-use Rattle.std.proofs.Common.{◌≡◌, ◌≢◌, ◌⊎◌, ℕ, ◌-◌, ◌<◌, List, length, map, Some, sym, ap, ◌∙◌, subst, inl, inr, arith}
+use Rattle.std.proofs.Common.{◌≡◌, ◌≢◌, ◌⊎◌, ℕ, ◌-◌, ◌<◌, List, [], length, map, Some, sym, ap, ◌∙◌, subst, inl, inr, arith}
 use Rattle.std.specs.Prelude.{slice_get, Contains}
 use Rattle.half_edge_mesh.specs.Mesh.{origin, rev}
 use Rattle.half_edge_mesh.specs.Triangles.{Triangle, triangles}
@@ -16,11 +16,11 @@ use Rattle.delaunay_removal.specs.Star.{IsolatesVertex}
 use Rattle.delaunay_removal.specs.Data.{HasValueAt, StandsBeside, RenumbersEdges, KeepsDataBeside, HasDataOfEdge, HasDataOfFace}
 use Rattle.delaunay_removal.proofs.Drops.{same_vertices, same_outer}
 use Rattle.delaunay_removal.proofs.DataReads.{edge_of, edge_read, face_of, face_read, ends_off, same_edge_data, same_face_data}
-use Rattle.delaunay_removal.proofs.MadeNear.{made_on_line}
+use Rattle.delaunay_removal.proofs.MadeFaces.{made_on_line}
 use Rattle.delaunay_removal.proofs.DataStays.{edges_come, edges_stand, joined_comes, joined_stand}
 
 -- ---- what stood while the vertex lost its edges has its data when the vertex has gone
-module _ {V D U F : Type 0} (old mid new : Contents V D U F) (before : IsMeshWithData old) (after : IsMeshWithData new) (v : ℕ) (value : V) (stands : StandsBeside old mid v) (same : mid.vertices ≡ old.vertices) (drops : DropsVertex mid new v value) where
+module _ {V D U F : Type 0} {pairs : List (ℕ × ℕ)} (old mid new : Contents V D U F) (before : IsMeshWithData old) (after : IsMeshWithData new) (v : ℕ) (value : V) (stands : StandsBeside old mid v pairs) (same : mid.vertices ≡ old.vertices) (drops : DropsVertex mid new v value) where
   last_is : length mid.vertices - 1 ≡ length old.vertices - 1
   last_is = ap (λ (vs : List V). length vs - 1) same
 
@@ -48,6 +48,7 @@ module _ {V D U F : Type 0} (old mid new : Contents V D U F) (before : IsMeshWit
       some_same : (p q : Triangle) → Some p ≡ Some q → p ≡ q
       some_same p q e = cc
 
+  -- each edge beside the vertex is there, and no other, by the indexes afterwards
   pub renumbers : RenumbersEdges old new v
   renumbers = record {
     goes = λ e h a b. subst (λ (last : ℕ). Contains (full_edges new) (renumbered_edge last v e)) last_is
@@ -62,6 +63,7 @@ module _ {V D U F : Type 0} (old mid new : Contents V D U F) (before : IsMeshWit
         | inr y ↦ inr (record { edge = y.edge; there = y.there; ends = y.ends; same = y.same ∙ ap (λ (z : FullEdge D U). z.value) is })
       ]
 
+  -- where the outer face has its data, all that is not at the vertex has them
   pub data_kept : mid.outer ≡ old.outer → KeepsDataBeside (state_of old) (state_of new) v
   data_kept outer = record {
     edges = edges_keep;
@@ -92,25 +94,29 @@ module _ {V D U F : Type 0} (old new : Contents V D U F) (before : IsMeshWithDat
     ]
   ]
 
-  line_stands : StandsBeside old mid v
+  line_stands : StandsBeside old mid v []
   line_stands = record {
     edges = line_edges;
     faces = λ f h a b c. absurd (let l = h.1 in let n = count_faces old.mesh old.faces before.fits.faces_fit in let fit = before.fits.faces_fit in omega (arith, l, n, fit, none));
     comes = line_comes;
-    made = made_on_line mid v (faces_of old.mesh) leaves.whole (ap (λ (c : Contents V D U F). length c.faces) leaves.leaves.contents ∙ none);
+    made = made_on_line mid v [] (faces_of old.mesh) leaves.whole (ap (λ (c : Contents V D U F). length c.faces) leaves.leaves.contents ∙ none);
   }
 
+  -- what is not at a vertex that goes from a line has its data
   pub line_data_kept : KeepsDataBeside (state_of old) (state_of new) v
   line_data_kept = data_kept old mid new before after v value line_stands (ap (λ (c : Contents V D U F). c.vertices) leaves.leaves.contents) leaves.drops (ap (λ (c : Contents V D U F). c.outer) leaves.leaves.contents)
 
+  -- and its edges are there, and no others, by the indexes afterwards
   pub line_renumbers : RenumbersEdges old new v
   line_renumbers = renumbers old mid new before after v value line_stands (ap (λ (c : Contents V D U F). c.vertices) leaves.leaves.contents) leaves.drops
 
 -- ---- a vertex in the plane
-pub plane_renumbers : {V D U F : Type 0} (place : V → Point) (old mid new : Contents V D U F) (v : ℕ) (value : V) → IsTriangulated place (state_of old) → IsTriangulated place (state_of new) → IsolatesVertex (map place old.vertices) old mid v → DropsVertex mid new v value → RenumbersEdges old new v
+-- a vertex loses its edges and goes: those beside it are there by the indexes afterwards
+pub plane_renumbers : {V D U F : Type 0} {pairs : List (ℕ × ℕ)} (place : V → Point) (old mid new : Contents V D U F) (v : ℕ) (value : V) → IsTriangulated place (state_of old) → IsTriangulated place (state_of new) → IsolatesVertex (map place old.vertices) old mid v pairs → DropsVertex mid new v value → RenumbersEdges old new v
 plane_renumbers place old mid new v value before after isolates drops =
     renumbers old mid new (record { valid = before.valid; fits = before.fits }) (record { valid = after.valid; fits = after.fits }) v value isolates.beside (same_vertices place old mid v isolates) drops
 
-pub plane_data_kept : {V D U F : Type 0} (place : V → Point) (old mid new : Contents V D U F) (v : ℕ) (value : V) → IsTriangulated place (state_of old) → IsTriangulated place (state_of new) → IsolatesVertex (map place old.vertices) old mid v → DropsVertex mid new v value → KeepsDataBeside (state_of old) (state_of new) v
+-- the removal of a vertex of the plane keeps the data of edges and faces that are not at it
+pub plane_data_kept : {V D U F : Type 0} {pairs : List (ℕ × ℕ)} (place : V → Point) (old mid new : Contents V D U F) (v : ℕ) (value : V) → IsTriangulated place (state_of old) → IsTriangulated place (state_of new) → IsolatesVertex (map place old.vertices) old mid v pairs → DropsVertex mid new v value → KeepsDataBeside (state_of old) (state_of new) v
 plane_data_kept place old mid new v value before after isolates drops =
     data_kept old mid new (record { valid = before.valid; fits = before.fits }) (record { valid = after.valid; fits = after.fits }) v value isolates.beside (same_vertices place old mid v isolates) drops (same_outer place old mid v isolates)

@@ -26,6 +26,7 @@ module _ {V D U F : Type 0} (old mid new : State V D U F) (v : ℕ) (beside : Ke
   face_data f g t u q corners found =
       ap (λ s. slice_get s.faces g) same ∙ ap (slice_get mid.faces) (indexes.faces found.0 g (renumbered_corners last v t) u found.1.corners q corners) ∙ found.1.value
 
+  -- what was not at the vertex, and stands after the turns, has the data that it had
   pub others_keep_data : KeepsDataOfOthers old new v
   others_keep_data = record {
     directed = λ g h w x starts ends way. let d = edge_data g h w x starts ends way in ap (λ s. slice_get s.directed h) same ∙ ap (slice_get mid.directed) d.2 ∙ d.1.directed;

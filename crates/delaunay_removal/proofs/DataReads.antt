@@ -47,6 +47,7 @@ module _ {V D U F : Type 0} (c : Contents V D U F) (whole : IsMeshWithData c) wh
   pub edges_long : 2 * length (full_edges c) ≡ length c.directed
   edges_long = let long = length-full_edges (ends c.mesh) c.undirected c.directed us ds in omega (arith, long, ds)
 
+  -- the item at place k of the list of edges is undirected edge k
   pub edge_read : (k : ℕ) (e : FullEdge D U) → k < length (full_edges c) → get_or (full_edges c) k e ≡ e → IsEdgeAt c k e
   edge_read k e within is = record {
     within = inside;
@@ -83,6 +84,7 @@ module _ {V D U F : Type 0} (c : Contents V D U F) (whole : IsMeshWithData c) wh
   face_count : length (full_faces c) ≡ length c.mesh.face_edges
   face_count = count_faces c.mesh c.faces whole.fits.faces_fit
 
+  -- the item at place k of the list of faces is the inner face at index k
   pub face_read : (k : ℕ) (f : FullFace F) → k < length (full_faces c) → get_or (full_faces c) k f ≡ f → IsFaceAt c k f
   face_read k f within is = record {
     corners = slice_get-get_or (triangles c.mesh) k f.corners inside ∙ ap Some (sym (ap (λ (x : FullFace F). x.corners) read));
@@ -110,17 +112,21 @@ even_or_odd g = elim (cases_eq (g % 2) 0) [
   | inr q ↦ inr (omega (arith, q), grind (arith, common_steps))
 ]
 
+-- the other direction of an edge's first direction is its second
 pub rev_of_even : (j : ℕ) → rev (2 * j) ≡ 2 * j + 1
 rev_of_even j = grind (arith, common_steps)
 
+-- the edge of a second direction
 pub half_of_odd : (j : ℕ) → (2 * j + 1) / 2 ≡ j
 half_of_odd j = omega arith
 
+-- the edge of a first direction
 pub half_of_even : (j : ℕ) → (2 * j) / 2 ≡ j
 half_of_even j = omega arith
 
 -- ---- an item of one list with an item of the other
 module _ {V D U F : Type 0} (old new : Contents V D U F) (last v : ℕ) where
+  -- where undirected edge g / 2 stands renumbered, so does directed edge g, with its data
   pub same_edge_data : (g j : ℕ) (e : FullEdge D U) → IsEdgeAt old (g / 2) e → IsEdgeAt new j (renumbered_edge last v e) → (h : ℕ) × HasDataOfEdge (state_of old) (state_of new) last v g h
   same_edge_data g j e was is = elim (even_or_odd g) [
     | inl q ↦ (
@@ -145,6 +151,7 @@ module _ {V D U F : Type 0} (old new : Contents V D U F) (last v : ℕ) where
     )
   ]
 
+  -- where a face stands renumbered, it has the corners and the data of the former one
   pub same_face_data : (f g : ℕ) (t : Triangle) (x : FullFace F) → x.corners ≡ t → IsFaceAt old f x → IsFaceAt new g (renumbered_face last v x) → HasDataOfFace (state_of old) (state_of new) last v f t g
   same_face_data f g t x same was is = record {
     corners = is.corners ∙ ap (λ (y : Triangle). Some (record { first = moved last v y.first; second = moved last v y.second; third = moved last v y.third })) same;

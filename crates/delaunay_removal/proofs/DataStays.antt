@@ -3,7 +3,7 @@ use Rattle.std.proofs.Common.{◌≡◌, ◌≢◌, ◌⊎◌, ℕ, zero, suc, L
 use Rattle.std.specs.Prelude.{Contains}
 use Rattle.std.specs.List.{AllZip}
 use Rattle.std.specs.List.Sorted.{IsPermutation}
-use Rattle.std.proofs.lemmas.List.Elements.{Contains-append_cases}
+use Rattle.std.proofs.lemmas.List.Elements.{Contains-append_left, Contains-append_right, Contains-append_cases}
 use Rattle.std.proofs.lemmas.List.Sorted.{Contains-permutation, IsPermutation-sym}
 use Rattle.half_edge_mesh.specs.Outline.{Ends}
 use Rattle.half_edge_mesh.specs.Triangles.{Triangle}
@@ -13,33 +13,59 @@ use Rattle.half_edge_mesh.specs.Removal.{FullEdge, FullFace, IsBetween, HasCorne
 use Rattle.plane_tiling.proofs.Totals.{Contains-none, Contains-head, Contains-later, Contains-cases}
 use Rattle.mesh_embedding.specs.Drawn.{faces_of}
 use Rattle.delaunay_removal.specs.Data.{HasValueAt, StandsBeside}
-use Rattle.delaunay_removal.proofs.MadeNear.{made_none, made_on, made_strip, made_hole}
+use Rattle.delaunay_removal.specs.Pairs.{KeepsPairs}
+use Rattle.delaunay_removal.proofs.MadeFaces.{made_none, made_on, made_strip, made_hole}
 
 -- nothing changes
-pub all_stands : {V D U F : Type 0} (c : Contents V D U F) (v : ℕ) → StandsBeside c c v
-all_stands c v = record { edges = λ e h a b. h; faces = λ f h p q r. h; comes = λ e h. inl h; made = made_none v (faces_of c.mesh) }
+pub all_stands : {V D U F : Type 0} (c : Contents V D U F) (v : ℕ) (pairs : List (ℕ × ℕ)) → StandsBeside c c v pairs
+all_stands c v pairs = record { edges = λ e h a b. h; faces = λ f h p q r. h; comes = λ e h. inl h; made = made_none v pairs (faces_of c.mesh) }
 
 -- data that an edge at the vertex has after a change are those of one before
-value_before : {V D U F : Type 0} (old mid : Contents V D U F) (v : ℕ) (u : U) → StandsBeside old mid v → HasValueAt mid v u → HasValueAt old v u
-value_before old mid v u one w = elim (one.comes w.edge w.there) [
+value_before : {V D U F : Type 0} (old mid : Contents V D U F) (v : ℕ) (pairs : List (ℕ × ℕ)) (u : U) → StandsBeside old mid v pairs → HasValueAt mid v u → HasValueAt old v u
+value_before old mid v pairs u one w = elim (one.comes w.edge w.there) [
   | inl there ↦ record { edge = w.edge; there = there; ends = w.ends; same = w.same }
   | inr y ↦ record { edge = y.edge; there = y.there; ends = y.ends; same = y.same ∙ w.same }
 ]
 
 -- one change after another
-pub stands_on : {V D U F : Type 0} (old mid new : Contents V D U F) (v : ℕ) → StandsBeside old mid v → StandsBeside mid new v → StandsBeside old new v
-stands_on old mid new v one two = record {
+pub stands_on : {V D U F : Type 0} (old mid new : Contents V D U F) (v : ℕ) (first second pairs : List (ℕ × ℕ)) → KeepsPairs first pairs → KeepsPairs second pairs → StandsBeside old mid v first → StandsBeside mid new v second → StandsBeside old new v pairs
+stands_on old mid new v first second pairs has_first has_second one two = record {
   edges = λ e h a b. two.edges e (one.edges e h a b) a b;
   faces = λ f h p q r. two.faces f (one.faces f h p q r) p q r;
-  comes = λ e h. elim (two.comes e h) [ inl m ↦ one.comes e m | inr w ↦ inr (value_before old mid v e.value one w) ];
-  made = made_on v (faces_of old.mesh) (faces_of mid.mesh) one.made (faces_of new.mesh) two.made;
+  comes = λ e h. elim (two.comes e h) [ inl m ↦ one.comes e m | inr w ↦ inr (value_before old mid v first e.value one w) ];
+  made = made_on v first second pairs has_first has_second (faces_of old.mesh) (faces_of mid.mesh) one.made (faces_of new.mesh) two.made;
 }
 
+-- an empty list has none that could go
+pub none_to_keep : (pairs : List (ℕ × ℕ)) → KeepsPairs [] pairs
+none_to_keep pairs i j (inl h) = absurd (Contains-none (i, j) h)
+none_to_keep pairs i j (inr h) = absurd (Contains-none (j, i) h)
+
+-- a pair that is put to a list, after those that are in it
+pub pairs_kept : (pairs more : List (ℕ × ℕ)) (p : ℕ × ℕ) → more ≡ pairs ++ p ∷ [] → KeepsPairs pairs more
+pairs_kept pairs more p is i j (inl h) = inl (subst (λ (ps : List (ℕ × ℕ)). Contains ps (i, j)) (sym is) (Contains-append_left pairs (p ∷ []) (i, j) h))
+pairs_kept pairs more p is i j (inr h) = inr (subst (λ (ps : List (ℕ × ℕ)). Contains ps (j, i)) (sym is) (Contains-append_left pairs (p ∷ []) (j, i) h))
+
+-- a pair that is put to a list is in it
+pub pair_put : (pairs more : List (ℕ × ℕ)) (p : ℕ × ℕ) → more ≡ pairs ++ p ∷ [] → KeepsPairs (p ∷ []) more
+pair_put pairs more p is i j (inl h) = inl (subst (λ (ps : List (ℕ × ℕ)). Contains ps (i, j)) (sym is) (Contains-append_right pairs (p ∷ []) (i, j) h))
+pair_put pairs more p is i j (inr h) = inr (subst (λ (ps : List (ℕ × ℕ)). Contains ps (j, i)) (sym is) (Contains-append_right pairs (p ∷ []) (j, i) h))
+
+-- a turn after others
+pub stands_turned : {V D U F : Type 0} (old mid new : Contents V D U F) (v : ℕ) (pairs more : List (ℕ × ℕ)) (p : ℕ × ℕ) → more ≡ pairs ++ p ∷ [] → StandsBeside old mid v pairs → StandsBeside mid new v (p ∷ []) → StandsBeside old new v more
+stands_turned old mid new v pairs more p is one two = stands_on old mid new v pairs (p ∷ []) more (pairs_kept pairs more p is) (pair_put pairs more p is) one two
+
+-- a change that makes one pair's edge is one beside a list that the pair is put to
+pub stands_put : {V D U F : Type 0} (old new : Contents V D U F) (v : ℕ) (pairs more : List (ℕ × ℕ)) (p : ℕ × ℕ) → more ≡ pairs ++ p ∷ [] → StandsBeside old new v (p ∷ []) → StandsBeside old new v more
+stands_put old new v pairs more p is stands = stands_turned old old new v pairs more p is (all_stands old v pairs) stands
+
 -- ---- what is not at the vertex
+-- an edge neither of whose ends is the vertex has none that is, in either order of the ends
 pub no_end : {D U : Type 0} (v : ℕ) (e : FullEdge D U) (p : Ends) → IsBetween e p → e.source ≢ v → e.target ≢ v → (p.source ≢ v) × (p.target ≢ v)
 no_end v e p (inl q) a b = (λ r. a (q.0 ∙ r), λ r. b (q.1 ∙ r))
 no_end v e p (inr q) a b = (λ r. b (q.1 ∙ r), λ r. a (q.0 ∙ r))
 
+-- a face none of whose corners is the vertex has none that is, wherever its corners begin
 pub no_corner : {F : Type 0} (v : ℕ) (f : FullFace F) (t : Triangle) → HasCorners f t → f.corners.first ≢ v → f.corners.second ≢ v → f.corners.third ≢ v → (t.first ≢ v) × (t.second ≢ v) × (t.third ≢ v)
 no_corner v f t (inl e) a b c = (λ r. a (ap (λ (x : Triangle). x.first) e ∙ r), λ r. b (ap (λ (x : Triangle). x.second) e ∙ r), λ r. c (ap (λ (x : Triangle). x.third) e ∙ r))
 no_corner v f t (inr (inl e)) a b c = (λ r. c (ap (λ (x : Triangle). x.third) e ∙ r), λ r. a (ap (λ (x : Triangle). x.first) e ∙ r), λ r. b (ap (λ (x : Triangle). x.second) e ∙ r))
@@ -76,29 +102,31 @@ left_over old lost rest x same h none = elim (Contains-append_cases lost rest x 
 ]
 
 module _ {V D U F : Type 0} (old new : Contents V D U F) (v : ℕ) where
+  -- where the edges of a vertex go, each other edge is there afterwards
   pub edges_stand : (n : ℕ → ℕ) (k : ℕ) → LosesEdges old new (spokes_to v n k) → (e : FullEdge D U) → Contains (full_edges old) e → e.source ≢ v → e.target ≢ v → Contains (full_edges new) e
   edges_stand n k (lost, are, same) e h a b = left_over (full_edges old) lost (full_edges new) e same h (λ l. edge_stands v n lost k are e l a b)
 
+  -- and each edge afterwards was there, or has the data of one of the vertex
   pub edges_come : (n : ℕ → ℕ) (k : ℕ) → LosesEdges old new (spokes_to v n k) → (e : FullEdge D U) → Contains (full_edges new) e → Contains (full_edges old) e ⊎ HasValueAt old v e.value
   edges_come n k (lost, are, same) e h = inl (Contains-permutation (lost ++ full_edges new) (full_edges old) e (IsPermutation-sym (full_edges old) (lost ++ full_edges new) same) (contains_after lost (full_edges new) e h))
 
   -- the edges and the faces of a vertex on the hull go
-  pub strip_stands : (n : ℕ → ℕ) (k : ℕ) → IsMeshWithData old → IsMeshWithData new → LosesStrip old new v n k → StandsBeside old new v
-  strip_stands n k before after loses = record {
+  pub strip_stands : (pairs : List (ℕ × ℕ)) (n : ℕ → ℕ) (k : ℕ) → IsMeshWithData old → IsMeshWithData new → LosesStrip old new v n k → StandsBeside old new v pairs
+  strip_stands pairs n k before after loses = record {
     edges = edges_stand n (suc k) loses.edges;
     faces = λ f h a b c. left_over (full_faces old) loses.faces.0 (full_faces new) f loses.faces.2 h (λ l. face_stands v n loses.faces.0 k loses.faces.1 f l a b c);
     comes = edges_come n (suc k) loses.edges;
-    made = made_strip old new v n k before after loses;
+    made = made_strip old new v pairs n k before after loses;
   }
 
   -- three faces give way to one
-  pub hole_stands : (n : ℕ → ℕ) → IsMeshWithData old → IsMeshWithData new → FillsHole old new v n → StandsBeside old new v
-  hole_stands n before after hole = record {
+  pub hole_stands : (pairs : List (ℕ × ℕ)) (n : ℕ → ℕ) → IsMeshWithData old → IsMeshWithData new → FillsHole old new v n → n 3 ≡ n 0 → StandsBeside old new v pairs
+  hole_stands pairs n before after hole around = record {
     edges = edges_stand n 3 hole.edges;
     faces = λ f h a b c. Contains-permutation (hole.made ∷ hole.rest) (full_faces new) f (IsPermutation-sym (full_faces new) (hole.made ∷ hole.rest) hole.is)
         (Contains-later hole.made hole.rest f (left_over (full_faces old) hole.lost hole.rest f hole.was h (λ l. face_stands v n hole.lost 3 hole.lost_are f l a b c)));
     comes = edges_come n 3 hole.edges;
-    made = made_hole old new v n before after hole;
+    made = made_hole old new v n before after hole pairs around;
   }
 
   -- two edges of a line give way to one
@@ -114,6 +142,7 @@ module _ {V D U F : Type 0} (old new : Contents V D U F) (v : ℕ) where
         ]
       ])
 
+  -- so it is where the two neighbours of a vertex are joined in its place
   pub joined_comes : (u w : ℕ) → JoinsNeighbours old new v u w → (e : FullEdge D U) → Contains (full_edges new) e → Contains (full_edges old) e ⊎ HasValueAt old v e.value
   joined_comes u w j e h = elim (Contains-cases j.moved j.rest e (Contains-permutation (full_edges new) (j.moved ∷ j.rest) e j.is h)) as (λ _. Contains (full_edges old) e ⊎ HasValueAt old v e.value) [
     | inl q ↦ inr (record {

@@ -1,5 +1,5 @@
 -- An edge of a vertex is turned: what is not at the vertex stays.
-use Rattle.std.proofs.Common.{◌≡◌, ◌≢◌, ◌⊎◌, ℕ, ◌-◌, ◌*◌, ◌/◌, ◌<◌, List, length, get_or, set, refl, sym, ap, ◌∙◌, subst, inl, inr, arith}
+use Rattle.std.proofs.Common.{◌≡◌, ◌≢◌, ◌⊎◌, ℕ, ◌-◌, ◌*◌, ◌/◌, ◌<◌, List, [], ◌∷◌, length, get_or, set, refl, sym, ap, ◌∙◌, subst, inl, inr, arith}
 use Rattle.std.specs.Prelude.{Contains}
 use Rattle.std.proofs.lemmas.Bool.{cases_eq}
 use Rattle.std.proofs.lemmas.List.{length-map, length-set, get_or-set_same, get_or-set_other}
@@ -24,8 +24,9 @@ use Rattle.plane_tiling.specs.Local.{LocalMesh}
 use Rattle.mesh_embedding.specs.Drawn.{faces_of, outer_of}
 use Rattle.mesh_embedding.proofs.MeshStays.{halved}
 use Rattle.delaunay_removal.specs.Data.{HasValueAt, StandsBeside}
+use Rattle.delaunay_removal.specs.Pairs.{MakesFaces}
 use Rattle.delaunay_removal.proofs.DataStays.{no_end, no_corner}
-use Rattle.delaunay_removal.proofs.MadeNear.{made_turn}
+use Rattle.delaunay_removal.proofs.MadeFaces.{made_turn}
 use Rattle.delaunay_removal.proofs.Rounds.{round_at}
 use Rattle.delaunay_removal.proofs.Turns.{may_turn}
 
@@ -158,8 +159,9 @@ module _ {V D U F : Type 0} (c new : Contents V D U F) (whole : IsMeshWithData c
         let two = unwritten (one_turned x) b j (with_other_corners (get_or (one_turned x) b x) tb) x off_twin one.0 one.1 in
         subst (λ (xs : List (FullFace F)). Contains xs x) (sym (faces_are x)) (j, two.0, two.1)
 
-    pub turn_stands : StandsBeside c new v
-    turn_stands = record { edges = edges_beside; faces = faces_beside; comes = edges_come; made = made_turn m new.mesh e s flips triangles_are v at_v }
+    -- where edge e ends at v, what is beside v stands after its turn
+    pub turn_stands : (pairs : List (ℕ × ℕ)) → MakesFaces v pairs (faces_of m) (faces_of new.mesh) → StandsBeside c new v pairs
+    turn_stands pairs made = record { edges = edges_beside; faces = faces_beside; comes = edges_come; made = made }
 
 -- one of the two directions starts at the vertex
 pub starts_or_ends : (m : Mesh) (h v : ℕ) → origin m h ≡ v → (origin m (2 * (h / 2)) ≡ v) ⊎ (origin m (rev (2 * (h / 2))) ≡ v)
@@ -170,10 +172,12 @@ starts_or_ends m h v starts = elim (halved h) [
 
 -- the edge after h is turned, round the vertex where they start
 pub turned_stands : {V D U F : Type 0} (points : List Point) (c new : Contents V D U F) → IsMeshWithData c → LocalMesh points (faces_of c.mesh) (outer_of c.mesh) → (h : ℕ) → h < length c.directed → 0 < face c.mesh h → 0 < face c.mesh (turn c.mesh h) → neighbour c.mesh h 0 ≢ neighbour c.mesh h 2
-    → (k : ℕ) → k ≡ turn c.mesh h / 2 → new.mesh ≡ flipped c.mesh (2 * k) → new ≡ record c { mesh = new.mesh } → FlipsTriangles c.mesh new.mesh (2 * k) → StandsBeside c new (origin c.mesh h)
+    → (k : ℕ) → k ≡ turn c.mesh h / 2 → new.mesh ≡ flipped c.mesh (2 * k) → new ≡ record c { mesh = new.mesh } → FlipsTriangles c.mesh new.mesh (2 * k) → StandsBeside c new (origin c.mesh h) ((neighbour c.mesh h 0, neighbour c.mesh h 2) ∷ [])
 turned_stands points c new whole local h within left right apart k is turned same triangles_are =
     let h_in = subst (λ (n : ℕ). h < n) whole.fits.directed_fit within in
     let r = round_at c.mesh whole.valid (origin c.mesh h) h h_in refl in
     let flips = (may_turn points c.mesh whole.valid local h h_in left right apart).0 in
     turn_stands c new whole (2 * k) (origin c.mesh h) (subst (λ (j : ℕ). IsFlippable c.mesh (2 * j)) (sym is) flips) turned same
     (subst (λ (j : ℕ). (origin c.mesh (2 * j) ≡ origin c.mesh h) ⊎ (origin c.mesh (rev (2 * j)) ≡ origin c.mesh h)) (sym is) (starts_or_ends c.mesh (turn c.mesh h) (origin c.mesh h) (r.1.starts 1))) triangles_are
+    ((neighbour c.mesh h 0, neighbour c.mesh h 2) ∷ [])
+    (made_turn points c.mesh new.mesh whole.valid local (origin c.mesh h) h r.0 r.1 left right (subst (λ (j : ℕ). FlipsTriangles c.mesh new.mesh (2 * j)) is triangles_are))

@@ -25,12 +25,15 @@ module _ {V D U F : Type 0} (marks : U → Bool) (old : Contents V D U F) (first
     pub done : (j : ℕ) → j < i → IsUnmarked marks now (spoke old.mesh first j / 2)
     pub others : (k : ℕ) → ((j : ℕ) → spoke old.mesh first j / 2 ≢ k) → slice_get now.undirected k ≡ slice_get old.undirected k
 
+  -- at the first edge none has been freed yet
   pub freeing_begins : first < length old.directed → IsFreeing old 0 first
   freeing_begins within = record { contents = refl; count = refl; within = within; here = refl; done = λ j less. absurd (omega (arith, less)); others = λ k none. refl }
 
+  -- the data of the directed edges stay
   pub same_directed : (now : Contents V D U F) → now ≡ record old { undirected = now.undirected } → now.directed ≡ old.directed
   same_directed now contents = ap (λ (c : Contents V D U F). c.directed) contents
 
+  -- the mesh stays
   pub same_mesh : (now : Contents V D U F) → now ≡ record old { undirected = now.undirected } → now.mesh ≡ old.mesh
   same_mesh now contents = ap (λ (c : Contents V D U F). c.mesh) contents
 
@@ -56,6 +59,7 @@ module _ {V D U F : Type 0} (marks : U → Bool) (old : Contents V D U F) (first
     unmarked_still : (k : ℕ) → k ≢ edge / 2 → IsUnmarked marks now k → IsUnmarked marks new k
     unmarked_still k off was d is = was d (sym (slice_get-set_other now.undirected (edge / 2) k x off) ∙ subst (λ (us : List U). slice_get us k ≡ Some d) data_are is)
 
+    -- with the mark of the edge gone, the edge that it turns to is the next one
     pub freeing_goes_on : (after : ℕ) → after < length new.directed → after ≡ turn new.mesh edge → IsFreeing new (i + 1) after
     freeing_goes_on after within is = record {
       contents = contents_are;
@@ -91,6 +95,7 @@ module _ {V D U F : Type 0} (marks : U → Bool) (old : Contents V D U F) (first
       | inr q ↦ ends (ap (origin old.mesh) (rev_of_even k ∙ sym (q.0 ∙ ap (λ (n : ℕ). 2 * n + 1) half)) ∙ round.starts j)
     ]
 
+    -- when the count of the round is reached, no edge at v has the mark
     pub freeing_ends : FreesEdgesAt marks old now v
     freeing_ends = record {
       contents = freeing.contents;
@@ -109,6 +114,7 @@ module _ {V D U F : Type 0} (marks : U → Bool) (old : Contents V D U F) (v : �
       nothing None e had = absurd (cc)
       nothing (Some k) e had = absurd (cc)
 
+  -- no edge at the vertex has the mark
   pub none_to_free : FreesEdgesAt marks old old v
   none_to_free = record {
     contents = refl;

@@ -36,13 +36,15 @@ strip_read old new v first count sides s strip starts some are loses =
     at_first : first_spoke old.mesh sides ≡ first
     at_first = ap (prev old.mesh) (are.each 0 some) ∙ (s.edges first strip.within).prev_next
 
+-- the sides listed along a strip are the edges opposite its vertex
 pub sides_opposite : (m : Mesh) (first count : ℕ) (sides : List ℕ) → AreSoundLinks m → IsStrip m first count → 0 < count → AreSides m first count sides → AreOpposite m sides
 sides_opposite m first count sides s strip some are = opposite_of_strip m first count sides s strip some are.count_is are.each
 
 -- ---- at a corner
 module _ {V D U F : Type 0} (points : List Point) (old new : Contents V D U F) (before : IsMeshWithData old) (after : IsMeshWithData new) (v first count : ℕ) (star : IsHullStar points old.mesh v first count) (bent : HasNoFlippableEdge points old.mesh first count)
     (corner : TurnsLeft (place points v) (place points (neighbour old.mesh first 0)) (place points (neighbour old.mesh first (count - 1)))) where
-  pub corner_isolates : LosesStrip old new v (neighbour old.mesh first) (count - 1) → IsolatesVertex points old new v
+  -- at a corner where no edge can be turned, v has lost its edges when its faces go
+  pub corner_isolates : LosesStrip old new v (neighbour old.mesh first) (count - 1) → IsolatesVertex points old new v []
   corner_isolates loses = record {
     contents = loses.contents;
     alone = loses.alone;
@@ -50,7 +52,7 @@ module _ {V D U F : Type 0} (points : List Point) (old new : Contents V D U F) (
       | inl none ↦ inr (none, leaves_to_line points old before star.shape v first star.outer new after count star.round corner turns loses none)
       | inr some ↦ inl (leaves_corner points old before star.shape v first star.outer new after count star.round corner turns loses some)
     ];
-    beside = strip_stands old new v (neighbour old.mesh first) (count - 1) before after loses;
+    beside = strip_stands old new v [] (neighbour old.mesh first) (count - 1) before after loses;
   }
     where
       turns : NoneTurnsLeft points (count - 1) (neighbour old.mesh first)
@@ -67,14 +69,16 @@ module _ {V D U F : Type 0} (points : List Point) (old mid : Contents V D U F) (
     pub flat_strip : IsStrip mid.mesh first 1
     flat_strip = strip_left old.mesh mid.mesh before.valid v first star.round (strip_of points old.mesh before.valid v first 3 star) turns_first
 
+    -- edge first starts at v after the flip of the edge that it turns to
     pub flat_starts : origin mid.mesh first ≡ v
     flat_starts = same_start old.mesh mid.mesh before.valid v first 3 star.round (omega arith) (left_of points old.mesh before.valid v first 3 star 0 (omega arith)) (right_of points old.mesh before.valid v first 3 star 0 (omega arith)) turns_first
 
   module _ (new : Contents V D U F) (middle : IsMeshWithData mid) (after : IsMeshWithData new) where
-    pub flat_isolates : mid ≡ record old { mesh = mid.mesh } → StandsBeside old mid v → side (place points (neighbour old.mesh first 0)) (place points v) (place points (neighbour old.mesh first 2)) ≡ on → LosesStrip mid new v (neighbour mid.mesh first) 1 → IsolatesVertex points old new v
-    flat_isolates same stands flat loses = record {
+    -- on a flat side, v has lost its edges when the face that this flip left to it goes
+    pub flat_isolates : mid ≡ record old { mesh = mid.mesh } → (pairs : List (ℕ × ℕ)) → StandsBeside old mid v pairs → side (place points (neighbour old.mesh first 0)) (place points v) (place points (neighbour old.mesh first 2)) ≡ on → LosesStrip mid new v (neighbour mid.mesh first) 1 → IsolatesVertex points old new v pairs
+    flat_isolates same pairs stands flat loses = record {
       contents = loses.contents ∙ ap (λ (c : Contents V D U F). record c { mesh = new.mesh; directed = new.directed; undirected = new.undirected; faces = new.faces }) same;
       alone = loses.alone;
       shape = inl (leaves_flat points old before star.shape v first star.outer mid new middle after star.round turned triangles kept flat loses);
-      beside = stands_on old mid new v stands (strip_stands mid new v (neighbour mid.mesh first) 1 middle after loses);
+      beside = stands_on old mid new v pairs pairs pairs (λ i j p. p) (λ i j p. p) stands (strip_stands mid new v pairs (neighbour mid.mesh first) 1 middle after loses);
     }

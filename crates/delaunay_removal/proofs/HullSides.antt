@@ -21,6 +21,7 @@ pub record IsCollecting (m : Mesh) (bound room first count edge : ℕ) (sides : 
   pub listed_is : listed ≡ count
   pub capacity_is : capacity ≡ room
 
+-- at the first edge no side is listed yet
 pub collecting_begins : (m : Mesh) (bound room first : ℕ) (sides : List ℕ) (listed capacity : ℕ) → first < bound → sides ≡ [] → listed ≡ 0 → capacity ≡ room → IsCollecting m bound room first 0 first sides listed capacity
 collecting_begins m bound room first sides listed capacity within empty none same = record {
   within = within;
@@ -30,6 +31,7 @@ collecting_begins m bound room first sides listed capacity within empty none sam
   capacity_is = same;
 }
 
+-- a step lists the side opposite the vertex and turns to the next edge
 pub collecting_goes_on : (m : Mesh) (bound room first count edge : ℕ) (sides : List ℕ) (listed capacity : ℕ) → IsCollecting m bound room first count edge sides listed capacity
     → (side after : ℕ) (more : List ℕ) (listed_now capacity_now : ℕ) → side ≡ next m edge → after < bound → after ≡ turn m edge → more ≡ sides ++ side ∷ [] → listed_now ≡ listed + 1 → capacity_now ≡ capacity → IsCollecting m bound room first (count + 1) after more listed_now capacity_now
 collecting_goes_on m bound room first count edge sides listed capacity so_far side after more listed_now capacity_now is_side within is_after is_more one_more same = record {

@@ -26,9 +26,11 @@ use Rattle.delaunay_removal.proofs.Rounds.{round_at}
 
 -- ---- what the edges of a vertex on the hull know
 module _ (points : List Point) (m : Mesh) (valid : IsValidMesh m) (v first count : ℕ) (star : IsHullStar points m v first count) where
+  -- its star is one on the hull of the plane
   pub hull_in_plane : P.IsHullStar (faces_of m) (outer_of m) v (count - 1) (neighbour m first)
   hull_in_plane = hull_star points m valid star.shape v first count star.round star.outer
 
+  -- its faces are a strip, one fewer than its edges
   pub strip_of : IsStrip m first (count - 1)
   strip_of = hull_strip points m valid star.shape v first count star.round star.outer
 
@@ -51,6 +53,7 @@ module _ (points : List Point) (m : Mesh) (valid : IsValidMesh m) (v first count
 
   -- a corner of the hull where no edge can be turned
   module _ (bent : HasNoFlippableEdge points m first count) where
+    -- at a corner no three neighbours in a row turn left
     pub none_turns : TurnsLeft (place points v) (place points (neighbour m first 0)) (place points (neighbour m first (count - 1))) → P.NoneTurnsLeft points (count - 1) (neighbour m first)
     none_turns corner i less far = bent i (omega (arith, less)) (record {
       far = far;
@@ -74,9 +77,11 @@ module _ (points : List Point) (m : Mesh) (valid : IsValidMesh m) (v first count
 
   -- ---- a turn of edge i + 1
   module _ (i : ℕ) (less : suc (suc i) < count) where
+    -- edge i has an inner face on its left
     pub left_of : 0 < face m (spoke m first i)
     left_of = strip_of.inner i (omega (arith, less))
 
+    -- so has edge i + 1
     pub right_of : 0 < face m (spoke m first (suc i))
     right_of = strip_of.inner (suc i) (omega (arith, less))
 

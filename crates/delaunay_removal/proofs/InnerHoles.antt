@@ -17,6 +17,7 @@ use Rattle.mesh_embedding.proofs.Borders.{border_of_wheel}
 use Rattle.mesh_embedding.proofs.MeshVertexLeaves.{leaves_three, leaves_four}
 use Rattle.mesh_embedding.proofs.StarTurns.{wheel_of_three, wheel_left}
 use Rattle.delaunay_removal.specs.Data.{StandsBeside}
+use Rattle.delaunay_removal.specs.Pairs.{KeepsPairs}
 use Rattle.delaunay_removal.specs.Star.{IsBetweenAt, IsInnerStar, StandsBetween, IsolatesVertex}
 use Rattle.delaunay_removal.proofs.DataStays.{hole_stands, stands_on}
 use Rattle.delaunay_removal.proofs.InnerStars.{spokes_inner, turns}
@@ -39,16 +40,18 @@ pub hole_read : {V D U F : Type 0} (old new : Contents V D U F) (v first a b c :
 hole_read old new v first a b c s wheel is_a fills = fan_of_three old new v (neighbour old.mesh first) (subst (λ (h : ℕ). FillsWithFan old new v (neighbour old.mesh h) 3) (ap (prev old.mesh) is_a ∙ (s.edges first wheel.within).prev_next) fills)
 
 module _ {V D U F : Type 0} (points : List Point) (old : Contents V D U F) (before : IsMeshWithData old) (v first : ℕ) where
+  -- three inner faces go round an inner vertex with three edges
   pub wheel_at : IsInnerStar points old.mesh v first 3 → IsWheel old.mesh first
   wheel_at star = wheel_of_three old.mesh v first star.round (spokes_inner points old.mesh before.valid v first 3 star)
 
 module _ {V D U F : Type 0} (points : List Point) (old new : Contents V D U F) (before : IsMeshWithData old) (after : IsMeshWithData new) (v first : ℕ) where
-  pub three_isolate : IsInnerStar points old.mesh v first 3 → FillsHole old new v (neighbour old.mesh first) → IsolatesVertex points old new v
-  three_isolate star hole = record {
+  -- where one face fills their hole, the vertex has lost its edges
+  pub three_isolate : IsInnerStar points old.mesh v first 3 → FillsHole old new v (neighbour old.mesh first) → (pairs : List (ℕ × ℕ)) → IsolatesVertex points old new v pairs
+  three_isolate star hole pairs = record {
     contents = hole.contents;
     alone = hole.alone;
     shape = inl (leaves_three points old before star.shape v first (spokes_inner points old.mesh before.valid v first 3 star) new after star.round hole);
-    beside = hole_stands old new v (neighbour old.mesh first) before after hole;
+    beside = hole_stands old new v pairs (neighbour old.mesh first) before after hole (ap (λ h. origin old.mesh (rev h)) (star.round.back 0));
   }
 
 -- ---- four faces
@@ -76,20 +79,21 @@ module _ {V D U F : Type 0} (points : List Point) (old mid : Contents V D U F) (
 
   -- and then the hole is filled
   pub four_isolate : (new : Contents V D U F) → IsMeshWithData mid → IsMeshWithData new → mid ≡ record old { mesh = mid.mesh } → FlipsTriangles old.mesh mid.mesh (2 * (turn old.mesh first / 2)) → KeepsOuter old.mesh mid.mesh
-      → StandsBeside old mid v → IsBetweenAt points old.mesh first → FillsHole mid new v (neighbour mid.mesh first) → IsolatesVertex points old new v
-  four_isolate new middle after same triangles outer stands between hole = record {
+      → (pairs : List (ℕ × ℕ)) → StandsBeside old mid v pairs → IsBetweenAt points old.mesh first → FillsHole mid new v (neighbour mid.mesh first) → IsolatesVertex points old new v pairs
+  four_isolate new middle after same triangles outer pairs stands between hole = record {
     contents = hole.contents ∙ ap (λ (c : Contents V D U F). record c { mesh = new.mesh; directed = new.directed; undirected = new.undirected; faces = new.faces }) same;
     alone = hole.alone;
     shape = inl (leaves_four points old before star.shape v first (spokes_inner points old.mesh before.valid v first 4 star) mid new middle after star.round turned triangles outer
         (subst (λ (x : ℕ). WithinSegment (place points (neighbour old.mesh first 0)) (place points (neighbour old.mesh first 2)) (place points x)) (star.round.starts 0) between) hole);
-    beside = stands_on old mid new v stands (hole_stands mid new v (neighbour mid.mesh first) middle after hole);
+    beside = stands_on old mid new v pairs pairs pairs (λ i j p. p) (λ i j p. p) stands (hole_stands mid new v pairs (neighbour mid.mesh first) middle after hole (ap (λ h. origin mid.mesh (rev h)) wheel_after.round));
   }
 
 -- ---- after turns
-pub isolates_from : {V D U F : Type 0} (points : List Point) (old mid new : Contents V D U F) (v : ℕ) → mid ≡ record old { mesh = mid.mesh } → StandsBeside old mid v → IsolatesVertex points mid new v → IsolatesVertex points old new v
-isolates_from {V} {D} {U} {F} points old mid new v same stands isolates = record {
+-- a vertex that loses its edges after turns has lost those of before
+pub isolates_from : {V D U F : Type 0} (points : List Point) (old mid new : Contents V D U F) (v : ℕ) (first second pairs : List (ℕ × ℕ)) → KeepsPairs first pairs → KeepsPairs second pairs → mid ≡ record old { mesh = mid.mesh } → StandsBeside old mid v first → IsolatesVertex points mid new v second → IsolatesVertex points old new v pairs
+isolates_from {V} {D} {U} {F} points old mid new v first second pairs has_first has_second same stands isolates = record {
   contents = isolates.contents ∙ ap (λ (c : Contents V D U F). record c { mesh = new.mesh; directed = new.directed; undirected = new.undirected; faces = new.faces }) same;
   alone = isolates.alone;
   shape = isolates.shape;
-  beside = stands_on old mid new v stands isolates.beside;
+  beside = stands_on old mid new v first second pairs has_first has_second stands isolates.beside;
 }

@@ -24,7 +24,7 @@ use Rattle.delaunay_removal.specs.Star.{IsConvexAt, HasInnerFaces, IsInnerStar, 
 use Rattle.delaunay_removal.proofs.Rounds.{round_of, round_at}
 
 -- a turn to the left goes to the right on the way back
-no_way_back : (v a b : Fraction) → TurnsLeft v a b → TurnsLeft v b a → ⊥
+pub no_way_back : (v a b : Fraction) → TurnsLeft v a b → TurnsLeft v b a → ⊥
 no_way_back v a b there back = clash (sym back ∙ sym (side_turned v b a) ∙ side_swapped a b v ∙ ap opposite (side_turned v a b ∙ there))
   where
     clash : left ≡ right → ⊥
@@ -32,9 +32,11 @@ no_way_back v a b there back = clash (sym back ∙ sym (side_turned v b a) ∙ s
 
 -- ---- what the edges of an inner vertex know
 module _ (points : List Point) (m : Mesh) (valid : IsValidMesh m) (v first count : ℕ) (star : IsInnerStar points m v first count) where
+  -- each edge of the vertex has an inner face on its left
   pub spokes_inner : (i : ℕ) → 0 < face m (spoke m first i)
   spokes_inner i = star.inner (spoke m first i) (star.round.within i) (star.round.starts i)
 
+  -- its star is one in the plane
   pub plane_star : IsStar (faces_of m) v count (neighbour m first)
   plane_star = inner_star points m valid star.shape v first count star.round spokes_inner
 
@@ -66,6 +68,7 @@ module _ (points : List Point) (m new : Mesh) (valid : IsValidMesh m) (v h count
   spoke_in : (i : ℕ) → 0 < face m (spoke m h i)
   spoke_in = spokes_inner points m valid v h count star
 
+  -- the flip turns the edge after h away from the vertex
   pub turns : TurnsAway m new (turn m h)
   turns = turns_away m new (turn m h) valid.sound (spoke_flippable points m valid star.shape v h count star.round 0 (spoke_in 0) (spoke_in 1)) (twin_flippable points m valid star.shape v h count star.round 0 (spoke_in 0) (spoke_in 1)) turned
 
@@ -73,6 +76,7 @@ module _ (points : List Point) (m new : Mesh) (valid : IsValidMesh m) (v h count
   pub starts_after : origin new h ≡ v
   starts_after = same_start m new valid v h count star.round (omega (arith, many)) (spoke_in 0) (spoke_in 1) turns
 
+  -- h is one of the edges afterwards
   pub within_after : h < length new.half_edges
   within_after = subst (λ n. h < n) (sym turns.edge_count) (star.round.within 0)
 

@@ -20,9 +20,11 @@ use Rattle.delaunay_removal.proofs.DataReads.{IsEdgeAt, edge_of, edge_read, rev_
 abbrev old_index : ℕ → ℕ → ℕ → ℕ
 old_index v last k = if nat_eq k v then last else k
 
+-- the index that came free is that of the vertex that was last
 pub old_of_freed : (v last j : ℕ) → j ≡ v → old_index v last j ≡ last
 old_of_freed v last j e = grind (arith, nat_tests)
 
+-- each other index is the old one
 pub old_of_other : (v last j : ℕ) → j ≢ v → old_index v last j ≡ j
 old_of_other v last j n = grind (arith, nat_tests)
 
@@ -39,6 +41,7 @@ there_and_back v last s hv hs off = elim (cases_eq s last) [
   )
 ]
 
+-- the old index of a vertex that stays is not the removed one, and leads to its new index
 pub back_and_there : (v last a : ℕ) → a < last → (old_index v last a ≢ v) × (moved last v (old_index v last a) ≡ a)
 back_and_there v last a below = elim (cases_eq a v) [
   | inl e ↦ (
@@ -163,6 +166,7 @@ module _ {U : Type 0} (marks : U → Bool) (constraints : List U → List ℕ) (
         named (inl q) = inl (sym x.1 ∙ ap (moved last v) q.0, sym y.1 ∙ ap (moved last v) q.1)
         named (inr q) = inr (sym x.1 ∙ ap (moved last v) q.0, sym y.1 ∙ ap (moved last v) q.1)
 
+    -- the constraints afterwards are those of before, by the former indexes of their ends
     pub constraints_left : (a b : ℕ) → Joins (constraint_pairs constraints new.mesh new.undirected) a b ↔ ((a < last) × (b < last) × Joins (constraint_pairs constraints old.mesh old.undirected) (old_index v last a) (old_index v last b))
     constraints_left a b = (
       (λ h. let k = came a b (by_edge new after a b h) in (k.0, k.1, from_edge old before (old_index v last a) (old_index v last b) k.2)),

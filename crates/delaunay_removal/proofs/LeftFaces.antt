@@ -1,14 +1,11 @@
--- The faces that a vertex leaves: each was there, or its corners are neighbours of the vertex. So an edge that fails the circle
--- test joins two of these.
-use Rattle.std.proofs.Common.{◌≡◌, ◌≢◌, ◌⊎◌, ℕ, suc, ◌-◌, ◌<◌, List, length, map, sym, ap, ◌∙◌, subst, inl, inr, arith}
+-- The faces that a vertex leaves: each was there, or each of its sides lay opposite the vertex or is what a turned edge joins.
+use Rattle.std.proofs.Common.{◌≡◌, ◌≢◌, ◌⊎◌, ℕ, ◌-◌, ◌<◌, List, [], length, map, sym, ap, ◌∙◌, subst, inl, inr, arith}
 use Rattle.std.specs.Prelude.{Bool, Contains}
 use Rattle.std.proofs.lemmas.List.{length-map}
-use Rattle.half_edge_mesh.specs.Mesh.{Mesh, AreSoundLinks, origin, rev}
 use Rattle.half_edge_mesh.specs.Renames.{moved}
 use Rattle.half_edge_mesh.specs.Triangles.{Triangle, triangles}
 use Rattle.half_edge_mesh.specs.Contents.{Contents, IsMeshWithData}
 use Rattle.half_edge_mesh.specs.Removal.{FullFace, full_faces, renumbered_face, DropsVertex, LeavesMesh}
-use Rattle.half_edge_links.proofs.Lists.Rev.{rev-rev, rev_within}
 use Rattle.plane.specs.Fraction.{Point}
 use Rattle.plane.specs.Tiling.{Face}
 use Rattle.plane_tiling.proofs.Totals.{Contains-none}
@@ -17,30 +14,15 @@ use Rattle.plane_edits.proofs.LocalMesh.Changes.{turn_of_all}
 use Rattle.mesh_embedding.specs.Drawn.{corners_of, faces_of, outer_of}
 use Rattle.mesh_embedding.proofs.FaceChanges.{turned_faces}
 use Rattle.mesh_embedding.proofs.MeshDrops.{whole_faces}
-use Rattle.mesh_embedding.proofs.MeshStars.{edge_of_face}
-use Rattle.mesh_embedding.proofs.WorkLists.{contains_map, contains_map_from}
+use Rattle.mesh_embedding.proofs.WorkLists.{contains_map_from}
 use Rattle.delaunay_legalization.specs.Shape.{IsTriangulated}
 use Rattle.delaunay_legalization.specs.State.{state_of}
-use Rattle.delaunay_removal.specs.Data.{IsNear}
 use Rattle.delaunay_removal.specs.Freeing.{FreesEdgesAt}
-use Rattle.delaunay_removal.specs.Neighbours.{LeadsTo, LeavesFaces, former_index}
+use Rattle.delaunay_removal.specs.Pairs.{IsHoleSide, IsStarSide, LeavesFaces, former_index}
 use Rattle.delaunay_removal.specs.Star.{IsMeshWithout, IsolatesVertex}
 use Rattle.delaunay_removal.proofs.LeavingConstraints.{there_and_back}
-use Rattle.delaunay_removal.proofs.MadeNear.{full_listed, no_face_listed}
-
--- a corner of a face at the vertex is a neighbour
-leads_to : (m : Mesh) → AreSoundLinks m → (v u : ℕ) → IsNear (faces_of m) v u → u ≢ v → LeadsTo m v u
-leads_to m s v u (inl e) other = absurd (other e)
-leads_to m s v u (inr (k, inl f)) other =
-    let e = edge_of_face m s v u k f in
-    (e.0, e.1.inner.0, e.1.first, sym (s.edges e.0 e.1.inner.0).starts ∙ e.1.second)
-leads_to m s v u (inr (k, inr f)) other =
-    let e = edge_of_face m s u v k f in (
-      rev e.0,
-      rev_within e.0 (length m.half_edges) s.even e.1.inner.0,
-      sym (s.edges e.0 e.1.inner.0).starts ∙ e.1.second,
-      ap (origin m) (rev-rev e.0) ∙ e.1.first,
-    )
+use Rattle.delaunay_removal.proofs.DataStays.{none_to_keep}
+use Rattle.delaunay_removal.proofs.MadeFaces.{full_listed, no_face_listed}
 
 -- a face where no vertex is one of it
 without_corners : (v : ℕ) (points : List Point) (faces : List Face) (outer : List (ℕ × ℕ)) → IsMeshWithout v points faces outer → (f : Face) → Contains faces f → ((f.a < length points) × (f.a ≢ v)) × ((f.b < length points) × (f.b ≢ v)) × ((f.c < length points) × (f.c ≢ v))
@@ -48,12 +30,17 @@ without_corners v points faces outer (inl m) f h = m.corners f h
 without_corners v points faces outer (inr m) f h = absurd (Contains-none f (subst (λ (fs : List Face). Contains fs f) m.0 h))
 
 module _ {V D U F : Type 0} (points : List Point) (old mid new : Contents V D U F) (v : ℕ) (value : V) (before : IsMeshWithData old) (middle : IsMeshWithData mid) (after : IsMeshWithData new)
-    (isolates : IsolatesVertex points old mid v) (count : length points ≡ length old.vertices) (here : v < length old.vertices) (drops : DropsVertex mid new v value) where
+    (pairs : List (ℕ × ℕ)) (isolates : IsolatesVertex points old mid v pairs) (count : length points ≡ length old.vertices) (here : v < length old.vertices) (drops : DropsVertex mid new v value) where
   abbrev last : ℕ
   last = length old.vertices - 1
 
   abbrev Was : ℕ → ℕ → ℕ → Type 0
-  Was i j k = IsFaceOf (faces_of old.mesh) i j k ⊎ (LeadsTo old.mesh v i × LeadsTo old.mesh v j × LeadsTo old.mesh v k)
+  Was i j k = IsFaceOf (faces_of old.mesh) i j k ⊎ (IsHoleSide (faces_of old.mesh) v pairs i j × IsHoleSide (faces_of old.mesh) v pairs j k × IsHoleSide (faces_of old.mesh) v pairs k i)
+
+  in_hole : (i j : ℕ) → i ≢ v → j ≢ v → IsStarSide (faces_of old.mesh) v pairs i j → IsHoleSide (faces_of old.mesh) v pairs i j
+  in_hole i j a b (inl (inl e)) = absurd (a e)
+  in_hole i j a b (inl (inr e)) = absurd (b e)
+  in_hole i j a b (inr h) = h
 
   -- a face without its new indexes
   came : (g : Face) → Contains (faces_of mid.mesh) g → Was g.a g.b g.c
@@ -61,7 +48,7 @@ module _ {V D U F : Type 0} (points : List Point) (old mid new : Contents V D U 
       let off = without_corners v points (faces_of mid.mesh) (outer_of mid.mesh) isolates.shape g h in
       elim (isolates.beside.made.each g.a g.b g.c (inl h)) as (λ _. Was g.a g.b g.c) [
         | inl x ↦ inl x
-        | inr x ↦ inr (leads_to old.mesh before.valid.sound v g.a x.0 off.0.1, leads_to old.mesh before.valid.sound v g.b x.1 off.1.1, leads_to old.mesh before.valid.sound v g.c x.2 off.2.1)
+        | inr x ↦ inr (in_hole g.a g.b off.0.1 off.1.1 x.0, in_hole g.b g.c off.1.1 off.2.1 x.1, in_hole g.c g.a off.2.1 off.0.1 x.2)
       ]
 
   back : (k : ℕ) → (k < length points) × (k ≢ v) → former_index v last (moved last v k) ≡ k
@@ -90,21 +77,44 @@ module _ {V D U F : Type 0} (points : List Point) (old mid new : Contents V D U 
   was_turned i j k (inl f) = inl (turned_faces (faces_of old.mesh) i j k f)
   was_turned i j k (inr x) = inr (x.1, x.2, x.0)
 
-  pub faces_leave : LeavesFaces (state_of old) (state_of new) v
+  -- a vertex loses its edges and goes: each face was there, or its corners are neighbours of it
+  pub faces_leave : LeavesFaces (state_of old) (state_of new) v pairs
   faces_leave = record {
     each = λ i j k f. turn_of_all (faces_of new.mesh) Now (λ a b c. was_turned (former_index v last a) (former_index v last b) (former_index v last c)) listed i j k f;
   }
 
-pub plane_faces_leave : {V D U F : Type 0} (place : V → Point) (old mid new : Contents V D U F) (v : ℕ) (value : V) → IsTriangulated place (state_of old) → IsMeshWithData mid → IsTriangulated place (state_of new) → v < length old.vertices → IsolatesVertex (map place old.vertices) old mid v → DropsVertex mid new v value → LeavesFaces (state_of old) (state_of new) v
-plane_faces_leave place old mid new v value before middle after here isolates drops =
-    faces_leave (map place old.vertices) old mid new v value (record { valid = before.valid; fits = before.fits }) middle (record { valid = after.valid; fits = after.fits }) isolates (length-map old.vertices place) here drops
+-- the removal of a vertex of the plane keeps each face that does not have it as a corner
+pub plane_faces_leave : {V D U F : Type 0} (place : V → Point) (old mid new : Contents V D U F) (v : ℕ) (value : V) → IsTriangulated place (state_of old) → IsMeshWithData mid → IsTriangulated place (state_of new) → v < length old.vertices → (pairs : List (ℕ × ℕ)) → IsolatesVertex (map place old.vertices) old mid v pairs → DropsVertex mid new v value → LeavesFaces (state_of old) (state_of new) v pairs
+plane_faces_leave place old mid new v value before middle after here pairs isolates drops =
+    faces_leave (map place old.vertices) old mid new v value (record { valid = before.valid; fits = before.fits }) middle (record { valid = after.valid; fits = after.fits }) pairs isolates (length-map old.vertices place) here drops
 
 -- ---- on a line there are no faces
-pub line_faces_leave : {V D U F : Type 0} (old new : Contents V D U F) (v : ℕ) (value : V) → IsMeshWithData new → length old.faces ≡ 0 → LeavesMesh old new v value → LeavesFaces (state_of old) (state_of new) v
+-- so it is of a line, which has no faces
+pub line_faces_leave : {V D U F : Type 0} (old new : Contents V D U F) (v : ℕ) (value : V) → IsMeshWithData new → length old.faces ≡ 0 → LeavesMesh old new v value → LeavesFaces (state_of old) (state_of new) v []
 line_faces_leave old new v value after none leaves = record { each = λ i j k f. absurd (no_face_listed new after (ap (λ c. length c.faces) leaves.drops.contents ∙ ap (λ c. length c.faces) leaves.leaves.contents ∙ none) i j k f) }
 
+-- ---- whatever is in the list
+module _ {V D U F : Type 0} (old new : Contents V D U F) (v : ℕ) (pairs : List (ℕ × ℕ)) (leaves : LeavesFaces (state_of old) (state_of new) v []) where
+  more_side : (i j : ℕ) → IsHoleSide (faces_of old.mesh) v [] i j → IsHoleSide (faces_of old.mesh) v pairs i j
+  more_side i j (inl h) = inl (none_to_keep pairs i j h)
+  more_side i j (inr f) = inr f
+
+  abbrev Sides : List (ℕ × ℕ) → ℕ → ℕ → ℕ → Type 0
+  Sides ps i j k = IsFaceOf (faces_of old.mesh) i j k ⊎ (IsHoleSide (faces_of old.mesh) v ps i j × IsHoleSide (faces_of old.mesh) v ps j k × IsHoleSide (faces_of old.mesh) v ps k i)
+
+  more_sides : (i j k : ℕ) → Sides [] i j k → Sides pairs i j k
+  more_sides i j k (inl f) = inl f
+  more_sides i j k (inr x) = inr (more_side i j x.0, more_side j k x.1, more_side k i x.2)
+
+  -- a removal that makes no edge makes none but those of any list
+  pub leaves_more : LeavesFaces (state_of old) (state_of new) v pairs
+  leaves_more = record {
+    each = λ i j k f. more_sides (former_index v (length old.vertices - 1) i) (former_index v (length old.vertices - 1) j) (former_index v (length old.vertices - 1) k) (leaves.each i j k f);
+  }
+
 -- ---- before the edges of the vertex cease to be constraints
-pub freed_faces_leave : {V D U F : Type 0} (marks : U → Bool) (old mid new : Contents V D U F) (v : ℕ) → FreesEdgesAt marks old mid v → LeavesFaces (state_of mid) (state_of new) v → LeavesFaces (state_of old) (state_of new) v
-freed_faces_leave {V = V} {D = D} {U = U} {F = F} marks old mid new v frees leaves =
-    let left : LeavesFaces (state_of (record old { undirected = mid.undirected })) (state_of new) v = subst (λ (c : Contents V D U F). LeavesFaces (state_of c) (state_of new) v) frees.contents leaves in
+-- so it is where edges at the vertex were freed before
+pub freed_faces_leave : {V D U F : Type 0} (marks : U → Bool) (old mid new : Contents V D U F) (v : ℕ) (pairs : List (ℕ × ℕ)) → FreesEdgesAt marks old mid v → LeavesFaces (state_of mid) (state_of new) v pairs → LeavesFaces (state_of old) (state_of new) v pairs
+freed_faces_leave {V = V} {D = D} {U = U} {F = F} marks old mid new v pairs frees leaves =
+    let left : LeavesFaces (state_of (record old { undirected = mid.undirected })) (state_of new) v pairs = subst (λ (c : Contents V D U F). LeavesFaces (state_of c) (state_of new) v pairs) frees.contents leaves in
     record { each = left.each }

@@ -1,5 +1,5 @@
 pub mod DataReads
-pub mod MadeNear
+pub mod MadeFaces
 pub mod DataStays
 pub mod DataTurns
 pub mod DataDrops
@@ -24,5 +24,6 @@ pub mod LeavingConstraints
 pub mod FreedEdges
 pub mod RemovingConstraints
 pub mod LeftFaces
+pub mod PairEdges
 pub mod Passing
-pub mod Gathering
+pub mod Borders

@@ -1,29 +1,44 @@
--- What is left to test where a vertex has gone: edges between its neighbours.
-use Rattle.std.proofs.Common.{◌≡◌, ◌≢◌, ◌⊎◌, ℕ, ◌-◌, ◌<◌, List, length, get_or, map, sym, ap, ◌∙◌, subst, inl, inr, arith}
+-- What is left to test where a vertex has gone: what its turned edges join, and sides of its hole.
+use Rattle.std.proofs.Common.{◌≡◌, ◌≢◌, ◌⊎◌, ℕ, ◌-◌, ◌<◌, List, ◌++◌, length, get_or, map, sym, ap, ◌∙◌, subst, inl, inr, arith}
 use Rattle.std.specs.Prelude.{Contains, pos, swap_remove}
 use Rattle.std.proofs.lemmas.Bool.{cases_eq}
 use Rattle.std.proofs.lemmas.List.{length-map}
-use Rattle.half_edge_mesh.specs.Mesh.{origin, rev}
-use Rattle.half_edge_mesh.specs.Renames.{moved}
+use Rattle.std.proofs.lemmas.List.Elements.{Contains-append_left, Contains-append_right}
+use Rattle.half_edge_mesh.specs.Mesh.{Mesh, AreSoundLinks, origin, prev}
+use Rattle.half_edge_links.proofs.Lists.Rev.{rev-rev}
 use Rattle.half_edge_links.proofs.Removing.OpenSound.{length-swap_remove, get_or-swap_remove_same, get_or-swap_remove_other, swap_remove_default}
 use Rattle.plane.specs.Circle.{InsideCircle}
 use Rattle.plane.specs.Fraction.{Point, Fraction, whole}
 use Rattle.plane.specs.Pairs.{Joins}
 use Rattle.plane.specs.Pairs.{place as at}
 use Rattle.plane.specs.Plain.{Removes}
+use Rattle.plane.specs.Side.{TurnsLeft}
+use Rattle.plane.specs.Tiling.{Face}
+use Rattle.plane_tiling.specs.Local.{IsMesh}
 use Rattle.plane_edits.specs.Change.{IsFaceOf}
-use Rattle.plane_edits.specs.Legal.{Pass}
+use Rattle.plane_edits.specs.Legal.{AllPassBut, Pass, point_of}
+use Rattle.plane_edits.proofs.Legalization.Flipping.{one_question}
+use Rattle.plane_edits.proofs.LocalMesh.Kept.{turning_of}
 use Rattle.mesh_embedding.specs.Drawn.{faces_of, outer_of}
 use Rattle.mesh_embedding.proofs.MeshDrops.{mapped_swap_remove}
-use Rattle.delaunay_legalization.specs.Among.{AllPassBeyond}
+use Rattle.mesh_embedding.proofs.MeshStars.{edge_of_face}
+use Rattle.mesh_embedding.proofs.WorkLists.{contains_map}
 use Rattle.delaunay_legalization.specs.Constraints.{constraints_by, points_and_constraints_by}
 use Rattle.delaunay_legalization.specs.Shape.{IsTriangulated, IsDelaunayTriangulation}
 use Rattle.delaunay_legalization.specs.State.{State}
-use Rattle.delaunay_legalization.proofs.Stars.{face_corners}
-use Rattle.delaunay_removal.specs.Neighbours.{HasNeighbours, LeadsTo, LeavesFaces, former_index}
+use Rattle.delaunay_legalization.proofs.Stars.{face_corners, no_face}
+use Rattle.delaunay_removal.specs.Pairs.{HasBorder, IsHoleSide, LeavesFaces, former_index, pair_left, pairs_left}
+use Rattle.delaunay_removal.proofs.InnerStars.{no_way_back}
 use Rattle.delaunay_removal.proofs.LeavingConstraints.{back_and_there, old_of_freed, old_of_other}
+use Rattle.delaunay_removal.proofs.PairEdges.{joins_turned}
 
 -- ---- the points that are left
+former_below : (v last k n : ℕ) → k < n → last < n → former_index v last k < n
+former_below v last k n h l = elim (cases_eq k v) [
+  | inl e ↦ subst (λ (x : ℕ). x < n) (sym (old_of_freed v last k e)) l
+  | inr e ↦ subst (λ (x : ℕ). x < n) (sym (old_of_other v last k e)) h
+]
+
 left_point : (points : List Point) (v : ℕ) (d : Point) (j : ℕ) → v < length points → j < length points - 1 → get_or (swap_remove points v d) j (record { x = pos 0; y = pos 0 }) ≡ get_or points (former_index v (length points - 1) j) (record { x = pos 0; y = pos 0 })
 left_point points v d j here low = ap (λ ps. get_or ps j z) (swap_remove_default points v d z (omega (arith, here))) ∙ go (cases_eq j v)
   where
@@ -34,8 +49,24 @@ left_point points v d j here low = ap (λ ps. get_or ps j z) (swap_remove_defaul
     go (inl e) = ap (λ k. get_or (swap_remove points v z) k z) e ∙ get_or-swap_remove_same points v z (omega (arith, low, e)) ∙ ap (λ k. get_or points k z) (sym (old_of_freed v (length points - 1) j e))
     go (inr n) = get_or-swap_remove_other points v j z (omega (arith, low)) n ∙ ap (λ k. get_or points k z) (sym (old_of_other v (length points - 1) j n))
 
+-- ---- the sides of the hole
+-- each side opposite vertex v is one of the pairs, or no vertex is inside the circle of the face on its other side
+abbrev pub AreSettled : List Point → List Face → ℕ → List (ℕ × ℕ) → Type 0
+AreSettled points faces v border = (a b : ℕ) → IsFaceOf faces v a b → Joins border a b ⊎ ((k l : ℕ) → IsFaceOf faces b a l → k < length points → ¬ InsideCircle (at points b) (at points a) (at points l) (at points k))
+
+-- a list of the border's pairs settles each side of the hole
+pub border_settles : (points : List Point) (m : Mesh) → AreSoundLinks m → (v : ℕ) (border : List (ℕ × ℕ)) → HasBorder m v border → AreSettled points (faces_of m) v border
+border_settles points m s v border around a b f =
+    let e = edge_of_face m s v a b f in
+    inl (subst (λ (x : ℕ × ℕ). Joins border x.0 x.1) (λ o. ((sym (s.edges e.0 e.1.inner.0).starts ∙ e.1.second) o, (ap (origin m) (rev-rev (prev m e.0)) ∙ e.1.third) o)) (around e.0 e.1.inner.0 e.1.first))
+
+-- a face of a mesh turns left
+pub face_turns : (points : List Point) (faces : List Face) (outer : List (ℕ × ℕ)) → IsMesh points faces outer → (i j k : ℕ) → IsFaceOf faces i j k → TurnsLeft (at points i) (at points j) (at points k)
+face_turns points faces outer (inl m) i j k f = turning_of points faces outer m i j k f
+face_turns points faces outer (inr m) i j k f = absurd (no_face i j k (subst (λ fs. IsFaceOf fs i j k) m.0 f))
+
 module _ {V D U F : Type 0} (place : V → Point) (constraints : List U → List ℕ) (old new : State V D U F) (v : ℕ) (value : V) (legal : IsDelaunayTriangulation place constraints old) (kept : IsTriangulated place new)
-    (removes : Removes place (points_and_constraints_by constraints old) (points_and_constraints_by constraints new) v) (leaves : LeavesFaces old new v) (vs : List ℕ) (around : HasNeighbours old.mesh v (length old.vertices - 1) vs) where
+    (removes : Removes place (points_and_constraints_by constraints old) (points_and_constraints_by constraints new) v) (border turned : List (ℕ × ℕ)) (leaves : LeavesFaces old new v turned) (settled : AreSettled (map place old.vertices) (faces_of old.mesh) v border) where
   abbrev last : ℕ
   last = length old.vertices - 1
 
@@ -47,10 +78,6 @@ module _ {V D U F : Type 0} (place : V → Point) (constraints : List U → List
 
   below : (k : ℕ) → k < length (map place new.vertices) → k < last
   below k h = omega (arith, h, count)
-
-  -- these are vertices still
-  pub neighbours_within : (k : ℕ) → Contains vs k → k < length new.vertices
-  neighbours_within k h = let low = around.within k h in let long = length-map new.vertices place in omega (arith, low, long, count)
 
   points_left : map place new.vertices ≡ swap_remove (map place old.vertices) v (place value)
   points_left = ap (map place) (removes.vertices value) ∙ mapped_swap_remove place old.vertices v value
@@ -66,15 +93,37 @@ module _ {V D U F : Type 0} (place : V → Point) (constraints : List U → List
   same_pass i j k l a b c d p =
       subst (λ (x : Fraction × Fraction × Fraction × Fraction). (¬ InsideCircle x.0 x.1 x.2 x.3) × (¬ InsideCircle x.1 x.0 x.3 x.2)) (λ o. (same_place i a o, same_place j b o, same_place k c o, same_place l d o)) p
 
-  -- a neighbour of the vertex is in the list
-  listed : (k : ℕ) → k < length (map place new.vertices) → LeadsTo old.mesh v (was k) → Contains vs k
-  listed k h (e, within, starts, ends) = subst (Contains vs) (ap (moved last v) ends ∙ (back_and_there v last k (below k h)).1) (around.each e within starts)
+  -- where the third corner of one face is not inside the circle of the other, the edge passes
+  outside_passes : (i j k l : ℕ) → IsFaceOf (faces_of new.mesh) i j k → IsFaceOf (faces_of new.mesh) j i l → ¬ InsideCircle (at (map place old.vertices) (was j)) (at (map place old.vertices) (was i)) (at (map place old.vertices) (was l)) (at (map place old.vertices) (was k)) → Pass (map place new.vertices) i j k l
+  outside_passes i j k l f g out =
+      let one = face_corners (map place new.vertices) (faces_of new.mesh) (outer_of new.mesh) kept.shape i j k f in
+      let other = face_corners (map place new.vertices) (faces_of new.mesh) (outer_of new.mesh) kept.shape j i l g in
+      let outside = subst (λ (x : Fraction × Fraction × Fraction × Fraction). ¬ InsideCircle x.0 x.1 x.2 x.3) (λ o. (same_place j one.1 o, same_place i one.0 o, same_place l other.2 o, same_place k one.2 o)) out in
+      let both = one_question (point_of (map place new.vertices) i) (point_of (map place new.vertices) j) (point_of (map place new.vertices) k) (point_of (map place new.vertices) l)
+      (face_turns (map place new.vertices) (faces_of new.mesh) (outer_of new.mesh) kept.shape i j k f) (face_turns (map place new.vertices) (faces_of new.mesh) (outer_of new.mesh) kept.shape j i l g) in
+      ((λ h. outside (both.0 h)), outside)
+
+  -- no side lies opposite the vertex in both directions
+  one_way : (a b : ℕ) → IsFaceOf (faces_of old.mesh) v a b → IsFaceOf (faces_of old.mesh) v b a → ⊥
+  one_way a b f g =
+      let points = map place old.vertices in
+      no_way_back (at points v) (at points a) (at points b) (face_turns points (faces_of old.mesh) (outer_of old.mesh) legal.kept.shape v a b f) (face_turns points (faces_of old.mesh) (outer_of old.mesh) legal.kept.shape v b a g)
+
+  -- a pair of the lists, by the indexes that are left
+  named : (i j : ℕ) → i < last → j < last → Contains (border ++ turned) (was i, was j) → Contains (pairs_left last v (border ++ turned)) (i, j)
+  named i j a b h = subst (Contains (pairs_left last v (border ++ turned))) (λ o. ((back_and_there v last i a).1 o, (back_and_there v last j b).1 o)) (contains_map (pair_left last v) (border ++ turned) (was i, was j) h)
+
+  either : (i j : ℕ) → i < last → j < last → Joins border (was i) (was j) ⊎ Joins turned (was i) (was j) → Joins (pairs_left last v (border ++ turned)) i j
+  either i j a b (inl (inl h)) = inl (named i j a b (Contains-append_left border turned (was i, was j) h))
+  either i j a b (inl (inr h)) = inr (named j i b a (Contains-append_left border turned (was j, was i) h))
+  either i j a b (inr (inl h)) = inl (named i j a b (Contains-append_right border turned (was i, was j) h))
+  either i j a b (inr (inr h)) = inr (named j i b a (Contains-append_right border turned (was j, was i) h))
 
   abbrev Was : ℕ → ℕ → ℕ → Type 0
-  Was a b c = IsFaceOf (faces_of old.mesh) (was a) (was b) (was c) ⊎ (LeadsTo old.mesh v (was a) × LeadsTo old.mesh v (was b) × LeadsTo old.mesh v (was c))
+  Was a b c = IsFaceOf (faces_of old.mesh) (was a) (was b) (was c) ⊎ (IsHoleSide (faces_of old.mesh) v turned (was a) (was b) × IsHoleSide (faces_of old.mesh) v turned (was b) (was c) × IsHoleSide (faces_of old.mesh) v turned (was c) (was a))
 
-  pub passes_beyond : AllPassBeyond (map place new.vertices) (faces_of new.mesh) (constraints_by constraints new) vs
-  passes_beyond i j k l f g free apart = go (leaves.each i j k f) (leaves.each j i l g)
+  but_pairs : AllPassBut (map place new.vertices) (faces_of new.mesh) (constraints_by constraints new) (pairs_left last v (border ++ turned))
+  but_pairs i j k l f g free untested = go (leaves.each i j k f) (leaves.each j i l g)
     where
       one : (i < length (map place new.vertices)) × (j < length (map place new.vertices)) × (k < length (map place new.vertices))
       one = face_corners (map place new.vertices) (faces_of new.mesh) (outer_of new.mesh) kept.shape i j k f
@@ -85,7 +134,40 @@ module _ {V D U F : Type 0} (place : V → Point) (constraints : List U → List
       was_free : ¬ Joins (constraints_by constraints old) (was i) (was j)
       was_free h = free ((removes.constraints i j).1 (below i one.0, below j one.1, h))
 
+      points : List Point
+      points = map place old.vertices
+
+      was_below : (k : ℕ) → k < length (map place new.vertices) → was k < length points
+      was_below k h = let within = removes.here in let low = below k h in let long = length-map old.vertices place in former_below v last k (length points) (omega (arith, within, long, low)) (omega (arith, within, long))
+
+      no_pair : Joins border (was i) (was j) ⊎ Joins turned (was i) (was j) → Pass (map place new.vertices) i j k l
+      no_pair h = absurd (untested (either i j (below i one.0) (below j one.1) h))
+
+      no_pair_back : Joins border (was j) (was i) ⊎ Joins turned (was j) (was i) → Pass (map place new.vertices) i j k l
+      no_pair_back h = absurd (untested (joins_turned (pairs_left last v (border ++ turned)) j i (either j i (below j one.1) (below i one.0) h)))
+
+      -- a side of the hole, with a face that was there on its other side
+      from_left : IsFaceOf (faces_of old.mesh) v (was i) (was j) → IsFaceOf (faces_of old.mesh) (was j) (was i) (was l) → Pass (map place new.vertices) i j k l
+      from_left x y = elim (settled (was i) (was j) x) as (λ _. Pass (map place new.vertices) i j k l) [
+        | inl h ↦ no_pair (inl h)
+        | inr out ↦ outside_passes i j k l f g (out (was k) (was l) y (was_below k one.2))
+      ]
+
+      from_right : IsFaceOf (faces_of old.mesh) (was i) (was j) (was k) → IsFaceOf (faces_of old.mesh) v (was j) (was i) → Pass (map place new.vertices) i j k l
+      from_right x y = elim (settled (was j) (was i) y) as (λ _. Pass (map place new.vertices) i j k l) [
+        | inl h ↦ no_pair_back (inl h)
+        | inr out ↦ let p = outside_passes j i l k g f (out (was l) (was k) x (was_below l other.2)) in (p.1, p.0)
+      ]
+
       go : Was i j k → Was j i l → Pass (map place new.vertices) i j k l
       go (inl x) (inl y) = same_pass i j k l one.0 one.1 one.2 other.2 (legal.passing (was i) (was j) (was k) (was l) x y was_free)
-      go (inr x) y = absurd (apart (listed i one.0 x.0, listed j one.1 x.1))
-      go (inl x) (inr y) = absurd (apart (listed i one.0 y.1, listed j one.1 y.0))
+      go (inr (inl h, n, o)) y = no_pair (inr h)
+      go (inr (inr p, n, o)) (inl y) = from_left p y
+      go (inr (inr p, n, o)) (inr (inl h, y, z)) = no_pair_back (inr h)
+      go (inr (inr p, n, o)) (inr (inr q, y, z)) = absurd (one_way (was i) (was j) p q)
+      go (inl x) (inr (inl h, y, z)) = no_pair_back (inr h)
+      go (inl x) (inr (inr q, y, z)) = from_right x q
+
+  -- after a removal no edge is left to test but those of the pairs
+  pub passes_but : AllPassBut (map place new.vertices) (faces_of new.mesh) (constraints_by constraints new) (pairs_left (length new.vertices) v (border ++ turned))
+  passes_but = subst (λ (n : ℕ). AllPassBut (map place new.vertices) (faces_of new.mesh) (constraints_by constraints new) (pairs_left n v (border ++ turned))) (sym count ∙ length-map new.vertices place) but_pairs

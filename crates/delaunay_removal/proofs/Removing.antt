@@ -73,6 +73,7 @@ module _ {V D U F : Type 0} (place : V → Point) (old : Contents V D U F) (kept
     same_vertices : leaves.between.vertices ≡ old.vertices
     same_vertices = ap (λ (c : Contents V D U F). c.vertices) leaves.leaves.contents
 
+    -- the data that the vertex has when it goes are those of before
     pub value_was : slice_get old.vertices v ≡ Some value
     value_was = subst (λ (vs : List V). slice_get vs v ≡ Some value) same_vertices leaves.drops.had
 

@@ -20,12 +20,15 @@ module _ {V D U F : Type 0} (place : V → Point) (marks : U → Bool) (constrai
   same_mesh : mid.mesh ≡ old.mesh
   same_mesh = ap (λ (c : Contents V D U F). c.mesh) frees.contents
 
+  -- the vertices stay
   pub freed_vertices : mid.vertices ≡ old.vertices
   freed_vertices = ap (λ (c : Contents V D U F). c.vertices) frees.contents
 
+  -- the data of the directed edges stay
   pub freed_directed : mid.directed ≡ old.directed
   freed_directed = ap (λ (c : Contents V D U F). c.directed) frees.contents
 
+  -- a triangulation stays one
   pub freed_kept : IsTriangulated place (state_of mid)
   freed_kept = subst (λ (c : Contents V D U F). IsTriangulated place (state_of c)) (sym frees.contents) (record {
     in_range = kept.in_range;
@@ -89,6 +92,7 @@ module _ {V D U F : Type 0} (place : V → Point) (marks : U → Bool) (constrai
 
   -- ---- and the vertex goes
   module _ (new : Contents V D U F) (after : IsMeshWithData new) where
+    -- the removal of v from the vertices alone is one from them with the constraints of before
     pub plain_left : Removes place (points_and_constraints (state_of mid)) (points_and_constraints (state_of new)) v → RenumbersEdges mid new v → Removes place (points_and_constraints_by constraints (state_of old)) (points_and_constraints_by constraints (state_of new)) v
     plain_left removes renumbers = record {
       here = here;
@@ -117,6 +121,7 @@ module _ {V D U F : Type 0} (place : V → Point) (marks : U → Bool) (constrai
       | inr q ↦ frees.others (g / 2) (λ r. ends (ap (origin old.mesh) q.1 ∙ r)) (λ r. starts (ap (origin old.mesh) (q.0 ∙ sym (rev_of_even (g / 2))) ∙ r))
     ]
 
+    -- all that keeps its data beside v keeps those of before
     pub data_left : KeepsDataBeside (state_of mid) (state_of new) v → KeepsDataBeside (state_of old) (state_of new) v
     data_left beside = go (subst (λ (c : Contents V D U F). KeepsDataBeside (state_of c) (state_of new) v) frees.contents beside)
       where

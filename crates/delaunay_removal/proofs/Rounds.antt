@@ -16,6 +16,7 @@ round_of m v first count h round within starts =
     let i = round.all h within starts in
     subst (λ (x : ℕ). IsRound m v x count) (sym i.2) (round_from m v first count round i.0)
 
+-- each half edge begins a round of its origin
 pub round_at : (m : Mesh) → IsValidMesh m → (v h : ℕ) → h < length m.half_edges → origin m h ≡ v → (count : ℕ) × IsRound m v h count
 round_at m valid v h within starts =
     let o = some_of (out_edge m v) (subst (λ (x : ℕ). IsSome (out_edge m x)) starts (valid.sound.edges h within).has_out) in
@@ -30,6 +31,7 @@ pub record IsCounting (m : Mesh) (first count edge : ℕ) : Type 0 where
   pub before : (j : ℕ) → 0 < j → j < count → spoke m first j ≢ first
 
 module _ (m : Mesh) (valid : IsValidMesh m) (first : ℕ) (first_in : first < length m.half_edges) where
+  -- with the first edge counted, the walk is at the edge that it turns to
   pub counting_begins : (edge : ℕ) → edge < length m.half_edges → edge ≡ turn m first → IsCounting m first 1 edge
   counting_begins edge within is = record { within = within; some = omega arith; here = is; before = λ j some less. absurd (omega (arith, some, less)) }
 
@@ -43,6 +45,7 @@ module _ (m : Mesh) (valid : IsValidMesh m) (first : ℕ) (first_in : first < le
     not_past : round.0 < count → ⊥
     not_past less = counting.before round.0 round.1.some less home
 
+    -- back at the first edge, the count is that of the round
     pub counted : edge ≡ first → IsRound m (origin m first) first count
     counted back = subst (λ (n : ℕ). IsRound m (origin m first) first n) same round.1
       where
@@ -56,6 +59,7 @@ module _ (m : Mesh) (valid : IsValidMesh m) (first : ℕ) (first_in : first < le
         ]
 
     module _ (off : edge ≢ first) where
+      -- before that, fewer edges are counted than there are
       pub counting_fits : count < length m.half_edges
       counting_fits =
           let fits = round_fits m (origin m first) first round.0 valid round.1 in
@@ -64,6 +68,7 @@ module _ (m : Mesh) (valid : IsValidMesh m) (first : ℕ) (first_in : first < le
             | inr l ↦ elim (cases_lt round.0 count) [ inl k ↦ absurd (not_past k) | inr k ↦ absurd (off (counting.here ∙ ap (spoke m first) (let e : count ≡ round.0 = omega (arith, l, k) in e) ∙ home)) ]
           ]
 
+      -- with one edge more counted, the walk is at the edge that it turns to
       pub counting_goes_on : (after : ℕ) → after < length m.half_edges → after ≡ turn m edge → IsCounting m first (count + 1) after
       counting_goes_on after within is = record {
         within = within;

@@ -11,6 +11,7 @@ pub record IsSearching (Found : ℕ → Type 0) (bound : ℕ) (m : Mesh) (first 
   pub here : edge ≡ spoke m first count
   pub none : (k : ℕ) → k < count → ¬ Found (spoke m first k)
 
+-- a step past an edge that is none turns to the next edge
 pub search_goes_on : (Found : ℕ → Type 0) (bound : ℕ) (m : Mesh) (first count edge after : ℕ) → IsSearching Found bound m first count edge → ¬ Found edge → after < bound → after ≡ turn m edge → IsSearching Found bound m first (count + 1) after
 search_goes_on Found bound m first count edge after search not within is = record {
   within = within;

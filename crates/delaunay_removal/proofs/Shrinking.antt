@@ -1,5 +1,5 @@
 -- The loop that turns edges of an inner vertex away.
-use Rattle.std.proofs.Common.{◌≡◌, ℕ, ◌-◌, ◌*◌, ◌/◌, ◌<◌, ◌≤◌, List, length, map, sym, ap, ◌∙◌, subst, arith, inl}
+use Rattle.std.proofs.Common.{◌≡◌, ℕ, ◌+◌, ◌-◌, ◌*◌, ◌/◌, ◌<◌, ◌≤◌, List, [], ◌∷◌, ◌++◌, length, map, sym, ap, ◌∙◌, subst, arith, inl}
 use Rattle.std.specs.Prelude.{All}
 use Rattle.half_edge_mesh.specs.Mesh.{origin}
 use Rattle.half_edge_mesh.specs.Flip.{flipped}
@@ -10,22 +10,27 @@ use Rattle.half_edge_mesh.specs.Contents.{Contents, IsMeshWithData}
 use Rattle.plane.specs.Fraction.{Point}
 use Rattle.delaunay_removal.specs.Data.{StandsBeside}
 use Rattle.delaunay_removal.specs.Star.{IsConvexAt, IsInnerStar, IsReduced}
-use Rattle.delaunay_removal.proofs.DataStays.{stands_on}
+use Rattle.delaunay_removal.proofs.DataStays.{stands_turned}
 use Rattle.delaunay_removal.proofs.InnerStars.{star_from, star_shrinks, has_three, none_left}
 
--- vertex v lost edges by turns, and still has so many, from edge first on
-pub record IsShrinking {V D U F : Type 0} (place : V → Point) (old now : Contents V D U F) (v first count : ℕ) : Type 0 where
+-- vertex v lost edges by turns, and still has so many, from edge first on; what the turned ones join is listed, with room for
+-- one more at each edge
+pub record IsShrinking {V D U F : Type 0} (place : V → Point) (old now : Contents V D U F) (v first count : ℕ) (turned : List (ℕ × ℕ)) (listed capacity : ℕ) : Type 0 where
   pub contents : now ≡ record old { mesh = now.mesh }
   pub star : IsInnerStar (map place now.vertices) now.mesh v first count
-  pub beside : StandsBeside old now v
+  pub beside : StandsBeside old now v turned
+  pub room : listed + count ≤ capacity
 
-module _ {V D U F : Type 0} (place : V → Point) (old now : Contents V D U F) (v first count : ℕ) (shrinking : IsShrinking place old now v first count) where
+module _ {V D U F : Type 0} {turned : List (ℕ × ℕ)} {listed capacity : ℕ} (place : V → Point) (old now : Contents V D U F) (v first count : ℕ) (shrinking : IsShrinking place old now v first count turned listed capacity) where
+  -- the vertices stay
   pub vertices_stay : now.vertices ≡ old.vertices
   vertices_stay = ap (λ (c : Contents V D U F). c.vertices) shrinking.contents
 
+  -- they are sites as they were
   pub sites_stay : (IsSite : Point → Type 0) → All IsSite (map place old.vertices) → All IsSite (map place now.vertices)
   sites_stay IsSite sites = subst (λ (vs : List V). All IsSite (map place vs)) (sym vertices_stay) sites
 
+  -- the star that is left is one over the points of before
   pub star_stays : IsInnerStar (map place old.vertices) now.mesh v first count
   star_stays = subst (λ (vs : List V). IsInnerStar (map place vs) now.mesh v first count) vertices_stay shrinking.star
 
@@ -38,13 +43,14 @@ module _ {V D U F : Type 0} (place : V → Point) (old now : Contents V D U F) (
 
     -- one more turn
     pub shrinking_goes_on : (new : Contents V D U F) → IsMeshWithData new → 3 < count → (edge : ℕ) → (i : ℕ) × (i < count) × (edge ≡ spoke now.mesh first i) → IsConvexAt (map place now.vertices) now.mesh edge
-        → new.mesh ≡ flipped now.mesh (2 * (turn now.mesh edge / 2)) → new ≡ record now { mesh = new.mesh } → FlipsTriangles now.mesh new.mesh (2 * (turn now.mesh edge / 2)) → KeepsOuter now.mesh new.mesh → StandsBeside now new (origin now.mesh edge)
-        → IsShrinking place old new v edge (count - 1)
-    shrinking_goes_on new after many edge at convex turned contents triangles outer stands = record {
+        → new.mesh ≡ flipped now.mesh (2 * (turn now.mesh edge / 2)) → new ≡ record now { mesh = new.mesh } → FlipsTriangles now.mesh new.mesh (2 * (turn now.mesh edge / 2)) → KeepsOuter now.mesh new.mesh → (p : ℕ × ℕ) → StandsBeside now new (origin now.mesh edge) (p ∷ []) → (more : List (ℕ × ℕ)) (listed_now capacity_now : ℕ) → more ≡ turned ++ p ∷ [] → listed_now ≡ listed + 1 → capacity_now ≡ capacity
+        → IsShrinking place old new v edge (count - 1) more listed_now capacity_now
+    shrinking_goes_on new after many edge at convex flips contents triangles outer p stands more listed_now capacity_now put one_more same = record {
       contents = contents ∙ ap (λ (c : Contents V D U F). record c { mesh = new.mesh }) shrinking.contents;
       star = subst (λ (vs : List V). IsInnerStar (map place vs) new.mesh v edge (count - 1)) (sym (ap (λ (c : Contents V D U F). c.vertices) contents))
-          (star_shrinks (map place now.vertices) now.mesh new.mesh whole.valid v edge count (star_at edge at) many turned outer after.valid triangles convex);
-      beside = stands_on old now new v shrinking.beside (subst (StandsBeside now new) (ap (origin now.mesh) at.2 ∙ shrinking.star.round.starts at.0) stands);
+          (star_shrinks (map place now.vertices) now.mesh new.mesh whole.valid v edge count (star_at edge at) many flips outer after.valid triangles convex);
+      beside = stands_turned old now new v turned more p put shrinking.beside (subst (λ (x : ℕ). StandsBeside now new x (p ∷ [])) (ap (origin now.mesh) at.2 ∙ shrinking.star.round.starts at.0) stands);
+      room = let fits = shrinking.room in omega (arith, fits, many, one_more, same);
     }
 
     -- no edge can be turned any more

@@ -5,12 +5,10 @@ use Rattle.half_edge_mesh.specs.Renames.{moved}
 use Rattle.half_edge_mesh.specs.Triangles.{Triangle, triangles}
 use Rattle.half_edge_mesh.specs.Contents.{Contents}
 use Rattle.half_edge_mesh.specs.Removal.{FullEdge, FullFace, full_edges, full_faces, renumbered_edge}
-use Rattle.plane.specs.Tiling.{Face}
-use Rattle.plane_edits.specs.Change.{IsFaceOf}
-use Rattle.plane_edits.specs.Legal.{IsSideOfOne}
 use Rattle.mesh_embedding.specs.Drawn.{faces_of}
 use Rattle.mesh_embedding.specs.Stays.{HaveSameCorners}
 use Rattle.delaunay_legalization.specs.State.{State}
+use Rattle.delaunay_removal.specs.Pairs.{MakesFaces}
 
 -- an edge that ends at vertex v has these undirected data
 pub record HasValueAt {V D U F : Type 0} (c : Contents V D U F) (v : ℕ) (value : U) : Type 0 where
@@ -19,22 +17,14 @@ pub record HasValueAt {V D U F : Type 0} (c : Contents V D U F) (v : ℕ) (value
   pub ends : (edge.source ≡ v) ⊎ (edge.target ≡ v)
   pub same : edge.value ≡ value
 
--- u is vertex v, or a corner of a face at v
-abbrev pub IsNear : List Face → ℕ → ℕ → Type 0
-IsNear faces v u = (u ≡ v) ⊎ IsSideOfOne faces v u
-
--- each face is an old one, or each of its corners is vertex v or a corner of an old face at v
-pub record MakesFacesNear (v : ℕ) (old new : List Face) : Type 0 where
-  pub each : (i j k : ℕ) → IsFaceOf new i j k → IsFaceOf old i j k ⊎ (IsNear old v i × IsNear old v j × IsNear old v k)
-
 -- each undirected edge that does not end at vertex v, with all its data, and each inner face without this corner, with its
 -- data, is there afterwards. An edge that is there afterwards was there, or has the undirected data of one that ended at v,
--- and a face was there, or has corners of faces at v alone
-pub record StandsBeside {V D U F : Type 0} (old new : Contents V D U F) (v : ℕ) : Type 0 where
+-- and each side of a face that was not there is one of the pairs, lay opposite v, or ends at v
+pub record StandsBeside {V D U F : Type 0} (old new : Contents V D U F) (v : ℕ) (pairs : List (ℕ × ℕ)) : Type 0 where
   pub edges : (e : FullEdge D U) → Contains (full_edges old) e → e.source ≢ v → e.target ≢ v → Contains (full_edges new) e
   pub faces : (f : FullFace F) → Contains (full_faces old) f → f.corners.first ≢ v → f.corners.second ≢ v → f.corners.third ≢ v → Contains (full_faces new) f
   pub comes : (e : FullEdge D U) → Contains (full_edges new) e → Contains (full_edges old) e ⊎ HasValueAt old v e.value
-  pub made : MakesFacesNear v (faces_of old.mesh) (faces_of new.mesh)
+  pub made : MakesFaces v pairs (faces_of old.mesh) (faces_of new.mesh)
 
 -- vertex v went and the last vertex took its index: each edge that did not end at v is there afterwards, with all its data,
 -- and an edge that is there afterwards was there so, or has the undirected data of one that ended at v

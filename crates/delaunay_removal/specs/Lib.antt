@@ -2,4 +2,4 @@ pub mod Data
 pub mod Star
 pub mod Hull
 pub mod Freeing
-pub mod Neighbours
+pub mod Pairs

@@ -44,9 +44,10 @@ IsReduced points m v first count = (count ≡ 3) ⊎ ((count ≡ 4) × StandsBet
 abbrev pub IsMeshWithout : ℕ → List Point → List Face → List (ℕ × ℕ) → Type 0
 IsMeshWithout v points faces outer = LocalMeshWithout v points faces outer ⊎ ((faces ≡ []) × LineMeshWithout v points outer)
 
--- vertex v has lost its edges, the mesh is one of the other vertices, and the edges and faces beside v keep their data
-pub record IsolatesVertex {V D U F : Type 0} (points : List Point) (old new : Contents V D U F) (v : ℕ) : Type 0 where
+-- vertex v has lost its edges, the mesh is one of the other vertices, the edges and faces beside v keep their data, and the
+-- pairs are what turned edges join
+pub record IsolatesVertex {V D U F : Type 0} (points : List Point) (old new : Contents V D U F) (v : ℕ) (pairs : List (ℕ × ℕ)) : Type 0 where
   pub contents : new ≡ record old { mesh = new.mesh; directed = new.directed; undirected = new.undirected; faces = new.faces }
   pub alone : IsAlone new.mesh v
   pub shape : IsMeshWithout v points (faces_of new.mesh) (outer_of new.mesh)
-  pub beside : StandsBeside old new v
+  pub beside : StandsBeside old new v pairs

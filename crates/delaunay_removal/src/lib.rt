@@ -1,13 +1,15 @@
 //! Vertices that go from the mesh of a triangulation.
 #![tactic(auto)]
 
+mod border;
 mod freeing;
-mod neighbours;
+mod pairs;
 mod removal;
 mod removal_hull;
 mod removal_inner;
 mod removal_line;
 mod star;
 
-pub use neighbours::neighbours_left;
+pub use border::{room_for_turns, sides_of_hole};
+pub use pairs::{VertexPair, legalize_pairs};
 pub use removal::remove_vertex;

@@ -1,6 +1,7 @@
 //! Vertices that go, with their edges.
 ghost use Rattle.std.specs.Prelude.{◌≡◌, ◌<◌, ◌≤◌};
-ghost use Rattle.std.specs.Prelude.{length, map, All, Some, IsSome, slice_get, vec_capacity};
+ghost use Rattle.std.specs.Prelude.{length, map, All, Some, IsSome, slice_get};
+ghost use Rattle.std.specs.Prelude.{vec_capacity, vec_len};
 ghost use Rattle.half_edge_mesh.specs.Contents.{IsMeshWithData};
 ghost use Rattle.half_edge_mesh.specs.Mesh.{origin, out_edge, IsAlone};
 ghost use Rattle.half_edge_mesh.specs.Removal.{DropsVertex};
@@ -11,10 +12,11 @@ ghost use Rattle.delaunay_legalization.specs.Constraints.{points_and_constraints
 ghost use Rattle.delaunay_legalization.specs.Shape.{IsTriangulated};
 ghost use Rattle.delaunay_legalization.specs.State.{points_and_constraints, state_of};
 ghost use Rattle.delaunay_removal.specs.Data.{KeepsDataBeside, RenumbersEdges};
-ghost use Rattle.delaunay_removal.specs.Neighbours.{LeavesFaces};
+ghost use Rattle.delaunay_removal.specs.Pairs.{HasRoomAt, LeavesFaces};
 ghost use Rattle.delaunay_removal.specs.Star.{IsMeshWithout, IsolatesVertex};
 
 use crate::freeing::free_edges_at;
+use crate::pairs::VertexPair;
 use crate::removal_hull::{isolate_on_hull, outer_edge_beside};
 use crate::removal_inner::isolate_inner;
 use crate::removal_line::remove_on_line;
@@ -63,61 +65,70 @@ fn drop_vertex<V: HasPosition, DE, UE, F>(
     value
 }
 
-// Removes the edges of a vertex in the plane, and its faces. `sides` has room for each edge.
+// Removes the edges of a vertex in the plane, and its faces. `sides` has room for each edge, and
+// `turned` for a pair at each; it gets what each turned one joins.
 fn isolate<V: HasPosition, DE: Drop, UE: Drop, F: Drop, P: PlaneTests<V::Scalar>>(
     dcel: &mut Dcel<V, DE, UE, F>,
     vertex: FixedVertexHandle,
     tests: &P,
     sides: &mut Vec<FixedDirectedEdgeHandle>,
+    turned: &mut Vec<VertexPair>,
 )
     requires kept { IsTriangulated V.place (state_of dcel.old) }
     requires some_face { 0 < length dcel.old.faces }
     requires within { vertex < length dcel.old.vertices }
     requires sites { All (P.sites tests.now) (map V.place dcel.old.vertices) }
     requires room { length dcel.old.directed ≤ vec_capacity sides.old }
-    ensures isolates { IsolatesVertex (map V.place dcel.old.vertices) dcel.old dcel.new vertex }
+    requires pairs { HasRoomAt dcel.old.mesh vertex (vec_len turned.old)
+        (vec_capacity turned.old) }
+    ensures isolates { IsolatesVertex (map V.place dcel.old.vertices) dcel.old dcel.new vertex
+        turned.new.items }
     ensures capacity { vec_capacity sides.new ≡ vec_capacity sides.old }
 {
     dcel.recall_invariant();
     let first = first_edge(dcel, vertex);
     match outer_edge_beside(dcel, first) {
-        Some(edge) => isolate_on_hull(dcel, edge, vertex, tests, sides),
-        None => isolate_inner(dcel, first, vertex, tests),
+        Some(edge) => isolate_on_hull(dcel, edge, vertex, tests, sides, turned),
+        None => isolate_inner(dcel, first, vertex, tests, turned),
     }
 }
 
 // Takes a vertex out, and gives its data back. The hole or the gap that its faces leave is filled
 // so that the others have a mesh, and the last vertex takes its index. `sides` has room for each
-// directed edge.
+// directed edge, and `turned` for a pair at each of the vertex; it gets what each turned one joins.
 fn take_vertex<V: HasPosition, DE: Drop, UE: Drop, F: Drop, P: PlaneTests<V::Scalar>>(
     dcel: &mut Dcel<V, DE, UE, F>,
     vertex: FixedVertexHandle,
     tests: &P,
     sides: &mut Vec<FixedDirectedEdgeHandle>,
+    turned: &mut Vec<VertexPair>,
 ) -> V
     requires kept { IsTriangulated V.place (state_of dcel.old) }
     requires within { vertex < length dcel.old.vertices }
     requires sites { All (P.sites tests.now) (map V.place dcel.old.vertices) }
     requires room { length dcel.old.directed ≤ vec_capacity sides.old }
+    requires pairs { HasRoomAt dcel.old.mesh vertex (vec_len turned.old)
+        (vec_capacity turned.old) }
     ensures value { slice_get dcel.old.vertices vertex ≡ Some result }
     ensures plain { Removes V.place (points_and_constraints (state_of dcel.old))
         (points_and_constraints (state_of dcel.new)) vertex }
     ensures kept { IsTriangulated V.place (state_of dcel.new) }
     ensures data { KeepsDataBeside (state_of dcel.old) (state_of dcel.new) vertex }
-    ensures faces { LeavesFaces (state_of dcel.old) (state_of dcel.new) vertex }
+    ensures faces { LeavesFaces (state_of dcel.old) (state_of dcel.new) vertex turned.new.items }
     ensures edges { RenumbersEdges dcel.old dcel.new vertex }
     ensures capacity { vec_capacity sides.new ≡ vec_capacity sides.old }
 {
     if dcel.num_inner_faces() == 0 {
         return remove_on_line(dcel, vertex);
     }
-    isolate(dcel, vertex, tests, sides);
+    isolate(dcel, vertex, tests, sides, turned);
     drop_vertex(dcel, vertex)
 }
 
 /// Removes a vertex with the constraints that end at it, and gives its data back. The hole or the
 /// gap that its faces leave is filled so that the others have a mesh, and the last vertex takes its
-/// index. Each other constraint stays. `sides` has room for each directed edge.
+/// index. Each other constraint stays. `sides` has room for each directed edge, and `turned` for a
+/// pair at each of the vertex; it gets what each edge joins that was turned away.
 pub fn remove_vertex<
     M: ConstraintMarker<UE>,
     V: HasPosition,
@@ -130,20 +141,23 @@ pub fn remove_vertex<
     vertex: FixedVertexHandle,
     tests: &P,
     sides: &mut Vec<FixedDirectedEdgeHandle>,
+    turned: &mut Vec<VertexPair>,
 ) -> V
     requires kept { IsTriangulated V.place (state_of dcel.old) }
     requires within { vertex < length dcel.old.vertices }
     requires sites { All (P.sites tests.now) (map V.place dcel.old.vertices) }
     requires room { length dcel.old.directed ≤ vec_capacity sides.old }
+    requires pairs { HasRoomAt dcel.old.mesh vertex (vec_len turned.old)
+        (vec_capacity turned.old) }
 
     ensures value { slice_get dcel.old.vertices vertex ≡ Some result }
     ensures plain { Removes V.place (points_and_constraints_by M.constraints (state_of dcel.old))
         (points_and_constraints_by M.constraints (state_of dcel.new)) vertex }
     ensures kept { IsTriangulated V.place (state_of dcel.new) }
     ensures data { KeepsDataBeside (state_of dcel.old) (state_of dcel.new) vertex }
-    ensures faces { LeavesFaces (state_of dcel.old) (state_of dcel.new) vertex }
+    ensures faces { LeavesFaces (state_of dcel.old) (state_of dcel.new) vertex turned.new.items }
     ensures capacity { vec_capacity sides.new ≡ vec_capacity sides.old }
 {
     free_edges_at::<M, _, _, _, _>(dcel, vertex);
-    take_vertex(dcel, vertex, tests, sides)
+    take_vertex(dcel, vertex, tests, sides, turned)
 }

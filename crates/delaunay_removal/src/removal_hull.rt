@@ -1,6 +1,7 @@
 //! A vertex on the hull loses its edges.
-ghost use Rattle.std.specs.Prelude.{◌≡◌, ◌↔◌, ◌-◌, ◌<◌, ◌≤◌};
-ghost use Rattle.std.specs.Prelude.{length, map, All, IsTrue, IfSome, IfNone, vec_capacity};
+ghost use Rattle.std.specs.Prelude.{◌≡◌, ◌↔◌, ◌+◌, ◌-◌, ◌<◌, ◌≤◌, []};
+ghost use Rattle.std.specs.Prelude.{length, map, All, IsTrue, IfSome, IfNone};
+ghost use Rattle.std.specs.Prelude.{vec_capacity, vec_len};
 ghost use Rattle.half_edge_mesh.specs.Mesh.{face, next, origin, rev};
 ghost use Rattle.half_edge_mesh.specs.Round.{neighbour};
 ghost use Rattle.plane.specs.Pairs.{place};
@@ -9,8 +10,10 @@ ghost use Rattle.plane_tiling.specs.Local.{LocalMesh};
 ghost use Rattle.mesh_embedding.specs.Drawn.{faces_of, outer_of};
 ghost use Rattle.delaunay_removal.specs.Data.{StandsBeside};
 ghost use Rattle.delaunay_removal.specs.Hull.{AreSides, HasNoFlippableEdge, IsCornerAt, IsHullStar};
+ghost use Rattle.delaunay_removal.specs.Pairs.{HasRoomAt, KeepsPairs};
 ghost use Rattle.delaunay_removal.specs.Star.{HasInnerFaces, IsolatesVertex};
 
+use crate::pairs::{VertexPair, ends_beside};
 use crate::star::{count_edges, edge_after, end_of, find_convex, opposite_side, turn_away};
 use delaunay_core::math::PlaneTests;
 use delaunay_core::point::HasPosition;
@@ -19,25 +22,31 @@ use half_edge_mesh::{Dcel, FixedDirectedEdgeHandle, FixedVertexHandle, MeshViews
 
 // Turns edges of a vertex on the hull away while one of them lies across a strictly convex
 // quadrilateral. `first` is the one with the outer face on its right. Gives how many are left.
+// `turned` has room for a pair at each edge, and gets what each turned one joins.
 fn shrink_hull_star<V: HasPosition, DE, UE, F, P: PlaneTests<V::Scalar>>(
     dcel: &mut Dcel<V, DE, UE, F>,
     first: FixedDirectedEdgeHandle,
     tests: &P,
+    turned: &mut Vec<VertexPair>,
 ) -> usize
     requires within { first < length dcel.old.directed }
     requires shape { LocalMesh (map V.place dcel.old.vertices) (faces_of dcel.old.mesh)
         (outer_of dcel.old.mesh) }
     requires outer { face dcel.old.mesh (rev first) ≡ 0 }
     requires sites { All (P.sites tests.now) (map V.place dcel.old.vertices) }
+    requires room { HasRoomAt dcel.old.mesh (origin dcel.old.mesh first) (vec_len turned.old)
+        (vec_capacity turned.old) }
     ensures contents { dcel.new ≡ record dcel.old { mesh = dcel.new.mesh } }
     ensures star { IsHullStar (map V.place dcel.new.vertices) dcel.new.mesh
         (origin dcel.old.mesh first) first result }
     ensures bent { HasNoFlippableEdge (map V.place dcel.new.vertices) dcel.new.mesh first result }
-    ensures beside { StandsBeside dcel.old dcel.new (origin dcel.old.mesh first) }
+    ensures beside { StandsBeside dcel.old dcel.new (origin dcel.old.mesh first) turned.new.items }
+    ensures room { vec_len turned.new + result ≤ vec_capacity turned.new }
 {
     let mut count = count_edges(dcel, first);
     dcel.recall_invariant();
     while let Some(edge) = find_convex(dcel, first, count - 2, tests) {
+        turned.push_reserved(ends_beside(dcel, edge));
         turn_away(dcel, edge);
         dcel.recall_invariant();
         count -= 1;
@@ -107,7 +116,7 @@ fn cut_corner<V: HasPosition, DE: Drop, UE: Drop, F: Drop>(
     requires bent { HasNoFlippableEdge (map V.place dcel.old.vertices) dcel.old.mesh first count }
     requires corner { IsCornerAt (map V.place dcel.old.vertices) dcel.old.mesh first }
     requires room { count ≤ vec_capacity sides.old }
-    ensures isolates { IsolatesVertex (map V.place dcel.old.vertices) dcel.old dcel.new vertex }
+    ensures isolates { IsolatesVertex (map V.place dcel.old.vertices) dcel.old dcel.new vertex [] }
     ensures capacity { vec_capacity sides.new ≡ vec_capacity sides.old }
 {
     dcel.recall_invariant();
@@ -117,19 +126,24 @@ fn cut_corner<V: HasPosition, DE: Drop, UE: Drop, F: Drop>(
 }
 
 // Removes the edges of a vertex on a flat side of the hull that has three of them. Its two faces
-// become one.
+// become one. `turned` has room for a pair, and gets what the turned edge joins.
 fn close_flat<V: HasPosition, DE: Drop, UE: Drop, F: Drop>(
     dcel: &mut Dcel<V, DE, UE, F>,
     first: FixedDirectedEdgeHandle,
     vertex: FixedVertexHandle,
+    turned: &mut Vec<VertexPair>,
 )
     requires star { IsHullStar (map V.place dcel.old.vertices) dcel.old.mesh vertex first 3 }
     requires flat { side (place (map V.place dcel.old.vertices) (neighbour dcel.old.mesh first 0))
         (place (map V.place dcel.old.vertices) vertex)
         (place (map V.place dcel.old.vertices) (neighbour dcel.old.mesh first 2)) ≡ on }
-    ensures { IsolatesVertex (map V.place dcel.old.vertices) dcel.old dcel.new vertex }
+    requires room { vec_len turned.old < vec_capacity turned.old }
+    ensures isolates { IsolatesVertex (map V.place dcel.old.vertices) dcel.old dcel.new vertex
+        turned.new.items }
+    ensures pairs { KeepsPairs turned.old.items turned.new.items }
 {
     dcel.recall_invariant();
+    turned.push_reserved(ends_beside(dcel, first));
     turn_away(dcel, first);
     dcel.recall_invariant();
     let sides = [opposite_side(dcel, first)];
@@ -138,7 +152,8 @@ fn close_flat<V: HasPosition, DE: Drop, UE: Drop, F: Drop>(
 }
 
 // Removes the edges of a vertex on the hull, from which `first` starts, with the outer face on its
-// right. `sides` has room for each edge.
+// right. `sides` has room for each edge, and `turned` for a pair at each; it gets what each turned
+// one joins.
 pub(crate) fn isolate_on_hull<
     V: HasPosition,
     DE: Drop,
@@ -151,6 +166,7 @@ pub(crate) fn isolate_on_hull<
     vertex: FixedVertexHandle,
     tests: &P,
     sides: &mut Vec<FixedDirectedEdgeHandle>,
+    turned: &mut Vec<VertexPair>,
 )
     requires within { first < length dcel.old.directed }
     requires starts { origin dcel.old.mesh first ≡ vertex }
@@ -159,15 +175,18 @@ pub(crate) fn isolate_on_hull<
     requires outer { face dcel.old.mesh (rev first) ≡ 0 }
     requires sites { All (P.sites tests.now) (map V.place dcel.old.vertices) }
     requires room { length dcel.old.directed ≤ vec_capacity sides.old }
-    ensures isolates { IsolatesVertex (map V.place dcel.old.vertices) dcel.old dcel.new vertex }
+    requires pairs { HasRoomAt dcel.old.mesh vertex (vec_len turned.old)
+        (vec_capacity turned.old) }
+    ensures isolates { IsolatesVertex (map V.place dcel.old.vertices) dcel.old dcel.new vertex
+        turned.new.items }
     ensures capacity { vec_capacity sides.new ≡ vec_capacity sides.old }
 {
-    let count = shrink_hull_star(dcel, first, tests);
+    let count = shrink_hull_star(dcel, first, tests, turned);
     dcel.recall_invariant();
     if is_corner(dcel, first, tests) {
         cut_corner(dcel, first, count, vertex, sides);
     } else {
-        close_flat(dcel, first, vertex);
+        close_flat(dcel, first, vertex, turned);
     }
 }
 

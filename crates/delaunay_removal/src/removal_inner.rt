@@ -1,5 +1,6 @@
 //! A vertex inside the hull loses its edges.
-ghost use Rattle.std.specs.Prelude.{◌≡◌, ◌↔◌, ◌<◌, length, map, All, IsTrue};
+ghost use Rattle.std.specs.Prelude.{◌≡◌, ◌↔◌, ◌+◌, ◌<◌, ◌≤◌};
+ghost use Rattle.std.specs.Prelude.{length, map, All, IsTrue, vec_capacity, vec_len};
 ghost use Rattle.half_edge_mesh.specs.Mesh.{origin};
 ghost use Rattle.half_edge_mesh.specs.Peel.{IsWheel};
 ghost use Rattle.half_edge_mesh.specs.Round.{neighbour};
@@ -8,9 +9,11 @@ ghost use Rattle.half_edge_mesh.specs.Removal.{FillsHole};
 ghost use Rattle.plane_tiling.specs.Local.{LocalMesh};
 ghost use Rattle.mesh_embedding.specs.Drawn.{faces_of, outer_of};
 ghost use Rattle.delaunay_removal.specs.Data.{StandsBeside};
+ghost use Rattle.delaunay_removal.specs.Pairs.{HasRoomAt, KeepsPairs};
 ghost use Rattle.delaunay_removal.specs.Star.{HasInnerFaces, IsBetweenAt, IsInnerStar, IsReduced};
 ghost use Rattle.delaunay_removal.specs.Star.{IsolatesVertex, StandsBetween};
 
+use crate::pairs::{VertexPair, ends_beside};
 use crate::star::{count_edges, edge_after, end_of, find_convex, opposite_side, turn_away};
 use delaunay_core::math::PlaneTests;
 use delaunay_core::point::HasPosition;
@@ -19,23 +22,27 @@ use half_edge_mesh::{Dcel, FixedDirectedEdgeHandle, FixedVertexHandle};
 
 // Turns edges of an inner vertex away, from which `first` starts, until three are left, or four
 // with the vertex strictly between two ends. Gives one of those that are left, and how many they
-// are.
+// are. `turned` has room for a pair at each edge, and gets what each turned one joins.
 fn shrink_star<V: HasPosition, DE, UE, F, P: PlaneTests<V::Scalar>>(
     dcel: &mut Dcel<V, DE, UE, F>,
     first: FixedDirectedEdgeHandle,
     tests: &P,
+    turned: &mut Vec<VertexPair>,
 ) -> (FixedDirectedEdgeHandle, usize)
     requires within { first < length dcel.old.directed }
     requires shape { LocalMesh (map V.place dcel.old.vertices) (faces_of dcel.old.mesh)
         (outer_of dcel.old.mesh) }
     requires inner { HasInnerFaces dcel.old.mesh (origin dcel.old.mesh first) }
     requires sites { All (P.sites tests.now) (map V.place dcel.old.vertices) }
+    requires room { HasRoomAt dcel.old.mesh (origin dcel.old.mesh first) (vec_len turned.old)
+        (vec_capacity turned.old) }
     ensures contents { dcel.new ≡ record dcel.old { mesh = dcel.new.mesh } }
     ensures star { IsInnerStar (map V.place dcel.old.vertices) dcel.new.mesh
         (origin dcel.old.mesh first) result.0 result.1 }
     ensures reduced { IsReduced (map V.place dcel.old.vertices) dcel.new.mesh
         (origin dcel.old.mesh first) result.0 result.1 }
-    ensures beside { StandsBeside dcel.old dcel.new (origin dcel.old.mesh first) }
+    ensures beside { StandsBeside dcel.old dcel.new (origin dcel.old.mesh first) turned.new.items }
+    ensures room { vec_len turned.new + result.1 ≤ vec_capacity turned.new }
 {
     let mut first = first;
     let mut count = count_edges(dcel, first);
@@ -43,6 +50,7 @@ fn shrink_star<V: HasPosition, DE, UE, F, P: PlaneTests<V::Scalar>>(
         dcel.recall_invariant();
         match find_convex(dcel, first, count, tests) {
             Some(edge) => {
+                turned.push_reserved(ends_beside(dcel, edge));
                 turn_away(dcel, edge);
                 dcel.recall_invariant();
                 first = edge;
@@ -126,28 +134,34 @@ fn edge_beside_line<V: HasPosition, DE, UE, F, P: PlaneTests<V::Scalar>>(
 }
 
 // Removes the edges of a vertex with four neighbours, strictly between two of them, one of which is
-// the end of `first`.
+// the end of `first`. `turned` has room for a pair, and gets what the turned edge joins.
 fn fill_four<V: HasPosition, DE: Drop, UE: Drop, F: Drop>(
     dcel: &mut Dcel<V, DE, UE, F>,
     first: FixedDirectedEdgeHandle,
     vertex: FixedVertexHandle,
+    turned: &mut Vec<VertexPair>,
 )
     requires star { IsInnerStar (map V.place dcel.old.vertices) dcel.old.mesh vertex first 4 }
     requires between { IsBetweenAt (map V.place dcel.old.vertices) dcel.old.mesh first }
-    ensures { IsolatesVertex (map V.place dcel.old.vertices) dcel.old dcel.new vertex }
+    requires room { vec_len turned.old < vec_capacity turned.old }
+    ensures isolates { IsolatesVertex (map V.place dcel.old.vertices) dcel.old dcel.new vertex
+        turned.new.items }
+    ensures pairs { KeepsPairs turned.old.items turned.new.items }
 {
     dcel.recall_invariant();
+    turned.push_reserved(ends_beside(dcel, first));
     turn_away(dcel, first);
     fill_three(dcel, first, vertex);
 }
 
 // Removes the edges of a vertex inside the hull, from which `first` starts, and fills the hole that
-// it leaves.
+// it leaves. `turned` has room for a pair at each edge, and gets what each turned one joins.
 pub(crate) fn isolate_inner<V: HasPosition, DE: Drop, UE: Drop, F: Drop, P: PlaneTests<V::Scalar>>(
     dcel: &mut Dcel<V, DE, UE, F>,
     first: FixedDirectedEdgeHandle,
     vertex: FixedVertexHandle,
     tests: &P,
+    turned: &mut Vec<VertexPair>,
 )
     requires within { first < length dcel.old.directed }
     requires starts { origin dcel.old.mesh first ≡ vertex }
@@ -155,14 +169,17 @@ pub(crate) fn isolate_inner<V: HasPosition, DE: Drop, UE: Drop, F: Drop, P: Plan
         (outer_of dcel.old.mesh) }
     requires inner { HasInnerFaces dcel.old.mesh vertex }
     requires sites { All (P.sites tests.now) (map V.place dcel.old.vertices) }
-    ensures { IsolatesVertex (map V.place dcel.old.vertices) dcel.old dcel.new vertex }
+    requires room { HasRoomAt dcel.old.mesh vertex (vec_len turned.old)
+        (vec_capacity turned.old) }
+    ensures { IsolatesVertex (map V.place dcel.old.vertices) dcel.old dcel.new vertex
+        turned.new.items }
 {
-    let (first, count) = shrink_star(dcel, first, tests);
+    let (first, count) = shrink_star(dcel, first, tests, turned);
     dcel.recall_invariant();
     if count == 3 {
         fill_three(dcel, first, vertex);
     } else {
         let first = edge_beside_line(dcel, first, tests);
-        fill_four(dcel, first, vertex);
+        fill_four(dcel, first, vertex, turned);
     }
 }

@@ -1,5 +1,5 @@
 //! The edges round a vertex, and turns of them.
-ghost use Rattle.std.specs.Prelude.{◌≡◌, ◌≢◌, ◌↔◌, ℕ, ◌*◌, ◌/◌, ◌<◌};
+ghost use Rattle.std.specs.Prelude.{◌≡◌, ◌≢◌, ◌↔◌, ℕ, ◌*◌, ◌/◌, ◌<◌, [], ◌∷◌};
 ghost use Rattle.std.specs.Prelude.{length, map, All, Contains, IsTrue, IfSome, IfNone};
 ghost use Rattle.half_edge_mesh.specs.Flip.{flipped};
 ghost use Rattle.half_edge_mesh.specs.Mesh.{origin, next, face, rev};
@@ -138,7 +138,8 @@ pub(crate) fn turn_away<V: HasPosition, DE, UE, F>(
     ensures triangles { FlipsTriangles dcel.old.mesh dcel.new.mesh
         (2 * (turn dcel.old.mesh edge / 2)) }
     ensures outer { KeepsOuter dcel.old.mesh dcel.new.mesh }
-    ensures beside { StandsBeside dcel.old dcel.new (origin dcel.old.mesh edge) }
+    ensures beside { StandsBeside dcel.old dcel.new (origin dcel.old.mesh edge)
+        ((neighbour dcel.old.mesh edge 0, neighbour dcel.old.mesh edge 2) ∷ []) }
     ensures whole { IsMeshWithData dcel.old }
 {
     dcel.recall_invariant();

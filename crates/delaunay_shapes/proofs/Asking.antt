@@ -30,6 +30,7 @@ at_last j i e = omega (arith, e)
 not_below : (k i : ℕ) → k ≡ i → k < i → ⊥
 not_below k i e h = omega (arith, e, h)
 
+-- a filter that comes to a number inside has found this one, too
 pub filter_finds : (Inside : ℕ → Type 0) (i k : ℕ) (found found' : List ℕ) → IsFilteredTo Inside i found → k ≡ i → Inside k → found' ≡ found ++ k ∷ [] → IsFilteredTo Inside (i + 1) found'
 filter_finds Inside i k found found' f is inside grown = subst (IsFilteredTo Inside (i + 1)) (sym grown) (record { once = once_after found k f.once (λ c. not_below k i is ((f.exact k).0 c).0); exact = λ j. (there j, back j) })
   where
@@ -45,6 +46,7 @@ filter_finds Inside i k found found' f is inside grown = subst (IsFilteredTo Ins
       | inr n ↦ contains_before found k j ((f.exact j).1 (below_other j i p.0 (λ e. n (e ∙ sym is)), p.1))
     ]
 
+-- a filter that comes to a number outside has found what it had
 pub filter_passes : (Inside : ℕ → Type 0) (i k : ℕ) (found : List ℕ) → IsFilteredTo Inside i found → k ≡ i → ¬ Inside k → IsFilteredTo Inside (i + 1) found
 filter_passes Inside i k found f is out = record { once = f.once; exact = λ j. (there j, back j) }
   where
@@ -58,6 +60,7 @@ filter_passes Inside i k found f is out = record { once = f.once; exact = λ j. 
     ]
 
 -- ---- a flood before its first question
+-- a flood begins with nothing asked of and nothing found
 pub none_asked : (Inside : ℕ → Type 0) (count n : ℕ) (asked : List Bool) (found : List ℕ) → asked ≡ replicate n false → n ≡ count
     → found ≡ [] → IsFlooding Inside count asked found
 none_asked Inside count n asked found a e f =
@@ -77,6 +80,7 @@ module _ (Inside : ℕ → Type 0) (count : ℕ) where
   goes_nowhere : (asked : List Bool) (found : List ℕ) → GoesOn asked asked found found
   goes_nowhere asked found = record { kept = λ k h. h; more = []; grown = sym (append-nil found) }
 
+  -- asked of before, the edge changes nothing
   pub asked_before : (asked : List Bool) (found : List ℕ) (k : ℕ) → IsFlooding Inside count asked found → IsAsked asked k → Asks Inside count asked asked found found k
   asked_before asked found k f h = record { flooding = f; on = goes_nowhere asked found; there = h }
 
@@ -89,6 +93,7 @@ module _ (Inside : ℕ → Type 0) (count : ℕ) where
   marks_other : (asked : List Bool) (k j : ℕ) → j ≢ k → IsAsked (set asked k true) j → IsAsked asked j
   marks_other asked k j n h = sym (get_or-set_other asked k j true false n) ∙ h
 
+  -- asked of now, and inside, it is found
   pub asked_inside : (asked asked' : List Bool) (found found' : List ℕ) (k : ℕ) → IsFlooding Inside count asked found → k < count → ¬ IsAsked asked k → Inside k → asked' ≡ set asked k true → found' ≡ found ++ k ∷ []
       → Asks Inside count asked asked' found found' k
   asked_inside asked asked' found found' k f w new inside e grown =
@@ -109,6 +114,7 @@ module _ (Inside : ℕ → Type 0) (count : ℕ) where
         there = get_or-set_same asked k true false here;
       }))
 
+  -- asked of now, and not inside, it is not found
   pub asked_outside : (asked asked' : List Bool) (found : List ℕ) (k : ℕ) → IsFlooding Inside count asked found → k < count → ¬ Inside k → asked' ≡ set asked k true → Asks Inside count asked asked' found found k
   asked_outside asked asked' found k f w out e =
       let here : k < length asked = let l = f.marks in omega (arith, l, w) in
@@ -129,6 +135,7 @@ module _ (Inside : ℕ → Type 0) (count : ℕ) where
       })
 
 -- ---- questions one after the other
+-- a flood that goes on twice has gone on
 pub goes_on_twice : (asked mid asked' : List Bool) (found more found' : List ℕ) → GoesOn asked mid found more → GoesOn mid asked' more found' → GoesOn asked asked' found found'
 goes_on_twice asked mid asked' found more found' a b = record {
   kept = λ k h. b.kept k (a.kept k h);
@@ -136,7 +143,8 @@ goes_on_twice asked mid asked' found more found' a b = record {
   grown = b.grown ∙ ap (λ xs. xs ++ b.more) a.grown ∙ append_assoc found a.more b.more;
 }
 
-pub stays_beside : (m : Mesh) (asked asked' : List Bool) (found found' : List ℕ) (h : ℕ) → GoesOn asked asked' found found' → AreAskedBeside m asked h → AreAskedBeside m asked' h
+-- the edges beside h that a flood has asked of are asked of still when it goes on
+stays_beside : (m : Mesh) (asked asked' : List Bool) (found found' : List ℕ) (h : ℕ) → GoesOn asked asked' found found' → AreAskedBeside m asked h → AreAskedBeside m asked' h
 stays_beside m asked asked' found found' h on b = record { after = on.kept (next m h / 2) b.after; before = on.kept (prev m h / 2) b.before }
 
 -- both edges beside an edge, one after the other
@@ -149,6 +157,7 @@ asked_both Inside m count asked mid asked' found more found' h after before e f 
 }
 
 -- ---- a flood that has spread from the first i edges
+-- the edges beside both directions of each of the first i edges found were asked of
 pub record IsSpreadTo (m : Mesh) (asked : List Bool) (found : List ℕ) (i : ℕ) : Type 0 where
   pub bound : i ≤ length found
   pub left : (j : ℕ) → j < i → AreAskedBeside m asked (2 * get_or found j 0)
@@ -157,6 +166,7 @@ pub record IsSpreadTo (m : Mesh) (asked : List Bool) (found : List ℕ) (i : ℕ
 kept_place : (asked asked' : List Bool) (found found' : List ℕ) (j : ℕ) → GoesOn asked asked' found found' → j < length found → get_or found' j 0 ≡ get_or found j 0
 kept_place asked asked' found found' j on h = ap (λ xs. get_or xs j 0) on.grown ∙ get_or_append_left found on.more 0 j h
 
+-- a flood that asks beside both directions of the next edge found has spread from one edge more
 pub spread_more : (Inside : ℕ → Type 0) (m : Mesh) (count : ℕ) (asked mid asked' : List Bool) (found more found' : List ℕ) (i d : ℕ) → IsSpreadTo m asked found i → i < length found
     → AsksBeside Inside m count asked mid found more (2 * get_or found i d) → AsksBeside Inside m count mid asked' more found' (rev (2 * get_or found i d)) → IsSpreadTo m asked' found' (i + 1)
 spread_more Inside m count asked mid asked' found more found' i d s here a b = record {
@@ -186,6 +196,7 @@ spread_more Inside m count asked mid asked' found more found' i d s here a b = r
     place : (j : ℕ) → j < length found → get_or found' j 0 ≡ get_or found j 0
     place j h = kept_place asked asked' found found' j on h
 
+-- a flood that has spread from the first i edges found, where these are all, has spread from each
 pub spread_ends : (m : Mesh) (asked : List Bool) (found : List ℕ) (i : ℕ) → IsSpreadTo m asked found i → length found ≤ i → IsSpread m asked found
 spread_ends m asked found i s last = record {
   left = λ k c. let w = c.1 in subst (λ x. AreAskedBeside m asked (2 * x)) (get_or_any found c.0 0 k c.1 ∙ c.2) (s.left c.0 (omega (arith, w, last)));
@@ -193,16 +204,19 @@ spread_ends m asked found i s last = record {
 }
 
 -- ---- one after the other, of a list
+-- the flood has asked of the first i of the starts
 pub record AreAskedTo (Inside : ℕ → Type 0) (count : ℕ) (asked : List Bool) (found starts : List ℕ) (i : ℕ) : Type 0 where
   pub flooding : IsFlooding Inside count asked found
   pub all : (j : ℕ) → j < i → IsAsked asked (get_or starts j 0)
 
+-- before the first question none of the starts needs an answer
 pub ask_first : (Inside : ℕ → Type 0) (count : ℕ) (asked : List Bool) (found starts : List ℕ) → IsFlooding Inside count asked found → AreAskedTo Inside count asked found starts 0
 ask_first Inside count asked found starts f = record { flooding = f; all = λ j h. absurd (never j h) }
   where
     never : (j : ℕ) → j < 0 → ⊥
     never j h = omega (arith, h)
 
+-- once one more of the starts is asked of, one more has its answer
 pub ask_more : (Inside : ℕ → Type 0) (count : ℕ) (asked asked' : List Bool) (found found' starts : List ℕ) (i k d : ℕ) → AreAskedTo Inside count asked found starts i → k ≡ get_or starts i d → i < length starts
     → Asks Inside count asked asked' found found' k → AreAskedTo Inside count asked' found' starts (i + 1)
 ask_more Inside count asked asked' found found' starts i k d s is here a = record {
@@ -213,5 +227,6 @@ ask_more Inside count asked asked' found found' starts i k d s is here a = recor
   ];
 }
 
+-- once the end of the starts is reached, each of them has been asked of
 pub ask_last : (Inside : ℕ → Type 0) (count : ℕ) (asked : List Bool) (found starts : List ℕ) (i : ℕ) → AreAskedTo Inside count asked found starts i → length starts ≤ i → (k : ℕ) → Contains starts k → IsAsked asked k
 ask_last Inside count asked found starts i s last k c = let w = c.1 in subst (IsAsked asked) (get_or_any starts c.0 0 k c.1 ∙ c.2) (s.all c.0 (omega (arith, w, last)))

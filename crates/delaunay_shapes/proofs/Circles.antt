@@ -20,23 +20,24 @@ decides_meets c r p q = decides_or _ _ (decides_le (distance_2 c p) r) (decides_
     (decides_and_4 _ _ _ _ (decides_lt (pos 0) (distance_2 p q)) (decides_le (pos 0) (factor p q c)) (decides_le (factor p q c) (distance_2 p q)) (decides_le (distance_2 c p *ℤ distance_2 p q -ℤ factor p q c *ℤ factor p q c) (r *ℤ distance_2 p q))))
 
 -- an answer that is told by the numbers is the test
-pub circle_answer : (c : Point) (r : ℤ) (p q : Point) (b : Bool) → (IsTrue b ↔ MeetsCircle c r p q) → b ≡ meets_circle c r p q
+circle_answer : (c : Point) (r : ℤ) (p q : Point) (b : Bool) → (IsTrue b ↔ MeetsCircle c r p q) → b ≡ meets_circle c r p q
 circle_answer c r p q b h = same_from_decides b (meets_circle c r p q) h (decides_meets c r p q)
 
 -- and tells whether the edge has a point in the circle
-pub circle_inside : (c : Point) (r : ℤ) (p q : Point) (b : Bool) → (IsTrue b ↔ MeetsCircle c r p q) → IsTrue b ↔ HasPointIn (InClosedCircle c r) p q
+circle_inside : (c : Point) (r : ℤ) (p q : Point) (b : Bool) → (IsTrue b ↔ MeetsCircle c r p q) → IsTrue b ↔ HasPointIn (InClosedCircle c r) p q
 circle_inside c r p q b h =
     let law = edge_meets_circle c r p q in
     ((λ t. law.1 (h.0 t)), (λ s. h.1 (law.0 s)))
 
 -- squared distances in both forms
-pub gap_is : (p q : Point) → gap (whole p) (whole q) ≡ distance_2 p q
+gap_is : (p q : Point) → gap (whole p) (whole q) ≡ distance_2 p q
 gap_is p q = ring_in (p.x ∷ p.y ∷ q.x ∷ q.y ∷ [])
     (λ px py qx qy. let o = num 1 in (qx ⊗ o ⊖ px ⊗ o) ⊗ (qx ⊗ o ⊖ px ⊗ o) ⊕ (qy ⊗ o ⊖ py ⊗ o) ⊗ (qy ⊗ o ⊖ py ⊗ o))
     (λ px py qx qy. (qx ⊖ px) ⊗ (qx ⊖ px) ⊕ (qy ⊖ py) ⊗ (qy ⊖ py))
     tt
 
-pub rim_near : (c : Point) (r : ℤ) (p : Point) → (circle_distance c r p ≤ℤ pos 0) ↔ (distance_2 c p ≤ℤ r)
+-- a point is not beyond the rim if and only if its squared distance is at most the squared radius
+rim_near : (c : Point) (r : ℤ) (p : Point) → (circle_distance c r p ≤ℤ pos 0) ↔ (distance_2 c p ≤ℤ r)
 rim_near c r p = rw (gap_is c p) (side (distance_2 c p))
   where
     side : (d : ℤ) → ((d -ℤ r) ≤ℤ pos 0) ↔ (d ≤ℤ r)
@@ -54,7 +55,7 @@ rim_inside c r p d e =
     back g d r e h = omega (arith, ints)
 
 -- near enough to the line, by the distance of an end from the rim
-pub near_by_rim : (d l f r : ℤ) → (((d -ℤ r) *ℤ l) ≤ℤ (f *ℤ f)) ↔ ((d *ℤ l -ℤ f *ℤ f) ≤ℤ (r *ℤ l))
+near_by_rim : (d l f r : ℤ) → (((d -ℤ r) *ℤ l) ≤ℤ (f *ℤ f)) ↔ ((d *ℤ l -ℤ f *ℤ f) ≤ℤ (r *ℤ l))
 near_by_rim d l f r = rw (spread d l r) (side (d *ℤ l) (r *ℤ l) (f *ℤ f))
   where
     spread : (d l r : ℤ) → (d -ℤ r) *ℤ l ≡ d *ℤ l -ℤ r *ℤ l
@@ -76,8 +77,10 @@ near_is_meets c r p q = rw (gap_is p q) (
 told : {A B : Type 0} (b : Bool) → A ↔ B → (IsTrue b ↔ A) → IsTrue b ↔ B
 told b e h = ((λ t. e.0 (h.0 t)), (λ s. h.1 (e.1 s)))
 
+-- an answer that the numbers of the code tell is the test of the edge and the circle
 pub near_answer : (c : Point) (r : ℤ) (p q : Point) (b : Bool) → (IsTrue b ↔ IsEdgeNear c r p q) → b ≡ meets_circle c r p q
 near_answer c r p q b h = circle_answer c r p q b (told b (near_is_meets c r p q) h)
 
+-- an answer that the numbers of the code tell says whether the edge has a point in the circle
 pub near_inside : (c : Point) (r : ℤ) (p q : Point) (b : Bool) → (IsTrue b ↔ IsEdgeNear c r p q) → IsTrue b ↔ HasPointIn (InClosedCircle c r) p q
 near_inside c r p q b h = circle_inside c r p q b (told b (near_is_meets c r p q) h)

@@ -109,6 +109,7 @@ nearest_x {l} {u} {p} {n} s = nearest l.x u.x p.x n.x s.x
 nearest_y : {l u p n : Point} → IsNearestIn l u p n → Nearest l.y u.y p.y n.y
 nearest_y {l} {u} {p} {n} s = nearest l.y u.y p.y n.y s.y
 
+-- the point of a rectangle that is nearest to p is in range, where its corners and p are
 pub nearest_in_range : {l u p n : Point} → InRange l → InRange u → InRange p → IsNearestIn l u p n → InRange n
 nearest_in_range h i j s = record { x = in_range h.x i.x j.x (nearest_x s); y = in_range h.y i.y j.y (nearest_y s) }
 
@@ -127,6 +128,7 @@ nearest_least {l} {u} {p} {n} s r h = subst (λ z. z ≤ℤ gap (whole p) r) (sy
     sum_le : {a b c d : ℤ} → a ≤ℤ b → c ≤ℤ d → (a +ℤ c) ≤ℤ (b +ℤ d)
     sum_le h i = omega (arith, ints)
 
+-- the squared distance to the nearest point of a rectangle is the least to any of its points
 pub nearest_distance : {l u p n : Point} (d : ℤ) → IsNearestIn l u p n → d ≡ gap (whole p) (whole n) → IsLeastDistance (InClosedRectangle l u) p d
 nearest_distance {l} {u} {p} {n} d s e = record { nearest = whole n; in_shape = record { left = from_low (sorted_x l u s.sorted) (nearest_x s); right = to_high (sorted_x l u s.sorted) (nearest_x s); below = from_low (sorted_y l u s.sorted) (nearest_y s); above = to_high (sorted_y l u s.sorted) (nearest_y s) }; far = once e; least = λ r h. subst (λ z. (z *ℤ (r.w *ℤ r.w)) ≤ℤ gap (whole p) r) (sym e) (nearest_least s r h) }
   where

@@ -43,6 +43,7 @@ module _ (points : List Point) (m : Mesh) (v : IsValidMesh m) (shape : IsMesh po
   abbrev t : Triangulation
   t = drawn points m
 
+  -- the mesh is a tiling
   pub tiles : IsTiling t
   tiles = meshes_tile points (faces_of m) (outer_of m) (edges_of m) shape (own_edges m v)
 
@@ -52,6 +53,7 @@ module _ (points : List Point) (m : Mesh) (v : IsValidMesh m) (shape : IsMesh po
   rev_in : (h : ℕ) → h < length m.half_edges → rev h < length m.half_edges
   rev_in h w = rev_within h (length m.half_edges) v.sound.even w
 
+  -- the undirected edge of a directed one is below their count
   pub below_half : (count : ℕ) → 2 * count ≡ length m.half_edges → (h : ℕ) → h < length m.half_edges → h / 2 < count
   below_half count even h w = half_below h count (subst (λ z. h < z) (sym even) w)
 
@@ -73,18 +75,21 @@ module _ (points : List Point) (m : Mesh) (v : IsValidMesh m) (shape : IsMesh po
     turned_in : (h : ℕ) → h < length m.half_edges → IsIn h → IsIn (rev h)
     turned_in h w p = subst (λ g. HasPointIn Shape (point_at points (origin m (rev h))) (point_at points (origin m g))) (sym (rev-rev h)) (turned_edge t Shape (origin m h) (origin m (rev h)) (edge_in h w p)).1
 
+    -- a directed edge with a point in the shape has an undirected edge with one
     pub to_half : (h : ℕ) → h < length m.half_edges → IsIn h → IsEdgeInShape Shape points m (h / 2)
     to_half h w p = elim (halved h) [
       | inl e ↦ subst IsIn (sym e) p
       | inr e ↦ subst IsIn (sym e) (turned_in h w p)
     ]
 
+    -- and a directed edge has a point in it where its undirected edge has
     pub from_half : (h : ℕ) → h < length m.half_edges → IsEdgeInShape Shape points m (h / 2) → IsIn h
     from_half h w p = elim (halved h) [
       | inl e ↦ subst IsIn e p
       | inr e ↦ subst IsIn (rev-rev h) (turned_in (rev h) (rev_in h w) (subst IsIn e p))
     ]
 
+    -- so has the undirected edge of an edge that has one, by the ends of a direction
     pub half_by_ends : (h i j : ℕ) → h < length m.half_edges → origin m h ≡ i → origin m (rev h) ≡ j → IsEdgeIn Shape t i j → IsEdgeInShape Shape points m (h / 2)
     half_by_ends h i j w a b e = to_half h w (subst (λ x. HasPointIn Shape (point_at points x) (point_at points (origin m (rev h)))) (sym a) (subst (λ x. HasPointIn Shape (point_at points i) (point_at points x)) (sym b) e.1))
 
@@ -102,17 +107,20 @@ module _ (points : List Point) (m : Mesh) (v : IsValidMesh m) (shape : IsMesh po
         let r = contains_map_from (pair_at m) found (j, i) c in
         (rev (2 * r.0), rev_in (2 * r.0) (within r.0 r.1), ap (λ q. q.1) r.2, ap (origin m) (rev-rev (2 * r.0)) ∙ ap (λ q. q.0) r.2, subst (Contains found) (sym (half_of_rev r.0)) r.1)
 
+    -- an edge with the ends of a found pair is found
     pub joined_half : (i j h : ℕ) → h < length m.half_edges → origin m h ≡ i → origin m (rev h) ≡ j → Joins pairs i j → Contains found (h / 2)
     joined_half i j h w a b s =
         let r = pair_edge i j s in
         subst (λ g. Contains found (g / 2)) (one_edge h r.0 w r.1 (r.2 ∙ sym a) (r.3 ∙ sym b)) r.4
 
+    -- the ends of an edge that is found are a found pair
     pub half_joined : (h : ℕ) → Contains found (h / 2) → Joins pairs (origin m h) (origin m (rev h))
     half_joined h c = elim (halved h) [
       | inl e ↦ inl (subst (λ g. Contains pairs (origin m g, origin m (rev g))) e (contains_map (pair_at m) found (h / 2) c))
       | inr e ↦ inr (subst (λ g. Contains pairs (origin m (rev h), origin m g)) (rev-rev h) (subst (λ g. Contains pairs (origin m g, origin m (rev g))) e (contains_map (pair_at m) found (h / 2) c)))
     ]
 
+    -- so are two vertices that are its ends
     pub joined_by_ends : (h i j : ℕ) → origin m h ≡ i → origin m (rev h) ≡ j → Contains found (h / 2) → Joins pairs i j
     joined_by_ends h i j a b c = subst (λ x. Joins pairs x j) a (subst (λ x. Joins pairs (origin m h) x) b (half_joined h c))
 
@@ -180,6 +188,7 @@ module _ (points : List Point) (m : Mesh) (v : IsValidMesh m) (shape : IsMesh po
       line_of line (inl s) = absurd (s.some_face line.no_face)
       line_of line (inr s) = s.1
 
+      -- where the next and the last side in the shape are found with an edge, all round is flooded
       pub flooded_around : (region : Region) → ((i j : ℕ) → IsEdgeIn (InRegion region) t i j → IsEdgeIn Shape t i j) → IsFloodedAround t region pairs
       flooded_around region into = record {
         faces = λ hull. record {
@@ -190,6 +199,7 @@ module _ (points : List Point) (m : Mesh) (v : IsValidMesh m) (shape : IsMesh po
       }
 
   -- ---- a flood that has spread
+  -- a flood that has spread from where a region begins has found all edges in it
   pub spread_finds_all : (Shape : Fraction → Type 0) → IsRegion Shape → (count : ℕ) → 2 * count ≡ length m.half_edges → (starts : List ℕ) (asked : List Bool) (found : List ℕ) → IsFlooding (IsEdgeInShape Shape points m) count asked found → IsSpread m asked found
       → IsBegunBy (IsEdgeInShape Shape points m) count starts → ((k : ℕ) → Contains starts k → (k < count) × IsAsked asked k) → AreEdgesInShape Shape points m found
   spread_finds_all Shape shaped count even starts asked found flooding spread begun tried = record {

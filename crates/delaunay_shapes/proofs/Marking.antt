@@ -10,16 +10,17 @@ use Rattle.std.proofs.lemmas.List.FromFn.{length-map-range_with_len, get_or-map-
 use Rattle.delaunay_shapes.specs.Marks.{tests_below}
 
 -- so many entries
-pub tests_count : (n : ℕ) (f : ℕ → Bool) → length (tests_below n f) ≡ n
+tests_count : (n : ℕ) (f : ℕ → Bool) → length (tests_below n f) ≡ n
 tests_count n f = length-map-range_with_len f 0 n
 
 below_count : (n m k : ℕ) → m ≡ n → k < m → k < n
 below_count n m k e h = omega (arith, e, h)
 
 -- the entry at a number is what the test says of it
-pub test_at : (n : ℕ) (f : ℕ → Bool) (k : ℕ) → k < n → get_or (tests_below n f) k false ≡ f k
+test_at : (n : ℕ) (f : ℕ → Bool) (k : ℕ) → k < n → get_or (tests_below n f) k false ≡ f k
 test_at n f k h = get_or-map-range_with_len f 0 n k k false h (omega arith)
 
+-- the entry at a place of the list is what the test says of this number
 pub test_within : (n : ℕ) (f : ℕ → Bool) (k : ℕ) → k < length (tests_below n f)
     → get_or (tests_below n f) k false ≡ f k
 test_within n f k h = test_at n f k (below_count n (length (tests_below n f)) k (tests_count n f) h)

@@ -15,6 +15,7 @@ use Rattle.plane_delaunay.proofs.Floods.EdgeInRectangle.{edge_meets_rectangle}
 use Rattle.delaunay_shapes.specs.Tests.{IsReversed, is_reversed, range_meets, is_left, is_right, are_corners, meets_rectangle}
 use Rattle.delaunay_shapes.proofs.Decided.{decides_le, decides_lt, decides_not, decides_or, decides_and, decides_and_4}
 
+-- the test of the corners of a rectangle decides whether they are reversed
 pub decides_reversed : (l u : Point) → IsTrue (is_reversed l u) ↔ IsReversed l u
 decides_reversed l u = decides_or _ _ (decides_lt u.x l.x) (decides_lt u.y l.y)
 
@@ -43,7 +44,7 @@ pub rectangle_answer : (l u p q : Point) (b : Bool) → (IsTrue b ↔ ((¬ IsRev
 rectangle_answer l u p q b h = same_from_decides b (meets_rectangle l u p q) h (decides_meets l u p q)
 
 -- a reversed rectangle has no point
-pub reversed_is_empty : (l u : Point) (r : Fraction) → InClosedRectangle l u r → ¬ IsReversed l u
+reversed_is_empty : (l u : Point) (r : Fraction) → InClosedRectangle l u r → ¬ IsReversed l u
 reversed_is_empty l u r h = elim [ inl s ↦ apart l.x u.x r.x r.w r.positive h.left h.right s | inr s ↦ apart l.y u.y r.y r.w r.positive h.below h.above s ]
   where
     turned : (a b : ℤ) → a *ℤ b ≡ b *ℤ a
@@ -57,9 +58,11 @@ reversed_is_empty l u r h = elim [ inl s ↦ apart l.x u.x r.x r.w r.positive h.
         let past : (high *ℤ w) <ℤ (low *ℤ w) = subst (λ z. z <ℤ (low *ℤ w)) (turned w high) (subst (λ z. (w *ℤ high) <ℤ z) (turned w low) (mul-lt-mul_ℤ h k)) in
         between (low *ℤ w) (high *ℤ w) x i j past
 
+-- the lower corner of a rectangle that is not reversed is not to the right of the upper one
 pub sorted_x : (l u : Point) → ¬ IsReversed l u → l.x ≤ℤ u.x
 sorted_x l u n = elim (lt_or_ge_ℤ u.x l.x) [ inl h ↦ absurd (n (inl h)) | inr h ↦ h ]
 
+-- the lower corner of a rectangle that is not reversed is not above the upper one
 pub sorted_y : (l u : Point) → ¬ IsReversed l u → l.y ≤ℤ u.y
 sorted_y l u n = elim (lt_or_ge_ℤ u.y l.y) [ inl h ↦ absurd (n (inr h)) | inr h ↦ h ]
 

@@ -36,9 +36,11 @@ module _ (points : List Point) (m : Mesh) (v : IsValidMesh m) (shape : IsMesh po
       go (inl s) = subst (λ x. IsEdgeIn Shape (drawn points m) x j) s.0 (subst (λ x. IsEdgeIn Shape (drawn points m) a x) s.1 e)
       go (inr s) = turned_edge (drawn points m) Shape j i (subst (λ x. IsEdgeIn Shape (drawn points m) x i) s.0 (subst (λ x. IsEdgeIn Shape (drawn points m) a x) s.1 e))
 
+  -- from an edge its undirected edge alone suffices
   pub begun_on_edge : (h : ℕ) → h < length m.half_edges → Contains starts (h / 2) → HasBegun Shape points m starts (on_edge (origin m h) (origin m (rev h)))
   begun_on_edge h w here = record { begun = λ a b same e. listed_edge h (origin m h) (origin m (rev h)) w here refl refl a b same e }
 
+  -- from a face its three sides suffice
   pub begun_on_face : (h : ℕ) → h < length m.half_edges → 0 < face m h → Contains starts (h / 2) → Contains starts (next m h / 2) → Contains starts (prev m h / 2)
       → HasBegun Shape points m starts (on_face (origin m h) (origin m (next m h)) (origin m (prev m h)))
   begun_on_face h w inner first second third = record { begun = λ a b tried e. go a b tried e }
@@ -119,5 +121,6 @@ module _ (points : List Point) (m : Mesh) (v : IsValidMesh m) (shape : IsMesh po
     begun_at (OutsideOfConvexHull e) l s = begun_outside (origin m e) (origin m (rev e)) s
     begun_at NoTriangulation l s = record { begun = λ a b tried e. absurd tried }
 
+    -- where the shape begins at p, the edges to begin with at the place of p suffice
     pub begun_by_starts : (place : PositionInTriangulation) → Locates points m p place → HasStarts (IsEdgeInShape Shape points m) m starts place → (count : ℕ) → 2 * count ≡ length m.half_edges → IsBegunBy (IsEdgeInShape Shape points m) count starts
     begun_by_starts place l s count even = begun_by_location at.region at.same (location_of m place) (subst (λ q. IsLocation (drawn points m) (whole q) (location_of m place)) (sym at.start) l.location) count even (begun_at place l s)

@@ -23,6 +23,7 @@ use Rattle.delaunay_shapes.proofs.Asking.{goes_on_twice, below_other}
 use Rattle.delaunay_shapes.proofs.Flooding.{tiles, half_by_ends}
 
 -- ---- both ends, one after the other
+-- the flood has gone on and asked of both ends of each of the first i edges
 pub record AreEndsAskedTo (Inside : ℕ → Type 0) (m : Mesh) (count : ℕ) (was asked : List Bool) (before found edges : List ℕ) (i : ℕ) : Type 0 where
   pub flooding : IsFlooding Inside count asked found
   pub on : GoesOn was asked before found
@@ -32,6 +33,7 @@ pub record AreEndsAskedTo (Inside : ℕ → Type 0) (m : Mesh) (count : ℕ) (wa
 never : (j : ℕ) → j < 0 → ⊥
 never j h = omega (arith, h)
 
+-- before the first edge none of the ends needs an answer
 pub ends_first : (Inside : ℕ → Type 0) (m : Mesh) (count : ℕ) (asked : List Bool) (found edges : List ℕ) → IsFlooding Inside count asked found → AreEndsAskedTo Inside m count asked asked found found edges 0
 ends_first Inside m count asked found edges f = record {
   flooding = f;
@@ -40,6 +42,7 @@ ends_first Inside m count asked found edges f = record {
   targets = λ j h. absurd (never j h);
 }
 
+-- once both ends of the next edge are asked of, one more edge is done
 pub ends_more : (Inside : ℕ → Type 0) (m : Mesh) (count : ℕ) (was asked mid asked' : List Bool) (before found more found' edges : List ℕ) (i d a b : ℕ) → AreEndsAskedTo Inside m count was asked before found edges i → i < length edges
     → a ≡ origin m (2 * get_or edges i d) → b ≡ origin m (rev (2 * get_or edges i d)) → Asks Inside count asked mid found more a → Asks Inside count mid asked' more found' b → AreEndsAskedTo Inside m count was asked' before found' edges (i + 1)
 ends_more Inside m count was asked mid asked' before found more found' edges i d a b s here p q from to = record {
@@ -55,6 +58,7 @@ ends_more Inside m count was asked mid asked' before found more found' edges i d
   ];
 }
 
+-- once the end of the edges is reached, both ends of each have been asked of
 pub ends_last : (Inside : ℕ → Type 0) (m : Mesh) (count : ℕ) (was asked : List Bool) (before found edges : List ℕ) (i : ℕ) → AreEndsAskedTo Inside m count was asked before found edges i → length edges ≤ i → HasAskedEnds m asked edges
 ends_last Inside m count was asked before found edges i s last = record {
   sources = λ k c. subst (λ (x : ℕ). IsAsked asked (origin m (2 * x))) (get_or_any edges c.0 0 k c.1 ∙ c.2) (s.sources c.0 (less c.0 c.1));
@@ -78,6 +82,7 @@ module _ (points : List Point) (m : Mesh) (v : IsValidMesh m) (shape : IsMesh po
     | inr n ↦ absurd (distinct i j a b n (λ t. whole (record { x = same_number (point_at points i).x (point_at points j).x s.x t; y = same_number (point_at points i).y (point_at points j).y s.y t })))
   ]
 
+  -- asked of both ends of each edge in a region, a flood has found all vertices in it
   pub ends_are_all : (Shape : Fraction → Type 0) → IsRegion Shape → (edges : List ℕ) → AreEdgesInShape Shape points m edges → (asked : List Bool) (found : List ℕ) → IsFlooding (λ i. Shape (whole (point_at points i))) (length points) asked found
       → HasAskedEnds m asked edges → (length points ≡ 1 → IsAsked asked 0) → AreVerticesInShape Shape points found
   ends_are_all Shape shaped edges exact asked found flooding ends alone = record {

@@ -8,6 +8,7 @@ use Rattle.plane_delaunay.specs.Flood.{Region, InRegion, IsTried}
 use Rattle.mesh_embedding.specs.Drawn.{drawn}
 use Rattle.delaunay_shapes.specs.InShape.{IsEdgeInShape}
 
+-- the flood has asked of edge or vertex k
 abbrev pub IsAsked : List Bool → ℕ → Type 0
 IsAsked asked k = slice_index_or asked k false ≡ true
 

@@ -19,9 +19,11 @@ falls_near c r p q = int_lt (pos 0) (distance_2 p q) && (int_le (pos 0) (factor 
 abbrev pub FallsOn : Point → ℤ → Point → Point → Type 0
 FallsOn c r p q = ((pos 0 ≤ℤ along p q c) × (along p q c ≤ℤ gap (whole p) (whole q))) × ((circle_distance c r p *ℤ gap (whole p) (whole q)) ≤ℤ (along p q c *ℤ along p q c))
 
+-- the edge has a length, and the centre falls on it, near enough to its line
 abbrev pub FallsNear : Point → ℤ → Point → Point → Type 0
 FallsNear c r p q = (pos 0 <ℤ gap (whole p) (whole q)) × FallsOn c r p q
 
+-- an end is in the circle, or the centre falls near the edge, in the numbers that the code has
 abbrev pub IsEdgeNear : Point → ℤ → Point → Point → Type 0
 IsEdgeNear c r p q = (circle_distance c r p ≤ℤ pos 0) ⊎ ((circle_distance c r q ≤ℤ pos 0) ⊎ FallsNear c r p q)
 
@@ -33,17 +35,21 @@ meets_circle c r p q = int_le (distance_2 c p) r || (int_le (distance_2 c q) r |
 abbrev pub IsReversed : Point → Point → Type 0
 IsReversed lower upper = (upper.x <ℤ lower.x) ⊎ (upper.y <ℤ lower.y)
 
+-- the test whether the corners are reversed, in one axis or both
 abbrev pub is_reversed : Point → Point → Bool
 is_reversed lower upper = int_lt upper.x lower.x || int_lt upper.y lower.y
 
+-- the test whether the ranges from low to high and between a and b meet, where low is at most high
 abbrev pub range_meets : ℤ → ℤ → ℤ → ℤ → Bool
 range_meets low high a b = (int_le low a || int_le low b) && (int_le a high || int_le b high)
 
+-- the test whether a side is left
 abbrev pub is_left : Side → Bool
 is_left left = true
 is_left right = false
 is_left on = false
 
+-- the test whether a side is right
 abbrev pub is_right : Side → Bool
 is_right left = false
 is_right right = true

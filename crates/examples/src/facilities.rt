@@ -51,12 +51,13 @@ const FIRES: [(i64, i64); 6] = [
     (-1000, -1900),
 ];
 
-fn open_all(stations: &mut Stations) -> Result<(), InsertionError> {
+/// Tells how many stations there are then.
+fn open_all(stations: &mut impl Triangulation<Vertex = Station>) -> Result<usize, InsertionError> {
     for (name, x, y) in STATIONS {
         let place = Point2::new(x, y);
         stations.insert(Station { name, place }, &ExactTests)?;
     }
-    Ok(())
+    Ok(stations.num_vertices())
 }
 
 /// Nothing where the place is too far off, or no station is open.
@@ -79,18 +80,24 @@ fn send_crews(rt: &HostRuntime, stations: &Stations) -> anyhow::Result<()> {
 }
 
 /// Closes the station in the vineyard.
-fn close(rt: &HostRuntime, stations: &mut Stations) -> anyhow::Result<()> {
+fn close(
+    rt: &HostRuntime,
+    stations: &mut impl Triangulation<Vertex = Station>,
+) -> anyhow::Result<()> {
     if let Some(closed) = stations.locate_and_remove(Point2::new(2600, 2200), &ExactTests)? {
         println!(rt; "{} closes", closed.name)?;
     }
     Ok(())
 }
 
+fn serve(rt: &HostRuntime, stations: &mut Stations) -> anyhow::Result<()> {
+    let count = open_all(stations)?;
+    println!(rt; "{count} stations")?;
+    send_crews(rt, stations)?;
+    close(rt, stations)?;
+    send_crews(rt, stations)
+}
+
 pub fn run(rt: &HostRuntime) -> anyhow::Result<()> {
-    let mut stations = Stations::new(rt.alloc());
-    open_all(&mut stations)?;
-    println!(rt; "{} stations", stations.num_vertices())?;
-    send_crews(rt, &stations)?;
-    close(rt, &mut stations)?;
-    send_crews(rt, &stations)
+    serve(rt, &mut Stations::new(rt.alloc()))
 }

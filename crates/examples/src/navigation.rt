@@ -53,11 +53,6 @@ fn build_all(rt: &HostRuntime, hall: &mut Hall) -> anyhow::Result<()> {
         };
         println!(rt; "wall from {a} {b} to {c} {d}: {done}")?;
     }
-    println!(rt;
-        "{} faces, {} constraints",
-        hall.num_inner_faces(),
-        hall.num_constraints()
-    )?;
     Ok(())
 }
 
@@ -93,23 +88,31 @@ fn take_down(hall: &mut Hall, place: Point2<i64>) -> anyhow::Result<bool> {
     }
 }
 
-fn mark_corners(hall: &mut Hall) -> Result<(), InsertionError> {
+fn mark_corners(hall: &mut impl Triangulation<Vertex = Point2<i64>>) -> Result<(), InsertionError> {
     for (x, y) in CORNERS {
         hall.insert(Point2::new(x, y), &ExactTests)?;
     }
     Ok(())
 }
 
-pub fn run(rt: &HostRuntime) -> anyhow::Result<()> {
-    let mut hall = Hall::new(rt.alloc());
-    mark_corners(&mut hall)?;
-    build_all(rt, &mut hall)?;
-    look(rt, &hall)?;
+fn guard(rt: &HostRuntime, hall: &mut Hall) -> anyhow::Result<()> {
+    mark_corners(hall)?;
+    build_all(rt, hall)?;
+    println!(rt;
+        "{} faces, {} constraints",
+        hall.num_inner_faces(),
+        hall.num_constraints()
+    )?;
+    look(rt, hall)?;
     let (x, y) = TAKEN;
-    let gone = take_down(&mut hall, Point2::new(x, y))?;
+    let gone = take_down(hall, Point2::new(x, y))?;
     println!(rt;
         "wall at {x} {y}: {}",
         if gone { "taken down" } else { "not there" }
     )?;
-    look(rt, &hall)
+    look(rt, hall)
+}
+
+pub fn run(rt: &HostRuntime) -> anyhow::Result<()> {
+    guard(rt, &mut Hall::new(rt.alloc()))
 }

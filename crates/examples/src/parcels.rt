@@ -37,17 +37,23 @@ const OWNERS: [(&str, i64, i64); 4] = [
     ("Diaz", 30, 50),
 ];
 
-/// Gives the parcel at a place to an owner. A place outside of all parcels changes nothing.
-fn sell(map: &mut Map, place: Point2<i64>, owner: &'static str) {
-    if validate_vertex(&place).is_err() {
-        return;
-    }
-    if let PositionInTriangulation::OnFace(face) = map.locate(place, &ExactTests) {
-        map.face_data_mut(face).owner = Some(owner);
+/// Gives each parcel to its owner. A place outside of all parcels changes nothing.
+fn sell_all(map: &mut impl Triangulation<Vertex = Point2<i64>, Face = Parcel>) {
+    for (owner, x, y) in OWNERS {
+        let place = Point2::new(x, y);
+        if validate_vertex(&place).is_err() {
+            continue;
+        }
+        if let PositionInTriangulation::OnFace(face) = map.locate(place, &ExactTests) {
+            map.face_data_mut(face).owner = Some(owner);
+        }
     }
 }
 
-fn owner_at(map: &Map, place: Point2<i64>) -> Option<&'static str> {
+fn owner_at(
+    map: &impl Triangulation<Vertex = Point2<i64>, Face = Parcel>,
+    place: Point2<i64>,
+) -> Option<&'static str> {
     if validate_vertex(&place).is_err() {
         return None;
     }
@@ -57,7 +63,10 @@ fn owner_at(map: &Map, place: Point2<i64>) -> Option<&'static str> {
     }
 }
 
-fn report(rt: &HostRuntime, map: &Map) -> anyhow::Result<()> {
+fn report(
+    rt: &HostRuntime,
+    map: &impl Triangulation<Vertex = Point2<i64>, Face = Parcel>,
+) -> anyhow::Result<()> {
     println!(rt; "{} parcels", map.num_inner_faces())?;
     for (_, x, y) in OWNERS {
         let owner = owner_at(map, Point2::new(x, y)).unwrap_or("nobody's");
@@ -66,35 +75,36 @@ fn report(rt: &HostRuntime, map: &Map) -> anyhow::Result<()> {
     Ok(())
 }
 
-fn set_stones(map: &mut Map) -> Result<(), InsertionError> {
+fn set_stones(map: &mut impl Triangulation<Vertex = Point2<i64>>) -> Result<(), InsertionError> {
     for (x, y) in STONES {
         map.insert(Point2::new(x, y), &ExactTests)?;
     }
     Ok(())
 }
 
-fn sell_all(map: &mut Map) {
-    for (owner, x, y) in OWNERS {
-        sell(map, Point2::new(x, y), owner);
-    }
-}
-
 /// The flood takes its stone.
-fn lose_stone(map: &mut Map) -> anyhow::Result<()> {
+fn lose_stone(map: &mut impl Triangulation<Vertex = Point2<i64>>) -> anyhow::Result<()> {
     let (x, y) = LOST;
-    if validate_vertex(&Point2::new(x, y)).is_ok() {
-        map.locate_and_remove(Point2::new(x, y), &ExactTests)?;
+    let place = Point2::new(x, y);
+    if validate_vertex(&place).is_ok() {
+        map.locate_and_remove(place, &ExactTests)?;
     }
     Ok(())
 }
 
-pub fn run(rt: &HostRuntime) -> anyhow::Result<()> {
-    let mut map = Map::new(rt.alloc());
-    set_stones(&mut map)?;
-    sell_all(&mut map);
-    report(rt, &map)?;
-    lose_stone(&mut map)?;
+fn settle(
+    rt: &HostRuntime,
+    map: &mut impl Triangulation<Vertex = Point2<i64>, Face = Parcel>,
+) -> anyhow::Result<()> {
+    set_stones(map)?;
+    sell_all(map);
+    report(rt, map)?;
+    lose_stone(map)?;
     let (x, y) = LOST;
     println!(rt; "the stone at {x} {y} is lost")?;
-    report(rt, &map)
+    report(rt, map)
+}
+
+pub fn run(rt: &HostRuntime) -> anyhow::Result<()> {
+    settle(rt, &mut Map::new(rt.alloc()))
 }

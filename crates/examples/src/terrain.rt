@@ -64,7 +64,10 @@ fn post_at(column: u8, row: u8) -> Post
 }
 
 /// Adds the posts that the cloud hid, or all others.
-fn survey(terrain: &mut Terrain, hidden: bool) -> Result<(), InsertionError> {
+fn survey(
+    terrain: &mut impl Triangulation<Vertex = Post>,
+    hidden: bool,
+) -> Result<(), InsertionError> {
     for row in 0..SIDE {
         for column in 0..SIDE {
             if is_hidden(column, row) == hidden {
@@ -76,7 +79,10 @@ fn survey(terrain: &mut Terrain, hidden: bool) -> Result<(), InsertionError> {
 }
 
 /// The lowest and the highest corner of the face at a place; that of a post is its own.
-fn heights_at(terrain: &Terrain, place: Point2<i64>) -> Option<(i32, i32)> {
+fn heights_at(
+    terrain: &impl Triangulation<Vertex = Post>,
+    place: Point2<i64>,
+) -> Option<(i32, i32)> {
     if validate_vertex(&place).is_err() {
         return None;
     }
@@ -99,7 +105,7 @@ fn heights_at(terrain: &Terrain, place: Point2<i64>) -> Option<(i32, i32)> {
     }
 }
 
-fn report(rt: &HostRuntime, terrain: &Terrain) -> anyhow::Result<()> {
+fn report(rt: &HostRuntime, terrain: &impl Triangulation<Vertex = Post>) -> anyhow::Result<()> {
     println!(rt;
         "{} posts, {} edges, {} faces, {} edges round them",
         terrain.num_vertices(),
@@ -116,10 +122,17 @@ fn report(rt: &HostRuntime, terrain: &Terrain) -> anyhow::Result<()> {
     Ok(())
 }
 
+/// Surveys twice, and reports after each survey.
+fn survey_twice(
+    rt: &HostRuntime,
+    terrain: &mut impl Triangulation<Vertex = Post>,
+) -> anyhow::Result<()> {
+    survey(terrain, false)?;
+    report(rt, terrain)?;
+    survey(terrain, true)?;
+    report(rt, terrain)
+}
+
 pub fn run(rt: &HostRuntime) -> anyhow::Result<()> {
-    let mut terrain = Terrain::new(rt.alloc());
-    survey(&mut terrain, false)?;
-    report(rt, &terrain)?;
-    survey(&mut terrain, true)?;
-    report(rt, &terrain)
+    survey_twice(rt, &mut Terrain::new(rt.alloc()))
 }

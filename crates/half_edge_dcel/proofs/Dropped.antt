@@ -15,6 +15,7 @@ use Rattle.half_edge_links.proofs.Lists.Rev.{rev_within}
 use Rattle.half_edge_dcel.proofs.Outlines.{listed, passed_over}
 use Rattle.half_edge_dcel.specs.Removal.{full_edges_of, full_faces_of, renumbered_edge, renumbered_face, renumbered_ends}
 
+-- corners under new indexes, where vertex v has gone and the last one has taken its index
 abbrev pub renumbered_triangle : ℕ → ℕ → Triangle → Triangle
 renumbered_triangle last v t = record { first = moved last v t.first; second = moved last v t.second; third = moved last v t.third }
 
@@ -32,9 +33,11 @@ module _ (last v : ℕ) where
   faces_renumbered (t ∷ ts) (f ∷ fs) = ap (λ xs. record { corners = renumbered_triangle last v t; value = f } ∷ xs) (faces_renumbered ts fs)
 
 module _ (m new : Mesh) (v n : ℕ) (at : n ≡ length m.out_edges) where
+  -- the edges with their data are the former ones, with new indexes as ends
   pub edges_dropped : {D U : Type 0} (us : List U) (ds : List D) → MovesEnds m new v → full_edges_of (ends new) us ds ≡ map (renumbered_edge (n - 1) v) (full_edges_of (ends m) us ds)
   edges_dropped us ds moves = rw at (ap (λ es. full_edges_of es us ds) moves ∙ edges_renumbered (length m.out_edges - 1) v (ends m) us ds)
 
+  -- the faces with their data are the former ones, with new indexes as corners
   pub faces_dropped : {F : Type 0} (fs : List F) → MovesTriangles m new v → full_faces_of (triangles new) fs ≡ map (renumbered_face (n - 1) v) (full_faces_of (triangles m) fs)
   faces_dropped fs moves = rw at (ap (λ ts. full_faces_of ts fs) moves ∙ faces_renumbered (length m.out_edges - 1) v (triangles m) fs)
 
@@ -60,5 +63,6 @@ module _ (m new : Mesh) (v : ℕ) (s : AreSoundLinks m) (c : MovesVertex m new v
             passed_over new k (rw c.faces some) ∙ rest ∙ sym (ap (map (renumbered_ends (length m.out_edges - 1) v)) (passed_over m k some))
       ]
 
+  -- the list of outer edges is the former one, with new indexes as ends
   pub outline_dropped : (n : ℕ) → n ≡ length m.out_edges → outline new ≡ map (renumbered_ends (n - 1) v) (outline m)
   outline_dropped n at = rw at (ap (outer_among new) c.edge_count ∙ among_renumbered (length m.half_edges) (omega arith))

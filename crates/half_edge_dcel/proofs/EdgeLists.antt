@@ -10,6 +10,7 @@ use Rattle.half_edge_links.proofs.Sound.Ends.{length-paired}
 use Rattle.half_edge_dcel.specs.Contents.{FitsMesh, edge_with, edges_of}
 use Rattle.half_edge_dcel.specs.Growth.{Grows, MovesItem, AddsEdges, SplitsEdge, with_ends, LeavesItem, MovesTwoItems}
 
+-- edges with their data of two lists in a row are those of the first and then those of the second
 pub edges_of-append : {U : Type 0} (es fs : List Ends) (us vs : List U) → length us ≡ length es → edges_of (es ++ fs) (us ++ vs) ≡ edges_of es us ++ edges_of fs vs
 edges_of-append [] fs [] vs same = refl
 edges_of-append [] fs (u ∷ us) vs same = absurd (omega (arith, same))
@@ -78,6 +79,7 @@ along-even k a b = let even : (2 * k) % 2 ≡ 0 = omega arith in rw even refl
 slice_get-set_other : {X : Type 0} (xs : List X) (i j : ℕ) (a x : X) → j ≢ i → slice_get (set xs i a) j ≡ Some x → slice_get xs j ≡ Some x
 slice_get-set_other xs i j a x apart is = grind (arith, common_steps, gets)
 
+-- an item that was taken, with a new one left for it, and pushed has moved to the end of what was there
 pub moves_item : {X : Type 0} (P : X → Type 0) (old left pushed new : List X) (i more : ℕ) (kept : X) → slice_get old i ≡ Some kept → LeavesItem P old left i → pushed ≡ left ++ kept ∷ [] → Grows P pushed new more → MovesItem P old new i more
 moves_item P old left pushed new i more kept was l push g = record {
   kept = kept;
@@ -90,6 +92,7 @@ moves_item P old left pushed new i more kept was l push g = record {
   whole = rw (g.whole, push, l.whole) (append_assoc (set old i l.made) (kept ∷ []) g.added);
 }
 
+-- two items that were taken, with new ones left for them, and pushed have moved to the end
 pub moves_two_items : {X : Type 0} (P : X → Type 0) (old middle left first second new : List X) (i j more : ℕ) (kept also_kept : X) → i ≢ j → slice_get old i ≡ Some kept → LeavesItem P old middle i → slice_get middle j ≡ Some also_kept → LeavesItem P middle left j → first ≡ left ++ kept ∷ [] → second ≡ first ++ also_kept ∷ [] → Grows P second new more → MovesTwoItems P old new i j more
 moves_two_items P old middle left first second new i j more kept also_kept apart was l also_was k push push_also g = record {
   kept = kept;

@@ -192,6 +192,7 @@ module _ {V D U F : Type 0} (old c new : Contents V D U F) (o turned : ℕ) (who
       let value_is : x.value ≡ y.value = ap (λ (z : FullFace F). z.value) (sym read) ∙ value_at c whole i d at.1 ∙ ap (λ xs. get_or xs i d.value) fs ∙ sym (value_at old whole_old i d inside) in
       (y, in_round y (Contains-filter (has_corner v) (full_faces old) y (Contains-get_or (full_faces old) i d inside) (f.corners i there)), g.former.2 ∙ value_is)
 
+  -- vertex v loses its edges and faces, and a fan of faces between its neighbours fills the hole
   pub hole_filled : FillsWithFan old new v n K
   hole_filled =
       let three_less : K - 3 ≡ turned = omega arith in

@@ -30,9 +30,11 @@ use Rattle.half_edge_dcel.proofs.TakenEdges.{named_corners}
 
 -- the corners of a face at a vertex with three faces
 module _ (m : Mesh) (o : ℕ) (s : AreSoundLinks m) (w : IsFullWheel m o) where
+  -- the corners of the first face are the vertex and the first two neighbours
   pub first_face : triangle_at m o ≡ record { first = origin m o; second = neighbour m o 0; third = neighbour m o 1 }
   first_face = λ i. record { first = origin m o; second = (s.edges o w.wheel.within).starts i; third = origin m (wheel.before_o m o s w i) }
 
+  -- the corners of the third face are the vertex, the third neighbour and the one after it
   pub third_face : triangle_at m (turn m (turn m o)) ≡ record { first = origin m o; second = neighbour m o 2; third = neighbour m o 3 }
   third_face = λ i. record {
     first = (wheel.turn_starts m o s w (turn m o) (wheel.a_in m o s w) ∙ wheel.turn_starts m o s w o w.wheel.within) i;
@@ -48,6 +50,7 @@ fan_face m a z v c0 c1 c2 s h =
     let last : origin m (prev m a) ≡ c2 = ap (origin m) (sym (rev-rev (prev m a)) ∙ ap rev f.spoke) ∙ sym (s.edges z f.within).starts ∙ h.third in
     (λ i. joins (h.start i) (end i), λ i. record { first = h.start i; second = h.second i; third = last i })
 
+-- the last edge of a vertex in a hole with three corners joins it and the third of them
 pub last_spoke : (m : Mesh) (z v c0 c1 c2 : ℕ) → AreSoundLinks m → z < length m.half_edges → IsHoleOfThree m z v c0 c1 c2 → joins (origin m z) (origin m (rev z)) ≡ joins v c2
 last_spoke m z v c0 c1 c2 s within h = λ i. joins (h.start i) ((sym (s.edges z within).starts ∙ h.third) i)
 
@@ -68,6 +71,7 @@ outer_filled {V} {D} {U} {F} old new v n lost made rest again a b edges lost_are
     omega (arith, ints, o, gone, come, wrap, back)
 
 -- ---- all steps
+-- the steps that take out a vertex with three faces, one after another, leave one face in its place
 pub fills_hole : {V D U F : Type 0} (c0 c1 c2 c3 c4 c5 : Contents V D U F) (o spoke z : ℕ) (made : FullFace F) → IsMeshWithData c0 → IsMeshWithData c2 → IsMeshWithData c3 → IsMeshWithData c5 → (w : IsFullWheel c0.mesh o)
     → (h : IsHoleOfFour c2.mesh spoke z (origin c0.mesh o) (neighbour c0.mesh o 0) (neighbour c0.mesh o 1) (neighbour c0.mesh o 2))
     → IsSameBut c0 c5 → IsAlone c5.mesh (origin c0.mesh o)
@@ -128,6 +132,7 @@ module _ {V D U F : Type 0} (c0 c1 c2 c3 : Contents V D U F) (o face_is spoke pe
   opened_third : Opens m c1.mesh (face m third)
   opened_third = rw is_third at opens
 
+  -- the first edge may be peeled off once the third face is open
   pub first_peelable : IsPeelable c1.mesh o
   first_peelable = peelable c1.mesh o (wheel.peelable_first m o s w c1.mesh opened_third)
 
@@ -135,6 +140,7 @@ module _ {V D U F : Type 0} (c0 c1 c2 c3 : Contents V D U F) (o face_is spoke pe
     four : (z : ℕ) × IsHoleOfFour c2.mesh spoke z (origin m o) (neighbour m o 0) (neighbour m o 1) (neighbour m o 2)
     four = hole_of_four m c1.mesh c2.mesh o spoke s w opened_third one spoke_is
 
+    -- the second edge may be peeled off once the first is gone
     pub second_peelable : IsPeelable c2.mesh spoke
     second_peelable = peelable c2.mesh spoke four.1.fan.peelable
 
@@ -142,17 +148,21 @@ module _ {V D U F : Type 0} (c0 c1 c2 c3 : Contents V D U F) (o face_is spoke pe
       three : IsHoleOfThree c3.mesh pendant (origin m o) (neighbour m o 0) (neighbour m o 1) (neighbour m o 2)
       three = hole_of_three c2.mesh c3.mesh spoke four.0 pendant _ _ _ _ w2.valid.sound four.1 two pendant_is
 
+      -- the last edge is in the mesh that the two steps leave
       pub pendant_within : pendant < length c3.mesh.half_edges
       pendant_within = three.fan.within
 
       module _ (w3 : IsMeshWithData c3) where
+        -- the last edge may be removed once the two others are gone
         pub pendant_removable : IsRemovable c3.mesh pendant
         pendant_removable = removable c3.mesh pendant (removable_last c3.mesh pendant w3.valid.sound three.fan)
 
         module _ (c4 : Contents V D U F) (border : ℕ) (border_is : border ≡ after_removal c3.mesh pendant (next c3.mesh pendant)) (gone : Removes c3.mesh c4.mesh pendant) where
+          -- the three edges round the hole are an open triangle once the last edge is gone
           pub border_open : IsOpenTriangle c4.mesh border
           border_open = rw border_is (open_triangle c3.mesh c4.mesh pendant w3.valid.sound three.fan gone)
 
+          -- there is still room for a face before the hole is filled
           pub has_room : length c1.faces + 1 ≤ c1.room.faces → c2 ≡ record c1 { mesh = c2.mesh; directed = c2.directed; undirected = c2.undirected; faces = c2.faces } → c3 ≡ record c2 { mesh = c3.mesh; directed = c3.directed; undirected = c3.undirected; faces = c3.faces }
               → c4 ≡ record c3 { mesh = c4.mesh; directed = c4.directed; undirected = c4.undirected } → length c4.faces + 1 ≤ c4.room.faces
           has_room spare a b d =
@@ -160,6 +170,7 @@ module _ {V D U F : Type 0} (c0 c1 c2 c3 : Contents V D U F) (o face_is spoke pe
               let n : length c4.faces ≡ length c3.faces = ap (λ (x : Contents V D U F). length x.faces) d in
               omega (arith, spare, r, n, w1.fits.faces_fit, w2.fits.faces_fit, w3.fits.faces_fit, peels_faces _ _ _ one, peels_faces _ _ _ two)
 
+          -- the steps take out the vertex and fill the hole with one face
           pub collapsed : (c5 : Contents V D U F) (value : F) → IsMeshWithData c5 → c1 ≡ record c0 { mesh = c1.mesh; faces = c1.faces } → GivesFace c0 c1 (triangle_at m (face_edge m face_is)) value → ends c1.mesh ≡ ends m
               → IsSameBut c1 c2 → LosesEdges c1 c2 (joins (origin c1.mesh o) (origin c1.mesh (rev o)) ∷ []) → LosesFaces c1 c2 (triangle_at c1.mesh o ∷ [])
               → IsSameBut c2 c3 → LosesEdges c2 c3 (joins (origin c2.mesh spoke) (origin c2.mesh (rev spoke)) ∷ []) → LosesFaces c2 c3 (triangle_at c2.mesh spoke ∷ [])

@@ -26,6 +26,7 @@ use Rattle.half_edge_dcel.proofs.Touching.{has_corner, corner_there, corners_off
 
 -- the edge after one between two inner faces can be turned
 module _ (m : Mesh) (o : ℕ) (v : IsValidMesh m) (within : o < length m.half_edges) (inner : 0 < face m o) where
+  -- the next edge round the vertex can be turned, if it has an inner face too
   pub turnable : 0 < face m (turn m o) → IsFlippable m (turn m o)
   turnable second = flippable m (turn m o) v (turn_in m v o within) second (rw (rev-rev (prev m o), (loop_at m o v.sound within inner).face_prev) inner)
 
@@ -145,6 +146,7 @@ module _ (m : Mesh) (o k : ℕ) (v : IsValidMesh m) (w : IsHub m o (suc k)) (som
             let same : face new (spoke new o (suc i)) ≡ face m (spoke m o (suc (suc i))) = ap (face new) (spokes_after (suc i) (omega arith) (omega (arith, within))) ∙ ap (λ (x : HalfEdge). x.face) (kept_at i (omega (arith, within))) in
             rw same (w.inner (suc (suc i)) (omega (arith, within)))
 
+-- where each inner face has its data, there are as many faces with their data as inner faces
 pub count_faces : {F : Type 0} (m : Mesh) (fs : List F) → length fs ≡ length m.face_edges → length (full_faces_of (triangles m) fs) ≡ length m.face_edges
 count_faces m fs fits = let n = length-map m.face_edges (triangle_at m) in length-full_faces (triangles m) fs (fits ∙ sym n) ∙ n
 
@@ -152,6 +154,7 @@ count_faces m fs fits = let n = length-map m.face_edges (triangle_at m) in lengt
 pub no_face_of : {F : Type 0} → ℕ → F → FullFace F
 no_face_of v value = record { corners = record { first = suc v; second = suc v; third = suc v }; value = value }
 
+-- the face that is made not to have corner v does not have it
 pub no_face-off : {F : Type 0} (v : ℕ) (value : F) → has_corner v (no_face_of v value) ≡ false
 unfolding no_face_of
 no_face-off v value = corners_off v (no_face_of v value) (λ q. absurd (omega (arith, q))) (λ q. absurd (omega (arith, q))) (λ q. absurd (omega (arith, q)))
@@ -229,6 +232,7 @@ module _ {V D U F : Type 0} (c : Contents V D U F) (o j : ℕ) (whole : IsMeshWi
   zip_up_to zero less = tt
   zip_up_to (suc i) less = (corners_at i (omega (arith, less)), zip_up_to i (omega (arith, less)))
 
+  -- these faces have the corners of those between the neighbours, in the same order
   pub round_faces_are : AllZip HasCorners round_faces (faces_between v (neighbour m o) (suc j))
   unfolding round_faces
   round_faces_are = zip_up_to (suc j) (omega arith)

@@ -72,6 +72,7 @@ module _ (m mid : Mesh) (e : ℕ) (s : AreSoundLinks m) (can : IsPassable m e) (
   t : IsBeside m e
   t = beside m e s can
 
+  -- the edge that is left hanging may be removed
   pub removable_hanging : IsRemovable mid (next m e)
   removable_hanging =
       let p = t in
@@ -144,6 +145,7 @@ module _ {V D U F : Type 0} (c0 c2 : Contents V D U F) (mid : Mesh) (e : ℕ) (w
             inr (at.0 ∙ ap (origin m) t_is, ap (λ (y : Ends). record x { source = y.source; target = y.target }) p)
       ]
 
+  -- the two edges of vertex v give way to one between its neighbours
   pub are_joined : JoinsNeighbours c0 c2 v u w
   unfolding with_other_ends
   are_joined =
@@ -208,6 +210,7 @@ outer_joined {V} {D} {U} {F} old new v u w a b same j f =
 
 -- ---- the steps
 module _ {V D U F : Type 0} where
+  -- a mesh without data of faces has no inner face
   pub no_inner_face : (c : Contents V D U F) → IsMeshWithData c → length c.faces ≡ 0 → c.mesh.face_edges ≡ []
   no_inner_face c w none = empty_list c.mesh.face_edges (sym w.fits.faces_fit ∙ none)
 

@@ -37,18 +37,22 @@ module _ {X : Type 0} (f : X → ℤ) where
       let two = total-set w j (get_or l i d) d (omega (arith, q, long)) in
       omega (arith, ints, two, one, ap f there)
 
+  -- a list in another order has the same total
   pub total-permutation : (xs ys : List X) → IsPermutation xs ys → total f ys ≡ total f xs
   total-permutation xs ys = IsPermutation-keeps xs (λ l. total f l ≡ total f xs) refl (λ l i j p q h. total-swap l i j p q ∙ h) ys
 
+  -- the total of two lists one after the other is the sum of theirs
   pub total-append : (xs ys : List X) → total f (xs ++ ys) ≡ total f xs +ℤ total f ys
   total-append [] ys = omega (arith, ints)
   total-append (x ∷ xs) ys = omega (arith, ints, total-append xs ys)
 
 -- ---- edges and faces with their data
+-- the ends of an edge with its data
 abbrev pub edge_ends : {D U : Type 0} → FullEdge D U → Ends
 edge_ends x = record { source = x.source; target = x.target }
 
 module _ (f : ℕ → ℕ → ℤ) where
+  -- the total over the edges with their data, in both directions, is that over their ends
   pub total_full_edges : {D U : Type 0} (es : List Ends) (us : List U) (ds : List D) → length us ≡ length es → length ds ≡ 2 * length es → total (λ (x : FullEdge D U). both_ways f (edge_ends x)) (full_edges_of es us ds) ≡ total (both_ways f) es
   total_full_edges [] us ds p q = refl
   total_full_edges (e ∷ es) [] ds p q = absurd (omega (arith, p))
@@ -56,15 +60,18 @@ module _ (f : ℕ → ℕ → ℤ) where
   total_full_edges (e ∷ es) (u ∷ us) (a ∷ []) p q = absurd (omega (arith, q))
   total_full_edges (e ∷ es) (u ∷ us) (a ∷ b ∷ ds) p q = ap (λ s. both_ways f e +ℤ s) (total_full_edges es us ds (omega (arith, p)) (omega (arith, q)))
 
+  -- the total round the faces with their data is that round their corners
   pub total_full_faces : {F : Type 0} (ts : List Triangle) (fs : List F) → length fs ≡ length ts → total (λ (x : FullFace F). around f x.corners) (full_faces_of ts fs) ≡ total (around f) ts
   total_full_faces [] fs p = refl
   total_full_faces (t ∷ ts) [] p = absurd (omega (arith, p))
   total_full_faces (t ∷ ts) (y ∷ fs) p = ap (λ s. around f t +ℤ s) (total_full_faces ts fs (omega (arith, p)))
 
+  -- an edge between two ends has the value of these ends in both directions
   pub either_way : {D U : Type 0} (x : FullEdge D U) (p : Ends) → IsBetween x p → both_ways f (edge_ends x) ≡ both_ways f p
   either_way x p (inl q) = λ i. f (q.0 i) (q.1 i) +ℤ f (q.1 i) (q.0 i)
   either_way x p (inr q) = (λ i. f (q.0 i) (q.1 i) +ℤ f (q.1 i) (q.0 i)) ∙ omega (arith, ints)
 
+  -- a face has the value round its corners, whichever of them comes first
   pub any_corner : {F : Type 0} (x : FullFace F) (t : Triangle) → HasCorners x t → around f x.corners ≡ around f t
   any_corner x t (inl q) = ap (around f) q
   any_corner x t (inr (inl q)) = ap (around f) q ∙ omega (arith, ints)
@@ -76,6 +83,7 @@ module _ (f : ℕ → ℕ → ℤ) where
   total_lost_edges (x ∷ xs) [] z = absurd z
   total_lost_edges (x ∷ xs) (p ∷ ps) z = λ i. either_way x p z.0 i +ℤ total_lost_edges xs ps z.1 i
 
+  -- faces with given corners have the total round these corners
   pub total_lost_faces : {F : Type 0} (xs : List (FullFace F)) (ts : List Triangle) → AllZip HasCorners xs ts → total (λ x. around f x.corners) xs ≡ total (around f) ts
   total_lost_faces [] [] z = refl
   total_lost_faces [] (t ∷ ts) z = absurd z
@@ -96,9 +104,11 @@ whole_ends c w =
     (omega (arith, n, w.fits.undirected_fit), omega (arith, n, w.fits.directed_fit))
 
 module _ {V D U F : Type 0} (f : ℕ → ℕ → ℤ) where
+  -- the total over the edges of a mesh with its data is that over the ends
   pub total_edges : (c : Contents V D U F) → IsMeshWithData c → total (λ (x : FullEdge D U). both_ways f (edge_ends x)) (full_edges c) ≡ total (both_ways f) (ends c.mesh)
   total_edges c w = let fit = whole_ends c w in total_full_edges f (ends c.mesh) c.undirected c.directed fit.0 fit.1
 
+  -- the total round the faces of a mesh with its data is that round the corners
   pub total_faces : (c : Contents V D U F) → IsMeshWithData c → total (λ (x : FullFace F). around f x.corners) (full_faces c) ≡ total (around f) (triangles c.mesh)
   total_faces c w = total_full_faces f (triangles c.mesh) c.faces (w.fits.faces_fit ∙ sym (length-map c.mesh.face_edges (triangle_at c.mesh)))
 

@@ -12,6 +12,7 @@ outer_in m h a b o = record { within = o.within; outer = o.outer; source = o.sou
 outer_out : (m : Mesh) (h a b : ℕ) → IsOuterEdge (with_vertex m) h a b → IsOuterEdge m h a b
 outer_out m h a b o = record { within = o.within; outer = o.outer; source = o.source; target = o.target }
 
+-- what changes the outer edges of a mesh with one more lonely vertex changes those of the mesh alike
 pub outer_changes : (m new : Mesh) (Gone : ℕ → Type 0) (Made : ℕ → ℕ → ℕ → Type 0) → OuterChanges (with_vertex m) new Gone Made → OuterChanges m new Gone Made
 outer_changes m new Gone Made o = record {
   kept = λ h a b was here. o.kept h a b (outer_in m h a b was) here;
@@ -19,12 +20,14 @@ outer_changes m new Gone Made o = record {
   only = λ h a b is. elim (o.only h a b is) [ inl old ↦ inl (outer_out m h a b old.0, old.1) | inr new ↦ inr new ];
 }
 
+-- what keeps the outer edges of a mesh with one more lonely vertex keeps those of the mesh
 pub keeps_outer : (m new : Mesh) → KeepsOuter (with_vertex m) new → KeepsOuter m new
 keeps_outer m new o = record {
   kept = λ h a b was. o.kept h a b (outer_in m h a b was);
   only = λ h a b is. outer_out m h a b (o.only h a b is);
 }
 
+-- a list of length 0 is empty
 pub empty_list : {X : Type 0} (xs : List X) → length xs ≡ 0 → xs ≡ []
 empty_list [] none = refl
 empty_list (x ∷ xs) none = absurd (omega (arith, none))
@@ -44,5 +47,6 @@ no_faces m s none = empty_list m.face_edges (no_face m s none)
 pub listed : (m : Mesh) (k : ℕ) → face m k ≡ 0 → outer_among m (suc k) ≡ record { source = origin m k; target = origin m (rev k) } ∷ outer_among m k
 listed m k is = grind (arith, nat_tests)
 
+-- an edge of an inner face is passed over in the list of outer edges
 pub passed_over : (m : Mesh) (k : ℕ) → 0 < face m k → outer_among m (suc k) ≡ outer_among m k
 passed_over m k some = grind (arith, nat_tests)

@@ -26,12 +26,15 @@ abbrev pub IsSameBut : {V D U F : Type 0} → Contents V D U F → Contents V D 
 IsSameBut old new = new ≡ record old { mesh = new.mesh; directed = new.directed; undirected = new.undirected; faces = new.faces }
 
 module _ {V D U F : Type 0} where
+  -- one after the other, two changes keep the vertices, the outer face and the room if each does
   pub same_but : (a b c : Contents V D U F) → IsSameBut a b → IsSameBut b c → IsSameBut a c
   same_but a b c p q = q ∙ ap (λ (x : Contents V D U F). record x { mesh = c.mesh; directed = c.directed; undirected = c.undirected; faces = c.faces }) p
 
+  -- a change of links and data of faces keeps the vertices, the outer face and the room
   pub same_but_faces : (a b : Contents V D U F) → b ≡ record a { mesh = b.mesh; faces = b.faces } → IsSameBut a b
   same_but_faces a b p = p ∙ (λ i. record a { mesh = b.mesh; directed = ap (λ (x : Contents V D U F). x.directed) (sym p) i; undirected = ap (λ (x : Contents V D U F). x.undirected) (sym p) i; faces = b.faces })
 
+  -- a change of links and data of edges keeps the vertices, the outer face and the room
   pub same_but_edges : (a b : Contents V D U F) → b ≡ record a { mesh = b.mesh; directed = b.directed; undirected = b.undirected } → IsSameBut a b
   same_but_edges a b p = p ∙ (λ i. record a { mesh = b.mesh; directed = b.directed; undirected = b.undirected; faces = ap (λ (x : Contents V D U F). x.faces) (sym p) i })
 
@@ -41,6 +44,7 @@ one_more_gone R old mid new gone g a ([], z, p) = absurd z
 one_more_gone R old mid new gone g a (x ∷ [], z, p) = (x ∷ a.0, (z.0, a.1), IsPermutation-trans _ _ _ a.2 (IsPermutation-trans _ _ _ (IsPermutation-append_right a.0 _ _ p) (IsPermutation-middle a.0 x new)))
 one_more_gone R old mid new gone g a (x ∷ y ∷ more, z, p) = absurd z.1
 
+-- a list is itself and nothing that was lost
 pub none_gone : {X Y : Type 0} (R : X → Y → Type 0) (xs : List X) → (lost : List X) × AllZip R lost [] × IsPermutation xs (lost ++ xs)
 none_gone R xs = ([], tt, IsPermutation-refl xs)
 
@@ -54,6 +58,7 @@ pub record IsStripped {V D U F : Type 0} (old : Contents V D U F) (first count :
   pub edges : LosesEdges old c (spokes_to (origin old.mesh first) (neighbour old.mesh first) gone)
   pub faces : LosesFaces old c (faces_between (origin old.mesh first) (neighbour old.mesh first) gone)
 
+-- before the first step no face of a strip has gone
 pub stripped_none : {V D U F : Type 0} (c : Contents V D U F) (h count : ℕ) → IsStrip c.mesh h count → IsStripped c h count c h 0
 stripped_none c h count f = record {
   left = count;
@@ -107,6 +112,7 @@ module _ (f : ℕ → ℕ → ℤ) (v : ℕ) (n : ℕ → ℕ) where
   strip_sum zero = omega (arith, ints)
   strip_sum (suc k) = omega (arith, ints, strip_sum k)
 
+-- where a vertex of the hull loses its faces, their far sides replace its two outer edges
 pub outer_stripped : {V D U F : Type 0} (old new : Contents V D U F) (v : ℕ) (n : ℕ → ℕ) (k : ℕ) → IsMeshWithData old → IsMeshWithData new → LosesEdges old new (spokes_to v n (suc k)) → LosesFaces old new (faces_between v n k) → OuterChanges old.mesh new.mesh (joins (n 0) v ∷ joins v (n k) ∷ []) (chain n k)
 outer_stripped old new v n k a b edges faces f =
     let es = ends_sum f old new _ a b edges in
@@ -118,18 +124,22 @@ outer_stripped old new v n k a b edges faces f =
 
 -- ---- what the steps ask for, and the end
 module _ {V D U F : Type 0} (old c : Contents V D U F) (first count h gone : ℕ) (f : IsStripped old first count c h gone) where
+  -- as long as faces are left, the next edge has an inner face
   pub stripped_inner : gone < count → 0 < face c.mesh h
   stripped_inner less = f.strip.inner 0 (omega (arith, f.sum, less))
 
+  -- as long as faces are left, the next edge may be peeled off
   pub stripped_peelable : gone < count → IsPeelable c.mesh h
   stripped_peelable less = record { within = f.strip.within; inner = stripped_inner less; outer = f.strip.outer }
 
   all_gone : gone ≡ count → IsStrip c.mesh h 0
   all_gone is = rw (let e : 0 ≡ f.left = omega (arith, f.sum, is) in e) f.strip
 
+  -- once all faces are gone, the last edge may be removed
   pub stripped_removable : gone ≡ count → IsRemovable c.mesh h
   stripped_removable is = removable_strip c.mesh h (all_gone is)
 
+  -- once the last edge is removed too, the vertex has lost its edges and the faces of the strip
   pub strip_lost : (new : Contents V D U F) → gone ≡ count → IsMeshWithData old → IsMeshWithData c → IsMeshWithData new → IsSameBut old c → KeepsOneOutline old.mesh c.mesh
       → new ≡ record c { mesh = new.mesh; directed = new.directed; undirected = new.undirected } → Removes c.mesh new.mesh h → LosesEdges c new (joins (origin c.mesh h) (origin c.mesh (rev h)) ∷ []) → triangles new.mesh ≡ triangles c.mesh
       → (IsPendant c.mesh h → KeepsOneOutline c.mesh new.mesh) → LosesStrip old new (origin old.mesh first) (neighbour old.mesh first) count

@@ -46,6 +46,7 @@ module _ {D U : Type 0} (m new : Mesh) (us us' : List U) (ds ds' : List D) (e : 
             inr (at.0 ∙ ap (origin m) t_is, at.1 ∙ ap (origin m) e_is)
       ]
 
+  -- the edge goes from the list of edges with their data, and the last one takes its place
   pub takes_edge : RemovesEnds m new e → TakesOut us us' k → TakesOutPair ds ds' k → TakesOut (full_edges_of (ends m) us ds) (full_edges_of (ends new) us' ds') k
   takes_edge r tu td =
       let n = count_ends m s in
@@ -53,6 +54,7 @@ module _ {D U : Type 0} (m new : Mesh) (us us' : List U) (ds ds' : List D) (e : 
       let te : TakesOut (ends m) (ends new) k = rw r (takes_out (ends m) k no_ends (omega (arith, n, within, even))) in
       full_edges_taken (ends m) (ends new) us us' ds ds' k (omega (arith, n, undirected_fit)) (omega (arith, n, directed_fit)) te tu td
 
+  -- the edges with their data are the former ones but for one with the ends of e, in some order
   pub loses_edge : RemovesEnds m new e → TakesOut us us' k → TakesOutPair ds ds' k
       → (lost : List (FullEdge D U)) × AllZip IsBetween lost (joins (origin m e) (origin m (rev e)) ∷ []) × IsPermutation (full_edges_of (ends m) us ds) (lost ++ full_edges_of (ends new) us' ds')
   loses_edge r tu td =
@@ -88,6 +90,7 @@ module _ {F : Type 0} (m new : Mesh) (fs fs' : List F) (f : ℕ) (s : AreSoundLi
       let tt' : TakesOut (triangles m) (triangles new) (f - 1) = rw r (takes_out (triangles m) (f - 1) no_triangle within) in
       full_faces_taken (triangles m) (triangles new) fs fs' (f - 1) (omega (arith, n, fits)) tt' tf
 
+  -- the faces with their data are the former ones but for face f with its value, in some order
   pub gives_face : (value : F) → value ≡ get_or fs (f - 1) value → RemovesTriangle m new f → TakesOut fs fs' (f - 1)
       → IsPermutation (full_faces_of (triangles m) fs) (record { corners = triangle_at m (face_edge m f); value = value } ∷ full_faces_of (triangles new) fs')
   gives_face value is r tf =

@@ -10,6 +10,7 @@ use Rattle.half_edge_links.specs.Triangles.{Triangle}
 use Rattle.half_edge_links.proofs.Removing.OpenSound.{swap_remove_default, get_or-swap_remove_same, get_or-swap_remove_other, length-swap_remove}
 use Rattle.half_edge_dcel.specs.Removal.{TakesOut, TakesOutPair, FullEdge, full_edges_of, FullFace, full_faces_of}
 
+-- once item k is taken out, the last item is in its place, and the others are where they were
 pub takes_out : {X : Type 0} (xs : List X) (k : ℕ) (d : X) → k < length xs → TakesOut xs (swap_remove xs k d) k
 takes_out xs k d within = record {
   within = within;
@@ -30,6 +31,7 @@ swap_removed old new k x t =
       | inr off ↦ t.other j d off (omega (arith, within, a)) ∙ sym (s.other j d off (omega (arith, within, a)))
     ])
 
+-- a list is, in some order, what is left once item k is taken out, and this item
 pub permuted : {X : Type 0} (old new : List X) (k : ℕ) (x : X) → TakesOut old new k → x ≡ get_or old k x → IsPermutation old (x ∷ new)
 permuted old new k x t is = rw (swap_removed old new k x t) (IsPermutation-swap_remove old k x t.within is)
 
@@ -43,6 +45,7 @@ taken_item (y ∷ ys) new k t =
 
 -- ---- edges with their data
 module _ {D U : Type 0} where
+  -- there are as many edges with their data as pairs of ends
   pub length-full_edges : (es : List Ends) (us : List U) (ds : List D) → length us ≡ length es → length ds ≡ 2 * length es → length (full_edges_of es us ds) ≡ length es
   length-full_edges [] us ds p q = refl
   length-full_edges (e ∷ es) [] ds p q = absurd (omega (arith, p))
@@ -54,6 +57,7 @@ module _ {D U : Type 0} where
   abbrev pub full_edge : Ends → U → D → D → FullEdge D U
   full_edge e u a b = record { source = e.source; target = e.target; value = u; there = a; back = b }
 
+  -- an edge with its data has the ends, the undirected data and the two directed data at its index
   pub get_or-full_edges : (es : List Ends) (us : List U) (ds : List D) (k : ℕ) (e : Ends) (u : U) (a b : D) → length us ≡ length es → length ds ≡ 2 * length es → k < length es
       → (d : FullEdge D U) → get_or (full_edges_of es us ds) k d ≡ full_edge (get_or es k e) (get_or us k u) (get_or ds (2 * k) a) (get_or ds (2 * k + 1) b)
   get_or-full_edges [] us ds k e u a b p q within d = absurd (omega (arith, within))
@@ -68,6 +72,7 @@ module _ {D U : Type 0} where
       ∙ sym (ap (λ n. full_edge (get_or es k e) (get_or us k u) (get_or (c ∷ g ∷ ds) n a) (get_or ds (2 * k + 1) b)) i)
       ∙ sym (ap (λ n. full_edge (get_or es k e) (get_or us k u) (get_or (c ∷ g ∷ ds) (2 * suc k) a) (get_or (c ∷ g ∷ ds) n b)) j)
 
+  -- edge k goes from the edges with their data if it goes from the ends and from the data
   pub full_edges_taken : (es es' : List Ends) (us us' : List U) (ds ds' : List D) (k : ℕ) → length us ≡ length es → length ds ≡ 2 * length es → TakesOut es es' k → TakesOut us us' k → TakesOutPair ds ds' k → TakesOut (full_edges_of es us ds) (full_edges_of es' us' ds') k
   full_edges_taken es es' us us' ds ds' k p q te tu td =
       let n = length-full_edges es us ds p q in
@@ -107,20 +112,24 @@ module _ {D U : Type 0} where
 
 -- ---- faces with their data
 module _ {F : Type 0} where
+  -- there are as many faces with their data as triangles
   pub length-full_faces : (ts : List Triangle) (fs : List F) → length fs ≡ length ts → length (full_faces_of ts fs) ≡ length ts
   length-full_faces [] fs p = refl
   length-full_faces (t ∷ ts) [] p = absurd (omega (arith, p))
   length-full_faces (t ∷ ts) (f ∷ fs) p = ap suc (length-full_faces ts fs (omega (arith, p)))
 
+  -- a face with its data
   abbrev pub full_face : Triangle → F → FullFace F
   full_face t f = record { corners = t; value = f }
 
+  -- a face with its data has the corners and the data at its index
   pub get_or-full_faces : (ts : List Triangle) (fs : List F) (k : ℕ) (t : Triangle) (f : F) → length fs ≡ length ts → k < length ts → (d : FullFace F) → get_or (full_faces_of ts fs) k d ≡ full_face (get_or ts k t) (get_or fs k f)
   get_or-full_faces [] fs k t f p within d = absurd (omega (arith, within))
   get_or-full_faces (x ∷ ts) [] k t f p within d = absurd (omega (arith, p))
   get_or-full_faces (x ∷ ts) (y ∷ fs) zero t f p within d = refl
   get_or-full_faces (x ∷ ts) (y ∷ fs) (suc k) t f p within d = get_or-full_faces ts fs k t f (omega (arith, p)) (omega (arith, within)) d
 
+  -- face k goes from the faces with their data if it goes from the corners and from the data
   pub full_faces_taken : (ts ts' : List Triangle) (fs fs' : List F) (k : ℕ) → length fs ≡ length ts → TakesOut ts ts' k → TakesOut fs fs' k → TakesOut (full_faces_of ts fs) (full_faces_of ts' fs') k
   full_faces_taken ts ts' fs fs' k p tt tf =
       let n = length-full_faces ts fs p in
@@ -148,6 +157,7 @@ module _ {F : Type 0} where
             ∙ rw (x, y) (sym (get_or-full_faces ts fs j d.corners d.value p (omega (arith, m)) d));
       }
 
+  -- the faces with their data of two lists one after the other are those of each
   pub full_faces-append : (ts us : List Triangle) (fs gs : List F) → length fs ≡ length ts → full_faces_of (ts ++ us) (fs ++ gs) ≡ full_faces_of ts fs ++ full_faces_of us gs
   full_faces-append [] us [] gs p = refl
   full_faces-append [] us (f ∷ fs) gs p = absurd (omega (arith, p))

@@ -90,6 +90,7 @@ module _ {V D U F : Type 0} (c new : Contents V D U F) (o l v tip_end first_end 
   unfolding gone_edge
   gone_is = (item_at (full_edges c) (e / 2) edge_in).1
 
+  -- before the turn the edge joins the vertex and the second neighbour
   pub gone_between : IsBetween gone_edge (joins v first_end)
   gone_between =
       let b = between m m c.undirected c.undirected c.directed c.directed e s whole.fits.directed_fit whole.fits.undirected_fit (at 1).0 gone_edge gone_is in
@@ -100,12 +101,14 @@ module _ {V D U F : Type 0} (c new : Contents V D U F) (o l v tip_end first_end 
   pub come_edge : FullEdge D U
   come_edge = with_other_ends gone_edge (along e (origin m (prev m e)) (origin m (prev m (rev e))))
 
+  -- after the turn the edge joins the first neighbour and the third one
   pub come_between : IsBetween come_edge (joins tip_end next_end)
   unfolding come_edge
   come_between =
       let is : joins (origin m (prev m e)) (origin m (prev m (rev e))) ≡ joins next_end tip_end = λ i. joins (after i) (before i) in
       other_way come_edge next_end tip_end (subst (IsBetween come_edge) is (along_between gone_edge e (origin m (prev m e)) (origin m (prev m (rev e)))))
 
+  -- after the turn the edge has all data that it had before
   pub come_data : HasDataOf come_edge gone_edge
   unfolding come_edge with_other_ends
   come_data = refl
@@ -122,11 +125,13 @@ module _ {V D U F : Type 0} (c new : Contents V D U F) (o l v tip_end first_end 
         ∙ full_edges-set (ends m) c.undirected c.directed (e / 2) t gone_edge (omega (arith, n, whole.fits.undirected_fit)) (omega (arith, n, whole.fits.directed_fit)) (omega (arith, n, e_in, even))
         ∙ ap (λ x. set (full_edges c) (e / 2) (with_other_ends x t)) (sym gone_is)
 
+    -- the edges at the vertex are the former ones but for the one that was turned
     pub edges_lose : IsPermutation (filter (touches v) (full_edges c)) (gone_edge ∷ filter (touches v) (full_edges new))
     edges_lose =
         let p = filter_loses (touches v) (full_edges c) (e / 2) come_edge gone_edge edge_in (ap (touches v) (sym gone_is) ∙ touches_it v gone_edge (joins v first_end) gone_between (inl refl)) (touches_not v come_edge (joins tip_end next_end) come_between tip_off next_off) in
         rw (edges_are, gone_is) p
 
+    -- the edges that miss the vertex are the former ones and the one that was turned
     pub edges_gain : IsPermutation (filter (misses v) (full_edges new)) (come_edge ∷ filter (misses v) (full_edges c))
     edges_gain =
         let p = filter_gains (misses v) (full_edges c) (e / 2) come_edge gone_edge edge_in (ap (misses v) (sym gone_is) ∙ ap not (touches_it v gone_edge (joins v first_end) gone_between (inl refl))) (ap not (touches_not v come_edge (joins tip_end next_end) come_between tip_off next_off)) in
@@ -195,6 +200,7 @@ module _ {V D U F : Type 0} (c new : Contents V D U F) (o l v tip_end first_end 
         let at_o = corner_there v (get_or (full_faces c) (face m o - 1) d) (triangle_at m o) (named_corners m o (get_or (full_faces c) (face m o - 1) d) s w.within inner_o.0 (ap (λ (x : FullFace F). x.corners) (listed_face m c.faces (face m o) whole.fits.faces_fit inner_o d))) v_is in
         ap (λ f. has_corner v (get_or (full_faces c) (f - 1) d)) twin_face ∙ at_o
 
+    -- the face that leaves the vertex has the first three neighbours as corners
     pub come_corners : HasCorners come_face (record { first = tip_end; second = first_end; third = next_end })
     unfolding come_face with_other_corners
     come_corners = inr (inr (λ i. record { first = after i; second = before i; third = ((s.edges e (at 1).0).starts ∙ first_is) i }))
@@ -206,6 +212,7 @@ module _ {V D U F : Type 0} (c new : Contents V D U F) (o l v tip_end first_end 
     unfolding turned_face with_other_corners
     turned_there = corner_there v turned_face (record { first = origin m (next m (rev e)); second = origin m (prev m (rev e)); third = origin m (prev m e) }) (inr (inl refl)) back
 
+    -- the faces without the vertex as a corner are the former ones and the one that leaves it
     pub faces_gain : IsPermutation (filter (lacks_corner v) (full_faces new)) (come_face ∷ filter (lacks_corner v) (full_faces c))
     unfolding middle was
     faces_gain =
@@ -247,6 +254,7 @@ same_among m new o (suc k) p q =
           passed_over new k (omega (arith, still)) ∙ rest ∙ sym (passed_over m k (omega (arith, off)))
     ]
 
+-- where the outer edges stay and there are as many directed edges, the list of outer edges is the same
 pub same_outline : (m new : Mesh) → KeepsOuter m new → length new.half_edges ≡ length m.half_edges → outline new ≡ outline m
 same_outline m new o count = ap (outer_among new) count ∙ same_among m new o (length m.half_edges) (omega arith) (omega (arith, count))
 
@@ -276,6 +284,7 @@ pub record IsTurned {V D U F : Type 0} (old c : Contents V D U F) (o k turned : 
   pub former_faces : All (λ f. (g : FullFace F) × Contains (filter (has_corner (origin old.mesh o)) (full_faces old)) g × (f.value ≡ g.value)) faces
   pub corners : (i : ℕ) → has_corner (origin old.mesh o) (get_or (full_faces c) i (no_face_of (origin old.mesh o) old.outer)) ≡ true → has_corner (origin old.mesh o) (get_or (full_faces old) i (no_face_of (origin old.mesh o) old.outer)) ≡ true
 
+-- before the first step no edge is turned away from the vertex
 pub turned_none : {V D U F : Type 0} (c : Contents V D U F) (o k : ℕ) → IsHub c.mesh o k → IsTurned c c o k 0
 turned_none c o k w = record {
   left = k;
@@ -404,15 +413,19 @@ module _ {V D U F : Type 0} (old c : Contents V D U F) (o k turned : ℕ) (whole
 
 -- ---- what the steps ask for
 module _ {V D U F : Type 0} (old c : Contents V D U F) (o k turned : ℕ) (f : IsTurned old c o k turned) where
+  -- as long as at least three edges are left, the first one has an inner face
   pub turned_first : turned + 3 ≤ k → 0 < face c.mesh o
   turned_first more = f.hub.inner 0 (omega (arith, f.sum, more))
 
+  -- as long as at least three edges are left, the second one has an inner face
   pub turned_second : turned + 3 ≤ k → 0 < face c.mesh (turn c.mesh o)
   turned_second more = f.hub.inner 1 (omega (arith, f.sum, more))
 
+  -- with a free tip and more than three edges left, the third neighbour is not the first one
   pub turned_corners : HasFreeTip (neighbour old.mesh o) k → turned + 3 < k → neighbour c.mesh o 2 ≢ neighbour c.mesh o 0
   turned_corners tip more q = tip (turned + 2) (omega arith) (omega (arith, more)) (sym (f.ends_at 2 (omega arith) (omega (arith, f.sum, more))) ∙ q ∙ f.tip)
 
+  -- once three edges are left, the vertex has three faces round it
   pub turned_wheel : turned + 3 ≡ k → IsWheel c.mesh o
   turned_wheel last = record {
     within = f.hub.within;

@@ -10,15 +10,18 @@ pub record MapsSoFar {A B : Type 0} (R : A → B → Type 0) (all rest : List A)
   pub each : AllZip R done made
 
 module _ {A B : Type 0} (R : A → B → Type 0) where
+  -- two lists that fit item by item still do with one more item that fits at the end of each
   pub all_zip-push : (xs : List A) (ys : List B) (x : A) (y : B) → AllZip R xs ys → R x y → AllZip R (xs ++ x ∷ []) (ys ++ y ∷ [])
   all_zip-push [] [] x y each here = (here, tt)
   all_zip-push [] (z ∷ zs) x y each here = absurd each
   all_zip-push (w ∷ ws) [] x y each here = absurd each
   all_zip-push (w ∷ ws) (z ∷ zs) x y each here = (each.0, all_zip-push ws zs x y each.1 here)
 
+  -- before the first item nothing is turned
   pub maps_begins : (all rest : List A) (made : List B) → rest ≡ all → made ≡ [] → MapsSoFar R all rest made
   maps_begins all rest made is none = record { done = []; split = sym is; each = rw none tt }
 
+  -- with the next item turned too, what stands before the rest is turned
   pub maps_goes_on : (all rest after : List A) (made : List B) (x : A) (y : B) → MapsSoFar R all rest made → rest ≡ x ∷ after → R x y → MapsSoFar R all after (made ++ y ∷ [])
   maps_goes_on all rest after made x y so_far is here = record {
     done = so_far.done ++ x ∷ [];
@@ -26,6 +29,7 @@ module _ {A B : Type 0} (R : A → B → Type 0) where
     each = all_zip-push so_far.done made x y so_far.each here;
   }
 
+  -- once no item is left, the whole list is turned
   pub maps_ends : (all rest : List A) (made : List B) → MapsSoFar R all rest made → length rest ≡ 0 → AllZip R all made
   maps_ends all [] made so_far none = rw (so_far.split, append-nil so_far.done) so_far.each
   maps_ends all (x ∷ xs) made so_far none = absurd (omega (arith, none))

@@ -12,6 +12,7 @@ use Rattle.half_edge_dcel.proofs.TakenOut.{permuted}
 remove-set : {X : Type 0} (xs : List X) (i : ℕ) (y : X) → remove (set xs i y) i ≡ remove xs i
 remove-set xs i y = grind (arith, common_steps)
 
+-- a list has an item at each place below its length
 pub item_at : {X : Type 0} (xs : List X) (k : ℕ) → k < length xs → (x : X) × (x ≡ get_or xs k x)
 item_at [] k within = absurd (omega (arith, within))
 item_at (y ∷ ys) k within = let x = get_or (y ∷ ys) k y in (x, get_or_default (y ∷ ys) k y x within)
@@ -30,6 +31,7 @@ module _ {X : Type 0} (old mid new : List X) (k j : ℕ) (kept now : X) (apart :
       let b' : IsPermutation (set new i kept) (kept ∷ remove new i) = rw (remove-set new i kept) at b in
       (l.0, l.1, remove new i, IsPermutation-trans _ _ _ a (IsPermutation-cons l.0 _ _ b'), IsPermutation-remove new i now f.0 (sym f.1))
 
+  -- but for the written item and the one that goes, the lists have the same items
   pub one_written_one_taken : (lost : X) × (lost ≡ get_or old j lost) × (rest : List X) × IsPermutation old (lost ∷ kept ∷ rest) × IsPermutation new (now ∷ rest)
   one_written_one_taken =
       let n = taken.count in

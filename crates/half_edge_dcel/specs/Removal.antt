@@ -36,6 +36,7 @@ pub record FullEdge (D U : Type 0) : Type 0 where
   pub there : D
   pub back : D
 
+-- undirected edges, put together of their ends, their data and the data of their two directed edges
 abbrev pub full_edges_of : {D U : Type 0} → List Ends → List U → List D → List (FullEdge D U)
 full_edges_of [] us ds = []
 full_edges_of (e ∷ es) [] ds = []
@@ -52,6 +53,7 @@ pub record FullFace (F : Type 0) : Type 0 where
   pub corners : Triangle
   pub value : F
 
+-- inner faces, put together of their corners and their data
 abbrev pub full_faces_of : {F : Type 0} → List Triangle → List F → List (FullFace F)
 full_faces_of [] fs = []
 full_faces_of (t ∷ ts) [] = []
@@ -91,9 +93,11 @@ OuterChanges old new gone made = (f : ℕ → ℕ → ℤ) → total (along f) (
 abbrev pub renumbered_edge : {D U : Type 0} → ℕ → ℕ → FullEdge D U → FullEdge D U
 renumbered_edge last v e = record e { source = moved last v e.source; target = moved last v e.target }
 
+-- a face under new indexes, where vertex v has gone and the last one has taken its index
 abbrev pub renumbered_face : {F : Type 0} → ℕ → ℕ → FullFace F → FullFace F
 renumbered_face last v f = record f { corners = record { first = moved last v f.corners.first; second = moved last v f.corners.second; third = moved last v f.corners.third } }
 
+-- the ends of an edge under new indexes, where vertex v has gone and the last one has taken its index
 abbrev pub renumbered_ends : ℕ → ℕ → Ends → Ends
 renumbered_ends last v e = record { source = moved last v e.source; target = moved last v e.target }
 

@@ -4,6 +4,7 @@ use Rattle.std.specs.List.{range_with_len}
 use Rattle.std.proofs.lemmas.List.Elements.{All-rest}
 use Rattle.std.proofs.lemmas.List.FromFn.{length-range_with_len, get_or-range_with_len}
 
+-- a range with numbers in it is its first number and the range after it
 pub range_step : (a b : ℕ) → a < b → range_with_len a (b - a) ≡ a ∷ range_with_len (a + 1) (b - (a + 1))
 range_step a b less =
     let e : b - a ≡ suc (b - (a + 1)) = omega arith in
@@ -13,6 +14,7 @@ range_step a b less =
 pub length_range_step : (a b : ℕ) → a < b → length (range_with_len (a + 1) (b - (a + 1))) < length (range_with_len a (b - a))
 length_range_step a b less = rw (range_step a b less) (omega arith)
 
+-- the values of a function over a range are that of the first number and those over the range after it
 pub map_range_step : {X : Type 0} (f : ℕ → X) (a b : ℕ) → a < b → map f (range_with_len a (b - a)) ≡ f a ∷ map f (range_with_len (a + 1) (b - (a + 1)))
 map_range_step f a b less = rw (range_step a b less) refl
 

@@ -8,12 +8,15 @@ use Rattle.half_edge_links.specs.Flip.{flipped}
 unfoldable pub with_next : List HalfEdge → ℕ → ℕ → List HalfEdge
 with_next hs h n = slice_set hs h (record (edge_at hs h) { next = n })
 
+-- the edge before directed edge h is written
 unfoldable pub with_prev : List HalfEdge → ℕ → ℕ → List HalfEdge
 with_prev hs h p = slice_set hs h (record (edge_at hs h) { prev = p })
 
+-- the face of directed edge h is written
 unfoldable pub with_face : List HalfEdge → ℕ → ℕ → List HalfEdge
 with_face hs h f = slice_set hs h (record (edge_at hs h) { face = f })
 
+-- the origin of directed edge h is written
 unfoldable pub with_origin : List HalfEdge → ℕ → ℕ → List HalfEdge
 with_origin hs h o = slice_set hs h (record (edge_at hs h) { origin = o })
 
@@ -203,6 +206,7 @@ pub record IsHalfSplittable (m : Mesh) (e : ℕ) : Type 0 where
 abbrev pub half_split : Mesh → ℕ → ℕ → Mesh
 half_split m e v = flipped (with_face_beside m (rev e) v) e
 
+-- an index that may be missing, or 0 where it is
 abbrev pub or_zero : Option ℕ → ℕ
 or_zero None = 0
 or_zero (Some h) = h

@@ -11,9 +11,11 @@ pub record Mesh : Type 0 where
   pub outer_edge : Option ℕ
   pub face_edges : List ℕ
 
+-- what is read at an index past the end of a list of directed edges
 abbrev pub no_edge : HalfEdge
 no_edge = record { origin = 0; next = 0; prev = 0; face = 0 }
 
+-- the links of directed edge h in a list
 abbrev pub edge_at : List HalfEdge → ℕ → HalfEdge
 edge_at hs h = slice_index_or hs h no_edge
 
@@ -21,15 +23,19 @@ edge_at hs h = slice_index_or hs h no_edge
 abbrev pub rev : ℕ → ℕ
 rev h = if h % 2 == 0 then h + 1 else h - 1
 
+-- the vertex at which directed edge h starts
 abbrev pub origin : Mesh → ℕ → ℕ
 origin m h = (edge_at m.half_edges h).origin
 
+-- the edge after directed edge h round the face on its left
 abbrev pub next : Mesh → ℕ → ℕ
 next m h = (edge_at m.half_edges h).next
 
+-- the edge before directed edge h round the face on its left
 abbrev pub prev : Mesh → ℕ → ℕ
 prev m h = (edge_at m.half_edges h).prev
 
+-- the face on the left of directed edge h
 abbrev pub face : Mesh → ℕ → ℕ
 face m h = (edge_at m.half_edges h).face
 
@@ -56,6 +62,7 @@ pub record IsSoundEdge (m : Mesh) (h : ℕ) : Type 0 where
   pub owned : 0 < face m h → (face_edge m (face m h) ≡ h) ⊎ ((face_edge m (face m h) ≡ next m h) ⊎ (face_edge m (face m h) ≡ prev m h))
   pub has_out : IsSome (out_edge m (origin m h))
 
+-- the links fit together: of each edge, and of what vertices, faces and the outer face name
 pub record AreSoundLinks (m : Mesh) : Type 0 where
   pub even : length m.half_edges % 2 ≡ 0
   pub edges : (h : ℕ) → h < length m.half_edges → IsSoundEdge m h
@@ -89,6 +96,7 @@ pub record IsValidMesh (m : Mesh) : Type 0 where
   pub stars : HasStars m
   pub small : IsSmall m
 
+-- the mesh without vertices, edges and inner faces
 abbrev pub empty : Mesh
 empty = record { out_edges = []; half_edges = []; outer_edge = None; face_edges = [] }
 

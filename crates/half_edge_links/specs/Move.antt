@@ -5,6 +5,7 @@ use Rattle.half_edge_links.specs.Renames.{moved}
 use Rattle.half_edge_links.specs.declared.records.HalfEdge.{HalfEdge}
 use Rattle.half_edge_links.specs.Mesh.{Mesh, edge_at, origin, next, prev, face, out_edge, rev, iterate}
 
+-- the edge after h round its origin, against the clock, in a list of directed edges
 abbrev pub turn_of : List HalfEdge → ℕ → ℕ
 turn_of hs h = rev (edge_at hs h).prev
 

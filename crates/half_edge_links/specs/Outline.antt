@@ -9,6 +9,7 @@ pub record Ends : Type 0 where
   pub source : ℕ
   pub target : ℕ
 
+-- the numbers of a list two by two, each two as the ends of an edge
 abbrev pub paired : List ℕ → List Ends
 paired [] = []
 paired (a ∷ []) = []

@@ -49,6 +49,7 @@ with_unlinked hs e t =
 abbrev pub out_after : ℕ → ℕ → Option ℕ
 out_after gone other = if other == gone then None else Some other
 
+-- the edge that the outer face names once one with reverse t is out: n, or else p, where they are not t
 abbrev pub outer_beside : ℕ → ℕ → ℕ → Option ℕ
 outer_beside t n p = if n == t then (if p == t then None else Some p) else Some n
 
@@ -124,9 +125,11 @@ with_filled hs last hole =
     (edge_at hs (last + 1)).next (hole + 1))
     (hole + 1) no_edge) hole no_edge
 
+-- vertex v names its edge by the new index, where two directed edges have moved
 unfoldable pub with_out_renamed : List (Option ℕ) → ℕ → ℕ → ℕ → List (Option ℕ)
 with_out_renamed outs v from to = slice_set outs v (renamed (pair_moved from to) (slice_index_or outs v None))
 
+-- inner face f names its edge by the new index, where two directed edges have moved
 unfoldable pub with_face_renamed : List ℕ → ℕ → ℕ → ℕ → List ℕ
 with_face_renamed fs f from to = if f == 0 then fs else slice_set fs (f - 1) (pair_moved from to (slice_index_or fs (f - 1) 0))
 

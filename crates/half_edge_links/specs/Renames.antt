@@ -11,6 +11,7 @@ pub record Naming : Type 0 where
   pub face : ℕ → ℕ
   pub old_face : ℕ → ℕ
 
+-- the new index of an element that may be missing
 abbrev pub renamed : (ℕ → ℕ) → Option ℕ → Option ℕ
 renamed f None = None
 renamed f (Some h) = Some (f h)

@@ -18,9 +18,11 @@ pub record Held : Type 0 where
 abbrev pub HasVertexRoom : Mesh → Room → ℕ → Type 0
 HasVertexRoom m room more = length m.out_edges + more ≤ room.vertices
 
+-- so many more directed edges fit with no allocation
 abbrev pub HasEdgeRoom : Mesh → Room → ℕ → Type 0
 HasEdgeRoom m room more = length m.half_edges + more ≤ room.edges
 
+-- so many more inner faces fit with no allocation
 abbrev pub HasFaceRoom : Mesh → Room → ℕ → Type 0
 HasFaceRoom m room more = length m.face_edges + more ≤ room.faces
 

@@ -7,9 +7,11 @@ use Rattle.half_edge_links.specs.Triangles.{Triangle, triangles}
 use Rattle.half_edge_links.specs.Outline.{Ends, ends, IsOuterEdge, OuterChanges}
 use Rattle.half_edge_links.specs.Remove.{after_removal}
 
+-- what is read at an index past the end of a list of triangles
 abbrev pub no_triangle : Triangle
 no_triangle = record { first = 0; second = 0; third = 0 }
 
+-- what is read at an index past the end of a list of ends
 abbrev pub no_ends : Ends
 no_ends = record { source = 0; target = 0 }
 
@@ -47,10 +49,12 @@ abbrev pub MovesTriangles : Mesh → Mesh → ℕ → Type 0
 MovesTriangles old new v =
     triangles new ≡ map (λ (t : Triangle). record { first = moved (length old.out_edges - 1) v t.first; second = moved (length old.out_edges - 1) v t.second; third = moved (length old.out_edges - 1) v t.third }) (triangles old)
 
+-- the last vertex is named v in the ends of the edges
 abbrev pub MovesEnds : Mesh → Mesh → ℕ → Type 0
 MovesEnds old new v =
     ends new ≡ map (λ (t : Ends). record { source = moved (length old.out_edges - 1) v t.source; target = moved (length old.out_edges - 1) v t.target }) (ends old)
 
+-- the last vertex is named v in the ends of the outer edges
 pub record MovesOuter (old new : Mesh) (v : ℕ) : Type 0 where
   pub kept : (h a b : ℕ) → IsOuterEdge old h a b → IsOuterEdge new h (moved (length old.out_edges - 1) v a) (moved (length old.out_edges - 1) v b)
   pub only : (h a b : ℕ) → IsOuterEdge new h a b → (p : ℕ) × (q : ℕ) × IsOuterEdge old h p q × (a ≡ moved (length old.out_edges - 1) v p) × (b ≡ moved (length old.out_edges - 1) v q)

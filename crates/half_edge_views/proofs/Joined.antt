@@ -15,9 +15,11 @@ turned_spoke m first edge k r x is read reached =
     let more : suc k ≡ k + 1 = omega arith in
     is ∙ ap (λ (q : HalfEdge). rev q.prev) read ∙ ap (turn m) reached ∙ ap (spoke m first) more
 
+-- each edge on the walk round a vertex is one of the mesh
 pub spoke-within : {V D U F : Type 0} (c : Contents V D U F) (first k : ℕ) → IsMeshWithData c → first < length c.directed → spoke c.mesh first k < length c.directed
 spoke-within c first k w first_in = rw w.fits.directed_fit (spoke_at c.mesh first w.valid.sound (rw w.fits.directed_fit at first_in) k).0
 
+-- each edge on the walk round a vertex starts where the first one does
 pub spoke-starts : {V D U F : Type 0} (c : Contents V D U F) (first k : ℕ) → IsMeshWithData c → first < length c.directed → origin c.mesh (spoke c.mesh first k) ≡ origin c.mesh first
 spoke-starts c first k w first_in = (spoke_at c.mesh first w.valid.sound (rw w.fits.directed_fit at first_in) k).1
 

@@ -24,6 +24,7 @@ round_fits m u first count v r =
       | inr more ↦ omega (arith, more, k.2)
     ]
 
+-- the walk round a vertex from the edge that it names gives its edges, each once
 pub gives_round : {V D U F : Type 0} (d : Bor (Contents V D U F)) (v first : ℕ) → IsMeshWithData d.now → out_edge d.now.mesh v ≡ Some first → GivesRound d v (each_in d (walk (turn d.now.mesh) first (length d.now.directed) first))
 gives_round d v first w named = record {
   alone = λ none. let e : Some first ≡ None = sym named ∙ none in absurd (cc);
@@ -102,6 +103,7 @@ module _ (m : Mesh) (first : ℕ) where
           )
         ]
 
+-- the walk from the edge that the outer face names gives the edges of its loop, each once
 pub gives_loop : {V D U F : Type 0} (d : Bor (Contents V D U F)) (first : ℕ) → IsMeshWithData d.now → d.now.mesh.outer_edge ≡ Some first → GivesOuterLoop d (each_in d (walk (next d.now.mesh) first (length d.now.directed) first))
 gives_loop d first w named = record {
   empty = λ none. let e : Some first ≡ None = sym named ∙ none in absurd (cc);

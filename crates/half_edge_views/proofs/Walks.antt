@@ -15,11 +15,13 @@ walk_step f stop (suc k) h some =
     rw down (elim (f h == stop) as (λ b. ◌≡◌ {A = List ℕ} (h ∷ (if b then [] else walk f stop k (f h))) (h ∷ walk f stop (if b then 0 else k) (f h))) [ true ↦ refl | false ↦ refl ])
 
 module _ {X : Type 0} (g : ℕ → X) (f : ℕ → ℕ) (stop k h k' h' : ℕ) (some : 0 < k) (after : h' ≡ f h) (left : k' ≡ (if h' == stop then 0 else k - 1)) where
+  -- the values on a walk are the one at its first place and those on the rest
   pub map_walk_step : map g (walk f stop k h) ≡ g h ∷ map g (walk f stop k' h')
   map_walk_step =
       let rest : h ∷ walk f stop (if f h == stop then 0 else k - 1) (f h) ≡ h ∷ walk f stop k' h' = rw (left, after) refl in
       ap (map g) (walk_step f stop k h some ∙ rest)
 
+  -- the rest of a walk is shorter
   pub length_walk_step : length (map g (walk f stop k' h')) < length (map g (walk f stop k h))
   length_walk_step = rw map_walk_step (omega arith)
 

@@ -16,9 +16,11 @@ abbrev pub walk : (ℕ → ℕ) → ℕ → ℕ → ℕ → List ℕ
 walk f stop zero h = []
 walk f stop (suc k) h = h ∷ (if f h == stop then [] else walk f stop k (f h))
 
+-- the edges of a vertex that an iterator has still to give, against the clock
 abbrev pub out_edges_left : {V D U F : Type 0} → CircularIterator V D U F → List (Bor (Contents V D U F) × ℕ)
 out_edges_left it = each_in it.dcel (walk (turn it.dcel.now.mesh) it.first it.left it.next)
 
+-- the outer edges that an iterator has still to give, along the outer loop
 abbrev pub hull_left : {V D U F : Type 0} → HullIterator V D U F → List (Bor (Contents V D U F) × ℕ)
 hull_left it = each_in it.dcel (walk (next it.dcel.now.mesh) it.first it.left it.next)
 

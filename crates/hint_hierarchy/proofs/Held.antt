@@ -60,6 +60,7 @@ pub with_then_with : (old now later : Point → Type 0) (q : Point) → IsAtMost
     → IsAtMostWith old later q
 with_then_with old now later q first second = λ p h. ⊎_elim (λ o. first p o) (λ e. inr e) (second p h)
 
+-- two changes that each add at most the position swapped in add together at most this one
 pub or_then_or : (old now later : Point → Type 0) (swapped : Option Point) → IsAtMostOr old now swapped
     → IsAtMostOr now later swapped → IsAtMostOr old later swapped
 or_then_or old now later swapped first second = λ p h. ⊎_elim (λ o. first p o) (λ e. inr e) (second p h)

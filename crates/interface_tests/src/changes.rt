@@ -1,49 +1,50 @@
-//! New triangulations, and insertions and removals at constant places. They promise nothing, so
-//! that no fact of one call is carried to the next.
+//! Triangulations of both types, and edits at constant places. They promise nothing, so that no
+//! fact of one call is carried to the next.
 
-use crate::searches::Hinted;
 use exact_tests::ExactTests;
 use spade_delaunay::handles::FixedVertexHandle;
 use spade_delaunay::{
-    ConstrainedDelaunayTriangulation, HintGenerator, LastUsedVertexHintGenerator, Point2,
-    Triangulation,
+    ConstrainedDelaunayTriangulation, DelaunayTriangulation, HintGenerator, Point2, Triangulation,
 };
-use std::alloc::Global;
+use std::io;
 
-/// A triangulation with data.
-pub type Points = Hinted<LastUsedVertexHintGenerator>;
-
-/// The same with constraints, and with hints of this type.
-pub type HintedConstrained<L> = ConstrainedDelaunayTriangulation<Point2<i64>, u32, u32, u32, L>;
+/// A triangulation with data, and with hints of this type.
+pub type Hinted<L> = DelaunayTriangulation<Point2<i64>, u32, u32, u32, L>;
 
 /// The same with constraints.
-pub type Constrained = HintedConstrained<LastUsedVertexHintGenerator>;
+pub type Constrained<L> = ConstrainedDelaunayTriangulation<Point2<i64>, u32, u32, u32, L>;
 
-/// No vertex and no edge.
-pub fn empty<T: Triangulation>(alloc: Global) -> T {
-    T::new(alloc)
+/// The number of constraints, for tests that are generic over both types.
+pub trait HasConstraints {
+    fn constraints(&self) -> usize;
 }
 
-/// The same vertices and edges with no constraint, if there is memory.
-pub fn constrained<L: HintGenerator<i64>>(points: Hinted<L>) -> Option<HintedConstrained<L>> {
-    match HintedConstrained::from_delaunay(points) {
-        Ok(constrained) => Some(constrained),
-        Err(_) => None,
+impl<L: HintGenerator<i64>> HasConstraints for Constrained<L> {
+    fn constraints(&self) -> usize {
+        self.num_constraints()
     }
+}
+
+/// What a test ends with where a call refuses.
+pub fn refused() -> io::Error {
+    io::Error::from(io::ErrorKind::Other)
 }
 
 /// The index of the new vertex, or of the one that was there.
 pub fn insert<T: Triangulation<Vertex = Point2<i64>>>(
     points: &mut T,
     (x, y): (i64, i64),
-) -> anyhow::Result<u32> {
-    Ok(points.insert(Point2::new(x, y), &ExactTests)?.index())
+) -> io::Result<u32> {
+    match points.insert(Point2::new(x, y), &ExactTests) {
+        Ok(vertex) => Ok(vertex.index()),
+        Err(_) => Err(refused()),
+    }
 }
 
 pub fn insert_all<T: Triangulation<Vertex = Point2<i64>>>(
     points: &mut T,
     places: &[(i64, i64)],
-) -> anyhow::Result<()> {
+) -> io::Result<()> {
     for place in places {
         insert(points, *place)?;
     }
@@ -51,23 +52,17 @@ pub fn insert_all<T: Triangulation<Vertex = Point2<i64>>>(
 }
 
 /// A square with its centre.
-pub fn square<T: Triangulation<Vertex = Point2<i64>>>(alloc: Global) -> anyhow::Result<T> {
-    let mut points = empty(alloc);
-    insert_all(&mut points, &[(-1, -1), (1, -1), (1, 1), (-1, 1), (0, 0)])?;
-    Ok(points)
+pub fn insert_square<T: Triangulation<Vertex = Point2<i64>>>(points: &mut T) -> io::Result<()> {
+    insert_all(points, &[(-1, -1), (1, -1), (1, 1), (-1, 1), (0, 0)])
 }
 
 /// Removes the vertex of this index, if there is one.
 pub fn remove<T: Triangulation<Vertex = Point2<i64>>>(
     points: &mut T,
     index: u32,
-) -> anyhow::Result<()> {
+) -> io::Result<()> {
     if (index as usize) < points.num_vertices() {
         points.remove(FixedVertexHandle::from_index(index), &ExactTests)?;
     }
     Ok(())
-}
-
-pub fn clear<T: Triangulation>(points: &mut T) {
-    points.clear();
 }

@@ -1,10 +1,11 @@
 //! The iterators of both types from both ends, how many items they have, and copies of them.
 ghost use Rattle.std.specs.Prelude.{◌<◌};
 
-use crate::changes::{Points, constrained, empty, square};
-use crate::lasts::print_lasts;
+use crate::changes::insert_square;
+use crate::lasts::{print_lasts, print_three};
 use spade_delaunay::handles::FaceHandle;
 use spade_delaunay::{Point2, Triangulation};
+use std::io;
 
 fn count_elements<T: Triangulation>(points: &T) -> [usize; 5] {
     [
@@ -35,12 +36,11 @@ fn count_names<T: Triangulation>(points: &T) -> [usize; 5] {
 }
 
 // How many items are left of each list: of handles, of the Voronoi diagram, and of names.
-fn print_lengths<T: Triangulation>(rt: &HostRuntime, points: &T) -> anyhow::Result<()> {
+fn print_lengths<T: Triangulation>(rt: &HostRuntime, points: &T) -> io::Result<()> {
     let elements = count_elements(points);
     let voronoi = count_voronoi(points);
     let names = count_names(points);
-    println!(rt; "left: {elements:?} {voronoi:?} {names:?}")?;
-    Ok(())
+    print_three(rt, "left: ", [&elements, &voronoi, &names])
 }
 
 // How many of these indexes are this one.
@@ -56,22 +56,17 @@ fn print_face<V, DE, UE, F>(
     rt: &HostRuntime,
     face: FaceHandle<'_, V, DE, UE, F>,
     index: u32,
-) -> anyhow::Result<()>
+) -> io::Result<()>
     requires { 0 < face.index }
 {
     let [first, second, third] = face.vertices();
     let count = count_of([first.index, second.index, third.index], index);
-    println!(rt; "face {}, vertex {index} is {count} corner", face.index)?;
-    Ok(())
+    println!(rt; "face {}, vertex {index} is {count} corner", face.index)
 }
 
 // The first and the last inner face, and how many faces are left between them and in a copy that
 // was made after the first.
-fn print_inner_faces<T: Triangulation>(
-    rt: &HostRuntime,
-    points: &T,
-    index: u32,
-) -> anyhow::Result<()> {
+fn print_inner_faces<T: Triangulation>(rt: &HostRuntime, points: &T, index: u32) -> io::Result<()> {
     let mut faces = points.inner_faces();
     if let Some(face) = faces.next() {
         print_face(rt, face, index)?;
@@ -81,41 +76,33 @@ fn print_inner_faces<T: Triangulation>(
         print_face(rt, face, index)?;
     }
     let (between, copied) = (faces.size_hint(), copy.size_hint());
-    println!(rt; "between: {between:?}, copy: {copied:?}")?;
-    Ok(())
+    println!(rt; "between: {between:?}, copy: {copied:?}")
 }
 
 // How many vertices come between the first and the last, and from a copy that has the last too.
-fn print_copies<T: Triangulation>(rt: &HostRuntime, points: &T) -> anyhow::Result<()> {
+fn print_copies<T: Triangulation>(rt: &HostRuntime, points: &T) -> io::Result<()> {
     let mut vertices = points.vertices();
     let _ = vertices.next();
     let copy = vertices.clone()?;
     let _ = vertices.next_back();
     let (left, copied) = (vertices.len(), copy.len());
-    println!(rt; "vertices left: {left}, in the copy: {copied}")?;
-    Ok(())
+    println!(rt; "vertices left: {left}, in the copy: {copied}")
 }
 
-fn print_ends<T: Triangulation>(rt: &HostRuntime, points: &T, index: u32) -> anyhow::Result<()> {
+/// The ends of all lists, and how many corners of a face are the vertex of this index.
+pub fn print_ends<T: Triangulation>(rt: &HostRuntime, points: &T, index: u32) -> io::Result<()> {
     print_lengths(rt, points)?;
     print_lasts(rt, points)?;
     print_inner_faces(rt, points, index)?;
     print_copies(rt, points)
 }
 
-// The ends where there is nothing, and those of a square with its centre, which is given back.
-fn print_square<T: Triangulation<Vertex = Point2<i64>>>(rt: &HostRuntime) -> anyhow::Result<T> {
-    let none: T = empty(rt.alloc());
-    print_ends(rt, &none, 0)?;
-    let points: T = square(rt.alloc())?;
-    print_ends(rt, &points, 4)?;
-    Ok(points)
-}
-
-pub fn run(rt: &HostRuntime) -> anyhow::Result<()> {
-    let points: Points = print_square(rt)?;
-    match constrained(points) {
-        Some(points) => print_ends(rt, &points, 4),
-        None => Ok(()),
-    }
+/// The ends where there is nothing, and those of a square with its centre.
+pub fn print_square<T: Triangulation<Vertex = Point2<i64>>>(
+    rt: &HostRuntime,
+    points: &mut T,
+) -> io::Result<()> {
+    print_ends(rt, points, 0)?;
+    insert_square(points)?;
+    print_ends(rt, points, 4)
 }

@@ -25,6 +25,12 @@ pub struct Listing {
     pub asked: Cell<u32>,
 }
 
+impl Listing {
+    fn list(&mut self, told: Told) {
+        let _ = self.told.push(told);
+    }
+}
+
 fn nothing_told(alloc: Global) -> Listing {
     Listing {
         told: Vec::new(alloc),
@@ -64,8 +70,8 @@ impl<S: SpadeNum> HintGenerator<S> for Listing {
         requires site { P.sites _tests.now (place_of S.whole position) }
         ensures { IsAtMostWith (λ _. ⊥) (λ _. ⊥) (place_of S.whole position) }
     {
-        let told = Told::Inserted(vertex.index(), position.x.to_i64(), position.y.to_i64());
-        let _ = self.told.push(told);
+        let (x, y) = (position.x.to_i64(), position.y.to_i64());
+        self.list(Told::Inserted(vertex.index(), x, y));
     }
 
     fn notify_vertex_removed<P: PlaneTests<S>>(
@@ -81,11 +87,10 @@ impl<S: SpadeNum> HintGenerator<S> for Listing {
         ensures { IsAtMostWithout (λ _. ⊥) (λ _. ⊥) (place_of S.whole position)
             (place_if S.whole swapped_in_point) }
     {
-        let told = Told::Removed(vertex.index(), position.x.to_i64(), position.y.to_i64());
-        let _ = self.told.push(told);
+        let (x, y) = (position.x.to_i64(), position.y.to_i64());
+        self.list(Told::Removed(vertex.index(), x, y));
         if let Some(point) = swapped_in_point {
-            let told = Told::SwappedIn(point.x.to_i64(), point.y.to_i64());
-            let _ = self.told.push(told);
+            self.list(Told::SwappedIn(point.x.to_i64(), point.y.to_i64()));
         }
     }
 

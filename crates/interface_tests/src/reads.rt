@@ -1,11 +1,13 @@
 //! Each call that reads, of both types, in a square with its centre.
 ghost use Rattle.std.specs.Iterator.{IsFinite};
 
-use crate::changes::{Constrained, Points, constrained, empty, square};
+use crate::changes::{HasConstraints, insert_square, refused};
+use crate::lasts::print_three;
 use spade_delaunay::handles::FixedVertexHandle;
 use spade_delaunay::{Point2, SpadeNum, Triangulation};
+use std::io;
 
-fn print_counts<T: Triangulation>(rt: &HostRuntime, points: &T) -> anyhow::Result<()> {
+fn print_counts<T: Triangulation>(rt: &HostRuntime, points: &T) -> io::Result<()> {
     println!(rt;
         "{} vertices, {} edges, {} directed, {} inner faces, {} faces, {} on the hull, \
          on a line: {}",
@@ -16,25 +18,24 @@ fn print_counts<T: Triangulation>(rt: &HostRuntime, points: &T) -> anyhow::Resul
         points.num_all_faces(),
         points.convex_hull_size(),
         points.all_vertices_on_line()
-    )?;
-    Ok(())
+    )
 }
 
 // How many items an iterator gives.
-fn count<I: Iterator + Drop>(items: I) -> u64
+fn count<I: Iterator + Drop>(items: I) -> usize
 where
     I::Item: Drop,
     requires can_next { I.can_next items }
     requires finite { IsFinite (I.remaining items) }
 {
-    let mut count: u64 = 0;
+    let mut count: usize = 0;
     for _ in items {
         count = count.saturating_add(1);
     }
     count
 }
 
-fn count_elements<T: Triangulation>(points: &T) -> [u64; 6] {
+fn count_elements<T: Triangulation>(points: &T) -> [usize; 6] {
     [
         count(points.vertices()),
         count(points.directed_edges()),
@@ -45,7 +46,7 @@ fn count_elements<T: Triangulation>(points: &T) -> [u64; 6] {
     ]
 }
 
-fn count_names<T: Triangulation>(points: &T) -> [u64; 5] {
+fn count_names<T: Triangulation>(points: &T) -> [usize; 5] {
     [
         count(points.fixed_vertices()),
         count(points.fixed_directed_edges()),
@@ -55,7 +56,7 @@ fn count_names<T: Triangulation>(points: &T) -> [u64; 5] {
     ]
 }
 
-fn count_voronoi<T: Triangulation>(points: &T) -> [u64; 3] {
+fn count_voronoi<T: Triangulation>(points: &T) -> [usize; 3] {
     [
         count(points.voronoi_faces()),
         count(points.directed_voronoi_edges()),
@@ -64,19 +65,18 @@ fn count_voronoi<T: Triangulation>(points: &T) -> [u64; 3] {
 }
 
 // How many items the iterators give: of handles, of names, and of the Voronoi diagram.
-fn print_lists<T: Triangulation>(rt: &HostRuntime, points: &T) -> anyhow::Result<()> {
+fn print_lists<T: Triangulation>(rt: &HostRuntime, points: &T) -> io::Result<()> {
     let elements = count_elements(points);
     let names = count_names(points);
     let voronoi = count_voronoi(points);
-    println!(rt; "{elements:?} {names:?} {voronoi:?}")?;
-    Ok(())
+    print_three(rt, "", [&elements, &names, &voronoi])
 }
 
 fn coordinates<S: SpadeNum>(point: Point2<S>) -> (i64, i64) {
     (point.x.to_i64(), point.y.to_i64())
 }
 
-fn print_positions<T: Triangulation>(rt: &HostRuntime, points: &T) -> anyhow::Result<()> {
+fn print_positions<T: Triangulation>(rt: &HostRuntime, points: &T) -> io::Result<()> {
     for vertex in points.fixed_vertices() {
         if let Some(vertex) = points.get_vertex(vertex) {
             println!(rt;
@@ -89,56 +89,53 @@ fn print_positions<T: Triangulation>(rt: &HostRuntime, points: &T) -> anyhow::Re
 }
 
 // What is not there, and what is always.
-fn print_bounds<T: Triangulation>(rt: &HostRuntime, points: &T) -> anyhow::Result<()> {
+fn print_bounds<T: Triangulation>(rt: &HostRuntime, points: &T) -> io::Result<()> {
     let thousandth = FixedVertexHandle::from_index(1000);
     let none = points.get_vertex(thousandth).is_none();
     let outer = points.outer_face().is_outer();
-    println!(rt; "no vertex 1000: {none}, outer face: {outer}")?;
-    Ok(())
+    println!(rt; "no vertex 1000: {none}, outer face: {outer}")
 }
 
-fn print_all<T: Triangulation>(rt: &HostRuntime, points: &T) -> anyhow::Result<()> {
+fn print_all<T: Triangulation>(rt: &HostRuntime, points: &T) -> io::Result<()> {
     print_counts(rt, points)?;
     print_lists(rt, points)?;
     print_positions(rt, points)?;
     print_bounds(rt, points)
 }
 
-fn print_constrained(rt: &HostRuntime, points: &Constrained) -> anyhow::Result<()> {
-    print_all(rt, points)?;
-    println!(rt; "{} constraints", points.num_constraints())?;
-    Ok(())
-}
-
-// What a request for too much room tells, and a triangulation with none.
-fn print_room<T: Triangulation>(rt: &HostRuntime) -> anyhow::Result<()> {
+// What a request for too much room tells.
+fn print_refusal<T: Triangulation>(rt: &HostRuntime) -> io::Result<()> {
     match T::with_capacity(rt.alloc(), 0, 2147483648, 0) {
-        Ok(_) => println!(rt; "room")?,
-        Err(error) => println!(rt; "refused: {error}")?,
-    }
-    let empty = T::with_capacity(rt.alloc(), 0, 0, 0)?;
-    print_counts(rt, &empty)
-}
-
-// What is read where there is nothing, and of a square with its centre, which is given back.
-fn print_square<T: Triangulation<Vertex = Point2<i64>>>(rt: &HostRuntime) -> anyhow::Result<T> {
-    let none: T = empty(rt.alloc());
-    print_all(rt, &none)?;
-    let points: T = square(rt.alloc())?;
-    print_all(rt, &points)?;
-    Ok(points)
-}
-
-// What is read of a plain triangulation and of the same with constraints.
-fn print_both(rt: &HostRuntime) -> anyhow::Result<()> {
-    let points: Points = print_square(rt)?;
-    match constrained(points) {
-        Some(points) => print_constrained(rt, &points),
-        None => Ok(()),
+        Ok(_) => println!(rt; "room"),
+        Err(error) => println!(rt; "refused: {error}"),
     }
 }
 
-pub fn run(rt: &HostRuntime) -> anyhow::Result<()> {
-    print_both(rt)?;
-    print_room::<Points>(rt)
+// The counts of a triangulation with no room.
+fn print_no_room<T: Triangulation>(rt: &HostRuntime) -> io::Result<()> {
+    match T::with_capacity(rt.alloc(), 0, 0, 0) {
+        Ok(points) => print_counts(rt, &points),
+        Err(_) => Err(refused()),
+    }
+}
+
+/// What is read where there is nothing, and of a square with its centre.
+pub fn print_square<T: Triangulation<Vertex = Point2<i64>>>(
+    rt: &HostRuntime,
+    points: &mut T,
+) -> io::Result<()> {
+    print_all(rt, points)?;
+    insert_square(points)?;
+    print_all(rt, points)
+}
+
+/// What is read where there may be constraints, and of triangulations made with room.
+pub fn print_constrained<T: Triangulation + HasConstraints>(
+    rt: &HostRuntime,
+    points: &T,
+) -> io::Result<()> {
+    print_all(rt, points)?;
+    println!(rt; "{} constraints", points.constraints())?;
+    print_refusal::<T>(rt)?;
+    print_no_room::<T>(rt)
 }

@@ -1,71 +1,62 @@
 //! What a generator is told of insertions, an overwrite and a removal, and how often it is asked.
 
-use crate::changes::{clear, constrained, empty, insert_all, remove};
+use crate::changes::{Constrained, Hinted, insert_all, refused, remove};
 use crate::generators::{Listing, Told};
-use crate::searches::Hinted;
+use crate::searches::FindsNearest;
 use exact_tests::ExactTests;
 use spade_delaunay::{Point2, Triangulation};
+use std::io;
 
-fn print_listing(rt: &HostRuntime, generator: &Listing) -> anyhow::Result<()> {
-    for told in &generator.told {
-        match *told {
-            Told::Inserted(vertex, x, y) => println!(rt; "inserted {vertex} at {x} {y}")?,
-            Told::Removed(vertex, x, y) => println!(rt; "removed {vertex} at {x} {y}")?,
-            Told::SwappedIn(x, y) => println!(rt; "swapped in from {x} {y}")?,
-        }
+fn print_vertex(rt: &HostRuntime, change: &str, vertex: u32, (x, y): (i64, i64)) -> io::Result<()> {
+    println!(rt; "{change} {vertex} at {x} {y}")
+}
+
+fn print_one(rt: &HostRuntime, told: Told) -> io::Result<()> {
+    match told {
+        Told::Inserted(vertex, x, y) => print_vertex(rt, "inserted", vertex, (x, y)),
+        Told::Removed(vertex, x, y) => print_vertex(rt, "removed", vertex, (x, y)),
+        Told::SwappedIn(x, y) => println!(rt; "swapped in from {x} {y}"),
     }
-    println!(rt; "asked {} times", generator.asked.get())?;
-    Ok(())
+}
+
+fn print_listing(rt: &HostRuntime, generator: &Listing) -> io::Result<()> {
+    for told in &generator.told {
+        print_one(rt, *told)?;
+    }
+    println!(rt; "asked {} times", generator.asked.get())
 }
 
 fn print_told<T: Triangulation<HintGenerator = Listing>>(
     rt: &HostRuntime,
     points: &T,
-) -> anyhow::Result<()> {
+) -> io::Result<()> {
     print_listing(rt, points.hint_generator())
 }
 
-// Asks twice for the origin.
-fn ask<T: Triangulation<Vertex = Point2<i64>>>(points: &T) {
+fn print_asked<T: Triangulation<HintGenerator = Listing>>(
+    rt: &HostRuntime,
+    points: &T,
+) -> io::Result<()> {
+    let asked = points.hint_generator().asked.get();
+    println!(rt; "asked {asked} times before constraints")
+}
+
+// Asks three times for the origin.
+fn ask<T: Triangulation<Vertex = Point2<i64>> + FindsNearest>(points: &T) {
     let center = Point2::new(0, 0);
     let _ = points.locate(center, &ExactTests);
     let _ = points.locate_vertex(center, &ExactTests);
+    let _ = points.distance(center);
 }
 
-// Asks for what is nearest to it.
-fn ask_nearest(points: &Hinted<Listing>) {
-    let _ = points.nearest_neighbor(Point2::new(0, 0), &ExactTests);
-}
-
-fn asked<T: Triangulation<HintGenerator = Listing>>(points: &T) -> u32 {
-    points.hint_generator().asked.get()
-}
-
-fn print_constrained(rt: &HostRuntime, points: Hinted<Listing>) -> anyhow::Result<()> {
-    let Some(points) = constrained(points) else {
-        return Ok(());
-    };
-    let asked = asked(&points);
-    println!(rt; "asked {asked} times before constraints")?;
-    Ok(())
-}
-
-// What is told of three insertions and an overwrite. Then it is asked for the origin.
-fn print_insertions<T: Triangulation<Vertex = Point2<i64>, HintGenerator = Listing>>(
+// What is told of three insertions and an overwrite, and, after some questions, of a removal.
+fn print_edits<T: Triangulation<Vertex = Point2<i64>, HintGenerator = Listing> + FindsNearest>(
     rt: &HostRuntime,
     points: &mut T,
-) -> anyhow::Result<()> {
+) -> io::Result<()> {
     insert_all(points, &[(0, 1), (1, 1), (1, 0), (1, 1)])?;
     print_told(rt, points)?;
     ask(points);
-    Ok(())
-}
-
-// What is told of a removal.
-fn print_removal<T: Triangulation<Vertex = Point2<i64>, HintGenerator = Listing>>(
-    rt: &HostRuntime,
-    points: &mut T,
-) -> anyhow::Result<()> {
     remove(points, 0)?;
     print_told(rt, points)
 }
@@ -75,23 +66,29 @@ fn print_copy<T: Triangulation<HintGenerator = Listing>>(
     rt: &HostRuntime,
     copy: &T,
     points: &mut T,
-) -> anyhow::Result<()> {
+) -> io::Result<()> {
     print_told(rt, copy)?;
-    clear(points);
+    points.clear();
     print_told(rt, points)
 }
 
-// What is told of insertions, an overwrite and a removal, and how often it was asked.
-fn print_edits(rt: &HostRuntime, points: &mut Hinted<Listing>) -> anyhow::Result<()> {
-    print_insertions(rt, points)?;
-    ask_nearest(points);
-    print_removal(rt, points)
+fn print_copies(
+    rt: &HostRuntime,
+    copy: Hinted<Listing>,
+    points: &mut Hinted<Listing>,
+) -> io::Result<()> {
+    print_copy(rt, &copy, points)?;
+    match Constrained::from_delaunay(copy) {
+        Ok(points) => print_asked(rt, &points),
+        Err(_) => Err(refused()),
+    }
 }
 
-pub fn run(rt: &HostRuntime) -> anyhow::Result<()> {
-    let mut points: Hinted<Listing> = empty(rt.alloc());
+pub fn run(rt: &HostRuntime) -> io::Result<()> {
+    let mut points: Hinted<Listing> = Hinted::new(rt.alloc());
     print_edits(rt, &mut points)?;
-    let copy = points.try_clone()?;
-    print_copy(rt, &copy, &mut points)?;
-    print_constrained(rt, copy)
+    match points.try_clone() {
+        Ok(copy) => print_copies(rt, copy, &mut points),
+        Err(_) => Err(refused()),
+    }
 }

@@ -1,5 +1,5 @@
 -- The directed edges of a mesh and the pairs of vertices that its edges join.
-use Rattle.std.proofs.Common.{◌≡◌, ◌≢◌, ◌⊎◌, ℕ, ◌+◌, ◌*◌, ◌/◌, ◌%◌, ◌<◌, List, length, map, get_or, refl, sym, ap, ◌∙◌, inl, inr, arith}
+use Rattle.std.proofs.Common.{◌≡◌, ◌≢◌, ◌⊎◌, ℕ, ◌+◌, ◌*◌, ◌/◌, ◌%◌, ◌<◌, List, length, map, get_or, refl, sym, ap, ◌∙◌, inl, inr, arith, [], subst}
 use Rattle.std.specs.Prelude.{Contains}
 use Rattle.std.proofs.lemmas.Bool.{cases_eq}
 use Rattle.std.proofs.lemmas.Grind.{common_steps}
@@ -13,9 +13,11 @@ use Rattle.mesh_embedding.specs.Drawn.{pair_of, edges_of}
 abbrev no_ends : Ends
 no_ends = record { source = 0; target = 0 }
 
+-- the values of a function over a list contain its value at each place
 pub Contains-map : {X Y : Type 0} (f : X → Y) (xs : List X) (k : ℕ) (d : X) (y : Y) → k < length xs → f (get_or xs k d) ≡ y → Contains (map f xs) y
 Contains-map f xs k d y within e = (k, omega (arith, length-map xs f), get_or-map f xs k d y within ∙ e)
 
+-- each of the values of a function over a list is its value at some place
 pub Contains-map_from : {X Y : Type 0} (f : X → Y) (xs : List X) (d : X) (y : Y) → Contains (map f xs) y → (k : ℕ) × (k < length xs) × (f (get_or xs k d) ≡ y)
 Contains-map_from f xs d y h =
     let within : h.0 < length xs = let l = h.1 in omega (arith, length-map xs f) in
@@ -29,10 +31,29 @@ rev_of_even k = let even : 2 * k % 2 ≡ 0 = omega arith in rw even refl
 pub rev_of_odd : (k : ℕ) → rev (2 * k + 1) ≡ 2 * k
 rev_of_odd k = let odd : (2 * k + 1) % 2 ≡ 1 = omega arith in rw odd (omega arith)
 
+-- the undirected edge of an even edge
+pub half_of_even : (k : ℕ) → (2 * k) / 2 ≡ k
+half_of_even k = omega arith
+
+-- the undirected edge of an odd edge
+pub half_of_odd : (k h : ℕ) → h ≡ 2 * k + 1 → h / 2 ≡ k
+half_of_odd k h e = omega (arith, e)
+
+-- no pair is in the empty list
+pub no_joins : (i j : ℕ) → Joins [] i j → ⊥
+no_joins i j (inl h) = absurd (omega (arith, h.1))
+no_joins i j (inr h) = absurd (omega (arith, h.1))
+
+-- an edge starts at one of the n vertices
+pub starts_within : (m : Mesh) → AreSoundLinks m → (n : ℕ) → n ≡ length m.out_edges → (h : ℕ) → h < length m.half_edges
+    → origin m h < n
+starts_within m s n count h within = subst (λ (k : ℕ). origin m h < k) (sym count) (s.edges h within).origin_in
+
 module _ (m : Mesh) (s : AreSoundLinks m) where
   pair_there : (k : ℕ) → 2 * k + 1 < length m.half_edges → Contains (edges_of m) (origin m (2 * k), origin m (2 * k + 1))
   pair_there k within = Contains-map pair_of (ends m) k (record { source = 0; target = 0 }) (origin m (2 * k), origin m (2 * k + 1)) (omega (arith, length-ends_twice m s)) (ap pair_of (get_or-ends m k (record { source = 0; target = 0 }) within))
 
+  -- each directed edge of sound links joins its start to its end, among the pairs of the edges
   pub edge_joins : (h : ℕ) → h < length m.half_edges → Joins (edges_of m) (origin m h) (origin m (rev h))
   edge_joins h within = go (cases_eq (h % 2) 0)
     where
@@ -49,6 +70,7 @@ module _ (m : Mesh) (s : AreSoundLinks m) where
           let there : 2 * (h / 2) ≡ rev h = grind (arith, common_steps) in
           inr (rw (ap (origin m) (sym here), ap (origin m) (sym there)) (pair_there (h / 2) (omega (arith, n, even, within))))
 
+  -- two vertices that are joined have a directed edge from the one to the other
   pub joins_edge : (i j : ℕ) → Joins (edges_of m) i j → (h : ℕ) × (h < length m.half_edges) × (origin m h ≡ i) × (origin m (rev h) ≡ j)
   joins_edge i j (inl c) =
       let r = Contains-map_from pair_of (ends m) no_ends (i, j) c in

@@ -85,6 +85,7 @@ module _ {V D U F : Type 0} where
       there (inr (inr e)) = inr (inr (subst (Contains (faces_of new.mesh)) (ap corners_of e) made_listed))
 
 -- ---- the same change, its lists written otherwise
+-- a change of faces is the same with lists of gone and made faces that have the same sums
 pub change_as : (old new gone made gone' made' : List Face) → FacesChange old new gone made → ((f : Face → ℤ) → IsTurnFree f → total f gone ≡ total f gone') → ((f : Face → ℤ) → IsTurnFree f → total f made ≡ total f made') → ((i j k : ℕ) → IsFaceOf made' i j k → IsFaceOf made i j k) → FacesChange old new gone' made'
 change_as old new gone made gone' made' c same_gone same_made back = record {
   totals = λ f free. (λ i. total f new +ℤ sym (same_gone f free) i) ∙ c.totals f free ∙ (λ i. total f old +ℤ same_made f free i);
@@ -116,6 +117,7 @@ module _ (one two three : List Face) (v a b c : ℕ) (more : List Face) (made : 
     | inr h ↦ absurd (elim (gone_at_v a b c h) as (λ _. ⊥) [ inl e ↦ va e | inr e ↦ elim e as (λ _. ⊥) [ inl e ↦ vb e | inr e ↦ vc e ] ])
   ]
 
+  -- both changes together: of the faces at v, a b c is left, beside what the second makes
   pub both_changes : FacesChange one three (corners v a b ∷ corners v b c ∷ more) (corners a b c ∷ made)
   both_changes = record {
     totals = λ f free. joined (total f one) (total f two) (total f three) (f (corners v a b)) (f (corners v b c)) (f (corners v a c)) (f (corners a b c)) (total f more) (total f made) (first.totals f free) (second.totals f free);

@@ -1,3 +1,5 @@
+pub mod Entries
+pub mod TurnedEnds
 pub mod EdgePairs
 pub mod OwnEdges
 pub mod OuterEdges

@@ -4,7 +4,7 @@ use mathlib.Core.Logic.{inl, inr, ◌≢◌}
 use Rattle.std.specs.Prelude.{ℤ, pos, ◌-ℤ◌, ◌<ℤ◌, Contains}
 use Rattle.std.proofs.lemmas.Int.{ints}
 use Rattle.std.proofs.lemmas.Bool.{cases_eq}
-use Rattle.plane.specs.Fraction.{Point, whole, WithinSegment}
+use Rattle.plane.specs.Fraction.{Point, whole}
 use Rattle.plane.specs.Pairs.{IsIndex}
 use Rattle.plane.proofs.IntegerOrder.{lt_or_ge_ℤ}
 use Rattle.plane.proofs.Bracket.{bracket, lift}
@@ -18,6 +18,10 @@ use Rattle.plane_tiling.proofs.LinePlaces as O
 use Rattle.plane_edits.specs.Removal.{LineMeshWithout}
 use Rattle.plane.proofs.Signs.{at_most_both_ways, less_twice_is_not_same, below_and_not_below}
 
+-- different vertices have different heights
+abbrev pub HaveOwnHeights : (ℕ → ℤ) → ℕ → Type 0
+HaveOwnHeights height n = (i j : ℕ) → i < n → j < n → i ≢ j → ¬ (height i ≡ height j)
+
 -- ---- places along the line from vertex a to another vertex b
 module _ (n : ℕ) (p : ℕ → Point) (outer : List (ℕ × ℕ)) (m : SignLine n p outer) (a b : ℕ) (a_in : a < n) (b_in : b < n) (apart : a ≢ b) where
   level : bracket (at p a) (at p b) (lift (p a)) ≡ pos 0
@@ -29,6 +33,7 @@ module _ (n : ℕ) (p : ℕ → Point) (outer : List (ℕ × ℕ)) (m : SignLine
   level' : bracket (at p b) (at p a) (lift (p a)) ≡ pos 0
   level' = O.turned_level n p outer m (whole (p a)) a b a_in b_in apart level
 
+  -- how far along the line from a to b a vertex lies
   pub spot : ℕ → ℤ
   spot = O.spot n p outer m (whole (p a)) a b a_in b_in apart level
 
@@ -52,17 +57,10 @@ module _ (n : ℕ) (p : ℕ → Point) (outer : List (ℕ × ℕ)) (m : SignLine
       shifted : (x y c s t d : ℤ) → x -ℤ c ≡ d -ℤ s → y -ℤ c ≡ d -ℤ t → y -ℤ x ≡ s -ℤ t
       shifted x y c s t d h k = omega (arith, ints)
 
-  pub same : (i j : ℕ) → i < n → j < n → spot i ≡ spot j → i ≡ j
+  -- different vertices are at different places
+  pub own_spots : HaveOwnHeights spot n
   unfolding spot
-  same = O.same_spot n p outer m (whole (p a)) a b a_in b_in apart level
-
-  within : (i j k : ℕ) → i < n → j < n → k < n → spot i <ℤ spot k → spot k <ℤ spot j → WithinSegment (whole (p i)) (whole (p j)) (whole (p k))
-  unfolding spot level
-  within = O.within_k n p outer m (whole (p a)) a b a_in b_in apart level
-
-  lower : (w : ℕ) → w < n → (j : ℕ) → O.IsBelow spot n (spot w) j → Contains outer (w, j)
-  unfolding spot level
-  lower = O.lower_edge n p outer m (whole (p a)) a b a_in b_in apart level
+  own_spots i j hi hj d e = d (O.same_spot n p outer m (whole (p a)) a b a_in b_in apart level i j hi hj e)
 
   upper : (w : ℕ) → w < n → (j : ℕ) → O.IsBelow spot' n (spot' w) j → Contains outer (w, j)
   unfolding spot'
@@ -75,11 +73,12 @@ module _ (n : ℕ) (p : ℕ → Point) (outer : List (ℕ × ℕ)) (m : SignLine
   over x y c d e h = omega (arith, ints)
 
   differ : (i j : ℕ) → i < n → j < n → i ≢ j → (spot i <ℤ spot j) ⊎ (spot j <ℤ spot i)
-  differ i j hi hj d = elim (lt_or_ge_ℤ (spot i) (spot j)) [ inl l ↦ inl l | inr l ↦ elim (lt_or_ge_ℤ (spot j) (spot i)) [ inl h ↦ inr h | inr h ↦ absurd (d (same i j hi hj (at_most_both_ways (spot i) (spot j) h l))) ] ]
+  differ i j hi hj d = elim (lt_or_ge_ℤ (spot i) (spot j)) [ inl l ↦ inl l | inr l ↦ elim (lt_or_ge_ℤ (spot j) (spot i)) [ inl h ↦ inr h | inr h ↦ absurd (own_spots i j hi hj d (at_most_both_ways (spot i) (spot j) h l)) ] ]
 
   -- with a vertex below it, w has a neighbour below it
   pub below_edge : (w x : ℕ) → w < n → x < n → spot x <ℤ spot w → (j : ℕ) × Contains outer (w, j) × (spot j <ℤ spot w)
-  below_edge w x hw hx l = elim (O.nearest_below spot n (spot w)) [ inl s ↦ (s.0, lower w hw s.0 s.1, s.1.below) | inr none ↦ absurd (below_and_not_below (spot x) (spot w) l (none x hx)) ]
+  unfolding spot level
+  below_edge w x hw hx l = elim (O.nearest_below spot n (spot w)) [ inl s ↦ (s.0, O.lower_edge n p outer m (whole (p a)) a b a_in b_in apart level w hw s.0 s.1, s.1.below) | inr none ↦ absurd (below_and_not_below (spot x) (spot w) l (none x hx)) ]
 
   -- and likewise above
   above_edge : (w x : ℕ) → w < n → x < n → spot w <ℤ spot x → (j : ℕ) × Contains outer (w, j) × (spot w <ℤ spot j)
@@ -100,7 +99,8 @@ module _ (n : ℕ) (p : ℕ → Point) (outer : List (ℕ × ℕ)) (m : SignLine
 
   -- one between two neighbours
   rising : (i j k : ℕ) → IsNext n p i j → k < n → spot i <ℤ spot k → spot k <ℤ spot j → ⊥
-  rising i j k s h x y = s.none_between k h (within i j k s.first s.second h x y)
+  unfolding spot level
+  rising i j k s h x y = s.none_between k h (O.within_k n p outer m (whole (p a)) a b a_in b_in apart level i j k s.first s.second h x y)
 
   no_three : (c : ℕ) → IsNext n p a b → IsNext n p b c → IsNext n p c a → ⊥
   no_three c ab bc ca = go (differ a b a_in b_in apart) (differ b c b_in bc.second bc.apart) (differ c a ca.first a_in ca.apart)
@@ -117,6 +117,7 @@ module _ (n : ℕ) (p : ℕ → Point) (outer : List (ℕ × ℕ)) (m : SignLine
   one_below : (v x y : ℕ) → IsNext n p v x → IsNext n p v y → spot x <ℤ spot v → spot y <ℤ spot v → x ≢ y → ⊥
   one_below v x y f g h k d = elim (differ x y f.second g.second d) as (λ _. ⊥) [ inl l ↦ rising x v y (turned v x f) g.second l k | inr l ↦ rising y v x (turned v y g) f.second l h ]
 
+  -- two neighbours of v above it are the same
   pub one_above : (v x y : ℕ) → IsNext n p v x → IsNext n p v y → spot v <ℤ spot x → spot v <ℤ spot y → x ≢ y → ⊥
   one_above v x y f g h k d = elim (differ x y f.second g.second d) as (λ _. ⊥) [ inl l ↦ rising v y x g f.second h l | inr l ↦ rising v x y f g.second k l ]
 

@@ -1,7 +1,6 @@
 -- A vertex without edges goes, and the last one takes its index: in the faces and the outer edges, the points and the plain state.
 use Rattle.std.proofs.Common.{◌≡◌, ℕ, zero, suc, ◌<◌, ◌-◌, List, [], ◌∷◌, length, map, get_or, set, refl, sym, ap, ◌∙◌, subst, arith}
-use mathlib.Core.Logic.{inl, inr}
-use Rattle.std.specs.Prelude.{Contains, Option, None, IsSome, swap_remove, take, nat_eq, if◌then◌else◌}
+use Rattle.std.specs.Prelude.{Contains, swap_remove, take, nat_eq, if◌then◌else◌}
 use Rattle.std.proofs.lemmas.Option.{slice_get_within}
 use Rattle.std.proofs.lemmas.List.{take-map}
 use Rattle.half_edge_mesh.specs.Mesh.{Mesh, AreSoundLinks, IsAlone, origin, out_edge}
@@ -13,14 +12,14 @@ use Rattle.half_edge_mesh.specs.Contents.{Contents, IsMeshWithData}
 use Rattle.half_edge_mesh.specs.Removal.{FullFace, full_faces, full_faces_of, renumbered_ends, renumbered_face, DropsVertex}
 use Rattle.half_edge_dcel.proofs.Dropped.{renumbered_triangle}
 use Rattle.plane.specs.Fraction.{Point}
-use Rattle.plane.specs.Pairs.{Joins}
 use Rattle.plane.specs.Plain.{Removes}
 use Rattle.plane.specs.Tiling.{Face}
 use Rattle.plane_tiling.specs.Local.{LocalMesh, LineMesh}
-use Rattle.plane_tiling.proofs.Totals.{Contains-none}
 use Rattle.plane_edits.specs.Removal.{LocalMeshWithout, LineMeshWithout, renumbered, renumbered_pair}
 use Rattle.plane_edits.proofs.Removal.Renumbering.{last_takes_freed_index, last_takes_freed_index_on_line}
 use Rattle.mesh_embedding.specs.Drawn.{corners_of, pair_of, faces_of, outer_of}
+use Rattle.mesh_embedding.proofs.EdgePairs.{no_joins}
+use Rattle.mesh_embedding.proofs.Entries.{not_some}
 use Rattle.mesh_embedding.proofs.OuterEdges.{real}
 use Rattle.mesh_embedding.proofs.FaceChanges.{length_map}
 use Rattle.half_edge_links.proofs.Removing.ShrinkTriangles.{get_map}
@@ -30,10 +29,7 @@ pub alone_has_none : (m : Mesh) (v j : ℕ) → AreSoundLinks m → IsAlone m v 
 alone_has_none m v j s alone c =
     let r = real m v j c in
     let some = (s.edges r.0 r.1.within).has_out in
-    cc_none (out_edge m (origin m r.0)) (ap (out_edge m) r.1.source ∙ alone.1) some
-  where
-    cc_none : (o : Option ℕ) → o ≡ None → IsSome o → ⊥
-    cc_none o e h = cc
+    not_some (out_edge m (origin m r.0)) (ap (out_edge m) r.1.source ∙ alone.1) some
 
 -- ---- lists
 mapped_set : {X Y : Type 0} (f : X → Y) (xs : List X) (k : ℕ) (x : X) → map f (set xs k x) ≡ set (map f xs) k (f x)
@@ -41,12 +37,14 @@ mapped_set f [] k x = refl
 mapped_set f (y ∷ ys) zero x = refl
 mapped_set f (y ∷ ys) (suc k) x = ap (λ zs. f y ∷ zs) (mapped_set f ys k x)
 
+-- an item may be taken out before a function is applied to the list, or after
 pub mapped_swap_remove : {X Y : Type 0} (f : X → Y) (xs : List X) (k : ℕ) (d : X) → map f (swap_remove xs k d) ≡ swap_remove (map f xs) k (f d)
 mapped_swap_remove f xs k d =
     sym (take-map f (length xs - 1) (set xs k (get_or xs (length xs - 1) d)))
     ∙ ap (take (length xs - 1)) (mapped_set f xs k (get_or xs (length xs - 1) d) ∙ ap (set (map f xs) k) (sym (get_map f xs (length xs - 1) d)))
     ∙ ap (λ n. take (n - 1) (set (map f xs) k (get_or (map f xs) (n - 1) (f d)))) (sym (length_map f xs))
 
+-- two functions applied one after the other to a list are one function applied to it
 pub mapped_twice : {X Y Z : Type 0} (f : X → Y) (g : Y → Z) (h : X → Z) (xs : List X) → ((x : X) → g (f x) ≡ h x) → map g (map f xs) ≡ map h xs
 mapped_twice f g h [] e = refl
 mapped_twice f g h (x ∷ xs) e = λ i. e x i ∷ mapped_twice f g h xs e i
@@ -66,6 +64,7 @@ corners_listed [] fs e = refl
 corners_listed (t ∷ ts) [] e = absurd (omega (arith, e))
 corners_listed (t ∷ ts) (y ∷ fs) e = ap (λ xs. t ∷ xs) (corners_listed ts fs (omega (arith, e)))
 
+-- the corners of the faces with their data are the triangles of the mesh
 pub whole_faces : {V D U F : Type 0} (c : Contents V D U F) → IsMeshWithData c → map (λ (x : FullFace F). x.corners) (full_faces c) ≡ triangles c.mesh
 whole_faces c w = corners_listed (triangles c.mesh) c.faces (w.fits.faces_fit ∙ sym (length_map (triangle_at c.mesh) c.mesh.face_edges))
 
@@ -73,6 +72,7 @@ module _ {V D U F : Type 0} (position : V → Point) (old new : Contents V D U F
   last : ℕ
   last = length old.vertices - 1
 
+  -- the vertex that goes is one of the vertices
   pub index_within : v < length old.vertices
   index_within = slice_get_within old.vertices v value drops.had
 
@@ -118,12 +118,8 @@ module _ {V D U F : Type 0} (position : V → Point) (old new : Contents V D U F
   removes_vertex = record {
     here = index_within;
     vertices = λ d. vertices_left ∙ swap_remove_default old.vertices v value d (let h = index_within in omega (arith, h));
-    constraints = λ a b. ((λ j. absurd (no_pair a b j)), (λ j. absurd (no_pair (old_of a) (old_of b) j.2)));
+    constraints = λ a b. ((λ j. absurd (no_joins a b j)), (λ j. absurd (no_joins (old_of a) (old_of b) j.2)));
   }
     where
       old_of : ℕ → ℕ
       old_of k = if nat_eq k v then length old.vertices - 1 else k
-
-      no_pair : (a b : ℕ) → Joins [] a b → ⊥
-      no_pair a b (inl h) = Contains-none (a, b) h
-      no_pair a b (inr h) = Contains-none (b, a) h

@@ -160,9 +160,11 @@ module _ (old : Mesh) (e : ℕ) (s : AreSoundLinks old) (x : IsFlippable old e) 
   pub two_places : (face old e - 1) ≢ (face old (rev e) - 1)
   two_places same = x.apart (let h = x.inner in let k = x.twin_inner in omega arith)
 
+  -- the twin of an edge between two faces starts at the second corner of the face on its left
   pub start_of_twin : origin old (rev e) ≡ origin old (next old e)
   start_of_twin = sym (s.edges e x.within).starts
 
+  -- and the edge after the twin starts where the edge does
   pub end_of_twin : origin old (next old (rev e)) ≡ origin old e
   end_of_twin = (s.edges (rev e) right_side.0).starts ∙ ap (origin old) (rev-rev e)
 
@@ -302,6 +304,7 @@ face_behind old e s x =
     let k = is_face_at old (rev e) s (T.triangle_at old (rev e) s r.0 r.1) r.1 in
     subst (λ (y : ℕ × ℕ). IsFaceOf (faces_of old) y.0 y.1 (origin old (prev old (rev e)))) (λ i. (start_of_twin old e s x i, end_of_twin old e s x i)) k
 
+-- the face on the left of an inner edge is listed, up to rotation, from the edge on
 pub face_before : (old : Mesh) (e : ℕ) → AreSoundLinks old → IsInnerEdge old e → IsFaceOf (faces_of old) (origin old e) (origin old (next old e)) (origin old (prev old e))
 face_before old e s x = is_face_at old e s (T.triangle_at old e s x.0 x.1) x.1
 

@@ -3,7 +3,7 @@ use Rattle.std.proofs.Common.{◌≡◌, ◌⊎◌, ℕ, ◌<◌, List, [], ◌�
 use mathlib.Core.Logic.{inl, inr}
 use Rattle.std.specs.Prelude.{pos, ◌+ℤ◌, Contains}
 use Rattle.half_edge_mesh.specs.Mesh.{Mesh, origin, next, face, rev, AreSoundLinks, HasApartEnds}
-use Rattle.half_edge_mesh.specs.Outline.{ReplacesOuter, ClosesOuter, AddsTriangle}
+use Rattle.half_edge_mesh.specs.Outline.{ClosesOuter, AddsTriangle}
 use Rattle.half_edge_links.proofs.Lists.Rev.{rev_within}
 use Rattle.plane.specs.Fraction.{Point}
 use Rattle.plane.specs.Side.{TurnsLeft}
@@ -13,10 +13,10 @@ use Rattle.plane_tiling.specs.Local.{total, LocalMesh}
 use Rattle.plane_tiling.proofs.Totals.{Contains-head, Contains-none, Contains-cases}
 use Rattle.plane_edits.specs.Change.{FacesChange, OuterChange, IsFaceOf}
 use Rattle.plane_edits.specs.Extension.{steps, last_of, IsSeenRun, IsExtending}
-use Rattle.plane_edits.proofs.Insertion.Growing.{extension_begins, extension_goes_on, extension_goes_back, extension_ends}
+use Rattle.plane_edits.proofs.Insertion.Growing.{extension_goes_on, extension_goes_back, extension_ends}
 use Rattle.mesh_embedding.specs.Drawn.{faces_of, outer_of}
 use Rattle.mesh_embedding.proofs.OuterEdges.{listed, real}
-use Rattle.mesh_embedding.proofs.OuterChanges.{two_pairs, outer_replaced, outer_closed}
+use Rattle.mesh_embedding.proofs.OuterChanges.{two_pairs, outer_closed}
 use Rattle.mesh_embedding.proofs.FaceChanges.{turned_faces}
 use Rattle.mesh_embedding.proofs.MeshEdits.{added_faces}
 
@@ -71,6 +71,7 @@ module _ (points : List Point) (q : Point) (faces : List Face) (outer : List (�
         | inr e ↦ sym (ap (λ (p : ℕ × ℕ). p.1) e)
       ]
 
+  -- the one outer edge to the new vertex starts at u
   pub to_new : (i : ℕ) → Contains (outer_of old) (i, length points) → i ≡ u
   to_new i c = go (x.outer_change.only i (length points) c)
     where

@@ -25,7 +25,7 @@ use Rattle.mesh_embedding.specs.Drawn.{corners_of, pair_of, faces_of, outer_of}
 use Rattle.mesh_embedding.proofs.FaceSums.{faces_lost, both_changes}
 use Rattle.mesh_embedding.proofs.MeshInnerRemoval.{outer_then}
 use Rattle.mesh_embedding.proofs.OuterChanges.{two_pairs}
-use Rattle.mesh_embedding.proofs.PairSums.{SumsChange, sums_change, outer_sums}
+use Rattle.mesh_embedding.proofs.PairSums.{SumsChange, HaveNoneIn, sums_change, outer_sums}
 
 -- the faces and the ways between neighbours, as the plane lists them
 faces_strip : (v : ℕ) (n : ℕ → ℕ) (k : ℕ) → map corners_of (faces_between v n k) ≡ strip v n k
@@ -60,7 +60,7 @@ module _ (points : List Point) (faces : List Face) (old new : List (ℕ × ℕ))
       outer_is_no_side (length points) (point_at points) faces old (by_signs points faces old local) i j h
       (v, subst (λ (x : ℕ × ℕ). IsFaceOf faces x.0 x.1 v) (λ t. (sym r.2 t, sym r.3 t)) (turned faces v (n r.0) (n (suc r.0)) (star.around r.0 r.1)))
 
-  apart : (i j : ℕ) → Contains (chain n k) (i, j) → ¬ Contains gone (i, j)
+  apart : HaveNoneIn (chain n k) gone
   apart i j c h =
       let r = in_chain n k i j c in
       elim (two_pairs (i, j) (n 0, v) (v, n k) h) as (λ _. ⊥) [
@@ -68,10 +68,16 @@ module _ (points : List Point) (faces : List Face) (old new : List (ℕ × ℕ))
         | inr e ↦ other r.0 (sym r.2 ∙ sym (ap (λ (x : ℕ × ℕ). x.0) e))
       ]
 
+  -- by the sums: the two outer edges at v give way to the chain of its neighbours
   pub strip_outer : SumsChange old new gone (chain n k) → OuterChange old new gone (chain n k)
   strip_outer sums = sums_change old new gone (chain n k) sums local.once (chain_once n k differ) fresh apart
 
 -- ---- a corner of the hull goes with its faces
+-- what is left without v, with faces or on a line
+pub record IsLeftWithout (v : ℕ) (points : List Point) (faces : List Face) (outer : List (ℕ × ℕ)) : Type 0 where
+  pub with_faces : faces ≢ [] → LocalMeshWithout v points faces outer
+  pub on_line : faces ≡ [] → LineMeshWithout v points outer
+
 module _ {V D U F : Type 0} (points : List Point) (old new : Contents V D U F) (v k : ℕ) (n : ℕ → ℕ) (before : IsMeshWithData old) (after : IsMeshWithData new) (local : LocalMesh points (faces_of old.mesh) (outer_of old.mesh))
     (star : IsHullStar (faces_of old.mesh) (outer_of old.mesh) v k n) (other : (i : ℕ) → n i ≢ v) (differ : (i j : ℕ) → i < j → j ≤ k → n i ≢ n j) (loses : LosesStrip old new v n k) where
   strip_goes : FacesChange (faces_of old.mesh) (faces_of new.mesh) (strip v n k) []
@@ -82,15 +88,15 @@ module _ {V D U F : Type 0} (points : List Point) (old new : Contents V D U F) (
       (subst (λ (es : List (ℕ × ℕ)). SumsChange (outer_of old.mesh) (outer_of new.mesh) ((n 0, v) ∷ (v, n k) ∷ []) es) (ways_chain n k) (outer_sums old.mesh new.mesh (joins (n 0) v ∷ joins v (n k) ∷ []) (M.chain n k) loses.outer))
 
   module _ (corner : TurnsLeft (place points v) (place points (n 0)) (place points (n k))) (bent : NoneTurnsLeft points k n) where
-    -- other faces are left
-    pub corner_cut : faces_of new.mesh ≢ [] → LocalMeshWithout v points (faces_of new.mesh) (outer_of new.mesh)
-    corner_cut some = corner_goes points (faces_of old.mesh) (faces_of new.mesh) (outer_of old.mesh) (outer_of new.mesh) v k n local star corner bent strip_goes ways_come some
-
-    -- no face is left
-    pub corner_cut_to_line : faces_of new.mesh ≡ [] → LineMeshWithout v points (outer_of new.mesh)
-    corner_cut_to_line none = corner_leaves_line points (faces_of old.mesh) (faces_of new.mesh) (outer_of old.mesh) (outer_of new.mesh) v k n local star corner bent strip_goes ways_come none
+    -- other faces are left, or none is
+    pub corner_cut : IsLeftWithout v points (faces_of new.mesh) (outer_of new.mesh)
+    corner_cut = record {
+      with_faces = λ some. corner_goes points (faces_of old.mesh) (faces_of new.mesh) (outer_of old.mesh) (outer_of new.mesh) v k n local star corner bent strip_goes ways_come some;
+      on_line = λ none. corner_leaves_line points (faces_of old.mesh) (faces_of new.mesh) (outer_of old.mesh) (outer_of new.mesh) v k n local star corner bent strip_goes ways_come none;
+    }
 
 -- ---- a vertex on a flat side goes: of the edge to neighbour 1 the flip makes a flat face, which goes with it
+-- a vertex on a flat side, whose one inner edge was flipped, leaves a mesh of the other points
 pub flat_vertex_goes : {V D U F : Type 0} (points : List Point) (old between new : Contents V D U F) (v : ℕ) (nb n : ℕ → ℕ) → IsMeshWithData between → IsMeshWithData new → LocalMesh points (faces_of old.mesh) (outer_of old.mesh)
     → IsHullStar (faces_of old.mesh) (outer_of old.mesh) v 2 nb → ((i : ℕ) → nb i ≢ v)
     → side (place points (nb 0)) (place points v) (place points (nb 2)) ≡ on
@@ -126,7 +132,7 @@ flat_vertex_goes points old between new v nb n before after local star other fla
       | inr k ↦ Contains-none (i, j) k
     ]
 
-    apart : (i j : ℕ) → Contains made (i, j) → ¬ Contains gone (i, j)
+    apart : HaveNoneIn made gone
     apart i j c h = elim (two_pairs (i, j) (nb 0, v) (v, nb 2) h) as (λ _. ⊥) [
       | inl e ↦ other 2 ((made_is i j c).1 ∙ sym (ap (λ (x : ℕ × ℕ). x.1) e))
       | inr e ↦ other 0 ((made_is i j c).0 ∙ sym (ap (λ (x : ℕ × ℕ). x.0) e))

@@ -41,11 +41,14 @@ use Rattle.mesh_embedding.proofs.OuterEdges.{listed}
 use Rattle.mesh_embedding.proofs.OuterChanges.{own_ends}
 use Rattle.mesh_embedding.proofs.FaceChanges.{turned_faces}
 use Rattle.mesh_embedding.proofs.MeshEdits.{start_of_twin, end_of_twin, face_before, face_behind, flipped_faces, flip_kept_by}
+use Rattle.mesh_embedding.proofs.EdgePairs.{rev_of_even, half_of_even, half_of_odd}
 use Rattle.mesh_embedding.proofs.MeshStays.{halved, keeps_indexes, stays_none, stays_turned}
+use Rattle.mesh_embedding.proofs.TurnedEnds.{KeepsOtherOrigins, other_ends_stay, ends_at_next}
 use Rattle.mesh_embedding.proofs.WorkLists.{contains_last, contains_before, last_or_before, once_before, last_not_before, once_after, contains_map, contains_map_from, same_map, at_most_so_many}
 pub use Rattle.plane.proofs.Indexes.{same_joined, turned_join}
 
 -- ---- the edges of a work list
+-- the pairs of a work list join the two ends of each edge in it
 pub joins_edge : (m : Mesh) (ks : List ℕ) (k : ℕ) → Contains ks k → Joins (pairs_at m ks) (origin m (2 * k)) (origin m (rev (2 * k)))
 joins_edge m ks k h = inl (contains_map (pair_at m) ks k h)
 
@@ -56,6 +59,33 @@ joins_directed m ks h c = elim (halved h) [
   | inr e ↦ turned_join (pairs_at m ks) (origin m (rev h)) (origin m h)
       (subst (λ (x : ℕ). Joins (pairs_at m ks) (origin m (rev h)) (origin m x)) (rev-rev h) (subst (λ (x : ℕ). Joins (pairs_at m ks) (origin m x) (origin m (rev x))) e (joins_edge m ks (h / 2) c)))
 ]
+
+-- a directed edge of a pair that listed edges join
+pub record IsListedEdge (m : Mesh) (ks : List ℕ) (u v h : ℕ) : Type 0 where
+  pub start : origin m h ≡ u
+  pub end : origin m (rev h) ≡ v
+  pub listed : Contains ks (h / 2)
+
+-- there is one
+pub listed_edge : (m : Mesh) (ks : List ℕ) (u v : ℕ) → Joins (pairs_at m ks) u v → (h : ℕ) × IsListedEdge m ks u v h
+listed_edge m ks u v (inl x) =
+    let r = contains_map_from (pair_at m) ks (u, v) x in (
+      2 * r.0,
+      record {
+        start = ap (λ (y : ℕ × ℕ). y.0) r.2;
+        end = ap (λ (y : ℕ × ℕ). y.1) r.2;
+        listed = subst (λ (k : ℕ). Contains ks k) (sym (half_of_even r.0)) r.1;
+      },
+    )
+listed_edge m ks u v (inr x) =
+    let r = contains_map_from (pair_at m) ks (v, u) x in (
+      rev (2 * r.0),
+      record {
+        start = ap (λ (y : ℕ × ℕ). y.1) r.2;
+        end = ap (origin m) (rev-rev (2 * r.0)) ∙ ap (λ (y : ℕ × ℕ). y.0) r.2;
+        listed = subst (λ (k : ℕ). Contains ks k) (sym (half_of_odd r.0 (rev (2 * r.0)) (rev_of_even r.0))) r.1;
+      },
+    )
 
 -- an edge of the list with its last one, by its ends
 last_or_joined : (m : Mesh) (ks : List ℕ) (k i j : ℕ) → Joins (pairs_at m (ks ++ k ∷ [])) i j → IsSamePair i j (origin m (2 * k)) (origin m (rev (2 * k))) ⊎ ((l : ℕ) × Contains ks l × IsSamePair i j (origin m (2 * l)) (origin m (rev (2 * l))))
@@ -105,10 +135,12 @@ module _ (points : List Point) (m : Mesh) (s : IsValidMesh m) (local : LocalMesh
           let starts = (s.sound.edges (next m e) t.next_in).starts in
           ap (origin m) (sym t.next_next) ∙ starts ∙ ap (λ (x : ℕ). origin m (rev x)) (sym r) ∙ ap (origin m) (rev-rev e)
 
+  -- with an inner face on either side it may be turned
   pub between_inner : 0 < face m e → 0 < face m (rev e) → IsFlippable m e
   between_inner h k = record { within = within; inner = h; twin_inner = k; apart = two_faces h }
 
 -- ---- an edge that passes
+-- a mesh without faces has no face with given corners
 pub line_has_none : (m : Mesh) (i j k : ℕ) → faces_of m ≡ [] → ¬ IsFaceOf (faces_of m) i j k
 line_has_none m i j k e f = go (subst (λ fs. IsFaceOf fs i j k) e f)
   where
@@ -158,6 +190,7 @@ pub none_or_some : (n : ℕ) → (n ≡ 0) ⊎ (0 < n)
 none_or_some n = elim (cases_eq n 0) [ inl e ↦ inl e | inr d ↦ inr (grind arith) ]
 
 -- ---- an edge that is a constraint or does not fail is dropped
+-- an edge that is a constraint or does not fail may leave the work list of a mesh that is partly legal
 pub dropped : (points : List Point) (constraints : List (ℕ × ℕ)) (was m : Mesh) (ks : List ℕ) (k start flips : ℕ) → IsValidMesh m → IsPartlyLegal points constraints was m (ks ++ k ∷ []) start flips → (¬ Joins constraints (origin m (2 * k)) (origin m (rev (2 * k))) → ¬ IsFailing points m (2 * k)) → IsPartlyLegal points constraints was m ks start flips
 dropped points constraints was m ks k start flips s p passes = record {
   shape = p.shape;
@@ -203,6 +236,7 @@ module _ (points : List Point) (m : Mesh) (s : IsValidMesh m) (local : LocalMesh
   abbrev d : ℕ
   d = origin m (prev m e)
 
+  -- a failing edge may be turned
   pub can_turn : IsFlippable m e
   can_turn = between_inner points m s local e within x.inner x.twin_inner
 
@@ -230,26 +264,27 @@ module _ (points : List Point) (m : Mesh) (s : IsValidMesh m) (local : LocalMesh
   change : FacesChange (faces_of m) (faces_of after) (corners a b c ∷ corners a c d ∷ []) (corners a b d ∷ corners b c d ∷ [])
   change = flipped_faces m after e s.sound can_turn triangles_change
 
+  -- the mesh is local after the turn, too
   pub flip_is_local : LocalMesh points (faces_of after) (outer_of after)
   flip_is_local = flip_kept_by points m after e s.sound can_turn local convex.0 convex.1 triangles_change outer_stays
 
+  -- the corners opposite a failing edge differ
   pub apart_corners : d ≢ b
   apart_corners same = (corners_differ (point_at points) a b d (C.turn_left_of (length points) (point_at points) (faces_of after) (outer_of after) (by_signs points (faces_of after) (outer_of after) flip_is_local) a b d
       (change.come a b d (inl (Contains-head (corners a b d) (corners b c d ∷ [])))))).1 (sym same)
 
+  -- the lifted volume falls by the turn
   pub volume_falls : lifted_volume points (faces_of after) < lifted_volume points (faces_of m)
   volume_falls = flip_lowers points (faces_of m) (faces_of after) (outer_of m) a b c d local first second change x.inside
 
   -- ---- the ends of the edges
-  origin_stays : (h : ℕ) → h ≢ e → h ≢ rev e → origin after h ≡ origin m h
+  origin_stays : KeepsOtherOrigins m after e
   origin_stays = origin_kept m after e s.sound can_turn moves
-
-  rev_stays : (h : ℕ) → h ≢ e → h ≢ rev e → origin after (rev h) ≡ origin m (rev h)
-  rev_stays h n t = origin_stays (rev h) (λ r. t (sym (rev-rev h) ∙ ap rev r)) (λ r. n (sym (rev-rev h) ∙ ap rev r ∙ rev-rev e))
 
   -- so each other undirected edge joins what it joined
   pair_stays : (l : ℕ) → (2 * l) ≢ e → (2 * l) ≢ rev e → pair_at after l ≡ pair_at m l
-  pair_stays l n t = λ i. (let p : ℕ × ℕ = (origin_stays (2 * l) n t i, rev_stays (2 * l) n t i) in p)
+  pair_stays l n t = λ i. (
+      let p : ℕ × ℕ = (origin_stays (2 * l) n t i, other_ends_stay m after e origin_stays (2 * l) n t i) in p)
 
   abbrev Six : Type 0
   Six = AreSixPlaces (length m.half_edges) e (rev e) (next m e) (next m (rev e)) (prev m e) (prev m (rev e))
@@ -257,26 +292,23 @@ module _ (points : List Point) (m : Mesh) (s : IsValidMesh m) (local : LocalMesh
   six : Six
   six = T.six_round m e s.sound can_turn
 
-  reverse_of : (h i : ℕ) → h < length m.half_edges → next m h ≡ i → origin m (rev h) ≡ origin m i
-  reverse_of h i l r = sym (s.sound.edges h l).starts ∙ ap (origin m) r
-
   module _ (ks : List ℕ) where
     side_joined : (h u v : ℕ) → h ≢ e → h ≢ rev e → Contains ks (h / 2) → origin m h ≡ u → origin m (rev h) ≡ v → Joins (pairs_at after ks) u v
-    side_joined h u v n t l p q = subst (λ (y : ℕ × ℕ). Joins (pairs_at after ks) y.0 y.1) (λ o. ((origin_stays h n t ∙ p) o, (rev_stays h n t ∙ q) o)) (joins_directed after ks h l)
+    side_joined h u v n t l p q = subst (λ (y : ℕ × ℕ). Joins (pairs_at after ks) y.0 y.1) (λ o. ((origin_stays h n t ∙ p) o, (other_ends_stay m after e origin_stays h n t ∙ q) o)) (joins_directed after ks h l)
 
     module _ (cd : Contains ks (next m e / 2)) (da : Contains ks (prev m e / 2)) (ab : Contains ks (next m (rev e) / 2)) (bc : Contains ks (prev m (rev e) / 2)) where
       ab_joined : Joins (pairs_at after ks) a b
       ab_joined = side_joined (next m (rev e)) a b (λ r. six.ad (sym r)) (λ r. six.bd (sym r)) ab (end_of_twin m e s.sound can_turn)
-          (reverse_of (next m (rev e)) (prev m (rev e)) six.d_in (T.triangle_at m (rev e) s.sound six.b_in x.twin_inner).next_next)
+          (ends_at_next m s.sound (next m (rev e)) (prev m (rev e)) six.d_in (T.triangle_at m (rev e) s.sound six.b_in x.twin_inner).next_next)
 
       bc_joined : Joins (pairs_at after ks) b c
-      bc_joined = side_joined (prev m (rev e)) b c (λ r. six.af (sym r)) (λ r. six.bf (sym r)) bc refl (reverse_of (prev m (rev e)) (rev e) six.f_in (s.sound.edges (rev e) six.b_in).next_prev ∙ start_of_twin m e s.sound can_turn)
+      bc_joined = side_joined (prev m (rev e)) b c (λ r. six.af (sym r)) (λ r. six.bf (sym r)) bc refl (ends_at_next m s.sound (prev m (rev e)) (rev e) six.f_in (s.sound.edges (rev e) six.b_in).next_prev ∙ start_of_twin m e s.sound can_turn)
 
       cd_joined : Joins (pairs_at after ks) c d
-      cd_joined = side_joined (next m e) c d (λ r. six.ac (sym r)) (λ r. six.bc (sym r)) cd refl (reverse_of (next m e) (prev m e) six.c_in (T.triangle_at m e s.sound within x.inner).next_next)
+      cd_joined = side_joined (next m e) c d (λ r. six.ac (sym r)) (λ r. six.bc (sym r)) cd refl (ends_at_next m s.sound (next m e) (prev m e) six.c_in (T.triangle_at m e s.sound within x.inner).next_next)
 
       da_joined : Joins (pairs_at after ks) d a
-      da_joined = side_joined (prev m e) d a (λ r. six.ae (sym r)) (λ r. six.be (sym r)) da refl (reverse_of (prev m e) e six.e_in (s.sound.edges e within).next_prev)
+      da_joined = side_joined (prev m e) d a (λ r. six.ae (sym r)) (λ r. six.be (sym r)) da refl (ends_at_next m s.sound (prev m e) e six.e_in (s.sound.edges e within).next_prev)
 
       round_joined : (i j : ℕ) → IsRoundSide a b c d i j → Joins (pairs_at after ks) i j
       round_joined i j (inl (inl r)) = same_joined (pairs_at after ks) i j a b r ab_joined
@@ -302,6 +334,7 @@ module _ (points : List Point) (constraints : List (ℕ × ℕ)) (was m : Mesh) 
   within_mesh : (2 * k) < length m.half_edges
   within_mesh = p.edges.within k (contains_last ks k)
 
+  -- a mesh with a failing edge is a local mesh
   pub has_local : LocalMesh points (faces_of m) (outer_of m)
   has_local = local_of points m (2 * k) s.sound p.shape (within_mesh, x.inner)
 
@@ -324,7 +357,7 @@ module _ (points : List Point) (constraints : List (ℕ × ℕ)) (was m : Mesh) 
       from l n = origin_stays points m s has_local (2 * k) within_mesh x (2 * l) (other_even l k n) (even_no_odd l k)
 
       to : (l : ℕ) → l ≢ k → origin (flipped m (2 * k)) (rev (2 * l)) ≡ origin m (rev (2 * l))
-      to l n = rev_stays points m s has_local (2 * k) within_mesh x (2 * l) (other_even l k n) (even_no_odd l k)
+      to l n = other_ends_stay m (flipped m (2 * k)) (2 * k) (origin_stays points m s has_local (2 * k) within_mesh x) (2 * l) (other_even l k n) (even_no_odd l k)
 
   -- a failing edge is turned
   pub turned : (more : List ℕ) → GainsRound m (2 * k) ks more → AreEdges m more → IsPartlyLegal points constraints was (flipped m (2 * k)) more start (suc flips)
@@ -338,7 +371,7 @@ module _ (points : List Point) (constraints : List (ℕ × ℕ)) (was m : Mesh) 
     are_away = gone_away.1;
     count = one_more start (length p.away) (length gone_away.0) flips p.count gone_away.2;
     stays = stays_turned was m (flipped m (2 * k)) p.away gone_away.0 (2 * k) s.sound within_mesh x.inner x.twin_inner (moves points m s has_local (2 * k) within_mesh x).edge_count
-        (λ h n t. (origin_stays points m s has_local (2 * k) within_mesh x h n t, rev_stays points m s has_local (2 * k) within_mesh x h n t)) (triangles_change points m s has_local (2 * k) within_mesh x) gone_away.3 gone_away.4 p.stays;
+        (λ h n t. (origin_stays points m s has_local (2 * k) within_mesh x h n t, other_ends_stay m (flipped m (2 * k)) (2 * k) (origin_stays points m s has_local (2 * k) within_mesh x) h n t)) (triangles_change points m s has_local (2 * k) within_mesh x) gone_away.3 gone_away.4 p.stays;
   }
 
   -- and its flip is within the bound
@@ -349,9 +382,11 @@ module _ (points : List Point) (constraints : List (ℕ × ℕ)) (was m : Mesh) 
 none_away : (points : List Point) (faces : List Face) → AreAway points faces []
 none_away points faces = record { ordered = λ i j c. absurd (Contains-none (i, j) c); above = λ i j c. absurd (Contains-none (i, j) c); once = once_none }
 
+-- before the first flip a mesh is legal but for what is left to test, where all other edges pass
 pub begins : (points : List Point) (constraints : List (ℕ × ℕ)) (m : Mesh) (ks : List ℕ) (start : ℕ) → IsMesh points (faces_of m) (outer_of m) → AreEdges m ks → AllPassBut points (faces_of m) constraints (pairs_at m ks) → IsPartlyLegal points constraints m m ks start start
 begins points constraints m ks start shape edges passing = record { shape = shape; edges = edges; passing = passing; away = []; are_away = none_away points (faces_of m); count = omega arith; stays = stays_none m }
 
+-- there were at most n (n - 1) / 2 flips, where n is the number of points
 pub few_flips : (points : List Point) (constraints : List (ℕ × ℕ)) (was m : Mesh) (ks : List ℕ) (start flips : ℕ) → IsPartlyLegal points constraints was m ks start flips → (start ≤ flips) × (2 * (flips - start) ≤ length points * (length points - 1))
 few_flips points constraints was m ks start flips p = let b = away_is_bounded points (faces_of m) p.away p.are_away in let c = p.count in (omega (arith, c), bounded start (length p.away) flips (length points * (length points - 1)) c b)
   where
@@ -367,6 +402,7 @@ pub own_indexes : (points : List Point) (m : Mesh) → IsValidMesh m → IsMesh 
 own_indexes points m s shape = keeps_indexes points m [] s shape (none_away points (faces_of m)) m (stays_none m)
 
 -- ---- the measure
+-- a work list has at most as many entries as the mesh has undirected edges
 pub few_edges : (m : Mesh) (ks : List ℕ) (n : ℕ) → 2 * n ≡ length m.half_edges → AreEdges m ks → length ks ≤ n
 few_edges m ks n e o = at_most_so_many ks n o.once (λ j c. let h = o.within j c in omega (arith, h, e))
 
@@ -386,6 +422,7 @@ fewer_by_volume v w e l k h n = sums (v * (e + 1)) (w * (e + 1)) e l k (mul-le-m
         linear : (p q e l k r : ℕ) → r ≤ q → r ≡ p + (e + 1) → l ≤ e → p + l < q + k
         linear p q e l k r a b c = omega arith
 
+-- a flip, by which the lifted volume falls, leaves fewer steps, whatever it adds to the work list
 pub fewer_after_flip : (points : List Point) (m new : Mesh) (ks more : List ℕ) → lifted_volume points (faces_of new) < lifted_volume points (faces_of m) → length new.half_edges ≡ length m.half_edges → AreEdges m more → steps_left points new more < steps_left points m ks
 fewer_after_flip points m new ks more h e o =
     subst (λ (z : ℕ). (lifted_volume points (faces_of new) * (z + 1) + length more) < steps_left points m ks) (sym e) (fewer_by_volume (lifted_volume points (faces_of new)) (lifted_volume points (faces_of m)) (length m.half_edges) (length more) (length ks) h
@@ -395,9 +432,11 @@ fewer_after_flip points m new ks more h e o =
     half j h = omega (arith, h)
 
 -- ---- the four edges round an edge are put into a work list
+-- a work list that gains an edge of the mesh is still one of different edges of it
 pub gains_edges : (m : Mesh) (old new : List ℕ) (k : ℕ) → AreEdges m old → (2 * k) < length m.half_edges → Gains old new k → AreEdges m new
 gains_edges m old new k o h g = record { within = λ j c. elim (g.only j c) [ inl r ↦ subst (λ (z : ℕ). (2 * z) < length m.half_edges) (sym r) h | inr r ↦ o.within j r ]; once = g.once o.once }
 
+-- a work list that gains the four edges round an edge one after another has all of them
 pub gains_round : (m : Mesh) (e : ℕ) (one two three four five : List ℕ) → Gains one two (next m e / 2) → Gains two three (prev m e / 2) → Gains three four (next m (rev e) / 2) → Gains four five (prev m (rev e) / 2) → GainsRound m e one five
 gains_round m e one two three four five f g h i = record {
   kept = λ j c. i.kept j (h.kept j (g.kept j (f.kept j c)));
@@ -407,8 +446,10 @@ gains_round m e one two three four five f g h i = record {
   twin_prev_there = i.there;
 }
 
+-- an edge that is new to a work list is gained by putting it at the end
 pub gains_last : (ks : List ℕ) (k : ℕ) → ¬ Contains ks k → Gains ks (ks ++ k ∷ []) k
 gains_last ks k n = record { kept = λ j c. contains_before ks k j c; there = contains_last ks k; only = λ j c. last_or_before ks k j c; once = λ o. once_after ks k o n }
 
+-- an edge that is in a work list is gained without a change
 pub gains_none : (ks : List ℕ) (k : ℕ) → Contains ks k → Gains ks ks k
 gains_none ks k h = record { kept = λ j c. c; there = h; only = λ j c. inr c; once = λ o. o }

@@ -15,7 +15,7 @@ use Rattle.plane_edits.proofs.LocalMesh.Changes.{IsOnce, once_none, once_cons}
 use Rattle.plane_edits.proofs.Removal.OnLine.{end_of_line_goes, middle_of_line_goes}
 use Rattle.mesh_embedding.specs.Drawn.{outer_of}
 use Rattle.mesh_embedding.proofs.OuterChanges.{two_pairs}
-use Rattle.mesh_embedding.proofs.PairSums.{SumsChange, gone_there, must_go, sums_change, outer_sums}
+use Rattle.mesh_embedding.proofs.PairSums.{SumsChange, HaveNoneIn, gone_there, must_go, sums_change, outer_sums}
 use Rattle.mesh_embedding.proofs.LineNeighbours.{lone_vertex_goes, apart_neighbours}
 use Rattle.mesh_embedding.proofs.MeshDrops.{alone_has_none, dropped_on_line, index_within}
 use Rattle.mesh_embedding.proofs.FaceChanges.{length_map}
@@ -102,7 +102,7 @@ module _ (points : List Point) (old new : List (ℕ × ℕ)) (v : ℕ) (m : Line
       ]
     ]
 
-    made_apart : (i j : ℕ) → Contains made (i, j) → ¬ Contains gone (i, j)
+    made_apart : HaveNoneIn made gone
     made_apart i j c h = elim (made_ends i j c) as (λ _. ⊥) [
       | inl e ↦ elim (gone_ends i j h) as (λ _. ⊥) [ inl q ↦ u_other (sym e.0 ∙ q) | inr q ↦ w_other (sym e.1 ∙ q) ]
       | inr e ↦ elim (gone_ends i j h) as (λ _. ⊥) [ inl q ↦ w_other (sym e.0 ∙ q) | inr q ↦ u_other (sym e.1 ∙ q) ]
@@ -119,6 +119,7 @@ module _ (points : List Point) (old new : List (ℕ × ℕ)) (v : ℕ) (m : Line
     middle_goes = middle_of_line_goes points old new v u w m first_edge second_edge differ (sums_change old new gone made sums m.once made_once fresh made_apart)
 
 -- ---- a vertex has lost its edges
+-- where a vertex has lost its edges, a line mesh is one of the other points
 pub line_left : {V D U F : Type 0} (points : List Point) (old new : Contents V D U F) (v : ℕ) → IsIndex points v → LineMesh points (outer_of old.mesh) → AreSoundLinks new.mesh → LeavesLine old new v → LineMeshWithout v points (outer_of new.mesh)
 line_left {V} {D} {U} {F} points old new v here m sound leaves = elim leaves.how [
   | inl same ↦ subst (λ (c : Contents V D U F). LineMeshWithout v points (outer_of c.mesh)) (sym same) (lone_vertex_goes points (outer_of old.mesh) m v here (λ j. subst (λ (c : Contents V D U F). ¬ Contains (outer_of c.mesh) (v, j)) same (none j)))
@@ -130,6 +131,7 @@ line_left {V} {D} {U} {F} points old new v here m sound leaves = elim leaves.how
     none j = alone_has_none new.mesh v j sound leaves.alone
 
 -- ---- a vertex has gone from a line, and the last one has its index
+-- where a vertex has gone and the last one has its index, a line mesh is one of the points that are left
 pub line_removed : {V D U F : Type 0} (position : V → Point) (old new : Contents V D U F) (v : ℕ) (value : V) → LineMesh (map position old.vertices) (outer_of old.mesh) → LeavesMesh old new v value → LineMesh (map position new.vertices) (outer_of new.mesh)
 line_removed {V} {D} {U} {F} position old new v value m leaves =
     dropped_on_line position leaves.between new v value leaves.drops

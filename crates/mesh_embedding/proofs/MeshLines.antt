@@ -15,6 +15,7 @@ use Rattle.plane_edits.proofs.LocalMesh.Changes.{IsOnce}
 use Rattle.plane_edits.proofs.Insertion.OnLine.{past_end, between}
 use Rattle.mesh_embedding.specs.Drawn.{outer_of}
 use Rattle.mesh_embedding.proofs.OuterEdges.{listed, changed_pairs}
+use Rattle.mesh_embedding.proofs.OuterEdges.{GoneAreListed, GoneAreReal, MadeAreListed, MadeAreReal, AreMadeOnce, AreMadeFresh}
 use Rattle.mesh_embedding.proofs.OuterChanges.{two_pairs}
 use Rattle.mesh_embedding.proofs.MeshLineRemoval.{first_of, second_of}
 
@@ -29,6 +30,7 @@ listed_as : (xs : List (ℕ × ℕ)) (a b i j : ℕ) → i ≡ a → j ≡ b →
 listed_as xs a b i j p q c = subst (Contains xs) (λ t. (sym p t, sym q t)) c
 
 -- ---- an edge from a vertex to a new one
+-- an edge from u to a new vertex v and back makes two outer pairs, and no other changes
 pub outer_joined : (old new : Mesh) (u v k l : ℕ) → IsOnce (outer_of old) → u ≢ v → ((h i j : ℕ) → IsOuterEdge old h i j → (i ≢ v) × (j ≢ v)) → OuterChanges old new (λ h. ⊥) (λ h i j. IsEdge k u v h i j ⊎ IsEdge l v u h i j)
     → OuterChange (outer_of old) (outer_of new) [] ((u, v) ∷ (v, u) ∷ [])
 outer_joined old new u v k l once apart fresh c = changed_pairs old new (λ h. ⊥) (λ h i j. IsEdge k u v h i j ⊎ IsEdge l v u h i j) [] ((u, v) ∷ (v, u) ∷ []) once c
@@ -100,24 +102,24 @@ module _ (old new : Mesh) (e v n : ℕ) (s : AreSoundLinks old) (apart : HasApar
   back : IsOuterEdge old (rev e) (origin old (rev e)) (origin old e)
   back = let k = rev_within e (length old.half_edges) s.even l in record { within = k; outer = outer_here (rev e) k; source = refl; target = ap (origin old) (rev-rev e) }
 
-  gone_listed : (h i j : ℕ) → IsOuterEdge old h i j → Gone h → Contains gone (i, j)
+  gone_listed : GoneAreListed old Gone gone
   gone_listed h i j o (inl p) = listed_as gone (origin old e) (origin old (rev e)) i j (sym o.source ∙ ap (origin old) p) (sym o.target ∙ ap (λ k. origin old (rev k)) p) (Contains-head (origin old e, origin old (rev e)) ((origin old (rev e), origin old e) ∷ []))
   gone_listed h i j o (inr p) = listed_as gone (origin old (rev e)) (origin old e) i j (sym o.source ∙ ap (origin old) p) (sym o.target ∙ ap (λ k. origin old (rev k)) p ∙ ap (origin old) (rev-rev e))
       (Contains-later (origin old e, origin old (rev e)) ((origin old (rev e), origin old e) ∷ []) (origin old (rev e), origin old e) (Contains-head (origin old (rev e), origin old e) []))
 
-  gone_real : (i j : ℕ) → Contains gone (i, j) → (h : ℕ) × Gone h × IsOuterEdge old h i j
+  gone_real : GoneAreReal old Gone gone
   gone_real i j c = elim (two_pairs (i, j) (origin old e, origin old (rev e)) (origin old (rev e), origin old e) c) as (λ _. (h : ℕ) × Gone h × IsOuterEdge old h i j) [
     | inl p ↦ (e, inl refl, record { within = own.within; outer = own.outer; source = first_of (origin old e, origin old (rev e)) (i, j) p; target = second_of (origin old e, origin old (rev e)) (i, j) p })
     | inr p ↦ (rev e, inr refl, record { within = back.within; outer = back.outer; source = first_of (origin old (rev e), origin old e) (i, j) p; target = back.target ∙ second_of (origin old (rev e), origin old e) (i, j) p })
   ]
 
-  made_listed : (h i j : ℕ) → Made h i j → Contains made (i, j)
+  made_listed : MadeAreListed Made made
   made_listed h i j (inl (inl x)) = listed_as made (origin old e) v i j x.1 x.2 (0, omega arith, refl)
   made_listed h i j (inl (inr x)) = listed_as made v (origin old (rev e)) i j x.1 x.2 (1, omega arith, refl)
   made_listed h i j (inr (inl x)) = listed_as made (origin old (rev e)) v i j x.1 x.2 (2, omega arith, refl)
   made_listed h i j (inr (inr x)) = listed_as made v (origin old e) i j x.1 x.2 (3, omega arith, refl)
 
-  made_real : (i j : ℕ) → Contains made (i, j) → (h : ℕ) × Made h i j
+  made_real : MadeAreReal Made made
   made_real i j c = elim (four_pairs (i, j) (origin old e, v) (v, origin old (rev e)) (origin old (rev e), v) (v, origin old e) c) as (λ _. (h : ℕ) × Made h i j) [
     | inl q ↦ elim q as (λ _. (h : ℕ) × Made h i j) [
       | inl p ↦ (e, inl (inl (refl, sym (first_of (origin old e, v) (i, j) p), sym (second_of (origin old e, v) (i, j) p))))
@@ -138,7 +140,7 @@ module _ (old new : Mesh) (e v n : ℕ) (s : AreSoundLinks old) (apart : HasApar
   b_old : origin old (rev e) ≢ v
   b_old = (fresh e (origin old e) (origin old (rev e)) own).1
 
-  made_once : (h g i j : ℕ) → Made h i j → Made g i j → h ≡ g
+  made_once : AreMadeOnce Made
   made_once h g i j (inl (inl x)) (inl (inl y)) = x.0 ∙ sym y.0
   made_once h g i j (inl (inl x)) (inl (inr y)) = absurd (a_old (sym x.1 ∙ y.1))
   made_once h g i j (inl (inl x)) (inr (inl y)) = absurd (away (sym x.1 ∙ y.1))
@@ -156,12 +158,13 @@ module _ (old new : Mesh) (e v n : ℕ) (s : AreSoundLinks old) (apart : HasApar
   made_once h g i j (inr (inr x)) (inr (inl y)) = absurd (b_old (sym y.1 ∙ x.1))
   made_once h g i j (inr (inr x)) (inr (inr y)) = x.0 ∙ sym y.0
 
-  made_fresh : (h g i j : ℕ) → Made h i j → ¬ IsOuterEdge old g i j
+  made_fresh : AreMadeFresh old Made
   made_fresh h g i j (inl (inl x)) o = (fresh g i j o).1 x.2
   made_fresh h g i j (inl (inr x)) o = (fresh g i j o).0 x.1
   made_fresh h g i j (inr (inl x)) o = (fresh g i j o).1 x.2
   made_fresh h g i j (inr (inr x)) o = (fresh g i j o).0 x.1
 
+  -- both outer edges between two vertices of a line give way to the four that join them to v
   pub outer_split : IsOnce (outer_of old) → SplitsOuter old new e v n → OuterChange (outer_of old) (outer_of new) gone made
   outer_split once c = changed_pairs old new Gone Made gone made once c
       (record { gone_listed = gone_listed; gone_real = gone_real; made_listed = made_listed; made_real = made_real; made_once = made_once; made_fresh = made_fresh })

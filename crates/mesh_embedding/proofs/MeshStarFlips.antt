@@ -45,6 +45,7 @@ module _ (old new : List Face) (v b c d : ℕ) where
       swapped : (p q r s : ℤ) → s ≡ p → r ≡ q → p +ℤ (q +ℤ pos 0) ≡ r +ℤ (s +ℤ pos 0)
       swapped p q r s e f = omega (arith, ints)
 
+  -- the turn of c v, read from its other side, is the turn of v c
   pub from_other_side : FacesChange old new (corners c d v ∷ corners c v b ∷ []) (corners c d b ∷ corners d v b ∷ []) → FacesChange old new (corners v b c ∷ corners v c d ∷ []) (corners v b d ∷ corners b c d ∷ [])
   from_other_side change = change_as old new (corners c d v ∷ corners c v b ∷ []) (corners c d b ∷ corners d v b ∷ []) (corners v b c ∷ corners v c d ∷ []) (corners v b d ∷ corners b c d ∷ []) change gone_same made_same
       (come_of (corners c d b ∷ corners d v b ∷ []) (corners v b d ∷ corners b c d ∷ []) (inr (inr (1, omega arith, refl)), (inr (inl (Contains-head (corners c d b) (corners d v b ∷ []))), tt)))
@@ -76,9 +77,11 @@ module _ (points : List Point) (m : Mesh) (valid : IsValidMesh m) (local : Local
   twin_inner : 0 < face m (rev e)
   twin_inner = subst (λ x. 0 < x) (sym (ap (face m) twin_is ∙ t.face_prev)) left
 
+  -- the edge from v may be turned
   pub spoke_flippable : IsFlippable m e
   spoke_flippable = between_inner points m valid local e e_in right twin_inner
 
+  -- and so may its twin
   pub twin_flippable : IsFlippable m (rev e)
   twin_flippable = between_inner points m valid local (rev e) twin_in twin_inner (subst (λ x. 0 < face m x) (sym (rev-rev e)) right)
 

@@ -29,7 +29,7 @@ use Rattle.mesh_embedding.proofs.OwnEdges.{own_edges}
 use Rattle.mesh_embedding.proofs.OuterEdges.{listed, real}
 use Rattle.mesh_embedding.proofs.OuterChanges.{own_ends}
 use Rattle.mesh_embedding.proofs.MeshEdits.{face_before}
-use Rattle.mesh_embedding.proofs.MeshStays.{one_way}
+use Rattle.mesh_embedding.proofs.MeshStays.{neighbours_differ}
 
 -- ---- the directed edge of a face at one of its corners
 -- an edge of an inner face, with the corners i, j, k from its start on
@@ -88,6 +88,7 @@ module _ (m : Mesh) (s : AreSoundLinks m) where
 
 -- ---- a vertex with its round
 module _ (points : List Point) (m : Mesh) (valid : IsValidMesh m) (local : LocalMesh points (faces_of m) (outer_of m)) where
+  -- each pair of vertices is joined by at most one edge
   pub pairs_once : EachPairOnce (edges_of m)
   pairs_once = (mesh_tiles points (faces_of m) (outer_of m) (edges_of m) local (own_edges m valid)).once
 
@@ -117,14 +118,11 @@ module _ (points : List Point) (m : Mesh) (valid : IsValidMesh m) (local : Local
           sym (next_nb at.0) ∙ sym (ap (λ (x : Triangle). x.third) t) ∙ ap (λ x. origin m (prev m x)) (sym at.2) ∙ e.third,
         )
 
-    no_later : (i j : ℕ) → i < j → j < count → nb i ≢ nb j
-    no_later i j l w e = round.apart i j l w (one_way m valid pairs_once (spoke m first j) (spoke m first i) (round.within j) (round.within i) (round.starts i ∙ sym (round.starts j), e))
-
     -- the neighbours differ
     pub neighbours_apart : (i j : ℕ) → i < count → j < count → nb i ≡ nb j → i ≡ j
     neighbours_apart i j h k e = elim (cases_lt i j) [
-      | inl l ↦ absurd (no_later i j l k e)
-      | inr l ↦ elim (cases_lt j i) [ inl q ↦ absurd (no_later j i q h (sym e)) | inr q ↦ omega (arith, l, q) ]
+      | inl l ↦ absurd (neighbours_differ m valid pairs_once v first count round i j l k e)
+      | inr l ↦ elim (cases_lt j i) [ inl q ↦ absurd (neighbours_differ m valid pairs_once v first count round j i q h (sym e)) | inr q ↦ omega (arith, l, q) ]
     ]
 
     -- a vertex with inner faces all round it
@@ -151,6 +149,7 @@ module _ (points : List Point) (m : Mesh) (valid : IsValidMesh m) (local : Local
       arriving : Contains (outer_of m) (nb 0, v)
       arriving = subst (λ x. Contains (outer_of m) (nb 0, x)) (ap (origin m) (rev-rev first) ∙ round.starts 0) (listed m (rev first) (origin m (rev first)) (origin m (rev (rev first))) (own_ends m (rev first) back_in outer))
 
+      -- the place of the last neighbour in the round of a vertex on the hull
       abbrev pub last : ℕ
       last = count - 1
 

@@ -8,6 +8,8 @@ use Rattle.std.proofs.lemmas.List.{length-map, get_or-map}
 use Rattle.std.proofs.lemmas.Option.{slice_get_within, get_or_from_slice_get, gets}
 use Rattle.half_edge_mesh.specs.Mesh.{Mesh, origin, next, prev, face, face_edge, rev, AreSoundLinks, IsValidMesh}
 use Rattle.half_edge_mesh.specs.Outline.{Ends, ends}
+use Rattle.half_edge_mesh.specs.Peel.{spoke}
+use Rattle.half_edge_mesh.specs.Round.{IsRound, neighbour}
 use Rattle.half_edge_mesh.specs.Triangles.{Triangle, triangle_at, triangles, FlipsTriangles}
 use Rattle.half_edge_links.proofs.Sound.Ends.{length-ends_twice, get_or-ends}
 use Rattle.half_edge_links.proofs.Lists.Rev.{rev-rev, rev_within}
@@ -23,22 +25,23 @@ use Rattle.plane_edits.specs.Away.{IsAway, AreAway}
 use Rattle.plane_edits.proofs.Legalization.Away.{away_is_no_edge, away_back}
 use Rattle.mesh_embedding.specs.Drawn.{drawn, corners_of, pair_of, faces_of, edges_of, outer_of}
 use Rattle.mesh_embedding.specs.Stays.{GoSameWay, HaveSameCorners, KeepsIndexes, HasSideIn, StaysBut}
+use Rattle.mesh_embedding.proofs.EdgePairs.{rev_of_even, edge_joins}
 use Rattle.mesh_embedding.proofs.OwnEdges.{own_edges}
 use Rattle.mesh_embedding.proofs.FaceChanges.{turned_faces, contains_map}
 use Rattle.plane.proofs.Indexes.{turned_join}
 
+-- another entry than the one that is written stays
 pub slice_get-set_other : {X : Type 0} (xs : List X) (i j : ℕ) (x : X) → j ≢ i → slice_get (set xs i x) j ≡ slice_get xs j
 slice_get-set_other xs i j x n = grind (arith, common_steps, gets)
 
 -- ---- one index for each edge
+-- twice half the index of a directed edge is the edge or its reverse
 pub halved : (h : ℕ) → (2 * (h / 2) ≡ h) ⊎ (2 * (h / 2) ≡ rev h)
 halved h = grind arith
 
+-- directed edges of one undirected edge are the same or each other's reverse
 pub half_same : (g h : ℕ) → h / 2 ≡ g / 2 → (h ≡ g) ⊎ (h ≡ rev g)
 half_same g h e = grind arith
-
-rev_of_even : (k : ℕ) → 2 * k + 1 ≡ rev (2 * k)
-rev_of_even k = grind (arith, common_steps)
 
 abbrev no_ends : Ends
 no_ends = record { source = 0; target = 0 }
@@ -60,7 +63,7 @@ same_pair_back a b c d (inr x) = inr (sym x.1, sym x.0)
 
 module _ (m : Mesh) (s : IsValidMesh m) (once : EachPairOnce (edges_of m)) where
   pair_listed : (k : ℕ) (d : ℕ × ℕ) → 2 * k + 1 < length m.half_edges → get_or (edges_of m) k d ≡ (origin m (2 * k), origin m (rev (2 * k)))
-  pair_listed k d w = get_or-map pair_of (ends m) k no_ends d (omega (arith, w, length-ends_twice m s.sound)) ∙ ap pair_of (get_or-ends m k no_ends w) ∙ ap (λ (x : ℕ). (origin m (2 * k), origin m x)) (rev_of_even k)
+  pair_listed k d w = get_or-map pair_of (ends m) k no_ends d (omega (arith, w, length-ends_twice m s.sound)) ∙ ap pair_of (get_or-ends m k no_ends w) ∙ ap (λ (x : ℕ). (origin m (2 * k), origin m x)) (sym (rev_of_even k))
 
   abbrev IsSameEdge : ℕ → ℕ → Type 0
   IsSameEdge k l = IsSamePair (origin m (2 * k)) (origin m (rev (2 * k))) (origin m (2 * l)) (origin m (rev (2 * l)))
@@ -88,6 +91,7 @@ module _ (m : Mesh) (s : IsValidMesh m) (once : EachPairOnce (edges_of m)) where
   in_pairs : (h : ℕ) → h < length m.half_edges → 2 * (h / 2) + 1 < length m.half_edges
   in_pairs h w = let even = s.sound.even in omega (arith, even, w)
 
+  -- two directed edges between the same vertices in the same direction are one
   pub one_way : (g h : ℕ) → g < length m.half_edges → h < length m.half_edges → GoSameWay m g m h → h ≡ g
   one_way g h v w x = elim (half_same g h (one_pair (h / 2) (g / 2) (in_pairs h w) (in_pairs g v) same)) [
     | inl e ↦ e
@@ -97,6 +101,13 @@ module _ (m : Mesh) (s : IsValidMesh m) (once : EachPairOnce (edges_of m)) where
       same : IsSameEdge (h / 2) (g / 2)
       same = same_pair_on (origin m (2 * (h / 2))) (origin m (rev (2 * (h / 2)))) (origin m h) (origin m (rev h)) (origin m (2 * (g / 2))) (origin m (rev (2 * (g / 2)))) (same_pair_back (origin m h) (origin m (rev h)) (origin m (2 * (h / 2))) (origin m (rev (2 * (h / 2)))) (pair_of_half h))
           (same_pair_on (origin m h) (origin m (rev h)) (origin m g) (origin m (rev g)) (origin m (2 * (g / 2))) (origin m (rev (2 * (g / 2)))) (inl x) (pair_of_half g))
+
+  -- the neighbours of a vertex differ
+  pub neighbours_differ : (v first count : ℕ) → IsRound m v first count
+      → (i j : ℕ) → i < j → j < count → neighbour m first i ≢ neighbour m first j
+  neighbours_differ v first count round i j l w e =
+      round.apart i j l w (one_way (spoke m first j) (spoke m first i) (round.within j) (round.within i)
+      (round.starts i ∙ sym (round.starts j), e))
 
   -- ---- one index for each face
   one_side : (g h : ℕ) → g < length m.half_edges → h < length m.half_edges → origin m h ≡ origin m g → origin m (next m h) ≡ origin m (next m g) → h ≡ g
@@ -127,6 +138,7 @@ named m s f t p = record {
     there = subst (λ (i : ℕ). (get_or m.face_edges i 0 < length m.half_edges) × (face m (get_or m.face_edges i 0) ≡ suc f)) (less f) (s.faces (suc f) (omega arith) (omega (arith, within)))
 
 module _ (m : Mesh) (s : IsValidMesh m) (once : EachPairOnce (edges_of m)) where
+  -- two faces with the same corners, each listed at its place, have one index
   pub one_face : (f g : ℕ) (t u : Triangle) → slice_get (triangles m) f ≡ Some t → slice_get (triangles m) g ≡ Some u → HaveSameCorners t u → g ≡ f
   one_face f g t u p q same = go (named m s.sound f t p) (named m s.sound g u q) same
     where
@@ -149,6 +161,7 @@ module _ (m : Mesh) where
   pub face_there : (f : ℕ) (t : Triangle) → slice_get (triangles m) f ≡ Some t → IsFaceOf (faces_of m) t.first t.second t.third
   face_there f t p = inl (contains_map corners_of (triangles m) t (f, slice_get_within (triangles m) f t p, get_or_from_slice_get (triangles m) f t t p))
 
+  -- of two triangles with the same corners, the first is a face where the second is
   pub turned_back : (t u : Triangle) → HaveSameCorners t u → IsFaceOf (faces_of m) u.first u.second u.third → IsFaceOf (faces_of m) t.first t.second t.third
   turned_back t u (inl r) f = subst (λ (x : ℕ × ℕ × ℕ). IsFaceOf (faces_of m) x.0 x.1 x.2) (λ i. (r.0 i, r.1 i, r.2 i)) f
   turned_back t u (inr (inl r)) f = turned_faces (faces_of m) t.third t.first t.second (turned_faces (faces_of m) t.second t.third t.first (subst (λ (x : ℕ × ℕ × ℕ). IsFaceOf (faces_of m) x.0 x.1 x.2) (λ i. (r.0 i, r.1 i, r.2 i)) f))
@@ -158,6 +171,7 @@ module _ (points : List Point) (m : Mesh) (away : List (ℕ × ℕ)) (s : IsVali
   tiled : IsTiling (drawn points m)
   tiled = meshes_tile points (faces_of m) (outer_of m) (edges_of m) shape (own_edges m s)
 
+  -- each pair of vertices is joined by at most one edge
   pub edges_once : EachPairOnce (edges_of m)
   edges_once = elim tiled [ inl t ↦ t.once | inr t ↦ t.once ]
 
@@ -184,22 +198,9 @@ module _ (points : List Point) (m : Mesh) (away : List (ℕ × ℕ)) (s : IsVali
   away_no_side t (inr (inl h)) f = away_no_face t.second t.third t.first h (turned_faces (faces_of m) t.first t.second t.third f)
   away_no_side t (inr (inr h)) f = away_no_face t.third t.first t.second h (turned_faces (faces_of m) t.second t.third t.first (turned_faces (faces_of m) t.first t.second t.third f))
 
-  edge_joined : (h : ℕ) → h < length m.half_edges → Joins (edges_of m) (origin m h) (origin m (rev h))
-  edge_joined h w = elim (halved h) [
-    | inl e ↦ subst (λ (x : ℕ). Joins (edges_of m) (origin m x) (origin m (rev x))) e here
-    | inr e ↦ turned_join (edges_of m) (origin m (rev h)) (origin m h)
-        (subst (λ (x : ℕ). Joins (edges_of m) (origin m (rev h)) (origin m x)) (rev-rev h) (subst (λ (x : ℕ). Joins (edges_of m) (origin m x) (origin m (rev x))) e here))
-  ]
-    where
-      in_list : 2 * (h / 2) + 1 < length m.half_edges
-      in_list = in_pairs m s edges_once h w
-
-      here : Joins (edges_of m) (origin m (2 * (h / 2))) (origin m (rev (2 * (h / 2))))
-      here = inl (h / 2, omega (arith, in_list, length-ends_twice m s.sound, length-map (ends m) pair_of), pair_listed m s edges_once (h / 2) (origin m (2 * (h / 2)), origin m (rev (2 * (h / 2)))) in_list)
-
   away_no_edge : (h : ℕ) → h < length m.half_edges → ¬ Joins away (origin m h) (origin m (rev h))
   away_no_edge h w j = elim tiled as (λ _. ⊥) [
-    | inl t ↦ elim ((t.sides (origin m h) (origin m (rev h))).0 (edge_joined h w)) as (λ _. ⊥) [
+    | inl t ↦ elim ((t.sides (origin m h) (origin m (rev h))).0 (edge_joins m s.sound h w)) as (λ _. ⊥) [
       | inl f ↦ away_no_face (origin m h) (origin m (rev h)) f.0 j f.1
       | inr f ↦ away_no_face (origin m (rev h)) (origin m h) f.0 (turned_join away (origin m h) (origin m (rev h)) j) f.1
     ]
@@ -220,6 +221,7 @@ module _ (points : List Point) (m : Mesh) (away : List (ℕ × ℕ)) (s : IsVali
   }
 
 -- ---- from one flip to the next
+-- where nothing changes, each edge joins what it joined and each inner face has its corners
 pub stays_none : (m : Mesh) → StaysBut [] m m
 stays_none m = record { edge_count = refl; edges = λ h w. inl (refl, refl); faces = λ f t p. inl p }
 

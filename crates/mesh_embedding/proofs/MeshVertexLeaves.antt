@@ -23,7 +23,7 @@ use Rattle.mesh_embedding.proofs.MeshStars.{inner_star, hull_star, hull_strip, n
 use Rattle.mesh_embedding.proofs.MeshStarFlips.{spoke_flippable, twin_flippable, spoke_turned}
 use Rattle.mesh_embedding.proofs.StarTurns.{TurnsAway, turns_away, first_end, second_end, third_end, again_end}
 use Rattle.mesh_embedding.proofs.MeshInnerRemoval.{three_faces_go, four_faces_go}
-use Rattle.mesh_embedding.proofs.MeshHullRemoval.{corner_cut, corner_cut_to_line, flat_vertex_goes}
+use Rattle.mesh_embedding.proofs.MeshHullRemoval.{corner_cut, flat_vertex_goes}
 
 module _ {V D U F : Type 0} (points : List Point) (old : Contents V D U F) (before : IsMeshWithData old) (local : LocalMesh points (faces_of old.mesh) (outer_of old.mesh)) (v first : ℕ) where
   abbrev nb : ℕ → ℕ
@@ -60,10 +60,12 @@ module _ {V D U F : Type 0} (points : List Point) (old : Contents V D U F) (befo
     -- four faces, with v strictly between neighbours 0 and 2: the edge to neighbour 1 is turned, then three faces become one
     module _ (between new : Contents V D U F) (middle : IsMeshWithData between) (after : IsMeshWithData new) (round : IsRound old.mesh v first 4) (turned : between.mesh ≡ flipped old.mesh (2 * (spoke old.mesh first 1 / 2)))
         (faces : FlipsTriangles old.mesh between.mesh (2 * (spoke old.mesh first 1 / 2))) (outer : KeepsOuter old.mesh between.mesh) where
+      -- the flip turns the second edge of v away from it
       pub four_turned : TurnsAway old.mesh between.mesh (spoke old.mesh first 1)
       four_turned = turns_away old.mesh between.mesh (spoke old.mesh first 1) before.valid.sound
           (spoke_flippable points old.mesh before.valid local v first 4 round 0 (inner 0) (inner 1)) (twin_flippable points old.mesh before.valid local v first 4 round 0 (inner 0) (inner 1)) turned
 
+      -- v within the segment from neighbour 0 to 2: filling the hole leaves a local mesh without v
       pub leaves_four : WithinSegment (place points (nb 0)) (place points (nb 2)) (place points v) → FillsHole between new v (neighbour between.mesh first) → LocalMeshWithout v points (faces_of new.mesh) (outer_of new.mesh)
       leaves_four within hole = four_faces_go points old between new v nb (neighbour between.mesh first) middle after local (inner_star points old.mesh before.valid local v first 4 round inner) (neighbour_differs 4 round) within
           (spoke_turned points old.mesh before.valid local v first 4 round 0 (inner 0) (inner 1) between.mesh faces)
@@ -81,11 +83,13 @@ module _ {V D U F : Type 0} (points : List Point) (old : Contents V D U F) (befo
       differ : (i j : ℕ) → i < j → j ≤ count - 1 → nb i ≢ nb j
       differ i j l h e = absurd (let q = neighbours_apart points old.mesh before.valid local v first count round i j (omega (arith, l, h)) (let s = round.some in omega (arith, s, h)) e in omega (arith, q, l))
 
+      -- other faces are left: they are a local mesh without v
       pub leaves_corner : faces_of new.mesh ≢ [] → LocalMeshWithout v points (faces_of new.mesh) (outer_of new.mesh)
-      leaves_corner some = corner_cut points old new v (count - 1) nb before after local (hull_star points old.mesh before.valid local v first count round outer) (neighbour_differs count round) differ loses corner bent some
+      leaves_corner some = (corner_cut points old new v (count - 1) nb before after local (hull_star points old.mesh before.valid local v first count round outer) (neighbour_differs count round) differ loses corner bent).with_faces some
 
+      -- no face is left: what is left is a mesh of a line, without v
       pub leaves_to_line : faces_of new.mesh ≡ [] → LineMeshWithout v points (outer_of new.mesh)
-      leaves_to_line none = corner_cut_to_line points old new v (count - 1) nb before after local (hull_star points old.mesh before.valid local v first count round outer) (neighbour_differs count round) differ loses corner bent none
+      leaves_to_line none = (corner_cut points old new v (count - 1) nb before after local (hull_star points old.mesh before.valid local v first count round outer) (neighbour_differs count round) differ loses corner bent).on_line none
 
     -- on a flat side with two faces: the edge to neighbour 1 is turned, then the flat face goes
     module _ (between new : Contents V D U F) (middle : IsMeshWithData between) (after : IsMeshWithData new) (round : IsRound old.mesh v first 3) (turned : between.mesh ≡ flipped old.mesh (2 * (spoke old.mesh first 1 / 2)))
@@ -96,10 +100,12 @@ module _ {V D U F : Type 0} (points : List Point) (old : Contents V D U F) (befo
       right : 0 < face old.mesh (spoke old.mesh first 1)
       right = (hull_strip points old.mesh before.valid local v first 3 round outer).inner 1 (omega arith)
 
+      -- the flip turns the one inner edge at v away from it
       pub flat_turned : TurnsAway old.mesh between.mesh (spoke old.mesh first 1)
       flat_turned = turns_away old.mesh between.mesh (spoke old.mesh first 1) before.valid.sound
           (spoke_flippable points old.mesh before.valid local v first 3 round 0 left right) (twin_flippable points old.mesh before.valid local v first 3 round 0 left right) turned
 
+      -- v on the line through its outer neighbours: what is left is a local mesh without v
       pub leaves_flat : side (place points (nb 0)) (place points v) (place points (nb 2)) ≡ on → LosesStrip between new v (neighbour between.mesh first) 1 → LocalMeshWithout v points (faces_of new.mesh) (outer_of new.mesh)
       leaves_flat flat loses = flat_vertex_goes points old between new v nb (neighbour between.mesh first) middle after local (hull_star points old.mesh before.valid local v first 3 round outer) (neighbour_differs 3 round) flat
           (spoke_turned points old.mesh before.valid local v first 3 round 0 left right between.mesh faces)

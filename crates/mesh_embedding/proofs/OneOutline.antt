@@ -1,5 +1,5 @@
 -- The outer edges of a mesh of points are one loop: each loop turns up at the lowest vertex, which one of them leaves.
-use Rattle.std.proofs.Common.{◌≡◌, ℕ, List, length, sym, subst}
+use Rattle.std.proofs.Common.{ℕ, List, length, sym, subst}
 use mathlib.Core.Logic.{inl, inr}
 use Rattle.std.specs.Prelude.{ℤ, Contains}
 use Rattle.half_edge_mesh.specs.Mesh.{Mesh, origin, next, AreSoundLinks, IsValidMesh}
@@ -28,32 +28,26 @@ module _ (points : List Point) (m : Mesh) (s : AreSoundLinks m)
   signs : SignMesh n p (faces_of m) (outer_of m)
   signs = by_signs points (faces_of m) (outer_of m) shape
 
-  pair : (h : ℕ) → IsOut m h → Contains (outer_of m) (origin m h, end m h)
-  pair h o = out_pair m s h o
-
   module _ (way : Vec3) (height : ℕ → ℤ) (swept : IsSweep n p way height) where
-    slopes : (h : ℕ) → IsOut m h → ¬ (height (origin m h) ≡ height (end m h))
-    slopes h o =
-        let e = signs.ends (origin m h, end m h) (pair h o) in
-        swept.distinct (origin m h) (end m h) e.0 e.1 e.2
-
     turns : (h : ℕ) → IsOut m h → TurnsUp m height h → IsLowest height n (end m h)
     turns h o up =
-        let after = pair (next m h) (next_out m s h o) in (
-          (signs.ends (origin m h, end m h) (pair h o)).1,
-          turns_at_lowest n p (faces_of m) (outer_of m) signs way height swept _ _ _ (pair h o) after up.0 up.1,
+        let after = out_pair m s (next m h) (next_out m s h o) in (
+          (signs.ends (origin m h, end m h) (out_pair m s h o)).1,
+          turns_at_lowest n p (faces_of m) (outer_of m) signs way height swept _ _ _ (out_pair m s h o) after up.0 up.1,
         )
 
-    one : (h g : ℕ) → IsOut m h → IsOut m g → IsLowest height n (origin m h) → IsLowest height n (origin m g) → h ≡ g
-    one h g o q a b =
-        let starts = same_low height n swept.distinct (origin m h) (origin m g) a b in
-        let other = subst (λ v. Contains (outer_of m) (v, end m g)) (sym starts) (pair g q) in
-        same_ends m s shape.once h g o q starts
-        (next_unique n p (faces_of m) (outer_of m) signs (origin m h) (end m h) (end m g) (pair h o) other)
-
     swept_outline : HasOneOutline m
-    swept_outline =
-        outline_by_low m s height (IsLowest height n) (record { slopes = slopes; turns = turns; one = one })
+    swept_outline = outline_by_low m s height (IsLowest height n) (record {
+      slopes = λ h o.
+          let e = signs.ends (origin m h, end m h) (out_pair m s h o) in
+          swept.distinct (origin m h) (end m h) e.0 e.1 e.2;
+      turns = turns;
+      one = λ h g o q a b.
+          let starts = same_low height n swept.distinct (origin m h) (origin m g) a b in
+          let other = subst (λ v. Contains (outer_of m) (v, end m g)) (sym starts) (out_pair m s g q) in
+          same_ends m s shape.once h g o q starts
+          (next_unique n p (faces_of m) (outer_of m) signs (origin m h) (end m h) (end m g) (out_pair m s h o) other);
+    })
 
   plane_outline : HasOneOutline m
   plane_outline = let w = sweep n p signs.distinct in swept_outline w.0 w.1.0 w.1.1

@@ -14,6 +14,7 @@ use Rattle.mesh_embedding.proofs.OuterEdges.{ends_at, listed, changed_pairs}
 one_pair : (x e : ℕ × ℕ) → Contains (e ∷ []) x → e ≡ x
 one_pair x e c = elim (Contains-cases e [] x c) as (λ _. e ≡ x) [ inl p ↦ p | inr k ↦ absurd (Contains-none x k) ]
 
+-- what a list of two pairs contains is one of them
 pub two_pairs : (x d e : ℕ × ℕ) → Contains (d ∷ e ∷ []) x → (d ≡ x) ⊎ (e ≡ x)
 two_pairs x d e c = elim (Contains-cases d (e ∷ []) x c) as (λ _. (d ≡ x) ⊎ (e ≡ x)) [ inl p ↦ inl p | inr k ↦ inr (one_pair x e k) ]
 

@@ -131,14 +131,40 @@ each_once m one = once_below m (length m.half_edges) (λ h g k l p q e. one h g 
     (record { within = l; outer = q; source = ap (λ (x : ℕ × ℕ). x.0) (sym e); target = ap (λ (x : ℕ × ℕ). x.1) (sym e) }))
 
 -- ---- a change of outer directed edges, as a change of pairs
-pub record IsPairs (old : Mesh) (Gone : ℕ → Type 0) (Made : ℕ → ℕ → ℕ → Type 0) (gone made : List (ℕ × ℕ)) : Type 0 where
-  pub gone_listed : (h i j : ℕ) → IsOuterEdge old h i j → Gone h → Contains gone (i, j)
-  pub gone_real : (i j : ℕ) → Contains gone (i, j) → (h : ℕ) × Gone h × IsOuterEdge old h i j
-  pub made_listed : (h i j : ℕ) → Made h i j → Contains made (i, j)
-  pub made_real : (i j : ℕ) → Contains made (i, j) → (h : ℕ) × Made h i j
-  pub made_once : (h g i j : ℕ) → Made h i j → Made g i j → h ≡ g
-  pub made_fresh : (h g i j : ℕ) → Made h i j → ¬ IsOuterEdge old g i j
+-- an outer edge that goes is listed
+abbrev pub GoneAreListed : Mesh → (ℕ → Type 0) → List (ℕ × ℕ) → Type 0
+GoneAreListed old Gone gone = (h i j : ℕ) → IsOuterEdge old h i j → Gone h → Contains gone (i, j)
 
+-- what is listed is an outer edge that goes
+abbrev pub GoneAreReal : Mesh → (ℕ → Type 0) → List (ℕ × ℕ) → Type 0
+GoneAreReal old Gone gone = (i j : ℕ) → Contains gone (i, j) → (h : ℕ) × Gone h × IsOuterEdge old h i j
+
+-- a pair that is made is listed
+abbrev pub MadeAreListed : (ℕ → ℕ → ℕ → Type 0) → List (ℕ × ℕ) → Type 0
+MadeAreListed Made made = (h i j : ℕ) → Made h i j → Contains made (i, j)
+
+-- a listed pair is made
+abbrev pub MadeAreReal : (ℕ → ℕ → ℕ → Type 0) → List (ℕ × ℕ) → Type 0
+MadeAreReal Made made = (i j : ℕ) → Contains made (i, j) → (h : ℕ) × Made h i j
+
+-- each pair is made of one edge
+abbrev pub AreMadeOnce : (ℕ → ℕ → ℕ → Type 0) → Type 0
+AreMadeOnce Made = (h g i j : ℕ) → Made h i j → Made g i j → h ≡ g
+
+-- and is of no outer edge before
+abbrev pub AreMadeFresh : Mesh → (ℕ → ℕ → ℕ → Type 0) → Type 0
+AreMadeFresh old Made = (h g i j : ℕ) → Made h i j → ¬ IsOuterEdge old g i j
+
+-- the pairs that are gone and those that are made, each once
+pub record IsPairs (old : Mesh) (Gone : ℕ → Type 0) (Made : ℕ → ℕ → ℕ → Type 0) (gone made : List (ℕ × ℕ)) : Type 0 where
+  pub gone_listed : GoneAreListed old Gone gone
+  pub gone_real : GoneAreReal old Gone gone
+  pub made_listed : MadeAreListed Made made
+  pub made_real : MadeAreReal Made made
+  pub made_once : AreMadeOnce Made
+  pub made_fresh : AreMadeFresh old Made
+
+-- a change of outer directed edges is a change of the outer pairs, where these name the same edges
 pub changed_pairs : (old new : Mesh) (Gone : ℕ → Type 0) (Made : ℕ → ℕ → ℕ → Type 0) (gone made : List (ℕ × ℕ)) → IsOnce (outer_of old) → OuterChanges old new Gone Made → IsPairs old Gone Made gone made → OuterChange (outer_of old) (outer_of new) gone made
 changed_pairs old new Gone Made gone made o c p = record {
   kept = λ i j l d. let r = real old i j l in listed new r.0 i j (c.kept r.0 i j r.1 (λ g. d (p.gone_listed r.0 i j r.1 g)));

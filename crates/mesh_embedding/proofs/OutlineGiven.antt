@@ -1,6 +1,6 @@
 -- The outer edges of a mesh with one outline, as an iterator along it gives them: each once, and after each its next one.
-use Rattle.std.proofs.Common.{◌≡◌, ◌≢◌, ◌⊎◌, ℕ, suc, ◌+◌, ◌%◌, ◌<◌, List, [], ◌∷◌, length, map, Option, Some, None, IsSome, refl, sym, ap, ◌∙◌, subst, inl, inr, arith}
-use Rattle.std.specs.Prelude.{Contains, AllPairs, slice_index_or}
+use Rattle.std.proofs.Common.{◌≡◌, ◌⊎◌, ℕ, suc, ◌+◌, ◌%◌, ◌<◌, List, [], ◌∷◌, length, map, Option, Some, None, refl, sym, ap, ◌∙◌, subst, inl, inr, arith}
+use Rattle.std.specs.Prelude.{Contains, slice_index_or}
 use Rattle.std.specs.Borrow.{Bor}
 use Rattle.std.specs.List.{range_with_len}
 use Rattle.std.proofs.Math.Nat.{mod_self, mod-eq_of_lt}
@@ -12,19 +12,17 @@ use Rattle.half_edge_mesh.specs.Contents.{Contents}
 use Rattle.half_edge_mesh.specs.Left.{each_in}
 use Rattle.half_edge_mesh.specs.Rounds.{GivesOuterLoop, IsOuterLoop}
 use Rattle.plane_tiling.proofs.Totals.{Contains-none, Contains-cases, Contains-head, Contains-later}
+use Rattle.plane_edits.proofs.LocalMesh.Changes.{IsOnce}
+use Rattle.mesh_embedding.proofs.Entries.{not_some}
 use Rattle.mesh_embedding.proofs.OutlineRounds.{IsOut}
 
 -- all outer edges, each once, and each with its next one after it, the first one after the last
 pub record IsOutlineList (m : Mesh) (edges : List ℕ) : Type 0 where
   pub within : (h : ℕ) → Contains edges h → IsOut m h
   pub all : (h : ℕ) → IsOut m h → Contains edges h
-  pub once : AllPairs (λ g h. g ≢ h) edges
+  pub once : IsOnce edges
   pub after : (i : ℕ) → i < length edges
       → slice_index_or edges ((i + 1) % length edges) 0 ≡ next m (slice_index_or edges i 0)
-
-not_some : (o : Option ℕ) → o ≡ None → ¬ IsSome o
-not_some None e had = cc
-not_some (Some k) e had = cc
 
 -- without an outer edge there is no edge
 none_out : (m : Mesh) → IsValidMesh m → m.outer_edge ≡ None → (h : ℕ) → ¬ IsOut m h
@@ -107,6 +105,7 @@ indexes_in : {C : Type 0} (d : Bor C) (is : List ℕ) → indexes (each_in d is)
 indexes_in d [] = refl
 indexes_in d (i ∷ is) = ap (λ xs. i ∷ xs) (indexes_in d is)
 
+-- before a search along the outline all outer edges are left
 pub along_begins : {V D U F : Type 0} (d : Bor (Contents V D U F)) (given : List (Bor (Contents V D U F) × ℕ))
     (Seen : ℕ → Type 0) → IsValidMesh d.now.mesh → HasOneOutline d.now.mesh → GivesOuterLoop d given
     → IsGoingAlong d.now.mesh Seen (indexes given)
@@ -117,9 +116,11 @@ along_begins d given Seen valid one gives =
 
 module _ {C : Type 0} (m : Mesh) (Seen : ℕ → Type 0) (given : List (Bor C × ℕ))
     (going : IsGoingAlong m Seen (indexes given)) where
+  -- the next edge that is given is an outer one
   pub along_next : (x : Bor C × ℕ) (left : List (Bor C × ℕ)) → given ≡ x ∷ left → IsOut m x.1
   along_next x left e = going.within x.1 (subst (λ xs. Contains (indexes xs) x.1) (sym e) (Contains-head x.1 (indexes left)))
 
+  -- once it is seen, the way along the outline goes on with the edges after it
   pub along_goes_on : (x : Bor C × ℕ) (left : List (Bor C × ℕ)) → given ≡ x ∷ left → Seen x.1
       → IsGoingAlong m Seen (indexes left)
   along_goes_on x left e seen = record {
@@ -133,6 +134,7 @@ module _ {C : Type 0} (m : Mesh) (Seen : ℕ → Type 0) (given : List (Bor C ×
     ];
   }
 
+  -- when none is left to give, each outer edge is seen
   pub along_ends : given ≡ [] → (h : ℕ) → IsOut m h → Seen h
   along_ends e h o = elim (going.each h o) [
     | inl c ↦ absurd (Contains-none h (subst (λ xs. Contains (indexes xs) h) e c))

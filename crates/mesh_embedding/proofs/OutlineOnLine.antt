@@ -45,9 +45,9 @@ module _ (points : List Point) (m : Mesh) (valid : IsValidMesh m) (bare : faces_
     height : ℕ → ℤ
     height = N.spot n p (outer_of m) signs a b a_in b_in apart
 
-    differ : (i j : ℕ) → i < n → j < n → i ≢ j → ¬ (height i ≡ height j)
+    differ : N.HaveOwnHeights height n
     unfolding height
-    differ i j h k d e = d (N.same n p (outer_of m) signs a b a_in b_in apart i j h k e)
+    differ = N.own_spots n p (outer_of m) signs a b a_in b_in apart
 
     one_up : (v x y : ℕ) → IsNext n p v x → IsNext n p v y → height v <ℤ height x → height v <ℤ height y → x ≡ y
     unfolding height
@@ -60,9 +60,6 @@ module _ (points : List Point) (m : Mesh) (valid : IsValidMesh m) (bare : faces_
         → (j : ℕ) × Contains (outer_of m) (v, j) × (height j <ℤ height v)
     unfolding height
     down_from v k h l d = N.below_edge n p (outer_of m) signs a b a_in b_in apart v k h l d
-
-    slopes : (h : ℕ) → IsOut m h → ¬ (height (origin m h) ≡ height (end m h))
-    slopes h o = let f = next_to h o in differ (origin m h) (end m h) f.first f.second f.apart
 
     -- where outer edges turn up they go back along the same edge, which is the only one there
     module _ (h : ℕ) (o : IsOut m h) (up : TurnsUp m height h) where
@@ -115,20 +112,23 @@ module _ (points : List Point) (m : Mesh) (valid : IsValidMesh m) (bare : faces_
 
     goes_up : (h : ℕ) → IsOut m h → IsLowest height n (origin m h) → height (origin m h) <ℤ height (end m h)
     goes_up h o l =
-        less_if_not_same (height (origin m h)) (height (end m h)) (l.1 (end m h) (next_to h o).second) (slopes h o)
-
-    one : (h g : ℕ) → IsOut m h → IsOut m g → IsLowest height n (origin m h) → IsLowest height n (origin m g) → h ≡ g
-    one h g o q x y =
-        let starts = same_low height n differ (origin m h) (origin m g) x y in
-        let other = subst (λ v. IsNext n p v (end m g)) (sym starts) (next_to g q) in
-        let rises = subst (λ v. height v <ℤ height (end m g)) (sym starts) (goes_up g q y) in
-        same_ends m valid.sound line.once h g o q starts
-        (one_up (origin m h) (end m h) (end m g) (next_to h o) other (goes_up h o x) rises)
+        let f = next_to h o in
+        less_if_not_same (height (origin m h)) (height (end m h)) (l.1 (end m h) f.second)
+        (differ (origin m h) (end m h) f.first f.second f.apart)
 
     outline_on_line : HasOneOutline m
-    outline_on_line =
-        outline_by_low m valid.sound height (IsLowest height n) (record { slopes = slopes; turns = turns; one = one })
+    outline_on_line = outline_by_low m valid.sound height (IsLowest height n) (record {
+      slopes = λ h o. let f = next_to h o in differ (origin m h) (end m h) f.first f.second f.apart;
+      turns = turns;
+      one = λ h g o q x y.
+          let starts = same_low height n differ (origin m h) (origin m g) x y in
+          let other = subst (λ v. IsNext n p v (end m g)) (sym starts) (next_to g q) in
+          let rises = subst (λ v. height v <ℤ height (end m g)) (sym starts) (goes_up g q y) in
+          same_ends m valid.sound line.once h g o q starts
+          (one_up (origin m h) (end m h) (end m g) (next_to h o) other (goes_up h o x) rises);
+    })
 
+  -- a mesh of one line, without faces, has one outline
   pub line_outline : HasOneOutline m
   line_outline among closed h g h_in g_in h_out g_out is =
       let f = next_to h (h_in, h_out) in

@@ -1,6 +1,6 @@
 -- Loops of outer edges, by heights: where each loop turns up at a vertex that one outer edge leaves, there is one loop.
 use Rattle.std.proofs.Common.{◌≡◌, ℕ, zero, suc, ◌+◌, ◌-◌, ◌<◌, ◌≤◌, length, Bool, true, refl, sym, ap, ◌∙◌, subst, arith}
-use mathlib.Core.Logic.{inl, inr, ◌≢◌}
+use mathlib.Core.Logic.{inl, inr}
 use Rattle.std.specs.Prelude.{ℤ, ◌<ℤ◌, ◌≤ℤ◌, neg_ℤ, Contains}
 use Rattle.std.proofs.lemmas.Int.{ints}
 use Rattle.std.proofs.lemmas.Bool.{cases_eq}
@@ -12,6 +12,7 @@ use Rattle.plane.proofs.Signs.{less_if_not_same, at_most_both_ways}
 use Rattle.plane_tiling.proofs.Rising.{greatest}
 use Rattle.plane_edits.proofs.LocalMesh.Changes.{IsOnce}
 use Rattle.mesh_embedding.specs.Drawn.{outer_of}
+use Rattle.mesh_embedding.proofs.LineNeighbours.{HaveOwnHeights}
 use Rattle.mesh_embedding.proofs.OuterEdges.{listed, one_edge}
 
 -- ---- a walk that comes back, and its lowest place
@@ -46,9 +47,11 @@ module _ (f : ℕ → ℕ) (o k : ℕ) (some : 0 < k) (back : iterate f k o ≡ 
       at_most a b c d e h l = omega (arith, ints)
 
 -- ---- outer edges, by a height of their origins
+-- edge h has the outer face on its left
 abbrev pub IsOut : Mesh → ℕ → Type 0
 IsOut m h = (h < length m.half_edges) × (face m h ≡ 0)
 
+-- the edge after an outer edge is outer
 pub next_out : (m : Mesh) → AreSoundLinks m → (h : ℕ) → IsOut m h → IsOut m (next m h)
 next_out m s h o = let e = s.edges h o.0 in (e.next_in, e.same_face ∙ o.1)
 
@@ -96,6 +99,7 @@ module _ (m : Mesh) (s : AreSoundLinks m) where
         let up = less_if_not_same _ _ (l.1 (suc (suc l.0))) (low.slopes (next m a) (next_out m s a a_out)) in
         (suc l.0, low.turns a a_out (down, up))
 
+    -- where at most one outer edge leaves a low vertex, as heights tell it, there is one outline
     pub outline_by_low : HasOneOutline m
     outline_by_low among closed h g h_in g_in h_out g_out is =
         let o : IsOut m h = (h_in, h_out) in
@@ -110,9 +114,11 @@ module _ (m : Mesh) (s : AreSoundLinks m) where
         ap among (sym back.1 ∙ ap (iterate (next m) back.0) (sym met)) ∙ there
 
   -- ---- an outer edge as a pair, with where the next one starts
+  -- an outer edge leads from its start to its end
   pub out_edge : (h : ℕ) → IsOut m h → IsOuterEdge m h (origin m h) (end m h)
   out_edge h o = record { within = o.0; outer = o.1; source = refl; target = sym (s.edges h o.0).starts }
 
+  -- the pair of its ends is among the outer pairs of the mesh
   pub out_pair : (h : ℕ) → IsOut m h → Contains (outer_of m) (origin m h, end m h)
   out_pair h o = listed m h (origin m h) (end m h) (out_edge h o)
 
@@ -125,10 +131,12 @@ module _ (m : Mesh) (s : AreSoundLinks m) where
       one_edge m once h g (origin m h) (end m h) (out_edge h o) other
 
 -- ---- the lowest of n vertices
+-- vertex v is one of n and none of them is lower
 abbrev pub IsLowest : (ℕ → ℤ) → ℕ → ℕ → Type 0
 IsLowest height n v = (v < n) × ((k : ℕ) → k < n → height v ≤ℤ height k)
 
-pub same_low : (height : ℕ → ℤ) (n : ℕ) → ((i j : ℕ) → i < n → j < n → i ≢ j → ¬ (height i ≡ height j)) → (u v : ℕ)
+-- two lowest of n vertices are one
+pub same_low : (height : ℕ → ℤ) (n : ℕ) → HaveOwnHeights height n → (u v : ℕ)
     → IsLowest height n u → IsLowest height n v → u ≡ v
 same_low height n apart u v a b = elim (cases_eq u v) [
   | inl e ↦ e

@@ -16,6 +16,7 @@ pub total-read : {X Y : Type 0} (f : Y → ℤ) (g : X → Y) (xs : List X) → 
 total-read f g [] = refl
 total-read f g (x ∷ xs) = same_sum (f (g x)) (f (g x)) (total f (map g xs)) (F.total (λ y. f (g y)) xs) refl (total-read f g xs)
 
+-- a sum of f over the values of g is the sum of f after g
 pub total-map : {X Y : Type 0} (f : Y → ℤ) (g : X → Y) (xs : List X) → total f (map g xs) ≡ total (λ x. f (g x)) xs
 total-map f g [] = refl
 total-map f g (x ∷ xs) = same_sum (f (g x)) (f (g x)) (total f (map g xs)) (total (λ y. f (g y)) xs) refl (total-map f g xs)

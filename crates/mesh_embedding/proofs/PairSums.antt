@@ -59,6 +59,10 @@ once_times xs few k l d below within same =
     clash : (a : ℤ) → a ≤ℤ pos 1 → pos 2 ≤ℤ a → ⊥
     clash a h k = omega (arith, ints)
 
+-- no pair of the first list is in the second
+abbrev pub HaveNoneIn : List (ℕ × ℕ) → List (ℕ × ℕ) → Type 0
+HaveNoneIn made gone = (i j : ℕ) → Contains made (i, j) → ¬ Contains gone (i, j)
+
 -- the sums of four lists of pairs, as a change of lists
 abbrev pub SumsChange : List (ℕ × ℕ) → List (ℕ × ℕ) → List (ℕ × ℕ) → List (ℕ × ℕ) → Type 0
 SumsChange old new gone made = (f : ℕ → ℕ → ℤ) → total (along f) new +ℤ total (along f) gone ≡ total (along f) old +ℤ total (along f) made
@@ -90,7 +94,7 @@ module _ (old new gone made : List (ℕ × ℕ)) (sums : SumsChange old new gone
       some a b c d e h k l = omega (arith, ints)
 
   -- where what is made is fresh, the sums are a change of outer edges
-  pub sums_change : IsOnce old → IsOnce made → ((i j : ℕ) → Contains made (i, j) → ¬ Contains old (i, j)) → ((i j : ℕ) → Contains made (i, j) → ¬ Contains gone (i, j)) → OuterChange old new gone made
+  pub sums_change : IsOnce old → IsOnce made → HaveNoneIn made old → HaveNoneIn made gone → OuterChange old new gone made
   sums_change once once_made fresh apart = record {
     kept = λ i j c n. listed_times new i j (kept (times new i j) (times gone i j) (times old i j) (times made i j) (counts i j) (times_listed old i j c) (not_listed gone i j n) (times_nonneg made i j));
     come = λ i j c. listed_times new i j (come (times new i j) (times gone i j) (times old i j) (times made i j) (counts i j) (times_listed made i j c) (not_listed gone i j (apart i j c)) (times_nonneg old i j));

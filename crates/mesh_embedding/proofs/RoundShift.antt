@@ -44,6 +44,7 @@ module _ (m : Mesh) (v first count : ℕ) (round : IsRound m v first count) wher
   spoke_shift i zero = ap (spoke m first) (let e : i ≡ 0 + i = omega arith in e)
   spoke_shift i (suc j) = ap (turn m) (spoke_shift i j) ∙ ap (spoke m first) (let e : suc (j + i) ≡ suc j + i = omega arith in e)
 
+  -- read from its edge i, the neighbours of a vertex are those from place i on
   pub neighbour_shift : (i j : ℕ) → neighbour m (spoke m first i) j ≡ neighbour m first (j + i)
   neighbour_shift i j = ap (λ h. origin m (rev h)) (spoke_shift i j)
 
@@ -76,6 +77,7 @@ module _ (m : Mesh) (v first count : ℕ) (round : IsRound m v first count) wher
         back_at : (a : ℕ) → i + (a + rest) ≡ a + i * count
         back_at a = let r = rounds_over in omega (arith, r)
 
+    -- the round of a vertex, from any of its edges on, is a round of the same length
     pub round_from : IsRound m v (spoke m first i) count
     round_from = record {
       some = round.some;

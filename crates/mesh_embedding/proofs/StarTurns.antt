@@ -1,64 +1,40 @@
 -- An edge at a vertex is turned: of four faces round the vertex three are left, of two on the hull one.
 use Rattle.std.proofs.Common.{◌≡◌, ℕ, zero, suc, ◌<◌, ◌*◌, ◌/◌, length, sym, ap, ◌∙◌, subst, arith}
 use mathlib.Core.Logic.{inl, inr, ◌≢◌}
-use Rattle.std.proofs.lemmas.Bool.{cases_eq}
 use Rattle.half_edge_links.specs.declared.records.HalfEdge.{HalfEdge}
 use Rattle.half_edge_mesh.specs.Mesh.{Mesh, edge_at, origin, next, prev, face, rev, IsValidMesh, AreSoundLinks}
 use Rattle.half_edge_mesh.specs.Flip.{IsFlippable, Flips, flipped}
 use Rattle.half_edge_mesh.specs.Peel.{turn, spoke, IsWheel, IsStrip}
 use Rattle.half_edge_mesh.specs.Round.{IsRound, neighbour}
 use Rattle.half_edge_links.proofs.Faces.FlipLemmas.{flips_is}
+use Rattle.half_edge_links.proofs.Faces.FlipSound.{IsAway, origin_kept}
 use Rattle.half_edge_links.proofs.Lists.Rev.{rev-rev}
 use Rattle.half_edge_links.proofs.Sound.Triangles as T
 use Rattle.mesh_embedding.proofs.MeshStays.{halved}
-
--- not one of the six edges round edge e
-pub record IsBeside (m : Mesh) (e h : ℕ) : Type 0 where
-  pub edge : h ≢ e
-  pub twin : h ≢ rev e
-  pub edge_next : h ≢ next m e
-  pub twin_next : h ≢ next m (rev e)
-  pub edge_prev : h ≢ prev m e
-  pub twin_prev : h ≢ prev m (rev e)
+use Rattle.mesh_embedding.proofs.TurnedEnds.{KeepsOtherOrigins}
 
 -- what a turn of edge e leaves at the vertex where it starts, whichever of its two directions was turned
 pub record TurnsAway (m new : Mesh) (e : ℕ) : Type 0 where
   pub edge_count : length new.half_edges ≡ length m.half_edges
-  pub others : (h : ℕ) → IsBeside m e h → edge_at new.half_edges h ≡ edge_at m.half_edges h
-  pub origins : (h : ℕ) → h ≢ e → h ≢ rev e → origin new h ≡ origin m h
+  pub others : (h : ℕ) → IsAway m e h → edge_at new.half_edges h ≡ edge_at m.half_edges h
+  pub origins : KeepsOtherOrigins m new e
   pub turned : prev new (next m (rev e)) ≡ prev m e
   pub inner : face new (next m (rev e)) ≡ face m (rev e)
 
-module _ (m new : Mesh) (e : ℕ) (flips : Flips m new e) where
-  kept_origin : (h : ℕ) → h ≢ e → h ≢ rev e → origin new h ≡ origin m h
-  kept_origin h a b = elim (cases_eq h (next m e)) [
-    | inl q ↦ ap (origin new) q ∙ flips.edge_next.origin ∙ ap (origin m) (sym q)
-    | inr c ↦ elim (cases_eq h (next m (rev e))) [
-      | inl q ↦ ap (origin new) q ∙ flips.twin_next.origin ∙ ap (origin m) (sym q)
-      | inr d ↦ elim (cases_eq h (prev m e)) [
-        | inl q ↦ ap (origin new) q ∙ flips.edge_prev.origin ∙ ap (origin m) (sym q)
-        | inr x ↦ elim (cases_eq h (prev m (rev e))) [
-          | inl q ↦ ap (origin new) q ∙ flips.twin_prev.origin ∙ ap (origin m) (sym q)
-          | inr y ↦ ap (λ (r : HalfEdge). r.origin) (flips.other_edges h a b c d x y)
-        ]
-      ]
-    ]
-  ]
+turns_edge : (m new : Mesh) (e : ℕ) → AreSoundLinks m → IsFlippable m e → Flips m new e → TurnsAway m new e
+turns_edge m new e s can flips = record {
+  edge_count = flips.edge_count;
+  others = λ h k. flips.other_edges h k.edge k.twin k.edge_next k.twin_next k.edge_prev k.twin_prev;
+  origins = origin_kept m new e s can flips;
+  turned = flips.twin_next.prev;
+  inner = flips.twin_next.face;
+}
 
-  turns_edge : TurnsAway m new e
-  turns_edge = record {
-    edge_count = flips.edge_count;
-    others = λ h k. flips.other_edges h k.edge k.twin k.edge_next k.twin_next k.edge_prev k.twin_prev;
-    origins = kept_origin;
-    turned = flips.twin_next.prev;
-    inner = flips.twin_next.face;
-  }
-
-turns_twin : (m new : Mesh) (e : ℕ) → Flips m new (rev e) → TurnsAway m new e
-turns_twin m new e flips = record {
+turns_twin : (m new : Mesh) (e : ℕ) → AreSoundLinks m → IsFlippable m (rev e) → Flips m new (rev e) → TurnsAway m new e
+turns_twin m new e s can flips = record {
   edge_count = flips.edge_count;
   others = λ h k. flips.other_edges h k.twin (λ q. k.edge (q ∙ rev-rev e)) k.twin_next (λ q. k.edge_next (q ∙ ap (next m) (rev-rev e))) k.twin_prev (λ q. k.edge_prev (q ∙ ap (prev m) (rev-rev e)));
-  origins = λ h a b. kept_origin m new (rev e) flips h b (λ q. a (q ∙ rev-rev e));
+  origins = λ h a b. origin_kept m new (rev e) s can flips h b (λ q. a (q ∙ rev-rev e));
   turned = flips.edge_next.prev ∙ ap (prev m) (rev-rev e);
   inner = flips.edge_next.face;
 }
@@ -66,8 +42,8 @@ turns_twin m new e flips = record {
 -- the turn of the undirected edge of e
 pub turns_away : (m new : Mesh) (e : ℕ) → AreSoundLinks m → IsFlippable m e → IsFlippable m (rev e) → new ≡ flipped m (2 * (e / 2)) → TurnsAway m new e
 turns_away m new e s one other is = elim (halved e) [
-  | inl q ↦ turns_edge m new e (flips_is m new e s one (is ∙ ap (flipped m) q))
-  | inr q ↦ turns_twin m new e (flips_is m new (rev e) s other (is ∙ ap (flipped m) q))
+  | inl q ↦ turns_edge m new e s one (flips_is m new e s one (is ∙ ap (flipped m) q))
+  | inr q ↦ turns_twin m new e s other (flips_is m new (rev e) s other (is ∙ ap (flipped m) q))
 ]
 
 -- ---- the edge that comes second round a vertex
@@ -101,7 +77,7 @@ module _ (m new : Mesh) (valid : IsValidMesh m) (v first count : ℕ) (round : I
   prev_origin i q = neighbour_other (suc i) (ap (origin m) (rev-rev (prev m (at i))) ∙ q)
 
   -- the other edges of the vertex stay
-  beside_spoke : (j : ℕ) → 1 < j → j < count → IsBeside m e (at j)
+  beside_spoke : (j : ℕ) → 1 < j → j < count → IsAway m e (at j)
   beside_spoke j l h = record {
     edge = λ q. round.apart 1 j l h (sym q);
     twin = not_back (at j) 1 (round.starts j);
@@ -115,15 +91,19 @@ module _ (m new : Mesh) (valid : IsValidMesh m) (v first count : ℕ) (round : I
   pub first_turn : turn new first ≡ at 2
   first_turn = ap rev (ap (prev new) (sym twin_next_is) ∙ turns.turned)
 
+  -- the first edge still has an inner face on its left
   pub first_inner : 0 < face new first
   first_inner = subst (λ x. 0 < x) (sym (ap (face new) (sym twin_next_is) ∙ turns.inner ∙ ap (face m) twin_is ∙ t.face_prev)) left
 
+  -- the edges of the vertex but the first two turn to what they turned to
   pub other_turn : (j : ℕ) → 1 < j → j < count → turn new (at j) ≡ at (suc j)
   other_turn j l h = ap (λ (r : HalfEdge). rev r.prev) (turns.others (at j) (beside_spoke j l h))
 
+  -- they have the face on their left that they had
   pub other_face : (j : ℕ) → 1 < j → j < count → face new (at j) ≡ face m (at j)
   other_face j l h = ap (λ (r : HalfEdge). r.face) (turns.others (at j) (beside_spoke j l h))
 
+  -- and the next edge that they had
   pub other_next : (j : ℕ) → 1 < j → j < count → next new (at j) ≡ next m (at j)
   other_next j l h = ap (λ (r : HalfEdge). r.next) (turns.others (at j) (beside_spoke j l h))
 
@@ -137,12 +117,15 @@ module _ (m new : Mesh) (valid : IsValidMesh m) (v first count : ℕ) (round : I
   later_not_turned : (j : ℕ) → 1 < j → j < count → at j ≢ e
   later_not_turned j l h q = round.apart 1 j l h (sym q)
 
+  -- the first edge still starts at v
   pub same_start : origin new first ≡ v
   same_start = turns.origins first first_not_turned (not_back first 1 (round.starts 0)) ∙ round.starts 0
 
+  -- its first neighbour is the one that it was
   pub first_end : neighbour new first 0 ≡ neighbour m first 0
   first_end = same_end 0 first_not_turned
 
+  -- its second neighbour is the one that was the third
   pub second_end : neighbour new first 1 ≡ neighbour m first 2
   second_end = ap (λ x. origin new (rev x)) first_turn ∙ same_end 2 (later_not_turned 2 (omega arith) many)
 
@@ -151,6 +134,7 @@ module _ (m new : Mesh) (valid : IsValidMesh m) (v first : ℕ) (round : IsRound
   third_turn : turn new (turn new first) ≡ spoke m first 3
   third_turn = ap (turn new) (first_turn m new valid v first 4 round (omega arith) (inner 0) (inner 1) turns) ∙ other_turn m new valid v first 4 round (omega arith) (inner 0) (inner 1) turns 2 (omega arith) (omega arith)
 
+  -- three inner faces are left round the vertex
   pub wheel_left : IsWheel new first
   wheel_left = record {
     within = subst (λ n. first < n) (sym turns.edge_count) (round.within 0);
@@ -160,16 +144,18 @@ module _ (m new : Mesh) (valid : IsValidMesh m) (v first : ℕ) (round : IsRound
     round = ap (turn new) third_turn ∙ other_turn m new valid v first 4 round (omega arith) (inner 0) (inner 1) turns 3 (omega arith) (omega arith) ∙ round.back 0;
   }
 
+  -- the third neighbour is the one that was the fourth
   pub third_end : neighbour new first 2 ≡ neighbour m first 3
   third_end = ap (λ x. origin new (rev x)) third_turn ∙ same_end m new valid v first 4 round (omega arith) (inner 0) (inner 1) turns 3 (later_not_turned m new valid v first 4 round (omega arith) (inner 0) (inner 1) turns 3 (omega arith) (omega arith))
 
+  -- after the third neighbour comes the first again
   pub again_end : neighbour new first 3 ≡ neighbour m first 0
   again_end = ap (λ x. origin new (rev x)) wheel_left.round ∙ first_end m new valid v first 4 round (omega arith) (inner 0) (inner 1) turns
 
 -- ---- of two faces at a vertex on the hull one is left
 module _ (m new : Mesh) (valid : IsValidMesh m) (v first : ℕ) (round : IsRound m v first 3) (strip : IsStrip m first 2) (turns : TurnsAway m new (turn m first)) where
   -- the outer edge to the vertex stays
-  beside_back : IsBeside m (turn m first) (rev first)
+  beside_back : IsAway m (turn m first) (rev first)
   beside_back =
       let one = T.triangle_at m first valid.sound (round.within 0) (strip.inner 0 (omega arith)) in
       let two = T.triangle_at m (turn m first) valid.sound (round.within 1) (strip.inner 1 (omega arith)) in
@@ -198,6 +184,7 @@ module _ (m new : Mesh) (valid : IsValidMesh m) (v first : ℕ) (round : IsRound
   one_inner zero l = first_inner m new valid v first 3 round (omega arith) (strip.inner 0 (omega arith)) (strip.inner 1 (omega arith)) turns
   one_inner (suc i) l = absurd (omega arith)
 
+  -- one face is left between the two outer edges of the vertex
   pub strip_left : IsStrip new first 1
   strip_left = record {
     within = subst (λ n. first < n) (sym turns.edge_count) (round.within 0);
@@ -209,6 +196,7 @@ module _ (m new : Mesh) (valid : IsValidMesh m) (v first : ℕ) (round : IsRound
   }
 
 -- ---- three faces round a vertex
+-- a vertex with three edges and inner faces all round is a wheel from its first edge on
 pub wheel_of_three : (m : Mesh) (v first : ℕ) → IsRound m v first 3 → ((i : ℕ) → 0 < face m (spoke m first i)) → IsWheel m first
 wheel_of_three m v first round inner = record {
   within = round.within 0;

@@ -7,12 +7,15 @@ use Rattle.std.proofs.lemmas.List.Elements.{Contains-append_left, Contains-appen
 use Rattle.plane_tiling.proofs.Totals.{Contains-head, Contains-later, Contains-none, Contains-cases}
 use Rattle.plane_edits.proofs.LocalMesh.Changes.{IsOnce, once_none, once_head, once_tail, once_cons, once_length}
 
+-- a list contains the entry that was put at its end
 pub contains_last : {X : Type 0} (xs : List X) (x : X) → Contains (xs ++ x ∷ []) x
 contains_last xs x = Contains-append_right xs (x ∷ []) x (Contains-head x [])
 
+-- a list with one more entry contains what it contained
 pub contains_before : {X : Type 0} (xs : List X) (y x : X) → Contains xs x → Contains (xs ++ y ∷ []) x
 contains_before xs y x h = Contains-append_left xs (y ∷ []) x h
 
+-- what a list with one more entry contains is this entry, or was contained before
 pub last_or_before : {X : Type 0} (xs : List X) (y x : X) → Contains (xs ++ y ∷ []) x → (x ≡ y) ⊎ Contains xs x
 last_or_before xs y x h = elim (Contains-append_cases xs (y ∷ []) x h) as (λ _. (x ≡ y) ⊎ Contains xs x) [
   | inl c ↦ inr c
@@ -24,6 +27,7 @@ pub once_before : {X : Type 0} (xs : List X) (x : X) → IsOnce (xs ++ x ∷ [])
 once_before [] x o = once_none
 once_before (y ∷ ys) x o = once_cons y ys (λ h. once_head y (ys ++ x ∷ []) o (contains_before ys x y h)) (once_before ys x (once_tail y (ys ++ x ∷ []) o))
 
+-- in a list with each entry once, the last entry is not among those before it
 pub last_not_before : {X : Type 0} (xs : List X) (x : X) → IsOnce (xs ++ x ∷ []) → ¬ Contains xs x
 last_not_before [] x o h = Contains-none x h
 last_not_before (y ∷ ys) x o h = elim (Contains-cases y ys x h) as (λ _. ⊥) [
@@ -39,6 +43,7 @@ once_after (y ∷ ys) x o n = once_cons y (ys ++ x ∷ []) (λ h. elim (last_or_
   | inr c ↦ once_head y ys o c
 ]) (once_after ys x (once_tail y ys o) (λ h. n (Contains-later y ys x h)))
 
+-- the values of a function over a list contain its value at each entry
 pub contains_map : {X Y : Type 0} (f : X → Y) (xs : List X) (x : X) → Contains xs x → Contains (map f xs) (f x)
 contains_map f [] x h = absurd (Contains-none x h)
 contains_map f (y ∷ ys) x h = elim (Contains-cases y ys x h) as (λ _. Contains (f y ∷ map f ys) (f x)) [
@@ -46,6 +51,7 @@ contains_map f (y ∷ ys) x h = elim (Contains-cases y ys x h) as (λ _. Contain
   | inr c ↦ Contains-later (f y) (map f ys) (f x) (contains_map f ys x c)
 ]
 
+-- each of the values of a function over a list is its value at some entry
 pub contains_map_from : {X Y : Type 0} (f : X → Y) (xs : List X) (y : Y) → Contains (map f xs) y → (x : X) × Contains xs x × (f x ≡ y)
 contains_map_from {X = X} f [] y h = absurd (Contains-none y h)
 contains_map_from {X = X} f (x ∷ xs) y h = elim (Contains-cases (f x) (map f xs) y h) as (λ _. (z : X) × Contains (x ∷ xs) z × (f z ≡ y)) [
@@ -76,5 +82,6 @@ in_below (suc n) k h = elim (cases_eq n k) [
   | inr d ↦ Contains-later n (below n) k (in_below n k (grind arith))
 ]
 
+-- a list of numbers below n, each once, has at most n entries
 pub at_most_so_many : (xs : List ℕ) (n : ℕ) → IsOnce xs → ((k : ℕ) → Contains xs k → k < n) → length xs ≤ n
 at_most_so_many xs n o h = subst (λ (z : ℕ). length xs ≤ z) (length_below n) (once_length xs (below n) o (λ k c. in_below n k (h k c)))

@@ -7,9 +7,11 @@ use Rattle.half_edge_mesh.specs.Flow.{outline}
 use Rattle.plane.specs.Fraction.{Point}
 use Rattle.plane.specs.Tiling.{Face, Triangulation}
 
+-- three corners as a face of a triangulation
 abbrev pub corners_of : Triangle → Face
 corners_of t = record { a = t.first; b = t.second; c = t.third }
 
+-- the ends of an edge as a pair
 abbrev pub pair_of : Ends → ℕ × ℕ
 pair_of e = (e.source, e.target)
 

@@ -14,6 +14,7 @@ use Rattle.mesh_embedding.specs.Stays.{StaysBut}
 abbrev pub pair_at : Mesh → ℕ → ℕ × ℕ
 pair_at m k = (origin m (2 * k), origin m (rev (2 * k)))
 
+-- the vertices that each of these undirected edges joins
 abbrev pub pairs_at : Mesh → List ℕ → List (ℕ × ℕ)
 pairs_at m ks = map (pair_at m) ks
 

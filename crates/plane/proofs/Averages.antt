@@ -44,6 +44,7 @@ average_of_mean a b p t = record {
   y = mean_part t.k t.l t.n a.y a.w b.y b.w p.y p.w t.y t.w;
 }
 
+-- the points of a segment are the weighted averages of its ends
 pub segment_is_averages : (a b p : Fraction) → OnSegment a b p ↔ IsAverageOf a b p
 segment_is_averages a b p = (
   (λ h. let t = two_weights IsNotNegative a b p h in record {

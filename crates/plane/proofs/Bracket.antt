@@ -24,6 +24,7 @@ unfoldable pub bracket : Vec3 → Vec3 → Vec3 → ℤ
 bracket a b c = a.x *ℤ (b.y *ℤ c.w -ℤ b.w *ℤ c.y) -ℤ a.y *ℤ (b.x *ℤ c.w -ℤ b.w *ℤ c.x) +ℤ a.w *ℤ (b.x *ℤ c.y -ℤ b.y *ℤ c.x)
 
 -- ---- the same in the solver's syntax
+-- three polynomials, one for each coordinate
 pub record Vec3ᵖ : Type 0 where
   pub x : Poly
   pub y : Poly

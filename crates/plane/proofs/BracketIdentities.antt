@@ -7,6 +7,7 @@ use Rattle.plane.proofs.Solver.{Poly, num, ◌⊕◌, ◌⊖◌, ◌⊗◌, ⊝,
 use Rattle.plane.proofs.Bracket.{Vec3, lift, bracket, Vec3ᵖ, bracketᵖ, vec3, points, liftᵖ}
 
 -- ---- antisymmetry
+-- exchanging the first two vectors turns the sign
 pub bracket-swap : (a b c : Vec3) → bracket a b c ≡ neg_ℤ (bracket b a c)
 unfolding bracket
 bracket-swap a b c = ring_over vec3 [] (a ∷ b ∷ c ∷ []) bracketᵖ (λ a b c. ⊝ (bracketᵖ b a c)) tt
@@ -66,6 +67,7 @@ unfolding bracket
 cramer a b c p s t = ring_over vec3 [] (a ∷ b ∷ c ∷ p ∷ s ∷ t ∷ []) (λ a b c p s t. bracketᵖ a b c ⊗ bracketᵖ s t p) (λ a b c p s t. bracketᵖ b c p ⊗ bracketᵖ s t a ⊕ bracketᵖ c a p ⊗ bracketᵖ s t b ⊕ bracketᵖ a b p ⊗ bracketᵖ s t c) tt
 
 -- ---- Plücker: four directions out of a
+-- of five vectors: the relation between brackets that share the first
 pub pluecker : (a b c d e : Vec3) → bracket a b c *ℤ bracket a d e -ℤ bracket a b d *ℤ bracket a c e +ℤ bracket a b e *ℤ bracket a c d ≡ pos 0
 unfolding bracket
 pluecker a b c d e = ring_over vec3 [] (a ∷ b ∷ c ∷ d ∷ e ∷ []) (λ a b c d e. bracketᵖ a b c ⊗ bracketᵖ a d e ⊖ bracketᵖ a b d ⊗ bracketᵖ a c e ⊕ bracketᵖ a b e ⊗ bracketᵖ a c d) (λ a b c d e. num 0) tt
@@ -76,6 +78,7 @@ unfolding bracket
 rays a b c q x = ring_over vec3 [] (a ∷ b ∷ c ∷ q ∷ x ∷ []) (λ a b c q x. bracketᵖ b c q ⊗ bracketᵖ x a q ⊕ bracketᵖ c a q ⊗ bracketᵖ x b q ⊕ bracketᵖ a b q ⊗ bracketᵖ x c q) (λ a b c q x. num 0) tt
 
 -- ---- four points are dependent: for a linear form, for the weight, and seen from a line
+-- a linear form of a vector's three coordinates
 abbrev pub form : ℤ → ℤ → ℤ → Vec3 → ℤ
 form l m n p = l *ℤ p.x +ℤ m *ℤ p.y +ℤ n *ℤ p.w
 

@@ -175,6 +175,7 @@ module _ (a b w l s t : ℤ) (a_positive : pos 0 <ℤ a) (b_positive : pos 0 <�
       clash : (x y z : ℤ) → x +ℤ y ≡ pos 0 -ℤ z → pos 0 ≤ℤ x → pos 0 ≤ℤ y → pos 0 <ℤ z → ⊥
       clash x y z e h k n = omega (arith, ints)
 
+  -- two numbers that average in between, with no end strictly between others, are 0 and l in one order
   pub same_ends : (pos 0 <ℤ s → s <ℤ l → ⊥) → (pos 0 <ℤ t → t <ℤ l → ⊥) → (s <ℤ pos 0 → pos 0 <ℤ t → ⊥) → (t <ℤ pos 0 → pos 0 <ℤ s → ⊥) → (s <ℤ l → l <ℤ t → ⊥) → (t <ℤ l → l <ℤ s → ⊥)
       → ((s ≡ pos 0) × (t ≡ l)) ⊎ ((s ≡ l) × (t ≡ pos 0))
   same_ends s_out t_out start_out start_out' end_out end_out' = go (outside s s_out) (outside t t_out)
@@ -221,6 +222,7 @@ module _ (a b w l s t : ℤ) (a_positive : pos 0 <ℤ a) (b_positive : pos 0 <�
       go (inr h) (inl k) = inr (at_end t s k h end_out', at_zero t s k h start_out')
 
 -- ---- the place of a mean
+-- the place of a weighted mean is the mean of the places
 pub mean_place : (A : ℤ → Type 0) (u v : Point) (a b y : Fraction) (t : TwoWeights A a b y) → t.n *ℤ place_on u v (vec y) ≡ t.k *ℤ place_on u v (vec a) +ℤ t.l *ℤ place_on u v (vec b)
 unfolding place_on
 mean_place A u v a b y t = ring_in_from (u.x ∷ u.y ∷ v.x ∷ v.y ∷ a.x ∷ a.y ∷ a.w ∷ b.x ∷ b.y ∷ b.w ∷ y.x ∷ y.y ∷ y.w ∷ t.n ∷ t.k ∷ t.l ∷ [])

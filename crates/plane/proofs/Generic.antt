@@ -1,10 +1,11 @@
 -- Points off all lines of two vertices: one inside any triangle, and one near any point.
-use Rattle.std.proofs.Common.{◌≡◌, ℕ, ◌<◌, sym, ◌∙◌, subst}
-use mathlib.Core.Logic.{◌≢◌}
+use Rattle.std.proofs.Common.{◌≡◌, ◌⊎◌, ℕ, suc, ◌<◌, sym, ap, ◌∙◌, subst}
+use mathlib.Core.Logic.{inl, inr, ◌≢◌}
 use Rattle.std.specs.Prelude.{pos, ◌*ℤ◌, ◌≤ℤ◌, ◌<ℤ◌}
 use Rattle.plane.specs.Fraction.{Point}
 use Rattle.plane.proofs.IntegerOrder.{zero-mul_ℤ, zero_of_mul-zero_ℤ, pos-ne-zero_ℤ}
 use Rattle.plane.proofs.Steps.{three_zero, no_difference}
+use Rattle.plane.proofs.Indexes.{below_or_last}
 use Rattle.plane.proofs.Nudges.{Nudged, nudged_zero, nudged_not_left, nudge_pairs, moved, moved_positive, bracket-moved}
 use Rattle.plane.proofs.Bracket.{Vec3, bracket, lift}
 use Rattle.plane.proofs.BracketIdentities.{bracket-turn, bracket-outer, bracket-last, cramer, bracket_at_x, bracket_at_y}
@@ -19,9 +20,31 @@ pub record Inside (a b c q : Vec3) : Type 0 where
 pub inside-turned : {a b c q : Vec3} → Inside a b c q → Inside b c a q
 inside-turned i = record { first = i.second; second = i.third; third = i.first }
 
--- the first n points differ
-abbrev pub AreDistinct : ℕ → (ℕ → Point) → Type 0
+-- the first n differ
+abbrev pub AreDistinct : {X : Type 0} → ℕ → (ℕ → X) → Type 0
 AreDistinct n p = (i j : ℕ) → i < n → j < n → i ≢ j → ¬ (p i ≡ p j)
+
+-- of the first n, those that are the same have one index
+abbrev pub IsOneToOne : {X : Type 0} → ℕ → (ℕ → X) → Type 0
+IsOneToOne n f = (i j : ℕ) → i < n → j < n → f i ≡ f j → i ≡ j
+
+-- the next one is unlike each of the first n
+abbrev pub IsFresh : {X : Type 0} → ℕ → (ℕ → X) → Type 0
+IsFresh n p = (k : ℕ) → k < n → ¬ (p k ≡ p n)
+
+-- with it they still differ
+pub distinct_with_next : {X : Type 0} (n : ℕ) (p : ℕ → X) → AreDistinct n p → IsFresh n p → AreDistinct (suc n) p
+distinct_with_next n p old fresh i j h k a e = go (below_or_last n i h) (below_or_last n j k)
+  where
+    go : (i < n) ⊎ (i ≡ n) → (j < n) ⊎ (j ≡ n) → ⊥
+    go (inl x) (inl y) = old i j x y a e
+    go (inl x) (inr y) = fresh i x (e ∙ ap p y)
+    go (inr x) (inl y) = fresh j y (sym e ∙ ap p x)
+    go (inr x) (inr y) = a (x ∙ sym y)
+
+-- the first n points are on the line of u and v
+abbrev pub AreOnLine : ℕ → (ℕ → Point) → Point → Point → Type 0
+AreOnLine n p u v = (k : ℕ) → k < n → bracket (lift u) (lift v) (lift (p k)) ≡ pos 0
 
 -- q is on no line of two of the first n points
 pub record IsGeneric (n : ℕ) (p : ℕ → Point) (q : Vec3) : Type 0 where
@@ -44,6 +67,7 @@ not_on_line a b c s t h ea eb ec =
     λ i. record { x = sym x i; y = y i }
 
 module _ (n : ℕ) (p : ℕ → Point) where
+  -- from q towards d there is a vector so near that no strict side of q changes
   pub near : (q d : Vec3) → pos 0 <ℤ q.w → pos 0 <ℤ d.w → (z : Vec3) × IsNudged n p q d z
   near q d h k =
       let m = nudge_pairs n (λ s t. bracket (lift (p s)) (lift (p t)) q) (λ s t. bracket (lift (p s)) (lift (p t)) d) in (
@@ -54,6 +78,7 @@ module _ (n : ℕ) (p : ℕ → Point) where
         },
       )
 
+  -- towards a generic d there is a generic vector so near that no strict side of q changes
   pub generic_near : (q d : Vec3) → pos 0 <ℤ q.w → IsGeneric n p d → (z : Vec3) × IsNudged n p q d z × IsGeneric n p z
   generic_near q d h g =
       let z = near q d h g.weight in (
@@ -71,6 +96,7 @@ module _ (n : ℕ) (p : ℕ → Point) where
     pub inside : Inside (lift (p a)) (lift (p b)) (lift (p c)) d
     pub not_left : (s t : ℕ) → s < n → t < n → bracket (lift (p s)) (lift (p t)) (lift (p a)) ≤ℤ pos 0 → bracket (lift (p s)) (lift (p t)) (lift (p b)) ≤ℤ pos 0 → bracket (lift (p s)) (lift (p t)) (lift (p c)) ≤ℤ pos 0 → bracket (lift (p s)) (lift (p t)) d ≤ℤ pos 0
 
+  -- each left-turning triangle has a generic point inside
   pub spot : AreDistinct n p → (a b c : ℕ) → a < n → b < n → c < n → pos 0 <ℤ bracket (lift (p a)) (lift (p b)) (lift (p c)) → (d : Vec3) × IsSpot a b c d
   spot distinct a b c ia ib ic turns =
       let A = lift (p a) in

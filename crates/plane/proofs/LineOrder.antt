@@ -66,6 +66,7 @@ within_places u v apart a b z on_a on_b on_z (inl o) = within_by_places u v apar
 within_places u v apart a b z on_a on_b on_z (inr o) = turned_mean_of_two IsPositive (whole b) (whole a) (whole z) (within_by_places u v apart b z a on_b on_z on_a o.0 o.1)
 
 -- ---- fraction points of the line: how far b is ahead of a, times both denominators
+-- how far b is ahead of a on the way from u to v, times both denominators
 unfoldable pub ahead : Point → Point → Fraction → Fraction → ℤ
 ahead u v a b = a.w *ℤ place_on u v (vec b) -ℤ b.w *ℤ place_on u v (vec a)
 
@@ -154,6 +155,7 @@ same_if_level u v apart a b on_a on_b e = record {
         (ring_in_from (l ∷ g ∷ o ∷ a ∷ aw ∷ f ∷ b ∷ bw ∷ h ∷ []) (λ l g o a aw f b bw h. l ⊗ (a ⊗ bw)) (λ l g o a aw f b bw h. l ⊗ (b ⊗ aw))
         (λ l g o a aw f b bw h. (bw, l ⊗ (a ⊖ aw ⊗ o), f ⊗ g) ∷ (num 0 ⊖ aw, l ⊗ (b ⊖ bw ⊗ o), h ⊗ g) ∷ (num 0 ⊖ g, aw ⊗ h ⊖ bw ⊗ f, num 0) ∷ []) (e, (d, (c, tt))) tt)
 
+-- of two fraction points that are the same, neither is ahead on the way from u to v
 pub level_if_same : (u v : Point) (a b : Fraction) → IsSame a b → ahead u v a b ≡ pos 0
 unfolding ahead place_on
 level_if_same u v a b s = ring_in_from (u.x ∷ u.y ∷ v.x ∷ v.y ∷ a.x ∷ a.y ∷ a.w ∷ b.x ∷ b.y ∷ b.w ∷ [])

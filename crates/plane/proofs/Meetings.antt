@@ -179,7 +179,7 @@ turned_meets : (s t u v : Fraction) → MeetsWithin s t v u → MeetsWithin s t 
 turned_meets s t u v c = record { at = c.at; meet = turned_meet s t u v c.at c.meet; within = turned_mean_of_two IsPositive v u c.at c.within }
 
 -- crossing is mutual
-pub cross-sym : (s t u v : Fraction) → Cross s t u v → Cross u v s t
+cross-sym : (s t u v : Fraction) → Cross s t u v → Cross u v s t
 cross-sym s t u v c = record { at = c.at; meet = record { first = c.meet.second; second = c.meet.first; only = λ p f g. c.meet.only p g f }; within_first = c.within_second; within_second = c.within_first }
 
 swapped_opposite : (a b c d : ℤ) → a ≡ neg_ℤ c → b ≡ neg_ℤ d → AreOpposite c d → AreOpposite a b
@@ -398,6 +398,7 @@ opposite_is_parts s t u v = (forth, back)
     back (inl h) = inr (if_left s t u h.0, if_right s t v h.1)
     back (inr h) = inl (if_right s t u h.0, if_left s t v h.1)
 
+-- two segments, each with different ends, cross exactly if each has the other's ends on its two sides
 pub crossing_is_sides : (s t u v : Fraction) → ¬ IsSame s t → ¬ IsSame u v → Cross s t u v ↔ (Parts s t u v × Parts u v s t)
 crossing_is_sides s t u v apart apart' = let brackets = cross_is s t u v apart apart' in (
   (λ c. let o = brackets.0 c in ((opposite_is_parts s t u v).0 o.0, (opposite_is_parts u v s t).0 o.1)),

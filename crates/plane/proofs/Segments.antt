@@ -83,6 +83,7 @@ pub on_of_within : (u v p : Fraction) → WithinSegment u v p → OnSegment u v 
 on_of_within u v p h = mean_of_two IsNotNegative u v p (weak_two u v p (two_weights IsPositive u v p h))
 
 -- ---- the ends
+-- all of the first and none of the second is the first
 pub start_part : (a b : ℤ) → pos 1 *ℤ a ≡ pos 1 *ℤ a +ℤ pos 0 *ℤ b
 start_part a b = ring_in (a ∷ b ∷ []) (λ a b. num 1 ⊗ a) (λ a b. num 1 ⊗ a ⊕ num 0 ⊗ b) tt
 
@@ -151,15 +152,19 @@ within_itself u v p e d = mean_of_two IsPositive u v p (record {
 })
 
 -- ---- how far z is on the way from u to v: 0 at u, and growing towards v
+-- how far z is on the way from u to v
 unfoldable pub reach : Fraction → Fraction → Fraction → ℤ
 reach u v z = run u v *ℤ run u z +ℤ rise u v *ℤ rise u z
 
+-- the way from p to q in x, as a polynomial
 abbrev pub runᵖ : Vec3ᵖ → Vec3ᵖ → Poly
 runᵖ p q = q.x ⊗ p.w ⊖ p.x ⊗ q.w
 
+-- the way from p to q in y, as a polynomial
 abbrev pub riseᵖ : Vec3ᵖ → Vec3ᵖ → Poly
 riseᵖ p q = q.y ⊗ p.w ⊖ p.y ⊗ q.w
 
+-- how far z is on the way from u to v, as a polynomial
 abbrev pub reachᵖ : Vec3ᵖ → Vec3ᵖ → Vec3ᵖ → Poly
 reachᵖ u v z = runᵖ u v ⊗ runᵖ u z ⊕ riseᵖ u v ⊗ riseᵖ u z
 
@@ -203,6 +208,7 @@ weights_x u v z e = ring_over_from vec3 [] (vec u ∷ vec v ∷ vec z ∷ [])
     (λ u v z. (reachᵖ u v v ⊗ z.w ⊖ reachᵖ u v z ⊗ v.w) ⊗ u.x ⊕ (reachᵖ u v z ⊗ u.w) ⊗ v.x)
     (λ u v z. (num 0 ⊖ riseᵖ u v ⊗ u.w, bracketᵖ u v z, num 0) ∷ []) (e, tt) tt
 
+-- the same weights give the y of a point of the line through u and v
 pub weights_y : (u v z : Fraction) → bracket (vec u) (vec v) (vec z) ≡ pos 0 → (reach u v v *ℤ u.w) *ℤ z.y ≡ (reach u v v *ℤ z.w -ℤ reach u v z *ℤ v.w) *ℤ u.y +ℤ (reach u v z *ℤ u.w) *ℤ v.y
 unfolding reach bracket
 weights_y u v z e = ring_over_from vec3 [] (vec u ∷ vec v ∷ vec z ∷ [])

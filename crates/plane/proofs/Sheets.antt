@@ -102,30 +102,37 @@ are_on_by points (c ∷ ts) t =
     let first = is_zero (turn_at (site points c.0) (site points c.1) (site points c.2)) in
     (on_by (site points c.0) (site points c.1) (site points c.2) (and_l first (are_on points ts) t), are_on_by points ts (and_r first (are_on points ts) t))
 
+-- at unit size, the circles of the grid contain and carry what its table says
 pub grid_holds : TableHolds (grid (pos 1)) grid_table
 unfolding grid_table
 grid_holds = table_by (grid (pos 1)) grid_table tt
 
+-- at the greatest coordinates, the circles of the grid contain and carry what its table says
 pub large_grid_holds : TableHolds (grid (pos 536870912)) grid_table
 unfolding grid_table
 large_grid_holds = table_by (grid (pos 536870912)) grid_table tt
 
+-- at unit size, the rows, columns and diagonals of the grid are each on one line
 pub grid_lines_hold : AreOn (grid (pos 1)) grid_lines
 unfolding grid_lines
 grid_lines_hold = are_on_by (grid (pos 1)) grid_lines tt
 
+-- at the greatest coordinates, the rows, columns and diagonals of the grid are each on one line
 pub large_grid_lines_hold : AreOn (grid (pos 536870912)) grid_lines
 unfolding grid_lines
 large_grid_lines_hold = are_on_by (grid (pos 536870912)) grid_lines tt
 
+-- the circles of the five sites contain and carry what their table says
 pub five_hold : TableHolds five five_table
 unfolding five_table
 five_hold = table_by five five_table tt
 
+-- the listed triples of the seven points have their third point on the left
 pub seven_turn_left : TurnLeft seven left_of_seven
 unfolding left_of_seven
 seven_turn_left = turn_left_by seven left_of_seven tt
 
+-- the listed triples of the seven points are each on one line
 pub seven_lines_hold : AreOn seven lines_of_seven
 unfolding lines_of_seven
 seven_lines_hold = are_on_by seven lines_of_seven tt

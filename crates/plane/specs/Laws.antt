@@ -48,6 +48,7 @@ TripleHasOneCentre = (u v p : Point) → TurnsLeft (whole u) (whole v) (whole p)
 abbrev pub squared_way : Point → Point → ℤ
 squared_way q p = (p.x -ℤ q.x) *ℤ (p.x -ℤ q.x) +ℤ (p.y -ℤ q.y) *ℤ (p.y -ℤ q.y)
 
+-- twice the signed area of the ways from q to u and from q to v
 abbrev pub turn_at : Point → Point → Point → ℤ
 turn_at q u v = (u.x -ℤ q.x) *ℤ (v.y -ℤ q.y) -ℤ (u.y -ℤ q.y) *ℤ (v.x -ℤ q.x)
 

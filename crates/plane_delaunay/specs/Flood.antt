@@ -11,6 +11,7 @@ pub data Region : Type 0 where
   circle : Point → ℤ → Region
   rectangle : Point → Point → Region
 
+-- p is a point of the closed circle, or of the closed rectangle
 abbrev pub InRegion : Region → Fraction → Type 0
 InRegion (circle centre radius_2) p = InClosedCircle centre radius_2 p
 InRegion (rectangle lower upper) p = InClosedRectangle lower upper p

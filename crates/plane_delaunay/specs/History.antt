@@ -20,6 +20,7 @@ pub record IsPartOf (s : Triangulation) (constraints : List (ℕ × ℕ)) (t : T
   pub vertices : (i : ℕ) → IsVertex s i → (m : ℕ) × IsVertex t m × (vertex s i ≡ vertex t m)
   pub pairs : (i j : ℕ) → Joins constraints i j → (m n : ℕ) × Joins others m n × (vertex s i ≡ vertex t m) × (vertex s j ≡ vertex t n)
 
+-- each stands in the other: the vertices and the constraints are the same by position
 abbrev pub AreOneState : Triangulation → List (ℕ × ℕ) → Triangulation → List (ℕ × ℕ) → Type 0
 AreOneState s constraints t others = IsPartOf s constraints t others × IsPartOf t others s constraints
 

@@ -16,6 +16,7 @@ abbrev pub steps : ℕ → List ℕ → List (ℕ × ℕ)
 steps u [] = []
 steps u (v ∷ vs) = (u, v) ∷ steps v vs
 
+-- the end of a path from u
 abbrev pub last_of : ℕ → List ℕ → ℕ
 last_of u [] = u
 last_of u (v ∷ vs) = last_of v vs

@@ -24,6 +24,7 @@ IsRoundSide a b c d i j = (IsSamePair i j a b ⊎ IsSamePair i j b c) ⊎ (IsSam
 abbrev pub IsSideOfOne : List Face → ℕ → ℕ → Type 0
 IsSideOfOne faces i j = (k : ℕ) × (IsFaceOf faces i j k ⊎ IsFaceOf faces j i k)
 
+-- the squared length of the way from (0, 0) to p
 abbrev pub squared_length : Point → ℤ
 squared_length p = p.x *ℤ p.x +ℤ p.y *ℤ p.y
 
@@ -35,5 +36,6 @@ point_of points i = slice_index_or points i (record { x = pos 0; y = pos 0 })
 abbrev pub lifted_area : List Point → Face → ℤ
 lifted_area points f = turn_at (point_of points f.a) (point_of points f.b) (point_of points f.c) *ℤ (squared_length (point_of points f.a) +ℤ squared_length (point_of points f.b) +ℤ squared_length (point_of points f.c))
 
+-- the sum of the faces' lifted areas, without its sign
 abbrev pub lifted_volume : List Point → List Face → ℕ
 lifted_volume points faces = nat_abs (total (lifted_area points) faces)

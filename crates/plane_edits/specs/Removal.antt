@@ -49,8 +49,10 @@ pub record LineMeshWithout (v : ℕ) (points : List Point) (outer : List (ℕ ×
 abbrev pub new_index : ℕ → ℕ → ℕ → ℕ
 new_index v last k = if nat_eq k last then v else k
 
+-- a face under the indexes that its corners get
 abbrev pub renumbered : ℕ → ℕ → Face → Face
 renumbered v last f = face (new_index v last f.a) (new_index v last f.b) (new_index v last f.c)
 
+-- a pair under the indexes that its two ends get
 abbrev pub renumbered_pair : ℕ → ℕ → ℕ × ℕ → ℕ × ℕ
 renumbered_pair v last e = (new_index v last e.0, new_index v last e.1)

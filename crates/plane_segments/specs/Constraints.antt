@@ -46,6 +46,7 @@ pub record AreNextOn (points : List Point) (i j a b : ℕ) : Type 0 where
   pub second : OnSegment (place points i) (place points j) (place points b)
   pub none_between : (k : ℕ) → IsIndex points k → ¬ WithinSegment (place points a) (place points b) (place points k)
 
+-- no two indexes have one point
 abbrev pub ArePlacedApart : List Point → Type 0
 ArePlacedApart points = (a b : ℕ) → IsIndex points a → IsIndex points b → a ≢ b → place points a ≢ place points b
 

@@ -7,6 +7,7 @@ use Rattle.std.proofs.Math.Seq.{get_or-append_seam}
 use Rattle.plane.specs.Fraction.{Point}
 use Rattle.plane_tiling.proofs.Tiles.{point_at}
 
+-- one point at the end makes a list longer by one
 pub length_appended : (points : List Point) (q : Point) → length (points ++ q ∷ []) ≡ suc (length points)
 length_appended points q = omega (arith, length-append points (q ∷ []))
 

@@ -17,11 +17,20 @@ use Rattle.plane.proofs.BracketIdentities.{bracket-turn, bracket-swap, bracket-s
 use Rattle.plane.proofs.Collinear.{place_on, place_of_start, place-moved, passing_place, same_by_places}
 use Rattle.plane.proofs.LineOrder.{overlap_by_average}
 use Rattle.plane.proofs.Means.{turned_mean_of_two}
-use Rattle.plane.proofs.Generic.{Inside, AreDistinct, IsGeneric, spot}
+use Rattle.plane.proofs.Generic.{Inside, AreDistinct, IsOneToOne, IsGeneric, spot}
 use Rattle.plane.proofs.Signs.{sum_not_positive, sum_of_zeros, negation_is_positive}
 
+-- the point of index i, in homogeneous form
 abbrev pub at : (ℕ → Point) → ℕ → Vec3
 at p i = lift (p i)
+
+-- the ends of the pair are two indexes below n
+abbrev pub IsPairBelow : ℕ → ℕ × ℕ → Type 0
+IsPairBelow n e = (e.0 < n) × (e.1 < n) × (e.0 ≢ e.1)
+
+-- each pair of the list is such a pair
+abbrev pub ArePairsBelow : ℕ → List (ℕ × ℕ) → Type 0
+ArePairsBelow n pairs = (e : ℕ × ℕ) → Contains pairs e → IsPairBelow n e
 
 -- the local invariant, by signs of determinants
 pub record SignMesh (n : ℕ) (p : ℕ → Point) (faces : List Face) (outer : List (ℕ × ℕ)) : Type 0 where
@@ -30,13 +39,14 @@ pub record SignMesh (n : ℕ) (p : ℕ → Point) (faces : List Face) (outer : L
   pub used : (k : ℕ) → k < n → ((f : Face) × Contains faces f × IsCorner f k) ⊎ ((e : ℕ × ℕ) × Contains outer e × ((k ≡ e.0) ⊎ (k ≡ e.1)))
   pub corners : (f : Face) → Contains faces f → (f.a < n) × (f.b < n) × (f.c < n)
   pub turning : (f : Face) → Contains faces f → pos 0 <ℤ bracket (at p f.a) (at p f.b) (at p f.c)
-  pub ends : (e : ℕ × ℕ) → Contains outer e → (e.0 < n) × (e.1 < n) × (e.0 ≢ e.1)
+  pub ends : ArePairsBelow n outer
   pub supporting : (e : ℕ × ℕ) → Contains outer e → (k : ℕ) → k < n → bracket (at p e.0) (at p e.1) (at p k) ≤ℤ pos 0
   pub bare : (e : ℕ × ℕ) → Contains outer e → (k : ℕ) → k < n → ¬ WithinSegment (whole (p e.0)) (whole (p e.1)) (whole (p k))
   pub once : AllPairs (λ d e. d ≢ e) outer
   pub balanced : AreBalanced faces outer
 
-pub same_index : (n : ℕ) (p : ℕ → Point) → AreDistinct n p → (i j : ℕ) → i < n → j < n → p i ≡ p j → i ≡ j
+-- where the first n points differ, indexes with one point are one
+pub same_index : (n : ℕ) (p : ℕ → Point) → AreDistinct n p → IsOneToOne n p
 same_index n p distinct i j h k e = go (cases_eq i j)
   where
     go : (i ≡ j) ⊎ (i ≡ j → ⊥) → i ≡ j
@@ -48,6 +58,7 @@ pub same_place : (n : ℕ) (p : ℕ → Point) → AreDistinct n p → (u v : Po
     → place_on u v (at p i) ≡ place_on u v (at p j) → i ≡ j
 same_place n p distinct u v apart i j h k on_i on_j e = same_index n p distinct i j h k (same_by_places u v apart (p i) (p j) on_i on_j e)
 
+-- the corners of a triple that turns left have three indexes
 pub corners_differ : (p : ℕ → Point) (a b c : ℕ) → pos 0 <ℤ bracket (at p a) (at p b) (at p c) → (a ≢ b) × (b ≢ c) × (c ≢ a)
 corners_differ p a b c h = (
   (λ e. left_not_zero h (ap (λ i. bracket (at p a) (at p i) (at p c)) (sym e) ∙ bracket-same (at p a) (at p c))),
@@ -55,6 +66,7 @@ corners_differ p a b c h = (
   (λ e. left_not_zero h (ap (λ i. bracket (at p a) (at p b) (at p i)) e ∙ bracket-outer (at p a) (at p b))),
 )
 
+-- a point strictly within a segment is so the other way round
 pub within_turned : (a b c : Point) → WithinSegment (whole a) (whole b) (whole c) → WithinSegment (whole b) (whole a) (whole c)
 within_turned a b c h = turned_mean_of_two IsPositive (whole a) (whole b) (whole c) h
 
@@ -72,20 +84,24 @@ flow_is_antisymmetric p q x s t =
 pub hits : (ℕ → Point) → Vec3 → Face → ℤ
 hits p q f = hit (turn (bracket (at p f.a) (at p f.b) q)) (turn (bracket (at p f.b) (at p f.c) q)) (turn (bracket (at p f.c) (at p f.a) q))
 
+-- a face counts 0 or 1
 pub hits_is : (p : ℕ → Point) (q : Vec3) (f : Face) → (hits p q f ≡ pos 0) ⊎ (hits p q f ≡ pos 1)
 unfolding hits
 hits_is p q f = hit_is (turn (bracket (at p f.a) (at p f.b) q)) (turn (bracket (at p f.b) (at p f.c) q)) (turn (bracket (at p f.c) (at p f.a) q))
 
+-- a face counts 1 where the point is strictly inside it
 pub hits_inside : (p : ℕ → Point) (q : Vec3) (f : Face) → Inside (at p f.a) (at p f.b) (at p f.c) q → hits p q f ≡ pos 1
 unfolding hits
 hits_inside p q f i = λ k. hit (turn_left (bracket (at p f.a) (at p f.b) q) i.first k) (turn_left (bracket (at p f.b) (at p f.c) q) i.second k) (turn_left (bracket (at p f.c) (at p f.a) q) i.third k)
 
+-- where a face counts 1, the point is strictly inside it
 pub inside_hits : (p : ℕ → Point) (q : Vec3) (f : Face) → hits p q f ≡ pos 1 → Inside (at p f.a) (at p f.b) (at p f.c) q
 unfolding hits
 inside_hits p q f e =
     let h = hit_all (turn (bracket (at p f.a) (at p f.b) q)) (turn (bracket (at p f.b) (at p f.c) q)) (turn (bracket (at p f.c) (at p f.a) q)) e in
     record { first = left_turn (bracket (at p f.a) (at p f.b) q) h.0; second = left_turn (bracket (at p f.b) (at p f.c) q) h.1; third = left_turn (bracket (at p f.c) (at p f.a) q) h.2 }
 
+-- what a face counts is not below 0
 pub hits_nonneg : (p : ℕ → Point) (q : Vec3) (f : Face) → pos 0 ≤ℤ hits p q f
 hits_nonneg p q f = go (hits_is p q f)
   where
@@ -194,6 +210,7 @@ module _ (n : ℕ) (p : ℕ → Point) (q : Vec3) (g : IsGeneric n p q) where
       ends_second : (s < n) × (t < n) × (s ≢ t)
       ends_second = m.ends (s, t) second
 
+      -- the two outer edges that are crossed at one place are one
       pub crossed_is_first : (s ≡ u) × (t ≡ v)
       crossed_is_first = go (overlap_by_average (p u) (p v) (p s) (p t) apart on_s on_t (bracket x (at p s) q) (neg_ℤ (bracket x (at p t) q)) (neg_ℤ (bracket (at p s) (at p t) q) *ℤ k)
           s_left (negation_is_positive (bracket x (at p t) q) t_right) (mul-pos_ℤ (negation_is_positive (bracket (at p s) (at p t) q) q_second) k_positive) average (weight_below (bracket x (at p s) q +ℤ neg_ℤ (bracket x (at p t) q)) (neg_ℤ (bracket (at p s) (at p t) q)) k weights (negation_is_positive (bracket (at p s) (at p t) q) q_second))

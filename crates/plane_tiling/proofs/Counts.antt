@@ -5,14 +5,15 @@ use mathlib.Core.Logic.{inl, inr, ◌≢◌}
 use Rattle.std.specs.Prelude.{ℤ, pos, ◌+ℤ◌, ◌-ℤ◌, ◌<ℤ◌, ◌≤ℤ◌, Contains}
 use Rattle.std.proofs.lemmas.Int.{ints}
 use Rattle.std.proofs.lemmas.Bool.{cases_eq, cases_lt}
-use Rattle.plane.specs.Fraction.{Point, whole, WithinSegment}
+use Rattle.plane.specs.Fraction.{Point, whole}
 use Rattle.plane.specs.Tiling.{Face}
 use Rattle.plane_tiling.specs.Local.{total, LocalMesh, LineMesh, AreEdgesOf}
 use Rattle.plane.proofs.Bracket.{Vec3}
 use Rattle.plane.proofs.BracketIdentities.{bracket-outer}
 use Rattle.plane_tiling.proofs.Flows.{HasSide, no_turn}
 use Rattle.plane_tiling.proofs.Totals.{Contains-head, Contains-none, total-sum, all_none}
-use Rattle.plane_tiling.proofs.Counting.{at, SignMesh, corners_differ, within_turned}
+use Rattle.plane_tiling.proofs.Counting.{at, SignMesh, IsPairBelow, ArePairsBelow, corners_differ, within_turned}
+use Rattle.plane.proofs.Generic.{AreDistinct}
 use Rattle.plane_tiling.proofs.Edges as E
 use Rattle.plane_tiling.proofs.Tiles.{point_at, by_signs}
 use Rattle.plane_tiling.proofs.Loops as L
@@ -64,19 +65,20 @@ module _ (n : ℕ) (p : ℕ → Point) (faces : List Face) (outer edges : List (
       numbers : (e f h n : ℕ) (a b c : ℤ) → a ≡ pos e → b ≡ pos f → c ≡ pos h → a +ℤ pos 1 ≡ b +ℤ pos n → a +ℤ a ≡ b +ℤ b +ℤ b +ℤ c → (e + h + 3 ≡ 3 * n) × (f + h + 2 ≡ 2 * n)
       numbers e f h n a b c i j k x y = (omega (arith, ints), omega (arith, ints))
 
+-- n vertices with h outer edges have 3 n - h - 3 edges and 2 n - h - 2 faces
 pub hull_edges_count : (points : List Point) (faces : List Face) (outer edges : List (ℕ × ℕ)) → LocalMesh points faces outer → AreEdgesOf faces outer edges
     → (length edges + length outer + 3 ≡ 3 * length points) × (length faces + length outer + 2 ≡ 2 * length points)
 hull_edges_count points faces outer edges m own = counts (length points) (point_at points) faces outer edges (by_signs points faces outer m) own
 
 -- ---- on a line: at each vertex but the last one edge leads on
 module _ (n : ℕ) (p : ℕ → Point) (outer edges : List (ℕ × ℕ)) (m : SignLine n p outer) (own : AreEdgesOf [] outer edges) where
-  line_ends : (e : ℕ × ℕ) → Contains edges e → (e.0 < n) × (e.1 < n) × (e.0 ≢ e.1)
+  line_ends : ArePairsBelow n edges
   line_ends e h = go (L.way_of_edge [] outer edges own e.0 e.1 (inl h))
     where
-      of_next : IsNext n p e.0 e.1 → (e.0 < n) × (e.1 < n) × (e.0 ≢ e.1)
+      of_next : IsNext n p e.0 e.1 → IsPairBelow n e
       of_next s = (s.first, s.second, s.apart)
 
-      go : HasSide [] e.0 e.1 ⊎ Contains outer (e.0, e.1) → (e.0 < n) × (e.1 < n) × (e.0 ≢ e.1)
+      go : HasSide [] e.0 e.1 ⊎ Contains outer (e.0, e.1) → IsPairBelow n e
       go (inl s) = absurd (no_turn e.0 e.1 s.0 s.1)
       go (inr o) = of_next ((m.neighbours e.0 e.1).0 o)
 
@@ -93,20 +95,16 @@ module _ (n : ℕ) (p : ℕ → Point) (outer edges : List (ℕ × ℕ)) (m : Si
     height : ℕ → ℤ
     height k = pos 0 -ℤ spot k
 
-    distinct : (i j : ℕ) → i < n → j < n → i ≢ j → ¬ (height i ≡ height j)
-    unfolding height spot
-    distinct i j h k a e = a (O.same_spot n p outer m (whole (p 0)) 0 1 from_zero several zero_not_one (bracket-outer (at p 0) (at p 1)) i j h k (equal (O.spot n p outer m (whole (p 0)) 0 1 from_zero several zero_not_one (bracket-outer (at p 0) (at p 1)) i) (O.spot n p outer m (whole (p 0)) 0 1 from_zero several zero_not_one (bracket-outer (at p 0) (at p 1)) j) e))
+    places : O.ArePlaces n p spot
+    unfolding spot
+    places = O.places n p outer m (whole (p 0)) 0 1 from_zero several zero_not_one (bracket-outer (at p 0) (at p 1))
+
+    distinct : AreDistinct n height
+    unfolding height
+    distinct i j h k a e = a (places.same i j h k (equal (spot i) (spot j) e))
       where
         equal : (a b : ℤ) → pos 0 -ℤ a ≡ pos 0 -ℤ b → a ≡ b
         equal a b e = omega (arith, ints)
-
-    between : (i j k : ℕ) → i < n → j < n → k < n → spot i <ℤ spot k → spot k <ℤ spot j → WithinSegment (whole (p i)) (whole (p j)) (whole (p k))
-    unfolding spot
-    between = O.within_k n p outer m (whole (p 0)) 0 1 from_zero several zero_not_one (bracket-outer (at p 0) (at p 1))
-
-    lower : (k : ℕ) → k < n → (j : ℕ) → O.IsBelow spot n (spot k) j → Contains outer (k, j)
-    unfolding spot
-    lower = O.lower_edge n p outer m (whole (p 0)) 0 1 from_zero several zero_not_one (bracket-outer (at p 0) (at p 1))
 
     flips : (a b : ℤ) → b <ℤ a → (pos 0 -ℤ a) <ℤ (pos 0 -ℤ b)
     flips a b h = omega (arith, ints)
@@ -117,7 +115,7 @@ module _ (n : ℕ) (p : ℕ → Point) (outer edges : List (ℕ × ℕ)) (m : Si
     not_further v a b x y h k l =
         let s = (m.neighbours v b).0 y in
         let r = (m.neighbours v a).0 x in
-        s.none_between a r.second (within_turned (p b) (p v) (p a) (between b v a s.second s.first r.second (less_by_negations (spot a) (spot b) l) (less_by_negations (spot v) (spot a) h)))
+        s.none_between a r.second (within_turned (p b) (p v) (p a) (places.within b v a s.second s.first r.second (less_by_negations (spot a) (spot b) l) (less_by_negations (spot v) (spot a) h)))
 
     one_on : (v a b : ℕ) → Contains outer (v, a) → Contains outer (v, b) → height v <ℤ height a → height v <ℤ height b → a ≡ b
     one_on v a b x y h k = elim (cases_eq a b) [ inl e ↦ e | inr d ↦ absurd (distinct a b ((m.neighbours v a).0 x).second ((m.neighbours v b).0 y).second d (same_if_neither_less (height a) (height b) (not_further v a b x y h k) (not_further v b a y x k h))) ]
@@ -136,7 +134,7 @@ module _ (n : ℕ) (p : ℕ → Point) (outer edges : List (ℕ × ℕ)) (m : Si
         clash a b h k = omega (arith, ints)
 
         go : ((j : ℕ) × O.IsBelow spot n (spot v) j) ⊎ ((j : ℕ) → j < n → spot v ≤ℤ spot j) → pos 0 +ℤ total (leaves height v) outer ≡ pos 1
-        go (inl (j, s)) = exactly (total (leaves height v) outer) (outer_once v) (leaves_counted height v outer j (lower v hv j s) (flips (spot v) (spot j) s.below))
+        go (inl (j, s)) = exactly (total (leaves height v) outer) (outer_once v) (leaves_counted height v outer j (O.next_below n p outer m spot places v hv j s) (flips (spot v) (spot j) s.below))
         go (inr none) = absurd (clash (spot v) (spot k) h (none k hk))
 
     count_last : (v : ℕ) → v < n → ((k : ℕ) → k < n → height k ≤ℤ height v) → count_at height [] outer v ≡ pos 0
@@ -166,7 +164,7 @@ module _ (n : ℕ) (p : ℕ → Point) (outer edges : List (ℕ × ℕ)) (m : Si
       none : {a b : ℕ} → a < n → b < n → a ≢ b → n ≤ 1 → ⊥
       none h k d f = omega arith
 
-      go : (es : List (ℕ × ℕ)) → ((e : ℕ × ℕ) → Contains es e → (e.0 < n) × (e.1 < n) × (e.0 ≢ e.1)) → length es ≡ 0
+      go : (es : List (ℕ × ℕ)) → ArePairsBelow n es → length es ≡ 0
       go [] ends = refl
       go (e ∷ es) ends = absurd (let c = ends e (Contains-head e es) in none c.0 c.1 c.2 few)
 
@@ -179,5 +177,6 @@ module _ (n : ℕ) (p : ℕ → Point) (outer edges : List (ℕ × ℕ)) (m : Si
       few : {e : ℕ} → n ≤ 1 → e ≡ 0 → e ≡ n - 1
       few h k = omega arith
 
+-- on one line there is one edge fewer than vertices, and none where there is no vertex
 pub line_edges_count : (points : List Point) (outer edges : List (ℕ × ℕ)) → LineMesh points outer → AreEdgesOf [] outer edges → length edges ≡ length points - 1
 line_edges_count points outer edges m own = line_count (length points) (point_at points) outer edges (line_by_signs points outer m) own

@@ -14,7 +14,7 @@ use Rattle.plane.proofs.Nudges.{nudged_right, nudged_back, moved, bracket-moved,
 use Rattle.plane.proofs.Bracket.{Vec3, bracket}
 use Rattle.plane.proofs.BracketIdentities.{bracket-turn, bracket-swap, bracket-outer, bracket-last, cramer, cramer_x, cramer_y, cramer_w}
 use Rattle.plane.proofs.Means.{mean_of_two}
-use Rattle.plane.proofs.Generic.{Inside, IsNudged, IsSpot, spot, near, generic_near, not_on_line}
+use Rattle.plane.proofs.Generic.{AreOnLine, Inside, IsNudged, IsSpot, spot, near, generic_near, not_on_line}
 use Rattle.plane_tiling.proofs.Flows.{IsTurnOf, HasSide, turned, back_of_side, back_of_outer}
 use Rattle.plane_tiling.proofs.Counting.{at, SignMesh, hits, hits_is, hits_inside, inside_hits, hits_nonneg, total_hits, same_index, corners_differ, within_turned}
 
@@ -122,6 +122,7 @@ module _ (n : ℕ) (p : ℕ → Point) (faces : List Face) (outer : List (ℕ ×
       kept : (f : Face) → (f.a < n) × (f.b < n) × (f.c < n) → (q z : Vec3) → IsNudged n p q own_spot.0 z → Inside (at p f.a) (at p f.b) (at p f.c) q → Inside (at p f.a) (at p f.b) (at p f.c) z
       kept f c q z s i = record { first = (s.sides f.a f.b c.0 c.1).left i.first; second = (s.sides f.b f.c c.1 c.2).left i.second; third = (s.sides f.c f.a c.2 c.0).left i.third }
 
+  -- two faces with a common point strictly inside are one
   pub same_face : (f g : Face) → Contains faces f → Contains faces g → (q : Vec3) → pos 0 <ℤ q.w → Inside (at p f.a) (at p f.b) (at p f.c) q → Inside (at p g.a) (at p g.b) (at p g.c) q → f ≡ g
   same_face f g a b q w i j = go (cases_lt a.0 b.0) (cases_lt b.0 a.0)
     where
@@ -143,11 +144,13 @@ module _ (n : ℕ) (p : ℕ → Point) (faces : List Face) (outer : List (ℕ ×
       go (inr h) (inr k) = at_f f ∙ ap (λ t. get_or faces t f) (level a.0 b.0 h k) ∙ sym (at_g f)
 
   -- ---- faces by any of their rotations
+  -- the corners of a face are vertices
   pub turn_corners : (i j k : ℕ) → IsTurnOf faces i j k → (i < n) × (j < n) × (k < n)
   turn_corners i j k (inl h) = m.corners (face i j k) h
   turn_corners i j k (inr (inl h)) = let c = m.corners (face j k i) h in (c.2, c.0, c.1)
   turn_corners i j k (inr (inr h)) = let c = m.corners (face k i j) h in (c.1, c.2, c.0)
 
+  -- the corners of a face turn left
   pub turn_left_of : (i j k : ℕ) → IsTurnOf faces i j k → pos 0 <ℤ bracket (at p i) (at p j) (at p k)
   turn_left_of i j k (inl h) = m.turning (face i j k) h
   turn_left_of i j k (inr (inl h)) = subst (λ z. pos 0 <ℤ z) (sym (bracket-turn (at p i) (at p j) (at p k))) (m.turning (face j k i) h)
@@ -161,6 +164,7 @@ module _ (n : ℕ) (p : ℕ → Point) (faces : List Face) (outer : List (ℕ ×
       g.others i (subst (λ h. IsCorner h i) (same_face f.f g.f f.here g.here q w (f.inside q x) (g.inside q y)) f.first_corner)
 
   -- ---- sides
+  -- no outer edge runs both ways
   pub no_outer_back : (u v : ℕ) → Contains outer (u, v) → Contains outer (v, u) → ⊥
   no_outer_back u v a b =
       let f = m.some_face.0 in
@@ -168,7 +172,7 @@ module _ (n : ℕ) (p : ℕ → Point) (faces : List Face) (outer : List (ℕ ×
       let e = m.ends (u, v) a in
       m.distinct u v e.0 e.1 e.2 (not_on_line (at p f.a) (at p f.b) (at p f.c) (p u) (p v) (m.turning f m.some_face.1) (level f.a c.0) (level f.b c.1) (level f.c c.2))
     where
-      level : (k : ℕ) → k < n → bracket (at p u) (at p v) (at p k) ≡ pos 0
+      level : AreOnLine n p (p u) (p v)
       level k h = between_zero (m.supporting (u, v) a k h) (negated_below (bracket-swap (at p u) (at p v) (at p k)) (m.supporting (v, u) b k h))
 
   -- the way back of an outer edge is a side
@@ -179,6 +183,7 @@ module _ (n : ℕ) (p : ℕ → Point) (faces : List Face) (outer : List (ℕ ×
       go (inl s) = s
       go (inr s) = absurd (no_outer_back u v h s)
 
+  -- behind a side of a face lies a face or the outside
   pub behind_side : (u v : ℕ) → HasSide faces u v → HasSide faces v u ⊎ Contains outer (v, u)
   behind_side u v h = back_of_side faces outer m.balanced u v h
 
@@ -338,5 +343,6 @@ module _ (n : ℕ) (p : ℕ → Point) (faces : List Face) (outer : List (ℕ ×
         go (inr x) (inr y) (inl z) = next_corner (next_corner (on_side k i j h z x y))
         go (inr x) (inr y) (inr z) = strictly_inside i j k f x y z
 
+  -- a vertex in a closed face is one of its corners
   pub vertex_in_face : (v i j k : ℕ) → v < n → IsTurnOf faces i j k → pos 0 ≤ℤ bracket (at p i) (at p j) (at p v) → pos 0 ≤ℤ bracket (at p j) (at p k) (at p v) → pos 0 ≤ℤ bracket (at p k) (at p i) (at p v) → (v ≡ i) ⊎ ((v ≡ j) ⊎ (v ≡ k))
   vertex_in_face v i j k h f a b c = let o = face_at v h in in_closed v o.0 o.1 h o.2 i j k f a b c

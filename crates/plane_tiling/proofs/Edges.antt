@@ -18,9 +18,11 @@ use Rattle.plane_tiling.proofs.Covering as C
 use Rattle.plane.proofs.Signs.{sum_of_zeros_from}
 
 -- ---- a point strictly within a segment, seen from a line
+-- the side of a weighted mean is the mean of the sides
 pub mean_bracket : (A : ℤ → Type 0) (s t u v : Point) (y : Fraction) (w : TwoWeights A (whole u) (whole v) y) → w.n *ℤ bracket (lift s) (lift t) (vec y) ≡ w.k *ℤ bracket (lift s) (lift t) (lift u) +ℤ w.l *ℤ bracket (lift s) (lift t) (lift v)
 mean_bracket A s t u v y w = bracket_of_two A (lift s) (lift t) (whole u) (whole v) y w
 
+-- a point strictly within a segment is so the other way round
 pub turned_within : (a b y : Fraction) → WithinSegment a b y → WithinSegment b a y
 turned_within a b y h = turned_mean_of_two IsPositive a b y h
 
@@ -39,12 +41,14 @@ within_on u v y h =
     let w = two_weights IsPositive (whole u) (whole v) y h in
     zero_of_mul-zero_ℤ (pos-ne-zero_ℤ w.positive) (sum_of_zeros_from (w.n *ℤ bracket (lift u) (lift v) (vec y)) (w.k *ℤ bracket (lift u) (lift v) (lift u)) (w.l *ℤ bracket (lift u) (lift v) (lift v)) (mean_bracket IsPositive u v u v y w) (zero-mul_ℤ w.k (bracket-outer (lift u) (lift v))) (zero-mul_ℤ w.l (bracket-last (lift u) (lift v))))
 
+-- where u v k turns left, a point strictly within the segment of u and v is left of the way v to k
 pub within_second : (u v k : Point) (y : Fraction) → WithinSegment (whole u) (whole v) y → pos 0 <ℤ bracket (lift u) (lift v) (lift k) → pos 0 <ℤ bracket (lift v) (lift k) (vec y)
 within_second u v k y h turns =
     let w = two_weights IsPositive (whole u) (whole v) y h in
     pos_of_mul-pos_ℤ w.positive (subst (λ z. pos 0 <ℤ z) (sym (drop_zero_last (w.n *ℤ bracket (lift v) (lift k) (vec y)) (w.k *ℤ bracket (lift v) (lift k) (lift u)) (w.l *ℤ bracket (lift v) (lift k) (lift v)) (mean_bracket IsPositive v k u v y w) (zero-mul_ℤ w.l (bracket-outer (lift v) (lift k)))))
     (mul-pos_ℤ w.k_allowed (subst (λ z. pos 0 <ℤ z) (bracket-turn (lift u) (lift v) (lift k)) turns)))
 
+-- where u v k turns left, a point strictly within the segment of u and v is left of the way k to u
 pub within_third : (u v k : Point) (y : Fraction) → WithinSegment (whole u) (whole v) y → pos 0 <ℤ bracket (lift u) (lift v) (lift k) → pos 0 <ℤ bracket (lift k) (lift u) (vec y)
 within_third u v k y h turns =
     let w = two_weights IsPositive (whole u) (whole v) y h in
@@ -56,6 +60,7 @@ module _ (n : ℕ) (p : ℕ → Point) (faces : List Face) (outer : List (ℕ ×
   abbrev pub IsSideOf : ℕ → ℕ → Type 0
   IsSideOf u v = HasSide faces u v ⊎ HasSide faces v u
 
+  -- a side of a face joins two different vertices
   pub side_index : (u v : ℕ) → IsSideOf u v → (u < n) × (v < n) × (u ≢ v)
   side_index u v (inl s) = let c = C.turn_corners n p faces outer m u v s.0 s.1 in (c.0, c.1, (corners_differ p u v s.0 (C.turn_left_of n p faces outer m u v s.0 s.1)).0)
   side_index u v (inr s) = let c = C.turn_corners n p faces outer m v u s.0 s.1 in (c.1, c.0, λ e. (corners_differ p v u s.0 (C.turn_left_of n p faces outer m v u s.0 s.1)).0 (sym e))

@@ -16,6 +16,7 @@ use Rattle.plane.proofs.Signs.{at_least_one_through, first_of_three_counts, one_
 use Rattle.plane.proofs.IntegerLaws.{one-*ℤ}
 pub use Rattle.plane.proofs.Crossings.{is_true}
 
+-- a truth value as a whole number: 1 where it holds, 0 where it fails
 abbrev pub bit : Bool → ℤ
 bit true = pos 1
 bit false = pos 0
@@ -24,26 +25,32 @@ bit false = pos 0
 pub is_pair : ℕ → ℕ → ℕ → ℕ → ℤ
 is_pair u v s t = bit (eqb s u && eqb t v)
 
+-- a bit is 0 or 1
 pub bit_is : (b : Bool) → (bit b ≡ pos 0) ⊎ (bit b ≡ pos 1)
 bit_is true = inr refl
 bit_is false = inl refl
 
+-- for each pair (s, t), this number is 0 or 1
 pub is_pair_is : (u v s t : ℕ) → (is_pair u v s t ≡ pos 0) ⊎ (is_pair u v s t ≡ pos 1)
 unfolding is_pair
 is_pair_is u v s t = bit_is (eqb s u && eqb t v)
 
+-- a bit is not below 0
 pub bit_nonneg : (b : Bool) → pos 0 ≤ℤ bit b
 bit_nonneg true = record { le = tt }
 bit_nonneg false = record { le = tt }
 
+-- for each pair (s, t), this number is not below 0
 pub is_pair_nonneg : (u v s t : ℕ) → pos 0 ≤ℤ is_pair u v s t
 unfolding is_pair
 is_pair_nonneg u v s t = bit_nonneg (eqb s u && eqb t v)
 
+-- for the pair (u, v) itself, this number is 1
 pub is_pair_own : (u v : ℕ) → is_pair u v u v ≡ pos 1
 unfolding is_pair
 is_pair_own u v = λ i. bit (is_true (eqb u u) (eqb_refl u) i && is_true (eqb v v) (eqb_refl v) i)
 
+-- where this number is above 0, the pair (s, t) is (u, v)
 pub pair_found : (u v s t : ℕ) → pos 0 <ℤ is_pair u v s t → (s ≡ u) × (t ≡ v)
 unfolding is_pair
 pair_found u v s t h = go (eqb s u) (eqb t v) refl refl h
@@ -93,6 +100,7 @@ as_many_back faces outer balanced u v =
     (total_agree (around (one_way u v)) (λ f. around (is_pair u v) f -ℤ around (is_pair v u) f) faces (λ f _. around_one_way u v f) ∙ total-difference (around (is_pair u v)) (around (is_pair v u)) faces)
     (total-difference (along (is_pair u v)) (along (is_pair v u)) outer)
 
+-- round a face, the sum of these numbers is not below 0
 pub around_nonneg : (u v : ℕ) (f : Face) → pos 0 ≤ℤ around (is_pair u v) f
 around_nonneg u v f = sum_of_three_not_negative (is_pair u v f.a f.b) (is_pair u v f.b f.c) (is_pair u v f.c f.a) (is_pair_nonneg u v f.a f.b) (is_pair_nonneg u v f.b f.c) (is_pair_nonneg u v f.c f.a)
 
@@ -100,6 +108,7 @@ around_nonneg u v f = sum_of_three_not_negative (is_pair u v f.a f.b) (is_pair u
 abbrev pub IsTurnOf : List Face → ℕ → ℕ → ℕ → Type 0
 IsTurnOf faces i j k = Contains faces (face i j k) ⊎ (Contains faces (face j k i) ⊎ Contains faces (face k i j))
 
+-- the way from u to v is a side of one of the faces
 abbrev pub HasSide : List Face → ℕ → ℕ → Type 0
 HasSide faces u v = (k : ℕ) × IsTurnOf faces u v k
 
@@ -109,11 +118,13 @@ no_turn i j k (inl h) = Contains-none (face i j k) h
 no_turn i j k (inr (inl h)) = Contains-none (face j k i) h
 no_turn i j k (inr (inr h)) = Contains-none (face k i j) h
 
+-- a face is one in its next rotation
 pub turned : (faces : List Face) (i j k : ℕ) → IsTurnOf faces i j k → IsTurnOf faces j k i
 turned faces i j k (inl h) = inr (inr h)
 turned faces i j k (inr (inl h)) = inl h
 turned faces i j k (inr (inr h)) = inr (inl h)
 
+-- where a sum of three is above 0, one of them is
 pub one_of_three : (a b c : ℤ) → pos 0 <ℤ (a +ℤ b +ℤ c) → (pos 0 <ℤ a) ⊎ ((pos 0 <ℤ b) ⊎ (pos 0 <ℤ c))
 one_of_three a b c h = go (lt_or_ge_ℤ (pos 0) a) (lt_or_ge_ℤ (pos 0) b)
   where
@@ -143,12 +154,14 @@ side_counts faces u v s = go s.1
     go (inr (inl h)) = by (face v s.0 u) h (third_of_three_counts (is_pair u v v s.0) (is_pair u v s.0 u) (is_pair u v u v) (is_pair_own u v) (is_pair_nonneg u v v s.0) (is_pair_nonneg u v s.0 u))
     go (inr (inr h)) = by (face s.0 u v) h (second_of_three_counts (is_pair u v s.0 u) (is_pair u v u v) (is_pair u v v s.0) (is_pair_own u v) (is_pair_nonneg u v s.0 u) (is_pair_nonneg u v v s.0))
 
+-- an outer edge is counted at least once among the outer edges
 pub outer_counts : (outer : List (ℕ × ℕ)) (u v : ℕ) → Contains outer (u, v) → pos 1 ≤ℤ total (along (is_pair u v)) outer
 outer_counts outer u v h = from (total (along (is_pair u v)) outer) (is_pair u v u v) (is_pair_own u v) (total_at_least (along (is_pair u v)) outer (λ e _. is_pair_nonneg u v e.0 e.1) (u, v) h)
   where
     from : (t a : ℤ) → a ≡ pos 1 → a ≤ℤ t → pos 1 ≤ℤ t
     from t a e h = omega (arith, ints)
 
+-- where a + b is at least 1 and is c + d too, c or d is above 0
 pub either : (a b c d : ℤ) → pos 1 ≤ℤ (a +ℤ b) → a +ℤ b ≡ c +ℤ d → (pos 0 <ℤ c) ⊎ (pos 0 <ℤ d)
 either a b c d h e = go (lt_or_ge_ℤ (pos 0) c)
   where
@@ -156,6 +169,7 @@ either a b c d h e = go (lt_or_ge_ℤ (pos 0) c)
     go (inl k) = inl k
     go (inr k) = inr (omega (arith, ints))
 
+-- a pair that is counted among sides or outer edges is a side or an outer edge
 pub back_from_count : (faces : List Face) (outer : List (ℕ × ℕ)) (u v : ℕ) → (pos 0 <ℤ total (around (is_pair u v)) faces) ⊎ (pos 0 <ℤ total (along (is_pair u v)) outer) → HasSide faces u v ⊎ Contains outer (u, v)
 back_from_count faces outer u v (inl h) = let r = total_positive (around (is_pair u v)) faces h in inl (side_found faces u v r.0 r.1 r.2)
 back_from_count faces outer u v (inr h) = let r = total_positive (along (is_pair u v)) outer h in let e = pair_found u v r.0.0 r.0.1 r.2 in inr (subst (Contains outer) (λ i. (e.0 i, e.1 i)) r.1)
@@ -171,6 +185,7 @@ pub back_of_side : (faces : List Face) (outer : List (ℕ × ℕ)) → AreBalanc
 back_of_side faces outer balanced u v s = back_from_count faces outer v u (either (total (around (is_pair u v)) faces) (total (along (is_pair u v)) outer) (total (around (is_pair v u)) faces) (total (along (is_pair v u)) outer)
     (plus_nonneg (total (around (is_pair u v)) faces) (total (along (is_pair u v)) outer) (side_counts faces u v s) (total_nonneg (along (is_pair u v)) outer (λ e _. is_pair_nonneg u v e.0 e.1))) (as_many_back faces outer balanced u v))
 
+-- the way back of an outer edge is a side or an outer edge
 pub back_of_outer : (faces : List Face) (outer : List (ℕ × ℕ)) → AreBalanced faces outer → (u v : ℕ) → Contains outer (u, v) → HasSide faces v u ⊎ Contains outer (v, u)
 back_of_outer faces outer balanced u v s = back_from_count faces outer v u (either (total (around (is_pair u v)) faces) (total (along (is_pair u v)) outer) (total (around (is_pair v u)) faces) (total (along (is_pair v u)) outer)
     (plus_nonneg' (total (around (is_pair u v)) faces) (total (along (is_pair u v)) outer) (total_nonneg (around (is_pair u v)) faces (λ f _. around_nonneg u v f)) (outer_counts outer u v s)) (as_many_back faces outer balanced u v))
@@ -200,6 +215,7 @@ only_other f x y = go (cases_eq y.0 x.0) (cases_eq y.1 x.1)
 other_only : (f : ℕ × ℕ → ℤ) (x y : ℕ × ℕ) → (x ≡ y) ⊎ ((x ≢ y) × (only f x y ≡ pos 0))
 other_only f x y = elim (only_other f x y) [ inl e ↦ inl (sym e) | inr e ↦ inr ((λ s. e.0 (sym s)), e.1) ]
 
+-- two lists with the same entries, each once, have one total
 pub total_of_same_entries : (f : ℕ × ℕ → ℤ) (xs ys : List (ℕ × ℕ)) → AllPairs (λ d e. d ≢ e) xs → AllPairs (λ d e. d ≢ e) ys → ((e : ℕ × ℕ) → Contains xs e ↔ Contains ys e) → total f xs ≡ total f ys
 total_of_same_entries f xs ys once once' same =
     total_agree f (λ x. total (only f x) ys) xs (λ x h. sym (total_single (only f x) ys x (f x) ((same x).0 h) once' (one_times (is_pair x.0 x.1 x.0 x.1) (f x) (is_pair_own x.0 x.1)) (λ y k. only_other f x y)))

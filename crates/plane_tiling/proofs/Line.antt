@@ -11,7 +11,7 @@ use Rattle.plane.proofs.Steps.{negated_left}
 use Rattle.plane.proofs.Bracket.{Vec3, bracket, lift}
 use Rattle.plane.proofs.BracketIdentities.{bracket-turn, bracket-swap, bracket-outer, bracket-last}
 use Rattle.plane.proofs.Collinear.{place_on, place_of_start, place_of_end}
-use Rattle.plane.proofs.Generic.{AreDistinct, not_on_line}
+use Rattle.plane.proofs.Generic.{AreDistinct, IsOneToOne, IsFresh, AreOnLine, distinct_with_next, not_on_line}
 use Rattle.plane_tiling.proofs.Counting.{at, within_turned, same_place}
 use Rattle.plane_tiling.proofs.Edges as E
 use Rattle.plane.proofs.LineOrder.{IsBetween, place_within, within_places}
@@ -32,6 +32,7 @@ pub record SignLine (n : ℕ) (p : ℕ → Point) (outer : List (ℕ × ℕ)) : 
   pub neighbours : (i j : ℕ) → Contains outer (i, j) ↔ IsNext n p i j
   pub once : AllPairs (λ d e. d ≢ e) outer
 
+-- neighbours are neighbours in either order
 pub next_turned : (n : ℕ) (p : ℕ → Point) (i j : ℕ) → IsNext n p i j → IsNext n p j i
 next_turned n p i j s = record { apart = λ e. s.apart (sym e); first = s.second; second = s.first; none_between = λ k h w. s.none_between k h (within_turned (p j) (p i) (p k) w) }
 
@@ -80,18 +81,12 @@ module _ (n : ℕ) (p : ℕ → Point) (outer new : List (ℕ × ℕ)) (m : Sign
   not_last h e = omega arith
 
   -- a new point that is on the line of two points on which all others are, apart from them
-  module _ (u v : Point) (apart : ¬ (u ≡ v)) (level : (k : ℕ) → k < n → bracket (lift u) (lift v) (at p k) ≡ pos 0) (own_level : bracket (lift u) (lift v) (at p n) ≡ pos 0) (fresh : (k : ℕ) → k < n → ¬ (p k ≡ p n)) where
-    all_level : (k : ℕ) → k < suc n → bracket (lift u) (lift v) (at p k) ≡ pos 0
+  module _ (u v : Point) (apart : ¬ (u ≡ v)) (level : AreOnLine n p u v) (own_level : bracket (lift u) (lift v) (at p n) ≡ pos 0) (fresh : IsFresh n p) where
+    all_level : AreOnLine (suc n) p u v
     all_level k h = elim (below_or_last n k h) [ inl l ↦ level k l | inr e ↦ subst (λ i. bracket (lift u) (lift v) (at p i) ≡ pos 0) (sym e) own_level ]
 
     all_distinct : AreDistinct (suc n) p
-    all_distinct i j h k a e = go (below_or_last n i h) (below_or_last n j k)
-      where
-        go : (i < n) ⊎ (i ≡ n) → (j < n) ⊎ (j ≡ n) → ⊥
-        go (inl x) (inl y) = m.distinct i j x y a e
-        go (inl x) (inr y) = fresh i x (e ∙ ap p y)
-        go (inr x) (inl y) = fresh j y (sym e ∙ ap p x)
-        go (inr x) (inr y) = a (x ∙ sym y)
+    all_distinct = distinct_with_next n p m.distinct fresh
 
     widened : ((i j : ℕ) → Contains new (i, j) ↔ IsNext (suc n) p i j) → AllPairs (λ d e. d ≢ e) new → SignLine (suc n) p new
     widened neighbours once = record {
@@ -112,7 +107,7 @@ module _ (n : ℕ) (p : ℕ → Point) (outer new : List (ℕ × ℕ)) (m : Sign
     unfolding spot
     ordered i j k a b c o = within_places u v apart (p i) (p j) (p k) (all_level i a) (all_level j b) (all_level k c) o
 
-    one_spot : (i j : ℕ) → i < suc n → j < suc n → spot i ≡ spot j → i ≡ j
+    one_spot : IsOneToOne (suc n) spot
     unfolding spot
     one_spot i j a b e = same_place (suc n) p all_distinct u v apart i j a b (all_level i a) (all_level j b) e
 
@@ -130,12 +125,12 @@ module _ (n : ℕ) (p : ℕ → Point) (outer new : List (ℕ × ℕ)) (m : Sign
     next_before i j a b s = record { apart = s.apart; first = a; second = b; none_between = λ k h. s.none_between k (wider h) }
 
   -- ---- past the end i
-  module _ (i : ℕ) (i_index : i < n) (fresh : (k : ℕ) → k < n → ¬ (p k ≡ p n)) (past : (k : ℕ) → k < n → k ≢ i → WithinSegment (whole (p n)) (whole (p k)) (whole (p i)))
+  module _ (i : ℕ) (i_index : i < n) (fresh : IsFresh n p) (past : (k : ℕ) → k < n → k ≢ i → WithinSegment (whole (p n)) (whole (p k)) (whole (p i)))
       (change : (a b : ℕ) → Contains new (a, b) ↔ (Contains outer (a, b) ⊎ IsSamePair a b i n)) (once : AllPairs (λ d e. d ≢ e) new) where
     end_apart : ¬ (p i ≡ p n)
     end_apart = fresh i i_index
 
-    end_level : (k : ℕ) → k < n → bracket (lift (p i)) (lift (p n)) (at p k) ≡ pos 0
+    end_level : AreOnLine n p (p i) (p n)
     end_level k h = go (cases_eq k i)
       where
         go : (k ≡ i) ⊎ (k ≡ i → ⊥) → bracket (at p i) (at p n) (at p k) ≡ pos 0
@@ -189,6 +184,7 @@ module _ (n : ℕ) (p : ℕ → Point) (outer new : List (ℕ × ℕ)) (m : Sign
             at_end a b c e l q (inl (inr o)) = let r = o.0 in omega (arith, ints)
             at_end a b c e l q (inr o) = let r = o.0 in omega (arith, ints)
 
+    -- a line with a vertex joined to its end is one
     pub extended : SignLine (suc n) p new
     extended = widened (p i) (p n) end_apart end_level own fresh (λ a b. ((λ c. there a b ((change a b).0 c)), (λ s. (change a b).1 (back a b s (below_or_last n a s.first) (below_or_last n b s.second))))) once
       where
@@ -214,13 +210,13 @@ module _ (n : ℕ) (p : ℕ → Point) (outer new : List (ℕ × ℕ)) (m : Sign
     own_next : IsNext n p i j
     own_next = (m.neighbours i j).0 edge
 
-    between_fresh : (k : ℕ) → k < n → ¬ (p k ≡ p n)
+    between_fresh : IsFresh n p
     between_fresh k h e = own_next.none_between k h (subst (λ o. WithinSegment (whole (p i)) (whole (p j)) (whole o)) (sym e) within)
 
     ends_apart : ¬ (p i ≡ p j)
     ends_apart = m.distinct i j own_next.first own_next.second own_next.apart
 
-    line_level : (k : ℕ) → k < n → bracket (lift (p i)) (lift (p j)) (at p k) ≡ pos 0
+    line_level : AreOnLine n p (p i) (p j)
     line_level k h = m.straight i j k own_next.first own_next.second h
 
     within_level : bracket (lift (p i)) (lift (p j)) (at p n) ≡ pos 0
@@ -237,7 +233,7 @@ module _ (n : ℕ) (p : ℕ → Point) (outer new : List (ℕ × ℕ)) (m : Sign
     unfolding mark
     marked = ordered (p i) (p j) ends_apart line_level within_level between_fresh
 
-    one_mark : (a b : ℕ) → a < suc n → b < suc n → mark a ≡ mark b → a ≡ b
+    one_mark : IsOneToOne (suc n) mark
     unfolding mark
     one_mark = one_spot (p i) (p j) ends_apart line_level within_level between_fresh
 
@@ -346,6 +342,7 @@ module _ (n : ℕ) (p : ℕ → Point) (outer new : List (ℕ × ℕ)) (m : Sign
         go (inl (inr o)) = let r = parted b a (next_turned n p a b s) o.0 o.1 in other (inr (r.1, r.0))
         go (inr o) = not_last s.first (one_mark a n (wider s.first) last_index o.0)
 
+    -- a line of which one edge is replaced by two through a vertex between is one
     pub between : SignLine (suc n) p new
     between = widened (p i) (p j) ends_apart line_level within_level between_fresh (λ a b. ((λ c. there a b ((change a b).0 c)), (λ s. (change a b).1 (back a b s (below_or_last n a s.first) (below_or_last n b s.second))))) once
       where

@@ -21,6 +21,7 @@ use Rattle.plane_tiling.proofs.Line.{SignLine, IsNext}
 use Rattle.plane_tiling.proofs.Line as L
 
 -- ---- the two readings
+-- a line of vertices is one by its places
 pub line_by_signs : (points : List Point) (outer : List (ℕ × ℕ)) → LineMesh points outer → SignLine (length points) (point_at points) outer
 line_by_signs points outer m = record {
   distinct = λ i j h k n e. m.distinct i j h k n (λ o. whole (e o));
@@ -67,6 +68,7 @@ same_line n p q outer e m = record {
     }
 
 -- ---- no vertex, and one
+-- no vertices on a line need no edges
 pub no_vertex : LineMesh [] []
 no_vertex = record {
   distinct = λ i j h k n e. absurd (omega arith);
@@ -75,6 +77,7 @@ no_vertex = record {
   once = λ i j d h k. absurd (omega arith);
 }
 
+-- one vertex is a mesh on a line, with no outer edge
 pub one_vertex : (q : Point) → LineMesh (q ∷ []) []
 one_vertex q = record {
   distinct = λ i j h k n e. absurd (omega arith);
@@ -90,6 +93,7 @@ one_vertex q = record {
     one zero zero (suc k) a b c = absurd (omega arith)
 
 -- ---- with its own edges the mesh joins the line
+-- the edges of a line join neighbours, and no others
 pub joins_line : (points : List Point) (outer edges : List (ℕ × ℕ)) → LineMesh points outer → AreEdgesOf [] outer edges → JoinsLine (record { points = points; faces = []; edges = edges })
 joins_line points outer edges m own = record {
   straight = m.straight;

@@ -19,6 +19,7 @@ use Rattle.plane.proofs.LineOrder.{ahead, AreOneSign, within_if_ahead, ahead_if_
 use Rattle.plane_tiling.proofs.Line.{SignLine, IsNext, next_turned, flat, back_way}
 use Rattle.plane.proofs.Signs.{at_most_both_ways, at_most_then_less, below_and_not_below, less_by_negations, less_by_negative_difference, less_if_not_same, less_in_a_ring, less_is_not_same, less_twice_is_not_same, more_by_difference, same_have_no_difference, same_is_at_most, same_is_not_less}
 use Rattle.plane.proofs.Indexes.{below_or_last}
+use Rattle.plane.proofs.Generic.{IsOneToOne}
 
 -- ---- the greatest number below a bound
 -- k has the greatest number below t
@@ -27,6 +28,7 @@ pub record IsBelow (f : ℕ → ℤ) (n : ℕ) (t : ℤ) (k : ℕ) : Type 0 wher
   pub below : f k <ℤ t
   pub top : (j : ℕ) → j < n → f j <ℤ t → f j ≤ℤ f k
 
+-- of n numbers there is a greatest one below t, or none is below t
 pub nearest_below : (f : ℕ → ℤ) (n : ℕ) (t : ℤ) → ((k : ℕ) × IsBelow f n t k) ⊎ ((j : ℕ) → j < n → t ≤ℤ f j)
 nearest_below f zero t = inr (λ j h. absurd (omega arith))
 nearest_below f (suc n) t = go (nearest_below f n t) (lt_or_ge_ℤ (f n) t)
@@ -49,6 +51,46 @@ nearest_below f (suc n) t = go (nearest_below f n t) (lt_or_ge_ℤ (f n) t)
     go (inr none) (inl l) = inl (at_last l (λ j i b. absurd (below_and_not_below (f j) t b (none j i))))
     go (inr none) (inr l) = inr (λ j i. elim (below_or_last n j i) [ inl x ↦ none j x | inr e ↦ subst (λ o. t ≤ℤ f o) (sym e) l ])
 
+-- ---- places
+-- a point whose number is strictly between two others is strictly between their points
+abbrev pub TellWithin : ℕ → (ℕ → Point) → (ℕ → ℤ) → Type 0
+TellWithin n p spot = (i j k : ℕ) → i < n → j < n → k < n → spot i <ℤ spot k → spot k <ℤ spot j
+    → WithinSegment (whole (p i)) (whole (p j)) (whole (p k))
+
+-- and one strictly between two others has its number there, one way or the other, unless all three numbers are one
+abbrev pub TellOrder : (ℕ → Point) → (ℕ → ℤ) → Type 0
+TellOrder p spot = (i j k : ℕ) → WithinSegment (whole (p i)) (whole (p j)) (whole (p k))
+    → ((spot i <ℤ spot k) × (spot k <ℤ spot j)) ⊎ (((spot j <ℤ spot k) × (spot k <ℤ spot i))
+    ⊎ ((spot i ≡ spot k) × (spot k ≡ spot j)))
+
+-- the numbers are places of the first n points along a line
+pub record ArePlaces (n : ℕ) (p : ℕ → Point) (spot : ℕ → ℤ) : Type 0 where
+  pub same : IsOneToOne n spot
+  pub within : TellWithin n p spot
+  pub order : TellOrder p spot
+
+module _ (n : ℕ) (p : ℕ → Point) (spot : ℕ → ℤ) (q : ArePlaces n p spot) where
+  -- no vertex has its place strictly between those of two neighbours
+  pub none_between_places : (i j k : ℕ) → IsNext n p i j → k < n → spot i <ℤ spot k → spot k <ℤ spot j → ⊥
+  none_between_places i j k s h a b = s.none_between k h (q.within i j k s.first s.second h a b)
+
+module _ (n : ℕ) (p : ℕ → Point) (outer : List (ℕ × ℕ)) (m : SignLine n p outer) (spot : ℕ → ℤ)
+    (q : ArePlaces n p spot) where
+  -- the vertex next below one that has one below it is its neighbour
+  pub next_below : (k : ℕ) → k < n → (j : ℕ) → IsBelow spot n (spot k) j → Contains outer (k, j)
+  next_below k h j s = (m.neighbours k j).1 (record {
+    apart = λ e. less_is_not_same (spot j) (spot k) s.below (ap spot (sym e));
+    first = h;
+    second = s.index;
+    none_between = λ i hi w. none i hi (q.order k j i w);
+  })
+    where
+      none : (i : ℕ) → i < n → ((spot k <ℤ spot i) × (spot i <ℤ spot j)) ⊎ (((spot j <ℤ spot i) × (spot i <ℤ spot k))
+          ⊎ ((spot k ≡ spot i) × (spot i ≡ spot j))) → ⊥
+      none i hi (inl o) = less_in_a_ring (spot k) (spot i) (spot j) o.0 o.1 s.below
+      none i hi (inr (inl o)) = below_and_not_below (spot j) (spot i) o.0 (s.top i hi o.1)
+      none i hi (inr (inr o)) = less_is_not_same (spot j) (spot k) s.below (sym (o.0 ∙ o.1))
+
 -- ---- steps on numbers
 from_difference : (d t f : ℤ) → d ≡ t -ℤ f → f <ℤ t → pos 0 <ℤ d
 from_difference d t f e h = omega (arith, ints)
@@ -60,11 +102,13 @@ strictly a b t (inr (inl h)) = inr (inl (omega (arith, ints), omega (arith, ints
 strictly a b t (inr (inr h)) = inr (inr (omega (arith, ints), omega (arith, ints)))
 
 module _ (n : ℕ) (p : ℕ → Point) (outer : List (ℕ × ℕ)) (m : SignLine n p outer) (y : Fraction) where
+  -- y is at the vertex v
   pub record IsAtPoint : Type 0 where
     pub v : ℕ
     pub index : v < n
     pub same : IsSame y (whole (p v))
 
+  -- y is strictly within the edge of i and j
   pub record IsOnEdge : Type 0 where
     pub i : ℕ
     pub j : ℕ
@@ -75,6 +119,7 @@ module _ (n : ℕ) (p : ℕ → Point) (outer : List (ℕ × ℕ)) (m : SignLine
   abbrev pub IsBeyond : ℕ → Type 0
   IsBeyond i = (k : ℕ) → k < n → k ≢ i → WithinSegment y (whole (p k)) (whole (p i))
 
+  -- y is on the left of a directed edge, or beyond its start in the line's direction
   pub record IsBesideEdge : Type 0 where
     pub i : ℕ
     pub j : ℕ
@@ -93,6 +138,7 @@ module _ (n : ℕ) (p : ℕ → Point) (outer : List (ℕ × ℕ)) (m : SignLine
     pub spot : ℕ → ℤ
     spot k = y.w *ℤ place_on (p c) (p d) (at p k)
 
+    -- the place of y on the line from c to d
     pub mark : ℤ
     mark = place_on (p c) (p d) (vec y)
 
@@ -120,7 +166,8 @@ module _ (n : ℕ) (p : ℕ → Point) (outer : List (ℕ × ℕ)) (m : SignLine
     vertices_ahead : (i k : ℕ) → spot i <ℤ spot k → pos 0 <ℤ ahead (p c) (p d) (whole (p i)) (whole (p k))
     vertices_ahead i k h = pos_of_mul-pos_ℤ y.positive (from_difference (y.w *ℤ ahead (p c) (p d) (whole (p i)) (whole (p k))) (spot k) (spot i) (of_vertices i k) h)
 
-    pub same_spot : (i k : ℕ) → i < n → k < n → spot i ≡ spot k → i ≡ k
+    -- vertices at one place are one
+    pub same_spot : IsOneToOne n spot
     unfolding spot
     same_spot i k hi hk e = same_place n p m.distinct (p c) (p d) apart i k hi hk (levels i hi) (levels k hk) (mul_same (place_on (p c) (p d) (at p i)) (place_on (p c) (p d) (at p k)) e)
       where
@@ -130,6 +177,7 @@ module _ (n : ℕ) (p : ℕ → Point) (outer : List (ℕ × ℕ)) (m : SignLine
     at_spot : (k : ℕ) → k < n → spot k ≡ mark → IsAtPoint
     at_spot k h e = record { v = k; index = h; same = same_if_level (p c) (p d) apart y (whole (p k)) level (levels k h) (to_vertex k ∙ same_have_no_difference (spot k) mark e) }
 
+    -- a vertex at y has its place
     pub spot_at : (k : ℕ) → IsSame y (whole (p k)) → spot k ≡ mark
     spot_at k s = equal (ahead (p c) (p d) y (whole (p k))) (spot k) mark (to_vertex k) (level_if_same (p c) (p d) y (whole (p k)) s)
       where
@@ -141,7 +189,8 @@ module _ (n : ℕ) (p : ℕ → Point) (outer : List (ℕ × ℕ)) (m : SignLine
     within_y i j hi hj a b = within_if_ahead (p c) (p d) apart (whole (p i)) (whole (p j)) y (levels i hi) (levels j hj) level
         (from_difference (ahead (p c) (p d) (whole (p i)) y) mark (spot i) (from_vertex i) a) (from_difference (ahead (p c) (p d) y (whole (p j))) (spot j) mark (to_vertex j) b)
 
-    pub within_k : (i j k : ℕ) → i < n → j < n → k < n → spot i <ℤ spot k → spot k <ℤ spot j → WithinSegment (whole (p i)) (whole (p j)) (whole (p k))
+    -- a place between two others is within their segment
+    pub within_k : TellWithin n p spot
     within_k i j k hi hj hk a b = within_if_ahead (p c) (p d) apart (whole (p i)) (whole (p j)) (whole (p k)) (levels i hi) (levels j hj) (levels k hk) (vertices_ahead i k a) (vertices_ahead k j b)
 
     order_y : (i j : ℕ) → WithinSegment (whole (p i)) (whole (p j)) y → ((spot i <ℤ mark) × (mark <ℤ spot j)) ⊎ (((spot j <ℤ mark) × (mark <ℤ spot i)) ⊎ ((spot i ≡ mark) × (mark ≡ spot j)))
@@ -150,13 +199,18 @@ module _ (n : ℕ) (p : ℕ → Point) (outer : List (ℕ × ℕ)) (m : SignLine
         read : (x z : ℤ) {s t : ℤ} → x ≡ s → z ≡ t → AreOneSign x z → AreOneSign s t
         read x z e f o = subst (λ (q : ℤ × ℤ). AreOneSign q.0 q.1) (λ i. (e i, f i)) o
 
-    pub order_k : (i j k : ℕ) → WithinSegment (whole (p i)) (whole (p j)) (whole (p k)) → ((spot i <ℤ spot k) × (spot k <ℤ spot j)) ⊎ (((spot j <ℤ spot k) × (spot k <ℤ spot i)) ⊎ ((spot i ≡ spot k) × (spot k ≡ spot j)))
+    -- places rise along the line as its points do
+    pub order_k : TellOrder p spot
     order_k i j k w = strictly (spot i) (spot j) (spot k) (scaled (ahead (p c) (p d) (whole (p i)) (whole (p k))) (ahead (p c) (p d) (whole (p k)) (whole (p j))) (of_vertices i k) (of_vertices k j) (ahead_if_within (p c) (p d) (whole (p i)) (whole (p j)) (whole (p k)) w))
       where
         scaled : (x z : ℤ) {s t : ℤ} → y.w *ℤ x ≡ s → y.w *ℤ z ≡ t → AreOneSign x z → AreOneSign s t
         scaled x z e f (inl o) = inl (subst (λ q. pos 0 <ℤ q) e (mul-pos_ℤ y.positive o.0), subst (λ q. pos 0 <ℤ q) f (mul-pos_ℤ y.positive o.1))
         scaled x z e f (inr (inl o)) = inr (inl (subst (λ q. q <ℤ pos 0) e (mul-neg_of_pos_neg_ℤ y.positive o.0), subst (λ q. q <ℤ pos 0) f (mul-neg_of_pos_neg_ℤ y.positive o.1)))
         scaled x z e f (inr (inr o)) = inr (inr (sym e ∙ zero-mul_ℤ y.w o.0, sym f ∙ zero-mul_ℤ y.w o.1))
+
+    -- these are places along the line
+    pub places : ArePlaces n p spot
+    places = record { same = same_spot; within = within_k; order = order_k }
 
     -- i strictly between y and k
     order_i : (k i : ℕ) → WithinSegment y (whole (p k)) (whole (p i)) → ((mark <ℤ spot i) × (spot i <ℤ spot k)) ⊎ (((spot k <ℤ spot i) × (spot i <ℤ mark)) ⊎ ((mark ≡ spot i) × (spot i ≡ spot k)))
@@ -170,17 +224,7 @@ module _ (n : ℕ) (p : ℕ → Point) (outer : List (ℕ × ℕ)) (m : SignLine
     -- ---- somewhere
     -- next below a vertex that has one below it
     pub lower_edge : (k : ℕ) → k < n → (j : ℕ) → IsBelow spot n (spot k) j → Contains outer (k, j)
-    lower_edge k h j s = (m.neighbours k j).1 (record {
-      apart = λ e. less_is_not_same (spot j) (spot k) s.below (ap spot (sym e));
-      first = h;
-      second = s.index;
-      none_between = λ i hi w. none i hi (order_k k j i w);
-    })
-      where
-        none : (i : ℕ) → i < n → ((spot k <ℤ spot i) × (spot i <ℤ spot j)) ⊎ (((spot j <ℤ spot i) × (spot i <ℤ spot k)) ⊎ ((spot k ≡ spot i) × (spot i ≡ spot j))) → ⊥
-        none i hi (inl o) = less_in_a_ring (spot k) (spot i) (spot j) o.0 o.1 s.below
-        none i hi (inr (inl o)) = below_and_not_below (spot j) (spot i) o.0 (s.top i hi o.1)
-        none i hi (inr (inr o)) = less_is_not_same (spot j) (spot k) s.below (sym (o.0 ∙ o.1))
+    lower_edge = next_below n p outer m spot places
 
     -- some vertex has an edge
     some_edge : (i j : ℕ) × Contains outer (i, j)
@@ -343,9 +387,11 @@ module _ (n : ℕ) (p : ℕ → Point) (outer : List (ℕ × ℕ)) (m : SignLine
 
   -- ---- the line's direction turned
   module _ (c d : ℕ) (c_index : c < n) (d_index : d < n) (c_not_d : c ≢ d) where
+    -- y is on the line of two vertices in either order
     pub turned_level : bracket (at p c) (at p d) (vec y) ≡ pos 0 → bracket (at p d) (at p c) (vec y) ≡ pos 0
     turned_level e = bracket-swap (at p d) (at p c) (vec y) ∙ ap neg_ℤ e
 
+    -- the places along the line turned round are those along it, turned
     pub turned_spots : (level : bracket (at p c) (at p d) (vec y) ≡ pos 0) (level' : bracket (at p d) (at p c) (vec y) ≡ pos 0) (k : ℕ) → spot d c d_index c_index (λ e. c_not_d (sym e)) level' k -ℤ mark d c d_index c_index (λ e. c_not_d (sym e)) level' ≡ mark c d c_index d_index c_not_d level -ℤ spot c d c_index d_index c_not_d level k
     unfolding spot mark place_on
     turned_spots level level' k = ring_in ((p c).x ∷ (p c).y ∷ (p d).x ∷ (p d).y ∷ (p k).x ∷ (p k).y ∷ y.x ∷ y.y ∷ y.w ∷ [])
@@ -366,6 +412,7 @@ module _ (n : ℕ) (p : ℕ → Point) (outer : List (ℕ × ℕ)) (m : SignLine
 
 -- ---- the ways, for at least two points
 module _ (n : ℕ) (p : ℕ → Point) (outer : List (ℕ × ℕ)) (m : SignLine n p outer) (y : Fraction) where
+  -- each point is at a vertex, on an edge, or beside the line
   pub somewhere : 1 < n → IsAtPoint n p outer m y ⊎ (IsOnEdge n p outer m y ⊎ IsBesideEdge n p outer m y)
   somewhere several = go (trichotomy_ℤ (bracket (at p i) (at p j) (vec y)))
     where
@@ -389,17 +436,21 @@ module _ (n : ℕ) (p : ℕ → Point) (outer : List (ℕ × ℕ)) (m : SignLine
       go (inr (inl h)) = somewhere_on_line n p outer m y i j next.first next.second next.apart h
       go (inr (inr h)) = inr (inr (record { i = i; j = j; edge = edge.2; out = inl h }))
 
+  -- y is at one vertex at most
   pub point_unique : (a b : IsAtPoint n p outer m y) → a.v ≡ b.v
   point_unique a b = one_vertex_at n p m.distinct y a.v b.v a.index b.index a.same b.same
 
+  -- a point at a vertex is within no edge
   pub point_not_on_edge : IsAtPoint n p outer m y → IsOnEdge n p outer m y → ⊥
   point_not_on_edge a o = ((m.neighbours o.i o.j).0 o.edge).none_between a.v a.index (same_within (p o.i) (p o.j) (p a.v) y a.same o.within)
 
+  -- y is within one edge at most, in either direction
   pub on_one_edge : (a b : IsOnEdge n p outer m y) → IsSamePair b.i b.j a.i a.j
   on_one_edge a b =
       let s = (m.neighbours a.i a.j).0 a.edge in
       one_edge n p outer m y a.i a.j s.first s.second s.apart (within_on (p a.i) (p a.j) y a.within) a.i a.j b.i b.j s ((m.neighbours b.i b.j).0 b.edge) a.within b.within
 
+  -- a point at a vertex is not beside the line
   pub point_not_beside : IsAtPoint n p outer m y → IsBesideEdge n p outer m y → ⊥
   point_not_beside a o = go o.out
     where
@@ -413,6 +464,7 @@ module _ (n : ℕ) (p : ℕ → Point) (outer : List (ℕ × ℕ)) (m : SignLine
       go (inl h) = left_not_zero h level
       go (inr h) = vertex_not_past n p outer m y o.i o.j s.first s.second s.apart level o.i o.j s h a.v a.index a.same
 
+  -- a point within an edge is not beside the line
   pub edge_not_beside : IsOnEdge n p outer m y → IsBesideEdge n p outer m y → ⊥
   edge_not_beside a o = go o.out
     where

@@ -209,10 +209,12 @@ module _ (points : List Point) (outer edges : List (ℕ × ℕ)) (m : LineMesh p
 no_faces : (points : List Point) (faces : List Face) (outer edges : List (ℕ × ℕ)) (P : Triangulation → Type 0) → faces ≡ [] → AreEdgesOf faces outer edges → (AreEdgesOf [] outer edges → P (record { points = points; faces = []; edges = edges })) → P (record { points = points; faces = faces; edges = edges })
 no_faces points faces outer edges P e own h = subst (λ f. P (record { points = points; faces = f; edges = edges })) (sym e) (h (subst (λ f. AreEdgesOf f outer edges) e own))
 
+-- a mesh with its own edges has edges that meet at vertices alone
 pub no_edges_cross : (points : List Point) (faces : List Face) (outer edges : List (ℕ × ℕ)) → IsMesh points faces outer → AreEdgesOf faces outer edges → EdgesMeetAtVertices (record { points = points; faces = faces; edges = edges })
 no_edges_cross points faces outer edges (inl m) own = plane_edges_meet points faces outer edges m own
 no_edges_cross points faces outer edges (inr m) own = no_faces points faces outer edges EdgesMeetAtVertices m.0 own (λ o. line_edges_meet points outer edges m.1 o)
 
+-- in a mesh with its own edges each point has a location, and no other
 pub each_point_has_one_location : (points : List Point) (faces : List Face) (outer edges : List (ℕ × ℕ)) → IsMesh points faces outer → AreEdgesOf faces outer edges → (p : Fraction) → HasOneLocation (record { points = points; faces = faces; edges = edges }) p
 each_point_has_one_location points faces outer edges (inl m) own y = (plane_exists points faces outer edges m own y, plane_same points faces outer edges m own y)
 each_point_has_one_location points faces outer edges (inr m) own y = no_faces points faces outer edges (λ t. HasOneLocation t y) m.0 own (λ o. (line_exists points outer edges m.1 o y, line_same points outer edges m.1 o y))

@@ -21,6 +21,7 @@ use Rattle.plane_tiling.proofs.Tiles.{by_signs, point_at, tiles}
 use Rattle.plane.proofs.Signs.{one_is_above_zero, sum_not_negative, sum_of_zeros}
 use lib.IntN.{+ℤ_comm}
 
+-- a sum of three bits, of which no two are above 0, is 0 or 1
 pub sum_of_bits : (a b c : ℤ) → (a ≡ pos 0) ⊎ (a ≡ pos 1) → (b ≡ pos 0) ⊎ (b ≡ pos 1) → (c ≡ pos 0) ⊎ (c ≡ pos 1) → (pos 0 <ℤ a → pos 0 <ℤ b → ⊥) → (pos 0 <ℤ a → pos 0 <ℤ c → ⊥) → (pos 0 <ℤ b → pos 0 <ℤ c → ⊥)
     → (a +ℤ b +ℤ c ≡ pos 0) ⊎ (a +ℤ b +ℤ c ≡ pos 1)
 sum_of_bits a b c (inl x) (inl y) (inl z) n l m = inl (omega (arith, ints))
@@ -102,12 +103,15 @@ module _ (faces : List Face) (outer edges : List (ℕ × ℕ)) (own : AreEdgesOf
       go e h (inl k) = let t = pair_found u v e.0 e.1 k in inl (subst (Contains edges) (λ i. (t.0 i, t.1 i)) h)
       go e h (inr k) = let t = pair_found u v e.1 e.0 k in inr (subst (Contains edges) (λ i. (t.1 i, t.0 i)) h)
 
+  -- a side of a face is an edge
   pub edge_of_side : (u v : ℕ) → HasSide faces u v → Joins edges u v
   edge_of_side u v s = edge_of_count u v (plus_then (total (around (is_pair u v)) faces) (total (along (is_pair u v)) outer) (total (ways u v) edges) (side_counts faces u v s) (outers_nonneg u v) (own (is_pair u v)))
 
+  -- an outer edge is an edge
   pub edge_of_outer : (u v : ℕ) → Contains outer (u, v) → Joins edges u v
   edge_of_outer u v h = edge_of_count u v (plus_then (total (along (is_pair u v)) outer) (total (around (is_pair u v)) faces) (total (ways u v) edges) (outer_counts outer u v h) (sides_nonneg u v) (own (is_pair u v) ∙ +ℤ_comm (total (around (is_pair u v)) faces) (total (along (is_pair u v)) outer)))
 
+  -- an edge is a side of a face or an outer edge
   pub way_of_edge : (u v : ℕ) → Joins edges u v → HasSide faces u v ⊎ Contains outer (u, v)
   way_of_edge u v j = back_from_count faces outer u v (one_of_two (total (around (is_pair u v)) faces) (total (along (is_pair u v)) outer) (go j))
     where
@@ -155,11 +159,13 @@ module _ (n : ℕ) (p : ℕ → Point) (faces : List Face) (outer : List (ℕ ×
       once : (a : ℤ) → pos 0 <ℤ a → pos 0 <ℤ (pos 1 *ℤ a)
       once a h = omega (arith, ints)
 
+  -- inside of the corners, from whichever side, is inside of the face
   pub inside_face_on : (u v c : ℕ) (f : Face) → IsFaceOn u v c f → (z : Vec3) → Inside (at p u) (at p v) (at p c) z → Inside (at p f.a) (at p f.b) (at p f.c) z
   inside_face_on u v c f (inl e) z i = subst (λ g. Inside (at p g.a) (at p g.b) (at p g.c) z) (sym e) i
   inside_face_on u v c f (inr (inl e)) z i = subst (λ g. Inside (at p g.a) (at p g.b) (at p g.c) z) (sym e) (record { first = i.third; second = i.first; third = i.second })
   inside_face_on u v c f (inr (inr e)) z i = subst (λ g. Inside (at p g.a) (at p g.b) (at p g.c) z) (sym e) (record { first = i.second; second = i.third; third = i.first })
 
+  -- from whichever side, the corners are those of a listed face
   pub turn_on : (u v c : ℕ) (f : Face) → IsFaceOn u v c f → Contains faces f → IsTurnOf faces u v c
   turn_on u v c f (inl e) h = inl (subst (Contains faces) e h)
   turn_on u v c f (inr (inl e)) h = inr (inr (subst (Contains faces) e h))

@@ -22,6 +22,7 @@ use Rattle.plane_tiling.proofs.Covering as C
 use Rattle.plane_tiling.proofs.Edges as E
 use Rattle.plane_tiling.proofs.Covering.{next_corner}
 use Rattle.plane.proofs.Signs.{sum_not_positive}
+use Rattle.plane.proofs.Indexes.{turns_of_one}
 
 -- y is on two sides of a triangle: at their corner
 record IsAtCorner (j : Point) (q : Fraction) : Type 0 where
@@ -101,17 +102,20 @@ module _ (n : ℕ) (p : ℕ → Point) (faces : List Face) (outer : List (ℕ ×
     pub here : Contains outer e
     pub left : pos 0 <ℤ bracket (at p e.0) (at p e.1) (vec y)
 
+  -- y is at the vertex v
   pub record IsAtVertex (y : Fraction) : Type 0 where
     pub v : ℕ
     pub index : v < n
     pub same : IsSame y (whole (p v))
 
+  -- y is strictly within the side of u and v
   pub record IsOnSide (y : Fraction) : Type 0 where
     pub u : ℕ
     pub v : ℕ
     pub side : HasSide faces u v
     pub within : WithinSegment (whole (p u)) (whole (p v)) y
 
+  -- y is strictly inside the face of i, j and k
   pub record IsInsideFace (y : Fraction) : Type 0 where
     pub i : ℕ
     pub j : ℕ
@@ -218,9 +222,11 @@ module _ (n : ℕ) (p : ℕ → Point) (faces : List Face) (outer : List (ℕ ×
           clash (inr (inr x)) (inr (inl z)) = no' j k s.second z x
           clash (inl x) (inr (inr z)) = no' k i s.third z x
 
+    -- a point within a side is inside no face
     pub side_not_inside : IsOnSide y → IsInsideFace y → ⊥
     side_not_inside o f = no_side_inside o.u o.v o.side.0 o.side.1 o.within f.i f.j f.k f.here f.inside
 
+    -- a point at a vertex is within no side
     pub vertex_not_side : IsAtVertex y → IsOnSide y → ⊥
     vertex_not_side a o = E.side_bare n p faces outer m o.u o.v a.v (inl o.side) a.index (same_within (p o.u) (p o.v) (p a.v) y a.same o.within)
 
@@ -254,24 +260,13 @@ module _ (n : ℕ) (p : ℕ → Point) (faces : List Face) (outer : List (ℕ ×
         go (inr x) (inr y) (inr z) = absurd (side_not_inside o (record { i = i; j = j; k = k; here = f; inside = record { first = x; second = y; third = z } }))
 
 -- ---- in one way alone
+-- the side of a point at a vertex is the vertex's, times its weight
 pub bracket_at : (a b : Vec3) (v : Point) (y : Fraction) → IsSame y (whole v) → bracket a b (vec y) ≡ y.w *ℤ bracket a b (lift v)
 unfolding bracket
 bracket_at a b v y e = ring_in_from (a.x ∷ a.y ∷ a.w ∷ b.x ∷ b.y ∷ b.w ∷ v.x ∷ v.y ∷ y.x ∷ y.y ∷ y.w ∷ [])
     (λ ax ay aw bx by bw vx vy yx yy yw. bracketᵖ (record { x = ax; y = ay; w = aw }) (record { x = bx; y = by; w = bw }) (record { x = yx; y = yy; w = yw }))
     (λ ax ay aw bx by bw vx vy yx yy yw. yw ⊗ bracketᵖ (record { x = ax; y = ay; w = aw }) (record { x = bx; y = by; w = bw }) (record { x = vx; y = vy; w = num 1 }))
     (λ ax ay aw bx by bw vx vy yx yy yw. (ay ⊗ bw ⊖ aw ⊗ by, yx ⊗ num 1, vx ⊗ yw) ∷ (aw ⊗ bx ⊖ ax ⊗ bw, yy ⊗ num 1, vy ⊗ yw) ∷ []) (e.x, (e.y, tt)) tt
-
--- two turns of one triple are turns of one another
-turns_of_one : (a b c i j k r s t : ℕ) → IsTurned a b c i j k → IsTurned a b c r s t → IsTurned i j k r s t
-turns_of_one a b c i j k r s t (inl e) (inl f) = inl (f.0 ∙ sym e.0, f.1 ∙ sym e.1, f.2 ∙ sym e.2)
-turns_of_one a b c i j k r s t (inl e) (inr (inl f)) = inr (inl (f.0 ∙ sym e.1, f.1 ∙ sym e.2, f.2 ∙ sym e.0))
-turns_of_one a b c i j k r s t (inl e) (inr (inr f)) = inr (inr (f.0 ∙ sym e.2, f.1 ∙ sym e.0, f.2 ∙ sym e.1))
-turns_of_one a b c i j k r s t (inr (inl e)) (inl f) = inr (inr (f.0 ∙ sym e.2, f.1 ∙ sym e.0, f.2 ∙ sym e.1))
-turns_of_one a b c i j k r s t (inr (inl e)) (inr (inl f)) = inl (f.0 ∙ sym e.0, f.1 ∙ sym e.1, f.2 ∙ sym e.2)
-turns_of_one a b c i j k r s t (inr (inl e)) (inr (inr f)) = inr (inl (f.0 ∙ sym e.1, f.1 ∙ sym e.2, f.2 ∙ sym e.0))
-turns_of_one a b c i j k r s t (inr (inr e)) (inl f) = inr (inl (f.0 ∙ sym e.1, f.1 ∙ sym e.2, f.2 ∙ sym e.0))
-turns_of_one a b c i j k r s t (inr (inr e)) (inr (inl f)) = inr (inr (f.0 ∙ sym e.2, f.1 ∙ sym e.0, f.2 ∙ sym e.1))
-turns_of_one a b c i j k r s t (inr (inr e)) (inr (inr f)) = inl (f.0 ∙ sym e.0, f.1 ∙ sym e.1, f.2 ∙ sym e.2)
 
 -- two vertices at one point are one
 pub one_vertex_at : (n : ℕ) (p : ℕ → Point) → AreDistinct n p → (y : Fraction) (v w : ℕ) → v < n → w < n → IsSame y (whole (p v)) → IsSame y (whole (p w)) → v ≡ w
@@ -281,9 +276,11 @@ one_vertex_at n p distinct y v w h k a b = same_index n p distinct v w h k (λ i
     part s t z w h e f = mul_cancel_ℤ (pos-ne-zero_ℤ h) (*ℤ_comm w s ∙ sym e ∙ f ∙ *ℤ_comm t w)
 
 module _ (n : ℕ) (p : ℕ → Point) (faces : List Face) (outer : List (ℕ × ℕ)) (m : SignMesh n p faces outer) (y : Fraction) where
+  -- a point at a vertex is not outside
   pub vertex_not_outside : IsAtVertex n p faces outer m y → IsLeftOfOuter n p faces outer m y → ⊥
   vertex_not_outside a o = left_not_below o.left (subst (λ z. z ≤ℤ pos 0) (sym (bracket_at (at p o.e.0) (at p o.e.1) (p a.v) y a.same)) (mul-nonpos_of_nonneg_nonpos_ℤ (weak y.positive) (m.supporting o.e o.here a.v a.index)))
 
+  -- a point within a side is not outside
   pub side_not_outside : IsOnSide n p faces outer m y → IsLeftOfOuter n p faces outer m y → ⊥
   side_not_outside s o =
       let w = two_weights IsPositive (whole (p s.u)) (whole (p s.v)) y s.within in
@@ -291,6 +288,7 @@ module _ (n : ℕ) (p : ℕ → Point) (faces : List Face) (outer : List (ℕ ×
       left_not_below o.left (not_left_of_product w.positive (sum_not_positive (w.n *ℤ bracket (at p o.e.0) (at p o.e.1) (vec y)) (w.k *ℤ bracket (at p o.e.0) (at p o.e.1) (at p s.u)) (w.l *ℤ bracket (at p o.e.0) (at p o.e.1) (at p s.v)) (E.mean_bracket IsPositive (p o.e.0) (p o.e.1) (p s.u) (p s.v) y w)
       (mul-nonpos_of_nonneg_nonpos_ℤ (weak w.k_allowed) (m.supporting o.e o.here s.u c.0)) (mul-nonpos_of_nonneg_nonpos_ℤ (weak w.l_allowed) (m.supporting o.e o.here s.v c.1))))
 
+  -- a point inside a face is not outside
   pub inside_not_outside : IsInsideFace n p faces outer m y → IsLeftOfOuter n p faces outer m y → ⊥
   inside_not_outside f o = left_not_below o.left (go f.here)
     where
@@ -299,6 +297,7 @@ module _ (n : ℕ) (p : ℕ → Point) (faces : List Face) (outer : List (ℕ ×
       go (inr (inl h)) = C.inside_not_outside n p faces outer m (face f.j f.k f.i) h (vec y) (record { first = f.inside.second; second = f.inside.third; third = f.inside.first }) o.e o.here
       go (inr (inr h)) = C.inside_not_outside n p faces outer m (face f.k f.i f.j) h (vec y) (record { first = f.inside.third; second = f.inside.first; third = f.inside.second }) o.e o.here
 
+  -- a point at a vertex is inside no face
   pub vertex_not_inside : IsAtVertex n p faces outer m y → IsInsideFace n p faces outer m y → ⊥
   vertex_not_inside a f = go (C.vertex_in_face n p faces outer m a.v f.i f.j f.k a.index f.here (weak first) (weak second) (weak third))
     where
@@ -323,6 +322,7 @@ module _ (n : ℕ) (p : ℕ → Point) (faces : List Face) (outer : List (ℕ ×
   pub vertex_unique : (a b : IsAtVertex n p faces outer m y) → a.v ≡ b.v
   vertex_unique a b = one_vertex_at n p m.distinct y a.v b.v a.index b.index a.same b.same
 
+  -- y is within one side at most, in either direction
   pub side_unique : (a b : IsOnSide n p faces outer m y) → ((b.u ≡ a.u) × (b.v ≡ a.v)) ⊎ ((b.u ≡ a.v) × (b.v ≡ a.u))
   side_unique a b = E.sides_meet n p faces outer m y a.u a.v b.u b.v (inl a.side) (inl b.side) a.within b.within
 
@@ -341,6 +341,7 @@ module _ (n : ℕ) (p : ℕ → Point) (faces : List Face) (outer : List (ℕ ×
       go (inr (inl h)) = record { f = face f.j f.k f.i; here = h; turn = inr (inr (refl, refl, refl)); inside = record { first = f.inside.second; second = f.inside.third; third = f.inside.first } }
       go (inr (inr h)) = record { f = face f.k f.i f.j; here = h; turn = inr (inl (refl, refl, refl)); inside = record { first = f.inside.third; second = f.inside.first; third = f.inside.second } }
 
+  -- y is inside one face at most, from whichever corner
   pub face_unique : (f g : IsInsideFace n p faces outer m y) → IsTurned f.i f.j f.k g.i g.j g.k
   face_unique f g =
       let a = turn_of f in

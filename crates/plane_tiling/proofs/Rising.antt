@@ -18,6 +18,7 @@ use Rattle.plane.proofs.Indexes.{below_or_last}
 use Rattle.plane.proofs.Crossings.{is_true}
 
 -- ---- the greatest of some numbers
+-- of finitely many numbers one is the greatest
 pub greatest : (f : ℕ → ℤ) (n : ℕ) → 0 < n → (k : ℕ) × (k < n) × ((j : ℕ) → j < n → f j ≤ℤ f k)
 greatest f zero h = absurd (omega arith)
 greatest f (suc n) h = go (cases_lt 0 n) (greatest f n)
@@ -43,6 +44,7 @@ greatest f (suc n) h = go (cases_lt 0 n) (greatest f n)
 if_falls : (a b : ℤ) → int_lt a b ≡ false → b ≤ℤ a
 if_falls a b e = elim (lt_or_ge_ℤ a b) [ inl l ↦ absurd (let f = test_true a b l in cc) | inr l ↦ l ]
 
+-- the test whether two numbers are equal fails where they differ
 pub not_equal : (a b : ℕ) → a ≢ b → eqb a b ≡ false
 not_equal a b n = go (eqb a b) refl
   where
@@ -50,10 +52,12 @@ not_equal a b n = go (eqb a b) refl
     go true e = absurd (n (eqb-true a b e))
     go false e = refl
 
+-- the test whether two numbers are equal holds of a number and itself
 pub equal : (a : ℕ) → eqb a a ≡ true
 equal a = is_true (eqb a a) (eqb_refl a)
 
 -- ---- the first n numbers
+-- the numbers below n, the last one first
 pub first : ℕ → List ℕ
 first zero = []
 first (suc n) = n ∷ first n
@@ -64,6 +68,7 @@ length_first zero = refl
 length_first (suc n) = ap suc (length_first n)
 
 module _ (f : ℕ → ℤ) where
+  -- sums over the numbers below n of equal terms are equal
   pub total_first : (g : ℕ → ℤ) (n : ℕ) → ((k : ℕ) → k < n → f k ≡ g k) → total f (first n) ≡ total g (first n)
   unfolding first
   total_first g zero h = refl
@@ -93,6 +98,7 @@ one_of_first b (suc n) s h = go (one_of_first b n s) (cases_eq n s)
     go rest (inl e) = same_plus_zero (bit (eqb n s && b)) (total (λ v. bit (eqb v s && b)) (first n)) (bit b) (at_own b n s e) (none_of_first b n s (omega arith))
     go rest (inr e) = zero_plus_same (bit (eqb n s && b)) (total (λ v. bit (eqb v s && b)) (first n)) (bit b) (at_other b n s e) (rest (below h e))
 
+-- the sum of ones over a list is its length
 pub total_ones : {X : Type 0} (xs : List X) → total (λ x. pos 1) xs ≡ pos (length xs)
 total_ones [] = refl
 total_ones (x ∷ xs) = more (total (λ x. pos 1) xs) (length xs) (total_ones xs)
@@ -112,6 +118,7 @@ rising_sides false false true n m = refl
 rising_sides false false false n m = absurd (m refl refl refl)
 
 module _ (height : ℕ → ℤ) where
+  -- whether the second vertex is above the first
   abbrev pub up : ℕ → ℕ → Bool
   up s t = int_lt (height s) (height t)
 
@@ -137,14 +144,17 @@ module _ (height : ℕ → ℤ) where
       go true false a b k = absurd k.lt
       go false y a b k = absurd k.lt
 
+  -- an edge leaves a vertex once or not at all
   pub leaves_bits : (v : ℕ) (e : ℕ × ℕ) → (leaves v e ≡ pos 0) ⊎ (leaves v e ≡ pos 1)
   unfolding leaves
   leaves_bits v e = bit_is (eqb v e.0 && up e.0 e.1)
 
+  -- no edge leaves a vertex less than not at all
   pub leaves_nonneg : (v : ℕ) (e : ℕ × ℕ) → pos 0 ≤ℤ leaves v e
   unfolding leaves
   leaves_nonneg v e = bit_nonneg (eqb v e.0 && up e.0 e.1)
 
+  -- a rising outer edge from a vertex is counted there
   pub leaves_counted : (v : ℕ) (outer : List (ℕ × ℕ)) (a : ℕ) → Contains outer (v, a) → height v <ℤ height a → pos 1 ≤ℤ total (leaves v) outer
   unfolding leaves
   leaves_counted v outer a here h = at_least (leaves v (v, a)) (total (leaves v) outer) (λ i. bit (equal v i && test_true (height v) (height a) h i)) (total_at_least (leaves v) outer (λ e _. leaves_nonneg v e) (v, a) here)
@@ -178,12 +188,15 @@ module _ (height : ℕ → ℤ) where
           let there : Contains outer g = (l, high, get_or_any outer l g d high) in
           once k l d low high (λ i. ((sym x.0 ∙ y.0) i, same f.1 g.1 (subst (λ o. Contains outer (o, f.1)) (sym x.0) here) (subst (λ o. Contains outer (o, g.1)) (sym y.0) there) (subst (λ o. height o <ℤ height f.1) (sym x.0) x.1) (subst (λ o. height o <ℤ height g.1) (sym y.0) y.1) i))
 
+  -- 1 where the second vertex is above the first, and 0 elsewhere
   abbrev pub rise : ℕ → ℕ → ℤ
   rise s t = bit (up s t)
 
+  -- 1 where two sides of a face that follow each other rise, and 0 elsewhere
   pub second_rise : Face → ℤ
   second_rise f = bit (up f.a f.b && up f.c f.a) +ℤ bit (up f.b f.c && up f.a f.b) +ℤ bit (up f.c f.a && up f.b f.c)
 
+  -- how many faces have their second rise at a vertex, and outer edges rise from it
   unfoldable pub count_at : List Face → List (ℕ × ℕ) → ℕ → ℤ
   count_at faces outer v = total (begins_at v) faces +ℤ total (leaves v) outer
 
@@ -242,6 +255,7 @@ module _ (height : ℕ → ℤ) where
         gathered a b c d e = omega (arith, ints)
 
 -- ---- where each vertex but the top one, and that one not, is counted once
+-- a sum that counts each vertex but the top once is one less than their number
 pub below_top : (f : ℕ → ℤ) (n top : ℕ) → top < n → ((v : ℕ) → v < n → ((v ≡ top) × (f v ≡ pos 0)) ⊎ ((v ≢ top) × (f v ≡ pos 1))) → total f (first n) +ℤ pos 1 ≡ pos n
 below_top f n top h each =
     (λ i. total f (first n) +ℤ sym (one_of_first true n top h) i)

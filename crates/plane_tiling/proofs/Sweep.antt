@@ -17,7 +17,7 @@ use Rattle.plane.proofs.Solver.{num, ◌⊕◌, ◌⊖◌, ◌⊗◌, ⊝, ring_
 use Rattle.plane.proofs.Means.{mean_of_two}
 use Rattle.plane.proofs.Bracket.{Vec3, bracket, bracketᵖ, lift}
 use Rattle.plane.proofs.BracketIdentities.{bracket-turn, bracket-swap, bracket-outer, bracket-last, cramer, pluecker, passing_x, passing_y, passing_w}
-use Rattle.plane.proofs.Generic.{Inside, IsNudged, near}
+use Rattle.plane.proofs.Generic.{AreDistinct, Inside, IsNudged, near}
 use Rattle.plane_tiling.proofs.Flows.{bit, bit_is, bit_nonneg, one_of_three, IsTurnOf, HasSide, turned}
 use Rattle.plane_tiling.proofs.Totals.{total_at_most_one, total_at_least, total_nonneg, total_positive, all_none, get_or_any}
 use Rattle.plane_tiling.proofs.Counting.{at, SignMesh, corners_differ}
@@ -32,9 +32,10 @@ use Rattle.plane.proofs.Sides.{test_true, less_by_test}
 pub record IsSweep (n : ℕ) (p : ℕ → Point) (way : Vec3) (height : ℕ → ℤ) : Type 0 where
   pub flat : way.w ≡ pos 0
   pub seen : (s t : ℕ) → bracket (at p s) (at p t) way ≡ height t -ℤ height s
-  pub distinct : (i j : ℕ) → i < n → j < n → i ≢ j → ¬ (height i ≡ height j)
+  pub distinct : AreDistinct n height
 
-pub sweep : (n : ℕ) (p : ℕ → Point) → ((i j : ℕ) → i < n → j < n → i ≢ j → ¬ (p i ≡ p j)) → (way : Vec3) × ((height : ℕ → ℤ) × IsSweep n p way height)
+-- for points that all differ there is a way that no two of them share, far to the left of the way up
+pub sweep : (n : ℕ) (p : ℕ → Point) → AreDistinct n p → (way : Vec3) × ((height : ℕ → ℤ) × IsSweep n p way height)
 unfolding bracket
 sweep n p distinct =
     let k = nudge_pairs n (λ i j. (p i).x -ℤ (p j).x) (λ i j. (p i).y -ℤ (p j).y) in (

@@ -24,6 +24,7 @@ use Rattle.plane.proofs.Signs.{sum_not_positive, zero_is_not_positive}
 abbrev pub point_at : List Point → ℕ → Point
 point_at points i = get_or points i (record { x = pos 0; y = pos 0 })
 
+-- where three points do not turn left, their bracket is not above 0
 pub bracket_not_left : (a b c : Fraction) → ¬ TurnsLeft a b c → bracket (vec a) (vec b) (vec c) ≤ℤ pos 0
 bracket_not_left a b c n = go (lt_or_ge_ℤ (pos 0) (bracket (vec a) (vec b) (vec c)))
   where
@@ -88,12 +89,15 @@ hull_not_left u v points q h below =
     not_left_of_product h.positive (subst (λ z. z ≤ℤ pos 0) (sym (bracket_by_parts u v h.scale q.x q.y q.w s.x s.y s.w h.x h.y h.w)) (sum_not_left u v h.weights points h.allowed below))
 
 -- ---- triangles
+-- inside of a left-turning triangle is on the left of its three sides
 pub inside_signs : (a b c q : Fraction) → TurnsLeft a b c → InsideTriangle a b c q → Inside (vec a) (vec b) (vec c) (vec q)
 inside_signs a b c q turns h = let s = (inside_is_brackets a b c q (if_left a b c turns)).0 h in record { first = s.0; second = s.1; third = s.2 }
 
+-- where a b c turns left, a point of the closed triangle has no bracket below 0 with a side
 pub in_signs : (a b c q : Fraction) → TurnsLeft a b c → InTriangle a b c q → (pos 0 ≤ℤ bracket (vec a) (vec b) (vec q)) × (pos 0 ≤ℤ bracket (vec b) (vec c) (vec q)) × (pos 0 ≤ℤ bracket (vec c) (vec a) (vec q))
 in_signs a b c q turns h = (in_is_brackets a b c q (if_left a b c turns)).0 h
 
+-- where a b c turns left, a point with no bracket below 0 with a side is in the closed triangle
 pub signs_in : (a b c q : Fraction) → TurnsLeft a b c → pos 0 ≤ℤ bracket (vec a) (vec b) (vec q) → pos 0 ≤ℤ bracket (vec b) (vec c) (vec q) → pos 0 ≤ℤ bracket (vec c) (vec a) (vec q) → InTriangle a b c q
 signs_in a b c q turns h k l = (in_is_brackets a b c q (if_left a b c turns)).1 (h, k, l)
 

@@ -44,12 +44,15 @@ no_sum : pos 0 ≡ pos 0 +ℤ pos 0
 no_sum = refl
 
 module _ {X : Type 0} where
+  -- a list has its first entry
   pub Contains-head : (x : X) (xs : List X) → Contains (x ∷ xs) x
   Contains-head x xs = (0, omega arith, refl)
 
+  -- a longer list has what the rest of it has
   pub Contains-later : (y : X) (xs : List X) (x : X) → Contains xs x → Contains (y ∷ xs) x
   Contains-later y xs x h = (suc h.0, omega arith, h.2)
 
+  -- an entry is the first or in the rest
   pub Contains-cases : (y : X) (xs : List X) (x : X) → Contains (y ∷ xs) x → (y ≡ x) ⊎ Contains xs x
   Contains-cases y xs x h = go h.0 h.1 h.2
     where
@@ -57,14 +60,17 @@ module _ {X : Type 0} where
       go zero l e = inl e
       go (suc k) l e = inr (k, omega arith, e)
 
+  -- an empty list has no entry
   pub Contains-none : (x : X) → Contains [] x → ⊥
   Contains-none x h = let k = h.1 in omega arith
 
+  -- an entry within the list does not depend on what is given beyond it
   pub get_or_any : (xs : List X) (k : ℕ) (d e : X) → k < length xs → get_or xs k d ≡ get_or xs k e
   get_or_any [] k d e h = absurd (omega arith)
   get_or_any (x ∷ xs) zero d e h = refl
   get_or_any (x ∷ xs) (suc k) d e h = get_or_any xs k d e (omega arith)
 
+  -- sums of terms that agree on the list are equal
   pub total_agree : (f g : X → ℤ) (xs : List X) → ((x : X) → Contains xs x → f x ≡ g x) → total f xs ≡ total g xs
   total_agree f g [] h = refl
   total_agree f g (x ∷ xs) h =
@@ -72,14 +78,17 @@ module _ {X : Type 0} where
       let b = total_agree f g xs (λ y k. h y (Contains-later x xs y k)) in
       λ i. a i +ℤ b i
 
+  -- a sum of differences is the difference of the sums
   pub total-difference : (f g : X → ℤ) (xs : List X) → total (λ x. f x -ℤ g x) xs ≡ total f xs -ℤ total g xs
   total-difference f g [] = refl
   total-difference f g (x ∷ xs) = sums_apart (f x) (g x) (pos 0) (pos 0) (total (λ y. f y -ℤ g y) xs) (total f xs) (total g xs) (total-difference f g xs)
 
+  -- a sum of sums is the sum of both
   pub total-sum : (f g : X → ℤ) (xs : List X) → total (λ x. f x +ℤ g x) xs ≡ total f xs +ℤ total g xs
   total-sum f g [] = no_sum
   total-sum f g (x ∷ xs) = sums_beside (f x) (g x) (total (λ y. f y +ℤ g y) xs) (total f xs) (total g xs) (total-sum f g xs)
 
+  -- a sum of terms that are not negative is not negative
   pub total_nonneg : (f : X → ℤ) (xs : List X) → ((x : X) → Contains xs x → pos 0 ≤ℤ f x) → pos 0 ≤ℤ total f xs
   total_nonneg f [] h = record { le = tt }
   total_nonneg f (x ∷ xs) h = sum_not_negative (f x) (total f xs) (h x (Contains-head x xs)) (total_nonneg f xs (λ y k. h y (Contains-later x xs y k)))
@@ -154,6 +163,7 @@ module _ {X : Type 0} where
       go (inr e) r (inl q) = absurd (again e q)
       go (inr e) r (inr q) = one_more (f x) (total f xs) e q
 
+  -- a sum of zeros is zero
   pub all_none : (f : X → ℤ) (xs : List X) → ((x : X) → Contains xs x → f x ≡ pos 0) → total f xs ≡ pos 0
   all_none f [] h = refl
   all_none f (x ∷ xs) h = let a = h x (Contains-head x xs) in let b = all_none f xs (λ y k. h y (Contains-later x xs y k)) in λ i. a i +ℤ b i

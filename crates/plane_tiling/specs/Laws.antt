@@ -21,6 +21,7 @@ abbrev pub EdgesMeetAtVertices : Triangulation → Type 0
 EdgesMeetAtVertices t = ((i j k : ℕ) → IsEdge t i j → IsVertex t k → ¬ WithinSegment (vertex t i) (vertex t j) (vertex t k))
     × ((i j k l : ℕ) → IsEdge t i j → IsEdge t k l → (p : Fraction) → WithinSegment (vertex t i) (vertex t j) p → WithinSegment (vertex t k) (vertex t l) p → IsSamePair k l i j)
 
+-- a mesh with its own edges has edges that meet at vertices alone
 abbrev pub NoEdgesCross : Type 0
 NoEdgesCross = (points : List Point) (faces : List Face) (outer edges : List (ℕ × ℕ)) → IsMesh points faces outer → AreEdgesOf faces outer edges → EdgesMeetAtVertices (record { points = points; faces = faces; edges = edges })
 
@@ -41,6 +42,7 @@ IsSameLocation _ _ = ⊥
 abbrev pub HasOneLocation : Triangulation → Fraction → Type 0
 HasOneLocation t p = ((l : Location) × IsLocation t p l) × ((l m : Location) → IsLocation t p l → IsLocation t p m → IsSameLocation l m)
 
+-- in a mesh with its own edges each point has a location, and no other
 abbrev pub EachPointHasOneLocation : Type 0
 EachPointHasOneLocation = (points : List Point) (faces : List Face) (outer edges : List (ℕ × ℕ)) → IsMesh points faces outer → AreEdgesOf faces outer edges
     → (p : Fraction) → HasOneLocation (record { points = points; faces = faces; edges = edges }) p

@@ -6,7 +6,7 @@ ghost use Rattle.delaunay_legalization.specs.Shape.{IsTriangulated};
 ghost use Rattle.delaunay_legalization.specs.State.{state_of};
 
 use crate::counting::counting_rectangle;
-use crate::shapes::{Found, ends_of, found_in_circle, found_in_rectangle, indexes_of};
+use crate::shapes::{Found, ends_of, found_in_circle, found_in_rectangle, listed};
 use delaunay_shapes::{edges_by_filter, edges_in_shape, vertices_by_filter};
 use exact_tests::ExactTests;
 use spade_delaunay::handles::FixedVertexHandle;
@@ -14,7 +14,7 @@ use spade_delaunay::{
     CircleMetric, Dcel, DistanceMetric, FloatTriangulation, Point2, RectangleMetric, Triangulation,
     validate_vertex,
 };
-use std::alloc::{AllocError, Global};
+use std::alloc::Global;
 
 /// How many shapes there were, in how many of them something else was given than by the look at
 /// each element, and how many edges and vertices were given.
@@ -42,13 +42,13 @@ fn looked_up<DE, UE, F, M: DistanceMetric<i64>>(
     mesh: &Dcel<Point2<i64>, DE, UE, F>,
     metric: &M,
     alloc: Global,
-) -> Result<Found, AllocError>
+) -> Option<Found>
     requires covered { All (λ v. InRange (place_of (λ z. z) v)) mesh.now.vertices }
     requires own_covered { All InRange (M.own_points metric.now) }
 {
-    let edges = edges_by_filter(mesh, metric, &ExactTests, alloc)?;
-    let vertices = vertices_by_filter(mesh, metric, &ExactTests, alloc)?;
-    Ok((ends_of(edges, alloc)?, indexes_of(vertices, alloc)?))
+    let edges = edges_by_filter(mesh, metric, &ExactTests, alloc);
+    let vertices = vertices_by_filter(mesh, metric, &ExactTests, alloc);
+    listed(edges, vertices, alloc)
 }
 
 // The mesh of a triangulation, whose vertices are in range.
@@ -72,7 +72,7 @@ fn expected_in_rectangle<T: FloatTriangulation<Vertex = Point2<i64>>>(
         return None;
     }
     let metric = RectangleMetric::new(lower, upper);
-    looked_up(mesh_of(points), &metric, alloc).ok()
+    looked_up(mesh_of(points), &metric, alloc)
 }
 
 fn expected_in_circle<T: FloatTriangulation<Vertex = Point2<i64>>>(
@@ -85,7 +85,7 @@ fn expected_in_circle<T: FloatTriangulation<Vertex = Point2<i64>>>(
         return None;
     }
     let metric = CircleMetric::new(center, radius_2);
-    looked_up(mesh_of(points), &metric, alloc).ok()
+    looked_up(mesh_of(points), &metric, alloc)
 }
 
 // One of the nine points with coordinates -1, 0 and 1, by its number.
@@ -101,8 +101,12 @@ pub fn compare_rectangles<T: FloatTriangulation<Vertex = Point2<i64>>>(
     let mut compared = Compared::default();
     for number in 0..81u32 {
         let (lower, upper) = (numbered(number / 9), numbered(number));
-        let found = found_in_rectangle(points, lower, upper, alloc)?;
-        compared.add(&found, &expected_in_rectangle(points, lower, upper, alloc)?);
+        let found = found_in_rectangle(points, lower, upper, alloc);
+        let expected = expected_in_rectangle(points, lower, upper, alloc);
+        let (Some(found), Some(expected)) = (found, expected) else {
+            return None;
+        };
+        compared.add(&found, &expected);
     }
     Some(compared)
 }
@@ -115,11 +119,12 @@ pub fn compare_circles<T: FloatTriangulation<Vertex = Point2<i64>>>(
     let mut compared = Compared::default();
     for number in 0..81u32 {
         let (center, radius_2) = (numbered(number / 9), i64::from(number % 9));
-        let found = found_in_circle(points, center, radius_2, alloc)?;
-        compared.add(
-            &found,
-            &expected_in_circle(points, center, radius_2, alloc)?,
-        );
+        let found = found_in_circle(points, center, radius_2, alloc);
+        let expected = expected_in_circle(points, center, radius_2, alloc);
+        let (Some(found), Some(expected)) = (found, expected) else {
+            return None;
+        };
+        compared.add(&found, &expected);
     }
     Some(compared)
 }

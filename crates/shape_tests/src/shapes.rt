@@ -26,7 +26,7 @@ pub fn ends_of<V, DE, UE, F>(
 }
 
 /// The index of each vertex that is given.
-pub fn indexes_of<V, DE, UE, F>(
+fn indexes_of<V, DE, UE, F>(
     vertices: VerticesInShapeIterator<'_, V, DE, UE, F>,
     alloc: Global,
 ) -> Result<Vec<u32>, AllocError> {
@@ -36,6 +36,21 @@ pub fn indexes_of<V, DE, UE, F>(
     }
     indexes.sort()?;
     Ok(indexes)
+}
+
+/// What is given in a shape, unless memory was refused.
+pub fn listed<V, DE, UE, F>(
+    edges: Result<EdgesInShapeIterator<'_, V, DE, UE, F>, AllocError>,
+    vertices: Result<VerticesInShapeIterator<'_, V, DE, UE, F>, AllocError>,
+    alloc: Global,
+) -> Option<Found> {
+    let (Ok(edges), Ok(vertices)) = (edges, vertices) else {
+        return None;
+    };
+    match (ends_of(edges, alloc), indexes_of(vertices, alloc)) {
+        (Ok(edges), Ok(vertices)) => Some((edges, vertices)),
+        _ => None,
+    }
 }
 
 /// What is given between two corners.
@@ -48,14 +63,9 @@ pub fn found_in_rectangle<T: FloatTriangulation<Vertex = Point2<i64>>>(
     if validate_vertex(&lower).is_err() || validate_vertex(&upper).is_err() {
         return None;
     }
-    let edges = points
-        .get_edges_in_rectangle(lower, upper, &ExactTests, alloc)
-        .ok()?;
-    let edges = ends_of(edges, alloc).ok()?;
-    let vertices = points
-        .get_vertices_in_rectangle(lower, upper, &ExactTests, alloc)
-        .ok()?;
-    Some((edges, indexes_of(vertices, alloc).ok()?))
+    let edges = points.get_edges_in_rectangle(lower, upper, &ExactTests, alloc);
+    let vertices = points.get_vertices_in_rectangle(lower, upper, &ExactTests, alloc);
+    listed(edges, vertices, alloc)
 }
 
 /// What is given round a centre, by a squared radius.
@@ -68,12 +78,7 @@ pub fn found_in_circle<T: FloatTriangulation<Vertex = Point2<i64>>>(
     if validate_vertex(&center).is_err() || radius_2 < 0 {
         return None;
     }
-    let edges = points
-        .get_edges_in_circle(center, radius_2, &ExactTests, alloc)
-        .ok()?;
-    let edges = ends_of(edges, alloc).ok()?;
-    let vertices = points
-        .get_vertices_in_circle(center, radius_2, &ExactTests, alloc)
-        .ok()?;
-    Some((edges, indexes_of(vertices, alloc).ok()?))
+    let edges = points.get_edges_in_circle(center, radius_2, &ExactTests, alloc);
+    let vertices = points.get_vertices_in_circle(center, radius_2, &ExactTests, alloc);
+    listed(edges, vertices, alloc)
 }

@@ -28,6 +28,7 @@ no_line (c ∷ a) x (d ∷ b) k e = no_line a x b (All-tail (λ (z : ℕ). z ≢
 first_of : (line : List ℕ) (lines : List (List ℕ)) (rest : List ℕ) → text (line ∷ lines) ++ rest ≡ line ++ (10 ∷ (text lines ++ rest))
 first_of line lines rest = append_assoc (line ++ 10 ∷ []) (text lines) rest ∙ append_assoc line (10 ∷ []) (text lines ++ rest)
 
+-- equal bytes, each cut into lines and a rest without byte 10, are cut into the same lines and rest
 pub same_cut : (lines others : List (List ℕ)) (rest end : List ℕ) → All IsOneLine lines → All IsOneLine others → IsOneLine rest → IsOneLine end
     → text lines ++ rest ≡ text others ++ end → (lines ≡ others) × (rest ≡ end)
 same_cut [] [] rest end h k r s e = (refl, e)

@@ -24,9 +24,11 @@ use Rattle.triangulate_run.specs.Answer.{IsLeastDistance}
 pub vertex_in_range : (vs : List (Point2 ℤ)) (i : ℕ) (v : Point2 ℤ) → i < length (map position vs) → slice_get vs i ≡ Some v → All InRange (map position vs) → InRange (position v)
 vertex_in_range vs i v within e all = subst InRange (read_place position vs i v e) (All-get_or InRange (map position vs) i (record { x = pos 0; y = pos 0 }) within all)
 
+-- the squared distance of a vertex that is nearest to p is the least
 pub least_distance : (t : Triangulation) (p q : Point) (i : ℕ) (d : ℤ) → IsNearest t (whole p) i → point_at t.points i ≡ q → d ≡ gap (whole p) (whole q) → IsLeastDistance t p d
 least_distance t p q i d near at is = record { nearest = i; is_nearest = near; distance = is ∙ ap (λ (r : Point). gap (whole p) (whole r)) (sym at) }
 
+-- without vertices no index is that of a vertex
 pub no_vertex : (vs : List (Point2 ℤ)) → length vs ≡ 0 → (i : ℕ) → ¬ (i < length (map position vs))
 no_vertex vs none i h = omega (arith, none, h, length-map vs position)
 
@@ -77,6 +79,7 @@ module _ (points : List Point) (p : Point) (n : ℕ) where
   new_least d within is others =
       record { index = n; within = within; distance = is; least = one_more d others (omega (arith, ints, is)) }
 
+  -- with the distance of one point more the lesser of the two is the least so far
   pub least_goes_on : (least : Option ℤ) (here d : ℤ) → IsLeastSoFar points p n least → n < length points
       → here ≡ gap (whole p) (at points n) → IsLesser least here d → IsLeastSoFar points p (n + 1) (Some d)
   least_goes_on None here d none within is lesser =
@@ -103,6 +106,7 @@ least_of_all t p n d all least = record {
   distance = least.distance;
 }
 
+-- the least of all distances looked at is that of a nearest vertex; it is missing without vertices alone
 pub least_found : (t : Triangulation) (p : Point) (n count : ℕ) (least : Option ℤ) → count ≡ length t.points
     → count ≤ n → IsLeastSoFar t.points p n least → MatchOption least (count ≡ 0) (IsLeastDistance t p)
 least_found t p n count None is all none = omega (arith, none, all)

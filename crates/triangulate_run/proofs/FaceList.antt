@@ -10,7 +10,7 @@ use Rattle.plane.specs.Side.{Side, left, right, on, side, opposite, TurnsLeft}
 use Rattle.plane.specs.Tiling.{Face, Triangulation, IsFace, InsideCorners, AreApart, IsTiling, JoinsLine, face, vertex}
 use Rattle.plane.proofs.Means.{mean_of_three}
 use Rattle.plane.proofs.Sides.{side_swapped, side_turned}
-use Rattle.plane.proofs.Triangles.{turned_inside}
+use Rattle.plane.proofs.Triangles.{turned_inside, turned_face}
 use Rattle.triangulate_run.specs.declared.corners.Corners.{Corners}
 use Rattle.triangulate_run.specs.Corners.{corners, least_first, IsBefore}
 use Rattle.triangulate_run.specs.Answer.{IsFaceFromLeast, ListsFaces}
@@ -20,20 +20,25 @@ and_no : (b : Bool) → (b && false) ≡ false
 and_no true = refl
 and_no false = refl
 
+-- where a is the least of three corners, they are written from a on
 pub first_least : (a b c : ℕ) → a < b → a < c → least_first a b c ≡ corners a b c
 first_least a b c h k = rw (lt-ltb a b h, lt-ltb a c k) refl
 
+-- where b is the least of three corners, they are written from b on
 pub second_least : (a b c : ℕ) → b < c → b < a → least_first a b c ≡ corners b c a
 second_least a b c h k = rw (le-ltb a b (omega arith), lt-ltb b c h) refl
 
+-- where c is the least of three corners, they are written from c on
 pub third_least : (a b c : ℕ) → c < a → c < b → least_first a b c ≡ corners c a b
 third_least a b c h k = rw (le-ltb a c (omega arith), and_no (ltb a b), le-ltb b c (omega arith)) refl
 
+-- which of three corners is the least
 pub data Least (a b c : ℕ) : Type 0 where
   is_first : a < b → a < c → Least a b c
   is_second : b < c → b < a → Least a b c
   is_third : c < a → c < b → Least a b c
 
+-- one of three different corners is the least
 pub least : (a b c : ℕ) → a ≢ b → b ≢ c → c ≢ a → Least a b c
 least a b c p q r = go (cases_lt a b) (cases_lt b c) (cases_lt a c)
   where
@@ -55,11 +60,6 @@ no_turn u p h = unturned (side u u p) (side_swapped u u p) h
 turned : (u p q : Fraction) → TurnsLeft u p q → TurnsLeft p q u
 turned u p q h = side_turned u p q ∙ h
 
-pub turned_face : (t : Triangulation) (i j k : ℕ) → IsFace t i j k → IsFace t j k i
-turned_face t i j k (inl h) = inr (inr h)
-turned_face t i j k (inr (inl h)) = inl h
-turned_face t i j k (inr (inr h)) = inr (inl h)
-
 none_in : (t : Triangulation) → JoinsLine t → {f : Face} → Contains t.faces f → ⊥
 none_in t line h = absurd (omega (arith, h.1, ap length line.no_face))
 
@@ -74,6 +74,7 @@ apart_of t (inl tiles) = tiles.apart
 apart_of t (inr line) = λ i j d h k. absurd (omega (arith, k, ap length line.no_face))
 
 module _ (t : Triangulation) (tiles : IsTiling t) where
+  -- the corners of a face differ
   pub differ : (i j k : ℕ) → IsFace t i j k → (i ≢ j) × (j ≢ k) × (k ≢ i)
   differ i j k f =
       let h = turning_of t tiles i j k f in
@@ -84,6 +85,7 @@ module _ (t : Triangulation) (tiles : IsTiling t) where
         (λ e. no_turn (vertex t k) (vertex t j) (subst (λ n. TurnsLeft (vertex t k) (vertex t n) (vertex t j)) (sym e) h'')),
       )
 
+  -- a face with its least corner first is a face
   pub from_least_of : (i j k : ℕ) → IsFace t i j k → IsFaceFromLeast t (least_first i j k)
   from_least_of i j k f = let d = differ i j k f in elim (least i j k d.0 d.1 d.2) [
     | is_first h l ↦ rw (first_least i j k h l) (record { face = f; before_second = h; before_third = l })
@@ -95,6 +97,7 @@ module _ (t : Triangulation) (tiles : IsTiling t) where
   abbrev row : Face → Corners
   row f = least_first f.a f.b f.c
 
+  -- the faces, each with its least corner first
   abbrev pub rows : List Corners
   rows = map row t.faces
 
@@ -167,6 +170,7 @@ module _ (t : Triangulation) (tiles : IsTiling t) where
         | is_third h l ↦ (let m = middle (corners f.c f.a f.b) in rw (third_least f.a f.b f.c h l) (turned_inside p u v m (middle_inside (corners f.c f.a f.b))))
       ]
 
+  -- no two of them are the same
   pub rows_differ : AllPairs (λ c d. c ≢ d) rows
   rows_differ i j d h k = λ e.
       let f = get_or t.faces i nowhere in
@@ -178,6 +182,7 @@ module _ (t : Triangulation) (tiles : IsTiling t) where
       (subst (λ (c : Corners). InsideCorners t f.a f.b f.c (middle c)) same (inside_row f (face_at i within))) (inside_row g (face_at j below))
 
   -- ---- sorted
+  -- sorted, they are the list of the faces
   pub lists_faces : (list : List Corners) → IsPermutation rows list → AllPairs IsBefore list → ListsFaces t list
   lists_faces list moved sorted = record {
     faces = λ c. (

@@ -12,6 +12,7 @@ use Rattle.triangulate_run.specs.declared.points.SheetPoint.{SheetPoint}
 use Rattle.triangulate_run.specs.Points.{point_in}
 use Rattle.triangulate_run.proofs.Rule.{all_below, all_below_at, SidesAreTrue, CirclesAreTrue}
 
+-- the test whether each point of a list has y = 0
 unfoldable pub are_level : List SheetPoint → Bool
 are_level ps = all_below (λ i. int_eq (point_in ps i).y (pos 0)) (length ps)
 
@@ -29,6 +30,7 @@ module _ (ps : List SheetPoint) (level : are_level ps ≡ true) where
   level_side i j k hi hj hk = on_if (whole (point_in ps i)) (whole (point_in ps j)) (whole (point_in ps k))
       (level_bracket (point_in ps i) (point_in ps j) (point_in ps k) (level_at ps level i hi) (level_at ps level j hj) (level_at ps level k hk))
 
+  -- where all points have y = 0, a table without triples tells their sides
   pub level_sides_true : SidesAreTrue ps []
   level_sides_true i j k hi hj hk = sym (level_side i j k hi hj hk)
 

@@ -1,14 +1,15 @@
 -- Where a point is, as the replies write it: the lesser end first, the least corner first.
-use Rattle.std.proofs.Common.{◌≡◌, List, refl, ◌≢◌, ℕ, inl, inr, length, arith, sym, cond, ltb, lt-ltb, le-ltb, ◌≤◌, ◌<◌}
-use Rattle.std.specs.Prelude.{ℤ, ◌+ℤ◌, ◌*ℤ◌}
-use Rattle.std.proofs.lemmas.Int.{ints}
+use Rattle.std.proofs.Common.{◌≡◌, List, ◌≢◌, ℕ, inl, inr, length, arith, sym, cond, ltb, lt-ltb, le-ltb, ◌≤◌, ◌<◌}
+use Rattle.std.specs.Prelude.{ℤ, ◌*ℤ◌}
 use Rattle.plane.specs.Fraction.{Point, whole, Fraction, IsPositive, WithinSegment}
 use Rattle.std.proofs.lemmas.Bool.{cases_lt}
 use Rattle.plane.specs.Pairs.{EachPairOnce}
 use Rattle.plane.specs.Tiling.{Triangulation, IsEdge, IsTiling, vertex}
 use Rattle.plane.specs.Location.{IsLocation, on_edge, on_face}
 use Rattle.plane.proofs.Means.{two_weights, mean_of_two}
-use Rattle.plane.proofs.Triangles.{turned_inside}
+use Rattle.plane.proofs.Signs.{swapped_sum}
+use Rattle.plane.proofs.Triangles.{turned_inside, turned_face}
+use Rattle.plane_segments.proofs.Items.Begins.{edge_flipped}
 use Rattle.triangulate_run.specs.Corners.{least_first}
 use Rattle.triangulate_run.specs.Answer.{AreSoMany, IsThere, MayLocate}
 use Rattle.triangulate_run.specs.Points.{IsListed}
@@ -16,10 +17,7 @@ use Rattle.triangulate_run.specs.declared.points.SheetPoint.{SheetPoint}
 use Rattle.triangulate_run.specs.declared.corners.Corners.{Corners}
 use Rattle.triangulate_run.specs.declared.reply.Reply.{Reply}
 use Rattle.triangulate_run.specs.declared.reply.Reply.TheVariants as reply
-use Rattle.triangulate_run.proofs.FaceList.{is_first, is_second, is_third, least, first_least, second_least, third_least, turned_face, differ, from_least_of}
-
-swapped_sum : (n x y : ℤ) → n ≡ x +ℤ y → n ≡ y +ℤ x
-swapped_sum n x y e = omega (arith, ints)
+use Rattle.triangulate_run.proofs.FaceList.{is_first, is_second, is_third, least, first_least, second_least, third_least, differ, from_least_of}
 
 within_swapped : (u v p : Fraction) → WithinSegment u v p → WithinSegment v u p
 within_swapped u v p h =
@@ -36,17 +34,15 @@ within_swapped u v p h =
       w = swapped_sum (t.n *ℤ p.w) (t.k *ℤ u.w) (t.l *ℤ v.w) t.w;
     })
 
-edge_swapped : (t : Triangulation) (i j : ℕ) → IsEdge t i j → IsEdge t j i
-edge_swapped t i j (inl h) = inr h
-edge_swapped t i j (inr h) = inl h
-
 module _ (t : Triangulation) (p : Fraction) where
+  -- a point on an edge is on it by the ends in the other order, too
   pub on_edge_back : (i j : ℕ) → IsLocation t p (on_edge i j) → IsLocation t p (on_edge j i)
-  on_edge_back i j h = (edge_swapped t i j h.0, within_swapped (vertex t i) (vertex t j) p h.1)
+  on_edge_back i j h = (edge_flipped t i j h.0, within_swapped (vertex t i) (vertex t j) p h.1)
 
   on_face_turned : (i j k : ℕ) → IsLocation t p (on_face i j k) → IsLocation t p (on_face j k i)
   on_face_turned i j k h = (turned_face t i j k h.0, turned_inside (vertex t i) (vertex t j) (vertex t k) p h.1)
 
+  -- a point in a face is in it by the corners from the least one on
   pub on_face_from_least : IsTiling t → (i j k : ℕ) → IsLocation t p (on_face i j k) → let c = least_first i j k in IsLocation t p (on_face c.first c.second c.third)
   on_face_from_least tiles i j k h = let d = differ t tiles i j k h.0 in elim (least i j k d.0 d.1 d.2) [
     | is_first a b ↦ rw (first_least i j k a b) h
@@ -66,10 +62,12 @@ once_of : (t : Triangulation) → IsTiling t → EachPairOnce t.edges
 once_of t (inl tiles) = tiles.once
 once_of t (inr line) = line.once
 
+-- the number of edges in the list of a tiling is that of its edges, each counted once
 pub edges_counted : (t : Triangulation) → IsTiling t → (n : ℕ) → n ≡ length t.edges → AreSoMany t.edges n
 edges_counted t tiles n e = record { different = t.edges; same = λ i j. (λ h. h, λ h. h); once = once_of t tiles; number = e }
 
 -- ---- as replies
+-- where p is within an edge, the reply with its ends, the lesser first, says so
 pub edge_there : (t : Triangulation) → IsTiling t → (p : Point) (i j x y : ℕ) (r : Reply) → x ≡ i → y ≡ j → r ≡ cond (ltb x y) (reply.Edge x y) (reply.Edge y x)
     → IsLocation t (whole p) (on_edge i j) → IsThere t p r
 edge_there t tiles p i j x y r ex ey e h = rw (e, ex, ey) (elim (cases_lt i j) [
@@ -80,9 +78,11 @@ edge_there t tiles p i j x y r ex ey e h = rw (e, ex, ey) (elim (cases_lt i j) [
     lesser : (i j : ℕ) → j ≤ i → i ≢ j → j < i
     lesser i j more apart = grind arith
 
+-- where p is inside a face, the reply with its corners from the least on says so
 pub face_there : (t : Triangulation) → IsTiling t → (p : Point) (i j k : ℕ) (c : Corners) → c ≡ least_first i j k → IsLocation t (whole p) (on_face i j k) → IsThere t p (reply.Face c)
 face_there t tiles p i j k c e h = rw e (on_face_from_least t (whole p) tiles i j k h, from_least_of t tiles i j k h.0)
 
+-- a reply that says where a listed point is may be given
 pub located : (points : List SheetPoint) (t : Triangulation) (p : Point) (r : Reply) → IsListed points p → IsThere t p r → MayLocate points t p r
 located points t p reply.BadLine listed there = absurd there
 located points t p reply.UnknownPoint listed there = absurd there

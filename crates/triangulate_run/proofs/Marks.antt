@@ -75,6 +75,7 @@ module _ {D U F : Type 0} (s : State (Point2 ℤ) D (CdtEdge U) F) (kept : IsTri
       at_pairs (λ h. let e = one_edge position (contents_of s) kept (get_or edges j 0) (get_or edges i 0)
       (inside j j_in) (inside i i_in) h in omega (arith, less, e))
 
+  -- the number of the pairs of constraints is that of the constraints
   pub constraints_counted : (n : ℕ) → n ≡ length (constraints_of s) → AreSoMany (constraints_of s) n
   constraints_counted n is =
       record { different = constraints_of s; same = λ i j. (λ h. h, λ h. h); once = once; number = is }

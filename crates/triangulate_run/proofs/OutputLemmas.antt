@@ -10,18 +10,21 @@ use Rattle.std.specs.Prelude.{OnOk, OnErr}
 use Rattle.watched.specs.declared.Watched.{Watched}
 use Rattle.watched.specs.Watched.{inner_of, has_failed}
 
+-- a text that is written behind another one is written with it
 pub appends_more : (a b c : Option (List ℕ)) (s t : List ℕ) → Appends a b s → Appends b c t → Appends a c (s ++ t)
 appends_more None b c s t h k = tt
 appends_more (Some xs) None c s t h k = absurd h
 appends_more (Some xs) (Some ys) None s t h k = absurd k
 appends_more (Some xs) (Some ys) (Some zs) s t h k = k ∙ ap (λ us. us ++ t) h ∙ append_assoc xs s t
 
+-- a text that was written is written still where the contents stay
 pub appends_keep : (a b c : Option (List ℕ)) (s : List ℕ) → Appends a b s → Keeps b c → Appends a c s
 appends_keep None b c s h k = tt
 appends_keep (Some xs) None c s h k = absurd h
 appends_keep (Some xs) (Some ys) None s h k = absurd k
 appends_keep (Some xs) (Some ys) (Some zs) s h k = k ∙ h
 
+-- where the contents stay, the empty text was written
 pub appends_nil : (a : Option (List ℕ)) → Appends a a []
 appends_nil None = tt
 appends_nil (Some xs) = sym (append-nil xs)
@@ -133,14 +136,17 @@ works_if_ok contents w0 w1 (Err x) text (wrote, failed) = tt
 
 -- ---- three texts, one behind another
 module _ (a b c : Option (List ℕ)) (held mid s t u : List ℕ) where
+  -- where the writer fails at the first, a beginning of all three was put
   pub first_fails : AppendsPart a b (held ++ s) → AppendsPart a b (held ++ (s ++ (t ++ u)))
   first_fails x = subst (λ (ys : List ℕ). AppendsPart a b ys) (append_assoc held s (t ++ u))
       (part_longer a b (held ++ s) (t ++ u) x)
 
+  -- so it was where the first was passed on and the writer fails at the second
   pub second_fails : Passes a b held mid s → AppendsPart b c (mid ++ t) → AppendsPart a c (held ++ (s ++ (t ++ u)))
   second_fails x y = passes_part a b c held mid s (t ++ u) x
       (subst (λ (ys : List ℕ). AppendsPart b c ys) (append_assoc mid t u) (part_longer b c (mid ++ t) u y))
 
+-- a text that is put, or in part where the writer fails, behind two others is put with them
 pub third_behind : {W T E : Type 0} (contents : W → Option (List ℕ)) (w0 w1 w2 w3 : Watched W) (r : Result T E)
     (held mid then kept s t u : List ℕ)
     → Passes (contents (inner_of w0)) (contents (inner_of w1)) held mid s

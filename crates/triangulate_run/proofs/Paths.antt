@@ -43,7 +43,7 @@ leads points m i j (e ∷ es) (within, from, next, rest) =
     (from, neighbours points i j i (origin m (rev e)) next, leads points m (origin m (rev e)) j es rest)
 
 -- they are edges of the mesh
-pub leads_within : (points : List Point) (m : Mesh) (i j : ℕ) (edges : List ℕ) → LeadAlong points m i j edges
+leads_within : (points : List Point) (m : Mesh) (i j : ℕ) (edges : List ℕ) → LeadAlong points m i j edges
     → All (λ h. h < length m.half_edges) edges
 leads_within points m i j [] h = All-nil (λ h. h < length m.half_edges)
 leads_within points m i j (e ∷ es) (within, from, next, rest) =
@@ -57,6 +57,7 @@ can_add at s i j h = λ a b joined crossing. h (λ can. can a b joined crossing)
 pub no_edges : (edges : List ℕ) (n : ℕ) (b : Bool) → length edges ≡ n → b ≡ (n == 0) → b ≡ true → edges ≡ []
 no_edges edges n b is e t = nil_from_length edges (is ∙ eqb-true n 0 (sym e ∙ t))
 
+-- a path whose number of edges is not 0 has edges
 pub some_edges : (edges : List ℕ) (n : ℕ) (b : Bool) → length edges ≡ n → b ≡ (n == 0) → b ≡ false → edges ≢ []
 some_edges edges n b is e f none = eqb-false n 0 (sym e ∙ f) (sym is ∙ ap length none)
 
@@ -64,6 +65,7 @@ some_edges edges n b is e f none = eqb-false n 0 (sym e ∙ f) (sym is ∙ ap le
 abbrev pub edge_piece : Mesh → ℕ → List ℕ
 edge_piece m h = piece_text (origin m h, origin m (rev h))
 
+-- the texts of the edges, by the mesh, are those of the pairs of their ends
 pub pieces_text : (m : Mesh) (edges : List ℕ) → flat_map (edge_piece m) edges ≡ flat_map piece_text (ends_in m edges)
 pieces_text m [] = refl
 pieces_text m (e ∷ es) = ap (λ ys. edge_piece m e ++ ys) (pieces_text m es)
@@ -91,9 +93,11 @@ module _ {D U F : Type 0} (old new : State (Point2 ℤ) D (CdtEdge U) F) (i j : 
       free : CanAdd position (constrained old) i j
       free = can_add position (constrained old) i j (λ barred. some (adds.refused (inr barred)).0)
 
+      -- each of the edges is one of the mesh
       pub edges_within : All (λ h. h < length new.mesh.half_edges) edges
       edges_within = leads_within (map position new.vertices) new.mesh i j edges (adds.along apart free)
 
+      -- the stage has the path with the ends of these edges
       pub joins_some : AddsPath (stage_by constraint_edges old) i j (ends_in new.mesh edges)
           (stage_by constraint_edges new)
       joins_some =

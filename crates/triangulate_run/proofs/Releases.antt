@@ -1,10 +1,11 @@
 -- A constraint that is released, by the edge between its ends.
-use Rattle.std.proofs.Common.{◌≡◌, ℕ, ◌*◌, ◌/◌, ◌<◌, Bool, true, false, List, [], length, refl, inl, inr, ap, sym, subst, arith}
+use Rattle.std.proofs.Common.{◌≡◌, ℕ, ◌*◌, ◌/◌, ◌<◌, Bool, true, false, length, refl, inl, inr, ap, sym, subst}
 use Rattle.std.specs.Prelude.{◌↔◌, ℤ, Contains, Result, Ok, Err}
 use Rattle.half_edge_mesh.specs.Mesh.{origin, rev}
 use Rattle.plane.specs.Pairs.{Joins, IsSamePair}
 use Rattle.plane.specs.Plain.{Plain, Releases}
 use Rattle.plane.specs.Tiling.{IsEdge}
+use Rattle.plane.proofs.Indexes.{same_joined}
 use Rattle.plane_edits.proofs.Legalization.Flipping.{joins_or_not}
 use Rattle.mesh_embedding.proofs.EdgePairs.{edge_joins, joins_edge}
 use Rattle.delaunay_core.specs.declared.point.Point2.{Point2}
@@ -27,10 +28,12 @@ use Rattle.triangulate_run.proofs.Marks.{contents_of}
 
 -- ---- edges between two vertices
 module _ {D U F : Type 0} (s : State (Point2 ℤ) D U F) (kept : IsTriangulated position s) (i j : ℕ) where
+  -- where no directed edge goes from i to j, they are not joined by an edge
   pub no_edge : AreNotJoined s i j → ¬ IsEdge (triangulation_of position s) i j
   no_edge none joins = let e = joins_edge s.mesh kept.valid.sound i j joins in
       none e.0 (subst (λ (n : ℕ). e.0 < n) (sym kept.fits.directed_fit) e.1) e.2 e.3
 
+  -- a directed edge from i to j is an edge between them
   pub is_edge : (h : ℕ) → h < length s.directed → origin s.mesh h ≡ i → origin s.mesh (rev h) ≡ j
       → IsEdge (triangulation_of position s) i j
   is_edge h within from to =
@@ -38,24 +41,11 @@ module _ {D U F : Type 0} (s : State (Point2 ℤ) D U F) (kept : IsTriangulated 
       subst (λ (b : ℕ). IsEdge (triangulation_of position s) i b) to
       (subst (λ (a : ℕ). IsEdge (triangulation_of position s) a (origin s.mesh (rev h))) from here)
 
--- no list has a pair of an empty one
-pub none_joined : (i j : ℕ) → ¬ Joins [] i j
-none_joined i j (inl h) = let within = h.1 in absurd (omega (arith, within))
-none_joined i j (inr h) = let within = h.1 in absurd (omega (arith, within))
-
 -- ---- a pair by its ends in the other order
-joins_same : (pairs : List (ℕ × ℕ)) (x y i j : ℕ) → IsSamePair i j x y → Joins pairs x y → Joins pairs i j
-joins_same pairs x y i j (inl (e, f)) h =
-    subst (λ (b : ℕ). Joins pairs i b) (sym f) (subst (λ (a : ℕ). Joins pairs a y) (sym e) h)
-joins_same pairs x y i j (inr (e, f)) (inl h) =
-    inr (subst (λ (b : ℕ). Contains pairs (j, b)) (sym e) (subst (λ (a : ℕ). Contains pairs (a, y)) (sym f) h))
-joins_same pairs x y i j (inr (e, f)) (inr h) =
-    inl (subst (λ (b : ℕ). Contains pairs (i, b)) (sym f) (subst (λ (a : ℕ). Contains pairs (a, x)) (sym e) h))
-
 releases_same : {V : Type 0} (at : V → _) (old new : Plain V) (x y i j : ℕ)
     → ((u v : ℕ) → IsSamePair u v x y ↔ IsSamePair u v i j) → Releases at old new x y → Releases at old new i j
 releases_same at old new x y i j same r = record {
-  there = joins_same old.constraints x y i j ((same i j).1 (inl (refl, refl))) r.there;
+  there = same_joined old.constraints i j x y ((same i j).1 (inl (refl, refl))) r.there;
   vertices = r.vertices;
   constraints = λ a b. (
     (λ h. let p = (r.constraints a b).0 h in (p.0, λ q. p.1 ((same a b).1 q))),
@@ -77,6 +67,7 @@ module _ {D U F E : Type 0} (old new : State (Point2 ℤ) D (CdtEdge U) F) (kept
   ends a b = subst (λ (n : ℕ). IsSamePair a b (origin old.mesh (2 * n)) (origin old.mesh (rev (2 * n)))
       ↔ IsSamePair a b i j) (sym half) (half_ends old.mesh h i j a b from to)
 
+  -- where the result tells so, the reply may be that it was released
   pub is_released : r ≡ Ok true
       → MayRelease (stage_by constraint_edges old) i j Released (stage_by constraint_edges new)
   is_released is =
@@ -84,6 +75,7 @@ module _ {D U F E : Type 0} (old new : State (Point2 ℤ) D (CdtEdge U) F) (kept
       releases_same position (constrained old) (constrained new) (origin old.mesh (2 * k))
       (origin old.mesh (rev (2 * k))) i j ends (told.plain (told.told.0 refl))
 
+  -- where it tells that there was none, the reply may be so
   pub is_none : r ≡ Ok false
       → MayRelease (stage_by constraint_edges old) i j NotConstrained (stage_by constraint_edges new)
   is_none is =
@@ -94,6 +86,7 @@ module _ {D U F E : Type 0} (old new : State (Point2 ℤ) D (CdtEdge U) F) (kept
         ap (stage_by constraint_edges) (told.none not).1,
       )
 
+  -- where it is an error, the reply may be that memory was refused
   pub not_released : (e : E) → r ≡ Err e
       → MayRelease (stage_by constraint_edges old) i j (Refused OutOfMemory) (stage_by constraint_edges new)
   not_released e is =

@@ -29,24 +29,28 @@ pub record IsRunning {R W : Type 0} (points : List SheetPoint) (remaining : R �
   pub reader_works : has_failed r1 ≡ false
   pub writer_works : has_failed w1 ≡ false
 
-pub consumes_nil : (a : Option (List ℕ)) → Consumes a a []
+-- where what is left to read stays, the empty text was read
+consumes_nil : (a : Option (List ℕ)) → Consumes a a []
 consumes_nil None = tt
 consumes_nil (Some xs) = refl
 
-pub consumes_more : (a b c : Option (List ℕ)) (s t : List ℕ) → Consumes a b s → Consumes b c t → Consumes a c (s ++ t)
+-- a text that is read behind another one is read with it
+consumes_more : (a b c : Option (List ℕ)) (s t : List ℕ) → Consumes a b s → Consumes b c t → Consumes a c (s ++ t)
 consumes_more None b c s t h k = tt
 consumes_more (Some xs) None c s t h k = absurd h
 consumes_more (Some xs) (Some ys) None s t h k = absurd k
 consumes_more (Some xs) (Some ys) (Some zs) s t h k = h ∙ ap (λ us. s ++ us) k ∙ sym (append_assoc s t zs)
 
+-- a byte that is read and equal to 10 is byte 10 read
 pub consumes_break : (a b : Option (List ℕ)) (byte : ℕ) → byte ≡ 10 → Consumes a b (byte ∷ []) → Consumes a b (10 ∷ [])
 consumes_break a b byte e h = subst (λ (x : ℕ). Consumes a b (x ∷ [])) e h
 
-pub kept_push : (line : List ℕ) (b : ℕ) → push_kept (kept line) b ≡ kept (line ++ b ∷ [])
+-- a line that is kept and gets a byte is the longer line as it is kept
+kept_push : (line : List ℕ) (b : ℕ) → push_kept (kept line) b ≡ kept (line ++ b ∷ [])
 kept_push line b = grind (arith, nat_tests, length_push)
 
 -- one more line is answered
-pub answers_more : (points : List SheetPoint) (old : Stage) (lines : List (List ℕ)) (text : List ℕ) (mid : Stage) (line first : List ℕ) (new : Stage)
+answers_more : (points : List SheetPoint) (old : Stage) (lines : List (List ℕ)) (text : List ℕ) (mid : Stage) (line first : List ℕ) (new : Stage)
     → AnswersAll points old lines text mid → Answers points mid line first new → Fits new → AnswersAll points old (lines ++ line ∷ []) (text ++ first) new
 answers_more points old [] text mid line first new h k fits =
     (first, [], new, ap (λ ys. ys ++ first) h.0 ∙ sym (append-nil first), subst (λ (m : Stage). Answers points m line first new) h.1 k, fits, (refl, refl))
@@ -69,6 +73,7 @@ cut_line input lines rest cut = record {
   last = All-nil (λ (x : ℕ). x ≢ 10);
 }
 
+-- a run begins with nothing read, nothing written and no vertices
 pub start : {R W : Type 0} (remaining : R → Option (List ℕ)) (contents : W → Option (List ℕ)) (r : Watched R) (w : Watched W) (line : Option (List ℕ)) (points : List SheetPoint) (stage : Stage)
     → line ≡ Some [] → stage ≡ first_stage → has_failed r ≡ false → has_failed w ≡ false → IsRunning points remaining contents r r w w line stage
 start remaining contents r w line points stage e f hr hw = record {
@@ -85,6 +90,7 @@ start remaining contents r w line points stage e f hr hw = record {
   writer_works = hw;
 }
 
+-- a run goes on where one more byte, which ends no line, is read and kept
 pub byte_more : {R W : Type 0} {remaining : R → Option (List ℕ)} {contents : W → Option (List ℕ)} {r0 r1 : Watched R} {w0 w1 : Watched W} {line : Option (List ℕ)} {points : List SheetPoint} {stage : Stage}
     → IsRunning points remaining contents r0 r1 w0 w1 line stage → (r2 : Watched R) (b : ℕ) (after : Option (List ℕ))
     → Consumes (remaining (inner_of r1)) (remaining (inner_of r2)) (b ∷ []) → has_failed r2 ≡ false → b ≢ 10 → after ≡ push_kept line b
@@ -103,6 +109,7 @@ byte_more s r2 b after took works ne e = record {
   writer_works = s.writer_works;
 }
 
+-- a run goes on where the end of a line is read and its answer is written
 pub line_more : {R W : Type 0} {remaining : R → Option (List ℕ)} {contents : W → Option (List ℕ)} {r0 r1 : Watched R} {w0 w1 : Watched W} {line : Option (List ℕ)} {points : List SheetPoint} {stage : Stage}
     (s : IsRunning points remaining contents r0 r1 w0 w1 line stage) → (r2 : Watched R) (w2 : Watched W) (first : List ℕ) (new : Stage) (after : Option (List ℕ))
     → Consumes (remaining (inner_of r1)) (remaining (inner_of r2)) (10 ∷ []) → has_failed r2 ≡ false
@@ -125,6 +132,7 @@ line_more {points = points} {stage = stage} s r2 w2 first new after took works a
 part_behind : (a b c : Option (List ℕ)) (s t : List ℕ) → Appends a b s → AppendsPart b c t → AppendsPart a c (s ++ t)
 part_behind a b c s t h p = subst (λ (ys : List ℕ). AppendsPart a c (s ++ ys)) (append-nil t) (part_more a b c s t [] h p)
 
+-- a run ends where the writer fails within the answer to a line
 pub line_fault : {R W : Type 0} {remaining : R → Option (List ℕ)} {contents : W → Option (List ℕ)} {r0 r1 : Watched R} {w0 w1 : Watched W} {line : Option (List ℕ)} {points : List SheetPoint} {stage : Stage}
     (s : IsRunning points remaining contents r0 r1 w0 w1 line stage) → (r2 : Watched R) (w2 : Watched W) (first : List ℕ) (new : Stage)
     → Consumes (remaining (inner_of r1)) (remaining (inner_of r2)) (10 ∷ []) → has_failed r2 ≡ false
@@ -148,6 +156,7 @@ line_fault {points = points} {stage = stage} s r2 w2 first new took works answer
   writer_failed = failed;
 }
 
+-- a run ends where the writer fails within what is written at the end of the input
 pub end_fault : {R W : Type 0} {remaining : R → Option (List ℕ)} {contents : W → Option (List ℕ)} {r0 r1 : Watched R} {w0 w1 : Watched W} {line : Option (List ℕ)} {points : List SheetPoint} {stage : Stage}
     (s : IsRunning points remaining contents r0 r1 w0 w1 line stage) → (r2 : Watched R) (w2 : Watched W)
     → Consumes (remaining (inner_of r1)) (remaining (inner_of r2)) [] → has_failed r2 ≡ false
@@ -171,6 +180,7 @@ end_fault {points = points} {stage = stage} s r2 w2 took works wrote failed = re
   writer_failed = failed;
 }
 
+-- a run ends where the input does and what is written at its end is written
 pub end_more : {R W : Type 0} {remaining : R → Option (List ℕ)} {contents : W → Option (List ℕ)} {r0 r1 : Watched R} {w0 w1 : Watched W} {line : Option (List ℕ)} {points : List SheetPoint} {stage : Stage}
     (s : IsRunning points remaining contents r0 r1 w0 w1 line stage) → (r2 : Watched R) (w2 : Watched W)
     → Consumes (remaining (inner_of r1)) (remaining (inner_of r2)) [] → IsAtEnd (remaining (inner_of r2)) → has_failed r2 ≡ false

@@ -50,6 +50,7 @@ module _ (list : List Corners) (apart : AllPairs (λ c d. c ≢ d) list) (up : I
   rises : AllPairs IsBefore list
   rises i j d h k = subst (λ (n : ℕ). IsBefore (get_or list i d) (get_or list n d)) {x = i + (j - (i + 1)) + 1} {y = j} (omega arith) (far i (j - (i + 1)) d (omega arith))
 
+-- faces that differ come strictly one before another once a sort has put them in order
 pub sorted_rises : {T E : Type 0} (r : Result T E) (old new : List Corners) → IsPermutation old new → OnOk r (IsSorted ((ord.ghosts).cmp) new) → OnOk r (AllPairs (λ c d. c ≢ d) old → AllPairs IsBefore new)
 sorted_rises (Ok x) old new moved up = λ apart. rises new (differ_moved old new moved apart) up
 sorted_rises (Err x) old new moved up = tt

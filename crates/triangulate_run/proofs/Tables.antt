@@ -5,38 +5,47 @@ use Rattle.triangulate_run.specs.declared.table.TheConstants.{G_POINTS, B_POINTS
 use Rattle.triangulate_run.proofs.Rule.{sides_agree, side_agrees, circles_agree, circle_agrees}
 use Rattle.triangulate_run.proofs.Level.{are_level}
 
+-- what the table of sheet G tells of sides passes the test
 pub g_sides : sides_agree G_POINTS GRID_CIRCLES ≡ true
 unfolding sides_agree side_agrees side
 g_sides = refl
 
+-- what the table of sheet G tells of circles passes the test
 pub g_circles : circles_agree G_POINTS GRID_CIRCLES ≡ true
 unfolding circles_agree circle_agrees
 g_circles = refl
 
+-- what the table of sheet B tells of sides passes the test
 pub b_sides : sides_agree B_POINTS GRID_CIRCLES ≡ true
 unfolding sides_agree side_agrees side
 b_sides = refl
 
+-- what the table of sheet B tells of circles passes the test
 pub b_circles : circles_agree B_POINTS GRID_CIRCLES ≡ true
 unfolding circles_agree circle_agrees
 b_circles = refl
 
+-- what the table of sheet L tells of sides passes the test
 pub l_sides : sides_agree L_POINTS L_CIRCLES ≡ true
 unfolding sides_agree side_agrees side
 l_sides = refl
 
+-- what the table of sheet L tells of circles passes the test
 pub l_circles : circles_agree L_POINTS L_CIRCLES ≡ true
 unfolding circles_agree circle_agrees
 l_circles = refl
 
+-- what the table of sheet X tells of sides passes the test
 pub x_sides : sides_agree X_POINTS X_CIRCLES ≡ true
 unfolding sides_agree side_agrees side
 x_sides = refl
 
+-- what the table of sheet X tells of circles passes the test
 pub x_circles : circles_agree X_POINTS X_CIRCLES ≡ true
 unfolding circles_agree circle_agrees
 x_circles = refl
 
+-- all points of sheet R have y = 0
 pub r_level : are_level R_POINTS ≡ true
 unfolding are_level
 r_level = refl

@@ -14,7 +14,8 @@ use Rattle.triangulate_run.proofs.Rule.{SidesAreTrue, CirclesAreTrue, sides_true
 use Rattle.triangulate_run.proofs.Level.{level_sides_true, level_circles_true}
 use Rattle.triangulate_run.proofs.Tables.{g_sides, g_circles, b_sides, b_circles, l_sides, l_circles, x_sides, x_circles, r_level}
 
-pub sides_are_true : (s : Sheet) → SidesAreTrue (points_of s) (circles_of s)
+-- the side that the table of a sheet tells of three of its points is their side in the plane
+sides_are_true : (s : Sheet) → SidesAreTrue (points_of s) (circles_of s)
 unfolding points_of circles_of
 sides_are_true G = sides_true G_POINTS GRID_CIRCLES g_sides
 sides_are_true B = sides_true B_POINTS GRID_CIRCLES b_sides
@@ -22,7 +23,8 @@ sides_are_true R = level_sides_true R_POINTS r_level
 sides_are_true L = sides_true L_POINTS L_CIRCLES l_sides
 sides_are_true X = sides_true X_POINTS X_CIRCLES x_sides
 
-pub circles_are_true : (s : Sheet) → CirclesAreTrue (points_of s) (circles_of s)
+-- what the table of a sheet tells of circles of its sites holds in the plane
+circles_are_true : (s : Sheet) → CirclesAreTrue (points_of s) (circles_of s)
 unfolding points_of circles_of
 circles_are_true G = circles_true G_POINTS GRID_CIRCLES (sides_true G_POINTS GRID_CIRCLES g_sides) g_circles
 circles_are_true B = circles_true B_POINTS GRID_CIRCLES (sides_true B_POINTS GRID_CIRCLES b_sides) b_circles
@@ -34,6 +36,7 @@ circles_are_true X = circles_true X_POINTS X_CIRCLES (sides_true X_POINTS X_CIRC
 pub side_from : (s : Sheet) (circles : List Circle) (r : Side) (a b c : Point) (i j k : ℕ) → circles ≡ circles_of s → IsAt (points_of s) i a → IsAt (points_of s) j b → IsAt (points_of s) k c → r ≡ side_in circles i j k → r ≡ side (whole a) (whole b) (whole c)
 side_from s circles r a b c i j k table ha hb hc e = rw (← ha.1, ← hb.1, ← hc.1) (e ∙ ap (λ t. side_in t i j k) table ∙ sides_are_true s i j k ha.0 hb.0 hc.0)
 
+-- the answer of the table tells whether site q is inside the circle of three sites that turn left
 pub inside_from : (s : Sheet) (circles : List Circle) (r : Bool) (a b c q : Point) (i j k l : ℕ) → circles ≡ circles_of s → IsSiteAt (points_of s) i a → IsSiteAt (points_of s) j b → IsSiteAt (points_of s) k c → IsSiteAt (points_of s) l q
     → TurnsLeft (whole a) (whole b) (whole c) → r ≡ is_inside_in circles i j k l → IsTrue r ↔ InsideCircle (whole a) (whole b) (whole c) (whole q)
 inside_from s circles r a b c q i j k l table ha hb hc hq turns e =

@@ -24,6 +24,7 @@ pub record PutsSome {V D U F P S : Type 0} (at : V → Point) (number : S → �
   pub are_left : AreLeft at number it rest
   pub passes : Passes before now held kept (flat_map next_text done)
 
+-- of any items that were left before, the first have been put, and the others are left now
 abbrev pub PutsEach : {V D U F P S : Type 0} → (V → Point) → (S → ℤ) → Option (List ℕ) → Option (List ℕ) → List ℕ
     → List ℕ → LineIntersectionIterator V D U F P S → LineIntersectionIterator V D U F P S → Type 0
 PutsEach at number before now held kept old it = (items : List Item) → AreLeft at number old items
@@ -31,6 +32,7 @@ PutsEach at number before now held kept old it = (items : List Item) → AreLeft
 
 module _ {V D U F P S : Type 0} (at : V → Point) (number : S → ℤ) (a b c : Option (List ℕ)) (held mid kept : List ℕ)
     (old it after : LineIntersectionIterator V D U F P S) where
+  -- at the beginning nothing has been put, and all items are left
   pub puts_begin : PutsEach at number a a held held old old
   puts_begin = λ items left. record { done = []; rest = items; all = refl; are_left = left; passes = passes_nil a held }
 
@@ -39,6 +41,7 @@ module _ {V D U F P S : Type 0} (at : V → Point) (number : S → ℤ) (a b c :
   text_more done m = flat_map-append next_text done (m ∷ [])
       ∙ ap (λ ys. flat_map next_text done ++ ys) (append-nil (next_text m))
 
+  -- the next item is put, and the others are left
   pub puts_one : PutsEach at number a b held mid old it → (x : Intersection V D U F)
       → GivesNext at number it (Some x) after
       → Passes b c mid kept (next_text (item_in x)) → PutsEach at number a c held kept old after
@@ -54,6 +57,7 @@ module _ {V D U F P S : Type 0} (at : V → Point) (number : S → ℤ) (a b c :
             (passes_more a b c held mid kept (flat_map next_text p.done) (next_text (item_in x)) p.passes put);
       }
 
+  -- where no item is left, the text of all has been put
   pub puts_end : PutsEach at number a b held mid old it → GivesNext at number it None after → (items : List Item)
       → AreLeft at number old items → Passes a b held mid (flat_map next_text items)
   puts_end so_far step items left =
@@ -62,6 +66,7 @@ module _ {V D U F P S : Type 0} (at : V → Point) (number : S → ℤ) (a b c :
       subst (λ (ys : List Item). Passes a b held mid (flat_map next_text ys))
       (sym (p.all ∙ ap (λ ys. p.done ++ ys) none ∙ append-nil p.done)) p.passes
 
+  -- where the writer fails at the next item, a beginning of the text of all was put
   pub puts_part : PutsEach at number a b held mid old it → (x : Intersection V D U F)
       → GivesNext at number it (Some x) after
       → AppendsPart b c (mid ++ next_text (item_in x)) → (items : List Item) → AreLeft at number old items
@@ -99,12 +104,14 @@ module _ {V D U F P S : Type 0} (at : V → Point) (number : S → ℤ) (it afte
           (subst X (sym (append_assoc (item_text (item_in x)) (flat_map next_text s.0) (codes "\n"))) (all s.0 s.2))
 
       module _ (a b c : Option (List ℕ)) (held mid : List ℕ) where
+        -- where the writer fails at the first item, a beginning of the line was put
         pub line_first_fails : AppendsPart a b (held ++ item_text (item_in x)) → (items : List Item)
             → AreLeft at number it items → AppendsPart a b (held ++ line_text items)
         line_first_fails part = by_first (λ t. AppendsPart a b (held ++ t))
             (λ others left. first_fails a b c held mid (item_text (item_in x)) (flat_map next_text others)
             (codes "\n") part)
 
+        -- so it was where the first item was passed on and the writer fails at the others
         pub line_others_fail : Passes a b held mid (item_text (item_in x))
             → ((others : List Item) → AreLeft at number after others → AppendsPart b c (mid ++ flat_map next_text others))
             → (items : List Item) → AreLeft at number it items → AppendsPart a c (held ++ line_text items)
@@ -113,6 +120,7 @@ module _ {V D U F P S : Type 0} (at : V → Point) (number : S → ℤ) (it afte
             (λ others left. second_fails a b c held mid (item_text (item_in x)) (flat_map next_text others)
             (codes "\n") first (part others left))
 
+      -- the first item, the others and the end of the line are put one after another: the line is put
       pub line_ends : {W T E : Type 0} (contents : W → Option (List ℕ)) (w0 w1 w2 w3 : Watched W) (r : Result T E)
           (held mid then kept : List ℕ)
           → Passes (contents (inner_of w0)) (contents (inner_of w1)) held mid (item_text (item_in x))

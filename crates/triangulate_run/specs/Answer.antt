@@ -23,6 +23,7 @@ use Rattle.triangulate_run.specs.Corners.{IsBefore}
 use Rattle.triangulate_run.specs.Reply.{reply_text, path_text, line_text}
 use Rattle.triangulate_run.specs.Stage.{Stage, position}
 
+-- the point with these coordinates
 abbrev pub point_at : Coordinates → Point2 ℤ
 point_at c = record { x = c.x; y = c.y }
 
@@ -54,6 +55,7 @@ pub record KeepsVertex (points : List SheetPoint) (old : Stage) (p : Point2 ℤ)
   pub replaced : Replaces position old.plain new.plain i p
   pub same : new.triangulation ≡ old.triangulation
 
+-- what an insertion at p may be answered, and what it leaves: a vertex there, or the old stage and why
 abbrev pub MayInsert : List SheetPoint → Stage → Point2 ℤ → Reply → Stage → Type 0
 MayInsert points old p (reply.Vertex i) new = KeepsVertex points old p i new ⊎ AddsVertex points old p i new
 MayInsert points old p (reply.Refused TooLarge) new = (¬ InRange (position p)) × (new ≡ old)
@@ -67,9 +69,11 @@ pub record RemovesVertex (old : Stage) (i : ℕ) (p : Point2 ℤ) (new : Stage) 
   pub was : slice_get old.plain.vertices i ≡ Some p
   pub removed : Removes position old.plain new.plain i
 
+-- there is a vertex with index i
 abbrev pub HasVertex : Stage → ℕ → Type 0
 HasVertex s i = i < length s.plain.vertices
 
+-- what a removal of vertex i may be answered, and what it leaves: it gone, or the old stage and why
 abbrev pub MayRemove : Stage → ℕ → Reply → Stage → Type 0
 MayRemove old i (reply.Removed x y) new = RemovesVertex old i (record { x = x; y = y }) new
 MayRemove old i reply.NoVertex new = (¬ HasVertex old i) × (new ≡ old)
@@ -116,12 +120,14 @@ pub record AreSoMany (pairs : List (ℕ × ℕ)) (n : ℕ) : Type 0 where
   pub once : EachPairOnce different
   pub number : n ≡ length different
 
+-- the numbers of vertices, edges, faces and constraints that stand
 pub record AreCounts (s : Stage) (vertices edges faces constraints : ℕ) : Type 0 where
   pub vertices_are : vertices ≡ length s.plain.vertices
   pub edges_are : AreSoMany s.triangulation.edges edges
   pub faces_are : faces ≡ length s.triangulation.faces
   pub constraints_are : AreSoMany s.plain.constraints constraints
 
+-- a count is answered by the four numbers alone
 abbrev pub MayCount : Stage → Reply → Type 0
 MayCount s (reply.Counts v e f c) = AreCounts s v e f c
 MayCount s _ = ⊥
@@ -131,6 +137,7 @@ pub record ListsFaces (t : Triangulation) (list : List Corners) : Type 0 where
   pub faces : (c : Corners) → Contains list c ↔ IsFaceFromLeast t c
   pub sorted : AllPairs IsBefore list
 
+-- a listing is answered by each face once, sorted, or by a refusal of memory
 abbrev pub MayList : Triangulation → Reply → Type 0
 MayList t (reply.Faces list) = ListsFaces t list.items
 MayList t (reply.Refused OutOfMemory) = ⊤
@@ -163,11 +170,13 @@ pub record AddsPath (old : Stage) (i j : ℕ) (path : List (ℕ × ℕ)) (new : 
   pub adds : Adds position old.plain new.plain i j
   pub leads : LeadsTo (points_of position old.plain) i j path
 
+-- what a constraint of i and j may be answered, and what it leaves: a path, or the old stage and why
 abbrev pub MayJoin : Stage → ℕ → ℕ → List ℕ → Stage → Type 0
 MayJoin old i j text new =
     ((path : List (ℕ × ℕ)) × AddsPath old i j path new × (text ≡ path_text path))
     ⊎ ((reply : Reply) × MayRefuse old i j reply new × (text ≡ reply_text reply))
 
+-- what a release of i and j may be answered, and what it leaves: it released, or the old stage and why
 abbrev pub MayRelease : Stage → ℕ → ℕ → Reply → Stage → Type 0
 MayRelease old i j reply.NoVertex new = (¬ AreVertices old i j) × (new ≡ old)
 MayRelease old i j reply.NoEdge new = AreVertices old i j × (¬ IsEdge old.triangulation i j) × (new ≡ old)

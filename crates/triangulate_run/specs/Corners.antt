@@ -2,6 +2,7 @@
 use Rattle.std.specs.Prelude.{◌≡◌, ◌⊎◌, ℕ, ◌<◌, nat_lt, ◌&&◌, if◌then◌else◌}
 use Rattle.triangulate_run.specs.declared.corners.Corners.{Corners}
 
+-- three corners in this order
 abbrev pub corners : ℕ → ℕ → ℕ → Corners
 corners a b c = record { first = a; second = b; third = c }
 

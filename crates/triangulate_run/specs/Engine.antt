@@ -12,12 +12,14 @@ use Rattle.triangulate_run.specs.declared.points.SheetPoint.{SheetPoint}
 use Rattle.triangulate_run.specs.Points.{place}
 use Rattle.triangulate_run.specs.Stage.{Stage, position}
 
+-- the stage of a triangulation whose constraints the data of its edges tell
 abbrev pub stage_by : {D U F : Type 0} → (List U → List ℕ) → State (Point2 ℤ) D U F → Stage
 stage_by constraints s = record {
   plain = points_and_constraints_by constraints s;
   triangulation = triangulation_of position s;
 }
 
+-- the stage of a triangulation of either kind, without constraints or with them
 abbrev pub stage_of : {L : Type 0} → Either L → Stage
 stage_of (Plain s) = stage_by none s
 stage_of (Constrained s) = stage_by constraint_edges s

@@ -5,6 +5,7 @@ use Rattle.half_edge_mesh.specs.Triangles.{Triangle, triangle_at}
 use Rattle.triangulate_run.specs.declared.corners.Corners.{Corners}
 use Rattle.triangulate_run.specs.Corners.{least_first}
 
+-- the corners of a face as they are written, from the least on
 abbrev pub row_of : Triangle → Corners
 row_of t = least_first t.first t.second t.third
 

@@ -4,6 +4,7 @@ use Rattle.std.specs.Fmt.{signed_decimal}
 use Rattle.triangulate_run.specs.declared.piece.Piece.{Piece}
 use Rattle.triangulate_run.specs.declared.piece.Piece.TheVariants.{Text, Index, Signed}
 
+-- the bytes of a piece: those of a text, or the decimal digits of a number
 abbrev pub text_of : Piece → List ℕ
 text_of (Text text) = text.now
 text_of (Index n) = decimal n

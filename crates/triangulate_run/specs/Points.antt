@@ -4,6 +4,7 @@ use Rattle.plane.specs.Fraction.{Point}
 use Rattle.delaunay_core.specs.Place.{place_of}
 use Rattle.triangulate_run.specs.declared.points.SheetPoint.{SheetPoint}
 
+-- the point of the plane that a listed point is
 abbrev pub place : SheetPoint → Point
 place s = place_of (λ z. z) s.position
 
@@ -11,9 +12,11 @@ place s = place_of (λ z. z) s.position
 abbrev pub nowhere : SheetPoint
 nowhere = record { position = record { x = pos 0; y = pos 0 }; site = false }
 
+-- the point of the plane with index i in the list
 abbrev pub point_in : List SheetPoint → ℕ → Point
 point_in points i = place (get_or points i nowhere)
 
+-- the point with index i in the list is a site
 abbrev pub is_site_in : List SheetPoint → ℕ → Bool
 is_site_in points i = (get_or points i nowhere).site
 
@@ -21,6 +24,7 @@ is_site_in points i = (get_or points i nowhere).site
 abbrev pub IsAt : List SheetPoint → ℕ → Point → Type 0
 IsAt points i p = (i < length points) × (point_in points i ≡ p)
 
+-- the point p has index i in the list and is a site there
 abbrev pub IsSiteAt : List SheetPoint → ℕ → Point → Type 0
 IsSiteAt points i p = IsAt points i p × (is_site_in points i ≡ true)
 
@@ -28,5 +32,6 @@ IsSiteAt points i p = IsAt points i p × (is_site_in points i ≡ true)
 abbrev pub IsListed : List SheetPoint → Point → Type 0
 IsListed points p = (i : ℕ) × IsAt points i p
 
+-- the point p is a site of the list
 abbrev pub IsListedSite : List SheetPoint → Point → Type 0
 IsListedSite points p = (i : ℕ) × IsSiteAt points i p

@@ -40,5 +40,6 @@ sheet_in_range R = refl
 sheet_in_range L = refl
 sheet_in_range X = refl
 
+-- each point that a sheet covers is in range
 pub covered_in_range : (s : Sheet) (p : Point) → IsCovered s p → InRange p
 covered_in_range s p h = subst InRange h.1.1 (in_range (points_of s) (sheet_in_range s) h.0)

@@ -9,14 +9,17 @@ use Rattle.triangulate_run.specs.declared.corners.Corners.{Corners}
 use Rattle.triangulate_run.specs.declared.reply.Reply.{Reply}
 use Rattle.triangulate_run.specs.declared.reply.Reply.TheVariants as reply
 
+-- the name of an error of an insertion
 abbrev pub name_of : InsertionError → List ℕ
 name_of TooLarge = codes "TooLarge"
 name_of OutOfMemory = codes "OutOfMemory"
 name_of OutOfIndexes = codes "OutOfIndexes"
 
+-- three corners with spaces between them and a line's end behind
 abbrev pub corners_text : Corners → List ℕ
 corners_text c = decimal c.first ++ codes " " ++ decimal c.second ++ codes " " ++ decimal c.third ++ codes "\n"
 
+-- the text of a reply, each of its lines with its end
 abbrev pub reply_text : Reply → List ℕ
 reply_text reply.BadLine = codes "bad line\n"
 reply_text reply.UnknownPoint = codes "unknown point\n"
@@ -41,6 +44,7 @@ reply_text (reply.Faces faces) = flat_map corners_text faces.items ++ codes "end
 abbrev pub piece_text : ℕ × ℕ → List ℕ
 piece_text p = codes " " ++ decimal p.0 ++ codes "-" ++ decimal p.1
 
+-- the text of a path: a word, the ends of each of its edges, and a line's end
 abbrev pub path_text : List (ℕ × ℕ) → List ℕ
 path_text path = codes "edges" ++ flat_map piece_text path ++ codes "\n"
 
@@ -54,9 +58,11 @@ item_text (at_vertex i) = codes "v " ++ decimal i
 item_text (across i j) = edge_text (codes "e ") i j
 item_text (along i j) = edge_text (codes "o ") i j
 
+-- an item that a line meets, behind a space
 abbrev pub next_text : Item → List ℕ
 next_text m = codes " " ++ item_text m
 
+-- the text of all items that a line meets, or that it meets nothing
 abbrev pub line_text : List Item → List ℕ
 line_text [] = codes "nothing\n"
 line_text (m ∷ items) = item_text m ++ flat_map next_text items ++ codes "\n"

@@ -13,6 +13,7 @@ use Rattle.triangulate_run.specs.Stage.{Stage, first_stage, Fits}
 use Rattle.triangulate_run.specs.Answer.{MayAnswer}
 use Rattle.triangulate_run.specs.Output.{AppendsPart}
 
+-- what a line that spells no command is answered
 abbrev pub bad_line : List ℕ
 bad_line = codes "bad line\n"
 
@@ -26,6 +27,7 @@ pub record Cut (input : List ℕ) (lines : List (List ℕ)) (rest : List ℕ) : 
   pub each : All IsOneLine lines
   pub last : IsOneLine rest
 
+-- there is at most one way to cut an input into lines and a rest
 abbrev pub IsCutInOneWay : Type 0
 IsCutInOneWay = (input : List ℕ) (lines others : List (List ℕ)) (rest end : List ℕ) → Cut input lines rest → Cut input others end → (lines ≡ others) × (rest ≡ end)
 
@@ -96,6 +98,7 @@ pub record RanInPart {R W : Type 0} (points : List SheetPoint) (remaining : R �
   pub reader_works : has_failed r1 ≡ false
   pub writer_failed : has_failed w1 ≡ true
 
+-- what a run that ended so has read and written
 abbrev pub Ran : {R W T : Type 0} → List SheetPoint → (R → Option (List ℕ)) → (W → Option (List ℕ)) → Watched R → Watched R → Watched W → Watched W → Result T RunError → Type 0
 Ran points remaining contents r0 r1 w0 w1 (Ok x) = RanToEnd points remaining contents r0 r1 w0 w1
 Ran points remaining contents r0 r1 w0 w1 (Err Read) = RanToFault points remaining contents r0 r1 w0 w1

@@ -8,6 +8,7 @@ use Rattle.triangulate_run.specs.declared.circles.Circle.{Circle}
 use Rattle.triangulate_run.specs.declared.table.TheConstants.{GRID_CIRCLES, L_CIRCLES, X_CIRCLES}
 use Rattle.triangulate_run.specs.Points.{IsListed, IsListedSite}
 
+-- a point that is a site
 abbrev pub site : ℤ → ℤ → SheetPoint
 site x y = record { position = record { x = x; y = y }; site = true }
 
@@ -27,6 +28,7 @@ abbrev pub row : ℤ → ℕ → List SheetPoint
 row x zero = []
 row x (suc n) = site x (pos 0) ∷ row (x +ℤ pos 1) n
 
+-- the points of a sheet, in the order of their indexes
 unfoldable pub points_of : Sheet → List SheetPoint
 points_of G = grid (pos 1)
 points_of B = grid (pos 536870912)
@@ -41,6 +43,7 @@ points_of X =
     ∷ covered (neg_ℤ (pos 1)) (neg_ℤ (pos 1)) ∷ covered (pos 0) (pos 0)
     ∷ covered (neg_ℤ (pos 3)) (pos 3) ∷ covered (pos 3) (neg_ℤ (pos 3)) ∷ []
 
+-- the circles in the table of a sheet
 unfoldable pub circles_of : Sheet → List Circle
 circles_of G = GRID_CIRCLES
 circles_of B = GRID_CIRCLES
@@ -48,6 +51,7 @@ circles_of R = []
 circles_of L = L_CIRCLES
 circles_of X = X_CIRCLES
 
+-- the letter by which a sheet is named
 abbrev pub letter_of : Sheet → List ℕ
 letter_of G = codes "G"
 letter_of B = codes "B"
@@ -59,5 +63,6 @@ letter_of X = codes "X"
 abbrev pub IsCovered : Sheet → Point → Type 0
 IsCovered s p = IsListed (points_of s) p
 
+-- the point p is a site of the sheet
 abbrev pub IsSite : Sheet → Point → Type 0
 IsSite s p = IsListedSite (points_of s) p

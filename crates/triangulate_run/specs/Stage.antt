@@ -11,6 +11,7 @@ use Rattle.delaunay_core.specs.Place.{place_of}
 abbrev pub position : Point2 ℤ → Point
 position p = place_of (λ z. z) p
 
+-- the vertices and constraints that stand, and a triangulation of them
 pub record Stage : Type 0 where
   pub plain : Plain (Point2 ℤ)
   pub triangulation : Triangulation

@@ -4,18 +4,23 @@ use Rattle.std.specs.List.{list_any}
 use Rattle.plane.specs.Side.{Side, left, right, on}
 use Rattle.triangulate_run.specs.declared.circles.Circle.{Circle}
 
+-- the triple t is i, j, k in this order
 abbrev pub is_triple : List ℕ → ℕ → ℕ → ℕ → Bool
 is_triple t i j k = (get_or t 0 0 == i) && ((get_or t 1 0 == j) && (get_or t 2 0 == k))
 
+-- the triple t is i, j, k or a rotation of it
 abbrev pub is_turned : List ℕ → ℕ → ℕ → ℕ → Bool
 is_turned t i j k = is_triple t i j k || (is_triple t j k i || is_triple t k i j)
 
+-- one of the triples is i, j, k or a rotation of it
 abbrev pub lists : List (List ℕ) → ℕ → ℕ → ℕ → Bool
 lists ts i j k = list_any (λ t. is_turned t i j k) ts
 
+-- some circle of the table lists i, j, k or a rotation of it
 abbrev pub is_left_in : List Circle → ℕ → ℕ → ℕ → Bool
 is_left_in circles i j k = list_any (λ c. lists c.triples i j k) circles
 
+-- the side that the table tells of i, j, k: left, right, or on the line
 abbrev pub side_in : List Circle → ℕ → ℕ → ℕ → Side
 side_in circles i j k = if is_left_in circles i j k then left else (if is_left_in circles i k j then right else on)
 

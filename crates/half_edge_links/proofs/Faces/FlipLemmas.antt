@@ -7,6 +7,7 @@ use Rattle.half_edge_links.specs.Flip.{IsFlippable, flip_by, flipped, Flips}
 use Rattle.half_edge_links.proofs.Lists.Writes.{length-set_six, get_or-set_six_a, get_or-set_six_b, get_or-set_six_c, get_or-set_six_d, get_or-set_six_e, get_or-set_six_f, get_or-set_six_other}
 use Rattle.half_edge_links.proofs.Sound.Triangles.{six_round}
 
+-- the links of edge h are those of the record that the list has for it
 pub links_from : (m : Mesh) (h : ℕ) (r : HalfEdge) → edge_at m.half_edges h ≡ r → HasLinks m h r.origin r.next r.prev r.face
 links_from m h r same = record {
   origin = ap (λ (x : HalfEdge). x.origin) same;
@@ -15,6 +16,7 @@ links_from m h r same = record {
   face = ap (λ (x : HalfEdge). x.face) same;
 }
 
+-- a flip changes the links of six edges, and of the vertices and faces there that name one, and no others
 pub flips : (m : Mesh) (e : ℕ) → AreSoundLinks m → IsFlippable m e → Flips m (flipped m e) e
 unfolding flipped flip_by
 flips m e s f =
@@ -41,9 +43,11 @@ flips m e s f =
       outer_edge = refl;
     }
 
+-- the flip with the six edges as the code has read them is the flip of edge e
 pub flip_by-is : (m : Mesh) (e t : ℕ) (edge twin edge_next edge_prev twin_next twin_prev : HalfEdge) → t ≡ rev e → edge ≡ edge_at m.half_edges e → twin ≡ edge_at m.half_edges t → edge_next ≡ edge_at m.half_edges edge.next → edge_prev ≡ edge_at m.half_edges edge.prev → twin_next ≡ edge_at m.half_edges twin.next → twin_prev ≡ edge_at m.half_edges twin.prev → flip_by m e t edge twin edge_next edge_prev twin_next twin_prev ≡ flipped m e
 unfolding flipped
 flip_by-is m e t edge twin edge_next edge_prev twin_next twin_prev at_t a b c d x y = cc
 
+-- a mesh that equals the one with edge e flipped differs by the links that the flip changes alone
 pub flips_is : (m new : Mesh) (e : ℕ) → AreSoundLinks m → IsFlippable m e → new ≡ flipped m e → Flips m new e
 flips_is m new e s can is = rw is (flips m e s can)

@@ -20,12 +20,15 @@ pub record IsAway (m : Mesh) (e h : ℕ) : Type 0 where
   pub twin_prev : h ≢ prev m (rev e)
 
 module _ (m new : Mesh) (e : ℕ) (s : AreSoundLinks m) (can : IsFlippable m e) (f : Flips m new e) where
+  -- the edges of the two faces beside e are six different ones of the mesh
   pub six : AreSixPlaces (length m.half_edges) e (rev e) (next m e) (next m (rev e)) (prev m e) (prev m (rev e))
   six = six_round m e s can
 
+  -- the face on the left of e is a loop of three edges
   pub left : IsTriangle m e
   left = triangle_at m e s can.within can.inner
 
+  -- the face on the right of e is a loop of three edges
   pub right : IsTriangle m (rev e)
   right = triangle_at m (rev e) s six.b_in can.twin_inner
 
@@ -55,12 +58,14 @@ module _ (m new : Mesh) (e : ℕ) (s : AreSoundLinks m) (can : IsFlippable m e) 
     ],
   )
 
+  -- the edge after one that is none of the six is none of them
   pub next_away : (h : ℕ) → h < length m.half_edges → IsAway m e h → IsAway m e (next m h)
   next_away h within a =
       let differ = away_face h within a in
       let same = sym (s.edges h within).same_face in
       away_by_face (next m h) (λ q. differ.0 (same ∙ q)) (λ q. differ.1 (same ∙ q))
 
+  -- the edge before one that is none of the six is none of them
   pub prev_away : (h : ℕ) → h < length m.half_edges → IsAway m e h → IsAway m e (prev m h)
   prev_away h within a =
       let here = s.edges h within in
@@ -68,9 +73,11 @@ module _ (m new : Mesh) (e : ℕ) (s : AreSoundLinks m) (can : IsFlippable m e) 
       let same = ap (face m) (sym here.next_prev) ∙ (s.edges (prev m h) here.prev_in).same_face in
       away_by_face (prev m h) (λ q. differ.0 (same ∙ q)) (λ q. differ.1 (same ∙ q))
 
+  -- an edge that is none of the six stays as it was
   pub kept : (h : ℕ) → IsAway m e h → edge_at new.half_edges h ≡ edge_at m.half_edges h
   kept h a = f.other_edges h a.edge a.twin a.edge_next a.twin_next a.edge_prev a.twin_prev
 
+  -- any edge but the two sides of e starts where it did
   pub origin_kept : (h : ℕ) → h ≢ e → h ≢ rev e → origin new h ≡ origin m h
   origin_kept h a b =
       elim (cases_eq h (next m e) or_else cases_eq h (next m (rev e)) or_else cases_eq h (prev m e) or_else cases_eq h (prev m (rev e))) [
@@ -205,6 +212,7 @@ module _ (m new : Mesh) (e : ℕ) (s : AreSoundLinks m) (can : IsFlippable m e) 
       let at = kept h (away_by_face h (λ q. absurd (omega (arith, can.inner))) (λ q. absurd (omega (arith, can.twin_inner)))) in
       (omega (arith, f.edge_count, had.0), cc)
 
+  -- a sound mesh stays sound when an edge between two inner faces is turned
   pub sound_after_flip : AreSoundLinks new
   sound_after_flip = record {
     even = rw f.edge_count s.even;

@@ -66,5 +66,6 @@ module _ (m new : Mesh) (e : ℕ) (s : AreSoundLinks m) (can : IsFlippable m e) 
       let count : length (triangles new) ≡ length (triangles m) = length-map new.face_edges (triangle_at new) ∙ f.face_count ∙ sym (length-map m.face_edges (triangle_at m)) in
       rw (← left_triangle, ← right_triangle) (same_lists _ _ (simp length-set count) at_index)
 
+-- a flip gives the two faces the other two halves of their quadrilateral, and changes no other corners
 pub triangles_flipped : (m new : Mesh) (e : ℕ) → AreSoundLinks m → IsFlippable m e → new ≡ flipped m e → FlipsTriangles m new e
 triangles_flipped m new e s can is = rw is (flips_triangles m (flipped m e) e s can (flips m e s can))

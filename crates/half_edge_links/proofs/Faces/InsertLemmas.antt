@@ -54,6 +54,7 @@ module _ {X : Type 0} (xs : List X) (i j k : ℕ) (u v w a b c d e f o : X) (p :
   unfolding written
   grown_other h within hi hj hk = rw (grown_is, get_or_append_left written (a ∷ b ∷ c ∷ d ∷ e ∷ f ∷ []) o h (omega (arith, length-written))) (grind (arith, get_or-set_same, get_or-set_other, length-set))
 
+-- a lonely vertex v put into an inner face changes the links of the face, its edges and v, and no others
 pub inserts : (m : Mesh) (v a : ℕ) → AreSoundLinks m → IsInnerEdge m a → IsAlone m v → Inserts m (inserted m v a) v (face m a) a (length m.half_edges) (length m.face_edges)
 unfolding inserted insert_by written
 inserts m v a s inner alone =
@@ -90,9 +91,11 @@ inserts m v a s inner alone =
       outer_edge = refl;
     }
 
+-- the mesh made with the three edges as the code has read them is the one with v put into the face of a
 pub insert_by-is : (m : Mesh) (v f n g a : ℕ) (first second third : HalfEdge) → n ≡ length m.half_edges → g ≡ length m.face_edges → first ≡ edge_at m.half_edges a → f ≡ first.face → second ≡ edge_at m.half_edges first.next → third ≡ edge_at m.half_edges first.prev → insert_by m v f n g a first second third ≡ inserted m v a
 unfolding inserted
 insert_by-is m v f n g a first second third at_n at_g x at_f y z = cc
 
+-- a mesh that equals the one with v put into a face differs by the links that this changes alone
 pub inserts_is : (m new : Mesh) (v a : ℕ) → AreSoundLinks m → IsInnerEdge m a → IsAlone m v → new ≡ inserted m v a → Inserts m new v (face m a) a (length m.half_edges) (length m.face_edges)
 inserts_is m new v a s inner alone is = rw is (inserts m v a s inner alone)

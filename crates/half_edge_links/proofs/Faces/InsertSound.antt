@@ -16,33 +16,42 @@ pub record IsAway (m : Mesh) (a h : ℕ) : Type 0 where
   pub third : h ≢ prev m a
 
 module _ (m new : Mesh) (v f a n g : ℕ) (s : AreSoundLinks m) (inner : IsInnerEdge m a) (alone : IsAlone m v) (at_f : f ≡ face m a) (at_n : n ≡ length m.half_edges) (at_g : g ≡ length m.face_edges) (i : Inserts m new v f a n g) where
+  -- the face is a loop of three edges
   pub round : IsTriangle m a
   round = triangle_at m a s inner.0 inner.1
 
   n_even : n % 2 ≡ 0
   n_even = rw at_n s.even
 
+  -- the other side of the first new edge is the second
   pub rev0 : rev n ≡ n + 1
   rev0 = rev_of_even n n_even
 
+  -- the other side of the second new edge is the first
   pub rev1 : rev (n + 1) ≡ n
   rev1 = rev_of_odd n n_even
 
+  -- the other side of the third new edge is the fourth
   pub rev2 : rev (n + 2) ≡ n + 3
   rev2 = rev_of_even (n + 2) (omega (arith, n_even)) ∙ omega arith
 
+  -- the other side of the fourth new edge is the third
   pub rev3 : rev (n + 3) ≡ n + 2
   rev3 = let q : n + 2 + 1 ≡ n + 3 = omega arith in rw (← q) (rev_of_odd (n + 2) (omega (arith, n_even)))
 
+  -- the other side of the fifth new edge is the sixth
   pub rev4 : rev (n + 4) ≡ n + 5
   rev4 = rev_of_even (n + 4) (omega (arith, n_even)) ∙ omega arith
 
+  -- the other side of the sixth new edge is the fifth
   pub rev5 : rev (n + 5) ≡ n + 4
   rev5 = let q : n + 4 + 1 ≡ n + 5 = omega arith in rw (← q) (rev_of_odd (n + 4) (omega (arith, n_even)))
 
+  -- an old edge that is none of those round the face stays as it was
   pub kept : (h : ℕ) → h < n → IsAway m a h → edge_at new.half_edges h ≡ edge_at m.half_edges h
   kept h within w = i.other_edges h within w.first w.second w.third
 
+  -- an edge of another face is none of those round the face
   pub away_by_face : (h : ℕ) → face m h ≢ f → IsAway m a h
   away_by_face h differs =
       let t = round in
@@ -60,14 +69,17 @@ module _ (m new : Mesh) (v f a n g : ℕ) (s : AreSoundLinks m) (inner : IsInner
         | inr y ↦ elim y [ inl x ↦ w.second x | inr x ↦ w.third x ]
       ]
 
+  -- the edge after one that is none of those round the face is none of them
   pub next_away : (h : ℕ) → h < n → IsAway m a h → IsAway m a (next m h)
   next_away h within w = away_by_face (next m h) (λ q. face_differs h within w (sym (s.edges h (rw (← at_n) within)).same_face ∙ q))
 
+  -- the edge before one that is none of those round the face is none of them
   pub prev_away : (h : ℕ) → h < n → IsAway m a h → IsAway m a (prev m h)
   prev_away h within w =
       let here = s.edges h (rw (← at_n) within) in
       away_by_face (prev m h) (λ q. face_differs h within w (ap (face m) (sym here.next_prev) ∙ (s.edges (prev m h) here.prev_in).same_face ∙ q))
 
+  -- each old edge starts where it did
   pub origin_kept : (h : ℕ) → h < n → origin new h ≡ origin m h
   origin_kept h within =
       elim (cases_eq h a or_else cases_eq h (next m a) or_else cases_eq h (prev m a)) [
@@ -171,6 +183,7 @@ module _ (m new : Mesh) (v f a n g : ℕ) (s : AreSoundLinks m) (inner : IsInner
       let at = kept h (omega (arith, had.0)) (away_by_face h (λ q. absurd (omega (arith, at_f, inner.1)))) in
       (omega (arith, i.edge_count, had.0), cc)
 
+  -- a sound mesh stays sound when a lonely vertex is put into an inner face
   pub sound_after_insert : AreSoundLinks new
   sound_after_insert = record {
     even = rw i.edge_count (let e = n_even in omega arith);

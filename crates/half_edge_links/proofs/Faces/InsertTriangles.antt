@@ -80,5 +80,6 @@ module _ (m new : Mesh) (v a : ℕ) (s : AreSoundLinks m) (inner : IsInnerEdge m
       let whole : length grown ≡ length m.face_edges + 2 = rw length-append (omega (arith, written_length)) in
       rw (← first_triangle, ← second_triangle, ← third_triangle) (same_lists (triangles new) grown (count ∙ sym whole) at_index)
 
+-- a vertex that is put into a face leaves a face for each of its three sides, and changes no other corners
 pub triangles_inserted : (m new : Mesh) (v a : ℕ) → AreSoundLinks m → IsInnerEdge m a → IsAlone m v → new ≡ inserted m v a → InsertsTriangles m new v a
 triangles_inserted m new v a s inner alone is = rw is (inserts_triangles m (inserted m v a) v a s inner alone (inserts m v a s inner alone))

@@ -15,6 +15,7 @@ use Rattle.half_edge_links.proofs.Faces.InsertSound as inserting
 not_inner : (m : Mesh) (h k f : ℕ) → face m h ≡ 0 → face m k ≡ f → 0 < f → h ≢ k
 not_inner m h k f zero is some same = absurd (omega (arith, some, is, ap (face m) same, zero))
 
+-- the outer edges stay when an edge between two inner faces is flipped
 pub outer_flipped : (m new : Mesh) (e : ℕ) → AreSoundLinks m → IsFlippable m e → Flips m new e → KeepsOuter m new
 outer_flipped m new e s can f = record {
   kept = λ h a b o.
@@ -30,9 +31,11 @@ outer_flipped m new e s can f = record {
       (sym (origin_kept m new e s can f (rev h) (λ q. x1 (sym (rev-rev h) ∙ ap rev q)) (λ q. x0 (sym (rev-rev h) ∙ ap rev q ∙ rev-rev e))));
 }
 
+-- a mesh that equals the one with an edge flipped has the same outer edges
 pub outer_flipped_is : (m new : Mesh) (e : ℕ) → AreSoundLinks m → IsFlippable m e → new ≡ flipped m e → KeepsOuter m new
 outer_flipped_is m new e s can is = rw is (outer_flipped m (flipped m e) e s can (flips m e s can))
 
+-- the outer edges stay when a vertex is put into an inner face
 pub outer_inserted : (m new : Mesh) (v a : ℕ) → AreSoundLinks m → IsInnerEdge m a → IsAlone m v → Inserts m new v (face m a) a (length m.half_edges) (length m.face_edges) → KeepsOuter m new
 outer_inserted m new v a s inner alone i = record {
   kept = λ h p q o.

@@ -35,6 +35,7 @@ module _ (m : Mesh) (v e : ℕ) (s : AreSoundLinks m) (can : IsFlippable m e) (a
       let away = away_by_face m (inserted m v e) v _ e _ _ s inner alone refl refl refl i (rev e) (λ same. can.apart (sym same)) in
       kept m (inserted m v e) v _ e _ _ s inner alone refl refl refl i (rev e) twin_in away
 
+  -- the edge can still be turned once the vertex is in the face on its left
   pub flippable_inserted : IsFlippable (inserted m v e) e
   flippable_inserted =
       let at = i.first in
@@ -47,6 +48,7 @@ module _ (m : Mesh) (v e : ℕ) (s : AreSoundLinks m) (can : IsFlippable m e) (a
         apart = λ same. can.apart (cc);
       }
 
+  -- the corners opposite the two sides of the edge differ once the vertex is in the face
   pub corners_inserted : origin (inserted m v e) (prev (inserted m v e) e) ≢ origin (inserted m v e) (prev (inserted m v e) (rev e))
   corners_inserted same =
       let mid : Mesh = inserted m v e in
@@ -72,15 +74,18 @@ module _ (m : Mesh) (v e : ℕ) (s : AreSoundLinks m) (can : IsFlippable m e) (a
       let cut = overwritten (triangles m) (record { first = origin m (next m e); second = origin m (prev m e); third = v } ∷ record { first = origin m (prev m e); second = origin m e; third = v } ∷ []) (face m e - 1) (face m (rev e) - 1) (record { first = origin m e; second = origin m (next m e); third = v }) (record { first = v; second = origin m (prev m (rev e)); third = origin m (next m e) }) (record { first = origin m (prev m (rev e)); second = v; third = origin m (next m (rev e)) }) left_in right_in in
       cc
 
+-- an edge between two inner faces that is split leaves four faces round v, and changes no other corners
 pub splits_triangles_is : (m new : Mesh) (v e : ℕ) → AreSoundLinks m → IsFlippable m e → IsAlone m v → new ≡ flipped (inserted m v e) e → SplitsTriangles m new v e
 splits_triangles_is m new v e s can alone is = rw is (splits_triangles m v e s can alone)
 
+-- two changes one after the other keep the outer edges if each does
 pub kept_twice : (m mid new : Mesh) → KeepsOuter m mid → KeepsOuter mid new → KeepsOuter m new
 kept_twice m mid new a b = record {
   kept = λ h p q o. b.kept h p q (a.kept h p q o);
   only = λ h p q o. a.only h p q (b.only h p q o);
 }
 
+-- an edge that is split at v makes way for edges from v to the four corners; no other ends change
 pub ends_split : (m mid new : Mesh) (v e : ℕ) → AreSoundLinks m → IsFlippable m e → IsAlone m v → mid ≡ inserted m v e → InsertsEnds m mid v e → MovesEdge mid new e (origin mid (prev mid e)) (origin mid (prev mid (rev e))) → SplitsEnds m new e v
 ends_split m mid new v e s can alone is a b =
     let i = inserts m v e s (can.within, can.inner) alone in

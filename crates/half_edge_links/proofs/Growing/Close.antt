@@ -27,6 +27,7 @@ pub record IsCorner (m : Mesh) (e : ℕ) : Type 0 where
   pub first-second : e ≢ next m e
   pub before-first : prev m e ≢ e
 
+-- where an outer edge and the next one can get a face, the edges round its place are outer and differ
 pub corner : (m : Mesh) (e : ℕ) → AreSoundLinks m → IsClosable m e → IsCorner m e
 corner m e s can =
     let here = s.edges e can.within in
@@ -41,6 +42,7 @@ corner m e s can =
     let before_first : prev m e ≢ e = λ same. here.proper (sym (ap (next m) same) ∙ here.next_prev) in
     assumption (here, second, differs, second_outer, before_outer, after_outer, before_second, first_second, before_first)
 
+-- a face of outer edge e, the next one and a new edge changes the links round it, and no others
 pub closes : (m : Mesh) (e : ℕ) → AreSoundLinks m → IsClosable m e → Closes m (closed m e) e (length m.half_edges) (length m.face_edges)
 unfolding closed
 closes m e s can =
@@ -168,6 +170,7 @@ module _ (m new : Mesh) (e : ℕ) (s : AreSoundLinks m) (can : IsClosable m e) (
             rw (named_old k some below) (omega (arith, i.edge_count, had.0), inner_face_kept _ had.0 (omega (arith, had.1, some)) ∙ had.1)
       ]
 
+  -- a sound mesh stays sound when an outer edge, the next one and a new edge get a face
   pub sound_after_close : AreSoundLinks new
   sound_after_close = record {
     even = rw i.edge_count (let e = s.even in omega arith);

@@ -6,6 +6,7 @@ use Rattle.half_edge_links.specs.Grow.{with_next, with_prev, with_face, closed_e
 use Rattle.half_edge_links.proofs.Sound.FieldWrites.{writes_next, writes_prev, writes_face, next_link, prev_link, face_link, origin_link}
 use Rattle.half_edge_links.proofs.Lists.Writes.{length-two, two_before, two_at_0, two_at_1}
 
+-- edges e, second and a new one go round face g; the reverse of the new one lies between before and after
 pub record ClosesEdges (old new : List HalfEdge) (e second before after g : ℕ) : Type 0 where
   pub count : length new ≡ length old + 2
   pub inside : edge_at new (length old) ≡ record { origin = (edge_at old after).origin; next = e; prev = second; face = g }
@@ -46,6 +47,7 @@ module _ (hs : List HalfEdge) (e second before after g : ℕ) (e_in : e < length
   prevs : (h : ℕ) → (edge_at six h).prev ≡ (edge_at four h).prev
   prevs h = (writes_face five second g).kept prev_link refl h ∙ (writes_face four e g).kept prev_link refl h
 
+  -- the writes of the code make these links, and leave all others
   pub closes_edges : ClosesEdges hs (closed_edges hs e second before after (length hs) g) e second before after g
   unfolding closed_edges
   closes_edges =

@@ -67,6 +67,7 @@ module _ (m : Mesh) (a b : ℕ) (s : AreSoundLinks m) (none : m.half_edges ≡ [
             absurd (no_edge_at h (s.vertices v h (sym (get_or-set_other m.out_edges a v (Some 0) None other) ∙ sym at ∙ named)).0)
       ]
 
+  -- a sound mesh without edges stays sound when its first edge is made
   pub sound_connected : AreSoundLinks (connected m a b)
   sound_connected = record {
     even = refl;

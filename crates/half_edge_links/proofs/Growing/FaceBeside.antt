@@ -14,6 +14,7 @@ differs_alone m h v s within alone same =
     cc
 
 module _ (m mid new : Mesh) (e v : ℕ) (s : AreSoundLinks m) (outer : IsOuter m e) (alone : IsAlone m v) (i : Hangs m mid e v (length m.half_edges)) where
+  -- an edge to v and then a face of e and this edge make a face of e and v
   pub adds_face : Closes mid new e (length mid.half_edges) (length mid.face_edges) → AddsFace m new e v (length m.half_edges) (length m.face_edges)
   adds_face j =
       let here = s.edges e outer.0 in
@@ -70,6 +71,7 @@ module _ (m mid new : Mesh) (e v : ℕ) (s : AreSoundLinks m) (outer : IsOuter m
         outer_edge = j.outer_edge ∙ ap Some (omega (arith, i.edge_count));
       }
 
+  -- outer edge e gives way to one from its start to v and one from v to its end
   pub replaces_outer : Closes mid new e (length mid.half_edges) (length mid.face_edges) → HangsOuter m mid e v (length m.half_edges) → ClosesOuter mid new e (length mid.half_edges) → ReplacesOuter m new e v (length m.half_edges + 3) (length m.half_edges + 1)
   replaces_outer j a b =
       let n3 : length mid.half_edges + 1 ≡ length m.half_edges + 3 = omega (arith, i.edge_count) in

@@ -11,9 +11,11 @@ use Rattle.half_edge_links.proofs.Faces.FlipSound.{origin_kept}
 use Rattle.half_edge_links.proofs.Growing.FaceBeside.{differs_alone}
 use Rattle.half_edge_links.proofs.Lists.Rev.{rev-rev, rev_within, rev_differs}
 
+-- the reverse of an edge of the hull is outer
 pub twin_outer : (m : Mesh) (e : ℕ) → AreSoundLinks m → IsHalfSplittable m e → IsOuter m (rev e)
 twin_outer m e s half = (rev_within e _ s.even half.within, half.outer)
 
+-- that outer edge e gave way to two edges holds still after a step that keeps the outer edges
 pub replaced_kept : (m mid new : Mesh) (e v i j : ℕ) → ReplacesOuter m mid e v i j → KeepsOuter mid new → ReplacesOuter m new e v i j
 replaced_kept m mid new e v i j a b = record {
   kept = λ h p q o stays. b.kept h p q (a.kept h p q o stays);
@@ -30,6 +32,7 @@ module _ (m mid : Mesh) (e v : ℕ) (s : AreSoundLinks m) (half : IsHalfSplittab
   off_twin : e ≢ rev e
   off_twin q = rev_differs e (sym q)
 
+  -- edge e can be turned once there is a face beyond it
   pub flippable_beside : IsFlippable mid e
   flippable_beside =
       let f = i.other_faces e half.within off_twin in
@@ -58,6 +61,7 @@ module _ (m mid : Mesh) (e v : ℕ) (s : AreSoundLinks m) (half : IsHalfSplittab
   far : origin mid (next mid e) ≡ origin m (next m e)
   far = ap (origin mid) next_same ∙ i.origins (next m e) (s.edges e half.within).next_in
 
+  -- the corner opposite the other side of e is v
   pub new_corner : origin mid (prev mid (rev e)) ≡ v
   new_corner = ap (origin mid) i.edge.prev ∙ i.back.origin
 
@@ -65,9 +69,11 @@ module _ (m mid : Mesh) (e v : ℕ) (s : AreSoundLinks m) (half : IsHalfSplittab
   near =
       ap (origin mid) i.edge.next ∙ i.there.origin ∙ (s.edges (rev e) (rev_within e _ s.even half.within)).starts ∙ ap (origin m) (rev-rev e)
 
+  -- the corners opposite the two sides of e differ, if v had no edges
   pub corners_beside : IsAlone m v → origin mid (prev mid e) ≢ origin mid (prev mid (rev e))
   corners_beside alone same = differs_alone m (prev m e) v s (s.edges e half.within).prev_in alone (sym apex_is ∙ same ∙ new_corner)
 
+  -- a face beyond e and then a turn of e change the corners of faces as a split of e
   pub half_splits_triangles : (new : Mesh) → AddsTriangle m mid (origin m (rev e)) (origin m (rev (rev e))) v → FlipsTriangles mid new e → HalfSplitsTriangles m new v e
   half_splits_triangles new added turned =
       let f = i.other_faces e half.within off_twin in
@@ -84,6 +90,7 @@ module _ (m mid : Mesh) (e v : ℕ) (s : AreSoundLinks m) (half : IsHalfSplittab
       let d = near in
       cc
 
+  -- a face beyond e and then a turn of e change the links as a split of e
   pub half_splits : (new : Mesh) → AreSoundLinks mid → Flips mid new e → HalfSplits m new e v (length m.half_edges) (length m.face_edges)
   half_splits new sound f =
       let here = s.edges e half.within in

@@ -56,6 +56,7 @@ module _ (hs : List HalfEdge) (x y v : ℕ) (x_in : x < length hs) (y_in : y < l
   unfolding hung_edges
   at_1 = ap (λ q. edge_at (hung_edges hs x y v (length hs)) (q + 1)) (sym length-written) ∙ two_at_1 written _ _ no_edge
 
+-- an edge from the end of an outer edge to a lonely vertex changes the links round it, and no others
 pub hangs : (m : Mesh) (x v : ℕ) → AreSoundLinks m → IsOuter m x → IsAlone m v → Hangs m (hung m x v) x v (length m.half_edges)
 unfolding hung
 hangs m x v s out alone =
@@ -81,6 +82,7 @@ module _ (m new : Mesh) (x v : ℕ) (s : AreSoundLinks m) (outer : IsOuter m x) 
   at_x : IsSoundEdge m x
   at_x = s.edges x outer.0
 
+  -- the edge after an outer one is outer
   pub after_outer : face m (next m x) ≡ 0
   after_outer = at_x.same_face ∙ outer.1
 
@@ -167,6 +169,7 @@ module _ (m new : Mesh) (x v : ℕ) (s : AreSoundLinks m) (outer : IsOuter m x) 
   vertices_kept : NamesOutEdges new
   vertices_kept = still_named m new v (length m.half_edges + 1) i.out i.other_outs s (omega (arith, i.edge_count)) i.back.origin (λ h within off. (omega (arith, i.edge_count, within), i.origins h within))
 
+  -- a sound mesh stays sound when an edge to a lonely vertex is made beside the outer face
   pub sound_after_hang : AreSoundLinks new
   sound_after_hang = record {
     even = rw i.edge_count (let e = s.even in omega arith);

@@ -23,15 +23,19 @@ pub record MovesEnd (m new : Mesh) (e x : ℕ) : Type 0 where
   pub outer_edge : new.outer_edge ≡ m.outer_edge
 
 module _ (m new : Mesh) (e x : ℕ) (s : AreSoundLinks m) (i : MovesEnd m new e x) where
+  -- the old mesh has no inner face
   pub face_zero : HasNoFace m
   face_zero h within = omega (arith, (s.edges h within).face_in, ap length i.one_face)
 
+  -- each edge has the outer face on its left now
   pub zero_after : (h : ℕ) → h < length m.half_edges → face new h ≡ 0
   zero_after h within = i.faces h within ∙ face_zero h within
 
+  -- any two edges have the same face now
   pub no_face : (h g : ℕ) → h < length m.half_edges → g < length m.half_edges → face new h ≡ face new g
   no_face h g h_in g_in = zero_after h h_in ∙ sym (zero_after g g_in)
 
+  -- the end of any other edge than e stays
   pub origin_rev : (h : ℕ) → h < length m.half_edges → h ≢ e → origin new (rev h) ≡ origin m (rev h)
   origin_rev h within differs = i.other_origins (rev h) (rev_within h _ s.even within) (λ q. differs (rev_same h e q))
 
@@ -61,6 +65,7 @@ module _ (m new : Mesh) (e x : ℕ) (s : AreSoundLinks m) (i : MovesEnd m new e 
       still_named m new (origin m (next m e)) (next m e) i.out i.other_outs s (omega (arith, i.edge_count, i.after_in)) (i.other_origins _ i.after_in i.after_off)
       (λ h within off. (omega (arith, i.edge_count, within), i.other_origins h within (λ q. off (ap (origin m) q ∙ sym i.start))))
 
+  -- the new mesh is sound if each edge and the one after it fit together
   pub sound_with : ((h : ℕ) → h < length new.half_edges → IsNextSound new h) → AreSoundLinks new
   sound_with next_ok = record {
     even = rw i.edge_count s.even;

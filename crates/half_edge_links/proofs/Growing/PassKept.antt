@@ -51,6 +51,7 @@ module _ (m new : Mesh) (e : ℕ) (s : AreSoundLinks m) (can : IsPassable m e) (
       λ h within a b c. (i.other_next h within c b a, λ q. b (sym (s.edges h within).prev_next ∙ ap (prev m) q)) in
       assumption (t, q_off, other)
 
+  -- the outer face keeps one loop when an edge passes the vertex at its end
   pub outline_passed : KeepsOneOutline m new
   outline_passed =
       let moves = end_moves m new e s can i in
@@ -76,6 +77,7 @@ module _ (m new : Mesh) (e : ℕ) (s : AreSoundLinks m) (can : IsPassable m e) (
   ends_passed : MovesEdge m new e (origin m e) (origin m (far_edge m e))
   ends_passed = ends_moved m new e (origin m e) (origin m (far_edge m e)) s can.within i.edge_count start_kept i.origin_twin (λ h within a b. i.other_origins h within b)
 
+-- a valid mesh stays valid when an edge of a line passes the vertex at its end
 pub valid_passed : (m : Mesh) (e : ℕ) → IsValidMesh m → IsPassable m e → IsValidMesh (passed m e)
 valid_passed m e valid can =
     let i = passes m e valid.sound can in
@@ -86,5 +88,6 @@ valid_passed m e valid can =
       small = small_same m (passed m e) i.vertex_count i.edge_count (ap length i.face_edges) valid.small;
     }
 
+-- an edge that passes the vertex at its end gets the far end of the next edge; no other ends change
 pub ends_passed_is : (m new : Mesh) (e : ℕ) → AreSoundLinks m → IsPassable m e → new ≡ passed m e → MovesEdge m new e (origin m e) (origin m (rev (next m e)))
 ends_passed_is m new e s can is = rw (is, ← can.two) (ends_passed m (passed m e) e s can (passes m e s can))

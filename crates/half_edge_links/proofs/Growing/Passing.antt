@@ -34,6 +34,7 @@ pub record IsBeside (m : Mesh) (e : ℕ) : Type 0 where
   pub there-twin : far_edge m e ≢ rev e
   pub before-twin : prev m (far_edge m e) ≢ rev e
 
+-- where an edge can pass the vertex at its end, the edges beside it are in the mesh and differ
 pub beside : (m : Mesh) (e : ℕ) → AreSoundLinks m → IsPassable m e → IsBeside m e
 beside m e s can =
     let here = s.edges e can.within in
@@ -50,6 +51,7 @@ beside m e s can =
     let before_twin : prev m (far_edge m e) ≢ rev e = λ q. can.corners (ap (origin m) (sym (rev-rev e) ∙ ap rev (sym q)) ∙ sym end_is ∙ ap (origin m) can.two) in
     assumption (can, here, there, twin, twin_in, back_is, off, edge_before, edge_there, before_there, there_twin, before_twin)
 
+-- an edge that passes the vertex at its end changes the links beside it, and no others
 pub passes : (m : Mesh) (e : ℕ) → AreSoundLinks m → IsPassable m e → Passes m (passed m e) e (far_edge m e) (next m e)
 unfolding passed passed_edges
 passes m e s can =
@@ -64,6 +66,7 @@ module _ (m new : Mesh) (e : ℕ) (s : AreSoundLinks m) (can : IsPassable m e) (
   t : IsBeside m e
   t = beside m e s can
 
+  -- the end of e moves to the far end of the next edge, where the edge from there starts
   pub end_moves : MovesEnd m new e (far_edge m e)
   end_moves = assumption t
 
@@ -91,5 +94,6 @@ module _ (m new : Mesh) (e : ℕ) (s : AreSoundLinks m) (can : IsPassable m e) (
             (i.other_origins (next m h) here.next_in off_twin) (origin_rev h within (λ q. not_edge (sym q))) (i.faces h within) (i.faces (next m h) here.next_in) (omega (arith, i.edge_count))
       ]
 
+  -- a sound mesh stays sound when an edge passes the vertex at its end
   pub sound_after_pass : AreSoundLinks new
   sound_after_pass = line.sound_with m new e _ s end_moves next_ok

@@ -29,6 +29,7 @@ pub record IsTail (m : Mesh) (e : ℕ) : Type 0 where
   pub back-twin : next m (next m e) ≢ rev e
   pub there-twin : next m e ≢ rev e
 
+-- where an edge can be moved to the far end of the next one, the edges beside it are in the mesh and differ
 pub tail : (m : Mesh) (e : ℕ) → AreSoundLinks m → IsSlidable m e → IsTail m e
 tail m e s can =
     let here = s.edges e can.within in
@@ -41,6 +42,7 @@ tail m e s can =
     let before_there : prev m (rev e) ≢ next m e = λ q. off_twin (ap (next m) (sym q) ∙ twin.next_prev) in
     assumption (can, here, there, twin, twin_in, off_twin, edge_before, edge_there, before_there)
 
+-- an edge that is moved to the far end of the next one changes the links beside it, and no others
 pub slides : (m : Mesh) (e : ℕ) → AreSoundLinks m → IsSlidable m e → Slides m (slid m e) e (next m e) (next m (next m e))
 unfolding slid slid_edges
 slides m e s can =
@@ -55,6 +57,7 @@ module _ (m new : Mesh) (e : ℕ) (s : AreSoundLinks m) (can : IsSlidable m e) (
   t : IsTail m e
   t = tail m e s can
 
+  -- the end of e moves to the far end of the next edge, where the second edge after e starts
   pub end_moves : MovesEnd m new e (next m (next m e))
   end_moves = assumption t
 
@@ -83,5 +86,6 @@ module _ (m new : Mesh) (e : ℕ) (s : AreSoundLinks m) (can : IsSlidable m e) (
             (i.other_origins (next m h) here.next_in off_twin) (origin_rev h within (λ q. not_edge (sym q))) (i.faces h within) (i.faces (next m h) here.next_in) (omega (arith, i.edge_count))
       ]
 
+  -- a sound mesh stays sound when an edge is moved to the far end of the next one
   pub sound_after_slide : AreSoundLinks new
   sound_after_slide = line.sound_with m new e _ s end_moves next_ok

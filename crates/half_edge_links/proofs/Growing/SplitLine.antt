@@ -10,6 +10,7 @@ use Rattle.half_edge_links.proofs.Sound.Parts.{rev_of_even, rev_of_odd, HasNoFac
 use Rattle.half_edge_links.proofs.OuterLoop.Outer.{same_outer, at_edge, is_edge}
 use Rattle.half_edge_links.proofs.Growing.FaceBeside.{differs_alone}
 
+-- an edge of a mesh without inner faces is outer
 pub line_outer : (m : Mesh) (e : ℕ) → AreSoundLinks m → IsLineEdge m e → IsOuter m e
 line_outer m e s line = (line.0, omega (arith, (s.edges e line.0).face_in, ap length line.1))
 
@@ -34,6 +35,7 @@ module _ (m mid new : Mesh) (e v : ℕ) (s : AreSoundLinks m) (line : IsLineEdge
         | inr other ↦ differs (q ∙ before_else other)
       ]
 
+  -- an edge from the end of e to v, and then a move of e to v, split e at v
   pub splits_line : Slides mid new e (next mid e) (next mid (next mid e)) → SplitsLine m new e v (length m.half_edges)
   splits_line j =
       let here = s.edges e line.0 in
@@ -76,6 +78,7 @@ module _ (m mid new : Mesh) (e v : ℕ) (s : AreSoundLinks m) (line : IsLineEdge
         outer_edge = j.outer_edge ∙ i.outer_edge;
       }
 
+  -- both sides of e give way to those of an edge to v and one from v, as outer edges
   pub splits_outer : SplitsLine m new e v (length m.half_edges) → SplitsOuter m new e v (length m.half_edges)
   splits_outer j =
       let r0 = rev_of_even _ s.even in
@@ -111,11 +114,13 @@ module _ (m mid new : Mesh) (e v : ℕ) (s : AreSoundLinks m) (line : IsLineEdge
         ];
       }
 
+-- the reverse of the edge that a vertex of a line names is outer
 pub into_outer : (m : Mesh) (u h : ℕ) → AreSoundLinks m → IsOnLine m u → out_edge m u ≡ Some h → IsOuter m (rev h)
 into_outer m u h s line is =
     let had = s.vertices u h is in
     let within : rev h < length m.half_edges = rev_within h _ s.even had.0 in
     (within, omega (arith, (s.edges (rev h) within).face_in, ap length line.one_face))
 
+-- the reverse of the edge that a vertex names ends at the vertex
 pub into_ends : (m : Mesh) (u h : ℕ) → AreSoundLinks m → out_edge m u ≡ Some h → origin m (rev (rev h)) ≡ u
 into_ends m u h s is = ap (origin m) (rev-rev h) ∙ (s.vertices u h is).1

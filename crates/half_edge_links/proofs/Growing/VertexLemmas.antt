@@ -11,6 +11,7 @@ get_or-push_none [] (suc v) = refl
 get_or-push_none (x ∷ xs) zero = refl
 get_or-push_none (x ∷ xs) (suc v) = get_or-push_none xs v
 
+-- a sound mesh stays sound when a vertex without edges is added
 pub sound_with_vertex : (m : Mesh) → AreSoundLinks m → AreSoundLinks (with_vertex m)
 sound_with_vertex m s = record {
   even = s.even;

@@ -28,18 +28,22 @@ module _ (n : ℕ) (old new : ℕ → ℕ) (t p q r s : ℕ) (w : IsMoved n old 
   at_t : before t ≡ among q
   at_t = stands_first among t t q q t refl
 
+  -- any other element than t stands for itself
   pub plain : (h : ℕ) → h ≢ t → before h ≡ among h
   plain h off = stands_other among t t q q h off off
 
   step : (h g : ℕ) → h < n → new h ≡ g → among h ≡ true → among g ≡ true
   step h g within at is = ap among (sym at) ∙ closed h within is
 
+  -- where r is in the set, t is too, as it comes after r now
   pub to_moved : before r ≡ true → among t ≡ true
   to_moved is = step r t w.r_in w.is_after (sym (plain r w.r_off) ∙ is)
 
+  -- where t is in the set, s is too, as it comes after t now
   pub from_moved : among t ≡ true → before s ≡ true
   from_moved is = plain s w.s_off ∙ step t s w.t_in w.is_before is
 
+  -- the set in which t stands for q is closed under the old walk
   pub closed_before : (h : ℕ) → h < n → before h ≡ true → before (old h) ≡ true
   closed_before h within is =
       elim (cases_eq h t or_else cases_eq h p or_else cases_eq h r) [

@@ -20,6 +20,7 @@ in_round m o h k v o_in p h_in same =
     let closed : IsClosed m (among_steps (turn m) o (k - 1)) = λ g g_in is. period_closed (turn m) o k p g is in
     in_period (turn m) o k h p (v.stars (among_steps (turn m) o (k - 1)) closed o h o_in h_in (sym same) (to_steps (turn m) o (k - 1) 0 (omega arith)))
 
+-- in a valid mesh, the walk round a vertex from the edge that it names meets each edge that starts there
 pub one_orbit : (m : Mesh) (u : ℕ) → IsValidMesh m → IsOneOrbit m u
 one_orbit m u v o h named h_in same =
     let had = v.sound.vertices u o named in
@@ -27,6 +28,7 @@ one_orbit m u v o h named h_in same =
     let found = in_round m o h p.0 v had.0 p.1 h_in (same ∙ sym had.1) in
     (found.0, sym found.2)
 
+-- each vertex with edges has one round of them, its inner faces lying between neighbours that follow
 pub edges_go_round : EdgesGoRound
 edges_go_round m v u o named =
     let s = v.sound in
@@ -60,6 +62,7 @@ step_at m o s within outer (suc i) =
     let here = s.edges _ was.0 in
     (here.next_in, here.same_face ∙ was.1)
 
+-- the outer edges of a valid mesh with one outer loop are one round
 pub outline_goes_round : OutlineGoesRound
 outline_goes_round m v one o named =
     let s = v.sound in

@@ -36,6 +36,7 @@ pub record IsPeriod (f : ℕ → ℕ) (o k : ℕ) : Type 0 where
   pub first : (j : ℕ) → 0 < j → j < k → iterate f j o ≢ o
 
 module _ (f : ℕ → ℕ) where
+  -- i + d steps from o are i steps from the place after d steps
   pub step_add : (o i d : ℕ) → iterate f (i + d) o ≡ iterate f i (iterate f d o)
   step_add o zero d = ap (λ j. iterate f j o) (let e : 0 + d ≡ d = omega arith in e)
   step_add o (suc i) d = let e : suc i + d ≡ suc (i + d) = omega arith in ap (λ j. iterate f j o) e ∙ ap f (step_add o i d)
@@ -92,6 +93,7 @@ module _ (f : ℕ → ℕ) (n : ℕ) (stays : (a : ℕ) → a < n → f a < n) (
             absurd (omega (arith, few, length-points f (suc n) s))
       ]
 
+  -- the walk from each number below n has a first return
   pub period_of : (s : ℕ) → s < n → (k : ℕ) × IsPeriod f s k
   period_of s within = let p = short_period s within in (p.0, p.2)
 

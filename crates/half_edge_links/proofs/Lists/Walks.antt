@@ -18,6 +18,7 @@ module _ (f : ℕ → ℕ) where
   among_steps o zero g = g == o
   among_steps o (suc k) g = if g == iterate f (suc k) o then true else among_steps o k g
 
+  -- each place up to the k-th step is among them
   pub to_steps : (o k i : ℕ) → i ≤ k → among_steps o k (iterate f i o) ≡ true
   unfolding among_steps
   to_steps o zero i less = let z : i ≡ 0 = omega arith in eq-eqb _ _ (ap (λ j. iterate f j o) z)
@@ -27,6 +28,7 @@ module _ (f : ℕ → ℕ) where
         | inr q ↦ if_either _ _ (inr (to_steps o k i (omega arith)))
       ]
 
+  -- each of the places is a step of the walk, at most the k-th
   pub from_steps : (o k g : ℕ) → among_steps o k g ≡ true → (i : ℕ) × (i ≤ k) × (g ≡ iterate f i o)
   unfolding among_steps
   from_steps o zero g is = (0, omega arith, eqb-true g o is)
@@ -45,11 +47,13 @@ module _ (f : ℕ → ℕ) where
       ]
 
   module _ (n : ℕ) (stays : (a : ℕ) → a < n → f a < n) (one_to_one : (a b : ℕ) → a < n → b < n → f a ≡ f b → a ≡ b) where
+    -- places at different steps before the first return differ
     pub steps_apart : (o k i j : ℕ) → o < n → IsPeriod f o k → i < j → j < k → iterate f i o ≢ iterate f j o
     steps_apart o k i j within p less j_in same =
         let d : i + (j - i) ≡ j = omega (arith, less) in
         p.first (j - i) (omega (arith, less)) (omega (arith, less, j_in)) (sym (step_back f n stays one_to_one o i (j - i) within (same ∙ ap (λ q. iterate f q o) (sym d))))
 
+  -- after the first return the same places come again
   pub steps_again : (o k i : ℕ) → IsPeriod f o k → iterate f (i + k) o ≡ iterate f i o
   steps_again o k i p = step_add f o i k ∙ ap (iterate f i) p.back
 
@@ -57,5 +61,6 @@ module _ (f : ℕ → ℕ) where
   pub in_period : (o k g : ℕ) → IsPeriod f o k → among_steps o (k - 1) g ≡ true → (i : ℕ) × (i < k) × (g ≡ iterate f i o)
   in_period o k g p is = let found = from_steps o (k - 1) g is in (found.0, omega (arith, found.1, p.some), found.2)
 
+  -- the places before the first return hold with each place the next one
   pub period_closed : (o k : ℕ) → IsPeriod f o k → (g : ℕ) → among_steps o (k - 1) g ≡ true → among_steps o (k - 1) (f g) ≡ true
   period_closed o k p = steps_closed o (k - 1) (let e : suc (k - 1) ≡ k = omega (arith, p.some) in ap (λ j. iterate f j o) e ∙ p.back)

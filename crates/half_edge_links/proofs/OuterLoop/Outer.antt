@@ -13,12 +13,15 @@ use Rattle.half_edge_links.proofs.Growing.Close.{corner}
 pub same_outer : (m new : Mesh) (h a b : ℕ) → IsOuterEdge m h a b → h < length new.half_edges → face new h ≡ face m h → origin new h ≡ origin m h → origin new (rev h) ≡ origin m (rev h) → IsOuterEdge new h a b
 same_outer m new h a b o within f x y = record { within = within; outer = f ∙ o.outer; source = x ∙ o.source; target = y ∙ o.target }
 
+-- what has the index and the ends of an outer edge is this outer edge
 pub at_edge : (m : Mesh) (h a b i p q : ℕ) → IsOuterEdge m i p q → IsEdge i p q h a b → IsOuterEdge m h a b
 at_edge m h a b i p q o is = rw (is.0, is.1, is.2) o
 
+-- two outer edges with the same index have the same ends
 pub is_edge : (m : Mesh) (h a b i p q : ℕ) → IsOuterEdge m h a b → IsOuterEdge m i p q → i ≡ h → IsEdge i p q h a b
 is_edge m h a b i p q o made same = (sym same, sym o.source ∙ ap (origin m) (sym same) ∙ made.source, sym o.target ∙ ap (λ k. origin m (rev k)) (sym same) ∙ made.target)
 
+-- an edge from the end of outer edge x to vertex v and back makes two outer edges; the others stay
 pub outer_hung : (m new : Mesh) (x v : ℕ) → AreSoundLinks m → IsOuter m x → Hangs m new x v (length m.half_edges) → HangsOuter m new x v (length m.half_edges)
 outer_hung m new x v s outer i =
     let here = s.edges x outer.0 in
@@ -38,6 +41,7 @@ outer_hung m new x v s outer i =
       ];
     }
 
+-- where e, the next edge and a new one get a face, the other side of the new one replaces both as outer edge
 pub outer_closed : (m new : Mesh) (e : ℕ) → AreSoundLinks m → IsClosable m e → Closes m new e (length m.half_edges) (length m.face_edges) → ClosesOuter m new e (length m.half_edges)
 outer_closed m new e s can i =
     let p = corner m e s can in

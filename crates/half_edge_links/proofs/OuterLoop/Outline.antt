@@ -30,6 +30,7 @@ pub record LiesAlong (m : Mesh) (before among : ℕ → Bool) (k : ℕ) : Type 0
   pub ahead_outer : face m ahead ≡ 0
   pub goes : among k ≡ true → before ahead ≡ true
 
+-- where each outer edge lies between old ones of one loop, a set that has one of them has all
 pub outlines : (m new : Mesh) (before among : ℕ → Bool) → HasOneOutline m → IsClosedAlong m before → ((k : ℕ) → k < length new.half_edges → face new k ≡ 0 → LiesAlong m before among k)
     → (h g : ℕ) → h < length new.half_edges → g < length new.half_edges → face new h ≡ 0 → face new g ≡ 0 → among h ≡ true → among g ≡ true
 outlines m new before among one closed lies h g h_in g_in h_outer g_outer is =
@@ -60,12 +61,14 @@ pub record SameOuter (m new : Mesh) : Type 0 where
   pub there : (h : ℕ) → h < length m.half_edges → face m h ≡ 0 → (h < length new.half_edges) × (face new h ≡ 0) × (next new h ≡ next m h)
   pub was : (h : ℕ) → h < length new.half_edges → face new h ≡ 0 → (h < length m.half_edges) × (face m h ≡ 0)
 
+-- the outer face keeps one loop where the outer edges and their order stay
 pub outline_same : (m new : Mesh) → SameOuter m new → KeepsOneOutline m new
 outline_same m new o one among closed h g h_in g_in h_outer g_outer is =
     let a = o.was h h_in h_outer in
     let b = o.was g g_in g_outer in
     one among (λ k k_in outer on. let c = o.there k k_in outer in ap among (sym c.2) ∙ closed k c.0 c.1 on) h g a.0 b.0 a.1 b.1 is
 
+-- the outer face keeps one loop when an edge is flipped
 pub outline_flipped : (m new : Mesh) (e : ℕ) → AreSoundLinks m → IsFlippable m e → Flips m new e → KeepsOneOutline m new
 outline_flipped m new e s can f =
     let away = λ (h : ℕ) (outer : face m h ≡ 0). turning.away_by_face m new e s can f h (λ q. absurd (omega (arith, q, outer, can.inner))) (λ q. absurd (omega (arith, q, outer, can.twin_inner))) in
@@ -76,6 +79,7 @@ outline_flipped m new e s can f =
       was = λ h within outer. let o = (outer_flipped m new e s can f).only h (origin new h) (origin new (rev h)) (record { within = within; outer = outer; source = refl; target = refl }) in (o.within, o.outer);
     })
 
+-- the outer face keeps one loop when a vertex is put into an inner face
 pub outline_inserted : (m new : Mesh) (v a : ℕ) → AreSoundLinks m → IsInnerEdge m a → IsAlone m v → Inserts m new v (face m a) a (length m.half_edges) (length m.face_edges) → KeepsOneOutline m new
 outline_inserted m new v a s inner alone i =
     let t : IsTriangle m a = triangle_at m a s inner.0 inner.1 in
@@ -115,6 +119,7 @@ module _ (m new : Mesh) (x v : ℕ) (s : AreSoundLinks m) (outer : IsOuter m x) 
         | inr (inr is) ↦ between (λ on. ap among is ∙ hang_back (hang_there on)) (λ on. hang_on (ap among (sym is) ∙ on))
       ]
 
+-- the outer face keeps one loop when an edge from the end of an outer edge to vertex v is made
 pub outline_hung : (m new : Mesh) (x v : ℕ) → AreSoundLinks m → IsOuter m x → Hangs m new x v (length m.half_edges) → KeepsOneOutline m new
 outline_hung m new x v s outer i one among closed =
     outlines m new among among one (hang_closed m new x v s outer i among closed) (λ k within. hang_lies m new x v s outer i among closed k (omega (arith, within, i.edge_count)))
@@ -170,6 +175,7 @@ module _ (m new : Mesh) (e : ℕ) (s : AreSoundLinks m) (can : IsClosable m e) (
         | inr (inr is) ↦ lies_as m close_before among e k can.within can.outer (close_first e refl ∙ ap among (sym is))
       ]
 
+-- the outer face keeps one loop when an outer edge, the next one and a new one get a face
 pub outline_closed : (m new : Mesh) (e : ℕ) → AreSoundLinks m → IsClosable m e → Closes m new e (length m.half_edges) (length m.face_edges) → KeepsOneOutline m new
 outline_closed m new e s can i one among closed =
     outlines m new (close_before m new e s can i among closed) among one (close_closed m new e s can i among closed)
@@ -186,6 +192,7 @@ module _ (m new : Mesh) (t p q r s : ℕ) (none : (h : ℕ) → h < length m.hal
         | inr off ↦ lies_as m _ among k k within (none k within) (walk.plain _ (next m) (next new) t p q r s w among on k off)
       ]
 
+  -- the outer face keeps one loop where one edge is moved along it
   pub outline_in_walk : KeepsOneOutline m new
   outline_in_walk one among closed =
       let on : (k : ℕ) → k < length m.half_edges → among k ≡ true → among (next new k) ≡ true = λ k within. closed k (rw count within) (still k within) in
@@ -204,11 +211,13 @@ module _ (m new : Mesh) (e : ℕ) (s : AreSoundLinks m) (can : IsSlidable m e) (
       λ h within a b c. (i.other_next h within b c a, λ q. b (sym (s.edges h within).prev_next ∙ ap (prev m) q ∙ t.there_prev)) in
       assumption (t, s_off, other)
 
+  -- the outer face keeps one loop when an edge is moved to the far end of the next one
   pub outline_slid : KeepsOneOutline m new
   outline_slid =
       let moves = end_moves m new e s can i in
       outline_in_walk m new (next m e) e (next m (next m e)) (prev m (rev e)) (rev e) (face_zero m new e _ s moves) (zero_after m new e _ s moves) i.edge_count t.twin_in there_moves
 
+-- the outer face has one loop when the first edge is made
 pub outline_connected : (m : Mesh) (a b : ℕ) → HasOneOutline (connected m a b)
 outline_connected m a b among closed zero zero h_in g_in p q is = is
 outline_connected m a b among closed zero (suc zero) h_in g_in p q is = closed 0 (omega arith) refl is

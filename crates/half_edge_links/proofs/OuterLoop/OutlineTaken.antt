@@ -17,6 +17,7 @@ use Rattle.half_edge_links.proofs.Stars.StarsRound.{stand_in, stands_first, stan
 use Rattle.half_edge_links.proofs.Removing.Track.{IsLeft, name, name_in, face_at, next_at, next_before, next_twin_before, old_at}
 use Rattle.half_edge_links.proofs.OuterLoop.Outline.{lies_as, lies_between, LiesAlong, outlines, outline_same}
 
+-- the outer face keeps one loop when the last vertex takes the index of another
 pub outline_moved : (m new : Mesh) (v : ℕ) → MovesVertex m new v → KeepsOneOutline m new
 outline_moved m new v c =
     outline_same m new (record {
@@ -130,6 +131,7 @@ module _ (m mid new : Mesh) (h : ℕ) (s : AreSoundLinks m) (can : IsHullEdge m 
             lies_as m before among k j k_in m_outer (plain k was.0.other_side ∙ ap among was.1)
       ]
 
+-- the outer face keeps one loop when an edge of the hull is peeled off
 pub outline_peeled : (m new : Mesh) (h : ℕ) → AreSoundLinks m → IsHullEdge m h → Peels m new h → KeepsOneOutline m new
 outline_peeled m new h s can p one among closed =
     outlines m new (before m p.opened new h s can p.opens p.removes among closed) among one (closed_before m p.opened new h s can p.opens p.removes among closed)
@@ -195,6 +197,7 @@ module _ (m new : Mesh) (e : ℕ) (s : AreSoundLinks m) (can : IsUnlinkable m e)
   free_all : HasOneOutline m → (i j : ℕ) → i < length new.half_edges → j < length new.half_edges → face new i ≡ 0 → face new j ≡ 0 → among i ≡ true → among j ≡ true
   free_all one = outlines m new free_before among one free_closed free_lies
 
+-- the outer face keeps one loop when an edge of which one end has no other edge is removed
 pub outline_removed : (m new : Mesh) (e : ℕ) → AreSoundLinks m → IsUnlinkable m e → Removes m new e → IsPendant m e → KeepsOneOutline m new
 outline_removed m new e s can r pendant one among closed =
     let t_in = rev_within e (length m.half_edges) s.even can.within in

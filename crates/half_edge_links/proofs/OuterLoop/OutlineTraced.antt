@@ -45,6 +45,7 @@ same_hole m new to A B ab ba t = record {
 abbrev pub Opened : Mesh → (ℕ → Type 0) → ℕ → ℕ → Type 0
 Opened m InHole f k = InHole k ⊎ ((k < length m.half_edges) × (face m k ≡ f))
 
+-- the outer edges follow each other as before once face f is given to the outer one and joins the hole
 pub traces_opened : (m old new : Mesh) (to : ℕ → ℕ) (InHole : ℕ → Type 0) (f : ℕ) → 0 < f → 0 < length old.face_edges → Opens old new f → TracesOuter m old to InHole → TracesOuter m new to (Opened old InHole f)
 traces_opened m old new to InHole f some faces o t = record {
   there = λ h within outer.
@@ -64,6 +65,7 @@ traces_opened m old new to InHole f some faces o t = record {
 
 -- an edge with both sides in the hole goes
 module _ (m old new : Mesh) (to : ℕ → ℕ) (InHole : ℕ → Type 0) (e : ℕ) (s : AreSoundLinks old) (can : IsUnlinkable old e) (r : Removes old new e) where
+  -- the new index of an edge once e is gone, from its first one
   abbrev pub renamed : ℕ → ℕ
   renamed h = name old new e s can r (to h)
 
@@ -74,6 +76,7 @@ module _ (m old new : Mesh) (to : ℕ → ℕ) (InHole : ℕ → Type 0) (e : �
     pub was : InHole edge
     pub is : name old new e s can r edge ≡ j
 
+  -- the outer edges follow each other as before, if e and the edges beside it lie in the hole
   pub traces_removed : InHole e → InHole (rev e) → InHole (prev old e) → InHole (prev old (rev e)) → TracesOuter m old to InHole → TracesOuter m new renamed IsLeftOver
   traces_removed at at_twin before twin_before t = record {
     there = λ h within outer.

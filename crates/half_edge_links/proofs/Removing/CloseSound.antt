@@ -9,6 +9,7 @@ use Rattle.half_edge_links.proofs.Sound.Triangles.{IsTriangle}
 use Rattle.half_edge_links.proofs.Sound.FieldWrites.{sets_loop_face}
 use Rattle.half_edge_links.proofs.Sound.Parts.{IsBusy, loop_sound, sound_from, next_kept, prev_kept, inner_kept, KeepsBusy, KeepsFaceEdges}
 
+-- edge k is h, the edge after h or the one before it
 abbrev pub IsRound : Mesh → ℕ → ℕ → Type 0
 IsRound m h k = (k ≡ h) ⊎ ((k ≡ next m h) ⊎ (k ≡ prev m h))
 
@@ -19,6 +20,7 @@ module _ (m : Mesh) (h : ℕ) (s : AreSoundLinks m) (can : IsOpenTriangle m h) w
   here : IsSoundEdge m h
   here = s.edges h can.within
 
+  -- the edge, the next one and the one after it are a loop of three
   pub round : IsTriangle m h
   round =
       let three = can.three in
@@ -28,6 +30,7 @@ module _ (m : Mesh) (h : ℕ) (s : AreSoundLinks m) (can : IsOpenTriangle m h) w
       let prev_prev : prev m (prev m h) ≡ next m h = sym (ap (prev m) three) ∙ (s.edges (next m h) here.next_in).prev_next in
       assumption (can, here, face_prev, differs, both_differ, prev_prev)
 
+  -- the writes of the code give the loop a new face, which names h
   pub closes : ClosesLoop m (loop_closed m h) h
   unfolding loop_closed
   closes = assumption (sets_loop_face m.half_edges h (length m.face_edges + 1) round.h_in round.next_in round.prev_in)
@@ -88,6 +91,7 @@ module _ (m : Mesh) (h : ℕ) (s : AreSoundLinks m) (can : IsOpenTriangle m h) w
         let zero = can.outer in
         (λ z. absurd (omega (arith, ap (face m) z)), λ z. absurd (omega (arith, ap (face m) z, round.face_next)), λ z. absurd (omega (arith, ap (face m) z, round.face_prev)))
 
+    -- a sound mesh stays sound when an open triangle becomes a face
     pub sound_closed : AreSoundLinks new
     sound_closed = record {
       even = rw c.edge_count s.even;
@@ -113,6 +117,7 @@ module _ (m : Mesh) (h : ℕ) (s : AreSoundLinks m) (can : IsOpenTriangle m h) w
       has_outer = λ some. rw c.outer_edge (s.has_outer (rw c.edge_count at some));
     }
 
+    -- a small mesh with room for one more face stays small
     pub small_closed : IsSmall m → length m.face_edges + 2 ≤ MAX_ELEMENTS → IsSmall new
     small_closed small room = record {
       vertices = rw (ap length c.outs) small.vertices;

@@ -20,6 +20,7 @@ some_of (Some k) had = (k, refl)
 pub outer_of : (m : Mesh) (h : ℕ) → AreSoundLinks m → h < length m.half_edges → (k : ℕ) × (m.outer_edge ≡ Some k)
 outer_of m h s within = some_of m.outer_edge (s.has_outer (omega arith))
 
+-- the one edge of a vertex in a hole of three more edges can be taken out
 pub removable_last : (m : Mesh) (z : ℕ) → AreSoundLinks m → IsFanOfOne m z → IsUnlinkable m z
 removable_last m z s f =
     let t_in = rev_within z (length m.half_edges) s.even f.within in
@@ -38,27 +39,35 @@ removable_last m z s f =
     }
 
 module _ (m new : Mesh) (z : ℕ) (s : AreSoundLinks m) (f : IsFanOfOne m z) (r : Removes m new z) where
+  -- the last edge of the vertex can be taken out of its loops
   abbrev pub can : IsUnlinkable m z
   can = removable_last m z s f
 
+  -- the edge after z is left
   pub b3 : IsLeft m z (next m z)
   b3 = record { within = (s.edges z f.within).next_in; other = f.first_off.0; other_side = f.first_off.1 }
 
+  -- the second edge after z is left
   pub b1 : IsLeft m z (next m (next m z))
   b1 = record { within = (s.edges _ b3.within).next_in; other = f.second_off.0; other_side = f.second_off.1 }
 
+  -- the third edge after z is left
   pub b2 : IsLeft m z (next m (next m (next m z)))
   b2 = record { within = (s.edges _ b1.within).next_in; other = f.third_off.0; other_side = f.third_off.1 }
 
+  -- the edge before z is its other side, as z is alone at its start
   pub before : prev m z ≡ rev z
   before = ap (prev m) (sym f.pendant) ∙ (s.edges (rev z) (rev_within z (length m.half_edges) s.even f.within)).prev_next
 
+  -- the edge before the other side of z is the third edge after z
   pub twin_before : prev m (rev z) ≡ next m (next m (next m z))
   twin_before = ap (prev m) (sym f.round) ∙ (s.edges _ b2.within).prev_next
 
+  -- the second edge after z still comes after the first one
   pub next_border : next new (name m new z s can r (next m z)) ≡ name m new z s can r (next m (next m z))
   next_border = next_at m new z s can r (next m z) b3 (λ q. b3.other_side (q ∙ before)) (λ q. f.apart.1 (sym (q ∙ twin_before)))
 
+  -- the third edge after z comes before the first one now
   pub prev_border : prev new (name m new z s can r (next m z)) ≡ name m new z s can r (next m (next m (next m z)))
   prev_border =
       let n2 = next_twin_before m new z s can r (next m (next m (next m z))) b2 (sym twin_before) in
@@ -89,15 +98,18 @@ module _ (m mid new : Mesh) (a z : ℕ) (s : AreSoundLinks m) (f : IsFanOfTwo m 
   abbrev a_in : a < length m.half_edges
   a_in = f.peelable.within
 
+  -- edge a lies on a loop of three edges
   pub at_a : IsTriangle m a
   at_a = triangle_at m a s f.peelable.within f.peelable.inner
 
   abbrev inner : IsInner m (face m a)
   inner = (f.peelable.inner, (s.edges a a_in).face_in)
 
+  -- the mesh whose face between a and z was opened is sound
   abbrev pub s1 : AreSoundLinks mid
   s1 = sound_opened m mid (face m a) s inner o
 
+  -- edge a can be taken out of its loops once its face is open
   abbrev pub can1 : IsUnlinkable mid a
   can1 = removable_opened m mid a s f.peelable o
 
@@ -120,6 +132,7 @@ module _ (m mid new : Mesh) (a z : ℕ) (s : AreSoundLinks m) (f : IsFanOfTwo m 
   pub a_before : prev m a ≡ rev z
   a_before = sym (rev-rev (prev m a)) ∙ ap rev f.spoke
 
+  -- the edge before the other side of a is the second one after z
   pub twin_before1 : prev m (rev a) ≡ next m (next m z)
   twin_before1 = ap (prev m) (sym f.round) ∙ (s.edges _ c1_in).prev_next
 
@@ -136,24 +149,30 @@ module _ (m mid new : Mesh) (a z : ℕ) (s : AreSoundLinks m) (f : IsFanOfTwo m 
   z_twin : z ≢ rev a
   z_twin q = f.peelable.ends (sym f.same ∙ ap (origin m) q)
 
+  -- edge z is left once a is gone
   pub z_left : IsLeft mid a z
   z_left = left z f.within (off_a z z_face).0 z_twin
 
   c1_z : next m (next m z) ≢ z
   c1_z q = f.off (ap (origin m) q ∙ f.same)
 
+  -- the edge after z is left once a is gone
   pub c3_left : IsLeft mid a (next m z)
   c3_left = left (next m z) c3_in (off_a _ c3_face).0 (λ q. f.off (ap (origin m) (ap (next m) q ∙ f.gap) ∙ f.same))
 
+  -- the second edge after z is left once a is gone
   pub c1_left : IsLeft mid a (next m (next m z))
   c1_left = left (next m (next m z)) c1_in (off_a _ c1_face).0 (λ q. z_twin (sym f.gap ∙ sym (ap (next m) q) ∙ f.round))
 
+  -- the edge after a is left once a is gone
   pub c2_left : IsLeft mid a (next m a)
   c2_left = left (next m a) at_a.next_in at_a.next_differs (λ q. absurd (omega (arith, ap (face m) q, at_a.face_next, f.peelable.inner, f.peelable.outer)))
 
+  -- the other side of z is left once a is gone
   pub w_left : IsLeft mid a (rev z)
   w_left = left (rev z) (rw (← a_before) at_a.prev_in) (λ q. at_a.prev_differs (a_before ∙ q)) (λ q. (off_a z z_face).0 (sym (rev-rev z) ∙ ap rev q ∙ rev-rev a))
 
+  -- the new index of an edge that is left
   abbrev pub nm : ℕ → ℕ
   nm k = name mid new a s1 can1 r k
 
@@ -167,6 +186,7 @@ module _ (m mid new : Mesh) (a z : ℕ) (s : AreSoundLinks m) (f : IsFanOfTwo m 
   off_c2 : (k : ℕ) → face m k ≡ 0 → next m a ≢ k
   off_c2 k zero q = (off_a k zero).1 (sym q)
 
+  -- the same edge comes after z as before
   pub nz : next new (nm z) ≡ nm (next m z)
   nz = step z z_left (λ q. rev_differs z (sym q)) (λ q. c1_z (sym q))
 
@@ -179,24 +199,29 @@ module _ (m mid new : Mesh) (a z : ℕ) (s : AreSoundLinks m) (f : IsFanOfTwo m 
   n2 : next new (nm (next m a)) ≡ nm (rev z)
   n2 = step (next m a) c2_left c2_w (off_c2 _ c1_face) ∙ ap nm (at_a.next_next ∙ a_before)
 
+  -- the other side of z is the same edge as before
   pub rev_z : rev (nm z) ≡ nm (rev z)
   rev_z = rev_at mid new a s1 can1 r z z_left
 
   same : (x y : ℕ) → IsLeft mid a x → IsLeft mid a y → nm x ≡ nm y → x ≡ y
   same x y p q = name_same mid new a s1 can1 r x y p q
 
+  -- each edge that is left starts where it did
   pub origin_now : (k : ℕ) → IsLeft mid a k → origin new (nm k) ≡ origin m k
   origin_now k l = origin_at mid new a s1 can1 r k l ∙ o.origin k
 
   face_zero : (k : ℕ) → k < length m.half_edges → face m k ≡ 0 → face mid k ≡ 0
   face_zero k within zero = o.other k within (λ q. absurd (omega (arith, zero, inner.0))) (λ q. absurd (omega (arith, zero, inner.0, inner.1))) ∙ zero
 
+  -- the second edge after z is the same as before
   pub to1 : next new (next new (nm z)) ≡ nm (next m (next m z))
   to1 = ap (next new) nz ∙ step (next m z) c3_left (off_w _ c3_face) (λ q. f.apart (sym q))
 
+  -- the third edge after z is the one that came after a
   pub to2 : next new (next new (next new (nm z))) ≡ nm (next m a)
   to2 = ap (next new) to1 ∙ n1
 
+  -- what is left of a vertex with two edges has one, z, in a hole of three more
   pub fan_of_one : IsFanOfOne new (name mid new a s1 can1 r z)
   fan_of_one =
       let c3_z : next m z ≢ z = λ q. c1_z (ap (next m) q ∙ q) in

@@ -93,6 +93,7 @@ free_at m e v within same =
     let before = v.sound.edges (prev m e) here.prev_in in
     v.apart (prev m e) here.prev_in (ap (origin m) (sym same) ∙ there.starts ∙ ap (origin m) (rev-rev e ∙ sym here.next_prev) ∙ before.starts)
 
+-- in a valid mesh, an edge that may be removed can be taken out of its loops
 pub unlinkable : (m : Mesh) (e : ℕ) → IsValidMesh m → IsRemovable m e → IsUnlinkable m e
 unlinkable m e v can =
     let t_in = rev_within e (length m.half_edges) v.sound.even can.within in
@@ -108,19 +109,24 @@ unlinkable m e v can =
       whole = can.whole;
     }
 
+-- an edge that can be taken out of its loops may be removed
 pub removable : (m : Mesh) (e : ℕ) → IsUnlinkable m e → IsRemovable m e
 removable m e can = record { within = can.within; outer = can.outer; twin_outer = can.twin_outer; whole = can.whole }
 
+-- in a valid mesh, an edge that may be peeled off has different ends
 pub hull_edge : (m : Mesh) (h : ℕ) → IsValidMesh m → IsPeelable m h → IsHullEdge m h
 hull_edge m h v can = record { within = can.within; inner = can.inner; outer = can.outer; ends = v.apart h can.within }
 
+-- an edge of the hull with different ends may be peeled off
 pub peelable : (m : Mesh) (h : ℕ) → IsHullEdge m h → IsPeelable m h
 peelable m h can = record { within = can.within; inner = can.inner; outer = can.outer }
 
 module _ (m : Mesh) (v : IsValidMesh m) (h : ℕ) (within : h < length m.half_edges) where
+  -- the next edge round the start of an edge is in the mesh
   pub turn_in : turn m h < length m.half_edges
   turn_in = rev_within _ _ v.sound.even (v.sound.edges h within).prev_in
 
+  -- the next edge round the start of an edge starts there too
   pub turn_starts : origin m (turn m h) ≡ origin m h
   turn_starts = let here = v.sound.edges h within in sym (v.sound.edges (prev m h) here.prev_in).starts ∙ ap (origin m) here.next_prev
 
@@ -153,6 +159,7 @@ from_three : (o a z k : ℕ) → in_three o a z k ≡ true → (k ≡ o) ⊎ ((k
 unfolding in_three
 from_three o a z k is = grind (arith, nat_tests)
 
+-- in a valid mesh, the three faces of a wheel differ, and its three edges are all those of its vertex
 pub full_wheel : (m : Mesh) (o : ℕ) → IsValidMesh m → IsWheel m o → IsFullWheel m o
 full_wheel m o v w =
     let a : ℕ = turn m o in
@@ -176,6 +183,7 @@ full_wheel m o v w =
       only = λ h h_in same. from_three o a z h (v.stars (in_three o a z) closed o h w.within h_in (sym same) (to_three o a z o (inl refl)));
     }
 
+-- each edge on the walk round a vertex is an edge of the mesh and starts there
 pub spoke_at : (m : Mesh) (h : ℕ) → AreSoundLinks m → h < length m.half_edges → (i : ℕ) → (spoke m h i < length m.half_edges) × (origin m (spoke m h i) ≡ origin m h)
 spoke_at m h s within zero = (within, refl)
 spoke_at m h s within (suc i) =
@@ -189,6 +197,7 @@ turn_one m s a b p q same =
     let prevs : prev m a ≡ prev m b = sym (rev-rev (prev m a)) ∙ ap rev same ∙ rev-rev (prev m b) in
     sym (s.edges a p).next_prev ∙ ap (next m) prevs ∙ (s.edges b q).next_prev
 
+-- in a valid mesh, the faces of a strip differ, and its edges are all those of its vertex
 pub full_strip : (m : Mesh) (h k : ℕ) → IsValidMesh m → IsStrip m h k → IsFullStrip m h k
 full_strip m h k v f =
     let s = v.sound in

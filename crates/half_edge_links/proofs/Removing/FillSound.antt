@@ -14,12 +14,15 @@ use Rattle.half_edge_links.proofs.Removing.UnlinkSound.{both, next_of, prev_of, 
 
 -- the new index of an element
 module _ (from to : ℕ) where
+  -- the first of the two that move gets the first new index
   pub pair_first : pair_moved from to from ≡ to
   pair_first = grind (arith, nat_tests)
 
+  -- the second of the two that move gets the index after it
   pub pair_second : pair_moved from to (from + 1) ≡ to + 1
   pair_second = grind (arith, nat_tests)
 
+  -- any other index stays
   pub pair_other : (h : ℕ) → h ≢ from → h ≢ from + 1 → pair_moved from to h ≡ h
   pair_other h a b = grind (arith, nat_tests)
 
@@ -37,6 +40,7 @@ module _ (last hole : ℕ) (last_even : last % 2 ≡ 0) (hole_even : hole % 2 �
         | inr (inr a) ↦ rw (pair_other hole last h a.0 a.1) (omega arith, a.0, a.1, pair_other last hole h (λ z. absurd (omega arith)) (λ z. absurd (omega arith)))
       ]
 
+  -- an edge that is left gets an index below the new count, from which its old one follows
   pub new_left : (h : ℕ) → h < last + 2 → h ≢ hole → h ≢ hole + 1 → (pair_moved last hole h < last) × (pair_moved hole last (pair_moved last hole h) ≡ h)
   new_left h within a b =
       elim (pair_cases last h) [
@@ -45,6 +49,7 @@ module _ (last hole : ℕ) (last_even : last % 2 ≡ 0) (hole_even : hole % 2 �
         | inr (inr c) ↦ rw (pair_other last hole h c.0 c.1) (omega arith, pair_other hole last h a b)
       ]
 
+  -- the old index of an edge's other side is that of the other side of its old index
   pub old_rev : (h : ℕ) → pair_moved hole last (rev h) ≡ rev (pair_moved hole last h)
   old_rev h =
       elim (pair_cases hole h) [
@@ -252,6 +257,7 @@ module _ (m : Mesh) (last hole : ℕ) (b : IsSoundBut m hole) (at_last : length 
             face_off one (face m (last + 1)) f some i ∙ face_off m.face_edges (face m last) f some j ∙ sym same
       ]
 
+  -- there are two directed edges fewer, and as many vertices and faces as before
   pub counts : (length (filled m last hole).half_edges ≡ last) × (length (filled m last hole).out_edges ≡ length m.out_edges) × (length (filled m last hole).face_edges ≡ length m.face_edges)
   unfolding filled
   counts = (
@@ -269,6 +275,7 @@ module _ (m : Mesh) (last hole : ℕ) (b : IsSoundBut m hole) (at_last : length 
   unfolding filled
   outer_is = refl
 
+  -- the mesh in which the last edge has the free index is the old one under new indexes
   pub renames_filled : Renames m (filled m last hole) (edge_naming last hole)
   renames_filled =
       record {

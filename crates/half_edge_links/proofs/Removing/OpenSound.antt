@@ -13,6 +13,7 @@ use Rattle.half_edge_links.proofs.Sound.Triangles.{triangle_at, same_loop}
 use Rattle.half_edge_links.proofs.Sound.FieldWrites.{sets_loop_face}
 use Rattle.half_edge_links.proofs.Sound.RenameSound.{sound_renamed}
 
+-- what may be missing stays the same where each index keeps its name
 pub same_renamed : (o : Option ℕ) → o ≡ renamed (λ h. h) o
 same_renamed None = refl
 same_renamed (Some h) = refl
@@ -21,16 +22,20 @@ same_renamed (Some h) = refl
 pub get_or-swap_remove_same : {X : Type 0} (xs : List X) (i : ℕ) (d : X) → i + 1 < length xs → get_or (swap_remove xs i d) i d ≡ get_or xs (length xs - 1) d
 get_or-swap_remove_same xs i d within = get_or-take (length xs - 1) (set xs i (get_or xs (length xs - 1) d)) i d (omega arith) ∙ get_or-set_same xs i _ d (omega arith)
 
+-- after the element at i is taken out, each other one but the last is where it was
 pub get_or-swap_remove_other : {X : Type 0} (xs : List X) (i k : ℕ) (d : X) → k + 1 < length xs → k ≢ i → get_or (swap_remove xs i d) k d ≡ get_or xs k d
 get_or-swap_remove_other xs i k d within differs = get_or-take (length xs - 1) (set xs i (get_or xs (length xs - 1) d)) k d (omega arith) ∙ get_or-set_other xs i k _ d differs
 
+-- what is left of a list with elements once one is taken out does not depend on the default
 pub swap_remove_default : {X : Type 0} (xs : List X) (i : ℕ) (d e : X) → 0 < length xs → swap_remove xs i d ≡ swap_remove xs i e
 swap_remove_default xs i d e some = ap (λ x. take (length xs - 1) (set xs i x)) (get_or_default xs (length xs - 1) d e (omega arith))
 
+-- a list is one shorter once an element is taken out
 pub length-swap_remove : {X : Type 0} (xs : List X) (i : ℕ) (d : X) → length (swap_remove xs i d) ≡ length xs - 1
 length-swap_remove xs i d = omega (arith, length-take (length xs - 1) (set xs i (get_or xs (length xs - 1) d)), length-set xs i (get_or xs (length xs - 1) d))
 
 module _ (m : Mesh) (f : ℕ) (s : AreSoundLinks m) (inner : IsInner m f) where
+  -- the writes of the code give face f to the outer one, and its index to the last face
   pub opens : Opens m (opened m f) f
   unfolding opened
   opens =
@@ -71,9 +76,11 @@ module _ (m : Mesh) (f : ℕ) (s : AreSoundLinks m) (inner : IsInner m f) where
         face_edges = refl;
       }
 
+-- the element that has moved is at its new index
 pub moved_hit : (from to x : ℕ) → x ≡ from → moved from to x ≡ to
 moved_hit from to x is = grind (arith, nat_tests)
 
+-- an element that has not moved keeps its index
 pub moved_miss : (from to x : ℕ) → x ≢ from → moved from to x ≡ x
 moved_miss from to x differs = grind (arith, nat_tests)
 
@@ -108,6 +115,7 @@ module _ (m new : Mesh) (f : ℕ) (s : AreSoundLinks m) (inner : IsInner m f) (o
   abbrev names : Naming
   names = record { edge = λ h. h; old_edge = λ h. h; vertex = λ v. v; old_vertex = λ v. v; face = opened_face (length m.face_edges) f; old_face = moved f (length m.face_edges) }
 
+  -- each edge of f has the outer face now, each of the last face has f, and others keep theirs
   pub face_opened : (k : ℕ) → k < length m.half_edges → face new k ≡ opened_face (length m.face_edges) f (face m k)
   face_opened k within =
       elim (cases_eq (face m k) f or_else cases_eq (face m k) (length m.face_edges)) [
@@ -119,6 +127,7 @@ module _ (m new : Mesh) (f : ℕ) (s : AreSoundLinks m) (inner : IsInner m f) (o
   kept : (h : ℕ) → h < length m.half_edges → IsKeptEdge new names h
   kept h within = record { within = rw o.edge_count within; back = refl }
 
+  -- a face that is left names the edge that it named under its old index
   pub face_named : (x : ℕ) → 0 < x → x + 1 ≤ length m.face_edges → face_edge new x ≡ face_edge m (moved f (length m.face_edges) x)
   face_named x some within =
       elim (cases_eq x f) [
@@ -171,9 +180,11 @@ module _ (m new : Mesh) (f : ℕ) (s : AreSoundLinks m) (inner : IsInner m f) (o
     has_outer = λ some. s.has_outer (rw o.edge_count at some);
   }
 
+  -- a sound mesh stays sound when an inner face is given to the outer one
   pub sound_opened : AreSoundLinks new
   sound_opened = sound_renamed m new names renames_opened
 
+-- a small mesh stays small when a face is given to the outer one
 pub small_opened : (m new : Mesh) (f : ℕ) → Opens m new f → IsSmall m → IsSmall new
 small_opened m new f o small = record {
   vertices = rw (ap length o.outs) small.vertices;

@@ -6,6 +6,7 @@ use Rattle.half_edge_links.specs.Peel.{Peels}
 use Rattle.half_edge_links.proofs.Removing.Conditions.{IsUnlinkable, IsHullEdge}
 use Rattle.half_edge_links.proofs.Lists.Rev.{rev_within}
 
+-- an edge of the hull can be taken out once the face on its left is given to the outer one
 pub removable_opened : (m new : Mesh) (h : ℕ) → AreSoundLinks m → IsHullEdge m h → Opens m new (face m h) → IsUnlinkable new h
 removable_opened m new h s can o =
     let t_in = rev_within h (length m.half_edges) s.even can.within in
@@ -25,5 +26,6 @@ removable_opened m new h s can o =
       whole = λ q p. absurd (omega (arith, can.inner, can.outer, here.same_face, ap (face m) (sym (o.next h) ∙ q)));
     }
 
+-- where an edge is peeled off, one inner face is less
 pub peels_faces : (m new : Mesh) (h : ℕ) → Peels m new h → length new.face_edges + 1 ≡ length m.face_edges
 peels_faces m new h p = omega (arith, p.opens.face_count, p.removes.face_count)

@@ -36,6 +36,7 @@ module _ (m : Mesh) (e : ℕ) (s : AreSoundLinks m) (can : IsUnlinkable m e) whe
         face_in = rw (ap length u.face_edges) at (b.faces_in k k_in);
       }
 
+  -- the code takes the edge out of its loops and gives its index to the last one
   pub removes : Removes m (removed m e) e
   removes =
       let u = unlinks m e s can in
@@ -57,9 +58,11 @@ last_in_range m e t n hs v can at_t at_n is =
     let even = v.sound.even in
     rw (is, at_t) (in_range_unlinked m e v.sound full (n - 2) (omega arith), in_range_unlinked m e v.sound full (n - 2 + 1) (omega arith))
 
+-- the mesh that is left once an edge is removed is sound
 pub sound_removed : (m new : Mesh) (e : ℕ) → Removes m new e → AreSoundLinks new
 sound_removed m new e r = sound_renamed r.between new (edge_naming (length m.half_edges - 2) (e - e % 2)) r.renames
 
+-- a small mesh stays small when an edge is removed
 pub small_removed : (m new : Mesh) (e : ℕ) → Removes m new e → IsSmall m → IsSmall new
 small_removed m new e r small = record {
   vertices = rw r.vertex_count small.vertices;

@@ -16,6 +16,7 @@ use Rattle.half_edge_links.proofs.Lists.Rev.{rev_within}
 use Rattle.half_edge_links.proofs.Removing.UnlinkSound.{inner_next, inner_prev}
 use Rattle.half_edge_links.proofs.Removing.Track.{last_pair, pair_at}
 
+-- triangles with the same three corners are the same
 pub same_triangle : (a b c x y z : ℕ) → a ≡ x → b ≡ y → c ≡ z → (let t : Triangle = record { first = a; second = b; third = c } in t) ≡ record { first = x; second = y; third = z }
 same_triangle a b c x y z p q r = cc
 
@@ -43,6 +44,7 @@ triangles_opened m new f o =
     map_same (triangle_at new) (triangle_at m) new.face_edges (λ h. same_triangle _ _ _ _ _ _ (o.origin h) (ap (origin new) (o.next h) ∙ o.origin (next m h)) (ap (origin new) (o.prev h) ∙ o.origin (prev m h)))
     ∙ ap (map (triangle_at m)) o.face_edges ∙ map-swap_remove (triangle_at m) m.face_edges (f - 1) 0
 
+-- a loop that becomes the last face adds its corners at the end, and no other corners change
 pub triangles_closed : (m new : Mesh) (h : ℕ) → ClosesLoop m new h → triangles new ≡ triangles m ++ triangle_at m h ∷ []
 triangles_closed m new h c =
     map_same (triangle_at new) (triangle_at m) new.face_edges (λ k. same_triangle _ _ _ _ _ _ (c.origins k) (ap (origin new) (c.nexts k) ∙ c.origins (next m k)) (ap (origin new) (c.prevs k) ∙ c.origins (prev m k)))
@@ -100,6 +102,7 @@ triangles_peeled m new h s can p =
 abbrev pub moved_triangle : ℕ → ℕ → Triangle → Triangle
 moved_triangle from to t = record { first = moved from to t.first; second = moved from to t.second; third = moved from to t.third }
 
+-- the corners at an edge are the former ones, the last vertex being named v
 pub triangle_moved : (m new : Mesh) (v h : ℕ) → AreSoundLinks m → MovesVertex m new v → h < length m.half_edges → triangle_at new h ≡ moved_triangle (length m.out_edges - 1) v (triangle_at m h)
 triangle_moved m new v h s c within =
     let here = s.edges h within in

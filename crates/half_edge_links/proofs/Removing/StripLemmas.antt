@@ -14,6 +14,7 @@ use Rattle.half_edge_links.proofs.Removing.PeelLemmas.{removable_opened}
 use Rattle.half_edge_links.proofs.Removing.WheelLemmas.{still_inner, still_apart}
 use Rattle.half_edge_links.proofs.Removing.Track.{IsLeft, name, name_in, name_same, origin_at, face_at, next_at, next_before, next_twin_before, old_at, rev_at}
 
+-- the edge of a vertex of the hull that has no inner faces any more may be removed
 pub removable_strip : (m : Mesh) (h : ℕ) → IsStrip m h 0 → IsRemovable m h
 removable_strip m h f = record {
   within = f.within;
@@ -31,15 +32,18 @@ peelable_strip m h k f = record {
 }
 
 module _ (m mid new : Mesh) (h k : ℕ) (s : AreSoundLinks m) (f : IsFullStrip m h (suc k)) (o : Opens m mid (face m h)) (r : Removes mid new h) where
+  -- the first edge can be taken out of its loops once its face is open
   pub can : IsUnlinkable mid h
   can = removable_opened m mid h s (peelable_strip m h k f) o
 
   inner_h : IsInner m (face m h)
   inner_h = (f.strip.inner 0 (omega arith), (s.edges h f.strip.within).face_in)
 
+  -- the mesh in which the first face is open is sound
   pub s1 : AreSoundLinks mid
   s1 = sound_opened m mid (face m h) s inner_h o
 
+  -- the new index of an edge that is left
   abbrev pub nm : ℕ → ℕ
   nm g = name mid new h s1 can r g
 
@@ -70,6 +74,7 @@ module _ (m mid new : Mesh) (h k : ℕ) (s : AreSoundLinks m) (f : IsFullStrip m
   left : (g : ℕ) → g < length m.half_edges → g ≢ h → g ≢ rev h → IsLeft mid h g
   left g within p q = record { within = rw o.edge_count within; other = p; other_side = q }
 
+  -- the spokes after the first one are left
   pub spoke_left : (i : ℕ) → i < suc k → IsLeft mid h (spoke m h (suc i))
   spoke_left i less = left _ (at (suc i)).0 (λ q. other_face i less (ap (face m) q)) (λ q. f.ends 0 (omega arith) (sym (ap (origin m) q) ∙ (at (suc i)).1))
 
@@ -95,10 +100,12 @@ module _ (m mid new : Mesh) (h k : ℕ) (s : AreSoundLinks m) (f : IsFullStrip m
       let b : prev new (nm (spoke m h (suc i))) ≡ nm (rev (spoke m h (suc (suc i)))) = ap (prev new) (sym n) ∙ ((sound_removed mid new h r).edges _ (name_in mid new h s1 can r _ l)).prev_next in
       ap rev b ∙ rev_at mid new h s1 can r _ l ∙ ap nm (rev-rev (spoke m h (suc (suc i))))
 
+  -- the spokes are the former ones but for the first, under their new indexes
   pub spokes : (i : ℕ) → i ≤ k → spoke new (nm (turn m h)) i ≡ nm (spoke m h (suc i))
   spokes zero less = refl
   spokes (suc i) less = ap (turn new) (spokes i (omega arith)) ∙ turn_now i (omega arith)
 
+  -- each edge that is left starts where it did
   pub origin_now : (g : ℕ) → IsLeft mid h g → origin new (nm g) ≡ origin m g
   origin_now g l = origin_at mid new h s1 can r g l ∙ o.origin g
 
@@ -108,6 +115,7 @@ module _ (m mid new : Mesh) (h k : ℕ) (s : AreSoundLinks m) (f : IsFullStrip m
   zero_now : (g : ℕ) → g < length m.half_edges → IsLeft mid h g → face m g ≡ 0 → face new (nm g) ≡ 0
   zero_now g within l none = face_at mid new h s1 can r g l ∙ o.other g within (λ q. absurd (omega (arith, none, inner_h.0))) (λ q. absurd (omega (arith, none, inner_h.0, inner_h.1))) ∙ none
 
+  -- the new first spoke starts at the same vertex
   pub start : origin new (nm (turn m h)) ≡ origin m h
   start = origin_now _ (spoke_left 0 (omega arith)) ∙ (at 1).1
 

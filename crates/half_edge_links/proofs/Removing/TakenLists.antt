@@ -22,6 +22,7 @@ use Rattle.half_edge_links.proofs.Removing.FillSound.{pair_first, pair_second, p
 use Rattle.half_edge_links.proofs.Removing.Track.{last_pair, pair_at, side_left, IsLeft, name_in, origin_at, face_at, old_at, rev_at}
 use Rattle.half_edge_links.proofs.Sound.Ends.{length-origins, get_or-origins, length-ends_twice, get_or-ends}
 
+-- the corners of an inner face that is given to the outer one go, and the last face takes its index
 pub removes_triangle : (m new : Mesh) (f : ℕ) → IsInner m f → Opens m new f → RemovesTriangle m new f
 removes_triangle m new f inner o =
     let n = length-map m.face_edges (triangle_at m) in
@@ -33,9 +34,11 @@ same_origins_ends m new count same =
     let k_in : k < length m.half_edges = omega (arith, within, length-origins new, count) in
     get_or-origins new k d (omega (arith, k_in, count)) ∙ same k k_in ∙ sym (get_or-origins m k d k_in)))
 
+-- no edge has other ends after a face is given to the outer one
 pub ends_opened : (m new : Mesh) (f : ℕ) → Opens m new f → ends new ≡ ends m
 ends_opened m new f o = same_origins_ends m new o.edge_count (λ k k_in. o.origin k)
 
+-- no edge has other ends after a loop becomes a face
 pub ends_loop_closed : (m new : Mesh) (h : ℕ) → ClosesLoop m new h → ends new ≡ ends m
 ends_loop_closed m new h c = same_origins_ends m new c.edge_count (λ k k_in. c.origins k)
 
@@ -43,10 +46,12 @@ ends_loop_closed m new h c = same_origins_ends m new c.edge_count (λ k k_in. c.
 pub ends_at : (m : Mesh) (k : ℕ) (d : Ends) → AreSoundLinks m → 2 * k + 1 < length m.half_edges → get_or (ends m) k d ≡ record { source = origin m (2 * k); target = origin m (2 * k + 1) }
 ends_at m k d s = get_or-ends m k d
 
+-- a sound mesh has two directed edges for each undirected one
 pub count_ends : (m : Mesh) → AreSoundLinks m → 2 * length (ends m) ≡ length m.half_edges
 count_ends m s = length-ends_twice m s
 
 module _ (m new : Mesh) (e : ℕ) (s : AreSoundLinks m) (can : IsUnlinkable m e) (r : Removes m new e) (s' : AreSoundLinks new) where
+  -- the ends of the edge go, and the last undirected edge takes its index
   pub removes_ends : RemovesEnds m new e
   removes_ends =
       let n = count_ends m s in
@@ -92,6 +97,7 @@ module _ (m new : Mesh) (e : ℕ) (s : AreSoundLinks m) (can : IsUnlinkable m e)
     target = ap (origin new) (rev_at m new e s can r k l) ∙ origin_at m new e s can r (rev k) (side_left m e k s l) ∙ o.target;
   }
 
+  -- the other outer edges stay, under their new indexes
   pub removes_outer : RemovesOuter m new e
   removes_outer = record {
     kept = λ h a b o p q. outer_left h a b (record { within = o.within; other = p; other_side = q }) o;
@@ -104,6 +110,7 @@ module _ (m new : Mesh) (e : ℕ) (s : AreSoundLinks m) (can : IsUnlinkable m e)
         (k, l.other, l.other_side, record { within = l.within; outer = sym (face_at m new e s can r k l) ∙ ap (face new) was.1 ∙ o.outer; source = source; target = target }, was.1);
   }
 
+-- the edges of an inner face that is given to the outer one become outer, and no others
 pub opens_outer : (m new : Mesh) (f : ℕ) → AreSoundLinks m → IsInner m f → Opens m new f → OpensOuter m new f
 opens_outer m new f s inner o = record {
   kept = λ h a b was stays. record {
@@ -124,6 +131,7 @@ opens_outer m new f s inner o = record {
       ];
 }
 
+-- the three edges of an open triangle that becomes a face are outer no more; the other outer edges stay
 pub closes_outer : (m new : Mesh) (h : ℕ) → IsOpenTriangle m h → ClosesLoop m new h → ClosesLoopOuter m new h
 closes_outer m new h can c = record {
   kept = λ k a b was stays. record {
@@ -147,6 +155,7 @@ closes_outer m new h can c = record {
       );
 }
 
+-- where an edge of the hull is peeled off, the other two edges of its face become outer
 pub peels_outer : (m new : Mesh) (h : ℕ) → AreSoundLinks m → IsHullEdge m h → Peels m new h → AreSoundLinks new → PeelsOuter m new h
 peels_outer m new h s can p s' =
     let inner : IsInner m (face m h) = (can.inner, (s.edges h can.within).face_in) in
@@ -179,12 +188,14 @@ peels_outer m new h s can p s' =
           );
     }
 
+-- where an edge of the hull is peeled off, the corners of its face go, and the last takes their index
 pub peels_triangle : (m new : Mesh) (h : ℕ) → AreSoundLinks m → IsHullEdge m h → Peels m new h → RemovesTriangle m new (face m h)
 peels_triangle m new h s can p =
     let here = s.edges h can.within in
     let n = length-map m.face_edges (triangle_at m) in
     triangles_peeled m new h s can p ∙ swap_remove_default (triangles m) (face m h - 1) (triangle_at m 0) no_triangle (omega (arith, n, can.inner, here.face_in))
 
+-- where an edge of the hull is peeled off, its ends go, and the last undirected edge takes its index
 pub peels_ends : (m new : Mesh) (h : ℕ) → AreSoundLinks m → IsHullEdge m h → Peels m new h → AreSoundLinks new → RemovesEnds m new h
 peels_ends m new h s can p s' =
     let inner : IsInner m (face m h) = (can.inner, (s.edges h can.within).face_in) in
@@ -201,6 +212,7 @@ module _ (m new : Mesh) (v : ℕ) (s : AreSoundLinks m) (c : MovesVertex m new v
   abbrev to : ℕ → ℕ
   to k = moved (length m.out_edges - 1) v k
 
+  -- the ends of the edges are the former ones, with v as the name of the last vertex
   pub moves_ends : MovesEnds m new v
   moves_ends =
       let n = length-origins m in
@@ -210,6 +222,7 @@ module _ (m new : Mesh) (v : ℕ) (s : AreSoundLinks m) (c : MovesVertex m new v
       get_or-origins new k d (omega (arith, within, n')) ∙ c.origins k k_in ∙ ap to (sym (get_or-origins m k 0 k_in)) ∙ sym (get_or-map to (origins m) k 0 d (omega (arith, k_in, n)))))
       ∙ paired-map to (origins m)
 
+  -- the corners of the faces are the former ones, with v as the name of the last vertex
   pub moves_triangles : MovesTriangles m new v
   moves_triangles =
       let n = length-map m.face_edges (triangle_at m) in
@@ -228,6 +241,7 @@ module _ (m new : Mesh) (v : ℕ) (s : AreSoundLinks m) (c : MovesVertex m new v
       ∙ ap moved_at (sym (get_or-map (triangle_at m) m.face_edges k 0 no_triangle k_in))
       ∙ sym (get_or-map moved_at (triangles m) k no_triangle d (omega (arith, n, k_in))))
 
+  -- the outer edges are the former ones, with v as the name of the last vertex
   pub moves_outer : MovesOuter m new v
   moves_outer = record {
     kept = λ h a b o. record {

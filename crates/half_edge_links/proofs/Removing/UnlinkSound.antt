@@ -14,9 +14,11 @@ use Rattle.half_edge_links.proofs.Lists.Orbits.{reached}
 use Rattle.half_edge_links.proofs.Sound.Parts.{sound_from, next_at, inner_kept}
 use Rattle.half_edge_links.proofs.Sound.FieldWrites.{writes_next, writes_prev, next_link, prev_link, face_link, origin_link}
 
+-- the edge after edge k in a list of directed edges
 abbrev pub next_of : List HalfEdge → ℕ → ℕ
 next_of hs k = (edge_at hs k).next
 
+-- the edge before edge k in a list of directed edges
 abbrev pub prev_of : List HalfEdge → ℕ → ℕ
 prev_of hs k = (edge_at hs k).prev
 
@@ -25,28 +27,36 @@ abbrev pub both : List HalfEdge → ℕ → ℕ → ℕ → ℕ → List HalfEdg
 both hs h x k y = with_prev (with_next hs h x) k y
 
 module _ (hs : List HalfEdge) (h x k y : ℕ) where
+  -- the writes of both links leave the length
   pub length_both : length (both hs h x k y) ≡ length hs
   length_both = (writes_prev (with_next hs h x) k y).count ∙ (writes_next hs h x).count
 
+  -- the edge after h is the written one
   pub next_both : h < length hs → next_of (both hs h x k y) h ≡ x
   next_both within = (writes_prev (with_next hs h x) k y).kept next_link refl h ∙ ap next_link ((writes_next hs h x).here within)
 
+  -- the edge after any other edge than h stays
   pub next_both_other : (j : ℕ) → j ≢ h → next_of (both hs h x k y) j ≡ next_of hs j
   next_both_other j differs = (writes_prev (with_next hs h x) k y).kept next_link refl j ∙ ap next_link ((writes_next hs h x).other j differs)
 
+  -- the edge before k is the written one
   pub prev_both : k < length hs → prev_of (both hs h x k y) k ≡ y
   prev_both within = ap prev_link ((writes_prev (with_next hs h x) k y).here (rw (writes_next hs h x).count within))
 
+  -- the edge before any other edge than k stays
   pub prev_both_other : (j : ℕ) → j ≢ k → prev_of (both hs h x k y) j ≡ prev_of hs j
   prev_both_other j differs = ap prev_link ((writes_prev (with_next hs h x) k y).other j differs) ∙ (writes_next hs h x).kept prev_link refl j
 
+  -- the writes of both links leave the origins
   pub origin_both : (j : ℕ) → (edge_at (both hs h x k y) j).origin ≡ (edge_at hs j).origin
   origin_both j = (writes_prev (with_next hs h x) k y).kept origin_link refl j ∙ (writes_next hs h x).kept origin_link refl j
 
+  -- the writes of both links leave the faces
   pub face_both : (j : ℕ) → (edge_at (both hs h x k y) j).face ≡ (edge_at hs j).face
   face_both j = (writes_prev (with_next hs h x) k y).kept face_link refl j ∙ (writes_next hs h x).kept face_link refl j
 
 module _ (m : Mesh) (e : ℕ) (s : AreSoundLinks m) (can : IsUnlinkable m e) where
+  -- the writes of the code take the edge and its other side out of their loops
   pub unlinks : Unlinks m (unlinked m e) e (rev e)
   unfolding unlinked with_unlinked
   unlinks =
@@ -95,6 +105,7 @@ module _ (m : Mesh) (e : ℕ) (s : AreSoundLinks m) (can : IsUnlinkable m e) whe
         outer_edge = refl;
       }
 
+-- numbers that are there and equal as optional ones are equal
 pub some_same : (a b : ℕ) → (let o : Option ℕ = Some a in o) ≡ Some b → a ≡ b
 some_same a b same = cc
 
@@ -105,17 +116,21 @@ halves e = grind (arith, nat_tests)
 beside_cases : (t n p : ℕ) → ((n ≢ t) × (outer_beside t n p ≡ Some n)) ⊎ (((n ≡ t) × (p ≢ t) × (outer_beside t n p ≡ Some p)) ⊎ ((n ≡ t) × (p ≡ t) × (outer_beside t n p ≡ None)))
 beside_cases t n p = grind (arith, nat_tests)
 
+-- the outer face names one beside edge e once e is out, if it named e or its reverse t, or else what it did
 pub after_cases : (h e t n p : ℕ) → (((h ≡ e) ⊎ (h ≡ t)) × (outer_after (Some h) e t n p ≡ outer_beside t n p)) ⊎ ((h ≢ e) × (h ≢ t) × (outer_after (Some h) e t n p ≡ Some h))
 after_cases h e t n p = grind (arith, nat_tests)
 
 -- what the rest of a mesh is when edge e, with other side t, was taken out
 module _ (m new : Mesh) (e : ℕ) (s : AreSoundLinks m) (can : IsUnlinkable m e) (u : Unlinks m new e (rev e)) where
+  -- the other side of e is in the mesh
   pub t_in : rev e < length m.half_edges
   t_in = rev_within e (length m.half_edges) s.even can.within
 
+  -- edge e was sound
   pub at_e : IsSoundEdge m e
   at_e = s.edges e can.within
 
+  -- the other side of e was sound
   pub at_t : IsSoundEdge m (rev e)
   at_t = s.edges (rev e) t_in
 
@@ -213,6 +228,7 @@ module _ (m new : Mesh) (e : ℕ) (s : AreSoundLinks m) (can : IsUnlinkable m e)
         | inr (h_e, inr h_t) ↦ let a = after h within h_e h_t in rw a.1.next_is (a.1.n_in, a.1.prev_is)
       ]
 
+  -- each edge but the two sides of e has an edge before it now
   pub before : (h : ℕ) → h < length m.half_edges → h ≢ e → h ≢ rev e → (b : ℕ) × IsBefore h b
   before h within h_e h_t =
       let b = reached (next new) (length m.half_edges) (λ k k_in. (back k k_in).0) (λ k l k_in l_in same. sym (back k k_in).1 ∙ ap (prev new) same ∙ (back l l_in).1) h within in (
@@ -231,6 +247,7 @@ module _ (m new : Mesh) (e : ℕ) (s : AreSoundLinks m) (can : IsUnlinkable m e)
   inner_next h within inner =
       u.other_next h (λ z. absurd (omega (arith, can.outer, ap (face m) z))) (λ z. absurd (omega (arith, can.twin_outer, ap (face m) z))) (λ z. absurd (omega (arith, p_face, ap (face m) z))) (λ z. absurd (omega (arith, x_face, ap (face m) z)))
 
+  -- an edge of an inner face keeps the edge before it
   pub inner_prev : (h : ℕ) → h < length m.half_edges → 0 < face m h → prev new h ≡ prev m h
   inner_prev h within inner =
       u.other_prev h (λ z. absurd (omega (arith, can.outer, ap (face m) z))) (λ z. absurd (omega (arith, can.twin_outer, ap (face m) z))) (λ z. absurd (omega (arith, at_e.same_face, can.outer, ap (face m) z))) (λ z. absurd (omega (arith, at_t.same_face, can.twin_outer, ap (face m) z)))
@@ -279,6 +296,7 @@ module _ (m new : Mesh) (e : ℕ) (s : AreSoundLinks m) (can : IsUnlinkable m e)
     | inr i ↦ (λ z. b (z ∙ i.0), λ z. a (z ∙ i.1))
   ]
 
+  -- an edge that is not e or its other side is none of the two in order
   pub sides_back : (h : ℕ) → h ≢ e → h ≢ rev e → (h ≢ e - e % 2) × (h ≢ e - e % 2 + 1)
   sides_back h a b = elim (halves e) [
     | inl i ↦ (λ z. a (z ∙ sym i.0), λ z. b (z ∙ sym i.1))
@@ -342,6 +360,7 @@ module _ (m new : Mesh) (e : ℕ) (s : AreSoundLinks m) (can : IsUnlinkable m e)
         | inr i ↦ rw i.2 refl
       ]
 
+  -- the mesh is sound but for the two sides of e, to which nothing else refers
   pub sound_but : IsSoundBut new (e - e % 2)
   sound_but =
       let n = at_sides (λ k. next new k ≡ k) u.next_self u.twin_next_self in

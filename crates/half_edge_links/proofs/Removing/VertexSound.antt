@@ -58,6 +58,7 @@ module _ (old new : List HalfEdge) (first v i h : ℕ) (c : CanWalk old) (w : Ha
   next_place : turn_of (with_origin new h v) h ≡ iterate (turn_of old) (suc i) first
   next_place = ap rev ((writes_origin new h v).kept prev_link refl h ∙ w.prevs h) ∙ ap (turn_of old) w.place
 
+  -- where the next edge is not the first one, the walk has come one step further
   pub walk_more : (n : ℕ) → n ≡ turn_of (with_origin new h v) h → n ≢ first → HasWalked old (with_origin new h v) first v (i + 1) n
   walk_more n is differs =
       let place : n ≡ iterate (turn_of old) (i + 1) first = let q : suc i ≡ i + 1 = omega arith in is ∙ next_place ∙ ap (λ j. iterate (turn_of old) j first) q in
@@ -86,6 +87,7 @@ module _ (old new : List HalfEdge) (first v i h : ℕ) (c : CanWalk old) (w : Ha
         | inr q ↦ (suc was.0, omega (arith, was.1), ap (turn_of old) was.2)
       ]
 
+  -- where the next edge is the first one, the origins of all edges round the vertex are moved
   pub walk_ends : (n : ℕ) → n ≡ turn_of (with_origin new h v) h → n ≡ first → MovesOrigins old (with_origin new h v) first v
   walk_ends n is back =
       let round : iterate (turn_of old) (suc i) first ≡ first = sym next_place ∙ sym is ∙ back in
@@ -98,6 +100,7 @@ module _ (old new : List HalfEdge) (first v i h : ℕ) (c : CanWalk old) (w : Ha
         other = other_more;
       }
 
+  -- a walk that is not back yet has not taken as many steps as there are edges
   pub no_end : first < length old → i ≡ length old → ⊥
   no_end within all =
       let b = comes_back (turn_of old) (length old) c.stays c.apart first within in
@@ -110,6 +113,7 @@ module _ (m new : Mesh) (v : ℕ) (s : AreSoundLinks m) (alone : IsAlone m v) (c
   abbrev names : Naming
   names = record { edge = λ h. h; old_edge = λ h. h; vertex = moved (length m.out_edges - 1) v; old_vertex = moved v (length m.out_edges - 1); face = λ f. f; old_face = λ f. f }
 
+  -- there is one vertex fewer
   pub vertex_count : length new.out_edges + 1 ≡ length m.out_edges
   vertex_count = let e = ap length c.out_edges in omega (arith, length-swap_remove m.out_edges v None, alone.0)
 
@@ -178,9 +182,11 @@ module _ (m new : Mesh) (v : ℕ) (s : AreSoundLinks m) (alone : IsAlone m v) (c
     has_outer = λ some. s.has_outer (rw c.edge_count at some);
   }
 
+  -- a sound mesh stays sound when the last vertex takes the index of one without edges
   pub sound_moved : AreSoundLinks new
   sound_moved = sound_renamed m new names renames_moved
 
+  -- a small mesh stays small when the last vertex takes the index of one without edges
   pub small_moved : IsSmall m → IsSmall new
   small_moved small = record {
     vertices = omega (arith, vertex_count, small.vertices);
@@ -218,6 +224,7 @@ moves_none m new v s alone none same a b c = record {
   outer_edge = c;
 }
 
+-- the last vertex, with edges or without, takes the index of one without, where its edges now start there
 pub moves_vertex : (m new : Mesh) (v : ℕ) (named : Option ℕ) → AreSoundLinks m → IsAlone m v → IsOneOrbit m (length m.out_edges - 1) → out_edge m (length m.out_edges - 1) ≡ named → MovesNamed m.half_edges new.half_edges named v → new.out_edges ≡ swap_remove m.out_edges v None → new.face_edges ≡ m.face_edges → new.outer_edge ≡ m.outer_edge → MovesVertex m new v
 moves_vertex m new v None s alone orbit named w a b c = moves_none m new v s alone named (w.none refl) a b c
 moves_vertex m new v (Some first) s alone orbit named w a b c = moves_some m new v first s alone orbit named (w.some first refl) a b c

@@ -25,6 +25,7 @@ pub record IsHoleOfThree (m : Mesh) (z v c0 c1 c2 : ℕ) : Type 0 where
   pub second : origin m (next m (next m (next m z))) ≡ c1
   pub third : origin m (next m z) ≡ c2
 
+-- once one face of a wheel is open and an edge is peeled off, one face and a hole of four edges are left
 pub hole_of_four : (m one two : Mesh) (o spoke : ℕ) → AreSoundLinks m → IsFullWheel m o → Opens m one (face m (turn m (turn m o))) → Peels one two o → spoke ≡ after_removal one o (turn one o)
     → (z : ℕ) × IsHoleOfFour two spoke z (origin m o) (origin m (rev o)) (origin m (rev (turn m o))) (origin m (rev (turn m (turn m o))))
 hole_of_four m one two o spoke s w op p is =
@@ -46,6 +47,7 @@ hole_of_four m one two o spoke s w op p is =
       },
     )
 
+-- once the last face is gone too, the vertex hangs by one edge in a hole with three corners
 pub hole_of_three : (m three : Mesh) (a z pendant v c0 c1 c2 : ℕ) → AreSoundLinks m → IsHoleOfFour m a z v c0 c1 c2 → Peels m three a → pendant ≡ after_removal m a (turn m a) → IsHoleOfThree three pendant v c0 c1 c2
 hole_of_three m three a z pendant v c0 c1 c2 s h p is =
     let f = h.fan in

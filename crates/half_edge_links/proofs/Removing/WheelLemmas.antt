@@ -35,40 +35,51 @@ module _ (m new : Mesh) (f : ℕ) (o : Opens m new f) (some : 0 < f) where
       ]
 
 module _ (m : Mesh) (o : ℕ) (s : AreSoundLinks m) (w : IsFullWheel m o) where
+  -- the next edge round the start of an edge is in the mesh
   pub turn_in : (h : ℕ) → h < length m.half_edges → turn m h < length m.half_edges
   turn_in h within = (spoke_at m h s within 1).0
 
+  -- the next edge round the start of an edge starts there too
   pub turn_starts : (h : ℕ) → h < length m.half_edges → origin m (turn m h) ≡ origin m h
   turn_starts h within = (spoke_at m h s within 1).1
 
+  -- the second spoke is in the mesh
   pub a_in : turn m o < length m.half_edges
   a_in = turn_in o w.wheel.within
 
+  -- the third spoke is in the mesh
   pub z_in : turn m (turn m o) < length m.half_edges
   z_in = turn_in (turn m o) a_in
 
+  -- the first face is a loop of three edges
   pub t1 : IsTriangle m o
   t1 = triangle_at m o s w.wheel.within w.wheel.first_inner
 
+  -- the second face is a loop of three edges
   pub t2 : IsTriangle m (turn m o)
   t2 = triangle_at m (turn m o) s a_in w.wheel.second_inner
 
+  -- the third face is a loop of three edges
   pub t3 : IsTriangle m (turn m (turn m o))
   t3 = triangle_at m (turn m (turn m o)) s z_in w.wheel.third_inner
 
+  -- the edge before the first spoke is the other side of the second
   pub before_o : prev m o ≡ rev (turn m o)
   before_o = sym (rev-rev (prev m o))
 
   before_a : prev m (turn m o) ≡ rev (turn m (turn m o))
   before_a = sym (rev-rev (prev m (turn m o)))
 
+  -- the edge before the third spoke is the other side of the first
   pub before_z : prev m (turn m (turn m o)) ≡ rev o
   before_z = sym (rev-rev (prev m (turn m (turn m o)))) ∙ ap rev w.wheel.round
 
+  -- the face of the third spoke is an inner one
   pub inner_z : IsInner m (face m (turn m (turn m o)))
   inner_z = (w.wheel.third_inner, (s.edges _ z_in).face_in)
 
   module _ (m1 : Mesh) (op : Opens m m1 (face m (turn m (turn m o)))) where
+    -- once the third face is open, the first spoke is an edge of the hull
     pub peelable_first : IsHullEdge m1 o
     peelable_first = record {
       within = rw op.edge_count w.wheel.within;
@@ -77,22 +88,27 @@ module _ (m : Mesh) (o : ℕ) (s : AreSoundLinks m) (w : IsFullWheel m o) where
       ends = λ q. w.first_end (sym (op.origin (rev o)) ∙ sym q ∙ op.origin o);
     }
 
+    -- the mesh in which the third face is open is sound
     pub s1 : AreSoundLinks m1
     s1 = sound_opened m m1 _ s inner_z op
 
     module _ (mid new : Mesh) (oq : Opens m1 mid (face m1 o)) (r : Removes mid new o) where
+      -- the mesh in which the first face is open too is sound
       pub s2 : AreSoundLinks mid
       s2 = sound_opened m1 mid (face m1 o) s1 (peelable_first.inner, (s1.edges o peelable_first.within).face_in) oq
 
+      -- the first spoke can be taken out of its loops once both its faces are open
       pub can : IsUnlinkable mid o
       can = removable_opened m1 mid o s1 peelable_first oq
 
+      -- the new index of an edge that is left
       abbrev pub nm : ℕ → ℕ
       nm k = name mid new o s2 can r k
 
       next_is : (k : ℕ) → next mid k ≡ next m k
       next_is k = oq.next k ∙ op.next k
 
+      -- opening the faces leaves the edge before each edge
       pub prev_is : (k : ℕ) → prev mid k ≡ prev m k
       prev_is k = oq.prev k ∙ op.prev k
 
@@ -102,18 +118,23 @@ module _ (m : Mesh) (o : ℕ) (s : AreSoundLinks m) (w : IsFullWheel m o) where
       left : (k : ℕ) → k < length m.half_edges → k ≢ o → k ≢ rev o → IsLeft mid o k
       left k within p q = record { within = rw count within; other = p; other_side = q }
 
+      -- the other side of the first spoke has the third face
       pub twin_face : face m (rev o) ≡ face m (turn m (turn m o))
       twin_face = ap (face m) (sym before_z) ∙ (t3).face_prev
 
+      -- the second spoke is left once the first is gone
       pub a_left : IsLeft mid o (turn m o)
       a_left = left _ a_in (λ q. w.first_apart (sym (ap (face m) q))) (λ q. w.second_apart (ap (face m) q ∙ twin_face))
 
+      -- the third spoke is left once the first is gone
       pub z_left : IsLeft mid o (turn m (turn m o))
       z_left = left _ z_in (λ q. w.third_apart (ap (face m) q)) (λ q. (t3).prev_differs (before_z ∙ sym q))
 
+      -- the edge after the first spoke is left once this is gone
       pub b1_left : IsLeft mid o (next m o)
       b1_left = left _ (t1).next_in (t1).next_differs (λ q. w.third_apart (sym (sym (t1).face_next ∙ ap (face m) q ∙ twin_face)))
 
+      -- the edge after the third spoke is left once the first is gone
       pub b3_left : IsLeft mid o (next m (turn m (turn m o)))
       b3_left = left _ (t3).next_in (λ q. w.third_apart (sym (t3).face_next ∙ ap (face m) q)) (λ q. (t3).both_differ (q ∙ sym before_z))
 
@@ -134,6 +155,7 @@ module _ (m : Mesh) (o : ℕ) (s : AreSoundLinks m) (w : IsFullWheel m o) where
       pub mid_before : prev mid o ≡ rev (turn m o)
       mid_before = prev_is o ∙ before_o
 
+      -- the edge before the other side of the first spoke is the one after the third
       pub mid_twin_before : prev mid (rev o) ≡ next m (turn m (turn m o))
       mid_twin_before = prev_is (rev o) ∙ ap (prev m) (sym before_z) ∙ (t3).prev_prev
 
@@ -143,9 +165,11 @@ module _ (m : Mesh) (o : ℕ) (s : AreSoundLinks m) (w : IsFullWheel m o) where
       gap : next new (nm (rev (turn m o))) ≡ nm (turn m (turn m o))
       gap = next_before mid new o s2 can r _ ra_left (sym mid_before) ∙ ap nm (next_is (rev o) ∙ ap (next m) (sym before_z) ∙ (t3).next_prev)
 
+      -- the same edge comes after the third spoke as before
       pub nz : next new (nm (turn m (turn m o))) ≡ nm (next m (turn m (turn m o)))
       nz = step _ z_left (λ q. w.third_apart (ap (face m) q ∙ ra_face)) (λ q. (t3).next_differs (sym q))
 
+      -- after the edge after the third spoke comes the one that came after the first
       pub n3 : next new (nm (next m (turn m (turn m o)))) ≡ nm (next m o)
       n3 = next_twin_before mid new o s2 can r _ b3_left (sym mid_twin_before) ∙ ap nm (next_is o)
 
@@ -155,12 +179,15 @@ module _ (m : Mesh) (o : ℕ) (s : AreSoundLinks m) (w : IsFullWheel m o) where
       nrz : next new (nm (rev (turn m (turn m o)))) ≡ nm (turn m o)
       nrz = step _ rz_left (λ q. w.first_apart (sym (sym rz_face ∙ ap (face m) q ∙ ra_face))) (λ q. w.second_apart (sym rz_face ∙ ap (face m) q ∙ (t3).face_next)) ∙ ap nm (ap (next m) (sym before_a) ∙ (t2).next_prev)
 
+      -- the mesh without the first spoke is sound
       pub s3 : AreSoundLinks new
       s3 = sound_removed mid new o r
 
+      -- each edge that is left starts where it did
       pub origin_now : (k : ℕ) → IsLeft mid o k → origin new (nm k) ≡ origin m k
       origin_now k l = origin_at mid new o s2 can r k l ∙ oq.origin k ∙ op.origin k
 
+      -- the other side of the second spoke is the same edge as before
       pub rev_a : rev (nm (turn m o)) ≡ nm (rev (turn m o))
       rev_a = rev_at mid new o s2 can r _ a_left
 
@@ -183,6 +210,7 @@ module _ (m : Mesh) (o : ℕ) (s : AreSoundLinks m) (w : IsFullWheel m o) where
           let same_face : face m1 (prev m1 o) ≡ face m1 o = sym (s1.edges (prev m1 o) at.prev_in).same_face ∙ ap (face m1) at.next_prev in
           oq.gone (rev (turn m o)) (rw (← to) at.prev_in) (ap (face m1) (sym to) ∙ same_face)
 
+      -- what is left of a vertex with three edges has two of them, and a face between them
       pub fan_of_two : IsFanOfTwo new (nm (turn m o)) (nm (turn m (turn m o)))
       fan_of_two =
           let v_a = turn_starts o w.wheel.within in

@@ -25,6 +25,7 @@ both_sides new h k is differs = rw is differs
 neq : {X : Type 0} {a b : X} → a ≢ b → b ≢ a
 neq differs same = differs (sym same)
 
+-- no edge joins a vertex to itself after a flip, where the corners that it joins differ
 pub apart_flipped : (m new : Mesh) (e : ℕ) → AreSoundLinks m → IsFlippable m e → Flips m new e → origin m (prev m e) ≢ origin m (prev m (rev e)) → HasApartEnds m → HasApartEnds new
 apart_flipped m new e s can f corners apart h within =
     elim (cases_eq h e or_else cases_eq h (rev e)) [
@@ -35,6 +36,7 @@ apart_flipped m new e s can f corners apart h within =
           (origin_kept m new e s can f (rev h) (λ q. b (sym (rev-rev h) ∙ ap rev q)) (λ q. a (sym (rev-rev h) ∙ ap rev q ∙ rev-rev e)))
     ]
 
+-- no edge joins a vertex to itself once a lonely vertex is joined to the end of an outer edge
 pub apart_hung : (m new : Mesh) (x v : ℕ) → AreSoundLinks m → IsOuter m x → IsAlone m v → Hangs m new x v (length m.half_edges) → HasApartEnds m → HasApartEnds new
 apart_hung m new x v s outer alone i apart h within =
     let there : origin new (length m.half_edges) ≢ origin new (length m.half_edges + 1) = λ q. differs_alone m (next m x) v s (s.edges x outer.0).next_in alone (sym i.there.origin ∙ q ∙ i.back.origin) in
@@ -44,6 +46,7 @@ apart_hung m new x v s outer alone i apart h within =
       | inr (inr is) ↦ rw is (both_sides new _ _ (rev_of_odd _ s.even) (neq there))
     ]
 
+-- no edge joins a vertex to itself once an outer edge, the next one and a new one get a face
 pub apart_closed : (m new : Mesh) (e : ℕ) → AreSoundLinks m → IsClosable m e → Closes m new e (length m.half_edges) (length m.face_edges) → HasApartEnds m → HasApartEnds new
 apart_closed m new e s can i apart h within =
     let c : IsCorner m e = corner m e s can in
@@ -65,6 +68,7 @@ start_off m e s can stars same =
     let at : e ≡ l = eqb-true e l is in
     can.apart (sym (rev-rev (next m e)) ∙ ap rev (sym t.back_is) ∙ ap rev (sym at))
 
+-- no edge joins a vertex to itself once an edge is moved to the far end of the next one
 pub apart_slid : (m new : Mesh) (e : ℕ) → AreSoundLinks m → IsSlidable m e → Slides m new e (next m e) (next m (next m e)) → HasStars m → HasApartEnds m → HasApartEnds new
 apart_slid m new e s can i stars apart h within =
     let t : IsTail m e = tail m e s can in
@@ -77,6 +81,7 @@ apart_slid m new e s can i stars apart h within =
       | inr (a, inr b) ↦ apart_kept m new h apart h_in (i.other_origins h h_in a) (i.other_origins (rev h) (rev_within _ _ s.even h_in) (λ q. b (sym (rev-rev h) ∙ ap rev q ∙ rev-rev e)))
     ]
 
+-- no edge joins a vertex to itself once a vertex is put into an inner face
 pub apart_inserted : (m new : Mesh) (v a : ℕ) → AreSoundLinks m → IsInnerEdge m a → IsAlone m v → Inserts m new v (face m a) a (length m.half_edges) (length m.face_edges) → HasApartEnds m → HasApartEnds new
 apart_inserted m new v a s inner alone i apart h within =
     let n : ℕ = length m.half_edges in
@@ -95,11 +100,13 @@ apart_inserted m new v a s inner alone i apart h within =
       | inr (inr (inr (inr (inr (inr is))))) ↦ rw is (both_sides new _ _ (inserting.rev5 m new v (face m a) a n (length m.face_edges) s inner alone refl refl refl i) (neq third))
     ]
 
+-- the first edge joins no vertex to itself, where its two ends differ
 pub apart_connected : (m : Mesh) (a b : ℕ) → a ≢ b → HasApartEnds (connected m a b)
 apart_connected m a b differs zero within = differs
 apart_connected m a b differs (suc zero) within = neq differs
 apart_connected m a b differs (suc (suc h)) within = absurd (omega arith)
 
+-- each vertex has one round of edges when the first edge is made, where its two ends differ
 pub stars_connected : (m : Mesh) (a b : ℕ) → a ≢ b → HasStars (connected m a b)
 stars_connected m a b differs among closed zero zero h_in g_in same is = is
 stars_connected m a b differs among closed zero (suc zero) h_in g_in same is = absurd (differs same)

@@ -23,6 +23,7 @@ module _ (m new : Mesh) (s : AreSoundLinks m) (same : (h : ℕ) → h < length m
   triangles_added : (h : ℕ) → new.face_edges ≡ m.face_edges ++ h ∷ [] → triangles new ≡ triangles m ++ triangle_at new h ∷ []
   triangles_added h is = ap (map (triangle_at new)) is ∙ map-append (triangle_at new) m.face_edges (h ∷ []) ∙ ap (λ (q : List Triangle). q ++ triangle_at new h ∷ []) mapped
 
+-- no face has other corners once a lonely vertex is joined to the end of an outer edge
 pub triangles_hung : (m new : Mesh) (x v : ℕ) → AreSoundLinks m → IsOuter m x → IsAlone m v → Hangs m new x v (length m.half_edges) → triangles new ≡ triangles m
 triangles_hung m new x v s outer alone i =
     triangles_kept m new s (λ h within some.
@@ -34,6 +35,7 @@ triangles_hung m new x v s outer alone i =
     let o3 = i.origins (prev m h) here.prev_in in
     cc) i.face_edges
 
+-- a new face of edge e, the next one and a new edge has their three corners; the other faces stay
 pub triangles_closed : (m new : Mesh) (e : ℕ) → AreSoundLinks m → IsClosable m e → Closes m new e (length m.half_edges) (length m.face_edges) → AddsTriangle m new (origin m e) (origin m (next m e)) (origin m (rev (next m e)))
 triangles_closed m new e s can i =
     let p = corner m e s can in

@@ -12,6 +12,7 @@ paired-append [] ys even = refl
 paired-append (a ∷ []) ys even = absurd (omega (arith, even))
 paired-append (a ∷ b ∷ rest) ys even = ap (λ (q : List Ends). record { source = a; target = b } ∷ q) (paired-append rest ys (omega (arith, even)))
 
+-- a list of even length has two numbers for each pair
 pub length-paired : (xs : List ℕ) → length xs % 2 ≡ 0 → 2 * length (paired xs) ≡ length xs
 length-paired [] even = refl
 length-paired (a ∷ []) even = absurd (omega (arith, even))
@@ -34,9 +35,11 @@ below k n =
     ]
 
 module _ (m : Mesh) where
+  -- there is one origin for each directed edge
   pub length-origins : length (origins m) ≡ length m.half_edges
   length-origins = length-map m.half_edges _
 
+  -- the list has the origin of each edge of the mesh at its index
   pub get_or-origins : (h d : ℕ) → h < length m.half_edges → get_or (origins m) h d ≡ origin m h
   get_or-origins h d within = get_or-map (λ (x : HalfEdge). x.origin) m.half_edges h no_edge d within
 
@@ -108,11 +111,13 @@ ends_moved m new e a b s within count at_e at_twin kept =
           read ∙ pairs ∙ sym was ∙ sym (get_or-set_other (ends m) (e / 2) k (along e a b) d (λ q. differs (sym q)))
     ])
 
+-- the ends of an edge of a sound mesh are in the list of ends, at half its index
 pub length-ends : (m : Mesh) (e : ℕ) → AreSoundLinks m → e < length m.half_edges → e / 2 < length (ends m)
 length-ends m e s within =
     let even_origins : length (origins m) % 2 ≡ 0 = rw length-origins s.even in
     omega (arith, within, length-paired (origins m) even_origins, length-origins m)
 
+-- a sound mesh has two directed edges for each undirected one
 pub length-ends_twice : (m : Mesh) → AreSoundLinks m → 2 * length (ends m) ≡ length m.half_edges
 length-ends_twice m s =
     let even_origins : length (origins m) % 2 ≡ 0 = rw length-origins s.even in

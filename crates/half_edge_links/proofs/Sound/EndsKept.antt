@@ -30,13 +30,16 @@ six m new a b c d e f x0 x1 x2 x3 x4 x5 (suc (suc (suc (suc zero)))) within = x4
 six m new a b c d e f x0 x1 x2 x3 x4 x5 (suc (suc (suc (suc (suc zero))))) within = x5
 six m new a b c d e f x0 x1 x2 x3 x4 x5 (suc (suc (suc (suc (suc (suc j)))))) within = absurd (omega (arith, within))
 
+-- an edge between the end of outer edge x and vertex v is added, and no other ends change
 pub ends_hung : (m new : Mesh) (x v : ℕ) → AreSoundLinks m → IsOuter m x → Hangs m new x v (length m.half_edges) → AddsEdge m new (origin m (rev x)) v
 ends_hung m new x v s outer i = ends_grown m new s (origin m (rev x) ∷ v ∷ []) i.edge_count i.origins (two m new (origin m (rev x)) v (i.there.origin ∙ (s.edges x outer.0).starts) i.back.origin)
 
+-- a new face of e, the next edge and a new one adds an edge from the end of the next one to the start of e
 pub ends_closed : (m new : Mesh) (e : ℕ) → AreSoundLinks m → IsClosable m e → Closes m new e (length m.half_edges) (length m.face_edges) → AddsEdge m new (origin m (rev (next m e))) (origin m e)
 ends_closed m new e s can i =
     ends_grown m new s (origin m (rev (next m e)) ∷ origin m e ∷ []) i.edge_count i.origins (two m new (origin m (rev (next m e))) (origin m e) (i.inside.origin ∙ (corner m e s can).end) i.outside.origin)
 
+-- a new face of outer edge e and vertex v adds the edges from the end of e to v and from v to its start
 pub ends_beside : (m mid new : Mesh) (e v : ℕ) → AreSoundLinks m → IsOuter m e → Hangs m mid e v (length m.half_edges) → AddsEdge m mid (origin m (rev e)) v → AddsEdge mid new (origin mid (rev (next mid e))) (origin mid e) → AddsTwoEdges m new (origin m (rev e)) v v (origin m e)
 ends_beside m mid new e v s outer i a b =
     let r0 = rev_of_even _ s.even in
@@ -44,10 +47,12 @@ ends_beside m mid new e v s outer i a b =
     let start = i.origins e outer.0 in
     rw (b, a, end, start, append_assoc) refl
 
+-- an edge that is moved to the far end of the next one gets that end; no other ends change
 pub ends_slid : (m new : Mesh) (e : ℕ) → AreSoundLinks m → IsSlidable m e → Slides m new e (next m e) (next m (next m e)) → MovesEdge m new e (origin m e) (origin m (next m (next m e)))
 ends_slid m new e s can i =
     ends_moved m new e (origin m e) (origin m (next m (next m e))) s can.within i.edge_count (i.other_origins e can.within (λ q. rev_differs e (sym q))) i.origin_twin (λ h within a b. i.other_origins h within b)
 
+-- edge e of a line that is split goes to v, and an edge from its former end to v is added
 pub ends_line : (m mid new : Mesh) (e v : ℕ) → AreSoundLinks m → IsLineEdge m e → Hangs m mid e v (length m.half_edges) → AddsEdge m mid (origin m (rev e)) v → MovesEdge mid new e (origin mid e) (origin mid (next mid (next mid e))) → SplitsLineEnds m new e v
 ends_line m mid new e v s line i a b =
     let start = i.origins e line.0 in
@@ -55,17 +60,20 @@ ends_line m mid new e v s line i a b =
     let place : e / 2 < length (ends m) = length-ends m e s line.0 in
     rw (b, a, start, far) (set-append_left (ends m) (record { source = origin m (rev e); target = v } ∷ []) (e / 2) (along e (origin m e) v) place)
 
+-- a flipped edge joins the two corners that were opposite it; no other ends change
 pub ends_flipped_is : (m new : Mesh) (e : ℕ) → AreSoundLinks m → IsFlippable m e → new ≡ flipped m e → MovesEdge m new e (origin m (prev m e)) (origin m (prev m (rev e)))
 ends_flipped_is m new e s can is =
     let f = flips m e s can in
     rw is (ends_moved m (flipped m e) e _ _ s can.within f.edge_count f.edge.origin f.twin.origin (λ h within a b. origin_kept m (flipped m e) e s can f h a b))
 
+-- a vertex that is put into an inner face is joined to its three corners; no other ends change
 pub ends_inserted_is : (m new : Mesh) (v a : ℕ) → AreSoundLinks m → IsInnerEdge m a → IsAlone m v → new ≡ inserted m v a → InsertsEnds m new v a
 ends_inserted_is m new v a s inner alone is =
     let i = inserts m v a s inner alone in
     rw is (ends_grown m (inserted m v a) s (origin m a ∷ v ∷ origin m (next m a) ∷ v ∷ origin m (prev m a) ∷ v ∷ []) i.edge_count (inserting.origin_kept m (inserted m v a) v _ a _ _ s inner alone refl refl refl i)
     (six m (inserted m v a) _ _ _ _ _ _ i.from_first.origin i.to_first.origin i.from_second.origin i.to_second.origin i.from_third.origin i.to_third.origin))
 
+-- an edge of the hull that is split joins the corner opposite it and v; two edges for its halves are added
 pub ends_half : (m mid new : Mesh) (e v : ℕ) → AreSoundLinks m → IsHalfSplittable m e → AddsFace m mid (rev e) v (length m.half_edges) (length m.face_edges) → AddsTwoEdges m mid (origin m (rev (rev e))) v v (origin m (rev e)) → MovesEdge mid new e (origin mid (prev mid e)) (origin mid (prev mid (rev e))) → HalfSplitsEnds m new e v
 ends_half m mid new e v s half i a b =
     let apex = halves.apex_is m mid e v s half i in

@@ -11,12 +11,15 @@ use Rattle.half_edge_links.specs.Remove.{with_loop_face}
 abbrev pub next_link : HalfEdge → ℕ
 next_link e = e.next
 
+-- the edge before an edge, as one of its links
 abbrev pub prev_link : HalfEdge → ℕ
 prev_link e = e.prev
 
+-- the face of an edge, as one of its links
 abbrev pub face_link : HalfEdge → ℕ
 face_link e = e.face
 
+-- the origin of an edge, as one of its links
 abbrev pub origin_link : HalfEdge → ℕ
 origin_link e = e.origin
 
@@ -42,18 +45,22 @@ writes hs h x = record {
 }
 
 module _ (hs : List HalfEdge) (h x : ℕ) where
+  -- a write of the next edge of h changes this link of h alone
   pub writes_next : Writes hs (with_next hs h x) h (record (edge_at hs h) { next = x })
   unfolding with_next
   writes_next = writes hs h _
 
+  -- a write of the edge before h changes this link of h alone
   pub writes_prev : Writes hs (with_prev hs h x) h (record (edge_at hs h) { prev = x })
   unfolding with_prev
   writes_prev = writes hs h _
 
+  -- a write of the face of h changes this link of h alone
   pub writes_face : Writes hs (with_face hs h x) h (record (edge_at hs h) { face = x })
   unfolding with_face
   writes_face = writes hs h _
 
+  -- a write of the origin of h changes this link of h alone
   pub writes_origin : Writes hs (with_origin hs h x) h (record (edge_at hs h) { origin = x })
   unfolding with_origin
   writes_origin = writes hs h _
@@ -76,6 +83,7 @@ face_more hs h x k within had =
       | inr differs ↦ elim had [ inl is ↦ absurd (differs is) | inr was ↦ ap face_link (w.other k differs) ∙ was ]
     ]
 
+-- writes at an edge, the next one and the one before give all three face x, and change nothing else
 pub sets_loop_face : (hs : List HalfEdge) (h x : ℕ) → h < length hs → (edge_at hs h).next < length hs → (edge_at hs h).prev < length hs → SetsLoopFace hs (with_loop_face hs h x) h x
 unfolding with_loop_face
 sets_loop_face hs h x h_in n_in p_in =

@@ -131,6 +131,7 @@ module _ (m : Mesh) (s : AreSoundLinks m) (f : ℕ → ℕ → ℤ) where
       ∙ same_sum _ _ _ _ (sym (over_outline n)) (sums_exchanged (λ k g. only_at (suc g) (side k) (face m k)) n (length m.face_edges) ∙ sym over_faces)
       ∙ swapped (total (along f) (outline m)) (total (around f) (triangles m))
 
+-- the sides of the inner faces and the outer edges add up to both directions of each edge
 pub sides_add_up : SidesAddUp
 sides_add_up m v f = add_up m v.sound f
 
@@ -142,5 +143,6 @@ total_none : (f : ℕ → ℕ → ℤ) (es : List Ends) → ((i j : ℕ) → f i
 total_none f [] opposite = refl
 total_none f (e ∷ es) opposite = same_sum _ _ _ _ (cancel _ _ (opposite e.source e.target)) (total_none f es opposite) ∙ zero_first (pos 0)
 
+-- the sides and the outer edges cancel out where the way back counts against the way there
 pub sides_cancel : SidesCancel
 sides_cancel m v f opposite = sym (sides_add_up m v f) ∙ total_none f (ends m) opposite

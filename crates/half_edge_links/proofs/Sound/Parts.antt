@@ -21,9 +21,11 @@ late_cases h n within = grind arith
 pub rev_of_even : (n : ℕ) → n % 2 ≡ 0 → rev n ≡ n + 1
 rev_of_even n even = grind (arith, common_steps)
 
+-- the reverse of the second side of a new edge is the first
 pub rev_of_odd : (n : ℕ) → n % 2 ≡ 0 → rev (n + 1) ≡ n
 rev_of_odd n even = grind (arith, common_steps)
 
+-- edge h and the edge after it fit together
 pub record IsNextSound (m : Mesh) (h : ℕ) : Type 0 where
   pub next_in : next m h < length m.half_edges
   pub prev_next : prev m (next m h) ≡ h
@@ -31,19 +33,23 @@ pub record IsNextSound (m : Mesh) (h : ℕ) : Type 0 where
   pub same_face : face m (next m h) ≡ face m h
   pub proper : next m h ≢ h
 
+-- the edge before h is in the mesh, and h comes after it
 pub record IsPrevSound (m : Mesh) (h : ℕ) : Type 0 where
   pub prev_in : prev m h < length m.half_edges
   pub next_prev : next m (prev m h) ≡ h
 
+-- the loop of h has three edges, and its face names one of them
 pub record IsInnerSound (m : Mesh) (h : ℕ) : Type 0 where
   pub three : next m (next m h) ≡ prev m h
   pub owned : (face_edge m (face m h) ≡ h) ⊎ ((face_edge m (face m h) ≡ next m h) ⊎ (face_edge m (face m h) ≡ prev m h))
 
+-- the origin of h, which names an edge, and the face of h are in the mesh
 pub record IsInMesh (m : Mesh) (h : ℕ) : Type 0 where
   pub origin_in : origin m h < length m.out_edges
   pub face_in : face m h ≤ length m.face_edges
   pub has_out : IsSome (out_edge m (origin m h))
 
+-- an edge whose parts are sound is sound, where the part of an inner face is asked for such a face alone
 pub sound_from : (m : Mesh) (h : ℕ) → IsInMesh m h → IsNextSound m h → IsPrevSound m h → (0 < face m h → IsInnerSound m h) → IsSoundEdge m h
 sound_from m h a n p inner =
     let three = λ (some : 0 < face m h). (inner some).three in
@@ -51,6 +57,7 @@ sound_from m h a n p inner =
     assumption (a, n, p, three, owned)
 
 module _ (old new : Mesh) (h : ℕ) (here : IsSoundEdge old h) where
+  -- edge h and the one after it still fit together where the links that this is about stay
   pub next_kept : next new h ≡ next old h → prev new (next old h) ≡ prev old (next old h) → origin new (next old h) ≡ origin old (next old h) → origin new (rev h) ≡ origin old (rev h) → face new h ≡ face old h → face new (next old h) ≡ face old (next old h) → length old.half_edges ≤ length new.half_edges → IsNextSound new h
   next_kept a b c d x y more = record {
     next_in = omega (arith, a, here.next_in, more);
@@ -60,12 +67,14 @@ module _ (old new : Mesh) (h : ℕ) (here : IsSoundEdge old h) where
     proper = λ same. here.proper (sym a ∙ same);
   }
 
+  -- edge h still comes after the one before it where both links stay
   pub prev_kept : prev new h ≡ prev old h → next new (prev old h) ≡ next old (prev old h) → length old.half_edges ≤ length new.half_edges → IsPrevSound new h
   prev_kept a b more = record {
     prev_in = omega (arith, a, here.prev_in, more);
     next_prev = cc here.next_prev;
   }
 
+  -- the loop of an inner face is still sound where its links and the edge that the face names stay
   pub inner_kept : 0 < face old h → next new h ≡ next old h → prev new h ≡ prev old h → face new h ≡ face old h → next new (next old h) ≡ next old (next old h) → face_edge new (face old h) ≡ face_edge old (face old h) → IsInnerSound new h
   inner_kept some a b c d named = record {
     three = let t = here.three some in cc;
@@ -75,6 +84,7 @@ module _ (old new : Mesh) (h : ℕ) (here : IsSoundEdge old h) where
     ];
   }
 
+-- a sound edge and the edge after it fit together
 pub next_of_sound : (m : Mesh) (h : ℕ) → IsSoundEdge m h → IsNextSound m h
 next_of_sound m h s = record { next_in = s.next_in; prev_next = s.prev_next; starts = s.starts; same_face = s.same_face; proper = s.proper }
 
@@ -104,6 +114,7 @@ pub record IsBusy (m : Mesh) (v : ℕ) : Type 0 where
 abbrev pub EachNextIsSound : Mesh → Type 0
 EachNextIsSound m = (h : ℕ) → h < length m.half_edges → IsNextSound m h
 
+-- each edge fits the edges beside it
 abbrev pub EachEdgeIsSound : Mesh → Type 0
 EachEdgeIsSound m = (h : ℕ) → h < length m.half_edges → IsSoundEdge m h
 
@@ -115,6 +126,7 @@ NamesOutEdges m = (u h : ℕ) → out_edge m u ≡ Some h → (h < length m.half
 abbrev pub NamesFaces : Mesh → Type 0
 NamesFaces m = (k : ℕ) → 0 < k → k ≤ length m.face_edges → (face_edge m k < length m.half_edges) × (face m (face_edge m k) ≡ k)
 
+-- the edge that the outer face names is one of its edges
 abbrev pub NamesOuterEdge : Mesh → Type 0
 NamesOuterEdge m = (h : ℕ) → m.outer_edge ≡ Some h → (h < length m.half_edges) × (face m h ≡ 0)
 
@@ -130,6 +142,7 @@ KeepsOutEdges m new = (u : ℕ) → IsSome (out_edge m u) → IsSome (out_edge n
 abbrev pub KeepsBusy : Mesh → Mesh → Type 0
 KeepsBusy m new = (h : ℕ) → h < length m.half_edges → IsBusy new (origin m h)
 
+-- each old inner face names the edge that it named
 abbrev pub KeepsFaceEdges : Mesh → Mesh → Type 0
 KeepsFaceEdges m new = (k : ℕ) → 0 < k → k ≤ length m.face_edges → face_edge new k ≡ face_edge m k
 
@@ -181,6 +194,7 @@ loop_sound m a b c x y z f l named =
 
 -- what the vertices name, where vertex v names edge x now
 module _ (m new : Mesh) (v x : ℕ) (out : out_edge new v ≡ Some x) (others : (u : ℕ) → u ≢ v → out_edge new u ≡ out_edge m u) where
+  -- a vertex that named an edge names one still
   pub still_out : KeepsOutEdges m new
   still_out u had =
       elim (cases_eq u v) [
@@ -188,6 +202,7 @@ module _ (m new : Mesh) (v x : ℕ) (out : out_edge new v ≡ Some x) (others : 
         | inr differs ↦ rw (others u differs) had
       ]
 
+  -- each named edge starts at its vertex, where x starts at v and edges of other vertices stay
   pub still_named : AreSoundLinks m → x < length new.half_edges → origin new x ≡ v → ((h : ℕ) → h < length m.half_edges → origin m h ≢ v → (h < length new.half_edges) × (origin new h ≡ origin m h)) → (u h : ℕ) → out_edge new u ≡ Some h → (h < length new.half_edges) × (origin new h ≡ u)
   still_named s x_in at kept u h is =
       elim (cases_eq u v) [
@@ -210,6 +225,7 @@ pub record IsKept (old new : Mesh) (h : ℕ) : Type 0 where
   pub vertices : length old.out_edges ≤ length new.out_edges
   pub faces : length old.face_edges ≤ length new.face_edges
 
+-- a sound edge stays sound where a change keeps what its soundness rests on
 pub sound_kept : (old new : Mesh) (h : ℕ) → IsSoundEdge old h → IsKept old new h → IsSoundEdge new h
 sound_kept old new h here k =
     let at_h = k.edge in

@@ -5,6 +5,7 @@ use Rattle.half_edge_links.specs.Mesh.{edge_at}
 use Rattle.half_edge_links.specs.Grow.{with_next, with_prev, with_origin}
 use Rattle.half_edge_links.proofs.Sound.FieldWrites.{writes_next, writes_prev, writes_origin, next_link, prev_link, face_link, origin_link}
 
+-- next edges at e, z and k, edges before at l, k and t, and the origin of t are new; all other links stay
 pub record Relinks (old new : List HalfEdge) (e t k l z x y w p q r o : ℕ) : Type 0 where
   pub count : length new ≡ length old
   pub next_e : (edge_at new e).next ≡ x
@@ -38,6 +39,7 @@ module _ (hs : List HalfEdge) (e t k l z x y w p q r o : ℕ) where
   abbrev six : List HalfEdge
   six = with_prev five t r
 
+  -- the list after the seven writes
   abbrev pub relinked : List HalfEdge
   relinked = with_origin six t o
 
@@ -47,6 +49,7 @@ module _ (hs : List HalfEdge) (e t k l z x y w p q r o : ℕ) where
   prevs : (h : ℕ) → (edge_at three h).prev ≡ (edge_at hs h).prev
   prevs h = (writes_next two k w).kept prev_link refl h ∙ (writes_next one z y).kept prev_link refl h ∙ (writes_next hs e x).kept prev_link refl h
 
+  -- the seven writes give these links and leave all others, where places of the same link differ
   pub relinks : e < length hs → t < length hs → k < length hs → l < length hs → z < length hs → e ≢ z → e ≢ k → z ≢ k → l ≢ k → l ≢ t → k ≢ t → Relinks hs relinked e t k l z x y w p q r o
   relinks e_in t_in k_in l_in z_in e-z e-k z-k l-k l-t k-t =
       let n1 : length one ≡ length hs = (writes_next hs e x).count in

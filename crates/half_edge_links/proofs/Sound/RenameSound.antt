@@ -75,6 +75,7 @@ module _ (old new : Mesh) (r : Naming) (n : Renames old new r) where
             absurd (cc)
       ]
 
+  -- the mesh under the new indexes is sound
   pub sound_renamed : AreSoundLinks new
   sound_renamed = record {
     even = n.even;

@@ -20,6 +20,7 @@ pub record IsTriangle (m : Mesh) (h : ℕ) : Type 0 where
   pub prev_next : prev m (next m h) ≡ h
   pub prev_prev : prev m (prev m h) ≡ next m h
 
+-- in a sound mesh, each edge of an inner face is one of three edges round it
 pub triangle_at : (m : Mesh) (h : ℕ) → AreSoundLinks m → h < length m.half_edges → 0 < face m h → IsTriangle m h
 triangle_at m h s within inner =
     let here = s.edges h within in

@@ -33,9 +33,11 @@ use Rattle.half_edge_links.proofs.Stars.StarsRemove.{stars_same, apart_same, apa
 pub small_same : (m new : Mesh) → length new.out_edges ≡ length m.out_edges → length new.half_edges ≡ length m.half_edges → length new.face_edges ≡ length m.face_edges → IsSmall m → IsSmall new
 small_same m new outs hs fs small = record { vertices = rw outs small.vertices; edges = rw hs small.edges; faces = rw fs small.faces }
 
+-- a mesh that equals a valid one is valid
 pub valid_as : (new whole : Mesh) → new ≡ whole → IsValidMesh whole → IsValidMesh new
 valid_as new whole is valid = rw is valid
 
+-- a valid mesh stays valid when a vertex is added, if vertices are few enough
 pub valid_with_vertex : (m : Mesh) → IsValidMesh m → length m.out_edges + 1 ≤ MAX_ELEMENTS → IsValidMesh (with_vertex m)
 valid_with_vertex m valid room = record {
   sound = sound_with_vertex m valid.sound;
@@ -48,6 +50,7 @@ valid_with_vertex m valid room = record {
   };
 }
 
+-- a valid mesh without edges stays valid when the first edge is made between two vertices that differ
 pub valid_connected : (m : Mesh) (a b : ℕ) → IsValidMesh m → m.half_edges ≡ [] → a < length m.out_edges → b < length m.out_edges → a ≢ b → IsValidMesh (connected m a b)
 valid_connected m a b valid none a_in b_in differs = record {
   sound = sound_connected m a b valid.sound none a_in b_in;
@@ -60,6 +63,7 @@ valid_connected m a b valid none a_in b_in differs = record {
   };
 }
 
+-- a valid mesh stays valid when an edge is flipped, if the corners opposite it differ
 pub valid_flipped : (m : Mesh) (e : ℕ) → IsValidMesh m → IsFlippable m e → origin m (prev m e) ≢ origin m (prev m (rev e)) → IsValidMesh (flipped m e)
 valid_flipped m e valid can corners =
     let f = flips m e valid.sound can in
@@ -70,6 +74,7 @@ valid_flipped m e valid can corners =
       small = small_same m (flipped m e) f.vertex_count f.edge_count f.face_count valid.small;
     }
 
+-- a valid mesh stays valid when a lonely vertex is put into an inner face, if edges and faces are few enough
 pub valid_inserted : (m : Mesh) (v a : ℕ) → IsValidMesh m → IsInnerEdge m a → IsAlone m v → length m.half_edges + 6 ≤ MAX_ELEMENTS → length m.face_edges + 3 ≤ MAX_ELEMENTS → IsValidMesh (inserted m v a)
 valid_inserted m v a valid inner alone room faces =
     let i = inserts m v a valid.sound inner alone in
@@ -84,6 +89,7 @@ valid_inserted m v a valid inner alone room faces =
       };
     }
 
+-- a valid mesh stays valid when a lonely vertex is joined to an outer edge's end, if edges are few enough
 pub valid_hung : (m : Mesh) (x v : ℕ) → IsValidMesh m → IsOuter m x → IsAlone m v → length m.half_edges + 2 ≤ MAX_ELEMENTS → IsValidMesh (hung m x v)
 valid_hung m x v valid outer alone room =
     let i = hangs m x v valid.sound outer alone in
@@ -98,6 +104,7 @@ valid_hung m x v valid outer alone room =
       };
     }
 
+-- a valid mesh stays valid when an outer edge, the next and a new one get a face, if all are few enough
 pub valid_closed : (m : Mesh) (e : ℕ) → IsValidMesh m → IsClosable m e → length m.half_edges + 2 ≤ MAX_ELEMENTS → length m.face_edges + 2 ≤ MAX_ELEMENTS → IsValidMesh (closed m e)
 valid_closed m e valid can room faces =
     let i = closes m e valid.sound can in
@@ -112,6 +119,7 @@ valid_closed m e valid can room faces =
       };
     }
 
+-- a valid mesh stays valid when an edge of a line is moved to the far end of the next one
 pub valid_slid : (m : Mesh) (e : ℕ) → IsValidMesh m → IsSlidable m e → IsValidMesh (slid m e)
 valid_slid m e valid can =
     let i = slides m e valid.sound can in
@@ -122,6 +130,7 @@ valid_slid m e valid can =
       small = small_same m (slid m e) i.vertex_count i.edge_count (ap length i.face_edges) valid.small;
     }
 
+-- a valid mesh stays valid when an inner face is given to the outer one
 pub valid_opened : (m new : Mesh) (f : ℕ) → IsValidMesh m → IsInner m f → Opens m new f → IsValidMesh new
 valid_opened m new f v inner o = record {
   sound = sound_opened m new f v.sound inner o;
@@ -130,6 +139,7 @@ valid_opened m new f v inner o = record {
   small = small_opened m new f o v.small;
 }
 
+-- a valid mesh stays valid when an open triangle becomes a face, if faces are few enough
 pub valid_loop_closed : (m new : Mesh) (h : ℕ) → IsValidMesh m → IsOpenTriangle m h → ClosesLoop m new h → length m.face_edges + 2 ≤ MAX_ELEMENTS → IsValidMesh new
 valid_loop_closed m new h v can c room = record {
   sound = sound_closed m h v.sound can new c;
@@ -138,6 +148,7 @@ valid_loop_closed m new h v can c room = record {
   small = small_closed m h v.sound can new c v.small room;
 }
 
+-- a valid mesh stays valid when an edge is removed that may be
 pub valid_removed : (m new : Mesh) (e : ℕ) → IsValidMesh m → IsRemovable m e → Removes m new e → IsValidMesh new
 valid_removed m new e v can r =
     let full = unlinkable m e v can in
@@ -148,6 +159,7 @@ valid_removed m new e v can r =
       small = small_removed m new e r v.small;
     }
 
+-- a valid mesh stays valid when a vertex without edges goes and the last one takes its index
 pub valid_moved : (m new : Mesh) (u : ℕ) → IsValidMesh m → IsAlone m u → MovesVertex m new u → IsValidMesh new
 valid_moved m new u v alone c = record {
   sound = sound_moved m new u v.sound alone c;

@@ -116,6 +116,7 @@ module _ (m new : Mesh) (v f a n g : ℕ) (s : AreSoundLinks m) (inner : IsInner
     | inr (p, inr q) ↦ from_first_spoke k q (to_first_spoke h p is)
   ]
 
+-- each vertex still has one round of edges once a vertex is put into an inner face
 pub stars_inserted : (m new : Mesh) (v a : ℕ) → AreSoundLinks m → IsInnerEdge m a → IsAlone m v → Inserts m new v (face m a) a (length m.half_edges) (length m.face_edges) → HasStars m → HasStars new
 stars_inserted m new v a s inner alone i stars among closed h k h_in k_in =
     all_round m new v (face m a) a (length m.half_edges) (length m.face_edges) s inner alone refl refl refl i among closed stars h k (omega (arith, h_in, i.edge_count)) (omega (arith, k_in, i.edge_count))

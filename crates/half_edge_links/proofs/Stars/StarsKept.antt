@@ -57,5 +57,6 @@ module _ (m new : Mesh) (x v : ℕ) (s : AreSoundLinks m) (outer : IsOuter m x) 
         ]
       ]
 
+-- each vertex still has one round of edges once a lonely vertex is joined to the end of an outer edge
 pub stars_hung : (m new : Mesh) (x v : ℕ) → AreSoundLinks m → IsOuter m x → IsAlone m v → Hangs m new x v (length m.half_edges) → HasStars m → HasStars new
 stars_hung m new x v s outer alone i stars among closed h g h_in g_in = all_round m new x v s outer alone i stars among closed h g (omega (arith, h_in, i.edge_count)) (omega (arith, g_in, i.edge_count))

@@ -16,10 +16,12 @@ use Rattle.half_edge_links.proofs.Removing.Track.{side_left, IsLeft, name, name_
 
 -- a mesh with the same walk round each vertex, and the same origins but for their names
 module _ (m new : Mesh) (count : length new.half_edges ≡ length m.half_edges) (prevs : (k : ℕ) → prev new k ≡ prev m k) where
+  -- each vertex keeps one round of edges, if edges with the same start now had the same before
   pub stars_same : ((h g : ℕ) → h < length m.half_edges → g < length m.half_edges → origin new h ≡ origin new g → origin m h ≡ origin m g) → HasStars m → HasStars new
   stars_same origins stars among closed h g h_in g_in same is =
       stars among (λ k k_in on. ap (λ j. among (rev j)) (sym (prevs k)) ∙ closed k (rw count k_in) on) h g (rw (← count) h_in) (rw (← count) g_in) (origins h g (rw (← count) h_in) (rw (← count) g_in) same) is
 
+  -- the ends of each edge still differ, if edges with the same start now had the same before
   pub apart_same : length m.half_edges % 2 ≡ 0 → ((h g : ℕ) → h < length m.half_edges → g < length m.half_edges → origin new h ≡ origin new g → origin m h ≡ origin m g) → HasApartEnds m → HasApartEnds new
   apart_same even origins apart h within same =
       let h_in : h < length m.half_edges = rw (← count) within in
@@ -32,6 +34,7 @@ module _ (m new : Mesh) (e : ℕ) (s : AreSoundLinks m) (can : IsUnlinkable m e)
   abbrev nm : ℕ → ℕ
   nm k = name m new e s can r k
 
+  -- the ends of each edge still differ once an edge is removed
   pub apart_removed : HasApartEnds m → HasApartEnds new
   unfolding old
   apart_removed apart h within same =
@@ -120,6 +123,7 @@ module _ (m new : Mesh) (e : ℕ) (s : AreSoundLinks m) (can : IsUnlinkable m e)
           | inr (a, inr b) ↦ closed_left h (record { within = within; other = a; other_side = b }) is
         ]
 
+  -- each vertex keeps one round of edges once an edge is removed
   pub stars_removed : HasStars m → HasStars new
   unfolding old
   stars_removed stars among closed h g h_in g_in same is =

@@ -23,6 +23,7 @@ pub record LiesRound (m new : Mesh) (before among : ℕ → Bool) (k : ℕ) : Ty
   pub ahead_origin : origin new k ≡ origin m ahead
   pub goes : among k ≡ true → before ahead ≡ true
 
+-- of two edges of a vertex that lie between old ones, a set has the second if it has the first
 pub rounds : (m new : Mesh) (before among : ℕ → Bool) → HasStars m → IsClosed m before → (h g : ℕ) → LiesRound m new before among h → LiesRound m new before among g → origin new h ≡ origin new g → among h ≡ true → among g ≡ true
 rounds m new before among stars closed h g a b same is = b.comes (stars before closed a.ahead b.behind a.ahead_in b.behind_in (sym a.ahead_origin ∙ same ∙ b.behind_origin) (a.goes is))
 
@@ -81,6 +82,7 @@ module _ (m new : Mesh) (e : ℕ) (s : AreSoundLinks m) (can : IsClosable m e) (
             (rev_within _ _ s.even c.before_in) (ap (origin new) back ∙ i.outside.origin ∙ ap (origin m) (sym c.before_next) ∙ (s.edges (prev m e) c.before_in).starts) (λ is. outside_goes (ap among (sym back) ∙ is))
       ]
 
+-- each vertex still has one round of edges once an outer edge, the next one and a new one get a face
 pub stars_closed : (m new : Mesh) (e : ℕ) → AreSoundLinks m → IsClosable m e → Closes m new e (length m.half_edges) (length m.face_edges) → HasStars m → HasStars new
 stars_closed m new e s can i stars among closed h g h_in g_in =
     rounds m new among among stars (close_closed m new e s can i among closed) h g
@@ -91,14 +93,17 @@ stars_closed m new e s can i stars among closed h g h_in g_in =
 pub stand_in : (ℕ → Bool) → ℕ → ℕ → ℕ → ℕ → ℕ → Bool
 stand_in among e t x y h = if h == e then among x else (if h == t then among y else among h)
 
+-- the flipped edge e stands for edge x
 pub stands_first : (among : ℕ → Bool) (e t x y h : ℕ) → h ≡ e → stand_in among e t x y h ≡ among x
 unfolding stand_in
 stands_first among e t x y h is = grind (arith, common_steps)
 
+-- the reverse t of the flipped edge stands for edge y
 pub stands_second : (among : ℕ → Bool) (e t x y h : ℕ) → h ≢ e → h ≡ t → stand_in among e t x y h ≡ among y
 unfolding stand_in
 stands_second among e t x y h differs is = grind (arith, common_steps)
 
+-- an edge other than the flipped one and its reverse stands for itself
 pub stands_other : (among : ℕ → Bool) (e t x y h : ℕ) → h ≢ e → h ≢ t → stand_in among e t x y h ≡ among h
 unfolding stand_in
 stands_other among e t x y h a b = grind (arith, common_steps)
@@ -182,6 +187,7 @@ module _ (m new : Mesh) (e : ℕ) (s : AreSoundLinks m) (can : IsFlippable m e) 
         | inr (a, inr b) ↦ lies_kept m new before among k within (origin_kept m new e s can f k a b) (plain k a b)
       ]
 
+-- each vertex still has one round of edges once an edge is flipped
 pub stars_flipped : (m new : Mesh) (e : ℕ) → AreSoundLinks m → IsFlippable m e → Flips m new e → HasStars m → HasStars new
 stars_flipped m new e s can f stars among closed h g h_in g_in =
     rounds m new (before m new e s can f among closed) among stars (flip_closed m new e s can f among closed) h g

@@ -20,6 +20,7 @@ module _ (m new : Mesh) (t p q r s : ℕ) (count : length new.half_edges ≡ len
         | inr off ↦ lies_kept m new _ among k within (others k within off) (walk.plain _ (turn m) (turn new) t p q r s w among on k off)
       ]
 
+  -- each vertex keeps one round of edges where an edge goes from one round to another
   pub stars_in_walk : HasStars m → HasStars new
   stars_in_walk stars among closed h g h_in g_in =
       let on : (k : ℕ) → k < length m.half_edges → among k ≡ true → among (turn new k) ≡ true = λ k within. closed k (rw count within) in
@@ -48,5 +49,6 @@ module _ (m new : Mesh) (e : ℕ) (s : AreSoundLinks m) (can : IsSlidable m e) (
     other = λ h within a b c. (ap rev (i.other_prev h within c b a), λ q. b (sym (s.edges h within).next_prev ∙ ap (next m) (rev_same (prev m h) e q)));
   }
 
+  -- each vertex keeps one round of edges when an edge is moved to the far end of the next one
   pub stars_slid : HasStars m → HasStars new
   stars_slid = stars_in_walk m new (rev e) (next m e) (rev (prev m (rev e))) (next m (next m e)) (rev (next m e)) i.edge_count (rev_within _ _ s.even t.there_in) i.origin_twin (i.origin_twin ∙ ap (origin m) t.back_is) i.other_origins turns

@@ -1,3 +1,4 @@
+use Rattle.std.proofs.Common.{arith}
 use Rattle.plane.proofs.SmallCases as Small
 use Rattle.plane.proofs.LineListOrder as Order
 use Rattle.plane.proofs.HiddenVertex as Hidden
@@ -6,7 +7,7 @@ use Rattle.plane.proofs.definitions_hold.Goals as goal
 
 pub returns : goal.returns
 returns c = record {
-  point_is_nowhere = Small.nowhere;
+  point_is_nowhere = λ p. (omega arith, λ i h. absurd (omega arith));
   no_point_is_a_line = Small.none_joined;
   two_points_are_a_line = Small.two_joined;
   end_is_on_edge = Small.on_its_edge;
@@ -17,7 +18,11 @@ returns c = record {
   overlap_is_before_end = Order.overlap_first;
   diagonals_cross = Small.diagonals_cross;
   vertex_in_circle = Hidden.inside_circle;
-  constraint_hides_it = Hidden.hidden_is_delaunay;
+  constraint_hides_it = λ tiling. record {
+    tiling = tiling;
+    kept = Hidden.kept;
+    empty = λ i j k n f. Hidden.all_clear i j k f n;
+  };
   insert_splits = Small.splits;
   removal_renames_last = Small.removed_second;
   grid_circles = Sheets.grid_holds;

@@ -16,10 +16,12 @@ use Rattle.plane_delaunay.proofs.Circles.Lift.{lift, liftᵖ, lift-turned, lift-
 use Rattle.plane.proofs.Means.{TwoWeights, mean_of_two, two_weights, bracket_of_two}
 use Rattle.plane_delaunay.proofs.Points.Members.{Member, member, contained}
 use Rattle.plane_delaunay.proofs.Points.Nudges.{Closed, Inside, inside-turned, nudge}
-use Rattle.plane_delaunay.proofs.Tilings.Faces.{IsTurned, turned-above, both_inside, side_not_inside, middle, middle-inside}
+use Rattle.plane_delaunay.proofs.Tilings.Faces.{turned-above, both_inside, side_not_inside, middle, middle-inside}
 use Rattle.plane_delaunay.proofs.Tilings.Generic.{AllOpen, open_if_free, swapped_weights}
 use Rattle.plane_delaunay.proofs.Circles.Global.{PassesLocally, not_above_face}
-use Rattle.plane_delaunay.proofs.Tilings.Ground.{tiling, turned_face, inside_of, triangle_of_inside}
+use Rattle.plane_delaunay.proofs.Tilings.Ground.{tiling, inside_of, triangle_of_inside}
+use Rattle.plane.proofs.Triangles.{turned_face}
+use Rattle.plane.proofs.Indexes.{IsTurned}
 use Rattle.plane.specs.Fraction.{Point, Fraction, IsNotNegative, IsSame, OnSegment}
 use Rattle.plane.specs.Side.{left, on, TurnsLeft}
 use Rattle.plane.specs.Circle.{InsideCircle}
@@ -29,6 +31,7 @@ use Rattle.plane.specs.Delaunay.{IsSeen, IsConstrainedDelaunay, IsLocallyDelauna
 use Rattle.plane_delaunay.specs.History.{IsVisiblyEmpty}
 use Rattle.plane.proofs.Signs.{positive_times_not_positive}
 
+-- the point of vertex i; (0, 0) past the end of the list
 abbrev pub spot : Triangulation → ℕ → Point
 spot t i = slice_index_or t.points i (record { x = pos 0; y = pos 0 })
 
@@ -41,6 +44,7 @@ not_above z n = elim (sign z) [ below h ↦ most h | none h ↦ zero_most h | ab
     zero_most : z ≡ pos 0 → z ≤ℤ pos 0
     zero_most h = omega (arith, ints)
 
+-- where the list of faces is empty, no three vertices are a face
 pub no_face : (t : Triangulation) → t.faces ≡ [] → (i j k : ℕ) → ¬ IsFace t i j k
 no_face t e i j k f = go f
   where
@@ -59,6 +63,7 @@ straight_line t l i j k hi hj hk turns = apart (sym turns ∙ l.straight i j k h
     apart : left ≡ on → ⊥
     apart e = cc
 
+-- where a vertex is not inside the circle of a left-turning triple, its lift is not above 0
 pub circle_lift : (t : Triangulation) (i j k n : ℕ) → TurnsLeft (vertex t i) (vertex t j) (vertex t k) → ¬ InsideCircle (vertex t i) (vertex t j) (vertex t k) (vertex t n) → lift (vertex t i) (vertex t j) (vertex t k) (vertex t n) ≤ℤ pos 0
 circle_lift t i j k n turns out = not_above _ (λ h. out ((inside_is_lift (spot t i) (spot t j) (spot t k) (spot t n) turns).1 h))
 
@@ -85,6 +90,7 @@ module _ (t : Triangulation) (constraints : List (ℕ × ℕ)) (h : TilesHull t)
   empty_circles l i j k n f v s c =
       left_not_below ((inside_is_lift (spot t i) (spot t j) (spot t k) (spot t n) (h.turning i j k f)).0 c) (not_above_face (tiling t h) constraints (local l) n v i j k s.from f (inside_of _ _ _ s.from (h.turning i j k f) s.inside) (seen_open _ _ _ n s))
 
+-- a tiling that has the constraints and passes the local test is constrained Delaunay
 pub local_gives_constrained_delaunay : (t : Triangulation) (constraints : List (ℕ × ℕ)) → IsTiling t → ((i j : ℕ) → Joins constraints i j → IsEdge t i j) → IsLocallyDelaunay t constraints → IsConstrainedDelaunay t constraints
 local_gives_constrained_delaunay t constraints (inl h) kept l = record { tiling = inl h; kept = kept; empty = empty_circles t constraints h l }
 local_gives_constrained_delaunay t constraints (inr h) kept l = record { tiling = inr h; kept = kept; empty = λ i j k n f. absurd (no_face t h.no_face i j k f) }
@@ -104,6 +110,7 @@ only_zeros x₁ x₂ x₃ x₄ x₅ x₆ e h₁ h₂ h₃ h₄ h₅ h₆ = (omeg
 unweighted : (k x : ℤ) → pos 0 <ℤ k → k *ℤ x ≡ pos 0 → x ≡ pos 0
 unweighted k x h e = zero_of_mul-zero_ℤ {k = k} {x = x} (pos-ne-zero_ℤ h) e
 
+-- each of two triples has the corners of the other on its circle: their lifts are 0
 pub record OneCircle (a b c d e f : Fraction) : Type 0 where
   pub first : lift d e f a ≡ pos 0
   pub second : lift d e f b ≡ pos 0
@@ -118,6 +125,7 @@ one_circle a b c d e f q i j h₁ h₂ h₃ h₄ h₅ h₆ =
     record { first = unweighted _ _ i.second z.0; second = unweighted _ _ i.third z.1; third = unweighted _ _ i.first z.2; fourth = unweighted _ _ j.second z.3; fifth = unweighted _ _ j.third z.4; sixth = unweighted _ _ j.first z.5 }
 
 -- ---- the points of a segment, by brackets
+-- the side of a weighted mean is the mean of the sides
 pub weights_along : (A : ℤ → Type 0) (a b p : Fraction) (w : TwoWeights A a b p) (u v : Fraction) → w.n *ℤ bracket u v p ≡ w.k *ℤ bracket u v a +ℤ w.l *ℤ bracket u v b
 unfolding bracket
 weights_along A a b p w u v = bracket_of_two A (vec u) (vec v) a b p w
@@ -135,6 +143,7 @@ same_part n k l y z q a r b h e d o = mul_cancel_ℤ {k = n} (pos-ne-zero_ℤ h)
     (ring_in_from (n ∷ k ∷ l ∷ y ∷ z ∷ q ∷ a ∷ r ∷ b ∷ []) (λ n k l y z q a r b. n ⊗ (y ⊗ b)) (λ n k l y z q a r b. n ⊗ (a ⊗ z))
     (λ n k l y z q a r b. (b, n ⊗ y, k ⊗ q ⊕ l ⊗ a) ∷ (⊝ a, n ⊗ z, k ⊗ r ⊕ l ⊗ b) ∷ (q ⊗ b ⊖ a ⊗ r, k, num 0) ∷ []) (e, (d, (o, tt))) tt)
 
+-- a point of a segment is the second end, where the first has no weight
 pub same_at_end : (q a y : Fraction) (w : TwoWeights IsNotNegative q a y) → w.k ≡ pos 0 → IsSame y a
 same_at_end q a y w o = record { x = same_part w.n w.k w.l y.x y.w q.x a.x q.w a.w w.positive w.x w.w o; y = same_part w.n w.k w.l y.y y.w q.y a.y q.w a.w w.positive w.y w.w o }
 
@@ -283,6 +292,7 @@ module _ (t : Triangulation) (constraints : List (ℕ × ℕ)) where
       (o.outside e p.corners.1 (corner_seen e f d a b c q p₂ o.turns (inside-turned j) i))
       (o.outside f p.corners.2 (corner_seen f d e a b c q p₃ o.turns (inside-turned (inside-turned j)) i))
 
+  -- the triple of a face is open
   pub face_open : (h : TilesHull t) → IsConstrainedDelaunay t constraints → (i j k : ℕ) → IsFace t i j k → IsOpenTriple t constraints i j k
   face_open h D i j k f = record {
     corners = h.corners i j k f;
@@ -328,6 +338,7 @@ module _ (t : Triangulation) (constraints : List (ℕ × ℕ)) (a b c : ℕ) (s 
       (carried e p.corners.1 (corner_seen t constraints e f d a b c q p₂ s.turns (inside-turned j) i) one.fifth)
       (carried f p.corners.2 (corner_seen t constraints f d e a b c q p₃ s.turns (inside-turned (inside-turned j)) i) one.sixth)) g
 
+  -- a visibly empty triple is a face
   pub visibly_empty_is_face : IsConstrainedDelaunay t constraints → IsFace t a b c
   visibly_empty_is_face D = go D.tiling
     where

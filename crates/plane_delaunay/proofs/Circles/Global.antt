@@ -46,6 +46,7 @@ open-on_way a b p x x' w (both_right h k) = both_right h (stays_below w.k w.l _ 
 open-on_way a b p x x' w (past_left h k) = past_left (stays_above w.k w.l _ (pos 0) _ w.k_above w.l_above (way_front x p x' a w) h zero_most) (stays_above w.k w.l _ (pos 0) _ w.k_above w.l_above (way_front x p x' b w) k zero_most)
 open-on_way a b p x x' w (past_right h k) = past_right (stays_below w.k w.l _ (pos 0) _ w.k_above w.l_above (way_front x p x' a w) h zero_most) (stays_below w.k w.l _ (pos 0) _ w.k_above w.l_above (way_front x p x' b w) k zero_most)
 
+-- where x is off the line of p and v, so is each point strictly between x and p
 pub off-on_way : (p v x x' : Fraction) → OnWay x p x' → IsOff p v x → IsOff p v x'
 off-on_way p v x x' w off z = off (none_before w.k w.l (bracket p v x) (bracket p v p) (bracket p v x') w.k_above (w.along p v) (bracket-first p v) z)
 
@@ -57,10 +58,12 @@ hidden a b p x right left pa pb (both_right h k) = both_signs left k
 hidden a b p x right left pa pb (past_left h k) = both_signs h pa
 hidden a b p x right left pa pb (past_right h k) = both_signs pb k
 
+-- the lines from p to the first end of each segment
 abbrev pub rays : (ℕ → Fraction) → Fraction → List (ℕ × ℕ) → List (Fraction × Fraction)
 rays at p [] = []
 rays at p (s ∷ ss) = (p, at s.0) ∷ rays at p ss
 
+-- a point that is off these lines is off the line of p and the first end of each of the segments
 pub rays-off : (at : ℕ → Fraction) (p q : Fraction) (ss : List (ℕ × ℕ)) → AllOff (rays at p ss) q → (i j : ℕ) → Member (i, j) ss → IsOff p (at i) q
 rays-off at p q [] h i j m = absurd m
 rays-off at p q (s ∷ ss) h i j (inl e) = subst (λ i. IsOff p (at i) q) (ap (λ t. t.0) e) h.0
@@ -69,6 +72,7 @@ rays-off at p q (s ∷ ss) h i j (inr m) = rays-off at p q ss h.1 i j m
 module _ (T : Tiling) (cs : List (ℕ × ℕ)) where
   open T use {at, IsVertex, IsFace}
 
+  -- the pair is a constraint, in either order
   abbrev pub IsJoined : ℕ → ℕ → Type 0
   IsJoined i j = Member (i, j) cs ⊎ Member (j, i) cs
 

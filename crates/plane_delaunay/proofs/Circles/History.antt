@@ -133,12 +133,14 @@ no_four_there s t d c back (inl h) general i j k n hi hj hk hn turns x y z on =
     other : (i : ℕ) (hi : IsVertex t i) → n ≢ i → (at n hn).0 ≢ (at i hi).0
     other i hi x e = x (distinct t h n i hn hi ((at n hn).2 ∙ ap (λ m. vertex s m) e ∙ sym (at i hi).2))
 
+-- constrained Delaunay triangulations of one plain state, no four points on a circle, have the same faces
 pub faces_are_unique : (s t : Triangulation) (d c : List (ℕ × ℕ)) → AreOneState s d t c → IsConstrainedDelaunay s d → IsConstrainedDelaunay t c → NoFourOnCircle s → HasFacesOf t s × HasFacesOf s t
 faces_are_unique s t d c same D E general = (
   faces_there s t d c same.0 same.1 (no_four_there s t d c same.1 E.tiling general) D E,
   faces_there t s c d same.1 same.0 general E D,
 )
 
+-- where a face of one and a face of the other overlap, they have one circle
 pub overlapping_faces_tie : (s t : Triangulation) (d c : List (ℕ × ℕ)) → AreOneState s d t c → IsConstrainedDelaunay s d → IsConstrainedDelaunay t c
     → (i j k l m n : ℕ) (q : Fraction) → IsFace s i j k → IsFace t l m n → InsideCorners s i j k q → InsideCorners t l m n q
     → HaveOneCircle (vertex s i) (vertex s j) (vertex s k) (vertex t l) (vertex t m) (vertex t n)

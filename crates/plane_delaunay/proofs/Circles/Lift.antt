@@ -15,6 +15,7 @@ use Rattle.plane.proofs.Circles as C
 pub use Rattle.plane.proofs.Circles.{heightᵖ, incircleᵖ as liftᵖ}
 use Rattle.plane_delaunay.proofs.Points.Bracket.{Syntax, bracket}
 
+-- the squared length of (x, y), whatever the weight
 abbrev pub height : Fraction → ℤ
 height p = p.x *ℤ p.x +ℤ p.y *ℤ p.y
 
@@ -23,18 +24,22 @@ unfoldable pub lift : Fraction → Fraction → Fraction → Fraction → ℤ
 unfolding C.incircle
 lift a b c d = C.incircle (vec a) (vec b) (vec c) (vec d)
 
+-- the lift over three corners is the same in their next rotation
 pub lift-turned : (a b c d : Fraction) → lift b c a d ≡ lift a b c d
 unfolding lift
 lift-turned a b c d = C.incircle-turn (vec a) (vec b) (vec c) (vec d)
 
+-- the lift of the first corner is 0
 pub lift-first : (a b c : Fraction) → lift a b c a ≡ pos 0
 unfolding lift
 lift-first a b c = C.incircle-first (vec a) (vec b) (vec c)
 
+-- the lift of the second corner is 0
 pub lift-second : (a b c : Fraction) → lift a b c b ≡ pos 0
 unfolding lift
 lift-second a b c = C.incircle-second (vec a) (vec b) (vec c)
 
+-- the lift of the third corner is 0
 pub lift-third : (a b c : Fraction) → lift a b c c ≡ pos 0
 unfolding lift
 lift-third a b c = C.incircle-third (vec a) (vec b) (vec c)
@@ -49,6 +54,7 @@ lift-across a b c d p = C.incircle-across (vec a) (vec b) (vec c) (vec d) (vec p
 abbrev pub pointᵖ : Shape
 pointᵖ = record { Value = Point; Syntax = Syntax; width = 2; flat = λ a. a.x ∷ a.y ∷ []; fresh = λ i. record { x = var i; y = var (i + 1); w = num 1 } }
 
+-- a vertex is inside the circle of a left-turning triple exactly if its lift is above 0
 pub inside_is_lift : (u p q r : Point) → TurnsLeft (whole u) (whole p) (whole q) → InsideCircle (whole u) (whole p) (whole q) (whole r) ↔ (pos 0 <ℤ lift (whole u) (whole p) (whole q) (whole r))
 unfolding lift
 inside_is_lift u p q r turns = C.inside_is_incircle u p q r turns
@@ -58,6 +64,7 @@ pub far_if_none : (u p q r : Point) (turns : TurnsLeft (whole u) (whole p) (whol
 unfolding lift
 far_if_none u p q r turns h = C.far_if_carried u p q r turns h
 
+-- the circle of a left-turning triple carries a vertex exactly if its lift is 0
 pub on_is_lift : (u p q r : Point) → TurnsLeft (whole u) (whole p) (whole q) → OnCircle (whole u) (whole p) (whole q) (whole r) ↔ (lift (whole u) (whole p) (whole q) (whole r) ≡ pos 0)
 unfolding lift
 on_is_lift u p q r turns = C.on_is_incircle u p q r turns

@@ -10,7 +10,8 @@ use Rattle.plane.proofs.IntegerOrder.{mul-pos_ℤ, mul-nonneg_ℤ, mul-nonpos_of
 use Rattle.plane_delaunay.proofs.Points.Bracket.{Syntax, bracket, bracketᵖ, above_if_left}
 use Rattle.plane_delaunay.proofs.Circles.Lift.{lift, liftᵖ, pointᵖ}
 use Rattle.plane_delaunay.proofs.Tilings.Cones.{Cone, cone}
-use Rattle.plane_delaunay.proofs.Tilings.Ground.{tiling, triangle_of_inside, turned_face}
+use Rattle.plane_delaunay.proofs.Tilings.Ground.{tiling, triangle_of_inside}
+use Rattle.plane.proofs.Triangles.{turned_face}
 use Rattle.plane_delaunay.proofs.Circles.NearestOnLine.{nearest_on_line}
 use Rattle.plane_delaunay.proofs.Circles.EmptyCircles.{spot, circle_lift}
 use Rattle.plane.specs.Fraction.{Point, Fraction, whole}

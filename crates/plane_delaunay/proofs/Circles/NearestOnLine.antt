@@ -154,5 +154,6 @@ module _ (t : Triangulation) (h : JoinsLine t) (p : Fraction) (v : ℕ) (hv : Is
       nearer : (k : ℕ) → TwoWeights IsPositive (vertex t v) (vertex t w) (vertex t k) → IsNearer p (vertex t k) (vertex t v)
       nearer k s = nearer_within p _ _ _ s near
 
+  -- a vertex of a line without a nearer neighbour is the nearest
   pub nearest_on_line : IsNearest t p v
   nearest_on_line = record { is_vertex = hv; none_nearer = λ w hw. none_nearer (suc (nat_abs (gap (vertex t v) (vertex t w)))) w hw (lt-suc_self (nat_abs (gap (vertex t v) (vertex t w)))) }

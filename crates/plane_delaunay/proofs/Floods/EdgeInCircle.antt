@@ -176,5 +176,6 @@ module _ (c : Point) (r : ℤ) (p q : Point) where
   found (inr (inl h)) = (whole q, end_on_segment (whole p) (whole q), end_in c r q h)
   found (inr (inr h)) = (foot h.0, foot_on h.0 h.1 h.2, foot_in h.0 h.3)
 
+-- a closed edge meets a closed circle exactly if an end does, or its line does and the centre falls between
 pub edge_meets_circle : (centre : Point) (radius_2 : ℤ) (p q : Point) → HasPointIn (InClosedCircle centre radius_2) p q ↔ MeetsCircle centre radius_2 p q
 edge_meets_circle c r p q = ((λ h. told c r p q h.0 (two_weights IsNotNegative (whole p) (whole q) h.0 h.1) h.2), found c r p q)

@@ -517,5 +517,6 @@ module _ (lower upper : Point) (wide : lower.x ≤ℤ upper.x) (high : lower.y �
         not_right,
       )
 
+-- a closed edge meets a rectangle exactly if the ranges meet and not all corners are strictly on one side
 pub edge_meets_rectangle : (lower upper : Point) → lower.x ≤ℤ upper.x → lower.y ≤ℤ upper.y → (p q : Point) → HasPointIn (InClosedRectangle lower upper) p q ↔ MeetsRectangle lower upper p q
 edge_meets_rectangle lower upper wide high p q = ((λ h. told lower upper wide high p q h.0 (two_weights IsNotNegative (whole p) (whole q) h.0 h.1) h.2), rectangle_met lower upper wide high p q)

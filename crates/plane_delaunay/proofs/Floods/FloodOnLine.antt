@@ -1,5 +1,5 @@
 -- Where all vertices are on one line: a flood along shared vertices finds each edge in a region, and where it starts; each vertex has an edge.
-use Rattle.std.proofs.Common.{◌≡◌, ℕ, zero, suc, ◌<◌, ◌≤◌, List, length, arith, ap, sym, ◌∙◌, subst}
+use Rattle.std.proofs.Common.{◌≡◌, ℕ, zero, suc, ◌<◌, List, length, arith, ap, sym, ◌∙◌, subst}
 use lib.IntN.{nat_abs, *ℤ_comm}
 use mathlib.Core.Logic.{◌⊎◌, inl, inr}
 use Rattle.std.specs.Prelude.{ℤ, pos, ◌<ℤ◌, ◌≤ℤ◌, ◌-ℤ◌, ◌*ℤ◌, slice_index_or}
@@ -140,6 +140,7 @@ module _ (t : Triangulation) (h : JoinsLine t) where
       | inr none ↦ (b, edge_if a b ha hb l none)
     ]
 
+    -- vertex i has an edge
     pub first_edge : (c : ℕ) × IsEdge t i c
     first_edge = edge_ahead (suc (nat_abs (far j -ℤ far i))) i j hi hj (subst (λ z. z <ℤ far j) (sym start_far) end_far) (lt-suc_self _)
 
@@ -300,6 +301,7 @@ module _ (t : Triangulation) (h : JoinsLine t) where
               go (inl a) (inr b) = inr b
               go (inl a) (inl b) = absurd (((h.neighbours i j).0 e.0).none_between k hk (inner_within i j k hi hj hk a b))
 
+          -- the flood finds each edge in the region
           pub finds : (k n : ℕ) → IsEdgeIn K t k n → Joins found k n
           finds k n d = go (outside k hk) (outside n hn) (lt_or_ge_ℤ (far k) (far n))
             where

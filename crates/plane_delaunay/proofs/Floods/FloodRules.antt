@@ -10,15 +10,14 @@ use Rattle.plane.proofs.Nearer.{gap_not_negative, gap_of_none}
 use Rattle.plane.proofs.Segments.{same-refl, within_itself}
 use Rattle.plane.proofs.Decisions.{decide_point}
 use Rattle.plane_delaunay.proofs.Points.Members.{Member, member, contained}
-use Rattle.plane_delaunay.proofs.Tilings.Ground.{tiling}
-use Rattle.plane_delaunay.proofs.Tilings.Where.{corner_of_face}
+use Rattle.plane_delaunay.proofs.Tilings.OuterEdges.{EachHasEdge, edge_of_corner}
 use Rattle.plane_delaunay.proofs.Segments.LineItems.{edge_last}
 use Rattle.plane_delaunay.proofs.Floods.Flooded.{flood_starts, flood_finds_region, not_few}
 use Rattle.plane_delaunay.proofs.Floods.FloodOnLine.{turned_join, turned_edge, edge_at, edge_beside, flood_finds_on_line, flood_starts_on_line}
 use Rattle.plane.specs.Fraction.{Point, Fraction, whole, IsSame}
 use Rattle.plane.specs.Circle.{gap}
 use Rattle.plane.specs.Pairs.{Joins, IsSamePair, AreDifferent, EachPairOnce}
-use Rattle.plane.specs.Tiling.{Triangulation, IsVertex, vertex, IsEdge, AreNeighbours, TilesHull, IsTiling}
+use Rattle.plane.specs.Tiling.{Triangulation, IsVertex, vertex, IsEdge, AreNeighbours, IsTiling}
 use Rattle.plane.specs.Location.{Location, on_vertex, on_edge, on_face, outside_hull, no_triangulation, IsLocation}
 use Rattle.plane.specs.Shape.{IsVertexIn, IsEdgeIn}
 use Rattle.plane_delaunay.specs.Flood.{Region, circle, rectangle, InRegion, IsFlooded, IsFloodedByVertices, IsFloodedAround, HasStart, start_point, IsTried}
@@ -37,6 +36,7 @@ corners_in_order a b x w h k p = le_of_mul-le-mul_ℤ {k = w} {x = a} {y = b} p 
 whole_high : (a b : ℤ) → a ≤ℤ b → a ≤ℤ (b *ℤ pos 1)
 whole_high a b h = omega (arith, ints)
 
+-- a circle with a point has its centre, and a rectangle with a point has its lower corner
 pub region_has_start : (region : Region) (p : Fraction) → InRegion region p → InRegion region (whole (start_point region))
 region_has_start (circle c r) p h = record { near = at_centre (gap (whole c) (whole c)) r (gap_of_none (whole c)) (radius_least (gap (whole c) p) r p.w (gap_not_negative (whole c) p) h.near p.positive) }
 region_has_start (rectangle lower upper) p h = record {
@@ -50,12 +50,8 @@ region_has_start (rectangle lower upper) p h = record {
 abbrev point_at : Triangulation → ℕ → Point
 point_at t k = slice_index_or t.points k (record { x = pos 0; y = pos 0 })
 
-edge_of_corner : (t : Triangulation) (h : TilesHull t) (i : ℕ) → IsVertex t i → (k : ℕ) × IsEdge t i k
-unfolding tiling
-edge_of_corner t h i hi = let f = corner_of_face (tiling t h) i hi in (f.0, (h.sides i f.0).1 (inl (f.1, f.2)))
-
 -- with an edge anywhere
-edge_of_vertex : (t : Triangulation) → IsTiling t → (k n : ℕ) → IsEdge t k n → (i : ℕ) → IsVertex t i → (c : ℕ) × IsEdge t i c
+edge_of_vertex : (t : Triangulation) → IsTiling t → (k n : ℕ) → IsEdge t k n → EachHasEdge t
 edge_of_vertex t (inl h) k n e i hi = edge_of_corner t h i hi
 edge_of_vertex t (inr h) k n e i hi = go (decide_point (point_at t i) (point_at t k))
   where
@@ -70,17 +66,19 @@ edge_of_vertex t (inr h) k n e i hi = go (decide_point (point_at t i) (point_at 
     go (inl d) = edge_beside t h i n hi o.second (λ b. apart (sym d ∙ b))
 
 -- of two or more vertices
-edge_of_several : (t : Triangulation) → IsTiling t → ((i j : ℕ) → IsVertex t i → IsVertex t j → IsSame (vertex t i) (vertex t j) → i ≡ j) → 2 ≤ length t.points → (i : ℕ) → IsVertex t i → (c : ℕ) × IsEdge t i c
+edge_of_several : (t : Triangulation) → IsTiling t
+    → ((i j : ℕ) → IsVertex t i → IsVertex t j → IsSame (vertex t i) (vertex t j) → i ≡ j) → 2 ≤ length t.points → EachHasEdge t
 edge_of_several t (inl h) one some i hi = edge_of_corner t h i hi
 edge_of_several t (inr h) one some i hi = go i hi
   where
     beside : (i j : ℕ) → IsVertex t i → IsVertex t j → i ≢ j → (c : ℕ) × IsEdge t i c
     beside i j hi hj d = edge_beside t h i j hi hj (λ e. d (one i j hi hj (subst (λ q. IsSame (vertex t i) (whole q)) e (same-refl (vertex t i)))))
 
-    go : (i : ℕ) → IsVertex t i → (c : ℕ) × IsEdge t i c
+    go : EachHasEdge t
     go zero hi = beside zero 1 hi (omega (arith, some)) (λ e. omega arith)
     go (suc i) hi = beside (suc i) zero hi (omega (arith, some)) (λ e. omega arith)
 
+-- of two or more vertices, all apart, those in a region are those of its edges' ends that are in it
 pub vertices_are_ends : (t : Triangulation) → IsTiling t → ((i j : ℕ) → IsVertex t i → IsVertex t j → IsSame (vertex t i) (vertex t j) → i ≡ j) → 2 ≤ length t.points
     → (region : Region) (i : ℕ) → IsVertexIn (InRegion region) t i ↔ (InRegion region (vertex t i) × ((k : ℕ) × IsEdgeIn (InRegion region) t i k))
 vertices_are_ends t h one some region i = (forth, back)
@@ -95,6 +93,7 @@ vertices_are_ends t h one some region i = (forth, back)
     back : InRegion region (vertex t i) × ((k : ℕ) × IsEdgeIn (InRegion region) t i k) → IsVertexIn (InRegion region) t i
     back v = (first_end h v.1.0 v.1.1.0, v.0)
 
+-- at most one vertex, which is 0, has no edge
 pub one_vertex_is_alone : (t : Triangulation) → IsTiling t → length t.points ≤ 1 → ((i j : ℕ) → ¬ IsEdge t i j) × ((i : ℕ) → IsVertex t i → i ≡ 0)
 one_vertex_is_alone t h few = (no_edge h, λ i hi. first i (length t.points) hi few)
   where
@@ -106,6 +105,7 @@ one_vertex_is_alone t h few = (no_edge h, λ i hi. first i (length t.points) hi 
     no_edge (inr h) i j e = let o = (h.neighbours i j).0 e in o.apart (one_below i j (length t.points) o.first o.second few)
 
 -- ---- the exact start
+-- an edge is in the region exactly where one of those tried first is
 pub start_is_exact : (t : Triangulation) → IsTiling t → (region : Region) (m : Location) → IsLocation t (whole (start_point region)) m
     → ((k n : ℕ) × IsEdgeIn (InRegion region) t k n) ↔ ((a b : ℕ) × IsTried t m a b × IsEdgeIn (InRegion region) t a b)
 start_is_exact t h region m l = ((λ e. forth e.0 e.1 e.2), (λ s. (s.0, s.1, s.3)))
@@ -190,6 +190,7 @@ not_longer (p ∷ ps) edges once all = elim (all p (inl refl)) [
     step : (r : ℕ × ℕ) → Member r edges → ((p.0, p.1) ≡ r) ⊎ ((p.1, p.0) ≡ r) → ((rest : List (ℕ × ℕ)) → ((q : ℕ × ℕ) → Member q ps → Either q rest) → length ps ≤ length rest) → length (p ∷ ps) ≤ length edges
     step r m is again = let w = without r edges m in longer (length ps) (length w.rest) (length edges) (length (p ∷ ps)) (again w.rest (λ q n. still r is w q n (all q (inr n)))) w.shorter refl
 
+-- a list of pairs of a second list, each once, is not longer
 pub flood_is_bounded : (edges found : List (ℕ × ℕ)) → EachPairOnce found → ((i j : ℕ) → Joins found i j → Joins edges i j) → length found ≤ length edges
 flood_is_bounded edges found once all = not_longer found edges once (λ q m. either q (all q.0 q.1 (inl (contained q found m))))
   where
@@ -202,6 +203,7 @@ pub marks_fill_up : (marks : List Bool) (i : ℕ) (default : Bool) → i < lengt
 marks_fill_up marks i default h e = let f = λ (x : Bool). cond (not x) 1 0 in let s = sum_by-set f marks i true default h in let one = ap f e in omega (arith, s, one)
 
 -- ---- with faces or without
+-- a flood from vertex to vertex that has an edge in the region has them all
 pub flood_by_vertices_finds : (t : Triangulation) → IsTiling t → (region : Region) (found : List (ℕ × ℕ)) → IsFloodedByVertices t region found
     → (i j a b : ℕ) → Joins found i j → IsEdgeIn (InRegion region) t i j → IsEdgeIn (InRegion region) t a b → Joins found a b
 flood_by_vertices_finds t (inr h) region found f = flood_finds_on_line t h region found f
@@ -214,6 +216,7 @@ flood_by_vertices_finds t (inl h) region found f = flood_finds_region t h region
     }
 
 -- ---- a flood from the exact start has the edges in the region, and no others
+-- a flood from the edges tried first has exactly the edges in the region
 pub flood_is_exact : (t : Triangulation) → IsTiling t → (region : Region) (m : Location) → IsLocation t (whole (start_point region)) m → (found : List (ℕ × ℕ))
     → ((i j : ℕ) → Joins found i j → IsEdgeIn (InRegion region) t i j) → IsFloodedAround t region found
     → ((a b : ℕ) → IsTried t m a b → IsEdgeIn (InRegion region) t a b → (i j : ℕ) × Joins found i j)

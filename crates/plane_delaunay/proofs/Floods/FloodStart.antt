@@ -197,6 +197,7 @@ module _ (T : Tiling) where
 
   -- ---- from a point of the set, to an edge that meets it at x
   module _ (K : Fraction → Type 0) (mean : (x p x' : Fraction) → OnWay x p x' → K x → K p → K x') (x : Fraction) (kx : K x) where
+    -- an outer edge has a point of the set
     abbrev pub BorderIn : Type 0
     BorderIn = (y : Fraction) × K y × Border y
 
@@ -244,6 +245,7 @@ module _ (T : Tiling) where
                 found (inl k) = (y, ky, on_line o.a o.b o.c o.is_face o.alone y k on)
                 found (inr b) = finds y covered ky b (less_again (separation T x y) (separation T x c) m (far_end_nearer T o.a o.b o.c x c y o.is_face way (zero_weak_left on) l o.right) less)
 
+    -- a set with a covered point and one beyond the hull has a point of an outer edge
     pub border_of_outside : (c : Fraction) → IsCovered T x → K c → IsBeyond T c → BorderIn
     border_of_outside c covered kc o = from_outside (suc (separation T x c)) c covered kc o (lt-suc_self (separation T x c))
 
@@ -251,6 +253,7 @@ module _ (T : Tiling) where
     abbrev pub MeetsSide : ℕ → ℕ → Type 0
     MeetsSide i j = (y : Fraction) × K y × OnSide (at i) (at j) y
 
+    -- a set with a point inside a face and one on an edge has a point of a side of the face
     pub side_of_inside : (i j k u v : ℕ) (c : Fraction) → IsFace i j k → Inside (at i) (at j) (at k) c → K c → IsEdge T u v → OnSide (at u) (at v) x → MeetsSide i j ⊎ (MeetsSide j k ⊎ MeetsSide k i)
     side_of_inside i j k u v c f h kc e o = go (step c x (at i) (at j) (at k) (closed_of_inside h))
       where

@@ -12,7 +12,8 @@ use Rattle.plane.proofs.Means.{TwoWeights, two_weights, mean_of_two}
 use Rattle.plane_delaunay.proofs.Points.Bracket.{bracket, bracketᵖ, above_if_left, bracket-turned, bracket-first, bracket-second}
 use Rattle.plane_delaunay.proofs.Tilings.Walk.{OnWay}
 use Rattle.plane_delaunay.proofs.Tilings.Meets.{OnSide, IsAt, on_side-swapped, on_side-closed, IsEdge}
-use Rattle.plane_delaunay.proofs.Tilings.Ground.{tiling, inside_of, turned_face}
+use Rattle.plane_delaunay.proofs.Tilings.Ground.{tiling, inside_of}
+use Rattle.plane.proofs.Triangles.{turned_face}
 use Rattle.plane_delaunay.proofs.Tilings.Where.{IsBeyond, IsCovered}
 use Rattle.plane_delaunay.proofs.Tilings.OuterEdges.{face_of_outer, beyond_outer}
 use Rattle.plane_delaunay.proofs.Circles.EmptyCircles.{weights_along}
@@ -79,6 +80,7 @@ segment_from n k l a b x hn hk hl e = mean_of_two IsNotNegative a b x (record {
 segment_of_side : (a b x : Fraction) → OnSide a b x → OnSegment a b x
 segment_of_side a b x o = segment_from o.n o.k o.l a b x o.n_above o.k_least o.l_least o.along
 
+-- a point of a closed segment is on it for each linear form
 pub side_of_segment : (a b x : Fraction) → OnSegment a b x → OnSide a b x
 side_of_segment a b x m = let t = two_weights IsNotNegative a b x m in
     record { n = t.n; k = t.k; l = t.l; n_above = t.positive; k_least = t.k_allowed; l_least = t.l_allowed; along = weights_along IsNotNegative a b x t; weight = t.w }
@@ -138,6 +140,7 @@ module _ (t : Triangulation) (h : TilesHull t) (region : Region) where
       swapped a b (inl s) = inr s
       swapped a b (inr s) = inl s
 
+  -- a flood that has an edge in the region has them all
   pub flood_finds_region : (found : List (ℕ × ℕ)) → F.IsFlooded t region found → (i j k n : ℕ) → Joins found i j → IsEdgeIn K t i j → IsEdgeIn K t k n → Joins found k n
   unfolding tiling
   flood_finds_region found g i j k n s e d = flood_finds (tiling t h) K (on_way K convex) (at_place K convex) (λ i j. Joins found i j) (flooded found g) i j k n (edge_of t h i j e.0) s (met i j e) (edge_of t h k n d.0) (met k n d)
@@ -199,6 +202,7 @@ module _ (t : Triangulation) (h : TilesHull t) (region : Region) where
               (weights_along IsPositive c (vertex t j) (vertex t i) a (vertex t j) (vertex t i)) (weights_along IsPositive c (vertex t m) (vertex t i) b (vertex t j) (vertex t i))
               (bracket-second (vertex t j) (vertex t i)) (bracket-first (vertex t j) (vertex t i)) a.k_allowed b.k_allowed b.l_allowed turns
 
+  -- there are two points at least
   pub not_few : ¬ (length t.points ≤ 1)
   not_few few = level h.spread
     where
@@ -208,6 +212,7 @@ module _ (t : Triangulation) (h : TilesHull t) (region : Region) where
           same : i ≡ j
           same = omega arith
 
+  -- where an edge is in the region, one of those tried first is
   pub flood_starts : (c : Fraction) → K c → (k n : ℕ) → IsEdgeIn K t k n → (m : Location) → IsLocation t c m → HasStart t region m
   flood_starts c kc k n e (on_vertex i) l = λ j s. (s, (c, on_segment-same (vertex t i) (vertex t j) (vertex t i) c (same-sym c (vertex t i) l.1) (start_on_segment (vertex t i) (vertex t j)), kc))
   flood_starts c kc k n e (on_edge i j) l = (l.0, (c, on_of_within (vertex t i) (vertex t j) c l.1, kc))

@@ -13,6 +13,7 @@ use Rattle.plane.specs.Shape.{InClosedCircle, InClosedRectangle}
 use Rattle.plane_delaunay.specs.Flood.{Region, circle, rectangle, InRegion}
 use Rattle.plane.proofs.Signs.{at_most_by_difference, difference_not_negative_from, sum_not_negative_of}
 
+-- a shape has the segment of each two of its points
 abbrev pub IsConvex : (Fraction → Type 0) → Type 0
 IsConvex Shape = (p q r : Fraction) → Shape p → Shape q → OnSegment p q r → Shape r
 
@@ -32,6 +33,7 @@ from_weights_back n k l r a b w v u c e d = ring_in_from (n ∷ k ∷ l ∷ r �
     (λ n k l r a b w v u c. n ⊗ (c ⊗ w ⊖ r)) (λ n k l r a b w v u c. k ⊗ (c ⊗ v ⊖ a) ⊕ l ⊗ (c ⊗ u ⊖ b))
     (λ n k l r a b w v u c. (num 0 ⊖ num 1, n ⊗ r, k ⊗ a ⊕ l ⊗ b) ∷ (c, n ⊗ w, k ⊗ v ⊕ l ⊗ u) ∷ []) (e, (d, tt)) tt
 
+-- a mean of two that are at most c times their weights is at most c times its own
 pub below_line : (n k l r a b w v u c : ℤ) → pos 0 <ℤ n → pos 0 ≤ℤ k → pos 0 ≤ℤ l → n *ℤ r ≡ k *ℤ a +ℤ l *ℤ b → n *ℤ w ≡ k *ℤ v +ℤ l *ℤ u → a ≤ℤ (c *ℤ v) → b ≤ℤ (c *ℤ u) → r ≤ℤ (c *ℤ w)
 below_line n k l r a b w v u c hn hk hl e d h i = at_most_by_difference (c *ℤ w) r (sum_least n k l (c *ℤ w -ℤ r) (c *ℤ v -ℤ a) (c *ℤ u -ℤ b) hn (from_weights_back n k l r a b w v u c e d) hk (difference_not_negative_from (c *ℤ v) a h) hl (difference_not_negative_from (c *ℤ u) b i))
 
@@ -105,6 +107,7 @@ circle_convex centre radius_2 p q r hp hq m = go (two_weights IsNotNegative p q 
           (product_least p.w q.w radius_2 (run c p) (rise c p) (run c q) (rise c q) p.positive q.positive hp.near hq.near))))));
     }
 
+-- closed circles and closed rectangles have the segment of each two of their points
 pub region_convex : (region : Region) → IsConvex (InRegion region)
 region_convex (circle centre radius_2) = circle_convex centre radius_2
 region_convex (rectangle lower upper) = rectangle_convex lower upper

@@ -61,6 +61,7 @@ pub data Placed (p x y : Fraction) : Type 0 where
   later : IsNearer p y x → Placed p x y
 
 module _ (p q : Fraction) (apart : ¬ IsSame p q) where
+  -- what is less far along the segment is nearer to its start
   pub nearer_if : (x y : Fraction) → OnSegment p q x → OnSegment p q y → (reach p q x *ℤ y.w) <ℤ (reach p q y *ℤ x.w) → IsNearer p x y
   nearer_if x y hx hy h =
       let sx = (on_segment_is p q x apart).0 hx in
@@ -87,6 +88,7 @@ module _ (p q : Fraction) (apart : ¬ IsSame p q) where
       go (inr (inl e)) = as_soon (same_if x y hx hy (no_difference _ _ e))
       go (inr (inr h)) = later (nearer_if y x hy hx (more_by_difference _ _ h))
 
+  -- no two points are each nearer than the other
   pub not_both_nearer : (x y : Fraction) → IsNearer p x y → ¬ IsNearer p y x
   not_both_nearer x y h k = less_both_ways _ _ h.nearer k.nearer
 
@@ -132,6 +134,7 @@ form_order n₁ a₁ b₁ n₂ a₂ b₂ f₁ f₂ fu fv w₁ w₂ uw vw e₁ e�
     (n₂ ⊗ w₂, n₁ ⊗ f₁, a₁ ⊗ fu ⊕ b₁ ⊗ fv) ∷ (num 0 ⊖ n₁ ⊗ w₁, n₂ ⊗ f₂, a₂ ⊗ fu ⊕ b₂ ⊗ fv) ∷ (num 0 ⊖ a₂ ⊗ fu ⊖ b₂ ⊗ fv, n₁ ⊗ w₁, a₁ ⊗ uw ⊕ b₁ ⊗ vw) ∷ (a₁ ⊗ fu ⊕ b₁ ⊗ fv, n₂ ⊗ w₂, a₂ ⊗ uw ⊕ b₂ ⊗ vw) ∷ [])
     (e₁, (e₂, (e₃, (e₄, tt)))) tt
 
+-- a mean of two fractions is past the first by its second weight times their difference
 pub after_first : (n a b f fu fv w uw vw : ℤ) → n *ℤ f ≡ a *ℤ fu +ℤ b *ℤ fv → n *ℤ w ≡ a *ℤ uw +ℤ b *ℤ vw → n *ℤ (f *ℤ uw -ℤ fu *ℤ w) ≡ b *ℤ (fv *ℤ uw -ℤ fu *ℤ vw)
 after_first n a b f fu fv w uw vw e d = ring_in_from (n ∷ a ∷ b ∷ f ∷ fu ∷ fv ∷ w ∷ uw ∷ vw ∷ []) (λ n a b f fu fv w uw vw. n ⊗ (f ⊗ uw ⊖ fu ⊗ w)) (λ n a b f fu fv w uw vw. b ⊗ (fv ⊗ uw ⊖ fu ⊗ vw))
     (λ n a b f fu fv w uw vw. (uw, n ⊗ f, a ⊗ fu ⊕ b ⊗ fv) ∷ (num 0 ⊖ fu, n ⊗ w, a ⊗ uw ⊕ b ⊗ vw) ∷ []) (e, (d, tt)) tt
@@ -210,6 +213,7 @@ module _ (p q u v : Fraction) (o : OverlapAlong p q u v) where
   on_line = zero_of_mul-zero_ℤ (pos-ne-zero_ℤ turn) (form_none t₁.n t₁.k t₁.l t₂.n t₂.k t₂.l (bracket (vec p) (vec q) (vec o.near)) (bracket (vec p) (vec q) (vec o.far)) (bracket (vec p) (vec q) (vec u)) (bracket (vec p) (vec q) (vec v))
       (bracket_of_two IsNotNegative (vec p) (vec q) u v o.near t₁) (bracket_of_two IsNotNegative (vec p) (vec q) u v o.far t₂) (member o.near o.near_first).0 (member o.far o.far_first).0)
 
+  -- the last point is on the line too
   pub on_line_last : bracket (vec p) (vec q) (vec v) ≡ pos 0
   on_line_last = zero_of_mul-zero_ℤ (pos-ne-zero_ℤ turn) (form_none_last t₁.n t₁.k t₁.l t₂.n t₂.k t₂.l (bracket (vec p) (vec q) (vec o.near)) (bracket (vec p) (vec q) (vec o.far)) (bracket (vec p) (vec q) (vec u)) (bracket (vec p) (vec q) (vec v))
       (bracket_of_two IsNotNegative (vec p) (vec q) u v o.near t₁) (bracket_of_two IsNotNegative (vec p) (vec q) u v o.far t₂) (member o.near o.near_first).0 (member o.far o.far_first).0)
@@ -288,9 +292,11 @@ module _ (p q u v : Fraction) (o : OverlapAlong p q u v) where
         go (inr (inl h)) = absurd (behind (zero_weak h))
         go (inr (inr h)) = h
 
+    -- the first common point is on the segment
     pub first_on : OnSegment p q u
     first_on = (on_segment_is p q u far_apart).1 (on_line, weak past_start, still_before (reach p q u) (reach p q o.near) u.w o.near.w q.w (reach p q q) (not_before o.near o.near_second) ((on_segment_is p q o.near far_apart).0 o.near_first).2 o.near.positive u.positive q.positive)
 
+    -- no common point is nearer to the start
     pub none_sooner : (r : Fraction) → OnSegment p q r → OnSegment u v r → ¬ IsNearer p r u
     none_sooner r h i near = at_most_and_more _ _ (not_before r i) (reach_less p q far_apart r u h first_on near)
 
@@ -310,11 +316,13 @@ module _ (p q : Fraction) (apart : ¬ IsSame p q) where
   abbrev IsOn : Fraction → Type 0
   IsOn x = bracket (vec p) (vec q) (vec x) ≡ pos 0
 
+  -- points equally far along the line are one
   pub same_on_line : (x y : Fraction) → IsOn x → IsOn y → reach p q x *ℤ y.w ≡ reach p q y *ℤ x.w → IsSame x y
   same_on_line x y hx hy e =
       let n = pos-ne-zero_ℤ (mul-pos_ℤ {a = reach p q q} {b = p.w} (reach-end p q apart) p.positive) in
       record { x = mul_cancel_ℤ n (same_x p q x y hx hy e); y = mul_cancel_ℤ n (same_y p q x y hx hy e) }
 
+  -- a point that comes after one and before another is within their segment
   pub within_on_line : (x y z : Fraction) → IsOn x → IsOn y → IsOn z → pos 0 <ℤ (reach p q y *ℤ x.w -ℤ reach p q x *ℤ y.w) → pos 0 <ℤ (reach p q z *ℤ y.w -ℤ reach p q y *ℤ z.w) → WithinSegment x z y
   within_on_line x y z hx hy hz before after = mean_of_two IsPositive x z y (record {
     k = reach p q z *ℤ y.w -ℤ reach p q y *ℤ z.w;

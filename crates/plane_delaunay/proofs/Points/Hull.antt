@@ -59,6 +59,7 @@ spike_allowed (c ∷ cs) (suc i) = All-cons IsNotNegative (pos 0) (spike cs i) (
 once : (x s : ℤ) → s ≡ x → pos 1 *ℤ x ≡ s
 once x s e = omega (arith, ints)
 
+-- each point of a list is in its hull
 pub corner_in_hull : (cs : List Fraction) (i : ℕ) (d p : Fraction) → i < length cs → get_or cs i d ≡ p → InHull cs p
 corner_in_hull cs i d p h e = record {
   weights = spike cs i;
@@ -111,6 +112,7 @@ scaled_sum : (s r n p q a b : ℤ) → s *ℤ p ≡ a → r *ℤ q ≡ b → s *
 scaled_sum s r n p q a b e d = ring_in_from (s ∷ r ∷ n ∷ p ∷ q ∷ a ∷ b ∷ []) (λ s r n p q a b. s ⊗ r ⊗ (n ⊗ p ⊕ num 1 ⊗ q)) (λ s r n p q a b. n ⊗ r ⊗ a ⊕ s ⊗ b)
     (λ s r n p q a b. (n ⊗ r, s ⊗ p, a) ∷ (s, r ⊗ q, b) ∷ []) (e, (d, tt)) tt
 
+-- a point of a hull, moved towards another of its points, stays in it
 pub nudge_in_hull : (cs : List Fraction) (n : ℕ) (p q : Fraction) → InHull cs p → InHull cs q → InHull cs (nudge n p q)
 unfolding nudge
 nudge_in_hull cs n p q h k = record {
@@ -128,6 +130,7 @@ nudge_in_hull cs n p q h k = record {
 three_sum : (k l m a b c : ℤ) (s n p : ℤ) → n *ℤ p ≡ k *ℤ a +ℤ l *ℤ b +ℤ m *ℤ c → s ≡ k *ℤ a +ℤ pos 1 *ℤ (l *ℤ b +ℤ m *ℤ c) → n *ℤ p ≡ s
 three_sum k l m a b c s n p e d = omega (arith, ints)
 
+-- a point of a closed triangle of three points of a list is in its hull
 pub triangle_in_hull : (cs : List Fraction) (i j k : ℕ) (d a b c p : Fraction) → i < length cs → j < length cs → k < length cs → get_or cs i d ≡ a → get_or cs j d ≡ b → get_or cs k d ≡ c → ThreeWeights IsNotNegative a b c p → InHull cs p
 triangle_in_hull cs i j k d a b c p hi hj hk ei ej ek t = record {
   weights = blend t.k (pos 1) (spike cs i) rest;

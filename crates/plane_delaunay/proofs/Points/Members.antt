@@ -4,20 +4,24 @@ use mathlib.Core.Logic.{◌⊎◌, inl, inr}
 use Rattle.std.specs.Prelude.{Contains, sum_by}
 use Rattle.std.proofs.lemmas.List.Sums.{sum_by-cons, sum_by-le-sum_by}
 
+-- x is an entry of the list: the first one, or one of the rest
 abbrev pub Member : {A : Type 0} → A → List A → Type 0
 Member x [] = ⊥
 Member x (y ∷ ys) = (y ≡ x) ⊎ Member x ys
 
+-- what the list contains, at some index, is an entry by recursion
 pub member : {A : Type 0} (x : A) (xs : List A) → Contains xs x → Member x xs
 member x [] h = absurd (omega (arith, h.1))
 member x (y ∷ ys) (zero, h, e) = inl e
 member x (y ∷ ys) (suc k, h, e) = inr (member x ys (k, omega arith, e))
 
+-- an entry by recursion is at some index of the list
 pub contained : {A : Type 0} (x : A) (xs : List A) → Member x xs → Contains xs x
 contained x [] m = absurd m
 contained x (y ∷ ys) (inl e) = (0, omega arith, e)
 contained x (y ∷ ys) (inr m) = let c = contained x ys m in (suc c.0, omega (arith, c.1), c.2)
 
+-- the sum of f over a list is at least what f is of each entry
 pub member-le-sum_by : {A : Type 0} (f : A → ℕ) (x : A) (xs : List A) → Member x xs → f x ≤ sum_by f xs
 member-le-sum_by f x [] m = absurd m
 member-le-sum_by f x (y ∷ ys) (inl e) = omega (arith, sum_by-cons f y ys, ap f e)

@@ -150,6 +150,7 @@ module _ (T : Tiling) (s t : ℕ) (hs : T.IsVertex s) (ht : T.IsVertex t) (clear
     pub around : (u w : ℕ) → Crosses T s t hs ht clear u w → pos 0 ≤ℤ bracket (at s) (at v) (at u)
     pub nearer : (u w : ℕ) → Crosses T s t hs ht clear u w → bracket (at s) (at v) (at u) ≡ pos 0 → far (at s) (at u) ≤ℤ far (at s) (at v)
 
+  -- no left end of an edge that crosses at v comes after y
   pub record IsLastLeft (v y : ℕ) : Type 0 where
     pub around : (l : ℕ) → Crosses T s t hs ht clear v l → bracket (at s) (at y) (at l) ≤ℤ pos 0
     pub nearer : (l : ℕ) → Crosses T s t hs ht clear v l → bracket (at s) (at y) (at l) ≡ pos 0 → far (at s) (at l) ≤ℤ far (at s) (at y)
@@ -180,9 +181,11 @@ module _ (T : Tiling) (s t : ℕ) (hs : T.IsVertex s) (ht : T.IsVertex t) (clear
     back : Before T t s ht hs (clear_back) y v x
     back = before_crossing T t s ht hs clear_back y v x (to_back v y c) f
 
+    -- what lies before the crossing edge, at the face of v, y and z
     pub front : Before T s t hs ht clear v y z
     front = before_crossing T s t hs ht clear v y z c g
 
+    -- x is on the left of the way from s to v
     pub x_around_v : pos 0 <ℤ bracket (at s) (at v) (at x)
     x_around_v = go back
       where
@@ -193,6 +196,7 @@ module _ (T : Tiling) (s t : ℕ) (hs : T.IsVertex s) (ht : T.IsVertex t) (clear
             ray_clash v x n' (square_below _ _ (below_by _ _ _ (weight v n') (difference_below _ _ _ _ _ _ _ (bracket (at v) (at y) (at t)) (meeting (at s) (at t) (at v) (at x) (at v) (at y)) (bracket-first (at v) (at y)) n' c.right vyx c.start)) c.right)
             (far_above (at s) (at t) (at v) (right_not_zero c.right) (T.whole v ∙ sym (T.whole s))) (last_v.nearer x y (to_front x y k) n))
 
+    -- z is not on the right of the way from s to v
     pub z_around_v : pos 0 ≤ℤ bracket (at s) (at v) (at z)
     z_around_v = go front
       where

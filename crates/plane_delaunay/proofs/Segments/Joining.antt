@@ -80,6 +80,7 @@ module _ (T : Tiling) (s t : ℕ) (hs : T.IsVertex s) (ht : T.IsVertex t) (clear
     pub start : pos 0 <ℤ bracket (at v) (at y) (at s)
     pub end : bracket (at v) (at y) (at t) <ℤ pos 0
 
+  -- before an edge that crosses lies the start, or one of the face's other sides crosses
   pub data Before (v y z : ℕ) : Type 0 where
     by_right : Crosses v z → Before v y z
     by_left : Crosses z y → Before v y z

@@ -28,13 +28,16 @@ use Rattle.plane.specs.Line.{Item, Meets, BeginsAt, IsBefore, OverlapAlong}
 use Rattle.plane.specs.Line as L
 use Rattle.plane.proofs.Signs.{differences_both_positive, same_plus_no_part}
 
+-- a point strictly within a segment is strictly between its ends, for each linear form
 pub between_of : (a b x : Fraction) → WithinSegment a b x → Between a b x
 between_of a b x m = let t = two_weights IsPositive a b x m in record { n = t.n; k = t.k; l = t.l; n_above = t.positive; k_above = t.k_allowed; l_above = t.l_allowed; along = weights_along IsPositive a b x t }
 
+-- a point of a segment is one of the segment the other way
 pub turned_segment : (a b x : Fraction) → OnSegment a b x → OnSegment b a x
 turned_segment a b x m = mean_of_two IsNotNegative b a x (swapped_weights a b x (two_weights IsNotNegative a b x m))
 
 -- ---- where each item begins
+-- where an item begins
 pub record Begins (t : Triangulation) (p q : Fraction) (m : Item) : Type 0 where
   pub at : Fraction
   pub begins : BeginsAt t p q m at
@@ -46,12 +49,14 @@ begin_along t p q i j o = go (decide_on_segment (vertex t i) (vertex t j) p)
     go (inl h) = record { at = p; begins = record { shared = start_on_segment p q; of_item = h; first = λ r _ _. nothing_nearer p r } }
     go (inr n) = record { at = vertex t i; begins = record { shared = first_on p q (vertex t i) (vertex t j) o n; of_item = start_on_segment (vertex t i) (vertex t j); first = λ r a b. none_sooner p q (vertex t i) (vertex t j) o n r a b } }
 
+-- each item that a segment meets has a first point in common with it
 pub begins : (t : Triangulation) (p q : Fraction) (m : Item) → Meets t p q m → Begins t p q m
 begins t p q (L.at_vertex i) h = record { at = vertex t i; begins = record { shared = h.1; of_item = same-refl (vertex t i); first = λ r _ s. same_not_nearer p r (vertex t i) s } }
 begins t p q (L.across i j) h = let m = h.1 in record { at = m.at; begins = record { shared = m.meet.first; of_item = m.meet.second; first = λ r a b. same_not_nearer p r m.at (m.meet.only r a b) } }
 begins t p q (L.along i j) h = begin_along t p q i j h.1
 
 module _ (t : Triangulation) (h : TilesHull t) where
+  -- no vertex is strictly within an edge
   pub no_vertex_within : (i j n : ℕ) → D.IsEdge t i j → IsVertex t n → ¬ WithinSegment (vertex t i) (vertex t j) (vertex t n)
   unfolding tiling
   no_vertex_within i j n e hn w = go ((h.sides i j).0 e)
@@ -60,6 +65,7 @@ module _ (t : Triangulation) (h : TilesHull t) where
       go (inl f) = none_within (tiling t h) i j f.0 n f.1 hn (between_of _ _ _ w)
       go (inr f) = none_within (tiling t h) j i f.0 n f.1 hn (between-swapped (vertex t i) (vertex t j) (vertex t n) (between_of _ _ _ w))
 
+  -- vertices at one point are one
   pub one_vertex : (i j : ℕ) → IsVertex t i → IsVertex t j → IsSame (vertex t i) (vertex t j) → i ≡ j
   unfolding tiling
   one_vertex i j hi hj e = vertices_apart (tiling t h) i j hi hj (λ s u. one _ _ (same_bracket s u (vertex t i) (vertex t j) e))
@@ -114,9 +120,11 @@ pub data SharedAt (t : Triangulation) (a b c d : ℕ) (x : Fraction) : Type 0 wh
 pub record Meeting (t : Triangulation) : Type 0 where
   pub ends : (i j : ℕ) → D.IsEdge t i j → IsVertex t i × IsVertex t j
   pub none_within : (i j n : ℕ) → D.IsEdge t i j → IsVertex t n → ¬ WithinSegment (vertex t i) (vertex t j) (vertex t n)
+  -- vertices at one point are one
   pub one_vertex : (i j : ℕ) → IsVertex t i → IsVertex t j → IsSame (vertex t i) (vertex t j) → i ≡ j
   pub shared : (a b c d : ℕ) (x : Fraction) → D.IsEdge t a b → D.IsEdge t c d → OnSegment (vertex t a) (vertex t b) x → OnSegment (vertex t c) (vertex t d) x → SharedAt t a b c d x
 
+-- a tiling of the hull has what the order of items rests on
 pub meeting_of_hull : (t : Triangulation) → TilesHull t → Meeting t
 unfolding tiling
 meeting_of_hull t h = record { ends = λ i j e. (edge_first i j ((h.sides i j).0 e), edge_last t h i j e); none_within = no_vertex_within t h; one_vertex = one_vertex t h; shared = shared }
@@ -150,6 +158,7 @@ module _ (t : Triangulation) (c₀ : Meeting t) (p q : Fraction) (apart : ¬ IsS
       go (other_way e f) = absurd (never_both t p q a b m (subst₂ (λ i j. Meets t p q (L.across i j)) e f n))
       go (at_end e he i _ _) = absurd (c₀.none_within a b e m.0 he (within_segment-same (vertex t a) (vertex t b) x (vertex t e) i w))
 
+  -- an edge that is crossed has no common point with one that is overlapped
   pub crossing_and_overlap : (a b c d : ℕ) → Meets t p q (L.across a b) → Meets t p q (L.along c d) → (x : Fraction) → WithinSegment (vertex t a) (vertex t b) x → OnSegment (vertex t c) (vertex t d) x → ⊥
   crossing_and_overlap a b c d m n x w o = go (c₀.shared a b c d x m.0 n.0 (on_of_within _ _ x w) o)
     where

@@ -101,5 +101,6 @@ module _ (T : Tiling) (s t : ℕ) (hs : T.IsVertex s) (ht : T.IsVertex t) (two :
         along = λ u v. solved_without_second (bracket (at s) (at b) (at c)) (bracket u v (at t)) (bracket (at b) (at c) (at t)) (bracket u v (at s)) (bracket (at c) (at s) (at t)) (bracket u v (at b)) (bracket (at s) (at b) (at t)) (bracket u v (at c)) (cramer (at s) (at b) (at c) (at t) u v) q;
       }))
 
+  -- two vertices whose segment crosses no edge and passes no vertex are joined
   pub edge_if_uncrossed : IsEdge T s t
   edge_if_uncrossed = let e = cone T s (at t) hs (T.vertex_in_hull t ht) in at_face e.b e.c e.is_face e.first e.second

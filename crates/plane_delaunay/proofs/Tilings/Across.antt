@@ -17,6 +17,7 @@ use Rattle.plane.proofs.Signs.{times_one, swapped_sum}
 
 -- ---- numbers
 
+-- x is 0 where a positive multiple of it is a sum of three numbers that are 0
 pub none_of_sum : (d x a b c : ℤ) → pos 0 <ℤ d → d *ℤ x ≡ a +ℤ b +ℤ c → a ≡ pos 0 → b ≡ pos 0 → c ≡ pos 0 → x ≡ pos 0
 none_of_sum d x a b c h e p q r = zero_of_mul-zero_ℤ {k = d} {x = x} (pos-ne-zero_ℤ h) (omega (arith, ints))
 
@@ -44,6 +45,7 @@ outer_between a b v w on right h k = record {
   along = λ s t. outer_sum (bracket a b v) (bracket s t w) (bracket a b w) (bracket s t v) (bracket v w b) (bracket s t a) (bracket v w a) (bracket s t b) on (meeting a b w v s t);
 }
 
+-- where u v w turns left, a point of the line of u and v that is left of the other sides is between them
 pub inner_between : (u v w a : Fraction) → pos 0 <ℤ bracket u v w → bracket u v a ≡ pos 0 → pos 0 <ℤ bracket v w a → pos 0 <ℤ bracket w u a → Between u v a
 inner_between u v w a t on h k = record {
   n = bracket u v w;
@@ -94,6 +96,7 @@ module _ (T : Tiling) where
   abbrev pub IsClear : ℕ → ℕ → Type 0
   IsClear a b = (n : ℕ) → IsVertex n → ¬ Between (at a) (at b) (at n)
 
+  -- no vertex is between two ends, in either order
   pub clear-swapped : (a b : ℕ) → IsClear a b → IsClear b a
   clear-swapped a b c n v h = c n v (between-swapped (at b) (at a) (at n) h)
 

@@ -35,11 +35,13 @@ one_each t x y e = omega (arith, ints)
 pub halfway : Fraction → Fraction → Fraction
 halfway a b = nudge 1 a b
 
+-- the point in the middle is strictly between the two, for each linear form
 pub between-halfway : (a b : Fraction) → Between a b (halfway a b)
 unfolding halfway
 between-halfway a b = record { n = pos 1; k = pos 1; l = pos 1; n_above = record { lt = tt }; k_above = record { lt = tt }; l_above = record { lt = tt }; along = λ u v. one_each _ (bracket u v a) (bracket u v b) (bracket-nudge u v 1 a b) }
 
 -- ---- the first of three sides that a way from values s to values t passes below 0
+-- the way stays inside, or passes one of the three sides first
 pub data Exit (s₁ t₁ s₂ t₂ s₃ t₃ : ℤ) : Type 0 where
   stays : pos 0 ≤ℤ t₁ → pos 0 ≤ℤ t₂ → pos 0 ≤ℤ t₃ → Exit s₁ t₁ s₂ t₂ s₃ t₃
   by_first : t₁ <ℤ pos 0 → pos 0 ≤ℤ (s₁ *ℤ t₂ -ℤ t₁ *ℤ s₂) → pos 0 ≤ℤ (s₁ *ℤ t₃ -ℤ t₁ *ℤ s₃) → Exit s₁ t₁ s₂ t₂ s₃ t₃
@@ -73,6 +75,7 @@ no_round_right t₁ t₂ t₃ d₁ d₂ d₃ h₁ h₂ h₃ e k₁ k₂ k₃ =
     let r = mul-pos_ℤ {a = neg_ℤ t₂} {b = neg_ℤ d₃} (omega (arith, ints)) (omega (arith, ints)) in
     omega (arith, ints, neg-mul_ℤ t₃ (neg_ℤ d₁), neg-mul_ℤ t₁ (neg_ℤ d₂), neg-mul_ℤ t₂ (neg_ℤ d₃), mul-neg_ℤ t₃ d₁, mul-neg_ℤ t₁ d₂, mul-neg_ℤ t₂ d₃)
 
+-- where no s is below 0, no t is, or there is a first side that the way passes
 pub exit : (s₁ t₁ s₂ t₂ s₃ t₃ : ℤ) → pos 0 ≤ℤ s₁ → pos 0 ≤ℤ s₂ → pos 0 ≤ℤ s₃ → Exit s₁ t₁ s₂ t₂ s₃ t₃
 exit s₁ t₁ s₂ t₂ s₃ t₃ h₁ h₂ h₃ = go (lt_or_ge_ℤ t₁ (pos 0)) (lt_or_ge_ℤ t₂ (pos 0)) (lt_or_ge_ℤ t₃ (pos 0))
   where

@@ -6,9 +6,10 @@ use Rattle.plane.proofs.Steps.{weak, left_not_zero}
 use Rattle.plane.proofs.Sides.{if_right, not_right_if}
 use Rattle.plane_delaunay.proofs.Points.Bracket.{bracket, bracket-first, bracket-second}
 use Rattle.plane_delaunay.proofs.Points.Nudges.{Inside, size, nudge, nudge-above, nudge-least, nudge-on}
-use Rattle.plane_delaunay.proofs.Tilings.Faces.{Tiling, IsTurned, Between, between-on, between-second, between-third, middle, middle-inside, Germ, StartsFrom, germ, germ-turned, germ-closed, turned-above}
+use Rattle.plane_delaunay.proofs.Tilings.Faces.{Tiling, Between, between-on, between-second, between-third, middle, middle-inside, Germ, StartsFrom, germ, germ-turned, germ-closed, turned-above}
 use Rattle.plane_delaunay.proofs.Tilings.Beyond.{halfway, between-halfway, face_across}
 use Rattle.plane_delaunay.proofs.Tilings.Ground.{tiling}
+use Rattle.plane.proofs.Indexes.{IsTurned}
 use Rattle.plane.specs.Fraction.{Fraction, whole, InHull}
 use Rattle.plane.specs.Side.{side, right}
 use Rattle.plane.specs.Tiling.{Triangulation, IsVertex, vertex, IsFace, HasFace, TilesHull}
@@ -40,6 +41,7 @@ module _ (T : Tiling) where
     second = subst (λ i. pos 0 ≤ℤ bracket (at k) (at i) z) (sym e) (from_germ v z k i g.third (ap (λ n. bracket (at k) (at i) (at n)) e ∙ bracket-second (at k) (at i)));
   }
 
+  -- from a vertex, each point of the hull lies in the cone of a face or along an edge
   pub cone : (v : ℕ) (z : Fraction) → IsVertex v → InHull z → Cone v z
   cone v z hv hz = go (germ T (at v) z (T.vertex_in_hull v hv) hz)
     where
@@ -103,6 +105,7 @@ module _ (t : Triangulation) (h : TilesHull t) where
   unfolding tiling bracket
   cone_at_vertex i p hi hp = let c = cone (tiling t h) i p hi hp in (c.b, c.c, c.is_face, not_right_if (vertex t i) (vertex t c.b) p c.first, not_right_if (vertex t c.c) (vertex t i) p c.second)
 
+  -- a side has one face on its left
   pub one_face_at_side : (i j k n : ℕ) → IsFace t i j k → IsFace t i j n → k ≡ n
   unfolding tiling
   one_face_at_side i j k n f g = one_at_side (tiling t h) i j k n f g

@@ -16,11 +16,9 @@ use Rattle.plane_delaunay.proofs.Points.Members.{Member, member-le-sum_by}
 use Rattle.plane_delaunay.proofs.Points.Nudges.{size, nudge, bracket-nudge, nudge-least, germ_sign, Closed, Inside, room, inside-nudge}
 use Rattle.plane.specs.Fraction.{Fraction}
 use Rattle.plane.proofs.Signs.{swapped_sum}
+use Rattle.plane.proofs.Indexes.{IsTurned}
 
--- d e f is a b c, turned
-abbrev pub IsTurned : (a b c d e f : ℕ) → Type 0
-IsTurned a b c d e f = ((d ≡ a) × (e ≡ b) × (f ≡ c)) ⊎ (((d ≡ b) × (e ≡ c) × (f ≡ a)) ⊎ ((d ≡ c) × (e ≡ a) × (f ≡ b)))
-
+-- vertices, faces and a hull with what the global theorems use of them, by brackets
 pub record Tiling : Type 1 where
   pub at : ℕ → Fraction
   pub IsVertex : ℕ → Type 0
@@ -54,12 +52,14 @@ bracket-middle u v a b c = sum _ _ (bracket u v a) (bracket u v b) (bracket u v 
 middle-left : (a b c : Fraction) → pos 0 <ℤ bracket a b c → pos 0 <ℤ bracket a b (middle a b c)
 middle-left a b c h = let e = bracket-middle a b a b c in let f = bracket-first a b in let g = bracket-second a b in omega (arith, ints)
 
+-- the bracket of three points is above 0 in their next rotation too
 pub turned-above : (a b c : Fraction) → pos 0 <ℤ bracket a b c → pos 0 <ℤ bracket b c a
 turned-above a b c h = let e = bracket-turned a b c in omega (arith, ints)
 
 middle-turned : (u v a b c : Fraction) → bracket u v (middle b c a) ≡ bracket u v (middle a b c)
 middle-turned u v a b c = let e = bracket-middle u v a b c in let f = bracket-middle u v b c a in omega (arith, ints)
 
+-- the sum of the corners of a left-turning triple is strictly inside it
 pub middle-inside : (a b c : Fraction) → pos 0 <ℤ bracket a b c → Inside a b c (middle a b c)
 middle-inside a b c h = let h₂ = turned-above a b c h in record {
   first = middle-left a b c h;
@@ -78,6 +78,10 @@ both_inside a b c d e f x h closed inside =
       inside-nudge d e f x m n inside (omega arith),
     )
 
+-- n times x is k times a and l times b together, for each linear form
+abbrev pub AreWeights : (n k l : ℤ) (a b x : Fraction) → Type 0
+AreWeights n k l a b x = (u v : Fraction) → n *ℤ bracket u v x ≡ k *ℤ bracket u v a +ℤ l *ℤ bracket u v b
+
 -- x is strictly between a and b: a positive combination of them, for each linear form
 pub record Between (a b x : Fraction) : Type 0 where
   pub n : ℤ
@@ -86,8 +90,9 @@ pub record Between (a b x : Fraction) : Type 0 where
   pub n_above : pos 0 <ℤ n
   pub k_above : pos 0 <ℤ k
   pub l_above : pos 0 <ℤ l
-  pub along : (u v : Fraction) → n *ℤ bracket u v x ≡ k *ℤ bracket u v a +ℤ l *ℤ bracket u v b
+  pub along : AreWeights n k l a b x
 
+-- a point strictly between a and b is strictly between b and a
 pub between-swapped : (a b x : Fraction) → Between a b x → Between b a x
 between-swapped a b x h = record { n = h.n; k = h.l; l = h.k; n_above = h.n_above; k_above = h.l_above; l_above = h.k_above; along = λ u v. swapped_sum _ (h.k *ℤ bracket u v a) (h.l *ℤ bracket u v b) (h.along u v) }
 
@@ -97,24 +102,30 @@ above_from n k l x a b h e p q = pos_of_mul-pos_ℤ {k = n} {x = x} h (omega (ar
 none_times : (k a : ℤ) → a ≡ pos 0 → pos 0 ≤ℤ (k *ℤ a)
 none_times k a p = let s : k *ℤ a ≡ k *ℤ pos 0 = ap (λ t. k *ℤ t) p in omega (arith, ints)
 
+-- a point strictly between two others is on their line
 pub between-on : (a b x : Fraction) → Between a b x → bracket a b x ≡ pos 0
 between-on a b x h = sum_none h.n h.k h.l _ _ _ h.n_above (h.along a b) (bracket-first a b) (bracket-second a b)
 
+-- where a b c turns left, a point strictly between a and b is left of the second side
 pub between-second : (a b c x : Fraction) → Between a b x → pos 0 <ℤ bracket a b c → pos 0 <ℤ bracket b c x
 between-second a b c x h t = above_from h.n h.k h.l _ _ _ h.n_above (h.along b c) (mul-pos_ℤ h.k_above (turned-above a b c t)) (none_times h.l _ (bracket-first b c))
 
+-- where a b c turns left, a point strictly between a and b is left of the third side
 pub between-third : (a b c x : Fraction) → Between a b x → pos 0 <ℤ bracket a b c → pos 0 <ℤ bracket c a x
 between-third a b c x h t = above_from h.n h.l h.k _ _ _ h.n_above (swapped_sum _ (h.k *ℤ bracket c a a) (h.l *ℤ bracket c a b) (h.along c a)) (mul-pos_ℤ h.l_above (turned-above b c a (turned-above a b c t))) (none_times h.k _ (bracket-second c a))
 
+-- where a b c turns left, a point strictly between a and b is in the closed triangle
 pub between-closed : (a b c x : Fraction) → Between a b x → pos 0 <ℤ bracket a b c → Closed a b c x
 between-closed a b c x h t = record { first = omega (arith, ints, between-on a b x h); second = weak (between-second a b c x h t); third = weak (between-third a b c x h t) }
 
 module _ (T : Tiling) where
   open T use {at, IsVertex, IsFace, InHull}
 
+  -- from its second corner a face turns left too
   pub turns_2 : (a b c : ℕ) → IsFace a b c → pos 0 <ℤ bracket (at b) (at c) (at a)
   turns_2 a b c f = T.turns b c a (T.turned a b c f)
 
+  -- the second corner of a face is a vertex
   pub corner_2 : (a b c : ℕ) → IsFace a b c → IsVertex b
   corner_2 a b c f = T.corner b c a (T.turned a b c f)
 
@@ -150,14 +161,17 @@ module _ (T : Tiling) where
   pub record StartsFrom (y z : Fraction) (i j : ℕ) : Type 0 where
     pub starts : (pos 0 <ℤ bracket (at i) (at j) y) ⊎ ((bracket (at i) (at j) y ≡ pos 0) × (pos 0 ≤ℤ bracket (at i) (at j) z))
 
+  -- the way from y to z begins in the face of i, j and k
   pub record Germ (y z : Fraction) (i j k : ℕ) : Type 0 where
     pub first : StartsFrom y z i j
     pub second : StartsFrom y z j k
     pub third : StartsFrom y z k i
 
+  -- a way begins in a face from whichever corner
   pub germ-turned : (y z : Fraction) (i j k : ℕ) → Germ y z i j k → Germ y z j k i
   germ-turned y z i j k g = record { first = g.second; second = g.third; third = g.first }
 
+  -- where a way begins on an edge's left, its start is on the left or on the edge
   pub starts-least : (y z : Fraction) (i j : ℕ) → StartsFrom y z i j → pos 0 ≤ℤ bracket (at i) (at j) y
   starts-least y z i j s = go s.starts
     where
@@ -165,6 +179,7 @@ module _ (T : Tiling) where
       go (inl h) = weak h
       go (inr h) = omega (arith, ints, h.0)
 
+  -- the start of a way is in the closed face where it begins
   pub germ-closed : (y z : Fraction) (i j k : ℕ) → Germ y z i j k → Closed (at i) (at j) (at k) y
   germ-closed y z i j k g = record { first = starts-least y z i j g.first; second = starts-least y z j k g.second; third = starts-least y z k i g.third }
 
@@ -174,6 +189,7 @@ module _ (T : Tiling) where
   abbrev germ_size : Fraction → ℕ
   germ_size z = suc (sum_by (side_size z) T.sides)
 
+  -- each way within the hull begins in some face
   pub germ : (y z : Fraction) → InHull y → InHull z → (i j k : ℕ) × IsFace i j k × Germ y z i j k
   germ y z h h' = go (T.covering (nudge (germ_size z) y z) (T.nudge_in_hull (germ_size z) y z h h'))
     where

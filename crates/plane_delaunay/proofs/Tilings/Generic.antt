@@ -30,6 +30,7 @@ abbrev AllLeft : List (Fraction × Fraction) → Fraction → Type 0
 AllLeft [] q = Unit {0}
 AllLeft (l ∷ ls) q = (pos 0 <ℤ bracket l.0 l.1 q) × AllLeft ls q
 
+-- q is off each of the lines
 abbrev pub AllOff : List (Fraction × Fraction) → Fraction → Type 0
 AllOff [] q = Unit {0}
 AllOff (l ∷ ls) q = IsOff l.0 l.1 q × AllOff ls q
@@ -86,6 +87,7 @@ generic_point (m ∷ ms) ls a b c q t inside left = go (λ ls q i l. generic_poi
     go more (nowhere q i l h) = let r = more ls q i l in (r.0, r.1, r.2, ((λ _. h), r.3))
 
 -- ---- a way from q to p that the segment a b does not hide
+-- the segment from a to b does not hide p from q, by the sides of one of the two
 pub data IsOpen (a b p q : Fraction) : Type 0 where
   on_line : bracket a b p ≡ pos 0 → IsOpen a b p q
   both_left : pos 0 <ℤ bracket a b p → pos 0 <ℤ bracket a b q → IsOpen a b p q
@@ -93,6 +95,7 @@ pub data IsOpen (a b p q : Fraction) : Type 0 where
   past_left : pos 0 <ℤ bracket q p a → pos 0 <ℤ bracket q p b → IsOpen a b p q
   past_right : bracket q p a <ℤ pos 0 → bracket q p b <ℤ pos 0 → IsOpen a b p q
 
+-- a segment that does not hide p from q does not do so the other way round
 pub open-swapped : (a b p q : Fraction) → IsOpen a b p q → IsOpen b a p q
 open-swapped a b p q (on_line h) = on_line (swapped_none a b p h)
 open-swapped a b p q (both_left h k) = both_right (swapped_below a b p h) (swapped_below a b q k)
@@ -100,6 +103,7 @@ open-swapped a b p q (both_right h k) = both_left (swapped_above a b p h) (swapp
 open-swapped a b p q (past_left h k) = past_left k h
 open-swapped a b p q (past_right h k) = past_right k h
 
+-- the brackets of one and the same point agree by cross products with the weights
 pub same_bracket : (u v y p : Fraction) → IsSame y p → p.w *ℤ bracket u v y ≡ y.w *ℤ bracket u v p
 unfolding bracket
 same_bracket u v y p e = ring_over_from fraction [] (u ∷ v ∷ y ∷ p ∷ []) (λ u v y p. p.w ⊗ bracketᵖ u v y) (λ u v y p. y.w ⊗ bracketᵖ u v p)
@@ -170,6 +174,7 @@ open_from_right a b p q right free = go (lt_or_ge_ℤ (bracket a b q) (pos 0))
     go (inl h) = both_right right h
     go (inr h) = met h (sign (bracket q p a)) (sign (bracket q p b))
 
+-- weights that make p a mean of a and b make it one of b and a
 pub swapped_weights : (a b p : Fraction) → TwoWeights IsNotNegative a b p → TwoWeights IsNotNegative b a p
 swapped_weights a b p t = record {
   k = t.l;
@@ -193,6 +198,7 @@ open_if_free a b p q free = go (sign (bracket a b p))
     go (above h) = open-swapped b a p q (open_from_right b a p q (swapped_below a b p h) (λ y i j. free y i (swapped_weights b a y j)))
 
 -- ---- a list of segments that do not hide p from q: lines that keep it so
+-- none of the listed segments hides p from q
 abbrev pub AllOpen : (ℕ → Fraction) → List (ℕ × ℕ) → Fraction → Fraction → Type 0
 AllOpen at cs p q = (i j : ℕ) → Member (i, j) cs → IsOpen (at i) (at j) p q
 
@@ -205,11 +211,13 @@ front_right q p a h = let e = bracket-turned q p a in let f = bracket-swapped p 
 back_right : (q p a : Fraction) → pos 0 <ℤ bracket a p q → bracket q p a <ℤ pos 0
 back_right q p a h = let e = bracket-turned q p a in let f = bracket-swapped p a q in omega (arith, ints)
 
+-- q is left of some lines, and the segments hide p from no point that is left of all of them
 pub record Keeps (at : ℕ → Fraction) (cs : List (ℕ × ℕ)) (p q : Fraction) : Type 0 where
   pub lines : List (Fraction × Fraction)
   pub left : AllLeft lines q
   pub keep : (q' : Fraction) → AllLeft lines q' → AllOpen at cs p q'
 
+-- where no segment of the list hides p from q, there are lines that keep it so
 pub keeps : (at : ℕ → Fraction) (cs : List (ℕ × ℕ)) (p q : Fraction) → AllOpen at cs p q → Keeps at cs p q
 keeps at [] p q h = record { lines = []; left = tt; keep = λ q' l i j m. absurd m }
 keeps at (s ∷ cs) p q h = go (keeps at cs p q (λ i j m. h i j (inr m))) (h s.0 s.1 (inl refl))

@@ -7,33 +7,39 @@ use Rattle.std.proofs.lemmas.List.{get_or_default, get_or-map, length-map}
 use Rattle.plane_delaunay.proofs.Points.Bracket.{bracket, above_if_left}
 use Rattle.plane.proofs.Means.{three_weights}
 use Rattle.plane.proofs.Sides.{if_left}
-use Rattle.plane.proofs.Triangles.{in_is_brackets, inside_is_brackets}
+use Rattle.plane.proofs.Triangles.{turned_face, in_is_brackets, inside_is_brackets}
 use Rattle.plane_delaunay.proofs.Points.Members.{Member, member, contained}
 use Rattle.plane_delaunay.proofs.Points.Nudges.{Closed, Inside}
-use Rattle.plane_delaunay.proofs.Tilings.Faces.{Tiling, IsTurned}
+use Rattle.plane_delaunay.proofs.Tilings.Faces.{Tiling}
+use Rattle.plane.proofs.Indexes.{IsTurned, turns_of_one}
 use Rattle.plane_delaunay.proofs.Points.Hull.{corner_in_hull, nudge_in_hull, triangle_in_hull}
 use Rattle.plane.specs.Fraction.{Point, Fraction, whole, IsNotNegative, InTriangle, InsideTriangle, InHull}
 use Rattle.plane.specs.Side.{TurnsLeft}
 use Rattle.plane.specs.Tiling.{Triangulation, Face, face, IsVertex, vertex, IsFace, TilesHull, AreApart, InsideCorners}
 
 -- ---- triangles by brackets
+-- inside of a left-turning triangle is on the left of its sides
 pub inside_of : (a b c p : Fraction) → TurnsLeft a b c → InsideTriangle a b c p → Inside a b c p
 unfolding bracket
 inside_of a b c p t h = let s = (inside_is_brackets a b c p (if_left a b c t)).0 h in record { first = s.0; second = s.1; third = s.2 }
 
+-- a point left of the three sides of a left-turning triple is a mean under positive weights
 pub triangle_of_inside : (a b c p : Fraction) → TurnsLeft a b c → Inside a b c p → InsideTriangle a b c p
 unfolding bracket
 triangle_of_inside a b c p t h = (inside_is_brackets a b c p (if_left a b c t)).1 (h.first, h.second, h.third)
 
+-- a point of the closed triangle of a left-turning triple is right of none of its sides
 pub closed_of : (a b c p : Fraction) → TurnsLeft a b c → InTriangle a b c p → Closed a b c p
 unfolding bracket
 closed_of a b c p t h = let s = (in_is_brackets a b c p (if_left a b c t)).0 h in record { first = s.0; second = s.1; third = s.2 }
 
+-- a point right of none of the sides of a left-turning triple is in its closed triangle
 pub triangle_of_closed : (a b c p : Fraction) → TurnsLeft a b c → Closed a b c p → InTriangle a b c p
 unfolding bracket
 triangle_of_closed a b c p t h = (in_is_brackets a b c p (if_left a b c t)).1 (h.first, h.second, h.third)
 
 -- ---- the sides of faces, in a list
+-- the sides of all faces
 abbrev pub sides_of : List Face → List (ℕ × ℕ)
 sides_of [] = []
 sides_of (f ∷ fs) = (f.a, f.b) ∷ (f.b, f.c) ∷ (f.c, f.a) ∷ sides_of fs
@@ -65,6 +71,7 @@ side_owner i j (f ∷ fs) (inr (inr (inr m))) = go (side_owner i j fs m)
     go (k, inr (inl m)) = (k, inr (inl (inr m)))
     go (k, inr (inr m)) = (k, inr (inr (inr m)))
 
+-- each way in the list of the faces' sides has a face on its left
 pub face_of_side : (t : Triangulation) (i j : ℕ) → Member (i, j) (sides_of t.faces) → (k : ℕ) × IsFace t i j k
 face_of_side t i j m = go (side_owner i j t.faces m)
   where
@@ -72,11 +79,6 @@ face_of_side t i j m = go (side_owner i j t.faces m)
     go (k, inl m) = (k, inl (contained (face i j k) t.faces m))
     go (k, inr (inl m)) = (k, inr (inl (contained (face j k i) t.faces m)))
     go (k, inr (inr m)) = (k, inr (inr (contained (face k i j) t.faces m)))
-
-pub turned_face : (t : Triangulation) (i j k : ℕ) → IsFace t i j k → IsFace t j k i
-turned_face t i j k (inl h) = inr (inr h)
-turned_face t i j k (inr (inl h)) = inl h
-turned_face t i j k (inr (inr h)) = inr (inl h)
 
 -- ---- two faces with a common point strictly inside are one
 data Order (k l : ℕ) : Type 0 where
@@ -135,20 +137,10 @@ module _ (t : Triangulation) (h : TilesHull t) where
       moved : (i j a b : ℕ) → i ≡ a → j ≡ b → pos 0 <ℤ bracket (vertex t i) (vertex t j) p → pos 0 <ℤ bracket (vertex t a) (vertex t b) p
       moved i j a b e d s = mathlib.Core.Path.subst₂ (λ i j. pos 0 <ℤ bracket (vertex t i) (vertex t j) p) e d s
 
-  composed : (x y z a b c d e f : ℕ) → IsTurned x y z a b c → IsTurned x y z d e f → IsTurned a b c d e f
-  composed x y z a b c d e f (inl p) (inl q) = inl (q.0 ∙ sym p.0, q.1 ∙ sym p.1, q.2 ∙ sym p.2)
-  composed x y z a b c d e f (inl p) (inr (inl q)) = inr (inl (q.0 ∙ sym p.1, q.1 ∙ sym p.2, q.2 ∙ sym p.0))
-  composed x y z a b c d e f (inl p) (inr (inr q)) = inr (inr (q.0 ∙ sym p.2, q.1 ∙ sym p.0, q.2 ∙ sym p.1))
-  composed x y z a b c d e f (inr (inl p)) (inl q) = inr (inr (q.0 ∙ sym p.2, q.1 ∙ sym p.0, q.2 ∙ sym p.1))
-  composed x y z a b c d e f (inr (inl p)) (inr (inl q)) = inl (q.0 ∙ sym p.0, q.1 ∙ sym p.1, q.2 ∙ sym p.2)
-  composed x y z a b c d e f (inr (inl p)) (inr (inr q)) = inr (inl (q.0 ∙ sym p.1, q.1 ∙ sym p.2, q.2 ∙ sym p.0))
-  composed x y z a b c d e f (inr (inr p)) (inl q) = inr (inl (q.0 ∙ sym p.1, q.1 ∙ sym p.2, q.2 ∙ sym p.0))
-  composed x y z a b c d e f (inr (inr p)) (inr (inl q)) = inr (inr (q.0 ∙ sym p.2, q.1 ∙ sym p.0, q.2 ∙ sym p.1))
-  composed x y z a b c d e f (inr (inr p)) (inr (inr q)) = inl (q.0 ∙ sym p.0, q.1 ∙ sym p.1, q.2 ∙ sym p.2)
-
   turned_turns : (f : Face) → Contains t.faces f → TurnsLeft (vertex t f.a) (vertex t f.b) (vertex t f.c)
   turned_turns f c = h.turning f.a f.b f.c (inl c)
 
+  -- two faces with a common point inside are one, from whichever corner
   pub faces_same : (a b c d e f : ℕ) → IsFace t a b c → IsFace t d e f → (p : Fraction) → Inside (vertex t a) (vertex t b) (vertex t c) p → Inside (vertex t d) (vertex t e) (vertex t f) p → IsTurned a b c d e f
   faces_same a b c d e f g g' p in_g in_g' = go (listing a b c g) (listing d e f g')
     where
@@ -157,19 +149,23 @@ module _ (t : Triangulation) (h : TilesHull t) where
           let same : l.f ≡ m.f = listed_same l.f m.f l.is_listed m.is_listed p
           (triangle_of_inside _ _ _ p (turned_turns l.f l.is_listed) (untwisted l.f.a l.f.b l.f.c a b c p l.is_turned in_g))
           (triangle_of_inside _ _ _ p (turned_turns m.f m.is_listed) (untwisted m.f.a m.f.b m.f.c d e f p m.is_turned in_g')) in
-          composed l.f.a l.f.b l.f.c a b c d e f l.is_turned (subst (λ (g : Face). IsTurned g.a g.b g.c d e f) (sym same) m.is_turned)
+          turns_of_one l.f.a l.f.b l.f.c a b c d e f l.is_turned (subst (λ (g : Face). IsTurned g.a g.b g.c d e f) (sym same) m.is_turned)
 
+  -- the point 0, 0
   abbrev pub origin : Point
   origin = record { x = pos 0; y = pos 0 }
 
+  -- a side of a face is listed
   pub side_listed : (i j k : ℕ) → IsFace t i j k → Member (i, j) (sides_of t.faces)
   side_listed i j k (inl c) = side_first i j k t.faces (member (face i j k) t.faces c)
   side_listed i j k (inr (inl c)) = side_third j k i t.faces (member (face j k i) t.faces c)
   side_listed i j k (inr (inr c)) = side_second k i j t.faces (member (face k i j) t.faces c)
 
+  -- an index of points is one of the fraction points
   pub in_map : (i : ℕ) → i < length t.points → i < length (map whole t.points)
   in_map i v = omega (arith, length-map t.points whole)
 
+  -- a point of a closed face is in the hull
   pub face_in_hull : (i j k : ℕ) → IsFace t i j k → (p : Fraction) → Closed (vertex t i) (vertex t j) (vertex t k) p → InHull (map whole t.points) p
   face_in_hull i j k f p c = triangle_in_hull (map whole t.points) i j k (whole origin) (vertex t i) (vertex t j) (vertex t k) p (in_map i v.0) (in_map j v.1) (in_map k v.2)
       (get_or-map whole t.points i origin (whole origin) v.0) (get_or-map whole t.points j origin (whole origin) v.1) (get_or-map whole t.points k origin (whole origin) v.2)
@@ -178,6 +174,7 @@ module _ (t : Triangulation) (h : TilesHull t) where
       v : IsVertex t i × IsVertex t j × IsVertex t k
       v = h.corners i j k f
 
+  -- a triangulation that tiles its hull, as a tiling
   unfoldable pub tiling : Tiling
   tiling = record {
     at = vertex t;

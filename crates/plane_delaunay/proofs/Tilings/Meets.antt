@@ -11,7 +11,7 @@ use Rattle.plane.proofs.Steps.{weak, zero_weak_left, left_not_zero, right_not_ab
 use Rattle.plane.proofs.IntegerOrder.{mul-pos_ℤ, mul-nonneg_ℤ, nonneg_of_mul-nonneg_ℤ, zero_of_mul-zero_ℤ, pos-ne-zero_ℤ, Sign, sign, below, none, above, zero-mul_ℤ}
 use Rattle.plane_delaunay.proofs.Points.Bracket.{bracket, bracket-first, bracket-second, cramer, cramer-w}
 use Rattle.plane_delaunay.proofs.Points.Nudges.{Closed, Inside}
-use Rattle.plane_delaunay.proofs.Tilings.Faces.{Tiling, Between, none_within, side_not_inside, turned-above, corner_2}
+use Rattle.plane_delaunay.proofs.Tilings.Faces.{Tiling, AreWeights, Between, none_within, side_not_inside, turned-above, corner_2}
 use Rattle.plane_delaunay.proofs.Tilings.Across.{sides_same}
 use Rattle.plane_delaunay.proofs.Tilings.Beyond.{not_second}
 use Rattle.plane.specs.Fraction.{Fraction}
@@ -25,7 +25,7 @@ pub record OnSide (a b x : Fraction) : Type 0 where
   pub n_above : pos 0 <ℤ n
   pub k_least : pos 0 ≤ℤ k
   pub l_least : pos 0 ≤ℤ l
-  pub along : (u v : Fraction) → n *ℤ bracket u v x ≡ k *ℤ bracket u v a +ℤ l *ℤ bracket u v b
+  pub along : AreWeights n k l a b x
   pub weight : n *ℤ x.w ≡ k *ℤ a.w +ℤ l *ℤ b.w
 
 -- x is where v is, for each linear form
@@ -36,6 +36,7 @@ pub record IsAt (v x : Fraction) : Type 0 where
   pub k_above : pos 0 <ℤ k
   pub along : (s u : Fraction) → n *ℤ bracket s u x ≡ k *ℤ bracket s u v
 
+-- a point of the closed segment of a and b is one of that of b and a
 pub on_side-swapped : (a b x : Fraction) → OnSide a b x → OnSide b a x
 on_side-swapped a b x h = record { n = h.n; k = h.l; l = h.k; n_above = h.n_above; k_least = h.l_least; l_least = h.k_least; along = λ u v. swapped_sum _ (h.k *ℤ bracket u v a) (h.l *ℤ bracket u v b) (h.along u v); weight = swapped_sum _ (h.k *ℤ a.w) (h.l *ℤ b.w) h.weight }
 
@@ -45,6 +46,7 @@ second_only n x k a l b e z = let p = product_zero_left a z in omega (arith, int
 above_second : (n x l b : ℤ) → n *ℤ x ≡ l *ℤ b → pos 0 <ℤ n → pos 0 <ℤ x → pos 0 ≤ℤ l → pos 0 <ℤ l
 above_second n x l b e hn hx hl = not_right_strict hl (λ z. left_not_zero (mul-pos_ℤ hn hx) (e ∙ product_zero_left b z))
 
+-- where a point of a closed segment is: at an end, or strictly between the two
 pub data Place (a b x : Fraction) : Type 0 where
   at_first : IsAt a x → Place a b x
   at_second : IsAt b x → Place a b x
@@ -53,6 +55,7 @@ pub data Place (a b x : Fraction) : Type 0 where
 at_end : (a b x : Fraction) (h : OnSide a b x) → h.k ≡ pos 0 → IsAt b x
 at_end a b x h z = record { n = h.n; k = h.l; n_above = h.n_above; k_above = above_second h.n x.w h.l b.w (second_only h.n x.w h.k a.w h.l b.w h.weight z) h.n_above x.positive h.l_least; along = λ s u. second_only h.n (bracket s u x) h.k (bracket s u a) h.l (bracket s u b) (h.along s u) z }
 
+-- a point of a closed segment is at an end or strictly between the two
 pub place_of : (a b x : Fraction) → OnSide a b x → Place a b x
 unfolding on_side-swapped
 place_of a b x h = go (sign h.k) (sign h.l)
@@ -67,6 +70,7 @@ place_of a b x h = go (sign h.k) (sign h.l)
 on_side-none : (a b x : Fraction) → OnSide a b x → bracket a b x ≡ pos 0
 on_side-none a b x h = sum_none h.n h.k h.l _ _ _ h.n_above (h.along a b) (bracket-first a b) (bracket-second a b)
 
+-- where a b c turns left, a point of the closed segment of a and b is in the closed triangle
 pub on_side-closed : (a b c x : Fraction) → OnSide a b x → pos 0 <ℤ bracket a b c → Closed a b c x
 on_side-closed a b c x h t = record {
   first = zero_weak_left (on_side-none a b x h);
@@ -97,15 +101,18 @@ at_none v x s u h z = zero_of_mul-zero_ℤ {k = h.k} {x = bracket s u v} (pos-ne
 at_least_there : (v x s u : Fraction) → IsAt v x → pos 0 ≤ℤ bracket s u x → pos 0 ≤ℤ bracket s u v
 at_least_there v x s u h z = nonneg_of_mul-nonneg_ℤ {k = h.k} {x = bracket s u v} h.k_above (subst (λ t. pos 0 ≤ℤ t) (h.along s u) (mul-nonneg_ℤ {a = h.n} {b = bracket s u x} (weak h.n_above) z))
 
+-- a linear form that is 0 at v is 0 at x, which is where v is
 pub at_here : (v x s u : Fraction) → IsAt v x → bracket s u v ≡ pos 0 → bracket s u x ≡ pos 0
 at_here v x s u h z = zero_of_mul-zero_ℤ {k = h.n} {x = bracket s u x} (pos-ne-zero_ℤ h.n_above) (h.along s u ∙ zero-mul_ℤ h.k z)
 
 module _ (T : Tiling) where
   open T use {at, IsVertex, IsFace}
 
+  -- the two vertices are joined by a side, in either direction
   abbrev pub IsEdge : ℕ → ℕ → Type 0
   IsEdge a b = ((c : ℕ) × IsFace a b c) ⊎ ((c : ℕ) × IsFace b a c)
 
+  -- an edge is one from either end
   pub edge-swapped : (a b : ℕ) → IsEdge a b → IsEdge b a
   edge-swapped a b (inl e) = inr e
   edge-swapped a b (inr e) = inl e
@@ -128,6 +135,7 @@ module _ (T : Tiling) where
       go (inr (inl p)) = inr p
       go (inr (inr p)) = absurd (left_not_zero t (ap (λ i. bracket (at u) (at v) (at i)) (sym p) ∙ zero))
 
+  -- a vertex on an edge is one of its ends
   pub end_of_edge : (e u v : ℕ) (x : Fraction) → IsVertex e → IsEdge u v → IsAt (at e) x → OnSide (at u) (at v) x → (e ≡ u) ⊎ (e ≡ v)
   end_of_edge e u v x he (inl f) i o = end_of_face e u v f.0 x he f.1 i o
   end_of_edge e u v x he (inr f) i o = turned (end_of_face e v u f.0 x he f.1 i (on_side-swapped (at u) (at v) x o))
@@ -179,6 +187,7 @@ module _ (T : Tiling) where
   flip_second a b u v x (reversed p q) = same q p
   flip_second a b u v x (at_vertex e h i p q) = at_vertex e h i p (flip_end q)
 
+  -- two edges with a common point share an end there, or are one
   pub edges_meet : (a b u v : ℕ) (x : Fraction) → IsEdge a b → IsEdge u v → OnSide (at a) (at b) x → OnSide (at u) (at v) x → Shared a b u v x
   edges_meet a b u v x (inl f) (inl g) h o = faces_meet a b f.0 u v g.0 x f.1 g.1 h o
   edges_meet a b u v x (inl f) (inr g) h o = flip_second a b v u x (faces_meet a b f.0 v u g.0 x f.1 g.1 h (on_side-swapped (at u) (at v) x o))

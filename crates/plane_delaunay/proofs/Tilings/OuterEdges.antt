@@ -1,18 +1,27 @@
 -- The outer edges of a tiling, in the definitions' words: what is in no face is left of one, and the hull is left of none.
-use Rattle.std.proofs.Common.{◌≡◌, ℕ}
+use Rattle.std.proofs.Common.{ℕ}
 use mathlib.Core.Logic.{◌⊎◌, inl, inr}
-use Rattle.std.specs.Prelude.{ℤ, ◌<ℤ◌, map}
+use Rattle.std.specs.Prelude.{map}
 use Rattle.plane.proofs.Steps.{negated_left}
 use Rattle.plane_delaunay.proofs.Points.Bracket.{bracket-swapped, above_if_left, left_if_above}
 use Rattle.plane_delaunay.proofs.Tilings.Ground.{tiling, closed_of, triangle_of_closed}
 use Rattle.plane_delaunay.proofs.Tilings.Where.{IsBeyond, IsCovered, covered_or_beyond, corner_of_face, not_covered_and_beyond}
 use Rattle.plane.specs.Fraction.{Fraction, whole, InHull}
 use Rattle.plane.specs.Side.{TurnsLeft}
-use Rattle.plane.specs.Tiling.{Triangulation, vertex, IsFace, HasFace, InCorners, TilesHull}
+use Rattle.plane.specs.Tiling.{Triangulation, IsVertex, IsEdge, vertex, IsFace, HasFace, InCorners, TilesHull}
 use Rattle.plane.specs.Location.{IsOuter}
 use Rattle.plane.proofs.Signs.{negative_of_opposite}
 
+-- each vertex has an edge
+abbrev pub EachHasEdge : Triangulation → Type 0
+EachHasEdge t = (i : ℕ) → IsVertex t i → (k : ℕ) × IsEdge t i k
+
 module _ (t : Triangulation) (h : TilesHull t) where
+  -- in a tiling each vertex is a corner of a face, and so has an edge
+  pub edge_of_corner : EachHasEdge t
+  unfolding tiling
+  edge_of_corner i hi = let f = corner_of_face (tiling t h) i hi in (f.0, (h.sides i f.0).1 (inl (f.1, f.2)))
+
   some_face : (i j k : ℕ) × IsFace t i j k
   unfolding tiling
   some_face = let s = h.spread in let f = corner_of_face (tiling t h) s.0 s.3 in (s.0, f.0, f.1, f.2)
@@ -50,5 +59,6 @@ module _ (t : Triangulation) (h : TilesHull t) where
   unfolding tiling
   face_not_left_of_outer i j l m n p o f inside turns = not_covered_and_beyond (tiling t h) p (record { a = l; b = m; c = n; is_face = f; closed = closed_of _ _ _ p (h.turning l m n f) inside }) (beyond_outer i j p o turns)
 
+  -- no point of the hull is on the left of an outer edge
   pub hull_not_left_of_outer : (i j : ℕ) (p : Fraction) → IsOuter t i j → InHull (map whole t.points) p → ¬ TurnsLeft (vertex t i) (vertex t j) p
   hull_not_left_of_outer i j p o m = let c = h.covering p m in face_not_left_of_outer i j c.0 c.1 c.2 p o c.3 c.4

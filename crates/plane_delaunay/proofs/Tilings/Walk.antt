@@ -27,12 +27,14 @@ pub record Leaves (y z a b c : Fraction) : Type 0 where
   pub second : pos 0 ≤ℤ (bracket a b y *ℤ bracket b c z -ℤ bracket a b z *ℤ bracket b c y)
   pub third : pos 0 ≤ℤ (bracket a b y *ℤ bracket c a z -ℤ bracket a b z *ℤ bracket c a y)
 
+-- what becomes of the way from y to z in a triangle: it ends there, or leaves through one of the sides
 pub data Step (y z a b c : Fraction) : Type 0 where
   reached : Closed a b c z → Step y z a b c
   leaves_first : Leaves y z a b c → Step y z a b c
   leaves_second : Leaves y z b c a → Step y z a b c
   leaves_third : Leaves y z c a b → Step y z a b c
 
+-- a way from a point of a closed triangle ends there or leaves through one of the sides
 pub step : (y z a b c : Fraction) → Closed a b c y → Step y z a b c
 step y z a b c h = go (exit (bracket a b y) (bracket a b z) (bracket b c y) (bracket b c z) (bracket c a y) (bracket c a z) h.first h.second h.third)
   where
@@ -169,6 +171,7 @@ module _ (T : Tiling) where
   pub separation : Fraction → Fraction → ℕ
   separation x p = sum_by (parts x p) T.sides
 
+  -- a point across an edge, on the way to p, is separated from p by fewer edges
   pub nearer_on_way : (a b c : ℕ) (x p x' : Fraction) → IsFace a b c → OnWay x p x' → bracket (at a) (at b) x' ≤ℤ pos 0 → pos 0 <ℤ bracket (at a) (at b) x → bracket (at a) (at b) p <ℤ pos 0 → separation x' p < separation x p
   unfolding separation
   nearer_on_way a b c x p x' f m h i j = sum_by-lt (parts x' p) (parts x p) (a, b) T.sides

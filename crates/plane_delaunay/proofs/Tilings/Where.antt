@@ -44,6 +44,7 @@ sum_least d x p a q b r c h e hp ha hq hb hr hc = nonneg_of_mul-nonneg_ℤ {k = 
 module _ (T : Tiling) where
   open T use {at, IsVertex, IsFace, InHull}
 
+  -- the pair is a side of a face
   pub HasSide : ℕ → ℕ → Type 0
   HasSide i j = (k : ℕ) × IsFace i j k
 
@@ -56,6 +57,7 @@ module _ (T : Tiling) where
     pub alone : (d : ℕ) → ¬ IsFace b a d
     pub right : bracket (at a) (at b) p <ℤ pos 0
 
+  -- p is in a closed face
   pub record IsCovered (p : Fraction) : Type 0 where
     pub a : ℕ
     pub b : ℕ
@@ -109,6 +111,7 @@ module _ (T : Tiling) where
       go (inl h) = let g = face_across T a b c v f hv h in absurd (alone g.0 g.1)
       go (inr h) = h
 
+  -- a point in a closed face is not beyond the hull
   pub not_covered_and_beyond : (p : Fraction) → IsCovered p → ¬ IsBeyond p
   not_covered_and_beyond p m o = right_not_above o.right (sum_least (bracket (at m.a) (at m.b) (at m.c)) _ _ _ _ _ _ _ (T.turns m.a m.b m.c m.is_face) (cramer (at m.a) (at m.b) (at m.c) p (at o.a) (at o.b))
       m.closed.second (low m.a (T.corner m.a m.b m.c m.is_face))
@@ -131,6 +134,7 @@ module _ (T : Tiling) where
           pick (inr (inl e)) = (k, i, subst (λ n. IsFace n k i) (sym e) (T.turned i j k f))
           pick (inr (inr e)) = (i, j, subst (λ n. IsFace n i j) (sym e) (T.turned j k i (T.turned i j k f)))
 
+  -- no vertex is strictly inside a face
   pub vertex_not_inside : (v d e f : ℕ) → IsVertex v → IsFace d e f → ¬ Inside (at d) (at e) (at f) (at v)
   vertex_not_inside v d e f hv g inside = go (corner_of_face v hv)
     where

@@ -12,12 +12,13 @@ use Rattle.plane_tiling.proofs.Totals.{Contains-head, Contains-later, Contains-c
 use Rattle.plane.proofs.Bracket.{bracket, lift}
 use Rattle.plane.proofs.BracketIdentities.{bracket-turn, bracket-swap, bracket-outer, bracket-last}
 use Rattle.plane.proofs.Means.{two_weights}
-use Rattle.plane_tiling.proofs.Counting.{at, SignMesh}
+use Rattle.plane_tiling.proofs.Counting.{at, SignMesh, IsPairBelow}
+use Rattle.plane.proofs.Generic.{IsFresh}
 use Rattle.plane_tiling.proofs.Edges as E
 use Rattle.plane_edits.specs.Change.{FacesChange, OuterChange}
 use Rattle.plane_edits.specs.Extension.{fan, steps, last_of}
-use Rattle.plane_edits.proofs.LocalMesh.Changes.{each, each_none, IsOnce, once_none, once_cons}
-use Rattle.plane_edits.proofs.LocalMesh.Additions.{AreTurning, IsAddition, added_kept}
+use Rattle.plane_edits.proofs.LocalMesh.Changes.{each, each_none, AreAmong, IsOnce, once_none, once_cons}
+use Rattle.plane_edits.proofs.LocalMesh.Additions.{AreTurning, IsWithinNone, SupportsUpTo, IsBareUpTo, EndsAt, IsAddition, added_kept}
 use Rattle.plane_edits.proofs.Insertion.Hull as H
 use Rattle.plane.proofs.Signs.{sum_not_positive}
 
@@ -37,18 +38,22 @@ fan_total flow anti q u (v ∷ vs) =
     fan_step (flow u v) (flow v q) (flow q u) (total (around flow) (fan q v vs)) (total (along flow) (steps v vs)) (flow (last_of v vs) q) (flow q v) (fan_total flow anti q v vs)
     ∙ fan_next (flow u v) (total (along flow) (steps v vs)) (flow (last_of v vs) q) (flow v q) (flow q u) (flow q v) (anti q v)
 
+-- a fan with its two new outer edges has the same total as the path that it stands on
 pub fans_balance : (fans steps last first last' first' : ℤ) → fans ≡ steps +ℤ last' +ℤ first' → last' ≡ neg_ℤ last → first' ≡ neg_ℤ first → fans +ℤ (first +ℤ (last +ℤ pos 0)) ≡ pos 0 +ℤ steps
 fans_balance fans steps last first last' first' a b c = omega (arith, ints)
 
 -- ---- paths
+-- a path with one more vertex has one more step, from its last vertex
 pub steps_snoc : (u : ℕ) (vs : List ℕ) (w : ℕ) → steps u (vs ++ w ∷ []) ≡ steps u vs ++ (last_of u vs, w) ∷ []
 steps_snoc u [] w = refl
 steps_snoc u (v ∷ vs) w = ap (λ l. (u, v) ∷ l) (steps_snoc v vs w)
 
+-- a path with one more vertex has one more face at the end of its fan
 pub fan_snoc : (q u : ℕ) (vs : List ℕ) (w : ℕ) → fan q u (vs ++ w ∷ []) ≡ fan q u vs ++ face (last_of u vs) w q ∷ []
 fan_snoc q u [] w = refl
 fan_snoc q u (v ∷ vs) w = ap (λ l. face u v q ∷ l) (fan_snoc q v vs w)
 
+-- the end of a path with one more vertex is this vertex
 pub last_of_snoc : (u : ℕ) (vs : List ℕ) (w : ℕ) → last_of u (vs ++ w ∷ []) ≡ w
 last_of_snoc u [] w = refl
 last_of_snoc u (v ∷ vs) w = last_of_snoc v vs w
@@ -77,9 +82,35 @@ fan_from n p outer u (v ∷ vs) r g h = go (Contains-cases (face u v n) (fan n v
     go (inl e) rest = (u, v, r.0, r.1, sym e)
     go (inr k) rest = rest k
 
+-- the last step of a run is an outer edge that has the point n on its left
 pub last_step : (n : ℕ) (p : ℕ → Point) (outer : List (ℕ × ℕ)) (u v : ℕ) (vs : List ℕ) → IsRun n p outer u (v ∷ vs) → (a : ℕ) × Contains outer (a, last_of v vs) × (pos 0 <ℤ bracket (at p a) (at p (last_of v vs)) (at p n))
 last_step n p outer u v [] r = (u, r.0, r.1)
 last_step n p outer u v (w ∷ vs) r = last_step n p outer v w vs r.2
+
+-- no run comes back to its start
+abbrev pub AreOpen : ℕ → (ℕ → Point) → List (ℕ × ℕ) → Type 0
+AreOpen n p outer = (u v : ℕ) (vs : List ℕ) → IsRun n p outer u (v ∷ vs) → ¬ (last_of v vs ≡ u)
+
+-- then none has a step twice
+pub steps_once : (n : ℕ) (p : ℕ → Point) (outer : List (ℕ × ℕ)) → AreOpen n p outer
+    → (u : ℕ) (vs : List ℕ) → IsRun n p outer u vs → IsOnce (steps u vs)
+steps_once n p outer open' u [] run = once_none
+steps_once n p outer open' u (v ∷ vs) run = once_cons (u, v) (steps v vs)
+    (λ h. let t = run_up_to n p outer v vs run.2 u v h in open' u v t.0 (run.0, run.1, t.1) t.2)
+    (steps_once n p outer open' v vs run.2)
+
+-- what sees the point of index n is on the path
+abbrev pub AreSeen : ℕ → (ℕ → Point) → (outer path : List (ℕ × ℕ)) → Type 0
+AreSeen n p outer path = (e : ℕ × ℕ) → Contains outer e → pos 0 <ℤ bracket (at p e.0) (at p e.1) (at p n)
+    → Contains path e
+
+-- then the rest does not see it
+pub unseen : (n : ℕ) (p : ℕ → Point) (outer path : List (ℕ × ℕ)) → AreSeen n p outer path
+    → (e : ℕ × ℕ) → Contains outer e → ¬ Contains path e → bracket (at p e.0) (at p e.1) (at p n) ≤ℤ pos 0
+unseen n p outer path seen e h away = elim (lt_or_ge_ℤ (pos 0) (bracket (at p e.0) (at p e.1) (at p n))) [
+  | inl s ↦ absurd (away (seen e h s))
+  | inr s ↦ s
+]
 
 -- an end is not strictly within its own segment
 pub not_own_end : (a b c : Point) → pos 0 <ℤ bracket (lift a) (lift b) (lift c) → ¬ WithinSegment (whole a) (whole c) (whole c)
@@ -88,6 +119,7 @@ not_own_end a b c turns w =
     left_not_zero (mul-pos_ℤ t.k_allowed (subst (λ z. pos 0 <ℤ z) (bracket-turn (lift a) (lift b) (lift c)) turns))
     (sym (drop_zero_last (t.n *ℤ bracket (lift b) (lift c) (lift c)) (t.k *ℤ bracket (lift b) (lift c) (lift a)) (t.l *ℤ bracket (lift b) (lift c) (lift c)) (E.mean_bracket IsPositive b c a c (whole c) t) (zero-mul_ℤ t.l (bracket-last (lift b) (lift c)))) ∙ zero-mul_ℤ t.n (bracket-last (lift b) (lift c)))
 
+-- where a b c turns left, c is not strictly within the segment from c to b
 pub not_own_start : (a b c : Point) → pos 0 <ℤ bracket (lift a) (lift b) (lift c) → ¬ WithinSegment (whole c) (whole b) (whole c)
 not_own_start a b c turns w =
     let t = two_weights IsPositive (whole c) (whole b) (whole c) w in
@@ -130,15 +162,11 @@ module _ (n : ℕ) (p : ℕ → Point) (faces : List Face) (outer : List (ℕ ×
       left_not_below (pos_of_mul-pos_ℤ t.positive (subst (λ z. pos 0 <ℤ z) (sym (drop_zero_last (t.n *ℤ bracket (at p a) (at p b) (at p k)) (t.k *ℤ bracket (at p a) (at p b) (at p n)) (t.l *ℤ bracket (at p a) (at p b) (at p b)) (E.mean_bracket IsPositive (p a) (p b) (p n) (p b) (whole (p k)) t) (zero-mul_ℤ t.l (bracket-last (at p a) (at p b)))))
       (mul-pos_ℤ t.k_allowed sees))) (m.supporting (a, b) h k l)
 
-  -- a run never comes back to its start, and so has no step twice
-  pub run_open : (u v : ℕ) (vs : List ℕ) → IsRun n p outer u (v ∷ vs) → ¬ (last_of v vs ≡ u)
+  -- a run never comes back to its start
+  pub run_open : AreOpen n p outer
   run_open u v vs run e = H.run_is_open n p faces outer m (p n) u v vs (run_as u (v ∷ vs) run) (end_is v vs ∙ e)
 
-  steps_once : (u : ℕ) (vs : List ℕ) → IsRun n p outer u vs → IsOnce (steps u vs)
-  steps_once u [] run = once_none
-  steps_once u (v ∷ vs) run = once_cons (u, v) (steps v vs) (λ h. let t = run_up_to n p outer v vs run.2 u v h in run_open u v t.0 (run.0, run.1, t.1) t.2) (steps_once v vs run.2)
-
-  steps_there : (u : ℕ) (vs : List ℕ) → IsRun n p outer u vs → (e : ℕ × ℕ) → Contains (steps u vs) e → Contains outer e
+  steps_there : (u : ℕ) (vs : List ℕ) → IsRun n p outer u vs → AreAmong (steps u vs) outer
   steps_there u vs run e h = (run_up_to n p outer u vs run e.0 e.1 h).3
 
   module _ (t u v : ℕ) (vs : List ℕ) (w : ℕ) (before : Contains outer (t, u)) (run : IsRun n p outer u (v ∷ vs)) (after : Contains outer (last_of v vs, w))
@@ -161,28 +189,21 @@ module _ (n : ℕ) (p : ℕ → Point) (faces : List Face) (outer : List (ℕ ×
     finish : (z : ℕ) → z < n → bracket (at p n) (at p (last_of v vs)) (at p z) ≤ℤ pos 0
     finish = H.end_supports n p faces outer m (p n) final.0 (last_of v vs) w final.1 after final.2 blind_after
 
-    seen_is_step : (e : ℕ × ℕ) → Contains outer e → Sees e.0 e.1 → Contains (steps u (v ∷ vs)) e
+    seen_is_step : AreSeen n p outer (steps u (v ∷ vs))
     seen_is_step e h sees = step_of_run u (v ∷ vs) e.0 e.1 (H.seen_in_run n p faces outer m (p n) e.0 e.1 h sees u v vs (run_as u (v ∷ vs) run)
         (from_start (starts e.0 (m.ends e h).0)) (λ z k. subst (λ i. bracket (at p n) (at p i) (at p z) ≤ℤ pos 0) (sym (end_is v vs)) (finish z k)))
       where
         from_start : bracket (at p u) (at p n) (at p e.0) ≤ℤ pos 0 → pos 0 ≤ℤ bracket (at p n) (at p u) (at p e.0)
         from_start k = negated_below (bracket-swap (at p n) (at p u) (at p e.0)) k
 
-    fresh : (k : ℕ) → k < n → ¬ (p k ≡ p n)
+    fresh : IsFresh n p
     fresh k h e = left_not_below (subst (λ q. pos 0 <ℤ bracket (at p u) (at p v) (lift q)) (sym e) run.1) (m.supporting (u, v) run.0 k h)
 
     not_last : (k : ℕ) → k < n → k ≢ n
     not_last k h e = omega arith
 
-    unseen : (e : ℕ × ℕ) → Contains outer e → ¬ Contains (steps u (v ∷ vs)) e → bracket (at p e.0) (at p e.1) (at p n) ≤ℤ pos 0
-    unseen e h away = go (lt_or_ge_ℤ (pos 0) (bracket (at p e.0) (at p e.1) (at p n)))
-      where
-        go : Sees e.0 e.1 ⊎ (bracket (at p e.0) (at p e.1) (at p n) ≤ℤ pos 0) → bracket (at p e.0) (at p e.1) (at p n) ≤ℤ pos 0
-        go (inl s) = absurd (away (seen_is_step e h s))
-        go (inr s) = s
-
     -- n is strictly within no old segment: it would be left of none that sees it
-    n_outside : (e : ℕ × ℕ) → Contains outer e → ¬ WithinSegment (whole (p e.0)) (whole (p e.1)) (whole (p n))
+    n_outside : IsWithinNone n p outer
     n_outside e h s =
         let t' = two_weights IsPositive (whole (p e.0)) (whole (p e.1)) (whole (p n)) s in
         let c = m.ends e h in
@@ -195,34 +216,22 @@ module _ (n : ℕ) (p : ℕ → Point) (faces : List Face) (outer : List (ℕ ×
     abbrev Turning : Face → Type 0
     Turning f = AreTurning (suc n) p f.a f.b f.c
 
-    abbrev Ends : ℕ × ℕ → Type 0
-    Ends e = (e.0 < suc n) × (e.1 < suc n) × (e.0 ≢ e.1)
-
-    abbrev Supports : ℕ × ℕ → Type 0
-    Supports e = (k : ℕ) → (k < n) ⊎ (k ≡ n) → bracket (at p e.0) (at p e.1) (at p k) ≤ℤ pos 0
-
-    abbrev Bare : ℕ × ℕ → Type 0
-    Bare e = (k : ℕ) → (k < n) ⊎ (k ≡ n) → ¬ WithinSegment (whole (p e.0)) (whole (p e.1)) (whole (p k))
-
-    abbrev AtLast : ℕ × ℕ → Type 0
-    AtLast e = (e.0 ≡ n) ⊎ (e.1 ≡ n)
-
     turning : (g : Face) → Contains (fan n u (v ∷ vs)) g → Turning g
     turning g h = let x = fan_from n p outer u (v ∷ vs) run g h in let c = m.ends (x.0, x.1) x.2 in subst Turning (sym x.4) (wider c.0, wider c.1, last_index, x.3)
 
-    first_supports : Supports (u, n)
+    first_supports : SupportsUpTo n p (u, n)
     first_supports k (inl l) = starts k l
     first_supports k (inr l) = zero_weak (ap (λ i. bracket (at p u) (at p n) (at p i)) l ∙ bracket-last (at p u) (at p n))
 
-    second_supports : Supports (n, last)
+    second_supports : SupportsUpTo n p (n, last)
     second_supports k (inl l) = finish k l
     second_supports k (inr l) = zero_weak (ap (λ i. bracket (at p n) (at p last) (at p i)) l ∙ bracket-outer (at p n) (at p last))
 
-    first_bare : Bare (u, n)
+    first_bare : IsBareUpTo n p (u, n)
     first_bare k (inl l) x = start_bare u v run.0 run.1 k l x
     first_bare k (inr l) x = not_own_end (p u) (p v) (p n) run.1 (subst (λ i. WithinSegment (whole (p u)) (whole (p n)) (whole (p i))) l x)
 
-    second_bare : Bare (n, last)
+    second_bare : IsBareUpTo n p (n, last)
     second_bare k (inl l) x = end_bare final.0 last final.1 final.2 k l x
     second_bare k (inr l) x = not_own_start (p final.0) (p last) (p n) final.2 (subst (λ i. WithinSegment (whole (p n)) (whole (p last)) (whole (p i))) l x)
 
@@ -235,16 +244,20 @@ module _ (n : ℕ) (p : ℕ → Point) (faces : List Face) (outer : List (ℕ ×
         some = (u, v, inr (inl (Contains-head (face u v n) (fan n v vs))));
         corner_kept = λ k i j h. absurd (elim h [ inl x ↦ Contains-none (face k i j) x | inr x ↦ elim x [ inl y ↦ Contains-none (face i j k) y | inr y ↦ Contains-none (face j k i) y ] ]);
         turning = turning;
-        right = unseen;
+        right = unseen n p outer (steps u (v ∷ vs)) seen_is_step;
         off = λ e h _. n_outside e h;
-        ends = each Ends (u, n) ((n, last) ∷ []) (wider first.0, last_index, not_last u first.0) (each Ends (n, last) [] (last_index, wider final_index, λ x. not_last last final_index (sym x)) (each_none Ends));
-        supporting = each Supports (u, n) ((n, last) ∷ []) first_supports (each Supports (n, last) [] second_supports (each_none Supports));
-        bare = each Bare (u, n) ((n, last) ∷ []) first_bare (each Bare (n, last) [] second_bare (each_none Bare));
+        ends = each (IsPairBelow (suc n)) (u, n) ((n, last) ∷ []) (wider first.0, last_index, not_last u first.0)
+            (each (IsPairBelow (suc n)) (n, last) [] (last_index, wider final_index, λ x. not_last last final_index (sym x)) (each_none (IsPairBelow (suc n))));
+        supporting = each (SupportsUpTo n p) (u, n) ((n, last) ∷ []) first_supports
+            (each (SupportsUpTo n p) (n, last) [] second_supports (each_none (SupportsUpTo n p)));
+        bare = each (IsBareUpTo n p) (u, n) ((n, last) ∷ []) first_bare
+            (each (IsBareUpTo n p) (n, last) [] second_bare (each_none (IsBareUpTo n p)));
         left_there = steps_there u (v ∷ vs) run;
-        left_once = steps_once u (v ∷ vs) run;
+        left_once = steps_once n p outer run_open u (v ∷ vs) run;
         come_once = once_cons (u, n) ((n, last) ∷ []) (λ h. elim (Contains-cases (n, last) [] (u, n) h) [ inl e ↦ not_last u first.0 (sym (ap (λ (x : ℕ × ℕ). x.0) e)) | inr k ↦ Contains-none (u, n) k ])
             (once_cons (n, last) [] (λ h. Contains-none (n, last) h) once_none);
-        come_at = each AtLast (u, n) ((n, last) ∷ []) (inr refl) (each AtLast (n, last) [] (inl refl) (each_none AtLast));
+        come_at = each (EndsAt n) (u, n) ((n, last) ∷ []) (inr refl)
+            (each (EndsAt n) (n, last) [] (inl refl) (each_none (EndsAt n)));
         same = λ flow anti. fans_balance (total (around flow) (fan n u (v ∷ vs))) (total (along flow) (steps u (v ∷ vs))) (flow n last) (flow u n) (flow last n) (flow n u) (fan_total flow anti n u (v ∷ vs)) (anti last n) (anti n u);
       }
 

@@ -1,5 +1,5 @@
 -- A vertex off the line of all others: with a face on each edge of the line, the mesh is local.
-use Rattle.std.proofs.Common.{◌≡◌, ◌⊎◌, ℕ, zero, suc, ◌<◌, List, [], ◌∷◌, refl, sym, ap, ◌∙◌, subst, arith}
+use Rattle.std.proofs.Common.{◌≡◌, ◌⊎◌, ℕ, suc, ◌<◌, List, [], ◌∷◌, refl, sym, ap, ◌∙◌, subst, arith}
 use mathlib.Core.Logic.{inl, inr, ◌≢◌}
 use Rattle.std.specs.Prelude.{ℤ, pos, ◌+ℤ◌, ◌-ℤ◌, ◌*ℤ◌, ◌≤ℤ◌, ◌<ℤ◌, neg_ℤ, Contains}
 use Rattle.std.proofs.lemmas.Int.{ints}
@@ -14,16 +14,18 @@ use Rattle.plane.proofs.BracketIdentities.{bracket-turn, bracket-swap, bracket-o
 use Rattle.plane.proofs.Means.{two_weights}
 use Rattle.plane.proofs.Collinear.{place_on, place_of_end}
 use Rattle.plane_tiling.proofs.Totals.{Contains-head, Contains-later, Contains-cases, Contains-none}
-use Rattle.plane_tiling.proofs.Counting.{at, SignMesh, same_place}
+use Rattle.plane_tiling.proofs.Counting.{at, SignMesh, IsPairBelow, same_place}
 use Rattle.plane_tiling.proofs.Edges as E
 use Rattle.plane_tiling.proofs.Flows.{IsTurnOf}
 use Rattle.plane_tiling.proofs.Line.{IsNext, SignLine, next_turned}
+use Rattle.plane_tiling.proofs.LinePlaces.{IsBelow, nearest_below, ArePlaces, none_between_places}
+use Rattle.plane.proofs.Generic.{IsFresh, AreOnLine, distinct_with_next}
 use Rattle.plane.proofs.LineOrder.{IsBetween, place_within, within_places}
 use Rattle.plane_edits.specs.Change.{FacesChange, OuterChange}
 use Rattle.plane_edits.specs.Extension.{fan, steps, last_of}
 use Rattle.plane_edits.proofs.LocalMesh.Changes.{face_from, turn_of_all, IsOnce, once_none, once_cons, once_tail, once_head, same_total}
-use Rattle.plane_edits.proofs.LocalMesh.Additions.{distinct_with_last, IsUsed, corner_of_used, AreTurning, turning_turned, around_turn_free, outer_totals}
-use Rattle.plane_edits.proofs.Insertion.Extension.{IsRun, run_up_to, fan_from, fan_total, fans_balance, last_step, not_own_end, not_own_start}
+use Rattle.plane_edits.proofs.LocalMesh.Additions.{IsUsed, AreUsedUpTo, corner_of_used, AreTurning, AllTurn, SupportsUpTo, IsBareUpTo, turning_turned, around_turn_free, outer_totals}
+use Rattle.plane_edits.proofs.Insertion.Extension.{IsRun, AreOpen, AreSeen, steps_once, unseen, run_up_to, fan_from, fan_total, fans_balance, last_step, not_own_end, not_own_start}
 use Rattle.plane.proofs.Signs.{difference_is_positive, difference_not_negative, less_by_difference, same_is_at_most_of, sum_of_zeros, opposite_not_positive, at_most_both_ways, at_most_itself}
 use Rattle.plane_edits.proofs.Insertion.Hull.{factor_left}
 use Rattle.plane.proofs.Indexes.{below_or_last}
@@ -41,28 +43,6 @@ turn_by_places a b i j q = ring_over points [] (a ∷ b ∷ i ∷ j ∷ q ∷ []
 
 two_none : (s d e g : ℤ) → s ≡ d -ℤ e +ℤ g → e ≡ pos 0 → g ≡ pos 0 → s ≡ d
 two_none s d e g h k l = omega (arith, ints)
-
--- ---- the greatest of the numbers below b
-greatest_below : (f : ℕ → ℤ) (b : ℤ) (n : ℕ) → ((k : ℕ) → k < n → b ≤ℤ f k) ⊎ ((i : ℕ) × (i < n) × (f i <ℤ b) × ((k : ℕ) → k < n → f k <ℤ b → f k ≤ℤ f i))
-greatest_below f b zero = inl (λ k h. absurd (omega arith))
-greatest_below f b (suc n) = go (greatest_below f b n) (lt_or_ge_ℤ (f n) b)
-  where
-    after : {x y z : ℤ} → x ≤ℤ y → y <ℤ z → x ≤ℤ z
-    after h k = omega (arith, ints)
-
-    clash : {x y : ℤ} → x <ℤ y → y ≤ℤ x → ⊥
-    clash h k = omega (arith, ints)
-
-    go : ((k : ℕ) → k < n → b ≤ℤ f k) ⊎ ((i : ℕ) × (i < n) × (f i <ℤ b) × ((k : ℕ) → k < n → f k <ℤ b → f k ≤ℤ f i)) → (f n <ℤ b) ⊎ (b ≤ℤ f n)
-        → ((k : ℕ) → k < suc n → b ≤ℤ f k) ⊎ ((i : ℕ) × (i < suc n) × (f i <ℤ b) × ((k : ℕ) → k < suc n → f k <ℤ b → f k ≤ℤ f i))
-    go (inl all) (inr h) = inl (λ k l. elim (below_or_last n k l) [ inl x ↦ all k x | inr e ↦ subst (λ (i : ℕ). b ≤ℤ f i) (sym e) h ])
-    go (inl all) (inl h) = inr (n, omega arith, h, (λ k l s. elim (below_or_last n k l) [ inl x ↦ absurd (clash s (all k x)) | inr e ↦ same_is_at_most_of (ap f e) ]))
-    go (inr (i, x, y, z)) (inr h) = inr (i, omega arith, y, (λ k l s. elim (below_or_last n k l) [ inl r ↦ z k r s | inr e ↦ absurd (clash s (subst (λ (i : ℕ). b ≤ℤ f i) (sym e) h)) ]))
-    go (inr (i, x, y, z)) (inl h) = by (lt_or_ge_ℤ (f i) (f n))
-      where
-        by : (f i <ℤ f n) ⊎ (f n ≤ℤ f i) → ((k : ℕ) → k < suc n → b ≤ℤ f k) ⊎ ((i : ℕ) × (i < suc n) × (f i <ℤ b) × ((k : ℕ) → k < suc n → f k <ℤ b → f k ≤ℤ f i))
-        by (inl o) = inr (n, omega arith, h, (λ k l s. elim (below_or_last n k l) [ inl r ↦ after (z k r s) o | inr e ↦ same_is_at_most_of (ap f e) ]))
-        by (inr o) = inr (i, omega arith, y, (λ k l s. elim (below_or_last n k l) [ inl r ↦ z k r s | inr e ↦ subst (λ (j : ℕ). f j ≤ℤ f i) (sym e) o ]))
 
 -- ---- the two ways of each pair cancel out
 swapped : ℕ × ℕ → ℕ × ℕ
@@ -128,7 +108,7 @@ module _ (n : ℕ) (p : ℕ → Point) (outer now : List (ℕ × ℕ)) (new : Li
   turn : ℤ
   turn = bracket (at p u) (at p v) (at p n)
 
-  on : (k : ℕ) → k < n → bracket (at p u) (at p v) (at p k) ≡ pos 0
+  on : AreOnLine n p (p u) (p v)
   on k h = m.straight u v k first.first first.second h
 
   abbrev spot : ℕ → ℤ
@@ -151,9 +131,23 @@ module _ (n : ℕ) (p : ℕ → Point) (outer now : List (ℕ × ℕ)) (new : Li
   level_or_rising : (i j : ℕ) → i < n → j < n → spot i ≤ℤ spot j → pos 0 ≤ℤ bracket (at p i) (at p j) (at p n)
   level_or_rising i j hi hj h = nonneg_of_mul-nonneg_ℤ long (subst (λ z. pos 0 ≤ℤ z) (sym (by_places i j hi hj)) (mul-nonneg_ℤ (difference_not_negative (spot i) (spot j) h) (weak run.1)))
 
+  places : ArePlaces n p spot
+  places = record {
+    same = λ i j hi hj e. same_place n p m.distinct (p u) (p v) apart i j hi hj (on i hi) (on j hj) e;
+    within = λ i j k hi hj hk a b. within_places (p u) (p v) apart (p i) (p j) (p k)
+        (on i hi) (on j hj) (on k hk) (inl (a, b));
+    order = λ i j k w. in_order (spot i) (spot j) (spot k) (place_within (p u) (p v) (p i) (p j) (p k) w);
+  }
+    where
+      in_order : (a b c : ℤ) → IsBetween a b c ⊎ ((a ≡ c) × (c ≡ b))
+          → ((a <ℤ c) × (c <ℤ b)) ⊎ (((b <ℤ c) × (c <ℤ a)) ⊎ ((a ≡ c) × (c ≡ b)))
+      in_order a b c (inl (inl o)) = inl o
+      in_order a b c (inl (inr o)) = inr (inl o)
+      in_order a b c (inr e) = inr (inr e)
+
   -- the vertices lie from u to the last one
   next_if_none_between : (i j : ℕ) → i < n → j < n → spot i <ℤ spot j → ((k : ℕ) → k < n → spot i <ℤ spot k → spot k <ℤ spot j → ⊥) → IsNext n p i j
-  next_if_none_between i j hi hj h none = record { apart = λ e. falls_level h (ap spot e); first = hi; second = hj; none_between = λ k hk w. go k hk (place_within (p u) (p v) (p i) (p j) (p k) w) }
+  next_if_none_between i j hi hj h none = record { apart = λ e. falls_level h (ap spot e); first = hi; second = hj; none_between = λ k hk w. go k hk (places.order i j k w) }
     where
       falls_level : {x y : ℤ} → x <ℤ y → x ≡ y → ⊥
       falls_level h e = omega (arith, ints)
@@ -161,32 +155,26 @@ module _ (n : ℕ) (p : ℕ → Point) (outer now : List (ℕ × ℕ)) (new : Li
       back_over : {x y z : ℤ} → x <ℤ y → y <ℤ z → z <ℤ x → ⊥
       back_over h k l = omega (arith, ints)
 
-      go : (k : ℕ) → k < n → IsBetween (spot i) (spot j) (spot k) ⊎ ((spot i ≡ spot k) × (spot k ≡ spot j)) → ⊥
-      go k hk (inl (inl b)) = none k hk b.0 b.1
-      go k hk (inl (inr b)) = back_over h b.0 b.1
-      go k hk (inr b) = falls_level h (b.0 ∙ b.1)
+      go : (k : ℕ) → k < n → ((spot i <ℤ spot k) × (spot k <ℤ spot j))
+          ⊎ (((spot j <ℤ spot k) × (spot k <ℤ spot i)) ⊎ ((spot i ≡ spot k) × (spot k ≡ spot j))) → ⊥
+      go k hk (inl b) = none k hk b.0 b.1
+      go k hk (inr (inl b)) = back_over h b.0 b.1
+      go k hk (inr (inr b)) = falls_level h (b.0 ∙ b.1)
 
   no_step : {x y : ℤ} → x <ℤ y → y ≤ℤ x → ⊥
   no_step h k = omega (arith, ints)
-
-  same_spot : (i j : ℕ) → i < n → j < n → spot i ≡ spot j → i ≡ j
-  same_spot i j hi hj e = same_place n p m.distinct (p u) (p v) apart i j hi hj (on i hi) (on j hj) e
-
-  -- no vertex stands strictly between the ends of a rising edge
-  not_between : (i j k : ℕ) → IsNext n p i j → k < n → spot i <ℤ spot k → spot k <ℤ spot j → ⊥
-  not_between i j k s h a b = s.none_between k h (within_places (p u) (p v) apart (p i) (p j) (p k) (on i s.first) (on j s.second) (on k h) (inl (a, b)))
 
   rises : (x y : ℕ) → Contains outer (x, y) → pos 0 <ℤ bracket (at p x) (at p y) (at p n) → spot x <ℤ spot y
   rises x y h s = let a = (m.neighbours x y).0 h in seen_rises x y a.first a.second s
 
   -- each vertex from x on stands on the path
   stands : (x : ℕ) (ys : List ℕ) → x < n → IsRun n p outer x ys → (k : ℕ) → k < n → spot x ≤ℤ spot k → spot k ≤ℤ spot (last_of x ys) → (k ≡ x) ⊎ ((s : ℕ) × Contains (steps x ys) (s, k))
-  stands x [] hx r k h a b = inl (same_spot k x h hx (at_most_both_ways _ _ b a))
+  stands x [] hx r k h a b = inl (places.same k x h hx (at_most_both_ways _ _ b a))
   stands x (y ∷ ys) hx r k h a b = go (lt_or_ge_ℤ (spot k) (spot y)) (lt_or_ge_ℤ (spot x) (spot k)) (stands y ys ((m.neighbours x y).0 r.0).second r.2 k h)
     where
       go : (spot k <ℤ spot y) ⊎ (spot y ≤ℤ spot k) → (spot x <ℤ spot k) ⊎ (spot k ≤ℤ spot x) → (spot y ≤ℤ spot k → spot k ≤ℤ spot (last_of y ys) → (k ≡ y) ⊎ ((s : ℕ) × Contains (steps y ys) (s, k))) → (k ≡ x) ⊎ ((s : ℕ) × Contains (steps x (y ∷ ys)) (s, k))
-      go (inl o) (inr q) rest = inl (same_spot k x h hx (at_most_both_ways _ _ q a))
-      go (inl o) (inl q) rest = absurd (not_between x y k ((m.neighbours x y).0 r.0) h q o)
+      go (inl o) (inr q) rest = inl (places.same k x h hx (at_most_both_ways _ _ q a))
+      go (inl o) (inl q) rest = absurd (none_between_places n p spot places x y k ((m.neighbours x y).0 r.0) h q o)
       go (inr o) q rest = elim (rest o b) [ inl e ↦ inr (x, subst (λ i. Contains ((x, y) ∷ steps y ys) (x, i)) (sym e) (Contains-head (x, y) (steps y ys))) | inr t ↦ inr (t.0, Contains-later (x, y) (steps y ys) (t.0, k) t.1) ]
 
   -- and each before the last is the start of a step
@@ -195,8 +183,8 @@ module _ (n : ℕ) (p : ℕ → Point) (outer now : List (ℕ × ℕ)) (new : Li
   goes_on x (y ∷ ys) hx r k h a b = go (lt_or_ge_ℤ (spot k) (spot y)) (lt_or_ge_ℤ (spot x) (spot k)) (goes_on y ys ((m.neighbours x y).0 r.0).second r.2 k h)
     where
       go : (spot k <ℤ spot y) ⊎ (spot y ≤ℤ spot k) → (spot x <ℤ spot k) ⊎ (spot k ≤ℤ spot x) → (spot y ≤ℤ spot k → spot k <ℤ spot (last_of y ys) → (z : ℕ) × Contains (steps y ys) (k, z)) → (z : ℕ) × Contains (steps x (y ∷ ys)) (k, z)
-      go (inl o) (inr q) rest = (y, subst (λ i. Contains ((x, y) ∷ steps y ys) (i, y)) (sym (same_spot k x h hx (at_most_both_ways _ _ q a))) (Contains-head (x, y) (steps y ys)))
-      go (inl o) (inl q) rest = absurd (not_between x y k ((m.neighbours x y).0 r.0) h q o)
+      go (inl o) (inr q) rest = (y, subst (λ i. Contains ((x, y) ∷ steps y ys) (i, y)) (sym (places.same k x h hx (at_most_both_ways _ _ q a))) (Contains-head (x, y) (steps y ys)))
+      go (inl o) (inl q) rest = absurd (none_between_places n p spot places x y k ((m.neighbours x y).0 r.0) h q o)
       go (inr o) q rest = let t = rest o b in (t.0, Contains-later (x, y) (steps y ys) (k, t.0) t.1)
 
   starts_after : (x : ℕ) (ys : List ℕ) → IsRun n p outer x ys → (s r : ℕ) → Contains (steps x ys) (s, r) → spot x ≤ℤ spot s
@@ -209,10 +197,6 @@ module _ (n : ℕ) (p : ℕ → Point) (outer now : List (ℕ × ℕ)) (new : Li
       go : (◌≡◌ {A = ℕ × ℕ} (x, y) (s, r)) ⊎ Contains (steps y ys) (s, r) → (Contains (steps y ys) (s, r) → spot y ≤ℤ spot s) → spot x ≤ℤ spot s
       go (inl e) rest = same_is_at_most_of (ap (λ (z : ℕ × ℕ). spot z.0) e)
       go (inr k) rest = on_from (rises x y run.0 run.1) (rest k)
-
-  steps_once : (x : ℕ) (ys : List ℕ) → IsRun n p outer x ys → IsOnce (steps x ys)
-  steps_once x [] r = once_none
-  steps_once x (y ∷ ys) r = once_cons (x, y) (steps y ys) (λ h. no_step (rises x y r.0 r.1) (starts_after y ys r.2 x y h)) (steps_once y ys r.2)
 
   fan_at : (x : ℕ) (ys : List ℕ) (s r : ℕ) → Contains (steps x ys) (s, r) → Contains (fan n x ys) (face s r n)
   fan_at x [] s r h = absurd (Contains-none (s, r) h)
@@ -228,21 +212,28 @@ module _ (n : ℕ) (p : ℕ → Point) (outer now : List (ℕ × ℕ)) (new : Li
       on_from : {a b c : ℤ} → a <ℤ b → b ≤ℤ c → a ≤ℤ c
       on_from a b = omega (arith, ints)
 
+  runs_open : AreOpen n p outer
+  runs_open x y ys r e = no_step (subst (λ i. spot i <ℤ spot y) (sym e) (rises x y r.0 r.1))
+      (ends_before y ys ((m.neighbours x y).0 r.0).second r.2).0
+
   -- an edge that sees the new vertex and ends where the path starts, or starts where it ends, is not of the path
   pub before_is_left : (k : ℕ) → Contains outer (k, u) → pos 0 <ℤ bracket (at p k) (at p u) (at p n) → ¬ Contains (steps u (v ∷ vs)) (k, u)
   before_is_left k h sees c = no_step (rises k u h sees) (starts_after u (v ∷ vs) run k u c)
 
+  -- an edge that sees the new vertex and starts where the path ends is not of the path
   pub after_is_left : (k : ℕ) → Contains outer (last_of v vs, k) → pos 0 <ℤ bracket (at p (last_of v vs)) (at p k) (at p n) → ¬ Contains (steps u (v ∷ vs)) (last_of v vs, k)
   after_is_left k h sees c = no_step (rises (last_of v vs) k h sees) ((ends_before u (v ∷ vs) first.first run).1 (last_of v vs) k c)
 
   -- where no outer edge that sees the new vertex ends at the start or starts at the end
   module _ (none_before : (k : ℕ) → Contains outer (k, u) → bracket (at p k) (at p u) (at p n) ≤ℤ pos 0) (none_after : (k : ℕ) → Contains outer (last_of v vs, k) → bracket (at p (last_of v vs)) (at p k) (at p n) ≤ℤ pos 0) where
     from_start : (k : ℕ) → k < n → spot u ≤ℤ spot k
-    from_start k h = go (greatest_below spot (spot u) n)
+    from_start k h = go (nearest_below spot n (spot u))
       where
-        go : ((k : ℕ) → k < n → spot u ≤ℤ spot k) ⊎ ((i : ℕ) × (i < n) × (spot i <ℤ spot u) × ((k : ℕ) → k < n → spot k <ℤ spot u → spot k ≤ℤ spot i)) → spot u ≤ℤ spot k
-        go (inl all) = all k h
-        go (inr (i, hi, below, most)) = absurd (left_not_below (rising_seen i u hi first.first below) (none_before i ((m.neighbours i u).1 (next_if_none_between i u hi first.first below (λ k hk a b. no_step a (most k hk b))))))
+        go : ((i : ℕ) × IsBelow spot n (spot u) i) ⊎ ((k : ℕ) → k < n → spot u ≤ℤ spot k) → spot u ≤ℤ spot k
+        go (inr all) = all k h
+        go (inl (i, s)) = absurd (left_not_below (rising_seen i u s.index first.first s.below)
+            (none_before i ((m.neighbours i u).1 (next_if_none_between i u s.index first.first s.below
+            (λ k hk a b. no_step a (s.top k hk b))))))
 
     negated_step : {x y : ℤ} → x <ℤ y → neg_ℤ y <ℤ neg_ℤ x
     negated_step h = omega (arith, ints)
@@ -254,16 +245,19 @@ module _ (n : ℕ) (p : ℕ → Point) (outer now : List (ℕ × ℕ)) (new : Li
     negated_level h = omega (arith, ints)
 
     to_end : (k : ℕ) → k < n → spot k ≤ℤ spot (last_of v vs)
-    to_end k h = go (greatest_below (λ k. neg_ℤ (spot k)) (neg_ℤ (spot (last_of v vs))) n)
+    to_end k h = go (nearest_below (λ k. neg_ℤ (spot k)) n (neg_ℤ (spot (last_of v vs))))
       where
-        go : ((k : ℕ) → k < n → neg_ℤ (spot (last_of v vs)) ≤ℤ neg_ℤ (spot k)) ⊎ ((i : ℕ) × (i < n) × (neg_ℤ (spot i) <ℤ neg_ℤ (spot (last_of v vs))) × ((k : ℕ) → k < n → neg_ℤ (spot k) <ℤ neg_ℤ (spot (last_of v vs)) → neg_ℤ (spot k) ≤ℤ neg_ℤ (spot i))) → spot k ≤ℤ spot (last_of v vs)
-        go (inl all) = negated_level (all k h)
-        go (inr (i, hi, below, most)) = absurd (left_not_below (rising_seen (last_of v vs) i final_index hi (negated_back below)) (none_after i ((m.neighbours (last_of v vs) i).1
-            (next_if_none_between (last_of v vs) i final_index hi (negated_back below) (λ k hk a b. no_step b (negated_level (most k hk (negated_step a))))))))
+        go : ((i : ℕ) × IsBelow (λ k. neg_ℤ (spot k)) n (neg_ℤ (spot (last_of v vs))) i)
+            ⊎ ((k : ℕ) → k < n → neg_ℤ (spot (last_of v vs)) ≤ℤ neg_ℤ (spot k)) → spot k ≤ℤ spot (last_of v vs)
+        go (inr all) = negated_level (all k h)
+        go (inl (i, s)) = absurd (left_not_below (rising_seen (last_of v vs) i final_index s.index (negated_back s.below))
+            (none_after i ((m.neighbours (last_of v vs) i).1
+            (next_if_none_between (last_of v vs) i final_index s.index (negated_back s.below)
+            (λ k hk a b. no_step b (negated_level (s.top k hk (negated_step a))))))))
 
     -- an edge that sees the new vertex is a step
-    seen_is_step : (i j : ℕ) → Contains outer (i, j) → pos 0 <ℤ bracket (at p i) (at p j) (at p n) → Contains (steps u (v ∷ vs)) (i, j)
-    seen_is_step i j h sees =
+    seen_is_step : AreSeen n p outer (steps u (v ∷ vs))
+    seen_is_step (i, j) h sees =
         let own = (m.neighbours i j).0 h in
         let t = goes_on u (v ∷ vs) first.first run i own.first (from_start i own.first) (before_end (rises i j h sees) (to_end j own.second)) in
         let o = run_up_to n p outer u (v ∷ vs) run i t.0 t.1 in
@@ -274,9 +268,9 @@ module _ (n : ℕ) (p : ℕ → Point) (outer now : List (ℕ × ℕ)) (new : Li
         before_end a b = omega (arith, ints)
 
         go : (y : ℕ) → IsNext n p i j → IsNext n p i y → spot i <ℤ spot y → (spot y <ℤ spot j) ⊎ (spot j ≤ℤ spot y) → (spot j <ℤ spot y) ⊎ (spot y ≤ℤ spot j) → y ≡ j
-        go y a b r (inl o) q = absurd (not_between i j y a b.second r o)
-        go y a b r (inr o) (inl q) = absurd (not_between i y j b a.second (rises i j h sees) q)
-        go y a b r (inr o) (inr q) = same_spot y j b.second a.second (at_most_both_ways _ _ q o)
+        go y a b r (inl o) q = absurd (none_between_places n p spot places i j y a b.second r o)
+        go y a b r (inr o) (inl q) = absurd (none_between_places n p spot places i y j b a.second (rises i j h sees) q)
+        go y a b r (inr o) (inr q) = places.same y j b.second a.second (at_most_both_ways _ _ q o)
 
     -- ---- the mesh
     module _ (faces_change : FacesChange [] new [] (fan n u (v ∷ vs))) (outer_change : OuterChange outer now (steps u (v ∷ vs)) ((u, n) ∷ (n, last_of v vs) ∷ [])) where
@@ -289,7 +283,7 @@ module _ (n : ℕ) (p : ℕ → Point) (outer now : List (ℕ × ℕ)) (new : Li
       not_last : (k : ℕ) → k < n → k ≢ n
       not_last k h e = omega arith
 
-      fresh : (k : ℕ) → k < n → ¬ (p k ≡ p n)
+      fresh : IsFresh n p
       fresh k h e = left_not_zero run.1 (ap (λ q. bracket (at p u) (at p v) (lift q)) (sym e) ∙ on k h)
 
       of_fan : (i j k : ℕ) → IsTurnOf new i j k → IsTurnOf (fan n u (v ∷ vs)) i j k
@@ -300,7 +294,7 @@ module _ (n : ℕ) (p : ℕ → Point) (outer now : List (ℕ × ℕ)) (new : Li
           nothing (inr (inl x)) = Contains-none (face j k i) x
           nothing (inr (inr x)) = Contains-none (face k i j) x
 
-      turning : (i j k : ℕ) → IsTurnOf new i j k → AreTurning (suc n) p i j k
+      turning : AllTurn (suc n) p new
       turning i j k h = turn_of_all (fan n u (v ∷ vs)) (AreTurning (suc n) p) (turning_turned (suc n) p) own i j k (of_fan i j k h)
         where
           own : (g : Face) → Contains (fan n u (v ∷ vs)) g → AreTurning (suc n) p g.a g.b g.c
@@ -312,7 +306,7 @@ module _ (n : ℕ) (p : ℕ → Point) (outer now : List (ℕ × ℕ)) (new : Li
       at_first : Contains (fan n u (v ∷ vs)) (face u v n)
       at_first = Contains-head (face u v n) (fan n v vs)
 
-      used : (k : ℕ) → (k < n) ⊎ (k ≡ n) → IsUsed new k
+      used : AreUsedUpTo n new
       used k (inr e) = subst (IsUsed new) (sym e) (fan_used n (u, v, inr (inl at_first)))
       used k (inl h) = elim (stands u (v ∷ vs) first.first run k h (from_start k h) (to_end k h)) [
         | inl e ↦ subst (IsUsed new) (sym e) (fan_used u (v, n, inl at_first))
@@ -325,63 +319,51 @@ module _ (n : ℕ) (p : ℕ → Point) (outer now : List (ℕ × ℕ)) (new : Li
       from : (e : ℕ × ℕ) → Contains now e → From e
       from e h = elim (outer_change.only e.0 e.1 h) [ inl o ↦ inl o | inr o ↦ inr (elim (Contains-cases (u, n) ((n, last_of v vs) ∷ []) e o) [ inl s ↦ inl s | inr k ↦ elim (Contains-cases (n, last_of v vs) [] e k) [ inl s ↦ inr s | inr z ↦ absurd (Contains-none e z) ] ]) ]
 
-      abbrev Ends : ℕ × ℕ → Type 0
-      Ends e = (e.0 < suc n) × (e.1 < suc n) × (e.0 ≢ e.1)
-
-      ends : (e : ℕ × ℕ) → From e → Ends e
+      ends : (e : ℕ × ℕ) → From e → IsPairBelow (suc n) e
       ends e (inl h) = let c = (m.neighbours e.0 e.1).0 h.0 in (wider c.first, wider c.second, c.apart)
-      ends e (inr (inl s)) = subst Ends s (wider first.first, own_index, not_last u first.first)
-      ends e (inr (inr s)) = subst Ends s (own_index, wider final_index, λ x. not_last (last_of v vs) final_index (sym x))
+      ends e (inr (inl s)) = subst (IsPairBelow (suc n)) s (wider first.first, own_index, not_last u first.first)
+      ends e (inr (inr s)) = subst (IsPairBelow (suc n)) s (own_index, wider final_index, λ x. not_last (last_of v vs) final_index (sym x))
 
-      abbrev Supports : ℕ × ℕ → Type 0
-      Supports e = (k : ℕ) → (k < n) ⊎ (k ≡ n) → bracket (at p e.0) (at p e.1) (at p k) ≤ℤ pos 0
-
-      first_supports : Supports (u, n)
+      first_supports : SupportsUpTo n p (u, n)
       first_supports k (inl h) = opposite_not_positive (bracket-turn (at p u) (at p n) (at p k) ∙ bracket-turn (at p n) (at p k) (at p u) ∙ bracket-swap (at p k) (at p u) (at p n)) (level_or_rising u k first.first h (from_start k h))
       first_supports k (inr e) = zero_weak (ap (λ i. bracket (at p u) (at p n) (at p i)) e ∙ bracket-last (at p u) (at p n))
 
-      last_supports : Supports (n, last_of v vs)
+      last_supports : SupportsUpTo n p (n, last_of v vs)
       last_supports k (inl h) = opposite_not_positive (bracket-turn (at p n) (at p (last_of v vs)) (at p k) ∙ bracket-swap (at p (last_of v vs)) (at p k) (at p n)) (level_or_rising k (last_of v vs) h final_index (to_end k h))
       last_supports k (inr e) = zero_weak (ap (λ i. bracket (at p n) (at p (last_of v vs)) (at p i)) e ∙ bracket-outer (at p n) (at p (last_of v vs)))
 
-      unseen : (e : ℕ × ℕ) → Contains outer e → ¬ Contains (steps u (v ∷ vs)) e → bracket (at p e.0) (at p e.1) (at p n) ≤ℤ pos 0
-      unseen e h away = elim (lt_or_ge_ℤ (pos 0) (bracket (at p e.0) (at p e.1) (at p n))) [ inl s ↦ absurd (away (seen_is_step e.0 e.1 h s)) | inr s ↦ s ]
-
-      supporting : (e : ℕ × ℕ) → From e → Supports e
+      supporting : (e : ℕ × ℕ) → From e → SupportsUpTo n p e
       supporting e (inl h) k (inl l) = let c = (m.neighbours e.0 e.1).0 h.0 in zero_weak (m.straight e.0 e.1 k c.first c.second l)
-      supporting e (inl h) k (inr l) = subst (λ i. bracket (at p e.0) (at p e.1) (at p i) ≤ℤ pos 0) (sym l) (unseen e h.0 h.1)
-      supporting e (inr (inl s)) k l = subst Supports s first_supports k l
-      supporting e (inr (inr s)) k l = subst Supports s last_supports k l
-
-      abbrev Bare : ℕ × ℕ → Type 0
-      Bare e = (k : ℕ) → (k < n) ⊎ (k ≡ n) → ¬ WithinSegment (whole (p e.0)) (whole (p e.1)) (whole (p k))
+      supporting e (inl h) k (inr l) = subst (λ i. bracket (at p e.0) (at p e.1) (at p i) ≤ℤ pos 0) (sym l) (unseen n p outer (steps u (v ∷ vs)) seen_is_step e h.0 h.1)
+      supporting e (inr (inl s)) k l = subst (SupportsUpTo n p) s first_supports k l
+      supporting e (inr (inr s)) k l = subst (SupportsUpTo n p) s last_supports k l
 
       -- a point strictly within a way to the new vertex is off the line
-      first_bare : Bare (u, n)
+      first_bare : IsBareUpTo n p (u, n)
       first_bare k (inl h) w =
           let t = two_weights IsPositive (whole (p u)) (whole (p n)) (whole (p k)) w in
           left_not_zero (mul-pos_ℤ t.l_allowed run.1) (sym (drop_zero (t.n *ℤ bracket (at p u) (at p v) (at p k)) (t.k *ℤ bracket (at p u) (at p v) (at p u)) (t.l *ℤ bracket (at p u) (at p v) (at p n)) (E.mean_bracket IsPositive (p u) (p v) (p u) (p n) (whole (p k)) t) (zero-mul_ℤ t.k (bracket-outer (at p u) (at p v)))) ∙ zero-mul_ℤ t.n (on k h))
       first_bare k (inr e) w = not_own_end (p u) (p v) (p n) run.1 (subst (λ i. WithinSegment (whole (p u)) (whole (p n)) (whole (p i))) e w)
 
-      last_bare : Bare (n, last_of v vs)
+      last_bare : IsBareUpTo n p (n, last_of v vs)
       last_bare k (inl h) w =
           let t = two_weights IsPositive (whole (p n)) (whole (p (last_of v vs))) (whole (p k)) w in
           left_not_zero (mul-pos_ℤ t.k_allowed run.1) (sym (drop_zero_last (t.n *ℤ bracket (at p u) (at p v) (at p k)) (t.k *ℤ bracket (at p u) (at p v) (at p n)) (t.l *ℤ bracket (at p u) (at p v) (at p (last_of v vs))) (E.mean_bracket IsPositive (p u) (p v) (p n) (p (last_of v vs)) (whole (p k)) t) (zero-mul_ℤ t.l (on (last_of v vs) final_index))) ∙ zero-mul_ℤ t.n (on k h))
       last_bare k (inr e) w = not_own_start (p final.0) (p (last_of v vs)) (p n) final.2 (subst (λ i. WithinSegment (whole (p n)) (whole (p (last_of v vs))) (whole (p i))) e w)
 
-      bare : (e : ℕ × ℕ) → From e → Bare e
+      bare : (e : ℕ × ℕ) → From e → IsBareUpTo n p e
       bare e (inl h) k (inl l) w = ((m.neighbours e.0 e.1).0 h.0).none_between k l w
       bare e (inl h) k (inr l) w =
           let c = (m.neighbours e.0 e.1).0 h.0 in
           let t = two_weights IsPositive (whole (p e.0)) (whole (p e.1)) (whole (p n)) (subst (λ i. WithinSegment (whole (p e.0)) (whole (p e.1)) (whole (p i))) l w) in
           left_not_zero (mul-pos_ℤ t.positive run.1) (E.mean_bracket IsPositive (p u) (p v) (p e.0) (p e.1) (whole (p n)) t ∙ sum_of_zeros (t.k *ℤ bracket (at p u) (at p v) (at p e.0)) (t.l *ℤ bracket (at p u) (at p v) (at p e.1)) (zero-mul_ℤ t.k (on e.0 c.first)) (zero-mul_ℤ t.l (on e.1 c.second)))
-      bare e (inr (inl s)) k l w = subst Bare s first_bare k l w
-      bare e (inr (inr s)) k l w = subst Bare s last_bare k l w
+      bare e (inr (inl s)) k l w = subst (IsBareUpTo n p) s first_bare k l w
+      bare e (inr (inr s)) k l w = subst (IsBareUpTo n p) s last_bare k l w
 
       balanced : AreBalanced new now
       balanced flow anti = balanced_from_line (pos 0) (total (along flow) outer) (total (around flow) new) (total (along flow) now) (total (around flow) (fan n u (v ∷ vs))) (total (along flow) (steps u (v ∷ vs))) (flow u n +ℤ (flow n (last_of v vs) +ℤ pos 0))
           (faces_change.totals (around flow) (around_turn_free flow))
-          (outer_totals outer now (steps u (v ∷ vs)) ((u, n) ∷ (n, last_of v vs) ∷ []) outer_change m.once (steps_once u (v ∷ vs) run) come_once (λ e h. (run_up_to n p outer u (v ∷ vs) run e.0 e.1 h).3) none_yet (along flow))
+          (outer_totals outer now (steps u (v ∷ vs)) ((u, n) ∷ (n, last_of v vs) ∷ []) outer_change m.once (steps_once n p outer runs_open u (v ∷ vs) run) come_once (λ e h. (run_up_to n p outer u (v ∷ vs) run e.0 e.1 h).3) none_yet (along flow))
           (fans_balance (total (around flow) (fan n u (v ∷ vs))) (total (along flow) (steps u (v ∷ vs))) (flow n (last_of v vs)) (flow u n) (flow (last_of v vs) n) (flow n u) (fan_total flow anti n u (v ∷ vs)) (anti (last_of v vs) n) (anti n u))
           (both_ways_cancel flow anti outer m.once (λ i j h. (m.neighbours j i).1 (next_turned n p i j ((m.neighbours i j).0 h))))
         where
@@ -398,7 +380,7 @@ module _ (n : ℕ) (p : ℕ → Point) (outer now : List (ℕ × ℕ)) (new : Li
       -- the mesh over the line is local
       pub raised : SignMesh (suc n) p new now
       raised = record {
-        distinct = λ i j h k a. distinct_with_last n p m.distinct fresh i j (below_or_last n i h) (below_or_last n j k) a;
+        distinct = distinct_with_next n p m.distinct fresh;
         some_face = let t = corner_of_used new n (used n (inr refl)) in (t.0, t.1);
         used = λ k h. inl (corner_of_used new k (used k (below_or_last n k h)));
         corners = λ g h. let t = turning g.a g.b g.c (inl h) in (t.0, t.1, t.2);

@@ -40,6 +40,7 @@ one_less old new d e f c o hd he ne nf =
 pair_parts : (a b c d : ℕ) → ◌≡◌ {A = ℕ × ℕ} (a, b) (c, d) → (a ≡ c) × (b ≡ d)
 pair_parts a b c d e = (ap (λ (x : ℕ × ℕ). x.0) e, ap (λ (x : ℕ × ℕ). x.1) e)
 
+-- an entry of a list of two is one of the two
 pub in_two : (d e : ℕ × ℕ) (x : ℕ × ℕ) → Contains (d ∷ e ∷ []) x → (d ≡ x) ⊎ (e ≡ x)
 in_two d e x h = elim (Contains-cases d (e ∷ []) x h) [ inl s ↦ inl s | inr k ↦ elim (Contains-cases e [] x k) [ inl s ↦ inr s | inr z ↦ absurd (Contains-none x z) ] ]
 
@@ -55,6 +56,7 @@ module _ (old new more : List Face) (gained again : List Face) (c : FacesChange 
   still : (i j k : ℕ) → IsTurnOf new i j k → IsTurnOf more i j k
   still i j k h = elim (face_kept new more [] again d i j k h) [ inl o ↦ o | inr o ↦ absurd (no_turn i j k o) ]
 
+  -- the faces are the old ones and those gained
   pub faces_gained : FacesChange old more [] all
   faces_gained = record {
     totals = λ f t. sums (total f more) (total f old) (total f new) (total f gained) (total f again) (total f all) (d.totals f t) (c.totals f t) (same f);
@@ -67,6 +69,11 @@ turn_of_append xs ys i j k (inr (inl h)) = elim (Contains-append_cases xs ys (fa
 turn_of_append xs ys i j k (inr (inr h)) = elim (Contains-append_cases xs ys (face k i j) h) [ inl x ↦ inl (inr (inr x)) | inr x ↦ inr (inr (inr x)) ]
 
 -- ---- the steps
+-- where a way has vertex n on its left, the bracket of the three is positive
+abbrev pub SeenSigns : List Point → ℕ → Type 0
+SeenSigns points n = (u v : ℕ) → TurnsLeft (place points u) (place points v) (place points n)
+    → pos 0 <ℤ bracket (at (point_at points) u) (at (point_at points) v) (at (point_at points) n)
+
 module _ (points : List Point) (q : Point) where
   abbrev n : ℕ
   n = length points
@@ -77,24 +84,28 @@ module _ (points : List Point) (q : Point) where
   abbrev Sees : ℕ → ℕ → Type 0
   Sees u v = TurnsLeft (place (points ++ q ∷ []) u) (place (points ++ q ∷ []) v) (place (points ++ q ∷ []) (length points))
 
-  signs_of_sees : (u v : ℕ) → Sees u v → pos 0 <ℤ bracket (at p u) (at p v) (at p n)
-  signs_of_sees u v h = if_left (place (points ++ q ∷ []) u) (place (points ++ q ∷ []) v) (place (points ++ q ∷ []) (length points)) h
+  -- by the sign of the bracket
+  pub seen_signs : SeenSigns (points ++ q ∷ []) (length points)
+  seen_signs u v h =
+      if_left (place (points ++ q ∷ []) u) (place (points ++ q ∷ []) v) (place (points ++ q ∷ []) (length points)) h
 
   -- an edge that sees the new vertex does not end or start there
   not_to_last : (u v : ℕ) → Sees u v → v ≢ n
-  not_to_last u v h e = left_not_zero (signs_of_sees u v h) (ap (λ i. bracket (at p u) (at p i) (at p n)) e ∙ bracket-last (at p u) (at p n))
+  not_to_last u v h e = left_not_zero (seen_signs u v h) (ap (λ i. bracket (at p u) (at p i) (at p n)) e ∙ bracket-last (at p u) (at p n))
 
   not_from_last : (u v : ℕ) → Sees u v → u ≢ n
-  not_from_last u v h e = left_not_zero (signs_of_sees u v h) (ap (λ i. bracket (at p i) (at p v) (at p n)) e ∙ bracket-outer (at p n) (at p v))
+  not_from_last u v h e = left_not_zero (seen_signs u v h) (ap (λ i. bracket (at p i) (at p v) (at p n)) e ∙ bracket-outer (at p n) (at p v))
 
   run_snoc : (outer : List (ℕ × ℕ)) (u : ℕ) (vs : List ℕ) (x : ℕ) → IsSeenRun (points ++ q ∷ []) n outer u vs → Contains outer (last_of u vs, x) → Sees (last_of u vs) x → IsSeenRun (points ++ q ∷ []) n outer u (vs ++ x ∷ [])
   run_snoc outer u [] x r h s = (h, s, tt)
   run_snoc outer u (v ∷ vs) x r h s = (r.0, r.1, run_snoc outer v vs x r.2 h s)
 
+  -- a run of seen outer edges is one by its signs
   pub run_signs : (outer : List (ℕ × ℕ)) (u : ℕ) (vs : List ℕ) → IsSeenRun (points ++ q ∷ []) n outer u vs → IsRun n p outer u vs
   run_signs outer u [] r = tt
-  run_signs outer u (v ∷ vs) r = (r.0, signs_of_sees u v r.1, run_signs outer v vs r.2)
+  run_signs outer u (v ∷ vs) r = (r.0, seen_signs u v r.1, run_signs outer v vs r.2)
 
+-- with a face on one outer edge that sees it, a new vertex outside the hull begins to be joined
 pub extension_begins : ExtensionBegins
 extension_begins points faces new outer now q u w ends h sees change edges = record {
   second = w;
@@ -193,7 +204,7 @@ module _ (points : List Point) (faces new : List Face) (outer now : List (ℕ ×
           | inl o ↦ not_n (length points) (g.ends (length points) x o.0).0 refl
           | inr o ↦ elim (in_two (u, length points) (length points, w) (length points, x) o) [
             | inl e ↦ not_to_last points q w x sees (sym (pair_parts u (length points) (length points) x e).1)
-            | inr e ↦ left_not_zero (signs_of_sees points q w x sees) (ap (λ i. bracket (at (p points q) w) (at (p points q) i) (at (p points q) (length points))) (sym (pair_parts (length points) w (length points) x e).1) ∙ bracket-same (at (p points q) w) (at (p points q) (length points)))
+            | inr e ↦ left_not_zero (seen_signs points q w x sees) (ap (λ i. bracket (at (p points q) w) (at (p points q) i) (at (p points q) (length points))) (sym (pair_parts (length points) w (length points) x e).1) ∙ bracket-same (at (p points q) w) (at (p points q) (length points)))
           ]
         ])
 
@@ -252,7 +263,7 @@ module _ (points : List Point) (faces new : List Face) (outer now : List (ℕ ×
         (λ h. elim (g.outer_change.only t (length points) h) [
           | inl o ↦ not_n (length points) (g.ends t (length points) o.0).1 refl
           | inr o ↦ elim (in_two (u, length points) (length points, w) (t, length points) o) [
-            | inl e ↦ left_not_zero (signs_of_sees points q t u sees) (ap (λ i. bracket (at (p points q) i) (at (p points q) u) (at (p points q) (length points))) (sym (pair_parts u (length points) t (length points) e).0) ∙ bracket-same (at (p points q) u) (at (p points q) (length points)))
+            | inl e ↦ left_not_zero (seen_signs points q t u sees) (ap (λ i. bracket (at (p points q) i) (at (p points q) u) (at (p points q) (length points))) (sym (pair_parts u (length points) t (length points) e).0) ∙ bracket-same (at (p points q) u) (at (p points q) (length points)))
             | inr e ↦ not_from_last points q t u sees (sym (pair_parts (length points) w t (length points) e).0)
           ]
         ])
@@ -302,11 +313,14 @@ module _ (points : List Point) (faces new : List Face) (outer now : List (ℕ ×
         (sees_not t u blind_before) (subst (λ i. bracket (at (p points q) i) (at (p points q) x) (at (p points q) (length points)) ≤ℤ pos 0) (sym g.last) (sees_not w x blind_after))
         new g.faces_change now (subst (λ i. OuterChange outer now (steps u (g.second ∷ g.rest)) ((u, length points) ∷ (length points, i) ∷ [])) (sym g.last) g.outer_change))
 
+-- the next outer edge that sees the new vertex is joined too, and there is one outer edge less
 pub extension_goes_on : ExtensionGoesOn
 extension_goes_on points faces new more outer now less q u w x g next sees change edges = on points faces new outer now q u w g more less x next sees change edges
 
+-- the outer edge before that sees the new vertex is joined too, and there is one outer edge less
 pub extension_goes_back : ExtensionGoesBack
 extension_goes_back points faces new more outer now less q t u w g before sees change edges = back points faces new outer now q u w g more less t before sees change edges
 
+-- where neither the edge before nor the edge after sees the new vertex, the mesh is local
 pub extension_ends : ExtensionEnds
 extension_ends points faces new outer now q t u w x m g before after blind_before blind_after = done points faces new outer now q u w g m t x before after blind_before blind_after

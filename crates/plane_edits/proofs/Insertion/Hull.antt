@@ -285,14 +285,17 @@ module _ (n : ℕ) (p : ℕ → Point) (faces : List Face) (outer : List (ℕ ×
           (mul-nonpos_of_nonneg_nonpos_ℤ (weak K) (subst (λ z. z ≤ℤ pos 0) (sym (bracket-turn (at p r) (lift q) (at p v))) (ends r index_other.1))))
 
     -- ---- a run of seen outer edges, from u through the indexes of a list
+    -- from u through the indexes of the list run outer edges that q sees
     abbrev pub IsRun : ℕ → List ℕ → Type 0
     IsRun u [] = Unit {0}
     IsRun u (v ∷ vs) = Contains outer (u, v) × Sees u v × IsRun v vs
 
+    -- the vertex where a run ends
     abbrev pub end_of : ℕ → List ℕ → ℕ
     end_of u [] = u
     end_of u (v ∷ vs) = end_of v vs
 
+    -- the edge from s to r is of the run
     abbrev pub IsOfRun : ℕ → List ℕ → ℕ → ℕ → Type 0
     IsOfRun u [] s r = ⊥
     IsOfRun u (v ∷ vs) s r = ((s ≡ u) × (r ≡ v)) ⊎ IsOfRun v vs s r

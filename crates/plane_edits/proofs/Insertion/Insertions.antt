@@ -12,15 +12,15 @@ use Rattle.plane.proofs.Solver.{◌⊕◌, ◌⊗◌, ring_in_from}
 use Rattle.plane.proofs.Bracket.{bracket, lift}
 use Rattle.plane.proofs.BracketIdentities.{bracket-turn, bracket-outer, bracket-last, cramer}
 use Rattle.plane.proofs.Means.{two_weights, mean_of_two}
-use Rattle.plane.proofs.Generic.{Inside, not_on_line}
-use Rattle.plane_tiling.proofs.Counting.{at, SignMesh, within_turned}
+use Rattle.plane.proofs.Generic.{Inside, IsFresh, not_on_line}
+use Rattle.plane_tiling.proofs.Counting.{at, SignMesh, IsPairBelow, within_turned}
 use Rattle.plane_tiling.proofs.Flows.{IsTurnOf}
 use Rattle.plane_tiling.proofs.Covering as C
 use Rattle.plane_tiling.proofs.Edges as E
 use Rattle.plane_tiling.proofs.Loops as L
 use Rattle.plane_edits.specs.Change.{FacesChange, OuterChange}
 use Rattle.plane_edits.proofs.LocalMesh.Changes.{each, each_none, turn_of_all, once_none, once_cons}
-use Rattle.plane_edits.proofs.LocalMesh.Additions.{IsUsed, AreTurning, IsAddition, added_kept}
+use Rattle.plane_edits.proofs.LocalMesh.Additions.{IsUsed, AreTurning, IsWithinNone, SupportsUpTo, IsBareUpTo, EndsAt, IsAddition, added_kept}
 use Rattle.plane.proofs.Signs.{sum_is_positive, sum_not_positive}
 
 all_below : (s a b c : ℤ) → s ≡ pos 0 → s ≡ a +ℤ b +ℤ c → a ≤ℤ pos 0 → b ≤ℤ pos 0 → c ≤ℤ pos 0 → (a ≡ pos 0) × (b ≡ pos 0) × (c ≡ pos 0)
@@ -86,7 +86,7 @@ module _ (n : ℕ) (p : ℕ → Point) (old new : List Face) (outer outer' : Lis
     turns : pos 0 <ℤ bracket (at p a) (at p b) (at p c)
     turns = C.turn_left_of n p old outer m a b c own
 
-    inner_fresh : (k : ℕ) → k < n → ¬ (p k ≡ p n)
+    inner_fresh : IsFresh n p
     inner_fresh k h e = go (C.vertex_in_face n p old outer m k a b c h own (weak here.first) (weak here.second) (weak here.third))
       where
         here : Inside (at p a) (at p b) (at p c) (at p k)
@@ -105,7 +105,7 @@ module _ (n : ℕ) (p : ℕ → Point) (old new : List Face) (outer outer' : Lis
         go (inr (inl o)) = C.inside_not_outside n p old outer m (face b c a) o (at p n) (record { first = inside.second; second = inside.third; third = inside.first }) e h
         go (inr (inr o)) = C.inside_not_outside n p old outer m (face c a b) o (at p n) (record { first = inside.third; second = inside.first; third = inside.second }) e h
 
-    inner_off : (e : ℕ × ℕ) → Contains outer e → ¬ WithinSegment (whole (p e.0)) (whole (p e.1)) (whole (p n))
+    inner_off : IsWithinNone n p outer
     inner_off e h w =
         let on = E.within_on (p e.0) (p e.1) (whole (p n)) w in
         let D = bracket (at p a) (at p b) (at p c) in
@@ -165,7 +165,7 @@ module _ (n : ℕ) (p : ℕ → Point) (old new : List Face) (outer outer' : Lis
     within_back : WithinSegment (whole (p b)) (whole (p a)) (whole (p n))
     within_back = within_turned (p a) (p b) (p n) within
 
-    side_off : (e : ℕ × ℕ) → Contains outer e → ¬ WithinSegment (whole (p e.0)) (whole (p e.1)) (whole (p n))
+    side_off : IsWithinNone n p outer
     side_off e h w = go (E.sides_meet n p old outer m (whole (p n)) a b e.0 e.1 (inl (c, first)) (inr (C.behind_outer n p old outer m e.0 e.1 h)) within w)
       where
         go : ((e.0 ≡ a) × (e.1 ≡ b)) ⊎ ((e.0 ≡ b) × (e.1 ≡ a)) → ⊥
@@ -259,14 +259,14 @@ module _ (n : ℕ) (p : ℕ → Point) (old new : List Face) (outer outer' : Lis
     hull_turns : pos 0 <ℤ bracket (at p v) (at p u) (at p c)
     hull_turns = C.turn_left_of n p old outer m v u c behind
 
-    first_supports : (k : ℕ) → (k < n) ⊎ (k ≡ n) → bracket (at p u) (at p n) (at p k) ≤ℤ pos 0
+    first_supports : SupportsUpTo n p (u, n)
     first_supports k (inl l) =
         let r = two_weights IsPositive (whole (p u)) (whole (p v)) (whole (p n)) within in
         subst (λ z. z ≤ℤ pos 0) (bracket-turn (at p k) (at p u) (at p n)) (scaled (bracket (at p k) (at p u) (at p n)) r.n r.l (bracket (at p k) (at p u) (at p v)) (drop_zero (r.n *ℤ bracket (at p k) (at p u) (at p n)) (r.k *ℤ bracket (at p k) (at p u) (at p u)) (r.l *ℤ bracket (at p k) (at p u) (at p v)) (E.mean_bracket IsPositive (p k) (p u) (p u) (p v) (whole (p n)) r) (zero-mul_ℤ r.k (bracket-last (at p k) (at p u)))) r.positive r.l_allowed
         (subst (λ z. z ≤ℤ pos 0) (sym (bracket-turn (at p k) (at p u) (at p v))) (m.supporting (u, v) own k l)))
     first_supports k (inr l) = zero_weak (ap (λ i. bracket (at p u) (at p n) (at p i)) l ∙ bracket-last (at p u) (at p n))
 
-    second_supports : (k : ℕ) → (k < n) ⊎ (k ≡ n) → bracket (at p n) (at p v) (at p k) ≤ℤ pos 0
+    second_supports : SupportsUpTo n p (n, v)
     second_supports k (inl l) =
         let r = two_weights IsPositive (whole (p u)) (whole (p v)) (whole (p n)) within in
         subst (λ z. z ≤ℤ pos 0) (sym (bracket-turn (at p n) (at p v) (at p k))) (scaled (bracket (at p v) (at p k) (at p n)) r.n r.k (bracket (at p v) (at p k) (at p u)) (drop_zero_last (r.n *ℤ bracket (at p v) (at p k) (at p n)) (r.k *ℤ bracket (at p v) (at p k) (at p u)) (r.l *ℤ bracket (at p v) (at p k) (at p v)) (E.mean_bracket IsPositive (p v) (p k) (p u) (p v) (whole (p n)) r) (zero-mul_ℤ r.l (bracket-outer (at p v) (at p k)))) r.positive r.k_allowed
@@ -279,11 +279,11 @@ module _ (n : ℕ) (p : ℕ → Point) (old new : List Face) (outer outer' : Lis
     second_turns : pos 0 <ℤ bracket (at p n) (at p u) (at p c)
     second_turns = subst (λ z. pos 0 <ℤ z) (sym (bracket-turn (at p n) (at p u) (at p c))) (E.within_second (p v) (p u) (p c) (whole (p n)) back hull_turns)
 
-    first_bare : (k : ℕ) → (k < n) ⊎ (k ≡ n) → ¬ WithinSegment (whole (p u)) (whole (p n)) (whole (p k))
+    first_bare : IsBareUpTo n p (u, n)
     first_bare k (inl l) w = m.bare (u, v) own k l (part_within (p u) (p v) (p n) (p k) within w)
     first_bare k (inr l) w = left_not_zero (E.within_third (p n) (p u) (p c) (whole (p n)) (within_turned (p u) (p n) (p n) (subst (λ i. WithinSegment (whole (p u)) (whole (p n)) (whole (p i))) l w)) second_turns) (bracket-last (at p c) (at p n))
 
-    second_bare : (k : ℕ) → (k < n) ⊎ (k ≡ n) → ¬ WithinSegment (whole (p n)) (whole (p v)) (whole (p k))
+    second_bare : IsBareUpTo n p (n, v)
     second_bare k (inl l) w = m.bare (u, v) own k l (within_turned (p v) (p u) (p k) (part_within (p v) (p u) (p n) (p k) back (within_turned (p n) (p v) (p k) w)))
     second_bare k (inr l) w = left_not_zero (E.within_second (p v) (p n) (p c) (whole (p n)) (within_turned (p n) (p v) (p n) (subst (λ i. WithinSegment (whole (p n)) (whole (p v)) (whole (p i))) l w)) first_turns) (bracket-outer (at p n) (at p c))
 
@@ -309,18 +309,6 @@ module _ (n : ℕ) (p : ℕ → Point) (old new : List Face) (outer outer' : Lis
     abbrev Used' : Face → Type 0
     Used' f = all_used two f.a f.b f.c
 
-    abbrev Ends : ℕ × ℕ → Type 0
-    Ends e = (e.0 < suc n) × (e.1 < suc n) × (e.0 ≢ e.1)
-
-    abbrev Supports : ℕ × ℕ → Type 0
-    Supports e = (k : ℕ) → (k < n) ⊎ (k ≡ n) → bracket (at p e.0) (at p e.1) (at p k) ≤ℤ pos 0
-
-    abbrev Bare : ℕ × ℕ → Type 0
-    Bare e = (k : ℕ) → (k < n) ⊎ (k ≡ n) → ¬ WithinSegment (whole (p e.0)) (whole (p e.1)) (whole (p k))
-
-    abbrev AtLast : ℕ × ℕ → Type 0
-    AtLast e = (e.0 ≡ n) ⊎ (e.1 ≡ n)
-
     module _ (faces_change : FacesChange old new (face v u c ∷ []) two) (outer_change : OuterChange outer outer' ((u, v) ∷ []) halves) where
       hull_addition : IsAddition n p old new outer outer' m (face v u c ∷ []) two ((u, v) ∷ []) halves
       unfolding all_used
@@ -333,14 +321,18 @@ module _ (n : ℕ) (p : ℕ → Point) (old new : List Face) (outer outer' : Lis
         turning = each Turning' (face v n c) (face n u c ∷ []) (wider hull_index.0, last_index, wider hull_index.2, first_turns) (each Turning' (face n u c) [] (last_index, wider hull_index.1, wider hull_index.2, second_turns) (each_none Turning'));
         right = λ e h _. mean_right u v hull_index.1 hull_index.0 within e h;
         off = hull_off;
-        ends = each Ends (u, n) ((n, v) ∷ []) (wider hull_index.1, last_index, not_last u hull_index.1) (each Ends (n, v) [] (last_index, wider hull_index.0, λ x. not_last v hull_index.0 (sym x)) (each_none Ends));
-        supporting = each Supports (u, n) ((n, v) ∷ []) first_supports (each Supports (n, v) [] second_supports (each_none Supports));
-        bare = each Bare (u, n) ((n, v) ∷ []) first_bare (each Bare (n, v) [] second_bare (each_none Bare));
+        ends = each (IsPairBelow (suc n)) (u, n) ((n, v) ∷ []) (wider hull_index.1, last_index, not_last u hull_index.1)
+            (each (IsPairBelow (suc n)) (n, v) [] (last_index, wider hull_index.0, λ x. not_last v hull_index.0 (sym x)) (each_none (IsPairBelow (suc n))));
+        supporting = each (SupportsUpTo n p) (u, n) ((n, v) ∷ []) first_supports
+            (each (SupportsUpTo n p) (n, v) [] second_supports (each_none (SupportsUpTo n p)));
+        bare = each (IsBareUpTo n p) (u, n) ((n, v) ∷ []) first_bare
+            (each (IsBareUpTo n p) (n, v) [] second_bare (each_none (IsBareUpTo n p)));
         left_there = each (Contains outer) (u, v) [] own (each_none (Contains outer));
         left_once = once_cons (u, v) [] (λ h. Contains-none (u, v) h) once_none;
         come_once = once_cons (u, n) ((n, v) ∷ []) (λ h. elim (Contains-cases (n, v) [] (u, n) h) [ inl e ↦ not_last u hull_index.1 (sym (ap (λ (x : ℕ × ℕ). x.0) e)) | inr k ↦ Contains-none (u, n) k ])
             (once_cons (n, v) [] (λ h. Contains-none (n, v) h) once_none);
-        come_at = each AtLast (u, n) ((n, v) ∷ []) (inr refl) (each AtLast (n, v) [] (inl refl) (each_none AtLast));
+        come_at = each (EndsAt n) (u, n) ((n, v) ∷ []) (inr refl)
+            (each (EndsAt n) (n, v) [] (inl refl) (each_none (EndsAt n)));
         same = λ flow anti. hull_sums (flow v n) (flow n c) (flow c v) (flow n u) (flow u c) (flow c n) (flow u n) (flow n v) (flow v u) (flow u v) (anti v n) (anti c n) (anti n u) (anti v u);
       }
 

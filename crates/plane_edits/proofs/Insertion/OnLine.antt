@@ -36,6 +36,7 @@ module _ (points : List Point) (new : List Face) (outer now : List (ℕ × ℕ))
   not_seen : (i j : ℕ) → (pos 0 <ℤ bracket (at p i) (at p j) (at p (length points)) → ⊥) → bracket (at p i) (at p j) (at p (length points)) ≤ℤ pos 0
   not_seen i j n = elim (lt_or_ge_ℤ (pos 0) (bracket (at p i) (at p j) (at p (length points)))) [ inl h ↦ absurd (n h) | inr h ↦ h ]
 
+-- off a line of vertices, the new vertex with a face on each edge that sees it makes the mesh local
 pub over_line_ends : ExtensionOverLineEnds
 over_line_ends points new outer now q u w m g before after =
     let P = point_at (points ++ q ∷ []) in
@@ -57,6 +58,7 @@ in_pair : (i j a b : ℕ) → IsSamePair a b i j → Contains {X = ℕ × ℕ} (
 in_pair i j a b (inl e) = subst (Contains ((i, j) ∷ (j, i) ∷ [])) (λ o. (sym e.0 o, sym e.1 o)) (Contains-head (i, j) ((j, i) ∷ []))
 in_pair i j a b (inr e) = subst (Contains ((i, j) ∷ (j, i) ∷ [])) (λ o. (sym e.0 o, sym e.1 o)) (Contains-later (i, j) ((j, i) ∷ []) (j, i) (Contains-head (j, i) []))
 
+-- a new vertex past an end of a line of vertices is joined to that end, and the mesh stays a line
 pub past_end : InsertionPastEndKeeps
 past_end points outer now q i m h fresh past c = line_extended points q outer now m i h fresh past (λ a b. ((λ x. there a b x), (λ x. back a b x))) c.once
   where
@@ -73,6 +75,7 @@ past_end points outer now q i m h fresh past c = line_extended points q outer no
 abbrev four_ways : ℕ → ℕ → ℕ → List (ℕ × ℕ)
 four_ways i j n = (i, n) ∷ (n, j) ∷ (j, n) ∷ (n, i) ∷ []
 
+-- a new vertex strictly within an edge of a line is joined to both ends in its place
 pub between : InsertionBetweenKeeps
 between points outer now q i j m h within c = line_split points q outer now m i j h within (λ a b. ((λ x. there a b x), (λ x. back a b x))) c.once
   where

@@ -130,6 +130,7 @@ module _ (points : List Point) (u v : ℕ) where
   chord : ℤ → ℤ → ℤ
   chord k l = k *ℤ height (at p u) +ℤ l *ℤ height (at p v)
 
+  -- what is away from an edge is so in either direction
   pub away_back : (faces : List Face) → IsAway points faces u v → IsAway points faces v u
   away_back faces h = record {
     k = h.l;
@@ -241,6 +242,7 @@ module _ (points : List Point) (u v : ℕ) where
       at_corner a b c w (inr (inl e)) = subst (λ (i : ℕ). carried (at p a) (at p b) (at p c) (at p i) ≡ bracket (at p a) (at p b) (at p c) *ℤ height (at p i)) (sym e) (carried-second (at p a) (at p b) (at p c))
       at_corner a b c w (inr (inr e)) = subst (λ (i : ℕ). carried (at p a) (at p b) (at p c) (at p i) ≡ bracket (at p a) (at p b) (at p c) *ℤ height (at p i)) (sym e) (carried-third (at p a) (at p b) (at p c))
 
+-- a pair that has been flipped away is no edge
 pub away_is_no_edge : AwayIsNoEdge
 away_is_no_edge points faces outer i j k m h f = no_edge points i j faces outer m h (k, f)
 
@@ -400,6 +402,7 @@ in_more : (e : ℕ × ℕ) (away : List (ℕ × ℕ)) (i j : ℕ) → Joins away
 in_more e away i j (inl h) = inl (Contains-later e away (i, j) h)
 in_more e away i j (inr h) = inr (Contains-later e away (j, i) h)
 
+-- the flip of a failing edge adds its pair to those that are away
 pub flip_goes_away : FlipGoesAway
 flip_goes_away points faces new outer away a b c d m first second change failing g = go (less_or_more a c (corners_differ (point_at points) a c d (C.turn_left_of (length points) (point_at points) faces outer (by_signs points faces outer m) a c d second)).0)
   where
@@ -475,6 +478,7 @@ half_of_square (suc n) l e = go (suc n * (suc n - 1)) (ap (λ (z : ℕ). suc n *
 at_most_twice : (a b q : ℕ) → a ≤ b → 2 * b ≤ q → 2 * a ≤ q
 at_most_twice a b q h k = omega arith
 
+-- of n vertices, at most n (n - 1) / 2 pairs have been flipped away
 pub away_is_bounded : AwayIsBounded
 away_is_bounded points faces away g = at_most_twice (length away) (length (all_below (length points))) (length points * (length points - 1))
     (once_length away (all_below (length points)) g.once (λ e h. let o = g.ordered e.0 e.1 h in in_all_below (length points) e.0 e.1 o.0 o.1)) (half_of_square (length points) (length (all_below (length points))) (twice_all_below (length points)))

@@ -16,7 +16,7 @@ use Rattle.plane_edits.proofs.LocalMesh.Changes.{face_from, face_kept, each, eac
 use Rattle.plane_edits.proofs.LocalMesh.Kept.{turning_of, same_outer, flip_kept}
 use Rattle.plane_edits.proofs.Legalization.Flipping.{failing_is_convex}
 use Rattle.plane_edits.proofs.Legalization.Away.{away_back, away_is_no_edge, flip_goes_away, away_is_bounded}
-use Rattle.plane.proofs.Indexes.{same_joined, next_sum}
+use Rattle.plane.proofs.Indexes.{cases_turned, same_joined, next_sum}
 
 -- ---- one flip
 -- each two corners of i j k are corners of a face, or are u and v
@@ -67,7 +67,7 @@ module _ (faces new : List Face) (a b c d : ℕ) (change : FacesChange faces new
   pub face_stays : (i j k : ℕ) → IsFaceOf faces i j k → IsFaceOf new i j k ⊎ (IsSamePair i j a c ⊎ (IsSamePair j k a c ⊎ IsSamePair k i a c))
   face_stays i j k h = elim (kept i j k h) [
     | inl o ↦ inl o
-    | inr o ↦ inr (turn_of_all (face a b c ∷ face a c d ∷ []) Has round (each Had (face a b c) (face a c d ∷ []) (inr (inr (inr (refl, refl)))) (each Had (face a c d) [] (inl (inl (refl, refl))) (each_none Had))) i j k o)
+    | inr o ↦ inr (turn_of_all (face a b c ∷ face a c d ∷ []) Has (λ i j k s. cases_turned s) (each Had (face a b c) (face a c d ∷ []) (inr (inr (inr (refl, refl)))) (each Had (face a c d) [] (inl (inl (refl, refl))) (each_none Had))) i j k o)
   ]
     where
       Has : ℕ → ℕ → ℕ → Type 0
@@ -76,11 +76,7 @@ module _ (faces new : List Face) (a b c d : ℕ) (change : FacesChange faces new
       Had : Face → Type 0
       Had f = Has f.a f.b f.c
 
-      round : (i j k : ℕ) → Has i j k → Has j k i
-      round i j k (inl s) = inr (inr s)
-      round i j k (inr (inl s)) = inl s
-      round i j k (inr (inr s)) = inr (inl s)
-
+-- one flip takes one edge and brings one, and leaves all others
 pub flip_touches_one_edge : FlipTouchesOneEdge
 flip_touches_one_edge faces new a b c d first second change = (side_stays faces new a b c d change, side_was faces new a b c d change first second)
 
@@ -148,12 +144,14 @@ module _ (points : List Point) (outer : List (ℕ × ℕ)) where
       let r = parted start Stands Away flips grows m at_start before in
       elim r.either [ inl o ↦ o | inr o ↦ (let n = onward r.away r.way after in absurd (clash now n.0 n.1 (grows r.away n.0 n.3 o) at_end)) ]
 
+-- an edge that fails and is flipped does not come back by further flips of failing edges
 pub flipped_stays_away : FlippedStaysAway
 flipped_stays_away points faces new now outer a b c d count m s after =
     let n = next points outer faces new [] a b c d (at_first points outer faces m) s in
     let r = onward points outer n.0 n.1 after in
     no_side points outer now r.0 r.1 a c (r.3 a c n.3)
 
+-- edges and faces that stand before and after stand all the time between
 pub what_stands_was_not_touched : WhatStandsWasNotTouched
 what_stands_was_not_touched points start between now outer earlier later m before after = (
   λ i j. stood points outer start between now (λ faces. IsSideOfOne faces i j) (λ away. Joins away i j)
@@ -171,6 +169,7 @@ what_stands_was_not_touched points start between now outer earlier later m befor
       ]) earlier later m before after,
 )
 
+-- of n vertices, one legalising makes at most n (n - 1) / 2 flips
 pub flips_are_bounded : FlipsAreBounded
 flips_are_bounded points start now outer count m flips =
     let r = onward points outer [] (at_first points outer start m) flips in

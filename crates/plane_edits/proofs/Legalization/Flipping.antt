@@ -31,10 +31,11 @@ use Rattle.plane_edits.specs.LegalLaws.{OneQuestionForBoth, FailingIsConvex, Fli
 use Rattle.plane_edits.proofs.LocalMesh.Changes.{face_from, each, each_none, turn_of_all, has_pair_or_not}
 use Rattle.plane_edits.proofs.Legalization.Legal.{convex_at_first, convex_at_third}
 use Rattle.plane_edits.proofs.LocalMesh.Kept.{turning_of, same_outer, flip_kept}
-use Rattle.plane_edits.proofs.LocalMesh.Additions.{around_turn_free}
+use Rattle.plane_edits.proofs.LocalMesh.Additions.{around_turn_free, AllGoAt, HasNoneAt}
 use Rattle.plane.proofs.Signs.{sum_not_negative, sum_of_three_not_negative, lower_magnitude}
 
 -- ---- the test
+-- from both sides of an edge the circle test has one answer
 pub one_question : OneQuestionForBoth
 one_question i j k l first second = (
   (λ h. (inside_is_incircle j i l k second).1 (subst (λ z. pos 0 <ℤ z) (sym (incircle-exchange (lift i) (lift j) (lift k) (lift l))) ((inside_is_incircle i j k l first).0 h))),
@@ -45,9 +46,11 @@ one_question i j k l first second = (
 asked : (a b c d : Point) → incircle (lift a) (lift c) (lift d) (lift b) ≡ incircle (lift a) (lift b) (lift c) (lift d)
 asked a b c d = incircle-exchange (lift c) (lift a) (lift b) (lift d) ∙ sym (incircle-turn (lift c) (lift a) (lift b) (lift d))
 
+-- where b is inside the circle of a c d, the determinant of a b c d is above 0
 pub fails : (a b c d : Point) → TurnsLeft (whole a) (whole c) (whole d) → InsideCircle (whole a) (whole c) (whole d) (whole b) → pos 0 <ℤ incircle (lift a) (lift b) (lift c) (lift d)
 fails a b c d acd h = subst (λ z. pos 0 <ℤ z) (asked a b c d) ((inside_is_incircle a c d b acd).0 h)
 
+-- an edge that fails lies across a strictly convex quadrilateral
 pub failing_is_convex : FailingIsConvex
 failing_is_convex a b c d abc acd h =
     let e = fails a b c d acd h in
@@ -128,7 +131,7 @@ at_most : (new old gone made outer : ℤ) → new +ℤ gone ≡ old +ℤ made �
 at_most new old gone made outer a b c d e f = omega (arith, ints)
 
 -- a side of the removed faces that the made ones do not have is a side no more
-pub side_gone : (n : ℕ) (p : ℕ → Point) (faces new gone made : List Face) (outer : List (ℕ × ℕ)) → SignMesh n p faces outer → FacesChange faces new gone made → (u v : ℕ) → HasSide gone u v → ¬ HasSide made u v → ¬ HasSide new u v
+side_gone : (n : ℕ) (p : ℕ → Point) (faces new gone made : List Face) (outer : List (ℕ × ℕ)) → SignMesh n p faces outer → FacesChange faces new gone made → (u v : ℕ) → HasSide gone u v → ¬ HasSide made u v → ¬ HasSide new u v
 side_gone n p faces new gone made outer m change u v g none h =
     at_most (total (around (is_pair u v)) new) (total (around (is_pair u v)) faces) (total (around (is_pair u v)) gone) (total (around (is_pair u v)) made) (total (along (is_pair u v)) outer)
     (change.totals (around (is_pair u v)) (around_turn_free (is_pair u v))) (side_counts gone u v g) (go (lt_or_ge_ℤ (pos 0) (total (around (is_pair u v)) made))) (L.way_once n p faces outer m u v) (total_nonneg (along (is_pair u v)) outer (λ e _. is_pair_nonneg u v e.0 e.1)) (side_counts new u v h)
@@ -136,6 +139,16 @@ side_gone n p faces new gone made outer m change u v g none h =
     go : (pos 0 <ℤ total (around (is_pair u v)) made) ⊎ (total (around (is_pair u v)) made ≤ℤ pos 0) → total (around (is_pair u v)) made ≤ℤ pos 0
     go (inr l) = l
     go (inl l) = let r = total_positive (around (is_pair u v)) made l in absurd (none (side_found made u v r.0 r.1 r.2))
+
+-- where the faces at v go and none of the made ones is there, v has no face
+pub none_left_at : (n : ℕ) (p : ℕ → Point) (faces new gone made : List Face) (outer : List (ℕ × ℕ))
+    → SignMesh n p faces outer → FacesChange faces new gone made
+    → (v : ℕ) → AllGoAt v faces gone → HasNoneAt v made → HasNoneAt v new
+none_left_at n p faces new gone made outer m change v all_gone free a b h =
+    elim (face_from faces new gone made change v a b h) [
+      | inl o ↦ side_gone n p faces new gone made outer m change v a (b, all_gone a b o) (λ q. free a q.0 q.1) (b, h)
+      | inr o ↦ free a b o
+    ]
 
 -- two names of one unordered pair
 one_pair : (i j a c x y : ℕ) → IsSamePair i j a c → IsSamePair i j x y → ((a ≡ x) × (c ≡ y)) ⊎ ((a ≡ y) × (c ≡ x))
@@ -170,6 +183,7 @@ module _ (points : List Point) (faces new : List Face) (outer : List (ℕ × ℕ
   acd : TurnsLeft (place points a) (place points c) (place points d)
   acd = turning_of points faces outer m a c d second
 
+  -- the fourth corner is inside the circle of the other three
   pub excess : pos 0 <ℤ incircle (lift (point_at points a)) (lift (point_at points b)) (lift (point_at points c)) (lift (point_at points d))
   excess = fails (point_at points a) (point_at points b) (point_at points c) (point_at points d) acd failing
 
@@ -264,12 +278,15 @@ module _ (points : List Point) (faces new : List Face) (outer : List (ℕ × ℕ
         go (inl x) (inr y) = of_made (elim (made_sides j i l y).0 [ inl r ↦ inl (round_back i j r) | inr s ↦ inr (elim s [ inl e ↦ inr (e.1, e.0) | inr e ↦ inl (e.1, e.0) ]) ])
         go (inl x) (inl y) = passing i j k l x y free (λ h. elim (left i j h) [ inl s ↦ old_diagonal_gone i j s (k, f) | inr z ↦ untested z ])
 
+-- the flip of an edge that fails lowers the lifted volume
 pub flip_lowers : FlipLowers
 flip_lowers points faces new outer a b c d m first second change failing = flip_lowered points faces new outer a b c d m first second change failing
 
+-- the flip of an edge that fails leaves the four sides of the quadrilateral to test
 pub flip_leaves_sides : FlipLeavesSides
 flip_leaves_sides points faces new outer constraints before after a b c d m first second change failing passing left round = still_passing points faces new outer a b c d m first second change failing constraints before after passing left round
 
+-- an edge that is a constraint, passes or has the outer face beside it is left to test no longer
 pub passing_is_dropped : PassingIsDropped
 passing_is_dropped points faces constraints before after u v passing left own i j k l f g free untested = go (joins_or_not before i j)
   where
@@ -285,6 +302,7 @@ passing_is_dropped points faces constraints before after u v passing left own i 
     go (inl h) = elim (left i j h) [ inl s ↦ of_own s | inr z ↦ absurd (untested z) ]
     go (inr n) = passing i j k l f g free n
 
+-- a change of faces leaves the sides of the faces that were made to test
 pub change_leaves_sides : ChangeLeavesSides
 change_leaves_sides points faces new gone made constraints before after change passing left sides i j k l f g free untested = go (face_from faces new gone made change i j k f) (face_from faces new gone made change j i l g)
   where
@@ -296,5 +314,6 @@ change_leaves_sides points faces new gone made constraints before after change p
     go (inl x) (inr y) = tested (l, inr y)
     go (inl x) (inl y) = passing i j k l x y free (λ h. untested (left i j h))
 
+-- where no edge is left to test, each edge that is no constraint passes
 pub none_left : NoneLeftIsLocallyDelaunay
 none_left points faces edges constraints passing i j k l f g free = passing i j k l f g free (λ h. elim h [ inl x ↦ Contains-none (i, j) x | inr x ↦ Contains-none (j, i) x ])

@@ -12,17 +12,14 @@ use Rattle.plane_tiling.proofs.Counting.{at, SignMesh}
 use Rattle.plane_tiling.proofs.Flows.{IsTurnOf}
 use Rattle.plane_tiling.proofs.Covering as C
 use Rattle.plane_edits.specs.Change.{FacesChange, OuterChange}
-use Rattle.plane_edits.proofs.LocalMesh.Changes.{face_from, face_kept, each, each_none, turn_of_all, once_none}
-use Rattle.plane_edits.proofs.LocalMesh.Additions.{IsUsed, corner_of_used, AreTurning, turning_turned, around_turn_free, outer_totals}
+use Rattle.plane_edits.proofs.LocalMesh.Changes.{face_kept, each, each_none, turn_of_all, once_none}
+use Rattle.plane_edits.proofs.LocalMesh.Additions.{IsUsed, corner_of_used, AreTurning, AllTurn, mesh_turns, turn_after, was_there, turning_turned, around_turn_free, outer_totals}
 use Rattle.plane.proofs.Signs.{balance_stays}
 
 flip_sums : (ab ac ad bc bd cd ca da cb db dc ba : ℤ) → ca ≡ neg_ℤ ac → db ≡ neg_ℤ bd → (ab +ℤ bc +ℤ ca) +ℤ ((ac +ℤ cd +ℤ da) +ℤ pos 0) ≡ (ab +ℤ bd +ℤ da) +ℤ ((bc +ℤ cd +ℤ db) +ℤ pos 0)
 flip_sums ab ac ad bc bd cd ca da cb db dc ba e f = omega (arith, ints)
 
 module _ (n : ℕ) (p : ℕ → Point) (old new : List Face) (outer outer' : List (ℕ × ℕ)) (m : SignMesh n p old outer) (outer_change : OuterChange outer outer' [] []) where
-  outer_from : (e : ℕ × ℕ) → Contains outer' e → Contains outer e
-  outer_from e h = elim (outer_change.only e.0 e.1 h) [ inl o ↦ o.0 | inr o ↦ absurd (Contains-none e o) ]
-
   -- faces are exchanged for others with the same corners and sides
   pub exchanged : (gone made : List Face) → FacesChange old new gone made → ((g : Face) → Contains made g → AreTurning n p g.a g.b g.c) → ((k i j : ℕ) → IsTurnOf gone k i j → IsUsed made k)
       → ((flow : ℕ → ℕ → ℤ) → IsAntisymmetric flow → total (around flow) gone ≡ total (around flow) made) → SignMesh n p new outer'
@@ -32,19 +29,17 @@ module _ (n : ℕ) (p : ℕ → Point) (old new : List Face) (outer outer' : Lis
     used = λ k h. inl (corner_of_used new k (used k h));
     corners = λ g h. let t = turning g.a g.b g.c (inl h) in (t.0, t.1, t.2);
     turning = λ g h. (turning g.a g.b g.c (inl h)).3;
-    ends = λ e h. m.ends e (outer_from e h);
-    supporting = λ e h. m.supporting e (outer_from e h);
-    bare = λ e h. m.bare e (outer_from e h);
+    ends = λ e h. m.ends e (was_there outer outer' outer_change e h);
+    supporting = λ e h. m.supporting e (was_there outer outer' outer_change e h);
+    bare = λ e h. m.bare e (was_there outer outer' outer_change e h);
     once = outer_change.once;
     balanced = λ flow anti. balance_stays (total (around flow) new) (total (around flow) gone) (total (around flow) old) (total (around flow) made) (total (along flow) outer) (total (along flow) outer')
         (change.totals (around flow) (around_turn_free flow)) (outer_totals outer outer' [] [] outer_change m.once once_none once_none (λ e h. absurd (Contains-none e h)) (λ e h. absurd (Contains-none e h)) (along flow)) (m.balanced flow anti) (same flow anti);
   }
     where
-      turning : (i j k : ℕ) → IsTurnOf new i j k → AreTurning n p i j k
-      turning i j k h = elim (face_from old new gone made change i j k h) [
-        | inl o ↦ (let c = C.turn_corners n p old outer m i j k o in (c.0, c.1, c.2, C.turn_left_of n p old outer m i j k o))
-        | inr o ↦ turn_of_all made (AreTurning n p) (turning_turned n p) turns i j k o
-      ]
+      turning : AllTurn n p new
+      turning = turn_after n p old new gone made change (mesh_turns n p old outer m)
+          (turn_of_all made (AreTurning n p) (turning_turned n p) turns)
 
       used : (k : ℕ) → k < n → IsUsed new k
       used k h =
@@ -80,6 +75,7 @@ module _ (n : ℕ) (p : ℕ → Point) (old new : List Face) (outer outer' : Lis
     abbrev Turning : Face → Type 0
     Turning f = AreTurning n p f.a f.b f.c
 
+    -- a mesh with an edge turned is one
     pub flipped : SignMesh n p new outer'
     flipped =
         let x = C.turn_corners n p old outer m a b c first in

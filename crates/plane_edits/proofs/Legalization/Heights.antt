@@ -7,13 +7,16 @@ use Rattle.plane.proofs.Solver.{Poly, ◌⊕◌, ◌⊖◌, ◌⊗◌, ⊝, ring
 use Rattle.plane.proofs.Bracket.{Vec3, bracket, Vec3ᵖ, bracketᵖ, vec3}
 use Rattle.plane.proofs.Circles.{height, heightᵖ, incircle, incircleᵖ}
 
+-- the height over z of the plane through the lifted corners a b c, times their bracket
 unfoldable pub carried : Vec3 → Vec3 → Vec3 → Vec3 → ℤ
 unfolding bracket
 carried a b c z = height a *ℤ bracket z b c +ℤ height b *ℤ bracket a z c +ℤ height c *ℤ bracket a b z
 
+-- the height that a face carries, times its bracket, as a polynomial
 abbrev pub carriedᵖ : Vec3ᵖ → Vec3ᵖ → Vec3ᵖ → Vec3ᵖ → Poly
 carriedᵖ a b c z = heightᵖ a ⊗ bracketᵖ z b c ⊕ heightᵖ b ⊗ bracketᵖ a z c ⊕ heightᵖ c ⊗ bracketᵖ a b z
 
+-- the height that a face carries is the same in its next rotation
 pub carried-turn : (a b c z : Vec3) → carried a b c z ≡ carried b c a z
 unfolding carried bracket
 carried-turn a b c z = ring_over vec3 [] (a ∷ b ∷ c ∷ z ∷ []) (λ a b c z. carriedᵖ a b c z) (λ a b c z. carriedᵖ b c a z) tt
@@ -40,14 +43,18 @@ at_most_by x y e h k = omega (arith, ints)
 
 -- where the old diagonal fails, the new faces carry nothing higher
 module _ (a b c d z : Vec3) (failing : pos 0 ≤ℤ incircle a b c d) where
+  -- over what is left of a b, the plane through a, b, d is below that through a, b, c
   pub lower_abd_abc : pos 0 ≤ℤ bracket a b z → (carried a b d z *ℤ bracket a b c) ≤ℤ (carried a b c z *ℤ bracket a b d)
   lower_abd_abc h = at_most_by (carried a b d z *ℤ bracket a b c) (carried a b c z *ℤ bracket a b d) (incircle a b c d *ℤ bracket a b z) (falls_abd_abc a b c d z) (mul-nonneg_ℤ failing h)
 
+  -- over what is left of d a, the plane through a, b, d is below that through a, c, d
   pub lower_abd_acd : pos 0 ≤ℤ bracket d a z → (carried a b d z *ℤ bracket a c d) ≤ℤ (carried a c d z *ℤ bracket a b d)
   lower_abd_acd h = at_most_by (carried a b d z *ℤ bracket a c d) (carried a c d z *ℤ bracket a b d) (incircle a b c d *ℤ bracket d a z) (falls_abd_acd a b c d z) (mul-nonneg_ℤ failing h)
 
+  -- over what is left of b c, the plane through b, c, d is below that through a, b, c
   pub lower_bcd_abc : pos 0 ≤ℤ bracket b c z → (carried b c d z *ℤ bracket a b c) ≤ℤ (carried a b c z *ℤ bracket b c d)
   lower_bcd_abc h = at_most_by (carried b c d z *ℤ bracket a b c) (carried a b c z *ℤ bracket b c d) (incircle a b c d *ℤ bracket b c z) (falls_bcd_abc a b c d z) (mul-nonneg_ℤ failing h)
 
+  -- over what is left of c d, the plane through b, c, d is below that through a, c, d
   pub lower_bcd_acd : pos 0 ≤ℤ bracket c d z → (carried b c d z *ℤ bracket a c d) ≤ℤ (carried a c d z *ℤ bracket b c d)
   lower_bcd_acd h = at_most_by (carried b c d z *ℤ bracket a c d) (carried a c d z *ℤ bracket b c d) (incircle a b c d *ℤ bracket c d z) (falls_bcd_acd a b c d z) (mul-nonneg_ℤ failing h)

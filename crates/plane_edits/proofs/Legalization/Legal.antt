@@ -40,6 +40,7 @@ other_positive k x h p = go (lt_or_ge_ℤ (pos 0) x)
 pub squared_way_nonneg : (q p : Point) → pos 0 ≤ℤ squared_way q p
 squared_way_nonneg q p = sum_not_negative ((p.x -ℤ q.x) *ℤ (p.x -ℤ q.x)) ((p.y -ℤ q.y) *ℤ (p.y -ℤ q.y)) (square-nonneg_ℤ (p.x -ℤ q.x)) (square-nonneg_ℤ (p.y -ℤ q.y))
 
+-- where the faces a b c and a c d fail at their common edge, a b d turns left
 pub convex_at_first : (a b c d : Point) → pos 0 <ℤ bracket (lift a) (lift b) (lift c) → pos 0 <ℤ bracket (lift a) (lift c) (lift d) → pos 0 <ℤ incircle (lift a) (lift b) (lift c) (lift d) → pos 0 <ℤ bracket (lift a) (lift b) (lift d)
 convex_at_first a b c d abc acd e = other_positive (squared_way a c) (bracket (lift a) (lift b) (lift d)) (squared_way_nonneg a c)
     (sum_positive (squared_way a c *ℤ bracket (lift a) (lift b) (lift d)) (incircle (lift a) (lift b) (lift c) (lift d)) (squared_way a b *ℤ bracket (lift a) (lift c) (lift d)) (squared_way a d *ℤ bracket (lift a) (lift b) (lift c))
@@ -52,6 +53,7 @@ convex_at_third a b c d abc acd e = subst (λ z. pos 0 <ℤ z) (sym (bracket-tur
     (subst (λ z. pos 0 <ℤ z) (incircle-opposite (lift a) (lift b) (lift c) (lift d)) e))
 
 -- ---- the two halvings
+-- z is in the closed triangle of a, b and c
 pub record InClosed (a b c z : Vec3) : Type 0 where
   pub first : pos 0 ≤ℤ bracket a b z
   pub second : pos 0 ≤ℤ bracket b c z

@@ -12,9 +12,8 @@ use Rattle.std.proofs.lemmas.List.Edits.{length-remove}
 use Rattle.std.proofs.lemmas.List.Quantifiers.{all_pairs_remove}
 use Rattle.plane.specs.Tiling.{Face, face}
 use Rattle.plane_tiling.specs.Local.{total}
-use Rattle.plane.proofs.IntegerOrder.{lt_or_ge_ℤ}
 use Rattle.plane_tiling.proofs.Totals.{Contains-head, Contains-later, Contains-cases, Contains-none, get_or_any, total_nonneg, total_at_least, total_positive}
-use Rattle.plane_tiling.proofs.Flows.{IsTurnOf, one_of_three, bit_nonneg}
+use Rattle.plane_tiling.proofs.Flows.{IsTurnOf, either, one_of_three, bit_nonneg}
 use Rattle.plane_edits.specs.Change.{IsTurnFree, FacesChange}
 use Rattle.plane.proofs.Signs.{at_least_one_through, first_of_three_counts, sum_of_three_not_negative}
 use Rattle.plane.proofs.Crossings.{is_true}
@@ -97,11 +96,7 @@ turn_found faces i j k h =
     go f c (inr (inr l)) = inr (inr (subst (Contains faces) (triple_found k i j f l) c))
 
 one_of_two : (a b c d : ℤ) → a +ℤ b ≡ c +ℤ d → pos 1 ≤ℤ a → pos 0 ≤ℤ b → (pos 0 <ℤ c) ⊎ (pos 0 <ℤ d)
-one_of_two a b c d e h k = go (lt_or_ge_ℤ (pos 0) c)
-  where
-    go : (pos 0 <ℤ c) ⊎ (c ≤ℤ pos 0) → (pos 0 <ℤ c) ⊎ (pos 0 <ℤ d)
-    go (inl l) = inl l
-    go (inr l) = inr (omega (arith, ints))
+one_of_two a b c d e h k = either a b c d (omega (arith, ints)) e
 
 module _ (old new gone made : List Face) (c : FacesChange old new gone made) where
   -- each new face was there or was made
@@ -124,6 +119,7 @@ module _ (old new gone made : List Face) (c : FacesChange old new gone made) whe
 pub each_none : {X : Type 0} (P : X → Type 0) (x : X) → Contains [] x → P x
 each_none P x h = absurd (Contains-none x h)
 
+-- what holds of the first entry and of each later one holds of each entry
 pub each : {X : Type 0} (P : X → Type 0) (a : X) (xs : List X) → P a → ((x : X) → Contains xs x → P x) → (x : X) → Contains (a ∷ xs) x → P x
 each P a xs s rest x h = elim (Contains-cases a xs x h) [ inl e ↦ subst P e s | inr k ↦ rest x k ]
 
@@ -135,6 +131,14 @@ turn_of_all faces P turn p i j k (inr (inr h)) = turn k i j (p (face k i j) h)
 
 -- ---- lists without repetition
 module _ {X : Type 0} where
+  -- what is in the one list is in the other
+  abbrev pub AreAmong : List X → List X → Type 0
+  AreAmong xs ys = (x : X) → Contains xs x → Contains ys x
+
+  -- nothing is in both lists
+  abbrev pub ShareNone : List X → List X → Type 0
+  ShareNone xs ys = (x : X) → Contains xs x → ¬ Contains ys x
+
   total_without : (f : X → ℤ) (xs : List X) (k : ℕ) (d : X) → k < length xs → total f xs ≡ f (get_or xs k d) +ℤ total f (remove xs k)
   total_without f [] k d h = absurd (omega arith)
   total_without f (x ∷ xs) zero d h = refl
@@ -153,21 +157,26 @@ module _ {X : Type 0} where
   was (z ∷ xs) zero y h c = Contains-later z xs y c
   was (z ∷ xs) (suc k) y h c = elim (Contains-cases z (remove xs k) y c) [ inl o ↦ subst (Contains (z ∷ xs)) o (Contains-head z xs) | inr o ↦ Contains-later z xs y (was xs k y (omega arith) o) ]
 
+  -- no entry is there twice
   abbrev pub IsOnce : List X → Type 0
   IsOnce xs = AllPairs (λ d e. d ≢ e) xs
 
+  -- the rest of a list without repetition has none
   pub once_tail : (x : X) (xs : List X) → IsOnce (x ∷ xs) → IsOnce xs
   once_tail x xs o k l d h i = o (suc k) (suc l) d (omega arith) (omega arith)
 
+  -- the first entry of a list without repetition is not in the rest
   pub once_head : (x : X) (xs : List X) → IsOnce (x ∷ xs) → ¬ Contains xs x
   once_head x xs o c = o 0 (suc c.0) x (omega arith) (let h = c.1 in omega arith) (sym c.2)
 
+  -- a new first entry repeats none
   pub once_cons : (x : X) (xs : List X) → ¬ Contains xs x → IsOnce xs → IsOnce (x ∷ xs)
   once_cons x xs n o zero zero d h i e = absurd (omega arith)
   once_cons x xs n o (suc k) zero d h i e = absurd (omega arith)
   once_cons x xs n o zero (suc l) d h i e = n (l, omega arith, get_or_any xs l x d (omega arith) ∙ sym e)
   once_cons x xs n o (suc k) (suc l) d h i e = o k l d (omega arith) (omega arith) e
 
+  -- an empty list has no repetition
   pub once_none : IsOnce []
   once_none k l d h i = absurd (omega arith)
 
@@ -178,7 +187,8 @@ module _ {X : Type 0} where
   gone_for_good (z ∷ xs) (suc k) x h e o c = elim (Contains-cases z (remove xs k) x c) [ inl s ↦ once_head z xs o (k, omega arith, get_or_any xs k z x (omega arith) ∙ e ∙ sym s) | inr s ↦ gone_for_good xs k x (omega arith) e (once_tail z xs o) s ]
 
   -- lists without repetition that have the same elements have the same totals
-  pub same_total : (f : X → ℤ) (xs ys : List X) → IsOnce xs → IsOnce ys → ((x : X) → Contains xs x → Contains ys x) → ((x : X) → Contains ys x → Contains xs x) → total f xs ≡ total f ys
+  pub same_total : (f : X → ℤ) (xs ys : List X) → IsOnce xs → IsOnce ys → AreAmong xs ys → AreAmong ys xs
+      → total f xs ≡ total f ys
   same_total f [] [] o p there back = refl
   same_total f [] (y ∷ ys) o p there back = absurd (Contains-none y (back y (Contains-head y ys)))
   same_total f (x ∷ xs) ys o p there back =
@@ -191,7 +201,7 @@ module _ {X : Type 0} where
       (λ i. f (sym c.2 i) +ℤ r i) ∙ sym (total_without f ys c.0 x c.1)
 
   -- a list without repetition is no longer than one that has all its elements
-  pub once_length : (xs ys : List X) → IsOnce xs → ((x : X) → Contains xs x → Contains ys x) → length xs ≤ length ys
+  pub once_length : (xs ys : List X) → IsOnce xs → AreAmong xs ys → length xs ≤ length ys
   once_length [] ys o there = omega arith
   once_length (x ∷ xs) ys o there =
       let c = there x (Contains-head x xs) in
@@ -199,11 +209,12 @@ module _ {X : Type 0} where
       let r = once_length xs (remove ys c.0) (once_tail x xs o) (λ y h. stays ys c.0 x y c.1 c.2 (there y (Contains-later x xs y h)) (λ s. once_head x xs o (subst (Contains xs) s h))) in
       omega arith
 
-  once_append : (xs ys : List X) → IsOnce xs → IsOnce ys → ((x : X) → Contains xs x → ¬ Contains ys x) → IsOnce (xs ++ ys)
+  once_append : (xs ys : List X) → IsOnce xs → IsOnce ys → ShareNone xs ys → IsOnce (xs ++ ys)
   once_append [] ys o p apart = p
   once_append (x ∷ xs) ys o p apart = once_cons x (xs ++ ys) (λ c. elim (Contains-append_cases xs ys x c) [ inl h ↦ once_head x xs o h | inr h ↦ apart x (Contains-head x xs) h ])
       (once_append xs ys (once_tail x xs o) p (λ y h. apart y (Contains-later x xs y h)))
 
+  -- a sum over two lists is the sum of both sums
   pub total_append : (f : X → ℤ) (xs ys : List X) → total f (xs ++ ys) ≡ total f xs +ℤ total f ys
   total_append f [] ys = none (total f ys)
     where
@@ -215,24 +226,27 @@ module _ {X : Type 0} where
       next a s t u e = omega (arith, ints)
 
   -- of a list without repetition some elements go and others come
-  pub changed_total : (f : X → ℤ) (old new gone made : List X) → IsOnce old → IsOnce new → IsOnce gone → IsOnce made → ((x : X) → Contains gone x → Contains old x) → ((x : X) → Contains made x → ¬ Contains old x)
-      → ((x : X) → Contains old x → Contains new x ⊎ Contains gone x) → ((x : X) → Contains made x → Contains new x) → ((x : X) → Contains new x → (Contains old x × ¬ Contains gone x) ⊎ Contains made x)
+  pub changed_total : (f : X → ℤ) (old new gone made : List X) → IsOnce old → IsOnce new → IsOnce gone → IsOnce made
+      → AreAmong gone old → ShareNone made old
+      → ((x : X) → Contains old x → Contains new x ⊎ Contains gone x) → AreAmong made new
+      → ((x : X) → Contains new x → (Contains old x × ¬ Contains gone x) ⊎ Contains made x)
       → total f new +ℤ total f gone ≡ total f old +ℤ total f made
   changed_total f old new gone made o n g m there apart kept come only =
       sym (total_append f new gone)
       ∙ same_total f (new ++ gone) (old ++ made) (once_append new gone n g away) (once_append old made o m (λ x h k. apart x k h)) forth back
       ∙ total_append f old made
     where
-      away : (x : X) → Contains new x → ¬ Contains gone x
+      away : ShareNone new gone
       away x h k = elim (only x h) [ inl s ↦ s.1 k | inr s ↦ apart x s (there x k) ]
 
-      forth : (x : X) → Contains (new ++ gone) x → Contains (old ++ made) x
+      forth : AreAmong (new ++ gone) (old ++ made)
       forth x h = elim (Contains-append_cases new gone x h) [ inl k ↦ elim (only x k) [ inl s ↦ Contains-append_left old made x s.0 | inr s ↦ Contains-append_right old made x s ] | inr k ↦ Contains-append_left old made x (there x k) ]
 
-      back : (x : X) → Contains (old ++ made) x → Contains (new ++ gone) x
+      back : AreAmong (old ++ made) (new ++ gone)
       back x h = elim (Contains-append_cases old made x h) [ inl k ↦ elim (kept x k) [ inl s ↦ Contains-append_left new gone x s | inr s ↦ Contains-append_right new gone x s ] | inr k ↦ Contains-append_left new gone x (come x k) ]
 
 -- ---- a pair is in a list of pairs or not
+-- a pair is in a list or is not
 pub has_pair_or_not : (pairs : List (ℕ × ℕ)) (i j : ℕ) → Contains pairs (i, j) ⊎ (¬ Contains pairs (i, j))
 has_pair_or_not [] i j = inr (λ h. Contains-none (i, j) h)
 has_pair_or_not (e ∷ pairs) i j = go (cases_eq e.0 i) (cases_eq e.1 j) (has_pair_or_not pairs i j)

@@ -28,12 +28,15 @@ use Rattle.plane_edits.proofs.Legalization.Legal.{InClosed, halved}
 pub with_last : (points : List Point) (q : Point) (faces : List Face) (outer : List (ℕ × ℕ)) → LocalMesh points faces outer → SignMesh (length points) (point_at (points ++ q ∷ [])) faces outer
 with_last points q faces outer m = same_points (length points) (point_at points) (point_at (points ++ q ∷ [])) faces outer (kept_point points q) (by_signs points faces outer m)
 
+-- the mesh of the points with q last, read by signs, is a local mesh
 pub from_last : (points : List Point) (q : Point) (faces : List Face) (outer : List (ℕ × ℕ)) → SignMesh (suc (length points)) (point_at (points ++ q ∷ [])) faces outer → LocalMesh (points ++ q ∷ []) faces outer
 from_last points q faces outer m = by_words (points ++ q ∷ []) faces outer (subst (λ n. SignMesh n (point_at (points ++ q ∷ [])) faces outer) (sym (length_appended points q)) m)
 
+-- the faces of a local mesh turn left, in each rotation
 pub turning_of : (points : List Point) (faces : List Face) (outer : List (ℕ × ℕ)) → LocalMesh points faces outer → (a b c : ℕ) → IsFaceOf faces a b c → TurnsLeft (place points a) (place points b) (place points c)
 turning_of points faces outer m a b c h = left_if (place points a) (place points b) (place points c) (C.turn_left_of (length points) (point_at points) faces outer (by_signs points faces outer m) a b c h)
 
+-- the corners of a face of a local mesh are indexes of points, in each rotation
 pub index_of : (points : List Point) (faces : List Face) (outer : List (ℕ × ℕ)) → LocalMesh points faces outer → (a b c : ℕ) → IsFaceOf faces a b c → (a < length points) × (b < length points) × (c < length points)
 index_of points faces outer m a b c h = C.turn_corners (length points) (point_at points) faces outer (by_signs points faces outer m) a b c h
 
@@ -43,6 +46,7 @@ within_last : (points : List Point) (q : Point) (a b : ℕ) → a < length point
 within_last points q a b ha hb w = subst (λ (x : Point × Point × Point). WithinSegment (whole x.0) (whole x.1) (whole x.2)) (λ i. (kept_point points q a ha i, kept_point points q b hb i, sym (last_point points q) i)) w
 
 -- ---- insertions
+-- a vertex put into a face leaves a mesh
 pub inside_face_kept : InsertionInsideKeeps
 inside_face_kept points faces new outer outer' q a b c m f inside change edges =
     let p = point_at (points ++ q ∷ []) in
@@ -55,25 +59,30 @@ inside_face_kept points faces new outer outer' q a b c m f inside change edges =
     moved : (i j : ℕ) → i < length points → j < length points → pos 0 <ℤ bracket (vec (place points i)) (vec (place points j)) (vec (whole q)) → pos 0 <ℤ bracket (at (point_at (points ++ q ∷ [])) i) (at (point_at (points ++ q ∷ [])) j) (at (point_at (points ++ q ∷ [])) (length points))
     moved i j hi hj h = subst (λ (x : Point × Point × Point). pos 0 <ℤ bracket (vec (whole x.0)) (vec (whole x.1)) (vec (whole x.2))) (λ o. (kept_point points q i hi o, kept_point points q j hj o, sym (last_point points q) o)) h
 
+-- a vertex strictly within the side of two faces is joined to their four corners, the mesh stays local
 pub within_side_kept : InsertionWithinSideKeeps
 within_side_kept points faces new outer outer' q a b c d m f g within change edges =
     let x = index_of points faces outer m a b c f in
     from_last points q new outer' (I.side_kept (length points) (point_at (points ++ q ∷ [])) faces new outer outer' (with_last points q faces outer m) a b c d f g (within_last points q a b x.0 x.1 within) change edges)
 
+-- a vertex strictly within an outer edge makes two halves of it, and the mesh stays local
 pub within_outer_kept : InsertionWithinOuterKeeps
 within_outer_kept points faces new outer outer' q u v c m own f within change edges =
     let x = index_of points faces outer m v u c f in
     from_last points q new outer' (I.hull_kept (length points) (point_at (points ++ q ∷ [])) faces new outer outer' (with_last points q faces outer m) u v c own f (within_last points q u v x.1 x.0 within) change edges)
 
 -- ---- flips
+-- the outer edges stay as they are
 pub same_outer : (outer : List (ℕ × ℕ)) → IsOnce outer → OuterChange outer outer [] []
 same_outer outer once = record { kept = λ i j h _. h; come = λ i j h. absurd (Contains-none (i, j) h); only = λ i j h. inl (h, λ x. Contains-none (i, j) x); once = once }
 
+-- a flip across a strictly convex quadrilateral keeps the mesh local
 pub flip_kept : FlipKeeps
 flip_kept points faces new outer outer' a b c d m f g left right change edges =
     by_words points new outer' (F.flipped (length points) (point_at points) faces new outer outer' (by_signs points faces outer m) edges a b c d change f g
     (if_left (place points a) (place points b) (place points d) left) (if_left (place points b) (place points c) (place points d) right))
 
+-- the two halvings of a strictly convex quadrilateral cover the same points
 pub flip_covers : FlipCovers
 flip_covers a b c d p abc acd abd bcd = ((λ h. forth h), (λ h. back h))
   where

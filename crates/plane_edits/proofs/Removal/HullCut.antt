@@ -23,16 +23,21 @@ use Rattle.plane_tiling.proofs.Loops as L
 use Rattle.plane_edits.specs.Change.{FacesChange, OuterChange}
 use Rattle.plane_edits.specs.Removal.{LocalMeshWithout, IsOther}
 use Rattle.plane_edits.specs.RemovalHull.{IsHullStar, strip, chain}
-use Rattle.plane_edits.proofs.LocalMesh.Changes.{face_from, face_kept, each, each_none, turn_of_all, once_none, once_cons, IsOnce}
-use Rattle.plane_edits.proofs.LocalMesh.Additions.{IsUsed, corner_of_used, AreTurning, around_turn_free, outer_totals, balanced_after, turning_turned}
-use Rattle.plane_edits.proofs.Legalization.Flipping.{side_gone}
+use Rattle.plane_edits.proofs.LocalMesh.Changes.{face_kept, each, each_none, turn_of_all, once_none, once_cons, AreAmong, ShareNone, IsOnce}
+use Rattle.plane_edits.proofs.LocalMesh.Additions.{IsUsed, corner_of_used, AreTurning, AllTurn, AllGoAt, HasNoneAt, KeepBalance, mesh_turns, turn_after, around_turn_free, outer_totals, balanced_after, turning_turned}
+use Rattle.plane_edits.proofs.Legalization.Flipping.{none_left_at}
 use Rattle.plane_edits.proofs.Insertion.Hull.{next_unique}
 use Rattle.plane_edits.proofs.Removal.HullStar as H
+use Rattle.plane_edits.proofs.Removal.StarFlips.{neighbours_differ}
 use Rattle.plane.proofs.Signs.{sum_with_zero_is_positive}
 
 -- k is an end of one of the pairs
 abbrev IsEnd : List (ℕ × ℕ) → ℕ → Type 0
 IsEnd pairs k = (e : ℕ × ℕ) × Contains pairs e × ((k ≡ e.0) ⊎ (k ≡ e.1))
+
+-- neighbours 0 to k are other vertices than v
+abbrev pub AreOthers : List Point → ℕ → ℕ → (ℕ → ℕ) → Type 0
+AreOthers points v k nb = (i : ℕ) → i ≤ k → IsOther points v (nb i)
 
 module _ (points : List Point) (old new : List Face) (outer outer' : List (ℕ × ℕ)) (m : LocalMesh points old outer) where
   abbrev n : ℕ
@@ -49,19 +54,19 @@ module _ (points : List Point) (old new : List Face) (outer outer' : List (ℕ �
     change : FacesChange old new gone made
     outer_change : OuterChange outer outer' left come
     some : ¬ (new ≡ [])
-    all_gone : (a b : ℕ) → IsTurnOf old v a b → IsTurnOf gone v a b
-    free : (a b : ℕ) → ¬ IsTurnOf made v a b
-    turning : (i j k : ℕ) → IsTurnOf made i j k → AreTurning n p i j k
+    all_gone : AllGoAt v old gone
+    free : HasNoneAt v made
+    turning : AllTurn n p made
     corner_kept : (k i j : ℕ) → IsTurnOf gone k i j → k ≢ v → IsUsed made k ⊎ IsEnd come k
-    left_there : (e : ℕ × ℕ) → Contains left e → Contains outer e
+    left_there : AreAmong left outer
     left_all : (e : ℕ × ℕ) → Contains outer e → ¬ Contains left e → (e.0 ≢ v) × (e.1 ≢ v)
     left_once : IsOnce left
-    fresh : (e : ℕ × ℕ) → Contains come e → ¬ Contains outer e
+    fresh : ShareNone come outer
     come_once : IsOnce come
     ends : (e : ℕ × ℕ) → Contains come e → IsOther points v e.0 × IsOther points v e.1 × (e.0 ≢ e.1)
     supporting : (e : ℕ × ℕ) → Contains come e → (k : ℕ) → k < n → k ≢ v → bracket (at p e.0) (at p e.1) (at p k) ≤ℤ pos 0
     bare : (e : ℕ × ℕ) → Contains come e → (k : ℕ) → k < n → k ≢ v → ¬ WithinSegment (whole (p e.0)) (whole (p e.1)) (whole (p k))
-    same : (flow : ℕ → ℕ → ℤ) → IsAntisymmetric flow → total (around flow) made +ℤ total (along flow) come ≡ total (around flow) gone +ℤ total (along flow) left
+    same : KeepBalance gone made left come
 
   cut : (v : ℕ) (gone made : List Face) (left come : List (ℕ × ℕ)) → IsCut v gone made left come → LocalMeshWithout v points new outer'
   cut v gone made left come s = record {
@@ -78,17 +83,11 @@ module _ (points : List Point) (old new : List Face) (outer outer' : List (ℕ �
         (s.change.totals (around flow) (around_turn_free flow)) (outer_totals outer outer' left come s.outer_change m.once s.left_once s.come_once s.left_there s.fresh (along flow)) (s.same flow anti) (m.balanced flow anti);
   }
     where
-      turning : (i j k : ℕ) → IsTurnOf new i j k → AreTurning n p i j k
-      turning i j k h = elim (face_from old new gone made s.change i j k h) [
-        | inl o ↦ (let c = C.turn_corners n p old outer signs i j k o in (c.0, c.1, c.2, C.turn_left_of n p old outer signs i j k o))
-        | inr o ↦ s.turning i j k o
-      ]
+      turning : AllTurn n p new
+      turning = turn_after n p old new gone made s.change (mesh_turns n p old outer signs) s.turning
 
-      free : (a b : ℕ) → ¬ IsTurnOf new v a b
-      free a b h = elim (face_from old new gone made s.change v a b h) [
-        | inl o ↦ side_gone n p old new gone made outer signs s.change v a (b, s.all_gone a b o) (λ q. s.free a q.0 q.1) (b, h)
-        | inr o ↦ s.free a b o
-      ]
+      free : HasNoneAt v new
+      free = none_left_at n p old new gone made outer signs s.change v s.all_gone s.free
 
       apart : (f : Face) → Contains new f → (k : ℕ) → IsCorner f k → k ≢ v
       apart f h k (inl e) q = free f.b f.c (inl (subst (λ o. Contains new (face o f.b f.c)) (sym e ∙ q) h))
@@ -109,10 +108,16 @@ module _ (points : List Point) (old new : List Face) (outer outer' : List (ℕ �
     abbrev own_edges : List (ℕ × ℕ)
     own_edges = (nb 0, v) ∷ (v, nb k) ∷ []
 
+    -- no neighbour is the vertex itself
     pub not_v : (i : ℕ) → i ≤ k → nb i ≢ v
     not_v zero h = (m.ends (nb 0, v) star.arrives).2
     not_v (suc i) h = (corners_differ p v (nb i) (nb (suc i)) (C.turn_left_of n p old outer signs v (nb i) (nb (suc i)) (star.around i (omega arith)))).2
 
+    -- all are other vertices
+    pub others : AreOthers points v k nb
+    others i h = (H.neighbour_is n p old outer signs v k nb star i h, not_v i h)
+
+    -- v and two neighbours after one another are a face
     pub side_there : (i : ℕ) → i < k → HasSide old (nb i) (nb (suc i))
     side_there i h = (v, turned old v (nb i) (nb (suc i)) (star.around i h))
 
@@ -130,13 +135,14 @@ module _ (points : List Point) (old new : List Face) (outer outer' : List (ℕ �
     leaves_once : (w : ℕ) → Contains outer (v, w) → w ≡ nb k
     leaves_once w h = next_unique n p old outer signs v w (nb k) h star.leaves
 
+    -- an outer edge that is none of the vertex's own does not touch it
     pub own_all : (e : ℕ × ℕ) → Contains outer e → ¬ Contains own_edges e → (e.0 ≢ v) × (e.1 ≢ v)
     own_all e h none = (
       (λ q. none (subst (Contains own_edges) (λ i. (sym q i, sym (leaves_once e.1 (subst (λ o. Contains outer (o, e.1)) q h)) i)) (Contains-later (nb 0, v) ((v, nb k) ∷ []) (v, nb k) (Contains-head (v, nb k) [])))),
       (λ q. none (subst (Contains own_edges) (λ i. (sym (arrives_once e.0 (subst (λ o. Contains outer (e.0, o)) q h)) i, sym q i)) (Contains-head (nb 0, v) ((v, nb k) ∷ [])))),
     )
 
-    own_there : (e : ℕ × ℕ) → Contains own_edges e → Contains outer e
+    own_there : AreAmong own_edges outer
     own_there = each (Contains outer) (nb 0, v) ((v, nb k) ∷ []) star.arrives (each (Contains outer) (v, nb k) [] star.leaves (each_none (Contains outer)))
 
     own_once : IsOnce own_edges
@@ -154,6 +160,7 @@ module _ (points : List Point) (old new : List Face) (outer outer' : List (ℕ �
         short : i ≢ c → i < c
         short ne = omega arith
 
+    -- each step between neighbours is in the chain
     pub in_chain : (c : ℕ) (i : ℕ) → i < c → Contains (chain nb c) (nb i, nb (suc i))
     in_chain zero i h = absurd (omega arith)
     in_chain (suc c) i h = elim (cases_eq i c) [
@@ -164,10 +171,12 @@ module _ (points : List Point) (old new : List Face) (outer outer' : List (ℕ �
         short : i ≢ c → i < c
         short ne = omega arith
 
+    -- what holds of each face of the strip holds of all that are listed in it
     pub each_strip : (P : Face → Type 0) (c : ℕ) → ((i : ℕ) → i < c → P (face v (nb i) (nb (suc i)))) → (f : Face) → Contains (strip v nb c) f → P f
     each_strip P zero h = each_none P
     each_strip P (suc c) h = each P (face v (nb c) (nb (suc c))) (strip v nb c) (h c (omega arith)) (each_strip P c (λ i l. h i (omega arith)))
 
+    -- what holds of each step of the chain holds of all that are listed in it
     pub each_chain : (P : ℕ × ℕ → Type 0) (c : ℕ) → ((i : ℕ) → i < c → P (nb i, nb (suc i))) → (e : ℕ × ℕ) → Contains (chain nb c) e → P e
     each_chain P zero h = each_none P
     each_chain P (suc c) h = each P (nb c, nb (suc c)) (chain nb c) (h c (omega arith)) (each_chain P c (λ i l. h i (omega arith)))
@@ -204,15 +213,12 @@ module _ (points : List Point) (old new : List Face) (outer outer' : List (ℕ �
       left_all = own_all;
       left_once = own_once;
       fresh = each_chain (λ e. ¬ Contains outer e) k (λ i h c. L.outer_is_no_side n p old outer signs (nb i) (nb (suc i)) c (side_there i h));
-      come_once = chain_once k (λ i j h l. H.neighbours_differ n p old outer signs v k nb star corner i j h (omega arith));
-      ends = each_chain (λ e. IsOther points v e.0 × IsOther points v e.1 × (e.0 ≢ e.1)) k (λ i h. (other i (omega arith), other (suc i) h, H.neighbours_differ n p old outer signs v k nb star corner i (suc i) (omega arith) h));
+      come_once = chain_once k (λ i j h l. neighbours_differ points old outer m v k nb star i j h (omega arith));
+      ends = each_chain (λ e. IsOther points v e.0 × IsOther points v e.1 × (e.0 ≢ e.1)) k (λ i h. (others i (omega arith), others (suc i) h, neighbours_differ points old outer m v k nb star i (suc i) (omega arith) h));
       supporting = each_chain (λ e. (z : ℕ) → z < n → z ≢ v → bracket (at p e.0) (at p e.1) (at p z) ≤ℤ pos 0) k (λ i h. H.not_beyond n p old outer signs v k nb star corner bent i h);
       bare = each_chain (λ e. (z : ℕ) → z < n → z ≢ v → ¬ WithinSegment (whole (p e.0)) (whole (p e.1)) (whole (p z))) k (λ i h z l a. E.side_bare n p old outer signs (nb i) (nb (suc i)) z (inl (side_there i h)) l);
       same = λ flow anti. strip_sums flow anti k;
     })
-      where
-        other : (i : ℕ) → i ≤ k → IsOther points v (nb i)
-        other i h = (H.neighbour_is n p old outer signs v k nb star i h, not_v i h)
 
   -- ---- v is on a flat side of the hull, with two faces
   module _ (v : ℕ) (nb : ℕ → ℕ) (star : IsHullStar old outer v 2 nb) (flat : bracket (at p (nb 0)) (at p v) (at p (nb 2)) ≡ pos 0) where
@@ -224,9 +230,6 @@ module _ (points : List Point) (old new : List Face) (outer outer' : List (ℕ �
 
     abbrev closing : List (ℕ × ℕ)
     closing = (nb 0, nb 2) ∷ []
-
-    other_of_two : (i : ℕ) → i ≤ 2 → IsOther points v (nb i)
-    other_of_two i h = (H.neighbour_is n p old outer signs v 2 nb star i h, not_v v 2 nb star i h)
 
     seen : (i : ℕ) → i < 2 → pos 0 <ℤ bracket (at p (nb i)) (at p (nb (suc i))) (at p v)
     seen i h = subst (λ z. pos 0 <ℤ z) (bracket-turn (at p v) (at p (nb i)) (at p (nb (suc i)))) (H.step n p old outer signs v 2 nb star i h)
@@ -285,6 +288,7 @@ module _ (points : List Point) (old new : List Face) (outer outer' : List (ℕ �
         → ((ab +ℤ bc +ℤ ca) +ℤ pos 0) +ℤ (ac +ℤ pos 0) ≡ ((va +ℤ ab +ℤ bv) +ℤ ((vb +ℤ bc +ℤ cv) +ℤ pos 0)) +ℤ (av +ℤ (vc +ℤ pos 0))
     one_sums va ab bv vb bc cv av vc ca ac e f g h = omega (arith, ints)
 
+    -- two faces at a vertex within a hull edge are replaced by one, and the two outer edges by one
     pub flat_closed : FacesChange old new two_gone one_made → OuterChange outer outer' (own_edges v 2 nb star) closing → LocalMeshWithout v points new outer'
     flat_closed change outer_change = cut v two_gone one_made (own_edges v 2 nb star) closing (record {
       change = change;
@@ -292,7 +296,7 @@ module _ (points : List Point) (old new : List Face) (outer outer' : List (ℕ �
       some = λ e. no_turn (nb 0) (nb 1) (nb 2) (subst (λ l. IsTurnOf l (nb 0) (nb 1) (nb 2)) e (change.come (nb 0) (nb 1) (nb 2) at_one));
       all_gone = λ a b h. (let o = star.only a b h in subst (λ (q : ℕ × ℕ). IsTurnOf two_gone v q.0 q.1) (λ i. (o.2 i, o.3 i)) (named o.0 o.1));
       free = λ a b h. (turn_of_all one_made Free (λ i j l f. (f.1, f.2, f.0)) (each (λ f. Free f.a f.b f.c) (face (nb 0) (nb 1) (nb 2)) [] (not_v v 2 nb star 0 (omega arith), not_v v 2 nb star 1 (omega arith), not_v v 2 nb star 2 (omega arith)) (each_none (λ f. Free f.a f.b f.c))) v a b h).0 refl;
-      turning = turn_of_all one_made (AreTurning n p) (turning_turned n p) (each (λ f. AreTurning n p f.a f.b f.c) (face (nb 0) (nb 1) (nb 2)) [] ((other_of_two 0 (omega arith)).0, (other_of_two 1 (omega arith)).0, (other_of_two 2 (omega arith)).0, closed) (each_none (λ f. AreTurning n p f.a f.b f.c)));
+      turning = turn_of_all one_made (AreTurning n p) (turning_turned n p) (each (λ f. AreTurning n p f.a f.b f.c) (face (nb 0) (nb 1) (nb 2)) [] ((others v 2 nb star 0 (omega arith)).0, (others v 2 nb star 1 (omega arith)).0, (others v 2 nb star 2 (omega arith)).0, closed) (each_none (λ f. AreTurning n p f.a f.b f.c)));
       corner_kept = λ c i j h a. inl ((turn_of_all two_gone Kept (λ i j l f. (f.1, f.2, f.0))
           (each (λ f. Kept f.a f.b f.c) (face v (nb 0) (nb 1)) (face v (nb 1) (nb 2) ∷ []) (own, (λ _. first), (λ _. middle))
           (each (λ f. Kept f.a f.b f.c) (face v (nb 1) (nb 2)) [] (own, (λ _. middle), (λ _. last)) (each_none (λ f. Kept f.a f.b f.c)))) c i j h).0 a);
@@ -301,7 +305,7 @@ module _ (points : List Point) (old new : List Face) (outer outer' : List (ℕ �
       left_once = own_once v 2 nb star;
       fresh = each (λ e. ¬ Contains outer e) (nb 0, nb 2) [] (λ h. not_v v 2 nb star 2 (omega arith) (sym (next_unique n p old outer signs (nb 0) v (nb 2) star.arrives h))) (each_none (λ e. ¬ Contains outer e));
       come_once = once_cons (nb 0, nb 2) [] (λ h. Contains-none (nb 0, nb 2) h) once_none;
-      ends = each (λ e. IsOther points v e.0 × IsOther points v e.1 × (e.0 ≢ e.1)) (nb 0, nb 2) [] (other_of_two 0 (omega arith), other_of_two 2 (omega arith), λ e. H.first_once n p old outer signs v 2 nb star 1 (omega arith) (sym e)) (each_none (λ e. IsOther points v e.0 × IsOther points v e.1 × (e.0 ≢ e.1)));
+      ends = each (λ e. IsOther points v e.0 × IsOther points v e.1 × (e.0 ≢ e.1)) (nb 0, nb 2) [] (others v 2 nb star 0 (omega arith), others v 2 nb star 2 (omega arith), λ e. H.first_once n p old outer signs v 2 nb star 1 (omega arith) (sym e)) (each_none (λ e. IsOther points v e.0 × IsOther points v e.1 × (e.0 ≢ e.1)));
       supporting = each (λ e. (z : ℕ) → z < n → z ≢ v → bracket (at p e.0) (at p e.1) (at p z) ≤ℤ pos 0) (nb 0, nb 2) [] (λ z h a. behind z h) (each_none (λ e. (z : ℕ) → z < n → z ≢ v → bracket (at p e.0) (at p e.1) (at p z) ≤ℤ pos 0));
       bare = each (λ e. (z : ℕ) → z < n → z ≢ v → ¬ WithinSegment (whole (p e.0)) (whole (p e.1)) (whole (p z))) (nb 0, nb 2) [] bare_but_v (each_none (λ e. (z : ℕ) → z < n → z ≢ v → ¬ WithinSegment (whole (p e.0)) (whole (p e.1)) (whole (p z))));
       same = λ flow anti. one_sums (flow v (nb 0)) (flow (nb 0) (nb 1)) (flow (nb 1) v) (flow v (nb 1)) (flow (nb 1) (nb 2)) (flow (nb 2) v) (flow (nb 0) v) (flow v (nb 2)) (flow (nb 2) (nb 0)) (flow (nb 0) (nb 2)) (anti (nb 0) v) (anti (nb 1) v) (anti (nb 2) v) (anti (nb 2) (nb 0));

@@ -25,6 +25,7 @@ use Rattle.plane_edits.proofs.LocalMesh.Changes.{face_kept, each, each_none, tur
 use Rattle.plane_edits.proofs.Removal.Opposite as O
 use Rattle.plane_edits.proofs.Removal.HullStar as H
 use Rattle.plane_edits.proofs.Removal.HullCut as T
+use Rattle.plane_edits.proofs.Removal.StarFlips.{DifferUpTo, neighbours_differ}
 use Rattle.plane.proofs.Signs.{sum_without_first}
 
 module _ (points : List Point) (old new : List Face) (outer outer' : List (ℕ × ℕ)) (m : LocalMesh points old outer) (v k : ℕ) (nb : ℕ → ℕ) (star : IsHullStar old outer v k nb)
@@ -46,11 +47,11 @@ module _ (points : List Point) (old new : List Face) (outer outer' : List (ℕ �
   not_v : (i : ℕ) → i ≤ k → nb i ≢ v
   not_v = T.not_v points old new outer outer' m v k nb star
 
-  other : (i : ℕ) → i ≤ k → IsOther points v (nb i)
-  other i h = (H.neighbour_is n p old outer signs v k nb star i h, not_v i h)
+  other : T.AreOthers points v k nb
+  other = T.others points old new outer outer' m v k nb star
 
-  differ : (i j : ℕ) → i < j → j ≤ k → nb i ≢ nb j
-  differ = H.neighbours_differ n p old outer signs v k nb star corner
+  differ : DifferUpTo k nb
+  differ = neighbours_differ points old outer m v k nb star
 
   same_at : (a b : ℕ) → a ≤ k → b ≤ k → nb a ≡ nb b → a ≡ b
   same_at a b ha hb e = elim (cases_eq a b) [ inl q ↦ q | inr ne ↦ elim (cases_lt a b) [ inl l ↦ absurd (differ a b l hb e) | inr l ↦ absurd (differ b a (strict ne l) ha (sym e)) ] ]
@@ -166,6 +167,7 @@ module _ (points : List Point) (old new : List Face) (outer outer' : List (ℕ �
           down : j < i → Contains outer' (a, b)
           down l = subst (λ (q : ℕ × ℕ). Contains outer' q) (λ t. ((ap nb (joined j i l hi (λ z o w. none z o (within_turned (p (nb j)) (p (nb i)) (p z) w))) ∙ sym ea) t, sym eb t)) (back_kept j (omega arith))
 
+  -- without the vertex the others form a line
   pub line_left : LineMeshWithout v points outer'
   line_left = record {
     distinct = λ i j h l. m.distinct i j h.0 l.0;

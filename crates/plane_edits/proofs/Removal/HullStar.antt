@@ -22,6 +22,7 @@ use Rattle.plane_edits.proofs.Removal.Star.{IsInAngle, same_angle}
 use Rattle.plane_edits.proofs.Removal.Opposite as O
 use Rattle.plane_edits.proofs.Removal.Inner as I
 use Rattle.plane.proofs.Signs.{difference_of_zeros, zero_below_positive}
+use Rattle.plane.proofs.Indexes.{one_more_than_last}
 
 abbrev before : ℕ → ℕ
 before zero = zero
@@ -124,12 +125,14 @@ module _ (n : ℕ) (p : ℕ → Point) (faces : List Face) (outer : List (ℕ ×
   abbrev pub turn : ℕ → ℕ → ℤ
   turn i j = bracket (at p v) (at p (nb i)) (at p (nb j))
 
+  -- seen from v, each neighbour and the next turn left
   pub step : (i : ℕ) → i < k → pos 0 <ℤ turn i (suc i)
   step i h = C.turn_left_of n p faces outer m v (nb i) (nb (suc i)) (star.around i h)
 
-  pub four : (a b c d : ℕ) → turn a b *ℤ turn c d -ℤ turn a c *ℤ turn b d +ℤ turn a d *ℤ turn b c ≡ pos 0
+  four : O.AgreeInFours turn
   four a b c d = O.turns_of_four n p faces outer m v (nb a) (nb b) (nb c) (nb d)
 
+  -- each neighbour is a vertex
   pub neighbour_is : (i : ℕ) → i ≤ k → nb i < n
   neighbour_is zero h = (m.ends (nb 0, v) star.arrives).0
   neighbour_is (suc i) h = (C.turn_corners n p faces outer m v (nb i) (nb (suc i)) (star.around i (omega arith))).2
@@ -138,6 +141,7 @@ module _ (n : ℕ) (p : ℕ → Point) (faces : List Face) (outer : List (ℕ ×
   pub from_first : (z : ℕ) → z < n → pos 0 ≤ℤ bracket (at p v) (at p (nb 0)) (at p z)
   from_first z h = negated_below (bracket-swap (at p v) (at p (nb 0)) (at p z)) (m.supporting (nb 0, v) star.arrives z h)
 
+  -- no vertex is on the left of the way from v to the last neighbour
   pub to_last : (z : ℕ) → z < n → pos 0 ≤ℤ bracket (at p v) (at p z) (at p (nb k))
   to_last z h = negated_below (O.turn_back n p faces outer m v z (nb k)) (m.supporting (v, nb k) star.leaves z h)
 
@@ -159,6 +163,7 @@ module _ (n : ℕ) (p : ℕ → Point) (faces : List Face) (outer : List (ℕ ×
       above : (i : ℕ) → i < k → 0 < k
       above i h = omega arith
 
+  -- a star whose first and last neighbour are on one line with v has two faces at least
   pub two_faces : turn 0 k ≡ pos 0 → 2 ≤ k
   two_faces flat = elim (cases_eq k 1) [ inl e ↦ absurd (left_not_zero (step 0 some_face) (subst (λ o. turn 0 o ≡ pos 0) e flat)) | inr ne ↦ more some_face ne ]
     where
@@ -192,12 +197,14 @@ module _ (n : ℕ) (p : ℕ → Point) (faces : List Face) (outer : List (ℕ ×
 
   -- at a corner: the last is left of the first too
   module _ (strict : pos 0 <ℤ turn 0 k) where
+    -- seen from v, all other neighbours are on the left of the first
     pub after_first : (j : ℕ) → j < k → pos 0 <ℤ turn 0 (suc j)
     after_first j h = elim (last_or j h) [ inl e ↦ subst (λ o. pos 0 <ℤ turn 0 o) (sym e) strict | inr l ↦ past_first j l ]
       where
         last_or : (j : ℕ) → j < k → (suc j ≡ k) ⊎ (suc j < k)
         last_or j h = grind arith
 
+    -- seen from v, neighbours two apart turn left
     pub skip : (i : ℕ) → suc i < k → pos 0 <ℤ turn i (suc (suc i))
     skip zero h = after_first 1 h
     skip (suc i) h = skip_later i h
@@ -222,9 +229,6 @@ module _ (n : ℕ) (p : ℕ → Point) (faces : List Face) (outer : List (ℕ ×
         short : suc i ≢ j → suc i < j
         short ne = omega arith
 
-    pub neighbours_differ : (i j : ℕ) → i < j → j ≤ k → nb i ≢ nb j
-    neighbours_differ i j h l e = left_not_zero (later_left i j h l) (ap (λ o. bracket (at p v) (at p (nb i)) (at p o)) (sym e) ∙ O.turn_own n p faces outer m v (nb i))
-
     -- where no neighbours turn left, the ways between them support all vertices but v
     module _ (bent : (j : ℕ) → suc j < k → bracket (at p (nb j)) (at p (nb (suc j))) (at p (nb (suc (suc j)))) ≤ℤ pos 0) (i : ℕ) (inside : i < k) where
       abbrev beyond : ℕ → ℤ
@@ -245,12 +249,10 @@ module _ (n : ℕ) (p : ℕ → Point) (faces : List Face) (outer : List (ℕ ×
       chain_not_left : (j : ℕ) → j ≤ k → beyond (nb j) ≤ℤ pos 0
       chain_not_left = chain_below k i (turn 0) (λ j. beyond (nb j)) (λ j. turn j (suc j)) inside left_of_first (λ j h. from_first (nb j) (neighbour_is j h)) step falls (bracket-outer (at p (nb i)) (at p (nb (suc i)))) (bracket-last (at p (nb i)) (at p (nb (suc i))))
 
+      -- no other vertex is beyond the line
       pub not_beyond : (z : ℕ) → z < n → z ≢ v → beyond z ≤ℤ pos 0
-      not_beyond z h other = go (crossing (λ j. bracket (at p v) (at p (nb j)) (at p z)) (from_first z h) (k - 1) (subst (λ o. bracket (at p v) (at p (nb o)) (at p z) ≤ℤ pos 0) (last_is k i inside) (m.supporting (v, nb k) star.leaves z h)))
+      not_beyond z h other = go (crossing (λ j. bracket (at p v) (at p (nb j)) (at p z)) (from_first z h) (k - 1) (subst (λ o. bracket (at p v) (at p (nb o)) (at p z) ≤ℤ pos 0) (one_more_than_last i k inside) (m.supporting (v, nb k) star.leaves z h)))
         where
-          last_is : (k i : ℕ) → i < k → k ≡ suc (k - 1)
-          last_is k i h = omega arith
-
           fits : (j : ℕ) → j ≤ k - 1 → i < k → j < k
           fits j h l = omega arith
 
@@ -281,6 +283,7 @@ module _ (n : ℕ) (p : ℕ → Point) (faces : List Face) (outer : List (ℕ ×
     abbrev height : ℕ → ℤ
     height i = bracket (at p (nb k)) (at p v) (at p (nb (before i)))
 
+    -- at a vertex within a hull edge some edge of the star can be turned away
     pub flat_flips : (i : ℕ) × (suc i < k) × (pos 0 <ℤ bracket (at p (nb i)) (at p (nb (suc i))) (at p (nb (suc (suc i))))) × (pos 0 <ℤ turn i (suc (suc i)))
     flat_flips = go (I.descend height first (suc t) last ended)
       where

@@ -19,6 +19,7 @@ use Rattle.plane_edits.proofs.Removal.Opposite as O
 use Rattle.plane.proofs.Signs.{zero_below_positive}
 
 -- ---- a search among some numbers in a row
+-- of the numbers from low on, count many, one has P, or all have Q
 pub search : (P Q : ℕ → Type 0) → ((i : ℕ) → P i ⊎ Q i) → (low count : ℕ) → ((i : ℕ) × (low ≤ i) × (i < low + count) × P i) ⊎ ((i : ℕ) → low ≤ i → i < low + count → Q i)
 search P Q d low zero = inr (λ i h k. absurd (omega arith))
 search P Q d low (suc count) = go (search P Q d low count) (d (low + count))
@@ -220,6 +221,7 @@ module _ (n : ℕ) (p : ℕ → Point) (faces : List Face) (outer : List (ℕ ×
   unfolding from_step
   four_there nb k s i f = record { four = f.four; between = subst (λ o. WithinSegment (whole (p (nb (i + s)))) (whole (p o)) (whole (p v))) (two_on nb s i) f.between }
 
+  -- an edge of the star can be turned away, or four faces are left beside a line
   abbrev pub Answer : (ℕ → ℕ) → ℕ → Type 0
   Answer nb k = ((i : ℕ) × CanFlip nb i) ⊎ ((i : ℕ) × IsFour nb k i)
 

@@ -39,6 +39,7 @@ without_in_words v points faces outer m = record {
     apart f h k (inr (inl e)) q = m.free f.c f.a (inr (inr (subst (λ o. Contains faces (face f.a o f.c)) (sym e ∙ q) h)))
     apart f h k (inr (inr e)) q = m.free f.a f.b (inr (inl (subst (λ o. Contains faces (face f.a f.b o)) (sym e ∙ q) h)))
 
+-- an inner vertex with four neighbours or more has an edge to flip, or four and is between two of them
 pub inner_star_flips : InnerStarFlips
 inner_star_flips points faces outer v k nb m star four = go (I.flip_or_four (length points) (point_at points) faces outer (by_signs points faces outer m) v nb (k - 3) (omega arith) (subst (λ z. I.IsCycle (length points) (point_at points) faces outer (by_signs points faces outer m) v nb z) (longer k four) (record { round = star.around; again = star.again; apart = star.apart })))
   where
@@ -51,8 +52,10 @@ inner_star_flips points faces outer v k nb m star four = go (I.flip_or_four (len
     go (inl (i, c)) = inl (i, left_if (place points (nb i)) (place points (nb (suc i))) (place points (nb (suc (suc i)))) c.0, left_if (place points v) (place points (nb i)) (place points (nb (suc (suc i)))) c.1)
     go (inr (i, f)) = inr (longer k four ∙ f.four, (i, f.between))
 
+-- the three faces at an inner vertex become the one of its neighbours
 pub three_faces_merge : ThreeFacesMerge
 three_faces_merge points faces new outer outer' v nb m star change outer_change = without_in_words v points new outer' (M.three_filled (length points) (point_at points) faces new outer outer' (by_signs points faces outer m) outer_change v nb star change)
 
+-- the four faces at a vertex strictly between two opposite neighbours become two
 pub four_faces_merge : FourFacesMerge
 four_faces_merge points faces new outer outer' v nb m star between change outer_change = without_in_words v points new outer' (M.four_filled (length points) (point_at points) faces new outer outer' (by_signs points faces outer m) outer_change v nb star between change)

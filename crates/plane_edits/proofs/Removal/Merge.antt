@@ -11,25 +11,26 @@ use Rattle.plane.proofs.Bracket.{bracket}
 use Rattle.plane.proofs.BracketIdentities.{bracket-turn, bracket-swap, bracket-sum}
 use Rattle.plane_tiling.proofs.Totals.{Contains-head, Contains-later, Contains-none}
 use Rattle.plane_tiling.proofs.Flows.{IsTurnOf, HasSide, turned}
-use Rattle.plane_tiling.proofs.Counting.{at, SignMesh, corners_differ}
+use Rattle.plane_tiling.proofs.Counting.{at, SignMesh, ArePairsBelow, corners_differ}
+use Rattle.plane.proofs.Generic.{AreDistinct}
 use Rattle.plane_tiling.proofs.Covering as C
 use Rattle.plane_tiling.proofs.Edges as E
 use Rattle.plane_tiling.proofs.Loops as L
 use Rattle.plane_edits.specs.Change.{FacesChange, OuterChange}
 use Rattle.plane_edits.specs.Removal.{IsStar}
-use Rattle.plane_edits.proofs.LocalMesh.Changes.{face_from, face_kept, each, each_none, turn_of_all, once_none}
-use Rattle.plane_edits.proofs.LocalMesh.Additions.{IsUsed, AreTurning, turning_turned, around_turn_free, outer_totals}
-use Rattle.plane_edits.proofs.Legalization.Flipping.{side_gone}
+use Rattle.plane_edits.proofs.LocalMesh.Changes.{face_kept, each, each_none, turn_of_all, once_none}
+use Rattle.plane_edits.proofs.LocalMesh.Additions.{IsUsed, AreTurning, AllTurn, AllGoAt, HasNoneAt, mesh_turns, turn_after, was_there, turning_turned, around_turn_free, outer_totals}
+use Rattle.plane_edits.proofs.Legalization.Flipping.{none_left_at}
 use Rattle.plane.proofs.Signs.{balance_stays, sum_with_zero_is_positive}
 
 -- the mesh of all vertices but v, by signs
 pub record SignMeshWithout (v n : ℕ) (p : ℕ → Point) (faces : List Face) (outer : List (ℕ × ℕ)) : Type 0 where
-  pub distinct : (i j : ℕ) → i < n → j < n → i ≢ j → ¬ (p i ≡ p j)
+  pub distinct : AreDistinct n p
   pub some_face : (i j k : ℕ) × IsTurnOf faces i j k
   pub used : (k : ℕ) → k < n → k ≢ v → IsUsed faces k
-  pub turning : (i j k : ℕ) → IsTurnOf faces i j k → AreTurning n p i j k
-  pub free : (i j : ℕ) → ¬ IsTurnOf faces v i j
-  pub ends : (e : ℕ × ℕ) → Contains outer e → (e.0 < n) × (e.1 < n) × (e.0 ≢ e.1)
+  pub turning : AllTurn n p faces
+  pub free : HasNoneAt v faces
+  pub ends : ArePairsBelow n outer
   pub ends_free : (e : ℕ × ℕ) → Contains outer e → (e.0 ≢ v) × (e.1 ≢ v)
   pub supporting : (e : ℕ × ℕ) → Contains outer e → (k : ℕ) → k < n → k ≢ v → bracket (at p e.0) (at p e.1) (at p k) ≤ℤ pos 0
   pub bare : (e : ℕ × ℕ) → Contains outer e → (k : ℕ) → k < n → k ≢ v → ¬ WithinSegment (whole (p e.0)) (whole (p e.1)) (whole (p k))
@@ -37,37 +38,29 @@ pub record SignMeshWithout (v n : ℕ) (p : ℕ → Point) (faces : List Face) (
   pub balanced : AreBalanced faces outer
 
 module _ (n : ℕ) (p : ℕ → Point) (old new : List Face) (outer outer' : List (ℕ × ℕ)) (m : SignMesh n p old outer) (outer_change : OuterChange outer outer' [] []) where
-  outer_from : (e : ℕ × ℕ) → Contains outer' e → Contains outer e
-  outer_from e h = elim (outer_change.only e.0 e.1 h) [ inl o ↦ o.0 | inr o ↦ absurd (Contains-none e o) ]
-
   -- the faces at v, and only they, give way to others that have their other corners and the same border
   pub record IsHoleFilled (v : ℕ) (gone made : List Face) : Type 0 where
     pub change : FacesChange old new gone made
-    pub all_gone : (a b : ℕ) → IsTurnOf old v a b → IsTurnOf gone v a b
-    pub free : (a b : ℕ) → ¬ IsTurnOf made v a b
+    pub all_gone : AllGoAt v old gone
+    pub free : HasNoneAt v made
     pub some : (i j k : ℕ) × IsTurnOf made i j k
-    pub turning : (i j k : ℕ) → IsTurnOf made i j k → AreTurning n p i j k
+    pub turning : AllTurn n p made
     pub corner_kept : (k i j : ℕ) → IsTurnOf gone k i j → k ≢ v → IsUsed made k
     pub inner : (e : ℕ × ℕ) → Contains outer e → (e.0 ≢ v) × (e.1 ≢ v)
     pub same : (flow : ℕ → ℕ → ℤ) → IsAntisymmetric flow → total (around flow) gone ≡ total (around flow) made
 
+  -- faces that fill the vertex's hole make a mesh without it
   pub hole_filled : (v : ℕ) (gone made : List Face) → IsHoleFilled v gone made → SignMeshWithout v n p new outer'
   hole_filled v gone made s = record {
     distinct = m.distinct;
     some_face = (s.some.0, s.some.1, s.some.2, s.change.come s.some.0 s.some.1 s.some.2 s.some.3);
     used = λ k h a. used k h a;
-    turning = λ i j k h. elim (face_from old new gone made s.change i j k h) [
-      | inl o ↦ (let c = C.turn_corners n p old outer m i j k o in (c.0, c.1, c.2, C.turn_left_of n p old outer m i j k o))
-      | inr o ↦ s.turning i j k o
-    ];
-    free = λ a b h. elim (face_from old new gone made s.change v a b h) [
-      | inl o ↦ side_gone n p old new gone made outer m s.change v a (b, s.all_gone a b o) (λ q. s.free a q.0 q.1) (b, h)
-      | inr o ↦ s.free a b o
-    ];
-    ends = λ e h. m.ends e (outer_from e h);
-    ends_free = λ e h. s.inner e (outer_from e h);
-    supporting = λ e h k l a. m.supporting e (outer_from e h) k l;
-    bare = λ e h k l a. m.bare e (outer_from e h) k l;
+    turning = turn_after n p old new gone made s.change (mesh_turns n p old outer m) s.turning;
+    free = none_left_at n p old new gone made outer m s.change v s.all_gone s.free;
+    ends = λ e h. m.ends e (was_there outer outer' outer_change e h);
+    ends_free = λ e h. s.inner e (was_there outer outer' outer_change e h);
+    supporting = λ e h k l a. m.supporting e (was_there outer outer' outer_change e h) k l;
+    bare = λ e h k l a. m.bare e (was_there outer outer' outer_change e h) k l;
     once = outer_change.once;
     balanced = λ flow anti. balance_stays (total (around flow) new) (total (around flow) gone) (total (around flow) old) (total (around flow) made) (total (along flow) outer) (total (along flow) outer')
         (s.change.totals (around flow) (around_turn_free flow)) (outer_totals outer outer' [] [] outer_change m.once once_none once_none (λ e h. absurd (Contains-none e h)) (λ e h. absurd (Contains-none e h)) (along flow)) (m.balanced flow anti) (s.same flow anti);
@@ -163,6 +156,7 @@ module _ (n : ℕ) (p : ℕ → Point) (old new : List Face) (outer outer' : Lis
     three_sums : (va ab bv vb bc cv vc ca av : ℤ) → bv ≡ neg_ℤ vb → cv ≡ neg_ℤ vc → av ≡ neg_ℤ va → (va +ℤ ab +ℤ bv) +ℤ ((vb +ℤ bc +ℤ cv) +ℤ ((vc +ℤ ca +ℤ av) +ℤ pos 0)) ≡ (ab +ℤ bc +ℤ ca) +ℤ pos 0
     three_sums va ab bv vb bc cv vc ca av e f g = omega (arith, ints)
 
+    -- three faces at the vertex are replaced by one
     pub three_filled : FacesChange old new three_gone one_made → SignMeshWithout v n p new outer'
     three_filled change = hole_filled v three_gone one_made (record {
       change = change;
@@ -243,6 +237,7 @@ module _ (n : ℕ) (p : ℕ → Point) (old new : List Face) (outer outer' : Lis
         → (va +ℤ ab +ℤ bv) +ℤ ((vb +ℤ bc +ℤ cv) +ℤ ((vc +ℤ cd +ℤ dv) +ℤ ((vd +ℤ da +ℤ av) +ℤ pos 0))) ≡ (ab +ℤ bc +ℤ ca) +ℤ ((ac +ℤ cd +ℤ da) +ℤ pos 0)
     four_sums va ab bv vb bc cv vc cd dv vd da av ca ac e f g h i = omega (arith, ints)
 
+    -- four faces at the vertex are replaced by two
     pub four_filled : FacesChange old new four_gone two_made → SignMeshWithout v n p new outer'
     four_filled change = hole_filled v four_gone two_made (record {
       change = change;

@@ -38,31 +38,23 @@ module _ (n : ℕ) (p : ℕ → Point) (outer : List (ℕ × ℕ)) (m : SignLine
   spot : ℕ → ℤ
   spot = O.spot n p outer m (whole (p v)) v i own.first own.second own.apart (bracket-outer (at p v) (at p i))
 
-  order : (a b k : ℕ) → WithinSegment (whole (p a)) (whole (p b)) (whole (p k)) → ((spot a <ℤ spot k) × (spot k <ℤ spot b)) ⊎ (((spot b <ℤ spot k) × (spot k <ℤ spot a)) ⊎ ((spot a ≡ spot k) × (spot k ≡ spot b)))
+  places : O.ArePlaces n p spot
   unfolding spot
-  order = O.order_k n p outer m (whole (p v)) v i own.first own.second own.apart (bracket-outer (at p v) (at p i))
-
-  within : (a b k : ℕ) → a < n → b < n → k < n → spot a <ℤ spot k → spot k <ℤ spot b → WithinSegment (whole (p a)) (whole (p b)) (whole (p k))
-  unfolding spot
-  within = O.within_k n p outer m (whole (p v)) v i own.first own.second own.apart (bracket-outer (at p v) (at p i))
-
-  same : (a b : ℕ) → a < n → b < n → spot a ≡ spot b → a ≡ b
-  unfolding spot
-  same = O.same_spot n p outer m (whole (p v)) v i own.first own.second own.apart (bracket-outer (at p v) (at p i))
+  places = O.places n p outer m (whole (p v)) v i own.first own.second own.apart (bracket-outer (at p v) (at p i))
 
   -- neighbours of v on one side of it are one
   both_below : (a b : ℕ) → IsNext n p v a → IsNext n p v b → spot a <ℤ spot v → spot b <ℤ spot v → a ≡ b
-  both_below a b f g x y = same a b f.second g.second (same_if_neither_less (spot a) (spot b)
-      (λ l. f.none_between b g.second (within_turned (p a) (p v) (p b) (within a v b f.second f.first g.second l y)))
-      (λ l. g.none_between a f.second (within_turned (p b) (p v) (p a) (within b v a g.second g.first f.second l x))))
+  both_below a b f g x y = places.same a b f.second g.second (same_if_neither_less (spot a) (spot b)
+      (λ l. f.none_between b g.second (within_turned (p a) (p v) (p b) (places.within a v b f.second f.first g.second l y)))
+      (λ l. g.none_between a f.second (within_turned (p b) (p v) (p a) (places.within b v a g.second g.first f.second l x))))
 
   both_above : (a b : ℕ) → IsNext n p v a → IsNext n p v b → spot v <ℤ spot a → spot v <ℤ spot b → a ≡ b
-  both_above a b f g x y = same a b f.second g.second (same_if_neither_less (spot a) (spot b)
-      (λ l. g.none_between a f.second (within v b a g.first g.second f.second x l))
-      (λ l. f.none_between b g.second (within v a b f.first f.second g.second y l)))
+  both_above a b f g x y = places.same a b f.second g.second (same_if_neither_less (spot a) (spot b)
+      (λ l. g.none_between a f.second (places.within v b a g.first g.second f.second x l))
+      (λ l. f.none_between b g.second (places.within v a b f.first f.second g.second y l)))
 
   side_of : (a : ℕ) → IsNext n p v a → (spot a <ℤ spot v) ⊎ (spot v <ℤ spot a)
-  side_of a f = elim (lt_or_ge_ℤ (spot a) (spot v)) [ inl l ↦ inl l | inr l ↦ elim (lt_or_ge_ℤ (spot v) (spot a)) [ inl k ↦ inr k | inr k ↦ absurd (f.apart (same v a f.first f.second (at_most_both_ways (spot v) (spot a) l k))) ] ]
+  side_of a f = elim (lt_or_ge_ℤ (spot a) (spot v)) [ inl l ↦ inl l | inr l ↦ elim (lt_or_ge_ℤ (spot v) (spot a)) [ inl k ↦ inr k | inr k ↦ absurd (f.apart (places.same v a f.first f.second (at_most_both_ways (spot v) (spot a) l k))) ] ]
 
   -- what is next to one another but for v, with v not between, was so before
   was_next : (a b : ℕ) → IsNextBut v n p a b → ¬ WithinSegment (whole (p a)) (whole (p b)) (whole (p v)) → IsNext n p a b
@@ -83,41 +75,41 @@ module _ (n : ℕ) (p : ℕ → Point) (outer : List (ℕ × ℕ)) (m : SignLine
         apart = λ e. less_twice_is_not_same (spot low) (spot v) (spot high) below above (ap spot e);
         first = (low_next.second, λ e. low_next.apart (sym e));
         second = (high_next.second, λ e. high_next.apart (sym e));
-        none_between = λ k h q w. none k h q (order low high k w);
+        none_between = λ k h q w. none k h q (places.order low high k w);
       }
         where
           chain : (a b c k : ℤ) → a <ℤ b → b <ℤ c → c <ℤ k → k <ℤ a → ⊥
           chain a b c k x y z w = omega (arith, ints)
 
           none : (k : ℕ) → k < n → k ≢ v → ((spot low <ℤ spot k) × (spot k <ℤ spot high)) ⊎ (((spot high <ℤ spot k) × (spot k <ℤ spot low)) ⊎ ((spot low ≡ spot k) × (spot k ≡ spot high))) → ⊥
-          none k h q (inl o) = q (same k v h low_next.first (same_if_neither_less (spot k) (spot v)
-              (λ l. low_next.none_between k h (within_turned (p low) (p v) (p k) (within low v k low_next.second low_next.first h o.0 l)))
-              (λ l. high_next.none_between k h (within v high k high_next.first high_next.second h l o.1))))
+          none k h q (inl o) = q (places.same k v h low_next.first (same_if_neither_less (spot k) (spot v)
+              (λ l. low_next.none_between k h (within_turned (p low) (p v) (p k) (places.within low v k low_next.second low_next.first h o.0 l)))
+              (λ l. high_next.none_between k h (places.within v high k high_next.first high_next.second h l o.1))))
           none k h q (inr (inl o)) = chain (spot low) (spot v) (spot high) (spot k) below above o.0 o.1
           none k h q (inr (inr o)) = less_twice_is_not_same (spot low) (spot v) (spot high) below above (o.0 ∙ o.1)
 
       -- with v between a and b, they are these two
       ends_are : (a b : ℕ) → IsNextBut v n p a b → spot a <ℤ spot v → spot v <ℤ spot b → (a ≡ low) × (b ≡ high)
       ends_are a b s x y = (
-        same a low s.first.0 low_next.second (same_if_neither_less (spot a) (spot low)
-            (λ l. s.none_between low low_next.second (λ e. low_next.apart (sym e)) (within a b low s.first.0 s.second.0 low_next.second l (less_through (spot low) (spot v) (spot b) below y)))
-            (λ l. low_next.none_between a s.first.0 (within_turned (p low) (p v) (p a) (within low v a low_next.second low_next.first s.first.0 l x)))),
-        same b high s.second.0 high_next.second (same_if_neither_less (spot b) (spot high)
-            (λ l. high_next.none_between b s.second.0 (within v high b high_next.first high_next.second s.second.0 y l))
-            (λ l. s.none_between high high_next.second (λ e. high_next.apart (sym e)) (within a b high s.first.0 s.second.0 high_next.second (less_through (spot a) (spot v) (spot high) x above) l))),
+        places.same a low s.first.0 low_next.second (same_if_neither_less (spot a) (spot low)
+            (λ l. s.none_between low low_next.second (λ e. low_next.apart (sym e)) (places.within a b low s.first.0 s.second.0 low_next.second l (less_through (spot low) (spot v) (spot b) below y)))
+            (λ l. low_next.none_between a s.first.0 (within_turned (p low) (p v) (p a) (places.within low v a low_next.second low_next.first s.first.0 l x)))),
+        places.same b high s.second.0 high_next.second (same_if_neither_less (spot b) (spot high)
+            (λ l. high_next.none_between b s.second.0 (places.within v high b high_next.first high_next.second s.second.0 y l))
+            (λ l. s.none_between high high_next.second (λ e. high_next.apart (sym e)) (places.within a b high s.first.0 s.second.0 high_next.second (less_through (spot a) (spot v) (spot high) x above) l))),
       )
 
       found : (a b : ℕ) → IsNextBut v n p a b → Contains outer (a, b) ⊎ (((a ≡ low) × (b ≡ high)) ⊎ ((a ≡ high) × (b ≡ low)))
       found a b s = elim (lt_or_ge_ℤ (spot a) (spot v)) [
-        | inl x ↦ elim (lt_or_ge_ℤ (spot v) (spot b)) [ inl y ↦ inr (inl (ends_are a b s x y)) | inr y ↦ inl (beside (λ w. not_low (spot a) (spot b) (spot v) x y (order a b v w))) ]
-        | inr x ↦ elim (lt_or_ge_ℤ (spot b) (spot v)) [ inl y ↦ turned_ends (strict x) y | inr y ↦ inl (beside (λ w. not_high (spot a) (spot b) (spot v) x y (λ e. s.first.1 (same a v s.first.0 low_next.first e)) (order a b v w))) ]
+        | inl x ↦ elim (lt_or_ge_ℤ (spot v) (spot b)) [ inl y ↦ inr (inl (ends_are a b s x y)) | inr y ↦ inl (beside (λ w. not_low (spot a) (spot b) (spot v) x y (places.order a b v w))) ]
+        | inr x ↦ elim (lt_or_ge_ℤ (spot b) (spot v)) [ inl y ↦ turned_ends (strict x) y | inr y ↦ inl (beside (λ w. not_high (spot a) (spot b) (spot v) x y (λ e. s.first.1 (places.same a v s.first.0 low_next.first e)) (places.order a b v w))) ]
       ]
         where
           beside : ¬ WithinSegment (whole (p a)) (whole (p b)) (whole (p v)) → Contains outer (a, b)
           beside away = (m.neighbours a b).1 (was_next a b s away)
 
           strict : spot v ≤ℤ spot a → spot v <ℤ spot a
-          strict h = elim (lt_or_ge_ℤ (spot v) (spot a)) [ inl l ↦ l | inr l ↦ absurd (s.first.1 (same a v s.first.0 low_next.first (at_most_both_ways (spot a) (spot v) l h))) ]
+          strict h = elim (lt_or_ge_ℤ (spot v) (spot a)) [ inl l ↦ l | inr l ↦ absurd (s.first.1 (places.same a v s.first.0 low_next.first (at_most_both_ways (spot a) (spot v) l h))) ]
 
           turned_ends : spot v <ℤ spot a → spot b <ℤ spot v → Contains outer (a, b) ⊎ (((a ≡ low) × (b ≡ high)) ⊎ ((a ≡ high) × (b ≡ low)))
           turned_ends x y = let e = ends_are b a (record { apart = λ e. s.apart (sym e); first = s.second; second = s.first; none_between = λ k h q w. s.none_between k h q (within_turned (p b) (p a) (p k) w) }) y x in inr (inr (e.1, e.0))
@@ -269,12 +261,12 @@ module _ (n : ℕ) (p : ℕ → Point) (outer : List (ℕ × ℕ)) (m : SignLine
 
     -- so v is not strictly between two others
     at_end : (a b : ℕ) → a < n → b < n → a ≢ v → ¬ WithinSegment (whole (p a)) (whole (p b)) (whole (p v))
-    at_end a b ha hb na w = go (order a b v w)
+    at_end a b ha hb na w = go (places.order a b v w)
       where
         go : ((spot a <ℤ spot v) × (spot v <ℤ spot b)) ⊎ (((spot b <ℤ spot v) × (spot v <ℤ spot a)) ⊎ ((spot a ≡ spot v) × (spot v ≡ spot b))) → ⊥
         go (inl o) = less_both_ways (spot i) (spot v) (i_below a ha o.0) (i_above b hb o.1)
         go (inr (inl o)) = less_both_ways (spot i) (spot v) (i_below b hb o.0) (i_above a ha o.1)
-        go (inr (inr o)) = na (same a v ha own.first o.0)
+        go (inr (inr o)) = na (places.same a v ha own.first o.0)
 
     abbrev two_gone : List (ℕ × ℕ)
     two_gone = (v, i) ∷ (i, v) ∷ []
@@ -312,8 +304,10 @@ line_left points outer now v m neighbours once = record {
     back : (i j : ℕ) → AreNeighboursBut v points i j → IsNextBut v (length points) (point_at points) i j
     back i j s = record { apart = s.apart; first = s.first; second = s.second; none_between = λ k h q. s.none_between k (h, q) }
 
+-- a vertex with one neighbour goes from a line, and the others are a line
 pub end_of_line_goes : EndOfLineGoes
 end_of_line_goes points outer now v i m edge alone change = line_left points outer now v m (end_left (length points) (point_at points) outer (line_by_signs points outer m) v i edge alone now change) change.once
 
+-- a vertex goes from between its two neighbours, which are joined
 pub middle_of_line_goes : MiddleOfLineGoes
 middle_of_line_goes points outer now v i j m edge other apart change = line_left points outer now v m (middle_left (length points) (point_at points) outer (line_by_signs points outer m) v i edge j other apart now change) change.once

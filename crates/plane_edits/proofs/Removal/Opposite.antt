@@ -18,19 +18,25 @@ use Rattle.plane_tiling.proofs.Covering as C
 use Rattle.plane_edits.proofs.Removal.Star.{IsInAngle, same_angle}
 use Rattle.plane.proofs.Signs.{neither_sign_is_zero, opposite_of_not_positive, positive_plus_not_negative}
 
+-- the six turns between four ways have Pluecker's relation
+abbrev pub AgreeInFours : (ℕ → ℕ → ℤ) → Type 0
+AgreeInFours turn = (a b c d : ℕ) → turn a b *ℤ turn c d -ℤ turn a c *ℤ turn b d +ℤ turn a d *ℤ turn b c ≡ pos 0
+
 module _ (n : ℕ) (p : ℕ → Point) (faces : List Face) (outer : List (ℕ × ℕ)) (m : SignMesh n p faces outer) (v : ℕ) where
   -- the turn from the way to i to the way to j
   abbrev turn : ℕ → ℕ → ℤ
   turn i j = bracket (at p v) (at p i) (at p j)
 
+  -- the other way round, the turn has the other sign
   pub turn_back : (i j : ℕ) → turn i j ≡ neg_ℤ (turn j i)
   turn_back i j = bracket-turn (at p v) (at p i) (at p j) ∙ bracket-swap (at p i) (at p j) (at p v) ∙ ap neg_ℤ (sym (bracket-turn (at p v) (at p j) (at p i)))
 
+  -- a neighbour does not turn from itself
   pub turn_own : (i : ℕ) → turn i i ≡ pos 0
   turn_own i = bracket-last (at p v) (at p i)
 
   -- four ways
-  pub turns_of_four : (a b c d : ℕ) → turn a b *ℤ turn c d -ℤ turn a c *ℤ turn b d +ℤ turn a d *ℤ turn b c ≡ pos 0
+  pub turns_of_four : AgreeInFours turn
   turns_of_four a b c d = pluecker (at p v) (at p a) (at p b) (at p c) (at p d)
 
   -- w is in the angle from a up to b
@@ -181,5 +187,6 @@ module _ (n : ℕ) (p : ℕ → Point) (faces : List Face) (outer : List (ℕ ×
             from_weights : (s k l : ℤ) → s *ℤ pos 1 ≡ k *ℤ pos 1 +ℤ l *ℤ pos 1 → pos 0 <ℤ k → pos 0 <ℤ l → pos 0 <ℤ s
             from_weights s k l e i j = omega (arith, ints)
 
+    -- the two corners are one
     pub corners_meet : c ≡ d
     corners_meet = c_is_d

@@ -18,14 +18,17 @@ use Rattle.plane.proofs.Indexes.{one_more_than_last, at_most_last}
 
 -- ---- lists, each element renamed
 module _ {X Y : Type 0} (f : X → Y) where
+  -- what a list has, its image has
   pub mapped : (xs : List X) (x : X) → Contains xs x → Contains (map f xs) (f x)
   mapped [] x h = absurd (Contains-none x h)
   mapped (y ∷ ys) x h = elim (Contains-cases y ys x h) [ inl e ↦ subst (λ o. Contains (map f (y ∷ ys)) (f o)) e (Contains-head (f y) (map f ys)) | inr k ↦ Contains-later (f y) (map f ys) (f x) (mapped ys x k) ]
 
+  -- what an image has comes from the list
   pub from_map : (xs : List X) (y : Y) → Contains (map f xs) y → (x : X) × Contains xs x × (f x ≡ y)
   from_map [] y h = absurd (Contains-none y h)
   from_map (x ∷ xs) y h = elim (Contains-cases (f x) (map f xs) y h) [ inl e ↦ (x, Contains-head x xs, e) | inr k ↦ (let r = from_map xs y k in (r.0, Contains-later x xs r.0 r.1, r.2)) ]
 
+  -- a sum over an image is a sum over the list
   pub total_map : (g : Y → ℤ) (xs : List X) → total g (map f xs) ≡ total (λ x. g (f x)) xs
   total_map g [] = refl
   total_map g (x ∷ xs) = λ i. g (f x) +ℤ total_map g xs i
@@ -52,6 +55,7 @@ once_under_map f pairs once apart i j d low high e =
 
 -- ---- the indexes
 module _ (v last : ℕ) where
+  -- the index that a vertex had before the last one moved
   pub old_index : ℕ → ℕ
   old_index j = if nat_eq j v then last else j
 
@@ -69,6 +73,7 @@ module _ (v last : ℕ) where
   unfolding old_index
   old_of_other j n = grind (arith, nat_tests)
 
+  -- an old index is one of the others'
   pub old_below : (j : ℕ) → v < suc last → j < last → (old_index j < suc last) × (old_index j ≢ v)
   old_below j hv h = elim (cases_eq j v) [ inl e ↦ freed (old_of_freed j e) e | inr n ↦ kept (old_of_other j n) n ]
     where
@@ -78,6 +83,7 @@ module _ (v last : ℕ) where
       kept : old_index j ≡ j → j ≢ v → (old_index j < suc last) × (old_index j ≢ v)
       kept e n = (omega arith, λ q. n (sym e ∙ q))
 
+  -- a new index is below the last
   pub new_below : (k : ℕ) → v < suc last → k < suc last → k ≢ v → new_index v last k < last
   new_below k hv h n = elim (cases_eq k last) [ inl e ↦ freed (new_of_last k e) e | inr d ↦ kept (new_of_other k d) d ]
     where
@@ -87,15 +93,18 @@ module _ (v last : ℕ) where
       kept : new_index v last k ≡ k → k ≢ last → new_index v last k < last
       kept e d = omega arith
 
+  -- the new index of an old one is the index itself
   pub new_of_old : (j : ℕ) → j < last → new_index v last (old_index j) ≡ j
   new_of_old j h = elim (cases_eq j v) [ inl e ↦ new_of_last (old_index j) (old_of_freed j e) ∙ sym e | inr n ↦ ap (new_index v last) (old_of_other j n) ∙ new_of_other j (below j h) ]
     where
       below : (j : ℕ) → j < last → j ≢ last
       below j h e = omega arith
 
+  -- the old index of a new one is the index itself
   pub old_of_new : (k : ℕ) → k ≢ v → old_index (new_index v last k) ≡ k
   old_of_new k n = elim (cases_eq k last) [ inl e ↦ old_of_freed (new_index v last k) (new_of_last k e) ∙ sym e | inr d ↦ ap old_index (new_of_other k d) ∙ old_of_other k n ]
 
+  -- two others have different new indexes
   pub new_apart : (i k : ℕ) → i ≢ v → k ≢ v → new_index v last i ≡ new_index v last k → i ≡ k
   new_apart i k n d e = sym (old_of_new i n) ∙ ap old_index e ∙ old_of_new k d
 
@@ -154,6 +163,7 @@ module _ (v last : ℕ) where
         ends_same : (a b : ℕ × ℕ) → Contains outer a → Contains outer b → renumbered_pair v last a ≡ renumbered_pair v last b → a ≡ b
         ends_same a b x y q = let s = m.ends a x in let t = m.ends b y in λ o. (new_apart a.0 b.0 s.0.1 t.0.1 (ap (λ z. z.0) q) o, new_apart a.1 b.1 s.1.1 t.1.1 (ap (λ z. z.1) q) o)
 
+    -- a mesh without the vertex, renumbered, is a mesh of the points that are left
     pub renumbering : LocalMesh new (map (renumbered v last) faces) (map (renumbered_pair v last) outer)
     renumbering = record {
       distinct = λ i j h k n e. m.distinct (old_index i) (old_index j) (other i h) (other j k) (λ s. n (sym (back i h) ∙ ap (new_index v last) s ∙ back j k)) (sym (at_old i h) ∙ e ∙ at_old j k);
@@ -219,6 +229,7 @@ module _ (v last : ℕ) where
     back_there : (i j : ℕ) → AreNeighbours (alone new) i j → Contains (map (renumbered_pair v last) outer) (i, j)
     back_there i j s = subst (λ (o : ℕ × ℕ). Contains (map (renumbered_pair v last) outer) o) (λ t. (line_back i s.first t, line_back j s.second t)) (mapped (renumbered_pair v last) outer (old_index i, old_index j) ((m.neighbours (old_index i) (old_index j)).1 (next_then i j s)))
 
+    -- a line without the vertex, renumbered, is a line of the points that are left
     pub line_renumbering : LineMesh new (map (renumbered_pair v last) outer)
     line_renumbering = record {
       distinct = λ i j h k n e. m.distinct (old_index i) (old_index j) (line_other i h) (line_other j k) (λ s. n (sym (line_back i h) ∙ ap (new_index v last) s ∙ line_back j k)) (sym (line_old i h) ∙ e ∙ line_old j k);
@@ -228,9 +239,11 @@ module _ (v last : ℕ) where
     }
 
 -- ---- the points that are left
+-- one point fewer is left
 pub left_count : (points : List Point) (v : ℕ) (d : Point) → v < length points → length (swap_remove points v d) ≡ length points - 1
 left_count points v d h = omega (arith, length-take {A = Point} (length points - 1) (set points v (get_or points (length points - 1) d)), length-set {A = Point} points v (get_or points (length points - 1) d))
 
+-- of the points that are left, the one of index j is at the place of its old index
 pub left_place : (points : List Point) (v : ℕ) (d : Point) → v < length points → (j : ℕ) → j < length points - 1 → place (swap_remove points v d) j ≡ place points (old_index v (length points - 1) j)
 left_place points v d h j l = ap whole (go (cases_eq j v))
   where
@@ -252,8 +265,10 @@ left_place points v d h j l = ap whole (go (cases_eq j v))
         ∙ get_or-set_other points v j (get_or points (length points - 1) d) (record { x = pos 0; y = pos 0 }) n
         ∙ ap (λ i. get_or points i (record { x = pos 0; y = pos 0 })) (sym (old_of_other v (length points - 1) j n))
 
+-- where a vertex has gone and the last one takes its index, the mesh is local
 pub last_takes_freed_index : LastTakesFreedIndex
 last_takes_freed_index points faces outer v d h m = renumbering v (length points - 1) points (swap_remove points v d) faces outer (at_most_last v (length points) h) (one_more_than_last v (length points) h) (left_count points v d h) (left_place points v d h) m
 
+-- on a line too, the last vertex takes the index of the one that has gone
 pub last_takes_freed_index_on_line : LastTakesFreedIndexOnLine
 last_takes_freed_index_on_line points outer v d h m = line_renumbering v (length points - 1) points (swap_remove points v d) outer (at_most_last v (length points) h) (one_more_than_last v (length points) h) (left_count points v d h) (left_place points v d h) m

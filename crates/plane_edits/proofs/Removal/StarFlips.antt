@@ -105,6 +105,10 @@ module _ (points : List Point) (faces new : List Face) (outer outer' : List (ℕ
           a_b (one_second points new outer' after v a b c made (subst (λ z. IsFaceOf new v z c) e (subst (λ z. IsFaceOf new v x z) y_is f)))
 
 -- ---- on the hull
+-- numbers 0 to k differ
+abbrev pub DifferUpTo : ℕ → (ℕ → ℕ) → Type 0
+DifferUpTo k nb = (i j : ℕ) → i < j → j ≤ k → nb i ≢ nb j
+
 module _ (points : List Point) (faces : List Face) (outer : List (ℕ × ℕ)) (m : LocalMesh points faces outer) (v k : ℕ) (nb : ℕ → ℕ) (star : IsHullStar faces outer v k nb) where
   -- the last neighbour does not come earlier
   last_once : (i : ℕ) → i < k → nb i ≢ nb k
@@ -119,7 +123,8 @@ module _ (points : List Point) (faces : List Face) (outer : List (ℕ × ℕ)) (
   later_differs (suc d) i j h e s = later_differs d (suc i) (suc j) (omega arith) (omega arith)
       (one_third points faces outer m v (nb i) (nb (suc i)) (nb (suc j)) (star.around i (omega arith)) (subst (λ z. IsFaceOf faces v z (nb (suc j))) (sym s) (star.around j (omega arith))))
 
-  neighbours_differ : (i j : ℕ) → i < j → j ≤ k → nb i ≢ nb j
+  -- so each neighbour comes once
+  pub neighbours_differ : DifferUpTo k nb
   neighbours_differ i j h l = later_differs (k - j) i j h (omega arith)
 
   apart : (i j : ℕ) → i ≢ j → i ≤ k → j ≤ k → nb i ≢ nb j
@@ -134,6 +139,7 @@ without_from i nb j h = grind (arith, nat_tests)
 abbrev mesh_after : (points : List Point) (faces new : List Face) (outer outer' : List (ℕ × ℕ)) (v i : ℕ) (nb : ℕ → ℕ) → LocalMesh points faces outer → IsFaceOf faces v (nb i) (nb (suc i)) → IsFaceOf faces v (nb (suc i)) (nb (suc (suc i))) → IsStarFlip points faces new outer outer' v nb i → LocalMesh points new outer'
 mesh_after points faces new outer outer' v i nb m f g s = flip_kept points faces new outer outer' v (nb i) (nb (suc i)) (nb (suc (suc i))) m f g s.near s.far s.faces_change s.outer_change
 
+-- a flip at a vertex of the hull leaves out one neighbour; the first and the last stay
 pub hull_star_shrinks : HullStarShrinks
 hull_star_shrinks points faces new outer outer' v k nb i m star inside s = (record { around = around; only = only; arrives = arrives; leaves = leaves }, at_start, at_end)
   where
@@ -331,6 +337,7 @@ module _ (points : List Point) (faces new : List Face) (outer outer' : List (ℕ
           go (inl e) = (t, omega arith, ap nb (round_own t t (omega arith)) ∙ at_a ∙ sym e.0, ap (λ z. nb (after_in t z)) (round_own t t (omega arith)) ∙ ap nb (after_last t t refl) ∙ at_c ∙ sym e.1)
           go (inr (o, na, nc)) = let r = star.only x y o in old r.0 r.1 (λ e. na (sym r.2 ∙ ap nb e ∙ at_a)) (λ e. nc (sym r.2 ∙ ap nb e ∙ at_b)) r.2 r.3
 
+-- a flip at an inner vertex leaves out one neighbour, and the star goes on from the next
 pub inner_star_shrinks : InnerStarShrinks
 inner_star_shrinks points faces new outer outer' v k nb i m star four s =
     ((λ j. nb (round (k - 2) j + suc (suc i))), subst (λ z. IsStar new v z (λ j. nb (round (k - 2) j + suc (suc i)))) (one_less k four) star', λ j h. ap (λ z. nb (z + suc (suc i))) (round_own (k - 2) j (omega arith)))
@@ -359,6 +366,7 @@ inner_star_shrinks points faces new outer outer' v k nb i m star four s =
         (ap nb (before_last k four) ∙ star.again i) (ap nb (at_last k four) ∙ star.again (suc i)) (ap nb (sym (from_none (suc (suc i))))) f g s.faces_change
 
 -- ---- one star
+-- two lists of a vertex's star hold the same faces
 pub stars_agree : StarsAgree
 stars_agree points faces outer v k l nb other m star star' = (same (cases_lt k l) (cases_lt l k), (begins.0, begins.1, along))
   where
@@ -420,6 +428,7 @@ module _ (points : List Point) (faces : List Face) (outer : List (ℕ × ℕ)) (
   not_longer : k < l → ⊥
   not_longer h = L.outer_is_no_side (length points) (point_at points) faces outer signs_of v (nb k) star.leaves (subst (λ z. HasSide faces v z) (each_is k (omega arith) (omega arith)) (other (suc k), star'.around k h))
 
+-- two readings of the faces round a vertex of the hull are one
 pub hull_stars_agree : HullStarsAgree
 hull_stars_agree points faces outer v k l nb other m star star' = (same (cases_lt k l) (cases_lt l k), λ i h. each_is points faces outer m v k l nb other star star' i h (fits i h (cases_lt l k)))
   where

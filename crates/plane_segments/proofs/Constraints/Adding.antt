@@ -9,16 +9,22 @@ use Rattle.plane_segments.specs.Constraints.{AreNextOn, ArePlacedApart}
 use Rattle.plane_segments.proofs.Constraints.Pieces.{path_goes_on, path_ends, next_is_neighbours}
 use Rattle.plane_segments.proofs.Constraints.Whole.{piece_crosses_whole}
 
+-- what is next to one another on the way from w to j is so on the way from i to j
+abbrev pub IsRestOfPath : List Point → ℕ → ℕ → ℕ → Type 0
+IsRestOfPath points i j w = (a b : ℕ) → AreNextOn points w j a b → AreNextOn points i j a b
+
 -- the pieces from i to vertex w are in the list, and those from w to j are still to come
 pub record IsAddingPath (points : List Point) (old now : List (ℕ × ℕ)) (i j w : ℕ) : Type 0 where
   pub within : IsIndex points w
   pub pairs : (a b : ℕ) → (Joins now a b ⊎ AreNextOn points w j a b) ↔ (Joins old a b ⊎ AreNextOn points i j a b)
-  pub rest : (a b : ℕ) → AreNextOn points w j a b → AreNextOn points i j a b
+  pub rest : IsRestOfPath points i j w
 
+-- at the start of a path, no piece is in the list yet and all are to come
 pub adding_begins : (points : List Point) (old : List (ℕ × ℕ)) (i j : ℕ) → IsIndex points i → IsAddingPath points old old i j i
 adding_begins points old i j within = record { within = within; pairs = λ a b. ((λ x. x), (λ x. x)); rest = λ a b x. x }
 
 module _ (points : List Point) (distinct : ArePlacedApart points) (old now : List (ℕ × ℕ)) (i j w : ℕ) (hi : IsIndex points i) (hj : IsIndex points j) (p : IsAddingPath points old now i j w) where
+  -- where the path has come to its end, all its pieces are joined
   pub adding_ends : w ≡ j → (a b : ℕ) → Joins now a b ↔ (Joins old a b ⊎ AreNextOn points i j a b)
   adding_ends is a b = (
     (λ x. (p.pairs a b).0 (inl x)),
@@ -32,6 +38,7 @@ module _ (points : List Point) (distinct : ArePlacedApart points) (old now : Lis
     pieces : (a b : ℕ) → AreNextOn points w j a b ↔ (IsSamePair a b w v ⊎ AreNextOn points v j a b)
     pieces = path_goes_on points w j v distinct hj on_way next
 
+    -- a joined piece brings the path one vertex further
     pub adding_goes_on : (new : List (ℕ × ℕ)) → ((a b : ℕ) → Joins new a b ↔ (Joins now a b ⊎ IsSamePair a b w v)) → IsAddingPath points old new i j v
     adding_goes_on new joined = record {
       within = next.second_index;

@@ -240,5 +240,6 @@ module _ {V : Type 0} (position : V → Point) (old new : Plain V) (faces : List
     };
   }
 
+-- where a vertex has gone from within a straight constraint, its halves' far ends can be joined
 pub straight_halves_join_after_removal : {V : Type 0} → StraightHalvesJoinAfterRemoval V
 straight_halves_join_after_removal position old new faces edges v a b plain meet kept first second within r = can_be_joined position old new faces edges v a b plain meet kept first second within r

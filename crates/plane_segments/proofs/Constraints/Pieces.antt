@@ -61,9 +61,11 @@ module _ (u v : Point) (apart : ¬ (u ≡ v)) where
   abbrev F : Point → ℤ
   F z = place_on u v (lift z)
 
+  -- the point is on the segment of i and j
   abbrev pub On : Point → Type 0
   On z = bracket (lift u) (lift v) (lift z) ≡ pos 0
 
+  -- what is between two points of the segment is on it
   pub on_of_mean : (a b z : Point) → On a → On b → WithinSegment (whole a) (whole b) (whole z) → On z
   on_of_mean a b z on_a on_b h = let t = two_weights IsPositive (whole a) (whole b) (whole z) h in
       zero_of_mul-zero_ℤ (pos-ne-zero_ℤ t.positive) (bracket_of_two IsPositive (lift u) (lift v) (whole a) (whole b) (whole z) t ∙ sum_of_zeros (t.k *ℤ bracket (lift u) (lift v) (lift a)) (t.l *ℤ bracket (lift u) (lift v) (lift b)) (zero-mul_ℤ t.k on_a) (zero-mul_ℤ t.l on_b))
@@ -232,12 +234,15 @@ module _ (points : List Point) (distinct : ArePlacedApart points) (i j : ℕ) (h
     back a b (inl (inr s)) = subst₂ (λ c d. AreNextOn points i j c d) (sym s.0) (sym s.1) (swapped i w i j W)
     back a b (inr n) = record { apart = n.apart; first_index = n.first_index; second_index = n.second_index; first = whole_of_rest a n.first; second = whole_of_rest b n.second; none_between = n.none_between }
 
+-- the path between two different vertices has a first piece
 pub path_begins : PathBegins
 path_begins points i j distinct hi hj n = begins points distinct i j hi hj n
 
+-- a path is its first piece with the path from the end of this piece
 pub path_goes_on : PathGoesOn
 path_goes_on points i j w distinct hj n W a b = (forth points distinct i j W.first_index hj n w W a b, back points distinct i j W.first_index hj n w W a b)
 
+-- from a vertex to itself there is no piece
 pub path_ends : PathEnds
 path_ends points j distinct a b n = distinct a b n.first_index n.second_index n.apart (ap whole (at a n.first ∙ sym (at b n.second)))
   where

@@ -1,7 +1,7 @@
 -- Where the faces at a vertex go, each edge that does not end there has a face or the outer face on its other side.
 use Rattle.std.proofs.Common.{◌≡◌, ◌⊎◌, ℕ, List, length, sym, subst}
 use mathlib.Core.Logic.{inl, inr, ◌≢◌}
-use Rattle.std.specs.Prelude.{ℤ, pos, ◌<ℤ◌, Contains}
+use Rattle.std.specs.Prelude.{pos, ◌<ℤ◌, Contains}
 use Rattle.plane.specs.Fraction.{Point}
 use Rattle.plane.specs.Pairs.{Joins}
 use Rattle.plane.specs.Tiling.{Face}
@@ -17,6 +17,7 @@ use Rattle.plane_edits.specs.Legal.{IsSideOfOne}
 use Rattle.plane_edits.proofs.LocalMesh.Changes.{face_kept, turn_of_all}
 use Rattle.plane_segments.specs.PathSteps.{RemovalKeepsConstraints}
 use Rattle.plane.proofs.Signs.{opposites_not_both_positive}
+use Rattle.plane.proofs.Indexes.{cases_turned}
 
 -- not both ways of an edge have v on their left
 one_way : (points : List Point) (faces : List Face) (outer : List (ℕ × ℕ)) → LocalMesh points faces outer → (a b v : ℕ) → IsFaceOf faces a b v → ¬ IsFaceOf faces b a v
@@ -29,15 +30,10 @@ module _ (points : List Point) (faces new gone made : List Face) (outer outer' l
     (at_v : (f : Face) → Contains gone f → IsCorner f v) (ends_at_v : (i j : ℕ) → Contains left (i, j) → (i ≡ v) ⊎ (j ≡ v)) where
   -- a face that goes has v for its third corner, where it is not one of the others
   stays_or_third : (a b k : ℕ) → a ≢ v → b ≢ v → IsFaceOf faces a b k → IsFaceOf new a b k ⊎ (k ≡ v)
-  stays_or_third a b k na nb f = elim (face_kept faces new gone made change a b k f) [ inl o ↦ inl o | inr o ↦ third (turn_of_all gone Has round at_v a b k o) ]
+  stays_or_third a b k na nb f = elim (face_kept faces new gone made change a b k f) [ inl o ↦ inl o | inr o ↦ third (turn_of_all gone Has (λ i j k e. cases_turned e) at_v a b k o) ]
     where
       Has : ℕ → ℕ → ℕ → Type 0
       Has i j k = (v ≡ i) ⊎ ((v ≡ j) ⊎ (v ≡ k))
-
-      round : (i j k : ℕ) → Has i j k → Has j k i
-      round i j k (inl e) = inr (inr e)
-      round i j k (inr (inl e)) = inl e
-      round i j k (inr (inr e)) = inr (inl e)
 
       third : (v ≡ a) ⊎ ((v ≡ b) ⊎ (v ≡ k)) → IsFaceOf new a b k ⊎ (k ≡ v)
       third (inl e) = absurd (na (sym e))
@@ -64,5 +60,6 @@ module _ (points : List Point) (faces new gone made : List Face) (outer outer' l
       back (inr (inl o)) = inr (inr o)
       back (inr (inr o)) = inr (inl o)
 
+-- where only faces and outer edges at a vertex go, constraints that do not end there stay edges
 pub removal_keeps_constraints : RemovalKeepsConstraints
 removal_keeps_constraints points faces new gone made outer outer' left come constraints v m change outer_change at_v ends_at_v edges a b h na nb = side_stays points faces new gone made outer outer' left come v m change outer_change at_v ends_at_v a b na nb (edges a b h)

@@ -43,6 +43,7 @@ within_nearer i j w apart h =
     falls : (n k l : ℤ) → n *ℤ pos 1 ≡ k *ℤ pos 1 +ℤ l *ℤ pos 1 → pos 0 <ℤ l → pos 0 <ℤ (n -ℤ k)
     falls n k l e h = omega (arith, ints)
 
+-- the path from the end of its first piece is shorter
 pub path_shortens : PathShortens
 path_shortens points i j w distinct hi hj ij n = lower_magnitude (squared_way (point_of points w) (point_of points j)) (squared_way (point_of points i) (point_of points j)) (squared_way_nonneg (point_of points w) (point_of points j)) (go (on_parts (place points i) (place points j) (place points w) n.second))
   where

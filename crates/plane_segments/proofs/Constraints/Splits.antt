@@ -1,17 +1,15 @@
 -- A new vertex on a constraint splits that one alone, and straight halves can be joined when their vertex goes.
-use Rattle.std.proofs.Common.{◌≡◌, ◌⊎◌, ℕ, List, [], ◌∷◌, ◌++◌, length, refl, sym, ap, ◌∙◌, subst, subst₂}
+use Rattle.std.proofs.Common.{◌≡◌, ◌⊎◌, ℕ, List, refl, sym, ap, ◌∙◌, subst, subst₂}
 use mathlib.Core.Logic.{inl, inr}
-use Rattle.std.specs.Prelude.{All}
 use Rattle.plane.specs.Fraction.{Point, Fraction, whole, IsSame, WithinSegment}
 use Rattle.plane.specs.Crossing.{Cross}
 use Rattle.plane.specs.Pairs.{Joins, IsSamePair}
-use Rattle.plane.specs.Plain.{Plain, DifferInPosition, Appends, points_of}
-use Rattle.plane.specs.Tiling.{Face, Triangulation, IsVertex, IsEdge, vertex}
+use Rattle.plane.specs.Tiling.{Triangulation, IsVertex, IsEdge, vertex}
 use Rattle.plane.proofs.Segments.{within_segment-same}
 use Rattle.plane_tiling.specs.Laws.{EdgesMeetAtVertices}
 use Rattle.plane_tiling.proofs.Edges.{turned_within}
 use Rattle.plane_edits.specs.Legal.{point_of}
-use Rattle.plane_segments.specs.Constraints.{IsHalfOf, SplitsOneOrNone, SplitIsAppend, StraightHalvesJoin}
+use Rattle.plane_segments.specs.Constraints.{IsHalfOf, SplitIsAppend, StraightHalvesJoin}
 use Rattle.plane_segments.proofs.Crossing.EitherWay.{one_point}
 use Rattle.plane_segments.proofs.Constraints.Parts.{within_parts}
 use Rattle.plane.proofs.Indexes.{turned_join}
@@ -59,6 +57,7 @@ module _ (t : Triangulation) (old : List (ℕ × ℕ)) (n : ℕ) (q : Point) (me
   no_half : ((a b : ℕ) → Joins old a b → ¬ Carry a b) → (a b : ℕ) → ¬ Half a b
   no_half none a b k = none a k.1.0 k.1.1 k.1.2
 
+-- where the pairs are edges, an insert splits the one that carries its point, or leaves all of them
 pub split_is_append : SplitIsAppend
 split_is_append t old new n q meet kept (inl (i, j, e, h, s)) a b = ((λ k. forth t old n q meet kept i j e h a b ((s a b).0 k)), (λ k. (s a b).1 (back t old n q meet kept i j e h a b k)))
 split_is_append t old new n q meet kept (inr (none, s)) a b = (
@@ -85,5 +84,6 @@ module _ (t : Triangulation) (a b v : ℕ) (meet : EdgesMeetAtVertices t) (hv : 
     | inr o ↦ elim o [ inl i ↦ at_end c d a v m n (meet.1 a v c d e g x.at i x.within_second) (inr refl) | inr i ↦ at_end c d v b m n (meet.1 v b c d f g x.at i x.within_second) (inl refl) ]
   ]
 
+-- where two edges are straight at v, no other vertex is between their far ends and no other edge crosses
 pub straight_halves_join : StraightHalvesJoin
 straight_halves_join t a b v meet hv apart e f w = (no_vertex t a b v meet hv e f w apart, (λ g. meet.0 a b v g hv w), no_crossing t a b v meet hv e f w)

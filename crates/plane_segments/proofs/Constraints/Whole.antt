@@ -109,6 +109,7 @@ module _ (i j a b c d : Point) (ij : ¬ (i ≡ j)) (ab : ¬ IsSame (whole a) (wh
   crosses_whole : Cross (whole i) (whole j) (whole c) (whole d)
   crosses_whole = cross_if (whole i) (whole j) (whole c) (whole d) others_parted ends_parted
 
+-- what crosses a piece of a path crosses the whole segment
 pub piece_crosses_whole : PieceCrossesWhole
 piece_crosses_whole points i j a b c d distinct hi hj ij hc hd cd n cross = crosses_whole (point_of points i) (point_of points j) (point_of points a) (point_of points b) (point_of points c) (point_of points d)
     (λ e. distinct i j hi hj ij (ap whole e)) (apart a b n.first_index n.second_index n.apart) (apart c d hc hd cd) n.first n.second cross

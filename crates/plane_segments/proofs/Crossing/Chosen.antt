@@ -55,6 +55,7 @@ decide_after_on_left : (i y w : Point) → Decision (ComesAfterOnLeft i y w)
 decide_after_on_left i y w = decide_either (decide_side (side (whole i) (whole y) (whole w)) left) (decide_both (decide_side (side (whole i) (whole y) (whole w)) on) (decide_below (squared_way i y) (squared_way i w)))
 
 -- ---- of the indexes below n with a property, one that none comes after
+-- k is below n and has P, and no such index comes after it
 pub record IsLastBelow (P : ℕ → Type 0) (After : ℕ → ℕ → Type 0) (n k : ℕ) : Type 0 where
   pub index : k < n
   pub has : P k
@@ -65,6 +66,7 @@ module _ (P : ℕ → Type 0) (After : ℕ → ℕ → Type 0) (decide : (k : �
   cases : (m n : ℕ) → m < suc n → (m < n) ⊎ (m ≡ n)
   cases m n h = grind arith
 
+  -- of the indexes below n with P one is last, or there is none
   pub last_below : (n : ℕ) → ((k : ℕ) × IsLastBelow P After n k) ⊎ ((m : ℕ) → m < n → ¬ P m)
   last_below zero = inr (λ m h p. absurd (omega arith))
   last_below (suc n) = go (decide n) (last_below n)
@@ -150,5 +152,6 @@ module _ (t : Triangulation) (h : TilesHull t) (i j : ℕ) where
       with_right : (v : ℕ) × IsLastBelow IsRightEnd After n v → (v : ℕ) × (y : ℕ) × IsCrossing t i j v y × IsLastRight t i j v × IsLastLeft t i j v y
       with_right (v, l) = with_left v l (last_left v l.has.0 l.has.2)
 
+-- where some edge crosses, there is one from a last right end to a last left end there
 pub chosen_flip_exists : ChosenFlipExists
 chosen_flip_exists t i j u w h c = chosen t h i j u w c

@@ -1,11 +1,10 @@
 -- An edge crosses a segment exactly if one of its two ways does so from right to left.
 use Rattle.std.proofs.Common.{◌≡◌, ◌⊎◌, ℕ, ap, ◌∙◌, arith}
 use mathlib.Core.Logic.{inl, inr}
-use Rattle.std.specs.Prelude.{ℤ, pos, ◌-ℤ◌, ◌*ℤ◌, ◌<ℤ◌, List}
+use Rattle.std.specs.Prelude.{ℤ, pos, ◌-ℤ◌, ◌<ℤ◌}
 use Rattle.std.proofs.lemmas.Int.{ints}
 use Rattle.plane.specs.Fraction.{Point, whole, IsSame}
 use Rattle.plane.specs.Side.{opposite}
-use Rattle.plane.specs.Pairs.{Joins}
 use Rattle.plane.specs.Laws.{Parts, turn_at}
 use Rattle.plane.specs.Tiling.{Triangulation, IsVertex, IsEdge, TilesHull, vertex}
 use Rattle.plane.proofs.Sides.{side_swapped}
@@ -26,6 +25,7 @@ pub use Rattle.plane.proofs.Indexes.{turned_join as edge_back}
 pub one_point : (p q : Point) → IsSame (whole p) (whole q) → p ≡ q
 one_point p q e = λ i. record { x = times_one p.x q.x e.x i; y = times_one p.y q.y e.y i }
 
+-- in a tiling of the hull, vertices in one place are one
 pub one_vertex : (t : Triangulation) → TilesHull t → (i j : ℕ) → IsVertex t i → IsVertex t j → IsSame (vertex t i) (vertex t j) → i ≡ j
 unfolding tiling
 one_vertex t h i j hi hj e = vertices_apart (tiling t h) i j hi hj (λ s u. ap (λ (q : Point). bracket s u (whole q)) (one_point (point_of t.points i) (point_of t.points j) e))
@@ -62,6 +62,7 @@ module _ (t : Triangulation) (i j v y : ℕ) where
     ),
   )
 
+-- an edge crosses a segment exactly if one of its two ways does so from right to left
 pub crossing_is_either_way : CrossingIsEitherWay
 crossing_is_either_way t i j v y h free e =
     let sides = crossing_is_sides (vertex t i) (vertex t j) (vertex t v) (vertex t y) (λ s. free.apart (one_vertex t h i j free.first free.second s)) (edge_apart t h v y e) in (

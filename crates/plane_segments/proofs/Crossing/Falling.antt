@@ -22,6 +22,7 @@ only_false : Bool → Type 0
 only_false true = ⊥
 only_false false = Unit {0}
 
+-- the two truth values differ
 pub off : false ≡ true → ⊥
 unfolding only_false
 off e = subst only_false e tt
@@ -83,6 +84,7 @@ both_weak fv tw fw tu fu tk e hv hw hu a b = go (zero_or_left a) (zero_or_left b
     go (inl x) (inr y) = inl (positive (sum_low' (fv *ℤ tw) (fw *ℤ tu) (fu *ℤ tk) e (weak_product fw tu hw a) (strict_product fu tk hu y)))
     go (inl x) (inl y) = inr (zero_of_mul-zero_ℤ (λ z. right_not_zero hv z) (sum_of_zeros_from (fv *ℤ tw) (fw *ℤ tu) (fu *ℤ tk) e (zero-mul_ℤ fw x) (zero-mul_ℤ fu y)), x, y)
 
+-- seen from i, the order of the points on the right goes through
 pub IsBefore-trans : (i j u v w : Point) → turn_at i j u <ℤ pos 0 → turn_at i j v <ℤ pos 0 → turn_at i j w <ℤ pos 0 → IsBefore i u v → IsBefore i v w → IsBefore i u w
 IsBefore-trans i j u v w hu hv hw a b = go (both_weak (turn_at i j v) (turn_at i w u) (turn_at i j w) (turn_at i v u) (turn_at i j u) (turn_at i w v) (three_turns i j u v w) hv hw hu (at_least a) (at_least b)) a b
   where
@@ -137,19 +139,23 @@ module _ (points : List Point) (i j v w : Point) (more : (k : ℕ) → (is_right
       by (inr m) rest = there (one_if (is_right i j (point_of points n) && comes_before i (point_of points n) v)) (one_if (is_right i j (point_of points n) && comes_before i (point_of points n) w)) (rank_below points i j v n) (rank_below points i j w n)
           (one_if_most (is_right i j (point_of points n) && comes_before i (point_of points n) v) (is_right i j (point_of points n) && comes_before i (point_of points n) w) (more n)) (rest (smaller m))
 
+-- a rank is at least 1
 pub rank_positive : (points : List Point) (i j v : Point) (n : ℕ) → 1 ≤ rank_below points i j v n
 rank_positive points i j v zero = omega arith
 rank_positive points i j v (suc n) = let r = rank_positive points i j v n in omega arith
 
+-- a conjunction holds where both parts do
 pub and_true : (a b : Bool) → a ≡ true → b ≡ true → (a && b) ≡ true
 and_true true true h k = refl
 and_true true false h k = k
 and_true false b h k = h
 
+-- where a conjunction holds, its first part does
 pub and_first : (a b : Bool) → (a && b) ≡ true → a ≡ true
 and_first true b h = refl
 and_first false b h = h
 
+-- where a conjunction holds, its second part does
 pub and_second : (a b : Bool) → (a && b) ≡ true → b ≡ true
 and_second true b h = h
 and_second false b h = absurd (off h)
@@ -204,6 +210,7 @@ equal_squares f g s hf hg hs e = go (trichotomy_ℤ (f -ℤ g))
     go : ((f -ℤ g) <ℤ pos 0) ⊎ ((f -ℤ g ≡ pos 0) ⊎ (pos 0 <ℤ (f -ℤ g))) → f ≡ g
     go d = no_difference f g (zero_of_mul-zero_ℤ (λ z. right_not_zero factor z) (*ℤ_comm ((f +ℤ g) *ℤ s) (f -ℤ g) ∙ product f g s ∙ same_have_no_difference ((f *ℤ f) *ℤ s) ((g *ℤ g) *ℤ s) e))
 
+-- where the sum of two squares is 0, both numbers are
 pub not_both : (a b : ℤ) → a *ℤ a +ℤ b *ℤ b ≡ pos 0 → (a ≡ pos 0) × (b ≡ pos 0)
 not_both a b e = (zero_of_square a (first (a *ℤ a) (b *ℤ b) e (square-nonneg_ℤ a) (square-nonneg_ℤ b)), zero_of_square b (second (a *ℤ a) (b *ℤ b) e (square-nonneg_ℤ a) (square-nonneg_ℤ b)))
   where
@@ -213,6 +220,7 @@ not_both a b e = (zero_of_square a (first (a *ℤ a) (b *ℤ b) e (square-nonneg
     second : (p q : ℤ) → p +ℤ q ≡ pos 0 → pos 0 ≤ℤ p → pos 0 ≤ℤ q → q ≡ pos 0
     second p q e h k = omega (arith, ints)
 
+-- of two different points on one ray from i, the one that is not farther from i is nearer
 pub strictly_nearer : (i j v z : Point) → turn_at i v z ≡ pos 0 → turn_at i j z <ℤ pos 0 → turn_at i j v <ℤ pos 0 → squared_way i z ≤ℤ squared_way i v → ¬ (z ≡ v) → squared_way i z <ℤ squared_way i v
 strictly_nearer i j v z tie hz hv near apart = go (lt_or_ge_ℤ (squared_way i z) (squared_way i v)) (zero_or_left way_nonneg)
   where
@@ -251,9 +259,11 @@ strictly_nearer i j v z tie hz hv near apart = go (lt_or_ge_ℤ (squared_way i z
         no_turn p b q a e h = difference_of_zeros (p *ℤ b) (q *ℤ a) (zero-mul_ℤ p e) (zero-mul_ℤ q h)
 
 -- ---- the sum
+-- the rank where it counts, and 0 elsewhere
 abbrev pub ranked : Bool → ℕ → ℤ
 ranked b r = if b then pos r else pos 0
 
+-- a rank that counts or not is not below 0
 pub ranked_nonneg : (b : Bool) (r : ℕ) → pos 0 ≤ℤ ranked b r
 ranked_nonneg true r = omega (arith, ints)
 ranked_nonneg false r = record { le = tt }
@@ -265,5 +275,6 @@ ranked_two true false r s q h k l n = let a = k refl in omega (arith, ints)
 ranked_two false true r s q h k l n = let a = l refl in omega (arith, ints)
 ranked_two false false r s q h k l n = omega (arith, ints)
 
+-- where a flip takes away q and adds less than q, the sum over all faces falls
 pub sum_falls : (new old vx xy yv vy yz zv xz zx q : ℤ) → new +ℤ ((vx +ℤ xy +ℤ yv) +ℤ ((vy +ℤ yz +ℤ zv) +ℤ pos 0)) ≡ old +ℤ ((vx +ℤ xz +ℤ zv) +ℤ ((xy +ℤ yz +ℤ zx) +ℤ pos 0)) → pos 0 ≤ℤ yv → vy ≡ q → (xz +ℤ zx) <ℤ q → new <ℤ old
 sum_falls new old vx xy yv vy yz zv xz zx q e h k l = omega (arith, ints)

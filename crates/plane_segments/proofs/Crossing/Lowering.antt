@@ -12,7 +12,8 @@ use Rattle.plane.proofs.Bracket.{lift}
 use Rattle.plane.proofs.BracketIdentities.{bracket-affine, bracket-outer}
 use Rattle.plane_tiling.proofs.Totals.{total_nonneg}
 use Rattle.plane_delaunay.proofs.Points.Bracket.{bracket}
-use Rattle.plane_delaunay.proofs.Tilings.Ground.{tiling, turned_face}
+use Rattle.plane_delaunay.proofs.Tilings.Ground.{tiling}
+use Rattle.plane.proofs.Triangles.{turned_face}
 use Rattle.plane_delaunay.proofs.Segments.Joining.{Crosses, Before, by_right, by_left, from_start}
 use Rattle.plane_delaunay.proofs.Segments.FlipExists as F
 use Rattle.plane_edits.specs.Change.{FacesChange}
@@ -100,5 +101,6 @@ module _ (t : Triangulation) (new : List Face) (i j v x y z : ℕ) (h : TilesHul
       (sum_falls (total (around (crossing_rank t.points i j)) new) (total (around (crossing_rank t.points i j)) t.faces) (w v x) (w x y) (w y v) (w v y) (w y z) (w z v) (w x z) (w z x) (pos (rank v))
       (change.totals (around (crossing_rank t.points i j)) (around_turn_free (crossing_rank t.points i j))) (w_nonneg y v) own new_less)
 
+-- the flip of the edge from a last right end to a last left end there lowers the sum of ranks
 pub chosen_flip_lowers : ChosenFlipLowers
 chosen_flip_lowers t new i j v x y z h free c f g last_v last_y change = lowered t new i j v x y z h free c f g last_v last_y change

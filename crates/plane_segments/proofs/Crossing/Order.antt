@@ -45,28 +45,34 @@ over_back i y w (inr h) = inr (
 )
 
 -- ---- the order
+-- the order of vertices on the right passes on
 pub right-trans : (i j u v w : Point) → side (whole i) (whole j) (whole u) ≡ right → side (whole i) (whole j) (whole v) ≡ right → side (whole i) (whole j) (whole w) ≡ right → ComesAfterOnRight i u v → ComesAfterOnRight i v w → ComesAfterOnRight i u w
 right-trans i j u v w hu hv hw a b = right_of i u w (IsBefore-trans i j u v w (right_turn i j u hu) (right_turn i j v hv) (right_turn i j w hw) (of_right i u v a) (of_right i v w b))
 
+-- seen from i, the order of the points on the left goes through
 pub left-trans : (i j u v w : Point) → TurnsLeft (whole i) (whole j) (whole u) → TurnsLeft (whole i) (whole j) (whole v) → TurnsLeft (whole i) (whole j) (whole w) → ComesAfterOnLeft i u v → ComesAfterOnLeft i v w → ComesAfterOnLeft i u w
 left-trans i j u v w hu hv hw a b = over_back i u w (right-trans (mirrored i) (mirrored j) (mirrored u) (mirrored v) (mirrored w) (turned u hu) (turned v hv) (turned w hw) (over i u v a) (over i v w b))
   where
     turned : (z : Point) → TurnsLeft (whole i) (whole j) (whole z) → side (whole (mirrored i)) (whole (mirrored j)) (whole (mirrored z)) ≡ right
     turned z h = right_if_negative (mirrored i) (mirrored j) (mirrored z) (opposite_of_positive (turn_at (mirrored i) (mirrored j) (mirrored z)) (turn_at i j z) (turn-mirrored i j z) (left_turn i j z h))
 
+-- seen from i, no point comes after itself on the right
 pub right-irrefl : (i u : Point) → ¬ ComesAfterOnRight i u u
 right-irrefl i u (inl h) = zero_is_not_below (turn_at i u u) (turn-same i u) (right_turn i u u h)
 right-irrefl i u (inr h) = not_below_itself (squared_way i u) h.1
 
+-- seen from i, no point comes after itself on the left
 pub left-irrefl : (i u : Point) → ¬ ComesAfterOnLeft i u u
 left-irrefl i u (inl h) = zero_is_not_above (turn_at i u u) (turn-same i u) (left_turn i u u h)
 left-irrefl i u (inr h) = not_below_itself (squared_way i u) h.1
 
+-- seen from i, the orders on the right and on the left go through, and no point comes after itself
 pub ends_are_ordered : EndsAreOrdered
 ends_are_ordered i j u v w = (right-trans i j u v w, left-trans i j u v w, right-irrefl i u, left-irrefl i u)
 
 -- ---- the last
 
+-- an end of a crossing edge that none comes after is a last one
 pub last_has_none_after : LastHasNoneAfter
 last_has_none_after t i j v y = (
   (λ n. record { around = λ u w c h. n u w c (inl h); nearer = λ u w c e. at_most_if_not_less (squared_way (point_of t.points i) (point_of t.points v)) (squared_way (point_of t.points i) (point_of t.points u)) (λ h. n u w c (inr (e, h))) }),

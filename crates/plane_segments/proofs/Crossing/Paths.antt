@@ -1,7 +1,7 @@
 -- The path to a constraint, in the words of specs/: where nothing crosses, an edge; else a flip that can be made.
 use Rattle.std.proofs.Common.{◌≡◌, ℕ, [], ◌∷◌, sym, ap, ◌∙◌}
 use mathlib.Core.Logic.{inl, inr}
-use Rattle.std.specs.Prelude.{ℤ, pos, ◌+ℤ◌, ◌-ℤ◌, ◌*ℤ◌, ◌≤ℤ◌, ◌<ℤ◌}
+use Rattle.std.specs.Prelude.{ℤ, pos, ◌+ℤ◌, ◌-ℤ◌, ◌*ℤ◌, ◌≤ℤ◌}
 use Rattle.plane.specs.Fraction.{Point, Fraction, whole, IsPositive, WithinSegment}
 use Rattle.plane.specs.Side.{side, right, on, TurnsLeft}
 use Rattle.plane.specs.Tiling.{Triangulation, TilesHull, vertex}
@@ -11,7 +11,8 @@ use Rattle.plane.proofs.IntegerOrder.{lt_or_ge_ℤ}
 use Rattle.plane.proofs.Solver.{num, ◌⊕◌, ◌⊖◌, ◌⊗◌, ring_over, ring_in_from}
 use Rattle.plane_delaunay.proofs.Points.Bracket.{fraction, bracket, bracketᵖ, left_if_above, above_if_left}
 use Rattle.plane_delaunay.proofs.Tilings.Faces.{Between}
-use Rattle.plane_delaunay.proofs.Tilings.Ground.{tiling, turned_face}
+use Rattle.plane_delaunay.proofs.Tilings.Ground.{tiling}
+use Rattle.plane.proofs.Triangles.{turned_face}
 use Rattle.plane_delaunay.proofs.Segments.Joining.{Crosses}
 use Rattle.plane_delaunay.proofs.Segments.Uncrossed.{edge_if_uncrossed}
 use Rattle.plane_delaunay.proofs.Segments.FlipExists as F
@@ -77,14 +78,17 @@ not_above : (a b c : Fraction) → ¬ TurnsLeft a b c → bracket a b c ≤ℤ p
 not_above a b c h = elim (lt_or_ge_ℤ (pos 0) (bracket a b c)) [ inl k ↦ absurd (h (left_if_above a b c k)) | inr k ↦ k ]
 
 module _ (t : Triangulation) (h : TilesHull t) (i j : ℕ) (free : IsFreeOfVertices t i j) where
+  -- the first end is a vertex of the tiling
   pub at_first : (tiling t h).IsVertex i
   unfolding tiling
   at_first = free.first
 
+  -- the second end is a vertex of the tiling
   pub at_second : (tiling t h).IsVertex j
   unfolding tiling
   at_second = free.second
 
+  -- no vertex of the tiling is between the ends
   pub clear : (n : ℕ) → (tiling t h).IsVertex n → ¬ Between ((tiling t h).at i) ((tiling t h).at j) ((tiling t h).at n)
   unfolding tiling
   clear n v b = free.none_between n v (within_of_between (point_of t.points i) (point_of t.points j) (point_of t.points n) b)
@@ -92,6 +96,7 @@ module _ (t : Triangulation) (h : TilesHull t) (i j : ℕ) (free : IsFreeOfVerti
   abbrev Across : ℕ → ℕ → Type 0
   Across v y = Crosses (tiling t h) i j at_first at_second clear v y
 
+  -- what crosses in the tiling is a crossing by sides
   pub crossing : (v y : ℕ) → Across v y → IsCrossing t i j v y
   unfolding tiling
   crossing v y c = record {
@@ -102,6 +107,7 @@ module _ (t : Triangulation) (h : TilesHull t) (i j : ℕ) (free : IsFreeOfVerti
     end = right_if_below (vertex t v) (vertex t y) (vertex t j) c.end;
   }
 
+  -- a crossing by sides crosses in the tiling
   pub crosses : (v y : ℕ) → IsCrossing t i j v y → Across v y
   unfolding tiling
   crosses v y c = record {
@@ -112,6 +118,7 @@ module _ (t : Triangulation) (h : TilesHull t) (i j : ℕ) (free : IsFreeOfVerti
     end = below_if_right (vertex t v) (vertex t y) (vertex t j) c.end;
   }
 
+  -- the last on the right by sides is so in the tiling
   pub last_right : (v : ℕ) → IsLastRight t i j v → F.IsLastRight (tiling t h) i j at_first at_second clear v
   unfolding tiling
   last_right v l = record {
@@ -119,6 +126,7 @@ module _ (t : Triangulation) (h : TilesHull t) (i j : ℕ) (free : IsFreeOfVerti
     nearer = λ u w c e. l.nearer u w (crossing u w c) (on_if_none (vertex t i) (vertex t v) (vertex t u) e);
   }
 
+  -- the last on the left by sides is so in the tiling
   pub last_left : (v y : ℕ) → IsLastLeft t i j v y → F.IsLastLeft (tiling t h) i j at_first at_second clear v y
   unfolding tiling
   last_left v y l = record {
@@ -126,10 +134,12 @@ module _ (t : Triangulation) (h : TilesHull t) (i j : ℕ) (free : IsFreeOfVerti
     nearer = λ w c e. l.nearer w (crossing v w c) (on_if_none (vertex t i) (vertex t y) (vertex t w) e);
   }
 
+-- where no edge crosses the segment of two vertices with none strictly between, they are joined
 pub uncrossed_is_edge : UncrossedIsEdge
 unfolding tiling
 uncrossed_is_edge t i j h free none = (h.sides i j).1 (edge_if_uncrossed (tiling t h) i j (at_first t h i j free) (at_second t h i j free) (λ e. free.apart (sym e)) (clear t h i j free) (λ v y c. none v y (crossing t h i j free v y c)))
 
+-- the edge from the last right end to the last left end is across a strictly convex quadrilateral
 pub chosen_flip_is_convex : ChosenFlipIsConvex
 unfolding tiling
 chosen_flip_is_convex t i j v x y z h free c f g last_v last_y =

@@ -9,7 +9,7 @@ use Rattle.plane.proofs.IntegerLaws.{neg-mul_ℤ, mul-neg_ℤ}
 use Rattle.plane.proofs.IntegerOrder.{Sign, sign, below, none, above, lt_or_ge_ℤ, mul-pos_ℤ, mul-nonneg_ℤ, pos_of_mul-pos_ℤ, mul-nonpos_of_nonneg_nonpos_ℤ, zero-mul_ℤ, zero_of_mul-zero_ℤ, pos-ne-zero_ℤ}
 use Rattle.plane.proofs.Steps.{weak, weak_right, zero_weak, right_not_above, product_zero_left}
 use Rattle.plane.proofs.Solver.{◌⊕◌, ◌⊗◌, ring_in_from}
-use Rattle.plane.proofs.Means.{TwoWeights, two_weights, mean_of_two}
+use Rattle.plane.proofs.Means.{TwoWeights, two_weights, mean_of_two, turned_two}
 use Rattle.plane.proofs.Segments.{reach, reach-start, reach-end, reach_of_two, on_segment_is, on_segment-same, within_segment-same, on_of_within, only_point, same-sym, same-trans, start_on_segment, end_on_segment}
 use Rattle.plane.specs.Fraction.{Fraction, IsSame, OnSegment, WithinSegment, IsNotNegative, IsPositive}
 use Rattle.plane.specs.Side.{TurnsLeft}
@@ -62,14 +62,10 @@ other_none : (n k l x a b : ℤ) → n *ℤ x ≡ k *ℤ a +ℤ l *ℤ b → x �
 other_none n k l x a b e z hk d = zero_of_mul-zero_ℤ {k = k} {x = a} (pos-ne-zero_ℤ hk) (let m = zero-mul_ℤ l d in let y = zero-mul_ℤ n z in omega (arith, ints))
 
 other_above : (n k l x a b : ℤ) → n *ℤ x ≡ k *ℤ a +ℤ l *ℤ b → x ≡ pos 0 → pos 0 <ℤ k → pos 0 <ℤ l → b <ℤ pos 0 → pos 0 <ℤ a
-other_above n k l x a b e z hk hl hb = go (lt_or_ge_ℤ (pos 0) a)
+other_above n k l x a b e z hk hl hb = elim (lt_or_ge_ℤ (pos 0) a) [ inl h ↦ h | inr h ↦ absurd (low h) ]
   where
     low : a ≤ℤ pos 0 → ⊥
     low h = let m = mul-nonpos_of_nonneg_nonpos_ℤ {a = k} {b = a} (weak hk) h in let o = mul-pos_ℤ {a = l} {b = neg_ℤ b} hl (omega (arith, ints)) in let c = mul-neg_ℤ l b in let y = zero-mul_ℤ n z in omega (arith, ints)
-
-    go : (pos 0 <ℤ a) ⊎ (a ≤ℤ pos 0) → pos 0 <ℤ a
-    go (inl h) = h
-    go (inr h) = absurd (low h)
 
 module _ (p q : Fraction) (apart : ¬ IsSame p q) where
   on_p : bracket p q p ≡ pos 0
@@ -144,6 +140,7 @@ module _ (t : Triangulation) (c₀ : Meeting t) (p q : Fraction) (apart : ¬ IsS
     by_second : m.n *ℤ bracket q B p ≡ m.k *ℤ bracket q B A
     by_second = first_only m.n m.k m.l (bracket q B p) (bracket q B A) (bracket q B B) (m.along q B) (bracket-second q B)
 
+    -- from a point within an edge to its left, the edge itself is crossed first
     pub first_to_left : pos 0 <ℤ bracket A B q → IsFirst t p q (L.across a b)
     first_to_left high = first_crossing_here t p q apart a b (met_if t p q apart a b e (record {
       left = subst (λ z. pos 0 <ℤ z) (bracket-turned p q A) (left_by m.n (bracket q A p) m.l (bracket q A B) by_first m.n_above m.l_above (subst (λ z. pos 0 <ℤ z) (bracket-turned q A B) high));
@@ -173,6 +170,7 @@ module _ (t : Triangulation) (c₀ : Meeting t) (p q : Fraction) (apart : ¬ IsS
     first_before : pos 0 <ℤ reach p q B → reach p q A <ℤ pos 0
     first_before = other_below w.n w.k w.l (reach p q p) (reach p q A) (reach p q B) (reach_of_two IsPositive p q A B p w) (reach-start p q) w.k_allowed w.l_allowed
 
+    -- from a point within an edge along it, the overlap comes first
     pub first_along : bracket A B q ≡ pos 0 → IsAhead p B q → IsFirst t p q (L.along a b)
     unfolding bracket
     first_along z ahead = first_overlap t p q apart c₀ a b (
@@ -198,6 +196,7 @@ module _ (t : Triangulation) (c₀ : Meeting t) (p q : Fraction) (apart : ¬ IsS
         less : (ra qw rq aw : ℤ) → ra <ℤ pos 0 → pos 0 <ℤ rq → pos 0 <ℤ qw → pos 0 <ℤ aw → (ra *ℤ qw) <ℤ (rq *ℤ aw)
         less ra qw rq aw l h hq ha = let i = mul-pos_ℤ {a = rq} {b = aw} h ha in let j = mul-pos_ℤ {a = neg_ℤ ra} {b = qw} (omega (arith, ints)) hq in omega (arith, ints, neg-mul_ℤ ra qw)
 
+    -- one of the edge's ends is ahead
     pub one_ahead : bracket A B q ≡ pos 0 → IsAhead p B q ⊎ IsAhead p A q
     unfolding bracket
     one_ahead z = go (sign (reach p q B))
@@ -213,6 +212,7 @@ module _ (t : Triangulation) (c₀ : Meeting t) (p q : Fraction) (apart : ¬ IsS
             both : (a b : ℤ) → a ≡ pos 0 → b ≡ pos 0 → a ≡ b
             both a b e d = omega (arith, ints)
 
+-- from strictly within an edge, that edge comes first: crossed, or overlapped towards the end ahead
 pub first_from_an_edge : FirstFromEdge
 first_from_an_edge t h p q apart a b e here = (
   (λ s. first_to_left t c p q apart a b e here (above_if_left (vertex t a) (vertex t b) q s)),
@@ -245,20 +245,7 @@ inner_within a b p x m n = go (sign w.l)
 
     go : Sign w.l → IsSame p a ⊎ WithinSegment a b x
     go (below h) = absurd (right_not_above h w.l_allowed)
-    go (none h) = inl (at_first h)
-      where
-        at_first : w.l ≡ pos 0 → IsSame p a
-        at_first z = same_at_end b a p (record {
-          k = w.l;
-          l = w.k;
-          n = w.n;
-          k_allowed = w.l_allowed;
-          l_allowed = w.k_allowed;
-          positive = w.positive;
-          x = w.x ∙ lib.IntN.+ℤ_comm (w.k *ℤ a.x) (w.l *ℤ b.x);
-          y = w.y ∙ lib.IntN.+ℤ_comm (w.k *ℤ a.y) (w.l *ℤ b.y);
-          w = w.w ∙ lib.IntN.+ℤ_comm (w.k *ℤ a.w) (w.l *ℤ b.w);
-        }) z
+    go (none h) = inl (same_at_end b a p (turned_two IsNotNegative a b p w) h)
     go (above h) = inr (mean_of_two IsPositive a b x (record {
       k = v.k *ℤ w.k +ℤ w.n *ℤ v.l;
       l = v.k *ℤ w.l;
@@ -280,6 +267,7 @@ module _ (t : Triangulation) (h : JoinsLine t) (c₀ : Meeting t) (p : Fraction)
       go (inl s) = n (sym (c₀.one_vertex i a hi (c₀.ends a b e).0 (same-trans (vertex t i) p (vertex t a) (only_point p (vertex t a) (vertex t i) s (on_of_within p (vertex t a) (vertex t i) (past a (c₀.ends a b e).0 n))) s)))
       go (inr w) = c₀.none_within a b i e hi w
 
+  -- a point past the end of the line is on no edge
   pub off_past : IsPast t i p → (a b : ℕ) → IsEdge t a b → ¬ OnSegment (vertex t a) (vertex t b) p
   off_past past a b e m = go (ℕ_discrete a i)
     where
@@ -287,6 +275,7 @@ module _ (t : Triangulation) (h : JoinsLine t) (c₀ : Meeting t) (p : Fraction)
       go (no n) = not_past_and_on past a b e n m
       go (yes r) = not_past_and_on past b a (edge_flipped t a b e) (λ s. ((h.neighbours a b).0 e).apart (r ∙ sym s)) (turned_segment (vertex t a) (vertex t b) p m)
 
+-- where all vertices are on one line, a point outside is at no vertex and on no edge
 pub outside_is_off_line : OutsideIsOffLine
 outside_is_off_line t h meet one p i j (outer, away) = go away
   where
@@ -313,6 +302,7 @@ outside_is_off_line t h meet one p i j (outer, away) = go away
         at_vertex k hk s (yes r) = off_past t h c p i hi past i j outer.0 (on_segment-same (vertex t i) (vertex t j) (vertex t i) p (same-sym p (vertex t i) (subst (λ n. IsSame p (vertex t n)) r s)) (start_on_segment (vertex t i) (vertex t j)))
         at_vertex k hk s (no n) = n (c.one_vertex k i hk hi (same-trans (vertex t k) p (vertex t i) (same-sym p (vertex t k) s) (same-sym (vertex t i) p (only_point p (vertex t k) (vertex t i) s (on_of_within p (vertex t k) (vertex t i) (past k hk n))))))
 
+-- where all vertices are on one line, four sides tell too whether an edge is crossed
 pub crossing_on_line : CrossingOnLine
 crossing_on_line t h meet one = (
   (λ p q apart a b e. crossing_sides t p q apart a b e (ends_differ t (meeting_if t (line_ends t h) meet one) p q apart a b e)),

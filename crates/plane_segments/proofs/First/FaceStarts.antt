@@ -30,6 +30,7 @@ use Rattle.plane_segments.proofs.First.Firsts.{first_from_face}
 use Rattle.plane.proofs.Signs.{negation_not_negative, opposite_of_zero_of, not_positive_or_positive, positive_times_not_positive, opposite_of_positive, opposite_of_not_positive}
 
 -- ---- left at the start, and not right at a point: left at each point between
+-- a point of the segment before one that is not right of a line, from a start on its left, is on the left
 pub still_left : (p q : Fraction) (apart : ¬ IsSame p q) (u v z x : Fraction) → OnSegment p q z → OnSegment p q x → IsNearer p z x → pos 0 <ℤ bracket u v p → pos 0 ≤ℤ bracket u v x → pos 0 <ℤ bracket u v z
 unfolding slope
 still_left p q apart u v z x hz hx near hp least = go (lt_or_ge_ℤ (slope u v p q) (pos 0))
@@ -181,6 +182,7 @@ module _ (t : Triangulation) (h : TilesHull t) (p q : Fraction) (apart : ¬ IsSa
   a_turn : Turn (bracket p q A) (bracket p q B) (bracket p q C)
   a_turn = turn (bracket B C p) (bracket C A p) (bracket A B p) (bracket p q A) (bracket p q B) (bracket p q C) (sym (cramer A B C p p q) ∙ zero-mul_ℤ (bracket A B C) (bracket-first p q)) inside.second inside.third inside.first (not_both p q apart A B C turning inside)
 
+-- from strictly inside a face, the segment ends there, goes through a corner or crosses a side
 pub first_from_a_face : FirstFromFace
 first_from_a_face t h p q apart a b c f within = (
   (λ high. (

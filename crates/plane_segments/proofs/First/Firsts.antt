@@ -34,6 +34,7 @@ module _ (t : Triangulation) (p q : Fraction) (apart : ¬ IsSame p q) where
   none_sooner : (m k : Item) → IsPointOf t m p → (o : IsBefore t p q k m) → IsNearer p o.first o.second → ⊥
   none_sooner m k here o n = nothing_nearer p o.first (nearer-same_second p q apart o.first o.second p o.first_begins.shared o.second_begins.shared (start_on_segment p q) (at_start m here o.second o.second_begins) n)
 
+  -- from a vertex, the vertex itself comes first
   pub first_vertex : (v : ℕ) → IsVertex t v → IsSame p (vertex t v) → IsFirst t p q (L.at_vertex v)
   first_vertex v hv e = record { met = (hv, on_segment-same p q p (vertex t v) e (start_on_segment p q)); none_before = λ k _ o. go k o o.order }
     where
@@ -69,9 +70,11 @@ module _ (t : Triangulation) (p q : Fraction) (apart : ¬ IsSame p q) where
     side_met : Meets t p q (L.across b a)
     side_met = met_if t p q apart b a (edge_flipped t a b e) s
 
+    -- from outside, a hull edge that is crossed inwards comes first
     pub first_from_outside : IsOuter t a b → IsFirst t p q (L.across b a)
     first_from_outside outer = record { met = side_met; none_before = λ k met o. item_not_left_of_outer t h p q a b outer k met o.first o.first_begins.of_item (before_crossing t p q apart b a s k o) }
 
+    -- from inside a face, the side that is crossed comes first
     pub first_from_face : (c : ℕ) → IsFace t a b c → Inside (vertex t a) (vertex t b) (vertex t c) p → IsFirst t p q (L.across b a)
     first_from_face c f inside = record { met = side_met; none_before = λ k met o. none k met o (begins t p q (L.across b a) side_met) }
       where

@@ -10,7 +10,6 @@ use Rattle.plane.proofs.Solver.{num, ◌⊕◌, ◌⊖◌, ◌⊗◌, ring_in_fr
 use Rattle.plane.proofs.Means.{TwoWeights, two_weights}
 use Rattle.plane.proofs.Segments.{reach, reach_of_two, on_segment_is, on_segment-same, on_of_within, same-sym, start_on_segment, end_on_segment}
 use Rattle.plane.specs.Fraction.{Fraction, IsSame, OnSegment, IsPositive}
-use Rattle.plane.specs.Circle.{IsNearer}
 use Rattle.plane.specs.Tiling.{Triangulation, IsVertex, IsEdge, vertex, JoinsLine}
 use Rattle.plane.specs.Line.{Item, Meets, IsBefore, IsLineList, IsListAt}
 use Rattle.plane.specs.Line as L
@@ -33,7 +32,7 @@ use Rattle.plane_segments.proofs.Items.OverlapDecided.{through_last}
 use Rattle.plane_segments.proofs.Next.Vertices.{IsPast, is_past, last_at_end, next_overlap, before_end}
 use Rattle.plane_segments.proofs.Next.VertexEnds.{ahead_met}
 use Rattle.plane_segments.proofs.Walking.EachWalk.{ends_differ}
-use Rattle.plane_segments.proofs.First.OutsideStarts.{overlap_not_first, nearest_first, none_without}
+use Rattle.plane_segments.proofs.First.OutsideStarts.{NearestIsFirst, overlap_not_first, nearest_first, none_without}
 use Rattle.plane.proofs.Signs.{less_by_difference, magnitude_below, difference_is_positive, at_most_and_more}
 
 -- ---- numbers of a vertex strictly between two
@@ -162,12 +161,15 @@ module _ (t : Triangulation) (h : JoinsLine t) (c₀ : Meeting t) (p q : Fractio
         go (inr (inl o)) = (crossing_alone a b m).1.none_after (L.at_vertex v) met o
         go (inr (inr o)) = none_before_crossing a b m (L.at_vertex v) met o
 
-    pub nearest_on_line : (v : ℕ) → Meets t p q (L.at_vertex v) → ((w : ℕ) → Meets t p q (L.at_vertex w) → ¬ IsNearer p (vertex t w) (vertex t v)) → IsFirst t p q (L.at_vertex v)
+    -- the nearest vertex that is met comes first
+    pub nearest_on_line : NearestIsFirst t p q
     nearest_on_line v met = nearest_first t c₀ p q apart (only_vertex (none_across v met)) v met
 
+    -- where no vertex is met and no edge crossed, the walk is empty
     pub none_on_line : ((v : ℕ) → ¬ Meets t p q (L.at_vertex v)) → ((a b : ℕ) → ¬ Meets t p q (L.across a b)) → IsWalk t p q []
     none_on_line bare none = none_without t c₀ p q apart (only_vertex none) bare
 
+-- on one line of vertices, after a vertex comes the edge to the segment's end, or nothing
 pub next_on_line : NextOnLine
 next_on_line t h meet one p q apart v m = (
   last_at_end t p q apart v m,
@@ -178,6 +180,7 @@ next_on_line t h meet one p q apart v m = (
     c : Meeting t
     c = meeting_if t (line_ends t h) meet one
 
+-- on one line of vertices, the first item is the vertex or edge at the start, or the nearest vertex
 pub first_on_line : FirstOnLine
 first_on_line t h meet one p q apart = (first_vertex t p q apart, (λ a b w m. first_overlap t p q apart c a b m w), crossing_alone t h c p q apart, (λ off. (nearest_on_line t h c p q apart off, none_on_line t h c p q apart off)))
   where
@@ -188,6 +191,7 @@ first_on_line t h meet one p q apart = (first_vertex t p q apart, (λ a b w m. f
 list_at : (t : Triangulation) (p q : Fraction) → IsSame p q → (items : List Item) → IsListAt t p items → IsLineList t p q items
 list_at t p q e items at = record { met = λ n. absurd (n e); complete = λ n. absurd (n e); ordered = λ n. absurd (n e); equal_ends = λ _. at }
 
+-- from a point to itself the line list has the vertex there, or the edge that carries it, or nothing
 pub equal_ends : EqualEnds
 unfolding tiling
 equal_ends t p q e = (

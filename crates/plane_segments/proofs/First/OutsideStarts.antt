@@ -18,7 +18,8 @@ use Rattle.plane.specs.Line as L
 use Rattle.plane_delaunay.proofs.Points.Bracket.{bracket, bracket-swapped, bracket-first, meeting, cramer, above_if_left}
 use Rattle.plane_delaunay.proofs.Tilings.Faces.{Between, between-second, between-third, between-swapped}
 use Rattle.plane_delaunay.proofs.Floods.Flooded.{side_of_segment, segment_from}
-use Rattle.plane_delaunay.proofs.Tilings.Ground.{triangle_of_closed, turned_face, sides_of, face_of_side, side_listed}
+use Rattle.plane_delaunay.proofs.Tilings.Ground.{triangle_of_closed, sides_of, face_of_side, side_listed}
+use Rattle.plane.proofs.Triangles.{turned_face}
 use Rattle.plane_delaunay.proofs.Points.Members.{Member}
 use Rattle.plane_delaunay.proofs.Tilings.Meets.{on_side-closed}
 use Rattle.plane_delaunay.proofs.Tilings.OuterEdges.{face_not_left_of_outer}
@@ -35,6 +36,11 @@ use Rattle.plane_segments.proofs.Walking.EachWalk.{each_walk}
 use Rattle.plane.proofs.Signs.{negated_negative, opposite_of_zero_of, opposite_of_negative, opposite_of_not_positive}
 
 -- ---- any triangulation whose items have their order
+-- of the vertices that are met the nearest one is the first item
+abbrev pub NearestIsFirst : Triangulation → Fraction → Fraction → Type 0
+NearestIsFirst t p q = (v : ℕ) → Meets t p q (L.at_vertex v)
+    → ((w : ℕ) → Meets t p q (L.at_vertex w) → ¬ IsNearer p (vertex t w) (vertex t v)) → IsFirst t p q (L.at_vertex v)
+
 module _ (t : Triangulation) (c₀ : Meeting t) (p q : Fraction) (apart : ¬ IsSame p q) where
   vertex_begins : (v : ℕ) → Meets t p q (L.at_vertex v) → BeginsAt t p q (L.at_vertex v) (vertex t v)
   vertex_begins v m = record { shared = m.1; of_item = same-refl (vertex t v); first = λ r _ e. same_not_nearer p r (vertex t v) e }
@@ -63,7 +69,8 @@ module _ (t : Triangulation) (c₀ : Meeting t) (p q : Fraction) (apart : ¬ IsS
 
   -- where the first item is a vertex, it is the nearest, and there is none without a vertex
   module _ (only : (m : Item) → IsFirst t p q m → (v : ℕ) × (m ≡ L.at_vertex v)) where
-    pub nearest_first : (v : ℕ) → Meets t p q (L.at_vertex v) → ((w : ℕ) → Meets t p q (L.at_vertex w) → ¬ IsNearer p (vertex t w) (vertex t v)) → IsFirst t p q (L.at_vertex v)
+    -- the nearest vertex that is met comes first
+    pub nearest_first : NearestIsFirst t p q
     nearest_first v met nearest = go (each_walk t c₀ p q apart).items (each_walk t c₀ p q apart).walk
       where
         at_first : (w : ℕ) → IsFirst t p q (L.at_vertex w) → IsFirst t p q (L.at_vertex v)
@@ -78,6 +85,7 @@ module _ (t : Triangulation) (c₀ : Meeting t) (p q : Fraction) (apart : ¬ IsS
         go [] w = absurd (w (L.at_vertex v) met)
         go (m ∷ ms) w = let o = only m w.0 in at_first o.0 (subst (IsFirst t p q) o.1 w.0)
 
+    -- where no vertex is met, the walk is empty
     pub none_without : ((v : ℕ) → ¬ Meets t p q (L.at_vertex v)) → IsWalk t p q []
     none_without bare = go (each_walk t c₀ p q apart).items (each_walk t c₀ p q apart).walk
       where
@@ -198,6 +206,7 @@ module _ (t : Triangulation) (h : TilesHull t) (p q : Fraction) (apart : ¬ IsSa
         met : Meets t p q (L.at_vertex k)
         met = ((h.corners j i k f).2, there)
 
+    -- a segment from outside does not begin with such a side
     pub not_from_face : ⊥
     not_from_face = go (trichotomy_ℤ (bracket p q K))
       where
@@ -222,6 +231,7 @@ module _ (t : Triangulation) (h : TilesHull t) (p q : Fraction) (apart : ¬ IsSa
       go (inl m) = let g = face_of_side t j i m in not_from_face i j g.0 g.1 (signs_of t p q apart i j (edge_apart t h i j f.met.0) f.met) f
       go (inr n) = none j i (edge_flipped t i j f.met.0, λ g. n (side_listed t h j i g.0 g.1)) f.met
 
+-- from outside, where no outer edge is crossed inwards, the nearest vertex on the segment comes first
 pub first_from_the_outside : FirstFromOutside
 first_from_the_outside t h p q apart i j outer turns none = (nearest_first t (meeting_of_hull t h) p q apart (only_vertex t h p q apart out none), none_without t (meeting_of_hull t h) p q apart (only_vertex t h p q apart out none))
   where

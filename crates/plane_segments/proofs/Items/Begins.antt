@@ -35,10 +35,12 @@ use Rattle.plane.proofs.Signs.{opposite_of_negative}
 pub above-same : (u v y x : Fraction) → IsSame y x → pos 0 <ℤ bracket u v y → pos 0 <ℤ bracket u v x
 above-same u v y x e h = pos_of_mul-pos_ℤ {k = y.w} {x = bracket u v x} y.positive (subst (λ n. pos 0 <ℤ n) (same_bracket u v y x e) (mul-pos_ℤ {a = x.w} {b = bracket u v y} x.positive h))
 
+-- the ends of an edge can be named in either order
 pub edge_flipped : (t : Triangulation) (i j : ℕ) → IsEdge t i j → IsEdge t j i
 edge_flipped t i j (inl e) = inr e
 edge_flipped t i j (inr e) = inl e
 
+-- the bracket of a segment's ends and a point of it is 0
 pub on_line : (a b x : Fraction) → OnSegment a b x → bracket a b x ≡ pos 0
 unfolding bracket
 on_line a b x m = bracket_of_line a b x (inl m)
@@ -108,6 +110,7 @@ module _ (t : Triangulation) (p q : Fraction) (apart : ¬ IsSame p q) where
                   let o : neg_ℤ x *ℤ aw ≡ neg_ℤ (x *ℤ aw) = neg-mul_ℤ x aw in
                   omega (arith, ints)
 
+  -- an edge whose ends are on both sides, and which the segment reaches, is crossed
   pub met_if : (a b : ℕ) → IsEdge t a b → Signs p q (vertex t a) (vertex t b) → Meets t p q (L.across a b)
   unfolding bracket slope
   met_if a b e s = (e, met, go (trichotomy_ℤ (bracket A B q)))

@@ -23,6 +23,7 @@ through a u b v c w h k hu hv hw = lt_of_mul-lt-mul_ℤ {k = v} hv (chain (mul-l
     chain : {x y z x' y' z' : ℤ} → x <ℤ y → y' <ℤ z → x' ≡ x → y ≡ y' → z' ≡ z → x' <ℤ z'
     chain h k e d c = omega (arith, ints)
 
+-- where a / u is at most b / v, and b / v is below c / w, a / u is below c / w
 pub through_weak : (a u b v c w : ℤ) → (a *ℤ v) ≤ℤ (b *ℤ u) → (b *ℤ w) <ℤ (c *ℤ v) → pos 0 <ℤ u → pos 0 <ℤ v → pos 0 <ℤ w → (a *ℤ w) <ℤ (c *ℤ u)
 through_weak a u b v c w h k hu hv hw = lt_of_mul-lt-mul_ℤ {k = v} hv (chain (mul-le-mul_ℤ {k = w} (weak hw) h) (mul-lt-mul_ℤ {k = u} hu k) (swap_first v a w) (swap_first w b u) (swap_first v c u))
   where
@@ -30,9 +31,11 @@ through_weak a u b v c w h k hu hv hw = lt_of_mul-lt-mul_ℤ {k = v} hv (chain (
     chain h k e d c = omega (arith, ints)
 
 module _ (p q : Fraction) (apart : ¬ IsSame p q) where
+  -- of three points of the segment the order passes on
   pub nearer_through : (x y z : Fraction) → OnSegment p q x → OnSegment p q y → OnSegment p q z → IsNearer p x y → IsNearer p y z → IsNearer p x z
   nearer_through x y z hx hy hz h k = nearer_if p q apart x z hx hz (through (reach p q x) x.w (reach p q y) y.w (reach p q z) z.w (reach_less p q apart x y hx hy h) (reach_less p q apart y z hy hz k) x.positive y.positive z.positive)
 
+  -- the same point in the first place has the same order
   pub nearer-same_first : (x x' y : Fraction) → OnSegment p q x → OnSegment p q x' → OnSegment p q y → IsSame x x' → IsNearer p x y → IsNearer p x' y
   nearer-same_first x x' y hx hx' hy e h = go (placed p q apart x' y hx' hy)
     where
@@ -41,6 +44,7 @@ module _ (p q : Fraction) (apart : ¬ IsSame p q) where
       go (as_soon s) = absurd (same_not_nearer p x y (same-trans x x' y e s) h)
       go (later n) = absurd (same_not_nearer p x x' e (nearer_through x y x' hx hy hx' h n))
 
+  -- the same point in the second place has the same order
   pub nearer-same_second : (x y y' : Fraction) → OnSegment p q x → OnSegment p q y → OnSegment p q y' → IsSame y y' → IsNearer p x y → IsNearer p x y'
   nearer-same_second x y y' hx hy hy' e h = go (placed p q apart x y' hx hy')
     where
@@ -67,6 +71,7 @@ module _ (t : Triangulation) (p q : Fraction) (apart : ¬ IsSame p q) where
   vertex_and_overlap (L.across i j) n l w v = w
   vertex_and_overlap (L.along i j) n l w v = w
 
+  -- no two items are each before the other
   pub not_both_before : (m n : Item) → IsBefore t p q m n → ¬ IsBefore t p q n m
   not_both_before m n o r = go o.order r.order
     where
@@ -84,6 +89,7 @@ module _ (t : Triangulation) (p q : Fraction) (apart : ¬ IsSame p q) where
       go (inr h) (inl k) = same_not_nearer p r.first r.second (same-trans r.first o.second r.second y_same (same-trans o.second o.first r.second (same-sym o.first o.second h.0) (same-sym r.second o.first x_same))) k
       go (inr h) (inr k) = vertex_or_overlap m n h.1 k.1
 
+  -- the order of items passes on
   pub before_through : (m n k : Item) → IsBefore t p q m n → IsBefore t p q n k → IsBefore t p q m k
   before_through m n k o r = record { first = o.first; second = r.second; first_begins = o.first_begins; second_begins = r.second_begins; order = inl (go o.order r.order) }
     where

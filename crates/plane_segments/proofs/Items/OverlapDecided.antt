@@ -126,6 +126,7 @@ module _ (p q u v : Fraction) (apart : ¬ IsSame p q) (o : Overlaps p q u v) whe
         w = weights_w (reach u v v) (reach u v z) u.w v.w z.w;
       })
 
+  -- an edge on the line, in the segment's direction, overlaps it where their parts meet
   pub overlaps_if : OverlapAlong p q u v
   overlaps_if = record { near = near.at; far = far.at; near_first = near.first; near_second = near.second; far_first = far.first; far_second = far.second; from_s = from_p; from_u = from_start }
 

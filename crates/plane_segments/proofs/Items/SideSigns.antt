@@ -9,6 +9,7 @@ use Rattle.plane.specs.Fraction.{Fraction}
 use Rattle.plane.specs.Side.{side, left, right, on}
 use Rattle.plane_delaunay.proofs.Points.Bracket.{bracket, left_if_above}
 
+-- where a point is not on the left, the bracket is not above 0
 pub not_left : (u v x : Fraction) → side u v x ≢ left → bracket u v x ≤ℤ pos 0
 not_left u v x n = go (trichotomy_ℤ (bracket u v x))
   where
@@ -17,14 +18,17 @@ not_left u v x n = go (trichotomy_ℤ (bracket u v x))
     go (inr (inl h)) = zero_weak h
     go (inr (inr h)) = absurd (n (left_if_above u v x h))
 
+-- where a point is not on the right, the bracket is not below 0
 pub not_right : (u v x : Fraction) → side u v x ≢ right → pos 0 ≤ℤ bracket u v x
 unfolding bracket
 not_right u v x n = if_not_right u v x n
 
+-- where a point is on the right, the bracket is below 0
 pub below_if_right : (u v x : Fraction) → side u v x ≡ right → bracket u v x <ℤ pos 0
 unfolding bracket
 below_if_right u v x e = if_right u v x e
 
+-- where a point is on the line, the bracket is 0
 pub none_if_on : (u v x : Fraction) → side u v x ≡ on → bracket u v x ≡ pos 0
 unfolding bracket
 none_if_on u v x e = if_on u v x e

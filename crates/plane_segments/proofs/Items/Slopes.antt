@@ -21,6 +21,7 @@ use Rattle.plane.proofs.Signs.{less_by_difference, difference_is_positive}
 unfoldable pub slope : Fraction → Fraction → Fraction → Fraction → ℤ
 slope u v p q = bracket u v q *ℤ p.w -ℤ bracket u v p *ℤ q.w
 
+-- from a point on the right of a line to one that is not, the slope is above 0
 pub slope_above : (u v p q : Fraction) → bracket u v p <ℤ pos 0 → pos 0 ≤ℤ bracket u v q → pos 0 <ℤ slope u v p q
 unfolding slope
 slope_above u v p q low high = rise (bracket u v q) (bracket u v p) p.w q.w high low p.positive q.positive
@@ -28,6 +29,7 @@ slope_above u v p q low high = rise (bracket u v q) (bracket u v p) p.w q.w high
     rise : (f g pw qw : ℤ) → pos 0 ≤ℤ f → g <ℤ pos 0 → pos 0 <ℤ pw → pos 0 <ℤ qw → pos 0 <ℤ (f *ℤ pw -ℤ g *ℤ qw)
     rise f g pw qw hf hg hp hq = let m = mul-nonneg_ℤ {a = f} {b = pw} hf (weak hp) in let n = mul-pos_ℤ {a = neg_ℤ g} {b = qw} (omega (arith, ints)) hq in let c = neg-mul_ℤ g qw in omega (arith, ints)
 
+-- between two means of p and q, a linear form rises by the way between them times its whole rise
 pub even : (l pw qw xw zw rx rz fp fq fx fz : ℤ) → (l *ℤ pw) *ℤ fx ≡ (l *ℤ xw -ℤ rx *ℤ qw) *ℤ fp +ℤ (rx *ℤ pw) *ℤ fq → (l *ℤ pw) *ℤ fz ≡ (l *ℤ zw -ℤ rz *ℤ qw) *ℤ fp +ℤ (rz *ℤ pw) *ℤ fq
     → (l *ℤ pw) *ℤ (fz *ℤ xw -ℤ fx *ℤ zw) ≡ (rz *ℤ xw -ℤ rx *ℤ zw) *ℤ (fq *ℤ pw -ℤ fp *ℤ qw)
 even l pw qw xw zw rx rz fp fq fx fz e d = ring_in_from (l ∷ pw ∷ qw ∷ xw ∷ zw ∷ rx ∷ rz ∷ fp ∷ fq ∷ fx ∷ fz ∷ [])
@@ -48,6 +50,7 @@ module _ (p q : Fraction) (apart : ¬ IsSame p q) where
     w = weights_w (reach p q q) (reach p q z) p.w q.w z.w;
   }) u v
 
+  -- along the segment the side of a line changes evenly with the way
   pub evenly : (u v x z : Fraction) → OnSegment p q x → OnSegment p q z → (reach p q q *ℤ p.w) *ℤ (bracket u v z *ℤ x.w -ℤ bracket u v x *ℤ z.w) ≡ (reach p q z *ℤ x.w -ℤ reach p q x *ℤ z.w) *ℤ slope u v p q
   unfolding slope
   evenly u v x z hx hz = even (reach p q q) p.w q.w x.w z.w (reach p q x) (reach p q z) (bracket u v p) (bracket u v q) (bracket u v x) (bracket u v z) (along u v x hx) (along u v z hz)

@@ -5,15 +5,14 @@ use Rattle.std.specs.Prelude.{pos, ◌<ℤ◌}
 use Rattle.plane.proofs.Steps.{weak, left_not_zero}
 use Rattle.plane.proofs.Segments.{on_segment_is, end_on_segment, start_on_segment}
 use Rattle.plane.specs.Fraction.{Fraction, IsSame, OnSegment}
-use Rattle.plane.specs.Tiling.{Triangulation, IsVertex, IsEdge, IsFace, HasFace, vertex, TilesHull}
+use Rattle.plane.specs.Tiling.{Triangulation, IsEdge, IsFace, HasFace, vertex, TilesHull}
 use Rattle.plane.specs.Location.{IsOuter}
 use Rattle.plane.specs.Line.{Item, IsPointOf, Meets, IsBefore}
 use Rattle.plane.specs.Line as L
 use Rattle.plane_delaunay.proofs.Points.Bracket.{bracket, above_if_left, left_if_above}
-use Rattle.plane_delaunay.proofs.Tilings.Ground.{tiling, triangle_of_closed}
+use Rattle.plane_delaunay.proofs.Tilings.Ground.{triangle_of_closed}
 use Rattle.plane_delaunay.proofs.Tilings.Meets.{on_side-closed}
-use Rattle.plane_delaunay.proofs.Tilings.Where.{corner_of_face}
-use Rattle.plane_delaunay.proofs.Tilings.OuterEdges.{face_not_left_of_outer}
+use Rattle.plane_delaunay.proofs.Tilings.OuterEdges.{edge_of_corner, face_not_left_of_outer}
 use Rattle.plane_delaunay.proofs.Floods.Flooded.{side_of_segment}
 use Rattle.plane_delaunay.proofs.Segments.LineItems.{turned_segment}
 use Rattle.plane_delaunay.proofs.Points.AlongSegment.{Placed, sooner, as_soon, later, placed, reach_less}
@@ -41,6 +40,7 @@ last_on_edge t p q apart a b s on = record { none_after = λ k _ o. none k o }
         go (later n) = at_most_and_more _ _ ((on_segment_is p q o.second apart).0 o.second_begins.shared).2 (reach_less p q apart q o.second (end_on_segment p q) o.second_begins.shared n)
 
 module _ (t : Triangulation) (h : TilesHull t) where
+  -- no point of an edge is outside a hull edge
   pub edge_not_left : (a b i j : ℕ) (z : Fraction) → IsOuter t a b → IsEdge t i j → OnSegment (vertex t i) (vertex t j) z → ¬ (pos 0 <ℤ bracket (vertex t a) (vertex t b) z)
   edge_not_left a b i j z outer e on high = go ((h.sides i j).0 e)
     where
@@ -53,13 +53,9 @@ module _ (t : Triangulation) (h : TilesHull t) where
       go (inl f) = at_face i j f.0 f.1 on
       go (inr f) = at_face j i f.0 f.1 (turned_segment (vertex t i) (vertex t j) z on)
 
-  pub vertex_edge : (i : ℕ) → IsVertex t i → (j : ℕ) × IsEdge t i j
-  unfolding tiling
-  vertex_edge i hi = let f = corner_of_face (tiling t h) i hi in (f.0, (h.sides i f.0).1 (inl (f.1, f.2)))
-
   -- no item is left of an outer edge
   pub item_not_left_of_outer : (p q : Fraction) (a b : ℕ) → IsOuter t a b → (k : Item) → Meets t p q k → (z : Fraction) → IsPointOf t k z → ¬ (pos 0 <ℤ bracket (vertex t a) (vertex t b) z)
-  item_not_left_of_outer p q a b outer (L.at_vertex i) met z s high = let e = vertex_edge i met.0 in edge_not_left a b i e.0 (vertex t i) outer e.1 (start_on_segment (vertex t i) (vertex t e.0)) (above-same (vertex t a) (vertex t b) z (vertex t i) s high)
+  item_not_left_of_outer p q a b outer (L.at_vertex i) met z s high = let e = edge_of_corner t h i met.0 in edge_not_left a b i e.0 (vertex t i) outer e.1 (start_on_segment (vertex t i) (vertex t e.0)) (above-same (vertex t a) (vertex t b) z (vertex t i) s high)
   item_not_left_of_outer p q a b outer (L.across i j) met z s high = edge_not_left a b i j z outer met.0 s high
   item_not_left_of_outer p q a b outer (L.along i j) met z s high = edge_not_left a b i j z outer met.0 s high
 

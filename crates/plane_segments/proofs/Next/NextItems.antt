@@ -17,7 +17,7 @@ use Rattle.plane.specs.Line as L
 use Rattle.plane_delaunay.proofs.Points.Bracket.{bracket, bracket-swapped, bracket-first, cramer, meeting, above_if_left}
 use Rattle.plane_delaunay.proofs.Points.Nudges.{Inside}
 use Rattle.plane_delaunay.proofs.Tilings.Faces.{Between, between-swapped, between-second, between-third, turned-above}
-use Rattle.plane_delaunay.proofs.Tilings.Ground.{turned_face}
+use Rattle.plane.proofs.Triangles.{turned_face}
 use Rattle.plane_delaunay.proofs.Floods.Flooded.{segment_from}
 use Rattle.plane_delaunay.proofs.Segments.LineItems.{Begins, begins, between_of, met_within, meeting_of_hull}
 use Rattle.plane_segments.specs.Steps.{ComesNext, IsLast}
@@ -72,18 +72,22 @@ seen_by : (a b d z p q : Fraction) → OnSegment p q z → bracket a b d *ℤ po
 seen_by a b d z p q h = ap (λ n. bracket a b d *ℤ n) (sym (on_line p q z h)) ∙ cramer a b d z p q
 
 module _ (t : Triangulation) (h : TilesHull t) (p q : Fraction) (apart : ¬ IsSame p q) (a b d : ℕ) (m : Meets t p q (L.across a b)) (s : Signs p q (vertex t a) (vertex t b)) (f : IsFace t a b d) where
+  -- the edge's first end
   abbrev pub A : Fraction
   A = vertex t a
 
+  -- the edge's second end
   abbrev pub B : Fraction
   B = vertex t b
 
+  -- the corner of the face ahead
   abbrev pub D : Fraction
   D = vertex t d
 
   turning : pos 0 <ℤ bracket A B D
   turning = above_if_left A B D (h.turning a b d f)
 
+  -- the point where the segment crosses the edge
   abbrev pub crossed : Fraction
   crossed = m.1.at
 
@@ -139,6 +143,7 @@ module _ (t : Triangulation) (h : TilesHull t) (p q : Fraction) (apart : ¬ IsSa
     second_met : Meets t p q (L.across d b)
     second_met = met_if t p q apart d b (edge_flipped t b d second_edge) second_signs
 
+    -- the edge from d to b is crossed next
     pub next_left : ComesNext t p q (L.across a b) (L.across d b)
     next_left = record {
       met = second_met;
@@ -163,6 +168,7 @@ module _ (t : Triangulation) (h : TilesHull t) (p q : Fraction) (apart : ¬ IsSa
     third_met : Meets t p q (L.across a d)
     third_met = met_if t p q apart a d (edge_flipped t d a third_edge) third_signs
 
+    -- the edge from a to d is crossed next
     pub next_right : ComesNext t p q (L.across a b) (L.across a d)
     next_right = record {
       met = third_met;
@@ -191,6 +197,7 @@ module _ (t : Triangulation) (h : TilesHull t) (p q : Fraction) (apart : ¬ IsSa
     corner_begins : BeginsAt t p q (L.at_vertex d) D
     corner_begins = record { shared = corner_on; of_item = same-refl D; first = λ r _ e. same_not_nearer p r D e }
 
+    -- the vertex d comes next
     pub next_vertex : ComesNext t p q (L.across a b) (L.at_vertex d)
     next_vertex = record { met = corner_met; after = comes_after (L.at_vertex d) D corner_begins turning; none_between = none }
       where
@@ -238,6 +245,7 @@ module _ (t : Triangulation) (h : TilesHull t) (p q : Fraction) (apart : ¬ IsSa
           near : IsNearer p crossed o.second
           near = higher_is_later p q apart A B crossed o.second on_way o.second_begins.shared (rising p q A B s.left s.right) (zero_weak (on_line A B crossed m.1.meet.second)) high
 
+  -- a segment that ends within the face, with d not on its left, crosses nothing more
   pub last_right : bracket p q D ≤ℤ pos 0 → pos 0 <ℤ bracket D A q → IsLast t p q (L.across a b)
   last_right right ends = record { none_after = none }
     where

@@ -20,9 +20,11 @@ use Rattle.plane_segments.proofs.Items.Orders.{through_weak, nearer_through, nea
 use Rattle.plane.proofs.Signs.{at_most_both_ways, differences_both_positive, difference_is_positive, at_most_and_more}
 
 module _ (t : Triangulation) (c₀ : Meeting t) (p q : Fraction) (apart : ¬ IsSame p q) (a b : ℕ) (m : Meets t p q (L.along a b)) where
+  -- the edge's first end
   abbrev pub A : Fraction
   A = vertex t a
 
+  -- the edge's second end
   abbrev pub B : Fraction
   B = vertex t b
 
@@ -107,6 +109,7 @@ module _ (t : Triangulation) (c₀ : Meeting t) (p q : Fraction) (apart : ¬ IsS
       go (as_soon e) = nearer-same_second p q apart m.1.near m.1.far q m.1.near_first m.1.far_first (end_on_segment p q) e m.1.from_s
       go (later n) = absurd (at_most_and_more _ _ ((on_segment_is p q m.1.far apart).0 m.1.far_first).2 (reach_less p q apart q m.1.far (end_on_segment p q) m.1.far_first n))
 
+  -- after an overlap comes the edge's end, unless the segment ends within the edge
   pub next_unless_within : ¬ WithinSegment A B q → ComesNext t p q (L.along a b) (L.at_vertex b)
   next_unless_within n = go reaches_end
     where
@@ -114,6 +117,7 @@ module _ (t : Triangulation) (c₀ : Meeting t) (p q : Fraction) (apart : ¬ IsS
       go (inl on) = next_at_end on
       go (inr less) = absurd (n (at_last less))
 
+  -- an overlap in which the segment ends is the last item
   pub last_within : WithinSegment A B q → IsLast t p q (L.along a b)
   last_within w = go reaches_end
     where

@@ -17,7 +17,8 @@ use Rattle.plane.specs.Tiling.{Triangulation, IsEdge, IsFace, HasFace, vertex, T
 use Rattle.plane.specs.Line.{Item, IsPointOf, Meets}
 use Rattle.plane.specs.Line as L
 use Rattle.plane_delaunay.proofs.Points.Bracket.{bracket, bracket-swapped, bracket-first, bracket-second, cramer, cramer-w, above_if_left}
-use Rattle.plane_delaunay.proofs.Tilings.Ground.{face_in_hull, turned_face}
+use Rattle.plane_delaunay.proofs.Tilings.Ground.{face_in_hull}
+use Rattle.plane.proofs.Triangles.{turned_face}
 use Rattle.plane_delaunay.proofs.Tilings.Meets.{on_side-closed}
 use Rattle.plane_delaunay.proofs.Tilings.Cones.{cone_at_vertex}
 use Rattle.plane_delaunay.proofs.Circles.EmptyCircles.{weights_along}
@@ -26,7 +27,7 @@ use Rattle.plane_delaunay.proofs.Segments.LineItems.{turned_segment}
 use Rattle.plane_delaunay.proofs.Points.AlongSegment.{Placed, sooner, as_soon, later, placed, reach_less, nearer_if, after_first}
 use Rattle.plane_segments.specs.Steps.{IsLast, IsAhead}
 use Rattle.plane_segments.proofs.Items.SideSigns.{not_right}
-use Rattle.plane_segments.proofs.Next.Ends.{vertex_edge}
+use Rattle.plane_delaunay.proofs.Tilings.OuterEdges.{edge_of_corner}
 use Rattle.plane_segments.proofs.Next.Vertices.{IsPast, is_past, past_left, before_end}
 use Rattle.plane.proofs.Signs.{at_most_by_difference_to, sum_not_negative_of, at_most_and_more, opposite_of_positive, opposite_of_negative}
 
@@ -71,7 +72,7 @@ ray n k l v b q hn hl e w = go (trichotomy_ℤ k)
 module _ (t : Triangulation) (h : TilesHull t) where
   -- a point of an item is on an edge
   on_some_edge : (p q : Fraction) (k : Item) → Meets t p q k → (z : Fraction) → IsPointOf t k z → (i j : ℕ) × IsEdge t i j × OnSegment (vertex t i) (vertex t j) z
-  on_some_edge p q (L.at_vertex i) met z s = let e = vertex_edge t h i met.0 in (i, e.0, e.1, on_segment-same (vertex t i) (vertex t e.0) (vertex t i) z (same-sym z (vertex t i) s) (start_on_segment (vertex t i) (vertex t e.0)))
+  on_some_edge p q (L.at_vertex i) met z s = let e = edge_of_corner t h i met.0 in (i, e.0, e.1, on_segment-same (vertex t i) (vertex t e.0) (vertex t i) z (same-sym z (vertex t i) s) (start_on_segment (vertex t i) (vertex t e.0)))
   on_some_edge p q (L.across i j) met z s = (i, j, met.0, s)
   on_some_edge p q (L.along i j) met z s = (i, j, met.0, s)
 
@@ -86,6 +87,7 @@ module _ (t : Triangulation) (h : TilesHull t) where
       go (inr f) = at_face j i f.0 f.1 (turned_segment (vertex t i) (vertex t j) z on)
 
 module _ (t : Triangulation) (p q : Fraction) (apart : ¬ IsSame p q) (v : ℕ) (m : Meets t p q (L.at_vertex v)) (two : ¬ IsSame (vertex t v) q) where
+  -- the vertex's point
   abbrev pub V : Fraction
   V = vertex t v
 

@@ -15,7 +15,7 @@ use Rattle.plane.specs.Line as L
 use Rattle.plane_delaunay.proofs.Points.Bracket.{bracket, bracket-swapped, bracket-turned, bracket-first, bracket-second, above_if_left}
 use Rattle.plane_delaunay.proofs.Points.Nudges.{Inside, size, nudge, nudge-above, nudge-on}
 use Rattle.plane_delaunay.proofs.Tilings.Faces.{turned-above}
-use Rattle.plane_delaunay.proofs.Tilings.Ground.{turned_face}
+use Rattle.plane.proofs.Triangles.{turned_face}
 use Rattle.plane_delaunay.proofs.Points.Hull.{nudge_in_hull}
 use Rattle.plane_delaunay.proofs.Points.AlongSegment.{Placed, sooner, as_soon, later, placed, reach_less, not_both_nearer, not_before}
 use Rattle.plane_delaunay.proofs.Segments.LineItems.{Begins, begins}
@@ -26,6 +26,7 @@ use Rattle.plane_segments.proofs.Items.Orders.{nearer_through, nearer-same_first
 use Rattle.plane.proofs.Signs.{at_most_and_more, opposite_of_positive, opposite_of_not_positive}
 
 module _ (t : Triangulation) (p q : Fraction) (apart : ¬ IsSame p q) (v : ℕ) (m : Meets t p q (L.at_vertex v)) where
+  -- the vertex's point
   abbrev pub V : Fraction
   V = vertex t v
 
@@ -53,6 +54,7 @@ module _ (t : Triangulation) (p q : Fraction) (apart : ¬ IsSame p q) (v : ℕ) 
       go (as_soon s) = nearer-same_first p q apart met.1.near V met.1.far met.1.near_first m.1 met.1.far_first (same-sym V met.1.near s) met.1.from_s
       go (later n) = absurd (by.first met.1.near met.1.near_first met.1.near_second (nearer-same_second p q apart met.1.near V y met.1.near_first m.1 by.shared e n))
 
+  -- an item after the vertex has a point past it
   pub is_past : (k : Item) → Meets t p q k → IsBefore t p q (L.at_vertex v) k → IsPast k
   is_past k met o = go k met o o.order
     where
@@ -115,9 +117,11 @@ module _ (t : Triangulation) (p q : Fraction) (apart : ¬ IsSame p q) (v : ℕ) 
 
   -- ---- through a face at the vertex, whose open cone the segment's end is in
   module _ (h : TilesHull t) (b c : ℕ) (f : IsFace t v b c) (first : pos 0 <ℤ bracket V (vertex t b) q) (third : pos 0 <ℤ bracket (vertex t c) V q) where
+    -- the face's second corner
     abbrev pub B : Fraction
     B = vertex t b
 
+    -- the face's third corner
     abbrev pub C : Fraction
     C = vertex t c
 
@@ -202,6 +206,7 @@ module _ (t : Triangulation) (p q : Fraction) (apart : ¬ IsSame p q) (v : ℕ) 
       side_met : Meets t p q (L.across c b)
       side_met = met_if t p q apart c b side_edge side_signs
 
+      -- the edge opposite the vertex is crossed next
       pub next_across : ComesNext t p q (L.at_vertex v) (L.across c b)
       next_across = record { met = side_met; after = go (begins t p q (L.across c b) side_met); none_between = λ k met o r. none_inside k met o r.first r.first_begins (λ _. before_crossing t p q apart c b side_signs k r) }
         where

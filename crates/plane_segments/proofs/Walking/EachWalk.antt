@@ -2,7 +2,7 @@
 use Rattle.std.proofs.Common.{◌≡◌, ℕ, zero, suc, ◌<◌, ◌≤◌, ◌+◌, List, [], ◌∷◌, length, arith, ap, refl, sym, ◌∙◌, subst, subst₂}
 use mathlib.Core.Logic.{◌⊎◌, inl, inr}
 use native.Mathlib.Decide.{dec_lt}
-use Rattle.std.specs.Prelude.{ℤ, pos, ◌<ℤ◌, ◌-ℤ◌, ◌*ℤ◌, ⊤}
+use Rattle.std.specs.Prelude.{pos, ◌*ℤ◌, ⊤}
 use Rattle.plane.proofs.Decisions.{Decision, decided_by, decide_both, decide_either, decide_on_segment, decide_meets_within, decide_turns_left, decide_below}
 use Rattle.plane.proofs.Segments.{reach, within_itself, same-refl}
 use Rattle.plane.proofs.Sides.{if_right, right_if}
@@ -112,6 +112,7 @@ module _ (t : Triangulation) (c₀ : Meeting t) (p q : Fraction) (apart : ¬ IsS
           none (L.along k l) (inr r) met = d (subst₂ (λ k l. Meets t p q (L.along k l)) r.0 r.1 met)
 
   -- ---- a list of items that are met, each before all after it
+  -- each item of the list is met, before all after it
   abbrev pub InOrder : List Item → Type 0
   InOrder [] = ⊤
   InOrder (m ∷ ms) = Meets t p q m × ((k : Item) → Member k ms → IsBefore t p q m k) × InOrder ms
@@ -256,6 +257,7 @@ module _ (t : Triangulation) (c₀ : Meeting t) (p q : Fraction) (apart : ¬ IsS
       later k r (inl e) = absurd (not_itself n k e r)
       later k r (inr i) = i
 
+  -- a list in order of all that is met is the walk
   pub walk_of : (ms : List Item) → InOrder ms → ((k : Item) → Meets t p q k → Member k ms) → IsWalk t p q ms
   walk_of [] o all = λ m met. all m met
   walk_of (m ∷ ms) o all = (record { met = o.0; none_before = λ k met. not_before k (all k met) }, goes_on m ms o (λ k met r. later k r (all k met)))
@@ -274,6 +276,7 @@ module _ (t : Triangulation) (c₀ : Meeting t) (p q : Fraction) (apart : ¬ IsS
     pub walk : IsWalk t p q items
     pub short : length items ≤ length t.points + length t.edges
 
+  -- each segment has a walk
   pub each_walk : Walked
   each_walk = go (edges (length t.points) (vertices (length t.points)) t.edges (λ i j m. inl (contained (i, j) t.edges m)))
     where

@@ -2,7 +2,7 @@
 use Rattle.std.proofs.Common.{◌≡◌, ◌≢◌, ℕ, ap}
 use mathlib.Core.Logic.{inl, inr}
 use native.Mathlib.Decide.{ℕ_discrete}
-use Rattle.std.specs.Prelude.{ℤ, pos, ◌*ℤ◌, slice_index_or}
+use Rattle.std.specs.Prelude.{pos, slice_index_or}
 use Rattle.plane.specs.Fraction.{whole, IsSame}
 use Rattle.plane.specs.Pairs.{place, IsIndex}
 use Rattle.plane.specs.Tiling.{IsTiling}
@@ -12,6 +12,7 @@ use Rattle.plane_tiling.proofs.Locations.{no_edges_cross}
 use Rattle.plane_segments.specs.WalkLaws.{IsLaid, MeshesAreLaid}
 use Rattle.plane_segments.proofs.Crossing.EitherWay.{one_point}
 
+-- the faces of a mesh tile the hull, or all vertices are on one line and its edges meet at vertices
 pub meshes_are_laid : MeshesAreLaid
 meshes_are_laid points faces outer edges mesh own = go (meshes_tile points faces outer edges mesh own)
   where

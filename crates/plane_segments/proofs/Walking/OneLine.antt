@@ -1,9 +1,9 @@
 -- Where all vertices are on one line: what the order of items rests on, and the last items there.
-use Rattle.std.proofs.Common.{◌≡◌, ℕ, refl, ◌∙◌}
+use Rattle.std.proofs.Common.{◌≡◌, ℕ, refl}
 use mathlib.Core.Logic.{◌⊎◌, inl, inr}
-use Rattle.std.specs.Prelude.{pos, ◌<ℤ◌, ◌*ℤ◌}
+use Rattle.std.specs.Prelude.{pos, ◌<ℤ◌}
 use Rattle.plane.proofs.IntegerOrder.{Sign, sign, below, none, above}
-use Rattle.plane.proofs.Means.{TwoWeights, two_weights, mean_of_two}
+use Rattle.plane.proofs.Means.{TwoWeights, two_weights, mean_of_two, turned_two}
 use Rattle.plane.proofs.Steps.{left_not_zero, right_not_above}
 use Rattle.plane.proofs.Sides.{if_on}
 use Rattle.plane.proofs.Segments.{on_segment-same, within_segment-same}
@@ -22,12 +22,14 @@ use Rattle.plane_segments.proofs.Items.Begins.{Signs, signs_of, above-same, afte
 use Rattle.plane_segments.specs.LineLaws.{StepsOnOneLine}
 use Rattle.plane_segments.proofs.Next.Overlaps.{last_within, next_unless_within}
 use Rattle.plane_segments.proofs.Walking.Walks.{walk_is_line_list}
+use Rattle.plane_segments.proofs.Walking.EachWalk.{ends_differ}
 
 module _ (t : Triangulation) (h : JoinsLine t) where
   level : (i j k : ℕ) → IsVertex t i → IsVertex t j → IsVertex t k → bracket (vertex t i) (vertex t j) (vertex t k) ≡ pos 0
   unfolding bracket
   level i j k hi hj hk = if_on (vertex t i) (vertex t j) (vertex t k) (h.straight i j k hi hj hk)
 
+  -- an edge of the line joins vertices
   pub line_ends : (i j : ℕ) → IsEdge t i j → IsVertex t i × IsVertex t j
   line_ends i j e = let n = (h.neighbours i j).0 e in (n.first, n.second)
 
@@ -62,17 +64,7 @@ stands a b x m = go (sign w.k) (sign w.l)
     go (below h) s = absurd (right_not_above h w.k_allowed)
     go (none h) s = at_second (same_at_end a b x w h)
     go (above h) (below k) = absurd (right_not_above k w.l_allowed)
-    go (above h) (none k) = at_first (same_at_end b a x (record {
-      k = w.l;
-      l = w.k;
-      n = w.n;
-      k_allowed = w.l_allowed;
-      l_allowed = w.k_allowed;
-      positive = w.positive;
-      x = w.x ∙ lib.IntN.+ℤ_comm (w.k *ℤ a.x) (w.l *ℤ b.x);
-      y = w.y ∙ lib.IntN.+ℤ_comm (w.k *ℤ a.y) (w.l *ℤ b.y);
-      w = w.w ∙ lib.IntN.+ℤ_comm (w.k *ℤ a.w) (w.l *ℤ b.w);
-    }) k)
+    go (above h) (none k) = at_first (same_at_end b a x (turned_two IsNotNegative a b x w) k)
     go (above h) (above k) = inside (mean_of_two IsPositive a b x (record { k = w.k; l = w.l; n = w.n; k_allowed = h; l_allowed = k; positive = w.positive; x = w.x; y = w.y; w = w.w }))
 
 -- where edges meet at their ends alone, and no two vertices are in one place, items have their order
@@ -102,16 +94,14 @@ meeting_if t ends apart one = record { ends = ends; none_within = apart.0; one_v
         go (inside w) (at_second s) = absurd (apart.0 a b d e (ends c d f).1 (within_segment-same (vertex t a) (vertex t b) x (vertex t d) s w))
         go (inside w) (inside y) = pair (apart.1 a b c d e f x w y)
 
+-- where all vertices are on one line, items have their order, and a walk gives the line list
 pub steps_on_one_line : StepsOnOneLine
 steps_on_one_line t h meet one p q apart = (
   line_items_are_ordered t c p q apart,
-  (λ a b m. last_across_line t h p q apart a b m.0 (signs_of t p q apart a b (two a b m.0) m)),
+  (λ a b m. last_across_line t h p q apart a b m.0 (signs_of t p q apart a b (ends_differ t c p q apart a b m.0) m)),
   (λ a b m. (last_within t c p q apart a b m, next_unless_within t c p q apart a b m)),
   walk_is_line_list t c p q apart,
 )
   where
     c : Meeting t
     c = meeting_if t (line_ends t h) meet one
-
-    two : (a b : ℕ) → IsEdge t a b → ¬ IsSame (vertex t a) (vertex t b)
-    two a b e s = let n = (h.neighbours a b).0 e in n.apart (one a b n.first n.second s)

@@ -39,9 +39,11 @@ edge_apart t h i j e = go ((h.sides i j).0 e)
     go (inl f) = corners_apart (vertex t i) (vertex t j) (vertex t f.0) (above_if_left _ _ _ (h.turning i j f.0 f.1))
     go (inr f) = same-turned (vertex t i) (vertex t j) (corners_apart (vertex t j) (vertex t i) (vertex t f.0) (above_if_left _ _ _ (h.turning j i f.0 f.1)))
 
+-- none of the items that a segment meets is before itself, and the order goes through
 pub items_follow : ItemsFollow
 items_follow t p q apart = (not_both_before t p q apart, before_through t p q apart)
 
+-- after a crossed edge comes a side or the third corner of the face on its left, or nothing
 pub next_after_crossing : NextAfterCrossing
 next_after_crossing t h p q apart a b d m f = (
   (λ x y. next_left t h p q apart a b d m s f (above_if_left p q D x) (not_left B D q y)),
@@ -63,6 +65,7 @@ next_after_crossing t h p q apart a b d m f = (
     s : Signs p q (vertex t a) (vertex t b)
     s = signs_of t p q apart a b (edge_apart t h a b m.0) m
 
+-- a crossed edge comes last where the segment ends on it, or the outer face is on its left
 pub last_crossing : LastCrossing
 last_crossing t h p q apart a b m = (
   (λ e. last_on_edge t p q apart a b s (none_if_on (vertex t a) (vertex t b) q e)),
@@ -72,9 +75,11 @@ last_crossing t h p q apart a b m = (
     s : Signs p q (vertex t a) (vertex t b)
     s = signs_of t p q apart a b (edge_apart t h a b m.0) m
 
+-- after an overlap comes the vertex at its end, unless the segment ends before
 pub next_after_overlap : NextAfterOverlap
 next_after_overlap t h p q apart a b m = (last_within t (meeting_of_hull t h) p q apart a b m, next_unless_within t (meeting_of_hull t h) p q apart a b m)
 
+-- after a vertex comes the overlap from there, or the far side of a face that the segment goes into
 pub next_after_vertex : NextAfterVertex
 next_after_vertex t h p q apart v m = (
   last_at_end t p q apart v m,
@@ -85,9 +90,11 @@ next_after_vertex t h p q apart v m = (
   ),
 )
 
+-- a vertex is the last where no edge there points to the segment's end, and no face there is entered
 pub last_vertex : LastVertex
 last_vertex t h p q apart v m two no_edge no_face = last_bare t p q apart v m two h no_edge (λ b c f x y. no_face b c f (left_if_above _ _ _ x) (left_if_above _ _ _ y))
 
+-- an edge at a vertex of the segment that points to the segment's end is overlapped
 pub overlap_ahead : OverlapAhead
 overlap_ahead t h p q apart v b m two e ahead = ahead_met t p q apart v m two b e (edge_apart t h v b e) ahead
 
@@ -110,9 +117,11 @@ crossing_sides t p q apart a b e two = (
   (λ x. met_if t p q apart a b e (record { left = above_if_left p q (vertex t a) x.0; right = below_if_right p q (vertex t b) x.1; start = not_left (vertex t a) (vertex t b) p x.2; end = not_right (vertex t a) (vertex t b) q x.3 })),
 )
 
+-- an edge is crossed from the right of the segment to its left exactly if four sides say so
 pub crossing_by_sides : CrossingBySides
 crossing_by_sides t h p q apart a b e = crossing_sides t p q apart a b e (edge_apart t h a b e)
 
+-- what carries the start comes first, or else the edge by which the segment leaves its face or the outside
 pub first_item : FirstItem
 first_item t h p q apart = (
   first_vertex t p q apart,
@@ -121,5 +130,6 @@ first_item t h p q apart = (
   (λ a b m outer. first_from_outside t p q apart h a b (edge_flipped t b a m.0) (signs_of t p q apart b a (edge_apart t h b a m.0) m) outer),
 )
 
+-- a walk from the first item to the last gives the line list
 pub walk_is_line_list : WalkIsLineList
 walk_is_line_list t h p q apart = walked t (meeting_of_hull t h) p q apart

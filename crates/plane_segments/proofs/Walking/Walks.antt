@@ -42,6 +42,7 @@ module _ (t : Triangulation) (c : Meeting t) (p q : Fraction) (apart : ¬ IsSame
   ordered_after m [] g = AllPairs-cons (IsBefore t p q) m [] (all_of (IsBefore t p q m) [] (λ x i. absurd i)) (no_pairs (IsBefore t p q))
   ordered_after m (n ∷ ns) g = AllPairs-cons (IsBefore t p q) m (n ∷ ns) (all_of (IsBefore t p q m) (n ∷ ns) (λ x i. after_all m (n ∷ ns) g x i)) (ordered_after n ns g.1)
 
+  -- a walk is a line list
   pub walk_is_line_list : (items : List Item) → IsWalk t p q items → IsLineList t p q items
   walk_is_line_list [] none = record { met = λ _ m i. absurd (member m [] i); complete = λ _ m met. absurd (none m met); ordered = λ _. no_pairs (IsBefore t p q); equal_ends = λ e. absurd (apart e) }
   walk_is_line_list (m ∷ ms) w = record { met = λ _ k i. met k (member k (m ∷ ms) i); complete = λ _ k met. contained k (m ∷ ms) (complete k met); ordered = λ _. ordered_after m ms w.1; equal_ends = λ e. absurd (apart e) }

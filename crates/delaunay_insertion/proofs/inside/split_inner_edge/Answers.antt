@@ -2,7 +2,8 @@ use Rattle.std.proofs.Common.{◌/◌, get_or, ◌≤◌, ◌<◌, ◌∙◌, �
 use Rattle.std.proofs.lemmas.List.{length-map}
 use Rattle.half_edge_dcel.proofs.Fits.{length-grown}
 use Rattle.delaunay_insertion.proofs.Growing.{grown}
-use Rattle.delaunay_insertion.proofs.InsertionCases.{length_moved, within_side_shape, flippable_between}
+use Rattle.half_edge_links.proofs.Removing.Conditions.{flippable}
+use Rattle.delaunay_insertion.proofs.InsertionCases.{length_moved, within_side_shape}
 use Rattle.delaunay_insertion.proofs.DataGrowing.{grows_within_side}
 use Rattle.delaunay_insertion.proofs.MadeFaces.{made_at_count, made_within_side}
 use Rattle.delaunay_insertion.proofs.inside.split_inner_edge.Goals as goal
@@ -13,7 +14,7 @@ pub split_edge-vertex-requires-clause-flippable : goal.split_edge-vertex-require
 split_edge-vertex-requires-clause-flippable g c =
     let old = c.args.dcel.now in
     let here : c.args.edge < length old.mesh.half_edges = let w = c.requires.within in let f = c.requires.can.kept.fits.directed_fit in omega (arith, w, f) in
-    flippable_between old.mesh c.args.edge c.requires.can.kept.valid here c.requires.inner c.requires.twin_inner
+    flippable old.mesh c.args.edge c.requires.can.kept.valid here c.requires.inner c.requires.twin_inner
 
 pub returns-clause-edges : goal.returns-clause-edges
 returns-clause-edges g c =
@@ -36,7 +37,7 @@ returns-clause-takes g c =
           let here : c.args.edge < length old.mesh.half_edges = let w = c.requires.within in let f = c.requires.can.kept.fits.directed_fit in omega (arith, w, f) in
           grown g.V.HasPosition.place old new c.args.value c.requires.can.kept (ap (λ d. d.vertices) done.contents) c.requires.can.in_range c.recall_invariant.ensures.whole edges faces
           (within_side_shape (map g.V.HasPosition.place old.vertices) (g.V.HasPosition.place c.args.value) old.mesh new.mesh c.split_edge-vertex.result.0 c.requires.can.kept.valid c.requires.can.kept.shape (done.vertex ∙ sym places)
-          c.args.edge (flippable_between old.mesh c.args.edge c.requires.can.kept.valid here c.requires.inner c.requires.twin_inner) c.requires.on_edge done.triangles done.outer);
+          c.args.edge (flippable old.mesh c.args.edge c.requires.can.kept.valid here c.requires.inner c.requires.twin_inner) c.requires.on_edge done.triangles done.outer);
       grows =
           let old = c.args.dcel.now in
           let done = c.split_edge-vertex.ensures in
@@ -46,5 +47,5 @@ returns-clause-takes g c =
           let old = c.args.dcel.now in
           let done = c.split_edge-vertex.ensures in
           let here : c.args.edge < length old.mesh.half_edges = let w = c.requires.within in let f = c.requires.can.kept.fits.directed_fit in omega (arith, w, f) in
-          made_at_count _ _ _ _ done.vertex (made_within_side old.mesh c.split_edge-vertex.new.self.mesh c.split_edge-vertex.result.0 c.requires.can.kept.valid c.args.edge (flippable_between old.mesh c.args.edge c.requires.can.kept.valid here c.requires.inner c.requires.twin_inner) done.triangles);
+          made_at_count _ _ _ _ done.vertex (made_within_side old.mesh c.split_edge-vertex.new.self.mesh c.split_edge-vertex.result.0 c.requires.can.kept.valid c.args.edge (flippable old.mesh c.args.edge c.requires.can.kept.valid here c.requires.inner c.requires.twin_inner) done.triangles);
     }

@@ -2,7 +2,8 @@ use Rattle.std.proofs.Common.{ℕ, refl, sym, ap, subst, arith}
 use Rattle.half_edge_mesh.specs.Rounds.{GivesRound, out_edges_left}
 use Rattle.delaunay_legalization.specs.Among.{HasIfForward}
 use Rattle.delaunay_legalization.proofs.AmongVertices.{among_kept}
-use Rattle.delaunay_legalization.proofs.Pushing.{pushing_begins, next_within, pushing_goes_on, pushing_ends}
+use Rattle.delaunay_legalization.proofs.Pushing.{pushing_begins, pushing_goes_on, pushing_ends}
+use Rattle.delaunay_legalization.proofs.Rounds.{next_within}
 use Rattle.delaunay_legalization.proofs.among.push_from.Goals as goal
 
 pub loop-edge-init : goal.loop-edge-init
@@ -14,7 +15,7 @@ loop-edge-init g c =
 
 pub push_if_among-requires-clause-within : goal.push_if_among-requires-clause-within
 push_if_among-requires-clause-within g c =
-    let w = next_within c.args.dcel.now c.args.vertex (HasIfForward c.args.dcel.now.mesh c.args.vertices.now) c.args.work.now.items (out_edges_left c.loop-edge.edge-iterator) c.loop-edge.work.items _ _ c.loop-edge.invariant (c.in-Some.edge.dcel, c.in-Some.edge.index) (out_edges_left c.next.new.self) c.in-Some.ensures.steps in
+    let w = next_within c.args.dcel.now c.args.vertex _ (out_edges_left c.loop-edge.edge-iterator) c.loop-edge.invariant.going (c.in-Some.edge.dcel, c.in-Some.edge.index) (out_edges_left c.next.new.self) c.in-Some.ensures.steps in
     let fit = c.recall_invariant.ensures.whole.fits.directed_fit in
     let is = c.fix.ensures.value in
     omega (arith, w, fit, is)

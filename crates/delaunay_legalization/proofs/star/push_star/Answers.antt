@@ -1,7 +1,8 @@
 use Rattle.std.proofs.Common.{ℕ, [], sym, ap, subst, arith}
 use Rattle.half_edge_mesh.specs.Rounds.{GivesRound, out_edges_left}
 use Rattle.delaunay_legalization.specs.Star.{HasSidesAt}
-use Rattle.delaunay_legalization.proofs.Pushing.{no_edges, pushing_begins, next_within, pushing_goes_on, pushing_ends}
+use Rattle.delaunay_legalization.proofs.Pushing.{no_edges, pushing_begins, pushing_goes_on, pushing_ends}
+use Rattle.delaunay_legalization.proofs.Rounds.{next_within}
 use Rattle.delaunay_legalization.proofs.Stars.{sides_kept}
 use Rattle.delaunay_legalization.proofs.star.push_star.Goals as goal
 
@@ -14,7 +15,7 @@ loop-edge-init g c =
 
 pub push_with_next-requires-clause-within : goal.push_with_next-requires-clause-within
 push_with_next-requires-clause-within g c =
-    let w = next_within c.args.dcel.now c.args.vertex (HasSidesAt c.args.dcel.now.mesh) [] (out_edges_left c.loop-edge.edge-iterator) c.loop-edge.work.items _ _ c.loop-edge.invariant (c.in-Some.edge.dcel, c.in-Some.edge.index) (out_edges_left c.next.new.self) c.in-Some.ensures.steps in
+    let w = next_within c.args.dcel.now c.args.vertex _ (out_edges_left c.loop-edge.edge-iterator) c.loop-edge.invariant.going (c.in-Some.edge.dcel, c.in-Some.edge.index) (out_edges_left c.next.new.self) c.in-Some.ensures.steps in
     let fit = c.recall_invariant.ensures.whole.fits.directed_fit in
     let is = c.fix.ensures.value in
     omega (arith, w, fit, is)

@@ -9,7 +9,7 @@ use Rattle.delaunay_core.specs.Place.{place_of}
 use Rattle.delaunay_legalization.specs.Known.{point_at}
 use Rattle.delaunay_legalization.proofs.Questions.{both_ways}
 use Rattle.delaunay_location.proofs.Neighbours.{nearer_by_gaps, no_nearer_neighbour}
-use Rattle.delaunay_location.proofs.Rounds.{round_begins, round_goes_on, round_ends, next_within}
+use Rattle.delaunay_legalization.proofs.Rounds.{round_begins, round_goes_on, round_ends, next_within}
 use Rattle.delaunay_location.proofs.nearest_walk.nearer_neighbor.Goals as goal
 
 pub loop-edge-init : goal.loop-edge-init

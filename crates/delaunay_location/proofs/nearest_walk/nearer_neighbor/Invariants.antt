@@ -6,7 +6,7 @@ use Rattle.plane.specs.Fraction.{whole}
 use Rattle.plane.specs.Circle.{gap}
 use Rattle.plane.specs.Pairs.{place}
 use Rattle.delaunay_core.specs.Place.{place_of}
-use Rattle.delaunay_location.proofs.Rounds.{IsGoingRound}
+use Rattle.delaunay_legalization.proofs.Rounds.{IsGoingRound}
 use Rattle.delaunay_location.proofs.nearest_walk.nearer_neighbor.Given as goal
 
 abbrev pub invariant-loop-edge : goal.invariant-loop-edge

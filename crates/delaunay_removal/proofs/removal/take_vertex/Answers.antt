@@ -1,6 +1,6 @@
 use Rattle.delaunay_removal.proofs.Drops.{ranged_as, shape_as, value_as, plain_as}
 use Rattle.delaunay_removal.proofs.DataDrops.{plane_data_kept, plane_renumbers}
-use Rattle.delaunay_removal.proofs.LeftFaces.{plane_faces_leave}
+use Rattle.delaunay_removal.proofs.LeftFaces.{leaves_more, plane_faces_leave}
 use Rattle.delaunay_removal.proofs.removal.take_vertex.Goals as goal
 
 pub drop_vertex-requires-clause-in_range : goal.drop_vertex-requires-clause-in_range
@@ -23,4 +23,7 @@ returns-clause-edges g c = plane_renumbers g.V.HasPosition.place c.args.dcel.now
 
 pub returns-clause-faces : goal.returns-clause-faces
 returns-clause-faces g c =
-    plane_faces_leave g.V.HasPosition.place c.args.dcel.now c.isolate.new.dcel c.drop_vertex.new.dcel c.args.vertex c.drop_vertex.result c.requires.kept c.drop_vertex.ensures.before c.drop_vertex.ensures.kept c.requires.within c.isolate.ensures.isolates c.drop_vertex.ensures.drops
+    plane_faces_leave g.V.HasPosition.place c.args.dcel.now c.isolate.new.dcel c.drop_vertex.new.dcel c.args.vertex c.drop_vertex.result c.requires.kept c.drop_vertex.ensures.before c.drop_vertex.ensures.kept c.requires.within c.isolate.new.turned.items c.isolate.ensures.isolates c.drop_vertex.ensures.drops
+
+pub returns-then-num_inner_faces-eq0-clause-faces : goal.returns-then-num_inner_faces-eq0-clause-faces
+returns-then-num_inner_faces-eq0-clause-faces g c = leaves_more c.args.dcel.now c.remove_on_line.new.dcel c.args.vertex c.args.turned.now.items c.remove_on_line.ensures.faces

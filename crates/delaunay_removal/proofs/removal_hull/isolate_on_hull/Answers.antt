@@ -1,8 +1,19 @@
-use Rattle.std.proofs.Common.{vec_capacity}
+use Rattle.std.proofs.Common.{ℕ, [], vec_len, vec_capacity, sym, subst, arith}
 use Rattle.half_edge_mesh.specs.Mesh.{origin}
 use Rattle.delaunay_legalization.proofs.Questions.{both_ways}
+use Rattle.delaunay_removal.specs.Pairs.{HasRoomAt}
+use Rattle.delaunay_removal.proofs.DataStays.{none_to_keep}
 use Rattle.delaunay_removal.proofs.HullIsolating.{hull_sites, hull_first, hull_room, hull_named, flat_star, flat_side, hull_isolates}
 use Rattle.delaunay_removal.proofs.removal_hull.isolate_on_hull.Goals as goal
+
+pub shrink_hull_star-count-requires-clause-room : goal.shrink_hull_star-count-requires-clause-room
+shrink_hull_star-count-requires-clause-room g c = subst (λ (v : ℕ). HasRoomAt c.args.dcel.now.mesh v (vec_len c.args.turned.now) (vec_capacity c.args.turned.now)) (sym c.requires.starts) c.requires.pairs
+
+pub close_flat-requires-clause-room : goal.close_flat-requires-clause-room
+close_flat-requires-clause-room g c =
+    let room = c.shrink_hull_star-count.ensures.room in
+    let some = c.shrink_hull_star-count.ensures.star.round.some in
+    omega (arith, room, some)
 
 pub is_corner-requires-clause-within : goal.is_corner-requires-clause-within
 is_corner-requires-clause-within g c = hull_first g.V.HasPosition.place c.args.dcel.now c.shrink_hull_star-count.new.dcel c.recall_invariant.ensures.whole (origin c.args.dcel.now.mesh c.args.first) c.args.first c.shrink_hull_star-count.result c.shrink_hull_star-count.ensures.contents c.shrink_hull_star-count.ensures.star
@@ -28,7 +39,7 @@ close_flat-requires-clause-flat g c = flat_side g.V.HasPosition.place c.args.dce
     (λ t. both_ways _ (c.is_corner.ensures.1 t) c.if-is_corner.false) c.args.vertex c.requires.starts
 
 pub returns-then-is_corner-clause-isolates : goal.returns-then-is_corner-clause-isolates
-returns-then-is_corner-clause-isolates g c = hull_isolates g.V.HasPosition.place c.args.dcel.now c.shrink_hull_star-count.new.dcel c.recall_invariant.ensures.whole (origin c.args.dcel.now.mesh c.args.first) c.args.first c.shrink_hull_star-count.result c.shrink_hull_star-count.ensures.contents c.shrink_hull_star-count.ensures.star c.cut_corner.new.dcel c.args.vertex c.requires.starts c.shrink_hull_star-count.ensures.beside c.cut_corner.ensures.isolates
+returns-then-is_corner-clause-isolates g c = hull_isolates g.V.HasPosition.place c.args.dcel.now c.shrink_hull_star-count.new.dcel c.recall_invariant.ensures.whole (origin c.args.dcel.now.mesh c.args.first) c.args.first c.shrink_hull_star-count.result c.shrink_hull_star-count.ensures.contents c.shrink_hull_star-count.ensures.star c.cut_corner.new.dcel c.args.vertex c.requires.starts c.shrink_hull_star-count.new.turned.items [] c.shrink_hull_star-count.new.turned.items (λ i j p. p) (none_to_keep c.shrink_hull_star-count.new.turned.items) c.shrink_hull_star-count.ensures.beside c.cut_corner.ensures.isolates
 
 pub returns-else-is_corner-clause-isolates : goal.returns-else-is_corner-clause-isolates
-returns-else-is_corner-clause-isolates g c = hull_isolates g.V.HasPosition.place c.args.dcel.now c.shrink_hull_star-count.new.dcel c.recall_invariant.ensures.whole (origin c.args.dcel.now.mesh c.args.first) c.args.first c.shrink_hull_star-count.result c.shrink_hull_star-count.ensures.contents c.shrink_hull_star-count.ensures.star c.close_flat.new.dcel c.args.vertex c.requires.starts c.shrink_hull_star-count.ensures.beside c.close_flat.ensures
+returns-else-is_corner-clause-isolates g c = hull_isolates g.V.HasPosition.place c.args.dcel.now c.shrink_hull_star-count.new.dcel c.recall_invariant.ensures.whole (origin c.args.dcel.now.mesh c.args.first) c.args.first c.shrink_hull_star-count.result c.shrink_hull_star-count.ensures.contents c.shrink_hull_star-count.ensures.star c.close_flat.new.dcel c.args.vertex c.requires.starts c.shrink_hull_star-count.new.turned.items c.close_flat.new.turned.items c.close_flat.new.turned.items c.close_flat.ensures.pairs (λ i j p. p) c.shrink_hull_star-count.ensures.beside c.close_flat.ensures.isolates

@@ -1,5 +1,6 @@
-use Rattle.std.proofs.Common.{map, refl}
+use Rattle.std.proofs.Common.{ℕ, [], ◌∷◌, ◌++◌, map, vec_len, vec_capacity, refl, ap, ◌∙◌, arith}
 use Rattle.half_edge_mesh.specs.Mesh.{origin}
+use Rattle.half_edge_mesh.specs.Round.{neighbour}
 use Rattle.delaunay_removal.proofs.DataStays.{all_stands}
 use Rattle.delaunay_removal.proofs.HullStars.{has_two}
 use Rattle.delaunay_removal.proofs.HullShrinking.{hull_sites_stay, bent_at_end, hull_first_in, place_left, place_right, place_apart, hull_shrinking_goes_on}
@@ -14,7 +15,8 @@ loop-edge-init g c =
       star = star;
       many = has_two (map g.V.HasPosition.place c.args.dcel.now.vertices) c.args.dcel.now.mesh c.recall_invariant.ensures.whole.valid (origin c.args.dcel.now.mesh c.args.first) c.args.first c.count_edges-count.result star;
       whole = c.recall_invariant.ensures.whole;
-      beside = all_stands c.args.dcel.now (origin c.args.dcel.now.mesh c.args.first);
+      beside = all_stands c.args.dcel.now (origin c.args.dcel.now.mesh c.args.first) c.args.turned.now.items;
+      room = c.requires.room c.args.first c.count_edges-count.result c.count_edges-count.ensures;
     }
 
 pub find_convex-requires-clause-within : goal.find_convex-requires-clause-within
@@ -32,10 +34,17 @@ turn_away-requires-clause-right g c = place_right g.V.HasPosition.place c.args.d
 pub turn_away-requires-clause-apart : goal.turn_away-requires-clause-apart
 turn_away-requires-clause-apart g c = place_apart g.V.HasPosition.place c.args.dcel.now c.loop-edge.dcel (origin c.args.dcel.now.mesh c.args.first) c.args.first c.loop-edge.count c.loop-edge.invariant c.in-Some.edge c.in-Some.ensures.place
 
+pub push_reserved-requires : goal.push_reserved-requires
+push_reserved-requires g c =
+    let room = c.loop-edge.invariant.room in
+    let many = c.loop-edge.invariant.many in
+    omega (arith, room, many)
+
 pub loop-edge-preserved : goal.loop-edge-preserved
 loop-edge-preserved g c =
     hull_shrinking_goes_on g.V.HasPosition.place c.args.dcel.now c.loop-edge.dcel (origin c.args.dcel.now.mesh c.args.first) c.args.first c.loop-edge.count c.loop-edge.invariant c.in-Some.edge c.in-Some.ensures.place
-    c.turn_away.new.dcel c.recall_invariant-in-Some.ensures.whole c.in-Some.ensures.convex c.turn_away.ensures.contents c.turn_away.ensures.triangles c.turn_away.ensures.outer c.turn_away.ensures.beside
+    c.turn_away.new.dcel c.recall_invariant-in-Some.ensures.whole c.in-Some.ensures.convex c.turn_away.ensures.contents c.turn_away.ensures.triangles c.turn_away.ensures.outer (neighbour c.loop-edge.dcel.mesh c.in-Some.edge 0, neighbour c.loop-edge.dcel.mesh c.in-Some.edge 2) c.turn_away.ensures.beside
+    c.push_reserved.new.self.items (vec_len c.push_reserved.new.self) (vec_capacity c.push_reserved.new.self) (c.push_reserved.ensures.items ∙ ap (λ (p : ℕ × ℕ). c.loop-edge.turned.items ++ p ∷ []) c.ends_beside.ensures) c.push_reserved.ensures.len c.push_reserved.ensures.capacity
 
 pub returns-clause-bent : goal.returns-clause-bent
 returns-clause-bent g c = bent_at_end g.V.HasPosition.place c.args.dcel.now c.loop-edge.dcel (origin c.args.dcel.now.mesh c.args.first) c.args.first c.loop-edge.count c.loop-edge.invariant c.in_default.ensures.none

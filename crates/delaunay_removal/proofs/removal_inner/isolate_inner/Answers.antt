@@ -1,10 +1,14 @@
-use Rattle.std.proofs.Common.{◌∙◌}
+use Rattle.std.proofs.Common.{ℕ, vec_len, vec_capacity, sym, ◌∙◌, subst, arith}
 use Rattle.half_edge_mesh.specs.Mesh.{origin}
+use Rattle.delaunay_removal.specs.Pairs.{HasRoomAt}
 use Rattle.delaunay_removal.proofs.Isolating.{inner_as, same_sites, three_wheel, three_isolates, four_star, four_between, four_star_named, four_isolates}
 use Rattle.delaunay_removal.proofs.removal_inner.isolate_inner.Goals as goal
 
 pub shrink_star-first-requires-clause-inner : goal.shrink_star-first-requires-clause-inner
 shrink_star-first-requires-clause-inner g c = inner_as c.args.dcel.now.mesh c.args.vertex c.args.first c.requires.starts c.requires.inner
+
+pub shrink_star-first-requires-clause-room : goal.shrink_star-first-requires-clause-room
+shrink_star-first-requires-clause-room g c = subst (λ (v : ℕ). HasRoomAt c.args.dcel.now.mesh v (vec_len c.args.turned.now) (vec_capacity c.args.turned.now)) (sym c.requires.starts) c.requires.room
 
 pub fill_three-requires-clause-wheel : goal.fill_three-requires-clause-wheel
 fill_three-requires-clause-wheel g c =
@@ -30,6 +34,12 @@ fill_four-requires-clause-star g c =
     four_star_named g.V.HasPosition.place c.args.dcel.now c.shrink_star-first.new.dcel (origin c.args.dcel.now.mesh c.args.first) c.shrink_star-first.result.0 c.shrink_star-first.result.1 c.shrink_star-first.ensures.contents c.shrink_star-first.ensures.beside c.shrink_star-first.ensures.star c.shrink_star-first.ensures.reduced c.if-count-eq3.false
     c.edge_beside_line-first.result c.args.vertex c.requires.starts c.edge_beside_line-first.ensures.star
 
+pub fill_four-requires-clause-room : goal.fill_four-requires-clause-room
+fill_four-requires-clause-room g c =
+    let room = c.shrink_star-first.ensures.room in
+    let some = c.shrink_star-first.ensures.star.round.some in
+    omega (arith, room, some)
+
 pub returns-then-count-eq3 : goal.returns-then-count-eq3
 returns-then-count-eq3 g c =
     three_isolates g.V.HasPosition.place c.args.dcel.now c.shrink_star-first.new.dcel (origin c.args.dcel.now.mesh c.args.first) c.shrink_star-first.result.0 c.shrink_star-first.result.1 c.shrink_star-first.ensures.contents c.shrink_star-first.ensures.beside c.shrink_star-first.ensures.star
@@ -38,4 +48,4 @@ returns-then-count-eq3 g c =
 pub returns-else-count-eq3 : goal.returns-else-count-eq3
 returns-else-count-eq3 g c =
     four_isolates g.V.HasPosition.place c.args.dcel.now c.shrink_star-first.new.dcel (origin c.args.dcel.now.mesh c.args.first) c.shrink_star-first.result.0 c.shrink_star-first.result.1 c.shrink_star-first.ensures.contents c.shrink_star-first.ensures.beside c.shrink_star-first.ensures.star c.shrink_star-first.ensures.reduced c.if-count-eq3.false
-    c.fill_four.new.dcel c.args.vertex c.requires.starts c.fill_four.ensures
+    c.fill_four.new.dcel c.args.vertex c.requires.starts c.fill_four.new.turned.items c.fill_four.ensures.pairs c.fill_four.ensures.isolates

@@ -1,5 +1,6 @@
 use Rattle.std.proofs.Common.{◌<◌, length, refl, subst}
-use Rattle.triangulate_run.proofs.Releases.{no_edge, is_edge, none_joined}
+use Rattle.mesh_embedding.proofs.EdgePairs.{no_joins}
+use Rattle.triangulate_run.proofs.Releases.{no_edge, is_edge}
 use Rattle.triangulate_run.proofs.constraints.release_free.Goals as goal
 
 pub returns-in-Some : goal.returns-in-Some
@@ -9,7 +10,7 @@ returns-in-Some g c =
     let is = c.in-Some.ensures in
     let within = subst (λ s. edge.index < length s.directed) is.0 edge.in_range in (
       is_edge old c.recall_invariant.ensures.kept c.args.from c.args.to edge.index within is.1 is.2,
-      none_joined c.args.from c.args.to,
+      no_joins c.args.from c.args.to,
       refl,
     )
 

@@ -10,7 +10,8 @@ use Rattle.triangulate_run.specs.Stage.{position}
 use Rattle.delaunay_legalization.specs.State.{triangulation_of}
 use Rattle.mesh_embedding.specs.Drawn.{corners_of}
 use Rattle.triangulate_run.specs.MeshFaces.{row_at}
-use Rattle.triangulate_run.proofs.MeshFaces.{first_left, none_left, row_more, rows_end, rows_by_index, row_same_mesh, twice}
+use Rattle.delaunay_legalization.proofs.Rounds.{first_left, none_left}
+use Rattle.triangulate_run.proofs.MeshFaces.{row_more, rows_end, rows_by_index, row_same_mesh, twice}
 use Rattle.triangulate_run.proofs.FaceList.{lists_faces, rows_differ}
 use Rattle.triangulate_run.proofs.shared.faces_of.Goals as goal
 

@@ -1,70 +1,66 @@
-use Rattle.std.proofs.Common.{ℕ, ◌<◌, List, length, map, sym, subst}
-use Rattle.std.specs.Prelude.{Contains}
+use Rattle.std.proofs.Common.{ℕ, List, ◌++◌, length, map, sym, subst}
 use Rattle.plane.specs.Plain.{Removes}
+use Rattle.plane_edits.specs.Legal.{AllPassBut}
 use Rattle.mesh_embedding.specs.Drawn.{faces_of}
-use Rattle.delaunay_legalization.specs.Among.{AllPassBeyond}
 use Rattle.delaunay_legalization.specs.Constraints.{constraints_by, points_and_constraints_by}
 use Rattle.delaunay_legalization.specs.State.{state_of}
 use Rattle.delaunay_removal.specs.Data.{KeepsDataBeside}
+use Rattle.delaunay_removal.specs.Pairs.{pairs_left}
 use Rattle.delaunay_removal.proofs.DataLegalized.{legalized_keeps_others}
-use Rattle.delaunay_removal.proofs.Passing.{neighbours_within, passes_beyond}
+use Rattle.delaunay_removal.proofs.Passing.{border_settles, passes_but}
 use Rattle.delaunay_edit.proofs.Removing.{sites_left, room_left, removed_on}
 use Rattle.delaunay_edit.proofs.Recounted.{counted_removed, some_removed}
 use Rattle.delaunay_edit.proofs.edited_mesh.EditedMesh.take_out.Goals as goal
 
-pub legalize_among-requires-clause-sites : goal.legalize_among-requires-clause-sites
-legalize_among-requires-clause-sites g c =
+pub legalize_pairs-requires-clause-sites : goal.legalize_pairs-requires-clause-sites
+legalize_pairs-requires-clause-sites g c =
     let at = g.V.HasPosition.place in
     let constraints = g.M.ConstraintMarker.constraints in
     sites_left at constraints c.args.self.now (state_of c.remove_vertex-value.new.dcel) c.args.vertex c.remove_vertex-value.result
     (subst (λ s. Removes at (points_and_constraints_by constraints s) (points_and_constraints_by constraints (state_of c.remove_vertex-value.new.dcel)) c.args.vertex) c.self.view_is c.remove_vertex-value.ensures.plain)
     (g.P.PlaneTests.sites c.args.tests.now) c.requires.sites
 
-pub legalize_among-requires-clause-room : goal.legalize_among-requires-clause-room
-legalize_among-requires-clause-room g c =
+pub legalize_pairs-requires-clause-room : goal.legalize_pairs-requires-clause-room
+legalize_pairs-requires-clause-room g c =
     room_left g.V.HasPosition.place g.M.ConstraintMarker.constraints (state_of c.self.inside.dcel) (state_of c.remove_vertex-value.new.dcel) c.args.vertex c.remove_vertex-value.result c.remove_vertex-value.ensures.plain _ _ _ c.num_vertices.ensures.value c.in_ok-reserve.ensures.ok
 
 pub returns-clause-plain : goal.returns-clause-plain
 returns-clause-plain g c =
     let at = g.V.HasPosition.place in
     let constraints = g.M.ConstraintMarker.constraints in
-    removed_on at constraints c.args.self.now c.remove_vertex-value.new.dcel c.legalize_among.new.dcel c.args.vertex
+    removed_on at constraints c.args.self.now c.remove_vertex-value.new.dcel c.legalize_pairs.new.dcel c.args.vertex
     (subst (λ s. Removes at (points_and_constraints_by constraints s) (points_and_constraints_by constraints (state_of c.remove_vertex-value.new.dcel)) c.args.vertex) c.self.view_is c.remove_vertex-value.ensures.plain)
-    c.legalize_among.ensures.contents c.legalize_among.ensures.constraints
+    c.legalize_pairs.ensures.contents c.legalize_pairs.ensures.constraints
 
 pub returns-clause-data : goal.returns-clause-data
 returns-clause-data g c =
-    legalized_keeps_others g.V.HasPosition.place c.args.self.now c.remove_vertex-value.new.dcel c.legalize_among.new.dcel c.args.vertex
+    legalized_keeps_others g.V.HasPosition.place c.args.self.now c.remove_vertex-value.new.dcel c.legalize_pairs.new.dcel c.args.vertex
     (subst (λ s. KeepsDataBeside s (state_of c.remove_vertex-value.new.dcel) c.args.vertex) c.self.view_is c.remove_vertex-value.ensures.data)
-    c.remove_vertex-value.ensures.kept c.legalize_among.ensures.legal.kept c.legalize_among.ensures.contents c.legalize_among.ensures.indexes
+    c.remove_vertex-value.ensures.kept c.legalize_pairs.ensures.legal.kept c.legalize_pairs.ensures.contents c.legalize_pairs.ensures.indexes
 
-pub legalize_among-requires-clause-within : goal.legalize_among-requires-clause-within
-legalize_among-requires-clause-within g c =
+pub remove_vertex-value-requires-clause-pairs : goal.remove_vertex-value-requires-clause-pairs
+remove_vertex-value-requires-clause-pairs g c = c.in_ok-turned.ensures
+
+pub legalize_pairs-requires-clause-passing : goal.legalize_pairs-requires-clause-passing
+legalize_pairs-requires-clause-passing g c =
     let at = g.V.HasPosition.place in
     let constraints = g.M.ConstraintMarker.constraints in
     let ds = c.remove_vertex-value.new.dcel in
-    subst (λ (vs : List ℕ). (k : ℕ) → Contains vs k → k < length ds.vertices) (sym {A = List ℕ} c.as_slice.ensures.value)
-    (neighbours_within at constraints (state_of c.self.inside.dcel) (state_of ds) c.args.vertex c.remove_vertex-value.result c.self.invariant.legal c.remove_vertex-value.ensures.kept
-    c.remove_vertex-value.ensures.plain c.remove_vertex-value.ensures.faces c.in_ok-neighbours.neighbours.items c.in_ok-neighbours.ensures)
-
-pub legalize_among-requires-clause-passing : goal.legalize_among-requires-clause-passing
-legalize_among-requires-clause-passing g c =
-    let at = g.V.HasPosition.place in
-    let constraints = g.M.ConstraintMarker.constraints in
-    let ds = c.remove_vertex-value.new.dcel in
-    subst (λ (vs : List ℕ). AllPassBeyond (map at ds.vertices) (faces_of ds.mesh) (constraints_by constraints (state_of ds)) vs) (sym {A = List ℕ} c.as_slice.ensures.value)
-    (passes_beyond at constraints (state_of c.self.inside.dcel) (state_of ds) c.args.vertex c.remove_vertex-value.result c.self.invariant.legal c.remove_vertex-value.ensures.kept
-    c.remove_vertex-value.ensures.plain c.remove_vertex-value.ensures.faces c.in_ok-neighbours.neighbours.items c.in_ok-neighbours.ensures)
+    subst (λ (x : List (ℕ × ℕ) × List (ℕ × ℕ)). AllPassBut (map at ds.vertices) (faces_of ds.mesh) (constraints_by constraints (state_of ds)) (pairs_left (length ds.vertices) c.args.vertex (x.0 ++ x.1)))
+    (λ i. (sym {A = List (ℕ × ℕ)} c.as_slice.ensures.value i, sym {A = List (ℕ × ℕ)} c.as_slice-2.ensures.value i))
+    (passes_but at constraints (state_of c.self.inside.dcel) (state_of ds) c.args.vertex c.remove_vertex-value.result c.self.invariant.legal c.remove_vertex-value.ensures.kept
+    c.remove_vertex-value.ensures.plain c.in_ok-border.border.items c.remove_vertex-value.new.turned.items c.remove_vertex-value.ensures.faces
+    (border_settles (map at c.self.inside.dcel.vertices) c.self.inside.dcel.mesh c.self.invariant.legal.kept.valid.sound c.args.vertex c.in_ok-border.border.items c.in_ok-border.ensures))
 
 pub overflow_sub-self : goal.overflow_sub-self
 overflow_sub-self g c =
     let at = g.V.HasPosition.place in
     let marker = g.M.ConstraintMarker in
     some_removed at marker.marks marker.constraints g.met.M.ConstraintMarker.constraints_are_marked
-    (state_of c.self.inside.dcel) (state_of c.legalize_among.new.dcel) c.self.inside.num_constraints c.self.invariant
-    c.legalize_among.ensures.legal c.args.vertex c.count_constraints_at-ending.result
-    (removed_on at marker.constraints (state_of c.self.inside.dcel) c.remove_vertex-value.new.dcel c.legalize_among.new.dcel
-    c.args.vertex c.remove_vertex-value.ensures.plain c.legalize_among.ensures.contents c.legalize_among.ensures.constraints)
+    (state_of c.self.inside.dcel) (state_of c.legalize_pairs.new.dcel) c.self.inside.num_constraints c.self.invariant
+    c.legalize_pairs.ensures.legal c.args.vertex c.count_constraints_at-ending.result
+    (removed_on at marker.constraints (state_of c.self.inside.dcel) c.remove_vertex-value.new.dcel c.legalize_pairs.new.dcel
+    c.args.vertex c.remove_vertex-value.ensures.plain c.legalize_pairs.ensures.contents c.legalize_pairs.ensures.constraints)
     c.count_constraints_at-ending.ensures
 
 pub invariant_of-self-2 : goal.invariant_of-self-2
@@ -72,8 +68,8 @@ invariant_of-self-2 g c =
     let at = g.V.HasPosition.place in
     let marker = g.M.ConstraintMarker in
     counted_removed at marker.marks marker.constraints g.met.M.ConstraintMarker.constraints_are_marked
-    (state_of c.self.inside.dcel) (state_of c.legalize_among.new.dcel) c.self.inside.num_constraints c.self.invariant
-    c.legalize_among.ensures.legal c.args.vertex c.count_constraints_at-ending.result
-    (removed_on at marker.constraints (state_of c.self.inside.dcel) c.remove_vertex-value.new.dcel c.legalize_among.new.dcel
-    c.args.vertex c.remove_vertex-value.ensures.plain c.legalize_among.ensures.contents c.legalize_among.ensures.constraints)
+    (state_of c.self.inside.dcel) (state_of c.legalize_pairs.new.dcel) c.self.inside.num_constraints c.self.invariant
+    c.legalize_pairs.ensures.legal c.args.vertex c.count_constraints_at-ending.result
+    (removed_on at marker.constraints (state_of c.self.inside.dcel) c.remove_vertex-value.new.dcel c.legalize_pairs.new.dcel
+    c.args.vertex c.remove_vertex-value.ensures.plain c.legalize_pairs.ensures.contents c.legalize_pairs.ensures.constraints)
     c.count_constraints_at-ending.ensures

@@ -1,0 +1,65 @@
+//! The sides of the hole that a vertex leaves, and room for what its edges join once they are turned.
+ghost use Rattle.std.specs.Prelude.{◌≡◌, ◌<◌, length, IfOk, vec_capacity, vec_len};
+ghost use Rattle.half_edge_mesh.specs.Mesh.{origin};
+ghost use Rattle.delaunay_removal.specs.Pairs.{HasBorder, HasRoomAt};
+
+use crate::freeing::some_edge;
+use crate::pairs::{VertexPair, vertex_at_end};
+use crate::star::{count_edges, edge_after};
+use half_edge_mesh::{Dcel, FixedDirectedEdgeHandle, FixedVertexHandle, MeshViews};
+use std::alloc::{AllocError, Global};
+
+// Lists the ends of each edge and of the one after it, round the vertex where `first` starts.
+fn collect_border<V, DE, UE, F>(
+    dcel: &Dcel<V, DE, UE, F>,
+    first: FixedDirectedEdgeHandle,
+    alloc: Global,
+) -> Result<Vec<VertexPair>, AllocError>
+    requires { first < length dcel.now.directed }
+    ensures { IfOk result (λ ps. HasBorder dcel.now.mesh (origin dcel.now.mesh first) ps.items) }
+{
+    dcel.recall_invariant();
+    let count = count_edges(dcel, first);
+    let mut border = Vec::with_capacity(alloc, count)?;
+    let mut edge = first;
+    for i in 0..count {
+        let after = edge_after(dcel, edge);
+        border.push_reserved((vertex_at_end(dcel, edge), vertex_at_end(dcel, after)));
+        edge = after;
+    }
+    Ok(border)
+}
+
+/// Lists the sides opposite a vertex in its faces, by the vertices that they join. It gives
+/// `AllocError` where memory was refused.
+pub fn sides_of_hole<V, DE, UE, F>(
+    dcel: &Dcel<V, DE, UE, F>,
+    vertex: FixedVertexHandle,
+    alloc: Global,
+) -> Result<Vec<VertexPair>, AllocError>
+    requires { vertex < length dcel.now.vertices }
+    ensures { IfOk result (λ ps. HasBorder dcel.now.mesh vertex ps.items) }
+{
+    dcel.recall_invariant();
+    match some_edge(dcel, vertex) {
+        Some(first) => collect_border(dcel, first, alloc),
+        None => Ok(Vec::new(alloc)),
+    }
+}
+
+/// An empty list with room for a pair at each edge of a vertex. It gives `AllocError` where memory
+/// was refused.
+pub fn room_for_turns<V, DE, UE, F>(
+    dcel: &Dcel<V, DE, UE, F>,
+    vertex: FixedVertexHandle,
+    alloc: Global,
+) -> Result<Vec<VertexPair>, AllocError>
+    requires { vertex < length dcel.now.vertices }
+    ensures { IfOk result (λ ps. HasRoomAt dcel.now.mesh vertex (vec_len ps) (vec_capacity ps)) }
+{
+    dcel.recall_invariant();
+    match some_edge(dcel, vertex) {
+        Some(first) => Vec::with_capacity(alloc, count_edges(dcel, first)),
+        None => Ok(Vec::new(alloc)),
+    }
+}

@@ -1,0 +1,168 @@
+//! Pairs of vertices that bound new faces where a vertex went, and a legalization that begins there.
+ghost use Rattle.std.specs.Prelude.{◌≡◌, ◌≢◌, ℕ, ◌*◌, ◌<◌, ◌≤◌, ◌++◌};
+ghost use Rattle.std.specs.Prelude.{length, map, All, Contains, IfNone, IfSome, vec_capacity};
+ghost use Rattle.half_edge_mesh.specs.Mesh.{origin, rev};
+ghost use Rattle.half_edge_mesh.specs.Renames.{moved};
+ghost use Rattle.half_edge_mesh.specs.Round.{neighbour};
+ghost use Rattle.plane_edits.specs.Legal.{AllPassBut};
+ghost use Rattle.mesh_embedding.specs.Drawn.{faces_of};
+ghost use Rattle.mesh_embedding.specs.Legal.{AreEdges};
+ghost use Rattle.mesh_embedding.specs.Stays.{KeepsIndexes};
+ghost use Rattle.delaunay_legalization.specs.Constraints.{constraints_by};
+ghost use Rattle.delaunay_legalization.specs.Flips.{CountsFlips, FlipsFit};
+ghost use Rattle.delaunay_legalization.specs.Shape.{IsTriangulated, IsDelaunayTriangulation};
+ghost use Rattle.delaunay_legalization.specs.State.{state_of};
+ghost use Rattle.delaunay_removal.specs.Pairs.{HasEdgeOf, HasEdgesOf, pairs_left};
+
+use crate::star::edge_after;
+use delaunay_core::math::PlaneTests;
+use delaunay_core::point::HasPosition;
+use delaunay_legalization::{ConstraintMarker, legalize, push_side};
+use half_edge_mesh::{
+    Dcel, FixedDirectedEdgeHandle, FixedUndirectedEdgeHandle, FixedVertexHandle, MeshViews,
+};
+
+/// Two vertices.
+pub type VertexPair = (FixedVertexHandle, FixedVertexHandle);
+
+// The vertex where an edge ends.
+pub(crate) fn vertex_at_end<V, DE, UE, F>(
+    dcel: &Dcel<V, DE, UE, F>,
+    edge: FixedDirectedEdgeHandle,
+) -> FixedVertexHandle
+    requires { edge < length dcel.now.directed }
+    ensures { result ≡ origin dcel.now.mesh (rev edge) }
+{
+    dcel.directed_edge(edge).to().fix()
+}
+
+// What the edge after an edge, round the vertex where they start, joins once it is turned: the ends
+// of the edges beside it.
+pub(crate) fn ends_beside<V, DE, UE, F>(
+    dcel: &Dcel<V, DE, UE, F>,
+    edge: FixedDirectedEdgeHandle,
+) -> VertexPair
+    requires { edge < length dcel.now.directed }
+    ensures { result ≡ (neighbour dcel.now.mesh edge 0, neighbour dcel.now.mesh edge 2) }
+{
+    let turned = edge_after(dcel, edge);
+    let after = edge_after(dcel, turned);
+    (vertex_at_end(dcel, edge), vertex_at_end(dcel, after))
+}
+
+// The index of a vertex once `vertex` has gone and the last vertex has taken this index.
+fn index_left<V, DE, UE, F>(
+    dcel: &Dcel<V, DE, UE, F>,
+    former: FixedVertexHandle,
+    vertex: FixedVertexHandle,
+) -> FixedVertexHandle
+    ensures { result ≡ moved (length dcel.now.vertices) vertex former }
+{
+    if former.index() as usize == dcel.num_vertices() {
+        vertex
+    } else {
+        former
+    }
+}
+
+// The edge from one vertex to another, if there are such vertices and they are joined.
+fn edge_between<V, DE, UE, F>(
+    dcel: &Dcel<V, DE, UE, F>,
+    from: FixedVertexHandle,
+    to: FixedVertexHandle,
+) -> Option<FixedDirectedEdgeHandle>
+    ensures within { IfSome result (λ e. e < length dcel.now.directed) }
+    ensures starts { IfSome result (λ e. origin dcel.now.mesh e ≡ from) }
+    ensures ends { IfSome result (λ e. origin dcel.now.mesh (rev e) ≡ to) }
+    ensures none { IfNone result ((h : ℕ) → h < length dcel.now.directed →
+        origin dcel.now.mesh h ≡ from → origin dcel.now.mesh (rev h) ≢ to) }
+{
+    dcel.recall_invariant();
+    if from.index() as usize >= dcel.num_vertices() {
+        return None;
+    }
+    match dcel.get_edge_from_neighbors(from, to) {
+        Some(edge) => Some(edge.fix()),
+        None => None,
+    }
+}
+
+// Puts the edge between two vertices into a work list, unless it is there or there is none.
+fn push_between<V, DE, UE, F>(
+    dcel: &Dcel<V, DE, UE, F>,
+    from: FixedVertexHandle,
+    to: FixedVertexHandle,
+    work: &mut Vec<FixedUndirectedEdgeHandle>,
+)
+    requires edges { AreEdges dcel.now.mesh work.old.items }
+    requires room { length dcel.now.undirected ≤ vec_capacity work.old }
+    ensures kept { (j : ℕ) → Contains work.old.items j → Contains work.new.items j }
+    ensures there { HasEdgeOf dcel.now.mesh from to work.new.items }
+    ensures edges { AreEdges dcel.now.mesh work.new.items }
+    ensures capacity { vec_capacity work.new ≡ vec_capacity work.old }
+{
+    dcel.recall_invariant();
+    match edge_between(dcel, from, to) {
+        Some(edge) => push_side(dcel, edge, work),
+        None => {}
+    }
+}
+
+// Puts the edges of some pairs into a work list, unless they are there. The pairs go by the indexes
+// that the vertices had before `vertex` went.
+fn push_pairs<V, DE, UE, F>(
+    dcel: &Dcel<V, DE, UE, F>,
+    vertex: FixedVertexHandle,
+    pairs: &[VertexPair],
+    work: &mut Vec<FixedUndirectedEdgeHandle>,
+)
+    requires edges { AreEdges dcel.now.mesh work.old.items }
+    requires room { length dcel.now.undirected ≤ vec_capacity work.old }
+    ensures kept { (j : ℕ) → Contains work.old.items j → Contains work.new.items j }
+    ensures there { HasEdgesOf dcel.now.mesh
+        (pairs_left (length dcel.now.vertices) vertex pairs.now) work.new.items }
+    ensures edges { AreEdges dcel.now.mesh work.new.items }
+    ensures capacity { vec_capacity work.new ≡ vec_capacity work.old }
+{
+    for i in 0..pairs.len() {
+        let pair = pairs[i];
+        let from = index_left(dcel, pair.0, vertex);
+        let to = index_left(dcel, pair.1, vertex);
+        push_between(dcel, from, to, work);
+    }
+    dcel.recall_invariant();
+}
+
+/// Tests the edges of some pairs, where each other edge passes, and flips those that fail and are
+/// no constraints until none does. The pairs go by the indexes that the vertices had before
+/// `vertex` went: the sides of its hole, and what its edges joined once they were turned.
+pub fn legalize_pairs<M: ConstraintMarker<UE>, V: HasPosition, DE, UE, F, P: PlaneTests<V::Scalar>>(
+    dcel: &mut Dcel<V, DE, UE, F>,
+    vertex: FixedVertexHandle,
+    border: &[VertexPair],
+    turned: &[VertexPair],
+    tests: &P,
+    work: &mut Vec<FixedUndirectedEdgeHandle>,
+    flips: &mut u64,
+)
+    requires sites { All (P.sites tests.now) (map V.place dcel.old.vertices) }
+    requires kept { IsTriangulated V.place (state_of dcel.old) }
+    requires passing { AllPassBut (map V.place dcel.old.vertices) (faces_of dcel.old.mesh)
+        (constraints_by M.constraints (state_of dcel.old))
+        (pairs_left (length dcel.old.vertices) vertex (border.now ++ turned.now)) }
+    requires room { 3 * length dcel.old.vertices ≤ vec_capacity work.old }
+    requires fits { FlipsFit (length dcel.old.vertices) flips.old }
+
+    ensures contents { dcel.new ≡ record dcel.old { mesh = dcel.new.mesh } }
+    ensures legal { IsDelaunayTriangulation V.place M.constraints (state_of dcel.new) }
+    ensures constraints { constraints_by M.constraints (state_of dcel.new) ≡
+        constraints_by M.constraints (state_of dcel.old) }
+    ensures counted { CountsFlips (length dcel.old.vertices) flips.old flips.new }
+    ensures indexes { KeepsIndexes dcel.old.mesh dcel.new.mesh }
+{
+    work.clear();
+    push_pairs(dcel, vertex, border, work);
+    push_pairs(dcel, vertex, turned, work);
+    legalize::<M, _, _, _, _, _>(dcel, tests, work, flips);
+    dcel.recall_invariant();
+}
