@@ -3,5 +3,6 @@ pub mod Flips
 pub mod Heights
 pub mod Legal
 pub mod Flipping
+pub mod EmptyRound
 pub mod Away
 pub mod FlipHistory

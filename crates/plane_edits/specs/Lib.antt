@@ -2,6 +2,7 @@ pub mod Change
 pub mod Extension
 pub mod Laws
 pub mod Legal
+pub mod EmptyRound
 pub mod Away
 pub mod LegalLaws
 pub mod Removal
