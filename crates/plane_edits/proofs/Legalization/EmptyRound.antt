@@ -1,7 +1,7 @@
 -- Flips round a new point: only edges opposite it fail, and a flip leaves the two sides beyond it to test.
 use Rattle.std.proofs.Common.{◌≡◌, ◌⊎◌, ℕ, ◌<◌, List, [], ◌∷◌, length, refl, sym, ap, ◌∙◌, subst, inl, inr}
 use mathlib.Core.Logic.{◌≢◌}
-use Rattle.std.specs.Prelude.{ℤ, pos, ◌+ℤ◌, ◌*ℤ◌, ◌<ℤ◌, Contains}
+use Rattle.std.specs.Prelude.{pos, ◌+ℤ◌, ◌*ℤ◌, ◌<ℤ◌, Contains}
 use Rattle.std.proofs.lemmas.Bool.{cases_eq}
 use Rattle.plane.specs.Fraction.{Point, Fraction, whole}
 use Rattle.plane.specs.Side.{TurnsLeft}
@@ -109,20 +109,202 @@ failing_is_opposite points faces outer a b c d v m empty first second failing =
     go (inr _) (inr _) (inr _) (inl e) = absurd (passing (inr e))
     go (inr nb) (inr nd) (inr na) (inr nc) = absurd (empty.beside a c d b second na nc nd (index_of points faces outer m a b c first).1 nb failing)
 
+-- ---- the flip of an edge that fails
+-- what lies beyond the side opposite i of the face i j k is outside its circle
+abbrev IsOutside : List Point → ℕ → ℕ → ℕ → ℕ → Type 0
+IsOutside points v i j k = (n : ℕ) → n < length points → n ≢ v → TurnsLeft (place points j) (place points k) (place points n) → ¬ InsideCircle (place points i) (place points j) (place points k) (place points n)
+
+-- so it is of the faces a b d and b c d that were made, seen from b, where the face a c d has no corner v
+made_outside : (points : List Point) (faces : List Face) (v : ℕ) → IsEmptyRound points faces v → (a b c d : ℕ) → IsFaceOf faces a c d → a ≢ v → c ≢ v → d ≢ v
+    → TurnsLeft (place points a) (place points c) (place points d) → TurnsLeft (place points a) (place points b) (place points d) → TurnsLeft (place points b) (place points c) (place points d)
+    → InsideCircle (place points a) (place points c) (place points d) (place points b) → IsOutside points v b d a × IsOutside points v b c d
+made_outside points faces v empty a b c d f na nc nd acd abd bcd failing = (
+  (λ n h nv beyond inside. empty.beside a c d n f na nc nd h nv ((inside_old (point_at points a) (point_at points b) (point_at points c) (point_at points d) (point_at points n) acd abd bcd failing).0 beyond inside)),
+  (λ n h nv beyond inside. empty.beside a c d n f na nc nd h nv ((inside_old (point_at points a) (point_at points b) (point_at points c) (point_at points d) (point_at points n) acd abd bcd failing).1 beyond inside)),
+)
+
+module _ (points : List Point) (faces new : List Face) (outer : List (ℕ × ℕ)) (a b c d v : ℕ) (m : LocalMesh points faces outer) (first : IsFaceOf faces a b c) (second : IsFaceOf faces a c d)
+    (change : FacesChange faces new (face a b c ∷ face a c d ∷ []) (face a b d ∷ face b c d ∷ [])) (failing : InsideCircle (place points a) (place points c) (place points d) (place points b)) (empty : IsEmptyRound points faces v) where
+  abbrev made : List Face
+  made = face a b d ∷ face b c d ∷ []
+
+  opposite : (b ≡ v) ⊎ (d ≡ v)
+  opposite = failing_is_opposite points faces outer a b c d v m empty first second failing
+
+  abc : TurnsLeft (place points a) (place points b) (place points c)
+  abc = turning_of points faces outer m a b c first
+
+  acd : TurnsLeft (place points a) (place points c) (place points d)
+  acd = turning_of points faces outer m a c d second
+
+  convex : TurnsLeft (place points a) (place points b) (place points d) × TurnsLeft (place points b) (place points c) (place points d)
+  convex = failing_is_convex (point_at points a) (point_at points b) (point_at points c) (point_at points d) abc acd failing
+
+  apart_abc : (a ≢ b) × (b ≢ c) × (c ≢ a)
+  apart_abc = corners_apart points faces outer m a b c first
+
+  apart_acd : (a ≢ c) × (c ≢ d) × (d ≢ a)
+  apart_acd = corners_apart points faces outer m a c d second
+
+  apart_abd : (a ≢ b) × (b ≢ d) × (d ≢ a)
+  apart_abd = corners_differ (point_at points) a b d (if_left (place points a) (place points b) (place points d) convex.0)
+
+  -- the ends of the edge that failed are not the point
+  not_first : a ≢ v
+  not_first e = elim opposite [ inl s ↦ apart_abc.0 (e ∙ sym s) | inr s ↦ apart_acd.2 (s ∙ sym e) ]
+
+  not_third : c ≢ v
+  not_third e = elim opposite [ inl s ↦ apart_abc.1 (s ∙ sym e) | inr s ↦ apart_acd.1 (e ∙ sym s) ]
+
+  -- ---- the circles stay empty
+  abbrev HasPoint : ℕ → ℕ → ℕ → Type 0
+  HasPoint i j k = (i ≡ v) ⊎ ((j ≡ v) ⊎ (k ≡ v))
+
+  point_turned : (i j k : ℕ) → HasPoint i j k → HasPoint j k i
+  point_turned i j k (inl e) = inr (inr e)
+  point_turned i j k (inr (inl e)) = inl e
+  point_turned i j k (inr (inr e)) = inr (inl e)
+
+  -- each face that was made has the corner v
+  made_at_point : (i j k : ℕ) → IsFaceOf made i j k → HasPoint i j k
+  made_at_point = turn_of_all made HasPoint point_turned
+      (each (λ (f : Face). HasPoint f.a f.b f.c) (face a b d) (face b c d ∷ []) (inr opposite)
+      (each (λ (f : Face). HasPoint f.a f.b f.c) (face b c d) [] (elim opposite [ inl e ↦ inl e | inr e ↦ inr (inr e) ]) (each_none (λ (f : Face). HasPoint f.a f.b f.c))))
+
+  abbrev IsOutsideAt : ℕ → ℕ → ℕ → Type 0
+  IsOutsideAt i j k = (i ≡ v → IsOutside points v i j k) × (j ≡ v → IsOutside points v j k i) × (k ≡ v → IsOutside points v k i j)
+
+  -- of a face that was made, what lies beyond the side opposite v is outside the circle
+  outside_of : IsOutsideAt a b d × IsOutsideAt b c d
+  outside_of = elim opposite [
+    | inl e ↦ (
+        let nd : d ≢ v = λ s. apart_abd.1 (e ∙ sym s) in
+        let x = made_outside points faces v empty a b c d second not_first not_third nd acd convex.0 convex.1 failing in
+        (((λ s. absurd (not_first s)), (λ _. x.0), (λ s. absurd (nd s))), ((λ _. x.1), (λ s. absurd (not_third s)), (λ s. absurd (nd s))))
+        )
+    | inr e ↦ (
+        let nb : b ≢ v = λ s. apart_abd.1 (s ∙ sym e) in
+        let cab = left_turned (place points b) (place points c) (place points a) (left_turned (place points a) (place points b) (place points c) abc) in
+        let cdb = left_turned (place points b) (place points c) (place points d) convex.1 in
+        let dab = left_turned (place points b) (place points d) (place points a) (left_turned (place points a) (place points b) (place points d) convex.0) in
+        let inside = (one_question (point_at points a) (point_at points c) (point_at points d) (point_at points b) acd cab).0 failing in
+        let x = made_outside points faces v empty c d a b (turned faces b c a (turned faces a b c first)) not_third not_first nb cab cdb dab inside in
+        (((λ s. absurd (not_first s)), (λ s. absurd (nb s)), (λ _. x.1)), ((λ s. absurd (nb s)), (λ s. absurd (not_third s)), (λ _. x.0)))
+        )
+  ]
+
+  made_is_outside : (i j k : ℕ) → IsFaceOf made i j k → IsOutsideAt i j k
+  made_is_outside = turn_of_all made IsOutsideAt (λ i j k s. (s.1, s.2, s.0))
+      (each (λ (f : Face). IsOutsideAt f.a f.b f.c) (face a b d) (face b c d ∷ []) outside_of.0
+      (each (λ (f : Face). IsOutsideAt f.a f.b f.c) (face b c d) [] outside_of.1 (each_none (λ (f : Face). IsOutsideAt f.a f.b f.c))))
+
+  still_empty : IsEmptyRound points new v
+  still_empty = record { beside = beside; beyond = beyond }
+    where
+      beside : (i j k n : ℕ) → IsFaceOf new i j k → i ≢ v → j ≢ v → k ≢ v → n < length points → n ≢ v → ¬ InsideCircle (place points i) (place points j) (place points k) (place points n)
+      beside i j k n f ni nj nk h nv = elim (face_from faces new (face a b c ∷ face a c d ∷ []) made change i j k f) [
+        | inl o ↦ empty.beside i j k n o ni nj nk h nv
+        | inr o ↦ absurd (elim (made_at_point i j k o) [ inl e ↦ ni e | inr x ↦ elim x [ inl e ↦ nj e | inr e ↦ nk e ] ])
+      ]
+
+      beyond : (j k n : ℕ) → IsFaceOf new v j k → n < length points → n ≢ v → TurnsLeft (place points j) (place points k) (place points n) → ¬ InsideCircle (place points v) (place points j) (place points k) (place points n)
+      beyond j k n f = elim (face_from faces new (face a b c ∷ face a c d ∷ []) made change v j k f) [
+        | inl o ↦ empty.beyond j k n o
+        | inr o ↦ (made_is_outside v j k o).0 refl n
+      ]
+
+  -- ---- the edges left to test
+  -- each side of the quadrilateral ends at a or c
+  side_ends : (i j : ℕ) → IsRoundSide a b c d i j → ((j ≡ a) ⊎ (j ≡ c)) ⊎ ((i ≡ a) ⊎ (i ≡ c))
+  side_ends i j (inl (inl (inl e))) = inr (inl e.0)
+  side_ends i j (inl (inl (inr e))) = inl (inl e.1)
+  side_ends i j (inl (inr (inl e))) = inl (inr e.1)
+  side_ends i j (inl (inr (inr e))) = inr (inr e.0)
+  side_ends i j (inr (inl (inl e))) = inr (inr e.0)
+  side_ends i j (inr (inl (inr e))) = inl (inr e.1)
+  side_ends i j (inr (inr (inl e))) = inl (inl e.1)
+  side_ends i j (inr (inr (inr e))) = inr (inl e.0)
+
+  neither_is_point : (i : ℕ) → i ≡ v → ((i ≡ a) ⊎ (i ≡ c)) → ⊥
+  neither_is_point i e (inl s) = not_first (sym s ∙ e)
+  neither_is_point i e (inr s) = not_third (sym s ∙ e)
+
+  -- the pairs of v with a and c, put before the others
+  later : (pairs : List (ℕ × ℕ)) (i j : ℕ) → Contains pairs (i, j) → Contains ((v, a) ∷ (v, c) ∷ pairs) (i, j)
+  later pairs i j h = Contains-later (v, a) ((v, c) ∷ pairs) (i, j) (Contains-later (v, c) pairs (i, j) h)
+
+  joins_later : (pairs : List (ℕ × ℕ)) (i j : ℕ) → Joins pairs i j → Joins ((v, a) ∷ (v, c) ∷ pairs) i j
+  joins_later pairs i j (inl h) = inl (later pairs i j h)
+  joins_later pairs i j (inr h) = inr (later pairs j i h)
+
+  spoke_there : (pairs : List (ℕ × ℕ)) (i j : ℕ) → i ≡ v → (j ≡ a) ⊎ (j ≡ c) → Contains ((v, a) ∷ (v, c) ∷ pairs) (i, j)
+  spoke_there pairs i j e (inl s) = subst (Contains ((v, a) ∷ (v, c) ∷ pairs)) (λ o. (sym e o, sym s o)) (Contains-head (v, a) ((v, c) ∷ pairs))
+  spoke_there pairs i j e (inr s) = subst (Contains ((v, a) ∷ (v, c) ∷ pairs)) (λ o. (sym e o, sym s o)) (Contains-later (v, a) ((v, c) ∷ pairs) (v, c) (Contains-head (v, c) pairs))
+
+  -- a pair without v is one of the others
+  earlier : (pairs : List (ℕ × ℕ)) (i j : ℕ) → i ≢ v → Contains ((v, a) ∷ (v, c) ∷ pairs) (i, j) → Contains pairs (i, j)
+  earlier pairs i j ni h = elim (Contains-cases (v, a) ((v, c) ∷ pairs) (i, j) h) [
+    | inl s ↦ absurd (ni (ap (λ (x : ℕ × ℕ). x.0) (sym s)))
+    | inr k ↦ elim (Contains-cases (v, c) pairs (i, j) k) [ inl s ↦ absurd (ni (ap (λ (x : ℕ × ℕ). x.0) (sym s))) | inr z ↦ z ]
+  ]
+
+  module _ (constraints before after : List (ℕ × ℕ)) (passing : AllPassBut points faces constraints before) (left : (i j : ℕ) → Joins before i j → IsSamePair i j a c ⊎ Joins after i j)
+      (round : (i j : ℕ) → IsRoundSide a b c d i j → i ≢ v → j ≢ v → Joins constraints i j ⊎ Joins after i j) where
+    round_or_spoke : (i j : ℕ) → IsRoundSide a b c d i j → Joins constraints i j ⊎ Joins ((v, a) ∷ (v, c) ∷ after) i j
+    round_or_spoke i j r = go (cases_eq i v) (cases_eq j v)
+      where
+        go : (i ≡ v) ⊎ (i ≡ v → ⊥) → (j ≡ v) ⊎ (j ≡ v → ⊥) → Joins constraints i j ⊎ Joins ((v, a) ∷ (v, c) ∷ after) i j
+        go (inl e) _ = inr (inl (spoke_there after i j e (elim (side_ends i j r) [ inl s ↦ s | inr s ↦ absurd (neither_is_point i e s) ])))
+        go (inr _) (inl e) = inr (inr (spoke_there after j i e (elim (side_ends i j r) [ inl s ↦ absurd (neither_is_point j e s) | inr s ↦ s ])))
+        go (inr ni) (inr nj) = elim (round i j r ni nj) [ inl h ↦ inl h | inr h ↦ inr (joins_later after i j h) ]
+
+    spokes_left : AllPassBut points new constraints ((v, a) ∷ (v, c) ∷ after)
+    spokes_left = flip_leaves_sides points faces new outer constraints before ((v, a) ∷ (v, c) ∷ after) a b c d m first second change failing passing
+        (λ i j h. elim (left i j h) [ inl s ↦ inl s | inr z ↦ inr (joins_later after i j z) ]) round_or_spoke
+
+    far_sides_left : AllPassBut points new constraints after
+    far_sides_left i j k l f g free untested = go (cases_eq i v) (cases_eq j v)
+      where
+        at_point : (i ≡ v) ⊎ (j ≡ v) → Pass points i j k l
+        at_point = spokes_pass points new outer v (after_flip points faces new outer a b c d m first second change failing) still_empty i j k l f g
+
+        go : (i ≡ v) ⊎ (i ≡ v → ⊥) → (j ≡ v) ⊎ (j ≡ v → ⊥) → Pass points i j k l
+        go (inl e) _ = at_point (inl e)
+        go (inr _) (inl e) = at_point (inr e)
+        go (inr ni) (inr nj) = spokes_left i j k l f g free (λ h. untested (elim h [ inl x ↦ inl (earlier after i j ni x) | inr x ↦ inr (earlier after j i nj x) ]))
+
 -- the flip of an edge that fails keeps the circles empty
 pub flip_stays_empty : (points : List Point) (faces new : List Face) (outer : List (ℕ × ℕ)) (a b c d v : ℕ) → LocalMesh points faces outer → IsFaceOf faces a b c → IsFaceOf faces a c d
     → FacesChange faces new (face a b c ∷ face a c d ∷ []) (face a b d ∷ face b c d ∷ []) → InsideCircle (place points a) (place points c) (place points d) (place points b)
     → IsEmptyRound points faces v → IsEmptyRound points new v
-flip_stays_empty points faces new outer a b c d v m first second change failing empty = ?
+flip_stays_empty points faces new outer a b c d v m first second change failing empty = still_empty points faces new outer a b c d v m first second change failing empty
 
 -- so the flip of an edge that fails leaves the sides of the quadrilateral to test that do not end at the point
 pub flip_leaves_far_sides : (points : List Point) (faces new : List Face) (outer constraints before after : List (ℕ × ℕ)) (a b c d v : ℕ) → LocalMesh points faces outer → IsFaceOf faces a b c → IsFaceOf faces a c d
     → FacesChange faces new (face a b c ∷ face a c d ∷ []) (face a b d ∷ face b c d ∷ []) → InsideCircle (place points a) (place points c) (place points d) (place points b)
     → IsEmptyRound points faces v → AllPassBut points faces constraints before → ((i j : ℕ) → Joins before i j → IsSamePair i j a c ⊎ Joins after i j)
     → ((i j : ℕ) → IsRoundSide a b c d i j → i ≢ v → j ≢ v → Joins constraints i j ⊎ Joins after i j) → AllPassBut points new constraints after
-flip_leaves_far_sides points faces new outer constraints before after a b c d v m first second change failing empty passing left round = ?
+flip_leaves_far_sides points faces new outer constraints before after a b c d v m first second change failing empty passing left round = far_sides_left points faces new outer a b c d v m first second change failing empty constraints before after passing left round
 
+-- ---- after the insertion
 -- at first the edges opposite the point are left to test
 pub opposite_left : (points : List Point) (faces : List Face) (outer constraints left : List (ℕ × ℕ)) (v : ℕ) → IsMesh points faces outer → IsEmptyRound points faces v
     → ((j k : ℕ) → IsFaceOf faces v j k → Joins left j k) → AllPassBut points faces constraints left
-opposite_left points faces outer constraints left v m empty there = ?
+opposite_left points faces outer constraints left v m empty there = elim m as (λ _. AllPassBut points faces constraints left) [
+  | inl mesh ↦ in_mesh mesh
+  | inr line ↦ (λ i j k l f g free untested. absurd (no_turn i j k (subst (λ fs. IsFaceOf fs i j k) line.0 f)))
+]
+  where
+    in_mesh : LocalMesh points faces outer → AllPassBut points faces constraints left
+    in_mesh mesh i j k l f g free untested = go (cases_eq i v) (cases_eq j v) (cases_eq k v) (cases_eq l v)
+      where
+        joined : (i j k : ℕ) → IsFaceOf faces i j k → k ≡ v → Joins left i j
+        joined i j k f e = there i j (subst (λ x. IsFaceOf faces x i j) e (turned faces j k i (turned faces i j k f)))
+
+        go : (i ≡ v) ⊎ (i ≡ v → ⊥) → (j ≡ v) ⊎ (j ≡ v → ⊥) → (k ≡ v) ⊎ (k ≡ v → ⊥) → (l ≡ v) ⊎ (l ≡ v → ⊥) → Pass points i j k l
+        go (inl e) _ _ _ = spokes_pass points faces outer v mesh empty i j k l f g (inl e)
+        go (inr _) (inl e) _ _ = spokes_pass points faces outer v mesh empty i j k l f g (inr e)
+        go (inr _) (inr _) (inl e) _ = absurd (untested (joined i j k f e))
+        go (inr _) (inr _) (inr _) (inl e) = absurd (untested (elim (joined j i l g e) [ inl x ↦ inr x | inr x ↦ inl x ]))
+        go (inr ni) (inr nj) (inr nk) (inr nl) =
+            (empty.beside i j k l f ni nj nk (index_of points faces outer mesh j i l g).2 nl, empty.beside j i l k g nj ni nl (index_of points faces outer mesh i j k f).2 nk)
