@@ -30,48 +30,69 @@ use Rattle.plane_edits.proofs.Legalization.Flipping.{one_question, failing_is_co
 
 -- ---- two circles
 -- the circles of a b o and of a b v, compared at n
-two_circles : (a b o v n : Vec3) → bracket a b v *ℤ incircle a b o n ≡ bracket a b o *ℤ incircle a b v n +ℤ bracket a b n *ℤ incircle a b o v
+two_circles : (a b o v n : Vec3)
+    → bracket a b v *ℤ incircle a b o n ≡ bracket a b o *ℤ incircle a b v n +ℤ bracket a b n *ℤ incircle a b o v
 unfolding incircle bracket
-two_circles a b o v n = ring_over vec3 [] (a ∷ b ∷ o ∷ v ∷ n ∷ []) (λ a b o v n. bracketᵖ a b v ⊗ incircleᵖ a b o n) (λ a b o v n. bracketᵖ a b o ⊗ incircleᵖ a b v n ⊕ bracketᵖ a b n ⊗ incircleᵖ a b o v) tt
+two_circles a b o v n = ring_over vec3 [] (a ∷ b ∷ o ∷ v ∷ n ∷ [])
+    (λ a b o v n. bracketᵖ a b v ⊗ incircleᵖ a b o n)
+    (λ a b o v n. bracketᵖ a b o ⊗ incircleᵖ a b v n ⊕ bracketᵖ a b n ⊗ incircleᵖ a b o v) tt
+
+-- so by the signs
+circle_sign : (a b o v n : Vec3) → pos 0 <ℤ bracket a b o → pos 0 <ℤ bracket a b v → pos 0 <ℤ bracket a b n
+    → pos 0 <ℤ incircle a b o v → pos 0 <ℤ incircle a b v n → pos 0 <ℤ incircle a b o n
+circle_sign a b o v n abo abv abn inside deep = pos_of_mul-pos_ℤ {k = bracket a b v} {x = incircle a b o n} abv
+    (subst (λ z. pos 0 <ℤ z) (sym (two_circles a b o v n))
+    (sum_is_positive (bracket a b o *ℤ incircle a b v n) (bracket a b n *ℤ incircle a b o v) (mul-pos_ℤ abo deep) (mul-pos_ℤ abn inside)))
 
 -- of two circles through a and b, what lies on the left of a b and inside that of v is inside that of o, where v is inside it
 pub deeper : (a b o v n : Point) → TurnsLeft (whole a) (whole b) (whole o) → TurnsLeft (whole a) (whole b) (whole v) → TurnsLeft (whole a) (whole b) (whole n)
     → InsideCircle (whole a) (whole b) (whole o) (whole v) → InsideCircle (whole a) (whole b) (whole v) (whole n) → InsideCircle (whole a) (whole b) (whole o) (whole n)
 deeper a b o v n abo abv abn inside deep =
-    (inside_is_incircle a b o n abo).1 (pos_of_mul-pos_ℤ {k = bracket (lift a) (lift b) (lift v)} {x = incircle (lift a) (lift b) (lift o) (lift n)} (if_left (whole a) (whole b) (whole v) abv)
-    (subst (λ z. pos 0 <ℤ z) (sym (two_circles (lift a) (lift b) (lift o) (lift v) (lift n)))
-    (sum_is_positive (bracket (lift a) (lift b) (lift o) *ℤ incircle (lift a) (lift b) (lift v) (lift n)) (bracket (lift a) (lift b) (lift n) *ℤ incircle (lift a) (lift b) (lift o) (lift v))
-    (mul-pos_ℤ (if_left (whole a) (whole b) (whole o) abo) ((inside_is_incircle a b v n abv).0 deep)) (mul-pos_ℤ (if_left (whole a) (whole b) (whole n) abn) ((inside_is_incircle a b o v abo).0 inside)))))
+    let left = λ (p : Point). λ (h : TurnsLeft (whole a) (whole b) (whole p)). if_left (whole a) (whole b) (whole p) h in
+    (inside_is_incircle a b o n abo).1 (circle_sign (lift a) (lift b) (lift o) (lift v) (lift n) (left o abo) (left v abv) (left n abn)
+    ((inside_is_incircle a b o v abo).0 inside) ((inside_is_incircle a b v n abv).0 deep))
 
 -- a left turn, read from its second corner
 left_turned : (p q r : Fraction) → TurnsLeft p q r → TurnsLeft q r p
 left_turned p q r h = left_if q r p (subst (λ z. pos 0 <ℤ z) (bracket-turn (vec p) (vec q) (vec r)) (if_left p q r h))
 
--- of the faces a b d and b c d that a flip made, what is beyond the side opposite b is inside the circle of a c d where it is inside that of the face
-inside_old : (a b c d n : Point) → TurnsLeft (whole a) (whole c) (whole d) → TurnsLeft (whole a) (whole b) (whole d) → TurnsLeft (whole b) (whole c) (whole d) → InsideCircle (whole a) (whole c) (whole d) (whole b)
-    → (TurnsLeft (whole d) (whole a) (whole n) → InsideCircle (whole b) (whole d) (whole a) (whole n) → InsideCircle (whole a) (whole c) (whole d) (whole n))
-    × (TurnsLeft (whole c) (whole d) (whole n) → InsideCircle (whole b) (whole c) (whole d) (whole n) → InsideCircle (whole a) (whole c) (whole d) (whole n))
+-- the same of a circle
+inside_turned : {p q r n : Fraction} → InsideCircle p q r n → InsideCircle q r p n
+inside_turned {p} {q} {r} {n} h = circle_turned p q r n h
+
+-- of two faces a b d and b c d, what is beyond the side opposite b and inside the circle is inside that of a c d, where b is
+inside_old : (a b c d n : Point) → TurnsLeft (whole a) (whole c) (whole d) → TurnsLeft (whole a) (whole b) (whole d)
+    → TurnsLeft (whole b) (whole c) (whole d) → InsideCircle (whole a) (whole c) (whole d) (whole b)
+    → (TurnsLeft (whole d) (whole a) (whole n) → InsideCircle (whole b) (whole d) (whole a) (whole n)
+    → InsideCircle (whole a) (whole c) (whole d) (whole n))
+    × (TurnsLeft (whole c) (whole d) (whole n) → InsideCircle (whole b) (whole c) (whole d) (whole n)
+    → InsideCircle (whole a) (whole c) (whole d) (whole n))
 inside_old a b c d n acd abd bcd failing =
     let cda = left_turned (whole a) (whole c) (whole d) acd in
     let dac = left_turned (whole c) (whole d) (whole a) cda in
-    let bda = left_turned (whole a) (whole b) (whole d) abd in
-    let dab = left_turned (whole b) (whole d) (whole a) bda in
+    let dab = left_turned (whole b) (whole d) (whole a) (left_turned (whole a) (whole b) (whole d) abd) in
     let cdb = left_turned (whole b) (whole c) (whole d) bcd in
-    let over_cd = circle_turned (whole a) (whole c) (whole d) (whole b) failing in
-    let over_da = circle_turned (whole c) (whole d) (whole a) (whole b) over_cd in (
-      (λ dan h. circle_turned (whole d) (whole a) (whole c) (whole n) (deeper d a c b n dac dab dan over_da (circle_turned (whole b) (whole d) (whole a) (whole n) h))),
-      (λ cdn h. circle_turned (whole d) (whole a) (whole c) (whole n) (circle_turned (whole c) (whole d) (whole a) (whole n) (deeper c d a b n cda cdb cdn over_cd (circle_turned (whole b) (whole c) (whole d) (whole n) h)))),
+    let cda_b = inside_turned failing in
+    let dac_b = inside_turned cda_b in (
+      (λ dan h. inside_turned (deeper d a c b n dac dab dan dac_b (inside_turned h))),
+      (λ cdn h. inside_turned (inside_turned (deeper c d a b n cda cdb cdn cda_b (inside_turned h)))),
     )
 
 -- ---- edges at the point
+-- two numbers are the same or not
+abbrev IsOrNot : ℕ → ℕ → Type 0
+IsOrNot i j = (i ≡ j) ⊎ (i ≡ j → ⊥)
+
 -- the corners of a face differ
-corners_apart : (points : List Point) (faces : List Face) (outer : List (ℕ × ℕ)) → LocalMesh points faces outer → (i j k : ℕ) → IsFaceOf faces i j k → (i ≢ j) × (j ≢ k) × (k ≢ i)
-corners_apart points faces outer m i j k f = corners_differ (point_at points) i j k (if_left (place points i) (place points j) (place points k) (turning_of points faces outer m i j k f))
+corners_apart : (points : List Point) (faces : List Face) (outer : List (ℕ × ℕ)) → LocalMesh points faces outer
+    → (i j k : ℕ) → IsFaceOf faces i j k → (i ≢ j) × (j ≢ k) × (k ≢ i)
+corners_apart points faces outer m i j k f = corners_differ (point_at points) i j k
+    (if_left (place points i) (place points j) (place points k) (turning_of points faces outer m i j k f))
 
 -- an edge from the point passes
-spoke_passes : (points : List Point) (faces : List Face) (outer : List (ℕ × ℕ)) (v : ℕ) → LocalMesh points faces outer → IsEmptyRound points faces v
-    → (j k l : ℕ) → IsFaceOf faces v j k → IsFaceOf faces j v l → Pass points v j k l
-spoke_passes points faces outer v m empty j k l f g = (outside, (λ h. outside ((one_question (point_at points v) (point_at points j) (point_at points k) (point_at points l) vjk jvl).1 h)))
+spoke_passes : (points : List Point) (faces : List Face) (outer : List (ℕ × ℕ)) (v : ℕ) → LocalMesh points faces outer
+    → IsEmptyRound points faces v → (j k l : ℕ) → IsFaceOf faces v j k → IsFaceOf faces j v l → Pass points v j k l
+spoke_passes points faces outer v m empty j k l f g = (outside, (λ h. outside (other h)))
   where
     vjk : TurnsLeft (place points v) (place points j) (place points k)
     vjk = turning_of points faces outer m v j k f
@@ -79,19 +100,30 @@ spoke_passes points faces outer v m empty j k l f g = (outside, (λ h. outside (
     jvl : TurnsLeft (place points j) (place points v) (place points l)
     jvl = turning_of points faces outer m j v l g
 
+    not_point : l ≢ v
+    not_point e = (corners_apart points faces outer m j v l g).1 (sym e)
+
     outside : ¬ InsideCircle (place points v) (place points j) (place points k) (place points l)
     outside h =
-        let ljk = (failing_is_convex (point_at points v) (point_at points l) (point_at points j) (point_at points k) (left_turned (place points j) (place points v) (place points l) jvl) vjk h).1 in
-        empty.beyond j k l f (index_of points faces outer m j v l g).2 (λ e. (corners_apart points faces outer m j v l g).1 (sym e)) (left_turned (place points l) (place points j) (place points k) ljk) h
+        let P = point_at points in
+        let vlj = left_turned (place points j) (place points v) (place points l) jvl in
+        let ljk = (failing_is_convex (P v) (P l) (P j) (P k) vlj vjk h).1 in
+        let jkl = left_turned (place points l) (place points j) (place points k) ljk in
+        empty.beyond j k l f (index_of points faces outer m j v l g).2 not_point jkl h
+
+    other : InsideCircle (place points j) (place points v) (place points l) (place points k)
+        → InsideCircle (place points v) (place points j) (place points k) (place points l)
+    other = (one_question (point_at points v) (point_at points j) (point_at points k) (point_at points l) vjk jvl).1
 
 -- each edge at the point passes
 pub spokes_pass : (points : List Point) (faces : List Face) (outer : List (ℕ × ℕ)) (v : ℕ) → LocalMesh points faces outer → IsEmptyRound points faces v
     → (i j k l : ℕ) → IsFaceOf faces i j k → IsFaceOf faces j i l → (i ≡ v) ⊎ (j ≡ v) → Pass points i j k l
 spokes_pass points faces outer v m empty i j k l f g at =
-    elim at [
-      | inl e ↦ subst (λ x. Pass points x j k l) (sym e) (spoke_passes points faces outer v m empty j k l (subst (λ x. IsFaceOf faces x j k) e f) (subst (λ x. IsFaceOf faces j x l) e g))
-      | inr e ↦ subst (λ x. Pass points i x k l) (sym e) (let x = spoke_passes points faces outer v m empty i l k (subst (λ x. IsFaceOf faces x i l) e g) (subst (λ x. IsFaceOf faces i x k) e f) in (x.1, x.0))
-    ]
+    elim at [ inl e ↦ from_first i j k l f g e | inr e ↦ (let x = from_first j i l k g f e in (x.1, x.0)) ]
+  where
+    from_first : (i j k l : ℕ) → IsFaceOf faces i j k → IsFaceOf faces j i l → i ≡ v → Pass points i j k l
+    from_first i j k l f g e = subst (λ x. Pass points x j k l) (sym e)
+        (spoke_passes points faces outer v m empty j k l (subst (λ x. IsFaceOf faces x j k) e f) (subst (λ x. IsFaceOf faces j x l) e g))
 
 -- an edge that fails lies opposite the point
 pub failing_is_opposite : (points : List Point) (faces : List Face) (outer : List (ℕ × ℕ)) (a b c d v : ℕ) → LocalMesh points faces outer → IsEmptyRound points faces v → IsFaceOf faces a b c → IsFaceOf faces a c d
@@ -100,31 +132,45 @@ failing_is_opposite points faces outer a b c d v m empty first second failing =
     go (cases_eq b v) (cases_eq d v) (cases_eq a v) (cases_eq c v)
   where
     passing : (a ≡ v) ⊎ (c ≡ v) → ⊥
-    passing at = (spokes_pass points faces outer v m empty a c d b second (turned faces b c a (turned faces a b c first)) at).0 failing
+    passing at =
+        let cab = turned faces b c a (turned faces a b c first) in
+        (spokes_pass points faces outer v m empty a c d b second cab at).0 failing
 
-    go : (b ≡ v) ⊎ (b ≡ v → ⊥) → (d ≡ v) ⊎ (d ≡ v → ⊥) → (a ≡ v) ⊎ (a ≡ v → ⊥) → (c ≡ v) ⊎ (c ≡ v → ⊥) → (b ≡ v) ⊎ (d ≡ v)
+    go : IsOrNot b v → IsOrNot d v → IsOrNot a v → IsOrNot c v → (b ≡ v) ⊎ (d ≡ v)
     go (inl e) _ _ _ = inl e
     go (inr _) (inl e) _ _ = inr e
     go (inr _) (inr _) (inl e) _ = absurd (passing (inl e))
     go (inr _) (inr _) (inr _) (inl e) = absurd (passing (inr e))
-    go (inr nb) (inr nd) (inr na) (inr nc) = absurd (empty.beside a c d b second na nc nd (index_of points faces outer m a b c first).1 nb failing)
+    go (inr nb) (inr nd) (inr na) (inr nc) =
+        absurd (empty.beside a c d b second na nc nd (index_of points faces outer m a b c first).1 nb failing)
 
 -- ---- the flip of an edge that fails
 -- what lies beyond the side opposite i of the face i j k is outside its circle
 abbrev IsOutside : List Point → ℕ → ℕ → ℕ → ℕ → Type 0
-IsOutside points v i j k = (n : ℕ) → n < length points → n ≢ v → TurnsLeft (place points j) (place points k) (place points n) → ¬ InsideCircle (place points i) (place points j) (place points k) (place points n)
+IsOutside points v i j k = (n : ℕ) → n < length points → n ≢ v → TurnsLeft (place points j) (place points k) (place points n)
+    → ¬ InsideCircle (place points i) (place points j) (place points k) (place points n)
 
 -- so it is of the faces a b d and b c d that were made, seen from b, where the face a c d has no corner v
-made_outside : (points : List Point) (faces : List Face) (v : ℕ) → IsEmptyRound points faces v → (a b c d : ℕ) → IsFaceOf faces a c d → a ≢ v → c ≢ v → d ≢ v
-    → TurnsLeft (place points a) (place points c) (place points d) → TurnsLeft (place points a) (place points b) (place points d) → TurnsLeft (place points b) (place points c) (place points d)
-    → InsideCircle (place points a) (place points c) (place points d) (place points b) → IsOutside points v b d a × IsOutside points v b c d
-made_outside points faces v empty a b c d f na nc nd acd abd bcd failing = (
-  (λ n h nv beyond inside. empty.beside a c d n f na nc nd h nv ((inside_old (point_at points a) (point_at points b) (point_at points c) (point_at points d) (point_at points n) acd abd bcd failing).0 beyond inside)),
-  (λ n h nv beyond inside. empty.beside a c d n f na nc nd h nv ((inside_old (point_at points a) (point_at points b) (point_at points c) (point_at points d) (point_at points n) acd abd bcd failing).1 beyond inside)),
-)
+made_outside : (points : List Point) (faces : List Face) (v : ℕ) → IsEmptyRound points faces v → (a b c d : ℕ)
+    → IsFaceOf faces a c d → a ≢ v → c ≢ v → d ≢ v → TurnsLeft (place points a) (place points c) (place points d)
+    → TurnsLeft (place points a) (place points b) (place points d) → TurnsLeft (place points b) (place points c) (place points d)
+    → InsideCircle (place points a) (place points c) (place points d) (place points b)
+    → IsOutside points v b d a × IsOutside points v b c d
+made_outside points faces v empty a b c d f na nc nd acd abd bcd failing =
+    let P = point_at points in
+    let old = λ (n : ℕ). inside_old (P a) (P b) (P c) (P d) (P n) acd abd bcd failing in (
+      (λ n h nv beyond inside. empty.beside a c d n f na nc nd h nv ((old n).0 beyond inside)),
+      (λ n h nv beyond inside. empty.beside a c d n f na nc nd h nv ((old n).1 beyond inside)),
+    )
 
-module _ (points : List Point) (faces new : List Face) (outer : List (ℕ × ℕ)) (a b c d v : ℕ) (m : LocalMesh points faces outer) (first : IsFaceOf faces a b c) (second : IsFaceOf faces a c d)
-    (change : FacesChange faces new (face a b c ∷ face a c d ∷ []) (face a b d ∷ face b c d ∷ [])) (failing : InsideCircle (place points a) (place points c) (place points d) (place points b)) (empty : IsEmptyRound points faces v) where
+module _ (points : List Point) (faces new : List Face) (outer : List (ℕ × ℕ)) (a b c d v : ℕ) (m : LocalMesh points faces outer)
+    (first : IsFaceOf faces a b c) (second : IsFaceOf faces a c d)
+    (change : FacesChange faces new (face a b c ∷ face a c d ∷ []) (face a b d ∷ face b c d ∷ []))
+    (failing : InsideCircle (place points a) (place points c) (place points d) (place points b))
+    (empty : IsEmptyRound points faces v) where
+  abbrev P : ℕ → Point
+  P = point_at points
+
   abbrev made : List Face
   made = face a b d ∷ face b c d ∷ []
 
@@ -137,8 +183,9 @@ module _ (points : List Point) (faces new : List Face) (outer : List (ℕ × ℕ
   acd : TurnsLeft (place points a) (place points c) (place points d)
   acd = turning_of points faces outer m a c d second
 
-  convex : TurnsLeft (place points a) (place points b) (place points d) × TurnsLeft (place points b) (place points c) (place points d)
-  convex = failing_is_convex (point_at points a) (point_at points b) (point_at points c) (point_at points d) abc acd failing
+  convex : TurnsLeft (place points a) (place points b) (place points d)
+      × TurnsLeft (place points b) (place points c) (place points d)
+  convex = failing_is_convex (P a) (P b) (P c) (P d) abc acd failing
 
   apart_abc : (a ≢ b) × (b ≢ c) × (c ≢ a)
   apart_abc = corners_apart points faces outer m a b c first
@@ -147,7 +194,7 @@ module _ (points : List Point) (faces new : List Face) (outer : List (ℕ × ℕ
   apart_acd = corners_apart points faces outer m a c d second
 
   apart_abd : (a ≢ b) × (b ≢ d) × (d ≢ a)
-  apart_abd = corners_differ (point_at points) a b d (if_left (place points a) (place points b) (place points d) convex.0)
+  apart_abd = corners_differ P a b d (if_left (place points a) (place points b) (place points d) convex.0)
 
   -- the ends of the edge that failed are not the point
   not_first : a ≢ v
@@ -160,6 +207,9 @@ module _ (points : List Point) (faces new : List Face) (outer : List (ℕ × ℕ
   abbrev HasPoint : ℕ → ℕ → ℕ → Type 0
   HasPoint i j k = (i ≡ v) ⊎ ((j ≡ v) ⊎ (k ≡ v))
 
+  abbrev HasPointAsCorner : Face → Type 0
+  HasPointAsCorner f = HasPoint f.a f.b f.c
+
   point_turned : (i j k : ℕ) → HasPoint i j k → HasPoint j k i
   point_turned i j k (inl e) = inr (inr e)
   point_turned i j k (inr (inl e)) = inl e
@@ -168,46 +218,62 @@ module _ (points : List Point) (faces new : List Face) (outer : List (ℕ × ℕ
   -- each face that was made has the corner v
   made_at_point : (i j k : ℕ) → IsFaceOf made i j k → HasPoint i j k
   made_at_point = turn_of_all made HasPoint point_turned
-      (each (λ (f : Face). HasPoint f.a f.b f.c) (face a b d) (face b c d ∷ []) (inr opposite)
-      (each (λ (f : Face). HasPoint f.a f.b f.c) (face b c d) [] (elim opposite [ inl e ↦ inl e | inr e ↦ inr (inr e) ]) (each_none (λ (f : Face). HasPoint f.a f.b f.c))))
+      (each HasPointAsCorner (face a b d) (face b c d ∷ []) (inr opposite)
+      (each HasPointAsCorner (face b c d) [] (elim opposite [ inl e ↦ inl e | inr e ↦ inr (inr e) ])
+      (each_none HasPointAsCorner)))
 
   abbrev IsOutsideAt : ℕ → ℕ → ℕ → Type 0
-  IsOutsideAt i j k = (i ≡ v → IsOutside points v i j k) × (j ≡ v → IsOutside points v j k i) × (k ≡ v → IsOutside points v k i j)
+  IsOutsideAt i j k = (i ≡ v → IsOutside points v i j k) × (j ≡ v → IsOutside points v j k i)
+      × (k ≡ v → IsOutside points v k i j)
+
+  abbrev HasOutside : Face → Type 0
+  HasOutside f = IsOutsideAt f.a f.b f.c
 
   -- of a face that was made, what lies beyond the side opposite v is outside the circle
   outside_of : IsOutsideAt a b d × IsOutsideAt b c d
-  outside_of = elim opposite [
-    | inl e ↦ (
-        let nd : d ≢ v = λ s. apart_abd.1 (e ∙ sym s) in
-        let x = made_outside points faces v empty a b c d second not_first not_third nd acd convex.0 convex.1 failing in
-        (((λ s. absurd (not_first s)), (λ _. x.0), (λ s. absurd (nd s))), ((λ _. x.1), (λ s. absurd (not_third s)), (λ s. absurd (nd s))))
-        )
-    | inr e ↦ (
-        let nb : b ≢ v = λ s. apart_abd.1 (s ∙ sym e) in
-        let cab = left_turned (place points b) (place points c) (place points a) (left_turned (place points a) (place points b) (place points c) abc) in
-        let cdb = left_turned (place points b) (place points c) (place points d) convex.1 in
-        let dab = left_turned (place points b) (place points d) (place points a) (left_turned (place points a) (place points b) (place points d) convex.0) in
-        let inside = (one_question (point_at points a) (point_at points c) (point_at points d) (point_at points b) acd cab).0 failing in
-        let x = made_outside points faces v empty c d a b (turned faces b c a (turned faces a b c first)) not_third not_first nb cab cdb dab inside in
-        (((λ s. absurd (not_first s)), (λ s. absurd (nb s)), (λ _. x.1)), ((λ s. absurd (nb s)), (λ s. absurd (not_third s)), (λ _. x.0)))
-        )
-  ]
+  outside_of = elim opposite [ inl e ↦ if_second e | inr e ↦ if_fourth e ]
+    where
+      if_second : b ≡ v → IsOutsideAt a b d × IsOutsideAt b c d
+      if_second e =
+          let nd : d ≢ v = λ s. apart_abd.1 (e ∙ sym s) in
+          let x = made_outside points faces v empty a b c d second not_first not_third nd acd convex.0 convex.1 failing in (
+            ((λ s. absurd (not_first s)), (λ _. x.0), (λ s. absurd (nd s))),
+            ((λ _. x.1), (λ s. absurd (not_third s)), (λ s. absurd (nd s))),
+          )
+
+      if_fourth : d ≡ v → IsOutsideAt a b d × IsOutsideAt b c d
+      if_fourth e =
+          let nb : b ≢ v = λ s. apart_abd.1 (s ∙ sym e) in
+          let bca = left_turned (place points a) (place points b) (place points c) abc in
+          let bda = left_turned (place points a) (place points b) (place points d) convex.0 in
+          let cab = left_turned (place points b) (place points c) (place points a) bca in
+          let cdb = left_turned (place points b) (place points c) (place points d) convex.1 in
+          let dab = left_turned (place points b) (place points d) (place points a) bda in
+          let inside = (one_question (P a) (P c) (P d) (P b) acd cab).0 failing in
+          let f = turned faces b c a (turned faces a b c first) in
+          let x = made_outside points faces v empty c d a b f not_third not_first nb cab cdb dab inside in (
+            ((λ s. absurd (not_first s)), (λ s. absurd (nb s)), (λ _. x.1)),
+            ((λ s. absurd (nb s)), (λ s. absurd (not_third s)), (λ _. x.0)),
+          )
 
   made_is_outside : (i j k : ℕ) → IsFaceOf made i j k → IsOutsideAt i j k
   made_is_outside = turn_of_all made IsOutsideAt (λ i j k s. (s.1, s.2, s.0))
-      (each (λ (f : Face). IsOutsideAt f.a f.b f.c) (face a b d) (face b c d ∷ []) outside_of.0
-      (each (λ (f : Face). IsOutsideAt f.a f.b f.c) (face b c d) [] outside_of.1 (each_none (λ (f : Face). IsOutsideAt f.a f.b f.c))))
+      (each HasOutside (face a b d) (face b c d ∷ []) outside_of.0
+      (each HasOutside (face b c d) [] outside_of.1 (each_none HasOutside)))
 
   still_empty : IsEmptyRound points new v
   still_empty = record { beside = beside; beyond = beyond }
     where
-      beside : (i j k n : ℕ) → IsFaceOf new i j k → i ≢ v → j ≢ v → k ≢ v → n < length points → n ≢ v → ¬ InsideCircle (place points i) (place points j) (place points k) (place points n)
+      beside : (i j k n : ℕ) → IsFaceOf new i j k → i ≢ v → j ≢ v → k ≢ v → n < length points → n ≢ v
+          → ¬ InsideCircle (place points i) (place points j) (place points k) (place points n)
       beside i j k n f ni nj nk h nv = elim (face_from faces new (face a b c ∷ face a c d ∷ []) made change i j k f) [
         | inl o ↦ empty.beside i j k n o ni nj nk h nv
         | inr o ↦ absurd (elim (made_at_point i j k o) [ inl e ↦ ni e | inr x ↦ elim x [ inl e ↦ nj e | inr e ↦ nk e ] ])
       ]
 
-      beyond : (j k n : ℕ) → IsFaceOf new v j k → n < length points → n ≢ v → TurnsLeft (place points j) (place points k) (place points n) → ¬ InsideCircle (place points v) (place points j) (place points k) (place points n)
+      beyond : (j k n : ℕ) → IsFaceOf new v j k → n < length points → n ≢ v
+          → TurnsLeft (place points j) (place points k) (place points n)
+          → ¬ InsideCircle (place points v) (place points j) (place points k) (place points n)
       beyond j k n f = elim (face_from faces new (face a b c ∷ face a c d ∷ []) made change v j k f) [
         | inl o ↦ empty.beyond j k n o
         | inr o ↦ (made_is_outside v j k o).0 refl n
@@ -230,70 +296,89 @@ module _ (points : List Point) (faces new : List Face) (outer : List (ℕ × ℕ
   neither_is_point i e (inr s) = not_third (sym s ∙ e)
 
   -- the pairs of v with a and c, put before the others
-  later : (pairs : List (ℕ × ℕ)) (i j : ℕ) → Contains pairs (i, j) → Contains ((v, a) ∷ (v, c) ∷ pairs) (i, j)
+  abbrev more : List (ℕ × ℕ) → List (ℕ × ℕ)
+  more pairs = (v, a) ∷ (v, c) ∷ pairs
+
+  later : (pairs : List (ℕ × ℕ)) (i j : ℕ) → Contains pairs (i, j) → Contains (more pairs) (i, j)
   later pairs i j h = Contains-later (v, a) ((v, c) ∷ pairs) (i, j) (Contains-later (v, c) pairs (i, j) h)
 
-  joins_later : (pairs : List (ℕ × ℕ)) (i j : ℕ) → Joins pairs i j → Joins ((v, a) ∷ (v, c) ∷ pairs) i j
+  joins_later : (pairs : List (ℕ × ℕ)) (i j : ℕ) → Joins pairs i j → Joins (more pairs) i j
   joins_later pairs i j (inl h) = inl (later pairs i j h)
   joins_later pairs i j (inr h) = inr (later pairs j i h)
 
-  spoke_there : (pairs : List (ℕ × ℕ)) (i j : ℕ) → i ≡ v → (j ≡ a) ⊎ (j ≡ c) → Contains ((v, a) ∷ (v, c) ∷ pairs) (i, j)
-  spoke_there pairs i j e (inl s) = subst (Contains ((v, a) ∷ (v, c) ∷ pairs)) (λ o. (sym e o, sym s o)) (Contains-head (v, a) ((v, c) ∷ pairs))
-  spoke_there pairs i j e (inr s) = subst (Contains ((v, a) ∷ (v, c) ∷ pairs)) (λ o. (sym e o, sym s o)) (Contains-later (v, a) ((v, c) ∷ pairs) (v, c) (Contains-head (v, c) pairs))
+  spoke_there : (pairs : List (ℕ × ℕ)) (i j : ℕ) → i ≡ v → (j ≡ a) ⊎ (j ≡ c) → Contains (more pairs) (i, j)
+  spoke_there pairs i j e (inl s) = subst (Contains (more pairs)) (λ o. (sym e o, sym s o)) (Contains-head (v, a) ((v, c) ∷ pairs))
+  spoke_there pairs i j e (inr s) = subst (Contains (more pairs)) (λ o. (sym e o, sym s o))
+      (Contains-later (v, a) ((v, c) ∷ pairs) (v, c) (Contains-head (v, c) pairs))
 
   -- a pair without v is one of the others
-  earlier : (pairs : List (ℕ × ℕ)) (i j : ℕ) → i ≢ v → Contains ((v, a) ∷ (v, c) ∷ pairs) (i, j) → Contains pairs (i, j)
+  earlier : (pairs : List (ℕ × ℕ)) (i j : ℕ) → i ≢ v → Contains (more pairs) (i, j) → Contains pairs (i, j)
   earlier pairs i j ni h = elim (Contains-cases (v, a) ((v, c) ∷ pairs) (i, j) h) [
     | inl s ↦ absurd (ni (ap (λ (x : ℕ × ℕ). x.0) (sym s)))
-    | inr k ↦ elim (Contains-cases (v, c) pairs (i, j) k) [ inl s ↦ absurd (ni (ap (λ (x : ℕ × ℕ). x.0) (sym s))) | inr z ↦ z ]
+    | inr k ↦ elim (Contains-cases (v, c) pairs (i, j) k) [
+      | inl s ↦ absurd (ni (ap (λ (x : ℕ × ℕ). x.0) (sym s)))
+      | inr z ↦ z
+    ]
   ]
 
-  module _ (constraints before after : List (ℕ × ℕ)) (passing : AllPassBut points faces constraints before) (left : (i j : ℕ) → Joins before i j → IsSamePair i j a c ⊎ Joins after i j)
+  module _ (constraints before after : List (ℕ × ℕ)) (passing : AllPassBut points faces constraints before)
+      (left : (i j : ℕ) → Joins before i j → IsSamePair i j a c ⊎ Joins after i j)
       (round : (i j : ℕ) → IsRoundSide a b c d i j → i ≢ v → j ≢ v → Joins constraints i j ⊎ Joins after i j) where
-    round_or_spoke : (i j : ℕ) → IsRoundSide a b c d i j → Joins constraints i j ⊎ Joins ((v, a) ∷ (v, c) ∷ after) i j
+    round_or_spoke : (i j : ℕ) → IsRoundSide a b c d i j → Joins constraints i j ⊎ Joins (more after) i j
     round_or_spoke i j r = go (cases_eq i v) (cases_eq j v)
       where
-        go : (i ≡ v) ⊎ (i ≡ v → ⊥) → (j ≡ v) ⊎ (j ≡ v → ⊥) → Joins constraints i j ⊎ Joins ((v, a) ∷ (v, c) ∷ after) i j
-        go (inl e) _ = inr (inl (spoke_there after i j e (elim (side_ends i j r) [ inl s ↦ s | inr s ↦ absurd (neither_is_point i e s) ])))
-        go (inr _) (inl e) = inr (inr (spoke_there after j i e (elim (side_ends i j r) [ inl s ↦ absurd (neither_is_point j e s) | inr s ↦ s ])))
+        go : IsOrNot i v → IsOrNot j v → Joins constraints i j ⊎ Joins (more after) i j
+        go (inl e) _ =
+            let at : (j ≡ a) ⊎ (j ≡ c) = elim (side_ends i j r) [ inl s ↦ s | inr s ↦ absurd (neither_is_point i e s) ] in
+            inr (inl (spoke_there after i j e at))
+        go (inr _) (inl e) =
+            let at : (i ≡ a) ⊎ (i ≡ c) = elim (side_ends i j r) [ inl s ↦ absurd (neither_is_point j e s) | inr s ↦ s ] in
+            inr (inr (spoke_there after j i e at))
         go (inr ni) (inr nj) = elim (round i j r ni nj) [ inl h ↦ inl h | inr h ↦ inr (joins_later after i j h) ]
 
-    spokes_left : AllPassBut points new constraints ((v, a) ∷ (v, c) ∷ after)
-    spokes_left = flip_leaves_sides points faces new outer constraints before ((v, a) ∷ (v, c) ∷ after) a b c d m first second change failing passing
+    spokes_left : AllPassBut points new constraints (more after)
+    spokes_left = flip_leaves_sides points faces new outer constraints before (more after) a b c d m first second change
+        failing passing
         (λ i j h. elim (left i j h) [ inl s ↦ inl s | inr z ↦ inr (joins_later after i j z) ]) round_or_spoke
 
     far_sides_left : AllPassBut points new constraints after
     far_sides_left i j k l f g free untested = go (cases_eq i v) (cases_eq j v)
       where
         at_point : (i ≡ v) ⊎ (j ≡ v) → Pass points i j k l
-        at_point = spokes_pass points new outer v (after_flip points faces new outer a b c d m first second change failing) still_empty i j k l f g
+        at_point =
+            let mesh = after_flip points faces new outer a b c d m first second change failing in
+            spokes_pass points new outer v mesh still_empty i j k l f g
 
-        go : (i ≡ v) ⊎ (i ≡ v → ⊥) → (j ≡ v) ⊎ (j ≡ v → ⊥) → Pass points i j k l
+        go : IsOrNot i v → IsOrNot j v → Pass points i j k l
         go (inl e) _ = at_point (inl e)
         go (inr _) (inl e) = at_point (inr e)
-        go (inr ni) (inr nj) = spokes_left i j k l f g free (λ h. untested (elim h [ inl x ↦ inl (earlier after i j ni x) | inr x ↦ inr (earlier after j i nj x) ]))
+        go (inr ni) (inr nj) = spokes_left i j k l f g free
+            (λ h. untested (elim h [ inl x ↦ inl (earlier after i j ni x) | inr x ↦ inr (earlier after j i nj x) ]))
 
 -- the flip of an edge that fails keeps the circles empty
 pub flip_stays_empty : (points : List Point) (faces new : List Face) (outer : List (ℕ × ℕ)) (a b c d v : ℕ) → LocalMesh points faces outer → IsFaceOf faces a b c → IsFaceOf faces a c d
     → FacesChange faces new (face a b c ∷ face a c d ∷ []) (face a b d ∷ face b c d ∷ []) → InsideCircle (place points a) (place points c) (place points d) (place points b)
     → IsEmptyRound points faces v → IsEmptyRound points new v
-flip_stays_empty points faces new outer a b c d v m first second change failing empty = still_empty points faces new outer a b c d v m first second change failing empty
+flip_stays_empty points faces new outer a b c d v m first second change failing empty =
+    still_empty points faces new outer a b c d v m first second change failing empty
 
 -- so the flip of an edge that fails leaves the sides of the quadrilateral to test that do not end at the point
 pub flip_leaves_far_sides : (points : List Point) (faces new : List Face) (outer constraints before after : List (ℕ × ℕ)) (a b c d v : ℕ) → LocalMesh points faces outer → IsFaceOf faces a b c → IsFaceOf faces a c d
     → FacesChange faces new (face a b c ∷ face a c d ∷ []) (face a b d ∷ face b c d ∷ []) → InsideCircle (place points a) (place points c) (place points d) (place points b)
     → IsEmptyRound points faces v → AllPassBut points faces constraints before → ((i j : ℕ) → Joins before i j → IsSamePair i j a c ⊎ Joins after i j)
     → ((i j : ℕ) → IsRoundSide a b c d i j → i ≢ v → j ≢ v → Joins constraints i j ⊎ Joins after i j) → AllPassBut points new constraints after
-flip_leaves_far_sides points faces new outer constraints before after a b c d v m first second change failing empty passing left round = far_sides_left points faces new outer a b c d v m first second change failing empty constraints before after passing left round
+flip_leaves_far_sides points faces new outer constraints before after a b c d v m first second change failing empty passing left round =
+    far_sides_left points faces new outer a b c d v m first second change failing empty constraints before after passing left round
 
 -- ---- after the insertion
 -- at first the edges opposite the point are left to test
 pub opposite_left : (points : List Point) (faces : List Face) (outer constraints left : List (ℕ × ℕ)) (v : ℕ) → IsMesh points faces outer → IsEmptyRound points faces v
     → ((j k : ℕ) → IsFaceOf faces v j k → Joins left j k) → AllPassBut points faces constraints left
-opposite_left points faces outer constraints left v m empty there = elim m as (λ _. AllPassBut points faces constraints left) [
-  | inl mesh ↦ in_mesh mesh
-  | inr line ↦ (λ i j k l f g free untested. absurd (no_turn i j k (subst (λ fs. IsFaceOf fs i j k) line.0 f)))
-]
+opposite_left points faces outer constraints left v m empty there =
+    elim m as (λ _. AllPassBut points faces constraints left) [
+      | inl mesh ↦ in_mesh mesh
+      | inr line ↦ (λ i j k l f g free untested. absurd (no_turn i j k (subst (λ fs. IsFaceOf fs i j k) line.0 f)))
+    ]
   where
     in_mesh : LocalMesh points faces outer → AllPassBut points faces constraints left
     in_mesh mesh i j k l f g free untested = go (cases_eq i v) (cases_eq j v) (cases_eq k v) (cases_eq l v)
@@ -301,10 +386,13 @@ opposite_left points faces outer constraints left v m empty there = elim m as (�
         joined : (i j k : ℕ) → IsFaceOf faces i j k → k ≡ v → Joins left i j
         joined i j k f e = there i j (subst (λ x. IsFaceOf faces x i j) e (turned faces j k i (turned faces i j k f)))
 
-        go : (i ≡ v) ⊎ (i ≡ v → ⊥) → (j ≡ v) ⊎ (j ≡ v → ⊥) → (k ≡ v) ⊎ (k ≡ v → ⊥) → (l ≡ v) ⊎ (l ≡ v → ⊥) → Pass points i j k l
+        go : IsOrNot i v → IsOrNot j v → IsOrNot k v → IsOrNot l v → Pass points i j k l
         go (inl e) _ _ _ = spokes_pass points faces outer v mesh empty i j k l f g (inl e)
         go (inr _) (inl e) _ _ = spokes_pass points faces outer v mesh empty i j k l f g (inr e)
         go (inr _) (inr _) (inl e) _ = absurd (untested (joined i j k f e))
-        go (inr _) (inr _) (inr _) (inl e) = absurd (untested (elim (joined j i l g e) [ inl x ↦ inr x | inr x ↦ inl x ]))
+        go (inr _) (inr _) (inr _) (inl e) =
+            absurd (untested (elim (joined j i l g e) [ inl x ↦ inr x | inr x ↦ inl x ]))
         go (inr ni) (inr nj) (inr nk) (inr nl) =
-            (empty.beside i j k l f ni nj nk (index_of points faces outer mesh j i l g).2 nl, empty.beside j i l k g nj ni nl (index_of points faces outer mesh i j k f).2 nk)
+            let hl = (index_of points faces outer mesh j i l g).2 in
+            let hk = (index_of points faces outer mesh i j k f).2 in
+            (empty.beside i j k l f ni nj nk hl nl, empty.beside j i l k g nj ni nl hk nk)
