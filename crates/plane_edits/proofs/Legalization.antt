@@ -4,5 +4,6 @@ pub mod Heights
 pub mod Legal
 pub mod Flipping
 pub mod EmptyRound
+pub mod NewPoint
 pub mod Away
 pub mod FlipHistory
