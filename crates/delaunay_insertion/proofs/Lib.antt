@@ -13,3 +13,5 @@ pub mod SplitConstraints
 pub mod LeftToTest
 pub mod DataKept
 pub mod Appending
+pub mod NewPoint
+pub mod EmptyRound

@@ -3,3 +3,4 @@ pub mod Growth
 pub mod Edges
 pub mod Constraints
 pub mod Joining
+pub mod EmptyRound
