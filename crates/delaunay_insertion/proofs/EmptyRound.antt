@@ -19,10 +19,10 @@ use Rattle.mesh_embedding.proofs.WorkLists.{contains_map_from}
 use Rattle.delaunay_legalization.specs.Shape.{IsTriangulated}
 use Rattle.delaunay_legalization.specs.Star.{MakesFacesAt}
 use Rattle.delaunay_legalization.specs.State.{State}
-use Rattle.delaunay_insertion.specs.EmptyRound.{IsEmptyRound}
+use Rattle.plane_edits.specs.EmptyRound.{IsEmptyRound}
 use Rattle.delaunay_insertion.specs.Growth.{TakesVertex}
 use Rattle.delaunay_insertion.proofs.MadeFaces.{made_at_count}
-use Rattle.delaunay_insertion.proofs.NewPoint.{put_in_is_empty}
+use Rattle.plane_edits.proofs.Legalization.NewPoint.{put_in_is_empty}
 
 module _ {V D U F : Type 0} (at : V → Point) (v : V) (old new : State V D U F) (vertex : ℕ)
     (takes : TakesVertex at v old new vertex) where

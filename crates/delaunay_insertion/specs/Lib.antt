@@ -3,4 +3,3 @@ pub mod Growth
 pub mod Edges
 pub mod Constraints
 pub mod Joining
-pub mod EmptyRound
