@@ -64,10 +64,10 @@ module _ {V D U F : Type 0} (at : V → Point) (marks : U → Bool) (constraints
     ]
 
   -- where each edge but constraints passed before
-  pub passes_beside : (old : State V D U F) (ready mid : Contents V D U F) (v : V) (k n : ℕ) → IsDelaunayTriangulation at constraints old → state_of ready ≡ old → mid.vertices ≡ ready.vertices ++ v ∷ [] → k ≡ n → MakesFacesAt n (faces_of ready.mesh) (faces_of mid.mesh)
+  pub passes_beside : (old : State V D U F) (ready mid : Contents V D U F) (v : V) (k n : ℕ) → IsDelaunayTriangulation at constraints old → state_of ready ≡ old → mid.vertices ≡ ready.vertices ++ v ∷ [] → k ≡ n → MakesFacesAt n (faces_of ready.mesh) (outer_of ready.mesh) (faces_of mid.mesh)
       → IsTriangulated at (state_of mid) → SplitsConstraints at constraints (state_of ready) (state_of mid) v → AllPassBeside (map at mid.vertices) (faces_of mid.mesh) (constraints_by constraints (state_of mid)) k
   passes_beside old ready mid v k n legal same vertices is made kept splits =
       let here : IsDelaunayTriangulation at constraints (state_of ready) = subst (IsDelaunayTriangulation at constraints) (sym same) legal in
       subst (λ (ps : List Point). AllPassBeside ps (faces_of mid.mesh) (constraints_by constraints (state_of mid)) k) (sym (ap (map at) vertices ∙ map-append at ready.vertices (v ∷ [])))
       (made_at_leaves (map at ready.vertices) (at v) (faces_of ready.mesh) (faces_of mid.mesh) (outer_of ready.mesh) (constraints_by constraints (state_of ready)) (constraints_by constraints (state_of mid)) k here.kept.shape (λ a b c d f g free _. here.passing a b c d f g free)
-      (subst (λ (x : ℕ). MakesFacesAt x (faces_of ready.mesh) (faces_of mid.mesh)) (sym is) made) (marks_leave v ready mid here.kept kept vertices splits))
+      (subst (λ (x : ℕ). MakesFacesAt x (faces_of ready.mesh) (outer_of ready.mesh) (faces_of mid.mesh)) (sym is) made) (marks_leave v ready mid here.kept kept vertices splits))

@@ -13,3 +13,4 @@ pub mod SplitConstraints
 pub mod LeftToTest
 pub mod DataKept
 pub mod Appending
+pub mod EmptyRound

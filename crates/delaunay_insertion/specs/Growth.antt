@@ -2,7 +2,7 @@
 use Rattle.std.specs.Prelude.{◌≡◌, ◌++◌, ◌∷◌, [], ℕ, length, map}
 use Rattle.plane.specs.Fraction.{Point}
 use Rattle.plane.specs.Tests.{InRange}
-use Rattle.mesh_embedding.specs.Drawn.{faces_of}
+use Rattle.mesh_embedding.specs.Drawn.{faces_of, outer_of}
 use Rattle.delaunay_insertion.specs.Data.{GrowsAround}
 use Rattle.delaunay_legalization.specs.Shape.{IsTriangulated}
 use Rattle.delaunay_legalization.specs.Star.{MakesFacesAt}
@@ -14,10 +14,10 @@ pub record CanTake {V D U F : Type 0} (at : V → Point) (value : V) (s : State 
   pub in_range : InRange (at value)
 
 -- the value is the new last vertex of a mesh that is triangulated again. Data stay but of what the value lies in, and each
--- face that came has the vertex as a corner
+-- face that came has the vertex as a corner, opposite what was a side of a face or an outer edge
 pub record TakesVertex {V D U F : Type 0} (at : V → Point) (value : V) (old new : State V D U F) (vertex : ℕ) : Type 0 where
   pub is : vertex ≡ length old.vertices
   pub vertices : new.vertices ≡ old.vertices ++ value ∷ []
   pub kept : IsTriangulated at new
   pub grows : GrowsAround (map at old.vertices) (at value) old new
-  pub made : MakesFacesAt (length old.vertices) (faces_of old.mesh) (faces_of new.mesh)
+  pub made : MakesFacesAt (length old.vertices) (faces_of old.mesh) (outer_of old.mesh) (faces_of new.mesh)

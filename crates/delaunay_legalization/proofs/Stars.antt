@@ -41,7 +41,7 @@ pass_kept points q i j k l a b c d p =
     (λ o. (place_kept points q i a o, place_kept points q j b o, place_kept points q k c o, place_kept points q l d o)) p
 
 -- each edge between faces that were there passes as it did, where its mark has not gone
-pub made_at_leaves : (points : List Point) (q : Point) (old new : List Face) (outer before after : List (ℕ × ℕ)) (v : ℕ) → IsMesh points old outer → AllPassBut points old before [] → MakesFacesAt v old new
+pub made_at_leaves : (points : List Point) (q : Point) (old new : List Face) (outer before after : List (ℕ × ℕ)) (v : ℕ) → IsMesh points old outer → AllPassBut points old before [] → MakesFacesAt v old outer new
     → ((i j : ℕ) → Joins before i j → Joins after i j ⊎ ((k : ℕ) → ¬ IsFaceOf new i j k)) → AllPassBeside (points ++ q ∷ []) new after v
 made_at_leaves points q old new outer before after v shape passing made marked i j k l f g free off off_twin = go (made.each i j k f) (made.each j i l g)
   where

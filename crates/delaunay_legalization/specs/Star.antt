@@ -11,9 +11,10 @@ use Rattle.plane_edits.specs.Legal.{Pass}
 abbrev pub IsOneOf : ℕ → ℕ → ℕ → ℕ → Type 0
 IsOneOf v i j k = (i ≡ v) ⊎ ((j ≡ v) ⊎ (k ≡ v))
 
--- each face is an old one, or has the corner v
-pub record MakesFacesAt (v : ℕ) (old new : List Face) : Type 0 where
+-- each face is an old one, or has the corner v; the side opposite v of a face that has it was a side of a face, or an outer edge
+pub record MakesFacesAt (v : ℕ) (old : List Face) (outer : List (ℕ × ℕ)) (new : List Face) : Type 0 where
   pub each : (i j k : ℕ) → IsFaceOf new i j k → IsFaceOf old i j k ⊎ IsOneOf v i j k
+  pub sides : (j k : ℕ) → IsFaceOf new v j k → ((o : ℕ) × IsFaceOf old j k o) ⊎ Contains outer (j, k)
 
 -- each edge between two faces without the corner v passes, but perhaps constraints
 abbrev pub AllPassBeside : List Point → List Face → List (ℕ × ℕ) → ℕ → Type 0

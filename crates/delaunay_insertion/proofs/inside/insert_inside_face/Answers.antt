@@ -36,5 +36,5 @@ returns-clause-takes g c =
           let old = c.args.dcel.now in
           let done = c.insert_into_triangle-vertex.ensures in
           let here : c.args.face ≤ length old.mesh.face_edges = let w = c.requires.within in let f = c.requires.can.kept.fits.faces_fit in omega (arith, w, f) in
-          made_at_count _ _ _ _ done.vertex (made_inside old.mesh c.insert_into_triangle-vertex.new.self.mesh c.insert_into_triangle-vertex.result c.requires.can.kept.valid c.args.face c.requires.positive here done.triangles);
+          made_at_count _ _ _ _ _ done.vertex (made_inside (map g.V.HasPosition.place old.vertices) old.mesh c.insert_into_triangle-vertex.new.self.mesh c.insert_into_triangle-vertex.result c.requires.can.kept.valid c.requires.can.kept.shape (done.vertex ∙ sym (length-map old.vertices g.V.HasPosition.place)) c.args.face c.requires.positive here done.triangles);
     }

@@ -1,6 +1,6 @@
 use Rattle.std.proofs.Common.{◌/◌, ◌↔◌, ◌∙◌, refl, length, map, subst, sym}
 use Rattle.delaunay_legalization.specs.Star.{MakesFacesAt}
-use Rattle.mesh_embedding.specs.Drawn.{faces_of}
+use Rattle.mesh_embedding.specs.Drawn.{faces_of, outer_of}
 use Rattle.std.specs.Prelude.{Contains, IsTrue}
 use Rattle.delaunay_insertion.proofs.EdgeSplits.{second_there, second_late, had_mark, had_none, written_vertices, written_mesh, written_kept, written_grows}
 use Rattle.delaunay_insertion.proofs.MarkedEdges.{own_ends}
@@ -27,7 +27,7 @@ returns-then-was_constraint-clause-takes g c =
           (map g.V.HasPosition.place old.vertices) (g.V.HasPosition.place c.args.value) c.split_at-vertex.ensures.takes.grows;
       made =
           let old = c.args.dcel.now in
-          subst (λ m. MakesFacesAt (length old.vertices) (faces_of old.mesh) (faces_of m)) (sym (written_mesh g.V.HasPosition.place c.split_at-vertex.new.dcel c.make_constraint.new.dcel _ _ c.make_constraint.ensures)) c.split_at-vertex.ensures.takes.made;
+          subst (λ m. MakesFacesAt (length old.vertices) (faces_of old.mesh) (outer_of old.mesh) (faces_of m)) (sym (written_mesh g.V.HasPosition.place c.split_at-vertex.new.dcel c.make_constraint.new.dcel _ _ c.make_constraint.ensures)) c.split_at-vertex.ensures.takes.made;
     }
 
 pub returns-then-was_constraint-clause-constraints : goal.returns-then-was_constraint-clause-constraints

@@ -46,5 +46,5 @@ returns-clause-takes g c =
           let old = c.args.dcel.now in
           let done = c.split_half_edge-vertex.ensures in
           let here : c.args.edge < length old.mesh.half_edges = let w = c.requires.within in let f = c.requires.can.kept.fits.directed_fit in omega (arith, w, f) in
-          made_at_count _ _ _ _ done.vertex (made_within_outer old.mesh c.split_half_edge-vertex.new.self.mesh c.split_half_edge-vertex.result.0 c.requires.can.kept.valid c.args.edge (here, c.requires.inner) done.triangles);
+          made_at_count _ _ _ _ _ done.vertex (made_within_outer (map g.V.HasPosition.place old.vertices) old.mesh c.split_half_edge-vertex.new.self.mesh c.split_half_edge-vertex.result.0 c.requires.can.kept.valid c.requires.can.kept.shape (done.vertex ∙ sym (length-map old.vertices g.V.HasPosition.place)) c.args.edge (here, c.requires.inner) done.triangles);
     }
