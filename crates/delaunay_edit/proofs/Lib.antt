@@ -20,3 +20,4 @@ pub mod CountingAt
 pub mod CountingPath
 pub mod CountingSplits
 pub mod Recounted
+pub mod EmptyRound

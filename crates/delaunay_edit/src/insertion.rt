@@ -19,7 +19,7 @@ use crate::insertion_cases::insert_at;
 use delaunay_core::math::{InsertionError, PlaneTests, validate_vertex};
 use delaunay_core::point::HasPosition;
 use delaunay_insertion::{FreeByDefault, reserve_for_vertex};
-use delaunay_legalization::{legalize_star, reserve_for_edges, turns_left};
+use delaunay_legalization::{legalize_vertex, reserve_for_edges, turns_left};
 use delaunay_location::PositionInTriangulation;
 use half_edge_mesh::{FixedVertexHandle, MAX_ELEMENTS};
 
@@ -62,7 +62,9 @@ impl<V: HasPosition + Drop, DE: Default, UE: Default, F: Default, M: FreeByDefau
         reserve_for_edges(&mut self.work, 3 * (self.dcel.num_vertices() + 1))?;
         let split = count_split::<M, _, _, _, _>(&self.dcel, &location);
         let vertex = insert_at::<M, _, _, _, _, _>(&mut self.dcel, location, turns, value, tests);
-        legalize_star::<M, _, _, _, _, _>(&mut self.dcel, vertex, tests, &mut self.work, flips);
+        let free = self.num_constraints == 0;
+        let work = &mut self.work;
+        legalize_vertex::<M, _, _, _, _, _>(&mut self.dcel, vertex, free, tests, work, flips);
         self.num_constraints += split;
         Ok(vertex)
     }

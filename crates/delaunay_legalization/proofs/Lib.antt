@@ -10,6 +10,5 @@ pub mod Flips
 pub mod Rounds
 pub mod Pushing
 pub mod Stars
-pub mod AmongVertices
 pub mod MeshParts
 pub mod MarkedPairs

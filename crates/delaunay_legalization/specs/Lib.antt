@@ -9,4 +9,3 @@ pub mod Lending
 pub mod Star
 pub mod Parts
 pub mod Marking
-pub mod Among

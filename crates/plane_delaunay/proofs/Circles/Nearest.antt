@@ -13,9 +13,9 @@ use Rattle.plane_delaunay.proofs.Tilings.Cones.{Cone, cone}
 use Rattle.plane_delaunay.proofs.Tilings.Ground.{tiling, triangle_of_inside}
 use Rattle.plane.proofs.Triangles.{turned_face}
 use Rattle.plane_delaunay.proofs.Circles.NearestOnLine.{nearest_on_line}
-use Rattle.plane_delaunay.proofs.Circles.EmptyCircles.{spot, circle_lift}
+use Rattle.plane_delaunay.proofs.Circles.EmptyCircles.{spot, circle_lift, no_face}
 use Rattle.plane.specs.Fraction.{Point, Fraction, whole}
-use Rattle.plane.specs.Circle.{gap, IsNearer}
+use Rattle.plane.specs.Circle.{gap, IsNearer, InsideCircle}
 use Rattle.plane.specs.Pairs.{Joins}
 use Rattle.plane.specs.Tiling.{Triangulation, IsVertex, vertex, IsEdge, IsFace, TilesHull, IsTiling}
 use Rattle.plane.specs.Delaunay.{IsConstrainedDelaunay}
@@ -52,18 +52,26 @@ nearer_below p u v h k = less (gap p (whole u)) (gap p (whole v)) h.nearer k
     less : (a b : ℤ) → (a *ℤ (pos 1 *ℤ pos 1)) <ℤ (b *ℤ (pos 1 *ℤ pos 1)) → pos 0 ≤ℤ (a -ℤ b) → ⊥
     less a b h k = omega (arith, ints)
 
+none_joined : (m n : ℕ) → ¬ Joins [] m n
+none_joined m n (inl c) = absurd (omega (arith, c.1))
+none_joined m n (inr c) = absurd (omega (arith, c.1))
+
+-- without constraints each vertex is seen from inside each face, so that no face's circle contains one
+pub circles_are_empty : (t : Triangulation) → IsConstrainedDelaunay t [] → (i j k n : ℕ) → IsFace t i j k → IsVertex t n
+    → ¬ InsideCircle (vertex t i) (vertex t j) (vertex t k) (vertex t n)
+circles_are_empty t D i j k n f v = go D.tiling
+  where
+    go : IsTiling t → ¬ InsideCircle (vertex t i) (vertex t j) (vertex t k) (vertex t n)
+    go (inr l) = absurd (no_face t l.no_face i j k f)
+    go (inl h) = D.empty i j k n f v (record {
+      from = middle (vertex t i) (vertex t j) (vertex t k);
+      inside = triangle_of_inside _ _ _ _ (h.turning i j k f) (middle-inside (vertex t i) (vertex t j) (vertex t k) (above_if_left _ _ _ (h.turning i j k f)));
+      free = λ m n u. absurd (none_joined m n u);
+    })
+
 module _ (t : Triangulation) (D : IsConstrainedDelaunay t []) (h : TilesHull t) where
-  -- without constraints each vertex is seen from inside each face
   all_low : (i j k n : ℕ) → IsFace t i j k → IsVertex t n → lift (vertex t i) (vertex t j) (vertex t k) (vertex t n) ≤ℤ pos 0
-  all_low i j k n f v = circle_lift t i j k n (h.turning i j k f) (D.empty i j k n f v (record {
-    from = middle (vertex t i) (vertex t j) (vertex t k);
-    inside = triangle_of_inside _ _ _ _ (h.turning i j k f) (middle-inside (vertex t i) (vertex t j) (vertex t k) (above_if_left _ _ _ (h.turning i j k f)));
-    free = λ m n u. absurd (none_joined m n u);
-  }))
-    where
-      none_joined : (m n : ℕ) → ¬ Joins [] m n
-      none_joined m n (inl c) = absurd (omega (arith, c.1))
-      none_joined m n (inr c) = absurd (omega (arith, c.1))
+  all_low i j k n f v = circle_lift t i j k n (h.turning i j k f) (circles_are_empty t D i j k n f v)
 
   nearest_in_hull : (p : Fraction) (v : ℕ) → IsVertex t v → ((u : ℕ) → IsEdge t v u → ¬ IsNearer p (vertex t u) (vertex t v)) → IsNearest t p v
   unfolding tiling

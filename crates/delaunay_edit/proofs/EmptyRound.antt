@@ -1,0 +1,39 @@
+-- Without constraints the circles round a vertex that was put in are empty.
+use Rattle.std.proofs.Common.{◌≡◌, ◌∙◌, ℕ, suc, ◌<◌, Bool, List, [], ◌∷◌, length, map, refl, sym, ap, subst, arith}
+use Rattle.std.proofs.lemmas.List.{length-map}
+use Rattle.half_edge_mesh.specs.Contents.{Contents}
+use Rattle.plane.specs.Fraction.{Point}
+use Rattle.plane.specs.Delaunay.{IsConstrainedDelaunay}
+use Rattle.plane_delaunay.proofs.Circles.Nearest.{circles_are_empty}
+use Rattle.plane_edits.specs.EmptyRound.{IsEmptyRound}
+use Rattle.mesh_embedding.specs.Drawn.{faces_of}
+use Rattle.delaunay_legalization.specs.Constraints.{marked_edges, constraints_by}
+use Rattle.delaunay_legalization.specs.State.{State, state_of, triangulation_of}
+use Rattle.delaunay_insertion.specs.Growth.{TakesVertex}
+use Rattle.delaunay_insertion.proofs.EmptyRound.{grown_is_empty}
+use Rattle.delaunay_edit.specs.Counting.{IsCounted}
+use Rattle.delaunay_edit.proofs.Delaunay.{marked_constrained_delaunay}
+
+nothing_listed : {A : Type 0} (xs : List A) → length xs ≡ 0 → xs ≡ []
+nothing_listed [] e = refl
+nothing_listed (x ∷ xs) e = absurd (omega (arith, e))
+
+-- where there was no constraint, room was made, and a vertex was put in
+pub put_in_free : {V D U F : Type 0} (place : V → Point) (marks : U → Bool) (constraints : List U → List ℕ)
+    → ((ds : List U) → constraints ds ≡ marked_edges marks ds) → (old : State V D U F) (ready mid : Contents V D U F) (value : V) (vertex number : ℕ)
+    → IsCounted place constraints old number → state_of ready ≡ old → TakesVertex place value (state_of ready) (state_of mid) vertex → number ≡ 0
+    → IsEmptyRound (map place mid.vertices) (faces_of mid.mesh) vertex
+put_in_free place marks constraints marked old ready mid value vertex number counted same takes none =
+    subst (IsEmptyRound (map place mid.vertices) (faces_of mid.mesh)) (sym takes.is)
+    (grown_is_empty place value (state_of ready) (state_of mid) vertex here.legal.kept takes
+    (λ i j k n f h. circles_are_empty (triangulation_of place (state_of ready)) free i j k n f (rw length-map h)))
+  where
+    here : IsCounted place constraints (state_of ready) number
+    here = subst (λ s. IsCounted place constraints s number) (sym same) counted
+
+    none_there : constraints_by constraints (state_of ready) ≡ []
+    none_there = nothing_listed (constraints_by constraints (state_of ready)) (sym here.counted ∙ none)
+
+    free : IsConstrainedDelaunay (triangulation_of place (state_of ready)) []
+    free = subst (λ (cs : List (ℕ × ℕ)). IsConstrainedDelaunay (triangulation_of place (state_of ready)) cs) none_there
+        (marked_constrained_delaunay place marks constraints marked (state_of ready) here.legal)
