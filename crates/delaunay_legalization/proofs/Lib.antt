@@ -13,3 +13,6 @@ pub mod Stars
 pub mod AmongVertices
 pub mod MeshParts
 pub mod MarkedPairs
+pub mod EmptyRound
+pub mod FarSides
+pub mod OppositeLoop

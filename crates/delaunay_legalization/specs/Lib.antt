@@ -10,3 +10,6 @@ pub mod Star
 pub mod Parts
 pub mod Marking
 pub mod Among
+pub mod EmptyRound
+pub mod Legalized
+pub mod Opposite
