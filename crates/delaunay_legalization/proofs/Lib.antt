@@ -12,3 +12,5 @@ pub mod Pushing
 pub mod Stars
 pub mod MeshParts
 pub mod MarkedPairs
+pub mod FarSides
+pub mod OppositeLoop

@@ -9,3 +9,5 @@ pub mod Lending
 pub mod Star
 pub mod Parts
 pub mod Marking
+pub mod Legalized
+pub mod Opposite

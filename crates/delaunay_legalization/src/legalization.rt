@@ -42,7 +42,7 @@ pub fn is_outer<V, DE, UE, F>(dcel: &Dcel<V, DE, UE, F>, edge: FixedDirectedEdge
 }
 
 // The edge after an edge in its loop, the one before it, and the same two of its other direction.
-fn sides_round<V, DE, UE, F>(
+pub(crate) fn sides_round<V, DE, UE, F>(
     dcel: &Dcel<V, DE, UE, F>,
     edge: FixedDirectedEdgeHandle,
 ) -> (
@@ -82,7 +82,7 @@ pub fn is_constraint_edge<M: ConstraintMarker<UE>, V, DE, UE, F>(
 
 // Whether an edge lies between two inner faces, of which one has its third corner inside the circle
 // of the other.
-fn is_failing<V: HasPosition, DE, UE, F, P: PlaneTests<V::Scalar>>(
+pub(crate) fn is_failing<V: HasPosition, DE, UE, F, P: PlaneTests<V::Scalar>>(
     dcel: &Dcel<V, DE, UE, F>,
     edge: FixedDirectedEdgeHandle,
     tests: &P,
@@ -106,7 +106,7 @@ fn is_failing<V: HasPosition, DE, UE, F, P: PlaneTests<V::Scalar>>(
 }
 
 // Turns a failing edge and counts the flip. No other function of a legalization flips.
-fn flip<V: HasPosition, DE, UE, F>(
+pub(crate) fn flip<V: HasPosition, DE, UE, F>(
     dcel: &mut Dcel<V, DE, UE, F>,
     edge: FixedUndirectedEdgeHandle,
     flips: &mut u64,

@@ -1,17 +1,19 @@
 //! A legalization that begins at one vertex, where only edges of the faces there may fail.
 ghost use Rattle.std.specs.Prelude.{◌≡◌, ℕ, ◌*◌, ◌<◌, ◌≤◌};
-ghost use Rattle.std.specs.Prelude.{length, map, All, Contains, vec_capacity};
+ghost use Rattle.std.specs.Prelude.{length, map, All, Contains, IsTrue, vec_capacity};
 ghost use Rattle.mesh_embedding.specs.Drawn.{faces_of};
 ghost use Rattle.mesh_embedding.specs.Legal.{AreEdges};
-ghost use Rattle.mesh_embedding.specs.Stays.{KeepsIndexes};
 ghost use Rattle.delaunay_legalization.specs.Constraints.{constraints_by};
-ghost use Rattle.delaunay_legalization.specs.Flips.{CountsFlips, FlipsFit};
-ghost use Rattle.delaunay_legalization.specs.Shape.{IsTriangulated, IsDelaunayTriangulation};
+ghost use Rattle.plane_edits.specs.EmptyRound.{IsEmptyRound};
+ghost use Rattle.delaunay_legalization.specs.Flips.{FlipsFit};
+ghost use Rattle.delaunay_legalization.specs.Legalized.{Legalizes};
+ghost use Rattle.delaunay_legalization.specs.Shape.{IsTriangulated};
 ghost use Rattle.delaunay_legalization.specs.Star.{AllPassBeside, HasSidesAt, HasStar};
 ghost use Rattle.delaunay_legalization.specs.State.{state_of};
 
 use crate::constraint_marker::ConstraintMarker;
 use crate::legalization::{legalize, push_side};
+use crate::opposite::legalize_opposite;
 use delaunay_core::math::PlaneTests;
 use delaunay_core::point::HasPosition;
 use half_edge_mesh::{
@@ -58,7 +60,7 @@ fn push_star<V, DE, UE, F>(
 
 // Tests the edges of the faces at a vertex, where each other edge passes, and flips those that fail
 // and are no constraints until none does.
-pub fn legalize_star<M: ConstraintMarker<UE>, V: HasPosition, DE, UE, F, P: PlaneTests<V::Scalar>>(
+fn legalize_star<M: ConstraintMarker<UE>, V: HasPosition, DE, UE, F, P: PlaneTests<V::Scalar>>(
     dcel: &mut Dcel<V, DE, UE, F>,
     vertex: FixedVertexHandle,
     tests: &P,
@@ -72,14 +74,45 @@ pub fn legalize_star<M: ConstraintMarker<UE>, V: HasPosition, DE, UE, F, P: Plan
         (constraints_by M.constraints (state_of dcel.old)) vertex }
     requires room { 3 * length dcel.old.vertices ≤ vec_capacity work.old }
     requires fits { FlipsFit (length dcel.old.vertices) flips.old }
-    ensures contents { dcel.new ≡ record dcel.old { mesh = dcel.new.mesh } }
-    ensures legal { IsDelaunayTriangulation V.place M.constraints (state_of dcel.new) }
-    ensures constraints { constraints_by M.constraints (state_of dcel.new) ≡
-        constraints_by M.constraints (state_of dcel.old) }
-    ensures counted { CountsFlips (length dcel.old.vertices) flips.old flips.new }
-    ensures indexes { KeepsIndexes dcel.old.mesh dcel.new.mesh }
+    ensures legalizes { Legalizes V.place M.constraints dcel.old dcel.new flips.old flips.new }
 {
     push_star(dcel, vertex, work);
     legalize::<M, _, _, _, _, _>(dcel, tests, work, flips);
     dcel.recall_invariant();
+}
+
+// Tests the edges of the faces at a new vertex, or, where no circle of the other faces contains a
+// vertex, those opposite it alone, and flips those that fail and are no constraints until none
+// does.
+pub fn legalize_vertex<
+    M: ConstraintMarker<UE>,
+    V: HasPosition,
+    DE,
+    UE,
+    F,
+    P: PlaneTests<V::Scalar>,
+>(
+    dcel: &mut Dcel<V, DE, UE, F>,
+    vertex: FixedVertexHandle,
+    is_free: bool,
+    tests: &P,
+    work: &mut Vec<FixedUndirectedEdgeHandle>,
+    flips: &mut u64,
+)
+    requires within { vertex < length dcel.old.vertices }
+    requires sites { All (P.sites tests.now) (map V.place dcel.old.vertices) }
+    requires kept { IsTriangulated V.place (state_of dcel.old) }
+    requires passing { AllPassBeside (map V.place dcel.old.vertices) (faces_of dcel.old.mesh)
+        (constraints_by M.constraints (state_of dcel.old)) vertex }
+    requires empty { IsTrue is_free →
+        IsEmptyRound (map V.place dcel.old.vertices) (faces_of dcel.old.mesh) vertex }
+    requires room { 3 * length dcel.old.vertices ≤ vec_capacity work.old }
+    requires fits { FlipsFit (length dcel.old.vertices) flips.old }
+    ensures legalizes { Legalizes V.place M.constraints dcel.old dcel.new flips.old flips.new }
+{
+    if is_free {
+        legalize_opposite::<M, _, _, _, _, _>(dcel, vertex, tests, work, flips);
+    } else {
+        legalize_star::<M, _, _, _, _, _>(dcel, vertex, tests, work, flips);
+    }
 }

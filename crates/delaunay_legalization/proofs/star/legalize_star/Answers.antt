@@ -9,6 +9,13 @@ legalize-requires-clause-passing g c =
     let m = c.args.dcel.now.mesh in
     star_is_left m c.requires.kept.valid.sound c.args.vertex c.push_star.new.work.items c.push_star.ensures.star (map g.V.HasPosition.place c.args.dcel.now.vertices) (constraint_pairs g.M.ConstraintMarker.constraints m c.args.dcel.now.undirected) c.requires.passing
 
-pub returns-clause-legal : goal.returns-clause-legal
-returns-clause-legal g c =
-    legalized g.V.HasPosition.place g.M.ConstraintMarker.constraints c.args.dcel.now c.legalize.new.dcel c.requires.kept c.legalize.ensures.contents c.recall_invariant.ensures.whole c.legalize.ensures.shape c.legalize.ensures.constraints c.legalize.ensures.locally_delaunay
+pub returns : goal.returns
+returns g c = record {
+  legalizes = record {
+    contents = c.legalize.ensures.contents;
+    legal = legalized g.V.HasPosition.place g.M.ConstraintMarker.constraints c.args.dcel.now c.legalize.new.dcel c.requires.kept c.legalize.ensures.contents c.recall_invariant.ensures.whole c.legalize.ensures.shape c.legalize.ensures.constraints c.legalize.ensures.locally_delaunay;
+    constraints = c.legalize.ensures.constraints;
+    counted = record { grows = c.legalize.ensures.counted; few = c.legalize.ensures.few_flips };
+    indexes = c.legalize.ensures.indexes;
+  };
+}
