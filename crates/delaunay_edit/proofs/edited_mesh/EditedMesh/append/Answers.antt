@@ -1,4 +1,5 @@
 use Rattle.std.proofs.Common.{◌∙◌, [], ◌∷◌, ◌++◌, ap, sym, subst, length, map, arith, rules}
+use Rattle.std.proofs.lemmas.Bool.{eqb-true}
 use Rattle.delaunay_edit.specs.Counting.{IsCounted}
 use Rattle.delaunay_edit.specs.Entry.{IsVacant}
 use Rattle.delaunay_edit.specs.Location.{Locates}
@@ -9,6 +10,7 @@ use Rattle.delaunay_legalization.specs.State.{state_of}
 use Rattle.delaunay_insertion.proofs.Appending.{sites_after}
 use Rattle.delaunay_insertion.proofs.DataKept.{appended_keeps}
 use Rattle.delaunay_insertion.proofs.LeftToTest.{passes_beside}
+use Rattle.delaunay_edit.proofs.EmptyRound.{put_in_free}
 use Rattle.delaunay_edit.proofs.Inserting.{splits_legalized}
 use Rattle.delaunay_edit.proofs.edited_mesh.EditedMesh.append.Goals as goal
 
@@ -26,6 +28,13 @@ legalize_vertex-requires-clause-passing g c =
     passes_beside g.V.HasPosition.place g.M.ConstraintMarker.marks g.M.ConstraintMarker.constraints g.met.M.ConstraintMarker.constraints_are_marked c.args.self.now c.reserve_for_vertex.new.dcel c.insert_at-vertex.new.dcel c.args.value c.insert_at-vertex.result _
     (subst (IsDelaunayTriangulation g.V.HasPosition.place g.M.ConstraintMarker.constraints) c.self.view_is c.self.invariant.legal) (c.reserve_for_vertex.ensures.same ∙ c.self.view_is)
     c.insert_at-vertex.ensures.takes.vertices c.insert_at-vertex.ensures.takes.is c.insert_at-vertex.ensures.takes.made c.insert_at-vertex.ensures.takes.kept c.insert_at-vertex.ensures.constraints
+
+pub legalize_vertex-requires-clause-empty : goal.legalize_vertex-requires-clause-empty
+legalize_vertex-requires-clause-empty g c none =
+    put_in_free g.V.HasPosition.place g.M.ConstraintMarker.marks g.M.ConstraintMarker.constraints
+    g.met.M.ConstraintMarker.constraints_are_marked (state_of c.self.inside.dcel) c.reserve_for_vertex.new.dcel
+    c.insert_at-vertex.new.dcel c.args.value c.insert_at-vertex.result c.self.inside.num_constraints c.self.invariant
+    c.reserve_for_vertex.ensures.same c.insert_at-vertex.ensures.takes (eqb-true _ _ none)
 
 pub returns-clause-appends : goal.returns-clause-appends
 returns-clause-appends g c =
