@@ -1,11 +1,12 @@
 -- The search for an edge round a vertex.
-use Rattle.std.proofs.Common.{◌≡◌, ◌≢◌, ℕ, suc, ◌+◌, ◌<◌, length, Some, sym, ap, ◌∙◌, inl, inr, arith}
+use Rattle.std.proofs.Common.{◌≡◌, ◌≢◌, ℕ, zero, suc, ◌+◌, ◌-◌, ◌<◌, ◌≤◌, length, Some, sym, ap, ◌∙◌, inl, inr, arith}
 use Rattle.std.proofs.lemmas.Bool.{cases_lt}
 use Rattle.half_edge_links.specs.declared.records.HalfEdge.{HalfEdge}
 use Rattle.half_edge_links.specs.Mesh.{Mesh, edge_at, origin, rev, out_edge}
 use Rattle.half_edge_links.specs.Peel.{turn, spoke}
 use Rattle.half_edge_links.proofs.Removing.Conditions.{spoke_at}
 use Rattle.half_edge_links.proofs.Lists.OneOrbit.{edges_go_round}
+use Rattle.half_edge_links.proofs.Lists.Orbits.{step_add}
 use Rattle.half_edge_dcel.specs.Contents.{Contents, IsMeshWithData}
 use Rattle.half_edge_views.proofs.Loops.{round_fits}
 
@@ -32,6 +33,28 @@ missed_more m first edge t to k x is read reached here before j less =
           let last : j ≡ k = omega (arith, less, more) in
           λ q. here (ap (λ (y : HalfEdge). y.origin) read ∙ ap (origin m) (is ∙ ap rev (reached ∙ ap (spoke m first) (sym last))) ∙ q)
     ]
+
+-- the walk round a vertex goes on as before once it is back
+spoke_again : (m : Mesh) (first k j : ℕ) → spoke m first k ≡ first → spoke m first (j + k) ≡ spoke m first j
+spoke_again m first k j back = step_add (turn m) first j k ∙ ap (λ o. spoke m o j) back
+
+missed_up_to : (m : Mesh) (first to k fuel : ℕ) → 0 < k → spoke m first k ≡ first →
+    ((j : ℕ) → j < k → origin m (rev (spoke m first j)) ≢ to) → (j : ℕ) → j ≤ fuel → origin m (rev (spoke m first j)) ≢ to
+missed_up_to m first to k zero some back before j few = before j (omega (arith, some, few))
+missed_up_to m first to k (suc fuel) some back before j few =
+    elim (cases_lt j k) [
+      | inl less ↦ before j less
+      | inr more ↦
+          let split : (j - k) + k ≡ j = omega (arith, more) in
+          let again : spoke m first j ≡ spoke m first (j - k) = ap (spoke m first) (sym split) ∙ spoke_again m first k (j - k) back in
+          let rest = missed_up_to m first to k fuel some back before (j - k) (omega (arith, few, some, more)) in
+          λ q. rest (ap (λ h. origin m (rev h)) (sym again) ∙ q)
+    ]
+
+-- where the walk round a vertex is back and no edge on it ends at `to`, none does later
+pub missed_all : (m : Mesh) (first to k : ℕ) → 0 < k → spoke m first k ≡ first →
+    ((j : ℕ) → j < k → origin m (rev (spoke m first j)) ≢ to) → (j : ℕ) → origin m (rev (spoke m first j)) ≢ to
+missed_all m first to k some back before j = missed_up_to m first to k j some back before j (omega arith)
 
 -- no edge of the vertex was missed
 pub none_joined : {V D U F : Type 0} (c : Contents V D U F) (v first to : ℕ) → IsMeshWithData c → out_edge c.mesh v ≡ Some first → ((j : ℕ) → j < length c.directed → origin c.mesh (rev (spoke c.mesh first j)) ≢ to) → (h : ℕ) → h < length c.directed → origin c.mesh h ≡ v → origin c.mesh (rev h) ≢ to

@@ -25,6 +25,9 @@ pub(crate) fn edge_to<V, DE, UE, F>(mesh: &Dcel<V, DE, UE, F>, first: u32, to: u
             return Some(edge);
         }
         edge = reversed(mesh.half_edge(edge).prev);
+        if edge == first {
+            return None;
+        }
     }
     None
 }

@@ -1,6 +1,6 @@
-use Rattle.std.proofs.Common.{◌≡◌, ◌+◌, ℕ, arith}
+use Rattle.std.proofs.Common.{◌≡◌, ◌+◌, ◌∙◌, ℕ, sym, arith}
 use Rattle.half_edge_links.specs.Peel.{spoke}
-use Rattle.half_edge_views.proofs.Joined.{turned_spoke, spoke-within, spoke-starts, missed_more}
+use Rattle.half_edge_views.proofs.Joined.{turned_spoke, spoke-within, spoke-starts, missed_more, missed_all}
 use Rattle.half_edge_views.proofs.neighbors.edge_to.Goals as goal
 
 pub loop-preserved : goal.loop-preserved
@@ -17,3 +17,11 @@ loop-preserved g c =
 
 pub returns-clause-none : goal.returns-clause-none
 returns-clause-none g c = λ j less. c.loop.invariant.missed j (omega (arith, less))
+
+pub returns-then-edge-first-clause-none : goal.returns-then-edge-first-clause-none
+returns-then-edge-first-clause-none g c =
+    let m = c.args.mesh.now.mesh in
+    let k : ℕ = c.loop.counter + 1 in
+    let reached : c.reversed-edge.result ≡ spoke m c.args.first k = turned_spoke m c.args.first c.loop.edge c.loop.counter _ c.half_edge-in-loop.result c.reversed-edge.ensures c.half_edge-in-loop.ensures.value c.loop.invariant.reached in
+    let missed = missed_more m c.args.first c.loop.edge c.reversed.result c.args.to c.loop.counter c.half_edge.result c.reversed.ensures c.half_edge.ensures.value c.loop.invariant.reached c.if-half_edge-to.false c.loop.invariant.missed in
+    λ j _. missed_all m c.args.first c.args.to k (omega arith) (sym reached ∙ c.if-edge-first.true) missed j
