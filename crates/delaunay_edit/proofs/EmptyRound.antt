@@ -18,6 +18,12 @@ nothing_listed : {A : Type 0} (xs : List A) → length xs ≡ 0 → xs ≡ []
 nothing_listed [] e = refl
 nothing_listed (x ∷ xs) e = absurd (omega (arith, e))
 
+-- where their number is none there are no constraints
+pub none_counted : {V D U F : Type 0} (place : V → Point) (constraints : List U → List ℕ) (s : State V D U F)
+    (number : ℕ) → IsCounted place constraints s number → number ≡ 0 → constraints_by constraints s ≡ []
+none_counted place constraints s number counted none =
+    nothing_listed (constraints_by constraints s) (sym counted.counted ∙ none)
+
 -- where there was no constraint, room was made, and a vertex was put in
 pub put_in_free : {V D U F : Type 0} (place : V → Point) (marks : U → Bool) (constraints : List U → List ℕ)
     → ((ds : List U) → constraints ds ≡ marked_edges marks ds) → (old : State V D U F) (ready mid : Contents V D U F) (value : V) (vertex number : ℕ)
@@ -32,7 +38,7 @@ put_in_free place marks constraints marked old ready mid value vertex number cou
     here = subst (λ s. IsCounted place constraints s number) (sym same) counted
 
     none_there : constraints_by constraints (state_of ready) ≡ []
-    none_there = nothing_listed (constraints_by constraints (state_of ready)) (sym here.counted ∙ none)
+    none_there = none_counted place constraints (state_of ready) number here none
 
     free : IsConstrainedDelaunay (triangulation_of place (state_of ready)) []
     free = subst (λ (cs : List (ℕ × ℕ)). IsConstrainedDelaunay (triangulation_of place (state_of ready)) cs) none_there

@@ -21,3 +21,4 @@ pub mod CountingPath
 pub mod CountingSplits
 pub mod Recounted
 pub mod EmptyRound
+pub mod FreeRemoval

@@ -1,11 +1,13 @@
 //! Vertices that go, one or all of them, and a vertex that gives way to one of its position.
-ghost use Rattle.std.specs.Prelude.{◌≡◌, ◌<◌, [], length, map, All, Some, IfOk, OnErr, OnOk};
+ghost use Rattle.std.specs.Prelude.{◌≡◌, ◌⊎◌, ◌<◌, [], length, map, All, Some, IfOk, OnErr, OnOk};
 ghost use Rattle.std.specs.Prelude.{slice_get, slice_set};
 ghost use Rattle.half_edge_mesh.specs.Mesh.{empty};
 ghost use Rattle.plane.specs.Plain.{IsCleared, Removes, Replaces};
+ghost use Rattle.delaunay_legalization.specs.Constraints.{constraints_by};
 ghost use Rattle.delaunay_legalization.specs.Constraints.{points_and_constraints_by};
 ghost use Rattle.delaunay_legalization.specs.Known.{point_at};
 ghost use Rattle.delaunay_removal.specs.Data.{KeepsDataOfOthers};
+ghost use Rattle.delaunay_removal.specs.Pairs.{HasBorder};
 ghost use Rattle.delaunay_edit.specs.Edits.{RemovesVertex};
 ghost use Rattle.delaunay_edit.specs.Headline.{AreSites, IsDelaunay};
 
@@ -14,7 +16,7 @@ use crate::edited_mesh::EditedMesh;
 use delaunay_core::math::PlaneTests;
 use delaunay_core::point::HasPosition;
 use delaunay_legalization::ConstraintMarker;
-use delaunay_removal::{legalize_pairs, remove_vertex, room_for_turns, sides_of_hole};
+use delaunay_removal::{VertexPair, legalize_pairs, remove_vertex, room_for_turns, sides_of_hole};
 use half_edge_mesh::FixedVertexHandle;
 use std::alloc::AllocError;
 
@@ -44,8 +46,21 @@ impl<V: HasPosition, DE: Drop, UE: Drop, F: Drop, M: ConstraintMarker<UE>> Edite
     F,
     M,
 > {
-    // Takes a vertex out and tests the sides of its hole and what its turned edges join, or a
-    // refusal that changes nothing.
+    // The sides of a vertex's hole that are to be tested, or a refusal. Without constraints no
+    // vertex is inside the circle of a face beyond one, so it passes whatever fills the hole.
+    fn sides_to_test(&self, vertex: FixedVertexHandle) -> Result<Vec<VertexPair>, AllocError>
+        requires { vertex < length self.now.vertices }
+        ensures { IfOk result (λ ps. (constraints_by M.constraints self.now ≡ []) ⊎
+            HasBorder self.now.mesh vertex ps.items) }
+    {
+        if self.num_constraints == 0 {
+            return Ok(Vec::new(*self.work.allocator()));
+        }
+        sides_of_hole(&self.dcel, vertex, *self.work.allocator())
+    }
+
+    // Takes a vertex out and tests what its turned edges join, and beside constraints the sides of
+    // its hole, or a refusal that changes nothing.
     fn take_out<P: PlaneTests<V::Scalar>>(
         &mut self,
         vertex: FixedVertexHandle,
@@ -64,7 +79,7 @@ impl<V: HasPosition, DE: Drop, UE: Drop, F: Drop, M: ConstraintMarker<UE>> Edite
         self.work.reserve(3 * self.dcel.num_vertices())?;
         self.sides.clear();
         self.sides.reserve(self.dcel.num_directed_edges())?;
-        let border = sides_of_hole(&self.dcel, vertex, *self.work.allocator())?;
+        let border = self.sides_to_test(vertex)?;
         let mut turned = room_for_turns(&self.dcel, vertex, *self.work.allocator())?;
         let ending = count_constraints_at::<M, _, _, _, _>(&self.dcel, vertex);
         let value = remove_vertex::<M, _, _, _, _, _>(

@@ -7,7 +7,8 @@ use Rattle.delaunay_legalization.specs.State.{state_of}
 use Rattle.delaunay_removal.specs.Data.{KeepsDataBeside}
 use Rattle.delaunay_removal.specs.Pairs.{pairs_left}
 use Rattle.delaunay_removal.proofs.DataLegalized.{legalized_keeps_others}
-use Rattle.delaunay_removal.proofs.Passing.{border_settles, passes_but}
+use Rattle.delaunay_removal.proofs.Passing.{passes_but}
+use Rattle.delaunay_edit.proofs.FreeRemoval.{sides_settle}
 use Rattle.delaunay_edit.proofs.Removing.{sites_left, room_left, removed_on}
 use Rattle.delaunay_edit.proofs.Recounted.{counted_removed, some_removed}
 use Rattle.delaunay_edit.proofs.edited_mesh.EditedMesh.take_out.Goals as goal
@@ -50,7 +51,9 @@ legalize_pairs-requires-clause-passing g c =
     (λ i. (sym {A = List (ℕ × ℕ)} c.as_slice.ensures.value i, sym {A = List (ℕ × ℕ)} c.as_slice-2.ensures.value i))
     (passes_but at constraints (state_of c.self.inside.dcel) (state_of ds) c.args.vertex c.remove_vertex-value.result c.self.invariant.legal c.remove_vertex-value.ensures.kept
     c.remove_vertex-value.ensures.plain c.in_ok-border.border.items c.remove_vertex-value.new.turned.items c.remove_vertex-value.ensures.faces
-    (border_settles (map at c.self.inside.dcel.vertices) c.self.inside.dcel.mesh c.self.invariant.legal.kept.valid.sound c.args.vertex c.in_ok-border.border.items c.in_ok-border.ensures))
+    (sides_settle at g.M.ConstraintMarker.marks constraints g.met.M.ConstraintMarker.constraints_are_marked
+    (state_of c.self.inside.dcel) c.self.invariant.legal c.args.vertex c.in_ok-border.border.items
+    c.in_ok-border.ensures))
 
 pub overflow_sub-self : goal.overflow_sub-self
 overflow_sub-self g c =
@@ -63,8 +66,8 @@ overflow_sub-self g c =
     c.args.vertex c.remove_vertex-value.ensures.plain c.legalize_pairs.ensures.contents c.legalize_pairs.ensures.constraints)
     c.count_constraints_at-ending.ensures
 
-pub invariant_of-self-2 : goal.invariant_of-self-2
-invariant_of-self-2 g c =
+pub invariant_of-self-3 : goal.invariant_of-self-3
+invariant_of-self-3 g c =
     let at = g.V.HasPosition.place in
     let marker = g.M.ConstraintMarker in
     counted_removed at marker.marks marker.constraints g.met.M.ConstraintMarker.constraints_are_marked

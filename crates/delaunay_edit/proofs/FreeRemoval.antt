@@ -1,0 +1,32 @@
+-- Without constraints no side of a vertex's hole is left to test.
+use Rattle.std.proofs.Common.{◌≡◌, ◌⊎◌, ℕ, Bool, List, [], map, inl, inr, subst}
+use Rattle.plane.specs.Fraction.{Point}
+use Rattle.plane.specs.Delaunay.{IsConstrainedDelaunay}
+use Rattle.plane_delaunay.proofs.Circles.Nearest.{circles_are_empty}
+use Rattle.mesh_embedding.specs.Drawn.{faces_of}
+use Rattle.delaunay_legalization.specs.Constraints.{marked_edges, constraints_by}
+use Rattle.delaunay_legalization.specs.Shape.{IsDelaunayTriangulation}
+use Rattle.delaunay_legalization.specs.State.{State, triangulation_of}
+use Rattle.delaunay_removal.specs.Pairs.{HasBorder}
+use Rattle.delaunay_removal.proofs.Passing.{AreSettled, border_settles}
+use Rattle.delaunay_edit.proofs.Delaunay.{marked_constrained_delaunay}
+
+module _ {V D U F : Type 0} (place : V → Point) (marks : U → Bool) (constraints : List U → List ℕ)
+    (marked : (ds : List U) → constraints ds ≡ marked_edges marks ds) (s : State V D U F)
+    (legal : IsDelaunayTriangulation place constraints s) (v : ℕ) (border : List (ℕ × ℕ)) where
+  abbrev Settled : Type 0
+  Settled = AreSettled (map place s.vertices) (faces_of s.mesh) v border
+
+  -- without constraints no vertex is inside the circle of the face beyond a side of the hole
+  free_settles : constraints_by constraints s ≡ [] → Settled
+  free_settles none a b f = inr (λ k l g within. circles_are_empty (triangulation_of place s) free b a l k g within)
+    where
+      free : IsConstrainedDelaunay (triangulation_of place s) []
+      free = subst (λ (cs : List (ℕ × ℕ)). IsConstrainedDelaunay (triangulation_of place s) cs) none
+          (marked_constrained_delaunay place marks constraints marked s legal)
+
+  -- where there are no constraints, or each side of the hole is listed, each is listed or passes
+  pub sides_settle : (constraints_by constraints s ≡ []) ⊎ HasBorder s.mesh v border → Settled
+  sides_settle (inl none) = free_settles none
+  sides_settle (inr around) =
+      border_settles (map place s.vertices) s.mesh legal.kept.valid.sound v border around
