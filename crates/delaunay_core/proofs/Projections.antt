@@ -1,5 +1,5 @@
 -- Dot products of the ways between points in range fit their width.
-use Rattle.std.proofs.Common.{◌≡◌, ℕ, ◌+◌, ◌*◌, ◌≤◌, [], ◌∷◌, sym, subst, w64, to_z, of_z, arith, unsigned_abs, mul-le-mul}
+use Rattle.std.proofs.Common.{◌≡◌, ◌≤◌, [], ◌∷◌, sym, subst, w64, to_z, of_z, arith, unsigned_abs, mul-le-mul}
 use Rattle.std.specs.Prelude.{ℤ, pos, ◌+ℤ◌, ◌-ℤ◌, ◌*ℤ◌}
 use Rattle.std.proofs.lemmas.Int.{ints, unsigned_abs-mul}
 use Rattle.plane.specs.Fraction.{Point, whole}

@@ -1,7 +1,7 @@
 -- A mesh with faces gets one more vertex, inside a face or within an edge.
 use Rattle.std.proofs.Common.{◌≡◌, ℕ, ◌<◌, ◌≤◌, ◌+◌, List, [], ◌∷◌, ◌++◌, length, length-append, sym, ap, ◌∙◌, subst, inl, inr, arith}
 use Rattle.std.proofs.lemmas.List.{length-map, length-set}
-use Rattle.half_edge_mesh.specs.Mesh.{Mesh, AreSoundLinks, IsValidMesh, IsInnerEdge, origin, next, face, face_edge, rev}
+use Rattle.half_edge_mesh.specs.Mesh.{Mesh, AreSoundLinks, IsValidMesh, IsInnerEdge, origin, next, face_edge, rev}
 use Rattle.half_edge_mesh.specs.Flip.{IsFlippable}
 use Rattle.half_edge_mesh.specs.Grow.{IsHalfSplittable}
 use Rattle.half_edge_mesh.specs.Triangles.{triangle_at, triangles, InsertsTriangles, SplitsTriangles}

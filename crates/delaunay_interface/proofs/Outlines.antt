@@ -1,6 +1,5 @@
 -- The edges of the hull that an iterator along the outline gives.
 use Rattle.std.proofs.Common.{◌≡◌, ℕ, ◌<◌, List, length, map, inl, inr, refl, sym, ◌∙◌, subst, arith}
-use Rattle.std.specs.Prelude.{Contains}
 use Rattle.std.specs.Borrow.{Bor}
 use Rattle.half_edge_mesh.specs.Mesh.{face, origin, rev}
 use Rattle.half_edge_mesh.specs.Outline.{IsOuterEdge}

@@ -1,25 +1,24 @@
 -- Steps of edits that insert vertices and join them.
-use Rattle.std.proofs.Common.{◌≡◌, ◌≢◌, ◌∙◌, ◌⊎◌, ℕ, ◌+◌, ◌<◌, ◌≤◌, Bool, true, false, List, [], ◌∷◌, ◌++◌, length, map, Result, Ok, Err, Option, None, Some, refl, sym, ap, subst, inl, inr, append_assoc, append-nil, arith}
-use Rattle.std.specs.Prelude.{◌↔◌, All, IsTrue, IfOk, OnOk, OnErr, MatchResult, slice_set}
-use Rattle.std.specs.Iterator.{Drains, Yields, YieldsThen}
+use Rattle.std.proofs.Common.{◌≡◌, ◌≢◌, ◌∙◌, ℕ, ◌<◌, ◌≤◌, Bool, List, [], ◌∷◌, ◌++◌, length, map, Result, Ok, Err, Option, None, Some, refl, sym, ap, subst, inl, inr, append_assoc, append-nil, arith}
+use Rattle.std.specs.Prelude.{All, IsTrue}
+use Rattle.std.specs.Iterator.{Drains, Yields}
 use Rattle.std.proofs.lemmas.List.{length-set, length_push, map-append}
 use Rattle.std.proofs.lemmas.List.Elements.{All-contains, All-push}
 use Rattle.std.proofs.Math.Seq.{map-set_same}
 use Rattle.plane.specs.Fraction.{Point}
-use Rattle.plane.specs.Plain.{Plain, Adds, CanAdd, Inserts as InsertsPlain}
+use Rattle.plane.specs.Plain.{Plain, CanAdd, Inserts as InsertsPlain}
 use Rattle.plane.specs.Tests.{InRange}
-use Rattle.delaunay_core.specs.declared.math.InsertionError.{InsertionError}
 use Rattle.delaunay_core.specs.declared.math.InsertionError.TheVariants.{OutOfMemory}
 use Rattle.delaunay_legalization.specs.declared.cdt_edge.CdtEdge.{CdtEdge}
 use Rattle.delaunay_legalization.specs.Constraints.{points_and_constraints_by}
 use Rattle.delaunay_legalization.specs.State.{State}
-use Rattle.delaunay_edit.specs.Constrained.{constrained, constraint_edges, constraints_of}
+use Rattle.delaunay_edit.specs.Constrained.{constrained, constraint_edges}
 use Rattle.delaunay_edit.specs.ConstraintEdits.{AddsConstraint}
 use Rattle.delaunay_edit.specs.Edits.{InsertsVertex}
 use Rattle.delaunay_edit.specs.Headline.{AreSites}
 use Rattle.delaunay_interface.specs.declared.constraint_error.ConstraintError.{ConstraintError}
 use Rattle.delaunay_interface.specs.declared.constraint_error.ConstraintError.TheVariants.{Insertion, Conflict}
-use Rattle.delaunay_interface.specs.ConstraintEdges.{AddsConstraintEdge, AddsConstraintEdges, ClosesPath, ExtendsPath, InsertsEnd, JoinsVertices, MayGive, RefusesEnd, Takes}
+use Rattle.delaunay_interface.specs.ConstraintEdges.{AddsConstraintEdge, AddsConstraintEdges, ClosesPath, ExtendsPath, JoinsVertices, MayGive, RefusesEnd, Takes}
 use Rattle.delaunay_interface.proofs.Held.{new_is_listed}
 
 -- ---- after an insertion

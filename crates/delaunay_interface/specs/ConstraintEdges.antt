@@ -1,6 +1,6 @@
 -- What the edits that insert vertices and join them by constraints make of a triangulation, step by step. Each finished
 -- step stays, and a refused step changes nothing.
-use Rattle.std.specs.Prelude.{◌≡◌, ◌≢◌, ◌⊎◌, ◌↔◌, ℕ, ◌≤◌, length, Bool, Option, None, Some, List, [], ◌∷◌, Result, Ok, Err, IsTrue, IsErrOf, IfErr, MatchResult}
+use Rattle.std.specs.Prelude.{◌≡◌, ◌≢◌, ◌⊎◌, ◌↔◌, ℕ, ◌≤◌, length, Bool, Option, Some, List, [], ◌∷◌, Result, Ok, Err, IsTrue, IsErrOf, IfErr, MatchResult}
 use Rattle.std.specs.Iterator.{Drains, Yields, YieldsThen}
 use Rattle.plane.specs.Fraction.{Point}
 use Rattle.plane.specs.Plain.{CanAdd}

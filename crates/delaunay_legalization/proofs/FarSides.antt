@@ -5,9 +5,9 @@ use mathlib.Core.Logic.{◌≢◌, inl, inr}
 use Rattle.std.specs.Prelude.{Contains}
 use Rattle.std.proofs.lemmas.Bool.{cases_eq}
 use Rattle.std.proofs.lemmas.List.{length-append}
-use Rattle.half_edge_mesh.specs.Mesh.{Mesh, origin, next, prev, face, rev, IsValidMesh}
+use Rattle.half_edge_mesh.specs.Mesh.{Mesh, origin, next, prev, rev, IsValidMesh}
 use Rattle.half_edge_mesh.specs.Flip.{IsFlippable, Flips, flipped}
-use Rattle.half_edge_links.proofs.Lists.Rev.{rev-rev, rev_within}
+use Rattle.half_edge_links.proofs.Lists.Rev.{rev-rev}
 use Rattle.half_edge_links.proofs.Lists.Writes.{AreSixPlaces}
 use Rattle.half_edge_links.proofs.Sound.Triangles as T
 use Rattle.half_edge_links.proofs.Faces.FlipLemmas.{flips}
@@ -19,9 +19,9 @@ use Rattle.plane.specs.Tiling.{face as corners}
 use Rattle.plane_tiling.specs.Local.{LocalMesh, IsMesh}
 use Rattle.plane_tiling.proofs.Totals.{Contains-head, Contains-later, Contains-none, Contains-cases}
 use Rattle.plane_edits.specs.Change.{IsFaceOf, FacesChange}
-use Rattle.plane_edits.specs.Legal.{Pass, AllPassBut}
+use Rattle.plane_edits.specs.Legal.{AllPassBut}
 use Rattle.mesh_embedding.specs.Drawn.{faces_of, outer_of}
-use Rattle.mesh_embedding.specs.Legal.{pairs_at, AreEdges, IsFailing, IsPartlyLegal, Gains, GainsRound, steps_left}
+use Rattle.mesh_embedding.specs.Legal.{pairs_at, AreEdges, IsFailing, IsPartlyLegal, Gains, GainsRound}
 use Rattle.mesh_embedding.proofs.FaceChanges.{turned_faces}
 use Rattle.mesh_embedding.proofs.MeshEdits.{face_before, face_behind, flipped_faces}
 use Rattle.mesh_embedding.proofs.MeshLegal as M
@@ -65,7 +65,7 @@ ends_at m v g h i j at same start end = go at (half_same g h same)
     go (inr a) (inr e) = inl (sym start ∙ ap (origin m) e ∙ a)
 
 -- with empty circles round a vertex, an edge at the vertex may be left out of the work list
-pub spoke_dropped : (points : List Point) (constraints : List (ℕ × ℕ)) (was m : Mesh) (v start flips : ℕ)
+spoke_dropped : (points : List Point) (constraints : List (ℕ × ℕ)) (was m : Mesh) (v start flips : ℕ)
     (ks more : List ℕ) (g : ℕ) → IsEmptyRound points (faces_of m) v → IsAt v (origin m g) (origin m (rev g))
     → Gains ks more (g / 2) → AreEdges m ks → IsPartlyLegal points constraints was m more start flips
     → IsPartlyLegal points constraints was m ks start flips

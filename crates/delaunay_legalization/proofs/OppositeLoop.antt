@@ -1,5 +1,5 @@
 -- A legalization where only edges opposite one vertex fail, from its first work list to its end.
-use Rattle.std.proofs.Common.{◌≡◌, ◌≢◌, ℕ, ◌+◌, ◌-◌, ◌*◌, ◌/◌, ◌<◌, ◌≤◌, ◌^◌, List, [], ◌∷◌, ◌++◌}
+use Rattle.std.proofs.Common.{◌≡◌, ◌≢◌, ℕ, ◌+◌, ◌/◌, ◌≤◌, List, [], ◌∷◌, ◌++◌}
 use Rattle.std.proofs.Common.{length, map, sym, ap, ◌∙◌, subst, arith}
 use Rattle.std.specs.Prelude.{Contains}
 use Rattle.half_edge_mesh.specs.Contents.{Contents, IsMeshWithData}
@@ -10,7 +10,7 @@ use Rattle.plane.specs.Pairs.{Joins}
 use Rattle.plane_tiling.specs.Local.{IsMesh}
 use Rattle.plane_edits.specs.Change.{IsFaceOf}
 use Rattle.mesh_embedding.specs.Drawn.{faces_of, outer_of}
-use Rattle.mesh_embedding.specs.Legal.{pairs_at, AreEdges, IsFailing, Gains}
+use Rattle.mesh_embedding.specs.Legal.{pairs_at, AreEdges, Gains}
 use Rattle.mesh_embedding.proofs.MeshLegal.{joins_directed}
 use Rattle.mesh_embedding.proofs.MeshStars.{edge_of_face}
 use Rattle.mesh_embedding.proofs.TurnedEnds.{ends_at_next}

@@ -1,7 +1,6 @@
 -- Where a segment starts, by the answer to where its start is.
-use Rattle.std.proofs.Common.{◌≡◌, ◌⊎◌, ℕ, ◌<◌, ◌≤◌, List, length, map, sym, ap, ◌∙◌, subst, inl, inr, arith}
-use Rattle.std.proofs.lemmas.List.{length-map}
-use Rattle.half_edge_mesh.specs.Mesh.{Mesh, origin, next, prev, face, face_edge, rev}
+use Rattle.std.proofs.Common.{◌≡◌, ℕ, ◌<◌, ◌≤◌, List, length, map, sym, subst, inl, inr, arith}
+use Rattle.half_edge_mesh.specs.Mesh.{Mesh, origin, prev, face_edge, rev}
 use Rattle.half_edge_mesh.specs.Contents.{Contents}
 use Rattle.plane.specs.Fraction.{Point, whole, IsSame, OnSegment, WithinSegment, InsideTriangle}
 use Rattle.plane.specs.Side.{Side, side, left, on, TurnsLeft}
@@ -13,7 +12,6 @@ use Rattle.plane.proofs.BracketIdentities.{bracket-same}
 use Rattle.plane.proofs.Sides.{if_left}
 use Rattle.plane.proofs.Steps.{left_not_zero}
 use Rattle.plane_tiling.specs.Laws.{IsSameLocation}
-use Rattle.plane_tiling.specs.Local.{IsMesh}
 use Rattle.plane_tiling.proofs.Tiles.{by_signs}
 use Rattle.plane_tiling.proofs.Places as P
 use Rattle.plane_tiling.proofs.Locations.{each_point_has_one_location}
@@ -24,12 +22,11 @@ use Rattle.mesh_embedding.specs.Drawn.{drawn, faces_of, outer_of, edges_of}
 use Rattle.mesh_embedding.proofs.EdgePairs.{joins_edge}
 use Rattle.mesh_embedding.proofs.OwnEdges.{own_edges}
 use Rattle.delaunay_legalization.specs.Known.{point_at}
-use Rattle.delaunay_location.specs.declared.position_in_triangulation.PositionInTriangulation.{PositionInTriangulation}
 use Rattle.delaunay_location.specs.declared.position_in_triangulation.PositionInTriangulation.TheVariants.{OnVertex, OnEdge, OnFace, OutsideOfConvexHull, NoTriangulation}
-use Rattle.delaunay_location.specs.Location.{Locates, location_of}
+use Rattle.delaunay_location.specs.Location.{Locates}
 use Rattle.delaunay_lines.specs.Starts.{StartsWithin, StartsInside, StartsOutside}
 use Rattle.delaunay_lines.specs.Steps.{IsOverMesh}
-use Rattle.delaunay_lines.proofs.MeshSteps.{laid, in_mesh, of_mesh, start_in}
+use Rattle.delaunay_lines.proofs.MeshSteps.{of_mesh, start_in}
 
 -- neither on a vertex, nor on an edge, nor in a face
 abbrev IsAway : Location → Type 0

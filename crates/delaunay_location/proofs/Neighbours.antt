@@ -1,6 +1,6 @@
 -- A walk from vertex to nearer neighbour.
-use Rattle.std.proofs.Common.{◌≡◌, ◌⊎◌, ℕ, ◌+◌, ◌^◌, ◌<◌, ◌≤◌, List, length, sym, subst, ◌∙◌, inl, inr, arith}
-use Rattle.std.specs.Prelude.{ℤ, ◌*ℤ◌, ◌<ℤ◌}
+use Rattle.std.proofs.Common.{◌≡◌, ◌⊎◌, ℕ, ◌+◌, ◌^◌, ◌<◌, ◌≤◌, List, length, sym, subst, inl, inr, arith}
+use Rattle.std.specs.Prelude.{◌<ℤ◌}
 use Rattle.half_edge_mesh.specs.Mesh.{Mesh, origin, rev, AreSoundLinks}
 use Rattle.plane.specs.Fraction.{Point, whole}
 use Rattle.plane.specs.Circle.{gap, IsNearer}

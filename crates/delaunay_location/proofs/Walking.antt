@@ -1,8 +1,6 @@
 -- Where a walk from face to face ends.
-use Rattle.std.proofs.Common.{◌≡◌, ℕ, ◌<◌, ◌≤◌, List, length, map, refl, sym, ap, ◌∙◌, subst, arith}
+use Rattle.std.proofs.Common.{◌≡◌, ℕ, List, map, refl, sym, ap}
 use Rattle.std.specs.Prelude.{pos, ◌*ℤ◌}
-use Rattle.half_edge_mesh.specs.Mesh.{Mesh, origin, face, rev}
-use Rattle.half_edge_links.proofs.Lists.Rev.{rev_within}
 use Rattle.plane.specs.Fraction.{Point, IsSame, whole}
 use Rattle.plane.specs.Location.{Location, IsLocation, on_vertex}
 use Rattle.plane_tiling.specs.Laws.{IsSameLocation}
@@ -16,7 +14,6 @@ use Rattle.delaunay_legalization.specs.Parts.{IsApart}
 use Rattle.delaunay_legalization.specs.State.{State}
 use Rattle.delaunay_legalization.specs.Shape.{IsTriangulated}
 use Rattle.delaunay_location.specs.Location.{Locates, location_of}
-use Rattle.delaunay_location.proofs.Locating.{at_vertex}
 
 module _ {V D U F : Type 0} (at : V → Point) (s : State V D U F) (kept : IsTriangulated at s) where
   abbrev points : List Point

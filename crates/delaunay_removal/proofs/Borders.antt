@@ -71,7 +71,7 @@ no_longer m v first count other many round again = elim (cases_lt count many) [
     shifted = round_of m v first count other round (again.within 0) (again.starts 0)
 
 -- a list with room for one round of a vertex has room for each
-pub room_of_round : (m : Mesh) (v first count listed capacity : ℕ) → IsRound m v first count → listed ≡ 0 → count ≤ capacity → HasRoomAt m v listed capacity
+room_of_round : (m : Mesh) (v first count listed capacity : ℕ) → IsRound m v first count → listed ≡ 0 → count ≤ capacity → HasRoomAt m v listed capacity
 room_of_round m v first count listed capacity round none enough other many again =
     let few = no_longer m v first count other many round again in
     omega (arith, few, none, enough)

@@ -164,7 +164,7 @@ module _ {V D U F : Type 0} (c new : Contents V D U F) (whole : IsMeshWithData c
     turn_stands pairs made = record { edges = edges_beside; faces = faces_beside; comes = edges_come; made = made }
 
 -- one of the two directions starts at the vertex
-pub starts_or_ends : (m : Mesh) (h v : ℕ) → origin m h ≡ v → (origin m (2 * (h / 2)) ≡ v) ⊎ (origin m (rev (2 * (h / 2))) ≡ v)
+starts_or_ends : (m : Mesh) (h v : ℕ) → origin m h ≡ v → (origin m (2 * (h / 2)) ≡ v) ⊎ (origin m (rev (2 * (h / 2))) ≡ v)
 starts_or_ends m h v starts = elim (halved h) [
   | inl q ↦ inl (ap (origin m) q ∙ starts)
   | inr q ↦ inr (ap (origin m) (ap rev q ∙ rev-rev h) ∙ starts)

@@ -61,7 +61,7 @@ border_settles points m s v border around a b f =
     inl (subst (λ (x : ℕ × ℕ). Joins border x.0 x.1) (λ o. ((sym (s.edges e.0 e.1.inner.0).starts ∙ e.1.second) o, (ap (origin m) (rev-rev (prev m e.0)) ∙ e.1.third) o)) (around e.0 e.1.inner.0 e.1.first))
 
 -- a face of a mesh turns left
-pub face_turns : (points : List Point) (faces : List Face) (outer : List (ℕ × ℕ)) → IsMesh points faces outer → (i j k : ℕ) → IsFaceOf faces i j k → TurnsLeft (at points i) (at points j) (at points k)
+face_turns : (points : List Point) (faces : List Face) (outer : List (ℕ × ℕ)) → IsMesh points faces outer → (i j k : ℕ) → IsFaceOf faces i j k → TurnsLeft (at points i) (at points j) (at points k)
 face_turns points faces outer (inl m) i j k f = turning_of points faces outer m i j k f
 face_turns points faces outer (inr m) i j k f = absurd (no_face i j k (subst (λ fs. IsFaceOf fs i j k) m.0 f))
 

@@ -11,7 +11,7 @@ use Rattle.half_edge_dcel.specs.Contents.{FitsMesh, edge_with, edges_of}
 use Rattle.half_edge_dcel.specs.Growth.{Grows, MovesItem, AddsEdges, SplitsEdge, with_ends, LeavesItem, MovesTwoItems}
 
 -- edges with their data of two lists in a row are those of the first and then those of the second
-pub edges_of-append : {U : Type 0} (es fs : List Ends) (us vs : List U) → length us ≡ length es → edges_of (es ++ fs) (us ++ vs) ≡ edges_of es us ++ edges_of fs vs
+edges_of-append : {U : Type 0} (es fs : List Ends) (us vs : List U) → length us ≡ length es → edges_of (es ++ fs) (us ++ vs) ≡ edges_of es us ++ edges_of fs vs
 edges_of-append [] fs [] vs same = refl
 edges_of-append [] fs (u ∷ us) vs same = absurd (omega (arith, same))
 edges_of-append (e ∷ es) fs [] vs same = absurd (omega (arith, same))

@@ -43,7 +43,7 @@ module _ (m : Mesh) (o : ℕ) (s : AreSoundLinks m) (w : IsFullWheel m o) where
   }
 
 -- a face between two edges of a vertex
-pub fan_face : (m : Mesh) (a z v c0 c1 c2 : ℕ) → AreSoundLinks m → IsHoleOfFour m a z v c0 c1 c2 → (joins (origin m a) (origin m (rev a)) ≡ joins v c1) × (triangle_at m a ≡ record { first = v; second = c1; third = c2 })
+fan_face : (m : Mesh) (a z v c0 c1 c2 : ℕ) → AreSoundLinks m → IsHoleOfFour m a z v c0 c1 c2 → (joins (origin m a) (origin m (rev a)) ≡ joins v c1) × (triangle_at m a ≡ record { first = v; second = c1; third = c2 })
 fan_face m a z v c0 c1 c2 s h =
     let f = h.fan in
     let end : origin m (rev a) ≡ c1 = sym (s.edges a f.peelable.within).starts ∙ h.second in
@@ -51,7 +51,7 @@ fan_face m a z v c0 c1 c2 s h =
     (λ i. joins (h.start i) (end i), λ i. record { first = h.start i; second = h.second i; third = last i })
 
 -- the last edge of a vertex in a hole with three corners joins it and the third of them
-pub last_spoke : (m : Mesh) (z v c0 c1 c2 : ℕ) → AreSoundLinks m → z < length m.half_edges → IsHoleOfThree m z v c0 c1 c2 → joins (origin m z) (origin m (rev z)) ≡ joins v c2
+last_spoke : (m : Mesh) (z v c0 c1 c2 : ℕ) → AreSoundLinks m → z < length m.half_edges → IsHoleOfThree m z v c0 c1 c2 → joins (origin m z) (origin m (rev z)) ≡ joins v c2
 last_spoke m z v c0 c1 c2 s within h = λ i. joins (h.start i) ((sym (s.edges z within).starts ∙ h.third) i)
 
 -- ---- the outer edges
@@ -72,7 +72,7 @@ outer_filled {V} {D} {U} {F} old new v n lost made rest again a b edges lost_are
 
 -- ---- all steps
 -- the steps that take out a vertex with three faces, one after another, leave one face in its place
-pub fills_hole : {V D U F : Type 0} (c0 c1 c2 c3 c4 c5 : Contents V D U F) (o spoke z : ℕ) (made : FullFace F) → IsMeshWithData c0 → IsMeshWithData c2 → IsMeshWithData c3 → IsMeshWithData c5 → (w : IsFullWheel c0.mesh o)
+fills_hole : {V D U F : Type 0} (c0 c1 c2 c3 c4 c5 : Contents V D U F) (o spoke z : ℕ) (made : FullFace F) → IsMeshWithData c0 → IsMeshWithData c2 → IsMeshWithData c3 → IsMeshWithData c5 → (w : IsFullWheel c0.mesh o)
     → (h : IsHoleOfFour c2.mesh spoke z (origin c0.mesh o) (neighbour c0.mesh o 0) (neighbour c0.mesh o 1) (neighbour c0.mesh o 2))
     → IsSameBut c0 c5 → IsAlone c5.mesh (origin c0.mesh o)
     → full_edges c1 ≡ full_edges c0 → LosesEdges c1 c2 (joins (origin c0.mesh o) (origin c0.mesh (rev o)) ∷ []) → LosesEdges c2 c3 (joins (origin c2.mesh spoke) (origin c2.mesh (rev spoke)) ∷ []) → LosesEdges c3 c4 (joins (origin c0.mesh o) (neighbour c0.mesh o 2) ∷ []) → full_edges c5 ≡ full_edges c4

@@ -155,7 +155,7 @@ pub no_face_of : {F : Type 0} → ℕ → F → FullFace F
 no_face_of v value = record { corners = record { first = suc v; second = suc v; third = suc v }; value = value }
 
 -- the face that is made not to have corner v does not have it
-pub no_face-off : {F : Type 0} (v : ℕ) (value : F) → has_corner v (no_face_of v value) ≡ false
+no_face-off : {F : Type 0} (v : ℕ) (value : F) → has_corner v (no_face_of v value) ≡ false
 unfolding no_face_of
 no_face-off v value = corners_off v (no_face_of v value) (λ q. absurd (omega (arith, q))) (λ q. absurd (omega (arith, q))) (λ q. absurd (omega (arith, q)))
 

@@ -187,7 +187,7 @@ module _ {V D U F : Type 0} (c0 c2 : Contents V D U F) (mid : Mesh) (e : ℕ) (w
 
 -- ---- the outer edges
 -- the only edge of a vertex goes
-pub outer_end : (m new : Mesh) (v u : ℕ) → IsValidMesh m → IsValidMesh new → triangles new ≡ triangles m
+outer_end : (m new : Mesh) (v u : ℕ) → IsValidMesh m → IsValidMesh new → triangles new ≡ triangles m
     → ((f : ℕ → ℕ → ℤ) → total (both_ways f) (ends m) ≡ total (both_ways f) (joins v u ∷ []) +ℤ total (both_ways f) (ends new))
     → OuterChanges m new (joins v u ∷ joins u v ∷ []) []
 outer_end m new v u valid valid' same sums f =

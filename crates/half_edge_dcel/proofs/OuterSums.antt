@@ -98,7 +98,7 @@ module _ (f : ℕ → ℕ → ℤ) where
   outer_sum m new v v' ge me gt mt a b = omega (arith, ints, sides_add_up m v f, sides_add_up new v' f, a, b)
 
 -- the counts of the data, for sums
-pub whole_ends : {V D U F : Type 0} (c : Contents V D U F) → IsMeshWithData c → (length c.undirected ≡ length (ends c.mesh)) × (length c.directed ≡ 2 * length (ends c.mesh))
+whole_ends : {V D U F : Type 0} (c : Contents V D U F) → IsMeshWithData c → (length c.undirected ≡ length (ends c.mesh)) × (length c.directed ≡ 2 * length (ends c.mesh))
 whole_ends c w =
     let n = count_ends c.mesh w.valid.sound in
     (omega (arith, n, w.fits.undirected_fit), omega (arith, n, w.fits.directed_fit))

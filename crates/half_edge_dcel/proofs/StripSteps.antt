@@ -113,7 +113,7 @@ module _ (f : ℕ → ℕ → ℤ) (v : ℕ) (n : ℕ → ℕ) where
   strip_sum (suc k) = omega (arith, ints, strip_sum k)
 
 -- where a vertex of the hull loses its faces, their far sides replace its two outer edges
-pub outer_stripped : {V D U F : Type 0} (old new : Contents V D U F) (v : ℕ) (n : ℕ → ℕ) (k : ℕ) → IsMeshWithData old → IsMeshWithData new → LosesEdges old new (spokes_to v n (suc k)) → LosesFaces old new (faces_between v n k) → OuterChanges old.mesh new.mesh (joins (n 0) v ∷ joins v (n k) ∷ []) (chain n k)
+outer_stripped : {V D U F : Type 0} (old new : Contents V D U F) (v : ℕ) (n : ℕ → ℕ) (k : ℕ) → IsMeshWithData old → IsMeshWithData new → LosesEdges old new (spokes_to v n (suc k)) → LosesFaces old new (faces_between v n k) → OuterChanges old.mesh new.mesh (joins (n 0) v ∷ joins v (n k) ∷ []) (chain n k)
 outer_stripped old new v n k a b edges faces f =
     let es = ends_sum f old new _ a b edges in
     let ts = corners_sum f old new _ a b faces in

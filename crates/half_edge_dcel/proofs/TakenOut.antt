@@ -20,7 +20,7 @@ takes_out xs k d within = record {
 }
 
 -- the list is the one that `swap_remove` gives
-pub swap_removed : {X : Type 0} (old new : List X) (k : ℕ) (x : X) → TakesOut old new k → new ≡ swap_remove old k x
+swap_removed : {X : Type 0} (old new : List X) (k : ℕ) (x : X) → TakesOut old new k → new ≡ swap_remove old k x
 swap_removed old new k x t =
     let s = takes_out old k x t.within in
     let a = t.count in

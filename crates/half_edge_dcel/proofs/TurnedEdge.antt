@@ -255,7 +255,7 @@ same_among m new o (suc k) p q =
     ]
 
 -- where the outer edges stay and there are as many directed edges, the list of outer edges is the same
-pub same_outline : (m new : Mesh) → KeepsOuter m new → length new.half_edges ≡ length m.half_edges → outline new ≡ outline m
+same_outline : (m new : Mesh) → KeepsOuter m new → length new.half_edges ≡ length m.half_edges → outline new ≡ outline m
 same_outline m new o count = ap (outer_among new) count ∙ same_among m new o (length m.half_edges) (omega arith) (omega (arith, count))
 
 -- ---- several edges

@@ -1,5 +1,5 @@
 -- An edge between two inner faces is turned.
-use Rattle.std.specs.Prelude.{◌≡◌, ◌≢◌, ℕ, ◌-◌, ◌<◌, length, Some, slice_set}
+use Rattle.std.specs.Prelude.{◌≡◌, ◌≢◌, ℕ, ◌-◌, ◌<◌, List, length, Some, slice_set}
 use Rattle.half_edge_links.specs.declared.records.HalfEdge.{HalfEdge}
 use Rattle.half_edge_links.specs.Mesh.{Mesh, edge_at, rev, origin, next, prev, face, face_edge, out_edge, HasLinks}
 
@@ -10,17 +10,21 @@ pub record IsFlippable (m : Mesh) (e : ℕ) : Type 0 where
   pub twin_inner : 0 < face m (rev e)
   pub apart : face m e ≢ face m (rev e)
 
+-- directed edges after edge e, with other side t, was turned, where these are the six edges round it
+abbrev pub turn_by : List HalfEdge → ℕ → ℕ → HalfEdge → HalfEdge → HalfEdge → HalfEdge → HalfEdge → HalfEdge → List HalfEdge
+turn_by hs e t edge twin edge_next edge_prev twin_next twin_prev =
+    slice_set (slice_set (slice_set (slice_set (slice_set (slice_set hs
+    e (record { origin = edge_prev.origin; next = twin.prev; prev = edge.next; face = edge.face }))
+    t (record { origin = twin_prev.origin; next = edge.prev; prev = twin.next; face = twin.face }))
+    edge.next (record { origin = edge_next.origin; next = e; prev = twin.prev; face = edge.face }))
+    twin.next (record { origin = twin_next.origin; next = t; prev = edge.prev; face = twin.face }))
+    edge.prev (record { origin = edge_prev.origin; next = twin.next; prev = t; face = twin.face }))
+    twin.prev (record { origin = twin_prev.origin; next = edge.next; prev = e; face = edge.face })
+
 -- the mesh after edge e, with other side t, was turned, where these are the six edges round it
 unfoldable pub flip_by : Mesh → ℕ → ℕ → HalfEdge → HalfEdge → HalfEdge → HalfEdge → HalfEdge → HalfEdge → Mesh
 flip_by m e t edge twin edge_next edge_prev twin_next twin_prev = record m {
-  half_edges =
-      slice_set (slice_set (slice_set (slice_set (slice_set (slice_set m.half_edges
-      e (record { origin = edge_prev.origin; next = twin.prev; prev = edge.next; face = edge.face }))
-      t (record { origin = twin_prev.origin; next = edge.prev; prev = twin.next; face = twin.face }))
-      edge.next (record { origin = edge_next.origin; next = e; prev = twin.prev; face = edge.face }))
-      twin.next (record { origin = twin_next.origin; next = t; prev = edge.prev; face = twin.face }))
-      edge.prev (record { origin = edge_prev.origin; next = twin.next; prev = t; face = twin.face }))
-      twin.prev (record { origin = twin_prev.origin; next = edge.next; prev = e; face = edge.face });
+  half_edges = turn_by m.half_edges e t edge twin edge_next edge_prev twin_next twin_prev;
   out_edges = slice_set (slice_set m.out_edges edge.origin (Some twin.next)) twin.origin (Some edge.next);
   face_edges = slice_set (slice_set m.face_edges (edge.face - 1) e) (twin.face - 1) t;
 }

@@ -1,22 +1,26 @@
 -- A vertex is put into an inner face.
-use Rattle.std.specs.Prelude.{◌≡◌, ◌≢◌, ℕ, ◌+◌, ◌-◌, ◌<◌, ◌≤◌, [], ◌∷◌, ◌++◌, length, Some, slice_set}
+use Rattle.std.specs.Prelude.{◌≡◌, ◌≢◌, ℕ, ◌+◌, ◌-◌, ◌<◌, ◌≤◌, List, [], ◌∷◌, ◌++◌, length, Some, slice_set}
 use Rattle.half_edge_links.specs.declared.records.HalfEdge.{HalfEdge}
 use Rattle.half_edge_links.specs.Mesh.{Mesh, edge_at, origin, next, prev, face, face_edge, out_edge, HasLinks}
+
+-- directed edges, n of them, after vertex v was put into face f, whose edges are a and these three
+abbrev pub fan_by : List HalfEdge → ℕ → ℕ → ℕ → ℕ → ℕ → HalfEdge → HalfEdge → HalfEdge → List HalfEdge
+fan_by hs v f n g a first second third =
+    slice_set (slice_set (slice_set hs
+    a (record { origin = first.origin; next = n + 2; prev = n + 1; face = f }))
+    first.next (record { origin = second.origin; next = n + 4; prev = n + 3; face = g + 1 }))
+    first.prev (record { origin = third.origin; next = n; prev = n + 5; face = g + 2 })
+    ++ record { origin = first.origin; next = n + 5; prev = first.prev; face = g + 2 } ∷ []
+    ++ record { origin = v; next = a; prev = n + 2; face = f } ∷ []
+    ++ record { origin = second.origin; next = n + 1; prev = a; face = f } ∷ []
+    ++ record { origin = v; next = first.next; prev = n + 4; face = g + 1 } ∷ []
+    ++ record { origin = third.origin; next = n + 3; prev = first.next; face = g + 1 } ∷ []
+    ++ record { origin = v; next = first.prev; prev = n; face = g + 2 } ∷ []
 
 -- the mesh with vertex v put into face f, whose edges are a and these three
 unfoldable pub insert_by : Mesh → ℕ → ℕ → ℕ → ℕ → ℕ → HalfEdge → HalfEdge → HalfEdge → Mesh
 insert_by m v f n g a first second third = record m {
-  half_edges =
-      slice_set (slice_set (slice_set m.half_edges
-      a (record { origin = first.origin; next = n + 2; prev = n + 1; face = f }))
-      first.next (record { origin = second.origin; next = n + 4; prev = n + 3; face = g + 1 }))
-      first.prev (record { origin = third.origin; next = n; prev = n + 5; face = g + 2 })
-      ++ record { origin = first.origin; next = n + 5; prev = first.prev; face = g + 2 } ∷ []
-      ++ record { origin = v; next = a; prev = n + 2; face = f } ∷ []
-      ++ record { origin = second.origin; next = n + 1; prev = a; face = f } ∷ []
-      ++ record { origin = v; next = first.next; prev = n + 4; face = g + 1 } ∷ []
-      ++ record { origin = third.origin; next = n + 3; prev = first.next; face = g + 1 } ∷ []
-      ++ record { origin = v; next = first.prev; prev = n; face = g + 2 } ∷ [];
+  half_edges = fan_by m.half_edges v f n g a first second third;
   out_edges = slice_set m.out_edges v (Some (n + 1));
   face_edges = slice_set m.face_edges (f - 1) a ++ first.next ∷ [] ++ first.prev ∷ [];
 }

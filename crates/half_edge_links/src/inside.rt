@@ -1,10 +1,11 @@
 //! Changes inside the outer loop: an edge is turned, a vertex is put into a face or on an edge.
-ghost use Rattle.std.specs.Prelude.{◌≡◌, ◌≢◌, ◌+◌, ◌-◌, length, Some};
+ghost use Rattle.std.specs.Prelude.{◌≡◌, ◌≢◌, ◌+◌, ◌-◌, ◌<◌, ◌≤◌, length, Some};
+ghost use Rattle.std.specs.Prelude.{vec_capacity};
 ghost use Rattle.half_edge_links.specs.Hull.{KeepsOneOutline};
 ghost use Rattle.half_edge_links.specs.Mesh.{face, origin, next, prev, rev, IsInnerEdge, IsAlone};
-ghost use Rattle.half_edge_links.specs.Mesh.{AreSoundLinks};
-ghost use Rattle.half_edge_links.specs.Flip.{Flips, IsFlippable, flipped};
-ghost use Rattle.half_edge_links.specs.Insert.{Inserts, inserted};
+ghost use Rattle.half_edge_links.specs.Mesh.{edge_at, AreSoundLinks};
+ghost use Rattle.half_edge_links.specs.Flip.{Flips, IsFlippable, flipped, turn_by};
+ghost use Rattle.half_edge_links.specs.Insert.{Inserts, inserted, fan_by};
 ghost use Rattle.half_edge_links.specs.Room.{HasEdgeRoom, HasFaceRoom};
 ghost use Rattle.half_edge_links.specs.Triangles.{triangles, FlipsTriangles, InsertsTriangles};
 ghost use Rattle.half_edge_links.specs.Triangles.{SplitsTriangles};
@@ -12,6 +13,76 @@ ghost use Rattle.half_edge_links.specs.Outline.{KeepsOuter, MovesEdge, InsertsEn
 
 use crate::links::Links;
 use crate::records::{HalfEdge, read, reversed};
+use crate::room::MAX_ELEMENTS;
+
+// The directed edge from vertex `origin`, before edge `next` and after edge `prev` round `face`.
+fn linked(origin: u32, next: u32, prev: u32, face: u32) -> HalfEdge
+    ensures { result ≡ record { origin = origin; next = next; prev = prev; face = face } }
+{
+    HalfEdge {
+        origin,
+        next,
+        prev,
+        face,
+    }
+}
+
+// Turns edge `e`, with other side `t`, in the list: the six edges round it get new links.
+fn turn_edges(half_edges: &mut Vec<HalfEdge>, e: u32, t: u32)
+    requires e { e < length half_edges.old.items }
+    requires t { t < length half_edges.old.items }
+    requires e_next { (edge_at half_edges.old.items e).next < length half_edges.old.items }
+    requires e_prev { (edge_at half_edges.old.items e).prev < length half_edges.old.items }
+    requires t_next { (edge_at half_edges.old.items t).next < length half_edges.old.items }
+    requires t_prev { (edge_at half_edges.old.items t).prev < length half_edges.old.items }
+    ensures items { let hs = half_edges.old.items in let edge = edge_at hs e in
+        let twin = edge_at hs t in
+        half_edges.new.items ≡ turn_by hs e t edge twin (edge_at hs edge.next)
+        (edge_at hs edge.prev) (edge_at hs twin.next) (edge_at hs twin.prev) }
+    ensures capacity { vec_capacity half_edges.new ≡ vec_capacity half_edges.old }
+{
+    let edge = half_edges[e as usize];
+    let twin = half_edges[t as usize];
+    let edge_next = half_edges[edge.next as usize];
+    let edge_prev = half_edges[edge.prev as usize];
+    let twin_next = half_edges[twin.next as usize];
+    let twin_prev = half_edges[twin.prev as usize];
+    half_edges[e as usize] = linked(edge_prev.origin, twin.prev, edge.next, edge.face);
+    half_edges[t as usize] = linked(twin_prev.origin, edge.prev, twin.next, twin.face);
+    half_edges[edge.next as usize] = linked(edge_next.origin, e, twin.prev, edge.face);
+    half_edges[twin.next as usize] = linked(twin_next.origin, t, edge.prev, twin.face);
+    half_edges[edge.prev as usize] = linked(edge_prev.origin, twin.next, t, twin.face);
+    half_edges[twin.prev as usize] = linked(twin_prev.origin, edge.next, e, edge.face);
+}
+
+// Puts vertex `v` into the loop of `edge`, with three edges to it and back. The part of `edge` keeps
+// its face, and the two others become faces `g + 1` and `g + 2`.
+fn fan_edges(half_edges: &mut Vec<HalfEdge>, v: u32, edge: u32, g: u32)
+    requires within { edge < length half_edges.old.items }
+    requires next_within { (edge_at half_edges.old.items edge).next < length half_edges.old.items }
+    requires prev_within { (edge_at half_edges.old.items edge).prev < length half_edges.old.items }
+    requires room { length half_edges.old.items + 6 ≤ vec_capacity half_edges.old }
+    requires small { length half_edges.old.items + 6 ≤ MAX_ELEMENTS }
+    requires few { g + 2 ≤ MAX_ELEMENTS }
+    ensures items { let hs = half_edges.old.items in let first = edge_at hs edge in
+        half_edges.new.items ≡ fan_by hs v first.face (length hs) g edge first
+        (edge_at hs first.next) (edge_at hs first.prev) }
+    ensures capacity { vec_capacity half_edges.new ≡ vec_capacity half_edges.old }
+{
+    let n = half_edges.len() as u32;
+    let first = half_edges[edge as usize];
+    let second = half_edges[first.next as usize];
+    let third = half_edges[first.prev as usize];
+    half_edges[edge as usize] = linked(first.origin, n + 2, n + 1, first.face);
+    half_edges[first.next as usize] = linked(second.origin, n + 4, n + 3, g + 1);
+    half_edges[first.prev as usize] = linked(third.origin, n, n + 5, g + 2);
+    half_edges.push_reserved(linked(first.origin, n + 5, first.prev, g + 2));
+    half_edges.push_reserved(linked(v, edge, n + 2, first.face));
+    half_edges.push_reserved(linked(second.origin, n + 1, edge, first.face));
+    half_edges.push_reserved(linked(v, first.next, n + 4, g + 1));
+    half_edges.push_reserved(linked(third.origin, n + 3, first.next, g + 1));
+    half_edges.push_reserved(linked(v, first.prev, n, g + 2));
+}
 
 impl Links {
     /// Turns edge `e` between two inner faces so that it joins the two opposite corners.
@@ -33,46 +104,7 @@ impl Links {
         let t = reversed(e);
         let edge = read(&self.half_edges, e);
         let twin = read(&self.half_edges, t);
-        let edge_next = read(&self.half_edges, edge.next);
-        let edge_prev = read(&self.half_edges, edge.prev);
-        let twin_next = read(&self.half_edges, twin.next);
-        let twin_prev = read(&self.half_edges, twin.prev);
-        self.half_edges[e as usize] = HalfEdge {
-            origin: edge_prev.origin,
-            next: twin.prev,
-            prev: edge.next,
-            face: edge.face,
-        };
-        self.half_edges[t as usize] = HalfEdge {
-            origin: twin_prev.origin,
-            next: edge.prev,
-            prev: twin.next,
-            face: twin.face,
-        };
-        self.half_edges[edge.next as usize] = HalfEdge {
-            origin: edge_next.origin,
-            next: e,
-            prev: twin.prev,
-            face: edge.face,
-        };
-        self.half_edges[twin.next as usize] = HalfEdge {
-            origin: twin_next.origin,
-            next: t,
-            prev: edge.prev,
-            face: twin.face,
-        };
-        self.half_edges[edge.prev as usize] = HalfEdge {
-            origin: edge_prev.origin,
-            next: twin.next,
-            prev: t,
-            face: twin.face,
-        };
-        self.half_edges[twin.prev as usize] = HalfEdge {
-            origin: twin_prev.origin,
-            next: edge.next,
-            prev: e,
-            face: edge.face,
-        };
+        turn_edges(&mut self.half_edges, e, t);
         self.out_edges[edge.origin as usize] = Some(twin.next);
         self.out_edges[twin.origin as usize] = Some(edge.next);
         self.face_edges[edge.face as usize - 1] = e;
@@ -99,64 +131,8 @@ impl Links {
         let n = self.half_edges.len() as u32;
         let g = self.face_edges.len() as u32;
         let first = read(&self.half_edges, edge);
-        let f = first.face;
-        let second = read(&self.half_edges, first.next);
-        let third = read(&self.half_edges, first.prev);
-        self.half_edges[edge as usize] = HalfEdge {
-            origin: first.origin,
-            next: n + 2,
-            prev: n + 1,
-            face: f,
-        };
-        self.half_edges[first.next as usize] = HalfEdge {
-            origin: second.origin,
-            next: n + 4,
-            prev: n + 3,
-            face: g + 1,
-        };
-        self.half_edges[first.prev as usize] = HalfEdge {
-            origin: third.origin,
-            next: n,
-            prev: n + 5,
-            face: g + 2,
-        };
-        self.half_edges.push_reserved(HalfEdge {
-            origin: first.origin,
-            next: n + 5,
-            prev: first.prev,
-            face: g + 2,
-        });
-        self.half_edges.push_reserved(HalfEdge {
-            origin: v,
-            next: edge,
-            prev: n + 2,
-            face: f,
-        });
-        self.half_edges.push_reserved(HalfEdge {
-            origin: second.origin,
-            next: n + 1,
-            prev: edge,
-            face: f,
-        });
-        self.half_edges.push_reserved(HalfEdge {
-            origin: v,
-            next: first.next,
-            prev: n + 4,
-            face: g + 1,
-        });
-        self.half_edges.push_reserved(HalfEdge {
-            origin: third.origin,
-            next: n + 3,
-            prev: first.next,
-            face: g + 1,
-        });
-        self.half_edges.push_reserved(HalfEdge {
-            origin: v,
-            next: first.prev,
-            prev: n,
-            face: g + 2,
-        });
-        self.face_edges[f as usize - 1] = edge;
+        fan_edges(&mut self.half_edges, v, edge, g);
+        self.face_edges[first.face as usize - 1] = edge;
         self.face_edges.push_reserved(first.next);
         self.face_edges.push_reserved(first.prev);
         self.out_edges[v as usize] = Some(n + 1);

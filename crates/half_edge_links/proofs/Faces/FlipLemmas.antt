@@ -43,11 +43,6 @@ flips m e s f =
       outer_edge = refl;
     }
 
--- the flip with the six edges as the code has read them is the flip of edge e
-pub flip_by-is : (m : Mesh) (e t : ℕ) (edge twin edge_next edge_prev twin_next twin_prev : HalfEdge) → t ≡ rev e → edge ≡ edge_at m.half_edges e → twin ≡ edge_at m.half_edges t → edge_next ≡ edge_at m.half_edges edge.next → edge_prev ≡ edge_at m.half_edges edge.prev → twin_next ≡ edge_at m.half_edges twin.next → twin_prev ≡ edge_at m.half_edges twin.prev → flip_by m e t edge twin edge_next edge_prev twin_next twin_prev ≡ flipped m e
-unfolding flipped
-flip_by-is m e t edge twin edge_next edge_prev twin_next twin_prev at_t a b c d x y = cc
-
 -- a mesh that equals the one with edge e flipped differs by the links that the flip changes alone
 pub flips_is : (m new : Mesh) (e : ℕ) → AreSoundLinks m → IsFlippable m e → new ≡ flipped m e → Flips m new e
 flips_is m new e s can is = rw is (flips m e s can)

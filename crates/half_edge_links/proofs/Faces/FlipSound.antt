@@ -1,5 +1,5 @@
 -- Turning an edge keeps a mesh sound.
-use Rattle.std.proofs.Common.{◌≡◌, ◌≢◌, ◌⊎◌, ℕ, ◌<◌, ◌≤◌, length, Some, IsSome, refl, sym, ap, ◌∙◌, inl, inr, arith}
+use Rattle.std.proofs.Common.{◌≡◌, ◌≢◌, ◌⊎◌, ℕ, ◌<◌, length, Some, refl, sym, ap, ◌∙◌, inl, inr, arith}
 use Rattle.std.proofs.lemmas.Bool.{cases_eq}
 use Rattle.half_edge_links.proofs.Lists.Cases.{◌or_else◌}
 use Rattle.half_edge_links.specs.declared.records.HalfEdge.{HalfEdge}
@@ -7,7 +7,7 @@ use Rattle.half_edge_links.specs.Mesh.{Mesh, edge_at, origin, next, prev, face, 
 use Rattle.half_edge_links.specs.Flip.{IsFlippable, Flips}
 use Rattle.half_edge_links.proofs.Lists.Rev.{rev-rev}
 use Rattle.half_edge_links.proofs.Lists.Writes.{AreSixPlaces}
-use Rattle.half_edge_links.proofs.Sound.Parts.{sound_kept, IsBusy, loop_sound, KeepsBusy, KeepsOutEdges, NamesFaces, NamesOutEdges, NamesOuterEdge}
+use Rattle.half_edge_links.proofs.Sound.Parts.{sound_kept, loop_sound, KeepsBusy, KeepsOutEdges, NamesFaces, NamesOutEdges, NamesOuterEdge}
 use Rattle.half_edge_links.proofs.Sound.Triangles.{IsTriangle, triangle_at, same_loop, six_round}
 
 -- an edge is none of the six round e

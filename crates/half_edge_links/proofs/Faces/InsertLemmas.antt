@@ -1,8 +1,7 @@
 -- What putting a vertex into a face does.
 use Rattle.std.proofs.Common.{◌≡◌, ◌≢◌, ℕ, ◌+◌, ◌-◌, ◌<◌, List, [], ◌∷◌, ◌++◌, length, None, get_or, set, refl, sym, arith, append_assoc, length-append, add-zero}
 use Rattle.std.proofs.lemmas.List.{get_or-set_same, get_or-set_other, length-set, get_or_append_left, get_or-append-add, get_or_at}
-use Rattle.half_edge_links.specs.declared.records.HalfEdge.{HalfEdge}
-use Rattle.half_edge_links.specs.Mesh.{Mesh, no_edge, edge_at, next, prev, face, AreSoundLinks, IsInnerEdge, IsAlone}
+use Rattle.half_edge_links.specs.Mesh.{Mesh, no_edge, next, prev, face, AreSoundLinks, IsInnerEdge, IsAlone}
 use Rattle.half_edge_links.specs.Insert.{insert_by, inserted, Inserts}
 use Rattle.half_edge_links.proofs.Sound.Triangles.{triangle_at}
 use Rattle.half_edge_links.proofs.Faces.FlipLemmas.{links_from}
@@ -90,11 +89,6 @@ inserts m v a s inner alone =
       third_face = get_or_at (set m.face_edges (face m a - 1) a ++ _ ∷ []) _ [] 0 _ (omega (arith, length-append (set m.face_edges (face m a - 1) a) (next m a ∷ []), length-set m.face_edges (face m a - 1) a));
       outer_edge = refl;
     }
-
--- the mesh made with the three edges as the code has read them is the one with v put into the face of a
-pub insert_by-is : (m : Mesh) (v f n g a : ℕ) (first second third : HalfEdge) → n ≡ length m.half_edges → g ≡ length m.face_edges → first ≡ edge_at m.half_edges a → f ≡ first.face → second ≡ edge_at m.half_edges first.next → third ≡ edge_at m.half_edges first.prev → insert_by m v f n g a first second third ≡ inserted m v a
-unfolding inserted
-insert_by-is m v f n g a first second third at_n at_g x at_f y z = cc
 
 -- a mesh that equals the one with v put into a face differs by the links that this changes alone
 pub inserts_is : (m new : Mesh) (v a : ℕ) → AreSoundLinks m → IsInnerEdge m a → IsAlone m v → new ≡ inserted m v a → Inserts m new v (face m a) a (length m.half_edges) (length m.face_edges)

@@ -1,12 +1,12 @@
 -- Putting a vertex into a face keeps a mesh sound.
-use Rattle.std.proofs.Common.{◌≡◌, ◌≢◌, ℕ, ◌+◌, ◌%◌, ◌<◌, ◌≤◌, length, Some, IsSome, refl, sym, ap, ◌∙◌, inl, inr, arith}
+use Rattle.std.proofs.Common.{◌≡◌, ◌≢◌, ℕ, ◌+◌, ◌%◌, ◌<◌, ◌≤◌, length, refl, sym, ap, ◌∙◌, inl, inr, arith}
 use Rattle.std.proofs.lemmas.Bool.{cases_eq}
 use Rattle.half_edge_links.proofs.Lists.Cases.{◌or_else◌}
 use Rattle.half_edge_links.specs.declared.records.HalfEdge.{HalfEdge}
-use Rattle.half_edge_links.specs.Mesh.{Mesh, edge_at, origin, next, prev, face, face_edge, out_edge, rev, AreSoundLinks, IsSoundEdge, IsInnerEdge, IsAlone, HasLinks}
+use Rattle.half_edge_links.specs.Mesh.{Mesh, edge_at, origin, next, prev, face, face_edge, rev, AreSoundLinks, IsSoundEdge, IsInnerEdge, IsAlone, HasLinks}
 use Rattle.half_edge_links.specs.Insert.{Inserts}
 use Rattle.half_edge_links.proofs.Lists.Rev.{rev_within}
-use Rattle.half_edge_links.proofs.Sound.Parts.{late_cases, rev_of_even, rev_of_odd, IsBusy, loop_sound, still_out, still_named, sound_kept, EachEdgeIsSound, KeepsBusy, KeepsOutEdges, NamesFaces, NamesOutEdges, NamesOuterEdge}
+use Rattle.half_edge_links.proofs.Sound.Parts.{late_cases, rev_of_even, rev_of_odd, loop_sound, still_out, still_named, sound_kept, EachEdgeIsSound, KeepsBusy, KeepsOutEdges, NamesFaces, NamesOutEdges, NamesOuterEdge}
 use Rattle.half_edge_links.proofs.Sound.Triangles.{IsTriangle, triangle_at, same_loop}
 
 -- an edge is none of those round the face

@@ -8,7 +8,7 @@ use Rattle.half_edge_links.specs.Grow.{IsClosable, closed, Closes}
 use Rattle.half_edge_links.proofs.Lists.Rev.{rev_within}
 use Rattle.half_edge_links.proofs.Faces.FlipLemmas.{links_from}
 use Rattle.half_edge_links.proofs.Growing.CloseReads.{closes_edges}
-use Rattle.half_edge_links.proofs.Sound.Parts.{grown_cases, rev_of_even, rev_of_odd, IsNextSound, IsInnerSound, IsBusy, sound_from, next_of_sound, next_kept, inner_kept, next_at, prev_sound, loop_sound, EachEdgeIsSound, EachNextIsSound, KeepsBusy, KeepsEnds, KeepsFaceEdges, NamesFaces}
+use Rattle.half_edge_links.proofs.Sound.Parts.{grown_cases, rev_of_even, rev_of_odd, IsInnerSound, sound_from, next_of_sound, next_kept, inner_kept, next_at, prev_sound, loop_sound, EachEdgeIsSound, EachNextIsSound, KeepsBusy, KeepsEnds, KeepsFaceEdges, NamesFaces}
 
 -- the edges round the place of a new face
 pub record IsCorner (m : Mesh) (e : ℕ) : Type 0 where

@@ -1,16 +1,16 @@
 -- An edge to a lonely vertex, beside the outer face.
-use Rattle.std.proofs.Common.{◌≡◌, ◌≢◌, ℕ, ◌+◌, ◌<◌, ◌≤◌, List, length, Some, None, IsSome, refl, sym, ap, ◌∙◌, inl, inr, arith}
+use Rattle.std.proofs.Common.{◌≡◌, ◌≢◌, ℕ, ◌+◌, ◌<◌, ◌≤◌, List, length, None, refl, sym, ap, ◌∙◌, inl, inr, arith}
 use Rattle.std.proofs.lemmas.Bool.{cases_eq}
 use Rattle.std.proofs.lemmas.List.{get_or-set_same, get_or-set_other, length-set}
 use Rattle.half_edge_links.proofs.Lists.Cases.{◌or_else◌}
 use Rattle.half_edge_links.specs.declared.records.HalfEdge.{HalfEdge}
-use Rattle.half_edge_links.specs.Mesh.{Mesh, no_edge, edge_at, origin, next, prev, face, face_edge, out_edge, rev, AreSoundLinks, IsSoundEdge, IsAlone}
+use Rattle.half_edge_links.specs.Mesh.{Mesh, no_edge, edge_at, origin, next, prev, face, face_edge, rev, AreSoundLinks, IsSoundEdge, IsAlone}
 use Rattle.half_edge_links.specs.Grow.{with_next, with_prev, IsOuter, hung_edges, hung, Hangs}
 use Rattle.half_edge_links.proofs.Lists.Rev.{rev_within}
 use Rattle.half_edge_links.proofs.Faces.FlipLemmas.{links_from}
 use Rattle.half_edge_links.proofs.Sound.FieldWrites.{writes_next, writes_prev, next_link, prev_link, face_link, origin_link}
 use Rattle.half_edge_links.proofs.Lists.Writes.{length-two, two_before, two_at_0, two_at_1}
-use Rattle.half_edge_links.proofs.Sound.Parts.{rev_of_even, rev_of_odd, IsInMesh, IsNextSound, IsInnerSound, sound_from, next_kept, inner_kept, next_at, prev_sound, grown_cases, still_out, still_named, EachEdgeIsSound, EachNextIsSound, KeepsEnds, KeepsOutEdges, NamesOutEdges}
+use Rattle.half_edge_links.proofs.Sound.Parts.{rev_of_even, rev_of_odd, IsInMesh, IsInnerSound, sound_from, next_kept, inner_kept, next_at, prev_sound, grown_cases, still_out, still_named, EachEdgeIsSound, EachNextIsSound, KeepsEnds, KeepsOutEdges, NamesOutEdges}
 
 module _ (hs : List HalfEdge) (x y v : ℕ) (x_in : x < length hs) (y_in : y < length hs) where
   abbrev first : List HalfEdge

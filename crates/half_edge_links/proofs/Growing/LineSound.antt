@@ -1,5 +1,5 @@
 -- A mesh without inner faces stays sound where one end of an edge moves to another vertex.
-use Rattle.std.proofs.Common.{◌≡◌, ◌≢◌, ℕ, ◌<◌, [], length, Some, IsSome, sym, ap, ◌∙◌, inl, inr, arith}
+use Rattle.std.proofs.Common.{◌≡◌, ◌≢◌, ℕ, ◌<◌, [], length, Some, sym, ap, ◌∙◌, inl, inr, arith}
 use Rattle.std.proofs.lemmas.Bool.{cases_eq}
 use Rattle.half_edge_links.specs.Mesh.{Mesh, origin, next, face, out_edge, rev, AreSoundLinks}
 use Rattle.half_edge_links.proofs.Lists.Rev.{rev_same, rev_within}

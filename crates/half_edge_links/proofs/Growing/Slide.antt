@@ -7,7 +7,7 @@ use Rattle.half_edge_links.specs.Mesh.{Mesh, origin, next, prev, rev, AreSoundLi
 use Rattle.half_edge_links.specs.Grow.{IsSlidable, slid_edges, slid, Slides}
 use Rattle.half_edge_links.proofs.Lists.Rev.{rev-rev, rev_within}
 use Rattle.half_edge_links.proofs.Sound.Relinks.{relinks}
-use Rattle.half_edge_links.proofs.Sound.Parts.{IsNextSound, next_kept, next_at, EachNextIsSound}
+use Rattle.half_edge_links.proofs.Sound.Parts.{next_kept, next_at, EachNextIsSound}
 use Rattle.half_edge_links.proofs.Growing.LineSound as line
 use Rattle.half_edge_links.proofs.Growing.LineSound.{MovesEnd}
 

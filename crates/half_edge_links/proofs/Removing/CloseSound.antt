@@ -7,7 +7,7 @@ use Rattle.half_edge_links.specs.Mesh.{Mesh, IsSmall, origin, next, prev, face, 
 use Rattle.half_edge_links.specs.Remove.{loop_closed, IsOpenTriangle, ClosesLoop}
 use Rattle.half_edge_links.proofs.Sound.Triangles.{IsTriangle}
 use Rattle.half_edge_links.proofs.Sound.FieldWrites.{sets_loop_face}
-use Rattle.half_edge_links.proofs.Sound.Parts.{IsBusy, loop_sound, sound_from, next_kept, prev_kept, inner_kept, KeepsBusy, KeepsFaceEdges}
+use Rattle.half_edge_links.proofs.Sound.Parts.{loop_sound, sound_from, next_kept, prev_kept, inner_kept, KeepsBusy, KeepsFaceEdges}
 
 -- edge k is h, the edge after h or the one before it
 abbrev pub IsRound : Mesh → ℕ → ℕ → Type 0

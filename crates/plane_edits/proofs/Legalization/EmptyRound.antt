@@ -1,12 +1,12 @@
--- Flips round a new point: only edges opposite it fail, and a flip leaves the two sides beyond it to test.
-use Rattle.std.proofs.Common.{◌≡◌, ◌⊎◌, ℕ, ◌<◌, List, [], ◌∷◌, length, refl, sym, ap, ◌∙◌, subst, inl, inr}
+-- Flips round a new point: only edges opposite it fail, and the circles stay empty.
+use Rattle.std.proofs.Common.{◌≡◌, ◌⊎◌, ℕ, ◌<◌, List, [], ◌∷◌, length, refl, sym, ◌∙◌, subst, inl, inr}
 use mathlib.Core.Logic.{◌≢◌}
-use Rattle.std.specs.Prelude.{pos, ◌+ℤ◌, ◌*ℤ◌, ◌<ℤ◌, Contains}
+use Rattle.std.specs.Prelude.{pos, ◌+ℤ◌, ◌*ℤ◌, ◌<ℤ◌}
 use Rattle.std.proofs.lemmas.Bool.{cases_eq}
 use Rattle.plane.specs.Fraction.{Point, Fraction, whole}
 use Rattle.plane.specs.Side.{TurnsLeft}
 use Rattle.plane.specs.Circle.{InsideCircle}
-use Rattle.plane.specs.Pairs.{place, Joins, IsSamePair}
+use Rattle.plane.specs.Pairs.{place, Joins}
 use Rattle.plane.specs.Tiling.{Face, face}
 use Rattle.plane_tiling.specs.Local.{LocalMesh, IsMesh}
 use Rattle.plane.proofs.IntegerOrder.{mul-pos_ℤ, pos_of_mul-pos_ℤ}
@@ -17,16 +17,15 @@ use Rattle.plane.proofs.Bracket.{Vec3, lift, vec, bracket, bracketᵖ, vec3}
 use Rattle.plane.proofs.BracketIdentities.{bracket-turn}
 use Rattle.plane.proofs.Centre.{circle_turned}
 use Rattle.plane.proofs.Circles.{incircle, incircleᵖ, inside_is_incircle}
-use Rattle.plane_tiling.proofs.Totals.{Contains-head, Contains-later, Contains-cases}
 use Rattle.plane_tiling.proofs.Counting.{corners_differ}
 use Rattle.plane_tiling.proofs.Flows.{turned, no_turn}
 use Rattle.plane_tiling.proofs.Tiles.{point_at}
 use Rattle.plane_edits.specs.Change.{IsFaceOf, FacesChange}
-use Rattle.plane_edits.specs.Legal.{Pass, AllPassBut, IsRoundSide}
+use Rattle.plane_edits.specs.Legal.{Pass, AllPassBut}
 use Rattle.plane_edits.specs.EmptyRound.{IsEmptyRound}
 use Rattle.plane_edits.proofs.LocalMesh.Changes.{face_from, each, each_none, turn_of_all}
 use Rattle.plane_edits.proofs.LocalMesh.Kept.{turning_of, index_of}
-use Rattle.plane_edits.proofs.Legalization.Flipping.{one_question, failing_is_convex, flip_leaves_sides, after_flip}
+use Rattle.plane_edits.proofs.Legalization.Flipping.{one_question, failing_is_convex}
 
 -- ---- two circles
 -- the circles of a b o and of a b v, compared at n
@@ -279,96 +278,12 @@ module _ (points : List Point) (faces new : List Face) (outer : List (ℕ × ℕ
         | inr o ↦ (made_is_outside v j k o).0 refl n
       ]
 
-  -- ---- the edges left to test
-  -- each side of the quadrilateral ends at a or c
-  side_ends : (i j : ℕ) → IsRoundSide a b c d i j → ((j ≡ a) ⊎ (j ≡ c)) ⊎ ((i ≡ a) ⊎ (i ≡ c))
-  side_ends i j (inl (inl (inl e))) = inr (inl e.0)
-  side_ends i j (inl (inl (inr e))) = inl (inl e.1)
-  side_ends i j (inl (inr (inl e))) = inl (inr e.1)
-  side_ends i j (inl (inr (inr e))) = inr (inr e.0)
-  side_ends i j (inr (inl (inl e))) = inr (inr e.0)
-  side_ends i j (inr (inl (inr e))) = inl (inr e.1)
-  side_ends i j (inr (inr (inl e))) = inl (inl e.1)
-  side_ends i j (inr (inr (inr e))) = inr (inl e.0)
-
-  neither_is_point : (i : ℕ) → i ≡ v → ((i ≡ a) ⊎ (i ≡ c)) → ⊥
-  neither_is_point i e (inl s) = not_first (sym s ∙ e)
-  neither_is_point i e (inr s) = not_third (sym s ∙ e)
-
-  -- the pairs of v with a and c, put before the others
-  abbrev more : List (ℕ × ℕ) → List (ℕ × ℕ)
-  more pairs = (v, a) ∷ (v, c) ∷ pairs
-
-  later : (pairs : List (ℕ × ℕ)) (i j : ℕ) → Contains pairs (i, j) → Contains (more pairs) (i, j)
-  later pairs i j h = Contains-later (v, a) ((v, c) ∷ pairs) (i, j) (Contains-later (v, c) pairs (i, j) h)
-
-  joins_later : (pairs : List (ℕ × ℕ)) (i j : ℕ) → Joins pairs i j → Joins (more pairs) i j
-  joins_later pairs i j (inl h) = inl (later pairs i j h)
-  joins_later pairs i j (inr h) = inr (later pairs j i h)
-
-  spoke_there : (pairs : List (ℕ × ℕ)) (i j : ℕ) → i ≡ v → (j ≡ a) ⊎ (j ≡ c) → Contains (more pairs) (i, j)
-  spoke_there pairs i j e (inl s) = subst (Contains (more pairs)) (λ o. (sym e o, sym s o)) (Contains-head (v, a) ((v, c) ∷ pairs))
-  spoke_there pairs i j e (inr s) = subst (Contains (more pairs)) (λ o. (sym e o, sym s o))
-      (Contains-later (v, a) ((v, c) ∷ pairs) (v, c) (Contains-head (v, c) pairs))
-
-  -- a pair without v is one of the others
-  earlier : (pairs : List (ℕ × ℕ)) (i j : ℕ) → i ≢ v → Contains (more pairs) (i, j) → Contains pairs (i, j)
-  earlier pairs i j ni h = elim (Contains-cases (v, a) ((v, c) ∷ pairs) (i, j) h) [
-    | inl s ↦ absurd (ni (ap (λ (x : ℕ × ℕ). x.0) (sym s)))
-    | inr k ↦ elim (Contains-cases (v, c) pairs (i, j) k) [
-      | inl s ↦ absurd (ni (ap (λ (x : ℕ × ℕ). x.0) (sym s)))
-      | inr z ↦ z
-    ]
-  ]
-
-  module _ (constraints before after : List (ℕ × ℕ)) (passing : AllPassBut points faces constraints before)
-      (left : (i j : ℕ) → Joins before i j → IsSamePair i j a c ⊎ Joins after i j)
-      (round : (i j : ℕ) → IsRoundSide a b c d i j → i ≢ v → j ≢ v → Joins constraints i j ⊎ Joins after i j) where
-    round_or_spoke : (i j : ℕ) → IsRoundSide a b c d i j → Joins constraints i j ⊎ Joins (more after) i j
-    round_or_spoke i j r = go (cases_eq i v) (cases_eq j v)
-      where
-        go : IsOrNot i v → IsOrNot j v → Joins constraints i j ⊎ Joins (more after) i j
-        go (inl e) _ =
-            let at : (j ≡ a) ⊎ (j ≡ c) = elim (side_ends i j r) [ inl s ↦ s | inr s ↦ absurd (neither_is_point i e s) ] in
-            inr (inl (spoke_there after i j e at))
-        go (inr _) (inl e) =
-            let at : (i ≡ a) ⊎ (i ≡ c) = elim (side_ends i j r) [ inl s ↦ absurd (neither_is_point j e s) | inr s ↦ s ] in
-            inr (inr (spoke_there after j i e at))
-        go (inr ni) (inr nj) = elim (round i j r ni nj) [ inl h ↦ inl h | inr h ↦ inr (joins_later after i j h) ]
-
-    spokes_left : AllPassBut points new constraints (more after)
-    spokes_left = flip_leaves_sides points faces new outer constraints before (more after) a b c d m first second change
-        failing passing
-        (λ i j h. elim (left i j h) [ inl s ↦ inl s | inr z ↦ inr (joins_later after i j z) ]) round_or_spoke
-
-    far_sides_left : AllPassBut points new constraints after
-    far_sides_left i j k l f g free untested = go (cases_eq i v) (cases_eq j v)
-      where
-        at_point : (i ≡ v) ⊎ (j ≡ v) → Pass points i j k l
-        at_point =
-            let mesh = after_flip points faces new outer a b c d m first second change failing in
-            spokes_pass points new outer v mesh still_empty i j k l f g
-
-        go : IsOrNot i v → IsOrNot j v → Pass points i j k l
-        go (inl e) _ = at_point (inl e)
-        go (inr _) (inl e) = at_point (inr e)
-        go (inr ni) (inr nj) = spokes_left i j k l f g free
-            (λ h. untested (elim h [ inl x ↦ inl (earlier after i j ni x) | inr x ↦ inr (earlier after j i nj x) ]))
-
 -- the flip of an edge that fails keeps the circles empty
 pub flip_stays_empty : (points : List Point) (faces new : List Face) (outer : List (ℕ × ℕ)) (a b c d v : ℕ) → LocalMesh points faces outer → IsFaceOf faces a b c → IsFaceOf faces a c d
     → FacesChange faces new (face a b c ∷ face a c d ∷ []) (face a b d ∷ face b c d ∷ []) → InsideCircle (place points a) (place points c) (place points d) (place points b)
     → IsEmptyRound points faces v → IsEmptyRound points new v
 flip_stays_empty points faces new outer a b c d v m first second change failing empty =
     still_empty points faces new outer a b c d v m first second change failing empty
-
--- so the flip of an edge that fails leaves the sides of the quadrilateral to test that do not end at the point
-pub flip_leaves_far_sides : (points : List Point) (faces new : List Face) (outer constraints before after : List (ℕ × ℕ)) (a b c d v : ℕ) → LocalMesh points faces outer → IsFaceOf faces a b c → IsFaceOf faces a c d
-    → FacesChange faces new (face a b c ∷ face a c d ∷ []) (face a b d ∷ face b c d ∷ []) → InsideCircle (place points a) (place points c) (place points d) (place points b)
-    → IsEmptyRound points faces v → AllPassBut points faces constraints before → ((i j : ℕ) → Joins before i j → IsSamePair i j a c ⊎ Joins after i j)
-    → ((i j : ℕ) → IsRoundSide a b c d i j → i ≢ v → j ≢ v → Joins constraints i j ⊎ Joins after i j) → AllPassBut points new constraints after
-flip_leaves_far_sides points faces new outer constraints before after a b c d v m first second change failing empty passing left round =
-    far_sides_left points faces new outer a b c d v m first second change failing empty constraints before after passing left round
 
 -- ---- after the insertion
 -- at first the edges opposite the point are left to test

@@ -81,7 +81,7 @@ abbrev IsNotRight : Point → Point → Point → Type 0
 IsNotRight u v q = pos 0 ≤ℤ bracket (lift u) (lift v) (lift q)
 
 -- a point of a closed triangle that is none of its corners is strictly inside its circle
-pub corner_or_inside_circle : (a b c q : Point) → TurnsLeft (whole a) (whole b) (whole c)
+corner_or_inside_circle : (a b c q : Point) → TurnsLeft (whole a) (whole b) (whole c)
     → InTriangle (whole a) (whole b) (whole c) (whole q) → ¬ (q ≡ a) → ¬ (q ≡ b) → ¬ (q ≡ c)
     → InsideCircle (whole a) (whole b) (whole c) (whole q)
 corner_or_inside_circle a b c q turns within no_a no_b no_c = (inside_is_determinant a b c q turns).1

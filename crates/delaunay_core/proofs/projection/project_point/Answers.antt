@@ -1,6 +1,5 @@
-use Rattle.std.proofs.Common.{◌≡◌, ◌≤◌, sym, subst, w64, to_z, of_z, arith, unsigned_abs}
+use Rattle.std.proofs.Common.{◌≡◌, ◌≤◌, unsigned_abs}
 use Rattle.std.specs.Prelude.{ℤ, ◌-ℤ◌}
-use Rattle.std.proofs.lemmas.Int.{ints}
 use Rattle.plane.specs.Fraction.{Point, whole as fraction}
 use Rattle.plane.specs.Circle.{gap}
 use Rattle.plane.specs.Tests.{InRange}

@@ -1,4 +1,4 @@
-use Rattle.std.proofs.Common.{refl, subst, sym, length, map, ℕ, ◌<◌, ◌≤◌, ◌+◌, ◌^◌, arith}
+use Rattle.std.proofs.Common.{refl, subst, sym, ℕ, ◌<◌, ◌≤◌, ◌+◌, ◌^◌, arith}
 use Rattle.std.proofs.lemmas.List.{length-map}
 use Rattle.plane.specs.Fraction.{whole}
 use Rattle.plane_delaunay.proofs.Circles.Nearest.{nearest_by_neighbours}

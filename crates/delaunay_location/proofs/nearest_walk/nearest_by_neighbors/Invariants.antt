@@ -1,4 +1,3 @@
-use Rattle.std.proofs.Common.{map}
 use Rattle.plane.specs.Fraction.{whole}
 use Rattle.plane_delaunay.specs.Nearer.{nearer_count}
 use Rattle.delaunay_core.specs.Place.{place_of}

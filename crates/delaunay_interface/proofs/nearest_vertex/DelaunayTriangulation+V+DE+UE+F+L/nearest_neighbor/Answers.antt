@@ -1,4 +1,4 @@
-use Rattle.std.proofs.Common.{[], length, ◌<◌, map, sym, subst, ap, ◌∙◌, arith}
+use Rattle.std.proofs.Common.{[], sym, subst, ap, ◌∙◌, arith}
 use Rattle.std.proofs.lemmas.List.{length-map}
 use Rattle.plane.specs.Fraction.{whole}
 use Rattle.plane.specs.Delaunay.{IsConstrainedDelaunay}

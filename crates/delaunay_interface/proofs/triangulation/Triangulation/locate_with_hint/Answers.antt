@@ -1,6 +1,3 @@
-use Rattle.std.proofs.Common.{map, sym, subst}
-use Rattle.std.specs.Prelude.{All}
-use Rattle.delaunay_legalization.specs.Shape.{IsTriangulated}
 use Rattle.delaunay_interface.proofs.Locating.{element_in, finds_in}
 use Rattle.delaunay_interface.proofs.triangulation.Triangulation.locate_with_hint.Goals as goal
 

@@ -1,4 +1,4 @@
-use Rattle.std.proofs.Common.{◌≡◌, ◌∙◌, length, ap, arith}
+use Rattle.std.proofs.Common.{◌∙◌, length, ap, arith}
 use Rattle.delaunay_edit.proofs.Counts.{count_of_edges}
 use Rattle.delaunay_interface.proofs.triangulation.Triangulation.num_directed_edges.Goals as goal
 

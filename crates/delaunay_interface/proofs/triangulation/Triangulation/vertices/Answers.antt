@@ -1,4 +1,4 @@
-use Rattle.std.proofs.Common.{length, ap, ◌+◌}
+use Rattle.std.proofs.Common.{length, ap}
 use Rattle.delaunay_edit.proofs.Counts.{gives_elements}
 use Rattle.delaunay_interface.proofs.triangulation.Triangulation.vertices.Goals as goal
 

@@ -1,5 +1,4 @@
-use Rattle.std.proofs.Common.{length, subst}
-use Rattle.delaunay_legalization.specs.Flips.{FlipsFit}
+use Rattle.std.proofs.Common.{length}
 use Rattle.delaunay_legalization.proofs.Flips.{few_flips_fit}
 use Rattle.delaunay_interface.proofs.triangulation_core.TriangulationCore.insert_hinted.Goals as goal
 

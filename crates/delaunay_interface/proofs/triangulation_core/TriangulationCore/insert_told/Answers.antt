@@ -1,6 +1,5 @@
-use Rattle.std.proofs.Common.{◌∙◌, ◌+◌, ◌<◌, length, map, sym, subst, inl, inr, arith}
+use Rattle.std.proofs.Common.{◌∙◌, sym, subst, inl, inr, arith}
 use mathlib.Core.Logic.{⊎_elim}
-use Rattle.std.specs.Prelude.{All}
 use Rattle.delaunay_edit.specs.Headline.{AreSites}
 use Rattle.delaunay_interface.proofs.Held.{held_are_sites, inserted_in_range, listed_then}
 use Rattle.delaunay_interface.proofs.triangulation_core.TriangulationCore.insert_told.Goals as goal

@@ -1,4 +1,4 @@
-use Rattle.std.proofs.Common.{rules, w64, SFits}
+use Rattle.std.proofs.Common.{rules}
 use Rattle.plane.specs.Fraction.{whole}
 use Rattle.plane.proofs.Nearer.{gap_not_negative}
 use Rattle.delaunay_core.specs.Place.{place_of}

@@ -13,3 +13,21 @@ returns-clause-outline g c = rw (← c.self.view_is) c.flip.ensures.outline
 
 pub returns-clause-contents : goal.returns-clause-contents
 returns-clause-contents g c = rw (← c.self.view_is, c.flip.ensures.room) refl
+
+pub flip-requires-clause-flippable : goal.flip-requires-clause-flippable
+flip-requires-clause-flippable g c =
+    rw (c.index.ensures, c.as_directed.ensures) (rw (← c.self.view_is) at c.requires.flippable)
+
+pub flip-requires-clause-corners : goal.flip-requires-clause-corners
+flip-requires-clause-corners g c =
+    rw (c.index.ensures, c.as_directed.ensures) (rw (← c.self.view_is) at c.requires.corners)
+
+pub returns-clause-mesh : goal.returns-clause-mesh
+returns-clause-mesh g c = rw (← c.self.view_is) (rw (c.index.ensures, c.as_directed.ensures) at c.flip.ensures.mesh)
+
+pub returns-clause-triangles : goal.returns-clause-triangles
+returns-clause-triangles g c =
+    rw (← c.self.view_is) (rw (c.index.ensures, c.as_directed.ensures) at c.flip.ensures.triangles)
+
+pub returns-clause-outer : goal.returns-clause-outer
+returns-clause-outer g c = rw (← c.self.view_is) c.flip.ensures.outer

@@ -1,8 +1,8 @@
-use Rattle.std.proofs.Common.{refl, ap, ◌∙◌, arith}
+use Rattle.std.proofs.Common.{◌≡◌, refl, length, ap, ◌∙◌, arith}
 use Rattle.half_edge_links.specs.contracts.links.Links.{the_view}
-use Rattle.half_edge_links.specs.Mesh.{Mesh, IsInnerEdge, edge_at}
-use Rattle.half_edge_links.specs.Insert.{insert_by}
-use Rattle.half_edge_links.proofs.Faces.InsertLemmas.{insert_by-is, inserts_is}
+use Rattle.half_edge_links.specs.Mesh.{Mesh, edge_at}
+use Rattle.half_edge_links.specs.Insert.{insert_by, inserted}
+use Rattle.half_edge_links.proofs.Faces.InsertLemmas.{inserts_is}
 use Rattle.half_edge_links.proofs.Sound.Valid.{valid_as, valid_inserted}
 use Rattle.half_edge_links.proofs.Faces.InsertTriangles.{triangles_inserted}
 use Rattle.half_edge_links.proofs.Faces.KeepsOuter.{outer_inserted}
@@ -11,18 +11,13 @@ use Rattle.half_edge_links.proofs.OuterLoop.Outline.{outline_inserted}
 use Rattle.half_edge_links.proofs.links.Links.insert_beside.Goals as goal
 
 pub returns-clause-mesh : goal.returns-clause-mesh
-unfolding insert_by
+unfolding inserted insert_by
 returns-clause-mesh c =
     let m : Mesh = (the_view c.self.inside).mesh in
-    let inner : IsInnerEdge m c.args.edge = rw (← c.self.view_is) at c.requires.inner in
-    rw (c.push_reserved-6.ensures.items, c.push_reserved-5.ensures.items, c.push_reserved-4.ensures.items, c.push_reserved-3.ensures.items, c.push_reserved-2.ensures.items, c.push_reserved.ensures.items, c.push_reserved-8.ensures.items, c.push_reserved-7.ensures.items, ← c.self.view_is)
-    (insert_by-is m c.args.v c.read-first.result.face c.len-n.result c.len-g.result c.args.edge c.read-first.result c.read-second.result c.read-third.result
-    (omega arith)
-    (omega arith)
-    (c.read-first.ensures ∙ ap (λ hs. edge_at hs c.args.edge) c.deref.ensures.value)
-    refl
-    (c.read-second.ensures ∙ ap (λ hs. edge_at hs c.read-first.result.next) c.deref-2.ensures.value)
-    (c.read-third.ensures ∙ ap (λ hs. edge_at hs c.read-first.result.prev) c.deref-3.ensures.value))
+    let n_is : c.len-n.result ≡ length m.half_edges = omega arith in
+    let g_is : c.len-g.result ≡ length m.face_edges = omega arith in
+    let first : c.read-first.result ≡ edge_at m.half_edges c.args.edge = c.read-first.ensures ∙ ap (λ hs. edge_at hs c.args.edge) c.deref.ensures.value in
+    rw (← c.self.view_is, c.push_reserved-2.ensures.items, c.push_reserved.ensures.items, c.fan_edges.ensures.items, first, n_is, g_is) (refl {a = inserted m c.args.v c.args.edge})
 
 pub invariant_of-self : goal.invariant_of-self
 invariant_of-self c =
