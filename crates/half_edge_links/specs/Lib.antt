@@ -14,4 +14,6 @@ pub mod Flow
 pub mod Round
 pub mod Hull
 pub mod Pass
+pub mod Inside
+pub mod Shrunk
 pub mod Copied

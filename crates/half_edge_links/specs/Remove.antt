@@ -6,6 +6,12 @@ use Rattle.half_edge_links.specs.declared.records.HalfEdge.{HalfEdge}
 use Rattle.half_edge_links.specs.Mesh.{Mesh, no_edge, edge_at, origin, next, prev, face, face_edge, out_edge, rev, IsSoundEdge}
 use Rattle.half_edge_links.specs.Grow.{with_next, with_prev, with_face}
 
+-- directed edge h is in a list, and so are the edges before and after it
+pub record IsLinkedWithin (hs : List HalfEdge) (h : ℕ) : Type 0 where
+  pub edge : h < length hs
+  pub next : (edge_at hs h).next < length hs
+  pub prev : (edge_at hs h).prev < length hs
+
 -- the three edges round the triangle of h get face f
 unfoldable pub with_loop_face : List HalfEdge → ℕ → ℕ → List HalfEdge
 with_loop_face hs h f = with_face (with_face (with_face hs h f) (edge_at hs h).next f) (edge_at hs h).prev f

@@ -1,8 +1,8 @@
 //! Writes to the lists of a mesh that take an edge, a face or a vertex out of it.
 ghost use Rattle.std.specs.Prelude.{◌≡◌, ◌≢◌, ℕ, ◌+◌, ◌-◌, ◌<◌, ◌≤◌};
 ghost use Rattle.std.specs.Prelude.{length, Option, Some, None, vec_capacity};
-ghost use Rattle.half_edge_links.specs.Mesh.{edge_at};
-ghost use Rattle.half_edge_links.specs.Remove.{with_loop_face, with_unlinked, with_filled};
+ghost use Rattle.half_edge_links.specs.Remove.{IsLinkedWithin, with_loop_face, with_unlinked};
+ghost use Rattle.half_edge_links.specs.Remove.{with_filled};
 ghost use Rattle.half_edge_links.specs.Remove.{with_out_renamed, with_face_renamed, out_after};
 ghost use Rattle.half_edge_links.specs.Remove.{outer_beside, outer_after};
 ghost use Rattle.half_edge_links.specs.Move.{CanWalk, MovesOrigins, MovesNamed};
@@ -13,9 +13,7 @@ use crate::records::{HalfEdge, read, reversed, set_face, set_next, set_origin, s
 
 // The three directed edges round the triangle of `h` get this face.
 pub(crate) fn set_loop_face(half_edges: &mut Vec<HalfEdge>, h: u32, face: u32)
-    requires edge { h < length half_edges.old.items }
-    requires next { (edge_at half_edges.old.items h).next < length half_edges.old.items }
-    requires prev { (edge_at half_edges.old.items h).prev < length half_edges.old.items }
+    requires { IsLinkedWithin half_edges.old.items h }
     ensures items { half_edges.new.items ≡ with_loop_face half_edges.old.items h face }
     ensures len { length half_edges.new.items ≡ length half_edges.old.items }
     ensures capacity { vec_capacity half_edges.new ≡ vec_capacity half_edges.old }
@@ -28,12 +26,8 @@ pub(crate) fn set_loop_face(half_edges: &mut Vec<HalfEdge>, h: u32, face: u32)
 
 // Takes edge `e`, with other side `t`, out of its loops. Each side is left as a loop of its own.
 pub(crate) fn unlink(half_edges: &mut Vec<HalfEdge>, e: u32, t: u32)
-    requires edge { e < length half_edges.old.items }
-    requires twin { t < length half_edges.old.items }
-    requires edge_next { (edge_at half_edges.old.items e).next < length half_edges.old.items }
-    requires edge_prev { (edge_at half_edges.old.items e).prev < length half_edges.old.items }
-    requires twin_next { (edge_at half_edges.old.items t).next < length half_edges.old.items }
-    requires twin_prev { (edge_at half_edges.old.items t).prev < length half_edges.old.items }
+    requires edge { IsLinkedWithin half_edges.old.items e }
+    requires twin { IsLinkedWithin half_edges.old.items t }
     ensures items { half_edges.new.items ≡ with_unlinked half_edges.old.items e t }
     ensures len { length half_edges.new.items ≡ length half_edges.old.items }
     ensures capacity { vec_capacity half_edges.new ≡ vec_capacity half_edges.old }
@@ -55,12 +49,8 @@ pub(crate) fn fill(half_edges: &mut Vec<HalfEdge>, last: u32, hole: u32)
     requires last { length half_edges.old.items ≡ last + 2 }
     requires hole { hole + 1 < length half_edges.old.items }
     requires small { length half_edges.old.items ≤ MAX_ELEMENTS }
-    requires even_next { (edge_at half_edges.old.items last).next < length half_edges.old.items }
-    requires even_prev { (edge_at half_edges.old.items last).prev < length half_edges.old.items }
-    requires odd_next { (edge_at half_edges.old.items (last + 1)).next <
-        length half_edges.old.items }
-    requires odd_prev { (edge_at half_edges.old.items (last + 1)).prev <
-        length half_edges.old.items }
+    requires even { IsLinkedWithin half_edges.old.items last }
+    requires odd { IsLinkedWithin half_edges.old.items (last + 1) }
     requires apart { hole ≢ last + 1 }
     ensures items { half_edges.new.items ≡ with_filled half_edges.old.items last hole }
     ensures capacity { vec_capacity half_edges.new ≡ vec_capacity half_edges.old }

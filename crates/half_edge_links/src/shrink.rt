@@ -1,18 +1,13 @@
 //! Taking edges, faces and vertices out of a mesh.
-ghost use Rattle.std.specs.Prelude.{◌≡◌, ◌+◌, ◌-◌, ◌<◌, length};
-ghost use Rattle.half_edge_links.specs.Hull.{KeepsOneOutline, IsPendant};
-ghost use Rattle.half_edge_links.specs.Mesh.{origin, next, prev, face, rev, IsInner, IsAlone};
-ghost use Rattle.half_edge_links.specs.Mesh.{AreSoundLinks};
-ghost use Rattle.half_edge_links.specs.Triangles.{triangles};
-ghost use Rattle.half_edge_links.specs.Outline.{ends, AddsTriangle};
-ghost use Rattle.half_edge_links.specs.Taken.{RemovesTriangle, RemovesEnds, OpensOuter};
-ghost use Rattle.half_edge_links.specs.Taken.{ClosesLoopOuter, RemovesOuter, PeelsOuter};
+ghost use Rattle.std.specs.Prelude.{◌≡◌, ◌-◌, ◌<◌, length};
+ghost use Rattle.half_edge_links.specs.Hull.{KeepsOneOutline};
+ghost use Rattle.half_edge_links.specs.Mesh.{prev, rev, IsInner, IsAlone, AreSoundLinks};
 ghost use Rattle.half_edge_links.specs.Taken.{MovesTriangles, MovesEnds, MovesOuter};
 ghost use Rattle.half_edge_links.specs.Room.{HasFaceRoom};
-ghost use Rattle.half_edge_links.specs.Remove.{opened, Opens, removed, Removes, IsRemovable};
-ghost use Rattle.half_edge_links.specs.Remove.{IsOpenTriangle, loop_closed, ClosesLoop};
-ghost use Rattle.half_edge_links.specs.Remove.{after_removal};
-ghost use Rattle.half_edge_links.specs.Peel.{IsPeelable, Peels};
+ghost use Rattle.half_edge_links.specs.Remove.{opened, removed, IsRemovable};
+ghost use Rattle.half_edge_links.specs.Remove.{IsOpenTriangle, loop_closed, after_removal};
+ghost use Rattle.half_edge_links.specs.Peel.{IsPeelable};
+ghost use Rattle.half_edge_links.specs.Shrunk.{OpensFace, ClosesFace, RemovesEdge, PeelsEdge};
 ghost use Rattle.half_edge_links.specs.Move.{MovesVertex};
 
 use crate::links::Links;
@@ -27,10 +22,7 @@ impl Links {
     pub fn open_face(&mut self, f: u32)
         requires { IsInner self.old.mesh f }
         ensures mesh { self.new.mesh ≡ opened self.old.mesh f }
-        ensures opens { Opens self.old.mesh self.new.mesh f }
-        ensures triangles { RemovesTriangle self.old.mesh self.new.mesh f }
-        ensures ends { ends self.new.mesh ≡ ends self.old.mesh }
-        ensures outer { OpensOuter self.old.mesh self.new.mesh f }
+        ensures opens { OpensFace self.old.mesh self.new.mesh f }
         ensures spare { HasFaceRoom self.new.mesh self.new.room 1 }
         ensures room { self.new.room ≡ self.old.room }
         ensures sound { AreSoundLinks self.old.mesh }
@@ -47,11 +39,7 @@ impl Links {
         requires open { IsOpenTriangle self.old.mesh h }
         requires room { HasFaceRoom self.old.mesh self.old.room 1 }
         ensures mesh { self.new.mesh ≡ loop_closed self.old.mesh h }
-        ensures closes { ClosesLoop self.old.mesh self.new.mesh h }
-        ensures triangles { let m = self.old.mesh in
-            AddsTriangle m self.new.mesh (origin m h) (origin m (next m h)) (origin m (prev m h)) }
-        ensures ends { ends self.new.mesh ≡ ends self.old.mesh }
-        ensures outer { ClosesLoopOuter self.old.mesh self.new.mesh h }
+        ensures closes { ClosesFace self.old.mesh self.new.mesh h }
         ensures room { self.new.room ≡ self.old.room }
         ensures sound { AreSoundLinks self.old.mesh }
     {
@@ -64,13 +52,9 @@ impl Links {
     pub fn remove_edge(&mut self, e: u32)
         requires { IsRemovable self.old.mesh e }
         ensures mesh { self.new.mesh ≡ removed self.old.mesh e }
-        ensures removes { Removes self.old.mesh self.new.mesh e }
-        ensures triangles { triangles self.new.mesh ≡ triangles self.old.mesh }
-        ensures ends { RemovesEnds self.old.mesh self.new.mesh e }
-        ensures outer { RemovesOuter self.old.mesh self.new.mesh e }
+        ensures removes { RemovesEdge self.old.mesh self.new.mesh e }
         ensures room { self.new.room ≡ self.old.room }
         ensures sound { AreSoundLinks self.old.mesh }
-        ensures outline { IsPendant self.old.mesh e → KeepsOneOutline self.old.mesh self.new.mesh }
     {
         let t = reversed(e);
         let edge = read(&self.half_edges, e);
@@ -106,14 +90,10 @@ impl Links {
     /// origin of `h`.
     pub fn peel(&mut self, h: u32) -> u32
         requires { IsPeelable self.old.mesh h }
-        ensures peels { Peels self.old.mesh self.new.mesh h }
-        ensures triangles { RemovesTriangle self.old.mesh self.new.mesh (face self.old.mesh h) }
-        ensures ends { RemovesEnds self.old.mesh self.new.mesh h }
-        ensures outer { PeelsOuter self.old.mesh self.new.mesh h }
+        ensures peels { PeelsEdge self.old.mesh self.new.mesh h }
         ensures room { self.new.room ≡ self.old.room }
         ensures sound { AreSoundLinks self.old.mesh }
         ensures spoke { result ≡ after_removal self.old.mesh h (rev (prev self.old.mesh h)) }
-        ensures outline { KeepsOneOutline self.old.mesh self.new.mesh }
     {
         let edge = self.half_edge(h);
         let spoke = self.index_after_removal(h, reversed(edge.prev));

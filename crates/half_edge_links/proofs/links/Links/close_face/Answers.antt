@@ -8,15 +8,11 @@ use Rattle.half_edge_links.proofs.Removing.ShrinkTriangles.{triangles_closed}
 use Rattle.half_edge_links.proofs.Removing.TakenLists.{ends_loop_closed, closes_outer}
 use Rattle.half_edge_links.proofs.links.Links.close_face.Goals as goal
 
-pub set_loop_face-requires-clause-next : goal.set_loop_face-requires-clause-next
-set_loop_face-requires-clause-next c =
+pub set_loop_face-requires : goal.set_loop_face-requires
+set_loop_face-requires c =
     let can : IsOpenTriangle (the_view c.self.inside).mesh c.args.h = rw (← c.self.view_is) at c.requires.open in
-    (round (the_view c.self.inside).mesh c.args.h c.self.invariant.sound can).next_in
-
-pub set_loop_face-requires-clause-prev : goal.set_loop_face-requires-clause-prev
-set_loop_face-requires-clause-prev c =
-    let can : IsOpenTriangle (the_view c.self.inside).mesh c.args.h = rw (← c.self.view_is) at c.requires.open in
-    (round (the_view c.self.inside).mesh c.args.h c.self.invariant.sound can).prev_in
+    let at = round (the_view c.self.inside).mesh c.args.h c.self.invariant.sound can in
+    record { edge = can.within; next = at.next_in; prev = at.prev_in }
 
 pub returns-clause-mesh : goal.returns-clause-mesh
 unfolding loop_closed
@@ -27,21 +23,19 @@ returns-clause-mesh c =
 
 pub returns-clause-closes : goal.returns-clause-closes
 returns-clause-closes c =
-    let can : IsOpenTriangle (the_view c.self.inside).mesh c.args.h = rw (← c.self.view_is) at c.requires.open in
-    rw (returns-clause-mesh c, ← c.self.view_is) (closes (the_view c.self.inside).mesh c.args.h c.self.invariant.sound can)
+    let m : Mesh = (the_view c.self.inside).mesh in
+    let can : IsOpenTriangle m c.args.h = rw (← c.self.view_is) at c.requires.open in
+    let links = rw (← (rw (← c.self.view_is) at (returns-clause-mesh c))) at (closes m c.args.h c.self.invariant.sound can) in
+    rw (← c.self.view_is) (record {
+      links = links;
+      ends = ends_loop_closed m _ c.args.h links;
+      corners = triangles_closed m _ c.args.h links;
+      outer = closes_outer m _ c.args.h can links;
+    })
 
 pub invariant_of-self : goal.invariant_of-self
 invariant_of-self c =
     let m : Mesh = (the_view c.self.inside).mesh in
     let can : IsOpenTriangle m c.args.h = rw (← c.self.view_is) at c.requires.open in
     let room = rw (← c.self.view_is) at c.requires.room in
-    valid_loop_closed m _ c.args.h c.self.invariant can (rw (← c.self.view_is) at (returns-clause-closes c)) (omega (arith, room))
-
-pub returns-clause-triangles : goal.returns-clause-triangles
-returns-clause-triangles c = rw (← c.self.view_is) (triangles_closed (the_view c.self.inside).mesh _ c.args.h (rw (← c.self.view_is) at (returns-clause-closes c)))
-
-pub returns-clause-ends : goal.returns-clause-ends
-returns-clause-ends c = rw (← c.self.view_is) (ends_loop_closed (the_view c.self.inside).mesh _ c.args.h (rw (← c.self.view_is) at (returns-clause-closes c)))
-
-pub returns-clause-outer : goal.returns-clause-outer
-returns-clause-outer c = rw (← c.self.view_is) (closes_outer (the_view c.self.inside).mesh _ c.args.h (rw (← c.self.view_is) at c.requires.open) (rw (← c.self.view_is) at (returns-clause-closes c)))
+    valid_loop_closed m _ c.args.h c.self.invariant can (rw (← c.self.view_is) at (returns-clause-closes c)).links (omega (arith, room))

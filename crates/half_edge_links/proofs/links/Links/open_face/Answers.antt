@@ -24,14 +24,16 @@ returns c =
     let o = rw (← mesh) at (opens m c.args.f s inner) in
     rw (← c.self.view_is) (record {
       mesh = mesh;
-      opens = o;
-      triangles = removes_triangle m _ c.args.f inner o;
-      ends = ends_opened m _ c.args.f o;
-      outer = opens_outer m _ c.args.f s inner o;
+      opens = record {
+        links = o;
+        ends = ends_opened m _ c.args.f o;
+        corners = removes_triangle m _ c.args.f inner o;
+        outer = opens_outer m _ c.args.f s inner o;
+      };
       spare = search rules;
       room = search rules;
       sound = s;
     })
 
 pub invariant_of-self : goal.invariant_of-self
-invariant_of-self c = valid_opened (the_view c.self.inside).mesh _ c.args.f c.self.invariant (rw (← c.self.view_is) at c.requires) (rw (← c.self.view_is) at (returns c).opens)
+invariant_of-self c = valid_opened (the_view c.self.inside).mesh _ c.args.f c.self.invariant (rw (← c.self.view_is) at c.requires) (rw (← c.self.view_is) at (returns c).opens.links)

@@ -1,6 +1,7 @@
 use Rattle.std.proofs.Common.{◌≡◌, length, arith, rules}
 use Rattle.std.proofs.lemmas.List.{length-set}
 use Rattle.half_edge_links.specs.contracts.links.Links.{the_view}
+use Rattle.half_edge_links.specs.Mesh.{Mesh}
 use Rattle.half_edge_links.specs.Remove.{unlinked, filled}
 use Rattle.half_edge_links.proofs.Removing.Conditions.{unlinkable}
 use Rattle.half_edge_links.proofs.Removing.RemoveSound.{last_in_range, removes, sound_removed}
@@ -37,10 +38,8 @@ fill-requires c =
       last = search rules;
       hole = search rules;
       small = search rules;
-      even_next = r.0.next_in;
-      even_prev = r.0.prev_in;
-      odd_next = r.1.next_in;
-      odd_prev = r.1.prev_in;
+      even = record { edge = search rules; next = r.0.next_in; prev = r.0.prev_in };
+      odd = record { edge = search rules; next = r.1.next_in; prev = r.1.prev_in };
       apart = search rules;
     }
 
@@ -52,31 +51,19 @@ returns-clause-mesh c =
 
 pub returns-clause-removes : goal.returns-clause-removes
 returns-clause-removes c =
-    let can = unlinkable (the_view c.self.inside).mesh c.args.e c.self.invariant (rw (← c.self.view_is) at c.requires) in
-    rw (returns-clause-mesh c, ← c.self.view_is) (removes (the_view c.self.inside).mesh c.args.e c.self.invariant.sound can)
+    let m : Mesh = (the_view c.self.inside).mesh in
+    let s = c.self.invariant.sound in
+    let can = unlinkable m c.args.e c.self.invariant (rw (← c.self.view_is) at c.requires) in
+    let links = rw (← (rw (← c.self.view_is) at (returns-clause-mesh c))) at (removes m c.args.e s can) in
+    let sound = sound_removed _ _ c.args.e links in
+    rw (← c.self.view_is) (record {
+      links = links;
+      ends = removes_ends m _ c.args.e s can links sound;
+      corners = triangles_removed m _ c.args.e s can links;
+      outer = removes_outer m _ c.args.e s can links sound;
+      outline = outline_removed m _ c.args.e s can links;
+    })
 
 pub invariant_of-self : goal.invariant_of-self
 invariant_of-self c =
-    valid_removed (the_view c.self.inside).mesh _ c.args.e c.self.invariant (rw (← c.self.view_is) at c.requires) (rw (← c.self.view_is) at (returns-clause-removes c))
-
-pub returns-clause-triangles : goal.returns-clause-triangles
-returns-clause-triangles c =
-    let can = unlinkable (the_view c.self.inside).mesh c.args.e c.self.invariant (rw (← c.self.view_is) at c.requires) in
-    rw (← c.self.view_is) (triangles_removed (the_view c.self.inside).mesh _ c.args.e c.self.invariant.sound can (rw (← c.self.view_is) at (returns-clause-removes c)))
-
-pub returns-clause-ends : goal.returns-clause-ends
-returns-clause-ends c =
-    let can = unlinkable (the_view c.self.inside).mesh c.args.e c.self.invariant (rw (← c.self.view_is) at c.requires) in
-    let r = rw (← c.self.view_is) at (returns-clause-removes c) in
-    rw (← c.self.view_is) (removes_ends (the_view c.self.inside).mesh _ c.args.e c.self.invariant.sound can r (sound_removed _ _ c.args.e r))
-
-pub returns-clause-outer : goal.returns-clause-outer
-returns-clause-outer c =
-    let can = unlinkable (the_view c.self.inside).mesh c.args.e c.self.invariant (rw (← c.self.view_is) at c.requires) in
-    let r = rw (← c.self.view_is) at (returns-clause-removes c) in
-    rw (← c.self.view_is) (removes_outer (the_view c.self.inside).mesh _ c.args.e c.self.invariant.sound can r (sound_removed _ _ c.args.e r))
-
-pub returns-clause-outline : goal.returns-clause-outline
-returns-clause-outline c =
-    let can = unlinkable (the_view c.self.inside).mesh c.args.e c.self.invariant (rw (← c.self.view_is) at c.requires) in
-    rw (← c.self.view_is) (outline_removed (the_view c.self.inside).mesh _ c.args.e c.self.invariant.sound can (rw (← c.self.view_is) at (returns-clause-removes c)))
+    valid_removed (the_view c.self.inside).mesh _ c.args.e c.self.invariant (rw (← c.self.view_is) at c.requires) (rw (← c.self.view_is) at (returns-clause-removes c)).links
