@@ -8,7 +8,7 @@ use Rattle.half_edge_links.specs.Taken.{RemovesTriangle, RemovesEnds, OpensOuter
 use Rattle.half_edge_links.specs.Remove.{Opens, ClosesLoop, Removes}
 use Rattle.half_edge_links.specs.Peel.{Peels}
 
--- face f is given to the outer face: the links, the corners of the faces, the ends of the edges and the outer
+-- face f is given to the outer face: the links, the ends of the edges, the corners of the faces and the outer
 -- edges
 pub record OpensFace (old new : Mesh) (f : ℕ) : Type 0 where
   pub links : Opens old new f
@@ -16,7 +16,7 @@ pub record OpensFace (old new : Mesh) (f : ℕ) : Type 0 where
   pub corners : RemovesTriangle old new f
   pub outer : OpensOuter old new f
 
--- the loop of h is made a new last face: the links, its corners, the ends of the edges and the outer edges
+-- the loop of h is made a new last face: the links, the ends of the edges, its corners and the outer edges
 pub record ClosesFace (old new : Mesh) (h : ℕ) : Type 0 where
   pub links : ClosesLoop old new h
   pub ends : ends new ≡ ends old

@@ -1,15 +1,13 @@
 //! Changes inside the outer loop: an edge is turned, a vertex is put into a face or on an edge.
 ghost use Rattle.std.specs.Prelude.{◌≡◌, ◌≢◌, ◌+◌, ◌-◌, ◌<◌, ◌≤◌, length, Some};
 ghost use Rattle.std.specs.Prelude.{vec_capacity};
-ghost use Rattle.half_edge_links.specs.Hull.{KeepsOneOutline};
-ghost use Rattle.half_edge_links.specs.Mesh.{face, origin, next, prev, rev, IsInnerEdge, IsAlone};
+ghost use Rattle.half_edge_links.specs.Mesh.{origin, prev, rev, IsInnerEdge, IsAlone};
 ghost use Rattle.half_edge_links.specs.Mesh.{edge_at, AreSoundLinks};
-ghost use Rattle.half_edge_links.specs.Flip.{Flips, IsFlippable, flipped, turn_by};
-ghost use Rattle.half_edge_links.specs.Insert.{Inserts, inserted, fan_by};
+ghost use Rattle.half_edge_links.specs.Flip.{IsFlippable, flipped, turn_by};
+ghost use Rattle.half_edge_links.specs.Insert.{inserted, fan_by};
+ghost use Rattle.half_edge_links.specs.Inside.{FlipsEdge, InsertsBeside, SplitsInnerEdge};
+ghost use Rattle.half_edge_links.specs.Remove.{IsLinkedWithin};
 ghost use Rattle.half_edge_links.specs.Room.{HasEdgeRoom, HasFaceRoom};
-ghost use Rattle.half_edge_links.specs.Triangles.{triangles, FlipsTriangles, InsertsTriangles};
-ghost use Rattle.half_edge_links.specs.Triangles.{SplitsTriangles};
-ghost use Rattle.half_edge_links.specs.Outline.{KeepsOuter, MovesEdge, InsertsEnds, SplitsEnds};
 
 use crate::links::Links;
 use crate::records::{HalfEdge, read, reversed};
@@ -29,12 +27,8 @@ fn linked(origin: u32, next: u32, prev: u32, face: u32) -> HalfEdge
 
 // Turns edge `e`, with other side `t`, in the list: the six edges round it get new links.
 fn turn_edges(half_edges: &mut Vec<HalfEdge>, e: u32, t: u32)
-    requires e { e < length half_edges.old.items }
-    requires t { t < length half_edges.old.items }
-    requires e_next { (edge_at half_edges.old.items e).next < length half_edges.old.items }
-    requires e_prev { (edge_at half_edges.old.items e).prev < length half_edges.old.items }
-    requires t_next { (edge_at half_edges.old.items t).next < length half_edges.old.items }
-    requires t_prev { (edge_at half_edges.old.items t).prev < length half_edges.old.items }
+    requires edge { IsLinkedWithin half_edges.old.items e }
+    requires twin { IsLinkedWithin half_edges.old.items t }
     ensures items { let hs = half_edges.old.items in let edge = edge_at hs e in
         let twin = edge_at hs t in
         half_edges.new.items ≡ turn_by hs e t edge twin (edge_at hs edge.next)
@@ -58,9 +52,7 @@ fn turn_edges(half_edges: &mut Vec<HalfEdge>, e: u32, t: u32)
 // Puts vertex `v` into the loop of `edge`, with three edges to it and back. The part of `edge` keeps
 // its face, and the two others become faces `g + 1` and `g + 2`.
 fn fan_edges(half_edges: &mut Vec<HalfEdge>, v: u32, edge: u32, g: u32)
-    requires within { edge < length half_edges.old.items }
-    requires next_within { (edge_at half_edges.old.items edge).next < length half_edges.old.items }
-    requires prev_within { (edge_at half_edges.old.items edge).prev < length half_edges.old.items }
+    requires within { IsLinkedWithin half_edges.old.items edge }
     requires room { length half_edges.old.items + 6 ≤ vec_capacity half_edges.old }
     requires small { length half_edges.old.items + 6 ≤ MAX_ELEMENTS }
     requires few { g + 2 ≤ MAX_ELEMENTS }
@@ -93,13 +85,7 @@ impl Links {
         ensures mesh { self.new.mesh ≡ flipped self.old.mesh e }
         ensures room { self.new.room ≡ self.old.room }
         ensures sound { AreSoundLinks self.old.mesh }
-        ensures links { Flips self.old.mesh self.new.mesh e }
-        ensures ends { MovesEdge self.old.mesh self.new.mesh e
-            (origin self.old.mesh (prev self.old.mesh e))
-            (origin self.old.mesh (prev self.old.mesh (rev e))) }
-        ensures triangles { FlipsTriangles self.old.mesh self.new.mesh e }
-        ensures outer { KeepsOuter self.old.mesh self.new.mesh }
-        ensures outline { KeepsOneOutline self.old.mesh self.new.mesh }
+        ensures flips { FlipsEdge self.old.mesh self.new.mesh e }
     {
         let t = reversed(e);
         let edge = read(&self.half_edges, e);
@@ -120,13 +106,7 @@ impl Links {
         ensures mesh { self.new.mesh ≡ inserted self.old.mesh v edge }
         ensures room { self.new.room ≡ self.old.room }
         ensures sound { AreSoundLinks self.old.mesh }
-        ensures links { let m = self.old.mesh in
-            Inserts m self.new.mesh v (face m edge) edge (length m.half_edges)
-            (length m.face_edges) }
-        ensures ends { InsertsEnds self.old.mesh self.new.mesh v edge }
-        ensures triangles { InsertsTriangles self.old.mesh self.new.mesh v edge }
-        ensures outer { KeepsOuter self.old.mesh self.new.mesh }
-        ensures outline { KeepsOneOutline self.old.mesh self.new.mesh }
+        ensures inserts { InsertsBeside self.old.mesh self.new.mesh v edge }
     {
         let n = self.half_edges.len() as u32;
         let g = self.face_edges.len() as u32;
@@ -148,10 +128,7 @@ impl Links {
         ensures mesh { self.new.mesh ≡ flipped (inserted self.old.mesh v edge) edge }
         ensures room { self.new.room ≡ self.old.room }
         ensures sound { AreSoundLinks self.old.mesh }
-        ensures ends { SplitsEnds self.old.mesh self.new.mesh edge v }
-        ensures triangles { SplitsTriangles self.old.mesh self.new.mesh v edge }
-        ensures outer { KeepsOuter self.old.mesh self.new.mesh }
-        ensures outline { KeepsOneOutline self.old.mesh self.new.mesh }
+        ensures splits { SplitsInnerEdge self.old.mesh self.new.mesh v edge }
     {
         self.insert_beside(v, edge);
         self.flip(edge);

@@ -5,11 +5,11 @@ use Rattle.half_edge_dcel.proofs.dcel.Dcel.flip_cw.Goals as goal
 pub returns-clause-edges : goal.returns-clause-edges
 returns-clause-edges g c =
     let half : (2 * c.args.edge) / 2 ≡ c.args.edge = omega arith in
-    let ends_are = rw (c.index.ensures, c.as_directed.ensures, half, along-even) at c.flip.ensures.ends in
+    let ends_are = rw (c.index.ensures, c.as_directed.ensures, half, along-even) at c.flip.ensures.flips.ends in
     rw (← c.self.view_is, ends_are) (edges_of-set _ _ _ _)
 
 pub returns-clause-outline : goal.returns-clause-outline
-returns-clause-outline g c = rw (← c.self.view_is) c.flip.ensures.outline
+returns-clause-outline g c = rw (← c.self.view_is) c.flip.ensures.flips.outline
 
 pub returns-clause-contents : goal.returns-clause-contents
 returns-clause-contents g c = rw (← c.self.view_is, c.flip.ensures.room) refl
@@ -27,7 +27,7 @@ returns-clause-mesh g c = rw (← c.self.view_is) (rw (c.index.ensures, c.as_dir
 
 pub returns-clause-triangles : goal.returns-clause-triangles
 returns-clause-triangles g c =
-    rw (← c.self.view_is) (rw (c.index.ensures, c.as_directed.ensures) at c.flip.ensures.triangles)
+    rw (← c.self.view_is) (rw (c.index.ensures, c.as_directed.ensures) at c.flip.ensures.flips.corners)
 
 pub returns-clause-outer : goal.returns-clause-outer
-returns-clause-outer g c = rw (← c.self.view_is) c.flip.ensures.outer
+returns-clause-outer g c = rw (← c.self.view_is) c.flip.ensures.flips.outer

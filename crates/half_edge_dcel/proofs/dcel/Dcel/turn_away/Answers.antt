@@ -20,4 +20,4 @@ flip-requires-clause-corners g c =
     rw is (turn_corners m c.args.first c.half_edge.ensures.valid can.within can.before can.corners)
 
 pub returns-clause-outline : goal.returns-clause-outline
-returns-clause-outline g c = rw (← c.self.view_is) c.flip.ensures.outline
+returns-clause-outline g c = rw (← c.self.view_is) c.flip.ensures.flips.outline

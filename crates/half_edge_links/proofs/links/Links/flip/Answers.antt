@@ -22,22 +22,17 @@ pub invariant_of-self : goal.invariant_of-self
 invariant_of-self c =
     valid_as _ _ (rw (← c.self.view_is) at (returns-clause-mesh c)) (valid_flipped (the_view c.self.inside).mesh c.args.e c.self.invariant (rw (← c.self.view_is) at c.requires.flippable) (rw (← c.self.view_is) at c.requires.corners))
 
-pub returns-clause-links : goal.returns-clause-links
-returns-clause-links c =
-    rw (← c.self.view_is) (flips_is (the_view c.self.inside).mesh _ c.args.e c.self.invariant.sound (rw (← c.self.view_is) at c.requires.flippable) (rw (← c.self.view_is) at (returns-clause-mesh c)))
-
-pub returns-clause-ends : goal.returns-clause-ends
-returns-clause-ends c =
-    rw (← c.self.view_is) (ends_flipped_is (the_view c.self.inside).mesh _ c.args.e c.self.invariant.sound (rw (← c.self.view_is) at c.requires.flippable) (rw (← c.self.view_is) at (returns-clause-mesh c)))
-
-pub returns-clause-triangles : goal.returns-clause-triangles
-returns-clause-triangles c =
-    rw (← c.self.view_is) (triangles_flipped (the_view c.self.inside).mesh _ c.args.e c.self.invariant.sound (rw (← c.self.view_is) at c.requires.flippable) (rw (← c.self.view_is) at (returns-clause-mesh c)))
-
-pub returns-clause-outer : goal.returns-clause-outer
-returns-clause-outer c =
-    rw (← c.self.view_is) (outer_flipped_is (the_view c.self.inside).mesh _ c.args.e c.self.invariant.sound (rw (← c.self.view_is) at c.requires.flippable) (rw (← c.self.view_is) at (returns-clause-mesh c)))
-
-pub returns-clause-outline : goal.returns-clause-outline
-returns-clause-outline c =
-    rw (← c.self.view_is) (outline_flipped (the_view c.self.inside).mesh _ c.args.e c.self.invariant.sound (rw (← c.self.view_is) at c.requires.flippable) (rw (← c.self.view_is) at (returns-clause-links c)))
+pub returns-clause-flips : goal.returns-clause-flips
+returns-clause-flips c =
+    let m : Mesh = (the_view c.self.inside).mesh in
+    let s = c.self.invariant.sound in
+    let can = rw (← c.self.view_is) at c.requires.flippable in
+    let is = rw (← c.self.view_is) at (returns-clause-mesh c) in
+    let links = flips_is m _ c.args.e s can is in
+    rw (← c.self.view_is) (record {
+      links = links;
+      ends = ends_flipped_is m _ c.args.e s can is;
+      corners = triangles_flipped m _ c.args.e s can is;
+      outer = outer_flipped_is m _ c.args.e s can is;
+      outline = outline_flipped m _ c.args.e s can links;
+    })

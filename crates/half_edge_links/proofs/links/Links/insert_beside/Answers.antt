@@ -23,21 +23,18 @@ pub invariant_of-self : goal.invariant_of-self
 invariant_of-self c =
     valid_as _ _ (rw (← c.self.view_is) at (returns-clause-mesh c)) (valid_inserted (the_view c.self.inside).mesh c.args.v c.args.edge c.self.invariant (rw (← c.self.view_is) at c.requires.inner) (rw (← c.self.view_is) at c.requires.alone) (omega (arith, rw (← c.self.view_is) at c.requires.edge_room)) (omega (arith, rw (← c.self.view_is) at c.requires.face_room)))
 
-pub returns-clause-links : goal.returns-clause-links
-returns-clause-links c =
-    rw (← c.self.view_is) (inserts_is (the_view c.self.inside).mesh _ c.args.v c.args.edge c.self.invariant.sound (rw (← c.self.view_is) at c.requires.inner) (rw (← c.self.view_is) at c.requires.alone) (rw (← c.self.view_is) at (returns-clause-mesh c)))
-
-pub returns-clause-triangles : goal.returns-clause-triangles
-returns-clause-triangles c =
-    rw (← c.self.view_is) (triangles_inserted (the_view c.self.inside).mesh _ c.args.v c.args.edge c.self.invariant.sound (rw (← c.self.view_is) at c.requires.inner) (rw (← c.self.view_is) at c.requires.alone) (rw (← c.self.view_is) at (returns-clause-mesh c)))
-
-pub returns-clause-outer : goal.returns-clause-outer
-returns-clause-outer c =
-    rw (← c.self.view_is) (outer_inserted (the_view c.self.inside).mesh _ c.args.v c.args.edge c.self.invariant.sound (rw (← c.self.view_is) at c.requires.inner) (rw (← c.self.view_is) at c.requires.alone) (rw (← c.self.view_is) at (returns-clause-links c)))
-
-pub returns-clause-ends : goal.returns-clause-ends
-returns-clause-ends c =
-    rw (← c.self.view_is) (ends_inserted_is (the_view c.self.inside).mesh _ c.args.v c.args.edge c.self.invariant.sound (rw (← c.self.view_is) at c.requires.inner) (rw (← c.self.view_is) at c.requires.alone) (rw (← c.self.view_is) at (returns-clause-mesh c)))
-
-pub returns-clause-outline : goal.returns-clause-outline
-returns-clause-outline c = rw (← c.self.view_is) (outline_inserted (the_view c.self.inside).mesh _ c.args.v c.args.edge c.self.invariant.sound (rw (← c.self.view_is) at c.requires.inner) (rw (← c.self.view_is) at c.requires.alone) (rw (← c.self.view_is) at (returns-clause-links c)))
+pub returns-clause-inserts : goal.returns-clause-inserts
+returns-clause-inserts c =
+    let m : Mesh = (the_view c.self.inside).mesh in
+    let s = c.self.invariant.sound in
+    let inner = rw (← c.self.view_is) at c.requires.inner in
+    let alone = rw (← c.self.view_is) at c.requires.alone in
+    let is = rw (← c.self.view_is) at (returns-clause-mesh c) in
+    let links = inserts_is m _ c.args.v c.args.edge s inner alone is in
+    rw (← c.self.view_is) (record {
+      links = links;
+      ends = ends_inserted_is m _ c.args.v c.args.edge s inner alone is;
+      corners = triangles_inserted m _ c.args.v c.args.edge s inner alone is;
+      outer = outer_inserted m _ c.args.v c.args.edge s inner alone links;
+      outline = outline_inserted m _ c.args.v c.args.edge s inner alone links;
+    })

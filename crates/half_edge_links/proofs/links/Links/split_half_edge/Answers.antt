@@ -24,9 +24,9 @@ returns c =
       mesh = search rules;
       room = search rules;
       sound = s;
-      links = half_splits _ _ _ _ s half adds new c.flip.ensures.sound c.flip.ensures.links;
-      ends = ends_half _ _ new _ _ s half adds (rw c.reversed.ensures at c.add_face_beside.ensures.ends) c.flip.ensures.ends;
-      triangles = half_splits_triangles _ _ _ _ s half adds new (rw c.reversed.ensures at c.add_face_beside.ensures.triangles) c.flip.ensures.triangles;
-      outer = replaced_kept _ _ _ _ _ _ _ (rw c.reversed.ensures at c.add_face_beside.ensures.outer) c.flip.ensures.outer;
-      outline = λ one. c.flip.ensures.outline (c.add_face_beside.ensures.outline one);
+      links = half_splits _ _ _ _ s half adds new c.flip.ensures.sound c.flip.ensures.flips.links;
+      ends = ends_half _ _ new _ _ s half adds (rw c.reversed.ensures at c.add_face_beside.ensures.ends) c.flip.ensures.flips.ends;
+      triangles = half_splits_triangles _ _ _ _ s half adds new (rw c.reversed.ensures at c.add_face_beside.ensures.triangles) c.flip.ensures.flips.corners;
+      outer = replaced_kept _ _ _ _ _ _ _ (rw c.reversed.ensures at c.add_face_beside.ensures.outer) c.flip.ensures.flips.outer;
+      outline = λ one. c.flip.ensures.flips.outline (c.add_face_beside.ensures.outline one);
     }
