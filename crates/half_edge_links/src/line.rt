@@ -46,7 +46,7 @@ impl Links {
         ensures mesh { self.new.mesh ≡ hung self.old.mesh (edge_into self.old.mesh u) v }
         ensures room { self.new.room ≡ self.old.room }
         ensures sound { AreSoundLinks self.old.mesh }
-        ensures change { ExtendsLine self.old.mesh self.new.mesh u v }
+        ensures extends { ExtendsLine self.old.mesh self.new.mesh u v }
     {
         let _count = self.half_edge_count();
         if let Some(edge) = self.out_edge(u) {
@@ -83,7 +83,7 @@ impl Links {
         ensures mesh { self.new.mesh ≡ line_split self.old.mesh e v }
         ensures room { self.new.room ≡ self.old.room }
         ensures sound { AreSoundLinks self.old.mesh }
-        ensures change { SplitsLineEdge self.old.mesh self.new.mesh e v }
+        ensures splits { SplitsLineEdge self.old.mesh self.new.mesh e v }
     {
         let n = self.half_edge_count() as u32;
         self.hang(e, v);

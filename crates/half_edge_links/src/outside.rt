@@ -19,7 +19,7 @@ impl Links {
         ensures mesh { self.new.mesh ≡ hung self.old.mesh x v }
         ensures room { self.new.room ≡ self.old.room }
         ensures sound { AreSoundLinks self.old.mesh }
-        ensures change { HangsEdge self.old.mesh self.new.mesh x v }
+        ensures hangs { HangsEdge self.old.mesh self.new.mesh x v }
     {
         let n = self.half_edges.len() as u32;
         hang_edges(&mut self.half_edges, x, v);
@@ -33,7 +33,7 @@ impl Links {
         ensures mesh { self.new.mesh ≡ closed self.old.mesh e }
         ensures room { self.new.room ≡ self.old.room }
         ensures sound { AreSoundLinks self.old.mesh }
-        ensures change { ClosesCorner self.old.mesh self.new.mesh e }
+        ensures closes { ClosesCorner self.old.mesh self.new.mesh e }
     {
         let n = self.half_edges.len() as u32;
         let g = self.face_edges.len() as u32 + 1;
@@ -52,7 +52,7 @@ impl Links {
         ensures mesh { self.new.mesh ≡ with_face_beside self.old.mesh e v }
         ensures room { self.new.room ≡ self.old.room }
         ensures sound { AreSoundLinks self.old.mesh }
-        ensures change { AddsFaceBeside self.old.mesh self.new.mesh e v }
+        ensures adds { AddsFaceBeside self.old.mesh self.new.mesh e v }
     {
         self.hang(e, v);
         self.close(e);
@@ -68,7 +68,7 @@ impl Links {
         ensures mesh { self.new.mesh ≡ half_split self.old.mesh e v }
         ensures room { self.new.room ≡ self.old.room }
         ensures sound { AreSoundLinks self.old.mesh }
-        ensures change { SplitsHalfEdge self.old.mesh self.new.mesh e v }
+        ensures splits { SplitsHalfEdge self.old.mesh self.new.mesh e v }
     {
         let n = self.half_edge_count() as u32;
         self.add_face_beside(reversed(e), v);

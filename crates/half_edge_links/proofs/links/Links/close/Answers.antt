@@ -20,6 +20,6 @@ pub invariant_of-self : goal.invariant_of-self
 invariant_of-self c =
     valid_as _ _ (rw (← c.self.view_is) at (returns-clause-mesh c)) (valid_closed (the_view c.self.inside).mesh c.args.e c.self.invariant (rw (← c.self.view_is) at c.requires.closable) (omega (arith, rw (← c.self.view_is) at c.requires.room.edges_fit)) (omega (arith, rw (← c.self.view_is) at c.requires.room.faces_fit)))
 
-pub returns-clause-change : goal.returns-clause-change
-returns-clause-change c =
+pub returns-clause-closes : goal.returns-clause-closes
+returns-clause-closes c =
     rw (← c.self.view_is) (closes_corner (the_view c.self.inside).mesh _ c.args.e c.self.invariant.sound (rw (← c.self.view_is) at c.requires.closable) (rw (← c.self.view_is) at (returns-clause-mesh c)))

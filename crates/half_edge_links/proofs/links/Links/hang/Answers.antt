@@ -15,6 +15,6 @@ pub invariant_of-self : goal.invariant_of-self
 invariant_of-self c =
     valid_as _ _ (rw (← c.self.view_is) at (returns-clause-mesh c)) (valid_hung (the_view c.self.inside).mesh c.args.x c.args.v c.self.invariant (rw (← c.self.view_is) at c.requires.outer) (rw (← c.self.view_is) at c.requires.alone) (omega (arith, rw (← c.self.view_is) at c.requires.edge_room)))
 
-pub returns-clause-change : goal.returns-clause-change
-returns-clause-change c =
+pub returns-clause-hangs : goal.returns-clause-hangs
+returns-clause-hangs c =
     rw (← c.self.view_is) (hangs_edge (the_view c.self.inside).mesh _ c.args.x c.args.v c.self.invariant.sound (rw (← c.self.view_is) at c.requires.outer) (rw (← c.self.view_is) at c.requires.alone) (rw (← c.self.view_is) at (returns-clause-mesh c)))

@@ -10,7 +10,7 @@ add_face_beside-requires-clause-outer c = rw c.reversed.ensures (twin_outer _ _ 
 pub flip-requires : goal.flip-requires
 flip-requires c =
     let s = c.half_edge_count-n.ensures.sound in
-    let adds = rw c.reversed.ensures at c.add_face_beside.ensures.change.links in
+    let adds = rw c.reversed.ensures at c.add_face_beside.ensures.adds.links in
     record { flippable = flippable_beside _ _ _ _ s c.requires.half adds; corners = corners_beside _ _ _ _ s c.requires.half adds c.requires.alone }
 
 pub returns : goal.returns
@@ -18,17 +18,17 @@ returns c =
     let s = c.half_edge_count-n.ensures.sound in
     let half = c.requires.half in
     let new : Mesh = c.flip.new.self.mesh in
-    let adds = rw c.reversed.ensures at c.add_face_beside.ensures.change.links in
+    let adds = rw c.reversed.ensures at c.add_face_beside.ensures.adds.links in
     record {
       parts = search rules;
       mesh = search rules;
       room = search rules;
       sound = s;
-      change = record {
+      splits = record {
         links = half_splits _ _ _ _ s half adds new c.flip.ensures.sound c.flip.ensures.links;
-        ends = ends_half _ _ new _ _ s half adds (rw c.reversed.ensures at c.add_face_beside.ensures.change.ends) c.flip.ensures.ends;
-        corners = half_splits_triangles _ _ _ _ s half adds new (rw c.reversed.ensures at c.add_face_beside.ensures.change.corners) c.flip.ensures.triangles;
-        outer = replaced_kept _ _ _ _ _ _ _ (rw c.reversed.ensures at c.add_face_beside.ensures.change.outer) c.flip.ensures.outer;
-        outline = λ one. c.flip.ensures.outline (c.add_face_beside.ensures.change.outline one);
+        ends = ends_half _ _ new _ _ s half adds (rw c.reversed.ensures at c.add_face_beside.ensures.adds.ends) c.flip.ensures.ends;
+        corners = half_splits_triangles _ _ _ _ s half adds new (rw c.reversed.ensures at c.add_face_beside.ensures.adds.corners) c.flip.ensures.triangles;
+        outer = replaced_kept _ _ _ _ _ _ _ (rw c.reversed.ensures at c.add_face_beside.ensures.adds.outer) c.flip.ensures.outer;
+        outline = λ one. c.flip.ensures.outline (c.add_face_beside.ensures.adds.outline one);
       };
     }
