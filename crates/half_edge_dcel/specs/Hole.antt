@@ -5,7 +5,7 @@ use Rattle.std.specs.List.Sorted.{IsPermutation}
 use Rattle.half_edge_links.specs.Hull.{KeepsOneOutline}
 use Rattle.half_edge_links.specs.Mesh.{Mesh, origin, next, face, IsAlone}
 use Rattle.half_edge_links.specs.Outline.{Ends}
-use Rattle.half_edge_links.specs.Peel.{spoke}
+use Rattle.half_edge_links.specs.Peel.{spoke, turn}
 use Rattle.half_edge_links.specs.Round.{neighbour}
 use Rattle.half_edge_links.specs.Triangles.{Triangle}
 use Rattle.half_edge_dcel.specs.Contents.{Contents}
@@ -17,6 +17,14 @@ pub record IsHub (m : Mesh) (o k : ℕ) : Type 0 where
   pub within : o < length m.half_edges
   pub inner : (i : ℕ) → i < k → 0 < face m (spoke m o i)
   pub round : spoke m o k ≡ o
+
+-- the edge after o round its vertex, against the clock, lies between two inner faces, and a turn does not join a vertex
+-- to itself
+pub record CanTurnAway (m : Mesh) (o : ℕ) : Type 0 where
+  pub within : o < length m.half_edges
+  pub before : 0 < face m o
+  pub behind : 0 < face m (turn m o)
+  pub corners : neighbour m o 2 ≢ neighbour m o 0
 
 -- the first of k vertices round a hole is none of those that it gets an edge to
 abbrev pub HasFreeTip : (ℕ → ℕ) → ℕ → Type 0

@@ -1,5 +1,5 @@
 //! Vertices that lose their edges.
-ghost use Rattle.std.specs.Prelude.{◌≡◌, ◌≢◌, ◌<◌, ◌≤◌, length};
+ghost use Rattle.std.specs.Prelude.{◌≡◌, ◌<◌, ◌≤◌, length};
 ghost use Rattle.half_edge_links.specs.Flip.{Flips};
 ghost use Rattle.half_edge_links.specs.Hull.{KeepsOneOutline};
 ghost use Rattle.half_edge_links.specs.Mesh.{face, origin, prev, rev};
@@ -8,7 +8,8 @@ ghost use Rattle.half_edge_links.specs.Peel.{IsStrip, IsWheel, turn};
 ghost use Rattle.half_edge_links.specs.Round.{neighbour};
 ghost use Rattle.half_edge_links.specs.Triangles.{FlipsTriangles};
 ghost use Rattle.half_edge_dcel.specs.Contents.{IsMeshWithData};
-ghost use Rattle.half_edge_dcel.specs.Hole.{FillsWithFan, HasFreeTip, IsBorder, IsHub};
+ghost use Rattle.half_edge_dcel.specs.Hole.{CanTurnAway, FillsWithFan, HasFreeTip, IsBorder};
+ghost use Rattle.half_edge_dcel.specs.Hole.{IsHub};
 ghost use Rattle.half_edge_dcel.specs.Removal.{AreOpposite, FillsHole, LosesStrip, first_spoke};
 
 use crate::dcel::Dcel;
@@ -113,11 +114,7 @@ impl<V, DE, UE, F> Dcel<V, DE, UE, F> {
 
     // Turns the edge after `first` round their vertex, so that it leaves the vertex.
     fn turn_away(&mut self, first: u32)
-        requires within { first < length self.old.mesh.half_edges }
-        requires before { 0 < face self.old.mesh first }
-        requires behind { 0 < face self.old.mesh (turn self.old.mesh first) }
-        requires corners { neighbour self.old.mesh first 2 ≢ neighbour self.old.mesh first 0 }
-
+        requires { CanTurnAway self.old.mesh first }
         ensures flips { let m = self.old.mesh in Flips m self.new.mesh (turn m first) }
         ensures contents { self.new ≡ record self.old { mesh = self.new.mesh } }
         ensures ends { let m = self.old.mesh in

@@ -4,6 +4,7 @@ pub mod ConnectLemmas
 pub mod Hang
 pub mod CloseReads
 pub mod Close
+pub mod Grown
 pub mod FaceBeside
 pub mod HalfSplit
 pub mod Slide

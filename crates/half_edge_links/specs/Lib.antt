@@ -5,6 +5,7 @@ pub mod Insert
 pub mod Triangles
 pub mod Grow
 pub mod Outline
+pub mod Grown
 pub mod Renames
 pub mod Remove
 pub mod Peel

@@ -1,13 +1,12 @@
 //! The first edge, and a mesh of one line.
-ghost use Rattle.std.specs.Prelude.{◌≡◌, ◌≢◌, ◌+◌, ◌-◌, ◌<◌, length, Some, [], ◌∷◌};
+ghost use Rattle.std.specs.Prelude.{◌≡◌, ◌+◌, ◌-◌, length, Some, [], ◌∷◌};
 ghost use Rattle.half_edge_links.specs.Hull.{HasOneOutline, KeepsOneOutline};
-ghost use Rattle.half_edge_links.specs.Mesh.{face, origin, next, prev, IsAlone, connected};
-ghost use Rattle.half_edge_links.specs.Mesh.{AreSoundLinks};
+ghost use Rattle.half_edge_links.specs.Mesh.{origin, next, IsAlone, connected, AreSoundLinks};
 ghost use Rattle.half_edge_links.specs.Room.{HasEdgeRoom};
-ghost use Rattle.half_edge_links.specs.Outline.{SplitsOuter, AddsEdge, MovesEdge, SplitsLineEnds};
-ghost use Rattle.half_edge_links.specs.Outline.{ExtendsOuter};
-ghost use Rattle.half_edge_links.specs.Grow.{hung, slid, IsSlidable, Hangs, Slides, IsLineEdge};
-ghost use Rattle.half_edge_links.specs.Grow.{line_split, SplitsLine, IsOnLine, edge_into};
+ghost use Rattle.half_edge_links.specs.Outline.{MovesEdge};
+ghost use Rattle.half_edge_links.specs.Grow.{hung, slid, IsSlidable, Slides, IsLineEdge};
+ghost use Rattle.half_edge_links.specs.Grow.{line_split, IsOnLine, edge_into};
+ghost use Rattle.half_edge_links.specs.Grown.{AreConnectable, ExtendsLine, SplitsLineEdge};
 
 use crate::links::Links;
 use crate::records::{HalfEdge, read, reversed, slide_edges};
@@ -15,10 +14,7 @@ use crate::records::{HalfEdge, read, reversed, slide_edges};
 impl Links {
     /// Makes the first edge, from `a` to `b`.
     pub fn connect(&mut self, a: u32, b: u32)
-        requires no_edges { self.old.mesh.half_edges ≡ [] }
-        requires from { a < length self.old.mesh.out_edges }
-        requires to { b < length self.old.mesh.out_edges }
-        requires apart { a ≢ b }
+        requires vertices { AreConnectable self.old.mesh a b }
         requires room { HasEdgeRoom self.old.mesh self.old.room 2 }
         ensures mesh { self.new.mesh ≡ connected self.old.mesh a b }
         ensures room { self.new.room ≡ self.old.room }
@@ -50,12 +46,7 @@ impl Links {
         ensures mesh { self.new.mesh ≡ hung self.old.mesh (edge_into self.old.mesh u) v }
         ensures room { self.new.room ≡ self.old.room }
         ensures sound { AreSoundLinks self.old.mesh }
-        ensures links { Hangs self.old.mesh self.new.mesh (edge_into self.old.mesh u) v
-            (length self.old.mesh.half_edges) }
-        ensures ends { AddsEdge self.old.mesh self.new.mesh u v }
-        ensures outer { ExtendsOuter self.old.mesh self.new.mesh u v
-            (length self.old.mesh.half_edges) }
-        ensures outline { KeepsOneOutline self.old.mesh self.new.mesh }
+        ensures extends { ExtendsLine self.old.mesh self.new.mesh u v }
     {
         let _count = self.half_edge_count();
         if let Some(edge) = self.out_edge(u) {
@@ -92,12 +83,7 @@ impl Links {
         ensures mesh { self.new.mesh ≡ line_split self.old.mesh e v }
         ensures room { self.new.room ≡ self.old.room }
         ensures sound { AreSoundLinks self.old.mesh }
-        ensures ends { SplitsLineEnds self.old.mesh self.new.mesh e v }
-        ensures links { SplitsLine self.old.mesh self.new.mesh e v
-            (length self.old.mesh.half_edges) }
-        ensures outer { SplitsOuter self.old.mesh self.new.mesh e v
-            (length self.old.mesh.half_edges) }
-        ensures outline { KeepsOneOutline self.old.mesh self.new.mesh }
+        ensures splits { SplitsLineEdge self.old.mesh self.new.mesh e v }
     {
         let n = self.half_edge_count() as u32;
         self.hang(e, v);

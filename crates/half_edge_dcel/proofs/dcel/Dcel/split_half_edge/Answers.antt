@@ -16,17 +16,17 @@ invariant_of-self g c =
 
 pub returns-clause-edges : goal.returns-clause-edges
 returns-clause-edges g c =
-    let ends_are = rw (c.push_vertex-v.ensures.mesh, c.index.ensures, ← c.from_index.ensures) at c.split_half_edge.ensures.ends in
+    let ends_are = rw (c.push_vertex-v.ensures.mesh, c.index.ensures, ← c.from_index.ensures) at c.split_half_edge.ensures.splits.ends in
     let moves = rw c.index-4.ensures at c.move_item.ensures.moves in
     rw (← c.self.view_is) (splits_edge _ _ _ _ _ _ _ 1 _ _ (length-ends c.self.inside.links.mesh _ _ _ _ c.self.invariant) refl ends_are moves)
 
 pub returns-clause-outer : goal.returns-clause-outer
 returns-clause-outer g c =
-    let changes = rw (c.push_vertex-v.ensures.mesh, c.index.ensures, ← c.from_index.ensures, ← c.self.invariant.directed_fit) at c.split_half_edge.ensures.outer in
+    let changes = rw (c.push_vertex-v.ensures.mesh, c.index.ensures, ← c.from_index.ensures, ← c.self.invariant.directed_fit) at c.split_half_edge.ensures.splits.outer in
     rw (← c.self.view_is) (outer_changes c.self.inside.links.mesh _ _ _ changes)
 
 pub returns-clause-outline : goal.returns-clause-outline
-returns-clause-outline g c = rw (← c.self.view_is) (λ one. c.split_half_edge.ensures.outline (c.push_vertex-v.ensures.outline one))
+returns-clause-outline g c = rw (← c.self.view_is) (λ one. c.split_half_edge.ensures.splits.outline (c.push_vertex-v.ensures.outline one))
 
 pub returns-clause-mesh : goal.returns-clause-mesh
 returns-clause-mesh g c = rw (← c.self.view_is) (rw (c.push_vertex-v.ensures.mesh, c.index.ensures, ← c.from_index.ensures) at c.split_half_edge.ensures.mesh)

@@ -3,11 +3,7 @@ use Rattle.half_edge_links.specs.contracts.links.Links.{the_view}
 use Rattle.half_edge_links.specs.Mesh.{Mesh, edge_at}
 use Rattle.half_edge_links.specs.Grow.{closed}
 use Rattle.half_edge_links.proofs.Sound.Valid.{valid_as, valid_closed}
-use Rattle.half_edge_links.proofs.Growing.Close.{closes}
-use Rattle.half_edge_links.proofs.Sound.Corners.{triangles_closed}
-use Rattle.half_edge_links.proofs.OuterLoop.Outer.{outer_closed}
-use Rattle.half_edge_links.proofs.Sound.EndsKept.{ends_closed}
-use Rattle.half_edge_links.proofs.OuterLoop.Outline.{outline_closed}
+use Rattle.half_edge_links.proofs.Growing.Grown.{closes_corner}
 use Rattle.half_edge_links.proofs.links.Links.close.Goals as goal
 
 pub returns-clause-mesh : goal.returns-clause-mesh
@@ -22,23 +18,8 @@ returns-clause-mesh c =
 
 pub invariant_of-self : goal.invariant_of-self
 invariant_of-self c =
-    valid_as _ _ (rw (← c.self.view_is) at (returns-clause-mesh c)) (valid_closed (the_view c.self.inside).mesh c.args.e c.self.invariant (rw (← c.self.view_is) at c.requires.closable) (omega (arith, rw (← c.self.view_is) at c.requires.edge_room)) (omega (arith, rw (← c.self.view_is) at c.requires.face_room)))
+    valid_as _ _ (rw (← c.self.view_is) at (returns-clause-mesh c)) (valid_closed (the_view c.self.inside).mesh c.args.e c.self.invariant (rw (← c.self.view_is) at c.requires.closable) (omega (arith, rw (← c.self.view_is) at c.requires.room.edges_fit)) (omega (arith, rw (← c.self.view_is) at c.requires.room.faces_fit)))
 
-pub returns-clause-links : goal.returns-clause-links
-returns-clause-links c =
-    rw (returns-clause-mesh c, ← c.self.view_is) (closes (the_view c.self.inside).mesh c.args.e c.self.invariant.sound (rw (← c.self.view_is) at c.requires.closable))
-
-pub returns-clause-triangles : goal.returns-clause-triangles
-returns-clause-triangles c =
-    rw (← c.self.view_is) (triangles_closed (the_view c.self.inside).mesh _ c.args.e c.self.invariant.sound (rw (← c.self.view_is) at c.requires.closable) (rw (← c.self.view_is) at (returns-clause-links c)))
-
-pub returns-clause-outer : goal.returns-clause-outer
-returns-clause-outer c =
-    rw (← c.self.view_is) (outer_closed (the_view c.self.inside).mesh _ c.args.e c.self.invariant.sound (rw (← c.self.view_is) at c.requires.closable) (rw (← c.self.view_is) at (returns-clause-links c)))
-
-pub returns-clause-ends : goal.returns-clause-ends
-returns-clause-ends c =
-    rw (← c.self.view_is) (ends_closed (the_view c.self.inside).mesh _ c.args.e c.self.invariant.sound (rw (← c.self.view_is) at c.requires.closable) (rw (← c.self.view_is) at (returns-clause-links c)))
-
-pub returns-clause-outline : goal.returns-clause-outline
-returns-clause-outline c = rw (← c.self.view_is) (outline_closed (the_view c.self.inside).mesh _ c.args.e c.self.invariant.sound (rw (← c.self.view_is) at c.requires.closable) (rw (← c.self.view_is) at (returns-clause-links c)))
+pub returns-clause-closes : goal.returns-clause-closes
+returns-clause-closes c =
+    rw (← c.self.view_is) (closes_corner (the_view c.self.inside).mesh _ c.args.e c.self.invariant.sound (rw (← c.self.view_is) at c.requires.closable) (rw (← c.self.view_is) at (returns-clause-mesh c)))

@@ -7,10 +7,10 @@ use Rattle.half_edge_links.proofs.links.Links.connect.Goals as goal
 pub invariant_of-self : goal.invariant_of-self
 invariant_of-self c =
     let m : Mesh = (the_view c.self.inside).mesh in
-    let none = rw (← c.self.view_is) at c.requires.no_edges in
-    rw (c.push_reserved-2.ensures.items, c.push_reserved.ensures.items, none) (valid_connected m c.args.a c.args.b c.self.invariant none (rw (← c.self.view_is) at c.requires.from) (rw (← c.self.view_is) at c.requires.to) c.requires.apart)
+    let can = rw (← c.self.view_is) at c.requires.vertices in
+    rw (c.push_reserved-2.ensures.items, c.push_reserved.ensures.items, can.no_edges) (valid_connected m c.args.a c.args.b c.self.invariant can.no_edges can.from can.to can.apart)
 
 pub returns-clause-outline : goal.returns-clause-outline
 returns-clause-outline c =
-    let none = rw (← c.self.view_is) at c.requires.no_edges in
-    rw (c.push_reserved-2.ensures.items, c.push_reserved.ensures.items, none) (outline_connected (the_view c.self.inside).mesh c.args.a c.args.b)
+    let can = rw (← c.self.view_is) at c.requires.vertices in
+    rw (c.push_reserved-2.ensures.items, c.push_reserved.ensures.items, can.no_edges) (outline_connected (the_view c.self.inside).mesh c.args.a c.args.b)

@@ -10,7 +10,7 @@ add_face_beside-requires-clause-outer c = rw c.reversed.ensures (twin_outer _ _ 
 pub flip-requires : goal.flip-requires
 flip-requires c =
     let s = c.half_edge_count-n.ensures.sound in
-    let adds = rw c.reversed.ensures at c.add_face_beside.ensures.links in
+    let adds = rw c.reversed.ensures at c.add_face_beside.ensures.adds.links in
     record { flippable = flippable_beside _ _ _ _ s c.requires.half adds; corners = corners_beside _ _ _ _ s c.requires.half adds c.requires.alone }
 
 pub returns : goal.returns
@@ -18,15 +18,17 @@ returns c =
     let s = c.half_edge_count-n.ensures.sound in
     let half = c.requires.half in
     let new : Mesh = c.flip.new.self.mesh in
-    let adds = rw c.reversed.ensures at c.add_face_beside.ensures.links in
+    let adds = rw c.reversed.ensures at c.add_face_beside.ensures.adds.links in
     record {
       parts = search rules;
       mesh = search rules;
       room = search rules;
       sound = s;
-      links = half_splits _ _ _ _ s half adds new c.flip.ensures.sound c.flip.ensures.flips.links;
-      ends = ends_half _ _ new _ _ s half adds (rw c.reversed.ensures at c.add_face_beside.ensures.ends) c.flip.ensures.flips.ends;
-      triangles = half_splits_triangles _ _ _ _ s half adds new (rw c.reversed.ensures at c.add_face_beside.ensures.triangles) c.flip.ensures.flips.corners;
-      outer = replaced_kept _ _ _ _ _ _ _ (rw c.reversed.ensures at c.add_face_beside.ensures.outer) c.flip.ensures.flips.outer;
-      outline = λ one. c.flip.ensures.flips.outline (c.add_face_beside.ensures.outline one);
+      splits = record {
+        links = half_splits _ _ _ _ s half adds new c.flip.ensures.sound c.flip.ensures.flips.links;
+        ends = ends_half _ _ new _ _ s half adds (rw c.reversed.ensures at c.add_face_beside.ensures.adds.ends) c.flip.ensures.flips.ends;
+        corners = half_splits_triangles _ _ _ _ s half adds new (rw c.reversed.ensures at c.add_face_beside.ensures.adds.corners) c.flip.ensures.flips.corners;
+        outer = replaced_kept _ _ _ _ _ _ _ (rw c.reversed.ensures at c.add_face_beside.ensures.adds.outer) c.flip.ensures.flips.outer;
+        outline = λ one. c.flip.ensures.flips.outline (c.add_face_beside.ensures.adds.outline one);
+      };
     }

@@ -10,14 +10,17 @@ pub returns : goal.returns
 returns c =
     let s = c.hang.ensures.sound in
     let line = c.requires.line in
-    let links = splits_line _ _ _ _ _ s line c.requires.alone c.hang.ensures.links c.slide.ensures.links in
+    let hung = c.hang.ensures.hangs in
+    let links = splits_line _ _ _ _ _ s line c.requires.alone hung.links c.slide.ensures.links in
     record {
       parts = ap (λ (n : ℕ). c.args.e ∷ (n + 1) ∷ []) c.half_edge_count-n.ensures.value;
       mesh = search rules;
       room = search rules;
       sound = s;
-      ends = ends_line _ _ c.slide.new.self.mesh _ _ s line c.hang.ensures.links c.hang.ensures.ends c.slide.ensures.ends;
-      links = links;
-      outer = splits_outer _ _ _ _ _ s line c.requires.alone c.hang.ensures.links links;
-      outline = λ one. c.slide.ensures.outline (c.hang.ensures.outline one);
+      splits = record {
+        links = links;
+        ends = ends_line _ _ c.slide.new.self.mesh _ _ s line hung.links hung.ends c.slide.ensures.ends;
+        outer = splits_outer _ _ _ _ _ s line c.requires.alone hung.links links;
+        outline = λ one. c.slide.ensures.outline (hung.outline one);
+      };
     }
