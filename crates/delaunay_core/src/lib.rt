@@ -1,5 +1,5 @@
-// Points, the side's answer, the range of coordinates, and the trait of the tests that a caller
-// hands in.
+//! Points, the side's answer, the range of coordinates, and the trait of the tests that a caller
+//! hands in.
 #![tactic(auto)]
 
 mod hint_generator;
