@@ -8,6 +8,7 @@ ghost use Rattle.delaunay_legalization.specs.Constraints.{points_and_constraints
 ghost use Rattle.delaunay_legalization.specs.Known.{point_at};
 ghost use Rattle.delaunay_removal.specs.Data.{KeepsDataOfOthers};
 ghost use Rattle.delaunay_removal.specs.Pairs.{HasBorder};
+ghost use Rattle.delaunay_edit.specs.Counting.{EndsAt, HasPairs};
 ghost use Rattle.delaunay_edit.specs.Edits.{RemovesVertex};
 ghost use Rattle.delaunay_edit.specs.Headline.{AreSites, IsDelaunay};
 
@@ -59,6 +60,18 @@ impl<V: HasPosition, DE: Drop, UE: Drop, F: Drop, M: ConstraintMarker<UE>> Edite
         sides_of_hole(&self.dcel, vertex, *self.work.allocator())
     }
 
+    // How many constraints end at a vertex. Where there is none at all it looks at no edge.
+    fn count_ending(&self, vertex: FixedVertexHandle) -> usize
+        requires { vertex < length self.now.vertices }
+        ensures { HasPairs (EndsAt (constraints_by M.constraints self.now) vertex) result }
+    {
+        self.dcel.recall_invariant();
+        if self.num_constraints == 0 {
+            return 0;
+        }
+        count_constraints_at::<M, _, _, _, _>(&self.dcel, vertex)
+    }
+
     // Takes a vertex out and tests what its turned edges join, and beside constraints the sides of
     // its hole, or a refusal that changes nothing.
     fn take_out<P: PlaneTests<V::Scalar>>(
@@ -81,10 +94,12 @@ impl<V: HasPosition, DE: Drop, UE: Drop, F: Drop, M: ConstraintMarker<UE>> Edite
         self.sides.reserve(self.dcel.num_directed_edges())?;
         let border = self.sides_to_test(vertex)?;
         let mut turned = room_for_turns(&self.dcel, vertex, *self.work.allocator())?;
-        let ending = count_constraints_at::<M, _, _, _, _>(&self.dcel, vertex);
+        let ending = self.count_ending(vertex);
+        let is_free = self.num_constraints == 0;
         let value = remove_vertex::<M, _, _, _, _, _>(
             &mut self.dcel,
             vertex,
+            is_free,
             tests,
             &mut self.sides,
             &mut turned,

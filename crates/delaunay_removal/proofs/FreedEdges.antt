@@ -1,6 +1,6 @@
 -- The edges round a vertex cease to be constraints, one after another.
 use Rattle.std.proofs.Common.{◌≡◌, ◌≢◌, ℕ, ◌+◌, ◌*◌, ◌/◌, ◌<◌, List, length, set, Some, refl, sym, ap, ◌∙◌, subst, inl, inr, arith}
-use Rattle.std.specs.Prelude.{Bool, false, Option, None, IsSome, slice_get}
+use Rattle.std.specs.Prelude.{Bool, true, false, [], Contains, Option, None, IsSome, slice_get}
 use Rattle.std.proofs.lemmas.Bool.{cases_eq}
 use Rattle.std.proofs.lemmas.List.{length-set, get_or-set_same}
 use Rattle.std.proofs.lemmas.Option.{slice_get_within, get_or_from_slice_get}
@@ -10,8 +10,13 @@ use Rattle.half_edge_mesh.specs.Mesh.{Mesh, origin, out_edge, rev}
 use Rattle.half_edge_mesh.specs.Peel.{turn, spoke}
 use Rattle.half_edge_mesh.specs.Round.{IsRound}
 use Rattle.half_edge_links.proofs.Lists.Rev.{rev_within}
+use Rattle.plane_tiling.proofs.Totals.{Contains-none}
+use Rattle.mesh_embedding.specs.Legal.{pair_at}
 use Rattle.mesh_embedding.proofs.MeshStays.{slice_get-set_other}
+use Rattle.mesh_embedding.proofs.WorkLists.{contains_map}
+use Rattle.delaunay_legalization.specs.Constraints.{marked_edges, constraint_pairs}
 use Rattle.delaunay_legalization.specs.Marking.{HasEdgeData}
+use Rattle.delaunay_legalization.proofs.Constraints.{is_constraint_edge}
 use Rattle.delaunay_removal.specs.Freeing.{IsUnmarked, FreesEdgesAt}
 use Rattle.delaunay_removal.proofs.DataReads.{even_or_odd, rev_of_even, half_of_even, half_of_odd}
 
@@ -126,3 +131,26 @@ module _ {V D U F : Type 0} (marks : U → Bool) (old : Contents V D U F) (v : �
     where
       double : (k : ℕ) → k < length old.undirected → 2 * k < length old.mesh.half_edges
       double k within = let f = whole.fits.undirected_fit in omega (arith, f, within)
+
+-- where there are no constraints there are none to free
+module _ {V D U F : Type 0} (marks : U → Bool) (constraints : List U → List ℕ)
+    (marked : (ds : List U) → constraints ds ≡ marked_edges marks ds) (old : Contents V D U F) (v : ℕ)
+    (none : constraint_pairs constraints old.mesh old.undirected ≡ []) where
+  unmarked : (k : ℕ) → IsUnmarked marks old k
+  unmarked k d is = go (marks d) refl
+    where
+      go : (b : Bool) → marks d ≡ b → marks d ≡ false
+      go false e = e
+      go true e = absurd (Contains-none (pair_at old.mesh k) (subst (λ (ps : List (ℕ × ℕ)). Contains ps (pair_at old.mesh k)) none
+          (contains_map (pair_at old.mesh) (constraints old.undirected) k
+          (is_constraint_edge marks constraints marked old.undirected k d is e))))
+
+  -- no edge at the vertex has the mark
+  pub free_already : FreesEdgesAt marks old old v
+  free_already = record {
+    contents = refl;
+    count = refl;
+    starting = λ k within at. unmarked k;
+    ending = λ k within at. unmarked k;
+    others = λ k starts ends. refl;
+  }

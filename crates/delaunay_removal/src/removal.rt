@@ -1,6 +1,6 @@
 //! Vertices that go, with their edges.
-ghost use Rattle.std.specs.Prelude.{◌≡◌, ◌<◌, ◌≤◌};
-ghost use Rattle.std.specs.Prelude.{length, map, All, Some, IsSome, slice_get};
+ghost use Rattle.std.specs.Prelude.{◌≡◌, ◌<◌, ◌≤◌, []};
+ghost use Rattle.std.specs.Prelude.{length, map, All, Some, IsSome, IsTrue, slice_get};
 ghost use Rattle.std.specs.Prelude.{vec_capacity, vec_len};
 ghost use Rattle.half_edge_mesh.specs.Contents.{IsMeshWithData};
 ghost use Rattle.half_edge_mesh.specs.Mesh.{origin, out_edge, IsAlone};
@@ -8,10 +8,12 @@ ghost use Rattle.half_edge_mesh.specs.Removal.{DropsVertex};
 ghost use Rattle.plane.specs.Plain.{Removes};
 ghost use Rattle.plane.specs.Tests.{InRange};
 ghost use Rattle.mesh_embedding.specs.Drawn.{faces_of, outer_of};
+ghost use Rattle.delaunay_legalization.specs.Constraints.{constraints_by};
 ghost use Rattle.delaunay_legalization.specs.Constraints.{points_and_constraints_by};
 ghost use Rattle.delaunay_legalization.specs.Shape.{IsTriangulated};
 ghost use Rattle.delaunay_legalization.specs.State.{points_and_constraints, state_of};
 ghost use Rattle.delaunay_removal.specs.Data.{KeepsDataBeside, RenumbersEdges};
+ghost use Rattle.delaunay_removal.specs.Freeing.{FreesEdgesAt};
 ghost use Rattle.delaunay_removal.specs.Pairs.{HasRoomAt, LeavesFaces};
 ghost use Rattle.delaunay_removal.specs.Star.{IsMeshWithout, IsolatesVertex};
 
@@ -20,6 +22,7 @@ use crate::pairs::VertexPair;
 use crate::removal_hull::{isolate_on_hull, outer_edge_beside};
 use crate::removal_inner::isolate_inner;
 use crate::removal_line::remove_on_line;
+use crate::star::count_edges;
 use delaunay_core::math::PlaneTests;
 use delaunay_core::point::HasPosition;
 use delaunay_legalization::ConstraintMarker;
@@ -87,9 +90,10 @@ fn isolate<V: HasPosition, DE: Drop, UE: Drop, F: Drop, P: PlaneTests<V::Scalar>
 {
     dcel.recall_invariant();
     let first = first_edge(dcel, vertex);
-    match outer_edge_beside(dcel, first) {
+    let count = count_edges(dcel, first);
+    match outer_edge_beside(dcel, first, count) {
         Some(edge) => isolate_on_hull(dcel, edge, vertex, tests, sides, turned),
-        None => isolate_inner(dcel, first, vertex, tests, turned),
+        None => isolate_inner(dcel, first, count, vertex, tests, turned),
     }
 }
 
@@ -125,10 +129,30 @@ fn take_vertex<V: HasPosition, DE: Drop, UE: Drop, F: Drop, P: PlaneTests<V::Sca
     drop_vertex(dcel, vertex)
 }
 
+// Makes each edge of a vertex one that is no constraint. Where the mesh has no constraint, which
+// `is_free` may say, it looks at none.
+fn free_unless<M: ConstraintMarker<UE>, V, DE, UE, F>(
+    dcel: &mut Dcel<V, DE, UE, F>,
+    vertex: FixedVertexHandle,
+    is_free: bool,
+)
+    requires within { vertex < length dcel.old.vertices }
+    requires free { IsTrue is_free → constraints_by M.constraints (state_of dcel.old) ≡ [] }
+    ensures frees { FreesEdgesAt M.marks dcel.old dcel.new vertex }
+    ensures whole { IsMeshWithData dcel.new }
+{
+    dcel.recall_invariant();
+    if is_free {
+        return;
+    }
+    free_edges_at::<M, _, _, _, _>(dcel, vertex);
+}
+
 /// Removes a vertex with the constraints that end at it, and gives its data back. The hole or the
 /// gap that its faces leave is filled so that the others have a mesh, and the last vertex takes its
-/// index. Each other constraint stays. `sides` has room for each directed edge, and `turned` for a
-/// pair at each of the vertex; it gets what each edge joins that was turned away.
+/// index. Each other constraint stays; `is_free` may say that there is none. `sides` has room for
+/// each directed edge, and `turned` for a pair at each of the vertex; it gets what each edge joins
+/// that was turned away.
 pub fn remove_vertex<
     M: ConstraintMarker<UE>,
     V: HasPosition,
@@ -139,12 +163,14 @@ pub fn remove_vertex<
 >(
     dcel: &mut Dcel<V, DE, UE, F>,
     vertex: FixedVertexHandle,
+    is_free: bool,
     tests: &P,
     sides: &mut Vec<FixedDirectedEdgeHandle>,
     turned: &mut Vec<VertexPair>,
 ) -> V
     requires kept { IsTriangulated V.place (state_of dcel.old) }
     requires within { vertex < length dcel.old.vertices }
+    requires free { IsTrue is_free → constraints_by M.constraints (state_of dcel.old) ≡ [] }
     requires sites { All (P.sites tests.now) (map V.place dcel.old.vertices) }
     requires room { length dcel.old.directed ≤ vec_capacity sides.old }
     requires pairs { HasRoomAt dcel.old.mesh vertex (vec_len turned.old)
@@ -158,6 +184,6 @@ pub fn remove_vertex<
     ensures faces { LeavesFaces (state_of dcel.old) (state_of dcel.new) vertex turned.new.items }
     ensures capacity { vec_capacity sides.new ≡ vec_capacity sides.old }
 {
-    free_edges_at::<M, _, _, _, _>(dcel, vertex);
+    free_unless::<M, _, _, _, _>(dcel, vertex, is_free);
     take_vertex(dcel, vertex, tests, sides, turned)
 }

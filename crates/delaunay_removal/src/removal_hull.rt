@@ -3,7 +3,7 @@ ghost use Rattle.std.specs.Prelude.{◌≡◌, ◌↔◌, ◌+◌, ◌-◌, ◌<
 ghost use Rattle.std.specs.Prelude.{length, map, All, IsTrue, IfSome, IfNone};
 ghost use Rattle.std.specs.Prelude.{vec_capacity, vec_len};
 ghost use Rattle.half_edge_mesh.specs.Mesh.{face, next, origin, rev};
-ghost use Rattle.half_edge_mesh.specs.Round.{neighbour};
+ghost use Rattle.half_edge_mesh.specs.Round.{IsRound, neighbour};
 ghost use Rattle.plane.specs.Pairs.{place};
 ghost use Rattle.plane.specs.Side.{on, side};
 ghost use Rattle.plane_tiling.specs.Local.{LocalMesh};
@@ -190,20 +190,21 @@ pub(crate) fn isolate_on_hull<
     }
 }
 
-// Of the edges that start where `first` starts, one with the outer face on its right, if there is
-// one.
+// Of the edges that start where `first` starts, which are so many, one with the outer face on its
+// right, if there is one.
 pub(crate) fn outer_edge_beside<V, DE, UE, F>(
     dcel: &Dcel<V, DE, UE, F>,
     first: FixedDirectedEdgeHandle,
+    count: usize,
 ) -> Option<FixedDirectedEdgeHandle>
-    requires { first < length dcel.now.directed }
+    requires within { first < length dcel.now.directed }
+    requires round { IsRound dcel.now.mesh (origin dcel.now.mesh first) first count }
     ensures within { IfSome result (λ e. e < length dcel.now.directed) }
     ensures starts { IfSome result (λ e. origin dcel.now.mesh e ≡ origin dcel.now.mesh first) }
     ensures outer { IfSome result (λ e. face dcel.now.mesh (rev e) ≡ 0) }
     ensures none { IfNone result (HasInnerFaces dcel.now.mesh (origin dcel.now.mesh first)) }
 {
     dcel.recall_invariant();
-    let count = count_edges(dcel, first);
     let mut edge = first;
     for i in 0..count {
         if is_outer(dcel, dcel.directed_edge(edge).rev().fix()) {

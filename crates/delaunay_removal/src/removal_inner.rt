@@ -3,7 +3,7 @@ ghost use Rattle.std.specs.Prelude.{◌≡◌, ◌↔◌, ◌+◌, ◌<◌, ◌�
 ghost use Rattle.std.specs.Prelude.{length, map, All, IsTrue, vec_capacity, vec_len};
 ghost use Rattle.half_edge_mesh.specs.Mesh.{origin};
 ghost use Rattle.half_edge_mesh.specs.Peel.{IsWheel};
-ghost use Rattle.half_edge_mesh.specs.Round.{neighbour};
+ghost use Rattle.half_edge_mesh.specs.Round.{IsRound, neighbour};
 ghost use Rattle.half_edge_mesh.specs.Contents.{IsMeshWithData};
 ghost use Rattle.half_edge_mesh.specs.Removal.{FillsHole};
 ghost use Rattle.plane_tiling.specs.Local.{LocalMesh};
@@ -14,22 +14,23 @@ ghost use Rattle.delaunay_removal.specs.Star.{HasInnerFaces, IsBetweenAt, IsInne
 ghost use Rattle.delaunay_removal.specs.Star.{IsolatesVertex, StandsBetween};
 
 use crate::pairs::{VertexPair, ends_beside};
-use crate::star::{count_edges, edge_after, end_of, find_convex, opposite_side, turn_away};
+use crate::star::{edge_after, end_of, find_convex, opposite_side, turn_away};
 use delaunay_core::math::PlaneTests;
 use delaunay_core::point::HasPosition;
 use delaunay_legalization::{is_strictly_within, start_of};
 use half_edge_mesh::{Dcel, FixedDirectedEdgeHandle, FixedVertexHandle};
 
-// Turns edges of an inner vertex away, from which `first` starts, until three are left, or four
-// with the vertex strictly between two ends. Gives one of those that are left, and how many they
-// are. `turned` has room for a pair at each edge, and gets what each turned one joins.
+// Turns edges of an inner vertex away, from which `first` and so many in all start, until three are
+// left, or four with the vertex strictly between two ends. Gives one of those that are left, and
+// how many they are. `turned` has room for a pair at each edge, and gets what each turned one joins.
 fn shrink_star<V: HasPosition, DE, UE, F, P: PlaneTests<V::Scalar>>(
     dcel: &mut Dcel<V, DE, UE, F>,
     first: FixedDirectedEdgeHandle,
+    count: usize,
     tests: &P,
     turned: &mut Vec<VertexPair>,
 ) -> (FixedDirectedEdgeHandle, usize)
-    requires within { first < length dcel.old.directed }
+    requires round { IsRound dcel.old.mesh (origin dcel.old.mesh first) first count }
     requires shape { LocalMesh (map V.place dcel.old.vertices) (faces_of dcel.old.mesh)
         (outer_of dcel.old.mesh) }
     requires inner { HasInnerFaces dcel.old.mesh (origin dcel.old.mesh first) }
@@ -45,7 +46,7 @@ fn shrink_star<V: HasPosition, DE, UE, F, P: PlaneTests<V::Scalar>>(
     ensures room { vec_len turned.new + result.1 ≤ vec_capacity turned.new }
 {
     let mut first = first;
-    let mut count = count_edges(dcel, first);
+    let mut count = count;
     while count > 3 {
         dcel.recall_invariant();
         match find_convex(dcel, first, count, tests) {
@@ -154,16 +155,18 @@ fn fill_four<V: HasPosition, DE: Drop, UE: Drop, F: Drop>(
     fill_three(dcel, first, vertex);
 }
 
-// Removes the edges of a vertex inside the hull, from which `first` starts, and fills the hole that
-// it leaves. `turned` has room for a pair at each edge, and gets what each turned one joins.
+// Removes the edges of a vertex inside the hull, from which `first` and so many in all start, and
+// fills the hole that it leaves. `turned` has room for a pair at each edge, and gets what each
+// turned one joins.
 pub(crate) fn isolate_inner<V: HasPosition, DE: Drop, UE: Drop, F: Drop, P: PlaneTests<V::Scalar>>(
     dcel: &mut Dcel<V, DE, UE, F>,
     first: FixedDirectedEdgeHandle,
+    count: usize,
     vertex: FixedVertexHandle,
     tests: &P,
     turned: &mut Vec<VertexPair>,
 )
-    requires within { first < length dcel.old.directed }
+    requires round { IsRound dcel.old.mesh (origin dcel.old.mesh first) first count }
     requires starts { origin dcel.old.mesh first ≡ vertex }
     requires shape { LocalMesh (map V.place dcel.old.vertices) (faces_of dcel.old.mesh)
         (outer_of dcel.old.mesh) }
@@ -174,7 +177,7 @@ pub(crate) fn isolate_inner<V: HasPosition, DE: Drop, UE: Drop, F: Drop, P: Plan
     ensures { IsolatesVertex (map V.place dcel.old.vertices) dcel.old dcel.new vertex
         turned.new.items }
 {
-    let (first, count) = shrink_star(dcel, first, tests, turned);
+    let (first, count) = shrink_star(dcel, first, count, tests, turned);
     dcel.recall_invariant();
     if count == 3 {
         fill_three(dcel, first, vertex);

@@ -6,7 +6,7 @@ use Rattle.delaunay_removal.proofs.HullEdges.{faces_inner}
 use Rattle.delaunay_removal.proofs.removal_hull.outer_edge_beside.Goals as goal
 
 pub returns-then-is_outer-clause-starts : goal.returns-then-is_outer-clause-starts
-returns-then-is_outer-clause-starts g c = ap (origin c.args.dcel.now.mesh) c.loop-i.invariant.here ∙ c.count_edges-count.ensures.starts c.loop-i.i
+returns-then-is_outer-clause-starts g c = ap (origin c.args.dcel.now.mesh) c.loop-i.invariant.here ∙ c.requires.round.starts c.loop-i.i
 
 pub loop-i-preserved : goal.loop-i-preserved
 loop-i-preserved g c =
@@ -15,5 +15,5 @@ loop-i-preserved g c =
 
 pub returns-clause-none : goal.returns-clause-none
 returns-clause-none g c =
-    faces_inner c.args.dcel.now.mesh (origin c.args.dcel.now.mesh c.args.first) c.args.first c.count_edges-count.result c.recall_invariant.ensures.whole.valid.sound c.count_edges-count.ensures
+    faces_inner c.args.dcel.now.mesh (origin c.args.dcel.now.mesh c.args.first) c.args.first c.args.count c.recall_invariant.ensures.whole.valid.sound c.requires.round
     (λ i less. c.loop-i.invariant.none i (let e = c.loop-i-test.false in omega (arith, e, less)))

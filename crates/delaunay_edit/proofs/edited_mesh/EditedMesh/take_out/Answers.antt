@@ -1,4 +1,5 @@
 use Rattle.std.proofs.Common.{ℕ, List, ◌++◌, length, map, sym, subst}
+use Rattle.std.proofs.lemmas.Bool.{eqb-true}
 use Rattle.plane.specs.Plain.{Removes}
 use Rattle.plane_edits.specs.Legal.{AllPassBut}
 use Rattle.mesh_embedding.specs.Drawn.{faces_of}
@@ -8,6 +9,7 @@ use Rattle.delaunay_removal.specs.Data.{KeepsDataBeside}
 use Rattle.delaunay_removal.specs.Pairs.{pairs_left}
 use Rattle.delaunay_removal.proofs.DataLegalized.{legalized_keeps_others}
 use Rattle.delaunay_removal.proofs.Passing.{passes_but}
+use Rattle.delaunay_edit.proofs.EmptyRound.{none_counted}
 use Rattle.delaunay_edit.proofs.FreeRemoval.{sides_settle}
 use Rattle.delaunay_edit.proofs.Removing.{sites_left, room_left, removed_on}
 use Rattle.delaunay_edit.proofs.Recounted.{counted_removed, some_removed}
@@ -42,6 +44,11 @@ returns-clause-data g c =
 pub remove_vertex-value-requires-clause-pairs : goal.remove_vertex-value-requires-clause-pairs
 remove_vertex-value-requires-clause-pairs g c = c.in_ok-turned.ensures
 
+pub remove_vertex-value-requires-clause-free : goal.remove_vertex-value-requires-clause-free
+remove_vertex-value-requires-clause-free g c free =
+    none_counted g.V.HasPosition.place g.M.ConstraintMarker.constraints (state_of c.self.inside.dcel)
+    c.self.inside.num_constraints c.self.invariant (eqb-true _ _ free)
+
 pub legalize_pairs-requires-clause-passing : goal.legalize_pairs-requires-clause-passing
 legalize_pairs-requires-clause-passing g c =
     let at = g.V.HasPosition.place in
@@ -61,10 +68,10 @@ overflow_sub-self g c =
     let marker = g.M.ConstraintMarker in
     some_removed at marker.marks marker.constraints g.met.M.ConstraintMarker.constraints_are_marked
     (state_of c.self.inside.dcel) (state_of c.legalize_pairs.new.dcel) c.self.inside.num_constraints c.self.invariant
-    c.legalize_pairs.ensures.legal c.args.vertex c.count_constraints_at-ending.result
+    c.legalize_pairs.ensures.legal c.args.vertex c.count_ending-ending.result
     (removed_on at marker.constraints (state_of c.self.inside.dcel) c.remove_vertex-value.new.dcel c.legalize_pairs.new.dcel
     c.args.vertex c.remove_vertex-value.ensures.plain c.legalize_pairs.ensures.contents c.legalize_pairs.ensures.constraints)
-    c.count_constraints_at-ending.ensures
+    c.count_ending-ending.ensures
 
 pub invariant_of-self-3 : goal.invariant_of-self-3
 invariant_of-self-3 g c =
@@ -72,7 +79,7 @@ invariant_of-self-3 g c =
     let marker = g.M.ConstraintMarker in
     counted_removed at marker.marks marker.constraints g.met.M.ConstraintMarker.constraints_are_marked
     (state_of c.self.inside.dcel) (state_of c.legalize_pairs.new.dcel) c.self.inside.num_constraints c.self.invariant
-    c.legalize_pairs.ensures.legal c.args.vertex c.count_constraints_at-ending.result
+    c.legalize_pairs.ensures.legal c.args.vertex c.count_ending-ending.result
     (removed_on at marker.constraints (state_of c.self.inside.dcel) c.remove_vertex-value.new.dcel c.legalize_pairs.new.dcel
     c.args.vertex c.remove_vertex-value.ensures.plain c.legalize_pairs.ensures.contents c.legalize_pairs.ensures.constraints)
-    c.count_constraints_at-ending.ensures
+    c.count_ending-ending.ensures
