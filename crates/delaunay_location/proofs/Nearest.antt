@@ -1,5 +1,5 @@
 -- A running search for the least of some numbers, and the vertex at the least distance.
-use Rattle.std.proofs.Common.{◌≡◌, ℕ, ◌+◌, ◌<◌, arith, below_more, subst}
+use Rattle.std.proofs.Common.{◌≡◌, ◌⊎◌, ℕ, ◌+◌, ◌<◌, arith, below_more, subst, inl, inr}
 use Rattle.std.specs.Prelude.{ℤ, pos, ◌*ℤ◌, ◌<ℤ◌, ◌≤ℤ◌, length}
 use Rattle.std.proofs.lemmas.Int.{ints}
 use Rattle.plane.specs.Fraction.{Point, whole}
@@ -14,6 +14,9 @@ itself a = omega (arith, ints)
 through : (a b c : ℤ) → a <ℤ b → b ≤ℤ c → a ≤ℤ c
 through a b c h k = omega (arith, ints)
 
+less_through : (a b c : ℤ) → a <ℤ b → b <ℤ c → a <ℤ c
+less_through a b c h k = omega (arith, ints)
+
 module _ (at : ℕ → ℤ) where
   -- the first number is the least of one
   pub first_is_least : (e : ℕ) → e ≡ 0 → (h : ℕ) → h < 1 → at e ≤ℤ at h
@@ -26,6 +29,11 @@ module _ (at : ℕ → ℤ) where
   -- the least stays so with one number more that is not less
   pub still_least : (i e least : ℕ) → e ≡ i → ¬ (at e <ℤ at least) → ((h : ℕ) → h < i → at least ≤ℤ at h) → (h : ℕ) → h < i + 1 → at least ≤ℤ at h
   still_least i e least is not_less before = below_more (λ h. at least ≤ℤ at h) i before (subst (λ k. at least ≤ℤ at k) is (at_most_if_not_less (at e) (at least) not_less))
+
+  -- what is less than the number that is the first, or less than it, is less than the first
+  pub less_than_first : (e least first : ℕ) → at e <ℤ at least → (least ≡ first) ⊎ (at least <ℤ at first) → at e <ℤ at first
+  less_than_first e least first less (inl same) = subst (λ k. at e <ℤ at k) same less
+  less_than_first e least first less (inr below) = less_through (at e) (at least) (at first) less below
 
 not_nearer : (a b : ℤ) → a ≤ℤ b → ¬ ((b *ℤ (pos 1 *ℤ pos 1)) <ℤ (a *ℤ (pos 1 *ℤ pos 1)))
 not_nearer a b least nearer = omega (arith, ints)

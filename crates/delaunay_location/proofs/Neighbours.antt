@@ -1,5 +1,5 @@
 -- A walk from vertex to nearer neighbour.
-use Rattle.std.proofs.Common.{◌≡◌, ◌⊎◌, ℕ, ◌+◌, ◌^◌, ◌<◌, ◌≤◌, List, length, sym, subst, inl, inr, arith}
+use Rattle.std.proofs.Common.{◌≡◌, ◌⊎◌, ℕ, ◌+◌, ◌^◌, ◌<◌, ◌≤◌, List, length, sym, ap, subst, inl, inr, arith}
 use Rattle.std.specs.Prelude.{◌<ℤ◌}
 use Rattle.half_edge_mesh.specs.Mesh.{Mesh, origin, rev, AreSoundLinks}
 use Rattle.plane.specs.Fraction.{Point, whole}
@@ -32,6 +32,9 @@ counts_on moves was k here n l a = omega (arith, l, a)
 
 below_by : (a b c d : ℕ) → a + b < c → c ≤ d → a < d
 below_by a b c d h l = omega (arith, h, l)
+
+still_below : (moves k here n : ℕ) → k ≤ here → moves + here < n → moves + k < n
+still_below moves k here n a l = omega (arith, a, l)
 
 some_more : (moves was here n : ℕ) → moves ≡ was → here < n → moves < was + n
 some_more moves was here n e v = omega (arith, e, v)
@@ -71,6 +74,23 @@ module _ (t : Triangulation) (p : Point) (was : ℕ) where
       -- after such a move the walk is at the nearer vertex
       pub walking_goes_on : IsWalking t p k was (moves + 1)
       walking_goes_on = record { within = h; grown = (let g = w.grown in omega (arith, g)); fewer = inr still_fewer }
+
+    module _ (k : ℕ) (h : k < length t.points) (at_most : (k ≡ here) ⊎ IsNearer (whole p) (vertex t k) (vertex t here)) where
+      -- the same vertex or a nearer one has no more vertices that are nearer than it
+      pub nearer_falls_or_stays : nearer_count t (whole p) k ≤ nearer_count t (whole p) here
+      nearer_falls_or_stays = go at_most
+        where
+          go : (k ≡ here) ⊎ IsNearer (whole p) (vertex t k) (vertex t here) → nearer_count t (whole p) k ≤ nearer_count t (whole p) here
+          go (inl e) = let c : nearer_count t (whole p) k ≡ nearer_count t (whole p) here = ap (nearer_count t (whole p)) e in omega (arith, c)
+          go (inr near) = let f = nearer_falls k h near in omega (arith, f)
+
+      -- the walk can go on from there without a move
+      pub walking_jumps : IsWalking t p k was moves
+      walking_jumps = record { within = h; grown = w.grown; fewer = go w.fewer }
+        where
+          go : (moves ≡ was) ⊎ (moves + nearer_count t (whole p) here < was + length t.points) → (moves ≡ was) ⊎ (moves + nearer_count t (whole p) k < was + length t.points)
+          go (inl e) = inl e
+          go (inr l) = inr (still_below moves (nearer_count t (whole p) k) (nearer_count t (whole p) here) (was + length t.points) nearer_falls_or_stays l)
 
     -- there were fewer moves than there are vertices
     pub walking_ends : moves < was + length t.points

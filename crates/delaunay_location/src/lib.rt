@@ -7,6 +7,7 @@ mod nearest_vertex;
 mod nearest_walk;
 mod parts;
 mod position_in_triangulation;
+mod samples;
 mod steps;
 mod walk;
 

@@ -1,5 +1,5 @@
 //! The vertex that is nearest to a position, by a walk from neighbour to neighbour.
-ghost use Rattle.std.specs.Prelude.{◌≡◌, ℕ, ◌+◌, ◌<◌, ◌≤◌, ◌^◌, [], length, MatchOption};
+ghost use Rattle.std.specs.Prelude.{◌≡◌, ◌⊎◌, ℕ, ◌+◌, ◌<◌, ◌≤◌, ◌^◌, [], length, MatchOption};
 ghost use Rattle.plane.specs.Fraction.{whole as fraction};
 ghost use Rattle.plane.specs.Circle.{IsNearer};
 ghost use Rattle.plane.specs.Delaunay.{IsConstrainedDelaunay};
@@ -12,8 +12,12 @@ ghost use Rattle.delaunay_legalization.specs.State.{state_of, triangulation_of};
 
 use crate::nearest_vertex::is_nearer;
 use crate::parts::end_vertex;
+use crate::samples::nearer_sample;
 use delaunay_core::point::{HasPosition, Point2};
 use half_edge_mesh::{Dcel, FixedVertexHandle, MeshViews};
+
+// After so many moves a walk looks for a nearer vertex anywhere in the mesh.
+const FEW_MOVES: u64 = 16;
 
 // A neighbour of a vertex that is strictly nearer to a position, if there is one.
 fn nearer_neighbor<V: HasPosition, DE, UE, F>(
@@ -38,6 +42,28 @@ fn nearer_neighbor<V: HasPosition, DE, UE, F>(
     None
 }
 
+// Where a walk goes on from after some moves: where it is, but at each sixteenth move at a vertex
+// anywhere in the mesh, if one of those looked at is nearer.
+fn after_moves<V: HasPosition, DE, UE, F>(
+    dcel: &Dcel<V, DE, UE, F>,
+    from: FixedVertexHandle,
+    moves: u64,
+    point: Point2<V::Scalar>,
+) -> FixedVertexHandle
+    requires kept { IsTriangulated V.place (state_of dcel.now) }
+    requires within { from < length dcel.now.vertices }
+    requires in_range { InRange (place_of V.Scalar.whole point) }
+    ensures within { result < length dcel.now.vertices }
+    ensures nearer { let t = triangulation_of V.place (state_of dcel.now) in (result ≡ from) ⊎
+        IsNearer (fraction (place_of V.Scalar.whole point)) (vertex t result) (vertex t from) }
+{
+    if moves % FEW_MOVES == 0 {
+        nearer_sample(dcel, from, point)
+    } else {
+        from
+    }
+}
+
 // The vertex that is nearest to a position, by a walk from `start` to nearer neighbours until there
 // is none. It adds the number of its moves to `moves`: fewer than there are vertices.
 pub fn nearest_by_neighbors<V: HasPosition, DE, UE, F>(
@@ -57,8 +83,8 @@ pub fn nearest_by_neighbors<V: HasPosition, DE, UE, F>(
 {
     let mut nearest = start;
     while let Some(nearer) = nearer_neighbor(dcel, nearest, point) {
-        nearest = nearer;
         *moves += 1;
+        nearest = after_moves(dcel, nearer, *moves, point);
     }
     nearest
 }

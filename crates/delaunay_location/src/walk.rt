@@ -1,6 +1,7 @@
 //! Where a position is, by a walk from face to face.
 ghost use Rattle.std.specs.Prelude.{◌≡◌, ◌<◌, length, map, All, IfSome, MatchOption};
 ghost use Rattle.half_edge_mesh.specs.Mesh.{face};
+ghost use Rattle.plane.specs.Tests.{InRange};
 ghost use Rattle.delaunay_core.specs.Place.{place_of};
 ghost use Rattle.delaunay_legalization.specs.Known.{point_at};
 ghost use Rattle.delaunay_legalization.specs.Parts.{IsApart};
@@ -11,11 +12,15 @@ ghost use Rattle.delaunay_location.specs.Location.{Locates};
 use crate::location::{is_inside_face, locate_by_scan};
 use crate::parts::{ends_of, left_face, start_vertex};
 use crate::position_in_triangulation::PositionInTriangulation;
+use crate::samples::nearer_sample;
 use crate::steps::{stop_at, way_out};
 use delaunay_core::math::PlaneTests;
 use delaunay_core::point::{HasPosition, Point2};
 use delaunay_legalization::{is_outer, is_same_point, is_strictly_within, turns_left};
 use half_edge_mesh::{Dcel, FixedDirectedEdgeHandle, FixedVertexHandle, MeshViews};
+
+// After so many steps a walk looks for a nearer vertex anywhere in the mesh.
+const FEW_STEPS: usize = 16;
 
 // The location of a position on an edge: at its start, or within it.
 fn place_on_edge<V: HasPosition, DE, UE, F, P: PlaneTests<V::Scalar>>(
@@ -118,8 +123,55 @@ fn place_at<V: HasPosition, DE, UE, F, P: PlaneTests<V::Scalar>>(
     }
 }
 
+// Where a walk from an edge is that has ended, or after a number of steps: the edge that has this
+// face on its left, and whether it has ended.
+fn walk_on<V: HasPosition, DE, UE, F, P: PlaneTests<V::Scalar>>(
+    dcel: &Dcel<V, DE, UE, F>,
+    start: FixedDirectedEdgeHandle,
+    steps: usize,
+    point: Point2<V::Scalar>,
+    tests: &P,
+) -> (FixedDirectedEdgeHandle, bool)
+    requires kept { IsTriangulated V.place (state_of dcel.now) }
+    requires within { start < length dcel.now.directed }
+    requires sites { All (P.sites tests.now) (map V.place dcel.now.vertices) }
+    requires covered { P.covered tests.now (place_of V.Scalar.whole point) }
+    ensures { result.0 < length dcel.now.directed }
+{
+    let mut stop = stop_at(dcel, start, tests);
+    for _ in 0..steps {
+        let edge = stop.edge;
+        match way_out(dcel, stop, point, tests) {
+            Some(beyond) => stop = beyond,
+            None => return (edge, true),
+        }
+    }
+    (stop.edge, false)
+}
+
+// An edge that starts at the nearest of some vertices all over the mesh, or the edge `other` where
+// that starts nearer.
+fn nearer_edge<V: HasPosition, DE, UE, F>(
+    dcel: &Dcel<V, DE, UE, F>,
+    other: FixedDirectedEdgeHandle,
+    point: Point2<V::Scalar>,
+) -> FixedDirectedEdgeHandle
+    requires kept { IsTriangulated V.place (state_of dcel.now) }
+    requires within { other < length dcel.now.directed }
+    requires in_range { InRange (place_of V.Scalar.whole point) }
+    ensures { result < length dcel.now.directed }
+{
+    let from = start_vertex(dcel, other);
+    let nearest = nearer_sample(dcel, from, point);
+    match dcel.vertex(nearest).out_edge() {
+        Some(edge) if nearest != from => edge.fix(),
+        _ => other,
+    }
+}
+
 // The location that a walk from an edge ends at, unless it has not ended after as many steps as
-// there are directed edges. Among faces that pass the circle test it ends earlier.
+// there are directed edges. Among faces that pass the circle test it ends earlier. A long walk goes
+// on at a vertex all over the mesh, if one of those looked at is nearer.
 fn walk<V: HasPosition, DE, UE, F, P: PlaneTests<V::Scalar>>(
     dcel: &Dcel<V, DE, UE, F>,
     start: FixedDirectedEdgeHandle,
@@ -133,15 +185,13 @@ fn walk<V: HasPosition, DE, UE, F, P: PlaneTests<V::Scalar>>(
     ensures { IfSome result (Locates (map V.place dcel.now.vertices) dcel.now.mesh
         (place_of V.Scalar.whole point)) }
 {
-    let mut stop = stop_at(dcel, start, tests);
-    for _ in 0..dcel.num_directed_edges() {
-        let edge = stop.edge;
-        match way_out(dcel, stop, point, tests) {
-            Some(beyond) => stop = beyond,
-            None => return place_at(dcel, edge, point, tests),
-        }
+    let (edge, has_ended) = walk_on(dcel, start, FEW_STEPS, point, tests);
+    if has_ended {
+        return place_at(dcel, edge, point, tests);
     }
-    None
+    let edge = nearer_edge(dcel, edge, point);
+    let (edge, _) = walk_on(dcel, edge, dcel.num_directed_edges(), point, tests);
+    place_at(dcel, edge, point, tests)
 }
 
 // An edge that a walk begins at: one of the vertex `hint`, or of vertex 0 where there is no such

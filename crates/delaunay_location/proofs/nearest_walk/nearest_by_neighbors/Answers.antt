@@ -1,10 +1,10 @@
-use Rattle.std.proofs.Common.{refl, subst, sym, ℕ, ◌<◌, ◌≤◌, ◌+◌, ◌^◌, arith}
+use Rattle.std.proofs.Common.{refl, subst, sym, ℕ, ◌<◌, ◌≤◌, ◌+◌, ◌^◌, length, arith}
 use Rattle.std.proofs.lemmas.List.{length-map}
 use Rattle.plane.specs.Fraction.{whole}
 use Rattle.plane_delaunay.proofs.Circles.Nearest.{nearest_by_neighbours}
 use Rattle.delaunay_core.specs.Place.{place_of}
 use Rattle.delaunay_legalization.specs.State.{state_of, triangulation_of}
-use Rattle.delaunay_location.proofs.Neighbours.{walking_begins, walking_goes_on, walking_ends, nearer_falls, move_fits}
+use Rattle.delaunay_location.proofs.Neighbours.{walking_begins, walking_goes_on, walking_ends, nearer_falls, nearer_falls_or_stays, walking_jumps, move_fits}
 use Rattle.delaunay_location.proofs.nearest_walk.nearest_by_neighbors.Goals as goal
 
 pub loop-nearer-init : goal.loop-nearer-init
@@ -15,12 +15,21 @@ loop-nearer-init g c =
 pub loop-nearer-preserved : goal.loop-nearer-preserved
 loop-nearer-preserved g c =
     let vertices = c.args.dcel.now.vertices in
-    walking_goes_on (triangulation_of g.V.HasPosition.place (state_of c.args.dcel.now)) (place_of g.V.Scalar.SpadeNum.whole c.args.point) c.args.moves.now c.loop-nearer.nearest c.loop-nearer.moves c.loop-nearer.invariant c.in-Some.nearer (let w = c.in-Some.ensures.0 in omega (arith, w, length-map vertices g.V.HasPosition.place)) c.in-Some.ensures.1
+    let t = triangulation_of g.V.HasPosition.place (state_of c.args.dcel.now) in
+    let p = place_of g.V.Scalar.SpadeNum.whole c.args.point in
+    let moved = walking_goes_on t p c.args.moves.now c.loop-nearer.nearest c.loop-nearer.moves c.loop-nearer.invariant c.in-Some.nearer (let w = c.in-Some.ensures.0 in omega (arith, w, length-map vertices g.V.HasPosition.place)) c.in-Some.ensures.1 in
+    walking_jumps t p c.args.moves.now c.in-Some.nearer (c.loop-nearer.moves + 1) moved c.after_moves-nearest.result (let w = c.after_moves-nearest.ensures.within in omega (arith, w, length-map vertices g.V.HasPosition.place)) c.after_moves-nearest.ensures.nearer
 
 pub loop-nearer-smaller : goal.loop-nearer-smaller
 loop-nearer-smaller g c =
     let vertices = c.args.dcel.now.vertices in
-    nearer_falls (triangulation_of g.V.HasPosition.place (state_of c.args.dcel.now)) (place_of g.V.Scalar.SpadeNum.whole c.args.point) c.args.moves.now c.loop-nearer.nearest c.loop-nearer.moves c.loop-nearer.invariant c.in-Some.nearer (let w = c.in-Some.ensures.0 in omega (arith, w, length-map vertices g.V.HasPosition.place)) c.in-Some.ensures.1
+    let t = triangulation_of g.V.HasPosition.place (state_of c.args.dcel.now) in
+    let p = place_of g.V.Scalar.SpadeNum.whole c.args.point in
+    let within : c.in-Some.nearer < length t.points = let w = c.in-Some.ensures.0 in omega (arith, w, length-map vertices g.V.HasPosition.place) in
+    let moved = walking_goes_on t p c.args.moves.now c.loop-nearer.nearest c.loop-nearer.moves c.loop-nearer.invariant c.in-Some.nearer within c.in-Some.ensures.1 in
+    let falls = nearer_falls t p c.args.moves.now c.loop-nearer.nearest c.loop-nearer.moves c.loop-nearer.invariant c.in-Some.nearer within c.in-Some.ensures.1 in
+    let stays = nearer_falls_or_stays t p c.args.moves.now c.in-Some.nearer (c.loop-nearer.moves + 1) moved c.after_moves-nearest.result (let w = c.after_moves-nearest.ensures.within in omega (arith, w, length-map vertices g.V.HasPosition.place)) c.after_moves-nearest.ensures.nearer in
+    omega (arith, falls, stays)
 
 pub overflow_add-moves : goal.overflow_add-moves
 overflow_add-moves g c =

@@ -1,0 +1,50 @@
+//! Vertices all over a mesh, of which one may be nearer to a position than where a search is.
+ghost use Rattle.std.specs.Prelude.{◌≡◌, ◌⊎◌, ◌+◌, ◌<◌, ◌≤◌, length};
+ghost use Rattle.plane.specs.Fraction.{whole as fraction};
+ghost use Rattle.plane.specs.Circle.{IsNearer};
+ghost use Rattle.plane.specs.Tests.{InRange};
+ghost use Rattle.plane.specs.Tiling.{vertex};
+ghost use Rattle.delaunay_core.specs.Place.{place_of};
+ghost use Rattle.delaunay_legalization.specs.Shape.{IsTriangulated};
+ghost use Rattle.delaunay_legalization.specs.State.{state_of, triangulation_of};
+
+use crate::nearest_vertex::is_nearer;
+use delaunay_core::point::{HasPosition, Point2};
+use half_edge_mesh::{Dcel, FixedVertexHandle};
+
+// How far apart the indexes of samples are: of so many vertices about the cube root is taken.
+fn stride(count: usize) -> usize
+    ensures positive { 0 < result }
+    ensures few { result ≤ count + 1 }
+{
+    let bits = 64 - (count as u64).leading_zeros();
+    (count >> (bits / 3)).max(1)
+}
+
+// The nearest to a position of some vertices all over the mesh, or the vertex `from`, where none of
+// them is nearer.
+pub(crate) fn nearer_sample<V: HasPosition, DE, UE, F>(
+    dcel: &Dcel<V, DE, UE, F>,
+    from: FixedVertexHandle,
+    point: Point2<V::Scalar>,
+) -> FixedVertexHandle
+    requires kept { IsTriangulated V.place (state_of dcel.now) }
+    requires within { from < length dcel.now.vertices }
+    requires in_range { InRange (place_of V.Scalar.whole point) }
+    ensures within { result < length dcel.now.vertices }
+    ensures nearer { let t = triangulation_of V.place (state_of dcel.now) in (result ≡ from) ⊎
+        IsNearer (fraction (place_of V.Scalar.whole point)) (vertex t result) (vertex t from) }
+{
+    let count = dcel.num_vertices();
+    let stride = stride(count);
+    let mut nearest = from;
+    let mut index = 0;
+    while index < count {
+        let vertex = FixedVertexHandle::from_index(index as u32);
+        if is_nearer(dcel, vertex, nearest, point) {
+            nearest = vertex;
+        }
+        index += stride;
+    }
+    nearest
+}
