@@ -23,6 +23,7 @@ fn stride(count: usize) -> usize
 
 // The nearest to a position of some vertices all over the mesh, or the vertex `from`, where none of
 // them is nearer.
+#[inline(never)]
 pub(crate) fn nearer_sample<V: HasPosition, DE, UE, F>(
     dcel: &Dcel<V, DE, UE, F>,
     from: FixedVertexHandle,

@@ -151,6 +151,7 @@ fn walk_on<V: HasPosition, DE, UE, F, P: PlaneTests<V::Scalar>>(
 
 // An edge that starts at the nearest of some vertices all over the mesh, or the edge `other` where
 // that starts nearer.
+#[inline(never)]
 fn nearer_edge<V: HasPosition, DE, UE, F>(
     dcel: &Dcel<V, DE, UE, F>,
     other: FixedDirectedEdgeHandle,
