@@ -1,6 +1,11 @@
-use Rattle.std.proofs.Common.{inl}
+use Rattle.std.proofs.Common.{inl, inr, refl}
+use Rattle.triangulate_run.specs.Run.{bad_line}
 use Rattle.triangulate_run.proofs.OutputLemmas.{works_if_ok}
 use Rattle.triangulate_run.proofs.session.answer_line.Goals as goal
+
+pub returns-in_default-clause-answered : goal.returns-in_default-clause-answered
+returns-in_default-clause-answered g c = λ whole held.
+    (bad_line, inr (c.in_default.ensures.none whole held, refl, refl), c.write_all.ensures)
 
 pub returns-clause-answered : goal.returns-clause-answered
 returns-clause-answered g c = λ whole held.
