@@ -73,8 +73,8 @@ overflow_sub-self g c =
     c.args.vertex c.remove_vertex-value.ensures.plain c.legalize_pairs.ensures.contents c.legalize_pairs.ensures.constraints)
     c.count_ending-ending.ensures
 
-pub invariant_of-self-3 : goal.invariant_of-self-3
-invariant_of-self-3 g c =
+pub invariant_of-self-4 : goal.invariant_of-self-4
+invariant_of-self-4 g c =
     let at = g.V.HasPosition.place in
     let marker = g.M.ConstraintMarker in
     counted_removed at marker.marks marker.constraints g.met.M.ConstraintMarker.constraints_are_marked
