@@ -1,5 +1,5 @@
 //! Calls that remove. Each looks first whether it may be made, and gives nothing where it may not.
-ghost use Rattle.std.specs.Prelude.{◌≡◌, ◌≢◌, ◌<◌, ◌∷◌, [], length, slice_index, IsTrue, IfSome};
+ghost use Rattle.std.specs.Prelude.{◌≡◌, ◌≢◌, ◌<◌, length, IsTrue, IfSome};
 ghost use Rattle.half_edge_mesh.specs.Mesh.{face, next, origin, prev, rev};
 ghost use Rattle.half_edge_mesh.specs.Peel.{turn};
 
@@ -169,58 +169,9 @@ fn end_apart(mesh: &Mesh, edge: FixedDirectedEdgeHandle, other: FixedDirectedEdg
         && mesh.directed_edge(other).to().index != mesh.directed_edge(edge).to().index
 }
 
-// Takes the edges of a vertex away that has these three, with these sides opposite it in its faces.
-fn isolate_between_three(
-    mesh: &mut Mesh,
-    spokes: [FixedDirectedEdgeHandle; 3],
-    sides: [FixedDirectedEdgeHandle; 3],
-    vertex: FixedVertexHandle,
-) -> IsolateVertexResult
-    requires within { slice_index spokes 0 < length mesh.old.directed }
-    requires starts { origin mesh.old.mesh (slice_index spokes 0) ≡ vertex }
-    requires first { 0 < face mesh.old.mesh (slice_index spokes 0) }
-    requires second { 0 < face mesh.old.mesh (slice_index spokes 1) }
-    requires third { 0 < face mesh.old.mesh (slice_index spokes 2) }
-    requires at_second { slice_index spokes 1 ≡ turn mesh.old.mesh (slice_index spokes 0) }
-    requires at_third { slice_index spokes 2 ≡ turn mesh.old.mesh (slice_index spokes 1) }
-    requires round { slice_index spokes 0 ≡ turn mesh.old.mesh (slice_index spokes 2) }
-    requires sides { let m = mesh.old.mesh in
-        sides ≡ next m (slice_index spokes 0) ∷ next m (slice_index spokes 1) ∷ next m
-        (slice_index spokes 2) ∷ [] }
-{
-    let _whole = mesh.num_vertices();
-    mesh.isolate_vertex_and_fill_hole(&sides, vertex)
-}
-
-// Takes the edges of a vertex away that has these four, with these sides opposite it in its faces.
-fn isolate_between_four(
-    mesh: &mut Mesh,
-    spokes: [FixedDirectedEdgeHandle; 4],
-    sides: [FixedDirectedEdgeHandle; 4],
-    vertex: FixedVertexHandle,
-) -> IsolateVertexResult
-    requires within { slice_index spokes 0 < length mesh.old.directed }
-    requires starts { origin mesh.old.mesh (slice_index spokes 0) ≡ vertex }
-    requires first { 0 < face mesh.old.mesh (slice_index spokes 0) }
-    requires second { 0 < face mesh.old.mesh (slice_index spokes 1) }
-    requires third { 0 < face mesh.old.mesh (slice_index spokes 2) }
-    requires fourth { 0 < face mesh.old.mesh (slice_index spokes 3) }
-    requires at_second { slice_index spokes 1 ≡ turn mesh.old.mesh (slice_index spokes 0) }
-    requires at_third { slice_index spokes 2 ≡ turn mesh.old.mesh (slice_index spokes 1) }
-    requires at_fourth { slice_index spokes 3 ≡ turn mesh.old.mesh (slice_index spokes 2) }
-    requires round { slice_index spokes 0 ≡ turn mesh.old.mesh (slice_index spokes 3) }
-    requires corners { let m = mesh.old.mesh in
-        origin m (rev (slice_index spokes 2)) ≢ origin m (rev (slice_index spokes 0)) }
-    requires sides { let m = mesh.old.mesh in
-        sides ≡ next m (slice_index spokes 0) ∷ next m (slice_index spokes 1) ∷ next m
-        (slice_index spokes 2) ∷ next m (slice_index spokes 3) ∷ [] }
-{
-    let _whole = mesh.num_vertices();
-    mesh.isolate_vertex_and_fill_hole(&sides, vertex)
-}
-
-// The same, where a vertex has three or four inner faces.
+// Takes the edges of a vertex away that has three or four inner faces round it.
 fn isolate_vertex(mesh: &mut Mesh, vertex: FixedVertexHandle) -> Option<IsolateVertexResult> {
+    let _whole = mesh.num_vertices();
     let Some(a) = out_edge(mesh, vertex) else {
         return None;
     };
@@ -234,7 +185,7 @@ fn isolate_vertex(mesh: &mut Mesh, vertex: FixedVertexHandle) -> Option<IsolateV
         return None;
     };
     if d.index() == a.index() {
-        return Some(isolate_between_three(mesh, [a, b, c], [ab, bc, cd], vertex));
+        return Some(mesh.isolate_vertex_and_fill_hole(&[ab, bc, cd], vertex));
     }
     let Some((end, da)) = after(mesh, d) else {
         return None;
@@ -242,7 +193,7 @@ fn isolate_vertex(mesh: &mut Mesh, vertex: FixedVertexHandle) -> Option<IsolateV
     if end.index() != a.index() || !end_apart(mesh, a, c) {
         return None;
     }
-    Some(isolate_between_four(mesh, [a, b, c, d], [ab, bc, cd, da], vertex))
+    Some(mesh.isolate_vertex_and_fill_hole(&[ab, bc, cd, da], vertex))
 }
 
 /// The index of a vertex with three or four faces round it: it has lost its edges, and one or two

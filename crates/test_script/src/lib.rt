@@ -1,4 +1,5 @@
-//! A line of a test's script: the name of a call and some numbers, and what the call gives.
+//! A test's script: each line has the name of a call and some numbers, and is printed with what the
+//! call gives. Lines that start with `#` are printed as they are.
 #![tactic(auto)]
 
 use delaunay_core::point::Point2;
@@ -52,6 +53,12 @@ impl<'a> Call<'a> {
         [index(first), index(second), index(third)]
     }
 
+    /// The first four numbers as two points.
+    pub fn ends(&self) -> (Point2<i64>, Point2<i64>) {
+        let [x, y, u, v, ..] = self.numbers;
+        (Point2::new(x, y), Point2::new(u, v))
+    }
+
     /// All numbers of the line, two by two.
     pub fn positions(&self, alloc: Global) -> Result<Vec<Point2<i64>>, AllocError> {
         let mut positions = Vec::new(alloc);
@@ -71,4 +78,22 @@ impl<'a> Call<'a> {
         let line = self.line;
         println!(rt; "{line} > {answer:?}")
     }
+}
+
+/// What answers the calls of a script.
+pub trait Answers {
+    /// Makes the call that a line asks for, and prints what it gives.
+    fn answer(&mut self, rt: &(impl Print + AllocGlobal), call: &Call<'_>) -> io::Result<()>;
+}
+
+/// Runs the script that standard input has.
+pub fn run<S: Answers>(rt: &(impl Input + Print + AllocGlobal), session: &mut S) -> io::Result<()> {
+    for line in rt.lines(rt.alloc()) {
+        let line = line?;
+        match Call::parse(line.as_str()) {
+            Some(call) => session.answer(rt, &call)?,
+            None => println!(rt; "{line}")?,
+        }
+    }
+    Ok(())
 }
