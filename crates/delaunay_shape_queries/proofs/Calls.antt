@@ -1,5 +1,5 @@
 -- What the calls of a triangulation hand to a search over its mesh, and make of what it gives.
-use Rattle.std.proofs.Common.{◌≡◌, ℕ, ◌<◌, List, length, map, sym, subst, arith}
+use Rattle.std.proofs.Common.{◌≡◌, map, sym, subst, arith}
 use Rattle.std.specs.Prelude.{ℤ, All, Result, Ok, Err, IfOk}
 use Rattle.std.specs.Borrow.{Bor}
 use Rattle.std.proofs.lemmas.List.Elements.{All-map}

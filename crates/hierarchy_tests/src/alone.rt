@@ -1,5 +1,5 @@
 //! A generator by itself.
-ghost use Rattle.std.specs.Prelude.{◌≡◌, Some};
+ghost use Rattle.std.specs.Prelude.{Some};
 ghost use Rattle.plane.specs.Hint.{IsAtMost};
 ghost use Rattle.plane.specs.Tests.{InRange};
 

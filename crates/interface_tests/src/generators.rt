@@ -1,8 +1,8 @@
 //! A hint generator that lists what it is told.
-ghost use Rattle.std.specs.Prelude.{◌≡◌, All, Some};
+ghost use Rattle.std.specs.Prelude.{◌≡◌, Some};
 ghost use Rattle.spade_delaunay.specs.Fraction.{Point};
-ghost use Rattle.spade_delaunay.specs.Hint.{IsAtMostOf, IsAtMostWith, IsAtMostWithout};
-ghost use Rattle.spade_delaunay.specs.Held.{AreDistinct, place_if, places};
+ghost use Rattle.spade_delaunay.specs.Hint.{IsAtMostWith, IsAtMostWithout};
+ghost use Rattle.spade_delaunay.specs.Held.{place_if};
 ghost use Rattle.spade_delaunay.specs.Place.{place_of};
 
 use spade_delaunay::handles::FixedVertexHandle;

@@ -1,5 +1,4 @@
 //! Vertices with data beside their position.
-ghost use Rattle.std.specs.Prelude.{◌≡◌};
 ghost use Rattle.delaunay_core.specs.Place.{place_of};
 
 use spade_delaunay::{HasPosition, Point2};

@@ -1,5 +1,5 @@
 //! The answers of a triangulation to commands.
-ghost use Rattle.std.specs.Prelude.{◌≡◌, ℕ, true, false, All, List, [], MatchOption};
+ghost use Rattle.std.specs.Prelude.{◌≡◌, ℕ, true, false, All, List, MatchOption};
 ghost use Rattle.watched.specs.Watched.{has_failed};
 ghost use Rattle.triangulate_run.specs.Stage.{position, first_stage, Fits};
 ghost use Rattle.triangulate_run.specs.Points.{place};

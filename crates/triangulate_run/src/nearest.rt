@@ -8,7 +8,7 @@ ghost use Rattle.triangulate_run.specs.Engine.{stage_by, IsReady};
 ghost use Rattle.triangulate_run.specs.Points.{place};
 ghost use Rattle.triangulate_run.specs.Stage.{position};
 
-use crate::engine::{Constrained, Plain};
+use crate::engine::Plain;
 use crate::points::{SheetPoint, index_of};
 use crate::reply::Reply;
 use spade_delaunay::handles::FixedVertexHandle;
