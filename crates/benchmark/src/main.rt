@@ -18,7 +18,7 @@ use crate::calls::{
 };
 use crate::hints::Hints;
 use crate::memory::{peak_bytes, resident_bytes};
-use crate::orders::Order;
+use crate::orders::{Order, Purpose};
 use crate::random::Random;
 use spade_delaunay::{
     FloatTriangulation, HierarchyHintGeneratorWithBranchFactor, HintGenerator,
@@ -174,8 +174,9 @@ fn make_all_calls<L: HintGenerator<i64>>(
     task: &Task,
 ) -> anyhow::Result<()> {
     let mut random = Random::new();
-    let points = task.order.points(rt.alloc(), task.count, &mut random)?;
-    let queries = task.order.queries(rt.alloc(), task.count, &mut random)?;
+    let (alloc, order, count) = (rt.alloc(), task.order, task.count);
+    let points = order.points(Purpose::Insert, alloc, count, &mut random)?;
+    let queries = order.points(Purpose::Ask, alloc, count, &mut random)?;
     insert(rt, triangulation, points.as_slice())?;
     locate(rt, triangulation, queries.as_slice())?;
     find_nearest(rt, triangulation, queries.as_slice())?;

@@ -17,6 +17,13 @@ pub enum Order {
     Scattered,
 }
 
+/// What points are for.
+#[derive(Clone, Copy)]
+pub enum Purpose {
+    Insert,
+    Ask,
+}
+
 /// How far the points of a grid are apart. It is a power of two, so that floating-point tests of
 /// other programs stay exact.
 const STEP: i64 = 1024;
@@ -49,52 +56,43 @@ impl Order {
         }
     }
 
-    /// The points to insert.
+    /// The points to insert; or those to ask for, random ones of the square that the others lie in,
+    /// along the curve where the others are.
     pub fn points(
         self,
+        purpose: Purpose,
         alloc: Global,
         count: u32,
         random: &mut Random,
     ) -> Result<Vec<Point2<i64>>, AllocError> {
         let side = side_of(count);
         let mut keyed = Vec::new(alloc);
-        for i in 0..count {
-            let entry = match self {
-                Order::Random => (u64::from(i), anywhere(random).0),
-                Order::Hilbert => {
-                    let (point, key) = anywhere(random);
-                    (key, point)
-                }
-                Order::Rows => (u64::from(i), in_grid(i, side)),
-                Order::Scattered => (random.number(), in_grid(i, side)),
-            };
-            keyed.push(entry)?;
+        for number in 0..count {
+            keyed.push(self.keyed(purpose, number, side, random))?;
         }
         in_order(alloc, keyed)
     }
 
-    /// The points to ask for: random ones of the square that the others lie in, along the curve
-    /// where the others are.
-    pub fn queries(
+    /// A point by its number, with the key that it comes by.
+    fn keyed(
         self,
-        alloc: Global,
-        count: u32,
+        purpose: Purpose,
+        number: u32,
+        side: u32,
         random: &mut Random,
-    ) -> Result<Vec<Point2<i64>>, AllocError> {
-        let side = side_of(count);
-        let mut keyed = Vec::new(alloc);
-        for i in 0..count {
-            let entry = match self {
-                Order::Random => (u64::from(i), anywhere(random).0),
-                Order::Hilbert => {
-                    let (point, key) = anywhere(random);
-                    (key, point)
-                }
-                Order::Rows | Order::Scattered => (u64::from(i), over_grid(random, side)),
-            };
-            keyed.push(entry)?;
+    ) -> (u64, Point2<i64>) {
+        match (self, purpose) {
+            (Order::Random, _) => (u64::from(number), anywhere(random).0),
+            (Order::Hilbert, _) => {
+                let (point, key) = anywhere(random);
+                (key, point)
+            }
+            (Order::Rows, Purpose::Insert) => (u64::from(number), in_grid(number, side)),
+            (Order::Scattered, Purpose::Insert) => (random.number(), in_grid(number, side)),
+            (Order::Rows | Order::Scattered, Purpose::Ask) => {
+                (u64::from(number), over_grid(random, side))
+            }
         }
-        in_order(alloc, keyed)
     }
 
     /// The radius of a circle with about three points.

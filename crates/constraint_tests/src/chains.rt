@@ -1,23 +1,12 @@
 //! Vertices that are inserted and removed beside constraints, and constraints between vertices that
 //! are inserted for them.
 
-use crate::edits::Constrained;
 use exact_tests::ExactTests;
 use spade_delaunay::handles::FixedVertexHandle;
 use spade_delaunay::{ConstraintError, HintGenerator, Point2, Triangulation, validate_vertex};
+use test_points::Constrained;
 
-/// The index of a vertex, or nothing where it was refused.
-pub fn insert<T: Triangulation<Vertex = Point2<i64>>>(
-    points: &mut T,
-    position: Point2<i64>,
-) -> Option<u32> {
-    match points.insert(position, &ExactTests) {
-        Ok(vertex) => Some(vertex.index()),
-        Err(_) => None,
-    }
-}
-
-/// The same by a search from a vertex, which need not be there.
+/// The index of a vertex that a search from another one inserted, which need not be there.
 pub fn insert_from<T: Triangulation<Vertex = Point2<i64>>>(
     points: &mut T,
     position: Point2<i64>,
@@ -26,20 +15,6 @@ pub fn insert_from<T: Triangulation<Vertex = Point2<i64>>>(
     let hint = FixedVertexHandle::from_index(hint);
     match points.insert_with_hint(position, hint, &ExactTests) {
         Ok(vertex) => Some(vertex.index()),
-        Err(_) => None,
-    }
-}
-
-/// The position of a vertex that was removed.
-pub fn remove<T: Triangulation<Vertex = Point2<i64>>>(
-    points: &mut T,
-    index: u32,
-) -> Option<(i64, i64)> {
-    if index as usize >= points.num_vertices() {
-        return None;
-    }
-    match points.remove(FixedVertexHandle::from_index(index), &ExactTests) {
-        Ok(point) => Some((point.x, point.y)),
         Err(_) => None,
     }
 }

@@ -1,18 +1,15 @@
 //! Edits of constraints, by the indexes of vertices: nothing where an index names no element or
 //! memory was refused.
+ghost use Rattle.std.specs.Prelude.{◌<◌, length, IfSome};
 
 use exact_tests::ExactTests;
 use spade_delaunay::handles::{
     DirectedEdgeHandle, FixedDirectedEdgeHandle, FixedUndirectedEdgeHandle, FixedVertexHandle,
 };
-use spade_delaunay::{
-    CdtEdge, ConstrainedDelaunayTriangulation, HintGenerator, Point2, Triangulation,
-};
+use spade_delaunay::{CdtEdge, HintGenerator, Point2, Triangulation};
 use std::alloc::{AllocError, Global};
 use std::io;
-
-/// A triangulation of points with constraints.
-pub type Constrained<L> = ConstrainedDelaunayTriangulation<Point2<i64>, (), (), (), L>;
+use test_points::{Constrained, both, constrain};
 
 /// How many vertices, undirected edges, inner faces and constraints there are.
 pub fn counts<L: HintGenerator<i64>>(points: &Constrained<L>) -> [usize; 4] {
@@ -26,23 +23,13 @@ pub fn counts<L: HintGenerator<i64>>(points: &Constrained<L>) -> [usize; 4] {
 
 /// Whether the segment between two vertices can become a path of constraints.
 pub fn can_add<L: HintGenerator<i64>>(points: &Constrained<L>, from: u32, to: u32) -> Option<bool> {
-    let count = points.num_vertices();
-    if from as usize >= count || to as usize >= count {
-        return None;
-    }
-    let from = FixedVertexHandle::from_index(from);
-    let to = FixedVertexHandle::from_index(to);
+    let (from, to) = both(points, from, to)?;
     Some(points.can_add_constraint(from, to, &ExactTests))
 }
 
 /// Whether a constraint was made, where none crosses.
 pub fn add<L: HintGenerator<i64>>(points: &mut Constrained<L>, from: u32, to: u32) -> Option<bool> {
-    let count = points.num_vertices();
-    if from as usize >= count || to as usize >= count {
-        return None;
-    }
-    let from = FixedVertexHandle::from_index(from);
-    let to = FixedVertexHandle::from_index(to);
+    let (from, to) = both(points, from, to)?;
     if !points.can_add_constraint(from, to, &ExactTests) {
         return None;
     }
@@ -76,13 +63,7 @@ pub fn try_add<L: HintGenerator<i64>>(
     to: u32,
     alloc: Global,
 ) -> Option<Vec<[u32; 2]>> {
-    let count = points.num_vertices();
-    if from as usize >= count || to as usize >= count {
-        return None;
-    }
-    let from = FixedVertexHandle::from_index(from);
-    let to = FixedVertexHandle::from_index(to);
-    let edges = points.try_add_constraint(from, to, &ExactTests).ok()?;
+    let edges = constrain(points, from, to)?;
     ends_of_all(points, edges.as_slice(), alloc).ok()
 }
 
@@ -99,15 +80,21 @@ fn edge<T: Triangulation<Vertex = Point2<i64>>>(
     points: &T,
     from: u32,
     to: u32,
-) -> Option<FixedUndirectedEdgeHandle> {
+) -> Option<FixedUndirectedEdgeHandle>
+    ensures { IfSome result (λ edge. edge < length (T.state points.now).undirected) }
+{
     if from as usize >= points.num_vertices() {
         return None;
     }
     let from = FixedVertexHandle::from_index(from);
-    match points.get_edge_from_neighbors(from, FixedVertexHandle::from_index(to)) {
-        Some(edge) => Some(edge.fix().as_undirected()),
-        None => None,
+    let Some(edge) = points.get_edge_from_neighbors(from, FixedVertexHandle::from_index(to)) else {
+        return None;
+    };
+    let edge = edge.fix().as_undirected();
+    if edge.index() as usize >= points.num_undirected_edges() {
+        return None;
     }
+    Some(edge)
 }
 
 /// Whether the edge that joins two vertices is a constraint.
@@ -117,9 +104,6 @@ pub fn is_constraint<L: HintGenerator<i64>>(
     to: u32,
 ) -> Option<bool> {
     let edge = edge(points, from, to)?;
-    if edge.index() as usize >= points.num_undirected_edges() {
-        return None;
-    }
     Some(points.is_constraint_edge(edge))
 }
 
@@ -130,9 +114,6 @@ pub fn release<L: HintGenerator<i64>>(
     to: u32,
 ) -> Option<bool> {
     let edge = edge(points, from, to)?;
-    if edge.index() as usize >= points.num_undirected_edges() {
-        return None;
-    }
     points.remove_constraint_edge(edge, &ExactTests).ok()
 }
 

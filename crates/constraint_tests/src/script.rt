@@ -1,19 +1,15 @@
 //! A line of the script: the name of a call and some numbers, and what the call gives.
-ghost use Rattle.std.specs.Prelude.{◌<◌};
 
-use crate::chains::{add_edge, add_edges, insert, insert_from, remove, remove_at};
+use crate::chains::{add_edge, add_edges, insert_from, remove_at};
 use crate::edits::{
-    Constrained, add, can_add, counts, exists, is_constraint, print_constraints, release, try_add,
+    add, can_add, counts, exists, is_constraint, print_constraints, release, try_add,
 };
-use spade_delaunay::handles::FaceHandle;
-use spade_delaunay::{DelaunayTriangulation, HintGenerator, Point2, Triangulation};
+use spade_delaunay::{HintGenerator, Point2, Triangulation};
 use std::alloc::Global;
 use std::io;
-use std::mem::{replace, swap};
-use test_script::Call;
-
-/// A triangulation without constraints.
-type Plain<L> = DelaunayTriangulation<Point2<i64>, (), (), (), L>;
+use std::mem::swap;
+use test_points::{Constrained, Plain, add_constraints, corners_of, insert, remove};
+use test_script::{Answers, Call};
 
 /// A triangulation without constraints, and one that may have some, with its last copy.
 #[derive(Drop)]
@@ -49,34 +45,6 @@ impl<L: HintGenerator<i64>> Session<L> {
         swap(&mut self.constrained, &mut self.copy);
         self.constrained.num_vertices()
     }
-
-    /// Takes the triangulation for the one with constraints, and leaves one without vertices. Tells
-    /// whether memory was there.
-    fn from_delaunay(&mut self, alloc: Global) -> bool {
-        let plain = replace(&mut self.plain, Plain::new(alloc));
-        match Constrained::from_delaunay(plain) {
-            Ok(constrained) => {
-                self.constrained = constrained;
-                true
-            }
-            Err(_) => false,
-        }
-    }
-}
-
-// The corners of an inner face by their indexes, the least first.
-fn corners_of<V, DE, UE, F>(face: FaceHandle<'_, V, DE, UE, F>) -> [u32; 3]
-    requires { 0 < face.index }
-{
-    let [a, b, c] = face.vertices();
-    let (a, b, c) = (a.fix().index(), b.fix().index(), c.fix().index());
-    if a < b && a < c {
-        [a, b, c]
-    } else if b < c {
-        [b, c, a]
-    } else {
-        [c, a, b]
-    }
 }
 
 fn print_faces<T: Triangulation<Vertex = Point2<i64>>>(
@@ -100,7 +68,7 @@ fn edit<T: Triangulation<Vertex = Point2<i64>>>(
     let ([x, y, ..], [index, _, hint]) = (call.numbers, call.indexes());
     let position = Point2::new(x, y);
     match call.name {
-        "insert" | "insert_beside" => call.tell(rt, &insert(points, position)),
+        "insert" | "insert_beside" => call.tell(rt, &insert(points, x, y).ok()),
         "insert_with_hint" => call.tell(rt, &insert_from(points, position, hint)),
         "remove" => call.tell(rt, &remove(points, index)),
         "locate_and_remove" => call.tell(rt, &remove_at(points, position)),
@@ -156,17 +124,17 @@ fn constrain<L: HintGenerator<i64>>(
     }
 }
 
-/// Makes the call that a line asks for, and prints what it gives.
-pub fn answer<L: HintGenerator<i64>>(
-    rt: &(impl Print + AllocGlobal),
-    session: &mut Session<L>,
-    call: &Call<'_>,
-) -> io::Result<()> {
-    match call.name {
-        "insert" => edit(rt, &mut session.plain, call),
-        "from_delaunay" => call.tell(rt, &session.from_delaunay(rt.alloc())),
-        "try_clone" => call.tell(rt, &session.copy()),
-        "swap" => call.tell(rt, &session.turn_to_copy()),
-        _ => constrain(rt, &mut session.constrained, call),
+impl<L: HintGenerator<i64>> Answers for Session<L> {
+    fn answer(&mut self, rt: &(impl Print + AllocGlobal), call: &Call<'_>) -> io::Result<()> {
+        match call.name {
+            "insert" => edit(rt, &mut self.plain, call),
+            "from_delaunay" => {
+                let (plain, constrained) = (&mut self.plain, &mut self.constrained);
+                call.tell(rt, &add_constraints(plain, constrained, rt.alloc()))
+            }
+            "try_clone" => call.tell(rt, &self.copy()),
+            "swap" => call.tell(rt, &self.turn_to_copy()),
+            _ => constrain(rt, &mut self.constrained, call),
+        }
     }
 }

@@ -10,6 +10,7 @@ use spade_delaunay::{
 };
 use std::alloc::{AllocError, Global};
 use std::mem::replace;
+use test_points::counts;
 
 /// What a script works on.
 #[derive(Drop)]
@@ -34,16 +35,8 @@ fn print_outcomes(rt: &HostRuntime, outcomes: Vec<Outcome<Point2<i64>>>) -> anyh
     Ok(())
 }
 
-fn counts_of<T: Triangulation>(points: &T) -> [usize; 3] {
-    [
-        points.num_vertices(),
-        points.num_undirected_edges(),
-        points.num_inner_faces(),
-    ]
-}
-
 fn print_counts<T: Triangulation>(rt: &HostRuntime, points: &T) -> anyhow::Result<()> {
-    let [vertices, edges, faces] = counts_of(points);
+    let [vertices, edges, faces] = counts(points);
     println!(rt; "{vertices} vertices, {edges} edges, {faces} faces")?;
     Ok(())
 }

@@ -1,76 +1,69 @@
 //! The constraints that a segment crosses, and a look at each constraint.
+ghost use Rattle.std.specs.Iterator.{IsFinite};
 
 use crate::drawing::Drawing;
 use crate::filter::is_in_order;
 use crate::items::{Item, ends_of};
-use crate::points::Constrained;
 use crate::segment::Segment;
 use exact_tests::ExactTests;
-use spade_delaunay::handles::FixedVertexHandle;
-use spade_delaunay::{
-    ConflictingEdgesIterator, HintGenerator, Point2, Triangulation, validate_vertex,
-};
+use spade_delaunay::HintGenerator;
+use spade_delaunay::handles::DirectedEdgeHandle;
 use std::alloc::Global;
+use test_points::{Constrained, both, both_in_range};
 
-/// The constraints that the segment between two points crosses, if they are in range.
-pub fn conflicts<L: HintGenerator<i64>>(
-    points: &Constrained<L>,
-    from: Point2<i64>,
-    to: Point2<i64>,
-    alloc: Global,
-) -> Option<Vec<Item>> {
-    if validate_vertex(&from).is_err() || validate_vertex(&to).is_err() {
-        return None;
-    }
+// The edges that an iterator gives.
+fn listed<
+    'a,
+    V: 'a,
+    DE: 'a,
+    UE: 'a,
+    F: 'a,
+    I: Iterator<Item = DirectedEdgeHandle<'a, V, DE, UE, F>> + Drop,
+>(edges: I, alloc: Global) -> Option<Vec<Item>>
+    requires can_next { I.can_next edges }
+    requires finite { IsFinite (I.remaining edges) }
+{
     let mut items = Vec::new(alloc);
-    // Taken apart and put together again: the borrow checker does not know the walk's type else.
-    let ConflictingEdgesIterator { line, marks } = points.get_conflicting_edges_between_points(
-        from,
-        to,
-        &ExactTests,
-    );
-    for edge in (ConflictingEdgesIterator { line, marks }) {
+    for edge in edges {
         let (from, to) = ends_of(&edge);
         items.push(Item::Edge(from, to)).ok()?;
     }
     Some(items)
 }
 
-/// The same between two vertices, if they are there.
+/// The constraints that a segment crosses whose ends are in range.
+pub fn conflicts<L: HintGenerator<i64>>(
+    points: &Constrained<L>,
+    segment: Segment,
+    alloc: Global,
+) -> Option<Vec<Item>> {
+    let (from, to) = both_in_range(segment.ends())?;
+    listed(
+        points.get_conflicting_edges_between_points(from, to, &ExactTests),
+        alloc,
+    )
+}
+
+/// The same between two vertices that are there.
 pub fn conflicts_between<L: HintGenerator<i64>>(
     points: &Constrained<L>,
     from: u32,
     to: u32,
     alloc: Global,
 ) -> Option<Vec<Item>> {
-    let count = points.num_vertices();
-    if from as usize >= count || to as usize >= count {
-        return None;
-    }
-    let from = FixedVertexHandle::from_index(from);
-    let to = FixedVertexHandle::from_index(to);
-    let mut items = Vec::new(alloc);
-    let ConflictingEdgesIterator { line, marks } = points.get_conflicting_edges_between_vertices(
-        from,
-        to,
-        &ExactTests,
-    );
-    for edge in (ConflictingEdgesIterator { line, marks }) {
-        let (from, to) = ends_of(&edge);
-        items.push(Item::Edge(from, to)).ok()?;
-    }
-    Some(items)
+    let (from, to) = both(points, from, to)?;
+    listed(
+        points.get_conflicting_edges_between_vertices(from, to, &ExactTests),
+        alloc,
+    )
 }
 
-/// Whether the segment between two points crosses a constraint, if they are in range.
+/// Whether a segment whose ends are in range crosses a constraint.
 pub fn intersects<L: HintGenerator<i64>>(
     points: &Constrained<L>,
-    from: Point2<i64>,
-    to: Point2<i64>,
+    segment: Segment,
 ) -> Option<bool> {
-    if validate_vertex(&from).is_err() || validate_vertex(&to).is_err() {
-        return None;
-    }
+    let (from, to) = both_in_range(segment.ends())?;
     Some(points.intersects_constraint(from, to, &ExactTests))
 }
 

@@ -1,4 +1,4 @@
-//! Counts, faces and locations, by the indexes of vertices.
+//! Faces and locations, by the indexes of vertices.
 ghost use Rattle.std.specs.Prelude.{◌<◌};
 ghost use Rattle.delaunay_edit.specs.Elements.{HasElement};
 
@@ -7,31 +7,16 @@ use exact_tests::ExactTests;
 use spade_delaunay::handles::FaceHandle;
 use spade_delaunay::{Point2, PositionInTriangulation, Triangulation, validate_vertex};
 use std::alloc::{AllocError, Global};
+use test_points::corners_of;
 
 /// The corners of a face, the least first.
 pub type Corners = (u32, u32, u32);
 
-/// How many vertices, undirected edges and inner faces there are.
-pub fn counts<T: Triangulation<Vertex = Point2<i64>>>(points: &T) -> [usize; 3] {
-    [
-        points.num_vertices(),
-        points.num_undirected_edges(),
-        points.num_inner_faces(),
-    ]
-}
-
-fn corners_of<V, DE, UE, F>(face: FaceHandle<'_, V, DE, UE, F>) -> Corners
+fn corners<V, DE, UE, F>(face: FaceHandle<'_, V, DE, UE, F>) -> Corners
     requires { 0 < face.index }
 {
-    let [a, b, c] = face.vertices();
-    let (a, b, c) = (a.fix().index(), b.fix().index(), c.fix().index());
-    if a < b && a < c {
-        (a, b, c)
-    } else if b < c {
-        (b, c, a)
-    } else {
-        (c, a, b)
-    }
+    let [a, b, c] = corners_of(face);
+    (a, b, c)
 }
 
 /// The inner faces, in rising order.
@@ -42,7 +27,7 @@ pub fn faces_of<T: Triangulation<Vertex = Point2<i64>>>(
     let mut faces = Vec::new(alloc);
     for face in points.inner_faces() {
         if !face.is_outer() {
-            faces.push(corners_of(face))?;
+            faces.push(corners(face))?;
         }
     }
     faces.sort()?;
@@ -72,7 +57,7 @@ fn named<T: Triangulation<Vertex = Point2<i64>>>(
             let (a, b) = ends_of(&points.directed_edge(edge));
             Place::Edge(a.min(b), a.max(b))
         }
-        PositionInTriangulation::OnFace(face) => Place::Face(corners_of(points.face(face))),
+        PositionInTriangulation::OnFace(face) => Place::Face(corners(points.face(face))),
         PositionInTriangulation::OutsideOfConvexHull(_) => Place::Outside,
         PositionInTriangulation::NoTriangulation => Place::Nowhere,
     }

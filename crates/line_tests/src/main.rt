@@ -14,21 +14,10 @@ mod segment;
 mod session;
 mod sheets;
 
-use session::{Session, answer};
-use spade_delaunay::{HintGenerator, LastUsedVertexHintGenerator};
+use session::Session;
+use spade_delaunay::LastUsedVertexHintGenerator;
 use std::io;
-use test_script::Call;
-
-fn run<L: HintGenerator<i64>>(rt: &HostRuntime, session: &mut Session<L>) -> io::Result<()> {
-    for line in rt.lines(rt.alloc()) {
-        let line = line?;
-        match Call::parse(line.as_str()) {
-            Some(call) => answer(rt, session, &call)?,
-            None => println!(rt; "{line}")?,
-        }
-    }
-    Ok(())
-}
+use test_script::run;
 
 fn main(rt: HostRuntime) -> io::Result<()> {
     let mut session: Session<LastUsedVertexHintGenerator> = Session::new(rt.alloc());

@@ -1,30 +1,19 @@
-//! Triangulations of points with exact tests, and what segments meet in them.
+//! What segments meet in triangulations.
 
 use crate::items::{Item, item_of};
+use crate::segment::Segment;
 use exact_tests::ExactTests;
-use spade_delaunay::handles::FixedVertexHandle;
-use spade_delaunay::{
-    ConstrainedDelaunayTriangulation, DelaunayTriangulation, HasMesh, HintGenerator,
-    LineIntersectionIterator, Point2, Triangulation, validate_vertex,
-};
+use spade_delaunay::{HasMesh, HintGenerator, LineIntersectionIterator, Point2};
 use std::alloc::Global;
+use test_points::{Plain, both, both_in_range};
 
-/// Vertices that are points and carry no further data, without constraints.
-pub type Plain<L> = DelaunayTriangulation<Point2<i64>, (), (), (), L>;
-
-/// Those with constraints.
-pub type Constrained<L> = ConstrainedDelaunayTriangulation<Point2<i64>, (), (), (), L>;
-
-/// What the segment between two points meets, if they are in range.
+/// What a segment meets whose ends are in range.
 pub fn walk<DE, UE, F, T: HasMesh<Point2<i64>, DE, UE, F>>(
     points: &T,
-    from: Point2<i64>,
-    to: Point2<i64>,
+    segment: Segment,
     alloc: Global,
 ) -> Option<Vec<Item>> {
-    if validate_vertex(&from).is_err() || validate_vertex(&to).is_err() {
-        return None;
-    }
+    let (from, to) = both_in_range(segment.ends())?;
     let mut items = Vec::new(alloc);
     for item in LineIntersectionIterator::new(points, from, to, &ExactTests) {
         items.push(item_of(&item)).ok()?;
@@ -32,19 +21,14 @@ pub fn walk<DE, UE, F, T: HasMesh<Point2<i64>, DE, UE, F>>(
     Some(items)
 }
 
-/// The same between two vertices, if they are there.
+/// What the segment between two vertices meets that are there.
 pub fn walk_between<L: HintGenerator<i64>>(
     points: &Plain<L>,
     from: u32,
     to: u32,
     alloc: Global,
 ) -> Option<Vec<Item>> {
-    let count = points.num_vertices();
-    if from as usize >= count || to as usize >= count {
-        return None;
-    }
-    let from = FixedVertexHandle::from_index(from);
-    let to = FixedVertexHandle::from_index(to);
+    let (from, to) = both(points, from, to)?;
     let mut items = Vec::new(alloc);
     for item in LineIntersectionIterator::new_from_handles(points, from, to, &ExactTests) {
         items.push(item_of(&item)).ok()?;

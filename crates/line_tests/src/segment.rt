@@ -32,6 +32,14 @@ const START: Progress = Progress { part: 0, whole: 1 };
 const END: Progress = Progress { part: 1, whole: 1 };
 
 impl Segment {
+    pub fn between((from, to): (Point2<i64>, Point2<i64>)) -> Self {
+        Segment { from, to }
+    }
+
+    pub fn ends(self) -> (Point2<i64>, Point2<i64>) {
+        (self.from, self.to)
+    }
+
     fn way(self, to: Point2<i64>) -> (i128, i128) {
         (
             i128::from(to.x).wrapping_sub(i128::from(self.from.x)),

@@ -3,10 +3,11 @@
 use crate::conflicts::{are_crossed, conflicts, intersects};
 use crate::drawing::{Drawing, constraints_of};
 use crate::filter::is_met;
-use crate::points::{Constrained, walk};
+use crate::points::walk;
 use crate::segment::Segment;
 use spade_delaunay::{HasMesh, HintGenerator, Point2, Triangulation};
 use std::alloc::{AllocError, Global};
+use test_points::Constrained;
 
 /// How many pairs of points there were, and at how many the filter says the same.
 #[derive(Clone, Copy, Debug, Default)]
@@ -24,14 +25,25 @@ impl Agreement {
     }
 }
 
-// Whether the walk between two points gives just what the filter does.
+// The segments from each point of a sheet to each.
+fn segments_of(sheet: &[Point2<i64>], alloc: Global) -> Result<Vec<Segment>, AllocError> {
+    let mut segments = Vec::new(alloc);
+    for from in sheet {
+        for to in sheet {
+            segments.push(Segment::between((*from, *to)))?;
+        }
+    }
+    Ok(segments)
+}
+
+// Whether the walk along a segment gives just what the filter does.
 fn walk_agrees<DE, UE, F, T: HasMesh<Point2<i64>, DE, UE, F>>(
     points: &T,
     drawing: &Drawing,
     segment: Segment,
     alloc: Global,
 ) -> Option<bool> {
-    let items = walk(points, segment.from, segment.to, alloc)?;
+    let items = walk(points, segment, alloc)?;
     Some(is_met(drawing, segment, items.as_slice()))
 }
 
@@ -39,18 +51,12 @@ fn walk_agrees<DE, UE, F, T: HasMesh<Point2<i64>, DE, UE, F>>(
 fn compare_drawn<DE, UE, F, T: HasMesh<Point2<i64>, DE, UE, F>>(
     points: &T,
     drawing: &Drawing,
-    sheet: &[Point2<i64>],
+    segments: Vec<Segment>,
     alloc: Global,
 ) -> Agreement {
     let mut agreement = Agreement::default();
-    for from in sheet {
-        for to in sheet {
-            let segment = Segment {
-                from: *from,
-                to: *to,
-            };
-            agreement.add(walk_agrees(points, drawing, segment, alloc));
-        }
+    for segment in segments {
+        agreement.add(walk_agrees(points, drawing, segment, alloc));
     }
     agreement
 }
@@ -61,10 +67,11 @@ pub fn compare_walks<
         + HasMesh<Point2<i64>, T::DirectedEdge, T::UndirectedEdge, T::Face>,
 >(points: &T, sheet: &[Point2<i64>], alloc: Global) -> Result<Agreement, AllocError> {
     let drawing = Drawing::of(points, alloc)?;
-    Ok(compare_drawn(points, &drawing, sheet, alloc))
+    let segments = segments_of(sheet, alloc)?;
+    Ok(compare_drawn(points, &drawing, segments, alloc))
 }
 
-// Whether the conflicts between two points are the constraints that the filter finds, and are told
+// Whether the conflicts along a segment are the constraints that the filter finds, and are told
 // where there are some.
 fn conflicts_agree<L: HintGenerator<i64>>(
     points: &Constrained<L>,
@@ -72,8 +79,8 @@ fn conflicts_agree<L: HintGenerator<i64>>(
     segment: Segment,
     alloc: Global,
 ) -> Option<bool> {
-    let items = conflicts(points, segment.from, segment.to, alloc)?;
-    let is_told = intersects(points, segment.from, segment.to)? != items.is_empty();
+    let items = conflicts(points, segment, alloc)?;
+    let is_told = intersects(points, segment)? != items.is_empty();
     Some(is_told && are_crossed(drawing, constraints, segment, items.as_slice()))
 }
 
@@ -81,18 +88,12 @@ fn conflicts_agree<L: HintGenerator<i64>>(
 fn compare_drawn_conflicts<L: HintGenerator<i64>>(
     points: &Constrained<L>,
     drawn: (&Drawing, &[(u32, u32)]),
-    sheet: &[Point2<i64>],
+    segments: Vec<Segment>,
     alloc: Global,
 ) -> Agreement {
     let mut agreement = Agreement::default();
-    for from in sheet {
-        for to in sheet {
-            let segment = Segment {
-                from: *from,
-                to: *to,
-            };
-            agreement.add(conflicts_agree(points, drawn, segment, alloc));
-        }
+    for segment in segments {
+        agreement.add(conflicts_agree(points, drawn, segment, alloc));
     }
     agreement
 }
@@ -105,5 +106,6 @@ pub fn compare_conflicts<L: HintGenerator<i64>>(
 ) -> Result<Agreement, AllocError> {
     let (drawing, constraints) = (Drawing::of(points, alloc)?, constraints_of(points, alloc)?);
     let drawn = (&drawing, constraints.as_slice());
-    Ok(compare_drawn_conflicts(points, drawn, sheet, alloc))
+    let segments = segments_of(sheet, alloc)?;
+    Ok(compare_drawn_conflicts(points, drawn, segments, alloc))
 }

@@ -6,15 +6,15 @@ ghost use Rattle.delaunay_legalization.specs.Shape.{IsTriangulated};
 ghost use Rattle.delaunay_legalization.specs.State.{state_of};
 
 use crate::counting::counting_rectangle;
-use crate::shapes::{Found, ends_of, found_in_circle, found_in_rectangle, listed};
+use crate::shapes::{Found, circle_in_range, ends_of, found_in_circle, found_in_rectangle, listed};
 use delaunay_shapes::{edges_by_filter, edges_in_shape, vertices_by_filter};
 use exact_tests::ExactTests;
 use spade_delaunay::handles::FixedVertexHandle;
 use spade_delaunay::{
     CircleMetric, Dcel, DistanceMetric, FloatTriangulation, Point2, RectangleMetric, Triangulation,
-    validate_vertex,
 };
 use std::alloc::Global;
+use test_points::both_in_range;
 
 /// How many shapes there were, in how many of them something else was given than by the look at
 /// each element, and how many edges and vertices were given.
@@ -27,13 +27,18 @@ pub struct Compared {
 }
 
 impl Compared {
-    fn add(&mut self, given: &Found, expected: &Found) {
+    // Nothing where one of the two is nothing.
+    fn add(&mut self, given: Option<Found>, expected: Option<Found>) -> Option<()> {
+        let (Some(given), Some(expected)) = (given, expected) else {
+            return None;
+        };
         self.shapes = self.shapes.wrapping_add(1);
         if given != expected {
             self.different = self.different.wrapping_add(1);
         }
         self.edges = self.edges.wrapping_add(given.0.len());
         self.vertices = self.vertices.wrapping_add(given.1.len());
+        Some(())
     }
 }
 
@@ -64,26 +69,20 @@ fn mesh_of<T: FloatTriangulation<Vertex = Point2<i64>>>(
 
 fn expected_in_rectangle<T: FloatTriangulation<Vertex = Point2<i64>>>(
     points: &T,
-    lower: Point2<i64>,
-    upper: Point2<i64>,
+    corners: (Point2<i64>, Point2<i64>),
     alloc: Global,
 ) -> Option<Found> {
-    if validate_vertex(&lower).is_err() || validate_vertex(&upper).is_err() {
-        return None;
-    }
+    let (lower, upper) = both_in_range(corners)?;
     let metric = RectangleMetric::new(lower, upper);
     looked_up(mesh_of(points), &metric, alloc)
 }
 
 fn expected_in_circle<T: FloatTriangulation<Vertex = Point2<i64>>>(
     points: &T,
-    center: Point2<i64>,
-    radius_2: i64,
+    circle: (Point2<i64>, i64),
     alloc: Global,
 ) -> Option<Found> {
-    if validate_vertex(&center).is_err() || radius_2 < 0 {
-        return None;
-    }
+    let (center, radius_2) = circle_in_range(circle)?;
     let metric = CircleMetric::new(center, radius_2);
     looked_up(mesh_of(points), &metric, alloc)
 }
@@ -100,13 +99,11 @@ pub fn compare_rectangles<T: FloatTriangulation<Vertex = Point2<i64>>>(
 ) -> Option<Compared> {
     let mut compared = Compared::default();
     for number in 0..81u32 {
-        let (lower, upper) = (numbered(number / 9), numbered(number));
-        let found = found_in_rectangle(points, lower, upper, alloc);
-        let expected = expected_in_rectangle(points, lower, upper, alloc);
-        let (Some(found), Some(expected)) = (found, expected) else {
-            return None;
-        };
-        compared.add(&found, &expected);
+        let corners = (numbered(number / 9), numbered(number));
+        compared.add(
+            found_in_rectangle(points, corners, alloc),
+            expected_in_rectangle(points, corners, alloc),
+        )?;
     }
     Some(compared)
 }
@@ -118,13 +115,11 @@ pub fn compare_circles<T: FloatTriangulation<Vertex = Point2<i64>>>(
 ) -> Option<Compared> {
     let mut compared = Compared::default();
     for number in 0..81u32 {
-        let (center, radius_2) = (numbered(number / 9), i64::from(number % 9));
-        let found = found_in_circle(points, center, radius_2, alloc);
-        let expected = expected_in_circle(points, center, radius_2, alloc);
-        let (Some(found), Some(expected)) = (found, expected) else {
-            return None;
-        };
-        compared.add(&found, &expected);
+        let circle = (numbered(number / 9), i64::from(number % 9));
+        compared.add(
+            found_in_circle(points, circle, alloc),
+            expected_in_circle(points, circle, alloc),
+        )?;
     }
     Some(compared)
 }
@@ -133,13 +128,10 @@ pub fn compare_circles<T: FloatTriangulation<Vertex = Point2<i64>>>(
 /// there are.
 pub fn asks_fewer<T: FloatTriangulation<Vertex = Point2<i64>>>(
     points: &T,
-    lower: Point2<i64>,
-    upper: Point2<i64>,
+    corners: (Point2<i64>, Point2<i64>),
     alloc: Global,
 ) -> Option<(Vec<(u32, u32)>, bool)> {
-    if validate_vertex(&lower).is_err() || validate_vertex(&upper).is_err() {
-        return None;
-    }
+    let (lower, upper) = both_in_range(corners)?;
     let metric = counting_rectangle(lower, upper);
     let first = FixedVertexHandle::from_index(0);
     let mesh = mesh_of(points);

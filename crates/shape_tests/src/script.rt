@@ -1,27 +1,25 @@
 //! A line of the script: the name of a call and up to four numbers, and what the call gives.
 
 use crate::comparisons::{asks_fewer, compare_circles, compare_rectangles};
-use crate::session::{Session, clear, insert, remove};
+use crate::session::Session;
 use crate::shapes::{found_in_circle, found_in_rectangle};
 use spade_delaunay::{FloatTriangulation, HintGenerator, Point2, Triangulation};
 use std::io;
-use test_script::Call;
+use test_points::{clear, insert, remove};
+use test_script::{Answers, Call};
 
-/// Makes the call that a line asks for, and prints what it gives.
-pub fn answer<L: HintGenerator<i64>>(
-    rt: &(impl Print + AllocGlobal),
-    session: &mut Session<L>,
-    call: &Call<'_>,
-) -> io::Result<()> {
-    match call.name {
-        "from_delaunay" => call.tell(rt, &session.add_constraints(rt.alloc())),
-        "constrain" => {
-            let [from, to, _] = call.indexes();
-            call.tell(rt, &session.constrain(from, to))
+impl<L: HintGenerator<i64>> Answers for Session<L> {
+    fn answer(&mut self, rt: &(impl Print + AllocGlobal), call: &Call<'_>) -> io::Result<()> {
+        match call.name {
+            "from_delaunay" => call.tell(rt, &self.add_constraints(rt.alloc())),
+            "constrain" => {
+                let [from, to, _] = call.indexes();
+                call.tell(rt, &self.constrain(from, to))
+            }
+            "release" => call.tell(rt, &self.release()),
+            "compare_constrained" => read(rt, &self.constrained, call),
+            _ => edit(rt, &mut self.plain, call),
         }
-        "release" => call.tell(rt, &session.release()),
-        "compare_constrained" => read(rt, &session.constrained, call),
-        _ => edit(rt, &mut session.plain, call),
     }
 }
 
@@ -48,58 +46,26 @@ fn read<T: Triangulation<Vertex = Point2<i64>>>(
     query(rt, points, call)
 }
 
+// The first three numbers as a centre and a squared radius.
+fn circle_of(call: &Call<'_>) -> (Point2<i64>, i64) {
+    let [x, y, radius_2, ..] = call.numbers;
+    (Point2::new(x, y), radius_2)
+}
+
 fn query<T: FloatTriangulation<Vertex = Point2<i64>>>(
     rt: &(impl Print + AllocGlobal),
     points: &T,
     call: &Call<'_>,
 ) -> io::Result<()> {
+    let (corners, circle, alloc) = (call.ends(), circle_of(call), rt.alloc());
     match call.name {
-        "in_rectangle" => tell_rectangle(rt, points, call),
-        "in_circle" => tell_circle(rt, points, call),
-        "compare" | "compare_constrained" => tell_comparison(rt, points, call),
-        "asks_fewer" => tell_asked(rt, points, call),
+        "in_rectangle" => call.tell(rt, &found_in_rectangle(points, corners, alloc)),
+        "in_circle" => call.tell(rt, &found_in_circle(points, circle, alloc)),
+        "compare" | "compare_constrained" => {
+            let rectangles = compare_rectangles(points, alloc);
+            call.tell(rt, &(rectangles, compare_circles(points, alloc)))
+        }
+        "asks_fewer" => call.tell(rt, &asks_fewer(points, corners, alloc)),
         _ => call.tell(rt, &"no such call"),
     }
-}
-
-fn tell_rectangle<T: FloatTriangulation<Vertex = Point2<i64>>>(
-    rt: &(impl Print + AllocGlobal),
-    points: &T,
-    call: &Call<'_>,
-) -> io::Result<()> {
-    let [x, y, u, v, ..] = call.numbers;
-    let (lower, upper) = (Point2::new(x, y), Point2::new(u, v));
-    call.tell(rt, &found_in_rectangle(points, lower, upper, rt.alloc()))
-}
-
-fn tell_circle<T: FloatTriangulation<Vertex = Point2<i64>>>(
-    rt: &(impl Print + AllocGlobal),
-    points: &T,
-    call: &Call<'_>,
-) -> io::Result<()> {
-    let [x, y, radius_2, ..] = call.numbers;
-    call.tell(
-        rt,
-        &found_in_circle(points, Point2::new(x, y), radius_2, rt.alloc()),
-    )
-}
-
-fn tell_comparison<T: FloatTriangulation<Vertex = Point2<i64>>>(
-    rt: &(impl Print + AllocGlobal),
-    points: &T,
-    call: &Call<'_>,
-) -> io::Result<()> {
-    let alloc = rt.alloc();
-    let rectangles = compare_rectangles(points, alloc);
-    call.tell(rt, &(rectangles, compare_circles(points, alloc)))
-}
-
-fn tell_asked<T: FloatTriangulation<Vertex = Point2<i64>>>(
-    rt: &(impl Print + AllocGlobal),
-    points: &T,
-    call: &Call<'_>,
-) -> io::Result<()> {
-    let [x, y, u, v, ..] = call.numbers;
-    let (lower, upper) = (Point2::new(x, y), Point2::new(u, v));
-    call.tell(rt, &asks_fewer(points, lower, upper, rt.alloc()))
 }

@@ -1,11 +1,15 @@
 //! What a triangulation gives in rectangles and circles: nothing where a point is out of range, a
 //! squared radius is negative, or memory was refused.
+ghost use Rattle.std.specs.Prelude.{◌≤ℤ◌, pos, IfSome};
+ghost use Rattle.plane.specs.Tests.{InRange};
+ghost use Rattle.delaunay_core.specs.Place.{place_of};
 
 use exact_tests::ExactTests;
 use spade_delaunay::{
     EdgesInShapeIterator, FloatTriangulation, Point2, VerticesInShapeIterator, validate_vertex,
 };
 use std::alloc::{AllocError, Global};
+use test_points::both_in_range;
 
 /// The ends of edges and the vertices that were found, by their indexes in rising order.
 pub type Found = (Vec<(u32, u32)>, Vec<u32>);
@@ -53,16 +57,25 @@ pub fn listed<V, DE, UE, F>(
     }
 }
 
+/// A centre and a squared radius, if the one is in range and the other not negative.
+pub fn circle_in_range(circle: (Point2<i64>, i64)) -> Option<(Point2<i64>, i64)>
+    ensures center { IfSome result (λ c. InRange (place_of (λ z. z) c.0)) }
+    ensures radius { IfSome result (λ c. pos 0 ≤ℤ c.1) }
+{
+    let (center, radius_2) = circle;
+    if validate_vertex(&center).is_err() || radius_2 < 0 {
+        return None;
+    }
+    Some((center, radius_2))
+}
+
 /// What is given between two corners.
 pub fn found_in_rectangle<T: FloatTriangulation<Vertex = Point2<i64>>>(
     points: &T,
-    lower: Point2<i64>,
-    upper: Point2<i64>,
+    corners: (Point2<i64>, Point2<i64>),
     alloc: Global,
 ) -> Option<Found> {
-    if validate_vertex(&lower).is_err() || validate_vertex(&upper).is_err() {
-        return None;
-    }
+    let (lower, upper) = both_in_range(corners)?;
     let edges = points.get_edges_in_rectangle(lower, upper, &ExactTests, alloc);
     let vertices = points.get_vertices_in_rectangle(lower, upper, &ExactTests, alloc);
     listed(edges, vertices, alloc)
@@ -71,13 +84,10 @@ pub fn found_in_rectangle<T: FloatTriangulation<Vertex = Point2<i64>>>(
 /// What is given round a centre, by a squared radius.
 pub fn found_in_circle<T: FloatTriangulation<Vertex = Point2<i64>>>(
     points: &T,
-    center: Point2<i64>,
-    radius_2: i64,
+    circle: (Point2<i64>, i64),
     alloc: Global,
 ) -> Option<Found> {
-    if validate_vertex(&center).is_err() || radius_2 < 0 {
-        return None;
-    }
+    let (center, radius_2) = circle_in_range(circle)?;
     let edges = points.get_edges_in_circle(center, radius_2, &ExactTests, alloc);
     let vertices = points.get_vertices_in_circle(center, radius_2, &ExactTests, alloc);
     listed(edges, vertices, alloc)

@@ -12,4 +12,4 @@ pub edges_in_shape-requires-clause-own_covered : goal.edges_in_shape-requires-cl
 edges_in_shape-requires-clause-own_covered g c = corners_in_range (place_of (λ z. z) c.counting_rectangle-metric.result.metric.lower) (place_of (λ z. z) c.counting_rectangle-metric.result.metric.upper) c.counting_rectangle-metric.result.metric.lower_in_range c.counting_rectangle-metric.result.metric.upper_in_range
 
 pub edges_in_shape-requires-clause-begins : goal.edges_in_shape-requires-clause-begins
-edges_in_shape-requires-clause-begins g c = begins_at (place_of (λ z. z) c.counting_rectangle-metric.result.metric.lower) (place_of (λ z. z) c.counting_rectangle-metric.result.metric.upper) (place_of (λ z. z) c.args.lower) (ap (place_of (λ z. z)) c.counting_rectangle-metric.ensures)
+edges_in_shape-requires-clause-begins g c = begins_at (place_of (λ z. z) c.counting_rectangle-metric.result.metric.lower) (place_of (λ z. z) c.counting_rectangle-metric.result.metric.upper) _ (ap (place_of (λ z. z)) c.counting_rectangle-metric.ensures)
