@@ -21,9 +21,7 @@ pub type Plain<L> = DelaunayTriangulation<Point2<i64>, (), (), (), L>;
 pub type Constrained<L> = ConstrainedDelaunayTriangulation<Point2<i64>, (), (), (), L>;
 
 /// Two points, if both are in range.
-pub fn both_in_range(
-    points: (Point2<i64>, Point2<i64>),
-) -> Option<(Point2<i64>, Point2<i64>)>
+pub fn both_in_range(points: (Point2<i64>, Point2<i64>)) -> Option<(Point2<i64>, Point2<i64>)>
     ensures first { IfSome result (λ both. InRange (place_of (λ z. z) both.0)) }
     ensures second { IfSome result (λ both. InRange (place_of (λ z. z) both.1)) }
 {
