@@ -1,6 +1,9 @@
 -- Without constraints no side of a vertex's hole is left to test.
-use Rattle.std.proofs.Common.{◌≡◌, ◌⊎◌, ℕ, Bool, List, [], map, inl, inr, subst}
+use Rattle.std.proofs.Common.{◌≡◌, ◌⊎◌, ◌<◌, ℕ, Bool, List, [], length, map, inl, inr, subst}
+use Rattle.plane.specs.Circle.{InsideCircle}
 use Rattle.plane.specs.Fraction.{Point}
+use Rattle.plane.specs.Pairs.{place as at}
+use Rattle.plane_edits.specs.Change.{IsFaceOf}
 use Rattle.plane.specs.Delaunay.{IsConstrainedDelaunay}
 use Rattle.plane_delaunay.proofs.Circles.Nearest.{circles_are_empty}
 use Rattle.mesh_embedding.specs.Drawn.{faces_of}
@@ -17,13 +20,18 @@ module _ {V D U F : Type 0} (place : V → Point) (marks : U → Bool) (constrai
   abbrev Settled : Type 0
   Settled = AreSettled (map place s.vertices) (faces_of s.mesh) v border
 
-  -- without constraints no vertex is inside the circle of the face beyond a side of the hole
-  free_settles : constraints_by constraints s ≡ [] → Settled
-  free_settles none a b f = inr (λ k l g within. circles_are_empty (triangulation_of place s) free b a l k g within)
+  -- without constraints no vertex is inside the circle of a face
+  pub free_circles : constraints_by constraints s ≡ [] → (i j k n : ℕ) → IsFaceOf (faces_of s.mesh) i j k
+      → n < length (map place s.vertices) → ¬ InsideCircle (at (map place s.vertices) i) (at (map place s.vertices) j) (at (map place s.vertices) k) (at (map place s.vertices) n)
+  free_circles none i j k n f within = circles_are_empty (triangulation_of place s) free i j k n f within
     where
       free : IsConstrainedDelaunay (triangulation_of place s) []
       free = subst (λ (cs : List (ℕ × ℕ)). IsConstrainedDelaunay (triangulation_of place s) cs) none
           (marked_constrained_delaunay place marks constraints marked s legal)
+
+  -- so none is inside that of the face beyond a side of the hole
+  free_settles : constraints_by constraints s ≡ [] → Settled
+  free_settles none a b f = inr (λ k l g within. free_circles none b a l k g within)
 
   -- where there are no constraints, or each side of the hole is listed, each is listed or passes
   pub sides_settle : (constraints_by constraints s ≡ []) ⊎ HasBorder s.mesh v border → Settled

@@ -1,6 +1,6 @@
 //! Vertices that go, one or all of them, and a vertex that gives way to one of its position.
-ghost use Rattle.std.specs.Prelude.{◌≡◌, ◌⊎◌, ◌<◌, [], length, map, All, Some, IfOk, OnErr, OnOk};
-ghost use Rattle.std.specs.Prelude.{slice_get, slice_set};
+ghost use Rattle.std.specs.Prelude.{◌≡◌, ◌⊎◌, ◌*◌, ◌<◌, ◌≤◌, [], slice_get, slice_set};
+ghost use Rattle.std.specs.Prelude.{length, map, All, Some, IfOk, OnErr, OnOk};
 ghost use Rattle.half_edge_mesh.specs.Mesh.{empty};
 ghost use Rattle.plane.specs.Plain.{IsCleared, Removes, Replaces};
 ghost use Rattle.delaunay_legalization.specs.Constraints.{constraints_by};
@@ -72,6 +72,17 @@ impl<V: HasPosition, DE: Drop, UE: Drop, F: Drop, M: ConstraintMarker<UE>> Edite
         count_constraints_at::<M, _, _, _, _>(&self.dcel, vertex)
     }
 
+    // How many directed edges a removal may list: those round a vertex on the hull, or those of the
+    // edges that are left to test.
+    fn edges_to_list(&self) -> usize
+        ensures directed { length self.now.directed ≤ result }
+        ensures tested { 3 * length self.now.vertices ≤ result }
+    {
+        let directed = self.dcel.num_directed_edges();
+        let tested = 3 * self.dcel.num_vertices();
+        if directed < tested { tested } else { directed }
+    }
+
     // Takes a vertex out and tests what its turned edges join, and beside constraints the sides of
     // its hole, or a refusal that changes nothing.
     fn take_out<P: PlaneTests<V::Scalar>>(
@@ -91,7 +102,8 @@ impl<V: HasPosition, DE: Drop, UE: Drop, F: Drop, M: ConstraintMarker<UE>> Edite
     {
         self.work.reserve(3 * self.dcel.num_vertices())?;
         self.sides.clear();
-        self.sides.reserve(self.dcel.num_directed_edges())?;
+        let listed = self.edges_to_list();
+        self.sides.reserve(listed)?;
         let border = self.sides_to_test(vertex)?;
         let mut turned = room_for_turns(&self.dcel, vertex, *self.work.allocator())?;
         let ending = self.count_ending(vertex);
@@ -108,9 +120,11 @@ impl<V: HasPosition, DE: Drop, UE: Drop, F: Drop, M: ConstraintMarker<UE>> Edite
         legalize_pairs::<M, _, _, _, _, _>(
             &mut self.dcel,
             vertex,
+            is_free,
             border.as_slice(),
             turned.as_slice(),
             tests,
+            &mut self.sides,
             &mut self.work,
             &mut flips,
         );

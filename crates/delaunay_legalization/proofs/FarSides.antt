@@ -94,7 +94,8 @@ spoke_dropped points constraints was m v start flips ks more g empty at gains ed
         ]
 
 -- ---- a work list with one more edge
-listed_or_not : (ks : List ℕ) (k : ℕ) → Contains ks k ⊎ (¬ Contains ks k)
+-- an edge is in the list, or it is not
+pub listed_or_not : (ks : List ℕ) (k : ℕ) → Contains ks k ⊎ (¬ Contains ks k)
 listed_or_not [] k = inr (Contains-none k)
 listed_or_not (j ∷ ks) k = elim (cases_eq j k) [
   | inl e ↦ inl (subst (Contains (j ∷ ks)) e (Contains-head j ks))

@@ -14,3 +14,5 @@ pub mod MeshParts
 pub mod MarkedPairs
 pub mod FarSides
 pub mod OppositeLoop
+pub mod AmongSteps
+pub mod AmongLoop

@@ -11,3 +11,4 @@ pub mod Parts
 pub mod Marking
 pub mod Legalized
 pub mod Opposite
+pub mod Among

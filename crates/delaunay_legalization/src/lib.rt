@@ -2,6 +2,7 @@
 //! are constraints, and flips until each other edge passes the circle test.
 #![tactic(auto)]
 
+mod among;
 mod cdt_edge;
 mod constraint_marker;
 mod legalization;
@@ -15,6 +16,7 @@ pub use cdt_edge::{CdtEdge, EdgeConstraints, free_edge_data};
 pub use constraint_marker::{ConstraintMarker, NoConstraints};
 
 // For the crates of edits, and not for users.
+pub use among::legalize_list;
 pub use legalization::{is_constraint_edge, is_outer, legalize, push_side, push_sides, start_of};
 pub use marking::{free_edge, make_constraint};
 pub use predicates::{is_same_point, is_strictly_inside, is_strictly_within, turns_left};

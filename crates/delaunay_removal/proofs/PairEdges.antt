@@ -1,20 +1,24 @@
 -- The edges of some pairs of vertices, where only these may fail the circle test.
-use Rattle.std.proofs.Common.{◌≡◌, ◌⊎◌, ℕ, ◌+◌, ◌/◌, ◌<◌, ◌≤◌, List, ◌++◌, length, get_or, sym, ap, ◌∙◌, subst, inl, inr, arith}
+use Rattle.std.proofs.Common.{◌≡◌, ◌⊎◌, ℕ, ◌+◌, ◌*◌, ◌/◌, ◌<◌, ◌≤◌, List, ◌++◌, length, get_or, refl, sym, ap, ◌∙◌, subst, inl, inr, arith}
 use Rattle.std.specs.Prelude.{Contains}
 use Rattle.std.proofs.lemmas.Bool.{cases_eq}
 use Rattle.std.proofs.lemmas.List.Elements.{Contains-append_cases}
 use Rattle.half_edge_links.proofs.Lists.Rev.{rev-rev, rev_within}
-use Rattle.half_edge_mesh.specs.Mesh.{Mesh, AreSoundLinks, origin, rev}
+use Rattle.half_edge_mesh.specs.Mesh.{Mesh, AreSoundLinks, IsValidMesh, origin, rev}
 use Rattle.plane.specs.Fraction.{Point}
 use Rattle.plane.specs.Pairs.{Joins}
+use Rattle.plane_tiling.specs.Local.{IsMesh}
 use Rattle.plane_tiling.proofs.Totals.{get_or_any}
 use Rattle.plane_edits.specs.Legal.{AllPassBut}
-use Rattle.mesh_embedding.specs.Drawn.{faces_of}
+use Rattle.mesh_embedding.specs.Drawn.{faces_of, outer_of}
 use Rattle.mesh_embedding.specs.Legal.{AreEdges, pair_at, pairs_at}
-use Rattle.mesh_embedding.proofs.MeshLegal.{joins_directed}
+use Rattle.mesh_embedding.proofs.EdgePairs.{half_of_even}
+use Rattle.mesh_embedding.proofs.MeshLegal.{IsListedEdge, joins_directed, listed_edge, own_indexes}
 use Rattle.mesh_embedding.proofs.MeshStars.{edge_of_face}
+use Rattle.mesh_embedding.proofs.MeshStays.{half_same}
 use Rattle.mesh_embedding.proofs.WorkLists.{contains_map, contains_map_from}
-use Rattle.delaunay_removal.specs.Pairs.{HasEdgeOf, HasEdgesOf, pair_left, pairs_left}
+use Rattle.delaunay_legalization.specs.Among.{FailOnlyOf}
+use Rattle.delaunay_removal.specs.Pairs.{FailOnlyAt, HasEdgeOf, HasEdgesOf, pair_left, pairs_left}
 
 -- a pair in the other order
 pub joins_turned : (pairs : List (ℕ × ℕ)) (i j : ℕ) → Joins pairs i j → Joins pairs j i
@@ -96,3 +100,26 @@ module _ (m : Mesh) (s : AreSoundLinks m) (last v : ℕ) (border turned : List (
   pairs_are_left points constraints passing i j k l f g free untested = passing i j k l f g free (λ joined.
       let e = edge_of_face m s i j k f in
       untested (in_either i j joined e.0 e.1.inner.0 e.1.first (sym (s.edges e.0 e.1.inner.0).starts ∙ e.1.second)))
+
+  -- where no edge but those of the pairs may fail, none but the listed edges may
+  module _ (points : List Point) (valid : IsValidMesh m) (shape : IsMesh points (faces_of m) (outer_of m)) (edges : AreEdges m ks) where
+    there : (k : ℕ) → (2 * k) < length m.half_edges → Joins (pairs_at m ks) (origin m (2 * k)) (origin m (rev (2 * k))) → Contains ks k
+    there k within joined = subst (Contains ks) (sym (ap (λ (h : ℕ). h / 2) same) ∙ half_of_even k) e.1.listed
+      where
+        e : (h : ℕ) × IsListedEdge m ks (origin m (2 * k)) (origin m (rev (2 * k))) h
+        e = listed_edge m ks (origin m (2 * k)) (origin m (rev (2 * k))) joined
+
+        in_mesh : (e.0 ≡ 2 * (e.0 / 2)) ⊎ (e.0 ≡ rev (2 * (e.0 / 2))) → e.0 < length m.half_edges
+        in_mesh (inl i) = subst (λ (h : ℕ). h < length m.half_edges) (sym i) (edges.within (e.0 / 2) e.1.listed)
+        in_mesh (inr i) = subst (λ (h : ℕ). h < length m.half_edges) (sym i)
+            (rev_within (2 * (e.0 / 2)) (length m.half_edges) s.even (edges.within (e.0 / 2) e.1.listed))
+
+        same : 2 * k ≡ e.0
+        same = (own_indexes points m valid shape).edges e.0 (2 * k)
+            (in_mesh (half_same (2 * (e.0 / 2)) e.0 (sym (half_of_even (e.0 / 2))))) within (sym e.1.start, sym e.1.end)
+
+    pub only_listed : FailOnlyAt points m (pairs_left last v (border ++ turned)) → FailOnlyOf points m ks
+    only_listed only k within = elim (only k within) [
+      | inl joined ↦ inl (there k within (in_either (origin m (2 * k)) (origin m (rev (2 * k))) joined (2 * k) within refl refl))
+      | inr quiet ↦ inr quiet
+    ]

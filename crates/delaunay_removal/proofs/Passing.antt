@@ -1,11 +1,11 @@
 -- What is left to test where a vertex has gone: what its turned edges join, and sides of its hole.
-use Rattle.std.proofs.Common.{◌≡◌, ◌≢◌, ◌⊎◌, ℕ, ◌-◌, ◌<◌, List, ◌++◌, length, get_or, map, sym, ap, ◌∙◌, subst, inl, inr, arith}
+use Rattle.std.proofs.Common.{◌≡◌, ◌≢◌, ◌⊎◌, ℕ, ◌-◌, ◌*◌, ◌<◌, List, ◌++◌, length, get_or, map, sym, ap, ◌∙◌, subst, inl, inr, arith}
 use Rattle.std.specs.Prelude.{Contains, pos, swap_remove}
 use Rattle.std.proofs.lemmas.Bool.{cases_eq}
 use Rattle.std.proofs.lemmas.List.{length-map}
 use Rattle.std.proofs.lemmas.List.Elements.{Contains-append_left, Contains-append_right}
-use Rattle.half_edge_mesh.specs.Mesh.{Mesh, AreSoundLinks, origin, prev}
-use Rattle.half_edge_links.proofs.Lists.Rev.{rev-rev}
+use Rattle.half_edge_mesh.specs.Mesh.{Mesh, AreSoundLinks, origin, next, prev, face, rev}
+use Rattle.half_edge_links.proofs.Lists.Rev.{rev-rev, rev_within}
 use Rattle.half_edge_links.proofs.Removing.OpenSound.{length-swap_remove, get_or-swap_remove_same, get_or-swap_remove_other, swap_remove_default}
 use Rattle.plane.specs.Circle.{InsideCircle}
 use Rattle.plane.specs.Fraction.{Point, Fraction, whole}
@@ -21,13 +21,16 @@ use Rattle.plane_edits.proofs.Legalization.Flipping.{one_question}
 use Rattle.plane_edits.proofs.LocalMesh.Kept.{turning_of}
 use Rattle.mesh_embedding.specs.Drawn.{faces_of, outer_of}
 use Rattle.mesh_embedding.proofs.MeshDrops.{mapped_swap_remove}
+use Rattle.mesh_embedding.proofs.MeshEdits.{face_before}
+use Rattle.mesh_embedding.proofs.MeshLegal.{none_or_some}
 use Rattle.mesh_embedding.proofs.MeshStars.{edge_of_face}
 use Rattle.mesh_embedding.proofs.WorkLists.{contains_map}
+use Rattle.delaunay_legalization.specs.Among.{IsQuiet}
 use Rattle.delaunay_legalization.specs.Constraints.{constraints_by, points_and_constraints_by}
 use Rattle.delaunay_legalization.specs.Shape.{IsTriangulated, IsDelaunayTriangulation}
 use Rattle.delaunay_legalization.specs.State.{State}
 use Rattle.delaunay_legalization.proofs.Stars.{face_corners, no_face}
-use Rattle.delaunay_removal.specs.Pairs.{HasBorder, IsHoleSide, LeavesFaces, former_index, pair_left, pairs_left}
+use Rattle.delaunay_removal.specs.Pairs.{FailOnlyAt, HasBorder, IsHoleSide, LeavesFaces, former_index, pair_left, pairs_left}
 use Rattle.delaunay_removal.proofs.InnerStars.{no_way_back}
 use Rattle.delaunay_removal.proofs.LeavingConstraints.{back_and_there, old_of_freed, old_of_other}
 use Rattle.delaunay_removal.proofs.PairEdges.{joins_turned}
@@ -171,3 +174,89 @@ module _ {V D U F : Type 0} (place : V → Point) (constraints : List U → List
   -- after a removal no edge is left to test but those of the pairs
   pub passes_but : AllPassBut (map place new.vertices) (faces_of new.mesh) (constraints_by constraints new) (pairs_left (length new.vertices) v (border ++ turned))
   passes_but = subst (λ (n : ℕ). AllPassBut (map place new.vertices) (faces_of new.mesh) (constraints_by constraints new) (pairs_left n v (border ++ turned))) (sym count ∙ length-map new.vertices place) but_pairs
+
+  -- ---- without constraints
+  module _ (empty : (i j k n : ℕ) → IsFaceOf (faces_of old.mesh) i j k → n < length (map place old.vertices)
+      → ¬ InsideCircle (at (map place old.vertices) i) (at (map place old.vertices) j) (at (map place old.vertices) k) (at (map place old.vertices) n)) where
+    abbrev Quiet : ℕ → Type 0
+    Quiet h = IsQuiet (map place new.vertices) new.mesh h
+
+    -- a face that was there has an empty circle still
+    empty_still : (i j k : ℕ) → IsFaceOf (faces_of new.mesh) i j k → IsFaceOf (faces_of old.mesh) (was i) (was j) (was k) → (n : ℕ) → n < length (map place new.vertices)
+        → ¬ InsideCircle (at (map place new.vertices) i) (at (map place new.vertices) j) (at (map place new.vertices) k) (at (map place new.vertices) n)
+    empty_still i j k f x n n_in =
+        let corners = face_corners (map place new.vertices) (faces_of new.mesh) (outer_of new.mesh) kept.shape i j k f in
+        let within = removes.here in
+        let low = below n n_in in
+        let long = length-map old.vertices place in
+        subst (λ (x : Fraction × Fraction × Fraction × Fraction). ¬ InsideCircle x.0 x.1 x.2 x.3) (λ o. (same_place i corners.0 o, same_place j corners.1 o, same_place k corners.2 o, same_place n n_in o))
+        (empty (was i) (was j) (was k) (was n) x
+        (former_below v last n (length (map place old.vertices)) (omega (arith, within, long, low)) (omega (arith, within, long))))
+
+    face_left : (h : ℕ) → h < length new.mesh.half_edges → 0 < face new.mesh h → IsFaceOf (faces_of new.mesh) (origin new.mesh h) (origin new.mesh (next new.mesh h)) (origin new.mesh (prev new.mesh h))
+    face_left h within inner = face_before new.mesh h kept.valid.sound (within, inner)
+
+    -- an edge between two faces
+    module _ (h : ℕ) (within : h < length new.mesh.half_edges) (rev_in : rev h < length new.mesh.half_edges) (inner : 0 < face new.mesh h) (twin_inner : 0 < face new.mesh (rev h)) where
+      abbrev i : ℕ
+      i = origin new.mesh h
+
+      abbrev j : ℕ
+      j = origin new.mesh (rev h)
+
+      left : IsFaceOf (faces_of new.mesh) i (origin new.mesh (next new.mesh h)) (origin new.mesh (prev new.mesh h))
+      left = face_left h within inner
+
+      right : IsFaceOf (faces_of new.mesh) j (origin new.mesh (next new.mesh (rev h))) (origin new.mesh (prev new.mesh (rev h)))
+      right = face_left (rev h) rev_in twin_inner
+
+      ends : origin new.mesh (next new.mesh h) ≡ j
+      ends = (kept.valid.sound.edges h within).starts
+
+      twin_ends : origin new.mesh (next new.mesh (rev h)) ≡ i
+      twin_ends = (kept.valid.sound.edges (rev h) rev_in).starts ∙ ap (origin new.mesh) (rev-rev h)
+
+      corners : (i < length (map place new.vertices)) × (origin new.mesh (next new.mesh h) < length (map place new.vertices)) × (origin new.mesh (prev new.mesh h) < length (map place new.vertices))
+      corners = face_corners (map place new.vertices) (faces_of new.mesh) (outer_of new.mesh) kept.shape i (origin new.mesh (next new.mesh h)) (origin new.mesh (prev new.mesh h)) left
+
+      i_low : i < last
+      i_low = below i corners.0
+
+      j_low : j < last
+      j_low = below j (subst (λ (x : ℕ). x < length (map place new.vertices)) ends corners.1)
+
+      abbrev Found : Type 0
+      Found = Joins (pairs_left last v (border ++ turned)) i j ⊎ (Quiet h ⊎ Quiet (rev h))
+
+      pair : Joins turned (was i) (was j) → Found
+      pair x = inl (either i j i_low j_low (inr x))
+
+      pair_back : Joins turned (was j) (was i) → Found
+      pair_back x = inl (joins_turned (pairs_left last v (border ++ turned)) j i (either j i j_low i_low (inr x)))
+
+      go : Was i j (origin new.mesh (prev new.mesh h)) → Was j i (origin new.mesh (prev new.mesh (rev h))) → Found
+      go (inl x) y = inr (inl (inr (empty_still i (origin new.mesh (next new.mesh h)) (origin new.mesh (prev new.mesh h)) left
+          (subst (λ (z : ℕ). IsFaceOf (faces_of old.mesh) (was i) (was z) (was (origin new.mesh (prev new.mesh h)))) (sym ends) x))))
+      go (inr (inl x, n, o)) y = pair x
+      go (inr (inr p, n, o)) (inl y) = inr (inr (inr (empty_still j (origin new.mesh (next new.mesh (rev h))) (origin new.mesh (prev new.mesh (rev h))) right
+          (subst (λ (z : ℕ). IsFaceOf (faces_of old.mesh) (was j) (was z) (was (origin new.mesh (prev new.mesh (rev h))))) (sym twin_ends) y))))
+      go (inr (inr p, n, o)) (inr (inl x, y, z)) = pair_back x
+      go (inr (inr p, n, o)) (inr (inr q, y, z)) = absurd (one_way (was i) (was j) p q)
+
+      between_faces : Found
+      between_faces = go
+          (leaves.each i j (origin new.mesh (prev new.mesh h)) (subst (λ (z : ℕ). IsFaceOf (faces_of new.mesh) i z (origin new.mesh (prev new.mesh h))) ends left))
+          (leaves.each j i (origin new.mesh (prev new.mesh (rev h))) (subst (λ (z : ℕ). IsFaceOf (faces_of new.mesh) j z (origin new.mesh (prev new.mesh (rev h)))) twin_ends right))
+
+    found_at : (k : ℕ) → (2 * k) < length new.mesh.half_edges → Joins (pairs_left last v (border ++ turned)) (origin new.mesh (2 * k)) (origin new.mesh (rev (2 * k))) ⊎ (Quiet (2 * k) ⊎ Quiet (rev (2 * k)))
+    found_at k within = elim (none_or_some (face new.mesh (2 * k))) [
+      | inl o ↦ inr (inl (inl o))
+      | inr inner ↦ elim (none_or_some (face new.mesh (rev (2 * k)))) [
+        | inl o ↦ inr (inr (inl o))
+        | inr twin_inner ↦ between_faces (2 * k) within (rev_within (2 * k) (length new.mesh.half_edges) kept.valid.sound.even within) inner twin_inner
+      ]
+    ]
+
+    -- after a removal no edge may fail but those of the pairs
+    pub fails_only_at : FailOnlyAt (map place new.vertices) new.mesh (pairs_left (length new.vertices) v (border ++ turned))
+    fails_only_at = subst (λ (n : ℕ). FailOnlyAt (map place new.vertices) new.mesh (pairs_left n v (border ++ turned))) (sym count ∙ length-map new.vertices place) found_at

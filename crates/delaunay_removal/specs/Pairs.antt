@@ -1,15 +1,17 @@
 -- The pairs of vertices that bound the faces made where a vertex goes: the sides of its hole, and what its edges join once they
 -- are turned.
-use Rattle.std.specs.Prelude.{◌≡◌, ◌⊎◌, ℕ, ◌+◌, ◌-◌, ◌<◌, ◌≤◌, List, length, map, nat_eq, if◌then◌else◌}
+use Rattle.std.specs.Prelude.{◌≡◌, ◌⊎◌, ℕ, ◌+◌, ◌-◌, ◌*◌, ◌<◌, ◌≤◌, List, length, map, nat_eq, if◌then◌else◌}
 use Rattle.half_edge_mesh.specs.Mesh.{Mesh, origin, rev}
 use Rattle.half_edge_mesh.specs.Peel.{turn}
 use Rattle.half_edge_mesh.specs.Renames.{moved}
 use Rattle.half_edge_mesh.specs.Round.{IsRound}
+use Rattle.plane.specs.Fraction.{Point}
 use Rattle.plane.specs.Pairs.{Joins}
 use Rattle.plane.specs.Tiling.{Face}
 use Rattle.plane_edits.specs.Change.{IsFaceOf}
 use Rattle.mesh_embedding.specs.Drawn.{faces_of}
 use Rattle.mesh_embedding.specs.Legal.{pairs_at}
+use Rattle.delaunay_legalization.specs.Among.{IsQuiet}
 use Rattle.delaunay_legalization.specs.State.{State}
 
 -- ---- while the vertex loses its edges
@@ -57,6 +59,10 @@ pair_left last v p = (moved last v p.0, moved last v p.1)
 -- the pairs of a list by the indexes that their vertices have then
 abbrev pub pairs_left : ℕ → ℕ → List (ℕ × ℕ) → List (ℕ × ℕ)
 pairs_left last v pairs = map (pair_left last v) pairs
+
+-- each undirected edge joins one of the pairs, or is outer or has an empty circle on one of its sides
+abbrev pub FailOnlyAt : List Point → Mesh → List (ℕ × ℕ) → Type 0
+FailOnlyAt points m pairs = (k : ℕ) → (2 * k) < length m.half_edges → Joins pairs (origin m (2 * k)) (origin m (rev (2 * k))) ⊎ (IsQuiet points m (2 * k) ⊎ IsQuiet points m (rev (2 * k)))
 
 -- an edge from i to j is among ks, if there is one
 abbrev pub HasEdgeOf : Mesh → ℕ → ℕ → List ℕ → Type 0

@@ -1,6 +1,7 @@
 //! Pairs of vertices that bound new faces where a vertex went, and a legalization that begins there.
 ghost use Rattle.std.specs.Prelude.{◌≡◌, ◌≢◌, ℕ, ◌*◌, ◌<◌, ◌≤◌, ◌++◌};
-ghost use Rattle.std.specs.Prelude.{length, map, All, Contains, IfNone, IfSome, vec_capacity};
+ghost use Rattle.std.specs.Prelude.{length, map, All, Contains, IfNone, IfSome, IsTrue};
+ghost use Rattle.std.specs.Prelude.{vec_capacity};
 ghost use Rattle.half_edge_mesh.specs.Mesh.{origin, rev};
 ghost use Rattle.half_edge_mesh.specs.Renames.{moved};
 ghost use Rattle.half_edge_mesh.specs.Round.{neighbour};
@@ -12,12 +13,13 @@ ghost use Rattle.delaunay_legalization.specs.Constraints.{constraints_by};
 ghost use Rattle.delaunay_legalization.specs.Flips.{CountsFlips, FlipsFit};
 ghost use Rattle.delaunay_legalization.specs.Shape.{IsTriangulated, IsDelaunayTriangulation};
 ghost use Rattle.delaunay_legalization.specs.State.{state_of};
-ghost use Rattle.delaunay_removal.specs.Pairs.{HasEdgeOf, HasEdgesOf, pairs_left};
+ghost use Rattle.delaunay_removal.specs.Pairs.{FailOnlyAt, HasEdgeOf, HasEdgesOf};
+ghost use Rattle.delaunay_removal.specs.Pairs.{pairs_left};
 
 use crate::star::edge_after;
 use delaunay_core::math::PlaneTests;
 use delaunay_core::point::HasPosition;
-use delaunay_legalization::{ConstraintMarker, legalize, push_side};
+use delaunay_legalization::{ConstraintMarker, legalize_list, push_side};
 use half_edge_mesh::{
     Dcel, FixedDirectedEdgeHandle, FixedUndirectedEdgeHandle, FixedVertexHandle, MeshViews,
 };
@@ -135,13 +137,17 @@ fn push_pairs<V, DE, UE, F>(
 
 /// Tests the edges of some pairs, where each other edge passes, and flips those that fail and are
 /// no constraints until none does. The pairs go by the indexes that the vertices had before
-/// `vertex` went: the sides of its hole, and what its edges joined once they were turned.
+/// `vertex` went: the sides of its hole, and what its edges joined once they were turned. Where
+/// each other edge has an empty circle on one of its sides, as `is_free` may say, it is not tested
+/// again; `among` has room for the edges then.
 pub fn legalize_pairs<M: ConstraintMarker<UE>, V: HasPosition, DE, UE, F, P: PlaneTests<V::Scalar>>(
     dcel: &mut Dcel<V, DE, UE, F>,
     vertex: FixedVertexHandle,
+    is_free: bool,
     border: &[VertexPair],
     turned: &[VertexPair],
     tests: &P,
+    among: &mut Vec<FixedDirectedEdgeHandle>,
     work: &mut Vec<FixedUndirectedEdgeHandle>,
     flips: &mut u64,
 )
@@ -150,7 +156,10 @@ pub fn legalize_pairs<M: ConstraintMarker<UE>, V: HasPosition, DE, UE, F, P: Pla
     requires passing { AllPassBut (map V.place dcel.old.vertices) (faces_of dcel.old.mesh)
         (constraints_by M.constraints (state_of dcel.old))
         (pairs_left (length dcel.old.vertices) vertex (border.now ++ turned.now)) }
+    requires only { IsTrue is_free → FailOnlyAt (map V.place dcel.old.vertices) dcel.old.mesh
+        (pairs_left (length dcel.old.vertices) vertex (border.now ++ turned.now)) }
     requires room { 3 * length dcel.old.vertices ≤ vec_capacity work.old }
+    requires room_among { 3 * length dcel.old.vertices ≤ vec_capacity among.old }
     requires fits { FlipsFit (length dcel.old.vertices) flips.old }
 
     ensures contents { dcel.new ≡ record dcel.old { mesh = dcel.new.mesh } }
@@ -163,6 +172,5 @@ pub fn legalize_pairs<M: ConstraintMarker<UE>, V: HasPosition, DE, UE, F, P: Pla
     work.clear();
     push_pairs(dcel, vertex, border, work);
     push_pairs(dcel, vertex, turned, work);
-    legalize::<M, _, _, _, _, _>(dcel, tests, work, flips);
-    dcel.recall_invariant();
+    legalize_list::<M, _, _, _, _, _>(dcel, is_free, tests, among, work, flips);
 }

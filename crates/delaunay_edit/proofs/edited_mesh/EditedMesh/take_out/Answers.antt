@@ -1,4 +1,4 @@
-use Rattle.std.proofs.Common.{ℕ, List, ◌++◌, length, map, sym, subst}
+use Rattle.std.proofs.Common.{ℕ, List, ◌++◌, length, map, refl, sym, subst, arith, vec_capacity}
 use Rattle.std.proofs.lemmas.Bool.{eqb-true}
 use Rattle.plane.specs.Plain.{Removes}
 use Rattle.plane_edits.specs.Legal.{AllPassBut}
@@ -6,11 +6,11 @@ use Rattle.mesh_embedding.specs.Drawn.{faces_of}
 use Rattle.delaunay_legalization.specs.Constraints.{constraints_by, points_and_constraints_by}
 use Rattle.delaunay_legalization.specs.State.{state_of}
 use Rattle.delaunay_removal.specs.Data.{KeepsDataBeside}
-use Rattle.delaunay_removal.specs.Pairs.{pairs_left}
+use Rattle.delaunay_removal.specs.Pairs.{FailOnlyAt, pairs_left}
 use Rattle.delaunay_removal.proofs.DataLegalized.{legalized_keeps_others}
-use Rattle.delaunay_removal.proofs.Passing.{passes_but}
+use Rattle.delaunay_removal.proofs.Passing.{fails_only_at, passes_but}
 use Rattle.delaunay_edit.proofs.EmptyRound.{none_counted}
-use Rattle.delaunay_edit.proofs.FreeRemoval.{sides_settle}
+use Rattle.delaunay_edit.proofs.FreeRemoval.{free_circles, sides_settle}
 use Rattle.delaunay_edit.proofs.Removing.{sites_left, room_left, removed_on}
 use Rattle.delaunay_edit.proofs.Recounted.{counted_removed, some_removed}
 use Rattle.delaunay_edit.proofs.edited_mesh.EditedMesh.take_out.Goals as goal
@@ -62,6 +62,35 @@ legalize_pairs-requires-clause-passing g c =
     (state_of c.self.inside.dcel) c.self.invariant.legal c.args.vertex c.in_ok-border.border.items
     c.in_ok-border.ensures))
 
+pub remove_vertex-value-requires-clause-room : goal.remove_vertex-value-requires-clause-room
+remove_vertex-value-requires-clause-room g c =
+    let fits = c.in_ok-reserve-2.ensures.ok in
+    let directed = c.edges_to_list-listed.ensures.directed in
+    omega (arith, fits, directed)
+
+pub legalize_pairs-requires-clause-room_among : goal.legalize_pairs-requires-clause-room_among
+legalize_pairs-requires-clause-room_among g c =
+    let fits = c.in_ok-reserve-2.ensures.ok in
+    let tested = c.edges_to_list-listed.ensures.tested in
+    let same = c.remove_vertex-value.ensures.capacity in
+    room_left g.V.HasPosition.place g.M.ConstraintMarker.constraints (state_of c.self.inside.dcel) (state_of c.remove_vertex-value.new.dcel) c.args.vertex c.remove_vertex-value.result c.remove_vertex-value.ensures.plain
+    (length c.self.inside.dcel.vertices) 0 (vec_capacity c.remove_vertex-value.new.sides) refl (omega (arith, fits, tested, same))
+
+pub legalize_pairs-requires-clause-only : goal.legalize_pairs-requires-clause-only
+legalize_pairs-requires-clause-only g c free =
+    let at = g.V.HasPosition.place in
+    let constraints = g.M.ConstraintMarker.constraints in
+    let old = state_of c.self.inside.dcel in
+    let ds = c.remove_vertex-value.new.dcel in
+    let border = c.in_ok-border.border.items in
+    subst (λ (x : List (ℕ × ℕ) × List (ℕ × ℕ)). FailOnlyAt (map at ds.vertices) ds.mesh (pairs_left (length ds.vertices) c.args.vertex (x.0 ++ x.1)))
+    (λ i. (sym {A = List (ℕ × ℕ)} c.as_slice.ensures.value i, sym {A = List (ℕ × ℕ)} c.as_slice-2.ensures.value i))
+    (fails_only_at at constraints old (state_of ds) c.args.vertex c.remove_vertex-value.result c.self.invariant.legal c.remove_vertex-value.ensures.kept
+    c.remove_vertex-value.ensures.plain border c.remove_vertex-value.new.turned.items c.remove_vertex-value.ensures.faces
+    (sides_settle at g.M.ConstraintMarker.marks constraints g.met.M.ConstraintMarker.constraints_are_marked old c.self.invariant.legal c.args.vertex border c.in_ok-border.ensures)
+    (free_circles at g.M.ConstraintMarker.marks constraints g.met.M.ConstraintMarker.constraints_are_marked old c.self.invariant.legal c.args.vertex border
+    (none_counted at constraints old c.self.inside.num_constraints c.self.invariant (eqb-true _ _ free))))
+
 pub overflow_sub-self : goal.overflow_sub-self
 overflow_sub-self g c =
     let at = g.V.HasPosition.place in
@@ -73,8 +102,8 @@ overflow_sub-self g c =
     c.args.vertex c.remove_vertex-value.ensures.plain c.legalize_pairs.ensures.contents c.legalize_pairs.ensures.constraints)
     c.count_ending-ending.ensures
 
-pub invariant_of-self-4 : goal.invariant_of-self-4
-invariant_of-self-4 g c =
+pub invariant_of-self-5 : goal.invariant_of-self-5
+invariant_of-self-5 g c =
     let at = g.V.HasPosition.place in
     let marker = g.M.ConstraintMarker in
     counted_removed at marker.marks marker.constraints g.met.M.ConstraintMarker.constraints_are_marked
