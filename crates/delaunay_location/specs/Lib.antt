@@ -1,2 +1,3 @@
 pub mod Location
+pub mod Search
 pub mod Stop

@@ -14,7 +14,7 @@ use delaunay_core::point::{HasPosition, Point2};
 use half_edge_mesh::{Dcel, FixedVertexHandle};
 
 // The squared distance from a position to a vertex.
-fn distance_2_to<V: HasPosition, DE, UE, F>(
+pub(crate) fn distance_2_to<V: HasPosition, DE, UE, F>(
     dcel: &Dcel<V, DE, UE, F>,
     vertex: FixedVertexHandle,
     point: Point2<V::Scalar>,

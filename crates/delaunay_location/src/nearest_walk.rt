@@ -1,7 +1,9 @@
 //! The vertex that is nearest to a position, by a walk from neighbour to neighbour.
-ghost use Rattle.std.specs.Prelude.{◌≡◌, ◌⊎◌, ℕ, ◌+◌, ◌<◌, ◌≤◌, ◌^◌, [], length, MatchOption};
+ghost use Rattle.std.specs.Prelude.{◌≡◌, ◌⊎◌, ◌↔◌, ℕ, ◌+◌, ◌<◌, ◌≤◌, ◌<ℤ◌, ◌^◌};
+ghost use Rattle.std.specs.Prelude.{[], length, map, IsTrue, MatchOption};
 ghost use Rattle.plane.specs.Fraction.{whole as fraction};
-ghost use Rattle.plane.specs.Circle.{IsNearer};
+ghost use Rattle.plane.specs.Circle.{IsNearer, gap};
+ghost use Rattle.plane.specs.Pairs.{place};
 ghost use Rattle.plane.specs.Delaunay.{IsConstrainedDelaunay};
 ghost use Rattle.plane.specs.Shape.{IsNearest};
 ghost use Rattle.plane.specs.Tests.{InRange};
@@ -10,7 +12,7 @@ ghost use Rattle.delaunay_core.specs.Place.{place_of};
 ghost use Rattle.delaunay_legalization.specs.Shape.{IsTriangulated};
 ghost use Rattle.delaunay_legalization.specs.State.{state_of, triangulation_of};
 
-use crate::nearest_vertex::is_nearer;
+use crate::nearest_vertex::distance_2_to;
 use crate::parts::end_vertex;
 use crate::samples::nearer_sample;
 use delaunay_core::point::{HasPosition, Point2};
@@ -18,6 +20,22 @@ use half_edge_mesh::{Dcel, FixedVertexHandle, MeshViews};
 
 // After so many moves a walk looks for a nearer vertex anywhere in the mesh.
 const FEW_MOVES: u64 = 16;
+
+// Whether a vertex is nearer to a position than a squared distance.
+fn is_nearer_than<V: HasPosition, DE, UE, F>(
+    dcel: &Dcel<V, DE, UE, F>,
+    vertex: FixedVertexHandle,
+    distance: i64,
+    point: Point2<V::Scalar>,
+) -> bool
+    requires kept { IsTriangulated V.place (state_of dcel.now) }
+    requires within { vertex < length dcel.now.vertices }
+    requires in_range { InRange (place_of V.Scalar.whole point) }
+    ensures { IsTrue result ↔ (gap (fraction (place_of V.Scalar.whole point))
+        (place (map V.place dcel.now.vertices) vertex) <ℤ distance) }
+{
+    distance_2_to(dcel, vertex, point) < distance
+}
 
 // A neighbour of a vertex that is strictly nearer to a position, if there is one.
 fn nearer_neighbor<V: HasPosition, DE, UE, F>(
@@ -33,9 +51,10 @@ fn nearer_neighbor<V: HasPosition, DE, UE, F>(
         MatchOption result ((k : ℕ) → IsEdge t from k → ¬ IsNearer p (vertex t k) (vertex t from))
         (λ k. (k < length dcel.now.vertices) × IsNearer p (vertex t k) (vertex t from)) }
 {
+    let distance = distance_2_to(dcel, from, point);
     for edge in dcel.vertex(from).out_edges() {
         let neighbor = end_vertex(dcel, edge.fix());
-        if is_nearer(dcel, neighbor, from, point) {
+        if is_nearer_than(dcel, neighbor, distance, point) {
             return Some(neighbor);
         }
     }

@@ -8,6 +8,7 @@ ghost use Rattle.delaunay_legalization.specs.Parts.{IsApart};
 ghost use Rattle.delaunay_legalization.specs.Shape.{IsTriangulated};
 ghost use Rattle.delaunay_legalization.specs.State.{state_of};
 ghost use Rattle.delaunay_location.specs.Location.{Locates};
+ghost use Rattle.delaunay_location.specs.Search.{IsPlaceOf, IsSearch};
 
 use crate::location::{is_inside_face, locate_by_scan};
 use crate::parts::{ends_of, left_face, start_vertex};
@@ -22,131 +23,134 @@ use half_edge_mesh::{Dcel, FixedDirectedEdgeHandle, FixedVertexHandle, MeshViews
 // After so many steps a walk looks for a nearer vertex anywhere in the mesh.
 const FEW_STEPS: usize = 16;
 
-// The location of a position on an edge: at its start, or within it.
-fn place_on_edge<V: HasPosition, DE, UE, F, P: PlaneTests<V::Scalar>>(
-    dcel: &Dcel<V, DE, UE, F>,
-    edge: FixedDirectedEdgeHandle,
-    point: Point2<V::Scalar>,
-    tests: &P,
-) -> Option<PositionInTriangulation>
-    requires kept { IsTriangulated V.place (state_of dcel.now) }
-    requires within { edge < length dcel.now.directed }
-    requires sites { All (P.sites tests.now) (map V.place dcel.now.vertices) }
-    requires covered { P.covered tests.now (place_of V.Scalar.whole point) }
-    ensures { IfSome result (Locates (map V.place dcel.now.vertices) dcel.now.mesh
-        (place_of V.Scalar.whole point)) }
-{
-    let (from, to) = ends_of(dcel, edge);
-    if is_same_point(from, point) {
-        return Some(PositionInTriangulation::OnVertex(start_vertex(dcel, edge)));
-    }
-    if is_same_point(to, point) {
-        return None;
-    }
-    if is_strictly_within(from, to, point, tests) {
-        return Some(PositionInTriangulation::OnEdge(edge));
-    }
-    None
+// A search for a position in a mesh, with the tests that say on which sides points are.
+#[derive(Drop)]
+pub(crate) struct Search<'a, V: HasPosition, DE, UE, F, P: PlaneTests<V::Scalar>> {
+    pub(crate) dcel: &'a Dcel<V, DE, UE, F>,
+    pub(crate) point: Point2<V::Scalar>,
+    pub(crate) tests: &'a P,
 }
 
-// The location of a position in the closed face on the left of an edge.
-fn place_in_face<V: HasPosition, DE, UE, F, P: PlaneTests<V::Scalar>>(
-    dcel: &Dcel<V, DE, UE, F>,
-    edge: FixedDirectedEdgeHandle,
-    point: Point2<V::Scalar>,
-    tests: &P,
-) -> Option<PositionInTriangulation>
-    requires kept { IsTriangulated V.place (state_of dcel.now) }
-    requires within { edge < length dcel.now.directed }
-    requires inner { 0 < face dcel.now.mesh edge }
-    requires sites { All (P.sites tests.now) (map V.place dcel.now.vertices) }
-    requires covered { P.covered tests.now (place_of V.Scalar.whole point) }
-    ensures { IfSome result (Locates (map V.place dcel.now.vertices) dcel.now.mesh
-        (place_of V.Scalar.whole point)) }
-{
-    let face = left_face(dcel, edge);
-    if is_inside_face(dcel, face, point, tests) {
-        return Some(PositionInTriangulation::OnFace(face));
-    }
-    if let Some(place) = place_on_edge(dcel, edge, point, tests) {
-        return Some(place);
-    }
-    let edge = dcel.directed_edge(edge);
-    if let Some(place) = place_on_edge(dcel, edge.next().fix(), point, tests) {
-        return Some(place);
-    }
-    place_on_edge(dcel, edge.prev().fix(), point, tests)
-}
-
-// The location of a position strictly on the left of an edge that has the outer face there.
-fn place_outside<V: HasPosition, DE, UE, F, P: PlaneTests<V::Scalar>>(
-    dcel: &Dcel<V, DE, UE, F>,
-    edge: FixedDirectedEdgeHandle,
-    point: Point2<V::Scalar>,
-    tests: &P,
-) -> Option<PositionInTriangulation>
-    requires kept { IsTriangulated V.place (state_of dcel.now) }
-    requires within { edge < length dcel.now.directed }
-    requires outer { face dcel.now.mesh edge ≡ 0 }
-    requires sites { All (P.sites tests.now) (map V.place dcel.now.vertices) }
-    requires covered { P.covered tests.now (place_of V.Scalar.whole point) }
-    ensures { IfSome result (Locates (map V.place dcel.now.vertices) dcel.now.mesh
-        (place_of V.Scalar.whole point)) }
-{
-    let (from, to) = ends_of(dcel, edge);
-    if turns_left(from, to, point, tests) {
-        Some(PositionInTriangulation::OutsideOfConvexHull(edge))
-    } else {
+impl<'a, V: HasPosition, DE, UE, F, P: PlaneTests<V::Scalar>> Search<'a, V, DE, UE, F, P> {
+    // The location of a position on an edge: at its start, or within it.
+    fn place_on_edge(&self, edge: FixedDirectedEdgeHandle) -> Option<PositionInTriangulation>
+        requires within { edge < length self.now.dcel.now.directed }
+        requires search { IsSearch V.place V.Scalar.whole P.sites P.covered self.now }
+        ensures { IfSome result (IsPlaceOf V.place V.Scalar.whole self.now) }
+    {
+        let (from, to) = ends_of(self.dcel, edge);
+        if is_same_point(from, self.point) {
+            return Some(PositionInTriangulation::OnVertex(start_vertex(self.dcel, edge)));
+        }
+        if is_same_point(to, self.point) {
+            return None;
+        }
+        if is_strictly_within(from, to, self.point, self.tests) {
+            return Some(PositionInTriangulation::OnEdge(edge));
+        }
         None
     }
-}
 
-// The location of a position in the closed face on the left of an edge, or strictly on the left of
-// an edge that has the outer face there.
-fn place_at<V: HasPosition, DE, UE, F, P: PlaneTests<V::Scalar>>(
-    dcel: &Dcel<V, DE, UE, F>,
-    edge: FixedDirectedEdgeHandle,
-    point: Point2<V::Scalar>,
-    tests: &P,
-) -> Option<PositionInTriangulation>
-    requires kept { IsTriangulated V.place (state_of dcel.now) }
-    requires within { edge < length dcel.now.directed }
-    requires sites { All (P.sites tests.now) (map V.place dcel.now.vertices) }
-    requires covered { P.covered tests.now (place_of V.Scalar.whole point) }
-    ensures { IfSome result (Locates (map V.place dcel.now.vertices) dcel.now.mesh
-        (place_of V.Scalar.whole point)) }
-{
-    if is_outer(dcel, edge) {
-        place_outside(dcel, edge, point, tests)
-    } else {
-        place_in_face(dcel, edge, point, tests)
+    // The location of a position in the closed face on the left of an edge.
+    fn place_in_face(&self, edge: FixedDirectedEdgeHandle) -> Option<PositionInTriangulation>
+        requires within { edge < length self.now.dcel.now.directed }
+        requires inner { 0 < face self.now.dcel.now.mesh edge }
+        requires search { IsSearch V.place V.Scalar.whole P.sites P.covered self.now }
+        ensures { IfSome result (IsPlaceOf V.place V.Scalar.whole self.now) }
+    {
+        let face = left_face(self.dcel, edge);
+        if is_inside_face(self.dcel, face, self.point, self.tests) {
+            return Some(PositionInTriangulation::OnFace(face));
+        }
+        if let Some(place) = self.place_on_edge(edge) {
+            return Some(place);
+        }
+        let edge = self.dcel.directed_edge(edge);
+        if let Some(place) = self.place_on_edge(edge.next().fix()) {
+            return Some(place);
+        }
+        self.place_on_edge(edge.prev().fix())
     }
-}
 
-// Where a walk from an edge is that has ended, or after a number of steps: the edge that has this
-// face on its left, and whether it has ended.
-fn walk_on<V: HasPosition, DE, UE, F, P: PlaneTests<V::Scalar>>(
-    dcel: &Dcel<V, DE, UE, F>,
-    start: FixedDirectedEdgeHandle,
-    steps: usize,
-    point: Point2<V::Scalar>,
-    tests: &P,
-) -> (FixedDirectedEdgeHandle, bool)
-    requires kept { IsTriangulated V.place (state_of dcel.now) }
-    requires within { start < length dcel.now.directed }
-    requires sites { All (P.sites tests.now) (map V.place dcel.now.vertices) }
-    requires covered { P.covered tests.now (place_of V.Scalar.whole point) }
-    ensures { result.0 < length dcel.now.directed }
-{
-    let mut stop = stop_at(dcel, start, tests);
-    for _ in 0..steps {
-        let edge = stop.edge;
-        match way_out(dcel, stop, point, tests) {
-            Some(beyond) => stop = beyond,
-            None => return (edge, true),
+    // The location of a position strictly on the left of an edge that has the outer face there.
+    fn place_outside(&self, edge: FixedDirectedEdgeHandle) -> Option<PositionInTriangulation>
+        requires within { edge < length self.now.dcel.now.directed }
+        requires outer { face self.now.dcel.now.mesh edge ≡ 0 }
+        requires search { IsSearch V.place V.Scalar.whole P.sites P.covered self.now }
+        ensures { IfSome result (IsPlaceOf V.place V.Scalar.whole self.now) }
+    {
+        let (from, to) = ends_of(self.dcel, edge);
+        if turns_left(from, to, self.point, self.tests) {
+            Some(PositionInTriangulation::OutsideOfConvexHull(edge))
+        } else {
+            None
         }
     }
-    (stop.edge, false)
+
+    // The location of a position in the closed face on the left of an edge, or strictly on the left
+    // of an edge that has the outer face there.
+    fn place_at(&self, edge: FixedDirectedEdgeHandle) -> Option<PositionInTriangulation>
+        requires within { edge < length self.now.dcel.now.directed }
+        requires search { IsSearch V.place V.Scalar.whole P.sites P.covered self.now }
+        ensures { IfSome result (IsPlaceOf V.place V.Scalar.whole self.now) }
+    {
+        if is_outer(self.dcel, edge) {
+            self.place_outside(edge)
+        } else {
+            self.place_in_face(edge)
+        }
+    }
+
+    // Where a walk from an edge is that has ended, or after a number of steps: the edge that has
+    // this face on its left, and whether it has ended.
+    fn walk_on(
+        &self,
+        start: FixedDirectedEdgeHandle,
+        steps: usize,
+    ) -> (FixedDirectedEdgeHandle, bool)
+        requires within { start < length self.now.dcel.now.directed }
+        requires search { IsSearch V.place V.Scalar.whole P.sites P.covered self.now }
+        ensures { result.0 < length self.now.dcel.now.directed }
+    {
+        let mut stop = stop_at(self.dcel, start, self.tests);
+        for _ in 0..steps {
+            let edge = stop.edge;
+            match way_out(self.dcel, stop, self.point, self.tests) {
+                Some(beyond) => stop = beyond,
+                None => return (edge, true),
+            }
+        }
+        (stop.edge, false)
+    }
+
+    // The location that a walk from an edge ends at, unless it has not ended after as many steps as
+    // there are directed edges. Among faces that pass the circle test it ends earlier. A long walk
+    // goes on at a vertex all over the mesh, if one of those looked at is nearer.
+    fn walk(&self, start: FixedDirectedEdgeHandle) -> Option<PositionInTriangulation>
+        requires within { start < length self.now.dcel.now.directed }
+        requires search { IsSearch V.place V.Scalar.whole P.sites P.covered self.now }
+        ensures { IfSome result (IsPlaceOf V.place V.Scalar.whole self.now) }
+    {
+        let (edge, has_ended) = self.walk_on(start, FEW_STEPS);
+        if has_ended {
+            return self.place_at(edge);
+        }
+        let edge = nearer_edge(self.dcel, edge, self.point);
+        let (edge, _) = self.walk_on(edge, self.dcel.num_directed_edges());
+        self.place_at(edge)
+    }
+
+    // Where a position is, by a walk from a vertex, or from vertex 0 where there is no such vertex.
+    // There is no answer where there are no faces.
+    fn walk_from(&self, hint: FixedVertexHandle) -> Option<PositionInTriangulation>
+        requires search { IsSearch V.place V.Scalar.whole P.sites P.covered self.now }
+        ensures { IfSome result (IsPlaceOf V.place V.Scalar.whole self.now) }
+    {
+        if self.dcel.num_inner_faces() == 0 {
+            return None;
+        }
+        self.walk(first_edge(self.dcel, hint)?)
+    }
 }
 
 // An edge that starts at the nearest of some vertices all over the mesh, or the edge `other` where
@@ -170,31 +174,6 @@ fn nearer_edge<V: HasPosition, DE, UE, F>(
     }
 }
 
-// The location that a walk from an edge ends at, unless it has not ended after as many steps as
-// there are directed edges. Among faces that pass the circle test it ends earlier. A long walk goes
-// on at a vertex all over the mesh, if one of those looked at is nearer.
-fn walk<V: HasPosition, DE, UE, F, P: PlaneTests<V::Scalar>>(
-    dcel: &Dcel<V, DE, UE, F>,
-    start: FixedDirectedEdgeHandle,
-    point: Point2<V::Scalar>,
-    tests: &P,
-) -> Option<PositionInTriangulation>
-    requires kept { IsTriangulated V.place (state_of dcel.now) }
-    requires within { start < length dcel.now.directed }
-    requires sites { All (P.sites tests.now) (map V.place dcel.now.vertices) }
-    requires covered { P.covered tests.now (place_of V.Scalar.whole point) }
-    ensures { IfSome result (Locates (map V.place dcel.now.vertices) dcel.now.mesh
-        (place_of V.Scalar.whole point)) }
-{
-    let (edge, has_ended) = walk_on(dcel, start, FEW_STEPS, point, tests);
-    if has_ended {
-        return place_at(dcel, edge, point, tests);
-    }
-    let edge = nearer_edge(dcel, edge, point);
-    let (edge, _) = walk_on(dcel, edge, dcel.num_directed_edges(), point, tests);
-    place_at(dcel, edge, point, tests)
-}
-
 // An edge that a walk begins at: one of the vertex `hint`, or of vertex 0 where there is no such
 // vertex.
 fn first_edge<V, DE, UE, F>(
@@ -208,26 +187,6 @@ fn first_edge<V, DE, UE, F>(
         None => dcel.get_vertex(FixedVertexHandle::from_index(0))?,
     };
     Some(vertex.out_edge()?.fix())
-}
-
-// Where a position is, by a walk from a vertex, or from vertex 0 where there is no such vertex.
-// There is no answer where there are no faces.
-fn walk_from<V: HasPosition, DE, UE, F, P: PlaneTests<V::Scalar>>(
-    dcel: &Dcel<V, DE, UE, F>,
-    hint: FixedVertexHandle,
-    point: Point2<V::Scalar>,
-    tests: &P,
-) -> Option<PositionInTriangulation>
-    requires kept { IsTriangulated V.place (state_of dcel.now) }
-    requires sites { All (P.sites tests.now) (map V.place dcel.now.vertices) }
-    requires covered { P.covered tests.now (place_of V.Scalar.whole point) }
-    ensures { IfSome result (Locates (map V.place dcel.now.vertices) dcel.now.mesh
-        (place_of V.Scalar.whole point)) }
-{
-    if dcel.num_inner_faces() == 0 {
-        return None;
-    }
-    walk(dcel, first_edge(dcel, hint)?, point, tests)
 }
 
 /// Where a position is. The search begins at the vertex `hint`, or at vertex 0 where there is no
@@ -244,7 +203,8 @@ pub fn locate_with_hint<V: HasPosition, DE, UE, F, P: PlaneTests<V::Scalar>>(
     ensures { Locates (map V.place dcel.now.vertices) dcel.now.mesh (place_of V.Scalar.whole point)
         result }
 {
-    match walk_from(dcel, hint, point, tests) {
+    let search = Search { dcel, point, tests };
+    match search.walk_from(hint) {
         Some(place) => place,
         None => locate_by_scan(dcel, point, tests),
     }

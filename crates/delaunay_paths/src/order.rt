@@ -11,6 +11,7 @@ ghost use Rattle.delaunay_legalization.specs.State.{state_of};
 ghost use Rattle.delaunay_lines.specs.Items.{item_in, mesh_of};
 ghost use Rattle.delaunay_paths.specs.Crossing.{ComesAfter, IsLastCrossing};
 ghost use Rattle.delaunay_paths.specs.Items.{IsCrossedTwin, IsLastWith, IsLater};
+ghost use Rattle.delaunay_paths.specs.Seen.{IsCovered};
 
 use crate::crossing::{end_of, position_of};
 use delaunay_core::math::PlaneTests;
@@ -19,73 +20,56 @@ use delaunay_legalization::{is_same_point, start_of};
 use delaunay_lines::{Intersection, line_between_vertices};
 use half_edge_mesh::{Dcel, FixedDirectedEdgeHandle, FixedVertexHandle};
 
-// Whether a point is nearer to a position than another, in the words of `distance_2`.
-fn has_less_distance<S: SpadeNum, P: PlaneTests<S>>(
+// Two points as they are seen from a position, with the tests that say on which sides they are.
+#[derive(Drop)]
+struct Seen<'a, S: SpadeNum, P: PlaneTests<S>> {
     from: Point2<S>,
     point: Point2<S>,
     other: Point2<S>,
-    tests: &P,
-) -> bool
-    requires from_covered { P.covered tests.now (place_of S.whole from) }
-    requires point_covered { P.covered tests.now (place_of S.whole point) }
-    requires other_covered { P.covered tests.now (place_of S.whole other) }
-    ensures { IsTrue result ↔
-        (gap (fraction (place_of S.whole from)) (fraction (place_of S.whole point)) <ℤ
-        gap (fraction (place_of S.whole from)) (fraction (place_of S.whole other))) }
-{
-    from.distance_2(point) < from.distance_2(other)
+    tests: &'a P,
 }
 
-// Whether a point is nearer to a position than another, in the words of the order of edges.
-fn is_nearer<S: SpadeNum, P: PlaneTests<S>>(
-    from: Point2<S>,
-    point: Point2<S>,
-    other: Point2<S>,
-    tests: &P,
-) -> bool
-    requires from_covered { P.covered tests.now (place_of S.whole from) }
-    requires point_covered { P.covered tests.now (place_of S.whole point) }
-    requires other_covered { P.covered tests.now (place_of S.whole other) }
-    ensures { IsTrue result ↔
-        (squared_way (place_of S.whole from) (place_of S.whole point) <ℤ
-        squared_way (place_of S.whole from) (place_of S.whole other)) }
-{
-    has_less_distance(from, point, other, tests)
-}
+impl<'a, S: SpadeNum, P: PlaneTests<S>> Seen<'a, S, P> {
+    // Whether the point is nearer than the other, in the words of `distance_2`.
+    fn has_less_distance(&self) -> bool
+        requires covered { IsCovered S.whole P.covered self.now }
+        ensures { IsTrue result ↔ (gap (fraction (place_of S.whole self.now.from))
+            (fraction (place_of S.whole self.now.point)) <ℤ
+            gap (fraction (place_of S.whole self.now.from))
+            (fraction (place_of S.whole self.now.other))) }
+    {
+        self.from.distance_2(self.point) < self.from.distance_2(self.other)
+    }
 
-// Whether another point is right of the way to a point, or on it and farther.
-fn comes_after_on_right<S: SpadeNum, P: PlaneTests<S>>(
-    from: Point2<S>,
-    point: Point2<S>,
-    other: Point2<S>,
-    tests: &P,
-) -> bool
-    requires from_covered { P.covered tests.now (place_of S.whole from) }
-    requires point_covered { P.covered tests.now (place_of S.whole point) }
-    requires other_covered { P.covered tests.now (place_of S.whole other) }
-    ensures { IsTrue result ↔
-        ComesAfterOnRight (place_of S.whole from) (place_of S.whole point)
-        (place_of S.whole other) }
-{
-    let side = tests.side(from, point, other);
-    side.is_on_right_side() || (side.is_on_line() && is_nearer(from, point, other, tests))
-}
+    // Whether the point is nearer than the other, in the words of the order of edges.
+    fn is_nearer(&self) -> bool
+        requires covered { IsCovered S.whole P.covered self.now }
+        ensures { IsTrue result ↔
+            (squared_way (place_of S.whole self.now.from) (place_of S.whole self.now.point) <ℤ
+            squared_way (place_of S.whole self.now.from) (place_of S.whole self.now.other)) }
+    {
+        self.has_less_distance()
+    }
 
-// Whether another point is left of the way to a point, or on it and farther.
-fn comes_after_on_left<S: SpadeNum, P: PlaneTests<S>>(
-    from: Point2<S>,
-    point: Point2<S>,
-    other: Point2<S>,
-    tests: &P,
-) -> bool
-    requires from_covered { P.covered tests.now (place_of S.whole from) }
-    requires point_covered { P.covered tests.now (place_of S.whole point) }
-    requires other_covered { P.covered tests.now (place_of S.whole other) }
-    ensures { IsTrue result ↔
-        ComesAfterOnLeft (place_of S.whole from) (place_of S.whole point) (place_of S.whole other) }
-{
-    let side = tests.side(from, point, other);
-    side.is_on_left_side() || (side.is_on_line() && is_nearer(from, point, other, tests))
+    // Whether the other is right of the way to the point, or on it and farther.
+    fn comes_after_on_right(&self) -> bool
+        requires covered { IsCovered S.whole P.covered self.now }
+        ensures { IsTrue result ↔ ComesAfterOnRight (place_of S.whole self.now.from)
+            (place_of S.whole self.now.point) (place_of S.whole self.now.other) }
+    {
+        let side = self.tests.side(self.from, self.point, self.other);
+        side.is_on_right_side() || (side.is_on_line() && self.is_nearer())
+    }
+
+    // Whether the other is left of the way to the point, or on it and farther.
+    fn comes_after_on_left(&self) -> bool
+        requires covered { IsCovered S.whole P.covered self.now }
+        ensures { IsTrue result ↔ ComesAfterOnLeft (place_of S.whole self.now.from)
+            (place_of S.whole self.now.point) (place_of S.whole self.now.other) }
+    {
+        let side = self.tests.side(self.from, self.point, self.other);
+        side.is_on_left_side() || (side.is_on_line() && self.is_nearer())
+    }
 }
 
 // Whether another edge comes after an edge, by where they start, or else by where they end.
@@ -106,8 +90,10 @@ fn comes_after<V: HasPosition, DE, UE, F, P: PlaneTests<V::Scalar>>(
     let from = position_of(dcel, from);
     let (start, other_start) = (start_of(dcel, edge), start_of(dcel, other));
     let (end, other_end) = (end_of(dcel, edge), end_of(dcel, other));
-    comes_after_on_right(from, start, other_start, tests)
-        || (is_same_point(start, other_start) && comes_after_on_left(from, end, other_end, tests))
+    let starts = Seen { from, point: start, other: other_start, tests };
+    let ends = Seen { from, point: end, other: other_end, tests };
+    starts.comes_after_on_right()
+        || (is_same_point(start, other_start) && ends.comes_after_on_left())
 }
 
 // Of an edge and the last so far, if there is one, the one that comes later.

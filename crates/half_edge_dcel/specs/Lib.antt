@@ -1,3 +1,4 @@
+pub mod Appends
 pub mod Contents
 pub mod Copied
 pub mod Empty

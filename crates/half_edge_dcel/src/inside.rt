@@ -1,5 +1,5 @@
 //! Changes inside the outer loop.
-ghost use Rattle.std.specs.Prelude.{◌≡◌, ◌≢◌, ◌+◌, ◌*◌, ◌/◌, ◌<◌, ◌≤◌, ◌++◌, ◌∷◌, [], length};
+ghost use Rattle.std.specs.Prelude.{◌≡◌, ◌≢◌, ◌+◌, ◌*◌, ◌/◌, ◌<◌, ◌≤◌, ◌∷◌, [], length};
 ghost use Rattle.half_edge_links.specs.Hull.{KeepsOneOutline};
 ghost use Rattle.half_edge_links.specs.Mesh.{with_vertex, origin, next, prev, rev, face, face_edge};
 ghost use Rattle.half_edge_links.specs.Flip.{IsFlippable, flipped};
@@ -7,6 +7,7 @@ ghost use Rattle.half_edge_links.specs.Insert.{inserted};
 ghost use Rattle.half_edge_links.specs.Triangles.{FlipsTriangles, InsertsTriangles};
 ghost use Rattle.half_edge_links.specs.Triangles.{SplitsTriangles};
 ghost use Rattle.half_edge_links.specs.Outline.{KeepsOuter, along};
+ghost use Rattle.half_edge_dcel.specs.Appends.{AppendsVertex};
 ghost use Rattle.half_edge_dcel.specs.Contents.{HasRoom, edges};
 ghost use Rattle.half_edge_dcel.specs.Growth.{Grows, MovesItem, MovesTwoItems, AddsEdges};
 ghost use Rattle.half_edge_dcel.specs.Growth.{SplitsEdge, joins, with_ends};
@@ -50,13 +51,7 @@ impl<V, DE, UE, F> Dcel<V, DE, UE, F> {
         ensures vertex { result ≡ length self.old.vertices }
         ensures mesh { self.new.mesh ≡ inserted (with_vertex self.old.mesh) result
             (face_edge self.old.mesh triangle) }
-        ensures contents { self.new ≡ record self.old {
-          mesh = self.new.mesh;
-          vertices = self.old.vertices ++ value ∷ [];
-          directed = self.new.directed;
-          undirected = self.new.undirected;
-          faces = self.new.faces;
-        } }
+        ensures contents { AppendsVertex value self.old self.new }
         ensures directed { Grows DE.is_default self.old.directed self.new.directed 6 }
         ensures undirected { Grows UE.is_default self.old.undirected self.new.undirected 3 }
         ensures faces { Grows F.is_default self.old.faces self.new.faces 2 }
@@ -99,13 +94,7 @@ impl<V, DE, UE, F> Dcel<V, DE, UE, F> {
         ensures parts { let n = length self.old.directed in result.1 ≡ n ∷ (n + 3) ∷ [] }
         ensures mesh { self.new.mesh ≡ flipped (inserted (with_vertex self.old.mesh) result.0 edge)
             edge }
-        ensures contents { self.new ≡ record self.old {
-          mesh = self.new.mesh;
-          vertices = self.old.vertices ++ value ∷ [];
-          directed = self.new.directed;
-          undirected = self.new.undirected;
-          faces = self.new.faces;
-        } }
+        ensures contents { AppendsVertex value self.old self.new }
         ensures directed { MovesTwoItems DE.is_default self.old.directed self.new.directed edge
             (rev edge) 4 }
         ensures undirected { MovesItem UE.is_default self.old.undirected self.new.undirected

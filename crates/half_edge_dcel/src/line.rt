@@ -6,6 +6,7 @@ ghost use Rattle.half_edge_links.specs.Grow.{hung, edge_into, line_split};
 ghost use Rattle.half_edge_links.specs.Triangles.{triangles};
 ghost use Rattle.half_edge_links.specs.Outline.{OuterChanges, IsEdge, ExtendsOuter, SplitsOuter};
 ghost use Rattle.half_edge_links.specs.Outline.{along};
+ghost use Rattle.half_edge_dcel.specs.Appends.{AppendsToLine};
 ghost use Rattle.half_edge_dcel.specs.Contents.{HasRoom, edges};
 ghost use Rattle.half_edge_dcel.specs.Growth.{Grows, AddsEdges, joins, with_ends};
 
@@ -71,12 +72,7 @@ impl<V, DE, UE, F> Dcel<V, DE, UE, F> {
         ensures vertex { result ≡ length self.old.vertices }
         ensures mesh { self.new.mesh ≡ hung (with_vertex self.old.mesh)
             (edge_into self.old.mesh end) result }
-        ensures contents { self.new ≡ record self.old {
-          mesh = self.new.mesh;
-          vertices = self.old.vertices ++ value ∷ [];
-          directed = self.new.directed;
-          undirected = self.new.undirected;
-        } }
+        ensures contents { AppendsToLine value self.old self.new }
         ensures directed { Grows DE.is_default self.old.directed self.new.directed 2 }
         ensures undirected { Grows UE.is_default self.old.undirected self.new.undirected 1 }
         ensures edges { AddsEdges UE.is_default (edges self.old) (edges self.new)
@@ -111,12 +107,7 @@ impl<V, DE, UE, F> Dcel<V, DE, UE, F> {
         ensures vertex { result.0 ≡ length self.old.vertices }
         ensures parts { result.1 ≡ edge ∷ (length self.old.directed + 1) ∷ [] }
         ensures mesh { self.new.mesh ≡ line_split (with_vertex self.old.mesh) edge result.0 }
-        ensures contents { self.new ≡ record self.old {
-          mesh = self.new.mesh;
-          vertices = self.old.vertices ++ value ∷ [];
-          directed = self.new.directed;
-          undirected = self.new.undirected;
-        } }
+        ensures contents { AppendsToLine value self.old self.new }
         ensures directed { Grows DE.is_default self.old.directed self.new.directed 2 }
         ensures undirected { Grows UE.is_default self.old.undirected self.new.undirected 1 }
         ensures edges { let m = self.old.mesh in

@@ -1,11 +1,12 @@
 //! Growth beside the outer face.
-ghost use Rattle.std.specs.Prelude.{◌≡◌, ◌≢◌, ◌+◌, ◌/◌, ◌<◌, ◌++◌, ◌∷◌, [], length};
+ghost use Rattle.std.specs.Prelude.{◌≡◌, ◌≢◌, ◌+◌, ◌/◌, ◌<◌, ◌∷◌, [], length};
 ghost use Rattle.half_edge_links.specs.Hull.{KeepsOneOutline};
 ghost use Rattle.half_edge_links.specs.Mesh.{with_vertex, origin, next, prev, rev, face};
 ghost use Rattle.half_edge_links.specs.Grow.{with_face_beside, closed, half_split};
 ghost use Rattle.half_edge_links.specs.Grow.{IsHalfSplittable};
 ghost use Rattle.half_edge_links.specs.Outline.{AddsTriangle, ReplacesOuter, ClosesOuter};
 ghost use Rattle.half_edge_links.specs.Outline.{HalfSplitsTriangles, along};
+ghost use Rattle.half_edge_dcel.specs.Appends.{AppendsVertex};
 ghost use Rattle.half_edge_dcel.specs.Contents.{HasRoom, edges};
 ghost use Rattle.half_edge_dcel.specs.Growth.{Grows, MovesItem, MovesTwoItems, AddsEdges};
 ghost use Rattle.half_edge_dcel.specs.Growth.{SplitsEdge, joins};
@@ -31,13 +32,7 @@ impl<V, DE, UE, F> Dcel<V, DE, UE, F> {
 
         ensures vertex { result ≡ length self.old.vertices }
         ensures mesh { self.new.mesh ≡ with_face_beside (with_vertex self.old.mesh) edge result }
-        ensures contents { self.new ≡ record self.old {
-          mesh = self.new.mesh;
-          vertices = self.old.vertices ++ value ∷ [];
-          directed = self.new.directed;
-          undirected = self.new.undirected;
-          faces = self.new.faces;
-        } }
+        ensures contents { AppendsVertex value self.old self.new }
         ensures directed { Grows DE.is_default self.old.directed self.new.directed 4 }
         ensures undirected { Grows UE.is_default self.old.undirected self.new.undirected 2 }
         ensures faces { Grows F.is_default self.old.faces self.new.faces 1 }
@@ -120,13 +115,7 @@ impl<V, DE, UE, F> Dcel<V, DE, UE, F> {
         ensures vertex { result.0 ≡ length self.old.vertices }
         ensures parts { let n = length self.old.directed in result.1 ≡ n ∷ (n + 2) ∷ [] }
         ensures mesh { self.new.mesh ≡ half_split (with_vertex self.old.mesh) edge result.0 }
-        ensures contents { self.new ≡ record self.old {
-          mesh = self.new.mesh;
-          vertices = self.old.vertices ++ value ∷ [];
-          directed = self.new.directed;
-          undirected = self.new.undirected;
-          faces = self.new.faces;
-        } }
+        ensures contents { AppendsVertex value self.old self.new }
         ensures directed { MovesTwoItems DE.is_default self.old.directed self.new.directed edge
             (rev edge) 2 }
         ensures undirected { MovesItem UE.is_default self.old.undirected self.new.undirected

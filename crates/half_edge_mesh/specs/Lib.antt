@@ -14,6 +14,7 @@ pub use Rattle.half_edge_links.specs.Flow
 pub use Rattle.half_edge_links.specs.Round
 pub use Rattle.half_edge_links.specs.Hull
 pub use Rattle.half_edge_links.specs.Pass
+pub use Rattle.half_edge_dcel.specs.Appends
 pub use Rattle.half_edge_dcel.specs.Contents
 pub use Rattle.half_edge_dcel.specs.Empty
 pub use Rattle.half_edge_dcel.specs.Growth

@@ -1,5 +1,6 @@
-use Rattle.std.proofs.Common.{◌≡◌, ℕ, map, sym, ap, ◌∙◌, subst, arith}
-use Rattle.std.specs.Prelude.{◌<ℤ◌}
+use Rattle.std.proofs.Common.{◌≡◌, ℕ, map, sym, ap, ◌∙◌, subst, arith, w64}
+use Rattle.std.proofs.lemmas.Int.{to_z-of_z}
+use Rattle.std.specs.Prelude.{ℤ, ◌<ℤ◌}
 use Rattle.half_edge_mesh.specs.Mesh.{origin, rev}
 use Rattle.half_edge_mesh.specs.Rounds.{GivesRound, out_edges_left}
 use Rattle.plane.specs.Fraction.{whole}
@@ -34,13 +35,16 @@ loop-edge-preserved g c =
     let m = c.args.dcel.now.mesh in
     let at = λ (i : ℕ). gap (whole (place_of g.V.Scalar.SpadeNum.whole c.args.point)) (place (map g.V.HasPosition.place c.args.dcel.now.vertices) i) in
     let e : c.end_vertex-neighbor.result ≡ origin m (rev c.in-Some.edge.index) = c.end_vertex-neighbor.ensures.value ∙ ap (λ (h : ℕ). origin m (rev h)) c.fix.ensures.value in
+    let same = to_z-of_z w64 c.distance_2_to-distance.result (record { sfits = c.distance_2_to-distance.type_inv }) ∙ c.distance_2_to-distance.ensures in
     round_goes_on c.args.dcel.now c.args.from (λ (h : ℕ). ¬ (at (origin m (rev h)) <ℤ at c.args.from)) (out_edges_left c.loop-edge.edge-iterator) c.loop-edge.invariant (c.in-Some.edge.dcel, c.in-Some.edge.index) (out_edges_left c.next.new.self) c.in-Some.ensures.steps
-    (λ l. both_ways _ (c.is_nearer.ensures.1 (subst (λ (k : ℕ). at k <ℤ at c.args.from) (sym e) l)) c.if-is_nearer.false)
+    (λ l. both_ways _ (c.is_nearer_than.ensures.1 (subst (λ (z : ℤ). at c.end_vertex-neighbor.result <ℤ z) (sym same) (subst (λ (k : ℕ). at k <ℤ at c.args.from) (sym e) l))) c.if-is_nearer_than.false)
 
-pub returns-then-is_nearer : goal.returns-then-is_nearer
-returns-then-is_nearer g c =
+pub returns-then-is_nearer_than : goal.returns-then-is_nearer_than
+returns-then-is_nearer_than g c =
     let points = map g.V.HasPosition.place c.args.dcel.now.vertices in
-    (c.end_vertex-neighbor.ensures.within, nearer_by_gaps (place_of g.V.Scalar.SpadeNum.whole c.args.point) (point_at points c.end_vertex-neighbor.result) (point_at points c.args.from) (c.is_nearer.ensures.0 c.if-is_nearer.true))
+    let at = λ (i : ℕ). gap (whole (place_of g.V.Scalar.SpadeNum.whole c.args.point)) (place points i) in
+    let same = to_z-of_z w64 c.distance_2_to-distance.result (record { sfits = c.distance_2_to-distance.type_inv }) ∙ c.distance_2_to-distance.ensures in
+    (c.end_vertex-neighbor.ensures.within, nearer_by_gaps (place_of g.V.Scalar.SpadeNum.whole c.args.point) (point_at points c.end_vertex-neighbor.result) (point_at points c.args.from) (subst (λ (z : ℤ). at c.end_vertex-neighbor.result <ℤ z) same (c.is_nearer_than.ensures.0 c.if-is_nearer_than.true)))
 
 pub returns : goal.returns
 returns g c =

@@ -1,6 +1,0 @@
-use Rattle.std.proofs.Common.{length}
-use Rattle.delaunay_location.specs.Stop.{IsStop}
-use Rattle.delaunay_location.proofs.walk.walk_on.Given as goal
-
-abbrev pub invariant-loop : goal.invariant-loop
-invariant-loop g l = IsStop g.V.Scalar.SpadeNum.whole (g.P.PlaneTests.covered l.tests) (length l.dcel.directed) l.stop

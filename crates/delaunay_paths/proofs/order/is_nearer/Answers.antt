@@ -1,7 +1,0 @@
-use Rattle.std.specs.Prelude.{IsTrue}
-use Rattle.delaunay_core.specs.Place.{place_of}
-use Rattle.delaunay_paths.proofs.Places.{nearer_by}
-use Rattle.delaunay_paths.proofs.order.is_nearer.Goals as goal
-
-pub returns : goal.returns
-returns g c = nearer_by (place_of g.S.SpadeNum.whole c.args.from) (place_of g.S.SpadeNum.whole c.args.point) (place_of g.S.SpadeNum.whole c.args.other) (IsTrue c.has_less_distance.result) c.has_less_distance.ensures
