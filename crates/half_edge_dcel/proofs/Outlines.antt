@@ -1,10 +1,12 @@
 -- A vertex without edges changes no outer edge and no face; the list of outer edges, edge by edge.
-use Rattle.std.proofs.Common.{◌≡◌, ℕ, suc, ◌<◌, List, [], ◌∷◌, length, refl, inl, inr, arith}
+use Rattle.std.proofs.Common.{◌≡◌, ℕ, zero, suc, ◌<◌, List, [], ◌∷◌, ◌++◌, length, get_or, Option, None, refl, ap, inl, inr, arith}
 use Rattle.std.proofs.lemmas.Bool.{cases_lt}
 use Rattle.std.proofs.lemmas.Bool.Decides.{nat_tests}
 use Rattle.half_edge_links.specs.Flow.{outer_among}
+use Rattle.half_edge_links.specs.Grow.{hung, edge_into, or_zero}
 use Rattle.half_edge_links.specs.Mesh.{Mesh, origin, face, rev, AreSoundLinks, with_vertex}
 use Rattle.half_edge_links.specs.Outline.{IsOuterEdge, OuterChanges, KeepsOuter}
+use Rattle.half_edge_links.specs.Triangles.{triangles}
 
 outer_in : (m : Mesh) (h a b : ℕ) → IsOuterEdge m h a b → IsOuterEdge (with_vertex m) h a b
 outer_in m h a b o = record { within = o.within; outer = o.outer; source = o.source; target = o.target }
@@ -27,6 +29,16 @@ keeps_outer m new o = record {
   only = λ h a b is. outer_out m h a b (o.only h a b is);
 }
 
+append_none : (xs : List (Option ℕ)) (k : ℕ) → get_or (xs ++ None ∷ []) k None ≡ get_or xs k None
+append_none [] zero = refl
+append_none [] (suc k) = refl
+append_none (x ∷ xs) zero = refl
+append_none (x ∷ xs) (suc k) = append_none xs k
+
+-- a new vertex without edges changes no edge into another one
+pub edge_into_kept : (m : Mesh) (u : ℕ) → edge_into (with_vertex m) u ≡ edge_into m u
+edge_into_kept m u = ap (λ o. rev (or_zero o)) (append_none m.out_edges u)
+
 -- a list of length 0 is empty
 pub empty_list : {X : Type 0} (xs : List X) → length xs ≡ 0 → xs ≡ []
 empty_list [] none = refl
@@ -42,6 +54,11 @@ no_face m s none =
 -- without edges there is no inner face
 pub no_faces : (m : Mesh) → AreSoundLinks m → length m.half_edges ≡ 0 → m.face_edges ≡ []
 no_faces m s none = empty_list m.face_edges (no_face m s none)
+
+-- an edge to a new vertex makes no face
+pub no_faces_hung : (m : Mesh) (x v : ℕ) → m.face_edges ≡ [] → triangles (hung (with_vertex m) x v) ≡ []
+unfolding hung
+no_faces_hung m x v none = rw none refl
 
 -- an outer edge comes first, and another edge is passed over
 pub listed : (m : Mesh) (k : ℕ) → face m k ≡ 0 → outer_among m (suc k) ≡ record { source = origin m k; target = origin m (rev k) } ∷ outer_among m k

@@ -1,9 +1,10 @@
-pub mod Appends
 pub mod Contents
 pub mod Copied
 pub mod Empty
+pub mod GrownData
 pub mod Growth
 pub mod Hole
 pub mod Mapped
 pub mod Removal
+pub mod Shapes
 pub mod Writing

@@ -1,16 +1,15 @@
 //! Changes inside the outer loop.
-ghost use Rattle.std.specs.Prelude.{◌≡◌, ◌≢◌, ◌+◌, ◌*◌, ◌/◌, ◌<◌, ◌≤◌, ◌∷◌, [], length};
+ghost use Rattle.std.specs.Prelude.{◌≡◌, ◌≢◌, ◌+◌, ◌*◌, ◌/◌, ◌<◌, ◌≤◌, ◌++◌, ◌∷◌, [], length};
 ghost use Rattle.half_edge_links.specs.Hull.{KeepsOneOutline};
-ghost use Rattle.half_edge_links.specs.Mesh.{with_vertex, origin, next, prev, rev, face, face_edge};
+ghost use Rattle.half_edge_links.specs.Mesh.{origin, next, prev, rev, face, face_edge};
 ghost use Rattle.half_edge_links.specs.Flip.{IsFlippable, flipped};
-ghost use Rattle.half_edge_links.specs.Insert.{inserted};
-ghost use Rattle.half_edge_links.specs.Triangles.{FlipsTriangles, InsertsTriangles};
-ghost use Rattle.half_edge_links.specs.Triangles.{SplitsTriangles};
+ghost use Rattle.half_edge_links.specs.Triangles.{FlipsTriangles};
 ghost use Rattle.half_edge_links.specs.Outline.{KeepsOuter, along};
-ghost use Rattle.half_edge_dcel.specs.Appends.{AppendsVertex};
 ghost use Rattle.half_edge_dcel.specs.Contents.{HasRoom, edges};
-ghost use Rattle.half_edge_dcel.specs.Growth.{Grows, MovesItem, MovesTwoItems, AddsEdges};
+ghost use Rattle.half_edge_dcel.specs.Growth.{AddsEdges};
 ghost use Rattle.half_edge_dcel.specs.Growth.{SplitsEdge, joins, with_ends};
+ghost use Rattle.half_edge_dcel.specs.GrownData.{AddsData, MovesData};
+ghost use Rattle.half_edge_dcel.specs.Shapes.{InsertsInFace, SplitsBetweenFaces};
 
 use crate::dcel::Dcel;
 use crate::growth::{move_item, move_two_items, push_defaults};
@@ -49,21 +48,15 @@ impl<V, DE, UE, F> Dcel<V, DE, UE, F> {
         requires room { HasRoom self.old 1 3 2 }
 
         ensures vertex { result ≡ length self.old.vertices }
-        ensures mesh { self.new.mesh ≡ inserted (with_vertex self.old.mesh) result
+        ensures links { InsertsInFace self.old.mesh self.new.mesh result
             (face_edge self.old.mesh triangle) }
-        ensures contents { AppendsVertex value self.old self.new }
-        ensures directed { Grows DE.is_default self.old.directed self.new.directed 6 }
-        ensures undirected { Grows UE.is_default self.old.undirected self.new.undirected 3 }
-        ensures faces { Grows F.is_default self.old.faces self.new.faces 2 }
+        ensures data { AddsData DE.is_default UE.is_default F.is_default
+            (self.old.vertices ++ value ∷ []) self.old self.new 6 3 2 }
         ensures edges { let m = self.old.mesh in let e = face_edge m triangle in
             AddsEdges UE.is_default (edges self.old) (edges self.new)
             (joins (origin m e) result ∷ joins (origin m (next m e)) result ∷ joins
             (origin m (prev m e)) result ∷ []) }
-        ensures triangles { InsertsTriangles self.old.mesh self.new.mesh result
-            (face_edge self.old.mesh triangle) }
         ensures face { face self.old.mesh (face_edge self.old.mesh triangle) ≡ triangle }
-        ensures outer { KeepsOuter self.old.mesh self.new.mesh }
-        ensures outline { KeepsOneOutline self.old.mesh self.new.mesh }
     {
         let edge = self.face_edge(triangle.index());
         let v = self.links.push_vertex();
@@ -92,22 +85,14 @@ impl<V, DE, UE, F> Dcel<V, DE, UE, F> {
 
         ensures vertex { result.0 ≡ length self.old.vertices }
         ensures parts { let n = length self.old.directed in result.1 ≡ n ∷ (n + 3) ∷ [] }
-        ensures mesh { self.new.mesh ≡ flipped (inserted (with_vertex self.old.mesh) result.0 edge)
-            edge }
-        ensures contents { AppendsVertex value self.old self.new }
-        ensures directed { MovesTwoItems DE.is_default self.old.directed self.new.directed edge
-            (rev edge) 4 }
-        ensures undirected { MovesItem UE.is_default self.old.undirected self.new.undirected
-            (edge / 2) 2 }
-        ensures faces { Grows F.is_default self.old.faces self.new.faces 2 }
+        ensures links { SplitsBetweenFaces self.old.mesh self.new.mesh result.0 edge }
+        ensures data { MovesData DE.is_default UE.is_default F.is_default
+            (self.old.vertices ++ value ∷ []) self.old self.new edge 4 2 2 }
         ensures edges { let m = self.old.mesh in
             SplitsEdge UE.is_default (edges self.old) (edges self.new) (edge / 2)
             (along edge result.0 (origin m (prev m (rev edge)))) (joins (origin m edge) result.0)
             (joins (origin m (next m edge)) result.0 ∷ joins (origin m (prev m edge)) result.0 ∷
             []) }
-        ensures triangles { SplitsTriangles self.old.mesh self.new.mesh result.0 edge }
-        ensures outer { KeepsOuter self.old.mesh self.new.mesh }
-        ensures outline { KeepsOneOutline self.old.mesh self.new.mesh }
     {
         let n = self.links.half_edge_count() as u32;
         let v = self.links.push_vertex();

@@ -1,14 +1,12 @@
 //! Vertices without edges, the first edge, and a mesh of one line.
-ghost use Rattle.std.specs.Prelude.{◌≡◌, ◌≢◌, ◌⊎◌, ◌+◌, ◌/◌, ◌<◌, ◌++◌, ◌∷◌, [], length, IsSome};
-ghost use Rattle.half_edge_links.specs.Hull.{HasOneOutline, KeepsOneOutline};
-ghost use Rattle.half_edge_links.specs.Mesh.{with_vertex, connected, origin, rev, out_edge};
-ghost use Rattle.half_edge_links.specs.Grow.{hung, edge_into, line_split};
-ghost use Rattle.half_edge_links.specs.Triangles.{triangles};
-ghost use Rattle.half_edge_links.specs.Outline.{OuterChanges, IsEdge, ExtendsOuter, SplitsOuter};
+ghost use Rattle.std.specs.Prelude.{◌≡◌, ◌≢◌, ◌+◌, ◌/◌, ◌<◌, ◌++◌, ◌∷◌, [], length, IsSome};
+ghost use Rattle.half_edge_links.specs.Hull.{KeepsOneOutline};
+ghost use Rattle.half_edge_links.specs.Mesh.{with_vertex, origin, rev, out_edge};
 ghost use Rattle.half_edge_links.specs.Outline.{along};
-ghost use Rattle.half_edge_dcel.specs.Appends.{AppendsToLine};
 ghost use Rattle.half_edge_dcel.specs.Contents.{HasRoom, edges};
-ghost use Rattle.half_edge_dcel.specs.Growth.{Grows, AddsEdges, joins, with_ends};
+ghost use Rattle.half_edge_dcel.specs.Growth.{AddsEdges, joins, with_ends};
+ghost use Rattle.half_edge_dcel.specs.GrownData.{AddsEdgeData};
+ghost use Rattle.half_edge_dcel.specs.Shapes.{JoinsFirst, ExtendsLineTo, SplitsOnLine};
 
 use crate::dcel::Dcel;
 use crate::growth::push_defaults;
@@ -40,19 +38,10 @@ impl<V, DE, UE, F> Dcel<V, DE, UE, F> {
         requires apart { a ≢ b }
         requires room { HasRoom self.old 0 1 0 }
 
-        ensures mesh { self.new.mesh ≡ connected self.old.mesh a b }
-        ensures contents { self.new ≡ record self.old {
-          mesh = self.new.mesh;
-          directed = self.new.directed;
-          undirected = self.new.undirected;
-        } }
-        ensures directed { Grows DE.is_default self.old.directed self.new.directed 2 }
-        ensures undirected { Grows UE.is_default self.old.undirected self.new.undirected 1 }
+        ensures links { JoinsFirst self.old.mesh self.new.mesh a b }
+        ensures data { AddsEdgeData DE.is_default UE.is_default self.old.vertices self.old
+            self.new }
         ensures edges { AddsEdges UE.is_default (edges self.old) (edges self.new) (joins a b ∷ []) }
-        ensures triangles { triangles self.new.mesh ≡ [] }
-        ensures outer { OuterChanges self.old.mesh self.new.mesh (λ h. ⊥)
-            (λ h u w. IsEdge 0 a b h u w ⊎ IsEdge 1 b a h u w) }
-        ensures outline { HasOneOutline self.new.mesh }
     {
         self.links.connect(a.index(), b.index());
         push_defaults(&mut self.directed, 2);
@@ -70,17 +59,12 @@ impl<V, DE, UE, F> Dcel<V, DE, UE, F> {
         requires room { HasRoom self.old 1 1 0 }
 
         ensures vertex { result ≡ length self.old.vertices }
-        ensures mesh { self.new.mesh ≡ hung (with_vertex self.old.mesh)
-            (edge_into self.old.mesh end) result }
-        ensures contents { AppendsToLine value self.old self.new }
-        ensures directed { Grows DE.is_default self.old.directed self.new.directed 2 }
-        ensures undirected { Grows UE.is_default self.old.undirected self.new.undirected 1 }
+        ensures links { ExtendsLineTo self.old.mesh self.new.mesh (length self.old.directed) end
+            result }
+        ensures data { AddsEdgeData DE.is_default UE.is_default (self.old.vertices ++ value ∷ [])
+            self.old self.new }
         ensures edges { AddsEdges UE.is_default (edges self.old) (edges self.new)
             (joins end result ∷ []) }
-        ensures triangles { triangles self.new.mesh ≡ [] }
-        ensures outer { ExtendsOuter self.old.mesh self.new.mesh end result
-            (length self.old.directed) }
-        ensures outline { KeepsOneOutline self.old.mesh self.new.mesh }
     {
         let v = self.links.push_vertex();
         self.links.extend_line(end.index(), v);
@@ -106,18 +90,14 @@ impl<V, DE, UE, F> Dcel<V, DE, UE, F> {
 
         ensures vertex { result.0 ≡ length self.old.vertices }
         ensures parts { result.1 ≡ edge ∷ (length self.old.directed + 1) ∷ [] }
-        ensures mesh { self.new.mesh ≡ line_split (with_vertex self.old.mesh) edge result.0 }
-        ensures contents { AppendsToLine value self.old self.new }
-        ensures directed { Grows DE.is_default self.old.directed self.new.directed 2 }
-        ensures undirected { Grows UE.is_default self.old.undirected self.new.undirected 1 }
+        ensures links { SplitsOnLine self.old.mesh self.new.mesh (length self.old.directed) result.0
+            edge }
+        ensures data { AddsEdgeData DE.is_default UE.is_default (self.old.vertices ++ value ∷ [])
+            self.old self.new }
         ensures edges { let m = self.old.mesh in
             AddsEdges UE.is_default (with_ends (edges self.old) (edge / 2)
             (along edge (origin m edge) result.0)) (edges self.new)
             (joins (origin m (rev edge)) result.0 ∷ []) }
-        ensures triangles { triangles self.new.mesh ≡ [] }
-        ensures outer { SplitsOuter self.old.mesh self.new.mesh edge result.0
-            (length self.old.directed) }
-        ensures outline { KeepsOneOutline self.old.mesh self.new.mesh }
     {
         let v = self.links.push_vertex();
         let [first, second] = self.links.split_line(edge.index(), v);

@@ -1,15 +1,13 @@
 //! Growth beside the outer face.
-ghost use Rattle.std.specs.Prelude.{◌≡◌, ◌≢◌, ◌+◌, ◌/◌, ◌<◌, ◌∷◌, [], length};
-ghost use Rattle.half_edge_links.specs.Hull.{KeepsOneOutline};
-ghost use Rattle.half_edge_links.specs.Mesh.{with_vertex, origin, next, prev, rev, face};
-ghost use Rattle.half_edge_links.specs.Grow.{with_face_beside, closed, half_split};
+ghost use Rattle.std.specs.Prelude.{◌≡◌, ◌≢◌, ◌+◌, ◌/◌, ◌<◌, ◌++◌, ◌∷◌, [], length};
+ghost use Rattle.half_edge_links.specs.Mesh.{origin, next, prev, rev, face};
 ghost use Rattle.half_edge_links.specs.Grow.{IsHalfSplittable};
-ghost use Rattle.half_edge_links.specs.Outline.{AddsTriangle, ReplacesOuter, ClosesOuter};
-ghost use Rattle.half_edge_links.specs.Outline.{HalfSplitsTriangles, along};
-ghost use Rattle.half_edge_dcel.specs.Appends.{AppendsVertex};
+ghost use Rattle.half_edge_links.specs.Outline.{along};
 ghost use Rattle.half_edge_dcel.specs.Contents.{HasRoom, edges};
-ghost use Rattle.half_edge_dcel.specs.Growth.{Grows, MovesItem, MovesTwoItems, AddsEdges};
+ghost use Rattle.half_edge_dcel.specs.Growth.{AddsEdges};
 ghost use Rattle.half_edge_dcel.specs.Growth.{SplitsEdge, joins};
+ghost use Rattle.half_edge_dcel.specs.GrownData.{AddsData, MovesData};
+ghost use Rattle.half_edge_dcel.specs.Shapes.{AddsFaceTo, ClosesTriangle, SplitsBesideOuter};
 
 use crate::dcel::Dcel;
 use crate::growth::{move_item, move_two_items, push_defaults};
@@ -31,19 +29,13 @@ impl<V, DE, UE, F> Dcel<V, DE, UE, F> {
         requires room { HasRoom self.old 1 2 1 }
 
         ensures vertex { result ≡ length self.old.vertices }
-        ensures mesh { self.new.mesh ≡ with_face_beside (with_vertex self.old.mesh) edge result }
-        ensures contents { AppendsVertex value self.old self.new }
-        ensures directed { Grows DE.is_default self.old.directed self.new.directed 4 }
-        ensures undirected { Grows UE.is_default self.old.undirected self.new.undirected 2 }
-        ensures faces { Grows F.is_default self.old.faces self.new.faces 1 }
+        ensures links { AddsFaceTo self.old.mesh self.new.mesh (length self.old.directed) result
+            edge }
+        ensures data { AddsData DE.is_default UE.is_default F.is_default
+            (self.old.vertices ++ value ∷ []) self.old self.new 4 2 1 }
         ensures edges { let m = self.old.mesh in
             AddsEdges UE.is_default (edges self.old) (edges self.new)
             (joins (origin m (rev edge)) result ∷ joins result (origin m edge) ∷ []) }
-        ensures triangles { let m = self.old.mesh in
-            AddsTriangle m self.new.mesh (origin m edge) (origin m (rev edge)) result }
-        ensures outer { let n = length self.old.directed in
-            ReplacesOuter self.old.mesh self.new.mesh edge result (n + 3) (n + 1) }
-        ensures outline { KeepsOneOutline self.old.mesh self.new.mesh }
     {
         let v = self.links.push_vertex();
         self.links.add_face_beside(edge.index(), v);
@@ -70,24 +62,12 @@ impl<V, DE, UE, F> Dcel<V, DE, UE, F> {
         requires room { HasRoom self.old 0 1 1 }
 
         ensures edge { result ≡ length self.old.directed + 1 }
-        ensures mesh { self.new.mesh ≡ closed self.old.mesh edge }
-        ensures contents { self.new ≡ record self.old {
-          mesh = self.new.mesh;
-          directed = self.new.directed;
-          undirected = self.new.undirected;
-          faces = self.new.faces;
-        } }
-        ensures directed { Grows DE.is_default self.old.directed self.new.directed 2 }
-        ensures undirected { Grows UE.is_default self.old.undirected self.new.undirected 1 }
-        ensures faces { Grows F.is_default self.old.faces self.new.faces 1 }
+        ensures links { ClosesTriangle self.old.mesh self.new.mesh (length self.old.directed) edge }
+        ensures data { AddsData DE.is_default UE.is_default F.is_default self.old.vertices self.old
+            self.new 2 1 1 }
         ensures edges { let m = self.old.mesh in
             AddsEdges UE.is_default (edges self.old) (edges self.new)
             (joins (origin m (rev (next m edge))) (origin m edge) ∷ []) }
-        ensures triangles { let m = self.old.mesh in
-            AddsTriangle m self.new.mesh (origin m edge) (origin m (next m edge))
-            (origin m (rev (next m edge))) }
-        ensures outer { ClosesOuter self.old.mesh self.new.mesh edge (length self.old.directed) }
-        ensures outline { KeepsOneOutline self.old.mesh self.new.mesh }
     {
         let n = self.links.half_edge_count() as u32;
         self.links.close(edge.index());
@@ -114,21 +94,14 @@ impl<V, DE, UE, F> Dcel<V, DE, UE, F> {
 
         ensures vertex { result.0 ≡ length self.old.vertices }
         ensures parts { let n = length self.old.directed in result.1 ≡ n ∷ (n + 2) ∷ [] }
-        ensures mesh { self.new.mesh ≡ half_split (with_vertex self.old.mesh) edge result.0 }
-        ensures contents { AppendsVertex value self.old self.new }
-        ensures directed { MovesTwoItems DE.is_default self.old.directed self.new.directed edge
-            (rev edge) 2 }
-        ensures undirected { MovesItem UE.is_default self.old.undirected self.new.undirected
-            (edge / 2) 1 }
-        ensures faces { Grows F.is_default self.old.faces self.new.faces 1 }
+        ensures links { SplitsBesideOuter self.old.mesh self.new.mesh (length self.old.directed)
+            result.0 edge }
+        ensures data { MovesData DE.is_default UE.is_default F.is_default
+            (self.old.vertices ++ value ∷ []) self.old self.new edge 2 1 1 }
         ensures edges { let m = self.old.mesh in
             SplitsEdge UE.is_default (edges self.old) (edges self.new) (edge / 2)
             (along edge (origin m (prev m edge)) result.0) (joins (origin m edge) result.0)
             (joins result.0 (origin m (rev edge)) ∷ []) }
-        ensures triangles { HalfSplitsTriangles self.old.mesh self.new.mesh result.0 edge }
-        ensures outer { let n = length self.old.directed in
-            ReplacesOuter self.old.mesh self.new.mesh (rev edge) result.0 (n + 3) (n + 1) }
-        ensures outline { KeepsOneOutline self.old.mesh self.new.mesh }
     {
         let v = self.links.push_vertex();
         let [first, second] = self.links.split_half_edge(edge.index(), v);

@@ -14,13 +14,14 @@ pub use Rattle.half_edge_links.specs.Flow
 pub use Rattle.half_edge_links.specs.Round
 pub use Rattle.half_edge_links.specs.Hull
 pub use Rattle.half_edge_links.specs.Pass
-pub use Rattle.half_edge_dcel.specs.Appends
 pub use Rattle.half_edge_dcel.specs.Contents
 pub use Rattle.half_edge_dcel.specs.Empty
+pub use Rattle.half_edge_dcel.specs.GrownData
 pub use Rattle.half_edge_dcel.specs.Growth
 pub use Rattle.half_edge_dcel.specs.Hole
 pub use Rattle.half_edge_dcel.specs.Mapped
 pub use Rattle.half_edge_dcel.specs.Removal
+pub use Rattle.half_edge_dcel.specs.Shapes
 pub use Rattle.half_edge_dcel.specs.Writing
 pub use Rattle.half_edge_views.specs.Left
 pub use Rattle.half_edge_views.specs.Rounds

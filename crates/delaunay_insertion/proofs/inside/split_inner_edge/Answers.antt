@@ -26,26 +26,26 @@ pub returns-clause-takes : goal.returns-clause-takes
 returns-clause-takes g c =
     record {
       is = c.split_edge-vertex.ensures.vertex;
-      vertices = ap (λ d. d.vertices) c.split_edge-vertex.ensures.contents;
+      vertices = ap (λ d. d.vertices) c.split_edge-vertex.ensures.data.contents;
       kept =
           let old = c.args.dcel.now in
           let new = c.split_edge-vertex.new.self in
           let done = c.split_edge-vertex.ensures in
           let places = length-map old.vertices g.V.HasPosition.place in
-          let edges : length new.undirected ≤ length old.undirected + 3 = let f = length_moved _ old.undirected new.undirected _ 2 done.undirected in omega (arith, f) in
-          let faces : length new.faces ≤ length old.faces + 2 = let f = length-grown _ old.faces new.faces 2 done.faces in omega (arith, f) in
+          let edges : length new.undirected ≤ length old.undirected + 3 = let f = length_moved _ old.undirected new.undirected _ 2 done.data.undirected in omega (arith, f) in
+          let faces : length new.faces ≤ length old.faces + 2 = let f = length-grown _ old.faces new.faces 2 done.data.faces in omega (arith, f) in
           let here : c.args.edge < length old.mesh.half_edges = let w = c.requires.within in let f = c.requires.can.kept.fits.directed_fit in omega (arith, w, f) in
-          grown g.V.HasPosition.place old new c.args.value c.requires.can.kept (ap (λ d. d.vertices) done.contents) c.requires.can.in_range c.recall_invariant.ensures.whole edges faces
+          grown g.V.HasPosition.place old new c.args.value c.requires.can.kept (ap (λ d. d.vertices) done.data.contents) c.requires.can.in_range c.recall_invariant.ensures.whole edges faces
           (within_side_shape (map g.V.HasPosition.place old.vertices) (g.V.HasPosition.place c.args.value) old.mesh new.mesh c.split_edge-vertex.result.0 c.requires.can.kept.valid c.requires.can.kept.shape (done.vertex ∙ sym places)
-          c.args.edge (flippable old.mesh c.args.edge c.requires.can.kept.valid here c.requires.inner c.requires.twin_inner) c.requires.on_edge done.triangles done.outer);
+          c.args.edge (flippable old.mesh c.args.edge c.requires.can.kept.valid here c.requires.inner c.requires.twin_inner) c.requires.on_edge done.links.triangles done.links.outer);
       grows =
           let old = c.args.dcel.now in
           let done = c.split_edge-vertex.ensures in
           let here : c.args.edge < length old.mesh.half_edges = let w = c.requires.within in let f = c.requires.can.kept.fits.directed_fit in omega (arith, w, f) in
-          grows_within_side old c.split_edge-vertex.new.self c.requires.can.kept.valid c.requires.can.kept.fits c.recall_invariant.ensures.whole (map g.V.HasPosition.place old.vertices) (g.V.HasPosition.place c.args.value) _ _ _ c.args.edge _ _ _ _ _ _ here c.requires.inner c.requires.twin_inner c.requires.on_edge done.directed done.faces done.edges done.triangles (ap (λ d. d.outer) done.contents);
+          grows_within_side old c.split_edge-vertex.new.self c.requires.can.kept.valid c.requires.can.kept.fits c.recall_invariant.ensures.whole (map g.V.HasPosition.place old.vertices) (g.V.HasPosition.place c.args.value) _ _ _ c.args.edge _ _ _ _ _ _ here c.requires.inner c.requires.twin_inner c.requires.on_edge done.data.directed done.data.faces done.edges done.links.triangles (ap (λ d. d.outer) done.data.contents);
       made =
           let old = c.args.dcel.now in
           let done = c.split_edge-vertex.ensures in
           let here : c.args.edge < length old.mesh.half_edges = let w = c.requires.within in let f = c.requires.can.kept.fits.directed_fit in omega (arith, w, f) in
-          made_at_count _ _ _ _ _ done.vertex (made_within_side (map g.V.HasPosition.place old.vertices) old.mesh c.split_edge-vertex.new.self.mesh c.split_edge-vertex.result.0 c.requires.can.kept.valid c.requires.can.kept.shape (done.vertex ∙ sym (length-map old.vertices g.V.HasPosition.place)) c.args.edge (flippable old.mesh c.args.edge c.requires.can.kept.valid here c.requires.inner c.requires.twin_inner) done.triangles);
+          made_at_count _ _ _ _ _ done.vertex (made_within_side (map g.V.HasPosition.place old.vertices) old.mesh c.split_edge-vertex.new.self.mesh c.split_edge-vertex.result.0 c.requires.can.kept.valid c.requires.can.kept.shape (done.vertex ∙ sym (length-map old.vertices g.V.HasPosition.place)) c.args.edge (flippable old.mesh c.args.edge c.requires.can.kept.valid here c.requires.inner c.requires.twin_inner) done.links.triangles);
     }

@@ -18,22 +18,22 @@ pub returns-clause-takes : goal.returns-clause-takes
 returns-clause-takes g c =
     record {
       is = c.split_edge_when_all_vertices_on_line-vertex.ensures.vertex;
-      vertices = ap (λ d. d.vertices) c.split_edge_when_all_vertices_on_line-vertex.ensures.contents;
+      vertices = ap (λ d. d.vertices) c.split_edge_when_all_vertices_on_line-vertex.ensures.data.contents;
       kept =
           let old = c.args.dcel.now in
           let new = c.split_edge_when_all_vertices_on_line-vertex.new.self in
           let done = c.split_edge_when_all_vertices_on_line-vertex.ensures in
-          let is = done.contents in
+          let is = done.data.contents in
           let places = length-map old.vertices g.V.HasPosition.place in
-          let edges : length new.undirected ≤ length old.undirected + 3 = let f = length-grown _ old.undirected new.undirected 1 done.undirected in omega (arith, f) in
+          let edges : length new.undirected ≤ length old.undirected + 3 = let f = length-grown _ old.undirected new.undirected 1 done.data.undirected in omega (arith, f) in
           let faces : length new.faces ≤ length old.faces + 2 = let e = ap (λ d. length d.faces) is in omega (arith, e) in
           let here : c.args.edge < length old.mesh.half_edges = let w = c.requires.within in let f = c.requires.can.kept.fits.directed_fit in omega (arith, w, f) in
           grown g.V.HasPosition.place old new c.args.value c.requires.can.kept (ap (λ d. d.vertices) is) c.requires.can.in_range c.recall_invariant.ensures.whole edges faces
           (split_shape (map g.V.HasPosition.place old.vertices) (g.V.HasPosition.place c.args.value) old.mesh new.mesh c.args.edge c.split_edge_when_all_vertices_on_line-vertex.result.0 (length old.directed) (sym c.requires.can.kept.fits.faces_fit ∙ c.requires.one_face) c.requires.can.kept.valid (places ∙ c.requires.can.kept.fits.vertices_fit) c.requires.can.kept.shape here
-          (done.vertex ∙ sym places) c.requires.on_edge done.triangles done.outer);
+          (done.vertex ∙ sym places) c.requires.on_edge done.links.triangles done.links.outer);
       grows =
           let old = c.args.dcel.now in
           let done = c.split_edge_when_all_vertices_on_line-vertex.ensures in
-          grows_within_line old c.split_edge_when_all_vertices_on_line-vertex.new.self c.requires.can.kept.valid c.requires.can.kept.fits c.recall_invariant.ensures.whole (map g.V.HasPosition.place old.vertices) (g.V.HasPosition.place c.args.value) _ _ c.args.edge _ _ _ c.requires.one_face c.requires.on_edge done.directed done.edges (ap (λ d. d.outer) done.contents);
-      made = made_none c.args.dcel.now.mesh c.split_edge_when_all_vertices_on_line-vertex.new.self.mesh _ c.split_edge_when_all_vertices_on_line-vertex.ensures.triangles;
+          grows_within_line old c.split_edge_when_all_vertices_on_line-vertex.new.self c.requires.can.kept.valid c.requires.can.kept.fits c.recall_invariant.ensures.whole (map g.V.HasPosition.place old.vertices) (g.V.HasPosition.place c.args.value) _ _ c.args.edge _ _ _ c.requires.one_face c.requires.on_edge done.data.directed done.edges (ap (λ d. d.outer) done.data.contents);
+      made = made_none c.args.dcel.now.mesh c.split_edge_when_all_vertices_on_line-vertex.new.self.mesh _ c.split_edge_when_all_vertices_on_line-vertex.ensures.links.triangles;
     }

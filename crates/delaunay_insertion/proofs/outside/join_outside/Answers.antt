@@ -18,14 +18,14 @@ loop-after-init g c =
     let done = c.create_new_face_adjacent_to_edge-vertex.ensures in
     let w = c.requires.within in
     let f = c.requires.can.kept.fits.directed_fit in
-    let count = length-grown _ old.directed new.directed 4 done.directed in
+    let count = length-grown _ old.directed new.directed 4 done.data.directed in
     let counted = c.num_directed_edges-edges.ensures.value in
     let one : c.from_index-ahead.result ≡ length old.directed + 1 = let i = c.from_index-ahead.ensures in omega (arith, i, count, counted) in
     let three : c.from_index-behind.result ≡ length old.directed + 3 = let i = c.from_index-behind.ensures in omega (arith, i, count, counted) in (
       subst (λ (x : ℕ × ℕ). IsJoining g.V.HasPosition.place old new c.args.value x.0 x.1) (λ o. (sym one o, sym three o))
           (joining_begins g.V.HasPosition.place old c.args.value new c.args.edge c.create_new_face_adjacent_to_edge-vertex.result c.requires.can.kept (has_vertex g.V.HasPosition.place old c.args.edge c.requires.can.kept c.requires.within) (omega (arith, w, f)) c.requires.outer c.requires.turns done.vertex
-          (ap (λ d. d.vertices) done.contents) (ap (λ d. d.room) done.contents) count (length-grown _ old.undirected new.undirected 2 done.undirected) (length-grown _ old.faces new.faces 1 done.faces) done.triangles done.outer),
-      grows_by_face old new c.requires.can.kept.valid c.requires.can.kept.fits c.num_directed_edges-edges.ensures.whole (map g.V.HasPosition.place old.vertices) (g.V.HasPosition.place c.args.value) _ _ _ _ _ _ _ _ _ done.directed done.faces done.edges done.triangles (ap (λ d. d.outer) done.contents),
+          (ap (λ d. d.vertices) done.data.contents) (ap (λ d. d.room) done.data.contents) count (length-grown _ old.undirected new.undirected 2 done.data.undirected) (length-grown _ old.faces new.faces 1 done.data.faces) done.links.triangles done.links.outer),
+      grows_by_face old new c.requires.can.kept.valid c.requires.can.kept.fits c.num_directed_edges-edges.ensures.whole (map g.V.HasPosition.place old.vertices) (g.V.HasPosition.place c.args.value) _ _ _ _ _ _ _ _ _ done.data.directed done.data.faces done.edges done.links.triangles (ap (λ d. d.outer) done.data.contents),
       adds_only _ (edges old) (edges new) _ done.edges,
     )
 
@@ -46,18 +46,18 @@ loop-after-smaller g c =
     let now = c.loop-after.dcel in
     let new = c.create_single_face_between_edge_and_next-ahead.new.self in
     let done = c.create_single_face_between_edge_and_next-ahead.ensures in
-    (step_ahead g.V.HasPosition.place c.args.dcel.now c.args.value now c.loop-after.ahead c.from_index-behind.result c.create_new_face_adjacent_to_edge-vertex.result c.in-Some._after c.loop-after.invariant.0 c.create_new_face_adjacent_to_edge-vertex.ensures.vertex c.in-Some.ensures.is c.in-Some.ensures.some new c.in-Some.ensures.whole done.contents
-    (length-grown _ now.directed new.directed 2 done.directed) (length-grown _ now.undirected new.undirected 1 done.undirected) (length-grown _ now.faces new.faces 1 done.faces) done.triangles done.outer).1
+    (step_ahead g.V.HasPosition.place c.args.dcel.now c.args.value now c.loop-after.ahead c.from_index-behind.result c.create_new_face_adjacent_to_edge-vertex.result c.in-Some._after c.loop-after.invariant.0 c.create_new_face_adjacent_to_edge-vertex.ensures.vertex c.in-Some.ensures.is c.in-Some.ensures.some new c.in-Some.ensures.whole done.data.contents
+    (length-grown _ now.directed new.directed 2 done.data.directed) (length-grown _ now.undirected new.undirected 1 done.data.undirected) (length-grown _ now.faces new.faces 1 done.data.faces) done.links.triangles done.links.outer).1
 
 pub loop-after-preserved : goal.loop-after-preserved
 loop-after-preserved g c =
     let now = c.loop-after.dcel in
     let new = c.create_single_face_between_edge_and_next-ahead.new.self in
     let done = c.create_single_face_between_edge_and_next-ahead.ensures in (
-      subst (λ k. IsJoining g.V.HasPosition.place c.args.dcel.now new c.args.value k c.from_index-behind.result) (sym done.edge) (step_ahead g.V.HasPosition.place c.args.dcel.now c.args.value now c.loop-after.ahead c.from_index-behind.result c.create_new_face_adjacent_to_edge-vertex.result c.in-Some._after c.loop-after.invariant.0 c.create_new_face_adjacent_to_edge-vertex.ensures.vertex c.in-Some.ensures.is c.in-Some.ensures.some new c.in-Some.ensures.whole done.contents
-          (length-grown _ now.directed new.directed 2 done.directed) (length-grown _ now.undirected new.undirected 1 done.undirected) (length-grown _ now.faces new.faces 1 done.faces) done.triangles done.outer).0,
+      subst (λ k. IsJoining g.V.HasPosition.place c.args.dcel.now new c.args.value k c.from_index-behind.result) (sym done.edge) (step_ahead g.V.HasPosition.place c.args.dcel.now c.args.value now c.loop-after.ahead c.from_index-behind.result c.create_new_face_adjacent_to_edge-vertex.result c.in-Some._after c.loop-after.invariant.0 c.create_new_face_adjacent_to_edge-vertex.ensures.vertex c.in-Some.ensures.is c.in-Some.ensures.some new c.in-Some.ensures.whole done.data.contents
+          (length-grown _ now.directed new.directed 2 done.data.directed) (length-grown _ now.undirected new.undirected 1 done.data.undirected) (length-grown _ now.faces new.faces 1 done.data.faces) done.links.triangles done.links.outer).0,
       grows_on (map g.V.HasPosition.place c.args.dcel.now.vertices) (g.V.HasPosition.place c.args.value) (state_of c.args.dcel.now) (state_of now) (state_of new) c.loop-after.invariant.1
-          (grows_by_face now new c.in-Some.ensures.whole.valid c.in-Some.ensures.whole.fits c.recall_invariant.ensures.whole (map g.V.HasPosition.place c.args.dcel.now.vertices) (g.V.HasPosition.place c.args.value) _ _ _ _ _ _ _ _ _ done.directed done.faces done.edges done.triangles (ap (λ d. d.outer) done.contents)),
+          (grows_by_face now new c.in-Some.ensures.whole.valid c.in-Some.ensures.whole.fits c.recall_invariant.ensures.whole (map g.V.HasPosition.place c.args.dcel.now.vertices) (g.V.HasPosition.place c.args.value) _ _ _ _ _ _ _ _ _ done.data.directed done.data.faces done.edges done.links.triangles (ap (λ d. d.outer) done.data.contents)),
       adds_on _ (edges c.args.dcel.now) (edges now) (edges new) c.loop-after.invariant.2 (adds_only _ (edges now) (edges new) _ done.edges),
     )
 
@@ -103,18 +103,18 @@ loop-before-smaller g c =
     let now = c.loop-before.dcel in
     let new = c.create_single_face_between_edge_and_next-behind.new.self in
     let done = c.create_single_face_between_edge_and_next-behind.ensures in
-    (step_behind g.V.HasPosition.place c.args.dcel.now c.args.value c.loop-before.dcel c.loop-before.behind c.create_new_face_adjacent_to_edge-vertex.result c.in-Some-seen_before.before c.loop-before.invariant.0 c.create_new_face_adjacent_to_edge-vertex.ensures.vertex c.in-Some-seen_before.ensures.is.0 c.in-Some-seen_before.ensures.some c.in-Some-seen_before.ensures.whole new done.contents
-    (length-grown _ now.directed new.directed 2 done.directed) (length-grown _ now.undirected new.undirected 1 done.undirected) (length-grown _ now.faces new.faces 1 done.faces) done.triangles done.outer done.mesh).1
+    (step_behind g.V.HasPosition.place c.args.dcel.now c.args.value c.loop-before.dcel c.loop-before.behind c.create_new_face_adjacent_to_edge-vertex.result c.in-Some-seen_before.before c.loop-before.invariant.0 c.create_new_face_adjacent_to_edge-vertex.ensures.vertex c.in-Some-seen_before.ensures.is.0 c.in-Some-seen_before.ensures.some c.in-Some-seen_before.ensures.whole new done.data.contents
+    (length-grown _ now.directed new.directed 2 done.data.directed) (length-grown _ now.undirected new.undirected 1 done.data.undirected) (length-grown _ now.faces new.faces 1 done.data.faces) done.links.triangles done.links.outer done.links.mesh).1
 
 pub loop-before-preserved : goal.loop-before-preserved
 loop-before-preserved g c =
     let now = c.loop-before.dcel in
     let new = c.create_single_face_between_edge_and_next-behind.new.self in
     let done = c.create_single_face_between_edge_and_next-behind.ensures in (
-      subst (λ k. IsJoiningBack g.V.HasPosition.place c.args.dcel.now new c.args.value k) (sym done.edge) (step_behind g.V.HasPosition.place c.args.dcel.now c.args.value c.loop-before.dcel c.loop-before.behind c.create_new_face_adjacent_to_edge-vertex.result c.in-Some-seen_before.before c.loop-before.invariant.0 c.create_new_face_adjacent_to_edge-vertex.ensures.vertex c.in-Some-seen_before.ensures.is.0 c.in-Some-seen_before.ensures.some c.in-Some-seen_before.ensures.whole new done.contents
-          (length-grown _ now.directed new.directed 2 done.directed) (length-grown _ now.undirected new.undirected 1 done.undirected) (length-grown _ now.faces new.faces 1 done.faces) done.triangles done.outer done.mesh).0,
+      subst (λ k. IsJoiningBack g.V.HasPosition.place c.args.dcel.now new c.args.value k) (sym done.edge) (step_behind g.V.HasPosition.place c.args.dcel.now c.args.value c.loop-before.dcel c.loop-before.behind c.create_new_face_adjacent_to_edge-vertex.result c.in-Some-seen_before.before c.loop-before.invariant.0 c.create_new_face_adjacent_to_edge-vertex.ensures.vertex c.in-Some-seen_before.ensures.is.0 c.in-Some-seen_before.ensures.some c.in-Some-seen_before.ensures.whole new done.data.contents
+          (length-grown _ now.directed new.directed 2 done.data.directed) (length-grown _ now.undirected new.undirected 1 done.data.undirected) (length-grown _ now.faces new.faces 1 done.data.faces) done.links.triangles done.links.outer done.links.mesh).0,
       grows_on (map g.V.HasPosition.place c.args.dcel.now.vertices) (g.V.HasPosition.place c.args.value) (state_of c.args.dcel.now) (state_of now) (state_of new) c.loop-before.invariant.1
-          (grows_by_face now new c.in-Some-seen_before.ensures.whole.valid c.in-Some-seen_before.ensures.whole.fits c.recall_invariant-in-Some-seen_before.ensures.whole (map g.V.HasPosition.place c.args.dcel.now.vertices) (g.V.HasPosition.place c.args.value) _ _ _ _ _ _ _ _ _ done.directed done.faces done.edges done.triangles (ap (λ d. d.outer) done.contents)),
+          (grows_by_face now new c.in-Some-seen_before.ensures.whole.valid c.in-Some-seen_before.ensures.whole.fits c.recall_invariant-in-Some-seen_before.ensures.whole (map g.V.HasPosition.place c.args.dcel.now.vertices) (g.V.HasPosition.place c.args.value) _ _ _ _ _ _ _ _ _ done.data.directed done.data.faces done.edges done.links.triangles (ap (λ d. d.outer) done.data.contents)),
       adds_on _ (edges c.args.dcel.now) (edges now) (edges new) c.loop-before.invariant.2 (adds_only _ (edges now) (edges new) _ done.edges),
     )
 

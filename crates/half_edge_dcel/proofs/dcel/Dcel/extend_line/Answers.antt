@@ -1,6 +1,7 @@
-use Rattle.std.proofs.Common.{refl}
+use Rattle.std.proofs.Common.{◌≡◌, [], length, refl, arith}
+use Rattle.half_edge_links.specs.Mesh.{Mesh}
 use Rattle.half_edge_dcel.proofs.EdgeLists.{adds_edges, length-ends}
-use Rattle.half_edge_dcel.proofs.Outlines.{outer_changes}
+use Rattle.half_edge_dcel.proofs.Outlines.{outer_changes, empty_list, edge_into_kept, no_faces_hung}
 use Rattle.half_edge_dcel.proofs.dcel.Dcel.extend_line.Goals as goal
 
 pub returns-clause-edges : goal.returns-clause-edges
@@ -8,13 +9,22 @@ returns-clause-edges g c =
     let ends_are = rw (c.push_vertex-v.ensures.mesh, c.index.ensures, ← c.from_index.ensures) at c.extend_line.ensures.extends.ends in
     rw (← c.self.view_is) (adds_edges _ _ _ _ _ _ 1 (length-ends c.self.inside.links.mesh _ _ _ _ c.self.invariant) refl ends_are c.push_defaults-2.ensures.grows)
 
-pub returns-clause-outer : goal.returns-clause-outer
-returns-clause-outer g c =
-    let changes = rw (c.push_vertex-v.ensures.mesh, c.index.ensures, ← c.from_index.ensures, ← c.self.invariant.directed_fit) at c.extend_line.ensures.extends.outer in
-    rw (← c.self.view_is) (outer_changes c.self.inside.links.mesh _ _ _ changes)
+pub returns-clause-links : goal.returns-clause-links
+returns-clause-links g c =
+    let m : Mesh = c.self.inside.links.mesh in
+    let one_face : length c.self.inside.faces.items ≡ 0 = rw (← c.self.view_is) at c.requires.one_face in
+    let none : m.face_edges ≡ [] = empty_list m.face_edges (omega (arith, one_face, c.self.invariant.faces_fit)) in
+    let put = rw (c.push_vertex-v.ensures.mesh, c.index.ensures, ← c.from_index.ensures) at c.extend_line.ensures in
+    rw (← c.self.view_is) (record {
+      mesh = rw edge_into_kept at put.mesh;
+      triangles = rw put.mesh (no_faces_hung m _ _ none);
+      outer = outer_changes m _ _ _ (rw (← c.self.invariant.directed_fit) at put.extends.outer);
+      outline = λ one. c.extend_line.ensures.extends.outline (c.push_vertex-v.ensures.outline one);
+    })
 
-pub returns-clause-outline : goal.returns-clause-outline
-returns-clause-outline g c = rw (← c.self.view_is) (λ one. c.extend_line.ensures.extends.outline (c.push_vertex-v.ensures.outline one))
-
-pub returns-clause-directed : goal.returns-clause-directed
-returns-clause-directed g c = rw (← c.self.view_is) c.push_defaults.ensures.grows
+pub returns-clause-data : goal.returns-clause-data
+returns-clause-data g c = rw (← c.self.view_is) (record {
+  contents = rw (c.extend_line.ensures.room, c.push_vertex-v.ensures.room, c.push_reserved.ensures.items, c.push_reserved.ensures.capacity, c.push_defaults.ensures.capacity, c.push_defaults-2.ensures.capacity) refl;
+  directed = c.push_defaults.ensures.grows;
+  undirected = c.push_defaults-2.ensures.grows;
+})

@@ -9,30 +9,26 @@ returns-clause-edges g c =
     let ends_are = rw (c.push_vertex-v.ensures.mesh, named, ← c.from_index.ensures) at c.insert_beside.ensures.inserts.ends in
     rw (← c.self.view_is) (adds_edges _ _ _ _ _ _ 3 (length-ends c.self.inside.links.mesh _ _ _ _ c.self.invariant) refl ends_are c.push_defaults-2.ensures.grows)
 
-pub returns-clause-outer : goal.returns-clause-outer
-returns-clause-outer g c =
-    let keeps = rw c.push_vertex-v.ensures.mesh at c.insert_beside.ensures.inserts.outer in
-    rw (← c.self.view_is) (keeps_outer c.self.inside.links.mesh _ keeps)
-
-pub returns-clause-outline : goal.returns-clause-outline
-returns-clause-outline g c = rw (← c.self.view_is) (λ one. c.insert_beside.ensures.inserts.outline (c.push_vertex-v.ensures.outline one))
-
-pub returns-clause-mesh : goal.returns-clause-mesh
-returns-clause-mesh g c =
-    let named = rw (← c.self.view_is, c.index.ensures) at c.face_edge-edge.ensures.value in
-    let is = rw (c.push_vertex-v.ensures.mesh, named, ← c.from_index.ensures) at c.insert_beside.ensures.mesh in
-    rw (← c.self.view_is) is
-
-pub returns-clause-triangles : goal.returns-clause-triangles
-returns-clause-triangles g c =
-    let named = rw (← c.self.view_is, c.index.ensures) at c.face_edge-edge.ensures.value in
-    let inserts = rw (c.push_vertex-v.ensures.mesh, named, ← c.from_index.ensures) at c.insert_beside.ensures.inserts.corners in
-    rw (← c.self.view_is) inserts
-
-pub returns-clause-directed : goal.returns-clause-directed
-returns-clause-directed g c = rw (← c.self.view_is) c.push_defaults.ensures.grows
-
 pub returns-clause-face : goal.returns-clause-face
 returns-clause-face g c =
     let w = c.face_edge-edge.ensures.whole in
     (w.valid.sound.faces c.args.triangle c.requires.inner (rw w.fits.faces_fit at c.requires.within)).1
+
+pub returns-clause-links : goal.returns-clause-links
+returns-clause-links g c =
+    let named = rw (← c.self.view_is, c.index.ensures) at c.face_edge-edge.ensures.value in
+    let put = rw (c.push_vertex-v.ensures.mesh, named, ← c.from_index.ensures) at c.insert_beside.ensures in
+    rw (← c.self.view_is) (record {
+      mesh = put.mesh;
+      triangles = put.inserts.corners;
+      outer = keeps_outer c.self.inside.links.mesh _ put.inserts.outer;
+      outline = λ one. c.insert_beside.ensures.inserts.outline (c.push_vertex-v.ensures.outline one);
+    })
+
+pub returns-clause-data : goal.returns-clause-data
+returns-clause-data g c = rw (← c.self.view_is) (record {
+  contents = rw (c.insert_beside.ensures.room, c.push_vertex-v.ensures.room, c.push_reserved.ensures.items, c.push_reserved.ensures.capacity, c.push_defaults.ensures.capacity, c.push_defaults-2.ensures.capacity, c.push_defaults-3.ensures.capacity) refl;
+  directed = c.push_defaults.ensures.grows;
+  undirected = c.push_defaults-2.ensures.grows;
+  faces = c.push_defaults-3.ensures.grows;
+})

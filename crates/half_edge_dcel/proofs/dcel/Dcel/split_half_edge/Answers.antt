@@ -20,16 +20,20 @@ returns-clause-edges g c =
     let moves = rw c.index-4.ensures at c.move_item.ensures.moves in
     rw (← c.self.view_is) (splits_edge _ _ _ _ _ _ _ 1 _ _ (length-ends c.self.inside.links.mesh _ _ _ _ c.self.invariant) refl ends_are moves)
 
-pub returns-clause-outer : goal.returns-clause-outer
-returns-clause-outer g c =
-    let changes = rw (c.push_vertex-v.ensures.mesh, c.index.ensures, ← c.from_index.ensures, ← c.self.invariant.directed_fit) at c.split_half_edge.ensures.splits.outer in
-    rw (← c.self.view_is) (outer_changes c.self.inside.links.mesh _ _ _ changes)
+pub returns-clause-links : goal.returns-clause-links
+returns-clause-links g c =
+    let split = rw (c.push_vertex-v.ensures.mesh, c.index.ensures, ← c.from_index.ensures) at c.split_half_edge.ensures in
+    rw (← c.self.view_is) (record {
+      mesh = split.mesh;
+      triangles = split.splits.corners;
+      outer = outer_changes c.self.inside.links.mesh _ _ _ (rw (← c.self.invariant.directed_fit) at split.splits.outer);
+      outline = λ one. c.split_half_edge.ensures.splits.outline (c.push_vertex-v.ensures.outline one);
+    })
 
-pub returns-clause-outline : goal.returns-clause-outline
-returns-clause-outline g c = rw (← c.self.view_is) (λ one. c.split_half_edge.ensures.splits.outline (c.push_vertex-v.ensures.outline one))
-
-pub returns-clause-mesh : goal.returns-clause-mesh
-returns-clause-mesh g c = rw (← c.self.view_is) (rw (c.push_vertex-v.ensures.mesh, c.index.ensures, ← c.from_index.ensures) at c.split_half_edge.ensures.mesh)
-
-pub returns-clause-undirected : goal.returns-clause-undirected
-returns-clause-undirected g c = rw (← c.self.view_is) (rw c.index-4.ensures at c.move_item.ensures.moves)
+pub returns-clause-data : goal.returns-clause-data
+returns-clause-data g c = rw (← c.self.view_is) (record {
+  contents = rw (c.split_half_edge.ensures.room, c.push_vertex-v.ensures.room, c.push_reserved.ensures.items, c.push_reserved.ensures.capacity, c.move_two_items.ensures.capacity, c.move_item.ensures.capacity, c.push_defaults.ensures.capacity) refl;
+  directed = rw (c.index-2.ensures, c.index-3.ensures, c.rev.ensures) at c.move_two_items.ensures.moves;
+  undirected = rw c.index-4.ensures at c.move_item.ensures.moves;
+  faces = c.push_defaults.ensures.grows;
+})
