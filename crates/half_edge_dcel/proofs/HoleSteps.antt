@@ -20,12 +20,12 @@ use Rattle.half_edge_links.proofs.OuterLoop.OutlineFilled.{outline_filled}
 use Rattle.half_edge_links.proofs.Lists.Rev.{rev-rev}
 use Rattle.half_edge_links.proofs.Removing.WheelEnds.{IsHoleOfFour, IsHoleOfThree, hole_of_four, hole_of_three, closed_corners}
 use Rattle.half_edge_links.proofs.Removing.WheelLemmas as wheel
-use Rattle.half_edge_dcel.specs.Contents.{Contents, IsMeshWithData}
+use Rattle.half_edge_dcel.specs.Contents.{Contents, IsMeshWithData, KeepsVertices}
 use Rattle.half_edge_dcel.specs.Growth.{joins}
 use Rattle.half_edge_dcel.specs.Removal.{FullFace, IsBetween, HasCorners, LosesEdges, LosesFaces, GivesFace, OuterChanges, FillsHole, full_edges, full_edges_of, full_faces, full_faces_of, spokes_to, faces_between}
 use Rattle.half_edge_dcel.proofs.LineSteps.{alone_after}
 use Rattle.half_edge_dcel.proofs.OuterSums.{ends_sum, total_faces, total_lost_faces, total-permutation, total-append, any_corner, outer_sum}
-use Rattle.half_edge_dcel.proofs.StripSteps.{IsSameBut, same_but, same_but_edges, same_but_faces, one_more_gone, none_gone}
+use Rattle.half_edge_dcel.proofs.StripSteps.{same_but, same_but_edges, same_but_faces, one_more_gone, none_gone}
 use Rattle.half_edge_dcel.proofs.TakenEdges.{named_corners}
 
 -- the corners of a face at a vertex with three faces
@@ -74,7 +74,7 @@ outer_filled {V} {D} {U} {F} old new v n lost made rest again a b edges lost_are
 -- the steps that take out a vertex with three faces, one after another, leave one face in its place
 fills_hole : {V D U F : Type 0} (c0 c1 c2 c3 c4 c5 : Contents V D U F) (o spoke z : ℕ) (made : FullFace F) → IsMeshWithData c0 → IsMeshWithData c2 → IsMeshWithData c3 → IsMeshWithData c5 → (w : IsFullWheel c0.mesh o)
     → (h : IsHoleOfFour c2.mesh spoke z (origin c0.mesh o) (neighbour c0.mesh o 0) (neighbour c0.mesh o 1) (neighbour c0.mesh o 2))
-    → IsSameBut c0 c5 → IsAlone c5.mesh (origin c0.mesh o)
+    → KeepsVertices c0 c5 → IsAlone c5.mesh (origin c0.mesh o)
     → full_edges c1 ≡ full_edges c0 → LosesEdges c1 c2 (joins (origin c0.mesh o) (origin c0.mesh (rev o)) ∷ []) → LosesEdges c2 c3 (joins (origin c2.mesh spoke) (origin c2.mesh (rev spoke)) ∷ []) → LosesEdges c3 c4 (joins (origin c0.mesh o) (neighbour c0.mesh o 2) ∷ []) → full_edges c5 ≡ full_edges c4
     → (third : FullFace F) → third.corners ≡ triangle_at c0.mesh (face_edge c0.mesh (face c0.mesh (turn c0.mesh (turn c0.mesh o)))) → made.value ≡ third.value
     → IsPermutation (full_faces c0) (third ∷ full_faces c1) → LosesFaces c1 c2 (triangle_at c0.mesh o ∷ []) → LosesFaces c2 c3 (triangle_at c2.mesh spoke ∷ []) → full_faces c4 ≡ full_faces c3 → full_faces c5 ≡ full_faces c4 ++ made ∷ []
@@ -172,8 +172,8 @@ module _ {V D U F : Type 0} (c0 c1 c2 c3 : Contents V D U F) (o face_is spoke pe
 
           -- the steps take out the vertex and fill the hole with one face
           pub collapsed : (c5 : Contents V D U F) (value : F) → IsMeshWithData c5 → c1 ≡ record c0 { mesh = c1.mesh; faces = c1.faces } → GivesFace c0 c1 (triangle_at m (face_edge m face_is)) value → ends c1.mesh ≡ ends m
-              → IsSameBut c1 c2 → LosesEdges c1 c2 (joins (origin c1.mesh o) (origin c1.mesh (rev o)) ∷ []) → LosesFaces c1 c2 (triangle_at c1.mesh o ∷ [])
-              → IsSameBut c2 c3 → LosesEdges c2 c3 (joins (origin c2.mesh spoke) (origin c2.mesh (rev spoke)) ∷ []) → LosesFaces c2 c3 (triangle_at c2.mesh spoke ∷ [])
+              → KeepsVertices c1 c2 → LosesEdges c1 c2 (joins (origin c1.mesh o) (origin c1.mesh (rev o)) ∷ []) → LosesFaces c1 c2 (triangle_at c1.mesh o ∷ [])
+              → KeepsVertices c2 c3 → LosesEdges c2 c3 (joins (origin c2.mesh spoke) (origin c2.mesh (rev spoke)) ∷ []) → LosesFaces c2 c3 (triangle_at c2.mesh spoke ∷ [])
               → c4 ≡ record c3 { mesh = c4.mesh; directed = c4.directed; undirected = c4.undirected } → LosesEdges c3 c4 (joins (origin c3.mesh pendant) (origin c3.mesh (rev pendant)) ∷ []) → triangles c4.mesh ≡ triangles c3.mesh
               → ClosesLoop c4.mesh c5.mesh border → c5 ≡ record c4 { mesh = c5.mesh; faces = c5.faces } → full_faces c5 ≡ full_faces c4 ++ record { corners = triangle_at c4.mesh border; value = value } ∷ [] → ends c5.mesh ≡ ends c4.mesh
               → FillsHole c0 c5 (origin m o) (neighbour m o)

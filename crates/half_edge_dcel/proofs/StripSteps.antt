@@ -15,27 +15,23 @@ use Rattle.half_edge_links.specs.Triangles.{triangles, triangle_at}
 use Rattle.half_edge_links.proofs.Removing.Conditions.{IsFullStrip, full_strip}
 use Rattle.half_edge_links.proofs.Lists.Rev.{rev-rev}
 use Rattle.half_edge_links.proofs.Removing.StripLemmas.{strip_from, strip_ends, one_more, removable_strip}
-use Rattle.half_edge_dcel.specs.Contents.{Contents, IsMeshWithData}
+use Rattle.half_edge_dcel.specs.Contents.{Contents, IsMeshWithData, KeepsVertices}
 use Rattle.half_edge_dcel.specs.Growth.{joins}
 use Rattle.half_edge_dcel.specs.Removal.{IsBetween, HasCorners, LosesEdges, LosesFaces, LosesStrip, OuterChanges, full_edges, full_faces, full_faces_of, spokes_to, faces_between, chain}
 use Rattle.half_edge_dcel.proofs.LineSteps.{alone_after}
 use Rattle.half_edge_dcel.proofs.OuterSums.{ends_sum, corners_sum, outer_sum}
 
--- a mesh with the vertices, the outer face and the room of another
-abbrev pub IsSameBut : {V D U F : Type 0} → Contents V D U F → Contents V D U F → Type 0
-IsSameBut old new = new ≡ record old { mesh = new.mesh; directed = new.directed; undirected = new.undirected; faces = new.faces }
-
 module _ {V D U F : Type 0} where
   -- one after the other, two changes keep the vertices, the outer face and the room if each does
-  pub same_but : (a b c : Contents V D U F) → IsSameBut a b → IsSameBut b c → IsSameBut a c
+  pub same_but : (a b c : Contents V D U F) → KeepsVertices a b → KeepsVertices b c → KeepsVertices a c
   same_but a b c p q = q ∙ ap (λ (x : Contents V D U F). record x { mesh = c.mesh; directed = c.directed; undirected = c.undirected; faces = c.faces }) p
 
   -- a change of links and data of faces keeps the vertices, the outer face and the room
-  pub same_but_faces : (a b : Contents V D U F) → b ≡ record a { mesh = b.mesh; faces = b.faces } → IsSameBut a b
+  pub same_but_faces : (a b : Contents V D U F) → b ≡ record a { mesh = b.mesh; faces = b.faces } → KeepsVertices a b
   same_but_faces a b p = p ∙ (λ i. record a { mesh = b.mesh; directed = ap (λ (x : Contents V D U F). x.directed) (sym p) i; undirected = ap (λ (x : Contents V D U F). x.undirected) (sym p) i; faces = b.faces })
 
   -- a change of links and data of edges keeps the vertices, the outer face and the room
-  pub same_but_edges : (a b : Contents V D U F) → b ≡ record a { mesh = b.mesh; directed = b.directed; undirected = b.undirected } → IsSameBut a b
+  pub same_but_edges : (a b : Contents V D U F) → b ≡ record a { mesh = b.mesh; directed = b.directed; undirected = b.undirected } → KeepsVertices a b
   same_but_edges a b p = p ∙ (λ i. record a { mesh = b.mesh; directed = b.directed; undirected = b.undirected; faces = ap (λ (x : Contents V D U F). x.faces) (sym p) i })
 
 -- one more item goes
@@ -140,7 +136,7 @@ module _ {V D U F : Type 0} (old c : Contents V D U F) (first count h gone : ℕ
   stripped_removable is = removable_strip c.mesh h (all_gone is)
 
   -- once the last edge is removed too, the vertex has lost its edges and the faces of the strip
-  pub strip_lost : (new : Contents V D U F) → gone ≡ count → IsMeshWithData old → IsMeshWithData c → IsMeshWithData new → IsSameBut old c → KeepsOneOutline old.mesh c.mesh
+  pub strip_lost : (new : Contents V D U F) → gone ≡ count → IsMeshWithData old → IsMeshWithData c → IsMeshWithData new → KeepsVertices old c → KeepsOneOutline old.mesh c.mesh
       → new ≡ record c { mesh = new.mesh; directed = new.directed; undirected = new.undirected } → Removes c.mesh new.mesh h → LosesEdges c new (joins (origin c.mesh h) (origin c.mesh (rev h)) ∷ []) → triangles new.mesh ≡ triangles c.mesh
       → (IsPendant c.mesh h → KeepsOneOutline c.mesh new.mesh) → LosesStrip old new (origin old.mesh first) (neighbour old.mesh first) count
   strip_lost new is w wc wn same outline contents r edges triangles_are last_outline =

@@ -33,6 +33,10 @@ pub record HasRoom {V D U F : Type 0} (c : Contents V D U F) (vertices edges fac
   pub edges_fit : 2 * (length c.undirected + edges) ≤ c.room.edges
   pub faces_fit : length c.faces + faces ≤ c.room.faces
 
+-- the data of vertices and of the outer face, and the room, stay; links and the data of edges and inner faces may change
+abbrev pub KeepsVertices : {V D U F : Type 0} → Contents V D U F → Contents V D U F → Type 0
+KeepsVertices old new = new ≡ record old { mesh = new.mesh; directed = new.directed; undirected = new.undirected; faces = new.faces }
+
 -- an undirected edge: the vertices that it joins, in the order of its even directed edge, and its data
 pub record Edge (U : Type 0) : Type 0 where
   pub source : ℕ

@@ -36,15 +36,14 @@ impl<V, DE, UE, F> Dcel<V, DE, UE, F> {
         ensures outline { KeepsOneOutline self.old.mesh self.new.mesh }
         ensures whole { IsMeshWithData self.old }
     {
-        let _whole = self.num_vertices();
+        self.recall_invariant();
         self.links.pass(edge);
     }
+}
 
+impl<V, DE: Drop, UE: Drop, F> Dcel<V, DE, UE, F> {
     // Joins the two neighbours of the vertex where `out` starts, which keeps no edge.
     fn join_neighbours(&mut self, out: u32)
-    where
-        DE: Drop,
-        UE: Drop,
         requires within { out < length self.old.directed }
         requires one_face { length self.old.faces ≡ 0 }
         requires two { let m = self.old.mesh in turn m (turn m out) ≡ out }
@@ -53,19 +52,16 @@ impl<V, DE, UE, F> Dcel<V, DE, UE, F> {
         ensures leaves { LeavesLine self.old self.new (origin self.old.mesh out) }
         ensures outline { KeepsOneOutline self.old.mesh self.new.mesh }
     {
-        let _old = self.num_vertices();
+        self.recall_invariant();
         let edge = reversed(out);
         let lost = self.half_edge(edge).next;
         self.pass(edge);
         self.remove_edge(lost);
-        let _whole = self.num_vertices();
+        self.recall_invariant();
     }
 
     // Removes the only edge of the vertex where `out` starts.
     fn remove_end(&mut self, out: u32)
-    where
-        DE: Drop,
-        UE: Drop,
         requires within { out < length self.old.directed }
         requires one_face { length self.old.faces ≡ 0 }
         requires one { turn self.old.mesh out ≡ out }
@@ -74,16 +70,13 @@ impl<V, DE, UE, F> Dcel<V, DE, UE, F> {
         ensures leaves { LeavesLine self.old self.new (origin self.old.mesh out) }
         ensures outline { KeepsOneOutline self.old.mesh self.new.mesh }
     {
-        let _old = self.num_vertices();
+        self.recall_invariant();
         self.remove_edge(out);
-        let _whole = self.num_vertices();
+        self.recall_invariant();
     }
 
     // Removes the edges of a vertex of a line, and joins its neighbours, if it has two.
     fn leave_line(&mut self, vertex: u32)
-    where
-        DE: Drop,
-        UE: Drop,
         requires within { vertex < length self.old.vertices }
         requires one_face { length self.old.faces ≡ 0 }
         requires few { HasFewEdges self.old.mesh vertex }
@@ -104,9 +97,6 @@ impl<V, DE, UE, F> Dcel<V, DE, UE, F> {
     /// they are joined by an edge with the data of one of its edges. The last vertex takes its
     /// index.
     pub fn remove_when_degenerate(&mut self, vertex: FixedVertexHandle) -> V
-    where
-        DE: Drop,
-        UE: Drop,
         requires within { vertex < length self.old.vertices }
         requires one_face { length self.old.faces ≡ 0 }
         requires few { HasFewEdges self.old.mesh vertex }
@@ -114,7 +104,7 @@ impl<V, DE, UE, F> Dcel<V, DE, UE, F> {
         ensures outline { KeepsOneOutline self.old.mesh self.new.mesh }
     {
         self.leave_line(vertex.index());
-        let _whole = self.num_vertices();
+        self.recall_invariant();
         self.swap_remove_vertex(vertex)
     }
 }

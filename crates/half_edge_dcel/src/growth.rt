@@ -3,6 +3,7 @@ ghost use Rattle.std.specs.Prelude.{◌≡◌, ◌≢◌, ◌+◌, ◌<◌, ◌�
 ghost use Rattle.std.specs.Prelude.{Some, slice_get, vec_len, vec_capacity};
 ghost use Rattle.half_edge_dcel.specs.Growth.{Grows, LeavesItem, MovesItem, MovesTwoItems};
 
+use half_edge_handles::{FixedDirectedEdgeHandle, FixedVertexHandle};
 use std::mem::replace;
 
 // Pushes `count` default values, for which there is room.
@@ -60,4 +61,22 @@ pub(crate) fn move_two_items<T: Default>(
     items.push_reserved(kept);
     items.push_reserved(also_kept);
     push_defaults(items, count);
+}
+
+// A vertex that splits an edge, and both parts of the edge, as handles.
+pub(crate) fn split_handles(
+    vertex: u32,
+    parts: [u32; 2],
+) -> (FixedVertexHandle, [FixedDirectedEdgeHandle; 2])
+    ensures vertex { result.0 ≡ vertex }
+    ensures parts { result.1 ≡ parts }
+{
+    let [first, second] = parts;
+    (
+        FixedVertexHandle::from_index(vertex),
+        [
+            FixedDirectedEdgeHandle::from_index(first),
+            FixedDirectedEdgeHandle::from_index(second),
+        ],
+    )
 }

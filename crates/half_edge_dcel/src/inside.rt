@@ -12,7 +12,7 @@ ghost use Rattle.half_edge_dcel.specs.GrownData.{AddsData, MovesData};
 ghost use Rattle.half_edge_dcel.specs.Shapes.{InsertsInFace, SplitsBetweenFaces};
 
 use crate::dcel::Dcel;
-use crate::growth::{move_item, move_two_items, push_defaults};
+use crate::growth::{move_item, move_two_items, push_defaults, split_handles};
 use half_edge_handles::{
     FixedDirectedEdgeHandle, FixedFaceHandle, FixedUndirectedEdgeHandle, FixedVertexHandle,
 };
@@ -36,13 +36,11 @@ impl<V, DE, UE, F> Dcel<V, DE, UE, F> {
     {
         self.links.flip(edge.as_directed().index());
     }
+}
 
+impl<V, DE: Default, UE: Default, F: Default> Dcel<V, DE, UE, F> {
     /// Makes three faces of an inner one, each of one of its edges and a new last vertex.
     pub fn insert_into_triangle(&mut self, value: V, triangle: FixedFaceHandle) -> FixedVertexHandle
-    where
-        DE: Default,
-        UE: Default,
-        F: Default,
         requires inner { 0 < triangle }
         requires within { triangle ≤ length self.old.faces }
         requires room { HasRoom self.old 1 3 2 }
@@ -76,10 +74,6 @@ impl<V, DE, UE, F> Dcel<V, DE, UE, F> {
         edge: FixedDirectedEdgeHandle,
         value: V,
     ) -> (FixedVertexHandle, [FixedDirectedEdgeHandle; 2])
-    where
-        DE: Default,
-        UE: Default,
-        F: Default,
         requires flippable { IsFlippable self.old.mesh edge }
         requires room { HasRoom self.old 1 3 2 }
 
@@ -106,12 +100,6 @@ impl<V, DE, UE, F> Dcel<V, DE, UE, F> {
         );
         move_item(&mut self.undirected, edge.index() as usize / 2, 2);
         push_defaults(&mut self.faces, 2);
-        (
-            FixedVertexHandle::from_index(v),
-            [
-                FixedDirectedEdgeHandle::from_index(n),
-                FixedDirectedEdgeHandle::from_index(n + 3),
-            ],
-        )
+        split_handles(v, [n, n + 3])
     }
 }

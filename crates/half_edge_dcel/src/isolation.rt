@@ -44,13 +44,13 @@ impl<V, DE, UE, F> Dcel<V, DE, UE, F> {
         ensures { let m = self.old.mesh in
             LosesStrip self.old self.new (origin m first) (neighbour m first) count }
     {
-        let _old = self.num_vertices();
+        self.recall_invariant();
         let mut h = first;
         for _ in 0..count {
             h = self.peel(h);
         }
         self.remove_edge(h);
-        let _whole = self.num_vertices();
+        self.recall_invariant();
     }
 
     /// Removes the edges of a vertex on the hull, and its faces. `edges` are the sides opposite it
@@ -87,7 +87,7 @@ impl<V, DE, UE, F> Dcel<V, DE, UE, F> {
     {
         let second = reversed(self.links.half_edge(first).prev);
         let third = reversed(self.links.half_edge(second).prev);
-        let _whole = self.num_vertices();
+        self.recall_invariant();
         self.links.half_edge(third).face
     }
 
@@ -109,7 +109,7 @@ impl<V, DE, UE, F> Dcel<V, DE, UE, F> {
         let border = self.index_after_removal(pendant);
         self.remove_edge(pendant);
         self.close_face(border, value);
-        let _whole = self.num_vertices();
+        self.recall_invariant();
     }
 
     // Turns the edge after `first` round their vertex, so that it leaves the vertex.
@@ -125,7 +125,7 @@ impl<V, DE, UE, F> Dcel<V, DE, UE, F> {
         ensures outline { KeepsOneOutline self.old.mesh self.new.mesh }
         ensures whole { IsMeshWithData self.old }
     {
-        let _whole = self.num_vertices();
+        self.recall_invariant();
         let spoke = reversed(self.links.half_edge(first).prev);
         self.links.flip(spoke);
     }
@@ -143,13 +143,13 @@ impl<V, DE, UE, F> Dcel<V, DE, UE, F> {
         ensures { let m = self.old.mesh in
             FillsWithFan self.old self.new (origin m first) (neighbour m first) count }
     {
-        let _old = self.num_vertices();
+        self.recall_invariant();
         for _ in 3..count {
             self.turn_away(first);
         }
-        let _turned = self.num_vertices();
+        self.recall_invariant();
         self.collapse(first);
-        let _whole = self.num_vertices();
+        self.recall_invariant();
     }
 
     /// Removes the edges of an inner vertex and fills the hole with a fan of faces. `border` is the

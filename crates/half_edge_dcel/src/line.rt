@@ -9,7 +9,7 @@ ghost use Rattle.half_edge_dcel.specs.GrownData.{AddsEdgeData};
 ghost use Rattle.half_edge_dcel.specs.Shapes.{JoinsFirst, ExtendsLineTo, SplitsOnLine};
 
 use crate::dcel::Dcel;
-use crate::growth::push_defaults;
+use crate::growth::{push_defaults, split_handles};
 use half_edge_handles::{FixedDirectedEdgeHandle, FixedVertexHandle};
 
 impl<V, DE, UE, F> Dcel<V, DE, UE, F> {
@@ -26,12 +26,11 @@ impl<V, DE, UE, F> Dcel<V, DE, UE, F> {
         self.vertices.push_reserved(value);
         FixedVertexHandle::from_index(self.links.push_vertex())
     }
+}
 
+impl<V, DE: Default, UE: Default, F> Dcel<V, DE, UE, F> {
     /// Makes the first edge, which joins vertices `a` and `b`.
     pub fn setup_initial_two_vertices(&mut self, a: FixedVertexHandle, b: FixedVertexHandle)
-    where
-        DE: Default,
-        UE: Default,
         requires no_edges { length self.old.undirected ≡ 0 }
         requires a_within { a < length self.old.vertices }
         requires b_within { b < length self.old.vertices }
@@ -50,9 +49,6 @@ impl<V, DE, UE, F> Dcel<V, DE, UE, F> {
 
     /// Puts an edge from vertex `end` of a line of vertices to a new last vertex.
     pub fn extend_line(&mut self, end: FixedVertexHandle, value: V) -> FixedVertexHandle
-    where
-        DE: Default,
-        UE: Default,
         requires one_face { length self.old.faces ≡ 0 }
         requires within { end < length self.old.vertices }
         requires joined { IsSome (out_edge self.old.mesh end) }
@@ -81,9 +77,6 @@ impl<V, DE, UE, F> Dcel<V, DE, UE, F> {
         edge: FixedDirectedEdgeHandle,
         value: V,
     ) -> (FixedVertexHandle, [FixedDirectedEdgeHandle; 2])
-    where
-        DE: Default,
-        UE: Default,
         requires one_face { length self.old.faces ≡ 0 }
         requires within { edge < length self.old.directed }
         requires room { HasRoom self.old 1 1 0 }
@@ -100,16 +93,10 @@ impl<V, DE, UE, F> Dcel<V, DE, UE, F> {
             (joins (origin m (rev edge)) result.0 ∷ []) }
     {
         let v = self.links.push_vertex();
-        let [first, second] = self.links.split_line(edge.index(), v);
+        let parts = self.links.split_line(edge.index(), v);
         self.vertices.push_reserved(value);
         push_defaults(&mut self.directed, 2);
         push_defaults(&mut self.undirected, 1);
-        (
-            FixedVertexHandle::from_index(v),
-            [
-                FixedDirectedEdgeHandle::from_index(first),
-                FixedDirectedEdgeHandle::from_index(second),
-            ],
-        )
+        split_handles(v, parts)
     }
 }

@@ -10,20 +10,16 @@ ghost use Rattle.half_edge_dcel.specs.GrownData.{AddsData, MovesData};
 ghost use Rattle.half_edge_dcel.specs.Shapes.{AddsFaceTo, ClosesTriangle, SplitsBesideOuter};
 
 use crate::dcel::Dcel;
-use crate::growth::{move_item, move_two_items, push_defaults};
+use crate::growth::{move_item, move_two_items, push_defaults, split_handles};
 use half_edge_handles::{FixedDirectedEdgeHandle, FixedVertexHandle};
 
-impl<V, DE, UE, F> Dcel<V, DE, UE, F> {
+impl<V, DE: Default, UE: Default, F: Default> Dcel<V, DE, UE, F> {
     /// Makes a face of an outer edge and a new last vertex, with two new edges.
     pub fn create_new_face_adjacent_to_edge(
         &mut self,
         edge: FixedDirectedEdgeHandle,
         value: V,
     ) -> FixedVertexHandle
-    where
-        DE: Default,
-        UE: Default,
-        F: Default,
         requires within { edge < length self.old.directed }
         requires outer { face self.old.mesh edge ≡ 0 }
         requires room { HasRoom self.old 1 2 1 }
@@ -52,10 +48,6 @@ impl<V, DE, UE, F> Dcel<V, DE, UE, F> {
         &mut self,
         edge: FixedDirectedEdgeHandle,
     ) -> FixedDirectedEdgeHandle
-    where
-        DE: Default,
-        UE: Default,
-        F: Default,
         requires within { edge < length self.old.directed }
         requires outer { face self.old.mesh edge ≡ 0 }
         requires apart { let m = self.old.mesh in origin m (rev (next m edge)) ≢ origin m edge }
@@ -85,10 +77,6 @@ impl<V, DE, UE, F> Dcel<V, DE, UE, F> {
         edge: FixedDirectedEdgeHandle,
         value: V,
     ) -> (FixedVertexHandle, [FixedDirectedEdgeHandle; 2])
-    where
-        DE: Default,
-        UE: Default,
-        F: Default,
         requires half { IsHalfSplittable self.old.mesh edge }
         requires room { HasRoom self.old 1 2 1 }
 
@@ -104,7 +92,7 @@ impl<V, DE, UE, F> Dcel<V, DE, UE, F> {
             (joins result.0 (origin m (rev edge)) ∷ []) }
     {
         let v = self.links.push_vertex();
-        let [first, second] = self.links.split_half_edge(edge.index(), v);
+        let parts = self.links.split_half_edge(edge.index(), v);
         self.vertices.push_reserved(value);
         move_two_items(
             &mut self.directed,
@@ -114,12 +102,6 @@ impl<V, DE, UE, F> Dcel<V, DE, UE, F> {
         );
         move_item(&mut self.undirected, edge.index() as usize / 2, 1);
         push_defaults(&mut self.faces, 1);
-        (
-            FixedVertexHandle::from_index(v),
-            [
-                FixedDirectedEdgeHandle::from_index(first),
-                FixedDirectedEdgeHandle::from_index(second),
-            ],
-        )
+        split_handles(v, parts)
     }
 }

@@ -8,7 +8,7 @@ ghost use Rattle.half_edge_links.specs.Peel.{IsPeelable, Peels};
 ghost use Rattle.half_edge_links.specs.Remove.{Opens, Removes, IsRemovable, IsOpenTriangle};
 ghost use Rattle.half_edge_links.specs.Remove.{ClosesLoop, after_removal};
 ghost use Rattle.half_edge_links.specs.Triangles.{triangles, triangle_at};
-ghost use Rattle.half_edge_dcel.specs.Contents.{IsMeshWithData};
+ghost use Rattle.half_edge_dcel.specs.Contents.{IsMeshWithData, KeepsVertices};
 ghost use Rattle.half_edge_dcel.specs.Growth.{joins};
 ghost use Rattle.half_edge_dcel.specs.Removal.{TakesOut, TakesOutPair, LosesEdges, LosesFaces};
 ghost use Rattle.half_edge_dcel.specs.Removal.{GivesFace, full_edges, full_faces};
@@ -48,7 +48,7 @@ impl<V, DE, UE, F> Dcel<V, DE, UE, F> {
         ensures outline { IsPendant self.old.mesh edge →
             KeepsOneOutline self.old.mesh self.new.mesh }
     {
-        let _whole = self.num_vertices();
+        self.recall_invariant();
         self.links.remove_edge(edge);
         self.undirected.swap_remove(edge as usize / 2);
         remove_pair(&mut self.directed, edge as usize / 2);
@@ -69,7 +69,7 @@ impl<V, DE, UE, F> Dcel<V, DE, UE, F> {
         ensures spare { length self.new.faces + 1 ≤ self.new.room.faces }
         ensures whole { IsMeshWithData self.old }
     {
-        let _whole = self.num_vertices();
+        self.recall_invariant();
         self.links.open_face(face);
         let _count = self.faces.len();
         self.faces.swap_remove(face as usize - 1)
@@ -86,12 +86,7 @@ impl<V, DE, UE, F> Dcel<V, DE, UE, F> {
         requires { IsPeelable self.old.mesh edge }
 
         ensures peels { Peels self.old.mesh self.new.mesh edge }
-        ensures contents { self.new ≡ record self.old {
-          mesh = self.new.mesh;
-          directed = self.new.directed;
-          undirected = self.new.undirected;
-          faces = self.new.faces;
-        } }
+        ensures contents { KeepsVertices self.old self.new }
         ensures edges { let m = self.old.mesh in
             LosesEdges self.old self.new (joins (origin m edge) (origin m (rev edge)) ∷ []) }
         ensures faces { LosesFaces self.old self.new (triangle_at self.old.mesh edge ∷ []) }

@@ -42,6 +42,6 @@ pub returns : goal.returns
 returns g c =
     collapsed c.args.self.now c.open_face-value.new.self c.peel-spoke.new.self c.peel-pendant.new.self c.args.first c.third_face-face.result c.peel-spoke.result c.peel-pendant.result c.third_face-face.ensures.whole c.requires c.third_face-face.ensures.value c.open_face-value.ensures.opens
     c.peel-spoke.ensures.whole c.peel-spoke.ensures.peels c.peel-spoke.ensures.spoke c.peel-pendant.ensures.whole c.peel-pendant.ensures.peels c.peel-pendant.ensures.spoke c.index_after_removal-border.ensures.whole
-    c.remove_edge.new.self c.index_after_removal-border.result c.index_after_removal-border.ensures.value c.remove_edge.ensures.removes c.close_face.new.self c.open_face-value.result c.num_vertices-whole.ensures.whole
+    c.remove_edge.new.self c.index_after_removal-border.result c.index_after_removal-border.ensures.value c.remove_edge.ensures.removes c.close_face.new.self c.open_face-value.result c.recall_invariant.ensures.whole
     c.open_face-value.ensures.contents c.open_face-value.ensures.faces c.open_face-value.ensures.ends c.peel-spoke.ensures.contents c.peel-spoke.ensures.edges c.peel-spoke.ensures.faces c.peel-pendant.ensures.contents c.peel-pendant.ensures.edges c.peel-pendant.ensures.faces
     c.remove_edge.ensures.contents c.remove_edge.ensures.edges c.remove_edge.ensures.triangles c.close_face.ensures.closes c.close_face.ensures.contents c.close_face.ensures.faces c.close_face.ensures.ends

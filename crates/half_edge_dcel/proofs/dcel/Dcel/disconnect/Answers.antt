@@ -22,5 +22,5 @@ remove_edge-requires g c = stripped_removable c.args.self.now c.loop.self c.args
 
 pub returns : goal.returns
 returns g c =
-    strip_lost c.args.self.now c.loop.self c.args.first c.args.count c.loop.h c.loop.counter c.loop.invariant.strip c.remove_edge.new.self (omega arith) c.num_vertices-old.ensures.whole c.remove_edge.ensures.whole c.num_vertices-whole.ensures.whole
+    strip_lost c.args.self.now c.loop.self c.args.first c.args.count c.loop.h c.loop.counter c.loop.invariant.strip c.remove_edge.new.self (omega arith) c.recall_invariant.ensures.whole c.remove_edge.ensures.whole c.recall_invariant-2.ensures.whole
     c.loop.invariant.contents c.loop.invariant.outline c.remove_edge.ensures.contents c.remove_edge.ensures.removes c.remove_edge.ensures.edges c.remove_edge.ensures.triangles c.remove_edge.ensures.outline

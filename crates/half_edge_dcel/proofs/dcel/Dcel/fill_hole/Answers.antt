@@ -19,7 +19,7 @@ turn_away-requires g c =
 pub loop-preserved : goal.loop-preserved
 loop-preserved g c =
     let t = c.turn_away.ensures in
-    turned_next c.args.self.now c.loop.self c.args.first c.args.count (c.loop.counter - 3) c.num_vertices-old.ensures.whole t.whole c.requires.tip c.loop.invariant (omega arith) c.turn_away.new.self t.flips t.contents t.ends t.triangles t.outer t.outline _ (omega arith)
+    turned_next c.args.self.now c.loop.self c.args.first c.args.count (c.loop.counter - 3) c.recall_invariant.ensures.whole t.whole c.requires.tip c.loop.invariant (omega arith) c.turn_away.new.self t.flips t.contents t.ends t.triangles t.outer t.outline _ (omega arith)
 
 pub collapse-requires : goal.collapse-requires
 collapse-requires g c =
@@ -29,4 +29,4 @@ collapse-requires g c =
 pub returns : goal.returns
 returns g c =
     let last = c.loop.auto.counter-end c.requires.many in
-    hole_filled_by c.args.self.now c.loop.self c.collapse.new.self c.args.first c.args.count (c.loop.counter - 3) (omega (arith, last)) c.num_vertices-old.ensures.whole c.num_vertices-turned.ensures.whole c.num_vertices-whole.ensures.whole c.requires.hub c.requires.tip c.loop.invariant c.collapse.ensures
+    hole_filled_by c.args.self.now c.loop.self c.collapse.new.self c.args.first c.args.count (c.loop.counter - 3) (omega (arith, last)) c.recall_invariant.ensures.whole c.recall_invariant-2.ensures.whole c.recall_invariant-3.ensures.whole c.requires.hub c.requires.tip c.loop.invariant c.collapse.ensures

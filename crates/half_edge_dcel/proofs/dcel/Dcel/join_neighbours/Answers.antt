@@ -8,7 +8,7 @@ use Rattle.half_edge_dcel.proofs.dcel.Dcel.join_neighbours.Goals as goal
 
 pub half_edge-lost-requires : goal.half_edge-lost-requires
 half_edge-lost-requires g c =
-    let w = c.num_vertices-old.ensures.whole in
+    let w = c.recall_invariant.ensures.whole in
     rw (c.reversed-edge.ensures, w.fits.directed_fit) (rev_within c.args.out _ w.valid.sound.even (rw w.fits.directed_fit at c.requires.within))
 
 pub pass-requires : goal.pass-requires
@@ -30,7 +30,7 @@ returns-clause-leaves g c =
     let m : Mesh = c.args.self.now.mesh in
     let can = passable c.args.self.now.mesh c.args.out w.valid.sound (rw w.fits.directed_fit at c.requires.within) (no_inner_face c.args.self.now w c.requires.one_face) c.requires.two c.requires.corners in
     let is : c.half_edge-lost.result.next ≡ next m (rev c.args.out) = rw c.reversed-edge.ensures at (ap (λ (e : HalfEdge). e.next) c.half_edge-lost.ensures.value) in
-    middle_left c.args.self.now c.pass.new.self c.remove_edge.new.self c.args.out c.half_edge-lost.result.next w c.remove_edge.ensures.whole c.num_vertices-whole.ensures.whole can is c.pass.ensures.contents
+    middle_left c.args.self.now c.pass.new.self c.remove_edge.new.self c.args.out c.half_edge-lost.result.next w c.remove_edge.ensures.whole c.recall_invariant-2.ensures.whole can is c.pass.ensures.contents
     (rw c.reversed-edge.ensures at c.pass.ensures.links) (rw c.reversed-edge.ensures at c.pass.ensures.ends) c.remove_edge.ensures.contents c.remove_edge.ensures.removes c.remove_edge.ensures.taken c.remove_edge.ensures.triangles
 
 pub returns-clause-outline : goal.returns-clause-outline

@@ -16,13 +16,13 @@ invariant_of-self g c =
 
 pub returns-clause-edges : goal.returns-clause-edges
 returns-clause-edges g c =
-    let ends_are = rw (c.push_vertex-v.ensures.mesh, c.index.ensures, ← c.from_index.ensures) at c.split_edge.ensures.splits.ends in
+    let ends_are = rw (c.push_vertex-v.ensures.mesh, c.index.ensures, ← c.split_handles.ensures.vertex) at c.split_edge.ensures.splits.ends in
     let moves = rw c.index-4.ensures at c.move_item.ensures.moves in
     rw (← c.self.view_is) (splits_edge _ _ _ _ _ _ _ 2 _ _ (length-ends c.self.inside.links.mesh _ _ _ _ c.self.invariant) refl ends_are moves)
 
 pub returns-clause-links : goal.returns-clause-links
 returns-clause-links g c =
-    let split = rw (c.push_vertex-v.ensures.mesh, c.index.ensures, ← c.from_index.ensures) at c.split_edge.ensures in
+    let split = rw (c.push_vertex-v.ensures.mesh, c.index.ensures, ← c.split_handles.ensures.vertex) at c.split_edge.ensures in
     rw (← c.self.view_is) (record {
       mesh = split.mesh;
       triangles = split.splits.corners;

@@ -6,27 +6,27 @@ use Rattle.half_edge_dcel.proofs.dcel.Dcel.split_edge_when_all_vertices_on_line.
 
 pub returns-clause-edges : goal.returns-clause-edges
 returns-clause-edges g c =
-    let ends_are = rw (c.push_vertex-v.ensures.mesh, c.index.ensures, ← c.from_index.ensures) at c.split_line.ensures.splits.ends in
+    let ends_are = rw (c.push_vertex-v.ensures.mesh, c.index.ensures, ← c.split_handles.ensures.vertex) at c.split_line-parts.ensures.splits.ends in
     rw (← c.self.view_is, ← edges_of-set) (adds_edges _ _ _ _ _ _ 1 (length-ends c.self.inside.links.mesh _ _ _ _ c.self.invariant ∙ sym (length-set _ _ _)) refl ends_are c.push_defaults-2.ensures.grows)
 
 pub returns-clause-parts : goal.returns-clause-parts
 returns-clause-parts g c =
-    let are = rw (c.push_vertex-v.ensures.mesh, c.index.ensures, ← c.self.invariant.directed_fit) at c.split_line.ensures.parts in
-    rw (← c.self.view_is, c.from_index-2.ensures, c.from_index-3.ensures, are) refl
+    let are = rw (c.push_vertex-v.ensures.mesh, c.index.ensures, ← c.self.invariant.directed_fit) at c.split_line-parts.ensures.parts in
+    rw (← c.self.view_is) (c.split_handles.ensures.parts ∙ are)
 
 pub returns-clause-links : goal.returns-clause-links
 returns-clause-links g c =
-    let split = rw (c.push_vertex-v.ensures.mesh, c.index.ensures, ← c.from_index.ensures) at c.split_line.ensures in
+    let split = rw (c.push_vertex-v.ensures.mesh, c.index.ensures, ← c.split_handles.ensures.vertex) at c.split_line-parts.ensures in
     rw (← c.self.view_is) (record {
       mesh = split.mesh;
       triangles = search rules;
       outer = outer_changes c.self.inside.links.mesh _ _ _ (rw (← c.self.invariant.directed_fit) at split.splits.outer);
-      outline = λ one. c.split_line.ensures.splits.outline (c.push_vertex-v.ensures.outline one);
+      outline = λ one. c.split_line-parts.ensures.splits.outline (c.push_vertex-v.ensures.outline one);
     })
 
 pub returns-clause-data : goal.returns-clause-data
 returns-clause-data g c = rw (← c.self.view_is) (record {
-  contents = rw (c.split_line.ensures.room, c.push_vertex-v.ensures.room, c.push_reserved.ensures.items, c.push_reserved.ensures.capacity, c.push_defaults.ensures.capacity, c.push_defaults-2.ensures.capacity) refl;
+  contents = rw (c.split_line-parts.ensures.room, c.push_vertex-v.ensures.room, c.push_reserved.ensures.items, c.push_reserved.ensures.capacity, c.push_defaults.ensures.capacity, c.push_defaults-2.ensures.capacity) refl;
   directed = c.push_defaults.ensures.grows;
   undirected = c.push_defaults-2.ensures.grows;
 })

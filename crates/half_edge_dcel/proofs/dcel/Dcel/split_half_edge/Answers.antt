@@ -7,7 +7,7 @@ use Rattle.half_edge_dcel.proofs.dcel.Dcel.split_half_edge.Goals as goal
 
 pub invariant_of-self : goal.invariant_of-self
 invariant_of-self g c =
-    rw (c.split_half_edge.ensures.mesh, c.push_vertex-v.ensures.mesh)
+    rw (c.split_half_edge-parts.ensures.mesh, c.push_vertex-v.ensures.mesh)
     (fits_as _ _ _ _ _ _ _ _ _ (fits_flipped _ _ _ _ _ _ (fits_closed _ _ _ _ _ _ (fits_hung _ _ _ _ _ _ _ (fits_vertex _ _ _ _ _ c.self.invariant))))
     (ap length c.push_reserved.ensures.items ∙ length_push _ _)
     (omega (arith, length_moved_two _ _ _ _ _ _ c.move_two_items.ensures.moves))
@@ -16,23 +16,23 @@ invariant_of-self g c =
 
 pub returns-clause-edges : goal.returns-clause-edges
 returns-clause-edges g c =
-    let ends_are = rw (c.push_vertex-v.ensures.mesh, c.index.ensures, ← c.from_index.ensures) at c.split_half_edge.ensures.splits.ends in
+    let ends_are = rw (c.push_vertex-v.ensures.mesh, c.index.ensures, ← c.split_handles.ensures.vertex) at c.split_half_edge-parts.ensures.splits.ends in
     let moves = rw c.index-4.ensures at c.move_item.ensures.moves in
     rw (← c.self.view_is) (splits_edge _ _ _ _ _ _ _ 1 _ _ (length-ends c.self.inside.links.mesh _ _ _ _ c.self.invariant) refl ends_are moves)
 
 pub returns-clause-links : goal.returns-clause-links
 returns-clause-links g c =
-    let split = rw (c.push_vertex-v.ensures.mesh, c.index.ensures, ← c.from_index.ensures) at c.split_half_edge.ensures in
+    let split = rw (c.push_vertex-v.ensures.mesh, c.index.ensures, ← c.split_handles.ensures.vertex) at c.split_half_edge-parts.ensures in
     rw (← c.self.view_is) (record {
       mesh = split.mesh;
       triangles = split.splits.corners;
       outer = outer_changes c.self.inside.links.mesh _ _ _ (rw (← c.self.invariant.directed_fit) at split.splits.outer);
-      outline = λ one. c.split_half_edge.ensures.splits.outline (c.push_vertex-v.ensures.outline one);
+      outline = λ one. c.split_half_edge-parts.ensures.splits.outline (c.push_vertex-v.ensures.outline one);
     })
 
 pub returns-clause-data : goal.returns-clause-data
 returns-clause-data g c = rw (← c.self.view_is) (record {
-  contents = rw (c.split_half_edge.ensures.room, c.push_vertex-v.ensures.room, c.push_reserved.ensures.items, c.push_reserved.ensures.capacity, c.move_two_items.ensures.capacity, c.move_item.ensures.capacity, c.push_defaults.ensures.capacity) refl;
+  contents = rw (c.split_half_edge-parts.ensures.room, c.push_vertex-v.ensures.room, c.push_reserved.ensures.items, c.push_reserved.ensures.capacity, c.move_two_items.ensures.capacity, c.move_item.ensures.capacity, c.push_defaults.ensures.capacity) refl;
   directed = rw (c.index-2.ensures, c.index-3.ensures, c.rev.ensures) at c.move_two_items.ensures.moves;
   undirected = rw c.index-4.ensures at c.move_item.ensures.moves;
   faces = c.push_defaults.ensures.grows;
