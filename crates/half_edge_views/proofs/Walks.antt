@@ -3,8 +3,12 @@ use Rattle.std.proofs.Common.{◌≡◌, ◌≢◌, ℕ, zero, suc, ◌+◌, ◌
 use Rattle.std.specs.List.{range_with_len}
 use Rattle.std.proofs.lemmas.Bool.{cases_eq, eq-eqb}
 use Rattle.std.proofs.lemmas.Bool.Decides.{eqb_tells}
-use Rattle.half_edge_links.specs.Mesh.{iterate}
-use Rattle.half_edge_views.specs.Rounds.{walk}
+use Rattle.std.specs.Borrow.{Bor}
+use Rattle.half_edge_links.specs.Mesh.{Mesh, iterate}
+use Rattle.half_edge_dcel.specs.Contents.{Contents}
+use Rattle.half_edge_views.specs.declared.rounds.EdgeWalk.{EdgeWalk}
+use Rattle.half_edge_views.specs.Left.{each_in}
+use Rattle.half_edge_views.specs.Rounds.{walk, walk_left}
 use Rattle.half_edge_handles.proofs.Steps.{map_range_step}
 
 -- one place of a walk, where so many are left afterwards
@@ -24,6 +28,33 @@ module _ {X : Type 0} (g : ℕ → X) (f : ℕ → ℕ) (stop k h k' h' : ℕ) (
   -- the rest of a walk is shorter
   pub length_walk_step : length (map g (walk f stop k' h')) < length (map g (walk f stop k h))
   length_walk_step = rw map_walk_step (omega arith)
+
+module _ {V D U F : Type 0} (f : Mesh → ℕ → ℕ) (w : EdgeWalk V D U F) where
+  -- what is left of a walk, by the mesh, the first edge, the number and the edge that it has
+  pub walk_left_is : (d : Bor (Contents V D U F)) (first n h : ℕ) → w.dcel ≡ d → w.first ≡ first → w.left ≡ n → w.next ≡ h
+      → walk_left f w ≡ each_in d (walk (f d.now.mesh) first n h)
+  walk_left_is d first n h mesh start left next =
+      ap (λ (x : Bor (Contents V D U F)). each_in x (walk (f x.now.mesh) w.first w.left w.next)) mesh
+      ∙ ap (λ (s : ℕ). each_in d (walk (f d.now.mesh) s w.left w.next)) start
+      ∙ ap (λ (k : ℕ). each_in d (walk (f d.now.mesh) first k w.next)) left
+      ∙ ap (λ (i : ℕ). each_in d (walk (f d.now.mesh) first n i)) next
+
+  -- nothing is left of a walk over no edges
+  pub none_left : w.left ≡ 0 → walk_left f w ≡ []
+  none_left left = ap (λ (k : ℕ). each_in w.dcel (walk (f w.dcel.now.mesh) w.first k w.next)) left
+
+module _ {V D U F : Type 0} (f : Mesh → ℕ → ℕ) (old new : EdgeWalk V D U F) (h : ℕ) (some : 0 < old.left)
+    (dcel : new.dcel ≡ old.dcel) (first : new.first ≡ old.first) (next : new.next ≡ h)
+    (left : new.left ≡ (if h == old.first then 0 else old.left - 1)) (after : h ≡ f old.dcel.now.mesh old.next) where
+  -- a walk that goes on gives the edge where it was, and then what is left of it
+  pub walk_goes_on : walk_left f old ≡ (old.dcel, old.next) ∷ walk_left f new
+  walk_goes_on =
+      rw (walk_left_is f new old.dcel old.first new.left h dcel first refl next)
+      (map_walk_step (λ i. (old.dcel, i)) (f old.dcel.now.mesh) old.first old.left old.next new.left h some after left)
+
+  -- less is left then
+  pub less_is_left : length (walk_left f new) < length (walk_left f old)
+  less_is_left = rw walk_goes_on (omega arith)
 
 not_equal : (a b : ℕ) → a ≢ b → a == b ≡ false
 not_equal a b apart = elim (eqb_tells a b) [ inl q ↦ absurd (apart q.1) | inr q ↦ q.0 ]

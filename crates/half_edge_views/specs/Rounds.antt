@@ -9,6 +9,7 @@ use Rattle.half_edge_links.specs.Round.{IsRound}
 use Rattle.half_edge_dcel.specs.Contents.{Contents}
 use Rattle.half_edge_views.specs.Left.{each_in}
 use Rattle.half_edge_views.specs.declared.rounds.CircularIterator.{CircularIterator}
+use Rattle.half_edge_views.specs.declared.rounds.EdgeWalk.{EdgeWalk}
 use Rattle.half_edge_views.specs.declared.rounds.HullIterator.{HullIterator}
 
 -- the places of a walk from h on that ends before it is at `stop`, or after so many places
@@ -16,13 +17,17 @@ abbrev pub walk : (ℕ → ℕ) → ℕ → ℕ → ℕ → List ℕ
 walk f stop zero h = []
 walk f stop (suc k) h = h ∷ (if f h == stop then [] else walk f stop k (f h))
 
+-- the edges that a walk has still to come to, from each to the one that f gives
+abbrev pub walk_left : {V D U F : Type 0} → (Mesh → ℕ → ℕ) → EdgeWalk V D U F → List (Bor (Contents V D U F) × ℕ)
+walk_left f it = each_in it.dcel (walk (f it.dcel.now.mesh) it.first it.left it.next)
+
 -- the edges of a vertex that an iterator has still to give, against the clock
 abbrev pub out_edges_left : {V D U F : Type 0} → CircularIterator V D U F → List (Bor (Contents V D U F) × ℕ)
-out_edges_left it = each_in it.dcel (walk (turn it.dcel.now.mesh) it.first it.left it.next)
+out_edges_left it = walk_left turn it.walk
 
 -- the outer edges that an iterator has still to give, along the outer loop
 abbrev pub hull_left : {V D U F : Type 0} → HullIterator V D U F → List (Bor (Contents V D U F) × ℕ)
-hull_left it = each_in it.dcel (walk (next it.dcel.now.mesh) it.first it.left it.next)
+hull_left it = walk_left next it.walk
 
 -- the edges that start at vertex v, against the clock, each once
 pub record GivesRound {V D U F : Type 0} (dcel : Bor (Contents V D U F)) (v : ℕ) (given : List (Bor (Contents V D U F) × ℕ)) : Type 0 where

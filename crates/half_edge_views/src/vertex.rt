@@ -1,12 +1,11 @@
 //! Vertices together with the mesh that they lie in.
-ghost use Rattle.std.specs.Prelude.{◌≡◌, ◌≢◌, ℕ, ◌+◌, ◌*◌, ◌/◌, ◌<◌, ◌≤◌, ◌∷◌, [], length};
-ghost use Rattle.std.specs.Prelude.{slice_get, Some, ⊤, All, map, IsNone, IsSome, IfSome, IsTrue};
-ghost use Rattle.std.specs.Prelude.{◌↔◌};
-ghost use Rattle.half_edge_links.specs.Mesh.{origin, next, prev, face, rev, face_edge, out_edge};
+ghost use Rattle.std.specs.Prelude.{◌≡◌, ◌<◌, ◌↔◌, length, slice_get, Some, ⊤};
+ghost use Rattle.std.specs.Prelude.{IsNone, IfSome};
+ghost use Rattle.half_edge_links.specs.Mesh.{out_edge};
 ghost use Rattle.half_edge_dcel.specs.Contents.{IsMeshWithData};
 
 use crate::edge::DirectedEdgeHandle;
-use crate::rounds::CircularIterator;
+use crate::rounds::{CircularIterator, EdgeWalk};
 use half_edge_dcel::Dcel;
 use half_edge_handles::FixedVertexHandle;
 use std::alloc::AllocError;
@@ -67,17 +66,11 @@ impl<'a, V, DE, UE, F> VertexHandle<'a, V, DE, UE, F> {
     {
         if let Some(first) = self.dcel.out_edge(self.index) {
             return CircularIterator {
-                dcel: self.dcel,
-                first,
-                next: first,
-                left: self.dcel.num_directed_edges() as u32,
+                walk: EdgeWalk::from(self.dcel, first),
             };
         }
         CircularIterator {
-            dcel: self.dcel,
-            first: 0,
-            next: 0,
-            left: 0,
+            walk: EdgeWalk::over_none(self.dcel),
         }
     }
 }

@@ -16,7 +16,7 @@ use crate::iterators::{
     DirectedEdgeIterator, FaceIterator, UndirectedEdgeIterator, VertexIterator,
 };
 use crate::neighbors::edge_to;
-use crate::rounds::HullIterator;
+use crate::rounds::{EdgeWalk, HullIterator};
 use crate::vertex::VertexHandle;
 use half_edge_dcel::{
     Dcel, FixedDirectedEdgeHandle, FixedFaceHandle, FixedUndirectedEdgeHandle, FixedVertexHandle,
@@ -220,17 +220,11 @@ impl<V, DE, UE, F> MeshViews<V, DE, UE, F> for Dcel<V, DE, UE, F> {
     {
         if let Some(first) = self.outer_edge() {
             return HullIterator {
-                dcel: self,
-                first,
-                next: first,
-                left: self.num_directed_edges() as u32,
+                walk: EdgeWalk::from(self, first),
             };
         }
         HullIterator {
-            dcel: self,
-            first: 0,
-            next: 0,
-            left: 0,
+            walk: EdgeWalk::over_none(self),
         }
     }
 }

@@ -1,13 +1,19 @@
-use Rattle.std.proofs.Common.{◌<◌, arith}
-use Rattle.half_edge_views.proofs.Walks.{map_walk_step, length_walk_step}
+use Rattle.half_edge_links.specs.Peel.{turn}
+use Rattle.half_edge_views.proofs.Walks.{walk_goes_on, less_is_left}
 use Rattle.half_edge_views.proofs.rounds.CircularIteratorIterator.next.Goals as goal
 
 pub returns-clause-steps : goal.returns-clause-steps
 returns-clause-steps g c =
-    let some : 0 < c.args.self.now.left = omega arith in
-    map_walk_step _ _ _ _ _ _ _ some c.ccw-after.ensures.index c.left_after-self.ensures
+    let at = c.in_ok-edge.ensures in
+    let went = c.go_on.ensures in
+    let after = rw (at.dcel, at.index) at c.ccw-after.ensures.index in
+    rw (at.dcel, at.index)
+    (walk_goes_on turn c.args.self.now.walk c.go_on.new.self _ at.some went.dcel went.first went.next went.left after)
 
 pub returns-clause-goes : goal.returns-clause-goes
 returns-clause-goes g c =
-    let some : 0 < c.args.self.now.left = omega arith in
-    record { on = λ _. (tt, tt, length_walk_step _ _ _ _ _ _ _ some c.ccw-after.ensures.index c.left_after-self.ensures); keeps = tt; rests = λ _. tt }
+    let at = c.in_ok-edge.ensures in
+    let went = c.go_on.ensures in
+    let after = rw (at.dcel, at.index) at c.ccw-after.ensures.index in
+    let less = less_is_left turn c.args.self.now.walk c.go_on.new.self _ at.some went.dcel went.first went.next went.left after in
+    record { on = λ _. (tt, tt, less); keeps = tt; rests = λ _. tt }

@@ -1,10 +1,25 @@
-use Rattle.std.proofs.Common.{sym}
+use Rattle.std.proofs.Common.{sym, ◌∙◌, subst}
+use Rattle.half_edge_links.specs.Peel.{turn}
+use Rattle.half_edge_views.specs.Rounds.{GivesRound}
 use Rattle.half_edge_views.proofs.Ranges.{out_edge-within}
 use Rattle.half_edge_views.proofs.Loops.{gives_round}
+use Rattle.half_edge_views.proofs.Walks.{walk_left_is, none_left}
 use Rattle.half_edge_views.proofs.vertex.VertexHandle.out_edges.Goals as goal
 
-pub invariant_of-result : goal.invariant_of-result
-invariant_of-result g c = record { in_range = λ _. out_edge-within c.args.self.now.dcel.now _ _ c.in-Some.ensures.whole (sym c.in-Some.ensures.value) }
+pub from-requires : goal.from-requires
+from-requires g c = out_edge-within c.args.self.now.dcel.now _ _ c.in-Some.ensures.whole (sym c.in-Some.ensures.value)
 
 pub returns-in-Some : goal.returns-in-Some
-returns-in-Some g c = rw c.num_directed_edges.ensures.value (gives_round c.args.self.now.dcel _ _ c.in-Some.ensures.whole (sym c.in-Some.ensures.value))
+returns-in-Some g c =
+    let d = c.args.self.now.dcel in
+    let made = c.from.ensures in
+    subst (GivesRound d c.args.self.now.index)
+    (sym (walk_left_is turn c.from.result d _ _ _ made.dcel made.first made.left made.next))
+    (gives_round d _ _ c.in-Some.ensures.whole (sym c.in-Some.ensures.value))
+
+pub returns : goal.returns
+returns g c =
+    record {
+      alone = λ _. none_left turn c.over_none.result c.over_none.ensures.left;
+      round = λ first is. let e = c.in_default.ensures.value ∙ is in absurd (cc);
+    }
