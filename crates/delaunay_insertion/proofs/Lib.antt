@@ -7,6 +7,7 @@ pub mod MadeFaces
 pub mod DataGrowing
 pub mod EdgeLists
 pub mod NewVertex
+pub mod Positions
 pub mod MarkedEdges
 pub mod EdgeSplits
 pub mod SplitConstraints

@@ -1,9 +1,10 @@
 -- What a mesh is to be where a vertex is appended, and what the vertex makes of it.
-use Rattle.std.specs.Prelude.{◌≡◌, ◌++◌, ◌∷◌, [], ℕ, length, map}
+use Rattle.std.specs.Prelude.{◌≡◌, ◌<◌, ◌++◌, ◌∷◌, [], ℕ, length, map}
 use Rattle.plane.specs.Fraction.{Point}
 use Rattle.plane.specs.Tests.{InRange}
 use Rattle.mesh_embedding.specs.Drawn.{faces_of, outer_of}
 use Rattle.delaunay_insertion.specs.Data.{GrowsAround}
+use Rattle.delaunay_legalization.specs.Parts.{IsWithinEdge}
 use Rattle.delaunay_legalization.specs.Shape.{IsTriangulated}
 use Rattle.delaunay_legalization.specs.Star.{MakesFacesAt}
 use Rattle.delaunay_legalization.specs.State.{State}
@@ -12,6 +13,12 @@ use Rattle.delaunay_legalization.specs.State.{State}
 pub record CanTake {V D U F : Type 0} (at : V → Point) (value : V) (s : State V D U F) : Type 0 where
   pub kept : IsTriangulated at s
   pub in_range : InRange (at value)
+
+-- such a mesh and value, whose position is strictly within this edge
+pub record CanSplit {V D U F : Type 0} (at : V → Point) (value : V) (s : State V D U F) (edge : ℕ) : Type 0 where
+  pub takes : CanTake at value s
+  pub within : edge < length s.directed
+  pub on_edge : IsWithinEdge (map at s.vertices) s.mesh (at value) edge
 
 -- the value is the new last vertex of a mesh that is triangulated again. Data stay but of what the value lies in, and each
 -- face that came has the vertex as a corner, opposite what was a side of a face or an outer edge

@@ -1,11 +1,12 @@
 //! A new vertex inside a face or within an edge.
-ghost use Rattle.std.specs.Prelude.{◌≡◌, ◌+◌, ◌*◌, ◌/◌, ◌<◌, ◌≤◌, length, map};
+ghost use Rattle.std.specs.Prelude.{◌+◌, ◌*◌, ◌/◌, ◌<◌, ◌≤◌, length, map};
+ghost use Rattle.half_edge_mesh.specs.Grow.{IsHalfSplittable};
 ghost use Rattle.half_edge_mesh.specs.Mesh.{rev, face, face_edge};
 ghost use Rattle.half_edge_mesh.specs.Room.{HasRoomFor};
 ghost use Rattle.half_edge_mesh.specs.Contents.{HasRoom, edges};
 ghost use Rattle.delaunay_insertion.specs.Constraints.{SplitsConstraints};
 ghost use Rattle.delaunay_insertion.specs.Edges.{AddsOnly, SplitsAt};
-ghost use Rattle.delaunay_insertion.specs.Growth.{CanTake, TakesVertex};
+ghost use Rattle.delaunay_insertion.specs.Growth.{CanSplit, CanTake, TakesVertex};
 ghost use Rattle.delaunay_legalization.specs.Parts.{IsInsideFaceOf, IsWithinEdge};
 ghost use Rattle.delaunay_legalization.specs.State.{state_of};
 
@@ -43,12 +44,9 @@ fn split_inner_edge<V: HasPosition, DE: Default, UE: Default, F: Default>(
     edge: FixedDirectedEdgeHandle,
     value: V,
 ) -> (FixedVertexHandle, FixedUndirectedEdgeHandle)
-    requires can { CanTake V.place value (state_of dcel.old) }
-    requires within { edge < length dcel.old.directed }
+    requires can { CanSplit V.place value (state_of dcel.old) edge }
     requires inner { 0 < face dcel.old.mesh edge }
     requires twin_inner { 0 < face dcel.old.mesh (rev edge) }
-    requires on_edge { IsWithinEdge (map V.place dcel.old.vertices) dcel.old.mesh (V.place value)
-        edge }
     requires room { HasRoom dcel.old 1 3 2 }
     ensures takes { TakesVertex V.place value (state_of dcel.old) (state_of dcel.new) result.0 }
     ensures edges { SplitsAt UE.is_default (edges dcel.old) (edges dcel.new) (edge / 2) result.0
@@ -66,12 +64,8 @@ fn split_hull_edge<V: HasPosition, DE: Default, UE: Default, F: Default>(
     edge: FixedDirectedEdgeHandle,
     value: V,
 ) -> (FixedVertexHandle, FixedUndirectedEdgeHandle)
-    requires can { CanTake V.place value (state_of dcel.old) }
-    requires within { edge < length dcel.old.directed }
-    requires inner { 0 < face dcel.old.mesh edge }
-    requires outer { face dcel.old.mesh (rev edge) ≡ 0 }
-    requires on_edge { IsWithinEdge (map V.place dcel.old.vertices) dcel.old.mesh (V.place value)
-        edge }
+    requires can { CanSplit V.place value (state_of dcel.old) edge }
+    requires half { IsHalfSplittable dcel.old.mesh edge }
     requires room { HasRoom dcel.old 1 2 1 }
     ensures takes { TakesVertex V.place value (state_of dcel.old) (state_of dcel.new) result.0 }
     ensures edges { SplitsAt UE.is_default (edges dcel.old) (edges dcel.new) (edge / 2) result.0
@@ -89,10 +83,7 @@ fn split_at<V: HasPosition, DE: Default, UE: Default, F: Default>(
     edge: FixedDirectedEdgeHandle,
     value: V,
 ) -> (FixedVertexHandle, FixedUndirectedEdgeHandle)
-    requires can { CanTake V.place value (state_of dcel.old) }
-    requires within { edge < length dcel.old.directed }
-    requires on_edge { IsWithinEdge (map V.place dcel.old.vertices) dcel.old.mesh (V.place value)
-        edge }
+    requires can { CanSplit V.place value (state_of dcel.old) edge }
     requires room { HasRoomFor dcel.old.room (length dcel.old.vertices + 1)
         (3 * (length dcel.old.vertices + 1)) (2 * (length dcel.old.vertices + 1)) }
     ensures takes { TakesVertex V.place value (state_of dcel.old) (state_of dcel.new) result.0 }

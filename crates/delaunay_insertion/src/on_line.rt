@@ -6,8 +6,8 @@ ghost use Rattle.plane.specs.Fraction.{whole as fraction};
 ghost use Rattle.plane.specs.Location.{IsPast};
 ghost use Rattle.plane_tiling.specs.Local.{alone};
 ghost use Rattle.delaunay_insertion.specs.Edges.{AddsOnly, SplitsAt};
-ghost use Rattle.delaunay_insertion.specs.Growth.{CanTake, TakesVertex};
-ghost use Rattle.delaunay_legalization.specs.Parts.{IsApart, IsWithinEdge};
+ghost use Rattle.delaunay_insertion.specs.Growth.{CanSplit, CanTake, TakesVertex};
+ghost use Rattle.delaunay_legalization.specs.Parts.{IsApart};
 ghost use Rattle.delaunay_legalization.specs.State.{state_of};
 
 use delaunay_core::point::HasPosition;
@@ -78,11 +78,8 @@ pub(crate) fn split_line_edge<V: HasPosition, DE: Default, UE: Default, F>(
     edge: FixedDirectedEdgeHandle,
     value: V,
 ) -> (FixedVertexHandle, FixedUndirectedEdgeHandle)
-    requires can { CanTake V.place value (state_of dcel.old) }
+    requires can { CanSplit V.place value (state_of dcel.old) edge }
     requires one_face { length dcel.old.faces ≡ 0 }
-    requires within { edge < length dcel.old.directed }
-    requires on_edge { IsWithinEdge (map V.place dcel.old.vertices) dcel.old.mesh (V.place value)
-        edge }
     requires room { HasRoom dcel.old 1 1 0 }
     ensures takes { TakesVertex V.place value (state_of dcel.old) (state_of dcel.new) result.0 }
     ensures edges { SplitsAt UE.is_default (edges dcel.old) (edges dcel.new) (edge / 2) result.0

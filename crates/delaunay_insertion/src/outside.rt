@@ -7,27 +7,36 @@ ghost use Rattle.half_edge_mesh.specs.Contents.{IsMeshWithData, edges};
 ghost use Rattle.plane.specs.Fraction.{whole as fraction};
 ghost use Rattle.plane.specs.Side.{TurnsLeft};
 ghost use Rattle.plane.specs.Pairs.{place};
-ghost use Rattle.delaunay_core.specs.Place.{place_of};
 ghost use Rattle.delaunay_insertion.specs.Edges.{AddsOnly};
 ghost use Rattle.delaunay_insertion.specs.Growth.{CanTake, TakesVertex};
 ghost use Rattle.delaunay_insertion.specs.Joining.{Sees};
-ghost use Rattle.delaunay_legalization.specs.Known.{point_at};
 ghost use Rattle.delaunay_legalization.specs.State.{state_of};
 
 use delaunay_core::math::PlaneTests;
-use delaunay_core::point::{HasPosition, Point2};
+use delaunay_core::point::HasPosition;
 use delaunay_legalization::{start_of, turns_left};
 use half_edge_mesh::{Dcel, FixedDirectedEdgeHandle, FixedVertexHandle, MeshViews};
 
-// The position of a vertex.
-fn position_of<V: HasPosition, DE, UE, F>(
+// The edge after an edge in its loop.
+fn edge_after<V, DE, UE, F>(
     dcel: &Dcel<V, DE, UE, F>,
-    vertex: FixedVertexHandle,
-) -> Point2<V::Scalar>
-    requires { vertex < length dcel.now.vertices }
-    ensures { place_of V.Scalar.whole result ≡ point_at (map V.place dcel.now.vertices) vertex }
+    edge: FixedDirectedEdgeHandle,
+) -> FixedDirectedEdgeHandle
+    requires { edge < length dcel.now.directed }
+    ensures { (result ≡ next dcel.now.mesh edge) × (result < length dcel.now.directed) }
 {
-    dcel.vertex_data(vertex).position()
+    dcel.directed_edge(edge).next().fix()
+}
+
+// The edge before an edge in its loop.
+fn edge_before<V, DE, UE, F>(
+    dcel: &Dcel<V, DE, UE, F>,
+    edge: FixedDirectedEdgeHandle,
+) -> FixedDirectedEdgeHandle
+    requires { edge < length dcel.now.directed }
+    ensures { (result ≡ prev dcel.now.mesh edge) × (result < length dcel.now.directed) }
+{
+    dcel.directed_edge(edge).prev().fix()
 }
 
 // Whether an edge has a vertex strictly on its left.
@@ -44,12 +53,12 @@ fn is_seen<V: HasPosition, DE, UE, F, P: PlaneTests<V::Scalar>>(
 {
     let from = start_of(dcel, edge);
     let to = start_of(dcel, dcel.directed_edge(edge).rev().fix());
-    let point = position_of(dcel, vertex);
+    let point = dcel.vertex_data(vertex).position();
     turns_left(from, to, point, tests)
 }
 
-// The edge after an edge in its loop, where it has a vertex strictly on its left.
-fn seen_after<V: HasPosition, DE, UE, F, P: PlaneTests<V::Scalar>>(
+// An edge, where it has a vertex strictly on its left.
+fn if_seen<V: HasPosition, DE, UE, F, P: PlaneTests<V::Scalar>>(
     dcel: &Dcel<V, DE, UE, F>,
     edge: FixedDirectedEdgeHandle,
     vertex: FixedVertexHandle,
@@ -59,43 +68,15 @@ fn seen_after<V: HasPosition, DE, UE, F, P: PlaneTests<V::Scalar>>(
     requires vertex { vertex < length dcel.now.vertices }
     requires sites { All (P.sites tests.now) (map V.place dcel.now.vertices) }
     ensures whole { IsMeshWithData dcel.now }
-    ensures is { IfSome result (λ e. e ≡ next dcel.now.mesh edge) }
+    ensures is { IfSome result (λ e. e ≡ edge) }
     ensures some { IfSome result (λ e. Sees (map V.place dcel.now.vertices) dcel.now.mesh vertex
         e) }
     ensures none { IfNone result (¬ Sees (map V.place dcel.now.vertices) dcel.now.mesh vertex
-        (next dcel.now.mesh edge)) }
+        edge) }
 {
     dcel.recall_invariant();
-    let after = dcel.directed_edge(edge).next().fix();
-    if is_seen(dcel, after, vertex, tests) {
-        Some(after)
-    } else {
-        None
-    }
-}
-
-// The edge before an edge in its loop, where it has a vertex strictly on its left.
-fn seen_before<V: HasPosition, DE, UE, F, P: PlaneTests<V::Scalar>>(
-    dcel: &Dcel<V, DE, UE, F>,
-    edge: FixedDirectedEdgeHandle,
-    vertex: FixedVertexHandle,
-    tests: &P,
-) -> Option<FixedDirectedEdgeHandle>
-    requires within { edge < length dcel.now.directed }
-    requires vertex { vertex < length dcel.now.vertices }
-    requires sites { All (P.sites tests.now) (map V.place dcel.now.vertices) }
-    ensures whole { IsMeshWithData dcel.now }
-    ensures is { IfSome result (λ e. (e ≡ prev dcel.now.mesh edge) ×
-        (e < length dcel.now.directed)) }
-    ensures some { IfSome result (λ e. Sees (map V.place dcel.now.vertices) dcel.now.mesh vertex
-        e) }
-    ensures none { IfNone result (¬ Sees (map V.place dcel.now.vertices) dcel.now.mesh vertex
-        (prev dcel.now.mesh edge)) }
-{
-    dcel.recall_invariant();
-    let before = dcel.directed_edge(edge).prev().fix();
-    if is_seen(dcel, before, vertex, tests) {
-        Some(before)
+    if is_seen(dcel, edge, vertex, tests) {
+        Some(edge)
     } else {
         None
     }
@@ -126,11 +107,11 @@ pub fn join_outside<V: HasPosition, DE: Default, UE: Default, F: Default, P: Pla
     let edges = dcel.num_directed_edges() as u32;
     let mut ahead = FixedDirectedEdgeHandle::from_index(edges - 3);
     let mut behind = FixedDirectedEdgeHandle::from_index(edges - 1);
-    while let Some(_after) = seen_after(dcel, ahead, vertex, tests) {
+    while let Some(_after) = if_seen(dcel, edge_after(dcel, ahead), vertex, tests) {
         ahead = dcel.create_single_face_between_edge_and_next(ahead);
         dcel.recall_invariant();
     }
-    while let Some(before) = seen_before(dcel, behind, vertex, tests) {
+    while let Some(before) = if_seen(dcel, edge_before(dcel, behind), vertex, tests) {
         behind = dcel.create_single_face_between_edge_and_next(before);
         dcel.recall_invariant();
     }

@@ -7,6 +7,9 @@ use Rattle.delaunay_insertion.proofs.MarkedEdges.{own_ends}
 use Rattle.delaunay_insertion.proofs.SplitConstraints.{whole_mesh, split_with_mark, split_without_mark}
 use Rattle.delaunay_insertion.proofs.inside.insert_within_edge.Goals as goal
 
+pub split_at-vertex-requires-clause-can : goal.split_at-vertex-requires-clause-can
+split_at-vertex-requires-clause-can g c = record { takes = c.requires.can; within = c.requires.within; on_edge = c.requires.on_edge }
+
 pub make_constraint-requires : goal.make_constraint-requires
 make_constraint-requires g c =
     let old = c.args.dcel.now in

@@ -1,4 +1,4 @@
-use Rattle.std.proofs.Common.{map, ◌≡◌, ◌+◌, ℕ, length, ap, sym, subst, arith}
+use Rattle.std.proofs.Common.{map, ◌≡◌, ◌∙◌, ◌+◌, ℕ, length, ap, sym, subst, arith}
 use Rattle.std.proofs.lemmas.List.{length-map}
 use Rattle.half_edge_mesh.specs.Mesh.{next}
 use Rattle.half_edge_dcel.proofs.Fits.{length-grown}
@@ -29,13 +29,13 @@ loop-after-init g c =
       adds_only _ (edges old) (edges new) _ done.edges,
     )
 
-pub seen_after-requires-clause-sites : goal.seen_after-requires-clause-sites
-seen_after-requires-clause-sites g c =
+pub if_seen-requires-clause-sites : goal.if_seen-requires-clause-sites
+if_seen-requires-clause-sites g c =
     sites_grown g.V.HasPosition.place c.args.dcel.now c.args.value (g.P.PlaneTests.sites c.args.tests.now) c.loop-after.dcel c.loop-after.invariant.0.vertices c.requires.sites.0 c.requires.sites.1
 
 pub create_single_face_between_edge_and_next-ahead-requires-clause-apart : goal.create_single_face_between_edge_and_next-ahead-requires-clause-apart
 create_single_face_between_edge_and_next-ahead-requires-clause-apart g c =
-    ahead_apart g.V.HasPosition.place c.args.dcel.now c.args.value c.loop-after.dcel c.loop-after.ahead c.from_index-behind.result c.create_new_face_adjacent_to_edge-vertex.result c.in-Some._after c.loop-after.invariant.0 c.create_new_face_adjacent_to_edge-vertex.ensures.vertex c.in-Some.ensures.is c.in-Some.ensures.some
+    ahead_apart g.V.HasPosition.place c.args.dcel.now c.args.value c.loop-after.dcel c.loop-after.ahead c.from_index-behind.result c.create_new_face_adjacent_to_edge-vertex.result c.in-Some._after c.loop-after.invariant.0 c.create_new_face_adjacent_to_edge-vertex.ensures.vertex (c.in-Some.ensures.is ∙ c.edge_after.ensures.0) c.in-Some.ensures.some
 
 pub create_single_face_between_edge_and_next-ahead-requires-clause-room : goal.create_single_face_between_edge_and_next-ahead-requires-clause-room
 create_single_face_between_edge_and_next-ahead-requires-clause-room g c =
@@ -46,7 +46,7 @@ loop-after-smaller g c =
     let now = c.loop-after.dcel in
     let new = c.create_single_face_between_edge_and_next-ahead.new.self in
     let done = c.create_single_face_between_edge_and_next-ahead.ensures in
-    (step_ahead g.V.HasPosition.place c.args.dcel.now c.args.value now c.loop-after.ahead c.from_index-behind.result c.create_new_face_adjacent_to_edge-vertex.result c.in-Some._after c.loop-after.invariant.0 c.create_new_face_adjacent_to_edge-vertex.ensures.vertex c.in-Some.ensures.is c.in-Some.ensures.some new c.in-Some.ensures.whole done.data.contents
+    (step_ahead g.V.HasPosition.place c.args.dcel.now c.args.value now c.loop-after.ahead c.from_index-behind.result c.create_new_face_adjacent_to_edge-vertex.result c.in-Some._after c.loop-after.invariant.0 c.create_new_face_adjacent_to_edge-vertex.ensures.vertex (c.in-Some.ensures.is ∙ c.edge_after.ensures.0) c.in-Some.ensures.some new c.in-Some.ensures.whole done.data.contents
     (length-grown _ now.directed new.directed 2 done.data.directed) (length-grown _ now.undirected new.undirected 1 done.data.undirected) (length-grown _ now.faces new.faces 1 done.data.faces) done.links.triangles done.links.outer).1
 
 pub loop-after-preserved : goal.loop-after-preserved
@@ -54,7 +54,7 @@ loop-after-preserved g c =
     let now = c.loop-after.dcel in
     let new = c.create_single_face_between_edge_and_next-ahead.new.self in
     let done = c.create_single_face_between_edge_and_next-ahead.ensures in (
-      subst (λ k. IsJoining g.V.HasPosition.place c.args.dcel.now new c.args.value k c.from_index-behind.result) (sym done.edge) (step_ahead g.V.HasPosition.place c.args.dcel.now c.args.value now c.loop-after.ahead c.from_index-behind.result c.create_new_face_adjacent_to_edge-vertex.result c.in-Some._after c.loop-after.invariant.0 c.create_new_face_adjacent_to_edge-vertex.ensures.vertex c.in-Some.ensures.is c.in-Some.ensures.some new c.in-Some.ensures.whole done.data.contents
+      subst (λ k. IsJoining g.V.HasPosition.place c.args.dcel.now new c.args.value k c.from_index-behind.result) (sym done.edge) (step_ahead g.V.HasPosition.place c.args.dcel.now c.args.value now c.loop-after.ahead c.from_index-behind.result c.create_new_face_adjacent_to_edge-vertex.result c.in-Some._after c.loop-after.invariant.0 c.create_new_face_adjacent_to_edge-vertex.ensures.vertex (c.in-Some.ensures.is ∙ c.edge_after.ensures.0) c.in-Some.ensures.some new c.in-Some.ensures.whole done.data.contents
           (length-grown _ now.directed new.directed 2 done.data.directed) (length-grown _ now.undirected new.undirected 1 done.data.undirected) (length-grown _ now.faces new.faces 1 done.data.faces) done.links.triangles done.links.outer).0,
       grows_on (map g.V.HasPosition.place c.args.dcel.now.vertices) (g.V.HasPosition.place c.args.value) (state_of c.args.dcel.now) (state_of now) (state_of new) c.loop-after.invariant.1
           (grows_by_face now new c.in-Some.ensures.whole.valid c.in-Some.ensures.whole.fits c.recall_invariant.ensures.whole (map g.V.HasPosition.place c.args.dcel.now.vertices) (g.V.HasPosition.place c.args.value) _ _ _ _ _ _ _ _ _ done.data.directed done.data.faces done.edges done.links.triangles (ap (λ d. d.outer) done.data.contents)),
@@ -66,44 +66,44 @@ loop-before-init g c = (
   record {
     ahead = c.loop-after.ahead;
     joining = c.loop-after.invariant.0;
-    unseen = unseen_as g.V.HasPosition.place c.args.dcel.now c.args.value c.loop-after.dcel c.create_new_face_adjacent_to_edge-vertex.result (next c.loop-after.dcel.mesh c.loop-after.ahead) c.loop-after.invariant.0.vertices c.create_new_face_adjacent_to_edge-vertex.ensures.vertex c.in_default.ensures.none;
+    unseen = unseen_as g.V.HasPosition.place c.args.dcel.now c.args.value c.loop-after.dcel c.create_new_face_adjacent_to_edge-vertex.result (next c.loop-after.dcel.mesh c.loop-after.ahead) c.loop-after.invariant.0.vertices c.create_new_face_adjacent_to_edge-vertex.ensures.vertex (rw c.edge_after.ensures.0 at c.in_default.ensures.none);
   },
   c.loop-after.invariant.1,
   c.loop-after.invariant.2,
 )
 
-pub seen_before-requires-clause-within : goal.seen_before-requires-clause-within
-seen_before-requires-clause-within g c =
+pub edge_before-requires : goal.edge_before-requires
+edge_before-requires g c =
     c.loop-before.invariant.0.joining.behind_in
 
-pub seen_before-requires-clause-vertex : goal.seen_before-requires-clause-vertex
-seen_before-requires-clause-vertex g c =
+pub if_seen-requires-in-loop-before-clause-vertex : goal.if_seen-requires-in-loop-before-clause-vertex
+if_seen-requires-in-loop-before-clause-vertex g c =
     let k = grown_count g.V.HasPosition.place c.args.dcel.now c.args.value c.loop-before.dcel c.loop-before.invariant.0.joining.vertices in
     let v = c.create_new_face_adjacent_to_edge-vertex.ensures.vertex in
     omega (arith, k, v)
 
-pub seen_before-requires-clause-sites : goal.seen_before-requires-clause-sites
-seen_before-requires-clause-sites g c =
+pub if_seen-requires-in-loop-before-clause-sites : goal.if_seen-requires-in-loop-before-clause-sites
+if_seen-requires-in-loop-before-clause-sites g c =
     sites_grown g.V.HasPosition.place c.args.dcel.now c.args.value (g.P.PlaneTests.sites c.args.tests.now) c.loop-before.dcel c.loop-before.invariant.0.joining.vertices c.requires.sites.0 c.requires.sites.1
 
 pub create_single_face_between_edge_and_next-behind-requires-clause-outer : goal.create_single_face_between_edge_and_next-behind-requires-clause-outer
 create_single_face_between_edge_and_next-behind-requires-clause-outer g c =
-    before_outer g.V.HasPosition.place c.args.dcel.now c.args.value c.loop-before.dcel c.loop-before.behind c.create_new_face_adjacent_to_edge-vertex.result c.in-Some-seen_before.before c.loop-before.invariant.0 c.create_new_face_adjacent_to_edge-vertex.ensures.vertex c.in-Some-seen_before.ensures.is.0 c.in-Some-seen_before.ensures.some c.in-Some-seen_before.ensures.whole
+    before_outer g.V.HasPosition.place c.args.dcel.now c.args.value c.loop-before.dcel c.loop-before.behind c.create_new_face_adjacent_to_edge-vertex.result c.in-Some-if_seen.before c.loop-before.invariant.0 c.create_new_face_adjacent_to_edge-vertex.ensures.vertex (c.in-Some-if_seen.ensures.is ∙ c.edge_before.ensures.0) c.in-Some-if_seen.ensures.some c.in-Some-if_seen.ensures.whole
 
 pub create_single_face_between_edge_and_next-behind-requires-clause-apart : goal.create_single_face_between_edge_and_next-behind-requires-clause-apart
 create_single_face_between_edge_and_next-behind-requires-clause-apart g c =
-    before_apart g.V.HasPosition.place c.args.dcel.now c.args.value c.loop-before.dcel c.loop-before.behind c.create_new_face_adjacent_to_edge-vertex.result c.in-Some-seen_before.before c.loop-before.invariant.0 c.create_new_face_adjacent_to_edge-vertex.ensures.vertex c.in-Some-seen_before.ensures.is.0 c.in-Some-seen_before.ensures.some c.in-Some-seen_before.ensures.whole
+    before_apart g.V.HasPosition.place c.args.dcel.now c.args.value c.loop-before.dcel c.loop-before.behind c.create_new_face_adjacent_to_edge-vertex.result c.in-Some-if_seen.before c.loop-before.invariant.0 c.create_new_face_adjacent_to_edge-vertex.ensures.vertex (c.in-Some-if_seen.ensures.is ∙ c.edge_before.ensures.0) c.in-Some-if_seen.ensures.some c.in-Some-if_seen.ensures.whole
 
 pub create_single_face_between_edge_and_next-behind-requires-clause-room : goal.create_single_face_between_edge_and_next-behind-requires-clause-room
 create_single_face_between_edge_and_next-behind-requires-clause-room g c =
-    room_for_face g.V.HasPosition.place c.args.dcel.now c.args.value c.loop-before.dcel c.loop-before.invariant.0.ahead c.loop-before.behind c.loop-before.invariant.0.joining c.in-Some-seen_before.ensures.whole c.requires.room
+    room_for_face g.V.HasPosition.place c.args.dcel.now c.args.value c.loop-before.dcel c.loop-before.invariant.0.ahead c.loop-before.behind c.loop-before.invariant.0.joining c.in-Some-if_seen.ensures.whole c.requires.room
 
 pub loop-before-smaller : goal.loop-before-smaller
 loop-before-smaller g c =
     let now = c.loop-before.dcel in
     let new = c.create_single_face_between_edge_and_next-behind.new.self in
     let done = c.create_single_face_between_edge_and_next-behind.ensures in
-    (step_behind g.V.HasPosition.place c.args.dcel.now c.args.value c.loop-before.dcel c.loop-before.behind c.create_new_face_adjacent_to_edge-vertex.result c.in-Some-seen_before.before c.loop-before.invariant.0 c.create_new_face_adjacent_to_edge-vertex.ensures.vertex c.in-Some-seen_before.ensures.is.0 c.in-Some-seen_before.ensures.some c.in-Some-seen_before.ensures.whole new done.data.contents
+    (step_behind g.V.HasPosition.place c.args.dcel.now c.args.value c.loop-before.dcel c.loop-before.behind c.create_new_face_adjacent_to_edge-vertex.result c.in-Some-if_seen.before c.loop-before.invariant.0 c.create_new_face_adjacent_to_edge-vertex.ensures.vertex (c.in-Some-if_seen.ensures.is ∙ c.edge_before.ensures.0) c.in-Some-if_seen.ensures.some c.in-Some-if_seen.ensures.whole new done.data.contents
     (length-grown _ now.directed new.directed 2 done.data.directed) (length-grown _ now.undirected new.undirected 1 done.data.undirected) (length-grown _ now.faces new.faces 1 done.data.faces) done.links.triangles done.links.outer done.links.mesh).1
 
 pub loop-before-preserved : goal.loop-before-preserved
@@ -111,18 +111,18 @@ loop-before-preserved g c =
     let now = c.loop-before.dcel in
     let new = c.create_single_face_between_edge_and_next-behind.new.self in
     let done = c.create_single_face_between_edge_and_next-behind.ensures in (
-      subst (λ k. IsJoiningBack g.V.HasPosition.place c.args.dcel.now new c.args.value k) (sym done.edge) (step_behind g.V.HasPosition.place c.args.dcel.now c.args.value c.loop-before.dcel c.loop-before.behind c.create_new_face_adjacent_to_edge-vertex.result c.in-Some-seen_before.before c.loop-before.invariant.0 c.create_new_face_adjacent_to_edge-vertex.ensures.vertex c.in-Some-seen_before.ensures.is.0 c.in-Some-seen_before.ensures.some c.in-Some-seen_before.ensures.whole new done.data.contents
+      subst (λ k. IsJoiningBack g.V.HasPosition.place c.args.dcel.now new c.args.value k) (sym done.edge) (step_behind g.V.HasPosition.place c.args.dcel.now c.args.value c.loop-before.dcel c.loop-before.behind c.create_new_face_adjacent_to_edge-vertex.result c.in-Some-if_seen.before c.loop-before.invariant.0 c.create_new_face_adjacent_to_edge-vertex.ensures.vertex (c.in-Some-if_seen.ensures.is ∙ c.edge_before.ensures.0) c.in-Some-if_seen.ensures.some c.in-Some-if_seen.ensures.whole new done.data.contents
           (length-grown _ now.directed new.directed 2 done.data.directed) (length-grown _ now.undirected new.undirected 1 done.data.undirected) (length-grown _ now.faces new.faces 1 done.data.faces) done.links.triangles done.links.outer done.links.mesh).0,
       grows_on (map g.V.HasPosition.place c.args.dcel.now.vertices) (g.V.HasPosition.place c.args.value) (state_of c.args.dcel.now) (state_of now) (state_of new) c.loop-before.invariant.1
-          (grows_by_face now new c.in-Some-seen_before.ensures.whole.valid c.in-Some-seen_before.ensures.whole.fits c.recall_invariant-in-Some-seen_before.ensures.whole (map g.V.HasPosition.place c.args.dcel.now.vertices) (g.V.HasPosition.place c.args.value) _ _ _ _ _ _ _ _ _ done.data.directed done.data.faces done.edges done.links.triangles (ap (λ d. d.outer) done.data.contents)),
+          (grows_by_face now new c.in-Some-if_seen.ensures.whole.valid c.in-Some-if_seen.ensures.whole.fits c.recall_invariant-in-Some-if_seen.ensures.whole (map g.V.HasPosition.place c.args.dcel.now.vertices) (g.V.HasPosition.place c.args.value) _ _ _ _ _ _ _ _ _ done.data.directed done.data.faces done.edges done.links.triangles (ap (λ d. d.outer) done.data.contents)),
       adds_on _ (edges c.args.dcel.now) (edges now) (edges new) c.loop-before.invariant.2 (adds_only _ (edges now) (edges new) _ done.edges),
     )
 
-pub seen_after-requires-clause-within : goal.seen_after-requires-clause-within
-seen_after-requires-clause-within g c = c.loop-after.invariant.0.ahead_in
+pub edge_after-requires : goal.edge_after-requires
+edge_after-requires g c = c.loop-after.invariant.0.ahead_in
 
-pub seen_after-requires-clause-vertex : goal.seen_after-requires-clause-vertex
-seen_after-requires-clause-vertex g c =
+pub if_seen-requires-clause-vertex : goal.if_seen-requires-clause-vertex
+if_seen-requires-clause-vertex g c =
     let k = grown_count g.V.HasPosition.place c.args.dcel.now c.args.value c.loop-after.dcel c.loop-after.invariant.0.vertices in
     let v = c.create_new_face_adjacent_to_edge-vertex.ensures.vertex in
     omega (arith, k, v)
@@ -146,8 +146,8 @@ returns-clause-takes g c =
       vertices = c.loop-before.invariant.0.joining.vertices;
       kept =
           let j = c.loop-before.invariant.0 in
-          joining_ends g.V.HasPosition.place c.args.dcel.now c.args.value c.loop-before.dcel j.ahead c.loop-before.behind c.requires.can.kept j.joining c.in_default-seen_before.ensures.whole c.requires.can.in_range j.unseen
-          (unseen_as g.V.HasPosition.place c.args.dcel.now c.args.value c.loop-before.dcel c.create_new_face_adjacent_to_edge-vertex.result _ j.joining.vertices c.create_new_face_adjacent_to_edge-vertex.ensures.vertex c.in_default-seen_before.ensures.none);
+          joining_ends g.V.HasPosition.place c.args.dcel.now c.args.value c.loop-before.dcel j.ahead c.loop-before.behind c.requires.can.kept j.joining c.in_default-if_seen.ensures.whole c.requires.can.in_range j.unseen
+          (unseen_as g.V.HasPosition.place c.args.dcel.now c.args.value c.loop-before.dcel c.create_new_face_adjacent_to_edge-vertex.result _ j.joining.vertices c.create_new_face_adjacent_to_edge-vertex.ensures.vertex (rw c.edge_before.ensures.0 at c.in_default-if_seen.ensures.none));
       grows = c.loop-before.invariant.1;
       made =
           let old = c.args.dcel.now in
