@@ -29,9 +29,9 @@ use Rattle.delaunay_legalization.specs.Shape.{IsTriangulated}
 use Rattle.delaunay_legalization.specs.State.{state_of}
 use Rattle.delaunay_legalization.proofs.ConstraintEdges.{constraints_are_edges}
 use Rattle.delaunay_legalization.proofs.MarkedPairs.{pairs_stay, marking_joins}
-use Rattle.delaunay_paths.specs.Adding.{NoneCrosses, CanAddPath, MarksSome, AddsPiece, AddsPath}
+use Rattle.delaunay_paths.specs.Adding.{NoneCrosses, CanAddPath, MarksBetween, MarksSome, AddsPath}
 use Rattle.delaunay_paths.specs.Kept.{KeepsUncrossed}
-use Rattle.delaunay_paths.specs.Leaving.{IsWorkList, LeavesPiece, LeavesToTest, MakesEdge}
+use Rattle.delaunay_paths.specs.Leaving.{IsWorkList, LeavesToTest, MakesEdge}
 use Rattle.delaunay_paths.proofs.Marks.{marks_none, marks_one, marks_more}
 use Rattle.delaunay_paths.proofs.Walking.{in_map, of_map, placed_apart}
 
@@ -56,6 +56,25 @@ half_ends m h i j a b e f = elim (halved h) [
 ]
 
 -- ---- one piece
+-- i and j are joined by a constraint too
+abbrev pub AddsPair : List (ℕ × ℕ) → List (ℕ × ℕ) → ℕ → ℕ → Type 0
+AddsPair old new i j = (a b : ℕ) → Joins new a b ↔ (Joins old a b ⊎ IsSamePair a b i j)
+
+-- one piece became a constraint: the data of directed edges and of faces stay, and the number of edges
+pub record AddsPiece {V D U F : Type 0} (marks : U → Bool) (marked : U → U) (constraints : List U → List ℕ) (old new : Contents V D U F) (i j : ℕ) : Type 0 where
+  pub contents : new ≡ record old { mesh = new.mesh; undirected = new.undirected }
+  pub count : length new.undirected ≡ length old.undirected
+  pub marks_some : MarksSome marks marked old.undirected new.undirected
+  pub pair : AddsPair (constraints_by constraints (state_of old)) (constraints_by constraints (state_of new)) i j
+
+-- a piece became a constraint, and each edge that may fail is left to test
+pub record LeavesPiece {V D U F : Type 0} (points : List Point) (marks : U → Bool) (marked : U → U) (constraints : List U → List ℕ) (old new : Contents V D U F) (i j : ℕ) (was left : List ℕ) : Type 0 where
+  pub adds : AddsPiece marks marked constraints old new i j
+  pub mesh : IsMeshWithData new
+  pub shape : IsMesh points (faces_of new.mesh) (outer_of new.mesh)
+  pub edges : AreEdges new.mesh left
+  pub leaves : (pairs : List (ℕ × ℕ)) → AllPassBut points (faces_of old.mesh) pairs (pairs_at old.mesh was) → AllPassBut points (faces_of new.mesh) pairs (pairs_at new.mesh left)
+
 module _ {U : Type 0} (marks : U → Bool) (constraints : List U → List ℕ) (marked : (ds : List U) → constraints ds ≡ marked_edges marks ds) where
   module _ {V D F : Type 0} (at : V → Point) (old mid new : Contents V D U F) (i j e k : ℕ) (flipped : mid ≡ record old { mesh = mid.mesh }) (change : U → U) (written : HasEdgeData change mid new k) where
     abbrev entry : U
@@ -235,6 +254,20 @@ piece_leaves points marks marked_as constraints old mid new i j was left makes s
   edges = subst (λ (m : Mesh). AreEdges m left) (sym same) makes.edges;
   leaves = λ pairs passing. subst (λ (m : Mesh). AllPassBut points (faces_of m) pairs (pairs_at m left)) (sym same) (makes.leaves pairs passing);
 }
+
+-- a piece that is made an edge and gets the mark
+pub piece_made : {V D U F : Type 0} (marks : U → Bool) (constraints : List U → List ℕ) (are_marked : (ds : List U) → constraints ds ≡ marked_edges marks ds)
+    (at : V → Point) (marked_as : U → U) (old mid new : Contents V D U F) (i j : ℕ) (was left : List ℕ) → MakesEdge (map at old.vertices) old mid i j was left
+    → IsMeshWithData mid → MarksBetween marks marked_as mid new i j → NoneCrosses (map at old.vertices) (constraints_by constraints (state_of old)) i j
+    → LeavesPiece (map at old.vertices) marks marked_as constraints old new i j was left
+piece_made {V = V} {D = D} {U = U} {F = F} marks constraints are_marked at marked_as old mid new i j was left makes whole by clear =
+    piece_leaves (map at old.vertices) marks marked_as constraints old mid new i j was left makes (ap (λ (c : Contents V D U F). c.mesh) by.marks_edge.whole)
+    (piece_added marks constraints are_marked at old mid new i j by.edge (by.edge / 2) makes.contents (λ _. by.marks_edge.after) written
+    makes.kept clear marked_as by.marks_edge.mark by.marks_edge.same by.source by.target refl)
+    (piece_whole marks constraints are_marked at old mid new i j by.edge (by.edge / 2) makes.contents (λ _. by.marks_edge.after) written whole)
+  where
+    written : HasEdgeData (λ _. by.marks_edge.after) mid new (by.edge / 2)
+    written = record { value = by.marks_edge.value; was = by.marks_edge.was; whole = by.marks_edge.whole }
 
 -- where nothing has changed, no edge is left to test
 pub none_is_left : {V D U F : Type 0} (all : List Point) (old : Contents V D U F) → LeavesToTest all old old []

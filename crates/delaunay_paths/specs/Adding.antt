@@ -1,11 +1,12 @@
 -- What becomes of a triangulation where the pieces of a path between two of its vertices become constraints.
-use Rattle.std.specs.Prelude.{◌≡◌, ◌⊎◌, ◌↔◌, ℕ, ◌<◌, Bool, true, false, List, length, Some, slice_get, slice_set}
+use Rattle.std.specs.Prelude.{◌≡◌, ◌⊎◌, ℕ, ◌/◌, ◌<◌, Bool, true, false, List, length, Some, slice_get, slice_set}
 use Rattle.half_edge_mesh.specs.Contents.{Contents}
+use Rattle.half_edge_mesh.specs.Mesh.{origin, rev}
 use Rattle.plane.specs.Crossing.{Cross}
 use Rattle.plane.specs.Fraction.{Point}
-use Rattle.plane.specs.Pairs.{Joins, IsSamePair, place}
+use Rattle.plane.specs.Pairs.{Joins, place}
 use Rattle.plane.specs.Plain.{CanAdd, Adds}
-use Rattle.delaunay_legalization.specs.Constraints.{constraints_by, points_and_constraints_by}
+use Rattle.delaunay_legalization.specs.Constraints.{points_and_constraints_by}
 use Rattle.delaunay_legalization.specs.Shape.{IsTriangulated}
 use Rattle.delaunay_legalization.specs.State.{state_of}
 
@@ -23,10 +24,6 @@ pub record HasFreeWay {V D U F : Type 0} (at : V → Point) (constraints : List 
   pub to : j < length c.vertices
   pub free : CanAddPath at constraints c i j
 
--- i and j are joined by a constraint too
-abbrev pub AddsPair : List (ℕ × ℕ) → List (ℕ × ℕ) → ℕ → ℕ → Type 0
-AddsPair old new i j = (a b : ℕ) → Joins new a b ↔ (Joins old a b ⊎ IsSamePair a b i j)
-
 -- undirected edge k has the mark: its data are the old ones, or these with the mark where they had none. All else is as it was
 pub record MarksEdge {V D U F : Type 0} (marks : U → Bool) (marked : U → U) (old new : Contents V D U F) (k : ℕ) : Type 0 where
   pub value : U
@@ -40,14 +37,14 @@ pub record MarksEdge {V D U F : Type 0} (marks : U → Bool) (marked : U → U) 
 abbrev pub MarksSome : {U : Type 0} → (U → Bool) → (U → U) → List U → List U → Type 0
 MarksSome {U = U} marks marked old new = (k : ℕ) (d : U) → slice_get old k ≡ Some d → (slice_get new k ≡ Some d) ⊎ ((marks d ≡ false) × (slice_get new k ≡ Some (marked d)))
 
--- one piece became a constraint: the data of directed edges and of faces stay, and the number of edges
-pub record AddsPiece {V D U F : Type 0} (marks : U → Bool) (marked : U → U) (constraints : List U → List ℕ) (old new : Contents V D U F) (i j : ℕ) : Type 0 where
-  pub contents : new ≡ record old { mesh = new.mesh; undirected = new.undirected }
-  pub count : length new.undirected ≡ length old.undirected
-  pub marks_some : MarksSome marks marked old.undirected new.undirected
-  pub pair : AddsPair (constraints_by constraints (state_of old)) (constraints_by constraints (state_of new)) i j
+-- the edge that joins i and j has it
+pub record MarksBetween {V D U F : Type 0} (marks : U → Bool) (marked : U → U) (old new : Contents V D U F) (i j : ℕ) : Type 0 where
+  pub edge : ℕ
+  pub source : origin old.mesh edge ≡ i
+  pub target : origin old.mesh (rev edge) ≡ j
+  pub marks_edge : MarksEdge marks marked old new (edge / 2)
 
--- all pieces of the path from i to j did
+-- the pieces of the path from i to j became constraints
 pub record AddsPath {V D U F : Type 0} (at : V → Point) (marks : U → Bool) (marked : U → U) (constraints : List U → List ℕ) (old new : Contents V D U F) (i j : ℕ) : Type 0 where
   pub contents : new ≡ record old { mesh = new.mesh; undirected = new.undirected }
   pub marks_some : MarksSome marks marked old.undirected new.undirected

@@ -1,6 +1,6 @@
 -- What a path leaves to the circle test.
-use Rattle.std.specs.Prelude.{◌≡◌, ℕ, ◌<◌, ◌≤◌, Bool, List, [], length}
-use Rattle.half_edge_mesh.specs.Contents.{Contents, IsMeshWithData}
+use Rattle.std.specs.Prelude.{◌≡◌, ℕ, ◌<◌, ◌≤◌, List, [], length}
+use Rattle.half_edge_mesh.specs.Contents.{Contents}
 use Rattle.plane.specs.Crossing.{Cross}
 use Rattle.plane.specs.Fraction.{Point}
 use Rattle.plane.specs.Pairs.{place, Joins}
@@ -11,7 +11,6 @@ use Rattle.plane_tiling.specs.Local.{IsMesh}
 use Rattle.plane_segments.specs.Measure.{crossing_sum}
 use Rattle.mesh_embedding.specs.Drawn.{drawn, faces_of, outer_of}
 use Rattle.mesh_embedding.specs.Legal.{AreEdges, pairs_at}
-use Rattle.delaunay_paths.specs.Adding.{AddsPiece}
 use Rattle.delaunay_paths.specs.Kept.{KeepsUncrossed}
 
 -- each edge between two faces passes, but perhaps constraints, those that are left to test, and those that cross the segment from i to j
@@ -41,14 +40,6 @@ pub record MakesEdge {V D U F : Type 0} (points : List Point) (old new : Content
   pub kept : KeepsUncrossed points old.mesh new.mesh i j
   pub edges : AreEdges new.mesh left
   pub leaves : (constraints : List (ℕ × ℕ)) → AllPassBut points (faces_of old.mesh) constraints (pairs_at old.mesh was) → AllPassBut points (faces_of new.mesh) constraints (pairs_at new.mesh left)
-
--- a piece became a constraint, and each edge that may fail is left to test
-pub record LeavesPiece {V D U F : Type 0} (points : List Point) (marks : U → Bool) (marked : U → U) (constraints : List U → List ℕ) (old new : Contents V D U F) (i j : ℕ) (was left : List ℕ) : Type 0 where
-  pub adds : AddsPiece marks marked constraints old new i j
-  pub mesh : IsMeshWithData new
-  pub shape : IsMesh points (faces_of new.mesh) (outer_of new.mesh)
-  pub edges : AreEdges new.mesh left
-  pub leaves : (pairs : List (ℕ × ℕ)) → AllPassBut points (faces_of old.mesh) pairs (pairs_at old.mesh was) → AllPassBut points (faces_of new.mesh) pairs (pairs_at new.mesh left)
 
 -- where all passed before, only these edges are left to test
 pub record LeavesToTest {V D U F : Type 0} (points : List Point) (old new : Contents V D U F) (left : List ℕ) : Type 0 where

@@ -1,16 +1,16 @@
 //! Constraints along the path between two vertices.
 ghost use Rattle.std.specs.Prelude.{◌≡◌, ◌≢◌, ◌↔◌, ◌*◌, ◌<◌, ◌≤◌};
 ghost use Rattle.std.specs.Prelude.{true, length, map, All, IsTrue, IfNone, IfSome, vec_capacity};
+ghost use Rattle.half_edge_mesh.specs.Contents.{IsMeshWithData};
+ghost use Rattle.plane.specs.Pairs.{Joins};
 ghost use Rattle.plane_tiling.specs.Local.{IsMesh};
 ghost use Rattle.plane_segments.specs.Constraints.{AreNextOn};
-ghost use Rattle.plane_segments.specs.Path.{IsFreeOfVertices};
-ghost use Rattle.mesh_embedding.specs.Drawn.{drawn, faces_of, outer_of};
-ghost use Rattle.delaunay_legalization.specs.Constraints.{constraints_by};
+ghost use Rattle.mesh_embedding.specs.Drawn.{edges_of, faces_of, outer_of};
 ghost use Rattle.delaunay_legalization.specs.Shape.{IsTriangulated};
 ghost use Rattle.delaunay_legalization.specs.State.{state_of};
-ghost use Rattle.delaunay_paths.specs.Adding.{AddsPath, CanAddPath, HasFreeWay, MarksEdge};
-ghost use Rattle.delaunay_paths.specs.Adding.{NoneCrosses};
-ghost use Rattle.delaunay_paths.specs.Leaving.{IsWorkList, LeavesPiece, LeavesToTest};
+ghost use Rattle.delaunay_paths.specs.Adding.{AddsPath, CanAddPath, HasFreeWay, MarksBetween};
+ghost use Rattle.delaunay_paths.specs.Adding.{MarksEdge};
+ghost use Rattle.delaunay_paths.specs.Leaving.{LeavesToTest};
 
 use crate::flips::make_edge;
 use crate::joined::edge_between;
@@ -56,29 +56,17 @@ fn mark<M: ConstraintMarker<UE>, V, DE, UE, F>(
     make_constraint::<M, _, _, _, _>(dcel, edge);
 }
 
-// Makes an edge of the segment between two vertices with none strictly between, which no constraint
-// crosses, and a constraint of this edge. Each edge that may fail the circle test is put into
-// `work`.
-fn add_piece<M: ConstraintMarker<UE>, V: HasPosition, DE, UE, F, P: PlaneTests<V::Scalar>>(
+// Makes the edge that joins two vertices a constraint, unless it is one.
+fn mark_between<M: ConstraintMarker<UE>, V, DE, UE, F>(
     dcel: &mut Dcel<V, DE, UE, F>,
     from: FixedVertexHandle,
     to: FixedVertexHandle,
-    tests: &P,
-    work: &mut Vec<FixedUndirectedEdgeHandle>,
 )
+    requires joined { Joins (edges_of dcel.old.mesh) from to }
     requires can_mark { M.can_mark ≡ true }
-    requires free { IsFreeOfVertices (drawn (map V.place dcel.old.vertices) dcel.old.mesh) from to }
-    requires shape { IsMesh (map V.place dcel.old.vertices) (faces_of dcel.old.mesh)
-        (outer_of dcel.old.mesh) }
-    requires clear { NoneCrosses (map V.place dcel.old.vertices)
-        (constraints_by M.constraints (state_of dcel.old)) from to }
-    requires sites { All (P.sites tests.now) (map V.place dcel.old.vertices) }
-    requires work { IsWorkList dcel.old work.old.items (vec_capacity work.old) }
-    ensures leaves { LeavesPiece (map V.place dcel.old.vertices) M.marks M.marked M.constraints
-        dcel.old dcel.new from to work.old.items work.new.items }
-    ensures capacity { vec_capacity work.new ≡ vec_capacity work.old }
+    ensures whole { IsMeshWithData dcel.old }
+    ensures marks { MarksBetween M.marks M.marked dcel.old dcel.new from to }
 {
-    make_edge(dcel, from, to, tests, work);
     let edge = edge_between(dcel, from, to);
     mark::<M, _, _, _, _>(dcel, edge.as_undirected());
 }
@@ -130,7 +118,8 @@ pub fn add_path<M: ConstraintMarker<UE>, V: HasPosition, DE, UE, F, P: PlaneTest
     work.clear();
     let mut at = from;
     while let Some(next) = next_piece(dcel, at, to, tests) {
-        add_piece::<M, _, _, _, _, _>(dcel, at, next, tests, work);
+        make_edge(dcel, at, next, tests, work);
+        mark_between::<M, _, _, _, _>(dcel, at, next);
         at = next;
     }
 }

@@ -28,17 +28,22 @@ pub(crate) fn position_of<V: HasPosition, DE, UE, F>(
     dcel.vertex_data(vertex).position()
 }
 
-// The position where an edge ends.
-pub(crate) fn end_of<V: HasPosition, DE, UE, F>(
+// The positions where an edge starts and ends.
+pub(crate) fn ends_of<V: HasPosition, DE, UE, F>(
     dcel: &Dcel<V, DE, UE, F>,
     edge: FixedDirectedEdgeHandle,
-) -> Point2<V::Scalar>
+) -> (Point2<V::Scalar>, Point2<V::Scalar>)
     requires { edge < length dcel.now.directed }
-    ensures place { place_of V.Scalar.whole result ≡
+    ensures start { place_of V.Scalar.whole result.0 ≡
+        point_at (map V.place dcel.now.vertices) (origin dcel.now.mesh edge) }
+    ensures end { place_of V.Scalar.whole result.1 ≡
         point_at (map V.place dcel.now.vertices) (origin dcel.now.mesh (rev edge)) }
-    ensures listed { Contains (map V.place dcel.now.vertices) (place_of V.Scalar.whole result) }
+    ensures listed { let points = map V.place dcel.now.vertices in
+        Contains points (place_of V.Scalar.whole result.0) ×
+        Contains points (place_of V.Scalar.whole result.1) }
 {
-    start_of(dcel, dcel.directed_edge(edge).rev().fix())
+    let twin = dcel.directed_edge(edge).rev().fix();
+    (start_of(dcel, edge), start_of(dcel, twin))
 }
 
 // Whether the way from `from` to `to` has one point strictly on its right and another strictly on
@@ -125,6 +130,6 @@ pub fn crosses_segment<V: HasPosition, DE, UE, F, P: PlaneTests<V::Scalar>>(
 {
     dcel.recall_invariant();
     let (from, to) = (position_of(dcel, from), position_of(dcel, to));
-    let (start, end) = (start_of(dcel, edge), end_of(dcel, edge));
+    let (start, end) = ends_of(dcel, edge);
     part_each_other(from, to, start, end, tests)
 }

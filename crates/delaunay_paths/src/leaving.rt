@@ -1,6 +1,7 @@
 //! The edges that flips towards a segment leave to the circle test.
-ghost use Rattle.std.specs.Prelude.{◌≡◌, ◌/◌, ◌<◌, ◌≤◌, length, Contains, vec_capacity};
+ghost use Rattle.std.specs.Prelude.{◌≡◌, ◌/◌, ◌<◌, length, Contains, vec_capacity};
 ghost use Rattle.mesh_embedding.specs.Legal.{AreEdges, GainsRound};
+ghost use Rattle.delaunay_paths.specs.Leaving.{IsWorkList};
 
 use delaunay_legalization::{push_side, push_sides};
 use half_edge_mesh::{Dcel, FixedDirectedEdgeHandle, FixedUndirectedEdgeHandle};
@@ -12,8 +13,7 @@ pub(crate) fn push_round<V, DE, UE, F>(
     work: &mut Vec<FixedUndirectedEdgeHandle>,
 )
     requires within { edge < length dcel.now.directed }
-    requires edges { AreEdges dcel.now.mesh work.old.items }
-    requires room { length dcel.now.undirected ≤ vec_capacity work.old }
+    requires work { IsWorkList dcel.now work.old.items (vec_capacity work.old) }
     ensures gains { GainsRound dcel.now.mesh edge work.old.items work.new.items }
     ensures own { Contains work.new.items (edge / 2) }
     ensures edges { AreEdges dcel.now.mesh work.new.items }

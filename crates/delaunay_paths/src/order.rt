@@ -13,10 +13,10 @@ ghost use Rattle.delaunay_paths.specs.Crossing.{ComesAfter, IsLastCrossing};
 ghost use Rattle.delaunay_paths.specs.Items.{IsCrossedTwin, IsLastWith, IsLater};
 ghost use Rattle.delaunay_paths.specs.Seen.{IsCovered};
 
-use crate::crossing::{end_of, position_of};
+use crate::crossing::{ends_of, position_of};
 use delaunay_core::math::PlaneTests;
 use delaunay_core::point::{HasPosition, Point2, SpadeNum};
-use delaunay_legalization::{is_same_point, start_of};
+use delaunay_legalization::is_same_point;
 use delaunay_lines::{Intersection, line_between_vertices};
 use half_edge_mesh::{Dcel, FixedDirectedEdgeHandle, FixedVertexHandle};
 
@@ -88,10 +88,20 @@ fn comes_after<V: HasPosition, DE, UE, F, P: PlaneTests<V::Scalar>>(
         ComesAfter (map V.place dcel.now.vertices) dcel.now.mesh from edge other }
 {
     let from = position_of(dcel, from);
-    let (start, other_start) = (start_of(dcel, edge), start_of(dcel, other));
-    let (end, other_end) = (end_of(dcel, edge), end_of(dcel, other));
-    let starts = Seen { from, point: start, other: other_start, tests };
-    let ends = Seen { from, point: end, other: other_end, tests };
+    let (start, end) = ends_of(dcel, edge);
+    let (other_start, other_end) = ends_of(dcel, other);
+    let starts = Seen {
+        from,
+        point: start,
+        other: other_start,
+        tests,
+    };
+    let ends = Seen {
+        from,
+        point: end,
+        other: other_end,
+        tests,
+    };
     starts.comes_after_on_right()
         || (is_same_point(start, other_start) && ends.comes_after_on_left())
 }

@@ -1,6 +1,6 @@
 use Rattle.std.proofs.Common.{ℕ, List, map, sym, ◌∙◌, subst}
 use Rattle.delaunay_paths.specs.Leaving.{LeavesToTest}
-use Rattle.delaunay_paths.proofs.AddingPieces.{more_is_left, none_is_left, same, work_fits, adding_to_begins, adding_sites, adding_shape, adding_index, adding_at, adding_free, adding_clear, adding_to_goes_on, adding_shortens, adding_to_ends}
+use Rattle.delaunay_paths.proofs.AddingPieces.{piece_made, more_is_left, none_is_left, same, work_fits, adding_to_begins, adding_sites, adding_shape, adding_index, adding_at, adding_free, adding_clear, adding_to_goes_on, adding_shortens, adding_to_ends}
 use Rattle.delaunay_paths.proofs.adding.add_path.Goals as goal
 
 pub loop-next-init : goal.loop-next-init
@@ -12,8 +12,8 @@ loop-next-init g c =
       c.clear.ensures.capacity,
     )
 
-pub add_piece-requires-clause-work : goal.add_piece-requires-clause-work
-add_piece-requires-clause-work g c =
+pub make_edge-requires-clause-work : goal.make_edge-requires-clause-work
+make_edge-requires-clause-work g c =
     work_fits c.args.dcel.now c.loop-next.dcel c.loop-next.work.items _ _ c.loop-next.invariant.0.count c.requires.kept.few_edges c.requires.room c.loop-next.invariant.2 c.loop-next.invariant.1.edges
 
 pub next_piece-requires-clause-from_in : goal.next_piece-requires-clause-from_in
@@ -40,39 +40,42 @@ next_piece-requires-clause-sites g c =
     let marked = g.met.M.ConstraintMarker.constraints_are_marked in
     adding_sites m.marks m.constraints marked g.V.HasPosition.place m.marked c.args.dcel.now c.loop-next.dcel c.args.from c.args.to c.loop-next.at c.requires.way.from c.requires.way.to c.loop-next.invariant.0 (g.P.PlaneTests.sites c.args.tests.now) c.requires.sites
 
-pub add_piece-requires-clause-free : goal.add_piece-requires-clause-free
-add_piece-requires-clause-free g c =
+pub make_edge-requires-clause-free : goal.make_edge-requires-clause-free
+make_edge-requires-clause-free g c =
     let m = g.M.ConstraintMarker in
     let marked = g.met.M.ConstraintMarker.constraints_are_marked in
     adding_free m.marks m.constraints marked g.V.HasPosition.place m.marked c.args.dcel.now c.loop-next.dcel c.args.from c.args.to c.loop-next.at c.requires.way.from c.requires.way.to c.loop-next.invariant.0 c.in-Some.next c.in-Some.ensures.apart c.in-Some.ensures.next
 
-pub add_piece-requires-clause-shape : goal.add_piece-requires-clause-shape
-add_piece-requires-clause-shape g c =
+pub make_edge-requires-clause-shape : goal.make_edge-requires-clause-shape
+make_edge-requires-clause-shape g c =
     let m = g.M.ConstraintMarker in
     let marked = g.met.M.ConstraintMarker.constraints_are_marked in
     adding_shape m.marks m.constraints marked g.V.HasPosition.place m.marked c.args.dcel.now c.loop-next.dcel c.args.from c.args.to c.loop-next.at c.requires.way.from c.requires.way.to c.loop-next.invariant.0
 
-pub add_piece-requires-clause-clear : goal.add_piece-requires-clause-clear
-add_piece-requires-clause-clear g c =
-    let m = g.M.ConstraintMarker in
-    let marked = g.met.M.ConstraintMarker.constraints_are_marked in
-    adding_clear m.marks m.constraints marked g.V.HasPosition.place m.marked c.args.dcel.now c.loop-next.dcel c.args.from c.args.to c.loop-next.at c.requires.way.from c.requires.way.to c.loop-next.invariant.0 c.in-Some.next c.in-Some.ensures.apart c.in-Some.ensures.next c.requires.way.free
-
-pub add_piece-requires-clause-sites : goal.add_piece-requires-clause-sites
-add_piece-requires-clause-sites g c =
+pub make_edge-requires-clause-sites : goal.make_edge-requires-clause-sites
+make_edge-requires-clause-sites g c =
     let m = g.M.ConstraintMarker in
     let marked = g.met.M.ConstraintMarker.constraints_are_marked in
     adding_sites m.marks m.constraints marked g.V.HasPosition.place m.marked c.args.dcel.now c.loop-next.dcel c.args.from c.args.to c.loop-next.at c.requires.way.from c.requires.way.to c.loop-next.invariant.0 (g.P.PlaneTests.sites c.args.tests.now) c.requires.sites
 
+pub mark_between-requires-clause-joined : goal.mark_between-requires-clause-joined
+mark_between-requires-clause-joined g c = c.make_edge.ensures.makes.edge
+
 pub loop-next-preserved : goal.loop-next-preserved
 loop-next-preserved g c =
     let m = g.M.ConstraintMarker in
-    let marked = g.met.M.ConstraintMarker.constraints_are_marked in (
+    let marked = g.met.M.ConstraintMarker.constraints_are_marked in
+    let clear = adding_clear m.marks m.constraints marked g.V.HasPosition.place m.marked c.args.dcel.now c.loop-next.dcel
+    c.args.from c.args.to c.loop-next.at c.requires.way.from c.requires.way.to c.loop-next.invariant.0 c.in-Some.next
+    c.in-Some.ensures.apart c.in-Some.ensures.next c.requires.way.free in
+    let piece = piece_made m.marks m.constraints marked g.V.HasPosition.place m.marked c.loop-next.dcel c.make_edge.new.dcel
+    c.mark_between.new.dcel c.loop-next.at c.in-Some.next c.loop-next.work.items c.make_edge.new.work.items
+    c.make_edge.ensures.makes c.mark_between.ensures.whole c.mark_between.ensures.marks clear in (
       adding_to_goes_on m.marks m.constraints marked g.V.HasPosition.place m.marked c.args.dcel.now c.loop-next.dcel c.args.from c.args.to c.loop-next.at c.requires.way.from c.requires.way.to c.loop-next.invariant.0 c.in-Some.next c.in-Some.ensures.apart c.in-Some.ensures.next
-          (λ x. g.met.M.ConstraintMarker.marked_has_mark x c.requires.can_mark) c.add_piece.new.dcel c.add_piece.ensures.leaves.adds c.add_piece.ensures.leaves.mesh c.add_piece.ensures.leaves.shape,
-      more_is_left g.V.HasPosition.place m.marks m.marked m.constraints c.args.dcel.now c.loop-next.dcel c.add_piece.new.dcel c.loop-next.at c.in-Some.next c.loop-next.work.items c.add_piece.new.work.items
-          (same m.marks m.constraints marked g.V.HasPosition.place m.marked c.args.dcel.now c.loop-next.dcel c.args.from c.args.to c.loop-next.at c.requires.way.from c.requires.way.to c.loop-next.invariant.0) c.loop-next.invariant.1 c.add_piece.ensures.leaves,
-      c.add_piece.ensures.capacity ∙ c.loop-next.invariant.2,
+          (λ x. g.met.M.ConstraintMarker.marked_has_mark x c.requires.can_mark) c.mark_between.new.dcel piece.adds piece.mesh piece.shape,
+      more_is_left g.V.HasPosition.place m.marks m.marked m.constraints c.args.dcel.now c.loop-next.dcel c.mark_between.new.dcel c.loop-next.at c.in-Some.next c.loop-next.work.items c.make_edge.new.work.items
+          (same m.marks m.constraints marked g.V.HasPosition.place m.marked c.args.dcel.now c.loop-next.dcel c.args.from c.args.to c.loop-next.at c.requires.way.from c.requires.way.to c.loop-next.invariant.0) c.loop-next.invariant.1 piece,
+      c.make_edge.ensures.capacity ∙ c.loop-next.invariant.2,
     )
 
 pub loop-next-smaller : goal.loop-next-smaller
