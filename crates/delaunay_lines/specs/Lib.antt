@@ -4,3 +4,4 @@ pub mod Steps
 pub mod Over
 pub mod Starts
 pub mod Walk
+pub mod Way

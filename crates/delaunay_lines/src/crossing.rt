@@ -1,19 +1,16 @@
 //! What a segment meets after an edge that it crosses or goes along.
-ghost use Rattle.std.specs.Prelude.{◌≡◌, ◌≢◌, ◌<◌, length, map};
-ghost use Rattle.half_edge_mesh.specs.Mesh.{origin, rev, face};
-ghost use Rattle.plane.specs.Fraction.{whole as fraction};
-ghost use Rattle.plane.specs.Line.{Meets, across, along};
-ghost use Rattle.mesh_embedding.specs.Drawn.{drawn};
+ghost use Rattle.std.specs.Prelude.{◌<◌, length};
+ghost use Rattle.half_edge_mesh.specs.Mesh.{face};
 ghost use Rattle.delaunay_core.specs.Place.{place_of};
-ghost use Rattle.delaunay_lines.specs.Over.{IsOver};
-ghost use Rattle.delaunay_lines.specs.Steps.{IsNext, LeavesBy};
+ghost use Rattle.delaunay_lines.specs.Over.{GoesOnTo, IsAt, IsOver};
+ghost use Rattle.delaunay_lines.specs.Steps.{LeavesBy};
 
 use crate::intersection::FixedIntersection;
 use crate::segment::Segment;
-use crate::sides::{edge_after, edge_before, is_within, side_of_edge, twin_of, vertex_of};
+use crate::sides::{edge_after, edge_before, side_of_edge, twin_of};
 use delaunay_core::math::PlaneTests;
 use delaunay_core::point::HasPosition;
-use delaunay_legalization::{is_outer, start_of};
+use delaunay_legalization::is_outer;
 use half_edge_mesh::FixedDirectedEdgeHandle;
 
 impl<'a, V: HasPosition, DE, UE, F, P: PlaneTests<V::Scalar>> Segment<'a, V, DE, UE, F, P> {
@@ -34,20 +31,10 @@ impl<'a, V: HasPosition, DE, UE, F, P: PlaneTests<V::Scalar>> Segment<'a, V, DE,
     // What comes after an edge that is crossed into an inner face: nothing where the segment ends
     // inside, else another side of the face, or the corner between the two.
     fn through_face(&self, edge: FixedDirectedEdgeHandle) -> Option<FixedIntersection>
-        requires within { edge < length self.now.dcel.now.directed }
+        requires at { IsAt V.place V.Scalar.whole P.sites P.covered self.now
+            (FixedIntersection.Edge edge) }
         requires inner { 0 < face self.now.dcel.now.mesh edge }
-        requires over { IsOver V.place V.Scalar.whole P.sites P.covered self.now }
-        requires apart { place_of V.Scalar.whole self.now.from ≢
-            place_of V.Scalar.whole self.now.to }
-        requires met { let m = self.now.dcel.now.mesh in
-            Meets (drawn (map V.place self.now.dcel.now.vertices) m)
-            (fraction (place_of V.Scalar.whole self.now.from))
-            (fraction (place_of V.Scalar.whole self.now.to))
-            (across (origin m edge) (origin m (rev edge))) }
-        ensures { let m = self.now.dcel.now.mesh in
-            IsNext V.place self.now.dcel.now (place_of V.Scalar.whole self.now.from)
-            (place_of V.Scalar.whole self.now.to) (across (origin m edge) (origin m (rev edge)))
-            result }
+        ensures { GoesOnTo V.place V.Scalar.whole self.now (FixedIntersection.Edge edge) result }
     {
         let (next, prev) = (edge_after(self.dcel, edge), edge_before(self.dcel, edge));
         let corner = self.side_of_start(prev);
@@ -60,24 +47,14 @@ impl<'a, V: HasPosition, DE, UE, F, P: PlaneTests<V::Scalar>> Segment<'a, V, DE,
         if self.ends_left_of(next) {
             return None;
         }
-        Some(FixedIntersection::Vertex(vertex_of(self.dcel, prev)))
+        Some(self.start_item(prev))
     }
 
     // What a segment meets after an edge that it crosses.
     pub(crate) fn after_crossing(&self, edge: FixedDirectedEdgeHandle) -> Option<FixedIntersection>
-        requires within { edge < length self.now.dcel.now.directed }
-        requires over { IsOver V.place V.Scalar.whole P.sites P.covered self.now }
-        requires apart { place_of V.Scalar.whole self.now.from ≢
-            place_of V.Scalar.whole self.now.to }
-        requires met { let m = self.now.dcel.now.mesh in
-            Meets (drawn (map V.place self.now.dcel.now.vertices) m)
-            (fraction (place_of V.Scalar.whole self.now.from))
-            (fraction (place_of V.Scalar.whole self.now.to))
-            (across (origin m edge) (origin m (rev edge))) }
-        ensures { let m = self.now.dcel.now.mesh in
-            IsNext V.place self.now.dcel.now (place_of V.Scalar.whole self.now.from)
-            (place_of V.Scalar.whole self.now.to) (across (origin m edge) (origin m (rev edge)))
-            result }
+        requires { IsAt V.place V.Scalar.whole P.sites P.covered self.now
+            (FixedIntersection.Edge edge) }
+        ensures { GoesOnTo V.place V.Scalar.whole self.now (FixedIntersection.Edge edge) result }
     {
         if is_outer(self.dcel, edge) {
             return None;
@@ -90,25 +67,13 @@ impl<'a, V: HasPosition, DE, UE, F, P: PlaneTests<V::Scalar>> Segment<'a, V, DE,
 
     // What a segment meets after an edge that it overlaps.
     pub(crate) fn after_overlap(&self, edge: FixedDirectedEdgeHandle) -> Option<FixedIntersection>
-        requires within { edge < length self.now.dcel.now.directed }
-        requires over { IsOver V.place V.Scalar.whole P.sites P.covered self.now }
-        requires apart { place_of V.Scalar.whole self.now.from ≢
-            place_of V.Scalar.whole self.now.to }
-        requires met { let m = self.now.dcel.now.mesh in
-            Meets (drawn (map V.place self.now.dcel.now.vertices) m)
-            (fraction (place_of V.Scalar.whole self.now.from))
-            (fraction (place_of V.Scalar.whole self.now.to))
-            (along (origin m edge) (origin m (rev edge))) }
-        ensures { let m = self.now.dcel.now.mesh in
-            IsNext V.place self.now.dcel.now (place_of V.Scalar.whole self.now.from)
-            (place_of V.Scalar.whole self.now.to) (along (origin m edge) (origin m (rev edge)))
-            result }
+        requires { IsAt V.place V.Scalar.whole P.sites P.covered self.now
+            (FixedIntersection.Overlap edge) }
+        ensures { GoesOnTo V.place V.Scalar.whole self.now (FixedIntersection.Overlap edge) result }
     {
-        let twin = twin_of(self.dcel, edge);
-        let (start, end) = (start_of(self.dcel, edge), start_of(self.dcel, twin));
-        if is_within(start, end, self.to, self.tests) {
+        if self.way_along(edge).has_within(self.to) {
             return None;
         }
-        Some(FixedIntersection::Vertex(vertex_of(self.dcel, twin)))
+        Some(self.start_item(twin_of(self.dcel, edge)))
     }
 }

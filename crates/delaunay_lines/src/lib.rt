@@ -12,6 +12,7 @@ mod segment;
 mod sides;
 mod starts;
 mod vertex;
+mod way;
 
 pub use conflicts::ConflictingEdgesIterator;
 pub use intersection::{FixedIntersection, Intersection};

@@ -15,7 +15,8 @@ ghost use Rattle.delaunay_lines.specs.Walk.{IsReady, Starts, WalksLine};
 use crate::intersection::FixedIntersection;
 use crate::iterator::LineIntersectionIterator;
 use crate::segment::Segment;
-use crate::sides::{is_on_segment, position_of, side_of_edge, twin_of};
+use crate::sides::{position_of, side_of_edge, twin_of};
+use crate::way::Way;
 use delaunay_core::math::PlaneTests;
 use delaunay_core::point::{HasPosition, Point2, SpadeNum};
 use delaunay_legalization::{is_outer, is_same_point};
@@ -141,9 +142,12 @@ impl<'a, V: HasPosition, DE, UE, F, P: PlaneTests<V::Scalar>> Segment<'a, V, DE,
             (place_of V.Scalar.whole self.now.from) (place_of V.Scalar.whole self.now.to) vertex
             than.now }
     {
-        let position = position_of(self.dcel, vertex);
-        is_on_segment(self.from, self.to, position, self.tests)
-            && self.is_nearer_vertex(vertex, than)
+        let way = Way {
+            from: self.from,
+            to: self.to,
+            tests: self.tests,
+        };
+        way.carries(position_of(self.dcel, vertex)) && self.is_nearer_vertex(vertex, than)
     }
 
     // Of the vertices on a segment, one that is nearest to its start.

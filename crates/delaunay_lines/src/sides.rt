@@ -1,86 +1,17 @@
-//! Questions about the ends of a segment and the edges of a mesh.
-ghost use Rattle.std.specs.Prelude.{◌≡◌, ◌≢◌, ◌↔◌, ◌<◌, length, map, All, Contains, IsTrue};
+//! Questions about the vertices and edges of a mesh.
+ghost use Rattle.std.specs.Prelude.{◌≡◌, ◌<◌, length, map, All, Contains};
 ghost use Rattle.half_edge_mesh.specs.Mesh.{origin, next, prev, rev};
-ghost use Rattle.plane.specs.Fraction.{whole as fraction, OnSegment, WithinSegment};
+ghost use Rattle.plane.specs.Fraction.{whole as fraction};
 ghost use Rattle.plane.specs.Side.{side};
 ghost use Rattle.plane.specs.Pairs.{place};
-ghost use Rattle.plane_segments.specs.Steps.{IsAhead};
 ghost use Rattle.delaunay_core.specs.Place.{place_of};
 ghost use Rattle.delaunay_legalization.specs.Known.{point_at};
 
 use delaunay_core::line_side_info::LineSideInfo;
 use delaunay_core::math::PlaneTests;
-use delaunay_core::point::{HasPosition, Point2, SpadeNum};
-use delaunay_legalization::{is_same_point, is_strictly_within, start_of};
+use delaunay_core::point::{HasPosition, Point2};
+use delaunay_legalization::start_of;
 use half_edge_mesh::{Dcel, FixedDirectedEdgeHandle, FixedVertexHandle, MeshViews};
-
-// Whether a point differs from two others.
-fn differs<S: SpadeNum>(point: Point2<S>, from: Point2<S>, to: Point2<S>) -> bool
-    ensures { IsTrue result ↔
-        ((place_of S.whole point ≢ place_of S.whole from) ×
-        (place_of S.whole point ≢ place_of S.whole to)) }
-{
-    !is_same_point(point, from) && !is_same_point(point, to)
-}
-
-// Whether a point is strictly within the segment of two others, which differ.
-pub(crate) fn is_within<S: SpadeNum, P: PlaneTests<S>>(
-    from: Point2<S>,
-    to: Point2<S>,
-    point: Point2<S>,
-    tests: &P,
-) -> bool
-    requires from_covered { P.covered tests.now (place_of S.whole from) }
-    requires to_covered { P.covered tests.now (place_of S.whole to) }
-    requires point_covered { P.covered tests.now (place_of S.whole point) }
-    requires ends_apart { place_of S.whole from ≢ place_of S.whole to }
-    ensures { IsTrue result ↔
-        WithinSegment (fraction (place_of S.whole from)) (fraction (place_of S.whole to))
-        (fraction (place_of S.whole point)) }
-{
-    differs(point, from, to) && is_strictly_within(from, to, point, tests)
-}
-
-// Whether a point is on the closed segment of two others, which differ.
-pub(crate) fn is_on_segment<S: SpadeNum, P: PlaneTests<S>>(
-    from: Point2<S>,
-    to: Point2<S>,
-    point: Point2<S>,
-    tests: &P,
-) -> bool
-    requires from_covered { P.covered tests.now (place_of S.whole from) }
-    requires to_covered { P.covered tests.now (place_of S.whole to) }
-    requires point_covered { P.covered tests.now (place_of S.whole point) }
-    requires ends_apart { place_of S.whole from ≢ place_of S.whole to }
-    ensures { IsTrue result ↔
-        OnSegment (fraction (place_of S.whole from)) (fraction (place_of S.whole to))
-        (fraction (place_of S.whole point)) }
-{
-    if differs(point, from, to) {
-        is_strictly_within(from, to, point, tests)
-    } else {
-        true
-    }
-}
-
-// Whether two points lie in one direction from another, from which they differ.
-pub(crate) fn is_ahead<S: SpadeNum, P: PlaneTests<S>>(
-    from: Point2<S>,
-    to: Point2<S>,
-    point: Point2<S>,
-    tests: &P,
-) -> bool
-    requires from_covered { P.covered tests.now (place_of S.whole from) }
-    requires to_covered { P.covered tests.now (place_of S.whole to) }
-    requires point_covered { P.covered tests.now (place_of S.whole point) }
-    requires to_apart { place_of S.whole from ≢ place_of S.whole to }
-    requires point_apart { place_of S.whole from ≢ place_of S.whole point }
-    ensures { IsTrue result ↔
-        IsAhead (fraction (place_of S.whole from)) (fraction (place_of S.whole to))
-        (fraction (place_of S.whole point)) }
-{
-    is_on_segment(from, to, point, tests) || is_on_segment(from, point, to, tests)
-}
 
 // The position of a vertex.
 pub(crate) fn position_of<V: HasPosition, DE, UE, F>(
@@ -129,18 +60,6 @@ pub(crate) fn twin_of<V, DE, UE, F>(
     ensures within { result < length dcel.now.directed }
 {
     dcel.directed_edge(edge).rev().fix()
-}
-
-// The vertex where an edge starts.
-pub(crate) fn vertex_of<V, DE, UE, F>(
-    dcel: &Dcel<V, DE, UE, F>,
-    edge: FixedDirectedEdgeHandle,
-) -> FixedVertexHandle
-    requires { edge < length dcel.now.directed }
-    ensures value { result ≡ origin dcel.now.mesh edge }
-    ensures within { result < length dcel.now.vertices }
-{
-    dcel.directed_edge(edge).from().fix()
 }
 
 // The side of a point, as seen along an edge.

@@ -9,7 +9,8 @@ ghost use Rattle.delaunay_lines.specs.Walk.{IsReady, Starts, WalksLine};
 use crate::intersection::FixedIntersection;
 use crate::iterator::LineIntersectionIterator;
 use crate::segment::Segment;
-use crate::sides::{edge_after, edge_before, is_ahead, side_of_edge, twin_of, vertex_of};
+use crate::sides::{edge_after, edge_before, side_of_edge, twin_of};
+use crate::way::Way;
 use delaunay_core::math::PlaneTests;
 use delaunay_core::point::HasPosition;
 use delaunay_legalization::{is_same_point, start_of};
@@ -36,7 +37,12 @@ impl<'a, V: HasPosition, DE, UE, F, P: PlaneTests<V::Scalar>> Segment<'a, V, DE,
         if side.is_on_right_side() {
             return FixedIntersection::Edge(twin);
         }
-        if is_ahead(self.from, start_of(self.dcel, twin), self.to, self.tests) {
+        let ahead = Way {
+            from: self.from,
+            to: start_of(self.dcel, twin),
+            tests: self.tests,
+        };
+        if ahead.goes_towards(self.to) {
             FixedIntersection::Overlap(edge)
         } else {
             FixedIntersection::Overlap(twin)
@@ -98,7 +104,7 @@ impl<'a, V: HasPosition, DE, UE, F, P: PlaneTests<V::Scalar>> Segment<'a, V, DE,
             return None;
         }
         if self.side_of_start(exit).is_on_line() {
-            return Some(FixedIntersection::Vertex(vertex_of(self.dcel, exit)));
+            return Some(self.start_item(exit));
         }
         Some(FixedIntersection::Edge(twin_of(self.dcel, exit)))
     }

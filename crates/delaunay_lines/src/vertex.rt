@@ -1,20 +1,17 @@
 //! What a segment meets after a vertex.
 ghost use Rattle.std.specs.Prelude.{◌≡◌, ◌≢◌, ◌↔◌, ◌<◌, ℕ, length, map, IsTrue, MatchOption};
 ghost use Rattle.half_edge_mesh.specs.Mesh.{origin};
-ghost use Rattle.plane.specs.Fraction.{whole as fraction};
-ghost use Rattle.plane.specs.Line.{Meets, at_vertex};
-ghost use Rattle.mesh_embedding.specs.Drawn.{drawn};
 ghost use Rattle.delaunay_core.specs.Place.{place_of};
 ghost use Rattle.delaunay_legalization.specs.Known.{point_at};
-ghost use Rattle.delaunay_lines.specs.Over.{IsOver};
-ghost use Rattle.delaunay_lines.specs.Steps.{IsNext, IsEdgeAhead, IsInCone, LeadsTo};
+ghost use Rattle.delaunay_lines.specs.Over.{GoesOnTo, IsAt, IsOver};
+ghost use Rattle.delaunay_lines.specs.Steps.{IsEdgeAhead, IsInCone, LeadsTo};
 
 use crate::intersection::FixedIntersection;
 use crate::segment::Segment;
-use crate::sides::{edge_after, edge_before, is_ahead, position_of, twin_of};
+use crate::sides::{edge_after, edge_before, position_of};
 use delaunay_core::math::PlaneTests;
 use delaunay_core::point::HasPosition;
-use delaunay_legalization::{is_outer, is_same_point, start_of};
+use delaunay_legalization::{is_outer, is_same_point};
 use half_edge_mesh::{FixedDirectedEdgeHandle, FixedVertexHandle, MeshViews};
 
 impl<'a, V: HasPosition, DE, UE, F, P: PlaneTests<V::Scalar>> Segment<'a, V, DE, UE, F, P> {
@@ -28,11 +25,7 @@ impl<'a, V: HasPosition, DE, UE, F, P: PlaneTests<V::Scalar>> Segment<'a, V, DE,
             IsEdgeAhead (map V.place self.now.dcel.now.vertices) self.now.dcel.now.mesh
             (place_of V.Scalar.whole self.now.to) edge }
     {
-        let (start, end) = (
-            start_of(self.dcel, edge),
-            start_of(self.dcel, twin_of(self.dcel, edge)),
-        );
-        is_ahead(start, end, self.to, self.tests)
+        self.way_along(edge).goes_towards(self.to)
     }
 
     // Whether a position is strictly between the two sides, from the start of an edge on, of the
@@ -91,20 +84,14 @@ impl<'a, V: HasPosition, DE, UE, F, P: PlaneTests<V::Scalar>> Segment<'a, V, DE,
     // else the far side of the face.
     fn along_or_into(&self, edge: FixedDirectedEdgeHandle) -> Option<FixedIntersection>
         requires within { edge < length self.now.dcel.now.directed }
-        requires over { IsOver V.place V.Scalar.whole P.sites P.covered self.now }
-        requires apart { place_of V.Scalar.whole self.now.from ≢
-            place_of V.Scalar.whole self.now.to }
-        requires met { let m = self.now.dcel.now.mesh in
-            Meets (drawn (map V.place self.now.dcel.now.vertices) m)
-            (fraction (place_of V.Scalar.whole self.now.from))
-            (fraction (place_of V.Scalar.whole self.now.to)) (at_vertex (origin m edge)) }
+        requires at { IsAt V.place V.Scalar.whole P.sites P.covered self.now
+            (FixedIntersection.Vertex (origin self.now.dcel.now.mesh edge)) }
         requires starts_apart { point_at (map V.place self.now.dcel.now.vertices)
             (origin self.now.dcel.now.mesh edge) ≢ place_of V.Scalar.whole self.now.to }
         requires leads { LeadsTo (map V.place self.now.dcel.now.vertices) self.now.dcel.now.mesh
             (place_of V.Scalar.whole self.now.to) edge }
-        ensures { IsNext V.place self.now.dcel.now (place_of V.Scalar.whole self.now.from)
-            (place_of V.Scalar.whole self.now.to) (at_vertex (origin self.now.dcel.now.mesh edge))
-            result }
+        ensures { GoesOnTo V.place V.Scalar.whole self.now
+            (FixedIntersection.Vertex (origin self.now.dcel.now.mesh edge)) result }
     {
         if self.is_edge_ahead(edge) {
             return Some(FixedIntersection::Overlap(edge));
@@ -114,15 +101,10 @@ impl<'a, V: HasPosition, DE, UE, F, P: PlaneTests<V::Scalar>> Segment<'a, V, DE,
 
     // What a segment meets after a vertex.
     pub(crate) fn after_vertex(&self, vertex: FixedVertexHandle) -> Option<FixedIntersection>
-        requires within { vertex < length self.now.dcel.now.vertices }
-        requires over { IsOver V.place V.Scalar.whole P.sites P.covered self.now }
-        requires apart { place_of V.Scalar.whole self.now.from ≢
-            place_of V.Scalar.whole self.now.to }
-        requires met { Meets (drawn (map V.place self.now.dcel.now.vertices) self.now.dcel.now.mesh)
-            (fraction (place_of V.Scalar.whole self.now.from))
-            (fraction (place_of V.Scalar.whole self.now.to)) (at_vertex vertex) }
-        ensures { IsNext V.place self.now.dcel.now (place_of V.Scalar.whole self.now.from)
-            (place_of V.Scalar.whole self.now.to) (at_vertex vertex) result }
+        requires { IsAt V.place V.Scalar.whole P.sites P.covered self.now
+            (FixedIntersection.Vertex vertex) }
+        ensures { GoesOnTo V.place V.Scalar.whole self.now (FixedIntersection.Vertex vertex)
+            result }
     {
         if is_same_point(position_of(self.dcel, vertex), self.to) {
             return None;

@@ -1,11 +1,12 @@
 use Rattle.std.proofs.Common.{ℕ, map, sym, ap, subst, ◌∙◌}
 use Rattle.plane.specs.Fraction.{Point, whole, IsSame}
-use Rattle.plane.specs.Line.{Meets, at_vertex}
+use Rattle.plane.specs.Line.{at_vertex}
 use Rattle.plane.proofs.Segments.{same-refl}
-use Rattle.mesh_embedding.specs.Drawn.{drawn}
 use Rattle.delaunay_core.specs.Place.{place_of}
 use Rattle.delaunay_legalization.specs.Known.{point_at}
 use Rattle.delaunay_legalization.proofs.Questions.{both_ways}
+use Rattle.delaunay_lines.specs.declared.intersection.FixedIntersection.TheVariants.{Vertex}
+use Rattle.delaunay_lines.specs.Over.{IsAt}
 use Rattle.delaunay_lines.specs.Steps.{IsNext}
 use Rattle.delaunay_lines.proofs.MeshSteps.{not_same, last_at_end, last_if_none_leads}
 use Rattle.delaunay_lines.proofs.segment.Segment.after_vertex.Goals as goal
@@ -18,9 +19,10 @@ returns-then-is_same_point g c =
 pub edge_towards-requires-clause-apart : goal.edge_towards-requires-clause-apart
 edge_towards-requires-clause-apart g c = λ e. both_ways _ (c.is_same_point.ensures.1 (c.position_of.ensures.position ∙ e)) c.if-is_same_point.false
 
-pub along_or_into-requires-clause-met : goal.along_or_into-requires-clause-met
-along_or_into-requires-clause-met g c =
-    subst (λ (v : ℕ). Meets (drawn (map g.V.HasPosition.place c.args.self.now.dcel.now.vertices) c.args.self.now.dcel.now.mesh) (whole (place_of g.V.Scalar.SpadeNum.whole c.args.self.now.from)) (whole (place_of g.V.Scalar.SpadeNum.whole c.args.self.now.to)) (at_vertex v)) (sym c.in-Some.ensures.1) c.requires.met
+pub along_or_into-requires-clause-at : goal.along_or_into-requires-clause-at
+along_or_into-requires-clause-at g c =
+    subst (λ (v : ℕ). IsAt g.V.HasPosition.place g.V.Scalar.SpadeNum.whole g.P.PlaneTests.sites
+    g.P.PlaneTests.covered c.args.self.now (Vertex v)) (sym c.in-Some.ensures.1) c.requires
 
 pub along_or_into-requires-clause-starts_apart : goal.along_or_into-requires-clause-starts_apart
 along_or_into-requires-clause-starts_apart g c =

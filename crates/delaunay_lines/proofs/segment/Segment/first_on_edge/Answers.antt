@@ -28,33 +28,38 @@ returns-then-is_on_right_side g c =
     (subst (λ (k : ℕ). k < length c.args.self.now.dcel.now.directed) c.twin_of-twin.ensures.value c.twin_of-twin.ensures.within) (sym c.side_of_edge-side.ensures ∙ c.is_on_right_side.ensures.0 c.if-is_on_right_side.true))
 
 -- where the edge ends
-pub is_ahead-requires-clause-to_covered : goal.is_ahead-requires-clause-to_covered
-is_ahead-requires-clause-to_covered g c =
-    covered_in (g.P.PlaneTests.covered c.args.self.now.tests.now) (g.P.PlaneTests.sites c.args.self.now.tests.now) (g.met.P.PlaneTests.sites_are_covered c.args.self.now.tests.now) (map g.V.HasPosition.place c.args.self.now.dcel.now.vertices) (place_of g.V.Scalar.SpadeNum.whole c.start_of.result) c.requires.over.sites c.start_of.ensures.listed
-
-pub is_ahead-requires-clause-to_apart : goal.is_ahead-requires-clause-to_apart
-is_ahead-requires-clause-to_apart g c =
+pub goes_towards-requires-clause-way : goal.goes_towards-requires-clause-way
+goes_towards-requires-clause-way g c =
+    let tests = c.args.self.now.tests.now in
     let points = map g.V.HasPosition.place c.args.self.now.dcel.now.vertices in
     let m = c.args.self.now.dcel.now.mesh in
-    let ends = ends_apart _ _ _ _ _ _ c.requires.over c.args.edge c.requires.within (point_at points (origin m c.args.edge)) (point_at points (origin m (rev c.args.edge))) (λ _. point_at points (origin m c.args.edge)) (λ _. point_at points (origin m (rev c.args.edge))) in
+    let at = place_of g.V.Scalar.SpadeNum.whole in
+    let start = point_at points (origin m c.args.edge) in
+    let end = point_at points (origin m (rev c.args.edge)) in
+    let ends = ends_apart _ _ _ _ _ _ c.requires.over c.args.edge c.requires.within start end (λ _. start) (λ _. end) in
     let is = c.start_of.ensures.place ∙ ap (λ (h : ℕ). point_at points (origin m h)) c.twin_of-twin.ensures.value in
-    λ e. (differs_if_within (point_at points (origin m c.args.edge)) (point_at points (origin m (rev c.args.edge))) ends (place_of g.V.Scalar.SpadeNum.whole c.args.self.now.from) c.requires.start).1 (e ∙ is)
+    record {
+      from = c.requires.over.from;
+      to = covered_in (g.P.PlaneTests.covered tests) (g.P.PlaneTests.sites tests) (g.met.P.PlaneTests.sites_are_covered tests)
+          points (at c.start_of.result) c.requires.over.sites c.start_of.ensures.listed;
+      apart = λ e. (differs_if_within start end ends (at c.args.self.now.from) c.requires.start).1 (e ∙ is);
+    }
 
-pub is_ahead-requires-clause-point_apart : goal.is_ahead-requires-clause-point_apart
-is_ahead-requires-clause-point_apart g c = λ e. both_ways _ (c.is_same_point.ensures.1 e) c.if-is_same_point.false
+pub goes_towards-requires-clause-apart : goal.goes_towards-requires-clause-apart
+goes_towards-requires-clause-apart g c = λ e. both_ways _ (c.is_same_point.ensures.1 e) c.if-is_same_point.false
 
-pub returns-then-is_ahead : goal.returns-then-is_ahead
-returns-then-is_ahead g c =
+pub returns-then-goes_towards : goal.returns-then-goes_towards
+returns-then-goes_towards g c =
     let points = map g.V.HasPosition.place c.args.self.now.dcel.now.vertices in
     let m = c.args.self.now.dcel.now.mesh in
     let at = place_of g.V.Scalar.SpadeNum.whole in
     let is = c.start_of.ensures.place ∙ ap (λ (h : ℕ). point_at points (origin m h)) c.twin_of-twin.ensures.value in
     along_edge _ _ _ _ _ _ c.requires.over c.args.edge c.requires.within c.requires.start (λ e. both_ways _ (c.is_same_point.ensures.1 e) c.if-is_same_point.false)
     (on_if_neither _ (λ e. both_ways _ (c.is_on_left_side.ensures.1 (c.side_of_edge-side.ensures ∙ e)) c.if-is_on_left_side.false) (λ e. both_ways _ (c.is_on_right_side.ensures.1 (c.side_of_edge-side.ensures ∙ e)) c.if-is_on_right_side.false))
-    (subst (λ (z : Point). IsAhead (whole (at c.args.self.now.from)) (whole z) (whole (at c.args.self.now.to))) is (c.is_ahead.ensures.0 c.if-is_ahead.true))
+    (subst (λ (z : Point). IsAhead (whole (at c.args.self.now.from)) (whole z) (whole (at c.args.self.now.to))) is (c.goes_towards.ensures.0 c.if-goes_towards.true))
 
-pub returns-else-is_ahead : goal.returns-else-is_ahead
-returns-else-is_ahead g c =
+pub returns-else-goes_towards : goal.returns-else-goes_towards
+returns-else-goes_towards g c =
     let points = map g.V.HasPosition.place c.args.self.now.dcel.now.vertices in
     let m = c.args.self.now.dcel.now.mesh in
     let at = place_of g.V.Scalar.SpadeNum.whole in
@@ -63,4 +68,4 @@ returns-else-is_ahead g c =
     (along_twin _ _ _ _ _ _ c.requires.over c.args.edge c.requires.within c.requires.start (λ e. both_ways _ (c.is_same_point.ensures.1 e) c.if-is_same_point.false)
     (subst (λ (k : ℕ). k < length c.args.self.now.dcel.now.directed) c.twin_of-twin.ensures.value c.twin_of-twin.ensures.within)
     (on_if_neither _ (λ e. both_ways _ (c.is_on_left_side.ensures.1 (c.side_of_edge-side.ensures ∙ e)) c.if-is_on_left_side.false) (λ e. both_ways _ (c.is_on_right_side.ensures.1 (c.side_of_edge-side.ensures ∙ e)) c.if-is_on_right_side.false))
-    (λ a. both_ways _ (c.is_ahead.ensures.1 (subst (λ (z : Point). IsAhead (whole (at c.args.self.now.from)) (whole z) (whole (at c.args.self.now.to))) (sym is) a)) c.if-is_ahead.false))
+    (λ a. both_ways _ (c.goes_towards.ensures.1 (subst (λ (z : Point). IsAhead (whole (at c.args.self.now.from)) (whole z) (whole (at c.args.self.now.to))) (sym is) a)) c.if-goes_towards.false))
