@@ -1,5 +1,5 @@
 -- What is left of the walk along a segment over a mesh.
-use Rattle.std.specs.Prelude.{◌≡◌, ◌+◌, ◌≤◌, List, [], ◌∷◌, ℤ, length, map, Option, Some, None, MatchOption}
+use Rattle.std.specs.Prelude.{◌≡◌, ℕ, ◌+◌, ◌≤◌, List, [], ◌∷◌, ℤ, length, map, Option, Some, None, MatchOption}
 use Rattle.half_edge_mesh.specs.Contents.{Contents}
 use Rattle.plane.specs.Fraction.{Point, whole}
 use Rattle.plane.specs.Tiling.{Triangulation}
@@ -7,6 +7,7 @@ use Rattle.plane.specs.Line.{Item, Meets, IsLineList}
 use Rattle.plane_segments.specs.Steps.{GoesOn}
 use Rattle.mesh_embedding.specs.Drawn.{drawn}
 use Rattle.delaunay_core.specs.Place.{place_of}
+use Rattle.delaunay_legalization.specs.Known.{point_at}
 use Rattle.delaunay_legalization.specs.State.{State, state_of, triangulation_of}
 use Rattle.delaunay_lines.specs.declared.intersection.Intersection.{Intersection}
 use Rattle.delaunay_lines.specs.declared.intersection.FixedIntersection.{FixedIntersection}
@@ -55,3 +56,7 @@ pub record WalksLine {V D U F P S : Type 0} (at : V → Point) (number : S → �
   pub items : List Item
   pub line_list : IsLineList (triangulation_of at s) (whole p) (whole q) items
   pub are_left : AreLeft at number it items
+
+-- the same from vertex i to vertex j
+abbrev pub WalksBetween : {V D U F P S : Type 0} → (V → Point) → (S → ℤ) → State V D U F → (i j : ℕ) → LineIntersectionIterator V D U F P S → Type 0
+WalksBetween at number s i j it = WalksLine at number s (point_at (map at s.vertices) i) (point_at (map at s.vertices) j) it

@@ -4,13 +4,12 @@ ghost use Rattle.half_edge_mesh.specs.Mesh.{face_edge};
 ghost use Rattle.plane_tiling.specs.Local.{IsMesh};
 ghost use Rattle.mesh_embedding.specs.Drawn.{faces_of, outer_of};
 ghost use Rattle.delaunay_core.specs.Place.{place_of};
-ghost use Rattle.delaunay_legalization.specs.Known.{point_at};
 ghost use Rattle.delaunay_legalization.specs.Shape.{IsTriangulated};
 ghost use Rattle.delaunay_legalization.specs.State.{state_of};
 ghost use Rattle.delaunay_location.specs.Location.{Locates};
 ghost use Rattle.delaunay_location.specs.declared.position_in_triangulation.PositionInTriangulation.TheVariants.{OnFace};
 ghost use Rattle.delaunay_lines.specs.Over.{IsOver};
-ghost use Rattle.delaunay_lines.specs.Walk.{IsReady, WalksLine};
+ghost use Rattle.delaunay_lines.specs.Walk.{IsReady, WalksBetween, WalksLine};
 
 use crate::iterator::LineIntersectionIterator;
 use crate::segment::Segment;
@@ -109,9 +108,7 @@ pub fn line_between_vertices<'a, V: HasPosition, DE, UE, F, P: PlaneTests<V::Sca
     requires shape { IsMesh (map V.place dcel.now.vertices) (faces_of dcel.now.mesh)
         (outer_of dcel.now.mesh) }
     requires sites { All (P.sites tests.now) (map V.place dcel.now.vertices) }
-    ensures line { let points = map V.place dcel.now.vertices in
-        WalksLine V.place V.Scalar.whole (state_of dcel.now) (point_at points from)
-        (point_at points to) result }
+    ensures line { WalksBetween V.place V.Scalar.whole (state_of dcel.now) from to result }
     ensures ready { IsReady V.place V.Scalar.whole P.sites P.covered result }
 {
     dcel.recall_invariant();

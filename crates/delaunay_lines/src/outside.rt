@@ -1,5 +1,5 @@
 //! The walk along a segment from outside the triangulation.
-ghost use Rattle.std.specs.Prelude.{◌≡◌, ◌≢◌, ◌↔◌, ◌<◌, ◌<ℤ◌, ℕ};
+ghost use Rattle.std.specs.Prelude.{◌≢◌, ◌↔◌, ◌<◌, ◌<ℤ◌, ℕ};
 ghost use Rattle.std.specs.Prelude.{length, map, IsTrue, IfSome, MatchOption};
 ghost use Rattle.plane.specs.Fraction.{whole as fraction};
 ghost use Rattle.plane.specs.Circle.{gap};

@@ -1,5 +1,5 @@
 //! Questions about a point and the segment from one point to another.
-ghost use Rattle.std.specs.Prelude.{◌≡◌, ◌≢◌, ◌↔◌, IsTrue};
+ghost use Rattle.std.specs.Prelude.{◌≢◌, ◌↔◌, IsTrue};
 ghost use Rattle.plane.specs.Fraction.{whole as fraction, OnSegment, WithinSegment};
 ghost use Rattle.plane_segments.specs.Steps.{IsAhead};
 ghost use Rattle.delaunay_core.specs.Place.{place_of};
