@@ -4,3 +4,4 @@ pub mod Nearest
 pub mod Locating
 pub mod Walking
 pub mod Neighbours
+pub mod Covering

@@ -6,16 +6,13 @@ use Rattle.plane.specs.Fraction.{Point, whole}
 use Rattle.plane.specs.Circle.{gap}
 use Rattle.plane.specs.Shape.{IsNearest}
 use Rattle.plane.specs.Tiling.{Triangulation, vertex}
-use Rattle.plane.proofs.Signs.{at_most_if_not_less}
+use Rattle.plane.proofs.Signs.{at_most_if_not_less, less_through}
 
 itself : (a : ℤ) → a ≤ℤ a
 itself a = omega (arith, ints)
 
 through : (a b c : ℤ) → a <ℤ b → b ≤ℤ c → a ≤ℤ c
 through a b c h k = omega (arith, ints)
-
-less_through : (a b c : ℤ) → a <ℤ b → b <ℤ c → a <ℤ c
-less_through a b c h k = omega (arith, ints)
 
 module _ (at : ℕ → ℤ) where
   -- the first number is the least of one

@@ -8,13 +8,13 @@ mod nearest_walk;
 mod parts;
 mod position_in_triangulation;
 mod samples;
+mod search;
 mod steps;
 mod walk;
 
 pub use position_in_triangulation::PositionInTriangulation;
 
 // For the crates of edits, and not for users.
-pub use location::{locate_apart, vertex_at};
 pub use nearest_vertex::nearest_neighbor;
 pub use nearest_walk::nearest_by_neighbors;
 pub use parts::{ends_of, position_of};

@@ -1,7 +1,7 @@
 //! Where a position is, by a look at all vertices, edges and faces.
 ghost use Rattle.std.specs.Prelude.{◌≡◌, ◌↔◌, ℕ, ◌<◌, ◌≤◌, ◌<ℤ◌};
-ghost use Rattle.std.specs.Prelude.{length, map, All, IsTrue, MatchOption};
-ghost use Rattle.half_edge_mesh.specs.Mesh.{face_edge, origin};
+ghost use Rattle.std.specs.Prelude.{length, map, IsTrue, MatchOption};
+ghost use Rattle.half_edge_mesh.specs.Mesh.{origin};
 ghost use Rattle.plane.specs.Fraction.{whole as fraction};
 ghost use Rattle.plane.specs.Circle.{gap};
 ghost use Rattle.plane.specs.Pairs.{place};
@@ -10,11 +10,14 @@ ghost use Rattle.delaunay_core.specs.Place.{place_of};
 ghost use Rattle.delaunay_legalization.specs.Known.{point_at};
 ghost use Rattle.delaunay_legalization.specs.Shape.{IsTriangulated};
 ghost use Rattle.delaunay_legalization.specs.State.{state_of};
-ghost use Rattle.delaunay_legalization.specs.Parts.{IsApart, IsInsideFaceOf};
-ghost use Rattle.delaunay_location.specs.Location.{Locates, IsClearOfEdge, StartsNearest};
+ghost use Rattle.delaunay_legalization.specs.Parts.{IsApart};
+ghost use Rattle.delaunay_location.specs.Location.{StartsNearest};
+ghost use Rattle.delaunay_location.specs.Search.{IsAtNoVertex, IsClear, IsInFace, IsPlaceOf};
+ghost use Rattle.delaunay_location.specs.Search.{IsSearch};
 
 use crate::parts::{corners_of, ends_of, position_of};
 use crate::position_in_triangulation::PositionInTriangulation;
+use crate::search::Search;
 use delaunay_core::math::PlaneTests;
 use delaunay_core::point::{HasPosition, Point2};
 use delaunay_legalization::{
@@ -22,8 +25,8 @@ use delaunay_legalization::{
 };
 use half_edge_mesh::{Dcel, FixedDirectedEdgeHandle, FixedFaceHandle, FixedVertexHandle};
 
-/// The vertex at a position.
-pub fn vertex_at<V: HasPosition, DE, UE, F>(
+// The vertex at a position.
+fn vertex_at<V: HasPosition, DE, UE, F>(
     dcel: &Dcel<V, DE, UE, F>,
     point: Point2<V::Scalar>,
 ) -> Option<FixedVertexHandle>
@@ -35,98 +38,6 @@ pub fn vertex_at<V: HasPosition, DE, UE, F>(
         let vertex = FixedVertexHandle::from_index(index as u32);
         if is_same_point(position_of(dcel, vertex), point) {
             return Some(vertex);
-        }
-    }
-    None
-}
-
-// The location of a position at an edge: within it, or outside and on its left.
-fn place_at_edge<V: HasPosition, DE, UE, F, P: PlaneTests<V::Scalar>>(
-    dcel: &Dcel<V, DE, UE, F>,
-    edge: FixedDirectedEdgeHandle,
-    point: Point2<V::Scalar>,
-    tests: &P,
-) -> Option<PositionInTriangulation>
-    requires kept { IsTriangulated V.place (state_of dcel.now) }
-    requires within { edge < length dcel.now.directed }
-    requires sites { All (P.sites tests.now) (map V.place dcel.now.vertices) }
-    requires covered { P.covered tests.now (place_of V.Scalar.whole point) }
-    requires apart { IsApart (map V.place dcel.now.vertices) (place_of V.Scalar.whole point) }
-    ensures { let points = map V.place dcel.now.vertices in let p = place_of V.Scalar.whole point in
-        MatchOption result (IsClearOfEdge points dcel.now.mesh p edge)
-        (Locates points dcel.now.mesh p) }
-{
-    let (from, to) = ends_of(dcel, edge);
-    if is_strictly_within(from, to, point, tests) {
-        return Some(PositionInTriangulation::OnEdge(edge));
-    }
-    if is_outer(dcel, edge) && turns_left(from, to, point, tests) {
-        return Some(PositionInTriangulation::OutsideOfConvexHull(edge));
-    }
-    None
-}
-
-fn place_at_edges<V: HasPosition, DE, UE, F, P: PlaneTests<V::Scalar>>(
-    dcel: &Dcel<V, DE, UE, F>,
-    point: Point2<V::Scalar>,
-    tests: &P,
-) -> Option<PositionInTriangulation>
-    requires kept { IsTriangulated V.place (state_of dcel.now) }
-    requires sites { All (P.sites tests.now) (map V.place dcel.now.vertices) }
-    requires covered { P.covered tests.now (place_of V.Scalar.whole point) }
-    requires apart { IsApart (map V.place dcel.now.vertices) (place_of V.Scalar.whole point) }
-    ensures { let points = map V.place dcel.now.vertices in let p = place_of V.Scalar.whole point in
-        MatchOption result ((h : ℕ) → h < length dcel.now.directed →
-        IsClearOfEdge points dcel.now.mesh p h) (Locates points dcel.now.mesh p) }
-{
-    for index in 0..dcel.num_directed_edges() {
-        let edge = FixedDirectedEdgeHandle::from_index(index as u32);
-        match place_at_edge(dcel, edge, point, tests) {
-            Some(place) => return Some(place),
-            None => {}
-        }
-    }
-    None
-}
-
-// Whether a position is strictly inside an inner face.
-pub(crate) fn is_inside_face<V: HasPosition, DE, UE, F, P: PlaneTests<V::Scalar>>(
-    dcel: &Dcel<V, DE, UE, F>,
-    face: FixedFaceHandle,
-    point: Point2<V::Scalar>,
-    tests: &P,
-) -> bool
-    requires kept { IsTriangulated V.place (state_of dcel.now) }
-    requires positive { 0 < face }
-    requires within { face ≤ length dcel.now.faces }
-    requires sites { All (P.sites tests.now) (map V.place dcel.now.vertices) }
-    requires covered { P.covered tests.now (place_of V.Scalar.whole point) }
-    ensures { IsTrue result ↔
-        IsInsideFaceOf (map V.place dcel.now.vertices) dcel.now.mesh (place_of V.Scalar.whole point)
-        (face_edge dcel.now.mesh face) }
-{
-    let (a, b, c) = corners_of(dcel, face);
-    is_strictly_inside(a, b, c, point, tests)
-}
-
-fn face_around<V: HasPosition, DE, UE, F, P: PlaneTests<V::Scalar>>(
-    dcel: &Dcel<V, DE, UE, F>,
-    point: Point2<V::Scalar>,
-    tests: &P,
-) -> Option<FixedFaceHandle>
-    requires kept { IsTriangulated V.place (state_of dcel.now) }
-    requires sites { All (P.sites tests.now) (map V.place dcel.now.vertices) }
-    requires covered { P.covered tests.now (place_of V.Scalar.whole point) }
-    ensures { let points = map V.place dcel.now.vertices in let p = place_of V.Scalar.whole point in
-        let m = dcel.now.mesh in
-        MatchOption result ((f : ℕ) → 0 < f → f ≤ length dcel.now.faces →
-        ¬ IsInsideFaceOf points m p (face_edge m f)) (λ f. (0 < f) × (f ≤ length dcel.now.faces) ×
-        IsInsideFaceOf points m p (face_edge m f)) }
-{
-    for index in 0..dcel.num_inner_faces() {
-        let face = FixedFaceHandle::from_index(index as u32 + 1);
-        if is_inside_face(dcel, face, point, tests) {
-            return Some(face);
         }
     }
     None
@@ -171,45 +82,96 @@ fn edge_from_nearest<V: HasPosition, DE, UE, F>(
     nearest
 }
 
-// Where a position is that no vertex has.
-pub fn locate_apart<V: HasPosition, DE, UE, F, P: PlaneTests<V::Scalar>>(
-    dcel: &Dcel<V, DE, UE, F>,
-    point: Point2<V::Scalar>,
-    tests: &P,
-) -> PositionInTriangulation
-    requires kept { IsTriangulated V.place (state_of dcel.now) }
-    requires sites { All (P.sites tests.now) (map V.place dcel.now.vertices) }
-    requires covered { P.covered tests.now (place_of V.Scalar.whole point) }
-    requires apart { IsApart (map V.place dcel.now.vertices) (place_of V.Scalar.whole point) }
-    ensures { Locates (map V.place dcel.now.vertices) dcel.now.mesh (place_of V.Scalar.whole point)
-        result }
-{
-    if dcel.num_vertices() < 2 {
-        return PositionInTriangulation::NoTriangulation;
+impl<'a, V: HasPosition, DE, UE, F, P: PlaneTests<V::Scalar>> Search<'a, V, DE, UE, F, P> {
+    // The location of a position at an edge: within it, or outside and on its left.
+    fn place_at_edge(&self, edge: FixedDirectedEdgeHandle) -> Option<PositionInTriangulation>
+        requires within { edge < length self.now.dcel.now.directed }
+        requires search { IsSearch V.place V.Scalar.whole P.sites P.covered self.now }
+        requires apart { IsAtNoVertex V.place V.Scalar.whole self.now }
+        ensures { MatchOption result (IsClear V.place V.Scalar.whole self.now edge)
+            (IsPlaceOf V.place V.Scalar.whole self.now) }
+    {
+        let (from, to) = ends_of(self.dcel, edge);
+        if is_strictly_within(from, to, self.point, self.tests) {
+            return Some(PositionInTriangulation::OnEdge(edge));
+        }
+        if is_outer(self.dcel, edge) && turns_left(from, to, self.point, self.tests) {
+            return Some(PositionInTriangulation::OutsideOfConvexHull(edge));
+        }
+        None
     }
-    match place_at_edges(dcel, point, tests) {
-        Some(place) => place,
-        None => match face_around(dcel, point, tests) {
-            Some(face) => PositionInTriangulation::OnFace(face),
-            None => PositionInTriangulation::OutsideOfConvexHull(edge_from_nearest(dcel, point)),
-        },
-    }
-}
 
-/// Where a position is, by a look at all vertices, edges and faces.
-pub(crate) fn locate_by_scan<V: HasPosition, DE, UE, F, P: PlaneTests<V::Scalar>>(
-    dcel: &Dcel<V, DE, UE, F>,
-    point: Point2<V::Scalar>,
-    tests: &P,
-) -> PositionInTriangulation
-    requires kept { IsTriangulated V.place (state_of dcel.now) }
-    requires sites { All (P.sites tests.now) (map V.place dcel.now.vertices) }
-    requires covered { P.covered tests.now (place_of V.Scalar.whole point) }
-    ensures { Locates (map V.place dcel.now.vertices) dcel.now.mesh (place_of V.Scalar.whole point)
-        result }
-{
-    match vertex_at(dcel, point) {
-        Some(vertex) => PositionInTriangulation::OnVertex(vertex),
-        None => locate_apart(dcel, point, tests),
+    fn place_at_edges(&self) -> Option<PositionInTriangulation>
+        requires search { IsSearch V.place V.Scalar.whole P.sites P.covered self.now }
+        requires apart { IsAtNoVertex V.place V.Scalar.whole self.now }
+        ensures { MatchOption result ((h : ℕ) → h < length self.now.dcel.now.directed →
+            IsClear V.place V.Scalar.whole self.now h)
+            (IsPlaceOf V.place V.Scalar.whole self.now) }
+    {
+        for index in 0..self.dcel.num_directed_edges() {
+            let edge = FixedDirectedEdgeHandle::from_index(index as u32);
+            match self.place_at_edge(edge) {
+                Some(place) => return Some(place),
+                None => {}
+            }
+        }
+        None
+    }
+
+    // Whether the position is strictly inside an inner face.
+    pub(crate) fn is_inside_face(&self, face: FixedFaceHandle) -> bool
+        requires positive { 0 < face }
+        requires within { face ≤ length self.now.dcel.now.faces }
+        requires search { IsSearch V.place V.Scalar.whole P.sites P.covered self.now }
+        ensures { IsTrue result ↔ IsInFace V.place V.Scalar.whole self.now face }
+    {
+        let (a, b, c) = corners_of(self.dcel, face);
+        is_strictly_inside(a, b, c, self.point, self.tests)
+    }
+
+    fn face_around(&self) -> Option<FixedFaceHandle>
+        requires search { IsSearch V.place V.Scalar.whole P.sites P.covered self.now }
+        ensures { MatchOption result ((f : ℕ) → 0 < f → f ≤ length self.now.dcel.now.faces →
+            ¬ IsInFace V.place V.Scalar.whole self.now f) (λ f. (0 < f) ×
+            (f ≤ length self.now.dcel.now.faces) × IsInFace V.place V.Scalar.whole self.now f) }
+    {
+        for index in 0..self.dcel.num_inner_faces() {
+            let face = FixedFaceHandle::from_index(index as u32 + 1);
+            if self.is_inside_face(face) {
+                return Some(face);
+            }
+        }
+        None
+    }
+
+    // Where the position is, if no vertex has it.
+    fn place_apart(&self) -> PositionInTriangulation
+        requires search { IsSearch V.place V.Scalar.whole P.sites P.covered self.now }
+        requires apart { IsAtNoVertex V.place V.Scalar.whole self.now }
+        ensures { IsPlaceOf V.place V.Scalar.whole self.now result }
+    {
+        if self.dcel.num_vertices() < 2 {
+            return PositionInTriangulation::NoTriangulation;
+        }
+        match self.place_at_edges() {
+            Some(place) => place,
+            None => match self.face_around() {
+                Some(face) => PositionInTriangulation::OnFace(face),
+                None => PositionInTriangulation::OutsideOfConvexHull(edge_from_nearest(
+                    self.dcel, self.point,
+                )),
+            },
+        }
+    }
+
+    // Where the position is, by a look at all vertices, edges and faces.
+    pub(crate) fn place_by_scan(&self) -> PositionInTriangulation
+        requires search { IsSearch V.place V.Scalar.whole P.sites P.covered self.now }
+        ensures { IsPlaceOf V.place V.Scalar.whole self.now result }
+    {
+        match vertex_at(self.dcel, self.point) {
+            Some(vertex) => PositionInTriangulation::OnVertex(vertex),
+            None => self.place_apart(),
+        }
     }
 }

@@ -1,5 +1,5 @@
 //! The vertex that is nearest to a position, by a walk from neighbour to neighbour.
-ghost use Rattle.std.specs.Prelude.{◌≡◌, ◌⊎◌, ◌↔◌, ℕ, ◌+◌, ◌<◌, ◌≤◌, ◌<ℤ◌, ◌^◌};
+ghost use Rattle.std.specs.Prelude.{◌↔◌, ℕ, ◌+◌, ◌<◌, ◌≤◌, ◌<ℤ◌, ◌^◌};
 ghost use Rattle.std.specs.Prelude.{[], length, map, IsTrue, MatchOption};
 ghost use Rattle.plane.specs.Fraction.{whole as fraction};
 ghost use Rattle.plane.specs.Circle.{IsNearer, gap};
@@ -61,30 +61,9 @@ fn nearer_neighbor<V: HasPosition, DE, UE, F>(
     None
 }
 
-// Where a walk goes on from after some moves: where it is, but at each sixteenth move at a vertex
-// anywhere in the mesh, if one of those looked at is nearer.
-fn after_moves<V: HasPosition, DE, UE, F>(
-    dcel: &Dcel<V, DE, UE, F>,
-    from: FixedVertexHandle,
-    moves: u64,
-    point: Point2<V::Scalar>,
-) -> FixedVertexHandle
-    requires kept { IsTriangulated V.place (state_of dcel.now) }
-    requires within { from < length dcel.now.vertices }
-    requires in_range { InRange (place_of V.Scalar.whole point) }
-    ensures within { result < length dcel.now.vertices }
-    ensures nearer { let t = triangulation_of V.place (state_of dcel.now) in (result ≡ from) ⊎
-        IsNearer (fraction (place_of V.Scalar.whole point)) (vertex t result) (vertex t from) }
-{
-    if moves % FEW_MOVES == 0 {
-        nearer_sample(dcel, from, point)
-    } else {
-        from
-    }
-}
-
 // The vertex that is nearest to a position, by a walk from `start` to nearer neighbours until there
-// is none. It adds the number of its moves to `moves`: fewer than there are vertices.
+// is none. It adds the number of its moves to `moves`: fewer than there are vertices. At each
+// sixteenth move it goes on at a vertex anywhere in the mesh, if one of those looked at is nearer.
 pub fn nearest_by_neighbors<V: HasPosition, DE, UE, F>(
     dcel: &Dcel<V, DE, UE, F>,
     start: FixedVertexHandle,
@@ -103,7 +82,10 @@ pub fn nearest_by_neighbors<V: HasPosition, DE, UE, F>(
     let mut nearest = start;
     while let Some(nearer) = nearer_neighbor(dcel, nearest, point) {
         *moves += 1;
-        nearest = after_moves(dcel, nearer, *moves, point);
+        nearest = nearer;
+        if *moves % FEW_MOVES == 0 {
+            nearest = nearer_sample(dcel, nearer, point);
+        }
     }
     nearest
 }

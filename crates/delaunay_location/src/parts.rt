@@ -24,18 +24,6 @@ pub fn position_of<V: HasPosition, DE, UE, F>(
     dcel.vertex_data(vertex).position()
 }
 
-// The vertex where an edge starts.
-pub(crate) fn start_vertex<V, DE, UE, F>(
-    dcel: &Dcel<V, DE, UE, F>,
-    edge: FixedDirectedEdgeHandle,
-) -> FixedVertexHandle
-    requires { edge < length dcel.now.directed }
-    ensures value { result ≡ origin dcel.now.mesh edge }
-    ensures within { result < length dcel.now.vertices }
-{
-    dcel.directed_edge(edge).from().fix()
-}
-
 // The vertex where an edge ends.
 pub(crate) fn end_vertex<V, DE, UE, F>(
     dcel: &Dcel<V, DE, UE, F>,

@@ -1,15 +1,14 @@
 //! The steps of a walk from face to face towards a position.
-ghost use Rattle.std.specs.Prelude.{◌<◌, length, map, All, IfSome};
-ghost use Rattle.delaunay_core.specs.Place.{place_of};
-ghost use Rattle.delaunay_legalization.specs.Shape.{IsTriangulated};
-ghost use Rattle.delaunay_legalization.specs.State.{state_of};
-ghost use Rattle.delaunay_location.specs.Stop.{IsStop};
+ghost use Rattle.std.specs.Prelude.{◌<◌, length, IfSome};
+ghost use Rattle.delaunay_location.specs.Search.{IsSearch};
+ghost use Rattle.delaunay_location.specs.Stop.{IsStopOf};
 
 use crate::parts::ends_of;
+use crate::search::Search;
 use delaunay_core::math::PlaneTests;
 use delaunay_core::point::{HasPosition, Point2};
 use delaunay_legalization::{start_of, turns_left};
-use half_edge_mesh::{Dcel, FixedDirectedEdgeHandle, MeshViews};
+use half_edge_mesh::{FixedDirectedEdgeHandle, MeshViews};
 
 // Where a walk is: in the face on the left of an edge. The positions of its ends are kept, so that
 // a step reads that of one vertex.
@@ -20,89 +19,71 @@ pub(crate) struct Stop<S> {
     pub(crate) to: Point2<S>,
 }
 
-// The walk's place in the face on the left of an edge.
-pub(crate) fn stop_at<V: HasPosition, DE, UE, F, P: PlaneTests<V::Scalar>>(
-    dcel: &Dcel<V, DE, UE, F>,
-    edge: FixedDirectedEdgeHandle,
-    tests: &P,
-) -> Stop<V::Scalar>
-    requires kept { IsTriangulated V.place (state_of dcel.now) }
-    requires within { edge < length dcel.now.directed }
-    requires sites { All (P.sites tests.now) (map V.place dcel.now.vertices) }
-    ensures { IsStop V.Scalar.whole (P.covered tests.now) (length dcel.now.directed) result }
-{
-    let (from, to) = ends_of(dcel, edge);
-    Stop { edge, from, to }
-}
+impl<'a, V: HasPosition, DE, UE, F, P: PlaneTests<V::Scalar>> Search<'a, V, DE, UE, F, P> {
+    // The walk's place in the face on the left of an edge.
+    pub(crate) fn stop_at(&self, edge: FixedDirectedEdgeHandle) -> Stop<V::Scalar>
+        requires within { edge < length self.now.dcel.now.directed }
+        requires search { IsSearch V.place V.Scalar.whole P.sites P.covered self.now }
+        ensures { IsStopOf V.Scalar.whole P.covered self.now result }
+    {
+        let (from, to) = ends_of(self.dcel, edge);
+        Stop { edge, from, to }
+    }
 
-// The way from an edge that has the outer face on its left to a position: the other direction of
-// the edge, unless the position is strictly on its left.
-fn way_in<V: HasPosition, DE, UE, F, P: PlaneTests<V::Scalar>>(
-    dcel: &Dcel<V, DE, UE, F>,
-    stop: Stop<V::Scalar>,
-    point: Point2<V::Scalar>,
-    tests: &P,
-) -> Option<Stop<V::Scalar>>
-    requires kept { IsTriangulated V.place (state_of dcel.now) }
-    requires stop { IsStop V.Scalar.whole (P.covered tests.now) (length dcel.now.directed) stop }
-    requires covered { P.covered tests.now (place_of V.Scalar.whole point) }
-    ensures { IfSome result (IsStop V.Scalar.whole (P.covered tests.now)
-        (length dcel.now.directed)) }
-{
-    let Stop { edge, from, to } = stop;
-    if turns_left(from, to, point, tests) {
-        return None;
-    }
-    Some(Stop {
-        edge: edge.rev(),
-        from: to,
-        to: from,
-    })
-}
-
-// The way from the face on the left of an edge to a position outside it: a side that has the
-// position strictly on its right, in the other direction. From the outer face it leads inside,
-// unless the position is on the left of the edge.
-pub(crate) fn way_out<V: HasPosition, DE, UE, F, P: PlaneTests<V::Scalar>>(
-    dcel: &Dcel<V, DE, UE, F>,
-    stop: Stop<V::Scalar>,
-    point: Point2<V::Scalar>,
-    tests: &P,
-) -> Option<Stop<V::Scalar>>
-    requires kept { IsTriangulated V.place (state_of dcel.now) }
-    requires stop { IsStop V.Scalar.whole (P.covered tests.now) (length dcel.now.directed) stop }
-    requires sites { All (P.sites tests.now) (map V.place dcel.now.vertices) }
-    requires covered { P.covered tests.now (place_of V.Scalar.whole point) }
-    ensures { IfSome result (IsStop V.Scalar.whole (P.covered tests.now)
-        (length dcel.now.directed)) }
-{
-    let here = dcel.directed_edge(stop.edge);
-    if here.is_outer_edge() {
-        return way_in(dcel, stop, point, tests);
-    }
-    let Stop { edge, from, to } = stop;
-    let prev = here.prev().fix();
-    let across = start_of(dcel, prev);
-    if tests.side(to, across, point).is_on_right_side() {
-        return Some(Stop {
-            edge: here.next().fix().rev(),
-            from: across,
-            to,
-        });
-    }
-    if tests.side(across, from, point).is_on_right_side() {
-        return Some(Stop {
-            edge: prev.rev(),
-            from,
-            to: across,
-        });
-    }
-    if tests.side(from, to, point).is_on_right_side() {
-        return Some(Stop {
+    // The way from an edge that has the outer face on its left to the position: the other direction
+    // of the edge, unless the position is strictly on its left.
+    fn way_in(&self, stop: Stop<V::Scalar>) -> Option<Stop<V::Scalar>>
+        requires search { IsSearch V.place V.Scalar.whole P.sites P.covered self.now }
+        requires stop { IsStopOf V.Scalar.whole P.covered self.now stop }
+        ensures { IfSome result (IsStopOf V.Scalar.whole P.covered self.now) }
+    {
+        let Stop { edge, from, to } = stop;
+        if turns_left(from, to, self.point, self.tests) {
+            return None;
+        }
+        Some(Stop {
             edge: edge.rev(),
             from: to,
             to: from,
-        });
+        })
     }
-    None
+
+    // The way from the face on the left of an edge to a position outside it: a side that has the
+    // position strictly on its right, in the other direction. From the outer face it leads inside,
+    // unless the position is on the left of the edge.
+    pub(crate) fn way_out(&self, stop: Stop<V::Scalar>) -> Option<Stop<V::Scalar>>
+        requires search { IsSearch V.place V.Scalar.whole P.sites P.covered self.now }
+        requires stop { IsStopOf V.Scalar.whole P.covered self.now stop }
+        ensures { IfSome result (IsStopOf V.Scalar.whole P.covered self.now) }
+    {
+        let here = self.dcel.directed_edge(stop.edge);
+        if here.is_outer_edge() {
+            return self.way_in(stop);
+        }
+        let Stop { edge, from, to } = stop;
+        let prev = here.prev().fix();
+        let across = start_of(self.dcel, prev);
+        if self.tests.side(to, across, self.point).is_on_right_side() {
+            return Some(Stop {
+                edge: here.next().fix().rev(),
+                from: across,
+                to,
+            });
+        }
+        if self.tests.side(across, from, self.point).is_on_right_side() {
+            return Some(Stop {
+                edge: prev.rev(),
+                from,
+                to: across,
+            });
+        }
+        if self.tests.side(from, to, self.point).is_on_right_side() {
+            return Some(Stop {
+                edge: edge.rev(),
+                from: to,
+                to: from,
+            });
+        }
+        None
+    }
 }

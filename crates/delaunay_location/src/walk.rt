@@ -10,11 +10,10 @@ ghost use Rattle.delaunay_legalization.specs.State.{state_of};
 ghost use Rattle.delaunay_location.specs.Location.{Locates};
 ghost use Rattle.delaunay_location.specs.Search.{IsPlaceOf, IsSearch};
 
-use crate::location::{is_inside_face, locate_by_scan};
-use crate::parts::{ends_of, left_face, start_vertex};
+use crate::parts::{ends_of, left_face};
 use crate::position_in_triangulation::PositionInTriangulation;
 use crate::samples::nearer_sample;
-use crate::steps::{stop_at, way_out};
+use crate::search::Search;
 use delaunay_core::math::PlaneTests;
 use delaunay_core::point::{HasPosition, Point2};
 use delaunay_legalization::{is_outer, is_same_point, is_strictly_within, turns_left};
@@ -22,14 +21,6 @@ use half_edge_mesh::{Dcel, FixedDirectedEdgeHandle, FixedVertexHandle, MeshViews
 
 // After so many steps a walk looks for a nearer vertex anywhere in the mesh.
 const FEW_STEPS: usize = 16;
-
-// A search for a position in a mesh, with the tests that say on which sides points are.
-#[derive(Drop)]
-pub(crate) struct Search<'a, V: HasPosition, DE, UE, F, P: PlaneTests<V::Scalar>> {
-    pub(crate) dcel: &'a Dcel<V, DE, UE, F>,
-    pub(crate) point: Point2<V::Scalar>,
-    pub(crate) tests: &'a P,
-}
 
 impl<'a, V: HasPosition, DE, UE, F, P: PlaneTests<V::Scalar>> Search<'a, V, DE, UE, F, P> {
     // The location of a position on an edge: at its start, or within it.
@@ -40,7 +31,8 @@ impl<'a, V: HasPosition, DE, UE, F, P: PlaneTests<V::Scalar>> Search<'a, V, DE, 
     {
         let (from, to) = ends_of(self.dcel, edge);
         if is_same_point(from, self.point) {
-            return Some(PositionInTriangulation::OnVertex(start_vertex(self.dcel, edge)));
+            let vertex = self.dcel.directed_edge(edge).from().fix();
+            return Some(PositionInTriangulation::OnVertex(vertex));
         }
         if is_same_point(to, self.point) {
             return None;
@@ -59,7 +51,7 @@ impl<'a, V: HasPosition, DE, UE, F, P: PlaneTests<V::Scalar>> Search<'a, V, DE, 
         ensures { IfSome result (IsPlaceOf V.place V.Scalar.whole self.now) }
     {
         let face = left_face(self.dcel, edge);
-        if is_inside_face(self.dcel, face, self.point, self.tests) {
+        if self.is_inside_face(face) {
             return Some(PositionInTriangulation::OnFace(face));
         }
         if let Some(place) = self.place_on_edge(edge) {
@@ -112,10 +104,10 @@ impl<'a, V: HasPosition, DE, UE, F, P: PlaneTests<V::Scalar>> Search<'a, V, DE, 
         requires search { IsSearch V.place V.Scalar.whole P.sites P.covered self.now }
         ensures { result.0 < length self.now.dcel.now.directed }
     {
-        let mut stop = stop_at(self.dcel, start, self.tests);
+        let mut stop = self.stop_at(start);
         for _ in 0..steps {
             let edge = stop.edge;
-            match way_out(self.dcel, stop, self.point, self.tests) {
+            match self.way_out(stop) {
                 Some(beyond) => stop = beyond,
                 None => return (edge, true),
             }
@@ -166,7 +158,7 @@ fn nearer_edge<V: HasPosition, DE, UE, F>(
     requires in_range { InRange (place_of V.Scalar.whole point) }
     ensures { result < length dcel.now.directed }
 {
-    let from = start_vertex(dcel, other);
+    let from = dcel.directed_edge(other).from().fix();
     let nearest = nearer_sample(dcel, from, point);
     match dcel.vertex(nearest).out_edge() {
         Some(edge) if nearest != from => edge.fix(),
@@ -206,7 +198,7 @@ pub fn locate_with_hint<V: HasPosition, DE, UE, F, P: PlaneTests<V::Scalar>>(
     let search = Search { dcel, point, tests };
     match search.walk_from(hint) {
         Some(place) => place,
-        None => locate_by_scan(dcel, point, tests),
+        None => search.place_by_scan(),
     }
 }
 

@@ -17,18 +17,52 @@ loop-nearer-preserved g c =
     let vertices = c.args.dcel.now.vertices in
     let t = triangulation_of g.V.HasPosition.place (state_of c.args.dcel.now) in
     let p = place_of g.V.Scalar.SpadeNum.whole c.args.point in
-    let moved = walking_goes_on t p c.args.moves.now c.loop-nearer.nearest c.loop-nearer.moves c.loop-nearer.invariant c.in-Some.nearer (let w = c.in-Some.ensures.0 in omega (arith, w, length-map vertices g.V.HasPosition.place)) c.in-Some.ensures.1 in
-    walking_jumps t p c.args.moves.now c.in-Some.nearer (c.loop-nearer.moves + 1) moved c.after_moves-nearest.result (let w = c.after_moves-nearest.ensures.within in omega (arith, w, length-map vertices g.V.HasPosition.place)) c.after_moves-nearest.ensures.nearer
+    let within : c.in-Some.nearer < length t.points =
+    let w = c.in-Some.ensures.0 in omega (arith, w, length-map vertices g.V.HasPosition.place) in
+    walking_goes_on t p c.args.moves.now c.loop-nearer.nearest c.loop-nearer.moves c.loop-nearer.invariant
+    c.in-Some.nearer within c.in-Some.ensures.1
+
+pub loop-nearer-preserved-then-moves-eq0 : goal.loop-nearer-preserved-then-moves-eq0
+loop-nearer-preserved-then-moves-eq0 g c =
+    let vertices = c.args.dcel.now.vertices in
+    let count = length-map vertices g.V.HasPosition.place in
+    let t = triangulation_of g.V.HasPosition.place (state_of c.args.dcel.now) in
+    let p = place_of g.V.Scalar.SpadeNum.whole c.args.point in
+    let within : c.in-Some.nearer < length t.points = let w = c.in-Some.ensures.0 in omega (arith, w, count) in
+    let moved = walking_goes_on t p c.args.moves.now c.loop-nearer.nearest c.loop-nearer.moves
+    c.loop-nearer.invariant c.in-Some.nearer within c.in-Some.ensures.1 in
+    let sample = c.nearer_sample-nearest.ensures in
+    let sample_within : c.nearer_sample-nearest.result < length t.points =
+    let w = sample.within in omega (arith, w, count) in
+    walking_jumps t p c.args.moves.now c.in-Some.nearer (c.loop-nearer.moves + 1) moved
+    c.nearer_sample-nearest.result sample_within sample.nearer
 
 pub loop-nearer-smaller : goal.loop-nearer-smaller
 loop-nearer-smaller g c =
     let vertices = c.args.dcel.now.vertices in
     let t = triangulation_of g.V.HasPosition.place (state_of c.args.dcel.now) in
     let p = place_of g.V.Scalar.SpadeNum.whole c.args.point in
-    let within : c.in-Some.nearer < length t.points = let w = c.in-Some.ensures.0 in omega (arith, w, length-map vertices g.V.HasPosition.place) in
-    let moved = walking_goes_on t p c.args.moves.now c.loop-nearer.nearest c.loop-nearer.moves c.loop-nearer.invariant c.in-Some.nearer within c.in-Some.ensures.1 in
-    let falls = nearer_falls t p c.args.moves.now c.loop-nearer.nearest c.loop-nearer.moves c.loop-nearer.invariant c.in-Some.nearer within c.in-Some.ensures.1 in
-    let stays = nearer_falls_or_stays t p c.args.moves.now c.in-Some.nearer (c.loop-nearer.moves + 1) moved c.after_moves-nearest.result (let w = c.after_moves-nearest.ensures.within in omega (arith, w, length-map vertices g.V.HasPosition.place)) c.after_moves-nearest.ensures.nearer in
+    let within : c.in-Some.nearer < length t.points =
+    let w = c.in-Some.ensures.0 in omega (arith, w, length-map vertices g.V.HasPosition.place) in
+    nearer_falls t p c.args.moves.now c.loop-nearer.nearest c.loop-nearer.moves c.loop-nearer.invariant
+    c.in-Some.nearer within c.in-Some.ensures.1
+
+pub loop-nearer-smaller-then-moves-eq0 : goal.loop-nearer-smaller-then-moves-eq0
+loop-nearer-smaller-then-moves-eq0 g c =
+    let vertices = c.args.dcel.now.vertices in
+    let count = length-map vertices g.V.HasPosition.place in
+    let t = triangulation_of g.V.HasPosition.place (state_of c.args.dcel.now) in
+    let p = place_of g.V.Scalar.SpadeNum.whole c.args.point in
+    let within : c.in-Some.nearer < length t.points = let w = c.in-Some.ensures.0 in omega (arith, w, count) in
+    let moved = walking_goes_on t p c.args.moves.now c.loop-nearer.nearest c.loop-nearer.moves
+    c.loop-nearer.invariant c.in-Some.nearer within c.in-Some.ensures.1 in
+    let falls = nearer_falls t p c.args.moves.now c.loop-nearer.nearest c.loop-nearer.moves
+    c.loop-nearer.invariant c.in-Some.nearer within c.in-Some.ensures.1 in
+    let sample = c.nearer_sample-nearest.ensures in
+    let sample_within : c.nearer_sample-nearest.result < length t.points =
+    let w = sample.within in omega (arith, w, count) in
+    let stays = nearer_falls_or_stays t p c.args.moves.now c.in-Some.nearer (c.loop-nearer.moves + 1) moved
+    c.nearer_sample-nearest.result sample_within sample.nearer in
     omega (arith, falls, stays)
 
 pub overflow_add-moves : goal.overflow_add-moves

@@ -1,0 +1,24 @@
+-- The points that the tests of a search cover.
+use Rattle.std.proofs.Common.{◌≡◌, ℕ, ◌<◌, length, map}
+use Rattle.std.specs.Prelude.{ℤ, Contains}
+use Rattle.plane.specs.Fraction.{Point}
+use Rattle.delaunay_legalization.specs.Known.{point_at}
+use Rattle.delaunay_legalization.proofs.Questions.{covered_at, covered_in}
+use Rattle.delaunay_location.specs.declared.search.Search.{Search}
+use Rattle.delaunay_location.specs.Search.{IsSearch}
+
+module _ {V D U F P S : Type 0} (at : V → Point) (number : S → ℤ) (IsSite IsCovered : P → Point → Type 0)
+    (covers : (t : P) → (p : Point) → IsSite t p → IsCovered t p) (s : Search V D U F P S)
+    (search : IsSearch at number IsSite IsCovered s) where
+  -- the position of a vertex is covered
+  pub vertex_covered : (i : ℕ) (q : Point) → i < length (map at s.dcel.now.vertices)
+      → q ≡ point_at (map at s.dcel.now.vertices) i → IsCovered s.tests.now q
+  vertex_covered i q h e =
+      let t = s.tests.now in
+      covered_at (IsCovered t) (IsSite t) (covers t) (map at s.dcel.now.vertices) i q search.sites h e
+
+  -- so is a position that is listed
+  pub listed_covered : (q : Point) → Contains (map at s.dcel.now.vertices) q → IsCovered s.tests.now q
+  listed_covered q c =
+      let t = s.tests.now in
+      covered_in (IsCovered t) (IsSite t) (covers t) (map at s.dcel.now.vertices) q search.sites c

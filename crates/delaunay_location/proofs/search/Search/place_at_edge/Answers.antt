@@ -1,0 +1,55 @@
+use Rattle.std.proofs.Common.{sym, ◌∙◌}
+use Rattle.delaunay_legalization.proofs.Questions.{both_ways}
+use Rattle.delaunay_location.proofs.Covering.{vertex_covered}
+use Rattle.delaunay_location.proofs.Questions.{clear, located_left}
+use Rattle.delaunay_location.proofs.search.Search.place_at_edge.Goals.{else-is_outer-via-then-is_outer+else-turns_left}
+use Rattle.delaunay_location.proofs.search.Search.place_at_edge.Goals.{else-is_outer-via-else-is_outer}
+use Rattle.delaunay_location.proofs.search.Search.place_at_edge.Goals as goal
+
+pub is_strictly_within-requires-clause-from_covered : goal.is_strictly_within-requires-clause-from_covered
+is_strictly_within-requires-clause-from_covered g c =
+    let ends = c.ends_of.ensures in
+    vertex_covered _ _ _ _ g.met.P.PlaneTests.sites_are_covered _ c.requires.search _ _ ends.edge.source ends.from
+
+pub is_strictly_within-requires-clause-to_covered : goal.is_strictly_within-requires-clause-to_covered
+is_strictly_within-requires-clause-to_covered g c =
+    let ends = c.ends_of.ensures in
+    vertex_covered _ _ _ _ g.met.P.PlaneTests.sites_are_covered _ c.requires.search _ _ ends.edge.target ends.to
+
+pub is_strictly_within-requires-clause-not_from : goal.is_strictly_within-requires-clause-not_from
+is_strictly_within-requires-clause-not_from g c same =
+    let ends = c.ends_of.ensures in
+    c.requires.apart.apart _ ends.edge.source (sym ends.from ∙ sym same)
+
+pub is_strictly_within-requires-clause-not_to : goal.is_strictly_within-requires-clause-not_to
+is_strictly_within-requires-clause-not_to g c same =
+    let ends = c.ends_of.ensures in
+    c.requires.apart.apart _ ends.edge.target (sym ends.to ∙ sym same)
+
+pub turns_left-requires-clause-a_covered : goal.turns_left-requires-clause-a_covered
+turns_left-requires-clause-a_covered g c =
+    let ends = c.ends_of.ensures in
+    vertex_covered _ _ _ _ g.met.P.PlaneTests.sites_are_covered _ c.requires.search _ _ ends.edge.source ends.from
+
+pub turns_left-requires-clause-b_covered : goal.turns_left-requires-clause-b_covered
+turns_left-requires-clause-b_covered g c =
+    let ends = c.ends_of.ensures in
+    vertex_covered _ _ _ _ g.met.P.PlaneTests.sites_are_covered _ c.requires.search _ _ ends.edge.target ends.to
+
+pub returns-then-turns_left : goal.returns-then-turns_left
+returns-then-turns_left g c =
+    let ends = c.ends_of.ensures in
+    let is_bare = c.is_outer.ensures.0 c.if-is_outer.true in
+    let is_left = c.turns_left.ensures.0 c.if-turns_left.true in
+    located_left _ _ _ _ _ _ ends.from ends.to ends.edge is_bare is_left
+
+pub returns : goal.returns
+returns g c =
+    let ends = c.ends_of.ensures in
+    clear _ _ _ _ _ _ ends.from ends.to
+    (λ w. both_ways _ (c.is_strictly_within.ensures.1 w) c.if-is_strictly_within.false)
+    (λ l. elim c.else-is_outer.branch [
+      | else-is_outer-via-then-is_outer+else-turns_left w ↦
+          both_ways _ (w.turns_left.ensures.1 l.1) w.if-turns_left.false
+      | else-is_outer-via-else-is_outer w ↦ both_ways _ (c.is_outer.ensures.1 l.0) w.if-is_outer.false
+    ])

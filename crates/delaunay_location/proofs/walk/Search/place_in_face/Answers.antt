@@ -1,9 +1,0 @@
-use Rattle.std.proofs.Common.{arith}
-use Rattle.delaunay_core.specs.Place.{place_of}
-use Rattle.delaunay_legalization.specs.State.{state_of}
-use Rattle.delaunay_location.proofs.Locating.{in_face}
-use Rattle.delaunay_location.proofs.walk.Search.place_in_face.Goals as goal
-
-pub returns-then-is_inside_face : goal.returns-then-is_inside_face
-returns-then-is_inside_face g c =
-    in_face g.V.HasPosition.place (state_of c.args.self.now.dcel.now) c.requires.search.kept (place_of g.V.Scalar.SpadeNum.whole c.args.self.now.point) c.left_face-face.result (omega (arith, c.requires.inner, c.left_face-face.ensures.value)) c.left_face-face.ensures.within (c.is_inside_face.ensures.0 c.if-is_inside_face.true)
