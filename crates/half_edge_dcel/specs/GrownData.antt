@@ -7,7 +7,8 @@ use Rattle.half_edge_dcel.specs.Growth.{Grows, MovesItem, MovesTwoItems}
 
 module _ {V DE UE FA : Type 0} where
   -- these vertex data, and so many more directed edges, undirected edges and faces
-  pub record AddsData (D : DE → Type 0) (U : UE → Type 0) (F : FA → Type 0) (vertices : List V) (old new : Contents V DE UE FA) (d u f : ℕ) : Type 0 where
+  pub record AddsData (D : DE → Type 0) (U : UE → Type 0) (F : FA → Type 0) (vertices : List V)
+      (old new : Contents V DE UE FA) (d u f : ℕ) : Type 0 where
     pub contents : new ≡ record old {
       mesh = new.mesh;
       vertices = vertices;
@@ -20,7 +21,8 @@ module _ {V DE UE FA : Type 0} where
     pub faces : Grows F old.faces new.faces f
 
   -- these vertex data and one more edge; data of the faces stay
-  pub record AddsEdgeData (D : DE → Type 0) (U : UE → Type 0) (vertices : List V) (old new : Contents V DE UE FA) : Type 0 where
+  pub record AddsEdgeData (D : DE → Type 0) (U : UE → Type 0) (vertices : List V)
+      (old new : Contents V DE UE FA) : Type 0 where
     pub contents : new ≡ record old {
       mesh = new.mesh;
       vertices = vertices;
@@ -32,7 +34,8 @@ module _ {V DE UE FA : Type 0} where
 
   -- these vertex data; the data of edge e move to the first new edge, and so many more directed edges, undirected
   -- edges and faces follow
-  pub record MovesData (D : DE → Type 0) (U : UE → Type 0) (F : FA → Type 0) (vertices : List V) (old new : Contents V DE UE FA) (e d u f : ℕ) : Type 0 where
+  pub record MovesData (D : DE → Type 0) (U : UE → Type 0) (F : FA → Type 0) (vertices : List V)
+      (old new : Contents V DE UE FA) (e d u f : ℕ) : Type 0 where
     pub contents : new ≡ record old {
       mesh = new.mesh;
       vertices = vertices;

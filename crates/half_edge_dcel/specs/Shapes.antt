@@ -1,4 +1,4 @@
--- What calls that grow a mesh do to its links, the corners of its faces and its outer edges. Each vertex v is a new one.
+-- What calls that grow a mesh do to its links, the corners of its faces and its outer edges; each vertex v is new.
 use Rattle.std.specs.Prelude.{◌≡◌, ℕ, ◌+◌, ◌⊎◌, []}
 use Rattle.half_edge_links.specs.Flip.{flipped}
 use Rattle.half_edge_links.specs.Grow.{with_face_beside, closed, half_split, hung, edge_into, line_split}

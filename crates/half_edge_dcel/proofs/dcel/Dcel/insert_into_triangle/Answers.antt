@@ -27,7 +27,15 @@ returns-clause-links g c =
 
 pub returns-clause-data : goal.returns-clause-data
 returns-clause-data g c = rw (← c.self.view_is) (record {
-  contents = rw (c.insert_beside.ensures.room, c.push_vertex-v.ensures.room, c.push_reserved.ensures.items, c.push_reserved.ensures.capacity, c.push_defaults.ensures.capacity, c.push_defaults-2.ensures.capacity, c.push_defaults-3.ensures.capacity) refl;
+  contents = rw (
+    c.insert_beside.ensures.room,
+    c.push_vertex-v.ensures.room,
+    c.push_reserved.ensures.items,
+    c.push_reserved.ensures.capacity,
+    c.push_defaults.ensures.capacity,
+    c.push_defaults-2.ensures.capacity,
+    c.push_defaults-3.ensures.capacity,
+  ) refl;
   directed = c.push_defaults.ensures.grows;
   undirected = c.push_defaults-2.ensures.grows;
   faces = c.push_defaults-3.ensures.grows;

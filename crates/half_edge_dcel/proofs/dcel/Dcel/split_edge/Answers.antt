@@ -32,7 +32,15 @@ returns-clause-links g c =
 
 pub returns-clause-data : goal.returns-clause-data
 returns-clause-data g c = rw (← c.self.view_is) (record {
-  contents = rw (c.split_edge.ensures.room, c.push_vertex-v.ensures.room, c.push_reserved.ensures.items, c.push_reserved.ensures.capacity, c.move_two_items.ensures.capacity, c.move_item.ensures.capacity, c.push_defaults.ensures.capacity) refl;
+  contents = rw (
+    c.split_edge.ensures.room,
+    c.push_vertex-v.ensures.room,
+    c.push_reserved.ensures.items,
+    c.push_reserved.ensures.capacity,
+    c.move_two_items.ensures.capacity,
+    c.move_item.ensures.capacity,
+    c.push_defaults.ensures.capacity,
+  ) refl;
   directed = rw (c.index-2.ensures, c.index-3.ensures, c.rev.ensures) at c.move_two_items.ensures.moves;
   undirected = rw c.index-4.ensures at c.move_item.ensures.moves;
   faces = c.push_defaults.ensures.grows;
