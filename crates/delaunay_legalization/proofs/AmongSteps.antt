@@ -1,9 +1,8 @@
--- One step of a legalization where only some edges may fail: a flip leaves those round it to test that are among these.
-use Rattle.std.proofs.Common.{◌≡◌, ◌⊎◌, ℕ, ◌+◌, ◌*◌, ◌/◌, ◌<◌, List, [], ◌∷◌, ◌++◌}
+-- Where only some edges may fail, a flip leaves those round it to test that are among these.
+use Rattle.std.proofs.Common.{◌≡◌, ◌⊎◌, ℕ, ◌*◌, ◌/◌, ◌<◌, List, [], ◌∷◌, ◌++◌}
 use Rattle.std.proofs.Common.{length, refl, sym, ap, ◌∙◌, subst, arith}
 use mathlib.Core.Logic.{◌≢◌, inl, inr}
 use Rattle.std.specs.Prelude.{Contains}
-use Rattle.std.proofs.lemmas.List.{length-append}
 use Rattle.half_edge_mesh.specs.Mesh.{Mesh, origin, next, prev, face, rev, edge_at, IsValidMesh}
 use Rattle.half_edge_mesh.specs.Flip.{IsFlippable, Flips, flipped}
 use Rattle.half_edge_links.proofs.Lists.Rev.{rev-rev, rev_within}
@@ -14,7 +13,7 @@ use Rattle.half_edge_links.proofs.Faces.FlipSound.{origin_kept}
 use Rattle.plane.proofs.Centre.{circle_turned}
 use Rattle.plane.specs.Circle.{InsideCircle}
 use Rattle.plane.specs.Fraction.{Point}
-use Rattle.plane.specs.Pairs.{Joins, place}
+use Rattle.plane.specs.Pairs.{place}
 use Rattle.plane_tiling.specs.Local.{LocalMesh, IsMesh}
 use Rattle.plane_tiling.proofs.Tiles.{point_at}
 use Rattle.plane_edits.specs.Change.{IsFaceOf}
@@ -25,11 +24,10 @@ use Rattle.mesh_embedding.specs.Legal.{AreEdges, IsFailing, IsPartlyLegal, Gains
 use Rattle.mesh_embedding.proofs.MeshEdits.{face_before, face_behind}
 use Rattle.mesh_embedding.proofs.MeshLegal as M
 use Rattle.mesh_embedding.proofs.TurnedEnds.{KeepsOtherOrigins}
-use Rattle.mesh_embedding.proofs.WorkLists.{contains_last}
-use Rattle.delaunay_legalization.specs.Among.{IsQuiet, FailOnlyAmong, GainsRoundAmong}
-use Rattle.delaunay_legalization.specs.Among.{CanStepAmong, HasSteppedAmong}
+use Rattle.delaunay_legalization.specs.Among.{IsQuiet, IsQuietEdge, FailOnlyAmong}
+use Rattle.delaunay_legalization.specs.Pushing.{GainsRoundAmong}
 use Rattle.delaunay_legalization.proofs.FarSides.{listed_or_not}
-use Rattle.delaunay_legalization.proofs.Legalizing.{edges_gained, turned_by, fewer_by}
+use Rattle.delaunay_legalization.proofs.Legalizing.{edges_gained}
 
 -- ---- a failing edge is not quiet
 -- directed edge h is none of the three of the face on the left of directed edge e
@@ -43,7 +41,8 @@ module _ (points : List Point) (m : Mesh) (e : ℕ) (t : T.IsTriangle m e) (inne
     (n_in : n < length points) (inside : InsideCircle (place points (origin m e)) (place points (origin m (next m e)))
     (place points (origin m (prev m e))) (place points n)) where
   abbrev Inside : ℕ → ℕ → ℕ → Type 0
-  Inside i j k = InsideCircle (place points (origin m i)) (place points (origin m j)) (place points (origin m k)) (place points n)
+  Inside i j k =
+      InsideCircle (place points (origin m i)) (place points (origin m j)) (place points (origin m k)) (place points n)
 
   first_loud : IsQuiet points m e → ⊥
   first_loud (inl o) = omega (arith, inner, o)
@@ -51,13 +50,13 @@ module _ (points : List Point) (m : Mesh) (e : ℕ) (t : T.IsTriangle m e) (inne
 
   next_loud : IsQuiet points m (next m e) → ⊥
   next_loud (inl o) = let f = t.face_next in omega (arith, inner, f, o)
-  next_loud (inr q) = q n n_in (subst (λ (z : ℕ × ℕ). Inside (next m e) z.0 z.1) (λ i. (sym t.next_next i, sym t.prev_next i))
-      (circle_turned _ _ _ _ inside))
+  next_loud (inr q) = q n n_in (subst (λ (z : ℕ × ℕ). Inside (next m e) z.0 z.1)
+      (λ i. (sym t.next_next i, sym t.prev_next i)) (circle_turned _ _ _ _ inside))
 
   prev_loud : IsQuiet points m (prev m e) → ⊥
   prev_loud (inl o) = let f = t.face_prev in omega (arith, inner, f, o)
-  prev_loud (inr q) = q n n_in (subst (λ (z : ℕ × ℕ). Inside (prev m e) z.0 z.1) (λ i. (sym t.next_prev i, sym t.prev_prev i))
-      (circle_turned _ _ _ _ (circle_turned _ _ _ _ inside)))
+  prev_loud (inr q) = q n n_in (subst (λ (z : ℕ × ℕ). Inside (prev m e) z.0 z.1)
+      (λ i. (sym t.next_prev i, sym t.prev_prev i)) (circle_turned _ _ _ _ (circle_turned _ _ _ _ inside)))
 
   -- so no quiet edge is one of them
   quiet_is_outside : (h : ℕ) → IsQuiet points m h → IsOutside m e h
@@ -87,7 +86,7 @@ module _ (points : List Point) (m : Mesh) (s : IsValidMesh m) (shape : IsMesh po
   turn : IsFlippable m e
   turn = M.between_inner points m s local e within x.inner x.twin_inner
 
-  six : AreSixPlaces (length m.half_edges) e (rev e) (next m e) (next m (rev e)) (prev m e) (prev m (rev e))
+  pub six : AreSixPlaces (length m.half_edges) e (rev e) (next m e) (next m (rev e)) (prev m e) (prev m (rev e))
   six = T.six_round m e s.sound turn
 
   left_face : IsFaceOf (faces_of m) a c d
@@ -102,9 +101,12 @@ module _ (points : List Point) (m : Mesh) (s : IsValidMesh m) (shape : IsMesh po
       (turning_of points (faces_of m) (outer_of m) local a c d left_face)
       (turning_of points (faces_of m) (outer_of m) local c a b right_face)).0 x.inside
 
-  right_by_edges : InsideCircle (place points (origin m (rev e))) (place points (origin m (next m (rev e)))) (place points b) (place points d)
-  right_by_edges = subst (λ (z : ℕ × ℕ). InsideCircle (place points z.0) (place points z.1) (place points b) (place points d))
-      (λ i. ((s.sound.edges e within).starts i, sym ((s.sound.edges (rev e) six.b_in).starts ∙ ap (origin m) (rev-rev e)) i)) inside_right
+  right_by_edges : InsideCircle (place points (origin m (rev e))) (place points (origin m (next m (rev e))))
+      (place points b) (place points d)
+  right_by_edges =
+      let back = sym ((s.sound.edges (rev e) six.b_in).starts ∙ ap (origin m) (rev-rev e)) in
+      subst (λ (z : ℕ × ℕ). InsideCircle (place points z.0) (place points z.1) (place points b) (place points d))
+      (λ i. ((s.sound.edges e within).starts i, back i)) inside_right
 
   -- a quiet edge is in neither face of a failing edge
   outside_left : (h : ℕ) → IsQuiet points m h → IsOutside m e h
@@ -112,8 +114,8 @@ module _ (points : List Point) (m : Mesh) (s : IsValidMesh m) (shape : IsMesh po
       (index_of points (faces_of m) (outer_of m) local c a b right_face).2 x.inside h q
 
   outside_right : (h : ℕ) → IsQuiet points m h → IsOutside m (rev e) h
-  outside_right h q = quiet_is_outside points m (rev e) (T.triangle_at m (rev e) s.sound six.b_in x.twin_inner) x.twin_inner d
-      (index_of points (faces_of m) (outer_of m) local a c d left_face).2 right_by_edges h q
+  outside_right h q = quiet_is_outside points m (rev e) (T.triangle_at m (rev e) s.sound six.b_in x.twin_inner)
+      x.twin_inner d (index_of points (faces_of m) (outer_of m) local a c d left_face).2 right_by_edges h q
 
   -- so an edge that fails is quiet on neither side
   fails_loud : IsQuiet points m e ⊎ IsQuiet points m (rev e) → ⊥
@@ -121,7 +123,7 @@ module _ (points : List Point) (m : Mesh) (s : IsValidMesh m) (shape : IsMesh po
   fails_loud (inr q) = (outside_right (rev e) q).first refl
 
   -- ---- after the flip
-  moves : Flips m (flipped m e) e
+  pub moves : Flips m (flipped m e) e
   moves = flips m e s.sound turn
 
   origin_stays : KeepsOtherOrigins m (flipped m e) e
@@ -162,21 +164,22 @@ module _ (points : List Point) (m : Mesh) (s : IsValidMesh m) (shape : IsMesh po
       go : IsQuiet points m h → IsQuiet points (flipped m e) h
       go (inl o) = inl (ap (λ r. r.face) same ∙ o)
       go (inr empty) = inr (λ n n_in i. empty n n_in
-          (subst (λ (z : ℕ × ℕ × ℕ). InsideCircle (place points z.0) (place points z.1) (place points z.2) (place points n))
+          (subst (λ (z : ℕ × ℕ × ℕ).
+          InsideCircle (place points z.0) (place points z.1) (place points z.2) (place points n))
           (λ o. (own o, next_own o, prev_own o)) i))
 
   -- so still only edges among hs fail
-  only_stay : (hs : List ℕ) → FailOnlyAmong points m hs → FailOnlyAmong points (flipped m e) hs
+  pub only_stay : (hs : List ℕ) → FailOnlyAmong points m hs → FailOnlyAmong points (flipped m e) hs
   only_stay hs only k k_in = go (only k old_in)
     where
       old_in : (2 * k) < length m.half_edges
       old_in = subst (λ (n : ℕ). (2 * k) < n) moves.edge_count k_in
 
-      go : Contains hs (2 * k) ⊎ (IsQuiet points m (2 * k) ⊎ IsQuiet points m (rev (2 * k)))
-          → Contains hs (2 * k) ⊎ (IsQuiet points (flipped m e) (2 * k) ⊎ IsQuiet points (flipped m e) (rev (2 * k)))
+      go : Contains hs (2 * k) ⊎ IsQuietEdge points m k → Contains hs (2 * k) ⊎ IsQuietEdge points (flipped m e) k
       go (inl l) = inl l
       go (inr (inl q)) = inr (inl (quiet_stays (2 * k) old_in q))
-      go (inr (inr q)) = inr (inr (quiet_stays (rev (2 * k)) (rev_within (2 * k) (length m.half_edges) s.sound.even old_in) q))
+      go (inr (inr q)) = inr (inr (quiet_stays (rev (2 * k))
+          (rev_within (2 * k) (length m.half_edges) s.sound.even old_in) q))
 
 -- ---- a work list with one more edge
 record Extends (ks : List ℕ) (k : ℕ) : Type 0 where
@@ -191,12 +194,14 @@ extend ks k = elim (listed_or_not ks k) [
 ]
 
 -- an edge that only fails where it is in the list may be left out
-left_out : (points : List Point) (constraints : List (ℕ × ℕ)) (was m : Mesh) (s : IsValidMesh m) (start flips : ℕ) (ks : List ℕ) (k : ℕ)
-    (more : Extends ks k) → (¬ Contains ks k → IsFailing points m (2 * k) → ⊥)
-    → IsPartlyLegal points constraints was m more.list start flips → IsPartlyLegal points constraints was m ks start flips
+left_out : (points : List Point) (constraints : List (ℕ × ℕ)) (was m : Mesh) (s : IsValidMesh m) (start flips : ℕ)
+    (ks : List ℕ) (k : ℕ) (more : Extends ks k) → (¬ Contains ks k → IsFailing points m (2 * k) → ⊥)
+    → IsPartlyLegal points constraints was m more.list start flips
+    → IsPartlyLegal points constraints was m ks start flips
 left_out points constraints was m s start flips ks k more calm p = go more.is
   where
-    go : (more.list ≡ ks) ⊎ ((more.list ≡ ks ++ k ∷ []) × ¬ Contains ks k) → IsPartlyLegal points constraints was m ks start flips
+    go : (more.list ≡ ks) ⊎ ((more.list ≡ ks ++ k ∷ []) × ¬ Contains ks k)
+        → IsPartlyLegal points constraints was m ks start flips
     go (inl e) = subst (λ (zs : List ℕ). IsPartlyLegal points constraints was m zs start flips) e p
     go (inr (e, n)) = M.dropped points constraints was m ks k start flips s
         (subst (λ (zs : List ℕ). IsPartlyLegal points constraints was m zs start flips) e p) (λ free. calm n)
@@ -205,11 +210,13 @@ first_within : (n h k : ℕ) → h < n → k ≡ h / 2 → (2 * k) < n
 first_within n h k l f = grind arith
 
 -- the sides round a turned edge that are not among hs need not be in the work list
-module _ (points : List Point) (constraints : List (ℕ × ℕ)) (was m new : Mesh) (s : IsValidMesh m) (after : IsValidMesh new)
-    (e start flips : ℕ) (hs ks more : List ℕ) (six : AreSixPlaces (length m.half_edges) e (rev e) (next m e) (next m (rev e)) (prev m e) (prev m (rev e)))
+module _ (points : List Point) (constraints : List (ℕ × ℕ)) (was m new : Mesh) (s : IsValidMesh m)
+    (after : IsValidMesh new) (e start flips : ℕ) (hs ks more : List ℕ)
+    (six : AreSixPlaces (length m.half_edges) e (rev e) (next m e) (next m (rev e)) (prev m e) (prev m (rev e)))
     (count : length new.half_edges ≡ length m.half_edges) (only : FailOnlyAmong points new hs)
     (gains : GainsRoundAmong m hs e ks more) (own : AreEdges m more)
-    (legal : (all : List ℕ) → GainsRound m e ks all → AreEdges m all → IsPartlyLegal points constraints was new all start flips) where
+    (legal : (all : List ℕ) → GainsRound m e ks all → AreEdges m all
+    → IsPartlyLegal points constraints was new all start flips) where
   one : Extends more (next m e / 2)
   one = extend more (next m e / 2)
 
@@ -224,7 +231,8 @@ module _ (points : List Point) (constraints : List (ℕ × ℕ)) (was m new : Me
 
   -- a side that is not in the work list is not among hs, and so does not fail
   calm : IsMesh points (faces_of new) (outer_of new) → (f : ℕ) → f < length m.half_edges → (zs : List ℕ)
-      → (Contains hs (2 * (f / 2)) → Contains zs (f / 2)) → ¬ Contains zs (f / 2) → IsFailing points new (2 * (f / 2)) → ⊥
+      → (Contains hs (2 * (f / 2)) → Contains zs (f / 2)) → ¬ Contains zs (f / 2)
+      → IsFailing points new (2 * (f / 2)) → ⊥
   calm shape f f_in zs has not fails = elim (only (f / 2) k_in) as (λ _. ⊥) [
     | inl l ↦ not (has l)
     | inr q ↦ fails_loud points new after shape (2 * (f / 2)) k_in fails q
@@ -240,15 +248,18 @@ module _ (points : List Point) (constraints : List (ℕ × ℕ)) (was m new : Me
   own_two = edges_gained m one.list two.list (prev m e) (length m.half_edges) refl six.e_in own_one two.gains
 
   own_three : AreEdges m three.list
-  own_three = edges_gained m two.list three.list (next m (rev e)) (length m.half_edges) refl six.d_in own_two three.gains
+  own_three =
+      edges_gained m two.list three.list (next m (rev e)) (length m.half_edges) refl six.d_in own_two three.gains
 
   own_four : AreEdges m four.list
-  own_four = edges_gained m three.list four.list (prev m (rev e)) (length m.half_edges) refl six.f_in own_three four.gains
+  own_four =
+      edges_gained m three.list four.list (prev m (rev e)) (length m.half_edges) refl six.f_in own_three four.gains
 
   legal_four : IsPartlyLegal points constraints was new four.list start flips
   legal_four = legal four.list (record {
     kept = λ j l. four.gains.kept j (three.gains.kept j (two.gains.kept j (one.gains.kept j (gains.kept j l))));
-    next_there = four.gains.kept (next m e / 2) (three.gains.kept (next m e / 2) (two.gains.kept (next m e / 2) one.gains.there));
+    next_there = four.gains.kept (next m e / 2)
+        (three.gains.kept (next m e / 2) (two.gains.kept (next m e / 2) one.gains.there));
     prev_there = four.gains.kept (prev m e / 2) (three.gains.kept (prev m e / 2) two.gains.there);
     twin_next_there = four.gains.kept (next m (rev e) / 2) three.gains.there;
     twin_prev_there = four.gains.there;
@@ -268,41 +279,6 @@ module _ (points : List Point) (constraints : List (ℕ × ℕ)) (was m new : Me
   legal_one = left_out points constraints was new after start flips one.list (prev m e / 2) two
       (calm legal_four.shape (prev m e) six.e_in one.list (λ h. one.gains.kept _ (gains.prev_there h))) legal_two
 
-  legal_among : IsPartlyLegal points constraints was new more start flips
+  pub legal_among : IsPartlyLegal points constraints was new more start flips
   legal_among = left_out points constraints was new after start flips more (next m e / 2) one
       (calm legal_four.shape (next m e) six.c_in more gains.next_there) legal_one
-
--- ---- one step
-module _ (points : List Point) (constraints : List (ℕ × ℕ)) (m : Mesh) (s : IsValidMesh m) (hs ks : List ℕ)
-    (k before : ℕ) (can : CanStepAmong points m hs ks k before) where
-  last_within : (2 * k) < length m.half_edges
-  last_within = can.edges.within k (contains_last ks k)
-
-  -- an edge that is a constraint or does not fail leaves the work list
-  pub among_drops : (¬ Joins constraints (origin m (2 * k)) (origin m (rev (2 * k))) → ¬ IsFailing points m (2 * k))
-      → HasSteppedAmong points constraints m m hs (ks ++ k ∷ []) ks before before
-  among_drops passes = record {
-    legal = λ was start p. M.dropped points constraints was m ks k start before s p passes;
-    only = can.only;
-    fewer = less _ (length ks) (length (ks ++ k ∷ [])) (length-append ks (k ∷ []));
-  }
-    where
-      less : (q a b : ℕ) → b ≡ a + 1 → q + a < q + b
-      less q a b e = omega (arith, e)
-
-  -- one that fails is turned and counted, and those of the edges round it are left that are among hs
-  pub among_turns : (new : Mesh) → IsValidMesh new → (more : List ℕ) (after : ℕ) → new ≡ flipped m (2 * k) → after ≡ before + 1
-      → IsFailing points m (2 * k) → GainsRoundAmong m hs (2 * k) ks more → AreEdges m more
-      → HasSteppedAmong points constraints m new hs (ks ++ k ∷ []) more before after
-  among_turns new valid more after e f x g own = record {
-    legal = λ was start p. legal_among points constraints was m new s valid (2 * k) start after hs ks more
-        (six points m s can.shape (2 * k) last_within x)
-        (ap (λ (y : Mesh). length y.half_edges) e ∙ (moves points m s can.shape (2 * k) last_within x).edge_count)
-        only g own
-        (λ all round edges. turned_by points constraints was m new ks all k start before after s e f x round edges p);
-    only = only;
-    fewer = fewer_by points m new ks more k s can.shape e x can.edges own;
-  }
-    where
-      only : FailOnlyAmong points new hs
-      only = subst (λ (y : Mesh). FailOnlyAmong points y hs) (sym e) (only_stay points m s can.shape (2 * k) last_within x hs can.only)

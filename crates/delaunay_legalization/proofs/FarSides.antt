@@ -1,10 +1,9 @@
--- One step of a legalization where only edges opposite one vertex fail: a flip leaves the two sides beyond it to test.
-use Rattle.std.proofs.Common.{◌≡◌, ◌⊎◌, ℕ, ◌+◌, ◌*◌, ◌/◌, ◌<◌, List, [], ◌∷◌, ◌++◌}
-use Rattle.std.proofs.Common.{length, refl, sym, ap, ◌∙◌, subst, arith}
+-- Where only edges opposite one vertex fail, a flip leaves the two sides beyond it to test.
+use Rattle.std.proofs.Common.{◌≡◌, ◌⊎◌, ℕ, ◌*◌, ◌/◌, ◌<◌, List, [], ◌∷◌, ◌++◌}
+use Rattle.std.proofs.Common.{length, refl, sym, ap, ◌∙◌, subst}
 use mathlib.Core.Logic.{◌≢◌, inl, inr}
 use Rattle.std.specs.Prelude.{Contains}
 use Rattle.std.proofs.lemmas.Bool.{cases_eq}
-use Rattle.std.proofs.lemmas.List.{length-append}
 use Rattle.half_edge_mesh.specs.Mesh.{Mesh, origin, next, prev, rev, IsValidMesh}
 use Rattle.half_edge_mesh.specs.Flip.{IsFlippable, Flips, flipped}
 use Rattle.half_edge_links.proofs.Lists.Rev.{rev-rev}
@@ -27,11 +26,10 @@ use Rattle.mesh_embedding.proofs.MeshEdits.{face_before, face_behind, flipped_fa
 use Rattle.mesh_embedding.proofs.MeshLegal as M
 use Rattle.mesh_embedding.proofs.MeshStays.{half_same}
 use Rattle.mesh_embedding.proofs.TurnedEnds.{KeepsOtherOrigins, other_ends_stay, ends_at_next}
-use Rattle.mesh_embedding.proofs.WorkLists.{contains_last}
 use Rattle.plane_edits.specs.EmptyRound.{IsEmptyRound}
-use Rattle.delaunay_legalization.specs.Opposite.{CanStep, GainsFarSides, HasStepped}
+use Rattle.delaunay_legalization.specs.Pushing.{GainsFarSides}
 use Rattle.plane_edits.proofs.Legalization.EmptyRound.{failing_is_opposite, flip_stays_empty, spokes_pass}
-use Rattle.delaunay_legalization.proofs.Legalizing.{edges_gained, turned_by, fewer_by}
+use Rattle.delaunay_legalization.proofs.Legalizing.{edges_gained}
 
 -- ---- an edge at the vertex may be left out
 -- a mesh with a face is no line
@@ -222,35 +220,3 @@ module _ (points : List Point) (m : Mesh) (s : IsValidMesh m) (shape : IsMesh po
     where
       on_right : d ≢ v → b ≡ v
       on_right off = elim opposite [ inl at ↦ at | inr at ↦ absurd (off at) ]
-
--- ---- one step
-module _ (points : List Point) (constraints : List (ℕ × ℕ)) (m : Mesh) (s : IsValidMesh m) (v : ℕ) (ks : List ℕ)
-    (k before : ℕ) (can : CanStep points m v ks k before) where
-  last_within : (2 * k) < length m.half_edges
-  last_within = can.edges.within k (contains_last ks k)
-
-  -- an edge that is a constraint or does not fail leaves the work list
-  pub step_drops : (¬ Joins constraints (origin m (2 * k)) (origin m (rev (2 * k))) → ¬ IsFailing points m (2 * k))
-      → HasStepped points constraints m m v (ks ++ k ∷ []) ks before before
-  step_drops passes = record {
-    legal = λ was start p. M.dropped points constraints was m ks k start before s p passes;
-    empty = can.empty;
-    fewer = less _ (length ks) (length (ks ++ k ∷ [])) (length-append ks (k ∷ []));
-  }
-    where
-      less : (q a b : ℕ) → b ≡ a + 1 → q + a < q + b
-      less q a b e = omega (arith, e)
-
-  -- one that fails is turned and counted, and the two sides beyond it from the vertex are left
-  pub step_turns : (new : Mesh) (more : List ℕ) (after : ℕ) → new ≡ flipped m (2 * k) → after ≡ before + 1
-      → IsFailing points m (2 * k) → GainsFarSides m (2 * k) v ks more → AreEdges m more
-      → HasStepped points constraints m new v (ks ++ k ∷ []) more before after
-  step_turns new more after e f x g own = record {
-    legal = λ was start p. subst (λ (y : Mesh). IsPartlyLegal points constraints was y more start after) (sym e)
-        (turned_far points m s can.shape (2 * k) last_within x v can.empty constraints was start after ks more g own
-        (λ all round edges.
-        turned_by points constraints was m (flipped m (2 * k)) ks all k start before after s refl f x round edges p));
-    empty = subst (λ (y : Mesh). IsEmptyRound points (faces_of y) v) (sym e)
-        (flip_keeps_empty points m s can.shape (2 * k) last_within x v can.empty);
-    fewer = fewer_by points m new ks more k s can.shape e x can.edges own;
-  }

@@ -13,6 +13,7 @@ pub mod Stars
 pub mod MeshParts
 pub mod MarkedPairs
 pub mod FarSides
-pub mod OppositeLoop
+pub mod OppositeSides
 pub mod AmongSteps
-pub mod AmongLoop
+pub mod AmongSides
+pub mod Stepping

@@ -10,5 +10,6 @@ pub mod Star
 pub mod Parts
 pub mod Marking
 pub mod Legalized
-pub mod Opposite
+pub mod Pushing
 pub mod Among
+pub mod Sides

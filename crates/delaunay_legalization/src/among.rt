@@ -1,21 +1,21 @@
 //! A legalization where at most some edges fail: each other one has an empty circle on one of its
 //! sides.
-ghost use Rattle.std.specs.Prelude.{◌≡◌, ℕ, ◌*◌, ◌<◌, ◌≤◌, ◌++◌, ◌∷◌, []};
+ghost use Rattle.std.specs.Prelude.{◌≡◌, ℕ, ◌*◌, ◌≤◌};
 ghost use Rattle.std.specs.Prelude.{length, map, All, Contains, IsTrue, vec_capacity};
+ghost use Rattle.plane_edits.specs.Legal.{AllPassBut};
 ghost use Rattle.mesh_embedding.specs.Drawn.{faces_of};
 ghost use Rattle.mesh_embedding.specs.Legal.{AreEdges, pairs_at};
-ghost use Rattle.plane_edits.specs.Legal.{AllPassBut};
-ghost use Rattle.delaunay_legalization.specs.Among.{CanStepAmong, FailOnlyAmong, FailOnlyOf};
-ghost use Rattle.delaunay_legalization.specs.Among.{GainsAmong};
-ghost use Rattle.delaunay_legalization.specs.Among.{GainsRoundAmong, HasSteppedAmong};
-ghost use Rattle.delaunay_legalization.specs.Constraints.{constraint_pairs, constraints_by};
+ghost use Rattle.delaunay_legalization.specs.Among.{FailOnlyOf};
+ghost use Rattle.delaunay_legalization.specs.Constraints.{constraints_by};
 ghost use Rattle.delaunay_legalization.specs.Flips.{FlipsFit};
 ghost use Rattle.delaunay_legalization.specs.Legalized.{Legalizes};
+ghost use Rattle.delaunay_legalization.specs.Pushing.{CanGain, GainsAmong, GainsRoundAmong};
 ghost use Rattle.delaunay_legalization.specs.Shape.{IsTriangulated};
 ghost use Rattle.delaunay_legalization.specs.State.{state_of};
 
 use crate::constraint_marker::ConstraintMarker;
-use crate::legalization::{flip, is_constraint_edge, is_failing, legalize, push_side, sides_round};
+use crate::legalization::{legalize_by, push_side, sides_round};
+use crate::sides::Sides;
 use delaunay_core::math::PlaneTests;
 use delaunay_core::point::HasPosition;
 use half_edge_mesh::{Dcel, FixedDirectedEdgeHandle, FixedUndirectedEdgeHandle};
@@ -27,9 +27,7 @@ fn push_among<V, DE, UE, F>(
     among: &[FixedDirectedEdgeHandle],
     work: &mut Vec<FixedUndirectedEdgeHandle>,
 )
-    requires within { edge < length dcel.now.directed }
-    requires edges { AreEdges dcel.now.mesh work.old.items }
-    requires room { length dcel.now.undirected ≤ vec_capacity work.old }
+    requires gain { CanGain dcel.now edge work.old.items (vec_capacity work.old) }
     ensures gains { GainsAmong among.now edge work.old.items work.new.items }
     ensures edges { AreEdges dcel.now.mesh work.new.items }
     ensures capacity { vec_capacity work.new ≡ vec_capacity work.old }
@@ -42,15 +40,13 @@ fn push_among<V, DE, UE, F>(
 
 // Puts those of the four edges round an edge into a work list that are among these edges, unless
 // they are there.
-fn push_sides_among<V, DE, UE, F>(
+pub(crate) fn push_sides_among<V, DE, UE, F>(
     dcel: &Dcel<V, DE, UE, F>,
     edge: FixedDirectedEdgeHandle,
     among: &[FixedDirectedEdgeHandle],
     work: &mut Vec<FixedUndirectedEdgeHandle>,
 )
-    requires within { edge < length dcel.now.directed }
-    requires edges { AreEdges dcel.now.mesh work.old.items }
-    requires room { length dcel.now.undirected ≤ vec_capacity work.old }
+    requires gain { CanGain dcel.now edge work.old.items (vec_capacity work.old) }
     ensures gains { GainsRoundAmong dcel.now.mesh among.now edge work.old.items work.new.items }
     ensures edges { AreEdges dcel.now.mesh work.new.items }
     ensures capacity { vec_capacity work.new ≡ vec_capacity work.old }
@@ -60,72 +56,6 @@ fn push_sides_among<V, DE, UE, F>(
     push_among(dcel, prev, among, work);
     push_among(dcel, twin_next, among, work);
     push_among(dcel, twin_prev, among, work);
-}
-
-// Tests an edge that was taken from the work list. One that is no constraint and fails is turned,
-// and leaves those of the four edges round it to test that may fail.
-fn legalize_edge_among<
-    M: ConstraintMarker<UE>,
-    V: HasPosition,
-    DE,
-    UE,
-    F,
-    P: PlaneTests<V::Scalar>,
->(
-    dcel: &mut Dcel<V, DE, UE, F>,
-    edge: FixedUndirectedEdgeHandle,
-    among: &[FixedDirectedEdgeHandle],
-    tests: &P,
-    work: &mut Vec<FixedUndirectedEdgeHandle>,
-    flips: &mut u64,
-)
-    requires sites { All (P.sites tests.now) (map V.place dcel.old.vertices) }
-    requires step { CanStepAmong (map V.place dcel.old.vertices) dcel.old.mesh among.now
-        work.old.items edge flips.old }
-    requires room { length dcel.old.undirected ≤ vec_capacity work.old }
-    ensures contents { dcel.new ≡ record dcel.old { mesh = dcel.new.mesh } }
-    ensures constraints { constraint_pairs M.constraints dcel.new.mesh dcel.new.undirected ≡
-        constraint_pairs M.constraints dcel.old.mesh dcel.old.undirected }
-    ensures step { HasSteppedAmong (map V.place dcel.old.vertices)
-        (constraint_pairs M.constraints dcel.old.mesh dcel.old.undirected) dcel.old.mesh
-        dcel.new.mesh among.now (work.old.items ++ edge ∷ []) work.new.items flips.old flips.new }
-    ensures capacity { vec_capacity work.new ≡ vec_capacity work.old }
-{
-    dcel.recall_invariant();
-    if is_constraint_edge::<M, _, _, _, _>(dcel, edge) {
-        return;
-    }
-    if is_failing(dcel, edge.as_directed(), tests) {
-        push_sides_among(dcel, edge.as_directed(), among, work);
-        flip(dcel, edge, flips);
-        dcel.recall_invariant();
-    }
-}
-
-// Tests the edges of a work list, where each other edge passes, and flips those that fail and are
-// no constraints until none does. At most edges of which `among` has the first direction fail.
-fn legalize_among<M: ConstraintMarker<UE>, V: HasPosition, DE, UE, F, P: PlaneTests<V::Scalar>>(
-    dcel: &mut Dcel<V, DE, UE, F>,
-    among: &[FixedDirectedEdgeHandle],
-    tests: &P,
-    work: &mut Vec<FixedUndirectedEdgeHandle>,
-    flips: &mut u64,
-)
-    requires sites { All (P.sites tests.now) (map V.place dcel.old.vertices) }
-    requires kept { IsTriangulated V.place (state_of dcel.old) }
-    requires edges { AreEdges dcel.old.mesh work.old.items }
-    requires passing { AllPassBut (map V.place dcel.old.vertices) (faces_of dcel.old.mesh)
-        (constraints_by M.constraints (state_of dcel.old)) (pairs_at dcel.old.mesh work.old.items) }
-    requires only { FailOnlyAmong (map V.place dcel.old.vertices) dcel.old.mesh among.now }
-    requires room { 3 * length dcel.old.vertices ≤ vec_capacity work.old }
-    requires fits { FlipsFit (length dcel.old.vertices) flips.old }
-    ensures legalizes { Legalizes V.place M.constraints dcel.old dcel.new flips.old flips.new }
-{
-    while let Some(edge) = work.pop() {
-        dcel.recall_invariant();
-        legalize_edge_among::<M, _, _, _, _, _>(dcel, edge, among, tests, work, flips);
-    }
-    dcel.recall_invariant();
 }
 
 // Lists the first directions of some edges, in place of what was in the list.
@@ -168,9 +98,9 @@ pub fn legalize_list<M: ConstraintMarker<UE>, V: HasPosition, DE, UE, F, P: Plan
 {
     if is_free {
         list_directions(work.as_slice(), among);
-        legalize_among::<M, _, _, _, _, _>(dcel, among.as_slice(), tests, work, flips);
+        let sides = &Sides::Among(among.as_slice());
+        legalize_by::<M, _, _, _, _, _>(dcel, sides, tests, work, flips);
     } else {
-        legalize::<M, _, _, _, _, _>(dcel, tests, work, flips);
-        dcel.recall_invariant();
+        legalize_by::<M, _, _, _, _, _>(dcel, &Sides::Round, tests, work, flips);
     }
 }

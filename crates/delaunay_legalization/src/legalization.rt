@@ -1,20 +1,21 @@
 //! Flips of edges that fail the circle test, until each edge passes but the constraints.
-ghost use Rattle.std.specs.Prelude.{◌≡◌, ◌↔◌, ℕ, ◌+◌, ◌-◌, ◌*◌, ◌/◌, ◌<◌, ◌≤◌, ◌^◌, ◌++◌, ◌∷◌, []};
+ghost use Rattle.std.specs.Prelude.{◌≡◌, ◌↔◌, ◌+◌, ◌-◌, ◌*◌, ◌/◌, ◌<◌, ◌≤◌, ◌^◌, ◌++◌, ◌∷◌, []};
 ghost use Rattle.std.specs.Prelude.{length, map, All, Contains, IsTrue, vec_capacity};
-ghost use Rattle.half_edge_mesh.specs.Mesh.{Mesh, origin, next, prev, face, rev};
+ghost use Rattle.half_edge_mesh.specs.Mesh.{origin, next, prev, face, rev};
 ghost use Rattle.half_edge_mesh.specs.Flip.{flipped};
 ghost use Rattle.plane.specs.Delaunay.{IsLocallyDelaunay};
 ghost use Rattle.plane_tiling.specs.Local.{IsMesh};
 ghost use Rattle.plane_edits.specs.Legal.{AllPassBut};
 ghost use Rattle.mesh_embedding.specs.Drawn.{drawn, faces_of, outer_of};
-ghost use Rattle.mesh_embedding.specs.Legal.{AreEdges, Gains, GainsRound, IsFailing, IsPartlyLegal};
-ghost use Rattle.mesh_embedding.specs.Legal.{pairs_at, steps_left};
+ghost use Rattle.mesh_embedding.specs.Legal.{AreEdges, Gains, GainsRound, IsFailing, pairs_at};
 ghost use Rattle.mesh_embedding.specs.Stays.{KeepsIndexes};
 ghost use Rattle.delaunay_core.specs.Place.{place_of};
 ghost use Rattle.delaunay_legalization.specs.Constraints.{constraint_pairs};
 ghost use Rattle.delaunay_legalization.specs.Known.{point_at};
+ghost use Rattle.delaunay_legalization.specs.Sides.{CanLegalize, CanStep, HasLegalized, HasStepped};
 
 use crate::constraint_marker::ConstraintMarker;
+use crate::sides::{Sides, push_left};
 use delaunay_core::math::PlaneTests;
 use delaunay_core::point::{HasPosition, Point2};
 use half_edge_mesh::{Dcel, FixedDirectedEdgeHandle, FixedUndirectedEdgeHandle, MeshViews};
@@ -82,18 +83,20 @@ pub fn is_constraint_edge<M: ConstraintMarker<UE>, V, DE, UE, F>(
 
 // Whether an edge lies between two inner faces, of which one has its third corner inside the circle
 // of the other.
-pub(crate) fn is_failing<V: HasPosition, DE, UE, F, P: PlaneTests<V::Scalar>>(
+#[inline(always)]
+fn is_failing<V: HasPosition, DE, UE, F, P: PlaneTests<V::Scalar>>(
     dcel: &Dcel<V, DE, UE, F>,
-    edge: FixedDirectedEdgeHandle,
+    edge: FixedUndirectedEdgeHandle,
     tests: &P,
 ) -> bool
-    requires within { edge < length dcel.now.directed }
+    requires within { 2 * edge < length dcel.now.directed }
     requires sites { All (P.sites tests.now) (map V.place dcel.now.vertices) }
     requires shape { IsMesh (map V.place dcel.now.vertices) (faces_of dcel.now.mesh)
         (outer_of dcel.now.mesh) }
-    ensures { IsTrue result ↔ IsFailing (map V.place dcel.now.vertices) dcel.now.mesh edge }
+    ensures { IsTrue result ↔ IsFailing (map V.place dcel.now.vertices) dcel.now.mesh (2 * edge) }
 {
     dcel.recall_invariant();
+    let edge = edge.as_directed();
     if is_outer(dcel, edge) || is_outer(dcel, edge.rev()) {
         return false;
     }
@@ -106,7 +109,7 @@ pub(crate) fn is_failing<V: HasPosition, DE, UE, F, P: PlaneTests<V::Scalar>>(
 }
 
 // Turns a failing edge and counts the flip. No other function of a legalization flips.
-pub(crate) fn flip<V: HasPosition, DE, UE, F>(
+fn flip<V: HasPosition, DE, UE, F>(
     dcel: &mut Dcel<V, DE, UE, F>,
     edge: FixedUndirectedEdgeHandle,
     flips: &mut u64,
@@ -166,43 +169,66 @@ pub fn push_sides<V, DE, UE, F>(
 }
 
 // Tests an edge that was taken from the work list. One that is no constraint and fails is turned,
-// and leaves the four edges round it to test.
+// and leaves these of the edges round it to test.
 fn legalize_edge<M: ConstraintMarker<UE>, V: HasPosition, DE, UE, F, P: PlaneTests<V::Scalar>>(
     dcel: &mut Dcel<V, DE, UE, F>,
     edge: FixedUndirectedEdgeHandle,
+    sides: &Sides,
     tests: &P,
     work: &mut Vec<FixedUndirectedEdgeHandle>,
     flips: &mut u64,
 )
     requires sites { All (P.sites tests.now) (map V.place dcel.old.vertices) }
-    requires shape { IsMesh (map V.place dcel.old.vertices) (faces_of dcel.old.mesh)
-        (outer_of dcel.old.mesh) }
-    requires edges { AreEdges dcel.old.mesh (work.old.items ++ edge ∷ []) }
+    requires step { CanStep sides.now (map V.place dcel.old.vertices) dcel.old.mesh work.old.items
+        edge flips.old }
     requires room { length dcel.old.undirected ≤ vec_capacity work.old }
-    requires fits { IsFailing (map V.place dcel.old.vertices) dcel.old.mesh (2 * edge) →
-        flips.old + 1 < 2 ^ 64 }
     ensures contents { dcel.new ≡ record dcel.old { mesh = dcel.new.mesh } }
     ensures constraints { constraint_pairs M.constraints dcel.new.mesh dcel.new.undirected ≡
         constraint_pairs M.constraints dcel.old.mesh dcel.old.undirected }
-    ensures legal { let points = map V.place dcel.old.vertices in
-        let constraints = constraint_pairs M.constraints dcel.old.mesh dcel.old.undirected in
-        (was : Mesh) (start : ℕ) →
-        IsPartlyLegal points constraints was dcel.old.mesh (work.old.items ++ edge ∷ []) start
-        flips.old → IsPartlyLegal points constraints was dcel.new.mesh work.new.items start
-        flips.new }
-    ensures fewer { let points = map V.place dcel.old.vertices in
-        steps_left points dcel.new.mesh work.new.items <
-        steps_left points dcel.old.mesh (work.old.items ++ edge ∷ []) }
+    ensures step { HasStepped sides.now (map V.place dcel.old.vertices)
+        (constraint_pairs M.constraints dcel.old.mesh dcel.old.undirected) dcel.old.mesh
+        dcel.new.mesh (work.old.items ++ edge ∷ []) work.new.items flips.old flips.new }
     ensures capacity { vec_capacity work.new ≡ vec_capacity work.old }
 {
     dcel.recall_invariant();
     if is_constraint_edge::<M, _, _, _, _>(dcel, edge) {
         return;
     }
-    if is_failing(dcel, edge.as_directed(), tests) {
-        push_sides(dcel, edge.as_directed(), work);
+    if is_failing(dcel, edge, tests) {
+        push_left(dcel, edge.as_directed(), sides, work);
         flip(dcel, edge, flips);
+        dcel.recall_invariant();
     }
+}
+
+// Tests the edges of a work list, and flips those that fail and are no constraints until none does.
+// Each turned edge leaves these of the edges round it to test.
+pub(crate) fn legalize_by<
+    M: ConstraintMarker<UE>,
+    V: HasPosition,
+    DE,
+    UE,
+    F,
+    P: PlaneTests<V::Scalar>,
+>(
+    dcel: &mut Dcel<V, DE, UE, F>,
+    sides: &Sides,
+    tests: &P,
+    work: &mut Vec<FixedUndirectedEdgeHandle>,
+    flips: &mut u64,
+)
+    requires sites { All (P.sites tests.now) (map V.place dcel.old.vertices) }
+    requires can { CanLegalize V.place M.constraints sides.now dcel.old work.old.items flips.old }
+    requires room { length dcel.old.undirected ≤ vec_capacity work.old }
+    ensures has { HasLegalized V.place M.constraints dcel.old dcel.new flips.old flips.new }
+    ensures done { work.new.items ≡ [] }
+    ensures capacity { vec_capacity work.new ≡ vec_capacity work.old }
+{
+    while let Some(edge) = work.pop() {
+        dcel.recall_invariant();
+        legalize_edge::<M, _, _, _, _, _>(dcel, edge, sides, tests, work, flips);
+    }
+    dcel.recall_invariant();
 }
 
 // Flips edges until each passes the circle test, but for the outer ones and the constraints, where
@@ -238,9 +264,5 @@ pub fn legalize<M: ConstraintMarker<UE>, V: HasPosition, DE, UE, F, P: PlaneTest
     ensures done { work.new.items ≡ [] }
     ensures capacity { vec_capacity work.new ≡ vec_capacity work.old }
 {
-    while let Some(edge) = work.pop() {
-        dcel.recall_invariant();
-        legalize_edge::<M, _, _, _, _, _>(dcel, edge, tests, work, flips);
-    }
-    dcel.recall_invariant();
+    legalize_by::<M, _, _, _, _, _>(dcel, &Sides::Round, tests, work, flips);
 }

@@ -9,6 +9,7 @@ mod legalization;
 mod marking;
 mod opposite;
 mod predicates;
+mod sides;
 mod star;
 mod work_list;
 

@@ -1,19 +1,20 @@
 //! A legalization that begins at one vertex, where only edges of the faces there may fail.
-ghost use Rattle.std.specs.Prelude.{◌≡◌, ℕ, ◌*◌, ◌<◌, ◌≤◌};
-ghost use Rattle.std.specs.Prelude.{length, map, All, Contains, IsTrue, vec_capacity};
+ghost use Rattle.std.specs.Prelude.{◌≡◌, ◌*◌, ◌<◌, ◌≤◌, length, map, All, IsTrue, vec_capacity};
 ghost use Rattle.mesh_embedding.specs.Drawn.{faces_of};
 ghost use Rattle.mesh_embedding.specs.Legal.{AreEdges};
 ghost use Rattle.delaunay_legalization.specs.Constraints.{constraints_by};
 ghost use Rattle.plane_edits.specs.EmptyRound.{IsEmptyRound};
 ghost use Rattle.delaunay_legalization.specs.Flips.{FlipsFit};
 ghost use Rattle.delaunay_legalization.specs.Legalized.{Legalizes};
+ghost use Rattle.delaunay_legalization.specs.Pushing.{CanGain, Keeps};
 ghost use Rattle.delaunay_legalization.specs.Shape.{IsTriangulated};
 ghost use Rattle.delaunay_legalization.specs.Star.{AllPassBeside, HasSidesAt, HasStar};
 ghost use Rattle.delaunay_legalization.specs.State.{state_of};
 
 use crate::constraint_marker::ConstraintMarker;
-use crate::legalization::{legalize, push_side};
-use crate::opposite::legalize_opposite;
+use crate::legalization::{legalize_by, push_side};
+use crate::opposite::push_opposite;
+use crate::sides::Sides;
 use delaunay_core::math::PlaneTests;
 use delaunay_core::point::HasPosition;
 use half_edge_mesh::{
@@ -26,10 +27,8 @@ fn push_with_next<V, DE, UE, F>(
     edge: FixedDirectedEdgeHandle,
     work: &mut Vec<FixedUndirectedEdgeHandle>,
 )
-    requires within { edge < length dcel.now.directed }
-    requires edges { AreEdges dcel.now.mesh work.old.items }
-    requires room { length dcel.now.undirected ≤ vec_capacity work.old }
-    ensures kept { (j : ℕ) → Contains work.old.items j → Contains work.new.items j }
+    requires gain { CanGain dcel.now edge work.old.items (vec_capacity work.old) }
+    ensures kept { Keeps work.old.items work.new.items }
     ensures sides { HasSidesAt dcel.now.mesh edge work.new.items }
     ensures edges { AreEdges dcel.now.mesh work.new.items }
     ensures capacity { vec_capacity work.new ≡ vec_capacity work.old }
@@ -56,29 +55,6 @@ fn push_star<V, DE, UE, F>(
     for edge in dcel.vertex(vertex).out_edges() {
         push_with_next(dcel, edge.fix(), work);
     }
-}
-
-// Tests the edges of the faces at a vertex, where each other edge passes, and flips those that fail
-// and are no constraints until none does.
-fn legalize_star<M: ConstraintMarker<UE>, V: HasPosition, DE, UE, F, P: PlaneTests<V::Scalar>>(
-    dcel: &mut Dcel<V, DE, UE, F>,
-    vertex: FixedVertexHandle,
-    tests: &P,
-    work: &mut Vec<FixedUndirectedEdgeHandle>,
-    flips: &mut u64,
-)
-    requires within { vertex < length dcel.old.vertices }
-    requires sites { All (P.sites tests.now) (map V.place dcel.old.vertices) }
-    requires kept { IsTriangulated V.place (state_of dcel.old) }
-    requires passing { AllPassBeside (map V.place dcel.old.vertices) (faces_of dcel.old.mesh)
-        (constraints_by M.constraints (state_of dcel.old)) vertex }
-    requires room { 3 * length dcel.old.vertices ≤ vec_capacity work.old }
-    requires fits { FlipsFit (length dcel.old.vertices) flips.old }
-    ensures legalizes { Legalizes V.place M.constraints dcel.old dcel.new flips.old flips.new }
-{
-    push_star(dcel, vertex, work);
-    legalize::<M, _, _, _, _, _>(dcel, tests, work, flips);
-    dcel.recall_invariant();
 }
 
 // Tests the edges of the faces at a new vertex, or, where no circle of the other faces contains a
@@ -111,8 +87,10 @@ pub fn legalize_vertex<
     ensures legalizes { Legalizes V.place M.constraints dcel.old dcel.new flips.old flips.new }
 {
     if is_free {
-        legalize_opposite::<M, _, _, _, _, _>(dcel, vertex, tests, work, flips);
+        push_opposite(dcel, vertex, work);
+        legalize_by::<M, _, _, _, _, _>(dcel, &Sides::Beyond(vertex), tests, work, flips);
     } else {
-        legalize_star::<M, _, _, _, _, _>(dcel, vertex, tests, work, flips);
+        push_star(dcel, vertex, work);
+        legalize_by::<M, _, _, _, _, _>(dcel, &Sides::Round, tests, work, flips);
     }
 }

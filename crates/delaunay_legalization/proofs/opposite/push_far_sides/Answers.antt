@@ -2,7 +2,7 @@ use Rattle.std.proofs.Common.{sym, ap, ◌∙◌}
 use Rattle.std.proofs.lemmas.Bool.{eq-eqb, eqb-true}
 use Rattle.half_edge_mesh.specs.Mesh.{origin}
 use Rattle.delaunay_legalization.proofs.Questions.{both_ways}
-use Rattle.delaunay_legalization.proofs.OppositeLoop.{link_read, far_gained, near_gained}
+use Rattle.delaunay_legalization.proofs.OppositeSides.{link_read, far_gained, near_gained}
 use Rattle.delaunay_legalization.proofs.opposite.push_far_sides.Goals as goal
 
 pub returns-then-eq-clause-gains : goal.returns-then-eq-clause-gains

@@ -2,7 +2,7 @@ use Rattle.std.proofs.Common.{◌/◌, ◌<◌, ℕ, [], length, sym, ap, ◌∙
 use Rattle.std.specs.Prelude.{Contains}
 use Rattle.half_edge_mesh.specs.Mesh.{next}
 use Rattle.half_edge_mesh.specs.Rounds.{GivesRound, out_edges_left}
-use Rattle.delaunay_legalization.proofs.OppositeLoop.{link_read}
+use Rattle.delaunay_legalization.proofs.OppositeSides.{link_read}
 use Rattle.delaunay_legalization.proofs.Pushing.{no_edges, pushing_begins, pushing_goes_on, pushing_ends}
 use Rattle.delaunay_legalization.proofs.Rounds.{next_within}
 use Rattle.delaunay_legalization.proofs.opposite.push_opposite.Goals as goal

@@ -1,4 +1,4 @@
-use Rattle.std.proofs.Common.{ℕ, [], sym, ap, subst, arith}
+use Rattle.std.proofs.Common.{◌≤◌, ℕ, [], length, sym, ap, subst, arith}
 use Rattle.half_edge_mesh.specs.Rounds.{GivesRound, out_edges_left}
 use Rattle.delaunay_legalization.specs.Star.{HasSidesAt}
 use Rattle.delaunay_legalization.proofs.Pushing.{no_edges, pushing_begins, pushing_goes_on, pushing_ends}
@@ -13,12 +13,21 @@ loop-edge-init g c =
     (subst (λ it. GivesRound d c.args.vertex (out_edges_left it)) (sym c.into_iter-edge-iterator.ensures.into_iter_gives) (subst (λ (v : ℕ). GivesRound d v (out_edges_left c.out_edges-edge-items.result)) c.vertex.ensures.index c.out_edges-edge-items.ensures))
     c.clear.ensures.items (no_edges c.args.dcel.now.mesh) c.clear.ensures.capacity
 
-pub push_with_next-requires-clause-within : goal.push_with_next-requires-clause-within
-push_with_next-requires-clause-within g c =
-    let w = next_within c.args.dcel.now c.args.vertex _ (out_edges_left c.loop-edge.edge-iterator) c.loop-edge.invariant.going (c.in-Some.edge.dcel, c.in-Some.edge.index) (out_edges_left c.next.new.self) c.in-Some.ensures.steps in
+pub push_with_next-requires : goal.push_with_next-requires
+push_with_next-requires g c =
+    let w = next_within c.args.dcel.now c.args.vertex _ (out_edges_left c.loop-edge.edge-iterator)
+    c.loop-edge.invariant.going (c.in-Some.edge.dcel, c.in-Some.edge.index) (out_edges_left c.next.new.self)
+    c.in-Some.ensures.steps in
     let fit = c.recall_invariant.ensures.whole.fits.directed_fit in
     let is = c.fix.ensures.value in
-    omega (arith, w, fit, is)
+    record {
+      gain = record {
+        within = omega (arith, w, fit, is);
+        edges = c.loop-edge.invariant.edges;
+        room = subst (λ (n : ℕ). length c.args.dcel.now.undirected ≤ n) (sym c.loop-edge.invariant.room_stays)
+            c.requires.room;
+      };
+    }
 
 pub loop-edge-preserved : goal.loop-edge-preserved
 loop-edge-preserved g c =

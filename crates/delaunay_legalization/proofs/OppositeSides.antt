@@ -1,0 +1,69 @@
+-- The edges opposite one vertex, and the sides beyond an edge from it.
+use Rattle.std.proofs.Common.{◌≡◌, ◌≢◌, ℕ, ◌/◌, List, sym, ap, ◌∙◌, subst}
+use Rattle.std.specs.Prelude.{Contains}
+use Rattle.half_edge_mesh.specs.Mesh.{Mesh, AreSoundLinks, origin, next, prev, rev}
+use Rattle.half_edge_links.proofs.Sound.Triangles as T
+use Rattle.plane.specs.Fraction.{Point}
+use Rattle.plane.specs.Pairs.{Joins}
+use Rattle.plane_tiling.specs.Local.{IsMesh}
+use Rattle.plane_edits.specs.Change.{IsFaceOf}
+use Rattle.plane_edits.specs.EmptyRound.{IsEmptyRound}
+use Rattle.plane_edits.specs.Legal.{AllPassBut}
+use Rattle.plane_edits.proofs.Legalization.EmptyRound.{opposite_left}
+use Rattle.mesh_embedding.specs.Drawn.{faces_of, outer_of}
+use Rattle.mesh_embedding.specs.Legal.{pairs_at, Gains}
+use Rattle.mesh_embedding.proofs.MeshLegal.{joins_directed}
+use Rattle.mesh_embedding.proofs.MeshStars.{edge_of_face}
+use Rattle.mesh_embedding.proofs.TurnedEnds.{ends_at_next}
+use Rattle.delaunay_legalization.specs.Pushing.{GainsFarSides}
+use Rattle.delaunay_legalization.specs.Star.{HasOpposite}
+
+-- the edges opposite the vertex v join the two other corners of its faces
+opposite_joined : (m : Mesh) → AreSoundLinks m → (v : ℕ) (ks : List ℕ) → HasOpposite m v ks → (j k : ℕ)
+    → IsFaceOf (faces_of m) v j k → Joins (pairs_at m ks) j k
+opposite_joined m s v ks has j k f =
+    let e = edge_of_face m s v j k f in
+    let t = T.triangle_at m e.0 s e.1.inner.0 e.1.inner.1 in
+    let end : origin m (rev (next m e.0)) ≡ k =
+    ends_at_next m s (next m e.0) (prev m e.0) t.next_in t.next_next ∙ e.1.third in
+    subst (λ (x : ℕ × ℕ). Joins (pairs_at m ks) x.0 x.1) (λ o. (e.1.second o, end o))
+    (joins_directed m ks (next m e.0) (has e.0 e.1.inner.0 e.1.first))
+
+-- so these edges are left where only they fail
+pub opposite_begins : (points : List Point) (constraints : List (ℕ × ℕ)) (m : Mesh) → AreSoundLinks m → (v : ℕ)
+    (ks : List ℕ) → IsMesh points (faces_of m) (outer_of m) → IsEmptyRound points (faces_of m) v → HasOpposite m v ks
+    → AllPassBut points (faces_of m) constraints (pairs_at m ks)
+opposite_begins points constraints m s v ks shape empty has =
+    opposite_left points (faces_of m) (outer_of m) constraints (pairs_at m ks) v shape empty
+    (opposite_joined m s v ks has)
+
+-- ---- the sides
+-- what a link of an edge gives, where the mesh and the edge are known by other names
+pub link_read : (link : Mesh → ℕ → ℕ) (m seen : Mesh) (index handle edge h : ℕ) → index ≡ handle
+    → handle ≡ link seen edge → seen ≡ m → edge ≡ h → index ≡ link m h
+link_read link m seen index handle edge h is read same from = is ∙ read ∙ (λ i. link (same i) (from i))
+
+-- two sides of one face that are gained one after another are far sides where the vertex is on the left
+pub far_gained : (m : Mesh) (e v a b p : ℕ) (one two three : List ℕ) → a ≡ next m (rev e)
+    → b ≡ prev m (rev e) → p ≡ prev m e → origin m p ≡ v → Gains one two (a / 2) → Gains two three (b / 2)
+    → GainsFarSides m e v one three
+far_gained m e v a b p one two three at_a at_b at_p there f g = record {
+  kept = λ j c. g.kept j (f.kept j c);
+  far = λ is. (
+    subst (λ (z : ℕ). Contains three (z / 2)) at_a (g.kept (a / 2) f.there),
+    subst (λ (z : ℕ). Contains three (z / 2)) at_b g.there,
+  );
+  near = λ off. absurd (off (ap (origin m) (sym at_p) ∙ there));
+}
+
+-- and near sides where it is not
+pub near_gained : (m : Mesh) (e v a b : ℕ) (one two three : List ℕ) → a ≡ next m e → b ≡ prev m e
+    → origin m b ≢ v → Gains one two (a / 2) → Gains two three (b / 2) → GainsFarSides m e v one three
+near_gained m e v a b one two three at_a at_b off f g = record {
+  kept = λ j c. g.kept j (f.kept j c);
+  far = λ is. absurd (off (ap (origin m) at_b ∙ is));
+  near = λ is_off. (
+    subst (λ (z : ℕ). Contains three (z / 2)) at_a (g.kept (a / 2) f.there),
+    subst (λ (z : ℕ). Contains three (z / 2)) at_b g.there,
+  );
+}

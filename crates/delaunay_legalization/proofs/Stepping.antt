@@ -1,0 +1,159 @@
+-- A legalization from its first work list to its end, by the sides of a turned edge that it leaves to test.
+use Rattle.std.proofs.Common.{◌≡◌, ℕ, ◌+◌, ◌*◌, ◌<◌, ◌≤◌, List, [], ◌∷◌, ◌++◌}
+use Rattle.std.proofs.Common.{length, map, refl, sym, ap, subst, arith}
+use Rattle.std.proofs.lemmas.List.{length-append}
+use Rattle.half_edge_mesh.specs.Contents.{Contents, IsMeshWithData}
+use Rattle.half_edge_mesh.specs.Flip.{flipped}
+use Rattle.half_edge_mesh.specs.Mesh.{Mesh, IsValidMesh, origin, rev}
+use Rattle.plane.specs.Fraction.{Point}
+use Rattle.plane.specs.Pairs.{Joins}
+use Rattle.plane_tiling.specs.Local.{IsMesh}
+use Rattle.mesh_embedding.specs.Drawn.{faces_of, outer_of}
+use Rattle.mesh_embedding.specs.Legal.{AreEdges, GainsRound, IsFailing, IsPartlyLegal}
+use Rattle.mesh_embedding.proofs.MeshLegal.{dropped}
+use Rattle.mesh_embedding.proofs.WorkLists.{contains_last}
+use Rattle.delaunay_legalization.specs.declared.sides.Sides.{Sides}
+use Rattle.delaunay_legalization.specs.declared.sides.Sides.TheVariants.{Round, Beyond, Among}
+use Rattle.delaunay_legalization.specs.Constraints.{constraint_pairs}
+use Rattle.delaunay_legalization.specs.Flips.{FlipsFit}
+use Rattle.delaunay_legalization.specs.Legalized.{Legalizes}
+use Rattle.delaunay_legalization.specs.Shape.{IsTriangulated}
+use Rattle.delaunay_legalization.specs.Sides.{Suffice, GainsSides, CanStep, HasStepped, CanLegalize, HasLegalized}
+use Rattle.delaunay_legalization.specs.State.{state_of}
+use Rattle.delaunay_legalization.proofs.AmongSteps.{six, moves, only_stay, legal_among}
+use Rattle.delaunay_legalization.proofs.FarSides.{flip_keeps_empty, turned_far}
+use Rattle.delaunay_legalization.proofs.Legalizing.{IsUnderway, underway_begins, step_fits, step_kept}
+use Rattle.delaunay_legalization.proofs.Legalizing.{underway_ends, underway_counts, underway_keeps}
+use Rattle.delaunay_legalization.proofs.Legalizing.{turned_by, fewer_by}
+use Rattle.delaunay_legalization.proofs.WorkList.{legalized}
+
+-- ---- one step
+module _ (points : List Point) (m : Mesh) (s : IsValidMesh m) (shape : IsMesh points (faces_of m) (outer_of m)) (e : ℕ)
+    (within : e < length m.half_edges) (x : IsFailing points m e) where
+  -- sides that were enough to test still are after a flip
+  suffice_still : (sides : Sides) → Suffice sides points m → Suffice sides points (flipped m e)
+  suffice_still Round enough = enough
+  suffice_still (Beyond v) enough = flip_keeps_empty points m s shape e within x v enough
+  suffice_still (Among hs) enough = only_stay points m s shape e within x hs.now enough
+
+  -- where these sides are enough, the others need not be in the work list
+  left_by : (constraints : List (ℕ × ℕ)) (was : Mesh) → IsValidMesh (flipped m e) → (start flips : ℕ) (ks more : List ℕ)
+      (sides : Sides) → Suffice sides points m → GainsSides sides m e ks more → AreEdges m more
+      → ((all : List ℕ) → GainsRound m e ks all → AreEdges m all
+      → IsPartlyLegal points constraints was (flipped m e) all start flips)
+      → IsPartlyLegal points constraints was (flipped m e) more start flips
+  left_by constraints was valid start flips ks more Round enough g own legal = legal more g own
+  left_by constraints was valid start flips ks more (Beyond v) enough g own legal =
+      turned_far points m s shape e within x v enough constraints was start flips ks more g own legal
+  left_by constraints was valid start flips ks more (Among hs) enough g own legal =
+      legal_among points constraints was m (flipped m e) s valid e start flips hs.now ks more
+      (six points m s shape e within x) (moves points m s shape e within x).edge_count
+      (only_stay points m s shape e within x hs.now enough) g own legal
+
+module _ (sides : Sides) (points : List Point) (constraints : List (ℕ × ℕ)) (m : Mesh) (s : IsValidMesh m) (ks : List ℕ)
+    (k before : ℕ) (can : CanStep sides points m ks k before) where
+  last_within : (2 * k) < length m.half_edges
+  last_within = can.edges.within k (contains_last ks k)
+
+  -- an edge that is a constraint or does not fail leaves the work list
+  pub step_drops : (¬ Joins constraints (origin m (2 * k)) (origin m (rev (2 * k))) → ¬ IsFailing points m (2 * k))
+      → HasStepped sides points constraints m m (ks ++ k ∷ []) ks before before
+  step_drops passes = record {
+    legal = λ was start p. dropped points constraints was m ks k start before s p passes;
+    suffice = can.suffice;
+    fewer = less _ (length ks) (length (ks ++ k ∷ [])) (length-append ks (k ∷ []));
+  }
+    where
+      less : (q a b : ℕ) → b ≡ a + 1 → q + a < q + b
+      less q a b e = omega (arith, e)
+
+  -- one that fails is turned and counted, and the sides that it leaves are in the work list
+  pub step_turns : (new : Mesh) → IsValidMesh new → (more : List ℕ) (after : ℕ) → new ≡ flipped m (2 * k)
+      → after ≡ before + 1 → IsFailing points m (2 * k) → GainsSides sides m (2 * k) ks more → AreEdges m more
+      → HasStepped sides points constraints m new (ks ++ k ∷ []) more before after
+  step_turns new valid more after e f x g own = record {
+    legal = λ was start p. subst (λ (y : Mesh). IsPartlyLegal points constraints was y more start after) (sym e)
+        (left_by points m s can.shape (2 * k) last_within x constraints was (subst IsValidMesh e valid) start after ks
+        more sides can.suffice g own (λ all round edges.
+        turned_by points constraints was m (flipped m (2 * k)) ks all k start before after s refl f x round edges p));
+    suffice = subst (Suffice sides points) (sym e)
+        (suffice_still points m s can.shape (2 * k) last_within x sides can.suffice);
+    fewer = fewer_by points m new ks more k s can.shape e x can.edges own;
+  }
+
+-- ---- all steps
+-- what holds from one edge to the next
+pub record IsUnderwayBy {V D U F : Type 0} (sides : Sides) (at : V → Point) (fix : List U → List ℕ)
+    (was now : Contents V D U F) (ks : List ℕ) (room_was room start flips : ℕ) : Type 0 where
+  pub underway : IsUnderway fix (map at was.vertices) was now ks room_was room start flips
+  pub suffice : Suffice sides (map at was.vertices) now.mesh
+
+module _ {V D U F : Type 0} (sides : Sides) (at : V → Point) (fix : List U → List ℕ) (was : Contents V D U F)
+    (room_was start : ℕ) where
+  -- at first the edges of the work list are left
+  pub steps_begin : (ks : List ℕ) → CanLegalize at fix sides was ks start
+      → IsUnderwayBy sides at fix was was ks room_was room_was start start
+  steps_begin ks can = record {
+    underway = underway_begins fix (map at was.vertices) was ks room_was start can.shape can.edges can.passing;
+    suffice = can.suffice;
+  }
+
+  module _ (now : Contents V D U F) (all : List ℕ) (room flips : ℕ)
+      (u : IsUnderwayBy sides at fix was now all room_was room start flips) where
+    same_points : map at now.vertices ≡ map at was.vertices
+    same_points = ap (λ (c : Contents V D U F). map at c.vertices) u.underway.contents
+
+    module _ (ks : List ℕ) (k : ℕ) (popped : all ≡ ks ++ k ∷ []) where
+      -- the last edge of the list may be tested and turned
+      pub can_step : IsValidMesh now.mesh → FlipsFit (length was.vertices) start
+          → CanStep sides (map at now.vertices) now.mesh ks k flips
+      can_step s fit = record {
+        shape = subst (λ ps. IsMesh ps (faces_of now.mesh) (outer_of now.mesh)) (sym same_points)
+            u.underway.legal.shape;
+        suffice = subst (λ ps. Suffice sides ps now.mesh) (sym same_points) u.suffice;
+        edges = subst (AreEdges now.mesh) popped u.underway.legal.edges;
+        fits = step_fits at fix was now all room_was room start flips u.underway ks k popped s fit;
+      }
+
+      -- after it the rest is under way
+      pub steps_go_on : (after : Contents V D U F) (more : List ℕ) (room_after flips_after : ℕ)
+          → after ≡ record now { mesh = after.mesh }
+          → constraint_pairs fix after.mesh after.undirected ≡ constraint_pairs fix now.mesh now.undirected
+          → HasStepped sides (map at now.vertices) (constraint_pairs fix now.mesh now.undirected) now.mesh after.mesh
+          (ks ++ k ∷ []) more flips flips_after
+          → room_after ≡ room → IsUnderwayBy sides at fix was after more room_was room_after start flips_after
+      steps_go_on after more room_after flips_after contents constraints step stays = record {
+        underway = step_kept at fix was now all room_was room start flips u.underway ks k popped after more
+            room_after flips_after contents constraints step.legal stays;
+        suffice = subst (λ ps. Suffice sides ps after.mesh) same_points step.suffice;
+      }
+
+    -- when no edge is left, the mesh is legalized
+    pub steps_end : IsMeshWithData now → all ≡ [] → HasLegalized at fix was now start flips
+    steps_end w none = record {
+      contents = u.underway.contents;
+      whole = w;
+      shape = u.underway.legal.shape;
+      constraints = u.underway.constraints;
+      passing = underway_ends at fix was now all room_was room start flips u.underway none;
+      counted = record {
+        grows = grows (length u.underway.legal.away) u.underway.legal.count;
+        few = underway_counts at fix was now all room_was room start flips u.underway;
+      };
+      indexes = underway_keeps at fix was now all room_was room start flips u.underway w.valid;
+    }
+      where
+        grows : (a : ℕ) → start + a ≡ flips → start ≤ flips
+        grows a e = omega (arith, e)
+
+-- a triangulation whose mesh is legalized is a Delaunay one
+pub triangulation_legalized : {V D U F : Type 0} (at : V → Point) (fix : List U → List ℕ) (old new : Contents V D U F)
+    (start flips : ℕ) → IsTriangulated at (state_of old) → HasLegalized at fix old new start flips
+    → Legalizes at fix old new start flips
+triangulation_legalized at fix old new start flips kept h = record {
+  contents = h.contents;
+  legal = legalized at fix old new kept h.contents h.whole h.shape h.constraints h.passing;
+  constraints = h.constraints;
+  counted = h.counted;
+  indexes = h.indexes;
+}

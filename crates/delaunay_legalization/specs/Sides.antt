@@ -1,0 +1,68 @@
+-- The flips of a legalization, by the sides of a turned edge that it leaves to test.
+use Rattle.std.specs.Prelude.{◌≡◌, ℕ, ◌+◌, ◌*◌, ◌<◌, ◌^◌, List, [], ◌∷◌, ◌++◌, length, map, ⊤}
+use Rattle.half_edge_mesh.specs.Contents.{Contents, IsMeshWithData}
+use Rattle.half_edge_mesh.specs.Mesh.{Mesh}
+use Rattle.plane.specs.Delaunay.{IsLocallyDelaunay}
+use Rattle.plane.specs.Fraction.{Point}
+use Rattle.plane_tiling.specs.Local.{IsMesh}
+use Rattle.plane_edits.specs.EmptyRound.{IsEmptyRound}
+use Rattle.plane_edits.specs.Legal.{AllPassBut}
+use Rattle.mesh_embedding.specs.Drawn.{drawn, faces_of, outer_of}
+use Rattle.mesh_embedding.specs.Legal.{AreEdges, GainsRound, IsFailing, IsPartlyLegal, pairs_at, steps_left}
+use Rattle.mesh_embedding.specs.Stays.{KeepsIndexes}
+use Rattle.delaunay_legalization.specs.declared.sides.Sides.{Sides}
+use Rattle.delaunay_legalization.specs.declared.sides.Sides.TheVariants.{Round, Beyond, Among}
+use Rattle.delaunay_legalization.specs.Among.{FailOnlyAmong}
+use Rattle.delaunay_legalization.specs.Constraints.{constraint_pairs}
+use Rattle.delaunay_legalization.specs.Flips.{CountsFlips, FlipsFit}
+use Rattle.delaunay_legalization.specs.Pushing.{GainsFarSides, GainsRoundAmong}
+
+-- what of a mesh makes it enough to test these sides of a turned edge
+abbrev pub Suffice : Sides → List Point → Mesh → Type 0
+Suffice Round points m = ⊤
+Suffice (Beyond v) points m = IsEmptyRound points (faces_of m) v
+Suffice (Among hs) points m = FailOnlyAmong points m hs.now
+
+-- the entries of old, and these sides of directed edge e
+abbrev pub GainsSides : Sides → Mesh → ℕ → List ℕ → List ℕ → Type 0
+GainsSides Round m e old new = GainsRound m e old new
+GainsSides (Beyond v) m e old new = GainsFarSides m e v old new
+GainsSides (Among hs) m e old new = GainsRoundAmong m hs.now e old new
+
+-- undirected edge k, the last of the work list, may be tested and turned
+pub record CanStep (sides : Sides) (points : List Point) (m : Mesh) (ks : List ℕ) (k flips : ℕ) : Type 0 where
+  pub shape : IsMesh points (faces_of m) (outer_of m)
+  pub suffice : Suffice sides points m
+  pub edges : AreEdges m (ks ++ k ∷ [])
+  pub fits : IsFailing points m (2 * k) → flips + 1 < 2 ^ 64
+
+-- so it was: a mesh that was partly legal still is, with fewer steps left
+pub record HasStepped (sides : Sides) (points : List Point) (constraints : List (ℕ × ℕ)) (old new : Mesh)
+    (before after : List ℕ) (flips_before flips_after : ℕ) : Type 0 where
+  pub legal : (was : Mesh) (start : ℕ) → IsPartlyLegal points constraints was old before start flips_before
+      → IsPartlyLegal points constraints was new after start flips_after
+  pub suffice : Suffice sides points new
+  pub fewer : steps_left points new after < steps_left points old before
+
+-- before perhaps only the edges of the work list fail, and each flip that may be needed can be counted
+pub record CanLegalize {V D U F : Type 0} (place : V → Point) (constraints_of : List U → List ℕ) (sides : Sides)
+    (c : Contents V D U F) (ks : List ℕ) (flips : ℕ) : Type 0 where
+  pub shape : IsMesh (map place c.vertices) (faces_of c.mesh) (outer_of c.mesh)
+  pub edges : AreEdges c.mesh ks
+  pub passing : AllPassBut (map place c.vertices) (faces_of c.mesh)
+      (constraint_pairs constraints_of c.mesh c.undirected) (pairs_at c.mesh ks)
+  pub suffice : Suffice sides (map place c.vertices) c.mesh
+  pub fits : FlipsFit (length c.vertices) flips
+
+-- by flips alone, which were counted, each edge passes but the outer ones and the constraints, which are the same
+pub record HasLegalized {V D U F : Type 0} (place : V → Point) (constraints_of : List U → List ℕ)
+    (old new : Contents V D U F) (flips_before flips_after : ℕ) : Type 0 where
+  pub contents : new ≡ record old { mesh = new.mesh }
+  pub whole : IsMeshWithData new
+  pub shape : IsMesh (map place old.vertices) (faces_of new.mesh) (outer_of new.mesh)
+  pub constraints : constraint_pairs constraints_of new.mesh new.undirected
+      ≡ constraint_pairs constraints_of old.mesh old.undirected
+  pub passing : IsLocallyDelaunay (drawn (map place old.vertices) new.mesh)
+      (constraint_pairs constraints_of old.mesh old.undirected)
+  pub counted : CountsFlips (length old.vertices) flips_before flips_after
+  pub indexes : KeepsIndexes old.mesh new.mesh

@@ -1,0 +1,41 @@
+//! Which of the four edges round a turned edge are left to test.
+ghost use Rattle.std.specs.Prelude.{◌≡◌, vec_capacity};
+ghost use Rattle.mesh_embedding.specs.Legal.{AreEdges};
+ghost use Rattle.delaunay_legalization.specs.Pushing.{CanGain};
+ghost use Rattle.delaunay_legalization.specs.Sides.{GainsSides};
+
+use crate::among::push_sides_among;
+use crate::legalization::push_sides;
+use crate::opposite::push_far_sides;
+use half_edge_mesh::{Dcel, FixedDirectedEdgeHandle, FixedUndirectedEdgeHandle, FixedVertexHandle};
+
+// Which of them may fail then.
+#[derive(Clone, Copy)]
+pub(crate) enum Sides<'a> {
+    // Each.
+    Round,
+    // The two that lie beyond the edge from this vertex.
+    Beyond(FixedVertexHandle),
+    // Those whose first direction is listed here.
+    Among(&'a [FixedDirectedEdgeHandle]),
+}
+
+// Puts the edges round an edge that may fail once it is turned into a work list, unless they are
+// there.
+pub(crate) fn push_left<V, DE, UE, F>(
+    dcel: &Dcel<V, DE, UE, F>,
+    edge: FixedDirectedEdgeHandle,
+    sides: &Sides,
+    work: &mut Vec<FixedUndirectedEdgeHandle>,
+)
+    requires gain { CanGain dcel.now edge work.old.items (vec_capacity work.old) }
+    ensures gains { GainsSides sides.now dcel.now.mesh edge work.old.items work.new.items }
+    ensures edges { AreEdges dcel.now.mesh work.new.items }
+    ensures capacity { vec_capacity work.new ≡ vec_capacity work.old }
+{
+    match *sides {
+        Sides::Round => push_sides(dcel, edge, work),
+        Sides::Beyond(vertex) => push_far_sides(dcel, edge, vertex, work),
+        Sides::Among(among) => push_sides_among(dcel, edge, among, work),
+    }
+}
