@@ -18,7 +18,8 @@ pub loop-i-preserved : goal.loop-i-preserved
 loop-i-preserved c =
     directions_go_on c.args.edges.now c.loop-i.i c.loop-i.directions.items _ _ _ c.loop-i.invariant
     c.index-edges-i.result c.as_directed.result c.push_reserved.new.self.items _ _ c.loop-i-test.true
-    c.index-edges-i.is c.as_directed.ensures c.push_reserved.ensures.items c.push_reserved.ensures.len c.push_reserved.ensures.capacity
+    c.index-edges-i.is c.as_directed.ensures c.push_reserved.ensures.items c.push_reserved.ensures.len
+    c.push_reserved.ensures.capacity
 
 pub returns : goal.returns
 returns c =

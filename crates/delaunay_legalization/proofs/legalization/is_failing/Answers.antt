@@ -4,12 +4,14 @@ use Rattle.mesh_embedding.specs.Legal.{IsFailing}
 use Rattle.delaunay_legalization.proofs.Questions.{both_ways}
 use Rattle.delaunay_legalization.proofs.Legalizing.{left_turn, inside_fails, fails_inside, positive}
 use Rattle.delaunay_legalization.proofs.legalization.is_failing.Goals as goal
-use Rattle.delaunay_legalization.proofs.legalization.is_failing.Goals.{then-is_outer-via-then-is_outer, then-is_outer-via-else-is_outer+then-is_outer-2}
+use Rattle.delaunay_legalization.proofs.legalization.is_failing.Goals.{then-is_outer-via-then-is_outer}
+use Rattle.delaunay_legalization.proofs.legalization.is_failing.Goals.{then-is_outer-via-else-is_outer+then-is_outer-2}
 
 pub is_in_circle-requires-clause-left_turn : goal.is_in_circle-requires-clause-left_turn
 is_in_circle-requires-clause-left_turn g c =
     let w = c.recall_invariant.ensures.whole in
-    let within = subst (λ (e : ℕ). e < length c.args.dcel.now.directed) (sym c.as_directed-edge.ensures) c.requires.within in
+    let within = subst (λ (e : ℕ). e < length c.args.dcel.now.directed) (sym c.as_directed-edge.ensures)
+    c.requires.within in
     left_turn (map g.V.HasPosition.place c.args.dcel.now.vertices) c.args.dcel.now.mesh w.valid c.requires.shape
     c.as_directed-edge.result (length c.args.dcel.now.directed) w.fits.directed_fit within
     _ _ _ _ _ _ _ c.sides_round-next.ensures.next.0 c.sides_round-next.ensures.prev.0
@@ -40,7 +42,8 @@ returns-then-is_outer g c = (
 pub returns : goal.returns
 returns g c =
     let w = c.recall_invariant.ensures.whole in
-    let within = subst (λ (e : ℕ). e < length c.args.dcel.now.directed) (sym c.as_directed-edge.ensures) c.requires.within in (
+    let within = subst (λ (e : ℕ). e < length c.args.dcel.now.directed) (sym c.as_directed-edge.ensures)
+    c.requires.within in (
       (λ h. subst (IsFailing (map g.V.HasPosition.place c.args.dcel.now.vertices) c.args.dcel.now.mesh)
           c.as_directed-edge.ensures
           (inside_fails (map g.V.HasPosition.place c.args.dcel.now.vertices) c.args.dcel.now.mesh w.valid

@@ -54,7 +54,8 @@ returns-then-is_failing-clause-step g c =
     c.recall_invariant.ensures.whole.valid c.args.work.now.items c.args.edge c.args.flips.now c.requires.step
     c.flip.new.dcel.mesh c.recall_invariant-then-is_failing.ensures.whole.valid c.push_left.new.work.items
     c.flip.new.flips c.flip.ensures.mesh c.flip.ensures.flips (c.is_failing.ensures.0 c.if-is_failing.true)
-    (subst (λ (e : ℕ). GainsSides c.args.sides.now c.args.dcel.now.mesh e c.args.work.now.items c.push_left.new.work.items)
+    (subst (λ (e : ℕ).
+    GainsSides c.args.sides.now c.args.dcel.now.mesh e c.args.work.now.items c.push_left.new.work.items)
     c.as_directed.ensures c.push_left.ensures.gains) c.push_left.ensures.edges
 
 pub returns-else-is_failing-clause-step : goal.returns-else-is_failing-clause-step
