@@ -1,12 +1,15 @@
 -- A flood over the edges of a mesh: which were asked of, and which of them were found.
-use Rattle.std.specs.Prelude.{◌≡◌, ◌≢◌, ◌↔◌, ℕ, ◌*◌, ◌/◌, ◌<◌, List, ◌++◌, length, Bool, true, false, Contains, AllPairs, slice_index_or}
+use Rattle.std.specs.Prelude.{◌≡◌, ◌≢◌, ◌↔◌, ℕ, ◌*◌, ◌/◌, ◌<◌, List, ◌++◌, length, map}
+use Rattle.std.specs.Prelude.{Bool, true, false, All, Contains, AllPairs, slice_index_or}
+use Rattle.half_edge_mesh.specs.Contents.{Contents}
 use Rattle.half_edge_mesh.specs.Mesh.{Mesh, origin, next, prev, rev}
 use Rattle.plane.specs.Fraction.{Point, Fraction}
 use Rattle.plane.specs.Shape.{IsEdgeIn}
 use Rattle.plane.specs.Location.{Location}
 use Rattle.plane_delaunay.specs.Flood.{Region, InRegion, IsTried}
-use Rattle.mesh_embedding.specs.Drawn.{drawn}
-use Rattle.delaunay_shapes.specs.InShape.{IsEdgeInShape}
+use Rattle.plane_tiling.specs.Local.{IsMesh}
+use Rattle.mesh_embedding.specs.Drawn.{drawn, faces_of, outer_of}
+use Rattle.delaunay_shapes.specs.InShape.{IsEdgeInShape, IsInside}
 
 -- the flood has asked of edge or vertex k
 abbrev pub IsAsked : List Bool → ℕ → Type 0
@@ -58,7 +61,18 @@ pub record IsRegion (Shape : Fraction → Type 0) : Type 0 where
 pub record IsBegunBy (Inside : ℕ → Type 0) (count : ℕ) (starts : List ℕ) : Type 0 where
   pub begun : (k : ℕ) → k < count → Inside k → (j : ℕ) × Contains starts j × Inside j
 
--- the same of the edges that are tried first from a location
+-- what a flood needs: the tests cover the shape's own points and the vertices of a mesh, the shape is a region, and the
+-- flood begins with edges of the mesh of which one is inside, if any is
+pub record CanFlood {V D U F : Type 0} (IsCovered : Point → Type 0) (own : List Point) (Shape : Fraction → Type 0)
+    (place : V → Point) (c : Contents V D U F) (starts : List ℕ) : Type 0 where
+  pub own_covered : All IsCovered own
+  pub covered : All IsCovered (map place c.vertices)
+  pub shape : IsMesh (map place c.vertices) (faces_of c.mesh) (outer_of c.mesh)
+  pub region : IsRegion Shape
+  pub within : All (λ e. e < length c.undirected) starts
+  pub begun : IsBegunBy (IsInside Shape place c) (length c.undirected) starts
+
+-- where any of the edges that are tried first from a location is inside, one of the first is
 pub record HasBegun (Shape : Fraction → Type 0) (points : List Point) (m : Mesh) (starts : List ℕ) (l : Location) : Type 0 where
   pub begun : (a b : ℕ) → IsTried (drawn points m) l a b → IsEdgeIn Shape (drawn points m) a b → (k : ℕ) × Contains starts k × IsEdgeInShape Shape points m k
 

@@ -1,10 +1,8 @@
 //! A flood over the edges of a mesh that have a point in a shape: from those found, to those beside
 //! them in their faces.
 ghost use Rattle.std.specs.Prelude.{◌<◌, ℕ, length, map, All, Contains, IfOk, OnOk};
-ghost use Rattle.mesh_embedding.specs.Drawn.{faces_of, outer_of};
-ghost use Rattle.plane_tiling.specs.Local.{IsMesh};
-ghost use Rattle.delaunay_shapes.specs.Flood.{Asks, AsksBeside, GoesOn, IsAsked, IsBegunBy};
-ghost use Rattle.delaunay_shapes.specs.Flood.{IsFlooding, IsRegion, IsSpread};
+ghost use Rattle.delaunay_shapes.specs.Flood.{Asks, AsksBeside, CanFlood, GoesOn, IsAsked};
+ghost use Rattle.delaunay_shapes.specs.Flood.{IsFlooding, IsSpread};
 ghost use Rattle.delaunay_shapes.specs.InShape.{AreEdgesInShape, IsInside};
 ghost use Rattle.delaunay_shapes.specs.Left.{GivesEdgesIn, edges_left};
 
@@ -135,14 +133,8 @@ pub(crate) fn flood<
     starts: &[FixedUndirectedEdgeHandle],
     alloc: Global,
 ) -> Result<Vec<FixedUndirectedEdgeHandle>, AllocError>
-    requires own_covered { All (P.covered tests.now) (M.own_points metric.now) }
-    requires covered { All (P.covered tests.now) (map V.place dcel.now.vertices) }
-    requires shape { IsMesh (map V.place dcel.now.vertices) (faces_of dcel.now.mesh)
-        (outer_of dcel.now.mesh) }
-    requires region { IsRegion (M.shape metric.now) }
-    requires within { All (λ e. e < length dcel.now.undirected) starts.now }
-    requires begun { IsBegunBy (IsInside (M.shape metric.now) V.place dcel.now)
-        (length dcel.now.undirected) starts.now }
+    requires { CanFlood (P.covered tests.now) (M.own_points metric.now) (M.shape metric.now)
+        V.place dcel.now starts.now }
     ensures exact { IfOk result (λ v. AreEdgesInShape (M.shape metric.now)
         (map V.place dcel.now.vertices) dcel.now.mesh v.items) }
     ensures within { IfOk result (λ v. All (λ e. e < length dcel.now.undirected) v.items) }
@@ -171,14 +163,8 @@ pub fn edges_by_flood<
     starts: &[FixedUndirectedEdgeHandle],
     alloc: Global,
 ) -> Result<EdgesInShapeIterator<'a, V, DE, UE, F>, AllocError>
-    requires own_covered { All (P.covered tests.now) (M.own_points metric.now) }
-    requires covered { All (P.covered tests.now) (map V.place dcel.now.vertices) }
-    requires shape { IsMesh (map V.place dcel.now.vertices) (faces_of dcel.now.mesh)
-        (outer_of dcel.now.mesh) }
-    requires region { IsRegion (M.shape metric.now) }
-    requires within { All (λ e. e < length dcel.now.undirected) starts.now }
-    requires begun { IsBegunBy (IsInside (M.shape metric.now) V.place dcel.now)
-        (length dcel.now.undirected) starts.now }
+    requires { CanFlood (P.covered tests.now) (M.own_points metric.now) (M.shape metric.now)
+        V.place dcel.now starts.now }
     ensures { IfOk result (λ it. GivesEdgesIn (M.shape metric.now) V.place dcel.entry
         (edges_left it)) }
 {

@@ -6,9 +6,9 @@ ghost use Rattle.delaunay_core.specs.Place.{place_of};
 ghost use Rattle.delaunay_legalization.specs.Shape.{IsTriangulated};
 ghost use Rattle.delaunay_legalization.specs.State.{state_of};
 ghost use Rattle.delaunay_location.specs.Location.{HasHandle};
-ghost use Rattle.delaunay_shapes.specs.Flood.{IsBegunBy};
+ghost use Rattle.delaunay_shapes.specs.Flood.{CanFlood};
 ghost use Rattle.delaunay_shapes.specs.InShape.{IsInside};
-ghost use Rattle.delaunay_shapes.specs.Start.{BeginsAt, HasOuter, HasSides, HasStarts};
+ghost use Rattle.delaunay_shapes.specs.Start.{BeginsAt, HasSides, HasStarts};
 
 use crate::distance_metric::DistanceMetric;
 use delaunay_core::math::PlaneTests;
@@ -117,33 +117,6 @@ fn outer_edge_inside<
     None
 }
 
-// The same as a list.
-fn outer_edge_alone<
-    V: HasPosition,
-    DE,
-    UE,
-    F,
-    M: DistanceMetric<V::Scalar>,
-    P: PlaneTests<V::Scalar>,
->(
-    dcel: &Dcel<V, DE, UE, F>,
-    metric: &M,
-    tests: &P,
-    alloc: Global,
-) -> Result<Vec<FixedUndirectedEdgeHandle>, AllocError>
-    requires kept { IsTriangulated V.place (state_of dcel.now) }
-    requires own_covered { All (P.covered tests.now) (M.own_points metric.now) }
-    requires covered { All (P.covered tests.now) (map V.place dcel.now.vertices) }
-    ensures starts { IfOk result (λ v. HasOuter (IsInside (M.shape metric.now) V.place dcel.now)
-        dcel.now.mesh v.items) }
-    ensures within { IfOk result (λ v. All (λ e. e < length dcel.now.undirected) v.items) }
-{
-    match outer_edge_inside(dcel, metric, tests) {
-        Some(edge) => edge_alone(dcel, edge, alloc),
-        None => Ok(Vec::new(alloc)),
-    }
-}
-
 // The edges to begin with from a location.
 fn edges_at<V: HasPosition, DE, UE, F, M: DistanceMetric<V::Scalar>, P: PlaneTests<V::Scalar>>(
     dcel: &Dcel<V, DE, UE, F>,
@@ -166,7 +139,10 @@ fn edges_at<V: HasPosition, DE, UE, F, M: DistanceMetric<V::Scalar>, P: PlaneTes
         PositionInTriangulation::OnEdge(edge) => edge_alone(dcel, edge, alloc),
         PositionInTriangulation::OnFace(face) => sides_of_face(dcel, face, alloc),
         PositionInTriangulation::OutsideOfConvexHull(_) => {
-            outer_edge_alone(dcel, metric, tests, alloc)
+            match outer_edge_inside(dcel, metric, tests) {
+                Some(edge) => edge_alone(dcel, edge, alloc),
+                None => Ok(Vec::new(alloc)),
+            }
         }
         PositionInTriangulation::NoTriangulation => Ok(Vec::new(alloc)),
     }
@@ -195,9 +171,8 @@ pub(crate) fn first_edges<
     requires own_covered { All (P.covered tests.now) (M.own_points metric.now) }
     requires start_covered { P.covered tests.now (place_of V.Scalar.whole start) }
     requires begins { BeginsAt (M.shape metric.now) (place_of V.Scalar.whole start) }
-    ensures begun { IfOk result (λ v. IsBegunBy (IsInside (M.shape metric.now) V.place dcel.now)
-        (length dcel.now.undirected) v.items) }
-    ensures within { IfOk result (λ v. All (λ e. e < length dcel.now.undirected) v.items) }
+    ensures { IfOk result (λ v. CanFlood (P.covered tests.now) (M.own_points metric.now)
+        (M.shape metric.now) V.place dcel.now v.items) }
 {
     edges_at(
         dcel,

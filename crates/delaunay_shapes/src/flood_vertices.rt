@@ -1,11 +1,9 @@
 //! The vertices in a shape, as ends of the edges that a flood found.
 ghost use Rattle.std.specs.Prelude.{◌≡◌, ◌<◌, length, map, All, IfOk, OnOk};
-ghost use Rattle.mesh_embedding.specs.Drawn.{faces_of, outer_of};
 ghost use Rattle.plane.specs.Tests.{InRange};
-ghost use Rattle.plane_tiling.specs.Local.{IsMesh};
-ghost use Rattle.delaunay_shapes.specs.Flood.{Asks, GoesOn, HasAskedEnds, IsAsked, IsBegunBy};
-ghost use Rattle.delaunay_shapes.specs.Flood.{IsFlooding, IsRegion};
-ghost use Rattle.delaunay_shapes.specs.InShape.{IsInside, IsVertexInside};
+ghost use Rattle.delaunay_shapes.specs.Flood.{Asks, CanFlood, GoesOn, HasAskedEnds, IsAsked};
+ghost use Rattle.delaunay_shapes.specs.Flood.{IsFlooding};
+ghost use Rattle.delaunay_shapes.specs.InShape.{IsVertexInside};
 ghost use Rattle.delaunay_shapes.specs.Left.{GivesVerticesIn, vertices_left};
 
 use crate::distance_metric::DistanceMetric;
@@ -109,14 +107,8 @@ pub fn vertices_by_flood<
     starts: &[FixedUndirectedEdgeHandle],
     alloc: Global,
 ) -> Result<VerticesInShapeIterator<'a, V, DE, UE, F>, AllocError>
-    requires own_covered { All (P.covered tests.now) (M.own_points metric.now) }
-    requires covered { All (P.covered tests.now) (map V.place dcel.now.vertices) }
-    requires shape { IsMesh (map V.place dcel.now.vertices) (faces_of dcel.now.mesh)
-        (outer_of dcel.now.mesh) }
-    requires region { IsRegion (M.shape metric.now) }
-    requires within { All (λ e. e < length dcel.now.undirected) starts.now }
-    requires begun { IsBegunBy (IsInside (M.shape metric.now) V.place dcel.now)
-        (length dcel.now.undirected) starts.now }
+    requires { CanFlood (P.covered tests.now) (M.own_points metric.now) (M.shape metric.now)
+        V.place dcel.now starts.now }
     ensures { IfOk result (λ it. GivesVerticesIn (M.shape metric.now) V.place dcel.entry
         (vertices_left it)) }
 {

@@ -27,23 +27,8 @@ returns g c =
           (λ e. c.in_ok-ask_ends.ensures.on.kept 0 (c.in_ok-ask_alone.ensures.alone (sym many ∙ e)));
     }
 
-pub flood-requires-clause-own_covered : goal.flood-requires-clause-own_covered
-flood-requires-clause-own_covered g c = c.requires.own_covered
-
-pub flood-requires-clause-covered : goal.flood-requires-clause-covered
-flood-requires-clause-covered g c = c.requires.covered
-
-pub flood-requires-clause-shape : goal.flood-requires-clause-shape
-flood-requires-clause-shape g c = c.requires.shape
-
-pub flood-requires-clause-region : goal.flood-requires-clause-region
-flood-requires-clause-region g c = c.requires.region
-
-pub flood-requires-clause-within : goal.flood-requires-clause-within
-flood-requires-clause-within g c = c.requires.within
-
-pub flood-requires-clause-begun : goal.flood-requires-clause-begun
-flood-requires-clause-begun g c = c.requires.begun
+pub flood-requires : goal.flood-requires
+flood-requires g c = c.requires
 
 pub ask_alone-requires-clause-in_range : goal.ask_alone-requires-clause-in_range
 ask_alone-requires-clause-in_range g c = all_are (g.P.PlaneTests.covered c.args.tests.now) InRange (g.met.P.PlaneTests.covered_are_in_range c.args.tests.now) (map g.V.HasPosition.place c.args.dcel.now.vertices) c.requires.covered
