@@ -14,6 +14,7 @@ if_ok P Q (Ok x) into p = into x p
 if_ok P Q (Err e) into p = p
 
 -- the same of two things that hold of it
-pub if_both : {T E : Type 0} (P Q R : T → Type 0) (r : Result T E) → ((x : T) → P x → Q x → R x) → IfOk r P → IfOk r Q → IfOk r R
+pub if_both : {T E : Type 0} (P Q R : T → Type 0) (r : Result T E) → ((x : T) → P x → Q x → R x)
+    → IfOk r P → IfOk r Q → IfOk r R
 if_both P Q R (Ok x) into p q = into x p q
 if_both P Q R (Err e) into p q = p

@@ -1,4 +1,4 @@
-use Rattle.std.proofs.Common.{ℕ, ◌<◌, length, map}
+use Rattle.std.proofs.Common.{◌<◌, length, map}
 use Rattle.std.specs.Prelude.{All}
 use Rattle.delaunay_core.specs.Place.{place_of}
 use Rattle.delaunay_shapes.specs.Flood.{CanFlood}
@@ -35,7 +35,7 @@ returns g c =
       shape = kept.shape;
       region = region_of_start Shape start c.requires.begins;
       within = within;
-      begun = begun_by_starts (map at d.vertices) d.mesh kept.valid kept.shape Shape v.items start c.requires.begins place
-          c.locate_with_hint.ensures starts (length d.undirected) kept.fits.undirected_fit;
+      begun = begun_by_starts (map at d.vertices) d.mesh kept.valid kept.shape Shape v.items start c.requires.begins
+          place c.locate_with_hint.ensures starts (length d.undirected) kept.fits.undirected_fit;
     })
     c.edges_at.ensures.starts c.edges_at.ensures.within

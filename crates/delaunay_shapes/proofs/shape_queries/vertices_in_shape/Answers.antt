@@ -1,4 +1,4 @@
-use Rattle.std.proofs.Common.{map, sym, subst}
+use Rattle.std.proofs.Common.{sym, subst}
 use Rattle.delaunay_shapes.specs.Flood.{CanFlood}
 use Rattle.delaunay_shapes.proofs.shape_queries.vertices_in_shape.Goals as goal
 
