@@ -1,6 +1,6 @@
 -- Without constraints the circles round a vertex that was put in are empty.
-use Rattle.std.proofs.Common.{◌≡◌, ◌∙◌, ℕ, Bool, List, [], ◌∷◌, length, map, refl, sym, subst, arith}
-use Rattle.std.proofs.lemmas.List.{length-map}
+use Rattle.std.proofs.Common.{◌≡◌, ◌∙◌, ℕ, Bool, List, [], length, map, sym, subst}
+use Rattle.std.proofs.lemmas.List.{length-map, nil_from_length}
 use Rattle.half_edge_mesh.specs.Contents.{Contents}
 use Rattle.plane.specs.Fraction.{Point}
 use Rattle.plane.specs.Delaunay.{IsConstrainedDelaunay}
@@ -14,15 +14,11 @@ use Rattle.delaunay_insertion.proofs.EmptyRound.{grown_is_empty}
 use Rattle.delaunay_edit.specs.Counting.{IsCounted}
 use Rattle.delaunay_edit.proofs.Delaunay.{marked_constrained_delaunay}
 
-nothing_listed : {A : Type 0} (xs : List A) → length xs ≡ 0 → xs ≡ []
-nothing_listed [] e = refl
-nothing_listed (x ∷ xs) e = absurd (omega (arith, e))
-
 -- where their number is none there are no constraints
 pub none_counted : {V D U F : Type 0} (place : V → Point) (constraints : List U → List ℕ) (s : State V D U F)
     (number : ℕ) → IsCounted place constraints s number → number ≡ 0 → constraints_by constraints s ≡ []
 none_counted place constraints s number counted none =
-    nothing_listed (constraints_by constraints s) (sym counted.counted ∙ none)
+    nil_from_length (constraints_by constraints s) (sym counted.counted ∙ none)
 
 -- where there was no constraint, room was made, and a vertex was put in
 pub put_in_free : {V D U F : Type 0} (place : V → Point) (marks : U → Bool) (constraints : List U → List ℕ)

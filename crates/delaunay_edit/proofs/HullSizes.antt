@@ -18,7 +18,7 @@ use Rattle.mesh_embedding.proofs.OwnEdges.{own_edges}
 use Rattle.mesh_embedding.proofs.OuterEdges.{real}
 use Rattle.delaunay_legalization.specs.State.{State, triangulation_of}
 use Rattle.delaunay_legalization.specs.Shape.{IsTriangulated}
-use Rattle.delaunay_edit.specs.Hull.{HasHullSize}
+use Rattle.delaunay_edit.specs.Hull.{CountsHullEdges, HasHullSize}
 use Rattle.delaunay_edit.proofs.Counts.{count_of_edges, count_of_faces}
 use Rattle.delaunay_edit.proofs.Edges.{edge_joins}
 use Rattle.delaunay_legalization.proofs.MeshParts.{outer_bare}
@@ -73,7 +73,7 @@ module _ {V D U F : Type 0} (at : V → Point) (s : State V D U F) (kept : IsTri
       go (inr c) = c
 
   -- as many edges are of the hull as the mesh has outer edges
-  pub hull_size : (size : ℕ) → size ≡ length (outer_of s.mesh) → HasHullSize (triangulation_of at s) size
+  hull_size : (size : ℕ) → size ≡ length (outer_of s.mesh) → HasHullSize (triangulation_of at s) size
   hull_size size e = record {
     hull = outer_of s.mesh;
     count = sym e;
@@ -82,7 +82,7 @@ module _ {V D U F : Type 0} (at : V → Point) (s : State V D U F) (kept : IsTri
   }
 
   -- with a face, as many as the vertices and the edges leave
-  pub spread_count : 0 < length s.faces → length s.undirected + length (outer_of s.mesh) + 3 ≡ 3 * length s.vertices
+  spread_count : 0 < length s.faces → length s.undirected + length (outer_of s.mesh) + 3 ≡ 3 * length s.vertices
   spread_count h = go kept.shape
     where
       go : IsMesh (map at s.vertices) (faces_of s.mesh) (outer_of s.mesh) → length s.undirected + length (outer_of s.mesh) + 3 ≡ 3 * length s.vertices
@@ -92,7 +92,7 @@ module _ {V D U F : Type 0} (at : V → Point) (s : State V D U F) (kept : IsTri
       go (inr l) = absurd (let none = l.0 in let faces = count_of_faces at s kept in let zero : length (faces_of s.mesh) ≡ 0 = rw none refl in omega (arith, faces, zero, h))
 
   -- on one line, both ways of each edge, and there is one edge fewer than vertices
-  pub line_count : length s.faces ≡ 0 → length (outer_of s.mesh) ≡ 2 * (length s.vertices - 1)
+  line_count : length s.faces ≡ 0 → length (outer_of s.mesh) ≡ 2 * (length s.vertices - 1)
   line_count h = go kept.shape
     where
       bare : faces_of s.mesh ≡ []
@@ -106,16 +106,15 @@ module _ {V D U F : Type 0} (at : V → Point) (s : State V D U F) (kept : IsTri
           let ways = ways_add_up s.mesh kept.valid in
           omega (arith, edges, ways, count_of_faces at s kept, h, length-map s.vertices at)
 
-  -- with a face, as many faces as the vertices leave
-  pub spread_faces_count : 0 < length s.faces → length s.faces + length (outer_of s.mesh) + 2 ≡ 2 * length s.vertices
-  spread_faces_count some =
+  -- so the hull has as many edges as the mesh has outer ones, which goes with the other numbers
+  pub counts_outer : (size : ℕ) → size ≡ length (outer_of s.mesh) → CountsHullEdges at s size
+  counts_outer size e =
       let pairs = kept.fits.undirected_fit in
       let directed = kept.fits.directed_fit in
-      omega (arith, pairs, directed, sides_and_outer, spread_count some)
-
-  -- on one line, one edge fewer than vertices
-  pub line_edges : length s.faces ≡ 0 → length s.undirected ≡ length s.vertices - 1
-  line_edges none =
-      let pairs = kept.fits.undirected_fit in
-      let directed = kept.fits.directed_fit in
-      omega (arith, none, pairs, directed, sides_and_outer, line_count none)
+      record {
+        hull = hull_size size e;
+        spread = λ some. omega (arith, e, spread_count some);
+        spread_faces = λ some. omega (arith, e, pairs, directed, sides_and_outer, spread_count some);
+        line = λ none. omega (arith, e, line_count none);
+        line_edges = λ none. omega (arith, none, pairs, directed, sides_and_outer, line_count none);
+      }

@@ -1,5 +1,7 @@
 -- The constraints of a triangulation, which are the edges whose data say so.
-use Rattle.std.specs.Prelude.{◌≡◌, ℕ, false, List, []}
+use Rattle.std.specs.Prelude.{◌≡◌, ◌↔◌, ℕ, ◌*◌, Bool, false, List, [], Contains, IsTrue}
+use Rattle.half_edge_mesh.specs.Mesh.{origin, rev}
+use Rattle.plane.specs.Pairs.{Joins}
 use Rattle.plane.specs.Plain.{Plain}
 use Rattle.delaunay_legalization.specs.declared.cdt_edge.CdtEdge.{CdtEdge}
 use Rattle.delaunay_legalization.specs.CdtEdge.{is_constraint}
@@ -25,3 +27,8 @@ constrained s = points_and_constraints_by constraint_edges s
 -- an edge that is no constraint, with these data
 abbrev pub IsFree : {U : Type 0} → U → CdtEdge U → Type 0
 IsFree u e = (e.is_constraint_edge ≡ false) × (e.«data» ≡ u)
+
+-- the answer to whether an undirected edge is a constraint, by its data and by what it joins
+pub record TellsConstraint {V D U F : Type 0} (s : State V D (CdtEdge U) F) (edge : ℕ) (answer : Bool) : Type 0 where
+  pub marked : IsTrue answer ↔ Contains (constraint_edges s.undirected) edge
+  pub joined : IsTrue answer ↔ Joins (constraints_of s) (origin s.mesh (2 * edge)) (origin s.mesh (rev (2 * edge)))

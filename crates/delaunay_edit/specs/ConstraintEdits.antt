@@ -1,5 +1,5 @@
 -- What the edits of constraints make of a triangulation.
-use Rattle.std.specs.Prelude.{◌≡◌, ◌≢◌, ◌⊎◌, ◌↔◌, ℕ, ◌*◌, Bool, true, false, List, [], map, Some, Result, Ok, Contains, IsTrue, IfOk, OnOk, OnErr, slice_get, slice_set}
+use Rattle.std.specs.Prelude.{◌≡◌, ◌≢◌, ◌⊎◌, ◌↔◌, ℕ, ◌*◌, ◌<◌, Bool, true, false, List, [], length, map, Some, Result, Ok, Contains, IsTrue, IfOk, OnOk, OnErr, slice_get, slice_set}
 use Rattle.half_edge_mesh.specs.Mesh.{origin, rev}
 use Rattle.plane.specs.Fraction.{Point}
 use Rattle.plane.specs.Pairs.{SamePairs}
@@ -11,6 +11,7 @@ use Rattle.delaunay_legalization.specs.State.{State}
 use Rattle.delaunay_paths.specs.Adding.{MarksSome}
 use Rattle.delaunay_paths.specs.PathEdges.{LeadAlong}
 use Rattle.delaunay_edit.specs.Constrained.{constrained, constraint_edges, constraints_of}
+use Rattle.delaunay_edit.specs.Headline.{AreSites}
 
 -- edges may have been flipped, and some that were no constraints have become such. All other data stay, each at its index
 pub record MarksEdges {V D U F : Type 0} (old new : State V D (CdtEdge U) F) : Type 0 where
@@ -24,6 +25,18 @@ pub record FreesEdge {V D U F : Type 0} (old new : State V D (CdtEdge U) F) (k :
   pub was : slice_get old.undirected k ≡ Some value
   pub rest : new ≡ record old { mesh = new.mesh; undirected = slice_set old.undirected k (with_mark false value) }
   pub indexes : KeepsIndexes old.mesh new.mesh
+
+module _ {V D U F : Type 0} (place : V → Point) (IsSite : Point → Type 0) where
+  -- the path between two vertices may be asked for: both are there, and the vertices are sites
+  pub record MayJoin (s : State V D U F) (from to : ℕ) : Type 0 where
+    pub from_in : from < length s.vertices
+    pub to_in : to < length s.vertices
+    pub sites : AreSites place IsSite s.vertices
+
+  -- an edge may be released: it is there, and the vertices are sites
+  pub record MayRelease (s : State V D U F) (edge : ℕ) : Type 0 where
+    pub within : edge < length s.undirected
+    pub sites : AreSites place IsSite s.vertices
 
 module _ {V D U F : Type 0} (place : V → Point) where
   -- to add the path between two vertices gave this result, which tells whether that made a constraint

@@ -6,8 +6,9 @@ ghost use Rattle.half_edge_mesh.specs.Mesh.{origin, rev};
 ghost use Rattle.plane.specs.Plain.{Adds, CanAdd, Releases};
 ghost use Rattle.delaunay_edit.specs.Constrained.{constrained, constraint_edges};
 ghost use Rattle.delaunay_edit.specs.ConstraintEdits.{AddsConstraint, AddsPathIfFree, FreesEdge};
-ghost use Rattle.delaunay_edit.specs.ConstraintEdits.{MarksEdges, ReleasesConstraint};
-ghost use Rattle.delaunay_edit.specs.Headline.{AreSites, IsDelaunay};
+ghost use Rattle.delaunay_edit.specs.ConstraintEdits.{MarksEdges, MayJoin, MayRelease};
+ghost use Rattle.delaunay_edit.specs.ConstraintEdits.{ReleasesConstraint};
+ghost use Rattle.delaunay_edit.specs.Headline.{IsDelaunay};
 
 use crate::counting::count_missing;
 use crate::edited_mesh::ConstrainedMesh;
@@ -29,9 +30,7 @@ impl<V: HasPosition, DE, UE, F> ConstrainedMesh<V, DE, UE, F> {
         to: FixedVertexHandle,
         tests: &P,
     ) -> bool
-        requires from_in { from < length self.now.vertices }
-        requires to_in { to < length self.now.vertices }
-        requires sites { AreSites V.place (P.sites tests.now) self.now.vertices }
+        requires { MayJoin V.place (P.sites tests.now) self.now from to }
         ensures { IsTrue result ↔ CanAdd V.place (constrained self.now) from to }
     {
         self.recall_invariant();
@@ -80,10 +79,8 @@ impl<V: HasPosition, DE, UE, F> ConstrainedMesh<V, DE, UE, F> {
         to: FixedVertexHandle,
         tests: &P,
     ) -> Result<bool, AllocError>
-        requires from_in { from < length self.old.vertices }
-        requires to_in { to < length self.old.vertices }
+        requires ends { MayJoin V.place (P.sites tests.now) self.old from to }
         requires free { CanAdd V.place (constrained self.old) from to }
-        requires sites { AreSites V.place (P.sites tests.now) self.old.vertices }
         ensures adds { AddsConstraint V.place from to result self.old self.new }
         ensures headline { IsDelaunay V.place constraint_edges self.new }
     {
@@ -104,11 +101,9 @@ impl<V: HasPosition, DE, UE, F> ConstrainedMesh<V, DE, UE, F> {
         to: FixedVertexHandle,
         tests: &P,
     ) -> Result<Vec<FixedDirectedEdgeHandle>, AllocError>
-        requires from_in { from < length self.old.vertices }
-        requires to_in { to < length self.old.vertices }
+        requires ends { MayJoin V.place (P.sites tests.now) self.old from to }
         requires apart { from ≢ to }
         requires free { CanAdd V.place (constrained self.old) from to }
-        requires sites { All (P.sites tests.now) (map V.place self.old.vertices) }
         ensures path { IfOk result (λ edges. AddsPathIfFree V.place from to edges.items self.old
             self.new) }
         ensures err { OnErr result (self.new ≡ self.old) }
@@ -132,9 +127,7 @@ impl<V: HasPosition, DE, UE, F> ConstrainedMesh<V, DE, UE, F> {
         to: FixedVertexHandle,
         tests: &P,
     ) -> Result<Vec<FixedDirectedEdgeHandle>, AllocError>
-        requires from_in { from < length self.old.vertices }
-        requires to_in { to < length self.old.vertices }
-        requires sites { AreSites V.place (P.sites tests.now) self.old.vertices }
+        requires { MayJoin V.place (P.sites tests.now) self.old from to }
         ensures path { IfOk result (λ edges. AddsPathIfFree V.place from to edges.items self.old
             self.new) }
         ensures none { (from ≡ to) ⊎ (¬ CanAdd V.place (constrained self.old) from to) →
@@ -188,8 +181,7 @@ impl<V: HasPosition, DE, UE, F> ConstrainedMesh<V, DE, UE, F> {
         edge: FixedUndirectedEdgeHandle,
         tests: &P,
     ) -> Result<bool, AllocError>
-        requires within { edge < length self.old.undirected }
-        requires sites { AreSites V.place (P.sites tests.now) self.old.vertices }
+        requires { MayRelease V.place (P.sites tests.now) self.old edge }
         ensures releases { ReleasesConstraint V.place edge result self.old self.new }
         ensures headline { IsDelaunay V.place constraint_edges self.new }
     {

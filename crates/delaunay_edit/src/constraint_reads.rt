@@ -1,11 +1,10 @@
 //! Which edges of a mesh are constraints, and a mesh that takes on constraints.
-ghost use Rattle.std.specs.Prelude.{◌≡◌, ◌↔◌, ◌*◌, ◌<◌, length, Contains, IsTrue, IfErr, IfOk};
-ghost use Rattle.half_edge_mesh.specs.Mesh.{origin, rev};
+ghost use Rattle.std.specs.Prelude.{◌≡◌, ◌↔◌, ◌<◌, length, IsTrue, IfErr, IfOk};
 ghost use Rattle.plane.specs.Pairs.{Joins};
 ghost use Rattle.plane.specs.Plain.{Unconstrains};
 ghost use Rattle.delaunay_legalization.specs.State.{points_and_constraints};
 ghost use Rattle.delaunay_edit.specs.Constrained.{IsFree, constrained, constraint_edges};
-ghost use Rattle.delaunay_edit.specs.Constrained.{constraints_of};
+ghost use Rattle.delaunay_edit.specs.Constrained.{TellsConstraint, constraints_of};
 ghost use Rattle.delaunay_edit.specs.Data.{HasOtherEdgeData};
 ghost use Rattle.delaunay_edit.specs.Headline.{IsDelaunay};
 
@@ -20,10 +19,7 @@ impl<V: HasPosition, DE, UE, F> ConstrainedMesh<V, DE, UE, F> {
     /// Whether an edge is a constraint.
     pub fn is_constraint_edge(&self, edge: FixedUndirectedEdgeHandle) -> bool
         requires { edge < length self.now.undirected }
-        ensures marked { IsTrue result ↔ Contains (constraint_edges self.now.undirected) edge }
-        ensures joined { let m = self.now.mesh in
-            IsTrue result ↔ Joins (constraints_of self.now) (origin m (2 * edge))
-            (origin m (rev (2 * edge))) }
+        ensures { TellsConstraint self.now edge result }
     {
         is_constraint_edge::<EdgeConstraints, _, _, _, _>(&self.dcel, edge)
     }
@@ -61,7 +57,7 @@ impl<V: HasPosition, DE, UE, F> ConstrainedMesh<V, DE, UE, F> {
         let EditedMesh {
             dcel,
             work,
-            sides,
+            lists,
             num_constraints,
             marks,
         } = plain;
@@ -70,7 +66,7 @@ impl<V: HasPosition, DE, UE, F> ConstrainedMesh<V, DE, UE, F> {
                 let constrained = EditedMesh {
                     dcel,
                     work,
-                    sides,
+                    lists,
                     num_constraints: 0,
                     marks: PhantomData,
                 };
@@ -80,7 +76,7 @@ impl<V: HasPosition, DE, UE, F> ConstrainedMesh<V, DE, UE, F> {
             Err(dcel) => Err(EditedMesh {
                 dcel,
                 work,
-                sides,
+                lists,
                 num_constraints,
                 marks,
             }),

@@ -10,6 +10,7 @@ ghost use Rattle.delaunay_edit.specs.Location.{IsMeshEdge};
 
 use delaunay_core::point::{HasPosition, Point2};
 use delaunay_legalization::{CdtEdge, ConstraintMarker, EdgeConstraints, NoConstraints};
+use delaunay_removal::RemovalLists;
 use half_edge_mesh::{
     Dcel, FixedDirectedEdgeHandle, FixedUndirectedEdgeHandle, FixedVertexHandle, MAX_ELEMENTS,
     MeshViews,
@@ -27,9 +28,8 @@ pub struct EditedMesh<V: HasPosition, DE, UE, F, M: ConstraintMarker<UE>> {
     // The edges that a legalization has still to test: none between edits, but the room for them
     // stays.
     pub(crate) work: Vec<FixedUndirectedEdgeHandle>,
-    // Room for the sides opposite a vertex that a removal takes from the hull; what stands in it
-    // has no meaning.
-    pub(crate) sides: Vec<FixedDirectedEdgeHandle>,
+    // What a removal lists besides.
+    pub(crate) lists: RemovalLists,
     // How many edges are constraints.
     pub(crate) num_constraints: usize,
     pub(crate) marks: PhantomData<M>,
@@ -71,7 +71,7 @@ impl<V: HasPosition, DE, UE, F, M: ConstraintMarker<UE>> EditedMesh<V, DE, UE, F
         EditedMesh {
             dcel,
             work: Vec::new(alloc),
-            sides: Vec::new(alloc),
+            lists: RemovalLists::new(alloc),
             num_constraints: 0,
             marks: PhantomData,
         }

@@ -8,9 +8,9 @@ ghost use Rattle.delaunay_core.specs.declared.math.InsertionError.TheVariants.{O
 ghost use Rattle.delaunay_insertion.specs.Constraints.{SplitsConstraints};
 ghost use Rattle.delaunay_legalization.specs.Flips.{CountsFlips, FlipsFit};
 ghost use Rattle.delaunay_edit.specs.Data.{KeepsData};
-ghost use Rattle.delaunay_edit.specs.Edits.{AppendsVertex, InsertsVertex};
+ghost use Rattle.delaunay_edit.specs.Edits.{AppendsVertex, InsertsVertex, MayInsert};
 ghost use Rattle.delaunay_edit.specs.Entry.{IsEntry, IsVacant};
-ghost use Rattle.delaunay_edit.specs.Headline.{AreSites, IsDelaunay};
+ghost use Rattle.delaunay_edit.specs.Headline.{IsDelaunay};
 ghost use Rattle.delaunay_edit.specs.Location.{HasHandle, IsLeftOfPlace};
 
 use crate::counting::count_split;
@@ -131,9 +131,7 @@ impl<V: HasPosition + Drop, DE: Default, UE: Default, F: Default, M: FreeByDefau
         tests: &P,
         flips: &mut u64,
     ) -> Result<FixedVertexHandle, InsertionError>
-        requires sites { AreSites V.place (P.sites tests.now) self.old.vertices }
-        requires new_site { InRange (V.place value) → P.sites tests.now (V.place value) }
-        requires fits { FlipsFit (length self.old.vertices + 1) flips.old }
+        requires { MayInsert V.place (P.sites tests.now) self.old.vertices value flips.old }
         ensures inserts { InsertsVertex V.place M.constraints value result self.old self.new }
         ensures headline { IsDelaunay V.place M.constraints self.new }
         ensures counted { CountsFlips (length self.new.vertices) flips.old flips.new }

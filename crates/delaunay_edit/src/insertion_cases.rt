@@ -32,8 +32,8 @@ pub(crate) fn insert_at<
     tests: &P,
 ) -> FixedVertexHandle
     requires can { CanTake V.place value (state_of dcel.old) }
-    requires sites { All (P.sites tests.now) (map V.place dcel.old.vertices) ×
-        P.sites tests.now (V.place value) }
+    requires sites { All (P.sites tests.now) (map V.place dcel.old.vertices) }
+    requires new_site { P.sites tests.now (V.place value) }
     requires vacant { IsVacant (map V.place dcel.old.vertices) dcel.old.mesh (V.place value)
         location turns }
     requires room { HasRoomFor dcel.old.room (length dcel.old.vertices + 1)

@@ -1,5 +1,5 @@
 //! Vertices that go, one or all of them, and a vertex that gives way to one of its position.
-ghost use Rattle.std.specs.Prelude.{◌≡◌, ◌⊎◌, ◌*◌, ◌<◌, ◌≤◌, [], slice_get, slice_set};
+ghost use Rattle.std.specs.Prelude.{◌≡◌, ◌⊎◌, ◌<◌, [], slice_get, slice_set};
 ghost use Rattle.std.specs.Prelude.{length, map, All, Some, IfOk, OnErr, OnOk};
 ghost use Rattle.half_edge_mesh.specs.Mesh.{empty};
 ghost use Rattle.plane.specs.Plain.{IsCleared, Removes, Replaces};
@@ -17,7 +17,7 @@ use crate::edited_mesh::EditedMesh;
 use delaunay_core::math::PlaneTests;
 use delaunay_core::point::HasPosition;
 use delaunay_legalization::ConstraintMarker;
-use delaunay_removal::{VertexPair, legalize_pairs, remove_vertex, room_for_turns, sides_of_hole};
+use delaunay_removal::{VertexPair, legalize_pairs, remove_vertex, sides_of_hole};
 use half_edge_mesh::FixedVertexHandle;
 use std::alloc::AllocError;
 
@@ -72,17 +72,6 @@ impl<V: HasPosition, DE: Drop, UE: Drop, F: Drop, M: ConstraintMarker<UE>> Edite
         count_constraints_at::<M, _, _, _, _>(&self.dcel, vertex)
     }
 
-    // How many directed edges a removal may list: those round a vertex on the hull, or those of the
-    // edges that are left to test.
-    fn edges_to_list(&self) -> usize
-        ensures directed { length self.now.directed ≤ result }
-        ensures tested { 3 * length self.now.vertices ≤ result }
-    {
-        let directed = self.dcel.num_directed_edges();
-        let tested = 3 * self.dcel.num_vertices();
-        if directed < tested { tested } else { directed }
-    }
-
     // Takes a vertex out and tests what its turned edges join, and beside constraints the sides of
     // its hole, or a refusal that changes nothing.
     fn take_out<P: PlaneTests<V::Scalar>>(
@@ -101,11 +90,8 @@ impl<V: HasPosition, DE: Drop, UE: Drop, F: Drop, M: ConstraintMarker<UE>> Edite
         ensures err { OnErr result (self.new ≡ self.old) }
     {
         self.work.reserve(3 * self.dcel.num_vertices())?;
-        self.sides.clear();
-        let listed = self.edges_to_list();
-        self.sides.reserve(listed)?;
+        self.lists.reserve_for(&self.dcel)?;
         let border = self.sides_to_test(vertex)?;
-        let mut turned = room_for_turns(&self.dcel, vertex, *self.work.allocator())?;
         let ending = self.count_ending(vertex);
         let is_free = self.num_constraints == 0;
         let value = remove_vertex::<M, _, _, _, _, _>(
@@ -113,8 +99,7 @@ impl<V: HasPosition, DE: Drop, UE: Drop, F: Drop, M: ConstraintMarker<UE>> Edite
             vertex,
             is_free,
             tests,
-            &mut self.sides,
-            &mut turned,
+            &mut self.lists,
         );
         let mut flips = 0;
         legalize_pairs::<M, _, _, _, _, _>(
@@ -122,9 +107,8 @@ impl<V: HasPosition, DE: Drop, UE: Drop, F: Drop, M: ConstraintMarker<UE>> Edite
             vertex,
             is_free,
             border.as_slice(),
-            turned.as_slice(),
             tests,
-            &mut self.sides,
+            &mut self.lists,
             &mut self.work,
             &mut flips,
         );

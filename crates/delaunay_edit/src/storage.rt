@@ -12,6 +12,7 @@ use crate::edited_mesh::EditedMesh;
 use delaunay_core::math::InsertionError;
 use delaunay_core::point::HasPosition;
 use delaunay_legalization::ConstraintMarker;
+use delaunay_removal::RemovalLists;
 use half_edge_mesh::{Dcel, ReserveError};
 use std::alloc::{AllocError, Global};
 use std::marker::PhantomData;
@@ -62,7 +63,7 @@ impl<
         Ok(EditedMesh {
             dcel,
             work: Vec::new(alloc),
-            sides: Vec::new(alloc),
+            lists: RemovalLists::new(alloc),
             num_constraints: 0,
             marks: PhantomData,
         })
@@ -89,7 +90,7 @@ impl<
         Ok(EditedMesh {
             dcel,
             work: Vec::new(alloc),
-            sides: Vec::new(alloc),
+            lists: RemovalLists::new(alloc),
             num_constraints: self.num_constraints,
             marks: PhantomData,
         })

@@ -1,17 +1,16 @@
--- The loop that lists the sides opposite a vertex, and room for a pair at each of its edges.
-use Rattle.std.proofs.Common.{◌≡◌, ℕ, suc, ◌+◌, ◌<◌, ◌≤◌, List, [], ◌∷◌, ◌++◌, length, Option, Some, None, IsSome, Result, Ok, Err, refl, sym, ap, ◌∙◌, subst, inl, inr, arith}
-use Rattle.std.specs.Prelude.{Contains, IfOk}
-use Rattle.std.proofs.lemmas.Result.{IfOk-weaker}
+-- The loop that lists the sides opposite a vertex.
+use Rattle.std.proofs.Common.{◌≡◌, ℕ, suc, ◌+◌, ◌<◌, ◌≤◌, List, [], ◌∷◌, ◌++◌, length, None, IsSome, refl, sym, ap, ◌∙◌, subst, inl, inr, arith}
+use Rattle.std.specs.Prelude.{Contains}
 use Rattle.std.proofs.Math.Numerals.{add-one}
-use Rattle.std.proofs.lemmas.Bool.{cases_eq, cases_lt}
+use Rattle.std.proofs.lemmas.Bool.{cases_eq}
 use Rattle.half_edge_mesh.specs.Mesh.{Mesh, IsValidMesh, origin, out_edge, rev}
 use Rattle.half_edge_mesh.specs.Peel.{turn, spoke}
 use Rattle.half_edge_mesh.specs.Round.{IsRound, neighbour}
 use Rattle.plane.specs.Pairs.{Joins}
 use Rattle.plane_tiling.proofs.Totals.{Contains-head}
-use Rattle.delaunay_removal.specs.Pairs.{HasBorder, HasRoomAt}
+use Rattle.mesh_embedding.proofs.Entries.{not_some}
+use Rattle.delaunay_removal.specs.Pairs.{HasBorder}
 use Rattle.delaunay_removal.proofs.DataStays.{pair_put, pairs_kept}
-use Rattle.delaunay_removal.proofs.Rounds.{round_of}
 
 -- the ends of each of the first i edges and of the one after it are in the list
 pub record IsGathering (m : Mesh) (first room i edge : ℕ) (pairs : List (ℕ × ℕ)) (listed capacity : ℕ) : Type 0 where
@@ -59,42 +58,6 @@ module _ (m : Mesh) (v first count : ℕ) (round : IsRound m v first count) wher
         let j = round.all h within starts in
         subst (λ (x : ℕ). Joins pairs (origin m (rev x)) (origin m (rev (turn m x)))) (sym j.2) (p.each j.0 (let low = j.1 in omega (arith, low, all)))
 
--- ---- room
--- a round has no edge more than another of the same vertex
-no_longer : (m : Mesh) (v first count other many : ℕ) → IsRound m v first count → IsRound m v other many → many ≤ count
-no_longer m v first count other many round again = elim (cases_lt count many) [
-  | inl l ↦ absurd (again.apart 0 count round.some l (sym (ap (spoke m other) (let e : count ≡ 0 + count = omega arith in e) ∙ shifted.back 0)))
-  | inr l ↦ omega (arith, l)
-]
-  where
-    shifted : IsRound m v other count
-    shifted = round_of m v first count other round (again.within 0) (again.starts 0)
-
--- a list with room for one round of a vertex has room for each
-room_of_round : (m : Mesh) (v first count listed capacity : ℕ) → IsRound m v first count → listed ≡ 0 → count ≤ capacity → HasRoomAt m v listed capacity
-room_of_round m v first count listed capacity round none enough other many again =
-    let few = no_longer m v first count other many round again in
-    omega (arith, few, none, enough)
-
-both_if_ok : {X E : Type 0} (r : Result X E) (P Q : X → Type 0) → IfOk r P → IfOk r Q → IfOk r (λ x. P x × Q x)
-both_if_ok (Ok x) P Q p q = (p, q)
-both_if_ok (Err e) P Q p q = tt
-
--- a list that is made empty, with room for so many, where memory was given
-pub room_made : {X E : Type 0} (len capacity : X → ℕ) (m : Mesh) (v first count : ℕ) (r : Result X E) → IsRound m v first count → IfOk r (λ x. len x ≡ 0) → IfOk r (λ x. count ≤ capacity x) → IfOk r (λ x. HasRoomAt m v (len x) (capacity x))
-room_made len capacity m v first count r round none enough =
-    IfOk-weaker r (λ x. (len x ≡ 0) × (count ≤ capacity x)) (λ x. HasRoomAt m v (len x) (capacity x)) (λ x h. room_of_round m v first count (len x) (capacity x) round h.0 h.1)
-    (both_if_ok r (λ x. len x ≡ 0) (λ x. count ≤ capacity x) none enough)
-
-not_some : (o : Option ℕ) → o ≡ None → ¬ IsSome o
-not_some None none some = cc
-not_some (Some k) none some = cc
-
 -- a vertex without edges
 pub no_border : (m : Mesh) (v : ℕ) (pairs : List (ℕ × ℕ)) → IsValidMesh m → out_edge m v ≡ None → HasBorder m v pairs
 no_border m v pairs valid none h within starts = absurd (not_some (out_edge m v) none (subst (λ (x : ℕ). IsSome (out_edge m x)) starts (valid.sound.edges h within).has_out))
-
--- a vertex without edges needs no room
-pub room_for_none : (m : Mesh) (v listed capacity : ℕ) → IsValidMesh m → out_edge m v ≡ None → HasRoomAt m v listed capacity
-room_for_none m v listed capacity valid none first count round =
-    absurd (not_some (out_edge m v) none (subst (λ (x : ℕ). IsSome (out_edge m x)) (round.starts 0) (valid.sound.edges (spoke m first 0) (round.within 0)).has_out))

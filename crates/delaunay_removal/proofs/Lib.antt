@@ -27,3 +27,4 @@ pub mod LeftFaces
 pub mod PairEdges
 pub mod Passing
 pub mod Borders
+pub mod Degrees

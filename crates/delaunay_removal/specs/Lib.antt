@@ -3,3 +3,4 @@ pub mod Star
 pub mod Hull
 pub mod Freeing
 pub mod Pairs
+pub mod Lists

@@ -1,8 +1,13 @@
 -- The edges and faces round a vertex that is to go.
-use Rattle.std.specs.Prelude.{◌≡◌, ◌⊎◌, ℕ, suc, ◌<◌, List, [], length}
+use Rattle.std.specs.Prelude.{◌≡◌, ◌⊎◌, ℕ, suc, ◌+◌, ◌*◌, ◌/◌, ◌<◌, ◌++◌, ◌∷◌, List, [], length, map, vec_capacity, vec_len}
+use Rattle.std.specs.Global.{Vec}
+use Rattle.half_edge_mesh.specs.Flip.{flipped}
 use Rattle.half_edge_mesh.specs.Mesh.{Mesh, origin, face, IsAlone}
+use Rattle.half_edge_mesh.specs.Outline.{KeepsOuter}
+use Rattle.half_edge_mesh.specs.Peel.{turn}
 use Rattle.half_edge_mesh.specs.Round.{IsRound, neighbour}
 use Rattle.half_edge_mesh.specs.Contents.{Contents}
+use Rattle.half_edge_mesh.specs.Triangles.{FlipsTriangles}
 use Rattle.plane.specs.Fraction.{Point, WithinSegment}
 use Rattle.plane.specs.Pairs.{place}
 use Rattle.plane.specs.Side.{TurnsLeft}
@@ -51,3 +56,20 @@ pub record IsolatesVertex {V D U F : Type 0} (points : List Point) (old new : Co
   pub alone : IsAlone new.mesh v
   pub shape : IsMeshWithout v points (faces_of new.mesh) (outer_of new.mesh)
   pub beside : StandsBeside old new v pairs
+
+-- so it has, where the mesh has the vertices of before
+abbrev pub LosesEdges : {V D U F : Type 0} → (V → Point) → Contents V D U F → Contents V D U F → ℕ → List (ℕ × ℕ)
+    → Type 0
+LosesEdges place old new v pairs = IsolatesVertex (map place old.vertices) old new v pairs
+
+-- the edge after edge h, round the vertex where they start, was turned so that it leaves this vertex, and a list got what it
+-- joins then
+pub record TurnsAway {V D U F : Type 0} (old new : Contents V D U F) (h : ℕ) (listed list : Vec (ℕ × ℕ)) : Type 0 where
+  pub mesh : new.mesh ≡ flipped old.mesh (2 * (turn old.mesh h / 2))
+  pub contents : new ≡ record old { mesh = new.mesh }
+  pub triangles : FlipsTriangles old.mesh new.mesh (2 * (turn old.mesh h / 2))
+  pub outer : KeepsOuter old.mesh new.mesh
+  pub beside : StandsBeside old new (origin old.mesh h) ((neighbour old.mesh h 0, neighbour old.mesh h 2) ∷ [])
+  pub items : list.items ≡ listed.items ++ (neighbour old.mesh h 0, neighbour old.mesh h 2) ∷ []
+  pub len : vec_len list ≡ vec_len listed + 1
+  pub capacity : vec_capacity list ≡ vec_capacity listed

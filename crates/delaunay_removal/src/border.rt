@@ -1,7 +1,7 @@
-//! The sides of the hole that a vertex leaves, and room for what its edges join once they are turned.
-ghost use Rattle.std.specs.Prelude.{◌≡◌, ◌<◌, length, IfOk, vec_capacity, vec_len};
+//! The sides of the hole that a vertex leaves.
+ghost use Rattle.std.specs.Prelude.{◌<◌, length, IfOk};
 ghost use Rattle.half_edge_mesh.specs.Mesh.{origin};
-ghost use Rattle.delaunay_removal.specs.Pairs.{HasBorder, HasRoomAt};
+ghost use Rattle.delaunay_removal.specs.Pairs.{HasBorder};
 
 use crate::freeing::some_edge;
 use crate::pairs::{VertexPair, vertex_at_end};
@@ -43,23 +43,6 @@ pub fn sides_of_hole<V, DE, UE, F>(
     dcel.recall_invariant();
     match some_edge(dcel, vertex) {
         Some(first) => collect_border(dcel, first, alloc),
-        None => Ok(Vec::new(alloc)),
-    }
-}
-
-/// An empty list with room for a pair at each edge of a vertex. It gives `AllocError` where memory
-/// was refused.
-pub fn room_for_turns<V, DE, UE, F>(
-    dcel: &Dcel<V, DE, UE, F>,
-    vertex: FixedVertexHandle,
-    alloc: Global,
-) -> Result<Vec<VertexPair>, AllocError>
-    requires { vertex < length dcel.now.vertices }
-    ensures { IfOk result (λ ps. HasRoomAt dcel.now.mesh vertex (vec_len ps) (vec_capacity ps)) }
-{
-    dcel.recall_invariant();
-    match some_edge(dcel, vertex) {
-        Some(first) => Vec::with_capacity(alloc, count_edges(dcel, first)),
         None => Ok(Vec::new(alloc)),
     }
 }

@@ -3,6 +3,7 @@
 
 mod border;
 mod freeing;
+mod lists;
 mod pairs;
 mod removal;
 mod removal_hull;
@@ -10,6 +11,7 @@ mod removal_inner;
 mod removal_line;
 mod star;
 
-pub use border::{room_for_turns, sides_of_hole};
+pub use border::sides_of_hole;
+pub use lists::RemovalLists;
 pub use pairs::{VertexPair, legalize_pairs};
 pub use removal::remove_vertex;

@@ -16,6 +16,7 @@ ghost use Rattle.delaunay_legalization.specs.State.{state_of};
 ghost use Rattle.delaunay_removal.specs.Pairs.{FailOnlyAt, HasEdgeOf, HasEdgesOf};
 ghost use Rattle.delaunay_removal.specs.Pairs.{pairs_left};
 
+use crate::lists::RemovalLists;
 use crate::star::edge_after;
 use delaunay_core::math::PlaneTests;
 use delaunay_core::point::HasPosition;
@@ -137,17 +138,16 @@ fn push_pairs<V, DE, UE, F>(
 
 /// Tests the edges of some pairs, where each other edge passes, and flips those that fail and are
 /// no constraints until none does. The pairs go by the indexes that the vertices had before
-/// `vertex` went: the sides of its hole, and what its edges joined once they were turned. Where
+/// `vertex` went: the sides of its hole, and what `lists` has of its edges that were turned. Where
 /// each other edge has an empty circle on one of its sides, as `is_free` may say, it is not tested
-/// again; `among` has room for the edges then.
+/// again; `lists` has room for the edges then.
 pub fn legalize_pairs<M: ConstraintMarker<UE>, V: HasPosition, DE, UE, F, P: PlaneTests<V::Scalar>>(
     dcel: &mut Dcel<V, DE, UE, F>,
     vertex: FixedVertexHandle,
     is_free: bool,
     border: &[VertexPair],
-    turned: &[VertexPair],
     tests: &P,
-    among: &mut Vec<FixedDirectedEdgeHandle>,
+    lists: &mut RemovalLists,
     work: &mut Vec<FixedUndirectedEdgeHandle>,
     flips: &mut u64,
 )
@@ -155,11 +155,11 @@ pub fn legalize_pairs<M: ConstraintMarker<UE>, V: HasPosition, DE, UE, F, P: Pla
     requires kept { IsTriangulated V.place (state_of dcel.old) }
     requires passing { AllPassBut (map V.place dcel.old.vertices) (faces_of dcel.old.mesh)
         (constraints_by M.constraints (state_of dcel.old))
-        (pairs_left (length dcel.old.vertices) vertex (border.now ++ turned.now)) }
+        (pairs_left (length dcel.old.vertices) vertex (border.now ++ lists.old.turned.items)) }
     requires only { IsTrue is_free → FailOnlyAt (map V.place dcel.old.vertices) dcel.old.mesh
-        (pairs_left (length dcel.old.vertices) vertex (border.now ++ turned.now)) }
+        (pairs_left (length dcel.old.vertices) vertex (border.now ++ lists.old.turned.items)) }
     requires room { 3 * length dcel.old.vertices ≤ vec_capacity work.old }
-    requires room_among { 3 * length dcel.old.vertices ≤ vec_capacity among.old }
+    requires room_among { 3 * length dcel.old.vertices ≤ vec_capacity lists.old.sides }
     requires fits { FlipsFit (length dcel.old.vertices) flips.old }
 
     ensures contents { dcel.new ≡ record dcel.old { mesh = dcel.new.mesh } }
@@ -171,6 +171,6 @@ pub fn legalize_pairs<M: ConstraintMarker<UE>, V: HasPosition, DE, UE, F, P: Pla
 {
     work.clear();
     push_pairs(dcel, vertex, border, work);
-    push_pairs(dcel, vertex, turned, work);
-    legalize_list::<M, _, _, _, _, _>(dcel, is_free, tests, among, work, flips);
+    push_pairs(dcel, vertex, lists.turned.as_slice(), work);
+    legalize_list::<M, _, _, _, _, _>(dcel, is_free, tests, &mut lists.sides, work, flips);
 }

@@ -1,7 +1,7 @@
 //! Vertices that go, with their edges.
-ghost use Rattle.std.specs.Prelude.{◌≡◌, ◌<◌, ◌≤◌, []};
+ghost use Rattle.std.specs.Prelude.{◌≡◌, ◌<◌, []};
 ghost use Rattle.std.specs.Prelude.{length, map, All, Some, IsSome, IsTrue, slice_get};
-ghost use Rattle.std.specs.Prelude.{vec_capacity, vec_len};
+ghost use Rattle.std.specs.Prelude.{vec_capacity};
 ghost use Rattle.half_edge_mesh.specs.Contents.{IsMeshWithData};
 ghost use Rattle.half_edge_mesh.specs.Mesh.{origin, out_edge, IsAlone};
 ghost use Rattle.half_edge_mesh.specs.Removal.{DropsVertex};
@@ -14,11 +14,12 @@ ghost use Rattle.delaunay_legalization.specs.Shape.{IsTriangulated};
 ghost use Rattle.delaunay_legalization.specs.State.{points_and_constraints, state_of};
 ghost use Rattle.delaunay_removal.specs.Data.{KeepsDataBeside, RenumbersEdges};
 ghost use Rattle.delaunay_removal.specs.Freeing.{FreesEdgesAt};
-ghost use Rattle.delaunay_removal.specs.Pairs.{HasRoomAt, LeavesFaces};
-ghost use Rattle.delaunay_removal.specs.Star.{IsMeshWithout, IsolatesVertex};
+ghost use Rattle.delaunay_removal.specs.Lists.{HasRoomToRemove};
+ghost use Rattle.delaunay_removal.specs.Pairs.{LeavesFaces};
+ghost use Rattle.delaunay_removal.specs.Star.{IsMeshWithout, LosesEdges};
 
 use crate::freeing::free_edges_at;
-use crate::pairs::VertexPair;
+use crate::lists::RemovalLists;
 use crate::removal_hull::{isolate_on_hull, outer_edge_beside};
 use crate::removal_inner::isolate_inner;
 use crate::removal_line::remove_on_line;
@@ -68,64 +69,58 @@ fn drop_vertex<V: HasPosition, DE, UE, F>(
     value
 }
 
-// Removes the edges of a vertex in the plane, and its faces. `sides` has room for each edge, and
-// `turned` for a pair at each; it gets what each turned one joins.
+// Removes the edges of a vertex in the plane, and its faces. `lists` gets what each turned one
+// joins.
 fn isolate<V: HasPosition, DE: Drop, UE: Drop, F: Drop, P: PlaneTests<V::Scalar>>(
     dcel: &mut Dcel<V, DE, UE, F>,
     vertex: FixedVertexHandle,
     tests: &P,
-    sides: &mut Vec<FixedDirectedEdgeHandle>,
-    turned: &mut Vec<VertexPair>,
+    lists: &mut RemovalLists,
 )
     requires kept { IsTriangulated V.place (state_of dcel.old) }
     requires some_face { 0 < length dcel.old.faces }
     requires within { vertex < length dcel.old.vertices }
     requires sites { All (P.sites tests.now) (map V.place dcel.old.vertices) }
-    requires room { length dcel.old.directed ≤ vec_capacity sides.old }
-    requires pairs { HasRoomAt dcel.old.mesh vertex (vec_len turned.old)
-        (vec_capacity turned.old) }
-    ensures isolates { IsolatesVertex (map V.place dcel.old.vertices) dcel.old dcel.new vertex
-        turned.new.items }
-    ensures capacity { vec_capacity sides.new ≡ vec_capacity sides.old }
+    requires room { HasRoomToRemove dcel.old lists.old }
+    ensures isolates { LosesEdges V.place dcel.old dcel.new vertex lists.new.turned.items }
+    ensures capacity { vec_capacity lists.new.sides ≡ vec_capacity lists.old.sides }
 {
     dcel.recall_invariant();
     let first = first_edge(dcel, vertex);
     let count = count_edges(dcel, first);
     match outer_edge_beside(dcel, first, count) {
-        Some(edge) => isolate_on_hull(dcel, edge, vertex, tests, sides, turned),
-        None => isolate_inner(dcel, first, count, vertex, tests, turned),
+        Some(edge) => isolate_on_hull(dcel, edge, vertex, tests, lists),
+        None => isolate_inner(dcel, first, count, vertex, tests, &mut lists.turned),
     }
 }
 
 // Takes a vertex out, and gives its data back. The hole or the gap that its faces leave is filled
-// so that the others have a mesh, and the last vertex takes its index. `sides` has room for each
-// directed edge, and `turned` for a pair at each of the vertex; it gets what each turned one joins.
+// so that the others have a mesh, and the last vertex takes its index. `lists` gets what each edge
+// joins that was turned away.
 fn take_vertex<V: HasPosition, DE: Drop, UE: Drop, F: Drop, P: PlaneTests<V::Scalar>>(
     dcel: &mut Dcel<V, DE, UE, F>,
     vertex: FixedVertexHandle,
     tests: &P,
-    sides: &mut Vec<FixedDirectedEdgeHandle>,
-    turned: &mut Vec<VertexPair>,
+    lists: &mut RemovalLists,
 ) -> V
     requires kept { IsTriangulated V.place (state_of dcel.old) }
     requires within { vertex < length dcel.old.vertices }
     requires sites { All (P.sites tests.now) (map V.place dcel.old.vertices) }
-    requires room { length dcel.old.directed ≤ vec_capacity sides.old }
-    requires pairs { HasRoomAt dcel.old.mesh vertex (vec_len turned.old)
-        (vec_capacity turned.old) }
+    requires room { HasRoomToRemove dcel.old lists.old }
     ensures value { slice_get dcel.old.vertices vertex ≡ Some result }
     ensures plain { Removes V.place (points_and_constraints (state_of dcel.old))
         (points_and_constraints (state_of dcel.new)) vertex }
     ensures kept { IsTriangulated V.place (state_of dcel.new) }
     ensures data { KeepsDataBeside (state_of dcel.old) (state_of dcel.new) vertex }
-    ensures faces { LeavesFaces (state_of dcel.old) (state_of dcel.new) vertex turned.new.items }
+    ensures faces { LeavesFaces (state_of dcel.old) (state_of dcel.new) vertex
+        lists.new.turned.items }
     ensures edges { RenumbersEdges dcel.old dcel.new vertex }
-    ensures capacity { vec_capacity sides.new ≡ vec_capacity sides.old }
+    ensures capacity { vec_capacity lists.new.sides ≡ vec_capacity lists.old.sides }
 {
     if dcel.num_inner_faces() == 0 {
         return remove_on_line(dcel, vertex);
     }
-    isolate(dcel, vertex, tests, sides, turned);
+    isolate(dcel, vertex, tests, lists);
     drop_vertex(dcel, vertex)
 }
 
@@ -150,9 +145,8 @@ fn free_unless<M: ConstraintMarker<UE>, V, DE, UE, F>(
 
 /// Removes a vertex with the constraints that end at it, and gives its data back. The hole or the
 /// gap that its faces leave is filled so that the others have a mesh, and the last vertex takes its
-/// index. Each other constraint stays; `is_free` may say that there is none. `sides` has room for
-/// each directed edge, and `turned` for a pair at each of the vertex; it gets what each edge joins
-/// that was turned away.
+/// index. Each other constraint stays; `is_free` may say that there is none. `lists` gets what each
+/// edge joins that was turned away.
 pub fn remove_vertex<
     M: ConstraintMarker<UE>,
     V: HasPosition,
@@ -165,25 +159,23 @@ pub fn remove_vertex<
     vertex: FixedVertexHandle,
     is_free: bool,
     tests: &P,
-    sides: &mut Vec<FixedDirectedEdgeHandle>,
-    turned: &mut Vec<VertexPair>,
+    lists: &mut RemovalLists,
 ) -> V
     requires kept { IsTriangulated V.place (state_of dcel.old) }
     requires within { vertex < length dcel.old.vertices }
     requires free { IsTrue is_free → constraints_by M.constraints (state_of dcel.old) ≡ [] }
     requires sites { All (P.sites tests.now) (map V.place dcel.old.vertices) }
-    requires room { length dcel.old.directed ≤ vec_capacity sides.old }
-    requires pairs { HasRoomAt dcel.old.mesh vertex (vec_len turned.old)
-        (vec_capacity turned.old) }
+    requires room { HasRoomToRemove dcel.old lists.old }
 
     ensures value { slice_get dcel.old.vertices vertex ≡ Some result }
     ensures plain { Removes V.place (points_and_constraints_by M.constraints (state_of dcel.old))
         (points_and_constraints_by M.constraints (state_of dcel.new)) vertex }
     ensures kept { IsTriangulated V.place (state_of dcel.new) }
     ensures data { KeepsDataBeside (state_of dcel.old) (state_of dcel.new) vertex }
-    ensures faces { LeavesFaces (state_of dcel.old) (state_of dcel.new) vertex turned.new.items }
-    ensures capacity { vec_capacity sides.new ≡ vec_capacity sides.old }
+    ensures faces { LeavesFaces (state_of dcel.old) (state_of dcel.new) vertex
+        lists.new.turned.items }
+    ensures capacity { vec_capacity lists.new.sides ≡ vec_capacity lists.old.sides }
 {
     free_unless::<M, _, _, _, _>(dcel, vertex, is_free);
-    take_vertex(dcel, vertex, tests, sides, turned)
+    take_vertex(dcel, vertex, tests, lists)
 }

@@ -11,9 +11,10 @@ ghost use Rattle.mesh_embedding.specs.Drawn.{faces_of, outer_of};
 ghost use Rattle.delaunay_removal.specs.Data.{StandsBeside};
 ghost use Rattle.delaunay_removal.specs.Hull.{AreSides, HasNoFlippableEdge, IsCornerAt, IsHullStar};
 ghost use Rattle.delaunay_removal.specs.Pairs.{HasRoomAt, KeepsPairs};
-ghost use Rattle.delaunay_removal.specs.Star.{HasInnerFaces, IsolatesVertex};
+ghost use Rattle.delaunay_removal.specs.Star.{HasInnerFaces, LosesEdges};
 
-use crate::pairs::{VertexPair, ends_beside};
+use crate::lists::RemovalLists;
+use crate::pairs::VertexPair;
 use crate::star::{count_edges, edge_after, end_of, find_convex, opposite_side, turn_away};
 use delaunay_core::math::PlaneTests;
 use delaunay_core::point::HasPosition;
@@ -46,8 +47,7 @@ fn shrink_hull_star<V: HasPosition, DE, UE, F, P: PlaneTests<V::Scalar>>(
     let mut count = count_edges(dcel, first);
     dcel.recall_invariant();
     while let Some(edge) = find_convex(dcel, first, count - 2, tests) {
-        turned.push_reserved(ends_beside(dcel, edge));
-        turn_away(dcel, edge);
+        turn_away(dcel, edge, turned);
         dcel.recall_invariant();
         count -= 1;
     }
@@ -116,7 +116,7 @@ fn cut_corner<V: HasPosition, DE: Drop, UE: Drop, F: Drop>(
     requires bent { HasNoFlippableEdge (map V.place dcel.old.vertices) dcel.old.mesh first count }
     requires corner { IsCornerAt (map V.place dcel.old.vertices) dcel.old.mesh first }
     requires room { count ≤ vec_capacity sides.old }
-    ensures isolates { IsolatesVertex (map V.place dcel.old.vertices) dcel.old dcel.new vertex [] }
+    ensures isolates { LosesEdges V.place dcel.old dcel.new vertex [] }
     ensures capacity { vec_capacity sides.new ≡ vec_capacity sides.old }
 {
     dcel.recall_invariant();
@@ -138,13 +138,11 @@ fn close_flat<V: HasPosition, DE: Drop, UE: Drop, F: Drop>(
         (place (map V.place dcel.old.vertices) vertex)
         (place (map V.place dcel.old.vertices) (neighbour dcel.old.mesh first 2)) ≡ on }
     requires room { vec_len turned.old < vec_capacity turned.old }
-    ensures isolates { IsolatesVertex (map V.place dcel.old.vertices) dcel.old dcel.new vertex
-        turned.new.items }
+    ensures isolates { LosesEdges V.place dcel.old dcel.new vertex turned.new.items }
     ensures pairs { KeepsPairs turned.old.items turned.new.items }
 {
     dcel.recall_invariant();
-    turned.push_reserved(ends_beside(dcel, first));
-    turn_away(dcel, first);
+    turn_away(dcel, first, turned);
     dcel.recall_invariant();
     let sides = [opposite_side(dcel, first)];
     let _ = dcel.disconnect_edge_strip(&sides);
@@ -152,8 +150,8 @@ fn close_flat<V: HasPosition, DE: Drop, UE: Drop, F: Drop>(
 }
 
 // Removes the edges of a vertex on the hull, from which `first` starts, with the outer face on its
-// right. `sides` has room for each edge, and `turned` for a pair at each; it gets what each turned
-// one joins.
+// right. `lists` has room for each edge, and for a pair at each; it gets what each turned one
+// joins.
 pub(crate) fn isolate_on_hull<
     V: HasPosition,
     DE: Drop,
@@ -165,8 +163,7 @@ pub(crate) fn isolate_on_hull<
     first: FixedDirectedEdgeHandle,
     vertex: FixedVertexHandle,
     tests: &P,
-    sides: &mut Vec<FixedDirectedEdgeHandle>,
-    turned: &mut Vec<VertexPair>,
+    lists: &mut RemovalLists,
 )
     requires within { first < length dcel.old.directed }
     requires starts { origin dcel.old.mesh first ≡ vertex }
@@ -174,19 +171,18 @@ pub(crate) fn isolate_on_hull<
         (outer_of dcel.old.mesh) }
     requires outer { face dcel.old.mesh (rev first) ≡ 0 }
     requires sites { All (P.sites tests.now) (map V.place dcel.old.vertices) }
-    requires room { length dcel.old.directed ≤ vec_capacity sides.old }
-    requires pairs { HasRoomAt dcel.old.mesh vertex (vec_len turned.old)
-        (vec_capacity turned.old) }
-    ensures isolates { IsolatesVertex (map V.place dcel.old.vertices) dcel.old dcel.new vertex
-        turned.new.items }
-    ensures capacity { vec_capacity sides.new ≡ vec_capacity sides.old }
+    requires room { length dcel.old.directed ≤ vec_capacity lists.old.sides }
+    requires pairs { HasRoomAt dcel.old.mesh vertex (vec_len lists.old.turned)
+        (vec_capacity lists.old.turned) }
+    ensures isolates { LosesEdges V.place dcel.old dcel.new vertex lists.new.turned.items }
+    ensures capacity { vec_capacity lists.new.sides ≡ vec_capacity lists.old.sides }
 {
-    let count = shrink_hull_star(dcel, first, tests, turned);
+    let count = shrink_hull_star(dcel, first, tests, &mut lists.turned);
     dcel.recall_invariant();
     if is_corner(dcel, first, tests) {
-        cut_corner(dcel, first, count, vertex, sides);
+        cut_corner(dcel, first, count, vertex, &mut lists.sides);
     } else {
-        close_flat(dcel, first, vertex, turned);
+        close_flat(dcel, first, vertex, &mut lists.turned);
     }
 }
 

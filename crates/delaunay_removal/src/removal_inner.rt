@@ -11,9 +11,9 @@ ghost use Rattle.mesh_embedding.specs.Drawn.{faces_of, outer_of};
 ghost use Rattle.delaunay_removal.specs.Data.{StandsBeside};
 ghost use Rattle.delaunay_removal.specs.Pairs.{HasRoomAt, KeepsPairs};
 ghost use Rattle.delaunay_removal.specs.Star.{HasInnerFaces, IsBetweenAt, IsInnerStar, IsReduced};
-ghost use Rattle.delaunay_removal.specs.Star.{IsolatesVertex, StandsBetween};
+ghost use Rattle.delaunay_removal.specs.Star.{LosesEdges, StandsBetween};
 
-use crate::pairs::{VertexPair, ends_beside};
+use crate::pairs::VertexPair;
 use crate::star::{edge_after, end_of, find_convex, opposite_side, turn_away};
 use delaunay_core::math::PlaneTests;
 use delaunay_core::point::HasPosition;
@@ -51,8 +51,7 @@ fn shrink_star<V: HasPosition, DE, UE, F, P: PlaneTests<V::Scalar>>(
         dcel.recall_invariant();
         match find_convex(dcel, first, count, tests) {
             Some(edge) => {
-                turned.push_reserved(ends_beside(dcel, edge));
-                turn_away(dcel, edge);
+                turn_away(dcel, edge, turned);
                 dcel.recall_invariant();
                 first = edge;
                 count -= 1;
@@ -145,13 +144,11 @@ fn fill_four<V: HasPosition, DE: Drop, UE: Drop, F: Drop>(
     requires star { IsInnerStar (map V.place dcel.old.vertices) dcel.old.mesh vertex first 4 }
     requires between { IsBetweenAt (map V.place dcel.old.vertices) dcel.old.mesh first }
     requires room { vec_len turned.old < vec_capacity turned.old }
-    ensures isolates { IsolatesVertex (map V.place dcel.old.vertices) dcel.old dcel.new vertex
-        turned.new.items }
+    ensures isolates { LosesEdges V.place dcel.old dcel.new vertex turned.new.items }
     ensures pairs { KeepsPairs turned.old.items turned.new.items }
 {
     dcel.recall_invariant();
-    turned.push_reserved(ends_beside(dcel, first));
-    turn_away(dcel, first);
+    turn_away(dcel, first, turned);
     fill_three(dcel, first, vertex);
 }
 
@@ -174,8 +171,7 @@ pub(crate) fn isolate_inner<V: HasPosition, DE: Drop, UE: Drop, F: Drop, P: Plan
     requires sites { All (P.sites tests.now) (map V.place dcel.old.vertices) }
     requires room { HasRoomAt dcel.old.mesh vertex (vec_len turned.old)
         (vec_capacity turned.old) }
-    ensures { IsolatesVertex (map V.place dcel.old.vertices) dcel.old dcel.new vertex
-        turned.new.items }
+    ensures { LosesEdges V.place dcel.old dcel.new vertex turned.new.items }
 {
     let (first, count) = shrink_star(dcel, first, count, tests, turned);
     dcel.recall_invariant();

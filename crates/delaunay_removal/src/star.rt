@@ -1,20 +1,18 @@
 //! The edges round a vertex, and turns of them.
-ghost use Rattle.std.specs.Prelude.{◌≡◌, ◌≢◌, ◌↔◌, ℕ, ◌*◌, ◌/◌, ◌<◌, [], ◌∷◌};
+ghost use Rattle.std.specs.Prelude.{◌≡◌, ◌≢◌, ◌↔◌, ℕ, ◌<◌};
 ghost use Rattle.std.specs.Prelude.{length, map, All, Contains, IsTrue, IfSome, IfNone};
-ghost use Rattle.half_edge_mesh.specs.Flip.{flipped};
+ghost use Rattle.std.specs.Prelude.{vec_capacity, vec_len};
 ghost use Rattle.half_edge_mesh.specs.Mesh.{origin, next, face, rev};
-ghost use Rattle.half_edge_mesh.specs.Outline.{KeepsOuter};
 ghost use Rattle.half_edge_mesh.specs.Peel.{spoke, turn};
 ghost use Rattle.half_edge_mesh.specs.Round.{IsRound, neighbour};
-ghost use Rattle.half_edge_mesh.specs.Triangles.{FlipsTriangles};
 ghost use Rattle.half_edge_mesh.specs.Contents.{IsMeshWithData};
 ghost use Rattle.plane_tiling.specs.Local.{LocalMesh};
 ghost use Rattle.mesh_embedding.specs.Drawn.{faces_of, outer_of};
 ghost use Rattle.delaunay_core.specs.Place.{place_of};
 ghost use Rattle.delaunay_legalization.specs.Known.{point_at};
-ghost use Rattle.delaunay_removal.specs.Data.{StandsBeside};
-ghost use Rattle.delaunay_removal.specs.Star.{IsConvexAt};
+ghost use Rattle.delaunay_removal.specs.Star.{IsConvexAt, TurnsAway};
 
+use crate::pairs::{VertexPair, ends_beside};
 use delaunay_core::math::PlaneTests;
 use delaunay_core::point::{HasPosition, Point2};
 use delaunay_legalization::{start_of, turns_left};
@@ -122,10 +120,12 @@ pub(crate) fn find_convex<V: HasPosition, DE, UE, F, P: PlaneTests<V::Scalar>>(
     None
 }
 
-// Turns the edge after an edge, round the vertex where they start, so that it leaves this vertex.
+// Turns the edge after an edge, round the vertex where they start, so that it leaves this vertex,
+// and puts what it joins then into a list.
 pub(crate) fn turn_away<V: HasPosition, DE, UE, F>(
     dcel: &mut Dcel<V, DE, UE, F>,
     edge: FixedDirectedEdgeHandle,
+    turned: &mut Vec<VertexPair>,
 )
     requires within { edge < length dcel.old.directed }
     requires shape { LocalMesh (map V.place dcel.old.vertices) (faces_of dcel.old.mesh)
@@ -133,16 +133,12 @@ pub(crate) fn turn_away<V: HasPosition, DE, UE, F>(
     requires left { 0 < face dcel.old.mesh edge }
     requires right { 0 < face dcel.old.mesh (turn dcel.old.mesh edge) }
     requires apart { neighbour dcel.old.mesh edge 0 ≢ neighbour dcel.old.mesh edge 2 }
-    ensures mesh { dcel.new.mesh ≡ flipped dcel.old.mesh (2 * (turn dcel.old.mesh edge / 2)) }
-    ensures contents { dcel.new ≡ record dcel.old { mesh = dcel.new.mesh } }
-    ensures triangles { FlipsTriangles dcel.old.mesh dcel.new.mesh
-        (2 * (turn dcel.old.mesh edge / 2)) }
-    ensures outer { KeepsOuter dcel.old.mesh dcel.new.mesh }
-    ensures beside { StandsBeside dcel.old dcel.new (origin dcel.old.mesh edge)
-        ((neighbour dcel.old.mesh edge 0, neighbour dcel.old.mesh edge 2) ∷ []) }
+    requires room { vec_len turned.old < vec_capacity turned.old }
+    ensures turns { TurnsAway dcel.old dcel.new edge turned.old turned.new }
     ensures whole { IsMeshWithData dcel.old }
 {
     dcel.recall_invariant();
-    let turned = edge_after(dcel, edge);
-    dcel.flip_cw(turned.as_undirected());
+    let after = edge_after(dcel, edge);
+    turned.push_reserved(ends_beside(dcel, edge));
+    dcel.flip_cw(after.as_undirected());
 }

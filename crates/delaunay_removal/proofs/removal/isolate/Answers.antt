@@ -2,6 +2,7 @@ use Rattle.std.proofs.Common.{ℕ, ◌<◌, map, sym, subst}
 use Rattle.std.proofs.lemmas.List.{length-map}
 use Rattle.mesh_embedding.proofs.MeshStars.{vertex_has_edge}
 use Rattle.delaunay_removal.specs.Star.{HasInnerFaces}
+use Rattle.delaunay_removal.proofs.Degrees.{room_at_each}
 use Rattle.delaunay_removal.proofs.Drops.{in_the_plane}
 use Rattle.delaunay_removal.proofs.removal.isolate.Goals as goal
 
@@ -18,3 +19,11 @@ isolate_inner-requires-clause-shape g c = in_the_plane g.V.HasPosition.place c.a
 
 pub isolate_inner-requires-clause-inner : goal.isolate_inner-requires-clause-inner
 isolate_inner-requires-clause-inner g c = subst (HasInnerFaces c.args.dcel.now.mesh) c.first_edge-first.ensures.starts c.in-None.ensures.none
+
+pub isolate_on_hull-requires-clause-pairs : goal.isolate_on_hull-requires-clause-pairs
+isolate_on_hull-requires-clause-pairs g c =
+    room_at_each g.V.HasPosition.place c.args.dcel.now c.recall_invariant.ensures.whole (in_the_plane g.V.HasPosition.place c.args.dcel.now c.requires.kept c.requires.some_face) c.args.vertex _ _ c.requires.room.none c.requires.room.turned
+
+pub isolate_inner-requires-clause-room : goal.isolate_inner-requires-clause-room
+isolate_inner-requires-clause-room g c =
+    room_at_each g.V.HasPosition.place c.args.dcel.now c.recall_invariant.ensures.whole (in_the_plane g.V.HasPosition.place c.args.dcel.now c.requires.kept c.requires.some_face) c.args.vertex _ _ c.requires.room.none c.requires.room.turned

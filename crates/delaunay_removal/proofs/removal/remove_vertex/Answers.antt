@@ -1,7 +1,5 @@
-use Rattle.std.proofs.Common.{◌≡◌, ◌<◌, ◌≤◌, length, map, Some, sym, ap, subst, vec_len, vec_capacity}
+use Rattle.std.proofs.Common.{◌≡◌, ◌*◌, ◌<◌, ◌≤◌, length, map, Some, sym, subst, vec_capacity}
 use Rattle.std.specs.Prelude.{All, slice_get}
-use Rattle.half_edge_mesh.specs.Mesh.{Mesh}
-use Rattle.delaunay_removal.specs.Pairs.{HasRoomAt}
 use Rattle.delaunay_removal.proofs.RemovingConstraints.{freed_vertices, freed_directed, freed_kept, plain_left, data_left}
 use Rattle.delaunay_removal.proofs.LeftFaces.{freed_faces_leave}
 use Rattle.delaunay_removal.proofs.removal.remove_vertex.Goals as goal
@@ -26,12 +24,15 @@ take_vertex-requires-clause-sites g c =
 pub take_vertex-requires-clause-room : goal.take_vertex-requires-clause-room
 take_vertex-requires-clause-room g c =
     let m = g.M.ConstraintMarker in
-    subst (λ ds. length ds ≤ vec_capacity c.args.sides.now)
-    (sym (freed_directed g.V.HasPosition.place m.marks m.constraints g.met.M.ConstraintMarker.constraints_are_marked c.args.dcel.now c.free_unless.new.dcel c.args.vertex c.free_unless.ensures.frees c.free_unless.ensures.whole c.requires.kept)) c.requires.room
-
-pub take_vertex-requires-clause-pairs : goal.take_vertex-requires-clause-pairs
-take_vertex-requires-clause-pairs g c =
-    subst (λ (m : Mesh). HasRoomAt m c.args.vertex (vec_len c.args.turned.now) (vec_capacity c.args.turned.now)) (sym (ap (λ d. d.mesh) c.free_unless.ensures.frees.contents)) c.requires.pairs
+    let lists = c.args.lists.now in
+    let vertices = sym (freed_vertices g.V.HasPosition.place m.marks m.constraints g.met.M.ConstraintMarker.constraints_are_marked c.args.dcel.now c.free_unless.new.dcel c.args.vertex c.free_unless.ensures.frees c.free_unless.ensures.whole c.requires.kept) in
+    let directed = sym (freed_directed g.V.HasPosition.place m.marks m.constraints g.met.M.ConstraintMarker.constraints_are_marked c.args.dcel.now c.free_unless.new.dcel c.args.vertex c.free_unless.ensures.frees c.free_unless.ensures.whole c.requires.kept) in
+    record {
+      sides = subst (λ ds. length ds ≤ vec_capacity lists.sides) directed c.requires.room.sides;
+      tested = subst (λ vs. 3 * length vs ≤ vec_capacity lists.sides) vertices c.requires.room.tested;
+      none = c.requires.room.none;
+      turned = subst (λ vs. length vs ≤ vec_capacity lists.turned) vertices c.requires.room.turned;
+    }
 
 pub returns-clause-value : goal.returns-clause-value
 returns-clause-value g c =
@@ -54,4 +55,4 @@ returns-clause-data g c =
     c.take_vertex.new.dcel (record { valid = kept.valid; fits = kept.fits }) c.take_vertex.ensures.data
 
 pub returns-clause-faces : goal.returns-clause-faces
-returns-clause-faces g c = freed_faces_leave g.M.ConstraintMarker.marks c.args.dcel.now c.free_unless.new.dcel c.take_vertex.new.dcel c.args.vertex c.take_vertex.new.turned.items c.free_unless.ensures.frees c.take_vertex.ensures.faces
+returns-clause-faces g c = freed_faces_leave g.M.ConstraintMarker.marks c.args.dcel.now c.free_unless.new.dcel c.take_vertex.new.dcel c.args.vertex c.take_vertex.new.lists.turned.items c.free_unless.ensures.frees c.take_vertex.ensures.faces

@@ -23,7 +23,7 @@ returns-clause-edges g c = plane_renumbers g.V.HasPosition.place c.args.dcel.now
 
 pub returns-clause-faces : goal.returns-clause-faces
 returns-clause-faces g c =
-    plane_faces_leave g.V.HasPosition.place c.args.dcel.now c.isolate.new.dcel c.drop_vertex.new.dcel c.args.vertex c.drop_vertex.result c.requires.kept c.drop_vertex.ensures.before c.drop_vertex.ensures.kept c.requires.within c.isolate.new.turned.items c.isolate.ensures.isolates c.drop_vertex.ensures.drops
+    plane_faces_leave g.V.HasPosition.place c.args.dcel.now c.isolate.new.dcel c.drop_vertex.new.dcel c.args.vertex c.drop_vertex.result c.requires.kept c.drop_vertex.ensures.before c.drop_vertex.ensures.kept c.requires.within c.isolate.new.lists.turned.items c.isolate.ensures.isolates c.drop_vertex.ensures.drops
 
 pub returns-then-num_inner_faces-eq0-clause-faces : goal.returns-then-num_inner_faces-eq0-clause-faces
-returns-then-num_inner_faces-eq0-clause-faces g c = leaves_more c.args.dcel.now c.remove_on_line.new.dcel c.args.vertex c.args.turned.now.items c.remove_on_line.ensures.faces
+returns-then-num_inner_faces-eq0-clause-faces g c = leaves_more c.args.dcel.now c.remove_on_line.new.dcel c.args.vertex c.args.lists.now.turned.items c.remove_on_line.ensures.faces

@@ -7,7 +7,7 @@ use Rattle.delaunay_removal.proofs.HullIsolating.{hull_sites, hull_first, hull_r
 use Rattle.delaunay_removal.proofs.removal_hull.isolate_on_hull.Goals as goal
 
 pub shrink_hull_star-count-requires-clause-room : goal.shrink_hull_star-count-requires-clause-room
-shrink_hull_star-count-requires-clause-room g c = subst (λ (v : ℕ). HasRoomAt c.args.dcel.now.mesh v (vec_len c.args.turned.now) (vec_capacity c.args.turned.now)) (sym c.requires.starts) c.requires.pairs
+shrink_hull_star-count-requires-clause-room g c = subst (λ (v : ℕ). HasRoomAt c.args.dcel.now.mesh v (vec_len c.args.lists.now.turned) (vec_capacity c.args.lists.now.turned)) (sym c.requires.starts) c.requires.pairs
 
 pub close_flat-requires-clause-room : goal.close_flat-requires-clause-room
 close_flat-requires-clause-room g c =
@@ -28,7 +28,7 @@ pub cut_corner-requires-clause-corner : goal.cut_corner-requires-clause-corner
 cut_corner-requires-clause-corner g c = c.is_corner.ensures.0 c.if-is_corner.true
 
 pub cut_corner-requires-clause-room : goal.cut_corner-requires-clause-room
-cut_corner-requires-clause-room g c = hull_room g.V.HasPosition.place c.args.dcel.now c.shrink_hull_star-count.new.dcel c.recall_invariant.ensures.whole (origin c.args.dcel.now.mesh c.args.first) c.args.first c.shrink_hull_star-count.result c.shrink_hull_star-count.ensures.contents c.shrink_hull_star-count.ensures.star (vec_capacity c.args.sides.now) c.requires.room
+cut_corner-requires-clause-room g c = hull_room g.V.HasPosition.place c.args.dcel.now c.shrink_hull_star-count.new.dcel c.recall_invariant.ensures.whole (origin c.args.dcel.now.mesh c.args.first) c.args.first c.shrink_hull_star-count.result c.shrink_hull_star-count.ensures.contents c.shrink_hull_star-count.ensures.star (vec_capacity c.args.lists.now.sides) c.requires.room
 
 pub close_flat-requires-clause-star : goal.close_flat-requires-clause-star
 close_flat-requires-clause-star g c = flat_star g.V.HasPosition.place c.args.dcel.now c.shrink_hull_star-count.new.dcel c.recall_invariant.ensures.whole (origin c.args.dcel.now.mesh c.args.first) c.args.first c.shrink_hull_star-count.result c.shrink_hull_star-count.ensures.contents c.shrink_hull_star-count.ensures.star c.shrink_hull_star-count.ensures.bent

@@ -1,4 +1,4 @@
-use Rattle.std.proofs.Common.{ℕ, [], ◌∷◌, ◌++◌, map, vec_len, vec_capacity, refl, ap, ◌∙◌, arith}
+use Rattle.std.proofs.Common.{map, vec_len, vec_capacity, refl, arith}
 use Rattle.half_edge_mesh.specs.Mesh.{origin}
 use Rattle.half_edge_mesh.specs.Round.{neighbour}
 use Rattle.delaunay_removal.proofs.DataStays.{all_stands}
@@ -34,17 +34,18 @@ turn_away-requires-clause-right g c = place_right g.V.HasPosition.place c.args.d
 pub turn_away-requires-clause-apart : goal.turn_away-requires-clause-apart
 turn_away-requires-clause-apart g c = place_apart g.V.HasPosition.place c.args.dcel.now c.loop-edge.dcel (origin c.args.dcel.now.mesh c.args.first) c.args.first c.loop-edge.count c.loop-edge.invariant c.in-Some.edge c.in-Some.ensures.place
 
-pub push_reserved-requires : goal.push_reserved-requires
-push_reserved-requires g c =
+pub turn_away-requires-clause-room : goal.turn_away-requires-clause-room
+turn_away-requires-clause-room g c =
     let room = c.loop-edge.invariant.room in
     let many = c.loop-edge.invariant.many in
     omega (arith, room, many)
 
 pub loop-edge-preserved : goal.loop-edge-preserved
 loop-edge-preserved g c =
+    let turned = c.turn_away.ensures.turns in
     hull_shrinking_goes_on g.V.HasPosition.place c.args.dcel.now c.loop-edge.dcel (origin c.args.dcel.now.mesh c.args.first) c.args.first c.loop-edge.count c.loop-edge.invariant c.in-Some.edge c.in-Some.ensures.place
-    c.turn_away.new.dcel c.recall_invariant-in-Some.ensures.whole c.in-Some.ensures.convex c.turn_away.ensures.contents c.turn_away.ensures.triangles c.turn_away.ensures.outer (neighbour c.loop-edge.dcel.mesh c.in-Some.edge 0, neighbour c.loop-edge.dcel.mesh c.in-Some.edge 2) c.turn_away.ensures.beside
-    c.push_reserved.new.self.items (vec_len c.push_reserved.new.self) (vec_capacity c.push_reserved.new.self) (c.push_reserved.ensures.items ∙ ap (λ (p : ℕ × ℕ). c.loop-edge.turned.items ++ p ∷ []) c.ends_beside.ensures) c.push_reserved.ensures.len c.push_reserved.ensures.capacity
+    c.turn_away.new.dcel c.recall_invariant-in-Some.ensures.whole c.in-Some.ensures.convex turned.contents turned.triangles turned.outer (neighbour c.loop-edge.dcel.mesh c.in-Some.edge 0, neighbour c.loop-edge.dcel.mesh c.in-Some.edge 2) turned.beside
+    c.turn_away.new.turned.items (vec_len c.turn_away.new.turned) (vec_capacity c.turn_away.new.turned) turned.items turned.len turned.capacity
 
 pub returns-clause-bent : goal.returns-clause-bent
 returns-clause-bent g c = bent_at_end g.V.HasPosition.place c.args.dcel.now c.loop-edge.dcel (origin c.args.dcel.now.mesh c.args.first) c.args.first c.loop-edge.count c.loop-edge.invariant c.in_default.ensures.none

@@ -1,4 +1,4 @@
-use Rattle.std.proofs.Common.{ℕ, ◌<◌, ◌≤◌, [], ◌∷◌, ◌++◌, map, vec_len, vec_capacity, refl, ap, ◌∙◌, subst, sym, arith}
+use Rattle.std.proofs.Common.{ℕ, ◌<◌, ◌≤◌, map, vec_len, vec_capacity, refl, subst, sym, arith}
 use Rattle.half_edge_mesh.specs.Mesh.{origin}
 use Rattle.half_edge_mesh.specs.Round.{neighbour}
 use Rattle.delaunay_removal.proofs.DataStays.{all_stands}
@@ -39,18 +39,19 @@ turn_away-requires-clause-apart g c =
     ends_differ (map g.V.HasPosition.place c.loop-count.dcel.vertices) c.loop-count.dcel.mesh w.valid v c.in-Some.edge c.loop-count.count
     (star_at g.V.HasPosition.place c.args.dcel.now c.loop-count.dcel v c.loop-count.first c.loop-count.count c.loop-count.invariant w c.in-Some.edge c.in-Some.ensures.place) many
 
-pub push_reserved-requires : goal.push_reserved-requires
-push_reserved-requires g c =
+pub turn_away-requires-clause-room : goal.turn_away-requires-clause-room
+turn_away-requires-clause-room g c =
     let room = c.loop-count.invariant.room in
     let many = c.loop-count-test.true in
     omega (arith, room, many)
 
 pub loop-count-preserved : goal.loop-count-preserved
 loop-count-preserved g c =
+    let turned = c.turn_away.ensures.turns in
     shrinking_goes_on g.V.HasPosition.place c.args.dcel.now c.loop-count.dcel (origin c.args.dcel.now.mesh c.args.first) c.loop-count.first c.loop-count.count c.loop-count.invariant c.turn_away.ensures.whole
     c.turn_away.new.dcel c.recall_invariant-in-Some.ensures.whole c.loop-count-test.true c.in-Some.edge c.in-Some.ensures.place c.in-Some.ensures.convex
-    c.turn_away.ensures.mesh c.turn_away.ensures.contents c.turn_away.ensures.triangles c.turn_away.ensures.outer (neighbour c.loop-count.dcel.mesh c.in-Some.edge 0, neighbour c.loop-count.dcel.mesh c.in-Some.edge 2) c.turn_away.ensures.beside
-    c.push_reserved.new.self.items (vec_len c.push_reserved.new.self) (vec_capacity c.push_reserved.new.self) (c.push_reserved.ensures.items ∙ ap (λ (p : ℕ × ℕ). c.loop-count.turned.items ++ p ∷ []) c.ends_beside.ensures) c.push_reserved.ensures.len c.push_reserved.ensures.capacity
+    turned.mesh turned.contents turned.triangles turned.outer (neighbour c.loop-count.dcel.mesh c.in-Some.edge 0, neighbour c.loop-count.dcel.mesh c.in-Some.edge 2) turned.beside
+    c.turn_away.new.turned.items (vec_len c.turn_away.new.turned) (vec_capacity c.turn_away.new.turned) turned.items turned.len turned.capacity
 
 pub returns-in-None-clause-reduced : goal.returns-in-None-clause-reduced
 returns-in-None-clause-reduced g c =

@@ -8,7 +8,7 @@ use Rattle.delaunay_edit.proofs.constraint_edits.ConstrainedMesh+V+DE+UE+F.add_c
 pub returns-then-is_path_constrained-clause-adds : goal.returns-then-is_path_constrained-clause-adds
 returns-then-is_path_constrained-clause-adds g c =
     let at = g.V.HasPosition.place in
-    nothing_added at c.args.self.now c.args.from c.args.to _ refl c.requires.from_in c.requires.to_in c.requires.free
+    nothing_added at c.args.self.now c.args.from c.args.to _ refl c.requires.ends.from_in c.requires.ends.to_in c.requires.free
     (subst (λ s. AreJoinedAlong (map at s.vertices) (constraints_of s) c.args.from c.args.to) c.self.view_is (c.is_path_constrained.ensures.0 c.if-is_path_constrained.true))
 
 pub returns-clause-adds : goal.returns-clause-adds

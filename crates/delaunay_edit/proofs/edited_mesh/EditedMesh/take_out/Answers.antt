@@ -41,9 +41,6 @@ returns-clause-data g c =
     (subst (λ s. KeepsDataBeside s (state_of c.remove_vertex-value.new.dcel) c.args.vertex) c.self.view_is c.remove_vertex-value.ensures.data)
     c.remove_vertex-value.ensures.kept c.legalize_pairs.ensures.legal.kept c.legalize_pairs.ensures.contents c.legalize_pairs.ensures.indexes
 
-pub remove_vertex-value-requires-clause-pairs : goal.remove_vertex-value-requires-clause-pairs
-remove_vertex-value-requires-clause-pairs g c = c.in_ok-turned.ensures
-
 pub remove_vertex-value-requires-clause-free : goal.remove_vertex-value-requires-clause-free
 remove_vertex-value-requires-clause-free g c free =
     none_counted g.V.HasPosition.place g.M.ConstraintMarker.constraints (state_of c.self.inside.dcel)
@@ -54,27 +51,23 @@ legalize_pairs-requires-clause-passing g c =
     let at = g.V.HasPosition.place in
     let constraints = g.M.ConstraintMarker.constraints in
     let ds = c.remove_vertex-value.new.dcel in
-    subst (λ (x : List (ℕ × ℕ) × List (ℕ × ℕ)). AllPassBut (map at ds.vertices) (faces_of ds.mesh) (constraints_by constraints (state_of ds)) (pairs_left (length ds.vertices) c.args.vertex (x.0 ++ x.1)))
-    (λ i. (sym {A = List (ℕ × ℕ)} c.as_slice.ensures.value i, sym {A = List (ℕ × ℕ)} c.as_slice-2.ensures.value i))
+    subst (λ (ps : List (ℕ × ℕ)). AllPassBut (map at ds.vertices) (faces_of ds.mesh) (constraints_by constraints (state_of ds)) (pairs_left (length ds.vertices) c.args.vertex (ps ++ c.remove_vertex-value.new.lists.turned.items)))
+    (sym {A = List (ℕ × ℕ)} c.as_slice.ensures.value)
     (passes_but at constraints (state_of c.self.inside.dcel) (state_of ds) c.args.vertex c.remove_vertex-value.result c.self.invariant.legal c.remove_vertex-value.ensures.kept
-    c.remove_vertex-value.ensures.plain c.in_ok-border.border.items c.remove_vertex-value.new.turned.items c.remove_vertex-value.ensures.faces
+    c.remove_vertex-value.ensures.plain c.in_ok-border.border.items c.remove_vertex-value.new.lists.turned.items c.remove_vertex-value.ensures.faces
     (sides_settle at g.M.ConstraintMarker.marks constraints g.met.M.ConstraintMarker.constraints_are_marked
     (state_of c.self.inside.dcel) c.self.invariant.legal c.args.vertex c.in_ok-border.border.items
     c.in_ok-border.ensures))
 
 pub remove_vertex-value-requires-clause-room : goal.remove_vertex-value-requires-clause-room
-remove_vertex-value-requires-clause-room g c =
-    let fits = c.in_ok-reserve-2.ensures.ok in
-    let directed = c.edges_to_list-listed.ensures.directed in
-    omega (arith, fits, directed)
+remove_vertex-value-requires-clause-room g c = c.in_ok-reserve_for.ensures
 
 pub legalize_pairs-requires-clause-room_among : goal.legalize_pairs-requires-clause-room_among
 legalize_pairs-requires-clause-room_among g c =
-    let fits = c.in_ok-reserve-2.ensures.ok in
-    let tested = c.edges_to_list-listed.ensures.tested in
+    let tested = c.in_ok-reserve_for.ensures.tested in
     let same = c.remove_vertex-value.ensures.capacity in
     room_left g.V.HasPosition.place g.M.ConstraintMarker.constraints (state_of c.self.inside.dcel) (state_of c.remove_vertex-value.new.dcel) c.args.vertex c.remove_vertex-value.result c.remove_vertex-value.ensures.plain
-    (length c.self.inside.dcel.vertices) 0 (vec_capacity c.remove_vertex-value.new.sides) refl (omega (arith, fits, tested, same))
+    (length c.self.inside.dcel.vertices) 0 (vec_capacity c.remove_vertex-value.new.lists.sides) refl (omega (arith, tested, same))
 
 pub legalize_pairs-requires-clause-only : goal.legalize_pairs-requires-clause-only
 legalize_pairs-requires-clause-only g c free =
@@ -83,10 +76,10 @@ legalize_pairs-requires-clause-only g c free =
     let old = state_of c.self.inside.dcel in
     let ds = c.remove_vertex-value.new.dcel in
     let border = c.in_ok-border.border.items in
-    subst (λ (x : List (ℕ × ℕ) × List (ℕ × ℕ)). FailOnlyAt (map at ds.vertices) ds.mesh (pairs_left (length ds.vertices) c.args.vertex (x.0 ++ x.1)))
-    (λ i. (sym {A = List (ℕ × ℕ)} c.as_slice.ensures.value i, sym {A = List (ℕ × ℕ)} c.as_slice-2.ensures.value i))
+    subst (λ (ps : List (ℕ × ℕ)). FailOnlyAt (map at ds.vertices) ds.mesh (pairs_left (length ds.vertices) c.args.vertex (ps ++ c.remove_vertex-value.new.lists.turned.items)))
+    (sym {A = List (ℕ × ℕ)} c.as_slice.ensures.value)
     (fails_only_at at constraints old (state_of ds) c.args.vertex c.remove_vertex-value.result c.self.invariant.legal c.remove_vertex-value.ensures.kept
-    c.remove_vertex-value.ensures.plain border c.remove_vertex-value.new.turned.items c.remove_vertex-value.ensures.faces
+    c.remove_vertex-value.ensures.plain border c.remove_vertex-value.new.lists.turned.items c.remove_vertex-value.ensures.faces
     (sides_settle at g.M.ConstraintMarker.marks constraints g.met.M.ConstraintMarker.constraints_are_marked old c.self.invariant.legal c.args.vertex border c.in_ok-border.ensures)
     (free_circles at g.M.ConstraintMarker.marks constraints g.met.M.ConstraintMarker.constraints_are_marked old c.self.invariant.legal c.args.vertex border
     (none_counted at constraints old c.self.inside.num_constraints c.self.invariant (eqb-true _ _ free))))
@@ -102,8 +95,8 @@ overflow_sub-self g c =
     c.args.vertex c.remove_vertex-value.ensures.plain c.legalize_pairs.ensures.contents c.legalize_pairs.ensures.constraints)
     c.count_ending-ending.ensures
 
-pub invariant_of-self-5 : goal.invariant_of-self-5
-invariant_of-self-5 g c =
+pub invariant_of-self-4 : goal.invariant_of-self-4
+invariant_of-self-4 g c =
     let at = g.V.HasPosition.place in
     let marker = g.M.ConstraintMarker in
     counted_removed at marker.marks marker.constraints g.met.M.ConstraintMarker.constraints_are_marked

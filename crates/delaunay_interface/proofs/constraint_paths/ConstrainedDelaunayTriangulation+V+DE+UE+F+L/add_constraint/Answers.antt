@@ -2,6 +2,7 @@ use Rattle.std.proofs.Common.{sym, subst}
 use Rattle.plane.specs.Plain.{CanAdd}
 use Rattle.delaunay_edit.specs.Constrained.{constrained}
 use Rattle.delaunay_interface.proofs.Kept.{held_of_same, vertices_after_adding}
+use Rattle.delaunay_edit.specs.ConstraintEdits.{MayJoin}
 use Rattle.delaunay_interface.proofs.constraint_paths.ConstrainedDelaunayTriangulation+V+DE+UE+F+L.add_constraint.Goals as goal
 
 pub invariant_of-self : goal.invariant_of-self
@@ -12,3 +13,8 @@ invariant_of-self g c =
 
 pub add_constraint-requires-clause-free : goal.add_constraint-requires-clause-free
 add_constraint-requires-clause-free g c = subst (λ s. CanAdd g.V.HasPosition.place (constrained s) c.args.from c.args.to) (sym c.self.view_is) c.requires.free
+
+pub add_constraint-requires-clause-ends : goal.add_constraint-requires-clause-ends
+add_constraint-requires-clause-ends g c =
+    subst (λ s. MayJoin g.V.HasPosition.place (g.P.PlaneTests.sites c.args.tests.now) s c.args.from c.args.to) (sym c.self.view_is)
+    (record { from_in = c.requires.from_in; to_in = c.requires.to_in; sites = c.requires.sites })

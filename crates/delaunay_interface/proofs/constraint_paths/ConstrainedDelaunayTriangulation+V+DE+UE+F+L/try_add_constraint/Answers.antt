@@ -1,8 +1,9 @@
-use Rattle.std.proofs.Common.{◌≡◌, subst}
+use Rattle.std.proofs.Common.{◌≡◌, sym, subst}
 use Rattle.std.specs.Prelude.{◌⊎◌, IsOk}
 use Rattle.plane.specs.Plain.{CanAdd}
 use Rattle.delaunay_edit.specs.Constrained.{constrained}
 use Rattle.delaunay_interface.proofs.Kept.{held_of_same, vertices_after_path}
+use Rattle.delaunay_edit.specs.ConstraintEdits.{MayJoin}
 use Rattle.delaunay_interface.proofs.constraint_paths.ConstrainedDelaunayTriangulation+V+DE+UE+F+L.try_add_constraint.Goals as goal
 
 pub invariant_of-self : goal.invariant_of-self
@@ -14,3 +15,8 @@ invariant_of-self g c =
 pub returns-clause-none : goal.returns-clause-none
 returns-clause-none g c =
     subst (λ s. ((c.args.from ≡ c.args.to) ⊎ (¬ CanAdd g.V.HasPosition.place (constrained s) c.args.from c.args.to)) → IsOk c.try_add_constraint.result) c.self.view_is c.try_add_constraint.ensures.none
+
+pub try_add_constraint-requires : goal.try_add_constraint-requires
+try_add_constraint-requires g c =
+    subst (λ s. MayJoin g.V.HasPosition.place (g.P.PlaneTests.sites c.args.tests.now) s c.args.from c.args.to) (sym c.self.view_is)
+    (record { from_in = c.requires.from_in; to_in = c.requires.to_in; sites = c.requires.sites })

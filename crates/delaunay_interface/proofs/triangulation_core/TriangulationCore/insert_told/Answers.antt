@@ -2,6 +2,7 @@ use Rattle.std.proofs.Common.{◌∙◌, sym, subst, inl, inr, arith}
 use mathlib.Core.Logic.{⊎_elim}
 use Rattle.delaunay_edit.specs.Headline.{AreSites}
 use Rattle.delaunay_interface.proofs.Held.{held_are_sites, inserted_in_range, listed_then}
+use Rattle.delaunay_edit.specs.Edits.{MayInsert}
 use Rattle.delaunay_interface.proofs.triangulation_core.TriangulationCore.insert_told.Goals as goal
 
 pub tell_if_appended-requires-clause-few : goal.tell_if_appended-requires-clause-few
@@ -25,3 +26,8 @@ invariant_of-self g c = λ p h.
     let current = c.num_vertices-current.ensures.value in
     listed_then _ _ c.self.inside.edited c.insert_from-inserted.new.self c.args.value c.insert_from-inserted.result c.insert_from-inserted.ensures.inserts p
     (⊎_elim (λ held. inl (c.self.invariant p held)) (λ new. let more = new.0 in inr (omega (arith, former, current, more), new.1 ∙ c.position-position.ensures)) (c.tell_if_appended.ensures p h))
+
+pub insert_from-inserted-requires : goal.insert_from-inserted-requires
+insert_from-inserted-requires g c =
+    subst (λ s. MayInsert g.V.HasPosition.place (g.P.PlaneTests.sites c.args.tests.now) s.vertices c.args.value c.args.flips.now) (sym c.self.view_is)
+    (record { sites = c.requires.sites; new_site = c.requires.new_site; fits = c.requires.fits })

@@ -1,0 +1,41 @@
+//! The lists that removals work with.
+ghost use Rattle.std.specs.Prelude.{OnOk};
+ghost use Rattle.delaunay_removal.specs.Lists.{HasRoomToRemove};
+
+use crate::pairs::VertexPair;
+use half_edge_mesh::{Dcel, FixedDirectedEdgeHandle};
+use std::alloc::{AllocError, Global};
+
+/// The lists that removals work with. What stands in them between two removals has no meaning, but
+/// the room for it stays.
+#[derive(Drop)]
+pub struct RemovalLists {
+    // The sides opposite a vertex that goes from the hull, and then the edges that are tested.
+    pub(crate) sides: Vec<FixedDirectedEdgeHandle>,
+    // What edges join that were turned away. A vertex has fewer edges than there are vertices.
+    pub(crate) turned: Vec<VertexPair>,
+}
+
+impl RemovalLists {
+    /// Lists without room.
+    pub fn new(alloc: Global) -> Self {
+        RemovalLists {
+            sides: Vec::new(alloc),
+            turned: Vec::new(alloc),
+        }
+    }
+
+    /// Makes room to remove a vertex. It gives `AllocError` where memory was refused.
+    pub fn reserve_for<V, DE, UE, F>(&mut self, dcel: &Dcel<V, DE, UE, F>) -> Result<(), AllocError>
+        ensures { OnOk result (HasRoomToRemove dcel.now self.new) }
+    {
+        let vertices = dcel.num_vertices();
+        let directed = dcel.num_directed_edges();
+        let tested = 3 * vertices;
+        self.sides.clear();
+        self.sides
+            .reserve(if directed < tested { tested } else { directed })?;
+        self.turned.clear();
+        self.turned.reserve(vertices)
+    }
+}
