@@ -16,7 +16,7 @@ use crate::segment::Segment;
 use crate::sides::position_of;
 use delaunay_core::math::PlaneTests;
 use delaunay_core::point::{HasPosition, Point2};
-use delaunay_location::{PositionInTriangulation, locate};
+use delaunay_location::{PositionInTriangulation, locate_with_hint};
 use half_edge_mesh::{
     Dcel, FixedDirectedEdgeHandle, FixedFaceHandle, FixedVertexHandle, MeshViews,
 };
@@ -92,7 +92,8 @@ pub fn line_between<'a, V: HasPosition, DE, UE, F, P: PlaneTests<V::Scalar>>(
         from,
         to,
     };
-    segment.walk_from_location(locate(dcel, from, tests))
+    let first = FixedVertexHandle::from_index(0);
+    segment.walk_from_location(locate_with_hint(dcel, from, first, tests))
 }
 
 /// What the segment from one vertex to another meets, from the vertex on: of a vertex to itself,

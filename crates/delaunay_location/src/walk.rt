@@ -202,21 +202,6 @@ pub fn locate_with_hint<V: HasPosition, DE, UE, F, P: PlaneTests<V::Scalar>>(
     }
 }
 
-/// Where a position is, by a search from vertex 0.
-pub fn locate<V: HasPosition, DE, UE, F, P: PlaneTests<V::Scalar>>(
-    dcel: &Dcel<V, DE, UE, F>,
-    point: Point2<V::Scalar>,
-    tests: &P,
-) -> PositionInTriangulation
-    requires kept { IsTriangulated V.place (state_of dcel.now) }
-    requires sites { All (P.sites tests.now) (map V.place dcel.now.vertices) }
-    requires covered { P.covered tests.now (place_of V.Scalar.whole point) }
-    ensures { Locates (map V.place dcel.now.vertices) dcel.now.mesh (place_of V.Scalar.whole point)
-        result }
-{
-    locate_with_hint(dcel, point, FixedVertexHandle::from_index(0), tests)
-}
-
 /// The vertex at a position, if there is one. The search begins at the vertex `hint`, or at vertex
 /// 0.
 pub fn locate_vertex<V: HasPosition, DE, UE, F, P: PlaneTests<V::Scalar>>(
