@@ -4,9 +4,8 @@ use Rattle.std.proofs.Common.{
   ◌∙◌,
   ◌⊎◌,
   ℕ,
-  ◌-◌,
+  ◌+◌,
   ◌<◌,
-  ◌≤◌,
   List,
   [],
   ◌∷◌,
@@ -60,11 +59,6 @@ pub with_then_with : (old now later : Point → Type 0) (q : Point) → IsAtMost
     → IsAtMostWith old later q
 with_then_with old now later q first second = λ p h. ⊎_elim (λ o. first p o) (λ e. inr e) (second p h)
 
--- two changes that each add at most the position swapped in add together at most this one
-pub or_then_or : (old now later : Point → Type 0) (swapped : Option Point) → IsAtMostOr old now swapped
-    → IsAtMostOr now later swapped → IsAtMostOr old later swapped
-or_then_or old now later swapped first second = λ p h. ⊎_elim (λ o. first p o) (λ e. inr e) (second p h)
-
 module _ {L : Type 0} (positions_of : L → List Point) where
   -- what is held, as a fact of each layer
   pub all_from_held : (P : Point → Type 0) (layers : List L) → IsAtMost P (IsInSome positions_of layers)
@@ -97,27 +91,42 @@ module _ {L : Type 0} (positions_of : L → List Point) where
       (λ p at. ⊎_elim (λ o. inl (held_at layers i old below here p o)) (λ x. inr x) (more p at)))
       (all_from_held P layers (λ p h. inl h)))
 
-  -- from a layer on, none has a vertex at q
-  abbrev pub IsVacantFrom : Point → ℕ → List L → Type 0
-  IsVacantFrom q level layers = (k : ℕ) (d : L) → level ≤ k → k < length layers
+  -- the same after changes that each add at most X
+  pub held_since : (X : Point → Type 0) (before layers : List L) (i : ℕ) (old new : L) → i < length layers
+      → old ≡ get_or layers i old → ((p : Point) → Contains (positions_of new) p → Contains (positions_of old) p ⊎ X p)
+      → ((p : Point) → IsInSome positions_of layers p → IsInSome positions_of before p ⊎ X p) → (p : Point)
+      → IsInSome positions_of (slice_set layers i new) p → IsInSome positions_of before p ⊎ X p
+  held_since X before layers i old new below here more former = λ p h.
+      ⊎_elim (λ o. former p o) (λ x. inr x) (held_after_set X layers i old new below here more p h)
+
+  -- the positions of a layer that is read are sites where all that is held is
+  pub sites_at : (sites : Point → Type 0) (layers : List L) (i : ℕ) (layer : L) → i < length layers
+      → layer ≡ get_or layers i layer → IsAtMost sites (IsInSome positions_of layers) → All sites (positions_of layer)
+  sites_at sites layers i layer below here held =
+      all_from_each sites (positions_of layer) (λ p at. held p (held_at layers i layer below here p at))
+
+  -- none of the layers before one has a vertex at q
+  abbrev pub IsVacantBelow : Point → ℕ → List L → Type 0
+  IsVacantBelow q level layers = (k : ℕ) (d : L) → k < level → k < length layers
       → ¬ Contains (positions_of (get_or layers k d)) q
 
   -- no layer is left out
-  pub vacant_if_all : (q : Point) (layers : List L) → IsVacantFrom q 0 layers → ¬ IsInSome positions_of layers q
+  pub vacant_if_all : (q : Point) (layers : List L) → IsVacantBelow q (length layers) layers
+      → ¬ IsInSome positions_of layers q
   vacant_if_all q layers vacant h =
-      vacant h.among.0 h.layer (omega arith) h.among.1
+      vacant h.among.0 h.layer h.among.1 h.among.1
       (subst (λ (l : L). Contains (positions_of l) q) (sym h.among.2) h.vertex)
 
   -- one layer more
-  pub vacant_from_one_more : (q : Point) (level below : ℕ) (layers : List L) (layer : L) → level ≡ below - 1
-      → layer ≡ get_or layers level layer → level < length layers → ¬ Contains (positions_of layer) q
-      → IsVacantFrom q below layers → IsVacantFrom q level layers
-  vacant_from_one_more q level below layers layer e here within apart vacant = λ k d from k-in h.
+  pub vacant_one_more : (q : Point) (level : ℕ) (layers : List L) (layer : L) → layer ≡ get_or layers level layer
+      → level < length layers → ¬ Contains (positions_of layer) q → IsVacantBelow q level layers
+      → IsVacantBelow q (level + 1) layers
+  vacant_one_more q level layers layer here within apart vacant = λ k d under k-in h.
       ⊎_elim
       (λ same. apart
       (subst (λ (l : L). Contains (positions_of l) q)
       (ap (λ n. get_or layers n d) same ∙ get_or_default layers level d layer within ∙ sym here) h))
-      (λ other. vacant k d (omega (arith, e, from, other)) k-in h)
+      (λ other. vacant k d (omega (arith, under, other)) k-in h)
       (cases_eq k level)
 
   -- a layer is added, if it is, to such whose positions are all among those of H

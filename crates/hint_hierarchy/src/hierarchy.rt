@@ -1,8 +1,8 @@
 //! The hierarchy: which vertices its layers have, and where a search begins.
-ghost use Rattle.std.specs.Prelude.{◌≡◌, ◌⊎◌, [], All, IfOk, IsTrue, Some};
+ghost use Rattle.std.specs.Prelude.{◌≡◌, ◌⊎◌, [], IfOk, IsTrue, Some};
 ghost use Rattle.plane.specs.Fraction.{Point};
-ghost use Rattle.plane.specs.Hint.{IsAtMost, IsAtMostOf, IsAtMostWith, IsAtMostWithout};
-ghost use Rattle.delaunay_core.specs.Held.{AreDistinct, place_if, places};
+ghost use Rattle.plane.specs.Hint.{IsAtMost, IsAtMostWith, IsAtMostWithout};
+ghost use Rattle.delaunay_core.specs.Held.{place_if};
 ghost use Rattle.delaunay_core.specs.Place.{place_of};
 ghost use Rattle.hint_hierarchy.specs.Layers.{IsHeld};
 
@@ -51,26 +51,6 @@ impl<S: SpadeNum, const BRANCH_FACTOR: u32> HierarchyHintGeneratorWithBranchFact
         self.is_whole = false;
     }
 
-    // Inserts a position into a layer; whether it has this index there then.
-    fn insert_at<P: PlaneTests<S>>(
-        &mut self,
-        level: usize,
-        index: u32,
-        position: Point2<S>,
-        tests: &P,
-    ) -> bool
-        requires held { IsAtMost (P.sites tests.now) (IsHeld S.whole self.old.layers.items) }
-        requires site { P.sites tests.now (place_of S.whole position) }
-        ensures { IsAtMostWith (IsHeld S.whole self.old.layers.items)
-            (IsHeld S.whole self.new.layers.items) (place_of S.whole position) }
-    {
-        if level < self.layers.len() {
-            insert(&mut self.layers[level], index as usize, position, tests)
-        } else {
-            false
-        }
-    }
-
     // The position of the first vertex, or another where there is no layer yet.
     fn first_or(&self, other: Point2<S>) -> Point2<S>
         ensures { IsHeld S.whole self.now.layers.items (place_of S.whole result) ⊎
@@ -114,7 +94,7 @@ impl<S: SpadeNum, const BRANCH_FACTOR: u32> HierarchyHintGeneratorWithBranchFact
             let Some(index) = index_above::<BRANCH_FACTOR>(below) else {
                 return true;
             };
-            if !self.insert_at(level, index, position, tests) {
+            if !insert(&mut self.layers[level], index as usize, position, tests) {
                 return false;
             }
             below = index;
@@ -136,6 +116,23 @@ impl<S: SpadeNum, const BRANCH_FACTOR: u32> HierarchyHintGeneratorWithBranchFact
         }
     }
 
+    // The index of a vertex near a position, by a search from the top layer down. It goes on at the
+    // nearest vertex of each layer, which the layer keeps as the last that was used. The top layer
+    // has one vertex, and is passed over.
+    fn index_near<P: PlaneTests<S>>(&self, position: Point2<S>, tests: &P) -> u32
+        requires held { IsAtMost (P.sites tests.now) (IsHeld S.whole self.now.layers.items) }
+        requires covered { P.covered tests.now (place_of S.whole position) }
+    {
+        let mut start = 0;
+        let mut level = self.layers.len().saturating_sub(1);
+        while level > 0 {
+            level -= 1;
+            let layer = &self.layers[level];
+            start = index_below::<BRANCH_FACTOR>(nearest_from(layer, start, position, tests));
+        }
+        start
+    }
+
     // Whether no layer has a vertex at a position.
     fn is_vacant<P: PlaneTests<S>>(&self, position: Point2<S>, tests: &P) -> bool
         requires held { IsAtMost (P.sites tests.now) (IsHeld S.whole self.now.layers.items) }
@@ -143,12 +140,9 @@ impl<S: SpadeNum, const BRANCH_FACTOR: u32> HierarchyHintGeneratorWithBranchFact
         ensures { IsTrue result →
             ¬ IsHeld S.whole self.now.layers.items (place_of S.whole position) }
     {
-        let mut start = 0;
-        let mut level = self.layers.len();
-        while level > 0 {
-            level -= 1;
-            let layer = &self.layers[level];
-            start = index_below::<BRANCH_FACTOR>(nearest_from(layer, start, position, tests));
+        // Each layer's own search then begins at the vertex nearest to the position.
+        self.index_near(position, tests);
+        for layer in &self.layers {
             if !is_vacant(layer, position, tests) {
                 return false;
             }
@@ -201,14 +195,7 @@ impl<S: SpadeNum, const BRANCH_FACTOR: u32> HintGenerator<S>
         requires held { IsAtMost (P.sites tests.now) (IsHeld S.whole self.now.layers.items) }
         requires covered { P.covered tests.now (place_of S.whole position) }
     {
-        let mut start = 0;
-        let mut level = self.layers.len();
-        while level > 0 {
-            level -= 1;
-            let layer = &self.layers[level];
-            start = index_below::<BRANCH_FACTOR>(nearest_from(layer, start, position, tests));
-        }
-        FixedVertexHandle::from_index(start)
+        FixedVertexHandle::from_index(self.index_near(position, tests))
     }
 
     fn notify_vertex_lookup(&self, _vertex: FixedVertexHandle) {}
@@ -258,11 +245,7 @@ impl<S: SpadeNum, const BRANCH_FACTOR: u32> HintGenerator<S>
         alloc: Global,
         positions: &[Point2<S>],
         tests: &P,
-    ) -> Self
-        requires sites { All (P.sites tests.now) (places S.whole positions.now) }
-        requires distinct { AreDistinct (places S.whole positions.now) }
-        ensures { IsAtMostOf (IsHeld S.whole result.layers.items) (places S.whole positions.now) }
-    {
+    ) -> Self {
         let mut hierarchy: Self = HintGenerator::<S>::new(alloc);
         for position in positions {
             hierarchy.append(*position, tests);

@@ -48,22 +48,6 @@ pub(crate) fn remove<S: SpadeNum, P: PlaneTests<S>>(
     }
 }
 
-// Puts a position in the place of a vertex; whether it was appended before the vertex went.
-pub(crate) fn replace<S: SpadeNum, P: PlaneTests<S>>(
-    layer: &mut Layer<S>,
-    index: u32,
-    position: Point2<S>,
-    tests: &P,
-) -> bool
-    requires sites { All (P.sites tests.now) (positions S.whole layer.old) }
-    requires site { P.sites tests.now (place_of S.whole position) }
-    ensures { IsAtMostWith (IsAt S.whole layer.old) (IsAt S.whole layer.new)
-        (place_of S.whole position) }
-{
-    let next = layer.num_vertices();
-    insert(layer, next, position, tests) && remove(layer, index, tests)
-}
-
 // The vertex that is nearest to a position, by a walk from the vertex `start`.
 pub(crate) fn nearest_from<S: SpadeNum, P: PlaneTests<S>>(
     layer: &Layer<S>,

@@ -6,7 +6,7 @@ ghost use Rattle.delaunay_core.specs.Held.{place_if};
 ghost use Rattle.hint_hierarchy.specs.Layers.{IsAt, IsAtMostOr, IsHeld, positions};
 
 use crate::hierarchy::HierarchyHintGeneratorWithBranchFactor;
-use crate::layer::{Layer, remove, replace};
+use crate::layer::{Layer, insert, remove};
 use crate::positions::index_above;
 use delaunay_core::math::PlaneTests;
 use delaunay_core::point::{Point2, SpadeNum};
@@ -32,7 +32,10 @@ fn remove_from_layer<S: SpadeNum, P: PlaneTests<S>>(
         (None, None, _) => true,
         (None, Some(last), _) => remove(layer, last, tests),
         (Some(index), Some(_), _) => remove(layer, index, tests),
-        (Some(index), None, Some(position)) => replace(layer, index, position, tests),
+        (Some(index), None, Some(position)) => {
+            let next = layer.num_vertices();
+            insert(layer, next, position, tests) && remove(layer, index, tests)
+        }
         (Some(_), None, None) => false,
     }
 }
@@ -46,57 +49,9 @@ impl<S: SpadeNum, const BRANCH_FACTOR: u32> HierarchyHintGeneratorWithBranchFact
     S,
     BRANCH_FACTOR,
 > {
-    // Does in one layer what `remove_from_layer` says.
-    fn remove_at<P: PlaneTests<S>>(
-        &mut self,
-        level: usize,
-        removed: Option<u32>,
-        last: Option<u32>,
-        swapped_in: Option<Point2<S>>,
-        tests: &P,
-    ) -> bool
-        requires held { IsAtMost (P.sites tests.now) (IsHeld S.whole self.old.layers.items) }
-        requires swapped_site { (p : Point) → place_if S.whole swapped_in ≡ Some p →
-            P.sites tests.now p }
-        ensures { IsAtMostOr (IsHeld S.whole self.old.layers.items)
-            (IsHeld S.whole self.new.layers.items) (place_if S.whole swapped_in) }
-    {
-        if level < self.layers.len() {
-            remove_from_layer(&mut self.layers[level], removed, last, swapped_in, tests)
-        } else {
-            false
-        }
-    }
-
-    // Takes the vertex with this index out of each layer that has it, and puts the last vertex,
-    // which takes that index, where it is to be. Whether that was done in all layers.
-    fn remove_from_layers<P: PlaneTests<S>>(
-        &mut self,
-        swapped_in: Option<Point2<S>>,
-        index: u32,
-        last: u32,
-        tests: &P,
-    ) -> bool
-        requires held { IsAtMost (P.sites tests.now) (IsHeld S.whole self.old.layers.items) }
-        requires swapped_site { (p : Point) → place_if S.whole swapped_in ≡ Some p →
-            P.sites tests.now p }
-        ensures { IsAtMostOr (IsHeld S.whole self.old.layers.items)
-            (IsHeld S.whole self.new.layers.items) (place_if S.whole swapped_in) }
-    {
-        let mut removed = Some(index);
-        let mut last = Some(last);
-        for level in 0..self.layers.len() {
-            removed = index_above_if::<BRANCH_FACTOR>(removed);
-            last = index_above_if::<BRANCH_FACTOR>(last);
-            if !self.remove_at(level, removed, last, swapped_in, tests) {
-                return false;
-            }
-        }
-        true
-    }
-
-    // Does that for a vertex that the triangulation has had, and counts one vertex less. Whether
-    // all layers are as they are to be then.
+    // Takes the vertex with this index out of each layer that has it, puts the last vertex, which
+    // takes that index, where it is to be, and counts one vertex less. Whether the triangulation
+    // has had the vertex, and all layers are as they are to be then.
     pub(crate) fn remove_upwards<P: PlaneTests<S>>(
         &mut self,
         swapped_in: Option<Point2<S>>,
@@ -109,13 +64,20 @@ impl<S: SpadeNum, const BRANCH_FACTOR: u32> HierarchyHintGeneratorWithBranchFact
         ensures { IsAtMostOr (IsHeld S.whole self.old.layers.items)
             (IsHeld S.whole self.new.layers.items) (place_if S.whole swapped_in) }
     {
-        match self.count.checked_sub(1) {
-            Some(last) if index <= last => {
-                self.count = last;
-                self.remove_from_layers(swapped_in, index, last, tests)
-            }
-            _ => false,
+        if index >= self.count {
+            return false;
         }
+        self.count -= 1;
+        let mut removed = Some(index);
+        let mut last = Some(self.count);
+        for level in 0..self.layers.len() {
+            removed = index_above_if::<BRANCH_FACTOR>(removed);
+            last = index_above_if::<BRANCH_FACTOR>(last);
+            if !remove_from_layer(&mut self.layers[level], removed, last, swapped_in, tests) {
+                return false;
+            }
+        }
+        true
     }
 
     // Drops the top layer where the one below it has one vertex, and all layers where the

@@ -1,27 +1,40 @@
-use Rattle.std.proofs.Common.{arith}
+use Rattle.std.proofs.Common.{◌≡◌, ◌<◌, length, arith}
+use Rattle.std.proofs.lemmas.Grind.{common_steps}
 use Rattle.delaunay_core.specs.Place.{place_of}
-use Rattle.hint_hierarchy.specs.Layers.{IsHeld}
-use Rattle.hint_hierarchy.proofs.Held.{sites_with, with_then_with}
+use Rattle.hint_hierarchy.specs.Layers.{IsHeld, positions}
+use Rattle.hint_hierarchy.proofs.Held.{held_since, sites_at, sites_with, with_then_with}
 use Rattle.hint_hierarchy.proofs.hierarchy.HierarchyHintGeneratorWithBranchFactor.insert_upwards.Goals as goal
 
-pub insert_at-requires : goal.insert_at-requires
-insert_at-requires g c =
-    let number = g.S.SpadeNum.whole in (
-      omega arith,
-      (
-        sites_with (g.P.PlaneTests.sites c.args.tests.now) (IsHeld number c.args.self.now.layers.items)
-            (IsHeld number c.loop-level.self.layers.items) (place_of number c.args.position) c.requires.held
-            c.requires.site c.loop-level.invariant,
-        c.requires.site,
-      ),
-    )
+pub insert-requires-clause-sites : goal.insert-requires-clause-sites
+insert-requires-clause-sites g c =
+    let number = g.S.SpadeNum.whole in
+    let sites = g.P.PlaneTests.sites c.args.tests.now in
+    let layers = c.loop-level.self.layers.items in
+    let below : c.loop-level.level < length layers = grind (arith, common_steps) in
+    sites_at (positions number) sites layers c.loop-level.level c.index_mut.result.now below c.index_mut.ensures.value
+    (sites_with sites (IsHeld number c.args.self.now.layers.items) (IsHeld number layers)
+    (place_of number c.args.position) c.requires.held c.requires.site c.loop-level.invariant.more)
 
 pub loop-level-preserved : goal.loop-level-preserved
 loop-level-preserved g c =
     let number = g.S.SpadeNum.whole in
-    with_then_with (IsHeld number c.args.self.now.layers.items) (IsHeld number c.loop-level.self.layers.items)
-    (IsHeld number c.insert_at.new.self.layers.items) (place_of number c.args.position) c.loop-level.invariant
-    c.insert_at.ensures
+    let layers = c.loop-level.self.layers.items in
+    let below : c.loop-level.level < length layers = grind (arith, common_steps) in
+    record {
+      as_many = grind (arith, common_steps);
+      more = held_since (positions number) (λ p. p ≡ place_of number c.args.position) c.args.self.now.layers.items
+          layers c.loop-level.level c.index_mut.result.now c.insert.new.layer below c.index_mut.ensures.value
+          c.insert.ensures c.loop-level.invariant.more;
+    }
+
+pub returns-then-not-insert : goal.returns-then-not-insert
+returns-then-not-insert g c =
+    let number = g.S.SpadeNum.whole in
+    let layers = c.loop-level.self.layers.items in
+    let below : c.loop-level.level < length layers = grind (arith, common_steps) in
+    held_since (positions number) (λ p. p ≡ place_of number c.args.position) c.args.self.now.layers.items layers
+    c.loop-level.level c.index_mut.result.now c.insert.new.layer below c.index_mut.ensures.value c.insert.ensures
+    c.loop-level.invariant.more
 
 pub add_layer-requires : goal.add_layer-requires
 add_layer-requires g c =
@@ -30,7 +43,7 @@ add_layer-requires g c =
       (
         sites_with (g.P.PlaneTests.sites c.args.tests.now) (IsHeld number c.args.self.now.layers.items)
             (IsHeld number c.loop-level.self.layers.items) (place_of number c.args.position) c.requires.held
-            c.requires.site c.loop-level.invariant,
+            c.requires.site c.loop-level.invariant.more,
         c.requires.site,
       ),
     )
@@ -39,12 +52,5 @@ pub returns : goal.returns
 returns g c =
     let number = g.S.SpadeNum.whole in
     with_then_with (IsHeld number c.args.self.now.layers.items) (IsHeld number c.loop-level.self.layers.items)
-    (IsHeld number c.add_layer.new.self.layers.items) (place_of number c.args.position) c.loop-level.invariant
+    (IsHeld number c.add_layer.new.self.layers.items) (place_of number c.args.position) c.loop-level.invariant.more
     c.add_layer.ensures
-
-pub returns-then-not-insert_at : goal.returns-then-not-insert_at
-returns-then-not-insert_at g c =
-    let number = g.S.SpadeNum.whole in
-    with_then_with (IsHeld number c.args.self.now.layers.items) (IsHeld number c.loop-level.self.layers.items)
-    (IsHeld number c.insert_at.new.self.layers.items) (place_of number c.args.position) c.loop-level.invariant
-    c.insert_at.ensures

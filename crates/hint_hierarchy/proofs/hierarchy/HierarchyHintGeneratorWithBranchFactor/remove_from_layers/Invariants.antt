@@ -1,7 +1,0 @@
-use Rattle.delaunay_core.specs.Held.{place_if}
-use Rattle.hint_hierarchy.specs.Layers.{IsAtMostOr, IsHeld}
-use Rattle.hint_hierarchy.proofs.hierarchy.HierarchyHintGeneratorWithBranchFactor.remove_from_layers.Given as goal
-
-abbrev pub invariant-loop-level : goal.invariant-loop-level
-invariant-loop-level g l = IsAtMostOr (IsHeld g.S.SpadeNum.whole l.fn.self.layers.items)
-    (IsHeld g.S.SpadeNum.whole l.self.layers.items) (place_if g.S.SpadeNum.whole l.swapped_in)
