@@ -57,9 +57,6 @@ unturned on e h = cc
 no_turn : (u p : Fraction) → TurnsLeft u u p → ⊥
 no_turn u p h = unturned (side u u p) (side_swapped u u p) h
 
-turned : (u p q : Fraction) → TurnsLeft u p q → TurnsLeft p q u
-turned u p q h = side_turned u p q ∙ h
-
 none_in : (t : Triangulation) → JoinsLine t → {f : Face} → Contains t.faces f → ⊥
 none_in t line h = absurd (omega (arith, h.1, ap length line.no_face))
 
@@ -78,8 +75,8 @@ module _ (t : Triangulation) (tiles : IsTiling t) where
   pub differ : (i j k : ℕ) → IsFace t i j k → (i ≢ j) × (j ≢ k) × (k ≢ i)
   differ i j k f =
       let h = turning_of t tiles i j k f in
-      let h' = turned (vertex t i) (vertex t j) (vertex t k) h in
-      let h'' = turned (vertex t j) (vertex t k) (vertex t i) h' in (
+      let h' = side_turned (vertex t i) (vertex t j) (vertex t k) ∙ h in
+      let h'' = side_turned (vertex t j) (vertex t k) (vertex t i) ∙ h' in (
         (λ e. no_turn (vertex t i) (vertex t k) (subst (λ n. TurnsLeft (vertex t i) (vertex t n) (vertex t k)) (sym e) h)),
         (λ e. no_turn (vertex t j) (vertex t i) (subst (λ n. TurnsLeft (vertex t j) (vertex t n) (vertex t i)) (sym e) h')),
         (λ e. no_turn (vertex t k) (vertex t j) (subst (λ n. TurnsLeft (vertex t k) (vertex t n) (vertex t j)) (sym e) h'')),

@@ -1,13 +1,11 @@
 -- Where a point is, as the replies write it: the lesser end first, the least corner first.
 use Rattle.std.proofs.Common.{◌≡◌, List, ◌≢◌, ℕ, inl, inr, length, arith, sym, cond, ltb, lt-ltb, le-ltb, ◌≤◌, ◌<◌}
-use Rattle.std.specs.Prelude.{ℤ, ◌*ℤ◌}
-use Rattle.plane.specs.Fraction.{Point, whole, Fraction, IsPositive, WithinSegment}
+use Rattle.plane.specs.Fraction.{Point, whole, Fraction, IsPositive}
 use Rattle.std.proofs.lemmas.Bool.{cases_lt}
 use Rattle.plane.specs.Pairs.{EachPairOnce}
 use Rattle.plane.specs.Tiling.{Triangulation, IsEdge, IsTiling, vertex}
 use Rattle.plane.specs.Location.{IsLocation, on_edge, on_face}
-use Rattle.plane.proofs.Means.{two_weights, mean_of_two}
-use Rattle.plane.proofs.Signs.{swapped_sum}
+use Rattle.plane.proofs.Means.{turned_mean_of_two}
 use Rattle.plane.proofs.Triangles.{turned_inside, turned_face}
 use Rattle.plane_segments.proofs.Items.Begins.{edge_flipped}
 use Rattle.triangulate_run.specs.Corners.{least_first}
@@ -19,25 +17,10 @@ use Rattle.triangulate_run.specs.declared.reply.Reply.{Reply}
 use Rattle.triangulate_run.specs.declared.reply.Reply.TheVariants as reply
 use Rattle.triangulate_run.proofs.FaceList.{is_first, is_second, is_third, least, first_least, second_least, third_least, differ, from_least_of}
 
-within_swapped : (u v p : Fraction) → WithinSegment u v p → WithinSegment v u p
-within_swapped u v p h =
-    let t = two_weights IsPositive u v p h in
-    mean_of_two IsPositive v u p (record {
-      k = t.l;
-      l = t.k;
-      n = t.n;
-      k_allowed = t.l_allowed;
-      l_allowed = t.k_allowed;
-      positive = t.positive;
-      x = swapped_sum (t.n *ℤ p.x) (t.k *ℤ u.x) (t.l *ℤ v.x) t.x;
-      y = swapped_sum (t.n *ℤ p.y) (t.k *ℤ u.y) (t.l *ℤ v.y) t.y;
-      w = swapped_sum (t.n *ℤ p.w) (t.k *ℤ u.w) (t.l *ℤ v.w) t.w;
-    })
-
 module _ (t : Triangulation) (p : Fraction) where
   -- a point on an edge is on it by the ends in the other order, too
   pub on_edge_back : (i j : ℕ) → IsLocation t p (on_edge i j) → IsLocation t p (on_edge j i)
-  on_edge_back i j h = (edge_flipped t i j h.0, within_swapped (vertex t i) (vertex t j) p h.1)
+  on_edge_back i j h = (edge_flipped t i j h.0, turned_mean_of_two IsPositive (vertex t i) (vertex t j) p h.1)
 
   on_face_turned : (i j k : ℕ) → IsLocation t p (on_face i j k) → IsLocation t p (on_face j k i)
   on_face_turned i j k h = (turned_face t i j k h.0, turned_inside (vertex t i) (vertex t j) (vertex t k) p h.1)

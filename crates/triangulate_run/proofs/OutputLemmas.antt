@@ -129,11 +129,6 @@ writes_flushed contents w0 w1 w2 (Ok x) text wrote kept ok err = (appends_keep _
 writes_flushed contents w0 w1 w2 (Err x) text wrote kept ok err =
     (record { part = text; rest = []; whole = sym (append-nil text); written = appends_keep _ _ _ text wrote kept }, err)
 
--- a writer that took the text has not failed
-pub works_if_ok : {W T E : Type 0} (contents : W → Option (List ℕ)) (w0 w1 : Watched W) (r : Result T E) (text : List ℕ) → Writes contents w0 w1 r text → OnOk r (has_failed w1 ≡ false)
-works_if_ok contents w0 w1 (Ok x) text (wrote, works) = works
-works_if_ok contents w0 w1 (Err x) text (wrote, failed) = tt
-
 -- ---- three texts, one behind another
 module _ (a b c : Option (List ℕ)) (held mid s t u : List ℕ) where
   -- where the writer fails at the first, a beginning of all three was put
@@ -146,11 +141,12 @@ module _ (a b c : Option (List ℕ)) (held mid s t u : List ℕ) where
   second_fails x y = passes_part a b c held mid s (t ++ u) x
       (subst (λ (ys : List ℕ). AppendsPart b c ys) (append_assoc mid t u) (part_longer b c (mid ++ t) u y))
 
--- a text that is put, or in part where the writer fails, behind two others is put with them
-pub third_behind : {W T E : Type 0} (contents : W → Option (List ℕ)) (w0 w1 w2 w3 : Watched W) (r : Result T E)
-    (held mid then kept s t u : List ℕ)
-    → Passes (contents (inner_of w0)) (contents (inner_of w1)) held mid s
-    → Passes (contents (inner_of w1)) (contents (inner_of w2)) mid then t
-    → Puts contents w2 w3 then kept r u → Puts contents w0 w3 held kept r (s ++ (t ++ u))
-third_behind contents w0 w1 w2 w3 r held mid then kept s t u x y z =
-    puts_behind contents w0 w1 w3 r held mid kept s (t ++ u) x (puts_behind contents w1 w2 w3 r mid then kept t u y z)
+module _ (a b c d : Option (List ℕ)) (held mid then s t u : List ℕ) (x : Passes a b held mid s)
+    (y : Passes b c mid then t) where
+  -- so it was where two were passed on and the writer fails at the third
+  pub third_fails : AppendsPart c d (then ++ u) → AppendsPart a d (held ++ (s ++ (t ++ u)))
+  third_fails z = passes_part a b d held mid s (t ++ u) x (passes_part b c d mid then t u y z)
+
+  -- where the third is passed on, all three were
+  pub all_passed : (kept : List ℕ) → Passes c d then kept u → Passes a d held kept (s ++ (t ++ u))
+  all_passed kept z = passes_more a b d held mid kept s (t ++ u) x (passes_more b c d mid then kept t u y z)

@@ -12,7 +12,7 @@ use Rattle.triangulate_run.specs.declared.points.SheetPoint.{SheetPoint}
 use Rattle.triangulate_run.specs.Stage.{Stage, first_stage, Fits}
 use Rattle.triangulate_run.specs.Line.{kept, push_kept}
 use Rattle.triangulate_run.specs.Output.{AppendsPart}
-use Rattle.triangulate_run.specs.Run.{Cut, IsOneLine, Answers, AnswersAll, end_text, RanToEnd, RanInPart}
+use Rattle.triangulate_run.specs.Run.{Cut, IsOneLine, Answers, AnswersAll, IsAllowed, end_text, RanToEnd, RanInPart}
 use Rattle.triangulate_run.proofs.OutputLemmas.{appends_more, appends_nil, part_more}
 
 -- between two bytes: these lines were read and answered, and this much of the next
@@ -156,26 +156,33 @@ line_fault {points = points} {stage = stage} s r2 w2 first new took works answer
   writer_failed = failed;
 }
 
+-- what was written so far, with what is written at the end of the input, is allowed for what was read
+allowed_to_end : {R W : Type 0} {remaining : R → Option (List ℕ)} {contents : W → Option (List ℕ)}
+    {r0 r1 : Watched R} {w0 w1 : Watched W} {line : Option (List ℕ)} {points : List SheetPoint} {stage : Stage}
+    (s : IsRunning points remaining contents r0 r1 w0 w1 line stage)
+    → IsAllowed points (s.input ++ []) (s.text ++ end_text s.rest)
+allowed_to_end {stage = stage} s = record {
+  lines = s.lines;
+  rest = s.rest;
+  before = s.text;
+  stage = stage;
+  cut = subst (λ (i : List ℕ). Cut i s.lines s.rest) (sym (append-nil s.input)) s.cut;
+  answered = s.answered;
+  whole = refl;
+}
+
 -- a run ends where the writer fails within what is written at the end of the input
 pub end_fault : {R W : Type 0} {remaining : R → Option (List ℕ)} {contents : W → Option (List ℕ)} {r0 r1 : Watched R} {w0 w1 : Watched W} {line : Option (List ℕ)} {points : List SheetPoint} {stage : Stage}
     (s : IsRunning points remaining contents r0 r1 w0 w1 line stage) → (r2 : Watched R) (w2 : Watched W)
     → Consumes (remaining (inner_of r1)) (remaining (inner_of r2)) [] → has_failed r2 ≡ false
     → AppendsPart (contents (inner_of w1)) (contents (inner_of w2)) (end_text s.rest) → has_failed w2 ≡ true
     → RanInPart points remaining contents r0 r2 w0 w2
-end_fault {points = points} {stage = stage} s r2 w2 took works wrote failed = record {
+end_fault s r2 w2 took works wrote failed = record {
   input = s.input ++ [];
   text = s.text ++ end_text s.rest;
   read = consumes_more _ _ _ s.input [] s.read took;
   written = part_behind _ _ _ s.text (end_text s.rest) s.written wrote;
-  allowed = record {
-    lines = s.lines;
-    rest = s.rest;
-    before = s.text;
-    stage = stage;
-    cut = subst (λ (i : List ℕ). Cut i s.lines s.rest) (sym (append-nil s.input)) s.cut;
-    answered = s.answered;
-    whole = refl;
-  };
+  allowed = allowed_to_end s;
   reader_works = works;
   writer_failed = failed;
 }
@@ -186,21 +193,13 @@ pub end_more : {R W : Type 0} {remaining : R → Option (List ℕ)} {contents : 
     → Consumes (remaining (inner_of r1)) (remaining (inner_of r2)) [] → IsAtEnd (remaining (inner_of r2)) → has_failed r2 ≡ false
     → Appends (contents (inner_of w1)) (contents (inner_of w2)) (end_text s.rest) → has_failed w2 ≡ false
     → RanToEnd points remaining contents r0 r2 w0 w2
-end_more {points = points} {stage = stage} s r2 w2 took end works wrote still = record {
+end_more s r2 w2 took end works wrote still = record {
   input = s.input ++ [];
   text = s.text ++ end_text s.rest;
   read = consumes_more _ _ _ s.input [] s.read took;
   at_end = end;
   written = appends_more _ _ _ s.text (end_text s.rest) s.written wrote;
-  allowed = record {
-    lines = s.lines;
-    rest = s.rest;
-    before = s.text;
-    stage = stage;
-    cut = subst (λ (i : List ℕ). Cut i s.lines s.rest) (sym (append-nil s.input)) s.cut;
-    answered = s.answered;
-    whole = refl;
-  };
+  allowed = allowed_to_end s;
   reader_works = works;
   writer_works = still;
 }

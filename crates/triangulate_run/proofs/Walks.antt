@@ -1,6 +1,6 @@
 -- The items of a line, as they are put one after another.
 use Rattle.std.proofs.Common.{◌≡◌, ℕ, List, [], ◌∷◌, ◌++◌, Option, Some, None, refl, sym, ◌∙◌, ap, subst, append_assoc, append-nil}
-use Rattle.std.specs.Prelude.{ℤ, codes, Result}
+use Rattle.std.specs.Prelude.{ℤ, codes}
 use Rattle.std.specs.List.{flat_map}
 use Rattle.std.proofs.lemmas.Grind.{flat_map-append}
 use Rattle.plane.specs.Fraction.{Point}
@@ -9,11 +9,10 @@ use Rattle.delaunay_lines.specs.declared.intersection.Intersection.{Intersection
 use Rattle.delaunay_lines.specs.declared.iterator.LineIntersectionIterator.{LineIntersectionIterator}
 use Rattle.delaunay_lines.specs.Items.{item_in}
 use Rattle.delaunay_lines.specs.Walk.{AreLeft, GivesNext}
-use Rattle.watched.specs.declared.Watched.{Watched}
-use Rattle.watched.specs.Watched.{inner_of}
-use Rattle.triangulate_run.specs.Output.{AppendsPart, Passes, Puts}
+use Rattle.triangulate_run.specs.Output.{AppendsPart, Passes}
 use Rattle.triangulate_run.specs.Reply.{item_text, line_text, next_text}
-use Rattle.triangulate_run.proofs.OutputLemmas.{passes_nil, passes_more, passes_part, part_longer, first_fails, second_fails, third_behind}
+use Rattle.triangulate_run.proofs.OutputLemmas.{passes_nil, passes_more, passes_part, part_longer}
+use Rattle.triangulate_run.proofs.OutputLemmas.{first_fails, second_fails, third_fails, all_passed}
 
 -- of the items that were left, these were put, and those are left
 pub record PutsSome {V D U F P S : Type 0} (at : V → Point) (number : S → ℤ) (before now : Option (List ℕ))
@@ -120,15 +119,21 @@ module _ {V D U F P S : Type 0} (at : V → Point) (number : S → ℤ) (it afte
             (λ others left. second_fails a b c held mid (item_text (item_in x)) (flat_map next_text others)
             (codes "\n") first (part others left))
 
-      -- the first item, the others and the end of the line are put one after another: the line is put
-      pub line_ends : {W T E : Type 0} (contents : W → Option (List ℕ)) (w0 w1 w2 w3 : Watched W) (r : Result T E)
-          (held mid then kept : List ℕ)
-          → Passes (contents (inner_of w0)) (contents (inner_of w1)) held mid (item_text (item_in x))
-          → ((others : List Item) → AreLeft at number after others
-          → Passes (contents (inner_of w1)) (contents (inner_of w2)) mid then (flat_map next_text others))
-          → Puts contents w2 w3 then kept r (codes "\n") → (items : List Item) → AreLeft at number it items
-          → Puts contents w0 w3 held kept r (line_text items)
-      line_ends contents w0 w1 w2 w3 r held mid then kept first rest put =
-          by_first (λ t. Puts contents w0 w3 held kept r t)
-          (λ others left. third_behind contents w0 w1 w2 w3 r held mid then kept (item_text (item_in x))
-          (flat_map next_text others) (codes "\n") first (rest others left) put)
+      module _ (a b c d : Option (List ℕ)) (held mid then : List ℕ)
+          (first : Passes a b held mid (item_text (item_in x)))
+          (rest : (others : List Item) → AreLeft at number after others
+          → Passes b c mid then (flat_map next_text others))
+        where
+          -- so it was where all items were passed on and the writer fails at the end of the line
+          pub line_end_fails : AppendsPart c d (then ++ codes "\n") → (items : List Item) → AreLeft at number it items
+              → AppendsPart a d (held ++ line_text items)
+          line_end_fails part = by_first (λ t. AppendsPart a d (held ++ t))
+              (λ others left. third_fails a b c d held mid then (item_text (item_in x)) (flat_map next_text others)
+              (codes "\n") first (rest others left) part)
+
+          -- where the end of the line is passed on, the line is
+          pub line_passed : (kept : List ℕ) → Passes c d then kept (codes "\n") → (items : List Item)
+              → AreLeft at number it items → Passes a d held kept (line_text items)
+          line_passed kept end = by_first (λ t. Passes a d held kept t)
+              (λ others left. all_passed a b c d held mid then (item_text (item_in x)) (flat_map next_text others)
+              (codes "\n") first (rest others left) kept end)

@@ -60,25 +60,10 @@ fn write_path<L: HintGenerator<i64>, W: Write>(
         (path_text (ends_in triangulation.now.mesh path.now)) }
 {
     let mut held = Held::new();
-    put_path(triangulation, path, writer, &mut held)?;
+    put_pieces(writer, &mut held, &[Piece::Text("edges")])?;
+    put_edges(triangulation, path, writer, &mut held)?;
+    put_pieces(writer, &mut held, &[Piece::Text("\n")])?;
     write_all(writer, held.as_slice())
-}
-
-/// Puts the edges of a path.
-fn put_path<L: HintGenerator<i64>, W: Write>(
-    triangulation: &Constrained<L>,
-    path: &[FixedDirectedEdgeHandle],
-    writer: &mut Watched<W>,
-    held: &mut Held,
-) -> Result<(), Failed>
-    requires within { All (λ h. h < length triangulation.now.directed) path.now }
-    requires works { has_failed writer.old ≡ false }
-    ensures { Puts W.contents writer.old writer.new held.old.items held.new.items result
-        (path_text (ends_in triangulation.now.mesh path.now)) }
-{
-    put_pieces(writer, held, &[Piece::Text("edges")])?;
-    put_edges(triangulation, path, writer, held)?;
-    put_pieces(writer, held, &[Piece::Text("\n")])
 }
 
 /// Puts the ends of each edge, with a space before each.

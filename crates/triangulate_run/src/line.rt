@@ -45,32 +45,28 @@ pub(crate) fn write_line<L: HintGenerator<i64>, UE, M: EdgeData<UE>, P: PlaneTes
     if index_of(points, from).is_none() || index_of(points, to).is_none() {
         return write_reply(writer, &Reply::UnknownPoint);
     }
-    let mut held = Held::new();
     let mut line = LineIntersectionIterator::new(triangulation, from, to, tests);
-    match put_line(writer, &mut held, &mut line) {
-        Ok(()) => write_all(writer, held.as_slice()),
-        Err(Failed) => Err(Failed),
-    }
+    write_items(writer, &mut line)
 }
 
-/// Puts the items of a line, one space between two of them.
-fn put_line<DE, UE, F, P: PlaneTests<i64>, W: Write>(
+/// Writes the items of a line, one space between two of them.
+fn write_items<DE, UE, F, P: PlaneTests<i64>, W: Write>(
     writer: &mut Watched<W>,
-    held: &mut Held,
     line: &mut LineIntersectionIterator<'_, Point2<i64>, DE, UE, F, P>,
 ) -> Result<(), Failed>
     requires ready { IsReadyLine position (λ z. z) P.sites P.covered line.old }
     requires works { has_failed writer.old ≡ false }
     ensures { (items : List Item) → AreLeft position (λ z. z) line.old items
-        → Puts W.contents writer.old writer.new held.old.items held.new.items result
-        (line_text items) }
+        → Writes W.contents writer.old writer.new result (line_text items) }
 {
     let Some(first) = line.next() else {
-        return put_pieces(writer, held, &[Piece::Text("nothing\n")]);
+        return write_all(writer, b"nothing\n");
     };
-    put_item(writer, held, "", &first)?;
-    put_items(writer, held, line)?;
-    put_pieces(writer, held, &[Piece::Text("\n")])
+    let mut held = Held::new();
+    put_item(writer, &mut held, "", &first)?;
+    put_items(writer, &mut held, line)?;
+    put_pieces(writer, &mut held, &[Piece::Text("\n")])?;
+    write_all(writer, held.as_slice())
 }
 
 /// Puts the items of a line, with a space before each.

@@ -1,3 +1,5 @@
+//! The pieces that a reply is put together of.
+
 /// A piece of a reply.
 #[derive(Clone, Copy)]
 pub(crate) enum Piece<'a> {

@@ -1,5 +1,5 @@
 //! Lines in, replies out.
-ghost use Rattle.std.specs.Prelude.{◌≡◌, ℕ, List, true, false, All, IfSome, IfNone, OnOk};
+ghost use Rattle.std.specs.Prelude.{◌≡◌, ℕ, List, true, false, All, IfSome, IfNone};
 ghost use Rattle.command_grammar.specs.Grammar.{Spells, SpellsNone};
 ghost use Rattle.watched.specs.Watched.{has_failed};
 ghost use Rattle.triangulate_run.specs.Line.{kept};
@@ -51,27 +51,13 @@ fn command_of(line: &LineBuffer) -> Option<Command>
     command_grammar::parse(line.bytes()?)
 }
 
-/// Answers a line.
-fn answer_line<E: Engine, W: Write>(
-    engine: &mut E,
-    line: &LineBuffer,
-    writer: &mut Watched<W>,
-) -> Result<(), Failed>
-    requires ready { E.is_ready engine.old }
-    requires fits { Fits (E.stage engine.old) }
+/// Writes the bytes, and has the writer pass them on.
+fn send<W: Write>(writer: &mut Watched<W>, bytes: &[u8]) -> Result<(), Failed>
     requires works { has_failed writer.old ≡ false }
-    ensures ready { E.is_ready engine.new }
-    ensures listed { E.listed engine.new ≡ E.listed engine.old }
-    ensures fits { Fits (E.stage engine.new) }
-    ensures answered { (whole : List ℕ) → line.now ≡ kept whole → (text : List ℕ)
-        × Answers (E.listed engine.old) (E.stage engine.old) whole text (E.stage engine.new)
-        × Writes W.contents writer.old writer.new result text }
-    ensures works { OnOk result (has_failed writer.new ≡ false) }
+    ensures { Writes W.contents writer.old writer.new result bytes.now }
 {
-    let Some(command) = command_of(line) else {
-        return write_all(writer, b"bad line\n");
-    };
-    engine.answer(command, writer)
+    write_all(writer, bytes)?;
+    writer.flush()
 }
 
 /// Answers a line, and has the writer pass the answer on.
@@ -90,7 +76,10 @@ fn answer<E: Engine, W: Write>(
         × Answers (E.listed engine.old) (E.stage engine.old) whole text (E.stage engine.new)
         × Writes W.contents writer.old writer.new result text }
 {
-    answer_line(engine, line, writer)?;
+    let Some(command) = command_of(line) else {
+        return send(writer, b"bad line\n");
+    };
+    engine.answer(command, writer)?;
     writer.flush()
 }
 
@@ -103,8 +92,7 @@ fn finish<W: Write>(line: &LineBuffer, writer: &mut Watched<W>) -> Result<(), Fa
     if line.is_empty() {
         return Ok(());
     }
-    write_all(writer, b"bad line\n")?;
-    writer.flush()
+    send(writer, b"bad line\n")
 }
 
 /// Has the engine answer each line of the reader to the writer, before more is read.
