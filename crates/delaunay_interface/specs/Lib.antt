@@ -16,3 +16,4 @@ pub use Rattle.delaunay_edit.specs.Writing
 pub mod ConstraintEdges
 pub mod Views
 pub mod InnerFaces
+pub mod Sites

@@ -4,6 +4,7 @@ ghost use Rattle.plane.specs.Tests.{InRange};
 ghost use Rattle.delaunay_legalization.specs.Flips.{CountsFlips, FlipsFit};
 ghost use Rattle.delaunay_edit.specs.Edits.{InsertsVertex};
 ghost use Rattle.delaunay_edit.specs.Headline.{AreSites, IsDelaunay};
+ghost use Rattle.delaunay_interface.specs.Sites.{AreSitesWith};
 
 use crate::telling::tell_if_appended;
 use crate::triangulation_core::TriangulationCore;
@@ -29,8 +30,7 @@ impl<
         value: &V,
         tests: &P,
     ) -> FixedVertexHandle
-        requires sites { AreSites V.place (P.sites tests.now) self.now.vertices }
-        requires new_site { InRange (V.place value.now) → P.sites tests.now (V.place value.now) }
+        requires sites { AreSitesWith V.place (P.sites tests.now) self.now.vertices value.now }
     {
         self.edited.recall_invariant();
         if validate_vertex(value).is_err() {
@@ -79,8 +79,7 @@ impl<
         tests: &P,
         flips: &mut u64,
     ) -> Result<FixedVertexHandle, InsertionError>
-        requires sites { AreSites V.place (P.sites tests.now) self.old.vertices }
-        requires new_site { InRange (V.place value) → P.sites tests.now (V.place value) }
+        requires sites { AreSitesWith V.place (P.sites tests.now) self.old.vertices value }
         requires fits { FlipsFit (length self.old.vertices + 1) flips.old }
         ensures inserts { InsertsVertex V.place M.constraints value result self.old self.new }
         ensures headline { IsDelaunay V.place M.constraints self.new }
@@ -103,8 +102,7 @@ impl<
         hint: FixedVertexHandle,
         tests: &P,
     ) -> Result<FixedVertexHandle, InsertionError>
-        requires sites { AreSites V.place (P.sites tests.now) self.old.vertices }
-        requires new_site { InRange (V.place value) → P.sites tests.now (V.place value) }
+        requires sites { AreSitesWith V.place (P.sites tests.now) self.old.vertices value }
         ensures inserts { InsertsVertex V.place M.constraints value result self.old self.new }
         ensures headline { IsDelaunay V.place M.constraints self.new }
     {

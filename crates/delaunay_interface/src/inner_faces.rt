@@ -5,7 +5,7 @@ ghost use Rattle.std.specs.Prelude.{◌≡◌, ◌<◌, ◌≤◌, ⊤, All, IfS
 ghost use Rattle.std.specs.List.{range_with_len};
 ghost use Rattle.std.specs.Iterator.{YieldsFirstBy, YieldsLastBy, item_count};
 
-use half_edge_mesh::{Dcel, FaceHandle, FixedFaceIterator};
+use half_edge_mesh::{Dcel, FaceHandle, FixedFaceIterator, MeshViews};
 use std::alloc::AllocError;
 use std::iter::FusedIterator;
 
@@ -65,10 +65,7 @@ impl<'a, V, DE, UE, F> Iterator for InnerFaceIterator<'a, V, DE, UE, F> {
 
     fn next(&mut self) -> Option<FaceHandle<'a, V, DE, UE, F>> {
         let face = self.rest.next()?;
-        Some(FaceHandle {
-            dcel: self.dcel,
-            index: face.index(),
-        })
+        Some(self.dcel.face(face))
     }
 
     fn size_hint(&self) -> (usize, Option<usize>) {
@@ -84,10 +81,7 @@ impl<'a, V, DE, UE, F> DoubleEndedIterator for InnerFaceIterator<'a, V, DE, UE, 
 
     fn next_back(&mut self) -> Option<FaceHandle<'a, V, DE, UE, F>> {
         let face = self.rest.next_back()?;
-        Some(FaceHandle {
-            dcel: self.dcel,
-            index: face.index(),
-        })
+        Some(self.dcel.face(face))
     }
 }
 

@@ -11,6 +11,7 @@ mod edits;
 mod inner_faces;
 mod lookups;
 mod nearest_vertex;
+mod parts;
 mod segments;
 mod shared_calls;
 mod telling;
@@ -24,6 +25,11 @@ pub use delaunay_lines::{
 };
 pub use delaunay_location::PositionInTriangulation;
 pub use inner_faces::InnerFaceIterator;
+pub use parts::{
+    DirectedEdgesOf, DirectedOf, DirectedVoronoiEdgesOf, FaceOf, FacesOf, HullOf, InnerFacesOf,
+    UndirectedEdgesOf, UndirectedOf, UndirectedVoronoiEdgesOf, VertexOf, VerticesOf,
+    VoronoiFacesOf,
+};
 pub use triangulation::Triangulation;
 pub use triangulation_core::{
     ConstrainedDelaunayTriangulation, DelaunayTriangulation, TriangulationCore,

@@ -29,17 +29,20 @@ ghost use Rattle.delaunay_interface.specs.Views.{IsEdgeBetween, IsElement, corne
 
 use crate::inner_faces::InnerFaceIterator;
 use crate::lookups::vertex_near;
+use crate::parts::{
+    DirectedEdgesOf, DirectedVoronoiEdgesOf, FacesOf, HullOf, InnerFacesOf, UndirectedEdgesOf,
+    UndirectedVoronoiEdgesOf, VerticesOf, VoronoiFacesOf,
+};
 use delaunay_core::HintGenerator;
 use delaunay_core::math::{InsertionError, PlaneTests};
 use delaunay_core::point::{HasPosition, Point2};
 use delaunay_edit::EdgeData;
 use delaunay_location::{PositionInTriangulation, locate_with_hint};
 use half_edge_mesh::{
-    Dcel, DirectedEdgeHandle, DirectedEdgeIterator, DirectedVoronoiEdgeIterator, FaceHandle,
-    FaceIterator, FixedDirectedEdgeHandle, FixedDirectedEdgeIterator, FixedFaceHandle,
-    FixedFaceIterator, FixedUndirectedEdgeHandle, FixedUndirectedEdgeIterator, FixedVertexHandle,
-    FixedVertexIterator, HullIterator, MeshViews, UndirectedEdgeHandle, UndirectedEdgeIterator,
-    UndirectedVoronoiEdgeIterator, VertexHandle, VertexIterator, VoronoiFaceIterator, VoronoiViews,
+    Dcel, DirectedEdgeHandle, FaceHandle, FixedDirectedEdgeHandle, FixedDirectedEdgeIterator,
+    FixedFaceHandle, FixedFaceIterator, FixedUndirectedEdgeHandle, FixedUndirectedEdgeIterator,
+    FixedVertexHandle, FixedVertexIterator, MeshViews, UndirectedEdgeHandle, VertexHandle,
+    VoronoiViews,
 };
 use std::alloc::{AllocError, Global};
 
@@ -471,9 +474,7 @@ pub trait Triangulation: Drop + sealed::Sealed {
     }
 
     /// The vertices, by rising index.
-    final fn vertices(
-        &self,
-    ) -> VertexIterator<'_, Self::Vertex, Self::DirectedEdge, Self::UndirectedEdge, Self::Face>
+    final fn vertices(&self) -> VerticesOf<'_, Self>
         ensures { GivesElements (state self.now) 0 (length (state self.now).vertices)
             (vertices_left result) }
     {
@@ -481,15 +482,7 @@ pub trait Triangulation: Drop + sealed::Sealed {
     }
 
     /// The directed edges, by rising index.
-    final fn directed_edges(
-        &self,
-    ) -> DirectedEdgeIterator<
-        '_,
-        Self::Vertex,
-        Self::DirectedEdge,
-        Self::UndirectedEdge,
-        Self::Face,
-    >
+    final fn directed_edges(&self) -> DirectedEdgesOf<'_, Self>
         ensures { GivesElements (state self.now) 0 (length (state self.now).directed)
             (directed_edges_left result) }
     {
@@ -497,15 +490,7 @@ pub trait Triangulation: Drop + sealed::Sealed {
     }
 
     /// The undirected edges, by rising index.
-    final fn undirected_edges(
-        &self,
-    ) -> UndirectedEdgeIterator<
-        '_,
-        Self::Vertex,
-        Self::DirectedEdge,
-        Self::UndirectedEdge,
-        Self::Face,
-    >
+    final fn undirected_edges(&self) -> UndirectedEdgesOf<'_, Self>
         ensures { GivesElements (state self.now) 0 (length (state self.now).undirected)
             (undirected_edges_left result) }
     {
@@ -513,9 +498,7 @@ pub trait Triangulation: Drop + sealed::Sealed {
     }
 
     /// The faces, by rising index, the outer one first.
-    final fn all_faces(
-        &self,
-    ) -> FaceIterator<'_, Self::Vertex, Self::DirectedEdge, Self::UndirectedEdge, Self::Face>
+    final fn all_faces(&self) -> FacesOf<'_, Self>
         ensures { GivesElements (state self.now) 0 (length (state self.now).faces + 1)
             (faces_left result) }
     {
@@ -530,9 +513,7 @@ pub trait Triangulation: Drop + sealed::Sealed {
     ///     let [first, second, third] = face.vertices();
     /// }
     /// ```
-    final fn inner_faces(
-        &self,
-    ) -> InnerFaceIterator<'_, Self::Vertex, Self::DirectedEdge, Self::UndirectedEdge, Self::Face>
+    final fn inner_faces(&self) -> InnerFacesOf<'_, Self>
         ensures { GivesElements (state self.now) 1 (length (state self.now).faces)
             (inner_faces_left result) }
     {
@@ -582,9 +563,7 @@ pub trait Triangulation: Drop + sealed::Sealed {
     ///     println!(rt; "{} to {}", edge.from().fix().index(), edge.to().fix().index())?;
     /// }
     /// ```
-    final fn convex_hull(
-        &self,
-    ) -> HullIterator<'_, Self::Vertex, Self::DirectedEdge, Self::UndirectedEdge, Self::Face>
+    final fn convex_hull(&self) -> HullOf<'_, Self>
         ensures { GivesOutline Self.Vertex.place (state self.now) (hull_left result) }
     {
         self.recall_invariant();
@@ -598,9 +577,7 @@ pub trait Triangulation: Drop + sealed::Sealed {
     ///     let sides = face.adjacent_edges().count();
     /// }
     /// ```
-    final fn voronoi_faces(
-        &self,
-    ) -> VoronoiFaceIterator<'_, Self::Vertex, Self::DirectedEdge, Self::UndirectedEdge, Self::Face>
+    final fn voronoi_faces(&self) -> VoronoiFacesOf<'_, Self>
         ensures { GivesElements (state self.now) 0 (length (state self.now).vertices)
             (vertices_left result.vertices) }
     {
@@ -609,15 +586,7 @@ pub trait Triangulation: Drop + sealed::Sealed {
 
     /// The directed edges of the Voronoi diagram, by rising index of the edges that they lie
     /// across.
-    final fn directed_voronoi_edges(
-        &self,
-    ) -> DirectedVoronoiEdgeIterator<
-        '_,
-        Self::Vertex,
-        Self::DirectedEdge,
-        Self::UndirectedEdge,
-        Self::Face,
-    >
+    final fn directed_voronoi_edges(&self) -> DirectedVoronoiEdgesOf<'_, Self>
         ensures { GivesElements (state self.now) 0 (length (state self.now).directed)
             (directed_edges_left result.edges) }
     {
@@ -626,15 +595,7 @@ pub trait Triangulation: Drop + sealed::Sealed {
 
     /// The undirected edges of the Voronoi diagram, by rising index of the edges that they lie
     /// across.
-    final fn undirected_voronoi_edges(
-        &self,
-    ) -> UndirectedVoronoiEdgeIterator<
-        '_,
-        Self::Vertex,
-        Self::DirectedEdge,
-        Self::UndirectedEdge,
-        Self::Face,
-    >
+    final fn undirected_voronoi_edges(&self) -> UndirectedVoronoiEdgesOf<'_, Self>
         ensures { GivesElements (state self.now) 0 (length (state self.now).undirected)
             (undirected_edges_left result.edges) }
     {
