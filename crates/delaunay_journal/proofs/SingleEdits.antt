@@ -19,8 +19,12 @@ use Rattle.delaunay_interface.specs.Constrained.{constrained, constraint_edges, 
 use Rattle.delaunay_interface.specs.ConstraintEdits.{AddsConstraint, FreesEdge}
 use Rattle.delaunay_interface.specs.Edits.{InsertsVertex, RemovesVertex}
 use Rattle.delaunay_interface.specs.Views.{AreNotJoined}
-use Rattle.delaunay_journal.specs.Journal.{JoinsPair, ReleasesPair}
-use Rattle.delaunay_journal.specs.Marking.{flag_marking}
+use Rattle.delaunay_journal.specs.declared.edit.Outcome.TheVariants.{Refused}
+use Rattle.delaunay_journal.specs.declared.edit.PairEdit.{PairEdit}
+use Rattle.delaunay_journal.specs.declared.edit.PairEdit.TheVariants.{Join, Release}
+use Rattle.delaunay_journal.specs.declared.edit.Refusal.TheVariants.{NoConstraints}
+use Rattle.delaunay_journal.specs.Journal.{Gives, JoinsPair, ReleasesPair, edit_of}
+use Rattle.delaunay_journal.specs.Marking.{flag_marking, no_marking}
 
 -- ---- a pair in either order
 same_either : (a b i j : ℕ) → IsSamePair a b i j → IsSamePair a b j i
@@ -52,6 +56,11 @@ module _ {V D U F : Type 0} (place : V → Point) (constraints : List U → List
   -- a refused insertion, in the state that it leaves
   pub refused_insertion : (old new : State V D U F) (v : V) (e : InsertionError) → InsertsVertex place constraints v (Err e) old new → InsertsVertex place constraints v (Err e) old old × (new ≡ old)
   refused_insertion old new v e done = (subst (λ (s : State V D U F). InsertsVertex place constraints v (Err e) old s) done.err done, done.err)
+
+  -- where no edge can be a constraint, an edit of a pair is refused
+  pub pair_refused : (s : State V D U F) (e : PairEdit) → Gives place constraints no_marking (edit_of e) (Refused NoConstraints) s s
+  pair_refused s (Join i j) = (refl, refl)
+  pair_refused s (Release i j) = (refl, refl)
 
   -- a removal, whatever its error is
   pub removed_so : {E G : Type 0} (old new : State V D U F) (i : ℕ) (v : V) → RemovesVertex place constraints {E = E} i (Ok v) old new → RemovesVertex place constraints {E = G} i (Ok v) old new

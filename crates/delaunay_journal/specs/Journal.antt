@@ -14,11 +14,18 @@ use Rattle.delaunay_journal.specs.declared.edit.Edit.{Edit}
 use Rattle.delaunay_journal.specs.declared.edit.Edit.TheVariants.{Insert, Remove, Replace, Clear, AddConstraint, ReleaseConstraint}
 use Rattle.delaunay_journal.specs.declared.edit.Outcome.{Outcome}
 use Rattle.delaunay_journal.specs.declared.edit.Outcome.TheVariants.{Inserted, Removed, Replaced, Cleared, Added, Released, Refused}
+use Rattle.delaunay_journal.specs.declared.edit.PairEdit.{PairEdit}
+use Rattle.delaunay_journal.specs.declared.edit.PairEdit.TheVariants.{Join, Release}
 use Rattle.delaunay_journal.specs.declared.edit.Refusal.{Refusal}
 use Rattle.delaunay_journal.specs.declared.edit.Refusal.TheVariants.{Insertion, NoVertex, OtherPosition, NoConstraints, Conflict, NotConstrained, OutOfMemory}
 use Rattle.delaunay_journal.specs.Marking.{Marking}
 
 module _ {V : Type 0} where
+  -- an edit of the constraints between two vertices, as an edit
+  abbrev pub edit_of : PairEdit → Edit V
+  edit_of (Join i j) = AddConstraint i j
+  edit_of (Release i j) = ReleaseConstraint i j
+
   -- the edit that was made, if one was
   abbrev pub edit_made : Edit V → Outcome V → List (PlainEdit V)
   edit_made e (Refused r) = []

@@ -21,6 +21,15 @@ pub enum Edit<V> {
     ReleaseConstraint(FixedVertexHandle, FixedVertexHandle),
 }
 
+/// An edit of the constraints between two vertices.
+#[derive(Debug, Drop)]
+pub enum PairEdit {
+    /// Joins them by constraints.
+    Join(FixedVertexHandle, FixedVertexHandle),
+    /// Takes from the edge between them that it is a constraint.
+    Release(FixedVertexHandle, FixedVertexHandle),
+}
+
 /// Why an edit was not made. It changed nothing then.
 #[derive(Clone, Copy, Debug, PartialEq, Eq, Drop)]
 pub enum Refusal {

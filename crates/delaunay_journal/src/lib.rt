@@ -6,6 +6,6 @@ mod replayable;
 mod replaying;
 mod steps;
 
-pub use edit::{Edit, Outcome, Refusal};
+pub use edit::{Edit, Outcome, PairEdit, Refusal};
 pub use replayable::Replayable;
 pub use replaying::replay;

@@ -1,17 +1,14 @@
 //! The types on which lists of edits are replayed, and the edits of their constraints.
 ghost use Rattle.std.specs.Prelude.{◌≡◌};
 ghost use Rattle.delaunay_interface.specs.Headline.{AreSites, IsDelaunay};
-ghost use Rattle.delaunay_journal.specs.declared.edit.Edit.TheVariants.{AddConstraint};
-ghost use Rattle.delaunay_journal.specs.declared.edit.Edit.TheVariants.{ReleaseConstraint};
-ghost use Rattle.delaunay_journal.specs.Journal.{Gives};
+ghost use Rattle.delaunay_journal.specs.Journal.{Gives, edit_of};
 ghost use Rattle.delaunay_journal.specs.Marking.{Marking, flag_marking, no_marking};
 
-use crate::edit::{Outcome, Refusal};
+use crate::edit::{Outcome, PairEdit, Refusal};
 use delaunay_core::HintGenerator;
 use delaunay_core::math::PlaneTests;
 use delaunay_core::point::HasPosition;
 use delaunay_interface::{ConstrainedDelaunayTriangulation, DelaunayTriangulation, Triangulation};
-use half_edge_mesh::FixedVertexHandle;
 
 /// A triangulation on which lists of edits are replayed: a `DelaunayTriangulation`, which refuses
 /// the edits of constraints, or a `ConstrainedDelaunayTriangulation`.
@@ -19,33 +16,17 @@ pub trait Replayable: Triangulation {
     // How edges become constraints, where they can.
     ghost marking: { Marking Self.UndirectedEdge };
 
-    /// The edit `AddConstraint`: joins two vertices by constraints, or changes nothing.
-    fn join_pair<P: PlaneTests<<Self::Vertex as HasPosition>::Scalar>>(
+    /// The edit `AddConstraint` or `ReleaseConstraint`: joins two vertices by constraints, or takes
+    /// from the edge between them that it is a constraint, or changes nothing.
+    fn change_pair<P: PlaneTests<<Self::Vertex as HasPosition>::Scalar>>(
         &mut self,
-        from: FixedVertexHandle,
-        to: FixedVertexHandle,
+        edit: PairEdit,
         tests: &P,
     ) -> Outcome<Self::Vertex>
         requires sites { AreSites Self.Vertex.place (P.sites tests.now)
             (Self.state self.old).vertices }
         ensures gives { Gives Self.Vertex.place Self.Constraints.constraints marking
-            (AddConstraint from to) result (Self.state self.old) (Self.state self.new) }
-        ensures vertices { (Self.state self.new).vertices ≡ (Self.state self.old).vertices }
-        ensures headline { IsDelaunay Self.Vertex.place Self.Constraints.constraints
-            (Self.state self.new) };
-
-    /// The edit `ReleaseConstraint`: takes from the edge between two vertices that it is a
-    /// constraint, or changes nothing.
-    fn release_pair<P: PlaneTests<<Self::Vertex as HasPosition>::Scalar>>(
-        &mut self,
-        from: FixedVertexHandle,
-        to: FixedVertexHandle,
-        tests: &P,
-    ) -> Outcome<Self::Vertex>
-        requires sites { AreSites Self.Vertex.place (P.sites tests.now)
-            (Self.state self.old).vertices }
-        ensures gives { Gives Self.Vertex.place Self.Constraints.constraints marking
-            (ReleaseConstraint from to) result (Self.state self.old) (Self.state self.new) }
+            (edit_of edit) result (Self.state self.old) (Self.state self.new) }
         ensures vertices { (Self.state self.new).vertices ≡ (Self.state self.old).vertices }
         ensures headline { IsDelaunay Self.Vertex.place Self.Constraints.constraints
             (Self.state self.new) };
@@ -60,22 +41,7 @@ impl<
 > Replayable for DelaunayTriangulation<V, DE, UE, F, L> {
     ghost marking = { no_marking };
 
-    fn join_pair<P: PlaneTests<V::Scalar>>(
-        &mut self,
-        _from: FixedVertexHandle,
-        _to: FixedVertexHandle,
-        _tests: &P,
-    ) -> Outcome<V> {
-        self.recall_invariant();
-        Outcome::Refused(Refusal::NoConstraints)
-    }
-
-    fn release_pair<P: PlaneTests<V::Scalar>>(
-        &mut self,
-        _from: FixedVertexHandle,
-        _to: FixedVertexHandle,
-        _tests: &P,
-    ) -> Outcome<V> {
+    fn change_pair<P: PlaneTests<V::Scalar>>(&mut self, _edit: PairEdit, _tests: &P) -> Outcome<V> {
         self.recall_invariant();
         Outcome::Refused(Refusal::NoConstraints)
     }
@@ -90,48 +56,38 @@ impl<
 > Replayable for ConstrainedDelaunayTriangulation<V, DE, UE, F, L> {
     ghost marking = { flag_marking };
 
-    fn join_pair<P: PlaneTests<V::Scalar>>(
-        &mut self,
-        from: FixedVertexHandle,
-        to: FixedVertexHandle,
-        tests: &P,
-    ) -> Outcome<V> {
+    fn change_pair<P: PlaneTests<V::Scalar>>(&mut self, edit: PairEdit, tests: &P) -> Outcome<V> {
         self.recall_invariant();
-        if from.index() as usize >= self.num_vertices() {
-            return Outcome::Refused(Refusal::NoVertex);
-        }
-        if to.index() as usize >= self.num_vertices() {
-            return Outcome::Refused(Refusal::NoVertex);
-        }
-        if !self.can_add_constraint(from, to, tests) {
-            return Outcome::Refused(Refusal::Conflict);
-        }
-        match self.add_constraint(from, to, tests) {
-            Ok(made) => Outcome::Added(made),
-            Err(_) => Outcome::Refused(Refusal::OutOfMemory),
-        }
-    }
-
-    fn release_pair<P: PlaneTests<V::Scalar>>(
-        &mut self,
-        from: FixedVertexHandle,
-        to: FixedVertexHandle,
-        tests: &P,
-    ) -> Outcome<V> {
-        self.recall_invariant();
-        if from.index() as usize >= self.num_vertices() {
-            return Outcome::Refused(Refusal::NotConstrained);
-        }
-        let Some(edge) = self.get_edge_from_neighbors(from, to) else {
-            return Outcome::Refused(Refusal::NotConstrained);
-        };
-        let edge = edge.as_undirected().fix();
-        if !self.is_constraint_edge(edge) {
-            return Outcome::Refused(Refusal::NotConstrained);
-        }
-        match self.remove_constraint_edge(edge, tests) {
-            Ok(_) => Outcome::Released,
-            Err(_) => Outcome::Refused(Refusal::OutOfMemory),
+        let count = self.num_vertices();
+        match edit {
+            PairEdit::Join(from, to) => {
+                if from.index() as usize >= count || to.index() as usize >= count {
+                    return Outcome::Refused(Refusal::NoVertex);
+                }
+                if !self.can_add_constraint(from, to, tests) {
+                    return Outcome::Refused(Refusal::Conflict);
+                }
+                match self.add_constraint(from, to, tests) {
+                    Ok(made) => Outcome::Added(made),
+                    Err(_) => Outcome::Refused(Refusal::OutOfMemory),
+                }
+            }
+            PairEdit::Release(from, to) => {
+                if from.index() as usize >= count {
+                    return Outcome::Refused(Refusal::NotConstrained);
+                }
+                let Some(edge) = self.get_edge_from_neighbors(from, to) else {
+                    return Outcome::Refused(Refusal::NotConstrained);
+                };
+                let edge = edge.as_undirected().fix();
+                if !self.is_constraint_edge(edge) {
+                    return Outcome::Refused(Refusal::NotConstrained);
+                }
+                match self.remove_constraint_edge(edge, tests) {
+                    Ok(_) => Outcome::Released,
+                    Err(_) => Outcome::Refused(Refusal::OutOfMemory),
+                }
+            }
         }
     }
 }

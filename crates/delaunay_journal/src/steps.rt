@@ -6,7 +6,7 @@ ghost use Rattle.delaunay_interface.specs.Headline.{AreSites, IsDelaunay};
 ghost use Rattle.delaunay_journal.specs.declared.edit.Edit.TheVariants.{Insert, Remove, Replace};
 ghost use Rattle.delaunay_journal.specs.Journal.{Gives};
 
-use crate::edit::{Edit, Outcome, Refusal};
+use crate::edit::{Edit, Outcome, PairEdit, Refusal};
 use crate::replayable::Replayable;
 use delaunay_core::math::PlaneTests;
 use delaunay_core::point::{HasPosition, Point2, SpadeNum};
@@ -104,7 +104,7 @@ pub(crate) fn make<T: Replayable, P: PlaneTests<<T::Vertex as HasPosition>::Scal
             points.clear();
             Outcome::Cleared
         }
-        Edit::AddConstraint(from, to) => points.join_pair(from, to, tests),
-        Edit::ReleaseConstraint(from, to) => points.release_pair(from, to, tests),
+        Edit::AddConstraint(from, to) => points.change_pair(PairEdit::Join(from, to), tests),
+        Edit::ReleaseConstraint(from, to) => points.change_pair(PairEdit::Release(from, to), tests),
     }
 }
