@@ -10,7 +10,7 @@ ghost use Rattle.plane.specs.Shape.{InClosedCircle, InClosedRectangle};
 use delaunay_core::HintGenerator;
 use delaunay_core::math::PlaneTests;
 use delaunay_core::point::{HasPosition, Point2};
-use delaunay_interface::Triangulation;
+use delaunay_interface::{DirectedOf, FaceOf, Triangulation, UndirectedOf, VertexOf};
 use delaunay_shapes::{
     CircleMetric, EdgesInShapeIterator, RectangleMetric, VerticesInShapeIterator, edges_in_shape,
     vertices_in_shape,
@@ -18,7 +18,7 @@ use delaunay_shapes::{
 use std::alloc::{AllocError, Global};
 
 /// The scalars of a triangulation's positions.
-pub type ScalarOf<T> = <<T as Triangulation>::Vertex as HasPosition>::Scalar;
+pub type ScalarOf<T> = <VertexOf<T> as HasPosition>::Scalar;
 
 /// Positions in a triangulation.
 pub type PointOf<T> = Point2<ScalarOf<T>>;
@@ -26,19 +26,19 @@ pub type PointOf<T> = Point2<ScalarOf<T>>;
 /// The edges of a triangulation in a shape.
 pub type EdgesIn<'a, T> = EdgesInShapeIterator<
     'a,
-    <T as Triangulation>::Vertex,
-    <T as Triangulation>::DirectedEdge,
-    <T as Triangulation>::UndirectedEdge,
-    <T as Triangulation>::Face,
+    VertexOf<T>,
+    DirectedOf<T>,
+    UndirectedOf<T>,
+    FaceOf<T>,
 >;
 
 /// The vertices of a triangulation in a shape.
 pub type VerticesIn<'a, T> = VerticesInShapeIterator<
     'a,
-    <T as Triangulation>::Vertex,
-    <T as Triangulation>::DirectedEdge,
-    <T as Triangulation>::UndirectedEdge,
-    <T as Triangulation>::Face,
+    VertexOf<T>,
+    DirectedOf<T>,
+    UndirectedOf<T>,
+    FaceOf<T>,
 >;
 
 /// Edges and vertices in closed rectangles and circles: of both triangulations.
