@@ -31,7 +31,7 @@ use Rattle.delaunay_legalization.proofs.ConstraintEdges.{constraints_are_edges}
 use Rattle.delaunay_legalization.proofs.MarkedPairs.{pairs_stay, marking_joins}
 use Rattle.delaunay_paths.specs.Adding.{NoneCrosses, CanAddPath, MarksBetween, MarksSome, AddsPath}
 use Rattle.delaunay_paths.specs.Kept.{KeepsUncrossed}
-use Rattle.delaunay_paths.specs.Leaving.{IsWorkList, LeavesToTest, MakesEdge}
+use Rattle.delaunay_paths.specs.Leaving.{IsWorkList, LeavesFailing, LeavesToTest, MakesEdge}
 use Rattle.delaunay_paths.proofs.Marks.{marks_none, marks_one, marks_more}
 use Rattle.delaunay_paths.proofs.Walking.{in_map, of_map, placed_apart}
 
@@ -73,7 +73,7 @@ pub record LeavesPiece {V D U F : Type 0} (points : List Point) (marks : U → B
   pub mesh : IsMeshWithData new
   pub shape : IsMesh points (faces_of new.mesh) (outer_of new.mesh)
   pub edges : AreEdges new.mesh left
-  pub leaves : (pairs : List (ℕ × ℕ)) → AllPassBut points (faces_of old.mesh) pairs (pairs_at old.mesh was) → AllPassBut points (faces_of new.mesh) pairs (pairs_at new.mesh left)
+  pub leaves : LeavesFailing points old.mesh new.mesh was left
 
 module _ {U : Type 0} (marks : U → Bool) (constraints : List U → List ℕ) (marked : (ds : List U) → constraints ds ≡ marked_edges marks ds) where
   module _ {V D F : Type 0} (at : V → Point) (old mid new : Contents V D U F) (i j e k : ℕ) (flipped : mid ≡ record old { mesh = mid.mesh }) (change : U → U) (written : HasEdgeData change mid new k) where
@@ -245,7 +245,7 @@ module _ {U : Type 0} (marks : U → Bool) (constraints : List U → List ℕ) (
 
 -- ---- what is left to test
 -- marking changes no face
-pub piece_leaves : {V D U F : Type 0} (points : List Point) (marks : U → Bool) (marked_as : U → U) (constraints : List U → List ℕ) (old mid new : Contents V D U F) (i j : ℕ) (was left : List ℕ) → MakesEdge points old mid i j was left → new.mesh ≡ mid.mesh
+piece_leaves : {V D U F : Type 0} (points : List Point) (marks : U → Bool) (marked_as : U → U) (constraints : List U → List ℕ) (old mid new : Contents V D U F) (i j : ℕ) (was left : List ℕ) → MakesEdge points old mid i j was left → new.mesh ≡ mid.mesh
     → AddsPiece marks marked_as constraints old new i j → IsMeshWithData new → LeavesPiece points marks marked_as constraints old new i j was left
 piece_leaves points marks marked_as constraints old mid new i j was left makes same adds mesh = record {
   adds = adds;

@@ -1,6 +1,7 @@
 -- What a path leaves to the circle test.
 use Rattle.std.specs.Prelude.{◌≡◌, ℕ, ◌<◌, ◌≤◌, List, [], length}
 use Rattle.half_edge_mesh.specs.Contents.{Contents}
+use Rattle.half_edge_mesh.specs.Mesh.{Mesh}
 use Rattle.plane.specs.Crossing.{Cross}
 use Rattle.plane.specs.Fraction.{Point}
 use Rattle.plane.specs.Pairs.{place, Joins}
@@ -32,6 +33,11 @@ pub record TurnsTowards {V D U F : Type 0} (points : List Point) (old new : Cont
   pub edges : AreEdges new.mesh left
   pub leaves : (constraints : List (ℕ × ℕ)) → AllPassBeyond points (faces_of old.mesh) constraints (pairs_at old.mesh was) i j → AllPassBeyond points (faces_of new.mesh) constraints (pairs_at new.mesh left) i j
 
+-- each edge between two faces that may fail is left to test, whatever the constraints are
+abbrev pub LeavesFailing : List Point → (old new : Mesh) → (was left : List ℕ) → Type 0
+LeavesFailing points old new was left = (constraints : List (ℕ × ℕ)) → AllPassBut points (faces_of old) constraints (pairs_at old was)
+    → AllPassBut points (faces_of new) constraints (pairs_at new left)
+
 -- the segment from i to j is made an edge, and each edge that may fail is left to test, whatever the constraints are
 pub record MakesEdge {V D U F : Type 0} (points : List Point) (old new : Contents V D U F) (i j : ℕ) (was left : List ℕ) : Type 0 where
   pub contents : new ≡ record old { mesh = new.mesh }
@@ -39,7 +45,7 @@ pub record MakesEdge {V D U F : Type 0} (points : List Point) (old new : Content
   pub edge : IsEdge (drawn points new.mesh) i j
   pub kept : KeepsUncrossed points old.mesh new.mesh i j
   pub edges : AreEdges new.mesh left
-  pub leaves : (constraints : List (ℕ × ℕ)) → AllPassBut points (faces_of old.mesh) constraints (pairs_at old.mesh was) → AllPassBut points (faces_of new.mesh) constraints (pairs_at new.mesh left)
+  pub leaves : LeavesFailing points old.mesh new.mesh was left
 
 -- where all passed before, only these edges are left to test
 pub record LeavesToTest {V D U F : Type 0} (points : List Point) (old new : Contents V D U F) (left : List ℕ) : Type 0 where
