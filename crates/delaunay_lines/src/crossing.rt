@@ -74,6 +74,7 @@ impl<'a, V: HasPosition, DE, UE, F, P: PlaneTests<V::Scalar>> Segment<'a, V, DE,
         if self.way_along(edge).has_within(self.to) {
             return None;
         }
-        Some(self.start_item(twin_of(self.dcel, edge)))
+        let twin = twin_of(self.dcel, edge);
+        Some(self.start_item(twin))
     }
 }

@@ -35,7 +35,7 @@ returns g c =
     let m = now.mesh in
     let at = place_of g.V.Scalar.SpadeNum.whole in
     let edge = c.args.edge in
-    let twin = c.twin_of.ensures.value in
+    let twin = c.twin_of-twin.ensures.value in
     let is = same_within _ _ (at c.args.self.now.to) (point_at points (origin m edge)) (point_at points (origin m (rev edge)))
     (IsTrue c.has_within.result) c.way_along.ensures.from c.way_along.ensures.to c.has_within.ensures in
     subst (λ (i : FixedIntersection). IsHandleOf now i × ComesNext (drawn points m) (whole (at c.args.self.now.from))
