@@ -6,17 +6,13 @@ use crate::lasts::print_three;
 use spade_delaunay::handles::FixedVertexHandle;
 use spade_delaunay::{Point2, SpadeNum, Triangulation};
 use std::io;
+use test_points::element_counts;
 
 fn print_counts<T: Triangulation>(rt: &HostRuntime, points: &T) -> io::Result<()> {
+    let [vertices, edges, directed, inner, faces, hull] = element_counts(points);
     println!(rt;
-        "{} vertices, {} edges, {} directed, {} inner faces, {} faces, {} on the hull, \
-         on a line: {}",
-        points.num_vertices(),
-        points.num_undirected_edges(),
-        points.num_directed_edges(),
-        points.num_inner_faces(),
-        points.num_all_faces(),
-        points.convex_hull_size(),
+        "{vertices} vertices, {edges} edges, {directed} directed, {inner} inner faces, \
+         {faces} faces, {hull} on the hull, on a line: {}",
         points.all_vertices_on_line()
     )
 }

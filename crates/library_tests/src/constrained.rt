@@ -1,15 +1,15 @@
 //! What a triangulation that may have constraints holds.
 
-use crate::elements::counts;
 use crate::points::ConstrainedPoints;
 use crate::tagged_vertex::TaggedVertex;
 use spade_delaunay::Triangulation;
 use spade_delaunay::handles::{FixedUndirectedEdgeHandle, FixedVertexHandle};
+use test_points::element_counts;
 
 /// How many vertices, undirected edges, directed edges, inner faces, faces, directed edges beside
 /// the outer face and constraints there are.
 pub fn all_counts(points: &ConstrainedPoints) -> [usize; 7] {
-    let [vertices, edges, directed, inner, faces, hull] = counts(points);
+    let [vertices, edges, directed, inner, faces, hull] = element_counts(points);
     [
         vertices,
         edges,

@@ -1,42 +1,15 @@
-//! What a triangulation holds, by indexes: counts, vertices, edges and faces, each with its data.
+//! What a triangulation holds, by indexes: vertices, edges and faces, each with its data.
 ghost use Rattle.std.specs.Prelude.{◌<◌};
 
 use crate::tagged_vertex::TaggedVertex;
 use spade_delaunay::Triangulation;
 use spade_delaunay::handles::{DirectedEdgeHandle, FaceHandle, VertexHandle};
 use std::io;
-
-/// How many vertices, undirected edges, directed edges, inner faces and faces there are, and how
-/// many directed edges have the outer face on their left.
-pub fn counts<T: Triangulation>(points: &T) -> [usize; 6] {
-    [
-        points.num_vertices(),
-        points.num_undirected_edges(),
-        points.num_directed_edges(),
-        points.num_inner_faces(),
-        points.num_all_faces(),
-        points.convex_hull_size(),
-    ]
-}
+use test_points::corners_of;
 
 /// The ends of an edge by their indexes, in its direction.
 pub fn ends_of<V, DE, UE, F>(edge: &DirectedEdgeHandle<'_, V, DE, UE, F>) -> (u32, u32) {
     (edge.from().index, edge.to().index)
-}
-
-/// The corners of an inner face by their indexes, the least first.
-pub fn corners_of<V, DE, UE, F>(face: &FaceHandle<'_, V, DE, UE, F>) -> [u32; 3]
-    requires { 0 < face.now.index }
-{
-    let [a, b, c] = face.vertices();
-    let (a, b, c) = (a.index, b.index, c.index);
-    if a < b && a < c {
-        [a, b, c]
-    } else if b < c {
-        [b, c, a]
-    } else {
-        [c, a, b]
-    }
 }
 
 /// Prints each vertex with its position, its number and the edge that it names.
@@ -101,6 +74,6 @@ pub fn print_faces<T: Triangulation<Face = u32>>(rt: &impl Print, points: &T) ->
 fn print_face<V, DE, UE>(rt: &impl Print, face: &FaceHandle<'_, V, DE, UE, u32>) -> io::Result<()>
     requires { 0 < face.now.index }
 {
-    let corners = corners_of(face);
+    let corners = corners_of(*face);
     println!(rt; "face {} {corners:?} {}", face.index, *face.data())
 }

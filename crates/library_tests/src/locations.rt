@@ -1,11 +1,12 @@
 //! Where a point of the rows is, at each kind of answer, and which vertex is nearest to it.
 
-use crate::elements::{corners_of, ends_of};
+use crate::elements::ends_of;
 use crate::points::{Points, Refusal, is_elsewhere};
 use crate::tagged_vertex::TaggedVertex;
 use exact_tests::ExactTests;
 use spade_delaunay::handles::FixedVertexHandle;
 use spade_delaunay::{Point2, PositionInTriangulation, Triangulation, validate_vertex};
+use test_points::corners_of;
 
 /// A location by the indexes of vertices, an edge and a face from their least index on.
 #[derive(Clone, Copy, Debug, PartialEq, Eq)]
@@ -32,7 +33,7 @@ pub fn place_at<T: Triangulation<Vertex = TaggedVertex>>(
             let (a, b) = ends_of(&points.directed_edge(edge));
             Place::Edge(a.min(b), a.max(b))
         }
-        PositionInTriangulation::OnFace(face) => Place::Face(corners_of(&points.face(face))),
+        PositionInTriangulation::OnFace(face) => Place::Face(corners_of(points.face(face))),
         PositionInTriangulation::OutsideOfConvexHull(edge) => {
             let (a, b) = ends_of(&points.directed_edge(edge));
             Place::Outside(a, b)

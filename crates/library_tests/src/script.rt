@@ -2,7 +2,7 @@
 
 use crate::constrained::{all_counts, is_constraint, listed, position_at};
 use crate::constraint_edges::{made_and_unmade, markers, order, written};
-use crate::elements::{counts, print_edges, print_faces, print_vertices};
+use crate::elements::{print_edges, print_faces, print_vertices};
 use crate::hints;
 use crate::locations::{locate, locate_vertex, nearest, place_at};
 use crate::points::{
@@ -15,6 +15,7 @@ use delaunay_core::LastUsedVertexHintGenerator;
 use spade_delaunay::{InsertionError, Point2};
 use std::alloc::Global;
 use std::{io, mem};
+use test_points::element_counts;
 use test_script::{Call, index};
 
 fn tag(number: i64) -> u64 {
@@ -80,7 +81,7 @@ pub fn answer(
         "locate_and_remove" => call.tell(rt, &remove_at(points, point)),
         "clear" => {
             clear(points);
-            call.tell(rt, &counts(points))
+            call.tell(rt, &element_counts(points))
         }
         "from_delaunay" => call.tell(rt, &session.add_constraints(rt.alloc())),
         "insert_out_of_range" => call.tell(rt, &far_insertion(rt.alloc())),
@@ -94,7 +95,7 @@ fn read(rt: &(impl Print + AllocGlobal), session: &mut Session, call: &Call<'_>)
     let point = Point2::new(x, y);
     let points = &session.points;
     match call.name {
-        "counts" => call.tell(rt, &counts(points)),
+        "counts" => call.tell(rt, &element_counts(points)),
         "locate" => call.tell(rt, &place_at(points, point)),
         "nearest_neighbor" => call.tell(rt, &nearest(points, point)),
         "triples" => call.tell(rt, &counts_of_triples(rt.alloc(), points)),

@@ -41,6 +41,19 @@ pub fn counts<T: Triangulation>(points: &T) -> [usize; 3] {
     ]
 }
 
+/// How many vertices, undirected edges, directed edges, inner faces and faces there are, and how
+/// many directed edges have the outer face on their left.
+pub fn element_counts<T: Triangulation>(points: &T) -> [usize; 6] {
+    [
+        points.num_vertices(),
+        points.num_undirected_edges(),
+        points.num_directed_edges(),
+        points.num_inner_faces(),
+        points.num_all_faces(),
+        points.convex_hull_size(),
+    ]
+}
+
 /// The corners of an inner face by their indexes, the least first.
 pub fn corners_of<V, DE, UE, F>(face: FaceHandle<'_, V, DE, UE, F>) -> [u32; 3]
     requires { 0 < face.index }
