@@ -38,7 +38,7 @@ abbrev pub most_elements : ℕ
 most_elements = 4294967295
 
 -- one more vertex would need indexes that the mesh doesn't have
-abbrev pub IsFull : Stage → Type 0
+abbrev IsFull : Stage → Type 0
 IsFull s = most_elements < 6 * (length s.plain.vertices + 1)
 
 -- p is a new site, and takes the next index
@@ -70,7 +70,7 @@ pub record RemovesVertex (old : Stage) (i : ℕ) (p : Point2 ℤ) (new : Stage) 
   pub removed : Removes position old.plain new.plain i
 
 -- there is a vertex with index i
-abbrev pub HasVertex : Stage → ℕ → Type 0
+abbrev HasVertex : Stage → ℕ → Type 0
 HasVertex s i = i < length s.plain.vertices
 
 -- what a removal of vertex i may be answered, and what it leaves: it gone, or the old stage and why
@@ -148,7 +148,7 @@ abbrev pub AreVertices : Stage → ℕ → ℕ → Type 0
 AreVertices s i j = HasVertex s i × HasVertex s j
 
 -- nothing is to be joined: the two are one, or a constraint is in the way
-abbrev pub HasNoPath : Stage → ℕ → ℕ → Type 0
+abbrev HasNoPath : Stage → ℕ → ℕ → Type 0
 HasNoPath s i j = (i ≡ j) ⊎ (¬ CanAdd position s.plain i j)
 
 -- why two vertices are not joined. Where there is nothing to join, memory may be refused for the first constraint alone

@@ -10,7 +10,7 @@ use Rattle.triangulate_run.specs.declared.reply.Reply.{Reply}
 use Rattle.triangulate_run.specs.declared.reply.Reply.TheVariants as reply
 
 -- the name of an error of an insertion
-abbrev pub name_of : InsertionError → List ℕ
+abbrev name_of : InsertionError → List ℕ
 name_of TooLarge = codes "TooLarge"
 name_of OutOfMemory = codes "OutOfMemory"
 name_of OutOfIndexes = codes "OutOfIndexes"
