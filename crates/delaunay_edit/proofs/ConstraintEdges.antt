@@ -29,7 +29,7 @@ add_mark true n = suc n
 add_mark false n = n
 
 -- among the first k of the data
-abbrev pub marks_before : {U : Type 0} → (U → Bool) → List U → ℕ → ℕ
+abbrev marks_before : {U : Type 0} → (U → Bool) → List U → ℕ → ℕ
 marks_before marks [] k = 0
 marks_before marks (d ∷ ds) zero = 0
 marks_before marks (d ∷ ds) (suc k) = add_mark (marks d) (marks_before marks ds k)

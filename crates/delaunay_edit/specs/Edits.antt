@@ -16,12 +16,16 @@ use Rattle.delaunay_edit.specs.Data.{KeepsData}
 use Rattle.delaunay_edit.specs.Headline.{AreSites}
 use Rattle.delaunay_edit.specs.Removal.{RemovesAt}
 
--- a value may be inserted among these vertices: they are sites, and so is its position where it is in range; and the count of
--- flips has room for those of the insertion
-pub record MayInsert {V : Type 0} (place : V → Point) (IsSite : Point → Type 0) (vertices : List V) (value : V) (flips : ℕ) : Type 0 where
-  pub sites : AreSites place IsSite vertices
-  pub new_site : InRange (place value) → IsSite (place value)
-  pub fits : FlipsFit (length vertices + 1) flips
+module _ {V : Type 0} (place : V → Point) (IsSite : Point → Type 0) where
+  -- all vertices are sites of the tests, and so is the position of a value, where it is in range
+  pub record AreSitesWith (vertices : List V) (value : V) : Type 0 where
+    pub sites : AreSites place IsSite vertices
+    pub new_site : InRange (place value) → IsSite (place value)
+
+  -- a value may be inserted among these vertices, and the count of flips has room for those of the insertion
+  pub record MayInsert (vertices : List V) (value : V) (flips : ℕ) : Type 0 where
+    pub sites : AreSitesWith vertices value
+    pub fits : FlipsFit (length vertices + 1) flips
 
 module _ {V D U F : Type 0} (place : V → Point) (constraints : List U → List ℕ) where
   -- an insertion of a value whose position no vertex has gave this result: the index of the new last vertex, or a refusal

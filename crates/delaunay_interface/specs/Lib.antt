@@ -16,4 +16,3 @@ pub use Rattle.delaunay_edit.specs.Writing
 pub mod ConstraintEdges
 pub mod Views
 pub mod InnerFaces
-pub mod Sites

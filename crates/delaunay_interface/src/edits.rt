@@ -2,9 +2,8 @@
 ghost use Rattle.std.specs.Prelude.{◌+◌, length};
 ghost use Rattle.plane.specs.Tests.{InRange};
 ghost use Rattle.delaunay_legalization.specs.Flips.{CountsFlips, FlipsFit};
-ghost use Rattle.delaunay_edit.specs.Edits.{InsertsVertex};
+ghost use Rattle.delaunay_edit.specs.Edits.{AreSitesWith, InsertsVertex};
 ghost use Rattle.delaunay_edit.specs.Headline.{AreSites, IsDelaunay};
-ghost use Rattle.delaunay_interface.specs.Sites.{AreSitesWith};
 
 use crate::telling::tell_if_appended;
 use crate::triangulation_core::TriangulationCore;

@@ -34,7 +34,7 @@ pub record Locates (points : List Point) (m : Mesh) (p : Point) (answer : Positi
   pub location : IsLocation (drawn points m) (whole p) (location_of m answer)
 
 -- directed edge e has the outer face on its left, and p strictly on its left
-abbrev pub IsLeftOfEdge : List Point → Mesh → Point → ℕ → Type 0
+abbrev IsLeftOfEdge : List Point → Mesh → Point → ℕ → Type 0
 IsLeftOfEdge points m p e = (face m e ≡ 0) × TurnsLeft (place points (origin m e)) (place points (origin m (rev e))) (whole p)
 
 -- p is neither

@@ -57,7 +57,7 @@ half_ends m h i j a b e f = elim (halved h) [
 
 -- ---- one piece
 -- i and j are joined by a constraint too
-abbrev pub AddsPair : List (ℕ × ℕ) → List (ℕ × ℕ) → ℕ → ℕ → Type 0
+abbrev AddsPair : List (ℕ × ℕ) → List (ℕ × ℕ) → ℕ → ℕ → Type 0
 AddsPair old new i j = (a b : ℕ) → Joins new a b ↔ (Joins old a b ⊎ IsSamePair a b i j)
 
 -- one piece became a constraint: the data of directed edges and of faces stay, and the number of edges

@@ -39,7 +39,7 @@ vertex_of (across a b) = a
 vertex_of (along a b) = a
 
 -- no other vertex than i is among the items
-abbrev pub HasNoOther : List Item → ℕ → Type 0
+abbrev HasNoOther : List Item → ℕ → Type 0
 HasNoOther items i = (v : ℕ) → Contains items (at_vertex v) → v ≡ i
 
 -- the empty list of items has no other vertex

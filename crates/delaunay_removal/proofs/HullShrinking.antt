@@ -15,7 +15,7 @@ use Rattle.delaunay_removal.proofs.DataStays.{stands_turned}
 use Rattle.delaunay_removal.proofs.HullStars.{has_two, hull_ends_differ, left_of, right_of, hull_star_less}
 
 -- an edge of the vertex, before one that has inner faces on both sides
-abbrev pub IsPlace : Mesh → ℕ → ℕ → ℕ → Type 0
+abbrev IsPlace : Mesh → ℕ → ℕ → ℕ → Type 0
 IsPlace m first count edge = (i : ℕ) × (i < count - 2) × (edge ≡ spoke m first i)
 
 -- vertex v lost edges by turns, and still has so many, from edge first on; what the turned ones join is listed, with room for

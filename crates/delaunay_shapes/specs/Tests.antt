@@ -11,7 +11,7 @@ abbrev pub circle_distance : Point → ℤ → Point → ℤ
 circle_distance c r p = gap (whole c) (whole p) -ℤ r
 
 -- the centre falls between the ends of an edge with a length, and is near enough to its line
-abbrev pub falls_near : Point → ℤ → Point → Point → Bool
+abbrev falls_near : Point → ℤ → Point → Point → Bool
 falls_near c r p q = int_lt (pos 0) (distance_2 p q) && (int_le (pos 0) (factor p q c) && (int_le (factor p q c) (distance_2 p q)
     && int_le (distance_2 c p *ℤ distance_2 p q -ℤ factor p q c *ℤ factor p q c) (r *ℤ distance_2 p q)))
 
@@ -20,7 +20,7 @@ abbrev pub FallsOn : Point → ℤ → Point → Point → Type 0
 FallsOn c r p q = ((pos 0 ≤ℤ along p q c) × (along p q c ≤ℤ gap (whole p) (whole q))) × ((circle_distance c r p *ℤ gap (whole p) (whole q)) ≤ℤ (along p q c *ℤ along p q c))
 
 -- the edge has a length, and the centre falls on it, near enough to its line
-abbrev pub FallsNear : Point → ℤ → Point → Point → Type 0
+abbrev FallsNear : Point → ℤ → Point → Point → Type 0
 FallsNear c r p q = (pos 0 <ℤ gap (whole p) (whole q)) × FallsOn c r p q
 
 -- an end is in the circle, or the centre falls near the edge, in the numbers that the code has

@@ -20,7 +20,7 @@ abbrev AppendsPairs : List Point → List (ℕ × ℕ) → List (ℕ × ℕ) →
 AppendsPairs points old new n q = (i j : ℕ) → Joins new i j ↔ ((Joins old i j × ¬ WithinSegment (place points i) (place points j) (whole q)) ⊎ (IsHalfOf points old n q i j ⊎ IsHalfOf points old n q j i))
 
 -- one pair carries q and is split, or none does and all stay
-abbrev pub SplitsOneOrNone : List Point → List (ℕ × ℕ) → List (ℕ × ℕ) → ℕ → Point → Type 0
+abbrev SplitsOneOrNone : List Point → List (ℕ × ℕ) → List (ℕ × ℕ) → ℕ → Point → Type 0
 SplitsOneOrNone points old new n q = ((i : ℕ) × (j : ℕ) × Joins old i j × WithinSegment (place points i) (place points j) (whole q) × SplitsPair old new n i j)
     ⊎ (((i j : ℕ) → Joins old i j → ¬ WithinSegment (place points i) (place points j) (whole q)) × SamePairs old new)
 

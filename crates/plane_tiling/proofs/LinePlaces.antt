@@ -53,12 +53,12 @@ nearest_below f (suc n) t = go (nearest_below f n t) (lt_or_ge_ℤ (f n) t)
 
 -- ---- places
 -- a point whose number is strictly between two others is strictly between their points
-abbrev pub TellWithin : ℕ → (ℕ → Point) → (ℕ → ℤ) → Type 0
+abbrev TellWithin : ℕ → (ℕ → Point) → (ℕ → ℤ) → Type 0
 TellWithin n p spot = (i j k : ℕ) → i < n → j < n → k < n → spot i <ℤ spot k → spot k <ℤ spot j
     → WithinSegment (whole (p i)) (whole (p j)) (whole (p k))
 
 -- and one strictly between two others has its number there, one way or the other, unless all three numbers are one
-abbrev pub TellOrder : (ℕ → Point) → (ℕ → ℤ) → Type 0
+abbrev TellOrder : (ℕ → Point) → (ℕ → ℤ) → Type 0
 TellOrder p spot = (i j k : ℕ) → WithinSegment (whole (p i)) (whole (p j)) (whole (p k))
     → ((spot i <ℤ spot k) × (spot k <ℤ spot j)) ⊎ (((spot j <ℤ spot k) × (spot k <ℤ spot i))
     ⊎ ((spot i ≡ spot k) × (spot k ≡ spot j)))

@@ -13,11 +13,11 @@ use Rattle.half_edge_links.proofs.Sound.Triangles.{IsTriangle, triangle_at, same
 use Rattle.half_edge_links.proofs.Removing.WheelLemmas as wheel
 
 -- the hole beside a vertex with two edges, a and then z
-abbrev pub InFour : Mesh → ℕ → ℕ → ℕ → Type 0
+abbrev InFour : Mesh → ℕ → ℕ → ℕ → Type 0
 InFour m a z k = (k ≡ rev a) ⊎ ((k ≡ z) ⊎ ((k ≡ next m z) ⊎ (k ≡ next m (next m z))))
 
 -- the hole round a vertex with one edge
-abbrev pub InThree : Mesh → ℕ → ℕ → Type 0
+abbrev InThree : Mesh → ℕ → ℕ → Type 0
 InThree m z k = (k ≡ z) ⊎ ((k ≡ rev z) ⊎ ((k ≡ next m z) ⊎ ((k ≡ next m (next m z)) ⊎ (k ≡ next m (next m (next m z))))))
 
 -- the first step: one face goes, and another with an edge between them

@@ -99,7 +99,7 @@ triangles_peeled m new h s can p =
     triangles_removed p.opened new h mid (removable_opened m p.opened h s can p.opens) p.removes ∙ triangles_opened m p.opened (face m h) p.opens
 
 -- the corners under the new index of the last vertex
-abbrev pub moved_triangle : ℕ → ℕ → Triangle → Triangle
+abbrev moved_triangle : ℕ → ℕ → Triangle → Triangle
 moved_triangle from to t = record { first = moved from to t.first; second = moved from to t.second; third = moved from to t.third }
 
 -- the corners at an edge are the former ones, the last vertex being named v

@@ -70,7 +70,7 @@ turn_of_append xs ys i j k (inr (inr h)) = elim (Contains-append_cases xs ys (fa
 
 -- ---- the steps
 -- where a way has vertex n on its left, the bracket of the three is positive
-abbrev pub SeenSigns : List Point → ℕ → Type 0
+abbrev SeenSigns : List Point → ℕ → Type 0
 SeenSigns points n = (u v : ℕ) → TurnsLeft (place points u) (place points v) (place points n)
     → pos 0 <ℤ bracket (at (point_at points) u) (at (point_at points) v) (at (point_at points) n)
 

@@ -10,7 +10,7 @@ use Rattle.plane_segments.proofs.Constraints.Pieces.{path_goes_on, path_ends, ne
 use Rattle.plane_segments.proofs.Constraints.Whole.{piece_crosses_whole}
 
 -- what is next to one another on the way from w to j is so on the way from i to j
-abbrev pub IsRestOfPath : List Point → ℕ → ℕ → ℕ → Type 0
+abbrev IsRestOfPath : List Point → ℕ → ℕ → ℕ → Type 0
 IsRestOfPath points i j w = (a b : ℕ) → AreNextOn points w j a b → AreNextOn points i j a b
 
 -- the pieces from i to vertex w are in the list, and those from w to j are still to come

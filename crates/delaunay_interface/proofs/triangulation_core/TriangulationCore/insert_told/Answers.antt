@@ -30,4 +30,4 @@ invariant_of-self g c = λ p h.
 pub insert_from-inserted-requires : goal.insert_from-inserted-requires
 insert_from-inserted-requires g c =
     subst (λ s. MayInsert g.V.HasPosition.place (g.P.PlaneTests.sites c.args.tests.now) s.vertices c.args.value c.args.flips.now) (sym c.self.view_is)
-    (record { sites = c.requires.sites; new_site = c.requires.new_site; fits = c.requires.fits })
+    (record { sites = c.requires.sites; fits = c.requires.fits })
