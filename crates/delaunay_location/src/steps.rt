@@ -56,28 +56,31 @@ impl<'a, V: HasPosition, DE, UE, F, P: PlaneTests<V::Scalar>> Search<'a, V, DE, 
         requires stop { IsStopOf V.Scalar.whole P.covered self.now stop }
         ensures { IfSome result (IsStopOf V.Scalar.whole P.covered self.now) }
     {
-        let here = self.dcel.directed_edge(stop.edge);
+        let dcel = self.dcel;
+        let point = self.point;
+        let tests = self.tests;
+        let here = dcel.directed_edge(stop.edge);
         if here.is_outer_edge() {
             return self.way_in(stop);
         }
         let Stop { edge, from, to } = stop;
         let prev = here.prev().fix();
-        let across = start_of(self.dcel, prev);
-        if self.tests.side(to, across, self.point).is_on_right_side() {
+        let across = start_of(dcel, prev);
+        if tests.side(to, across, point).is_on_right_side() {
             return Some(Stop {
                 edge: here.next().fix().rev(),
                 from: across,
                 to,
             });
         }
-        if self.tests.side(across, from, self.point).is_on_right_side() {
+        if tests.side(across, from, point).is_on_right_side() {
             return Some(Stop {
                 edge: prev.rev(),
                 from,
                 to: across,
             });
         }
-        if self.tests.side(from, to, self.point).is_on_right_side() {
+        if tests.side(from, to, point).is_on_right_side() {
             return Some(Stop {
                 edge: edge.rev(),
                 from: to,
