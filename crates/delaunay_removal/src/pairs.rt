@@ -1,4 +1,4 @@
-//! Pairs of vertices that bound new faces where a vertex went, and a legalization that begins there.
+//! Pairs of vertices that bound new faces where a vertex went, and a legalization from them on.
 ghost use Rattle.std.specs.Prelude.{◌≡◌, ◌≢◌, ℕ, ◌*◌, ◌<◌, ◌≤◌, ◌++◌};
 ghost use Rattle.std.specs.Prelude.{length, map, All, Contains, IfNone, IfSome, IsTrue};
 ghost use Rattle.std.specs.Prelude.{vec_capacity};

@@ -22,7 +22,8 @@ use half_edge_mesh::{Dcel, FixedDirectedEdgeHandle, FixedVertexHandle};
 
 // Turns edges of an inner vertex away, from which `first` and so many in all start, until three are
 // left, or four with the vertex strictly between two ends. Gives one of those that are left, and
-// how many they are. `turned` has room for a pair at each edge, and gets what each turned one joins.
+// how many they are. `turned` has room for a pair at each edge, and gets what each turned one
+// joins.
 fn shrink_star<V: HasPosition, DE, UE, F, P: PlaneTests<V::Scalar>>(
     dcel: &mut Dcel<V, DE, UE, F>,
     first: FixedDirectedEdgeHandle,

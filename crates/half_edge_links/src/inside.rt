@@ -49,8 +49,8 @@ fn turn_edges(half_edges: &mut Vec<HalfEdge>, e: u32, t: u32)
     half_edges[twin.prev as usize] = linked(twin_prev.origin, edge.next, e, edge.face);
 }
 
-// Puts vertex `v` into the loop of `edge`, with three edges to it and back. The part of `edge` keeps
-// its face, and the two others become faces `g + 1` and `g + 2`.
+// Puts vertex `v` into the loop of `edge`, with three edges to it and back. The part of `edge`
+// keeps its face, and the two others become faces `g + 1` and `g + 2`.
 fn fan_edges(half_edges: &mut Vec<HalfEdge>, v: u32, edge: u32, g: u32)
     requires within { IsLinkedWithin half_edges.old.items edge }
     requires room { length half_edges.old.items + 6 ≤ vec_capacity half_edges.old }
