@@ -1,5 +1,6 @@
 -- The constraints at a vertex are counted, one edge after another.
-use Rattle.std.proofs.Common.{◌≡◌, ◌⊎◌, ◌↔◌, ℕ, suc, ◌+◌, ◌/◌, ◌<◌, ◌≤◌, Bool, List, [], ◌∷◌, length, map, refl, sym, ap, ◌∙◌, subst, inl, inr, arith}
+use Rattle.std.proofs.Common.{◌≡◌, ◌⊎◌, ◌↔◌, ℕ, suc, ◌+◌, ◌/◌, ◌<◌, ◌≤◌, Bool, List, [], ◌∷◌, length, map, refl, sym}
+use Rattle.std.proofs.Common.{ap, ◌∙◌, subst, inl, inr, arith}
 use Rattle.std.specs.Prelude.{Contains}
 use Rattle.std.specs.Borrow.{Bor}
 use Rattle.half_edge_mesh.specs.Mesh.{origin, rev}
@@ -30,7 +31,8 @@ module _ {V D U F : Type 0} (constraints : List U → List ℕ) (c : Contents V 
 
   -- a constraint among these directed edges joins a and b
   abbrev AmongEdges : List ℕ → ℕ → ℕ → Type 0
-  AmongEdges hs a b = (h : ℕ) × Contains hs h × Contains (constraints c.undirected) (h / 2) × IsSamePair a b (origin c.mesh h) (origin c.mesh (rev h))
+  AmongEdges hs a b = (h : ℕ) × Contains hs h × Contains (constraints c.undirected) (h / 2) ×
+      IsSamePair a b (origin c.mesh h) (origin c.mesh (rev h))
 
   -- what is left of the edges of vertex v, and how many constraints there were before
   pub record IsCountingAt (v : ℕ) (given : List (Bor (Contents V D U F) × ℕ)) (count : ℕ) : Type 0 where
@@ -39,7 +41,9 @@ module _ {V D U F : Type 0} (constraints : List U → List ℕ) (c : Contents V 
     pub few : count + length rest ≤ length c.mesh.half_edges
     pub total : (k : ℕ) → HasPairs (AmongEdges rest) k → HasPairs (EndsAt pairs_of v) (count + k)
 
-module _ {V D U F : Type 0} (place : V → Point) (marks : U → Bool) (constraints : List U → List ℕ) (marked : (ds : List U) → constraints ds ≡ marked_edges marks ds) (c : Contents V D U F) (kept : IsTriangulated place (state_of c)) (v : ℕ) where
+module _ {V D U F : Type 0} (place : V → Point) (marks : U → Bool) (constraints : List U → List ℕ)
+    (marked : (ds : List U) → constraints ds ≡ marked_edges marks ds) (c : Contents V D U F)
+    (kept : IsTriangulated place (state_of c)) (v : ℕ) where
   abbrev pairs : List (ℕ × ℕ)
   pairs = pairs_of constraints c
 
@@ -54,28 +58,41 @@ module _ {V D U F : Type 0} (place : V → Point) (marks : U → Bool) (constrai
       → Among w.rest a b ↔ EndsAt pairs v a b
   all_among given w a b = ((λ x. forth x.0 x.1 x.2 x.3), (λ x. back x.0 x.1))
     where
-      at_end : (h : ℕ) → origin c.mesh h ≡ v → IsSamePair a b (origin c.mesh h) (origin c.mesh (rev h)) → (a ≡ v) ⊎ (b ≡ v)
+      at_end : (h : ℕ) → origin c.mesh h ≡ v → IsSamePair a b (origin c.mesh h) (origin c.mesh (rev h)) →
+          (a ≡ v) ⊎ (b ≡ v)
       at_end h e (inl s) = inl (s.0 ∙ e)
       at_end h e (inr s) = inr (s.1 ∙ e)
 
-      forth : (h : ℕ) → Contains w.rest h → Contains (constraints c.undirected) (h / 2) → IsSamePair a b (origin c.mesh h) (origin c.mesh (rev h)) → EndsAt pairs v a b
+      forth : (h : ℕ) → Contains w.rest h → Contains (constraints c.undirected) (h / 2) →
+          IsSamePair a b (origin c.mesh h) (origin c.mesh (rev h)) → EndsAt pairs v a b
       forth h there mark same = (
-        same_joined pairs a b (origin c.mesh h) (origin c.mesh (rev h)) same ((edge_joins place marks constraints marked c kept (origin c.mesh h) (origin c.mesh (rev h)) h (w.are_left.within h there) refl refl).0 mark),
+        same_joined pairs a b (origin c.mesh h) (origin c.mesh (rev h)) same
+            ((edge_joins place marks constraints marked c kept (origin c.mesh h) (origin c.mesh (rev h)) h
+            (w.are_left.within h there) refl refl).0 mark),
         at_end h (w.are_left.starts h there) same,
       )
 
       found : (x y : ℕ) → Joins pairs x y → x ≡ v
-          → (h : ℕ) × Contains w.rest h × Contains (constraints c.undirected) (h / 2) × (origin c.mesh h ≡ x) × (origin c.mesh (rev h) ≡ y)
+          → (h : ℕ) × Contains w.rest h × Contains (constraints c.undirected) (h / 2) × (origin c.mesh h ≡ x) ×
+          (origin c.mesh (rev h) ≡ y)
       found x y j e =
-          let g = joins_edge c.mesh kept.valid.sound x y (constraints_are_edges marks constraints marked c.mesh c.undirected kept.fits.undirected_fit kept.valid x y j) in
-          (g.0, w.all g.0 g.1 (g.2 ∙ e), (edge_joins place marks constraints marked c kept x y g.0 g.1 g.2 g.3).1 j, g.2, g.3)
+          let g = joins_edge c.mesh kept.valid.sound x y
+          (constraints_are_edges marks constraints marked c.mesh c.undirected kept.fits.undirected_fit kept.valid x
+          y j) in (
+            g.0,
+            w.all g.0 g.1 (g.2 ∙ e),
+            (edge_joins place marks constraints marked c kept x y g.0 g.1 g.2 g.3).1 j,
+            g.2,
+            g.3,
+          )
 
       back : Joins pairs a b → (a ≡ v) ⊎ (b ≡ v) → Among w.rest a b
       back j (inl e) = let g = found a b j e in (g.0, g.1, g.2, inl (sym g.3, sym g.4))
       back j (inr e) = let g = found b a (turned_join pairs a b j) e in (g.0, g.1, g.2, inr (sym g.4, sym g.3))
 
   -- before the first edge the count is 0
-  pub counting_begins : (d : Bor (Contents V D U F)) (given : List (Bor (Contents V D U F) × ℕ)) → d.now ≡ c → GivesRound d v given → Counting given 0
+  pub counting_begins : (d : Bor (Contents V D U F)) (given : List (Bor (Contents V D U F) × ℕ)) → d.now ≡ c →
+      GivesRound d v given → Counting given 0
   counting_begins d given same gives =
       let w = whole_round c v d given same kept.valid gives in
       record {
@@ -89,7 +106,8 @@ module _ {V D U F : Type 0} (place : V → Point) (marks : U → Bool) (constrai
       }
 
   -- one edge less is left
-  without_mark : (i : ℕ) (hs : List ℕ) (k : ℕ) → ¬ Contains (constraints c.undirected) (i / 2) → HasPairs (Among hs) k → HasPairs (Among (i ∷ hs)) k
+  without_mark : (i : ℕ) (hs : List ℕ) (k : ℕ) → ¬ Contains (constraints c.undirected) (i / 2) → HasPairs (Among hs) k →
+      HasPairs (Among (i ∷ hs)) k
   without_mark i hs k none has = has_pairs_as has (λ a b. (
     (λ x. (x.0, Contains-later i hs x.0 x.1, x.2, x.3)),
     (λ x. elim (Contains-cases i hs x.0 x.1) [
@@ -98,32 +116,41 @@ module _ {V D U F : Type 0} (place : V → Point) (marks : U → Bool) (constrai
     ]),
   ))
 
-  with_mark : (i : ℕ) (hs : List ℕ) (k : ℕ) → ((h : ℕ) → Contains (i ∷ hs) h → h < length c.mesh.half_edges) → ((h : ℕ) → Contains (i ∷ hs) h → origin c.mesh h ≡ v) → IsOnce (i ∷ hs) → Contains (constraints c.undirected) (i / 2) → HasPairs (Among hs) k → HasPairs (Among (i ∷ hs)) (suc k)
-  with_mark i hs k within starts once mark has = has_pairs_as (one_more has (origin c.mesh i) (origin c.mesh (rev i)) (λ x. apart x.0 x.1 x.3)) (λ a b. (
-    (λ x. elim x [
-      | inl y ↦ (y.0, Contains-later i hs y.0 y.1, y.2, y.3)
-      | inr s ↦ (i, Contains-head i hs, mark, s)
-    ]),
-    (λ x. elim (Contains-cases i hs x.0 x.1) [
-      | inl e ↦ inr (subst (λ (h : ℕ). IsSamePair a b (origin c.mesh h) (origin c.mesh (rev h))) (sym e) x.3)
-      | inr y ↦ inl (x.0, y, x.2, x.3)
-    ]),
-  ))
+  with_mark : (i : ℕ) (hs : List ℕ) (k : ℕ) → ((h : ℕ) → Contains (i ∷ hs) h → h < length c.mesh.half_edges) →
+      ((h : ℕ) → Contains (i ∷ hs) h → origin c.mesh h ≡ v) → IsOnce (i ∷ hs) →
+      Contains (constraints c.undirected) (i / 2) → HasPairs (Among hs) k → HasPairs (Among (i ∷ hs)) (suc k)
+  with_mark i hs k within starts once mark has =
+      has_pairs_as (one_more has (origin c.mesh i) (origin c.mesh (rev i)) (λ x. apart x.0 x.1 x.3)) (λ a b. (
+        (λ x. elim x [
+          | inl y ↦ (y.0, Contains-later i hs y.0 y.1, y.2, y.3)
+          | inr s ↦ (i, Contains-head i hs, mark, s)
+        ]),
+        (λ x. elim (Contains-cases i hs x.0 x.1) [
+          | inl e ↦ inr (subst (λ (h : ℕ). IsSamePair a b (origin c.mesh h) (origin c.mesh (rev h))) (sym e) x.3)
+          | inr y ↦ inl (x.0, y, x.2, x.3)
+        ]),
+      ))
     where
       indexes : KeepsIndexes c.mesh c.mesh
       indexes = own_indexes (map place c.vertices) c.mesh kept.valid kept.shape
 
-      apart : (h : ℕ) → Contains hs h → ¬ IsSamePair (origin c.mesh i) (origin c.mesh (rev i)) (origin c.mesh h) (origin c.mesh (rev h))
-      apart h there (inl s) = once_head i hs once (subst (λ (x : ℕ). Contains hs x) (indexes.edges i h (within i (Contains-head i hs)) (within h (Contains-later i hs h there)) (sym s.0, sym s.1)) there)
-      apart h there (inr s) = kept.valid.apart h (within h (Contains-later i hs h there)) (starts h (Contains-later i hs h there) ∙ sym (starts i (Contains-head i hs)) ∙ s.0)
+      apart : (h : ℕ) → Contains hs h → ¬ IsSamePair (origin c.mesh i) (origin c.mesh (rev i)) (origin c.mesh h)
+          (origin c.mesh (rev h))
+      apart h there (inl s) = once_head i hs once (subst (λ (x : ℕ). Contains hs x)
+          (indexes.edges i h (within i (Contains-head i hs)) (within h (Contains-later i hs h there))
+          (sym s.0, sym s.1)) there)
+      apart h there (inr s) = kept.valid.apart h (within h (Contains-later i hs h there))
+          (starts h (Contains-later i hs h there) ∙ sym (starts i (Contains-head i hs)) ∙ s.0)
 
   module _ (given : List (Bor (Contents V D U F) × ℕ)) (count : ℕ) (p : Counting given count) where
     -- the next edge that is given is one of the mesh
-    pub next_at : (x : Bor (Contents V D U F) × ℕ) (left : List (Bor (Contents V D U F) × ℕ)) → given ≡ x ∷ left → x.1 < length c.mesh.half_edges
+    pub next_at : (x : Bor (Contents V D U F) × ℕ) (left : List (Bor (Contents V D U F) × ℕ)) → given ≡ x ∷ left →
+        x.1 < length c.mesh.half_edges
     next_at x left e = p.are_left.within x.1 (next_left c v given p.rest p.are_left x left e)
 
     -- and with it at most all directed edges are counted
-    pub room_at : (x : Bor (Contents V D U F) × ℕ) (left : List (Bor (Contents V D U F) × ℕ)) → given ≡ x ∷ left → count + 1 ≤ length c.mesh.half_edges
+    pub room_at : (x : Bor (Contents V D U F) × ℕ) (left : List (Bor (Contents V D U F) × ℕ)) → given ≡ x ∷ left →
+        count + 1 ≤ length c.mesh.half_edges
     room_at x left e =
         let s = one_less_left c v given p.rest p.are_left x left e in
         let size : length p.rest ≡ suc (length s.0) = ap length s.1 in

@@ -21,11 +21,14 @@ use Rattle.delaunay_edit.proofs.PairCounts.{has_pairs_as, no_pairs, one_more}
 pub record IsWalking (points : List Point) (pairs : List (ℕ × ℕ)) (from to at count : ℕ) : Type 0 where
   pub within : IsIndex points at
   pub few : count + nat_abs (squared_way (point_of points at) (point_of points to)) ≤ 2305843009213693952
-  pub total : (k : ℕ) → HasPairs (IsMissing points pairs at to) k → HasPairs (IsMissing points pairs from to) (count + k)
+  pub total : (k : ℕ) → HasPairs (IsMissing points pairs at to) k →
+      HasPairs (IsMissing points pairs from to) (count + k)
 
-module _ (points : List Point) (distinct : ArePlacedApart points) (pairs : List (ℕ × ℕ)) (to : ℕ) (to_in : IsIndex points to) where
+module _ (points : List Point) (distinct : ArePlacedApart points) (pairs : List (ℕ × ℕ)) (to : ℕ)
+    (to_in : IsIndex points to) where
   -- the first piece is not among the others
-  first_alone : (at next : ℕ) → IsIndex points at → at ≢ to → AreNextOn points at to at next → ¬ AreNextOn points next to at next
+  first_alone : (at next : ℕ) → IsIndex points at → at ≢ to → AreNextOn points at to at next →
+      ¬ AreNextOn points next to at next
   first_alone at next within apart first again = elim (next_or_end next to) as (λ _. ⊥) [
     | inl e ↦ path_ends points to distinct at next (subst (λ (k : ℕ). AreNextOn points k to at next) e again)
     | inr n ↦ (
@@ -36,7 +39,8 @@ module _ (points : List Point) (distinct : ArePlacedApart points) (pairs : List 
           second_index = again.first_index;
           first = again.second;
           second = again.first;
-          none_between = λ k i w. again.none_between k i (turned_within (place points next) (place points at) (place points k) w);
+          none_between =
+              λ k i w. again.none_between k i (turned_within (place points next) (place points at) (place points k) w);
         }) in
         omega (arith, down, up))
   ]
@@ -48,7 +52,8 @@ module _ (points : List Point) (distinct : ArePlacedApart points) (pairs : List 
   pub walk_begins : (from : ℕ) → IsIndex points from → All InRange points → IsWalking points pairs from to from 0
   walk_begins from within in_range = record {
     within = within;
-    few = (let few = along_bound (point_of points from) (point_of points to) (point_of points to) (at_index from within) (at_index to to_in) (at_index to to_in) in omega (arith, few));
+    few = (let few = along_bound (point_of points from) (point_of points to) (point_of points to) (at_index from within)
+        (at_index to to_in) (at_index to to_in) in omega (arith, few));
     total = λ k has. subst (λ (n : ℕ). HasPairs (IsMissing points pairs from to) n) (omega arith) has;
   }
     where
@@ -58,11 +63,14 @@ module _ (points : List Point) (distinct : ArePlacedApart points) (pairs : List 
   module _ (from at count : ℕ) (p : IsWalking points pairs from to at count) where
     -- at the end so many pieces of the path are missing
     pub walk_ends : at ≡ to → HasPairs (IsMissing points pairs from to) count
-    walk_ends e = subst (λ (n : ℕ). HasPairs (IsMissing points pairs from to) n) (omega arith) (p.total 0 (no_pairs (λ a b m. path_ends points to distinct a b (subst (λ (k : ℕ). AreNextOn points k to a b) e m.0))))
+    walk_ends e = subst (λ (n : ℕ). HasPairs (IsMissing points pairs from to) n) (omega arith)
+        (p.total 0 (no_pairs (λ a b m. path_ends points to distinct a b
+        (subst (λ (k : ℕ). AreNextOn points k to a b) e m.0))))
 
     module _ (next : ℕ) (apart : at ≢ to) (first : AreNextOn points at to at next) where
       -- from the next vertex the way to the end is shorter
-      pub walk_shortens : nat_abs (squared_way (point_of points next) (point_of points to)) < nat_abs (squared_way (point_of points at) (point_of points to))
+      pub walk_shortens : nat_abs (squared_way (point_of points next) (point_of points to))
+          < nat_abs (squared_way (point_of points at) (point_of points to))
       walk_shortens = path_shortens points at to next distinct p.within to_in apart first
 
       -- the count has room for one more
@@ -79,7 +87,10 @@ module _ (points : List Point) (distinct : ArePlacedApart points) (pairs : List 
         few = (let few = p.few in let falls = walk_shortens in omega (arith, few, falls));
         total = λ k has. p.total k (has_pairs_as has (λ a b. (
           (λ m. ((pieces a b).1 (inr m.0), m.1)),
-          (λ m. elim ((pieces a b).0 m.0) [ inl s ↦ absurd (m.1 (same_joined pairs a b at next s joined)) | inr n ↦ (n, m.1) ]),
+          (λ m. elim ((pieces a b).0 m.0) [
+            | inl s ↦ absurd (m.1 (same_joined pairs a b at next s joined))
+            | inr n ↦ (n, m.1)
+          ]),
         )));
       }
 
@@ -88,13 +99,15 @@ module _ (points : List Point) (distinct : ArePlacedApart points) (pairs : List 
       walk_goes_on missing = record {
         within = first.second_index;
         few = (let few = p.few in let falls = walk_shortens in omega (arith, few, falls));
-        total = λ k has. subst (λ (n : ℕ). HasPairs (IsMissing points pairs from to) n) (omega arith) (p.total (suc k) (has_pairs_as (one_more has at next (λ m. first_alone at next p.within apart first m.0)) (λ a b. (
-          (λ x. elim x [
-            | inl m ↦ ((pieces a b).1 (inr m.0), m.1)
-            | inr s ↦ ((pieces a b).1 (inl s), (λ j. missing (joined_back a b s j)))
-          ]),
-          (λ m. elim ((pieces a b).0 m.0) [ inl s ↦ inr s | inr n ↦ inl (n, m.1) ]),
-        ))));
+        total = λ k has. subst (λ (n : ℕ). HasPairs (IsMissing points pairs from to) n) (omega arith)
+            (p.total (suc k) (has_pairs_as (one_more has at next (λ m. first_alone at next p.within apart first m.0))
+            (λ a b. (
+              (λ x. elim x [
+                | inl m ↦ ((pieces a b).1 (inr m.0), m.1)
+                | inr s ↦ ((pieces a b).1 (inl s), (λ j. missing (joined_back a b s j)))
+              ]),
+              (λ m. elim ((pieces a b).0 m.0) [ inl s ↦ inr s | inr n ↦ inl (n, m.1) ]),
+            ))));
       }
         where
           joined_back : (a b : ℕ) → IsSamePair a b at next → Joins pairs a b → Joins pairs at next

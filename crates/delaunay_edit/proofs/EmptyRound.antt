@@ -22,8 +22,10 @@ none_counted place constraints s number counted none =
 
 -- where there was no constraint, room was made, and a vertex was put in
 pub put_in_free : {V D U F : Type 0} (place : V → Point) (marks : U → Bool) (constraints : List U → List ℕ)
-    → ((ds : List U) → constraints ds ≡ marked_edges marks ds) → (old : State V D U F) (ready mid : Contents V D U F) (value : V) (vertex number : ℕ)
-    → IsCounted place constraints old number → state_of ready ≡ old → TakesVertex place value (state_of ready) (state_of mid) vertex → number ≡ 0
+    → ((ds : List U) → constraints ds ≡ marked_edges marks ds) →
+    (old : State V D U F) (ready mid : Contents V D U F) (value : V) (vertex number : ℕ)
+    → IsCounted place constraints old number → state_of ready ≡ old →
+    TakesVertex place value (state_of ready) (state_of mid) vertex → number ≡ 0
     → IsEmptyRound (map place mid.vertices) (faces_of mid.mesh) vertex
 put_in_free place marks constraints marked old ready mid value vertex number counted same takes none =
     subst (IsEmptyRound (map place mid.vertices) (faces_of mid.mesh)) (sym takes.is)

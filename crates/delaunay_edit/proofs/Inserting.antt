@@ -22,10 +22,14 @@ ok_is_no_error i e h = cc
 
 module _ {V D U F : Type 0} (place : V → Point) (constraints : List U → List ℕ) (old : State V D U F) (value : V) where
   -- a vertex is overwritten
-  pub overwritten : (new : State V D U F) (i : ℕ) → IsTriangulated place old → InRange (place value) → i < length old.vertices → point_at (map place old.vertices) i ≡ place value → new ≡ record old { vertices = slice_set old.vertices i value }
-      → Replaces place (points_and_constraints_by constraints old) (points_and_constraints_by constraints new) i value → InsertsVertex place constraints value (Ok i) old new
+  pub overwritten : (new : State V D U F) (i : ℕ) → IsTriangulated place old → InRange (place value) →
+      i < length old.vertices → point_at (map place old.vertices) i ≡ place value →
+      new ≡ record old { vertices = slice_set old.vertices i value }
+      → Replaces place (points_and_constraints_by constraints old) (points_and_constraints_by constraints new) i value →
+      InsertsVertex place constraints value (Ok i) old new
   overwritten new i kept near below here same replaces =
-      let known : IsKnown (map place old.vertices) (place value) = record { index = i; below = rw length-map below; here = here } in
+      let known : IsKnown (map place old.vertices) (place value) =
+      record { index = i; below = rw length-map below; here = here } in
       record {
         too_large = ((λ e. absurd (ok_is_no_error i TooLarge e)), (λ far. absurd (far near)));
         known = λ _ _. refl;
@@ -38,10 +42,12 @@ module _ {V D U F : Type 0} (place : V → Point) (constraints : List U → List
       }
 
   -- a vertex is appended, or there is no room for it
-  pub appended_or_refused : (new : State V D U F) (result : Result ℕ InsertionError) → InRange (place value) → IsApart (map place old.vertices) (place value) → AppendsVertex place constraints value result old new
+  pub appended_or_refused : (new : State V D U F) (result : Result ℕ InsertionError) → InRange (place value) →
+      IsApart (map place old.vertices) (place value) → AppendsVertex place constraints value result old new
       → InsertsVertex place constraints value result old new
   appended_or_refused new result near apart appends =
-      let unknown : ¬ IsKnown (map place old.vertices) (place value) = λ known. apart.apart known.index known.below known.here in
+      let unknown : ¬ IsKnown (map place old.vertices) (place value) =
+      λ known. apart.apart known.index known.below known.here in
       record {
         too_large = ((λ e. absurd (appends.not_too_large e)), (λ far. absurd (far near)));
         known = λ _ known. absurd (unknown known);
@@ -54,7 +60,12 @@ module _ {V D U F : Type 0} (place : V → Point) (constraints : List U → List
       }
 
 -- room was made, a vertex was put in, and edges were turned
-pub splits_legalized : {V D U F : Type 0} (place : V → Point) (constraints : List U → List ℕ) (value : V) (ready old mid new : State V D U F) → SplitsConstraints place constraints ready mid value → ready ≡ old → constraints_by constraints new ≡ constraints_by constraints mid → SplitsConstraints place constraints old new value
+pub splits_legalized : {V D U F : Type 0} (place : V → Point) (constraints : List U → List ℕ) (value : V)
+    (ready old mid new : State V D U F) → SplitsConstraints place constraints ready mid value → ready ≡ old →
+    constraints_by constraints new ≡ constraints_by constraints mid → SplitsConstraints place constraints old new value
 splits_legalized place constraints value ready old mid new splits same stays =
     subst (λ s. SplitsConstraints place constraints s new value) same
-    (λ i j. ((λ h. (splits i j).0 (subst (λ (ps : List (ℕ × ℕ)). Joins ps i j) stays h)), (λ x. subst (λ (ps : List (ℕ × ℕ)). Joins ps i j) (sym stays) ((splits i j).1 x))))
+    (λ i j. (
+      (λ h. (splits i j).0 (subst (λ (ps : List (ℕ × ℕ)). Joins ps i j) stays h)),
+      (λ x. subst (λ (ps : List (ℕ × ℕ)). Joins ps i j) (sym stays) ((splits i j).1 x)),
+    ))

@@ -15,11 +15,15 @@ use Rattle.delaunay_edit.proofs.EditingConstraints.{neighbours_of, next_of}
 use Rattle.delaunay_edit.proofs.PairCounts.{has_pairs_as}
 
 -- no constraint
-pub counted_none : {V D U F : Type 0} (place : V → Point) (constraints : List U → List ℕ) (s : State V D U F) → IsDelaunayTriangulation place constraints s → constraints_by constraints s ≡ [] → IsCounted place constraints s 0
-counted_none place constraints s legal none = record { legal = legal; counted = ap (λ (ps : List (ℕ × ℕ)). length ps) (sym none) }
+pub counted_none : {V D U F : Type 0} (place : V → Point) (constraints : List U → List ℕ) (s : State V D U F) →
+    IsDelaunayTriangulation place constraints s → constraints_by constraints s ≡ [] → IsCounted place constraints s 0
+counted_none place constraints s legal none =
+    record { legal = legal; counted = ap (λ (ps : List (ℕ × ℕ)). length ps) (sym none) }
 
-module _ {V D U F : Type 0} (place : V → Point) (marks : U → Bool) (constraints : List U → List ℕ) (marked : (ds : List U) → constraints ds ≡ marked_edges marks ds)
-    (old new : State V D U F) (number : ℕ) (was : IsCounted place constraints old number) (legal : IsDelaunayTriangulation place constraints new) where
+module _ {V D U F : Type 0} (place : V → Point) (marks : U → Bool) (constraints : List U → List ℕ)
+    (marked : (ds : List U) → constraints ds ≡ marked_edges marks ds)
+    (old new : State V D U F) (number : ℕ) (was : IsCounted place constraints old number)
+    (legal : IsDelaunayTriangulation place constraints new) where
   once_before : EachPairOnce (constraints_by constraints old)
   once_before = constraints_once place marks constraints marked old was.legal.kept
 
@@ -27,19 +31,24 @@ module _ {V D U F : Type 0} (place : V → Point) (marks : U → Bool) (constrai
   once_after = constraints_once place marks constraints marked new legal.kept
 
   -- one is released
-  pub counted_released : (i j : ℕ) → Releases place (points_and_constraints_by constraints old) (points_and_constraints_by constraints new) i j → IsCounted place constraints new (number - 1)
+  pub counted_released : (i j : ℕ) → Releases place (points_and_constraints_by constraints old)
+      (points_and_constraints_by constraints new) i j → IsCounted place constraints new (number - 1)
   counted_released i j releases =
-      let fewer = released_number place (points_and_constraints_by constraints old) (points_and_constraints_by constraints new) once_before once_after i j releases in
+      let fewer = released_number place (points_and_constraints_by constraints old)
+      (points_and_constraints_by constraints new) once_before once_after i j releases in
       let counted = was.counted in
       record { legal = legal; counted = omega (arith, fewer, counted) }
 
   -- a path is added, of which so many pieces were none
-  module _ (i j k : ℕ) (adds : Adds place (points_and_constraints_by constraints old) (points_and_constraints_by constraints new) i j) (missing : HasPairs (IsMissing (map place old.vertices) (constraints_by constraints old) i j) k) where
+  module _ (i j k : ℕ) (adds : Adds place (points_and_constraints_by constraints old)
+      (points_and_constraints_by constraints new) i j)
+      (missing : HasPairs (IsMissing (map place old.vertices) (constraints_by constraints old) i j) k) where
     more : length (constraints_by constraints new) ≡ k + length (constraints_by constraints old)
-    more = added_number place (points_and_constraints_by constraints old) (points_and_constraints_by constraints new) once_before once_after i j k adds (has_pairs_as missing (λ a b. (
-      (λ m. (neighbours_of place (map place old.vertices) i j a b m.0, m.1)),
-      (λ m. (next_of place (map place old.vertices) i j a b m.0, m.1)),
-    )))
+    more = added_number place (points_and_constraints_by constraints old) (points_and_constraints_by constraints new)
+        once_before once_after i j k adds (has_pairs_as missing (λ a b. (
+          (λ m. (neighbours_of place (map place old.vertices) i j a b m.0, m.1)),
+          (λ m. (next_of place (map place old.vertices) i j a b m.0, m.1)),
+        )))
 
     -- where a path is added whose k pieces were missing, the number is greater by k
     pub counted_added : IsCounted place constraints new (number + k)
@@ -54,17 +63,23 @@ module _ {V D U F : Type 0} (place : V → Point) (marks : U → Bool) (constrai
         omega (arith, more, counted, few, edges)
 
   -- a vertex goes, with so many
-  module _ (v k : ℕ) (removes : Removes place (points_and_constraints_by constraints old) (points_and_constraints_by constraints new) v) (ending : HasPairs (EndsAt (constraints_by constraints old) v) k) where
-    plain : IsPlain place (points_and_constraints_by constraints old)
-    plain = plain_with_edges place old was.legal.kept (constraints_by constraints old) (constraints_are_edges marks constraints marked old.mesh old.undirected was.legal.kept.fits.undirected_fit was.legal.kept.valid)
+  module _ (v k : ℕ) (removes : Removes place (points_and_constraints_by constraints old)
+      (points_and_constraints_by constraints new) v) (ending : HasPairs (EndsAt (constraints_by constraints old) v) k)
+    where
+      plain : IsPlain place (points_and_constraints_by constraints old)
+      plain = plain_with_edges place old was.legal.kept (constraints_by constraints old)
+          (constraints_are_edges marks constraints marked old.mesh old.undirected was.legal.kept.fits.undirected_fit
+          was.legal.kept.valid)
 
-    fewer : length (constraints_by constraints old) ≡ k + length (constraints_by constraints new)
-    fewer = removed_number place (points_and_constraints_by constraints old) (points_and_constraints_by constraints new) once_before once_after v k plain removes ending
+      fewer : length (constraints_by constraints old) ≡ k + length (constraints_by constraints new)
+      fewer =
+          removed_number place (points_and_constraints_by constraints old) (points_and_constraints_by constraints new)
+          once_before once_after v k plain removes ending
 
-    -- where a vertex goes at which k constraints end, the number is less by k
-    pub counted_removed : IsCounted place constraints new (number - k)
-    counted_removed = let counted = was.counted in record { legal = legal; counted = omega (arith, fewer, counted) }
+      -- where a vertex goes at which k constraints end, the number is less by k
+      pub counted_removed : IsCounted place constraints new (number - k)
+      counted_removed = let counted = was.counted in record { legal = legal; counted = omega (arith, fewer, counted) }
 
-    -- and it was k or more
-    pub some_removed : k ≤ number
-    some_removed = let counted = was.counted in omega (arith, fewer, counted)
+      -- and it was k or more
+      pub some_removed : k ≤ number
+      some_removed = let counted = was.counted in omega (arith, fewer, counted)

@@ -13,11 +13,14 @@ use Rattle.delaunay_edit.specs.Headline.{IsDelaunay, IsWellFormed}
 use Rattle.delaunay_edit.proofs.Constrained.{plain_with_edges}
 use Rattle.delaunay_edit.proofs.Delaunay.{marked_constrained_delaunay, empty_triple_is_face}
 
-module _ {V D U F : Type 0} (place : V → Point) (marks : U → Bool) (constraints : List U → List ℕ) (marked : (ds : List U) → constraints ds ≡ marked_edges marks ds) (s : State V D U F) (legal : IsDelaunayTriangulation place constraints s) where
+module _ {V D U F : Type 0} (place : V → Point) (marks : U → Bool) (constraints : List U → List ℕ)
+    (marked : (ds : List U) → constraints ds ≡ marked_edges marks ds) (s : State V D U F)
+    (legal : IsDelaunayTriangulation place constraints s) where
   -- it is Delaunay in the words of callers
   pub is_delaunay : IsDelaunay place constraints s
   is_delaunay =
-      let all : IsConstrainedDelaunay (triangulation_of place s) (constraints_by constraints s) = marked_constrained_delaunay place marks constraints marked s legal in
+      let all : IsConstrainedDelaunay (triangulation_of place s) (constraints_by constraints s) =
+      marked_constrained_delaunay place marks constraints marked s legal in
       record {
         tiling = laid_out_tiles (map place s.vertices) s.mesh legal.kept.valid legal.kept.shape;
         delaunay = all;

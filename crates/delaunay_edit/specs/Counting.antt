@@ -4,7 +4,11 @@ use Rattle.plane.specs.Fraction.{Point}
 use Rattle.plane.specs.Pairs.{Joins, EachPairOnce}
 use Rattle.plane_segments.specs.Constraints.{AreNextOn}
 use Rattle.delaunay_location.specs.declared.position_in_triangulation.PositionInTriangulation.{PositionInTriangulation}
-use Rattle.delaunay_location.specs.declared.position_in_triangulation.PositionInTriangulation.TheVariants.{OnVertex, OnEdge, OnFace, OutsideOfConvexHull, NoTriangulation}
+use Rattle.delaunay_location.specs.declared.position_in_triangulation.PositionInTriangulation.TheVariants.{OnVertex}
+use Rattle.delaunay_location.specs.declared.position_in_triangulation.PositionInTriangulation.TheVariants.{OnEdge}
+use Rattle.delaunay_location.specs.declared.position_in_triangulation.PositionInTriangulation.TheVariants.{OnFace}
+use Rattle.delaunay_location.specs.declared.position_in_triangulation.PositionInTriangulation.TheVariants.{OutsideOfConvexHull}
+use Rattle.delaunay_location.specs.declared.position_in_triangulation.PositionInTriangulation.TheVariants.{NoTriangulation}
 use Rattle.delaunay_legalization.specs.Constraints.{constraints_by}
 use Rattle.delaunay_legalization.specs.Shape.{IsDelaunayTriangulation}
 use Rattle.delaunay_legalization.specs.State.{State}
@@ -26,7 +30,8 @@ IsOnConstraint constraints ds NoTriangulation = ⊥
 
 -- one where the location is on a constraint, and else none
 abbrev pub IsSplitCount : {U : Type 0} → (List U → List ℕ) → List U → PositionInTriangulation → ℕ → Type 0
-IsSplitCount constraints ds answer n = (IsOnConstraint constraints ds answer × (n ≡ 1)) ⊎ ((¬ IsOnConstraint constraints ds answer) × (n ≡ 0))
+IsSplitCount constraints ds answer n =
+    (IsOnConstraint constraints ds answer × (n ≡ 1)) ⊎ ((¬ IsOnConstraint constraints ds answer) × (n ≡ 0))
 
 -- a constraint joins a and b, of which one is vertex v
 abbrev pub EndsAt : List (ℕ × ℕ) → ℕ → ℕ → ℕ → Type 0
@@ -37,6 +42,7 @@ abbrev pub IsMissing : List Point → List (ℕ × ℕ) → ℕ → ℕ → ℕ 
 IsMissing points pairs i j a b = AreNextOn points i j a b × ¬ Joins pairs a b
 
 -- a triangulation with the number of its constraints
-pub record IsCounted {V D U F : Type 0} (place : V → Point) (constraints : List U → List ℕ) (s : State V D U F) (number : ℕ) : Type 0 where
+pub record IsCounted {V D U F : Type 0} (place : V → Point) (constraints : List U → List ℕ) (s : State V D U F)
+    (number : ℕ) : Type 0 where
   pub legal : IsDelaunayTriangulation place constraints s
   pub counted : number ≡ length (constraints_by constraints s)

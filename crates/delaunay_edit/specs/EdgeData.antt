@@ -6,10 +6,12 @@ use Rattle.delaunay_legalization.specs.Constraints.{marked_from}
 
 -- the data of all edges, with another user's part at one
 abbrev pub with_data : {U : Type 0} → List (CdtEdge U) → ℕ → U → List (CdtEdge U)
-with_data es i w = slice_set es i (record (slice_index_or es i (record { is_constraint_edge = false; «data» = w })) { «data» = w })
+with_data es i w =
+    slice_set es i (record (slice_index_or es i (record { is_constraint_edge = false; «data» = w })) { «data» = w })
 
 -- the same edges are constraints
-pub with_data_marks : {U : Type 0} (first : ℕ) (es : List (CdtEdge U)) (i : ℕ) (w : U) → marked_from is_constraint first (with_data es i w) ≡ marked_from is_constraint first es
+pub with_data_marks : {U : Type 0} (first : ℕ) (es : List (CdtEdge U)) (i : ℕ) (w : U) →
+    marked_from is_constraint first (with_data es i w) ≡ marked_from is_constraint first es
 with_data_marks first [] i w = refl
 with_data_marks first (e ∷ es) zero w = refl
 with_data_marks first (e ∷ es) (suc i) w = rw (with_data_marks (suc first) es i w) refl

@@ -24,7 +24,8 @@ positive n h = omega (arith, h)
 
 module _ {V D U F : Type 0} (at : V → Point) (c : Contents V D U F) (kept : IsTriangulated at (state_of c)) where
   -- ---- room for what a vertex brings, of the room that is reserved for it
-  module _ (room : HasRoomFor c.room (length c.vertices + 1) (3 * (length c.vertices + 1)) (2 * (length c.vertices + 1))) where
+  module _ (room : HasRoomFor c.room (length c.vertices + 1) (3 * (length c.vertices + 1))
+      (2 * (length c.vertices + 1))) where
     -- with a vertex there already, there is room for one more, with three edges and two faces
     pub room_inside : 0 < length c.vertices → HasRoom c 1 3 2
     room_inside some =
@@ -33,7 +34,11 @@ module _ {V D U F : Type 0} (at : V → Point) (c : Contents V D U F) (kept : Is
         let f = room.faces_fit in
         let counts = edges_and_faces at c kept some in
         let sides = sides_at_most c (record { valid = kept.valid; fits = kept.fits }) in
-        record { vertices_fit = omega (arith, v); edges_fit = omega (arith, e, counts, sides); faces_fit = omega (arith, f, counts, sides) }
+        record {
+          vertices_fit = omega (arith, v);
+          edges_fit = omega (arith, e, counts, sides);
+          faces_fit = omega (arith, f, counts, sides);
+        }
 
   -- with an inner face there is a vertex
   pub vertex_of_face : (f : ℕ) → 0 < f → f ≤ length c.faces → 0 < length c.vertices
@@ -41,7 +46,8 @@ module _ {V D U F : Type 0} (at : V → Point) (c : Contents V D U F) (kept : Is
 
   -- with an edge there is a vertex
   pub vertex_of_edge : (e : ℕ) → e < length c.directed → 0 < length c.vertices
-  vertex_of_edge e within = let d = kept.fits.directed_fit in let u = kept.fits.undirected_fit in let few = kept.few_edges in omega (arith, within, d, u, few)
+  vertex_of_edge e within = let d = kept.fits.directed_fit in let u = kept.fits.undirected_fit in
+      let few = kept.few_edges in omega (arith, within, d, u, few)
 
   -- ---- the two sides of an edge
   -- the twin of an edge is one of the edges
@@ -53,16 +59,23 @@ module _ {V D U F : Type 0} (at : V → Point) (c : Contents V D U F) (kept : Is
       omega (arith, r, d)
 
   -- what is strictly within an edge is so within its twin
-  pub within_twin : (p : Point) (e : ℕ) → IsWithinEdge (map at c.vertices) c.mesh p e → IsWithinEdge (map at c.vertices) c.mesh p (rev e)
-  within_twin p e w = subst (λ k. WithinSegment (place (map at c.vertices) (origin c.mesh (rev e))) (place (map at c.vertices) (origin c.mesh k)) (whole p)) (sym (rev-rev e)) (turned_within (place (map at c.vertices) (origin c.mesh e)) (place (map at c.vertices) (origin c.mesh (rev e))) (whole p) w)
+  pub within_twin : (p : Point) (e : ℕ) → IsWithinEdge (map at c.vertices) c.mesh p e →
+      IsWithinEdge (map at c.vertices) c.mesh p (rev e)
+  within_twin p e w = subst (λ k. WithinSegment (place (map at c.vertices) (origin c.mesh (rev e)))
+      (place (map at c.vertices) (origin c.mesh k)) (whole p)) (sym (rev-rev e))
+      (turned_within (place (map at c.vertices) (origin c.mesh e)) (place (map at c.vertices) (origin c.mesh (rev e)))
+      (whole p) w)
 
   -- where the mesh lists no face, there is no inner one
   pub no_listed_face : faces_of c.mesh ≡ [] → length c.faces ≡ 0
-  no_listed_face none = kept.fits.faces_fit ∙ sym (length-map c.mesh.face_edges (triangle_at c.mesh)) ∙ sym (length-map (triangles c.mesh) corners_of) ∙ ap length none
+  no_listed_face none = kept.fits.faces_fit ∙ sym (length-map c.mesh.face_edges (triangle_at c.mesh))
+      ∙ sym (length-map (triangles c.mesh) corners_of) ∙ ap length none
 
   -- where there are faces, an edge has one on its left or on its right
-  pub inner_twin : (e : ℕ) → e < length c.directed → ¬ (length c.faces ≡ 0) → face c.mesh e ≡ 0 → 0 < face c.mesh (rev e)
-  inner_twin e within some outer = positive (face c.mesh (rev e)) (λ twin_outer. go twin_outer (laid_out_tiles (map at c.vertices) c.mesh kept.valid kept.shape))
+  pub inner_twin : (e : ℕ) → e < length c.directed → ¬ (length c.faces ≡ 0) → face c.mesh e ≡ 0 →
+      0 < face c.mesh (rev e)
+  inner_twin e within some outer = positive (face c.mesh (rev e))
+      (λ twin_outer. go twin_outer (laid_out_tiles (map at c.vertices) c.mesh kept.valid kept.shape))
     where
       own : IsMeshEdge (map at c.vertices) c.mesh e
       own = mesh_edge at (state_of c) kept e within
@@ -74,5 +87,6 @@ module _ {V D U F : Type 0} (at : V → Point) (c : Contents V D U F) (kept : Is
       go twin_outer (inr l) = some (no_listed_face l.no_face)
       go twin_outer (inl t) = elim ((t.sides (origin c.mesh e) (origin c.mesh (rev e))).0 own.joined) [
         | inl h ↦ own.bare outer h
-        | inr h ↦ twin.bare twin_outer (subst (λ k. HasFace (drawn (map at c.vertices) c.mesh) (origin c.mesh (rev e)) (origin c.mesh k)) (sym (rev-rev e)) h)
+        | inr h ↦ twin.bare twin_outer (subst (λ k. HasFace (drawn (map at c.vertices) c.mesh) (origin c.mesh (rev e))
+            (origin c.mesh k)) (sym (rev-rev e)) h)
       ]

@@ -1,5 +1,6 @@
 -- Where a vertex was put into a triangulation whose circles are empty, the circles round it are empty.
-use Rattle.std.proofs.Common.{◌≡◌, ◌⊎◌, ℕ, ◌<◌, List, [], ◌∷◌, ◌++◌, length, map, Some, sym, ap, ◌∙◌, subst, inl, inr, arith}
+use Rattle.std.proofs.Common.{◌≡◌, ◌⊎◌, ℕ, ◌<◌, List, [], ◌∷◌, ◌++◌, length, map, Some, sym, ap, ◌∙◌, subst, inl, inr}
+use Rattle.std.proofs.Common.{arith}
 use Rattle.std.specs.Prelude.{Contains, slice_get}
 use Rattle.std.proofs.lemmas.List.{length-map, map-append}
 use Rattle.std.proofs.lemmas.Option.{slice_get-get_or}
@@ -54,14 +55,16 @@ module _ {V D U F : Type 0} (at : V → Point) (v : V) (old new : State V D U F)
 
   -- each face of before stays, or has the new vertex in it
   pub face_stays_or_contains : (i j k : ℕ) → IsFaceOf (faces_of old.mesh) i j k
-      → IsFaceOf (faces_of new.mesh) i j k ⊎ InTriangle (place before i) (place before j) (place before k) (whole (at v))
+      → IsFaceOf (faces_of new.mesh) i j k ⊎ InTriangle (place before i) (place before j) (place before k)
+      (whole (at v))
   face_stays_or_contains = turn_of_all (faces_of old.mesh) StaysOrContains turned_stays listed_stays
 
 -- where all circles were empty, the circles round the new vertex are
 pub grown_is_empty : {V D U F : Type 0} (at : V → Point) (v : V) (old new : State V D U F) (vertex : ℕ)
     → IsTriangulated at old → TakesVertex at v old new vertex
     → ((i j k n : ℕ) → IsFaceOf (faces_of old.mesh) i j k → n < length old.vertices
-    → ¬ InsideCircle (place (map at old.vertices) i) (place (map at old.vertices) j) (place (map at old.vertices) k) (place (map at old.vertices) n))
+    → ¬ InsideCircle (place (map at old.vertices) i) (place (map at old.vertices) j) (place (map at old.vertices) k)
+    (place (map at old.vertices) n))
     → IsEmptyRound (map at new.vertices) (faces_of new.mesh) (length old.vertices)
 grown_is_empty at v old new vertex was takes empty =
     subst (λ (x : List Point × ℕ). IsEmptyRound x.0 (faces_of new.mesh) x.1) (λ o. (sym points o, counted o))

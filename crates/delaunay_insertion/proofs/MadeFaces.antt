@@ -1,4 +1,5 @@
--- A new vertex is a corner of each face that is made for it, so that no other edge is left to test. The side opposite it was
+-- A new vertex is a corner of each face that is made for it, so that no other edge is left to test. The side opposite
+-- it was
 -- a side of a face before, or an outer edge.
 use Rattle.std.proofs.Common.{◌≡◌, ◌⊎◌, ℕ, ◌<◌, ◌≤◌, List, [], ◌∷◌, length, map, refl, sym, ap, subst, inl, inr, arith}
 use Rattle.std.specs.Prelude.{Contains}
@@ -68,7 +69,8 @@ module _ (old : List Face) (outer : List (ℕ × ℕ)) (v : ℕ) where
   each_at [] a f c = absurd (Contains-none f c)
   each_at (g ∷ gs) a f c = go (Contains-cases g gs f c) (each_at gs a.1 f)
     where
-      go : (g ≡ f) ⊎ Contains gs f → (Contains gs f → IsFaceAt old outer v f.a f.b f.c) → IsFaceAt old outer v f.a f.b f.c
+      go : (g ≡ f) ⊎ Contains gs f → (Contains gs f → IsFaceAt old outer v f.a f.b f.c) →
+          IsFaceAt old outer v f.a f.b f.c
       go (inl e) r = subst (λ (h : Face). IsFaceAt old outer v h.a h.b h.c) e a.0
       go (inr k) r = r k
 
@@ -96,7 +98,8 @@ module _ (old : List Face) (outer : List (ℕ × ℕ)) (v : ℕ) where
       (last_at u w b.0 b.1 (inr run.0), fan_at points n w ws ends run.2)
 
 -- ---- each case
-module _ (points : List Point) (m new : Mesh) (v : ℕ) (w : IsValidMesh m) (shape : IsMesh points (faces_of m) (outer_of m))
+module _ (points : List Point) (m new : Mesh) (v : ℕ) (w : IsValidMesh m)
+    (shape : IsMesh points (faces_of m) (outer_of m))
     (last : v ≡ length points) where
   -- the corners of a face come before v
   before : (i j k : ℕ) → IsFaceOf (faces_of m) i j k → (i < v) × (j < v) × (k < v)
@@ -129,7 +132,8 @@ module _ (points : List Point) (m new : Mesh) (v : ℕ) (w : IsValidMesh m) (sha
       )
 
   -- so it has where v splits an edge between two inner faces
-  pub made_within_side : (e : ℕ) → IsFlippable m e → SplitsTriangles m new v e → MakesFacesAt v (faces_of m) (outer_of m) (faces_of new)
+  pub made_within_side : (e : ℕ) → IsFlippable m e → SplitsTriangles m new v e →
+      MakesFacesAt v (faces_of m) (outer_of m) (faces_of new)
   made_within_side e x change =
       let g = face_before m e w.sound (x.within, x.inner) in
       let h = face_behind m e w.sound x in
@@ -144,7 +148,8 @@ module _ (points : List Point) (m new : Mesh) (v : ℕ) (w : IsValidMesh m) (sha
       )
 
   -- and where v splits an edge between an inner face and the outer one
-  pub made_within_outer : (e : ℕ) → IsInnerEdge m e → HalfSplitsTriangles m new v e → MakesFacesAt v (faces_of m) (outer_of m) (faces_of new)
+  pub made_within_outer : (e : ℕ) → IsInnerEdge m e → HalfSplitsTriangles m new v e →
+      MakesFacesAt v (faces_of m) (outer_of m) (faces_of new)
   made_within_outer e x change =
       let g = face_before m e w.sound x in
       let b = before _ _ _ g in
@@ -171,9 +176,11 @@ made_first m new v is = subst (λ (x : Mesh). MakesFacesAt v (faces_of m) (outer
     (record { each = λ i j k f. inl f; sides = λ j k f. inl (v, turned_faces (faces_of m) v j k f) })
 
 -- outside
-pub made_outside : (points : List Point) (q : Point) (faces new : List Face) (outer now : List (ℕ × ℕ)) (u w v : ℕ) → v ≡ length points
+pub made_outside : (points : List Point) (q : Point) (faces new : List Face) (outer now : List (ℕ × ℕ)) (u w v : ℕ) →
+    v ≡ length points
     → IsExtending points q faces new outer now u w → MakesFacesAt v faces outer new
 made_outside points q faces new outer now u w v is x =
     let n = length points in
-    made_at_count faces new outer n v (sym is) (made_by faces outer n new [] (fan n u (x.second ∷ x.rest)) x.faces_change
+    made_at_count faces new outer n v (sym is) (made_by faces outer n new [] (fan n u (x.second ∷ x.rest))
+    x.faces_change
     (fan_at faces outer n _ n u (x.second ∷ x.rest) x.ends x.run))

@@ -6,7 +6,12 @@ use Rattle.plane.specs.Plain.{Carries, IsHalf}
 use Rattle.delaunay_legalization.specs.Constraints.{constraints_by, points_and_constraints_by}
 use Rattle.delaunay_legalization.specs.State.{State}
 
--- a constraint that v is strictly within became two halves, and the others stay, as the plain state says of a vertex that is appended
-abbrev pub SplitsConstraints : {V D U F : Type 0} → (V → Point) → (List U → List ℕ) → State V D U F → State V D U F → V → Type 0
-SplitsConstraints at constraints old new v = let was = points_and_constraints_by constraints old in let n = length old.vertices in
-    (i j : ℕ) → Joins (constraints_by constraints new) i j ↔ ((Joins (constraints_by constraints old) i j × ¬ Carries at was v i j) ⊎ (IsHalf at was v n i j ⊎ IsHalf at was v n j i))
+-- a constraint that v is strictly within became two halves, and the others stay, as the plain state says of a vertex
+-- that is appended
+abbrev pub SplitsConstraints : {V D U F : Type 0} → (V → Point) → (List U → List ℕ) → State V D U F → State V D U F →
+    V → Type 0
+SplitsConstraints at constraints old new v =
+    let was = points_and_constraints_by constraints old in let n = length old.vertices in
+    (i j : ℕ) → Joins (constraints_by constraints new) i j ↔
+    ((Joins (constraints_by constraints old) i j × ¬ Carries at was v i j) ⊎
+    (IsHalf at was v n i j ⊎ IsHalf at was v n j i))

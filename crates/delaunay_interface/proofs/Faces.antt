@@ -17,7 +17,8 @@ row_inner n xs is = rw is (λ k d lt.
     (omega (arith, at), omega (arith, at, length-range_with_len 1 n)))
 
 -- an iterator over a mesh from face 1 on gives all inner faces
-pub gives_inner_faces : {V D U F : Type 0} (s : State V D U F) (it : InnerFaceIterator V D U F) (mesh : Bor (Contents V D U F))
+pub gives_inner_faces : {V D U F : Type 0} (s : State V D U F) (it : InnerFaceIterator V D U F)
+    (mesh : Bor (Contents V D U F))
     → state_of mesh.now ≡ s → it.dcel ≡ mesh → it.rest ≡ range_with_len 1 (length mesh.now.faces)
     → GivesElements s 1 (length s.faces) (inner_faces_left it)
 gives_inner_faces s it mesh same at all =

@@ -24,7 +24,8 @@ use Rattle.delaunay_interface.specs.Views.{GivesOutline}
 none_left : (t : Triangulation) → IsTiling t → (i j : ℕ) → IsOuter t i j → (k : ℕ) → IsVertex t k
     → ¬ TurnsLeft (vertex t i) (vertex t j) (vertex t k)
 unfolding tiling
-none_left t (inl tiles) i j outer k w = hull_not_left_of_outer t tiles i j (vertex t k) outer ((tiling t tiles).vertex_in_hull k w)
+none_left t (inl tiles) i j outer k w =
+    hull_not_left_of_outer t tiles i j (vertex t k) outer ((tiling t tiles).vertex_in_hull k w)
 none_left t (inr line) i j outer k w =
     let ends = (line.neighbours i j).0 outer.0 in
     let straight = line.straight i j k ends.first ends.second w in
@@ -45,8 +46,10 @@ module _ {V D U F : Type 0} (at : V → Point) where
         outer_bare (map at s.vertices) s.mesh (origin s.mesh h) (origin s.mesh (rev h)) kept.shape here,
       )
 
-  outline_at : (d : Bor (Contents V D U F)) (given : List (Bor (Contents V D U F) × ℕ)) → IsTriangulated at (state_of d.now)
-      → IsTiling (triangulation_of at (state_of d.now)) → GivesOuterLoop d given → GivesOutline at (state_of d.now) given
+  outline_at : (d : Bor (Contents V D U F)) (given : List (Bor (Contents V D U F) × ℕ)) →
+      IsTriangulated at (state_of d.now)
+      → IsTiling (triangulation_of at (state_of d.now)) → GivesOuterLoop d given →
+      GivesOutline at (state_of d.now) given
   outline_at d given kept tiles gives =
       let one = one_outline (map at d.now.vertices) d.now.mesh kept.valid kept.shape in
       let g = outline_given d given kept.valid one gives in
@@ -71,8 +74,10 @@ module _ {V D U F : Type 0} (at : V → Point) where
       }
 
   -- the outline of a triangulation
-  pub gives_outline : (s : State V D U F) → IsTriangulated at s → IsTiling (triangulation_of at s) → (d : Bor (Contents V D U F))
-      → state_of d.now ≡ s → (given : List (Bor (Contents V D U F) × ℕ)) → GivesOuterLoop d given → GivesOutline at s given
+  pub gives_outline : (s : State V D U F) → IsTriangulated at s → IsTiling (triangulation_of at s) →
+      (d : Bor (Contents V D U F))
+      → state_of d.now ≡ s → (given : List (Bor (Contents V D U F) × ℕ)) → GivesOuterLoop d given →
+      GivesOutline at s given
   gives_outline s kept tiles d same given gives =
       subst (λ s. GivesOutline at s given) same
       (outline_at d given (subst (IsTriangulated at) (sym same) kept)

@@ -1,9 +1,11 @@
 -- What lists of edits make of a triangulation.
-use Rattle.std.specs.Prelude.{◌≡◌, ◌≢◌, ◌↔◌, ◌<◌, ◌≤◌, ℕ, Bool, true, false, List, [], ◌∷◌, ◌++◌, length, map, Some, Ok, Err, IsTrue, slice_get, slice_set}
+use Rattle.std.specs.Prelude.{◌≡◌, ◌≢◌, ◌↔◌, ◌<◌, ◌≤◌, ℕ, Bool, true, false, List, [], ◌∷◌, ◌++◌, length, map, Some, Ok}
+use Rattle.std.specs.Prelude.{Err, IsTrue, slice_get, slice_set}
 use Rattle.half_edge_mesh.specs.Mesh.{empty}
 use Rattle.plane.specs.Fraction.{Point}
 use Rattle.plane.specs.Pairs.{Joins, SamePairs}
-use Rattle.plane.specs.Plain.{Plain, Edit as PlainEdit, insert, replace, remove, add, release, clear, Adds, CanAdd, IsCleared, Releases, Replaces}
+use Rattle.plane.specs.Plain.{Plain, Edit as PlainEdit, insert, replace, remove, add, release, clear, Adds, CanAdd}
+use Rattle.plane.specs.Plain.{IsCleared, Releases, Replaces}
 use Rattle.mesh_embedding.specs.Stays.{KeepsIndexes}
 use Rattle.delaunay_legalization.specs.Constraints.{constraints_by, points_and_constraints_by}
 use Rattle.delaunay_legalization.specs.Known.{point_at}
@@ -11,13 +13,16 @@ use Rattle.delaunay_legalization.specs.State.{State}
 use Rattle.delaunay_paths.specs.Adding.{MarksSome}
 use Rattle.delaunay_interface.specs.Edits.{InsertsVertex, RemovesVertex}
 use Rattle.delaunay_journal.specs.declared.edit.Edit.{Edit}
-use Rattle.delaunay_journal.specs.declared.edit.Edit.TheVariants.{Insert, Remove, Replace, Clear, AddConstraint, ReleaseConstraint}
+use Rattle.delaunay_journal.specs.declared.edit.Edit.TheVariants.{Insert, Remove, Replace, Clear, AddConstraint}
+use Rattle.delaunay_journal.specs.declared.edit.Edit.TheVariants.{ReleaseConstraint}
 use Rattle.delaunay_journal.specs.declared.edit.Outcome.{Outcome}
-use Rattle.delaunay_journal.specs.declared.edit.Outcome.TheVariants.{Inserted, Removed, Replaced, Cleared, Added, Released, Refused}
+use Rattle.delaunay_journal.specs.declared.edit.Outcome.TheVariants.{Inserted, Removed, Replaced, Cleared, Added}
+use Rattle.delaunay_journal.specs.declared.edit.Outcome.TheVariants.{Released, Refused}
 use Rattle.delaunay_journal.specs.declared.edit.PairEdit.{PairEdit}
 use Rattle.delaunay_journal.specs.declared.edit.PairEdit.TheVariants.{Join, Release}
 use Rattle.delaunay_journal.specs.declared.edit.Refusal.{Refusal}
-use Rattle.delaunay_journal.specs.declared.edit.Refusal.TheVariants.{Insertion, NoVertex, OtherPosition, NoConstraints, Conflict, NotConstrained, OutOfMemory}
+use Rattle.delaunay_journal.specs.declared.edit.Refusal.TheVariants.{Insertion, NoVertex, OtherPosition, NoConstraints}
+use Rattle.delaunay_journal.specs.declared.edit.Refusal.TheVariants.{Conflict, NotConstrained, OutOfMemory}
 use Rattle.delaunay_journal.specs.Marking.{Marking}
 
 module _ {V : Type 0} where

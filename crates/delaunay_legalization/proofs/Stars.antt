@@ -1,4 +1,5 @@
--- Where all faces that were made have one vertex as a corner, only the edges of the faces at this vertex are left to test.
+-- Where all faces that were made have one vertex as a corner, only the edges of the faces at this vertex are left to
+-- test.
 use Rattle.std.proofs.Common.{◌≡◌, ◌⊎◌, ℕ, ◌/◌, ◌<◌, List, [], ◌∷◌, ◌++◌, length, sym, ap, ◌∙◌, subst, inl, inr, arith}
 use Rattle.std.specs.Prelude.{Contains}
 use Rattle.std.proofs.lemmas.Bool.{cases_eq}
@@ -28,22 +29,29 @@ no_face i j k (inr (inl c)) = Contains-none (corners j k i) c
 no_face i j k (inr (inr c)) = Contains-none (corners k i j) c
 
 -- the corners of a face are points
-pub face_corners : (points : List Point) (faces : List Face) (outer : List (ℕ × ℕ)) → IsMesh points faces outer → (i j k : ℕ) → IsFaceOf faces i j k → (i < length points) × (j < length points) × (k < length points)
+pub face_corners : (points : List Point) (faces : List Face) (outer : List (ℕ × ℕ)) → IsMesh points faces outer →
+    (i j k : ℕ) → IsFaceOf faces i j k → (i < length points) × (j < length points) × (k < length points)
 face_corners points faces outer (inl m) i j k f = index_of points faces outer m i j k f
 face_corners points faces outer (inr m) i j k f = absurd (no_face i j k (subst (λ fs. IsFaceOf fs i j k) m.0 f))
 
 place_kept : (points : List Point) (q : Point) (k : ℕ) → k < length points → place points k ≡ place (points ++ q ∷ []) k
 place_kept points q k h = ap whole (kept_point points q k h)
 
-pass_kept : (points : List Point) (q : Point) (i j k l : ℕ) → i < length points → j < length points → k < length points → l < length points → Pass points i j k l → Pass (points ++ q ∷ []) i j k l
+pass_kept : (points : List Point) (q : Point) (i j k l : ℕ) → i < length points → j < length points →
+    k < length points → l < length points → Pass points i j k l → Pass (points ++ q ∷ []) i j k l
 pass_kept points q i j k l a b c d p =
-    subst (λ (x : Fraction × Fraction × Fraction × Fraction). (¬ InsideCircle x.0 x.1 x.2 x.3) × (¬ InsideCircle x.1 x.0 x.3 x.2))
-    (λ o. (place_kept points q i a o, place_kept points q j b o, place_kept points q k c o, place_kept points q l d o)) p
+    subst (λ (x : Fraction × Fraction × Fraction × Fraction). (¬ InsideCircle x.0 x.1 x.2 x.3) ×
+    (¬ InsideCircle x.1 x.0 x.3 x.2))
+    (λ o. (place_kept points q i a o, place_kept points q j b o, place_kept points q k c o, place_kept points q l d o))
+    p
 
 -- each edge between faces that were there passes as it did, where its mark has not gone
-pub made_at_leaves : (points : List Point) (q : Point) (old new : List Face) (outer before after : List (ℕ × ℕ)) (v : ℕ) → IsMesh points old outer → AllPassBut points old before [] → MakesFacesAt v old outer new
-    → ((i j : ℕ) → Joins before i j → Joins after i j ⊎ ((k : ℕ) → ¬ IsFaceOf new i j k)) → AllPassBeside (points ++ q ∷ []) new after v
-made_at_leaves points q old new outer before after v shape passing made marked i j k l f g free off off_twin = go (made.each i j k f) (made.each j i l g)
+pub made_at_leaves : (points : List Point) (q : Point) (old new : List Face) (outer before after : List (ℕ × ℕ))
+    (v : ℕ) → IsMesh points old outer → AllPassBut points old before [] → MakesFacesAt v old outer new
+    → ((i j : ℕ) → Joins before i j → Joins after i j ⊎ ((k : ℕ) → ¬ IsFaceOf new i j k)) →
+    AllPassBeside (points ++ q ∷ []) new after v
+made_at_leaves points q old new outer before after v shape passing made marked i j k l f g free off off_twin =
+    go (made.each i j k f) (made.each j i l g)
   where
     was_free : ¬ Joins before i j
     was_free h = elim (marked i j h) as (λ _. ⊥) [ inl x ↦ free x | inr n ↦ n k f ]
@@ -65,7 +73,8 @@ half_of_rev h = grind arith
 
 module _ (m : Mesh) (s : AreSoundLinks m) (v : ℕ) (ks : List ℕ) (star : HasStar m v ks) where
   side_joined : (h i j k : ℕ) → IsEdgeOfFace m h i j k → Contains ks (h / 2) → Joins (pairs_at m ks) i j
-  side_joined h i j k e c = subst (λ (x : ℕ × ℕ). Joins (pairs_at m ks) x.0 x.1) (λ o. (e.first o, (sym (s.edges h e.inner.0).starts ∙ e.second) o)) (joins_directed m ks h c)
+  side_joined h i j k e c = subst (λ (x : ℕ × ℕ). Joins (pairs_at m ks) x.0 x.1)
+      (λ o. (e.first o, (sym (s.edges h e.inner.0).starts ∙ e.second) o)) (joins_directed m ks h c)
 
   -- it has each side of each of these faces
   side_there : (h i j k : ℕ) → IsEdgeOfFace m h i j k → IsOneOf v i j k → Contains ks (h / 2)
@@ -89,13 +98,17 @@ module _ (m : Mesh) (s : AreSoundLinks m) (v : ℕ) (ks : List ℕ) (star : HasS
       | inl e ↦ inl (inr (inl e))
       | inr o ↦ elim (cases_eq k v) [
         | inl e ↦ inl (inr (inr e))
-        | inr p ↦ inr (λ x. elim x as (λ _. ⊥) [ inl e ↦ n e | inr y ↦ elim y as (λ _. ⊥) [ inl e ↦ o e | inr e ↦ p e ] ])
+        | inr p ↦ inr (λ x. elim x as (λ _. ⊥) [
+          | inl e ↦ n e
+          | inr y ↦ elim y as (λ _. ⊥) [ inl e ↦ o e | inr e ↦ p e ]
+        ])
       ]
     ]
   ]
 
   -- so nothing else is left to test
-  pub star_is_left : (points : List Point) (constraints : List (ℕ × ℕ)) → AllPassBeside points (faces_of m) constraints v → AllPassBut points (faces_of m) constraints (pairs_at m ks)
+  pub star_is_left : (points : List Point) (constraints : List (ℕ × ℕ)) →
+      AllPassBeside points (faces_of m) constraints v → AllPassBut points (faces_of m) constraints (pairs_at m ks)
   star_is_left points constraints passing i j k l f g free untested = go (one_of_or_not i j k) (one_of_or_not j i l)
     where
       back : Joins (pairs_at m ks) j i → Joins (pairs_at m ks) i j
@@ -108,5 +121,6 @@ module _ (m : Mesh) (s : AreSoundLinks m) (v : ℕ) (ks : List ℕ) (star : HasS
       go (inr x) (inr y) = passing i j k l f g free x y
 
 -- a longer list has them too
-pub sides_kept : (m : Mesh) (h : ℕ) (ks more : List ℕ) → ((j : ℕ) → Contains ks j → Contains more j) → HasSidesAt m h ks → HasSidesAt m h more
+pub sides_kept : (m : Mesh) (h : ℕ) (ks more : List ℕ) → ((j : ℕ) → Contains ks j → Contains more j) →
+    HasSidesAt m h ks → HasSidesAt m h more
 sides_kept m h ks more kept x = record { here = kept (h / 2) x.here; after = kept (next m h / 2) x.after }

@@ -8,7 +8,8 @@ use Rattle.delaunay_legalization.specs.State.{State}
 -- the indexes of the marked data, where the first has this index
 abbrev pub marked_from : {U : Type 0} → (U → Bool) → ℕ → List U → List ℕ
 marked_from marks first [] = []
-marked_from marks first (d ∷ ds) = if marks d then first ∷ marked_from marks (suc first) ds else marked_from marks (suc first) ds
+marked_from marks first (d ∷ ds) =
+    if marks d then first ∷ marked_from marks (suc first) ds else marked_from marks (suc first) ds
 
 -- the undirected edges that are marked, by the data of all of them
 abbrev pub marked_edges : {U : Type 0} → (U → Bool) → List U → List ℕ

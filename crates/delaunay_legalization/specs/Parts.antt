@@ -20,7 +20,8 @@ IsWithinEdge points m p e = WithinSegment (place points (origin m e)) (place poi
 
 -- p is strictly inside the triangle of the face on the left of directed edge e
 abbrev pub IsInsideFaceOf : List Point → Mesh → Point → ℕ → Type 0
-IsInsideFaceOf points m p e = let t = triangle_at m e in InsideTriangle (place points t.first) (place points t.second) (place points t.third) (whole p)
+IsInsideFaceOf points m p e = let t = triangle_at m e in
+    InsideTriangle (place points t.first) (place points t.second) (place points t.third) (whole p)
 
 -- what is known of the ends of directed edge e
 pub record IsMeshEdge (points : List Point) (m : Mesh) (e : ℕ) : Type 0 where
@@ -37,5 +38,7 @@ pub record IsMeshFace (points : List Point) (m : Mesh) (f : ℕ) : Type 0 where
   pub first : origin m (face_edge m f) < length points
   pub second : origin m (next m (face_edge m f)) < length points
   pub third : origin m (prev m (face_edge m f)) < length points
-  pub listed : IsFace (drawn points m) (origin m (face_edge m f)) (origin m (next m (face_edge m f))) (origin m (prev m (face_edge m f)))
-  pub turning : TurnsLeft (place points (origin m (face_edge m f))) (place points (origin m (next m (face_edge m f)))) (place points (origin m (prev m (face_edge m f))))
+  pub listed : IsFace (drawn points m) (origin m (face_edge m f)) (origin m (next m (face_edge m f)))
+      (origin m (prev m (face_edge m f)))
+  pub turning : TurnsLeft (place points (origin m (face_edge m f))) (place points (origin m (next m (face_edge m f))))
+      (place points (origin m (prev m (face_edge m f))))

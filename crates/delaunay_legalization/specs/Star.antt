@@ -11,14 +11,16 @@ use Rattle.plane_edits.specs.Legal.{Pass}
 abbrev pub IsOneOf : ℕ → ℕ → ℕ → ℕ → Type 0
 IsOneOf v i j k = (i ≡ v) ⊎ ((j ≡ v) ⊎ (k ≡ v))
 
--- each face is an old one, or has the corner v; the side opposite v of a face that has it was a side of a face, or an outer edge
+-- each face is an old one, or has the corner v; the side opposite v of a face that has it was a side of a face, or an
+-- outer edge
 pub record MakesFacesAt (v : ℕ) (old : List Face) (outer : List (ℕ × ℕ)) (new : List Face) : Type 0 where
   pub each : (i j k : ℕ) → IsFaceOf new i j k → IsFaceOf old i j k ⊎ IsOneOf v i j k
   pub sides : (j k : ℕ) → IsFaceOf new v j k → ((o : ℕ) × IsFaceOf old j k o) ⊎ Contains outer (j, k)
 
 -- each edge between two faces without the corner v passes, but perhaps constraints
 abbrev pub AllPassBeside : List Point → List Face → List (ℕ × ℕ) → ℕ → Type 0
-AllPassBeside points faces constraints v = (i j k l : ℕ) → IsFaceOf faces i j k → IsFaceOf faces j i l → ¬ Joins constraints i j → ¬ IsOneOf v i j k → ¬ IsOneOf v j i l → Pass points i j k l
+AllPassBeside points faces constraints v = (i j k l : ℕ) → IsFaceOf faces i j k → IsFaceOf faces j i l →
+    ¬ Joins constraints i j → ¬ IsOneOf v i j k → ¬ IsOneOf v j i l → Pass points i j k l
 
 -- directed edge h and the one after it in its loop are among ks, without their directions
 pub record HasSidesAt (m : Mesh) (h : ℕ) (ks : List ℕ) : Type 0 where

@@ -1,5 +1,6 @@
 -- What is left of a walk from one item to the next.
-use Rattle.std.proofs.Common.{◌≡◌, ◌≢◌, ◌⊎◌, ℕ, ◌+◌, ◌-◌, ◌<◌, ◌≤◌, List, [], ◌∷◌, length, map, Option, Some, None, refl, sym, ap, subst, inl, inr, arith}
+use Rattle.std.proofs.Common.{◌≡◌, ◌≢◌, ◌⊎◌, ℕ, ◌+◌, ◌-◌, ◌<◌, ◌≤◌, List, [], ◌∷◌, length, map, Option, Some, None}
+use Rattle.std.proofs.Common.{refl, sym, ap, subst, inl, inr, arith}
 use Rattle.std.proofs.lemmas.List.{length-map}
 use Rattle.half_edge_mesh.specs.Contents.{Contents}
 use Rattle.plane.specs.Fraction.{Point, whole, IsSame}
@@ -23,7 +24,9 @@ use Rattle.delaunay_lines.specs.Steps.{IsOverMesh, IsNext}
 use Rattle.delaunay_lines.specs.Walk.{ComeAfter, AreFrom, Starts}
 use Rattle.delaunay_lines.proofs.MeshSteps.{laid}
 
-module _ {V D U F : Type 0} (at : V → Point) (IsSite IsCovered : Point → Type 0) (c : Contents V D U F) (p q : Point) (over : IsOverMesh at IsSite IsCovered c p q) (i : FixedIntersection) (items : List Item) (left : AreFrom at c p q (Some i) items) where
+module _ {V D U F : Type 0} (at : V → Point) (IsSite IsCovered : Point → Type 0) (c : Contents V D U F) (p q : Point)
+    (over : IsOverMesh at IsSite IsCovered c p q) (i : FixedIntersection) (items : List Item)
+    (left : AreFrom at c p q (Some i) items) where
   -- the others are left after the current one
   abbrev pub Others : Option FixedIntersection → Type 0
   Others r = (others : List Item) × (items ≡ item_of c.mesh i ∷ others) × AreFrom at c p q r others
@@ -34,21 +37,44 @@ module _ {V D U F : Type 0} (at : V → Point) (IsSite IsCovered : Point → Typ
 
   -- from p to another point q those from the next item on are left
   pub one_further : (apart : p ≢ q) (r : Option FixedIntersection) → IsNext at c p q (item_of c.mesh i) r → Others r
-  one_further apart None last =
-      (left.1.0, left.1.1, (rest_falls (drawn (map at c.vertices) c.mesh) (laid at IsSite IsCovered c p q over) (whole p) (whole q) (λ e. apart (one_point p q e))).2 (item_of c.mesh i) left.1.0 (left.1.2.goes_on apart) last)
+  one_further apart None last = (
+    left.1.0,
+    left.1.1,
+    (rest_falls (drawn (map at c.vertices) c.mesh) (laid at IsSite IsCovered c p q over)
+        (whole p) (whole q) (λ e. apart (one_point p q e))).2 (item_of c.mesh i) left.1.0 (left.1.2.goes_on apart)
+        last,
+  )
   one_further apart (Some n) next =
-      let f = (rest_falls (drawn (map at c.vertices) c.mesh) (laid at IsSite IsCovered c p q over) (whole p) (whole q) (λ e. apart (one_point p q e))).1 (item_of c.mesh i) (item_of c.mesh n) left.1.0 (left.1.2.goes_on apart) next.1 in
-      (left.1.0, left.1.1, (next.0, (f.0, f.1, record { met = λ _. next.1.met; goes_on = λ _. f.2; alone = λ e. absurd (apart e) })))
+      let f = (rest_falls (drawn (map at c.vertices) c.mesh) (laid at IsSite IsCovered c p q over) (whole p) (whole q)
+      (λ e. apart (one_point p q e))).1 (item_of c.mesh i) (item_of c.mesh n) left.1.0 (left.1.2.goes_on apart)
+      next.1 in (
+        left.1.0,
+        left.1.1,
+        (
+          next.0,
+          (
+            f.0,
+            f.1,
+            record {
+              met = λ _. next.1.met;
+              goes_on = λ _. f.2;
+              alone = λ e. absurd (apart e);
+            },
+          ),
+        ),
+      )
 
   -- either way those from what was found next are left
-  pub further : (r : Option FixedIntersection) → (p ≡ q → r ≡ None) → (p ≢ q → IsNext at c p q (item_of c.mesh i) r) → Others r
+  pub further : (r : Option FixedIntersection) → (p ≡ q → r ≡ None) → (p ≢ q → IsNext at c p q (item_of c.mesh i) r) →
+      Others r
   further r alone next = elim (decide_point p q) [
     | inl same ↦ subst Others (sym (alone same)) (none_further same)
     | inr apart ↦ one_further apart r (next apart)
   ]
 
 -- one item fewer
-pub one_fewer : (items others : List Item) (k : Item) (n : ℕ) → items ≡ k ∷ others → length items ≤ n → length others ≤ n - 1
+pub one_fewer : (items others : List Item) (k : Item) (n : ℕ) → items ≡ k ∷ others → length items ≤ n →
+    length others ≤ n - 1
 one_fewer items others k n is few =
     let e = ap (λ (xs : List Item). length xs) is in
     omega (arith, e, few)
@@ -68,14 +94,16 @@ pub record Begins (t : Triangulation) (p q : Point) (k : Item) : Type 0 where
   pub few : length (k ∷ others) ≤ length t.points + length t.edges
 
 -- an item that a segment meets first begins its line list
-pub first_of : (t : Triangulation) (p q : Point) → IsLaid t → p ≢ q → (k : Item) → IsFirst t (whole p) (whole q) k → Begins t p q k
+pub first_of : (t : Triangulation) (p q : Point) → IsLaid t → p ≢ q → (k : Item) → IsFirst t (whole p) (whole q) k →
+    Begins t p q k
 first_of t p q laid apart k first = go walks.0
   where
     ways_apart : ¬ IsSame (whole p) (whole q)
     ways_apart e = apart (one_point p q e)
 
     walks : ((items : List Item) × IsWalk t (whole p) (whole q) items)
-        × ((items more : List Item) → IsWalk t (whole p) (whole q) items → IsWalk t (whole p) (whole q) more → items ≡ more)
+        × ((items more : List Item) → IsWalk t (whole p) (whole q) items → IsWalk t (whole p) (whole q) more →
+        items ≡ more)
         × ((items : List Item) → IsWalk t (whole p) (whole q) items → length items ≤ length t.points + length t.edges)
     walks = each_segment_has_walk t laid (whole p) (whole q) ways_apart
 
@@ -90,34 +118,50 @@ first_of t p q laid apart k first = go walks.0
           few = walks.2 (k ∷ r.0) walk;
         }
 
-first_vertex : (t : Triangulation) (p q : Point) → IsLaid t → p ≢ q → (v : ℕ) → IsVertex t v → IsSame (whole p) (vertex t v) → IsFirst t (whole p) (whole q) (at_vertex v)
+first_vertex : (t : Triangulation) (p q : Point) → IsLaid t → p ≢ q → (v : ℕ) → IsVertex t v →
+    IsSame (whole p) (vertex t v) → IsFirst t (whole p) (whole q) (at_vertex v)
 first_vertex t p q (inl h) apart v is at = (first_item t h (whole p) (whole q) (λ e. apart (one_point p q e))).0 v is at
-first_vertex t p q (inr l) apart v is at = (first_on_line t l.0 l.1 l.2 (whole p) (whole q) (λ e. apart (one_point p q e))).0 v is at
+first_vertex t p q (inr l) apart v is at =
+    (first_on_line t l.0 l.1 l.2 (whole p) (whole q) (λ e. apart (one_point p q e))).0 v is at
 
 -- at a vertex
-begins_at_vertex : (t : Triangulation) (p q : Point) → IsLaid t → (p ≡ q) ⊎ (p ≢ q) → (v : ℕ) → IsVertex t v → IsSame (whole p) (vertex t v) → Begins t p q (at_vertex v)
-begins_at_vertex t p q laid (inr apart) v is at = first_of t p q laid apart (at_vertex v) (first_vertex t p q laid apart v is at)
+begins_at_vertex : (t : Triangulation) (p q : Point) → IsLaid t → (p ≡ q) ⊎ (p ≢ q) → (v : ℕ) → IsVertex t v →
+    IsSame (whole p) (vertex t v) → Begins t p q (at_vertex v)
+begins_at_vertex t p q laid (inr apart) v is at =
+    first_of t p q laid apart (at_vertex v) (first_vertex t p q laid apart v is at)
 begins_at_vertex t p q laid (inl same) v is at = record {
   others = [];
-  line_list = (equal_ends t (whole p) (whole q) (subst (λ (z : Point). IsSame (whole p) (whole z)) same (same-refl (whole p)))).0 v is at;
+  line_list = (equal_ends t (whole p) (whole q) (subst (λ (z : Point). IsSame (whole p) (whole z)) same
+      (same-refl (whole p)))).0 v is at;
   after = record { met = λ n. absurd (n same); goes_on = λ n. absurd (n same); alone = λ _. refl };
   few = omega (arith, is);
 }
 
 -- ---- the same of a mesh
-module _ {V D U F : Type 0} (at : V → Point) (IsSite IsCovered : Point → Type 0) (c : Contents V D U F) (p q : Point) (over : IsOverMesh at IsSite IsCovered c p q) where
-  few_in : (n : ℕ) → n ≤ length (map at c.vertices) + length (edges_of c.mesh) → n ≤ length c.vertices + length c.undirected
+module _ {V D U F : Type 0} (at : V → Point) (IsSite IsCovered : Point → Type 0) (c : Contents V D U F) (p q : Point)
+    (over : IsOverMesh at IsSite IsCovered c p q) where
+  few_in : (n : ℕ) → n ≤ length (map at c.vertices) + length (edges_of c.mesh) →
+      n ≤ length c.vertices + length c.undirected
   few_in n h =
       let e = length-map c.vertices at in
       let f = edges_counted c over.mesh in
       omega (arith, h, e, f)
 
   -- an item that begins the line list, by a handle of the mesh, is where the walk starts
-  pub starts_with : (i : FixedIntersection) → IsHandleOf c i → Begins (drawn (map at c.vertices) c.mesh) p q (item_of c.mesh i) → Starts at c p q (Some i)
-  starts_with i here b = record { items = item_of c.mesh i ∷ b.others; line_list = b.line_list; are_from = (here, (b.others, refl, b.after)); few = few_in (length (item_of c.mesh i ∷ b.others)) b.few }
+  pub starts_with : (i : FixedIntersection) → IsHandleOf c i →
+      Begins (drawn (map at c.vertices) c.mesh) p q (item_of c.mesh i) → Starts at c p q (Some i)
+  starts_with i here b = record {
+    items = item_of c.mesh i ∷ b.others;
+    line_list = b.line_list;
+    are_from = (here, (b.others, refl, b.after));
+    few = few_in (length (item_of c.mesh i ∷ b.others)) b.few;
+  }
 
   -- where p is a vertex, the walk starts at it
-  pub starts_at_vertex : (v : ℕ) → v < length c.vertices → p ≡ point_at (map at c.vertices) v → Starts at c p q (Some (Vertex v))
+  pub starts_at_vertex : (v : ℕ) → v < length c.vertices → p ≡ point_at (map at c.vertices) v →
+      Starts at c p q (Some (Vertex v))
   starts_at_vertex v here is = starts_with (Vertex v) here
-      (begins_at_vertex (drawn (map at c.vertices) c.mesh) p q (laid at IsSite IsCovered c p q over) (decide_point p q) v
-      (subst (λ (n : ℕ). v < n) (sym (length-map c.vertices at)) here) (subst (λ (z : Point). IsSame (whole p) (whole z)) is (same-refl (whole p))))
+      (begins_at_vertex (drawn (map at c.vertices) c.mesh) p q (laid at IsSite IsCovered c p q over) (decide_point p q)
+      v
+      (subst (λ (n : ℕ). v < n) (sym (length-map c.vertices at)) here)
+      (subst (λ (z : Point). IsSame (whole p) (whole z)) is (same-refl (whole p))))

@@ -1,5 +1,6 @@
 -- The search for the next conflict along a walk.
-use Rattle.std.proofs.Common.{append-nil, ◌≡◌, ℕ, ◌/◌, ◌<◌, ◌≤◌, List, [], ◌∷◌, ◌++◌, length, Some, None, refl, sym, ap, ◌∙◌, subst, append_assoc, inl, inr, arith}
+use Rattle.std.proofs.Common.{append-nil, ◌≡◌, ℕ, ◌/◌, ◌<◌, ◌≤◌, List, [], ◌∷◌, ◌++◌, length, Some, None, refl, sym, ap}
+use Rattle.std.proofs.Common.{◌∙◌, subst, append_assoc, inl, inr, arith}
 use Rattle.std.specs.Prelude.{ℤ, Contains}
 use Rattle.std.specs.Borrow.{Bor}
 use Rattle.std.proofs.lemmas.List.Elements.{Contains-push_cases}
@@ -15,7 +16,8 @@ use Rattle.mesh_embedding.proofs.Entries.{one_value}
 use Rattle.mesh_embedding.proofs.MeshStays.{one_way}
 use Rattle.delaunay_core.specs.Place.{place_of}
 use Rattle.delaunay_lines.specs.declared.intersection.Intersection.{Intersection}
-use Rattle.delaunay_lines.specs.declared.intersection.Intersection.TheVariants.{EdgeIntersection, VertexIntersection, EdgeOverlap}
+use Rattle.delaunay_lines.specs.declared.intersection.Intersection.TheVariants.{EdgeIntersection, VertexIntersection}
+use Rattle.delaunay_lines.specs.declared.intersection.Intersection.TheVariants.{EdgeOverlap}
 use Rattle.delaunay_lines.specs.declared.iterator.LineIntersectionIterator.{LineIntersectionIterator}
 use Rattle.delaunay_lines.specs.Conflicts.{IsConflict, IsConflictOf, HasNoConflict, GivesConflict}
 use Rattle.delaunay_lines.specs.Items.{crossed_edge, item_in, mesh_of}
@@ -66,17 +68,20 @@ module _ {V D U F : Type 0} (at : V → Point) (IsSite IsCovered : Point → Typ
   no_crossing : (k : Item) → ¬ IsCrossing k → ¬ IsConflict constraints c k
   no_crossing k n x = n (subst IsCrossing (sym x.2) tt)
 
-module _ {V D U F P S : Type 0} (at : V → Point) (number : S → ℤ) (IsSite IsCovered : P → Point → Type 0) (constraints : List U → List ℕ) where
+module _ {V D U F P S : Type 0} (at : V → Point) (number : S → ℤ) (IsSite IsCovered : P → Point → Type 0)
+    (constraints : List U → List ℕ) where
   -- what was passed of the walk
   pub record IsSearching (start now : LineIntersectionIterator V D U F P S) : Type 0 where
     pub ready : IsReady at number IsSite IsCovered now
     pub same_mesh : now.dcel ≡ start.dcel
     pub fewer : now.left ≤ start.left
-    pub passed : (items : List Item) → AreLeft at number start items → (passed : List Item) × (others : List Item) × (items ≡ passed ++ others)
+    pub passed : (items : List Item) → AreLeft at number start items → (passed : List Item) × (others : List Item) ×
+        (items ≡ passed ++ others)
         × HasNoConflict constraints start.dcel.now passed × AreLeft at number now others
 
   -- a search begins before the first item
-  pub searching_begins : (start : LineIntersectionIterator V D U F P S) → IsReady at number IsSite IsCovered start → IsSearching start start
+  pub searching_begins : (start : LineIntersectionIterator V D U F P S) → IsReady at number IsSite IsCovered start →
+      IsSearching start start
   searching_begins start ready = record {
     ready = ready;
     same_mesh = refl;
@@ -85,7 +90,8 @@ module _ {V D U F P S : Type 0} (at : V → Point) (number : S → ℤ) (IsSite 
   }
 
   -- one more item, which is no conflict
-  one_more : (c : Contents V D U F) (passed : List Item) (k : Item) → HasNoConflict constraints c passed → ¬ IsConflict constraints c k → HasNoConflict constraints c (passed ++ k ∷ [])
+  one_more : (c : Contents V D U F) (passed : List Item) (k : Item) → HasNoConflict constraints c passed →
+      ¬ IsConflict constraints c k → HasNoConflict constraints c (passed ++ k ∷ [])
   one_more c passed k none clear j x = elim (Contains-push_cases passed k j x) as (λ _. ¬ IsConflict constraints c j) [
     | inl y ↦ none j y
     | inr e ↦ subst (λ (z : Item). ¬ IsConflict constraints c z) e clear
@@ -93,25 +99,35 @@ module _ {V D U F P S : Type 0} (at : V → Point) (number : S → ℤ) (IsSite 
 
   module _ (start now : LineIntersectionIterator V D U F P S) (searching : IsSearching start now) where
     -- no conflict of the mesh of the walk: neither a vertex nor an overlap, nor an edge that is no constraint
-    no_crossing_item : (x : Intersection V D U F) → crossed_edge x ≡ None → mesh_of x ≡ now.dcel → ¬ IsConflict constraints start.dcel.now (item_in x)
+    no_crossing_item : (x : Intersection V D U F) → crossed_edge x ≡ None → mesh_of x ≡ now.dcel →
+        ¬ IsConflict constraints start.dcel.now (item_in x)
     no_crossing_item (EdgeIntersection e) is mesh k = absurd (some_none e is)
     no_crossing_item (VertexIntersection v) is mesh k = subst IsCrossing (sym k.2) tt
     no_crossing_item (EdgeOverlap e) is mesh k = subst IsCrossing (sym k.2) tt
 
-    unmarked_item : (x : Intersection V D U F) (e : DirectedEdgeHandle V D U F) → crossed_edge x ≡ Some e → mesh_of x ≡ now.dcel
-        → ¬ Contains (constraints e.dcel.now.undirected) (e.index / 2) → ¬ IsConflict constraints start.dcel.now (item_in x)
+    unmarked_item : (x : Intersection V D U F) (e : DirectedEdgeHandle V D U F) → crossed_edge x ≡ Some e →
+        mesh_of x ≡ now.dcel
+        → ¬ Contains (constraints e.dcel.now.undirected) (e.index / 2) →
+        ¬ IsConflict constraints start.dcel.now (item_in x)
     unmarked_item (EdgeIntersection y) e is mesh off k =
-        unmarked at (IsSite now.tests.now) (IsCovered now.tests.now) now.dcel.now (place_of number now.from) (place_of number now.to) searching.ready.over constraints y.index
+        unmarked at (IsSite now.tests.now) (IsCovered now.tests.now) now.dcel.now (place_of number now.from)
+        (place_of number now.to) searching.ready.over constraints y.index
         (subst (λ (d : Bor (Contents V D U F)). y.index < length d.now.directed) mesh y.in_range)
-        (λ z. off (subst (λ (h : DirectedEdgeHandle V D U F). Contains (constraints h.dcel.now.undirected) (h.index / 2)) (one_value y e is) (subst (λ (d : Bor (Contents V D U F)). Contains (constraints d.now.undirected) (y.index / 2)) (sym mesh) z)))
-        (subst (λ (d : Bor (Contents V D U F)). IsConflict constraints d.now (across (origin d.now.mesh y.index) (origin d.now.mesh (rev y.index)))) (sym searching.same_mesh)
-        (subst (λ (d : Bor (Contents V D U F)). IsConflict constraints start.dcel.now (across (origin d.now.mesh y.index) (origin d.now.mesh (rev y.index)))) (mesh ∙ searching.same_mesh) k))
+        (λ z. off (subst (λ (h : DirectedEdgeHandle V D U F). Contains (constraints h.dcel.now.undirected)
+        (h.index / 2)) (one_value y e is) (subst (λ (d : Bor (Contents V D U F)).
+        Contains (constraints d.now.undirected) (y.index / 2)) (sym mesh) z)))
+        (subst (λ (d : Bor (Contents V D U F)). IsConflict constraints d.now
+        (across (origin d.now.mesh y.index) (origin d.now.mesh (rev y.index)))) (sym searching.same_mesh)
+        (subst (λ (d : Bor (Contents V D U F)). IsConflict constraints start.dcel.now
+        (across (origin d.now.mesh y.index) (origin d.now.mesh (rev y.index)))) (mesh ∙ searching.same_mesh) k))
     unmarked_item (VertexIntersection v) e is mesh off k = subst IsCrossing (sym k.2) tt
     unmarked_item (EdgeOverlap o) e is mesh off k = subst IsCrossing (sym k.2) tt
 
     -- ---- one call of the walk
-    module _ (x : Intersection V D U F) (after : LineIntersectionIterator V D U F P S) (gives : GivesNext at number now (Some x) after) where
-      missed : (z : Intersection V D U F) → mesh_of z ≡ now.dcel → IsConflictOf constraints z None → ¬ IsConflict constraints start.dcel.now (item_in z)
+    module _ (x : Intersection V D U F) (after : LineIntersectionIterator V D U F P S)
+        (gives : GivesNext at number now (Some x) after) where
+      missed : (z : Intersection V D U F) → mesh_of z ≡ now.dcel → IsConflictOf constraints z None →
+          ¬ IsConflict constraints start.dcel.now (item_in z)
       missed (EdgeIntersection y) mesh none = unmarked_item (EdgeIntersection y) y refl mesh (none y refl)
       missed (VertexIntersection v) mesh none = no_crossing_item (VertexIntersection v) refl mesh
       missed (EdgeOverlap o) mesh none = no_crossing_item (EdgeOverlap o) refl mesh
@@ -120,7 +136,8 @@ module _ {V D U F P S : Type 0} (at : V → Point) (number : S → ℤ) (IsSite 
       passes none = missed x (gives.gives searching.ready.items searching.ready.are_left).0 none
 
       -- an item that is no conflict is passed
-      pub searching_goes_on : IsReady at number IsSite IsCovered after → after.left < now.left → IsConflictOf constraints x None → IsSearching start after
+      pub searching_goes_on : IsReady at number IsSite IsCovered after → after.left < now.left →
+          IsConflictOf constraints x None → IsSearching start after
       searching_goes_on ready less none = record {
         ready = ready;
         same_mesh = gives.same_mesh ∙ searching.same_mesh;
@@ -140,8 +157,10 @@ module _ {V D U F P S : Type 0} (at : V → Point) (number : S → ℤ) (IsSite 
           push_middle xs k ys = sym (append_assoc xs (k ∷ []) ys)
 
     -- the first conflict
-    found_here : (y : DirectedEdgeHandle V D U F) (after : LineIntersectionIterator V D U F P S) → GivesNext at number now (Some (EdgeIntersection y)) after
-        → Contains (constraints y.dcel.now.undirected) (y.index / 2) → GivesConflict at number constraints start (Some y) after
+    found_here : (y : DirectedEdgeHandle V D U F) (after : LineIntersectionIterator V D U F P S) →
+        GivesNext at number now (Some (EdgeIntersection y)) after
+        → Contains (constraints y.dcel.now.undirected) (y.index / 2) →
+        GivesConflict at number constraints start (Some y) after
     found_here y after gives marked = record {
       same_mesh = gives.same_mesh ∙ searching.same_mesh;
       gives = λ items left.
@@ -152,19 +171,26 @@ module _ {V D U F P S : Type 0} (at : V → Point) (number : S → ℤ) (IsSite 
             record {
               passed = b.0;
               others = n.1.0;
-              all = subst (λ (d : Bor (Contents V D U F)). items ≡ b.0 ++ across (origin d.now.mesh y.index) (origin d.now.mesh (rev y.index)) ∷ n.1.0) mesh (b.2 ∙ ap (λ (l : List Item). b.0 ++ l) n.1.1);
+              all = subst (λ (d : Bor (Contents V D U F)). items ≡ b.0 ++ across (origin d.now.mesh y.index)
+                  (origin d.now.mesh (rev y.index)) ∷ n.1.0) mesh (b.2 ∙ ap (λ (l : List Item). b.0 ++ l) n.1.1);
               none_passed = b.3;
-              constraint = subst (λ (d : Bor (Contents V D U F)). Contains (constraints d.now.undirected) (y.index / 2)) mesh marked;
+              constraint = subst (λ (d : Bor (Contents V D U F)). Contains (constraints d.now.undirected) (y.index / 2))
+                  mesh marked;
               are_left = n.1.2;
             },
           );
     }
 
     -- an edge that is crossed and a constraint is the first conflict
-    pub found : (x : Intersection V D U F) (e : DirectedEdgeHandle V D U F) (after : LineIntersectionIterator V D U F P S) → GivesNext at number now (Some x) after → crossed_edge x ≡ Some e
-        → Contains (constraints e.dcel.now.undirected) (e.index / 2) → GivesConflict at number constraints start (Some e) after
-    found (EdgeIntersection y) e after gives is marked = subst (λ (h : DirectedEdgeHandle V D U F). GivesConflict at number constraints start (Some h) after) same
-        (found_here y after gives (subst (λ (h : DirectedEdgeHandle V D U F). Contains (constraints h.dcel.now.undirected) (h.index / 2)) (sym same) marked))
+    pub found : (x : Intersection V D U F) (e : DirectedEdgeHandle V D U F)
+        (after : LineIntersectionIterator V D U F P S) → GivesNext at number now (Some x) after →
+        crossed_edge x ≡ Some e
+        → Contains (constraints e.dcel.now.undirected) (e.index / 2) →
+        GivesConflict at number constraints start (Some e) after
+    found (EdgeIntersection y) e after gives is marked =
+        subst (λ (h : DirectedEdgeHandle V D U F). GivesConflict at number constraints start (Some h) after) same
+        (found_here y after gives (subst (λ (h : DirectedEdgeHandle V D U F).
+        Contains (constraints h.dcel.now.undirected) (h.index / 2)) (sym same) marked))
       where
         same : y ≡ e
         same = cc
@@ -172,11 +198,15 @@ module _ {V D U F P S : Type 0} (at : V → Point) (number : S → ℤ) (IsSite 
     found (EdgeOverlap o) e after gives is marked = absurd (none_some e is)
 
     -- where no item is left, there is no conflict
-    pub searching_ends : (after : LineIntersectionIterator V D U F P S) → GivesNext at number now None after → GivesConflict at number constraints start None after
+    pub searching_ends : (after : LineIntersectionIterator V D U F P S) → GivesNext at number now None after →
+        GivesConflict at number constraints start None after
     searching_ends after gives = record {
       same_mesh = gives.same_mesh ∙ searching.same_mesh;
       gives = λ items left.
           let b = searching.passed items left in
-          let n = gives.gives b.1 b.4 in
-          (subst (HasNoConflict constraints start.dcel.now) (sym (b.2 ∙ ap (λ (l : List Item). b.0 ++ l) n.0 ∙ append-nil b.0)) b.3, n.1);
+          let n = gives.gives b.1 b.4 in (
+            subst (HasNoConflict constraints start.dcel.now)
+                (sym (b.2 ∙ ap (λ (l : List Item). b.0 ++ l) n.0 ∙ append-nil b.0)) b.3,
+            n.1,
+          );
     }

@@ -30,7 +30,8 @@ module _ (p q : Fraction) where
   unfolding slope
   falls A B end start h = not_rising (bracket A B q) (bracket A B p) p.w q.w end start p.positive q.positive h
 
-  signs : (A B : Fraction) → pos 0 <ℤ bracket p q A → bracket p q B <ℤ pos 0 → AreParted (bracket A B p) (bracket A B q) → Signs p q A B
+  signs : (A B : Fraction) → pos 0 <ℤ bracket p q A → bracket p q B <ℤ pos 0 →
+      AreParted (bracket A B p) (bracket A B q) → Signs p q A B
   signs A B l r (inl d) = record { left = l; right = r; start = d.0; end = d.1 }
   signs A B l r (inr d) = absurd (falls A B d.1 d.0 (rising p q A B l r))
 
@@ -41,10 +42,12 @@ module _ (t : Triangulation) (p q : Fraction) (apart : ¬ IsSame p q) (i j : ℕ
   abbrev B : Fraction
   B = vertex t j
 
-  parts : AreOpposite (bracket p q A) (bracket p q B) × AreParted (bracket A B p) (bracket A B q) → Meets t p q (across i j) ⊎ Meets t p q (across j i)
+  parts : AreOpposite (bracket p q A) (bracket p q B) × AreParted (bracket A B p) (bracket A B q) →
+      Meets t p q (across i j) ⊎ Meets t p q (across j i)
   parts (inr o, d) = inl (met_if t p q apart i j edge (signs p q A B o.0 o.1 d))
   parts (inl o, d) = inr (met_if t p q apart j i (edge_flipped t i j edge) (signs p q B A o.1 o.0
-      (turned_parted (bracket A B p) (bracket A B q) (bracket B A p) (bracket B A q) (bracket-swapped A B p) (bracket-swapped A B q) d)))
+      (turned_parted (bracket A B p) (bracket A B q) (bracket B A p) (bracket B A q) (bracket-swapped A B p)
+      (bracket-swapped A B q) d)))
 
   -- an edge that the segment meets in one point within it is crossed along one of its directions
   pub crossed_either_way : ¬ IsSame A B → MeetsWithin p q A B → Meets t p q (across i j) ⊎ Meets t p q (across j i)

@@ -1,5 +1,6 @@
 -- What a segment meets first, by where in a mesh it starts.
-use Rattle.std.proofs.Common.{◌≡◌, ◌≢◌, ◌⊎◌, ℕ, ◌<◌, List, [], ◌∷◌, length, map, Some, None, refl, sym, ap, ◌∙◌, subst, inl, inr, arith}
+use Rattle.std.proofs.Common.{◌≡◌, ◌≢◌, ◌⊎◌, ℕ, ◌<◌, List, [], ◌∷◌, length, map, Some, None, refl, sym, ap, ◌∙◌, subst}
+use Rattle.std.proofs.Common.{inl, inr, arith}
 use Rattle.std.proofs.lemmas.List.{length-map}
 use Rattle.half_edge_mesh.specs.Mesh.{Mesh, origin, next, prev, rev}
 use Rattle.half_edge_links.proofs.Lists.Rev.{rev-rev}
@@ -28,9 +29,11 @@ use Rattle.delaunay_lines.specs.Steps.{IsOverMesh, IsLeftOf}
 use Rattle.delaunay_lines.specs.Starts.{StartsWithin, StartsInside, GoesOver}
 use Rattle.delaunay_lines.specs.Walk.{Starts}
 use Rattle.delaunay_lines.proofs.Advance.{first_of, starts_with}
-use Rattle.delaunay_lines.proofs.MeshSteps.{laid, in_mesh, of_mesh, joined, tiles_with, face_at, twin_of_prev, twin_of_next, start_in, not_same}
+use Rattle.delaunay_lines.proofs.MeshSteps.{laid, in_mesh, of_mesh, joined, tiles_with, face_at, twin_of_prev}
+use Rattle.delaunay_lines.proofs.MeshSteps.{twin_of_next, start_in, not_same}
 
-module _ {V D U F : Type 0} (at : V → Point) (IsSite IsCovered : Point → Type 0) (c : Contents V D U F) (p q : Point) (over : IsOverMesh at IsSite IsCovered c p q) where
+module _ {V D U F : Type 0} (at : V → Point) (IsSite IsCovered : Point → Type 0) (c : Contents V D U F) (p q : Point)
+    (over : IsOverMesh at IsSite IsCovered c p q) where
   abbrev m : Mesh
   m = c.mesh
 
@@ -44,8 +47,10 @@ module _ {V D U F : Type 0} (at : V → Point) (IsSite IsCovered : Point → Typ
   start h = place points (origin m h)
 
   -- from p to another point q the walk starts at the item that the segment meets first
-  pub starts_first : p ≢ q → (i : FixedIntersection) → IsHandleOf c i → IsFirst t (whole p) (whole q) (item_of m i) → Starts at c p q (Some i)
-  starts_first apart i here first = starts_with at IsSite IsCovered c p q over i here (first_of t p q (laid at IsSite IsCovered c p q over) apart (item_of m i) first)
+  pub starts_first : p ≢ q → (i : FixedIntersection) → IsHandleOf c i → IsFirst t (whole p) (whole q) (item_of m i) →
+      Starts at c p q (Some i)
+  starts_first apart i here first = starts_with at IsSite IsCovered c p q over i here
+      (first_of t p q (laid at IsSite IsCovered c p q over) apart (item_of m i) first)
 
   -- without items on the line list it starts nowhere
   pub nothing : IsLineList t (whole p) (whole q) [] → Starts at c p q None
@@ -53,7 +58,8 @@ module _ {V D U F : Type 0} (at : V → Point) (IsSite IsCovered : Point → Typ
 
   -- without items that the segment from p to another point meets it starts nowhere
   pub nothing_met : p ≢ q → IsWalk t (whole p) (whole q) [] → Starts at c p q None
-  nothing_met apart w = nothing ((line_list_is_the_walk t (laid at IsSite IsCovered c p q over) (whole p) (whole q) (not_same p q apart) []).1 w)
+  nothing_met apart w = nothing ((line_list_is_the_walk t (laid at IsSite IsCovered c p q over) (whole p) (whole q)
+      (not_same p q apart) []).1 w)
 
   -- equal ends are at the same place
   pub same_ends : p ≡ q → IsSame (whole p) (whole q)
@@ -65,20 +71,33 @@ module _ {V D U F : Type 0} (at : V → Point) (IsSite IsCovered : Point → Typ
     pub alone_on_edge : p ≡ q → Starts at c p q (Some (Overlap h))
     alone_on_edge e = record {
       items = along (origin m h) (origin m (rev h)) ∷ [];
-      line_list = (equal_ends t (whole p) (whole q) (same_ends e)).1 (origin m h) (origin m (rev h)) (joined at IsSite IsCovered c p q over h (in_mesh at IsSite IsCovered c p q over h within)) here;
-      are_from = (within, ([], refl, record { met = λ n. absurd (n e); goes_on = λ n. absurd (n e); alone = λ _. refl }));
-      few = let some = start_in at IsSite IsCovered c p q over h (in_mesh at IsSite IsCovered c p q over h within) in let count = length-map c.vertices at in omega (arith, some, count);
+      line_list = (equal_ends t (whole p) (whole q) (same_ends e)).1 (origin m h) (origin m (rev h))
+          (joined at IsSite IsCovered c p q over h (in_mesh at IsSite IsCovered c p q over h within)) here;
+      are_from =
+          (within, ([], refl, record { met = λ n. absurd (n e); goes_on = λ n. absurd (n e); alone = λ _. refl }));
+      few = let some = start_in at IsSite IsCovered c p q over h (in_mesh at IsSite IsCovered c p q over h within) in
+          let count = length-map c.vertices at in omega (arith, some, count);
     }
 
     module _ (apart : p ≢ q) where
-      law : (side (start h) (start (rev h)) (whole q) ≡ left → IsFirst t (whole p) (whole q) (across (origin m h) (origin m (rev h))))
-          × (side (start h) (start (rev h)) (whole q) ≡ right → IsFirst t (whole p) (whole q) (across (origin m (rev h)) (origin m h)))
-          × (side (start h) (start (rev h)) (whole q) ≡ on → IsAhead (whole p) (start (rev h)) (whole q) → IsFirst t (whole p) (whole q) (along (origin m h) (origin m (rev h))))
-          × (side (start h) (start (rev h)) (whole q) ≡ on → IsAhead (whole p) (start (rev h)) (whole q) ⊎ IsAhead (whole p) (start h) (whole q))
-      law = first_from_an_edge t (laid at IsSite IsCovered c p q over) (whole p) (whole q) (not_same p q apart) (origin m h) (origin m (rev h)) (joined at IsSite IsCovered c p q over h (in_mesh at IsSite IsCovered c p q over h within)) here
+      law : (side (start h) (start (rev h)) (whole q) ≡ left →
+          IsFirst t (whole p) (whole q) (across (origin m h) (origin m (rev h))))
+          × (side (start h) (start (rev h)) (whole q) ≡ right →
+          IsFirst t (whole p) (whole q) (across (origin m (rev h)) (origin m h)))
+          × (side (start h) (start (rev h)) (whole q) ≡ on → IsAhead (whole p) (start (rev h)) (whole q) →
+          IsFirst t (whole p) (whole q) (along (origin m h) (origin m (rev h))))
+          × (side (start h) (start (rev h)) (whole q) ≡ on → IsAhead (whole p) (start (rev h)) (whole q) ⊎
+          IsAhead (whole p) (start h) (whole q))
+      law = first_from_an_edge t (laid at IsSite IsCovered c p q over) (whole p) (whole q) (not_same p q apart)
+          (origin m h) (origin m (rev h)) (joined at IsSite IsCovered c p q over h
+          (in_mesh at IsSite IsCovered c p q over h within)) here
 
-      back : side (start (rev h)) (start h) (whole q) ≡ on → IsAhead (whole p) (start h) (whole q) → IsFirst t (whole p) (whole q) (along (origin m (rev h)) (origin m h))
-      back = (first_from_an_edge t (laid at IsSite IsCovered c p q over) (whole p) (whole q) (not_same p q apart) (origin m (rev h)) (origin m h) (edge_flipped t (origin m h) (origin m (rev h)) (joined at IsSite IsCovered c p q over h (in_mesh at IsSite IsCovered c p q over h within))) (turned_within (start h) (start (rev h)) (whole p) here)).2
+      back : side (start (rev h)) (start h) (whole q) ≡ on → IsAhead (whole p) (start h) (whole q) →
+          IsFirst t (whole p) (whole q) (along (origin m (rev h)) (origin m h))
+      back = (first_from_an_edge t (laid at IsSite IsCovered c p q over) (whole p) (whole q) (not_same p q apart)
+          (origin m (rev h)) (origin m h) (edge_flipped t (origin m h) (origin m (rev h))
+          (joined at IsSite IsCovered c p q over h (in_mesh at IsSite IsCovered c p q over h within)))
+          (turned_within (start h) (start (rev h)) (whole p) here)).2
 
       twice : origin m h ≡ origin m (rev (rev h))
       twice = ap (origin m) (sym (rev-rev h))
@@ -88,18 +107,25 @@ module _ {V D U F : Type 0} (at : V → Point) (IsSite IsCovered : Point → Typ
       over_edge s = starts_first apart (Edge h) within (law.0 s)
 
       -- with q on its right it starts by crossing its twin
-      pub over_twin : rev h < length c.directed → side (start h) (start (rev h)) (whole q) ≡ right → Starts at c p q (Some (Edge (rev h)))
-      over_twin r s = starts_first apart (Edge (rev h)) r (subst (λ (x : ℕ). IsFirst t (whole p) (whole q) (across (origin m (rev h)) x)) twice (law.1 s))
+      pub over_twin : rev h < length c.directed → side (start h) (start (rev h)) (whole q) ≡ right →
+          Starts at c p q (Some (Edge (rev h)))
+      over_twin r s = starts_first apart (Edge (rev h)) r
+          (subst (λ (x : ℕ). IsFirst t (whole p) (whole q) (across (origin m (rev h)) x)) twice (law.1 s))
 
       -- with q ahead on its line it starts along the edge
-      pub along_edge : side (start h) (start (rev h)) (whole q) ≡ on → IsAhead (whole p) (start (rev h)) (whole q) → Starts at c p q (Some (Overlap h))
+      pub along_edge : side (start h) (start (rev h)) (whole q) ≡ on → IsAhead (whole p) (start (rev h)) (whole q) →
+          Starts at c p q (Some (Overlap h))
       along_edge s a = starts_first apart (Overlap h) within (law.2 s a)
 
       -- with q behind on its line it starts along the twin
-      pub along_twin : rev h < length c.directed → side (start h) (start (rev h)) (whole q) ≡ on → ¬ IsAhead (whole p) (start (rev h)) (whole q) → Starts at c p q (Some (Overlap (rev h)))
-      along_twin r s n = starts_first apart (Overlap (rev h)) r (subst (λ (x : ℕ). IsFirst t (whole p) (whole q) (along (origin m (rev h)) x)) twice (back (side_swapped (start h) (start (rev h)) (whole q) ∙ ap opposite s) (go (law.3 s))))
+      pub along_twin : rev h < length c.directed → side (start h) (start (rev h)) (whole q) ≡ on →
+          ¬ IsAhead (whole p) (start (rev h)) (whole q) → Starts at c p q (Some (Overlap (rev h)))
+      along_twin r s n = starts_first apart (Overlap (rev h)) r
+          (subst (λ (x : ℕ). IsFirst t (whole p) (whole q) (along (origin m (rev h)) x)) twice
+          (back (side_swapped (start h) (start (rev h)) (whole q) ∙ ap opposite s) (go (law.3 s))))
         where
-          go : IsAhead (whole p) (start (rev h)) (whole q) ⊎ IsAhead (whole p) (start h) (whole q) → IsAhead (whole p) (start h) (whole q)
+          go : IsAhead (whole p) (start (rev h)) (whole q) ⊎ IsAhead (whole p) (start h) (whole q) →
+              IsAhead (whole p) (start h) (whole q)
           go (inl a) = absurd (n a)
           go (inr a) = a
 
@@ -110,8 +136,13 @@ module _ {V D U F : Type 0} (at : V → Point) (IsSite IsCovered : Point → Typ
       let w = in_mesh at IsSite IsCovered c p q over h within in
       let r = T.triangle_at m h over.mesh.valid.sound w i.inner in record {
         inner = subst (λ (x : ℕ). 0 < x) (sym r.face_next) i.inner;
-        inside = subst (λ (x : ℕ × ℕ × ℕ). InsideTriangle (place points x.0) (place points x.1) (place points x.2) (whole p))
-            (λ k. (sym (over.mesh.valid.sound.edges h w).starts k, sym (twin_of_next at IsSite IsCovered c p q over h w i.inner) k, ap (origin m) (sym r.prev_next) k))
+        inside =
+            subst (λ (x : ℕ × ℕ × ℕ). InsideTriangle (place points x.0) (place points x.1) (place points x.2) (whole p))
+            (λ k. (
+              sym (over.mesh.valid.sound.edges h w).starts k,
+              sym (twin_of_next at IsSite IsCovered c p q over h w i.inner) k,
+              ap (origin m) (sym r.prev_next) k,
+            ))
             (turned_inside (start h) (start (rev h)) (start (prev m h)) (whole p) i.inside);
       }
 
@@ -119,7 +150,8 @@ module _ {V D U F : Type 0} (at : V → Point) (IsSite IsCovered : Point → Typ
   pub inside_before : (h : ℕ) → h < length c.directed → StartsInside points m p h → StartsInside points m p (prev m h)
   inside_before h within i =
       let r = T.triangle_at m h over.mesh.valid.sound (in_mesh at IsSite IsCovered c p q over h within) i.inner in
-      subst (StartsInside points m p) r.next_next (inside_after (next m h) (of_mesh at IsSite IsCovered c p q over (next m h) r.next_in) (inside_after h within i))
+      subst (StartsInside points m p) r.next_next (inside_after (next m h)
+      (of_mesh at IsSite IsCovered c p q over (next m h) r.next_in) (inside_after h within i))
 
   module _ (h : ℕ) (within : h < length c.directed) (i : StartsInside points m p h) where
     w : h < length m.half_edges
@@ -133,7 +165,8 @@ module _ {V D U F : Type 0} (at : V → Point) (IsSite IsCovered : Point → Typ
 
     -- from p to itself the walk meets nothing
     pub alone_inside : p ≡ q → Starts at c p q None
-    alone_inside e = nothing ((equal_ends t (whole p) (whole q) (same_ends e)).2 tiles (origin m h) (origin m (rev h)) (origin m (prev m h)) is_face i.inside)
+    alone_inside e = nothing ((equal_ends t (whole p) (whole q) (same_ends e)).2 tiles (origin m h) (origin m (rev h))
+        (origin m (prev m h)) is_face i.inside)
 
     module _ (apart : p ≢ q) where
       abbrev A : Fraction
@@ -147,24 +180,36 @@ module _ {V D U F : Type 0} (at : V → Point) (IsSite IsCovered : Point → Typ
 
       face_law : (side (whole p) (whole q) B ≡ left
           → (side (whole p) (whole q) A ≢ left → side A B (whole q) ≡ left → IsWalk t (whole p) (whole q) [])
-          × (side (whole p) (whole q) A ≡ on → side A B (whole q) ≢ left → IsFirst t (whole p) (whole q) (at_vertex (origin m h)))
-          × (side (whole p) (whole q) A ≡ right → side A B (whole q) ≢ left → IsFirst t (whole p) (whole q) (across (origin m (rev h)) (origin m h))))
-          × (((side (whole p) (whole q) A ≢ left) × (side (whole p) (whole q) B ≡ left)) ⊎ (((side (whole p) (whole q) B ≢ left) × (side (whole p) (whole q) C ≡ left)) ⊎ ((side (whole p) (whole q) C ≢ left) × (side (whole p) (whole q) A ≡ left))))
-      face_law = first_from_a_face t tiles (whole p) (whole q) (not_same p q apart) (origin m h) (origin m (rev h)) (origin m (prev m h)) is_face i.inside
+          × (side (whole p) (whole q) A ≡ on → side A B (whole q) ≢ left →
+          IsFirst t (whole p) (whole q) (at_vertex (origin m h)))
+          × (side (whole p) (whole q) A ≡ right → side A B (whole q) ≢ left →
+          IsFirst t (whole p) (whole q) (across (origin m (rev h)) (origin m h))))
+          × (((side (whole p) (whole q) A ≢ left) × (side (whole p) (whole q) B ≡ left)) ⊎
+          (((side (whole p) (whole q) B ≢ left) × (side (whole p) (whole q) C ≡ left)) ⊎
+          ((side (whole p) (whole q) C ≢ left) × (side (whole p) (whole q) A ≡ left))))
+      face_law = first_from_a_face t tiles (whole p) (whole q) (not_same p q apart) (origin m h) (origin m (rev h))
+          (origin m (prev m h)) is_face i.inside
 
       -- one of its sides goes over the segment
-      pub last_goes_over : ¬ GoesOver points m p q h → ¬ GoesOver points m p q (next m h) → GoesOver points m p q (prev m h)
+      pub last_goes_over : ¬ GoesOver points m p q h → ¬ GoesOver points m p q (next m h) →
+          GoesOver points m p q (prev m h)
       last_goes_over first second = go face_law.1
         where
-          go : ((side (whole p) (whole q) A ≢ left) × (side (whole p) (whole q) B ≡ left)) ⊎ (((side (whole p) (whole q) B ≢ left) × (side (whole p) (whole q) C ≡ left)) ⊎ ((side (whole p) (whole q) C ≢ left) × (side (whole p) (whole q) A ≡ left))) → GoesOver points m p q (prev m h)
+          go : ((side (whole p) (whole q) A ≢ left) × (side (whole p) (whole q) B ≡ left)) ⊎
+              (((side (whole p) (whole q) B ≢ left) × (side (whole p) (whole q) C ≡ left)) ⊎
+              ((side (whole p) (whole q) C ≢ left) × (side (whole p) (whole q) A ≡ left))) →
+              GoesOver points m p q (prev m h)
           go (inl x) = absurd (first (record { start = x.0; end = x.1 }))
           go (inr (inl x)) = absurd (second (record {
-            start = subst (λ (k : ℕ). side (whole p) (whole q) (place points k) ≢ left) (sym (over.mesh.valid.sound.edges h w).starts) x.0;
-            end = subst (λ (k : ℕ). side (whole p) (whole q) (place points k) ≡ left) (sym (twin_of_next at IsSite IsCovered c p q over h w i.inner)) x.1;
+            start = subst (λ (k : ℕ). side (whole p) (whole q) (place points k) ≢ left)
+                (sym (over.mesh.valid.sound.edges h w).starts) x.0;
+            end = subst (λ (k : ℕ). side (whole p) (whole q) (place points k) ≡ left)
+                (sym (twin_of_next at IsSite IsCovered c p q over h w i.inner)) x.1;
           }))
           go (inr (inr x)) = record {
             start = x.0;
-            end = subst (λ (k : ℕ). side (whole p) (whole q) (place points k) ≡ left) (sym (twin_of_prev at IsSite IsCovered c p q over h w i.inner)) x.1;
+            end = subst (λ (k : ℕ). side (whole p) (whole q) (place points k) ≡ left)
+                (sym (twin_of_prev at IsSite IsCovered c p q over h w i.inner)) x.1;
           }
 
       module _ (o : GoesOver points m p q h) where
@@ -173,12 +218,16 @@ module _ {V D U F : Type 0} (at : V → Point) (IsSite IsCovered : Point → Typ
         ends_in_face l = nothing_met apart ((face_law.0 o.end).0 o.start l)
 
         -- with q beyond it, and its start on the way, the walk starts at this vertex
-        pub through_start : ¬ IsLeftOf points m q h → side (whole p) (whole q) A ≡ on → origin m h < length c.vertices → Starts at c p q (Some (Vertex (origin m h)))
+        pub through_start : ¬ IsLeftOf points m q h → side (whole p) (whole q) A ≡ on → origin m h < length c.vertices →
+            Starts at c p q (Some (Vertex (origin m h)))
         through_start n s v_in = starts_first apart (Vertex (origin m h)) v_in ((face_law.0 o.end).1 s n)
 
         -- with q beyond it, and its start off the way, the walk starts by crossing its twin
-        pub through_side : rev h < length c.directed → ¬ IsLeftOf points m q h → side (whole p) (whole q) A ≢ on → Starts at c p q (Some (Edge (rev h)))
-        through_side r n s = starts_first apart (Edge (rev h)) r (subst (λ (x : ℕ). IsFirst t (whole p) (whole q) (across (origin m (rev h)) x)) (ap (origin m) (sym (rev-rev h))) ((face_law.0 o.end).2 (below (side (whole p) (whole q) A) o.start s) n))
+        pub through_side : rev h < length c.directed → ¬ IsLeftOf points m q h → side (whole p) (whole q) A ≢ on →
+            Starts at c p q (Some (Edge (rev h)))
+        through_side r n s = starts_first apart (Edge (rev h)) r
+            (subst (λ (x : ℕ). IsFirst t (whole p) (whole q) (across (origin m (rev h)) x))
+            (ap (origin m) (sym (rev-rev h))) ((face_law.0 o.end).2 (below (side (whole p) (whole q) A) o.start s) n))
           where
             below : (z : Side) → z ≢ left → z ≢ on → z ≡ right
             below left a b = absurd (a (λ _. left))

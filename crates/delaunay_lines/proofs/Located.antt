@@ -6,7 +6,8 @@ use Rattle.plane.specs.Fraction.{Point, whole, IsSame, OnSegment, WithinSegment,
 use Rattle.plane.specs.Side.{Side, side, left, on, TurnsLeft}
 use Rattle.plane.specs.Pairs.{place}
 use Rattle.plane.specs.Tiling.{Triangulation, IsVertex, IsEdge, vertex, TilesHull}
-use Rattle.plane.specs.Location.{Location, IsLocation, IsOuter, IsPast, on_vertex, on_edge, on_face, outside_hull, no_triangulation}
+use Rattle.plane.specs.Location.{Location, IsLocation, IsOuter, IsPast, on_vertex, on_edge, on_face, outside_hull}
+use Rattle.plane.specs.Location.{no_triangulation}
 use Rattle.plane.proofs.Bracket.{vec}
 use Rattle.plane.proofs.BracketIdentities.{bracket-same}
 use Rattle.plane.proofs.Sides.{if_left}
@@ -22,7 +23,11 @@ use Rattle.mesh_embedding.specs.Drawn.{drawn, faces_of, outer_of, edges_of}
 use Rattle.mesh_embedding.proofs.EdgePairs.{joins_edge}
 use Rattle.mesh_embedding.proofs.OwnEdges.{own_edges}
 use Rattle.delaunay_legalization.specs.Known.{point_at}
-use Rattle.delaunay_location.specs.declared.position_in_triangulation.PositionInTriangulation.TheVariants.{OnVertex, OnEdge, OnFace, OutsideOfConvexHull, NoTriangulation}
+use Rattle.delaunay_location.specs.declared.position_in_triangulation.PositionInTriangulation.TheVariants.{OnVertex}
+use Rattle.delaunay_location.specs.declared.position_in_triangulation.PositionInTriangulation.TheVariants.{OnEdge}
+use Rattle.delaunay_location.specs.declared.position_in_triangulation.PositionInTriangulation.TheVariants.{OnFace}
+use Rattle.delaunay_location.specs.declared.position_in_triangulation.PositionInTriangulation.TheVariants.{OutsideOfConvexHull}
+use Rattle.delaunay_location.specs.declared.position_in_triangulation.PositionInTriangulation.TheVariants.{NoTriangulation}
 use Rattle.delaunay_location.specs.Location.{Locates}
 use Rattle.delaunay_lines.specs.Starts.{StartsWithin, StartsInside, StartsOutside}
 use Rattle.delaunay_lines.specs.Steps.{IsOverMesh}
@@ -40,15 +45,19 @@ same_index : (n i j : ℕ) → n ≤ 1 → i < n → j < n → i ≡ j
 same_index n i j few a b = omega (arith, few, a, b)
 
 -- three of fewer than two vertices turn nowhere
-too_few : (t : Triangulation) (i j k : ℕ) → IsVertex t i → IsVertex t j → TurnsLeft (vertex t i) (vertex t j) (vertex t k) → length t.points ≤ 1 → ⊥
+too_few : (t : Triangulation) (i j k : ℕ) → IsVertex t i → IsVertex t j →
+    TurnsLeft (vertex t i) (vertex t j) (vertex t k) → length t.points ≤ 1 → ⊥
 too_few t i j k a b turns few = left_not_zero
-    (if_left (vertex t i) (vertex t i) (vertex t k) (subst (λ (n : ℕ). TurnsLeft (vertex t i) (vertex t n) (vertex t k)) (sym (same_index (length t.points) i j few a b)) turns))
+    (if_left (vertex t i) (vertex t i) (vertex t k)
+    (subst (λ (n : ℕ). TurnsLeft (vertex t i) (vertex t n) (vertex t k))
+    (sym (same_index (length t.points) i j few a b)) turns))
     (bracket-same (vec (vertex t i)) (vec (vertex t k)))
 
 not_left : (z : Side) → z ≡ on → z ≡ left → ⊥
 not_left z e f = cc
 
-module _ {V D U F : Type 0} (at : V → Point) (IsSite IsCovered : Point → Type 0) (c : Contents V D U F) (p q : Point) (over : IsOverMesh at IsSite IsCovered c p q) where
+module _ {V D U F : Type 0} (at : V → Point) (IsSite IsCovered : Point → Type 0) (c : Contents V D U F) (p q : Point)
+    (over : IsOverMesh at IsSite IsCovered c p q) where
   abbrev m : Mesh
   m = c.mesh
 
@@ -59,7 +68,8 @@ module _ {V D U F : Type 0} (at : V → Point) (IsSite IsCovered : Point → Typ
   t = drawn points m
 
   one : (a b : Location) → IsLocation t (whole p) a → IsLocation t (whole p) b → IsSameLocation a b
-  one = (each_point_has_one_location points (faces_of m) (outer_of m) (edges_of m) over.shape (own_edges m over.mesh.valid) (whole p)).1
+  one = (each_point_has_one_location points (faces_of m) (outer_of m) (edges_of m) over.shape
+      (own_edges m over.mesh.valid) (whole p)).1
 
   -- located on a vertex, p is where this vertex is
   pub on_that_vertex : (v : ℕ) → Locates points m p (OnVertex v) → (v < length c.vertices) × (point_at points v ≡ p)
@@ -77,11 +87,13 @@ module _ {V D U F : Type 0} (at : V → Point) (IsSite IsCovered : Point → Typ
   inside_that_face f l =
       let r = over.mesh.valid.sound.faces f l.handle.0 l.handle.1 in record {
         inner = subst (λ (k : ℕ). 0 < k) (sym r.1) l.handle.0;
-        inside = subst (λ (k : ℕ). InsideTriangle (place points (origin m (face_edge m f))) (place points k) (place points (origin m (prev m (face_edge m f)))) (whole p))
+        inside = subst (λ (k : ℕ). InsideTriangle (place points (origin m (face_edge m f))) (place points k)
+            (place points (origin m (prev m (face_edge m f)))) (whole p))
             (over.mesh.valid.sound.edges (face_edge m f) r.0).starts l.location.1;
       }
 
-  no_vertex_there : (l : Location) → IsAway l → IsLocation t (whole p) l → (k : ℕ) → IsVertex t k → ¬ IsSame (whole p) (vertex t k)
+  no_vertex_there : (l : Location) → IsAway l → IsLocation t (whole p) l → (k : ℕ) → IsVertex t k →
+      ¬ IsSame (whole p) (vertex t k)
   no_vertex_there (on_vertex i) away is k h s = away
   no_vertex_there (on_edge i j) away is k h s = away
   no_vertex_there (on_face i j n) away is k h s = away
@@ -93,7 +105,8 @@ module _ {V D U F : Type 0} (at : V → Point) (IsSite IsCovered : Point → Typ
       let h = joins_edge m over.mesh.valid.sound i j e in
       subst (λ (k : ℕ). k < length points) h.2 (start_in at IsSite IsCovered c p q over h.0 h.1)
 
-  no_edge_there : (l : Location) → IsAway l → IsLocation t (whole p) l → (i j : ℕ) → IsEdge t i j → ¬ OnSegment (vertex t i) (vertex t j) (whole p)
+  no_edge_there : (l : Location) → IsAway l → IsLocation t (whole p) l → (i j : ℕ) → IsEdge t i j →
+      ¬ OnSegment (vertex t i) (vertex t j) (whole p)
   no_edge_there l away is i j e o = elim (on_parts (vertex t i) (vertex t j) (whole p) o) as (λ _. ⊥) [
     | inl s ↦ no_vertex_there l away is i (start_of_edge i j e) s
     | inr x ↦ elim x as (λ _. ⊥) [
@@ -102,7 +115,8 @@ module _ {V D U F : Type 0} (at : V → Point) (IsSite IsCovered : Point → Typ
     ]
   ]
     where
-      within : (l : Location) → IsAway l → IsLocation t (whole p) l → WithinSegment (vertex t i) (vertex t j) (whole p) → ⊥
+      within : (l : Location) → IsAway l → IsLocation t (whole p) l →
+          WithinSegment (vertex t i) (vertex t j) (whole p) → ⊥
       within (on_vertex k) away is w = away
       within (on_edge k n) away is w = away
       within (on_face f g h) away is w = away
@@ -112,11 +126,14 @@ module _ {V D U F : Type 0} (at : V → Point) (IsSite IsCovered : Point → Typ
   -- where faces tile the hull, no position is past the end of a line
   none_past : TilesHull t → (i : ℕ) → IsVertex t i → ¬ IsPast t i (whole p)
   none_past tiles i v past = elim over.shape as (λ _. ⊥) [
-    | inl l ↦ P.none_beyond (length points) (point_at points) (faces_of m) (outer_of m) (by_signs points (faces_of m) (outer_of m) l) (whole p) i v past
-    | inr l ↦ (let s = tiles.spread in not_left (side (vertex t s.0) (vertex t s.1) (vertex t s.2)) (l.1.straight s.0 s.1 s.2 s.3 s.4 s.5) s.6)
+    | inl l ↦ P.none_beyond (length points) (point_at points) (faces_of m) (outer_of m)
+        (by_signs points (faces_of m) (outer_of m) l) (whole p) i v past
+    | inr l ↦ (let s = tiles.spread in not_left (side (vertex t s.0) (vertex t s.1) (vertex t s.2))
+        (l.1.straight s.0 s.1 s.2 s.3 s.4 s.5) s.6)
   ]
 
-  left_of_outer : (l : Location) → IsAway l → IsLocation t (whole p) l → TilesHull t → (i : ℕ) × (j : ℕ) × IsOuter t i j × TurnsLeft (vertex t i) (vertex t j) (whole p)
+  left_of_outer : (l : Location) → IsAway l → IsLocation t (whole p) l → TilesHull t →
+      (i : ℕ) × (j : ℕ) × IsOuter t i j × TurnsLeft (vertex t i) (vertex t j) (whole p)
   left_of_outer (on_vertex i) away is tiles = absurd away
   left_of_outer (on_edge i j) away is tiles = absurd away
   left_of_outer (on_face i j k) away is tiles = absurd away
@@ -124,10 +141,15 @@ module _ {V D U F : Type 0} (at : V → Point) (IsSite IsCovered : Point → Typ
     | inl w ↦ (i, j, is.0, w)
     | inr past ↦ absurd (none_past tiles i (start_of_edge i j is.0.0) past)
   ]
-  left_of_outer no_triangulation away is tiles = (let s = tiles.spread in absurd (too_few t s.0 s.1 s.2 s.3 s.4 s.6 is.0))
+  left_of_outer no_triangulation away is tiles =
+      (let s = tiles.spread in absurd (too_few t s.0 s.1 s.2 s.3 s.4 s.6 is.0))
 
   outside : (l : Location) → IsAway l → IsLocation t (whole p) l → StartsOutside t p
-  outside l away is = record { no_vertex = no_vertex_there l away is; no_edge = no_edge_there l away is; left_of = left_of_outer l away is }
+  outside l away is = record {
+    no_vertex = no_vertex_there l away is;
+    no_edge = no_edge_there l away is;
+    left_of = left_of_outer l away is;
+  }
 
   -- located outside the hull, p is where a segment starts outside
   pub outside_that_edge : (e : ℕ) → Locates points m p (OutsideOfConvexHull e) → StartsOutside t p

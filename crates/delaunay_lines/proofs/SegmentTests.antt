@@ -22,10 +22,12 @@ module _ (u v : Point) (apart : u ≢ v) where
 
   -- an end is not strictly within
   not_start : ¬ WithinSegment (whole u) (whole v) (whole u)
-  not_start w = none_below (reach (whole u) (whole v) (whole u)) (pos 0) (reach-start (whole u) (whole v)) ((within_segment_is (whole u) (whole v) (whole u) ways_apart).0 w).1
+  not_start w = none_below (reach (whole u) (whole v) (whole u)) (pos 0) (reach-start (whole u) (whole v))
+      ((within_segment_is (whole u) (whole v) (whole u) ways_apart).0 w).1
 
   not_end : ¬ WithinSegment (whole u) (whole v) (whole v)
-  not_end w = itself (reach (whole u) (whole v) (whole v) *ℤ (whole v).w) ((within_segment_is (whole u) (whole v) (whole v) ways_apart).0 w).2
+  not_end w = itself (reach (whole u) (whole v) (whole v) *ℤ (whole v).w)
+      ((within_segment_is (whole u) (whole v) (whole v) ways_apart).0 w).2
 
   -- a point strictly within the segment is neither of its ends
   pub differs_if_within : (p : Point) → WithinSegment (whole u) (whole v) (whole p) → (p ≢ u) × (p ≢ v)
@@ -35,7 +37,8 @@ module _ (u v : Point) (apart : u ≢ v) where
   )
 
 -- a point of the segment is strictly within, or one of the ends
-pub within_if_differs : (u v p : Point) → p ≢ u → p ≢ v → OnSegment (whole u) (whole v) (whole p) → WithinSegment (whole u) (whole v) (whole p)
+pub within_if_differs : (u v p : Point) → p ≢ u → p ≢ v → OnSegment (whole u) (whole v) (whole p) →
+    WithinSegment (whole u) (whole v) (whole p)
 within_if_differs u v p a b o = elim (on_parts (whole u) (whole v) (whole p) o) [
   | inl e ↦ absurd (a (one_point p u e))
   | inr x ↦ elim x [
@@ -45,12 +48,16 @@ within_if_differs u v p a b o = elim (on_parts (whole u) (whole v) (whole p) o) 
 ]
 
 on_if_same : (u v p : Point) → (p ≡ u) ⊎ (p ≡ v) → OnSegment (whole u) (whole v) (whole p)
-on_if_same u v p (inl e) = subst (λ (x : Point). OnSegment (whole u) (whole v) (whole x)) (sym e) (start_on_segment (whole u) (whole v))
-on_if_same u v p (inr e) = subst (λ (x : Point). OnSegment (whole u) (whole v) (whole x)) (sym e) (end_on_segment (whole u) (whole v))
+on_if_same u v p (inl e) =
+    subst (λ (x : Point). OnSegment (whole u) (whole v) (whole x)) (sym e) (start_on_segment (whole u) (whole v))
+on_if_same u v p (inr e) =
+    subst (λ (x : Point). OnSegment (whole u) (whole v) (whole x)) (sym e) (end_on_segment (whole u) (whole v))
 
 -- the position of a vertex is listed
-pub listed_data : {V : Type 0} (at : V → Point) (vs : List V) (k : ℕ) (v : V) (q : Point) → slice_get vs k ≡ Some v → q ≡ at v → Contains (map at vs) q
-listed_data at vs k v q e is = Contains-map at vs k v q (slice_get_within vs k v e) (ap at (get_or_from_slice_get vs k v v e) ∙ sym is)
+pub listed_data : {V : Type 0} (at : V → Point) (vs : List V) (k : ℕ) (v : V) (q : Point) → slice_get vs k ≡ Some v →
+    q ≡ at v → Contains (map at vs) q
+listed_data at vs k v q e is =
+    Contains-map at vs k v q (slice_get_within vs k v e) (ap at (get_or_from_slice_get vs k v v e) ∙ sym is)
 
 -- a point that does not differ from both ends is on the segment
 pub on_if_not_apart : (u v p : Point) → (p ≢ u → p ≢ v → ⊥) → OnSegment (whole u) (whole v) (whole p)

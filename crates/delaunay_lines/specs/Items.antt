@@ -6,7 +6,8 @@ use Rattle.half_edge_mesh.specs.Contents.{Contents}
 use Rattle.half_edge_views.specs.declared.edge.DirectedEdgeHandle.{DirectedEdgeHandle}
 use Rattle.plane.specs.Line.{Item, at_vertex, across, along}
 use Rattle.delaunay_lines.specs.declared.intersection.Intersection.{Intersection}
-use Rattle.delaunay_lines.specs.declared.intersection.Intersection.TheVariants.{EdgeIntersection, VertexIntersection, EdgeOverlap}
+use Rattle.delaunay_lines.specs.declared.intersection.Intersection.TheVariants.{EdgeIntersection, VertexIntersection}
+use Rattle.delaunay_lines.specs.declared.intersection.Intersection.TheVariants.{EdgeOverlap}
 use Rattle.delaunay_lines.specs.declared.intersection.FixedIntersection.{FixedIntersection}
 use Rattle.delaunay_lines.specs.declared.intersection.FixedIntersection.TheVariants.{Edge, Vertex, Overlap}
 

@@ -10,8 +10,10 @@ use Rattle.delaunay_lines.specs.Items.{item_of, IsHandleOf}
 use Rattle.delaunay_lines.specs.Steps.{IsOverMesh, IsNext}
 
 -- it is over the mesh of a triangulation whose vertices are sites of its tests, which cover its ends
-abbrev pub IsOver : {V D U F P S : Type 0} → (V → Point) → (S → ℤ) → (IsSite IsCovered : P → Point → Type 0) → Segment V D U F P S → Type 0
-IsOver at number IsSite IsCovered s = IsOverMesh at (IsSite s.tests.now) (IsCovered s.tests.now) s.dcel.now (place_of number s.from) (place_of number s.to)
+abbrev pub IsOver : {V D U F P S : Type 0} → (V → Point) → (S → ℤ) → (IsSite IsCovered : P → Point → Type 0) →
+    Segment V D U F P S → Type 0
+IsOver at number IsSite IsCovered s = IsOverMesh at (IsSite s.tests.now) (IsCovered s.tests.now) s.dcel.now
+    (place_of number s.from) (place_of number s.to)
 
 -- and its ends differ, and it meets the item that this handle of the mesh names
 pub record IsAt {V D U F P S : Type 0} (at : V → Point) (number : S → ℤ) (IsSite IsCovered : P → Point → Type 0)
@@ -23,6 +25,7 @@ pub record IsAt {V D U F P S : Type 0} (at : V → Point) (number : S → ℤ) (
       (whole (place_of number s.to)) (item_of s.dcel.now.mesh i)
 
 -- of the items that it meets, this comes next after that of handle i, or that is the last
-abbrev pub GoesOnTo : {V D U F P S : Type 0} → (V → Point) → (S → ℤ) → Segment V D U F P S → FixedIntersection → Option FixedIntersection → Type 0
+abbrev pub GoesOnTo : {V D U F P S : Type 0} → (V → Point) → (S → ℤ) → Segment V D U F P S → FixedIntersection →
+    Option FixedIntersection → Type 0
 GoesOnTo at number s i r =
     IsNext at s.dcel.now (place_of number s.from) (place_of number s.to) (item_of s.dcel.now.mesh i) r

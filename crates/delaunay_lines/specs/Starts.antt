@@ -15,7 +15,8 @@ StartsWithin points m p h = WithinSegment (place points (origin m h)) (place poi
 -- p is strictly inside the face on the left of directed edge h
 pub record StartsInside (points : List Point) (m : Mesh) (p : Point) (h : ℕ) : Type 0 where
   pub inner : 0 < face m h
-  pub inside : InsideTriangle (place points (origin m h)) (place points (origin m (rev h))) (place points (origin m (prev m h))) (whole p)
+  pub inside : InsideTriangle (place points (origin m h)) (place points (origin m (rev h)))
+      (place points (origin m (prev m h))) (whole p)
 
 -- directed edge h starts on the right of the segment from p to q, or on its line, and ends on its left
 pub record GoesOver (points : List Point) (m : Mesh) (p q : Point) (h : ℕ) : Type 0 where
@@ -49,7 +50,9 @@ pub record StartsOutside (t : Triangulation) (p : Point) : Type 0 where
 -- of the first n vertices, v is on the segment from p to q, and none on it is nearer to p; or none of them is on it
 abbrev pub IsNearestOf : List Point → ℕ → Point → Point → Option ℕ → Type 0
 IsNearestOf points n p q r = MatchOption r ((k : ℕ) → k < n → ¬ OnSegment (whole p) (whole q) (place points k))
-    (λ v. (v < n) × OnSegment (whole p) (whole q) (place points v) × ((k : ℕ) → k < n → OnSegment (whole p) (whole q) (place points k) → ¬ IsNearer (whole p) (place points k) (place points v)))
+    (λ v. (v < n) × OnSegment (whole p) (whole q) (place points v) ×
+    ((k : ℕ) → k < n → OnSegment (whole p) (whole q) (place points k) →
+    ¬ IsNearer (whole p) (place points k) (place points v)))
 
 -- vertex v is nearer to p than the other one, if there is one
 abbrev pub IsNearerVertex : List Point → Point → ℕ → Option ℕ → Type 0

@@ -13,16 +13,20 @@ use Rattle.mesh_embedding.proofs.EdgePairs.{joins_edge}
 use Rattle.plane.proofs.Signs.{less_with_ones, less_without_ones}
 
 -- which of two points is nearer, by their squared distances
-pub nearer_by_gaps : (p a b : Point) → gap (whole p) (whole a) <ℤ gap (whole p) (whole b) → IsNearer (whole p) (whole a) (whole b)
+pub nearer_by_gaps : (p a b : Point) → gap (whole p) (whole a) <ℤ gap (whole p) (whole b) →
+    IsNearer (whole p) (whole a) (whole b)
 nearer_by_gaps p a b h = record { nearer = less_with_ones (gap (whole p) (whole a)) (gap (whole p) (whole b)) h }
 
 -- no neighbour is nearer where no edge of the vertex ends nearer
 pub no_nearer_neighbour : (points : List Point) (m : Mesh) (p : Point) (v : ℕ) → AreSoundLinks m
-    → ((h : ℕ) → h < length m.half_edges → origin m h ≡ v → ¬ (gap (whole p) (place points (origin m (rev h))) <ℤ gap (whole p) (place points v)))
-    → (k : ℕ) → IsEdge (drawn points m) v k → ¬ IsNearer (whole p) (vertex (drawn points m) k) (vertex (drawn points m) v)
+    → ((h : ℕ) → h < length m.half_edges → origin m h ≡ v →
+    ¬ (gap (whole p) (place points (origin m (rev h))) <ℤ gap (whole p) (place points v)))
+    → (k : ℕ) → IsEdge (drawn points m) v k → ¬ IsNearer (whole p) (vertex (drawn points m) k)
+    (vertex (drawn points m) v)
 no_nearer_neighbour points m p v sound none k edge near =
     let h = joins_edge m sound v k edge in
-    none h.0 h.1 h.2 (subst (λ x. gap (whole p) (place points x) <ℤ gap (whole p) (place points v)) (sym h.3) (less_without_ones (gap (whole p) (place points k)) (gap (whole p) (place points v)) near.nearer))
+    none h.0 h.1 h.2 (subst (λ x. gap (whole p) (place points x) <ℤ gap (whole p) (place points v)) (sym h.3)
+    (less_without_ones (gap (whole p) (place points k)) (gap (whole p) (place points v)) near.nearer))
 
 counts : (moves was k here n : ℕ) → moves ≡ was → k < here → here < n → moves + 1 + k < was + n
 counts moves was k here n e a b = omega (arith, e, a, b)
@@ -39,7 +43,8 @@ still_below moves k here n a l = omega (arith, a, l)
 some_more : (moves was here n : ℕ) → moves ≡ was → here < n → moves < was + n
 some_more moves was here n e v = omega (arith, e, v)
 
--- after the moves since `was` the walk is at vertex `here`: with the vertices that are nearer than it, they are fewer than all
+-- after the moves since `was` the walk is at vertex `here`: with the vertices that are nearer than it, they are fewer
+-- than all
 -- vertices, once there was a move
 pub record IsWalking (t : Triangulation) (p : Point) (here was moves : ℕ) : Type 0 where
   pub within : here < length t.points
@@ -60,42 +65,54 @@ module _ (t : Triangulation) (p : Point) (was : ℕ) where
       still_fewer : moves + 1 + nearer_count t (whole p) k < was + length t.points
       still_fewer = go w.fewer
         where
-          f : (nearer_count t (whole p) k < nearer_count t (whole p) here) × (nearer_count t (whole p) here < length t.points)
+          f : (nearer_count t (whole p) k < nearer_count t (whole p) here) ×
+              (nearer_count t (whole p) here < length t.points)
           f = nearer_count_falls t (whole p) here k w.within h near
 
-          go : (moves ≡ was) ⊎ (moves + nearer_count t (whole p) here < was + length t.points) → moves + 1 + nearer_count t (whole p) k < was + length t.points
-          go (inl e) = let a = f.0 in let b = f.1 in counts moves was (nearer_count t (whole p) k) (nearer_count t (whole p) here) (length t.points) e a b
-          go (inr l) = let a = f.0 in counts_on moves was (nearer_count t (whole p) k) (nearer_count t (whole p) here) (length t.points) l a
+          go : (moves ≡ was) ⊎ (moves + nearer_count t (whole p) here < was + length t.points) →
+              moves + 1 + nearer_count t (whole p) k < was + length t.points
+          go (inl e) = let a = f.0 in let b = f.1 in counts moves was (nearer_count t (whole p) k)
+              (nearer_count t (whole p) here) (length t.points) e a b
+          go (inr l) = let a = f.0 in counts_on moves was (nearer_count t (whole p) k) (nearer_count t (whole p) here)
+              (length t.points) l a
 
       -- the count of the moves has room for a move to a nearer vertex
       pub move_fits : was + length t.points ≤ 2 ^ 64 → moves + 1 < 2 ^ 64
-      move_fits fits = below_by (moves + 1) (nearer_count t (whole p) k) (was + length t.points) (2 ^ 64) still_fewer fits
+      move_fits fits =
+          below_by (moves + 1) (nearer_count t (whole p) k) (was + length t.points) (2 ^ 64) still_fewer fits
 
       -- after such a move the walk is at the nearer vertex
       pub walking_goes_on : IsWalking t p k was (moves + 1)
       walking_goes_on = record { within = h; grown = (let g = w.grown in omega (arith, g)); fewer = inr still_fewer }
 
-    module _ (k : ℕ) (h : k < length t.points) (at_most : (k ≡ here) ⊎ IsNearer (whole p) (vertex t k) (vertex t here)) where
-      -- the same vertex or a nearer one has no more vertices that are nearer than it
-      pub nearer_falls_or_stays : nearer_count t (whole p) k ≤ nearer_count t (whole p) here
-      nearer_falls_or_stays = go at_most
-        where
-          go : (k ≡ here) ⊎ IsNearer (whole p) (vertex t k) (vertex t here) → nearer_count t (whole p) k ≤ nearer_count t (whole p) here
-          go (inl e) = let c : nearer_count t (whole p) k ≡ nearer_count t (whole p) here = ap (nearer_count t (whole p)) e in omega (arith, c)
-          go (inr near) = let f = nearer_falls k h near in omega (arith, f)
+    module _ (k : ℕ) (h : k < length t.points) (at_most : (k ≡ here) ⊎ IsNearer (whole p) (vertex t k) (vertex t here))
+      where
+        -- the same vertex or a nearer one has no more vertices that are nearer than it
+        pub nearer_falls_or_stays : nearer_count t (whole p) k ≤ nearer_count t (whole p) here
+        nearer_falls_or_stays = go at_most
+          where
+            go : (k ≡ here) ⊎ IsNearer (whole p) (vertex t k) (vertex t here) →
+                nearer_count t (whole p) k ≤ nearer_count t (whole p) here
+            go (inl e) = let c : nearer_count t (whole p) k ≡ nearer_count t (whole p) here =
+                ap (nearer_count t (whole p)) e in omega (arith, c)
+            go (inr near) = let f = nearer_falls k h near in omega (arith, f)
 
-      -- the walk can go on from there without a move
-      pub walking_jumps : IsWalking t p k was moves
-      walking_jumps = record { within = h; grown = w.grown; fewer = go w.fewer }
-        where
-          go : (moves ≡ was) ⊎ (moves + nearer_count t (whole p) here < was + length t.points) → (moves ≡ was) ⊎ (moves + nearer_count t (whole p) k < was + length t.points)
-          go (inl e) = inl e
-          go (inr l) = inr (still_below moves (nearer_count t (whole p) k) (nearer_count t (whole p) here) (was + length t.points) nearer_falls_or_stays l)
+        -- the walk can go on from there without a move
+        pub walking_jumps : IsWalking t p k was moves
+        walking_jumps = record { within = h; grown = w.grown; fewer = go w.fewer }
+          where
+            go : (moves ≡ was) ⊎ (moves + nearer_count t (whole p) here < was + length t.points) →
+                (moves ≡ was) ⊎ (moves + nearer_count t (whole p) k < was + length t.points)
+            go (inl e) = inl e
+            go (inr l) = inr (still_below moves (nearer_count t (whole p) k) (nearer_count t (whole p) here)
+                (was + length t.points) nearer_falls_or_stays l)
 
     -- there were fewer moves than there are vertices
     pub walking_ends : moves < was + length t.points
     walking_ends = go w.fewer
       where
-        go : (moves ≡ was) ⊎ (moves + nearer_count t (whole p) here < was + length t.points) → moves < was + length t.points
+        go : (moves ≡ was) ⊎ (moves + nearer_count t (whole p) here < was + length t.points) →
+            moves < was + length t.points
         go (inl e) = let v = w.within in some_more moves was here (length t.points) e v
-        go (inr l) = below_by moves (nearer_count t (whole p) here) (was + length t.points) (was + length t.points) l (omega arith)
+        go (inr l) = below_by moves (nearer_count t (whole p) here) (was + length t.points) (was + length t.points) l
+            (omega arith)

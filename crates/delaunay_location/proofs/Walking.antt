@@ -8,7 +8,11 @@ use Rattle.plane_tiling.proofs.Locations.{each_point_has_one_location}
 use Rattle.mesh_embedding.specs.Drawn.{drawn, faces_of, outer_of, edges_of}
 use Rattle.mesh_embedding.proofs.OwnEdges.{own_edges}
 use Rattle.delaunay_location.specs.declared.position_in_triangulation.PositionInTriangulation.{PositionInTriangulation}
-use Rattle.delaunay_location.specs.declared.position_in_triangulation.PositionInTriangulation.TheVariants.{OnVertex, OnEdge, OnFace, OutsideOfConvexHull, NoTriangulation}
+use Rattle.delaunay_location.specs.declared.position_in_triangulation.PositionInTriangulation.TheVariants.{OnVertex}
+use Rattle.delaunay_location.specs.declared.position_in_triangulation.PositionInTriangulation.TheVariants.{OnEdge}
+use Rattle.delaunay_location.specs.declared.position_in_triangulation.PositionInTriangulation.TheVariants.{OnFace}
+use Rattle.delaunay_location.specs.declared.position_in_triangulation.PositionInTriangulation.TheVariants.{OutsideOfConvexHull}
+use Rattle.delaunay_location.specs.declared.position_in_triangulation.PositionInTriangulation.TheVariants.{NoTriangulation}
 use Rattle.delaunay_legalization.specs.Known.{point_at}
 use Rattle.delaunay_legalization.specs.Parts.{IsApart}
 use Rattle.delaunay_legalization.specs.State.{State}
@@ -20,16 +24,24 @@ module _ {V D U F : Type 0} (at : V → Point) (s : State V D U F) (kept : IsTri
   points = map at s.vertices
 
   -- a position that is on no vertex by one answer is on none at all
-  pub apart_elsewhere : (p : Point) (x : PositionInTriangulation) → Locates points s.mesh p x → ((v : ℕ) → ¬ (x ≡ OnVertex v)) → IsApart points p
-  apart_elsewhere p x l other = record { apart = λ k h same. go k x other (one (location_of s.mesh x) (on_vertex k) l.location (h, there k same)) }
+  pub apart_elsewhere : (p : Point) (x : PositionInTriangulation) → Locates points s.mesh p x →
+      ((v : ℕ) → ¬ (x ≡ OnVertex v)) → IsApart points p
+  apart_elsewhere p x l other = record {
+    apart = λ k h same.
+        go k x other (one (location_of s.mesh x) (on_vertex k) l.location (h, there k same));
+  }
     where
-      one : (a b : Location) → IsLocation (drawn points s.mesh) (whole p) a → IsLocation (drawn points s.mesh) (whole p) b → IsSameLocation a b
-      one = (each_point_has_one_location points (faces_of s.mesh) (outer_of s.mesh) (edges_of s.mesh) kept.shape (own_edges s.mesh kept.valid) (whole p)).1
+      one : (a b : Location) → IsLocation (drawn points s.mesh) (whole p) a →
+          IsLocation (drawn points s.mesh) (whole p) b → IsSameLocation a b
+      one = (each_point_has_one_location points (faces_of s.mesh) (outer_of s.mesh) (edges_of s.mesh) kept.shape
+          (own_edges s.mesh kept.valid) (whole p)).1
 
       there : (k : ℕ) → point_at points k ≡ p → IsSame (whole p) (whole (point_at points k))
-      there k same = let e : p ≡ point_at points k = sym same in record { x = ap (λ q. q.x *ℤ pos 1) e; y = ap (λ q. q.y *ℤ pos 1) e }
+      there k same = let e : p ≡ point_at points k = sym same in
+          record { x = ap (λ q. q.x *ℤ pos 1) e; y = ap (λ q. q.y *ℤ pos 1) e }
 
-      go : (k : ℕ) (x : PositionInTriangulation) → ((v : ℕ) → ¬ (x ≡ OnVertex v)) → IsSameLocation (location_of s.mesh x) (on_vertex k) → ⊥
+      go : (k : ℕ) (x : PositionInTriangulation) → ((v : ℕ) → ¬ (x ≡ OnVertex v)) →
+          IsSameLocation (location_of s.mesh x) (on_vertex k) → ⊥
       go k (OnVertex v) other same = other v refl
       go k (OnEdge e) other same = absurd same
       go k (OnFace f) other same = absurd same

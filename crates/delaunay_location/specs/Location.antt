@@ -8,7 +8,11 @@ use Rattle.plane.specs.Circle.{gap}
 use Rattle.plane.specs.Pairs.{place}
 use Rattle.plane.specs.Location.{Location, IsLocation, on_vertex, on_edge, on_face, outside_hull, no_triangulation}
 use Rattle.delaunay_location.specs.declared.position_in_triangulation.PositionInTriangulation.{PositionInTriangulation}
-use Rattle.delaunay_location.specs.declared.position_in_triangulation.PositionInTriangulation.TheVariants.{OnVertex, OnEdge, OnFace, OutsideOfConvexHull, NoTriangulation}
+use Rattle.delaunay_location.specs.declared.position_in_triangulation.PositionInTriangulation.TheVariants.{OnVertex}
+use Rattle.delaunay_location.specs.declared.position_in_triangulation.PositionInTriangulation.TheVariants.{OnEdge}
+use Rattle.delaunay_location.specs.declared.position_in_triangulation.PositionInTriangulation.TheVariants.{OnFace}
+use Rattle.delaunay_location.specs.declared.position_in_triangulation.PositionInTriangulation.TheVariants.{OutsideOfConvexHull}
+use Rattle.delaunay_location.specs.declared.position_in_triangulation.PositionInTriangulation.TheVariants.{NoTriangulation}
 use Rattle.delaunay_legalization.specs.Parts.{IsWithinEdge}
 use Rattle.mesh_embedding.specs.Drawn.{drawn}
 
@@ -35,7 +39,8 @@ pub record Locates (points : List Point) (m : Mesh) (p : Point) (answer : Positi
 
 -- directed edge e has the outer face on its left, and p strictly on its left
 abbrev IsLeftOfEdge : List Point → Mesh → Point → ℕ → Type 0
-IsLeftOfEdge points m p e = (face m e ≡ 0) × TurnsLeft (place points (origin m e)) (place points (origin m (rev e))) (whole p)
+IsLeftOfEdge points m p e =
+    (face m e ≡ 0) × TurnsLeft (place points (origin m e)) (place points (origin m (rev e))) (whole p)
 
 -- p is neither
 pub record IsClearOfEdge (points : List Point) (m : Mesh) (p : Point) (e : ℕ) : Type 0 where
@@ -45,9 +50,11 @@ pub record IsClearOfEdge (points : List Point) (m : Mesh) (p : Point) (e : ℕ) 
 -- no directed edge starts nearer to p than e does
 pub record StartsNearest (points : List Point) (m : Mesh) (p : Point) (e : ℕ) : Type 0 where
   pub within : e < length m.half_edges
-  pub nearest : (h : ℕ) → h < length m.half_edges → gap (whole p) (place points (origin m e)) ≤ℤ gap (whole p) (place points (origin m h))
+  pub nearest : (h : ℕ) → h < length m.half_edges →
+      gap (whole p) (place points (origin m e)) ≤ℤ gap (whole p) (place points (origin m h))
 
 -- the edge that the answer names has p strictly on its left
 abbrev pub IsLeftOfPlace : List Point → Mesh → Point → PositionInTriangulation → Type 0
-IsLeftOfPlace points m p (OutsideOfConvexHull e) = TurnsLeft (place points (origin m e)) (place points (origin m (rev e))) (whole p)
+IsLeftOfPlace points m p (OutsideOfConvexHull e) =
+    TurnsLeft (place points (origin m e)) (place points (origin m (rev e))) (whole p)
 IsLeftOfPlace points m p _ = ⊥

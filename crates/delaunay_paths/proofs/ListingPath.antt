@@ -1,5 +1,6 @@
 -- The edges along a path, listed one after another.
-use Rattle.std.proofs.Common.{◌≡◌, ◌≢◌, ◌⊎◌, ℕ, ◌+◌, ◌<◌, ◌≤◌, List, [], ◌∷◌, ◌++◌, length, sym, ◌∙◌, subst, inl, inr, arith, append_assoc, append-nil, length-append}
+use Rattle.std.proofs.Common.{◌≡◌, ◌≢◌, ◌⊎◌, ℕ, ◌+◌, ◌<◌, ◌≤◌, List, [], ◌∷◌, ◌++◌, length, sym, ◌∙◌, subst, inl, inr}
+use Rattle.std.proofs.Common.{arith, append_assoc, append-nil, length-append}
 use Rattle.std.specs.Prelude.{ℤ, pos, negsuc, ◌*ℤ◌, ◌≤ℤ◌, ◌<ℤ◌, nat_abs}
 use Rattle.std.proofs.lemmas.Bool.{cases_eq}
 use Rattle.std.proofs.lemmas.Int.{ints}
@@ -29,7 +30,13 @@ by_one : (x : ℤ) → x *ℤ (pos 1 *ℤ pos 1) ≡ x
 by_one x = omega (arith, ints)
 
 nearer_by_way : (j v w : Point) → squared_way v j <ℤ squared_way w j → IsNearer (whole j) (whole v) (whole w)
-nearer_by_way j v w h = record { nearer = subst (λ (x : ℤ × ℤ). x.0 <ℤ x.1) (λ o. ((sym (gap_is_way_back j v) ∙ sym (by_one (gap (whole j) (whole v)))) o, (sym (gap_is_way_back j w) ∙ sym (by_one (gap (whole j) (whole w)))) o)) h }
+nearer_by_way j v w h = record {
+  nearer = subst (λ (x : ℤ × ℤ). x.0 <ℤ x.1)
+      (λ o. (
+        (sym (gap_is_way_back j v) ∙ sym (by_one (gap (whole j) (whole v)))) o,
+        (sym (gap_is_way_back j w) ∙ sym (by_one (gap (whole j) (whole w)))) o,
+      )) h;
+}
 
 -- ---- the list
 module _ (points : List Point) (m : Mesh) where
@@ -42,24 +49,32 @@ module _ (points : List Point) (m : Mesh) where
     pub room_stays : room ≡ room_was
 
   module _ (distinct : ArePlacedApart points) (i j : ℕ) (hi : IsIndex points i) (hj : IsIndex points j) where
-    falls : (w v : ℕ) → IsIndex points w → w ≢ j → AreNextOn points w j w v → (nearer_count (drawn points m) (place points j) v < nearer_count (drawn points m) (place points j) w) × (nearer_count (drawn points m) (place points j) w < length points)
+    falls : (w v : ℕ) → IsIndex points w → w ≢ j → AreNextOn points w j w v →
+        (nearer_count (drawn points m) (place points j) v < nearer_count (drawn points m) (place points j) w) ×
+        (nearer_count (drawn points m) (place points j) w < length points)
     falls w v hw on_way next = nearer_count_falls (drawn points m) (place points j) w v hw next.second_index
         (nearer_by_way (point_of points j) (point_of points v) (point_of points w)
-        (less_of_abs (squared_way (point_of points v) (point_of points j)) (squared_way (point_of points w) (point_of points j)) (squared_way_nonneg (point_of points v) (point_of points j)) (squared_way_nonneg (point_of points w) (point_of points j))
+        (less_of_abs (squared_way (point_of points v) (point_of points j))
+        (squared_way (point_of points w) (point_of points j))
+        (squared_way_nonneg (point_of points v) (point_of points j))
+        (squared_way_nonneg (point_of points w) (point_of points j))
         (path_shortens points w j v distinct hw hj on_way next)))
 
     -- at i no edge is listed
-    pub listing_begins : (listed : List ℕ) (room_was room : ℕ) → listed ≡ [] → room ≡ room_was → IsListing i j i listed room_was room
-    listing_begins listed room_was room none stays = subst (λ (hs : List ℕ). IsListing i j i hs room_was room) (sym none) (record {
-      within = hi;
-      rest = λ a b x. x;
-      so_far = λ more x. x;
-      few = elim (cases_eq i j) [
-        | inl e ↦ inl e
-        | inr n ↦ (let b = path_begins points i j distinct hi hj n in let f = falls i b.0 hi n b.1 in let g = f.1 in inr (omega (arith, g)))
-      ];
-      room_stays = stays;
-    })
+    pub listing_begins : (listed : List ℕ) (room_was room : ℕ) → listed ≡ [] → room ≡ room_was →
+        IsListing i j i listed room_was room
+    listing_begins listed room_was room none stays =
+        subst (λ (hs : List ℕ). IsListing i j i hs room_was room) (sym none) (record {
+          within = hi;
+          rest = λ a b x. x;
+          so_far = λ more x. x;
+          few = elim (cases_eq i j) [
+            | inl e ↦ inl e
+            | inr n ↦ (let b = path_begins points i j distinct hi hj n in let f = falls i b.0 hi n b.1 in let g = f.1 in
+                inr (omega (arith, g)))
+          ];
+          room_stays = stays;
+        })
 
     module _ (w : ℕ) (listed : List ℕ) (room_was room : ℕ) (p : IsListing i j w listed room_was room) where
       module _ (v : ℕ) (on_way : w ≢ j) (next : AreNextOn points w j w v) where
@@ -71,15 +86,24 @@ module _ (points : List Point) (m : Mesh) where
         listing_has_room n count enough = let f = few_now in let s = p.room_stays in omega (arith, f, count, enough, s)
 
         -- an edge from w to the next vertex brings the list to this vertex
-        pub listing_goes_on : (h : ℕ) (more : List ℕ) (room_now : ℕ) → h < length m.half_edges → origin m h ≡ w → origin m (rev h) ≡ v → more ≡ listed ++ h ∷ [] → room_now ≡ room → IsListing i j v more room_was room_now
-        listing_goes_on h more room_now within source target is stays = subst (λ (hs : List ℕ). IsListing i j v hs room_was room_now) (sym is) (record {
-          within = next.second_index;
-          rest = λ a b x. p.rest a b ((path_goes_on points w j v distinct hj on_way next a b).1 (inr x));
-          so_far = λ rest x. subst (λ (hs : List ℕ). LeadAlong points m i j hs) (sym (append_assoc listed (h ∷ []) rest))
-              (p.so_far (h ∷ rest) (within, source, subst (AreNextOn points w j w) (sym target) next, subst (λ (k : ℕ). LeadAlong points m k j rest) (sym target) x));
-          few = (let f = few_now in let g = (falls w v p.within on_way next).0 in let l = length-append listed (h ∷ []) in inr (omega (arith, f, g, l)));
-          room_stays = stays ∙ p.room_stays;
-        })
+        pub listing_goes_on : (h : ℕ) (more : List ℕ) (room_now : ℕ) → h < length m.half_edges → origin m h ≡ w →
+            origin m (rev h) ≡ v → more ≡ listed ++ h ∷ [] → room_now ≡ room → IsListing i j v more room_was room_now
+        listing_goes_on h more room_now within source target is stays =
+            subst (λ (hs : List ℕ). IsListing i j v hs room_was room_now) (sym is) (record {
+              within = next.second_index;
+              rest = λ a b x. p.rest a b ((path_goes_on points w j v distinct hj on_way next a b).1 (inr x));
+              so_far =
+                  λ rest x. subst (λ (hs : List ℕ). LeadAlong points m i j hs) (sym (append_assoc listed (h ∷ []) rest))
+                  (p.so_far (h ∷ rest) (
+                    within,
+                    source,
+                    subst (AreNextOn points w j w) (sym target) next,
+                    subst (λ (k : ℕ). LeadAlong points m k j rest) (sym target) x,
+                  ));
+              few = (let f = few_now in let g = (falls w v p.within on_way next).0 in
+                  let l = length-append listed (h ∷ []) in inr (omega (arith, f, g, l)));
+              room_stays = stays ∙ p.room_stays;
+            })
 
       -- at j the edges of the list lead along the path
       pub listing_ends : w ≡ j → LeadAlong points m i j listed

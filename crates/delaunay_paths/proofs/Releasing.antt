@@ -1,5 +1,6 @@
 -- A constraint that is released, and what is left to test then.
-use Rattle.std.proofs.Common.{◌≡◌, ◌≢◌, ◌⊎◌, ◌↔◌, ℕ, ◌*◌, ◌<◌, ◌≤◌, List, [], ◌∷◌, length, map, set, sym, ap, ◌∙◌, subst, inl, inr, arith}
+use Rattle.std.proofs.Common.{◌≡◌, ◌≢◌, ◌⊎◌, ◌↔◌, ℕ, ◌*◌, ◌<◌, ◌≤◌, List, [], ◌∷◌, length, map, set, sym, ap, ◌∙◌}
+use Rattle.std.proofs.Common.{subst, inl, inr, arith}
 use Rattle.std.specs.Prelude.{Bool, false, All, Contains}
 use Rattle.std.proofs.lemmas.Bool.{cases_eq}
 use Rattle.std.proofs.lemmas.List.{length-set}
@@ -17,7 +18,8 @@ use Rattle.mesh_embedding.specs.Legal.{AreEdges, pairs_at}
 use Rattle.mesh_embedding.specs.Stays.{KeepsIndexes}
 use Rattle.mesh_embedding.proofs.MeshLegal.{joins_edge, own_indexes, same_joined}
 use Rattle.mesh_embedding.proofs.WorkLists.{once_after}
-use Rattle.delaunay_legalization.specs.Constraints.{marked_edges, constraint_pairs, constraints_by, points_and_constraints_by}
+use Rattle.delaunay_legalization.specs.Constraints.{marked_edges, constraint_pairs, constraints_by}
+use Rattle.delaunay_legalization.specs.Constraints.{points_and_constraints_by}
 use Rattle.delaunay_legalization.specs.Flips.{CountsFlips, FlipsFit}
 use Rattle.delaunay_legalization.specs.Marking.{HasEdgeData}
 use Rattle.delaunay_legalization.specs.Shape.{IsTriangulated, IsDelaunayTriangulation}
@@ -38,7 +40,8 @@ same_pair_or_not a b u v = go (cases_eq a u) (cases_eq b v) (cases_eq a v) (case
     second (inl e) (inr f) n = inr (λ s. elim s as (λ _. ⊥) [ inl x ↦ n x | inr x ↦ f x.1 ])
     second (inr e) q n = inr (λ s. elim s as (λ _. ⊥) [ inl x ↦ n x | inr x ↦ e x.0 ])
 
-    go : (a ≡ u) ⊎ (a ≢ u) → (b ≡ v) ⊎ (b ≢ v) → (a ≡ v) ⊎ (a ≢ v) → (b ≡ u) ⊎ (b ≢ u) → IsSamePair a b u v ⊎ (¬ IsSamePair a b u v)
+    go : (a ≡ u) ⊎ (a ≢ u) → (b ≡ v) ⊎ (b ≢ v) → (a ≡ v) ⊎ (a ≢ v) → (b ≡ u) ⊎ (b ≢ u) →
+        IsSamePair a b u v ⊎ (¬ IsSamePair a b u v)
     go (inl e) (inl f) q r = inl (inl (e, f))
     go (inl e) (inr f) q r = second q r (λ x. f x.1)
     go (inr e) f q r = second q r (λ x. e x.0)
@@ -53,19 +56,27 @@ module _ {V D U F : Type 0} (at : V → Point) (c : Contents V D U F) (kept : Is
   double j h = let f = kept.fits.undirected_fit in omega (arith, f, h)
 
   -- two undirected edges with the same ends are one
-  pub one_edge : (k l : ℕ) → k < length c.undirected → l < length c.undirected → IsSamePair (origin c.mesh (2 * l)) (origin c.mesh (rev (2 * l))) (origin c.mesh (2 * k)) (origin c.mesh (rev (2 * k))) → l ≡ k
-  one_edge k l v w (inl e) = let r = indexes.edges (2 * k) (2 * l) (double k v) (double l w) (e.0, e.1) in omega (arith, r)
+  pub one_edge : (k l : ℕ) → k < length c.undirected → l < length c.undirected →
+      IsSamePair (origin c.mesh (2 * l)) (origin c.mesh (rev (2 * l))) (origin c.mesh (2 * k))
+      (origin c.mesh (rev (2 * k))) → l ≡ k
+  one_edge k l v w (inl e) =
+      let r = indexes.edges (2 * k) (2 * l) (double k v) (double l w) (e.0, e.1) in omega (arith, r)
   one_edge k l v w (inr e) =
-      let r = indexes.edges (2 * k) (rev (2 * l)) (double k v) (rev_within (2 * l) (length c.mesh.half_edges) kept.valid.sound.even (double l w)) (e.1, ap (origin c.mesh) (rev-rev (2 * l)) ∙ e.0) in
+      let r = indexes.edges (2 * k) (rev (2 * l)) (double k v)
+      (rev_within (2 * l) (length c.mesh.half_edges) kept.valid.sound.even (double l w))
+      (e.1, ap (origin c.mesh) (rev-rev (2 * l)) ∙ e.0) in
       let f = rev_of_even l in
       omega (arith, r, f)
 
-module _ {V D U F : Type 0} (at : V → Point) (marks : U → Bool) (constraints : List U → List ℕ) (marked : (ds : List U) → constraints ds ≡ marked_edges marks ds) (old : Contents V D U F) (k : ℕ) (there : Contains (constraints old.undirected) k) where
+module _ {V D U F : Type 0} (at : V → Point) (marks : U → Bool) (constraints : List U → List ℕ)
+    (marked : (ds : List U) → constraints ds ≡ marked_edges marks ds) (old : Contents V D U F) (k : ℕ)
+    (there : Contains (constraints old.undirected) k) where
   -- the constraint is one of the undirected edges
   pub edge_there : k < length old.undirected
   edge_there = fixed_within marks constraints marked old.undirected k there
 
-  module _ (legal : IsDelaunayTriangulation at constraints (state_of old)) (mid : Contents V D U F) (change : U → U) (free : (d : U) → marks (change d) ≡ false) (written : HasEdgeData change old mid k) where
+  module _ (legal : IsDelaunayTriangulation at constraints (state_of old)) (mid : Contents V D U F) (change : U → U)
+      (free : (d : U) → marks (change d) ≡ false) (written : HasEdgeData change old mid k) where
     same : mid.mesh ≡ old.mesh
     same = ap (λ (c : Contents V D U F). c.mesh) written.whole
 
@@ -90,25 +101,34 @@ module _ {V D U F : Type 0} (at : V → Point) (marks : U → Bool) (constraints
     abbrev v : ℕ
     v = origin old.mesh (rev (2 * k))
 
-    now_is : constraint_pairs constraints mid.mesh mid.undirected ≡ constraint_pairs constraints old.mesh (set old.undirected k (change written.value))
+    now_is : constraint_pairs constraints mid.mesh mid.undirected ≡ constraint_pairs constraints old.mesh
+        (set old.undirected k (change written.value))
     now_is = ap (λ (c : Contents V D U F). constraint_pairs constraints c.mesh c.undirected) written.whole
 
-    leaves : (a b : ℕ) → Joins (constraint_pairs constraints mid.mesh mid.undirected) a b ↔ (Joins (constraint_pairs constraints old.mesh old.undirected) a b × ¬ IsSamePair a b u v)
-    leaves a b = subst (λ (ps : List (ℕ × ℕ)). Joins ps a b ↔ (Joins (constraint_pairs constraints old.mesh old.undirected) a b × ¬ IsSamePair a b u v)) (sym now_is)
-        (unmarking_leaves marks constraints marked old.undirected k written.value (change written.value) written.was old.mesh (free written.value) (λ l within. one_edge at old legal.kept k l edge_there within) a b)
+    leaves : (a b : ℕ) → Joins (constraint_pairs constraints mid.mesh mid.undirected) a b ↔
+        (Joins (constraint_pairs constraints old.mesh old.undirected) a b × ¬ IsSamePair a b u v)
+    leaves a b = subst (λ (ps : List (ℕ × ℕ)). Joins ps a b ↔
+        (Joins (constraint_pairs constraints old.mesh old.undirected) a b × ¬ IsSamePair a b u v)) (sym now_is)
+        (unmarking_leaves marks constraints marked old.undirected k written.value (change written.value) written.was
+        old.mesh (free written.value) (λ l within. one_edge at old legal.kept k l edge_there within) a b)
 
     here : Joins (pairs_at old.mesh (k ∷ [])) u v
     here = joins_edge old.mesh (k ∷ []) k (Contains-head k [])
 
-    was_passing : AllPassBut (map at old.vertices) (faces_of old.mesh) (constraint_pairs constraints mid.mesh mid.undirected) (pairs_at old.mesh (k ∷ []))
-    was_passing i j x l f g unmarked untested = legal.passing i j x l f g (λ h. elim (same_pair_or_not i j u v) as (λ _. ⊥) [
-      | inl s ↦ untested (same_joined (pairs_at old.mesh (k ∷ [])) i j u v s here)
-      | inr n ↦ unmarked ((leaves i j).1 (h, n))
-    ])
+    was_passing : AllPassBut (map at old.vertices) (faces_of old.mesh)
+        (constraint_pairs constraints mid.mesh mid.undirected) (pairs_at old.mesh (k ∷ []))
+    was_passing i j x l f g unmarked untested =
+        legal.passing i j x l f g (λ h. elim (same_pair_or_not i j u v) as (λ _. ⊥) [
+          | inl s ↦ untested (same_joined (pairs_at old.mesh (k ∷ [])) i j u v s here)
+          | inr n ↦ unmarked ((leaves i j).1 (h, n))
+        ])
 
     -- only this edge is left to test
-    pub released_passing : AllPassBut (map at mid.vertices) (faces_of mid.mesh) (constraint_pairs constraints mid.mesh mid.undirected) (pairs_at mid.mesh (k ∷ []))
-    released_passing = subst (λ (x : List V × Mesh). AllPassBut (map at x.0) (faces_of x.1) (constraint_pairs constraints mid.mesh mid.undirected) (pairs_at x.1 (k ∷ []))) (λ o. (sym same_vertices o, sym same o)) was_passing
+    pub released_passing : AllPassBut (map at mid.vertices) (faces_of mid.mesh)
+        (constraint_pairs constraints mid.mesh mid.undirected) (pairs_at mid.mesh (k ∷ []))
+    released_passing = subst (λ (x : List V × Mesh). AllPassBut (map at x.0) (faces_of x.1)
+        (constraint_pairs constraints mid.mesh mid.undirected) (pairs_at x.1 (k ∷ [])))
+        (λ o. (sym same_vertices o, sym same o)) was_passing
 
     -- and it is an edge of the mesh
     pub left_to_test : AreEdges mid.mesh (k ∷ [])
@@ -121,7 +141,9 @@ module _ {V D U F : Type 0} (at : V → Point) (marks : U → Bool) (constraints
     })
 
     -- after flips that make it Delaunay again, the constraint is released
-    pub released : (new : Contents V D U F) → new ≡ record mid { mesh = new.mesh } → KeepsIndexes mid.mesh new.mesh → constraint_pairs constraints new.mesh new.undirected ≡ constraint_pairs constraints mid.mesh mid.undirected → IsDelaunayTriangulation at constraints (state_of new) → ReleasesEdge at change constraints old new k
+    pub released : (new : Contents V D U F) → new ≡ record mid { mesh = new.mesh } → KeepsIndexes mid.mesh new.mesh →
+        constraint_pairs constraints new.mesh new.undirected ≡ constraint_pairs constraints mid.mesh mid.undirected →
+        IsDelaunayTriangulation at constraints (state_of new) → ReleasesEdge at change constraints old new k
     released new contents indexes constraints_stay now_legal = record {
       value = written.value;
       was = written.was;
@@ -130,13 +152,16 @@ module _ {V D U F : Type 0} (at : V → Point) (marks : U → Bool) (constraints
       plain = record {
         there = joins_edge old.mesh (constraints old.undirected) k there;
         vertices = ap (λ (c : Contents V D U F). c.vertices) contents ∙ same_vertices;
-        constraints = λ a b. subst (λ (ps : List (ℕ × ℕ)). Joins ps a b ↔ (Joins (constraint_pairs constraints old.mesh old.undirected) a b × ¬ IsSamePair a b u v)) (sym constraints_stay) (leaves a b);
+        constraints = λ a b. subst (λ (ps : List (ℕ × ℕ)). Joins ps a b ↔
+            (Joins (constraint_pairs constraints old.mesh old.undirected) a b × ¬ IsSamePair a b u v))
+            (sym constraints_stay) (leaves a b);
       };
       legal = now_legal;
     }
 
 -- ---- where only the mesh and the data of edges change
-module _ {V D U F : Type 0} (old mid : Contents V D U F) (stays : mid ≡ record old { mesh = mid.mesh; undirected = mid.undirected }) where
+module _ {V D U F : Type 0} (old mid : Contents V D U F)
+    (stays : mid ≡ record old { mesh = mid.mesh; undirected = mid.undirected }) where
   stay : mid.vertices ≡ old.vertices
   stay = ap (λ (c : Contents V D U F). c.vertices) stays
 
@@ -149,36 +174,58 @@ module _ {V D U F : Type 0} (old mid : Contents V D U F) (stays : mid ≡ record
   fits_on flips h = subst (λ (vs : List V). FlipsFit (length vs) flips) (sym stay) h
 
   -- a count of the flips afterwards is one of before
-  pub counts_on : (before after : ℕ) → CountsFlips (length mid.vertices) before after → CountsFlips (length old.vertices) before after
+  pub counts_on : (before after : ℕ) → CountsFlips (length mid.vertices) before after →
+      CountsFlips (length old.vertices) before after
   counts_on before after h = subst (λ (vs : List V). CountsFlips (length vs) before after) stay h
 
-module _ {V D U F : Type 0} (at : V → Point) (old mid : Contents V D U F) (stays : mid ≡ record old { mesh = mid.mesh; undirected = mid.undirected }) where
+module _ {V D U F : Type 0} (at : V → Point) (old mid : Contents V D U F)
+    (stays : mid ≡ record old { mesh = mid.mesh; undirected = mid.undirected }) where
   -- vertices that are sites are sites afterwards
   pub sites_on : (IsSite : Point → Type 0) → All IsSite (map at old.vertices) → All IsSite (map at mid.vertices)
-  sites_on IsSite sites = subst (λ (vs : List V). All IsSite (map at vs)) (sym (ap (λ (c : Contents V D U F). c.vertices) stays)) sites
+  sites_on IsSite sites =
+      subst (λ (vs : List V). All IsSite (map at vs)) (sym (ap (λ (c : Contents V D U F). c.vertices) stays)) sites
 
 -- a path was added, and edges were flipped
-pub constraints_added : {V D U F : Type 0} (at : V → Point) (marks : U → Bool) (marked : U → U) (constraints : List U → List ℕ) (old mid new : Contents V D U F) (i j : ℕ) → AddsPath at marks marked constraints old mid i j → new ≡ record mid { mesh = new.mesh }
-    → constraints_by constraints (state_of new) ≡ constraints_by constraints (state_of mid) → IsDelaunayTriangulation at constraints (state_of new) → AddsConstraints at marks marked constraints old new i j
-constraints_added {V = V} {D = D} {U = U} {F = F} at marks marked constraints old mid new i j adds contents same legal = record {
-  contents = contents ∙ ap (λ (c : Contents V D U F). record c { mesh = new.mesh }) adds.contents ∙ ap (λ (us : List U). record old { mesh = new.mesh; undirected = us }) (sym (ap (λ (c : Contents V D U F). c.undirected) contents));
-  marks_some = subst (λ (us : List U). MarksSome marks marked old.undirected us) (sym (ap (λ (c : Contents V D U F). c.undirected) contents)) adds.marks_some;
-  plain = record {
-    ends = adds.plain.ends;
-    free = adds.plain.free;
-    vertices = ap (λ (c : Contents V D U F). c.vertices) contents ∙ adds.plain.vertices;
-    constraints = λ a b. subst (λ (ps : List (ℕ × ℕ)). Joins ps a b ↔ (Joins (constraints_by constraints (state_of old)) a b ⊎ AreNeighboursOn at (points_of at (points_and_constraints_by constraints (state_of old))) i j a b)) (sym same) (adds.plain.constraints a b);
-  };
-  legal = legal;
-}
+pub constraints_added : {V D U F : Type 0} (at : V → Point) (marks : U → Bool) (marked : U → U)
+    (constraints : List U → List ℕ) (old mid new : Contents V D U F) (i j : ℕ) →
+    AddsPath at marks marked constraints old mid i j → new ≡ record mid { mesh = new.mesh }
+    → constraints_by constraints (state_of new) ≡ constraints_by constraints (state_of mid) →
+    IsDelaunayTriangulation at constraints (state_of new) → AddsConstraints at marks marked constraints old new i j
+constraints_added {V = V} {D = D} {U = U} {F = F} at marks marked constraints old mid new i j adds contents same legal =
+    record {
+      contents = contents ∙ ap (λ (c : Contents V D U F). record c { mesh = new.mesh }) adds.contents
+          ∙ ap (λ (us : List U). record old { mesh = new.mesh; undirected = us })
+          (sym (ap (λ (c : Contents V D U F). c.undirected) contents));
+      marks_some = subst (λ (us : List U). MarksSome marks marked old.undirected us)
+          (sym (ap (λ (c : Contents V D U F). c.undirected) contents)) adds.marks_some;
+      plain = record {
+        ends = adds.plain.ends;
+        free = adds.plain.free;
+        vertices = ap (λ (c : Contents V D U F). c.vertices) contents ∙ adds.plain.vertices;
+        constraints = λ a b. subst (λ (ps : List (ℕ × ℕ)). Joins ps a b ↔
+            (Joins (constraints_by constraints (state_of old)) a b ⊎
+            AreNeighboursOn at (points_of at (points_and_constraints_by constraints (state_of old))) i j a b))
+            (sym same)
+            (adds.plain.constraints a b);
+      };
+      legal = legal;
+    }
 
 -- ---- after a path was added
-module _ {V D U F : Type 0} (at : V → Point) (marks : U → Bool) (marked : U → U) (constraints : List U → List ℕ) (old mid : Contents V D U F) (i j : ℕ) (adds : AddsPath at marks marked constraints old mid i j) (left : List ℕ) (leaves : LeavesToTest (map at old.vertices) old mid left) where
+module _ {V D U F : Type 0} (at : V → Point) (marks : U → Bool) (marked : U → U) (constraints : List U → List ℕ)
+    (old mid : Contents V D U F) (i j : ℕ) (adds : AddsPath at marks marked constraints old mid i j) (left : List ℕ)
+    (leaves : LeavesToTest (map at old.vertices) old mid left) where
   -- all passed but the constraints, and these are constraints still
-  pub added_passing : IsDelaunayTriangulation at constraints (state_of old) → AllPassBut (map at mid.vertices) (faces_of mid.mesh) (constraint_pairs constraints mid.mesh mid.undirected) (pairs_at mid.mesh left)
-  added_passing legal = subst (λ (vs : List V). AllPassBut (map at vs) (faces_of mid.mesh) (constraint_pairs constraints mid.mesh mid.undirected) (pairs_at mid.mesh left)) (sym adds.plain.vertices)
-      (λ a b k l f g free untested. leaves.leaves (constraint_pairs constraints old.mesh old.undirected) (λ a b k l f g unmarked _. legal.passing a b k l f g unmarked) a b k l f g (λ x. free ((adds.plain.constraints a b).1 (inl x))) untested)
+  pub added_passing : IsDelaunayTriangulation at constraints (state_of old) →
+      AllPassBut (map at mid.vertices) (faces_of mid.mesh) (constraint_pairs constraints mid.mesh mid.undirected)
+      (pairs_at mid.mesh left)
+  added_passing legal = subst (λ (vs : List V). AllPassBut (map at vs) (faces_of mid.mesh)
+      (constraint_pairs constraints mid.mesh mid.undirected) (pairs_at mid.mesh left)) (sym adds.plain.vertices)
+      (λ a b k l f g free untested. leaves.leaves (constraint_pairs constraints old.mesh old.undirected)
+      (λ a b k l f g unmarked _. legal.passing a b k l f g unmarked) a b k l f g
+      (λ x. free ((adds.plain.constraints a b).1 (inl x))) untested)
 
   -- what has room for three edges for each vertex has room for the edges afterwards
   pub added_room : (room : ℕ) → 3 * length old.vertices ≤ room → length mid.undirected ≤ room
-  added_room room fits = let few = adds.kept.few_edges in let same = ap length adds.plain.vertices in omega (arith, few, same, fits)
+  added_room room fits =
+      let few = adds.kept.few_edges in let same = ap length adds.plain.vertices in omega (arith, few, same, fits)

@@ -13,7 +13,8 @@ HasPath points m i j = (a b : ℕ) → AreNextOn points i j a b → Joins (edges
 -- these edges lead from i to j, each from one vertex of the segment to the next
 abbrev pub LeadAlong : List Point → Mesh → ℕ → ℕ → List ℕ → Type 0
 LeadAlong points m i j [] = i ≡ j
-LeadAlong points m i j (h ∷ hs) = (h < length m.half_edges) × (origin m h ≡ i) × AreNextOn points i j i (origin m (rev h)) × LeadAlong points m (origin m (rev h)) j hs
+LeadAlong points m i j (h ∷ hs) = (h < length m.half_edges) × (origin m h ≡ i) ×
+    AreNextOn points i j i (origin m (rev h)) × LeadAlong points m (origin m (rev h)) j hs
 
 -- each piece of the path from i to j is one of the pairs
 abbrev pub AreJoinedAlong : List Point → List (ℕ × ℕ) → ℕ → ℕ → Type 0

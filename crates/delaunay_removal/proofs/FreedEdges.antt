@@ -1,5 +1,6 @@
 -- The edges round a vertex cease to be constraints, one after another.
-use Rattle.std.proofs.Common.{◌≡◌, ◌≢◌, ℕ, ◌+◌, ◌*◌, ◌/◌, ◌<◌, List, length, set, Some, refl, sym, ap, ◌∙◌, subst, inl, inr, arith}
+use Rattle.std.proofs.Common.{◌≡◌, ◌≢◌, ℕ, ◌+◌, ◌*◌, ◌/◌, ◌<◌, List, length, set, Some, refl, sym, ap, ◌∙◌, subst, inl}
+use Rattle.std.proofs.Common.{inr, arith}
 use Rattle.std.specs.Prelude.{Bool, true, false, [], Contains, Option, None, IsSome, slice_get}
 use Rattle.std.proofs.lemmas.Bool.{cases_eq}
 use Rattle.std.proofs.lemmas.List.{length-set, get_or-set_same}
@@ -28,21 +29,31 @@ module _ {V D U F : Type 0} (marks : U → Bool) (old : Contents V D U F) (first
     pub within : edge < length old.directed
     pub here : edge ≡ spoke old.mesh first i
     pub done : (j : ℕ) → j < i → IsUnmarked marks now (spoke old.mesh first j / 2)
-    pub others : (k : ℕ) → ((j : ℕ) → spoke old.mesh first j / 2 ≢ k) → slice_get now.undirected k ≡ slice_get old.undirected k
+    pub others : (k : ℕ) → ((j : ℕ) → spoke old.mesh first j / 2 ≢ k) →
+        slice_get now.undirected k ≡ slice_get old.undirected k
 
   -- at the first edge none has been freed yet
   pub freeing_begins : first < length old.directed → IsFreeing old 0 first
-  freeing_begins within = record { contents = refl; count = refl; within = within; here = refl; done = λ j less. absurd (omega (arith, less)); others = λ k none. refl }
+  freeing_begins within = record {
+    contents = refl;
+    count = refl;
+    within = within;
+    here = refl;
+    done = λ j less. absurd (omega (arith, less));
+    others = λ k none. refl;
+  }
 
   -- the data of the directed edges stay
-  pub same_directed : (now : Contents V D U F) → now ≡ record old { undirected = now.undirected } → now.directed ≡ old.directed
+  pub same_directed : (now : Contents V D U F) → now ≡ record old { undirected = now.undirected } →
+      now.directed ≡ old.directed
   same_directed now contents = ap (λ (c : Contents V D U F). c.directed) contents
 
   -- the mesh stays
   pub same_mesh : (now : Contents V D U F) → now ≡ record old { undirected = now.undirected } → now.mesh ≡ old.mesh
   same_mesh now contents = ap (λ (c : Contents V D U F). c.mesh) contents
 
-  module _ (now new : Contents V D U F) (i edge : ℕ) (freeing : IsFreeing now i edge) (change : U → U) (free : (d : U) → marks (change d) ≡ false) (written : HasEdgeData change now new (edge / 2)) where
+  module _ (now new : Contents V D U F) (i edge : ℕ) (freeing : IsFreeing now i edge) (change : U → U)
+      (free : (d : U) → marks (change d) ≡ false) (written : HasEdgeData change now new (edge / 2)) where
     abbrev x : U
     x = change written.value
 
@@ -50,7 +61,9 @@ module _ {V D U F : Type 0} (marks : U → Bool) (old : Contents V D U F) (first
     data_are = ap (λ (c : Contents V D U F). c.undirected) written.whole
 
     contents_are : new ≡ record old { undirected = new.undirected }
-    contents_are = written.whole ∙ ap (λ (c : Contents V D U F). record c { undirected = set now.undirected (edge / 2) x }) freeing.contents ∙ ap (λ (us : List U). record old { undirected = us }) (sym data_are)
+    contents_are = written.whole ∙ ap (λ (c : Contents V D U F).
+        record c { undirected = set now.undirected (edge / 2) x }) freeing.contents
+        ∙ ap (λ (us : List U). record old { undirected = us }) (sym data_are)
 
     some_same : (p q : U) → Some p ≡ Some q → p ≡ q
     some_same p q e = cc
@@ -58,24 +71,31 @@ module _ {V D U F : Type 0} (marks : U → Bool) (old : Contents V D U F) (first
     unmarked_here : IsUnmarked marks new (edge / 2)
     unmarked_here d is =
         let inside = slice_get_within now.undirected (edge / 2) written.value written.was in
-        let read = sym (get_or_from_slice_get (set now.undirected (edge / 2) x) (edge / 2) d x (subst (λ (us : List U). slice_get us (edge / 2) ≡ Some d) data_are is)) ∙ get_or-set_same now.undirected (edge / 2) x x inside in
+        let read = sym (get_or_from_slice_get (set now.undirected (edge / 2) x) (edge / 2) d x
+        (subst (λ (us : List U). slice_get us (edge / 2) ≡ Some d) data_are is))
+        ∙ get_or-set_same now.undirected (edge / 2) x x inside in
         ap marks read ∙ free written.value
 
     unmarked_still : (k : ℕ) → k ≢ edge / 2 → IsUnmarked marks now k → IsUnmarked marks new k
-    unmarked_still k off was d is = was d (sym (slice_get-set_other now.undirected (edge / 2) k x off) ∙ subst (λ (us : List U). slice_get us k ≡ Some d) data_are is)
+    unmarked_still k off was d is = was d (sym (slice_get-set_other now.undirected (edge / 2) k x off)
+        ∙ subst (λ (us : List U). slice_get us k ≡ Some d) data_are is)
 
     -- with the mark of the edge gone, the edge that it turns to is the next one
-    pub freeing_goes_on : (after : ℕ) → after < length new.directed → after ≡ turn new.mesh edge → IsFreeing new (i + 1) after
+    pub freeing_goes_on : (after : ℕ) → after < length new.directed → after ≡ turn new.mesh edge →
+        IsFreeing new (i + 1) after
     freeing_goes_on after within is = record {
       contents = contents_are;
       count = ap length data_are ∙ length-set now.undirected (edge / 2) x ∙ freeing.count;
       within = subst (λ (ds : List D). after < length ds) (same_directed new contents_are) within;
-      here = is ∙ ap (λ (m : Mesh). turn m edge) (same_mesh new contents_are) ∙ ap (turn old.mesh) freeing.here ∙ ap (spoke old.mesh first) (sym (add-one i));
+      here = is ∙ ap (λ (m : Mesh). turn m edge) (same_mesh new contents_are) ∙ ap (turn old.mesh) freeing.here
+          ∙ ap (spoke old.mesh first) (sym (add-one i));
       done = λ j less. elim (cases_eq (spoke old.mesh first j / 2) (edge / 2)) [
         | inl e ↦ subst (IsUnmarked marks new) (sym e) unmarked_here
         | inr n ↦ unmarked_still (spoke old.mesh first j / 2) n (freeing.done j (before j less n))
       ];
-      others = λ k none. ap (λ (us : List U). slice_get us k) data_are ∙ slice_get-set_other now.undirected (edge / 2) k x (λ e. none i (ap (λ (h : ℕ). h / 2) (sym freeing.here) ∙ sym e)) ∙ freeing.others k none;
+      others = λ k none. ap (λ (us : List U). slice_get us k) data_are
+          ∙ slice_get-set_other now.undirected (edge / 2) k x
+          (λ e. none i (ap (λ (h : ℕ). h / 2) (sym freeing.here) ∙ sym e)) ∙ freeing.others k none;
     }
       where
         before : (j : ℕ) → j < i + 1 → spoke old.mesh first j / 2 ≢ edge / 2 → j < i
@@ -85,7 +105,8 @@ module _ {V D U F : Type 0} (marks : U → Bool) (old : Contents V D U F) (first
         ]
 
   -- all edges of the vertex are free
-  module _ (whole : IsMeshWithData old) (v count : ℕ) (round : IsRound old.mesh v first count) (now : Contents V D U F) (i edge : ℕ) (freeing : IsFreeing now i edge) (all : (j : ℕ) → j < count → j < i) where
+  module _ (whole : IsMeshWithData old) (v count : ℕ) (round : IsRound old.mesh v first count) (now : Contents V D U F)
+      (i edge : ℕ) (freeing : IsFreeing now i edge) (all : (j : ℕ) → j < count → j < i) where
     double : (k : ℕ) → k < length old.undirected → 2 * k < length old.mesh.half_edges
     double k within = let f = whole.fits.undirected_fit in omega (arith, f, within)
 
@@ -94,10 +115,12 @@ module _ {V D U F : Type 0} (marks : U → Bool) (old : Contents V D U F) (first
         let s = round.all h within at in
         subst (IsUnmarked marks now) (ap (λ (g : ℕ). g / 2) (sym s.2) ∙ half) (freeing.done s.0 (all s.0 s.1))
 
-    not_round : (k : ℕ) → origin old.mesh (2 * k) ≢ v → origin old.mesh (rev (2 * k)) ≢ v → (j : ℕ) → spoke old.mesh first j / 2 ≢ k
+    not_round : (k : ℕ) → origin old.mesh (2 * k) ≢ v → origin old.mesh (rev (2 * k)) ≢ v → (j : ℕ) →
+        spoke old.mesh first j / 2 ≢ k
     not_round k starts ends j half = elim (even_or_odd (spoke old.mesh first j)) as (λ _. ⊥) [
       | inl q ↦ starts (ap (origin old.mesh) (sym (q.0 ∙ ap (λ (n : ℕ). 2 * n) half)) ∙ round.starts j)
-      | inr q ↦ ends (ap (origin old.mesh) (rev_of_even k ∙ sym (q.0 ∙ ap (λ (n : ℕ). 2 * n + 1) half)) ∙ round.starts j)
+      | inr q ↦ ends (ap (origin old.mesh) (rev_of_even k ∙ sym (q.0 ∙ ap (λ (n : ℕ). 2 * n + 1) half))
+          ∙ round.starts j)
     ]
 
     -- when the count of the round is reached, no edge at v has the mark
@@ -106,14 +129,18 @@ module _ {V D U F : Type 0} (marks : U → Bool) (old : Contents V D U F) (first
       contents = freeing.contents;
       count = freeing.count;
       starting = λ k within at. by_spoke (2 * k) k (double k within) at (half_of_even k);
-      ending = λ k within at. by_spoke (rev (2 * k)) k (rev_within (2 * k) (length old.mesh.half_edges) whole.valid.sound.even (double k within)) at (ap (λ (h : ℕ). h / 2) (rev_of_even k) ∙ half_of_odd k);
+      ending = λ k within at. by_spoke (rev (2 * k)) k
+          (rev_within (2 * k) (length old.mesh.half_edges) whole.valid.sound.even (double k within)) at
+          (ap (λ (h : ℕ). h / 2) (rev_of_even k) ∙ half_of_odd k);
       others = λ k starts ends. freeing.others k (not_round k starts ends);
     }
 
 -- a vertex without edges has none to free
-module _ {V D U F : Type 0} (marks : U → Bool) (old : Contents V D U F) (v : ℕ) (whole : IsMeshWithData old) (none : out_edge old.mesh v ≡ None) where
+module _ {V D U F : Type 0} (marks : U → Bool) (old : Contents V D U F) (v : ℕ) (whole : IsMeshWithData old)
+    (none : out_edge old.mesh v ≡ None) where
   not_at : (h : ℕ) → h < length old.mesh.half_edges → origin old.mesh h ≡ v → ⊥
-  not_at h within at = nothing (out_edge old.mesh v) none (subst (λ (x : ℕ). IsSome (out_edge old.mesh x)) at (whole.valid.sound.edges h within).has_out)
+  not_at h within at = nothing (out_edge old.mesh v) none
+      (subst (λ (x : ℕ). IsSome (out_edge old.mesh x)) at (whole.valid.sound.edges h within).has_out)
     where
       nothing : (o : Option ℕ) → o ≡ None → IsSome o → ⊥
       nothing None e had = absurd (cc)
@@ -125,7 +152,8 @@ module _ {V D U F : Type 0} (marks : U → Bool) (old : Contents V D U F) (v : �
     contents = refl;
     count = refl;
     starting = λ k within at. absurd (not_at (2 * k) (double k within) at);
-    ending = λ k within at. absurd (not_at (rev (2 * k)) (rev_within (2 * k) (length old.mesh.half_edges) whole.valid.sound.even (double k within)) at);
+    ending = λ k within at. absurd (not_at (rev (2 * k))
+        (rev_within (2 * k) (length old.mesh.half_edges) whole.valid.sound.even (double k within)) at);
     others = λ k starts ends. refl;
   }
     where
@@ -141,7 +169,8 @@ module _ {V D U F : Type 0} (marks : U → Bool) (constraints : List U → List 
     where
       go : (b : Bool) → marks d ≡ b → marks d ≡ false
       go false e = e
-      go true e = absurd (Contains-none (pair_at old.mesh k) (subst (λ (ps : List (ℕ × ℕ)). Contains ps (pair_at old.mesh k)) none
+      go true e = absurd (Contains-none (pair_at old.mesh k)
+          (subst (λ (ps : List (ℕ × ℕ)). Contains ps (pair_at old.mesh k)) none
           (contains_map (pair_at old.mesh) (constraints old.undirected) k
           (is_constraint_edge marks constraints marked old.undirected k d is e))))
 

@@ -1,4 +1,5 @@
--- The faces that a vertex leaves: each was there, or each of its sides lay opposite the vertex or is what a turned edge joins.
+-- The faces that a vertex leaves: each was there, or each of its sides lay opposite the vertex or is what a turned edge
+-- joins.
 use Rattle.std.proofs.Common.{◌≡◌, ◌≢◌, ◌⊎◌, ℕ, ◌-◌, ◌<◌, List, [], length, map, sym, ap, ◌∙◌, subst, inl, inr, arith}
 use Rattle.std.specs.Prelude.{Bool, Contains}
 use Rattle.std.proofs.lemmas.List.{length-map}
@@ -25,19 +26,28 @@ use Rattle.delaunay_removal.proofs.DataStays.{none_to_keep}
 use Rattle.delaunay_removal.proofs.MadeFaces.{full_listed, no_face_listed}
 
 -- a face where no vertex is one of it
-without_corners : (v : ℕ) (points : List Point) (faces : List Face) (outer : List (ℕ × ℕ)) → IsMeshWithout v points faces outer → (f : Face) → Contains faces f → ((f.a < length points) × (f.a ≢ v)) × ((f.b < length points) × (f.b ≢ v)) × ((f.c < length points) × (f.c ≢ v))
+without_corners : (v : ℕ) (points : List Point) (faces : List Face) (outer : List (ℕ × ℕ)) →
+    IsMeshWithout v points faces outer → (f : Face) → Contains faces f → ((f.a < length points) × (f.a ≢ v)) ×
+    ((f.b < length points) × (f.b ≢ v)) × ((f.c < length points) × (f.c ≢ v))
 without_corners v points faces outer (inl m) f h = m.corners f h
-without_corners v points faces outer (inr m) f h = absurd (Contains-none f (subst (λ (fs : List Face). Contains fs f) m.0 h))
+without_corners v points faces outer (inr m) f h =
+    absurd (Contains-none f (subst (λ (fs : List Face). Contains fs f) m.0 h))
 
-module _ {V D U F : Type 0} (points : List Point) (old mid new : Contents V D U F) (v : ℕ) (value : V) (before : IsMeshWithData old) (middle : IsMeshWithData mid) (after : IsMeshWithData new)
-    (pairs : List (ℕ × ℕ)) (isolates : IsolatesVertex points old mid v pairs) (count : length points ≡ length old.vertices) (here : v < length old.vertices) (drops : DropsVertex mid new v value) where
+module _ {V D U F : Type 0} (points : List Point) (old mid new : Contents V D U F) (v : ℕ) (value : V)
+    (before : IsMeshWithData old) (middle : IsMeshWithData mid) (after : IsMeshWithData new)
+    (pairs : List (ℕ × ℕ)) (isolates : IsolatesVertex points old mid v pairs)
+    (count : length points ≡ length old.vertices) (here : v < length old.vertices)
+    (drops : DropsVertex mid new v value) where
   abbrev last : ℕ
   last = length old.vertices - 1
 
   abbrev Was : ℕ → ℕ → ℕ → Type 0
-  Was i j k = IsFaceOf (faces_of old.mesh) i j k ⊎ (IsHoleSide (faces_of old.mesh) v pairs i j × IsHoleSide (faces_of old.mesh) v pairs j k × IsHoleSide (faces_of old.mesh) v pairs k i)
+  Was i j k = IsFaceOf (faces_of old.mesh) i j k ⊎
+      (IsHoleSide (faces_of old.mesh) v pairs i j × IsHoleSide (faces_of old.mesh) v pairs j k ×
+      IsHoleSide (faces_of old.mesh) v pairs k i)
 
-  in_hole : (i j : ℕ) → i ≢ v → j ≢ v → IsStarSide (faces_of old.mesh) v pairs i j → IsHoleSide (faces_of old.mesh) v pairs i j
+  in_hole : (i j : ℕ) → i ≢ v → j ≢ v → IsStarSide (faces_of old.mesh) v pairs i j →
+      IsHoleSide (faces_of old.mesh) v pairs i j
   in_hole i j a b (inl (inl e)) = absurd (a e)
   in_hole i j a b (inl (inr e)) = absurd (b e)
   in_hole i j a b (inr h) = h
@@ -48,7 +58,11 @@ module _ {V D U F : Type 0} (points : List Point) (old mid new : Contents V D U 
       let off = without_corners v points (faces_of mid.mesh) (outer_of mid.mesh) isolates.shape g h in
       elim (isolates.beside.made.each g.a g.b g.c (inl h)) as (λ _. Was g.a g.b g.c) [
         | inl x ↦ inl x
-        | inr x ↦ inr (in_hole g.a g.b off.0.1 off.1.1 x.0, in_hole g.b g.c off.1.1 off.2.1 x.1, in_hole g.c g.a off.2.1 off.0.1 x.2)
+        | inr x ↦ inr (
+          in_hole g.a g.b off.0.1 off.1.1 x.0,
+          in_hole g.b g.c off.1.1 off.2.1 x.1,
+          in_hole g.c g.a off.2.1 off.0.1 x.2,
+        )
       ]
 
   back : (k : ℕ) → (k < length points) × (k ≢ v) → former_index v last (moved last v k) ≡ k
@@ -60,7 +74,8 @@ module _ {V D U F : Type 0} (points : List Point) (old mid new : Contents V D U 
   renamed : (g : Face) → Contains (faces_of mid.mesh) g → Now (moved last v g.a) (moved last v g.b) (moved last v g.c)
   renamed g h =
       let off = without_corners v points (faces_of mid.mesh) (outer_of mid.mesh) isolates.shape g h in
-      subst (λ (x : ℕ × ℕ × ℕ). Was x.0 x.1 x.2) (λ i. (sym (back g.a off.0) i, sym (back g.b off.1) i, sym (back g.c off.2) i)) (came g h)
+      subst (λ (x : ℕ × ℕ × ℕ). Was x.0 x.1 x.2) (λ i.
+      (sym (back g.a off.0) i, sym (back g.b off.1) i, sym (back g.c off.2) i)) (came g h)
 
   last_is : length mid.vertices - 1 ≡ last
   last_is = ap (λ (c : Contents V D U F). length c.vertices - 1) isolates.contents
@@ -68,9 +83,12 @@ module _ {V D U F : Type 0} (points : List Point) (old mid new : Contents V D U 
   listed : (f : Face) → Contains (faces_of new.mesh) f → Now f.a f.b f.c
   listed f h =
       let t = contains_map_from corners_of (triangles new.mesh) f h in
-      let x = contains_map_from (λ (y : FullFace F). y.corners) (full_faces new) t.0 (subst (λ (ts : List Triangle). Contains ts t.0) (sym (whole_faces new after)) t.1) in
-      let y = contains_map_from (renumbered_face (length mid.vertices - 1) v) (full_faces mid) x.0 (subst (λ (fs : List (FullFace F)). Contains fs x.0) drops.faces x.1) in
-      subst (λ (g : Face). Now g.a g.b g.c) (ap (λ n. corners_of (renumbered_face n v y.0).corners) (sym last_is) ∙ ap (λ (z : FullFace F). corners_of z.corners) y.2 ∙ ap corners_of x.2 ∙ t.2)
+      let x = contains_map_from (λ (y : FullFace F). y.corners) (full_faces new) t.0
+      (subst (λ (ts : List Triangle). Contains ts t.0) (sym (whole_faces new after)) t.1) in
+      let y = contains_map_from (renumbered_face (length mid.vertices - 1) v) (full_faces mid) x.0
+      (subst (λ (fs : List (FullFace F)). Contains fs x.0) drops.faces x.1) in
+      subst (λ (g : Face). Now g.a g.b g.c) (ap (λ n. corners_of (renumbered_face n v y.0).corners) (sym last_is)
+      ∙ ap (λ (z : FullFace F). corners_of z.corners) y.2 ∙ ap corners_of x.2 ∙ t.2)
       (renamed (corners_of y.0.corners) (full_listed mid middle y.0 y.1))
 
   was_turned : (i j k : ℕ) → Was i j k → Was j k i
@@ -80,27 +98,42 @@ module _ {V D U F : Type 0} (points : List Point) (old mid new : Contents V D U 
   -- a vertex loses its edges and goes: each face was there, or its corners are neighbours of it
   pub faces_leave : LeavesFaces (state_of old) (state_of new) v pairs
   faces_leave = record {
-    each = λ i j k f. turn_of_all (faces_of new.mesh) Now (λ a b c. was_turned (former_index v last a) (former_index v last b) (former_index v last c)) listed i j k f;
+    each = λ i j k f. turn_of_all (faces_of new.mesh) Now
+        (λ a b c. was_turned (former_index v last a) (former_index v last b) (former_index v last c)) listed i j k f;
   }
 
 -- the removal of a vertex of the plane keeps each face that does not have it as a corner
-pub plane_faces_leave : {V D U F : Type 0} (place : V → Point) (old mid new : Contents V D U F) (v : ℕ) (value : V) → IsTriangulated place (state_of old) → IsMeshWithData mid → IsTriangulated place (state_of new) → v < length old.vertices → (pairs : List (ℕ × ℕ)) → IsolatesVertex (map place old.vertices) old mid v pairs → DropsVertex mid new v value → LeavesFaces (state_of old) (state_of new) v pairs
+pub plane_faces_leave : {V D U F : Type 0} (place : V → Point) (old mid new : Contents V D U F) (v : ℕ) (value : V) →
+    IsTriangulated place (state_of old) → IsMeshWithData mid → IsTriangulated place (state_of new) →
+    v < length old.vertices → (pairs : List (ℕ × ℕ)) → IsolatesVertex (map place old.vertices) old mid v pairs →
+    DropsVertex mid new v value → LeavesFaces (state_of old) (state_of new) v pairs
 plane_faces_leave place old mid new v value before middle after here pairs isolates drops =
-    faces_leave (map place old.vertices) old mid new v value (record { valid = before.valid; fits = before.fits }) middle (record { valid = after.valid; fits = after.fits }) pairs isolates (length-map old.vertices place) here drops
+    faces_leave (map place old.vertices) old mid new v value (record { valid = before.valid; fits = before.fits })
+    middle (record { valid = after.valid; fits = after.fits }) pairs isolates (length-map old.vertices place) here
+    drops
 
 -- ---- on a line there are no faces
 -- so it is of a line, which has no faces
-pub line_faces_leave : {V D U F : Type 0} (old new : Contents V D U F) (v : ℕ) (value : V) → IsMeshWithData new → length old.faces ≡ 0 → LeavesMesh old new v value → LeavesFaces (state_of old) (state_of new) v []
-line_faces_leave old new v value after none leaves = record { each = λ i j k f. absurd (no_face_listed new after (ap (λ c. length c.faces) leaves.drops.contents ∙ ap (λ c. length c.faces) leaves.leaves.contents ∙ none) i j k f) }
+pub line_faces_leave : {V D U F : Type 0} (old new : Contents V D U F) (v : ℕ) (value : V) → IsMeshWithData new →
+    length old.faces ≡ 0 → LeavesMesh old new v value → LeavesFaces (state_of old) (state_of new) v []
+line_faces_leave old new v value after none leaves =
+    record {
+      each = λ i j k f. absurd (no_face_listed new after
+          (ap (λ c. length c.faces) leaves.drops.contents ∙ ap (λ c. length c.faces) leaves.leaves.contents ∙ none) i j
+          k f);
+    }
 
 -- ---- whatever is in the list
-module _ {V D U F : Type 0} (old new : Contents V D U F) (v : ℕ) (pairs : List (ℕ × ℕ)) (leaves : LeavesFaces (state_of old) (state_of new) v []) where
+module _ {V D U F : Type 0} (old new : Contents V D U F) (v : ℕ) (pairs : List (ℕ × ℕ))
+    (leaves : LeavesFaces (state_of old) (state_of new) v []) where
   more_side : (i j : ℕ) → IsHoleSide (faces_of old.mesh) v [] i j → IsHoleSide (faces_of old.mesh) v pairs i j
   more_side i j (inl h) = inl (none_to_keep pairs i j h)
   more_side i j (inr f) = inr f
 
   abbrev Sides : List (ℕ × ℕ) → ℕ → ℕ → ℕ → Type 0
-  Sides ps i j k = IsFaceOf (faces_of old.mesh) i j k ⊎ (IsHoleSide (faces_of old.mesh) v ps i j × IsHoleSide (faces_of old.mesh) v ps j k × IsHoleSide (faces_of old.mesh) v ps k i)
+  Sides ps i j k = IsFaceOf (faces_of old.mesh) i j k ⊎
+      (IsHoleSide (faces_of old.mesh) v ps i j × IsHoleSide (faces_of old.mesh) v ps j k ×
+      IsHoleSide (faces_of old.mesh) v ps k i)
 
   more_sides : (i j k : ℕ) → Sides [] i j k → Sides pairs i j k
   more_sides i j k (inl f) = inl f
@@ -109,12 +142,16 @@ module _ {V D U F : Type 0} (old new : Contents V D U F) (v : ℕ) (pairs : List
   -- a removal that makes no edge makes none but those of any list
   pub leaves_more : LeavesFaces (state_of old) (state_of new) v pairs
   leaves_more = record {
-    each = λ i j k f. more_sides (former_index v (length old.vertices - 1) i) (former_index v (length old.vertices - 1) j) (former_index v (length old.vertices - 1) k) (leaves.each i j k f);
+    each = λ i j k f. more_sides (former_index v (length old.vertices - 1) i)
+        (former_index v (length old.vertices - 1) j) (former_index v (length old.vertices - 1) k) (leaves.each i j k f);
   }
 
 -- ---- before the edges of the vertex cease to be constraints
 -- so it is where edges at the vertex were freed before
-pub freed_faces_leave : {V D U F : Type 0} (marks : U → Bool) (old mid new : Contents V D U F) (v : ℕ) (pairs : List (ℕ × ℕ)) → FreesEdgesAt marks old mid v → LeavesFaces (state_of mid) (state_of new) v pairs → LeavesFaces (state_of old) (state_of new) v pairs
+pub freed_faces_leave : {V D U F : Type 0} (marks : U → Bool) (old mid new : Contents V D U F) (v : ℕ)
+    (pairs : List (ℕ × ℕ)) → FreesEdgesAt marks old mid v → LeavesFaces (state_of mid) (state_of new) v pairs →
+    LeavesFaces (state_of old) (state_of new) v pairs
 freed_faces_leave {V = V} {D = D} {U = U} {F = F} marks old mid new v pairs frees leaves =
-    let left : LeavesFaces (state_of (record old { undirected = mid.undirected })) (state_of new) v pairs = subst (λ (c : Contents V D U F). LeavesFaces (state_of c) (state_of new) v pairs) frees.contents leaves in
+    let left : LeavesFaces (state_of (record old { undirected = mid.undirected })) (state_of new) v pairs =
+    subst (λ (c : Contents V D U F). LeavesFaces (state_of c) (state_of new) v pairs) frees.contents leaves in
     record { each = left.each }

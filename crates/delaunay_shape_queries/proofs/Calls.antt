@@ -26,32 +26,44 @@ upper_corner C lower upper all = all 2 upper (omega arith)
 
 -- corners by other names of the same points
 pub same_corners : (C : Point → Type 0) (l m u v : Point) → l ≡ m → u ≡ v → All C (corners m v) → All C (corners l u)
-same_corners C l m u v e f all = subst (λ (x : Point). All C (corners x u)) (sym e) (subst (λ (y : Point). All C (corners m y)) (sym f) all)
+same_corners C l m u v e f all =
+    subst (λ (x : Point). All C (corners x u)) (sym e) (subst (λ (y : Point). All C (corners m y)) (sym f) all)
 
 -- a circle and a rectangle by other names of the same numbers
-pub same_circle : (Q : (Fraction → Type 0) → Type 0) (c d : Point) (r s : ℤ) → c ≡ d → r ≡ s → Q (InClosedCircle c r) → Q (InClosedCircle d s)
-same_circle Q c d r s e f q = subst (λ (x : ℤ). Q (InClosedCircle d x)) f (subst (λ (x : Point). Q (InClosedCircle x r)) e q)
+pub same_circle : (Q : (Fraction → Type 0) → Type 0) (c d : Point) (r s : ℤ) → c ≡ d → r ≡ s → Q (InClosedCircle c r) →
+    Q (InClosedCircle d s)
+same_circle Q c d r s e f q =
+    subst (λ (x : ℤ). Q (InClosedCircle d x)) f (subst (λ (x : Point). Q (InClosedCircle x r)) e q)
 
 -- what holds of a rectangle holds of the one with equal corners
-pub same_rectangle : (Q : (Fraction → Type 0) → Type 0) (l m u v : Point) → l ≡ m → u ≡ v → Q (InClosedRectangle l u) → Q (InClosedRectangle m v)
-same_rectangle Q l m u v e f q = subst (λ (x : Point). Q (InClosedRectangle m x)) f (subst (λ (x : Point). Q (InClosedRectangle x u)) e q)
+pub same_rectangle : (Q : (Fraction → Type 0) → Type 0) (l m u v : Point) → l ≡ m → u ≡ v → Q (InClosedRectangle l u) →
+    Q (InClosedRectangle m v)
+same_rectangle Q l m u v e f q =
+    subst (λ (x : Point). Q (InClosedRectangle m x)) f (subst (λ (x : Point). Q (InClosedRectangle x u)) e q)
 
-module _ {V D U F : Type 0} (place : V → Point) (s : State V D U F) (mesh : Bor (Contents V D U F)) (same : state_of mesh.now ≡ s) where
+module _ {V D U F : Type 0} (place : V → Point) (s : State V D U F) (mesh : Bor (Contents V D U F))
+    (same : state_of mesh.now ≡ s) where
   -- the mesh that is handed over is triangulated as the state is
   pub kept_in_mesh : IsTriangulated place s → IsTriangulated place (state_of mesh.now)
   kept_in_mesh kept = subst (IsTriangulated place) (sym same) kept
 
   -- and its vertices are sites as those of the state are
-  pub sites_in_mesh : (Sites : Point → Type 0) → IsTriangulated place s → AreSites place Sites s.vertices → All Sites (map place mesh.now.vertices)
-  sites_in_mesh Sites kept sites = subst (λ x. All Sites (map place x.vertices)) (sym same) (sites (All-map InRange place s.vertices kept.in_range))
+  pub sites_in_mesh : (Sites : Point → Type 0) → IsTriangulated place s → AreSites place Sites s.vertices →
+      All Sites (map place mesh.now.vertices)
+  sites_in_mesh Sites kept sites =
+      subst (λ x. All Sites (map place x.vertices)) (sym same) (sites (All-map InRange place s.vertices kept.in_range))
 
   module _ {E : Type 0} (Shape : Fraction → Type 0) where
     -- the edges that a search of the mesh gives are those of the triangulation in the shape
-    pub edges_found : (r : Result (EdgesInShapeIterator V D U F) E) → IfOk r (λ it. GivesEdgesIn Shape place mesh (edges_left it)) → IfOk r (λ it. FindsEdges place s Shape (edges_left it))
+    pub edges_found : (r : Result (EdgesInShapeIterator V D U F) E) →
+        IfOk r (λ it. GivesEdgesIn Shape place mesh (edges_left it)) →
+        IfOk r (λ it. FindsEdges place s Shape (edges_left it))
     edges_found (Ok it) given = record { mesh = mesh; state = same; edges = given }
     edges_found (Err e) given = given
 
     -- and so are the vertices
-    pub vertices_found : (r : Result (VerticesInShapeIterator V D U F) E) → IfOk r (λ it. GivesVerticesIn Shape place mesh (vertices_left it)) → IfOk r (λ it. FindsVertices place s Shape (vertices_left it))
+    pub vertices_found : (r : Result (VerticesInShapeIterator V D U F) E) →
+        IfOk r (λ it. GivesVerticesIn Shape place mesh (vertices_left it)) →
+        IfOk r (λ it. FindsVertices place s Shape (vertices_left it))
     vertices_found (Ok it) given = record { mesh = mesh; state = same; vertices = given }
     vertices_found (Err e) given = given

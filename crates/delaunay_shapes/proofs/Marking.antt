@@ -1,5 +1,6 @@
 -- Lists of what a test says of the numbers below a count: at a number, of a test that none passes, and with one more.
-use Rattle.std.proofs.Common.{List, ◌≡◌, ◌⊎◌, ℕ, ◌<◌, length, get_or, set, replicate, refl, sym, ◌∙◌, subst, eq-eqb, arith}
+use Rattle.std.proofs.Common.{List, ◌≡◌, ◌⊎◌, ℕ, ◌<◌, length, get_or, set, replicate, refl, sym, ◌∙◌, subst, eq-eqb}
+use Rattle.std.proofs.Common.{arith}
 use mathlib.Core.Logic.{inl, inr, ◌≢◌}
 use mathlib.Core.Bool.{Bool, true, false}
 use Rattle.std.specs.Prelude.{cond, nat_eq}

@@ -9,7 +9,8 @@ use Rattle.delaunay_shapes.specs.Start.{BeginsAt}
 
 -- a closed circle and a closed rectangle are regions with a start
 pub circle_begins : (centre : Point) (radius_2 : ℤ) → BeginsAt (InClosedCircle centre radius_2) centre
-circle_begins centre radius_2 = record { region = circle centre radius_2; same = λ q. ((λ x. x), (λ x. x)); start = refl }
+circle_begins centre radius_2 =
+    record { region = circle centre radius_2; same = λ q. ((λ x. x), (λ x. x)); start = refl }
 
 -- a closed rectangle is a region that starts at its lower corner
 pub rectangle_begins : (lower upper : Point) → BeginsAt (InClosedRectangle lower upper) lower

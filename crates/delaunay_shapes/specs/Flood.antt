@@ -31,7 +31,8 @@ pub record GoesOn (asked asked' : List Bool) (found found' : List ℕ) : Type 0 
   pub grown : found' ≡ found ++ more
 
 -- edge k was asked of
-pub record Asks (Inside : ℕ → Type 0) (count : ℕ) (asked asked' : List Bool) (found found' : List ℕ) (k : ℕ) : Type 0 where
+pub record Asks (Inside : ℕ → Type 0) (count : ℕ) (asked asked' : List Bool) (found found' : List ℕ) (k : ℕ) : Type
+    0 where
   pub flooding : IsFlooding Inside count asked' found'
   pub on : GoesOn asked asked' found found'
   pub there : IsAsked asked' k
@@ -47,7 +48,8 @@ pub record IsSpread (m : Mesh) (asked : List Bool) (found : List ℕ) : Type 0 w
   pub right : (k : ℕ) → Contains found k → AreAskedBeside m asked (rev (2 * k))
 
 -- the edges beside directed edge h were asked of
-pub record AsksBeside (Inside : ℕ → Type 0) (m : Mesh) (count : ℕ) (asked asked' : List Bool) (found found' : List ℕ) (h : ℕ) : Type 0 where
+pub record AsksBeside (Inside : ℕ → Type 0) (m : Mesh) (count : ℕ) (asked asked' : List Bool) (found found' : List ℕ)
+    (h : ℕ) : Type 0 where
   pub flooding : IsFlooding Inside count asked' found'
   pub on : GoesOn asked asked' found found'
   pub beside : AreAskedBeside m asked' h
@@ -73,8 +75,10 @@ pub record CanFlood {V D U F : Type 0} (IsCovered : Point → Type 0) (own : Lis
   pub begun : IsBegunBy (IsInside Shape place c) (length c.undirected) starts
 
 -- where any of the edges that are tried first from a location is inside, one of the first is
-pub record HasBegun (Shape : Fraction → Type 0) (points : List Point) (m : Mesh) (starts : List ℕ) (l : Location) : Type 0 where
-  pub begun : (a b : ℕ) → IsTried (drawn points m) l a b → IsEdgeIn Shape (drawn points m) a b → (k : ℕ) × Contains starts k × IsEdgeInShape Shape points m k
+pub record HasBegun (Shape : Fraction → Type 0) (points : List Point) (m : Mesh) (starts : List ℕ) (l : Location) : Type
+    0 where
+  pub begun : (a b : ℕ) → IsTried (drawn points m) l a b → IsEdgeIn Shape (drawn points m) a b →
+      (k : ℕ) × Contains starts k × IsEdgeInShape Shape points m k
 
 -- both ends of each of the edges were asked of
 pub record HasAskedEnds (m : Mesh) (asked : List Bool) (edges : List ℕ) : Type 0 where

@@ -8,7 +8,8 @@ use Rattle.delaunay_shapes.specs.Known.{point_at}
 
 -- closed undirected edge k has a point in the shape
 abbrev pub IsEdgeInShape : (Fraction → Type 0) → List Point → Mesh → ℕ → Type 0
-IsEdgeInShape Shape points m k = HasPointIn Shape (point_at points (origin m (2 * k))) (point_at points (origin m (rev (2 * k))))
+IsEdgeInShape Shape points m k =
+    HasPointIn Shape (point_at points (origin m (2 * k))) (point_at points (origin m (rev (2 * k))))
 
 -- the same of a mesh with vertices that have places
 abbrev pub IsInside : {V D U F : Type 0} → (Fraction → Type 0) → (V → Point) → Contents V D U F → ℕ → Type 0

@@ -17,13 +17,15 @@ abbrev pub vertices_left : {V D U F : Type 0} → VerticesInShapeIterator V D U 
 vertices_left it = each_in it.dcel (drop it.next it.vertices.items)
 
 -- handles of the edges of a mesh that have a point in the shape, each once
-pub record GivesEdgesIn {V D U F : Type 0} (Shape : Fraction → Type 0) (place : V → Point) (dcel : Bor (Contents V D U F)) (given : List (Bor (Contents V D U F) × ℕ)) : Type 0 where
+pub record GivesEdgesIn {V D U F : Type 0} (Shape : Fraction → Type 0) (place : V → Point)
+    (dcel : Bor (Contents V D U F)) (given : List (Bor (Contents V D U F) × ℕ)) : Type 0 where
   pub edges : List ℕ
   pub listed : given ≡ each_in dcel edges
   pub exact : AreEdgesInShape Shape (map place dcel.now.vertices) dcel.now.mesh edges
 
 -- handles of the vertices of a mesh in the shape, each once
-pub record GivesVerticesIn {V D U F : Type 0} (Shape : Fraction → Type 0) (place : V → Point) (dcel : Bor (Contents V D U F)) (given : List (Bor (Contents V D U F) × ℕ)) : Type 0 where
+pub record GivesVerticesIn {V D U F : Type 0} (Shape : Fraction → Type 0) (place : V → Point)
+    (dcel : Bor (Contents V D U F)) (given : List (Bor (Contents V D U F) × ℕ)) : Type 0 where
   pub vertices : List ℕ
   pub listed : given ≡ each_in dcel vertices
   pub exact : AreVerticesInShape Shape (map place dcel.now.vertices) vertices

@@ -4,7 +4,11 @@ use Rattle.half_edge_mesh.specs.Mesh.{Mesh, face, next, prev, face_edge, out_edg
 use Rattle.plane.specs.Fraction.{Point, Fraction}
 use Rattle.plane_delaunay.specs.Flood.{Region, InRegion, start_point}
 use Rattle.delaunay_location.specs.declared.position_in_triangulation.PositionInTriangulation.{PositionInTriangulation}
-use Rattle.delaunay_location.specs.declared.position_in_triangulation.PositionInTriangulation.TheVariants.{OnVertex, OnEdge, OnFace, OutsideOfConvexHull, NoTriangulation}
+use Rattle.delaunay_location.specs.declared.position_in_triangulation.PositionInTriangulation.TheVariants.{OnVertex}
+use Rattle.delaunay_location.specs.declared.position_in_triangulation.PositionInTriangulation.TheVariants.{OnEdge}
+use Rattle.delaunay_location.specs.declared.position_in_triangulation.PositionInTriangulation.TheVariants.{OnFace}
+use Rattle.delaunay_location.specs.declared.position_in_triangulation.PositionInTriangulation.TheVariants.{OutsideOfConvexHull}
+use Rattle.delaunay_location.specs.declared.position_in_triangulation.PositionInTriangulation.TheVariants.{NoTriangulation}
 
 -- the shape is a closed circle with centre p, or a closed rectangle with lower corner p
 pub record BeginsAt (Shape : Fraction → Type 0) (p : Point) : Type 0 where
@@ -20,9 +24,11 @@ pub record HasSides (m : Mesh) (starts : List ℕ) (h : ℕ) : Type 0 where
 
 -- where an outer edge is inside, a listed one is
 abbrev pub HasOuter : (ℕ → Type 0) → Mesh → List ℕ → Type 0
-HasOuter Inside m starts = (h : ℕ) → h < length m.half_edges → face m h ≡ 0 → Inside (h / 2) → (k : ℕ) × Contains starts k × Inside k
+HasOuter Inside m starts =
+    (h : ℕ) → h < length m.half_edges → face m h ≡ 0 → Inside (h / 2) → (k : ℕ) × Contains starts k × Inside k
 
--- the edges to begin with from a location: one at the vertex, the edge itself, the sides of the face, an outer one that is inside
+-- the edges to begin with from a location: one at the vertex, the edge itself, the sides of the face, an outer one that
+-- is inside
 abbrev pub HasStarts : (ℕ → Type 0) → Mesh → List ℕ → PositionInTriangulation → Type 0
 HasStarts Inside m starts (OnVertex v) = (h : ℕ) → out_edge m v ≡ Some h → Contains starts (h / 2)
 HasStarts Inside m starts (OnEdge e) = Contains starts (e / 2)

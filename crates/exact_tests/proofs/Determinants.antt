@@ -15,7 +15,10 @@ true_if_below : (a b : ℤ) → a <ℤ b → IsTrue (int_lt a b)
 true_if_below a b h = grind (arith, ints)
 
 -- a number that is the determinant is tested against 0
-pub inside_if_positive : (u v p q : Point) (d : ℤ) → TurnsLeft (whole u) (whole v) (whole p) → d ≡ lifted_determinant u v p q
+pub inside_if_positive : (u v p q : Point) (d : ℤ) → TurnsLeft (whole u) (whole v) (whole p) →
+    d ≡ lifted_determinant u v p q
     → IsTrue (int_lt (pos 0) d) ↔ InsideCircle (whole u) (whole v) (whole p) (whole q)
-inside_if_positive u v p q d turns e = let inside = inside_is_determinant u v p q turns in
-    ((λ h. inside.1 (subst (λ z. pos 0 <ℤ z) e (below_if_true (pos 0) d h))), (λ h. true_if_below (pos 0) d (subst (λ z. pos 0 <ℤ z) (sym e) (inside.0 h))))
+inside_if_positive u v p q d turns e = let inside = inside_is_determinant u v p q turns in (
+  (λ h. inside.1 (subst (λ z. pos 0 <ℤ z) e (below_if_true (pos 0) d h))),
+  (λ h. true_if_below (pos 0) d (subst (λ z. pos 0 <ℤ z) (sym e) (inside.0 h))),
+)

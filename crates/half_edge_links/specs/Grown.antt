@@ -4,7 +4,9 @@ use Rattle.half_edge_links.specs.Mesh.{Mesh, origin, next, rev}
 use Rattle.half_edge_links.specs.Room.{Room, HasEdgeRoom, HasFaceRoom}
 use Rattle.half_edge_links.specs.Hull.{KeepsOneOutline}
 use Rattle.half_edge_links.specs.Triangles.{triangles}
-use Rattle.half_edge_links.specs.Outline.{HangsOuter, ClosesOuter, ReplacesOuter, SplitsOuter, ExtendsOuter, AddsTriangle, HalfSplitsTriangles, AddsEdge, AddsTwoEdges, HalfSplitsEnds, SplitsLineEnds}
+use Rattle.half_edge_links.specs.Outline.{HangsOuter, ClosesOuter, ReplacesOuter, SplitsOuter, ExtendsOuter}
+use Rattle.half_edge_links.specs.Outline.{AddsTriangle, HalfSplitsTriangles, AddsEdge, AddsTwoEdges, HalfSplitsEnds}
+use Rattle.half_edge_links.specs.Outline.{SplitsLineEnds}
 use Rattle.half_edge_links.specs.Grow.{Hangs, Closes, AddsFace, HalfSplits, SplitsLine, edge_into}
 
 -- so many more directed edges and inner faces fit with no allocation

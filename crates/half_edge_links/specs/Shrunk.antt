@@ -4,7 +4,8 @@ use Rattle.half_edge_links.specs.Mesh.{Mesh, origin, next, prev, face}
 use Rattle.half_edge_links.specs.Hull.{IsPendant, KeepsOneOutline}
 use Rattle.half_edge_links.specs.Triangles.{triangles}
 use Rattle.half_edge_links.specs.Outline.{ends, AddsTriangle}
-use Rattle.half_edge_links.specs.Taken.{RemovesTriangle, RemovesEnds, OpensOuter, ClosesLoopOuter, RemovesOuter, PeelsOuter}
+use Rattle.half_edge_links.specs.Taken.{RemovesTriangle, RemovesEnds, OpensOuter, ClosesLoopOuter, RemovesOuter}
+use Rattle.half_edge_links.specs.Taken.{PeelsOuter}
 use Rattle.half_edge_links.specs.Remove.{Opens, ClosesLoop, Removes}
 use Rattle.half_edge_links.specs.Peel.{Peels}
 

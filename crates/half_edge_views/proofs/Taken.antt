@@ -10,7 +10,8 @@ use Rattle.half_edge_views.specs.Left.{each_in}
 
 -- indexes in a row are below a bound of their end
 pub row_below : (a n b : ℕ) (xs : List ℕ) → xs ≡ range_with_len a n → a + n ≤ b → All (λ i. i < b) xs
-row_below a n b xs is bound = rw is (λ k d lt. omega (arith, length-range_with_len a n, get_or-range_with_len a n k d (omega (arith, length-range_with_len a n))))
+row_below a n b xs is bound = rw is (λ k d lt.
+    omega (arith, length-range_with_len a n, get_or-range_with_len a n k d (omega (arith, length-range_with_len a n))))
 
 module _ (P : ℕ → Type 0) (xs ys : List ℕ) where
   -- what holds of each holds of those that are left after the first is taken

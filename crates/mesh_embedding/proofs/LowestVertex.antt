@@ -5,7 +5,8 @@ use Rattle.std.specs.Prelude.{ℤ, pos, ◌+ℤ◌, ◌-ℤ◌, ◌*ℤ◌, ◌<
 use Rattle.std.proofs.lemmas.Int.{ints}
 use Rattle.plane.specs.Fraction.{Point}
 use Rattle.plane.specs.Tiling.{Face}
-use Rattle.plane.proofs.IntegerOrder.{mul-nonneg_ℤ, mul-nonpos_of_nonneg_nonpos_ℤ, nonneg_of_mul-nonneg_ℤ, pos-ne-zero_ℤ, zero_of_mul-zero_ℤ}
+use Rattle.plane.proofs.IntegerOrder.{mul-nonneg_ℤ, mul-nonpos_of_nonneg_nonpos_ℤ, nonneg_of_mul-nonneg_ℤ}
+use Rattle.plane.proofs.IntegerOrder.{pos-ne-zero_ℤ, zero_of_mul-zero_ℤ}
 use Rattle.plane.proofs.Steps.{weak, negated_below, zero_or_left, product_zero_left}
 use Rattle.plane.proofs.Bracket.{Vec3, bracket}
 use Rattle.plane.proofs.BracketIdentities.{bracket-swap, pluecker}

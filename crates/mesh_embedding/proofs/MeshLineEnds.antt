@@ -25,15 +25,20 @@ use Rattle.mesh_embedding.proofs.MeshStays.{neighbours_differ}
 use Rattle.mesh_embedding.proofs.LineNeighbours.{two_neighbours, only_pair}
 
 -- an edge that comes after itself round a vertex is the vertex's only one
-pub only_edge : (m : Mesh) → IsValidMesh m → (g w : ℕ) → origin m g ≡ w → g < length m.half_edges → turn m g ≡ g → (h : ℕ) → h < length m.half_edges → origin m h ≡ w → h ≡ g
-only_edge m valid g w o k one h l e = eqb-true h g (valid.stars (λ x. eqb x g) (λ x _ q. ap (λ y. eqb y g) (ap (turn m) (eqb-true x g q) ∙ one) ∙ own) g h k l (o ∙ sym e) own)
+pub only_edge : (m : Mesh) → IsValidMesh m → (g w : ℕ) → origin m g ≡ w → g < length m.half_edges → turn m g ≡ g →
+    (h : ℕ) → h < length m.half_edges → origin m h ≡ w → h ≡ g
+only_edge m valid g w o k one h l e = eqb-true h g
+    (valid.stars (λ x. eqb x g) (λ x _ q. ap (λ y. eqb y g) (ap (turn m) (eqb-true x g q) ∙ one) ∙ own) g h k l
+    (o ∙ sym e) own)
   where
     own : eqb g g ≡ true
     own = is_true (eqb g g) (eqb_refl g)
 
-module _ (points : List Point) (m : Mesh) (valid : IsValidMesh m) (bare : faces_of m ≡ []) (no_inner : length m.face_edges ≡ 0) (line : LineMesh points (outer_of m)) where
+module _ (points : List Point) (m : Mesh) (valid : IsValidMesh m) (bare : faces_of m ≡ [])
+    (no_inner : length m.face_edges ≡ 0) (line : LineMesh points (outer_of m)) where
   line_once : EachPairOnce (edges_of m)
-  line_once = (joins_line points (outer_of m) (edges_of m) line (subst (λ fs. AreEdgesOf fs (outer_of m) (edges_of m)) bare (own_edges m valid))).once
+  line_once = (joins_line points (outer_of m) (edges_of m) line
+      (subst (λ fs. AreEdgesOf fs (outer_of m) (edges_of m)) bare (own_edges m valid))).once
 
   -- each directed edge is an outer one
   pub is_outer : (h : ℕ) → h < length m.half_edges → face m h ≡ 0
@@ -47,7 +52,8 @@ module _ (points : List Point) (m : Mesh) (valid : IsValidMesh m) (bare : faces_
     nb = neighbour m first
 
     leads : (i : ℕ) → Contains (outer_of m) (v, nb i)
-    leads i = subst (λ x. Contains (outer_of m) (x, nb i)) (round.starts i) (way_listed (spoke m first i) (round.within i))
+    leads i =
+        subst (λ x. Contains (outer_of m) (x, nb i)) (round.starts i) (way_listed (spoke m first i) (round.within i))
 
     not_three : ¬ (2 < count)
     not_three many =
@@ -56,14 +62,22 @@ module _ (points : List Point) (m : Mesh) (valid : IsValidMesh m) (bare : faces_
         (neighbours_differ m valid line_once v first count round 1 2 (omega arith) many)
         (neighbours_differ m valid line_once v first count round 0 2 (omega arith) many)
 
-    few_edges : (turn m first ≡ first) ⊎ ((turn m (turn m first) ≡ first) × (origin m (rev first) ≢ origin m (rev (turn m first))))
+    few_edges : (turn m first ≡ first) ⊎ ((turn m (turn m first) ≡ first) ×
+        (origin m (rev first) ≢ origin m (rev (turn m first))))
     few_edges = go (cases_eq count 1)
       where
-        go : (count ≡ 1) ⊎ (count ≢ 1) → (turn m first ≡ first) ⊎ ((turn m (turn m first) ≡ first) × (origin m (rev first) ≢ origin m (rev (turn m first))))
+        go : (count ≡ 1) ⊎ (count ≢ 1) → (turn m first ≡ first) ⊎
+            ((turn m (turn m first) ≡ first) × (origin m (rev first) ≢ origin m (rev (turn m first))))
         go (inl e) = inl (ap (λ n. spoke m first (0 + n)) (sym e) ∙ round.back 0)
         go (inr n) =
-            let two : count ≡ 2 = (elim (cases_lt 2 count) as (λ _. count ≡ 2) [ inl l ↦ absurd (not_three l) | inr l ↦ (let s = round.some in omega (arith, s, l, n)) ]) in
-            inr (ap (λ n. spoke m first (0 + n)) (sym two) ∙ round.back 0, neighbours_differ m valid line_once v first count round 0 1 (omega arith) (omega (arith, two)))
+            let two : count ≡ 2 = (elim (cases_lt 2 count) as (λ _. count ≡ 2) [
+              | inl l ↦ absurd (not_three l)
+              | inr l ↦ (let s = round.some in omega (arith, s, l, n))
+            ]) in
+            inr (
+              ap (λ n. spoke m first (0 + n)) (sym two) ∙ round.back 0,
+              neighbours_differ m valid line_once v first count round 0 1 (omega arith) (omega (arith, two)),
+            )
 
   -- a vertex of the line
   pub line_has_few_edges : (v : ℕ) → length points ≡ length m.out_edges → HasFewEdges m v
@@ -75,19 +89,23 @@ module _ (points : List Point) (m : Mesh) (valid : IsValidMesh m) (bare : faces_
         let u : ℕ = origin m (rev first) in
         let twin_in = rev_within first (length m.half_edges) valid.sound.even in_mesh in
         let one : turn m first ≡ first = ap rev behind ∙ rev-rev first in
-        let back_is : prev m (rev first) ≡ first = ap (prev m) (sym ahead) ∙ (valid.sound.edges first in_mesh).prev_next in
+        let back_is : prev m (rev first) ≡ first =
+        ap (prev m) (sym ahead) ∙ (valid.sound.edges first in_mesh).prev_next in
         let one' : turn m (rev first) ≡ rev first = ap rev back_is in
         pair first in_mesh (λ h k. elim (only_pair points (outer_of m) line v u (origin m h)
         (subst (λ x. Contains (outer_of m) (x, u)) at_v (way_listed first in_mesh)) (only_at first v at_v in_mesh one)
         (λ j c. only_at (rev first) u refl twin_in one' j c ∙ ap (origin m) (rev-rev first) ∙ at_v)
-        (subst (λ n. origin m h < n) (sym counted) (valid.sound.edges h k).origin_in)) as (λ _. (h ≡ first) ⊎ (h ≡ rev first)) [
+        (subst (λ n. origin m h < n) (sym counted) (valid.sound.edges h k).origin_in)) as
+        (λ _. (h ≡ first) ⊎ (h ≡ rev first)) [
           | inl e ↦ inl (only_edge m valid first v at_v in_mesh one h k e)
           | inr e ↦ inr (only_edge m valid (rev first) u refl twin_in one' h k e)
         ]);
   }
     where
-      only_at : (g w : ℕ) → origin m g ≡ w → g < length m.half_edges → turn m g ≡ g → (j : ℕ) → Contains (outer_of m) (w, j) → j ≡ origin m (rev g)
-      only_at g w o k one j c = let r = real m w j c in sym r.1.target ∙ ap (λ x. origin m (rev x)) (only_edge m valid g w o k one r.0 r.1.within r.1.source)
+      only_at : (g w : ℕ) → origin m g ≡ w → g < length m.half_edges → turn m g ≡ g → (j : ℕ) →
+          Contains (outer_of m) (w, j) → j ≡ origin m (rev g)
+      only_at g w o k one j c = let r = real m w j c in sym r.1.target
+          ∙ ap (λ x. origin m (rev x)) (only_edge m valid g w o k one r.0 r.1.within r.1.source)
 
       pigeons : (g h : ℕ) → (0 ≡ g) ⊎ (0 ≡ h) → (1 ≡ g) ⊎ (1 ≡ h) → (2 ≡ g) ⊎ (2 ≡ h) → ⊥
       pigeons g h (inl a) (inl b) c = omega (arith, a, b)
@@ -97,7 +115,8 @@ module _ (points : List Point) (m : Mesh) (valid : IsValidMesh m) (bare : faces_
       pigeons g h (inr a) (inl b) (inl c) = omega (arith, b, c)
       pigeons g h (inr a) (inl b) (inr c) = omega (arith, a, c)
 
-      pair : (g : ℕ) → g < length m.half_edges → ((h : ℕ) → h < length m.half_edges → (h ≡ g) ⊎ (h ≡ rev g)) → length m.half_edges ≡ 2
+      pair : (g : ℕ) → g < length m.half_edges → ((h : ℕ) → h < length m.half_edges → (h ≡ g) ⊎ (h ≡ rev g)) →
+          length m.half_edges ≡ 2
       pair g k all = elim (cases_lt 2 (length m.half_edges)) as (λ _. length m.half_edges ≡ 2) [
         | inl l ↦ absurd (pigeons g (rev g) (all 0 (omega (arith, l))) (all 1 (omega (arith, l))) (all 2 l))
         | inr l ↦ (let even = valid.sound.even in omega (arith, l, even, k))

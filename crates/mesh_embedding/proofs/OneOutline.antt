@@ -13,7 +13,8 @@ use Rattle.plane_tiling.proofs.Sweep.{IsSweep, sweep}
 use Rattle.plane_edits.proofs.Insertion.Hull.{next_unique}
 use Rattle.mesh_embedding.specs.Drawn.{faces_of, outer_of}
 use Rattle.mesh_embedding.proofs.LowestVertex.{turns_at_lowest}
-use Rattle.mesh_embedding.proofs.OutlineRounds.{IsOut, next_out, end, TurnsUp, outline_by_low, out_pair, same_ends, IsLowest, same_low}
+use Rattle.mesh_embedding.proofs.OutlineRounds.{IsOut, next_out, end, TurnsUp, outline_by_low, out_pair, same_ends}
+use Rattle.mesh_embedding.proofs.OutlineRounds.{IsLowest, same_low}
 use Rattle.mesh_embedding.proofs.OutlineOnLine.{line_outline}
 
 -- ---- a mesh with faces: by the heights of a sweep

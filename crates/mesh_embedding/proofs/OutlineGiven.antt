@@ -1,5 +1,7 @@
--- The outer edges of a mesh with one outline, as an iterator along it gives them: each once, and after each its next one.
-use Rattle.std.proofs.Common.{◌≡◌, ◌⊎◌, ℕ, suc, ◌+◌, ◌%◌, ◌<◌, List, [], ◌∷◌, length, map, Option, Some, None, refl, sym, ap, ◌∙◌, subst, inl, inr, arith}
+-- The outer edges of a mesh with one outline, as an iterator along it gives them: each once, and after each its next
+-- one.
+use Rattle.std.proofs.Common.{◌≡◌, ◌⊎◌, ℕ, suc, ◌+◌, ◌%◌, ◌<◌, List, [], ◌∷◌, length, map, Option, Some, None, refl}
+use Rattle.std.proofs.Common.{sym, ap, ◌∙◌, subst, inl, inr, arith}
 use Rattle.std.specs.Prelude.{Contains, slice_index_or}
 use Rattle.std.specs.Borrow.{Bor}
 use Rattle.std.specs.List.{range_with_len}
@@ -88,8 +90,11 @@ outline_given {V} {D} {U} {F} d given valid one gives = go d.now.mesh.outer_edge
         → (edges : List ℕ) × (given ≡ each_in d edges) × IsOutlineList d.now.mesh edges
     go None e = ([], gives.empty e, empty_list d.now.mesh valid e)
     go (Some first) e =
-        let l = gives.loop first e in
-        (map (λ i. iterate (next d.now.mesh) i first) (range_with_len 0 l.0), l.2, loop_list d.now.mesh first l.0 l.1 one)
+        let l = gives.loop first e in (
+          map (λ i. iterate (next d.now.mesh) i first) (range_with_len 0 l.0),
+          l.2,
+          loop_list d.now.mesh first l.0 l.1 one,
+        )
 
 -- ---- a search along the outline
 -- the indexes of what is given
@@ -118,13 +123,15 @@ module _ {C : Type 0} (m : Mesh) (Seen : ℕ → Type 0) (given : List (Bor C ×
     (going : IsGoingAlong m Seen (indexes given)) where
   -- the next edge that is given is an outer one
   pub along_next : (x : Bor C × ℕ) (left : List (Bor C × ℕ)) → given ≡ x ∷ left → IsOut m x.1
-  along_next x left e = going.within x.1 (subst (λ xs. Contains (indexes xs) x.1) (sym e) (Contains-head x.1 (indexes left)))
+  along_next x left e =
+      going.within x.1 (subst (λ xs. Contains (indexes xs) x.1) (sym e) (Contains-head x.1 (indexes left)))
 
   -- once it is seen, the way along the outline goes on with the edges after it
   pub along_goes_on : (x : Bor C × ℕ) (left : List (Bor C × ℕ)) → given ≡ x ∷ left → Seen x.1
       → IsGoingAlong m Seen (indexes left)
   along_goes_on x left e seen = record {
-    within = λ h c. going.within h (subst (λ xs. Contains (indexes xs) h) (sym e) (Contains-later x.1 (indexes left) h c));
+    within =
+        λ h c. going.within h (subst (λ xs. Contains (indexes xs) h) (sym e) (Contains-later x.1 (indexes left) h c));
     each = λ h o. elim (going.each h o) [
       | inl c ↦ elim (Contains-cases x.1 (indexes left) h (subst (λ xs. Contains (indexes xs) h) e c)) [
         | inl q ↦ inr (subst Seen q seen)

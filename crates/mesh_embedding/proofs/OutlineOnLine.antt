@@ -20,7 +20,8 @@ use Rattle.mesh_embedding.specs.Drawn.{corners_of, faces_of, outer_of}
 use Rattle.mesh_embedding.proofs.LineNeighbours as N
 use Rattle.mesh_embedding.proofs.MeshLineEnds.{only_edge, is_outer}
 use Rattle.mesh_embedding.proofs.OuterEdges.{real, one_edge}
-use Rattle.mesh_embedding.proofs.OutlineRounds.{IsOut, next_out, end, TurnsUp, outline_by_low, out_edge, out_pair, same_ends, IsLowest, same_low}
+use Rattle.mesh_embedding.proofs.OutlineRounds.{IsOut, next_out, end, TurnsUp, outline_by_low, out_edge, out_pair}
+use Rattle.mesh_embedding.proofs.OutlineRounds.{same_ends, IsLowest, same_low}
 
 -- ---- a mesh of points on one line: by their places along it
 module _ (points : List Point) (m : Mesh) (valid : IsValidMesh m) (bare : faces_of m ≡ [])

@@ -47,7 +47,8 @@ turned_join pairs i j (inr h) = inl h
 -- what has the ends of a listed pair is listed
 pub same_joined : (pairs : List (ℕ × ℕ)) (i j u v : ℕ) → IsSamePair i j u v → Joins pairs u v → Joins pairs i j
 same_joined pairs i j u v (inl e) h = subst (λ (x : ℕ × ℕ). Joins pairs x.0 x.1) (λ o. (sym e.0 o, sym e.1 o)) h
-same_joined pairs i j u v (inr e) h = turned_join pairs j i (subst (λ (x : ℕ × ℕ). Joins pairs x.0 x.1) (λ o. (sym e.1 o, sym e.0 o)) h)
+same_joined pairs i j u v (inr e) h =
+    turned_join pairs j i (subst (λ (x : ℕ × ℕ). Joins pairs x.0 x.1) (λ o. (sym e.1 o, sym e.0 o)) h)
 
 -- ---- triples
 -- a b c is the triple i j k, whichever of the three is named first

@@ -8,7 +8,8 @@ use Rattle.plane.specs.Delaunay.{IsConstrainedDelaunay}
 use Rattle.plane.specs.Location.{no_triangulation, on_edge, outside_hull, IsLocation}
 use Rattle.plane.specs.Line.{at_vertex, across, along, Meets, IsBefore}
 use Rattle.plane.specs.Plain.{Plain, Appends, Removes}
-use Rattle.plane.specs.Sheets.{point, grid, five, seven, grid_table, grid_lines, five_table, left_of_seven, lines_of_seven, TableHolds, TurnLeft, AreOn}
+use Rattle.plane.specs.Sheets.{point, grid, five, seven, grid_table, grid_lines, five_table, left_of_seven}
+use Rattle.plane.specs.Sheets.{lines_of_seven, TableHolds, TurnLeft, AreOn}
 
 -- a point of whole coordinates
 abbrev pub at : ℤ → ℤ → Fraction
@@ -52,7 +53,10 @@ new_point = point (pos 0) (pos 0)
 
 -- the same with this point
 abbrev pub after : Plain Point
-after = record { vertices = point (negsuc 0) (pos 0) ∷ point (pos 1) (pos 0) ∷ point (pos 0) (pos 0) ∷ []; constraints = (0, 2) ∷ (2, 1) ∷ [] }
+after = record {
+  vertices = point (negsuc 0) (pos 0) ∷ point (pos 1) (pos 0) ∷ point (pos 0) (pos 0) ∷ [];
+  constraints = (0, 2) ∷ (2, 1) ∷ [];
+}
 
 -- the position of a point
 abbrev pub itself : Point → Point
@@ -60,11 +64,18 @@ itself p = p
 
 -- four vertices, and the constraints 0-1 and 2-3
 abbrev pub four : Plain Point
-four = record { vertices = point (pos 0) (pos 0) ∷ point (pos 1) (pos 0) ∷ point (pos 2) (pos 0) ∷ point (pos 3) (pos 0) ∷ []; constraints = (0, 1) ∷ (2, 3) ∷ [] }
+four = record {
+  vertices = point (pos 0) (pos 0) ∷ point (pos 1) (pos 0) ∷ point (pos 2) (pos 0) ∷
+      point (pos 3) (pos 0) ∷ [];
+  constraints = (0, 1) ∷ (2, 3) ∷ [];
+}
 
 -- the same without vertex 1, whose number the last vertex takes
 abbrev pub three : Plain Point
-three = record { vertices = point (pos 0) (pos 0) ∷ point (pos 3) (pos 0) ∷ point (pos 2) (pos 0) ∷ []; constraints = (2, 1) ∷ [] }
+three = record {
+  vertices = point (pos 0) (pos 0) ∷ point (pos 3) (pos 0) ∷ point (pos 2) (pos 0) ∷ [];
+  constraints = (2, 1) ∷ [];
+}
 
 -- each definition has the answer that it should have
 pub record DefinitionsHold : Type 0 where

@@ -1,5 +1,6 @@
 -- The edges of a path, as a reply names them, and what becomes of the stage.
-use Rattle.std.proofs.Common.{◌≡◌, ◌≢◌, ℕ, ◌<◌, Bool, true, false, List, [], ◌∷◌, ◌++◌, length, map, refl, inl, inr, ap, sym, ◌∙◌, subst}
+use Rattle.std.proofs.Common.{◌≡◌, ◌≢◌, ℕ, ◌<◌, Bool, true, false, List, [], ◌∷◌, ◌++◌, length, map, refl, inl, inr, ap}
+use Rattle.std.proofs.Common.{sym, ◌∙◌, subst}
 use Rattle.std.specs.Prelude.{◌⊎◌, ℤ, All, Result, Err, IsOk}
 use Rattle.std.specs.List.{flat_map}
 use Rattle.std.specs.Bool.{◌==◌}

@@ -11,7 +11,8 @@ use Rattle.delaunay_edit.specs.Constrained.{none, constrained, constraint_edges}
 use Rattle.delaunay_edit.specs.Data.{HasOtherEdgeData}
 use Rattle.delaunay_edit.specs.Headline.{IsWellFormed}
 use Rattle.command_grammar.specs.declared.command.Command.{Command}
-use Rattle.command_grammar.specs.declared.command.Command.TheVariants.{Insert, Remove, Constrain, Release, Locate, Nearest, Line, Counts, Faces}
+use Rattle.command_grammar.specs.declared.command.Command.TheVariants.{Insert, Remove, Constrain, Release, Locate}
+use Rattle.command_grammar.specs.declared.command.Command.TheVariants.{Nearest, Line, Counts, Faces}
 use Rattle.triangulate_run.specs.declared.points.SheetPoint.{SheetPoint}
 use Rattle.triangulate_run.specs.declared.reply.Reply.{Reply}
 use Rattle.triangulate_run.specs.Answer.{MayAnswer, MayJoin, MayReply, MayWalk}

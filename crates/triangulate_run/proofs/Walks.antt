@@ -1,5 +1,6 @@
 -- The items of a line, as they are put one after another.
-use Rattle.std.proofs.Common.{◌≡◌, ℕ, List, [], ◌∷◌, ◌++◌, Option, Some, None, refl, sym, ◌∙◌, ap, subst, append_assoc, append-nil}
+use Rattle.std.proofs.Common.{◌≡◌, ℕ, List, [], ◌∷◌, ◌++◌, Option, Some, None, refl, sym, ◌∙◌, ap, subst, append_assoc}
+use Rattle.std.proofs.Common.{append-nil}
 use Rattle.std.specs.Prelude.{ℤ, codes}
 use Rattle.std.specs.List.{flat_map}
 use Rattle.std.proofs.lemmas.Grind.{flat_map-append}
@@ -112,7 +113,8 @@ module _ {V D U F P S : Type 0} (at : V → Point) (number : S → ℤ) (it afte
 
         -- so it was where the first item was passed on and the writer fails at the others
         pub line_others_fail : Passes a b held mid (item_text (item_in x))
-            → ((others : List Item) → AreLeft at number after others → AppendsPart b c (mid ++ flat_map next_text others))
+            → ((others : List Item) → AreLeft at number after others →
+            AppendsPart b c (mid ++ flat_map next_text others))
             → (items : List Item) → AreLeft at number it items → AppendsPart a c (held ++ line_text items)
         line_others_fail first part =
             by_first (λ t. AppendsPart a c (held ++ t))

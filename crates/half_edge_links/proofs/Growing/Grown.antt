@@ -14,7 +14,8 @@ use Rattle.half_edge_links.proofs.OuterLoop.Outer.{outer_hung, outer_closed}
 use Rattle.half_edge_links.proofs.OuterLoop.Outline.{outline_hung, outline_closed}
 
 -- what the mesh with an edge from the end of outer edge x to vertex v has of links, ends, corners and outer edges
-pub hangs_edge : (m new : Mesh) (x v : ℕ) → AreSoundLinks m → IsOuter m x → IsAlone m v → new ≡ hung m x v → HangsEdge m new x v
+pub hangs_edge : (m new : Mesh) (x v : ℕ) → AreSoundLinks m → IsOuter m x → IsAlone m v → new ≡ hung m x v →
+    HangsEdge m new x v
 hangs_edge m new x v s outer alone is =
     let links : Hangs m new x v (length m.half_edges) = rw is (hangs m x v s outer alone) in
     record {
@@ -38,12 +39,15 @@ closes_corner m new e s can is =
     }
 
 -- an edge from the end of outer edge e to vertex v, and then a face of e and this edge, add a face of e and v
-pub adds_face_beside : (m mid new : Mesh) (e v : ℕ) → AreSoundLinks m → IsOuter m e → IsAlone m v → HangsEdge m mid e v → ClosesCorner mid new e → AddsFaceBeside m new e v
+pub adds_face_beside : (m mid new : Mesh) (e v : ℕ) → AreSoundLinks m → IsOuter m e → IsAlone m v →
+    HangsEdge m mid e v → ClosesCorner mid new e → AddsFaceBeside m new e v
 adds_face_beside m mid new e v s outer alone hung closed =
     let i = hung.links in
     let first : origin mid e ≡ origin m e = i.origins e outer.0 in
-    let second : origin mid (next mid e) ≡ origin m (rev e) = ap (origin mid) i.next_at ∙ i.there.origin ∙ (s.edges e outer.0).starts in
-    let third : origin mid (rev (next mid e)) ≡ v = ap (λ k. origin mid (rev k)) i.next_at ∙ ap (origin mid) (rev_of_even _ s.even) ∙ i.back.origin in
+    let second : origin mid (next mid e) ≡ origin m (rev e) =
+    ap (origin mid) i.next_at ∙ i.there.origin ∙ (s.edges e outer.0).starts in
+    let third : origin mid (rev (next mid e)) ≡ v =
+    ap (λ k. origin mid (rev k)) i.next_at ∙ ap (origin mid) (rev_of_even _ s.even) ∙ i.back.origin in
     record {
       links = adds_face m mid new e v s outer alone i closed.links;
       ends = ends_beside m mid new e v s outer i hung.ends closed.ends;
@@ -53,7 +57,8 @@ adds_face_beside m mid new e v s outer alone hung closed =
     }
 
 -- an edge from the end of an edge into vertex u to vertex v extends the line at u
-pub extends_line : (m new : Mesh) (u v h : ℕ) → AreSoundLinks m → out_edge m u ≡ Some h → HangsEdge m new (rev h) v → ExtendsLine m new u v
+pub extends_line : (m new : Mesh) (u v h : ℕ) → AreSoundLinks m → out_edge m u ≡ Some h → HangsEdge m new (rev h) v →
+    ExtendsLine m new u v
 extends_line m new u v h s is hung =
     let into : edge_into m u ≡ rev h = ap (λ (o : Option ℕ). rev (or_zero o)) is in
     let end = into_ends m u h s is in

@@ -41,14 +41,20 @@ circle_sign : (a b o v n : Vec3) → pos 0 <ℤ bracket a b o → pos 0 <ℤ bra
     → pos 0 <ℤ incircle a b o v → pos 0 <ℤ incircle a b v n → pos 0 <ℤ incircle a b o n
 circle_sign a b o v n abo abv abn inside deep = pos_of_mul-pos_ℤ {k = bracket a b v} {x = incircle a b o n} abv
     (subst (λ z. pos 0 <ℤ z) (sym (two_circles a b o v n))
-    (sum_is_positive (bracket a b o *ℤ incircle a b v n) (bracket a b n *ℤ incircle a b o v) (mul-pos_ℤ abo deep) (mul-pos_ℤ abn inside)))
+    (sum_is_positive (bracket a b o *ℤ incircle a b v n) (bracket a b n *ℤ incircle a b o v) (mul-pos_ℤ abo deep)
+    (mul-pos_ℤ abn inside)))
 
--- of two circles through a and b, what lies on the left of a b and inside that of v is inside that of o, where v is inside it
-pub deeper : (a b o v n : Point) → TurnsLeft (whole a) (whole b) (whole o) → TurnsLeft (whole a) (whole b) (whole v) → TurnsLeft (whole a) (whole b) (whole n)
-    → InsideCircle (whole a) (whole b) (whole o) (whole v) → InsideCircle (whole a) (whole b) (whole v) (whole n) → InsideCircle (whole a) (whole b) (whole o) (whole n)
+-- of two circles through a and b, what lies on the left of a b and inside that of v is inside that of o, where v is
+-- inside it
+pub deeper : (a b o v n : Point) → TurnsLeft (whole a) (whole b) (whole o) → TurnsLeft (whole a) (whole b) (whole v) →
+    TurnsLeft (whole a) (whole b) (whole n)
+    → InsideCircle (whole a) (whole b) (whole o) (whole v) → InsideCircle (whole a) (whole b) (whole v) (whole n) →
+    InsideCircle (whole a) (whole b) (whole o) (whole n)
 deeper a b o v n abo abv abn inside deep =
-    let left = λ (p : Point). λ (h : TurnsLeft (whole a) (whole b) (whole p)). if_left (whole a) (whole b) (whole p) h in
-    (inside_is_incircle a b o n abo).1 (circle_sign (lift a) (lift b) (lift o) (lift v) (lift n) (left o abo) (left v abv) (left n abn)
+    let left =
+    λ (p : Point). λ (h : TurnsLeft (whole a) (whole b) (whole p)). if_left (whole a) (whole b) (whole p) h in
+    (inside_is_incircle a b o n abo).1 (circle_sign (lift a) (lift b) (lift o) (lift v) (lift n) (left o abo)
+    (left v abv) (left n abn)
     ((inside_is_incircle a b o v abo).0 inside) ((inside_is_incircle a b v n abv).0 deep))
 
 -- a left turn, read from its second corner
@@ -59,7 +65,8 @@ left_turned p q r h = left_if q r p (subst (λ z. pos 0 <ℤ z) (bracket-turn (v
 inside_turned : {p q r n : Fraction} → InsideCircle p q r n → InsideCircle q r p n
 inside_turned {p} {q} {r} {n} h = circle_turned p q r n h
 
--- of two faces a b d and b c d, what is beyond the side opposite b and inside the circle is inside that of a c d, where b is
+-- of two faces a b d and b c d, what is beyond the side opposite b and inside the circle is inside that of a c d, where
+-- b is
 inside_old : (a b c d n : Point) → TurnsLeft (whole a) (whole c) (whole d) → TurnsLeft (whole a) (whole b) (whole d)
     → TurnsLeft (whole b) (whole c) (whole d) → InsideCircle (whole a) (whole c) (whole d) (whole b)
     → (TurnsLeft (whole d) (whole a) (whole n) → InsideCircle (whole b) (whole d) (whole a) (whole n)
@@ -115,17 +122,20 @@ spoke_passes points faces outer v m empty j k l f g = (outside, (λ h. outside (
     other = (one_question (point_at points v) (point_at points j) (point_at points k) (point_at points l) vjk jvl).1
 
 -- each edge at the point passes
-pub spokes_pass : (points : List Point) (faces : List Face) (outer : List (ℕ × ℕ)) (v : ℕ) → LocalMesh points faces outer → IsEmptyRound points faces v
+pub spokes_pass : (points : List Point) (faces : List Face) (outer : List (ℕ × ℕ)) (v : ℕ) →
+    LocalMesh points faces outer → IsEmptyRound points faces v
     → (i j k l : ℕ) → IsFaceOf faces i j k → IsFaceOf faces j i l → (i ≡ v) ⊎ (j ≡ v) → Pass points i j k l
 spokes_pass points faces outer v m empty i j k l f g at =
     elim at [ inl e ↦ from_first i j k l f g e | inr e ↦ (let x = from_first j i l k g f e in (x.1, x.0)) ]
   where
     from_first : (i j k l : ℕ) → IsFaceOf faces i j k → IsFaceOf faces j i l → i ≡ v → Pass points i j k l
     from_first i j k l f g e = subst (λ x. Pass points x j k l) (sym e)
-        (spoke_passes points faces outer v m empty j k l (subst (λ x. IsFaceOf faces x j k) e f) (subst (λ x. IsFaceOf faces j x l) e g))
+        (spoke_passes points faces outer v m empty j k l (subst (λ x. IsFaceOf faces x j k) e f)
+        (subst (λ x. IsFaceOf faces j x l) e g))
 
 -- an edge that fails lies opposite the point
-pub failing_is_opposite : (points : List Point) (faces : List Face) (outer : List (ℕ × ℕ)) (a b c d v : ℕ) → LocalMesh points faces outer → IsEmptyRound points faces v → IsFaceOf faces a b c → IsFaceOf faces a c d
+pub failing_is_opposite : (points : List Point) (faces : List Face) (outer : List (ℕ × ℕ)) (a b c d v : ℕ) →
+    LocalMesh points faces outer → IsEmptyRound points faces v → IsFaceOf faces a b c → IsFaceOf faces a c d
     → InsideCircle (place points a) (place points c) (place points d) (place points b) → (b ≡ v) ⊎ (d ≡ v)
 failing_is_opposite points faces outer a b c d v m empty first second failing =
     go (cases_eq b v) (cases_eq d v) (cases_eq a v) (cases_eq c v)
@@ -146,13 +156,15 @@ failing_is_opposite points faces outer a b c d v m empty first second failing =
 -- ---- the flip of an edge that fails
 -- what lies beyond the side opposite i of the face i j k is outside its circle
 abbrev IsOutside : List Point → ℕ → ℕ → ℕ → ℕ → Type 0
-IsOutside points v i j k = (n : ℕ) → n < length points → n ≢ v → TurnsLeft (place points j) (place points k) (place points n)
+IsOutside points v i j k =
+    (n : ℕ) → n < length points → n ≢ v → TurnsLeft (place points j) (place points k) (place points n)
     → ¬ InsideCircle (place points i) (place points j) (place points k) (place points n)
 
 -- so it is of the faces a b d and b c d that were made, seen from b, where the face a c d has no corner v
 made_outside : (points : List Point) (faces : List Face) (v : ℕ) → IsEmptyRound points faces v → (a b c d : ℕ)
     → IsFaceOf faces a c d → a ≢ v → c ≢ v → d ≢ v → TurnsLeft (place points a) (place points c) (place points d)
-    → TurnsLeft (place points a) (place points b) (place points d) → TurnsLeft (place points b) (place points c) (place points d)
+    → TurnsLeft (place points a) (place points b) (place points d) →
+    TurnsLeft (place points b) (place points c) (place points d)
     → InsideCircle (place points a) (place points c) (place points d) (place points b)
     → IsOutside points v b d a × IsOutside points v b c d
 made_outside points faces v empty a b c d f na nc nd acd abd bcd failing =
@@ -162,7 +174,8 @@ made_outside points faces v empty a b c d f na nc nd acd abd bcd failing =
       (λ n h nv beyond inside. empty.beside a c d n f na nc nd h nv ((old n).1 beyond inside)),
     )
 
-module _ (points : List Point) (faces new : List Face) (outer : List (ℕ × ℕ)) (a b c d v : ℕ) (m : LocalMesh points faces outer)
+module _ (points : List Point) (faces new : List Face) (outer : List (ℕ × ℕ)) (a b c d v : ℕ)
+    (m : LocalMesh points faces outer)
     (first : IsFaceOf faces a b c) (second : IsFaceOf faces a c d)
     (change : FacesChange faces new (face a b c ∷ face a c d ∷ []) (face a b d ∷ face b c d ∷ []))
     (failing : InsideCircle (place points a) (place points c) (place points d) (place points b))
@@ -235,7 +248,8 @@ module _ (points : List Point) (faces new : List Face) (outer : List (ℕ × ℕ
       if_second : b ≡ v → IsOutsideAt a b d × IsOutsideAt b c d
       if_second e =
           let nd : d ≢ v = λ s. apart_abd.1 (e ∙ sym s) in
-          let x = made_outside points faces v empty a b c d second not_first not_third nd acd convex.0 convex.1 failing in (
+          let x =
+          made_outside points faces v empty a b c d second not_first not_third nd acd convex.0 convex.1 failing in (
             ((λ s. absurd (not_first s)), (λ _. x.0), (λ s. absurd (nd s))),
             ((λ _. x.1), (λ s. absurd (not_third s)), (λ s. absurd (nd s))),
           )
@@ -267,7 +281,10 @@ module _ (points : List Point) (faces new : List Face) (outer : List (ℕ × ℕ
           → ¬ InsideCircle (place points i) (place points j) (place points k) (place points n)
       beside i j k n f ni nj nk h nv = elim (face_from faces new (face a b c ∷ face a c d ∷ []) made change i j k f) [
         | inl o ↦ empty.beside i j k n o ni nj nk h nv
-        | inr o ↦ absurd (elim (made_at_point i j k o) [ inl e ↦ ni e | inr x ↦ elim x [ inl e ↦ nj e | inr e ↦ nk e ] ])
+        | inr o ↦ absurd (elim (made_at_point i j k o) [
+          | inl e ↦ ni e
+          | inr x ↦ elim x [ inl e ↦ nj e | inr e ↦ nk e ]
+        ])
       ]
 
       beyond : (j k n : ℕ) → IsFaceOf new v j k → n < length points → n ≢ v
@@ -279,15 +296,18 @@ module _ (points : List Point) (faces new : List Face) (outer : List (ℕ × ℕ
       ]
 
 -- the flip of an edge that fails keeps the circles empty
-pub flip_stays_empty : (points : List Point) (faces new : List Face) (outer : List (ℕ × ℕ)) (a b c d v : ℕ) → LocalMesh points faces outer → IsFaceOf faces a b c → IsFaceOf faces a c d
-    → FacesChange faces new (face a b c ∷ face a c d ∷ []) (face a b d ∷ face b c d ∷ []) → InsideCircle (place points a) (place points c) (place points d) (place points b)
+pub flip_stays_empty : (points : List Point) (faces new : List Face) (outer : List (ℕ × ℕ)) (a b c d v : ℕ) →
+    LocalMesh points faces outer → IsFaceOf faces a b c → IsFaceOf faces a c d
+    → FacesChange faces new (face a b c ∷ face a c d ∷ []) (face a b d ∷ face b c d ∷ []) →
+    InsideCircle (place points a) (place points c) (place points d) (place points b)
     → IsEmptyRound points faces v → IsEmptyRound points new v
 flip_stays_empty points faces new outer a b c d v m first second change failing empty =
     still_empty points faces new outer a b c d v m first second change failing empty
 
 -- ---- after the insertion
 -- at first the edges opposite the point are left to test
-pub opposite_left : (points : List Point) (faces : List Face) (outer constraints left : List (ℕ × ℕ)) (v : ℕ) → IsMesh points faces outer → IsEmptyRound points faces v
+pub opposite_left : (points : List Point) (faces : List Face) (outer constraints left : List (ℕ × ℕ)) (v : ℕ) →
+    IsMesh points faces outer → IsEmptyRound points faces v
     → ((j k : ℕ) → IsFaceOf faces v j k → Joins left j k) → AllPassBut points faces constraints left
 opposite_left points faces outer constraints left v m empty there =
     elim m as (λ _. AllPassBut points faces constraints left) [

@@ -85,7 +85,8 @@ corner_or_inside_circle : (a b c q : Point) → TurnsLeft (whole a) (whole b) (w
     → InTriangle (whole a) (whole b) (whole c) (whole q) → ¬ (q ≡ a) → ¬ (q ≡ b) → ¬ (q ≡ c)
     → InsideCircle (whole a) (whole b) (whole c) (whole q)
 corner_or_inside_circle a b c q turns within no_a no_b no_c = (inside_is_determinant a b c q turns).1
-    (weighted_positive (squared_way q a) (squared_way q b) (squared_way q c) (turn_at q b c) (turn_at q c a) (turn_at q a b)
+    (weighted_positive (squared_way q a) (squared_way q b) (squared_way q c) (turn_at q b c) (turn_at q c a)
+    (turn_at q a b)
     (way_positive q a no_a) (way_positive q b no_b) (way_positive q c no_c)
     (not_negative b c signs.1) (not_negative c a signs.2) (not_negative a b signs.0) whole_positive)
   where
@@ -257,12 +258,17 @@ module _ (points : List Point) (q : Point) (old new : List Face) (outer now : Li
     beyond = λ j k n f h d left inside. none_beyond j k n f (below n h d) left inside;
   }
 
--- where a point is put into faces that contain it, or beyond outer edges, of a mesh whose circles are empty, the circles round it are empty
-pub put_in_is_empty : (points : List Point) (q : Point) (old new : List Face) (outer now : List (ℕ × ℕ)) → IsMesh points old outer → IsMesh (points ++ q ∷ []) new now
-    → ((i j k : ℕ) → IsFaceOf new i j k → IsFaceOf old i j k ⊎ ((i ≡ length points) ⊎ ((j ≡ length points) ⊎ (k ≡ length points))))
+-- where a point is put into faces that contain it, or beyond outer edges, of a mesh whose circles are empty, the
+-- circles round it are empty
+pub put_in_is_empty : (points : List Point) (q : Point) (old new : List Face) (outer now : List (ℕ × ℕ)) →
+    IsMesh points old outer → IsMesh (points ++ q ∷ []) new now
+    → ((i j k : ℕ) → IsFaceOf new i j k → IsFaceOf old i j k ⊎
+    ((i ≡ length points) ⊎ ((j ≡ length points) ⊎ (k ≡ length points))))
     → ((j k : ℕ) → IsFaceOf new (length points) j k → ((o : ℕ) × IsFaceOf old j k o) ⊎ Contains outer (j, k))
-    → ((i j k : ℕ) → IsFaceOf old i j k → IsFaceOf new i j k ⊎ InTriangle (place points i) (place points j) (place points k) (whole q))
-    → ((i j k n : ℕ) → IsFaceOf old i j k → n < length points → ¬ InsideCircle (place points i) (place points j) (place points k) (place points n))
+    → ((i j k : ℕ) → IsFaceOf old i j k → IsFaceOf new i j k ⊎
+    InTriangle (place points i) (place points j) (place points k) (whole q))
+    → ((i j k n : ℕ) → IsFaceOf old i j k → n < length points →
+    ¬ InsideCircle (place points i) (place points j) (place points k) (place points n))
     → IsEmptyRound (points ++ q ∷ []) new (length points)
 put_in_is_empty points q old new outer now m after only across stays_or_contains empty =
     round_is_empty points q old new outer now m after only across stays_or_contains empty

@@ -16,7 +16,8 @@ use Rattle.plane_segments.proofs.Crossing.EitherWay.{one_point}
 pub meshes_are_laid : MeshesAreLaid
 meshes_are_laid points faces outer edges mesh own = go (meshes_tile points faces outer edges mesh own)
   where
-    distinct : IsMesh points faces outer → (i j : ℕ) → IsIndex points i → IsIndex points j → i ≢ j → place points i ≢ place points j
+    distinct : IsMesh points faces outer → (i j : ℕ) → IsIndex points i → IsIndex points j → i ≢ j →
+        place points i ≢ place points j
     distinct (inl m) = m.distinct
     distinct (inr m) = m.1.distinct
 
@@ -25,8 +26,11 @@ meshes_are_laid points faces outer edges mesh own = go (meshes_tile points faces
       where
         pick : Dec (i ≡ j) → i ≡ j
         pick (yes r) = r
-        pick (no n) = absurd (distinct mesh i j hi hj n (ap whole (one_point (slice_index_or points i (record { x = pos 0; y = pos 0 })) (slice_index_or points j (record { x = pos 0; y = pos 0 })) e)))
+        pick (no n) = absurd (distinct mesh i j hi hj n
+            (ap whole (one_point (slice_index_or points i (record { x = pos 0; y = pos 0 }))
+            (slice_index_or points j (record { x = pos 0; y = pos 0 })) e)))
 
-    go : IsTiling (record { points = points; faces = faces; edges = edges }) → IsLaid (record { points = points; faces = faces; edges = edges })
+    go : IsTiling (record { points = points; faces = faces; edges = edges }) →
+        IsLaid (record { points = points; faces = faces; edges = edges })
     go (inl h) = inl h
     go (inr h) = inr (h, no_edges_cross points faces outer edges mesh own, apart)

@@ -2,7 +2,8 @@ use Rattle.std.proofs.Common.{ℕ, ◌/◌, ◌∙◌, sym, ap, subst, arith}
 use Rattle.std.specs.Prelude.{Contains}
 use Rattle.half_edge_mesh.specs.Rounds.{GivesRound, out_edges_left}
 use Rattle.delaunay_legalization.proofs.Questions.{both_ways}
-use Rattle.delaunay_edit.proofs.CountingAt.{counting_begins, next_at, counting_goes_past, counting_goes_on, counting_ends}
+use Rattle.delaunay_edit.proofs.CountingAt.{counting_begins, next_at, counting_goes_past, counting_goes_on}
+use Rattle.delaunay_edit.proofs.CountingAt.{counting_ends}
 use Rattle.delaunay_edit.proofs.counting.count_constraints_at.Goals as goal
 
 pub loop-edge-init : goal.loop-edge-init
@@ -11,7 +12,8 @@ loop-edge-init g c =
     counting_begins g.V.HasPosition.place g.M.ConstraintMarker.marks g.M.ConstraintMarker.constraints
     g.met.M.ConstraintMarker.constraints_are_marked c.args.dcel.now c.requires.kept c.args.vertex
     d (out_edges_left c.into_iter-edge-iterator.result) (ap (λ x. x.now) c.vertex.ensures.dcel)
-    (subst (λ it. GivesRound d c.args.vertex (out_edges_left it)) (sym c.into_iter-edge-iterator.ensures.into_iter_gives)
+    (subst (λ it. GivesRound d c.args.vertex (out_edges_left it))
+    (sym c.into_iter-edge-iterator.ensures.into_iter_gives)
     (subst (λ (v : ℕ). GivesRound d v (out_edges_left c.out_edges-edge-items.result)) c.vertex.ensures.index
     c.out_edges-edge-items.ensures))
 

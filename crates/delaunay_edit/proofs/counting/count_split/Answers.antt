@@ -16,10 +16,18 @@ pub returns-then-is_constraint_edge : goal.returns-then-is_constraint_edge
 returns-then-is_constraint_edge g c =
     let marks = g.M.ConstraintMarker.constraints c.args.dcel.now.undirected in
     subst (λ l. IsSplitCount g.M.ConstraintMarker.constraints c.args.dcel.now.undirected l 1) (sym c.in-OnEdge.is)
-    (inl (subst (λ (k : ℕ). Contains marks k) c.as_undirected.ensures (c.is_constraint_edge.ensures.0 c.if-is_constraint_edge.true), refl))
+    (inl (
+      subst (λ (k : ℕ). Contains marks k) c.as_undirected.ensures
+          (c.is_constraint_edge.ensures.0 c.if-is_constraint_edge.true),
+      refl,
+    ))
 
 pub returns-else-is_constraint_edge : goal.returns-else-is_constraint_edge
 returns-else-is_constraint_edge g c =
     let marks = g.M.ConstraintMarker.constraints c.args.dcel.now.undirected in
     subst (λ l. IsSplitCount g.M.ConstraintMarker.constraints c.args.dcel.now.undirected l 0) (sym c.in-OnEdge.is)
-    (inr ((λ m. both_ways _ (c.is_constraint_edge.ensures.1 (subst (λ (k : ℕ). Contains marks k) (sym c.as_undirected.ensures) m)) c.if-is_constraint_edge.false), refl))
+    (inr (
+      (λ m. both_ways _ (c.is_constraint_edge.ensures.1
+          (subst (λ (k : ℕ). Contains marks k) (sym c.as_undirected.ensures) m)) c.if-is_constraint_edge.false),
+      refl,
+    ))

@@ -10,12 +10,14 @@ insert-requires-clause-new_site g c = c.requires.new_site c.in-Insert.value c.in
 
 pub returns-in-Replace-clause-sites : goal.returns-in-Replace-clause-sites
 returns-in-Replace-clause-sites g c =
-    subst (λ ps. All InRange ps → All (g.P.PlaneTests.sites c.args.tests.now) ps) (sym c.replace.ensures.places) c.requires.sites
+    subst (λ ps. All InRange ps → All (g.P.PlaneTests.sites c.args.tests.now) ps) (sym c.replace.ensures.places)
+    c.requires.sites
 
 pub returns-in-Clear-clause-gives : goal.returns-in-Clear-clause-gives
 returns-in-Clear-clause-gives g c =
     let state = g.T.Triangulation.state in
     let place = g.T.Vertex.HasPosition.place in
     let constraints = g.T.Constraints.ConstraintMarker.constraints in
-    subst (λ e. Gives place constraints g.T.Replayable.marking e Cleared (state c.args.points.now) (state c.clear.new.self))
+    subst (λ e. Gives place constraints g.T.Replayable.marking e Cleared (state c.args.points.now)
+    (state c.clear.new.self))
     (sym c.in-Clear.is) (record { plain = c.clear.ensures.plain; rest = c.clear.ensures.new })

@@ -16,9 +16,12 @@ returns-then-not-is_same-clause-gives g c =
     let below = c.if-index-num_vertices.false in
     let index = c.index.ensures in
     let count = c.num_vertices.ensures.value in
-    let same = position_same g.T.Vertex.HasPosition.place (g.T.Triangulation.state c.args.points.now).vertices c.args.vertex
-    c.vertex.result.index c.args.value _ _ c.vertex_position-here.ensures c.vertex.ensures.index c.position.ensures in
-    ((omega (arith, below, index, count), (λ e. both_ways _ (c.is_same.ensures.1 (same e)) c.if-not-is_same.true)), refl)
+    let same =
+    position_same g.T.Vertex.HasPosition.place (g.T.Triangulation.state c.args.points.now).vertices c.args.vertex
+    c.vertex.result.index c.args.value _ _ c.vertex_position-here.ensures c.vertex.ensures.index c.position.ensures in (
+      (omega (arith, below, index, count), (λ e. both_ways _ (c.is_same.ensures.1 (same e)) c.if-not-is_same.true)),
+      refl,
+    )
 
 pub returns-clause-gives : goal.returns-clause-gives
 returns-clause-gives g c =

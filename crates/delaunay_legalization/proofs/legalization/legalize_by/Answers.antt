@@ -17,7 +17,8 @@ legalize_edge-requires-clause-step g c =
 pub loop-edge-preserved : goal.loop-edge-preserved
 loop-edge-preserved g c =
     steps_go_on c.args.sides.now g.V.HasPosition.place g.M.ConstraintMarker.constraints c.args.dcel.now _
-    c.args.flips.now c.loop-edge.dcel c.loop-edge.work.items _ c.loop-edge.flips c.loop-edge.invariant c.pop.new.self.items
+    c.args.flips.now c.loop-edge.dcel c.loop-edge.work.items _ c.loop-edge.flips c.loop-edge.invariant
+    c.pop.new.self.items
     c.in-Some.edge c.in-Some.ensures.items c.legalize_edge.new.dcel c.legalize_edge.new.work.items _
     c.legalize_edge.new.flips c.legalize_edge.ensures.contents c.legalize_edge.ensures.constraints
     c.legalize_edge.ensures.step (c.legalize_edge.ensures.capacity ∙ c.pop.ensures.capacity)

@@ -11,5 +11,7 @@ use Rattle.delaunay_location.proofs.nearest_walk.nearer_neighbor.Given as goal
 
 abbrev pub invariant-loop-edge : goal.invariant-loop-edge
 invariant-loop-edge g l =
-    let at = λ (i : ℕ). gap (whole (place_of g.V.Scalar.SpadeNum.whole l.point)) (place (map g.V.HasPosition.place l.dcel.vertices) i) in
-    IsGoingRound l.dcel l.fn.from (λ h. ¬ (at (origin l.dcel.mesh (rev h)) <ℤ at l.fn.from)) (out_edges_left l.edge-iterator)
+    let at = λ (i : ℕ). gap (whole (place_of g.V.Scalar.SpadeNum.whole l.point))
+    (place (map g.V.HasPosition.place l.dcel.vertices) i) in
+    IsGoingRound l.dcel l.fn.from (λ h. ¬ (at (origin l.dcel.mesh (rev h)) <ℤ at l.fn.from))
+    (out_edges_left l.edge-iterator)

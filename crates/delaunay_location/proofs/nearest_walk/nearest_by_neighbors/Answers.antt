@@ -4,13 +4,16 @@ use Rattle.plane.specs.Fraction.{whole}
 use Rattle.plane_delaunay.proofs.Circles.Nearest.{nearest_by_neighbours}
 use Rattle.delaunay_core.specs.Place.{place_of}
 use Rattle.delaunay_legalization.specs.State.{state_of, triangulation_of}
-use Rattle.delaunay_location.proofs.Neighbours.{walking_begins, walking_goes_on, walking_ends, nearer_falls, nearer_falls_or_stays, walking_jumps, move_fits}
+use Rattle.delaunay_location.proofs.Neighbours.{walking_begins, walking_goes_on, walking_ends, nearer_falls}
+use Rattle.delaunay_location.proofs.Neighbours.{nearer_falls_or_stays, walking_jumps, move_fits}
 use Rattle.delaunay_location.proofs.nearest_walk.nearest_by_neighbors.Goals as goal
 
 pub loop-nearer-init : goal.loop-nearer-init
 loop-nearer-init g c =
     let vertices = c.args.dcel.now.vertices in
-    walking_begins (triangulation_of g.V.HasPosition.place (state_of c.args.dcel.now)) (place_of g.V.Scalar.SpadeNum.whole c.args.point) c.args.moves.now c.args.start c.args.moves.now (let w = c.requires.within in omega (arith, w, length-map vertices g.V.HasPosition.place)) refl
+    walking_begins (triangulation_of g.V.HasPosition.place (state_of c.args.dcel.now))
+    (place_of g.V.Scalar.SpadeNum.whole c.args.point) c.args.moves.now c.args.start c.args.moves.now
+    (let w = c.requires.within in omega (arith, w, length-map vertices g.V.HasPosition.place)) refl
 
 pub loop-nearer-preserved : goal.loop-nearer-preserved
 loop-nearer-preserved g c =
@@ -70,7 +73,10 @@ overflow_add-moves g c =
     let vertices = c.args.dcel.now.vertices in
     let count = length-map vertices g.V.HasPosition.place in
     let fits = c.requires.fits in
-    let m = move_fits (triangulation_of g.V.HasPosition.place (state_of c.args.dcel.now)) (place_of g.V.Scalar.SpadeNum.whole c.args.point) c.args.moves.now c.loop-nearer.nearest c.loop-nearer.moves c.loop-nearer.invariant c.in-Some.nearer (let w = c.in-Some.ensures.0 in omega (arith, w, count)) c.in-Some.ensures.1
+    let m = move_fits (triangulation_of g.V.HasPosition.place (state_of c.args.dcel.now))
+    (place_of g.V.Scalar.SpadeNum.whole c.args.point) c.args.moves.now c.loop-nearer.nearest c.loop-nearer.moves
+    c.loop-nearer.invariant c.in-Some.nearer (let w = c.in-Some.ensures.0 in omega (arith, w, count))
+    c.in-Some.ensures.1
     (subst (λ (n : ℕ). c.args.moves.now + n ≤ 2 ^ 64) (sym count) fits) in
     omega (arith, m)
 
@@ -81,12 +87,16 @@ nearer_neighbor-requires-clause-within g c =
 
 pub returns-clause-nearest : goal.returns-clause-nearest
 returns-clause-nearest g c =
-    nearest_by_neighbours (triangulation_of g.V.HasPosition.place (state_of c.args.dcel.now)) c.requires.delaunay (whole (place_of g.V.Scalar.SpadeNum.whole c.args.point)) c.loop-nearer.nearest c.loop-nearer.invariant.within c.in_default.ensures
+    nearest_by_neighbours (triangulation_of g.V.HasPosition.place (state_of c.args.dcel.now)) c.requires.delaunay
+    (whole (place_of g.V.Scalar.SpadeNum.whole c.args.point)) c.loop-nearer.nearest c.loop-nearer.invariant.within
+    c.in_default.ensures
 
 pub returns-clause-counted : goal.returns-clause-counted
 returns-clause-counted g c =
     let vertices = c.args.dcel.now.vertices in (
       c.loop-nearer.invariant.grown,
       subst (λ (n : ℕ). c.loop-nearer.moves < c.args.moves.now + n) (length-map vertices g.V.HasPosition.place)
-          (walking_ends (triangulation_of g.V.HasPosition.place (state_of c.args.dcel.now)) (place_of g.V.Scalar.SpadeNum.whole c.args.point) c.args.moves.now c.loop-nearer.nearest c.loop-nearer.moves c.loop-nearer.invariant),
+          (walking_ends (triangulation_of g.V.HasPosition.place (state_of c.args.dcel.now))
+          (place_of g.V.Scalar.SpadeNum.whole c.args.point) c.args.moves.now c.loop-nearer.nearest
+          c.loop-nearer.moves c.loop-nearer.invariant),
     )

@@ -6,7 +6,9 @@ use Rattle.delaunay_location.proofs.Neighbours.{IsWalking}
 use Rattle.delaunay_location.proofs.nearest_walk.nearest_by_neighbors.Given as goal
 
 abbrev pub invariant-loop-nearer : goal.invariant-loop-nearer
-invariant-loop-nearer g l = IsWalking (triangulation_of g.V.HasPosition.place (state_of l.dcel)) (place_of g.V.Scalar.SpadeNum.whole l.point) l.nearest l.fn.moves l.moves
+invariant-loop-nearer g l = IsWalking (triangulation_of g.V.HasPosition.place (state_of l.dcel))
+    (place_of g.V.Scalar.SpadeNum.whole l.point) l.nearest l.fn.moves l.moves
 
 abbrev pub decreases-loop-nearer : goal.decreases-loop-nearer
-decreases-loop-nearer g l = nearer_count (triangulation_of g.V.HasPosition.place (state_of l.dcel)) (whole (place_of g.V.Scalar.SpadeNum.whole l.point)) l.nearest
+decreases-loop-nearer g l = nearer_count (triangulation_of g.V.HasPosition.place (state_of l.dcel))
+    (whole (place_of g.V.Scalar.SpadeNum.whole l.point)) l.nearest

@@ -9,5 +9,6 @@ returns-clause-marks g c =
       edge = c.edge_between-edge.result;
       source = c.edge_between-edge.ensures.source;
       target = c.edge_between-edge.ensures.target;
-      marks_edge = subst (λ (k : ℕ). MarksEdge m.marks m.marked c.args.dcel.now c.mark.new.dcel k) c.as_undirected.ensures c.mark.ensures;
+      marks_edge = subst (λ (k : ℕ). MarksEdge m.marks m.marked c.args.dcel.now c.mark.new.dcel k)
+          c.as_undirected.ensures c.mark.ensures;
     }

@@ -9,6 +9,14 @@ pub comes_after_on_left-requires : goal.comes_after_on_left-requires
 comes_after_on_left-requires g c =
     let tests = c.args.tests.now in
     let points = map g.V.HasPosition.place c.args.dcel.now.vertices in
-    let listed : (p : Point) → Contains points p → g.P.PlaneTests.covered tests p = (λ p. covered_in (g.P.PlaneTests.covered tests) (g.P.PlaneTests.sites tests) (g.met.P.PlaneTests.sites_are_covered tests) points p c.requires.sites) in
+    let listed : (p : Point) → Contains points p → g.P.PlaneTests.covered tests p =
+    (λ p. covered_in (g.P.PlaneTests.covered tests) (g.P.PlaneTests.sites tests)
+    (g.met.P.PlaneTests.sites_are_covered tests) points p c.requires.sites) in
     let at = place_of g.V.Scalar.SpadeNum.whole in
-    record { covered = record { from = listed (at c.position_of-from.result) c.position_of-from.ensures.listed; point = listed (at c.ends_of.result.1) c.ends_of.ensures.listed.1; other = listed (at c.ends_of-2.result.1) c.ends_of-2.ensures.listed.1 } }
+    record {
+      covered = record {
+        from = listed (at c.position_of-from.result) c.position_of-from.ensures.listed;
+        point = listed (at c.ends_of.result.1) c.ends_of.ensures.listed.1;
+        other = listed (at c.ends_of-2.result.1) c.ends_of-2.ensures.listed.1;
+      };
+    }

@@ -12,14 +12,19 @@ loop-next-init g c =
     let points = map g.V.HasPosition.place d.vertices in
     let distinct = placed_apart points (faces_of d.mesh) (outer_of d.mesh) c.requires.kept.shape in
     let from_in = in_map g.V.HasPosition.place d.vertices c.args.from c.requires.from_in in
-    let to_in = in_map g.V.HasPosition.place d.vertices c.args.to c.requires.to_in in
-    (listing_begins points d.mesh distinct c.args.from c.args.to from_in to_in c.clear.new.self.items _ _ c.clear.ensures.items c.clear.ensures.capacity, c.clear.ensures.len ∙ sym (ap length c.clear.ensures.items))
+    let to_in = in_map g.V.HasPosition.place d.vertices c.args.to c.requires.to_in in (
+      listing_begins points d.mesh distinct c.args.from c.args.to from_in to_in c.clear.new.self.items _ _
+          c.clear.ensures.items c.clear.ensures.capacity,
+      c.clear.ensures.len ∙ sym (ap length c.clear.ensures.items),
+    )
 
 pub next_piece-requires-clause-from_in : goal.next_piece-requires-clause-from_in
-next_piece-requires-clause-from_in g c = of_map g.V.HasPosition.place c.args.dcel.now.vertices c.loop-next.at c.loop-next.invariant.0.within
+next_piece-requires-clause-from_in g c =
+    of_map g.V.HasPosition.place c.args.dcel.now.vertices c.loop-next.at c.loop-next.invariant.0.within
 
 pub edge_between-edge-requires : goal.edge_between-edge-requires
-edge_between-edge-requires g c = c.requires.joined c.loop-next.at c.in-Some.next (c.loop-next.invariant.0.rest c.loop-next.at c.in-Some.next c.in-Some.ensures.next)
+edge_between-edge-requires g c = c.requires.joined c.loop-next.at c.in-Some.next
+    (c.loop-next.invariant.0.rest c.loop-next.at c.in-Some.next c.in-Some.ensures.next)
 
 pub push_reserved-requires : goal.push_reserved-requires
 push_reserved-requires g c =
@@ -28,7 +33,10 @@ push_reserved-requires g c =
     let distinct = placed_apart points (faces_of d.mesh) (outer_of d.mesh) c.requires.kept.shape in
     let from_in = in_map g.V.HasPosition.place d.vertices c.args.from c.requires.from_in in
     let to_in = in_map g.V.HasPosition.place d.vertices c.args.to c.requires.to_in in
-    let here : length c.loop-next.edges.items < vec_capacity c.loop-next.edges = listing_has_room points d.mesh distinct c.args.from c.args.to from_in to_in c.loop-next.at c.loop-next.edges.items _ _ c.loop-next.invariant.0 c.in-Some.next c.in-Some.ensures.apart c.in-Some.ensures.next (length d.vertices) (length-map d.vertices g.V.HasPosition.place) c.requires.room in
+    let here : length c.loop-next.edges.items < vec_capacity c.loop-next.edges =
+    listing_has_room points d.mesh distinct c.args.from c.args.to from_in to_in c.loop-next.at
+    c.loop-next.edges.items _ _ c.loop-next.invariant.0 c.in-Some.next c.in-Some.ensures.apart
+    c.in-Some.ensures.next (length d.vertices) (length-map d.vertices g.V.HasPosition.place) c.requires.room in
     let len = c.loop-next.invariant.1 in
     omega (arith, here, len)
 
@@ -39,9 +47,16 @@ loop-next-preserved g c =
     let distinct = placed_apart points (faces_of d.mesh) (outer_of d.mesh) c.requires.kept.shape in
     let from_in = in_map g.V.HasPosition.place d.vertices c.args.from c.requires.from_in in
     let to_in = in_map g.V.HasPosition.place d.vertices c.args.to c.requires.to_in in (
-      listing_goes_on points d.mesh distinct c.args.from c.args.to from_in to_in c.loop-next.at c.loop-next.edges.items _ _ c.loop-next.invariant.0 c.in-Some.next c.in-Some.ensures.apart c.in-Some.ensures.next c.edge_between-edge.result c.push_reserved.new.self.items _
-          (subst (λ (n : ℕ). c.edge_between-edge.result < n) c.requires.kept.fits.directed_fit c.edge_between-edge.ensures.within) c.edge_between-edge.ensures.source c.edge_between-edge.ensures.target c.push_reserved.ensures.items c.push_reserved.ensures.capacity,
-      (let len = c.push_reserved.ensures.len in let was = c.loop-next.invariant.1 in let now = ap length c.push_reserved.ensures.items in let more = length-append c.loop-next.edges.items (c.edge_between-edge.result ∷ []) in omega (arith, len, was, now, more)),
+      listing_goes_on points d.mesh distinct c.args.from c.args.to from_in to_in c.loop-next.at c.loop-next.edges.items
+          _ _ c.loop-next.invariant.0 c.in-Some.next c.in-Some.ensures.apart c.in-Some.ensures.next
+          c.edge_between-edge.result c.push_reserved.new.self.items _
+          (subst (λ (n : ℕ). c.edge_between-edge.result < n) c.requires.kept.fits.directed_fit
+          c.edge_between-edge.ensures.within) c.edge_between-edge.ensures.source c.edge_between-edge.ensures.target
+          c.push_reserved.ensures.items c.push_reserved.ensures.capacity,
+      (let len = c.push_reserved.ensures.len in let was = c.loop-next.invariant.1 in
+          let now = ap length c.push_reserved.ensures.items in
+          let more = length-append c.loop-next.edges.items (c.edge_between-edge.result ∷ []) in
+          omega (arith, len, was, now, more)),
     )
 
 pub loop-next-smaller : goal.loop-next-smaller
@@ -51,7 +66,8 @@ loop-next-smaller g c =
     let distinct = placed_apart points (faces_of d.mesh) (outer_of d.mesh) c.requires.kept.shape in
     let from_in = in_map g.V.HasPosition.place d.vertices c.args.from c.requires.from_in in
     let to_in = in_map g.V.HasPosition.place d.vertices c.args.to c.requires.to_in in
-    path_shortens points c.loop-next.at c.args.to c.in-Some.next distinct c.loop-next.invariant.0.within to_in c.in-Some.ensures.apart c.in-Some.ensures.next
+    path_shortens points c.loop-next.at c.args.to c.in-Some.next distinct c.loop-next.invariant.0.within to_in
+    c.in-Some.ensures.apart c.in-Some.ensures.next
 
 pub returns : goal.returns
 returns g c =
@@ -60,4 +76,5 @@ returns g c =
     let distinct = placed_apart points (faces_of d.mesh) (outer_of d.mesh) c.requires.kept.shape in
     let from_in = in_map g.V.HasPosition.place d.vertices c.args.from c.requires.from_in in
     let to_in = in_map g.V.HasPosition.place d.vertices c.args.to c.requires.to_in in
-    listing_ends points d.mesh distinct c.args.from c.args.to from_in to_in c.loop-next.at c.loop-next.edges.items _ _ c.loop-next.invariant.0 c.in_default.ensures.end
+    listing_ends points d.mesh distinct c.args.from c.args.to from_in to_in c.loop-next.at c.loop-next.edges.items _ _
+    c.loop-next.invariant.0 c.in_default.ensures.end

@@ -9,7 +9,8 @@ loop-i-init g c =
     let was = c.in_ok-border.ensures in
     let room = was.capacity in
     gathering_begins m (origin m c.args.first) c.args.first c.count_edges-count.result c.count_edges-count.ensures
-    c.count_edges-count.result c.in_ok-border.border.items (vec_len c.in_ok-border.border) (vec_capacity c.in_ok-border.border) was.len (omega (arith, room))
+    c.count_edges-count.result c.in_ok-border.border.items (vec_len c.in_ok-border.border)
+    (vec_capacity c.in_ok-border.border) was.len (omega (arith, room))
 
 pub edge_after-after-requires : goal.edge_after-after-requires
 edge_after-after-requires g c =
@@ -35,13 +36,18 @@ loop-i-preserved g c =
     let m = c.args.dcel.now.mesh in
     let fit = c.recall_invariant.ensures.whole.fits.directed_fit in
     gathering_goes_on m (origin m c.args.first) c.args.first c.count_edges-count.result c.count_edges-count.ensures
-    c.count_edges-count.result c.loop-i.i c.loop-i.edge c.loop-i.border.items (vec_len c.loop-i.border) (vec_capacity c.loop-i.border) c.loop-i.invariant
-    c.vertex_at_end.result c.vertex_at_end-in-loop-i.result c.edge_after-after.result c.push_reserved.new.self.items (vec_len c.push_reserved.new.self) (vec_capacity c.push_reserved.new.self)
-    c.vertex_at_end.ensures c.vertex_at_end-in-loop-i.ensures (subst (λ (n : ℕ). c.edge_after-after.result < n) fit c.edge_after-after.ensures.within) c.edge_after-after.ensures.value
+    c.count_edges-count.result c.loop-i.i c.loop-i.edge c.loop-i.border.items (vec_len c.loop-i.border)
+    (vec_capacity c.loop-i.border) c.loop-i.invariant
+    c.vertex_at_end.result c.vertex_at_end-in-loop-i.result c.edge_after-after.result c.push_reserved.new.self.items
+    (vec_len c.push_reserved.new.self) (vec_capacity c.push_reserved.new.self)
+    c.vertex_at_end.ensures c.vertex_at_end-in-loop-i.ensures
+    (subst (λ (n : ℕ). c.edge_after-after.result < n) fit c.edge_after-after.ensures.within)
+    c.edge_after-after.ensures.value
     c.push_reserved.ensures.items c.push_reserved.ensures.len c.push_reserved.ensures.capacity
 
 pub returns : goal.returns
 returns g c =
     let m = c.args.dcel.now.mesh in
     gathering_ends m (origin m c.args.first) c.args.first c.count_edges-count.result c.count_edges-count.ensures
-    c.count_edges-count.result c.loop-i.i c.loop-i.edge c.loop-i.border.items (vec_len c.loop-i.border) (vec_capacity c.loop-i.border) c.loop-i.invariant c.loop-i-test.false
+    c.count_edges-count.result c.loop-i.i c.loop-i.edge c.loop-i.border.items (vec_len c.loop-i.border)
+    (vec_capacity c.loop-i.border) c.loop-i.invariant c.loop-i-test.false

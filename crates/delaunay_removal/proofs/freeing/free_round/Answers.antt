@@ -18,15 +18,21 @@ free_edge-requires g c =
 
 pub edge_after-edge-requires : goal.edge_after-edge-requires
 edge_after-edge-requires g c =
-    subst (λ ds. c.loop-i.edge < length ds) (sym (ap (λ d. d.directed) c.free_edge.ensures.whole ∙ same_directed g.M.ConstraintMarker.marks c.args.dcel.now c.args.first c.loop-i.dcel c.loop-i.invariant.contents)) c.loop-i.invariant.within
+    subst (λ ds. c.loop-i.edge < length ds) (sym (ap (λ d. d.directed) c.free_edge.ensures.whole
+    ∙ same_directed g.M.ConstraintMarker.marks c.args.dcel.now c.args.first c.loop-i.dcel
+    c.loop-i.invariant.contents)) c.loop-i.invariant.within
 
 pub loop-i-preserved : goal.loop-i-preserved
 loop-i-preserved g c =
     let m = g.M.ConstraintMarker in
-    freeing_goes_on m.marks c.args.dcel.now c.args.first c.loop-i.dcel c.free_edge.new.dcel c.loop-i.i c.loop-i.edge c.loop-i.invariant m.unmarked g.met.M.ConstraintMarker.unmarked_has_none
-    (subst (HasEdgeData m.unmarked c.loop-i.dcel c.free_edge.new.dcel) c.as_undirected.ensures c.free_edge.ensures) c.edge_after-edge.result c.edge_after-edge.ensures.within c.edge_after-edge.ensures.value
+    freeing_goes_on m.marks c.args.dcel.now c.args.first c.loop-i.dcel c.free_edge.new.dcel c.loop-i.i c.loop-i.edge
+    c.loop-i.invariant m.unmarked g.met.M.ConstraintMarker.unmarked_has_none
+    (subst (HasEdgeData m.unmarked c.loop-i.dcel c.free_edge.new.dcel) c.as_undirected.ensures c.free_edge.ensures)
+    c.edge_after-edge.result c.edge_after-edge.ensures.within c.edge_after-edge.ensures.value
 
 pub returns-clause-frees : goal.returns-clause-frees
 returns-clause-frees g c =
-    freeing_ends g.M.ConstraintMarker.marks c.args.dcel.now c.args.first c.recall_invariant.ensures.whole (origin c.args.dcel.now.mesh c.args.first) c.count_edges-count.result c.count_edges-count.ensures
-    c.loop-i.dcel c.loop-i.i c.loop-i.edge c.loop-i.invariant (λ j less. let e = c.loop-i-test.false in omega (arith, e, less))
+    freeing_ends g.M.ConstraintMarker.marks c.args.dcel.now c.args.first c.recall_invariant.ensures.whole
+    (origin c.args.dcel.now.mesh c.args.first) c.count_edges-count.result c.count_edges-count.ensures
+    c.loop-i.dcel c.loop-i.i c.loop-i.edge c.loop-i.invariant
+    (λ j less. let e = c.loop-i-test.false in omega (arith, e, less))

@@ -5,16 +5,27 @@ use Rattle.delaunay_core.specs.Place.{place_of}
 use Rattle.delaunay_shapes.specs.Known.{point_at}
 use Rattle.delaunay_shapes.proofs.Asking.{IsFilteredTo, filter_finds, filter_passes}
 use Rattle.delaunay_shapes.proofs.Handles.{end_covered, vertex_told, filtered_within, filtered_vertices}
-use Rattle.delaunay_shapes.proofs.filter.vertices_by_filter.Goals.{then-is_point_inside+in_ok-push, else-is_point_inside}
+use Rattle.delaunay_shapes.proofs.filter.vertices_by_filter.Goals.{then-is_point_inside+in_ok-push}
+use Rattle.delaunay_shapes.proofs.filter.vertices_by_filter.Goals.{else-is_point_inside}
 use Rattle.delaunay_shapes.proofs.filter.vertices_by_filter.Goals as goal
 
 pub loop-index-preserved : goal.loop-index-preserved
 loop-index-preserved g c =
-    let Inside : ℕ → Type 0 = λ i. g.M.DistanceMetric.shape c.args.metric.now (whole (point_at (map g.V.HasPosition.place c.args.dcel.now.vertices) i)) in
-    let told = vertex_told g.V.HasPosition.place c.args.dcel c.is_point_inside.result (g.M.DistanceMetric.shape c.args.metric.now) c.vertex.result.dcel c.vertex.result.index c.from_index-vertex.result (place_of g.V.Scalar.SpadeNum.whole c.position_of.result) c.vertex.ensures.dcel c.vertex.ensures.index c.position_of.ensures c.is_point_inside.ensures.inside in
+    let Inside : ℕ → Type 0 = λ i. g.M.DistanceMetric.shape c.args.metric.now
+    (whole (point_at (map g.V.HasPosition.place c.args.dcel.now.vertices) i)) in
+    let told = vertex_told g.V.HasPosition.place c.args.dcel c.is_point_inside.result
+    (g.M.DistanceMetric.shape c.args.metric.now) c.vertex.result.dcel c.vertex.result.index
+    c.from_index-vertex.result (place_of g.V.Scalar.SpadeNum.whole c.position_of.result) c.vertex.ensures.dcel
+    c.vertex.ensures.index c.position_of.ensures c.is_point_inside.ensures.inside in
     elim c.if-is_point_inside.branch [
-      | then-is_point_inside+in_ok-push w ↦ filter_finds Inside c.loop-index.index c.from_index-vertex.result c.loop-index.vertices.items c.if-is_point_inside.vertices.items c.loop-index.invariant c.from_index-vertex.ensures (told.0 w.if-is_point_inside.true) (ap (λ x. x.items) w.vertices-is ∙ w.in_ok-push.ensures.items)
-      | else-is_point_inside w ↦ subst (λ (xs : List ℕ). IsFilteredTo Inside (c.loop-index.index + 1) xs) (sym (ap (λ x. x.items) w.vertices-is)) (filter_passes Inside c.loop-index.index c.from_index-vertex.result c.loop-index.vertices.items c.loop-index.invariant c.from_index-vertex.ensures (λ p. let on = told.1 p in let off = w.if-is_point_inside.false in absurd (cc)))
+      | then-is_point_inside+in_ok-push w ↦ filter_finds Inside c.loop-index.index c.from_index-vertex.result
+          c.loop-index.vertices.items c.if-is_point_inside.vertices.items c.loop-index.invariant
+          c.from_index-vertex.ensures (told.0 w.if-is_point_inside.true)
+          (ap (λ x. x.items) w.vertices-is ∙ w.in_ok-push.ensures.items)
+      | else-is_point_inside w ↦ subst (λ (xs : List ℕ). IsFilteredTo Inside (c.loop-index.index + 1) xs)
+          (sym (ap (λ x. x.items) w.vertices-is)) (filter_passes Inside c.loop-index.index c.from_index-vertex.result
+          c.loop-index.vertices.items c.loop-index.invariant c.from_index-vertex.ensures
+          (λ p. let on = told.1 p in let off = w.if-is_point_inside.false in absurd (cc)))
     ]
 
 pub invariant_of-result : goal.invariant_of-result
@@ -22,7 +33,10 @@ invariant_of-result g c = record {
   in_range = λ k d h.
       let fits = c.num_vertices-index-end.ensures.value in
       let last = c.loop-index.auto.index-end in
-      filtered_within (λ i. g.M.DistanceMetric.shape c.args.metric.now (whole (point_at (map g.V.HasPosition.place c.args.dcel.now.vertices) i))) c.loop-index.index (length c.args.dcel.now.vertices) c.loop-index.vertices.items c.loop-index.invariant (omega (arith, fits, last)) k d h;
+      filtered_within (λ i. g.M.DistanceMetric.shape c.args.metric.now
+      (whole (point_at (map g.V.HasPosition.place c.args.dcel.now.vertices) i))) c.loop-index.index
+      (length c.args.dcel.now.vertices) c.loop-index.vertices.items c.loop-index.invariant
+      (omega (arith, fits, last)) k d h;
 }
 
 pub returns : goal.returns
@@ -33,12 +47,16 @@ returns g c =
     record {
       vertices = c.loop-index.vertices.items;
       listed = refl;
-      exact = filtered_vertices (g.M.DistanceMetric.shape c.args.metric.now) (map g.V.HasPosition.place c.args.dcel.now.vertices) c.loop-index.index (length c.args.dcel.now.vertices) c.loop-index.vertices.items c.loop-index.invariant (omega (arith, fits, last, over)) (sym (length-map c.args.dcel.now.vertices g.V.HasPosition.place));
+      exact = filtered_vertices (g.M.DistanceMetric.shape c.args.metric.now)
+          (map g.V.HasPosition.place c.args.dcel.now.vertices) c.loop-index.index (length c.args.dcel.now.vertices)
+          c.loop-index.vertices.items c.loop-index.invariant (omega (arith, fits, last, over))
+          (sym (length-map c.args.dcel.now.vertices g.V.HasPosition.place));
     }
 
 pub is_point_inside-requires : goal.is_point_inside-requires
 is_point_inside-requires g c =
     let at = place_of g.V.Scalar.SpadeNum.whole c.position_of.result in
     g.met.P.PlaneTests.covered_are_in_range c.args.tests.now at
-    (end_covered g.V.HasPosition.place c.args.dcel (g.P.PlaneTests.covered c.args.tests.now) c.args.dcel c.vertex.result.dcel c.vertex.result.index at
+    (end_covered g.V.HasPosition.place c.args.dcel (g.P.PlaneTests.covered c.args.tests.now) c.args.dcel
+    c.vertex.result.dcel c.vertex.result.index at
     c.requires refl c.vertex.ensures.dcel c.vertex.result.in_range c.position_of.ensures)

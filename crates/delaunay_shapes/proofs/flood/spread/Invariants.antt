@@ -6,7 +6,8 @@ use Rattle.delaunay_shapes.proofs.flood.spread.Given as goal
 
 abbrev pub invariant-edges : goal.invariant-edges
 invariant-edges g l = record {
-  flooding : IsFlooding (IsInside (g.M.DistanceMetric.shape l.metric) g.V.HasPosition.place l.dcel) (length l.dcel.undirected) l.asked l.found.items;
+  flooding : IsFlooding (IsInside (g.M.DistanceMetric.shape l.metric) g.V.HasPosition.place l.dcel)
+      (length l.dcel.undirected) l.asked l.found.items;
   on : GoesOn l.fn.asked l.asked l.fn.found.items l.found.items;
   spread : IsSpreadTo l.dcel.mesh l.asked l.found.items l.index;
 }

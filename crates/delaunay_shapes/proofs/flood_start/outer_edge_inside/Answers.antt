@@ -26,10 +26,13 @@ has_point_inside-requires-clause-within g c =
 
 pub loop-edge-preserved : goal.loop-edge-preserved
 loop-edge-preserved g c =
-    let Inside = λ (h : ℕ). IsInside (g.M.DistanceMetric.shape c.args.metric.now) g.V.HasPosition.place c.args.dcel.now (h / 2) in
-    along_goes_on c.args.dcel.now.mesh (λ (h : ℕ). ¬ Inside h) (hull_left c.loop-edge.edge-iterator) c.loop-edge.invariant
+    let Inside = λ (h : ℕ). IsInside (g.M.DistanceMetric.shape c.args.metric.now) g.V.HasPosition.place c.args.dcel.now
+    (h / 2) in
+    along_goes_on c.args.dcel.now.mesh (λ (h : ℕ). ¬ Inside h) (hull_left c.loop-edge.edge-iterator)
+    c.loop-edge.invariant
     (c.in-Some.edge.dcel, c.in-Some.edge.index) (hull_left c.next.new.self) c.in-Some.ensures.steps
-    (λ x. both_ways _ (c.has_point_inside.ensures.1 (subst Inside (sym c.fix-edge.ensures.value) x)) c.if-has_point_inside.false)
+    (λ x. both_ways _ (c.has_point_inside.ensures.1 (subst Inside (sym c.fix-edge.ensures.value) x))
+    c.if-has_point_inside.false)
 
 pub returns-then-has_point_inside-clause-some : goal.returns-then-has_point_inside-clause-some
 returns-then-has_point_inside-clause-some g c =
@@ -42,5 +45,6 @@ returns-then-has_point_inside-clause-some g c =
 
 pub returns-clause-none : goal.returns-clause-none
 returns-clause-none g c h within outer =
-    along_ends c.args.dcel.now.mesh _ (hull_left c.loop-edge.edge-iterator) c.loop-edge.invariant c.in-None.ensures.steps.0 h
+    along_ends c.args.dcel.now.mesh _ (hull_left c.loop-edge.edge-iterator) c.loop-edge.invariant
+    c.in-None.ensures.steps.0 h
     (within, outer)

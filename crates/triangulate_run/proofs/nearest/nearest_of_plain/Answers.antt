@@ -21,7 +21,9 @@ distance_2-requires-clause-other_in_range g c =
     let vertices = c.args.triangulation.now.vertices in
     let i = c.in-Some.vertex.index in
     let v = c.data.result.now in
-    vertex_in_range vertices i v c.in-Some.ensures.1.is_vertex (subst (λ vs. slice_get vs i ≡ Some v) (ap (λ s. s.vertices) c.in-Some.ensures.0) c.data.ensures) c.recall_invariant.ensures.in_range
+    vertex_in_range vertices i v c.in-Some.ensures.1.is_vertex
+    (subst (λ vs. slice_get vs i ≡ Some v) (ap (λ s. s.vertices) c.in-Some.ensures.0) c.data.ensures)
+    c.recall_invariant.ensures.in_range
 
 pub returns-in-Some : goal.returns-in-Some
 returns-in-Some g c =

@@ -16,7 +16,8 @@ pub loop-piece-preserved : goal.loop-piece-preserved
 loop-piece-preserved g c =
     let put = c.in_ok-put_piece.ensures in
     record {
-      so_far = passes_at text_of c.args.pieces.now c.loop-piece.piece-index _ _ _ _ _ _ _ c.loop-piece-test.true c.loop-piece.invariant.so_far put.0;
+      so_far = passes_at text_of c.args.pieces.now c.loop-piece.piece-index _ _ _ _ _ _ _ c.loop-piece-test.true
+          c.loop-piece.invariant.so_far put.0;
       works = put.1;
     }
 
@@ -24,11 +25,17 @@ pub returns-in_err-put_piece : goal.returns-in_err-put_piece
 returns-in_err-put_piece g c =
     let p = err_from_is_err_and c.from_residual.result c.from_residual.ensures.1 in
     let put = c.in_err-put_piece.ensures in
-    rw p.1 (part_at text_of c.args.pieces.now c.loop-piece.piece-index _ _ _ _ _ _ c.loop-piece-test.true c.loop-piece.invariant.so_far put.0, put.1)
+    rw p.1 (
+      part_at text_of c.args.pieces.now c.loop-piece.piece-index _ _ _ _ _ _ c.loop-piece-test.true
+          c.loop-piece.invariant.so_far put.0,
+      put.1,
+    )
 
 pub returns : goal.returns
 returns g c =
     let all = take_all c.loop-piece.piece-index c.args.pieces.now c.loop-piece-test.false in (
-      subst (λ (ys : List Piece). Passes (g.W.Write.contents (inner_of c.args.writer.now)) (g.W.Write.contents (inner_of c.loop-piece.writer)) c.args.held.now.items c.loop-piece.held.items (flat_map text_of ys)) all c.loop-piece.invariant.so_far,
+      subst (λ (ys : List Piece). Passes (g.W.Write.contents (inner_of c.args.writer.now))
+          (g.W.Write.contents (inner_of c.loop-piece.writer)) c.args.held.now.items c.loop-piece.held.items
+          (flat_map text_of ys)) all c.loop-piece.invariant.so_far,
       c.loop-piece.invariant.works,
     )

@@ -32,17 +32,20 @@ pub loop-face-preserved : goal.loop-face-preserved
 loop-face-preserved g c =
     let i = c.loop-face.invariant in
     let face = c.in-Some.face in
-    let step = first_left i.mesh i.rest (face.dcel, face.index) (inner_faces_left c.next.new.self) (i.left ∙ c.in-Some.ensures.steps.0) in
+    let step = first_left i.mesh i.rest (face.dcel, face.index) (inner_faces_left c.next.new.self)
+    (i.left ∙ c.in-Some.ensures.steps.0) in
     let mesh_is = ap (λ p. p.0) step.3 in
     let index_is = ap (λ p. p.1) step.3 in
-    let row = c.corners_of.ensures ∙ row_same_mesh i.mesh.now.mesh face.dcel.now.mesh step.0 face.index (ap (λ d. d.now.mesh) mesh_is) index_is in
+    let row = c.corners_of.ensures ∙ row_same_mesh i.mesh.now.mesh face.dcel.now.mesh step.0 face.index
+    (ap (λ d. d.now.mesh) mesh_is) index_is in
     record {
       mesh = i.mesh;
       same = i.same;
       rest = step.1;
       left = step.4;
       so_far = ap (λ ys. ys ++ map (row_at i.mesh.now.mesh) step.1) c.in_ok-push.ensures.items
-          ∙ row_more (row_at i.mesh.now.mesh) c.loop-face.faces.items c.corners_of.result i.rest step.1 step.0 _ step.2 row i.so_far;
+          ∙ row_more (row_at i.mesh.now.mesh) c.loop-face.faces.items c.corners_of.result i.rest step.1 step.0 _ step.2
+          row i.so_far;
     }
 
 pub returns : goal.returns
@@ -60,7 +63,8 @@ returns g c =
       length-map (g.T.Triangulation.state c.args.triangulation.now).mesh.face_edges
           (triangle_at (g.T.Triangulation.state c.args.triangulation.now).mesh),
     ) in
-    let done = rows_end (row_at i.mesh.now.mesh) c.loop-face.faces.items i.rest _ (none_left i.mesh i.rest (i.left ∙ c.in-None.ensures.steps.0.0)) i.so_far in
+    let done = rows_end (row_at i.mesh.now.mesh) c.loop-face.faces.items i.rest _
+    (none_left i.mesh i.rest (i.left ∙ c.in-None.ensures.steps.0.0)) i.so_far in
     let all = done ∙ ap (λ m. map (row_at m)
     (range_with_len 1 (length (g.T.Triangulation.state c.args.triangulation.now).faces))) mesh_is
     ∙ rows_by_index (g.T.Triangulation.state c.args.triangulation.now).mesh
@@ -72,4 +76,5 @@ returns g c =
     let tiles = c.recall_invariant.ensures.headline.tiling in
     let list = c.sort_faces.new.faces.items in
     let apart = subst (λ (ys : List Corners). AllPairs (λ c d. c ≢ d) ys) (sym all) (rows_differ t tiles) in
-    lists_faces t tiles list (subst (λ (ys : List Corners). IsPermutation ys list) all c.sort_faces.ensures.permutation) (c.in_ok-sort_faces.ensures.sorted apart)
+    lists_faces t tiles list (subst (λ (ys : List Corners). IsPermutation ys list) all c.sort_faces.ensures.permutation)
+    (c.in_ok-sort_faces.ensures.sorted apart)

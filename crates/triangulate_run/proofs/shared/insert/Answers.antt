@@ -3,7 +3,8 @@ use Rattle.plane.specs.Plain.{Replaces}
 use Rattle.triangulate_run.specs.Stage.{position}
 use Rattle.delaunay_legalization.specs.Constraints.{points_and_constraints_by}
 use Rattle.mesh_embedding.specs.Drawn.{drawn}
-use Rattle.triangulate_run.proofs.Insertions.{unknown_if_fresh, known_if_there, may_refuse, site_if_listed, listed_if_found, mesh_kept, places_kept, sites_kept, sites_more}
+use Rattle.triangulate_run.proofs.Insertions.{unknown_if_fresh, known_if_there, may_refuse, site_if_listed}
+use Rattle.triangulate_run.proofs.Insertions.{listed_if_found, mesh_kept, places_kept, sites_kept, sites_more}
 use Rattle.triangulate_run.proofs.shared.insert.Goals as goal
 
 pub returns-in-Ok-clause-ready : goal.returns-in-Ok-clause-ready
@@ -17,7 +18,8 @@ returns-in-Ok-clause-ready g c =
       points_covered = ready.points_covered;
       points_sites = ready.points_sites;
       vertices_sites = elim c.in-Ok.ensures.inserts.ok [
-        | inl kept ↦ sites_kept sites _ _ (ap (map position) kept.vertices ∙ places_kept _ _ c.args.point kept.same) ready.vertices_sites
+        | inl kept ↦ sites_kept sites _ _ (ap (map position) kept.vertices ∙ places_kept _ _ c.args.point kept.same)
+            ready.vertices_sites
         | inr more ↦ sites_more sites _ _ c.args.point more.1.vertices site ready.vertices_sites
       ];
     }
@@ -39,11 +41,13 @@ returns-in-Ok-clause-reply g c =
             (points_and_constraints_by g.T.Constraints.ConstraintMarker.constraints old)
             (points_and_constraints_by g.T.Constraints.ConstraintMarker.constraints new) i p) (sym index) kept;
         same = ap (λ ps. drawn ps new.mesh) (ap (map position) kept.vertices ∙ places_kept old.vertices _ p kept.same)
-            ∙ ap (drawn (map position old.vertices)) (mesh_kept old new _ (c.in-Ok.ensures.inserts.replaced (known_if_there old.vertices p _ kept.here kept.same)));
+            ∙ ap (drawn (map position old.vertices)) (mesh_kept old new _
+            (c.in-Ok.ensures.inserts.replaced (known_if_there old.vertices p _ kept.here kept.same)));
       })
       | inr more ↦ inr (record {
         new_site = record { in_range = in_range; site = listed; fresh = more.1.fresh };
-        room = λ full. (let no = c.insert.ensures.inserts.full.1 (in_range, unknown_if_fresh old.vertices p more.1.fresh, full) in cc);
+        room = λ full. (let no = c.insert.ensures.inserts.full.1
+            (in_range, unknown_if_fresh old.vertices p more.1.fresh, full) in cc);
         index = index ∙ more.0;
         appended = more.1;
       })
@@ -58,4 +62,5 @@ returns-in-Err-insert-clause-reply g c =
     may_refuse g.T.Constraints.ConstraintMarker.constraints c.args.points.now
     (g.T.Triangulation.state c.args.triangulation.now) (g.T.Triangulation.state c.insert.new.self) p
     c.insert.result c.in-Err-insert.error c.in-Err-insert.is in_range listed
-    c.insert.ensures.inserts.too_large c.insert.ensures.inserts.known c.insert.ensures.inserts.full c.in-Err-insert.ensures.inserts.err
+    c.insert.ensures.inserts.too_large c.insert.ensures.inserts.known c.insert.ensures.inserts.full
+    c.in-Err-insert.ensures.inserts.err

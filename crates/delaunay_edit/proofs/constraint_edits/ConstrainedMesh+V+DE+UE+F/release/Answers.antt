@@ -10,7 +10,8 @@ use Rattle.delaunay_edit.proofs.constraint_edits.ConstrainedMesh+V+DE+UE+F.relea
 pub returns-clause-data : goal.returns-clause-data
 returns-clause-data g c =
     subst (λ s. FreesEdge s (state_of c.release_constraint.new.dcel) c.args.edge) c.self.view_is
-    (edge_freed g.V.HasPosition.place c.self.inside.dcel c.release_constraint.new.dcel c.args.edge c.release_constraint.ensures.releases)
+    (edge_freed g.V.HasPosition.place c.self.inside.dcel c.release_constraint.new.dcel c.args.edge
+    c.release_constraint.ensures.releases)
 
 pub invariant_of-self-2 : goal.invariant_of-self-2
 invariant_of-self-2 g c =

@@ -6,7 +6,8 @@ use Rattle.delaunay_edit.specs.Constrained.{constraints_of}
 use Rattle.delaunay_edit.proofs.constraint_reads.ConstrainedMesh+V+DE+UE+F.exists_constraint.Goals as goal
 
 pub returns-then-index-num_vertices : goal.returns-then-index-num_vertices
-returns-then-index-num_vertices g c = subst (λ s. IsTrue c.is_constraint_between.result ↔ Joins (constraints_of s) c.args.from c.args.to) c.self.view_is c.is_constraint_between.ensures
+returns-then-index-num_vertices g c = subst (λ s. IsTrue c.is_constraint_between.result ↔
+    Joins (constraints_of s) c.args.from c.args.to) c.self.view_is c.is_constraint_between.ensures
 
 pub returns : goal.returns
 returns g c = (

@@ -16,18 +16,25 @@ use Rattle.delaunay_edit.proofs.edited_mesh.EditedMesh.append.Goals as goal
 
 pub insert_at-vertex-requires-clause-vacant : goal.insert_at-vertex-requires-clause-vacant
 insert_at-vertex-requires-clause-vacant g c =
-    subst (λ s. IsVacant (map g.V.HasPosition.place s.vertices) s.mesh (g.V.HasPosition.place c.args.value) c.args.location c.args.turns) (sym (c.reserve_for_vertex.ensures.same ∙ c.self.view_is)) c.requires.vacant
+    subst (λ s. IsVacant (map g.V.HasPosition.place s.vertices) s.mesh (g.V.HasPosition.place c.args.value)
+    c.args.location c.args.turns) (sym (c.reserve_for_vertex.ensures.same ∙ c.self.view_is)) c.requires.vacant
 
 pub legalize_vertex-requires-clause-sites : goal.legalize_vertex-requires-clause-sites
 legalize_vertex-requires-clause-sites g c =
-    sites_after g.V.HasPosition.place (g.P.PlaneTests.sites c.args.tests.now) c.args.self.now.vertices c.insert_at-vertex.new.dcel.vertices c.args.value
-    (c.insert_at-vertex.ensures.takes.vertices ∙ ap (λ s. s.vertices ++ c.args.value ∷ []) (c.reserve_for_vertex.ensures.same ∙ c.self.view_is)) c.requires.sites c.requires.new_site
+    sites_after g.V.HasPosition.place (g.P.PlaneTests.sites c.args.tests.now) c.args.self.now.vertices
+    c.insert_at-vertex.new.dcel.vertices c.args.value
+    (c.insert_at-vertex.ensures.takes.vertices ∙ ap (λ s. s.vertices ++ c.args.value ∷ [])
+    (c.reserve_for_vertex.ensures.same ∙ c.self.view_is)) c.requires.sites c.requires.new_site
 
 pub legalize_vertex-requires-clause-passing : goal.legalize_vertex-requires-clause-passing
 legalize_vertex-requires-clause-passing g c =
-    passes_beside g.V.HasPosition.place g.M.ConstraintMarker.marks g.M.ConstraintMarker.constraints g.met.M.ConstraintMarker.constraints_are_marked c.args.self.now c.reserve_for_vertex.new.dcel c.insert_at-vertex.new.dcel c.args.value c.insert_at-vertex.result _
-    (subst (IsDelaunayTriangulation g.V.HasPosition.place g.M.ConstraintMarker.constraints) c.self.view_is c.self.invariant.legal) (c.reserve_for_vertex.ensures.same ∙ c.self.view_is)
-    c.insert_at-vertex.ensures.takes.vertices c.insert_at-vertex.ensures.takes.is c.insert_at-vertex.ensures.takes.made c.insert_at-vertex.ensures.takes.kept c.insert_at-vertex.ensures.constraints
+    passes_beside g.V.HasPosition.place g.M.ConstraintMarker.marks g.M.ConstraintMarker.constraints
+    g.met.M.ConstraintMarker.constraints_are_marked c.args.self.now c.reserve_for_vertex.new.dcel
+    c.insert_at-vertex.new.dcel c.args.value c.insert_at-vertex.result _
+    (subst (IsDelaunayTriangulation g.V.HasPosition.place g.M.ConstraintMarker.constraints) c.self.view_is
+    c.self.invariant.legal) (c.reserve_for_vertex.ensures.same ∙ c.self.view_is)
+    c.insert_at-vertex.ensures.takes.vertices c.insert_at-vertex.ensures.takes.is c.insert_at-vertex.ensures.takes.made
+    c.insert_at-vertex.ensures.takes.kept c.insert_at-vertex.ensures.constraints
 
 pub legalize_vertex-requires-clause-empty : goal.legalize_vertex-requires-clause-empty
 legalize_vertex-requires-clause-empty g c none =
@@ -41,14 +48,25 @@ returns-clause-appends g c =
     record {
       full = search rules;
       not_too_large = search rules;
-      vertex = c.insert_at-vertex.ensures.takes.is ∙ ap (λ s. length s.vertices) (c.reserve_for_vertex.ensures.same ∙ c.self.view_is);
+      vertex = c.insert_at-vertex.ensures.takes.is ∙ ap (λ s. length s.vertices)
+          (c.reserve_for_vertex.ensures.same ∙ c.self.view_is);
       vertices = search rules;
-      outer = ap (λ d. d.outer) c.legalize_vertex.ensures.legalizes.contents ∙ c.insert_at-vertex.ensures.takes.grows.outer ∙ ap (λ s. s.outer) (c.reserve_for_vertex.ensures.same ∙ c.self.view_is);
+      outer = ap (λ d. d.outer) c.legalize_vertex.ensures.legalizes.contents
+          ∙ c.insert_at-vertex.ensures.takes.grows.outer
+          ∙ ap (λ s. s.outer) (c.reserve_for_vertex.ensures.same ∙ c.self.view_is);
       «data» =
-          appended_keeps g.V.HasPosition.place c.args.value c.args.self.now c.reserve_for_vertex.new.dcel c.insert_at-vertex.new.dcel c.legalize_vertex.new.dcel (subst (IsTriangulated g.V.HasPosition.place) c.self.view_is c.self.invariant.legal.kept) (c.reserve_for_vertex.ensures.same ∙ c.self.view_is)
-          c.insert_at-vertex.ensures.takes.vertices c.insert_at-vertex.ensures.takes.kept c.insert_at-vertex.ensures.takes.grows c.legalize_vertex.ensures.legalizes.contents c.legalize_vertex.ensures.legalizes.indexes c.legalize_vertex.ensures.legalizes.legal.kept;
+          appended_keeps g.V.HasPosition.place c.args.value c.args.self.now c.reserve_for_vertex.new.dcel
+          c.insert_at-vertex.new.dcel c.legalize_vertex.new.dcel
+          (subst (IsTriangulated g.V.HasPosition.place) c.self.view_is c.self.invariant.legal.kept)
+          (c.reserve_for_vertex.ensures.same ∙ c.self.view_is)
+          c.insert_at-vertex.ensures.takes.vertices c.insert_at-vertex.ensures.takes.kept
+          c.insert_at-vertex.ensures.takes.grows c.legalize_vertex.ensures.legalizes.contents
+          c.legalize_vertex.ensures.legalizes.indexes c.legalize_vertex.ensures.legalizes.legal.kept;
       splits =
-          splits_legalized g.V.HasPosition.place g.M.ConstraintMarker.constraints c.args.value (state_of c.reserve_for_vertex.new.dcel) c.args.self.now (state_of c.insert_at-vertex.new.dcel) (state_of c.legalize_vertex.new.dcel) c.insert_at-vertex.ensures.constraints (c.reserve_for_vertex.ensures.same ∙ c.self.view_is) c.legalize_vertex.ensures.legalizes.constraints;
+          splits_legalized g.V.HasPosition.place g.M.ConstraintMarker.constraints c.args.value
+          (state_of c.reserve_for_vertex.new.dcel) c.args.self.now (state_of c.insert_at-vertex.new.dcel)
+          (state_of c.legalize_vertex.new.dcel) c.insert_at-vertex.ensures.constraints
+          (c.reserve_for_vertex.ensures.same ∙ c.self.view_is) c.legalize_vertex.ensures.legalizes.constraints;
       err = tt;
     }
 
@@ -59,13 +77,17 @@ invariant_of-self-2 g c =
     let old = c.reserve_for_vertex.new.dcel in
     let same = c.reserve_for_vertex.ensures.same ∙ c.self.view_is in
     counted_split at marker.marks marker.constraints g.met.M.ConstraintMarker.constraints_are_marked old
-    (state_of c.insert_at-vertex.new.dcel) (subst (IsTriangulated at) (sym c.reserve_for_vertex.ensures.same) c.self.invariant.legal.kept)
+    (state_of c.insert_at-vertex.new.dcel) (subst (IsTriangulated at) (sym c.reserve_for_vertex.ensures.same)
+    c.self.invariant.legal.kept)
     c.insert_at-vertex.ensures.takes.kept c.args.value c.args.location
-    (subst (λ s. Locates (map at s.vertices) s.mesh (at c.args.value) c.args.location) (sym same) c.requires.vacant.location)
+    (subst (λ s. Locates (map at s.vertices) s.mesh (at c.args.value) c.args.location) (sym same)
+    c.requires.vacant.location)
     c.insert_at-vertex.ensures.constraints c.self.inside.num_constraints c.count_split-split.result
     (state_of c.legalize_vertex.new.dcel)
-    (subst (λ s. IsCounted at marker.constraints s c.self.inside.num_constraints) (sym c.reserve_for_vertex.ensures.same) c.self.invariant)
-    c.count_split-split.ensures c.legalize_vertex.ensures.legalizes.legal c.legalize_vertex.ensures.legalizes.constraints
+    (subst (λ s. IsCounted at marker.constraints s c.self.inside.num_constraints)
+    (sym c.reserve_for_vertex.ensures.same) c.self.invariant)
+    c.count_split-split.ensures c.legalize_vertex.ensures.legalizes.legal
+    c.legalize_vertex.ensures.legalizes.constraints
 
 pub overflow_add-self : goal.overflow_add-self
 overflow_add-self g c =

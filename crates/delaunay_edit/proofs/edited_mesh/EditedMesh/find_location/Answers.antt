@@ -8,7 +8,11 @@ pub locate_with_hint-requires-clause-kept : goal.locate_with_hint-requires-claus
 locate_with_hint-requires-clause-kept g c = c.self.invariant.legal.kept
 
 pub locate_with_hint-requires-clause-sites : goal.locate_with_hint-requires-clause-sites
-locate_with_hint-requires-clause-sites g c = subst (λ s. All (g.P.PlaneTests.sites c.args.tests.now) (map g.V.HasPosition.place s.vertices)) (sym c.self.view_is) c.requires.sites
+locate_with_hint-requires-clause-sites g c = subst
+    (λ s. All (g.P.PlaneTests.sites c.args.tests.now) (map g.V.HasPosition.place s.vertices)) (sym c.self.view_is)
+    c.requires.sites
 
 pub returns : goal.returns
-returns g c = subst (λ s. Locates (map g.V.HasPosition.place s.vertices) s.mesh (place_of g.V.Scalar.SpadeNum.whole c.args.point) c.locate_with_hint.result) c.self.view_is c.locate_with_hint.ensures
+returns g c = subst (λ s. Locates (map g.V.HasPosition.place s.vertices) s.mesh
+    (place_of g.V.Scalar.SpadeNum.whole c.args.point) c.locate_with_hint.result) c.self.view_is
+    c.locate_with_hint.ensures

@@ -6,7 +6,13 @@ take_out-removed-requires-clause-sites g c = c.requires.sites c.recall_invariant
 pub returns-clause-removes : goal.returns-clause-removes
 returns-clause-removes g c =
     let removed = c.take_out-removed.ensures in
-    record { value = removed.value; plain = removed.plain; outer = removed.outer; «data» = removed.«data»; err = removed.err }
+    record {
+      value = removed.value;
+      plain = removed.plain;
+      outer = removed.outer;
+      «data» = removed.«data»;
+      err = removed.err;
+    }
 
 pub returns-clause-headline : goal.returns-clause-headline
 returns-clause-headline g c = c.recall_invariant-2.ensures.headline

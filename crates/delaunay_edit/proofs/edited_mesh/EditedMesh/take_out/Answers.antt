@@ -19,27 +19,37 @@ pub legalize_pairs-requires-clause-sites : goal.legalize_pairs-requires-clause-s
 legalize_pairs-requires-clause-sites g c =
     let at = g.V.HasPosition.place in
     let constraints = g.M.ConstraintMarker.constraints in
-    sites_left at constraints c.args.self.now (state_of c.remove_vertex-value.new.dcel) c.args.vertex c.remove_vertex-value.result
-    (subst (λ s. Removes at (points_and_constraints_by constraints s) (points_and_constraints_by constraints (state_of c.remove_vertex-value.new.dcel)) c.args.vertex) c.self.view_is c.remove_vertex-value.ensures.plain)
+    sites_left at constraints c.args.self.now (state_of c.remove_vertex-value.new.dcel) c.args.vertex
+    c.remove_vertex-value.result
+    (subst (λ s. Removes at (points_and_constraints_by constraints s)
+    (points_and_constraints_by constraints (state_of c.remove_vertex-value.new.dcel)) c.args.vertex) c.self.view_is
+    c.remove_vertex-value.ensures.plain)
     (g.P.PlaneTests.sites c.args.tests.now) c.requires.sites
 
 pub legalize_pairs-requires-clause-room : goal.legalize_pairs-requires-clause-room
 legalize_pairs-requires-clause-room g c =
-    room_left g.V.HasPosition.place g.M.ConstraintMarker.constraints (state_of c.self.inside.dcel) (state_of c.remove_vertex-value.new.dcel) c.args.vertex c.remove_vertex-value.result c.remove_vertex-value.ensures.plain _ _ _ c.num_vertices.ensures.value c.in_ok-reserve.ensures.ok
+    room_left g.V.HasPosition.place g.M.ConstraintMarker.constraints (state_of c.self.inside.dcel)
+    (state_of c.remove_vertex-value.new.dcel) c.args.vertex c.remove_vertex-value.result
+    c.remove_vertex-value.ensures.plain _ _ _ c.num_vertices.ensures.value c.in_ok-reserve.ensures.ok
 
 pub returns-clause-plain : goal.returns-clause-plain
 returns-clause-plain g c =
     let at = g.V.HasPosition.place in
     let constraints = g.M.ConstraintMarker.constraints in
     removed_on at constraints c.args.self.now c.remove_vertex-value.new.dcel c.legalize_pairs.new.dcel c.args.vertex
-    (subst (λ s. Removes at (points_and_constraints_by constraints s) (points_and_constraints_by constraints (state_of c.remove_vertex-value.new.dcel)) c.args.vertex) c.self.view_is c.remove_vertex-value.ensures.plain)
+    (subst (λ s. Removes at (points_and_constraints_by constraints s)
+    (points_and_constraints_by constraints (state_of c.remove_vertex-value.new.dcel)) c.args.vertex) c.self.view_is
+    c.remove_vertex-value.ensures.plain)
     c.legalize_pairs.ensures.contents c.legalize_pairs.ensures.constraints
 
 pub returns-clause-data : goal.returns-clause-data
 returns-clause-data g c =
-    legalized_keeps_others g.V.HasPosition.place c.args.self.now c.remove_vertex-value.new.dcel c.legalize_pairs.new.dcel c.args.vertex
-    (subst (λ s. KeepsDataBeside s (state_of c.remove_vertex-value.new.dcel) c.args.vertex) c.self.view_is c.remove_vertex-value.ensures.data)
-    c.remove_vertex-value.ensures.kept c.legalize_pairs.ensures.legal.kept c.legalize_pairs.ensures.contents c.legalize_pairs.ensures.indexes
+    legalized_keeps_others g.V.HasPosition.place c.args.self.now c.remove_vertex-value.new.dcel
+    c.legalize_pairs.new.dcel c.args.vertex
+    (subst (λ s. KeepsDataBeside s (state_of c.remove_vertex-value.new.dcel) c.args.vertex) c.self.view_is
+    c.remove_vertex-value.ensures.data)
+    c.remove_vertex-value.ensures.kept c.legalize_pairs.ensures.legal.kept c.legalize_pairs.ensures.contents
+    c.legalize_pairs.ensures.indexes
 
 pub remove_vertex-value-requires-clause-free : goal.remove_vertex-value-requires-clause-free
 remove_vertex-value-requires-clause-free g c free =
@@ -51,10 +61,14 @@ legalize_pairs-requires-clause-passing g c =
     let at = g.V.HasPosition.place in
     let constraints = g.M.ConstraintMarker.constraints in
     let ds = c.remove_vertex-value.new.dcel in
-    subst (λ (ps : List (ℕ × ℕ)). AllPassBut (map at ds.vertices) (faces_of ds.mesh) (constraints_by constraints (state_of ds)) (pairs_left (length ds.vertices) c.args.vertex (ps ++ c.remove_vertex-value.new.lists.turned.items)))
+    subst (λ (ps : List (ℕ × ℕ)). AllPassBut (map at ds.vertices) (faces_of ds.mesh)
+    (constraints_by constraints (state_of ds)) (pairs_left (length ds.vertices) c.args.vertex
+    (ps ++ c.remove_vertex-value.new.lists.turned.items)))
     (sym {A = List (ℕ × ℕ)} c.as_slice.ensures.value)
-    (passes_but at constraints (state_of c.self.inside.dcel) (state_of ds) c.args.vertex c.remove_vertex-value.result c.self.invariant.legal c.remove_vertex-value.ensures.kept
-    c.remove_vertex-value.ensures.plain c.in_ok-border.border.items c.remove_vertex-value.new.lists.turned.items c.remove_vertex-value.ensures.faces
+    (passes_but at constraints (state_of c.self.inside.dcel) (state_of ds) c.args.vertex c.remove_vertex-value.result
+    c.self.invariant.legal c.remove_vertex-value.ensures.kept
+    c.remove_vertex-value.ensures.plain c.in_ok-border.border.items c.remove_vertex-value.new.lists.turned.items
+    c.remove_vertex-value.ensures.faces
     (sides_settle at g.M.ConstraintMarker.marks constraints g.met.M.ConstraintMarker.constraints_are_marked
     (state_of c.self.inside.dcel) c.self.invariant.legal c.args.vertex c.in_ok-border.border.items
     c.in_ok-border.ensures))
@@ -66,8 +80,11 @@ pub legalize_pairs-requires-clause-room_among : goal.legalize_pairs-requires-cla
 legalize_pairs-requires-clause-room_among g c =
     let tested = c.in_ok-reserve_for.ensures.tested in
     let same = c.remove_vertex-value.ensures.capacity in
-    room_left g.V.HasPosition.place g.M.ConstraintMarker.constraints (state_of c.self.inside.dcel) (state_of c.remove_vertex-value.new.dcel) c.args.vertex c.remove_vertex-value.result c.remove_vertex-value.ensures.plain
-    (length c.self.inside.dcel.vertices) 0 (vec_capacity c.remove_vertex-value.new.lists.sides) refl (omega (arith, tested, same))
+    room_left g.V.HasPosition.place g.M.ConstraintMarker.constraints (state_of c.self.inside.dcel)
+    (state_of c.remove_vertex-value.new.dcel) c.args.vertex c.remove_vertex-value.result
+    c.remove_vertex-value.ensures.plain
+    (length c.self.inside.dcel.vertices) 0 (vec_capacity c.remove_vertex-value.new.lists.sides) refl
+    (omega (arith, tested, same))
 
 pub legalize_pairs-requires-clause-only : goal.legalize_pairs-requires-clause-only
 legalize_pairs-requires-clause-only g c free =
@@ -76,12 +93,17 @@ legalize_pairs-requires-clause-only g c free =
     let old = state_of c.self.inside.dcel in
     let ds = c.remove_vertex-value.new.dcel in
     let border = c.in_ok-border.border.items in
-    subst (λ (ps : List (ℕ × ℕ)). FailOnlyAt (map at ds.vertices) ds.mesh (pairs_left (length ds.vertices) c.args.vertex (ps ++ c.remove_vertex-value.new.lists.turned.items)))
+    subst (λ (ps : List (ℕ × ℕ)). FailOnlyAt (map at ds.vertices) ds.mesh
+    (pairs_left (length ds.vertices) c.args.vertex (ps ++ c.remove_vertex-value.new.lists.turned.items)))
     (sym {A = List (ℕ × ℕ)} c.as_slice.ensures.value)
-    (fails_only_at at constraints old (state_of ds) c.args.vertex c.remove_vertex-value.result c.self.invariant.legal c.remove_vertex-value.ensures.kept
-    c.remove_vertex-value.ensures.plain border c.remove_vertex-value.new.lists.turned.items c.remove_vertex-value.ensures.faces
-    (sides_settle at g.M.ConstraintMarker.marks constraints g.met.M.ConstraintMarker.constraints_are_marked old c.self.invariant.legal c.args.vertex border c.in_ok-border.ensures)
-    (free_circles at g.M.ConstraintMarker.marks constraints g.met.M.ConstraintMarker.constraints_are_marked old c.self.invariant.legal c.args.vertex border
+    (fails_only_at at constraints old (state_of ds) c.args.vertex c.remove_vertex-value.result c.self.invariant.legal
+    c.remove_vertex-value.ensures.kept
+    c.remove_vertex-value.ensures.plain border c.remove_vertex-value.new.lists.turned.items
+    c.remove_vertex-value.ensures.faces
+    (sides_settle at g.M.ConstraintMarker.marks constraints g.met.M.ConstraintMarker.constraints_are_marked old
+    c.self.invariant.legal c.args.vertex border c.in_ok-border.ensures)
+    (free_circles at g.M.ConstraintMarker.marks constraints g.met.M.ConstraintMarker.constraints_are_marked old
+    c.self.invariant.legal c.args.vertex border
     (none_counted at constraints old c.self.inside.num_constraints c.self.invariant (eqb-true _ _ free))))
 
 pub overflow_sub-self : goal.overflow_sub-self
@@ -91,8 +113,10 @@ overflow_sub-self g c =
     some_removed at marker.marks marker.constraints g.met.M.ConstraintMarker.constraints_are_marked
     (state_of c.self.inside.dcel) (state_of c.legalize_pairs.new.dcel) c.self.inside.num_constraints c.self.invariant
     c.legalize_pairs.ensures.legal c.args.vertex c.count_ending-ending.result
-    (removed_on at marker.constraints (state_of c.self.inside.dcel) c.remove_vertex-value.new.dcel c.legalize_pairs.new.dcel
-    c.args.vertex c.remove_vertex-value.ensures.plain c.legalize_pairs.ensures.contents c.legalize_pairs.ensures.constraints)
+    (removed_on at marker.constraints (state_of c.self.inside.dcel) c.remove_vertex-value.new.dcel
+    c.legalize_pairs.new.dcel
+    c.args.vertex c.remove_vertex-value.ensures.plain c.legalize_pairs.ensures.contents
+    c.legalize_pairs.ensures.constraints)
     c.count_ending-ending.ensures
 
 pub invariant_of-self-4 : goal.invariant_of-self-4
@@ -102,6 +126,8 @@ invariant_of-self-4 g c =
     counted_removed at marker.marks marker.constraints g.met.M.ConstraintMarker.constraints_are_marked
     (state_of c.self.inside.dcel) (state_of c.legalize_pairs.new.dcel) c.self.inside.num_constraints c.self.invariant
     c.legalize_pairs.ensures.legal c.args.vertex c.count_ending-ending.result
-    (removed_on at marker.constraints (state_of c.self.inside.dcel) c.remove_vertex-value.new.dcel c.legalize_pairs.new.dcel
-    c.args.vertex c.remove_vertex-value.ensures.plain c.legalize_pairs.ensures.contents c.legalize_pairs.ensures.constraints)
+    (removed_on at marker.constraints (state_of c.self.inside.dcel) c.remove_vertex-value.new.dcel
+    c.legalize_pairs.new.dcel
+    c.args.vertex c.remove_vertex-value.ensures.plain c.legalize_pairs.ensures.contents
+    c.legalize_pairs.ensures.constraints)
     c.count_ending-ending.ensures

@@ -1,50 +1,76 @@
 use Rattle.std.proofs.Common.{[], ◌∷◌, ◌++◌, arith}
 use Rattle.std.proofs.lemmas.Result.{err_from_is_err_and}
-use Rattle.delaunay_interface.proofs.Stepping.{all_taken, begins, comes_now, ends, one_more, stops_at_join, stops_at_vertex, taken_with}
+use Rattle.delaunay_interface.proofs.Stepping.{all_taken, begins, comes_now, ends, one_more, stops_at_join}
+use Rattle.delaunay_interface.proofs.Stepping.{stops_at_vertex, taken_with}
 use Rattle.delaunay_interface.proofs.constraint_edges.ConstrainedDelaunayTriangulation+V+DE+UE+F+L.extend_path.Goals as goal
 
 pub loop-vertex-init : goal.loop-vertex-init
 loop-vertex-init g c =
-    let e = c.into_iter-vertex-iterator.ensures.into_iter_gives in
-    (rw e c.requires.can_next, rw e c.requires.ends, begins g.V.HasPosition.place c.args.last c.args.self.now, c.requires.last_in, omega arith, c.requires.sites)
+    let e = c.into_iter-vertex-iterator.ensures.into_iter_gives in (
+      rw e c.requires.can_next,
+      rw e c.requires.ends,
+      begins g.V.HasPosition.place c.args.last c.args.self.now,
+      c.requires.last_in,
+      omega arith,
+      c.requires.sites,
+    )
 
 pub insert_end-requires-clause-new_site : goal.insert_end-requires-clause-new_site
 insert_end-requires-clause-new_site g c =
     c.requires.new_sites c.in-Some.vertex
-    (comes_now g.I.Iterator.next_gives _ c.args.vertices c.into_iter-vertex-iterator.ensures.into_iter_gives c.loop-vertex.yielded c.loop-vertex.vertex-iterator c.loop-vertex.yielded_by c.in-Some.vertex c.next.new.self c.in-Some.ensures.steps)
+    (comes_now g.I.Iterator.next_gives _ c.args.vertices c.into_iter-vertex-iterator.ensures.into_iter_gives
+    c.loop-vertex.yielded c.loop-vertex.vertex-iterator c.loop-vertex.yielded_by c.in-Some.vertex c.next.new.self
+    c.in-Some.ensures.steps)
 
 pub returns-in_err-next-clause-extends : goal.returns-in_err-next-clause-extends
 returns-in_err-next-clause-extends g c =
     let p = err_from_is_err_and c.from_residual.result c.from_residual.ensures.1 in
-    let taken = taken_with g.I.Iterator.next_gives _ c.args.vertices c.into_iter-vertex-iterator.ensures.into_iter_gives c.loop-vertex.yielded c.loop-vertex.vertex-iterator c.loop-vertex.yielded_by c.in-Some.vertex c.next.new.self c.in-Some.ensures.steps in
+    let taken = taken_with g.I.Iterator.next_gives _ c.args.vertices c.into_iter-vertex-iterator.ensures.into_iter_gives
+    c.loop-vertex.yielded c.loop-vertex.vertex-iterator c.loop-vertex.yielded_by c.in-Some.vertex c.next.new.self
+    c.in-Some.ensures.steps in
     rw (p.1, p.2) (
       c.loop-vertex.yielded ++ c.in-Some.vertex ∷ [],
       (c.next.new.self, taken),
-      stops_at_vertex g.V.HasPosition.place c.loop-vertex.yielded c.args.last c.args.self.now c.loop-vertex.last c.loop-vertex.self c.loop-vertex.invariant.2 c.in-Some.vertex _ c.insert_end.new.self c.in_err-next.ensures.inserts,
+      stops_at_vertex g.V.HasPosition.place c.loop-vertex.yielded c.args.last c.args.self.now c.loop-vertex.last
+          c.loop-vertex.self c.loop-vertex.invariant.2 c.in-Some.vertex _ c.insert_end.new.self
+          c.in_err-next.ensures.inserts,
     )
 
 pub returns-in_err-join_vertices-clause-extends : goal.returns-in_err-join_vertices-clause-extends
 returns-in_err-join_vertices-clause-extends g c =
-    let p = err_from_is_err_and c.from_residual-in_err-join_vertices.result c.from_residual-in_err-join_vertices.ensures.1 in
-    let taken = taken_with g.I.Iterator.next_gives _ c.args.vertices c.into_iter-vertex-iterator.ensures.into_iter_gives c.loop-vertex.yielded c.loop-vertex.vertex-iterator c.loop-vertex.yielded_by c.in-Some.vertex c.next.new.self c.in-Some.ensures.steps in
+    let p = err_from_is_err_and c.from_residual-in_err-join_vertices.result
+    c.from_residual-in_err-join_vertices.ensures.1 in
+    let taken = taken_with g.I.Iterator.next_gives _ c.args.vertices c.into_iter-vertex-iterator.ensures.into_iter_gives
+    c.loop-vertex.yielded c.loop-vertex.vertex-iterator c.loop-vertex.yielded_by c.in-Some.vertex c.next.new.self
+    c.in-Some.ensures.steps in
     rw (p.1, p.2) (
       c.loop-vertex.yielded ++ c.in-Some.vertex ∷ [],
       (c.next.new.self, taken),
-      stops_at_join g.V.HasPosition.place c.loop-vertex.yielded c.args.last c.args.self.now c.loop-vertex.last c.loop-vertex.self c.loop-vertex.invariant.2 c.in-Some.vertex c.in_ok-next.next c.insert_end.new.self c.in_ok-next.ensures.inserts _ c.join_vertices.new.self c.in_err-join_vertices.ensures.joins,
+      stops_at_join g.V.HasPosition.place c.loop-vertex.yielded c.args.last c.args.self.now c.loop-vertex.last
+          c.loop-vertex.self c.loop-vertex.invariant.2 c.in-Some.vertex c.in_ok-next.next c.insert_end.new.self
+          c.in_ok-next.ensures.inserts _ c.join_vertices.new.self c.in_err-join_vertices.ensures.joins,
     )
 
 pub returns-in_err-next-clause-ready : goal.returns-in_err-next-clause-ready
 returns-in_err-next-clause-ready g c =
     let before = c.loop-vertex.invariant.4 in
     let grown = c.in_err-next.ensures.ready.grows in
-    record { grows = omega (arith, before, grown); sites = c.in_err-next.ensures.ready.sites; headline = c.in_err-next.ensures.ready.headline }
+    record {
+      grows = omega (arith, before, grown);
+      sites = c.in_err-next.ensures.ready.sites;
+      headline = c.in_err-next.ensures.ready.headline;
+    }
 
 pub returns-in_err-join_vertices-clause-ready : goal.returns-in_err-join_vertices-clause-ready
 returns-in_err-join_vertices-clause-ready g c =
     let before = c.loop-vertex.invariant.4 in
     let grown = c.in_ok-next.ensures.ready.grows in
     let same = c.join_vertices.ensures.vertices in
-    record { grows = rw same (omega (arith, before, grown)); sites = rw same c.in_ok-next.ensures.ready.sites; headline = c.join_vertices.ensures.headline }
+    record {
+      grows = rw same (omega (arith, before, grown));
+      sites = rw same c.in_ok-next.ensures.ready.sites;
+      headline = c.join_vertices.ensures.headline;
+    }
 
 pub loop-vertex-preserved : goal.loop-vertex-preserved
 loop-vertex-preserved g c =
@@ -54,18 +80,28 @@ loop-vertex-preserved g c =
     let same = c.join_vertices.ensures.vertices in (
       on.0,
       on.1,
-      one_more g.V.HasPosition.place c.loop-vertex.yielded c.args.last c.args.self.now c.loop-vertex.last c.loop-vertex.self c.loop-vertex.invariant.2 c.in-Some.vertex c.in_ok-next.next c.insert_end.new.self c.in_ok-next.ensures.inserts c.in_ok-join_vertices.field-0 c.join_vertices.new.self c.in_ok-join_vertices.ensures.joins,
+      one_more g.V.HasPosition.place c.loop-vertex.yielded c.args.last c.args.self.now c.loop-vertex.last
+          c.loop-vertex.self c.loop-vertex.invariant.2 c.in-Some.vertex c.in_ok-next.next c.insert_end.new.self
+          c.in_ok-next.ensures.inserts c.in_ok-join_vertices.field-0 c.join_vertices.new.self
+          c.in_ok-join_vertices.ensures.joins,
       rw same c.in_ok-next.ensures.within,
       rw same (omega (arith, before, grown)),
       rw same c.in_ok-next.ensures.ready.sites,
     )
 
 pub returns-clause-ready : goal.returns-clause-ready
-returns-clause-ready g c = record { grows = c.loop-vertex.invariant.4; sites = c.loop-vertex.invariant.5; headline = c.recall_invariant.ensures.headline }
+returns-clause-ready g c = record {
+  grows = c.loop-vertex.invariant.4;
+  sites = c.loop-vertex.invariant.5;
+  headline = c.recall_invariant.ensures.headline;
+}
 
 pub returns-clause-extends : goal.returns-clause-extends
 returns-clause-extends g c = (
   c.loop-vertex.yielded,
-  all_taken g.I.Iterator.next_gives _ c.args.vertices c.into_iter-vertex-iterator.ensures.into_iter_gives c.loop-vertex.yielded c.loop-vertex.vertex-iterator c.loop-vertex.yielded_by c.next.new.self c.in-None.ensures.steps,
-  ends g.V.HasPosition.place c.loop-vertex.yielded c.args.last c.args.self.now c.loop-vertex.last c.loop-vertex.self c.loop-vertex.invariant.2,
+  all_taken g.I.Iterator.next_gives _ c.args.vertices c.into_iter-vertex-iterator.ensures.into_iter_gives
+      c.loop-vertex.yielded c.loop-vertex.vertex-iterator c.loop-vertex.yielded_by c.next.new.self
+      c.in-None.ensures.steps,
+  ends g.V.HasPosition.place c.loop-vertex.yielded c.args.last c.args.self.now c.loop-vertex.last c.loop-vertex.self
+      c.loop-vertex.invariant.2,
 )

@@ -10,4 +10,5 @@ overflow_sub-result g c =
 pub returns : goal.returns
 returns g c =
     let ways = sides_and_outer _ _ c.recall_invariant.ensures.kept in
-    counts_outer _ _ c.recall_invariant.ensures.kept _ (omega (arith, ways, c.num_directed_edges.ensures.values, c.num_inner_faces.ensures.values))
+    counts_outer _ _ c.recall_invariant.ensures.kept _
+    (omega (arith, ways, c.num_directed_edges.ensures.values, c.num_inner_faces.ensures.values))

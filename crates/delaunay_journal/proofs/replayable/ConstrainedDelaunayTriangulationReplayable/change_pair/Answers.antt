@@ -1,6 +1,7 @@
 use Rattle.std.proofs.Common.{◌∙◌, refl, arith}
 use Rattle.delaunay_legalization.proofs.Questions.{both_ways}
-use Rattle.delaunay_journal.proofs.SingleEdits.{edge_joined_by, joined_by_edge, pair_joined, pair_released, unjoined_is_free}
+use Rattle.delaunay_journal.proofs.SingleEdits.{edge_joined_by, joined_by_edge, pair_joined, pair_released}
+use Rattle.delaunay_journal.proofs.SingleEdits.{unjoined_is_free}
 use Rattle.delaunay_journal.proofs.replayable.ConstrainedDelaunayTriangulationReplayable.change_pair.Goals as goal
 
 pub add_constraint-requires-clause-free : goal.add_constraint-requires-clause-free
@@ -32,8 +33,10 @@ returns-in_default-clause-gives g c =
 
 pub returns-then-not-is_constraint_edge-clause-gives : goal.returns-then-not-is_constraint_edge-clause-gives
 returns-then-not-is_constraint_edge-clause-gives g c =
-    let joined = edge_joined_by g.V.HasPosition.place c.args.self.now c.in-Release.from c.in-Release.to c.in-Some.edge.index
-    c.fix-edge.result (c.fix-edge.ensures.value ∙ c.as_undirected.ensures.index) c.in-Some.ensures.1 c.in-Some.ensures.2 in
+    let joined =
+    edge_joined_by g.V.HasPosition.place c.args.self.now c.in-Release.from c.in-Release.to c.in-Some.edge.index
+    c.fix-edge.result (c.fix-edge.ensures.value ∙ c.as_undirected.ensures.index) c.in-Some.ensures.1
+    c.in-Some.ensures.2 in
     let marked = c.is_constraint_edge.ensures.joined.1 in
     rw c.in-Release.is ((refl, (λ j. both_ways _ (marked (joined j)) c.if-not-is_constraint_edge.true)), refl)
 
@@ -48,7 +51,9 @@ returns-in-Ok-remove_constraint_edge-clause-gives g c =
 
 pub returns-in-Err-remove_constraint_edge-clause-gives : goal.returns-in-Err-remove_constraint_edge-clause-gives
 returns-in-Err-remove_constraint_edge-clause-gives g c =
-    let joined = joined_by_edge g.V.HasPosition.place c.args.self.now c.in-Release.from c.in-Release.to c.in-Some.edge.index
-    c.fix-edge.result (c.fix-edge.ensures.value ∙ c.as_undirected.ensures.index) c.in-Some.ensures.1 c.in-Some.ensures.2 in
+    let joined =
+    joined_by_edge g.V.HasPosition.place c.args.self.now c.in-Release.from c.in-Release.to c.in-Some.edge.index
+    c.fix-edge.result (c.fix-edge.ensures.value ∙ c.as_undirected.ensures.index) c.in-Some.ensures.1
+    c.in-Some.ensures.2 in
     let there = joined (c.is_constraint_edge.ensures.joined.0 c.if-not-is_constraint_edge.false) in
     rw c.in-Release.is ((refl, there), c.in-Err-remove_constraint_edge.ensures.releases.err)

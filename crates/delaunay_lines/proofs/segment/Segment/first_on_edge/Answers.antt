@@ -14,18 +14,25 @@ use Rattle.delaunay_lines.proofs.FirstItems.{on_if_neither, alone_on_edge, over_
 use Rattle.delaunay_lines.proofs.segment.Segment.first_on_edge.Goals as goal
 
 pub returns-then-is_same_point : goal.returns-then-is_same_point
-returns-then-is_same_point g c = alone_on_edge _ _ _ _ _ _ c.requires.over c.args.edge c.requires.within c.requires.start (c.is_same_point.ensures.0 c.if-is_same_point.true)
+returns-then-is_same_point g c = alone_on_edge _ _ _ _ _ _ c.requires.over c.args.edge c.requires.within
+    c.requires.start (c.is_same_point.ensures.0 c.if-is_same_point.true)
 
 pub returns-then-is_on_left_side : goal.returns-then-is_on_left_side
 returns-then-is_on_left_side g c =
-    over_edge _ _ _ _ _ _ c.requires.over c.args.edge c.requires.within c.requires.start (λ e. both_ways _ (c.is_same_point.ensures.1 e) c.if-is_same_point.false) (sym c.side_of_edge-side.ensures ∙ c.is_on_left_side.ensures.0 c.if-is_on_left_side.true)
+    over_edge _ _ _ _ _ _ c.requires.over c.args.edge c.requires.within c.requires.start
+    (λ e. both_ways _ (c.is_same_point.ensures.1 e) c.if-is_same_point.false)
+    (sym c.side_of_edge-side.ensures ∙ c.is_on_left_side.ensures.0 c.if-is_on_left_side.true)
 
 pub returns-then-is_on_right_side : goal.returns-then-is_on_right_side
 returns-then-is_on_right_side g c =
     let at = place_of g.V.Scalar.SpadeNum.whole in
-    subst (λ (k : ℕ). Starts g.V.HasPosition.place c.args.self.now.dcel.now (at c.args.self.now.from) (at c.args.self.now.to) (Some (Edge k))) (sym c.twin_of-twin.ensures.value)
-    (over_twin _ _ _ _ _ _ c.requires.over c.args.edge c.requires.within c.requires.start (λ e. both_ways _ (c.is_same_point.ensures.1 e) c.if-is_same_point.false)
-    (subst (λ (k : ℕ). k < length c.args.self.now.dcel.now.directed) c.twin_of-twin.ensures.value c.twin_of-twin.ensures.within) (sym c.side_of_edge-side.ensures ∙ c.is_on_right_side.ensures.0 c.if-is_on_right_side.true))
+    subst (λ (k : ℕ). Starts g.V.HasPosition.place c.args.self.now.dcel.now (at c.args.self.now.from)
+    (at c.args.self.now.to) (Some (Edge k))) (sym c.twin_of-twin.ensures.value)
+    (over_twin _ _ _ _ _ _ c.requires.over c.args.edge c.requires.within c.requires.start
+    (λ e. both_ways _ (c.is_same_point.ensures.1 e) c.if-is_same_point.false)
+    (subst (λ (k : ℕ). k < length c.args.self.now.dcel.now.directed) c.twin_of-twin.ensures.value
+    c.twin_of-twin.ensures.within) (sym c.side_of_edge-side.ensures
+    ∙ c.is_on_right_side.ensures.0 c.if-is_on_right_side.true))
 
 -- where the edge ends
 pub goes_towards-requires-clause-way : goal.goes_towards-requires-clause-way
@@ -40,7 +47,8 @@ goes_towards-requires-clause-way g c =
     let is = c.start_of.ensures.place ∙ ap (λ (h : ℕ). point_at points (origin m h)) c.twin_of-twin.ensures.value in
     record {
       from = c.requires.over.from;
-      to = covered_in (g.P.PlaneTests.covered tests) (g.P.PlaneTests.sites tests) (g.met.P.PlaneTests.sites_are_covered tests)
+      to = covered_in (g.P.PlaneTests.covered tests) (g.P.PlaneTests.sites tests)
+          (g.met.P.PlaneTests.sites_are_covered tests)
           points (at c.start_of.result) c.requires.over.sites c.start_of.ensures.listed;
       apart = λ e. (differs_if_within start end ends (at c.args.self.now.from) c.requires.start).1 (e ∙ is);
     }
@@ -54,9 +62,13 @@ returns-then-goes_towards g c =
     let m = c.args.self.now.dcel.now.mesh in
     let at = place_of g.V.Scalar.SpadeNum.whole in
     let is = c.start_of.ensures.place ∙ ap (λ (h : ℕ). point_at points (origin m h)) c.twin_of-twin.ensures.value in
-    along_edge _ _ _ _ _ _ c.requires.over c.args.edge c.requires.within c.requires.start (λ e. both_ways _ (c.is_same_point.ensures.1 e) c.if-is_same_point.false)
-    (on_if_neither _ (λ e. both_ways _ (c.is_on_left_side.ensures.1 (c.side_of_edge-side.ensures ∙ e)) c.if-is_on_left_side.false) (λ e. both_ways _ (c.is_on_right_side.ensures.1 (c.side_of_edge-side.ensures ∙ e)) c.if-is_on_right_side.false))
-    (subst (λ (z : Point). IsAhead (whole (at c.args.self.now.from)) (whole z) (whole (at c.args.self.now.to))) is (c.goes_towards.ensures.0 c.if-goes_towards.true))
+    along_edge _ _ _ _ _ _ c.requires.over c.args.edge c.requires.within c.requires.start
+    (λ e. both_ways _ (c.is_same_point.ensures.1 e) c.if-is_same_point.false)
+    (on_if_neither _ (λ e. both_ways _ (c.is_on_left_side.ensures.1 (c.side_of_edge-side.ensures ∙ e))
+    c.if-is_on_left_side.false) (λ e. both_ways _ (c.is_on_right_side.ensures.1 (c.side_of_edge-side.ensures ∙ e))
+    c.if-is_on_right_side.false))
+    (subst (λ (z : Point). IsAhead (whole (at c.args.self.now.from)) (whole z) (whole (at c.args.self.now.to))) is
+    (c.goes_towards.ensures.0 c.if-goes_towards.true))
 
 pub returns-else-goes_towards : goal.returns-else-goes_towards
 returns-else-goes_towards g c =
@@ -64,8 +76,15 @@ returns-else-goes_towards g c =
     let m = c.args.self.now.dcel.now.mesh in
     let at = place_of g.V.Scalar.SpadeNum.whole in
     let is = c.start_of.ensures.place ∙ ap (λ (h : ℕ). point_at points (origin m h)) c.twin_of-twin.ensures.value in
-    subst (λ (k : ℕ). Starts g.V.HasPosition.place c.args.self.now.dcel.now (at c.args.self.now.from) (at c.args.self.now.to) (Some (Overlap k))) (sym c.twin_of-twin.ensures.value)
-    (along_twin _ _ _ _ _ _ c.requires.over c.args.edge c.requires.within c.requires.start (λ e. both_ways _ (c.is_same_point.ensures.1 e) c.if-is_same_point.false)
-    (subst (λ (k : ℕ). k < length c.args.self.now.dcel.now.directed) c.twin_of-twin.ensures.value c.twin_of-twin.ensures.within)
-    (on_if_neither _ (λ e. both_ways _ (c.is_on_left_side.ensures.1 (c.side_of_edge-side.ensures ∙ e)) c.if-is_on_left_side.false) (λ e. both_ways _ (c.is_on_right_side.ensures.1 (c.side_of_edge-side.ensures ∙ e)) c.if-is_on_right_side.false))
-    (λ a. both_ways _ (c.goes_towards.ensures.1 (subst (λ (z : Point). IsAhead (whole (at c.args.self.now.from)) (whole z) (whole (at c.args.self.now.to))) (sym is) a)) c.if-goes_towards.false))
+    subst (λ (k : ℕ). Starts g.V.HasPosition.place c.args.self.now.dcel.now (at c.args.self.now.from)
+    (at c.args.self.now.to) (Some (Overlap k))) (sym c.twin_of-twin.ensures.value)
+    (along_twin _ _ _ _ _ _ c.requires.over c.args.edge c.requires.within c.requires.start
+    (λ e. both_ways _ (c.is_same_point.ensures.1 e) c.if-is_same_point.false)
+    (subst (λ (k : ℕ). k < length c.args.self.now.dcel.now.directed) c.twin_of-twin.ensures.value
+    c.twin_of-twin.ensures.within)
+    (on_if_neither _ (λ e. both_ways _ (c.is_on_left_side.ensures.1 (c.side_of_edge-side.ensures ∙ e))
+    c.if-is_on_left_side.false) (λ e. both_ways _ (c.is_on_right_side.ensures.1 (c.side_of_edge-side.ensures ∙ e))
+    c.if-is_on_right_side.false))
+    (λ a. both_ways _ (c.goes_towards.ensures.1 (subst
+    (λ (z : Point). IsAhead (whole (at c.args.self.now.from)) (whole z) (whole (at c.args.self.now.to))) (sym is)
+    a)) c.if-goes_towards.false))

@@ -10,8 +10,14 @@ use Rattle.delaunay_lines.proofs.segment.Segment.goes_over.Goals as goal
 pub returns-then-is_on_right_side_or_on_line : goal.returns-then-is_on_right_side_or_on_line
 returns-then-is_on_right_side_or_on_line g c =
     let at = place_of g.V.Scalar.SpadeNum.whole in
-    let end = subst (λ (k : ℕ). c.side_of_start-end.result ≡ side (whole (at c.args.self.now.from)) (whole (at c.args.self.now.to)) (place (map g.V.HasPosition.place c.args.self.now.dcel.now.vertices) (origin c.args.self.now.dcel.now.mesh k))) c.twin_of.ensures.value c.side_of_start-end.ensures in (
-      (λ t. record { start = λ e. c.is_on_right_side_or_on_line.ensures.0 c.if-is_on_right_side_or_on_line.true (c.side_of_start-start.ensures ∙ e); end = sym end ∙ c.is_on_left_side.ensures.0 t }),
+    let end = subst (λ (k : ℕ). c.side_of_start-end.result ≡ side (whole (at c.args.self.now.from))
+    (whole (at c.args.self.now.to)) (place (map g.V.HasPosition.place c.args.self.now.dcel.now.vertices)
+    (origin c.args.self.now.dcel.now.mesh k))) c.twin_of.ensures.value c.side_of_start-end.ensures in (
+      (λ t. record {
+        start = λ e. c.is_on_right_side_or_on_line.ensures.0 c.if-is_on_right_side_or_on_line.true
+            (c.side_of_start-start.ensures ∙ e);
+        end = sym end ∙ c.is_on_left_side.ensures.0 t;
+      }),
       (λ x. c.is_on_left_side.ensures.1 (end ∙ x.end)),
     )
 

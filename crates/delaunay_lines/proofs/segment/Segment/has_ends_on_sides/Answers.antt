@@ -4,7 +4,12 @@ use Rattle.delaunay_lines.proofs.segment.Segment.has_ends_on_sides.Goals as goal
 
 pub returns-then-is_on_right_side_or_on_line : goal.returns-then-is_on_right_side_or_on_line
 returns-then-is_on_right_side_or_on_line g c = (
-  (λ t. record { from = λ e. c.is_on_right_side_or_on_line.ensures.0 c.if-is_on_right_side_or_on_line.true (c.side_of_edge-start.ensures ∙ e); to = λ e. c.is_on_left_side_or_on_line.ensures.0 t (c.side_of_edge-end.ensures ∙ e) }),
+  (λ t. record {
+    from = λ e. c.is_on_right_side_or_on_line.ensures.0 c.if-is_on_right_side_or_on_line.true
+        (c.side_of_edge-start.ensures ∙ e);
+    to = λ e. c.is_on_left_side_or_on_line.ensures.0 t
+        (c.side_of_edge-end.ensures ∙ e);
+  }),
   (λ x. c.is_on_left_side_or_on_line.ensures.1 (λ e. x.to (sym c.side_of_edge-end.ensures ∙ e))),
 )
 

@@ -9,7 +9,8 @@ use Rattle.delaunay_lines.proofs.segment.Segment.is_edge_ahead.Goals as goal
 pub goes_towards-requires-clause-covered : goal.goes_towards-requires-clause-covered
 goes_towards-requires-clause-covered g c =
     let at = place_of g.V.Scalar.SpadeNum.whole in
-    subst (λ tests. g.P.PlaneTests.covered tests (at c.args.self.now.to)) (sym c.way_along.ensures.tests) c.requires.over.to
+    subst (λ tests. g.P.PlaneTests.covered tests (at c.args.self.now.to)) (sym c.way_along.ensures.tests)
+    c.requires.over.to
 
 pub goes_towards-requires-clause-apart : goal.goes_towards-requires-clause-apart
 goes_towards-requires-clause-apart g c = λ e. c.requires.starts_apart (sym c.way_along.ensures.from ∙ e)

@@ -2,7 +2,12 @@ use Rattle.std.proofs.Common.{refl, arith}
 use Rattle.delaunay_lines.proofs.segment.Segment.starting.Goals as goal
 
 pub returns-clause-line : goal.returns-clause-line
-returns-clause-line g c = record { state = refl; items = c.requires.starts.items; line_list = c.requires.starts.line_list; are_left = c.requires.starts.are_from }
+returns-clause-line g c = record {
+  state = refl;
+  items = c.requires.starts.items;
+  line_list = c.requires.starts.line_list;
+  are_left = c.requires.starts.are_from;
+}
 
 pub returns-clause-ready : goal.returns-clause-ready
 returns-clause-ready g c = record {

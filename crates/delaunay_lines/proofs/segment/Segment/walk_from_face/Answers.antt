@@ -12,5 +12,6 @@ edge_of-requires-clause-within g c =
 pub walk_from_left-requires-clause-start : goal.walk_from_left-requires-clause-start
 walk_from_left-requires-clause-start g c =
     let d = c.args.self.now.dcel.now in
-    subst (λ (h : ℕ). StartsInside (map g.V.HasPosition.place d.vertices) d.mesh (place_of g.V.Scalar.SpadeNum.whole c.args.self.now.from) h) (sym c.edge_of.ensures.value)
+    subst (λ (h : ℕ). StartsInside (map g.V.HasPosition.place d.vertices) d.mesh
+    (place_of g.V.Scalar.SpadeNum.whole c.args.self.now.from) h) (sym c.edge_of.ensures.value)
     (inside_that_face _ _ _ _ _ _ c.requires.over c.args.face c.requires.start)

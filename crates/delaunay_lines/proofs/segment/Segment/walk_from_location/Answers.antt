@@ -7,7 +7,8 @@ use Rattle.delaunay_lines.proofs.segment.Segment.walk_from_location.Goals as goa
 pub walk_from_outside-requires-clause-start : goal.walk_from_outside-requires-clause-start
 walk_from_outside-requires-clause-start g c =
     let d = c.args.self.now.dcel.now in
-    let located = Locates (map g.V.HasPosition.place d.vertices) d.mesh (place_of g.V.Scalar.SpadeNum.whole c.args.self.now.from) in
+    let located = Locates (map g.V.HasPosition.place d.vertices) d.mesh
+    (place_of g.V.Scalar.SpadeNum.whole c.args.self.now.from) in
     elim c.in-OutsideOfConvexHull.is [
       | inl a ↦ outside_that_edge _ _ _ _ _ _ c.requires.over a.0 (subst located a.1 c.requires.start)
       | inr e ↦ without_triangulation _ _ _ _ _ _ c.requires.over (subst located e c.requires.start)
@@ -16,5 +17,7 @@ walk_from_outside-requires-clause-start g c =
 pub walk_from_vertex-requires-clause-start : goal.walk_from_vertex-requires-clause-start
 walk_from_vertex-requires-clause-start g c =
     let d = c.args.self.now.dcel.now in
-    let located = Locates (map g.V.HasPosition.place d.vertices) d.mesh (place_of g.V.Scalar.SpadeNum.whole c.args.self.now.from) in
-    sym (on_that_vertex _ _ _ _ _ _ c.requires.over c.in-OnVertex.vertex (subst located c.in-OnVertex.is c.requires.start)).1
+    let located = Locates (map g.V.HasPosition.place d.vertices) d.mesh
+    (place_of g.V.Scalar.SpadeNum.whole c.args.self.now.from) in
+    sym (on_that_vertex _ _ _ _ _ _ c.requires.over c.in-OnVertex.vertex
+    (subst located c.in-OnVertex.is c.requires.start)).1

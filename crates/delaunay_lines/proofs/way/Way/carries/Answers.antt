@@ -21,6 +21,7 @@ returns-else-ends_elsewhere g c =
     let from = place_of g.S.SpadeNum.whole c.args.self.now.from in
     let to = place_of g.S.SpadeNum.whole c.args.self.now.to in
     let point = place_of g.S.SpadeNum.whole c.args.point in (
-      (λ t. on_if_not_apart from to point (λ a b. both_ways _ (c.ends_elsewhere.ensures.1 (a, b)) c.if-ends_elsewhere.false)),
+      (λ t. on_if_not_apart from to point (λ a b. both_ways _ (c.ends_elsewhere.ensures.1 (a, b))
+          c.if-ends_elsewhere.false)),
       (λ o. refl),
     )

@@ -9,7 +9,9 @@ pub returns-clause-faces : goal.returns-clause-faces
 returns-clause-faces g c =
     let m : Mesh = c.self.inside.links.mesh in
     let fits = c.self.invariant.faces_fit ∙ sym (length-map m.face_edges (triangle_at m)) in
-    rw (← c.self.view_is, c.close_face.ensures.closes.corners, c.push_reserved.ensures.items) (full_faces-append (triangles m) (triangle_at m c.args.edge ∷ []) c.self.inside.faces.items (c.args.value ∷ []) fits)
+    rw (← c.self.view_is, c.close_face.ensures.closes.corners, c.push_reserved.ensures.items)
+    (full_faces-append (triangles m) (triangle_at m c.args.edge ∷ []) c.self.inside.faces.items (c.args.value ∷ [])
+    fits)
 
 pub returns-clause-closes : goal.returns-clause-closes
 returns-clause-closes g c = rw (← c.self.view_is) c.close_face.ensures.closes.links

@@ -5,8 +5,10 @@ use Rattle.half_edge_dcel.proofs.dcel.Dcel.create_new_face_adjacent_to_edge.Goal
 
 pub returns-clause-edges : goal.returns-clause-edges
 returns-clause-edges g c =
-    let ends_are = rw (c.push_vertex-v.ensures.mesh, c.index.ensures, ← c.from_index.ensures) at c.add_face_beside.ensures.adds.ends in
-    rw (← c.self.view_is) (adds_edges _ _ _ _ _ _ 2 (length-ends c.self.inside.links.mesh _ _ _ _ c.self.invariant) refl ends_are c.push_defaults-2.ensures.grows)
+    let ends_are = rw (c.push_vertex-v.ensures.mesh, c.index.ensures, ← c.from_index.ensures) at
+    c.add_face_beside.ensures.adds.ends in
+    rw (← c.self.view_is) (adds_edges _ _ _ _ _ _ 2 (length-ends c.self.inside.links.mesh _ _ _ _ c.self.invariant) refl
+    ends_are c.push_defaults-2.ensures.grows)
 
 pub add_face_beside-requires-clause-outer : goal.add_face_beside-requires-clause-outer
 add_face_beside-requires-clause-outer g c =

@@ -6,8 +6,10 @@ use Rattle.half_edge_dcel.proofs.dcel.Dcel.extend_line.Goals as goal
 
 pub returns-clause-edges : goal.returns-clause-edges
 returns-clause-edges g c =
-    let ends_are = rw (c.push_vertex-v.ensures.mesh, c.index.ensures, ← c.from_index.ensures) at c.extend_line.ensures.extends.ends in
-    rw (← c.self.view_is) (adds_edges _ _ _ _ _ _ 1 (length-ends c.self.inside.links.mesh _ _ _ _ c.self.invariant) refl ends_are c.push_defaults-2.ensures.grows)
+    let ends_are = rw (c.push_vertex-v.ensures.mesh, c.index.ensures, ← c.from_index.ensures) at
+    c.extend_line.ensures.extends.ends in
+    rw (← c.self.view_is) (adds_edges _ _ _ _ _ _ 1 (length-ends c.self.inside.links.mesh _ _ _ _ c.self.invariant) refl
+    ends_are c.push_defaults-2.ensures.grows)
 
 pub returns-clause-links : goal.returns-clause-links
 returns-clause-links g c =

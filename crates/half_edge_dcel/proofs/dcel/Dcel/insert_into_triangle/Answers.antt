@@ -6,8 +6,10 @@ use Rattle.half_edge_dcel.proofs.dcel.Dcel.insert_into_triangle.Goals as goal
 pub returns-clause-edges : goal.returns-clause-edges
 returns-clause-edges g c =
     let named = rw (← c.self.view_is, c.index.ensures) at c.face_edge-edge.ensures.value in
-    let ends_are = rw (c.push_vertex-v.ensures.mesh, named, ← c.from_index.ensures) at c.insert_beside.ensures.inserts.ends in
-    rw (← c.self.view_is) (adds_edges _ _ _ _ _ _ 3 (length-ends c.self.inside.links.mesh _ _ _ _ c.self.invariant) refl ends_are c.push_defaults-2.ensures.grows)
+    let ends_are =
+    rw (c.push_vertex-v.ensures.mesh, named, ← c.from_index.ensures) at c.insert_beside.ensures.inserts.ends in
+    rw (← c.self.view_is) (adds_edges _ _ _ _ _ _ 3 (length-ends c.self.inside.links.mesh _ _ _ _ c.self.invariant) refl
+    ends_are c.push_defaults-2.ensures.grows)
 
 pub returns-clause-face : goal.returns-clause-face
 returns-clause-face g c =

@@ -1,6 +1,7 @@
 use Rattle.std.proofs.Common.{refl, ap, ◌∙◌, length, arith}
 use Rattle.std.proofs.lemmas.List.{length_push}
-use Rattle.half_edge_dcel.proofs.Fits.{fits_as, fits_vertex, fits_flipped, fits_hung, fits_closed, length-grown, length_moved, length_moved_two}
+use Rattle.half_edge_dcel.proofs.Fits.{fits_as, fits_vertex, fits_flipped, fits_hung, fits_closed, length-grown}
+use Rattle.half_edge_dcel.proofs.Fits.{length_moved, length_moved_two}
 use Rattle.half_edge_dcel.proofs.EdgeLists.{splits_edge, length-ends}
 use Rattle.half_edge_dcel.proofs.Outlines.{outer_changes}
 use Rattle.half_edge_dcel.proofs.dcel.Dcel.split_half_edge.Goals as goal
@@ -8,7 +9,8 @@ use Rattle.half_edge_dcel.proofs.dcel.Dcel.split_half_edge.Goals as goal
 pub invariant_of-self : goal.invariant_of-self
 invariant_of-self g c =
     rw (c.split_half_edge-parts.ensures.mesh, c.push_vertex-v.ensures.mesh)
-    (fits_as _ _ _ _ _ _ _ _ _ (fits_flipped _ _ _ _ _ _ (fits_closed _ _ _ _ _ _ (fits_hung _ _ _ _ _ _ _ (fits_vertex _ _ _ _ _ c.self.invariant))))
+    (fits_as _ _ _ _ _ _ _ _ _ (fits_flipped _ _ _ _ _ _
+    (fits_closed _ _ _ _ _ _ (fits_hung _ _ _ _ _ _ _ (fits_vertex _ _ _ _ _ c.self.invariant))))
     (ap length c.push_reserved.ensures.items ∙ length_push _ _)
     (omega (arith, length_moved_two _ _ _ _ _ _ c.move_two_items.ensures.moves))
     (omega (arith, length_moved _ _ _ _ _ c.move_item.ensures.moves))
@@ -16,13 +18,16 @@ invariant_of-self g c =
 
 pub returns-clause-edges : goal.returns-clause-edges
 returns-clause-edges g c =
-    let ends_are = rw (c.push_vertex-v.ensures.mesh, c.index.ensures, ← c.split_handles.ensures.vertex) at c.split_half_edge-parts.ensures.splits.ends in
+    let ends_are = rw (c.push_vertex-v.ensures.mesh, c.index.ensures, ← c.split_handles.ensures.vertex) at
+    c.split_half_edge-parts.ensures.splits.ends in
     let moves = rw c.index-4.ensures at c.move_item.ensures.moves in
-    rw (← c.self.view_is) (splits_edge _ _ _ _ _ _ _ 1 _ _ (length-ends c.self.inside.links.mesh _ _ _ _ c.self.invariant) refl ends_are moves)
+    rw (← c.self.view_is) (splits_edge _ _ _ _ _ _ _ 1 _ _
+    (length-ends c.self.inside.links.mesh _ _ _ _ c.self.invariant) refl ends_are moves)
 
 pub returns-clause-links : goal.returns-clause-links
 returns-clause-links g c =
-    let split = rw (c.push_vertex-v.ensures.mesh, c.index.ensures, ← c.split_handles.ensures.vertex) at c.split_half_edge-parts.ensures in
+    let split = rw (c.push_vertex-v.ensures.mesh, c.index.ensures, ← c.split_handles.ensures.vertex) at
+    c.split_half_edge-parts.ensures in
     rw (← c.self.view_is) (record {
       mesh = split.mesh;
       triangles = split.splits.corners;
