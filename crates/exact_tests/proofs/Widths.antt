@@ -27,6 +27,16 @@ pub sum_of : (a b x y : ℤ) → unsigned_abs a ≤ 1152921504606846976 → unsi
     b ≡ y → kept (kept a +ℤ kept b) ≡ x +ℤ y
 sum_of a b x y h k e f = omega (arith, ints)
 
+-- a sum of numbers of absolute value at most 2^60 fits in 64 bits
+pub sum_fits : (a b : ℤ) → unsigned_abs a ≤ 1152921504606846976 → unsigned_abs b ≤ 1152921504606846976 →
+    FitsSigned w64 (kept a +ℤ kept b)
+sum_fits a b h k = fits_signed_from_abs w64 (kept a +ℤ kept b) (omega (arith, ints))
+
+-- a sum of numbers of absolute value at most 2^60 has one of at most 2^61
+pub sum_bound : (a b : ℤ) → unsigned_abs a ≤ 1152921504606846976 → unsigned_abs b ≤ 1152921504606846976 →
+    unsigned_abs (kept (kept a +ℤ kept b)) ≤ 2305843009213693952
+sum_bound a b h k = omega (arith, ints)
+
 -- a difference of numbers of absolute value at most 2^60 is exact in 64 bits
 pub difference_of : (a b x y : ℤ) → unsigned_abs a ≤ 1152921504606846976 → unsigned_abs b ≤ 1152921504606846976 →
     a ≡ x → b ≡ y → kept (kept a -ℤ kept b) ≡ x -ℤ y
@@ -48,20 +58,13 @@ pub term_of : (a b x y z : ℤ) → unsigned_abs a ≤ 2305843009213693952 → u
     b ≡ y → z ≡ kept a *ℤ kept b → z ≡ x *ℤ y
 term_of a b x y z h k e f g = let p = kept_is a (omega (arith, h)) in let q = kept_is b (omega (arith, k)) in cc
 
--- a sum of two numbers of absolute value at most 2^122 fits in 128 bits
-pub two_fit : (a b : ℤ) → unsigned_abs a ≤ 5316911983139663491615228241121378304 →
-    unsigned_abs b ≤ 5316911983139663491615228241121378304 → FitsSigned w128 (kept_long a +ℤ kept_long b)
-two_fit a b h k = fits_signed_from_abs w128 (kept_long a +ℤ kept_long b) (omega (arith, ints))
+-- a difference of numbers of absolute value at most 2^122 fits in 128 bits
+pub long_difference_fits : (a b : ℤ) → unsigned_abs a ≤ 5316911983139663491615228241121378304 →
+    unsigned_abs b ≤ 5316911983139663491615228241121378304 → FitsSigned w128 (kept_long a -ℤ kept_long b)
+long_difference_fits a b h k = fits_signed_from_abs w128 (kept_long a -ℤ kept_long b) (omega (arith, ints))
 
--- a sum of three numbers of absolute value at most 2^122 fits in 128 bits
-pub three_fit : (a b d : ℤ) → unsigned_abs a ≤ 5316911983139663491615228241121378304 →
-    unsigned_abs b ≤ 5316911983139663491615228241121378304 → unsigned_abs d ≤ 5316911983139663491615228241121378304 →
-    FitsSigned w128 (kept_long (kept_long a +ℤ kept_long b) +ℤ kept_long d)
-three_fit a b d h k l =
-    fits_signed_from_abs w128 (kept_long (kept_long a +ℤ kept_long b) +ℤ kept_long d) (omega (arith, ints))
-
--- a sum of three numbers of absolute value at most 2^122 is exact in 128 bits
-pub sum_of_three : (a b d x y z : ℤ) → unsigned_abs a ≤ 5316911983139663491615228241121378304 →
-    unsigned_abs b ≤ 5316911983139663491615228241121378304 → unsigned_abs d ≤ 5316911983139663491615228241121378304 →
-    a ≡ x → b ≡ y → d ≡ z → kept_long (kept_long (kept_long a +ℤ kept_long b) +ℤ kept_long d) ≡ x +ℤ y +ℤ z
-sum_of_three a b d x y z h k l e f g = omega (arith, ints)
+-- a difference of numbers of absolute value at most 2^122 is exact in 128 bits
+pub long_difference_of : (a b x y : ℤ) → unsigned_abs a ≤ 5316911983139663491615228241121378304 →
+    unsigned_abs b ≤ 5316911983139663491615228241121378304 → a ≡ x → b ≡ y →
+    kept_long (kept_long a -ℤ kept_long b) ≡ x -ℤ y
+long_difference_of a b x y h k e f = omega (arith, ints)

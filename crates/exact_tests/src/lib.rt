@@ -13,9 +13,10 @@ ghost use Rattle.std.specs.Prelude.{◌≡◌, ◌↔◌, ◌≤◌, ◌-ℤ◌,
 ghost use Rattle.plane.specs.Fraction.{whole as fraction};
 ghost use Rattle.plane.specs.Side.{side, TurnsLeft};
 ghost use Rattle.plane.specs.Circle.{InsideCircle};
-ghost use Rattle.plane.specs.Laws.{squared_way, turn_at, lifted_determinant};
+ghost use Rattle.plane.specs.Laws.{turn_at, lifted_determinant};
 ghost use Rattle.plane.specs.Tests.{IsCoordinate, InRange};
 ghost use Rattle.delaunay_core.specs.Place.{place_of};
+ghost use Rattle.exact_tests.specs.Angles.{dot_at};
 
 use delaunay_core::line_side_info::LineSideInfo;
 use delaunay_core::math::PlaneTests;
@@ -46,16 +47,17 @@ fn product(a: i64, b: i64) -> i64
     a * b
 }
 
-// The squared distance of two points.
-fn squared_way<S: SpadeNum>(q: Point2<S>, p: Point2<S>) -> i64
+// The scalar product of the ways from a point to two others, positive where they make a sharp angle.
+fn dot_at<S: SpadeNum>(q: Point2<S>, u: Point2<S>, v: Point2<S>) -> i64
     requires q { InRange (place_of S.whole q) }
-    requires p { InRange (place_of S.whole p) }
-    ensures value { result ≡ squared_way (place_of S.whole q) (place_of S.whole p) }
+    requires u { InRange (place_of S.whole u) }
+    requires v { InRange (place_of S.whole v) }
+    ensures value { result ≡ dot_at (place_of S.whole q) (place_of S.whole u)
+        (place_of S.whole v) }
     ensures bound { unsigned_abs result ≤ 2305843009213693952 }
 {
-    let x = difference(q.x, p.x);
-    let y = difference(q.y, p.y);
-    product(x, x) + product(y, y)
+    product(difference(q.x, u.x), difference(q.x, v.x))
+        + product(difference(q.y, u.y), difference(q.y, v.y))
 }
 
 // Twice the signed area of a triangle, positive where it turns left.
@@ -71,17 +73,19 @@ fn turn_at<S: SpadeNum>(q: Point2<S>, u: Point2<S>, v: Point2<S>) -> i64
         - product(difference(q.y, u.y), difference(q.x, v.x))
 }
 
-// A squared distance times twice an area.
-fn term(way: i64, turn: i64) -> i128
-    requires way { unsigned_abs way ≤ 2305843009213693952 }
+// A scalar product times twice an area.
+fn term(dot: i64, turn: i64) -> i128
+    requires dot { unsigned_abs dot ≤ 2305843009213693952 }
     requires turn { unsigned_abs turn ≤ 2305843009213693952 }
-    ensures value { result ≡ way *ℤ turn }
+    ensures value { result ≡ dot *ℤ turn }
     ensures bound { unsigned_abs result ≤ 5316911983139663491615228241121378304 }
 {
-    i128::from(way) * i128::from(turn)
+    i128::from(dot) * i128::from(turn)
 }
 
 // The determinant that is positive exactly where `q` is inside the circle of a left-turning triple.
+// It is found from the angles at `p` and at `q` between the ways to `u` and `v`, which takes fewer
+// products than its definition does.
 fn lifted_determinant<S: SpadeNum>(u: Point2<S>, v: Point2<S>, p: Point2<S>, q: Point2<S>) -> i128
     requires u { InRange (place_of S.whole u) }
     requires v { InRange (place_of S.whole v) }
@@ -90,9 +94,7 @@ fn lifted_determinant<S: SpadeNum>(u: Point2<S>, v: Point2<S>, p: Point2<S>, q: 
     ensures { result ≡ lifted_determinant (place_of S.whole u) (place_of S.whole v)
         (place_of S.whole p) (place_of S.whole q) }
 {
-    term(squared_way(q, u), turn_at(q, v, p))
-        + term(squared_way(q, v), turn_at(q, p, u))
-        + term(squared_way(q, p), turn_at(q, u, v))
+    term(dot_at(p, u, v), turn_at(q, u, v)) - term(dot_at(q, u, v), turn_at(p, u, v))
 }
 
 impl<S: SpadeNum> PlaneTests<S> for ExactTests {
