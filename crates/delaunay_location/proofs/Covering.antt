@@ -2,10 +2,15 @@
 use Rattle.std.proofs.Common.{◌≡◌, ℕ, ◌<◌, length, map}
 use Rattle.std.specs.Prelude.{ℤ, Contains}
 use Rattle.plane.specs.Fraction.{Point}
+use Rattle.delaunay_core.specs.Place.{place_of}
 use Rattle.delaunay_legalization.specs.Known.{point_at}
+use Rattle.delaunay_legalization.specs.State.{state_of}
+use Rattle.delaunay_legalization.proofs.MeshParts.{mesh_edge}
 use Rattle.delaunay_legalization.proofs.Questions.{covered_at, covered_in}
 use Rattle.delaunay_location.specs.declared.search.Search.{Search}
+use Rattle.delaunay_location.specs.declared.steps.Stop.{Stop}
 use Rattle.delaunay_location.specs.Search.{IsSearch}
+use Rattle.delaunay_location.specs.Stop.{IsStopOf}
 
 module _ {V D U F P S : Type 0} (at : V → Point) (number : S → ℤ) (IsSite IsCovered : P → Point → Type 0)
     (covers : (t : P) → (p : Point) → IsSite t p → IsCovered t p) (s : Search V D U F P S)
@@ -22,3 +27,10 @@ module _ {V D U F P S : Type 0} (at : V → Point) (number : S → ℤ) (IsSite 
   listed_covered q c =
       let t = s.tests.now in
       covered_in (IsCovered t) (IsSite t) (covers t) (map at s.dcel.now.vertices) q search.sites c
+
+  -- and so are the ends of the edge where a walk is
+  pub ends_covered : (stop : Stop S) → IsStopOf at number s stop →
+      IsCovered s.tests.now (place_of number stop.from) × IsCovered s.tests.now (place_of number stop.to)
+  ends_covered stop h =
+      let edge = mesh_edge at (state_of s.dcel.now) search.kept stop.edge h.within in
+      (vertex_covered _ _ edge.source h.from, vertex_covered _ _ edge.target h.to)

@@ -5,3 +5,4 @@ pub mod Locating
 pub mod Walking
 pub mod Neighbours
 pub mod Covering
+pub mod Sides

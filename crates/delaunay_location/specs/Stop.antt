@@ -1,16 +1,35 @@
 -- Where a walk from face to face is.
-use Rattle.std.specs.Prelude.{ℕ, ℤ, ◌<◌, length}
+use Rattle.std.specs.Prelude.{◌≡◌, ℕ, ℤ, ◌<◌, List, length, map, IfSome}
+use Rattle.half_edge_mesh.specs.Mesh.{Mesh, origin, rev}
 use Rattle.plane.specs.Fraction.{Point}
 use Rattle.delaunay_core.specs.Place.{place_of}
+use Rattle.delaunay_legalization.specs.Known.{point_at}
+use Rattle.delaunay_location.specs.Search.{IsPlaceOf}
 use Rattle.delaunay_location.specs.declared.search.Search.{Search}
 use Rattle.delaunay_location.specs.declared.steps.Stop.{Stop}
+use Rattle.delaunay_location.specs.declared.steps.Step.{Step}
+use Rattle.delaunay_location.specs.declared.steps.Step.TheVariants.{Beyond, Found, OnSide}
+use Rattle.delaunay_location.specs.declared.walk.Walked.{Walked}
+use Rattle.delaunay_location.specs.declared.walk.Walked.TheVariants.{Ended, Reached}
 
--- one of n directed edges, with covered positions for its ends
-pub record IsStop {S : Type 0} (number : S → ℤ) (IsCovered : Point → Type 0) (n : ℕ) (stop : Stop S) : Type 0 where
+-- one of the n directed edges of a mesh, with the positions of its ends
+pub record IsStop {S : Type 0} (number : S → ℤ) (points : List Point) (m : Mesh) (n : ℕ) (stop : Stop S) : Type 0 where
   pub within : stop.edge < n
-  pub from_covered : IsCovered (place_of number stop.from)
-  pub to_covered : IsCovered (place_of number stop.to)
+  pub from : place_of number stop.from ≡ point_at points (origin m stop.edge)
+  pub to : place_of number stop.to ≡ point_at points (origin m (rev stop.edge))
 
--- the same of the edges of a search's mesh, with its tests
-abbrev pub IsStopOf : {V D U F P S : Type 0} → (S → ℤ) → (P → Point → Type 0) → Search V D U F P S → Stop S → Type 0
-IsStopOf number IsCovered s = IsStop number (IsCovered s.tests.now) (length s.dcel.now.directed)
+module _ {V D U F P S : Type 0} (at : V → Point) (number : S → ℤ) (s : Search V D U F P S) where
+  -- the same of the mesh of a search
+  abbrev pub IsStopOf : Stop S → Type 0
+  IsStopOf = IsStop number (map at s.dcel.now.vertices) s.dcel.now.mesh (length s.dcel.now.directed)
+
+  -- a step leads to such an edge, or to where the position is
+  abbrev pub IsStepOf : Step S → Type 0
+  IsStepOf (Beyond stop) = IsStopOf stop
+  IsStepOf (Found place) = IsPlaceOf at number s place
+  IsStepOf OnSide = Unit {0}
+
+  -- a walk ends where the position is, or reaches an edge
+  abbrev pub IsWalkOf : Walked → Type 0
+  IsWalkOf (Ended place) = IfSome place (IsPlaceOf at number s)
+  IsWalkOf (Reached e) = e < length s.dcel.now.directed

@@ -119,7 +119,7 @@ impl<'a, V: HasPosition, DE, UE, F, P: PlaneTests<V::Scalar>> Search<'a, V, DE, 
     }
 
     // Whether the position is strictly inside an inner face.
-    pub(crate) fn is_inside_face(&self, face: FixedFaceHandle) -> bool
+    fn is_inside_face(&self, face: FixedFaceHandle) -> bool
         requires positive { 0 < face }
         requires within { face ≤ length self.now.dcel.now.faces }
         requires search { IsSearch V.place V.Scalar.whole P.sites P.covered self.now }

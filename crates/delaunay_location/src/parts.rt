@@ -1,6 +1,6 @@
 //! The positions of vertices, of the ends of edges and of the corners of faces.
 ghost use Rattle.std.specs.Prelude.{◌≡◌, ◌<◌, ◌≤◌, length, map};
-ghost use Rattle.half_edge_mesh.specs.Mesh.{origin, rev, face, face_edge};
+ghost use Rattle.half_edge_mesh.specs.Mesh.{origin, rev, face_edge};
 ghost use Rattle.half_edge_mesh.specs.Triangles.{triangle_at};
 ghost use Rattle.delaunay_core.specs.Place.{place_of};
 ghost use Rattle.delaunay_legalization.specs.Known.{point_at};
@@ -34,18 +34,6 @@ pub(crate) fn end_vertex<V, DE, UE, F>(
     ensures within { result < length dcel.now.vertices }
 {
     dcel.directed_edge(edge).to().fix()
-}
-
-// The face on the left of an edge.
-pub(crate) fn left_face<V, DE, UE, F>(
-    dcel: &Dcel<V, DE, UE, F>,
-    edge: FixedDirectedEdgeHandle,
-) -> FixedFaceHandle
-    requires { edge < length dcel.now.directed }
-    ensures value { result ≡ face dcel.now.mesh edge }
-    ensures within { result ≤ length dcel.now.faces }
-{
-    dcel.directed_edge(edge).face().fix()
 }
 
 /// The positions of the ends of an edge, in its direction.

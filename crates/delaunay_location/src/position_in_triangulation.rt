@@ -1,3 +1,4 @@
+//! The answer to a location.
 use half_edge_mesh::{FixedDirectedEdgeHandle, FixedFaceHandle, FixedVertexHandle};
 
 /// Where a position is in a triangulation.

@@ -1,6 +1,5 @@
 //! Where a position is, by a walk from face to face.
 ghost use Rattle.std.specs.Prelude.{◌≡◌, ◌<◌, length, map, All, IfSome, MatchOption};
-ghost use Rattle.half_edge_mesh.specs.Mesh.{face};
 ghost use Rattle.plane.specs.Tests.{InRange};
 ghost use Rattle.delaunay_core.specs.Place.{place_of};
 ghost use Rattle.delaunay_legalization.specs.Known.{point_at};
@@ -9,18 +8,28 @@ ghost use Rattle.delaunay_legalization.specs.Shape.{IsTriangulated};
 ghost use Rattle.delaunay_legalization.specs.State.{state_of};
 ghost use Rattle.delaunay_location.specs.Location.{Locates};
 ghost use Rattle.delaunay_location.specs.Search.{IsPlaceOf, IsSearch};
+ghost use Rattle.delaunay_location.specs.Stop.{IsWalkOf};
 
-use crate::parts::{ends_of, left_face};
+use crate::parts::ends_of;
 use crate::position_in_triangulation::PositionInTriangulation;
 use crate::samples::nearer_sample;
 use crate::search::Search;
+use crate::steps::Step;
 use delaunay_core::math::PlaneTests;
 use delaunay_core::point::{HasPosition, Point2};
-use delaunay_legalization::{is_outer, is_same_point, is_strictly_within, turns_left};
+use delaunay_legalization::{is_same_point, is_strictly_within};
 use half_edge_mesh::{Dcel, FixedDirectedEdgeHandle, FixedVertexHandle, MeshViews};
 
 // After so many steps a walk looks for a nearer vertex anywhere in the mesh.
 const FEW_STEPS: usize = 16;
+
+// Where a walk is after some steps.
+enum Walked {
+    // It has ended: here, unless no side had the position.
+    Ended(Option<PositionInTriangulation>),
+    // It goes on in the face on the left of this edge.
+    Reached(FixedDirectedEdgeHandle),
+}
 
 impl<'a, V: HasPosition, DE, UE, F, P: PlaneTests<V::Scalar>> Search<'a, V, DE, UE, F, P> {
     // The location of a position on an edge: at its start, or within it.
@@ -43,17 +52,13 @@ impl<'a, V: HasPosition, DE, UE, F, P: PlaneTests<V::Scalar>> Search<'a, V, DE, 
         None
     }
 
-    // The location of a position in the closed face on the left of an edge.
-    fn place_in_face(&self, edge: FixedDirectedEdgeHandle) -> Option<PositionInTriangulation>
+    // The location of a position on a side of the face on the left of an edge.
+    #[inline(never)]
+    fn place_on_sides(&self, edge: FixedDirectedEdgeHandle) -> Option<PositionInTriangulation>
         requires within { edge < length self.now.dcel.now.directed }
-        requires inner { 0 < face self.now.dcel.now.mesh edge }
         requires search { IsSearch V.place V.Scalar.whole P.sites P.covered self.now }
         ensures { IfSome result (IsPlaceOf V.place V.Scalar.whole self.now) }
     {
-        let face = left_face(self.dcel, edge);
-        if self.is_inside_face(face) {
-            return Some(PositionInTriangulation::OnFace(face));
-        }
         if let Some(place) = self.place_on_edge(edge) {
             return Some(place);
         }
@@ -64,72 +69,41 @@ impl<'a, V: HasPosition, DE, UE, F, P: PlaneTests<V::Scalar>> Search<'a, V, DE, 
         self.place_on_edge(edge.prev().fix())
     }
 
-    // The location of a position strictly on the left of an edge that has the outer face there.
-    fn place_outside(&self, edge: FixedDirectedEdgeHandle) -> Option<PositionInTriangulation>
-        requires within { edge < length self.now.dcel.now.directed }
-        requires outer { face self.now.dcel.now.mesh edge ≡ 0 }
-        requires search { IsSearch V.place V.Scalar.whole P.sites P.covered self.now }
-        ensures { IfSome result (IsPlaceOf V.place V.Scalar.whole self.now) }
-    {
-        let (from, to) = ends_of(self.dcel, edge);
-        if turns_left(from, to, self.point, self.tests) {
-            Some(PositionInTriangulation::OutsideOfConvexHull(edge))
-        } else {
-            None
-        }
-    }
-
-    // The location of a position in the closed face on the left of an edge, or strictly on the left
-    // of an edge that has the outer face there.
-    fn place_at(&self, edge: FixedDirectedEdgeHandle) -> Option<PositionInTriangulation>
-        requires within { edge < length self.now.dcel.now.directed }
-        requires search { IsSearch V.place V.Scalar.whole P.sites P.covered self.now }
-        ensures { IfSome result (IsPlaceOf V.place V.Scalar.whole self.now) }
-    {
-        if is_outer(self.dcel, edge) {
-            self.place_outside(edge)
-        } else {
-            self.place_in_face(edge)
-        }
-    }
-
-    // Where a walk from an edge is that has ended, or after a number of steps: the edge that has
-    // this face on its left, and whether it has ended.
-    fn walk_on(
-        &self,
-        start: FixedDirectedEdgeHandle,
-        steps: usize,
-    ) -> (FixedDirectedEdgeHandle, bool)
+    // Where a walk from an edge ends, or is after a number of steps.
+    fn walk_on(&self, start: FixedDirectedEdgeHandle, steps: usize) -> Walked
         requires within { start < length self.now.dcel.now.directed }
         requires search { IsSearch V.place V.Scalar.whole P.sites P.covered self.now }
-        ensures { result.0 < length self.now.dcel.now.directed }
+        ensures { IsWalkOf V.place V.Scalar.whole self.now result }
     {
         let mut stop = self.stop_at(start);
         for _ in 0..steps {
             let edge = stop.edge;
             match self.way_out(stop) {
-                Some(beyond) => stop = beyond,
-                None => return (edge, true),
+                Step::Beyond(next) => stop = next,
+                Step::Found(place) => return Walked::Ended(Some(place)),
+                Step::OnSide => return Walked::Ended(self.place_on_sides(edge)),
             }
         }
-        (stop.edge, false)
+        Walked::Reached(stop.edge)
     }
 
     // The location that a walk from an edge ends at, unless it has not ended after as many steps as
-    // there are directed edges. Among faces that pass the circle test it ends earlier. A long walk
-    // goes on at a vertex all over the mesh, if one of those looked at is nearer.
+    // there are directed edges: it goes round in a circle then. Among faces that pass the circle
+    // test it ends earlier. A long walk goes on at a vertex all over the mesh, if one of those
+    // looked at is nearer.
     fn walk(&self, start: FixedDirectedEdgeHandle) -> Option<PositionInTriangulation>
         requires within { start < length self.now.dcel.now.directed }
         requires search { IsSearch V.place V.Scalar.whole P.sites P.covered self.now }
         ensures { IfSome result (IsPlaceOf V.place V.Scalar.whole self.now) }
     {
-        let (edge, has_ended) = self.walk_on(start, FEW_STEPS);
-        if has_ended {
-            return self.place_at(edge);
+        let edge = match self.walk_on(start, FEW_STEPS) {
+            Walked::Ended(place) => return place,
+            Walked::Reached(edge) => nearer_edge(self.dcel, edge, self.point),
+        };
+        match self.walk_on(edge, self.dcel.num_directed_edges()) {
+            Walked::Ended(place) => place,
+            Walked::Reached(_) => None,
         }
-        let edge = nearer_edge(self.dcel, edge, self.point);
-        let (edge, _) = self.walk_on(edge, self.dcel.num_directed_edges());
-        self.place_at(edge)
     }
 
     // Where a position is, by a walk from a vertex, or from vertex 0 where there is no such vertex.

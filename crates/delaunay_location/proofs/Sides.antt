@@ -1,0 +1,124 @@
+-- The sides of the face on the left of an edge: the edges beyond them, and when a position is inside it.
+use Rattle.std.proofs.Common.{◌≡◌, ◌⊎◌, ◌↔◌, ℕ, zero, suc, ◌<◌, ◌≤◌, Bool, true, false, List, length, map}
+use Rattle.std.proofs.Common.{refl, sym, ap, ◌∙◌, subst, inl, inr, arith}
+use Rattle.std.specs.Prelude.{ℤ}
+use Rattle.half_edge_mesh.specs.Mesh.{Mesh, origin, next, prev, face, face_edge, rev}
+use Rattle.half_edge_links.proofs.Lists.Rev.{rev-rev, rev_within}
+use Rattle.half_edge_links.proofs.Sound.Triangles as T
+use Rattle.plane.specs.Fraction.{Point, whole}
+use Rattle.plane.specs.Side.{Side, side, left, TurnsLeft}
+use Rattle.plane.specs.Pairs.{place}
+use Rattle.plane.proofs.Triangles.{inside_is_sides}
+use Rattle.delaunay_core.specs.Place.{place_of}
+use Rattle.delaunay_core.specs.declared.point.Point2.{Point2}
+use Rattle.delaunay_legalization.specs.Known.{point_at}
+use Rattle.delaunay_legalization.specs.Parts.{IsInsideFaceOf}
+use Rattle.delaunay_legalization.specs.Shape.{IsTriangulated}
+use Rattle.delaunay_legalization.specs.State.{State}
+use Rattle.delaunay_legalization.proofs.MeshParts.{mesh_face}
+use Rattle.delaunay_legalization.proofs.Questions.{both_ways}
+use Rattle.delaunay_location.specs.Location.{Locates}
+use Rattle.delaunay_location.specs.Stop.{IsStop}
+use Rattle.delaunay_location.specs.declared.position_in_triangulation.PositionInTriangulation.TheVariants.{OnFace}
+use Rattle.delaunay_location.proofs.Locating.{in_face}
+
+-- a face that a test does not call the outer one is an inner one
+pub inner_if_not_outer : (b : Bool) (f : ℕ) → (b ≡ true) ↔ (f ≡ 0) → b ≡ false → 0 < f
+inner_if_not_outer b zero e n = absurd (both_ways b (e.1 refl) n)
+inner_if_not_outer b (suc k) e n = omega arith
+
+module _ {V D U F : Type 0} (at : V → Point) (s : State V D U F) (kept : IsTriangulated at s) where
+  abbrev points : List Point
+  points = map at s.vertices
+
+  abbrev m : Mesh
+  m = s.mesh
+
+  half_edge_in : (e : ℕ) → e < length s.directed → e < length m.half_edges
+  half_edge_in e w = let f = kept.fits.directed_fit in omega (arith, f, w)
+
+  -- the other direction of an edge, with the positions of its ends
+  pub across_edge : {S : Type 0} (number : S → ℤ) (e : ℕ) (from to : Point2 S) → e < length s.directed
+      → place_of number from ≡ point_at points (origin m e) → place_of number to ≡ point_at points (origin m (rev e))
+      → IsStop number points m (length s.directed) (record { edge = rev e; from = to; to = from })
+  across_edge number e from to w starts ends = record {
+    within =
+        let f = kept.fits.directed_fit in
+        let r = rev_within e (length m.half_edges) kept.valid.sound.even (half_edge_in e w) in
+        omega (arith, f, r);
+    from = ends;
+    to = starts ∙ ap (λ k. point_at points (origin m k)) (sym (rev-rev e));
+  }
+
+  module _ (e : ℕ) (w : e < length s.directed) (inner : 0 < face m e) where
+    -- the three edges round the face
+    round : T.IsTriangle m e
+    round = T.triangle_at m e kept.valid.sound (half_edge_in e w) inner
+
+    -- where the edges after and before an edge start and end
+    next_starts : origin m (next m e) ≡ origin m (rev e)
+    next_starts = (kept.valid.sound.edges e round.h_in).starts
+
+    next_ends : origin m (rev (next m e)) ≡ origin m (prev m e)
+    next_ends = sym (kept.valid.sound.edges (next m e) round.next_in).starts ∙ ap (origin m) round.next_next
+
+    prev_ends : origin m (rev (prev m e)) ≡ origin m e
+    prev_ends = sym (kept.valid.sound.edges (prev m e) round.prev_in).starts ∙ ap (origin m) round.next_prev
+
+    -- the same of the edge after an edge of an inner face
+    pub across_next : {S : Type 0} (number : S → ℤ) (h : ℕ) (to corner : Point2 S) → h ≡ next m e
+        → place_of number to ≡ point_at points (origin m (rev e))
+        → place_of number corner ≡ point_at points (origin m (prev m e))
+        → IsStop number points m (length s.directed) (record { edge = rev h; from = corner; to = to })
+    across_next number h to corner same starts ends = rw same (across_edge number (next m e) to corner
+        (let f = kept.fits.directed_fit in let n = round.next_in in omega (arith, f, n))
+        (starts ∙ ap (point_at points) (sym next_starts)) (ends ∙ ap (point_at points) (sym next_ends)))
+
+    -- and of the edge before it
+    pub across_prev : {S : Type 0} (number : S → ℤ) (h : ℕ) (corner from : Point2 S) → h ≡ prev m e
+        → place_of number corner ≡ point_at points (origin m (prev m e))
+        → place_of number from ≡ point_at points (origin m e)
+        → IsStop number points m (length s.directed) (record { edge = rev h; from = from; to = corner })
+    across_prev number h corner from same starts ends = rw same (across_edge number (prev m e) corner from
+        (let f = kept.fits.directed_fit in let n = round.prev_in in omega (arith, f, n))
+        starts (ends ∙ ap (point_at points) (sym prev_ends)))
+
+    module _ (p : Point) where
+      -- p is strictly on the left of the line from a vertex to another, and of the sides of a face
+      abbrev IsLeft : ℕ → ℕ → Type 0
+      IsLeft i j = TurnsLeft (place points i) (place points j) (whole p)
+
+      abbrev IsLeftOfSides : ℕ → Type 0
+      IsLeftOfSides h = IsLeft (origin m h) (origin m (next m h)) × IsLeft (origin m (next m h)) (origin m (prev m h))
+          × IsLeft (origin m (prev m h)) (origin m h)
+
+      face_in : face m e ≤ length s.faces
+      face_in =
+          let f = kept.fits.faces_fit in
+          let h = (kept.valid.sound.edges e round.h_in).face_in in
+          omega (arith, f, h)
+
+      -- the same sides from the edge on that the face names
+      named_sides : IsLeftOfSides e → IsLeftOfSides (face_edge m (face m e))
+      named_sides l = go ((kept.valid.sound.edges e round.h_in).owned inner)
+        where
+          go : (face_edge m (face m e) ≡ e) ⊎
+              ((face_edge m (face m e) ≡ next m e) ⊎ (face_edge m (face m e) ≡ prev m e))
+              → IsLeftOfSides (face_edge m (face m e))
+          go (inl i) = subst IsLeftOfSides (sym i) l
+          go (inr (inl i)) = subst IsLeftOfSides (sym i) (rw (round.next_next, round.prev_next) (l.1, l.2, l.0))
+          go (inr (inr i)) = subst IsLeftOfSides (sym i) (rw (round.next_prev, round.prev_prev) (l.2, l.0, l.1))
+
+      inside_named : IsLeftOfSides e → IsInsideFaceOf points m p (face_edge m (face m e))
+      inside_named l =
+          (inside_is_sides _ _ _ _ (mesh_face at s kept (face m e) inner face_in).turning).1 (named_sides l)
+
+      -- a position strictly on the left of the three sides of an inner face is located in it
+      pub located_inside : (f : ℕ) (from to corner : Point) → f ≡ face m e → from ≡ point_at points (origin m e)
+          → to ≡ point_at points (origin m (rev e)) → corner ≡ point_at points (origin m (prev m e))
+          → (beside ahead behind : Side) → beside ≡ side (whole from) (whole to) (whole p)
+          → ahead ≡ side (whole to) (whole corner) (whole p) → behind ≡ side (whole corner) (whole from) (whole p)
+          → beside ≡ left → ahead ≡ left → behind ≡ left → Locates points m p (OnFace f)
+      located_inside f from to corner same first second third beside ahead behind b a d k l n =
+          rw same (in_face at s kept p (face m e) inner face_in
+          (inside_named (rw next_starts (rw (← first, ← second, ← third) (sym b ∙ k, sym a ∙ l, sym d ∙ n)))))
