@@ -53,15 +53,20 @@ module _ (points : List Point) (m : Mesh) (s : IsValidMesh m) (shape : IsMesh po
   pub failing_apart : IsFailing points m e → origin m (prev m e) ≢ origin m (prev m (rev e))
   failing_apart x = M.apart_corners points m s (M.local_of points m e s.sound shape (in_mesh, x.inner)) e in_mesh x
 
-  module _ (a c d b : Point) (next_edge prev_edge twin_prev : ℕ) (at_next : next_edge ≡ next m e) (at_prev : prev_edge ≡ prev m e) (at_twin : twin_prev ≡ prev m (rev e))
-      (first : a ≡ point_at points (origin m e)) (second : c ≡ point_at points (origin m next_edge)) (third : d ≡ point_at points (origin m prev_edge)) (fourth : b ≡ point_at points (origin m twin_prev)) where
+  module _ (a c d b : Point) (twin prev_edge twin_prev : ℕ) (at_rev : twin ≡ rev e) (at_prev : prev_edge ≡ prev m e) (at_twin : twin_prev ≡ prev m (rev e))
+      (first : a ≡ point_at points (origin m e)) (second : c ≡ point_at points (origin m twin)) (third : d ≡ point_at points (origin m prev_edge)) (fourth : b ≡ point_at points (origin m twin_prev)) where
+    -- the edge ends where the one after it in its loop starts
+    second_corner : c ≡ point_at points (origin m (next m e))
+    second_corner = second ∙ ap (λ (z : ℕ). point_at points (origin m z)) at_rev
+        ∙ ap (point_at points) (sym (s.sound.edges e in_mesh).starts)
+
     -- where the edge has an inner face on its left, its corners a, c, d turn left
     pub left_turn : 0 < face m e → TurnsLeft (whole a) (whole c) (whole d)
-    left_turn h = subst (λ (x : Point × Point × Point). TurnsLeft (whole x.0) (whole x.1) (whole x.2)) (λ i. (sym first i, sym (second ∙ ap (λ (z : ℕ). point_at points (origin m z)) at_next) i, sym (third ∙ ap (λ (z : ℕ). point_at points (origin m z)) at_prev) i))
+    left_turn h = subst (λ (x : Point × Point × Point). TurnsLeft (whole x.0) (whole x.1) (whole x.2)) (λ i. (sym first i, sym second_corner i, sym (third ∙ ap (λ (z : ℕ). point_at points (origin m z)) at_prev) i))
         (turning_of points (faces_of m) (outer_of m) (M.local_of points m e s.sound shape (in_mesh, h)) (origin m e) (origin m (next m e)) (origin m (prev m e)) (face_before m e s.sound (in_mesh, h)))
 
     corners_are : let y : Point × Point × Point × Point = (a, c, d, b) in let z : Point × Point × Point × Point = (point_at points (origin m e), point_at points (origin m (next m e)), point_at points (origin m (prev m e)), point_at points (origin m (prev m (rev e)))) in y ≡ z
-    corners_are = λ i. (first i, (second ∙ ap (λ (z : ℕ). point_at points (origin m z)) at_next) i, (third ∙ ap (λ (z : ℕ). point_at points (origin m z)) at_prev) i, (fourth ∙ ap (λ (z : ℕ). point_at points (origin m z)) at_twin) i)
+    corners_are = λ i. (first i, second_corner i, (third ∙ ap (λ (z : ℕ). point_at points (origin m z)) at_prev) i, (fourth ∙ ap (λ (z : ℕ). point_at points (origin m z)) at_twin) i)
 
     -- between inner faces the edge fails if b is inside the circle of a, c, d
     pub inside_fails : 0 < face m e → 0 < face m (rev e) → InsideCircle (whole a) (whole c) (whole d) (whole b) → IsFailing points m e

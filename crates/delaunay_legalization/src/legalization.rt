@@ -100,9 +100,9 @@ fn is_failing<V: HasPosition, DE, UE, F, P: PlaneTests<V::Scalar>>(
     if is_outer(dcel, edge) || is_outer(dcel, edge.rev()) {
         return false;
     }
-    let (next, prev, _, twin_prev) = sides_round(dcel, edge);
+    let (_, prev, _, twin_prev) = sides_round(dcel, edge);
     let from = start_of(dcel, edge);
-    let to = start_of(dcel, next);
+    let to = start_of(dcel, edge.rev());
     let left = start_of(dcel, prev);
     let right = start_of(dcel, twin_prev);
     tests.is_in_circle(from, to, left, right)

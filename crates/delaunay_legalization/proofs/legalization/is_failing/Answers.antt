@@ -14,8 +14,8 @@ is_in_circle-requires-clause-left_turn g c =
     c.requires.within in
     left_turn (map g.V.HasPosition.place c.args.dcel.now.vertices) c.args.dcel.now.mesh w.valid c.requires.shape
     c.as_directed-edge.result (length c.args.dcel.now.directed) w.fits.directed_fit within
-    _ _ _ _ _ _ _ c.sides_round-next.ensures.next.0 c.sides_round-next.ensures.prev.0
-    c.sides_round-next.ensures.twin_prev.0 c.start_of-from.ensures.place c.start_of-to.ensures.place
+    _ _ _ _ _ _ _ c.rev-2.ensures c.sides_round-prev.ensures.prev.0
+    c.sides_round-prev.ensures.twin_prev.0 c.start_of-from.ensures.place c.start_of-to.ensures.place
     c.start_of-left.ensures.place c.start_of-right.ensures.place
     (positive (face c.args.dcel.now.mesh c.as_directed-edge.result)
     (λ z. both_ways _ (c.is_outer.ensures.1 z) c.if-is_outer.false))
@@ -48,8 +48,8 @@ returns g c =
           c.as_directed-edge.ensures
           (inside_fails (map g.V.HasPosition.place c.args.dcel.now.vertices) c.args.dcel.now.mesh w.valid
           c.requires.shape c.as_directed-edge.result (length c.args.dcel.now.directed) w.fits.directed_fit within
-          _ _ _ _ _ _ _ c.sides_round-next.ensures.next.0 c.sides_round-next.ensures.prev.0
-          c.sides_round-next.ensures.twin_prev.0 c.start_of-from.ensures.place c.start_of-to.ensures.place
+          _ _ _ _ _ _ _ c.rev-2.ensures c.sides_round-prev.ensures.prev.0
+          c.sides_round-prev.ensures.twin_prev.0 c.start_of-from.ensures.place c.start_of-to.ensures.place
           c.start_of-left.ensures.place c.start_of-right.ensures.place
           (positive (face c.args.dcel.now.mesh c.as_directed-edge.result)
           (λ z. both_ways _ (c.is_outer.ensures.1 z) c.if-is_outer.false))
@@ -60,8 +60,8 @@ returns g c =
       (λ x. c.is_in_circle.ensures.1
           (fails_inside (map g.V.HasPosition.place c.args.dcel.now.vertices) c.args.dcel.now.mesh w.valid
           c.requires.shape c.as_directed-edge.result (length c.args.dcel.now.directed) w.fits.directed_fit within
-          _ _ _ _ _ _ _ c.sides_round-next.ensures.next.0 c.sides_round-next.ensures.prev.0
-          c.sides_round-next.ensures.twin_prev.0 c.start_of-from.ensures.place c.start_of-to.ensures.place
+          _ _ _ _ _ _ _ c.rev-2.ensures c.sides_round-prev.ensures.prev.0
+          c.sides_round-prev.ensures.twin_prev.0 c.start_of-from.ensures.place c.start_of-to.ensures.place
           c.start_of-left.ensures.place c.start_of-right.ensures.place
           (subst (IsFailing (map g.V.HasPosition.place c.args.dcel.now.vertices) c.args.dcel.now.mesh)
           (sym c.as_directed-edge.ensures) x))),
