@@ -33,6 +33,7 @@ pub(crate) enum Step<S> {
 }
 
 // The step across an edge with these ends, into the face on its right.
+#[inline(always)]
 fn beyond<S>(edge: FixedDirectedEdgeHandle, from: Point2<S>, to: Point2<S>) -> Step<S>
     ensures { result ≡ Beyond (record { edge = rev edge; from = to; to = from }) }
 {
@@ -56,6 +57,7 @@ impl<'a, V: HasPosition, DE, UE, F, P: PlaneTests<V::Scalar>> Search<'a, V, DE, 
 
     // The way from an edge that has the outer face on its left to the position: the other direction
     // of the edge, unless the position is strictly on its left.
+    #[inline(never)]
     fn way_in(&self, stop: Stop<V::Scalar>) -> Step<V::Scalar>
         requires search { IsSearch V.place V.Scalar.whole P.sites P.covered self.now }
         requires stop { IsStopOf V.place V.Scalar.whole self.now stop }
@@ -72,6 +74,7 @@ impl<'a, V: HasPosition, DE, UE, F, P: PlaneTests<V::Scalar>> Search<'a, V, DE, 
     // The way from the face on the left of an edge to a position outside it: across a side that has
     // the position strictly on its right. From the outer face it leads inside, unless the position
     // is on the left of the edge.
+    #[inline(always)]
     pub(crate) fn way_out(&self, stop: Stop<V::Scalar>) -> Step<V::Scalar>
         requires search { IsSearch V.place V.Scalar.whole P.sites P.covered self.now }
         requires stop { IsStopOf V.place V.Scalar.whole self.now stop }
