@@ -11,7 +11,7 @@ mod terrain;
 
 fn run(rt: &HostRuntime, name: &str) -> anyhow::Result<()> {
     match name {
-        "hill" => Ok(hill::run(rt)?),
+        "hill" => hill::run(rt),
         "terrain" => terrain::run(rt),
         "facilities" => facilities::run(rt),
         "navigation" => navigation::run(rt),
