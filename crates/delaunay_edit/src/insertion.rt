@@ -59,10 +59,12 @@ impl<V: HasPosition + Drop, DE: Default, UE: Default, F: Default, M: FreeByDefau
         ensures counted { CountsFlips (length self.new.vertices) flips.old flips.new }
     {
         reserve_for_vertex(&mut self.dcel)?;
-        reserve_for_edges(&mut self.work, 3 * (self.dcel.num_vertices() + 1))?;
+        let free = self.num_constraints == 0;
+        if !free {
+            reserve_for_edges(&mut self.work, 3 * (self.dcel.num_vertices() + 1))?;
+        }
         let split = count_split::<M, _, _, _, _>(&self.dcel, &location);
         let vertex = insert_at::<M, _, _, _, _, _>(&mut self.dcel, location, turns, value, tests);
-        let free = self.num_constraints == 0;
         let work = &mut self.work;
         legalize_vertex::<M, _, _, _, _, _>(&mut self.dcel, vertex, free, tests, work, flips);
         self.num_constraints += split;

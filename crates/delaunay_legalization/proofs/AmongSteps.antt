@@ -101,7 +101,7 @@ module _ (points : List Point) (m : Mesh) (s : IsValidMesh m) (shape : IsMesh po
       (turning_of points (faces_of m) (outer_of m) local a c d left_face)
       (turning_of points (faces_of m) (outer_of m) local c a b right_face)).0 x.inside
 
-  right_by_edges : InsideCircle (place points (origin m (rev e))) (place points (origin m (next m (rev e))))
+  pub right_by_edges : InsideCircle (place points (origin m (rev e))) (place points (origin m (next m (rev e))))
       (place points b) (place points d)
   right_by_edges =
       let back = sym ((s.sound.edges (rev e) six.b_in).starts ∙ ap (origin m) (rev-rev e)) in

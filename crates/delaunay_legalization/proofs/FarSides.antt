@@ -103,7 +103,8 @@ listed_or_not (j ∷ ks) k = elim (cases_eq j k) [
   ]
 ]
 
-with_one : (ks : List ℕ) (k : ℕ) → (more : List ℕ) × Gains ks more k
+-- a list that gains an edge
+pub with_one : (ks : List ℕ) (k : ℕ) → (more : List ℕ) × Gains ks more k
 with_one ks k = elim (listed_or_not ks k) [
   | inl c ↦ (ks, M.gains_none ks k c)
   | inr n ↦ (ks ++ k ∷ [], M.gains_last ks k n)

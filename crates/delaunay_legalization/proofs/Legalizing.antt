@@ -132,7 +132,8 @@ gained ks more k l e f n = subst (λ (z : ℕ). Gains ks more z) e (subst (λ (z
 pub kept : (ks : List ℕ) (k l : ℕ) → l ≡ k → Contains ks l → Gains ks ks k
 kept ks k l e c = subst (λ (z : ℕ). Gains ks ks z) e (M.gains_none ks l c)
 
-half_within : (m : Mesh) (h n k : ℕ) → n ≡ length m.half_edges → h < n → k ≡ h / 2 → (2 * k) < length m.half_edges
+-- the first direction of a half edge is one of the mesh
+pub half_within : (m : Mesh) (h n k : ℕ) → n ≡ length m.half_edges → h < n → k ≡ h / 2 → (2 * k) < length m.half_edges
 half_within m h n k e l f = grind arith
 
 -- a list of edges that gains the edge of a half edge is one still

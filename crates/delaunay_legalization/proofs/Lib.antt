@@ -17,3 +17,7 @@ pub mod OppositeSides
 pub mod AmongSteps
 pub mod AmongSides
 pub mod Stepping
+pub mod Spokes
+pub mod OppositeTurns
+pub mod OppositeQuestions
+pub mod RoundSteps

@@ -46,7 +46,7 @@ pub record IsWholeRound {V D U F : Type 0} (c : Contents V D U F) (v : ℕ)
   pub all : (h : ℕ) → h < length c.mesh.half_edges → origin c.mesh h ≡ v → Contains rest h
 
 -- the edges of a round are given once
-spokes_once : (m : Mesh) (v first count : ℕ) → IsRound m v first count
+pub spokes_once : (m : Mesh) (v first count : ℕ) → IsRound m v first count
     → IsOnce (map (spoke m first) (range_with_len 0 count))
 spokes_once m v first count r i j n less inside e =
     let size = length-map-range_with_len (spoke m first) 0 count in

@@ -13,7 +13,7 @@ use Rattle.mesh_embedding.specs.Legal.{AreEdges, GainsRound, IsFailing, IsPartly
 use Rattle.mesh_embedding.proofs.MeshLegal.{dropped}
 use Rattle.mesh_embedding.proofs.WorkLists.{contains_last}
 use Rattle.delaunay_legalization.specs.declared.sides.Sides.{Sides}
-use Rattle.delaunay_legalization.specs.declared.sides.Sides.TheVariants.{Round, Beyond, Among}
+use Rattle.delaunay_legalization.specs.declared.sides.Sides.TheVariants.{Round, Among}
 use Rattle.delaunay_legalization.specs.Constraints.{constraint_pairs}
 use Rattle.delaunay_legalization.specs.Flips.{FlipsFit}
 use Rattle.delaunay_legalization.specs.Legalized.{Legalizes}
@@ -21,7 +21,6 @@ use Rattle.delaunay_legalization.specs.Shape.{IsTriangulated}
 use Rattle.delaunay_legalization.specs.Sides.{Suffice, GainsSides, CanStep, HasStepped, CanLegalize, HasLegalized}
 use Rattle.delaunay_legalization.specs.State.{state_of}
 use Rattle.delaunay_legalization.proofs.AmongSteps.{six, moves, only_stay, legal_among}
-use Rattle.delaunay_legalization.proofs.FarSides.{flip_keeps_empty, turned_far}
 use Rattle.delaunay_legalization.proofs.Legalizing.{IsUnderway, underway_begins, step_fits, step_kept}
 use Rattle.delaunay_legalization.proofs.Legalizing.{underway_ends, underway_counts, underway_keeps}
 use Rattle.delaunay_legalization.proofs.Legalizing.{turned_by, fewer_by}
@@ -33,7 +32,6 @@ module _ (points : List Point) (m : Mesh) (s : IsValidMesh m) (shape : IsMesh po
   -- sides that were enough to test still are after a flip
   suffice_still : (sides : Sides) → Suffice sides points m → Suffice sides points (flipped m e)
   suffice_still Round enough = enough
-  suffice_still (Beyond v) enough = flip_keeps_empty points m s shape e within x v enough
   suffice_still (Among hs) enough = only_stay points m s shape e within x hs.now enough
 
   -- where these sides are enough, the others need not be in the work list
@@ -43,8 +41,6 @@ module _ (points : List Point) (m : Mesh) (s : IsValidMesh m) (shape : IsMesh po
       → IsPartlyLegal points constraints was (flipped m e) all start flips)
       → IsPartlyLegal points constraints was (flipped m e) more start flips
   left_by constraints was valid start flips ks more Round enough g own legal = legal more g own
-  left_by constraints was valid start flips ks more (Beyond v) enough g own legal =
-      turned_far points m s shape e within x v enough constraints was start flips ks more g own legal
   left_by constraints was valid start flips ks more (Among hs) enough g own legal =
       legal_among points constraints was m (flipped m e) s valid e start flips hs.now ks more
       (six points m s shape e within x) (moves points m s shape e within x).edge_count

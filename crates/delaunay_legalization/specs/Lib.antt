@@ -7,6 +7,7 @@ pub mod Flips
 pub mod CdtEdge
 pub mod Lending
 pub mod Star
+pub mod Around
 pub mod Parts
 pub mod Marking
 pub mod Legalized

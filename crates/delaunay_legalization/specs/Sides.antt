@@ -5,28 +5,25 @@ use Rattle.half_edge_mesh.specs.Mesh.{Mesh}
 use Rattle.plane.specs.Delaunay.{IsLocallyDelaunay}
 use Rattle.plane.specs.Fraction.{Point}
 use Rattle.plane_tiling.specs.Local.{IsMesh}
-use Rattle.plane_edits.specs.EmptyRound.{IsEmptyRound}
 use Rattle.plane_edits.specs.Legal.{AllPassBut}
 use Rattle.mesh_embedding.specs.Drawn.{drawn, faces_of, outer_of}
 use Rattle.mesh_embedding.specs.Legal.{AreEdges, GainsRound, IsFailing, IsPartlyLegal, pairs_at, steps_left}
 use Rattle.mesh_embedding.specs.Stays.{KeepsIndexes}
 use Rattle.delaunay_legalization.specs.declared.sides.Sides.{Sides}
-use Rattle.delaunay_legalization.specs.declared.sides.Sides.TheVariants.{Round, Beyond, Among}
+use Rattle.delaunay_legalization.specs.declared.sides.Sides.TheVariants.{Round, Among}
 use Rattle.delaunay_legalization.specs.Among.{FailOnlyAmong}
 use Rattle.delaunay_legalization.specs.Constraints.{constraint_pairs}
 use Rattle.delaunay_legalization.specs.Flips.{CountsFlips, FlipsFit}
-use Rattle.delaunay_legalization.specs.Pushing.{GainsFarSides, GainsRoundAmong}
+use Rattle.delaunay_legalization.specs.Pushing.{GainsRoundAmong}
 
 -- what of a mesh makes it enough to test these sides of a turned edge
 abbrev pub Suffice : Sides → List Point → Mesh → Type 0
 Suffice Round points m = ⊤
-Suffice (Beyond v) points m = IsEmptyRound points (faces_of m) v
 Suffice (Among hs) points m = FailOnlyAmong points m hs.now
 
 -- the entries of old, and these sides of directed edge e
 abbrev pub GainsSides : Sides → Mesh → ℕ → List ℕ → List ℕ → Type 0
 GainsSides Round m e old new = GainsRound m e old new
-GainsSides (Beyond v) m e old new = GainsFarSides m e v old new
 GainsSides (Among hs) m e old new = GainsRoundAmong m hs.now e old new
 
 -- undirected edge k, the last of the work list, may be tested and turned

@@ -109,7 +109,7 @@ fn is_failing<V: HasPosition, DE, UE, F, P: PlaneTests<V::Scalar>>(
 }
 
 // Turns a failing edge and counts the flip. No other function of a legalization flips.
-fn flip<V: HasPosition, DE, UE, F>(
+pub(crate) fn flip<V: HasPosition, DE, UE, F>(
     dcel: &mut Dcel<V, DE, UE, F>,
     edge: FixedUndirectedEdgeHandle,
     flips: &mut u64,

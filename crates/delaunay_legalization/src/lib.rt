@@ -3,11 +3,11 @@
 #![tactic(auto)]
 
 mod among;
+mod around;
 mod cdt_edge;
 mod constraint_marker;
 mod legalization;
 mod marking;
-mod opposite;
 mod predicates;
 mod sides;
 mod star;

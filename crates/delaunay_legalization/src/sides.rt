@@ -6,16 +6,13 @@ ghost use Rattle.delaunay_legalization.specs.Sides.{GainsSides};
 
 use crate::among::push_sides_among;
 use crate::legalization::push_sides;
-use crate::opposite::push_far_sides;
-use half_edge_mesh::{Dcel, FixedDirectedEdgeHandle, FixedUndirectedEdgeHandle, FixedVertexHandle};
+use half_edge_mesh::{Dcel, FixedDirectedEdgeHandle, FixedUndirectedEdgeHandle};
 
 // Which of them may fail then.
 #[derive(Clone, Copy)]
 pub(crate) enum Sides<'a> {
     // Each.
     Round,
-    // The two that lie beyond the edge from this vertex.
-    Beyond(FixedVertexHandle),
     // Those whose first direction is listed here.
     Among(&'a [FixedDirectedEdgeHandle]),
 }
@@ -35,7 +32,6 @@ pub(crate) fn push_left<V, DE, UE, F>(
 {
     match *sides {
         Sides::Round => push_sides(dcel, edge, work),
-        Sides::Beyond(vertex) => push_far_sides(dcel, edge, vertex, work),
         Sides::Among(among) => push_sides_among(dcel, edge, among, work),
     }
 }

@@ -1,5 +1,5 @@
 //! A legalization that begins at one vertex, where only edges of the faces there may fail.
-ghost use Rattle.std.specs.Prelude.{◌≡◌, ◌*◌, ◌<◌, ◌≤◌, length, map, All, IsTrue, vec_capacity};
+ghost use Rattle.std.specs.Prelude.{◌≡◌, ◌*◌, ◌<◌, ◌≤◌, length, map, All, IsFalse, IsTrue, vec_capacity};
 ghost use Rattle.mesh_embedding.specs.Drawn.{faces_of};
 ghost use Rattle.mesh_embedding.specs.Legal.{AreEdges};
 ghost use Rattle.delaunay_legalization.specs.Constraints.{constraints_by};
@@ -11,9 +11,9 @@ ghost use Rattle.delaunay_legalization.specs.Shape.{IsTriangulated};
 ghost use Rattle.delaunay_legalization.specs.Star.{AllPassBeside, HasSidesAt, HasStar};
 ghost use Rattle.delaunay_legalization.specs.State.{state_of};
 
+use crate::around::legalize_round;
 use crate::constraint_marker::ConstraintMarker;
 use crate::legalization::{legalize_by, push_side};
-use crate::opposite::push_opposite;
 use crate::sides::Sides;
 use delaunay_core::math::PlaneTests;
 use delaunay_core::point::HasPosition;
@@ -82,15 +82,18 @@ pub fn legalize_vertex<
         (constraints_by M.constraints (state_of dcel.old)) vertex }
     requires empty { IsTrue is_free →
         IsEmptyRound (map V.place dcel.old.vertices) (faces_of dcel.old.mesh) vertex }
-    requires room { 3 * length dcel.old.vertices ≤ vec_capacity work.old }
+    requires room { IsFalse is_free → 3 * length dcel.old.vertices ≤ vec_capacity work.old }
     requires fits { FlipsFit (length dcel.old.vertices) flips.old }
     ensures legalizes { Legalizes V.place M.constraints dcel.old dcel.new flips.old flips.new }
 {
-    if is_free {
-        push_opposite(dcel, vertex, work);
-        legalize_by::<M, _, _, _, _, _>(dcel, &Sides::Beyond(vertex), tests, work, flips);
-    } else {
+    if !is_free {
         push_star(dcel, vertex, work);
         legalize_by::<M, _, _, _, _, _>(dcel, &Sides::Round, tests, work, flips);
+        return;
     }
+    let Some(first) = dcel.vertex(vertex).out_edge() else {
+        return;
+    };
+    let first = first.fix();
+    legalize_round::<M, _, _, _, _, _>(dcel, first, tests, flips);
 }

@@ -1,0 +1,55 @@
+-- What is asked of the edge opposite a vertex.
+use Rattle.std.proofs.Common.{◌≡◌, ℕ, ◌<◌, List, length, sym, ap, ◌∙◌, subst}
+use Rattle.half_edge_mesh.specs.Mesh.{Mesh, IsValidMesh, origin, next, prev, face, rev}
+use Rattle.plane.specs.Circle.{InsideCircle}
+use Rattle.plane.specs.Fraction.{Point, whole}
+use Rattle.plane.specs.Side.{TurnsLeft}
+use Rattle.plane_tiling.specs.Local.{IsMesh}
+use Rattle.mesh_embedding.specs.Drawn.{faces_of, outer_of}
+use Rattle.mesh_embedding.specs.Legal.{IsFailing}
+use Rattle.delaunay_legalization.specs.Known.{point_at}
+use Rattle.delaunay_legalization.proofs.Legalizing as L
+
+-- the positions a, c, d and b are those where the edge opposite starts and ends, of the vertex where edge h starts, and
+-- of the corner beyond
+module _ (points : List Point) (m : Mesh) (s : IsValidMesh m) (shape : IsMesh points (faces_of m) (outer_of m)) (h n : ℕ)
+    (count : n ≡ length m.half_edges) (within : h < n) (a c d b : Point) (edge twin beyond : ℕ) (is_edge : edge ≡ next m h)
+    (is_twin : twin ≡ rev (next m h)) (is_beyond : beyond ≡ prev m (rev (next m h)))
+    (first : a ≡ point_at points (origin m edge)) (second : c ≡ point_at points (origin m twin))
+    (third : d ≡ point_at points (origin m h)) (fourth : b ≡ point_at points (origin m beyond)) where
+  h_in : h < length m.half_edges
+  h_in = subst (λ z. h < z) count within
+
+  next_in : next m h < n
+  next_in = subst (λ z. next m h < z) (sym count) (s.sound.edges h h_in).next_in
+
+  first_is : a ≡ point_at points (origin m (next m h))
+  first_is = first ∙ ap (λ z. point_at points (origin m z)) is_edge
+
+  h_is : h ≡ prev m (next m h)
+  h_is = sym (s.sound.edges h h_in).prev_next
+
+  inner_too : 0 < face m h → 0 < face m (next m h)
+  inner_too inner = subst (λ z. 0 < z) (sym (s.sound.edges h h_in).same_face) inner
+
+  pub opposite_turns_left : 0 < face m h → TurnsLeft (whole a) (whole c) (whole d)
+  opposite_turns_left inner = L.left_turn points m s shape (next m h) n count next_in a c d b twin h beyond is_twin h_is
+      is_beyond first_is second third fourth (inner_too inner)
+
+  pub opposite_fails : 0 < face m h → 0 < face m twin → InsideCircle (whole a) (whole c) (whole d) (whole b)
+      → IsFailing points m (next m h)
+  opposite_fails inner behind inside = L.inside_fails points m s shape (next m h) n count next_in a c d b twin h beyond
+      is_twin h_is is_beyond first_is second third fourth (inner_too inner)
+      (subst (λ z. 0 < face m z) is_twin behind) inside
+
+  pub opposite_is_inside : IsFailing points m (next m h) → InsideCircle (whole a) (whole c) (whole d) (whole b)
+  opposite_is_inside x = L.fails_inside points m s shape (next m h) n count next_in a c d b twin h beyond is_twin h_is
+      is_beyond first_is second third fourth x
+
+-- an edge that fails has inner faces on both sides
+pub opposite_inner : (points : List Point) (m : Mesh) → IsValidMesh m → (h n twin : ℕ) → n ≡ length m.half_edges → h < n
+    → twin ≡ rev (next m h) → IsFailing points m (next m h) → (0 < face m h) × (0 < face m twin)
+opposite_inner points m s h n twin count within is_twin x = (
+  subst (λ z. 0 < z) (s.sound.edges h (subst (λ z. h < z) count within)).same_face x.inner,
+  subst (λ z. 0 < face m z) (sym is_twin) x.twin_inner,
+)

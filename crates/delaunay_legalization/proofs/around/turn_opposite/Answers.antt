@@ -1,0 +1,70 @@
+use Rattle.std.proofs.Common.{◌≡◌, ◌*◌, ◌/◌, ◌<◌, ℕ, length, map, refl, sym, ap, ◌∙◌, subst}
+use Rattle.half_edge_mesh.specs.Flip.{flipped}
+use Rattle.half_edge_mesh.specs.Mesh.{next}
+use Rattle.mesh_embedding.specs.Legal.{IsFailing}
+use Rattle.mesh_embedding.proofs.MeshLegal.{joins_directed}
+use Rattle.std.specs.Prelude.{Contains}
+use Rattle.delaunay_legalization.proofs.Legalizing.{fixed_stay}
+use Rattle.delaunay_legalization.proofs.OppositeSides.{link_read}
+use Rattle.delaunay_legalization.proofs.OppositeTurns.{either_in, failing_either}
+use Rattle.delaunay_legalization.proofs.Questions.{both_ways}
+use Rattle.delaunay_legalization.proofs.around.turn_opposite.Goals as goal
+
+pub returns-then-is_constraint_edge-clause-stays : goal.returns-then-is_constraint_edge-clause-stays
+returns-then-is_constraint_edge-clause-stays g c _ =
+    let m = c.args.dcel.now.mesh in
+    let is = link_read next m _ _ _ _ c.args.spoke c.fix.ensures.value c.next.ensures.index
+    (ap (λ d. d.now.mesh) c.directed_edge.ensures.dcel) c.directed_edge.ensures.index in
+    record {
+      same = refl;
+      counted = refl;
+      passes = λ free. absurd (free (joins_directed m (g.M.ConstraintMarker.constraints c.args.dcel.now.undirected)
+          (next m c.args.spoke) (subst (Contains (g.M.ConstraintMarker.constraints c.args.dcel.now.undirected))
+          (c.as_undirected-edge.ensures ∙ ap (λ z. z / 2) is)
+          (c.is_constraint_edge.ensures.0 c.if-is_constraint_edge.true))));
+    }
+
+pub flip-requires-clause-failing : goal.flip-requires-clause-failing
+flip-requires-clause-failing g c =
+    let w = c.recall_invariant.ensures.whole in
+    let m = c.args.dcel.now.mesh in
+    let is = link_read next m _ _ _ _ c.args.spoke c.fix.ensures.value c.next.ensures.index
+    (ap (λ d. d.now.mesh) c.directed_edge.ensures.dcel) c.directed_edge.ensures.index in
+    subst (λ (k : ℕ). IsFailing (map g.V.HasPosition.place c.args.dcel.now.vertices) m (2 * k))
+    (sym (c.as_undirected-edge.ensures ∙ ap (λ z. z / 2) is))
+    (failing_either (map g.V.HasPosition.place c.args.dcel.now.vertices) m w.valid c.requires.turn.shape c.args.spoke
+    c.requires.turn.within (c.is_opposite_failing.ensures.0 c.if-not-is_opposite_failing.false))
+
+pub returns-clause-constraints : goal.returns-clause-constraints
+returns-clause-constraints g c =
+    let w = c.recall_invariant.ensures.whole in
+    let m = c.args.dcel.now.mesh in
+    let is = link_read next m _ _ _ _ c.args.spoke c.fix.ensures.value c.next.ensures.index
+    (ap (λ d. d.now.mesh) c.directed_edge.ensures.dcel) c.directed_edge.ensures.index in
+    let same = c.as_undirected-edge.ensures ∙ ap (λ z. z / 2) is in
+    let fails = c.is_opposite_failing.ensures.0 c.if-not-is_opposite_failing.false in
+    fixed_stay g.M.ConstraintMarker.constraints (map g.V.HasPosition.place c.args.dcel.now.vertices) m
+    c.flip.new.dcel.mesh c.args.dcel.now.undirected c.flip.new.dcel.undirected c.as_undirected-edge.result w.valid
+    c.requires.turn.shape (subst (λ (k : ℕ). (2 * k) < length m.half_edges) (sym same)
+    (either_in (map g.V.HasPosition.place c.args.dcel.now.vertices) m w.valid c.requires.turn.shape c.args.spoke
+    c.requires.turn.within fails))
+    (subst (λ (k : ℕ). IsFailing (map g.V.HasPosition.place c.args.dcel.now.vertices) m (2 * k)) (sym same)
+    (failing_either (map g.V.HasPosition.place c.args.dcel.now.vertices) m w.valid c.requires.turn.shape c.args.spoke
+    c.requires.turn.within fails))
+    c.flip.ensures.mesh (ap (λ d. d.undirected) c.flip.ensures.contents)
+    (λ h. both_ways _ (c.is_constraint_edge.ensures.1 h) c.if-is_constraint_edge.false)
+
+pub returns-clause-turned : goal.returns-clause-turned
+returns-clause-turned g c _ =
+    let m = c.args.dcel.now.mesh in
+    let is = link_read next m _ _ _ _ c.args.spoke c.fix.ensures.value c.next.ensures.index
+    (ap (λ d. d.now.mesh) c.directed_edge.ensures.dcel) c.directed_edge.ensures.index in
+    record {
+      failing = c.is_opposite_failing.ensures.0 c.if-not-is_opposite_failing.false;
+      turned = c.flip.ensures.mesh
+          ∙ ap (λ (k : ℕ). flipped m (2 * k)) (c.as_undirected-edge.ensures ∙ ap (λ z. z / 2) is);
+      counted = c.flip.ensures.flips;
+    }
+
+pub returns-clause-stays : goal.returns-clause-stays
+returns-clause-stays g c kept = absurd (both_ways _ refl kept)

@@ -1,0 +1,38 @@
+-- A legalization round a vertex: what becomes of the edge opposite it in the face of one of its edges.
+use Rattle.std.specs.Prelude.{◌≡◌, ℕ, ◌+◌, ◌*◌, ◌/◌, ◌<◌, ◌^◌, List, length, map, Some}
+use Rattle.half_edge_mesh.specs.Contents.{Contents}
+use Rattle.half_edge_mesh.specs.Flip.{flipped}
+use Rattle.half_edge_mesh.specs.Mesh.{Mesh, origin, next, rev, out_edge}
+use Rattle.plane.specs.Fraction.{Point}
+use Rattle.plane.specs.Pairs.{Joins}
+use Rattle.plane_tiling.specs.Local.{IsMesh}
+use Rattle.plane_edits.specs.EmptyRound.{IsEmptyRound}
+use Rattle.mesh_embedding.specs.Drawn.{faces_of, outer_of}
+use Rattle.mesh_embedding.specs.Legal.{IsFailing}
+use Rattle.delaunay_legalization.specs.Flips.{FlipsFit}
+
+-- the edge opposite vertex v, in the face on the left of its edge h, may be tested and turned
+pub record CanTurn (points : List Point) (m : Mesh) (h flips : ℕ) : Type 0 where
+  pub within : h < length m.half_edges
+  pub shape : IsMesh points (faces_of m) (outer_of m)
+  pub fits : IsFailing points m (next m h) → flips + 1 < 2 ^ 64
+
+-- it failed, was turned and counted
+pub record Turns (points : List Point) (old new : Mesh) (h before after : ℕ) : Type 0 where
+  pub failing : IsFailing points old (next old h)
+  pub turned : new ≡ flipped old (2 * (next old h / 2))
+  pub counted : after ≡ before + 1
+
+-- it stays, since it is a constraint or does not fail
+pub record Stays (points : List Point) (constraints : List (ℕ × ℕ)) (old new : Mesh) (h before after : ℕ) : Type 0 where
+  pub same : new ≡ old
+  pub counted : after ≡ before
+  pub passes : ¬ Joins constraints (origin old (next old h)) (origin old (rev (next old h)))
+      → ¬ IsFailing points old (next old h)
+
+-- vertex v, from its edge first on, lies in empty circles, and each flip that may be needed can be counted
+pub record CanGoRound {V D U F : Type 0} (place : V → Point) (c : Contents V D U F) (v first flips : ℕ) : Type 0 where
+  pub named : out_edge c.mesh v ≡ Some first
+  pub shape : IsMesh (map place c.vertices) (faces_of c.mesh) (outer_of c.mesh)
+  pub empty : IsEmptyRound (map place c.vertices) (faces_of c.mesh) v
+  pub fits : FlipsFit (length c.vertices) flips

@@ -1,0 +1,136 @@
+//! A legalization round a vertex, where only edges opposite it may fail.
+ghost use Rattle.std.specs.Prelude.{◌≡◌, ◌↔◌, ◌<◌, length, map, All, Contains, IsTrue, IsFalse};
+ghost use Rattle.half_edge_mesh.specs.Mesh.{origin, next, prev, rev};
+ghost use Rattle.plane_tiling.specs.Local.{IsMesh};
+ghost use Rattle.mesh_embedding.specs.Drawn.{faces_of, outer_of};
+ghost use Rattle.mesh_embedding.specs.Legal.{IsFailing};
+ghost use Rattle.delaunay_core.specs.Place.{place_of};
+ghost use Rattle.delaunay_legalization.specs.Around.{CanGoRound, CanTurn, Stays, Turns};
+ghost use Rattle.delaunay_legalization.specs.Constraints.{constraint_pairs};
+ghost use Rattle.delaunay_legalization.specs.Known.{point_at};
+ghost use Rattle.delaunay_legalization.specs.Sides.{HasLegalized};
+
+use crate::constraint_marker::ConstraintMarker;
+use crate::legalization::{flip, is_constraint_edge, is_outer, start_of};
+use delaunay_core::math::PlaneTests;
+use delaunay_core::point::{HasPosition, Point2};
+use half_edge_mesh::{Dcel, FixedDirectedEdgeHandle, MeshViews};
+
+// The edge opposite the vertex where an edge starts, in the face on the left of that edge, its other
+// direction, and the edge before this one in its loop.
+fn opposite_sides<V, DE, UE, F>(
+    dcel: &Dcel<V, DE, UE, F>,
+    spoke: FixedDirectedEdgeHandle,
+) -> (
+    FixedDirectedEdgeHandle,
+    FixedDirectedEdgeHandle,
+    FixedDirectedEdgeHandle,
+)
+    requires { spoke < length dcel.now.directed }
+    ensures edge { (result.0 ≡ next dcel.now.mesh spoke) × (result.0 < length dcel.now.directed) }
+    ensures twin { (result.1 ≡ rev (next dcel.now.mesh spoke)) ×
+        (result.1 < length dcel.now.directed) }
+    ensures beyond { (result.2 ≡ prev dcel.now.mesh (rev (next dcel.now.mesh spoke))) ×
+        (result.2 < length dcel.now.directed) }
+{
+    let edge = dcel.directed_edge(spoke).next();
+    let twin = edge.rev();
+    (edge.fix(), twin.fix(), twin.prev().fix())
+}
+
+// Whether the edge opposite a vertex, in the face on the left of one of its edges, lies between two
+// inner faces, of which one has its third corner inside the circle of the other.
+#[inline(always)]
+fn is_opposite_failing<V: HasPosition, DE, UE, F, P: PlaneTests<V::Scalar>>(
+    dcel: &Dcel<V, DE, UE, F>,
+    spoke: FixedDirectedEdgeHandle,
+    centre: Point2<V::Scalar>,
+    tests: &P,
+) -> bool
+    requires within { spoke < length dcel.now.directed }
+    requires sites { All (P.sites tests.now) (map V.place dcel.now.vertices) }
+    requires shape { IsMesh (map V.place dcel.now.vertices) (faces_of dcel.now.mesh)
+        (outer_of dcel.now.mesh) }
+    requires centre { place_of V.Scalar.whole centre ≡
+        point_at (map V.place dcel.now.vertices) (origin dcel.now.mesh spoke) }
+    requires listed { Contains (map V.place dcel.now.vertices) (place_of V.Scalar.whole centre) }
+    ensures { IsTrue result ↔ IsFailing (map V.place dcel.now.vertices) dcel.now.mesh
+        (next dcel.now.mesh spoke) }
+{
+    dcel.recall_invariant();
+    let (edge, twin, beyond) = opposite_sides(dcel, spoke);
+    if is_outer(dcel, spoke) || is_outer(dcel, twin) {
+        return false;
+    }
+    let from = start_of(dcel, edge);
+    let to = start_of(dcel, twin);
+    let beyond = start_of(dcel, beyond);
+    tests.is_in_circle(from, to, centre, beyond)
+}
+
+// Turns that edge if it fails and is no constraint, and tells whether it did.
+fn turn_opposite<M: ConstraintMarker<UE>, V: HasPosition, DE, UE, F, P: PlaneTests<V::Scalar>>(
+    dcel: &mut Dcel<V, DE, UE, F>,
+    spoke: FixedDirectedEdgeHandle,
+    centre: Point2<V::Scalar>,
+    tests: &P,
+    flips: &mut u64,
+) -> bool
+    requires sites { All (P.sites tests.now) (map V.place dcel.old.vertices) }
+    requires turn { CanTurn (map V.place dcel.old.vertices) dcel.old.mesh spoke flips.old }
+    requires centre { place_of V.Scalar.whole centre ≡
+        point_at (map V.place dcel.old.vertices) (origin dcel.old.mesh spoke) }
+    requires listed { Contains (map V.place dcel.old.vertices) (place_of V.Scalar.whole centre) }
+    ensures contents { dcel.new ≡ record dcel.old { mesh = dcel.new.mesh } }
+    ensures constraints { constraint_pairs M.constraints dcel.new.mesh dcel.new.undirected ≡
+        constraint_pairs M.constraints dcel.old.mesh dcel.old.undirected }
+    ensures turned { IsTrue result → Turns (map V.place dcel.old.vertices) dcel.old.mesh
+        dcel.new.mesh spoke flips.old flips.new }
+    ensures stays { IsFalse result → Stays (map V.place dcel.old.vertices)
+        (constraint_pairs M.constraints dcel.old.mesh dcel.old.undirected) dcel.old.mesh
+        dcel.new.mesh spoke flips.old flips.new }
+{
+    dcel.recall_invariant();
+    if !is_opposite_failing(dcel, spoke, centre, tests) {
+        return false;
+    }
+    let edge = dcel.directed_edge(spoke).next().fix().as_undirected();
+    if is_constraint_edge::<M, _, _, _, _>(dcel, edge) {
+        return false;
+    }
+    flip(dcel, edge, flips);
+    true
+}
+
+// Goes round a vertex from one of its edges on, and turns each edge opposite it that fails and is
+// no constraint. A turned edge is one of the vertex, and comes next; the edges beyond it are
+// opposite then.
+pub(crate) fn legalize_round<
+    M: ConstraintMarker<UE>,
+    V: HasPosition,
+    DE,
+    UE,
+    F,
+    P: PlaneTests<V::Scalar>,
+>(dcel: &mut Dcel<V, DE, UE, F>, first: FixedDirectedEdgeHandle, tests: &P, flips: &mut u64)
+    requires within { first < length dcel.old.directed }
+    requires sites { All (P.sites tests.now) (map V.place dcel.old.vertices) }
+    requires can { CanGoRound V.place dcel.old (origin dcel.old.mesh first) first
+        flips.old }
+    ensures has { HasLegalized V.place M.constraints dcel.old dcel.new flips.old flips.new }
+{
+    dcel.recall_invariant();
+    let centre = start_of(dcel, first);
+    let mut spoke = first;
+    loop {
+        dcel.recall_invariant();
+        if turn_opposite::<M, _, _, _, _, _>(dcel, spoke, centre, tests, flips) {
+            continue;
+        }
+        spoke = dcel.directed_edge(spoke).ccw().fix();
+        if spoke.index() == first.index() {
+            break;
+        }
+    }
+    dcel.recall_invariant();
+}
