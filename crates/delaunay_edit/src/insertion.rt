@@ -1,6 +1,7 @@
 //! New vertices, and new data at a known position.
-ghost use Rattle.std.specs.Prelude.{◌≡◌, ◌↔◌, ℕ, ◌+◌, ◌*◌, ◌<◌, ◌++◌, ◌∷◌, []};
-ghost use Rattle.std.specs.Prelude.{length, map, All, IsTrue, IsErrOf, IfOk, OnErr, OnOk};
+ghost use Rattle.std.specs.Prelude.{◌≡◌, ◌↔◌, ℕ, ◌+◌, ◌*◌, ◌<◌, ◌≤◌, ◌++◌, ◌∷◌, []};
+ghost use Rattle.std.specs.Prelude.{length, map, All, IsFalse, IsTrue, Err, IsErrOf, IfOk, OnErr, OnOk};
+ghost use Rattle.std.specs.Prelude.{vec_capacity};
 ghost use Rattle.plane.specs.Tests.{InRange};
 ghost use Rattle.delaunay_core.specs.declared.math.InsertionError.TheVariants.{TooLarge};
 ghost use Rattle.delaunay_core.specs.declared.math.InsertionError.TheVariants.{OutOfMemory};
@@ -21,7 +22,7 @@ use delaunay_core::point::HasPosition;
 use delaunay_insertion::{FreeByDefault, reserve_for_vertex};
 use delaunay_legalization::{legalize_vertex, reserve_for_edges, turns_left};
 use delaunay_location::PositionInTriangulation;
-use half_edge_mesh::{FixedVertexHandle, MAX_ELEMENTS};
+use half_edge_mesh::{FixedUndirectedEdgeHandle, FixedVertexHandle, MAX_ELEMENTS};
 
 /// What is at the position of a value.
 pub(crate) enum Entry {
@@ -30,6 +31,22 @@ pub(crate) enum Entry {
     /// No vertex. The location of the position, and whether the position is strictly on the left of
     /// the edge that it names.
     Vacant(PositionInTriangulation, bool),
+}
+
+// Makes room for so many edges that a legalization may list, which it does unless the triangulation
+// is free of constraints.
+fn reserve_to_test(
+    work: &mut Vec<FixedUndirectedEdgeHandle>,
+    edges: usize,
+    free: bool,
+) -> Result<(), InsertionError>
+    ensures ok { OnOk result (IsFalse free → edges ≤ vec_capacity work.new) }
+    ensures err { OnErr result (result ≡ Err OutOfMemory) }
+{
+    if free {
+        return Ok(());
+    }
+    reserve_for_edges(work, edges)
 }
 
 impl<V: HasPosition + Drop, DE: Default, UE: Default, F: Default, M: FreeByDefault<UE>> EditedMesh<
@@ -60,9 +77,7 @@ impl<V: HasPosition + Drop, DE: Default, UE: Default, F: Default, M: FreeByDefau
     {
         reserve_for_vertex(&mut self.dcel)?;
         let free = self.num_constraints == 0;
-        if !free {
-            reserve_for_edges(&mut self.work, 3 * (self.dcel.num_vertices() + 1))?;
-        }
+        reserve_to_test(&mut self.work, 3 * (self.dcel.num_vertices() + 1), free)?;
         let split = count_split::<M, _, _, _, _>(&self.dcel, &location);
         let vertex = insert_at::<M, _, _, _, _, _>(&mut self.dcel, location, turns, value, tests);
         let work = &mut self.work;

@@ -27,7 +27,7 @@ use Rattle.mesh_embedding.proofs.MeshLegal as M
 use Rattle.mesh_embedding.proofs.MeshStays.{half_same}
 use Rattle.mesh_embedding.proofs.TurnedEnds.{KeepsOtherOrigins, other_ends_stay, ends_at_next}
 use Rattle.plane_edits.specs.EmptyRound.{IsEmptyRound}
-use Rattle.delaunay_legalization.specs.Pushing.{GainsFarSides}
+use Rattle.delaunay_legalization.specs.Pushing.{Keeps}
 use Rattle.plane_edits.proofs.Legalization.EmptyRound.{failing_is_opposite, flip_stays_empty, spokes_pass}
 use Rattle.delaunay_legalization.proofs.Legalizing.{edges_gained}
 
@@ -109,6 +109,12 @@ with_one ks k = elim (listed_or_not ks k) [
   | inl c ↦ (ks, M.gains_none ks k c)
   | inr n ↦ (ks ++ k ∷ [], M.gains_last ks k n)
 ]
+
+-- the entries of old, and the two sides beyond edge e from vertex v, which is opposite e on its left or on its right
+pub record GainsFarSides (m : Mesh) (e v : ℕ) (old new : List ℕ) : Type 0 where
+  pub kept : Keeps old new
+  pub far : origin m (prev m e) ≡ v → Contains new (next m (rev e) / 2) × Contains new (prev m (rev e) / 2)
+  pub near : origin m (prev m e) ≢ v → Contains new (next m e / 2) × Contains new (prev m e / 2)
 
 -- ---- a failing edge is turned
 module _ (points : List Point) (m : Mesh) (s : IsValidMesh m) (shape : IsMesh points (faces_of m) (outer_of m)) (e : ℕ)

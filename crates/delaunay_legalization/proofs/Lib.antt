@@ -20,4 +20,5 @@ pub mod Stepping
 pub mod Spokes
 pub mod OppositeTurns
 pub mod OppositeQuestions
+pub mod RoundLists
 pub mod RoundSteps

@@ -1,5 +1,5 @@
--- The edges opposite one vertex, and the sides beyond an edge from it.
-use Rattle.std.proofs.Common.{◌≡◌, ◌≢◌, ℕ, ◌/◌, List, sym, ap, ◌∙◌, subst}
+-- The edges opposite one vertex, where only they may fail; and links that are read.
+use Rattle.std.proofs.Common.{◌<◌, ◌≡◌, length, ℕ, ◌/◌, List, ◌∙◌, subst}
 use Rattle.std.specs.Prelude.{Contains}
 use Rattle.half_edge_mesh.specs.Mesh.{Mesh, AreSoundLinks, origin, next, prev, rev}
 use Rattle.half_edge_links.proofs.Sound.Triangles as T
@@ -11,12 +11,14 @@ use Rattle.plane_edits.specs.EmptyRound.{IsEmptyRound}
 use Rattle.plane_edits.specs.Legal.{AllPassBut}
 use Rattle.plane_edits.proofs.Legalization.EmptyRound.{opposite_left}
 use Rattle.mesh_embedding.specs.Drawn.{faces_of, outer_of}
-use Rattle.mesh_embedding.specs.Legal.{pairs_at, Gains}
+use Rattle.mesh_embedding.specs.Legal.{pairs_at}
 use Rattle.mesh_embedding.proofs.MeshLegal.{joins_directed}
 use Rattle.mesh_embedding.proofs.MeshStars.{edge_of_face}
 use Rattle.mesh_embedding.proofs.TurnedEnds.{ends_at_next}
-use Rattle.delaunay_legalization.specs.Pushing.{GainsFarSides}
-use Rattle.delaunay_legalization.specs.Star.{HasOpposite}
+
+-- the edges opposite vertex v, in the loops of the edges that start there, are among ks
+abbrev pub HasOpposite : Mesh → ℕ → List ℕ → Type 0
+HasOpposite m v ks = (h : ℕ) → h < length m.half_edges → origin m h ≡ v → Contains ks (next m h / 2)
 
 -- the edges opposite the vertex v join the two other corners of its faces
 opposite_joined : (m : Mesh) → AreSoundLinks m → (v : ℕ) (ks : List ℕ) → HasOpposite m v ks → (j k : ℕ)
@@ -37,33 +39,8 @@ opposite_begins points constraints m s v ks shape empty has =
     opposite_left points (faces_of m) (outer_of m) constraints (pairs_at m ks) v shape empty
     (opposite_joined m s v ks has)
 
--- ---- the sides
+-- ---- links
 -- what a link of an edge gives, where the mesh and the edge are known by other names
 pub link_read : (link : Mesh → ℕ → ℕ) (m seen : Mesh) (index handle edge h : ℕ) → index ≡ handle
     → handle ≡ link seen edge → seen ≡ m → edge ≡ h → index ≡ link m h
 link_read link m seen index handle edge h is read same from = is ∙ read ∙ (λ i. link (same i) (from i))
-
--- two sides of one face that are gained one after another are far sides where the vertex is on the left
-pub far_gained : (m : Mesh) (e v a b p : ℕ) (one two three : List ℕ) → a ≡ next m (rev e)
-    → b ≡ prev m (rev e) → p ≡ prev m e → origin m p ≡ v → Gains one two (a / 2) → Gains two three (b / 2)
-    → GainsFarSides m e v one three
-far_gained m e v a b p one two three at_a at_b at_p there f g = record {
-  kept = λ j c. g.kept j (f.kept j c);
-  far = λ is. (
-    subst (λ (z : ℕ). Contains three (z / 2)) at_a (g.kept (a / 2) f.there),
-    subst (λ (z : ℕ). Contains three (z / 2)) at_b g.there,
-  );
-  near = λ off. absurd (off (ap (origin m) (sym at_p) ∙ there));
-}
-
--- and near sides where it is not
-pub near_gained : (m : Mesh) (e v a b : ℕ) (one two three : List ℕ) → a ≡ next m e → b ≡ prev m e
-    → origin m b ≢ v → Gains one two (a / 2) → Gains two three (b / 2) → GainsFarSides m e v one three
-near_gained m e v a b one two three at_a at_b off f g = record {
-  kept = λ j c. g.kept j (f.kept j c);
-  far = λ is. absurd (off (ap (origin m) at_b ∙ is));
-  near = λ is_off. (
-    subst (λ (z : ℕ). Contains three (z / 2)) at_a (g.kept (a / 2) f.there),
-    subst (λ (z : ℕ). Contains three (z / 2)) at_b g.there,
-  );
-}

@@ -1,8 +1,7 @@
 -- A legalization that goes round a vertex, from one of its edges to the next.
-use Rattle.std.proofs.Common.{◌≡◌, ◌≢◌, ◌⊎◌, ℕ, suc, ◌+◌, ◌*◌, ◌/◌, ◌<◌, ◌^◌, List, [], ◌∷◌, ◌++◌}
+use Rattle.std.proofs.Common.{◌≡◌, ◌≢◌, ℕ, suc, ◌+◌, ◌*◌, ◌/◌, ◌<◌, List, [], ◌∷◌, ◌++◌}
 use Rattle.std.proofs.Common.{length, map, Option, Some, None, IsSome, IsNone, refl, sym, ap, ◌∙◌, subst, inl, inr, arith}
 use Rattle.std.specs.Prelude.{Contains}
-use Rattle.std.proofs.lemmas.Bool.{cases_eq}
 use Rattle.half_edge_mesh.specs.Contents.{Contents, IsMeshWithData}
 use Rattle.half_edge_mesh.specs.Flip.{flipped}
 use Rattle.half_edge_mesh.specs.Mesh.{Mesh, IsValidMesh, origin, next, prev, rev, out_edge}
@@ -14,20 +13,19 @@ use Rattle.plane_tiling.specs.Local.{IsMesh}
 use Rattle.plane_tiling.proofs.Totals.{Contains-head, Contains-later, Contains-none, Contains-cases}
 use Rattle.plane_edits.specs.EmptyRound.{IsEmptyRound}
 use Rattle.plane_edits.specs.Legal.{lifted_volume}
-use Rattle.plane_edits.proofs.LocalMesh.Changes.{IsOnce, once_none, once_head, once_tail, once_cons}
+use Rattle.plane_edits.proofs.LocalMesh.Changes.{once_head}
 use Rattle.mesh_embedding.specs.Drawn.{faces_of, outer_of}
-use Rattle.mesh_embedding.specs.Legal.{AreEdges, Gains, GainsRound, IsFailing, IsPartlyLegal, pair_at, pairs_at}
+use Rattle.mesh_embedding.specs.Legal.{AreEdges, Gains, IsFailing, IsPartlyLegal}
 use Rattle.mesh_embedding.proofs.MeshLegal as M
 use Rattle.mesh_embedding.proofs.MeshStays.{halved}
-use Rattle.mesh_embedding.proofs.WorkLists.{contains_last, contains_map, contains_map_from, last_or_before, once_after}
+use Rattle.mesh_embedding.proofs.WorkLists.{last_or_before, once_after}
 use Rattle.delaunay_legalization.specs.declared.sides.Sides.TheVariants.{Round}
 use Rattle.delaunay_legalization.specs.Around.{CanGoRound, CanTurn, Stays, Turns}
 use Rattle.delaunay_legalization.specs.Constraints.{constraint_pairs}
 use Rattle.delaunay_legalization.specs.Flips.{FlipsFit}
 use Rattle.delaunay_legalization.specs.Known.{point_at}
-use Rattle.delaunay_legalization.specs.Pushing.{GainsFarSides}
 use Rattle.delaunay_legalization.specs.Sides.{HasLegalized}
-use Rattle.delaunay_legalization.proofs.FarSides.{flip_keeps_empty, turned_far, with_one}
+use Rattle.delaunay_legalization.proofs.FarSides.{GainsFarSides, flip_keeps_empty, turned_far, with_one}
 use Rattle.delaunay_legalization.proofs.Legalizing.{IsUnderway, edges_gained, half_within, step_fits, step_kept}
 use Rattle.delaunay_legalization.proofs.Legalizing.{turned_by, underway_begins}
 use Rattle.delaunay_legalization.proofs.OppositeSides.{opposite_begins}
@@ -37,126 +35,7 @@ use Rattle.delaunay_legalization.proofs.Pushing.{no_edges}
 use Rattle.delaunay_legalization.proofs.Spokes.{AreLeft, ComesBetween, all_left, count_left, how_many_left, next_is_left}
 use Rattle.delaunay_legalization.proofs.Spokes.{none_behind, one_fewer, one_more_left}
 use Rattle.delaunay_legalization.proofs.Stepping.{steps_end}
-
--- ---- an edge of a list is put at its end
--- rest and k have all that the list ks has, and k but once
-record PutsLast (ks : List ℕ) (k : ℕ) (rest : List ℕ) : Type 0 where
-  pub once : IsOnce rest
-  pub off : ¬ Contains rest k
-  pub from : (j : ℕ) → Contains rest j → Contains ks j
-  pub kept : (j : ℕ) → Contains ks j → Contains (rest ++ k ∷ []) j
-
-put_last : (ks : List ℕ) (k : ℕ) → IsOnce ks → (rest : List ℕ) × PutsLast ks k rest
-put_last [] k o = (
-  [],
-  record {
-    once = once_none;
-    off = λ c. Contains-none k c;
-    from = λ j c. c;
-    kept = λ j c. absurd (Contains-none j c);
-  },
-)
-put_last (i ∷ ks) k o = go (put_last ks k (once_tail i ks o)) (cases_eq i k)
-  where
-    go : (rest : List ℕ) × PutsLast ks k rest → (i ≡ k) ⊎ (i ≢ k) → (rest : List ℕ) × PutsLast (i ∷ ks) k rest
-    go (rest, p) (inl e) = (
-      rest,
-      record {
-        once = p.once;
-        off = p.off;
-        from = λ j c. Contains-later i ks j (p.from j c);
-        kept = λ j c. elim (Contains-cases i ks j c) [
-          | inl q ↦ subst (Contains (rest ++ k ∷ [])) (sym e ∙ q) (contains_last rest k)
-          | inr d ↦ p.kept j d
-        ];
-      },
-    )
-    go (rest, p) (inr n) = (
-      i ∷ rest,
-      record {
-        once = once_cons i rest (λ c. once_head i ks o (p.from i c)) p.once;
-        off = λ c. elim (Contains-cases i rest k c) as (λ _. ⊥) [ inl q ↦ n q | inr d ↦ p.off d ];
-        from = λ j c. elim (Contains-cases i rest j c) [
-          | inl q ↦ subst (Contains (i ∷ ks)) q (Contains-head i ks)
-          | inr d ↦ Contains-later i ks j (p.from j d)
-        ];
-        kept = λ j c. elim (Contains-cases i ks j c) [
-          | inl q ↦ subst (Contains (i ∷ (rest ++ k ∷ []))) q (Contains-head i (rest ++ k ∷ []))
-          | inr d ↦ Contains-later i (rest ++ k ∷ []) j (p.kept j d)
-        ];
-      },
-    )
-
--- a list with nothing in it
-none_in : (ks : List ℕ) → ((k : ℕ) → ¬ Contains ks k) → ks ≡ []
-none_in [] n = refl
-none_in (k ∷ ks) n = absurd (n k (Contains-head k ks))
-
--- where more edges are left to test, a mesh is partly legal still
-legal_with_more : (points : List Point) (constraints : List (ℕ × ℕ)) (was m : Mesh) (ks more : List ℕ) (start flips : ℕ)
-    → AreEdges m more → ((j : ℕ) → Contains ks j → Contains more j)
-    → IsPartlyLegal points constraints was m ks start flips → IsPartlyLegal points constraints was m more start flips
-legal_with_more points constraints was m ks more start flips edges kept p = record {
-  shape = p.shape;
-  edges = edges;
-  passing = λ i j k l f g free untested. p.passing i j k l f g free (λ joined. untested (still i j joined));
-  away = p.away;
-  are_away = p.are_away;
-  count = p.count;
-  stays = p.stays;
-}
-  where
-    listed : (x : ℕ × ℕ) → Contains (pairs_at m ks) x → Contains (pairs_at m more) x
-    listed x c =
-        let y = contains_map_from (pair_at m) ks x c in
-        subst (Contains (pairs_at m more)) y.2 (contains_map (pair_at m) more y.0 (kept y.0 y.1))
-
-    still : (i j : ℕ) → Joins (pairs_at m ks) i j → Joins (pairs_at m more) i j
-    still i j (inl c) = inl (listed (i, j) c)
-    still i j (inr c) = inr (listed (j, i) c)
-
--- ---- the edges opposite a vertex
--- these edges, without their directions, lie opposite the vertex where the edges hs start
-abbrev AreOpposite : Mesh → List ℕ → List ℕ → Type 0
-AreOpposite m hs ks = (k : ℕ) → Contains ks k → (g : ℕ) × Contains hs g × (k ≡ next m g / 2)
-
--- all of them
-record HasAllOpposite (m : Mesh) (hs ks : List ℕ) : Type 0 where
-  pub edges : AreEdges m ks
-  pub only : AreOpposite m hs ks
-  pub all : (h : ℕ) → Contains hs h → Contains ks (next m h / 2)
-
-opposites : (m : Mesh) → IsValidMesh m → (hs : List ℕ) → ((h : ℕ) → Contains hs h → h < length m.half_edges)
-    → (ks : List ℕ) × HasAllOpposite m hs ks
-opposites m s [] within = (
-  [],
-  record {
-    edges = no_edges m;
-    only = λ k c. absurd (Contains-none k c);
-    all = λ h c. absurd (Contains-none h c);
-  },
-)
-opposites m s (h ∷ hs) within = go (opposites m s hs (λ g c. within g (Contains-later h hs g c)))
-  where
-    go : (ks : List ℕ) × HasAllOpposite m hs ks → (more : List ℕ) × HasAllOpposite m (h ∷ hs) more
-    go (ks, p) = gain (with_one ks (next m h / 2))
-      where
-        gain : (more : List ℕ) × Gains ks more (next m h / 2) → (more : List ℕ) × HasAllOpposite m (h ∷ hs) more
-        gain (more, g) = (
-          more,
-          record {
-            edges = edges_gained m ks more (next m h) (length m.half_edges) refl
-                (s.sound.edges h (within h (Contains-head h hs))).next_in p.edges g;
-            only = λ k c. elim (g.only k c) [
-              | inl e ↦ (h, Contains-head h hs, e)
-              | inr d ↦ let y = p.only k d in (y.0, Contains-later h hs y.0 y.1, y.2)
-            ];
-            all = λ i c. elim (Contains-cases h hs i c) [
-              | inl e ↦ subst (λ z. Contains more (next m z / 2)) e g.there
-              | inr d ↦ g.kept (next m i / 2) (p.all i d)
-            ];
-          },
-        )
+use Rattle.delaunay_legalization.proofs.RoundLists.{AreOpposite, PutsLast, legal_with_more, none_in, opposites, put_last}
 
 -- ---- from edge to edge
 -- from edge h on the edges opposite vertex v are left to test, until its edge first comes again

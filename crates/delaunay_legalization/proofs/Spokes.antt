@@ -1,5 +1,5 @@
 -- Edges of a vertex that follow one another against the clock, until a first one comes again.
-use Rattle.std.proofs.Common.{◌≡◌, ◌≢◌, ◌⊎◌, ℕ, zero, suc, ◌+◌, ◌<◌, ◌≤◌, ◌==◌, true, false, if◌then◌else◌}
+use Rattle.std.proofs.Common.{◌≡◌, ◌≢◌, ◌⊎◌, ℕ, zero, suc, ◌+◌, ◌<◌, ◌≤◌, ◌==◌, true, false}
 use Rattle.std.proofs.Common.{List, [], ◌∷◌, length, map, Some, refl, sym, ap, ◌∙◌, subst, inl, inr, arith}
 use Rattle.std.specs.Prelude.{Contains}
 use Rattle.std.specs.List.{range_with_len}
@@ -10,7 +10,7 @@ use Rattle.half_edge_mesh.specs.Peel.{turn, spoke}
 use Rattle.half_edge_mesh.specs.Round.{IsRound}
 use Rattle.half_edge_mesh.specs.Rounds.{walk}
 use Rattle.half_edge_links.proofs.Lists.OneOrbit.{edges_go_round}
-use Rattle.plane_tiling.proofs.Totals.{Contains-head, Contains-later, Contains-none, Contains-cases}
+use Rattle.plane_tiling.proofs.Totals.{Contains-head, Contains-later, Contains-cases}
 use Rattle.plane_edits.proofs.LocalMesh.Changes.{IsOnce, once_head, once_tail, once_cons}
 use Rattle.mesh_embedding.proofs.Entries.{index_listed}
 use Rattle.mesh_embedding.proofs.WorkLists.{contains_map, contains_map_from, at_most_so_many}

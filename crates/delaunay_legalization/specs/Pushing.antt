@@ -1,7 +1,7 @@
 -- Work lists of undirected edges, and what is put into them.
-use Rattle.std.specs.Prelude.{ℕ, ◌*◌, ◌/◌, ◌<◌, ◌≤◌, ◌≡◌, ◌≢◌, List, length, Contains}
+use Rattle.std.specs.Prelude.{ℕ, ◌*◌, ◌/◌, ◌<◌, ◌≤◌, List, length, Contains}
 use Rattle.half_edge_mesh.specs.Contents.{Contents}
-use Rattle.half_edge_mesh.specs.Mesh.{Mesh, origin, next, prev, rev}
+use Rattle.half_edge_mesh.specs.Mesh.{Mesh, next, prev, rev}
 use Rattle.mesh_embedding.specs.Legal.{AreEdges}
 
 -- a list of edges of a mesh has room for each of them, and directed edge e is in the mesh
@@ -13,12 +13,6 @@ pub record CanGain {V D U F : Type 0} (c : Contents V D U F) (e : ℕ) (ks : Lis
 -- the entries of old are there
 abbrev pub Keeps : List ℕ → List ℕ → Type 0
 Keeps old new = (j : ℕ) → Contains old j → Contains new j
-
--- the entries of old, and the two sides beyond edge e from vertex v, which is opposite e on its left or on its right
-pub record GainsFarSides (m : Mesh) (e v : ℕ) (old new : List ℕ) : Type 0 where
-  pub kept : Keeps old new
-  pub far : origin m (prev m e) ≡ v → Contains new (next m (rev e) / 2) × Contains new (prev m (rev e) / 2)
-  pub near : origin m (prev m e) ≢ v → Contains new (next m e / 2) × Contains new (prev m e / 2)
 
 -- the entries of old, and the edge of directed edge h where its first direction is among hs
 pub record GainsAmong (hs : List ℕ) (h : ℕ) (old new : List ℕ) : Type 0 where

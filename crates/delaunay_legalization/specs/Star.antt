@@ -30,7 +30,3 @@ pub record HasSidesAt (m : Mesh) (h : ℕ) (ks : List ℕ) : Type 0 where
 -- so for each edge that starts at vertex v: the edges of v, and those of the faces at v that lie opposite it
 abbrev pub HasStar : Mesh → ℕ → List ℕ → Type 0
 HasStar m v ks = (h : ℕ) → h < length m.half_edges → origin m h ≡ v → HasSidesAt m h ks
-
--- the edges opposite vertex v, in the loops of the edges that start there, are among ks
-abbrev pub HasOpposite : Mesh → ℕ → List ℕ → Type 0
-HasOpposite m v ks = (h : ℕ) → h < length m.half_edges → origin m h ≡ v → Contains ks (next m h / 2)

@@ -1,4 +1,4 @@
-use Rattle.std.proofs.Common.{◌≡◌, ◌*◌, ◌/◌, ◌<◌, ℕ, length, map, refl, sym, ap, ◌∙◌, subst}
+use Rattle.std.proofs.Common.{◌*◌, ◌/◌, ◌<◌, ℕ, length, map, refl, sym, ap, ◌∙◌, subst}
 use Rattle.half_edge_mesh.specs.Flip.{flipped}
 use Rattle.half_edge_mesh.specs.Mesh.{next}
 use Rattle.mesh_embedding.specs.Legal.{IsFailing}
