@@ -3,33 +3,43 @@
 
 use exact_tests::ExactTests;
 use spade_delaunay::{
-    ConstrainedDelaunayTriangulation, DelaunayTriangulation, LineIntersectionIterator, Point2,
-    Triangulation,
+    ConstrainedDelaunayTriangulation, DelaunayTriangulation, InsertionError,
+    LineIntersectionIterator, Point2, Triangulation,
 };
 
-pub fn run(rt: &HostRuntime) -> anyhow::Result<()> {
-    let mut hill: DelaunayTriangulation<Point2<i64>> = DelaunayTriangulation::new(rt.alloc());
-    let mut fenced: ConstrainedDelaunayTriangulation<Point2<i64>> =
-        ConstrainedDelaunayTriangulation::new(rt.alloc());
+fn survey(hill: &mut impl Triangulation<Vertex = Point2<i64>>) -> Result<(), InsertionError> {
     for (x, y) in [(0, 0), (120, 35), (-80, 140), (-150, -60)] {
         hill.insert(Point2::new(x, y), &ExactTests)?;
-        fenced.insert(Point2::new(x, y), &ExactTests)?;
     }
-    println!(rt;
-        "{} edges, {} faces",
-        hill.num_undirected_edges(),
-        hill.num_inner_faces()
-    )?;
-    let camp = Point2::new(70, 110);
-    if let Some(nearest) = hill.nearest_neighbor(camp, &ExactTests) {
+    Ok(())
+}
+
+fn tell_nearest(rt: &HostRuntime) -> anyhow::Result<()> {
+    let mut hill: DelaunayTriangulation<Point2<i64>> = DelaunayTriangulation::new(rt.alloc());
+    survey(&mut hill)?;
+    println!(rt; "{} edges", hill.num_undirected_edges())?;
+    if let Some(nearest) = hill.nearest_neighbor(Point2::new(70, 110), &ExactTests) {
         println!(rt; "nearest to the camp: vertex {}", nearest.fix().index())?;
     }
-    fenced.add_constraint_edge(Point2::new(0, 0), Point2::new(-80, 140), &ExactTests)?;
-    for met in LineIntersectionIterator::new(&fenced, Point2::new(-100, 20), camp, &ExactTests) {
+    Ok(())
+}
+
+fn tell_path(rt: &HostRuntime) -> anyhow::Result<()> {
+    let mut hill: ConstrainedDelaunayTriangulation<Point2<i64>> =
+        ConstrainedDelaunayTriangulation::new(rt.alloc());
+    survey(&mut hill)?;
+    hill.add_constraint_edge(Point2::new(0, 0), Point2::new(-80, 140), &ExactTests)?;
+    let (from, to) = (Point2::new(-100, 20), Point2::new(70, 110));
+    for met in LineIntersectionIterator::new(&hill, from, to, &ExactTests) {
         if let Some(edge) = met.as_edge_intersection() {
             let fence = edge.as_undirected().data().is_constraint_edge();
             println!(rt; "the path crosses an edge, fence: {fence}")?;
         }
     }
     Ok(())
+}
+
+pub fn run(rt: &HostRuntime) -> anyhow::Result<()> {
+    tell_nearest(rt)?;
+    tell_path(rt)
 }
