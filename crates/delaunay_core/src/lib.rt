@@ -1,5 +1,5 @@
-//! Points, the side's answer, the range of coordinates, and the trait of the tests that a caller
-//! hands in.
+//! Points and their projection onto a line, the side's answer, the range of coordinates, the trait
+//! of the tests that a caller hands in, and that of the generators of hints.
 #![tactic(auto)]
 
 mod hint_generator;

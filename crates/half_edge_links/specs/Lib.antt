@@ -1,3 +1,4 @@
+pub mod EdgeList
 pub mod Mesh
 pub mod Room
 pub mod Flip

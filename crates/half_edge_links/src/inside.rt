@@ -1,6 +1,5 @@
 //! Changes inside the outer loop: an edge is turned, a vertex is put into a face or on an edge.
 ghost use Rattle.std.specs.Prelude.{◌≡◌, ◌≢◌, ◌+◌, ◌-◌, ◌<◌, ◌≤◌, length, Some};
-ghost use Rattle.std.specs.Prelude.{vec_capacity};
 ghost use Rattle.half_edge_links.specs.Mesh.{origin, prev, rev, IsInnerEdge, IsAlone};
 ghost use Rattle.half_edge_links.specs.Mesh.{edge_at, AreSoundLinks};
 ghost use Rattle.half_edge_links.specs.Flip.{IsFlippable, flipped, turn_by};
@@ -9,8 +8,9 @@ ghost use Rattle.half_edge_links.specs.Inside.{FlipsEdge, InsertsBeside, SplitsI
 ghost use Rattle.half_edge_links.specs.Remove.{IsLinkedWithin};
 ghost use Rattle.half_edge_links.specs.Room.{HasEdgeRoom, HasFaceRoom};
 
+use crate::edge_list::EdgeList;
 use crate::links::Links;
-use crate::records::{HalfEdge, read, reversed};
+use crate::records::{HalfEdge, reversed};
 use crate::room::MAX_ELEMENTS;
 
 // The directed edge from vertex `origin`, before edge `next` and after edge `prev` round `face`.
@@ -26,48 +26,48 @@ fn linked(origin: u32, next: u32, prev: u32, face: u32) -> HalfEdge
 }
 
 // Turns edge `e`, with other side `t`, in the list: the six edges round it get new links.
-fn turn_edges(half_edges: &mut Vec<HalfEdge>, e: u32, t: u32)
+fn turn_edges(half_edges: &mut EdgeList, e: u32, t: u32)
     requires edge { IsLinkedWithin half_edges.old.items e }
     requires twin { IsLinkedWithin half_edges.old.items t }
     ensures items { let hs = half_edges.old.items in let edge = edge_at hs e in
         let twin = edge_at hs t in
         half_edges.new.items ≡ turn_by hs e t edge twin (edge_at hs edge.next)
         (edge_at hs edge.prev) (edge_at hs twin.next) (edge_at hs twin.prev) }
-    ensures capacity { vec_capacity half_edges.new ≡ vec_capacity half_edges.old }
+    ensures capacity { half_edges.new.capacity ≡ half_edges.old.capacity }
 {
-    let edge = half_edges[e as usize];
-    let twin = half_edges[t as usize];
-    let edge_next = half_edges[edge.next as usize];
-    let edge_prev = half_edges[edge.prev as usize];
-    let twin_next = half_edges[twin.next as usize];
-    let twin_prev = half_edges[twin.prev as usize];
-    half_edges[e as usize] = linked(edge_prev.origin, twin.prev, edge.next, edge.face);
-    half_edges[t as usize] = linked(twin_prev.origin, edge.prev, twin.next, twin.face);
-    half_edges[edge.next as usize] = linked(edge_next.origin, e, twin.prev, edge.face);
-    half_edges[twin.next as usize] = linked(twin_next.origin, t, edge.prev, twin.face);
-    half_edges[edge.prev as usize] = linked(edge_prev.origin, twin.next, t, twin.face);
-    half_edges[twin.prev as usize] = linked(twin_prev.origin, edge.next, e, edge.face);
+    let edge = half_edges.get(e);
+    let twin = half_edges.get(t);
+    let edge_next = half_edges.get(edge.next);
+    let edge_prev = half_edges.get(edge.prev);
+    let twin_next = half_edges.get(twin.next);
+    let twin_prev = half_edges.get(twin.prev);
+    half_edges.set(e, linked(edge_prev.origin, twin.prev, edge.next, edge.face));
+    half_edges.set(t, linked(twin_prev.origin, edge.prev, twin.next, twin.face));
+    half_edges.set(edge.next, linked(edge_next.origin, e, twin.prev, edge.face));
+    half_edges.set(twin.next, linked(twin_next.origin, t, edge.prev, twin.face));
+    half_edges.set(edge.prev, linked(edge_prev.origin, twin.next, t, twin.face));
+    half_edges.set(twin.prev, linked(twin_prev.origin, edge.next, e, edge.face));
 }
 
 // Puts vertex `v` into the loop of `edge`, with three edges to it and back. The part of `edge`
 // keeps its face, and the two others become faces `g + 1` and `g + 2`.
-fn fan_edges(half_edges: &mut Vec<HalfEdge>, v: u32, edge: u32, g: u32)
+fn fan_edges(half_edges: &mut EdgeList, v: u32, edge: u32, g: u32)
     requires within { IsLinkedWithin half_edges.old.items edge }
-    requires room { length half_edges.old.items + 6 ≤ vec_capacity half_edges.old }
+    requires room { length half_edges.old.items + 6 ≤ half_edges.old.capacity }
     requires small { length half_edges.old.items + 6 ≤ MAX_ELEMENTS }
     requires few { g + 2 ≤ MAX_ELEMENTS }
     ensures items { let hs = half_edges.old.items in let first = edge_at hs edge in
         half_edges.new.items ≡ fan_by hs v first.face (length hs) g edge first
         (edge_at hs first.next) (edge_at hs first.prev) }
-    ensures capacity { vec_capacity half_edges.new ≡ vec_capacity half_edges.old }
+    ensures capacity { half_edges.new.capacity ≡ half_edges.old.capacity }
 {
     let n = half_edges.len() as u32;
-    let first = half_edges[edge as usize];
-    let second = half_edges[first.next as usize];
-    let third = half_edges[first.prev as usize];
-    half_edges[edge as usize] = linked(first.origin, n + 2, n + 1, first.face);
-    half_edges[first.next as usize] = linked(second.origin, n + 4, n + 3, g + 1);
-    half_edges[first.prev as usize] = linked(third.origin, n, n + 5, g + 2);
+    let first = half_edges.get(edge);
+    let second = half_edges.get(first.next);
+    let third = half_edges.get(first.prev);
+    half_edges.set(edge, linked(first.origin, n + 2, n + 1, first.face));
+    half_edges.set(first.next, linked(second.origin, n + 4, n + 3, g + 1));
+    half_edges.set(first.prev, linked(third.origin, n, n + 5, g + 2));
     half_edges.push_reserved(linked(first.origin, n + 5, first.prev, g + 2));
     half_edges.push_reserved(linked(v, edge, n + 2, first.face));
     half_edges.push_reserved(linked(second.origin, n + 1, edge, first.face));
@@ -88,8 +88,8 @@ impl Links {
         ensures flips { FlipsEdge self.old.mesh self.new.mesh e }
     {
         let t = reversed(e);
-        let edge = read(&self.half_edges, e);
-        let twin = read(&self.half_edges, t);
+        let edge = self.half_edges.get(e);
+        let twin = self.half_edges.get(t);
         turn_edges(&mut self.half_edges, e, t);
         self.out_edges[edge.origin as usize] = Some(twin.next);
         self.out_edges[twin.origin as usize] = Some(edge.next);
@@ -110,7 +110,7 @@ impl Links {
     {
         let n = self.half_edges.len() as u32;
         let g = self.face_edges.len() as u32;
-        let first = read(&self.half_edges, edge);
+        let first = self.half_edges.get(edge);
         fan_edges(&mut self.half_edges, v, edge, g);
         self.face_edges[first.face as usize - 1] = edge;
         self.face_edges.push_reserved(first.next);

@@ -2,6 +2,7 @@
 #![tactic(auto)]
 
 mod copies;
+mod edge_list;
 mod inside;
 mod laws;
 mod line;

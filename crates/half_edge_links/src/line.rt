@@ -9,7 +9,7 @@ ghost use Rattle.half_edge_links.specs.Grow.{line_split, IsOnLine, edge_into};
 ghost use Rattle.half_edge_links.specs.Grown.{AreConnectable, ExtendsLine, SplitsLineEdge};
 
 use crate::links::Links;
-use crate::records::{HalfEdge, read, reversed, slide_edges};
+use crate::records::{HalfEdge, reversed, slide_edges};
 
 impl Links {
     /// Makes the first edge, from `a` to `b`.
@@ -67,9 +67,9 @@ impl Links {
         ensures outline { KeepsOneOutline self.old.mesh self.new.mesh }
     {
         let t = reversed(e);
-        let k = read(&self.half_edges, e).next;
-        let there = read(&self.half_edges, k);
-        let z = read(&self.half_edges, t).prev;
+        let k = self.half_edges.get(e).next;
+        let there = self.half_edges.get(k);
+        let z = self.half_edges.get(t).prev;
         slide_edges(&mut self.half_edges, e, t, k, there.next, z);
         self.out_edges[there.origin as usize] = Some(k);
     }

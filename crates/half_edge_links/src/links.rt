@@ -3,6 +3,7 @@ ghost use Rattle.std.specs.Prelude.{◌≡◌, ◌+◌, ◌-◌, ◌<◌, ◌≤
 ghost use Rattle.half_edge_links.specs.Mesh.{edge_at, empty, IsInner, AreSoundLinks, IsValidMesh};
 ghost use Rattle.half_edge_links.specs.Mesh.{face_edge, out_edge};
 
+use crate::edge_list::EdgeList;
 use crate::records::HalfEdge;
 use crate::room::MAX_ELEMENTS;
 use std::alloc::Global;
@@ -14,7 +15,7 @@ use std::marker::Model;
 pub struct Links {
     // For each vertex, an edge that starts there.
     pub(crate) out_edges: Vec<Option<u32>>,
-    pub(crate) half_edges: Vec<HalfEdge>,
+    pub(crate) half_edges: EdgeList,
     pub(crate) outer_edge: Option<u32>,
     // For each face from face 1 on, an edge with that face on its left.
     pub(crate) face_edges: Vec<u32>,
@@ -37,7 +38,7 @@ impl Model for Links {
       };
       room = record {
         vertices = min (vec_capacity l.out_edges) MAX_ELEMENTS;
-        edges = min (vec_capacity l.half_edges) MAX_ELEMENTS;
+        edges = min l.half_edges.capacity MAX_ELEMENTS;
         faces = min (vec_capacity l.face_edges) (MAX_ELEMENTS - 1);
       };
     } };
@@ -57,7 +58,7 @@ impl Links {
     {
         Links {
             out_edges: Vec::new(alloc),
-            half_edges: Vec::new(alloc),
+            half_edges: EdgeList::new(alloc),
             outer_edge: None,
             face_edges: Vec::new(alloc),
         }
@@ -70,7 +71,7 @@ impl Links {
         ensures sound { AreSoundLinks self.now.mesh }
         ensures valid { IsValidMesh self.now.mesh }
     {
-        self.half_edges[h as usize]
+        self.half_edges.get(h)
     }
 
     pub fn half_edge_count(&self) -> usize

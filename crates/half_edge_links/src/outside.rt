@@ -8,7 +8,7 @@ ghost use Rattle.half_edge_links.specs.Grown.{HasEdgeAndFaceRoom, HangsEdge, Clo
 ghost use Rattle.half_edge_links.specs.Grown.{AddsFaceBeside, SplitsHalfEdge};
 
 use crate::links::Links;
-use crate::records::{close_edges, hang_edges, read, reversed};
+use crate::records::{close_edges, hang_edges, reversed};
 
 impl Links {
     /// Puts an edge from the end of outer edge `x` to vertex `v` into the outer loop, after `x`.
@@ -37,8 +37,8 @@ impl Links {
     {
         let n = self.half_edges.len() as u32;
         let g = self.face_edges.len() as u32 + 1;
-        let second = read(&self.half_edges, e).next;
-        let after = read(&self.half_edges, second).next;
+        let second = self.half_edges.get(e).next;
+        let after = self.half_edges.get(second).next;
         close_edges(&mut self.half_edges, e, after, g);
         self.outer_edge = Some(n + 1);
         self.face_edges.push_reserved(e);

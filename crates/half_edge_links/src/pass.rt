@@ -1,26 +1,27 @@
 //! An edge of a line that passes a vertex.
-ghost use Rattle.std.specs.Prelude.{◌≡◌, ◌<◌, length, vec_capacity};
+ghost use Rattle.std.specs.Prelude.{◌≡◌, ◌<◌, length};
 ghost use Rattle.half_edge_links.specs.Hull.{KeepsOneOutline};
 ghost use Rattle.half_edge_links.specs.Mesh.{origin, next, rev, AreSoundLinks};
 ghost use Rattle.half_edge_links.specs.Outline.{MovesEdge};
 ghost use Rattle.half_edge_links.specs.Pass.{passed_edges, passed, IsPassable, Passes};
 
+use crate::edge_list::EdgeList;
 use crate::links::Links;
-use crate::records::{HalfEdge, read, reversed, set_next, set_origin, set_prev};
+use crate::records::{HalfEdge, reversed, set_next, set_origin, set_prev};
 
 // Lets edge `e`, with other side `t`, end at the far end of the edge `l` after it, whose other side
 // is `k`; `z` is the edge before `k`.
 #[tactic(auto, unfolding(crate::specs::Pass::passed_edges))]
-fn pass_edges(half_edges: &mut Vec<HalfEdge>, e: u32, t: u32, k: u32, l: u32, z: u32)
+fn pass_edges(half_edges: &mut EdgeList, e: u32, t: u32, k: u32, l: u32, z: u32)
     requires e { e < length half_edges.old.items }
     requires t { t < length half_edges.old.items }
     requires k { k < length half_edges.old.items }
     requires l { l < length half_edges.old.items }
     requires z { z < length half_edges.old.items }
     ensures items { half_edges.new.items ≡ passed_edges half_edges.old.items e t k l z }
-    ensures capacity { vec_capacity half_edges.new ≡ vec_capacity half_edges.old }
+    ensures capacity { half_edges.new.capacity ≡ half_edges.old.capacity }
 {
-    let far = half_edges[k as usize].origin;
+    let far = half_edges.get(k).origin;
     set_next(half_edges, e, k);
     set_next(half_edges, z, t);
     set_next(half_edges, k, l);
@@ -45,10 +46,10 @@ impl Links {
         ensures outline { KeepsOneOutline self.old.mesh self.new.mesh }
     {
         let t = reversed(e);
-        let l = read(&self.half_edges, e).next;
-        let k = read(&self.half_edges, t).prev;
-        let there = read(&self.half_edges, k);
-        let passed = read(&self.half_edges, l).origin;
+        let l = self.half_edges.get(e).next;
+        let k = self.half_edges.get(t).prev;
+        let there = self.half_edges.get(k);
+        let passed = self.half_edges.get(l).origin;
         pass_edges(&mut self.half_edges, e, t, k, l, there.prev);
         self.out_edges[passed as usize] = Some(l);
     }

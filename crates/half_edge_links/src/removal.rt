@@ -9,31 +9,32 @@ ghost use Rattle.half_edge_links.specs.Move.{CanWalk, MovesOrigins, MovesNamed};
 ghost use Rattle.half_edge_links.specs.Renames.{renamed, pair_moved};
 ghost use Rattle.half_edge_links.specs.declared.room.TheConstants.{MAX_ELEMENTS};
 
-use crate::records::{HalfEdge, read, reversed, set_face, set_next, set_origin, set_prev};
+use crate::edge_list::EdgeList;
+use crate::records::{HalfEdge, reversed, set_face, set_next, set_origin, set_prev};
 
 // The three directed edges round the triangle of `h` get this face.
-pub(crate) fn set_loop_face(half_edges: &mut Vec<HalfEdge>, h: u32, face: u32)
+pub(crate) fn set_loop_face(half_edges: &mut EdgeList, h: u32, face: u32)
     requires { IsLinkedWithin half_edges.old.items h }
     ensures items { half_edges.new.items ≡ with_loop_face half_edges.old.items h face }
     ensures len { length half_edges.new.items ≡ length half_edges.old.items }
-    ensures capacity { vec_capacity half_edges.new ≡ vec_capacity half_edges.old }
+    ensures capacity { half_edges.new.capacity ≡ half_edges.old.capacity }
 {
-    let edge = read(half_edges, h);
+    let edge = half_edges.get(h);
     set_face(half_edges, h, face);
     set_face(half_edges, edge.next, face);
     set_face(half_edges, edge.prev, face);
 }
 
 // Takes edge `e`, with other side `t`, out of its loops. Each side is left as a loop of its own.
-pub(crate) fn unlink(half_edges: &mut Vec<HalfEdge>, e: u32, t: u32)
+pub(crate) fn unlink(half_edges: &mut EdgeList, e: u32, t: u32)
     requires edge { IsLinkedWithin half_edges.old.items e }
     requires twin { IsLinkedWithin half_edges.old.items t }
     ensures items { half_edges.new.items ≡ with_unlinked half_edges.old.items e t }
     ensures len { length half_edges.new.items ≡ length half_edges.old.items }
-    ensures capacity { vec_capacity half_edges.new ≡ vec_capacity half_edges.old }
+    ensures capacity { half_edges.new.capacity ≡ half_edges.old.capacity }
 {
-    let edge = read(half_edges, e);
-    let twin = read(half_edges, t);
+    let edge = half_edges.get(e);
+    let twin = half_edges.get(t);
     set_next(half_edges, edge.prev, twin.next);
     set_prev(half_edges, twin.next, edge.prev);
     set_next(half_edges, twin.prev, edge.next);
@@ -45,7 +46,7 @@ pub(crate) fn unlink(half_edges: &mut Vec<HalfEdge>, e: u32, t: u32)
 }
 
 // The last two directed edges, from `last` on, take the place of `hole` and the one after it.
-pub(crate) fn fill(half_edges: &mut Vec<HalfEdge>, last: u32, hole: u32)
+pub(crate) fn fill(half_edges: &mut EdgeList, last: u32, hole: u32)
     requires last { length half_edges.old.items ≡ last + 2 }
     requires hole { hole + 1 < length half_edges.old.items }
     requires small { length half_edges.old.items ≤ MAX_ELEMENTS }
@@ -53,16 +54,16 @@ pub(crate) fn fill(half_edges: &mut Vec<HalfEdge>, last: u32, hole: u32)
     requires odd { IsLinkedWithin half_edges.old.items (last + 1) }
     requires apart { hole ≢ last + 1 }
     ensures items { half_edges.new.items ≡ with_filled half_edges.old.items last hole }
-    ensures capacity { vec_capacity half_edges.new ≡ vec_capacity half_edges.old }
+    ensures capacity { half_edges.new.capacity ≡ half_edges.old.capacity }
 {
-    let even = read(half_edges, last);
-    let odd = read(half_edges, last + 1);
+    let even = half_edges.get(last);
+    let odd = half_edges.get(last + 1);
     set_next(half_edges, even.prev, hole);
     set_prev(half_edges, even.next, hole);
     set_next(half_edges, odd.prev, hole + 1);
     set_prev(half_edges, odd.next, hole + 1);
-    half_edges.swap_remove(hole as usize + 1);
-    half_edges.swap_remove(hole as usize);
+    half_edges.swap_remove(hole + 1);
+    half_edges.swap_remove(hole);
 }
 
 // The index of directed edge `h` once `from` and `from + 1` have moved to `to` and `to + 1`.
@@ -158,16 +159,16 @@ pub(crate) fn outer_after(outer: Option<u32>, e: u32, t: u32, next: u32, prev: u
 }
 
 // The edges round the origin of `first` start at vertex `v` from now on.
-pub(crate) fn move_origins(half_edges: &mut Vec<HalfEdge>, first: u32, v: u32)
+pub(crate) fn move_origins(half_edges: &mut EdgeList, first: u32, v: u32)
     requires walk { CanWalk half_edges.old.items }
     requires first { first < length half_edges.old.items }
     ensures moves { MovesOrigins half_edges.old.items half_edges.new.items first v }
-    ensures capacity { vec_capacity half_edges.new ≡ vec_capacity half_edges.old }
+    ensures capacity { half_edges.new.capacity ≡ half_edges.old.capacity }
 {
     let mut h = first;
     for _i in 0..half_edges.len() {
         set_origin(half_edges, h, v);
-        h = reversed(read(half_edges, h).prev);
+        h = reversed(half_edges.get(h).prev);
         if h == first {
             return;
         }
@@ -175,11 +176,11 @@ pub(crate) fn move_origins(half_edges: &mut Vec<HalfEdge>, first: u32, v: u32)
 }
 
 // The same, where there is a first edge.
-pub(crate) fn move_named(half_edges: &mut Vec<HalfEdge>, named: Option<u32>, v: u32)
+pub(crate) fn move_named(half_edges: &mut EdgeList, named: Option<u32>, v: u32)
     requires walk { CanWalk half_edges.old.items }
     requires first { (first : ℕ) → named ≡ Some first → first < length half_edges.old.items }
     ensures moves { MovesNamed half_edges.old.items half_edges.new.items named v }
-    ensures capacity { vec_capacity half_edges.new ≡ vec_capacity half_edges.old }
+    ensures capacity { half_edges.new.capacity ≡ half_edges.old.capacity }
 {
     if let Some(first) = named {
         move_origins(half_edges, first, v);

@@ -11,7 +11,7 @@ ghost use Rattle.half_edge_links.specs.Shrunk.{OpensFace, ClosesFace, RemovesEdg
 ghost use Rattle.half_edge_links.specs.Move.{MovesVertex};
 
 use crate::links::Links;
-use crate::records::{read, reversed};
+use crate::records::reversed;
 use crate::removal::{
     fill, move_named, out_after, outer_after, pair_moved, rename_face, rename_out, renamed,
     set_loop_face, unlink,
@@ -57,16 +57,16 @@ impl Links {
         ensures sound { AreSoundLinks self.old.mesh }
     {
         let t = reversed(e);
-        let edge = read(&self.half_edges, e);
-        let twin = read(&self.half_edges, t);
+        let edge = self.half_edges.get(e);
+        let twin = self.half_edges.get(t);
         unlink(&mut self.half_edges, e, t);
         self.out_edges[edge.origin as usize] = out_after(e, twin.next);
         self.out_edges[twin.origin as usize] = out_after(t, edge.next);
         let outer = outer_after(self.outer_edge, e, t, edge.next, edge.prev);
         let last = (self.half_edges.len() - 2) as u32;
         let hole = e - e % 2;
-        let even = read(&self.half_edges, last);
-        let odd = read(&self.half_edges, last + 1);
+        let even = self.half_edges.get(last);
+        let odd = self.half_edges.get(last + 1);
         rename_out(&mut self.out_edges, even.origin, last, hole);
         rename_out(&mut self.out_edges, odd.origin, last, hole);
         rename_face(&mut self.face_edges, even.face, last, hole);

@@ -1,4 +1,4 @@
-use Rattle.std.proofs.Common.{◌≡◌, refl, length, ap, ◌∙◌, arith}
+use Rattle.std.proofs.Common.{◌≡◌, refl, length, arith}
 use Rattle.half_edge_links.specs.contracts.links.Links.{the_view}
 use Rattle.half_edge_links.specs.Mesh.{Mesh, edge_at}
 use Rattle.half_edge_links.specs.Grow.{closed}
@@ -12,8 +12,8 @@ returns-clause-mesh c =
     let m : Mesh = (the_view c.self.inside).mesh in
     let n_is : c.len-n.result ≡ length m.half_edges = omega arith in
     let g_is : c.len.result ≡ length m.face_edges = omega arith in
-    let second : c.read-second.result ≡ edge_at m.half_edges c.args.e = c.read-second.ensures ∙ ap (λ hs. edge_at hs c.args.e) c.deref.ensures.value in
-    let after : c.read-after.result ≡ edge_at m.half_edges c.read-second.result.next = c.read-after.ensures ∙ ap (λ hs. edge_at hs c.read-second.result.next) c.deref-2.ensures.value in
+    let second : c.get-second.result ≡ edge_at m.half_edges c.args.e = c.get-second.ensures in
+    let after : c.get-after.result ≡ edge_at m.half_edges c.get-second.result.next = c.get-after.ensures in
     rw (← c.self.view_is, c.close_edges.ensures.items, c.push_reserved.ensures.items, n_is, g_is, after, second) refl
 
 pub invariant_of-self : goal.invariant_of-self

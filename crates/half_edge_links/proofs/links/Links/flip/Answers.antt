@@ -1,7 +1,8 @@
-use Rattle.std.proofs.Common.{◌≡◌, refl, ap, ◌∙◌}
+use Rattle.std.proofs.Common.{◌≡◌, refl, length}
 use Rattle.half_edge_links.specs.contracts.links.Links.{the_view}
 use Rattle.half_edge_links.specs.Mesh.{Mesh, edge_at}
 use Rattle.half_edge_links.specs.Flip.{flip_by, flipped}
+use Rattle.half_edge_links.proofs.Lists.Rev.{rev_within}
 use Rattle.half_edge_links.proofs.Faces.FlipLemmas.{flips_is}
 use Rattle.half_edge_links.proofs.Sound.Valid.{valid_as, valid_flipped}
 use Rattle.half_edge_links.proofs.Faces.FlipTriangles.{triangles_flipped}
@@ -10,12 +11,20 @@ use Rattle.half_edge_links.proofs.Sound.EndsKept.{ends_flipped_is}
 use Rattle.half_edge_links.proofs.OuterLoop.Outline.{outline_flipped}
 use Rattle.half_edge_links.proofs.links.Links.flip.Goals as goal
 
+pub turn_edges-requires-clause-twin : goal.turn_edges-requires-clause-twin
+turn_edges-requires-clause-twin c =
+    let s = c.self.invariant.sound in
+    let can = rw (← c.self.view_is) at c.requires.flippable in
+    let t_in = rev_within c.args.e (length (the_view c.self.inside).mesh.half_edges) s.even can.within in
+    let twin = s.edges _ t_in in
+    rw c.reversed-t.ensures (record { edge = t_in; next = twin.next_in; prev = twin.prev_in })
+
 pub returns-clause-mesh : goal.returns-clause-mesh
 unfolding flipped flip_by
 returns-clause-mesh c =
     let m : Mesh = (the_view c.self.inside).mesh in
-    let edge : c.read-edge.result ≡ edge_at m.half_edges c.args.e = c.read-edge.ensures ∙ ap (λ hs. edge_at hs c.args.e) c.deref.ensures.value in
-    let twin : c.read-twin.result ≡ edge_at m.half_edges c.reversed-t.result = c.read-twin.ensures ∙ ap (λ hs. edge_at hs c.reversed-t.result) c.deref-2.ensures.value in
+    let edge : c.get-edge.result ≡ edge_at m.half_edges c.args.e = c.get-edge.ensures in
+    let twin : c.get-twin.result ≡ edge_at m.half_edges c.reversed-t.result = c.get-twin.ensures in
     rw (← c.self.view_is, c.turn_edges.ensures.items, twin, edge, c.reversed-t.ensures) (refl {a = flipped m c.args.e})
 
 pub invariant_of-self : goal.invariant_of-self

@@ -1,4 +1,4 @@
-use Rattle.std.proofs.Common.{◌≡◌, refl, length, ap, ◌∙◌, arith}
+use Rattle.std.proofs.Common.{◌≡◌, refl, length, arith}
 use Rattle.half_edge_links.specs.contracts.links.Links.{the_view}
 use Rattle.half_edge_links.specs.Mesh.{Mesh, edge_at}
 use Rattle.half_edge_links.specs.Insert.{insert_by, inserted}
@@ -16,7 +16,7 @@ returns-clause-mesh c =
     let m : Mesh = (the_view c.self.inside).mesh in
     let n_is : c.len-n.result ≡ length m.half_edges = omega arith in
     let g_is : c.len-g.result ≡ length m.face_edges = omega arith in
-    let first : c.read-first.result ≡ edge_at m.half_edges c.args.edge = c.read-first.ensures ∙ ap (λ hs. edge_at hs c.args.edge) c.deref.ensures.value in
+    let first : c.get-first.result ≡ edge_at m.half_edges c.args.edge = c.get-first.ensures in
     rw (← c.self.view_is, c.push_reserved-2.ensures.items, c.push_reserved.ensures.items, c.fan_edges.ensures.items, first, n_is, g_is) (refl {a = inserted m c.args.v c.args.edge})
 
 pub invariant_of-self : goal.invariant_of-self

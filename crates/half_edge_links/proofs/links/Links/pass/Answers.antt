@@ -1,4 +1,4 @@
-use Rattle.std.proofs.Common.{◌≡◌, refl, ap, ◌∙◌}
+use Rattle.std.proofs.Common.{◌≡◌, refl}
 use Rattle.half_edge_links.specs.contracts.links.Links.{the_view}
 use Rattle.half_edge_links.specs.Mesh.{Mesh, edge_at}
 use Rattle.half_edge_links.specs.Pass.{passed}
@@ -11,10 +11,10 @@ pub returns-clause-mesh : goal.returns-clause-mesh
 unfolding passed
 returns-clause-mesh c =
     let m : Mesh = (the_view c.self.inside).mesh in
-    let l : c.read-l.result ≡ edge_at m.half_edges c.args.e = c.read-l.ensures ∙ ap (λ hs. edge_at hs c.args.e) c.deref.ensures.value in
-    let k : c.read-k.result ≡ edge_at m.half_edges c.reversed-t.result = c.read-k.ensures ∙ ap (λ hs. edge_at hs c.reversed-t.result) c.deref-2.ensures.value in
-    let there : c.read-there.result ≡ edge_at m.half_edges c.read-k.result.prev = c.read-there.ensures ∙ ap (λ hs. edge_at hs c.read-k.result.prev) c.deref-3.ensures.value in
-    let start : c.read-passed.result ≡ edge_at m.half_edges c.read-l.result.next = c.read-passed.ensures ∙ ap (λ hs. edge_at hs c.read-l.result.next) c.deref-4.ensures.value in
+    let l : c.get-l.result ≡ edge_at m.half_edges c.args.e = c.get-l.ensures in
+    let k : c.get-k.result ≡ edge_at m.half_edges c.reversed-t.result = c.get-k.ensures in
+    let there : c.get-there.result ≡ edge_at m.half_edges c.get-k.result.prev = c.get-there.ensures in
+    let start : c.get-passed.result ≡ edge_at m.half_edges c.get-l.result.next = c.get-passed.ensures in
     rw (← c.self.view_is, c.pass_edges.ensures.items, start, there, k, l, c.reversed-t.ensures) refl
 
 pub invariant_of-self : goal.invariant_of-self

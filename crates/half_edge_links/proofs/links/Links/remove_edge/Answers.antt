@@ -14,22 +14,22 @@ use Rattle.half_edge_links.proofs.links.Links.remove_edge.Goals as goal
 pub rename_out-requires-clause-vertex : goal.rename_out-requires-clause-vertex
 rename_out-requires-clause-vertex c =
     let r = last_in_range (the_view c.self.inside).mesh c.args.e c.reversed-t.result c.len.result c.unlink.new.half_edges.items c.self.invariant (rw (← c.self.view_is) at c.requires) c.reversed-t.ensures (omega arith) c.unlink.ensures.items in
-    simp length-set (rw (c.read-even.ensures, c.deref-3.ensures.value) r.0.origin_in)
+    simp length-set (rw (c.get-even.ensures) r.0.origin_in)
 
 pub rename_out-requires-2-clause-vertex : goal.rename_out-requires-2-clause-vertex
 rename_out-requires-2-clause-vertex c =
     let r = last_in_range (the_view c.self.inside).mesh c.args.e c.reversed-t.result c.len.result c.unlink.new.half_edges.items c.self.invariant (rw (← c.self.view_is) at c.requires) c.reversed-t.ensures (omega arith) c.unlink.ensures.items in
-    rw c.rename_out.ensures.len (simp length-set (rw (c.read-odd.ensures, c.deref-4.ensures.value) r.1.origin_in))
+    rw c.rename_out.ensures.len (simp length-set (rw (c.get-odd.ensures) r.1.origin_in))
 
 pub rename_face-requires-clause-face : goal.rename_face-requires-clause-face
 rename_face-requires-clause-face c =
     let r = last_in_range (the_view c.self.inside).mesh c.args.e c.reversed-t.result c.len.result c.unlink.new.half_edges.items c.self.invariant (rw (← c.self.view_is) at c.requires) c.reversed-t.ensures (omega arith) c.unlink.ensures.items in
-    rw (c.read-even.ensures, c.deref-3.ensures.value) r.0.face_in
+    rw (c.get-even.ensures) r.0.face_in
 
 pub rename_face-requires-2-clause-face : goal.rename_face-requires-2-clause-face
 rename_face-requires-2-clause-face c =
     let r = last_in_range (the_view c.self.inside).mesh c.args.e c.reversed-t.result c.len.result c.unlink.new.half_edges.items c.self.invariant (rw (← c.self.view_is) at c.requires) c.reversed-t.ensures (omega arith) c.unlink.ensures.items in
-    rw (c.rename_face.ensures.len, c.read-odd.ensures, c.deref-4.ensures.value) r.1.face_in
+    rw (c.rename_face.ensures.len, c.get-odd.ensures) r.1.face_in
 
 pub fill-requires : goal.fill-requires
 fill-requires c =

@@ -1,4 +1,4 @@
-use Rattle.std.proofs.Common.{◌≡◌, refl, ap, ◌∙◌}
+use Rattle.std.proofs.Common.{◌≡◌, refl}
 use Rattle.half_edge_links.specs.contracts.links.Links.{the_view}
 use Rattle.half_edge_links.specs.Mesh.{Mesh, edge_at}
 use Rattle.half_edge_links.specs.Grow.{slid}
@@ -12,9 +12,9 @@ pub returns-clause-mesh : goal.returns-clause-mesh
 unfolding slid
 returns-clause-mesh c =
     let m : Mesh = (the_view c.self.inside).mesh in
-    let k : c.read-k.result ≡ edge_at m.half_edges c.args.e = c.read-k.ensures ∙ ap (λ hs. edge_at hs c.args.e) c.deref.ensures.value in
-    let there : c.read-there.result ≡ edge_at m.half_edges c.read-k.result.next = c.read-there.ensures ∙ ap (λ hs. edge_at hs c.read-k.result.next) c.deref-2.ensures.value in
-    let z : c.read-z.result ≡ edge_at m.half_edges c.reversed-t.result = c.read-z.ensures ∙ ap (λ hs. edge_at hs c.reversed-t.result) c.deref-3.ensures.value in
+    let k : c.get-k.result ≡ edge_at m.half_edges c.args.e = c.get-k.ensures in
+    let there : c.get-there.result ≡ edge_at m.half_edges c.get-k.result.next = c.get-there.ensures in
+    let z : c.get-z.result ≡ edge_at m.half_edges c.reversed-t.result = c.get-z.ensures in
     rw (← c.self.view_is, c.slide_edges.ensures.items, z, there, k, c.reversed-t.ensures) refl
 
 pub invariant_of-self : goal.invariant_of-self
