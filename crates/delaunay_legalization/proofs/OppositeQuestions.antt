@@ -12,8 +12,10 @@ use Rattle.delaunay_legalization.proofs.Legalizing as L
 
 -- the positions a, c, d and b are those where the edge opposite starts and ends, of the vertex where edge h starts, and
 -- of the corner beyond
-module _ (points : List Point) (m : Mesh) (s : IsValidMesh m) (shape : IsMesh points (faces_of m) (outer_of m)) (h n : ℕ)
-    (count : n ≡ length m.half_edges) (within : h < n) (a c d b : Point) (edge twin beyond : ℕ) (is_edge : edge ≡ next m h)
+module _ (points : List Point) (m : Mesh) (s : IsValidMesh m) (shape : IsMesh points (faces_of m) (outer_of m))
+    (h n : ℕ)
+    (count : n ≡ length m.half_edges) (within : h < n) (a c d b : Point) (edge twin beyond : ℕ)
+    (is_edge : edge ≡ next m h)
     (is_twin : twin ≡ rev (next m h)) (is_beyond : beyond ≡ prev m (rev (next m h)))
     (first : a ≡ point_at points (origin m edge)) (second : c ≡ point_at points (origin m twin))
     (third : d ≡ point_at points (origin m h)) (fourth : b ≡ point_at points (origin m beyond)) where

@@ -70,7 +70,8 @@ none_in [] n = refl
 none_in (k ∷ ks) n = absurd (n k (Contains-head k ks))
 
 -- where more edges are left to test, a mesh is partly legal still
-pub legal_with_more : (points : List Point) (constraints : List (ℕ × ℕ)) (was m : Mesh) (ks more : List ℕ) (start flips : ℕ)
+pub legal_with_more : (points : List Point) (constraints : List (ℕ × ℕ)) (was m : Mesh) (ks more : List ℕ)
+    (start flips : ℕ)
     → AreEdges m more → ((j : ℕ) → Contains ks j → Contains more j)
     → IsPartlyLegal points constraints was m ks start flips → IsPartlyLegal points constraints was m more start flips
 legal_with_more points constraints was m ks more start flips edges kept p = record {

@@ -1,6 +1,7 @@
 -- A legalization that goes round a vertex, from one of its edges to the next.
 use Rattle.std.proofs.Common.{◌≡◌, ◌≢◌, ℕ, suc, ◌+◌, ◌*◌, ◌/◌, ◌<◌, List, [], ◌∷◌, ◌++◌}
-use Rattle.std.proofs.Common.{length, map, Option, Some, None, IsSome, IsNone, refl, sym, ap, ◌∙◌, subst, inl, inr, arith}
+use Rattle.std.proofs.Common.{length, map, Option, Some, None, IsSome, IsNone, refl, sym, ap, ◌∙◌}
+use Rattle.std.proofs.Common.{subst, inl, inr, arith}
 use Rattle.std.specs.Prelude.{Contains}
 use Rattle.half_edge_mesh.specs.Contents.{Contents, IsMeshWithData}
 use Rattle.half_edge_mesh.specs.Flip.{flipped}
@@ -32,10 +33,13 @@ use Rattle.delaunay_legalization.proofs.OppositeSides.{opposite_begins}
 use Rattle.delaunay_legalization.proofs.OppositeTurns.{beyond_differs, comes_between, either_in, failing_either}
 use Rattle.delaunay_legalization.proofs.OppositeTurns.{failing_twin, opposite_behind, opposite_here, opposite_others}
 use Rattle.delaunay_legalization.proofs.Pushing.{no_edges}
-use Rattle.delaunay_legalization.proofs.Spokes.{AreLeft, ComesBetween, all_left, count_left, how_many_left, next_is_left}
+use Rattle.plane.proofs.Indexes.{turned_join}
+use Rattle.delaunay_legalization.proofs.Spokes.{AreLeft, ComesBetween, all_left, count_left}
+use Rattle.delaunay_legalization.proofs.Spokes.{how_many_left, next_is_left}
 use Rattle.delaunay_legalization.proofs.Spokes.{none_behind, one_fewer, one_more_left}
 use Rattle.delaunay_legalization.proofs.Stepping.{steps_end}
-use Rattle.delaunay_legalization.proofs.RoundLists.{AreOpposite, PutsLast, legal_with_more, none_in, opposites, put_last}
+use Rattle.delaunay_legalization.proofs.RoundLists.{AreOpposite, PutsLast, legal_with_more, none_in}
+use Rattle.delaunay_legalization.proofs.RoundLists.{opposites, put_last}
 
 -- ---- from edge to edge
 -- from edge h on the edges opposite vertex v are left to test, until its edge first comes again
@@ -221,7 +225,8 @@ module _ {V D U F : Type 0} (at : V → Point) (fix : List U → List ℕ) (was 
       legal_after first begin p =
           let k_in = either_in points m s shape h h_in x in
           let k_fails = failing_either points m s shape h h_in x in
-          subst (λ (y : Mesh). IsPartlyLegal points (constraint_pairs fix m now.undirected) first y more begin flips_after)
+          subst (λ (y : Mesh). IsPartlyLegal points (constraint_pairs fix m now.undirected) first y more begin
+          flips_after)
           (sym turns.turned) (turned_far points m s shape (2 * (e / 2)) k_in k_fails v empty
           (constraint_pairs fix m now.undirected) first begin flips_after rest more far_sides more_edges
           (λ all round edges. turned_by points (constraint_pairs fix m now.undirected) first m (flipped m (2 * (e / 2)))
@@ -267,7 +272,8 @@ module _ {V D U F : Type 0} (at : V → Point) (fix : List U → List ℕ) (was 
         first_starts = between.origins first t.first_in t.first_starts;
         ks = more;
         opposite = opposite_after;
-        underway = step_kept at fix was now (rest ++ e / 2 ∷ []) 0 0 start flips with_last rest (e / 2) refl after more 0
+        underway = step_kept at fix was now (rest ++ e / 2 ∷ []) 0 0 start flips with_last rest (e / 2) refl after
+            more 0
             flips_after contents constraints legal_after refl;
         empty = subst (λ (ps : List Point). IsEmptyRound ps (faces_of after.mesh) v) same_points
             (subst (λ (y : Mesh). IsEmptyRound points (faces_of y) v) (sym turns.turned)
@@ -296,29 +302,28 @@ module _ {V D U F : Type 0} (at : V → Point) (fix : List U → List ℕ) (was 
     -- ---- it stayed
     module _ (after : Contents V D U F) (flips_after : ℕ) (contents : after ≡ record now { mesh = after.mesh })
         (stays : Stays points (constraint_pairs fix m now.undirected) m after.mesh h flips flips_after) where
-      joins_back : (i j : ℕ) → Joins (constraint_pairs fix m now.undirected) i j
-          → Joins (constraint_pairs fix m now.undirected) j i
-      joins_back i j (inl c) = inr c
-      joins_back i j (inr c) = inl c
-
-      passes_either : ¬ Joins (constraint_pairs fix m now.undirected) (origin m (2 * (e / 2))) (origin m (rev (2 * (e / 2))))
+      passes_either : ¬ Joins (constraint_pairs fix m now.undirected) (origin m (2 * (e / 2)))
+          (origin m (rev (2 * (e / 2))))
           → ¬ IsFailing points m (2 * (e / 2))
       passes_either free fails = elim (halved e) [
         | inl q ↦ stays.passes (λ joined. free (subst (λ z. Joins (constraint_pairs fix m now.undirected) (origin m z)
             (origin m (rev z))) (sym q) joined)) (subst (IsFailing points m) q fails)
         | inr q ↦ stays.passes (λ joined. free (subst (λ z. Joins (constraint_pairs fix m now.undirected) (origin m z)
             (origin m (rev z))) (sym q) (subst (λ z. Joins (constraint_pairs fix m now.undirected) (origin m (rev e))
-            (origin m z)) (sym (rev-rev e)) (joins_back (origin m e) (origin m (rev e)) joined))))
+            (origin m z)) (sym (rev-rev e))
+            (turned_join (constraint_pairs fix m now.undirected) (origin m e) (origin m (rev e)) joined))))
             (subst (IsFailing points m) (rev-rev e) (failing_twin points m s shape (rev e) (rev_within e
             (length m.half_edges) s.sound.even e_in) (subst (IsFailing points m) q fails)))
       ]
 
       without_last : IsUnderway fix (map at was.vertices) was now rest 0 0 start flips
-      without_last = step_kept at fix was now (rest ++ e / 2 ∷ []) 0 0 start flips with_last rest (e / 2) refl now rest 0
-          flips refl refl (λ first begin p. M.dropped points (constraint_pairs fix m now.undirected) first m rest (e / 2)
+      without_last = step_kept at fix was now (rest ++ e / 2 ∷ []) 0 0 start flips with_last rest (e / 2) refl now
+          rest 0 flips refl refl (λ first begin p. M.dropped points (constraint_pairs fix m now.undirected) first m
+          rest (e / 2)
           begin flips s p passes_either) refl
 
-      same_state : let a : Contents V D U F × ℕ = (now, flips) in let b : Contents V D U F × ℕ = (after, flips_after) in a ≡ b
+      same_state : let a : Contents V D U F × ℕ = (now, flips) in
+          let b : Contents V D U F × ℕ = (after, flips_after) in a ≡ b
       same_state = sym (λ i. ((contents ∙ ap (λ (y : Mesh). record now { mesh = y }) stays.same) i, stays.counted i))
 
       next_turning : turn m h ≢ first → IsTurningRound at fix was now v first (turn m h) start flips
@@ -364,7 +369,11 @@ module _ {V D U F : Type 0} (at : V → Point) (fix : List U → List ℕ) (was 
               let before = count_left m v first h (turn m h ∷ others) here in
               let behind = count_left m v first (turn m h) others (one_fewer m v first h (turn m h) others here) in
               subst (λ (y : List Point × Mesh × ℕ). tests_left y.0 y.1 first y.2 < tests_left points m first h)
-              (λ i. (ap (λ (c : Contents V D U F × ℕ). map at c.0.vertices) same_state i, sym stays.same i, sym (same_turn g is) i))
+              (λ i. (
+                ap (λ (c : Contents V D U F × ℕ). map at c.0.vertices) same_state i,
+                sym stays.same i,
+                sym (same_turn g is) i,
+              ))
               (smaller (lifted_volume points (faces_of m)) (how_many_left m first (turn m h)) (how_many_left m first h)
               (length others) behind before)
 
@@ -373,11 +382,13 @@ module _ {V D U F : Type 0} (at : V → Point) (fix : List U → List ℕ) (was 
           → HasLegalized at fix was after start flips_after
       turning_ends g is back whole = steps_end Round at fix was 0 start after rest 0 flips_after
           (record {
-            underway = subst (λ (y : Contents V D U F × ℕ). IsUnderway fix (map at was.vertices) was y.0 rest 0 0 start y.1)
+            underway = subst (λ (y : Contents V D U F × ℕ). IsUnderway fix (map at was.vertices) was y.0 rest 0 0
+                start y.1)
                 same_state without_last;
             suffice = tt;
           }) whole (none_in rest (λ j c. let y = rest_behind j c in Contains-none y.0
-          (subst (λ (xs : List ℕ). Contains xs y.0) (none_behind m v first h t.behind t.left (sym (same_turn g is) ∙ back)) y.1)))
+          (subst (λ (xs : List ℕ). Contains xs y.0)
+          (none_behind m v first h t.behind t.left (sym (same_turn g is) ∙ back)) y.1)))
 
   -- a vertex without edges leaves nothing to test
   pub none_to_turn : IsMeshWithData was → IsMesh (map at was.vertices) (faces_of was.mesh) (outer_of was.mesh)

@@ -175,7 +175,8 @@ module _ (m new : Mesh) (v first h g : ℕ) (first_starts : origin m first ≡ v
     follow = (
       c.here,
       still_follow gs h g c.behind (λ k d. c.others k (left.within k (Contains-later h gs k d))
-          (left.starts k (Contains-later h gs k d)) (λ e. once_head h gs left.once (subst (Contains gs) e d))) left.follow,
+          (left.starts k (Contains-later h gs k d)) (λ e. once_head h gs left.once (subst (Contains gs) e d)))
+          left.follow,
     );
     within = λ k d. subst (λ n. k < n) (sym c.edge_count) (within k (cases k d));
     starts = λ k d. starts k (cases k d);
