@@ -17,10 +17,14 @@ pub nearer_by_gaps : (p a b : Point) → gap (whole p) (whole a) <ℤ gap (whole
     IsNearer (whole p) (whole a) (whole b)
 nearer_by_gaps p a b h = record { nearer = less_with_ones (gap (whole p) (whole a)) (gap (whole p) (whole b)) h }
 
+-- edge h does not end nearer to a point than vertex v
+abbrev pub EndsNoNearer : List Point → Mesh → Point → ℕ → ℕ → Type 0
+EndsNoNearer points m p v h =
+    ¬ (gap (whole p) (place points (origin m (rev h))) <ℤ gap (whole p) (place points v))
+
 -- no neighbour is nearer where no edge of the vertex ends nearer
 pub no_nearer_neighbour : (points : List Point) (m : Mesh) (p : Point) (v : ℕ) → AreSoundLinks m
-    → ((h : ℕ) → h < length m.half_edges → origin m h ≡ v →
-    ¬ (gap (whole p) (place points (origin m (rev h))) <ℤ gap (whole p) (place points v)))
+    → ((h : ℕ) → h < length m.half_edges → origin m h ≡ v → EndsNoNearer points m p v h)
     → (k : ℕ) → IsEdge (drawn points m) v k → ¬ IsNearer (whole p) (vertex (drawn points m) k)
     (vertex (drawn points m) v)
 no_nearer_neighbour points m p v sound none k edge near =

@@ -37,7 +37,8 @@ fn is_nearer_than<V: HasPosition, DE, UE, F>(
     distance_2_to(dcel, vertex, point) < distance
 }
 
-// A neighbour of a vertex that is strictly nearer to a position, if there is one.
+// A neighbour of a vertex that is strictly nearer to a position, if there is one. The neighbours come
+// clockwise: the other direction of an edge tells where it ends and which edge is next.
 fn nearer_neighbor<V: HasPosition, DE, UE, F>(
     dcel: &Dcel<V, DE, UE, F>,
     from: FixedVertexHandle,
@@ -52,13 +53,18 @@ fn nearer_neighbor<V: HasPosition, DE, UE, F>(
         (λ k. (k < length dcel.now.vertices) × IsNearer p (vertex t k) (vertex t from)) }
 {
     let distance = distance_2_to(dcel, from, point);
-    for edge in dcel.vertex(from).out_edges() {
-        let neighbor = end_vertex(dcel, edge.fix());
+    let first = dcel.vertex(from).out_edge()?.fix();
+    let mut edge = first;
+    loop {
+        let neighbor = end_vertex(dcel, edge);
         if is_nearer_than(dcel, neighbor, distance, point) {
             return Some(neighbor);
         }
+        edge = dcel.directed_edge(edge).cw().fix();
+        if edge.index() == first.index() {
+            return None;
+        }
     }
-    None
 }
 
 // The vertex that is nearest to a position, by a walk from `start` to nearer neighbours until there
