@@ -1,13 +1,10 @@
 -- The parts of a mesh where a vertex went and the last one took its index.
-use Rattle.std.proofs.Common.{◌≡◌, ℕ, zero, suc, ◌-◌, ◌<◌, ◌≤◌, List, [], ◌∷◌, length, map, get_or, Some, refl, sym, ap, ◌∙◌, inl, inr, arith}
+use Rattle.std.proofs.Common.{◌≡◌, ℕ, zero, suc, ◌-◌, ◌<◌, ◌≤◌, List, [], ◌∷◌, length, map, refl, sym, ap, ◌∙◌, inl, inr, arith}
 use Rattle.std.proofs.lemmas.Bool.{cases_eq}
-use Rattle.std.proofs.lemmas.Grind.{common_steps}
-use Rattle.std.proofs.lemmas.Option.{gets}
 use Rattle.half_edge_links.specs.Mesh.{Mesh, face, rev, AreSoundLinks}
 use Rattle.half_edge_links.specs.Move.{MovesVertex}
 use Rattle.half_edge_links.specs.Renames.{moved}
 use Rattle.half_edge_links.specs.Flow.{outer_among, outline}
-use Rattle.std.specs.Prelude.{slice_get}
 use Rattle.half_edge_links.specs.Outline.{Ends, ends}
 use Rattle.half_edge_links.specs.Taken.{MovesEnds, MovesTriangles}
 use Rattle.half_edge_links.specs.Triangles.{Triangle, triangles}
@@ -40,10 +37,6 @@ module _ (m new : Mesh) (v n : ℕ) (at : n ≡ length m.out_edges) where
   -- the faces with their data are the former ones, with new indexes as corners
   pub faces_dropped : {F : Type 0} (fs : List F) → MovesTriangles m new v → full_faces_of (triangles new) fs ≡ map (renumbered_face (n - 1) v) (full_faces_of (triangles m) fs)
   faces_dropped fs moves = rw at (ap (λ ts. full_faces_of ts fs) moves ∙ faces_renumbered (length m.out_edges - 1) v (triangles m) fs)
-
--- the item that goes, as a read gives it
-pub item_is : {X : Type 0} (xs : List X) (k : ℕ) (x : X) → k < length xs → x ≡ get_or xs k x → slice_get xs k ≡ Some x
-item_is xs k x within is = grind (arith, common_steps, gets)
 
 module _ (m new : Mesh) (v : ℕ) (s : AreSoundLinks m) (c : MovesVertex m new v) where
   among_renumbered : (k : ℕ) → k ≤ length m.half_edges → outer_among new k ≡ map (renumbered_ends (length m.out_edges - 1) v) (outer_among m k)

@@ -11,7 +11,6 @@ impl<V: Clone, DE: Clone, UE: Clone, F: Clone> Clone for Dcel<V, DE, UE, F> {
     fn clone(&self) -> Result<Self, AllocError> {
         Ok(Dcel {
             links: self.links.clone()?,
-            vertices: self.vertices.clone()?,
             directed: self.directed.clone()?,
             undirected: self.undirected.clone()?,
             outer: self.outer.clone()?,

@@ -11,13 +11,12 @@ use half_edge_handles::{
 use half_edge_links::{HalfEdge, Links};
 use std::alloc::Global;
 use std::marker::Model;
-use std::mem::replace;
 
 /// A mesh with data on its vertices, directed edges, undirected edges and faces.
 #[derive(Drop)]
 pub struct Dcel<V, DE, UE, F> {
-    pub(crate) links: Links,
-    pub(crate) vertices: Vec<V>,
+    // How the parts lie to each other, and the data of the vertices.
+    pub(crate) links: Links<V>,
     pub(crate) directed: Vec<DE>,
     pub(crate) undirected: Vec<UE>,
     pub(crate) outer: F,
@@ -33,20 +32,20 @@ impl<V, DE, UE, F> Model for Dcel<V, DE, UE, F> {
 
     ghost view = { λ d. record {
       mesh = d.links.mesh;
-      vertices = d.vertices.items;
+      vertices = d.links.values;
       directed = d.directed.items;
       undirected = d.undirected.items;
       outer = d.outer;
       faces = d.faces.items;
       room = record {
-        vertices = min d.links.room.vertices (vec_capacity d.vertices);
+        vertices = d.links.room.vertices;
         edges = min d.links.room.edges
             (min (vec_capacity d.directed) (2 * vec_capacity d.undirected));
         faces = min d.links.room.faces (vec_capacity d.faces);
       };
     } };
 
-    ghost invariant = { λ d. FitsMesh d.links.mesh (length d.vertices.items)
+    ghost invariant = { λ d. FitsMesh d.links.mesh (length d.links.values)
         (length d.directed.items) (length d.undirected.items) (length d.faces.items) };
 }
 
@@ -64,7 +63,6 @@ impl<V, DE, UE, F> Dcel<V, DE, UE, F> {
     {
         Dcel {
             links: Links::new(alloc),
-            vertices: Vec::new(alloc),
             directed: Vec::new(alloc),
             undirected: Vec::new(alloc),
             outer: F::default(),
@@ -130,7 +128,7 @@ impl<V, DE, UE, F> Dcel<V, DE, UE, F> {
         requires { vertex < length self.now.vertices }
         ensures { slice_get self.now.vertices vertex ≡ Some result.now }
     {
-        &self.vertices[vertex.index() as usize]
+        self.links.vertex_data(vertex.index())
     }
 
     /// Gives a vertex new data, and gives back the old ones.
@@ -141,7 +139,7 @@ impl<V, DE, UE, F> Dcel<V, DE, UE, F> {
           vertices = slice_set self.old.vertices vertex value;
         } }
     {
-        replace(&mut self.vertices[vertex.index() as usize], value)
+        self.links.update_vertex(vertex.index(), value)
     }
 
     /// The data of a directed edge.

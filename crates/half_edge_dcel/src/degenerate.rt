@@ -19,9 +19,7 @@ impl<V, DE, UE, F> Dcel<V, DE, UE, F> {
         ensures drops { DropsVertex self.old self.new vertex result }
         ensures outline { KeepsOneOutline self.old.mesh self.new.mesh }
     {
-        let v = vertex.index();
-        self.links.swap_remove_vertex(v);
-        self.vertices.swap_remove(v as usize)
+        self.links.swap_remove_vertex(vertex.index())
     }
 
     // Lets an edge of a line pass the vertex at its end, and end where the edge after it ends. All

@@ -57,9 +57,8 @@ impl<V, DE: Default, UE: Default, F: Default> Dcel<V, DE, UE, F> {
         ensures face { face self.old.mesh (face_edge self.old.mesh triangle) ≡ triangle }
     {
         let edge = self.face_edge(triangle.index());
-        let v = self.links.push_vertex();
+        let v = self.links.push_vertex(value);
         self.links.insert_beside(v, edge);
-        self.vertices.push_reserved(value);
         push_defaults(&mut self.directed, 6);
         push_defaults(&mut self.undirected, 3);
         push_defaults(&mut self.faces, 2);
@@ -89,9 +88,8 @@ impl<V, DE: Default, UE: Default, F: Default> Dcel<V, DE, UE, F> {
             []) }
     {
         let n = self.links.half_edge_count() as u32;
-        let v = self.links.push_vertex();
+        let v = self.links.push_vertex(value);
         self.links.split_edge(v, edge.index());
-        self.vertices.push_reserved(value);
         move_two_items(
             &mut self.directed,
             edge.index() as usize,

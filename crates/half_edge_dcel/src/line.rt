@@ -23,8 +23,7 @@ impl<V, DE, UE, F> Dcel<V, DE, UE, F> {
         } }
         ensures outline { KeepsOneOutline self.old.mesh self.new.mesh }
     {
-        self.vertices.push_reserved(value);
-        FixedVertexHandle::from_index(self.links.push_vertex())
+        FixedVertexHandle::from_index(self.links.push_vertex(value))
     }
 }
 
@@ -62,9 +61,8 @@ impl<V, DE: Default, UE: Default, F> Dcel<V, DE, UE, F> {
         ensures edges { AddsEdges UE.is_default (edges self.old) (edges self.new)
             (joins end result ∷ []) }
     {
-        let v = self.links.push_vertex();
+        let v = self.links.push_vertex(value);
         self.links.extend_line(end.index(), v);
-        self.vertices.push_reserved(value);
         push_defaults(&mut self.directed, 2);
         push_defaults(&mut self.undirected, 1);
         FixedVertexHandle::from_index(v)
@@ -92,9 +90,8 @@ impl<V, DE: Default, UE: Default, F> Dcel<V, DE, UE, F> {
             (along edge (origin m edge) result.0)) (edges self.new)
             (joins (origin m (rev edge)) result.0 ∷ []) }
     {
-        let v = self.links.push_vertex();
+        let v = self.links.push_vertex(value);
         let parts = self.links.split_line(edge.index(), v);
-        self.vertices.push_reserved(value);
         push_defaults(&mut self.directed, 2);
         push_defaults(&mut self.undirected, 1);
         split_handles(v, parts)

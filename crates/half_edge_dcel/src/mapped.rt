@@ -38,7 +38,6 @@ impl<V, DE, UE, F> Dcel<V, DE, UE, F> {
         };
         Ok(Dcel {
             links: self.links,
-            vertices: self.vertices,
             directed: self.directed,
             undirected: mapped(self.undirected, empty, &change),
             outer: self.outer,

@@ -33,9 +33,8 @@ impl<V, DE: Default, UE: Default, F: Default> Dcel<V, DE, UE, F> {
             AddsEdges UE.is_default (edges self.old) (edges self.new)
             (joins (origin m (rev edge)) result ∷ joins result (origin m edge) ∷ []) }
     {
-        let v = self.links.push_vertex();
+        let v = self.links.push_vertex(value);
         self.links.add_face_beside(edge.index(), v);
-        self.vertices.push_reserved(value);
         push_defaults(&mut self.directed, 4);
         push_defaults(&mut self.undirected, 2);
         push_defaults(&mut self.faces, 1);
@@ -91,9 +90,8 @@ impl<V, DE: Default, UE: Default, F: Default> Dcel<V, DE, UE, F> {
             (along edge (origin m (prev m edge)) result.0) (joins (origin m edge) result.0)
             (joins result.0 (origin m (rev edge)) ∷ []) }
     {
-        let v = self.links.push_vertex();
+        let v = self.links.push_vertex(value);
         let parts = self.links.split_half_edge(edge.index(), v);
-        self.vertices.push_reserved(value);
         move_two_items(
             &mut self.directed,
             edge.index() as usize,

@@ -28,12 +28,10 @@ impl<V, DE, UE, F> Dcel<V, DE, UE, F> {
         ensures had_room { HasRoomFor self.old.room vertices undirected_edges faces → IsOk result }
     {
         self.links.reserve(vertices, undirected_edges, faces)?;
-        let more_vertices = vertices.saturating_sub(self.vertices.len());
         let more_edges = undirected_edges.saturating_sub(self.undirected.len());
         let more_directed = (2 * undirected_edges).saturating_sub(self.directed.len());
         let more_faces = faces.saturating_sub(self.faces.len() + 1);
-        if self.vertices.reserve(more_vertices).is_err()
-            || self.undirected.reserve(more_edges).is_err()
+        if self.undirected.reserve(more_edges).is_err()
             || self.directed.reserve(more_directed).is_err()
             || self.faces.reserve(more_faces).is_err()
         {
@@ -58,7 +56,6 @@ impl<V, DE, UE, F> Dcel<V, DE, UE, F> {
         } }
     {
         self.links.clear();
-        self.vertices.clear();
         self.directed.clear();
         self.undirected.clear();
         self.faces.clear();

@@ -1,3 +1,4 @@
+pub mod Views
 pub mod Lists
 pub mod Sound
 pub mod Faces

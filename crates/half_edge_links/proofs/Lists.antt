@@ -2,6 +2,7 @@
 pub mod Rev
 pub mod Cases
 pub mod Writes
+pub mod VertexLists
 pub mod Sums
 pub mod Orbits
 pub mod OneOrbit

@@ -1,6 +1,8 @@
 pub mod EdgeList
+pub mod VertexList
 pub mod Mesh
 pub mod Room
+pub mod Rest
 pub mod Flip
 pub mod Insert
 pub mod Triangles

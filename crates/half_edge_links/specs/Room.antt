@@ -1,5 +1,5 @@
 -- How many vertices, edges and faces fit in a mesh with no allocation.
-use Rattle.std.specs.Prelude.{ℕ, ◌+◌, ◌*◌, ◌≤◌, length}
+use Rattle.std.specs.Prelude.{ℕ, ◌+◌, ◌*◌, ◌≤◌, List, length}
 use Rattle.half_edge_links.specs.declared.room.TheConstants.{MAX_ELEMENTS}
 use Rattle.half_edge_links.specs.Mesh.{Mesh}
 
@@ -9,9 +9,10 @@ pub record Room : Type 0 where
   pub edges : ℕ
   pub faces : ℕ
 
--- a mesh and the room that it has
-pub record Held : Type 0 where
+-- a mesh, the data of its vertices, and the room that it has
+pub record Held (V : Type 0) : Type 0 where
   pub mesh : Mesh
+  pub values : List V
   pub room : Room
 
 -- so many more vertices, directed edges or faces fit with no allocation

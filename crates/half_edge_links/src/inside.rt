@@ -7,6 +7,7 @@ ghost use Rattle.half_edge_links.specs.Insert.{inserted, fan_by};
 ghost use Rattle.half_edge_links.specs.Inside.{FlipsEdge, InsertsBeside, SplitsInnerEdge};
 ghost use Rattle.half_edge_links.specs.Remove.{IsLinkedWithin};
 ghost use Rattle.half_edge_links.specs.Room.{HasEdgeRoom, HasFaceRoom};
+ghost use Rattle.half_edge_links.specs.Rest.{KeepsRest};
 
 use crate::edge_list::EdgeList;
 use crate::links::Links;
@@ -76,14 +77,14 @@ fn fan_edges(half_edges: &mut EdgeList, v: u32, edge: u32, g: u32)
     half_edges.push_reserved(linked(v, first.prev, n, g + 2));
 }
 
-impl Links {
+impl<V> Links<V> {
     /// Turns edge `e` between two inner faces so that it joins the two opposite corners.
     pub fn flip(&mut self, e: u32)
         requires flippable { IsFlippable self.old.mesh e }
         requires corners { origin self.old.mesh (prev self.old.mesh e) ≢
             origin self.old.mesh (prev self.old.mesh (rev e)) }
         ensures mesh { self.new.mesh ≡ flipped self.old.mesh e }
-        ensures room { self.new.room ≡ self.old.room }
+        ensures rest { KeepsRest self.old self.new }
         ensures sound { AreSoundLinks self.old.mesh }
         ensures flips { FlipsEdge self.old.mesh self.new.mesh e }
     {
@@ -91,8 +92,8 @@ impl Links {
         let edge = self.half_edges.get(e);
         let twin = self.half_edges.get(t);
         turn_edges(&mut self.half_edges, e, t);
-        self.out_edges[edge.origin as usize] = Some(twin.next);
-        self.out_edges[twin.origin as usize] = Some(edge.next);
+        self.vertices.set_out_edge(edge.origin, Some(twin.next));
+        self.vertices.set_out_edge(twin.origin, Some(edge.next));
         self.face_edges[edge.face as usize - 1] = e;
         self.face_edges[twin.face as usize - 1] = t;
     }
@@ -104,7 +105,7 @@ impl Links {
         requires edge_room { HasEdgeRoom self.old.mesh self.old.room 6 }
         requires face_room { HasFaceRoom self.old.mesh self.old.room 2 }
         ensures mesh { self.new.mesh ≡ inserted self.old.mesh v edge }
-        ensures room { self.new.room ≡ self.old.room }
+        ensures rest { KeepsRest self.old self.new }
         ensures sound { AreSoundLinks self.old.mesh }
         ensures inserts { InsertsBeside self.old.mesh self.new.mesh v edge }
     {
@@ -115,7 +116,7 @@ impl Links {
         self.face_edges[first.face as usize - 1] = edge;
         self.face_edges.push_reserved(first.next);
         self.face_edges.push_reserved(first.prev);
-        self.out_edges[v as usize] = Some(n + 1);
+        self.vertices.set_out_edge(v, Some(n + 1));
     }
 
     /// Splits `edge`, between two inner faces, at vertex `v`: the first half of it is the next new
@@ -126,7 +127,7 @@ impl Links {
         requires edge_room { HasEdgeRoom self.old.mesh self.old.room 6 }
         requires face_room { HasFaceRoom self.old.mesh self.old.room 2 }
         ensures mesh { self.new.mesh ≡ flipped (inserted self.old.mesh v edge) edge }
-        ensures room { self.new.room ≡ self.old.room }
+        ensures rest { KeepsRest self.old self.new }
         ensures sound { AreSoundLinks self.old.mesh }
         ensures splits { SplitsInnerEdge self.old.mesh self.new.mesh v edge }
     {

@@ -1,4 +1,4 @@
-//! How the vertices, edges and faces of a mesh lie to each other, with no data on them.
+//! How the vertices, edges and faces of a mesh lie to each other, with data on the vertices alone.
 #![tactic(auto)]
 
 mod copies;
@@ -13,6 +13,7 @@ mod records;
 mod removal;
 mod room;
 mod shrink;
+mod vertex_list;
 mod vertices;
 
 pub use laws::{edges_go_round, outline_goes_round, sides_add_up, sides_cancel};

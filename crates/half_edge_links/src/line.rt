@@ -7,17 +7,18 @@ ghost use Rattle.half_edge_links.specs.Outline.{MovesEdge};
 ghost use Rattle.half_edge_links.specs.Grow.{hung, slid, IsSlidable, Slides, IsLineEdge};
 ghost use Rattle.half_edge_links.specs.Grow.{line_split, IsOnLine, edge_into};
 ghost use Rattle.half_edge_links.specs.Grown.{AreConnectable, ExtendsLine, SplitsLineEdge};
+ghost use Rattle.half_edge_links.specs.Rest.{KeepsRest};
 
 use crate::links::Links;
 use crate::records::{HalfEdge, reversed, slide_edges};
 
-impl Links {
+impl<V> Links<V> {
     /// Makes the first edge, from `a` to `b`.
     pub fn connect(&mut self, a: u32, b: u32)
         requires vertices { AreConnectable self.old.mesh a b }
         requires room { HasEdgeRoom self.old.mesh self.old.room 2 }
         ensures mesh { self.new.mesh ≡ connected self.old.mesh a b }
-        ensures room { self.new.room ≡ self.old.room }
+        ensures rest { KeepsRest self.old self.new }
         ensures sound { AreSoundLinks self.old.mesh }
         ensures outline { HasOneOutline self.new.mesh }
     {
@@ -33,8 +34,8 @@ impl Links {
             prev: 0,
             face: 0,
         });
-        self.out_edges[a as usize] = Some(0);
-        self.out_edges[b as usize] = Some(1);
+        self.vertices.set_out_edge(a, Some(0));
+        self.vertices.set_out_edge(b, Some(1));
         self.outer_edge = Some(0);
     }
 
@@ -44,7 +45,7 @@ impl Links {
         requires alone { IsAlone self.old.mesh v }
         requires edge_room { HasEdgeRoom self.old.mesh self.old.room 2 }
         ensures mesh { self.new.mesh ≡ hung self.old.mesh (edge_into self.old.mesh u) v }
-        ensures room { self.new.room ≡ self.old.room }
+        ensures rest { KeepsRest self.old self.new }
         ensures sound { AreSoundLinks self.old.mesh }
         ensures extends { ExtendsLine self.old.mesh self.new.mesh u v }
     {
@@ -58,7 +59,7 @@ impl Links {
     pub fn slide(&mut self, e: u32)
         requires { IsSlidable self.old.mesh e }
         ensures mesh { self.new.mesh ≡ slid self.old.mesh e }
-        ensures room { self.new.room ≡ self.old.room }
+        ensures rest { KeepsRest self.old self.new }
         ensures sound { AreSoundLinks self.old.mesh }
         ensures ends { let m = self.old.mesh in
             MovesEdge m self.new.mesh e (origin m e) (origin m (next m (next m e))) }
@@ -71,7 +72,7 @@ impl Links {
         let there = self.half_edges.get(k);
         let z = self.half_edges.get(t).prev;
         slide_edges(&mut self.half_edges, e, t, k, there.next, z);
-        self.out_edges[there.origin as usize] = Some(k);
+        self.vertices.set_out_edge(there.origin, Some(k));
     }
 
     /// Splits edge `e` of a line at vertex `v`. Gives both parts, directed as `e`.
@@ -81,7 +82,7 @@ impl Links {
         requires edge_room { HasEdgeRoom self.old.mesh self.old.room 2 }
         ensures parts { let n = length self.old.mesh.half_edges in result ≡ e ∷ (n + 1) ∷ [] }
         ensures mesh { self.new.mesh ≡ line_split self.old.mesh e v }
-        ensures room { self.new.room ≡ self.old.room }
+        ensures rest { KeepsRest self.old self.new }
         ensures sound { AreSoundLinks self.old.mesh }
         ensures splits { SplitsLineEdge self.old.mesh self.new.mesh e v }
     {

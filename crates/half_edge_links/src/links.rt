@@ -1,63 +1,66 @@
 //! The vertices, edges and faces of a mesh, and reads of them.
-ghost use Rattle.std.specs.Prelude.{◌≡◌, ◌+◌, ◌-◌, ◌<◌, ◌≤◌, length, Option, None, vec_capacity};
+ghost use Rattle.std.specs.Prelude.{◌≡◌, ◌+◌, ◌-◌, ◌<◌, ◌≤◌, length, [], slice_get, Some};
 ghost use Rattle.half_edge_links.specs.Mesh.{edge_at, empty, IsInner, AreSoundLinks, IsValidMesh};
 ghost use Rattle.half_edge_links.specs.Mesh.{face_edge, out_edge};
 
 use crate::edge_list::EdgeList;
 use crate::records::HalfEdge;
 use crate::room::MAX_ELEMENTS;
+use crate::vertex_list::VertexList;
 use std::alloc::Global;
 use std::marker::Model;
 
-/// The vertices, directed edges and faces of a mesh, with no data. Directed edges `2 k` and `2 k +
-/// 1` are the two sides of edge `k`, and face 0 is the outer face.
+/// The vertices, directed edges and faces of a mesh, with data on the vertices. Directed edges
+/// `2 k` and `2 k + 1` are the two sides of edge `k`, and face 0 is the outer face.
 #[derive(Drop)]
-pub struct Links {
-    // For each vertex, an edge that starts there.
-    pub(crate) out_edges: Vec<Option<u32>>,
+pub struct Links<V> {
+    // For each vertex, an edge that starts there, and its data.
+    pub(crate) vertices: VertexList<V>,
     pub(crate) half_edges: EdgeList,
     pub(crate) outer_edge: Option<u32>,
     // For each face from face 1 on, an edge with that face on its left.
     pub(crate) face_edges: Vec<u32>,
 }
 
-impl Model for Links {
+impl<V> Model for Links<V> {
     ghost use Rattle.std.specs.Prelude.{vec_capacity, min, ◌-◌};
     ghost use Rattle.half_edge_links.specs.Mesh.{IsValidMesh};
     ghost use Rattle.half_edge_links.specs.Room.{Held};
     ghost use Rattle.half_edge_links.specs.declared.room.TheConstants.{MAX_ELEMENTS};
 
-    ghost Value = { Held };
+    ghost Value = { Held V };
 
     ghost view = { λ l. record {
       mesh = record {
-        out_edges = l.out_edges.items;
+        out_edges = l.vertices.out_edges;
         half_edges = l.half_edges.items;
         outer_edge = l.outer_edge;
         face_edges = l.face_edges.items;
       };
+      values = l.vertices.values;
       room = record {
-        vertices = min (vec_capacity l.out_edges) MAX_ELEMENTS;
+        vertices = min l.vertices.capacity MAX_ELEMENTS;
         edges = min l.half_edges.capacity MAX_ELEMENTS;
         faces = min (vec_capacity l.face_edges) (MAX_ELEMENTS - 1);
       };
     } };
 
     ghost invariant = { λ l. IsValidMesh (record {
-      out_edges = l.out_edges.items;
+      out_edges = l.vertices.out_edges;
       half_edges = l.half_edges.items;
       outer_edge = l.outer_edge;
       face_edges = l.face_edges.items;
     }) };
 }
 
-impl Links {
+impl<V> Links<V> {
     /// A mesh with no vertex, no edge and the outer face, which takes no memory.
     pub fn new(alloc: Global) -> Self
         ensures empty { result.mesh ≡ empty }
+        ensures values { result.values ≡ [] }
     {
         Links {
-            out_edges: Vec::new(alloc),
+            vertices: VertexList::new(alloc),
             half_edges: EdgeList::new(alloc),
             outer_edge: None,
             face_edges: Vec::new(alloc),
@@ -86,9 +89,10 @@ impl Links {
 
     pub fn vertex_count(&self) -> usize
         ensures value { result ≡ length self.now.mesh.out_edges }
+        ensures values { result ≡ length self.now.values }
         ensures valid { IsValidMesh self.now.mesh }
     {
-        self.out_edges.len()
+        self.vertices.len()
     }
 
     /// How many faces there are beside the outer one.
@@ -115,7 +119,15 @@ impl Links {
         ensures value { result ≡ out_edge self.now.mesh v }
         ensures valid { IsValidMesh self.now.mesh }
     {
-        self.out_edges[v as usize]
+        self.vertices.out_edge(v)
+    }
+
+    /// The data of vertex `v`.
+    pub fn vertex_data(&self, v: u32) -> &V
+        requires { v < length self.now.values }
+        ensures { slice_get self.now.values v ≡ Some result.now }
+    {
+        self.vertices.value(v)
     }
 
     /// An edge with the outer face on its left, if there is an edge.

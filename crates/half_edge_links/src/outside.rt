@@ -6,24 +6,25 @@ ghost use Rattle.half_edge_links.specs.Grow.{hung, closed, IsOuter, IsClosable};
 ghost use Rattle.half_edge_links.specs.Grow.{with_face_beside, IsHalfSplittable, half_split};
 ghost use Rattle.half_edge_links.specs.Grown.{HasEdgeAndFaceRoom, HangsEdge, ClosesCorner};
 ghost use Rattle.half_edge_links.specs.Grown.{AddsFaceBeside, SplitsHalfEdge};
+ghost use Rattle.half_edge_links.specs.Rest.{KeepsRest};
 
 use crate::links::Links;
 use crate::records::{close_edges, hang_edges, reversed};
 
-impl Links {
+impl<V> Links<V> {
     /// Puts an edge from the end of outer edge `x` to vertex `v` into the outer loop, after `x`.
     pub fn hang(&mut self, x: u32, v: u32)
         requires outer { IsOuter self.old.mesh x }
         requires alone { IsAlone self.old.mesh v }
         requires edge_room { HasEdgeRoom self.old.mesh self.old.room 2 }
         ensures mesh { self.new.mesh ≡ hung self.old.mesh x v }
-        ensures room { self.new.room ≡ self.old.room }
+        ensures rest { KeepsRest self.old self.new }
         ensures sound { AreSoundLinks self.old.mesh }
         ensures hangs { HangsEdge self.old.mesh self.new.mesh x v }
     {
         let n = self.half_edges.len() as u32;
         hang_edges(&mut self.half_edges, x, v);
-        self.out_edges[v as usize] = Some(n + 1);
+        self.vertices.set_out_edge(v, Some(n + 1));
     }
 
     /// Makes a face of outer edge `e`, the next one and a new edge.
@@ -31,7 +32,7 @@ impl Links {
         requires closable { IsClosable self.old.mesh e }
         requires room { HasEdgeAndFaceRoom self.old.mesh self.old.room 2 1 }
         ensures mesh { self.new.mesh ≡ closed self.old.mesh e }
-        ensures room { self.new.room ≡ self.old.room }
+        ensures rest { KeepsRest self.old self.new }
         ensures sound { AreSoundLinks self.old.mesh }
         ensures closes { ClosesCorner self.old.mesh self.new.mesh e }
     {
@@ -50,7 +51,7 @@ impl Links {
         requires alone { IsAlone self.old.mesh v }
         requires room { HasEdgeAndFaceRoom self.old.mesh self.old.room 4 1 }
         ensures mesh { self.new.mesh ≡ with_face_beside self.old.mesh e v }
-        ensures room { self.new.room ≡ self.old.room }
+        ensures rest { KeepsRest self.old self.new }
         ensures sound { AreSoundLinks self.old.mesh }
         ensures adds { AddsFaceBeside self.old.mesh self.new.mesh e v }
     {
@@ -66,7 +67,7 @@ impl Links {
         requires room { HasEdgeAndFaceRoom self.old.mesh self.old.room 4 1 }
         ensures parts { let n = length self.old.mesh.half_edges in result ≡ n ∷ (n + 2) ∷ [] }
         ensures mesh { self.new.mesh ≡ half_split self.old.mesh e v }
-        ensures room { self.new.room ≡ self.old.room }
+        ensures rest { KeepsRest self.old self.new }
         ensures sound { AreSoundLinks self.old.mesh }
         ensures splits { SplitsHalfEdge self.old.mesh self.new.mesh e v }
     {

@@ -4,6 +4,7 @@ ghost use Rattle.half_edge_links.specs.Hull.{KeepsOneOutline};
 ghost use Rattle.half_edge_links.specs.Mesh.{origin, next, rev, AreSoundLinks};
 ghost use Rattle.half_edge_links.specs.Outline.{MovesEdge};
 ghost use Rattle.half_edge_links.specs.Pass.{passed_edges, passed, IsPassable, Passes};
+ghost use Rattle.half_edge_links.specs.Rest.{KeepsRest};
 
 use crate::edge_list::EdgeList;
 use crate::links::Links;
@@ -31,13 +32,13 @@ fn pass_edges(half_edges: &mut EdgeList, e: u32, t: u32, k: u32, l: u32, z: u32)
     set_origin(half_edges, t, far);
 }
 
-impl Links {
+impl<V> Links<V> {
     /// Lets edge `e` of a line pass the vertex at its end, and end where the edge after it ends.
     /// The vertex is left hanging there, by the edge after `e`.
     pub fn pass(&mut self, e: u32)
         requires { IsPassable self.old.mesh e }
         ensures mesh { self.new.mesh ≡ passed self.old.mesh e }
-        ensures room { self.new.room ≡ self.old.room }
+        ensures rest { KeepsRest self.old self.new }
         ensures sound { AreSoundLinks self.old.mesh }
         ensures ends { let m = self.old.mesh in
             MovesEdge m self.new.mesh e (origin m e) (origin m (rev (next m e))) }
@@ -51,6 +52,6 @@ impl Links {
         let there = self.half_edges.get(k);
         let passed = self.half_edges.get(l).origin;
         pass_edges(&mut self.half_edges, e, t, k, l, there.prev);
-        self.out_edges[passed as usize] = Some(l);
+        self.vertices.set_out_edge(passed, Some(l));
     }
 }

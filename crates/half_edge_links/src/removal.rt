@@ -11,6 +11,7 @@ ghost use Rattle.half_edge_links.specs.declared.room.TheConstants.{MAX_ELEMENTS}
 
 use crate::edge_list::EdgeList;
 use crate::records::{HalfEdge, reversed, set_face, set_next, set_origin, set_prev};
+use crate::vertex_list::VertexList;
 
 // The three directed edges round the triangle of `h` get this face.
 pub(crate) fn set_loop_face(half_edges: &mut EdgeList, h: u32, face: u32)
@@ -94,16 +95,17 @@ pub(crate) fn renamed(from: u32, to: u32, edge: Option<u32>) -> Option<u32>
 
 // Renames the edge that vertex `v` names.
 #[tactic(auto, unfolding(crate::specs::Remove::with_out_renamed))]
-pub(crate) fn rename_out(out_edges: &mut Vec<Option<u32>>, v: u32, from: u32, to: u32)
-    requires vertex { v < length out_edges.old.items }
+pub(crate) fn rename_out<V>(vertices: &mut VertexList<V>, v: u32, from: u32, to: u32)
+    requires vertex { v < length vertices.old.out_edges }
     requires from_in { from + 1 < 4294967296 }
     requires to_in { to + 1 < 4294967296 }
-    ensures items { out_edges.new.items ≡ with_out_renamed out_edges.old.items v from to }
-    ensures len { length out_edges.new.items ≡ length out_edges.old.items }
-    ensures capacity { vec_capacity out_edges.new ≡ vec_capacity out_edges.old }
+    ensures contents { vertices.new ≡ record vertices.old {
+      out_edges = with_out_renamed vertices.old.out_edges v from to;
+    } }
+    ensures len { length vertices.new.out_edges ≡ length vertices.old.out_edges }
 {
-    let named = out_edges[v as usize];
-    out_edges[v as usize] = renamed(from, to, named);
+    let named = vertices.out_edge(v);
+    vertices.set_out_edge(v, renamed(from, to, named));
 }
 
 // Renames the edge that face `f` names, where it is not the outer face.

@@ -1,5 +1,5 @@
 //! How much room a mesh has, and asking for more.
-ghost use Rattle.std.specs.Prelude.{◌≡◌, ◌+◌, ◌*◌, ◌-◌, ◌<◌, OnOk, IsTrue, ◌↔◌, Err, IsOk};
+ghost use Rattle.std.specs.Prelude.{◌≡◌, ◌+◌, ◌*◌, ◌-◌, ◌<◌, [], OnOk, IsTrue, ◌↔◌, Err, IsOk};
 ghost use Rattle.half_edge_links.specs.Mesh.{empty};
 ghost use Rattle.half_edge_links.specs.Room.{AreFewEnough, HasRoomFor, KeepsRoom};
 
@@ -31,13 +31,16 @@ pub fn is_full(vertices: usize) -> bool
     vertices >= MAX_ELEMENTS / 6
 }
 
-impl Links {
+impl<V> Links<V> {
     /// Takes all vertices, edges and inner faces away, and keeps the room.
     pub fn clear(&mut self)
+    where
+        V: Drop,
         ensures mesh { self.new.mesh ≡ empty }
+        ensures values { self.new.values ≡ [] }
         ensures room { self.new.room ≡ self.old.room }
     {
-        self.out_edges.clear();
+        self.vertices.clear();
         self.half_edges.clear();
         self.outer_edge = None;
         self.face_edges.clear();
@@ -51,6 +54,7 @@ impl Links {
         faces: usize,
     ) -> Result<(), ReserveError>
         ensures mesh { self.new.mesh ≡ self.old.mesh }
+        ensures values { self.new.values ≡ self.old.values }
         ensures ok { OnOk result (HasRoomFor self.new.room vertices undirected_edges faces) }
         ensures kept { KeepsRoom self.old.room self.new.room }
         ensures too_many { result ≡ Err ReserveError.TooMany →
@@ -59,11 +63,11 @@ impl Links {
         ensures few_enough { ¬ AreFewEnough vertices undirected_edges faces →
             result ≡ Err ReserveError.TooMany }
     {
-        let more_vertices = vertices.saturating_sub(self.out_edges.len());
+        let more_vertices = vertices.saturating_sub(self.vertices.len());
         if !are_few_enough(vertices, undirected_edges, faces) {
             return Err(ReserveError::TooMany);
         }
-        if self.out_edges.reserve(more_vertices).is_err() {
+        if self.vertices.reserve(more_vertices).is_err() {
             return Err(ReserveError::OutOfMemory);
         }
         let more_edges = (2 * undirected_edges).saturating_sub(self.half_edges.len());

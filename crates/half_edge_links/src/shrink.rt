@@ -9,6 +9,7 @@ ghost use Rattle.half_edge_links.specs.Remove.{IsOpenTriangle, loop_closed, afte
 ghost use Rattle.half_edge_links.specs.Peel.{IsPeelable};
 ghost use Rattle.half_edge_links.specs.Shrunk.{OpensFace, ClosesFace, RemovesEdge, PeelsEdge};
 ghost use Rattle.half_edge_links.specs.Move.{MovesVertex};
+ghost use Rattle.half_edge_links.specs.Rest.{KeepsRest, TakesFromRest};
 
 use crate::links::Links;
 use crate::records::reversed;
@@ -17,14 +18,14 @@ use crate::removal::{
     set_loop_face, unlink,
 };
 
-impl Links {
+impl<V> Links<V> {
     /// Gives the loop of inner face `f` to the outer face. The last face takes its index.
     pub fn open_face(&mut self, f: u32)
         requires { IsInner self.old.mesh f }
         ensures mesh { self.new.mesh ≡ opened self.old.mesh f }
         ensures opens { OpensFace self.old.mesh self.new.mesh f }
         ensures spare { HasFaceRoom self.new.mesh self.new.room 1 }
-        ensures room { self.new.room ≡ self.old.room }
+        ensures rest { KeepsRest self.old self.new }
         ensures sound { AreSoundLinks self.old.mesh }
     {
         let last = self.face_edges[self.face_edges.len() - 1];
@@ -40,7 +41,7 @@ impl Links {
         requires room { HasFaceRoom self.old.mesh self.old.room 1 }
         ensures mesh { self.new.mesh ≡ loop_closed self.old.mesh h }
         ensures closes { ClosesFace self.old.mesh self.new.mesh h }
-        ensures room { self.new.room ≡ self.old.room }
+        ensures rest { KeepsRest self.old self.new }
         ensures sound { AreSoundLinks self.old.mesh }
     {
         let face = self.face_edges.len() as u32 + 1;
@@ -53,22 +54,24 @@ impl Links {
         requires { IsRemovable self.old.mesh e }
         ensures mesh { self.new.mesh ≡ removed self.old.mesh e }
         ensures removes { RemovesEdge self.old.mesh self.new.mesh e }
-        ensures room { self.new.room ≡ self.old.room }
+        ensures rest { KeepsRest self.old self.new }
         ensures sound { AreSoundLinks self.old.mesh }
     {
         let t = reversed(e);
         let edge = self.half_edges.get(e);
         let twin = self.half_edges.get(t);
         unlink(&mut self.half_edges, e, t);
-        self.out_edges[edge.origin as usize] = out_after(e, twin.next);
-        self.out_edges[twin.origin as usize] = out_after(t, edge.next);
+        self.vertices
+            .set_out_edge(edge.origin, out_after(e, twin.next));
+        self.vertices
+            .set_out_edge(twin.origin, out_after(t, edge.next));
         let outer = outer_after(self.outer_edge, e, t, edge.next, edge.prev);
         let last = (self.half_edges.len() - 2) as u32;
         let hole = e - e % 2;
         let even = self.half_edges.get(last);
         let odd = self.half_edges.get(last + 1);
-        rename_out(&mut self.out_edges, even.origin, last, hole);
-        rename_out(&mut self.out_edges, odd.origin, last, hole);
+        rename_out(&mut self.vertices, even.origin, last, hole);
+        rename_out(&mut self.vertices, odd.origin, last, hole);
         rename_face(&mut self.face_edges, even.face, last, hole);
         rename_face(&mut self.face_edges, odd.face, last, hole);
         self.outer_edge = renamed(last, hole, outer);
@@ -91,7 +94,7 @@ impl Links {
     pub fn peel(&mut self, h: u32) -> u32
         requires { IsPeelable self.old.mesh h }
         ensures peels { PeelsEdge self.old.mesh self.new.mesh h }
-        ensures room { self.new.room ≡ self.old.room }
+        ensures rest { KeepsRest self.old self.new }
         ensures sound { AreSoundLinks self.old.mesh }
         ensures spoke { result ≡ after_removal self.old.mesh h (rev (prev self.old.mesh h)) }
     {
@@ -102,19 +105,20 @@ impl Links {
         spoke
     }
 
-    /// Removes vertex `v`, which has no edges. The last vertex takes its index.
-    pub fn swap_remove_vertex(&mut self, v: u32)
+    /// Removes vertex `v`, which has no edges, and gives its data back. The last vertex takes its
+    /// index.
+    pub fn swap_remove_vertex(&mut self, v: u32) -> V
         requires { IsAlone self.old.mesh v }
         ensures moves { MovesVertex self.old.mesh self.new.mesh v }
         ensures triangles { MovesTriangles self.old.mesh self.new.mesh v }
         ensures ends { MovesEnds self.old.mesh self.new.mesh v }
         ensures outer { MovesOuter self.old.mesh self.new.mesh v }
-        ensures room { self.new.room ≡ self.old.room }
+        ensures rest { TakesFromRest self.old self.new v result }
         ensures sound { AreSoundLinks self.old.mesh }
         ensures outline { KeepsOneOutline self.old.mesh self.new.mesh }
     {
-        let last = self.out_edges[self.out_edges.len() - 1];
+        let last = self.vertices.out_edge(self.vertices.len() as u32 - 1);
         move_named(&mut self.half_edges, last, v);
-        self.out_edges.swap_remove(v as usize);
+        self.vertices.swap_remove(v)
     }
 }

@@ -1,22 +1,31 @@
-//! Vertices without edges.
-ghost use Rattle.std.specs.Prelude.{◌≡◌, ◌-◌, length, None};
+//! Vertices without edges, and new data of vertices.
+ghost use Rattle.std.specs.Prelude.{◌≡◌, ◌-◌, ◌<◌, ◌∷◌, ◌++◌, [], length, Some, slice_get, slice_set};
 ghost use Rattle.half_edge_links.specs.Hull.{KeepsOneOutline};
 ghost use Rattle.half_edge_links.specs.Mesh.{with_vertex};
 ghost use Rattle.half_edge_links.specs.Room.{HasVertexRoom};
 
 use crate::links::Links;
 
-impl Links {
-    /// A new last vertex without edges.
-    pub fn push_vertex(&mut self) -> u32
+impl<V> Links<V> {
+    /// A new last vertex with these data and without edges.
+    pub fn push_vertex(&mut self, value: V) -> u32
         requires { HasVertexRoom self.old.mesh self.old.room 1 }
         ensures vertex { result ≡ length self.old.mesh.out_edges }
         ensures mesh { self.new.mesh ≡ with_vertex self.old.mesh }
         ensures room { self.new.room ≡ self.old.room }
+        ensures values { self.new.values ≡ self.old.values ++ value ∷ [] }
         ensures outline { KeepsOneOutline self.old.mesh self.new.mesh }
     {
-        let v = self.out_edges.len() as u32;
-        self.out_edges.push_reserved(None);
+        let v = self.vertices.len() as u32;
+        self.vertices.push_reserved(value);
         v
+    }
+    /// Gives vertex `v` new data, and gives back the old ones.
+    pub fn update_vertex(&mut self, v: u32, value: V) -> V
+        requires { v < length self.old.values }
+        ensures former { slice_get self.old.values v ≡ Some result }
+        ensures contents { self.new ≡ record self.old { values = slice_set self.old.values v value } }
+    {
+        self.vertices.replace(v, value)
     }
 }

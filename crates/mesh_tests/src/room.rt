@@ -101,18 +101,18 @@ pub fn large_data(alloc: Global) -> [Answer; 5] {
 }
 
 /// Two vertices, and edge 0 from the first to the second. Without room for them it is empty.
-fn line(alloc: Global) -> Links {
+fn line(alloc: Global) -> Links<u8> {
     let mut links = Links::new(alloc);
     if links.reserve(2, 1, 1) == Ok(()) {
-        let a = links.push_vertex();
-        let b = links.push_vertex();
+        let a = links.push_vertex(1);
+        let b = links.push_vertex(2);
         links.connect(a, b);
     }
     links
 }
 
 /// How many vertices, half-edges and inner faces there are.
-fn link_counts(links: &Links) -> [usize; 3] {
+fn link_counts(links: &Links<u8>) -> [usize; 3] {
     [
         links.vertex_count(),
         links.half_edge_count(),
@@ -121,7 +121,7 @@ fn link_counts(links: &Links) -> [usize; 3] {
 }
 
 /// Edge 0, if there is an edge, the edge that vertex 1 names, and the outer edge.
-fn first_links(links: &Links) -> Option<(HalfEdge, Option<u32>, Option<u32>)> {
+fn first_links(links: &Links<u8>) -> Option<(HalfEdge, Option<u32>, Option<u32>)> {
     if links.half_edge_count() == 0 || links.vertex_count() < 2 {
         return None;
     }

@@ -26,7 +26,8 @@ returns-clause-links g c =
 pub returns-clause-data : goal.returns-clause-data
 returns-clause-data g c = rw (← c.self.view_is) (record {
   contents = rw (
-    c.close.ensures.room,
+    c.close.ensures.rest.room,
+    c.close.ensures.rest.values,
     c.push_defaults.ensures.capacity,
     c.push_defaults-2.ensures.capacity,
     c.push_defaults-3.ensures.capacity,

@@ -27,10 +27,10 @@ returns-clause-links g c =
 pub returns-clause-data : goal.returns-clause-data
 returns-clause-data g c = rw (← c.self.view_is) (record {
   contents = rw (
-    c.extend_line.ensures.room,
+    c.extend_line.ensures.rest.room,
     c.push_vertex-v.ensures.room,
-    c.push_reserved.ensures.items,
-    c.push_reserved.ensures.capacity,
+    c.extend_line.ensures.rest.values,
+    c.push_vertex-v.ensures.values,
     c.push_defaults.ensures.capacity,
     c.push_defaults-2.ensures.capacity,
   ) refl;

@@ -12,7 +12,7 @@ pub returns-clause-outline : goal.returns-clause-outline
 returns-clause-outline g c = rw (← c.self.view_is) c.flip.ensures.flips.outline
 
 pub returns-clause-contents : goal.returns-clause-contents
-returns-clause-contents g c = rw (← c.self.view_is, c.flip.ensures.room) refl
+returns-clause-contents g c = rw (← c.self.view_is, c.flip.ensures.rest.room, c.flip.ensures.rest.values) refl
 
 pub flip-requires-clause-flippable : goal.flip-requires-clause-flippable
 flip-requires-clause-flippable g c =

@@ -17,7 +17,7 @@ returns-clause-links g c =
 
 pub returns-clause-data : goal.returns-clause-data
 returns-clause-data g c = rw (← c.self.view_is) (record {
-  contents = rw (c.connect.ensures.room, c.push_defaults.ensures.capacity, c.push_defaults-2.ensures.capacity) refl;
+  contents = rw (c.connect.ensures.rest.room, c.connect.ensures.rest.values, c.push_defaults.ensures.capacity, c.push_defaults-2.ensures.capacity) refl;
   directed = c.push_defaults.ensures.grows;
   undirected = c.push_defaults-2.ensures.grows;
 })

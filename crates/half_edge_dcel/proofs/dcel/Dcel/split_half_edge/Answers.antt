@@ -11,7 +11,7 @@ invariant_of-self g c =
     rw (c.split_half_edge-parts.ensures.mesh, c.push_vertex-v.ensures.mesh)
     (fits_as _ _ _ _ _ _ _ _ _ (fits_flipped _ _ _ _ _ _
     (fits_closed _ _ _ _ _ _ (fits_hung _ _ _ _ _ _ _ (fits_vertex _ _ _ _ _ c.self.invariant))))
-    (ap length c.push_reserved.ensures.items ∙ length_push _ _)
+    (ap length c.split_half_edge-parts.ensures.rest.values ∙ ap length c.push_vertex-v.ensures.values ∙ length_push _ _)
     (omega (arith, length_moved_two _ _ _ _ _ _ c.move_two_items.ensures.moves))
     (omega (arith, length_moved _ _ _ _ _ c.move_item.ensures.moves))
     (length-grown _ _ _ _ c.push_defaults.ensures.grows))
@@ -38,10 +38,10 @@ returns-clause-links g c =
 pub returns-clause-data : goal.returns-clause-data
 returns-clause-data g c = rw (← c.self.view_is) (record {
   contents = rw (
-    c.split_half_edge-parts.ensures.room,
+    c.split_half_edge-parts.ensures.rest.room,
     c.push_vertex-v.ensures.room,
-    c.push_reserved.ensures.items,
-    c.push_reserved.ensures.capacity,
+    c.split_half_edge-parts.ensures.rest.values,
+    c.push_vertex-v.ensures.values,
     c.move_two_items.ensures.capacity,
     c.move_item.ensures.capacity,
     c.push_defaults.ensures.capacity,

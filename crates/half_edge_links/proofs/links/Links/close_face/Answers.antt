@@ -1,5 +1,5 @@
 use Rattle.std.proofs.Common.{◌≡◌, length, arith}
-use Rattle.half_edge_links.specs.contracts.links.Links.{the_view}
+use Rattle.half_edge_links.proofs.Views.{mesh_in}
 use Rattle.half_edge_links.specs.Mesh.{Mesh}
 use Rattle.half_edge_links.specs.Remove.{IsOpenTriangle, loop_closed}
 use Rattle.half_edge_links.proofs.Removing.CloseSound.{round, closes}
@@ -9,23 +9,23 @@ use Rattle.half_edge_links.proofs.Removing.TakenLists.{ends_loop_closed, closes_
 use Rattle.half_edge_links.proofs.links.Links.close_face.Goals as goal
 
 pub set_loop_face-requires : goal.set_loop_face-requires
-set_loop_face-requires c =
-    let can : IsOpenTriangle (the_view c.self.inside).mesh c.args.h = rw (← c.self.view_is) at c.requires.open in
-    let at = round (the_view c.self.inside).mesh c.args.h c.self.invariant.sound can in
+set_loop_face-requires g c =
+    let can : IsOpenTriangle (mesh_in c.self.inside) c.args.h = rw (← c.self.view_is) at c.requires.open in
+    let at = round (mesh_in c.self.inside) c.args.h c.self.invariant.sound can in
     record { edge = can.within; next = at.next_in; prev = at.prev_in }
 
 pub returns-clause-mesh : goal.returns-clause-mesh
 unfolding loop_closed
-returns-clause-mesh c =
-    let m : Mesh = (the_view c.self.inside).mesh in
+returns-clause-mesh g c =
+    let m : Mesh = mesh_in c.self.inside in
     let n : c.len.result ≡ length m.face_edges = omega arith in
     rw (← c.self.view_is, ← n) (cc)
 
 pub returns-clause-closes : goal.returns-clause-closes
-returns-clause-closes c =
-    let m : Mesh = (the_view c.self.inside).mesh in
+returns-clause-closes g c =
+    let m : Mesh = mesh_in c.self.inside in
     let can : IsOpenTriangle m c.args.h = rw (← c.self.view_is) at c.requires.open in
-    let links = rw (← (rw (← c.self.view_is) at (returns-clause-mesh c))) at (closes m c.args.h c.self.invariant.sound can) in
+    let links = rw (← (rw (← c.self.view_is) at (returns-clause-mesh g c))) at (closes m c.args.h c.self.invariant.sound can) in
     rw (← c.self.view_is) (record {
       links = links;
       ends = ends_loop_closed m _ c.args.h links;
@@ -34,8 +34,8 @@ returns-clause-closes c =
     })
 
 pub invariant_of-self : goal.invariant_of-self
-invariant_of-self c =
-    let m : Mesh = (the_view c.self.inside).mesh in
+invariant_of-self g c =
+    let m : Mesh = mesh_in c.self.inside in
     let can : IsOpenTriangle m c.args.h = rw (← c.self.view_is) at c.requires.open in
     let room = rw (← c.self.view_is) at c.requires.room in
-    valid_loop_closed m _ c.args.h c.self.invariant can (rw (← c.self.view_is) at (returns-clause-closes c)).links (omega (arith, room))
+    valid_loop_closed m _ c.args.h c.self.invariant can (rw (← c.self.view_is) at (returns-clause-closes g c)).links (omega (arith, room))

@@ -1,5 +1,5 @@
 use Rattle.std.proofs.Common.{◌≡◌, refl, length, arith}
-use Rattle.half_edge_links.specs.contracts.links.Links.{the_view}
+use Rattle.half_edge_links.proofs.Views.{mesh_in}
 use Rattle.half_edge_links.specs.Grow.{hung}
 use Rattle.half_edge_links.proofs.Sound.Valid.{valid_as, valid_hung}
 use Rattle.half_edge_links.proofs.Growing.Grown.{hangs_edge}
@@ -7,14 +7,14 @@ use Rattle.half_edge_links.proofs.links.Links.hang.Goals as goal
 
 pub returns-clause-mesh : goal.returns-clause-mesh
 unfolding hung
-returns-clause-mesh c =
+returns-clause-mesh g c =
     let n_is : c.len-n.result ≡ length c.self.inside.half_edges.items = omega arith in
-    rw (← c.self.view_is, c.hang_edges.ensures.items, n_is) refl
+    rw (← c.self.view_is, c.set_out_edge.ensures, c.hang_edges.ensures.items, n_is) refl
 
 pub invariant_of-self : goal.invariant_of-self
-invariant_of-self c =
-    valid_as _ _ (rw (← c.self.view_is) at (returns-clause-mesh c)) (valid_hung (the_view c.self.inside).mesh c.args.x c.args.v c.self.invariant (rw (← c.self.view_is) at c.requires.outer) (rw (← c.self.view_is) at c.requires.alone) (omega (arith, rw (← c.self.view_is) at c.requires.edge_room)))
+invariant_of-self g c =
+    valid_as _ _ (rw (← c.self.view_is) at (returns-clause-mesh g c)) (valid_hung (mesh_in c.self.inside) c.args.x c.args.v c.self.invariant (rw (← c.self.view_is) at c.requires.outer) (rw (← c.self.view_is) at c.requires.alone) (omega (arith, rw (← c.self.view_is) at c.requires.edge_room)))
 
 pub returns-clause-hangs : goal.returns-clause-hangs
-returns-clause-hangs c =
-    rw (← c.self.view_is) (hangs_edge (the_view c.self.inside).mesh _ c.args.x c.args.v c.self.invariant.sound (rw (← c.self.view_is) at c.requires.outer) (rw (← c.self.view_is) at c.requires.alone) (rw (← c.self.view_is) at (returns-clause-mesh c)))
+returns-clause-hangs g c =
+    rw (← c.self.view_is) (hangs_edge (mesh_in c.self.inside) _ c.args.x c.args.v c.self.invariant.sound (rw (← c.self.view_is) at c.requires.outer) (rw (← c.self.view_is) at c.requires.alone) (rw (← c.self.view_is) at (returns-clause-mesh g c)))

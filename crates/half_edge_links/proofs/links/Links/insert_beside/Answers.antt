@@ -1,5 +1,5 @@
 use Rattle.std.proofs.Common.{◌≡◌, refl, length, arith}
-use Rattle.half_edge_links.specs.contracts.links.Links.{the_view}
+use Rattle.half_edge_links.proofs.Views.{mesh_in}
 use Rattle.half_edge_links.specs.Mesh.{Mesh, edge_at}
 use Rattle.half_edge_links.specs.Insert.{insert_by, inserted}
 use Rattle.half_edge_links.proofs.Faces.InsertLemmas.{inserts_is}
@@ -12,24 +12,24 @@ use Rattle.half_edge_links.proofs.links.Links.insert_beside.Goals as goal
 
 pub returns-clause-mesh : goal.returns-clause-mesh
 unfolding inserted insert_by
-returns-clause-mesh c =
-    let m : Mesh = (the_view c.self.inside).mesh in
+returns-clause-mesh g c =
+    let m : Mesh = mesh_in c.self.inside in
     let n_is : c.len-n.result ≡ length m.half_edges = omega arith in
     let g_is : c.len-g.result ≡ length m.face_edges = omega arith in
     let first : c.get-first.result ≡ edge_at m.half_edges c.args.edge = c.get-first.ensures in
-    rw (← c.self.view_is, c.push_reserved-2.ensures.items, c.push_reserved.ensures.items, c.fan_edges.ensures.items, first, n_is, g_is) (refl {a = inserted m c.args.v c.args.edge})
+    rw (← c.self.view_is, c.set_out_edge.ensures, c.push_reserved-2.ensures.items, c.push_reserved.ensures.items, c.fan_edges.ensures.items, first, n_is, g_is) (refl {a = inserted m c.args.v c.args.edge})
 
 pub invariant_of-self : goal.invariant_of-self
-invariant_of-self c =
-    valid_as _ _ (rw (← c.self.view_is) at (returns-clause-mesh c)) (valid_inserted (the_view c.self.inside).mesh c.args.v c.args.edge c.self.invariant (rw (← c.self.view_is) at c.requires.inner) (rw (← c.self.view_is) at c.requires.alone) (omega (arith, rw (← c.self.view_is) at c.requires.edge_room)) (omega (arith, rw (← c.self.view_is) at c.requires.face_room)))
+invariant_of-self g c =
+    valid_as _ _ (rw (← c.self.view_is) at (returns-clause-mesh g c)) (valid_inserted (mesh_in c.self.inside) c.args.v c.args.edge c.self.invariant (rw (← c.self.view_is) at c.requires.inner) (rw (← c.self.view_is) at c.requires.alone) (omega (arith, rw (← c.self.view_is) at c.requires.edge_room)) (omega (arith, rw (← c.self.view_is) at c.requires.face_room)))
 
 pub returns-clause-inserts : goal.returns-clause-inserts
-returns-clause-inserts c =
-    let m : Mesh = (the_view c.self.inside).mesh in
+returns-clause-inserts g c =
+    let m : Mesh = mesh_in c.self.inside in
     let s = c.self.invariant.sound in
     let inner = rw (← c.self.view_is) at c.requires.inner in
     let alone = rw (← c.self.view_is) at c.requires.alone in
-    let is = rw (← c.self.view_is) at (returns-clause-mesh c) in
+    let is = rw (← c.self.view_is) at (returns-clause-mesh g c) in
     let links = inserts_is m _ c.args.v c.args.edge s inner alone is in
     rw (← c.self.view_is) (record {
       links = links;

@@ -9,13 +9,13 @@ use Rattle.half_edge_links.proofs.OuterLoop.OutlineTaken.{outline_peeled}
 use Rattle.half_edge_links.proofs.links.Links.peel.Goals as goal
 
 pub remove_edge-requires : goal.remove_edge-requires
-remove_edge-requires c =
+remove_edge-requires g c =
     let q = ap (λ (e : HalfEdge). e.face) c.half_edge-edge.ensures.value in
     let v = c.half_edge-edge.ensures.valid in
     removable _ _ (removable_opened _ _ c.args.h v.sound (hull_edge _ _ v c.requires) (rw q at c.open_face.ensures.opens.links))
 
 pub returns : goal.returns
-returns c =
+returns g c =
     let v = c.half_edge-edge.ensures.valid in
     let can = hull_edge _ _ v c.requires in
     let q = ap (λ (e : HalfEdge). e.face) c.half_edge-edge.ensures.value in
@@ -29,7 +29,7 @@ returns c =
         outer = peels_outer _ _ c.args.h v.sound can peels sound;
         outline = outline_peeled _ _ c.args.h v.sound can peels;
       };
-      room = search rules;
+      rest = record { values = search rules; room = search rules };
       sound = v.sound;
       spoke = search rules;
     }

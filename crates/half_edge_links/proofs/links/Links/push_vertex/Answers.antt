@@ -1,11 +1,11 @@
 use Rattle.std.proofs.Common.{arith}
-use Rattle.half_edge_links.specs.contracts.links.Links.{the_view}
+use Rattle.half_edge_links.proofs.Views.{mesh_in}
 use Rattle.half_edge_links.proofs.Sound.Valid.{valid_with_vertex}
 use Rattle.half_edge_links.proofs.links.Links.push_vertex.Goals as goal
 
 pub invariant_of-self : goal.invariant_of-self
-invariant_of-self c =
-    rw c.push_reserved.ensures.items (valid_with_vertex (the_view c.self.inside).mesh c.self.invariant (omega (arith, rw (← c.self.view_is) at c.requires)))
+invariant_of-self g c =
+    rw c.push_reserved.ensures (valid_with_vertex (mesh_in c.self.inside) c.self.invariant (omega (arith, rw (← c.self.view_is) at c.requires)))
 
 pub returns-clause-outline : goal.returns-clause-outline
-returns-clause-outline c = rw (← c.self.view_is) (λ one. one)
+returns-clause-outline g c = rw (← c.self.view_is) (λ one. one)

@@ -1,6 +1,6 @@
 use Rattle.std.proofs.Common.{◌≡◌, length, arith, rules}
 use Rattle.std.proofs.lemmas.List.{length-set}
-use Rattle.half_edge_links.specs.contracts.links.Links.{the_view}
+use Rattle.half_edge_links.proofs.Views.{mesh_in}
 use Rattle.half_edge_links.specs.Mesh.{Mesh}
 use Rattle.half_edge_links.specs.Remove.{unlinked, filled}
 use Rattle.half_edge_links.proofs.Removing.Conditions.{unlinkable}
@@ -12,28 +12,28 @@ use Rattle.half_edge_links.proofs.OuterLoop.OutlineTaken.{outline_removed}
 use Rattle.half_edge_links.proofs.links.Links.remove_edge.Goals as goal
 
 pub rename_out-requires-clause-vertex : goal.rename_out-requires-clause-vertex
-rename_out-requires-clause-vertex c =
-    let r = last_in_range (the_view c.self.inside).mesh c.args.e c.reversed-t.result c.len.result c.unlink.new.half_edges.items c.self.invariant (rw (← c.self.view_is) at c.requires) c.reversed-t.ensures (omega arith) c.unlink.ensures.items in
-    simp length-set (rw (c.get-even.ensures) r.0.origin_in)
+rename_out-requires-clause-vertex g c =
+    let r = last_in_range (mesh_in c.self.inside) c.args.e c.reversed-t.result c.len.result c.unlink.new.half_edges.items c.self.invariant (rw (← c.self.view_is) at c.requires) c.reversed-t.ensures (omega arith) c.unlink.ensures.items in
+    rw (c.set_out_edge-2.ensures, c.set_out_edge.ensures) (simp length-set (rw (c.get-even.ensures) r.0.origin_in))
 
 pub rename_out-requires-2-clause-vertex : goal.rename_out-requires-2-clause-vertex
-rename_out-requires-2-clause-vertex c =
-    let r = last_in_range (the_view c.self.inside).mesh c.args.e c.reversed-t.result c.len.result c.unlink.new.half_edges.items c.self.invariant (rw (← c.self.view_is) at c.requires) c.reversed-t.ensures (omega arith) c.unlink.ensures.items in
-    rw c.rename_out.ensures.len (simp length-set (rw (c.get-odd.ensures) r.1.origin_in))
+rename_out-requires-2-clause-vertex g c =
+    let r = last_in_range (mesh_in c.self.inside) c.args.e c.reversed-t.result c.len.result c.unlink.new.half_edges.items c.self.invariant (rw (← c.self.view_is) at c.requires) c.reversed-t.ensures (omega arith) c.unlink.ensures.items in
+    rw (c.rename_out.ensures.len, c.set_out_edge-2.ensures, c.set_out_edge.ensures) (simp length-set (rw (c.get-odd.ensures) r.1.origin_in))
 
 pub rename_face-requires-clause-face : goal.rename_face-requires-clause-face
-rename_face-requires-clause-face c =
-    let r = last_in_range (the_view c.self.inside).mesh c.args.e c.reversed-t.result c.len.result c.unlink.new.half_edges.items c.self.invariant (rw (← c.self.view_is) at c.requires) c.reversed-t.ensures (omega arith) c.unlink.ensures.items in
+rename_face-requires-clause-face g c =
+    let r = last_in_range (mesh_in c.self.inside) c.args.e c.reversed-t.result c.len.result c.unlink.new.half_edges.items c.self.invariant (rw (← c.self.view_is) at c.requires) c.reversed-t.ensures (omega arith) c.unlink.ensures.items in
     rw (c.get-even.ensures) r.0.face_in
 
 pub rename_face-requires-2-clause-face : goal.rename_face-requires-2-clause-face
-rename_face-requires-2-clause-face c =
-    let r = last_in_range (the_view c.self.inside).mesh c.args.e c.reversed-t.result c.len.result c.unlink.new.half_edges.items c.self.invariant (rw (← c.self.view_is) at c.requires) c.reversed-t.ensures (omega arith) c.unlink.ensures.items in
+rename_face-requires-2-clause-face g c =
+    let r = last_in_range (mesh_in c.self.inside) c.args.e c.reversed-t.result c.len.result c.unlink.new.half_edges.items c.self.invariant (rw (← c.self.view_is) at c.requires) c.reversed-t.ensures (omega arith) c.unlink.ensures.items in
     rw (c.rename_face.ensures.len, c.get-odd.ensures) r.1.face_in
 
 pub fill-requires : goal.fill-requires
-fill-requires c =
-    let r = last_in_range (the_view c.self.inside).mesh c.args.e c.reversed-t.result c.len.result c.unlink.new.half_edges.items c.self.invariant (rw (← c.self.view_is) at c.requires) c.reversed-t.ensures (omega arith) c.unlink.ensures.items in
+fill-requires g c =
+    let r = last_in_range (mesh_in c.self.inside) c.args.e c.reversed-t.result c.len.result c.unlink.new.half_edges.items c.self.invariant (rw (← c.self.view_is) at c.requires) c.reversed-t.ensures (omega arith) c.unlink.ensures.items in
     record {
       last = search rules;
       hole = search rules;
@@ -45,16 +45,16 @@ fill-requires c =
 
 pub returns-clause-mesh : goal.returns-clause-mesh
 unfolding unlinked filled
-returns-clause-mesh c =
-    let n : c.len.result ≡ length (the_view c.self.inside).mesh.half_edges = omega arith in
-    rw (← c.self.view_is, ← n) (cc)
+returns-clause-mesh g c =
+    let n : c.len.result ≡ length (mesh_in c.self.inside).half_edges = omega arith in
+    rw (← c.self.view_is, ← n, c.rename_out-2.ensures.contents, c.rename_out.ensures.contents, c.set_out_edge-2.ensures, c.set_out_edge.ensures) (cc)
 
 pub returns-clause-removes : goal.returns-clause-removes
-returns-clause-removes c =
-    let m : Mesh = (the_view c.self.inside).mesh in
+returns-clause-removes g c =
+    let m : Mesh = mesh_in c.self.inside in
     let s = c.self.invariant.sound in
     let can = unlinkable m c.args.e c.self.invariant (rw (← c.self.view_is) at c.requires) in
-    let links = rw (← (rw (← c.self.view_is) at (returns-clause-mesh c))) at (removes m c.args.e s can) in
+    let links = rw (← (rw (← c.self.view_is) at (returns-clause-mesh g c))) at (removes m c.args.e s can) in
     let sound = sound_removed _ _ c.args.e links in
     rw (← c.self.view_is) (record {
       links = links;
@@ -65,5 +65,5 @@ returns-clause-removes c =
     })
 
 pub invariant_of-self : goal.invariant_of-self
-invariant_of-self c =
-    valid_removed (the_view c.self.inside).mesh _ c.args.e c.self.invariant (rw (← c.self.view_is) at c.requires) (rw (← c.self.view_is) at (returns-clause-removes c)).links
+invariant_of-self g c =
+    valid_removed (mesh_in c.self.inside) _ c.args.e c.self.invariant (rw (← c.self.view_is) at c.requires) (rw (← c.self.view_is) at (returns-clause-removes g c)).links

@@ -2,12 +2,12 @@ use Rattle.half_edge_links.proofs.Faces.SplitLemmas.{flippable_inserted, corners
 use Rattle.half_edge_links.proofs.links.Links.split_edge.Goals as goal
 
 pub flip-requires : goal.flip-requires
-flip-requires c =
+flip-requires g c =
     let s = c.insert_beside.ensures.sound in
     rw c.insert_beside.ensures.mesh (record { flippable = flippable_inserted _ _ _ s c.requires.flippable c.requires.alone; corners = corners_inserted _ _ _ s c.requires.flippable c.requires.alone })
 
 pub returns-clause-splits : goal.returns-clause-splits
-returns-clause-splits c =
+returns-clause-splits g c =
     let s = c.insert_beside.ensures.sound in
     let inserts = c.insert_beside.ensures.inserts in
     let flips = c.flip.ensures.flips in

@@ -5,16 +5,16 @@ use Rattle.half_edge_links.proofs.Sound.EndsKept.{ends_half}
 use Rattle.half_edge_links.proofs.links.Links.split_half_edge.Goals as goal
 
 pub add_face_beside-requires-clause-outer : goal.add_face_beside-requires-clause-outer
-add_face_beside-requires-clause-outer c = rw c.reversed.ensures (twin_outer _ _ c.half_edge_count-n.ensures.sound c.requires.half)
+add_face_beside-requires-clause-outer g c = rw c.reversed.ensures (twin_outer _ _ c.half_edge_count-n.ensures.sound c.requires.half)
 
 pub flip-requires : goal.flip-requires
-flip-requires c =
+flip-requires g c =
     let s = c.half_edge_count-n.ensures.sound in
     let adds = rw c.reversed.ensures at c.add_face_beside.ensures.adds.links in
     record { flippable = flippable_beside _ _ _ _ s c.requires.half adds; corners = corners_beside _ _ _ _ s c.requires.half adds c.requires.alone }
 
 pub returns : goal.returns
-returns c =
+returns g c =
     let s = c.half_edge_count-n.ensures.sound in
     let half = c.requires.half in
     let new : Mesh = c.flip.new.self.mesh in
@@ -22,7 +22,7 @@ returns c =
     record {
       parts = search rules;
       mesh = search rules;
-      room = search rules;
+      rest = record { values = search rules; room = search rules };
       sound = s;
       splits = record {
         links = half_splits _ _ _ _ s half adds new c.flip.ensures.sound c.flip.ensures.flips.links;

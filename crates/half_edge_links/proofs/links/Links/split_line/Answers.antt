@@ -4,10 +4,10 @@ use Rattle.half_edge_links.proofs.Sound.EndsKept.{ends_line}
 use Rattle.half_edge_links.proofs.links.Links.split_line.Goals as goal
 
 pub hang-requires-clause-outer : goal.hang-requires-clause-outer
-hang-requires-clause-outer c = line_outer _ _ c.half_edge_count-n.ensures.sound c.requires.line
+hang-requires-clause-outer g c = line_outer _ _ c.half_edge_count-n.ensures.sound c.requires.line
 
 pub returns : goal.returns
-returns c =
+returns g c =
     let s = c.hang.ensures.sound in
     let line = c.requires.line in
     let hung = c.hang.ensures.hangs in
@@ -15,7 +15,7 @@ returns c =
     record {
       parts = ap (λ (n : ℕ). c.args.e ∷ (n + 1) ∷ []) c.half_edge_count-n.ensures.value;
       mesh = search rules;
-      room = search rules;
+      rest = record { values = search rules; room = search rules };
       sound = s;
       splits = record {
         links = links;

@@ -1,0 +1,40 @@
+-- A list of vertices: what each names and its data.
+use Rattle.std.specs.Prelude.{◌≡◌, ℕ, ◌≤◌, List, length, map, slice_get, Option, Some, None}
+use Rattle.std.specs.List.{swap_remove, AllZip}
+use Rattle.half_edge_links.specs.declared.vertex_list.Vertex.{Vertex}
+
+-- the edges that vertices name, their data, and how many vertices fit with no allocation
+pub record Vertices (V : Type 0) : Type 0 where
+  pub out_edges : List (Option ℕ)
+  pub values : List V
+  pub capacity : ℕ
+
+-- the edges that vertices name
+abbrev pub out_edges_of : {V : Type 0} → List (Vertex V) → List (Option ℕ)
+out_edges_of vs = map (λ v. v.out_edge) vs
+
+-- the data of vertices
+abbrev pub values_of : {V : Type 0} → List (Vertex V) → List V
+values_of vs = map (λ v. v.value) vs
+
+-- a vertex that names the same edge, with data as R says of the former ones
+pub record IsCopiedVertex {V : Type 0} (R : V → V → Type 0) (old new : Vertex V) : Type 0 where
+  pub out_edge : new.out_edge ≡ old.out_edge
+  pub value : R old.value new.value
+
+-- vertices that name the same edges, with data as R says of the former ones, and room for them
+pub record IsCopiedList {V : Type 0} (R : V → V → Type 0) (old new : Vertices V) : Type 0 where
+  pub out_edges : new.out_edges ≡ old.out_edges
+  pub values : AllZip R old.values new.values
+  pub fit : length old.out_edges ≤ new.capacity
+
+-- the data of vertex v are taken out, and those of the last one take their place
+pub record TakesValue {V : Type 0} (old new : List V) (v : ℕ) (value : V) : Type 0 where
+  pub was : slice_get old v ≡ Some value
+  pub now : new ≡ swap_remove old v value
+
+-- vertex v with these data is taken out, and the last one takes its place
+pub record TakesVertex {V : Type 0} (old new : Vertices V) (v : ℕ) (value : V) : Type 0 where
+  pub values : TakesValue old.values new.values v value
+  pub out_edges : new.out_edges ≡ swap_remove old.out_edges v None
+  pub capacity : new.capacity ≡ old.capacity
