@@ -1,20 +1,21 @@
 //! The calls that are measured, and what they find.
 
+use crate::numbers::Site;
 use crate::random::Random;
 use exact_tests::ExactTests;
 use spade_delaunay::handles::FixedVertexHandle;
 use spade_delaunay::{
-    DelaunayTriangulation, FloatTriangulation, HintGenerator, InsertionError, Point2,
-    PositionInTriangulation, Triangulation, validate_vertex,
+    DelaunayTriangulation, FloatTriangulation, HintGenerator, InsertionError,
+    PositionInTriangulation, SpadeNum, Triangulation, validate_vertex,
 };
 use std::alloc::{AllocError, Global};
 
 /// A triangulation whose searches begin where this generator says.
-pub type Points<L> = DelaunayTriangulation<Point2<i64>, (), (), (), L>;
+pub type Points<V, L> = DelaunayTriangulation<V, (), (), (), L>;
 
-pub fn insert_all<T: Triangulation<Vertex = Point2<i64>>>(
+pub fn insert_all<V: Site, T: Triangulation<Vertex = V>>(
     triangulation: &mut T,
-    points: &[Point2<i64>],
+    points: &[V],
 ) -> Result<(), InsertionError> {
     for point in points {
         triangulation.insert(*point, &ExactTests)?;
@@ -31,9 +32,9 @@ pub struct Located {
     pub outside: u32,
 }
 
-pub fn locate_all<T: Triangulation<Vertex = Point2<i64>>>(
+pub fn locate_all<V: Site, T: Triangulation<Vertex = V>>(
     triangulation: &T,
-    queries: &[Point2<i64>],
+    queries: &[V],
 ) -> Located {
     let mut located = Located {
         vertices: 0,
@@ -44,7 +45,7 @@ pub fn locate_all<T: Triangulation<Vertex = Point2<i64>>>(
         if validate_vertex(point).is_err() {
             continue;
         }
-        let count = match triangulation.locate(*point, &ExactTests) {
+        let count = match triangulation.locate(point.position(), &ExactTests) {
             PositionInTriangulation::OnVertex(_) => &mut located.vertices,
             PositionInTriangulation::OnEdge(_) | PositionInTriangulation::OnFace(_) => {
                 &mut located.inside
@@ -57,24 +58,24 @@ pub fn locate_all<T: Triangulation<Vertex = Point2<i64>>>(
 }
 
 // The square of a difference, without what 64 bits do not hold.
-fn squared(a: i64, b: i64) -> i64 {
-    let difference = a.wrapping_sub(b);
+fn squared<S: SpadeNum>(a: S, b: S) -> i64 {
+    let difference = a.to_i64().wrapping_sub(b.to_i64());
     difference.wrapping_mul(difference)
 }
 
 /// The sum of the squared distances from points to their nearest vertices, without what 64 bits do
 /// not hold.
-pub fn nearest_all<L: HintGenerator<i64>>(
-    triangulation: &Points<L>,
-    queries: &[Point2<i64>],
+pub fn nearest_all<V: Site, L: HintGenerator<V::Scalar>>(
+    triangulation: &Points<V, L>,
+    queries: &[V],
 ) -> i64 {
     let mut sum = 0i64;
     for point in queries {
         if validate_vertex(point).is_err() {
             continue;
         }
-        if let Some(nearest) = triangulation.nearest_neighbor(*point, &ExactTests) {
-            let vertex = nearest.data();
+        if let Some(nearest) = triangulation.nearest_neighbor(point.position(), &ExactTests) {
+            let (vertex, point) = (nearest.data().position(), point.position());
             let distance = squared(vertex.x, point.x).wrapping_add(squared(vertex.y, point.y));
             sum = sum.wrapping_add(distance);
         }
@@ -84,10 +85,10 @@ pub fn nearest_all<L: HintGenerator<i64>>(
 
 /// How many edges have a point in the circles round points, with this squared radius: none where it
 /// is negative.
-pub fn edges_in_circles<T: FloatTriangulation<Vertex = Point2<i64>>>(
+pub fn edges_in_circles<V: Site, T: FloatTriangulation<Vertex = V>>(
     triangulation: &T,
     alloc: Global,
-    centers: &[Point2<i64>],
+    centers: &[V],
     radius_2: i64,
 ) -> Result<u64, AllocError> {
     let mut count: u64 = 0;
@@ -98,7 +99,12 @@ pub fn edges_in_circles<T: FloatTriangulation<Vertex = Point2<i64>>>(
         if validate_vertex(center).is_err() {
             continue;
         }
-        let edges = triangulation.get_edges_in_circle(*center, radius_2, &ExactTests, alloc)?;
+        let edges = triangulation.get_edges_in_circle(
+            center.position(),
+            radius_2,
+            &ExactTests,
+            alloc,
+        )?;
         for _ in edges {
             count = count.saturating_add(1);
         }
@@ -106,22 +112,36 @@ pub fn edges_in_circles<T: FloatTriangulation<Vertex = Point2<i64>>>(
     Ok(count)
 }
 
+// The point that is so far to the right and above.
+fn moved<V: Site>(site: &V, by: i64) -> V {
+    let point = site.position();
+    V::at(
+        point.x.to_i64().wrapping_add(by),
+        point.y.to_i64().wrapping_add(by),
+    )
+}
+
 /// How many edges have a point in the squares round points, with sides of twice this length: none
 /// where it is negative, or a corner is out of range.
-pub fn edges_in_squares<T: FloatTriangulation<Vertex = Point2<i64>>>(
+pub fn edges_in_squares<V: Site, T: FloatTriangulation<Vertex = V>>(
     triangulation: &T,
     alloc: Global,
-    centers: &[Point2<i64>],
+    centers: &[V],
     reach: i64,
 ) -> Result<u64, AllocError> {
     let mut count: u64 = 0;
     for center in centers {
-        let lower = Point2::new(center.x.wrapping_sub(reach), center.y.wrapping_sub(reach));
-        let upper = Point2::new(center.x.wrapping_add(reach), center.y.wrapping_add(reach));
+        let lower = moved(center, reach.wrapping_neg());
+        let upper = moved(center, reach);
         if validate_vertex(&lower).is_err() || validate_vertex(&upper).is_err() {
             continue;
         }
-        let edges = triangulation.get_edges_in_rectangle(lower, upper, &ExactTests, alloc)?;
+        let edges = triangulation.get_edges_in_rectangle(
+            lower.position(),
+            upper.position(),
+            &ExactTests,
+            alloc,
+        )?;
         for _ in edges {
             count = count.saturating_add(1);
         }
@@ -137,7 +157,7 @@ pub struct Removed {
 }
 
 /// Removes random vertices until there is none, or so many are gone.
-pub fn remove_some<T: Triangulation<Vertex = Point2<i64>>>(
+pub fn remove_some<V: Site, T: Triangulation<Vertex = V>>(
     triangulation: &mut T,
     random: &mut Random,
     removals: u32,
@@ -153,10 +173,16 @@ pub fn remove_some<T: Triangulation<Vertex = Point2<i64>>>(
             break;
         }
         let vertex = FixedVertexHandle::from_index(random.below(vertices as u64) as u32);
-        let point = triangulation.remove(vertex, &ExactTests)?;
+        let point = triangulation.remove(vertex, &ExactTests)?.position();
         removed.count = removed.count.wrapping_add(1);
-        removed.digest = removed.digest.wrapping_mul(31).wrapping_add(point.x);
-        removed.digest = removed.digest.wrapping_mul(31).wrapping_add(point.y);
+        removed.digest = removed
+            .digest
+            .wrapping_mul(31)
+            .wrapping_add(point.x.to_i64());
+        removed.digest = removed
+            .digest
+            .wrapping_mul(31)
+            .wrapping_add(point.y.to_i64());
     }
     Ok(removed)
 }

@@ -1,7 +1,7 @@
-//! `benchmark ORDER N [REMOVALS [HINTS]]` inserts N points in an order, asks for as many locations
-//! and nearest vertices and for the edges in circles and squares, and removes vertices at random,
-//! all of them where no number says how many. HINTS is `last`, or the branch factor of a hierarchy.
-//! Without words it runs each order with few points, with each of the two kinds of hints. Standard
+//! `benchmark ORDER N [REMOVALS [HINTS [NUMBERS]]]` inserts N points in an order, asks for as many
+//! locations and nearest vertices and for the edges in circles and squares, and removes vertices at
+//! random, all of them where no number says how many. HINTS is `last`, or the branch factor of a
+//! hierarchy, and NUMBERS `i32` or `i64`, the type of coordinates. Without words it runs each order with few points, with each of the two kinds of hints. Standard
 //! output has what was found, so that other programs can be compared, and standard error the
 //! figures: the thread's nanoseconds a call, and the peak of resident bytes a vertex. The stored
 //! output is that of `compare/cgal.cpp`, which does the same with another library.
@@ -10,6 +10,7 @@
 mod calls;
 mod hints;
 mod memory;
+mod numbers;
 mod orders;
 mod random;
 
@@ -18,10 +19,11 @@ use crate::calls::{
 };
 use crate::hints::Hints;
 use crate::memory::{peak_bytes, resident_bytes};
+use crate::numbers::{Numbers, Site};
 use crate::orders::{Order, Purpose};
 use crate::random::Random;
 use spade_delaunay::{
-    FloatTriangulation, HierarchyHintGeneratorWithBranchFactor, HintGenerator,
+    FloatTriangulation, HierarchyHintGeneratorWithBranchFactor as Hierarchy, HintGenerator,
     LastUsedVertexHintGenerator, Point2, Triangulation,
 };
 use std::io;
@@ -43,6 +45,7 @@ struct Task {
     count: u32,
     removals: u32,
     hints: Hints,
+    numbers: Numbers,
 }
 
 impl Task {
@@ -59,11 +62,16 @@ impl Task {
             Some(word) => Hints::named(word.as_str())?,
             None => Hints::LastUsed,
         };
+        let numbers = match words.next() {
+            Some(word) => Numbers::named(word.as_str())?,
+            None => Numbers::I32,
+        };
         Some(Task {
             order,
             count,
             removals,
             hints,
+            numbers,
         })
     }
 }
@@ -87,10 +95,10 @@ fn tell_counts<T: Triangulation>(
     )
 }
 
-fn insert<T: Triangulation<Vertex = Point2<i64>>>(
+fn insert<V: Site, T: Triangulation<Vertex = V>>(
     rt: &HostRuntime,
     triangulation: &mut T,
-    points: &[Point2<i64>],
+    points: &[V],
 ) -> anyhow::Result<()> {
     let before = resident_bytes(rt);
     let start = rt.thread_cpu_time()?;
@@ -103,10 +111,10 @@ fn insert<T: Triangulation<Vertex = Point2<i64>>>(
     Ok(())
 }
 
-fn locate<T: Triangulation<Vertex = Point2<i64>>>(
+fn locate<V: Site, T: Triangulation<Vertex = V>>(
     rt: &HostRuntime,
     triangulation: &T,
-    queries: &[Point2<i64>],
+    queries: &[V],
 ) -> io::Result<()> {
     let start = rt.thread_cpu_time()?;
     let located = locate_all(triangulation, queries);
@@ -118,10 +126,10 @@ fn locate<T: Triangulation<Vertex = Point2<i64>>>(
     )
 }
 
-fn find_nearest<L: HintGenerator<i64>>(
+fn find_nearest<V: Site, L: HintGenerator<V::Scalar>>(
     rt: &HostRuntime,
-    triangulation: &Points<L>,
-    queries: &[Point2<i64>],
+    triangulation: &Points<V, L>,
+    queries: &[V],
 ) -> io::Result<()> {
     let start = rt.thread_cpu_time()?;
     let sum = nearest_all(triangulation, queries);
@@ -132,10 +140,10 @@ fn find_nearest<L: HintGenerator<i64>>(
 
 // Circles and squares with a few edges each: standard error tells how many edges came, too, since
 // CGAL is not asked.
-fn ask_shapes<T: FloatTriangulation<Vertex = Point2<i64>>>(
+fn ask_shapes<V: Site, T: FloatTriangulation<Vertex = V>>(
     rt: &HostRuntime,
     triangulation: &T,
-    centers: &[Point2<i64>],
+    centers: &[V],
     radius: i64,
 ) -> anyhow::Result<()> {
     let radius_2 = radius.wrapping_mul(radius);
@@ -150,7 +158,7 @@ fn ask_shapes<T: FloatTriangulation<Vertex = Point2<i64>>>(
     Ok(())
 }
 
-fn remove<T: Triangulation<Vertex = Point2<i64>>>(
+fn remove<V: Site, T: Triangulation<Vertex = V>>(
     rt: &HostRuntime,
     triangulation: &mut T,
     random: &mut Random,
@@ -168,9 +176,9 @@ fn remove<T: Triangulation<Vertex = Point2<i64>>>(
     Ok(())
 }
 
-fn make_all_calls<L: HintGenerator<i64>>(
+fn make_all_calls<V: Site, L: HintGenerator<V::Scalar>>(
     rt: &HostRuntime,
-    triangulation: &mut Points<L>,
+    triangulation: &mut Points<V, L>,
     task: &Task,
 ) -> anyhow::Result<()> {
     let mut random = Random::new();
@@ -185,18 +193,28 @@ fn make_all_calls<L: HintGenerator<i64>>(
     remove(rt, triangulation, &mut random, task.removals)
 }
 
-fn measure<L: HintGenerator<i64>>(rt: &HostRuntime, task: &Task) -> anyhow::Result<()> {
-    let mut triangulation: Points<L> = Points::new(rt.alloc());
+fn measure<V: Site, L: HintGenerator<V::Scalar>>(
+    rt: &HostRuntime,
+    task: &Task,
+) -> anyhow::Result<()> {
+    let mut triangulation: Points<V, L> = Points::new(rt.alloc());
     make_all_calls(rt, &mut triangulation, task)
 }
 
-fn run(rt: &HostRuntime, task: &Task) -> anyhow::Result<()> {
+fn measure_by<V: Site>(rt: &HostRuntime, task: &Task) -> anyhow::Result<()> {
     match task.hints {
-        Hints::LastUsed => measure::<LastUsedVertexHintGenerator>(rt, task),
-        Hints::By8 => measure::<HierarchyHintGeneratorWithBranchFactor<i64, 8>>(rt, task),
-        Hints::By16 => measure::<HierarchyHintGeneratorWithBranchFactor<i64, 16>>(rt, task),
-        Hints::By32 => measure::<HierarchyHintGeneratorWithBranchFactor<i64, 32>>(rt, task),
-        Hints::By64 => measure::<HierarchyHintGeneratorWithBranchFactor<i64, 64>>(rt, task),
+        Hints::LastUsed => measure::<V, LastUsedVertexHintGenerator>(rt, task),
+        Hints::By8 => measure::<V, Hierarchy<V::Scalar, 8>>(rt, task),
+        Hints::By16 => measure::<V, Hierarchy<V::Scalar, 16>>(rt, task),
+        Hints::By32 => measure::<V, Hierarchy<V::Scalar, 32>>(rt, task),
+        Hints::By64 => measure::<V, Hierarchy<V::Scalar, 64>>(rt, task),
+    }
+}
+
+fn run(rt: &HostRuntime, task: &Task) -> anyhow::Result<()> {
+    match task.numbers {
+        Numbers::I32 => measure_by::<Point2<i32>>(rt, task),
+        Numbers::I64 => measure_by::<Point2<i64>>(rt, task),
     }
 }
 
@@ -212,6 +230,7 @@ fn main(rt: HostRuntime) -> anyhow::Result<()> {
                 count: FEW,
                 removals: FEW - LEFT,
                 hints,
+                numbers: Numbers::I32,
             };
             run(&rt, &task)?;
         }

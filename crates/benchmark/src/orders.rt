@@ -1,5 +1,6 @@
 //! Points in an order: random ones over the whole range, or those of a square grid.
 
+use crate::numbers::Site;
 use crate::random::Random;
 use spade_delaunay::Point2;
 use std::alloc::{AllocError, Global};
@@ -58,13 +59,13 @@ impl Order {
 
     /// The points to insert; or those to ask for, random ones of the square that the others lie in,
     /// along the curve where the others are.
-    pub fn points(
+    pub fn points<V: Site>(
         self,
         purpose: Purpose,
         alloc: Global,
         count: u32,
         random: &mut Random,
-    ) -> Result<Vec<Point2<i64>>, AllocError> {
+    ) -> Result<Vec<V>, AllocError> {
         let side = side_of(count);
         let mut keyed = Vec::new(alloc);
         for number in 0..count {
@@ -105,14 +106,14 @@ impl Order {
 }
 
 /// Points by rising key.
-fn in_order(
+fn in_order<V: Site>(
     alloc: Global,
     mut keyed: Vec<(u64, Point2<i64>)>,
-) -> Result<Vec<Point2<i64>>, AllocError> {
+) -> Result<Vec<V>, AllocError> {
     keyed.sort()?;
     let mut points = Vec::new(alloc);
     for (_, point) in keyed {
-        points.push(point)?;
+        points.push(V::at(point.x, point.y))?;
     }
     Ok(points)
 }
